@@ -3,7 +3,6 @@
 use frame::Frame;
 use frame::microframe_index;
 use irq_points::loads::setup_at;
-use irq_points::loads::site_byte;
 use irq_points::stands::stand_flags;
 use irq_points::stands::stand_mis;
 use irq_points::stands::stand_nak;
@@ -12,6 +11,7 @@ use irq_transfer::nak;
 use irq_transfer::nak::NakNext;
 use irq_transfer::wait::byte;
 use irq_transfer::wait::short;
+use machine::loads::site_byte;
 use machine::saved::tag;
 use machine::stops::slots_fit;
 use machine::stops::stop;

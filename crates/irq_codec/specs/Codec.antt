@@ -177,31 +177,34 @@ abbrev pub transferOf : Saved → Transfer
 transferOf c = record { busy = isOn (c .busy); st = c .st; len = c .len; late = isOn (c .late); «len_ok» = isOn (c .«len_ok») }
 
 -- an unknown number is the first point
-unfoldable pub decode : Saved → Point
-decode c =
-    cond (eqb (c .site) 1) point.Flags (
-    cond (eqb (c .site) 2) (point.BusRst (c .st)) (
-    cond (eqb (c .site) 3) (point.Suspend (c .st)) (
-    cond (eqb (c .site) 4) (point.Fifo (c .st)) (
-    cond (eqb (c .site) 5) (point.Host (c .st)) (
-    cond (eqb (c .site) 6) (point.Mis (isOn (c .flag))) (
-    cond (eqb (c .site) 7) (point.St (isOn (c .flag)) (isOn (c .busy))) (
-    cond (eqb (c .site) 8) (point.Len (isOn (c .flag)) (isOn (c .busy)) (c .st)) (
-    cond (eqb (c .site) 9) (point.Nak (isOn (c .flag)) (transferOf c) (nakOf (c .sub))) (
-    cond (eqb (c .site) 10) (point.Released (isOn (c .flag)) (transferOf c)) (
-    cond (eqb (c .site) 11) (point.Settle (isOn (c .flag)) (transferOf c) (settleOf (c .sub) (c .now) (c .n))) (
-    cond (eqb (c .site) 12) (point.FrameNo (isOn (c .flag)) (transferOf c) (isOn (c .now))) (
-    cond (eqb (c .site) 13) (point.Sof (isOn (c .flag)) (transferOf c) (isOn (c .now)) (c .frame) (sofOf (c .sub) (c .ep) (c .eps))) (
-    cond (eqb (c .site) 14) (point.Late (isOn (c .flag)) (transferOf c) (isOn (c .now)) (c .frame) (lateOf (c .sub) (c .ep) (c .eps))) (
-    cond (eqb (c .site) 15) (point.SofArm (isOn (c .flag)) (transferOf c) (isOn (c .now)) (c .frame) (sofOf (c .sub) (c .ep) (c .eps))) (
-    cond (eqb (c .site) 16) (point.Flip (dirOf (c .ep)) (isOn (c .flag)) (transferOf c) (isOn (c .now))) (
-    cond (eqb (c .site) 17) (point.Flipped (dirOf (c .ep)) (isOn (c .flag)) (transferOf c) (isOn (c .now))) (
-    cond (eqb (c .site) 18) (point.Toggled (dirOf (c .ep)) (isOn (c .flag)) (transferOf c) (isOn (c .now)) (toggledOf (c .sub) (c .n))) (
-    cond (eqb (c .site) 19) (point.Completing (isOn (c .flag)) (transferOf c) (isOn (c .now)) (completeOf (c .sub) (c .ep))) (
-    cond (eqb (c .site) 20) (point.Check (isOn (c .flag)) (transferOf c) (isOn (c .now)) (checkOf (c .sub) (c .ep) (c .eps))) (
-    cond (eqb (c .site) 21) (point.MovedRead (dirOf (c .ep)) (isOn (c .flag))) (
-    cond (eqb (c .site) 22) (point.MovedWrote (dirOf (c .ep)) (isOn (c .flag))) (
-    cond (eqb (c .site) 23) point.SetupRx (
-    cond (eqb (c .site) 24) point.SetupTx (
-    cond (eqb (c .site) 25) point.SetupReleased (
+abbrev pub byNumber : ℕ → Saved → Point
+byNumber k c =
+    cond (eqb k 1) point.Flags (
+    cond (eqb k 2) (point.BusRst (c .st)) (
+    cond (eqb k 3) (point.Suspend (c .st)) (
+    cond (eqb k 4) (point.Fifo (c .st)) (
+    cond (eqb k 5) (point.Host (c .st)) (
+    cond (eqb k 6) (point.Mis (isOn (c .flag))) (
+    cond (eqb k 7) (point.St (isOn (c .flag)) (isOn (c .busy))) (
+    cond (eqb k 8) (point.Len (isOn (c .flag)) (isOn (c .busy)) (c .st)) (
+    cond (eqb k 9) (point.Nak (isOn (c .flag)) (transferOf c) (nakOf (c .sub))) (
+    cond (eqb k 10) (point.Released (isOn (c .flag)) (transferOf c)) (
+    cond (eqb k 11) (point.Settle (isOn (c .flag)) (transferOf c) (settleOf (c .sub) (c .now) (c .n))) (
+    cond (eqb k 12) (point.FrameNo (isOn (c .flag)) (transferOf c) (isOn (c .now))) (
+    cond (eqb k 13) (point.Sof (isOn (c .flag)) (transferOf c) (isOn (c .now)) (c .frame) (sofOf (c .sub) (c .ep) (c .eps))) (
+    cond (eqb k 14) (point.Late (isOn (c .flag)) (transferOf c) (isOn (c .now)) (c .frame) (lateOf (c .sub) (c .ep) (c .eps))) (
+    cond (eqb k 15) (point.SofArm (isOn (c .flag)) (transferOf c) (isOn (c .now)) (c .frame) (sofOf (c .sub) (c .ep) (c .eps))) (
+    cond (eqb k 16) (point.Flip (dirOf (c .ep)) (isOn (c .flag)) (transferOf c) (isOn (c .now))) (
+    cond (eqb k 17) (point.Flipped (dirOf (c .ep)) (isOn (c .flag)) (transferOf c) (isOn (c .now))) (
+    cond (eqb k 18) (point.Toggled (dirOf (c .ep)) (isOn (c .flag)) (transferOf c) (isOn (c .now)) (toggledOf (c .sub) (c .n))) (
+    cond (eqb k 19) (point.Completing (isOn (c .flag)) (transferOf c) (isOn (c .now)) (completeOf (c .sub) (c .ep))) (
+    cond (eqb k 20) (point.Check (isOn (c .flag)) (transferOf c) (isOn (c .now)) (checkOf (c .sub) (c .ep) (c .eps))) (
+    cond (eqb k 21) (point.MovedRead (dirOf (c .ep)) (isOn (c .flag))) (
+    cond (eqb k 22) (point.MovedWrote (dirOf (c .ep)) (isOn (c .flag))) (
+    cond (eqb k 23) point.SetupRx (
+    cond (eqb k 24) point.SetupTx (
+    cond (eqb k 25) point.SetupReleased (
     point.Frame)))))))))))))))))))))))))
+
+unfoldable pub decode : Saved → Point
+decode c = byNumber (c .site) c

@@ -12,17 +12,15 @@ use Rattle.model_ops.specs.Rings.{St}
 use Rattle.model_ops.specs.Concrete.{concrete}
 use Rattle.irq.specs.declared.Point.{Point}
 use Rattle.machine.specs.declared.Suspended.the-variants as under
-use Rattle.machine.specs.declared.Step.the-variants as step
-use Rattle.machine.specs.Suspended.{encode, finish, haltsAs, machineOf, answerOf, SavedByAnswer, Stored}
+use Rattle.machine.specs.Suspended.{finish, haltsAs, machineOf, answerOf, SavedByAnswer, Stored}
+use Rattle.machine.specs.Stands.{StandsAt, Resumes}
 use Rattle.machine.specs.Goes.{Called}
 use Rattle.call_answer_word.specs.Parts.{stepOf}
 use Rattle.call_answer_word.specs.Word.{Encodes}
 
--- the word says the access q, the view stays, and all 22 bytes of what is saved are the point's
-pub record Stands (r : ℕ) (q : Access) (p : Point) (xs ys : List ℕ) : Type 0 where
-  pub answered : Encodes r (step.Asks q)
-  pub viewed : view ys ≡ view xs
-  pub stored : saved ys ≡ encode (under.Interrupt p)
+-- at a point of the interrupt; the answer is its word
+abbrev pub Stands : ℕ → Access → Point → List ℕ → List ℕ → Type 0
+Stands r q p xs ys = StandsAt ℕ Encodes r q (under.Interrupt p) xs ys
 
 -- where the rest o of an interrupt stops: at its next access, or at its end
 unfoldable pub halted : Out St ℕ → Called
@@ -38,3 +36,13 @@ Pins r ys = Encodes r (stepOf r) × Stored (stepOf r) ys
 
 abbrev pub PinsFrom : ℕ → List ℕ → List ℕ → Type 0
 PinsFrom r xs ys = Encodes r (stepOf r) × SavedByAnswer (stepOf r) xs ys
+
+-- what is saved is the interrupt's point with this number
+pub record AtSite (number : ℕ) (xs : List ℕ) : Type 0 where
+  pub tagged : saved xs .tag ≡ 6
+  pub numbered : saved xs .site ≡ number
+
+-- an interrupt's continue, by its word
+pub record ResumesByWord (r v : ℕ) (xs : List ℕ) (b : Buf) (ys : List ℕ) (after : Buf) : Type 0 where
+  pub worded : Encodes r (stepOf r)
+  pub resumes : Resumes (stepOf r) v xs b ys after

@@ -3,6 +3,7 @@ use mathlib.Core.List.{List, []}
 use mathlib.Core.Path.{_≡_, _∙_, refl, ap, sym, subst}
 use Prim.Native.Nat.{ℕ}
 use Rattle.regs.specs.declared.Access.{Access}
+use Rattle.state.specs.declared.Saved.{Saved}
 use Rattle.state.specs.Driver.{Driver}
 use Rattle.state.specs.State.{view, saved}
 use Rattle.state.specs.Fresh.{nothing}
@@ -15,21 +16,25 @@ use Rattle.irq.specs.Points.{meaning, awaitsAt}
 use Rattle.machine.specs.declared.Suspended.the-variants as under
 use Rattle.machine.specs.declared.Step.{Step}
 use Rattle.machine.specs.declared.Step.the-variants as step
-use Rattle.machine.specs.Suspended.{decode, machineOf, handedOut, answerOf, SavedByAnswer}
-use Rattle.machine.specs.SuspendedLaws.{decode-encode}
-use Rattle.machine.specs.Goes.{Called}
-use Rattle.machine.specs.KeepsLaws.{canonical}
+use Rattle.machine.specs.Suspended.{encode, handedOut, SavedByAnswer}
+use Rattle.machine.specs.StandsLaws.{stored-by, handed-out}
 use Rattle.call_answer_word.specs.Parts.{stepOf}
 use Rattle.call_answer_word.specs.Word.{Encodes}
 use Rattle.call_answer_word.specs.WordLaws.{said, sound}
 use Rattle.irq_points.specs.Stands.{Stands, halted, Stops, Pins}
 
+-- the bytes of the point are stored
+pub stands-at : {r : ℕ} {q : Access} {p : Point} {c : Saved} {xs ys : List ℕ}
+    → Encodes r (step.Asks q) × ((view ys ≡ view xs) × (saved ys ≡ c)) → c ≡ encode (under.Interrupt p) → Stands r q p xs ys
+stands-at h e = record { answered = h .0; viewed = h .1 .0; stored = h .1 .1 ∙ e }
+
+-- the step that the word says
+says : {r : ℕ} {q : Access} {p : Point} {xs ys : List ℕ} → Stands r q p xs ys → stepOf r ≡ step.Asks q
+says {r} {q} h = said r (step.Asks q) (h .answered) refl
+
 -- all 22 bytes are pinned
 pub stored-at : {r : ℕ} {q : Access} {p : Point} {xs ys : List ℕ} → Stands r q p xs ys → Pins r ys
-stored-at {r} {q} {p} {xs} {ys} h = (
-  sound r (step.Asks q) (h .answered) refl,
-  λ zs. subst (λ (z : Step). SavedByAnswer z zs ys) (sym (said r (step.Asks q) (h .answered) refl)) (canonical (under.Interrupt p) ys (h .stored)),
-)
+stored-at {r} {q} h = (sound r (step.Asks q) (h .answered) refl, stored-by h (stepOf r) (says h))
 
 -- and all are zero at an end
 pub pinned-end : (r n k : ℕ) (ys : List ℕ) → Encodes r (step.Ends n k) → saved ys ≡ nothing → Pins r ys
@@ -43,18 +48,10 @@ stood : (q : Access) (p : Point) (d : Driver) (b : Buf) → awaited q ≡ awaits
 unfolding halted
 stood q p d b h = simp h
 
-handed-out : (r : ℕ) (q : Access) (p : Point) (xs ys : List ℕ) (b : Buf) → Stands r q p xs ys → decode (saved ys) ≡ under.Interrupt p
-    → _≡_ {A = Called} (answerOf (stepOf r) [] (view ys), machineOf ys b) (handedOut q (under.Interrupt p) (view xs) b)
-handed-out r q p xs ys b h k = simp (said r (step.Asks q) (h .answered) refl, h .viewed, k)
-
 -- at a point: its access is the first of what is left
 pub stops-at : {r : ℕ} {q : Access} {p : Point} {xs ys : List ℕ} → Stands r q p xs ys → awaited q ≡ awaitsAt p
     → (b : Buf) {o : Out St ℕ} → meaning (next.Asks q p) (view xs) b ≡ o → Stops r ys b o
-stops-at {r} {q} {p} {xs} {ys} h l b m = record {
-  there =
-      handed-out r q p xs ys b h (ap decode (h .stored) ∙ decode-encode (under.Interrupt p))
-      ∙ (stood q p (view xs) b l ∙ ap halted m);
-}
+stops-at {r} {q} {p} {xs} h l b m = record { there = handed-out h (stepOf r) (says h) [] b ∙ (stood q p (view xs) b l ∙ ap halted m) }
 
 -- the same rest, said another way
 pub then-on : {r : ℕ} {ys : List ℕ} {b : Buf} {o o' : Out St ℕ} → Stops r ys b o → o ≡ o' → Stops r ys b o'

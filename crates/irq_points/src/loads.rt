@@ -14,8 +14,17 @@ use iso_in::complete::Complete;
 use iso_in::late::Late;
 use iso_in::sof::Sof;
 use iso_out::Check;
-use le_bytes::get8;
-use le_bytes::get16;
+use machine::loads::busy_byte;
+use machine::loads::ep_byte;
+use machine::loads::eps_word;
+use machine::loads::flag_byte;
+use machine::loads::late_byte;
+use machine::loads::len_ok_byte;
+use machine::loads::len_word;
+use machine::loads::n_word;
+use machine::loads::now_byte;
+use machine::loads::st_byte;
+use machine::loads::sub_byte;
 use model::Transfer;
 use model_ops::rings::is_on;
 use regs::Dir;
@@ -24,87 +33,6 @@ ghost use mathlib.Core.Path.{_≡_};
 ghost use Rattle.state.specs.State.{saved};
 ghost use Rattle.model.specs.Statics.{isOn};
 ghost use Rattle.irq_codec.specs.Codec.{dirOf, transferOf, nakOf, settleOf, toggledOf, completeOf, sofOf, lateOf, checkOf};
-
-// Where crate `state` has the saved record.
-const SAVED: usize = 2817;
-
-fn sub_byte(s: &[u8; STATE_LEN]) -> u8
-    ensures { λ r. ⌜ r ≡ saved (now (s .entry)) .sub ⌝ }
-{
-    get8(s, SAVED, 1)
-}
-
-pub fn site_byte(s: &[u8; STATE_LEN]) -> u8
-    ensures { λ r. ⌜ r ≡ saved (now (s .entry)) .site ⌝ }
-{
-    get8(s, SAVED, 2)
-}
-
-fn flag_byte(s: &[u8; STATE_LEN]) -> u8
-    ensures { λ r. ⌜ r ≡ saved (now (s .entry)) .flag ⌝ }
-{
-    get8(s, SAVED, 3)
-}
-
-fn busy_byte(s: &[u8; STATE_LEN]) -> u8
-    ensures { λ r. ⌜ r ≡ saved (now (s .entry)) .busy ⌝ }
-{
-    get8(s, SAVED, 4)
-}
-
-fn late_byte(s: &[u8; STATE_LEN]) -> u8
-    ensures { λ r. ⌜ r ≡ saved (now (s .entry)) .late ⌝ }
-{
-    get8(s, SAVED, 5)
-}
-
-fn len_ok_byte(s: &[u8; STATE_LEN]) -> u8
-    ensures { λ r. ⌜ r ≡ saved (now (s .entry)) .«len_ok» ⌝ }
-{
-    get8(s, SAVED, 6)
-}
-
-pub fn st_byte(s: &[u8; STATE_LEN]) -> u8
-    ensures { λ r. ⌜ r ≡ saved (now (s .entry)) .st ⌝ }
-{
-    get8(s, SAVED, 7)
-}
-
-fn now_byte(s: &[u8; STATE_LEN]) -> u8
-    ensures { λ r. ⌜ r ≡ saved (now (s .entry)) .now ⌝ }
-{
-    get8(s, SAVED, 8)
-}
-
-fn ep_byte(s: &[u8; STATE_LEN]) -> u8
-    ensures { λ r. ⌜ r ≡ saved (now (s .entry)) .ep ⌝ }
-{
-    get8(s, SAVED, 9)
-}
-
-fn len_word(s: &[u8; STATE_LEN]) -> u16
-    ensures { λ r. ⌜ r ≡ saved (now (s .entry)) .len ⌝ }
-{
-    get16(s, SAVED, 10)
-}
-
-pub fn frame_word(s: &[u8; STATE_LEN]) -> u16
-    ensures { λ r. ⌜ r ≡ saved (now (s .entry)) .frame ⌝ }
-{
-    get16(s, SAVED, 12)
-}
-
-fn eps_word(s: &[u8; STATE_LEN]) -> u16
-    ensures { λ r. ⌜ r ≡ saved (now (s .entry)) .eps ⌝ }
-{
-    get16(s, SAVED, 14)
-}
-
-fn n_word(s: &[u8; STATE_LEN]) -> u16
-    ensures { λ r. ⌜ r ≡ saved (now (s .entry)) .n ⌝ }
-{
-    get16(s, SAVED, 16)
-}
 
 // Is the setup flag set?
 pub fn setup_at(s: &[u8; STATE_LEN]) -> bool

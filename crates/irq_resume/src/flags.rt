@@ -6,27 +6,22 @@ use irq_entry::flags::after_flags;
 use irq_entry::flags::after_frame;
 use irq_entry::flags::after_host;
 use irq_entry::flags::after_suspend;
-use irq_points::loads::st_byte;
+use machine::loads::st_byte;
 use regs::registers::fits;
 use state::STATE_LEN;
 ghost use mathlib.Core.Path.{_≡_};
-ghost use mathlib.Core.List.{List, []};
+ghost use mathlib.Core.List.{List};
 ghost use Prim.Native.Nat.{ℕ};
-ghost use Rattle.state.specs.State.{view, saved};
+ghost use Rattle.state.specs.State.{saved};
 ghost use Rattle.irq.specs.declared.Point.the-variants as Point;
 ghost use Rattle.machine.specs.declared.Suspended.the-variants as Under;
-ghost use Rattle.machine.specs.Suspended.{decode, machineOf, resumed, answerOf};
-ghost use Rattle.call_answer_word.specs.Parts.{stepOf};
-ghost use Rattle.irq_points.specs.Stands.{PinsFrom};
+ghost use Rattle.machine.specs.Suspended.{decode};
+ghost use Rattle.irq_points.specs.Stands.{AtSite, ResumesByWord};
 
 // frame_no, whose microframe index what the interrupt admits carries.
 pub fn resume_frame(s: &mut [u8; STATE_LEN], v: u32) -> u64
     requires { ⌜ decode (saved (now s)) ≡ Under.Interrupt Point.Frame ⌝ }
-    ensures { λ r. ⌜ ((b : List ℕ) → (
-      answerOf (stepOf r) [] (view (now (s .exit))),
-      machineOf (now (s .exit)) b,
-    ) ≡ resumed v (decode (saved (now (s .entry)))) (view (now (s .entry))) b) ⌝ }
-    ensures { λ r. ⌜ PinsFrom r (now (s .entry)) (now (s .exit)) ⌝ }
+    ensures { λ r. ⌜ ((b : List ℕ) → ResumesByWord r v (now (s .entry)) b (now (s .exit)) b) ⌝ }
 {
     if fits(v, 16) {
         return after_frame(s, v);
@@ -36,12 +31,8 @@ pub fn resume_frame(s: &mut [u8; STATE_LEN], v: u32) -> u64
 
 // int_fg (mod.rs 637).
 pub fn resume_flags(s: &mut [u8; STATE_LEN], v: u32) -> u64
-    requires { ⌜ decode (saved (now s)) ≡ Under.Interrupt Point.Flags ⌝ }
-    ensures { λ r. ⌜ ((b : List ℕ) → (
-      answerOf (stepOf r) [] (view (now (s .exit))),
-      machineOf (now (s .exit)) b,
-    ) ≡ resumed v (decode (saved (now (s .entry)))) (view (now (s .entry))) b) ⌝ }
-    ensures { λ r. ⌜ PinsFrom r (now (s .entry)) (now (s .exit)) ⌝ }
+    requires { ⌜ AtSite 1 (now s) ⌝ }
+    ensures { λ r. ⌜ ((b : List ℕ) → ResumesByWord r v (now (s .entry)) b (now (s .exit)) b) ⌝ }
 {
     if fits(v, 6) {
         return after_flags(s, v);
@@ -51,12 +42,8 @@ pub fn resume_flags(s: &mut [u8; STATE_LEN], v: u32) -> u64
 
 // the reset interrupt is masked (mod.rs 640-643).
 pub fn resume_bus_rst(s: &mut [u8; STATE_LEN]) -> u64
-    requires { ⌜ decode (saved (now s)) ≡ Under.Interrupt (Point.BusRst ((saved (now s)) .st)) ⌝ }
-    ensures { λ r. ⌜ ((v : ℕ) (b : List ℕ) → (
-      answerOf (stepOf r) [] (view (now (s .exit))),
-      machineOf (now (s .exit)) b,
-    ) ≡ resumed v (decode (saved (now (s .entry)))) (view (now (s .entry))) b) ⌝ }
-    ensures { λ r. ⌜ PinsFrom r (now (s .entry)) (now (s .exit)) ⌝ }
+    requires { ⌜ AtSite 2 (now s) ⌝ }
+    ensures { λ r. ⌜ ((v : ℕ) (b : List ℕ) → ResumesByWord r v (now (s .entry)) b (now (s .exit)) b) ⌝ }
 {
     let f = st_byte(s);
     after_bus_rst(s, f)
@@ -64,12 +51,8 @@ pub fn resume_bus_rst(s: &mut [u8; STATE_LEN]) -> u64
 
 // the suspend interrupt is (mod.rs 644-648).
 pub fn resume_suspend(s: &mut [u8; STATE_LEN]) -> u64
-    requires { ⌜ decode (saved (now s)) ≡ Under.Interrupt (Point.Suspend ((saved (now s)) .st)) ⌝ }
-    ensures { λ r. ⌜ ((v : ℕ) (b : List ℕ) → (
-      answerOf (stepOf r) [] (view (now (s .exit))),
-      machineOf (now (s .exit)) b,
-    ) ≡ resumed v (decode (saved (now (s .entry)))) (view (now (s .entry))) b) ⌝ }
-    ensures { λ r. ⌜ PinsFrom r (now (s .entry)) (now (s .exit)) ⌝ }
+    requires { ⌜ AtSite 3 (now s) ⌝ }
+    ensures { λ r. ⌜ ((v : ℕ) (b : List ℕ) → ResumesByWord r v (now (s .entry)) b (now (s .exit)) b) ⌝ }
 {
     let f = st_byte(s);
     after_suspend(s, f)
@@ -77,12 +60,8 @@ pub fn resume_suspend(s: &mut [u8; STATE_LEN]) -> u64
 
 // the FIFO flag is cleared (mod.rs 649-651).
 pub fn resume_fifo(s: &mut [u8; STATE_LEN]) -> u64
-    requires { ⌜ decode (saved (now s)) ≡ Under.Interrupt (Point.Fifo ((saved (now s)) .st)) ⌝ }
-    ensures { λ r. ⌜ ((v : ℕ) (b : List ℕ) → (
-      answerOf (stepOf r) [] (view (now (s .exit))),
-      machineOf (now (s .exit)) b,
-    ) ≡ resumed v (decode (saved (now (s .entry)))) (view (now (s .entry))) b) ⌝ }
-    ensures { λ r. ⌜ PinsFrom r (now (s .entry)) (now (s .exit)) ⌝ }
+    requires { ⌜ AtSite 4 (now s) ⌝ }
+    ensures { λ r. ⌜ ((v : ℕ) (b : List ℕ) → ResumesByWord r v (now (s .entry)) b (now (s .exit)) b) ⌝ }
 {
     let f = st_byte(s);
     after_fifo(s, f)
@@ -90,12 +69,8 @@ pub fn resume_fifo(s: &mut [u8; STATE_LEN]) -> u64
 
 // the host SOF flag is (mod.rs 652-655).
 pub fn resume_host(s: &mut [u8; STATE_LEN]) -> u64
-    requires { ⌜ decode (saved (now s)) ≡ Under.Interrupt (Point.Host ((saved (now s)) .st)) ⌝ }
-    ensures { λ r. ⌜ ((v : ℕ) (b : List ℕ) → (
-      answerOf (stepOf r) [] (view (now (s .exit))),
-      machineOf (now (s .exit)) b,
-    ) ≡ resumed v (decode (saved (now (s .entry)))) (view (now (s .entry))) b) ⌝ }
-    ensures { λ r. ⌜ PinsFrom r (now (s .entry)) (now (s .exit)) ⌝ }
+    requires { ⌜ AtSite 5 (now s) ⌝ }
+    ensures { λ r. ⌜ ((v : ℕ) (b : List ℕ) → ResumesByWord r v (now (s .entry)) b (now (s .exit)) b) ⌝ }
 {
     let f = st_byte(s);
     after_host(s, f)

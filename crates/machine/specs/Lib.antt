@@ -12,3 +12,5 @@ pub mod Lent
 pub mod Tags
 pub mod Keeps
 pub mod KeepsLaws
+pub mod Stands
+pub mod StandsLaws

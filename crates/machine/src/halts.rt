@@ -8,7 +8,7 @@ use state::STATE_LEN;
 use state::Saved;
 ghost use mathlib.Core.Path.{_≡_};
 ghost use mathlib.Core.Bool.{true};
-ghost use mathlib.Core.List.{List, []};
+ghost use mathlib.Core.List.{List};
 ghost use Prim.Native.Nat.{ℕ};
 ghost use Rattle.state.specs.Driver.{Driver};
 ghost use Rattle.state.specs.State.{view, saved};
@@ -22,16 +22,13 @@ ghost use Rattle.endpoint.specs.Points as endpoint;
 ghost use Rattle.iso_in.specs.Advance as advance;
 ghost use Rattle.irq.specs.Points as handler;
 ghost use Rattle.machine.specs.Suspended.{withTag, encode, decode, finish, machineAt, machineOf, haltsAs, halts};
-ghost use Rattle.machine.specs.Suspended.{handedOut, answerOf, SavedByAnswer, Stored, Leaves};
+ghost use Rattle.machine.specs.Suspended.{answerOf, SavedByAnswer, Stored, Leaves};
+ghost use Rattle.machine.specs.Stands.{Stands, halted, Leads, Ends};
 ghost use Rattle.machine.specs.Rows.{isIdle};
 
 // The operation is under way: it stands where it handed out the access, at a point that is saved with its tag.
 fn asks(s: &mut [u8; STATE_LEN], q: Access, p: Saved, tag: u8) -> Step
-    ensures { λ r. ⌜ ((u : Suspended) → encode u ≡ withTag tag p → (out b : List ℕ) → (
-      answerOf r out (view (now (s .exit))),
-      machineOf (now (s .exit)) b,
-    ) ≡ handedOut q u (view (now (s .entry))) b) ⌝ }
-    ensures { λ r. ⌜ ((u : Suspended) → encode u ≡ withTag tag p → Stored r (now (s .exit))) ⌝ }
+    ensures { λ r. ⌜ ((u : Suspended) → encode u ≡ withTag tag p → Stands r q u (now (s .entry)) (now (s .exit))) ⌝ }
 {
     let mut c = p;
     c.tag = tag;
@@ -41,11 +38,7 @@ fn asks(s: &mut [u8; STATE_LEN], q: Access, p: Saved, tag: u8) -> Step
 
 // An operation has ended with its result: its wake-ups are answered.
 fn ended(s: &mut [u8; STATE_LEN], n: u16) -> Step
-    ensures { λ r. ⌜ ((b : List ℕ) → (
-      answerOf r [] (view (now (s .exit))),
-      machineOf (now (s .exit)) b,
-    ) ≡ halts (run concrete (finish n) (view (now (s .entry)), b))) ⌝ }
-    ensures { λ r. ⌜ Stored r (now (s .exit)) ⌝ }
+    ensures { λ r. ⌜ Ends r n (now (s .entry)) (now (s .exit)) ⌝ }
 {
     state::store_saved(s, nothing());
     let k = how_many(s);
@@ -55,10 +48,7 @@ fn ended(s: &mut [u8; STATE_LEN], n: u16) -> Step
 // It goes on, or has ended.
 pub fn suspend_or_end(s: &mut [u8; STATE_LEN], n: driver::Next) -> Step
     requires { ⌜ driver.Linked n ⌝ }
-    ensures { λ r. ⌜ ((b : List ℕ) → (
-      answerOf r [] (view (now (s .exit))),
-      machineOf (now (s .exit)) b,
-    ) ≡ halts (bindOut (driver.meaning n (view (now (s .entry))) b) (λ k t. run concrete (finish k) t))) ⌝ }
+    ensures { λ r. ⌜ Leads r (now (s .exit)) (λ b. halted (driver.meaning n (view (now (s .entry))) b)) ⌝ }
     ensures { λ r. ⌜ Stored r (now (s .exit)) ⌝ }
 {
     match n {
@@ -70,10 +60,7 @@ pub fn suspend_or_end(s: &mut [u8; STATE_LEN], n: driver::Next) -> Step
 // The same of the bus's operations.
 pub fn suspend_or_end_bus(s: &mut [u8; STATE_LEN], n: bus::Next) -> Step
     requires { ⌜ bus.Linked n ⌝ }
-    ensures { λ r. ⌜ ((b : List ℕ) → (
-      answerOf r [] (view (now (s .exit))),
-      machineOf (now (s .exit)) b,
-    ) ≡ halts (bindOut (bus.meaning n (view (now (s .entry))) b) (λ k t. run concrete (finish k) t))) ⌝ }
+    ensures { λ r. ⌜ Leads r (now (s .exit)) (λ b. halted (bus.meaning n (view (now (s .entry))) b)) ⌝ }
     ensures { λ r. ⌜ Stored r (now (s .exit)) ⌝ }
 {
     match n {
@@ -85,10 +72,7 @@ pub fn suspend_or_end_bus(s: &mut [u8; STATE_LEN], n: bus::Next) -> Step
 // The same of the control pipe's.
 pub fn suspend_or_end_control(s: &mut [u8; STATE_LEN], n: control::Next) -> Step
     requires { ⌜ control.Linked n ⌝ }
-    ensures { λ r. ⌜ ((b : List ℕ) → (
-      answerOf r [] (view (now (s .exit))),
-      machineOf (now (s .exit)) b,
-    ) ≡ halts (bindOut (control.meaning n (view (now (s .entry))) b) (λ k t. run concrete (finish k) t))) ⌝ }
+    ensures { λ r. ⌜ Leads r (now (s .exit)) (λ b. halted (control.meaning n (view (now (s .entry))) b)) ⌝ }
     ensures { λ r. ⌜ Stored r (now (s .exit)) ⌝ }
 {
     match n {
@@ -100,10 +84,7 @@ pub fn suspend_or_end_control(s: &mut [u8; STATE_LEN], n: control::Next) -> Step
 // A begin of the control pipe's, with nothing under way.
 pub fn begun_control(s: &mut [u8; STATE_LEN], n: control::Begun) -> Step
     requires { ⌜ control.LinkedBegun n × (isIdle (decode (saved (now s))) ≡ true) ⌝ }
-    ensures { λ r. ⌜ ((b : List ℕ) → (
-      answerOf r [] (view (now (s .exit))),
-      machineOf (now (s .exit)) b,
-    ) ≡ halts (control.begunAs n (view (now (s .entry))) b)) ⌝ }
+    ensures { λ r. ⌜ Leads r (now (s .exit)) (λ b. halts (control.begunAs n (view (now (s .entry))) b)) ⌝ }
     ensures { λ r. ⌜ SavedByAnswer r (now (s .entry)) (now (s .exit)) ⌝ }
 {
     match n {
@@ -134,10 +115,7 @@ pub fn polled_control(s: &mut [u8; STATE_LEN], n: control::Polled) -> Step
 // The same of reads and writes.
 pub fn suspend_or_end_endpoint(s: &mut [u8; STATE_LEN], n: endpoint::Next) -> Step
     requires { ⌜ endpoint.Linked n ⌝ }
-    ensures { λ r. ⌜ ((b : List ℕ) → (
-      answerOf r [] (view (now (s .exit))),
-      machineOf (now (s .exit)) b,
-    ) ≡ halts (bindOut (endpoint.meaning n (view (now (s .entry))) b) (λ k t. run concrete (finish k) t))) ⌝ }
+    ensures { λ r. ⌜ Leads r (now (s .exit)) (λ b. halted (endpoint.meaning n (view (now (s .entry))) b)) ⌝ }
     ensures { λ r. ⌜ Stored r (now (s .exit)) ⌝ }
 {
     match n {
@@ -149,10 +127,7 @@ pub fn suspend_or_end_endpoint(s: &mut [u8; STATE_LEN], n: endpoint::Next) -> St
 // Of a paced advance.
 pub fn suspend_or_end_advance(s: &mut [u8; STATE_LEN], n: AdvanceNext) -> Step
     requires { ⌜ advance.Linked n ⌝ }
-    ensures { λ r. ⌜ ((b : List ℕ) → (
-      answerOf r [] (view (now (s .exit))),
-      machineOf (now (s .exit)) b,
-    ) ≡ halts (bindOut (advance.meaning n (view (now (s .entry))) b) (λ k t. run concrete (finish k) t))) ⌝ }
+    ensures { λ r. ⌜ Leads r (now (s .exit)) (λ b. halted (advance.meaning n (view (now (s .entry))) b)) ⌝ }
     ensures { λ r. ⌜ Stored r (now (s .exit)) ⌝ }
 {
     match n {
@@ -164,10 +139,7 @@ pub fn suspend_or_end_advance(s: &mut [u8; STATE_LEN], n: AdvanceNext) -> Step
 // Of an interrupt.
 pub fn suspend_or_end_interrupt(s: &mut [u8; STATE_LEN], n: irq::Next) -> Step
     requires { ⌜ handler.Linked n ⌝ }
-    ensures { λ r. ⌜ ((b : List ℕ) → (
-      answerOf r [] (view (now (s .exit))),
-      machineOf (now (s .exit)) b,
-    ) ≡ haltsAs true (bindOut (handler.meaning n (view (now (s .entry))) b) (λ k t. run concrete (finish k) t))) ⌝ }
+    ensures { λ r. ⌜ Leads r (now (s .exit)) (λ b. haltsAs true (bindOut (handler.meaning n (view (now (s .entry))) b) (λ k t. run concrete (finish k) t))) ⌝ }
     ensures { λ r. ⌜ Stored r (now (s .exit)) ⌝ }
 {
     match n {
@@ -179,10 +151,7 @@ pub fn suspend_or_end_interrupt(s: &mut [u8; STATE_LEN], n: irq::Next) -> Step
 // A begin of a read or write, with nothing under way.
 pub fn begun_endpoint(s: &mut [u8; STATE_LEN], n: endpoint::Begun) -> Step
     requires { ⌜ endpoint.LinkedBegun n × (isIdle (decode (saved (now s))) ≡ true) ⌝ }
-    ensures { λ r. ⌜ ((b : List ℕ) → (
-      answerOf r [] (view (now (s .exit))),
-      machineOf (now (s .exit)) b,
-    ) ≡ halts (endpoint.begunAs n (view (now (s .entry))) b)) ⌝ }
+    ensures { λ r. ⌜ Leads r (now (s .exit)) (λ b. halts (endpoint.begunAs n (view (now (s .entry))) b)) ⌝ }
     ensures { λ r. ⌜ SavedByAnswer r (now (s .entry)) (now (s .exit)) ⌝ }
 {
     match n {

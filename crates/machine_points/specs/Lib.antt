@@ -1,4 +1,4 @@
-pub mod Stands
+pub mod Family
 pub mod StandsLaws
 pub mod BusLaws
 pub mod ControlLaws

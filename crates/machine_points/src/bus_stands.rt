@@ -1,17 +1,19 @@
 // An operation of the bus stands at a point, whose bytes are stored where it is made.
+use crate::stands::code;
 use crate::stands::stand;
 use bus::flag_of;
 use machine::Step;
 use regs::Access;
 use regs::Dir;
 use state::STATE_LEN;
-use state::Saved;
 ghost use mathlib.Core.Path.{_≡_};
 ghost use Rattle.bus.specs.declared.Point.the-variants as Point;
-ghost use Rattle.bus.specs.Codec.{dirAs, code};
+ghost use Rattle.bus.specs.Codec.{dirAs};
 ghost use Rattle.machine.specs.declared.Suspended.the-variants as Under;
-ghost use Rattle.machine.specs.Suspended.{withTag};
-ghost use Rattle.machine_points.specs.Stands.{Stands};
+ghost use Rattle.machine.specs.Stands.{Stands};
+
+// Whose points these are, in the saved record.
+const TAG: u8 = 2;
 
 fn dir_as(d: Dir) -> u8
     ensures { λ r. ⌜ r ≡ dirAs d ⌝ }
@@ -22,144 +24,125 @@ fn dir_as(d: Dir) -> u8
     }
 }
 
-// A point's numbers, with the bus's tag.
-fn code(sub: u8, site: u8, flag: u8, busy: u8, st: u8, ep: u8) -> Saved
-    ensures { λ r. ⌜ r ≡ withTag 2 (code sub site flag busy st ep) ⌝ }
-{
-    Saved {
-        tag: 2,
-        sub,
-        site,
-        flag,
-        busy,
-        late: 0,
-        len_ok: 0,
-        st,
-        now: 0,
-        ep,
-        len: 0,
-        frame: 0,
-        eps: 0,
-        n: 0,
-        value: 0,
-    }
-}
-
 // The last access; the result.
 pub fn stand_event(s: &mut [u8; STATE_LEN], q: Access, n: u8) -> Step
     ensures { λ r. ⌜ Stands r q (Under.Bus (Point.Event n)) (now (s .entry)) (now (s .exit)) ⌝ }
 {
-    stand(s, q, code(1, 0, 0, 0, n, 0))
+    stand(s, q, code(TAG, 1, 0, 0, 0, n, 0))
 }
 
 // A control word is read, to be stalled.
 pub fn stand_stall_word(s: &mut [u8; STATE_LEN], q: Access, d: Dir, e: u8) -> Step
     ensures { λ r. ⌜ Stands r q (Under.Bus (Point.StallWord d e)) (now (s .entry)) (now (s .exit)) ⌝ }
 {
-    stand(s, q, code(4, dir_as(d), 0, 0, 0, e))
+    stand(s, q, code(TAG, 4, dir_as(d), 0, 0, 0, e))
 }
 
 // The last access; the endpoint is woken.
 pub fn stand_woken(s: &mut [u8; STATE_LEN], q: Access, d: Dir, e: u8) -> Step
     ensures { λ r. ⌜ Stands r q (Under.Bus (Point.Woken d e)) (now (s .entry)) (now (s .exit)) ⌝ }
 {
-    stand(s, q, code(6, dir_as(d), 0, 0, 0, e))
+    stand(s, q, code(TAG, 6, dir_as(d), 0, 0, 0, e))
 }
 
 // Mis_st is read.
 pub fn stand_status(s: &mut [u8; STATE_LEN], q: Access) -> Step
     ensures { λ r. ⌜ Stands r q (Under.Bus Point.Status) (now (s .entry)) (now (s .exit)) ⌝ }
 {
-    stand(s, q, code(8, 0, 0, 0, 0, 0))
+    stand(s, q, code(TAG, 8, 0, 0, 0, 0, 0))
 }
 
 // The suspend flag is cleared; suspended.
 pub fn stand_released(s: &mut [u8; STATE_LEN], q: Access, down: bool) -> Step
     ensures { λ r. ⌜ Stands r q (Under.Bus (Point.Released down)) (now (s .entry)) (now (s .exit)) ⌝ }
 {
-    stand(s, q, code(9, 0, 0, flag_of(down), 0, 0))
+    stand(s, q, code(TAG, 9, 0, 0, flag_of(down), 0, 0))
 }
 
 // Dev_ad is 0.
 pub fn stand_address(s: &mut [u8; STATE_LEN], q: Access) -> Step
     ensures { λ r. ⌜ Stands r q (Under.Bus Point.Address) (now (s .entry)) (now (s .exit)) ⌝ }
 {
-    stand(s, q, code(10, 0, 0, 0, 0, 0))
+    stand(s, q, code(TAG, 10, 0, 0, 0, 0, 0))
 }
 
 // EP0's OUT answers ACK.
 pub fn stand_ep0_out(s: &mut [u8; STATE_LEN], q: Access) -> Step
     ensures { λ r. ⌜ Stands r q (Under.Bus Point.Ep0Out) (now (s .entry)) (now (s .exit)) ⌝ }
 {
-    stand(s, q, code(11, 0, 0, 0, 0, 0))
+    stand(s, q, code(TAG, 11, 0, 0, 0, 0, 0))
 }
 
 // IN e answers NAK.
 pub fn stand_nak_in(s: &mut [u8; STATE_LEN], q: Access, e: u8) -> Step
     ensures { λ r. ⌜ Stands r q (Under.Bus (Point.NakIn e)) (now (s .entry)) (now (s .exit)) ⌝ }
 {
-    stand(s, q, code(12, 0, 0, 0, 0, e))
+    stand(s, q, code(TAG, 12, 0, 0, 0, 0, e))
 }
 
 // Endpoint e answers NAK.
 pub fn stand_naked(s: &mut [u8; STATE_LEN], q: Access, e: u8) -> Step
     ensures { λ r. ⌜ Stands r q (Under.Bus (Point.Naked e)) (now (s .entry)) (now (s .exit)) ⌝ }
 {
-    stand(s, q, code(13, 0, 0, 0, 0, e))
+    stand(s, q, code(TAG, 13, 0, 0, 0, 0, e))
 }
 
 // Ep_config is 0.
 pub fn stand_disabled(s: &mut [u8; STATE_LEN], q: Access) -> Step
     ensures { λ r. ⌜ Stands r q (Under.Bus Point.Disabled) (now (s .entry)) (now (s .exit)) ⌝ }
 {
-    stand(s, q, code(14, 0, 0, 0, 0, 0))
+    stand(s, q, code(TAG, 14, 0, 0, 0, 0, 0))
 }
 
 // Ep_type is.
 pub fn stand_untyped(s: &mut [u8; STATE_LEN], q: Access) -> Step
     ensures { λ r. ⌜ Stands r q (Under.Bus Point.Untyped) (now (s .entry)) (now (s .exit)) ⌝ }
 {
-    stand(s, q, code(15, 0, 0, 0, 0, 0))
+    stand(s, q, code(TAG, 15, 0, 0, 0, 0, 0))
 }
 
 // Ep_buf_mod is.
 pub fn stand_single(s: &mut [u8; STATE_LEN], q: Access) -> Step
     ensures { λ r. ⌜ Stands r q (Under.Bus Point.Single) (now (s .entry)) (now (s .exit)) ⌝ }
 {
-    stand(s, q, code(16, 0, 0, 0, 0, 0))
+    stand(s, q, code(TAG, 16, 0, 0, 0, 0, 0))
 }
 
 // The reset flag is cleared.
 pub fn stand_reset(s: &mut [u8; STATE_LEN], q: Access) -> Step
     ensures { λ r. ⌜ Stands r q (Under.Bus Point.Reset) (now (s .entry)) (now (s .exit)) ⌝ }
 {
-    stand(s, q, code(17, 0, 0, 0, 0, 0))
+    stand(s, q, code(TAG, 17, 0, 0, 0, 0, 0))
 }
 
 // Ep_t_len is 0; isochronous, enabled.
 pub fn stand_no_length(s: &mut [u8; STATE_LEN], q: Access, e: u8, iso: bool, on: bool) -> Step
     ensures { λ r. ⌜ Stands r q (Under.Bus (Point.NoLength e iso on)) (now (s .entry)) (now (s .exit)) ⌝ }
 {
-    stand(s, q, code(20, 0, flag_of(on), flag_of(iso), 0, e))
+    stand(s, q, code(TAG, 20, 0, flag_of(on), flag_of(iso), 0, e))
 }
 
 // The control word is set; isochronous, enabled.
 pub fn stand_words(s: &mut [u8; STATE_LEN], q: Access, d: Dir, e: u8, iso: bool, on: bool) -> Step
     ensures { λ r. ⌜ Stands r q (Under.Bus (Point.Words d e iso on)) (now (s .entry)) (now (s .exit)) ⌝ }
 {
-    stand(s, q, code(21, dir_as(d), flag_of(on), flag_of(iso), 0, e))
+    stand(
+        s,
+        q,
+        code(TAG, 21, dir_as(d), flag_of(on), flag_of(iso), 0, e),
+    )
 }
 
 // Ep_type is set; enabled.
 pub fn stand_typed(s: &mut [u8; STATE_LEN], q: Access, d: Dir, e: u8, on: bool) -> Step
     ensures { λ r. ⌜ Stands r q (Under.Bus (Point.Type d e on)) (now (s .entry)) (now (s .exit)) ⌝ }
 {
-    stand(s, q, code(22, dir_as(d), flag_of(on), 0, 0, e))
+    stand(s, q, code(TAG, 22, dir_as(d), flag_of(on), 0, 0, e))
 }
 
 // In the row of an isochronous OUT; enabled, how many of its accesses are left.
 pub fn stand_switch(s: &mut [u8; STATE_LEN], q: Access, e: u8, on: bool, n: u8) -> Step
     ensures { λ r. ⌜ Stands r q (Under.Bus (Point.Switch e on n)) (now (s .entry)) (now (s .exit)) ⌝ }
 {
-    stand(s, q, code(23, 0, flag_of(on), 0, n, e))
+    stand(s, q, code(TAG, 23, 0, flag_of(on), 0, n, e))
 }

@@ -1,113 +1,90 @@
 // An operation of the driver's own stands at a point, whose bytes are stored where it is made.
+use crate::stands::code;
 use crate::stands::stand;
 use bus::flag_of;
 use machine::Step;
 use regs::Access;
 use state::STATE_LEN;
-use state::Saved;
-ghost use mathlib.Core.Path.{_≡_};
 ghost use Rattle.driver.specs.declared.Point.the-variants as Point;
-ghost use Rattle.driver_codec.specs.Codec.{code};
 ghost use Rattle.machine.specs.declared.Suspended.the-variants as Under;
-ghost use Rattle.machine.specs.Suspended.{withTag};
-ghost use Rattle.machine_points.specs.Stands.{Stands};
+ghost use Rattle.machine.specs.Stands.{Stands};
 
-// A point's numbers, with its tag.
-fn code(sub: u8, flag: u8, ep: u8) -> Saved
-    ensures { λ r. ⌜ r ≡ withTag 1 (code sub flag 0 ep 0) ⌝ }
-{
-    Saved {
-        tag: 1,
-        sub,
-        site: 0,
-        flag,
-        busy: 0,
-        late: 0,
-        len_ok: 0,
-        st: 0,
-        now: 0,
-        ep,
-        len: 0,
-        frame: 0,
-        eps: 0,
-        n: 0,
-        value: 0,
-    }
-}
+// Whose points these are, in the saved record.
+const TAG: u8 = 1;
 
 // The wait; with the callback, as the next four.
 pub fn stand_wait(s: &mut [u8; STATE_LEN], q: Access, on: bool) -> Step
     ensures { λ r. ⌜ Stands r q (Under.Driver (Point.Wait on)) (now (s .entry)) (now (s .exit)) ⌝ }
 {
-    stand(s, q, code(1, flag_of(on), 0))
+    stand(s, q, code(TAG, 1, 0, flag_of(on), 0, 0, 0))
 }
 
 // Ctrl is read.
 pub fn stand_reset(s: &mut [u8; STATE_LEN], q: Access, on: bool) -> Step
     ensures { λ r. ⌜ Stands r q (Under.Driver (Point.Reset on)) (now (s .entry)) (now (s .exit)) ⌝ }
 {
-    stand(s, q, code(2, flag_of(on), 0))
+    stand(s, q, code(TAG, 2, 0, flag_of(on), 0, 0, 0))
 }
 
 // The reset is ended.
 pub fn stand_reset_end(s: &mut [u8; STATE_LEN], q: Access, on: bool) -> Step
     ensures { λ r. ⌜ Stands r q (Under.Driver (Point.ResetEnd on)) (now (s .entry)) (now (s .exit)) ⌝ }
 {
-    stand(s, q, code(3, flag_of(on), 0))
+    stand(s, q, code(TAG, 3, 0, flag_of(on), 0, 0, 0))
 }
 
 // Host_ctrl is written.
 pub fn stand_host(s: &mut [u8; STATE_LEN], q: Access, on: bool) -> Step
     ensures { λ r. ⌜ Stands r q (Under.Driver (Point.Host on)) (now (s .entry)) (now (s .exit)) ⌝ }
 {
-    stand(s, q, code(4, flag_of(on), 0))
+    stand(s, q, code(TAG, 4, 0, flag_of(on), 0, 0, 0))
 }
 
 // Ctrl is.
 pub fn stand_run(s: &mut [u8; STATE_LEN], q: Access, on: bool) -> Step
     ensures { λ r. ⌜ Stands r q (Under.Driver (Point.Run on)) (now (s .entry)) (now (s .exit)) ⌝ }
 {
-    stand(s, q, code(5, flag_of(on), 0))
+    stand(s, q, code(TAG, 5, 0, flag_of(on), 0, 0, 0))
 }
 
 // Int_en is.
 pub fn stand_int_en(s: &mut [u8; STATE_LEN], q: Access) -> Step
     ensures { λ r. ⌜ Stands r q (Under.Driver Point.IntEn) (now (s .entry)) (now (s .exit)) ⌝ }
 {
-    stand(s, q, code(6, 0, 0))
+    stand(s, q, code(TAG, 6, 0, 0, 0, 0, 0))
 }
 
 // A new endpoint's address is.
 pub fn stand_place(s: &mut [u8; STATE_LEN], q: Access, ep: u8) -> Step
     ensures { λ r. ⌜ Stands r q (Under.Driver (Point.Place ep)) (now (s .entry)) (now (s .exit)) ⌝ }
 {
-    stand(s, q, code(8, 0, ep))
+    stand(s, q, code(TAG, 8, 0, 0, 0, 0, ep))
 }
 
 // EP0's maximum is.
 pub fn stand_ep0_max_len(s: &mut [u8; STATE_LEN], q: Access) -> Step
     ensures { λ r. ⌜ Stands r q (Under.Driver Point.Ep0MaxLen) (now (s .entry)) (now (s .exit)) ⌝ }
 {
-    stand(s, q, code(10, 0, 0))
+    stand(s, q, code(TAG, 10, 0, 0, 0, 0, 0))
 }
 
 // Its OUT answers NAK.
 pub fn stand_ep0_rx(s: &mut [u8; STATE_LEN], q: Access) -> Step
     ensures { λ r. ⌜ Stands r q (Under.Driver Point.Ep0Rx) (now (s .entry)) (now (s .exit)) ⌝ }
 {
-    stand(s, q, code(11, 0, 0))
+    stand(s, q, code(TAG, 11, 0, 0, 0, 0, 0))
 }
 
 // Its IN does.
 pub fn stand_ep0_tx(s: &mut [u8; STATE_LEN], q: Access) -> Step
     ensures { λ r. ⌜ Stands r q (Under.Driver Point.Ep0Tx) (now (s .entry)) (now (s .exit)) ⌝ }
 {
-    stand(s, q, code(12, 0, 0))
+    stand(s, q, code(TAG, 12, 0, 0, 0, 0, 0))
 }
 
 // Its packet's maximum is written.
 pub fn stand_ep0_packet(s: &mut [u8; STATE_LEN], q: Access) -> Step
     ensures { λ r. ⌜ Stands r q (Under.Driver Point.Ep0Packet) (now (s .entry)) (now (s .exit)) ⌝ }
 {
-    stand(s, q, code(13, 0, 0))
+    stand(s, q, code(TAG, 13, 0, 0, 0, 0, 0))
 }

@@ -11,8 +11,33 @@ ghost use mathlib.Core.Path.{_≡_};
 ghost use mathlib.Core.List.{List};
 ghost use Prim.Native.Nat.{ℕ};
 ghost use Rattle.state.specs.State.{view, saved};
+ghost use Rattle.bus.specs.Codec.{code};
 ghost use Rattle.machine.specs.declared.Step.the-variants as Step;
-ghost use Rattle.machine_points.specs.Stands.{Stops};
+ghost use Rattle.machine.specs.Suspended.{withTag};
+ghost use Rattle.machine.specs.Stands.{Ends};
+
+// A point's numbers, with the tag that says whose it is. All else is zero.
+pub fn code(tag: u8, sub: u8, site: u8, flag: u8, busy: u8, st: u8, ep: u8) -> Saved
+    ensures { λ r. ⌜ r ≡ withTag tag (code sub site flag busy st ep) ⌝ }
+{
+    Saved {
+        tag,
+        sub,
+        site,
+        flag,
+        busy,
+        late: 0,
+        len_ok: 0,
+        st,
+        now: 0,
+        ep,
+        len: 0,
+        frame: 0,
+        eps: 0,
+        n: 0,
+        value: 0,
+    }
+}
 
 // What is saved of a point, with its tag.
 pub fn stand(s: &mut [u8; STATE_LEN], q: Access, c: Saved) -> Step
@@ -24,7 +49,7 @@ pub fn stand(s: &mut [u8; STATE_LEN], q: Access, c: Saved) -> Step
 
 // The operation has ended with its result: nothing is under way, and its wake-ups are answered.
 pub fn stop(s: &mut [u8; STATE_LEN], n: u16) -> Step
-    ensures { λ r. ⌜ Stops r n (now (s .entry)) (now (s .exit)) ⌝ }
+    ensures { λ r. ⌜ Ends r n (now (s .entry)) (now (s .exit)) ⌝ }
 {
     store_saved(s, nothing());
     let k = how_many(s);

@@ -1,6 +1,5 @@
 // Continue: the operation under way goes on at its point, with the number brought. An interrupt answers its word.
 use call_answer_word::ROW_1;
-use irq_points::loads::site_byte;
 use irq_resume::entry::resume_len;
 use irq_resume::entry::resume_mis;
 use irq_resume::entry::resume_nak;
@@ -28,6 +27,7 @@ use irq_resume::tokens::resume_flipped;
 use irq_resume::tokens::resume_sof_arm;
 use irq_resume::tokens::resume_toggled;
 use machine::Step;
+use machine::loads::site_byte;
 use machine::saved::tag;
 use machine::stops::slots_fit;
 use machine_resume_op::resume_advance;
@@ -41,19 +41,16 @@ ghost use mathlib.Core.List.{List, []};
 ghost use Prim.Native.Nat.{ℕ};
 ghost use Rattle.state.specs.State.{view, saved};
 ghost use Rattle.model.specs.Machine.{go};
-ghost use Rattle.machine.specs.Suspended.{decode, machineOf, drive, resumed, answerOf, lentOr, BufferUnchangedOnRow1, SavedByAnswer};
+ghost use Rattle.machine.specs.Suspended.{machineOf, drive, answerOf, lentOr, BufferUnchangedOnRow1, SavedByAnswer};
+ghost use Rattle.machine.specs.Stands.{Resumes};
 ghost use Rattle.call_answer_word.specs.Parts.{stepOf};
-ghost use Rattle.irq_points.specs.Stands.{PinsFrom};
+ghost use Rattle.irq_points.specs.Stands.{PinsFrom, ResumesByWord};
 
 // Goes on at an interrupt's point: the one dispatch on what is saved. Each arm is a call and nothing after it, and answers
 // its own word.
 fn resume_interrupt(s: &mut [u8; STATE_LEN], slots: &mut [u8], v: u32) -> u64
     requires { ⌜ saved (now s) .tag ≡ 6 ⌝ }
-    ensures { λ r. ⌜ (
-      answerOf (stepOf r) [] (view (now (s .exit))),
-      machineOf (now (s .exit)) (now (slots .exit)),
-    ) ≡ resumed v (decode (saved (now (s .entry)))) (view (now (s .entry))) (now (slots .entry)) ⌝ }
-    ensures { λ r. ⌜ PinsFrom r (now (s .entry)) (now (s .exit)) ⌝ }
+    ensures { λ r. ⌜ ResumesByWord r v (now (s .entry)) (now (slots .entry)) (now (s .exit)) (now (slots .exit)) ⌝ }
 {
     let site = site_byte(s);
     match site {
@@ -89,11 +86,7 @@ fn resume_interrupt(s: &mut [u8; STATE_LEN], slots: &mut [u8], v: u32) -> u64
 // Goes on at any other operation's point.
 fn resume_at(s: &mut [u8; STATE_LEN], slots: &mut [u8], v: u32) -> Step
     requires { ⌜ (saved (now s) .tag ≡ 6 → ⊥) ⌝ }
-    ensures { λ r. ⌜ (
-      answerOf r [] (view (now (s .exit))),
-      machineOf (now (s .exit)) (now (slots .exit)),
-    ) ≡ resumed v (decode (saved (now (s .entry)))) (view (now (s .entry))) (now (slots .entry)) ⌝ }
-    ensures { λ r. ⌜ SavedByAnswer r (now (s .entry)) (now (s .exit)) ⌝ }
+    ensures { λ r. ⌜ Resumes r v (now (s .entry)) (now (slots .entry)) (now (s .exit)) (now (slots .exit)) ⌝ }
 {
     match tag(s) {
         1 => resume_driver(s, v),

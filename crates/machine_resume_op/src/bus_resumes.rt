@@ -22,6 +22,8 @@ use bus_set_stalled::after_stall_word;
 use bus_set_stalled::after_stalled;
 use iso_out_enable::after_switch;
 use machine::Step;
+use machine::loads::ep_byte;
+use machine::loads::st_byte;
 use machine_points::bus_stands::stand_address;
 use machine_points::bus_stands::stand_disabled;
 use machine_points::bus_stands::stand_ep0_out;
@@ -40,10 +42,8 @@ use machine_points::bus_stands::stand_untyped;
 use machine_points::bus_stands::stand_woken;
 use machine_points::bus_stands::stand_words;
 use machine_points::loads::dir_at;
-use machine_points::loads::ep_byte;
 use machine_points::loads::iso_at;
 use machine_points::loads::on_at;
-use machine_points::loads::st_byte;
 use machine_points::stands::stop;
 use model_ops::records::wake;
 use regs::Access;
@@ -56,18 +56,16 @@ use state::STATE_LEN;
 ghost use mathlib.Core.Path.{_≡_};
 ghost use mathlib.Core.List.{List};
 ghost use Prim.Native.Nat.{ℕ};
-ghost use Rattle.model.specs.Statics.{isOn};
 ghost use Rattle.state.specs.State.{saved};
 ghost use Rattle.bus.specs.declared.Point.the-variants as Point;
-ghost use Rattle.bus.specs.Codec.{dirOf};
 ghost use Rattle.machine.specs.declared.Suspended.the-variants as Under;
 ghost use Rattle.machine.specs.Suspended.{decode};
-ghost use Rattle.machine_points.specs.Stands.{Resumes};
+ghost use Rattle.machine.specs.Stands.{AtNumber, Resumes};
 
 // Ctrl is read.
 pub fn resume_enable(s: &mut [u8; STATE_LEN], v: u32) -> Step
     requires { ⌜ decode (saved (now s)) ≡ Under.Bus Point.Enable ⌝ }
-    ensures { λ r. ⌜ ((b : List ℕ) → Resumes r v (Under.Bus Point.Enable) (now (s .entry)) b (now (s .exit)) b) ⌝ }
+    ensures { λ r. ⌜ ((b : List ℕ) → Resumes r v (now (s .entry)) b (now (s .exit)) b) ⌝ }
 {
     if fits(v, 6) {
         let q = after_enable(v);
@@ -78,8 +76,8 @@ pub fn resume_enable(s: &mut [u8; STATE_LEN], v: u32) -> Step
 
 // The last access is made.
 pub fn resume_event(s: &mut [u8; STATE_LEN]) -> Step
-    ensures { λ r. ⌜ ((v : ℕ) (b : List ℕ) → Resumes r v (Under.Bus (Point.Event (saved (now (s .entry)) .st)))
-        (now (s .entry)) b (now (s .exit)) b) ⌝ }
+    requires { ⌜ AtNumber 2 1 (now s) ⌝ }
+    ensures { λ r. ⌜ ((v : ℕ) (b : List ℕ) → Resumes r v (now (s .entry)) b (now (s .exit)) b) ⌝ }
 {
     let n = st_byte(s);
     stop(s, n as u16)
@@ -87,8 +85,8 @@ pub fn resume_event(s: &mut [u8; STATE_LEN]) -> Step
 
 // A control word is read, to be asked.
 pub fn resume_stalled(s: &mut [u8; STATE_LEN], v: u32) -> Step
-    requires { ⌜ decode (saved (now s)) ≡ Under.Bus Point.Stalled ⌝ }
-    ensures { λ r. ⌜ ((b : List ℕ) → Resumes r v (Under.Bus Point.Stalled) (now (s .entry)) b (now (s .exit)) b) ⌝ }
+    requires { ⌜ AtNumber 2 2 (now s) ⌝ }
+    ensures { λ r. ⌜ ((b : List ℕ) → Resumes r v (now (s .entry)) b (now (s .exit)) b) ⌝ }
 {
     if fits(v, 8) {
         let n = after_stalled(v);
@@ -99,8 +97,8 @@ pub fn resume_stalled(s: &mut [u8; STATE_LEN], v: u32) -> Step
 
 // Ep_t_len is 0.
 pub fn resume_stall_len(s: &mut [u8; STATE_LEN]) -> Step
-    ensures { λ r. ⌜ ((v : ℕ) (b : List ℕ) → Resumes r v (Under.Bus (Point.StallLen (saved (now (s .entry)) .ep)))
-        (now (s .entry)) b (now (s .exit)) b) ⌝ }
+    requires { ⌜ AtNumber 2 3 (now s) ⌝ }
+    ensures { λ r. ⌜ ((v : ℕ) (b : List ℕ) → Resumes r v (now (s .entry)) b (now (s .exit)) b) ⌝ }
 {
     let e = ep_byte(s);
     let q = after_stall_len(e);
@@ -109,9 +107,8 @@ pub fn resume_stall_len(s: &mut [u8; STATE_LEN]) -> Step
 
 // A control word is read, to be stalled.
 pub fn resume_stall_word(s: &mut [u8; STATE_LEN], v: u32) -> Step
-    requires { ⌜ decode (saved (now s)) ≡ Under.Bus (Point.StallWord (dirOf ((saved (now s)) .site)) ((saved (now s)) .ep)) ⌝ }
-    ensures { λ r. ⌜ ((b : List ℕ) → Resumes r v (Under.Bus (Point.StallWord (dirOf (saved (now (s .entry)) .site))
-        (saved (now (s .entry)) .ep))) (now (s .entry)) b (now (s .exit)) b) ⌝ }
+    requires { ⌜ AtNumber 2 4 (now s) ⌝ }
+    ensures { λ r. ⌜ ((b : List ℕ) → Resumes r v (now (s .entry)) b (now (s .exit)) b) ⌝ }
 {
     if fits(v, 8) {
         let d = dir_at(s);
@@ -124,8 +121,8 @@ pub fn resume_stall_word(s: &mut [u8; STATE_LEN], v: u32) -> Step
 
 // An IN's control word is restarted.
 pub fn resume_restarted(s: &mut [u8; STATE_LEN]) -> Step
-    ensures { λ r. ⌜ ((v : ℕ) (b : List ℕ) → Resumes r v (Under.Bus (Point.Restarted (saved (now (s .entry)) .ep) (isOn (saved (now (s .entry)) .busy))))
-        (now (s .entry)) b (now (s .exit)) b) ⌝ }
+    requires { ⌜ AtNumber 2 5 (now s) ⌝ }
+    ensures { λ r. ⌜ ((v : ℕ) (b : List ℕ) → Resumes r v (now (s .entry)) b (now (s .exit)) b) ⌝ }
 {
     let e = ep_byte(s);
     let iso = iso_at(s);
@@ -135,8 +132,8 @@ pub fn resume_restarted(s: &mut [u8; STATE_LEN]) -> Step
 
 // The last access is made; the endpoint is woken.
 pub fn resume_woken(s: &mut [u8; STATE_LEN]) -> Step
-    ensures { λ r. ⌜ ((v : ℕ) (b : List ℕ) → Resumes r v (Under.Bus (Point.Woken (dirOf (saved (now (s .entry)) .site)) (saved (now (s .entry)) .ep)))
-        (now (s .entry)) b (now (s .exit)) b) ⌝ }
+    requires { ⌜ AtNumber 2 6 (now s) ⌝ }
+    ensures { λ r. ⌜ ((v : ℕ) (b : List ℕ) → Resumes r v (now (s .entry)) b (now (s .exit)) b) ⌝ }
 {
     let d = dir_at(s);
     let e = ep_byte(s);
@@ -146,8 +143,8 @@ pub fn resume_woken(s: &mut [u8; STATE_LEN]) -> Step
 
 // Int_fg is read: `poll` (mod.rs 1231-1266).
 pub fn resume_flags(s: &mut [u8; STATE_LEN], v: u32) -> Step
-    requires { ⌜ decode (saved (now s)) ≡ Under.Bus Point.Flags ⌝ }
-    ensures { λ r. ⌜ ((b : List ℕ) → Resumes r v (Under.Bus Point.Flags) (now (s .entry)) b (now (s .exit)) b) ⌝ }
+    requires { ⌜ AtNumber 2 7 (now s) ⌝ }
+    ensures { λ r. ⌜ ((b : List ℕ) → Resumes r v (now (s .entry)) b (now (s .exit)) b) ⌝ }
 {
     if fits(v, 6) {
         let word = byte(v);
@@ -164,8 +161,8 @@ pub fn resume_flags(s: &mut [u8; STATE_LEN], v: u32) -> Step
 
 // Mis_st is read.
 pub fn resume_status(s: &mut [u8; STATE_LEN], v: u32) -> Step
-    requires { ⌜ decode (saved (now s)) ≡ Under.Bus Point.Status ⌝ }
-    ensures { λ r. ⌜ ((b : List ℕ) → Resumes r v (Under.Bus Point.Status) (now (s .entry)) b (now (s .exit)) b) ⌝ }
+    requires { ⌜ AtNumber 2 8 (now s) ⌝ }
+    ensures { λ r. ⌜ ((b : List ℕ) → Resumes r v (now (s .entry)) b (now (s .exit)) b) ⌝ }
 {
     if fits(v, 2) {
         let down = mis_status::suspended(byte(v));
@@ -176,8 +173,8 @@ pub fn resume_status(s: &mut [u8; STATE_LEN], v: u32) -> Step
 
 // The suspend flag is cleared.
 pub fn resume_released(s: &mut [u8; STATE_LEN]) -> Step
-    ensures { λ r. ⌜ ((v : ℕ) (b : List ℕ) → Resumes r v (Under.Bus (Point.Released (isOn (saved (now (s .entry)) .busy))))
-        (now (s .entry)) b (now (s .exit)) b) ⌝ }
+    requires { ⌜ AtNumber 2 9 (now s) ⌝ }
+    ensures { λ r. ⌜ ((v : ℕ) (b : List ℕ) → Resumes r v (now (s .entry)) b (now (s .exit)) b) ⌝ }
 {
     let down = iso_at(s);
     let q = after_released(s);
@@ -189,8 +186,8 @@ pub fn resume_released(s: &mut [u8; STATE_LEN]) -> Step
 
 // Dev_ad is 0: `bus_reset` (mod.rs 1187-1221).
 pub fn resume_address(s: &mut [u8; STATE_LEN]) -> Step
-    ensures { λ r. ⌜ ((v : ℕ) (b : List ℕ) → Resumes r v (Under.Bus Point.Address)
-        (now (s .entry)) b (now (s .exit)) b) ⌝ }
+    requires { ⌜ AtNumber 2 10 (now s) ⌝ }
+    ensures { λ r. ⌜ ((v : ℕ) (b : List ℕ) → Resumes r v (now (s .entry)) b (now (s .exit)) b) ⌝ }
 {
     let q = after_address();
     stand_ep0_out(s, q)
@@ -198,8 +195,8 @@ pub fn resume_address(s: &mut [u8; STATE_LEN]) -> Step
 
 // EP0's OUT answers ACK.
 pub fn resume_ep0_out(s: &mut [u8; STATE_LEN]) -> Step
-    ensures { λ r. ⌜ ((v : ℕ) (b : List ℕ) → Resumes r v (Under.Bus Point.Ep0Out)
-        (now (s .entry)) b (now (s .exit)) b) ⌝ }
+    requires { ⌜ AtNumber 2 11 (now s) ⌝ }
+    ensures { λ r. ⌜ ((v : ℕ) (b : List ℕ) → Resumes r v (now (s .entry)) b (now (s .exit)) b) ⌝ }
 {
     let q = after_ep0_out();
     stand_naked(s, q, 0)
@@ -207,8 +204,8 @@ pub fn resume_ep0_out(s: &mut [u8; STATE_LEN]) -> Step
 
 // IN e answers NAK.
 pub fn resume_nak_in(s: &mut [u8; STATE_LEN]) -> Step
-    ensures { λ r. ⌜ ((v : ℕ) (b : List ℕ) → Resumes r v (Under.Bus (Point.NakIn (saved (now (s .entry)) .ep)))
-        (now (s .entry)) b (now (s .exit)) b) ⌝ }
+    requires { ⌜ AtNumber 2 12 (now s) ⌝ }
+    ensures { λ r. ⌜ ((v : ℕ) (b : List ℕ) → Resumes r v (now (s .entry)) b (now (s .exit)) b) ⌝ }
 {
     let e = ep_byte(s);
     let q = after_nak_in(e);
@@ -217,8 +214,8 @@ pub fn resume_nak_in(s: &mut [u8; STATE_LEN]) -> Step
 
 // Endpoint e answers NAK.
 pub fn resume_naked(s: &mut [u8; STATE_LEN]) -> Step
-    ensures { λ r. ⌜ ((v : ℕ) (b : List ℕ) → Resumes r v (Under.Bus (Point.Naked (saved (now (s .entry)) .ep)))
-        (now (s .entry)) b (now (s .exit)) b) ⌝ }
+    requires { ⌜ AtNumber 2 13 (now s) ⌝ }
+    ensures { λ r. ⌜ ((v : ℕ) (b : List ℕ) → Resumes r v (now (s .entry)) b (now (s .exit)) b) ⌝ }
 {
     let e = ep_byte(s);
     if e < 15 {
@@ -231,8 +228,8 @@ pub fn resume_naked(s: &mut [u8; STATE_LEN]) -> Step
 
 // Ep_config is 0.
 pub fn resume_disabled(s: &mut [u8; STATE_LEN]) -> Step
-    ensures { λ r. ⌜ ((v : ℕ) (b : List ℕ) → Resumes r v (Under.Bus Point.Disabled)
-        (now (s .entry)) b (now (s .exit)) b) ⌝ }
+    requires { ⌜ AtNumber 2 14 (now s) ⌝ }
+    ensures { λ r. ⌜ ((v : ℕ) (b : List ℕ) → Resumes r v (now (s .entry)) b (now (s .exit)) b) ⌝ }
 {
     let q = after_disabled(s);
     stand_untyped(s, q)
@@ -240,8 +237,8 @@ pub fn resume_disabled(s: &mut [u8; STATE_LEN]) -> Step
 
 // Ep_type is.
 pub fn resume_untyped(s: &mut [u8; STATE_LEN]) -> Step
-    ensures { λ r. ⌜ ((v : ℕ) (b : List ℕ) → Resumes r v (Under.Bus Point.Untyped)
-        (now (s .entry)) b (now (s .exit)) b) ⌝ }
+    requires { ⌜ AtNumber 2 15 (now s) ⌝ }
+    ensures { λ r. ⌜ ((v : ℕ) (b : List ℕ) → Resumes r v (now (s .entry)) b (now (s .exit)) b) ⌝ }
 {
     let q = after_untyped();
     stand_single(s, q)
@@ -249,8 +246,8 @@ pub fn resume_untyped(s: &mut [u8; STATE_LEN]) -> Step
 
 // Ep_buf_mod is.
 pub fn resume_single(s: &mut [u8; STATE_LEN]) -> Step
-    ensures { λ r. ⌜ ((v : ℕ) (b : List ℕ) → Resumes r v (Under.Bus Point.Single)
-        (now (s .entry)) b (now (s .exit)) b) ⌝ }
+    requires { ⌜ AtNumber 2 16 (now s) ⌝ }
+    ensures { λ r. ⌜ ((v : ℕ) (b : List ℕ) → Resumes r v (now (s .entry)) b (now (s .exit)) b) ⌝ }
 {
     let q = after_single(s);
     stand_reset(s, q)
@@ -258,8 +255,8 @@ pub fn resume_single(s: &mut [u8; STATE_LEN]) -> Step
 
 // The reset flag is cleared.
 pub fn resume_reset(s: &mut [u8; STATE_LEN]) -> Step
-    ensures { λ r. ⌜ ((v : ℕ) (b : List ℕ) → Resumes r v (Under.Bus Point.Reset)
-        (now (s .entry)) b (now (s .exit)) b) ⌝ }
+    requires { ⌜ AtNumber 2 17 (now s) ⌝ }
+    ensures { λ r. ⌜ ((v : ℕ) (b : List ℕ) → Resumes r v (now (s .entry)) b (now (s .exit)) b) ⌝ }
 {
     let q = after_reset(s);
     stand_event(s, q, 2)
@@ -267,8 +264,8 @@ pub fn resume_reset(s: &mut [u8; STATE_LEN]) -> Step
 
 // An OUT's address is set: `endpoint_set_enabled` (mod.rs 1268-1330).
 pub fn resume_placed_out(s: &mut [u8; STATE_LEN]) -> Step
-    ensures { λ r. ⌜ ((v : ℕ) (b : List ℕ) → Resumes r v (Under.Bus (Point.PlacedOut (saved (now (s .entry)) .ep) (isOn (saved (now (s .entry)) .flag))))
-        (now (s .entry)) b (now (s .exit)) b) ⌝ }
+    requires { ⌜ AtNumber 2 18 (now s) ⌝ }
+    ensures { λ r. ⌜ ((v : ℕ) (b : List ℕ) → Resumes r v (now (s .entry)) b (now (s .exit)) b) ⌝ }
 {
     let e = ep_byte(s);
     let on = on_at(s);
@@ -278,9 +275,8 @@ pub fn resume_placed_out(s: &mut [u8; STATE_LEN]) -> Step
 
 // An IN's.
 pub fn resume_placed_in(s: &mut [u8; STATE_LEN]) -> Step
-    ensures { λ r. ⌜ ((v : ℕ) (b : List ℕ) → Resumes r v (Under.Bus (Point.PlacedIn (saved (now (s .entry)) .ep) (isOn
-        (saved (now (s .entry)) .busy)) (isOn (saved (now (s .entry)) .flag))))
-        (now (s .entry)) b (now (s .exit)) b) ⌝ }
+    requires { ⌜ AtNumber 2 19 (now s) ⌝ }
+    ensures { λ r. ⌜ ((v : ℕ) (b : List ℕ) → Resumes r v (now (s .entry)) b (now (s .exit)) b) ⌝ }
 {
     let e = ep_byte(s);
     let iso = iso_at(s);
@@ -291,9 +287,8 @@ pub fn resume_placed_in(s: &mut [u8; STATE_LEN]) -> Step
 
 // Ep_t_len is 0.
 pub fn resume_no_length(s: &mut [u8; STATE_LEN]) -> Step
-    ensures { λ r. ⌜ ((v : ℕ) (b : List ℕ) → Resumes r v (Under.Bus (Point.NoLength (saved (now (s .entry)) .ep) (isOn
-        (saved (now (s .entry)) .busy)) (isOn (saved (now (s .entry)) .flag))))
-        (now (s .entry)) b (now (s .exit)) b) ⌝ }
+    requires { ⌜ AtNumber 2 20 (now s) ⌝ }
+    ensures { λ r. ⌜ ((v : ℕ) (b : List ℕ) → Resumes r v (now (s .entry)) b (now (s .exit)) b) ⌝ }
 {
     let e = ep_byte(s);
     let iso = iso_at(s);
@@ -304,9 +299,8 @@ pub fn resume_no_length(s: &mut [u8; STATE_LEN]) -> Step
 
 // The control word is set.
 pub fn resume_words(s: &mut [u8; STATE_LEN]) -> Step
-    ensures { λ r. ⌜ ((v : ℕ) (b : List ℕ) → Resumes r v (Under.Bus (Point.Words (dirOf (saved (now (s .entry)) .site))
-        (saved (now (s .entry)) .ep) (isOn (saved (now (s .entry)) .busy)) (isOn (saved (now (s .entry)) .flag))))
-        (now (s .entry)) b (now (s .exit)) b) ⌝ }
+    requires { ⌜ AtNumber 2 21 (now s) ⌝ }
+    ensures { λ r. ⌜ ((v : ℕ) (b : List ℕ) → Resumes r v (now (s .entry)) b (now (s .exit)) b) ⌝ }
 {
     let d = dir_at(s);
     let e = ep_byte(s);
@@ -318,9 +312,8 @@ pub fn resume_words(s: &mut [u8; STATE_LEN]) -> Step
 
 // Ep_type is set.
 pub fn resume_typed(s: &mut [u8; STATE_LEN]) -> Step
-    ensures { λ r. ⌜ ((v : ℕ) (b : List ℕ) → Resumes r v (Under.Bus (Point.Type (dirOf (saved (now (s .entry)) .site))
-        (saved (now (s .entry)) .ep) (isOn (saved (now (s .entry)) .flag))))
-        (now (s .entry)) b (now (s .exit)) b) ⌝ }
+    requires { ⌜ AtNumber 2 22 (now s) ⌝ }
+    ensures { λ r. ⌜ ((v : ℕ) (b : List ℕ) → Resumes r v (now (s .entry)) b (now (s .exit)) b) ⌝ }
 {
     let d = dir_at(s);
     let e = ep_byte(s);
@@ -331,9 +324,8 @@ pub fn resume_typed(s: &mut [u8; STATE_LEN]) -> Step
 
 // In the row of an isochronous OUT.
 pub fn resume_switch(s: &mut [u8; STATE_LEN], slots: &mut [u8]) -> Step
-    ensures { λ r. ⌜ ((v : ℕ) → Resumes r v (Under.Bus (Point.Switch (saved (now (s .entry)) .ep) (isOn (saved (now (s .entry)) .flag))
-        (saved (now (s .entry)) .st)))
-        (now (s .entry)) (now (slots .entry)) (now (s .exit)) (now (slots .exit))) ⌝ }
+    requires { ⌜ AtNumber 2 23 (now s) ⌝ }
+    ensures { λ r. ⌜ ((v : ℕ) → Resumes r v (now (s .entry)) (now (slots .entry)) (now (s .exit)) (now (slots .exit))) ⌝ }
 {
     let e = ep_byte(s);
     let on = on_at(s);

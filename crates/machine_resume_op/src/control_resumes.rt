@@ -2,6 +2,7 @@
 use endpoint_common::byte;
 use endpoint_common::set_armed;
 use machine::Step;
+use machine::loads::len_word;
 use machine_points::control_stands::stand_ack_in;
 use machine_points::control_stands::stand_loaded;
 use machine_points::control_stands::stand_stall_out;
@@ -9,7 +10,6 @@ use machine_points::control_stands::stand_stalled_in;
 use machine_points::control_stands::stand_status;
 use machine_points::control_stands::stand_wrote;
 use machine_points::loads::dir_at;
-use machine_points::loads::len_word;
 use machine_points::loads::on_at;
 use machine_points::stands::stop;
 use regs::Access;
@@ -27,25 +27,24 @@ use state::STATE_LEN;
 ghost use mathlib.Core.Path.{_≡_};
 ghost use mathlib.Core.List.{List};
 ghost use Prim.Native.Nat.{ℕ};
-ghost use Rattle.model.specs.Statics.{isOn};
 ghost use Rattle.state.specs.State.{saved};
 ghost use Rattle.control.specs.declared.Point.the-variants as Point;
-ghost use Rattle.control.specs.Codec.{dirOf};
 ghost use Rattle.machine.specs.declared.Suspended.the-variants as Under;
 ghost use Rattle.machine.specs.Suspended.{decode};
-ghost use Rattle.machine_points.specs.Stands.{Resumes};
+ghost use Rattle.machine.specs.Stands.{AtNumber, Resumes};
 
 // The last write is made.
 pub fn resume_wrote(s: &mut [u8; STATE_LEN]) -> Step
-    ensures { λ r. ⌜ ((v : ℕ) (b : List ℕ) → Resumes r v (Under.Control Point.Wrote) (now (s .entry)) b (now (s .exit)) b) ⌝ }
+    requires { ⌜ decode (saved (now s)) ≡ Under.Control Point.Wrote ⌝ }
+    ensures { λ r. ⌜ ((v : ℕ) (b : List ℕ) → Resumes r v (now (s .entry)) b (now (s .exit)) b) ⌝ }
 {
     stop(s, 0)
 }
 
 // A control word is read, to answer ACK.
 pub fn resume_ack(s: &mut [u8; STATE_LEN], v: u32) -> Step
-    requires { ⌜ decode (saved (now s)) ≡ Under.Control (Point.Ack (dirOf (saved (now s) .site))) ⌝ }
-    ensures { λ r. ⌜ ((b : List ℕ) → Resumes r v (Under.Control (Point.Ack (dirOf (saved (now (s .entry)) .site)))) (now (s .entry)) b (now (s .exit)) b) ⌝ }
+    requires { ⌜ AtNumber 3 1 (now s) ⌝ }
+    ensures { λ r. ⌜ ((b : List ℕ) → Resumes r v (now (s .entry)) b (now (s .exit)) b) ⌝ }
 {
     if fits(v, 8) {
         let d = dir_at(s);
@@ -58,15 +57,16 @@ pub fn resume_ack(s: &mut [u8; STATE_LEN], v: u32) -> Step
 
 // Ep_t_len is 0: the status stage.
 pub fn resume_status_len(s: &mut [u8; STATE_LEN]) -> Step
-    ensures { λ r. ⌜ ((v : ℕ) (b : List ℕ) → Resumes r v (Under.Control Point.StatusLen) (now (s .entry)) b (now (s .exit)) b) ⌝ }
+    requires { ⌜ AtNumber 3 2 (now s) ⌝ }
+    ensures { λ r. ⌜ ((v : ℕ) (b : List ℕ) → Resumes r v (now (s .entry)) b (now (s .exit)) b) ⌝ }
 {
     stand_status(s, Access::Read(Reg::EpTxCtrl, 0))
 }
 
 // EP0's IN is read.
 pub fn resume_status(s: &mut [u8; STATE_LEN], v: u32) -> Step
-    requires { ⌜ decode (saved (now s)) ≡ Under.Control Point.Status ⌝ }
-    ensures { λ r. ⌜ ((b : List ℕ) → Resumes r v (Under.Control Point.Status) (now (s .entry)) b (now (s .exit)) b) ⌝ }
+    requires { ⌜ AtNumber 3 3 (now s) ⌝ }
+    ensures { λ r. ⌜ ((b : List ℕ) → Resumes r v (now (s .entry)) b (now (s .exit)) b) ⌝ }
 {
     if fits(v, 8) {
         let w = status(byte(v));
@@ -77,8 +77,8 @@ pub fn resume_status(s: &mut [u8; STATE_LEN], v: u32) -> Step
 
 // It is read, to be stalled.
 pub fn resume_stall_in(s: &mut [u8; STATE_LEN], v: u32) -> Step
-    requires { ⌜ decode (saved (now s)) ≡ Under.Control Point.StallIn ⌝ }
-    ensures { λ r. ⌜ ((b : List ℕ) → Resumes r v (Under.Control Point.StallIn) (now (s .entry)) b (now (s .exit)) b) ⌝ }
+    requires { ⌜ AtNumber 3 4 (now s) ⌝ }
+    ensures { λ r. ⌜ ((b : List ℕ) → Resumes r v (now (s .entry)) b (now (s .exit)) b) ⌝ }
 {
     if fits(v, 8) {
         let w = stall(byte(v));
@@ -89,15 +89,16 @@ pub fn resume_stall_in(s: &mut [u8; STATE_LEN], v: u32) -> Step
 
 // It is stalled.
 pub fn resume_stalled_in(s: &mut [u8; STATE_LEN]) -> Step
-    ensures { λ r. ⌜ ((v : ℕ) (b : List ℕ) → Resumes r v (Under.Control Point.StalledIn) (now (s .entry)) b (now (s .exit)) b) ⌝ }
+    requires { ⌜ AtNumber 3 5 (now s) ⌝ }
+    ensures { λ r. ⌜ ((v : ℕ) (b : List ℕ) → Resumes r v (now (s .entry)) b (now (s .exit)) b) ⌝ }
 {
     stand_stall_out(s, Access::Read(Reg::EpRxCtrl, 0))
 }
 
 // EP0's OUT is read, to be stalled.
 pub fn resume_stall_out(s: &mut [u8; STATE_LEN], v: u32) -> Step
-    requires { ⌜ decode (saved (now s)) ≡ Under.Control Point.StallOut ⌝ }
-    ensures { λ r. ⌜ ((b : List ℕ) → Resumes r v (Under.Control Point.StallOut) (now (s .entry)) b (now (s .exit)) b) ⌝ }
+    requires { ⌜ AtNumber 3 6 (now s) ⌝ }
+    ensures { λ r. ⌜ ((b : List ℕ) → Resumes r v (now (s .entry)) b (now (s .exit)) b) ⌝ }
 {
     if fits(v, 8) {
         let w = stall(byte(v));
@@ -108,8 +109,8 @@ pub fn resume_stall_out(s: &mut [u8; STATE_LEN], v: u32) -> Step
 
 // The closing OUT is armed; the packet is loaded.
 pub fn resume_closing(s: &mut [u8; STATE_LEN]) -> Step
-    ensures { λ r. ⌜ ((v : ℕ) (b : List ℕ) → Resumes r v (Under.Control (Point.Closing (saved (now (s .entry)) .len) (isOn (saved (now (s .entry)) .flag))))
-        (now (s .entry)) b (now (s .exit)) b) ⌝ }
+    requires { ⌜ AtNumber 3 7 (now s) ⌝ }
+    ensures { λ r. ⌜ ((v : ℕ) (b : List ℕ) → Resumes r v (now (s .entry)) b (now (s .exit)) b) ⌝ }
 {
     let n = len_word(s);
     let first = on_at(s);
@@ -119,8 +120,8 @@ pub fn resume_closing(s: &mut [u8; STATE_LEN]) -> Step
 
 // Ep_t_len is written: the first packet of a stage is DATA1; else the word is read.
 pub fn resume_loaded(s: &mut [u8; STATE_LEN]) -> Step
-    ensures { λ r. ⌜ ((v : ℕ) (b : List ℕ) → Resumes r v (Under.Control (Point.Loaded (isOn (saved (now (s .entry)) .flag))))
-        (now (s .entry)) b (now (s .exit)) b) ⌝ }
+    requires { ⌜ AtNumber 3 8 (now s) ⌝ }
+    ensures { λ r. ⌜ ((v : ℕ) (b : List ℕ) → Resumes r v (now (s .entry)) b (now (s .exit)) b) ⌝ }
 {
     let first = on_at(s);
     if first {

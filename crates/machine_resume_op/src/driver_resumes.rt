@@ -5,6 +5,11 @@ use driver_resume::announce;
 use frame::Frame;
 use frame::microframe_index;
 use machine::Step;
+use machine::loads::busy_byte;
+use machine::loads::ep_byte;
+use machine::loads::late_byte;
+use machine::loads::st_byte;
+use machine::loads::value_word;
 use machine_points::driver_stands::stand_ep0_max_len;
 use machine_points::driver_stands::stand_ep0_packet;
 use machine_points::driver_stands::stand_ep0_rx;
@@ -16,13 +21,8 @@ use machine_points::driver_stands::stand_reset;
 use machine_points::driver_stands::stand_reset_end;
 use machine_points::driver_stands::stand_run;
 use machine_points::driver_stands::stand_wait;
-use machine_points::loads::busy_byte;
-use machine_points::loads::ep_byte;
 use machine_points::loads::flag_dir_at;
-use machine_points::loads::late_byte;
 use machine_points::loads::on_at;
-use machine_points::loads::st_byte;
-use machine_points::loads::value_word;
 use machine_points::stands::stop;
 use model_ops::records::place;
 use regs::Access;
@@ -45,10 +45,9 @@ ghost use Rattle.regs.specs.Registers.{fitsIn};
 ghost use Rattle.model.specs.Statics.{isOn};
 ghost use Rattle.state.specs.State.{saved};
 ghost use Rattle.driver.specs.declared.Point.the-variants as Point;
-ghost use Rattle.driver_codec.specs.Codec.{dirOf};
 ghost use Rattle.machine.specs.declared.Suspended.the-variants as Under;
 ghost use Rattle.machine.specs.Suspended.{decode};
-ghost use Rattle.machine_points.specs.Stands.{Resumes};
+ghost use Rattle.machine.specs.Stands.{AtNumber, Resumes};
 
 // A reading of 16 bits.
 fn half(v: u32) -> u16
@@ -67,8 +66,8 @@ fn ep0_word() -> u32
 
 // Ctrl is cleared: start-up.
 pub fn resume_clear(s: &mut [u8; STATE_LEN]) -> Step
-    ensures { λ r. ⌜ ((v : ℕ) (b : List ℕ) → Resumes r v (Under.Driver (Point.Clear (isOn (saved (now (s .entry)) .flag))))
-        (now (s .entry)) b (now (s .exit)) b) ⌝ }
+    requires { ⌜ decode (saved (now s)) ≡ Under.Driver (Point.Clear (isOn (saved (now s) .flag))) ⌝ }
+    ensures { λ r. ⌜ ((v : ℕ) (b : List ℕ) → Resumes r v (now (s .entry)) b (now (s .exit)) b) ⌝ }
 {
     let on = on_at(s);
     stand_wait(s, Access::Wait(10), on)
@@ -76,8 +75,8 @@ pub fn resume_clear(s: &mut [u8; STATE_LEN]) -> Step
 
 // The wait is over.
 pub fn resume_wait(s: &mut [u8; STATE_LEN]) -> Step
-    ensures { λ r. ⌜ ((v : ℕ) (b : List ℕ) → Resumes r v (Under.Driver (Point.Wait (isOn (saved (now (s .entry)) .flag))))
-        (now (s .entry)) b (now (s .exit)) b) ⌝ }
+    requires { ⌜ AtNumber 1 1 (now s) ⌝ }
+    ensures { λ r. ⌜ ((v : ℕ) (b : List ℕ) → Resumes r v (now (s .entry)) b (now (s .exit)) b) ⌝ }
 {
     let on = on_at(s);
     stand_reset(s, Access::Read(Reg::Ctrl, 0), on)
@@ -85,8 +84,8 @@ pub fn resume_wait(s: &mut [u8; STATE_LEN]) -> Step
 
 // Ctrl is read.
 pub fn resume_reset(s: &mut [u8; STATE_LEN], v: u32) -> Step
-    requires { ⌜ decode (saved (now s)) ≡ Under.Driver (Point.Reset (isOn (saved (now s) .flag))) ⌝ }
-    ensures { λ r. ⌜ ((b : List ℕ) → Resumes r v (Under.Driver (Point.Reset (isOn (saved (now (s .entry)) .flag)))) (now (s .entry)) b (now (s .exit)) b) ⌝ }
+    requires { ⌜ AtNumber 1 2 (now s) ⌝ }
+    ensures { λ r. ⌜ ((b : List ℕ) → Resumes r v (now (s .entry)) b (now (s .exit)) b) ⌝ }
 {
     if fits(v, 6) {
         let on = on_at(s);
@@ -98,8 +97,8 @@ pub fn resume_reset(s: &mut [u8; STATE_LEN], v: u32) -> Step
 
 // The reset is ended.
 pub fn resume_reset_end(s: &mut [u8; STATE_LEN]) -> Step
-    ensures { λ r. ⌜ ((v : ℕ) (b : List ℕ) → Resumes r v (Under.Driver (Point.ResetEnd (isOn (saved (now (s .entry)) .flag))))
-        (now (s .entry)) b (now (s .exit)) b) ⌝ }
+    requires { ⌜ AtNumber 1 3 (now s) ⌝ }
+    ensures { λ r. ⌜ ((v : ℕ) (b : List ℕ) → Resumes r v (now (s .entry)) b (now (s .exit)) b) ⌝ }
 {
     let on = on_at(s);
     let w = ctrl::phy_suspendm();
@@ -108,8 +107,8 @@ pub fn resume_reset_end(s: &mut [u8; STATE_LEN]) -> Step
 
 // Host_ctrl is written.
 pub fn resume_host(s: &mut [u8; STATE_LEN]) -> Step
-    ensures { λ r. ⌜ ((v : ℕ) (b : List ℕ) → Resumes r v (Under.Driver (Point.Host (isOn (saved (now (s .entry)) .flag))))
-        (now (s .entry)) b (now (s .exit)) b) ⌝ }
+    requires { ⌜ AtNumber 1 4 (now s) ⌝ }
+    ensures { λ r. ⌜ ((v : ℕ) (b : List ℕ) → Resumes r v (now (s .entry)) b (now (s .exit)) b) ⌝ }
 {
     let on = on_at(s);
     let w = ctrl::run();
@@ -118,8 +117,8 @@ pub fn resume_host(s: &mut [u8; STATE_LEN]) -> Step
 
 // Ctrl is: the interrupt enables are kept, then written.
 pub fn resume_run(s: &mut [u8; STATE_LEN]) -> Step
-    ensures { λ r. ⌜ ((v : ℕ) (b : List ℕ) → Resumes r v (Under.Driver (Point.Run (isOn (saved (now (s .entry)) .flag))))
-        (now (s .entry)) b (now (s .exit)) b) ⌝ }
+    requires { ⌜ AtNumber 1 5 (now s) ⌝ }
+    ensures { λ r. ⌜ ((v : ℕ) (b : List ℕ) → Resumes r v (now (s .entry)) b (now (s .exit)) b) ⌝ }
 {
     let on = on_at(s);
     let enables = at_start(on);
@@ -129,16 +128,16 @@ pub fn resume_run(s: &mut [u8; STATE_LEN]) -> Step
 
 // Int_en is.
 pub fn resume_int_en(s: &mut [u8; STATE_LEN]) -> Step
-    ensures { λ r. ⌜ ((v : ℕ) (b : List ℕ) → Resumes r v (Under.Driver Point.IntEn) (now (s .entry)) b (now (s .exit)) b) ⌝ }
+    requires { ⌜ AtNumber 1 6 (now s) ⌝ }
+    ensures { λ r. ⌜ ((v : ℕ) (b : List ℕ) → Resumes r v (now (s .entry)) b (now (s .exit)) b) ⌝ }
 {
     stop(s, 0)
 }
 
 // A new endpoint's maximum is: its buffer's address, unless it is a control endpoint.
 pub fn resume_max_len(s: &mut [u8; STATE_LEN]) -> Step
-    ensures { λ r. ⌜ ((v : ℕ) (b : List ℕ) → Resumes r v (Under.Driver (Point.MaxLen (dirOf (saved (now (s .entry)) .flag))
-        (saved (now (s .entry)) .st) (saved (now (s .entry)) .ep)))
-        (now (s .entry)) b (now (s .exit)) b) ⌝ }
+    requires { ⌜ AtNumber 1 7 (now s) ⌝ }
+    ensures { λ r. ⌜ ((v : ℕ) (b : List ℕ) → Resumes r v (now (s .entry)) b (now (s .exit)) b) ⌝ }
 {
     let ep = ep_byte(s);
     let kind = st_byte(s);
@@ -155,7 +154,8 @@ pub fn resume_max_len(s: &mut [u8; STATE_LEN]) -> Step
 
 // Its address is.
 pub fn resume_place(s: &mut [u8; STATE_LEN]) -> Step
-    ensures { λ r. ⌜ ((v : ℕ) (b : List ℕ) → Resumes r v (Under.Driver (Point.Place (saved (now (s .entry)) .ep))) (now (s .entry)) b (now (s .exit)) b) ⌝ }
+    requires { ⌜ AtNumber 1 8 (now s) ⌝ }
+    ensures { λ r. ⌜ ((v : ℕ) (b : List ℕ) → Resumes r v (now (s .entry)) b (now (s .exit)) b) ⌝ }
 {
     let ep = ep_byte(s);
     stop(s, ep as u16)
@@ -163,8 +163,8 @@ pub fn resume_place(s: &mut [u8; STATE_LEN]) -> Step
 
 // EP0's buffer is told: its start.
 pub fn resume_ep0_place(s: &mut [u8; STATE_LEN]) -> Step
-    ensures { λ r. ⌜ ((v : ℕ) (b : List ℕ) → Resumes r v (Under.Driver (Point.Ep0Place (saved (now (s .entry)) .value)))
-        (now (s .entry)) b (now (s .exit)) b) ⌝ }
+    requires { ⌜ AtNumber 1 9 (now s) ⌝ }
+    ensures { λ r. ⌜ ((v : ℕ) (b : List ℕ) → Resumes r v (now (s .entry)) b (now (s .exit)) b) ⌝ }
 {
     let maximum = value_word(s);
     stand_ep0_max_len(s, Access::Write(Reg::EpMaxLen, 0, maximum))
@@ -172,7 +172,8 @@ pub fn resume_ep0_place(s: &mut [u8; STATE_LEN]) -> Step
 
 // Its maximum is written.
 pub fn resume_ep0_max_len(s: &mut [u8; STATE_LEN]) -> Step
-    ensures { λ r. ⌜ ((v : ℕ) (b : List ℕ) → Resumes r v (Under.Driver Point.Ep0MaxLen) (now (s .entry)) b (now (s .exit)) b) ⌝ }
+    requires { ⌜ AtNumber 1 10 (now s) ⌝ }
+    ensures { λ r. ⌜ ((v : ℕ) (b : List ℕ) → Resumes r v (now (s .entry)) b (now (s .exit)) b) ⌝ }
 {
     let w = ep0_word();
     stand_ep0_rx(s, Access::Write(Reg::EpRxCtrl, 0, w))
@@ -180,7 +181,8 @@ pub fn resume_ep0_max_len(s: &mut [u8; STATE_LEN]) -> Step
 
 // Its OUT answers NAK.
 pub fn resume_ep0_rx(s: &mut [u8; STATE_LEN]) -> Step
-    ensures { λ r. ⌜ ((v : ℕ) (b : List ℕ) → Resumes r v (Under.Driver Point.Ep0Rx) (now (s .entry)) b (now (s .exit)) b) ⌝ }
+    requires { ⌜ AtNumber 1 11 (now s) ⌝ }
+    ensures { λ r. ⌜ ((v : ℕ) (b : List ℕ) → Resumes r v (now (s .entry)) b (now (s .exit)) b) ⌝ }
 {
     let w = ep0_word();
     stand_ep0_tx(s, Access::Write(Reg::EpTxCtrl, 0, w))
@@ -188,22 +190,24 @@ pub fn resume_ep0_rx(s: &mut [u8; STATE_LEN]) -> Step
 
 // Its IN does.
 pub fn resume_ep0_tx(s: &mut [u8; STATE_LEN]) -> Step
-    ensures { λ r. ⌜ ((v : ℕ) (b : List ℕ) → Resumes r v (Under.Driver Point.Ep0Tx) (now (s .entry)) b (now (s .exit)) b) ⌝ }
+    requires { ⌜ AtNumber 1 12 (now s) ⌝ }
+    ensures { λ r. ⌜ ((v : ℕ) (b : List ℕ) → Resumes r v (now (s .entry)) b (now (s .exit)) b) ⌝ }
 {
     stand_ep0_packet(s, Access::Write(Reg::EpMaxLen, 0, 64))
 }
 
 // Its packet's maximum is written.
 pub fn resume_ep0_packet(s: &mut [u8; STATE_LEN]) -> Step
-    ensures { λ r. ⌜ ((v : ℕ) (b : List ℕ) → Resumes r v (Under.Driver Point.Ep0Packet) (now (s .entry)) b (now (s .exit)) b) ⌝ }
+    requires { ⌜ AtNumber 1 13 (now s) ⌝ }
+    ensures { λ r. ⌜ ((v : ℕ) (b : List ℕ) → Resumes r v (now (s .entry)) b (now (s .exit)) b) ⌝ }
 {
     stop(s, 0)
 }
 
 // Frame_no is read: its index.
 pub fn resume_frame_no(s: &mut [u8; STATE_LEN], v: u32) -> Step
-    requires { ⌜ decode (saved (now s)) ≡ Under.Driver Point.FrameNo ⌝ }
-    ensures { λ r. ⌜ ((b : List ℕ) → Resumes r v (Under.Driver Point.FrameNo) (now (s .entry)) b (now (s .exit)) b) ⌝ }
+    requires { ⌜ AtNumber 1 14 (now s) ⌝ }
+    ensures { λ r. ⌜ ((b : List ℕ) → Resumes r v (now (s .entry)) b (now (s .exit)) b) ⌝ }
 {
     if fits(v, 16) {
         let i = microframe_index(Frame(half(v)));
@@ -214,9 +218,8 @@ pub fn resume_frame_no(s: &mut [u8; STATE_LEN], v: u32) -> Step
 
 // Of a list's endpoint the maximum is written: its address, or its successor.
 pub fn resume_list_max_len(s: &mut [u8; STATE_LEN]) -> Step
-    ensures { λ r. ⌜ ((v : ℕ) (b : List ℕ) → Resumes r v (Under.Driver (Point.ListMaxLen (dirOf (saved (now (s .entry)) .flag))
-        (saved (now (s .entry)) .st) (saved (now (s .entry)) .ep) (saved (now (s .entry)) .busy) (saved (now (s .entry)) .late)))
-        (now (s .entry)) b (now (s .exit)) b) ⌝ }
+    requires { ⌜ AtNumber 1 15 (now s) ⌝ }
+    ensures { λ r. ⌜ ((v : ℕ) (b : List ℕ) → Resumes r v (now (s .entry)) b (now (s .exit)) b) ⌝ }
 {
     let dir = flag_dir_at(s);
     let kind = st_byte(s);
@@ -229,9 +232,8 @@ pub fn resume_list_max_len(s: &mut [u8; STATE_LEN]) -> Step
 
 // Its address is: its successor.
 pub fn resume_list_place(s: &mut [u8; STATE_LEN]) -> Step
-    ensures { λ r. ⌜ ((v : ℕ) (b : List ℕ) → Resumes r v (Under.Driver (Point.ListPlace (dirOf (saved (now (s .entry)) .flag))
-        (saved (now (s .entry)) .ep) (saved (now (s .entry)) .busy) (saved (now (s .entry)) .late)))
-        (now (s .entry)) b (now (s .exit)) b) ⌝ }
+    requires { ⌜ AtNumber 1 16 (now s) ⌝ }
+    ensures { λ r. ⌜ ((v : ℕ) (b : List ℕ) → Resumes r v (now (s .entry)) b (now (s .exit)) b) ⌝ }
 {
     let dir = flag_dir_at(s);
     let ep = ep_byte(s);

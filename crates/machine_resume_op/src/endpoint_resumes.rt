@@ -1,10 +1,10 @@
 // A read or write goes on (endpoint.rs 82-195): one function for each of its points, which loads its own parts and stores the next point's bytes.
 use endpoint_common::byte;
 use machine::Step;
+use machine::loads::ep_byte;
 use machine_points::endpoint_stands::stand_ack_in;
 use machine_points::endpoint_stands::stand_wrote;
 use machine_points::loads::dir_at;
-use machine_points::loads::ep_byte;
 use machine_points::stands::stop;
 use regs::Access;
 use regs::Reg;
@@ -17,23 +17,22 @@ ghost use mathlib.Core.List.{List};
 ghost use Prim.Native.Nat.{ℕ};
 ghost use Rattle.state.specs.State.{saved};
 ghost use Rattle.endpoint.specs.declared.Point.the-variants as Point;
-ghost use Rattle.endpoint.specs.Codec.{dirOf};
 ghost use Rattle.machine.specs.declared.Suspended.the-variants as Under;
 ghost use Rattle.machine.specs.Suspended.{decode};
-ghost use Rattle.machine_points.specs.Stands.{Resumes};
+ghost use Rattle.machine.specs.Stands.{AtNumber, Resumes};
 
 // The last write is made.
 pub fn resume_wrote(s: &mut [u8; STATE_LEN]) -> Step
-    ensures { λ r. ⌜ ((v : ℕ) (b : List ℕ) → Resumes r v (Under.Endpoint Point.Wrote) (now (s .entry)) b (now (s .exit)) b) ⌝ }
+    requires { ⌜ decode (saved (now s)) ≡ Under.Endpoint Point.Wrote ⌝ }
+    ensures { λ r. ⌜ ((v : ℕ) (b : List ℕ) → Resumes r v (now (s .entry)) b (now (s .exit)) b) ⌝ }
 {
     stop(s, 0)
 }
 
 // The control word is read, to answer ACK.
 pub fn resume_ack(s: &mut [u8; STATE_LEN], v: u32) -> Step
-    requires { ⌜ decode (saved (now s)) ≡ Under.Endpoint (Point.Ack (dirOf (saved (now s) .site)) (saved (now s) .ep)) ⌝ }
-    ensures { λ r. ⌜ ((b : List ℕ) → Resumes r v (Under.Endpoint (Point.Ack (dirOf (saved (now (s .entry)) .site)) (saved (now (s .entry)) .ep)))
-        (now (s .entry)) b (now (s .exit)) b) ⌝ }
+    requires { ⌜ AtNumber 4 1 (now s) ⌝ }
+    ensures { λ r. ⌜ ((b : List ℕ) → Resumes r v (now (s .entry)) b (now (s .exit)) b) ⌝ }
 {
     if fits(v, 8) {
         let d = dir_at(s);
@@ -47,8 +46,8 @@ pub fn resume_ack(s: &mut [u8; STATE_LEN], v: u32) -> Step
 
 // Ep_t_len is written.
 pub fn resume_loaded(s: &mut [u8; STATE_LEN]) -> Step
-    ensures { λ r. ⌜ ((v : ℕ) (b : List ℕ) → Resumes r v (Under.Endpoint (Point.Loaded (saved (now (s .entry)) .ep)))
-        (now (s .entry)) b (now (s .exit)) b) ⌝ }
+    requires { ⌜ AtNumber 4 2 (now s) ⌝ }
+    ensures { λ r. ⌜ ((v : ℕ) (b : List ℕ) → Resumes r v (now (s .entry)) b (now (s .exit)) b) ⌝ }
 {
     let e = ep_byte(s);
     stand_ack_in(s, Access::Read(Reg::EpTxCtrl, e), e)

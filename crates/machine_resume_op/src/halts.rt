@@ -4,24 +4,15 @@ use machine::saved::nothing;
 use machine::woken::how_many;
 use regs::Access;
 use state::STATE_LEN;
-ghost use mathlib.Core.Path.{_≡_};
-ghost use mathlib.Core.List.{List, []};
-ghost use Prim.Native.Nat.{ℕ};
 ghost use Rattle.state.specs.State.{view};
-ghost use Rattle.model.specs.Tree.{bindOut};
-ghost use Rattle.model.specs.Script.{run};
-ghost use Rattle.model_ops.specs.Concrete.{concrete};
 ghost use Rattle.driver.specs.Points as driver;
-ghost use Rattle.machine.specs.declared.Suspended.the-variants as under;
-ghost use Rattle.machine.specs.Suspended.{finish, machineOf, halts, handedOut, answerOf, Stored};
+ghost use Rattle.machine.specs.declared.Suspended.the-variants as Under;
+ghost use Rattle.machine.specs.Suspended.{Stored};
+ghost use Rattle.machine.specs.Stands.{Stands, halted, Leads, Ends};
 
 // The operation stands where it handed out the access.
 fn suspends(s: &mut [u8; STATE_LEN], q: Access, p: driver::Point) -> Step
-    ensures { λ r. ⌜ ((b : List ℕ) → (
-      answerOf r [] (view (now (s .exit))),
-      machineOf (now (s .exit)) b,
-    ) ≡ handedOut q (under.Driver p) (view (now (s .entry))) b) ⌝ }
-    ensures { λ r. ⌜ Stored r (now (s .exit)) ⌝ }
+    ensures { λ r. ⌜ Stands r q (Under.Driver p) (now (s .entry)) (now (s .exit)) ⌝ }
 {
     let mut c = driver_codec::encode(p);
     c.tag = 1;
@@ -31,11 +22,7 @@ fn suspends(s: &mut [u8; STATE_LEN], q: Access, p: driver::Point) -> Step
 
 // It has ended with its result: its wake-ups are answered.
 fn ends(s: &mut [u8; STATE_LEN], n: u16) -> Step
-    ensures { λ r. ⌜ ((b : List ℕ) → (
-      answerOf r [] (view (now (s .exit))),
-      machineOf (now (s .exit)) b,
-    ) ≡ halts (run concrete (finish n) (view (now (s .entry)), b))) ⌝ }
-    ensures { λ r. ⌜ Stored r (now (s .exit)) ⌝ }
+    ensures { λ r. ⌜ Ends r n (now (s .entry)) (now (s .exit)) ⌝ }
 {
     state::store_saved(s, nothing());
     let k = how_many(s);
@@ -44,10 +31,7 @@ fn ends(s: &mut [u8; STATE_LEN], n: u16) -> Step
 
 pub fn suspend_or_end_driver(s: &mut [u8; STATE_LEN], n: driver::Next) -> Step
     requires { ⌜ driver.Linked n ⌝ }
-    ensures { λ r. ⌜ ((b : List ℕ) → (
-      answerOf r [] (view (now (s .exit))),
-      machineOf (now (s .exit)) b,
-    ) ≡ halts (bindOut (driver.meaning n (view (now (s .entry))) b) (λ k t. run concrete (finish k) t))) ⌝ }
+    ensures { λ r. ⌜ Leads r (now (s .exit)) (λ b. halted (driver.meaning n (view (now (s .entry))) b)) ⌝ }
     ensures { λ r. ⌜ Stored r (now (s .exit)) ⌝ }
 {
     match n {

@@ -9,22 +9,18 @@ mod halts; // halts.rt: the driver's own operations suspended or ended
 use iso_in::advance;
 use machine::Step;
 use machine::halts::suspend_or_end_advance;
-use machine_points::loads::sub_byte;
+use machine::loads::sub_byte;
 use state::STATE_LEN;
 ghost use mathlib.Core.Path.{_≡_};
-ghost use mathlib.Core.List.{List, []};
+ghost use mathlib.Core.List.{List};
 ghost use Prim.Native.Nat.{ℕ};
-ghost use Rattle.state.specs.State.{view, saved};
-ghost use Rattle.machine.specs.Suspended.{decode, machineOf, resumed, answerOf, SavedByAnswer};
+ghost use Rattle.state.specs.State.{saved};
+ghost use Rattle.machine.specs.Stands.{Resumes};
 
 // Goes on at the driver's own point.
 pub fn resume_driver(s: &mut [u8; STATE_LEN], v: u32) -> Step
     requires { ⌜ saved (now s) .tag ≡ 1 ⌝ }
-    ensures { λ r. ⌜ ((b : List ℕ) → (
-      answerOf r [] (view (now (s .exit))),
-      machineOf (now (s .exit)) b,
-    ) ≡ resumed v (decode (saved (now (s .entry)))) (view (now (s .entry))) b) ⌝ }
-    ensures { λ r. ⌜ SavedByAnswer r (now (s .entry)) (now (s .exit)) ⌝ }
+    ensures { λ r. ⌜ ((b : List ℕ) → Resumes r v (now (s .entry)) b (now (s .exit)) b) ⌝ }
 {
     let k = sub_byte(s);
     match k {
@@ -51,11 +47,7 @@ pub fn resume_driver(s: &mut [u8; STATE_LEN], v: u32) -> Step
 // At the bus's.
 pub fn resume_bus(s: &mut [u8; STATE_LEN], slots: &mut [u8], v: u32) -> Step
     requires { ⌜ saved (now s) .tag ≡ 2 ⌝ }
-    ensures { λ r. ⌜ (
-      answerOf r [] (view (now (s .exit))),
-      machineOf (now (s .exit)) (now (slots .exit)),
-    ) ≡ resumed v (decode (saved (now (s .entry)))) (view (now (s .entry))) (now (slots .entry)) ⌝ }
-    ensures { λ r. ⌜ SavedByAnswer r (now (s .entry)) (now (s .exit)) ⌝ }
+    ensures { λ r. ⌜ Resumes r v (now (s .entry)) (now (slots .entry)) (now (s .exit)) (now (slots .exit)) ⌝ }
 {
     let k = sub_byte(s);
     match k {
@@ -89,11 +81,7 @@ pub fn resume_bus(s: &mut [u8; STATE_LEN], slots: &mut [u8], v: u32) -> Step
 // At the control pipe's.
 pub fn resume_control(s: &mut [u8; STATE_LEN], v: u32) -> Step
     requires { ⌜ saved (now s) .tag ≡ 3 ⌝ }
-    ensures { λ r. ⌜ ((b : List ℕ) → (
-      answerOf r [] (view (now (s .exit))),
-      machineOf (now (s .exit)) b,
-    ) ≡ resumed v (decode (saved (now (s .entry)))) (view (now (s .entry))) b) ⌝ }
-    ensures { λ r. ⌜ SavedByAnswer r (now (s .entry)) (now (s .exit)) ⌝ }
+    ensures { λ r. ⌜ ((b : List ℕ) → Resumes r v (now (s .entry)) b (now (s .exit)) b) ⌝ }
 {
     let k = sub_byte(s);
     match k {
@@ -112,11 +100,7 @@ pub fn resume_control(s: &mut [u8; STATE_LEN], v: u32) -> Step
 // At a read's or write's.
 pub fn resume_endpoint(s: &mut [u8; STATE_LEN], v: u32) -> Step
     requires { ⌜ saved (now s) .tag ≡ 4 ⌝ }
-    ensures { λ r. ⌜ ((b : List ℕ) → (
-      answerOf r [] (view (now (s .exit))),
-      machineOf (now (s .exit)) b,
-    ) ≡ resumed v (decode (saved (now (s .entry)))) (view (now (s .entry))) b) ⌝ }
-    ensures { λ r. ⌜ SavedByAnswer r (now (s .entry)) (now (s .exit)) ⌝ }
+    ensures { λ r. ⌜ ((b : List ℕ) → Resumes r v (now (s .entry)) b (now (s .exit)) b) ⌝ }
 {
     let k = sub_byte(s);
     match k {
@@ -129,11 +113,7 @@ pub fn resume_endpoint(s: &mut [u8; STATE_LEN], v: u32) -> Step
 // At a paced advance's.
 pub fn resume_advance(s: &mut [u8; STATE_LEN], v: u32) -> Step
     requires { ⌜ saved (now s) .tag ≡ 5 ⌝ }
-    ensures { λ r. ⌜ ((b : List ℕ) → (
-      answerOf r [] (view (now (s .exit))),
-      machineOf (now (s .exit)) b,
-    ) ≡ resumed v (decode (saved (now (s .entry)))) (view (now (s .entry))) b) ⌝ }
-    ensures { λ r. ⌜ SavedByAnswer r (now (s .entry)) (now (s .exit)) ⌝ }
+    ensures { λ r. ⌜ ((b : List ℕ) → Resumes r v (now (s .entry)) b (now (s .exit)) b) ⌝ }
 {
     let p = iso_in::codec::decode(state::load_saved(s));
     if advance::fits_at(p, v) {

@@ -27,13 +27,4 @@ unfolding checkAs
 returns-2 c = simp (c .inner2 .ensures, c .before .before .p2 .given .1, c .before .before .before .before .flag-of .ensures)
 
 pub check-as-spec : {M : Type 1} → statement M
-check-as-spec =
-    tie.close
-    (tie.spec
-    flag-of-requires
-    enum-known-p
-    inner-requires
-    enum-known-p-2
-    inner-requires-2
-    returns
-    returns-2)
+check-as-spec = tie.close (tie.spec flag-of-requires enum-known-p inner-requires enum-known-p-2 inner-requires-2 returns returns-2)

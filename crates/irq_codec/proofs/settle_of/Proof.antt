@@ -54,16 +54,4 @@ returns-9 c = simp (
 )
 
 pub settle-of-spec : {M : Type 1} → statement M
-settle-of-spec =
-    tie.close
-    (tie.spec
-    nak-of-requires
-    returns
-    returns-2
-    returns-3
-    returns-4
-    returns-5
-    returns-6
-    returns-7
-    returns-8
-    returns-9)
+settle-of-spec = tie.close (tie.spec nak-of-requires returns returns-2 returns-3 returns-4 returns-5 returns-6 returns-7 returns-8 returns-9)

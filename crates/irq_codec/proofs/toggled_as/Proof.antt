@@ -71,19 +71,5 @@ returns-4 c = simp (
 
 pub toggled-as-spec : {M : Type 1} → statement M
 toggled-as-spec =
-    tie.close
-    (tie.spec
-    dir-as-requires
-    flag-of-requires
-    enum-known-p
-    inner-requires
-    enum-told
-    inner-requires-2
-    enum-told-2
-    inner-requires-3
-    enum-told-3
-    inner-requires-4
-    returns
-    returns-2
-    returns-3
-    returns-4)
+    tie.close (tie.spec dir-as-requires flag-of-requires enum-known-p inner-requires enum-told inner-requires-2 enum-told-2 inner-requires-3
+    enum-told-3 inner-requires-4 returns returns-2 returns-3 returns-4)

@@ -1,3 +1,4 @@
+use Rattle.machine_resume.specs.RowOneLaws.{slots-fitted}
 use Rattle.machine.specs.RowsLaws.{back}
 use Rattle.machine.specs.GoesLaws.{proceeds}
 use Rattle.machine.specs.Suspended.{decode}
@@ -23,22 +24,9 @@ same-length : tie.Need-same-length
 same-length c = search needs
 
 returns : tie.Need-returns
-returns c = (
-  λ a. back
-      (proceeds (c .before .before .before .before .before .before .before .before .before .before .args .v)
-      (decode (saved (now (c .before .before .before .before .before .before .before .before .before .before .args .s))))
-      (view (now (c .before .before .before .before .before .before .before .before .before .before .args .s))) a
-      (now (c .before .before .before .before .before .before .before .before .before .before .args .slots))) (simp (
-        ← c .before .before .before .before .before .before .slots-fit .ensures,
-        c .before .before .before .before .before .if1 .taken,
-      ) (c .before .before .resume-at .ensures .0)),
-  (
-    as-lent _ _ _
-        (sym (c .before .before .before .before .before .before .slots-fit .ensures)
-        ∙ c .before .before .before .before .before .if1 .taken),
-    c .before .before .resume-at .ensures .1,
-  ),
-)
+returns c =
+    let fit = sym (c .before .before .before .before .before .before .slots-fit .ensures) ∙ c .before .before .before .before .before .if1 .taken in
+    (λ a. slots-fitted a (c .before .before .resume-at .ensures) fit, (as-lent _ _ _ fit, c .before .before .resume-at .ensures .kept))
 
 same-length-2 : tie.Need-same-length-2
 same-length-2 c = search needs

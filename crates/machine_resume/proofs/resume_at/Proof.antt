@@ -33,7 +33,7 @@ resume-advance-requires : tie.Need-resume-advance-requires
 resume-advance-requires c κs = search needs
 
 returns : tie.Need-returns
-returns c = (c .resume-driver .ensures .0 _, c .resume-driver .ensures .1)
+returns c = c .resume-driver .ensures _
 
 same-length : tie.Need-same-length
 same-length c = search needs
@@ -42,21 +42,21 @@ returns-2 : tie.Need-returns-2
 returns-2 c = search needs
 
 returns-3 : tie.Need-returns-3
-returns-3 c = (c .resume-control .ensures .0 _, c .resume-control .ensures .1)
+returns-3 c = c .resume-control .ensures _
 
 returns-4 : tie.Need-returns-4
-returns-4 c = (c .resume-endpoint .ensures .0 _, c .resume-endpoint .ensures .1)
+returns-4 c = c .resume-endpoint .ensures _
 
 returns-5 : tie.Need-returns-5
-returns-5 c = (c .resume-advance .ensures .0 _, c .resume-advance .ensures .1)
+returns-5 c = c .resume-advance .ensures _
 
 returns-6 : tie.Need-returns-6
-returns-6 c = (
-  simp (at-none (saved (now (c .before .before .before .before .args .s))) _ (c .before .tag .ensures) (c .match .rest .0 .0 .0 .0 .1)
+returns-6 c = record {
+  called = simp (at-none (saved (now (c .before .before .before .before .args .s))) _ (c .before .tag .ensures) (c .match .rest .0 .0 .0 .0 .1)
       (c .match .rest .0 .0 .0 .1) (c .match .rest .0 .0 .1) (c .match .rest .0 .1) (c .match .rest .1)
-      (λ h. c .before .before .before .before .pre (sym (c .before .tag .ensures) ∙ h))),
-  refl,
-)
+      (λ h. c .before .before .before .before .pre (sym (c .before .tag .ensures) ∙ h)));
+  kept = refl;
+}
 
 pub resume-at-spec : {M : Type 1} → statement M
 resume-at-spec =

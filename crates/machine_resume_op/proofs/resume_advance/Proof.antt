@@ -32,8 +32,8 @@ suspend-or-end-advance-requires : tie.Need-suspend-or-end-advance-requires
 suspend-or-end-advance-requires c κs = search needs
 
 returns : tie.Need-returns
-returns c = (
-  λ b. going (saved (now (c .before .before .before .before .before .before .before .before .before .args .s))) _
+returns c = λ b. record {
+  called = going (saved (now (c .before .before .before .before .before .before .before .before .before .args .s))) _
       (c .before .before .before .before .before .before .before .before .before .args .v)
       (view (now (c .before .before .before .before .before .before .before .before .before .args .s))) b
       (at-advance (saved (now (c .before .before .before .before .before .before .before .before .before .args .s))) _
@@ -43,20 +43,20 @@ returns c = (
       (gone-advance _ (c .before .before .before .before .before .before .before .before .before .args .v)
       (view (now (c .before .before .before .before .before .before .before .before .before .args .s))) b
       (sym (c .before .before .before .before .before .fits-at .ensures) ∙ c .before .before .before .before .if1 .taken))
-      (c .suspend-or-end-advance .ensures .0 b ∙ simp (c .before .before .iso-in-advance-resume .ensures .0)),
-  c .suspend-or-end-advance .ensures .1 _,
-)
+      (c .suspend-or-end-advance .ensures .0 b ∙ simp (c .before .before .iso-in-advance-resume .ensures .0));
+  kept = c .suspend-or-end-advance .ensures .1 _;
+}
 
 returns-2 : tie.Need-returns-2
-returns-2 c = (
-  λ b. staying (saved (now (c .before .before .before .before .before .args .s))) _
+returns-2 c = λ b. record {
+  called = staying (saved (now (c .before .before .before .before .before .args .s))) _
       (c .before .before .before .before .before .args .v) (view (now (c .before .before .before .before .before .args .s))) b
       (at-advance (saved (now (c .before .before .before .before .before .args .s))) _ (c .before .before .before .before .before .pre)
       (c .before .before .decode .ensures ∙ ap decode (c .before .before .before .load-saved .ensures)))
       (stay-advance _ (c .before .before .before .before .before .args .v)
-      (view (now (c .before .before .before .before .before .args .s))) b (sym (c .before .fits-at .ensures) ∙ c .if1 .left)),
-  refl,
-)
+      (view (now (c .before .before .before .before .before .args .s))) b (sym (c .before .fits-at .ensures) ∙ c .if1 .left));
+  kept = refl;
+}
 
 pub resume-advance-spec : {M : Type 1} → statement M
 resume-advance-spec =

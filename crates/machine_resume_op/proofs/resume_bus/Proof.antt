@@ -1,8 +1,7 @@
-use Rattle.machine_points.specs.StandsLaws.{decoded}
-use Rattle.machine_points.specs.BusLaws.{at-number, at-first}
+use Rattle.machine_points.specs.BusLaws.{at-first}
 use Rattle.state.specs.State.{saved}
 use denote.Ref.{now}
-use mathlib.Core.Path.{_∙_, sym}
+use mathlib.Core.Path.{sym}
 use borrow.Author.Needs.{needs}
 use Rattle.machine_resume_op.proofs.resume_bus.Statement.{statement}
 use Rattle.machine_resume_op.proofs.resume_bus.Tie as tie
@@ -14,17 +13,13 @@ resume-event-requires : tie.Need-resume-event-requires
 resume-event-requires c κs = search needs
 
 resume-stalled-requires : tie.Need-resume-stalled-requires
-resume-stalled-requires c κs =
-    let a = c .before .before .before .before .before .args in
-    at-number (saved (now (a .s))) 2 (c .before .before .before .before .before .pre) (sym (c .before .before .sub-byte .ensures) ∙ c .before .match .keys2)
+resume-stalled-requires c κs = search needs
 
 resume-stall-len-requires : tie.Need-resume-stall-len-requires
 resume-stall-len-requires c κs = search needs
 
 resume-stall-word-requires : tie.Need-resume-stall-word-requires
-resume-stall-word-requires c κs =
-    let a = c .before .before .before .before .before .args in
-    at-number (saved (now (a .s))) 4 (c .before .before .before .before .before .pre) (sym (c .before .before .sub-byte .ensures) ∙ c .before .match .keys4)
+resume-stall-word-requires c κs = search needs
 
 resume-restarted-requires : tie.Need-resume-restarted-requires
 resume-restarted-requires c κs = search needs
@@ -33,14 +28,10 @@ resume-woken-requires : tie.Need-resume-woken-requires
 resume-woken-requires c κs = search needs
 
 resume-flags-requires : tie.Need-resume-flags-requires
-resume-flags-requires c κs =
-    let a = c .before .before .before .before .before .args in
-    at-number (saved (now (a .s))) 7 (c .before .before .before .before .before .pre) (sym (c .before .before .sub-byte .ensures) ∙ c .before .match .keys7)
+resume-flags-requires c κs = search needs
 
 resume-status-requires : tie.Need-resume-status-requires
-resume-status-requires c κs =
-    let a = c .before .before .before .before .before .args in
-    at-number (saved (now (a .s))) 8 (c .before .before .before .before .before .pre) (sym (c .before .before .sub-byte .ensures) ∙ c .before .match .keys8)
+resume-status-requires c κs = search needs
 
 resume-released-requires : tie.Need-resume-released-requires
 resume-released-requires c κs = search needs
@@ -89,280 +80,90 @@ resume-switch-requires c κs = search needs
 
 resume-enable-requires : tie.Need-resume-enable-requires
 resume-enable-requires c κs =
-    let a = c .before .before .before .before .before .args in
-    let the-match = c .before .match in
-    at-first (saved (now (a .s))) _ (c .before .before .before .before .before .pre) (sym (c .before .before .sub-byte .ensures))
-    (the-match .rest .0 .0 .0 .0 .0 .0 .0 .0 .0 .0 .0 .0 .0 .0 .0 .0 .0 .0 .0 .0 .0 .0 .1)
-    (the-match .rest .0 .0 .0 .0 .0 .0 .0 .0 .0 .0 .0 .0 .0 .0 .0 .0 .0 .0 .0 .0 .0 .1)
-    (the-match .rest .0 .0 .0 .0 .0 .0 .0 .0 .0 .0 .0 .0 .0 .0 .0 .0 .0 .0 .0 .0 .1)
-    (the-match .rest .0 .0 .0 .0 .0 .0 .0 .0 .0 .0 .0 .0 .0 .0 .0 .0 .0 .0 .0 .1)
-    (the-match .rest .0 .0 .0 .0 .0 .0 .0 .0 .0 .0 .0 .0 .0 .0 .0 .0 .0 .0 .1)
-    (the-match .rest .0 .0 .0 .0 .0 .0 .0 .0 .0 .0 .0 .0 .0 .0 .0 .0 .0 .1) (the-match .rest .0 .0 .0 .0 .0 .0 .0 .0 .0 .0 .0 .0 .0 .0 .0 .0 .1)
-    (the-match .rest .0 .0 .0 .0 .0 .0 .0 .0 .0 .0 .0 .0 .0 .0 .0 .1) (the-match .rest .0 .0 .0 .0 .0 .0 .0 .0 .0 .0 .0 .0 .0 .0 .1)
-    (the-match .rest .0 .0 .0 .0 .0 .0 .0 .0 .0 .0 .0 .0 .0 .1) (the-match .rest .0 .0 .0 .0 .0 .0 .0 .0 .0 .0 .0 .0 .1)
-    (the-match .rest .0 .0 .0 .0 .0 .0 .0 .0 .0 .0 .0 .1) (the-match .rest .0 .0 .0 .0 .0 .0 .0 .0 .0 .0 .1)
-    (the-match .rest .0 .0 .0 .0 .0 .0 .0 .0 .0 .1) (the-match .rest .0 .0 .0 .0 .0 .0 .0 .0 .1) (the-match .rest .0 .0 .0 .0 .0 .0 .0 .1)
-    (the-match .rest .0 .0 .0 .0 .0 .0 .1) (the-match .rest .0 .0 .0 .0 .0 .1) (the-match .rest .0 .0 .0 .0 .1) (the-match .rest .0 .0 .0 .1)
-    (the-match .rest .0 .0 .1) (the-match .rest .0 .1) (the-match .rest .1)
+    at-first (saved (now (c .before .before .before .before .before .args .s))) _ (c .before .before .before .before .before .pre)
+    (sym (c .before .before .sub-byte .ensures)) (c .before .match .rest)
 
 returns : tie.Need-returns
-returns c =
-    let a = c .before .before .before .before .before .before .args in
-    let here = at-number (saved (now (a .s))) 1 (c .before .before .before .before .before .before .pre)
-    (sym (c .before .before .before .sub-byte .ensures) ∙ c .before .before .match .keys1) in
-    let went = decoded here (c .resume-event .ensures (a .v) (now (a .slots))) in
-    (went .called, went .kept)
+returns c = c .resume-event .ensures _ _
 
 returns-2 : tie.Need-returns-2
-returns-2 c =
-    let a = c .before .before .before .before .before .before .args in
-    let here = at-number (saved (now (a .s))) 2 (c .before .before .before .before .before .before .pre)
-    (sym (c .before .before .before .sub-byte .ensures) ∙ c .before .before .match .keys2) in
-    let went = decoded here (c .resume-stalled .ensures (now (a .slots))) in
-    (went .called, went .kept)
+returns-2 c = c .resume-stalled .ensures _
 
 returns-3 : tie.Need-returns-3
-returns-3 c =
-    let a = c .before .before .before .before .before .before .args in
-    let here = at-number (saved (now (a .s))) 3 (c .before .before .before .before .before .before .pre)
-    (sym (c .before .before .before .sub-byte .ensures) ∙ c .before .before .match .keys3) in
-    let went = decoded here (c .resume-stall-len .ensures (a .v) (now (a .slots))) in
-    (went .called, went .kept)
+returns-3 c = c .resume-stall-len .ensures _ _
 
 returns-4 : tie.Need-returns-4
-returns-4 c =
-    let a = c .before .before .before .before .before .before .args in
-    let here = at-number (saved (now (a .s))) 4 (c .before .before .before .before .before .before .pre)
-    (sym (c .before .before .before .sub-byte .ensures) ∙ c .before .before .match .keys4) in
-    let went = decoded here (c .resume-stall-word .ensures (now (a .slots))) in
-    (went .called, went .kept)
+returns-4 c = c .resume-stall-word .ensures _
 
 returns-5 : tie.Need-returns-5
-returns-5 c =
-    let a = c .before .before .before .before .before .before .args in
-    let here = at-number (saved (now (a .s))) 5 (c .before .before .before .before .before .before .pre)
-    (sym (c .before .before .before .sub-byte .ensures) ∙ c .before .before .match .keys5) in
-    let went = decoded here (c .resume-restarted .ensures (a .v) (now (a .slots))) in
-    (went .called, went .kept)
+returns-5 c = c .resume-restarted .ensures _ _
 
 returns-6 : tie.Need-returns-6
-returns-6 c =
-    let a = c .before .before .before .before .before .before .args in
-    let here = at-number (saved (now (a .s))) 6 (c .before .before .before .before .before .before .pre)
-    (sym (c .before .before .before .sub-byte .ensures) ∙ c .before .before .match .keys6) in
-    let went = decoded here (c .resume-woken .ensures (a .v) (now (a .slots))) in
-    (went .called, went .kept)
+returns-6 c = c .resume-woken .ensures _ _
 
 returns-7 : tie.Need-returns-7
-returns-7 c =
-    let a = c .before .before .before .before .before .before .args in
-    let here = at-number (saved (now (a .s))) 7 (c .before .before .before .before .before .before .pre)
-    (sym (c .before .before .before .sub-byte .ensures) ∙ c .before .before .match .keys7) in
-    let went = decoded here (c .resume-flags .ensures (now (a .slots))) in
-    (went .called, went .kept)
+returns-7 c = c .resume-flags .ensures _
 
 returns-8 : tie.Need-returns-8
-returns-8 c =
-    let a = c .before .before .before .before .before .before .args in
-    let here = at-number (saved (now (a .s))) 8 (c .before .before .before .before .before .before .pre)
-    (sym (c .before .before .before .sub-byte .ensures) ∙ c .before .before .match .keys8) in
-    let went = decoded here (c .resume-status .ensures (now (a .slots))) in
-    (went .called, went .kept)
+returns-8 c = c .resume-status .ensures _
 
 returns-9 : tie.Need-returns-9
-returns-9 c =
-    let a = c .before .before .before .before .before .before .args in
-    let here = at-number (saved (now (a .s))) 9 (c .before .before .before .before .before .before .pre)
-    (sym (c .before .before .before .sub-byte .ensures) ∙ c .before .before .match .keys9) in
-    let went = decoded here (c .resume-released .ensures (a .v) (now (a .slots))) in
-    (went .called, went .kept)
+returns-9 c = c .resume-released .ensures _ _
 
 returns-10 : tie.Need-returns-10
-returns-10 c =
-    let a = c .before .before .before .before .before .before .args in
-    let here = at-number (saved (now (a .s))) 10 (c .before .before .before .before .before .before .pre)
-    (sym (c .before .before .before .sub-byte .ensures) ∙ c .before .before .match .keys10) in
-    let went = decoded here (c .resume-address .ensures (a .v) (now (a .slots))) in
-    (went .called, went .kept)
+returns-10 c = c .resume-address .ensures _ _
 
 returns-11 : tie.Need-returns-11
-returns-11 c =
-    let a = c .before .before .before .before .before .before .args in
-    let here = at-number (saved (now (a .s))) 11 (c .before .before .before .before .before .before .pre)
-    (sym (c .before .before .before .sub-byte .ensures) ∙ c .before .before .match .keys11) in
-    let went = decoded here (c .resume-ep0-out .ensures (a .v) (now (a .slots))) in
-    (went .called, went .kept)
+returns-11 c = c .resume-ep0-out .ensures _ _
 
 returns-12 : tie.Need-returns-12
-returns-12 c =
-    let a = c .before .before .before .before .before .before .args in
-    let here = at-number (saved (now (a .s))) 12 (c .before .before .before .before .before .before .pre)
-    (sym (c .before .before .before .sub-byte .ensures) ∙ c .before .before .match .keys12) in
-    let went = decoded here (c .resume-nak-in .ensures (a .v) (now (a .slots))) in
-    (went .called, went .kept)
+returns-12 c = c .resume-nak-in .ensures _ _
 
 returns-13 : tie.Need-returns-13
-returns-13 c =
-    let a = c .before .before .before .before .before .before .args in
-    let here = at-number (saved (now (a .s))) 13 (c .before .before .before .before .before .before .pre)
-    (sym (c .before .before .before .sub-byte .ensures) ∙ c .before .before .match .keys13) in
-    let went = decoded here (c .resume-naked .ensures (a .v) (now (a .slots))) in
-    (went .called, went .kept)
+returns-13 c = c .resume-naked .ensures _ _
 
 returns-14 : tie.Need-returns-14
-returns-14 c =
-    let a = c .before .before .before .before .before .before .args in
-    let here = at-number (saved (now (a .s))) 14 (c .before .before .before .before .before .before .pre)
-    (sym (c .before .before .before .sub-byte .ensures) ∙ c .before .before .match .keys14) in
-    let went = decoded here (c .resume-disabled .ensures (a .v) (now (a .slots))) in
-    (went .called, went .kept)
+returns-14 c = c .resume-disabled .ensures _ _
 
 returns-15 : tie.Need-returns-15
-returns-15 c =
-    let a = c .before .before .before .before .before .before .args in
-    let here = at-number (saved (now (a .s))) 15 (c .before .before .before .before .before .before .pre)
-    (sym (c .before .before .before .sub-byte .ensures) ∙ c .before .before .match .keys15) in
-    let went = decoded here (c .resume-untyped .ensures (a .v) (now (a .slots))) in
-    (went .called, went .kept)
+returns-15 c = c .resume-untyped .ensures _ _
 
 returns-16 : tie.Need-returns-16
-returns-16 c =
-    let a = c .before .before .before .before .before .before .args in
-    let here = at-number (saved (now (a .s))) 16 (c .before .before .before .before .before .before .pre)
-    (sym (c .before .before .before .sub-byte .ensures) ∙ c .before .before .match .keys16) in
-    let went = decoded here (c .resume-single .ensures (a .v) (now (a .slots))) in
-    (went .called, went .kept)
+returns-16 c = c .resume-single .ensures _ _
 
 returns-17 : tie.Need-returns-17
-returns-17 c =
-    let a = c .before .before .before .before .before .before .args in
-    let here = at-number (saved (now (a .s))) 17 (c .before .before .before .before .before .before .pre)
-    (sym (c .before .before .before .sub-byte .ensures) ∙ c .before .before .match .keys17) in
-    let went = decoded here (c .resume-reset .ensures (a .v) (now (a .slots))) in
-    (went .called, went .kept)
+returns-17 c = c .resume-reset .ensures _ _
 
 returns-18 : tie.Need-returns-18
-returns-18 c =
-    let a = c .before .before .before .before .before .before .args in
-    let here = at-number (saved (now (a .s))) 18 (c .before .before .before .before .before .before .pre)
-    (sym (c .before .before .before .sub-byte .ensures) ∙ c .before .before .match .keys18) in
-    let went = decoded here (c .resume-placed-out .ensures (a .v) (now (a .slots))) in
-    (went .called, went .kept)
+returns-18 c = c .resume-placed-out .ensures _ _
 
 returns-19 : tie.Need-returns-19
-returns-19 c =
-    let a = c .before .before .before .before .before .before .args in
-    let here = at-number (saved (now (a .s))) 19 (c .before .before .before .before .before .before .pre)
-    (sym (c .before .before .before .sub-byte .ensures) ∙ c .before .before .match .keys19) in
-    let went = decoded here (c .resume-placed-in .ensures (a .v) (now (a .slots))) in
-    (went .called, went .kept)
+returns-19 c = c .resume-placed-in .ensures _ _
 
 returns-20 : tie.Need-returns-20
-returns-20 c =
-    let a = c .before .before .before .before .before .before .args in
-    let here = at-number (saved (now (a .s))) 20 (c .before .before .before .before .before .before .pre)
-    (sym (c .before .before .before .sub-byte .ensures) ∙ c .before .before .match .keys20) in
-    let went = decoded here (c .resume-no-length .ensures (a .v) (now (a .slots))) in
-    (went .called, went .kept)
+returns-20 c = c .resume-no-length .ensures _ _
 
 returns-21 : tie.Need-returns-21
-returns-21 c =
-    let a = c .before .before .before .before .before .before .args in
-    let here = at-number (saved (now (a .s))) 21 (c .before .before .before .before .before .before .pre)
-    (sym (c .before .before .before .sub-byte .ensures) ∙ c .before .before .match .keys21) in
-    let went = decoded here (c .resume-words .ensures (a .v) (now (a .slots))) in
-    (went .called, went .kept)
+returns-21 c = c .resume-words .ensures _ _
 
 returns-22 : tie.Need-returns-22
-returns-22 c =
-    let a = c .before .before .before .before .before .before .args in
-    let here = at-number (saved (now (a .s))) 22 (c .before .before .before .before .before .before .pre)
-    (sym (c .before .before .before .sub-byte .ensures) ∙ c .before .before .match .keys22) in
-    let went = decoded here (c .resume-typed .ensures (a .v) (now (a .slots))) in
-    (went .called, went .kept)
+returns-22 c = c .resume-typed .ensures _ _
 
 same-length : tie.Need-same-length
 same-length c = search needs
 
 returns-23 : tie.Need-returns-23
-returns-23 c =
-    let a = c .before .before .before .before .before .before .before .before .before .args in
-    let here = at-number (saved (now (a .s))) 23 (c .before .before .before .before .before .before .before .before .before .pre)
-    (sym (c .before .before .before .before .before .before .sub-byte .ensures) ∙ c .before .before .before .before .before .match .keys23) in
-    let went = decoded here (c .before .before .resume-switch .ensures (a .v)) in
-    (went .called, went .kept)
+returns-23 c = c .before .before .resume-switch .ensures _
 
 returns-24 : tie.Need-returns-24
-returns-24 c =
-    let a = c .before .before .before .before .before .before .args in
-    let the-match = c .before .before .match in
-    let here = at-first (saved (now (a .s))) _ (c .before .before .before .before .before .before .pre) (sym (c .before .before .before .sub-byte .ensures))
-    (the-match .rest .0 .0 .0 .0 .0 .0 .0 .0 .0 .0 .0 .0 .0 .0 .0 .0 .0 .0 .0 .0 .0 .0 .1)
-    (the-match .rest .0 .0 .0 .0 .0 .0 .0 .0 .0 .0 .0 .0 .0 .0 .0 .0 .0 .0 .0 .0 .0 .1)
-    (the-match .rest .0 .0 .0 .0 .0 .0 .0 .0 .0 .0 .0 .0 .0 .0 .0 .0 .0 .0 .0 .0 .1)
-    (the-match .rest .0 .0 .0 .0 .0 .0 .0 .0 .0 .0 .0 .0 .0 .0 .0 .0 .0 .0 .0 .1)
-    (the-match .rest .0 .0 .0 .0 .0 .0 .0 .0 .0 .0 .0 .0 .0 .0 .0 .0 .0 .0 .1)
-    (the-match .rest .0 .0 .0 .0 .0 .0 .0 .0 .0 .0 .0 .0 .0 .0 .0 .0 .0 .1) (the-match .rest .0 .0 .0 .0 .0 .0 .0 .0 .0 .0 .0 .0 .0 .0 .0 .0 .1)
-    (the-match .rest .0 .0 .0 .0 .0 .0 .0 .0 .0 .0 .0 .0 .0 .0 .0 .1) (the-match .rest .0 .0 .0 .0 .0 .0 .0 .0 .0 .0 .0 .0 .0 .0 .1)
-    (the-match .rest .0 .0 .0 .0 .0 .0 .0 .0 .0 .0 .0 .0 .0 .1) (the-match .rest .0 .0 .0 .0 .0 .0 .0 .0 .0 .0 .0 .0 .1)
-    (the-match .rest .0 .0 .0 .0 .0 .0 .0 .0 .0 .0 .0 .1) (the-match .rest .0 .0 .0 .0 .0 .0 .0 .0 .0 .0 .1)
-    (the-match .rest .0 .0 .0 .0 .0 .0 .0 .0 .0 .1) (the-match .rest .0 .0 .0 .0 .0 .0 .0 .0 .1) (the-match .rest .0 .0 .0 .0 .0 .0 .0 .1)
-    (the-match .rest .0 .0 .0 .0 .0 .0 .1) (the-match .rest .0 .0 .0 .0 .0 .1) (the-match .rest .0 .0 .0 .0 .1) (the-match .rest .0 .0 .0 .1)
-    (the-match .rest .0 .0 .1) (the-match .rest .0 .1) (the-match .rest .1) in
-    let went = decoded here (c .resume-enable .ensures (now (a .slots))) in
-    (went .called, went .kept)
+returns-24 c = c .resume-enable .ensures _
 
 pub resume-bus-spec : {M : Type 1} → statement M
 resume-bus-spec =
-    tie.close
-    (tie.spec
-    sub-byte-requires
-    resume-event-requires
-    resume-stalled-requires
-    resume-stall-len-requires
-    resume-stall-word-requires
-    resume-restarted-requires
-    resume-woken-requires
-    resume-flags-requires
-    resume-status-requires
-    resume-released-requires
-    resume-address-requires
-    resume-ep0-out-requires
-    resume-nak-in-requires
-    resume-naked-requires
-    resume-disabled-requires
-    resume-untyped-requires
-    resume-single-requires
-    resume-reset-requires
-    resume-placed-out-requires
-    resume-placed-in-requires
-    resume-no-length-requires
-    resume-words-requires
-    resume-typed-requires
-    resume-switch-requires
-    resume-enable-requires
-    returns
-    returns-2
-    returns-3
-    returns-4
-    returns-5
-    returns-6
-    returns-7
-    returns-8
-    returns-9
-    returns-10
-    returns-11
-    returns-12
-    returns-13
-    returns-14
-    returns-15
-    returns-16
-    returns-17
-    returns-18
-    returns-19
-    returns-20
-    returns-21
-    returns-22
-    same-length
-    returns-23
-    returns-24)
+    tie.close (tie.spec sub-byte-requires resume-event-requires resume-stalled-requires resume-stall-len-requires resume-stall-word-requires
+    resume-restarted-requires resume-woken-requires resume-flags-requires resume-status-requires resume-released-requires
+    resume-address-requires resume-ep0-out-requires resume-nak-in-requires resume-naked-requires resume-disabled-requires
+    resume-untyped-requires resume-single-requires resume-reset-requires resume-placed-out-requires resume-placed-in-requires
+    resume-no-length-requires resume-words-requires resume-typed-requires resume-switch-requires resume-enable-requires returns returns-2
+    returns-3 returns-4 returns-5 returns-6 returns-7 returns-8 returns-9 returns-10 returns-11 returns-12 returns-13 returns-14 returns-15
+    returns-16 returns-17 returns-18 returns-19 returns-20 returns-21 returns-22 same-length returns-23 returns-24)

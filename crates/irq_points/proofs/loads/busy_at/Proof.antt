@@ -12,9 +12,4 @@ returns : tie.Need-returns
 returns c = simp (c .is-on .ensures, c .before .busy-byte .ensures)
 
 pub busy-at-spec : {M : Type 1} → statement M
-busy-at-spec =
-    tie.close
-    (tie.spec
-    busy-byte-requires
-    is-on-requires
-    returns)
+busy-at-spec = tie.close (tie.spec busy-byte-requires is-on-requires returns)

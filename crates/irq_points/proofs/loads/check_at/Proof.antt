@@ -15,17 +15,7 @@ check-of-requires : tie.Need-check-of-requires
 check-of-requires c κs = search needs
 
 returns : tie.Need-returns
-returns c =
-    let the-sub-byte = c .before .before .before .sub-byte in
-    let the-ep-byte = c .before .before .ep-byte in
-    simp (c .check-of .ensures, the-sub-byte .ensures, the-ep-byte .ensures, c .before .eps-word .ensures)
+returns c = simp (c .check-of .ensures, c .before .before .before .sub-byte .ensures, c .before .before .ep-byte .ensures, c .before .eps-word .ensures)
 
 pub check-at-spec : {M : Type 1} → statement M
-check-at-spec =
-    tie.close
-    (tie.spec
-    sub-byte-requires
-    ep-byte-requires
-    eps-word-requires
-    check-of-requires
-    returns)
+check-at-spec = tie.close (tie.spec sub-byte-requires ep-byte-requires eps-word-requires check-of-requires returns)

@@ -12,15 +12,7 @@ complete-of-requires : tie.Need-complete-of-requires
 complete-of-requires c κs = search needs
 
 returns : tie.Need-returns
-returns c =
-    let the-sub-byte = c .before .before .sub-byte in
-    simp (c .complete-of .ensures, the-sub-byte .ensures, c .before .ep-byte .ensures)
+returns c = simp (c .complete-of .ensures, c .before .before .sub-byte .ensures, c .before .ep-byte .ensures)
 
 pub complete-at-spec : {M : Type 1} → statement M
-complete-at-spec =
-    tie.close
-    (tie.spec
-    sub-byte-requires
-    ep-byte-requires
-    complete-of-requires
-    returns)
+complete-at-spec = tie.close (tie.spec sub-byte-requires ep-byte-requires complete-of-requires returns)

@@ -12,9 +12,4 @@ returns : tie.Need-returns
 returns c = simp (c .dir-of .ensures, c .before .ep-byte .ensures)
 
 pub dir-at-spec : {M : Type 1} → statement M
-dir-at-spec =
-    tie.close
-    (tie.spec
-    ep-byte-requires
-    dir-of-requires
-    returns)
+dir-at-spec = tie.close (tie.spec ep-byte-requires dir-of-requires returns)

@@ -15,17 +15,7 @@ late-of-requires : tie.Need-late-of-requires
 late-of-requires c κs = search needs
 
 returns : tie.Need-returns
-returns c =
-    let the-sub-byte = c .before .before .before .sub-byte in
-    let the-ep-byte = c .before .before .ep-byte in
-    simp (c .late-of .ensures, the-sub-byte .ensures, the-ep-byte .ensures, c .before .eps-word .ensures)
+returns c = simp (c .late-of .ensures, c .before .before .before .sub-byte .ensures, c .before .before .ep-byte .ensures, c .before .eps-word .ensures)
 
 pub late-at-spec : {M : Type 1} → statement M
-late-at-spec =
-    tie.close
-    (tie.spec
-    sub-byte-requires
-    ep-byte-requires
-    eps-word-requires
-    late-of-requires
-    returns)
+late-at-spec = tie.close (tie.spec sub-byte-requires ep-byte-requires eps-word-requires late-of-requires returns)

@@ -12,9 +12,4 @@ returns : tie.Need-returns
 returns c = simp (c .nak-of .ensures, c .before .sub-byte .ensures)
 
 pub nak-at-spec : {M : Type 1} → statement M
-nak-at-spec =
-    tie.close
-    (tie.spec
-    sub-byte-requires
-    nak-of-requires
-    returns)
+nak-at-spec = tie.close (tie.spec sub-byte-requires nak-of-requires returns)

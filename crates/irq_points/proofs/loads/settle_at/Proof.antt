@@ -15,17 +15,7 @@ settle-of-requires : tie.Need-settle-of-requires
 settle-of-requires c κs = search needs
 
 returns : tie.Need-returns
-returns c =
-    let the-sub-byte = c .before .before .before .sub-byte in
-    let the-now-byte = c .before .before .now-byte in
-    simp (c .settle-of .ensures, the-sub-byte .ensures, the-now-byte .ensures, c .before .n-word .ensures)
+returns c = simp (c .settle-of .ensures, c .before .before .before .sub-byte .ensures, c .before .before .now-byte .ensures, c .before .n-word .ensures)
 
 pub settle-at-spec : {M : Type 1} → statement M
-settle-at-spec =
-    tie.close
-    (tie.spec
-    sub-byte-requires
-    now-byte-requires
-    n-word-requires
-    settle-of-requires
-    returns)
+settle-at-spec = tie.close (tie.spec sub-byte-requires now-byte-requires n-word-requires settle-of-requires returns)

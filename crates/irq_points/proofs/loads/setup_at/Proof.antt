@@ -12,9 +12,4 @@ returns : tie.Need-returns
 returns c = simp (c .is-on .ensures, c .before .flag-byte .ensures)
 
 pub setup-at-spec : {M : Type 1} → statement M
-setup-at-spec =
-    tie.close
-    (tie.spec
-    flag-byte-requires
-    is-on-requires
-    returns)
+setup-at-spec = tie.close (tie.spec flag-byte-requires is-on-requires returns)

@@ -15,17 +15,7 @@ sof-of-requires : tie.Need-sof-of-requires
 sof-of-requires c κs = search needs
 
 returns : tie.Need-returns
-returns c =
-    let the-sub-byte = c .before .before .before .sub-byte in
-    let the-ep-byte = c .before .before .ep-byte in
-    simp (c .sof-of .ensures, the-sub-byte .ensures, the-ep-byte .ensures, c .before .eps-word .ensures)
+returns c = simp (c .sof-of .ensures, c .before .before .before .sub-byte .ensures, c .before .before .ep-byte .ensures, c .before .eps-word .ensures)
 
 pub sof-at-spec : {M : Type 1} → statement M
-sof-at-spec =
-    tie.close
-    (tie.spec
-    sub-byte-requires
-    ep-byte-requires
-    eps-word-requires
-    sof-of-requires
-    returns)
+sof-at-spec = tie.close (tie.spec sub-byte-requires ep-byte-requires eps-word-requires sof-of-requires returns)

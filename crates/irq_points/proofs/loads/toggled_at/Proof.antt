@@ -12,15 +12,7 @@ toggled-of-requires : tie.Need-toggled-of-requires
 toggled-of-requires c κs = search needs
 
 returns : tie.Need-returns
-returns c =
-    let the-sub-byte = c .before .before .sub-byte in
-    simp (c .toggled-of .ensures, the-sub-byte .ensures, c .before .n-word .ensures)
+returns c = simp (c .toggled-of .ensures, c .before .before .sub-byte .ensures, c .before .n-word .ensures)
 
 pub toggled-at-spec : {M : Type 1} → statement M
-toggled-at-spec =
-    tie.close
-    (tie.spec
-    sub-byte-requires
-    n-word-requires
-    toggled-of-requires
-    returns)
+toggled-at-spec = tie.close (tie.spec sub-byte-requires n-word-requires toggled-of-requires returns)

@@ -9,14 +9,7 @@ asks-requires : tie.Need-asks-requires
 asks-requires c κs = search needs
 
 returns : tie.Need-returns
-returns c =
-    let the-store = c .before .store in
-    (c .asks .ensures, (the-store .ensures .0, the-store .ensures .1))
+returns c = (c .asks .ensures, (c .before .store .ensures .0, c .before .store .ensures .1))
 
 pub stand-spec : {M : Type 1} → statement M
-stand-spec =
-    tie.close
-    (tie.spec
-    store-requires
-    asks-requires
-    returns)
+stand-spec = tie.close (tie.spec store-requires asks-requires returns)

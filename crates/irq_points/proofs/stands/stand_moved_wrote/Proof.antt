@@ -1,6 +1,6 @@
 use Rattle.machine.specs.Suspended.{encode}
 use Rattle.irq_codec.specs.Codec as codec
-use mathlib.Core.Path.{_∙_}
+use Rattle.irq_points.specs.StandsLaws.{stands-at}
 use borrow.Author.Needs.{needs}
 use Rattle.irq_points.proofs.stands.stand_moved_wrote.Statement.{statement}
 use Rattle.irq_points.proofs.stands.stand_moved_wrote.Tie as tie
@@ -20,21 +20,8 @@ stand-requires c κs = search needs
 returns : tie.Need-returns
 unfolding encode codec.encode
 returns c =
-    let the-stand = c .stand in
-    let the-on-dir = c .before .before .on-dir in
-    let the-early = c .before .before .before .early in
-    record {
-      answered = the-stand .ensures .0;
-      viewed = the-stand .ensures .1 .0;
-      stored = the-stand .ensures .1 .1 ∙ simp (c .before .code .ensures, the-on-dir .ensures, the-early .ensures);
-    }
+    stands-at (c .stand .ensures)
+    (simp (c .before .code .ensures, c .before .before .on-dir .ensures, c .before .before .before .early .ensures))
 
 pub stand-moved-wrote-spec : {M : Type 1} → statement M
-stand-moved-wrote-spec =
-    tie.close
-    (tie.spec
-    early-requires
-    on-dir-requires
-    code-requires
-    stand-requires
-    returns)
+stand-moved-wrote-spec = tie.close (tie.spec early-requires on-dir-requires code-requires stand-requires returns)

@@ -9,14 +9,7 @@ asks-read-requires : tie.Need-asks-read-requires
 asks-read-requires c κs = search needs
 
 returns : tie.Need-returns
-returns c =
-    let the-store = c .before .store in
-    (c .asks-read .ensures, (the-store .ensures .0, the-store .ensures .1))
+returns c = (c .asks-read .ensures, (c .before .store .ensures .0, c .before .store .ensures .1))
 
 pub stand-read-spec : {M : Type 1} → statement M
-stand-read-spec =
-    tie.close
-    (tie.spec
-    store-requires
-    asks-read-requires
-    returns)
+stand-read-spec = tie.close (tie.spec store-requires asks-read-requires returns)

@@ -9,14 +9,7 @@ asks-write-requires : tie.Need-asks-write-requires
 asks-write-requires c κs = search needs
 
 returns : tie.Need-returns
-returns c =
-    let the-store = c .before .store in
-    (c .asks-write .ensures, (the-store .ensures .0, the-store .ensures .1))
+returns c = (c .asks-write .ensures, (c .before .store .ensures .0, c .before .store .ensures .1))
 
 pub stand-write-spec : {M : Type 1} → statement M
-stand-write-spec =
-    tie.close
-    (tie.spec
-    store-requires
-    asks-write-requires
-    returns)
+stand-write-spec = tie.close (tie.spec store-requires asks-write-requires returns)

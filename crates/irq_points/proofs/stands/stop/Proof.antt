@@ -35,11 +35,4 @@ returns c =
     )
 
 pub stop-spec : {M : Type 1} → statement M
-stop-spec =
-    tie.close
-    (tie.spec
-    nothing-requires
-    store-saved-requires
-    how-many-requires
-    ended-requires
-    returns)
+stop-spec = tie.close (tie.spec nothing-requires store-saved-requires how-many-requires ended-requires returns)

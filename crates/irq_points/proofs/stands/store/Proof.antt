@@ -6,13 +6,7 @@ store-saved-requires : tie.Need-store-saved-requires
 store-saved-requires c κs = search needs
 
 returns : tie.Need-returns
-returns c =
-    let the-store-saved = c .store-saved in
-    (the-store-saved .ensures .0, the-store-saved .ensures .1)
+returns c = (c .store-saved .ensures .0, c .store-saved .ensures .1)
 
 pub store-spec : {M : Type 1} → statement M
-store-spec =
-    tie.close
-    (tie.spec
-    store-saved-requires
-    returns)
+store-spec = tie.close (tie.spec store-saved-requires returns)

@@ -1,12 +1,9 @@
-use Rattle.irq_resume.specs.Sites.{loaded-settle}
-use Rattle.irq_resume.specs.Resumes.{went-on, stays-on, refused-16}
-use Rattle.irq_transfer.specs.Settle as settles
-use Rattle.irq_transfer.specs.declared.settle.Settle.{Settle}
+use Rattle.irq_resume.specs.Resumes.{goes-on, refuses-16}
+use Rattle.irq_resume.specs.Sites.{at-site}
+use Rattle.machine.specs.StandsLaws.{parts3}
+use Rattle.irq.specs.declared.Point.the-variants as point
 use Rattle.irq.specs.Points.{fitsAt}
-use Rattle.call_answer_word.specs.Parts.{stepOf}
-use Rattle.state.specs.State.{view, saved}
-use denote.Ref.{now}
-use mathlib.Core.Path.{_∙_, sym, refl, ap}
+use mathlib.Core.Path.{_∙_, sym, refl}
 use borrow.Author.Needs.{needs}
 use Rattle.irq_resume.proofs.entry.resume_settle.Statement.{statement}
 use Rattle.irq_resume.proofs.entry.resume_settle.Tie as tie
@@ -32,39 +29,20 @@ after-settling-requires c κs =
 returns : tie.Need-returns
 unfolding fitsAt
 returns c =
-    let a = c .before .before .before .before .before .before .before .before .before .before .args in
-    let the-setup-at = c .before .before .before .before .setup-at in
-    let the-transfer-at = c .before .before .transfer-at in
-    let the-settle-at = c .before .before .before .before .before .before .before .before .settle-at in
-    let the-fits-at = c .before .before .before .before .before .before .before .fits-at in
-    let the-if1 = c .before .before .before .before .before .before .if1 in
-    let the-after-settling = c .after-settling in (
-      λ b. went-on (saved (now (a .s))) _ (a .v) (view (now (a .s))) b
-          (loaded-settle _ _ _ _ (the-setup-at .ensures) (the-transfer-at .ensures) (the-settle-at .ensures)
-          (c .before .before .before .before .before .before .before .before .before .before .pre))
-          (sym (the-fits-at .ensures) ∙ the-if1 .taken) (the-after-settling .ensures .0 b),
-      (the-after-settling .ensures .1 .0, the-after-settling .ensures .1 .1 _),
-    )
+    let fitted = sym (c .before .before .before .before .before .before .before .fits-at .ensures)
+    ∙ c .before .before .before .before .before .before .if1 .taken in
+    let here = at-site 11 (c .before .before .before .before .before .before .before .before .before .before .pre)
+    (parts3 point.Settle (c .before .before .before .before .setup-at .ensures) (c .before .before .transfer-at .ensures)
+    (c .before .before .before .before .before .before .before .before .settle-at .ensures)) in
+    λ b. goes-on here fitted (c .after-settling .ensures .0 b) (c .after-settling .ensures .1)
 
 returns-2 : tie.Need-returns-2
-unfolding fitsAt stepOf
+unfolding fitsAt
 returns-2 c =
-    let a = c .before .before .before .before .args in
-    let the-settle-at = c .before .before .settle-at in (
-      λ b. stays-on (saved (now (a .s))) _ (a .v) (view (now (a .s))) b (c .before .before .before .before .pre)
-          (ap (λ (z : Settle). settles.fitsAt z (a .v)) (sym (the-settle-at .ensures))
-          ∙ (sym (c .before .fits-at .ensures) ∙ c .if1 .left)),
-      (refused-16, refl),
-    )
+    λ b. refuses-16 (at-site 11 (c .before .before .before .before .pre) (parts3 point.Settle refl refl (c .before .before .settle-at .ensures)))
+    (sym (c .before .fits-at .ensures) ∙ c .if1 .left)
 
 pub resume-settle-spec : {M : Type 1} → statement M
 resume-settle-spec =
-    tie.close
-    (tie.spec
-    settle-at-requires
-    fits-at-requires
-    setup-at-requires
-    transfer-at-requires
-    after-settling-requires
-    returns
+    tie.close (tie.spec settle-at-requires fits-at-requires setup-at-requires transfer-at-requires after-settling-requires returns
     returns-2)

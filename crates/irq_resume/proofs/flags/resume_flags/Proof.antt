@@ -1,10 +1,8 @@
-use Rattle.irq_resume.specs.Resumes.{went-on, stays-on, refused-16}
+use Rattle.irq_resume.specs.Resumes.{goes-on, refuses-16}
+use Rattle.irq_resume.specs.Sites.{at-site}
 use Rattle.irq.specs.Points.{fitsAt}
-use Rattle.call_answer_word.specs.Parts.{stepOf}
 use Rattle.irq_transfer.specs.Laws.{wider}
 use native.Mathlib.Omega.{arith}
-use Rattle.state.specs.State.{view, saved}
-use denote.Ref.{now}
 use mathlib.Core.Path.{_∙_, sym, refl}
 use borrow.Author.Needs.{needs}
 use Rattle.irq_resume.proofs.flags.resume_flags.Statement.{statement}
@@ -21,27 +19,12 @@ after-flags-requires c κs =
 returns : tie.Need-returns
 unfolding fitsAt
 returns c =
-    let a = c .before .before .before .before .args in
-    let the-fits2 = c .before .before .before .fits2 in
-    let the-if1 = c .before .before .if1 in
-    let the-after-flags = c .after-flags in (
-      λ b. went-on (saved (now (a .s))) _ (a .v) (view (now (a .s))) b (c .before .before .before .before .pre)
-          (sym (the-fits2 .ensures) ∙ the-if1 .taken) (the-after-flags .ensures .0 b),
-      (the-after-flags .ensures .1 .0, the-after-flags .ensures .1 .1 _),
-    )
+    let fitted = sym (c .before .before .before .fits2 .ensures) ∙ c .before .before .if1 .taken in
+    λ b. goes-on (at-site 1 (c .before .before .before .before .pre) refl) fitted (c .after-flags .ensures .0 b) (c .after-flags .ensures .1)
 
 returns-2 : tie.Need-returns-2
-unfolding fitsAt stepOf
-returns-2 c =
-    let a = c .before .before .args in
-    let too-wide = sym (c .before .fits2 .ensures) ∙ c .if1 .left in
-    (λ b. stays-on (saved (now (a .s))) _ (a .v) (view (now (a .s))) b (c .before .before .pre) too-wide, (refused-16, refl))
+unfolding fitsAt
+returns-2 c = λ b. refuses-16 (at-site 1 (c .before .before .pre) refl) (sym (c .before .fits2 .ensures) ∙ c .if1 .left)
 
 pub resume-flags-spec : {M : Type 1} → statement M
-resume-flags-spec =
-    tie.close
-    (tie.spec
-    fits-requires
-    after-flags-requires
-    returns
-    returns-2)
+resume-flags-spec = tie.close (tie.spec fits-requires after-flags-requires returns returns-2)

@@ -1,9 +1,8 @@
-use Rattle.irq_resume.specs.Sites.{loaded-host}
-use Rattle.irq_resume.specs.Resumes.{went-on}
+use Rattle.irq_resume.specs.Resumes.{goes-on}
+use Rattle.irq_resume.specs.Sites.{at-site}
+use Rattle.irq.specs.declared.Point.the-variants as point
 use Rattle.irq.specs.Points.{fitsAt}
-use Rattle.state.specs.State.{view, saved}
-use denote.Ref.{now}
-use mathlib.Core.Path.{refl}
+use mathlib.Core.Path.{refl, ap}
 use borrow.Author.Needs.{needs}
 use Rattle.irq_resume.proofs.flags.resume_host.Statement.{statement}
 use Rattle.irq_resume.proofs.flags.resume_host.Tie as tie
@@ -17,18 +16,8 @@ after-host-requires c κs = search needs
 returns : tie.Need-returns
 unfolding fitsAt
 returns c =
-    let a = c .before .before .before .before .args in
-    let the-st-byte = c .before .before .st-byte in
-    let the-after-host = c .after-host in (
-      λ v b. went-on (saved (now (a .s))) _ v (view (now (a .s))) b
-          (loaded-host _ _ (the-st-byte .ensures) (c .before .before .before .before .pre)) refl (the-after-host .ensures .0 b),
-      (the-after-host .ensures .1 .0, the-after-host .ensures .1 .1 _),
-    )
+    let here = at-site 5 (c .before .before .before .before .pre) (ap point.Host (c .before .before .st-byte .ensures)) in
+    λ v b. goes-on here refl (c .after-host .ensures .0 b) (c .after-host .ensures .1)
 
 pub resume-host-spec : {M : Type 1} → statement M
-resume-host-spec =
-    tie.close
-    (tie.spec
-    st-byte-requires
-    after-host-requires
-    returns)
+resume-host-spec = tie.close (tie.spec st-byte-requires after-host-requires returns)

@@ -1,9 +1,8 @@
-use Rattle.irq_resume.specs.Sites.{loaded-suspend}
-use Rattle.irq_resume.specs.Resumes.{went-on}
+use Rattle.irq_resume.specs.Resumes.{goes-on}
+use Rattle.irq_resume.specs.Sites.{at-site}
+use Rattle.irq.specs.declared.Point.the-variants as point
 use Rattle.irq.specs.Points.{fitsAt}
-use Rattle.state.specs.State.{view, saved}
-use denote.Ref.{now}
-use mathlib.Core.Path.{refl}
+use mathlib.Core.Path.{refl, ap}
 use borrow.Author.Needs.{needs}
 use Rattle.irq_resume.proofs.flags.resume_suspend.Statement.{statement}
 use Rattle.irq_resume.proofs.flags.resume_suspend.Tie as tie
@@ -17,18 +16,8 @@ after-suspend-requires c κs = search needs
 returns : tie.Need-returns
 unfolding fitsAt
 returns c =
-    let a = c .before .before .before .before .args in
-    let the-st-byte = c .before .before .st-byte in
-    let the-after-suspend = c .after-suspend in (
-      λ v b. went-on (saved (now (a .s))) _ v (view (now (a .s))) b
-          (loaded-suspend _ _ (the-st-byte .ensures) (c .before .before .before .before .pre)) refl (the-after-suspend .ensures .0 v b),
-      (the-after-suspend .ensures .1 .0, the-after-suspend .ensures .1 .1 _),
-    )
+    let here = at-site 3 (c .before .before .before .before .pre) (ap point.Suspend (c .before .before .st-byte .ensures)) in
+    λ v b. goes-on here refl (c .after-suspend .ensures .0 v b) (c .after-suspend .ensures .1)
 
 pub resume-suspend-spec : {M : Type 1} → statement M
-resume-suspend-spec =
-    tie.close
-    (tie.spec
-    st-byte-requires
-    after-suspend-requires
-    returns)
+resume-suspend-spec = tie.close (tie.spec st-byte-requires after-suspend-requires returns)

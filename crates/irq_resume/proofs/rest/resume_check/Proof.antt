@@ -1,12 +1,9 @@
-use Rattle.irq_resume.specs.Sites.{loaded-check}
-use Rattle.irq_resume.specs.Resumes.{went-on, stays-on, refused-16}
-use Rattle.iso_out.specs.Points as checks
-use Rattle.iso_out.specs.declared.Check.{Check}
+use Rattle.irq_resume.specs.Resumes.{goes-on, refuses-16}
+use Rattle.irq_resume.specs.Sites.{at-site}
+use Rattle.machine.specs.StandsLaws.{parts4}
+use Rattle.irq.specs.declared.Point.the-variants as point
 use Rattle.irq.specs.Points.{fitsAt}
-use Rattle.call_answer_word.specs.Parts.{stepOf}
-use Rattle.state.specs.State.{view, saved}
-use denote.Ref.{now}
-use mathlib.Core.Path.{_∙_, sym, refl, ap}
+use mathlib.Core.Path.{_∙_, sym, refl}
 use borrow.Author.Needs.{needs}
 use Rattle.irq_resume.proofs.rest.resume_check.Statement.{statement}
 use Rattle.irq_resume.proofs.rest.resume_check.Tie as tie
@@ -38,41 +35,23 @@ same-length c = search needs
 returns : tie.Need-returns
 unfolding fitsAt
 returns c =
-    let a = c .before .before .before .before .before .before .before .before .before .before .before .before .before .before .before .before .args in
-    let the-setup-at = c .before .before .before .before .before .before .before .before .before .setup-at in
-    let the-transfer-at = c .before .before .before .before .before .before .before .transfer-at in
-    let the-iso-at = c .before .before .before .before .before .iso-at in
-    let the-check-at = c .before .before .before .before .before .before .before .before .before .before .before .before .before .check-at in
-    let the-fits-at = c .before .before .before .before .before .before .before .before .before .before .before .before .fits-at in
-    let the-if1 = c .before .before .before .before .before .before .before .before .before .before .before .if1 in
-    let the-after-checking = c .before .before .after-checking in (
-      went-on (saved (now (a .s))) _ (a .v) (view (now (a .s))) (now (a .slots))
-          (loaded-check _ _ _ _ _ (the-setup-at .ensures) (the-transfer-at .ensures) (the-iso-at .ensures) (the-check-at .ensures)
-          (c .before .before .before .before .before .before .before .before .before .before .before .before .before .before .before .before .pre))
-          (sym (the-fits-at .ensures) ∙ the-if1 .taken) (the-after-checking .ensures .0),
-      (the-after-checking .ensures .1 .0, the-after-checking .ensures .1 .1 _),
-    )
+    let fitted = sym (c .before .before .before .before .before .before .before .before .before .before .before .before .fits-at .ensures)
+    ∙ c .before .before .before .before .before .before .before .before .before .before .before .if1 .taken in
+    let here = at-site 20
+    (c .before .before .before .before .before .before .before .before .before .before .before .before .before .before .before .before .pre)
+    (parts4 point.Check (c .before .before .before .before .before .before .before .before .before .setup-at .ensures)
+    (c .before .before .before .before .before .before .before .transfer-at .ensures)
+    (c .before .before .before .before .before .iso-at .ensures)
+    (c .before .before .before .before .before .before .before .before .before .before .before .before .before .check-at .ensures)) in
+    goes-on here fitted (c .before .before .after-checking .ensures .0) (c .before .before .after-checking .ensures .1)
 
 returns-2 : tie.Need-returns-2
-unfolding fitsAt stepOf
+unfolding fitsAt
 returns-2 c =
-    let a = c .before .before .before .before .before .args in
-    let the-check-at = c .before .before .check-at in (
-      stays-on (saved (now (a .s))) _ (a .v) (view (now (a .s))) (now (a .slots)) (c .before .before .before .before .before .pre)
-          (ap (λ (z : Check). checks.fitsAt z (a .v)) (sym (the-check-at .ensures)) ∙ (sym (c .before .fits-at .ensures) ∙ c .if1 .left)),
-      (refused-16, refl),
-    )
+    refuses-16 (at-site 20 (c .before .before .before .before .before .pre) (parts4 point.Check refl refl refl (c .before .before .check-at .ensures)))
+    (sym (c .before .fits-at .ensures) ∙ c .if1 .left)
 
 pub resume-check-spec : {M : Type 1} → statement M
 resume-check-spec =
-    tie.close
-    (tie.spec
-    check-at-requires
-    fits-at-requires
-    setup-at-requires
-    transfer-at-requires
-    iso-at-requires
-    after-checking-requires
-    same-length
-    returns
-    returns-2)
+    tie.close (tie.spec check-at-requires fits-at-requires setup-at-requires transfer-at-requires iso-at-requires after-checking-requires
+    same-length returns returns-2)

@@ -1,8 +1,8 @@
-use Rattle.irq_resume.specs.Sites.{loaded-moved-wrote}
-use Rattle.irq_resume.specs.Resumes.{went-on}
+use Rattle.irq_resume.specs.Resumes.{goes-on}
+use Rattle.irq_resume.specs.Sites.{at-site}
+use Rattle.machine.specs.StandsLaws.{parts2}
+use Rattle.irq.specs.declared.Point.the-variants as point
 use Rattle.irq.specs.Points.{fitsAt}
-use Rattle.state.specs.State.{view, saved}
-use denote.Ref.{now}
 use mathlib.Core.Path.{refl}
 use borrow.Author.Needs.{needs}
 use Rattle.irq_resume.proofs.rest.resume_moved_wrote.Statement.{statement}
@@ -20,21 +20,9 @@ after-moved-wrote-requires c κs = search needs
 returns : tie.Need-returns
 unfolding fitsAt
 returns c =
-    let a = c .before .before .before .before .before .before .args in
-    let the-dir-at = c .before .before .before .before .dir-at in
-    let the-setup-at = c .before .before .setup-at in
-    let the-after-moved-wrote = c .after-moved-wrote in (
-      λ v b. went-on (saved (now (a .s))) _ v (view (now (a .s))) b
-          (loaded-moved-wrote _ _ _ (the-dir-at .ensures) (the-setup-at .ensures)
-          (c .before .before .before .before .before .before .pre)) refl (the-after-moved-wrote .ensures .0 v b),
-      (the-after-moved-wrote .ensures .1 .0, the-after-moved-wrote .ensures .1 .1 _),
-    )
+    let here = at-site 22 (c .before .before .before .before .before .before .pre)
+    (parts2 point.MovedWrote (c .before .before .before .before .dir-at .ensures) (c .before .before .setup-at .ensures)) in
+    λ v b. goes-on here refl (c .after-moved-wrote .ensures .0 v b) (c .after-moved-wrote .ensures .1)
 
 pub resume-moved-wrote-spec : {M : Type 1} → statement M
-resume-moved-wrote-spec =
-    tie.close
-    (tie.spec
-    dir-at-requires
-    setup-at-requires
-    after-moved-wrote-requires
-    returns)
+resume-moved-wrote-spec = tie.close (tie.spec dir-at-requires setup-at-requires after-moved-wrote-requires returns)

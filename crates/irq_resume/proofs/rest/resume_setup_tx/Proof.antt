@@ -1,7 +1,6 @@
-use Rattle.irq_resume.specs.Resumes.{went-on}
+use Rattle.irq_resume.specs.Resumes.{goes-on}
+use Rattle.irq_resume.specs.Sites.{at-site}
 use Rattle.irq.specs.Points.{fitsAt}
-use Rattle.state.specs.State.{view, saved}
-use denote.Ref.{now}
 use mathlib.Core.Path.{refl}
 use borrow.Author.Needs.{needs}
 use Rattle.irq_resume.proofs.rest.resume_setup_tx.Statement.{statement}
@@ -16,17 +15,7 @@ same-length c = search needs
 returns : tie.Need-returns
 unfolding fitsAt
 returns c =
-    let a = c .before .before .before .before .args in
-    let the-after-setup-tx = c .after-setup-tx in (
-      λ v. went-on (saved (now (a .s))) _ v (view (now (a .s)))
-          (now (a .slots)) (c .before .before .before .before .pre) refl (the-after-setup-tx .ensures .0 v),
-      (the-after-setup-tx .ensures .1 .0, the-after-setup-tx .ensures .1 .1 _),
-    )
+    λ v. goes-on (at-site 24 (c .before .before .before .before .pre) refl) refl (c .after-setup-tx .ensures .0 v) (c .after-setup-tx .ensures .1)
 
 pub resume-setup-tx-spec : {M : Type 1} → statement M
-resume-setup-tx-spec =
-    tie.close
-    (tie.spec
-    after-setup-tx-requires
-    same-length
-    returns)
+resume-setup-tx-spec = tie.close (tie.spec after-setup-tx-requires same-length returns)

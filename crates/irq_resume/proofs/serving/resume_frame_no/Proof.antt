@@ -1,9 +1,8 @@
-use Rattle.irq_resume.specs.Sites.{loaded-frame-no}
-use Rattle.irq_resume.specs.Resumes.{went-on, stays-on, refused-16}
+use Rattle.irq_resume.specs.Resumes.{goes-on, refuses-16}
+use Rattle.irq_resume.specs.Sites.{at-site}
+use Rattle.machine.specs.StandsLaws.{parts3}
+use Rattle.irq.specs.declared.Point.the-variants as point
 use Rattle.irq.specs.Points.{fitsAt}
-use Rattle.call_answer_word.specs.Parts.{stepOf}
-use Rattle.state.specs.State.{view, saved}
-use denote.Ref.{now}
 use mathlib.Core.Path.{_∙_, sym, refl}
 use borrow.Author.Needs.{needs}
 use Rattle.irq_resume.proofs.serving.resume_frame_no.Statement.{statement}
@@ -33,38 +32,19 @@ same-length c = search needs
 returns : tie.Need-returns
 unfolding fitsAt
 returns c =
-    let a = c .before .before .before .before .before .before .before .before .before .before .before .before .before .before .args in
-    let the-setup-at = c .before .before .before .before .before .before .before .before .before .setup-at in
-    let the-transfer-at = c .before .before .before .before .before .before .before .transfer-at in
-    let the-iso-at = c .before .before .before .before .before .iso-at in
-    let the-fits2 = c .before .before .before .before .before .before .before .before .before .before .before .before .fits2 in
-    let the-if1 = c .before .before .before .before .before .before .before .before .before .before .before .if1 in
-    let the-after-frame-no = c .before .before .after-frame-no in (
-      went-on (saved (now (a .s))) _ (a .v) (view (now (a .s))) (now (a .slots))
-          (loaded-frame-no _ _ _ _ (the-setup-at .ensures) (the-transfer-at .ensures) (the-iso-at .ensures)
-          (c .before .before .before .before .before .before .before .before .before .before .before .before .before .before .pre))
-          (sym (the-fits2 .ensures) ∙ the-if1 .taken) (the-after-frame-no .ensures .0),
-      (the-after-frame-no .ensures .1 .0, the-after-frame-no .ensures .1 .1 _),
-    )
+    let fitted = sym (c .before .before .before .before .before .before .before .before .before .before .before .before .fits2 .ensures)
+    ∙ c .before .before .before .before .before .before .before .before .before .before .before .if1 .taken in
+    let here = at-site 12 (c .before .before .before .before .before .before .before .before .before .before .before .before .before .before .pre)
+    (parts3 point.FrameNo (c .before .before .before .before .before .before .before .before .before .setup-at .ensures)
+    (c .before .before .before .before .before .before .before .transfer-at .ensures)
+    (c .before .before .before .before .before .iso-at .ensures)) in
+    goes-on here fitted (c .before .before .after-frame-no .ensures .0) (c .before .before .after-frame-no .ensures .1)
 
 returns-2 : tie.Need-returns-2
-unfolding fitsAt stepOf
-returns-2 c =
-    let a = c .before .before .before .args in (
-      stays-on (saved (now (a .s))) _ (a .v) (view (now (a .s)))
-          (now (a .slots)) (c .before .before .before .pre) (sym (c .before .fits2 .ensures) ∙ c .if1 .left),
-      (refused-16, refl),
-    )
+unfolding fitsAt
+returns-2 c = refuses-16 (at-site 12 (c .before .before .before .pre) refl) (sym (c .before .fits2 .ensures) ∙ c .if1 .left)
 
 pub resume-frame-no-spec : {M : Type 1} → statement M
 resume-frame-no-spec =
-    tie.close
-    (tie.spec
-    fits-requires
-    setup-at-requires
-    transfer-at-requires
-    iso-at-requires
-    after-frame-no-requires
-    same-length
-    returns
+    tie.close (tie.spec fits-requires setup-at-requires transfer-at-requires iso-at-requires after-frame-no-requires same-length returns
     returns-2)

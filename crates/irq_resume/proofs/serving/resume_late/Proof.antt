@@ -1,8 +1,8 @@
-use Rattle.irq_resume.specs.Sites.{loaded-late}
-use Rattle.irq_resume.specs.Resumes.{went-on}
+use Rattle.irq_resume.specs.Resumes.{goes-on}
+use Rattle.irq_resume.specs.Sites.{at-site}
+use Rattle.machine.specs.StandsLaws.{parts5}
+use Rattle.irq.specs.declared.Point.the-variants as point
 use Rattle.irq.specs.Points.{fitsAt}
-use Rattle.state.specs.State.{view, saved}
-use denote.Ref.{now}
 use mathlib.Core.Path.{refl}
 use borrow.Author.Needs.{needs}
 use Rattle.irq_resume.proofs.serving.resume_late.Statement.{statement}
@@ -32,30 +32,17 @@ same-length c = search needs
 returns : tie.Need-returns
 unfolding fitsAt
 returns c =
-    let a = c .before .before .before .before .before .before .before .before .before .before .before .before .before .before .before .before .args in
-    let the-setup-at = c .before .before .before .before .before .before .before .before .before .before .before .before .before .setup-at in
-    let the-transfer-at = c .before .before .before .before .before .before .before .before .before .before .before .transfer-at in
-    let the-iso-at = c .before .before .before .before .before .before .before .before .before .iso-at in
-    let the-frame-word = c .before .before .before .before .before .before .before .frame-word in
-    let the-late-at = c .before .before .before .before .before .late-at in
-    let the-after-completions = c .before .before .after-completions in (
-      λ v. went-on (saved (now (a .s))) _ v (view (now (a .s))) (now (a .slots))
-          (loaded-late _ _ _ _ _ _ (the-setup-at .ensures)
-          (the-transfer-at .ensures) (the-iso-at .ensures) (the-frame-word .ensures) (the-late-at .ensures)
-          (c .before .before .before .before .before .before .before .before .before .before .before .before .before .before .before .before .pre))
-          refl (the-after-completions .ensures .0 v),
-      (the-after-completions .ensures .1 .0, the-after-completions .ensures .1 .1 _),
-    )
+    let here = at-site 14
+    (c .before .before .before .before .before .before .before .before .before .before .before .before .before .before .before .before .pre)
+    (parts5 point.Late
+    (c .before .before .before .before .before .before .before .before .before .before .before .before .before .setup-at .ensures)
+    (c .before .before .before .before .before .before .before .before .before .before .before .transfer-at .ensures)
+    (c .before .before .before .before .before .before .before .before .before .iso-at .ensures)
+    (c .before .before .before .before .before .before .before .frame-word .ensures)
+    (c .before .before .before .before .before .late-at .ensures)) in
+    λ v. goes-on here refl (c .before .before .after-completions .ensures .0 v) (c .before .before .after-completions .ensures .1)
 
 pub resume-late-spec : {M : Type 1} → statement M
 resume-late-spec =
-    tie.close
-    (tie.spec
-    setup-at-requires
-    transfer-at-requires
-    iso-at-requires
-    frame-word-requires
-    late-at-requires
-    after-completions-requires
-    same-length
-    returns)
+    tie.close (tie.spec setup-at-requires transfer-at-requires iso-at-requires frame-word-requires late-at-requires
+    after-completions-requires same-length returns)

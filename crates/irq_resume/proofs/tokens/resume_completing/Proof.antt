@@ -1,8 +1,8 @@
-use Rattle.irq_resume.specs.Sites.{loaded-completing}
-use Rattle.irq_resume.specs.Resumes.{went-on}
+use Rattle.irq_resume.specs.Resumes.{goes-on}
+use Rattle.irq_resume.specs.Sites.{at-site}
+use Rattle.machine.specs.StandsLaws.{parts4}
+use Rattle.irq.specs.declared.Point.the-variants as point
 use Rattle.irq.specs.Points.{fitsAt}
-use Rattle.state.specs.State.{view, saved}
-use denote.Ref.{now}
 use mathlib.Core.Path.{refl}
 use borrow.Author.Needs.{needs}
 use Rattle.irq_resume.proofs.tokens.resume_completing.Statement.{statement}
@@ -29,27 +29,14 @@ same-length c = search needs
 returns : tie.Need-returns
 unfolding fitsAt
 returns c =
-    let a = c .before .before .before .before .before .before .before .before .before .before .before .before .before .before .args in
-    let the-setup-at = c .before .before .before .before .before .before .before .before .before .before .before .setup-at in
-    let the-transfer-at = c .before .before .before .before .before .before .before .before .before .transfer-at in
-    let the-iso-at = c .before .before .before .before .before .before .before .iso-at in
-    let the-complete-at = c .before .before .before .before .before .complete-at in
-    let the-after-completing = c .before .before .after-completing in (
-      λ v. went-on (saved (now (a .s))) _ v (view (now (a .s))) (now (a .slots))
-          (loaded-completing _ _ _ _ _ (the-setup-at .ensures) (the-transfer-at .ensures) (the-iso-at .ensures) (the-complete-at .ensures)
-          (c .before .before .before .before .before .before .before .before .before .before .before .before .before .before .pre)) refl
-          (the-after-completing .ensures .0 v),
-      (the-after-completing .ensures .1 .0, the-after-completing .ensures .1 .1 _),
-    )
+    let here = at-site 19 (c .before .before .before .before .before .before .before .before .before .before .before .before .before .before .pre)
+    (parts4 point.Completing (c .before .before .before .before .before .before .before .before .before .before .before .setup-at .ensures)
+    (c .before .before .before .before .before .before .before .before .before .transfer-at .ensures)
+    (c .before .before .before .before .before .before .before .iso-at .ensures)
+    (c .before .before .before .before .before .complete-at .ensures)) in
+    λ v. goes-on here refl (c .before .before .after-completing .ensures .0 v) (c .before .before .after-completing .ensures .1)
 
 pub resume-completing-spec : {M : Type 1} → statement M
 resume-completing-spec =
-    tie.close
-    (tie.spec
-    setup-at-requires
-    transfer-at-requires
-    iso-at-requires
-    complete-at-requires
-    after-completing-requires
-    same-length
+    tie.close (tie.spec setup-at-requires transfer-at-requires iso-at-requires complete-at-requires after-completing-requires same-length
     returns)

@@ -1,9 +1,8 @@
-use Rattle.irq_resume.specs.Sites.{loaded-flip}
-use Rattle.irq_resume.specs.Resumes.{went-on, stays-on, refused-16}
+use Rattle.irq_resume.specs.Resumes.{goes-on, refuses-16}
+use Rattle.irq_resume.specs.Sites.{at-site}
+use Rattle.machine.specs.StandsLaws.{parts4}
+use Rattle.irq.specs.declared.Point.the-variants as point
 use Rattle.irq.specs.Points.{fitsAt}
-use Rattle.call_answer_word.specs.Parts.{stepOf}
-use Rattle.state.specs.State.{view, saved}
-use denote.Ref.{now}
 use mathlib.Core.Path.{_∙_, sym, refl}
 use borrow.Author.Needs.{needs}
 use Rattle.irq_resume.proofs.tokens.resume_flip.Statement.{statement}
@@ -33,37 +32,19 @@ after-flip-requires c κs =
 returns : tie.Need-returns
 unfolding fitsAt
 returns c =
-    let a = c .before .before .before .before .before .before .before .before .before .before .before .before .args in
-    let the-dir-at = c .before .before .before .before .before .before .before .before .dir-at in
-    let the-setup-at = c .before .before .before .before .before .before .setup-at in
-    let the-transfer-at = c .before .before .before .before .transfer-at in
-    let the-iso-at = c .before .before .iso-at in
-    let the-fits2 = c .before .before .before .before .before .before .before .before .before .before .before .fits2 in
-    let the-if1 = c .before .before .before .before .before .before .before .before .before .before .if1 in
-    let the-after-flip = c .after-flip in (
-      λ b. went-on (saved (now (a .s))) _ (a .v) (view (now (a .s))) b
-          (loaded-flip _ _ _ _ _ (the-dir-at .ensures) (the-setup-at .ensures) (the-transfer-at .ensures) (the-iso-at .ensures)
-          (c .before .before .before .before .before .before .before .before .before .before .before .before .pre))
-          (sym (the-fits2 .ensures) ∙ the-if1 .taken) (the-after-flip .ensures .0 b),
-      (the-after-flip .ensures .1 .0, the-after-flip .ensures .1 .1 _),
-    )
+    let fitted = sym (c .before .before .before .before .before .before .before .before .before .before .before .fits2 .ensures)
+    ∙ c .before .before .before .before .before .before .before .before .before .before .if1 .taken in
+    let here = at-site 16 (c .before .before .before .before .before .before .before .before .before .before .before .before .pre)
+    (parts4 point.Flip (c .before .before .before .before .before .before .before .before .dir-at .ensures)
+    (c .before .before .before .before .before .before .setup-at .ensures) (c .before .before .before .before .transfer-at .ensures)
+    (c .before .before .iso-at .ensures)) in
+    λ b. goes-on here fitted (c .after-flip .ensures .0 b) (c .after-flip .ensures .1)
 
 returns-2 : tie.Need-returns-2
-unfolding fitsAt stepOf
-returns-2 c =
-    let a = c .before .before .args in
-    let too-wide = sym (c .before .fits2 .ensures) ∙ c .if1 .left in
-    (λ b. stays-on (saved (now (a .s))) _ (a .v) (view (now (a .s))) b (c .before .before .pre) too-wide, (refused-16, refl))
+unfolding fitsAt
+returns-2 c = λ b. refuses-16 (at-site 16 (c .before .before .pre) refl) (sym (c .before .fits2 .ensures) ∙ c .if1 .left)
 
 pub resume-flip-spec : {M : Type 1} → statement M
 resume-flip-spec =
-    tie.close
-    (tie.spec
-    fits-requires
-    dir-at-requires
-    setup-at-requires
-    transfer-at-requires
-    iso-at-requires
-    after-flip-requires
-    returns
+    tie.close (tie.spec fits-requires dir-at-requires setup-at-requires transfer-at-requires iso-at-requires after-flip-requires returns
     returns-2)

@@ -1,7 +1,4 @@
-use Rattle.machine.specs.KeepsLaws.{canonical}
-use Rattle.machine.specs.Suspended.{decode}
-use Rattle.machine.specs.SuspendedLaws.{decode-encode}
-use mathlib.Core.Path.{_∙_, ap, sym}
+use mathlib.Core.Path.{_∙_, sym, refl}
 use borrow.Author.Needs.{needs}
 use Rattle.machine.proofs.halts.asks.Statement.{statement}
 use Rattle.machine.proofs.halts.asks.Tie as tie
@@ -13,10 +10,7 @@ store-saved-requires : tie.Need-store-saved-requires
 store-saved-requires c κs = search needs
 
 returns : tie.Need-returns
-returns c = (
-  λ u e out b. simp (c .store-saved .ensures .0, c .store-saved .ensures .1, ap decode (sym e) ∙ decode-encode u),
-  λ u e xs. canonical u _ (c .store-saved .ensures .1 ∙ sym e),
-)
+returns c = λ u e. record { answered = refl; viewed = c .store-saved .ensures .0; stored = c .store-saved .ensures .1 ∙ sym e }
 
 pub asks-spec : {M : Type 1} → statement M
 asks-spec =

@@ -1,11 +1,9 @@
+use Rattle.machine.specs.StandsLaws.{handed-out, stored-by, refuses}
 use Rattle.machine.specs.Tags.{as-control}
 use Rattle.machine.specs.Fits.{linked-begun}
 use mathlib.Core.List.{[]}
-use Rattle.machine.specs.RowsLaws.{ends-idle}
-use Rattle.machine.specs.Suspended.{decode}
-use Rattle.state.specs.State.{view, saved}
+use mathlib.Core.Path.{_∙_}
 use denote.Ref.{now}
-use mathlib.Core.Path.{_∙_, refl}
 use borrow.Author.Needs.{needs}
 use Rattle.machine.proofs.halts.begun_control.Statement.{statement}
 use Rattle.machine.proofs.halts.begun_control.Tie as tie
@@ -33,34 +31,21 @@ ended-requires : tie.Need-ended-requires
 ended-requires c κs = search needs
 
 returns : tie.Need-returns
-returns c = (
-  λ b. ends-idle (decode (saved (now (c .before .before .before .args .s))))
-      (view (now (c .before .before .before .args .s))) b _ (c .before .before .before .pre .1) ∙ simp (c .before .n .given .1),
-  refl,
-)
+returns c = refuses (now (c .before .before .before .args .s)) (c .before .before .before .pre .1) (λ b. simp (c .before .n .given .1))
 
 returns-2 : tie.Need-returns-2
-returns-2 c = (
-  λ b. c .asks .ensures .0 _ (as-control _ _ (c .before .encode .ensures)) [] b ∙ simp (
-    c .before .before .before .before .n2 .given .1,
-    linked-begun _ _ _ (c .before .before .before .before .n2 .given .1) (c .before .before .before .before .before .before .pre .0),
-  ),
-  c .asks .ensures .1 _ (as-control _ _ (c .before .encode .ensures)) _,
-)
+returns-2 c =
+    let stood = c .asks .ensures _ (as-control _ _ (c .before .encode .ensures)) in (
+      λ b. handed-out stood _ (stood .answered) [] b ∙ simp (
+        c .before .before .before .before .n2 .given .1,
+        linked-begun _ _ _ (c .before .before .before .before .n2 .given .1) (c .before .before .before .before .before .before .pre .0),
+      ),
+      stored-by stood _ (stood .answered) _,
+    )
 
 returns-3 : tie.Need-returns-3
-returns-3 c = (λ b. simp (c .ended .ensures .0, c .before .before .before .n3 .given .1), c .ended .ensures .1 _)
+returns-3 c = (λ b. c .ended .ensures .there b ∙ simp (c .before .before .before .n3 .given .1), c .ended .ensures .stored _)
 
 pub begun-control-spec : {M : Type 1} → statement M
 begun-control-spec =
-    tie.close
-    (tie.spec
-    enum-known-n
-    enum-known-n-2
-    encode-requires
-    asks-requires
-    enum-known-n-3
-    ended-requires
-    returns
-    returns-2
-    returns-3)
+    tie.close (tie.spec enum-known-n enum-known-n-2 encode-requires asks-requires enum-known-n-3 ended-requires returns returns-2 returns-3)

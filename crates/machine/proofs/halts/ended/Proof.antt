@@ -21,16 +21,16 @@ how-many-requires c κs = search needs
 
 returns : tie.Need-returns
 unfolding decode listed
-returns c = (
-  λ b. simp (
+returns c = record {
+  there = λ b. simp (
     c .how-many .ensures .0,
     front-take,
     c .before .before .store-saved .ensures .0,
     c .before .before .store-saved .ensures .1,
     c .before .before .before .nothing .ensures,
-  ),
-  λ xs. c .before .before .store-saved .ensures .1 ∙ c .before .before .before .nothing .ensures,
-)
+  );
+  stored = λ xs. c .before .before .store-saved .ensures .1 ∙ c .before .before .before .nothing .ensures;
+}
 
 pub ended-spec : {M : Type 1} → statement M
 ended-spec =

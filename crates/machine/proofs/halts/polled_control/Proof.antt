@@ -1,3 +1,4 @@
+use Rattle.machine.specs.StandsLaws.{handed-out, stored-by}
 use Rattle.machine.specs.Tags.{as-control}
 use Rattle.machine.specs.Fits.{linked-polled}
 use Rattle.machine.specs.RowsLaws.{ends-idle}
@@ -5,7 +6,6 @@ use Rattle.machine.specs.Suspended.{decode}
 use Rattle.state.specs.State.{view, saved}
 use denote.Ref.{now}
 use mathlib.Core.Path.{_∙_, refl}
-use mathlib.Core.List.{[]}
 use borrow.Author.Needs.{needs}
 use Rattle.machine.proofs.halts.polled_control.Statement.{statement}
 use Rattle.machine.proofs.halts.polled_control.Tie as tie
@@ -63,27 +63,16 @@ returns-4 c = (
 )
 
 returns-5 : tie.Need-returns-5
-returns-5 c = (
-  λ out b. c .asks .ensures .0 _ (as-control _ _ (c .before .encode .ensures)) out b ∙ simp (
-    c .before .before .before .before .n4 .given .1,
-    linked-polled _ _ _ (c .before .before .before .before .n4 .given .1) (c .before .before .before .before .before .before .pre .0),
-  ),
-  c .asks .ensures .1 _ (as-control _ _ (c .before .encode .ensures)) _,
-)
+returns-5 c =
+    let stood = c .asks .ensures _ (as-control _ _ (c .before .encode .ensures)) in (
+      λ out b. handed-out stood _ (stood .answered) out b ∙ simp (
+        c .before .before .before .before .n4 .given .1,
+        linked-polled _ _ _ (c .before .before .before .before .n4 .given .1) (c .before .before .before .before .before .before .pre .0),
+      ),
+      stored-by stood _ (stood .answered) _,
+    )
 
 pub polled-control-spec : {M : Type 1} → statement M
 polled-control-spec =
-    tie.close
-    (tie.spec
-    enum-known-n
-    enum-told
-    enum-known-n-2
-    enum-known-n-3
-    enum-known-n-4
-    encode-requires
-    asks-requires
-    returns
-    returns-2
-    returns-3
-    returns-4
-    returns-5)
+    tie.close (tie.spec enum-known-n enum-told enum-known-n-2 enum-known-n-3 enum-known-n-4 encode-requires asks-requires returns returns-2
+    returns-3 returns-4 returns-5)

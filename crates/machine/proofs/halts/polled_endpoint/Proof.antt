@@ -25,12 +25,4 @@ returns-3 : tie.Need-returns-3
 returns-3 c = (λ u d out b i. ends-idle u d b _ i ∙ simp (c .before .n2 .given .1), λ xs ys h. h)
 
 pub polled-endpoint-spec : {M : Type 1} → statement M
-polled-endpoint-spec =
-    tie.close
-    (tie.spec
-    enum-known-n
-    enum-told
-    enum-known-n-2
-    returns
-    returns-2
-    returns-3)
+polled-endpoint-spec = tie.close (tie.spec enum-known-n enum-told enum-known-n-2 returns returns-2 returns-3)

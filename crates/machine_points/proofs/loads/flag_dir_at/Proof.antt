@@ -12,9 +12,4 @@ returns : tie.Need-returns
 returns c = simp (c .dir-of .ensures, c .before .flag-byte .ensures)
 
 pub flag-dir-at-spec : {M : Type 1} → statement M
-flag-dir-at-spec =
-    tie.close
-    (tie.spec
-    flag-byte-requires
-    dir-of-requires
-    returns)
+flag-dir-at-spec = tie.close (tie.spec flag-byte-requires dir-of-requires returns)

@@ -12,9 +12,4 @@ returns : tie.Need-returns
 returns c = simp (c .is-on .ensures, c .before .flag-byte .ensures)
 
 pub on-at-spec : {M : Type 1} → statement M
-on-at-spec =
-    tie.close
-    (tie.spec
-    flag-byte-requires
-    is-on-requires
-    returns)
+on-at-spec = tie.close (tie.spec flag-byte-requires is-on-requires returns)

@@ -12,8 +12,4 @@ returns c =
     (refl, (the-store-saved .ensures .0, the-store-saved .ensures .1))
 
 pub stand-spec : {M : Type 1} → statement M
-stand-spec =
-    tie.close
-    (tie.spec
-    store-saved-requires
-    returns)
+stand-spec = tie.close (tie.spec store-saved-requires returns)

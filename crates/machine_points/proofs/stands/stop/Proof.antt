@@ -25,10 +25,4 @@ returns c =
     }
 
 pub stop-spec : {M : Type 1} → statement M
-stop-spec =
-    tie.close
-    (tie.spec
-    nothing-requires
-    store-saved-requires
-    how-many-requires
-    returns)
+stop-spec = tie.close (tie.spec nothing-requires store-saved-requires how-many-requires returns)

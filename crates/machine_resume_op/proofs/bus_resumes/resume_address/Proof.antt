@@ -1,6 +1,6 @@
-use Rattle.machine_points.specs.BusLaws.{bus-goes}
+use Rattle.machine_points.specs.StandsLaws.{at-point, goes-to}
+use Rattle.machine_points.specs.BusLaws.{bus}
 use Rattle.bus.specs.Points.{fitsAt}
-use Rattle.bus.specs.declared.Point.the-variants as point
 use mathlib.Core.Path.{refl}
 use borrow.Author.Needs.{needs}
 use Rattle.machine_resume_op.proofs.bus_resumes.resume_address.Statement.{statement}
@@ -15,14 +15,8 @@ stand-ep0-out-requires c κs = search needs
 returns : tie.Need-returns
 unfolding fitsAt
 returns c =
-    let stood = c .stand-ep0-out in
     let next = c .before .before .after-address in
-    λ v b. bus-goes {p = point.Address} refl (stood .ensures) (next .ensures .1) (next .ensures .0 v _ b)
+    λ v b. goes-to bus (at-point bus 10 (c .before .before .before .pre) refl) refl (c .stand-ep0-out .ensures) (next .ensures .1) (next .ensures .0 v _ b)
 
 pub resume-address-spec : {M : Type 1} → statement M
-resume-address-spec =
-    tie.close
-    (tie.spec
-    after-address-requires
-    stand-ep0-out-requires
-    returns)
+resume-address-spec = tie.close (tie.spec after-address-requires stand-ep0-out-requires returns)

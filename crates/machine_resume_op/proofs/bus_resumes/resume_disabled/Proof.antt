@@ -1,6 +1,6 @@
-use Rattle.machine_points.specs.BusLaws.{bus-goes}
+use Rattle.machine_points.specs.StandsLaws.{at-point, goes-to}
+use Rattle.machine_points.specs.BusLaws.{bus}
 use Rattle.bus.specs.Points.{fitsAt}
-use Rattle.bus.specs.declared.Point.the-variants as point
 use mathlib.Core.Path.{refl}
 use borrow.Author.Needs.{needs}
 use Rattle.machine_resume_op.proofs.bus_resumes.resume_disabled.Statement.{statement}
@@ -15,14 +15,9 @@ stand-untyped-requires c κs = search needs
 returns : tie.Need-returns
 unfolding fitsAt
 returns c =
-    let stood = c .stand-untyped in
     let next = c .before .before .after-disabled in
-    λ v b. bus-goes {p = point.Disabled} refl (stood .ensures) (next .ensures .1 .1) (next .ensures .0 v b)
+    λ v b. goes-to bus (at-point bus 14 (c .before .before .before .before .pre) refl) refl (c .stand-untyped .ensures) (next .ensures .1 .1)
+    (next .ensures .0 v b)
 
 pub resume-disabled-spec : {M : Type 1} → statement M
-resume-disabled-spec =
-    tie.close
-    (tie.spec
-    after-disabled-requires
-    stand-untyped-requires
-    returns)
+resume-disabled-spec = tie.close (tie.spec after-disabled-requires stand-untyped-requires returns)

@@ -1,6 +1,6 @@
-use Rattle.machine_points.specs.BusLaws.{bus-goes, bus-stays}
+use Rattle.machine_points.specs.StandsLaws.{goes-to, stays-at}
+use Rattle.machine_points.specs.BusLaws.{bus}
 use Rattle.bus.specs.Points.{fitsAt}
-use Rattle.bus.specs.declared.Point.the-variants as point
 use mathlib.Core.Path.{sym, _∙_}
 use borrow.Author.Needs.{needs}
 use Rattle.machine_resume_op.proofs.bus_resumes.resume_enable.Statement.{statement}
@@ -18,22 +18,14 @@ stand-event-requires c κs = search needs
 returns : tie.Need-returns
 unfolding fitsAt
 returns c =
-    let stood = c .stand-event in
     let next = c .before .before .after-enable in
-    λ b. bus-goes {p = point.Enable} (sym (c .before .before .before .before .fits2 .ensures) ∙ c .before .before .before .if1 .taken)
-    (stood .ensures) (next .ensures .1) (next .ensures .0 _ b)
+    λ b. goes-to bus (c .before .before .before .before .before .pre)
+    (sym (c .before .before .before .before .fits2 .ensures) ∙ c .before .before .before .if1 .taken) (c .stand-event .ensures) (next .ensures .1)
+    (next .ensures .0 _ b)
 
 returns-2 : tie.Need-returns-2
 unfolding fitsAt
-returns-2 c =
-    λ b. bus-stays {p = point.Enable} (c .before .before .pre) (sym (c .before .fits2 .ensures) ∙ c .if1 .left)
+returns-2 c = λ b. stays-at bus (c .before .before .pre) (sym (c .before .fits2 .ensures) ∙ c .if1 .left)
 
 pub resume-enable-spec : {M : Type 1} → statement M
-resume-enable-spec =
-    tie.close
-    (tie.spec
-    fits-requires
-    after-enable-requires
-    stand-event-requires
-    returns
-    returns-2)
+resume-enable-spec = tie.close (tie.spec fits-requires after-enable-requires stand-event-requires returns returns-2)

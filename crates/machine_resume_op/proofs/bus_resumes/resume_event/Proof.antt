@@ -1,9 +1,7 @@
-use Rattle.machine_points.specs.StandsLaws.{loaded}
-use Rattle.machine_points.specs.BusLaws.{bus-ends}
+use Rattle.machine_points.specs.StandsLaws.{at-point, comes-to}
+use Rattle.machine_points.specs.BusLaws.{bus}
 use Rattle.bus.specs.Points.{fitsAt}
 use Rattle.bus.specs.declared.Point.the-variants as point
-use Rattle.machine.specs.declared.Suspended.the-variants as under
-use Prim.Native.Nat.{ℕ}
 use mathlib.Core.Path.{refl, ap}
 use borrow.Author.Needs.{needs}
 use Rattle.machine_resume_op.proofs.bus_resumes.resume_event.Statement.{statement}
@@ -21,13 +19,8 @@ stop-requires c κs = search needs
 returns : tie.Need-returns
 unfolding fitsAt
 returns c =
-    λ v b. loaded (ap (λ (n : ℕ). under.Bus (point.Event n)) (c .before .before .st-byte .ensures)) (bus-ends refl (c .stop .ensures) refl)
+    λ v b. comes-to bus (at-point bus 1 (c .before .before .before .before .pre) (ap point.Event (c .before .before .st-byte .ensures))) refl (c .stop .ensures)
+    refl
 
 pub resume-event-spec : {M : Type 1} → statement M
-resume-event-spec =
-    tie.close
-    (tie.spec
-    st-byte-requires
-    cast-stop
-    stop-requires
-    returns)
+resume-event-spec = tie.close (tie.spec st-byte-requires cast-stop stop-requires returns)

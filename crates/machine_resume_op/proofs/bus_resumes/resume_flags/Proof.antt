@@ -1,4 +1,5 @@
-use Rattle.machine_points.specs.BusLaws.{bus-goes, bus-ends, bus-stays}
+use Rattle.machine_points.specs.StandsLaws.{at-point, goes-to, comes-to, stays-at}
+use Rattle.machine_points.specs.BusLaws.{bus}
 use Rattle.bus.specs.Points.{fitsAt, afterFlags, afterNaked}
 use Rattle.bus.specs.declared.Point.the-variants as point
 use mathlib.Core.Path.{refl, sym, _∙_}
@@ -23,12 +24,9 @@ stand-address-requires c κs = search needs
 returns : tie.Need-returns
 unfolding fitsAt afterFlags afterNaked
 returns c =
-    let the-if2 = c .before .before .if2 in
-    let the-bus-rst = c .before .before .before .bus-rst in
-    let the-byte = c .before .before .before .before .byte in
     let fitted = sym (c .before .before .before .before .before .before .fits2 .ensures) ∙ c .before .before .before .before .before .if1 .taken in
-    λ b. bus-goes {p = point.Flags} fitted (c .stand-address .ensures) refl
-    (simp (← the-byte .ensures, ← the-bus-rst .ensures, the-if2 .taken))
+    λ b. goes-to bus (at-point bus 7 (c .before .before .before .before .before .before .before .pre) refl) fitted (c .stand-address .ensures) refl
+    (simp (← c .before .before .before .before .byte .ensures, ← c .before .before .before .bus-rst .ensures, c .before .before .if2 .taken))
 
 suspend-requires : tie.Need-suspend-requires
 suspend-requires c κs = search needs
@@ -46,7 +44,8 @@ returns-2 c =
     let the-byte = c .before .before .before .before .before .before .byte in
     let fitted = sym (c .before .before .before .before .before .before .before .before .fits2 .ensures)
     ∙ c .before .before .before .before .before .before .before .if1 .taken in
-    λ b. bus-goes {p = point.Flags} fitted (c .stand-status .ensures) refl
+    let here = at-point bus 7 (c .before .before .before .before .before .before .before .before .before .pre) refl in
+    λ b. goes-to bus here fitted (c .stand-status .ensures) refl
     (simp (← the-byte .ensures, ← the-bus-rst .ensures, the-if2 .left, ← the-suspend .ensures, the-if3 .taken))
 
 stop-requires : tie.Need-stop-requires
@@ -62,26 +61,14 @@ returns-3 c =
     let the-byte = c .before .before .before .before .before .before .byte in
     let fitted = sym (c .before .before .before .before .before .before .before .before .fits2 .ensures)
     ∙ c .before .before .before .before .before .before .before .if1 .taken in
-    λ b. bus-ends {p = point.Flags} fitted (c .stop .ensures)
+    λ b. comes-to bus (at-point bus 7 (c .before .before .before .before .before .before .before .before .before .pre) refl) fitted (c .stop .ensures)
     (simp (← the-byte .ensures, ← the-bus-rst .ensures, the-if2 .left, ← the-suspend .ensures, the-if3 .left))
 
 returns-4 : tie.Need-returns-4
 unfolding fitsAt afterFlags afterNaked
-returns-4 c =
-    λ b. bus-stays {p = point.Flags} (c .before .before .pre) (sym (c .before .fits2 .ensures) ∙ c .if1 .left)
+returns-4 c = λ b. stays-at bus (at-point bus 7 (c .before .before .pre) refl) (sym (c .before .fits2 .ensures) ∙ c .if1 .left)
 
 pub resume-flags-spec : {M : Type 1} → statement M
 resume-flags-spec =
-    tie.close
-    (tie.spec
-    fits-requires
-    byte-requires
-    bus-rst-requires
-    stand-address-requires
-    returns
-    suspend-requires
-    stand-status-requires
-    returns-2
-    stop-requires
-    returns-3
-    returns-4)
+    tie.close (tie.spec fits-requires byte-requires bus-rst-requires stand-address-requires returns suspend-requires stand-status-requires
+    returns-2 stop-requires returns-3 returns-4)

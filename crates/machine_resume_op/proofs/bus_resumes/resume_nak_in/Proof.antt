@@ -1,9 +1,7 @@
-use Rattle.machine_points.specs.StandsLaws.{loaded}
-use Rattle.machine_points.specs.BusLaws.{bus-goes}
+use Rattle.machine_points.specs.StandsLaws.{at-point, goes-to}
+use Rattle.machine_points.specs.BusLaws.{bus}
 use Rattle.bus.specs.Points.{fitsAt}
 use Rattle.bus.specs.declared.Point.the-variants as point
-use Rattle.machine.specs.declared.Suspended.the-variants as under
-use Prim.Native.Nat.{ℕ}
 use mathlib.Core.Path.{refl, ap}
 use borrow.Author.Needs.{needs}
 use Rattle.machine_resume_op.proofs.bus_resumes.resume_nak_in.Statement.{statement}
@@ -21,16 +19,9 @@ stand-naked-requires c κs = search needs
 returns : tie.Need-returns
 unfolding fitsAt
 returns c =
-    let stood = c .stand-naked in
     let next = c .before .before .after-nak-in in
-    λ v b. loaded (ap (λ (e : ℕ). under.Bus (point.NakIn e)) (c .before .before .before .ep-byte .ensures))
-    (bus-goes refl (stood .ensures) (next .ensures .1) (next .ensures .0 v _ b))
+    λ v b. goes-to bus (at-point bus 12 (c .before .before .before .before .before .pre) (ap point.NakIn (c .before .before .before .ep-byte .ensures))) refl
+    (c .stand-naked .ensures) (next .ensures .1) (next .ensures .0 v _ b)
 
 pub resume-nak-in-spec : {M : Type 1} → statement M
-resume-nak-in-spec =
-    tie.close
-    (tie.spec
-    ep-byte-requires
-    after-nak-in-requires
-    stand-naked-requires
-    returns)
+resume-nak-in-spec = tie.close (tie.spec ep-byte-requires after-nak-in-requires stand-naked-requires returns)

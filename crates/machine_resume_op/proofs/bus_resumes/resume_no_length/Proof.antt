@@ -1,10 +1,8 @@
-use Rattle.machine_points.specs.StandsLaws.{loaded, parts3}
-use Rattle.machine_points.specs.BusLaws.{bus-goes}
+use Rattle.machine.specs.StandsLaws.{parts3}
+use Rattle.machine_points.specs.StandsLaws.{at-point, goes-to}
+use Rattle.machine_points.specs.BusLaws.{bus}
 use Rattle.bus.specs.Points.{fitsAt}
 use Rattle.bus.specs.declared.Point.the-variants as point
-use Rattle.machine.specs.declared.Suspended.the-variants as under
-use mathlib.Core.Bool.{Bool}
-use Prim.Native.Nat.{ℕ}
 use mathlib.Core.Path.{refl}
 use borrow.Author.Needs.{needs}
 use Rattle.machine_resume_op.proofs.bus_resumes.resume_no_length.Statement.{statement}
@@ -28,22 +26,12 @@ stand-words-requires c κs = search needs
 returns : tie.Need-returns
 unfolding fitsAt
 returns c =
-    let stood = c .stand-words in
     let next = c .before .before .after-no-length in
-    let the-ep-byte = c .before .before .before .before .before .before .before .ep-byte in
-    let the-iso-at = c .before .before .before .before .before .iso-at in
-    let the-on-at = c .before .before .before .on-at in
-    λ v b. loaded (parts3 (λ (e : ℕ) (iso : Bool) (on : Bool). under.Bus (point.NoLength e iso on)) (the-ep-byte .ensures)
-    (the-iso-at .ensures) (the-on-at .ensures))
-    (bus-goes refl (stood .ensures) (next .ensures .1) (next .ensures .0 _ b))
+    let here = at-point bus 20 (c .before .before .before .before .before .before .before .before .before .pre) (parts3 point.NoLength
+    (c .before .before .before .before .before .before .before .ep-byte .ensures) (c .before .before .before .before .before .iso-at .ensures)
+    (c .before .before .before .on-at .ensures)) in
+    λ v b. goes-to bus here refl (c .stand-words .ensures) (next .ensures .1) (next .ensures .0 _ b)
 
 pub resume-no-length-spec : {M : Type 1} → statement M
 resume-no-length-spec =
-    tie.close
-    (tie.spec
-    ep-byte-requires
-    iso-at-requires
-    on-at-requires
-    after-no-length-requires
-    stand-words-requires
-    returns)
+    tie.close (tie.spec ep-byte-requires iso-at-requires on-at-requires after-no-length-requires stand-words-requires returns)

@@ -1,10 +1,9 @@
-use Rattle.machine_points.specs.StandsLaws.{loaded, parts3}
-use Rattle.machine_points.specs.BusLaws.{bus-goes}
+use Rattle.machine.specs.StandsLaws.{parts3}
+use Rattle.machine_points.specs.StandsLaws.{at-point, goes-to}
+use Rattle.machine_points.specs.BusLaws.{bus}
 use Rattle.bus.specs.Points.{fitsAt}
 use Rattle.bus.specs.declared.Point.the-variants as point
-use Rattle.machine.specs.declared.Suspended.the-variants as under
-use mathlib.Core.Bool.{Bool, true}
-use Prim.Native.Nat.{ℕ}
+use mathlib.Core.Bool.{true}
 use mathlib.Core.Path.{refl}
 use borrow.Author.Needs.{needs}
 use Rattle.machine_resume_op.proofs.bus_resumes.resume_placed_in.Statement.{statement}
@@ -28,22 +27,12 @@ stand-no-length-requires c κs = search needs
 returns : tie.Need-returns
 unfolding fitsAt
 returns c =
-    let stood = c .stand-no-length in
     let next = c .before .before .after-placed-in in
-    let the-ep-byte = c .before .before .before .before .before .before .before .ep-byte in
-    let the-iso-at = c .before .before .before .before .before .iso-at in
-    let the-on-at = c .before .before .before .on-at in
-    λ v b. loaded (parts3 (λ (e : ℕ) (iso : Bool) (on : Bool). under.Bus (point.PlacedIn e iso on)) (the-ep-byte .ensures)
-    (the-iso-at .ensures) (the-on-at .ensures))
-    (bus-goes refl (stood .ensures) (next .ensures .1 true true) (next .ensures .0 _ _ v _ b))
+    let here = at-point bus 19 (c .before .before .before .before .before .before .before .before .before .pre) (parts3 point.PlacedIn
+    (c .before .before .before .before .before .before .before .ep-byte .ensures) (c .before .before .before .before .before .iso-at .ensures)
+    (c .before .before .before .on-at .ensures)) in
+    λ v b. goes-to bus here refl (c .stand-no-length .ensures) (next .ensures .1 true true) (next .ensures .0 _ _ v _ b)
 
 pub resume-placed-in-spec : {M : Type 1} → statement M
 resume-placed-in-spec =
-    tie.close
-    (tie.spec
-    ep-byte-requires
-    iso-at-requires
-    on-at-requires
-    after-placed-in-requires
-    stand-no-length-requires
-    returns)
+    tie.close (tie.spec ep-byte-requires iso-at-requires on-at-requires after-placed-in-requires stand-no-length-requires returns)

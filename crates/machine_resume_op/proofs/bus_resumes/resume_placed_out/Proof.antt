@@ -1,10 +1,8 @@
-use Rattle.machine_points.specs.StandsLaws.{loaded, parts2}
-use Rattle.machine_points.specs.BusLaws.{bus-goes}
+use Rattle.machine.specs.StandsLaws.{parts2}
+use Rattle.machine_points.specs.StandsLaws.{at-point, goes-to}
+use Rattle.machine_points.specs.BusLaws.{bus}
 use Rattle.bus.specs.Points.{fitsAt}
 use Rattle.bus.specs.declared.Point.the-variants as point
-use Rattle.machine.specs.declared.Suspended.the-variants as under
-use mathlib.Core.Bool.{Bool}
-use Prim.Native.Nat.{ℕ}
 use mathlib.Core.Path.{refl}
 use borrow.Author.Needs.{needs}
 use Rattle.machine_resume_op.proofs.bus_resumes.resume_placed_out.Statement.{statement}
@@ -25,19 +23,10 @@ stand-words-requires c κs = search needs
 returns : tie.Need-returns
 unfolding fitsAt
 returns c =
-    let stood = c .stand-words in
     let next = c .before .before .after-placed-out in
-    let the-ep-byte = c .before .before .before .before .before .ep-byte in
-    let the-on-at = c .before .before .before .on-at in
-    λ v b. loaded (parts2 (λ (e : ℕ) (on : Bool). under.Bus (point.PlacedOut e on)) (the-ep-byte .ensures) (the-on-at .ensures))
-    (bus-goes refl (stood .ensures) (next .ensures .1) (next .ensures .0 v _ b))
+    let here = at-point bus 18 (c .before .before .before .before .before .before .before .pre)
+    (parts2 point.PlacedOut (c .before .before .before .before .before .ep-byte .ensures) (c .before .before .before .on-at .ensures)) in
+    λ v b. goes-to bus here refl (c .stand-words .ensures) (next .ensures .1) (next .ensures .0 v _ b)
 
 pub resume-placed-out-spec : {M : Type 1} → statement M
-resume-placed-out-spec =
-    tie.close
-    (tie.spec
-    ep-byte-requires
-    on-at-requires
-    after-placed-out-requires
-    stand-words-requires
-    returns)
+resume-placed-out-spec = tie.close (tie.spec ep-byte-requires on-at-requires after-placed-out-requires stand-words-requires returns)

@@ -1,9 +1,8 @@
-use Rattle.machine_points.specs.StandsLaws.{loaded}
-use Rattle.machine_points.specs.BusLaws.{bus-goes}
+use Rattle.machine_points.specs.StandsLaws.{at-point, goes-to}
+use Rattle.machine_points.specs.BusLaws.{bus}
 use Rattle.bus.specs.Points.{fitsAt}
 use Rattle.bus.specs.declared.Point.the-variants as point
-use Rattle.machine.specs.declared.Suspended.the-variants as under
-use mathlib.Core.Bool.{Bool, true, false}
+use mathlib.Core.Bool.{true, false}
 use mathlib.Core.Path.{refl, ap, sym, _∙_}
 use borrow.Author.Needs.{needs}
 use Rattle.machine_resume_op.proofs.bus_resumes.resume_released.Statement.{statement}
@@ -21,11 +20,10 @@ stand-event-requires c κs = search needs
 returns : tie.Need-returns
 unfolding fitsAt
 returns c =
-    let the-if1 = c .before .before .if1 in
     let next = c .before .before .before .after-released in
-    let the-iso-at = c .before .before .before .before .before .iso-at in
-    λ v b. loaded (ap (λ (down : Bool). under.Bus (point.Released down)) (sym (the-if1 .taken) ∙ the-iso-at .ensures))
-    (bus-goes refl (c .stand-event .ensures) (next .ensures .1 .1 3) (next .ensures .0 true b))
+    let here = at-point bus 9 (c .before .before .before .before .before .before .before .pre)
+    (ap point.Released (sym (c .before .before .if1 .taken) ∙ c .before .before .before .before .before .iso-at .ensures)) in
+    λ v b. goes-to bus here refl (c .stand-event .ensures) (next .ensures .1 .1 3) (next .ensures .0 true b)
 
 stand-event-requires-2 : tie.Need-stand-event-requires-2
 stand-event-requires-2 c κs = search needs
@@ -33,19 +31,11 @@ stand-event-requires-2 c κs = search needs
 returns-2 : tie.Need-returns-2
 unfolding fitsAt
 returns-2 c =
-    let the-if1 = c .before .before .if1 in
     let next = c .before .before .before .after-released in
-    let the-iso-at = c .before .before .before .before .before .iso-at in
-    λ v b. loaded (ap (λ (down : Bool). under.Bus (point.Released down)) (sym (the-if1 .left) ∙ the-iso-at .ensures))
-    (bus-goes refl (c .stand-event2 .ensures) (next .ensures .1 .1 4) (next .ensures .0 false b))
+    let here = at-point bus 9 (c .before .before .before .before .before .before .before .pre)
+    (ap point.Released (sym (c .before .before .if1 .left) ∙ c .before .before .before .before .before .iso-at .ensures)) in
+    λ v b. goes-to bus here refl (c .stand-event2 .ensures) (next .ensures .1 .1 4) (next .ensures .0 false b)
 
 pub resume-released-spec : {M : Type 1} → statement M
 resume-released-spec =
-    tie.close
-    (tie.spec
-    iso-at-requires
-    after-released-requires
-    stand-event-requires
-    returns
-    stand-event-requires-2
-    returns-2)
+    tie.close (tie.spec iso-at-requires after-released-requires stand-event-requires returns stand-event-requires-2 returns-2)

@@ -1,6 +1,6 @@
-use Rattle.machine_points.specs.BusLaws.{bus-goes}
+use Rattle.machine_points.specs.StandsLaws.{at-point, goes-to}
+use Rattle.machine_points.specs.BusLaws.{bus}
 use Rattle.bus.specs.Points.{fitsAt}
-use Rattle.bus.specs.declared.Point.the-variants as point
 use mathlib.Core.Path.{refl}
 use borrow.Author.Needs.{needs}
 use Rattle.machine_resume_op.proofs.bus_resumes.resume_reset.Statement.{statement}
@@ -15,14 +15,9 @@ stand-event-requires c κs = search needs
 returns : tie.Need-returns
 unfolding fitsAt
 returns c =
-    let stood = c .stand-event in
     let next = c .before .before .after-reset in
-    λ v b. bus-goes {p = point.Reset} refl (stood .ensures) (next .ensures .1 .1) (next .ensures .0 b)
+    λ v b. goes-to bus (at-point bus 17 (c .before .before .before .before .pre) refl) refl (c .stand-event .ensures) (next .ensures .1 .1)
+    (next .ensures .0 b)
 
 pub resume-reset-spec : {M : Type 1} → statement M
-resume-reset-spec =
-    tie.close
-    (tie.spec
-    after-reset-requires
-    stand-event-requires
-    returns)
+resume-reset-spec = tie.close (tie.spec after-reset-requires stand-event-requires returns)

@@ -1,6 +1,6 @@
-use Rattle.machine_points.specs.BusLaws.{bus-goes}
+use Rattle.machine_points.specs.StandsLaws.{at-point, goes-to}
+use Rattle.machine_points.specs.BusLaws.{bus}
 use Rattle.bus.specs.Points.{fitsAt}
-use Rattle.bus.specs.declared.Point.the-variants as point
 use mathlib.Core.Path.{refl}
 use borrow.Author.Needs.{needs}
 use Rattle.machine_resume_op.proofs.bus_resumes.resume_single.Statement.{statement}
@@ -15,14 +15,9 @@ stand-reset-requires c κs = search needs
 returns : tie.Need-returns
 unfolding fitsAt
 returns c =
-    let stood = c .stand-reset in
     let next = c .before .before .after-single in
-    λ v b. bus-goes {p = point.Single} refl (stood .ensures) (next .ensures .1 .1) (next .ensures .0 v b)
+    λ v b. goes-to bus (at-point bus 16 (c .before .before .before .before .pre) refl) refl (c .stand-reset .ensures) (next .ensures .1 .1)
+    (next .ensures .0 v b)
 
 pub resume-single-spec : {M : Type 1} → statement M
-resume-single-spec =
-    tie.close
-    (tie.spec
-    after-single-requires
-    stand-reset-requires
-    returns)
+resume-single-spec = tie.close (tie.spec after-single-requires stand-reset-requires returns)

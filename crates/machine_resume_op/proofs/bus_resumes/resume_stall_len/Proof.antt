@@ -1,9 +1,7 @@
-use Rattle.machine_points.specs.StandsLaws.{loaded}
-use Rattle.machine_points.specs.BusLaws.{bus-goes}
+use Rattle.machine_points.specs.StandsLaws.{at-point, goes-to}
+use Rattle.machine_points.specs.BusLaws.{bus}
 use Rattle.bus.specs.Points.{fitsAt}
 use Rattle.bus.specs.declared.Point.the-variants as point
-use Rattle.machine.specs.declared.Suspended.the-variants as under
-use Prim.Native.Nat.{ℕ}
 use mathlib.Core.Path.{refl, ap}
 use borrow.Author.Needs.{needs}
 use Rattle.machine_resume_op.proofs.bus_resumes.resume_stall_len.Statement.{statement}
@@ -21,16 +19,9 @@ stand-stall-word-requires c κs = search needs
 returns : tie.Need-returns
 unfolding fitsAt
 returns c =
-    let stood = c .stand-stall-word in
     let next = c .before .before .after-stall-len in
-    λ v b. loaded (ap (λ (e : ℕ). under.Bus (point.StallLen e)) (c .before .before .before .ep-byte .ensures))
-    (bus-goes refl (stood .ensures) (next .ensures .1) (next .ensures .0 v _ b))
+    λ v b. goes-to bus (at-point bus 3 (c .before .before .before .before .before .pre) (ap point.StallLen (c .before .before .before .ep-byte .ensures))) refl
+    (c .stand-stall-word .ensures) (next .ensures .1) (next .ensures .0 v _ b)
 
 pub resume-stall-len-spec : {M : Type 1} → statement M
-resume-stall-len-spec =
-    tie.close
-    (tie.spec
-    ep-byte-requires
-    after-stall-len-requires
-    stand-stall-word-requires
-    returns)
+resume-stall-len-spec = tie.close (tie.spec ep-byte-requires after-stall-len-requires stand-stall-word-requires returns)

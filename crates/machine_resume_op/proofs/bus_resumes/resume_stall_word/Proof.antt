@@ -1,10 +1,8 @@
-use Rattle.machine_points.specs.StandsLaws.{loaded, parts2}
-use Rattle.machine_points.specs.BusLaws.{bus-goes, bus-stays, fits-word}
+use Rattle.machine.specs.StandsLaws.{parts2}
+use Rattle.machine_points.specs.StandsLaws.{at-point, goes-to, stays-at}
+use Rattle.machine_points.specs.BusLaws.{bus, fits-word}
 use Rattle.bus.specs.declared.Point.the-variants as point
-use Rattle.machine.specs.declared.Suspended.the-variants as under
-use Rattle.regs.specs.declared.Dir.{Dir}
-use Prim.Native.Nat.{ℕ}
-use mathlib.Core.Path.{sym, _∙_}
+use mathlib.Core.Path.{sym, _∙_, refl}
 use borrow.Author.Needs.{needs}
 use Rattle.machine_resume_op.proofs.bus_resumes.resume_stall_word.Statement.{statement}
 use Rattle.machine_resume_op.proofs.bus_resumes.resume_stall_word.Tie as tie
@@ -33,21 +31,13 @@ returns c =
     let the-dir-at = c .before .before .before .before .before .dir-at in
     let fitted = sym (c .before .before .before .before .before .before .before .before .fits2 .ensures)
     ∙ c .before .before .before .before .before .before .before .if1 .taken in
-    λ b. loaded (parts2 (λ (d : Dir) (e : ℕ). under.Bus (point.StallWord d e)) (the-dir-at .ensures) (the-ep-byte .ensures))
-    (bus-goes (fits-word _ _ _ fitted) (stood .ensures) (next .ensures .1) (next .ensures .0 _ b))
+    let here = at-point bus 4 (c .before .before .before .before .before .before .before .before .before .pre)
+    (parts2 point.StallWord (the-dir-at .ensures) (the-ep-byte .ensures)) in
+    λ b. goes-to bus here (fits-word _ _ _ fitted) (stood .ensures) (next .ensures .1) (next .ensures .0 _ b)
 
 returns-2 : tie.Need-returns-2
-returns-2 c =
-    λ b. bus-stays (c .before .before .pre) (fits-word _ _ _ (sym (c .before .fits2 .ensures) ∙ c .if1 .left))
+returns-2 c = λ b. stays-at bus (at-point bus 4 (c .before .before .pre) refl) (fits-word _ _ _ (sym (c .before .fits2 .ensures) ∙ c .if1 .left))
 
 pub resume-stall-word-spec : {M : Type 1} → statement M
 resume-stall-word-spec =
-    tie.close
-    (tie.spec
-    fits-requires
-    dir-at-requires
-    ep-byte-requires
-    after-stall-word-requires
-    stand-woken-requires
-    returns
-    returns-2)
+    tie.close (tie.spec fits-requires dir-at-requires ep-byte-requires after-stall-word-requires stand-woken-requires returns returns-2)

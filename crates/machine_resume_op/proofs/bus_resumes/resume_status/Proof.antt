@@ -1,4 +1,5 @@
-use Rattle.machine_points.specs.BusLaws.{bus-goes, bus-stays}
+use Rattle.machine_points.specs.StandsLaws.{at-point, goes-to, stays-at}
+use Rattle.machine_points.specs.BusLaws.{bus}
 use Rattle.bus.specs.Points.{fitsAt, afterStatus}
 use Rattle.bus.specs.declared.Point.the-variants as point
 use mathlib.Core.Path.{refl, sym, _∙_}
@@ -23,24 +24,13 @@ stand-released-requires c κs = search needs
 returns : tie.Need-returns
 unfolding fitsAt afterStatus
 returns c =
-    let the-suspended = c .before .before .suspended in
-    let the-byte = c .before .before .before .byte in
     let fitted = sym (c .before .before .before .before .before .fits2 .ensures) ∙ c .before .before .before .before .if1 .taken in
-    λ b. bus-goes {p = point.Status} fitted (c .stand-released .ensures) refl
-    (simp (← the-byte .ensures, ← the-suspended .ensures))
+    λ b. goes-to bus (at-point bus 8 (c .before .before .before .before .before .before .pre) refl) fitted (c .stand-released .ensures) refl
+    (simp (← c .before .before .before .byte .ensures, ← c .before .before .suspended .ensures))
 
 returns-2 : tie.Need-returns-2
 unfolding fitsAt afterStatus
-returns-2 c =
-    λ b. bus-stays {p = point.Status} (c .before .before .pre) (sym (c .before .fits2 .ensures) ∙ c .if1 .left)
+returns-2 c = λ b. stays-at bus (at-point bus 8 (c .before .before .pre) refl) (sym (c .before .fits2 .ensures) ∙ c .if1 .left)
 
 pub resume-status-spec : {M : Type 1} → statement M
-resume-status-spec =
-    tie.close
-    (tie.spec
-    fits-requires
-    byte-requires
-    suspended-requires
-    stand-released-requires
-    returns
-    returns-2)
+resume-status-spec = tie.close (tie.spec fits-requires byte-requires suspended-requires stand-released-requires returns returns-2)

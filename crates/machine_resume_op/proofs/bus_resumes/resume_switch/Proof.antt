@@ -1,10 +1,8 @@
-use Rattle.machine_points.specs.StandsLaws.{loaded, parts3}
-use Rattle.machine_points.specs.BusLaws.{bus-goes, bus-ends}
+use Rattle.machine.specs.StandsLaws.{parts3}
+use Rattle.machine_points.specs.StandsLaws.{at-point, goes-to, comes-to}
+use Rattle.machine_points.specs.BusLaws.{bus}
 use Rattle.bus.specs.Points.{fitsAt, switching, woken}
 use Rattle.bus.specs.declared.Point.the-variants as point
-use Rattle.machine.specs.declared.Suspended.the-variants as under
-use mathlib.Core.Bool.{Bool}
-use Prim.Native.Nat.{ℕ}
 use mathlib.Core.Path.{refl, sym, _∙_}
 use borrow.Author.Needs.{needs}
 use Rattle.machine_resume_op.proofs.bus_resumes.resume_switch.Statement.{statement}
@@ -28,13 +26,11 @@ stop-requires c κs = search needs
 returns : tie.Need-returns
 unfolding fitsAt switching woken
 returns c =
-    let the-if1 = c .before .before .before .before .if1 in
-    let the-st-byte = c .before .before .before .before .before .st-byte in
-    let the-on-at = c .before .before .before .before .before .before .before .on-at in
-    let the-ep-byte = c .before .before .before .before .before .before .before .before .before .ep-byte in
-    λ v. loaded (parts3 (λ (e : ℕ) (on : Bool) (n : ℕ). under.Bus (point.Switch e on n))
-    (the-ep-byte .ensures) (the-on-at .ensures) (sym (the-if1 .taken) ∙ the-st-byte .ensures))
-    (bus-ends refl (c .stop .ensures) (simp (c .before .before .wake .ensures .0)))
+    let here = at-point bus 23 (c .before .before .before .before .before .before .before .before .before .before .before .before .pre) (parts3 point.Switch
+    (c .before .before .before .before .before .before .before .before .before .ep-byte .ensures)
+    (c .before .before .before .before .before .before .before .on-at .ensures)
+    (sym (c .before .before .before .before .if1 .taken) ∙ c .before .before .before .before .before .st-byte .ensures)) in
+    λ v. comes-to bus here refl (c .stop .ensures) (simp (c .before .before .wake .ensures .0))
 
 after-switch-requires : tie.Need-after-switch-requires
 after-switch-requires c κs = search needs
@@ -56,22 +52,11 @@ returns-2 c =
     let the-st-byte = c .before .before .before .before .before .before .before .before .st-byte in
     let the-on-at = c .before .before .before .before .before .before .before .before .before .before .on-at in
     let the-ep-byte = c .before .before .before .before .before .before .before .before .before .before .before .before .ep-byte in
-    λ v. loaded (parts3 (λ (e : ℕ) (on : Bool) (n : ℕ). under.Bus (point.Switch e on n))
-    (the-ep-byte .ensures) (the-on-at .ensures) (the-st-byte .ensures))
-    (bus-goes refl (stood .ensures) (next .ensures .1 .1) (next .ensures .0))
+    let here = at-point bus 23 (c .before .before .before .before .before .before .before .before .before .before .before .before .before .before .before .pre)
+    (parts3 point.Switch (the-ep-byte .ensures) (the-on-at .ensures) (the-st-byte .ensures)) in
+    λ v. goes-to bus here refl (stood .ensures) (next .ensures .1 .1) (next .ensures .0)
 
 pub resume-switch-spec : {M : Type 1} → statement M
 resume-switch-spec =
-    tie.close
-    (tie.spec
-    ep-byte-requires
-    on-at-requires
-    st-byte-requires
-    wake-requires
-    stop-requires
-    returns
-    after-switch-requires
-    sub-stand-switch
-    stand-switch-requires
-    same-length
-    returns-2)
+    tie.close (tie.spec ep-byte-requires on-at-requires st-byte-requires wake-requires stop-requires returns after-switch-requires
+    sub-stand-switch stand-switch-requires same-length returns-2)

@@ -1,11 +1,8 @@
-use Rattle.machine_points.specs.StandsLaws.{loaded, parts3}
-use Rattle.machine_points.specs.BusLaws.{bus-goes}
+use Rattle.machine.specs.StandsLaws.{parts3}
+use Rattle.machine_points.specs.StandsLaws.{at-point, goes-to}
+use Rattle.machine_points.specs.BusLaws.{bus}
 use Rattle.bus.specs.Points.{fitsAt}
 use Rattle.bus.specs.declared.Point.the-variants as point
-use Rattle.machine.specs.declared.Suspended.the-variants as under
-use Rattle.regs.specs.declared.Dir.{Dir}
-use mathlib.Core.Bool.{Bool}
-use Prim.Native.Nat.{ℕ}
 use mathlib.Core.Path.{refl}
 use borrow.Author.Needs.{needs}
 use Rattle.machine_resume_op.proofs.bus_resumes.resume_typed.Statement.{statement}
@@ -29,21 +26,11 @@ stand-woken-requires c κs = search needs
 returns : tie.Need-returns
 unfolding fitsAt
 returns c =
-    let stood = c .stand-woken in
     let next = c .before .before .after-type in
-    let the-dir-at = c .before .before .before .before .before .before .before .before .dir-at in
-    let the-ep-byte = c .before .before .before .before .before .before .ep-byte in
-    let the-on-at = c .before .before .before .before .on-at in
-    λ v b. loaded (parts3 (λ (d : Dir) (e : ℕ) (on : Bool). under.Bus (point.Type d e on)) (the-dir-at .ensures) (the-ep-byte .ensures) (the-on-at .ensures))
-    (bus-goes refl (stood .ensures) (next .ensures .1 .1) (next .ensures .0 b))
+    let here = at-point bus 22 (c .before .before .before .before .before .before .before .before .before .before .pre) (parts3 point.Type
+    (c .before .before .before .before .before .before .before .before .dir-at .ensures)
+    (c .before .before .before .before .before .before .ep-byte .ensures) (c .before .before .before .before .on-at .ensures)) in
+    λ v b. goes-to bus here refl (c .stand-woken .ensures) (next .ensures .1 .1) (next .ensures .0 b)
 
 pub resume-typed-spec : {M : Type 1} → statement M
-resume-typed-spec =
-    tie.close
-    (tie.spec
-    dir-at-requires
-    ep-byte-requires
-    on-at-requires
-    after-type-requires
-    stand-woken-requires
-    returns)
+resume-typed-spec = tie.close (tie.spec dir-at-requires ep-byte-requires on-at-requires after-type-requires stand-woken-requires returns)

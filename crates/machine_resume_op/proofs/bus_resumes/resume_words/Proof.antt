@@ -1,11 +1,8 @@
-use Rattle.machine_points.specs.StandsLaws.{loaded, parts4}
-use Rattle.machine_points.specs.BusLaws.{bus-goes}
+use Rattle.machine.specs.StandsLaws.{parts4}
+use Rattle.machine_points.specs.StandsLaws.{at-point, goes-to}
+use Rattle.machine_points.specs.BusLaws.{bus}
 use Rattle.bus.specs.Points.{fitsAt}
 use Rattle.bus.specs.declared.Point.the-variants as point
-use Rattle.machine.specs.declared.Suspended.the-variants as under
-use Rattle.regs.specs.declared.Dir.{Dir}
-use mathlib.Core.Bool.{Bool}
-use Prim.Native.Nat.{ℕ}
 use mathlib.Core.Path.{refl}
 use borrow.Author.Needs.{needs}
 use Rattle.machine_resume_op.proofs.bus_resumes.resume_words.Statement.{statement}
@@ -32,24 +29,13 @@ stand-typed-requires c κs = search needs
 returns : tie.Need-returns
 unfolding fitsAt
 returns c =
-    let stood = c .stand-typed in
     let next = c .before .before .after-words in
-    let the-dir-at = c .before .before .before .before .before .before .before .before .before .before .dir-at in
-    let the-ep-byte = c .before .before .before .before .before .before .before .before .ep-byte in
-    let the-iso-at = c .before .before .before .before .before .before .iso-at in
-    let the-on-at = c .before .before .before .before .on-at in
-    λ v b. loaded (parts4 (λ (d : Dir) (e : ℕ) (iso : Bool) (on : Bool). under.Bus (point.Words d e iso on)) (the-dir-at .ensures)
-    (the-ep-byte .ensures) (the-iso-at .ensures) (the-on-at .ensures))
-    (bus-goes refl (stood .ensures) (next .ensures .1 .1) (next .ensures .0 b))
+    let here = at-point bus 21 (c .before .before .before .before .before .before .before .before .before .before .before .before .pre) (parts4 point.Words
+    (c .before .before .before .before .before .before .before .before .before .before .dir-at .ensures)
+    (c .before .before .before .before .before .before .before .before .ep-byte .ensures)
+    (c .before .before .before .before .before .before .iso-at .ensures) (c .before .before .before .before .on-at .ensures)) in
+    λ v b. goes-to bus here refl (c .stand-typed .ensures) (next .ensures .1 .1) (next .ensures .0 b)
 
 pub resume-words-spec : {M : Type 1} → statement M
 resume-words-spec =
-    tie.close
-    (tie.spec
-    dir-at-requires
-    ep-byte-requires
-    iso-at-requires
-    on-at-requires
-    after-words-requires
-    stand-typed-requires
-    returns)
+    tie.close (tie.spec dir-at-requires ep-byte-requires iso-at-requires on-at-requires after-words-requires stand-typed-requires returns)

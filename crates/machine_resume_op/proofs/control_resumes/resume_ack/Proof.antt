@@ -1,8 +1,6 @@
-use Rattle.machine_points.specs.StandsLaws.{loaded}
-use Rattle.machine_points.specs.ControlLaws.{control-goes, control-stays, fits-ack}
+use Rattle.machine_points.specs.StandsLaws.{at-point, goes-to, stays-at}
+use Rattle.machine_points.specs.ControlLaws.{control, fits-ack}
 use Rattle.control.specs.declared.Point.the-variants as point
-use Rattle.machine.specs.declared.Suspended.the-variants as under
-use Rattle.regs.specs.declared.Dir.{Dir}
 use mathlib.Core.Path.{refl, ap, sym, _∙_}
 use borrow.Author.Needs.{needs}
 use Rattle.machine_resume_op.proofs.control_resumes.resume_ack.Statement.{statement}
@@ -37,24 +35,14 @@ returns c =
     let the-ctrl-of = c .before .before .ctrl-of in
     let the-ack = c .before .before .before .ack in
     let the-byte = c .before .before .before .before .byte in
-    λ b. loaded (ap (λ (d : Dir). under.Control (point.Ack d)) (the-dir-at .ensures))
-    (control-goes (fits-ack _ _ (sym (the-fits2 .ensures) ∙ the-if1 .taken)) (c .stand-wrote .ensures) refl (simp
-    (the-ctrl-of .ensures, the-ack .ensures, the-byte .ensures)))
+    let here = at-point control 1 (c .before .before .before .before .before .before .before .before .before .pre) (ap point.Ack (the-dir-at .ensures)) in
+    λ b. goes-to control here (fits-ack _ _ (sym (the-fits2 .ensures) ∙ the-if1 .taken)) (c .stand-wrote .ensures) refl (simp
+    (the-ctrl-of .ensures, the-ack .ensures, the-byte .ensures))
 
 returns-2 : tie.Need-returns-2
-returns-2 c =
-    λ b. control-stays (c .before .before .pre) (fits-ack _ _ (sym (c .before .fits2 .ensures) ∙ c .if1 .left))
+returns-2 c = λ b. stays-at control (at-point control 1 (c .before .before .pre) refl) (fits-ack _ _ (sym (c .before .fits2 .ensures) ∙ c .if1 .left))
 
 pub resume-ack-spec : {M : Type 1} → statement M
 resume-ack-spec =
-    tie.close
-    (tie.spec
-    fits-requires
-    dir-at-requires
-    byte-requires
-    ack-requires
-    ctrl-of-requires
-    cast-t10
-    stand-wrote-requires
-    returns
+    tie.close (tie.spec fits-requires dir-at-requires byte-requires ack-requires ctrl-of-requires cast-t10 stand-wrote-requires returns
     returns-2)

@@ -1,10 +1,8 @@
-use Rattle.machine_points.specs.StandsLaws.{loaded, parts2}
-use Rattle.machine_points.specs.ControlLaws.{control-goes}
+use Rattle.machine.specs.StandsLaws.{parts2}
+use Rattle.machine_points.specs.StandsLaws.{at-point, goes-to}
+use Rattle.machine_points.specs.ControlLaws.{control}
 use Rattle.control.specs.Points.{fitsAt}
 use Rattle.control.specs.declared.Point.the-variants as point
-use Rattle.machine.specs.declared.Suspended.the-variants as under
-use mathlib.Core.Bool.{Bool}
-use Prim.Native.Nat.{ℕ}
 use mathlib.Core.Path.{refl}
 use borrow.Author.Needs.{needs}
 use Rattle.machine_resume_op.proofs.control_resumes.resume_closing.Statement.{statement}
@@ -28,19 +26,10 @@ stand-loaded-requires c κs = search needs
 returns : tie.Need-returns
 unfolding fitsAt
 returns c =
-    let the-len-word = c .before .before .before .before .before .before .len-word in
-    let the-on-at = c .before .before .before .before .on-at in
-    let the-set-armed = c .before .before .set-armed in
-    λ v b. loaded (parts2 (λ (n : ℕ) (on : Bool). under.Control (point.Closing n on)) (the-len-word .ensures) (the-on-at .ensures))
-    (control-goes refl (c .stand-loaded .ensures) refl (simp (the-set-armed .ensures .0)))
+    let here = at-point control 7 (c .before .before .before .before .before .before .before .before .pre)
+    (parts2 point.Closing (c .before .before .before .before .before .before .len-word .ensures) (c .before .before .before .before .on-at .ensures))
+    in
+    λ v b. goes-to control here refl (c .stand-loaded .ensures) refl (simp (c .before .before .set-armed .ensures .0))
 
 pub resume-closing-spec : {M : Type 1} → statement M
-resume-closing-spec =
-    tie.close
-    (tie.spec
-    len-word-requires
-    on-at-requires
-    set-armed-requires
-    cast-t11
-    stand-loaded-requires
-    returns)
+resume-closing-spec = tie.close (tie.spec len-word-requires on-at-requires set-armed-requires cast-t11 stand-loaded-requires returns)

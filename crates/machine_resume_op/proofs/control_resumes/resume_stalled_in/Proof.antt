@@ -1,6 +1,6 @@
-use Rattle.machine_points.specs.ControlLaws.{control-goes}
+use Rattle.machine_points.specs.StandsLaws.{at-point, goes-to}
+use Rattle.machine_points.specs.ControlLaws.{control}
 use Rattle.control.specs.Points.{fitsAt}
-use Rattle.control.specs.declared.Point.the-variants as point
 use mathlib.Core.Path.{refl}
 use borrow.Author.Needs.{needs}
 use Rattle.machine_resume_op.proofs.control_resumes.resume_stalled_in.Statement.{statement}
@@ -11,12 +11,7 @@ stand-stall-out-requires c κs = search needs
 
 returns : tie.Need-returns
 unfolding fitsAt
-returns c =
-    λ v b. control-goes {p = point.StalledIn} refl (c .stand-stall-out .ensures) refl refl
+returns c = λ v b. goes-to control (at-point control 5 (c .before .before .pre) refl) refl (c .stand-stall-out .ensures) refl refl
 
 pub resume-stalled-in-spec : {M : Type 1} → statement M
-resume-stalled-in-spec =
-    tie.close
-    (tie.spec
-    stand-stall-out-requires
-    returns)
+resume-stalled-in-spec = tie.close (tie.spec stand-stall-out-requires returns)

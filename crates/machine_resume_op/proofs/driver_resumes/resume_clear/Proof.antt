@@ -1,10 +1,10 @@
-use Rattle.machine_points.specs.StandsLaws.{loaded}
-use Rattle.machine_points.specs.DriverLaws.{driver-goes}
+use Rattle.machine_points.specs.StandsLaws.{goes-to}
+use Rattle.machine_points.specs.DriverLaws.{driver}
 use Rattle.driver.specs.Points.{fitsAt}
 use Rattle.driver.specs.declared.Point.the-variants as point
 use Rattle.machine.specs.declared.Suspended.the-variants as under
 use mathlib.Core.Bool.{Bool}
-use mathlib.Core.Path.{refl, ap}
+use mathlib.Core.Path.{_∙_, refl, ap, sym}
 use borrow.Author.Needs.{needs}
 use Rattle.machine_resume_op.proofs.driver_resumes.resume_clear.Statement.{statement}
 use Rattle.machine_resume_op.proofs.driver_resumes.resume_clear.Tie as tie
@@ -18,13 +18,8 @@ stand-wait-requires c κs = search needs
 returns : tie.Need-returns
 unfolding fitsAt
 returns c =
-    λ v b. loaded (ap (λ (on : Bool). under.Driver (point.Clear on)) (c .before .before .on-at .ensures))
-    (driver-goes refl (c .stand-wait .ensures) refl refl)
+    λ v b. goes-to driver (c .before .before .before .before .pre ∙ ap (λ (on : Bool). under.Driver (point.Clear on)) (sym (c .before .before .on-at .ensures)))
+    refl (c .stand-wait .ensures) refl refl
 
 pub resume-clear-spec : {M : Type 1} → statement M
-resume-clear-spec =
-    tie.close
-    (tie.spec
-    on-at-requires
-    stand-wait-requires
-    returns)
+resume-clear-spec = tie.close (tie.spec on-at-requires stand-wait-requires returns)

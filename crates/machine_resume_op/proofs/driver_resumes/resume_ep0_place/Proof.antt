@@ -1,9 +1,7 @@
-use Rattle.machine_points.specs.StandsLaws.{loaded}
-use Rattle.machine_points.specs.DriverLaws.{driver-goes}
+use Rattle.machine_points.specs.StandsLaws.{at-point, goes-to}
+use Rattle.machine_points.specs.DriverLaws.{driver}
 use Rattle.driver.specs.Points.{fitsAt}
 use Rattle.driver.specs.declared.Point.the-variants as point
-use Rattle.machine.specs.declared.Suspended.the-variants as under
-use Prim.Native.Nat.{ℕ}
 use mathlib.Core.Path.{refl, ap}
 use borrow.Author.Needs.{needs}
 use Rattle.machine_resume_op.proofs.driver_resumes.resume_ep0_place.Statement.{statement}
@@ -18,13 +16,8 @@ stand-ep0-max-len-requires c κs = search needs
 returns : tie.Need-returns
 unfolding fitsAt
 returns c =
-    λ v b. loaded (ap (λ (m : ℕ). under.Driver (point.Ep0Place m)) (c .before .before .value-word .ensures))
-    (driver-goes refl (c .stand-ep0-max-len .ensures) refl refl)
+    λ v b. goes-to driver (at-point driver 9 (c .before .before .before .before .pre) (ap point.Ep0Place (c .before .before .value-word .ensures))) refl
+    (c .stand-ep0-max-len .ensures) refl refl
 
 pub resume-ep0-place-spec : {M : Type 1} → statement M
-resume-ep0-place-spec =
-    tie.close
-    (tie.spec
-    value-word-requires
-    stand-ep0-max-len-requires
-    returns)
+resume-ep0-place-spec = tie.close (tie.spec value-word-requires stand-ep0-max-len-requires returns)

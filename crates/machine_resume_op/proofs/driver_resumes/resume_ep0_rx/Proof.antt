@@ -1,6 +1,6 @@
-use Rattle.machine_points.specs.DriverLaws.{driver-goes}
+use Rattle.machine_points.specs.StandsLaws.{at-point, goes-to}
+use Rattle.machine_points.specs.DriverLaws.{driver}
 use Rattle.driver.specs.Points.{fitsAt}
-use Rattle.driver.specs.declared.Point.the-variants as point
 use mathlib.Core.Path.{refl}
 use borrow.Author.Needs.{needs}
 use Rattle.machine_resume_op.proofs.driver_resumes.resume_ep0_rx.Statement.{statement}
@@ -15,12 +15,8 @@ stand-ep0-tx-requires c κs = search needs
 returns : tie.Need-returns
 unfolding fitsAt
 returns c =
-    λ v b. driver-goes {p = point.Ep0Rx} refl (c .stand-ep0-tx .ensures) refl (simp (c .before .before .ep0-word .ensures))
+    let here = at-point driver 11 (c .before .before .before .pre) refl in
+    λ v b. goes-to driver here refl (c .stand-ep0-tx .ensures) refl (simp (c .before .before .ep0-word .ensures))
 
 pub resume-ep0-rx-spec : {M : Type 1} → statement M
-resume-ep0-rx-spec =
-    tie.close
-    (tie.spec
-    ep0-word-requires
-    stand-ep0-tx-requires
-    returns)
+resume-ep0-rx-spec = tie.close (tie.spec ep0-word-requires stand-ep0-tx-requires returns)

@@ -1,6 +1,6 @@
-use Rattle.machine_points.specs.DriverLaws.{driver-goes}
+use Rattle.machine_points.specs.StandsLaws.{at-point, goes-to}
+use Rattle.machine_points.specs.DriverLaws.{driver}
 use Rattle.driver.specs.Points.{fitsAt}
-use Rattle.driver.specs.declared.Point.the-variants as point
 use mathlib.Core.Path.{refl}
 use borrow.Author.Needs.{needs}
 use Rattle.machine_resume_op.proofs.driver_resumes.resume_ep0_tx.Statement.{statement}
@@ -11,12 +11,7 @@ stand-ep0-packet-requires c κs = search needs
 
 returns : tie.Need-returns
 unfolding fitsAt
-returns c =
-    λ v b. driver-goes {p = point.Ep0Tx} refl (c .stand-ep0-packet .ensures) refl refl
+returns c = λ v b. goes-to driver (at-point driver 12 (c .before .before .pre) refl) refl (c .stand-ep0-packet .ensures) refl refl
 
 pub resume-ep0-tx-spec : {M : Type 1} → statement M
-resume-ep0-tx-spec =
-    tie.close
-    (tie.spec
-    stand-ep0-packet-requires
-    returns)
+resume-ep0-tx-spec = tie.close (tie.spec stand-ep0-packet-requires returns)

@@ -1,10 +1,8 @@
-use Rattle.machine_points.specs.StandsLaws.{loaded, parts5}
-use Rattle.machine_points.specs.DriverLaws.{driver-follows}
+use Rattle.machine.specs.StandsLaws.{parts5}
+use Rattle.machine_points.specs.StandsLaws.{at-point, follows}
+use Rattle.machine_points.specs.DriverLaws.{driver}
 use Rattle.driver.specs.Points.{fitsAt}
 use Rattle.driver.specs.declared.Point.the-variants as point
-use Rattle.machine.specs.declared.Suspended.the-variants as under
-use Rattle.regs.specs.declared.Dir.{Dir}
-use Prim.Native.Nat.{ℕ}
 use mathlib.Core.Path.{refl}
 use borrow.Author.Needs.{needs}
 use Rattle.machine_resume_op.proofs.driver_resumes.resume_list_max_len.Statement.{statement}
@@ -35,25 +33,14 @@ returns : tie.Need-returns
 unfolding fitsAt
 returns c =
     let ended = c .suspend-or-end-driver in
-    let next = c .before .before .after-max-len in
-    let the-late-byte = c .before .before .before .before .late-byte in
-    let the-busy-byte = c .before .before .before .before .before .before .busy-byte in
-    let the-ep-byte = c .before .before .before .before .before .before .before .before .ep-byte in
-    let the-st-byte = c .before .before .before .before .before .before .before .before .before .before .st-byte in
-    let the-dir-at = c .before .before .before .before .before .before .before .before .before .before .before .before .flag-dir-at in
-    λ v b. loaded (parts5 (λ (d : Dir) (n : ℕ) (e : ℕ) (l : ℕ) (t : ℕ). under.Driver (point.ListMaxLen d n e l t))
-    (the-dir-at .ensures) (the-st-byte .ensures) (the-ep-byte .ensures) (the-busy-byte .ensures) (the-late-byte .ensures))
-    (driver-follows refl (next .ensures .0 b) (ended .ensures .0 b) (ended .ensures .1))
+    let here = at-point driver 15 (c .before .before .before .before .before .before .before .before .before .before .before .before .before .before .pre)
+    (parts5 point.ListMaxLen (c .before .before .before .before .before .before .before .before .before .before .before .before .flag-dir-at .ensures)
+    (c .before .before .before .before .before .before .before .before .before .before .st-byte .ensures)
+    (c .before .before .before .before .before .before .before .before .ep-byte .ensures)
+    (c .before .before .before .before .before .before .busy-byte .ensures) (c .before .before .before .before .late-byte .ensures)) in
+    λ v b. follows driver here refl (c .before .before .after-max-len .ensures .0 b) (ended .ensures .0 b) (ended .ensures .1)
 
 pub resume-list-max-len-spec : {M : Type 1} → statement M
 resume-list-max-len-spec =
-    tie.close
-    (tie.spec
-    flag-dir-at-requires
-    st-byte-requires
-    ep-byte-requires
-    busy-byte-requires
-    late-byte-requires
-    after-max-len-requires
-    suspend-or-end-driver-requires
-    returns)
+    tie.close (tie.spec flag-dir-at-requires st-byte-requires ep-byte-requires busy-byte-requires late-byte-requires after-max-len-requires
+    suspend-or-end-driver-requires returns)

@@ -1,10 +1,8 @@
-use Rattle.machine_points.specs.StandsLaws.{loaded, parts4}
-use Rattle.machine_points.specs.DriverLaws.{driver-follows}
+use Rattle.machine.specs.StandsLaws.{parts4}
+use Rattle.machine_points.specs.StandsLaws.{at-point, follows}
+use Rattle.machine_points.specs.DriverLaws.{driver}
 use Rattle.driver.specs.Points.{fitsAt}
 use Rattle.driver.specs.declared.Point.the-variants as point
-use Rattle.machine.specs.declared.Suspended.the-variants as under
-use Rattle.regs.specs.declared.Dir.{Dir}
-use Prim.Native.Nat.{ℕ}
 use mathlib.Core.Path.{refl}
 use borrow.Author.Needs.{needs}
 use Rattle.machine_resume_op.proofs.driver_resumes.resume_list_place.Statement.{statement}
@@ -37,18 +35,11 @@ returns c =
     let the-busy-byte = c .before .before .before .before .before .before .busy-byte in
     let the-ep-byte = c .before .before .before .before .before .before .before .before .ep-byte in
     let the-dir-at = c .before .before .before .before .before .before .before .before .before .before .flag-dir-at in
-    λ v b. loaded (parts4 (λ (d : Dir) (e : ℕ) (l : ℕ) (t : ℕ). under.Driver (point.ListPlace d e l t))
-    (the-dir-at .ensures) (the-ep-byte .ensures) (the-busy-byte .ensures) (the-late-byte .ensures))
-    (driver-follows refl (next .ensures .0 b) (ended .ensures .0 b) (ended .ensures .1))
+    let here = at-point driver 16 (c .before .before .before .before .before .before .before .before .before .before .before .before .pre)
+    (parts4 point.ListPlace (the-dir-at .ensures) (the-ep-byte .ensures) (the-busy-byte .ensures) (the-late-byte .ensures)) in
+    λ v b. follows driver here refl (next .ensures .0 b) (ended .ensures .0 b) (ended .ensures .1)
 
 pub resume-list-place-spec : {M : Type 1} → statement M
 resume-list-place-spec =
-    tie.close
-    (tie.spec
-    flag-dir-at-requires
-    ep-byte-requires
-    busy-byte-requires
-    late-byte-requires
-    after-requires
-    suspend-or-end-driver-requires
-    returns)
+    tie.close (tie.spec flag-dir-at-requires ep-byte-requires busy-byte-requires late-byte-requires after-requires
+    suspend-or-end-driver-requires returns)

@@ -1,10 +1,8 @@
-use Rattle.machine_points.specs.StandsLaws.{loaded, parts3}
-use Rattle.machine_points.specs.DriverLaws.{driver-goes, driver-ends}
+use Rattle.machine.specs.StandsLaws.{parts3}
+use Rattle.machine_points.specs.StandsLaws.{at-point, goes-to, comes-to}
+use Rattle.machine_points.specs.DriverLaws.{driver}
 use Rattle.driver.specs.Points.{fitsAt}
 use Rattle.driver.specs.declared.Point.the-variants as point
-use Rattle.machine.specs.declared.Suspended.the-variants as under
-use Rattle.regs.specs.declared.Dir.{Dir}
-use Prim.Native.Nat.{ℕ}
 use mathlib.Core.Path.{refl}
 use borrow.Author.Tests.{eq-eqb, ne-eqb}
 use borrow.Author.Needs.{needs}
@@ -26,11 +24,9 @@ stop-requires c κs = search needs
 returns : tie.Need-returns
 unfolding fitsAt
 returns c =
-    let the-if1 = c .before .before .if1 in
-    let the-st-byte = c .before .before .before .st-byte in
-    let the-ep-byte = c .before .before .before .before .before .ep-byte in
-    λ v b. loaded (parts3 (λ (d : Dir) (n : ℕ) (e : ℕ). under.Driver (point.MaxLen d n e)) refl (the-st-byte .ensures) (the-ep-byte .ensures))
-    (driver-ends refl (c .stop .ensures) (simp (eq-eqb _ _ (the-if1 .taken))))
+    let here = at-point driver 7 (c .before .before .before .before .before .before .before .pre)
+    (parts3 point.MaxLen refl (c .before .before .before .st-byte .ensures) (c .before .before .before .before .before .ep-byte .ensures)) in
+    λ v b. comes-to driver here refl (c .stop .ensures) (simp (eq-eqb _ _ (c .before .before .if1 .taken)))
 
 flag-dir-at-requires : tie.Need-flag-dir-at-requires
 flag-dir-at-requires c κs = search needs
@@ -58,10 +54,10 @@ returns-2 c =
     let the-if1 = c .before .before .before .before .before .before .before .before .if1 in
     let the-st-byte = c .before .before .before .before .before .before .before .before .before .st-byte in
     let the-ep-byte = c .before .before .before .before .before .before .before .before .before .before .before .ep-byte in
-    λ v b. loaded (parts3 (λ (d : Dir) (n : ℕ) (e : ℕ). under.Driver (point.MaxLen d n e))
-    (the-flag-dir-at .ensures) (the-st-byte .ensures) (the-ep-byte .ensures))
-    (driver-goes refl (c .stand-place .ensures) refl
-    (simp (the-place .ensures .0, the-place .ensures .1 .0, ne-eqb _ _ (the-if1 .left), c .before .before .enum-told .given .1)))
+    let here = at-point driver 7 (c .before .before .before .before .before .before .before .before .before .before .before .before .before .pre)
+    (parts3 point.MaxLen (the-flag-dir-at .ensures) (the-st-byte .ensures) (the-ep-byte .ensures)) in
+    λ v b. goes-to driver here refl (c .stand-place .ensures) refl
+    (simp (the-place .ensures .0, the-place .ensures .1 .0, ne-eqb _ _ (the-if1 .left), c .before .before .enum-told .given .1))
 
 returns-3 : tie.Need-returns-3
 unfolding fitsAt
@@ -71,25 +67,12 @@ returns-3 c =
     let the-if1 = c .before .before .before .before .before .before .before .before .if1 in
     let the-st-byte = c .before .before .before .before .before .before .before .before .before .st-byte in
     let the-ep-byte = c .before .before .before .before .before .before .before .before .before .before .before .ep-byte in
-    λ v b. loaded (parts3 (λ (d : Dir) (n : ℕ) (e : ℕ). under.Driver (point.MaxLen d n e))
-    (the-flag-dir-at .ensures) (the-st-byte .ensures) (the-ep-byte .ensures))
-    (driver-goes refl (c .stand-place2 .ensures) refl
-    (simp (the-place .ensures .0, the-place .ensures .1 .0, ne-eqb _ _ (the-if1 .left), c .before .before .enum-told2 .given .1)))
+    let here = at-point driver 7 (c .before .before .before .before .before .before .before .before .before .before .before .before .before .pre)
+    (parts3 point.MaxLen (the-flag-dir-at .ensures) (the-st-byte .ensures) (the-ep-byte .ensures)) in
+    λ v b. goes-to driver here refl (c .stand-place2 .ensures) refl
+    (simp (the-place .ensures .0, the-place .ensures .1 .0, ne-eqb _ _ (the-if1 .left), c .before .before .enum-told2 .given .1))
 
 pub resume-max-len-spec : {M : Type 1} → statement M
 resume-max-len-spec =
-    tie.close
-    (tie.spec
-    ep-byte-requires
-    st-byte-requires
-    cast-stop
-    stop-requires
-    returns
-    flag-dir-at-requires
-    place-requires
-    enum-told
-    stand-place-requires
-    enum-told-2
-    stand-place-requires-2
-    returns-2
-    returns-3)
+    tie.close (tie.spec ep-byte-requires st-byte-requires cast-stop stop-requires returns flag-dir-at-requires place-requires enum-told
+    stand-place-requires enum-told-2 stand-place-requires-2 returns-2 returns-3)

@@ -1,9 +1,7 @@
-use Rattle.machine_points.specs.StandsLaws.{loaded}
-use Rattle.machine_points.specs.DriverLaws.{driver-ends}
+use Rattle.machine_points.specs.StandsLaws.{at-point, comes-to}
+use Rattle.machine_points.specs.DriverLaws.{driver}
 use Rattle.driver.specs.Points.{fitsAt}
 use Rattle.driver.specs.declared.Point.the-variants as point
-use Rattle.machine.specs.declared.Suspended.the-variants as under
-use Prim.Native.Nat.{ℕ}
 use mathlib.Core.Path.{refl, ap}
 use borrow.Author.Needs.{needs}
 use Rattle.machine_resume_op.proofs.driver_resumes.resume_place.Statement.{statement}
@@ -21,14 +19,8 @@ stop-requires c κs = search needs
 returns : tie.Need-returns
 unfolding fitsAt
 returns c =
-    λ v b. loaded (ap (λ (e : ℕ). under.Driver (point.Place e)) (c .before .before .ep-byte .ensures))
-    (driver-ends refl (c .stop .ensures) refl)
+    λ v b. comes-to driver (at-point driver 8 (c .before .before .before .before .pre) (ap point.Place (c .before .before .ep-byte .ensures))) refl
+    (c .stop .ensures) refl
 
 pub resume-place-spec : {M : Type 1} → statement M
-resume-place-spec =
-    tie.close
-    (tie.spec
-    ep-byte-requires
-    cast-stop
-    stop-requires
-    returns)
+resume-place-spec = tie.close (tie.spec ep-byte-requires cast-stop stop-requires returns)

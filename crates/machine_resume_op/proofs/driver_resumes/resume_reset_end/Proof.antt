@@ -1,9 +1,7 @@
-use Rattle.machine_points.specs.StandsLaws.{loaded}
-use Rattle.machine_points.specs.DriverLaws.{driver-goes}
+use Rattle.machine_points.specs.StandsLaws.{at-point, goes-to}
+use Rattle.machine_points.specs.DriverLaws.{driver}
 use Rattle.driver.specs.Points.{fitsAt}
 use Rattle.driver.specs.declared.Point.the-variants as point
-use Rattle.machine.specs.declared.Suspended.the-variants as under
-use mathlib.Core.Bool.{Bool}
 use mathlib.Core.Path.{refl, ap}
 use borrow.Author.Needs.{needs}
 use Rattle.machine_resume_op.proofs.driver_resumes.resume_reset_end.Statement.{statement}
@@ -21,14 +19,8 @@ stand-host-requires c κs = search needs
 returns : tie.Need-returns
 unfolding fitsAt
 returns c =
-    λ v b. loaded (ap (λ (on : Bool). under.Driver (point.ResetEnd on)) (c .before .before .before .on-at .ensures))
-    (driver-goes refl (c .stand-host .ensures) refl (simp (c .before .before .phy-suspendm .ensures)))
+    λ v b. goes-to driver (at-point driver 3 (c .before .before .before .before .before .pre) (ap point.ResetEnd (c .before .before .before .on-at .ensures)))
+    refl (c .stand-host .ensures) refl (simp (c .before .before .phy-suspendm .ensures))
 
 pub resume-reset-end-spec : {M : Type 1} → statement M
-resume-reset-end-spec =
-    tie.close
-    (tie.spec
-    on-at-requires
-    phy-suspendm-requires
-    stand-host-requires
-    returns)
+resume-reset-end-spec = tie.close (tie.spec on-at-requires phy-suspendm-requires stand-host-requires returns)

@@ -1,9 +1,7 @@
-use Rattle.machine_points.specs.StandsLaws.{loaded}
-use Rattle.machine_points.specs.DriverLaws.{driver-goes}
+use Rattle.machine_points.specs.StandsLaws.{at-point, goes-to}
+use Rattle.machine_points.specs.DriverLaws.{driver}
 use Rattle.driver.specs.Points.{fitsAt}
 use Rattle.driver.specs.declared.Point.the-variants as point
-use Rattle.machine.specs.declared.Suspended.the-variants as under
-use mathlib.Core.Bool.{Bool}
 use mathlib.Core.Path.{refl, ap}
 use borrow.Author.Needs.{needs}
 use Rattle.machine_resume_op.proofs.driver_resumes.resume_run.Statement.{statement}
@@ -27,19 +25,9 @@ stand-int-en-requires c κs = search needs
 returns : tie.Need-returns
 unfolding fitsAt
 returns c =
-    let the-on-at = c .before .before .before .before .before .on-at in
-    let the-set-int-en = c .before .before .set-int-en in
-    let the-at-start = c .before .before .before .before .at-start in
-    λ v b. loaded (ap (λ (on : Bool). under.Driver (point.Run on)) (the-on-at .ensures))
-    (driver-goes refl (c .stand-int-en .ensures) refl (simp (the-set-int-en .ensures .0, the-at-start .ensures)))
+    λ v b. goes-to driver (at-point driver 5 (c .before .before .before .before .before .before .before .pre)
+    (ap point.Run (c .before .before .before .before .before .on-at .ensures))) refl (c .stand-int-en .ensures) refl
+    (simp (c .before .before .set-int-en .ensures .0, c .before .before .before .before .at-start .ensures))
 
 pub resume-run-spec : {M : Type 1} → statement M
-resume-run-spec =
-    tie.close
-    (tie.spec
-    on-at-requires
-    at-start-requires
-    set-int-en-requires
-    cast-t9
-    stand-int-en-requires
-    returns)
+resume-run-spec = tie.close (tie.spec on-at-requires at-start-requires set-int-en-requires cast-t9 stand-int-en-requires returns)

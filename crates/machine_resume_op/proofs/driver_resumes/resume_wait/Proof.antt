@@ -1,9 +1,7 @@
-use Rattle.machine_points.specs.StandsLaws.{loaded}
-use Rattle.machine_points.specs.DriverLaws.{driver-goes}
+use Rattle.machine_points.specs.StandsLaws.{at-point, goes-to}
+use Rattle.machine_points.specs.DriverLaws.{driver}
 use Rattle.driver.specs.Points.{fitsAt}
 use Rattle.driver.specs.declared.Point.the-variants as point
-use Rattle.machine.specs.declared.Suspended.the-variants as under
-use mathlib.Core.Bool.{Bool}
 use mathlib.Core.Path.{refl, ap}
 use borrow.Author.Needs.{needs}
 use Rattle.machine_resume_op.proofs.driver_resumes.resume_wait.Statement.{statement}
@@ -18,13 +16,8 @@ stand-reset-requires c κs = search needs
 returns : tie.Need-returns
 unfolding fitsAt
 returns c =
-    λ v b. loaded (ap (λ (on : Bool). under.Driver (point.Wait on)) (c .before .before .on-at .ensures))
-    (driver-goes refl (c .stand-reset .ensures) refl refl)
+    λ v b. goes-to driver (at-point driver 1 (c .before .before .before .before .pre) (ap point.Wait (c .before .before .on-at .ensures))) refl
+    (c .stand-reset .ensures) refl refl
 
 pub resume-wait-spec : {M : Type 1} → statement M
-resume-wait-spec =
-    tie.close
-    (tie.spec
-    on-at-requires
-    stand-reset-requires
-    returns)
+resume-wait-spec = tie.close (tie.spec on-at-requires stand-reset-requires returns)

@@ -1,9 +1,7 @@
-use Rattle.machine_points.specs.StandsLaws.{loaded, parts2}
-use Rattle.machine_points.specs.EndpointLaws.{endpoint-goes, endpoint-stays, fits-ack}
+use Rattle.machine.specs.StandsLaws.{parts2}
+use Rattle.machine_points.specs.StandsLaws.{at-point, goes-to, stays-at}
+use Rattle.machine_points.specs.EndpointLaws.{endpoint, fits-ack}
 use Rattle.endpoint.specs.declared.Point.the-variants as point
-use Rattle.machine.specs.declared.Suspended.the-variants as under
-use Rattle.regs.specs.declared.Dir.{Dir}
-use Prim.Native.Nat.{ℕ}
 use mathlib.Core.Path.{refl, sym, _∙_}
 use borrow.Author.Needs.{needs}
 use Rattle.machine_resume_op.proofs.endpoint_resumes.resume_ack.Statement.{statement}
@@ -42,25 +40,15 @@ returns c =
     let the-ctrl-of = c .before .before .ctrl-of in
     let the-ack = c .before .before .before .ack in
     let the-byte = c .before .before .before .before .byte in
-    λ b. loaded (parts2 (λ (d : Dir) (e : ℕ). under.Endpoint (point.Ack d e)) (the-dir-at .ensures) (the-ep-byte .ensures))
-    (endpoint-goes (fits-ack _ _ _ (sym (the-fits2 .ensures) ∙ the-if1 .taken)) (c .stand-wrote .ensures) refl (simp
-    (the-ctrl-of .ensures, the-ack .ensures, the-byte .ensures)))
+    let here = at-point endpoint 1 (c .before .before .before .before .before .before .before .before .before .before .before .pre)
+    (parts2 point.Ack (the-dir-at .ensures) (the-ep-byte .ensures)) in
+    λ b. goes-to endpoint here (fits-ack _ _ _ (sym (the-fits2 .ensures) ∙ the-if1 .taken)) (c .stand-wrote .ensures) refl (simp
+    (the-ctrl-of .ensures, the-ack .ensures, the-byte .ensures))
 
 returns-2 : tie.Need-returns-2
-returns-2 c =
-    λ b. endpoint-stays (c .before .before .pre) (fits-ack _ _ _ (sym (c .before .fits2 .ensures) ∙ c .if1 .left))
+returns-2 c = λ b. stays-at endpoint (at-point endpoint 1 (c .before .before .pre) refl) (fits-ack _ _ _ (sym (c .before .fits2 .ensures) ∙ c .if1 .left))
 
 pub resume-ack-spec : {M : Type 1} → statement M
 resume-ack-spec =
-    tie.close
-    (tie.spec
-    fits-requires
-    dir-at-requires
-    ep-byte-requires
-    byte-requires
-    ack-requires
-    ctrl-of-requires
-    cast-t12
-    stand-wrote-requires
-    returns
-    returns-2)
+    tie.close (tie.spec fits-requires dir-at-requires ep-byte-requires byte-requires ack-requires ctrl-of-requires cast-t12
+    stand-wrote-requires returns returns-2)

@@ -1,9 +1,7 @@
-use Rattle.machine_points.specs.StandsLaws.{loaded}
-use Rattle.machine_points.specs.EndpointLaws.{endpoint-goes}
+use Rattle.machine_points.specs.StandsLaws.{at-point, goes-to}
+use Rattle.machine_points.specs.EndpointLaws.{endpoint}
 use Rattle.endpoint.specs.Points.{fitsAt}
 use Rattle.endpoint.specs.declared.Point.the-variants as point
-use Rattle.machine.specs.declared.Suspended.the-variants as under
-use Prim.Native.Nat.{ℕ}
 use mathlib.Core.Path.{refl, ap}
 use borrow.Author.Needs.{needs}
 use Rattle.machine_resume_op.proofs.endpoint_resumes.resume_loaded.Statement.{statement}
@@ -18,13 +16,8 @@ stand-ack-in-requires c κs = search needs
 returns : tie.Need-returns
 unfolding fitsAt
 returns c =
-    λ v b. loaded (ap (λ (e : ℕ). under.Endpoint (point.Loaded e)) (c .before .before .ep-byte .ensures))
-    (endpoint-goes refl (c .stand-ack-in .ensures) refl refl)
+    λ v b. goes-to endpoint (at-point endpoint 2 (c .before .before .before .before .pre) (ap point.Loaded (c .before .before .ep-byte .ensures))) refl
+    (c .stand-ack-in .ensures) refl refl
 
 pub resume-loaded-spec : {M : Type 1} → statement M
-resume-loaded-spec =
-    tie.close
-    (tie.spec
-    ep-byte-requires
-    stand-ack-in-requires
-    returns)
+resume-loaded-spec = tie.close (tie.spec ep-byte-requires stand-ack-in-requires returns)

@@ -20,7 +20,7 @@ unfolding decode listed
 returns c =
     let saves = c .before .before .store-saved .ensures in
     let empties = c .before .before .before .nothing .ensures in
-    (λ b. simp (c .how-many .ensures .0, front-take, saves .0, saves .1, empties), λ xs. saves .1 ∙ empties)
+    record { there = λ b. simp (c .how-many .ensures .0, front-take, saves .0, saves .1, empties); stored = λ xs. saves .1 ∙ empties }
 
 pub ends-spec : {M : Type 1} → statement M
 ends-spec = tie.close (tie.spec nothing-requires store-saved-requires how-many-requires returns)

@@ -1,3 +1,4 @@
+use Rattle.machine.specs.StandsLaws.{suspends}
 use Rattle.machine.specs.Fits.{linked}
 use mathlib.Core.Path.{_∙_}
 use borrow.Author.Needs.{needs}
@@ -18,21 +19,11 @@ ends-requires c κs = search needs
 
 returns : tie.Need-returns
 returns c =
-    let known = c .before .before .before .n .given .1 in (
-      λ b. c .suspends .ensures .0 b ∙ simp (known, linked _ _ _ known (c .before .before .before .before .before .pre)),
-      c .suspends .ensures .1,
-    )
+    let known = c .before .before .before .n .given .1 in
+    suspends (c .suspends .ensures) (λ b. simp (known, linked _ _ _ known (c .before .before .before .before .before .pre)))
 
 returns-2 : tie.Need-returns-2
-returns-2 c = (λ b. simp (c .ends .ensures .0, c .before .before .before .n2 .given .1), c .ends .ensures .1)
+returns-2 c = (λ b. c .ends .ensures .there b ∙ simp (c .before .before .before .n2 .given .1), c .ends .ensures .stored)
 
 pub suspend-or-end-driver-spec : {M : Type 1} → statement M
-suspend-or-end-driver-spec =
-    tie.close
-    (tie.spec
-    enum-known-n
-    suspends-requires
-    enum-known-n-2
-    ends-requires
-    returns
-    returns-2)
+suspend-or-end-driver-spec = tie.close (tie.spec enum-known-n suspends-requires enum-known-n-2 ends-requires returns returns-2)
