@@ -1,1 +1,2 @@
 pub mod SofLaws
+pub mod StopsLaws

@@ -1,4 +1,4 @@
-use Rattle.irq_points.specs.StandsLaws.{stops-at, stored-at, then-on}
+use Rattle.irq_check.specs.StopsLaws.{stands-at, goes-on}
 use Rattle.irq.specs.Laws.{check-asks, check-ends, check-linked}
 use Rattle.irq.specs.Continuations.{afterCheck}
 use Rattle.model_ops.specs.Concrete.{concrete}
@@ -21,24 +21,17 @@ ep0-moved-on-requires c κs = search needs
 
 returns : tie.Need-returns
 returns c =
-    let the-stand-check = c .stand-check in
     let the-n = c .before .before .before .n in
-    let a = c .before .before .before .before .before .before .args in (
-      stops-at (the-stand-check .ensures)
-          (check-linked _ _ _ (the-n .given .1) ((c .before .before .before .before .before .before .pre))) _
-          (check-asks (a .setup) (λ _ u. run concrete (afterCheck (a .x)) u) _ _ _ (a .x) (a .iso) _ _ (the-n .given .1)),
-      stored-at (the-stand-check .ensures),
-    )
+    let a = c .before .before .before .before .before .before .args in
+    stands-at (c .stand-check .ensures) (check-linked _ _ _ (the-n .given .1) (c .before .before .before .before .before .before .pre))
+    (check-asks (a .setup) (λ _ u. run concrete (afterCheck (a .x)) u) _ _ _ (a .x) (a .iso) _ _ (the-n .given .1))
 
 returns-2 : tie.Need-returns-2
 returns-2 c =
     let the-after-check = c .ep0-moved-on in
     let a = c .before .before .before .before .before .args in
-    let the-enum-told = c .before .before .enum-told in (
-      then-on (the-after-check .ensures .0 _)
-          (check-ends (a .setup) (λ _ u. run concrete (afterCheck (a .x)) u) _ _ (a .x) (a .iso) _ (the-enum-told .given .1)),
-      the-after-check .ensures .1,
-    )
+    goes-on (the-after-check .ensures .0 _, the-after-check .ensures .1)
+    (check-ends (a .setup) (λ _ u. run concrete (afterCheck (a .x)) u) _ _ (a .x) (a .iso) _ (c .before .before .enum-told .given .1))
 
 pub checked-spec : {M : Type 1} → statement M
 checked-spec =

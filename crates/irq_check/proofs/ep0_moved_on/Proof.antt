@@ -1,4 +1,4 @@
-use Rattle.irq_points.specs.StandsLaws.{then-on}
+use Rattle.irq_check.specs.StopsLaws.{goes-in}
 use Rattle.irq.specs.Continuations.{afterCheck}
 use borrow.Author.Tests.{eq-eqb, ne-eqb}
 use borrow.Author.Needs.{needs}
@@ -41,62 +41,51 @@ after-transfer-requires-3 c κs = search needs
 returns : tie.Need-returns
 unfolding afterCheck
 returns c =
-    let the-moved-on = c .moved-on in
-    let the-endpoint = c .before .before .before .before .before .before .endpoint in
-    let the-if1 = c .before .before .before .before .before .if1 in
-    let the-token = c .before .before .before .before .token in
-    let the-enum-told = c .before .before .enum-told in (
-      λ b. then-on (the-moved-on .ensures .0 b)
-          (simp (← the-endpoint .ensures, eq-eqb _ _ (the-if1 .taken), ← the-token .ensures, the-enum-told .given .1)),
-      the-moved-on .ensures .1,
-    )
+    goes-in (c .moved-on .ensures)
+    (λ b. simp (
+      ← c .before .before .before .before .before .before .endpoint .ensures,
+      eq-eqb _ _ (c .before .before .before .before .before .if1 .taken),
+      ← c .before .before .before .before .token .ensures,
+      c .before .before .enum-told .given .1,
+    ))
 
 returns-2 : tie.Need-returns-2
 unfolding afterCheck
 returns-2 c =
-    let the-moved-on2 = c .moved-on2 in
-    let the-endpoint = c .before .before .before .before .before .before .endpoint in
-    let the-if1 = c .before .before .before .before .before .if1 in
-    let the-token = c .before .before .before .before .token in
-    let the-enum-told2 = c .before .before .enum-told2 in (
-      λ b. then-on (the-moved-on2 .ensures .0 b)
-          (simp (← the-endpoint .ensures, eq-eqb _ _ (the-if1 .taken), ← the-token .ensures, the-enum-told2 .given .1)),
-      the-moved-on2 .ensures .1,
-    )
+    goes-in (c .moved-on2 .ensures)
+    (λ b. simp (
+      ← c .before .before .before .before .before .before .endpoint .ensures,
+      eq-eqb _ _ (c .before .before .before .before .before .if1 .taken),
+      ← c .before .before .before .before .token .ensures,
+      c .before .before .enum-told2 .given .1,
+    ))
 
 returns-3 : tie.Need-returns-3
 unfolding afterCheck
 returns-3 c =
-    let the-after-transfer = c .after-transfer in
-    let the-endpoint = c .before .before .before .before .before .before .endpoint in
-    let the-if1 = c .before .before .before .before .before .if1 in
-    let the-token = c .before .before .before .before .token in
-    let the-enum-told3 = c .before .before .enum-told3 in (
-      λ b. then-on (the-after-transfer .ensures .0 b)
-          (simp (← the-endpoint .ensures, eq-eqb _ _ (the-if1 .taken), ← the-token .ensures, the-enum-told3 .given .1)),
-      the-after-transfer .ensures .1,
-    )
+    goes-in (c .after-transfer .ensures)
+    (λ b. simp (
+      ← c .before .before .before .before .before .before .endpoint .ensures,
+      eq-eqb _ _ (c .before .before .before .before .before .if1 .taken),
+      ← c .before .before .before .before .token .ensures,
+      c .before .before .enum-told3 .given .1,
+    ))
 
 returns-4 : tie.Need-returns-4
 unfolding afterCheck
 returns-4 c =
-    let the-after-transfer2 = c .after-transfer2 in
-    let the-endpoint = c .before .before .before .before .before .before .endpoint in
-    let the-if1 = c .before .before .before .before .before .if1 in
-    let the-token = c .before .before .before .before .token in
-    let the-enum-told4 = c .before .before .enum-told4 in (
-      λ b. then-on (the-after-transfer2 .ensures .0 b)
-          (simp (← the-endpoint .ensures, eq-eqb _ _ (the-if1 .taken), ← the-token .ensures, the-enum-told4 .given .1)),
-      the-after-transfer2 .ensures .1,
-    )
+    goes-in (c .after-transfer2 .ensures)
+    (λ b. simp (
+      ← c .before .before .before .before .before .before .endpoint .ensures,
+      eq-eqb _ _ (c .before .before .before .before .before .if1 .taken),
+      ← c .before .before .before .before .token .ensures,
+      c .before .before .enum-told4 .given .1,
+    ))
 
 returns-5 : tie.Need-returns-5
 unfolding afterCheck
 returns-5 c =
-    let the-after-transfer3 = c .after-transfer3 in
-    let the-endpoint = c .before .before .before .endpoint in
-    let the-if1 = c .before .before .if1 in
-    (λ b. then-on (the-after-transfer3 .ensures .0 b) (simp (← the-endpoint .ensures, ne-eqb _ _ (the-if1 .left))), the-after-transfer3 .ensures .1)
+    goes-in (c .after-transfer3 .ensures) (λ b. simp (← c .before .before .before .endpoint .ensures, ne-eqb _ _ (c .before .before .if1 .left)))
 
 pub ep0-moved-on-spec : {M : Type 1} → statement M
 ep0-moved-on-spec =

@@ -1,4 +1,4 @@
-use Rattle.irq_points.specs.StandsLaws.{stops-at, stored-at, then-on}
+use Rattle.irq_check.specs.StopsLaws.{stands-in, goes-in}
 use Rattle.irq.specs.Laws.{settle-asks, settle-ends, settle-linked}
 use Rattle.irq.specs.Continuations.{afterSettle}
 use Rattle.model_ops.specs.Concrete.{concrete}
@@ -21,23 +21,16 @@ after-settle-requires c κs = search needs
 
 returns : tie.Need-returns
 returns c =
-    let the-stand-settle = c .stand-settle in
     let the-n = c .before .before .before .n in
-    let a = c .before .before .before .before .before .args in (
-      λ b. stops-at (the-stand-settle .ensures) (settle-linked _ _ _ (the-n .given .1) ((c .before .before .before .before .before .pre))) b
-          (settle-asks (a .setup) (λ y u. run concrete (afterSettle y) u) _ b (a .x) _ _ _ (the-n .given .1)),
-      stored-at (the-stand-settle .ensures),
-    )
+    let a = c .before .before .before .before .before .args in
+    stands-in (c .stand-settle .ensures) (settle-linked _ _ _ (the-n .given .1) (c .before .before .before .before .before .pre))
+    (λ b. settle-asks (a .setup) (λ y u. run concrete (afterSettle y) u) _ b (a .x) _ _ _ (the-n .given .1))
 
 returns-2 : tie.Need-returns-2
 returns-2 c =
-    let the-after-settle = c .after-settle in
     let a = c .before .before .before .before .before .args in
-    let the-n2 = c .before .before .before .n2 in (
-      λ b. then-on (the-after-settle .ensures .0 b)
-          (settle-ends (a .setup) (λ y u. run concrete (afterSettle y) u) _ b (a .x) _ _ (the-n2 .given .1)),
-      the-after-settle .ensures .1,
-    )
+    goes-in (c .after-settle .ensures)
+    (λ b. settle-ends (a .setup) (λ y u. run concrete (afterSettle y) u) _ b (a .x) _ _ (c .before .before .before .n2 .given .1))
 
 pub then-settle-spec : {M : Type 1} → statement M
 then-settle-spec =
