@@ -21,17 +21,12 @@ ep0-moved-on-requires c κs = search needs
 
 returns : tie.Need-returns
 returns c =
-    let the-n = c .before .before .before .n in
-    let a = c .before .before .before .before .before .before .args in
-    stands-at (c .stand-check .ensures) (check-linked _ _ _ (the-n .given .1) (c .before .before .before .before .before .before .pre))
-    (check-asks (a .setup) (λ _ u. run concrete (afterCheck (a .x)) u) _ _ _ (a .x) (a .iso) _ _ (the-n .given .1))
+    stands-at (c .stand-check .ensures)
+    (check-linked _ _ _ (c .before .before .before .n .given .1) (c .before .before .before .before .before .before .pre))
+    (simp (c .before .before .before .n .given .1))
 
 returns-2 : tie.Need-returns-2
-returns-2 c =
-    let the-after-check = c .ep0-moved-on in
-    let a = c .before .before .before .before .before .args in
-    goes-on (the-after-check .ensures .0 _, the-after-check .ensures .1)
-    (check-ends (a .setup) (λ _ u. run concrete (afterCheck (a .x)) u) _ _ (a .x) (a .iso) _ (c .before .before .enum-told .given .1))
+returns-2 c = goes-on (c .ep0-moved-on .ensures .0 _, c .ep0-moved-on .ensures .1) (simp (c .before .before .enum-told .given .1))
 
 pub checked-spec : {M : Type 1} → statement M
 checked-spec =

@@ -21,16 +21,11 @@ release-requires c κs = search needs
 
 returns : tie.Need-returns
 returns c =
-    let the-n = c .before .before .before .n in
-    let a = c .before .before .before .before .before .args in
-    stands-in (c .stand-nak .ensures) (nak-linked _ _ _ (the-n .given .1) (c .before .before .before .before .before .pre))
-    (λ b. nak-asks (a .setup) (λ _ u. run concrete (afterNak (a .x)) u) _ _ b ((a .x) .st) _ _ (the-n .given .1))
+    stands-in (c .stand-nak .ensures) (nak-linked _ _ _ (c .before .before .before .n .given .1) (c .before .before .before .before .before .pre))
+    (λ b. simp (c .before .before .before .n .given .1))
 
 returns-2 : tie.Need-returns-2
-returns-2 c =
-    let a = c .before .before .before .before .args in
-    goes-in (c .release .ensures)
-    (λ b. nak-ends (a .setup) (λ _ u. run concrete (afterNak (a .x)) u) _ b ((a .x) .st) _ (c .before .before .enum-told .given .1))
+returns-2 c = goes-in (c .release .ensures) (λ b. simp (c .before .before .enum-told .given .1))
 
 pub then-nak-spec : {M : Type 1} → statement M
 then-nak-spec =

@@ -21,16 +21,11 @@ after-settle-requires c κs = search needs
 
 returns : tie.Need-returns
 returns c =
-    let the-n = c .before .before .before .n in
-    let a = c .before .before .before .before .before .args in
-    stands-in (c .stand-settle .ensures) (settle-linked _ _ _ (the-n .given .1) (c .before .before .before .before .before .pre))
-    (λ b. settle-asks (a .setup) (λ y u. run concrete (afterSettle y) u) _ b (a .x) _ _ _ (the-n .given .1))
+    stands-in (c .stand-settle .ensures) (settle-linked _ _ _ (c .before .before .before .n .given .1) (c .before .before .before .before .before .pre))
+    (λ b. simp (c .before .before .before .n .given .1))
 
 returns-2 : tie.Need-returns-2
-returns-2 c =
-    let a = c .before .before .before .before .before .args in
-    goes-in (c .after-settle .ensures)
-    (λ b. settle-ends (a .setup) (λ y u. run concrete (afterSettle y) u) _ b (a .x) _ _ (c .before .before .before .n2 .given .1))
+returns-2 c = goes-in (c .after-settle .ensures) (λ b. simp (c .before .before .before .n2 .given .1))
 
 pub then-settle-spec : {M : Type 1} → statement M
 then-settle-spec =

@@ -21,20 +21,15 @@ after-dispatch-requires c κs = search needs
 
 returns : tie.Need-returns
 returns c =
-    let the-n = c .before .before .before .n in
-    let a = c .before .before .before .before .before .before .args in
-    stands-at (c .stand-completing .ensures) (complete-linked _ _ _ (the-n .given .1) (c .before .before .before .before .before .before .pre))
-    (complete-asks (a .setup) (λ _ u. run concrete (afterDispatch (a .x) (a .iso)) u) _ _ _ _ _ (the-n .given .1))
+    stands-at (c .stand-completing .ensures)
+    (complete-linked _ _ _ (c .before .before .before .n .given .1) (c .before .before .before .before .before .before .pre))
+    (simp (c .before .before .before .n .given .1))
 
 same-length : tie.Need-same-length
 same-length c = search needs
 
 returns-2 : tie.Need-returns-2
-returns-2 c =
-    let a = c .before .before .before .before .before .before .before .before .args in
-    goes-on (c .before .before .after-dispatch .ensures)
-    (complete-ends (a .setup) (λ _ u. run concrete (afterDispatch (a .x) (a .iso)) u) _ _ _
-    (c .before .before .before .before .before .enum-told .given .1))
+returns-2 c = goes-on (c .before .before .after-dispatch .ensures) (simp (c .before .before .before .before .before .enum-told .given .1))
 
 pub then-complete-spec : {M : Type 1} → statement M
 then-complete-spec =

@@ -40,20 +40,15 @@ after-dispatch-requires c κs = search needs
 
 returns-2 : tie.Need-returns-2
 returns-2 c =
-    let a = c .before .before .before .before .before .before .args in
-    let the-n = c .before .before .before .n in
-    stands-at (c .stand-sof-arm .ensures) (sof-linked _ _ _ (the-n .given .1) (c .before .before .before .before .before .before .pre))
-    (sof-asks (a .setup) (λ _ u. run concrete (afterDispatch (a .x) (a .iso)) u) _ _ _ (a .frame) _ _ (the-n .given .1))
+    stands-at (c .stand-sof-arm .ensures)
+    (sof-linked _ _ _ (c .before .before .before .n .given .1) (c .before .before .before .before .before .before .pre))
+    (simp (c .before .before .before .n .given .1))
 
 same-length : tie.Need-same-length
 same-length c = search needs
 
 returns-3 : tie.Need-returns-3
-returns-3 c =
-    let a = c .before .before .before .before .before .before .before .before .before .before .args in
-    goes-on (c .before .before .after-dispatch .ensures)
-    (sof-ends (a .setup) (λ _ u. run concrete (afterDispatch (a .x) (a .iso)) u) _ _ (a .frame) _
-    (c .before .before .before .before .before .before .before .enum-told .given .1))
+returns-3 c = goes-on (c .before .before .after-dispatch .ensures) (simp (c .before .before .before .before .before .before .before .enum-told .given .1))
 
 pub then-sof-arm-spec : {M : Type 1} → statement M
 then-sof-arm-spec =

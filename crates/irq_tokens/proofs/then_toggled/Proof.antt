@@ -22,22 +22,15 @@ after-passing-requires c κs = search needs
 
 returns : tie.Need-returns
 returns c =
-    let the-pre = c .before .before .before .before .before .before .pre in
-    let a = c .before .before .before .before .before .before .args in
-    let the-n = c .before .before .before .n in
-    stands-at (c .stand-toggled .ensures) (toggled-linked _ _ _ (the-n .given .1) (the-pre))
-    (toggled-asks (a .setup) (λ _ u. run concrete (afterDispatch (a .x) (a .iso)) u) (λ z u. run concrete (afterToggled (a .d) (a .x) z) u) _ _ (a .d)
-    (endpoint ((a .x) .st)) _ _ _ (the-n .given .1))
+    stands-at (c .stand-toggled .ensures)
+    (toggled-linked _ _ _ (c .before .before .before .n .given .1) (c .before .before .before .before .before .before .pre))
+    (simp (c .before .before .before .n .given .1))
 
 same-length : tie.Need-same-length
 same-length c = search needs
 
 returns-2 : tie.Need-returns-2
-returns-2 c =
-    let a = c .before .before .before .before .before .before .before .before .before .args in
-    goes-on (c .before .before .after-passing .ensures)
-    (toggled-ends (a .setup) (λ _ u. run concrete (afterDispatch (a .x) (a .iso)) u) (λ z u. run concrete (afterToggled (a .d) (a .x) z) u) _ _ (a .d)
-    (endpoint ((a .x) .st)) _ _ (c .before .before .before .before .before .before .n2 .given .1))
+returns-2 c = goes-on (c .before .before .after-passing .ensures) (simp (c .before .before .before .before .before .before .n2 .given .1))
 
 pub then-toggled-spec : {M : Type 1} → statement M
 then-toggled-spec =
