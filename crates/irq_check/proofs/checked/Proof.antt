@@ -1,8 +1,5 @@
 use Rattle.irq_check.specs.StopsLaws.{stands-at, goes-on}
-use Rattle.irq.specs.Laws.{check-asks, check-ends, check-linked}
-use Rattle.irq.specs.Continuations.{afterCheck}
-use Rattle.model_ops.specs.Concrete.{concrete}
-use Rattle.model.specs.Script.{run}
+use Rattle.irq.specs.Laws.{check-linked}
 use borrow.Author.Needs.{needs}
 use Rattle.irq_check.proofs.checked.Statement.{statement}
 use Rattle.irq_check.proofs.checked.Tie as tie

@@ -3,7 +3,6 @@ use Rattle.irq.specs.Laws.{after}
 use Rattle.irq.specs.Continuations.{afterNak}
 use Rattle.model_ops.specs.Concrete.{concrete}
 use Rattle.model.specs.Script.{run}
-use borrow.Author.Needs.{needs}
 use Rattle.irq_entry.proofs.after_naking.Statement.{statement}
 use Rattle.irq_entry.proofs.after_naking.Tie as tie
 

@@ -1,8 +1,5 @@
 use Rattle.irq_check.specs.StopsLaws.{stands-in, goes-in}
-use Rattle.irq.specs.Laws.{nak-asks, nak-ends, nak-linked}
-use Rattle.irq.specs.Continuations.{afterNak}
-use Rattle.model_ops.specs.Concrete.{concrete}
-use Rattle.model.specs.Script.{run}
+use Rattle.irq.specs.Laws.{nak-linked}
 use borrow.Author.Needs.{needs}
 use Rattle.irq_entry.proofs.then_nak.Statement.{statement}
 use Rattle.irq_entry.proofs.then_nak.Tie as tie

@@ -1,8 +1,5 @@
 use Rattle.irq_check.specs.StopsLaws.{stands-in, goes-in}
-use Rattle.irq.specs.Laws.{settle-asks, settle-ends, settle-linked}
-use Rattle.irq.specs.Continuations.{afterSettle}
-use Rattle.model_ops.specs.Concrete.{concrete}
-use Rattle.model.specs.Script.{run}
+use Rattle.irq.specs.Laws.{settle-linked}
 use borrow.Author.Needs.{needs}
 use Rattle.irq_entry.proofs.then_settle.Statement.{statement}
 use Rattle.irq_entry.proofs.then_settle.Tie as tie

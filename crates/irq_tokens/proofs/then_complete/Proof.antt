@@ -1,8 +1,5 @@
 use Rattle.irq_check.specs.StopsLaws.{stands-at, goes-on}
-use Rattle.irq.specs.Laws.{complete-asks, complete-ends, complete-linked}
-use Rattle.irq.specs.Continuations.{afterDispatch}
-use Rattle.model_ops.specs.Concrete.{concrete}
-use Rattle.model.specs.Script.{run}
+use Rattle.irq.specs.Laws.{complete-linked}
 use borrow.Author.Needs.{needs}
 use Rattle.irq_tokens.proofs.then_complete.Statement.{statement}
 use Rattle.irq_tokens.proofs.then_complete.Tie as tie

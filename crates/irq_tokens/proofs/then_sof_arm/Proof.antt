@@ -1,5 +1,5 @@
 use Rattle.irq_check.specs.StopsLaws.{stands-at, goes-on}
-use Rattle.irq.specs.Laws.{sof-asks, sof-ends, sof-linked, tells}
+use Rattle.irq.specs.Laws.{sof-ends, sof-linked, tells}
 use Rattle.irq.specs.Continuations.{afterDispatch}
 use Rattle.irq_check.specs.SofLaws.{sof-over}
 use Rattle.model_ops.specs.Concrete.{concrete}

@@ -1,9 +1,5 @@
 use Rattle.irq_check.specs.StopsLaws.{stands-at, goes-on}
-use Rattle.irq.specs.Laws.{toggled-asks, toggled-ends, toggled-linked}
-use Rattle.irq.specs.Continuations.{afterDispatch, afterToggled}
-use Rattle.model_ops.specs.Concrete.{concrete}
-use Rattle.regs.specs.Status.{endpoint}
-use Rattle.model.specs.Script.{run}
+use Rattle.irq.specs.Laws.{toggled-linked}
 use borrow.Author.Needs.{needs}
 use Rattle.irq_tokens.proofs.then_toggled.Statement.{statement}
 use Rattle.irq_tokens.proofs.then_toggled.Tie as tie

@@ -1,8 +1,5 @@
 use Rattle.irq_check.specs.StopsLaws.{stands-at, goes-on}
-use Rattle.irq.specs.Laws.{late-asks, late-ends, late-linked}
-use Rattle.irq.specs.Continuations.{afterLate}
-use Rattle.model_ops.specs.Concrete.{concrete}
-use Rattle.model.specs.Script.{run}
+use Rattle.irq.specs.Laws.{late-linked}
 use borrow.Author.Needs.{needs}
 use Rattle.irq_serve.proofs.serving.then_late.Statement.{statement}
 use Rattle.irq_serve.proofs.serving.then_late.Tie as tie

@@ -1,8 +1,5 @@
 use Rattle.irq_check.specs.StopsLaws.{stands-at, goes-on}
-use Rattle.irq.specs.Laws.{sof-asks, sof-ends, sof-linked}
-use Rattle.irq.specs.Continuations.{afterSof}
-use Rattle.model_ops.specs.Concrete.{concrete}
-use Rattle.model.specs.Script.{run}
+use Rattle.irq.specs.Laws.{sof-linked}
 use borrow.Author.Needs.{needs}
 use Rattle.irq_serve.proofs.serving.then_sof.Statement.{statement}
 use Rattle.irq_serve.proofs.serving.then_sof.Tie as tie
