@@ -25,12 +25,4 @@ returns-2 : tie.Need-returns-2
 returns-2 c = goes-in (c .release .ensures) (λ b. simp (c .before .before .enum-told .given .1))
 
 pub then-nak-spec : {M : Type 1} → statement M
-then-nak-spec =
-    tie.close
-    (tie.spec
-    enum-known-n
-    stand-nak-requires
-    enum-told
-    release-requires
-    returns
-    returns-2)
+then-nak-spec = tie.close (tie.spec enum-known-n stand-nak-requires enum-told release-requires returns returns-2)

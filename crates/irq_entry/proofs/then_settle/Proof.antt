@@ -25,12 +25,4 @@ returns-2 : tie.Need-returns-2
 returns-2 c = goes-in (c .after-settle .ensures) (λ b. simp (c .before .before .before .n2 .given .1))
 
 pub then-settle-spec : {M : Type 1} → statement M
-then-settle-spec =
-    tie.close
-    (tie.spec
-    enum-known-n
-    stand-settle-requires
-    enum-known-n-2
-    after-settle-requires
-    returns
-    returns-2)
+then-settle-spec = tie.close (tie.spec enum-known-n stand-settle-requires enum-known-n-2 after-settle-requires returns returns-2)

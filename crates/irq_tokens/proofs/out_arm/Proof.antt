@@ -1,5 +1,5 @@
 use Rattle.irq_check.specs.StopsLaws.{stands-at, goes-on}
-use Rattle.irq.specs.Laws.{at-zero, tells, test-no, test-yes}
+use Rattle.irq.specs.Laws.{of-ep0, of-other, tells, test-no, test-yes}
 use Rattle.irq.specs.Continuations.{thenCheck}
 use borrow.Author.Tests.{eq-eqb, ne-eqb}
 use mathlib.Core.Path.{_∙_, refl}
@@ -30,16 +30,11 @@ stand-flip-requires c κs = search needs
 
 returns-2 : tie.Need-returns-2
 returns-2 c =
-    let a = c .before .before .before .before .before .before .before .before .args in
-    let the-tog-ok = c .before .before .before .tog-ok in
-    let the-if3 = c .before .before .if3 in
-    let the-endpoint = c .before .before .before .before .before .endpoint in
-    let the-if2 = c .before .before .before .before .if2 in
-    let the-if1 = c .before .before .before .before .before .before .if1 in
+    let at = c .before .before .before .before in
+    let a = at .before .before .before .before .args in
     stands-at (c .stand-flip .ensures) refl
-    (test-yes (thenCheck (a .setup) (a .x) (a .iso)) _ _ _ (tells _ _ _ (the-tog-ok .ensures) (the-if3 .taken))
-    ∙ (test-yes (thenCheck (a .setup) (a .x) (a .iso)) _ _ _ (at-zero _ _ _ (the-endpoint .ensures) (eq-eqb _ _ (the-if2 .taken)))
-    ∙ test-no (thenCheck (a .setup) (a .x) (a .iso)) (a .iso) _ _ (the-if1 .left)))
+    (test-yes (thenCheck (a .setup) (a .x) (a .iso)) _ _ _ (tells _ _ _ (c .before .before .before .tog-ok .ensures) (c .before .before .if3 .taken))
+    ∙ of-ep0 (thenCheck (a .setup) (a .x) (a .iso)) (a .iso) _ _ _ (at .before .endpoint .ensures) (at .before .before .if1 .left) (eq-eqb _ _ (at .if2 .taken)))
 
 after-dispatch-requires-2 : tie.Need-after-dispatch-requires-2
 after-dispatch-requires-2 c κs = search needs
@@ -49,16 +44,11 @@ same-length-2 c = search needs
 
 returns-3 : tie.Need-returns-3
 returns-3 c =
-    let a = c .before .before .before .before .before .before .before .before .before .before .before .args in
-    let the-tog-ok = c .before .before .before .before .before .before .tog-ok in
-    let the-if3 = c .before .before .before .before .before .if3 in
-    let the-endpoint = c .before .before .before .before .before .before .before .before .endpoint in
-    let the-if2 = c .before .before .before .before .before .before .before .if2 in
-    let the-if1 = c .before .before .before .before .before .before .before .before .before .if1 in
+    let at = c .before .before .before .before .before .before .before in
+    let a = at .before .before .before .before .args in
     goes-on (c .before .before .after-dispatch2 .ensures)
-    (test-no (thenCheck (a .setup) (a .x) (a .iso)) _ _ _ (tells _ _ _ (the-tog-ok .ensures) (the-if3 .left))
-    ∙ (test-yes (thenCheck (a .setup) (a .x) (a .iso)) _ _ _ (at-zero _ _ _ (the-endpoint .ensures) (eq-eqb _ _ (the-if2 .taken)))
-    ∙ test-no (thenCheck (a .setup) (a .x) (a .iso)) (a .iso) _ _ (the-if1 .left)))
+    (test-no (thenCheck (a .setup) (a .x) (a .iso)) _ _ _ (tells _ _ _ (c .before .before .before .before .before .before .tog-ok .ensures) (c .before .before .before .before .before .if3 .left))
+    ∙ of-ep0 (thenCheck (a .setup) (a .x) (a .iso)) (a .iso) _ _ _ (at .before .endpoint .ensures) (at .before .before .if1 .left) (eq-eqb _ _ (at .if2 .taken)))
 
 toggled-arm-requires : tie.Need-toggled-arm-requires
 toggled-arm-requires c κs = search needs
@@ -68,13 +58,10 @@ same-length-3 c = search needs
 
 returns-4 : tie.Need-returns-4
 returns-4 c =
-    let a = c .before .before .before .before .before .before .before .before .before .args in
-    let the-endpoint = c .before .before .before .before .before .before .endpoint in
-    let the-if2 = c .before .before .before .before .before .if2 in
-    let the-if1 = c .before .before .before .before .before .before .before .if1 in
+    let at = c .before .before .before .before .before in
+    let a = at .before .before .before .before .args in
     goes-on (c .before .before .toggled-arm .ensures)
-    (test-no (thenCheck (a .setup) (a .x) (a .iso)) _ _ _ (at-zero _ _ _ (the-endpoint .ensures) (ne-eqb _ _ (the-if2 .left)))
-    ∙ test-no (thenCheck (a .setup) (a .x) (a .iso)) (a .iso) _ _ (the-if1 .left))
+    (of-other (thenCheck (a .setup) (a .x) (a .iso)) (a .iso) _ _ _ (at .before .endpoint .ensures) (at .before .before .if1 .left) (ne-eqb _ _ (at .if2 .left)))
 
 pub out-arm-spec : {M : Type 1} → statement M
 out-arm-spec =

@@ -29,13 +29,4 @@ returns-2 : tie.Need-returns-2
 returns-2 c = goes-on (c .before .before .after-dispatch .ensures) (simp (c .before .before .before .before .before .enum-told .given .1))
 
 pub then-complete-spec : {M : Type 1} → statement M
-then-complete-spec =
-    tie.close
-    (tie.spec
-    enum-known-n
-    stand-completing-requires
-    enum-told
-    after-dispatch-requires
-    returns
-    same-length
-    returns-2)
+then-complete-spec = tie.close (tie.spec enum-known-n stand-completing-requires enum-told after-dispatch-requires returns same-length returns-2)

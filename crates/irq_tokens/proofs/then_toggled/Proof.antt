@@ -29,13 +29,4 @@ returns-2 : tie.Need-returns-2
 returns-2 c = goes-on (c .before .before .after-passing .ensures) (simp (c .before .before .before .before .before .before .n2 .given .1))
 
 pub then-toggled-spec : {M : Type 1} → statement M
-then-toggled-spec =
-    tie.close
-    (tie.spec
-    enum-known-n
-    stand-toggled-requires
-    enum-known-n-2
-    after-passing-requires
-    returns
-    same-length
-    returns-2)
+then-toggled-spec = tie.close (tie.spec enum-known-n stand-toggled-requires enum-known-n-2 after-passing-requires returns same-length returns-2)

@@ -1,5 +1,9 @@
 use Rattle.irq_check.specs.StopsLaws.{stands-at, goes-on}
-use Rattle.irq.specs.Laws.{toggled-asks, toggled-ends, toggled-from, toggled-linked}
+use Prim.Native.Nat.{ℕ}
+use mathlib.Core.Bool.{true}
+use Rattle.model.specs.Handler as script
+use Rattle.state.specs.State.{view}
+use Rattle.irq.specs.Laws.{toggled-asks, toggled-ends, toggled-as, toggled-linked}
 use Rattle.irq.specs.Continuations.{afterDispatch, afterToggled}
 use Rattle.model_ops.specs.Concrete.{concrete}
 use Rattle.regs.specs.Status.{endpoint}
@@ -36,8 +40,9 @@ returns c =
     stands-at (c .stand-toggled .ensures) (toggled-linked _ _ _ (the-n .given .1) (the-begin .ensures .1))
     (toggled-asks (a .setup) (λ _ u. run concrete (afterDispatch (a .x) (a .iso)) u) (λ z u. run concrete (afterToggled (a .d) (a .x) z) u) _ _ (a .d)
     (endpoint ((a .x) .st)) _ _ _ (the-n .given .1)
-    ∙ toggled-from (a .setup) (λ _ u. run concrete (afterDispatch (a .x) (a .iso)) u) (λ z u. run concrete (afterToggled (a .d) (a .x) z) u) (a .d) _ _
-    (the-begin .result) _ _ (the-endpoint .ensures) (the-begin .ensures .0 _ _))
+    ∙ toggled-as (a .setup) (λ _ u. run concrete (afterDispatch (a .x) (a .iso)) u) (λ z u. run concrete (afterToggled (a .d) (a .x) z) u) (a .d) _ _
+    (the-begin .result) _ _ (the-endpoint .ensures)
+    (λ (z : ℕ). run concrete (script.toggled {i = true} (a .d) z) (view (a .s .now), a .buf .now)) (the-begin .ensures .0 _ _))
 
 same-length : tie.Need-same-length
 same-length c = search needs
@@ -51,8 +56,9 @@ returns-2 c =
     goes-on (c .before .before .after-passing .ensures)
     (toggled-ends (a .setup) (λ _ u. run concrete (afterDispatch (a .x) (a .iso)) u) (λ z u. run concrete (afterToggled (a .d) (a .x) z) u) _ _ (a .d)
     (endpoint ((a .x) .st)) _ _ (the-n2 .given .1)
-    ∙ toggled-from (a .setup) (λ _ u. run concrete (afterDispatch (a .x) (a .iso)) u) (λ z u. run concrete (afterToggled (a .d) (a .x) z) u) (a .d) _ _
-    (the-begin .result) _ _ (the-endpoint .ensures) (the-begin .ensures .0 _ _))
+    ∙ toggled-as (a .setup) (λ _ u. run concrete (afterDispatch (a .x) (a .iso)) u) (λ z u. run concrete (afterToggled (a .d) (a .x) z) u) (a .d) _ _
+    (the-begin .result) _ _ (the-endpoint .ensures)
+    (λ (z : ℕ). run concrete (script.toggled {i = true} (a .d) z) (view (a .s .now), a .buf .now)) (the-begin .ensures .0 _ _))
 
 pub toggled-arm-spec : {M : Type 1} → statement M
 toggled-arm-spec =

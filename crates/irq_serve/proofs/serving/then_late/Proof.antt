@@ -29,13 +29,4 @@ returns-2 : tie.Need-returns-2
 returns-2 c = goes-on (c .before .before .after-late .ensures) (simp (c .before .before .before .before .before .enum-told .given .1))
 
 pub then-late-spec : {M : Type 1} → statement M
-then-late-spec =
-    tie.close
-    (tie.spec
-    enum-known-n
-    stand-late-requires
-    enum-told
-    after-late-requires
-    returns
-    same-length
-    returns-2)
+then-late-spec = tie.close (tie.spec enum-known-n stand-late-requires enum-told after-late-requires returns same-length returns-2)

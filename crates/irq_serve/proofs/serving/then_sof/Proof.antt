@@ -28,13 +28,4 @@ returns-2 : tie.Need-returns-2
 returns-2 c = goes-on (c .before .before .after-sof .ensures) (simp (c .before .before .before .before .before .enum-told .given .1))
 
 pub then-sof-spec : {M : Type 1} → statement M
-then-sof-spec =
-    tie.close
-    (tie.spec
-    enum-known-n
-    stand-sof-requires
-    enum-told
-    after-sof-requires
-    returns
-    same-length
-    returns-2)
+then-sof-spec = tie.close (tie.spec enum-known-n stand-sof-requires enum-told after-sof-requires returns same-length returns-2)
