@@ -151,22 +151,13 @@ fn after_bulk_look(x: Transfer, n: u16, v: u32) -> SettleNext
 fn waited(x: Transfer, len: u16) -> Transfer
     ensures { λ r. ⌜ r ≡ script.waited x len ⌝ }
 {
+    let mut y = x;
+    y.busy = false;
     if len == 0 {
-        return Transfer {
-            busy: false,
-            st: x.st,
-            len: x.len,
-            late: x.late,
-            len_ok: x.len_ok,
-        };
+        return y;
     }
-    Transfer {
-        busy: false,
-        st: x.st,
-        len,
-        late: x.late,
-        len_ok: x.len_ok,
-    }
+    y.len = len;
+    y
 }
 
 fn after_mis(x: Transfer, v: u32) -> SettleNext

@@ -27,10 +27,10 @@ stand-flip-requires c κs = search needs
 
 returns-2 : tie.Need-returns-2
 returns-2 c =
-    let at = c .before .before in
-    let a = at .before .before .before .before .args in
+    let e = c .before .before in
+    let a = e .before .before .before .before .args in
     stands-at (c .stand-flip .ensures) refl
-    (of-ep0 (thenCheck (a .setup) (a .x) (a .iso)) (a .iso) _ _ _ (at .before .endpoint .ensures) (at .before .before .if1 .left) (eq-eqb _ _ (at .if2 .taken)))
+    (of-ep0 (thenCheck (a .setup) (a .x) (a .iso)) (a .iso) _ _ _ (e .before .endpoint .ensures) (e .before .before .if1 .left) (eq-eqb _ _ (e .if2 .taken)))
 
 toggled-arm-requires : tie.Need-toggled-arm-requires
 toggled-arm-requires c κs = search needs
@@ -40,10 +40,10 @@ same-length-2 c = search needs
 
 returns-3 : tie.Need-returns-3
 returns-3 c =
-    let at = c .before .before .before .before .before in
-    let a = at .before .before .before .before .args in
+    let e = c .before .before .before .before .before in
+    let a = e .before .before .before .before .args in
     goes-on (c .before .before .toggled-arm .ensures)
-    (of-other (thenCheck (a .setup) (a .x) (a .iso)) (a .iso) _ _ _ (at .before .endpoint .ensures) (at .before .before .if1 .left) (ne-eqb _ _ (at .if2 .left)))
+    (of-other (thenCheck (a .setup) (a .x) (a .iso)) (a .iso) _ _ _ (e .before .endpoint .ensures) (e .before .before .if1 .left) (ne-eqb _ _ (e .if2 .left)))
 
 pub in-arm-spec : {M : Type 1} → statement M
 in-arm-spec =

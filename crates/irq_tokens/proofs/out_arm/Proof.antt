@@ -30,11 +30,12 @@ stand-flip-requires c κs = search needs
 
 returns-2 : tie.Need-returns-2
 returns-2 c =
-    let at = c .before .before .before .before in
-    let a = at .before .before .before .before .args in
+    let told = c .before .before in
+    let e = told .before .before in
+    let a = e .before .before .before .before .args in
     stands-at (c .stand-flip .ensures) refl
-    (test-yes (thenCheck (a .setup) (a .x) (a .iso)) _ _ _ (tells _ _ _ (c .before .before .before .tog-ok .ensures) (c .before .before .if3 .taken))
-    ∙ of-ep0 (thenCheck (a .setup) (a .x) (a .iso)) (a .iso) _ _ _ (at .before .endpoint .ensures) (at .before .before .if1 .left) (eq-eqb _ _ (at .if2 .taken)))
+    (test-yes (thenCheck (a .setup) (a .x) (a .iso)) _ _ _ (tells _ _ _ (told .before .tog-ok .ensures) (told .if3 .taken))
+    ∙ of-ep0 (thenCheck (a .setup) (a .x) (a .iso)) (a .iso) _ _ _ (e .before .endpoint .ensures) (e .before .before .if1 .left) (eq-eqb _ _ (e .if2 .taken)))
 
 after-dispatch-requires-2 : tie.Need-after-dispatch-requires-2
 after-dispatch-requires-2 c κs = search needs
@@ -44,11 +45,12 @@ same-length-2 c = search needs
 
 returns-3 : tie.Need-returns-3
 returns-3 c =
-    let at = c .before .before .before .before .before .before .before in
-    let a = at .before .before .before .before .args in
+    let told = c .before .before .before .before .before in
+    let e = told .before .before in
+    let a = e .before .before .before .before .args in
     goes-on (c .before .before .after-dispatch2 .ensures)
-    (test-no (thenCheck (a .setup) (a .x) (a .iso)) _ _ _ (tells _ _ _ (c .before .before .before .before .before .before .tog-ok .ensures) (c .before .before .before .before .before .if3 .left))
-    ∙ of-ep0 (thenCheck (a .setup) (a .x) (a .iso)) (a .iso) _ _ _ (at .before .endpoint .ensures) (at .before .before .if1 .left) (eq-eqb _ _ (at .if2 .taken)))
+    (test-no (thenCheck (a .setup) (a .x) (a .iso)) _ _ _ (tells _ _ _ (told .before .tog-ok .ensures) (told .if3 .left))
+    ∙ of-ep0 (thenCheck (a .setup) (a .x) (a .iso)) (a .iso) _ _ _ (e .before .endpoint .ensures) (e .before .before .if1 .left) (eq-eqb _ _ (e .if2 .taken)))
 
 toggled-arm-requires : tie.Need-toggled-arm-requires
 toggled-arm-requires c κs = search needs
@@ -58,10 +60,10 @@ same-length-3 c = search needs
 
 returns-4 : tie.Need-returns-4
 returns-4 c =
-    let at = c .before .before .before .before .before in
-    let a = at .before .before .before .before .args in
+    let e = c .before .before .before .before .before in
+    let a = e .before .before .before .before .args in
     goes-on (c .before .before .toggled-arm .ensures)
-    (of-other (thenCheck (a .setup) (a .x) (a .iso)) (a .iso) _ _ _ (at .before .endpoint .ensures) (at .before .before .if1 .left) (ne-eqb _ _ (at .if2 .left)))
+    (of-other (thenCheck (a .setup) (a .x) (a .iso)) (a .iso) _ _ _ (e .before .endpoint .ensures) (e .before .before .if1 .left) (ne-eqb _ _ (e .if2 .left)))
 
 pub out-arm-spec : {M : Type 1} → statement M
 out-arm-spec =
