@@ -18,8 +18,7 @@ after-late-requires c κs = search needs
 
 returns : tie.Need-returns
 returns c =
-    stands-at (c .stand-late .ensures)
-    (late-linked _ _ _ (c .before .before .before .n .given .1) (c .before .before .before .before .before .before .pre))
+    stands-at (c .stand-late .ensures) (late-linked _ _ _ (c .before .before .before .n .given .1) (c .before .before .before .before .before .before .pre))
     (simp (c .before .before .before .n .given .1))
 
 same-length : tie.Need-same-length
