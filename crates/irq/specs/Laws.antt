@@ -22,7 +22,6 @@ use Rattle.model.specs.Tree as tree
 use Rattle.model.specs.Tree.{asks, ends, bindOut}
 use Rattle.model.specs.Script.{Script, run, read, when, _>>=_}
 use Rattle.model.specs.Statics.{withReady, withArmed, withSetup, withEntered}
-use Rattle.model.specs.Machine.{awaited}
 use Rattle.model.specs.IsoIn.{firstInFrame, isoInComplete}
 use Rattle.model.specs.Handler as script
 use Rattle.model.specs.Handler.{nakNonIso, framed, isoInArm, onTransfer, onInterrupt, stampedInterrupt}
@@ -39,9 +38,6 @@ use Rattle.irq_transfer.specs.declared.toggled.ToggledNext.the-variants as togg
 use Rattle.iso_in.specs.declared.sof.Sof as sof-point
 use Rattle.iso_in.specs.declared.sof.SofNext as sof-next
 use Rattle.iso_in.specs.declared.sof.SofNext.the-variants as sof-to
-use Rattle.iso_in.specs.declared.late.Late as late-point
-use Rattle.iso_in.specs.declared.late.LateNext as late-next
-use Rattle.iso_in.specs.declared.late.LateNext.the-variants as late-to
 use Rattle.iso_in.specs.declared.complete.Complete as complete-point
 use Rattle.iso_in.specs.declared.complete.CompleteNext as complete-next
 use Rattle.iso_in.specs.declared.complete.CompleteNext.the-variants as complete-to
@@ -52,7 +48,6 @@ use Rattle.irq_transfer.specs.Nak as nak
 use Rattle.irq_transfer.specs.Settle as settle
 use Rattle.irq_transfer.specs.Toggled as toggled
 use Rattle.iso_in.specs.Sof as sof
-use Rattle.iso_in.specs.Late as late
 use Rattle.iso_in.specs.Complete as complete
 use Rattle.iso_out.specs.Points as check
 use Rattle.model_ops.specs.Records.{plainOf, merged, mergedGlobals}
@@ -191,32 +186,6 @@ flipped-known o dir known len t h k = k ∙ ap (λ (z : Dir). run concrete (flip
 
 pub stands : (o : tree.Out St ℕ) (p known : Point) (v : ℕ) (t : St) → p ≡ known → o ≡ denote known v t → o ≡ denote p v t
 stands o p known v t h k = k ∙ ap (λ (z : Point). denote z v t) (sym h)
-
--- ---- the access handed out is the one awaited
-
-pub nak-linked : (n : nak-next.NakNext) (q : Access) (p : nak-point.Nak) → n ≡ nak-to.Asks q p → nak.Linked n → awaited q ≡ nak.awaitsAt p
-nak-linked n q p h k = subst nak.Linked h k
-
-pub settle-linked : (n : settle-next.SettleNext) (q : Access) (p : settle-point.Settle)
-    → n ≡ settle-to.Asks q p → settle.Linked n → awaited q ≡ settle.awaitsAt p
-settle-linked n q p h k = subst settle.Linked h k
-
-pub toggled-linked : (n : toggled-next.ToggledNext) (q : Access) (p : toggled-point.Toggled)
-    → n ≡ toggled-to.Asks q p → toggled.Linked n → awaited q ≡ toggled.awaitsAt p
-toggled-linked n q p h k = subst toggled.Linked h k
-
-pub sof-linked : (n : sof-next.SofNext) (q : Access) (p : sof-point.Sof) → n ≡ sof-to.Asks q p → sof.Linked n → awaited q ≡ sof.awaitsAt p
-sof-linked n q p h k = subst sof.Linked h k
-
-pub late-linked : (n : late-next.LateNext) (q : Access) (p : late-point.Late) → n ≡ late-to.Asks q p → late.Linked n → awaited q ≡ late.awaitsAt p
-late-linked n q p h k = subst late.Linked h k
-
-pub complete-linked : (n : complete-next.CompleteNext) (q : Access) (p : complete-point.Complete)
-    → n ≡ complete-to.Asks q p → complete.Linked n → awaited q ≡ complete.awaitsAt p
-complete-linked n q p h k = subst complete.Linked h k
-
-pub check-linked : (n : check-next.CheckNext) (q : Access) (p : check-point.Check) → n ≡ check-to.Asks q p → check.Linked n → awaited q ≡ check.awaitsAt p
-check-linked n q p h k = subst check.Linked h k
 
 -- ---- the script, in the tails' nesting
 

@@ -52,9 +52,7 @@ low-half-requires-3 c κs = search needs
 
 returns : tie.Need-returns
 unfolding stepOf
-returns c =
-    let kind = sym (c .before .before .kind-of .ensures) ∙ c .before .match .keys1 in
-    simp (kind, c .low-byte .ensures)
+returns c = simp (sym (c .before .before .kind-of .ensures) ∙ c .before .match .keys1, c .low-byte .ensures)
 
 returns-2 : tie.Need-returns-2
 unfolding stepOf
@@ -70,33 +68,23 @@ returns-3 c =
 
 returns-4 : tie.Need-returns-4
 unfolding stepOf
-returns-4 c =
-    let kind = sym (c .before .before .kind-of .ensures) ∙ c .before .match .keys4 in
-    simp (kind, c .low-byte6 .ensures)
+returns-4 c = simp (sym (c .before .before .kind-of .ensures) ∙ c .before .match .keys4, c .low-byte6 .ensures)
 
 returns-5 : tie.Need-returns-5
 unfolding stepOf
-returns-5 c =
-    let kind = sym (c .before .kind-of .ensures) ∙ c .match .keys5 in
-    simp (kind)
+returns-5 c = simp (sym (c .before .kind-of .ensures) ∙ c .match .keys5)
 
 returns-6 : tie.Need-returns-6
 unfolding stepOf
-returns-6 c =
-    let kind = sym (c .before .before .before .kind-of .ensures) ∙ c .before .before .match .keys6 in
-    simp (kind, c .low-byte7 .ensures, c .before .low-half .ensures)
+returns-6 c = simp (sym (c .before .before .before .kind-of .ensures) ∙ c .before .before .match .keys6, c .low-byte7 .ensures, c .before .low-half .ensures)
 
 returns-7 : tie.Need-returns-7
 unfolding stepOf
-returns-7 c =
-    let kind = sym (c .before .kind-of .ensures) ∙ c .match .keys7 in
-    simp (kind)
+returns-7 c = simp (sym (c .before .kind-of .ensures) ∙ c .match .keys7)
 
 returns-8 : tie.Need-returns-8
 unfolding stepOf
-returns-8 c =
-    let kind = sym (c .before .before .kind-of .ensures) ∙ c .before .match .keys8 in
-    simp (kind, c .low-half2 .ensures)
+returns-8 c = simp (sym (c .before .before .kind-of .ensures) ∙ c .before .match .keys8, c .low-half2 .ensures)
 
 returns-9 : tie.Need-returns-9
 unfolding stepOf

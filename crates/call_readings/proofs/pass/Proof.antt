@@ -17,7 +17,6 @@ use Rattle.irq.specs.declared.Point.the-variants as point
 use Rattle.irq.specs.declared.Next.the-variants as next
 use Rattle.irq.specs.Points as points
 use Rattle.irq.specs.Continuations.{enteredAs}
-use Rattle.irq.specs.Laws.{nak-linked}
 use Rattle.irq_points.specs.Stands.{Stands}
 use Rattle.machine.specs.declared.Step.the-variants as step
 use Rattle.call_readings.specs.Readings.{lent}
@@ -114,7 +113,7 @@ returns : tie.Need-returns
 returns c i time =
     let at = c .before .before .before .before .before in
     let told = c .before .before .before .n .given .1 in
-    passes-on at i time _ _ _ (nak-linked _ _ _ told (at .nak-non-iso .ensures .1)) (c .stand-nak .ensures)
+    passes-on at i time _ _ _ (subst nak.Linked told (at .nak-non-iso .ensures .1)) (c .stand-nak .ensures)
     (nak-first (setup at) (st at) (len at) _ (view (xs at)) (b at) (is-entered at) (at .nak-non-iso .result) (naks at) _ _ told)
 
 returns-2 : tie.Need-returns-2

@@ -1,5 +1,6 @@
+use mathlib.Core.Path.{subst}
+use Rattle.iso_out.specs.Points as check
 use Rattle.irq_check.specs.StopsLaws.{stands-at, goes-on}
-use Rattle.irq.specs.Laws.{check-linked}
 use borrow.Author.Needs.{needs}
 use Rattle.irq_check.proofs.checked.Statement.{statement}
 use Rattle.irq_check.proofs.checked.Tie as tie
@@ -19,7 +20,7 @@ ep0-moved-on-requires c κs = search needs
 returns : tie.Need-returns
 returns c =
     stands-at (c .stand-check .ensures)
-    (check-linked _ _ _ (c .before .before .before .n .given .1) (c .before .before .before .before .before .before .pre))
+    (subst check.Linked (c .before .before .before .n .given .1) (c .before .before .before .before .before .before .pre))
     (simp (c .before .before .before .n .given .1))
 
 returns-2 : tie.Need-returns-2

@@ -1,10 +1,11 @@
+use Rattle.irq_transfer.specs.Nak as nak
 use Rattle.irq_check.specs.StopsLaws.{stands-in, goes-in}
-use Rattle.irq.specs.Laws.{entered-free, entered-nak, nak-asks, nak-ends, nak-linked, tells}
+use Rattle.irq.specs.Laws.{entered-free, entered-nak, nak-asks, nak-ends, tells}
 use Rattle.irq.specs.Continuations.{afterNak, enteredAs}
 use Rattle.model_ops.specs.Concrete.{concrete}
 use Rattle.model.specs.Script.{run}
 use Prim.Native.Nat.{ℕ}
-use mathlib.Core.Path.{_∙_, ap}
+use mathlib.Core.Path.{_∙_, ap, subst}
 use borrow.Author.Needs.{needs}
 use Rattle.irq_entry.proofs.after_len.Statement.{statement}
 use Rattle.irq_entry.proofs.after_len.Tie as tie
@@ -46,7 +47,7 @@ returns c =
     let the-n = c .before .before .before .n in
     let x = the-entered .result in
     let the-begin = c .before .before .before .before .before .nak-non-iso in
-    stands-in (c .stand-nak .ensures) (nak-linked _ _ _ (the-n .given .1) (the-begin .ensures .1))
+    stands-in (c .stand-nak .ensures) (subst nak.Linked (the-n .given .1) (the-begin .ensures .1))
     (λ b. nak-asks (a .setup) (λ _ u. run concrete (afterNak x) u) _ _ b (x .st) _ _ (the-n .given .1)
     ∙ entered-nak (a .setup) (a .busy) (a .st) _ _ _ b (the-entered .ensures ∙ ap (λ (z : ℕ). enteredAs (a .busy) (a .st) z) (the-short .ensures))
     (the-begin .result) (the-begin .ensures .0 b) (tells _ _ _ (the-naks-first .ensures) (the-if1 .taken)))

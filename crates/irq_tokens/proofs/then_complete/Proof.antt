@@ -1,5 +1,6 @@
+use mathlib.Core.Path.{subst}
+use Rattle.iso_in.specs.Complete as complete
 use Rattle.irq_check.specs.StopsLaws.{stands-at, goes-on}
-use Rattle.irq.specs.Laws.{complete-linked}
 use borrow.Author.Needs.{needs}
 use Rattle.irq_tokens.proofs.then_complete.Statement.{statement}
 use Rattle.irq_tokens.proofs.then_complete.Tie as tie
@@ -19,7 +20,7 @@ after-dispatch-requires c κs = search needs
 returns : tie.Need-returns
 returns c =
     stands-at (c .stand-completing .ensures)
-    (complete-linked _ _ _ (c .before .before .before .n .given .1) (c .before .before .before .before .before .before .pre))
+    (subst complete.Linked (c .before .before .before .n .given .1) (c .before .before .before .before .before .before .pre))
     (simp (c .before .before .before .n .given .1))
 
 same-length : tie.Need-same-length

@@ -1,10 +1,11 @@
+use Rattle.iso_in.specs.Sof as sof
 use Rattle.irq_check.specs.StopsLaws.{stands-at, goes-on}
-use Rattle.irq.specs.Laws.{sof-ends, sof-linked, tells}
+use Rattle.irq.specs.Laws.{sof-ends, tells}
 use Rattle.irq.specs.Continuations.{afterDispatch}
 use Rattle.irq_check.specs.SofLaws.{sof-over}
 use Rattle.model_ops.specs.Concrete.{concrete}
 use Rattle.model.specs.Script.{run}
-use mathlib.Core.Path.{_∙_}
+use mathlib.Core.Path.{_∙_, subst}
 use borrow.Author.Needs.{needs}
 use Rattle.irq_tokens.proofs.then_sof_arm.Statement.{statement}
 use Rattle.irq_tokens.proofs.then_sof_arm.Tie as tie
@@ -41,7 +42,7 @@ after-dispatch-requires c κs = search needs
 returns-2 : tie.Need-returns-2
 returns-2 c =
     stands-at (c .stand-sof-arm .ensures)
-    (sof-linked _ _ _ (c .before .before .before .n .given .1) (c .before .before .before .before .before .before .pre))
+    (subst sof.Linked (c .before .before .before .n .given .1) (c .before .before .before .before .before .before .pre))
     (simp (c .before .before .before .n .given .1))
 
 same-length : tie.Need-same-length

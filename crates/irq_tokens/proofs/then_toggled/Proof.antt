@@ -1,5 +1,6 @@
+use mathlib.Core.Path.{subst}
+use Rattle.irq_transfer.specs.Toggled as toggled
 use Rattle.irq_check.specs.StopsLaws.{stands-at, goes-on}
-use Rattle.irq.specs.Laws.{toggled-linked}
 use borrow.Author.Needs.{needs}
 use Rattle.irq_tokens.proofs.then_toggled.Statement.{statement}
 use Rattle.irq_tokens.proofs.then_toggled.Tie as tie
@@ -19,7 +20,7 @@ after-passing-requires c κs = search needs
 returns : tie.Need-returns
 returns c =
     stands-at (c .stand-toggled .ensures)
-    (toggled-linked _ _ _ (c .before .before .before .n .given .1) (c .before .before .before .before .before .before .pre))
+    (subst toggled.Linked (c .before .before .before .n .given .1) (c .before .before .before .before .before .before .pre))
     (simp (c .before .before .before .n .given .1))
 
 same-length : tie.Need-same-length

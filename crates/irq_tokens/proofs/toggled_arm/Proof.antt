@@ -1,14 +1,15 @@
+use Rattle.irq_transfer.specs.Toggled as toggled
 use Rattle.irq_check.specs.StopsLaws.{stands-at, goes-on}
 use Prim.Native.Nat.{ℕ}
 use mathlib.Core.Bool.{true}
 use Rattle.model.specs.Handler as script
 use Rattle.state.specs.State.{view}
-use Rattle.irq.specs.Laws.{toggled-asks, toggled-ends, toggled-as, toggled-linked}
+use Rattle.irq.specs.Laws.{toggled-asks, toggled-ends, toggled-as}
 use Rattle.irq.specs.Continuations.{afterDispatch, afterToggled}
 use Rattle.model_ops.specs.Concrete.{concrete}
 use Rattle.regs.specs.Status.{endpoint}
 use Rattle.model.specs.Script.{run}
-use mathlib.Core.Path.{_∙_}
+use mathlib.Core.Path.{_∙_, subst}
 use borrow.Author.Needs.{needs}
 use Rattle.irq_tokens.proofs.toggled_arm.Statement.{statement}
 use Rattle.irq_tokens.proofs.toggled_arm.Tie as tie
@@ -37,7 +38,7 @@ returns c =
     let a = c .before .before .before .before .before .before .before .before .args in
     let the-n = c .before .before .before .n in
     let the-begin = c .before .before .before .before .before .begin in
-    stands-at (c .stand-toggled .ensures) (toggled-linked _ _ _ (the-n .given .1) (the-begin .ensures .1))
+    stands-at (c .stand-toggled .ensures) (subst toggled.Linked (the-n .given .1) (the-begin .ensures .1))
     (toggled-asks (a .setup) (λ _ u. run concrete (afterDispatch (a .x) (a .iso)) u) (λ z u. run concrete (afterToggled (a .d) (a .x) z) u) _ _ (a .d)
     (endpoint ((a .x) .st)) _ _ _ (the-n .given .1)
     ∙ toggled-as (a .setup) (λ _ u. run concrete (afterDispatch (a .x) (a .iso)) u) (λ z u. run concrete (afterToggled (a .d) (a .x) z) u) (a .d) _ _
