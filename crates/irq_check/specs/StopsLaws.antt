@@ -15,12 +15,12 @@ use Rattle.irq_points.specs.StandsLaws.{stops-at, stored-at, then-on}
 
 -- at a point: its access is the first of the rest
 module _ {r : ℕ} {q : Access} {p : Point} {xs ys : List ℕ} (h : Stands r q p xs ys) (l : awaited q ≡ awaitsAt p) where
-  pub stands-at : {b : Buf} {o : Out St ℕ} → meaning (next.Asks q p) (view xs) b ≡ o → Stops r ys b o × Pins r ys
-  stands-at {b} m = (stops-at h l b m, stored-at h)
+  pub pauses-at : {b : Buf} {o : Out St ℕ} → meaning (next.Asks q p) (view xs) b ≡ o → Stops r ys b o × Pins r ys
+  pauses-at {b} m = (stops-at h l b m, stored-at h)
 
   -- in any buffer
-  pub stands-in : {o : Buf → Out St ℕ} → ((b : Buf) → meaning (next.Asks q p) (view xs) b ≡ o b) → ((b : Buf) → Stops r ys b (o b)) × Pins r ys
-  stands-in m = (λ b. stops-at h l b (m b), stored-at h)
+  pub pauses-in : {o : Buf → Out St ℕ} → ((b : Buf) → meaning (next.Asks q p) (view xs) b ≡ o b) → ((b : Buf) → Stops r ys b (o b)) × Pins r ys
+  pauses-in m = (λ b. stops-at h l b (m b), stored-at h)
 
 -- by another function, whose rest is the same said another way
 module _ {r : ℕ} {ys : List ℕ} where

@@ -1,5 +1,5 @@
 use Rattle.iso_out.specs.Points as check
-use Rattle.irq_check.specs.StopsLaws.{stands-at, goes-on}
+use Rattle.irq_check.specs.StopsLaws.{pauses-at, goes-on}
 use Rattle.irq.specs.Laws.{after, check-asks, check-ends, tells, tells-not, when-yes}
 use Rattle.irq.specs.Continuations.{afterCheck, afterDispatch}
 use Rattle.irq_check.specs.SofLaws.{sof-over}
@@ -50,7 +50,7 @@ returns-2 c =
     let the-begin = c .before .before .before .before .before .before .before .iso-out-check in
     let the-is-sof = c .before .before .before .before .before .before .before .before .before .before .before .is-sof in
     let the-if1 = c .before .before .before .before .before .before .before .before .before .before .if1 in
-    stands-at (c .stand-check .ensures) (subst check.Linked (the-n .given .1) (the-begin .ensures .1 .1))
+    pauses-at (c .stand-check .ensures) (subst check.Linked (the-n .given .1) (the-begin .ensures .1 .1))
     (check-asks (a .setup) (λ _ u. run concrete (afterCheck (a .x)) u) _ _ _ (a .x) (a .iso) _ _ (the-n .given .1)
     ∙ (after (a .setup) (λ _ u. run concrete (afterCheck (a .x)) u) _ _ (the-begin .ensures .0)
     ∙ when-yes (a .setup) (isoOutCheck (a .x) (a .iso)) (λ _ u. run concrete (afterCheck (a .x)) u) _ _

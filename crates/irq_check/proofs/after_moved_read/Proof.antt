@@ -1,4 +1,4 @@
-use Rattle.irq_check.specs.StopsLaws.{stands-in}
+use Rattle.irq_check.specs.StopsLaws.{pauses-in}
 use mathlib.Core.Path.{refl}
 use borrow.Author.Needs.{needs}
 use Rattle.irq_check.proofs.after_moved_read.Statement.{statement}
@@ -21,7 +21,7 @@ stand-moved-wrote-requires c κs = search needs
 
 returns : tie.Need-returns
 returns c =
-    stands-in (c .stand-moved-wrote .ensures) refl
+    pauses-in (c .stand-moved-wrote .ensures) refl
     (λ b. simp (c .before .ctrl-of .ensures, c .before .before .before .nakflip .ensures, c .before .before .before .before .byte .ensures))
 
 pub after-moved-read-spec : {M : Type 1} → statement M

@@ -1,4 +1,4 @@
-use Rattle.irq_check.specs.StopsLaws.{stands-in, goes-in}
+use Rattle.irq_check.specs.StopsLaws.{pauses-in, goes-in}
 use Rattle.irq_transfer.specs.Laws.{word-width}
 use borrow.Author.Needs.{needs}
 use Rattle.irq_check.proofs.moved_on.Statement.{statement}
@@ -19,7 +19,7 @@ stand-moved-read-requires c κs = search needs
 returns : tie.Need-returns
 returns c =
     let the-ctrl-of = c .before .ctrl-of in
-    stands-in (c .stand-moved-read .ensures) (simp (the-ctrl-of .ensures, word-width))
+    pauses-in (c .stand-moved-read .ensures) (simp (the-ctrl-of .ensures, word-width))
     (λ b. simp (
       the-ctrl-of .ensures,
       ← c .before .before .before .before .before .load-ep .ensures,

@@ -1,5 +1,5 @@
 use Rattle.irq_transfer.specs.Nak as nak
-use Rattle.irq_check.specs.StopsLaws.{stands-in, goes-in}
+use Rattle.irq_check.specs.StopsLaws.{pauses-in, goes-in}
 use Rattle.irq.specs.Laws.{entered-free, entered-nak, nak-asks, nak-ends, tells}
 use Rattle.irq.specs.Continuations.{afterNak, enteredAs}
 use Rattle.model_ops.specs.Concrete.{concrete}
@@ -47,7 +47,7 @@ returns c =
     let the-n = c .before .before .before .n in
     let x = the-entered .result in
     let the-begin = c .before .before .before .before .before .nak-non-iso in
-    stands-in (c .stand-nak .ensures) (subst nak.Linked (the-n .given .1) (the-begin .ensures .1))
+    pauses-in (c .stand-nak .ensures) (subst nak.Linked (the-n .given .1) (the-begin .ensures .1))
     (λ b. nak-asks (a .setup) (λ _ u. run concrete (afterNak x) u) _ _ b (x .st) _ _ (the-n .given .1)
     ∙ entered-nak (a .setup) (a .busy) (a .st) _ _ _ b (the-entered .ensures ∙ ap (λ (z : ℕ). enteredAs (a .busy) (a .st) z) (the-short .ensures))
     (the-begin .result) (the-begin .ensures .0 b) (tells _ _ _ (the-naks-first .ensures) (the-if1 .taken)))

@@ -1,4 +1,4 @@
-use Rattle.irq_check.specs.StopsLaws.{stands-in}
+use Rattle.irq_check.specs.StopsLaws.{pauses-in}
 use Rattle.irq.specs.Continuations.{afterMis}
 use mathlib.Core.Path.{refl}
 use borrow.Author.Needs.{needs}
@@ -16,7 +16,7 @@ stand-st-requires c κs = search needs
 
 returns : tie.Need-returns
 unfolding afterMis
-returns c = stands-in (c .stand-st .ensures) refl (λ b. simp (c .before .before .sie-free .ensures, c .before .before .before .byte .ensures))
+returns c = pauses-in (c .stand-st .ensures) refl (λ b. simp (c .before .before .sie-free .ensures, c .before .before .before .byte .ensures))
 
 pub after-mis-spec : {M : Type 1} → statement M
 after-mis-spec =

@@ -1,5 +1,5 @@
 use Rattle.irq_transfer.specs.Settle as settle
-use Rattle.irq_check.specs.StopsLaws.{stands-in, goes-in}
+use Rattle.irq_check.specs.StopsLaws.{pauses-in, goes-in}
 use Rattle.irq.specs.Laws.{after, settle-asks, settle-ends}
 use Rattle.irq.specs.Continuations.{afterRelease, afterSettle}
 use Rattle.model_ops.specs.Concrete.{concrete}
@@ -30,7 +30,7 @@ returns c =
     let a = c .before .before .before .before .before .before .before .args in
     let the-n = c .before .before .before .n in
     let the-begin = c .before .before .before .before .before .begin in
-    stands-in (c .stand-settle .ensures) (subst settle.Linked (the-n .given .1) (the-begin .ensures .1))
+    pauses-in (c .stand-settle .ensures) (subst settle.Linked (the-n .given .1) (the-begin .ensures .1))
     (λ b. settle-asks (a .setup) (λ y u. run concrete (afterSettle y) u) _ b (a .x) _ _ _ (the-n .given .1)
     ∙ after (a .setup) (λ y u. run concrete (afterSettle y) u) _ _ (the-begin .ensures .0 b))
 

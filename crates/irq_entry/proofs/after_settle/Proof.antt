@@ -1,4 +1,4 @@
-use Rattle.irq_check.specs.StopsLaws.{stands-in}
+use Rattle.irq_check.specs.StopsLaws.{pauses-in}
 use Rattle.irq.specs.Continuations.{afterSettle}
 use mathlib.Core.Path.{refl}
 use borrow.Author.Needs.{needs}
@@ -23,7 +23,7 @@ stand-frame-no-requires c κs = search needs
 returns : tie.Need-returns
 unfolding afterSettle
 returns c =
-    stands-in (c .stand-frame-no .ensures) refl
+    pauses-in (c .stand-frame-no .ensures) refl
     (λ b. simp (
       c .before .before .iso-for .ensures,
       c .before .before .before .load-ep2 .ensures,

@@ -1,4 +1,4 @@
-use Rattle.irq_check.specs.StopsLaws.{stands-in}
+use Rattle.irq_check.specs.StopsLaws.{pauses-in}
 use Rattle.irq.specs.Continuations.{afterNak}
 use mathlib.Core.Path.{refl}
 use borrow.Author.Needs.{needs}
@@ -10,7 +10,7 @@ stand-released-requires c κs = search needs
 
 returns : tie.Need-returns
 unfolding afterNak
-returns c = stands-in (c .stand-released .ensures) refl (λ b. refl)
+returns c = pauses-in (c .stand-released .ensures) refl (λ b. refl)
 
 pub release-spec : {M : Type 1} → statement M
 release-spec =

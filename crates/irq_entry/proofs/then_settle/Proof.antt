@@ -1,6 +1,6 @@
 use mathlib.Core.Path.{subst}
 use Rattle.irq_transfer.specs.Settle as settle
-use Rattle.irq_check.specs.StopsLaws.{stands-in, goes-in}
+use Rattle.irq_check.specs.StopsLaws.{pauses-in, goes-in}
 use borrow.Author.Needs.{needs}
 use Rattle.irq_entry.proofs.then_settle.Statement.{statement}
 use Rattle.irq_entry.proofs.then_settle.Tie as tie
@@ -19,7 +19,7 @@ after-settle-requires c κs = search needs
 
 returns : tie.Need-returns
 returns c =
-    stands-in (c .stand-settle .ensures) (subst settle.Linked (c .before .before .before .n .given .1) (c .before .before .before .before .before .pre))
+    pauses-in (c .stand-settle .ensures) (subst settle.Linked (c .before .before .before .n .given .1) (c .before .before .before .before .before .pre))
     (λ b. simp (c .before .before .before .n .given .1))
 
 returns-2 : tie.Need-returns-2

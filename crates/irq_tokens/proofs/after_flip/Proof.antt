@@ -1,4 +1,4 @@
-use Rattle.irq_check.specs.StopsLaws.{stands-in}
+use Rattle.irq_check.specs.StopsLaws.{pauses-in}
 use mathlib.Core.Path.{refl}
 use borrow.Author.Needs.{needs}
 use Rattle.irq_tokens.proofs.after_flip.Statement.{statement}
@@ -21,7 +21,7 @@ stand-flipped-requires c κs = search needs
 
 returns : tie.Need-returns
 returns c =
-    stands-in (c .stand-flipped .ensures) refl
+    pauses-in (c .stand-flipped .ensures) refl
     (λ b. simp (c .before .ctrl-of .ensures, c .before .before .before .flip .ensures, c .before .before .before .before .byte .ensures))
 
 pub after-flip-spec : {M : Type 1} → statement M

@@ -1,5 +1,5 @@
 use Rattle.iso_in.specs.Complete as complete
-use Rattle.irq_check.specs.StopsLaws.{stands-at, goes-on}
+use Rattle.irq_check.specs.StopsLaws.{pauses-at, goes-on}
 use Rattle.irq.specs.Laws.{after, complete-asks, complete-ends, in-frame, paced-told, tells, test-yes}
 use Rattle.irq.specs.Continuations.{afterDispatch, thenCheck}
 use Rattle.model_ops.specs.Concrete.{concrete}
@@ -69,7 +69,7 @@ returns-2 c =
     let the-begin = c .before .before .before .before .before .iso-in-complete in
     let the-endpoint = early .before .before .before .before .before .endpoint in
     let the-first-in-frame = c .before .before .before .before .before .before .before .before .first-in-frame in
-    stands-at (c .stand-completing .ensures) (subst complete.Linked (the-n .given .1) (the-begin .ensures .1 .1))
+    pauses-at (c .stand-completing .ensures) (subst complete.Linked (the-n .given .1) (the-begin .ensures .1 .1))
     (complete-asks (a .setup) (λ _ u. run concrete (afterDispatch (a .x) (a .iso)) u) _ _ _ _ _ (the-n .given .1)
     ∙ (after (a .setup) (λ _ u. run concrete (afterDispatch (a .x) (a .iso)) u) _ _ (the-begin .ensures .0 _)
     ∙ in-frame (thenCheck (a .setup) (a .x) (a .iso)) _ _ _ _ _ ((a .x) .st) true (the-endpoint .ensures) (the-first-in-frame .ensures .1 .0)

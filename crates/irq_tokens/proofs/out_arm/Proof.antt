@@ -1,4 +1,4 @@
-use Rattle.irq_check.specs.StopsLaws.{stands-at, goes-on}
+use Rattle.irq_check.specs.StopsLaws.{pauses-at, goes-on}
 use Rattle.irq.specs.Laws.{of-ep0, of-other, tells, test-no, test-yes}
 use Rattle.irq.specs.Continuations.{thenCheck}
 use borrow.Author.Tests.{eq-eqb, ne-eqb}
@@ -33,7 +33,7 @@ returns-2 c =
     let told = c .before .before in
     let e = told .before .before in
     let a = e .before .before .before .before .args in
-    stands-at (c .stand-flip .ensures) refl
+    pauses-at (c .stand-flip .ensures) refl
     (test-yes (thenCheck (a .setup) (a .x) (a .iso)) _ _ _ (tells _ _ _ (told .before .tog-ok .ensures) (told .if3 .taken))
     ∙ of-ep0 (thenCheck (a .setup) (a .x) (a .iso)) (a .iso) _ _ _ (e .before .endpoint .ensures) (e .before .before .if1 .left) (eq-eqb _ _ (e .if2 .taken)))
 

@@ -1,5 +1,5 @@
 use Rattle.iso_in.specs.Sof as sof
-use Rattle.irq_check.specs.StopsLaws.{stands-in, goes-in}
+use Rattle.irq_check.specs.StopsLaws.{pauses-in, goes-in}
 use Rattle.irq.specs.Laws.{after, sof-asks, sof-ends, sof-handled, when-no, when-yes}
 use Rattle.irq.specs.Continuations.{afterDispatch}
 use Rattle.irq_check.specs.SofLaws.{sof-over}
@@ -51,7 +51,7 @@ returns-2 c =
     let a = c .before .before .before .before .before .before .before .before .before .before .before .args in
     let the-n = c .before .before .before .n in
     let the-begin = c .before .before .before .before .before .on-sof in
-    stands-in (c .stand-sof-arm .ensures) (subst sof.Linked (the-n .given .1) (the-begin .ensures .1 .1))
+    pauses-in (c .stand-sof-arm .ensures) (subst sof.Linked (the-n .given .1) (the-begin .ensures .1 .1))
     (λ b. sof-asks (a .setup) (λ _ u. run concrete (afterDispatch (a .x) (a .iso)) u) _ _ b (a .frame) _ _ (the-n .given .1)
     ∙ (after (a .setup) (λ _ u. run concrete (afterDispatch (a .x) (a .iso)) u) _ _ (the-begin .ensures .0 b)
     ∙ when-yes (a .setup) (onSof (a .frame)) (λ _ u. run concrete (afterDispatch (a .x) (a .iso)) u) _ _

@@ -1,6 +1,6 @@
 use mathlib.Core.Path.{subst}
 use Rattle.iso_in.specs.Complete as complete
-use Rattle.irq_check.specs.StopsLaws.{stands-at, goes-on}
+use Rattle.irq_check.specs.StopsLaws.{pauses-at, goes-on}
 use borrow.Author.Needs.{needs}
 use Rattle.irq_tokens.proofs.then_complete.Statement.{statement}
 use Rattle.irq_tokens.proofs.then_complete.Tie as tie
@@ -19,7 +19,7 @@ after-dispatch-requires c κs = search needs
 
 returns : tie.Need-returns
 returns c =
-    stands-at (c .stand-completing .ensures)
+    pauses-at (c .stand-completing .ensures)
     (subst complete.Linked (c .before .before .before .n .given .1) (c .before .before .before .before .before .before .pre))
     (simp (c .before .before .before .n .given .1))
 

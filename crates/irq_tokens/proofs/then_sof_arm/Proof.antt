@@ -1,5 +1,5 @@
 use Rattle.iso_in.specs.Sof as sof
-use Rattle.irq_check.specs.StopsLaws.{stands-at, goes-on}
+use Rattle.irq_check.specs.StopsLaws.{pauses-at, goes-on}
 use Rattle.irq.specs.Laws.{sof-ends, tells}
 use Rattle.irq.specs.Continuations.{afterDispatch}
 use Rattle.irq_check.specs.SofLaws.{sof-over}
@@ -41,7 +41,7 @@ after-dispatch-requires c κs = search needs
 
 returns-2 : tie.Need-returns-2
 returns-2 c =
-    stands-at (c .stand-sof-arm .ensures)
+    pauses-at (c .stand-sof-arm .ensures)
     (subst sof.Linked (c .before .before .before .n .given .1) (c .before .before .before .before .before .before .pre))
     (simp (c .before .before .before .n .given .1))
 

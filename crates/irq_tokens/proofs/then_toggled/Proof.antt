@@ -1,6 +1,6 @@
 use mathlib.Core.Path.{subst}
 use Rattle.irq_transfer.specs.Toggled as toggled
-use Rattle.irq_check.specs.StopsLaws.{stands-at, goes-on}
+use Rattle.irq_check.specs.StopsLaws.{pauses-at, goes-on}
 use borrow.Author.Needs.{needs}
 use Rattle.irq_tokens.proofs.then_toggled.Statement.{statement}
 use Rattle.irq_tokens.proofs.then_toggled.Tie as tie
@@ -19,7 +19,7 @@ after-passing-requires c κs = search needs
 
 returns : tie.Need-returns
 returns c =
-    stands-at (c .stand-toggled .ensures)
+    pauses-at (c .stand-toggled .ensures)
     (subst toggled.Linked (c .before .before .before .n .given .1) (c .before .before .before .before .before .before .pre))
     (simp (c .before .before .before .n .given .1))
 

@@ -1,5 +1,5 @@
 use Rattle.irq_transfer.specs.Toggled as toggled
-use Rattle.irq_check.specs.StopsLaws.{stands-at, goes-on}
+use Rattle.irq_check.specs.StopsLaws.{pauses-at, goes-on}
 use Prim.Native.Nat.{ℕ}
 use mathlib.Core.Bool.{true}
 use Rattle.model.specs.Handler as script
@@ -38,7 +38,7 @@ returns c =
     let a = c .before .before .before .before .before .before .before .before .args in
     let the-n = c .before .before .before .n in
     let the-begin = c .before .before .before .before .before .begin in
-    stands-at (c .stand-toggled .ensures) (subst toggled.Linked (the-n .given .1) (the-begin .ensures .1))
+    pauses-at (c .stand-toggled .ensures) (subst toggled.Linked (the-n .given .1) (the-begin .ensures .1))
     (toggled-asks (a .setup) (λ _ u. run concrete (afterDispatch (a .x) (a .iso)) u) (λ z u. run concrete (afterToggled (a .d) (a .x) z) u) _ _ (a .d)
     (endpoint ((a .x) .st)) _ _ _ (the-n .given .1)
     ∙ toggled-as (a .setup) (λ _ u. run concrete (afterDispatch (a .x) (a .iso)) u) (λ z u. run concrete (afterToggled (a .d) (a .x) z) u) (a .d) _ _

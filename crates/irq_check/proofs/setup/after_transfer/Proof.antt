@@ -1,4 +1,4 @@
-use Rattle.irq_check.specs.StopsLaws.{stands-in, goes-in}
+use Rattle.irq_check.specs.StopsLaws.{pauses-in, goes-in}
 use Rattle.irq.specs.Continuations.{afterSetupTx, afterTransfer}
 use mathlib.Core.Path.{refl}
 use borrow.Author.Needs.{needs}
@@ -13,7 +13,7 @@ stand-setup-rx-requires c κs = search needs
 
 returns : tie.Need-returns
 unfolding afterTransfer afterSetupTx
-returns c = stands-in (c .stand-setup-rx .ensures) refl (λ b. simp (c .before .nak-word .ensures, c .before .before .before .if1 .taken))
+returns c = pauses-in (c .stand-setup-rx .ensures) refl (λ b. simp (c .before .nak-word .ensures, c .before .before .before .if1 .taken))
 
 stop-requires : tie.Need-stop-requires
 stop-requires c κs = search needs

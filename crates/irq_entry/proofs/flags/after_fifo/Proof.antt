@@ -1,4 +1,4 @@
-use Rattle.irq_check.specs.StopsLaws.{stands-in, goes-in}
+use Rattle.irq_check.specs.StopsLaws.{pauses-in, goes-in}
 use Rattle.irq.specs.Continuations.{afterFifo}
 use mathlib.Core.Path.{refl}
 use borrow.Author.Needs.{needs}
@@ -13,7 +13,7 @@ stand-host-requires c κs = search needs
 
 returns : tie.Need-returns
 unfolding afterFifo
-returns c = stands-in (c .stand-host .ensures) refl (λ b. simp (← c .before .before .before .hst-sof .ensures, c .before .before .if1 .taken))
+returns c = pauses-in (c .stand-host .ensures) refl (λ b. simp (← c .before .before .before .hst-sof .ensures, c .before .before .if1 .taken))
 
 after-host-requires : tie.Need-after-host-requires
 after-host-requires c κs = search needs

@@ -1,4 +1,4 @@
-use Rattle.irq_check.specs.StopsLaws.{stands-in, goes-in}
+use Rattle.irq_check.specs.StopsLaws.{pauses-in, goes-in}
 use Rattle.irq.specs.Continuations.{afterFlags}
 use mathlib.Core.Path.{refl}
 use borrow.Author.Needs.{needs}
@@ -35,7 +35,7 @@ returns c =
     let the-bus-rst = c .before .before .before .before .before .before .before .before .bus-rst in
     let the-if1 = c .before .before .before .before .before .before .before .if1 in
     let the-byte = c .before .before .before .before .before .before .before .before .before .byte in
-    stands-in (c .stand-bus-rst .ensures) refl
+    pauses-in (c .stand-bus-rst .ensures) refl
     (λ b. simp (
       the-set-int-en .ensures .0,
       the-with-bus-rst .ensures,

@@ -1,4 +1,4 @@
-use Rattle.irq_check.specs.StopsLaws.{stands-in}
+use Rattle.irq_check.specs.StopsLaws.{pauses-in}
 use Rattle.irq.specs.Laws.{microframe-kept}
 use mathlib.Core.Path.{refl}
 use borrow.Author.Needs.{needs}
@@ -27,7 +27,7 @@ returns c =
     let the-short = c .before .before .before .before .before .before .before .short in
     let the-microframe-index = c .before .before .before .before .before .before .microframe-index in
     let the-store-globals = c .before .before .store-globals in
-    stands-in (c .stand-flags .ensures) refl
+    pauses-in (c .stand-flags .ensures) refl
     (λ b. microframe-kept (a .v) _ _ (the-load-globals .result) _ _ b (the-short .ensures) (the-microframe-index .ensures) (the-load-globals .ensures)
     (the-store-globals .ensures .0))
 

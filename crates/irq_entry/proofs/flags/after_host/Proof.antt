@@ -1,4 +1,4 @@
-use Rattle.irq_check.specs.StopsLaws.{stands-in, goes-in}
+use Rattle.irq_check.specs.StopsLaws.{pauses-in, goes-in}
 use Rattle.irq.specs.Laws.{host-other, host-transfer, tells}
 use mathlib.Core.Path.{refl}
 use borrow.Author.Needs.{needs}
@@ -16,7 +16,7 @@ stand-mis-requires c κs = search needs
 
 returns : tie.Need-returns
 returns c =
-    stands-in (c .stand-mis .ensures) refl
+    pauses-in (c .stand-mis .ensures) refl
     (λ b. host-transfer _ _ _ b (c .before .before .before .before .setup-act .ensures)
     (tells _ _ _ (c .before .before .before .transfer .ensures) (c .before .before .if1 .taken)))
 

@@ -1,4 +1,4 @@
-use Rattle.irq_check.specs.StopsLaws.{stands-in, goes-in}
+use Rattle.irq_check.specs.StopsLaws.{pauses-in, goes-in}
 use Rattle.irq.specs.Continuations.{afterSuspend}
 use mathlib.Core.Path.{refl}
 use borrow.Author.Needs.{needs}
@@ -13,7 +13,7 @@ stand-fifo-requires c κs = search needs
 
 returns : tie.Need-returns
 unfolding afterSuspend
-returns c = stands-in (c .stand-fifo .ensures) refl (λ b. simp (← c .before .before .before .fifo-ov .ensures, c .before .before .if1 .taken))
+returns c = pauses-in (c .stand-fifo .ensures) refl (λ b. simp (← c .before .before .before .fifo-ov .ensures, c .before .before .if1 .taken))
 
 after-fifo-requires : tie.Need-after-fifo-requires
 after-fifo-requires c κs = search needs

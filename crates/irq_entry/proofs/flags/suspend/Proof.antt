@@ -1,4 +1,4 @@
-use Rattle.irq_check.specs.StopsLaws.{stands-in, goes-in}
+use Rattle.irq_check.specs.StopsLaws.{pauses-in, goes-in}
 use Rattle.irq.specs.Continuations.{afterBusRst}
 use mathlib.Core.Path.{refl}
 use borrow.Author.Needs.{needs}
@@ -31,7 +31,7 @@ returns c =
     let the-load-globals = c .before .before .before .before .before .load-globals in
     let the-suspend = c .before .before .before .before .before .before .before .before .suspend in
     let the-if1 = c .before .before .before .before .before .before .before .if1 in
-    stands-in (c .stand-suspend .ensures) refl
+    pauses-in (c .stand-suspend .ensures) refl
     (λ b. simp (the-set-int-en .ensures .0, the-with-suspend .ensures, the-load-globals .ensures, ← the-suspend .ensures, the-if1 .taken))
 
 fifo-requires : tie.Need-fifo-requires

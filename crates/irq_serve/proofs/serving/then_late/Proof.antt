@@ -1,6 +1,6 @@
 use mathlib.Core.Path.{subst}
 use Rattle.iso_in.specs.Late as late
-use Rattle.irq_check.specs.StopsLaws.{stands-at, goes-on}
+use Rattle.irq_check.specs.StopsLaws.{pauses-at, goes-on}
 use borrow.Author.Needs.{needs}
 use Rattle.irq_serve.proofs.serving.then_late.Statement.{statement}
 use Rattle.irq_serve.proofs.serving.then_late.Tie as tie
@@ -19,7 +19,7 @@ after-late-requires c κs = search needs
 
 returns : tie.Need-returns
 returns c =
-    stands-at (c .stand-late .ensures) (subst late.Linked (c .before .before .before .n .given .1) (c .before .before .before .before .before .before .pre))
+    pauses-at (c .stand-late .ensures) (subst late.Linked (c .before .before .before .n .given .1) (c .before .before .before .before .before .before .pre))
     (simp (c .before .before .before .n .given .1))
 
 same-length : tie.Need-same-length
