@@ -242,14 +242,10 @@ pub fn fits_at(p: Settle, v: u32) -> bool
     ensures { λ r. ⌜ r ≡ fitsAt p v ⌝ }
 {
     match p {
-        Settle::IsoLook(_n) => fits(v, 2),
-        Settle::IsoSt => fits(v, 7),
-        Settle::IsoLen(_now) => fits(v, 16),
-        Settle::BulkLook(_n) => fits(v, 2),
-        Settle::BulkLen => fits(v, 16),
-        Settle::Mis => fits(v, 2),
+        Settle::IsoLook(_) | Settle::BulkLook(_) | Settle::Mis => fits(v, 2),
+        Settle::IsoSt | Settle::St => fits(v, 7),
+        Settle::IsoLen(_) | Settle::BulkLen => fits(v, 16),
         Settle::Flags => fits(v, 6),
-        Settle::St => fits(v, 7),
         Settle::Nak(_st, q) => nak::fits_at(q, v),
     }
 }
