@@ -5,6 +5,7 @@ use regs::Reg;
 ghost use mathlib.Core.Path.{_≡_};
 ghost use Prim.Native.Nat.{_/_, _%_, _^_};
 ghost use Rattle.call_answer_word.specs.Parts.{regOf, writeOf, stepOf};
+ghost use Rattle.call_answer_step.specs.Asked.{accessOf};
 
 fn register_of(n: u8) -> Reg
     ensures { λ r. ⌜ r ≡ regOf n ⌝ }
@@ -64,16 +65,25 @@ fn high_word(w: u64) -> u32
     (w / 0x1_0000_0000) as u32
 }
 
+// The access that a word of kind 1 to 4 hands out.
+fn access_of(kind: u8, w: u64) -> Access
+    ensures { λ r. ⌜ r ≡ accessOf kind w ⌝ }
+{
+    match kind {
+        1 => Access::Read(register_of(low_byte(w / 256)), low_byte(w / 65536)),
+        2 => write_of(low_byte(w / 256), low_byte(w / 65536), high_word(w)),
+        3 => Access::Wait(low_byte(w / 256)),
+        _ => Access::Callback,
+    }
+}
+
 pub fn step_of(w: u64) -> Step
     ensures { λ r. ⌜ r ≡ stepOf w ⌝ }
 {
     let kind = kind_of(w);
     match kind {
         0 => Step::Refused(low_byte(w / 256)),
-        1 => Step::Asks(Access::Read(register_of(low_byte(w / 256)), low_byte(w / 65536))),
-        2 => Step::Asks(write_of(low_byte(w / 256), low_byte(w / 65536), high_word(w))),
-        3 => Step::Asks(Access::Wait(low_byte(w / 256))),
-        4 => Step::Asks(Access::Callback),
+        1 | 2 | 3 | 4 => Step::Asks(access_of(kind, w)),
         5 => Step::Ends(low_half(w / 256), low_byte(w / 16777216)),
         6 => Step::NotYet,
         7 => Step::Done(low_half(w / 256)),

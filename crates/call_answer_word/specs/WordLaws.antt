@@ -156,6 +156,10 @@ step-word (Done n) h = done-word n h
 step-word (Setup low high) h = done-word 8 (omega arith)
 step-word (Shown at n stamp) h = shown-word at n (h .1)
 
+-- the word of an access by another name
+pub access-says : (r : ℕ) (q p : Access) → q ≡ p → AccessFits p → r ≡ accessWord p → (r ≡ accessWord q) × AccessFits q
+access-says r q p e h k = (k ∙ ap accessWord (sym e), subst AccessFits (sym e) h)
+
 -- the word of an answer by another name
 pub says : (r : ℕ) (step t : Step) → step ≡ t → Fits t → r ≡ wordOf t → Encodes r step
 unfolding Encodes

@@ -1,10 +1,7 @@
 -- An enabling's charge at its place in the record
 use mathlib.Core.List.{List}
-use mathlib.Core.Path.{_≡_}
 use Prim.Native.Nat.{ℕ}
 use lib.ListN.{set}
-use Rattle.regs.specs.declared.Dir.{Dir}
-use Rattle.state.specs.Driver.{Driver}
 use Rattle.model.specs.Answers.{Answer}
 use Rattle.model.specs.Machine.{Ans, ended, handed, told}
 

@@ -3,16 +3,14 @@ use mathlib.Core.Bool.{Bool, true, false, cond, _&&_, true≢false}
 use mathlib.Core.List.{List}
 use mathlib.Core.Path.{_≡_, refl, ap, sym, _∙_}
 use Prim.Native.Nat.{ℕ}
-use lib.Dec.{eqb}
 use Rattle.regs.specs.declared.Dir.{Dir}
 use Rattle.state.specs.Driver.{Driver}
-use Rattle.model.specs.Answers.{Answer, Refused, isAllocated}
+use Rattle.model.specs.Answers.{Answer, Refused}
 use Rattle.model.specs.Calls.{slotted, SetEnabled}
 use Rattle.model.specs.Machine.{Buf, Machine, begin, Ans, ended, handed, told}
 use Rattle.machine.specs.declared.Suspended.{Suspended}
 use Rattle.machine.specs.Suspended.{machineAt, drive, slotsFit, lentOr}
 use Rattle.machine.specs.Goes.{Called}
-use Rattle.machine.specs.Rows.{isIdle, stopOf}
 use Rattle.req_bus_time.specs.Time.{entryOf, passes}
 use Rattle.call_bus_time.specs.Sharing.{Sort, enabling, apart, chargeOn, isHanded, timeAfter, sharedCall}
 use Rattle.call_bus_time.specs.SharingLaws.{settles, refuses}

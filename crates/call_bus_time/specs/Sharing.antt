@@ -1,7 +1,7 @@
 -- A driver's calls with the bus time that up to four drivers share (document 02, request Seven)
 use mathlib.Core.Bool.{Bool, true, false, cond, _&&_}
-use mathlib.Core.List.{List}
-use mathlib.Core.Path.{_≡_, _∙_}
+use mathlib.Core.List.{List, []}
+use mathlib.Core.Path.{_≡_}
 use Prim.Native.Nat.{ℕ}
 use lib.ListN.{set}
 use Rattle.regs.specs.declared.Access.{Access}
@@ -9,12 +9,14 @@ use Rattle.regs.specs.declared.Access.the-variants.{Read, Write, Receive, Trans
 use Rattle.regs.specs.declared.Reg.the-variants.{EpConfig}
 use Rattle.regs.specs.declared.Dir.{Dir}
 use Rattle.state.specs.Driver.{Driver, epOn}
+use Rattle.state.specs.State.{view}
 use Rattle.model.specs.Every.{sameReg}
 use Rattle.model.specs.Answers.{Answer, Refused}
 use Rattle.model.specs.Calls.{Config, Op, interrupt, slotted, other, aside, Slotted, SetEnabled, PollRead, BeginWrite}
 use Rattle.model.specs.Calls.{PollWrite, PollDataOut, BeginDataIn, calls}
 use Rattle.model.specs.Machine.{Buf, Call, start, begin, go, question, Machine, Ans, ended, handed, told, lentTo}
-use Rattle.machine.specs.Suspended.{driverOf, drive}
+use Rattle.machine.specs.declared.Step.{Step}
+use Rattle.machine.specs.Suspended.{driverOf, drive, machineOf, answerOf, lentOr, BufferUnchangedOnRow1, SavedByAnswer}
 use Rattle.machine.specs.Goes.{Called}
 use Rattle.req_bus_time.specs.Time.{chargeOf, entryOf, passes, keepOf}
 
@@ -89,3 +91,12 @@ settled i x m t b y = cond (turnedDown i x (y .0) (m .st) t) ((ended (Refused 19
 -- a call of driver i: the driver's own (machine/specs/Suspended.antt), unless it is turned down, which changes nothing
 abbrev pub sharedCall : ℕ → Call Config Op → Machine Answer Driver → List ℕ → Buf → Called × List ℕ
 sharedCall i c m t b = settled i (sortOf c) m t b (drive c m b)
+
+-- what a call that brings the slots and the record of bus time ensures of its answer: the state's bytes, the slots' and the record's, before and after
+abbrev pub SharedStep : Step → ℕ → Call Config Op → List ℕ → List ℕ → Buf → Buf → List ℕ → List ℕ → Type 0
+SharedStep step i c before after slots slots′ time time′ =
+    ((a : Buf) → (
+      (answerOf step [] (view after), machineOf after (lentOr (view before) slots slots′ a)),
+      time′,
+    ) ≡ sharedCall i c (machineOf before a) time slots)
+    × (BufferUnchangedOnRow1 (view before) slots slots′ × SavedByAnswer step before after)

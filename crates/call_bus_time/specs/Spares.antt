@@ -1,19 +1,9 @@
 -- No write of ep_config, with which bus time comes back (request Seven). SparesLaws.antt proves it of every access of an interrupt
-use mathlib.Core.Bool.{Bool}
-use mathlib.Core.List.{List, [], _∷_}
-use Prim.Native.Nat.{ℕ}
 use Rattle.regs.specs.declared.Access.{Access}
 use Rattle.regs.specs.declared.Access.the-variants.{Read, Write, Receive, Transmit, Ep0Dma, Wait, Callback}
 use Rattle.regs.specs.declared.Reg.the-variants.{EpConfig}
-use Rattle.regs.specs.declared.Dir.{Dir}
-use Rattle.regs.specs.declared.Dir.the-variants.{Out, In}
-use Rattle.regs.specs.declared.Token.{Token}
-use Rattle.regs.specs.declared.Token.the-variants as tok
-use Rattle.model.specs.declared.Transfer.{Transfer}
 use Rattle.model.specs.Tree as tree
-use Rattle.model.specs.Script.{Script}
 use Rattle.model.specs.Every.{Chip, All, Where, sameReg}
-use Rattle.model.specs.EveryLaws.{Only}
 use Rattle.model_ops.specs.Rings.{St}
 
 -- no write of ep_config

@@ -1,217 +1,43 @@
--- Laws on the definitions of Spares.antt
-use mathlib.Core.Bool.{Bool, true}
-use mathlib.Core.List.{List, [], _∷_}
-use Prim.Native.Nat.{ℕ, zero, suc}
-use Rattle.bits.specs.Walk.{setBits}
+-- Laws on the definitions of Spares.antt: of what an interrupt may hand out (Steps.antt) nothing writes ep_config
+use mathlib.Core.Bool.{Bool, true, false, true≢false}
+use mathlib.Core.Path.{_≡_, refl, sym}
+use Prim.Native.Nat.{ℕ}
 use Rattle.regs.specs.declared.Access.{Access}
 use Rattle.regs.specs.declared.Access.the-variants.{Read, Write, Receive, Transmit, Ep0Dma, Wait, Callback}
 use Rattle.regs.specs.declared.Reg.the-variants.{EpConfig}
-use Rattle.regs.specs.declared.Dir.{Dir}
-use Rattle.regs.specs.declared.Dir.the-variants.{Out, In}
-use Rattle.regs.specs.declared.Token.{Token}
-use Rattle.regs.specs.declared.Token.the-variants as tok
-use Rattle.regs.specs.Registers.{ctrlOf}
-use Rattle.regs.specs.Status.{endpoint, token}
-use Rattle.model.specs.declared.Transfer.{Transfer}
 use Rattle.model.specs.Tree as tree
 use Rattle.model.specs.Tree.{asks}
 use Rattle.model.specs.Script.{Script, run}
 use Rattle.model.specs.Answers.{Answer}
-use Rattle.model.specs.Statics.{isoInEvery, isoOuts}
-use Rattle.model.specs.IsoIn.{isoInComplete, sofOne, sofWalk, onSof, lateWalk}
-use Rattle.model.specs.IsoOut.{checkWalk}
-use Rattle.model.specs.Handler.{looks, nakNonIso, toggled, retake, settle, outArm, inArm, entered, framed, isoFor}
-use Rattle.model.specs.Handler.{dispatch, movedOn, ep0MovedOn, served, onTransfer, onSetup, onInterrupt}
-use Rattle.model.specs.Handler.{stampedInterrupt}
-use Rattle.model.specs.Calls.{interruptCode}
-use Rattle.model.specs.Every.{Chip, at-ask, All, Where, sameReg}
-use Rattle.model.specs.EveryLaws.{only-run, Only}
+use Rattle.model.specs.Calls.{interrupt, interruptCode}
+use Rattle.model.specs.Every.{at-ask, Where, sameReg}
+use Rattle.model.specs.EveryLaws.{only-run}
+use Rattle.model.specs.Steps.{moving, mayAsk, Steps}
+use Rattle.model.specs.StepsCalls.{call-steps}
+use Rattle.model.specs.StepsRunsLaws.{writes-config, accesses}
 use Rattle.model_ops.specs.Rings.{St}
 use Rattle.model_ops.specs.Concrete.{concrete}
 use Rattle.call_bus_time.specs.Spares.{Spares, Sparing}
 
-abbrev pub N : {i : Bool} {A : Type 0} → Script i A → Type 0
-N p = Only (Spares) p
+of-kind : (q : Access) → mayAsk moving q ≡ true → Spares q
+of-kind (Write r e v) h = by (sameReg r EpConfig) (writes-config moving r v h)
+  where
+    by : (b : Bool) → (b ≡ true → false ≡ true) → Where b ⊥
+    by true g = absurd (true≢false (sym (g refl)))
+    by false g = tt
+of-kind (Read r e) h = tt
+of-kind (Receive e x) h = tt
+of-kind (Transmit e x) h = tt
+of-kind (Ep0Dma x) h = tt
+of-kind (Wait n) h = tt
+of-kind Callback h = tt
 
-pub control : (d : Dir) → Where (sameReg (ctrlOf d) EpConfig) ⊥
-control Out = tt
-control In = tt
-
-pub of-looks : (i : Bool) (n : ℕ) → N (looks {i = i} n)
-unfolding looks
-of-looks i zero = tt
-of-looks i (suc n) = ((tt, λ _. tt), λ _. (tt, of-looks i n))
-
-pub of-nak : (i : Bool) (st : ℕ) → N (nakNonIso {i = i} st)
-of-nak i st = (λ _. tt, λ _. (λ _. tt, λ _. (((tt, λ _. tt), λ _. (tt, tt)), (((tt, λ _. tt), λ _. (tt, tt)), tt))))
-
-pub of-toggled : (i : Bool) (d : Dir) (e : ℕ) → N (toggled {i = i} d e)
-of-toggled i d e = (
-  of-looks i 2001,
-  λ _. ((tt, λ _. tt), λ _. (λ _. tt, λ _. (((((tt, λ _. tt), λ _. (control d, tt)), tt), λ _. tt), ((λ _. tt, λ _. tt), λ _. tt)))),
-)
-
-pub of-retake : (i : Bool) (x : Transfer) → N (retake {i = i} x)
-of-retake i x = ((tt, λ _. tt), λ _. (((tt, λ _. tt), λ _. (tt, ((tt, λ _. tt), λ st. (of-nak i st, λ _. tt)))), tt))
-
-pub of-settle : (i : Bool) (x : Transfer) → N (settle {i = i} x)
-of-settle i x = (
-  λ _. tt,
-  λ _. (
-    λ _. tt,
-    λ _. (
-      (of-looks i 2001, λ _. ((tt, λ _. tt), λ _. ((tt, λ _. tt), λ _. tt))),
-      ((of-looks i 2001, λ _. ((tt, λ _. tt), λ _. tt)), (of-retake i x, tt)),
-    ),
-  ),
-)
-
-pub of-complete : (i : Bool) (e : ℕ) → N (isoInComplete {i = i} e)
-of-complete i e = (tt, λ _. ((λ _. tt, λ _. (((λ _. tt, tt), λ _. (λ _. tt, λ _. (tt, tt))), (tt, tt))), λ _. tt))
-
-pub of-sof-one : (i : Bool) (frame e : ℕ) → N (sofOne {i = i} frame e)
-of-sof-one i frame e = (
-  λ _. tt,
-  λ _. (
-    tt,
-    (
-      (tt, λ _. tt),
-      λ _. (((λ _. tt, λ _. tt), λ _. of-complete i e), ((tt, λ _. tt), λ _. (tt, ((λ _. tt, λ _. tt), λ _. of-complete i e)))),
-    ),
-  ),
-)
-
-pub of-sof-walk : (i : Bool) (frame : ℕ) (es : List ℕ) → N (sofWalk {i = i} frame es)
-unfolding sofWalk
-of-sof-walk i frame [] = tt
-of-sof-walk i frame (e ∷ es) = (of-sof-one i frame e, λ _. of-sof-walk i frame es)
-
-pub of-sof : (i : Bool) (frame : ℕ) → N (onSof {i = i} frame)
-of-sof i frame = ((λ _. tt, λ _. tt), λ _. (λ _. tt, λ g. (of-sof-walk i frame (setBits (isoInEvery g)), λ _. (λ _. tt, λ _. ((tt, tt), tt)))))
-
-pub of-late-walk : (i : Bool) (frame : ℕ) (es : List ℕ) → N (lateWalk {i = i} frame es)
-unfolding lateWalk
-of-late-walk i frame [] = tt
-of-late-walk i frame (e ∷ es) = (((λ _. tt, λ _. (tt, λ _. tt)), λ _. (of-complete i e, tt)), λ _. of-late-walk i frame es)
-
-pub of-check-walk : (i : Bool) (x : Transfer) (iso : Bool) (es : List ℕ) → N (checkWalk {i = i} x iso es)
-unfolding checkWalk
-of-check-walk i x iso [] = tt
-of-check-walk i x iso (e ∷ es) = (
-  (λ _. tt, λ _. ((((λ _. tt, tt), λ _. tt), ((tt, λ _. tt), λ _. (tt, (λ _. tt, λ _. ((λ _. tt, tt), λ _. tt))))), tt)),
-  λ _. of-check-walk i x iso es,
-)
-
-pub of-out : (i : Bool) (x : Transfer) (iso : Bool) → N (outArm {i = i} x iso)
-of-out i x iso = (
-  tt,
-  (
-    ((((tt, λ _. tt), λ _. (tt, tt)), λ _. ((λ _. tt, λ _. tt), λ _. tt)), tt),
-    (of-toggled i Out (endpoint (x .st)), λ _. (((λ _. tt, λ _. tt), λ _. tt), tt)),
-  ),
-)
-
-pub of-in : (i : Bool) (x : Transfer) (iso : Bool) (frame : ℕ) → N (inArm {i = i} x iso frame)
-of-in i x iso frame = (
-  (λ _. tt, λ _. (tt, ((λ _. tt, λ _. (tt, λ _. tt)), λ _. (of-complete i (endpoint (x .st)), tt)))),
-  (
-    (((tt, λ _. tt), λ _. (tt, tt)), λ _. ((λ _. tt, λ _. tt), λ _. ((λ _. tt, λ _. tt), λ _. tt))),
-    (of-toggled i In (endpoint (x .st)), λ _. (((λ _. tt, λ _. tt), λ _. tt), tt)),
-  ),
-)
-
-pub of-dispatch : (i : Bool) (t : Token) (x : Transfer) (iso : Bool) (frame : ℕ) → N (dispatch {i = i} t x iso frame)
-of-dispatch i tok.Sof x iso frame = (λ _. tt, λ _. (of-sof i frame, tt))
-of-dispatch i tok.Out x iso frame = of-out i x iso
-of-dispatch i tok.In x iso frame = of-in i x iso frame
-of-dispatch i tok.Setup x iso frame = tt
-
-pub of-moved : (i : Bool) (d : Dir) → N (movedOn {i = i} d)
-of-moved i d = (λ _. tt, λ _. ((((tt, λ _. tt), λ _. (control d, tt)), λ _. ((λ _. tt, λ _. tt), λ _. tt)), tt))
-
-pub of-moved-on : (i : Bool) (t : Token) → N (ep0MovedOn {i = i} t)
-of-moved-on i tok.Out = of-moved i In
-of-moved-on i tok.In = of-moved i Out
-of-moved-on i tok.Sof = tt
-of-moved-on i tok.Setup = tt
-
-pub of-served : (i : Bool) (x : Transfer) (iso : Bool) (frame : ℕ) → N (served {i = i} x iso frame)
-of-served i x iso frame = (
-  λ _. tt,
-  λ _. (
-    (of-sof i frame, tt),
-    λ _. (
-      ((λ _. tt, λ g. of-late-walk i frame (setBits (isoInEvery g))), tt),
-      λ _. (
-        (of-dispatch i (token (x .st)) x iso frame, tt),
-        λ _. (((λ _. tt, λ g. of-check-walk i x iso (setBits (isoOuts g))), tt), λ _. (of-moved-on i (token (x .st)), tt)),
-      ),
-    ),
-  ),
-)
-
-pub of-transfer : (i : Bool) → N (onTransfer {i = i})
-of-transfer i = (
-  (tt, λ _. tt),
-  λ m. (
-    (tt, λ _. tt),
-    λ st. (
-      (tt, λ _. tt),
-      λ n. (
-        (of-nak i st, tt),
-        λ _. (
-          (tt, tt),
-          λ _. (
-            of-settle i (entered m st n),
-            λ x. (
-              λ _. tt,
-              λ o. (
-                λ _. tt,
-                λ n. (
-                  (tt, λ _. tt),
-                  λ frame. (
-                    λ _. tt,
-                    λ g. of-served i (framed x (isoFor (token (x .st)) o n) (g .«sof_frame») frame) (isoFor (token (x .st)) o n) frame,
-                  ),
-                ),
-              ),
-            ),
-          ),
-        ),
-      ),
-    ),
-  ),
-)
-
-pub of-setup : (i : Bool) → N (onSetup {i = i})
-of-setup i = (
-  (tt, tt),
-  λ _. (
-    (tt, tt),
-    λ _. (
-      λ _. tt,
-      λ _. (λ _. tt, λ _. ((λ _. tt, λ _. tt), λ _. ((λ _. tt, λ _. tt), λ _. ((λ _. tt, λ _. tt), λ _. ((tt, tt), λ _. (tt, λ _. tt)))))),
-    ),
-  ),
-)
-
-pub of-interrupt : (i : Bool) → N (onInterrupt {i = i})
-of-interrupt i = (
-  (tt, λ _. tt),
-  λ _. (
-    (((λ _. tt, λ _. (tt, λ _. (tt, tt))), λ _. tt), tt),
-    λ _. (
-      (((λ _. tt, λ _. (tt, λ _. (tt, tt))), λ _. tt), tt),
-      λ _. (((tt, tt), tt), λ _. (((tt, tt), tt), λ _. ((of-transfer i, tt), λ _. (of-setup i, tt)))),
-    ),
-  ),
-)
-
-pub of-stamped : (i : Bool) → N (stampedInterrupt {i = i})
-of-stamped i = (((tt, λ _. tt), λ _. (λ _. tt, λ _. tt)), λ _. of-interrupt i)
+-- what does no more than an interrupt spares ep_config
+pub runs : {A : Type 0} (p : Script true A) → Steps moving p → (t : St) → Sparing (run concrete p t)
+runs p x t = only-run concrete p (accesses moving of-kind p x) tt t
 
 pub interrupt-spares : (s : St) → Sparing (run concrete interruptCode s)
-interrupt-spares s = only-run concrete interruptCode (λ _. tt, λ _. ((tt, λ _. ((of-stamped true, λ _. tt), λ _. (λ _. tt, λ _. tt))), tt)) tt s
+interrupt-spares s = runs interruptCode (call-steps interrupt) s
 
 -- what goes on after an access
 pub spares-on : {q : Access} {s : St} {k : ℕ → St → tree.Out St Answer} → Sparing (asks q s k) → (v : ℕ) (t : St) → Sparing (k v t)

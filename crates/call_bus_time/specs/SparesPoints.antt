@@ -1,24 +1,28 @@
 -- An interrupt spares ep_config from each of its points on, whatever bytes the point was read from. A proof has the shape
 -- of what is left to run: a pair for each bind and test, a function for each number brought, `tt` at each access
 use mathlib.Core.Bool.{Bool, true}
-use mathlib.Core.List.{List}
 use Prim.Native.Nat.{ℕ}
 use Rattle.bits.specs.Walk.{setBits}
 use Rattle.regs.specs.declared.Dir.{Dir}
 use Rattle.regs.specs.declared.Dir.the-variants.{Out, In}
+use Rattle.regs.specs.declared.Reg.the-variants.{EpConfig}
+use Rattle.regs.specs.Registers.{ctrlOf}
+use Rattle.regs.specs.ControlWord.{ack, flip, nakflip}
 use Rattle.regs.specs.Status.{endpoint, token}
 use Rattle.model.specs.declared.Transfer.{Transfer}
 use Rattle.model.specs.Tree as tree
 use Rattle.regs.specs.MisStatus.{sieFree}
 use Rattle.model.specs.Cells.{globals-cell}
-use Rattle.model.specs.Script.{Script, run, test, done, when, get, callback, _>>=_, _>>_}
+use Rattle.model.specs.Script.{Script, test, done, when, get, callback, _>>=_, _>>_}
 use Rattle.model.specs.Statics.{isOn, isoInEvery, isoOuts, wake, wakeBus}
 use Rattle.model.specs.IsoIn.{sofWalk, lateWalk}
 use Rattle.model.specs.Handler.{looks}
-use Rattle.model.specs.Every.{at-end, at-ask}
-use Rattle.model.specs.EveryLaws.{every-bind, only-run}
+use Rattle.model.specs.Every.{at-end, at-ask, Where, sameReg}
+use Rattle.model.specs.EveryLaws.{every-bind}
+use Rattle.model.specs.Steps.{moving, Steps}
+use Rattle.model.specs.StepsInterrupt.{control, of-looks, of-nak, of-settle, of-complete, of-sof-walk, of-sof, of-late-walk}
+use Rattle.model.specs.StepsInterrupt.{of-check-walk, of-dispatch, of-moved-on, of-transfer, of-setup, of-interrupt}
 use Rattle.model_ops.specs.Rings.{St}
-use Rattle.model_ops.specs.Concrete.{concrete}
 use Rattle.irq_transfer.specs.declared.nak.Nak.{Nak}
 use Rattle.irq_transfer.specs.declared.nak.Nak.the-variants as nak-point
 use Rattle.irq_transfer.specs.declared.settle.Settle.{Settle}
@@ -49,12 +53,14 @@ use Rattle.irq.specs.Continuations.{afterRelease, afterNak, afterLen, afterSt, 
 use Rattle.irq.specs.Continuations.{afterSuspend, afterBusRst, afterFlags, afterFrame}
 use Rattle.irq.specs.Points.{denote}
 use Rattle.call_bus_time.specs.Spares.{Sparing}
-use Rattle.call_bus_time.specs.SparesLaws.{N, control, of-looks, of-nak, of-settle, of-complete, of-sof-walk, of-sof}
-use Rattle.call_bus_time.specs.SparesLaws.{of-late-walk, of-check-walk, of-dispatch, of-moved-on, of-transfer}
-use Rattle.call_bus_time.specs.SparesLaws.{of-setup, of-interrupt}
+use Rattle.call_bus_time.specs.SparesLaws.{runs}
 
-runs : {A : Type 0} (p : Script true A) → N p → (t : St) → Sparing (run concrete p t)
-runs p x t = only-run concrete p x tt t
+abbrev N : {A : Type 0} → Script true A → Type 0
+N p = Steps moving p
+
+no-config : (d : Dir) → Where (sameReg (ctrlOf d) EpConfig) ⊥
+no-config Out = tt
+no-config In = tt
 
 then : {A B : Type 0} {o : tree.Out St A} {f : A → St → tree.Out St B}
     → Sparing o → ((a : A) (u : St) → Sparing (f a u)) → Sparing (tree.bindOut o f)
@@ -175,7 +181,7 @@ unfolding looked
 at-look v n t = runs (test (sieFree v) done (looks n)) (tt, of-looks true n) t
 
 at-nak : (st : ℕ) (p : Nak) (v : ℕ) (t : St) → Sparing (nak.denote st p v t)
-at-nak st (nak-point.Word d) v t = at-ask (control d) (λ _ _ _ _. at-end tt)
+at-nak st (nak-point.Word d) v t = at-ask (no-config d) (λ _ _ _ _. at-end tt)
 at-nak st nak-point.Wrote v t = at-end tt
 
 of-settle-st : (x : Transfer) (st : ℕ) → N (settle.afterSt x st)
@@ -207,7 +213,7 @@ of-toggled-word : (d : Dir) (e word : ℕ) → N (toggled.afterWord d e word)
 unfolding toggled.afterWord
 of-toggled-word d e word = (
   λ _. tt,
-  λ _. (((((tt, λ _. tt), λ _. (control d, tt)), tt), λ _. tt), ((λ _. tt, λ _. tt), λ _. tt)),
+  λ _. (((((tt, λ _. tt), λ w. (control moving d (ack w), tt)), tt), λ _. tt), ((λ _. tt, λ _. tt), λ _. tt)),
 )
 
 of-toggled-wait : (d : Dir) (e : ℕ) → N (toggled.afterWait d e)
@@ -218,7 +224,7 @@ at-toggled : (d : Dir) (e : ℕ) (p : Toggled) (v : ℕ) (t : St) → Sparing (t
 at-toggled d e (toggled-point.Look n) v t =
     then (at-look v n t) (λ _ u. runs (toggled.afterWait d e) (of-toggled-wait d e) u)
 at-toggled d e toggled-point.Word v t = runs (toggled.afterWord d e v) (of-toggled-word d e v) t
-at-toggled d e toggled-point.AckRead v t = at-ask (control d) (λ _ _ _ _. at-end tt)
+at-toggled d e toggled-point.AckRead v t = at-ask (no-config d) (λ _ _ _ _. at-end tt)
 at-toggled d e toggled-point.Acked v t = at-end tt
 
 at-complete : (p : Complete) (t : St) → Sparing (complete.denote p t)
@@ -282,7 +288,7 @@ point-spares (point.Late setup x iso frame p) v t =
     finishing setup (then (at-late frame p t) (λ _ u. runs (afterLate x iso frame) (of-after-late x iso frame) u))
 point-spares (point.SofArm setup x iso frame p) v t = checking setup x iso (at-sof frame p v t)
 point-spares (point.Flip d setup x iso) v t =
-    checking setup x iso (runs (afterFlip d (x .len) v) ((control d, tt), λ _. of-flip-done d (x .len)) t)
+    checking setup x iso (runs (afterFlip d (x .len) v) ((control moving d (flip v), tt), λ _. of-flip-done d (x .len)) t)
 point-spares (point.Flipped d setup x iso) v t =
     checking setup x iso (runs (flipDone d (x .len)) (of-flip-done d (x .len)) t)
 point-spares (point.Toggled d setup x iso p) v t =
@@ -292,7 +298,7 @@ point-spares (point.Completing setup x iso p) v t = checking setup x iso (at-com
 point-spares (point.Check setup x iso p) v t =
     finishing setup (then (at-check x iso p v t) (λ _ u. runs (afterCheck x) (of-after-check x) u))
 point-spares (point.MovedRead d setup) v t =
-    finishing setup (runs (afterMovedRead d v) ((control d, tt), λ _. of-moved-wrote d) t)
+    finishing setup (runs (afterMovedRead d v) ((control moving d (nakflip v), tt), λ _. of-moved-wrote d) t)
 point-spares (point.MovedWrote d setup) v t = finishing setup (runs (afterMovedWrote d) (of-moved-wrote d) t)
 point-spares point.SetupRx v t = runs (resultless afterSetupRx) (((tt, tt), λ _. of-setup-tx), λ _. tt) t
 point-spares point.SetupTx v t = runs (resultless afterSetupTx) (of-setup-tx, λ _. tt) t

@@ -11,10 +11,10 @@ use Rattle.state.specs.Driver.{Driver}
 use Rattle.model.specs.Tree as tree
 use Rattle.model.specs.Tree.{ends, asks}
 use Rattle.model.specs.Answers.{Answer, Refused}
-use Rattle.model.specs.Every.{Where, sameReg, at-end, at-ask}
+use Rattle.model.specs.Every.{Where, sameReg, at-ask}
 use Rattle.model.specs.EveryLaws.{every-bind, only-run}
 use Rattle.model.specs.Calls.{calls}
-use Rattle.model.specs.Machine.{Buf, Ans, ended, handed, over, go}
+use Rattle.model.specs.Machine.{Buf, ended, over, go}
 use Rattle.model.specs.Script.{run}
 use Rattle.model_ops.specs.Rings.{St}
 use Rattle.model_ops.specs.Concrete.{concrete}

@@ -37,12 +37,7 @@ pub fn charged(time: &mut [u16; TIME_LEN], at: usize, c: u32, step: Step)
 {
     match step {
         Step::Asks(_q) => charge(time, at, c),
-        Step::Refused(_n) => {}
-        Step::Ends(_n, _w) => {}
-        Step::NotYet => {}
-        Step::Done(_n) => {}
-        Step::Setup(_low, _high) => {}
-        Step::Shown(_at, _n, _stamp) => {}
+        _ => {}
     }
 }
 
@@ -52,12 +47,7 @@ pub fn started(time: &mut [u16; TIME_LEN], driver: u32, step: Step)
 {
     match step {
         Step::Asks(_q) => keep(time, driver, 0),
-        Step::Refused(_n) => {}
-        Step::Ends(_n, _w) => {}
-        Step::NotYet => {}
-        Step::Done(_n) => {}
-        Step::Setup(_low, _high) => {}
-        Step::Shown(_at, _n, _stamp) => {}
+        _ => {}
     }
 }
 
@@ -80,12 +70,7 @@ fn after_access(time: &mut [u16; TIME_LEN], driver: u32, q: Access)
 {
     match q {
         Access::Write(reg, _e, word) => after_write(time, driver, reg, word),
-        Access::Read(_reg, _e) => {}
-        Access::Receive(_e, _x) => {}
-        Access::Transmit(_e, _x) => {}
-        Access::Ep0Dma(_x) => {}
-        Access::Wait(_n) => {}
-        Access::Callback => {}
+        _ => {}
     }
 }
 
@@ -95,11 +80,6 @@ pub fn gone_on(time: &mut [u16; TIME_LEN], driver: u32, step: Step)
 {
     match step {
         Step::Asks(q) => after_access(time, driver, q),
-        Step::Refused(_n) => {}
-        Step::Ends(_n, _w) => {}
-        Step::NotYet => {}
-        Step::Done(_n) => {}
-        Step::Setup(_low, _high) => {}
-        Step::Shown(_at, _n, _stamp) => {}
+        _ => {}
     }
 }

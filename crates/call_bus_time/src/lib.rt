@@ -22,8 +22,8 @@ ghost use lib.Dec.{eqb};
 ghost use Rattle.state.specs.State.{view, saved};
 ghost use Rattle.model.specs.Machine.{start, begin};
 ghost use Rattle.model.specs.Calls.{slotted, SetEnabled, startRow};
-ghost use Rattle.machine.specs.Suspended.{decode, machineOf, answerOf, configOf, lentOr, BufferUnchangedOnRow1, SavedByAnswer};
-ghost use Rattle.call_bus_time.specs.Sharing.{sharedCall};
+ghost use Rattle.machine.specs.Suspended.{decode, machineOf, answerOf, configOf, SavedByAnswer};
+ghost use Rattle.call_bus_time.specs.Sharing.{sharedCall, SharedStep};
 ghost use Rattle.call_bus_time.specs.Accepts.{accepts};
 
 // Start-up on any state: an accepted one gives back what the driver was charged.
@@ -72,15 +72,8 @@ fn enable(
     dir: Dir,
     e: u32,
 ) -> Step
-    ensures { λ r. ⌜ ((a : List ℕ) → (
-      (
-        answerOf r [] (view (now (s .exit))),
-        machineOf (now (s .exit)) (lentOr (view (now (s .entry))) (now (slots .entry)) (now (slots .exit)) a),
-      ),
-      now (time .exit),
-    ) ≡ sharedCall driver (begin (slotted (SetEnabled dir e true))) (machineOf (now (s .entry)) a) (now (time .entry)) (now (slots .entry))) ⌝ }
-    ensures { λ _. ⌜ BufferUnchangedOnRow1 (view (now (s .entry))) (now (slots .entry)) (now (slots .exit)) ⌝ }
-    ensures { λ r. ⌜ SavedByAnswer r (now (s .entry)) (now (s .exit)) ⌝ }
+    ensures { λ r. ⌜ SharedStep r driver (begin (slotted (SetEnabled dir e true))) (now (s .entry)) (now (s .exit))
+        (now (slots .entry)) (now (slots .exit)) (now (time .entry)) (now (time .exit)) ⌝ }
 {
     let at = entry(driver, dir, e);
     let charge = charge_on(s, dir, e);
@@ -105,15 +98,8 @@ pub fn begin_set_enabled(
     e: u32,
     on: bool,
 ) -> Step
-    ensures { λ r. ⌜ ((a : List ℕ) → (
-      (
-        answerOf r [] (view (now (s .exit))),
-        machineOf (now (s .exit)) (lentOr (view (now (s .entry))) (now (slots .entry)) (now (slots .exit)) a),
-      ),
-      now (time .exit),
-    ) ≡ sharedCall driver (begin (slotted (SetEnabled dir e on))) (machineOf (now (s .entry)) a) (now (time .entry)) (now (slots .entry))) ⌝ }
-    ensures { λ _. ⌜ BufferUnchangedOnRow1 (view (now (s .entry))) (now (slots .entry)) (now (slots .exit)) ⌝ }
-    ensures { λ r. ⌜ SavedByAnswer r (now (s .entry)) (now (s .exit)) ⌝ }
+    ensures { λ r. ⌜ SharedStep r driver (begin (slotted (SetEnabled dir e on))) (now (s .entry)) (now (s .exit))
+        (now (slots .entry)) (now (slots .exit)) (now (time .entry)) (now (time .exit)) ⌝ }
 {
     if on {
         return enable(s, slots, time, driver, dir, e);

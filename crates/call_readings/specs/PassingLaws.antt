@@ -19,8 +19,7 @@ use Rattle.state.specs.Driver.{Driver, noneGathered}
 use Rattle.state.specs.State.{view, saved}
 use Rattle.model.specs.Statics.{isOn}
 use Rattle.model.specs.Answers.{Refused}
-use Rattle.model.specs.Calls.{interrupt}
-use Rattle.model.specs.Machine.{Buf, Machine, ended, begin, go, awaited}
+use Rattle.model.specs.Machine.{Buf, ended, go, awaited}
 use Rattle.irq.specs.declared.Point.{Point}
 use Rattle.irq.specs.declared.Point.the-variants as point
 use Rattle.irq.specs.declared.Next.the-variants as next
@@ -55,7 +54,7 @@ use Rattle.model_ops.specs.Concrete.{concrete}
 use Rattle.call_answer_word.specs.Parts.{stepOf}
 use Rattle.call_answer_word.specs.Word.{Encodes, readWord, wordOf, accessWord}
 use Rattle.call_answer_word.specs.WordLaws as words
-use Rattle.call_readings.specs.Readings.{Lent, lent, Begins, Continues}
+use Rattle.call_readings.specs.Readings.{lent, Begins, Continues}
 use Rattle.call_readings.specs.Passing.{Framed, Flagged, Transferred}
 use Rattle.call_readings.specs.Standing.{standing, stands}
 

@@ -1,7 +1,7 @@
 -- The bytes of a state that stands at a point of the interrupt: as they were but for the 22 saved ones. What a call of one access would have stored and one
 -- that brings several readings passes over
-use mathlib.Core.Path.{_≡_, ap, subst, _∙_}
-use mathlib.Core.Logic.{_⊎_, inl, inr}
+use mathlib.Core.Path.{_≡_, ap, _∙_}
+use mathlib.Core.Logic.{inl}
 use mathlib.Core.List.{List}
 use Prim.Native.Nat.{ℕ, _+_, _*_, _≤_}
 use native.Mathlib.Omega.{arith}
@@ -14,7 +14,7 @@ use Rattle.le_bytes.specs.TablesLaws.{table-same}
 use Rattle.regs.specs.declared.Access.{Access}
 use Rattle.state.specs.declared.Saved.{Saved}
 use Rattle.state.specs.Codec.{savedWidths, savedAs, savedOf}
-use Rattle.state.specs.State.{epIn, allocatorIn, globalsIn, wakesIn, requestIn, controlIn, savedIn, view, saved}
+use Rattle.state.specs.State.{epIn, allocatorIn, globalsIn, requestIn, controlIn, savedIn, view, saved}
 use Rattle.irq.specs.declared.Point.{Point}
 use Rattle.irq_points.specs.Stands.{Stands}
 use Rattle.machine.specs.declared.Suspended.the-variants as under

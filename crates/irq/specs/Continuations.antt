@@ -1,5 +1,5 @@
 -- The rest of the interrupt (model's Handler.antt) from each of its accesses on
-use mathlib.Core.Bool.{Bool, true, false, not, cond, _&&_, _||_}
+use mathlib.Core.Bool.{Bool, true, false, not, _&&_, _||_}
 use Prim.Native.Nat.{ℕ}
 use lib.Dec.{eqb}
 use Rattle.frame.specs.Usb20.{indexOf}
@@ -16,7 +16,7 @@ use Rattle.model.specs.declared.Transfer.{Transfer}
 use Rattle.model.specs.Tree as tree
 use Rattle.model.specs.Tree.{ends, bindOut}
 use Rattle.model.specs.Cells.{globals-cell, ep-cell}
-use Rattle.model.specs.Script.{Script, run, ret, done, _>>=_, _>>_, read, write, get, look, when, setup-word}
+use Rattle.model.specs.Script.{Script, run, ret, _>>=_, _>>_, read, write, get, look, when, setup-word}
 use Rattle.model.specs.Statics.{withReady, withArmed, completed, withSetup, withEntered, modify, modifyEp, modifyIntEn, wake, wakeBus}
 use Rattle.model.specs.IsoIn.{onSof}
 use Rattle.model.specs.IsoOut.{isoOutCheck}

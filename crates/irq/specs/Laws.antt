@@ -12,7 +12,6 @@ use Rattle.regs.specs.declared.Access.the-variants.{Read, Write}
 use Rattle.regs.specs.declared.Reg.the-variants.{IntFg, MisSt, FrameNo}
 use Rattle.regs.specs.declared.Dir.{Dir}
 use Rattle.regs.specs.declared.Dir.the-variants.{Out, In}
-use Rattle.regs.specs.declared.Token.{Token}
 use Rattle.regs.specs.Flags.{transfer, setupAct, SETUP_ACT}
 use Rattle.regs.specs.Status.{endpoint}
 use Rattle.state.specs.declared.EpState.{EpState}
@@ -23,7 +22,6 @@ use Rattle.model.specs.Tree as tree
 use Rattle.model.specs.Tree.{asks, ends, bindOut}
 use Rattle.model.specs.Script.{Script, run, read, when, _>>=_}
 use Rattle.model.specs.Statics.{withReady, withArmed, withSetup, withEntered}
-use Rattle.model.specs.Machine.{awaited}
 use Rattle.model.specs.IsoIn.{firstInFrame, isoInComplete}
 use Rattle.model.specs.Handler as script
 use Rattle.model.specs.Handler.{nakNonIso, framed, isoInArm, onTransfer, onInterrupt, stampedInterrupt}
@@ -40,9 +38,6 @@ use Rattle.irq_transfer.specs.declared.toggled.ToggledNext.the-variants as togg
 use Rattle.iso_in.specs.declared.sof.Sof as sof-point
 use Rattle.iso_in.specs.declared.sof.SofNext as sof-next
 use Rattle.iso_in.specs.declared.sof.SofNext.the-variants as sof-to
-use Rattle.iso_in.specs.declared.late.Late as late-point
-use Rattle.iso_in.specs.declared.late.LateNext as late-next
-use Rattle.iso_in.specs.declared.late.LateNext.the-variants as late-to
 use Rattle.iso_in.specs.declared.complete.Complete as complete-point
 use Rattle.iso_in.specs.declared.complete.CompleteNext as complete-next
 use Rattle.iso_in.specs.declared.complete.CompleteNext.the-variants as complete-to
@@ -53,7 +48,6 @@ use Rattle.irq_transfer.specs.Nak as nak
 use Rattle.irq_transfer.specs.Settle as settle
 use Rattle.irq_transfer.specs.Toggled as toggled
 use Rattle.iso_in.specs.Sof as sof
-use Rattle.iso_in.specs.Late as late
 use Rattle.iso_in.specs.Complete as complete
 use Rattle.iso_out.specs.Points as check
 use Rattle.model_ops.specs.Records.{plainOf, merged, mergedGlobals}
@@ -95,9 +89,16 @@ module _ (F : tree.Out St Unit → tree.Out St ℕ) (c : Bool) (y z : tree.Out S
   pub test-no : c ≡ false → F z ≡ F (cond c y z)
   test-no h = ap (λ (x : Bool). F (cond x y z)) (sym h)
 
--- the endpoint is 0
-pub at-zero : (e x : ℕ) (a : Bool) → e ≡ x → eqb e 0 ≡ a → eqb x 0 ≡ a
+-- an arm's tests: of an endpoint that is not isochronous whether it is EP0
+at-zero : (e x : ℕ) (a : Bool) → e ≡ x → eqb e 0 ≡ a → eqb x 0 ≡ a
 at-zero e x a h k = ap (λ (z : ℕ). eqb z 0) (sym h) ∙ k
+
+module _ (F : tree.Out St Unit → tree.Out St ℕ) (iso : Bool) {e x : ℕ} (w y z : tree.Out St Unit) (h : e ≡ x) (l : iso ≡ false) where
+  pub of-ep0 : eqb e 0 ≡ true → F y ≡ F (cond iso w (cond (eqb x 0) y z))
+  of-ep0 k = test-yes F (eqb x 0) y z (at-zero e x true h k) ∙ test-no F iso w (cond (eqb x 0) y z) l
+
+  pub of-other : eqb e 0 ≡ false → F z ≡ F (cond iso w (cond (eqb x 0) y z))
+  of-other k = test-no F (eqb x 0) y z (at-zero e x false h k) ∙ test-no F iso w (cond (eqb x 0) y z) l
 
 -- the microframe's SOF was handled
 pub sof-handled : (g g' : Globals) (frame : ℕ) (a : Bool) → g ≡ g' → eqb (g .«sof_frame») frame ≡ a → not (eqb (g' .«sof_frame») frame) ≡ not a
@@ -120,10 +121,6 @@ module _ (setup : Bool) (f : Unit {0} → tree.Prog St Unit) (q : Access) (d : D
       → asks q (d, b) (λ v t. onward setup f (sof.denote frame p v t)) ≡ onward setup f (sof.meaning frame n d b)
   sof-asks frame n p h = ap (λ (m : sof-next.SofNext). onward setup f (sof.meaning frame m d b)) (sym h)
 
-  pub late-asks : (frame : ℕ) (n : late-next.LateNext) (p : late-point.Late) → n ≡ late-to.Asks q p
-      → asks q (d, b) (λ _ t. onward setup f (late.denote frame p t)) ≡ onward setup f (late.meaning frame n d b)
-  late-asks frame n p h = ap (λ (m : late-next.LateNext). onward setup f (late.meaning frame m d b)) (sym h)
-
   pub complete-asks : (n : complete-next.CompleteNext) (p : complete-point.Complete) → n ≡ complete-to.Asks q p
       → asks q (d, b) (λ _ t. onward setup f (complete.denote p t)) ≡ onward setup f (complete.meaning n d b)
   complete-asks n p h = ap (λ (m : complete-next.CompleteNext). onward setup f (complete.meaning m d b)) (sym h)
@@ -138,9 +135,6 @@ module _ (setup : Bool) (f : Unit {0} → tree.Prog St Unit) (d : Driver) (b : L
 
   pub sof-ends : (frame : ℕ) (n : sof-next.SofNext) → n ≡ sof-to.Ends → finish setup (f tt (d, b)) ≡ onward setup f (sof.meaning frame n d b)
   sof-ends frame n h = ap (λ (m : sof-next.SofNext). onward setup f (sof.meaning frame m d b)) (sym h)
-
-  pub late-ends : (frame : ℕ) (n : late-next.LateNext) → n ≡ late-to.Ends → finish setup (f tt (d, b)) ≡ onward setup f (late.meaning frame n d b)
-  late-ends frame n h = ap (λ (m : late-next.LateNext). onward setup f (late.meaning frame m d b)) (sym h)
 
   pub complete-ends : (n : complete-next.CompleteNext) → n ≡ complete-to.Ends → finish setup (f tt (d, b)) ≡ onward setup f (complete.meaning n d b)
   complete-ends n h = ap (λ (m : complete-next.CompleteNext). onward setup f (complete.meaning m d b)) (sym h)
@@ -171,18 +165,10 @@ module _ (setup : Bool) (f : Unit {0} → tree.Prog St Unit)
 -- of the endpoint x that the status shows
 module _ (setup : Bool) (f : Unit {0} → tree.Prog St Unit) (g : Bool → tree.Prog St Unit)
     (dir : Dir) (e x : ℕ) (n : toggled-next.ToggledNext) (d : Driver) (b : List ℕ) (h : e ≡ x) where
-  pub toggled-on : (p : toggled-point.Toggled) (v : ℕ) (t : St) → toggled.meaning dir e n d b ≡ toggled.denote dir e p v t
-      → onward setup f (bindOut (toggled.meaning dir x n d b) g) ≡ onward setup f (bindOut (toggled.denote dir x p v t) g)
-  toggled-on p v t k = subst
-      (λ (z : ℕ). onward setup f (bindOut (toggled.meaning dir z n d b) g) ≡ onward setup f (bindOut (toggled.denote dir z p v t) g)) h
+  pub toggled-as : (o : ℕ → tree.Out St Bool) → toggled.meaning dir e n d b ≡ o e
+      → onward setup f (bindOut (toggled.meaning dir x n d b) g) ≡ onward setup f (bindOut (o x) g)
+  toggled-as o k = subst (λ (z : ℕ). onward setup f (bindOut (toggled.meaning dir z n d b) g) ≡ onward setup f (bindOut (o z) g)) h
       (ap (λ (o : tree.Out St Bool). onward setup f (bindOut o g)) k)
-
-  pub toggled-from : toggled.meaning dir e n d b ≡ run concrete (script.toggled {i = true} dir e) (d, b)
-      → onward setup f (bindOut (toggled.meaning dir x n d b) g)
-      ≡ onward setup f (bindOut (run concrete (script.toggled {i = true} dir x) (d, b)) g)
-  toggled-from k = subst
-      (λ (z : ℕ). onward setup f (bindOut (toggled.meaning dir z n d b) g) ≡ onward setup f
-      (bindOut (run concrete (script.toggled {i = true} dir z) (d, b)) g)) h (ap (λ (o : tree.Out St Bool). onward setup f (bindOut o g)) k)
 
 pub passed-at : (F : tree.Out St Unit → tree.Out St ℕ) (dir : Dir) (e x len : ℕ) (t : St)
     → e ≡ x → F (run concrete (passed dir e len) t) ≡ F (run concrete (passed dir x len) t)
@@ -198,39 +184,8 @@ pub flipped-known : (o : tree.Out St Unit) (dir known : Dir) (len : ℕ) (t : St
     → dir ≡ known → o ≡ run concrete (flipDone known len) t → o ≡ run concrete (flipDone dir len) t
 flipped-known o dir known len t h k = k ∙ ap (λ (z : Dir). run concrete (flipDone z len) t) (sym h)
 
-pub dispatched : (F : tree.Out St Unit → tree.Out St ℕ) (x : Transfer) (iso : Bool) (frame : ℕ) (t : St) (k known shown : Token)
-    → k ≡ known → k ≡ shown → F (run concrete (script.dispatch {i = true} known x iso frame) t)
-    ≡ F (run concrete (script.dispatch {i = true} shown x iso frame) t)
-dispatched F x iso frame t k known shown h l = ap (λ (z : Token). F (run concrete (script.dispatch {i = true} z x iso frame) t)) (sym h ∙ l)
-
 pub stands : (o : tree.Out St ℕ) (p known : Point) (v : ℕ) (t : St) → p ≡ known → o ≡ denote known v t → o ≡ denote p v t
 stands o p known v t h k = k ∙ ap (λ (z : Point). denote z v t) (sym h)
-
--- ---- the access handed out is the one awaited
-
-pub nak-linked : (n : nak-next.NakNext) (q : Access) (p : nak-point.Nak) → n ≡ nak-to.Asks q p → nak.Linked n → awaited q ≡ nak.awaitsAt p
-nak-linked n q p h k = subst nak.Linked h k
-
-pub settle-linked : (n : settle-next.SettleNext) (q : Access) (p : settle-point.Settle)
-    → n ≡ settle-to.Asks q p → settle.Linked n → awaited q ≡ settle.awaitsAt p
-settle-linked n q p h k = subst settle.Linked h k
-
-pub toggled-linked : (n : toggled-next.ToggledNext) (q : Access) (p : toggled-point.Toggled)
-    → n ≡ toggled-to.Asks q p → toggled.Linked n → awaited q ≡ toggled.awaitsAt p
-toggled-linked n q p h k = subst toggled.Linked h k
-
-pub sof-linked : (n : sof-next.SofNext) (q : Access) (p : sof-point.Sof) → n ≡ sof-to.Asks q p → sof.Linked n → awaited q ≡ sof.awaitsAt p
-sof-linked n q p h k = subst sof.Linked h k
-
-pub late-linked : (n : late-next.LateNext) (q : Access) (p : late-point.Late) → n ≡ late-to.Asks q p → late.Linked n → awaited q ≡ late.awaitsAt p
-late-linked n q p h k = subst late.Linked h k
-
-pub complete-linked : (n : complete-next.CompleteNext) (q : Access) (p : complete-point.Complete)
-    → n ≡ complete-to.Asks q p → complete.Linked n → awaited q ≡ complete.awaitsAt p
-complete-linked n q p h k = subst complete.Linked h k
-
-pub check-linked : (n : check-next.CheckNext) (q : Access) (p : check-point.Check) → n ≡ check-to.Asks q p → check.Linked n → awaited q ≡ check.awaitsAt p
-check-linked n q p h k = subst check.Linked h k
 
 -- ---- the script, in the tails' nesting
 
@@ -238,7 +193,7 @@ transfer-is : onTransfer {i = true} ≡ (read MisSt 0 >>= (λ m. afterMis m))
 unfolding afterMis afterSt afterLen naksFirst afterNak afterRelease afterSettle afterFrameNo serving sofDue afterSof afterLate afterDispatch afterCheck
 transfer-is = refl
 
-pub transfer-begun : (t : St) → run concrete (onTransfer {i = true}) t ≡ asks (Read MisSt 0) t (λ v u. run concrete (afterMis v) u)
+transfer-begun : (t : St) → run concrete (onTransfer {i = true}) t ≡ asks (Read MisSt 0) t (λ v u. run concrete (afterMis v) u)
 transfer-begun t = ap (λ (p : Script true Unit). run concrete p t) transfer-is
 
 flags-is : onInterrupt {i = true} ≡ (read IntFg 0 >>= (λ f. afterFlags f))

@@ -1,6 +1,6 @@
 -- What is left to run at each point of the interrupt
 use mathlib.Core.Path.{_≡_}
-use mathlib.Core.Bool.{Bool, true, false}
+use mathlib.Core.Bool.{Bool, true}
 use mathlib.Core.List.{List}
 use Prim.Native.Nat.{ℕ}
 use Rattle.regs.specs.declared.Reg.the-variants.{IntFg, IntSt, MisSt, RxLen, FrameNo, EpRxCtrl}
@@ -9,7 +9,7 @@ use Rattle.regs.specs.Status.{endpoint}
 use Rattle.state.specs.Driver.{Driver}
 use Rattle.model.specs.Tree as tree
 use Rattle.model.specs.Tree.{asks, ends, bindOut}
-use Rattle.model.specs.Script.{Script, run, _>>=_, _>>_}
+use Rattle.model.specs.Script.{Script, run, _>>_}
 use Rattle.model.specs.Statics.{wakeBus}
 use Rattle.model.specs.Machine.{Awaits, nothing, reading, awaited}
 use Rattle.model.specs.Handler.{stampedInterrupt}
@@ -27,7 +27,7 @@ use Rattle.irq.specs.declared.Point.the-variants as point
 use Rattle.irq.specs.declared.Next.{Next}
 use Rattle.irq.specs.declared.Next.the-variants as next
 use Rattle.irq.specs.Continuations.{resultless, afterSetupReleased, afterSetupTx, afterSetupRx, finish, thenCheck}
-use Rattle.irq.specs.Continuations.{afterMovedWrote, afterMovedRead, afterCheck, afterDispatch, flipDone}
+use Rattle.irq.specs.Continuations.{afterMovedWrote, afterMovedRead, afterCheck, flipDone}
 use Rattle.irq.specs.Continuations.{afterFlip, afterToggled, afterLate, afterSof, afterFrameNo, afterSettle}
 use Rattle.irq.specs.Continuations.{afterRelease, afterNak, afterLen, afterSt, afterMis, afterHost, afterFifo}
 use Rattle.irq.specs.Continuations.{afterSuspend, afterBusRst, afterFlags, afterFrame}

@@ -1,1 +1,3 @@
 pub mod SofLaws
+pub mod StopsLaws
+pub mod MovedLaws

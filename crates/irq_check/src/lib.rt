@@ -79,8 +79,7 @@ pub fn ep0_moved_on(s: &mut [u8; STATE_LEN], setup: bool, x: Transfer) -> u64
         match t {
             Token::Out => moved_on(s, Dir::In, setup),
             Token::In => moved_on(s, Dir::Out, setup),
-            Token::Sof => after_transfer(s, setup),
-            Token::Setup => after_transfer(s, setup),
+            _ => after_transfer(s, setup),
         }
     } else {
         after_transfer(s, setup)

@@ -6,19 +6,25 @@ use Prim.Native.Nat.{ℕ, _^_, _<_, _≤_}
 use native.Mathlib.Omega.{arith}
 use borrow.Author.Tests.{lt-ltb, ltb-true}
 use Rattle.regs.specs.declared.Access.{Access}
+use Rattle.regs.specs.declared.Access.the-variants.{Read}
+use Rattle.regs.specs.declared.Reg.the-variants.{EpTxCtrl}
 use Rattle.regs.specs.declared.Dir.{Dir}
 use Rattle.regs.specs.declared.Dir.the-variants.{Out, In}
 use Rattle.regs.specs.Registers.{ctrlOf, widthOf, fitsIn}
-use Rattle.state.specs.Driver.{Driver}
+use Rattle.regs.specs.Status.{endpoint}
+use Rattle.state.specs.declared.EpState.{EpState}
+use Rattle.state.specs.Driver.{Driver, epOn}
 use Rattle.model.specs.declared.Transfer.{Transfer}
 use Rattle.model.specs.Tree as tree
 use Rattle.model.specs.Tree.{asks, ends, bindOut}
 use Rattle.model.specs.Script.{run}
 use Rattle.model.specs.Machine.{awaited}
-use Rattle.model.specs.Handler.{nakNonIso, retaken}
+use Rattle.model.specs.Handler.{nakNonIso, outNaks, inNaks, retaken}
+use Rattle.model_ops.specs.Records.{plainOf}
 use Rattle.model_ops.specs.Rings.{St}
 use Rattle.model_ops.specs.Concrete.{concrete}
 use Rattle.irq_transfer.specs.declared.nak.Nak.{Nak}
+use Rattle.irq_transfer.specs.declared.nak.Nak.the-variants as nak-point
 use Rattle.irq_transfer.specs.declared.nak.NakNext.{NakNext}
 use Rattle.irq_transfer.specs.declared.nak.NakNext.the-variants as nak-next
 use Rattle.irq_transfer.specs.declared.toggled.Toggled.{Toggled}
@@ -26,6 +32,18 @@ use Rattle.irq_transfer.specs.declared.settle.Settle.{Settle}
 use Rattle.irq_transfer.specs.Nak as nak
 use Rattle.irq_transfer.specs.Toggled as toggled
 use Rattle.irq_transfer.specs.Settle as settle
+
+-- ---- `nak_non_iso` where an OUT is not answered NAK: by whether an IN is
+
+abbrev pub in-next : ℕ → Bool → NakNext
+in-next e true = nak-next.Asks (Read EpTxCtrl e) (nak-point.Word In)
+in-next e false = nak-next.Ends
+
+pub nak-in : (st : ℕ) (d : Driver) (b : List ℕ) (e : ℕ) (o n : EpState) (x y a : Bool) → e ≡ endpoint st
+    → o ≡ epOn d Out e → x ≡ outNaks st (plainOf o) → x ≡ false → n ≡ epOn d In e → y ≡ inNaks st (plainOf n) → y ≡ a
+    → nak.meaning st (in-next e a) d b ≡ run concrete (nakNonIso {i = true} st) (d, b)
+nak-in st d b e o n x y true he ho hx lx hn hy ly = simp (← he, ← ho, ← hx, lx, ← hn, ← hy, ly)
+nak-in st d b e o n x y false he ho hx lx hn hy ly = simp (← he, ← ho, ← hx, lx, ← hn, ← hy, ly)
 
 -- ---- the rest f after `nak_non_iso`
 

@@ -1,6 +1,6 @@
 -- What is left to run at each point of a transfer that is settled (mod.rs 668-715); the transfer as it was entered is the environment
 use mathlib.Core.Path.{_≡_}
-use mathlib.Core.Bool.{Bool, true, false}
+use mathlib.Core.Bool.{Bool, true}
 use mathlib.Core.List.{List}
 use Prim.Native.Nat.{ℕ}
 use Rattle.regs.specs.declared.Reg.the-variants.{IntFg, IntSt, MisSt, RxLen}
@@ -12,7 +12,7 @@ use Rattle.model.specs.declared.Transfer.{Transfer}
 use Rattle.model.specs.Tree as tree
 use Rattle.model.specs.Tree.{asks, ends, bindOut}
 use Rattle.model.specs.Script.{Script, run, ret, test, _>>=_, _>>_, read}
-use Rattle.model.specs.Machine.{Awaits, nothing, reading, awaited}
+use Rattle.model.specs.Machine.{Awaits, reading, awaited}
 use Rattle.model.specs.Handler.{nakNonIso, lateTaken, waited, retaken}
 use Rattle.model_ops.specs.Rings.{St}
 use Rattle.model_ops.specs.Concrete.{concrete}

@@ -1,14 +1,10 @@
 -- The wait for sie_free, one look at a time
-use mathlib.Core.Path.{_≡_, _∙_}
-use mathlib.Core.Logic.{_≢_}
-use mathlib.Core.Bool.{Bool, true, _||_, true≢false}
-use Prim.Native.Nat.{ℕ, _-_, _<_}
+use mathlib.Core.Bool.{Bool, true, _||_}
+use Prim.Native.Nat.{ℕ}
 use lib.Dec.{eqb}
-use Rattle.regs.specs.declared.Access.the-variants.{Read}
-use Rattle.regs.specs.declared.Reg.the-variants.{MisSt}
 use Rattle.regs.specs.MisStatus.{sieFree}
 use Rattle.model.specs.Tree as tree
-use Rattle.model.specs.Script.{Script, run, done, test}
+use Rattle.model.specs.Script.{run, done, test}
 use Rattle.model.specs.Handler.{looks}
 use Rattle.model_ops.specs.Rings.{St}
 use Rattle.model_ops.specs.Concrete.{concrete}

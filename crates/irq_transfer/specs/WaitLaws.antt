@@ -11,7 +11,7 @@ use Rattle.regs.specs.declared.Reg.the-variants.{MisSt}
 use Rattle.regs.specs.MisStatus.{sieFree}
 use Rattle.model.specs.Tree as tree
 use Rattle.model.specs.Tree.{asks, ends, bindOut}
-use Rattle.model.specs.Script.{Script, run, done, test}
+use Rattle.model.specs.Script.{run, done, test}
 use Rattle.model.specs.Handler.{looks, sieWait}
 use Rattle.model_ops.specs.Rings.{St}
 use Rattle.model_ops.specs.Concrete.{concrete}

@@ -151,22 +151,13 @@ fn after_bulk_look(x: Transfer, n: u16, v: u32) -> SettleNext
 fn waited(x: Transfer, len: u16) -> Transfer
     ensures { λ r. ⌜ r ≡ script.waited x len ⌝ }
 {
+    let mut y = x;
+    y.busy = false;
     if len == 0 {
-        return Transfer {
-            busy: false,
-            st: x.st,
-            len: x.len,
-            late: x.late,
-            len_ok: x.len_ok,
-        };
+        return y;
     }
-    Transfer {
-        busy: false,
-        st: x.st,
-        len,
-        late: x.late,
-        len_ok: x.len_ok,
-    }
+    y.len = len;
+    y
 }
 
 fn after_mis(x: Transfer, v: u32) -> SettleNext
@@ -251,14 +242,10 @@ pub fn fits_at(p: Settle, v: u32) -> bool
     ensures { λ r. ⌜ r ≡ fitsAt p v ⌝ }
 {
     match p {
-        Settle::IsoLook(_n) => fits(v, 2),
-        Settle::IsoSt => fits(v, 7),
-        Settle::IsoLen(_now) => fits(v, 16),
-        Settle::BulkLook(_n) => fits(v, 2),
-        Settle::BulkLen => fits(v, 16),
-        Settle::Mis => fits(v, 2),
+        Settle::IsoLook(_) | Settle::BulkLook(_) | Settle::Mis => fits(v, 2),
+        Settle::IsoSt | Settle::St => fits(v, 7),
+        Settle::IsoLen(_) | Settle::BulkLen => fits(v, 16),
         Settle::Flags => fits(v, 6),
-        Settle::St => fits(v, 7),
         Settle::Nak(_st, q) => nak::fits_at(q, v),
     }
 }

@@ -1,8 +1,5 @@
 -- Laws on the definitions of Codec.antt
 use mathlib.Core.Path.{_≡_, refl}
-use Prim.Native.Nat.{ℕ}
-use Rattle.state.specs.declared.Saved.{Saved}
-use Rattle.iso_in.specs.declared.complete.Complete.{Complete}
 use Rattle.iso_in.specs.declared.complete.Complete.the-variants as complete
 use Rattle.iso_in.specs.declared.advance.Advance.{Advance}
 use Rattle.iso_in.specs.declared.advance.Advance.the-variants as point

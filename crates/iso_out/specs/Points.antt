@@ -1,11 +1,11 @@
 -- What is left to run at each point of the arrivals' check
 use mathlib.Core.Path.{_≡_}
-use mathlib.Core.Bool.{Bool, true, false}
+use mathlib.Core.Bool.{Bool, true}
 use mathlib.Core.List.{List}
 use Prim.Native.Nat.{ℕ}
 use Rattle.bits.specs.Walk.{setBits}
 use Rattle.regs.specs.declared.Reg.the-variants.{IntSt}
-use Rattle.regs.specs.declared.Dir.the-variants.{Out, In}
+use Rattle.regs.specs.declared.Dir.the-variants.{Out}
 use Rattle.regs.specs.Registers.{widthOf, fitsIn}
 use Rattle.state.specs.Driver.{Driver}
 use Rattle.model.specs.declared.Transfer.{Transfer}

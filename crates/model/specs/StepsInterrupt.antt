@@ -35,12 +35,12 @@ pub placed : (k : Kind) (d : Dir) (e x : ℕ) → Asks k (dma d e x)
 placed k Out e x = tt
 placed k In e x = tt
 
-of-looks : (i : Bool) (n : ℕ) → N (looks {i = i} n)
+pub of-looks : (i : Bool) (n : ℕ) → N (looks {i = i} n)
 unfolding looks
 of-looks i zero = tt
 of-looks i (suc n) = ((tt, λ _. tt), λ _. (tt, of-looks i n))
 
-of-nak : (i : Bool) (st : ℕ) → N (nakNonIso {i = i} st)
+pub of-nak : (i : Bool) (st : ℕ) → N (nakNonIso {i = i} st)
 of-nak i st = (λ _. tt, λ _. (λ _. tt, λ _. (((tt, λ _. tt), λ _. (tt, tt)), (((tt, λ _. tt), λ _. (tt, tt)), tt))))
 
 of-toggled : (i : Bool) (d : Dir) (e : ℕ) → N (toggled {i = i} d e)
@@ -55,7 +55,7 @@ of-toggled i d e = (
 of-retake : (i : Bool) (x : Transfer) → N (retake {i = i} x)
 of-retake i x = ((tt, λ _. tt), λ _. (((tt, λ _. tt), λ _. (tt, ((tt, λ _. tt), λ st. (of-nak i st, λ _. tt)))), tt))
 
-of-settle : (i : Bool) (x : Transfer) → N (settle {i = i} x)
+pub of-settle : (i : Bool) (x : Transfer) → N (settle {i = i} x)
 of-settle i x = (
   λ _. tt,
   λ _. (
@@ -64,7 +64,7 @@ of-settle i x = (
   ),
 )
 
-of-complete : (i : Bool) (e : ℕ) → N (isoInComplete {i = i} e)
+pub of-complete : (i : Bool) (e : ℕ) → N (isoInComplete {i = i} e)
 of-complete i e = (tt, λ _. ((λ _. tt, λ _. (((λ _. tt, tt), λ _. (λ _. tt, λ _. (tt, tt))), (tt, tt))), λ _. tt))
 
 of-sof-one : (i : Bool) (frame e : ℕ) → N (sofOne {i = i} frame e)
@@ -79,20 +79,20 @@ of-sof-one i frame e = (
   ),
 )
 
-of-sof-walk : (i : Bool) (frame : ℕ) (es : List ℕ) → N (sofWalk {i = i} frame es)
+pub of-sof-walk : (i : Bool) (frame : ℕ) (es : List ℕ) → N (sofWalk {i = i} frame es)
 unfolding sofWalk
 of-sof-walk i frame [] = tt
 of-sof-walk i frame (e ∷ es) = (of-sof-one i frame e, λ _. of-sof-walk i frame es)
 
-of-sof : (i : Bool) (frame : ℕ) → N (onSof {i = i} frame)
+pub of-sof : (i : Bool) (frame : ℕ) → N (onSof {i = i} frame)
 of-sof i frame = ((λ _. tt, λ _. tt), λ _. (λ _. tt, λ g. (of-sof-walk i frame (setBits (isoInEvery g)), λ _. (λ _. tt, λ _. ((tt, tt), tt)))))
 
-of-late-walk : (i : Bool) (frame : ℕ) (es : List ℕ) → N (lateWalk {i = i} frame es)
+pub of-late-walk : (i : Bool) (frame : ℕ) (es : List ℕ) → N (lateWalk {i = i} frame es)
 unfolding lateWalk
 of-late-walk i frame [] = tt
 of-late-walk i frame (e ∷ es) = (((λ _. tt, λ _. (tt, λ _. tt)), λ _. (of-complete i e, tt)), λ _. of-late-walk i frame es)
 
-of-check-walk : (i : Bool) (x : Transfer) (iso : Bool) (es : List ℕ) → N (checkWalk {i = i} x iso es)
+pub of-check-walk : (i : Bool) (x : Transfer) (iso : Bool) (es : List ℕ) → N (checkWalk {i = i} x iso es)
 unfolding checkWalk
 of-check-walk i x iso [] = tt
 of-check-walk i x iso (e ∷ es) = (
@@ -118,7 +118,7 @@ of-in i x iso frame = (
   ),
 )
 
-of-dispatch : (i : Bool) (t : Token) (x : Transfer) (iso : Bool) (frame : ℕ) → N (dispatch {i = i} t x iso frame)
+pub of-dispatch : (i : Bool) (t : Token) (x : Transfer) (iso : Bool) (frame : ℕ) → N (dispatch {i = i} t x iso frame)
 of-dispatch i tok.Sof x iso frame = (λ _. tt, λ _. (of-sof i frame, tt))
 of-dispatch i tok.Out x iso frame = of-out i x iso
 of-dispatch i tok.In x iso frame = of-in i x iso frame
@@ -127,7 +127,7 @@ of-dispatch i tok.Setup x iso frame = tt
 of-moved : (i : Bool) (d : Dir) → N (movedOn {i = i} d)
 of-moved i d = (λ _. tt, λ _. ((((tt, λ _. tt), λ w. (control moving d (nakflip w), tt)), λ _. ((λ _. tt, λ _. tt), λ _. tt)), tt))
 
-of-moved-on : (i : Bool) (t : Token) → N (ep0MovedOn {i = i} t)
+pub of-moved-on : (i : Bool) (t : Token) → N (ep0MovedOn {i = i} t)
 of-moved-on i tok.Out = of-moved i In
 of-moved-on i tok.In = of-moved i Out
 of-moved-on i tok.Sof = tt
@@ -148,7 +148,7 @@ of-served i x iso frame = (
   ),
 )
 
-of-transfer : (i : Bool) → N (onTransfer {i = i})
+pub of-transfer : (i : Bool) → N (onTransfer {i = i})
 of-transfer i = (
   (tt, λ _. tt),
   λ m. (
@@ -181,7 +181,7 @@ of-transfer i = (
   ),
 )
 
-of-setup : (i : Bool) → N (onSetup {i = i})
+pub of-setup : (i : Bool) → N (onSetup {i = i})
 of-setup i = (
   (tt, tt),
   λ _. (

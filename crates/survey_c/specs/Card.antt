@@ -8,7 +8,6 @@ use Rattle.req_card_writer.specs.declared.Wrote.{Wrote}
 use Rattle.req_card_writer.specs.declared.Wrote.the-variants as wrote
 use Rattle.req_card_writer.specs.declared.Finished.{Finished}
 use Rattle.req_card_writer.specs.declared.Finished.the-variants as finished
-use Rattle.req_card_reader.specs.declared.Reader.{Reader}
 use Rattle.req_card_reader.specs.declared.Started.{Started}
 use Rattle.req_card_reader.specs.declared.Started.the-variants as started
 use Rattle.req_card_reader.specs.declared.Next.{Next}

@@ -1,6 +1,6 @@
 -- From the definitions of the card's calls: a writer's numbers are read back, so that calls from C go on as those of `req_card_writer` do, and any
 -- number may be brought as an endpoint. Assumes nothing.
-use mathlib.Core.Path.{_≡_, refl, sym, ap, _∙_}
+use mathlib.Core.Path.{_≡_}
 use mathlib.Core.Bool.{Bool, true, false, cond, or-true}
 use mathlib.Core.List.{List}
 use Prim.Native.Nat.{ℕ, _+_, _%_, _^_, _<_, _≤_, min}

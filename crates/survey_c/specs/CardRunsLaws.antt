@@ -1,11 +1,11 @@
 -- The exported writer's four numbers, carried from call to call, make the stream, and the exported reader gives the packets back. Assumes nothing.
 use mathlib.Core.Path.{_≡_, refl, sym, ap, subst, _∙_}
-use mathlib.Core.Bool.{Bool, true, false, cond, not, _||_, or-true, true≢false}
+use mathlib.Core.Bool.{Bool, true, false, cond, not, or-true, true≢false}
 use mathlib.Core.List.{List, [], _∷_, _++_}
-use Prim.Native.Nat.{ℕ, zero, suc, _%_, _≤_, _<_}
+use Prim.Native.Nat.{ℕ, zero, suc, _%_, _≤_}
 use native.Mathlib.Omega.{arith}
 use native.Mathlib.Decide.{decLt}
-use lib.Dec.{eqb, ltb}
+use lib.Dec.{eqb}
 use lib.ListN.{length}
 use borrow.Author.Tests.{lt-ltb}
 use Rattle.req_card.specs.Packet.{Packet, All, size}
@@ -24,7 +24,7 @@ use Rattle.req_card_writer.specs.Runs.{Lends, Desk, after, packetRun, packetsRu
 use Rattle.req_card_writer.specs.Stream.{stream-run}
 use Rattle.survey_c.specs.Card.{writerIn, numbersOf, wroteWord, writerBy, finishedWord}
 use Rattle.survey_c.specs.CardLaws.{Short, writer-back, new-short, next-short}
-use Rattle.survey_c.specs.CardRuns.{isRefused, blockFull, packetWritten, Caller, storedIf, afterWrite, packetCalls, packetsCalls, lastCall, streamCalls}
+use Rattle.survey_c.specs.CardRuns.{isRefused, blockFull, packetWritten, Caller, storedIf, packetCalls, packetsCalls, lastCall, streamCalls}
 
 -- a desk as the caller has it
 abbrev seen : Desk → Caller

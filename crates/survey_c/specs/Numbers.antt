@@ -3,7 +3,6 @@ use mathlib.Core.Path.{_≡_}
 use mathlib.Core.List.{List, [], _∷_}
 use Prim.Native.Nat.{ℕ}
 use Rattle.req_channels.specs.declared.Channel.{Channel}
-use Rattle.req_channels.specs.declared.Choice.{Choice}
 use Rattle.req_channels.specs.declared.Answer.{Answer}
 use Rattle.req_channels.specs.declared.Answer.the-variants as answer
 use Rattle.req_channels.specs.Answers.{answerOf, listAfter}

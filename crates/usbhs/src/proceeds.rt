@@ -5,12 +5,8 @@ use machine::saved::tag;
 use req_bus_time::TIME_LEN;
 use state::STATE_LEN;
 ghost use mathlib.Core.Path.{_≡_};
-ghost use mathlib.Core.List.{List, []};
-ghost use Prim.Native.Nat.{ℕ};
-ghost use Rattle.state.specs.State.{view};
 ghost use Rattle.model.specs.Machine.{go};
-ghost use Rattle.machine.specs.Suspended.{machineOf, answerOf, lentOr, BufferUnchangedOnRow1, SavedByAnswer};
-ghost use Rattle.call_bus_time.specs.Sharing.{sharedCall};
+ghost use Rattle.call_bus_time.specs.Sharing.{SharedStep};
 
 // The tag of an interrupt's point.
 pub const INTERRUPT: u8 = 6;
@@ -23,15 +19,8 @@ pub fn proceed(
     driver: u32,
     v: u32,
 ) -> Step
-    ensures { λ r. ⌜ ((a : List ℕ) → (
-      (
-        answerOf r [] (view (now (s .exit))),
-        machineOf (now (s .exit)) (lentOr (view (now (s .entry))) (now (slots .entry)) (now (slots .exit)) a),
-      ),
-      now (time .exit),
-    ) ≡ sharedCall driver (go v) (machineOf (now (s .entry)) a) (now (time .entry)) (now (slots .entry))) ⌝ }
-    ensures { λ _. ⌜ BufferUnchangedOnRow1 (view (now (s .entry))) (now (slots .entry)) (now (slots .exit)) ⌝ }
-    ensures { λ r. ⌜ SavedByAnswer r (now (s .entry)) (now (s .exit)) ⌝ }
+    ensures { λ r. ⌜ SharedStep r driver (go v) (now (s .entry)) (now (s .exit))
+        (now (slots .entry)) (now (slots .exit)) (now (time .entry)) (now (time .exit)) ⌝ }
 {
     if tag(s) == INTERRUPT {
         return step_of(machine_resume::interrupt(s, slots, v));

@@ -1,6 +1,6 @@
 -- What an exported call says: its word is that of the answer which the machine of calls gives; the 22 bytes that are saved of an operation under way
 -- are canonical, all zero or as they were, by the answer (`SavedByAnswer`)
-use mathlib.Core.Bool.{Bool, true, false, not, cond}
+use mathlib.Core.Bool.{Bool, not, cond}
 use mathlib.Core.List.{List, []}
 use mathlib.Core.Path.{_≡_}
 use Prim.Native.Nat.{ℕ}
@@ -12,7 +12,7 @@ use Rattle.model.specs.Calls.{Config, Op, aside, Open, startRow}
 use Rattle.model.specs.Machine.{Buf, Call, begin, start}
 use Rattle.machine.specs.Suspended.{machineOf, drive, answerOf, lentOr, BufferUnchangedOnRow1, lentBy, SavedByAnswer}
 use Rattle.call_endpoint.specs.Shown.{ShownAt}
-use Rattle.call_bus_time.specs.Sharing.{sharedCall}
+use Rattle.call_bus_time.specs.Sharing.{sharedCall, SharedStep}
 use Rattle.call_answer_word.specs.Word.{Worded}
 use Rattle.usbhs_c.specs.Stamp.{stampBy}
 
@@ -98,10 +98,4 @@ AnswersStart r i c before after slots time time′ =
 
 -- a call that brings the slots and the record of bus time
 abbrev pub AnswersCharged : ℕ → ℕ → Call Config Op → List ℕ → List ℕ → Buf → Buf → List ℕ → List ℕ → Type 0
-AnswersCharged r i c before after slots slots′ time time′ =
-    Worded r
-    (λ step. ((a : Buf) → (
-      (answerOf step [] (view after), machineOf after (lentOr (view before) slots slots′ a)),
-      time′,
-    ) ≡ sharedCall i c (machineOf before a) time slots)
-    × (BufferUnchangedOnRow1 (view before) slots slots′ × SavedByAnswer step before after))
+AnswersCharged r i c before after slots slots′ time time′ = Worded r (λ step. SharedStep step i c before after slots slots′ time time′)

@@ -1,10 +1,9 @@
 -- A list written over the caller's room, one place after the other. Assumes nothing.
 use mathlib.Core.List.{List, [], _∷_, _++_}
-use mathlib.Core.Path.{_≡_, refl, sym, ap, _∙_}
+use mathlib.Core.Path.{_≡_, refl, ap, _∙_}
 use Prim.Native.Nat.{ℕ, zero, suc, _≤_, _<_}
 use native.Mathlib.Omega.{arith}
 use lib.ListN.{length, getD, set, take, drop}
-use lib.Seq.{length-take-le}
 use Rattle.marks.specs.Copies.{over}
 
 -- the first k of cs over the room's first k

@@ -49,9 +49,6 @@ pub fn setup_word(packet: &mut [u8; 8], step: Step) -> u64
         }
         Step::Done(_n) => word_of(Step::Done(0)),
         Step::Shown(_at, _n, stamp) => word_of(Step::Shown(0, 0, stamp)),
-        Step::Refused(_n) => word_of(step),
-        Step::Asks(_q) => word_of(step),
-        Step::Ends(_n, _w) => word_of(step),
-        Step::NotYet => word_of(step),
+        _ => word_of(step),
     }
 }

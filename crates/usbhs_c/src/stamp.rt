@@ -12,11 +12,6 @@ pub fn stamp_by(step: Step, old: u16) -> u16
 {
     match step {
         Step::Shown(_at, _n, stamp) => stamp,
-        Step::Refused(_n) => old,
-        Step::Asks(_q) => old,
-        Step::Ends(_n, _w) => old,
-        Step::NotYet => old,
-        Step::Done(_n) => old,
-        Step::Setup(_low, _high) => old,
+        _ => old,
     }
 }

@@ -1,6 +1,6 @@
-use mathlib.Core.Path.{sym, subst}
-use Rattle.call_answer_word.specs.Parts.{AccessFits}
+use mathlib.Core.Path.{refl}
 use Rattle.call_answer_word.specs.Word.{accessWord}
+use Rattle.call_answer_word.specs.WordLaws.{access-says}
 use borrow.Author.Needs.{needs}
 use Rattle.call_answer_word.proofs.access_word.Statement.{statement}
 use Rattle.call_answer_word.proofs.access_word.Tie as tie
@@ -63,43 +63,33 @@ enum-told c = search needs
 
 returns : tie.Need-returns
 unfolding accessWord
-returns c = (
-  simp (c .read-word .ensures, c .before .number .ensures, c .before .before .before .q .given .1),
-  subst AccessFits (sym (c .before .before .before .q .given .1)) (search needs),
-)
+returns c = access-says _ _ _ (c .before .before .before .q .given .1) (search needs) (simp (c .read-word .ensures, c .before .number .ensures))
 
 returns-2 : tie.Need-returns-2
 unfolding accessWord
-returns-2 c = (
-  simp (c .write-word .ensures, c .before .number2 .ensures, c .before .before .before .q2 .given .1),
-  subst AccessFits (sym (c .before .before .before .q2 .given .1)) (search needs, search needs),
-)
+returns-2 c =
+    access-says _ _ _ (c .before .before .before .q2 .given .1) (search needs, search needs)
+    (simp (c .write-word .ensures, c .before .number2 .ensures))
 
 returns-3 : tie.Need-returns-3
 unfolding accessWord
-returns-3 c = (
-  simp (c .write-word2 .ensures, c .before .before .q3 .given .1),
-  subst AccessFits (sym (c .before .before .q3 .given .1)) (search needs, search needs),
-)
+returns-3 c = access-says _ _ _ (c .before .before .q3 .given .1) (search needs, search needs) (simp (c .write-word2 .ensures))
 
 returns-4 : tie.Need-returns-4
 unfolding accessWord
-returns-4 c = (
-  simp (c .write-word3 .ensures, c .before .before .q4 .given .1),
-  subst AccessFits (sym (c .before .before .q4 .given .1)) (search needs, search needs),
-)
+returns-4 c = access-says _ _ _ (c .before .before .q4 .given .1) (search needs, search needs) (simp (c .write-word3 .ensures))
 
 returns-5 : tie.Need-returns-5
 unfolding accessWord
-returns-5 c = (simp (c .write-word4 .ensures, c .before .before .q5 .given .1), subst AccessFits (sym (c .before .before .q5 .given .1)) (search needs))
+returns-5 c = access-says _ _ _ (c .before .before .q5 .given .1) (search needs) (simp (c .write-word4 .ensures))
 
 returns-6 : tie.Need-returns-6
 unfolding accessWord
-returns-6 c = (simp (c .before .q6 .given .1), subst AccessFits (sym (c .before .q6 .given .1)) (search needs))
+returns-6 c = access-says _ _ _ (c .before .q6 .given .1) (search needs) refl
 
 returns-7 : tie.Need-returns-7
 unfolding accessWord
-returns-7 c = (simp (c .enum-told .given .1), subst AccessFits (sym (c .enum-told .given .1)) tt)
+returns-7 c = access-says _ _ _ (c .enum-told .given .1) tt refl
 
 pub access-word-spec : {M : Type 1} → statement M
 access-word-spec =

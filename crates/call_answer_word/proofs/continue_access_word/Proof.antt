@@ -1,6 +1,5 @@
-use mathlib.Core.Path.{sym, subst}
-use Rattle.call_answer_word.specs.Parts.{AccessFits}
 use Rattle.call_answer_word.specs.Word.{accessWord}
+use Rattle.call_answer_word.specs.WordLaws.{access-says}
 use borrow.Author.Needs.{needs}
 use Rattle.call_answer_word.proofs.continue_access_word.Statement.{statement}
 use Rattle.call_answer_word.proofs.continue_access_word.Tie as tie
@@ -28,17 +27,13 @@ access-word-requires c κs = search needs
 
 returns : tie.Need-returns
 unfolding accessWord
-returns c = (
-  simp (c .read-word .ensures, c .before .number .ensures, c .before .before .before .q .given .1),
-  subst AccessFits (sym (c .before .before .before .q .given .1)) (search needs),
-)
+returns c = access-says _ _ _ (c .before .before .before .q .given .1) (search needs) (simp (c .read-word .ensures, c .before .number .ensures))
 
 returns-2 : tie.Need-returns-2
 unfolding accessWord
-returns-2 c = (
-  simp (c .write-word .ensures, c .before .number2 .ensures, c .before .before .before .q2 .given .1),
-  subst AccessFits (sym (c .before .before .before .q2 .given .1)) (search needs, search needs),
-)
+returns-2 c =
+    access-says _ _ _ (c .before .before .before .q2 .given .1) (search needs, search needs)
+    (simp (c .write-word .ensures, c .before .number2 .ensures))
 
 returns-3 : tie.Need-returns-3
 returns-3 c = c .access-word .ensures

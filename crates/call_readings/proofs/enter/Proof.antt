@@ -47,10 +47,8 @@ returns c i time =
     let at-sized-arg2 = at-keep-frame .before .before .before in
     let at-clear-wakes = at-sized-arg2 .before .before in
     let at-if1 = at-clear-wakes .before .before in
-    let at-may-enter = at-if1 .before in
-    let at-entry = at-may-enter .before .before .before in
-    let a = at-entry .args in
-    let may = at-may-enter .may-enter .ensures (at-if1 .if1 .taken) in
+    let a = at-if1 .before .before .before .before .args in
+    let may = at-if1 .before .may-enter .ensures (at-if1 .if1 .taken) in
     let told = at-is-transfer .is-transfer .ensures (at-if2 .if2 .taken) in
     let kept = at-keep-frame .keep-frame .ensures in
     let setup = c .before .setup-act .ensures ∙ ap setupAct (c .before .before .byte .ensures) in
@@ -67,10 +65,8 @@ returns-2 c i time =
     let at-sized-arg2 = at-keep-frame .before .before .before in
     let at-clear-wakes = at-sized-arg2 .before .before in
     let at-if1 = at-clear-wakes .before .before in
-    let at-may-enter = at-if1 .before in
-    let at-entry = at-may-enter .before .before .before in
-    let a = at-entry .args in
-    let may = at-may-enter .may-enter .ensures (at-if1 .if1 .taken) in
+    let a = at-if1 .before .before .before .before .args in
+    let may = at-if1 .before .may-enter .ensures (at-if1 .if1 .taken) in
     let kept = at-keep-frame .keep-frame .ensures in
     framed i (a .frame) (now (a .s)) _ _ (now (a .slots)) time (may .0) (may .1) (may .2)
     (at-clear-wakes .clear-wakes .ensures .0) (at-sized-arg2 .sized-arg2 .given .0) (kept .0) _ (c .stand-flags .ensures)

@@ -1,16 +1,26 @@
 use denote.Ref.{now}
-use mathlib.Core.Bool.{true, false}
+use mathlib.Core.Bool.{Bool, true, false}
+use mathlib.Core.List.{List}
 use mathlib.Core.Path.{_≡_, refl, ap₂, subst}
 use Prim.Native.Nat.{ℕ}
 use native.Mathlib.Omega.{arith}
+use Rattle.regs.specs.declared.Access.{Access}
 use Rattle.state.specs.State.{view}
+use Rattle.model.specs.Machine.{awaited}
 use Rattle.model.specs.Script.{run}
 use Rattle.model.specs.Handler.{nakNonIso}
 use Rattle.model_ops.specs.Concrete.{concrete}
 use Rattle.irq_transfer.specs.Laws.{wider}
 use Rattle.irq_transfer.specs.Nak as nak
+use Rattle.irq.specs.declared.Point.{Point}
+use Rattle.irq.specs.declared.Point.the-variants as point
+use Rattle.irq.specs.declared.Next.the-variants as next
+use Rattle.irq.specs.Points as points
 use Rattle.irq.specs.Continuations.{enteredAs}
-use Rattle.irq.specs.Laws.{nak-linked}
+use Rattle.irq_points.specs.Stands.{Stands}
+use Rattle.machine.specs.declared.Step.the-variants as step
+use Rattle.call_readings.specs.Readings.{lent}
+use Rattle.call_readings.specs.Passing.{Transferred}
 use Rattle.call_readings.specs.PassingLaws.{at-mis, transferred, nak-first, released-first}
 use borrow.Author.Needs.{needs}
 use Rattle.call_readings.proofs.pass.Statement.{statement}
@@ -52,56 +62,66 @@ enum-told c = search needs
 stand-released-requires : tie.Need-stand-released-requires
 stand-released-requires c κs = search needs
 
+-- what both ways on have in common, from NAK's begin on
+module _ (at : tie.After-nak-non-iso) where
+  abbrev sizes : tie.After-short
+  sizes = at .before .before
+
+  abbrev stage : tie.After-setup-at
+  stage = sizes .before .before
+
+  abbrev whole : tie.After-sized-arg2
+  whole = stage .before .before .before
+
+  abbrev asked : tie.Then1
+  asked = whole .before .before
+
+  abbrev entry : tie.Start
+  entry = asked .before .before .before .before
+
+  abbrev xs : List ℕ
+  xs = now (entry .args .s)
+
+  abbrev b : List ℕ
+  b = now (entry .args .slots)
+
+  abbrev setup : Bool
+  setup = stage .setup-at .result
+
+  abbrev st : ℕ
+  st = entry .args .st
+
+  abbrev len : ℕ
+  len = entry .args .len
+
+  passes-on : (i : ℕ) (time : List ℕ) (q : Access) (p : Point) (ys : List ℕ) → awaited q ≡ points.awaitsAt p → {w : ℕ} → Stands w q p xs ys
+      → points.meaning (next.Asks q p) (view xs) b ≡ points.denote (point.Len setup false st) len (view xs, b)
+      → Transferred (step.Asks q) i (entry .args .mis) st len (lent xs b time) (lent ys b time)
+  passes-on i time =
+      let may = asked .before .may-pass .ensures (asked .if1 .taken) in
+      transferred i (entry .args .mis) st len setup xs b time (at-mis xs setup (may .0) (may .1) (stage .setup-at .ensures)) (whole .sized-arg2 .given .0)
+      (may .2) (may .3) (may .4) (may .5) (may .6)
+
+  is-entered : enteredAs false (sizes .before .byte .result) (sizes .short .result) ≡ enteredAs false st len
+  is-entered = ap₂ (λ (m n : ℕ). enteredAs false m n) (sizes .before .byte .ensures) (sizes .short .ensures)
+
+  naks : nak.meaning st (at .nak-non-iso .result) (view xs) b ≡ run concrete (nakNonIso {i = true} st) (view xs, b)
+  naks = subst (λ (m : ℕ). nak.meaning m (at .nak-non-iso .result) (view xs) b ≡ run concrete (nakNonIso {i = true} m) (view xs, b))
+      (sizes .before .byte .ensures) (at .nak-non-iso .ensures .0 b)
+
 returns : tie.Need-returns
 returns c i time =
-    let at-nak-non-iso = c .before .before .before .before .before in
-    let at-short = at-nak-non-iso .before .before in
-    let at-byte = at-short .before in
-    let at-setup-at = at-byte .before in
-    let at-sized-arg2 = at-setup-at .before .before .before in
-    let at-if1 = at-sized-arg2 .before .before in
-    let at-may-pass = at-if1 .before in
-    let at-entry = at-may-pass .before .before .before in
-    let a = at-entry .args in
-    let may = at-may-pass .may-pass .ensures (at-if1 .if1 .taken) in
-    let is-st = at-byte .byte .ensures in
-    let is-len = at-short .short .ensures in
-    let the-setup = at-setup-at .setup-at in
-    let the-nak = at-nak-non-iso .nak-non-iso in
-    let d = view (now (a .s)) in
-    let y : _ ≡ enteredAs false (a .st) (a .len) = ap₂ (λ (m n : ℕ). enteredAs false m n) is-st is-len in
-    let naks = subst (λ (m : ℕ). nak.meaning m (the-nak .result) d (now (a .slots)) ≡ run concrete (nakNonIso {i = true} m) (d, now (a .slots))) is-st
-    (the-nak .ensures .0 (now (a .slots))) in
-    transferred i (a .mis) (a .st) (a .len) (the-setup .result) (now (a .s)) (now (a .slots)) time
-    (at-mis (now (a .s)) (the-setup .result) (may .0) (may .1) (the-setup .ensures)) (at-sized-arg2 .sized-arg2 .given .0)
-    (may .2) (may .3) (may .4) (may .5) (may .6) _ _ _
-    (nak-linked _ _ _ (c .before .before .before .n .given .1) (the-nak .ensures .1)) (c .stand-nak .ensures)
-    (nak-first (the-setup .result) (a .st) (a .len) _ d (now (a .slots)) y (the-nak .result) naks _ _ (c .before .before .before .n .given .1))
+    let at = c .before .before .before .before .before in
+    let told = c .before .before .before .n .given .1 in
+    passes-on at i time _ _ _ (subst nak.Linked told (at .nak-non-iso .ensures .1)) (c .stand-nak .ensures)
+    (nak-first (setup at) (st at) (len at) _ (view (xs at)) (b at) (is-entered at) (at .nak-non-iso .result) (naks at) _ _ told)
 
 returns-2 : tie.Need-returns-2
 returns-2 c i time =
-    let at-nak-non-iso = c .before .before .before .before in
-    let at-short = at-nak-non-iso .before .before in
-    let at-byte = at-short .before in
-    let at-setup-at = at-byte .before in
-    let at-sized-arg2 = at-setup-at .before .before .before in
-    let at-if1 = at-sized-arg2 .before .before in
-    let at-may-pass = at-if1 .before in
-    let at-entry = at-may-pass .before .before .before in
-    let a = at-entry .args in
-    let may = at-may-pass .may-pass .ensures (at-if1 .if1 .taken) in
-    let is-st = at-byte .byte .ensures in
-    let is-len = at-short .short .ensures in
-    let the-setup = at-setup-at .setup-at in
-    let the-nak = at-nak-non-iso .nak-non-iso in
-    let d = view (now (a .s)) in
-    let y : _ ≡ enteredAs false (a .st) (a .len) = ap₂ (λ (m n : ℕ). enteredAs false m n) is-st is-len in
-    let naks = subst (λ (m : ℕ). nak.meaning m (the-nak .result) d (now (a .slots)) ≡ run concrete (nakNonIso {i = true} m) (d, now (a .slots))) is-st
-    (the-nak .ensures .0 (now (a .slots))) in
-    transferred i (a .mis) (a .st) (a .len) (the-setup .result) (now (a .s)) (now (a .slots)) time
-    (at-mis (now (a .s)) (the-setup .result) (may .0) (may .1) (the-setup .ensures)) (at-sized-arg2 .sized-arg2 .given .0)
-    (may .2) (may .3) (may .4) (may .5) (may .6) _ _ _ refl (c .stand-released .ensures)
-    (released-first (the-setup .result) (a .st) (a .len) _ d (now (a .slots)) y (the-nak .result) naks (c .before .before .enum-told .given .1))
+    let at = c .before .before .before .before in
+    passes-on at i time _ _ _ refl (c .stand-released .ensures)
+    (released-first (setup at) (st at) (len at) _ (view (xs at)) (b at) (is-entered at) (at .nak-non-iso .result) (naks at)
+    (c .before .before .enum-told .given .1))
 
 returns-3 : tie.Need-returns-3
 returns-3 c = search needs

@@ -1,4 +1,4 @@
-use Rattle.irq_points.specs.StandsLaws.{then-on}
+use Rattle.irq_check.specs.StopsLaws.{goes-on}
 use Rattle.irq.specs.Laws.{after}
 use Rattle.irq.specs.Continuations.{afterCheck}
 use Rattle.model_ops.specs.Concrete.{concrete}
@@ -20,10 +20,9 @@ same-length c = search needs
 
 returns : tie.Need-returns
 returns c =
-    let the-checked = c .checked in
     let a = c .before .before .before .before .before .before .before .before .before .args in
-    let the-resume = c .before .before .before .before .before .iso-out-check-resume in
-    (then-on (the-checked .ensures .0) (after (a .setup) (λ _ u. run concrete (afterCheck (a .x)) u) _ _ (the-resume .ensures .0)), the-checked .ensures .1)
+    goes-on (c .checked .ensures)
+    (after (a .setup) (λ _ u. run concrete (afterCheck (a .x)) u) _ _ (c .before .before .before .before .before .iso-out-check-resume .ensures .0))
 
 pub after-checking-spec : {M : Type 1} → statement M
 after-checking-spec =

@@ -1,11 +1,12 @@
-use Rattle.irq_points.specs.StandsLaws.{stops-at, stored-at, then-on}
-use Rattle.irq.specs.Laws.{after, check-asks, check-ends, check-linked, tells, tells-not, when-yes}
+use Rattle.iso_out.specs.Points as check
+use Rattle.irq_check.specs.StopsLaws.{pauses-at, goes-on}
+use Rattle.irq.specs.Laws.{after, check-asks, check-ends, tells, tells-not, when-yes}
 use Rattle.irq.specs.Continuations.{afterCheck, afterDispatch}
 use Rattle.irq_check.specs.SofLaws.{sof-over}
 use Rattle.model_ops.specs.Concrete.{concrete}
 use Rattle.model.specs.IsoOut.{isoOutCheck}
 use Rattle.model.specs.Script.{run}
-use mathlib.Core.Path.{_∙_}
+use mathlib.Core.Path.{_∙_, subst}
 use borrow.Author.Needs.{needs}
 use Rattle.irq_check.proofs.after_dispatch.Statement.{statement}
 use Rattle.irq_check.proofs.after_dispatch.Tie as tie
@@ -20,12 +21,8 @@ returns : tie.Need-returns
 returns c =
     let the-after-transfer = c .after-transfer in
     let a = c .before .before .before .before .before .args in
-    let the-is-sof = c .before .before .before .is-sof in
-    let the-if1 = c .before .before .if1 in (
-      then-on (the-after-transfer .ensures .0 _)
-          (sof-over (a .setup) (a .x) (a .iso) _ (tells _ _ _ (the-is-sof .ensures) (the-if1 .taken))),
-      the-after-transfer .ensures .1,
-    )
+    goes-on (the-after-transfer .ensures .0 _, the-after-transfer .ensures .1)
+    (sof-over (a .setup) (a .x) (a .iso) _ (tells _ _ _ (c .before .before .before .is-sof .ensures) (c .before .before .if1 .taken)))
 
 iso-out-check-requires : tie.Need-iso-out-check-requires
 iso-out-check-requires c κs = search needs
@@ -48,19 +45,16 @@ same-length c = search needs
 returns-2 : tie.Need-returns-2
 unfolding afterDispatch
 returns-2 c =
-    let the-stand-check = c .stand-check in
     let the-n = c .before .before .before .n in
     let a = c .before .before .before .before .before .before .before .before .before .before .before .before .before .args in
     let the-begin = c .before .before .before .before .before .before .before .iso-out-check in
     let the-is-sof = c .before .before .before .before .before .before .before .before .before .before .before .is-sof in
-    let the-if1 = c .before .before .before .before .before .before .before .before .before .before .if1 in (
-      stops-at (the-stand-check .ensures) (check-linked _ _ _ (the-n .given .1) (the-begin .ensures .1 .1)) _
-          (check-asks (a .setup) (λ _ u. run concrete (afterCheck (a .x)) u) _ _ _ (a .x) (a .iso) _ _ (the-n .given .1)
-          ∙ (after (a .setup) (λ _ u. run concrete (afterCheck (a .x)) u) _ _ (the-begin .ensures .0)
-          ∙ when-yes (a .setup) (isoOutCheck (a .x) (a .iso))
-          (λ _ u. run concrete (afterCheck (a .x)) u) _ _ (tells-not _ _ _ (the-is-sof .ensures) (the-if1 .left)))),
-      stored-at (the-stand-check .ensures),
-    )
+    let the-if1 = c .before .before .before .before .before .before .before .before .before .before .if1 in
+    pauses-at (c .stand-check .ensures) (subst check.Linked (the-n .given .1) (the-begin .ensures .1 .1))
+    (check-asks (a .setup) (λ _ u. run concrete (afterCheck (a .x)) u) _ _ _ (a .x) (a .iso) _ _ (the-n .given .1)
+    ∙ (after (a .setup) (λ _ u. run concrete (afterCheck (a .x)) u) _ _ (the-begin .ensures .0)
+    ∙ when-yes (a .setup) (isoOutCheck (a .x) (a .iso)) (λ _ u. run concrete (afterCheck (a .x)) u) _ _
+    (tells-not _ _ _ (the-is-sof .ensures) (the-if1 .left))))
 
 same-length-2 : tie.Need-same-length-2
 same-length-2 c = search needs
@@ -73,14 +67,12 @@ returns-3 c =
     let a = c .before .before .before .before .before .before .before .before .before .before .before .before .args in
     let the-begin = c .before .before .before .before .before .before .iso-out-check in
     let the-is-sof = c .before .before .before .before .before .before .before .before .before .before .is-sof in
-    let the-if1 = c .before .before .before .before .before .before .before .before .before .if1 in (
-      then-on (the-after-check .ensures .0 _)
-          (check-ends (a .setup) (λ _ u. run concrete (afterCheck (a .x)) u) _ _ (a .x) (a .iso) _ (the-enum-told .given .1)
-          ∙ (after (a .setup) (λ _ u. run concrete (afterCheck (a .x)) u) _ _ (the-begin .ensures .0)
-          ∙ when-yes (a .setup) (isoOutCheck (a .x) (a .iso))
-          (λ _ u. run concrete (afterCheck (a .x)) u) _ _ (tells-not _ _ _ (the-is-sof .ensures) (the-if1 .left)))),
-      the-after-check .ensures .1,
-    )
+    let the-if1 = c .before .before .before .before .before .before .before .before .before .if1 in
+    goes-on (the-after-check .ensures .0 _, the-after-check .ensures .1)
+    (check-ends (a .setup) (λ _ u. run concrete (afterCheck (a .x)) u) _ _ (a .x) (a .iso) _ (the-enum-told .given .1)
+    ∙ (after (a .setup) (λ _ u. run concrete (afterCheck (a .x)) u) _ _ (the-begin .ensures .0)
+    ∙ when-yes (a .setup) (isoOutCheck (a .x) (a .iso)) (λ _ u. run concrete (afterCheck (a .x)) u) _ _
+    (tells-not _ _ _ (the-is-sof .ensures) (the-if1 .left))))
 
 pub after-dispatch-spec : {M : Type 1} → statement M
 after-dispatch-spec =

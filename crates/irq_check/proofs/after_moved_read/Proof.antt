@@ -1,4 +1,4 @@
-use Rattle.irq_points.specs.StandsLaws.{stops-at, stored-at}
+use Rattle.irq_check.specs.StopsLaws.{pauses-in}
 use mathlib.Core.Path.{refl}
 use borrow.Author.Needs.{needs}
 use Rattle.irq_check.proofs.after_moved_read.Statement.{statement}
@@ -21,12 +21,8 @@ stand-moved-wrote-requires c κs = search needs
 
 returns : tie.Need-returns
 returns c =
-    let the-stand-moved-wrote = c .stand-moved-wrote in
-    let the-nakflip = c .before .before .before .nakflip in
-    let the-byte = c .before .before .before .before .byte in (
-      λ b. stops-at (the-stand-moved-wrote .ensures) (refl) b (simp (c .before .ctrl-of .ensures, the-nakflip .ensures, the-byte .ensures)),
-      stored-at (the-stand-moved-wrote .ensures),
-    )
+    pauses-in (c .stand-moved-wrote .ensures) refl
+    (λ b. simp (c .before .ctrl-of .ensures, c .before .before .before .nakflip .ensures, c .before .before .before .before .byte .ensures))
 
 pub after-moved-read-spec : {M : Type 1} → statement M
 after-moved-read-spec =

@@ -1,8 +1,6 @@
-use Rattle.irq_points.specs.StandsLaws.{stops-at, stored-at, then-on}
-use Rattle.irq.specs.Laws.{check-asks, check-ends, check-linked}
-use Rattle.irq.specs.Continuations.{afterCheck}
-use Rattle.model_ops.specs.Concrete.{concrete}
-use Rattle.model.specs.Script.{run}
+use mathlib.Core.Path.{subst}
+use Rattle.iso_out.specs.Points as check
+use Rattle.irq_check.specs.StopsLaws.{pauses-at, goes-on}
 use borrow.Author.Needs.{needs}
 use Rattle.irq_check.proofs.checked.Statement.{statement}
 use Rattle.irq_check.proofs.checked.Tie as tie
@@ -21,24 +19,12 @@ ep0-moved-on-requires c κs = search needs
 
 returns : tie.Need-returns
 returns c =
-    let the-stand-check = c .stand-check in
-    let the-n = c .before .before .before .n in
-    let a = c .before .before .before .before .before .before .args in (
-      stops-at (the-stand-check .ensures)
-          (check-linked _ _ _ (the-n .given .1) ((c .before .before .before .before .before .before .pre))) _
-          (check-asks (a .setup) (λ _ u. run concrete (afterCheck (a .x)) u) _ _ _ (a .x) (a .iso) _ _ (the-n .given .1)),
-      stored-at (the-stand-check .ensures),
-    )
+    pauses-at (c .stand-check .ensures)
+    (subst check.Linked (c .before .before .before .n .given .1) (c .before .before .before .before .before .before .pre))
+    (simp (c .before .before .before .n .given .1))
 
 returns-2 : tie.Need-returns-2
-returns-2 c =
-    let the-after-check = c .ep0-moved-on in
-    let a = c .before .before .before .before .before .args in
-    let the-enum-told = c .before .before .enum-told in (
-      then-on (the-after-check .ensures .0 _)
-          (check-ends (a .setup) (λ _ u. run concrete (afterCheck (a .x)) u) _ _ (a .x) (a .iso) _ (the-enum-told .given .1)),
-      the-after-check .ensures .1,
-    )
+returns-2 c = goes-on (c .ep0-moved-on .ensures .0 _, c .ep0-moved-on .ensures .1) (simp (c .before .before .enum-told .given .1))
 
 pub checked-spec : {M : Type 1} → statement M
 checked-spec =

@@ -1,9 +1,34 @@
-use Rattle.irq_points.specs.StandsLaws.{then-on}
-use Rattle.irq.specs.Continuations.{afterCheck}
-use borrow.Author.Tests.{eq-eqb, ne-eqb}
+use Rattle.irq_check.specs.StopsLaws.{goes-in}
+use Rattle.irq_check.specs.MovedLaws.{moved-as}
+use Rattle.irq.specs.Continuations.{afterCheck, finish}
+use Rattle.model.specs.Tree.{ends}
+use Rattle.model.specs.Script.{run}
+use Rattle.model.specs.Handler.{ep0MovedOn}
+use Rattle.model_ops.specs.Rings.{St}
+use Rattle.model_ops.specs.Concrete.{concrete}
+use Rattle.regs.specs.declared.Token.{Token}
+use Rattle.regs.specs.declared.Token.the-variants as tok
+use Rattle.regs.proofs.Token as declared
+use denote.Enum.Declared.{tagOf}
+use types.Run.{OneOf, miss}
+use mathlib.Core.List.{List, [], _∷_}
+use Prim.Native.Nat.{ℕ}
+use mathlib.Core.Bool.{true}
+use mathlib.Core.Path.{_≡_, _∙_, refl, ap}
+use borrow.Author.Tests.{ne-eqb}
 use borrow.Author.Needs.{needs}
 use Rattle.irq_check.proofs.ep0_moved_on.Statement.{statement}
 use Rattle.irq_check.proofs.ep0_moved_on.Tie as tie
+
+-- SOF and SETUP, the second and the last, tell nothing
+abbrev others : List ℕ
+others = 1 ∷ 3 ∷ []
+
+quiet : (k : Token) → OneOf others (tagOf declared.the-type k) → (t : St) → ends tt t ≡ run concrete (ep0MovedOn {i = true} k) t
+quiet tok.Out h t = absurd (miss others 0 tt h)
+quiet tok.Sof h t = refl
+quiet tok.In h t = absurd (miss others 2 tt h)
+quiet tok.Setup h t = refl
 
 endpoint-requires : tie.Need-endpoint-requires
 endpoint-requires c κs = search needs
@@ -23,80 +48,36 @@ enum-told-2 c = search needs
 moved-on-requires-2 : tie.Need-moved-on-requires-2
 moved-on-requires-2 c κs = search needs
 
-enum-told-3 : tie.Need-enum-told-3
-enum-told-3 c = search needs
-
 after-transfer-requires : tie.Need-after-transfer-requires
 after-transfer-requires c κs = search needs
-
-enum-told-4 : tie.Need-enum-told-4
-enum-told-4 c = search needs
 
 after-transfer-requires-2 : tie.Need-after-transfer-requires-2
 after-transfer-requires-2 c κs = search needs
 
-after-transfer-requires-3 : tie.Need-after-transfer-requires-3
-after-transfer-requires-3 c κs = search needs
-
 returns : tie.Need-returns
-unfolding afterCheck
 returns c =
-    let the-moved-on = c .moved-on in
-    let the-endpoint = c .before .before .before .before .before .before .endpoint in
-    let the-if1 = c .before .before .before .before .before .if1 in
-    let the-token = c .before .before .before .before .token in
-    let the-enum-told = c .before .before .enum-told in (
-      λ b. then-on (the-moved-on .ensures .0 b)
-          (simp (← the-endpoint .ensures, eq-eqb _ _ (the-if1 .taken), ← the-token .ensures, the-enum-told .given .1)),
-      the-moved-on .ensures .1,
-    )
+    let told = c .before .before in
+    let at = told .before .before in
+    goes-in (c .moved-on .ensures)
+    (λ b. moved-as _ _ _ (at .before .before .endpoint .ensures) (at .before .if1 .taken) (at .token .ensures) (told .enum-told .given .1))
 
 returns-2 : tie.Need-returns-2
-unfolding afterCheck
 returns-2 c =
-    let the-moved-on2 = c .moved-on2 in
-    let the-endpoint = c .before .before .before .before .before .before .endpoint in
-    let the-if1 = c .before .before .before .before .before .if1 in
-    let the-token = c .before .before .before .before .token in
-    let the-enum-told2 = c .before .before .enum-told2 in (
-      λ b. then-on (the-moved-on2 .ensures .0 b)
-          (simp (← the-endpoint .ensures, eq-eqb _ _ (the-if1 .taken), ← the-token .ensures, the-enum-told2 .given .1)),
-      the-moved-on2 .ensures .1,
-    )
+    let told = c .before .before in
+    let at = told .before .before in
+    goes-in (c .moved-on2 .ensures)
+    (λ b. moved-as _ _ _ (at .before .before .endpoint .ensures) (at .before .if1 .taken) (at .token .ensures) (told .enum-told2 .given .1))
 
 returns-3 : tie.Need-returns-3
-unfolding afterCheck
 returns-3 c =
-    let the-after-transfer = c .after-transfer in
-    let the-endpoint = c .before .before .before .before .before .before .endpoint in
-    let the-if1 = c .before .before .before .before .before .if1 in
-    let the-token = c .before .before .before .before .token in
-    let the-enum-told3 = c .before .before .enum-told3 in (
-      λ b. then-on (the-after-transfer .ensures .0 b)
-          (simp (← the-endpoint .ensures, eq-eqb _ _ (the-if1 .taken), ← the-token .ensures, the-enum-told3 .given .1)),
-      the-after-transfer .ensures .1,
-    )
+    let at = c .before .before .before in
+    goes-in (c .after-transfer .ensures) (λ b. ap (finish _) (quiet (at .token .result) (c .before .before .match .keys3) _)
+    ∙ moved-as _ _ _ (at .before .before .endpoint .ensures) (at .before .if1 .taken) (at .token .ensures) refl)
 
 returns-4 : tie.Need-returns-4
 unfolding afterCheck
 returns-4 c =
-    let the-after-transfer2 = c .after-transfer2 in
-    let the-endpoint = c .before .before .before .before .before .before .endpoint in
-    let the-if1 = c .before .before .before .before .before .if1 in
-    let the-token = c .before .before .before .before .token in
-    let the-enum-told4 = c .before .before .enum-told4 in (
-      λ b. then-on (the-after-transfer2 .ensures .0 b)
-          (simp (← the-endpoint .ensures, eq-eqb _ _ (the-if1 .taken), ← the-token .ensures, the-enum-told4 .given .1)),
-      the-after-transfer2 .ensures .1,
-    )
-
-returns-5 : tie.Need-returns-5
-unfolding afterCheck
-returns-5 c =
-    let the-after-transfer3 = c .after-transfer3 in
-    let the-endpoint = c .before .before .before .endpoint in
-    let the-if1 = c .before .before .if1 in
-    (λ b. then-on (the-after-transfer3 .ensures .0 b) (simp (← the-endpoint .ensures, ne-eqb _ _ (the-if1 .left))), the-after-transfer3 .ensures .1)
+    goes-in (c .after-transfer2 .ensures) (λ b. simp (← c .before .before .before .endpoint .ensures, ne-eqb _ _ (c .before .before .if1 .left)))
 
 pub ep0-moved-on-spec : {M : Type 1} → statement M
 ep0-moved-on-spec =
@@ -108,13 +89,9 @@ ep0-moved-on-spec =
     moved-on-requires
     enum-told-2
     moved-on-requires-2
-    enum-told-3
     after-transfer-requires
-    enum-told-4
     after-transfer-requires-2
-    after-transfer-requires-3
     returns
     returns-2
     returns-3
-    returns-4
-    returns-5)
+    returns-4)

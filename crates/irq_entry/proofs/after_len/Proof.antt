@@ -1,10 +1,11 @@
-use Rattle.irq_points.specs.StandsLaws.{stops-at, stored-at, then-on}
-use Rattle.irq.specs.Laws.{entered-free, entered-nak, nak-asks, nak-ends, nak-linked, tells}
+use Rattle.irq_transfer.specs.Nak as nak
+use Rattle.irq_check.specs.StopsLaws.{pauses-in, goes-in}
+use Rattle.irq.specs.Laws.{entered-free, entered-nak, nak-asks, nak-ends, tells}
 use Rattle.irq.specs.Continuations.{afterNak, enteredAs}
 use Rattle.model_ops.specs.Concrete.{concrete}
 use Rattle.model.specs.Script.{run}
 use Prim.Native.Nat.{ℕ}
-use mathlib.Core.Path.{_∙_, ap}
+use mathlib.Core.Path.{_∙_, ap, subst}
 use borrow.Author.Needs.{needs}
 use Rattle.irq_entry.proofs.after_len.Statement.{statement}
 use Rattle.irq_entry.proofs.after_len.Tie as tie
@@ -46,14 +47,10 @@ returns c =
     let the-n = c .before .before .before .n in
     let x = the-entered .result in
     let the-begin = c .before .before .before .before .before .nak-non-iso in
-    let the-stand-nak = c .stand-nak in (
-      λ b. stops-at (the-stand-nak .ensures) (nak-linked _ _ _ (the-n .given .1) (the-begin .ensures .1)) b
-          (nak-asks (a .setup) (λ _ u. run concrete (afterNak x) u) _ _ b (x .st) _ _ (the-n .given .1)
-          ∙ entered-nak (a .setup) (a .busy) (a .st) _ _ _ b
-          (the-entered .ensures ∙ ap (λ (z : ℕ). enteredAs (a .busy) (a .st) z) (the-short .ensures))
-          (the-begin .result) (the-begin .ensures .0 b) (tells _ _ _ (the-naks-first .ensures) (the-if1 .taken))),
-      stored-at (the-stand-nak .ensures),
-    )
+    pauses-in (c .stand-nak .ensures) (subst nak.Linked (the-n .given .1) (the-begin .ensures .1))
+    (λ b. nak-asks (a .setup) (λ _ u. run concrete (afterNak x) u) _ _ b (x .st) _ _ (the-n .given .1)
+    ∙ entered-nak (a .setup) (a .busy) (a .st) _ _ _ b (the-entered .ensures ∙ ap (λ (z : ℕ). enteredAs (a .busy) (a .st) z) (the-short .ensures))
+    (the-begin .result) (the-begin .ensures .0 b) (tells _ _ _ (the-naks-first .ensures) (the-if1 .taken)))
 
 returns-2 : tie.Need-returns-2
 returns-2 c =
@@ -65,14 +62,10 @@ returns-2 c =
     let a = c .before .before .before .before .before .before .before .before .before .before .args in
     let x = the-entered .result in
     let the-begin = c .before .before .before .before .nak-non-iso in
-    let the-release = c .release in (
-      λ b. then-on (the-release .ensures .0 b)
-          (nak-ends (a .setup) (λ _ u. run concrete (afterNak x) u) _ b (x .st) _ (the-enum-told .given .1)
-          ∙ entered-nak (a .setup) (a .busy) (a .st) _ _ _ b
-          (the-entered .ensures ∙ ap (λ (z : ℕ). enteredAs (a .busy) (a .st) z) (the-short .ensures))
-          (the-begin .result) (the-begin .ensures .0 b) (tells _ _ _ (the-naks-first .ensures) (the-if1 .taken))),
-      the-release .ensures .1,
-    )
+    goes-in (c .release .ensures)
+    (λ b. nak-ends (a .setup) (λ _ u. run concrete (afterNak x) u) _ b (x .st) _ (the-enum-told .given .1)
+    ∙ entered-nak (a .setup) (a .busy) (a .st) _ _ _ b (the-entered .ensures ∙ ap (λ (z : ℕ). enteredAs (a .busy) (a .st) z) (the-short .ensures))
+    (the-begin .result) (the-begin .ensures .0 b) (tells _ _ _ (the-naks-first .ensures) (the-if1 .taken)))
 
 returns-3 : tie.Need-returns-3
 returns-3 c =
@@ -81,13 +74,9 @@ returns-3 c =
     let the-naks-first = c .before .before .before .naks-first in
     let the-if1 = c .before .before .if1 in
     let a = c .before .before .before .before .before .before .args in
-    let the-release = c .release2 in (
-      λ b. then-on (the-release .ensures .0 b)
-          (entered-free (a .setup) (a .busy) (a .st) _ _ _ b
-          (the-entered .ensures ∙ ap (λ (z : ℕ). enteredAs (a .busy) (a .st) z) (the-short .ensures))
-          (tells _ _ _ (the-naks-first .ensures) (the-if1 .left))),
-      the-release .ensures .1,
-    )
+    goes-in (c .release2 .ensures)
+    (λ b. entered-free (a .setup) (a .busy) (a .st) _ _ _ b (the-entered .ensures ∙ ap (λ (z : ℕ). enteredAs (a .busy) (a .st) z) (the-short .ensures))
+    (tells _ _ _ (the-naks-first .ensures) (the-if1 .left)))
 
 pub after-len-spec : {M : Type 1} → statement M
 after-len-spec =

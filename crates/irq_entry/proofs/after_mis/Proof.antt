@@ -1,4 +1,4 @@
-use Rattle.irq_points.specs.StandsLaws.{stops-at, stored-at}
+use Rattle.irq_check.specs.StopsLaws.{pauses-in}
 use Rattle.irq.specs.Continuations.{afterMis}
 use mathlib.Core.Path.{refl}
 use borrow.Author.Needs.{needs}
@@ -16,11 +16,7 @@ stand-st-requires c κs = search needs
 
 returns : tie.Need-returns
 unfolding afterMis
-returns c =
-    let the-stand-st = c .stand-st in
-    let the-sie-free = c .before .before .sie-free in
-    let the-byte = c .before .before .before .byte in
-    (λ b. stops-at (the-stand-st .ensures) (refl) b (simp (the-sie-free .ensures, the-byte .ensures)), stored-at (the-stand-st .ensures))
+returns c = pauses-in (c .stand-st .ensures) refl (λ b. simp (c .before .before .sie-free .ensures, c .before .before .before .byte .ensures))
 
 pub after-mis-spec : {M : Type 1} → statement M
 after-mis-spec =

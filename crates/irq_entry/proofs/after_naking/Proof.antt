@@ -1,9 +1,8 @@
-use Rattle.irq_points.specs.StandsLaws.{then-on}
+use Rattle.irq_check.specs.StopsLaws.{goes-in}
 use Rattle.irq.specs.Laws.{after}
 use Rattle.irq.specs.Continuations.{afterNak}
 use Rattle.model_ops.specs.Concrete.{concrete}
 use Rattle.model.specs.Script.{run}
-use borrow.Author.Needs.{needs}
 use Rattle.irq_entry.proofs.after_naking.Statement.{statement}
 use Rattle.irq_entry.proofs.after_naking.Tie as tie
 
@@ -15,13 +14,9 @@ then-nak-requires c κs = c .before .nak-non-iso-resume .ensures .1
 
 returns : tie.Need-returns
 returns c =
-    let the-then-nak = c .then-nak in
     let a = c .before .before .before .args in
-    let the-resume = c .before .before .nak-non-iso-resume in (
-      λ b. then-on (the-then-nak .ensures .0 b)
-          (after (a .setup) (λ _ u. run concrete (afterNak (a .x)) u) _ _ (the-resume .ensures .0 _ b)),
-      the-then-nak .ensures .1,
-    )
+    goes-in (c .then-nak .ensures)
+    (λ b. after (a .setup) (λ _ u. run concrete (afterNak (a .x)) u) _ _ (c .before .before .nak-non-iso-resume .ensures .0 _ b))
 
 pub after-naking-spec : {M : Type 1} → statement M
 after-naking-spec =

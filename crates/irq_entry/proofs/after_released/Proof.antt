@@ -1,9 +1,10 @@
-use Rattle.irq_points.specs.StandsLaws.{stops-at, stored-at, then-on}
-use Rattle.irq.specs.Laws.{after, settle-asks, settle-ends, settle-linked}
+use Rattle.irq_transfer.specs.Settle as settle
+use Rattle.irq_check.specs.StopsLaws.{pauses-in, goes-in}
+use Rattle.irq.specs.Laws.{after, settle-asks, settle-ends}
 use Rattle.irq.specs.Continuations.{afterRelease, afterSettle}
 use Rattle.model_ops.specs.Concrete.{concrete}
 use Rattle.model.specs.Script.{run}
-use mathlib.Core.Path.{_∙_}
+use mathlib.Core.Path.{_∙_, subst}
 use borrow.Author.Needs.{needs}
 use Rattle.irq_entry.proofs.after_released.Statement.{statement}
 use Rattle.irq_entry.proofs.after_released.Tie as tie
@@ -29,25 +30,17 @@ returns c =
     let a = c .before .before .before .before .before .before .before .args in
     let the-n = c .before .before .before .n in
     let the-begin = c .before .before .before .before .before .begin in
-    let the-stand-settle = c .stand-settle in (
-      λ b. stops-at (the-stand-settle .ensures) (settle-linked _ _ _ (the-n .given .1) (the-begin .ensures .1)) b
-          (settle-asks (a .setup) (λ y u. run concrete (afterSettle y) u) _ b (a .x) _ _ _ (the-n .given .1)
-          ∙ after (a .setup) (λ y u. run concrete (afterSettle y) u) _ _ (the-begin .ensures .0 b)),
-      stored-at (the-stand-settle .ensures),
-    )
+    pauses-in (c .stand-settle .ensures) (subst settle.Linked (the-n .given .1) (the-begin .ensures .1))
+    (λ b. settle-asks (a .setup) (λ y u. run concrete (afterSettle y) u) _ b (a .x) _ _ _ (the-n .given .1)
+    ∙ after (a .setup) (λ y u. run concrete (afterSettle y) u) _ _ (the-begin .ensures .0 b))
 
 returns-2 : tie.Need-returns-2
 unfolding afterRelease
 returns-2 c =
-    let the-n2 = c .before .before .before .n2 in
-    let the-begin = c .before .before .before .before .before .begin in
     let a = c .before .before .before .before .before .before .before .args in
-    let the-after-settle = c .after-settle in (
-      λ b. then-on (the-after-settle .ensures .0 b)
-          (settle-ends (a .setup) (λ y u. run concrete (afterSettle y) u) _ b (a .x) _ _ (the-n2 .given .1)
-          ∙ after (a .setup) (λ y u. run concrete (afterSettle y) u) _ _ (the-begin .ensures .0 b)),
-      the-after-settle .ensures .1,
-    )
+    goes-in (c .after-settle .ensures)
+    (λ b. settle-ends (a .setup) (λ y u. run concrete (afterSettle y) u) _ b (a .x) _ _ (c .before .before .before .n2 .given .1)
+    ∙ after (a .setup) (λ y u. run concrete (afterSettle y) u) _ _ (c .before .before .before .before .before .begin .ensures .0 b))
 
 pub after-released-spec : {M : Type 1} → statement M
 after-released-spec =

@@ -1,4 +1,4 @@
-use Rattle.irq_points.specs.StandsLaws.{stops-at, stored-at}
+use Rattle.irq_check.specs.StopsLaws.{pauses-in}
 use Rattle.irq.specs.Continuations.{afterSettle}
 use mathlib.Core.Path.{refl}
 use borrow.Author.Needs.{needs}
@@ -23,15 +23,13 @@ stand-frame-no-requires c κs = search needs
 returns : tie.Need-returns
 unfolding afterSettle
 returns c =
-    let the-stand-frame-no = c .stand-frame-no in
-    let the-iso-for = c .before .before .iso-for in
-    let the-load-ep2 = c .before .before .before .load-ep2 in
-    let the-load-ep = c .before .before .before .before .before .load-ep in
-    let the-endpoint = c .before .before .before .before .before .before .before .endpoint in (
-      λ b. stops-at (the-stand-frame-no .ensures)
-          (refl) b (simp (the-iso-for .ensures, the-load-ep2 .ensures, the-load-ep .ensures, the-endpoint .ensures)),
-      stored-at (the-stand-frame-no .ensures),
-    )
+    pauses-in (c .stand-frame-no .ensures) refl
+    (λ b. simp (
+      c .before .before .iso-for .ensures,
+      c .before .before .before .load-ep2 .ensures,
+      c .before .before .before .before .before .load-ep .ensures,
+      c .before .before .before .before .before .before .before .endpoint .ensures,
+    ))
 
 pub after-settle-spec : {M : Type 1} → statement M
 after-settle-spec =

@@ -1,9 +1,8 @@
-use Rattle.irq_points.specs.StandsLaws.{then-on}
+use Rattle.irq_check.specs.StopsLaws.{goes-in}
 use Rattle.irq.specs.Laws.{after}
 use Rattle.irq.specs.Continuations.{afterSettle}
 use Rattle.model_ops.specs.Concrete.{concrete}
 use Rattle.model.specs.Script.{run}
-use borrow.Author.Needs.{needs}
 use Rattle.irq_entry.proofs.after_settling.Statement.{statement}
 use Rattle.irq_entry.proofs.after_settling.Tie as tie
 
@@ -15,13 +14,8 @@ then-settle-requires c κs = c .before .resume .ensures .1
 
 returns : tie.Need-returns
 returns c =
-    let the-then-settle = c .then-settle in
-    let a = c .before .before .before .before .args in
-    let the-resume = c .before .before .resume in (
-      λ b. then-on (the-then-settle .ensures .0 b)
-          (after (a .setup) (λ y u. run concrete (afterSettle y) u) _ _ (the-resume .ensures .0 b)),
-      the-then-settle .ensures .1,
-    )
+    goes-in (c .then-settle .ensures)
+    (λ b. after (c .before .before .before .before .args .setup) (λ y u. run concrete (afterSettle y) u) _ _ (c .before .before .resume .ensures .0 b))
 
 pub after-settling-spec : {M : Type 1} → statement M
 after-settling-spec =

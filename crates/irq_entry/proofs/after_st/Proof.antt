@@ -1,4 +1,4 @@
-use Rattle.irq_points.specs.StandsLaws.{stops-at, stored-at}
+use Rattle.irq_check.specs.StopsLaws.{pauses-in}
 use Rattle.irq.specs.Continuations.{afterSt}
 use mathlib.Core.Path.{refl}
 use borrow.Author.Needs.{needs}
@@ -13,9 +13,7 @@ stand-len-requires c κs = search needs
 
 returns : tie.Need-returns
 unfolding afterSt
-returns c =
-    let the-stand-len = c .stand-len in
-    (λ b. stops-at (the-stand-len .ensures) (refl) b (simp (c .before .byte .ensures)), stored-at (the-stand-len .ensures))
+returns c = pauses-in (c .stand-len .ensures) refl (λ b. simp (c .before .byte .ensures))
 
 pub after-st-spec : {M : Type 1} → statement M
 after-st-spec =

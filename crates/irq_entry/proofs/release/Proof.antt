@@ -1,4 +1,4 @@
-use Rattle.irq_points.specs.StandsLaws.{stops-at, stored-at}
+use Rattle.irq_check.specs.StopsLaws.{pauses-in}
 use Rattle.irq.specs.Continuations.{afterNak}
 use mathlib.Core.Path.{refl}
 use borrow.Author.Needs.{needs}
@@ -10,9 +10,7 @@ stand-released-requires c κs = search needs
 
 returns : tie.Need-returns
 unfolding afterNak
-returns c =
-    let the-stand-released = c .stand-released in
-    (λ b. stops-at (the-stand-released .ensures) (refl) b (refl), stored-at (the-stand-released .ensures))
+returns c = pauses-in (c .stand-released .ensures) refl (λ b. refl)
 
 pub release-spec : {M : Type 1} → statement M
 release-spec =

@@ -1,8 +1,6 @@
-use Rattle.irq_points.specs.StandsLaws.{stops-at, stored-at, then-on}
-use Rattle.irq.specs.Laws.{nak-asks, nak-ends, nak-linked}
-use Rattle.irq.specs.Continuations.{afterNak}
-use Rattle.model_ops.specs.Concrete.{concrete}
-use Rattle.model.specs.Script.{run}
+use mathlib.Core.Path.{subst}
+use Rattle.irq_transfer.specs.Nak as nak
+use Rattle.irq_check.specs.StopsLaws.{pauses-in, goes-in}
 use borrow.Author.Needs.{needs}
 use Rattle.irq_entry.proofs.then_nak.Statement.{statement}
 use Rattle.irq_entry.proofs.then_nak.Tie as tie
@@ -21,31 +19,11 @@ release-requires c κs = search needs
 
 returns : tie.Need-returns
 returns c =
-    let the-stand-nak = c .stand-nak in
-    let the-n = c .before .before .before .n in
-    let a = c .before .before .before .before .before .args in (
-      λ b. stops-at (the-stand-nak .ensures) (nak-linked _ _ _ (the-n .given .1) ((c .before .before .before .before .before .pre))) b
-          (nak-asks (a .setup) (λ _ u. run concrete (afterNak (a .x)) u) _ _ b ((a .x) .st) _ _ (the-n .given .1)),
-      stored-at (the-stand-nak .ensures),
-    )
+    pauses-in (c .stand-nak .ensures) (subst nak.Linked (c .before .before .before .n .given .1) (c .before .before .before .before .before .pre))
+    (λ b. simp (c .before .before .before .n .given .1))
 
 returns-2 : tie.Need-returns-2
-returns-2 c =
-    let the-release = c .release in
-    let a = c .before .before .before .before .args in
-    let the-enum-told = c .before .before .enum-told in (
-      λ b. then-on (the-release .ensures .0 b)
-          (nak-ends (a .setup) (λ _ u. run concrete (afterNak (a .x)) u) _ b ((a .x) .st) _ (the-enum-told .given .1)),
-      the-release .ensures .1,
-    )
+returns-2 c = goes-in (c .release .ensures) (λ b. simp (c .before .before .enum-told .given .1))
 
 pub then-nak-spec : {M : Type 1} → statement M
-then-nak-spec =
-    tie.close
-    (tie.spec
-    enum-known-n
-    stand-nak-requires
-    enum-told
-    release-requires
-    returns
-    returns-2)
+then-nak-spec = tie.close (tie.spec enum-known-n stand-nak-requires enum-told release-requires returns returns-2)

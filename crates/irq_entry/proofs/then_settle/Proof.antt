@@ -1,8 +1,6 @@
-use Rattle.irq_points.specs.StandsLaws.{stops-at, stored-at, then-on}
-use Rattle.irq.specs.Laws.{settle-asks, settle-ends, settle-linked}
-use Rattle.irq.specs.Continuations.{afterSettle}
-use Rattle.model_ops.specs.Concrete.{concrete}
-use Rattle.model.specs.Script.{run}
+use mathlib.Core.Path.{subst}
+use Rattle.irq_transfer.specs.Settle as settle
+use Rattle.irq_check.specs.StopsLaws.{pauses-in, goes-in}
 use borrow.Author.Needs.{needs}
 use Rattle.irq_entry.proofs.then_settle.Statement.{statement}
 use Rattle.irq_entry.proofs.then_settle.Tie as tie
@@ -21,31 +19,11 @@ after-settle-requires c κs = search needs
 
 returns : tie.Need-returns
 returns c =
-    let the-stand-settle = c .stand-settle in
-    let the-n = c .before .before .before .n in
-    let a = c .before .before .before .before .before .args in (
-      λ b. stops-at (the-stand-settle .ensures) (settle-linked _ _ _ (the-n .given .1) ((c .before .before .before .before .before .pre))) b
-          (settle-asks (a .setup) (λ y u. run concrete (afterSettle y) u) _ b (a .x) _ _ _ (the-n .given .1)),
-      stored-at (the-stand-settle .ensures),
-    )
+    pauses-in (c .stand-settle .ensures) (subst settle.Linked (c .before .before .before .n .given .1) (c .before .before .before .before .before .pre))
+    (λ b. simp (c .before .before .before .n .given .1))
 
 returns-2 : tie.Need-returns-2
-returns-2 c =
-    let the-after-settle = c .after-settle in
-    let a = c .before .before .before .before .before .args in
-    let the-n2 = c .before .before .before .n2 in (
-      λ b. then-on (the-after-settle .ensures .0 b)
-          (settle-ends (a .setup) (λ y u. run concrete (afterSettle y) u) _ b (a .x) _ _ (the-n2 .given .1)),
-      the-after-settle .ensures .1,
-    )
+returns-2 c = goes-in (c .after-settle .ensures) (λ b. simp (c .before .before .before .n2 .given .1))
 
 pub then-settle-spec : {M : Type 1} → statement M
-then-settle-spec =
-    tie.close
-    (tie.spec
-    enum-known-n
-    stand-settle-requires
-    enum-known-n-2
-    after-settle-requires
-    returns
-    returns-2)
+then-settle-spec = tie.close (tie.spec enum-known-n stand-settle-requires enum-known-n-2 after-settle-requires returns returns-2)

@@ -1,4 +1,4 @@
-use Rattle.irq_points.specs.StandsLaws.{stops-at, stored-at}
+use Rattle.irq_check.specs.StopsLaws.{pauses-in}
 use mathlib.Core.Path.{refl}
 use borrow.Author.Needs.{needs}
 use Rattle.irq_tokens.proofs.after_flip.Statement.{statement}
@@ -21,12 +21,8 @@ stand-flipped-requires c κs = search needs
 
 returns : tie.Need-returns
 returns c =
-    let the-stand-flipped = c .stand-flipped in
-    let the-flip = c .before .before .before .flip in
-    let the-byte = c .before .before .before .before .byte in (
-      λ b. stops-at (the-stand-flipped .ensures) (refl) b (simp (c .before .ctrl-of .ensures, the-flip .ensures, the-byte .ensures)),
-      stored-at (the-stand-flipped .ensures),
-    )
+    pauses-in (c .stand-flipped .ensures) refl
+    (λ b. simp (c .before .ctrl-of .ensures, c .before .before .before .flip .ensures, c .before .before .before .before .byte .ensures))
 
 pub after-flip-spec : {M : Type 1} → statement M
 after-flip-spec =

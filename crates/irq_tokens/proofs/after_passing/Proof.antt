@@ -1,4 +1,4 @@
-use Rattle.irq_points.specs.StandsLaws.{then-on}
+use Rattle.irq_check.specs.StopsLaws.{goes-on}
 use Rattle.irq.specs.Laws.{after, passed-at, when-no, when-yes}
 use Rattle.irq.specs.Continuations.{afterDispatch, passed, thenCheck}
 use Rattle.model_ops.specs.Concrete.{concrete}
@@ -27,14 +27,11 @@ returns c =
     let the-endpoint = c .before .before .before .before .before .before .endpoint in
     let the-if1 = c .before .before .before .before .before .before .before .before .if1 in
     let a = c .before .before .before .before .before .before .before .before .before .before .args in
-    let the-after-dispatch = c .before .before .after-dispatch in (
-      then-on (the-after-dispatch .ensures .0)
-          (after (a .setup) (λ _ u. run concrete (afterDispatch (a .x) (a .iso)) u) _ _ (the-passed .ensures .0 _)
-          ∙ (passed-at (thenCheck (a .setup) (a .x) (a .iso)) (a .d) _ _ _ _ (the-endpoint .ensures)
-          ∙ when-yes (a .setup) (passed (a .d) (endpoint ((a .x) .st)) ((a .x) .len))
-          (λ _ u. run concrete (afterDispatch (a .x) (a .iso)) u) _ _ (the-if1 .taken))),
-      the-after-dispatch .ensures .1,
-    )
+    goes-on (c .before .before .after-dispatch .ensures)
+    (after (a .setup) (λ _ u. run concrete (afterDispatch (a .x) (a .iso)) u) _ _ (the-passed .ensures .0 _)
+    ∙ (passed-at (thenCheck (a .setup) (a .x) (a .iso)) (a .d) _ _ _ _ (the-endpoint .ensures)
+    ∙ when-yes (a .setup) (passed (a .d) (endpoint ((a .x) .st)) ((a .x) .len)) (λ _ u. run concrete (afterDispatch (a .x) (a .iso)) u) _ _
+    (the-if1 .taken)))
 
 after-dispatch-requires-2 : tie.Need-after-dispatch-requires-2
 after-dispatch-requires-2 c κs = search needs
@@ -44,14 +41,10 @@ same-length-2 c = search needs
 
 returns-2 : tie.Need-returns-2
 returns-2 c =
-    let the-if1 = c .before .before .before .before .before .if1 in
     let a = c .before .before .before .before .before .before .before .args in
-    let the-after-dispatch = c .before .before .after-dispatch2 in (
-      then-on (the-after-dispatch .ensures .0)
-          (when-no (a .setup) (passed (a .d) (endpoint ((a .x) .st)) ((a .x) .len))
-          (λ _ u. run concrete (afterDispatch (a .x) (a .iso)) u) _ _ (the-if1 .left)),
-      the-after-dispatch .ensures .1,
-    )
+    goes-on (c .before .before .after-dispatch2 .ensures)
+    (when-no (a .setup) (passed (a .d) (endpoint ((a .x) .st)) ((a .x) .len)) (λ _ u. run concrete (afterDispatch (a .x) (a .iso)) u) _ _
+    (c .before .before .before .before .before .if1 .left))
 
 pub after-passing-spec : {M : Type 1} → statement M
 after-passing-spec =

@@ -1,4 +1,4 @@
-use Rattle.irq_points.specs.StandsLaws.{then-on}
+use Rattle.irq_check.specs.StopsLaws.{goes-on}
 use Rattle.irq.specs.Laws.{after}
 use Rattle.irq.specs.Continuations.{afterDispatch}
 use Rattle.model_ops.specs.Concrete.{concrete}
@@ -20,13 +20,9 @@ same-length c = search needs
 
 returns : tie.Need-returns
 returns c =
-    let the-then-sof-arm = c .before .before .then-sof-arm in
     let a = c .before .before .before .before .before .before .before .before .args in
-    let the-resume = c .before .before .before .before .before .on-sof-resume in (
-      then-on (the-then-sof-arm .ensures .0)
-          (after (a .setup) (λ _ u. run concrete (afterDispatch (a .x) (a .iso)) u) _ _ (the-resume .ensures .0 _)),
-      the-then-sof-arm .ensures .1,
-    )
+    goes-on (c .before .before .then-sof-arm .ensures)
+    (after (a .setup) (λ _ u. run concrete (afterDispatch (a .x) (a .iso)) u) _ _ (c .before .before .before .before .before .on-sof-resume .ensures .0 _))
 
 pub after-sof-arm-spec : {M : Type 1} → statement M
 after-sof-arm-spec =

@@ -1,5 +1,7 @@
-use Rattle.irq_points.specs.StandsLaws.{then-on}
-use Rattle.irq.specs.Laws.{toggled-on}
+use Rattle.irq_check.specs.StopsLaws.{goes-on}
+use Prim.Native.Nat.{ℕ}
+use Rattle.irq_transfer.specs.Toggled as toggled
+use Rattle.irq.specs.Laws.{toggled-as}
 use Rattle.irq.specs.Continuations.{afterDispatch, afterToggled}
 use Rattle.model_ops.specs.Concrete.{concrete}
 use Rattle.model.specs.Script.{run}
@@ -24,16 +26,13 @@ same-length c = search needs
 
 returns : tie.Need-returns
 returns c =
-    let the-then-toggled = c .before .before .then-toggled in
     let a = c .before .before .before .before .before .before .before .before .before .args in
     let the-resume = c .before .before .before .before .before .resume in
-    let the-endpoint = c .before .before .before .before .before .before .endpoint in (
-      then-on (the-then-toggled .ensures .0)
-          (toggled-on (a .setup) (λ _ u. run concrete (afterDispatch (a .x) (a .iso)) u)
-          (λ z u. run concrete (afterToggled (a .d) (a .x) z) u) (a .d) _ _ (the-resume .result) _ _
-          (the-endpoint .ensures) (a .p) (a .v) (view (a .s .now), a .buf .now) (the-resume .ensures .0 _)),
-      the-then-toggled .ensures .1,
-    )
+    let the-endpoint = c .before .before .before .before .before .before .endpoint in
+    goes-on (c .before .before .then-toggled .ensures)
+    (toggled-as (a .setup) (λ _ u. run concrete (afterDispatch (a .x) (a .iso)) u) (λ z u. run concrete (afterToggled (a .d) (a .x) z) u) (a .d) _ _
+    (the-resume .result) _ _ (the-endpoint .ensures)
+    (λ (z : ℕ). toggled.denote (a .d) z (a .p) (a .v) (view (a .s .now), a .buf .now)) (the-resume .ensures .0 _))
 
 pub after-toggled-spec : {M : Type 1} → statement M
 after-toggled-spec =

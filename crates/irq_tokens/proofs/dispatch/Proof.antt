@@ -1,6 +1,4 @@
-use Rattle.irq_points.specs.StandsLaws.{then-on}
-use Rattle.irq.specs.Laws.{dispatched}
-use Rattle.irq.specs.Continuations.{thenCheck}
+use Rattle.irq_check.specs.StopsLaws.{goes-on}
 use Rattle.regs.specs.declared.Token.{Token}
 use Rattle.regs.specs.declared.Token.the-variants as tok
 use Rattle.regs.specs.Status.{isSof, sofToken, token}
@@ -44,56 +42,29 @@ after-dispatch-requires c κs = search needs
 
 returns : tie.Need-returns
 returns c =
-    let the-enum-told = c .before .before .enum-told in
-    let the-token = c .before .before .before .before .token in
-    let a = c .before .before .before .before .before .before .args in
-    let the-sof-arm = c .sof-arm in (
-      then-on (the-sof-arm .ensures .0 _)
-          (dispatched (thenCheck (a .setup) (a .x) (a .iso)) (a .x) (a .iso) (a .frame) _ _ _ _ (the-enum-told .given .1) (the-token .ensures)),
-      the-sof-arm .ensures .1,
-    )
+    goes-on (c .sof-arm .ensures .0 _, c .sof-arm .ensures .1)
+    (simp (← c .before .before .before .before .token .ensures, c .before .before .enum-told .given .1))
 
 same-length : tie.Need-same-length
 same-length c = search needs
 
 returns-2 : tie.Need-returns-2
-returns-2 c =
-    let the-enum-told2 = c .before .before .before .before .before .enum-told2 in
-    let the-token = c .before .before .before .before .before .before .before .token in
-    let a = c .before .before .before .before .before .before .before .before .before .args in
-    let the-out-arm = c .before .before .out-arm in (
-      then-on (the-out-arm .ensures .0)
-          (dispatched (thenCheck (a .setup) (a .x) (a .iso)) (a .x) (a .iso) (a .frame) _ _ _ _ (the-enum-told2 .given .1) (the-token .ensures)),
-      the-out-arm .ensures .1,
-    )
+returns-2 c = goes-on (c .before .before .out-arm .ensures)
+    (simp (← c .before .before .before .before .before .before .before .token .ensures, c .before .before .before .before .before .enum-told2 .given .1))
 
 same-length-2 : tie.Need-same-length-2
 same-length-2 c = search needs
 
 returns-3 : tie.Need-returns-3
-returns-3 c =
-    let the-enum-told3 = c .before .before .before .before .before .enum-told3 in
-    let the-token = c .before .before .before .before .before .before .before .token in
-    let a = c .before .before .before .before .before .before .before .before .before .args in
-    let the-in-arm = c .before .before .in-arm in (
-      then-on (the-in-arm .ensures .0)
-          (dispatched (thenCheck (a .setup) (a .x) (a .iso)) (a .x) (a .iso) (a .frame) _ _ _ _ (the-enum-told3 .given .1) (the-token .ensures)),
-      the-in-arm .ensures .1,
-    )
+returns-3 c = goes-on (c .before .before .in-arm .ensures)
+    (simp (← c .before .before .before .before .before .before .before .token .ensures, c .before .before .before .before .before .enum-told3 .given .1))
 
 same-length-3 : tie.Need-same-length-3
 same-length-3 c = search needs
 
 returns-4 : tie.Need-returns-4
-returns-4 c =
-    let the-enum-told4 = c .before .before .before .before .before .enum-told4 in
-    let the-token = c .before .before .before .before .before .before .before .token in
-    let a = c .before .before .before .before .before .before .before .before .before .args in
-    let the-after-dispatch = c .before .before .after-dispatch in (
-      then-on (the-after-dispatch .ensures .0)
-          (dispatched (thenCheck (a .setup) (a .x) (a .iso)) (a .x) (a .iso) (a .frame) _ _ _ _ (the-enum-told4 .given .1) (the-token .ensures)),
-      the-after-dispatch .ensures .1,
-    )
+returns-4 c = goes-on (c .before .before .after-dispatch .ensures)
+    (simp (← c .before .before .before .before .before .before .before .token .ensures, c .before .before .before .before .before .enum-told4 .given .1))
 
 pub dispatch-spec : {M : Type 1} → statement M
 dispatch-spec =

@@ -1,5 +1,5 @@
-use Rattle.irq_points.specs.StandsLaws.{stops-at, stored-at, then-on}
-use Rattle.irq.specs.Laws.{at-zero, test-no, test-yes}
+use Rattle.irq_check.specs.StopsLaws.{pauses-at, goes-on}
+use Rattle.irq.specs.Laws.{of-ep0, of-other, test-yes}
 use Rattle.irq.specs.Continuations.{thenCheck}
 use borrow.Author.Tests.{eq-eqb, ne-eqb}
 use mathlib.Core.Path.{_∙_, refl}
@@ -15,10 +15,9 @@ same-length c = search needs
 
 returns : tie.Need-returns
 returns c =
-    let the-iso-in-arm = c .before .before .iso-in-arm in
     let a = c .before .before .before .before .before .before .before .args in
-    let the-if1 = c .before .before .before .before .before .if1 in
-    (then-on (the-iso-in-arm .ensures .0) (test-yes (thenCheck (a .setup) (a .x) (a .iso)) (a .iso) _ _ (the-if1 .taken)), the-iso-in-arm .ensures .1)
+    goes-on (c .before .before .iso-in-arm .ensures)
+    (test-yes (thenCheck (a .setup) (a .x) (a .iso)) (a .iso) _ _ (c .before .before .before .before .before .if1 .taken))
 
 endpoint-requires : tie.Need-endpoint-requires
 endpoint-requires c κs = search needs
@@ -28,16 +27,10 @@ stand-flip-requires c κs = search needs
 
 returns-2 : tie.Need-returns-2
 returns-2 c =
-    let the-stand-flip = c .stand-flip in
-    let a = c .before .before .before .before .before .before .args in
-    let the-endpoint = c .before .before .before .endpoint in
-    let the-if2 = c .before .before .if2 in
-    let the-if1 = c .before .before .before .before .if1 in (
-      stops-at (the-stand-flip .ensures) (refl) _
-          (test-yes (thenCheck (a .setup) (a .x) (a .iso)) _ _ _ (at-zero _ _ _ (the-endpoint .ensures) (eq-eqb _ _ (the-if2 .taken)))
-          ∙ test-no (thenCheck (a .setup) (a .x) (a .iso)) (a .iso) _ _ (the-if1 .left)),
-      stored-at (the-stand-flip .ensures),
-    )
+    let e = c .before .before in
+    let a = e .before .before .before .before .args in
+    pauses-at (c .stand-flip .ensures) refl
+    (of-ep0 (thenCheck (a .setup) (a .x) (a .iso)) (a .iso) _ _ _ (e .before .endpoint .ensures) (e .before .before .if1 .left) (eq-eqb _ _ (e .if2 .taken)))
 
 toggled-arm-requires : tie.Need-toggled-arm-requires
 toggled-arm-requires c κs = search needs
@@ -47,27 +40,11 @@ same-length-2 c = search needs
 
 returns-3 : tie.Need-returns-3
 returns-3 c =
-    let the-toggled-arm = c .before .before .toggled-arm in
-    let a = c .before .before .before .before .before .before .before .before .before .args in
-    let the-endpoint = c .before .before .before .before .before .before .endpoint in
-    let the-if2 = c .before .before .before .before .before .if2 in
-    let the-if1 = c .before .before .before .before .before .before .before .if1 in (
-      then-on (the-toggled-arm .ensures .0)
-          (test-no (thenCheck (a .setup) (a .x) (a .iso)) _ _ _ (at-zero _ _ _ (the-endpoint .ensures) (ne-eqb _ _ (the-if2 .left)))
-          ∙ test-no (thenCheck (a .setup) (a .x) (a .iso)) (a .iso) _ _ (the-if1 .left)),
-      the-toggled-arm .ensures .1,
-    )
+    let e = c .before .before .before .before .before in
+    let a = e .before .before .before .before .args in
+    goes-on (c .before .before .toggled-arm .ensures)
+    (of-other (thenCheck (a .setup) (a .x) (a .iso)) (a .iso) _ _ _ (e .before .endpoint .ensures) (e .before .before .if1 .left) (ne-eqb _ _ (e .if2 .left)))
 
 pub in-arm-spec : {M : Type 1} → statement M
-in-arm-spec =
-    tie.close
-    (tie.spec
-    iso-in-arm-requires
-    same-length
-    returns
-    endpoint-requires
-    stand-flip-requires
-    returns-2
-    toggled-arm-requires
-    same-length-2
-    returns-3)
+in-arm-spec = tie.close
+    (tie.spec iso-in-arm-requires same-length returns endpoint-requires stand-flip-requires returns-2 toggled-arm-requires same-length-2 returns-3)

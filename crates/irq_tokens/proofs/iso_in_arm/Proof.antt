@@ -1,10 +1,11 @@
-use Rattle.irq_points.specs.StandsLaws.{stops-at, stored-at, then-on}
-use Rattle.irq.specs.Laws.{after, complete-asks, complete-ends, complete-linked, in-frame, paced-told, tells, test-yes}
+use Rattle.iso_in.specs.Complete as complete
+use Rattle.irq_check.specs.StopsLaws.{pauses-at, goes-on}
+use Rattle.irq.specs.Laws.{after, complete-asks, complete-ends, in-frame, paced-told, tells, test-yes}
 use Rattle.irq.specs.Continuations.{afterDispatch, thenCheck}
 use Rattle.model_ops.specs.Concrete.{concrete}
 use Rattle.model.specs.Script.{run}
 use mathlib.Core.Bool.{false, true}
-use mathlib.Core.Path.{_∙_}
+use mathlib.Core.Path.{_∙_, subst}
 use borrow.Author.Needs.{needs}
 use Rattle.irq_tokens.proofs.iso_in_arm.Statement.{statement}
 use Rattle.irq_tokens.proofs.iso_in_arm.Tie as tie
@@ -31,12 +32,9 @@ returns c =
     let the-endpoint = c .before .before .before .before .before .before .before .before .before .endpoint in
     let the-if1 = c .before .before .before .before .before .if1 in
     let a = c .before .before .before .before .before .before .before .before .before .before .before .args in
-    let the-after-dispatch = c .before .before .after-dispatch in (
-      then-on (the-after-dispatch .ensures .0)
-          (test-yes (thenCheck (a .setup) (a .x) (a .iso)) _ _ _
-          (paced-told _ _ _ _ _ _ (the-mask-has .ensures) (the-load-globals .ensures) (the-endpoint .ensures) (the-if1 .taken))),
-      the-after-dispatch .ensures .1,
-    )
+    goes-on (c .before .before .after-dispatch .ensures)
+    (test-yes (thenCheck (a .setup) (a .x) (a .iso)) _ _ _
+    (paced-told _ _ _ _ _ _ (the-mask-has .ensures) (the-load-globals .ensures) (the-endpoint .ensures) (the-if1 .taken)))
 
 first-in-frame-requires : tie.Need-first-in-frame-requires
 first-in-frame-requires c κs = search needs
@@ -71,15 +69,12 @@ returns-2 c =
     let the-begin = c .before .before .before .before .before .iso-in-complete in
     let the-endpoint = early .before .before .before .before .before .endpoint in
     let the-first-in-frame = c .before .before .before .before .before .before .before .before .first-in-frame in
-    let the-stand-completing = c .stand-completing in (
-      stops-at (the-stand-completing .ensures) (complete-linked _ _ _ (the-n .given .1) (the-begin .ensures .1 .1)) _
-          (complete-asks (a .setup) (λ _ u. run concrete (afterDispatch (a .x) (a .iso)) u) _ _ _ _ _ (the-n .given .1)
-          ∙ (after (a .setup) (λ _ u. run concrete (afterDispatch (a .x) (a .iso)) u) _ _ (the-begin .ensures .0 _)
-          ∙ in-frame (thenCheck (a .setup) (a .x) (a .iso)) _ _ _ _ _ ((a .x) .st) true (the-endpoint .ensures)
-          (the-first-in-frame .ensures .1 .0) (tells _ _ _ (the-first-in-frame .ensures .0) (the-if2 .taken))
-          (paced-told _ _ _ _ _ _ (the-mask-has .ensures) (the-load-globals .ensures) (the-endpoint .ensures) (the-if1 .left)))),
-      stored-at (the-stand-completing .ensures),
-    )
+    pauses-at (c .stand-completing .ensures) (subst complete.Linked (the-n .given .1) (the-begin .ensures .1 .1))
+    (complete-asks (a .setup) (λ _ u. run concrete (afterDispatch (a .x) (a .iso)) u) _ _ _ _ _ (the-n .given .1)
+    ∙ (after (a .setup) (λ _ u. run concrete (afterDispatch (a .x) (a .iso)) u) _ _ (the-begin .ensures .0 _)
+    ∙ in-frame (thenCheck (a .setup) (a .x) (a .iso)) _ _ _ _ _ ((a .x) .st) true (the-endpoint .ensures) (the-first-in-frame .ensures .1 .0)
+    (tells _ _ _ (the-first-in-frame .ensures .0) (the-if2 .taken))
+    (paced-told _ _ _ _ _ _ (the-mask-has .ensures) (the-load-globals .ensures) (the-endpoint .ensures) (the-if1 .left))))
 
 same-length-2 : tie.Need-same-length-2
 same-length-2 c = search needs
@@ -96,15 +91,12 @@ returns-3 c =
     let the-begin = c .before .before .before .before .before .before .before .iso-in-complete in
     let the-endpoint = early .before .before .before .before .before .before .before .endpoint in
     let the-first-in-frame = c .before .before .before .before .before .before .before .before .before .before .first-in-frame in
-    let the-after-dispatch = c .before .before .after-dispatch2 in (
-      then-on (the-after-dispatch .ensures .0)
-          (complete-ends (a .setup) (λ _ u. run concrete (afterDispatch (a .x) (a .iso)) u) _ _ _ (the-enum-told .given .1)
-          ∙ (after (a .setup) (λ _ u. run concrete (afterDispatch (a .x) (a .iso)) u) _ _ (the-begin .ensures .0 _)
-          ∙ in-frame (thenCheck (a .setup) (a .x) (a .iso)) _ _ _ _ _ ((a .x) .st) true (the-endpoint .ensures)
-          (the-first-in-frame .ensures .1 .0) (tells _ _ _ (the-first-in-frame .ensures .0) (the-if2 .taken))
-          (paced-told _ _ _ _ _ _ (the-mask-has .ensures) (the-load-globals .ensures) (the-endpoint .ensures) (the-if1 .left)))),
-      the-after-dispatch .ensures .1,
-    )
+    goes-on (c .before .before .after-dispatch2 .ensures)
+    (complete-ends (a .setup) (λ _ u. run concrete (afterDispatch (a .x) (a .iso)) u) _ _ _ (the-enum-told .given .1)
+    ∙ (after (a .setup) (λ _ u. run concrete (afterDispatch (a .x) (a .iso)) u) _ _ (the-begin .ensures .0 _)
+    ∙ in-frame (thenCheck (a .setup) (a .x) (a .iso)) _ _ _ _ _ ((a .x) .st) true (the-endpoint .ensures) (the-first-in-frame .ensures .1 .0)
+    (tells _ _ _ (the-first-in-frame .ensures .0) (the-if2 .taken))
+    (paced-told _ _ _ _ _ _ (the-mask-has .ensures) (the-load-globals .ensures) (the-endpoint .ensures) (the-if1 .left))))
 
 same-length-3 : tie.Need-same-length-3
 same-length-3 c = search needs
@@ -118,13 +110,10 @@ returns-4 c =
     let a = c .before .before .before .before .before .before .before .before .before .before .before .before .before .before .args in
     let the-endpoint = c .before .before .before .before .before .before .before .before .before .before .before .before .endpoint in
     let the-first-in-frame = c .before .before .before .before .before .before .first-in-frame in
-    let the-after-dispatch = c .before .before .after-dispatch3 in (
-      then-on (the-after-dispatch .ensures .0)
-          (in-frame (thenCheck (a .setup) (a .x) (a .iso)) _ _ _ _ _ ((a .x) .st) false (the-endpoint .ensures)
-          (the-first-in-frame .ensures .1 .0) (tells _ _ _ (the-first-in-frame .ensures .0) (the-if2 .left))
-          (paced-told _ _ _ _ _ _ (the-mask-has .ensures) (the-load-globals .ensures) (the-endpoint .ensures) (the-if1 .left))),
-      the-after-dispatch .ensures .1,
-    )
+    goes-on (c .before .before .after-dispatch3 .ensures)
+    (in-frame (thenCheck (a .setup) (a .x) (a .iso)) _ _ _ _ _ ((a .x) .st) false (the-endpoint .ensures) (the-first-in-frame .ensures .1 .0)
+    (tells _ _ _ (the-first-in-frame .ensures .0) (the-if2 .left))
+    (paced-told _ _ _ _ _ _ (the-mask-has .ensures) (the-load-globals .ensures) (the-endpoint .ensures) (the-if1 .left)))
 
 pub iso-in-arm-spec : {M : Type 1} → statement M
 iso-in-arm-spec =

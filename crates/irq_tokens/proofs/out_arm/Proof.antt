@@ -1,5 +1,5 @@
-use Rattle.irq_points.specs.StandsLaws.{stops-at, stored-at, then-on}
-use Rattle.irq.specs.Laws.{at-zero, tells, test-no, test-yes}
+use Rattle.irq_check.specs.StopsLaws.{pauses-at, goes-on}
+use Rattle.irq.specs.Laws.{of-ep0, of-other, tells, test-no, test-yes}
 use Rattle.irq.specs.Continuations.{thenCheck}
 use borrow.Author.Tests.{eq-eqb, ne-eqb}
 use mathlib.Core.Path.{_∙_, refl}
@@ -15,10 +15,9 @@ same-length c = search needs
 
 returns : tie.Need-returns
 returns c =
-    let the-after-dispatch = c .before .before .after-dispatch in
     let a = c .before .before .before .before .before .before .before .args in
-    let the-if1 = c .before .before .before .before .before .if1 in
-    (then-on (the-after-dispatch .ensures .0) (test-yes (thenCheck (a .setup) (a .x) (a .iso)) (a .iso) _ _ (the-if1 .taken)), the-after-dispatch .ensures .1)
+    goes-on (c .before .before .after-dispatch .ensures)
+    (test-yes (thenCheck (a .setup) (a .x) (a .iso)) (a .iso) _ _ (c .before .before .before .before .before .if1 .taken))
 
 endpoint-requires : tie.Need-endpoint-requires
 endpoint-requires c κs = search needs
@@ -31,19 +30,12 @@ stand-flip-requires c κs = search needs
 
 returns-2 : tie.Need-returns-2
 returns-2 c =
-    let the-stand-flip = c .stand-flip in
-    let a = c .before .before .before .before .before .before .before .before .args in
-    let the-tog-ok = c .before .before .before .tog-ok in
-    let the-if3 = c .before .before .if3 in
-    let the-endpoint = c .before .before .before .before .before .endpoint in
-    let the-if2 = c .before .before .before .before .if2 in
-    let the-if1 = c .before .before .before .before .before .before .if1 in (
-      stops-at (the-stand-flip .ensures) (refl) _
-          (test-yes (thenCheck (a .setup) (a .x) (a .iso)) _ _ _ (tells _ _ _ (the-tog-ok .ensures) (the-if3 .taken))
-          ∙ (test-yes (thenCheck (a .setup) (a .x) (a .iso)) _ _ _ (at-zero _ _ _ (the-endpoint .ensures) (eq-eqb _ _ (the-if2 .taken)))
-          ∙ test-no (thenCheck (a .setup) (a .x) (a .iso)) (a .iso) _ _ (the-if1 .left))),
-      stored-at (the-stand-flip .ensures),
-    )
+    let told = c .before .before in
+    let e = told .before .before in
+    let a = e .before .before .before .before .args in
+    pauses-at (c .stand-flip .ensures) refl
+    (test-yes (thenCheck (a .setup) (a .x) (a .iso)) _ _ _ (tells _ _ _ (told .before .tog-ok .ensures) (told .if3 .taken))
+    ∙ of-ep0 (thenCheck (a .setup) (a .x) (a .iso)) (a .iso) _ _ _ (e .before .endpoint .ensures) (e .before .before .if1 .left) (eq-eqb _ _ (e .if2 .taken)))
 
 after-dispatch-requires-2 : tie.Need-after-dispatch-requires-2
 after-dispatch-requires-2 c κs = search needs
@@ -53,19 +45,12 @@ same-length-2 c = search needs
 
 returns-3 : tie.Need-returns-3
 returns-3 c =
-    let the-after-dispatch2 = c .before .before .after-dispatch2 in
-    let a = c .before .before .before .before .before .before .before .before .before .before .before .args in
-    let the-tog-ok = c .before .before .before .before .before .before .tog-ok in
-    let the-if3 = c .before .before .before .before .before .if3 in
-    let the-endpoint = c .before .before .before .before .before .before .before .before .endpoint in
-    let the-if2 = c .before .before .before .before .before .before .before .if2 in
-    let the-if1 = c .before .before .before .before .before .before .before .before .before .if1 in (
-      then-on (the-after-dispatch2 .ensures .0)
-          (test-no (thenCheck (a .setup) (a .x) (a .iso)) _ _ _ (tells _ _ _ (the-tog-ok .ensures) (the-if3 .left))
-          ∙ (test-yes (thenCheck (a .setup) (a .x) (a .iso)) _ _ _ (at-zero _ _ _ (the-endpoint .ensures) (eq-eqb _ _ (the-if2 .taken)))
-          ∙ test-no (thenCheck (a .setup) (a .x) (a .iso)) (a .iso) _ _ (the-if1 .left))),
-      the-after-dispatch2 .ensures .1,
-    )
+    let told = c .before .before .before .before .before in
+    let e = told .before .before in
+    let a = e .before .before .before .before .args in
+    goes-on (c .before .before .after-dispatch2 .ensures)
+    (test-no (thenCheck (a .setup) (a .x) (a .iso)) _ _ _ (tells _ _ _ (told .before .tog-ok .ensures) (told .if3 .left))
+    ∙ of-ep0 (thenCheck (a .setup) (a .x) (a .iso)) (a .iso) _ _ _ (e .before .endpoint .ensures) (e .before .before .if1 .left) (eq-eqb _ _ (e .if2 .taken)))
 
 toggled-arm-requires : tie.Need-toggled-arm-requires
 toggled-arm-requires c κs = search needs
@@ -75,16 +60,10 @@ same-length-3 c = search needs
 
 returns-4 : tie.Need-returns-4
 returns-4 c =
-    let the-toggled-arm = c .before .before .toggled-arm in
-    let a = c .before .before .before .before .before .before .before .before .before .args in
-    let the-endpoint = c .before .before .before .before .before .before .endpoint in
-    let the-if2 = c .before .before .before .before .before .if2 in
-    let the-if1 = c .before .before .before .before .before .before .before .if1 in (
-      then-on (the-toggled-arm .ensures .0)
-          (test-no (thenCheck (a .setup) (a .x) (a .iso)) _ _ _ (at-zero _ _ _ (the-endpoint .ensures) (ne-eqb _ _ (the-if2 .left)))
-          ∙ test-no (thenCheck (a .setup) (a .x) (a .iso)) (a .iso) _ _ (the-if1 .left)),
-      the-toggled-arm .ensures .1,
-    )
+    let e = c .before .before .before .before .before in
+    let a = e .before .before .before .before .args in
+    goes-on (c .before .before .toggled-arm .ensures)
+    (of-other (thenCheck (a .setup) (a .x) (a .iso)) (a .iso) _ _ _ (e .before .endpoint .ensures) (e .before .before .if1 .left) (ne-eqb _ _ (e .if2 .left)))
 
 pub out-arm-spec : {M : Type 1} → statement M
 out-arm-spec =

@@ -19,10 +19,4 @@ returns c = (
 )
 
 pub received-spec : {M : Type 1} → statement M
-received-spec =
-    tie.close
-    (tie.spec
-    load-ep-requires
-    store-ep-requires
-    wake-requires
-    returns)
+received-spec = tie.close (tie.spec load-ep-requires store-ep-requires wake-requires returns)

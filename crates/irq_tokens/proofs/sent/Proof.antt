@@ -19,10 +19,4 @@ returns c = (
 )
 
 pub sent-spec : {M : Type 1} → statement M
-sent-spec =
-    tie.close
-    (tie.spec
-    load-ep-requires
-    store-ep-requires
-    wake-requires
-    returns)
+sent-spec = tie.close (tie.spec load-ep-requires store-ep-requires wake-requires returns)

@@ -1,12 +1,13 @@
-use Rattle.irq_points.specs.StandsLaws.{stops-at, stored-at, then-on}
-use Rattle.irq.specs.Laws.{after, sof-asks, sof-ends, sof-handled, sof-linked, when-no, when-yes}
+use Rattle.iso_in.specs.Sof as sof
+use Rattle.irq_check.specs.StopsLaws.{pauses-in, goes-in}
+use Rattle.irq.specs.Laws.{after, sof-asks, sof-ends, sof-handled, when-no, when-yes}
 use Rattle.irq.specs.Continuations.{afterDispatch}
 use Rattle.irq_check.specs.SofLaws.{sof-over}
 use Rattle.model_ops.specs.Concrete.{concrete}
 use Rattle.model.specs.IsoIn.{onSof}
 use Rattle.model.specs.Script.{run}
 use borrow.Author.Tests.{eq-eqb, ne-eqb}
-use mathlib.Core.Path.{_∙_}
+use mathlib.Core.Path.{_∙_, subst}
 use borrow.Author.Needs.{needs}
 use Rattle.irq_tokens.proofs.sof_arm.Statement.{statement}
 use Rattle.irq_tokens.proofs.sof_arm.Tie as tie
@@ -23,13 +24,10 @@ returns c =
     let the-load-globals = c .before .before .before .before .load-globals in
     let the-if1 = c .before .before .if1 in
     let a = c .before .before .before .before .before .before .args in
-    let the-after-transfer = c .after-transfer in (
-      λ b. then-on (the-after-transfer .ensures .0 b)
-          (sof-over (a .setup) (a .x) (a .iso) _ (the-pre)
-          ∙ when-no (a .setup) (onSof (a .frame)) (λ _ u. run concrete (afterDispatch (a .x) (a .iso)) u) _ _
-          (sof-handled _ _ _ _ (the-load-globals .ensures) (eq-eqb _ _ (the-if1 .taken)))),
-      the-after-transfer .ensures .1,
-    )
+    goes-in (c .after-transfer .ensures)
+    (λ b. sof-over (a .setup) (a .x) (a .iso) _ (the-pre)
+    ∙ when-no (a .setup) (onSof (a .frame)) (λ _ u. run concrete (afterDispatch (a .x) (a .iso)) u) _ _
+    (sof-handled _ _ _ _ (the-load-globals .ensures) (eq-eqb _ _ (the-if1 .taken))))
 
 on-sof-requires : tie.Need-on-sof-requires
 on-sof-requires c κs = search needs
@@ -53,14 +51,11 @@ returns-2 c =
     let a = c .before .before .before .before .before .before .before .before .before .before .before .args in
     let the-n = c .before .before .before .n in
     let the-begin = c .before .before .before .before .before .on-sof in
-    let the-stand-sof-arm = c .stand-sof-arm in (
-      λ b. stops-at (the-stand-sof-arm .ensures) (sof-linked _ _ _ (the-n .given .1) (the-begin .ensures .1 .1)) b
-          (sof-asks (a .setup) (λ _ u. run concrete (afterDispatch (a .x) (a .iso)) u) _ _ b (a .frame) _ _ (the-n .given .1)
-          ∙ (after (a .setup) (λ _ u. run concrete (afterDispatch (a .x) (a .iso)) u) _ _ (the-begin .ensures .0 b)
-          ∙ when-yes (a .setup) (onSof (a .frame)) (λ _ u. run concrete (afterDispatch (a .x) (a .iso)) u) _ _
-          (sof-handled _ _ _ _ (the-load-globals .ensures) (ne-eqb _ _ (the-if1 .left))))),
-      stored-at (the-stand-sof-arm .ensures),
-    )
+    pauses-in (c .stand-sof-arm .ensures) (subst sof.Linked (the-n .given .1) (the-begin .ensures .1 .1))
+    (λ b. sof-asks (a .setup) (λ _ u. run concrete (afterDispatch (a .x) (a .iso)) u) _ _ b (a .frame) _ _ (the-n .given .1)
+    ∙ (after (a .setup) (λ _ u. run concrete (afterDispatch (a .x) (a .iso)) u) _ _ (the-begin .ensures .0 b)
+    ∙ when-yes (a .setup) (onSof (a .frame)) (λ _ u. run concrete (afterDispatch (a .x) (a .iso)) u) _ _
+    (sof-handled _ _ _ _ (the-load-globals .ensures) (ne-eqb _ _ (the-if1 .left)))))
 
 returns-3 : tie.Need-returns-3
 returns-3 c =
@@ -70,15 +65,12 @@ returns-3 c =
     let the-if1 = c .before .before .before .before .before .before .if1 in
     let a = c .before .before .before .before .before .before .before .before .before .before .args in
     let the-begin = c .before .before .before .before .on-sof in
-    let the-after-transfer = c .after-transfer2 in (
-      λ b. then-on (the-after-transfer .ensures .0 b)
-          (sof-over (a .setup) (a .x) (a .iso) _ (the-pre)
-          ∙ (sof-ends (a .setup) (λ _ u. run concrete (afterDispatch (a .x) (a .iso)) u) _ b (a .frame) _ (the-enum-told .given .1)
-          ∙ (after (a .setup) (λ _ u. run concrete (afterDispatch (a .x) (a .iso)) u) _ _ (the-begin .ensures .0 b)
-          ∙ when-yes (a .setup) (onSof (a .frame)) (λ _ u. run concrete (afterDispatch (a .x) (a .iso)) u) _ _
-          (sof-handled _ _ _ _ (the-load-globals .ensures) (ne-eqb _ _ (the-if1 .left)))))),
-      the-after-transfer .ensures .1,
-    )
+    goes-in (c .after-transfer2 .ensures)
+    (λ b. sof-over (a .setup) (a .x) (a .iso) _ (the-pre)
+    ∙ (sof-ends (a .setup) (λ _ u. run concrete (afterDispatch (a .x) (a .iso)) u) _ b (a .frame) _ (the-enum-told .given .1)
+    ∙ (after (a .setup) (λ _ u. run concrete (afterDispatch (a .x) (a .iso)) u) _ _ (the-begin .ensures .0 b)
+    ∙ when-yes (a .setup) (onSof (a .frame)) (λ _ u. run concrete (afterDispatch (a .x) (a .iso)) u) _ _
+    (sof-handled _ _ _ _ (the-load-globals .ensures) (ne-eqb _ _ (the-if1 .left))))))
 
 pub sof-arm-spec : {M : Type 1} → statement M
 sof-arm-spec =

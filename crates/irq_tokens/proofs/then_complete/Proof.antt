@@ -1,8 +1,6 @@
-use Rattle.irq_points.specs.StandsLaws.{stops-at, stored-at, then-on}
-use Rattle.irq.specs.Laws.{complete-asks, complete-ends, complete-linked}
-use Rattle.irq.specs.Continuations.{afterDispatch}
-use Rattle.model_ops.specs.Concrete.{concrete}
-use Rattle.model.specs.Script.{run}
+use mathlib.Core.Path.{subst}
+use Rattle.iso_in.specs.Complete as complete
+use Rattle.irq_check.specs.StopsLaws.{pauses-at, goes-on}
 use borrow.Author.Needs.{needs}
 use Rattle.irq_tokens.proofs.then_complete.Statement.{statement}
 use Rattle.irq_tokens.proofs.then_complete.Tie as tie
@@ -21,36 +19,15 @@ after-dispatch-requires c κs = search needs
 
 returns : tie.Need-returns
 returns c =
-    let the-stand-completing = c .stand-completing in
-    let the-n = c .before .before .before .n in
-    let a = c .before .before .before .before .before .before .args in (
-      stops-at (the-stand-completing .ensures)
-          (complete-linked _ _ _ (the-n .given .1) ((c .before .before .before .before .before .before .pre))) _
-          (complete-asks (a .setup) (λ _ u. run concrete (afterDispatch (a .x) (a .iso)) u) _ _ _ _ _ (the-n .given .1)),
-      stored-at (the-stand-completing .ensures),
-    )
+    pauses-at (c .stand-completing .ensures)
+    (subst complete.Linked (c .before .before .before .n .given .1) (c .before .before .before .before .before .before .pre))
+    (simp (c .before .before .before .n .given .1))
 
 same-length : tie.Need-same-length
 same-length c = search needs
 
 returns-2 : tie.Need-returns-2
-returns-2 c =
-    let the-after-dispatch = c .before .before .after-dispatch in
-    let a = c .before .before .before .before .before .before .before .before .args in
-    let the-enum-told = c .before .before .before .before .before .enum-told in (
-      then-on (the-after-dispatch .ensures .0)
-          (complete-ends (a .setup) (λ _ u. run concrete (afterDispatch (a .x) (a .iso)) u) _ _ _ (the-enum-told .given .1)),
-      the-after-dispatch .ensures .1,
-    )
+returns-2 c = goes-on (c .before .before .after-dispatch .ensures) (simp (c .before .before .before .before .before .enum-told .given .1))
 
 pub then-complete-spec : {M : Type 1} → statement M
-then-complete-spec =
-    tie.close
-    (tie.spec
-    enum-known-n
-    stand-completing-requires
-    enum-told
-    after-dispatch-requires
-    returns
-    same-length
-    returns-2)
+then-complete-spec = tie.close (tie.spec enum-known-n stand-completing-requires enum-told after-dispatch-requires returns same-length returns-2)

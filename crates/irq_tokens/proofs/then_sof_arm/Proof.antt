@@ -1,10 +1,11 @@
-use Rattle.irq_points.specs.StandsLaws.{stops-at, stored-at, then-on}
-use Rattle.irq.specs.Laws.{sof-asks, sof-ends, sof-linked, tells}
+use Rattle.iso_in.specs.Sof as sof
+use Rattle.irq_check.specs.StopsLaws.{pauses-at, goes-on}
+use Rattle.irq.specs.Laws.{sof-ends, tells}
 use Rattle.irq.specs.Continuations.{afterDispatch}
 use Rattle.irq_check.specs.SofLaws.{sof-over}
 use Rattle.model_ops.specs.Concrete.{concrete}
 use Rattle.model.specs.Script.{run}
-use mathlib.Core.Path.{_∙_}
+use mathlib.Core.Path.{_∙_, subst}
 use borrow.Author.Needs.{needs}
 use Rattle.irq_tokens.proofs.then_sof_arm.Statement.{statement}
 use Rattle.irq_tokens.proofs.then_sof_arm.Tie as tie
@@ -30,39 +31,25 @@ returns c =
     let the-if1 = c .before .before .if1 in
     let the-enum-told = c .before .before .before .before .enum-told in
     let a = c .before .before .before .before .before .before .before .args in
-    let the-after-transfer = c .after-transfer in (
-      then-on (the-after-transfer .ensures .0 _)
-          (sof-over (a .setup) (a .x) (a .iso) _ (tells _ _ _ (the-is-sof .ensures) (the-if1 .taken))
-          ∙ sof-ends (a .setup) (λ _ u. run concrete (afterDispatch (a .x) (a .iso)) u) _ _ (a .frame) _ (the-enum-told .given .1)),
-      the-after-transfer .ensures .1,
-    )
+    let the-after-transfer = c .after-transfer in
+    goes-on (the-after-transfer .ensures .0 _, the-after-transfer .ensures .1)
+    (sof-over (a .setup) (a .x) (a .iso) _ (tells _ _ _ (the-is-sof .ensures) (the-if1 .taken))
+    ∙ sof-ends (a .setup) (λ _ u. run concrete (afterDispatch (a .x) (a .iso)) u) _ _ (a .frame) _ (the-enum-told .given .1))
 
 after-dispatch-requires : tie.Need-after-dispatch-requires
 after-dispatch-requires c κs = search needs
 
 returns-2 : tie.Need-returns-2
 returns-2 c =
-    let the-pre = c .before .before .before .before .before .before .pre in
-    let a = c .before .before .before .before .before .before .args in
-    let the-n = c .before .before .before .n in
-    let the-stand-sof-arm = c .stand-sof-arm in (
-      stops-at (the-stand-sof-arm .ensures) (sof-linked _ _ _ (the-n .given .1) (the-pre)) _
-          (sof-asks (a .setup) (λ _ u. run concrete (afterDispatch (a .x) (a .iso)) u) _ _ _ (a .frame) _ _ (the-n .given .1)),
-      stored-at (the-stand-sof-arm .ensures),
-    )
+    pauses-at (c .stand-sof-arm .ensures)
+    (subst sof.Linked (c .before .before .before .n .given .1) (c .before .before .before .before .before .before .pre))
+    (simp (c .before .before .before .n .given .1))
 
 same-length : tie.Need-same-length
 same-length c = search needs
 
 returns-3 : tie.Need-returns-3
-returns-3 c =
-    let the-enum-told = c .before .before .before .before .before .before .before .enum-told in
-    let a = c .before .before .before .before .before .before .before .before .before .before .args in
-    let the-after-dispatch = c .before .before .after-dispatch in (
-      then-on (the-after-dispatch .ensures .0)
-          (sof-ends (a .setup) (λ _ u. run concrete (afterDispatch (a .x) (a .iso)) u) _ _ (a .frame) _ (the-enum-told .given .1)),
-      the-after-dispatch .ensures .1,
-    )
+returns-3 c = goes-on (c .before .before .after-dispatch .ensures) (simp (c .before .before .before .before .before .before .before .enum-told .given .1))
 
 pub then-sof-arm-spec : {M : Type 1} → statement M
 then-sof-arm-spec =

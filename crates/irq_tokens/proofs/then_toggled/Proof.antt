@@ -1,9 +1,6 @@
-use Rattle.irq_points.specs.StandsLaws.{stops-at, stored-at, then-on}
-use Rattle.irq.specs.Laws.{toggled-asks, toggled-ends, toggled-linked}
-use Rattle.irq.specs.Continuations.{afterDispatch, afterToggled}
-use Rattle.model_ops.specs.Concrete.{concrete}
-use Rattle.regs.specs.Status.{endpoint}
-use Rattle.model.specs.Script.{run}
+use mathlib.Core.Path.{subst}
+use Rattle.irq_transfer.specs.Toggled as toggled
+use Rattle.irq_check.specs.StopsLaws.{pauses-at, goes-on}
 use borrow.Author.Needs.{needs}
 use Rattle.irq_tokens.proofs.then_toggled.Statement.{statement}
 use Rattle.irq_tokens.proofs.then_toggled.Tie as tie
@@ -22,38 +19,15 @@ after-passing-requires c κs = search needs
 
 returns : tie.Need-returns
 returns c =
-    let the-pre = c .before .before .before .before .before .before .pre in
-    let a = c .before .before .before .before .before .before .args in
-    let the-n = c .before .before .before .n in
-    let the-stand-toggled = c .stand-toggled in (
-      stops-at (the-stand-toggled .ensures) (toggled-linked _ _ _ (the-n .given .1) (the-pre)) _
-          (toggled-asks (a .setup) (λ _ u. run concrete (afterDispatch (a .x) (a .iso)) u)
-          (λ z u. run concrete (afterToggled (a .d) (a .x) z) u) _ _ (a .d) (endpoint ((a .x) .st)) _ _ _ (the-n .given .1)),
-      stored-at (the-stand-toggled .ensures),
-    )
+    pauses-at (c .stand-toggled .ensures)
+    (subst toggled.Linked (c .before .before .before .n .given .1) (c .before .before .before .before .before .before .pre))
+    (simp (c .before .before .before .n .given .1))
 
 same-length : tie.Need-same-length
 same-length c = search needs
 
 returns-2 : tie.Need-returns-2
-returns-2 c =
-    let the-n2 = c .before .before .before .before .before .before .n2 in
-    let a = c .before .before .before .before .before .before .before .before .before .args in
-    let the-after-passing = c .before .before .after-passing in (
-      then-on (the-after-passing .ensures .0)
-          (toggled-ends (a .setup) (λ _ u. run concrete (afterDispatch (a .x) (a .iso)) u)
-          (λ z u. run concrete (afterToggled (a .d) (a .x) z) u) _ _ (a .d) (endpoint ((a .x) .st)) _ _ (the-n2 .given .1)),
-      the-after-passing .ensures .1,
-    )
+returns-2 c = goes-on (c .before .before .after-passing .ensures) (simp (c .before .before .before .before .before .before .n2 .given .1))
 
 pub then-toggled-spec : {M : Type 1} → statement M
-then-toggled-spec =
-    tie.close
-    (tie.spec
-    enum-known-n
-    stand-toggled-requires
-    enum-known-n-2
-    after-passing-requires
-    returns
-    same-length
-    returns-2)
+then-toggled-spec = tie.close (tie.spec enum-known-n stand-toggled-requires enum-known-n-2 after-passing-requires returns same-length returns-2)

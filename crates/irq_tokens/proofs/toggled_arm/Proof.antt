@@ -1,10 +1,15 @@
-use Rattle.irq_points.specs.StandsLaws.{stops-at, stored-at, then-on}
-use Rattle.irq.specs.Laws.{toggled-asks, toggled-ends, toggled-from, toggled-linked}
+use Rattle.irq_transfer.specs.Toggled as toggled
+use Rattle.irq_check.specs.StopsLaws.{pauses-at, goes-on}
+use Prim.Native.Nat.{ℕ}
+use mathlib.Core.Bool.{true}
+use Rattle.model.specs.Handler as script
+use Rattle.state.specs.State.{view}
+use Rattle.irq.specs.Laws.{toggled-asks, toggled-ends, toggled-as}
 use Rattle.irq.specs.Continuations.{afterDispatch, afterToggled}
 use Rattle.model_ops.specs.Concrete.{concrete}
 use Rattle.regs.specs.Status.{endpoint}
 use Rattle.model.specs.Script.{run}
-use mathlib.Core.Path.{_∙_}
+use mathlib.Core.Path.{_∙_, subst}
 use borrow.Author.Needs.{needs}
 use Rattle.irq_tokens.proofs.toggled_arm.Statement.{statement}
 use Rattle.irq_tokens.proofs.toggled_arm.Tie as tie
@@ -33,15 +38,12 @@ returns c =
     let a = c .before .before .before .before .before .before .before .before .args in
     let the-n = c .before .before .before .n in
     let the-begin = c .before .before .before .before .before .begin in
-    let the-stand-toggled = c .stand-toggled in (
-      stops-at (the-stand-toggled .ensures) (toggled-linked _ _ _ (the-n .given .1) (the-begin .ensures .1)) _
-          (toggled-asks (a .setup) (λ _ u. run concrete (afterDispatch (a .x) (a .iso)) u)
-          (λ z u. run concrete (afterToggled (a .d) (a .x) z) u) _ _ (a .d) (endpoint ((a .x) .st)) _ _ _ (the-n .given .1)
-          ∙ toggled-from (a .setup) (λ _ u. run concrete (afterDispatch (a .x) (a .iso)) u)
-          (λ z u. run concrete (afterToggled (a .d) (a .x) z) u)
-          (a .d) _ _ (the-begin .result) _ _ (the-endpoint .ensures) (the-begin .ensures .0 _ _)),
-      stored-at (the-stand-toggled .ensures),
-    )
+    pauses-at (c .stand-toggled .ensures) (subst toggled.Linked (the-n .given .1) (the-begin .ensures .1))
+    (toggled-asks (a .setup) (λ _ u. run concrete (afterDispatch (a .x) (a .iso)) u) (λ z u. run concrete (afterToggled (a .d) (a .x) z) u) _ _ (a .d)
+    (endpoint ((a .x) .st)) _ _ _ (the-n .given .1)
+    ∙ toggled-as (a .setup) (λ _ u. run concrete (afterDispatch (a .x) (a .iso)) u) (λ z u. run concrete (afterToggled (a .d) (a .x) z) u) (a .d) _ _
+    (the-begin .result) _ _ (the-endpoint .ensures)
+    (λ (z : ℕ). run concrete (script.toggled {i = true} (a .d) z) (view (a .s .now), a .buf .now)) (the-begin .ensures .0 _ _))
 
 same-length : tie.Need-same-length
 same-length c = search needs
@@ -52,15 +54,12 @@ returns-2 c =
     let the-endpoint = c .before .before .before .before .before .before .before .before .before .endpoint in
     let a = c .before .before .before .before .before .before .before .before .before .before .before .args in
     let the-begin = c .before .before .before .before .before .before .before .before .begin in
-    let the-after-passing = c .before .before .after-passing in (
-      then-on (the-after-passing .ensures .0)
-          (toggled-ends (a .setup) (λ _ u. run concrete (afterDispatch (a .x) (a .iso)) u)
-          (λ z u. run concrete (afterToggled (a .d) (a .x) z) u) _ _ (a .d) (endpoint ((a .x) .st)) _ _ (the-n2 .given .1)
-          ∙ toggled-from (a .setup) (λ _ u. run concrete (afterDispatch (a .x) (a .iso)) u)
-          (λ z u. run concrete (afterToggled (a .d) (a .x) z) u)
-          (a .d) _ _ (the-begin .result) _ _ (the-endpoint .ensures) (the-begin .ensures .0 _ _)),
-      the-after-passing .ensures .1,
-    )
+    goes-on (c .before .before .after-passing .ensures)
+    (toggled-ends (a .setup) (λ _ u. run concrete (afterDispatch (a .x) (a .iso)) u) (λ z u. run concrete (afterToggled (a .d) (a .x) z) u) _ _ (a .d)
+    (endpoint ((a .x) .st)) _ _ (the-n2 .given .1)
+    ∙ toggled-as (a .setup) (λ _ u. run concrete (afterDispatch (a .x) (a .iso)) u) (λ z u. run concrete (afterToggled (a .d) (a .x) z) u) (a .d) _ _
+    (the-begin .result) _ _ (the-endpoint .ensures)
+    (λ (z : ℕ). run concrete (script.toggled {i = true} (a .d) z) (view (a .s .now), a .buf .now)) (the-begin .ensures .0 _ _))
 
 pub toggled-arm-spec : {M : Type 1} → statement M
 toggled-arm-spec =

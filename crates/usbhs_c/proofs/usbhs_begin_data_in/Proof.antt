@@ -23,17 +23,9 @@ same-length : tie.Need-same-length
 same-length c = search needs
 
 returns : tie.Need-returns
-returns c = (
-  _,
-  c .word-of .ensures,
-  (
-    λ a. simp (
-      ← c .before .before .before .before .flag-of2 .ensures,
-      ← c .before .before .before .before .before .flag-of .ensures,
-    ) (c .before .before .before .begin-data-in .ensures .0 a),
-    c .before .before .before .begin-data-in .ensures .1,
-  ),
-)
+returns c =
+    simp (← c .before .before .before .before .flag-of2 .ensures, ← c .before .before .before .before .before .flag-of .ensures)
+    (_, c .word-of .ensures, c .before .before .before .begin-data-in .ensures)
 
 pub usbhs-begin-data-in-spec : {M : Type 1} → statement M
 usbhs-begin-data-in-spec =

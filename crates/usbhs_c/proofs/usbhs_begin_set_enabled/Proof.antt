@@ -24,17 +24,9 @@ same-length : tie.Need-same-length
 same-length c = search needs
 
 returns : tie.Need-returns
-returns c = (
-  _,
-  c .word-of .ensures,
-  (
-    λ a. simp (
-      ← c .before .before .before .before .flag-of .ensures,
-      ← c .before .before .before .before .before .dir-of .ensures,
-    ) (c .before .before .before .begin-set-enabled .ensures .0 a),
-    c .before .before .before .begin-set-enabled .ensures .1,
-  ),
-)
+returns c =
+    simp (← c .before .before .before .before .flag-of .ensures, ← c .before .before .before .before .before .dir-of .ensures)
+    (_, c .word-of .ensures, c .before .before .before .begin-set-enabled .ensures)
 
 pub usbhs-begin-set-enabled-spec : {M : Type 1} → statement M
 usbhs-begin-set-enabled-spec =

@@ -1,9 +1,9 @@
+use mathlib.Core.List.{[]}
+use Rattle.machine.specs.Suspended.{answerOf}
 use borrow.Author.Needs.{needs}
 use Rattle.call_bus_time.proofs.charges.charged.Statement.{statement}
 use Rattle.call_bus_time.proofs.charges.charged.Tie as tie
-use Rattle.call_bus_time.proofs.charges.charged.Reads as reads
-use Rattle.call_bus_time.proofs.charges.charged.Lts as lts
-use Rattle.req_bus_time.proofs.charge.Reads as charge-reads
+use Rattle.call_bus_time.proofs.Unasked.{unasked, uncharged}
 
 enum-known-step : tie.Need-enum-known-step
 enum-known-step c = search needs
@@ -11,61 +11,11 @@ enum-known-step c = search needs
 charge-requires : tie.Need-charge-requires
 charge-requires c κs = search needs
 
-enum-known-step-2 : tie.Need-enum-known-step-2
-enum-known-step-2 c = search needs
-
-enum-known-step-3 : tie.Need-enum-known-step-3
-enum-known-step-3 c = search needs
-
-enum-told : tie.Need-enum-told
-enum-told c = search needs
-
-enum-known-step-4 : tie.Need-enum-known-step-4
-enum-known-step-4 c = search needs
-
-enum-known-step-5 : tie.Need-enum-known-step-5
-enum-known-step-5 c = search needs
-
-enum-known-step-6 : tie.Need-enum-known-step-6
-enum-known-step-6 c = search needs
-
 returns : tie.Need-returns
 returns c x = simp (c .before .before .before .step .given .1) (c .charge .ensures)
 
 returns-2 : tie.Need-returns-2
-returns-2 c x = simp (c .before .step2 .given .1)
-
-returns-3 : tie.Need-returns-3
-returns-3 c x = simp (c .before .step3 .given .1)
-
-returns-4 : tie.Need-returns-4
-returns-4 c x = simp (c .enum-told .given .1)
-
-returns-5 : tie.Need-returns-5
-returns-5 c x = simp (c .before .step4 .given .1)
-
-returns-6 : tie.Need-returns-6
-returns-6 c x = simp (c .before .step5 .given .1)
-
-returns-7 : tie.Need-returns-7
-returns-7 c x = simp (c .before .step6 .given .1)
+returns-2 c x = let a = c .before .args in uncharged _ (answerOf (a .step) [] x) (unasked (a .step) x (c .match .keys2)) (a .at) (a .c)
 
 pub charged-spec : {M : Type 1} → statement M
-charged-spec =
-    tie.close
-    (tie.spec
-    enum-known-step
-    charge-requires
-    enum-known-step-2
-    enum-known-step-3
-    enum-told
-    enum-known-step-4
-    enum-known-step-5
-    enum-known-step-6
-    returns
-    returns-2
-    returns-3
-    returns-4
-    returns-5
-    returns-6
-    returns-7)
+charged-spec = tie.close (tie.spec enum-known-step charge-requires returns returns-2)

@@ -1,4 +1,4 @@
-use Rattle.irq_points.specs.StandsLaws.{stops-at, stored-at, then-on}
+use Rattle.irq_check.specs.StopsLaws.{pauses-in, goes-in}
 use Rattle.irq.specs.Continuations.{afterSetupTx, afterTransfer}
 use mathlib.Core.Path.{refl}
 use borrow.Author.Needs.{needs}
@@ -13,20 +13,14 @@ stand-setup-rx-requires c κs = search needs
 
 returns : tie.Need-returns
 unfolding afterTransfer afterSetupTx
-returns c =
-    let the-stand-setup-rx = c .stand-setup-rx in
-    let the-if1 = c .before .before .before .if1 in
-    (λ b. stops-at (the-stand-setup-rx .ensures) (refl) b (simp (c .before .nak-word .ensures, the-if1 .taken)), stored-at (the-stand-setup-rx .ensures))
+returns c = pauses-in (c .stand-setup-rx .ensures) refl (λ b. simp (c .before .nak-word .ensures, c .before .before .before .if1 .taken))
 
 stop-requires : tie.Need-stop-requires
 stop-requires c κs = search needs
 
 returns-2 : tie.Need-returns-2
 unfolding afterTransfer
-returns-2 c =
-    let the-stop = c .stop in
-    let the-if1 = c .before .before .if1 in
-    (λ b. then-on (the-stop .ensures .0 b) (simp (the-if1 .left)), the-stop .ensures .1)
+returns-2 c = goes-in (c .stop .ensures) (λ b. simp (c .before .before .if1 .left))
 
 pub after-transfer-spec : {M : Type 1} → statement M
 after-transfer-spec =

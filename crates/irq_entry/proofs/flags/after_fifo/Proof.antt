@@ -1,4 +1,4 @@
-use Rattle.irq_points.specs.StandsLaws.{stops-at, stored-at, then-on}
+use Rattle.irq_check.specs.StopsLaws.{pauses-in, goes-in}
 use Rattle.irq.specs.Continuations.{afterFifo}
 use mathlib.Core.Path.{refl}
 use borrow.Author.Needs.{needs}
@@ -13,22 +13,14 @@ stand-host-requires c κs = search needs
 
 returns : tie.Need-returns
 unfolding afterFifo
-returns c =
-    let the-stand-host = c .stand-host in
-    let the-hst-sof = c .before .before .before .hst-sof in
-    let the-if1 = c .before .before .if1 in
-    (λ b. stops-at (the-stand-host .ensures) (refl) b (simp (← the-hst-sof .ensures, the-if1 .taken)), stored-at (the-stand-host .ensures))
+returns c = pauses-in (c .stand-host .ensures) refl (λ b. simp (← c .before .before .before .hst-sof .ensures, c .before .before .if1 .taken))
 
 after-host-requires : tie.Need-after-host-requires
 after-host-requires c κs = search needs
 
 returns-2 : tie.Need-returns-2
 unfolding afterFifo
-returns-2 c =
-    let the-after-host = c .after-host in
-    let the-hst-sof = c .before .before .before .hst-sof in
-    let the-if1 = c .before .before .if1 in
-    (λ b. then-on (the-after-host .ensures .0 b) (simp (← the-hst-sof .ensures, the-if1 .left)), the-after-host .ensures .1)
+returns-2 c = goes-in (c .after-host .ensures) (λ b. simp (← c .before .before .before .hst-sof .ensures, c .before .before .if1 .left))
 
 pub after-fifo-spec : {M : Type 1} → statement M
 after-fifo-spec =

@@ -1,4 +1,4 @@
-use Rattle.irq_points.specs.StandsLaws.{stops-at, stored-at, then-on}
+use Rattle.irq_check.specs.StopsLaws.{pauses-in, goes-in}
 use Rattle.irq.specs.Continuations.{afterFlags}
 use mathlib.Core.Path.{refl}
 use borrow.Author.Needs.{needs}
@@ -29,23 +29,21 @@ stand-bus-rst-requires c κs = search needs
 returns : tie.Need-returns
 unfolding afterFlags
 returns c =
-    let the-stand-bus-rst = c .stand-bus-rst in
     let the-set-int-en = c .before .before .set-int-en in
     let the-with-bus-rst = c .before .before .before .before .with-bus-rst in
     let the-load-globals = c .before .before .before .before .before .load-globals in
     let the-bus-rst = c .before .before .before .before .before .before .before .before .bus-rst in
     let the-if1 = c .before .before .before .before .before .before .before .if1 in
-    let the-byte = c .before .before .before .before .before .before .before .before .before .byte in (
-      λ b. stops-at (the-stand-bus-rst .ensures) (refl) b (simp (
-        the-set-int-en .ensures .0,
-        the-with-bus-rst .ensures,
-        the-load-globals .ensures,
-        ← the-bus-rst .ensures,
-        the-if1 .taken,
-        ← the-byte .ensures,
-      )),
-      stored-at (the-stand-bus-rst .ensures),
-    )
+    let the-byte = c .before .before .before .before .before .before .before .before .before .byte in
+    pauses-in (c .stand-bus-rst .ensures) refl
+    (λ b. simp (
+      the-set-int-en .ensures .0,
+      the-with-bus-rst .ensures,
+      the-load-globals .ensures,
+      ← the-bus-rst .ensures,
+      the-if1 .taken,
+      ← the-byte .ensures,
+    ))
 
 suspend-requires : tie.Need-suspend-requires
 suspend-requires c κs = search needs
@@ -53,11 +51,8 @@ suspend-requires c κs = search needs
 returns-2 : tie.Need-returns-2
 unfolding afterFlags
 returns-2 c =
-    let the-suspend = c .suspend in
-    let the-bus-rst = c .before .before .before .bus-rst in
-    let the-if1 = c .before .before .if1 in
-    let the-byte = c .before .before .before .before .byte in
-    (λ b. then-on (the-suspend .ensures .0 b) (simp (← the-bus-rst .ensures, the-if1 .left, ← the-byte .ensures)), the-suspend .ensures .1)
+    goes-in (c .suspend .ensures)
+    (λ b. simp (← c .before .before .before .bus-rst .ensures, c .before .before .if1 .left, ← c .before .before .before .before .byte .ensures))
 
 pub after-flags-spec : {M : Type 1} → statement M
 after-flags-spec =

@@ -1,4 +1,4 @@
-use Rattle.irq_points.specs.StandsLaws.{stops-at, stored-at}
+use Rattle.irq_check.specs.StopsLaws.{pauses-in}
 use Rattle.irq.specs.Laws.{microframe-kept}
 use mathlib.Core.Path.{refl}
 use borrow.Author.Needs.{needs}
@@ -22,17 +22,14 @@ stand-flags-requires c κs = search needs
 
 returns : tie.Need-returns
 returns c =
-    let the-stand-flags = c .stand-flags in
     let a = c .before .before .before .before .before .before .before .before .args in
     let the-load-globals = c .before .before .before .before .load-globals in
     let the-short = c .before .before .before .before .before .before .before .short in
     let the-microframe-index = c .before .before .before .before .before .before .microframe-index in
-    let the-store-globals = c .before .before .store-globals in (
-      λ b. stops-at (the-stand-flags .ensures) (refl) b
-          (microframe-kept (a .v) _ _ (the-load-globals .result) _ _ b (the-short .ensures)
-          (the-microframe-index .ensures) (the-load-globals .ensures) (the-store-globals .ensures .0)),
-      stored-at (the-stand-flags .ensures),
-    )
+    let the-store-globals = c .before .before .store-globals in
+    pauses-in (c .stand-flags .ensures) refl
+    (λ b. microframe-kept (a .v) _ _ (the-load-globals .result) _ _ b (the-short .ensures) (the-microframe-index .ensures) (the-load-globals .ensures)
+    (the-store-globals .ensures .0))
 
 pub after-frame-spec : {M : Type 1} → statement M
 after-frame-spec =

@@ -1,4 +1,4 @@
-use Rattle.irq_points.specs.StandsLaws.{stops-at, stored-at, then-on}
+use Rattle.irq_check.specs.StopsLaws.{pauses-in, goes-in}
 use Rattle.irq.specs.Laws.{host-other, host-transfer, tells}
 use mathlib.Core.Path.{refl}
 use borrow.Author.Needs.{needs}
@@ -16,28 +16,18 @@ stand-mis-requires c κs = search needs
 
 returns : tie.Need-returns
 returns c =
-    let the-stand-mis = c .stand-mis in
-    let the-setup-act = c .before .before .before .before .setup-act in
-    let the-transfer = c .before .before .before .transfer in
-    let the-if1 = c .before .before .if1 in (
-      λ b. stops-at (the-stand-mis .ensures) (refl) b
-          (host-transfer _ _ _ b (the-setup-act .ensures) (tells _ _ _ (the-transfer .ensures) (the-if1 .taken))),
-      stored-at (the-stand-mis .ensures),
-    )
+    pauses-in (c .stand-mis .ensures) refl
+    (λ b. host-transfer _ _ _ b (c .before .before .before .before .setup-act .ensures)
+    (tells _ _ _ (c .before .before .before .transfer .ensures) (c .before .before .if1 .taken)))
 
 after-transfer-requires : tie.Need-after-transfer-requires
 after-transfer-requires c κs = search needs
 
 returns-2 : tie.Need-returns-2
 returns-2 c =
-    let the-after-transfer = c .after-transfer in
-    let the-setup-act = c .before .before .before .before .setup-act in
-    let the-transfer = c .before .before .before .transfer in
-    let the-if1 = c .before .before .if1 in (
-      λ b. then-on (the-after-transfer .ensures .0 b)
-          (host-other _ _ _ b (the-setup-act .ensures) (tells _ _ _ (the-transfer .ensures) (the-if1 .left))),
-      the-after-transfer .ensures .1,
-    )
+    goes-in (c .after-transfer .ensures)
+    (λ b. host-other _ _ _ b (c .before .before .before .before .setup-act .ensures)
+    (tells _ _ _ (c .before .before .before .transfer .ensures) (c .before .before .if1 .left)))
 
 pub after-host-spec : {M : Type 1} → statement M
 after-host-spec =

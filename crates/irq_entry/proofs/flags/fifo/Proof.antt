@@ -1,4 +1,4 @@
-use Rattle.irq_points.specs.StandsLaws.{stops-at, stored-at, then-on}
+use Rattle.irq_check.specs.StopsLaws.{pauses-in, goes-in}
 use Rattle.irq.specs.Continuations.{afterSuspend}
 use mathlib.Core.Path.{refl}
 use borrow.Author.Needs.{needs}
@@ -13,22 +13,14 @@ stand-fifo-requires c κs = search needs
 
 returns : tie.Need-returns
 unfolding afterSuspend
-returns c =
-    let the-stand-fifo = c .stand-fifo in
-    let the-fifo-ov = c .before .before .before .fifo-ov in
-    let the-if1 = c .before .before .if1 in
-    (λ b. stops-at (the-stand-fifo .ensures) (refl) b (simp (← the-fifo-ov .ensures, the-if1 .taken)), stored-at (the-stand-fifo .ensures))
+returns c = pauses-in (c .stand-fifo .ensures) refl (λ b. simp (← c .before .before .before .fifo-ov .ensures, c .before .before .if1 .taken))
 
 after-fifo-requires : tie.Need-after-fifo-requires
 after-fifo-requires c κs = search needs
 
 returns-2 : tie.Need-returns-2
 unfolding afterSuspend
-returns-2 c =
-    let the-after-fifo = c .after-fifo in
-    let the-fifo-ov = c .before .before .before .fifo-ov in
-    let the-if1 = c .before .before .if1 in
-    (λ b. then-on (the-after-fifo .ensures .0 b) (simp (← the-fifo-ov .ensures, the-if1 .left)), the-after-fifo .ensures .1)
+returns-2 c = goes-in (c .after-fifo .ensures) (λ b. simp (← c .before .before .before .fifo-ov .ensures, c .before .before .if1 .left))
 
 pub fifo-spec : {M : Type 1} → statement M
 fifo-spec =

@@ -1,4 +1,4 @@
-use Rattle.irq_points.specs.StandsLaws.{stops-at, stored-at, then-on}
+use Rattle.irq_check.specs.StopsLaws.{pauses-in, goes-in}
 use Rattle.irq.specs.Continuations.{afterBusRst}
 use mathlib.Core.Path.{refl}
 use borrow.Author.Needs.{needs}
@@ -26,32 +26,20 @@ stand-suspend-requires c κs = search needs
 returns : tie.Need-returns
 unfolding afterBusRst
 returns c =
-    let the-stand-suspend = c .stand-suspend in
     let the-set-int-en = c .before .before .set-int-en in
     let the-with-suspend = c .before .before .before .before .with-suspend in
     let the-load-globals = c .before .before .before .before .before .load-globals in
     let the-suspend = c .before .before .before .before .before .before .before .before .suspend in
-    let the-if1 = c .before .before .before .before .before .before .before .if1 in (
-      λ b. stops-at (the-stand-suspend .ensures) (refl) b (simp (
-        the-set-int-en .ensures .0,
-        the-with-suspend .ensures,
-        the-load-globals .ensures,
-        ← the-suspend .ensures,
-        the-if1 .taken,
-      )),
-      stored-at (the-stand-suspend .ensures),
-    )
+    let the-if1 = c .before .before .before .before .before .before .before .if1 in
+    pauses-in (c .stand-suspend .ensures) refl
+    (λ b. simp (the-set-int-en .ensures .0, the-with-suspend .ensures, the-load-globals .ensures, ← the-suspend .ensures, the-if1 .taken))
 
 fifo-requires : tie.Need-fifo-requires
 fifo-requires c κs = search needs
 
 returns-2 : tie.Need-returns-2
 unfolding afterBusRst
-returns-2 c =
-    let the-fifo = c .fifo in
-    let the-suspend = c .before .before .before .suspend in
-    let the-if1 = c .before .before .if1 in
-    (λ b. then-on (the-fifo .ensures .0 b) (simp (← the-suspend .ensures, the-if1 .left)), the-fifo .ensures .1)
+returns-2 c = goes-in (c .fifo .ensures) (λ b. simp (← c .before .before .before .suspend .ensures, c .before .before .if1 .left))
 
 pub suspend-spec : {M : Type 1} → statement M
 suspend-spec =

@@ -1,4 +1,4 @@
-use Rattle.irq_points.specs.StandsLaws.{then-on}
+use Rattle.irq_check.specs.StopsLaws.{goes-on}
 use Rattle.irq.specs.Laws.{frame-read}
 use borrow.Author.Needs.{needs}
 use Rattle.irq_serve.proofs.framing.after_frame_no.Statement.{statement}
@@ -21,15 +21,12 @@ same-length c = search needs
 
 returns : tie.Need-returns
 returns c =
-    let the-serve = c .before .before .serve in
     let a = c .before .before .before .before .before .before .before .before .before .before .args in
     let the-framed = c .before .before .before .before .before .framed in
     let the-load-globals = c .before .before .before .before .before .before .load-globals in
-    let the-short = c .before .before .before .before .before .before .before .before .short in (
-      then-on (the-serve .ensures .0)
-          (frame-read (a .setup) (a .x) _ (a .iso) _ _ _ _ _ (the-framed .ensures) (the-load-globals .ensures) (the-short .ensures)),
-      the-serve .ensures .1,
-    )
+    let the-short = c .before .before .before .before .before .before .before .before .short in
+    goes-on (c .before .before .serve .ensures)
+    (frame-read (a .setup) (a .x) _ (a .iso) _ _ _ _ _ (the-framed .ensures) (the-load-globals .ensures) (the-short .ensures))
 
 pub after-frame-no-spec : {M : Type 1} → statement M
 after-frame-no-spec =

@@ -1,4 +1,4 @@
-use Rattle.irq_points.specs.StandsLaws.{then-on}
+use Rattle.irq_check.specs.StopsLaws.{goes-on}
 use Rattle.irq.specs.Laws.{when-no, when-yes}
 use Rattle.irq.specs.Continuations.{afterDispatch, afterLate}
 use Rattle.model_ops.specs.Concrete.{concrete}
@@ -20,14 +20,10 @@ same-length c = search needs
 returns : tie.Need-returns
 unfolding afterLate
 returns c =
-    let the-after-dispatch = c .before .before .after-dispatch in
     let a = c .before .before .before .before .before .before .before .args in
-    let the-if1 = c .before .before .before .before .before .if1 in (
-      then-on (the-after-dispatch .ensures .0)
-          (when-no (a .setup) (script.dispatch {i = true} (token ((a .x) .st)) (a .x) (a .iso) (a .frame))
-          (λ _ u. run concrete (afterDispatch (a .x) (a .iso)) u) _ _ (ap not (the-if1 .taken))),
-      the-after-dispatch .ensures .1,
-    )
+    goes-on (c .before .before .after-dispatch .ensures)
+    (when-no (a .setup) (script.dispatch {i = true} (token ((a .x) .st)) (a .x) (a .iso) (a .frame))
+    (λ _ u. run concrete (afterDispatch (a .x) (a .iso)) u) _ _ (ap not (c .before .before .before .before .before .if1 .taken)))
 
 dispatch-requires : tie.Need-dispatch-requires
 dispatch-requires c κs = search needs
@@ -38,14 +34,10 @@ same-length-2 c = search needs
 returns-2 : tie.Need-returns-2
 unfolding afterLate
 returns-2 c =
-    let the-dispatch = c .before .before .dispatch in
     let a = c .before .before .before .before .before .before .before .args in
-    let the-if1 = c .before .before .before .before .before .if1 in (
-      then-on (the-dispatch .ensures .0)
-          (when-yes (a .setup) (script.dispatch {i = true} (token ((a .x) .st)) (a .x) (a .iso) (a .frame))
-          (λ _ u. run concrete (afterDispatch (a .x) (a .iso)) u) _ _ (ap not (the-if1 .left))),
-      the-dispatch .ensures .1,
-    )
+    goes-on (c .before .before .dispatch .ensures)
+    (when-yes (a .setup) (script.dispatch {i = true} (token ((a .x) .st)) (a .x) (a .iso) (a .frame))
+    (λ _ u. run concrete (afterDispatch (a .x) (a .iso)) u) _ _ (ap not (c .before .before .before .before .before .if1 .left)))
 
 pub after-late-spec : {M : Type 1} → statement M
 after-late-spec =

@@ -1,4 +1,4 @@
-use Rattle.irq_points.specs.StandsLaws.{then-on}
+use Rattle.irq_check.specs.StopsLaws.{goes-on}
 use Rattle.irq.specs.Laws.{after}
 use Rattle.irq.specs.Continuations.{afterSof}
 use Rattle.model_ops.specs.Concrete.{concrete}
@@ -20,13 +20,10 @@ same-length c = search needs
 
 returns : tie.Need-returns
 returns c =
-    let the-then-sof = c .before .before .then-sof in
     let a = c .before .before .before .before .before .before .before .before .args in
-    let the-resume = c .before .before .before .before .before .on-sof-resume in (
-      then-on (the-then-sof .ensures .0)
-          (after (a .setup) (λ _ u. run concrete (afterSof (a .x) (a .iso) (a .frame)) u) _ _ (the-resume .ensures .0 _)),
-      the-then-sof .ensures .1,
-    )
+    goes-on (c .before .before .then-sof .ensures)
+    (after (a .setup) (λ _ u. run concrete (afterSof (a .x) (a .iso) (a .frame)) u) _ _
+    (c .before .before .before .before .before .on-sof-resume .ensures .0 _))
 
 pub after-on-sof-spec : {M : Type 1} → statement M
 after-on-sof-spec =

@@ -1,4 +1,4 @@
-use Rattle.irq_points.specs.StandsLaws.{then-on}
+use Rattle.irq_check.specs.StopsLaws.{goes-on}
 use Rattle.irq.specs.Laws.{after, when-no, when-yes}
 use Rattle.irq.specs.Continuations.{afterLate, afterSof}
 use Rattle.iso_in.specs.Late.{lateAll}
@@ -23,15 +23,12 @@ same-length c = search needs
 returns : tie.Need-returns
 unfolding afterSof
 returns c =
-    let the-then-late = c .before .before .then-late in
     let a = c .before .before .before .before .before .before .before .before .before .args in
     let the-begin = c .before .before .before .before .before .begin in
-    let the-if1 = c .before .before .before .before .before .before .before .if1 in (
-      then-on (the-then-late .ensures .0)
-          (after (a .setup) (λ _ u. run concrete (afterLate (a .x) (a .iso) (a .frame)) u) _ _ (the-begin .ensures .0 _)
-          ∙ when-yes (a .setup) (lateAll (a .frame)) (λ _ u. run concrete (afterLate (a .x) (a .iso) (a .frame)) u) _ _ (the-if1 .taken)),
-      the-then-late .ensures .1,
-    )
+    let the-if1 = c .before .before .before .before .before .before .before .if1 in
+    goes-on (c .before .before .then-late .ensures)
+    (after (a .setup) (λ _ u. run concrete (afterLate (a .x) (a .iso) (a .frame)) u) _ _ (the-begin .ensures .0 _)
+    ∙ when-yes (a .setup) (lateAll (a .frame)) (λ _ u. run concrete (afterLate (a .x) (a .iso) (a .frame)) u) _ _ (the-if1 .taken))
 
 after-late-requires : tie.Need-after-late-requires
 after-late-requires c κs = search needs
@@ -42,13 +39,10 @@ same-length-2 c = search needs
 returns-2 : tie.Need-returns-2
 unfolding afterSof
 returns-2 c =
-    let the-after-late = c .before .before .after-late in
     let a = c .before .before .before .before .before .before .before .args in
-    let the-if1 = c .before .before .before .before .before .if1 in (
-      then-on (the-after-late .ensures .0)
-          (when-no (a .setup) (lateAll (a .frame)) (λ _ u. run concrete (afterLate (a .x) (a .iso) (a .frame)) u) _ _ (the-if1 .left)),
-      the-after-late .ensures .1,
-    )
+    goes-on (c .before .before .after-late .ensures)
+    (when-no (a .setup) (lateAll (a .frame)) (λ _ u. run concrete (afterLate (a .x) (a .iso) (a .frame)) u) _ _
+    (c .before .before .before .before .before .if1 .left))
 
 pub after-sof-spec : {M : Type 1} → statement M
 after-sof-spec =

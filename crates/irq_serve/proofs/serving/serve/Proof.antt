@@ -1,4 +1,4 @@
-use Rattle.irq_points.specs.StandsLaws.{then-on}
+use Rattle.irq_check.specs.StopsLaws.{goes-on}
 use Rattle.irq.specs.Laws.{after, tells-of, when-no, when-yes}
 use Rattle.irq.specs.Continuations.{afterLate, afterSof, serving, sofDue}
 use Rattle.iso_in.specs.Late.{lateAll}
@@ -34,14 +34,10 @@ returns c =
     let the-load-globals = c .before .before .before .before .before .before .before .before .before .load-globals in
     let the-if1 = c .before .before .before .before .before .before .before .if1 in
     let a = c .before .before .before .before .before .before .before .before .before .before .before .before .args in
-    let the-then-sof = c .before .before .then-sof in (
-      then-on (the-then-sof .ensures .0)
-          (after (a .setup) (λ _ u. run concrete (afterSof (a .x) (a .iso) (a .frame)) u) _ _ (the-on-sof .ensures .0 _)
-          ∙ when-yes (a .setup) (onSof (a .frame)) (λ _ u. run concrete (afterSof (a .x) (a .iso) (a .frame)) u) _ _
-          (tells-of (λ (z : Globals). sofDue (a .x) (z .«sof_frame») (a .frame)) _ _ _ _
-          (the-sof-due .ensures) (the-load-globals .ensures) (the-if1 .taken))),
-      the-then-sof .ensures .1,
-    )
+    goes-on (c .before .before .then-sof .ensures)
+    (after (a .setup) (λ _ u. run concrete (afterSof (a .x) (a .iso) (a .frame)) u) _ _ (the-on-sof .ensures .0 _)
+    ∙ when-yes (a .setup) (onSof (a .frame)) (λ _ u. run concrete (afterSof (a .x) (a .iso) (a .frame)) u) _ _
+    (tells-of (λ (z : Globals). sofDue (a .x) (z .«sof_frame») (a .frame)) _ _ _ _ (the-sof-due .ensures) (the-load-globals .ensures) (the-if1 .taken)))
 
 begin-requires : tie.Need-begin-requires
 begin-requires c κs = search needs
@@ -61,15 +57,11 @@ returns-2 c =
     let the-load-globals = c .before .before .before .before .before .before .before .before .before .before .load-globals in
     let the-if1 = c .before .before .before .before .before .before .before .before .if1 in
     let a = c .before .before .before .before .before .before .before .before .before .before .before .before .before .args in
-    let the-then-late = c .before .before .then-late in (
-      then-on (the-then-late .ensures .0)
-          (after (a .setup) (λ _ u. run concrete (afterLate (a .x) (a .iso) (a .frame)) u) _ _ (the-begin .ensures .0 _)
-          ∙ (when-yes (a .setup) (lateAll (a .frame)) (λ _ u. run concrete (afterLate (a .x) (a .iso) (a .frame)) u) _ _ (the-if2 .taken)
-          ∙ when-no (a .setup) (onSof (a .frame)) (λ _ u. run concrete (afterSof (a .x) (a .iso) (a .frame)) u) _ _
-          (tells-of (λ (z : Globals). sofDue (a .x) (z .«sof_frame») (a .frame)) _ _ _ _
-          (the-sof-due .ensures) (the-load-globals .ensures) (the-if1 .left)))),
-      the-then-late .ensures .1,
-    )
+    goes-on (c .before .before .then-late .ensures)
+    (after (a .setup) (λ _ u. run concrete (afterLate (a .x) (a .iso) (a .frame)) u) _ _ (the-begin .ensures .0 _)
+    ∙ (when-yes (a .setup) (lateAll (a .frame)) (λ _ u. run concrete (afterLate (a .x) (a .iso) (a .frame)) u) _ _ (the-if2 .taken)
+    ∙ when-no (a .setup) (onSof (a .frame)) (λ _ u. run concrete (afterSof (a .x) (a .iso) (a .frame)) u) _ _
+    (tells-of (λ (z : Globals). sofDue (a .x) (z .«sof_frame») (a .frame)) _ _ _ _ (the-sof-due .ensures) (the-load-globals .ensures) (the-if1 .left))))
 
 after-late-requires : tie.Need-after-late-requires
 after-late-requires c κs = search needs
@@ -85,14 +77,10 @@ returns-3 c =
     let the-load-globals = c .before .before .before .before .before .before .before .before .load-globals in
     let the-if1 = c .before .before .before .before .before .before .if1 in
     let a = c .before .before .before .before .before .before .before .before .before .before .before .args in
-    let the-after-late = c .before .before .after-late in (
-      then-on (the-after-late .ensures .0)
-          (when-no (a .setup) (lateAll (a .frame)) (λ _ u. run concrete (afterLate (a .x) (a .iso) (a .frame)) u) _ _ (the-if2 .left)
-          ∙ when-no (a .setup) (onSof (a .frame)) (λ _ u. run concrete (afterSof (a .x) (a .iso) (a .frame)) u) _ _
-          (tells-of (λ (z : Globals). sofDue (a .x) (z .«sof_frame») (a .frame)) _ _ _ _
-          (the-sof-due .ensures) (the-load-globals .ensures) (the-if1 .left))),
-      the-after-late .ensures .1,
-    )
+    goes-on (c .before .before .after-late .ensures)
+    (when-no (a .setup) (lateAll (a .frame)) (λ _ u. run concrete (afterLate (a .x) (a .iso) (a .frame)) u) _ _ (the-if2 .left)
+    ∙ when-no (a .setup) (onSof (a .frame)) (λ _ u. run concrete (afterSof (a .x) (a .iso) (a .frame)) u) _ _
+    (tells-of (λ (z : Globals). sofDue (a .x) (z .«sof_frame») (a .frame)) _ _ _ _ (the-sof-due .ensures) (the-load-globals .ensures) (the-if1 .left)))
 
 pub serve-spec : {M : Type 1} → statement M
 serve-spec =

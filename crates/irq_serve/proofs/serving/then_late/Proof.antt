@@ -1,8 +1,6 @@
-use Rattle.irq_points.specs.StandsLaws.{stops-at, stored-at, then-on}
-use Rattle.irq.specs.Laws.{late-asks, late-ends, late-linked}
-use Rattle.irq.specs.Continuations.{afterLate}
-use Rattle.model_ops.specs.Concrete.{concrete}
-use Rattle.model.specs.Script.{run}
+use mathlib.Core.Path.{subst}
+use Rattle.iso_in.specs.Late as late
+use Rattle.irq_check.specs.StopsLaws.{pauses-at, goes-on}
 use borrow.Author.Needs.{needs}
 use Rattle.irq_serve.proofs.serving.then_late.Statement.{statement}
 use Rattle.irq_serve.proofs.serving.then_late.Tie as tie
@@ -21,35 +19,14 @@ after-late-requires c κs = search needs
 
 returns : tie.Need-returns
 returns c =
-    let the-stand-late = c .stand-late in
-    let the-n = c .before .before .before .n in
-    let a = c .before .before .before .before .before .before .args in (
-      stops-at (the-stand-late .ensures) (late-linked _ _ _ (the-n .given .1) ((c .before .before .before .before .before .before .pre))) _
-          (late-asks (a .setup) (λ _ u. run concrete (afterLate (a .x) (a .iso) (a .frame)) u) _ _ _ (a .frame) _ _ (the-n .given .1)),
-      stored-at (the-stand-late .ensures),
-    )
+    pauses-at (c .stand-late .ensures) (subst late.Linked (c .before .before .before .n .given .1) (c .before .before .before .before .before .before .pre))
+    (simp (c .before .before .before .n .given .1))
 
 same-length : tie.Need-same-length
 same-length c = search needs
 
 returns-2 : tie.Need-returns-2
-returns-2 c =
-    let the-after-late = c .before .before .after-late in
-    let a = c .before .before .before .before .before .before .before .before .args in
-    let the-enum-told = c .before .before .before .before .before .enum-told in (
-      then-on (the-after-late .ensures .0)
-          (late-ends (a .setup) (λ _ u. run concrete (afterLate (a .x) (a .iso) (a .frame)) u) _ _ (a .frame) _ (the-enum-told .given .1)),
-      the-after-late .ensures .1,
-    )
+returns-2 c = goes-on (c .before .before .after-late .ensures) (simp (c .before .before .before .before .before .enum-told .given .1))
 
 pub then-late-spec : {M : Type 1} → statement M
-then-late-spec =
-    tie.close
-    (tie.spec
-    enum-known-n
-    stand-late-requires
-    enum-told
-    after-late-requires
-    returns
-    same-length
-    returns-2)
+then-late-spec = tie.close (tie.spec enum-known-n stand-late-requires enum-told after-late-requires returns same-length returns-2)

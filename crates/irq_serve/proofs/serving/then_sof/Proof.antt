@@ -1,8 +1,6 @@
-use Rattle.irq_points.specs.StandsLaws.{stops-at, stored-at, then-on}
-use Rattle.irq.specs.Laws.{sof-asks, sof-ends, sof-linked}
-use Rattle.irq.specs.Continuations.{afterSof}
-use Rattle.model_ops.specs.Concrete.{concrete}
-use Rattle.model.specs.Script.{run}
+use mathlib.Core.Path.{subst}
+use Rattle.iso_in.specs.Sof as sof
+use Rattle.irq_check.specs.StopsLaws.{pauses-at, goes-on}
 use borrow.Author.Needs.{needs}
 use Rattle.irq_serve.proofs.serving.then_sof.Statement.{statement}
 use Rattle.irq_serve.proofs.serving.then_sof.Tie as tie
@@ -21,35 +19,14 @@ after-sof-requires c κs = search needs
 
 returns : tie.Need-returns
 returns c =
-    let the-stand-sof = c .stand-sof in
-    let the-n = c .before .before .before .n in
-    let a = c .before .before .before .before .before .before .args in (
-      stops-at (the-stand-sof .ensures) (sof-linked _ _ _ (the-n .given .1) ((c .before .before .before .before .before .before .pre))) _
-          (sof-asks (a .setup) (λ _ u. run concrete (afterSof (a .x) (a .iso) (a .frame)) u) _ _ _ (a .frame) _ _ (the-n .given .1)),
-      stored-at (the-stand-sof .ensures),
-    )
+    pauses-at (c .stand-sof .ensures) (subst sof.Linked (c .before .before .before .n .given .1) (c .before .before .before .before .before .before .pre))
+    (simp (c .before .before .before .n .given .1))
 
 same-length : tie.Need-same-length
 same-length c = search needs
 
 returns-2 : tie.Need-returns-2
-returns-2 c =
-    let the-after-sof = c .before .before .after-sof in
-    let a = c .before .before .before .before .before .before .before .before .args in
-    let the-enum-told = c .before .before .before .before .before .enum-told in (
-      then-on (the-after-sof .ensures .0)
-          (sof-ends (a .setup) (λ _ u. run concrete (afterSof (a .x) (a .iso) (a .frame)) u) _ _ (a .frame) _ (the-enum-told .given .1)),
-      the-after-sof .ensures .1,
-    )
+returns-2 c = goes-on (c .before .before .after-sof .ensures) (simp (c .before .before .before .before .before .enum-told .given .1))
 
 pub then-sof-spec : {M : Type 1} → statement M
-then-sof-spec =
-    tie.close
-    (tie.spec
-    enum-known-n
-    stand-sof-requires
-    enum-told
-    after-sof-requires
-    returns
-    same-length
-    returns-2)
+then-sof-spec = tie.close (tie.spec enum-known-n stand-sof-requires enum-told after-sof-requires returns same-length returns-2)

@@ -1,4 +1,6 @@
 use mathlib.Core.Path.{refl}
+use mathlib.Core.Bool.{true, false}
+use Rattle.irq_transfer.specs.Laws.{nak-in}
 use borrow.Author.Needs.{needs}
 use Rattle.irq_transfer.proofs.nak.nak_non_iso.Statement.{statement}
 use Rattle.irq_transfer.proofs.nak.nak_non_iso.Tie as tie
@@ -32,32 +34,20 @@ in-naks-requires : tie.Need-in-naks-requires
 in-naks-requires c κs = search needs
 
 returns-2 : tie.Need-returns-2
-returns-2 c = (
-  λ b. simp (
-    ← c .before .before .before .before .before .before .endpoint .ensures,
-    ← c .before .before .before .before .before .load-ep .ensures,
-    ← c .before .before .load-ep2 .ensures,
-    ← c .before .before .before .before .out-naks .ensures,
-    c .before .before .before .if1 .left,
-    ← c .before .in-naks .ensures,
-    c .if2 .taken,
-  ),
-  refl,
-)
+returns-2 c =
+    let at = c .before .before .before .before in (
+      λ b. nak-in _ _ b _ _ _ _ _ true (at .before .before .endpoint .ensures) (at .before .load-ep .ensures) (at .out-naks .ensures)
+          (c .before .before .before .if1 .left) (c .before .before .load-ep2 .ensures) (c .before .in-naks .ensures) (c .if2 .taken),
+      refl,
+    )
 
 returns-3 : tie.Need-returns-3
-returns-3 c = (
-  λ b. simp (
-    ← c .before .before .before .before .before .before .endpoint .ensures,
-    ← c .before .before .before .before .before .load-ep .ensures,
-    ← c .before .before .load-ep2 .ensures,
-    ← c .before .before .before .before .out-naks .ensures,
-    c .before .before .before .if1 .left,
-    ← c .before .in-naks .ensures,
-    c .if2 .left,
-  ),
-  tt,
-)
+returns-3 c =
+    let at = c .before .before .before .before in (
+      λ b. nak-in _ _ b _ _ _ _ _ false (at .before .before .endpoint .ensures) (at .before .load-ep .ensures) (at .out-naks .ensures)
+          (c .before .before .before .if1 .left) (c .before .before .load-ep2 .ensures) (c .before .in-naks .ensures) (c .if2 .left),
+      tt,
+    )
 
 pub nak-non-iso-spec : {M : Type 1} → statement M
 nak-non-iso-spec =

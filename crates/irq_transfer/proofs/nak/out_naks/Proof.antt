@@ -21,26 +21,20 @@ tog-ok-requires c κs = search needs
 
 returns-2 : tie.Need-returns-2
 unfolding outNaks
-returns-2 c = simp (
-  ← c .tog-ok .ensures,
-  ← c .before .before .endpoint .ensures,
-  eq-eqb _ _ (c .before .if2 .taken),
-  ← c .before .before .before .before .is-out .ensures,
-  not-false (c .before .before .before .before .is-out .result) (c .before .before .before .if1 .left),
-)
+returns-2 c =
+    let at = c .before .before .before in
+    let o = at .before .is-out in
+    simp (← c .tog-ok .ensures, ← c .before .before .endpoint .ensures, eq-eqb _ _ (c .before .if2 .taken), ← o .ensures, not-false (o .result) (at .if1 .left))
 
 is-on-requires : tie.Need-is-on-requires
 is-on-requires c κs = search needs
 
 returns-3 : tie.Need-returns-3
 unfolding outNaks
-returns-3 c = simp (
-  ← c .is-on .ensures,
-  ← c .before .before .endpoint .ensures,
-  ne-eqb _ _ (c .before .if2 .left),
-  ← c .before .before .before .before .is-out .ensures,
-  not-false (c .before .before .before .before .is-out .result) (c .before .before .before .if1 .left),
-)
+returns-3 c =
+    let at = c .before .before .before in
+    let o = at .before .is-out in
+    simp (← c .is-on .ensures, ← c .before .before .endpoint .ensures, ne-eqb _ _ (c .before .if2 .left), ← o .ensures, not-false (o .result) (at .if1 .left))
 
 pub out-naks-spec : {M : Type 1} → statement M
 out-naks-spec =

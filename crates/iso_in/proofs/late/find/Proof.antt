@@ -44,21 +44,19 @@ loop-less c = rest-less (c .before .before .before .before .before .before .loop
     (c .before .before .before .before .before .before .loop .inv .0) (c .before .before .before .rest-of .ensures)
 
 loop-again : tie.Need-loop-again Inv-loop μ-loop
-loop-again c =
-    let h = rest-less (c .before .before .before .before .before .before .loop .eps) _ (omega arith)
-    (c .before .before .before .before .before .before .loop .inv .0) (c .before .before .before .rest-of .ensures) in (
-      omega (arith, h, c .before .before .before .before .before .before .loop .inv .0),
-      (
-        λ b. sym (late-step (c .before .before .before .before .before .before .before .args .frame)
-            (c .before .before .before .before .before .before .loop .eps) _ _
-            (view (c .before .before .before .before .before .before .loop .s)) _ b _ false
-            (omega arith) (c .before .before .before .before .before .before .loop .inv .0)
-            (c .before .before .before .before .next-endpoint .ensures) (c .before .before .before .rest-of .ensures)
-            (c .before .first-in-frame .ensures .1 .0) (c .before .first-in-frame .ensures .0) (c .if1 .left))
-            ∙ c .before .before .before .before .before .before .loop .inv .1 .0 b,
-        c .before .first-in-frame .ensures .1 .1 ∙ c .before .before .before .before .before .before .loop .inv .1 .1,
-      ),
-    )
+loop-again c = (
+  omega (arith, loop-less c, c .before .before .before .before .before .before .loop .inv .0),
+  (
+    λ b. sym (late-step (c .before .before .before .before .before .before .before .args .frame)
+        (c .before .before .before .before .before .before .loop .eps) _ _
+        (view (c .before .before .before .before .before .before .loop .s)) _ b _ false
+        (omega arith) (c .before .before .before .before .before .before .loop .inv .0)
+        (c .before .before .before .before .next-endpoint .ensures) (c .before .before .before .rest-of .ensures)
+        (c .before .first-in-frame .ensures .1 .0) (c .before .first-in-frame .ensures .0) (c .if1 .left))
+        ∙ c .before .before .before .before .before .before .loop .inv .1 .0 b,
+    c .before .first-in-frame .ensures .1 .1 ∙ c .before .before .before .before .before .before .loop .inv .1 .1,
+  ),
+)
 
 returns-2 : tie.Need-returns-2 Inv-loop μ-loop
 returns-2 c = (

@@ -47,19 +47,17 @@ loop-less c = rest-less (c .before .before .before .before .before .before .loop
     (c .before .before .before .before .before .before .loop .inv .0) (c .before .before .before .rest-of .ensures)
 
 loop-again : tie.Need-loop-again Inv-loop μ-loop
-loop-again c =
-    let h = rest-less (c .before .before .before .before .before .before .loop .eps) _ (omega arith)
-    (c .before .before .before .before .before .before .loop .inv .0) (c .before .before .before .rest-of .ensures) in (
-      omega (arith, h, c .before .before .before .before .before .before .loop .inv .0),
-      λ b. sym (sof-step (c .before .before .before .before .before .before .before .args .frame)
-          (c .before .before .before .before .before .before .loop .eps) _ _ (
-            view (c .before .before .before .before .before .before .before .args .s .now),
-            b,
-          ) _ _ true (omega arith) (c .before .before .before .before .before .before .loop .inv .0)
-          (c .before .before .before .before .next-endpoint .ensures) (c .before .before .before .rest-of .ensures)
-          (c .before .before .load-ep .ensures) (c .before .in-previous .ensures) (not-false (c .before .in-previous .result) (c .if1 .left)))
-          ∙ c .before .before .before .before .before .before .loop .inv .1 b,
-    )
+loop-again c = (
+  omega (arith, loop-less c, c .before .before .before .before .before .before .loop .inv .0),
+  λ b. sym (sof-step (c .before .before .before .before .before .before .before .args .frame)
+      (c .before .before .before .before .before .before .loop .eps) _ _ (
+        view (c .before .before .before .before .before .before .before .args .s .now),
+        b,
+      ) _ _ true (omega arith) (c .before .before .before .before .before .before .loop .inv .0)
+      (c .before .before .before .before .next-endpoint .ensures) (c .before .before .before .rest-of .ensures)
+      (c .before .before .load-ep .ensures) (c .before .in-previous .ensures) (not-false (c .before .in-previous .result) (c .if1 .left)))
+      ∙ c .before .before .before .before .before .before .loop .inv .1 b,
+)
 
 returns-2 : tie.Need-returns-2 Inv-loop μ-loop
 returns-2 c = λ b.

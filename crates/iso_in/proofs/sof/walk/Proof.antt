@@ -19,31 +19,19 @@ is-on-requires : tie.Need-is-on-requires
 is-on-requires c κs = search needs
 
 returns : tie.Need-returns
-returns c = (
-  λ b. simp (
-    ← c .before .before .before .before .before .find .ensures,
-    c .before .before .before .enum-told .given .1,
-    ← c .before .before .load-globals .ensures,
-    ← c .before .is-on .ensures,
-    c .if1 .taken,
-  ),
-  refl,
-)
+returns c =
+    let on = c .before in
+    let at = on .before .before in
+    (λ b. simp (← at .before .before .find .ensures, at .enum-told .given .1, ← on .before .load-globals .ensures, ← on .is-on .ensures, c .if1 .taken), refl)
 
 returns-2 : tie.Need-returns-2
 returns-2 c = (λ b. simp (← c .before .before .before .find .ensures, c .before .f .given .1), refl)
 
 returns-3 : tie.Need-returns-3
-returns-3 c = (
-  λ b. simp (
-    ← c .before .before .before .before .before .find .ensures,
-    c .before .before .before .enum-told .given .1,
-    ← c .before .before .load-globals .ensures,
-    ← c .before .is-on .ensures,
-    c .if1 .left,
-  ),
-  tt,
-)
+returns-3 c =
+    let on = c .before in
+    let at = on .before .before in
+    (λ b. simp (← at .before .before .find .ensures, at .enum-told .given .1, ← on .before .load-globals .ensures, ← on .is-on .ensures, c .if1 .left), tt)
 
 pub walk-spec : {M : Type 1} → statement M
 walk-spec = tie.close (tie.spec find-requires enum-known-f enum-told load-globals-requires is-on-requires returns returns-2 returns-3)

@@ -36,9 +36,8 @@ returns : tie.Need-returns
 returns c =
     let a = c .before .before .before .before .before .before .before .args in
     let the-pass = c .before .before .before .pass in
-    let l = lent (now (a .s)) (now (a .slots)) (now (a .time)) in
     let m = lent (the-pass .last .0) (now (a .slots)) (now (a .time)) in
-    released _ (a .driver) (a .mis) (a .st) (a .len) (the-pass .result) l m (the-pass .ensures (a .driver) (now (a .time)))
+    released _ (a .driver) (a .mis) (a .st) (a .len) (the-pass .result) _ m (the-pass .ensures (a .driver) (now (a .time)))
     (c .before .enum-told .given .1) (c .release-word .ensures)
 
 same-length-2 : tie.Need-same-length-2
@@ -48,9 +47,8 @@ returns-2 : tie.Need-returns-2
 returns-2 c =
     let a = c .before .before .before .before .before .before .before .before .args in
     let the-pass = c .before .before .before .before .pass in
-    let l = lent (now (a .s)) (now (a .slots)) (now (a .time)) in
     let m = lent (the-pass .last .0) (now (a .slots)) (now (a .time)) in
-    naks _ (a .driver) (a .mis) (a .st) (a .len) (the-pass .result) l m (the-pass .ensures (a .driver) (now (a .time)))
+    naks _ (a .driver) (a .mis) (a .st) (a .len) (the-pass .result) _ m (the-pass .ensures (a .driver) (now (a .time)))
     _ (c .before .before .n .given .1) (c .nak-word .ensures)
 
 same-length-3 : tie.Need-same-length-3
@@ -64,9 +62,8 @@ returns-3 c =
     let at-entry = at-pass .before .before .before .before in
     let a = at-entry .args in
     let the-pass = at-pass .pass in
-    let l = lent (now (a .s)) (now (a .slots)) (now (a .time)) in
     let m = lent (the-pass .last .0) (now (a .slots)) (now (a .time)) in
-    gone-on _ (a .driver) (a .mis) (a .st) (a .len) (the-pass .result) l m (the-pass .ensures (a .driver) (now (a .time)))
+    gone-on _ (a .driver) (a .mis) (a .st) (a .len) (the-pass .result) _ m (the-pass .ensures (a .driver) (now (a .time)))
     (at-enum-told2 .enum-told2 .given .1) _ (lent _ _ _) (lent _ _ _)
     (continued _ (a .driver) (a .mis) m (lent _ _ _) (at-usbhs-continue .usbhs-continue .ensures)) (c .before .before .bring .ensures)
 

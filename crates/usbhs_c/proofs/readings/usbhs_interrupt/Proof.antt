@@ -36,9 +36,8 @@ returns : tie.Need-returns
 returns c =
     let a = c .before .before .before .before .before .before .before .args in
     let the-enter = c .before .before .before .enter in
-    let l = lent (now (a .s)) (now (a .slots)) (now (a .time)) in
     let m = lent (the-enter .last .0) (now (a .slots)) (now (a .time)) in
-    at-transfer _ (a .driver) (a .frame) (a .flags) (the-enter .result) l m (the-enter .ensures (a .driver) (now (a .time)))
+    at-transfer _ (a .driver) (a .frame) (a .flags) (the-enter .result) _ m (the-enter .ensures (a .driver) (now (a .time)))
     (c .before .enum-told .given .1) (c .mis-word .ensures)
 
 same-length-2 : tie.Need-same-length-2
@@ -51,9 +50,8 @@ returns-2 c =
     let at-entry = at-enter .before .before .before .before in
     let a = at-entry .args in
     let the-enter = at-enter .enter in
-    let l = lent (now (a .s)) (now (a .slots)) (now (a .time)) in
     let m = lent (the-enter .last .0) (now (a .slots)) (now (a .time)) in
-    at-flags _ (a .driver) (a .frame) (a .flags) (the-enter .result) l m (the-enter .ensures (a .driver) (now (a .time)))
+    at-flags _ (a .driver) (a .frame) (a .flags) (the-enter .result) _ m (the-enter .ensures (a .driver) (now (a .time)))
     (at-enum-told2 .enum-told2 .given .1) (lent _ _ _) (continued _ (a .driver) (a .flags) m (lent _ _ _) (c .before .before .usbhs-continue .ensures))
 
 same-length-3 : tie.Need-same-length-3
@@ -67,10 +65,9 @@ returns-3 c =
     let at-entry = at-enter .before .before .before .before in
     let a = at-entry .args in
     let the-enter = at-enter .enter in
-    let l = lent (now (a .s)) (now (a .slots)) (now (a .time)) in
     let m = lent (the-enter .last .0) (now (a .slots)) (now (a .time)) in
     let the-begin = at-usbhs-begin-interrupt .usbhs-begin-interrupt in
-    begun _ (a .driver) (a .frame) (a .flags) (the-enter .result) l m (the-enter .ensures (a .driver) (now (a .time)))
+    begun _ (a .driver) (a .frame) (a .flags) (the-enter .result) _ m (the-enter .ensures (a .driver) (now (a .time)))
     (at-enum-told3 .enum-told3 .given .1) _ (the-begin .last .0) (lent _ _ _) (the-begin .ensures) (c .before .before .bring .ensures)
 
 pub usbhs-interrupt-spec : {M : Type 1} → statement M

@@ -1,6 +1,7 @@
 use Rattle.usbhs_c.specs.Setup.{NoSlice}
 use Rattle.usbhs_c.specs.SetupLaws.{take-nil, drop-nil}
 use mathlib.Core.Path.{_∙_, subst}
+use Rattle.usbhs_c.proofs.Unshown.{bare-answer}
 use borrow.Author.Needs.{needs}
 use Rattle.usbhs_c.proofs.setup.setup_word.Statement.{statement}
 use Rattle.usbhs_c.proofs.setup.setup_word.Tie as tie
@@ -30,29 +31,8 @@ enum-known-step-3 c = search needs
 word-of-requires-3 : tie.Need-word-of-requires-3
 word-of-requires-3 c κs = search needs
 
-enum-known-step-4 : tie.Need-enum-known-step-4
-enum-known-step-4 c = search needs
-
 word-of-requires-4 : tie.Need-word-of-requires-4
 word-of-requires-4 c κs = search needs
-
-enum-known-step-5 : tie.Need-enum-known-step-5
-enum-known-step-5 c = search needs
-
-word-of-requires-5 : tie.Need-word-of-requires-5
-word-of-requires-5 c κs = search needs
-
-enum-known-step-6 : tie.Need-enum-known-step-6
-enum-known-step-6 c = search needs
-
-word-of-requires-6 : tie.Need-word-of-requires-6
-word-of-requires-6 c κs = search needs
-
-enum-told : tie.Need-enum-told
-enum-told c = search needs
-
-word-of-requires-7 : tie.Need-word-of-requires-7
-word-of-requires-7 c κs = search needs
 
 returns : tie.Need-returns
 returns c = (
@@ -70,16 +50,10 @@ returns-3 c = (
 )
 
 returns-4 : tie.Need-returns-4
-returns-4 c = ((_, c .word-of4 .ensures, λ d. simp (c .before .before .step4 .given .1)), λ d. simp (c .before .before .step4 .given .1))
-
-returns-5 : tie.Need-returns-5
-returns-5 c = ((_, c .word-of5 .ensures, λ d. simp (c .before .before .step5 .given .1)), λ d. simp (c .before .before .step5 .given .1))
-
-returns-6 : tie.Need-returns-6
-returns-6 c = ((_, c .word-of6 .ensures, λ d. simp (c .before .before .step6 .given .1)), λ d. simp (c .before .before .step6 .given .1))
-
-returns-7 : tie.Need-returns-7
-returns-7 c = ((_, c .word-of7 .ensures, λ d. simp (c .before .enum-told .given .1)), λ d. simp (c .before .enum-told .given .1))
+returns-4 c =
+    let a = c .before .before .args in
+    let b = bare-answer (a .step) (c .before .match .keys4) _ in
+    ((_, c .word-of4 .ensures, λ d. b d .same), λ d. b d .stays)
 
 pub setup-word-spec : {M : Type 1} → statement M
 setup-word-spec =
@@ -92,18 +66,8 @@ setup-word-spec =
     word-of-requires-2
     enum-known-step-3
     word-of-requires-3
-    enum-known-step-4
     word-of-requires-4
-    enum-known-step-5
-    word-of-requires-5
-    enum-known-step-6
-    word-of-requires-6
-    enum-told
-    word-of-requires-7
     returns
     returns-2
     returns-3
-    returns-4
-    returns-5
-    returns-6
-    returns-7)
+    returns-4)

@@ -1,66 +1,16 @@
 use borrow.Author.Needs.{needs}
 use Rattle.usbhs_c.proofs.stamp.stamp_by.Statement.{statement}
 use Rattle.usbhs_c.proofs.stamp.stamp_by.Tie as tie
-use Rattle.usbhs_c.proofs.stamp.stamp_by.Reads as reads
-use Rattle.usbhs_c.proofs.stamp.stamp_by.Lts as lts
+use Rattle.usbhs_c.proofs.Unshown.{unshown}
 
 enum-known-step : tie.Need-enum-known-step
 enum-known-step c = search needs
-
-enum-known-step-2 : tie.Need-enum-known-step-2
-enum-known-step-2 c = search needs
-
-enum-known-step-3 : tie.Need-enum-known-step-3
-enum-known-step-3 c = search needs
-
-enum-known-step-4 : tie.Need-enum-known-step-4
-enum-known-step-4 c = search needs
-
-enum-told : tie.Need-enum-told
-enum-told c = search needs
-
-enum-known-step-5 : tie.Need-enum-known-step-5
-enum-known-step-5 c = search needs
-
-enum-known-step-6 : tie.Need-enum-known-step-6
-enum-known-step-6 c = search needs
 
 returns : tie.Need-returns
 returns c b d = simp (c .before .step .given .1)
 
 returns-2 : tie.Need-returns-2
-returns-2 c b d = simp (c .before .step2 .given .1)
-
-returns-3 : tie.Need-returns-3
-returns-3 c b d = simp (c .before .step3 .given .1)
-
-returns-4 : tie.Need-returns-4
-returns-4 c b d = simp (c .before .step4 .given .1)
-
-returns-5 : tie.Need-returns-5
-returns-5 c b d = simp (c .enum-told .given .1)
-
-returns-6 : tie.Need-returns-6
-returns-6 c b d = simp (c .before .step5 .given .1)
-
-returns-7 : tie.Need-returns-7
-returns-7 c b d = simp (c .before .step6 .given .1)
+returns-2 c b d = unshown (c .before .args .step) (c .match .keys2) (c .before .args .old) b d
 
 pub stamp-by-spec : {M : Type 1} → statement M
-stamp-by-spec =
-    tie.close
-    (tie.spec
-    enum-known-step
-    enum-known-step-2
-    enum-known-step-3
-    enum-known-step-4
-    enum-told
-    enum-known-step-5
-    enum-known-step-6
-    returns
-    returns-2
-    returns-3
-    returns-4
-    returns-5
-    returns-6
-    returns-7)
+stamp-by-spec = tie.close (tie.spec enum-known-step returns returns-2)
