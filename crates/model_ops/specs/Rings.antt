@@ -10,7 +10,7 @@ use Rattle.regs.specs.declared.Dir.the-variants.{Out, In}
 use Rattle.regs.specs.Enables as enables
 use Rattle.state.specs.declared.EpState.{EpState}
 use Rattle.state.specs.declared.Globals.{Globals}
-use Rattle.state.specs.Ep.{resetOf}
+use Rattle.state.specs.Ep.{resetOf, withRing}
 use Rattle.state.specs.Kept.{withEpConfig, withEpType}
 use Rattle.state.specs.Fresh.{clearStamps, noStamps}
 use Rattle.state.specs.Driver.{Driver, epOn, withOn, lenOn, withLenOn, stampOn, withStampOn, withGlobals}
@@ -74,25 +74,7 @@ completeOn d e = withOn d In e (unloadedOf (completedOf (epOn d In e)))
 
 -- `EpState::reset`, the ring's part
 unfoldable pub emptied : EpState → EpState
-emptied r = record {
-  ready = r .ready;
-  len = r .len;
-  armed = r .armed;
-  iso = r .iso;
-  kind = r .kind;
-  base = r .base;
-  stride = r .stride;
-  slots = r .slots;
-  head = 0;
-  tail = 0;
-  loaded = 0;
-  overruns = r .overruns;
-  «last_frame» = r .«last_frame»;
-  «max_len» = r .«max_len»;
-  «armed_slot» = r .«armed_slot»;
-  tog = r .tog;
-  «open» = 0;
-}
+emptied r = withRing r 0 0 0 (r .overruns) (r .«armed_slot») 0
 
 unfoldable pub emptiedOn : Driver → Dir → ℕ → Driver
 emptiedOn d dir e = cond (isoOut d dir e) d (withOn d dir e (emptied (epOn d dir e)))

@@ -1,5 +1,5 @@
 -- What the state says of the driver: all but the suspended operation. Which record an endpoint has, and one record changed.
-use mathlib.Core.List.{List}
+use mathlib.Core.List.{List, []}
 use Prim.Native.Nat.{ℕ, _+_, _*_, _%_}
 use lib.ListN.{getD, set}
 use Rattle.regs.specs.declared.Dir.{Dir}
@@ -9,6 +9,7 @@ use Rattle.state.specs.declared.Allocator.{Allocator}
 use Rattle.state.specs.declared.Globals.{Globals}
 use Rattle.state.specs.declared.Request.{Request}
 use Rattle.state.specs.declared.Control.{Control}
+use Rattle.state.specs.Codec.{epOf, requestOf}
 use Rattle.state.specs.Wakes.{Wakes}
 
 -- `eps` and `requests`: OUT 0 to 15, then IN 0 to 15; `lens`: 16 for each of `eps`; `stamps`: 16 for each OUT endpoint, the microframe with
@@ -37,147 +38,67 @@ lenKey dir e i = key dir e * 16 + i % 16
 unfoldable pub stampKey : ℕ → ℕ → ℕ
 stampKey e i = e % 16 * 16 + i % 16
 
--- what a list answers past its end
+-- what a list answers past its end: a record of zeros
 abbrev pub noEp : EpState
-noEp = record {
-  ready = 0;
-  len = 0;
-  armed = 0;
-  iso = 0;
-  kind = 0;
-  base = 0;
-  stride = 0;
-  slots = 0;
-  head = 0;
-  tail = 0;
-  loaded = 0;
-  overruns = 0;
-  «last_frame» = 0;
-  «max_len» = 0;
-  «armed_slot» = 0;
-  tog = 0;
-  «open» = 0;
-}
+noEp = epOf []
 
 abbrev pub noRequest : Request
-noRequest = record { begun = 0; length = 0 }
+noRequest = requestOf []
+
+-- what it keeps for each endpoint, set anew
+abbrev pub withTables : Driver → List EpState → List ℕ → List ℕ → List ℕ → List Request → Driver
+withTables d eps lens stamps paced requests = record {
+  eps = eps;
+  lens = lens;
+  stamps = stamps;
+  globals = d .globals;
+  allocator = d .allocator;
+  paced = paced;
+  requests = requests;
+  control = d .control;
+  wakes = d .wakes;
+}
+
+-- what it keeps once
+abbrev pub withValues : Driver → Globals → Allocator → Control → Wakes → Driver
+withValues d globals allocator control wakes = record {
+  eps = d .eps;
+  lens = d .lens;
+  stamps = d .stamps;
+  globals = globals;
+  allocator = allocator;
+  paced = d .paced;
+  requests = d .requests;
+  control = control;
+  wakes = wakes;
+}
 
 abbrev pub withEps : Driver → List EpState → Driver
-withEps d x = record {
-  eps = x;
-  lens = d .lens;
-  stamps = d .stamps;
-  globals = d .globals;
-  allocator = d .allocator;
-  paced = d .paced;
-  requests = d .requests;
-  control = d .control;
-  wakes = d .wakes;
-}
+withEps d x = withTables d x (d .lens) (d .stamps) (d .paced) (d .requests)
 
 abbrev pub withLens : Driver → List ℕ → Driver
-withLens d x = record {
-  eps = d .eps;
-  lens = x;
-  stamps = d .stamps;
-  globals = d .globals;
-  allocator = d .allocator;
-  paced = d .paced;
-  requests = d .requests;
-  control = d .control;
-  wakes = d .wakes;
-}
+withLens d x = withTables d (d .eps) x (d .stamps) (d .paced) (d .requests)
 
 abbrev pub withStamps : Driver → List ℕ → Driver
-withStamps d x = record {
-  eps = d .eps;
-  lens = d .lens;
-  stamps = x;
-  globals = d .globals;
-  allocator = d .allocator;
-  paced = d .paced;
-  requests = d .requests;
-  control = d .control;
-  wakes = d .wakes;
-}
-
-abbrev pub withGlobals : Driver → Globals → Driver
-withGlobals d x = record {
-  eps = d .eps;
-  lens = d .lens;
-  stamps = d .stamps;
-  globals = x;
-  allocator = d .allocator;
-  paced = d .paced;
-  requests = d .requests;
-  control = d .control;
-  wakes = d .wakes;
-}
-
-abbrev pub withAllocator : Driver → Allocator → Driver
-withAllocator d x = record {
-  eps = d .eps;
-  lens = d .lens;
-  stamps = d .stamps;
-  globals = d .globals;
-  allocator = x;
-  paced = d .paced;
-  requests = d .requests;
-  control = d .control;
-  wakes = d .wakes;
-}
+withStamps d x = withTables d (d .eps) (d .lens) x (d .paced) (d .requests)
 
 abbrev pub withPaced : Driver → List ℕ → Driver
-withPaced d x = record {
-  eps = d .eps;
-  lens = d .lens;
-  stamps = d .stamps;
-  globals = d .globals;
-  allocator = d .allocator;
-  paced = x;
-  requests = d .requests;
-  control = d .control;
-  wakes = d .wakes;
-}
+withPaced d x = withTables d (d .eps) (d .lens) (d .stamps) x (d .requests)
 
 abbrev pub withRequests : Driver → List Request → Driver
-withRequests d x = record {
-  eps = d .eps;
-  lens = d .lens;
-  stamps = d .stamps;
-  globals = d .globals;
-  allocator = d .allocator;
-  paced = d .paced;
-  requests = x;
-  control = d .control;
-  wakes = d .wakes;
-}
+withRequests d x = withTables d (d .eps) (d .lens) (d .stamps) (d .paced) x
+
+abbrev pub withGlobals : Driver → Globals → Driver
+withGlobals d x = withValues d x (d .allocator) (d .control) (d .wakes)
+
+abbrev pub withAllocator : Driver → Allocator → Driver
+withAllocator d x = withValues d (d .globals) x (d .control) (d .wakes)
 
 abbrev pub withControl : Driver → Control → Driver
-withControl d x = record {
-  eps = d .eps;
-  lens = d .lens;
-  stamps = d .stamps;
-  globals = d .globals;
-  allocator = d .allocator;
-  paced = d .paced;
-  requests = d .requests;
-  control = x;
-  wakes = d .wakes;
-}
+withControl d x = withValues d (d .globals) (d .allocator) x (d .wakes)
 
 abbrev pub withWakes : Driver → Wakes → Driver
-withWakes d x = record {
-  eps = d .eps;
-  lens = d .lens;
-  stamps = d .stamps;
-  globals = d .globals;
-  allocator = d .allocator;
-  paced = d .paced;
-  requests = d .requests;
-  control = d .control;
-  wakes = x;
-}
+withWakes d x = withValues d (d .globals) (d .allocator) (d .control) x
 
 -- the record of endpoint e, any number, in a direction
 unfoldable pub epOn : Driver → Dir → ℕ → EpState

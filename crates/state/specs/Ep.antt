@@ -1,4 +1,4 @@
--- An endpoint's record: a new one, one that was reset, and how many packets wait in its ring.
+-- An endpoint's record: a new one, one that was reset, one with some fields set anew, and how many packets wait in its ring.
 use Prim.Native.Nat.{ℕ, _+_, _-_, _%_}
 use Rattle.state.specs.declared.EpState.{EpState}
 
@@ -44,6 +44,58 @@ resetOf s = record {
   «armed_slot» = s .«armed_slot»;
   tog = 0;
   «open» = 0;
+}
+
+-- what a transfer or a packet changes, set anew: the transfer, then the ring
+abbrev pub withMoves : EpState → (ready len armed frame tog : ℕ) → (head tail loaded overruns slot opened : ℕ) → EpState
+withMoves s ready len armed frame tog head tail loaded overruns slot opened = record {
+  ready = ready;
+  len = len;
+  armed = armed;
+  iso = s .iso;
+  kind = s .kind;
+  base = s .base;
+  stride = s .stride;
+  slots = s .slots;
+  head = head;
+  tail = tail;
+  loaded = loaded;
+  overruns = overruns;
+  «last_frame» = frame;
+  «max_len» = s .«max_len»;
+  «armed_slot» = slot;
+  tog = tog;
+  «open» = opened;
+}
+
+abbrev pub withTransfer : EpState → (ready len armed frame tog : ℕ) → EpState
+withTransfer s ready len armed frame tog =
+    withMoves s ready len armed frame tog (s .head) (s .tail) (s .loaded) (s .overruns) (s .«armed_slot») (s .«open»)
+
+abbrev pub withRing : EpState → (head tail loaded overruns slot opened : ℕ) → EpState
+withRing s head tail loaded overruns slot opened =
+    withMoves s (s .ready) (s .len) (s .armed) (s .«last_frame») (s .tog) head tail loaded overruns slot opened
+
+-- what an allocation gives, and the slot that stands for the armed one
+abbrev pub withPlace : EpState → (iso kind base stride slots maximum slot : ℕ) → EpState
+withPlace s iso kind base stride slots maximum slot = record {
+  ready = s .ready;
+  len = s .len;
+  armed = s .armed;
+  iso = iso;
+  kind = kind;
+  base = base;
+  stride = stride;
+  slots = slots;
+  head = s .head;
+  tail = s .tail;
+  loaded = s .loaded;
+  overruns = s .overruns;
+  «last_frame» = s .«last_frame»;
+  «max_len» = maximum;
+  «armed_slot» = slot;
+  tog = s .tog;
+  «open» = s .«open»;
 }
 
 -- head minus tail, wrapped in 8 bits
