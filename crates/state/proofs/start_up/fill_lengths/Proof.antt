@@ -43,10 +43,12 @@ loop-again : tie.Need-loop-again Inv-loop μ-loop
 loop-again c =
     let at = c .before .before .before .before .before .before .loop in
     let w = c .before .before .before .before .before .before .before .args in
-    let j = w .a + at .k in
-    (omega arith, one-filled lens-table (w .s .now) (w .v) (w .a) (at .k) j (at .s) _ refl
-    (ap view (c .put16 .ensures) ∙ view-lens (at .s) (c .before .before .before .sized-arg2 .given .0) j (w .v) (omega arith))
-    (ap saved (c .put16 .ensures) ∙ saved-off (at .s) (960 + j * 2) (digits 2 (w .v)) (omega arith)) (at .inv .1))
+    let j = w .a + at .k in (
+      omega arith,
+      one-filled lens-table (w .s .now) (w .v) (w .a) (at .k) j (at .s) _ refl
+          (ap view (c .put16 .ensures) ∙ view-lens (at .s) (c .before .before .before .sized-arg2 .given .0) j (w .v) (omega arith))
+          (ap saved (c .put16 .ensures) ∙ saved-off (at .s) (960 + j * 2) (digits 2 (w .v)) (omega arith)) (at .inv .1),
+    )
 
 returns : tie.Need-returns Inv-loop μ-loop
 returns c =

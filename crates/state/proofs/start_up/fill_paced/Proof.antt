@@ -39,10 +39,12 @@ loop-less c = search needs
 loop-again : tie.Need-loop-again Inv-loop μ-loop
 loop-again c =
     let at = c .before .before .before .before .before .before .loop in
-    let w = c .before .before .before .before .before .before .before .args .s .now in
-    (omega arith, one-filled paced-table w 0x1800 0 (at .k) (at .k) (at .s) _ (omega arith)
-    (ap view (c .put16 .ensures) ∙ view-paceds (at .s) (c .before .before .before .sized-arg2 .given .0) (at .k) 0x1800 (omega arith))
-    (ap saved (c .put16 .ensures) ∙ saved-off (at .s) (2551 + at .k * 2) (digits 2 0x1800) (omega arith)) (at .inv .1))
+    let w = c .before .before .before .before .before .before .before .args .s .now in (
+      omega arith,
+      one-filled paced-table w 0x1800 0 (at .k) (at .k) (at .s) _ (omega arith)
+          (ap view (c .put16 .ensures) ∙ view-paceds (at .s) (c .before .before .before .sized-arg2 .given .0) (at .k) 0x1800 (omega arith))
+          (ap saved (c .put16 .ensures) ∙ saved-off (at .s) (2551 + at .k * 2) (digits 2 0x1800) (omega arith)) (at .inv .1),
+    )
 
 returns : tie.Need-returns Inv-loop μ-loop
 returns c =

@@ -42,10 +42,12 @@ loop-again : tie.Need-loop-again Inv-loop μ-loop
 loop-again c =
     let at = c .before .before .before .before .before .before .loop in
     let w = c .before .before .before .before .before .before .before .args .s .now in
-    let e = c .write-request .ensures in
-    (omega arith, one-filled requests-table w noRequest 0 (at .k) (at .k) (at .s) _ (omega arith)
-    (ap view e ∙ view-requests (at .s) (c .before .before .before .sized-arg2 .given .0) (at .k) noRequest (omega arith))
-    (ap saved e ∙ saved-off (at .s) (2583 + at .k * 5) (bytes requestWidths (requestAs noRequest)) (omega arith)) (at .inv .1))
+    let e = c .write-request .ensures in (
+      omega arith,
+      one-filled requests-table w noRequest 0 (at .k) (at .k) (at .s) _ (omega arith)
+          (ap view e ∙ view-requests (at .s) (c .before .before .before .sized-arg2 .given .0) (at .k) noRequest (omega arith))
+          (ap saved e ∙ saved-off (at .s) (2583 + at .k * 5) (bytes requestWidths (requestAs noRequest)) (omega arith)) (at .inv .1),
+    )
 
 returns : tie.Need-returns Inv-loop μ-loop
 returns c =
