@@ -1,5 +1,5 @@
 -- Places of a list, filled one after the other; all of them filled. Assumes nothing.
-use mathlib.Core.Path.{_≡_, refl, sym, ap, _∙_}
+use mathlib.Core.Path.{_≡_, refl, sym, ap, subst, _∙_}
 use mathlib.Core.Logic.{⊎-elim}
 use mathlib.Core.List.{List, [], _∷_}
 use Prim.Native.Nat.{ℕ, zero, suc, _+_, _*_, _≤_, _<_}
@@ -117,6 +117,10 @@ module _ {A : Type 0} (t : Table A) (w : List ℕ) (v : A) where
             ∙ ap (t .anew (view w)) (filled-next (t .of (view w)) a k v),
         s ∙ h .1,
       )
+
+  -- all n places
+  pub all-filled : (a n k : ℕ) (xs : List ℕ) → Filled t w v a k xs → k ≡ n → Filled t w v a n xs
+  all-filled a n k xs h e = subst (λ (m : ℕ). Filled t w v a m xs) e h
 
 -- one endpoint's record more
 pub ep-filled : (w xs ys : List ℕ) (k : ℕ) (v : EpState) → length xs ≡ 2839 → k < 32 → ys ≡ puts xs (0 + k * 30) 0 (bytes epWidths (epAs v))

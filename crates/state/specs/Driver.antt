@@ -45,60 +45,46 @@ noEp = epOf []
 abbrev pub noRequest : Request
 noRequest = requestOf []
 
--- what it keeps for each endpoint, set anew
-abbrev pub withTables : Driver → List EpState → List ℕ → List ℕ → List ℕ → List Request → Driver
-withTables d eps lens stamps paced requests = record {
+-- a driver of its parts, in their order; then one with a part set anew
+abbrev pub driverOf : List EpState → List ℕ → List ℕ → Globals → Allocator → List ℕ → List Request → Control → Wakes → Driver
+driverOf eps lens stamps globals allocator paced requests control wakes = record {
   eps = eps;
   lens = lens;
   stamps = stamps;
-  globals = d .globals;
-  allocator = d .allocator;
-  paced = paced;
-  requests = requests;
-  control = d .control;
-  wakes = d .wakes;
-}
-
--- what it keeps once
-abbrev pub withValues : Driver → Globals → Allocator → Control → Wakes → Driver
-withValues d globals allocator control wakes = record {
-  eps = d .eps;
-  lens = d .lens;
-  stamps = d .stamps;
   globals = globals;
   allocator = allocator;
-  paced = d .paced;
-  requests = d .requests;
+  paced = paced;
+  requests = requests;
   control = control;
   wakes = wakes;
 }
 
 abbrev pub withEps : Driver → List EpState → Driver
-withEps d x = withTables d x (d .lens) (d .stamps) (d .paced) (d .requests)
+withEps d x = driverOf x (d .lens) (d .stamps) (d .globals) (d .allocator) (d .paced) (d .requests) (d .control) (d .wakes)
 
 abbrev pub withLens : Driver → List ℕ → Driver
-withLens d x = withTables d (d .eps) x (d .stamps) (d .paced) (d .requests)
+withLens d x = driverOf (d .eps) x (d .stamps) (d .globals) (d .allocator) (d .paced) (d .requests) (d .control) (d .wakes)
 
 abbrev pub withStamps : Driver → List ℕ → Driver
-withStamps d x = withTables d (d .eps) (d .lens) x (d .paced) (d .requests)
-
-abbrev pub withPaced : Driver → List ℕ → Driver
-withPaced d x = withTables d (d .eps) (d .lens) (d .stamps) x (d .requests)
-
-abbrev pub withRequests : Driver → List Request → Driver
-withRequests d x = withTables d (d .eps) (d .lens) (d .stamps) (d .paced) x
+withStamps d x = driverOf (d .eps) (d .lens) x (d .globals) (d .allocator) (d .paced) (d .requests) (d .control) (d .wakes)
 
 abbrev pub withGlobals : Driver → Globals → Driver
-withGlobals d x = withValues d x (d .allocator) (d .control) (d .wakes)
+withGlobals d x = driverOf (d .eps) (d .lens) (d .stamps) x (d .allocator) (d .paced) (d .requests) (d .control) (d .wakes)
 
 abbrev pub withAllocator : Driver → Allocator → Driver
-withAllocator d x = withValues d (d .globals) x (d .control) (d .wakes)
+withAllocator d x = driverOf (d .eps) (d .lens) (d .stamps) (d .globals) x (d .paced) (d .requests) (d .control) (d .wakes)
+
+abbrev pub withPaced : Driver → List ℕ → Driver
+withPaced d x = driverOf (d .eps) (d .lens) (d .stamps) (d .globals) (d .allocator) x (d .requests) (d .control) (d .wakes)
+
+abbrev pub withRequests : Driver → List Request → Driver
+withRequests d x = driverOf (d .eps) (d .lens) (d .stamps) (d .globals) (d .allocator) (d .paced) x (d .control) (d .wakes)
 
 abbrev pub withControl : Driver → Control → Driver
-withControl d x = withValues d (d .globals) (d .allocator) x (d .wakes)
+withControl d x = driverOf (d .eps) (d .lens) (d .stamps) (d .globals) (d .allocator) (d .paced) (d .requests) x (d .wakes)
 
 abbrev pub withWakes : Driver → Wakes → Driver
-withWakes d x = withValues d (d .globals) (d .allocator) (d .control) x
+withWakes d x = driverOf (d .eps) (d .lens) (d .stamps) (d .globals) (d .allocator) (d .paced) (d .requests) (d .control) x
 
 -- the record of endpoint e, any number, in a direction
 unfoldable pub epOn : Driver → Dir → ℕ → EpState

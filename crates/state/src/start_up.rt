@@ -33,25 +33,10 @@ ghost use Rattle.state.specs.Fresh.{filled, freshDriver, freshGlobals, f
 fn no_ep() -> EpState
     ensures { λ r. ⌜ r ≡ noEp ⌝ }
 {
-    EpState {
-        ready: 0,
-        len: 0,
-        armed: 0,
-        iso: 0,
-        kind: 0,
-        base: 0,
-        stride: 0,
-        slots: 0,
-        head: 0,
-        tail: 0,
-        loaded: 0,
-        overruns: 0,
-        last_frame: 0,
-        max_len: 0,
-        armed_slot: 0,
-        tog: 0,
-        open: 0,
-    }
+    let mut r = EpState::NEW;
+    r.slots = 0;
+    r.last_frame = 0;
+    r
 }
 
 fn clear_eps(s: &mut [u8; STATE_LEN])

@@ -5,7 +5,7 @@ use Rattle.le_bytes.specs.Bytes.{puts, bytes}
 use Rattle.state.specs.declared.EpState.{EpState}
 use Rattle.state.specs.Codec.{epWidths, epAs}
 use Rattle.state.specs.Driver.{noEp}
-use Rattle.state.proofs.Filling.{eps-table, Filled, none-filled, ep-filled}
+use Rattle.state.proofs.Filling.{eps-table, Filled, none-filled, ep-filled, all-filled}
 use borrow.Author.Needs.{needs}
 use Rattle.state.proofs.start_up.clear_eps.Statement.{statement}
 use Rattle.state.proofs.start_up.clear_eps.Tie as tie
@@ -48,10 +48,7 @@ loop-again c =
     (omega arith, ep-filled w (at .s) _ (at .k) noEp (c .before .before .before .before .sized-arg2 .given .0) (omega arith) e (at .inv .1))
 
 returns : tie.Need-returns Inv-loop μ-loop
-returns c =
-    let at = c .before .loop in
-    let e : at .k ≡ 32 = omega arith in
-    rw e at (at .inv .1)
+returns c = all-filled eps-table _ noEp 0 32 _ _ (c .before .loop .inv .1) (omega arith)
 
 pub clear-eps-spec : {M : Type 1} → statement M
 clear-eps-spec =

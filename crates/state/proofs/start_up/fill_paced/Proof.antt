@@ -4,7 +4,7 @@ use native.Mathlib.Omega.{arith}
 use Rattle.le_bytes.specs.Bytes.{digits}
 use Rattle.state.specs.State.{view, saved}
 use Rattle.state.proofs.Views.{view-paceds, saved-off}
-use Rattle.state.proofs.Filling.{paced-table, Filled, none-filled, one-filled}
+use Rattle.state.proofs.Filling.{paced-table, Filled, none-filled, one-filled, all-filled}
 use borrow.Author.Needs.{needs}
 use Rattle.state.proofs.start_up.fill_paced.Statement.{statement}
 use Rattle.state.proofs.start_up.fill_paced.Tie as tie
@@ -47,10 +47,7 @@ loop-again c =
     )
 
 returns : tie.Need-returns Inv-loop μ-loop
-returns c =
-    let at = c .before .loop in
-    let e : at .k ≡ 16 = omega arith in
-    rw e at (at .inv .1)
+returns c = all-filled paced-table _ 0x1800 0 16 _ _ (c .before .loop .inv .1) (omega arith)
 
 pub fill-paced-spec : {M : Type 1} → statement M
 fill-paced-spec =

@@ -6,7 +6,7 @@ use Rattle.state.specs.Codec.{requestWidths, requestAs}
 use Rattle.state.specs.Driver.{noRequest}
 use Rattle.state.specs.State.{view, saved}
 use Rattle.state.proofs.Views.{view-requests, saved-off}
-use Rattle.state.proofs.Filling.{requests-table, Filled, none-filled, one-filled}
+use Rattle.state.proofs.Filling.{requests-table, Filled, none-filled, one-filled, all-filled}
 use borrow.Author.Needs.{needs}
 use Rattle.state.proofs.start_up.fill_requests.Statement.{statement}
 use Rattle.state.proofs.start_up.fill_requests.Tie as tie
@@ -50,10 +50,7 @@ loop-again c =
     )
 
 returns : tie.Need-returns Inv-loop μ-loop
-returns c =
-    let at = c .before .loop in
-    let e : at .k ≡ 32 = omega arith in
-    rw e at (at .inv .1)
+returns c = all-filled requests-table _ noRequest 0 32 _ _ (c .before .loop .inv .1) (omega arith)
 
 pub fill-requests-spec : {M : Type 1} → statement M
 fill-requests-spec =

@@ -6,7 +6,7 @@ use Rattle.state.specs.declared.EpState.{EpState}
 use Rattle.state.specs.Codec.{epWidths, epAs}
 use Rattle.state.specs.Ep.{newEp}
 use Rattle.state.proofs.Views.{ep-there}
-use Rattle.state.proofs.Filling.{eps-table, Filled, none-filled, ep-filled, cleared-at, madeNew}
+use Rattle.state.proofs.Filling.{eps-table, Filled, none-filled, ep-filled, all-filled, cleared-at, madeNew}
 use borrow.Author.Needs.{needs}
 use Rattle.state.proofs.start_up.new_eps.Statement.{statement}
 use Rattle.state.proofs.start_up.new_eps.Tie as tie
@@ -59,10 +59,7 @@ loop-again c =
     (omega arith, ep-filled (start .args .s .now) (at .s) _ (at .k) newEp sized (omega arith) e (at .inv .1))
 
 returns : tie.Need-returns Inv-loop μ-loop
-returns c =
-    let at = c .before .loop in
-    let e : at .k ≡ 32 = omega arith in
-    rw e at (at .inv .1)
+returns c = all-filled eps-table _ newEp 0 32 _ _ (c .before .loop .inv .1) (omega arith)
 
 pub new-eps-spec : {M : Type 1} → statement M
 new-eps-spec =
