@@ -165,15 +165,15 @@ slotStep e k s =
     (armAt e k (cond (eqb k 15) (renewedOn (s .0) e) (s .0), s .1))
     (epOn (s .0) Out e .«armed_slot», s)
 
+-- a word with the bit of an isochronous OUT; of any other endpoint as it was
+abbrev pub switchedOn : Driver → ℕ → Bool → ℕ → ℕ
+switchedOn d e on w = cond (isOn (epOn d Out e .iso)) (enables.withOn w Out e on) w
+
 unfoldable pub typeStep : ℕ → Bool → Driver → ℕ × Driver
-typeStep e on d =
-    let v = cond (isOn (epOn d Out e .iso)) (enables.withOn (d .globals .«ep_type») Out e on) (d .globals .«ep_type») in
-    (v, withGlobals d (withEpType v (d .globals)))
+typeStep e on d = let v = switchedOn d e on (d .globals .«ep_type») in (v, withGlobals d (withEpType v (d .globals)))
 
 unfoldable pub configStep : ℕ → Bool → Driver → ℕ × Driver
-configStep e on d =
-    let v = cond (isOn (epOn d Out e .iso)) (enables.withOn (d .globals .«ep_config») Out e on) (d .globals .«ep_config») in
-    (v, withGlobals d (withEpConfig v (d .globals)))
+configStep e on d = let v = switchedOn d e on (d .globals .«ep_config») in (v, withGlobals d (withEpConfig v (d .globals)))
 
 abbrev pub switchStep : ℕ → Bool → ℕ → St → ℕ × St
 switchStep e on zero s = (configStep e on (s .0) .0, (configStep e on (s .0) .1, s .1))
