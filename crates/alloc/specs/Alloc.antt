@@ -103,13 +103,17 @@ abbrev pub dirBit : Dir → ℕ
 dirBit Out = 0
 dirBit In = 1
 
+-- a number, where it is free
+abbrev pub freeOf : Allocator → Bool → Dir → ℕ → Found
+freeOf a iso dir e = if (isFree a iso dir e) (Number e) Nothing
+
 -- the number of an address that is asked for: its direction is this one, it is 1 to 15 and free
 unfoldable pub askedOf : Allocator → Bool → ℕ → Dir → Found
 askedOf a iso address dir =
     if (eqb (address / 128) (dirBit dir))
     (if (eqb (address % 128) 0) Nothing
     (if (leb 16 (address % 128)) Nothing
-    (if (isFree a iso dir (address % 128)) (Number (address % 128)) Nothing)))
+    (freeOf a iso dir (address % 128))))
     Nothing
 
 -- the first free of `left` numbers from e on

@@ -1,7 +1,6 @@
 -- Laws on the definitions of Bytewise.antt
 use mathlib.Core.Path.{_≡_, refl, sym, ap, ap₂, _∙_}
 use mathlib.Core.Bool.{Bool, true, false, cond}
-use mathlib.Core.List.{List, [], _∷_}
 use Prim.Native.Nat.{ℕ, zero, suc, _+_, _*_, _/_, _%_, _^_, _<_}
 use native.Mathlib.Nat.{pow-suc, mul-comm, div-div-eq-div-mul}
 use native.Mathlib.Omega.{arith}

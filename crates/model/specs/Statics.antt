@@ -1,20 +1,18 @@
 -- The Rust's statics, as a script assigns them
-use mathlib.Core.Bool.{Bool, true, false, not, cond}
+use mathlib.Core.Bool.{Bool, true, false, not}
 use mathlib.Core.List.{[], _∷_}
-use Prim.Native.Nat.{ℕ, _+_, _-_, _*_, _/_, _%_}
+use Prim.Native.Nat.{ℕ, _-_}
 use lib.Dec.{eqb}
 use lib.Bits.{bitAnd}
-use Rattle.bits.specs.Bit.{isSet, withBit}
 use Rattle.regs.specs.declared.Reg.{Reg}
-use Rattle.regs.specs.declared.Reg.the-variants.{IntEn, EpType, EpConfig}
+use Rattle.regs.specs.declared.Reg.the-variants.{IntEn, EpType}
 use Rattle.regs.specs.declared.Dir.{Dir}
-use Rattle.regs.specs.declared.Dir.the-variants.{Out, In}
 use Rattle.regs.specs.Enables.{inEnabled, outEnabled}
 use Rattle.state.specs.declared.Globals.{Globals}
 use Rattle.state.specs.Wakes.{wakeCode, busCode, every-endpoint}
 use Rattle.state.specs.Kept.{withAssigned, withIntEn, withEpType}
-use Rattle.model.specs.Cells.{EpCore, globals-cell, ep-cell, paced-cell}
-use Rattle.model.specs.Script.{Script, ret, done, test, _>>=_, _>>_, read, write, get, put, act, when, waken}
+use Rattle.model.specs.Cells.{EpCore, globals-cell, ep-cell}
+use Rattle.model.specs.Script.{Script, _>>=_, _>>_, read, write, get, put, act, waken}
 use Rattle.frame.specs.Advance.{NO_FRAME}
 
 -- a flag in a byte

@@ -1,8 +1,8 @@
 -- One record stored: the view has it in place of the old one and is else as it was. What is loaded is the view's. Assumes nothing.
-use mathlib.Core.Path.{_≡_, refl, sym, ap, subst, _∙_}
+use mathlib.Core.Path.{_≡_, refl, ap, _∙_}
 use mathlib.Core.Bool.{Bool, true, false, cond, _||_}
 use mathlib.Core.Logic.{_⊎_, inl, inr, ⊎-elim}
-use mathlib.Core.List.{List, [], _∷_}
+use mathlib.Core.List.{List}
 use Prim.Native.Nat.{ℕ, _+_, _*_, _%_, _≤_, _<_}
 use native.Mathlib.Omega.{arith}
 use lib.Dec.{leb}
@@ -19,12 +19,12 @@ use Rattle.le_bytes.specs.Bytes.{gets, puts, number, digits, numbers, bytes, Ea
 use Rattle.state.specs.Codec.{epWidths, epAs, epOf, allocatorWidths, allocatorAs, allocatorOf, globalsWidths}
 use Rattle.state.specs.Codec.{globalsAs, globalsOf, requestWidths, requestAs, requestOf, controlWidths, controlAs}
 use Rattle.state.specs.Codec.{controlOf, savedWidths, savedAs, savedOf}
-use Rattle.state.specs.Wakes.{Wakes, withCount, withCodes}
+use Rattle.state.specs.Wakes.{withCount, withCodes}
 use Rattle.state.specs.Driver.{Driver, key, lenKey, stampKey, noEp, noRequest, withEps, withLens, withStamps}
 use Rattle.state.specs.Driver.{withPaced, withRequests, withGlobals, withAllocator, withControl, withWakes, epOn}
 use Rattle.state.specs.Driver.{withOn, lenOn, withLenOn, stampOn, withStampOn, pacedOn, withPacedOn, requestOn}
 use Rattle.state.specs.Driver.{withRequestOn}
-use Rattle.state.specs.State.{epIn, allocatorIn, globalsIn, wakesIn, requestIn, controlIn, savedIn, view, saved}
+use Rattle.state.specs.State.{epIn, allocatorIn, globalsIn, requestIn, controlIn, savedIn, view, saved}
 use Rattle.le_bytes.specs.Runs.{Same, puts-same, gets-same, gets-puts}
 use Rattle.le_bytes.specs.Numbers.{number-digits, numbers-bytes, each-eq}
 use Rattle.le_bytes.specs.Tables.{table}

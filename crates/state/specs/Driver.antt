@@ -2,6 +2,7 @@
 use mathlib.Core.List.{List, []}
 use Prim.Native.Nat.{ℕ, _+_, _*_, _%_}
 use lib.ListN.{getD, set}
+use Rattle.state.specs.Codec.{epOf, requestOf}
 use Rattle.regs.specs.declared.Dir.{Dir}
 use Rattle.regs.specs.declared.Dir.the-variants.{Out, In}
 use Rattle.state.specs.declared.EpState.{EpState}
@@ -9,7 +10,6 @@ use Rattle.state.specs.declared.Allocator.{Allocator}
 use Rattle.state.specs.declared.Globals.{Globals}
 use Rattle.state.specs.declared.Request.{Request}
 use Rattle.state.specs.declared.Control.{Control}
-use Rattle.state.specs.Codec.{epOf, requestOf}
 use Rattle.state.specs.Wakes.{Wakes}
 
 -- `eps` and `requests`: OUT 0 to 15, then IN 0 to 15; `lens`: 16 for each of `eps`; `stamps`: 16 for each OUT endpoint, the microframe with

@@ -183,30 +183,34 @@ fn fresh_control(s: &mut [u8; STATE_LEN])
     );
 }
 
+// No operation is under way.
+pub fn nothing() -> Saved
+    ensures { λ r. ⌜ r ≡ nothing ⌝ }
+{
+    Saved {
+        tag: 0,
+        sub: 0,
+        site: 0,
+        flag: 0,
+        busy: 0,
+        late: 0,
+        len_ok: 0,
+        st: 0,
+        now: 0,
+        ep: 0,
+        len: 0,
+        frame: 0,
+        eps: 0,
+        n: 0,
+        value: 0,
+    }
+}
+
 fn fresh_saved(s: &mut [u8; STATE_LEN])
     ensures { λ _. ⌜ view (now (s .exit)) ≡ view (now (s .entry)) ⌝ }
     ensures { λ _. ⌜ saved (now (s .exit)) ≡ nothing ⌝ }
 {
-    store_saved(
-        s,
-        Saved {
-            tag: 0,
-            sub: 0,
-            site: 0,
-            flag: 0,
-            busy: 0,
-            late: 0,
-            len_ok: 0,
-            st: 0,
-            now: 0,
-            ep: 0,
-            len: 0,
-            frame: 0,
-            eps: 0,
-            n: 0,
-            value: 0,
-        },
-    );
+    store_saved(s, nothing());
 }
 
 pub fn fresh(s: &mut [u8; STATE_LEN], size: u16, count: u16, callback: u8)
