@@ -26,7 +26,7 @@ use Rattle.state.specs.Driver.{withOn, lenOn, withLenOn, stampOn, withSt
 use Rattle.state.specs.Driver.{withRequestOn}
 use Rattle.state.specs.State.{epIn, allocatorIn, globalsIn, requestIn, controlIn, savedIn, view, saved}
 use Rattle.le_bytes.specs.Runs.{Same, puts-same, gets-same, gets-puts}
-use Rattle.le_bytes.specs.Numbers.{number-digits, numbers-bytes, each-eq}
+use Rattle.le_bytes.specs.Numbers.{Fit, number-digits, numbers-bytes, each-eq}
 use Rattle.le_bytes.specs.Tables.{table}
 use Rattle.le_bytes.specs.TablesLaws.{table-same, table-set, table-at}
 
@@ -97,8 +97,8 @@ saved-off xs o bs h = ap savedIn (gets-same xs (puts xs o 0 bs) 2817 22 (puts-sa
 
 -- numbers of the widths ws on their own, read back
 back : {A : Type 0} (xs : List ℕ) (of : List ℕ → A) (ws vs : List ℕ) (o : ℕ) (r : A) → o + length (bytes ws vs) ≤ length xs
-    → numbers ws (bytes ws vs) ≡ vs → of vs ≡ r → of (numbers ws (gets (puts xs o 0 (bytes ws vs)) o 0 (length (bytes ws vs)))) ≡ r
-back xs of ws vs o r h p q = ap (λ (b : List ℕ). of (numbers ws b)) (gets-puts xs o (bytes ws vs) h) ∙ ap of p ∙ q
+    → Fit ws vs → of vs ≡ r → of (numbers ws (gets (puts xs o 0 (bytes ws vs)) o 0 (length (bytes ws vs)))) ≡ r
+back xs of ws vs o r h f q = ap (λ (b : List ℕ). of (numbers ws b)) (gets-puts xs o (bytes ws vs) h) ∙ ap of (numbers-bytes ws vs f) ∙ q
 
 module _ (xs : List ℕ) (sized : length xs ≡ 2839) where
   pub view-eps : (k : ℕ) (r : EpState) → k < 32 → view (puts xs (0 + k * 30) 0 (bytes epWidths (epAs r))) ≡ withEps (view xs) (set (view xs .eps) k r)
@@ -124,13 +124,13 @@ module _ (xs : List ℕ) (sized : length xs ≡ 2839) where
   unfolding view
   view-globals r =
       stored xs 2496 (bytes globalsWidths (globalsAs r)) 2496 2533 (omega arith) (omega arith)
-      ∙ ap (withGlobals (view xs)) (back xs globalsOf globalsWidths (globalsAs r) 2496 r (omega arith) (numbers-bytes globalsWidths (globalsAs r) tt) refl)
+      ∙ ap (withGlobals (view xs)) (back xs globalsOf globalsWidths (globalsAs r) 2496 r (omega arith) tt refl)
 
   pub view-allocator : (r : Allocator) → view (puts xs 2533 0 (bytes allocatorWidths (allocatorAs r))) ≡ withAllocator (view xs) r
   unfolding view
   view-allocator r =
       stored xs 2533 (bytes allocatorWidths (allocatorAs r)) 2533 2551 (omega arith) (omega arith)
-      ∙ ap (withAllocator (view xs)) (back xs allocatorOf allocatorWidths (allocatorAs r) 2533 r (omega arith) (numbers-bytes allocatorWidths (allocatorAs r) tt) refl)
+      ∙ ap (withAllocator (view xs)) (back xs allocatorOf allocatorWidths (allocatorAs r) 2533 r (omega arith) tt refl)
 
   pub view-paceds : (k v : ℕ) → k < 16 → view (puts xs (2551 + k * 2) 0 (digits 2 v)) ≡ withPaced (view xs) (set (view xs .paced) k v)
   unfolding view
@@ -151,7 +151,7 @@ module _ (xs : List ℕ) (sized : length xs ≡ 2839) where
   unfolding view
   view-control r =
       stored xs 2743 (bytes controlWidths (controlAs r)) 2743 2752 (omega arith) (omega arith)
-      ∙ ap (withControl (view xs)) (back xs controlOf controlWidths (controlAs r) 2743 r (omega arith) (numbers-bytes controlWidths (controlAs r) tt) refl)
+      ∙ ap (withControl (view xs)) (back xs controlOf controlWidths (controlAs r) 2743 r (omega arith) tt refl)
 
   pub view-count : (v : ℕ) → view (puts xs 2752 0 (digits 1 v)) ≡ withWakes (view xs) (withCount (view xs .wakes) v)
   unfolding view
@@ -173,7 +173,7 @@ module _ (xs : List ℕ) (sized : length xs ≡ 2839) where
 
   pub saved-saved : (r : Saved) → saved (puts xs 2817 0 (bytes savedWidths (savedAs r))) ≡ r
   unfolding saved
-  saved-saved r = back xs savedOf savedWidths (savedAs r) 2817 r (omega arith) (numbers-bytes savedWidths (savedAs r) tt) refl
+  saved-saved r = back xs savedOf savedWidths (savedAs r) 2817 r (omega arith) tt refl
 
   -- a record of a table, at the place of an endpoint
   pub view-ep : (dir : Dir) (e k : ℕ) (r : EpState)

@@ -38,15 +38,16 @@ far p = omega (arith, p .before .before .before .before .before .good)
 
 -- what is in the room after a stretch was taken
 near : (p : tie.After-take-near Inv-loop μ-loop)
-    → Taking (view (p .before .before .before .before .before .args .stream .now))
-    (some (p .before .before .before .before .before .args .stream .now) (p .before .before .before .before .before .args .place) (length (p .before .before .before .before .before .args .room .now)))
-    (p .before .before .before .before .before .args .room .now) (p .take-near .last .1 .1 .1 .0)
-    (p .before .before .loop .count + p .take-near .result .count) (p .before .before .loop .used + p .take-near .result .bytes)
-    (p .before .before .loop .d + p .take-near .result .bytes) (p .before .before .loop .first)
+    → let s = p .before .before .before .before .before .args in
+    let t = p .before .before .loop in
+    let w = p .take-near .result in
+    Taking (view (s .stream .now)) (some (s .stream .now) (s .place) (length (s .room .now))) (s .room .now) (p .take-near .last .1 .1 .1 .0)
+    (t .count + w .count) (t .used + w .bytes) (t .d + w .bytes) (t .first)
 near p =
+    let s = p .before .before .before .before .before .args in
     let t = p .before .before .loop in
     let w = p .take-near .ensures in
-    goes-near _ _ (p .before .before .before .before .before .args .room .now) (t .room) _ (t .count) (t .used) (t .d) (t .first) _ _ (far p) (t .inv) (w .0) (w .1)
+    goes-near _ _ (s .room .now) (t .room) _ (t .count) (t .used) (t .d) (t .first) _ _ (far p) (t .inv) (w .0) (w .1)
 
 take-near-requires : tie.Need-take-near-requires Inv-loop μ-loop
 take-near-requires c κs = (c .before .loop .inv .seen, omega arith)
@@ -92,44 +93,57 @@ same-length-2 c = near (c .before .before .before .before .before .before .befor
 
 returns-2 : tie.Need-returns-2 Inv-loop μ-loop
 returns-2 c =
-    let h = near (c .before .before .before .before .before .before .before .before .before .before) in
-    let found = sym (c .before .before .before .before .find-from .ensures) ∙ c .before .before .at .given .1 in
+    let q = c .before .before in
+    let h = near (q .before .before .before .before .before .before .before .before) in
+    let found = sym (q .before .before .find-from .ensures) ∙ q .at .given .1 in
     ends _ _ _ _ _ _ _ _ true h (some-short _ (h .fuel) _ _ _ _ _ (h .enough) found (omega (arith, h .same)))
+
+-- the packet that was found lies in the stream
+fits : (q : tie.After-at Inv-loop μ-loop)
+    → let s = q .before .before .before .before .before .before .before .before .before .before .before .before .before .args in
+    q .at .at + 3 + q .at .len ≤ total (view (s .stream .now))
+fits q = find-fits _ _ _ _ _ _ (sym (q .before .before .find-from .ensures) ∙ q .at .given .1)
 
 copy-data-requires : tie.Need-copy-data-requires Inv-loop μ-loop
 copy-data-requires c κs =
     let h = near (c .before .before .before .before .before .before .before .before .before .before .before) in
-    let fits = find-fits _ _ _ _ _ _ (sym (c .before .before .before .before .before .find-from .ensures) ∙ c .before .before .before .at .given .1) in
+    let l = fits (c .before .before .before) in
     (omega (arith, h .same, h .inside), omega arith)
 
 add-count-2 : tie.Need-add-count-2 Inv-loop μ-loop
 add-count-2 c =
-    let h = near (c .before .before .before .before .before .before .before .before .before .before .before .before .before .before) in
-    omega (arith, h .counted, h .inside, h .same, c .before .before .before .before .if1 .left, c .before .before .before .before .before .before .before .before .before .before .before .before .before .before .before .before .before .before .before .good)
+    let p = c .before .before .before .before .before .before .before .before .before .before .before .before .before .before in
+    let h = near p in
+    omega (arith, h .counted, h .inside, h .same, c .before .before .before .before .if1 .left, p .before .before .before .before .before .good)
 
 add-used-2 : tie.Need-add-used-2 Inv-loop μ-loop
 add-used-2 c =
-    let h = near (c .before .before .before .before .before .before .before .before .before .before .before .before .before .before) in
-    omega (arith, h .inside, h .same, c .before .before .before .before .if1 .left, c .before .before .before .before .before .before .before .before .before .before .before .before .before .before .before .before .before .before .before .good)
+    let p = c .before .before .before .before .before .before .before .before .before .before .before .before .before .before in
+    let h = near p in
+    omega (arith, h .inside, h .same, c .before .before .before .before .if1 .left, p .before .before .before .before .before .good)
 
 add-d-2 : tie.Need-add-d-2 Inv-loop μ-loop
 add-d-2 c =
-    let fits = find-fits _ _ _ _ _ _ (sym (c .before .before .before .before .before .before .before .before .find-from .ensures) ∙ c .before .before .before .before .before .before .at .given .1) in
-    omega (arith, far (c .before .before .before .before .before .before .before .before .before .before .before .before .before .before))
+    let q = c .before .before .before .before .before .before in
+    omega (arith, fits q, far (q .before .before .before .before .before .before .before .before))
 
 add-first : tie.Need-add-first Inv-loop μ-loop
 add-first c =
-    let fits = find-fits _ _ _ _ _ _ (sym (c .before .before .before .before .before .before .before .before .find-from .ensures) ∙ c .before .before .before .before .before .before .at .given .1) in
-    omega (arith, c .before .before .before .before .before .before .before .before .before .before .before .before .before .before .before .before .before .before .before .good)
+    let q = c .before .before .before .before .before .before in
+    omega (arith, fits q, q .before .before .before .before .before .before .before .before .before .before .before .before .before .good)
 
 loop-less : tie.Need-loop-less Inv-loop μ-loop
-loop-less c = let h = near (c .before .before .before .before .before .before .before .before .before .before .before .before .before .before) in omega (arith, h .inside, h .same)
+loop-less c =
+    let h = near (c .before .before .before .before .before .before .before .before .before .before .before .before .before .before) in
+    omega (arith, h .inside, h .same)
 
 loop-again : tie.Need-loop-again Inv-loop μ-loop
 loop-again c =
-    let h = near (c .before .before .before .before .before .before .before .before .before .before .before .before .before .before) in
-    let found = sym (c .before .before .before .before .before .before .before .before .find-from .ensures) ∙ c .before .before .before .before .before .before .at .given .1 in
-    goes-on _ _ _ _ _ _ _ _ _ _ _ _ (far (c .before .before .before .before .before .before .before .before .before .before .before .before .before .before)) h found (omega (arith, h .same)) (c .before .before .copy-data .ensures)
+    let q = c .before .before .before .before .before .before in
+    let p = q .before .before .before .before .before .before .before .before in
+    let h = near p in
+    let found = sym (q .before .before .find-from .ensures) ∙ q .at .given .1 in
+    goes-on _ _ _ _ _ _ _ _ _ _ _ _ (far p) h found (omega (arith, h .same)) (c .before .before .copy-data .ensures)
 
 pub take-spec : {M : Type 1} → statement M
 take-spec =

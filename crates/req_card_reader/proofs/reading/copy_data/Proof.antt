@@ -86,7 +86,8 @@ loop-again c =
     let long = length-bytes (view (s .stream .now)) (s .n) (s .d) in
     record {
       few = omega (arith, run .ensures .0 .0);
-      long = ap length now ∙ length-paste (s .room .now) (s .at) _ (t .i + run .result) (omega (arith, run .ensures .0 .0)) (omega (arith, long, run .ensures .0 .0));
+      long = ap length now
+          ∙ length-paste (s .room .now) (s .at) _ (t .i + run .result) (omega (arith, run .ensures .0 .0)) (omega (arith, long, run .ensures .0 .0));
       holds = now;
     }
 

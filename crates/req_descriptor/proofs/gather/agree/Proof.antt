@@ -38,7 +38,9 @@ loop-holds c =
 
 -- the descriptor at `at`, and the row after it
 here : (p : tie.In-loop Inv-loop μ-loop)
-    → On (p .before .loop .inv .1) (p .before .before .before .before .before .args .bytes .now) (p .before .loop .at) (p .before .before .before .before .before .args .zeroth) (p .before .loop .now-in)
+    → let a = p .before .before .before .before .before .args in
+    let k = p .before .loop in
+    On (k .inv .1) (a .bytes .now) (k .at) (a .zeroth) (k .now-in)
 here p =
     let v = p .before .loop .inv in
     on (v .1) (v .2) _ _ _ _ (λ j. omega (arith, p .before .before .before .before .shared-slice-known .given j)) (omega arith) (v .3)
@@ -51,9 +53,10 @@ agrees-requires c κs = (here (c .before) .sound, c .before .before .before .bef
 
 returns : tie.Need-returns Inv-loop μ-loop
 returns c =
+    let k = c .before .before .before .before in
     let x = c .before .before .setting .ensures in
     let y = sym (c .before .agrees .ensures) ∙ not-true _ (c .if1 .taken) in
-    sym (agree-at _ _ _ _ _ (here (c .before .before .before)) (listed (c .before .before .before .before .before .before .before .before .args .list)) ∙ rw (rw x at y)) ∙ c .before .before .before .before .loop .inv .4
+    sym (agree-at _ _ _ _ _ (here (c .before .before .before)) (listed (k .before .before .before .before .args .list)) ∙ rw (rw x at y)) ∙ k .loop .inv .4
 
 shared-slice-read-wide-2 : tie.Need-shared-slice-read-wide-2 Inv-loop μ-loop
 shared-slice-read-wide-2 c = omega arith
@@ -72,6 +75,7 @@ loop-less c =
 
 loop-again : tie.Need-loop-again Inv-loop μ-loop
 loop-again c =
+    let k = c .before .before .before .before .before .before in
     let o = here (c .before .before .before .before .before) in
     let f = o .sound .here .fits in
     let x = c .before .before .before .before .setting .ensures in
@@ -81,7 +85,7 @@ loop-again c =
       o .left,
       o .inside,
       rw e (o .row),
-      rw (x, e) (sym (agree-at _ _ _ _ _ o (listed (c .before .before .before .before .before .before .before .before .before .before .args .list)) ∙ rw (rw x at y)) ∙ c .before .before .before .before .before .before .loop .inv .4),
+      rw (x, e) (sym (agree-at _ _ _ _ _ o (listed (k .before .before .before .before .args .list)) ∙ rw (rw x at y)) ∙ k .loop .inv .4),
     )
 
 returns-2 : tie.Need-returns-2 Inv-loop μ-loop

@@ -41,7 +41,9 @@ loop-holds c =
 
 -- the descriptor at `at`, and the row after it
 here : (p : tie.In-loop Inv-loop μ-loop)
-    → On (p .before .loop .inv .2) (p .before .before .before .before .before .args .bytes .now) (p .before .loop .at) (p .before .before .before .before .before .args .zeroth) (p .before .loop .now-in)
+    → let a = p .before .before .before .before .before .args in
+    let k = p .before .loop in
+    On (k .inv .2) (a .bytes .now) (k .at) (a .zeroth) (k .now-in)
 here p =
     let v = p .before .loop .inv in
     on (v .2) (v .3) _ _ _ _ (λ j. omega (arith, p .before .before .before .before .shared-slice-known .given j)) (omega arith) (v .4)
