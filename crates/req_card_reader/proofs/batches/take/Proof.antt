@@ -98,16 +98,11 @@ returns-2 c =
     let found = sym (q .before .before .find-from .ensures) ∙ q .at .given .1 in
     ends _ _ _ _ _ _ _ _ true h (some-short _ (h .fuel) _ _ _ _ _ (h .enough) found (omega (arith, h .same)))
 
--- the packet that was found lies in the stream
-fits : (q : tie.After-at Inv-loop μ-loop)
-    → let s = q .before .before .before .before .before .before .before .before .before .before .before .before .before .args in
-    q .at .at + 3 + q .at .len ≤ total (view (s .stream .now))
-fits q = find-fits _ _ _ _ _ _ (sym (q .before .before .find-from .ensures) ∙ q .at .given .1)
-
 copy-data-requires : tie.Need-copy-data-requires Inv-loop μ-loop
 copy-data-requires c κs =
     let h = near (c .before .before .before .before .before .before .before .before .before .before .before) in
-    let l = fits (c .before .before .before) in
+    let q = c .before .before .before in
+    let l = find-fits _ _ _ _ _ _ (sym (q .before .before .find-from .ensures) ∙ q .at .given .1) in
     (omega (arith, h .same, h .inside), omega arith)
 
 add-count-2 : tie.Need-add-count-2 Inv-loop μ-loop
@@ -125,12 +120,14 @@ add-used-2 c =
 add-d-2 : tie.Need-add-d-2 Inv-loop μ-loop
 add-d-2 c =
     let q = c .before .before .before .before .before .before in
-    omega (arith, fits q, far (q .before .before .before .before .before .before .before .before))
+    let l = find-fits _ _ _ _ _ _ (sym (q .before .before .find-from .ensures) ∙ q .at .given .1) in
+    omega (arith, far (q .before .before .before .before .before .before .before .before))
 
 add-first : tie.Need-add-first Inv-loop μ-loop
 add-first c =
     let q = c .before .before .before .before .before .before in
-    omega (arith, fits q, q .before .before .before .before .before .before .before .before .before .before .before .before .before .good)
+    let l = find-fits _ _ _ _ _ _ (sym (q .before .before .find-from .ensures) ∙ q .at .given .1) in
+    omega (arith, q .before .before .before .before .before .before .before .before .before .before .before .before .before .good)
 
 loop-less : tie.Need-loop-less Inv-loop μ-loop
 loop-less c =
