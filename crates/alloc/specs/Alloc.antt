@@ -7,7 +7,8 @@ use Prim.Native.Nat.{ℕ, zero, suc, _+_, _*_, _/_, _%_}
 use lib.Dec.{eqb, leb, ltb}
 use Rattle.state.specs.declared.Allocator.{Allocator}
 use Rattle.state.specs.declared.EpState.{EpState}
-use Rattle.state.specs.Ep.{resetOf}
+use Rattle.state.specs.Ep.{resetOf, withPlace}
+use Rattle.state.specs.Fresh.{freshAllocator}
 use Rattle.regs.specs.declared.Dir.{Dir}
 use Rattle.regs.specs.declared.Dir.the-variants.{Out, In}
 use Rattle.alloc.specs.declared.Found.{Found}
@@ -24,17 +25,7 @@ if false a b = b
 
 -- after start-up: no buffer used, no number taken
 unfoldable pub fresh : ℕ → ℕ → Allocator
-fresh size count = record {
-  size = size;
-  count = count;
-  next = 0;
-  «taken_out» = 0;
-  «taken_in» = 0;
-  «iso_nums» = 0;
-  «other_nums» = 0;
-  «allocated_out» = 0;
-  «allocated_in» = 0;
-}
+fresh size count = freshAllocator size count
 
 -- the numbers taken in a direction (the Rust's `allocated`)
 unfoldable pub takenIn : Allocator → Dir → ℕ
@@ -74,23 +65,9 @@ taken a iso dir e = record {
   «allocated_in» = a .«allocated_in»;
 }
 
--- the number is allocated in its direction
-unfoldable pub withAllocated : Allocator → Dir → ℕ → Allocator
-withAllocated a dir e = record {
-  size = a .size;
-  count = a .count;
-  next = a .next;
-  «taken_out» = a .«taken_out»;
-  «taken_in» = a .«taken_in»;
-  «iso_nums» = a .«iso_nums»;
-  «other_nums» = a .«other_nums»;
-  «allocated_out» = addTo (isOut dir) (a .«allocated_out») e;
-  «allocated_in» = addTo (not (isOut dir)) (a .«allocated_in») e;
-}
-
--- the buffers before this one are used
-unfoldable pub withNext : Allocator → ℕ → Allocator
-withNext a next = record {
+-- the next buffer, and the numbers allocated in each direction
+abbrev pub withGiven : Allocator → ℕ → ℕ → ℕ → Allocator
+withGiven a next outs ins = record {
   size = a .size;
   count = a .count;
   next = next;
@@ -98,9 +75,18 @@ withNext a next = record {
   «taken_in» = a .«taken_in»;
   «iso_nums» = a .«iso_nums»;
   «other_nums» = a .«other_nums»;
-  «allocated_out» = a .«allocated_out»;
-  «allocated_in» = a .«allocated_in»;
+  «allocated_out» = outs;
+  «allocated_in» = ins;
 }
+
+-- the number is allocated in its direction
+unfoldable pub withAllocated : Allocator → Dir → ℕ → Allocator
+withAllocated a dir e =
+    withGiven a (a .next) (addTo (isOut dir) (a .«allocated_out») e) (addTo (not (isOut dir)) (a .«allocated_in») e)
+
+-- the buffers before this one are used
+unfoldable pub withNext : Allocator → ℕ → Allocator
+withNext a next = withGiven a next (a .«allocated_out») (a .«allocated_in»)
 
 -- ---- the number (row 7)
 
@@ -117,13 +103,17 @@ abbrev pub dirBit : Dir → ℕ
 dirBit Out = 0
 dirBit In = 1
 
+-- a number, where it is free
+abbrev pub freeOf : Allocator → Bool → Dir → ℕ → Found
+freeOf a iso dir e = if (isFree a iso dir e) (Number e) Nothing
+
 -- the number of an address that is asked for: its direction is this one, it is 1 to 15 and free
 unfoldable pub askedOf : Allocator → Bool → ℕ → Dir → Found
 askedOf a iso address dir =
     if (eqb (address / 128) (dirBit dir))
     (if (eqb (address % 128) 0) Nothing
     (if (leb 16 (address % 128)) Nothing
-    (if (isFree a iso dir (address % 128)) (Number (address % 128)) Nothing)))
+    (freeOf a iso dir (address % 128))))
     Nothing
 
 -- the first free of `left` numbers from e on
@@ -183,25 +173,7 @@ flag false = 0
 
 -- sort, kind, maximum, base, stride and slots set; no slot is armed yet, and what stands for it is the first
 abbrev pub shaped : EpState → ℕ → ℕ → ℕ → ℕ → ℕ → EpState
-shaped s kind maximum base size slots = record {
-  ready = s .ready;
-  len = s .len;
-  armed = s .armed;
-  iso = flag (isIso kind);
-  kind = kind % 4;
-  base = base;
-  stride = size;
-  slots = slots;
-  head = s .head;
-  tail = s .tail;
-  loaded = s .loaded;
-  overruns = s .overruns;
-  «last_frame» = s .«last_frame»;
-  «max_len» = maximum;
-  «armed_slot» = base;
-  tog = s .tog;
-  «open» = s .«open»;
-}
+shaped s kind maximum base size slots = withPlace s (flag (isIso kind)) (kind % 4) base size slots maximum base
 
 -- after an accepted allocation (mod.rs 1010-1031)
 unfoldable pub allocated : EpState → ℕ → ℕ → ℕ → ℕ → ℕ → EpState

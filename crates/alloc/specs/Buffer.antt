@@ -1,6 +1,5 @@
 -- The slot buffer that start-up is brought: document 01, rows 1 and 2.
 use mathlib.Core.Bool.{Bool, true, false}
-use mathlib.Core.Path.{_≡_}
 use Prim.Native.Nat.{ℕ, _*_}
 use lib.Dec.{eqb, leb}
 use Rattle.alloc.specs.Alloc.{if}

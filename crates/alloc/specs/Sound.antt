@@ -1,17 +1,12 @@
 -- What holds of the allocator from an accepted start-up on: the buffers used are among those that there are, number 0 is never taken,
 -- what is taken is what is allocated, and no number has both sorts. Assumes nothing.
-use mathlib.Core.Path.{_≡_, _∙_}
-use mathlib.Core.Bool.{Bool, true, false, true≢false}
-use mathlib.Core.List.{List, [], _∷_}
-use Prim.Native.Nat.{ℕ, _+_, _*_, _≤_}
+use mathlib.Core.Path.{_≡_}
+use mathlib.Core.Bool.{true, false}
+use Prim.Native.Nat.{ℕ, _*_, _≤_}
 use Rattle.bits.specs.Bit.{isSet}
 use Rattle.state.specs.declared.Allocator.{Allocator}
 use Rattle.regs.specs.declared.Dir.{Dir}
-use Rattle.regs.specs.declared.Dir.the-variants.{Out, In}
-use Rattle.alloc.specs.declared.Allocation.{Allocation}
 use Rattle.alloc.specs.Alloc.{takenIn, numsOf, allocatedIn}
-use Rattle.alloc.specs.Outcome.{Takes}
-use Rattle.alloc.specs.Run.{Call, Step, Region, All}
 
 pub record Sound (a : Allocator) : Type 0 where
   pub room : a .next ≤ a .count

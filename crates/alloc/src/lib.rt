@@ -26,23 +26,6 @@ pub struct Allocation {
     pub after: Allocator,
 }
 
-// The allocator that start-up makes.
-pub fn new(size: u16, count: u16) -> Allocator
-    ensures { λ r. ⌜ r ≡ fresh size count ⌝ }
-{
-    Allocator {
-        size,
-        count,
-        next: 0,
-        taken_out: 0,
-        taken_in: 0,
-        iso_nums: 0,
-        other_nums: 0,
-        allocated_out: 0,
-        allocated_in: 0,
-    }
-}
-
 fn refused(row: u8, a: Allocator) -> Allocation
     ensures { λ r. ⌜ r ≡ refused row a ⌝ }
 {

@@ -1,7 +1,7 @@
 // The endpoint number of an allocation, its sort and how many buffers it needs.
 ghost use mathlib.Core.Path.{_≡_};
-ghost use Prim.Native.Nat.{_+_};
-ghost use Rattle.alloc.specs.Alloc.{isIso, flag, dirBit, slotsOf, askedOf, lowestOf, numberOf};
+ghost use Prim.Native.Nat.{_+_, _<_};
+ghost use Rattle.alloc.specs.Alloc.{isIso, flag, dirBit, slotsOf, freeOf, askedOf, lowestOf, numberOf};
 use crate::Found;
 use crate::masks::is_free;
 use regs::Dir;
@@ -55,6 +55,17 @@ fn dir_bit(dir: Dir) -> u32
     }
 }
 
+// A number, where it is free.
+fn free_number(a: Allocator, iso: bool, dir: Dir, e: u8) -> Found
+    requires { ⌜ e < 16 ⌝ }
+    ensures { λ r. ⌜ r ≡ freeOf a iso dir e ⌝ }
+{
+    if is_free(a, iso, dir, e) {
+        return Found::Number(e);
+    }
+    Found::Nothing
+}
+
 // The number of the address that is asked for.
 fn asked(a: Allocator, iso: bool, address: u32, dir: Dir) -> Found
     ensures { λ r. ⌜ r ≡ askedOf a iso address dir ⌝ }
@@ -70,11 +81,7 @@ fn asked(a: Allocator, iso: bool, address: u32, dir: Dir) -> Found
         return Found::Nothing;
     }
     let e = index as u8;
-    if is_free(a, iso, dir, e) {
-        Found::Number(e)
-    } else {
-        Found::Nothing
-    }
+    free_number(a, iso, dir, e)
 }
 
 // The lowest free number; endpoint 0 is the control pipe's.

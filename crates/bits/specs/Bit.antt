@@ -1,9 +1,7 @@
 -- A bit of a word, whether it is set, and the word with it set or cleared. BitLaws.antt proves what `|`, `&`, `!` and
 -- `<<` do to them, over the width. Assumes nothing.
-use mathlib.Core.Path.{_≡_, _∙_}
 use mathlib.Core.Bool.{Bool, true, false}
-use mathlib.Core.Logic.{_⊎_, ⊎-elim}
-use Prim.Native.Nat.{ℕ, _+_, _-_, _*_, _/_, _%_, _^_, _≤_, _<_}
+use Prim.Native.Nat.{ℕ, _+_, _-_, _*_, _/_, _%_, _^_}
 use lib.Dec.{eqb}
 
 -- bit j of w, 0 or 1

@@ -1,10 +1,9 @@
 -- A field of a word: j bits from bit k up. Reading it and writing it by shifts and masks, over the word's width. Assumes nothing.
-use mathlib.Core.Path.{_≡_, refl, ap, ap₂, _∙_, sym}
+use mathlib.Core.Path.{_≡_, ap, ap₂, _∙_, sym}
 use Prim.Native.Nat.{ℕ, zero, suc, _+_, _-_, _*_, _/_, _%_, _^_, _≤_, _<_, min, max}
-use native.Mathlib.Nat.{mod-le, div-one, pow-suc, add-zero, add-suc, mul-assoc, mul-one, zero-mul, le-trans, lt-of-lt-of-le, mul-le-mul-right, div-mul-le-self}
-use native.Mathlib.Numerals.{add-one}
+use native.Mathlib.Nat.{mod-le, div-one, pow-suc, add-zero, mul-assoc, mul-one, zero-mul, le-trans, lt-of-lt-of-le, mul-le-mul-right, div-mul-le-self}
 use native.Mathlib.Omega.{arith}
-use lib.Bits.{bitAnd, bitOr, and-mask, and-high, and-step, or-step, or-shifted, shifted-half, shifted-even}
+use lib.Bits.{bitAnd, bitOr, and-mask, and-high, and-step, or-step, or-shifted}
 use lib.Pow.{pow-pos, pow-mono, ones-lt, shl-lt, shr-shr, shr-mod, split}
 
 -- ---- definitions

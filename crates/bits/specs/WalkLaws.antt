@@ -3,7 +3,7 @@ use mathlib.Core.Path.{_≡_, refl, ap, _∙_, sym}
 use mathlib.Core.Bool.{true, false}
 use mathlib.Core.Logic.{_⊎_, inl, inr, ⊎-elim}
 use mathlib.Core.List.{List, [], _∷_}
-use Prim.Native.Nat.{ℕ, zero, suc, _+_, _-_, _*_, _/_, _%_, _^_, _≤_, _<_}
+use Prim.Native.Nat.{ℕ, zero, suc, _+_, _-_, _/_, _%_, _^_, _≤_, _<_}
 use native.Mathlib.Nat.{add-suc, suc-add, add-zero, zero-add, mod-lt, pow-suc, eq-zero-or-pos}
 use native.Mathlib.Omega.{arith}
 use lib.Bits.{bitAnd, and-step, and-self, and-le-r, and-zero-l}
@@ -113,6 +113,22 @@ trailing-lt (suc k) m p h =
     (λ (o : m % 2 ≡ 1). rw o (omega arith))
     (parity m)
 
+-- what `m & (m - 1)` is above its lowest bit, which is 0
+even-rest : (m : ℕ) → 0 < m → m % 2 ≡ 0 → (bitAnd m (m - 1) % 2 ≡ 0) × (bitAnd m (m - 1) / 2 ≡ bitAnd (m / 2) (m / 2 - 1))
+even-rest m p z =
+    let q : (m - 1) / 2 ≡ m / 2 - 1 = omega arith in
+    let r : (m - 1) % 2 ≡ 1 = omega arith in
+    let a = rw (q, z, r) at (and-step m (m - 1)) in
+    (omega arith, omega arith)
+
+odd-rest : (m : ℕ) → m % 2 ≡ 1 → (bitAnd m (m - 1) % 2 ≡ 0) × (bitAnd m (m - 1) / 2 ≡ m / 2)
+odd-rest m o =
+    let q : (m - 1) / 2 ≡ m / 2 = omega arith in
+    let r : (m - 1) % 2 ≡ 0 = omega arith in
+    let a = rw (q, o, r) at (and-step m (m - 1)) in
+    let s = and-self (m / 2) in
+    (omega arith, omega arith)
+
 -- `m & (m - 1)` is m with its lowest set bit cleared
 and-rest : (k m : ℕ) → 0 < m → m < 2 ^ k → bitAnd m (m - 1) ≡ withBit m (trailingZeros k m) false
 unfolding trailingZeros withBit
@@ -121,18 +137,11 @@ and-rest (suc k) m p h =
     let e = pow-suc 2 k in
     ⊎-elim
     (λ (z : m % 2 ≡ 0).
-    let q : (m - 1) / 2 ≡ m / 2 - 1 = omega arith in
-    let r : (m - 1) % 2 ≡ 1 = omega arith in
-    let a = rw (q, z, r) at (and-step m (m - 1)) in
+    let c = even-rest m p z in
     let i = and-rest k (m / 2) (omega arith) (omega arith) in
     let s = with-suc m (trailingZeros k (m / 2)) false in
     rw z (omega arith))
-    (λ (o : m % 2 ≡ 1).
-    let q : (m - 1) / 2 ≡ m / 2 = omega arith in
-    let r : (m - 1) % 2 ≡ 0 = omega arith in
-    let a = rw (q, o, r) at (and-step m (m - 1)) in
-    let s = and-self (m / 2) in
-    rw o (omega arith))
+    (λ (o : m % 2 ≡ 1). let c = odd-rest m o in rw o (omega arith))
     (parity m)
 
 bits-step : (k i m : ℕ) → 0 < m → m < 2 ^ k → bitsFrom k i m ≡ (i + trailingZeros k m) ∷ bitsFrom k i (bitAnd m (m - 1))
@@ -142,21 +151,12 @@ bits-step (suc k) i m p h =
     let e = pow-suc 2 k in
     ⊎-elim
     (λ (z : m % 2 ≡ 0).
-    let q : (m - 1) / 2 ≡ m / 2 - 1 = omega arith in
-    let r : (m - 1) % 2 ≡ 1 = omega arith in
-    let a = rw (q, z, r) at (and-step m (m - 1)) in
-    let c0 : bitAnd m (m - 1) % 2 ≡ 0 = omega arith in
-    let c1 : bitAnd m (m - 1) / 2 ≡ bitAnd (m / 2) (m / 2 - 1) = omega arith in
-    rw (z, c0, c1) (bits-step k (suc i) (m / 2) (omega arith) (omega arith)
+    let c = even-rest m p z in
+    rw (z, c .0, c .1) (bits-step k (suc i) (m / 2) (omega arith) (omega arith)
     ∙ ap (λ (x : ℕ). x ∷ bitsFrom k (suc i) (bitAnd (m / 2) (m / 2 - 1))) (suc-add i (trailingZeros k (m / 2)) ∙ sym (add-suc i (trailingZeros k (m / 2))))))
     (λ (o : m % 2 ≡ 1).
-    let q : (m - 1) / 2 ≡ m / 2 = omega arith in
-    let r : (m - 1) % 2 ≡ 0 = omega arith in
-    let a = rw (q, o, r) at (and-step m (m - 1)) in
-    let s = and-self (m / 2) in
-    let c0 : bitAnd m (m - 1) % 2 ≡ 0 = omega arith in
-    let c1 : bitAnd m (m - 1) / 2 ≡ m / 2 = omega arith in
-    rw (o, c0, c1) (ap (λ (x : ℕ). x ∷ bitsFrom k (suc i) (m / 2)) (sym (add-zero i))))
+    let c = odd-rest m o in
+    rw (o, c .0, c .1) (ap (λ (x : ℕ). x ∷ bitsFrom k (suc i) (m / 2)) (sym (add-zero i))))
     (parity m)
 
 -- `m & (m - 1)` is the rest of the mask

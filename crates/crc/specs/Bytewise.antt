@@ -1,8 +1,5 @@
 -- Four bytes as one word. BytewiseLaws.antt proves what the remainder is after several bytes at a step.
-use mathlib.Core.Path.{_≡_, ap₂, _∙_}
-use mathlib.Core.Bool.{Bool}
-use mathlib.Core.List.{List, [], _∷_}
-use Prim.Native.Nat.{ℕ, _+_, _*_, _/_, _%_, _^_, _<_}
+use Prim.Native.Nat.{ℕ, _+_, _*_, _^_}
 
 -- ---- bytes
 

@@ -1,7 +1,6 @@
 -- Laws on the definitions of Bytewise.antt
 use mathlib.Core.Path.{_≡_, refl, sym, ap, ap₂, _∙_}
 use mathlib.Core.Bool.{Bool, true, false, cond}
-use mathlib.Core.List.{List, [], _∷_}
 use Prim.Native.Nat.{ℕ, zero, suc, _+_, _*_, _/_, _%_, _^_, _<_}
 use native.Mathlib.Nat.{pow-suc, mul-comm, div-div-eq-div-mul}
 use native.Mathlib.Omega.{arith}
@@ -29,24 +28,22 @@ turned-as r x = go (eqb (r % 2) (x % 2))
     go true = sym (xor-zero-r (r / 2))
     go false = refl
 
+-- what holds of the four pairs of bits
+of-bits : (P : ℕ → ℕ → Type 0) → P 0 0 → P 0 1 → P 1 0 → P 1 1 → (x y : ℕ) → x < 2 → y < 2 → P x y
+of-bits P a b c d zero zero h k = a
+of-bits P a b c d zero (suc zero) h k = b
+of-bits P a b c d zero (suc (suc y)) h k = absurd (omega arith)
+of-bits P a b c d (suc zero) zero h k = c
+of-bits P a b c d (suc zero) (suc zero) h k = d
+of-bits P a b c d (suc zero) (suc (suc y)) h k = absurd (omega arith)
+of-bits P a b c d (suc (suc x)) y h k = absurd (omega arith)
+
 -- of two bits: equal, or their exclusive or is 1
 feedback-data : (x y : ℕ) → x < 2 → y < 2 → feedback (eqb x y) ≡ feedback (eqb (differ x y) 0)
-feedback-data zero zero h k = refl
-feedback-data zero (suc zero) h k = refl
-feedback-data zero (suc (suc y)) h k = absurd (omega arith)
-feedback-data (suc zero) zero h k = refl
-feedback-data (suc zero) (suc zero) h k = refl
-feedback-data (suc zero) (suc (suc y)) h k = absurd (omega arith)
-feedback-data (suc (suc x)) y h k = absurd (omega arith)
+feedback-data = of-bits (λ x y. feedback (eqb x y) ≡ feedback (eqb (differ x y) 0)) refl refl refl refl
 
 feedback-sum : (x y : ℕ) → x < 2 → y < 2 → feedback (eqb (differ x y) 0) ≡ bitXor (feedback (eqb x 0)) (feedback (eqb y 0))
-feedback-sum zero zero h k = refl
-feedback-sum zero (suc zero) h k = refl
-feedback-sum zero (suc (suc y)) h k = absurd (omega arith)
-feedback-sum (suc zero) zero h k = refl
-feedback-sum (suc zero) (suc zero) h k = refl
-feedback-sum (suc zero) (suc (suc y)) h k = absurd (omega arith)
-feedback-sum (suc (suc x)) y h k = absurd (omega arith)
+feedback-sum = of-bits (λ x y. feedback (eqb (differ x y) 0) ≡ bitXor (feedback (eqb x 0)) (feedback (eqb y 0))) refl refl refl refl
 
 -- a data bit may as well be added to the remainder first
 turned-data : (r x : ℕ) → bitXor (turned r x) (x / 2) ≡ turned (bitXor r x) 0

@@ -1,8 +1,7 @@
 -- Laws on the definitions of Crc.antt
 use mathlib.Core.Path.{_≡_, refl}
-use mathlib.Core.Bool.{Bool}
-use mathlib.Core.List.{List, [], _∷_, _++_}
-use Prim.Native.Nat.{ℕ, _+_, _*_, _/_, _%_}
+use mathlib.Core.List.{List, [], _∷_}
+use Prim.Native.Nat.{ℕ, _/_, _%_}
 use Rattle.crc.specs.Crc.{bitsOf, bitsOfBytes, numberOf, generator, ones, added, stepped, remainder, crcBits, dataCrc}
 
 -- "123456789"

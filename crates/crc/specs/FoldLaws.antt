@@ -1,15 +1,15 @@
 -- Laws: the remainder without a table.
-use mathlib.Core.Path.{_≡_, refl, sym, ap, ap₂, _∙_, subst}
+use mathlib.Core.Path.{_≡_, refl, sym, ap, ap₂, _∙_}
 use mathlib.Core.Bool.{Bool, true, false}
 use Prim.Native.Nat.{ℕ, zero, suc, _+_, _-_, _*_, _/_, _%_, _^_, _≤_, _<_}
 use native.Mathlib.Nat.{add-zero, zero-mul, one-mul, pow-suc}
 use native.Mathlib.Decide.{decLt}
 use native.Mathlib.Omega.{arith}
 use lib.Pow.{pow-pos}
-use lib.Bits.{bitXor, differ, xor-comm, xor-self, xor-zero-r, xor-shifted, xor-block, xor-shr, xor-mod, xor-lt}
+use lib.Bits.{bitXor, xor-comm, xor-self, xor-zero-r, xor-shifted, xor-block, xor-shr, xor-mod, xor-lt}
 use lib.Dec.{T, eqb, eqb→eq}
 use Rattle.crc.specs.Register.{turned, turns}
-use Rattle.crc.specs.Xor.{xor-assoc, xor-swap, differ-lt}
+use Rattle.crc.specs.Xor.{xor-assoc, xor-swap}
 use Rattle.crc.specs.BytewiseLaws.{shifted, shifted-sum}
 use Rattle.crc.specs.Fold.{folded, settled, odd, remainderOf}
 

@@ -1,7 +1,7 @@
 -- What the two conversions keep: every reading has an index below 16,384, an index comes back, and NO_FRAME never results. Assumes nothing.
 use mathlib.Core.Path.{_≡_, ap₂, _∙_}
 use mathlib.Core.Bool.{Bool, true, false}
-use Prim.Native.Nat.{ℕ, _+_, _*_, _/_, _%_, _^_, _≤_, _<_, min}
+use Prim.Native.Nat.{ℕ, _+_, _*_, _/_, _%_, _≤_, _<_, min}
 use native.Mathlib.Omega.{arith}
 use Rattle.bits.specs.Bit.{pick}
 use Rattle.frame.specs.Usb20.{frameNumber, microframe, indexOf, frameOf}

@@ -1,5 +1,6 @@
 // Frame numbers (mod.rs: microframe_index, frame_of_index, iso_in_advance, on_sof).
 ghost use mathlib.Core.Path.{_≡_};
+ghost use Prim.Native.Nat.{min};
 ghost use Rattle.frame.specs.Usb20.{indexOf, frameOf};
 ghost use Rattle.frame.specs.Advance.{isNone, distance, previous, completions, inPrevious};
 
@@ -47,6 +48,12 @@ pub fn previous(i: Index) -> Index
     Index(std::num::wrapping_sub_u16(i.0, 1) & MICROFRAME_MASK)
 }
 
+fn at_most_3(n: u16) -> u16
+    ensures { λ r. ⌜ r ≡ min n 3 ⌝ }
+{
+    if n < 3 { n } else { 3 }
+}
+
 // What a paced advance completes (iso_in_advance): the microframes since the last, at most 3; one where there was none.
 pub fn completions(last: Frame, now: Index) -> u16
     ensures { λ r. ⌜ r ≡ completions (last .0) (now .0) ⌝ }
@@ -54,8 +61,7 @@ pub fn completions(last: Frame, now: Index) -> u16
     if is_none(last) {
         return 1;
     }
-    let n = distance(microframe_index(last), now);
-    if n < 3 { n } else { 3 }
+    at_most_3(distance(microframe_index(last), now))
 }
 
 // Was the last completion in the microframe before this one (on_sof)?

@@ -1,11 +1,8 @@
 -- A table of records in a list of bytes. TablesLaws.antt proves: where one record is stored all others are as they were,
 -- and a table whose bytes did not change is the same. Assumes nothing.
-use mathlib.Core.Path.{_≡_, _∙_}
-use mathlib.Core.Logic.{_≢_, _⊎_, ⊎-elim}
 use mathlib.Core.List.{List, [], _∷_}
-use Prim.Native.Nat.{ℕ, zero, suc, _+_, _*_, _≤_, _<_}
+use Prim.Native.Nat.{ℕ, zero, suc, _+_, _*_}
 use Rattle.le_bytes.specs.Bytes.{gets}
-use Rattle.le_bytes.specs.Runs.{Same}
 
 -- f from i, n values
 abbrev pub tabFrom : {A : Type 0} → ℕ → ℕ → (ℕ → A) → List A

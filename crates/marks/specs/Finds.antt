@@ -1,12 +1,10 @@
 -- What FindsLaws.antt speaks of. It proves: the length by the marks is the packet's, for every maximum, where its last
 -- byte differs from the mark's there and marks follow.
 use mathlib.Core.Path.{_≡_}
-use mathlib.Core.Bool.{Bool}
 use mathlib.Core.List.{List}
 use Prim.Native.Nat.{ℕ, suc, _≤_, _<_}
 use lib.ListN.{getD}
 use Rattle.marks.specs.Marks.{markByte}
-use Rattle.marks.specs.Only.{Same}
 
 -- the last of the first n bytes, if any, differs from the mark's byte at its place
 abbrev pub LastDiffers : ℕ → List ℕ → Type 0

@@ -1,9 +1,8 @@
 -- Bytes that are the same, and bytes that may differ.
-use mathlib.Core.Logic.{_⊎_}
-use mathlib.Core.Path.{_≡_, _∙_}
-use mathlib.Core.List.{List, [], _∷_, _++_}
-use Prim.Native.Nat.{ℕ, _+_, _-_, _≤_, _<_}
-use lib.ListN.{length, getD, List·getD-append}
+use mathlib.Core.Path.{_≡_}
+use mathlib.Core.List.{List}
+use Prim.Native.Nat.{ℕ, _≤_, _<_}
+use lib.ListN.{length, getD}
 
 -- the bytes of b and of c from lo up to hi are the same
 abbrev pub Same : ℕ → ℕ → List ℕ → List ℕ → Type 0

@@ -1,12 +1,11 @@
 -- What StoredLaws.antt speaks of. It proves: a packet stored in an armed slot: its length is found.
-use mathlib.Core.Path.{_≡_, _∙_}
+use mathlib.Core.Path.{_≡_}
 use mathlib.Core.List.{List}
-use Prim.Native.Nat.{ℕ, _+_, _≤_, _<_}
+use Prim.Native.Nat.{ℕ, _+_}
 use lib.ListN.{length}
 use Rattle.marks.specs.Marks.{armed}
 use Rattle.marks.specs.Copies.{copied}
 use Rattle.marks.specs.Only.{Same}
-use Rattle.marks.specs.Finds.{LastDiffers, MarkedAfter}
 
 -- "stored alone since its slot was armed": the slot's bytes up to the maximum are those that arming left, b then being the buffer, with the packet
 -- over their front

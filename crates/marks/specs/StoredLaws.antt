@@ -1,12 +1,11 @@
 -- Laws on the definitions of Stored.antt
 use mathlib.Core.Path.{_≡_, sym, _∙_}
 use mathlib.Core.List.{List}
-use Prim.Native.Nat.{ℕ, _+_, _≤_, _<_}
+use Prim.Native.Nat.{ℕ, _+_, _≤_}
 use native.Mathlib.Omega.{arith}
 use lib.ListN.{length, drop}
 use Rattle.marks.specs.Marks.{reach, armed, markedLen}
 use Rattle.marks.specs.Copies.{over, bytesAt, copied}
-use Rattle.marks.specs.Only.{Same}
 use Rattle.marks.specs.Finds.{LastDiffers, MarkedAfter}
 use Rattle.marks.specs.Slots.{over-low, over-high, only-armed, only-copied, copied-part, copied-bytes, armed-empties, len-is, len-same, bytes-same}
 use Rattle.marks.specs.Stored.{StoredAlone}

@@ -1,20 +1,18 @@
 -- The Rust's statics, as a script assigns them
-use mathlib.Core.Bool.{Bool, true, false, not, cond}
+use mathlib.Core.Bool.{Bool, true, false, not}
 use mathlib.Core.List.{[], _∷_}
-use Prim.Native.Nat.{ℕ, _+_, _-_, _*_, _/_, _%_}
+use Prim.Native.Nat.{ℕ, _-_}
 use lib.Dec.{eqb}
 use lib.Bits.{bitAnd}
-use Rattle.bits.specs.Bit.{isSet, withBit}
 use Rattle.regs.specs.declared.Reg.{Reg}
-use Rattle.regs.specs.declared.Reg.the-variants.{IntEn, EpType, EpConfig}
+use Rattle.regs.specs.declared.Reg.the-variants.{IntEn, EpType}
 use Rattle.regs.specs.declared.Dir.{Dir}
-use Rattle.regs.specs.declared.Dir.the-variants.{Out, In}
 use Rattle.regs.specs.Enables.{inEnabled, outEnabled}
 use Rattle.state.specs.declared.Globals.{Globals}
 use Rattle.state.specs.Wakes.{wakeCode, busCode, every-endpoint}
-use Rattle.state.specs.Kept.{withIntEn, withEpType}
-use Rattle.model.specs.Cells.{EpCore, globals-cell, ep-cell, paced-cell}
-use Rattle.model.specs.Script.{Script, ret, done, test, _>>=_, _>>_, read, write, get, put, act, when, waken}
+use Rattle.state.specs.Kept.{withAssigned, withIntEn, withEpType}
+use Rattle.model.specs.Cells.{EpCore, globals-cell, ep-cell}
+use Rattle.model.specs.Script.{Script, _>>=_, _>>_, read, write, get, put, act, waken}
 use Rattle.frame.specs.Advance.{NO_FRAME}
 
 -- a flag in a byte
@@ -27,70 +25,34 @@ flag false = 0
 
 -- ---- an endpoint's record
 
-abbrev pub withReady : ℕ → EpCore → EpCore
-withReady v p = record {
-  ready = v;
-  len = p .len;
-  armed = p .armed;
-  «last_frame» = p .«last_frame»;
-  tog = p .tog;
+-- what a script assigns of it
+abbrev pub withTransfer : (ready len armed frame tog : ℕ) → EpCore → EpCore
+withTransfer ready len armed frame tog p = record {
+  ready = ready;
+  len = len;
+  armed = armed;
+  «last_frame» = frame;
+  tog = tog;
   iso = p .iso;
   kind = p .kind;
   base = p .base;
   «max_len» = p .«max_len»;
 }
+
+abbrev pub withReady : ℕ → EpCore → EpCore
+withReady v p = withTransfer v (p .len) (p .armed) (p .«last_frame») (p .tog) p
 
 abbrev pub withLen : ℕ → EpCore → EpCore
-withLen v p = record {
-  ready = p .ready;
-  len = v;
-  armed = p .armed;
-  «last_frame» = p .«last_frame»;
-  tog = p .tog;
-  iso = p .iso;
-  kind = p .kind;
-  base = p .base;
-  «max_len» = p .«max_len»;
-}
+withLen v p = withTransfer (p .ready) v (p .armed) (p .«last_frame») (p .tog) p
 
 abbrev pub withArmed : ℕ → EpCore → EpCore
-withArmed v p = record {
-  ready = p .ready;
-  len = p .len;
-  armed = v;
-  «last_frame» = p .«last_frame»;
-  tog = p .tog;
-  iso = p .iso;
-  kind = p .kind;
-  base = p .base;
-  «max_len» = p .«max_len»;
-}
+withArmed v p = withTransfer (p .ready) (p .len) v (p .«last_frame») (p .tog) p
 
 abbrev pub withLastFrame : ℕ → EpCore → EpCore
-withLastFrame v p = record {
-  ready = p .ready;
-  len = p .len;
-  armed = p .armed;
-  «last_frame» = v;
-  tog = p .tog;
-  iso = p .iso;
-  kind = p .kind;
-  base = p .base;
-  «max_len» = p .«max_len»;
-}
+withLastFrame v p = withTransfer (p .ready) (p .len) (p .armed) v (p .tog) p
 
 abbrev pub withTog : ℕ → EpCore → EpCore
-withTog v p = record {
-  ready = p .ready;
-  len = p .len;
-  armed = p .armed;
-  «last_frame» = p .«last_frame»;
-  tog = v;
-  iso = p .iso;
-  kind = p .kind;
-  base = p .base;
-  «max_len» = p .«max_len»;
-}
+withTog v p = withTransfer (p .ready) (p .len) (p .armed) (p .«last_frame») v p
 
 -- `EpState::reset` (mod.rs 165-173), but for the ring
 abbrev pub renewed : EpCore → EpCore
@@ -102,105 +64,30 @@ completed p = withReady 1 (withArmed 0 p)
 
 -- ---- the globals
 
+-- the power event and the setup packet
+abbrev pub withEvents : (power ready low high : ℕ) → Globals → Globals
+withEvents power ready low high g =
+    withAssigned g power ready low high (g .«int_en») (g .«ep_type») (g .«iso_in_paced») (g .«sof_frame») (g .entered)
+
+-- the paced endpoints and the frames
+abbrev pub withFrames : (paced frame entered : ℕ) → Globals → Globals
+withFrames paced frame entered g =
+    withAssigned g (g .power) (g .«setup_ready») (g .«setup_low») (g .«setup_high») (g .«int_en») (g .«ep_type») paced frame entered
+
 abbrev pub withPower : ℕ → Globals → Globals
-withPower v g = record {
-  stage = g .stage;
-  callback = g .callback;
-  power = v;
-  «setup_ready» = g .«setup_ready»;
-  «setup_low» = g .«setup_low»;
-  «setup_high» = g .«setup_high»;
-  «int_en» = g .«int_en»;
-  «ep_config» = g .«ep_config»;
-  «ep_type» = g .«ep_type»;
-  «iso_out_eps» = g .«iso_out_eps»;
-  «iso_in_every» = g .«iso_in_every»;
-  «iso_in_paced» = g .«iso_in_paced»;
-  «sof_frame» = g .«sof_frame»;
-  «ep0_buf» = g .«ep0_buf»;
-  «ep0_max» = g .«ep0_max»;
-  entered = g .entered;
-}
+withPower v g = withEvents v (g .«setup_ready») (g .«setup_low») (g .«setup_high») g
 
 abbrev pub withSetup : ℕ → ℕ → ℕ → Globals → Globals
-withSetup v lo hi g = record {
-  stage = g .stage;
-  callback = g .callback;
-  power = g .power;
-  «setup_ready» = v;
-  «setup_low» = lo;
-  «setup_high» = hi;
-  «int_en» = g .«int_en»;
-  «ep_config» = g .«ep_config»;
-  «ep_type» = g .«ep_type»;
-  «iso_out_eps» = g .«iso_out_eps»;
-  «iso_in_every» = g .«iso_in_every»;
-  «iso_in_paced» = g .«iso_in_paced»;
-  «sof_frame» = g .«sof_frame»;
-  «ep0_buf» = g .«ep0_buf»;
-  «ep0_max» = g .«ep0_max»;
-  entered = g .entered;
-}
+withSetup v lo hi g = withEvents (g .power) v lo hi g
 
 abbrev pub withPaced : ℕ → Globals → Globals
-withPaced v g = record {
-  stage = g .stage;
-  callback = g .callback;
-  power = g .power;
-  «setup_ready» = g .«setup_ready»;
-  «setup_low» = g .«setup_low»;
-  «setup_high» = g .«setup_high»;
-  «int_en» = g .«int_en»;
-  «ep_config» = g .«ep_config»;
-  «ep_type» = g .«ep_type»;
-  «iso_out_eps» = g .«iso_out_eps»;
-  «iso_in_every» = g .«iso_in_every»;
-  «iso_in_paced» = v;
-  «sof_frame» = g .«sof_frame»;
-  «ep0_buf» = g .«ep0_buf»;
-  «ep0_max» = g .«ep0_max»;
-  entered = g .entered;
-}
+withPaced v g = withFrames v (g .«sof_frame») (g .entered) g
 
 abbrev pub withSofFrame : ℕ → Globals → Globals
-withSofFrame v g = record {
-  stage = g .stage;
-  callback = g .callback;
-  power = g .power;
-  «setup_ready» = g .«setup_ready»;
-  «setup_low» = g .«setup_low»;
-  «setup_high» = g .«setup_high»;
-  «int_en» = g .«int_en»;
-  «ep_config» = g .«ep_config»;
-  «ep_type» = g .«ep_type»;
-  «iso_out_eps» = g .«iso_out_eps»;
-  «iso_in_every» = g .«iso_in_every»;
-  «iso_in_paced» = g .«iso_in_paced»;
-  «sof_frame» = v;
-  «ep0_buf» = g .«ep0_buf»;
-  «ep0_max» = g .«ep0_max»;
-  entered = g .entered;
-}
+withSofFrame v g = withFrames (g .«iso_in_paced») v (g .entered) g
 
 abbrev pub withEntered : ℕ → Globals → Globals
-withEntered v g = record {
-  stage = g .stage;
-  callback = g .callback;
-  power = g .power;
-  «setup_ready» = g .«setup_ready»;
-  «setup_low» = g .«setup_low»;
-  «setup_high» = g .«setup_high»;
-  «int_en» = g .«int_en»;
-  «ep_config» = g .«ep_config»;
-  «ep_type» = g .«ep_type»;
-  «iso_out_eps» = g .«iso_out_eps»;
-  «iso_in_every» = g .«iso_in_every»;
-  «iso_in_paced» = g .«iso_in_paced»;
-  «sof_frame» = g .«sof_frame»;
-  «ep0_buf» = g .«ep0_buf»;
-  «ep0_max» = g .«ep0_max»;
-  entered = v;
-}
+withEntered v g = withFrames (g .«iso_in_paced») (g .«sof_frame») v g
 
 -- ---- assignments
 

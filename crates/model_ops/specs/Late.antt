@@ -1,6 +1,6 @@
 -- The length of a packet that is looked at after the interrupt of its own (request Eight). Assumes nothing.
 use mathlib.Core.Path.{_≡_, refl, ap, sym, _∙_}
-use mathlib.Core.Bool.{Bool, true, cond}
+use mathlib.Core.Bool.{true, cond}
 use mathlib.Core.List.{List}
 use Prim.Native.Nat.{ℕ, _+_, _%_, _≤_}
 use lib.Dec.{eqb}
@@ -8,7 +8,7 @@ use lib.ListN.{length}
 use Rattle.bits.specs.Bit.{isSet}
 use Rattle.regs.specs.declared.Dir.the-variants.{Out}
 use Rattle.state.specs.declared.EpState.{EpState}
-use Rattle.state.specs.Driver.{Driver, epOn}
+use Rattle.state.specs.Driver.{epOn}
 use Rattle.state.specs.Laws.{Sized, epOn-same}
 use Rattle.ring.specs.Out.{cappedAt, armedAt}
 use Rattle.marks.specs.Marks.{reach, armed}

@@ -9,12 +9,13 @@ use Rattle.regs.specs.Enables as enables
 use Rattle.state.specs.declared.EpState.{EpState}
 use Rattle.state.specs.declared.Globals.{Globals}
 use Rattle.state.specs.Driver.{Driver, epOn, withOn, withGlobals, withAllocator}
-use Rattle.state.specs.Kept.{withEpConfig}
+use Rattle.state.specs.Ep.{withTransfer}
+use Rattle.state.specs.Kept.{withAssigned, withSettings, withEpConfig}
 use Rattle.alloc.specs.declared.Answer.{Answer}
 use Rattle.alloc.specs.declared.Answer.the-variants.{Refused, Given}
 use Rattle.alloc.specs.Alloc.{allocateOf, allocateEp0Of, allocated, isIso}
 use Rattle.model.specs.Cells.{EpCore}
-use Rattle.model.specs.Statics.{isOn}
+use Rattle.model.specs.Statics.{isOn, withPower}
 
 -- all but the ring
 abbrev pub plainOf : EpState → EpCore
@@ -32,47 +33,14 @@ plainOf r = record {
 
 -- `ready`, `len`, `armed`, `last_frame` and `tog` are assigned
 abbrev pub merged : EpState → EpCore → EpState
-merged r p = record {
-  ready = p .ready;
-  len = p .len;
-  armed = p .armed;
-  iso = r .iso;
-  kind = r .kind;
-  base = r .base;
-  stride = r .stride;
-  slots = r .slots;
-  head = r .head;
-  tail = r .tail;
-  loaded = r .loaded;
-  overruns = r .overruns;
-  «last_frame» = p .«last_frame»;
-  «max_len» = r .«max_len»;
-  «armed_slot» = r .«armed_slot»;
-  tog = p .tog;
-  «open» = r .«open»;
-}
+merged r p = withTransfer r (p .ready) (p .len) (p .armed) (p .«last_frame») (p .tog)
 
 -- the globals that scripts assign; stage, callback, ep_config, the two sets of isochronous endpoints and EP0's buffer and maximum change by
 -- their own operations alone
 abbrev pub mergedGlobals : Globals → Globals → Globals
-mergedGlobals g v = record {
-  stage = g .stage;
-  callback = g .callback;
-  power = v .power;
-  «setup_ready» = v .«setup_ready»;
-  «setup_low» = v .«setup_low»;
-  «setup_high» = v .«setup_high»;
-  «int_en» = v .«int_en»;
-  «ep_config» = g .«ep_config»;
-  «ep_type» = v .«ep_type»;
-  «iso_out_eps» = g .«iso_out_eps»;
-  «iso_in_every» = g .«iso_in_every»;
-  «iso_in_paced» = v .«iso_in_paced»;
-  «sof_frame» = v .«sof_frame»;
-  «ep0_buf» = g .«ep0_buf»;
-  «ep0_max» = g .«ep0_max»;
-  entered = v .entered;
-}
+mergedGlobals g v =
+    withAssigned g (v .power) (v .«setup_ready») (v .«setup_low») (v .«setup_high») (v .«int_en») (v .«ep_type») (v .«iso_in_paced»)
+    (v .«sof_frame») (v .entered)
 
 -- an isochronous OUT, whose ring is reset and whose enable bit is set in a row
 unfoldable pub isoOut : Driver → Dir → ℕ → Bool
@@ -90,24 +58,7 @@ enabledOn d dir e on = cond (isoOut d dir e) d (configured d dir e on)
 
 -- iso_out_eps and iso_in_every (mod.rs 1015-1027)
 abbrev pub withIsoSets : ℕ → ℕ → Globals → Globals
-withIsoSets outs every g = record {
-  stage = g .stage;
-  callback = g .callback;
-  power = g .power;
-  «setup_ready» = g .«setup_ready»;
-  «setup_low» = g .«setup_low»;
-  «setup_high» = g .«setup_high»;
-  «int_en» = g .«int_en»;
-  «ep_config» = g .«ep_config»;
-  «ep_type» = g .«ep_type»;
-  «iso_out_eps» = outs;
-  «iso_in_every» = every;
-  «iso_in_paced» = g .«iso_in_paced»;
-  «sof_frame» = g .«sof_frame»;
-  «ep0_buf» = g .«ep0_buf»;
-  «ep0_max» = g .«ep0_max»;
-  entered = g .entered;
-}
+withIsoSets outs every g = withSettings g (g .stage) (g .«ep_config») outs every (g .«ep0_buf») (g .«ep0_max»)
 
 -- an isochronous IN is polled every microframe where its interval is 1, or 0
 abbrev pub isoAdded : Dir → ℕ → ℕ → Globals → Globals
@@ -136,24 +87,7 @@ allocatedOn d dir kind address maximum interval =
 -- EP0's buffer and maximum; the stage after its start, and no power event yet. All in the begin: only an interrupt reads the buffer, and none
 -- passes before EP0's start has ended
 abbrev pub withEp0 : ℕ → ℕ → Globals → Globals
-withEp0 base maximum g = record {
-  stage = 2;
-  callback = g .callback;
-  power = 0;
-  «setup_ready» = g .«setup_ready»;
-  «setup_low» = g .«setup_low»;
-  «setup_high» = g .«setup_high»;
-  «int_en» = g .«int_en»;
-  «ep_config» = g .«ep_config»;
-  «ep_type» = g .«ep_type»;
-  «iso_out_eps» = g .«iso_out_eps»;
-  «iso_in_every» = g .«iso_in_every»;
-  «iso_in_paced» = g .«iso_in_paced»;
-  «sof_frame» = g .«sof_frame»;
-  «ep0_buf» = base;
-  «ep0_max» = maximum;
-  entered = g .entered;
-}
+withEp0 base maximum g = withSettings (withPower 0 g) 2 (g .«ep_config») (g .«iso_out_eps») (g .«iso_in_every») base maximum
 
 unfoldable pub startedWith : ℕ → Answer → Driver → Driver
 startedWith maximum (Refused n) d = d

@@ -1,5 +1,5 @@
 -- The rings' operations on the driver and the lent buffer
-use mathlib.Core.Bool.{Bool, true, false, not, cond, _&&_}
+use mathlib.Core.Bool.{Bool, not, cond, _&&_}
 use mathlib.Core.List.{List}
 use Prim.Native.Nat.{ℕ, zero, suc, _+_, _*_, _%_}
 use lib.Dec.{eqb, ltb}
@@ -9,8 +9,7 @@ use Rattle.regs.specs.declared.Dir.{Dir}
 use Rattle.regs.specs.declared.Dir.the-variants.{Out, In}
 use Rattle.regs.specs.Enables as enables
 use Rattle.state.specs.declared.EpState.{EpState}
-use Rattle.state.specs.declared.Globals.{Globals}
-use Rattle.state.specs.Ep.{resetOf}
+use Rattle.state.specs.Ep.{resetOf, withRing}
 use Rattle.state.specs.Kept.{withEpConfig, withEpType}
 use Rattle.state.specs.Fresh.{clearStamps, noStamps}
 use Rattle.state.specs.Driver.{Driver, epOn, withOn, lenOn, withLenOn, stampOn, withStampOn, withGlobals}
@@ -74,25 +73,7 @@ completeOn d e = withOn d In e (unloadedOf (completedOf (epOn d In e)))
 
 -- `EpState::reset`, the ring's part
 unfoldable pub emptied : EpState → EpState
-emptied r = record {
-  ready = r .ready;
-  len = r .len;
-  armed = r .armed;
-  iso = r .iso;
-  kind = r .kind;
-  base = r .base;
-  stride = r .stride;
-  slots = r .slots;
-  head = 0;
-  tail = 0;
-  loaded = 0;
-  overruns = r .overruns;
-  «last_frame» = r .«last_frame»;
-  «max_len» = r .«max_len»;
-  «armed_slot» = r .«armed_slot»;
-  tog = r .tog;
-  «open» = 0;
-}
+emptied r = withRing r 0 0 0 (r .overruns) (r .«armed_slot») 0
 
 unfoldable pub emptiedOn : Driver → Dir → ℕ → Driver
 emptiedOn d dir e = cond (isoOut d dir e) d (withOn d dir e (emptied (epOn d dir e)))
@@ -183,15 +164,15 @@ slotStep e k s =
     (armAt e k (cond (eqb k 15) (renewedOn (s .0) e) (s .0), s .1))
     (epOn (s .0) Out e .«armed_slot», s)
 
+-- a word with the bit of an isochronous OUT; of any other endpoint as it was
+abbrev pub switchedOn : Driver → ℕ → Bool → ℕ → ℕ
+switchedOn d e on w = cond (isOn (epOn d Out e .iso)) (enables.withOn w Out e on) w
+
 unfoldable pub typeStep : ℕ → Bool → Driver → ℕ × Driver
-typeStep e on d =
-    let v = cond (isOn (epOn d Out e .iso)) (enables.withOn (d .globals .«ep_type») Out e on) (d .globals .«ep_type») in
-    (v, withGlobals d (withEpType v (d .globals)))
+typeStep e on d = let v = switchedOn d e on (d .globals .«ep_type») in (v, withGlobals d (withEpType v (d .globals)))
 
 unfoldable pub configStep : ℕ → Bool → Driver → ℕ × Driver
-configStep e on d =
-    let v = cond (isOn (epOn d Out e .iso)) (enables.withOn (d .globals .«ep_config») Out e on) (d .globals .«ep_config») in
-    (v, withGlobals d (withEpConfig v (d .globals)))
+configStep e on d = let v = switchedOn d e on (d .globals .«ep_config») in (v, withGlobals d (withEpConfig v (d .globals)))
 
 abbrev pub switchStep : ℕ → Bool → ℕ → St → ℕ × St
 switchStep e on zero s = (configStep e on (s .0) .0, (configStep e on (s .0) .1, s .1))

@@ -15,7 +15,7 @@ ghost use Prim.Native.Nat.{_≤_, _%_};
 ghost use Rattle.alloc.specs.Alloc.{allocateOf, allocateEp0Of};
 ghost use Rattle.model.specs.Statics.{isoOuts};
 ghost use Rattle.model_ops.specs.Records.{isoOut, enabledOn, withSets, recordGiven, setsGiven, givenTo, allocatedOn, startedWith, allocatedEp0};
-ghost use Rattle.model_ops.specs.Rings.{placeOn, typeStep, configStep};
+ghost use Rattle.model_ops.specs.Rings.{placeOn, switchedOn, typeStep, configStep};
 
 pub fn wake(s: &mut [u8; STATE_LEN], dir: Dir, e: u8)
     ensures { λ _. ⌜ view (now (s .exit)) ≡ withWakes (view (now (s .entry))) (woken (wakeCode dir e) (view (now (s .entry)) .wakes)) ⌝ }
@@ -111,21 +111,27 @@ pub fn place(s: &mut [u8; STATE_LEN], dir: Dir, e: u8) -> u32
     }
 }
 
+// A word with the bit of an isochronous OUT; of any other endpoint as it was.
+fn switched(s: &[u8; STATE_LEN], e: u8, on: bool, word: u32) -> u32
+    ensures { λ r. ⌜ r ≡ switchedOn (view (now (s .entry))) e on word ⌝ }
+{
+    let r = state::load_ep(s, Dir::Out, e);
+    if is_on(r.iso) {
+        return regs::enables::with_on(word, Dir::Out, e, on);
+    }
+    word
+}
+
 // ep_type's bit in the row of an isochronous OUT.
 pub fn type_step(s: &mut [u8; STATE_LEN], e: u8, on: bool) -> u32
     ensures { λ r. ⌜ r ≡ typeStep e on (view (now (s .entry))) .0 ⌝ }
     ensures { λ _. ⌜ view (now (s .exit)) ≡ typeStep e on (view (now (s .entry))) .1 ⌝ }
     ensures { λ _. ⌜ saved (now (s .exit)) ≡ saved (now (s .entry)) ⌝ }
 {
-    let r = state::load_ep(s, Dir::Out, e);
     let g = state::load_globals(s);
-    if is_on(r.iso) {
-        let v = regs::enables::with_on(g.ep_type, Dir::Out, e, on);
-        state::set_ep_type(s, v);
-        return v;
-    }
-    state::set_ep_type(s, g.ep_type);
-    g.ep_type
+    let v = switched(s, e, on, g.ep_type);
+    state::set_ep_type(s, v);
+    v
 }
 
 // And ep_config's, the row's last.
@@ -134,15 +140,10 @@ pub fn config_step(s: &mut [u8; STATE_LEN], e: u8, on: bool) -> u32
     ensures { λ _. ⌜ view (now (s .exit)) ≡ configStep e on (view (now (s .entry))) .1 ⌝ }
     ensures { λ _. ⌜ saved (now (s .exit)) ≡ saved (now (s .entry)) ⌝ }
 {
-    let r = state::load_ep(s, Dir::Out, e);
     let g = state::load_globals(s);
-    if is_on(r.iso) {
-        let v = regs::enables::with_on(g.ep_config, Dir::Out, e, on);
-        state::set_ep_config(s, v);
-        return v;
-    }
-    state::set_ep_config(s, g.ep_config);
-    g.ep_config
+    let v = switched(s, e, on, g.ep_config);
+    state::set_ep_config(s, v);
+    v
 }
 
 // iso_out_eps and iso_in_every with the endpoint that was allocated.

@@ -22,7 +22,10 @@ use state::load_stamp;
 use state::store_ep;
 use state::store_len;
 ghost use mathlib.Core.Path.{_≡_};
+ghost use mathlib.Core.Bool.{cond};
 ghost use Prim.Native.Nat.{_+_, _*_, _≤_};
+ghost use Rattle.regs.specs.declared.Dir.the-variants.{Out};
+ghost use Rattle.state.specs.Driver.{withOn};
 ghost use Rattle.state.specs.State.{view, saved};
 ghost use Rattle.model.specs.Statics.{isOn};
 ghost use Rattle.model_ops.specs.Rings.{changedOn, markedOn, waitingOn, roomIn, roomOn, openedOn, nextLen};
@@ -68,10 +71,7 @@ fn takes(r: EpState, n: usize) -> bool
     if !has_room_in(r) {
         return false;
     }
-    if (r.stride as usize) < n {
-        return false;
-    }
-    true
+    !((r.stride as usize) < n)
 }
 
 pub fn room(s: &[u8; STATE_LEN], e: u8, n: usize) -> bool
@@ -155,16 +155,23 @@ pub fn complete(s: &mut [u8; STATE_LEN], e: u8)
     store_ep(s, Dir::In, e, unloaded(c));
 }
 
+// The record of OUT e, stored where the answer is yes.
+fn store_where(s: &mut [u8; STATE_LEN], e: u8, yes: bool, r: EpState)
+    ensures { λ _. ⌜ view (now (s .exit)) ≡ cond yes (withOn (view (now (s .entry))) Out e r) (view (now (s .entry))) ⌝ }
+    ensures { λ _. ⌜ saved (now (s .exit)) ≡ saved (now (s .entry)) ⌝ }
+{
+    if yes {
+        store_ep(s, Dir::Out, e, r);
+    }
+}
+
 // The oldest packet is open, where one waits.
 pub fn open_oldest(s: &mut [u8; STATE_LEN], e: u8)
     ensures { λ _. ⌜ view (now (s .exit)) ≡ openOn (view (now (s .entry))) e ⌝ }
     ensures { λ _. ⌜ saved (now (s .exit)) ≡ saved (now (s .entry)) ⌝ }
 {
     let r = load_ep(s, Dir::Out, e);
-    if has_waiting(r) {
-        store_ep(s, Dir::Out, e, ring::opened(r));
-        return;
-    }
+    store_where(s, e, has_waiting(r), ring::opened(r));
 }
 
 // The open packet is read, where one is open (mod.rs 269).
@@ -173,10 +180,7 @@ pub fn close_oldest(s: &mut [u8; STATE_LEN], e: u8)
     ensures { λ _. ⌜ saved (now (s .exit)) ≡ saved (now (s .entry)) ⌝ }
 {
     let r = load_ep(s, Dir::Out, e);
-    if is_on(r.open) {
-        store_ep(s, Dir::Out, e, closed(r));
-        return;
-    }
+    store_where(s, e, is_on(r.open), closed(r));
 }
 
 // The oldest packet is read, where one waits.
@@ -185,10 +189,7 @@ pub fn take_oldest(s: &mut [u8; STATE_LEN], e: u8)
     ensures { λ _. ⌜ saved (now (s .exit)) ≡ saved (now (s .entry)) ⌝ }
 {
     let r = load_ep(s, Dir::Out, e);
-    if has_waiting(r) {
-        store_ep(s, Dir::Out, e, closed(r));
-        return;
-    }
+    store_where(s, e, has_waiting(r), closed(r));
 }
 
 // The oldest packet is being sent; where it lies (mod.rs 597-603).

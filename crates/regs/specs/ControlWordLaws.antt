@@ -1,11 +1,11 @@
 -- A change of one field of a control word leaves the others, and a word made of its fields has them. Assumes nothing.
 use mathlib.Core.Path.{_≡_, refl, ap, _∙_}
 use mathlib.Core.Bool.{Bool, true, false}
-use Prim.Native.Nat.{ℕ, _+_, _-_, _*_, _/_, _%_, _<_}
+use Prim.Native.Nat.{ℕ, _+_, _*_, _/_, _%_}
 use native.Mathlib.Omega.{arith}
 use lib.Dec.{eqb}
-use Rattle.bits.specs.Bit.{isSet, digit, pick}
-use Rattle.regs.specs.ControlWord.{response, toggle, automatic, withResponse, withToggle, wordOf, flip, nak, nakflip, isData1}
+use Rattle.bits.specs.Bit.{isSet, pick}
+use Rattle.regs.specs.ControlWord.{response, toggle, automatic, withResponse, withToggle, wordOf, flip, nak, nakflip}
 
 pub response-with : (w r : ℕ) → response (withResponse w r) ≡ r % 4
 unfolding response withResponse

@@ -1,7 +1,6 @@
 -- The words that the driver writes whole, as numbers. Assumes nothing.
 use mathlib.Core.Path.{_≡_, refl}
 use mathlib.Core.Bool.{true, false}
-use Prim.Native.Nat.{ℕ}
 use Rattle.regs.specs.ControlWord.{ACK, NYET, NAK, DATA0, DATA1, wordOf}
 use Rattle.regs.specs.Ctrl.{CLEAR, RUN}
 use Rattle.regs.specs.IntEn.{atStart}

@@ -3,52 +3,44 @@ use crate::Reg;
 ghost use mathlib.Core.Path.{_≡_};
 ghost use Rattle.regs.specs.Registers.{numberOf, widthOf, fitsIn, ctrlOf};
 
-// The register's number.
-pub fn number(reg: Reg) -> u8
-    ensures { λ r. ⌜ r ≡ numberOf reg ⌝ }
+// A register's number, and how many bits a reading of it has; 0 for one that is never read.
+struct NumberWidth(u8, u8);
+
+fn facts(reg: Reg) -> NumberWidth
+    ensures { λ r. ⌜ (r .0 ≡ numberOf reg) × (r .1 ≡ widthOf reg) ⌝ }
 {
     match reg {
-        Reg::IntFg => 0,
-        Reg::IntSt => 1,
-        Reg::MisSt => 2,
-        Reg::RxLen => 3,
-        Reg::FrameNo => 4,
-        Reg::Ctrl => 5,
-        Reg::IntEn => 6,
-        Reg::DevAd => 7,
-        Reg::HostCtrl => 8,
-        Reg::EpConfig => 9,
-        Reg::EpType => 10,
-        Reg::EpBufMod => 11,
-        Reg::EpMaxLen => 13,
-        Reg::EpTLen => 14,
-        Reg::EpRxCtrl => 17,
-        Reg::EpTxCtrl => 18,
+        Reg::IntFg => NumberWidth(0, 6),
+        Reg::IntSt => NumberWidth(1, 7),
+        Reg::MisSt => NumberWidth(2, 2),
+        Reg::RxLen => NumberWidth(3, 16),
+        Reg::FrameNo => NumberWidth(4, 16),
+        Reg::Ctrl => NumberWidth(5, 6),
+        Reg::IntEn => NumberWidth(6, 0),
+        Reg::DevAd => NumberWidth(7, 0),
+        Reg::HostCtrl => NumberWidth(8, 0),
+        Reg::EpConfig => NumberWidth(9, 0),
+        Reg::EpType => NumberWidth(10, 0),
+        Reg::EpBufMod => NumberWidth(11, 0),
+        Reg::EpMaxLen => NumberWidth(13, 0),
+        Reg::EpTLen => NumberWidth(14, 0),
+        Reg::EpRxCtrl => NumberWidth(17, 8),
+        Reg::EpTxCtrl => NumberWidth(18, 8),
     }
 }
 
-// How many bits a reading of the register has; 0 for one that is never read.
+pub fn number(reg: Reg) -> u8
+    ensures { λ r. ⌜ r ≡ numberOf reg ⌝ }
+{
+    let f = facts(reg);
+    f.0
+}
+
 pub fn width(reg: Reg) -> u8
     ensures { λ r. ⌜ r ≡ widthOf reg ⌝ }
 {
-    match reg {
-        Reg::IntFg => 6,
-        Reg::IntSt => 7,
-        Reg::MisSt => 2,
-        Reg::RxLen => 16,
-        Reg::FrameNo => 16,
-        Reg::Ctrl => 6,
-        Reg::IntEn => 0,
-        Reg::DevAd => 0,
-        Reg::HostCtrl => 0,
-        Reg::EpConfig => 0,
-        Reg::EpType => 0,
-        Reg::EpBufMod => 0,
-        Reg::EpMaxLen => 0,
-        Reg::EpTLen => 0,
-        Reg::EpRxCtrl => 8,
-        Reg::EpTxCtrl => 8,
-    }
+    let f = facts(reg);
+    f.1
 }
 
 // Has the value no bit above the width? (row 16)

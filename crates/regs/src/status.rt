@@ -1,5 +1,6 @@
 use crate::Token;
 ghost use mathlib.Core.Path.{_≡_};
+ghost use Prim.Native.Nat.{_/_, _%_};
 ghost use Rattle.regs.specs.Status.{endpoint, token, togOk, isOut, isSof, isIn};
 
 // The endpoint of the last transaction.
@@ -28,41 +29,30 @@ pub fn tog_ok(status: u8) -> bool
     bits::byte_has(status, 6)
 }
 
+// The token's number: 0 OUT, 1 SOF, 2 IN, 3 SETUP.
+fn token_number(status: u8) -> u8
+    ensures { λ r. ⌜ r ≡ status / 16 % 4 ⌝ }
+{
+    status >> 4 & 3
+}
+
 // Is the token OUT?
 pub fn is_out(status: u8) -> bool
     ensures { λ r. ⌜ r ≡ isOut status ⌝ }
 {
-    let t = token(status);
-    match t {
-        Token::Out => true,
-        Token::Sof => false,
-        Token::In => false,
-        Token::Setup => false,
-    }
+    token_number(status) == 0
 }
 
 // Is it SOF?
 pub fn is_sof(status: u8) -> bool
     ensures { λ r. ⌜ r ≡ isSof status ⌝ }
 {
-    let t = token(status);
-    match t {
-        Token::Out => false,
-        Token::Sof => true,
-        Token::In => false,
-        Token::Setup => false,
-    }
+    token_number(status) == 1
 }
 
 // Is it IN?
 pub fn is_in(status: u8) -> bool
     ensures { λ r. ⌜ r ≡ isIn status ⌝ }
 {
-    let t = token(status);
-    match t {
-        Token::Out => false,
-        Token::Sof => false,
-        Token::In => true,
-        Token::Setup => false,
-    }
+    token_number(status) == 2
 }

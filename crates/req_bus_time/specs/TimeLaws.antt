@@ -1,20 +1,17 @@
 -- Laws of the record: its length stays, a charge counts once, what is kept is no more than it was. Assumes nothing.
 use mathlib.Core.Bool.{Bool, true, false, cond}
 use mathlib.Core.List.{List}
-use mathlib.Core.Logic.{_≢_, _⊎_, inl, inr, ⊎-elim}
+use mathlib.Core.Logic.{_⊎_, inl, inr, ⊎-elim}
 use mathlib.Core.Path.{_≡_, refl, ap, sym, _∙_}
 use Prim.Native.Nat.{ℕ, zero, suc, _+_, _-_, _*_, _%_, _≤_, _<_}
 use native.Mathlib.Nat.{mod-eq-of-lt}
 use native.Mathlib.Numerals.{add-one}
 use native.Mathlib.Omega.{arith}
-use lib.Dec.{ltb}
 use lib.ListN.{length, length-set, getD, set}
 use lib.Seq.{getD-set-same, getD-set-other}
 use borrow.Author.Tests.{ltb-false}
 use Rattle.bits.specs.Bit.{isSet}
-use Rattle.regs.specs.declared.Dir.{Dir}
-use Rattle.regs.specs.declared.Dir.the-variants.{Out, In}
-use Rattle.req_bus_time.specs.Time.{PERIODIC, entryOf, total, inUse, passes, entryKept, kept, keepOf}
+use Rattle.req_bus_time.specs.Time.{total, inUse, passes, entryKept, kept, keepOf}
 
 pub total-none : (t : List ℕ) → total t 0 ≡ 0
 unfolding total

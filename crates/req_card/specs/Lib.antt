@@ -11,3 +11,4 @@ pub mod Places
 pub mod Whole
 pub mod WholeLaws
 pub mod Turns
+pub mod PasteLaws

@@ -64,23 +64,25 @@ intact-gives v d x s a n i = elim (decLt (cleanUpTo v d x) (blockEnd x)) [
 ends-gives : (a n : ℕ) → Ends ≡ Gives a n → ⊥
 ends-gives a n h = let z : _≡_ {A = ℕ} 0 1 = cc in omega arith
 
-begin-fits : (v : View) (d a n : ℕ) → beginAt v d ≡ Gives a n → d + 3 + n ≤ total v
-begin-fits v d a n h = elim (ℕ-discrete (endpointAt v d) 0) [
+-- a packet that begins at d has the header there, and lies in the stream and in good blocks
+begin-gives : (v : View) (d a n : ℕ) → beginAt v d ≡ Gives a n
+    → (endpointAt v d ≡ a) × (lengthAt v d ≡ n) × (d + 3 + n ≤ total v) × (intact v d (d + 3 + n) (Gives a n) ≡ Gives a n)
+begin-gives v d a n h = elim (ℕ-discrete (endpointAt v d) 0) [
   | yes z ↦ absurd (ends-gives a n (sym (begin-filler v d z) ∙ h))
   | no z ↦ elim (decLt (total v) (d + 3 + lengthAt v d)) [
     | yes p ↦ absurd (ends-gives a n (intact-gives v d (total v) Ends a n (sym (begin-packet v d z ∙ packet-past v d (lengthAt v d) p) ∙ h)))
-    | no p ↦ (let g : Gives (endpointAt v d) (lengthAt v d) ≡ Gives a n =
-        intact-gives v d (d + 3 + lengthAt v d) (Gives (endpointAt v d) (lengthAt v d)) a n
-        (sym (begin-packet v d z ∙ packet-in v d (lengthAt v d) (omega arith)) ∙ h) in
-        let e : lengthAt v d ≡ n = cc in
-        omega arith)
+    | no p ↦ (let i = sym (begin-packet v d z ∙ packet-in v d (lengthAt v d) (omega arith)) ∙ h in
+        let g = intact-gives v d (d + 3 + lengthAt v d) (Gives (endpointAt v d) (lengthAt v d)) a n i in
+        let x : endpointAt v d ≡ a = cc in
+        let y : lengthAt v d ≡ n = cc in
+        (x, y, omega arith, rw (x, y) at i))
   ]
 ]
 
 pub gives-fits : (v : View) (d a n : ℕ) → stepAt v d ≡ Gives a n → d + 3 + n ≤ total v
 gives-fits v d a n h = elim (decLt (total v) (d + 3)) [
   | yes s ↦ absurd (ends-gives a n (sym (step-short v d s) ∙ h))
-  | no s ↦ begin-fits v d a n (intact-gives v d (d + 3) (beginAt v d) a n (sym (step-begin v d (omega arith)) ∙ h))
+  | no s ↦ begin-gives v d a n (intact-gives v d (d + 3) (beginAt v d) a n (sym (step-begin v d (omega arith)) ∙ h)) .2
 ]
 
 -- ---- the next packet
@@ -122,44 +124,19 @@ intact-clean v d x s a n i = elim (decLt (cleanUpTo v d x) (blockEnd x)) [
   | no c ↦ omega arith
 ]
 
-begin-clean : (v : View) (d a n : ℕ) → beginAt v d ≡ Gives a n → blockEnd (d + 3 + n) ≤ cleanUpTo v d (d + 3 + n)
-begin-clean v d a n h = elim (ℕ-discrete (endpointAt v d) 0) [
-  | yes z ↦ absurd (ends-gives a n (sym (begin-filler v d z) ∙ h))
-  | no z ↦ elim (decLt (total v) (d + 3 + lengthAt v d)) [
-    | yes p ↦ absurd (ends-gives a n (intact-gives v d (total v) Ends a n (sym (begin-packet v d z ∙ packet-past v d (lengthAt v d) p) ∙ h)))
-    | no p ↦ (let i = sym (begin-packet v d z ∙ packet-in v d (lengthAt v d) (omega arith)) ∙ h in
-        let g = intact-gives v d (d + 3 + lengthAt v d) (Gives (endpointAt v d) (lengthAt v d)) a n i in
-        let e : lengthAt v d ≡ n = cc in
-        rw e at (intact-clean v d (d + 3 + lengthAt v d) (Gives (endpointAt v d) (lengthAt v d)) a n i))
-  ]
-]
-
 gives-clean : (v : View) (d a n : ℕ) → stepAt v d ≡ Gives a n → blockEnd (d + 3 + n) ≤ cleanUpTo v d (d + 3 + n)
 gives-clean v d a n h = elim (decLt (total v) (d + 3)) [
   | yes s ↦ absurd (ends-gives a n (sym (step-short v d s) ∙ h))
-  | no s ↦ begin-clean v d a n (intact-gives v d (d + 3) (beginAt v d) a n (sym (step-begin v d (omega arith)) ∙ h))
+  | no s ↦ intact-clean v d (d + 3 + n) (Gives a n) a n
+      (begin-gives v d a n (intact-gives v d (d + 3) (beginAt v d) a n (sym (step-begin v d (omega arith)) ∙ h)) .3)
 ]
 
 -- ---- a packet that is found is the one whose header stands there
 
-begin-header : (v : View) (d a n : ℕ) → beginAt v d ≡ Gives a n → (endpointAt v d ≡ a) × (lengthAt v d ≡ n)
-begin-header v d a n h = elim (ℕ-discrete (endpointAt v d) 0) [
-  | yes z ↦ absurd (ends-gives a n (sym (begin-filler v d z) ∙ h))
-  | no z ↦ elim (decLt (total v) (d + 3 + lengthAt v d)) [
-    | yes p ↦ absurd (ends-gives a n (intact-gives v d (total v) Ends a n (sym (begin-packet v d z ∙ packet-past v d (lengthAt v d) p) ∙ h)))
-    | no p ↦ (let g : Gives (endpointAt v d) (lengthAt v d) ≡ Gives a n =
-        intact-gives v d (d + 3 + lengthAt v d) (Gives (endpointAt v d) (lengthAt v d)) a n
-        (sym (begin-packet v d z ∙ packet-in v d (lengthAt v d) (omega arith)) ∙ h) in
-        let x : endpointAt v d ≡ a = cc in
-        let y : lengthAt v d ≡ n = cc in
-        (x, y))
-  ]
-]
-
 gives-header : (v : View) (d a n : ℕ) → stepAt v d ≡ Gives a n → (endpointAt v d ≡ a) × (lengthAt v d ≡ n)
 gives-header v d a n h = elim (decLt (total v) (d + 3)) [
   | yes s ↦ absurd (ends-gives a n (sym (step-short v d s) ∙ h))
-  | no s ↦ begin-header v d a n (intact-gives v d (d + 3) (beginAt v d) a n (sym (step-begin v d (omega arith)) ∙ h))
+  | no s ↦ (let b = begin-gives v d a n (intact-gives v d (d + 3) (beginAt v d) a n (sym (step-begin v d (omega arith)) ∙ h)) in (b .0, b .1))
 ]
 
 -- what holds of each packet that a step gives holds of the one that is found

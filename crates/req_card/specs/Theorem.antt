@@ -8,11 +8,11 @@ use native.Mathlib.Decide.{ℕ-discrete, decLt}
 use borrow.Author.Tests.{le-leb, lt-leb, eq-eqb, ne-eqb}
 use lib.ListN.{length, getD, List·getD-append}
 use lib.Seq.{getD-append-add}
-use Rattle.req_card.specs.Packet.{Packet, Writable, All, none, more, packetBytes, size, dataOf}
+use Rattle.req_card.specs.Packet.{Packet, Writable, All, more, packetBytes, size, dataOf}
 use Rattle.req_card.specs.Reading.{View, total, begins, seek, seekFrom, blockEnd, cleanUpTo, lengthAt, endpointAt}
 use Rattle.req_card.specs.Reading.{bytesFrom, packetFrom, packetAt, stepAt, readFrom, readAll}
 use Rattle.req_card.specs.declared.Step.the-variants.{Gives}
-use Rattle.req_card.specs.Kept.{wholly, keptFrom, firstIn, AsWritten}
+use Rattle.req_card.specs.Kept.{keptFrom, firstIn, AsWritten}
 use Rattle.req_card.specs.Steps.{intact-good, intact-cut, packet-in, packet-past, begin-filler, begin-packet}
 use Rattle.req_card.specs.Steps.{step-short, step-begin, read-ends, read-goes, read-gives}
 use Rattle.req_card.specs.Clean.{clean-low, clean-bad, clean-good, all-false, all-true}

@@ -1,11 +1,10 @@
 -- What WholeLaws.antt speaks of. It proves: a reader of any stream whose good blocks are as written gives exactly the
 -- written packets that lie wholly in good blocks, in order.
-use mathlib.Core.Path.{_≡_, ap₂, _∙_}
-use mathlib.Core.Bool.{true, false≢true}
-use mathlib.Core.List.{List, [], _∷_}
-use Prim.Native.Nat.{ℕ, _+_, _*_, _/_, _%_, _≤_, _<_}
-use Rattle.req_card.specs.Packet.{Packet, All}
-use Rattle.req_card.specs.Kept.{AsWritten}
+use mathlib.Core.Path.{_≡_}
+use mathlib.Core.Bool.{true}
+use mathlib.Core.List.{List}
+use Prim.Native.Nat.{ℕ}
+use Rattle.req_card.specs.Packet.{Packet}
 use Rattle.req_card.specs.Written.{stream}
 use Rattle.req_card.specs.Streams.{blockAt, goodBlock}
 

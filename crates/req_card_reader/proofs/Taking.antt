@@ -1,6 +1,6 @@
 -- What the loop over packets keeps.
 use mathlib.Core.Path.{_≡_, refl, sym, ap, _∙_}
-use mathlib.Core.Bool.{Bool, true, false}
+use mathlib.Core.Bool.{Bool}
 use mathlib.Core.List.{List, [], _++_, append-nil}
 use Prim.Native.Nat.{ℕ, suc, _+_, _-_, _/_, _≤_, _<_}
 use native.Mathlib.Nat.{zero-add, add-zero}
@@ -13,7 +13,6 @@ use lib.Seq.{paste}
 use Rattle.req_card.specs.declared.Found.the-variants as found
 use Rattle.req_card.specs.Reading.{View, total, bytesFrom, find}
 use Rattle.req_card.specs.Progress.{find-fits}
-use Rattle.req_card_reader.specs.declared.batches.Taken.{Taken}
 use Rattle.req_card_reader.specs.Rooms.{length-bytes}
 use Rattle.req_card_reader.specs.Seen.{Seen}
 use Rattle.req_card_reader.specs.SeenLaws.{seen-none}

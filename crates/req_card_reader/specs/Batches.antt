@@ -5,7 +5,6 @@ use mathlib.Core.List.{List, [], _++_}
 use Prim.Native.Nat.{ℕ, zero, suc, _+_, _-_}
 use lib.Dec.{ltb, eqb}
 use lib.ListN.{length, drop}
-use Rattle.req_card.specs.declared.Found.{Found}
 use Rattle.req_card.specs.declared.Found.the-variants as found
 use Rattle.req_card.specs.Reading.{View, total, bytesFrom, find}
 use Rattle.req_card.specs.Streams.{view}

@@ -1,11 +1,7 @@
 -- Packets that lie whole in one good block, one behind the other.
-use mathlib.Core.Path.{_≡_, _∙_}
-use mathlib.Core.Bool.{Bool, false≢true}
-use mathlib.Core.List.{List}
-use Prim.Native.Nat.{ℕ, zero, suc, _+_, _-_, _*_, _/_, _%_, _≤_, _<_}
-use Rattle.req_card.specs.declared.Found.{Found}
+use mathlib.Core.Path.{_≡_}
+use Prim.Native.Nat.{ℕ, zero, suc, _+_, _%_, _≤_}
 use Rattle.req_card.specs.declared.Found.the-variants as found
-use Rattle.req_card.specs.declared.Step.the-variants.{Gives}
 use Rattle.req_card.specs.Reading.{View, total, find}
 use Rattle.req_card_reader.specs.Seen.{Seen}
 

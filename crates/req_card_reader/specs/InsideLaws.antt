@@ -1,6 +1,6 @@
 -- Laws on the definitions of Inside.antt
 use mathlib.Core.Path.{_≡_, refl, sym, ap, _∙_}
-use mathlib.Core.Bool.{Bool, true, false≢true}
+use mathlib.Core.Bool.{true, false≢true}
 use mathlib.Core.List.{List}
 use Prim.Native.Nat.{ℕ, zero, suc, _+_, _-_, _*_, _/_, _%_, _≤_, _<_}
 use native.Mathlib.Omega.{arith}
@@ -8,7 +8,6 @@ use native.Mathlib.Decide.{decLt}
 use native.Mathlib.Numerals.{add-one}
 use lib.ListN.{length, drop, getD}
 use lib.Seq.{take-all, paste}
-use Rattle.req_card.specs.declared.Found.{Found}
 use Rattle.req_card.specs.declared.Found.the-variants as found
 use Rattle.req_card.specs.declared.Step.the-variants.{Gives}
 use Rattle.req_card.specs.Reading.{View, total, blockEnd, cleanTo, cleanUpTo, lengthAt, endpointAt, packetAt, beginAt, stepAt, bytesFrom, find}

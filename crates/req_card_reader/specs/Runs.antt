@@ -1,17 +1,12 @@
 -- What RunsLaws.antt speaks of. It proves: the reader's calls in turn, with one lent room, give exactly the written
 -- packets that lie wholly in good blocks.
-use mathlib.Core.Path.{_≡_, ap₂, _∙_}
-use mathlib.Core.Bool.{Bool}
-use mathlib.Core.List.{List, [], _∷_, _++_}
-use Prim.Native.Nat.{ℕ, zero, suc, _+_, _%_, _≤_}
+use mathlib.Core.List.{List, [], _∷_}
+use Prim.Native.Nat.{ℕ, zero, suc}
 use lib.ListN.{length, take}
-use Rattle.req_card.specs.Packet.{Packet, packetOf, All}
-use Rattle.req_card.specs.Reading.{View, total}
+use Rattle.req_card.specs.Packet.{Packet, packetOf}
+use Rattle.req_card.specs.Reading.{total}
 use Rattle.req_card.specs.Streams.{view}
-use Rattle.req_card.specs.Whole.{AsInStream}
-use Rattle.req_card.specs.declared.Found.{Found}
 use Rattle.req_card.specs.declared.Found.the-variants as found
-use Rattle.req_card_reader.specs.declared.Reader.{Reader}
 use Rattle.req_card_reader.specs.declared.Started.the-variants as started
 use Rattle.req_card_reader.specs.declared.Next.the-variants as next
 use Rattle.req_card_reader.specs.Calls.{startOf, nextOf, roomOf}

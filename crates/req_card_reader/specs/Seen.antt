@@ -1,6 +1,5 @@
 -- What a reader has looked at already.
-use mathlib.Core.Path.{_≡_}
-use Prim.Native.Nat.{ℕ, _+_, _-_, _/_, _≤_, _<_}
+use Prim.Native.Nat.{ℕ, _+_, _-_, _/_, _≤_}
 use Rattle.req_card.specs.Reading.{View, blockEnd, cleanTo}
 
 -- the blocks from that of place d up to block `first` are good; the header at d does not end before them

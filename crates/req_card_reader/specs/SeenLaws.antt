@@ -1,6 +1,6 @@
 -- Laws on the definitions of Seen.antt
 use mathlib.Core.Path.{_≡_, sym}
-use Prim.Native.Nat.{ℕ, _+_, _-_, _/_, _≤_, _<_}
+use Prim.Native.Nat.{ℕ, _+_, _-_, _/_, _≤_}
 use native.Mathlib.Omega.{arith}
 use Rattle.req_card.specs.Reading.{View, blockEnd, cleanTo, cleanUpTo}
 use Rattle.req_card.specs.Clean.{clean-join}

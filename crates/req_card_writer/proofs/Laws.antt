@@ -1,11 +1,10 @@
 -- What stores leave in a block.
-use mathlib.Core.Path.{_≡_, sym, ap, _∙_}
+use mathlib.Core.Path.{_≡_, _∙_}
 use mathlib.Core.List.{List, [], _∷_, _++_, append-nil}
-use Prim.Native.Nat.{ℕ, suc, _+_, _-_, _/_, _%_, _≤_, _<_}
-use native.Mathlib.Numerals.{add-one}
+use Prim.Native.Nat.{ℕ, suc, _-_, _/_, _%_, _≤_}
 use native.Mathlib.Omega.{arith}
-use lib.ListN.{length, take, drop, set, getD, replicate, length-drop, length-replicate, getD-replicate, drop-of-length-le}
-use lib.Seq.{sets-eq, paste, paste-suc, getD-drop}
+use lib.ListN.{length, take, drop, set, getD, drop-of-length-le}
+use lib.Seq.{sets-eq}
 use Rattle.crc.specs.Crc.{dataCrc}
 use Rattle.req_card.specs.Packet.{packetBytes, packetOf}
 use Rattle.req_card.specs.Written.{body, sealed}
@@ -24,20 +23,6 @@ byte-rest e s i h = let x : i ≡ suc (suc (suc (i - 3))) = omega arith in go (i
   where
     go : (j : ℕ) → i ≡ suc (suc (suc j)) → getD s j 0 ≡ getD (packetBytes (packetOf e s)) i 0
     go j x = rw x
-
--- ---- loops
-
-pub piece-more : (d : List ℕ) (at : ℕ) (l : List ℕ) (from i : ℕ) → at + i < length d → from + i < length l
-    → set (paste d at (drop from l) i) (at + i) (getD l (from + i) 0) ≡ paste d at (drop from l) (i + 1)
-piece-more d at l from i h g =
-    rw (← getD-drop from l i 0, add-one i) (paste-suc d at (drop from l) i 0 h (omega (arith, length-drop from l)))
-
-pub zeros-more : (d : List ℕ) (at n i : ℕ) → at + i < length d → i < n
-    → set (paste d at (replicate n 0) i) (at + i) 0 ≡ paste d at (replicate n 0) (i + 1)
-zeros-more d at n i h g =
-    rw (add-one i)
-    (ap (λ (x : ℕ). set (paste d at (replicate n 0) i) (at + i) x) (sym (getD-replicate n i 0 0 g))
-    ∙ paste-suc d at (replicate n 0) i 0 h (omega (arith, length-replicate {A = ℕ} n 0)))
 
 -- ---- a block's head and check
 

@@ -9,7 +9,7 @@ use borrow.Author.Tests.{eq-eqb, ne-eqb}
 use lib.Dec.{eqb}
 use lib.ListN.{length, drop, getD, replicate, length-append, length-drop, length-replicate, getD-replicate, List·getD-eq-default}
 use lib.Seq.{paste, length-paste, getD-drop}
-use Rattle.req_card.specs.Packet.{Packet, Writable, All, none, more, packetBytes, size, dataOf}
+use Rattle.req_card.specs.Packet.{Packet, Writable, All, more, packetBytes, size, dataOf}
 use Rattle.req_card.specs.Kept.{firstIn}
 use Rattle.req_card.specs.Written.{blockOf, blocksFrom, blockCount, stream}
 use Rattle.req_card.specs.Theorem.{first-here, first-later}

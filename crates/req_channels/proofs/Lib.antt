@@ -1,2 +1,3 @@
 mod Lent
 mod Callees
+mod Walks

@@ -100,22 +100,15 @@ charges-filled cs zero = refl
 charges-filled cs (suc i) = rw (charges-filled cs i)
 
 module _ (cs : List Channel) (few : length cs ≤ 16) where
+  -- an array filled with a field of each channel has it, and 0 behind the last
+  field-read : (f : Channel → ℕ) (l : List ℕ) → f none ≡ 0 → l ≡ filled (λ i. f (getD cs i none)) (length cs) → (i : ℕ) → listed l i ≡ f (getD cs i none)
+  field-read f l z e i = elim (decLt i (length cs)) [
+    | yes g ↦ rw e (filled-each (λ j. f (getD cs j none)) (length cs) few i g)
+    | no g ↦ rw e (filled-behind (λ j. f (getD cs j none)) (length cs) i (omega arith) ∙ sym z ∙ ap f (sym (getD-past none cs i (omega arith))))
+  ]
+
   pub maxima-read : listed (listsOf cs (length cs) .maxima) ≡ maximum cs
-  maxima-read = λ x i. at i x
-    where
-      at : (i : ℕ) → listed (listsOf cs (length cs) .maxima) i ≡ maximum cs i
-      at i = elim (decLt i (length cs)) [
-        | yes g ↦ rw (maxima-filled cs (length cs)) (filled-each (maximum cs) (length cs) few i g)
-        | no g ↦ rw (maxima-filled cs (length cs))
-            (filled-behind (maximum cs) (length cs) i (omega arith) ∙ ap (λ (c : Channel). c .maximum) (sym (getD-past none cs i (omega arith))))
-      ]
+  maxima-read = λ x i. field-read (λ c. c .maximum) (listsOf cs (length cs) .maxima) refl (maxima-filled cs (length cs)) i x
 
   pub charges-read : listed (listsOf cs (length cs) .charges) ≡ charge cs
-  charges-read = λ x i. at i x
-    where
-      at : (i : ℕ) → listed (listsOf cs (length cs) .charges) i ≡ charge cs i
-      at i = elim (decLt i (length cs)) [
-        | yes g ↦ rw (charges-filled cs (length cs)) (filled-each (charge cs) (length cs) few i g)
-        | no g ↦ rw (charges-filled cs (length cs))
-            (filled-behind (charge cs) (length cs) i (omega arith) ∙ ap (λ (c : Channel). c .charge) (sym (getD-past none cs i (omega arith))))
-      ]
+  charges-read = λ x i. field-read (λ c. c .charge) (listsOf cs (length cs) .charges) refl (charges-filled cs (length cs)) i x

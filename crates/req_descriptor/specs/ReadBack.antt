@@ -1,15 +1,13 @@
 -- What ReadBackLaws.antt speaks of. It proves: reading gives good lists only, and a good list that is written reads
 -- back as itself. Assumes nothing.
-use mathlib.Core.Path.{_≡_, _∙_}
-use mathlib.Core.Bool.{Bool, true, false, _&&_, _||_}
-use mathlib.Core.List.{List, [], _∷_, _++_}
-use Prim.Native.Nat.{ℕ, _+_, _-_, _*_, _%_, _≤_, _<_}
-use Rattle.req_descriptor.specs.declared.Endpoint.{Endpoint}
-use Rattle.req_descriptor.specs.declared.Answer.the-variants.{Listed}
+use mathlib.Core.Path.{_≡_}
+use mathlib.Core.Bool.{true, false}
+use mathlib.Core.List.{List}
+use Prim.Native.Nat.{ℕ}
 use Rattle.req_descriptor.specs.Row.{isConfiguration}
 use Rattle.req_descriptor.specs.Endpoints.{ofList}
 use Rattle.req_descriptor.specs.Reading.{inOrder, listOf, twoTypes, readingOf}
-use Rattle.req_descriptor.specs.Lists.{Fine, Good}
+use Rattle.req_descriptor.specs.Lists.{Good}
 
 -- what is accepted has neither error, and its list is good
 pub record Accepted (s : List ℕ) : Type 0 where

@@ -5,7 +5,7 @@ use mathlib.Core.List.{List}
 use Prim.Native.Nat.{ℕ}
 use Rattle.req_descriptor.specs.declared.Endpoints.{Endpoints}
 use Rattle.req_descriptor.specs.declared.Written.{Written}
-use Rattle.req_descriptor.specs.declared.Written.the-variants.{Refused, Bytes}
+use Rattle.req_descriptor.specs.declared.Written.the-variants.{Refused}
 use Rattle.req_descriptor.specs.Row.{isConfiguration}
 use Rattle.req_descriptor.specs.Endpoints.{ofList}
 use Rattle.req_descriptor.specs.Reading.{inOrder, listOf, twoTypes}

@@ -7,7 +7,7 @@ use native.Mathlib.Omega.{arith}
 use Rattle.req_descriptor.specs.declared.Endpoints.{Endpoints}
 use Rattle.req_descriptor.specs.declared.Reading.{Reading}
 use Rattle.req_descriptor.specs.declared.Answer.the-variants as answer
-use Rattle.req_descriptor.specs.declared.Written.the-variants.{Refused, Bytes}
+use Rattle.req_descriptor.specs.declared.Written.the-variants.{Refused}
 use Rattle.req_descriptor.specs.Row.{isConfiguration}
 use Rattle.req_descriptor.specs.Reading.{inOrder, twoTypes, refusedBy, readingOf}
 use Rattle.req_descriptor.specs.Writing.{isShort, writtenOf, roomAfter}

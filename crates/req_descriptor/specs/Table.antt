@@ -8,7 +8,7 @@ use Rattle.req_descriptor.specs.Row.{endpointsOf}
 use Rattle.req_descriptor.specs.Endpoints.{merged, noted, gathered}
 use Rattle.req_descriptor.specs.Reading.{listOf, clashes, twoTypes, readingOf}
 use Rattle.req_descriptor.specs.declared.Written.the-variants as written′
-use Rattle.req_descriptor.specs.Writing.{endpoints, written, writtenOf, roomAfter}
+use Rattle.req_descriptor.specs.Writing.{endpoints, written}
 use Rattle.req_descriptor.specs.Rewriting.{rewrittenOf, roomRewritten}
 use lib.ListN.{replicate}
 

@@ -1,14 +1,11 @@
 -- The walk along the descriptors from `at` in s, as the code goes. Assumes nothing.
-use mathlib.Core.Path.{_≡_, _∙_}
-use mathlib.Core.Bool.{Bool, true, _&&_}
-use mathlib.Core.List.{List, [], _∷_}
-use Prim.Native.Nat.{ℕ, _+_, _-_, _*_, _%_, _≤_, _<_}
+use mathlib.Core.Path.{_≡_}
+use mathlib.Core.Bool.{true}
+use mathlib.Core.List.{List}
+use Prim.Native.Nat.{ℕ, _+_, _<_}
 use lib.ListN.{getD}
-use Rattle.req_descriptor.specs.declared.Endpoint.{Endpoint}
-use Rattle.req_descriptor.specs.declared.Endpoints.{Endpoints}
 use Rattle.req_descriptor.specs.Row.{isClear}
 use Rattle.req_descriptor.specs.RowLaws.{Here, here}
-use Rattle.req_descriptor.specs.Lists.{Fine, Tidy}
 
 -- a whole descriptor stands there; of an endpoint, address bits 4-6 are clear
 pub record Sound (s : List ℕ) (at : ℕ) : Type 0 where

@@ -2,7 +2,7 @@
 use mathlib.Core.Path.{_≡_, refl, sym, ap, _∙_}
 use mathlib.Core.Bool.{Bool, true, false, cond, not, _&&_}
 use mathlib.Core.List.{List, [], _∷_}
-use Prim.Native.Nat.{ℕ, _+_, _-_, _*_, _%_, _≤_, _<_}
+use Prim.Native.Nat.{ℕ, _+_, _*_, _%_, _≤_, _<_}
 use native.Mathlib.Omega.{arith}
 use lib.Dec.{eqb}
 use lib.ListN.{length, getD, drop, length-drop}
@@ -12,7 +12,7 @@ use Rattle.req_descriptor.specs.declared.Endpoint.{Endpoint}
 use Rattle.req_descriptor.specs.declared.Endpoints.{Endpoints}
 use Rattle.req_descriptor.specs.Row.{kindOf, entered, isRow, isConfiguration, endpointOf, settingOf, isMeant, endpointsOf}
 use Rattle.req_descriptor.specs.Endpoints.{ofList, listed, noted, gathered, agrees, agree}
-use Rattle.req_descriptor.specs.RowLaws.{whole-is, both-true, clear-endpoint, next-at, Here, here, step}
+use Rattle.req_descriptor.specs.RowLaws.{whole-is, both-true, clear-endpoint, next-at, here, step}
 use Rattle.req_descriptor.specs.RowLaws.{endpoints-none, endpoints-more, configuration-is, least-configuration}
 use Rattle.req_descriptor.specs.Lists.{Fine, Tidy}
 use Rattle.req_descriptor.specs.ListsLaws.{tidy-of, listed-of, good-noted}

@@ -1,9 +1,8 @@
 -- What ReachesLaws.antt speaks of. It proves: the bounds are reached, by the first arrival and the distance that the
 -- answer gives beside each. Assumes nothing.
 use mathlib.Core.Path.{_≡_}
-use Prim.Native.Nat.{ℕ, _+_, _*_, _/_, _≤_, _<_}
+use Prim.Native.Nat.{ℕ, _+_}
 use Rattle.req_visits.specs.declared.Reached.{Reached}
-use Rattle.req_visits.specs.Limits.{Limits}
 use Rattle.req_visits.specs.Times.{Permitted, arrivalsIn, steady}
 
 -- visits from any microframe `v` on, every `span`, and arrivals as the answer says are permitted, and between the first two visits as many arrive

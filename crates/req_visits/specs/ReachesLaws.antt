@@ -3,7 +3,6 @@ use mathlib.Core.Path.{_≡_}
 use Prim.Native.Nat.{ℕ, zero, suc, _+_, _*_, _/_, _≤_, _<_}
 use native.Mathlib.Nat.{suc-mul, le-div-iff-mul-le, lt-div-mul-add, mul-le-mul-right}
 use native.Mathlib.Omega.{arith}
-use Rattle.req_visits.specs.declared.Reached.{Reached}
 use Rattle.req_visits.specs.Limits.{Limits}
 use Rattle.req_visits.specs.Bounds.{roundedUp, leastOf, greatestOf}
 use Rattle.req_visits.specs.BoundsLaws.{above, within}

@@ -1,12 +1,9 @@
 -- What ToldLaws.antt speaks of. It proves: what the answer tells: request Thirteen's sentences in one theorem, `told`.
 -- Assumes nothing.
 use mathlib.Core.Logic.{_↔_}
-use mathlib.Core.Path.{_≡_}
-use mathlib.Core.Bool.{Bool}
 use Prim.Native.Nat.{ℕ, suc, _≤_}
 use Rattle.state.specs.declared.EpState.{EpState}
 use Rattle.req_visits.specs.declared.Reached.{Reached}
-use Rattle.req_visits.specs.declared.Bounds.the-variants.{Refused, Between}
 use Rattle.req_visits.specs.Limits.{Limits}
 use Rattle.req_visits.specs.BoundsLaws.{no-fewer}
 use Rattle.req_visits.specs.Times.{Permitted, arrivalsIn}

@@ -1,20 +1,15 @@
 -- Laws on the definitions of Told.antt
-use mathlib.Core.Logic.{_↔_}
 use mathlib.Core.Path.{_≡_, refl}
 use mathlib.Core.Bool.{Bool, true, false, cond}
-use Prim.Native.Nat.{ℕ, _≤_}
+use Prim.Native.Nat.{ℕ}
 use native.Mathlib.Omega.{arith}
-use Rattle.state.specs.declared.EpState.{EpState}
 use Rattle.req_visits.specs.declared.Reached.{Reached}
 use Rattle.req_visits.specs.declared.Bounds.the-variants.{Refused, Between}
 use Rattle.req_visits.specs.Limits.{row23, Limits}
 use Rattle.req_visits.specs.LimitsLaws.{accepted}
 use Rattle.req_visits.specs.Bounds.{leastOf, greatestOf, boundsOf}
 use Rattle.req_visits.specs.BoundsLaws.{no-fewer, no-more-than}
-use Rattle.req_visits.specs.Times.{Permitted}
-use Rattle.req_visits.specs.Reaches.{Reaches}
 use Rattle.req_visits.specs.ReachesLaws.{least-reached, greatest-reached}
-use Rattle.req_visits.specs.Emptied.{Sixteen, NoOverrun}
 use Rattle.req_visits.specs.Fifteen.{fifteen}
 use Rattle.req_visits.specs.Told.{Told}
 

@@ -1,6 +1,6 @@
 -- A ring of slots in the lent buffer, by an endpoint's record: counters, slots, addresses.
 use mathlib.Core.Bool.{Bool, cond}
-use Prim.Native.Nat.{ℕ, _+_, _-_, _*_, _%_, _^_}
+use Prim.Native.Nat.{ℕ, _+_, _*_, _%_, _^_}
 use lib.Dec.{ltb, eqb}
 use Rattle.state.specs.declared.EpState.{EpState}
 use Rattle.state.specs.Ep as ep

@@ -1,7 +1,7 @@
 -- Places of a list, filled one after the other; all of them filled. Assumes nothing.
-use mathlib.Core.Path.{_≡_, refl, sym, ap, _∙_}
+use mathlib.Core.Path.{_≡_, refl, sym, ap, subst, _∙_}
 use mathlib.Core.Logic.{⊎-elim}
-use mathlib.Core.List.{List, [], _∷_}
+use mathlib.Core.List.{List}
 use Prim.Native.Nat.{ℕ, zero, suc, _+_, _*_, _≤_, _<_}
 use native.Mathlib.Omega.{arith}
 use native.Mathlib.Numerals.{add-one}
@@ -12,9 +12,10 @@ use Rattle.le_bytes.specs.Bytes.{puts, bytes}
 use Rattle.state.specs.declared.EpState.{EpState}
 use Rattle.state.specs.Codec.{epWidths, epAs}
 use Rattle.state.specs.State.{view, saved}
-use Rattle.state.specs.Ep.{newEp}
+use Rattle.state.specs.Ep.{newEp, withMoves, withPlace}
 use Rattle.state.specs.Wakes.{none-woken}
-use Rattle.state.specs.Driver.{Driver, noEp, noRequest, withEps}
+use Rattle.state.specs.declared.Request.{Request}
+use Rattle.state.specs.Driver.{Driver, noEp, noRequest, withEps, withLens, withStamps, withPaced, withRequests}
 use Rattle.state.specs.Laws.{view-sized}
 use Rattle.state.proofs.Views.{view-eps, saved-off}
 use Rattle.state.specs.Fresh.{filled, freshGlobals, freshAllocator, noControl, freshDriver}
@@ -75,16 +76,58 @@ filled-all l n v e =
 pub filled-twice : {A : Type 0} (l : List A) (n : ℕ) (u v : A) → length l ≡ n → filled (filled l 0 n u) 0 n v ≡ filled l 0 n v
 filled-twice l n u v e = filled-all (filled l 0 n u) n v (length-filled l 0 n u ∙ e) ∙ sym (filled-all l n v e)
 
+-- a table of the driver: its list, and the driver with another list in its place
+pub record Table (A : Type 0) : Type 0 where
+  pub of : Driver → List A
+  pub anew : Driver → List A → Driver
+  pub kept : (d : Driver) → anew d (of d) ≡ d
+  pub got : (d : Driver) (l : List A) → of (anew d l) ≡ l
+  pub again : (d : Driver) (l m : List A) → anew (anew d l) m ≡ anew d m
+
+abbrev pub eps-table : Table EpState
+eps-table = record { of = λ d. d .eps; anew = withEps; kept = λ d. refl; got = λ d l. refl; again = λ d l m. refl }
+
+abbrev pub lens-table : Table ℕ
+lens-table = record { of = λ d. d .lens; anew = withLens; kept = λ d. refl; got = λ d l. refl; again = λ d l m. refl }
+
+abbrev pub stamps-table : Table ℕ
+stamps-table = record { of = λ d. d .stamps; anew = withStamps; kept = λ d. refl; got = λ d l. refl; again = λ d l m. refl }
+
+abbrev pub paced-table : Table ℕ
+paced-table = record { of = λ d. d .paced; anew = withPaced; kept = λ d. refl; got = λ d l. refl; again = λ d l m. refl }
+
+abbrev pub requests-table : Table Request
+requests-table = record { of = λ d. d .requests; anew = withRequests; kept = λ d. refl; got = λ d l. refl; again = λ d l m. refl }
+
+-- of the bytes w the k places from a of a table are filled, and nothing else changed
+abbrev pub Filled : {A : Type 0} → Table A → List ℕ → A → ℕ → ℕ → List ℕ → Type 0
+Filled t w v a k xs = (view xs ≡ t .anew (view w) (filled (t .of (view w)) a k v)) × (saved xs ≡ saved w)
+
+module _ {A : Type 0} (t : Table A) (w : List ℕ) (v : A) where
+  pub none-filled : (a : ℕ) → Filled t w v a 0 w
+  none-filled a = (sym (t .kept (view w)) ∙ ap (t .anew (view w)) (sym (filled-none (t .of (view w)) a v)), refl)
+
+  -- one place more, the one at j
+  pub one-filled : (a k j : ℕ) (xs ys : List ℕ) → j ≡ a + k → view ys ≡ t .anew (view xs) (set (t .of (view xs)) j v) → saved ys ≡ saved xs
+      → Filled t w v a k xs → Filled t w v a (k + 1) ys
+  one-filled a k j xs ys p e s h =
+      let l = filled (t .of (view w)) a k v in (
+        e ∙ ap (λ (d : Driver). t .anew d (set (t .of d) j v)) (h .0) ∙ t .again (view w) l (set (t .of (t .anew (view w) l)) j v)
+            ∙ ap (λ (m : List A). t .anew (view w) (set m j v)) (t .got (view w) l) ∙ ap (λ (n : ℕ). t .anew (view w) (set l n v)) p
+            ∙ ap (t .anew (view w)) (filled-next (t .of (view w)) a k v),
+        s ∙ h .1,
+      )
+
+  -- all n places
+  pub all-filled : (a n k : ℕ) (xs : List ℕ) → Filled t w v a k xs → k ≡ n → Filled t w v a n xs
+  all-filled a n k xs h e = subst (λ (m : ℕ). Filled t w v a m xs) e h
+
 -- one endpoint's record more
-pub eps-next : (w xs ys : List ℕ) (k : ℕ) (v : EpState) → length xs ≡ 2839 → k < 32
-    → ys ≡ puts xs (0 + k * 30) 0 (bytes epWidths (epAs v))
-    → view xs ≡ withEps (view w) (filled (view w .eps) 0 k v) → saved xs ≡ saved w
-    → (view ys ≡ withEps (view w) (filled (view w .eps) 0 (k + 1) v)) × (saved ys ≡ saved w)
-eps-next w xs ys k v sized l e h g = (
-  ap view e ∙ view-eps xs sized k v l ∙ ap (λ (d : Driver). withEps d (set (d .eps) k v)) h
-      ∙ ap (withEps (view w)) (filled-first (view w .eps) k v),
-  ap saved e ∙ saved-off xs (0 + k * 30) (bytes epWidths (epAs v)) (omega arith) ∙ g,
-)
+pub ep-filled : (w xs ys : List ℕ) (k : ℕ) (v : EpState) → length xs ≡ 2839 → k < 32 → ys ≡ puts xs (0 + k * 30) 0 (bytes epWidths (epAs v))
+    → Filled eps-table w v 0 k xs → Filled eps-table w v 0 (k + 1) ys
+ep-filled w xs ys k v sized l e h =
+    one-filled eps-table w v 0 k k xs ys (omega arith) (ap view e ∙ view-eps xs sized k v l)
+    (ap saved e ∙ saved-off xs (0 + k * 30) (bytes epWidths (epAs v)) (omega arith)) h
 
 -- a record that was cleared and not made new yet
 pub cleared-at : (w xs : List ℕ) (k : ℕ) (r : EpState) → view w .eps ≡ replicate 32 noEp
@@ -95,25 +138,9 @@ cleared-at w xs k r z h e =
 
 -- its two fields that are not 0 in a new one
 abbrev pub madeNew : EpState → EpState
-madeNew r = record {
-  ready = r .ready;
-  len = r .len;
-  armed = r .armed;
-  iso = r .iso;
-  kind = r .kind;
-  base = r .base;
-  stride = r .stride;
-  slots = 1;
-  head = r .head;
-  tail = r .tail;
-  loaded = r .loaded;
-  overruns = r .overruns;
-  «last_frame» = 0x1800;
-  «max_len» = r .«max_len»;
-  «armed_slot» = r .«armed_slot»;
-  tog = r .tog;
-  «open» = r .«open»;
-}
+madeNew r =
+    withMoves (withPlace r (r .iso) (r .kind) (r .base) (r .stride) 1 (r .«max_len») (r .«armed_slot»))
+    (r .ready) (r .len) (r .armed) 0x1800 (r .tog) (r .head) (r .tail) (r .loaded) (r .overruns) (r .«armed_slot») (r .«open»)
 
 -- every record filled or stored
 pub made-afresh : (xs : List ℕ) (size count callback : ℕ) → _≡_ {A = Driver} (record {

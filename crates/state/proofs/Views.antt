@@ -1,10 +1,13 @@
 -- One record stored: the view has it in place of the old one and is else as it was. What is loaded is the view's. Assumes nothing.
-use mathlib.Core.Path.{_≡_, refl, sym, ap, subst, _∙_}
-use mathlib.Core.Logic.{_⊎_, inl, inr}
-use mathlib.Core.List.{List, [], _∷_}
+use mathlib.Core.Path.{_≡_, refl, ap, _∙_}
+use mathlib.Core.Bool.{Bool, true, false, cond, _||_}
+use mathlib.Core.Logic.{_⊎_, inl, inr, ⊎-elim}
+use mathlib.Core.List.{List}
 use Prim.Native.Nat.{ℕ, _+_, _*_, _%_, _≤_, _<_}
 use native.Mathlib.Omega.{arith}
+use lib.Dec.{leb}
 use lib.ListN.{length, getD, set}
+use borrow.Author.Tests.{leb-true}
 use Rattle.regs.specs.declared.Dir.{Dir}
 use Rattle.state.specs.declared.EpState.{EpState}
 use Rattle.state.specs.declared.Allocator.{Allocator}
@@ -16,274 +19,161 @@ use Rattle.le_bytes.specs.Bytes.{gets, puts, number, digits, numbers, bytes, Ea
 use Rattle.state.specs.Codec.{epWidths, epAs, epOf, allocatorWidths, allocatorAs, allocatorOf, globalsWidths}
 use Rattle.state.specs.Codec.{globalsAs, globalsOf, requestWidths, requestAs, requestOf, controlWidths, controlAs}
 use Rattle.state.specs.Codec.{controlOf, savedWidths, savedAs, savedOf}
-use Rattle.state.specs.Wakes.{Wakes, withCount, withCodes}
+use Rattle.state.specs.Wakes.{withCount, withCodes}
 use Rattle.state.specs.Driver.{Driver, key, lenKey, stampKey, noEp, noRequest, withEps, withLens, withStamps}
 use Rattle.state.specs.Driver.{withPaced, withRequests, withGlobals, withAllocator, withControl, withWakes, epOn}
 use Rattle.state.specs.Driver.{withOn, lenOn, withLenOn, stampOn, withStampOn, pacedOn, withPacedOn, requestOn}
 use Rattle.state.specs.Driver.{withRequestOn}
-use Rattle.state.specs.State.{epIn, allocatorIn, globalsIn, wakesIn, requestIn, controlIn, savedIn, view, saved}
+use Rattle.state.specs.State.{epIn, allocatorIn, globalsIn, requestIn, controlIn, savedIn, view, saved}
 use Rattle.le_bytes.specs.Runs.{Same, puts-same, gets-same, gets-puts}
-use Rattle.le_bytes.specs.Numbers.{number-digits, numbers-bytes, each-eq}
+use Rattle.le_bytes.specs.Numbers.{Fit, number-digits, numbers-bytes, each-eq}
 use Rattle.le_bytes.specs.Tables.{table}
 use Rattle.le_bytes.specs.TablesLaws.{table-same, table-set, table-at}
 
--- each part of the view, after bytes were stored elsewhere
-module _ (xs : List ℕ) (o : ℕ) (bs : List ℕ) where
-  abbrev ys : List ℕ
-  ys = puts xs o 0 bs
+-- the bytes from p up to q lie before lo, or from hi on
+abbrev outside : ℕ → ℕ → ℕ → ℕ → Bool
+outside lo hi p q = leb q lo || leb hi p
 
-  abbrev Off : ℕ → ℕ → Type 0
-  Off p q = (q ≤ o) ⊎ (o + length bs ≤ p)
+outside-off : (lo hi p q : ℕ) → outside lo hi p q ≡ true → (q ≤ lo) ⊎ (hi ≤ p)
+outside-off lo hi p q h = side (leb q lo) refl h
+  where
+    side : (b : Bool) → leb q lo ≡ b → (b || leb hi p) ≡ true → (q ≤ lo) ⊎ (hi ≤ p)
+    side true e h = inl (leb-true q lo e)
+    side false e h = inr (leb-true hi p h)
 
-  off : (p q : ℕ) → Off p q → Same xs ys p q
-  off = puts-same xs o bs
+chosen : {A : Type 0} (b : Bool) (old new : A) → (b ≡ true → new ≡ old) → new ≡ cond b old new
+chosen true old new h = h refl
+chosen false old new h = refl
 
-  one : {A : Type 0} (f : List ℕ → A) (p n : ℕ) → Off p (p + n) → f (gets ys p 0 n) ≡ f (gets xs p 0 n)
-  one f p n h = ap f (gets-same xs ys p n (off p (p + n) h))
+-- the parts of d that lie outside lo to hi, and of e the one that lies there
+abbrev mixed : ℕ → ℕ → Driver → Driver → Driver
+mixed lo hi d e = record {
+  eps = cond (outside lo hi 0 960) (d .eps) (e .eps);
+  lens = cond (outside lo hi 960 1984) (d .lens) (e .lens);
+  stamps = cond (outside lo hi 1984 2496) (d .stamps) (e .stamps);
+  globals = cond (outside lo hi 2496 2533) (d .globals) (e .globals);
+  allocator = cond (outside lo hi 2533 2551) (d .allocator) (e .allocator);
+  paced = cond (outside lo hi 2551 2583) (d .paced) (e .paced);
+  requests = cond (outside lo hi 2583 2743) (d .requests) (e .requests);
+  control = cond (outside lo hi 2743 2752) (d .control) (e .control);
+  wakes = record {
+    count = cond (outside lo hi 2752 2753) (d .wakes .count) (e .wakes .count);
+    codes = cond (outside lo hi 2753 2817) (d .wakes .codes) (e .wakes .codes);
+  };
+}
 
-  many : {A : Type 0} (f : List ℕ → A) (p n z : ℕ) → Off p (p + n * z) → table ys p n z f ≡ table xs p n z f
-  many f p n z h = table-same f p n z xs ys (off p (p + n * z) h)
+-- bytes are stored from lo up to hi: what lies elsewhere is as it was
+module _ (xs : List ℕ) (o : ℕ) (bs : List ℕ) (lo hi : ℕ) (from : lo ≤ o) (to : o + length bs ≤ hi) where
+  same : (p q : ℕ) → outside lo hi p q ≡ true → Same xs (puts xs o 0 bs) p q
+  same p q h =
+      puts-same xs o bs p q (⊎-elim (λ (l : q ≤ lo). inl (omega arith)) (λ (l : hi ≤ p). inr (omega arith)) (outside-off lo hi p q h))
 
-  eps-off : Off 0 960 → table ys 0 32 30 epIn ≡ table xs 0 32 30 epIn
-  eps-off h = many epIn 0 32 30 h
+  one : {A : Type 0} (f : List ℕ → A) (p n : ℕ)
+      → f (gets (puts xs o 0 bs) p 0 n) ≡ cond (outside lo hi p (p + n)) (f (gets xs p 0 n)) (f (gets (puts xs o 0 bs) p 0 n))
+  one f p n = chosen (outside lo hi p (p + n)) _ _ (λ h. ap f (gets-same xs (puts xs o 0 bs) p n (same p (p + n) h)))
 
-  lens-off : Off 960 1984 → table ys 960 512 2 number ≡ table xs 960 512 2 number
-  lens-off h = many number 960 512 2 h
+  many : {A : Type 0} (f : List ℕ → A) (p n z : ℕ)
+      → table (puts xs o 0 bs) p n z f ≡ cond (outside lo hi p (p + n * z)) (table xs p n z f) (table (puts xs o 0 bs) p n z f)
+  many f p n z = chosen (outside lo hi p (p + n * z)) _ _ (λ h. table-same f p n z xs (puts xs o 0 bs) (same p (p + n * z) h))
 
-  stamps-off : Off 1984 2496 → table ys 1984 256 2 number ≡ table xs 1984 256 2 number
-  stamps-off h = many number 1984 256 2 h
+  stored : view (puts xs o 0 bs) ≡ mixed lo hi (view xs) (view (puts xs o 0 bs))
+  unfolding view
+  stored = λ i. record {
+    eps = many epIn 0 32 30 i;
+    lens = many number 960 512 2 i;
+    stamps = many number 1984 256 2 i;
+    globals = one globalsIn 2496 37 i;
+    allocator = one allocatorIn 2533 18 i;
+    paced = many number 2551 16 2 i;
+    requests = many requestIn 2583 32 5 i;
+    control = one controlIn 2743 9 i;
+    wakes = record { count = one number 2752 1 i; codes = many number 2753 64 1 i };
+  }
 
-  globals-off : Off 2496 2533 → globalsIn (gets ys 2496 0 37) ≡ globalsIn (gets xs 2496 0 37)
-  globals-off h = one globalsIn 2496 37 h
+-- what is stored before the suspended operation leaves it
+pub saved-off : (xs : List ℕ) (o : ℕ) (bs : List ℕ) → o + length bs ≤ 2817 → saved (puts xs o 0 bs) ≡ saved xs
+unfolding saved
+saved-off xs o bs h = ap savedIn (gets-same xs (puts xs o 0 bs) 2817 22 (puts-same xs o bs 2817 2839 (inr h)))
 
-  allocator-off : Off 2533 2551 → allocatorIn (gets ys 2533 0 18) ≡ allocatorIn (gets xs 2533 0 18)
-  allocator-off h = one allocatorIn 2533 18 h
-
-  paced-off : Off 2551 2583 → table ys 2551 16 2 number ≡ table xs 2551 16 2 number
-  paced-off h = many number 2551 16 2 h
-
-  requests-off : Off 2583 2743 → table ys 2583 32 5 requestIn ≡ table xs 2583 32 5 requestIn
-  requests-off h = many requestIn 2583 32 5 h
-
-  control-off : Off 2743 2752 → controlIn (gets ys 2743 0 9) ≡ controlIn (gets xs 2743 0 9)
-  control-off h = one controlIn 2743 9 h
-
-  count-off : Off 2752 2753 → number (gets ys 2752 0 1) ≡ number (gets xs 2752 0 1)
-  count-off h = one number 2752 1 h
-
-  codes-off : Off 2753 2817 → table ys 2753 64 1 number ≡ table xs 2753 64 1 number
-  codes-off h = many number 2753 64 1 h
-
-  wakes-off : Off 2752 2817 → wakesIn ys ≡ wakesIn xs
-  wakes-off (inl h) = λ i. record { count = count-off (inl (omega (arith, h))) i; codes = codes-off (inl h) i }
-  wakes-off (inr h) = λ i. record { count = count-off (inr h) i; codes = codes-off (inr (omega (arith, h))) i }
-
-  -- what is stored before the suspended operation leaves it
-  pub saved-off : o + length bs ≤ 2817 → saved ys ≡ saved xs
-  unfolding saved
-  saved-off h = one savedIn 2817 22 (inr h)
-
--- a record on its own, read back
-back : {A : Type 0} (f : List ℕ → A) (xs : List ℕ) (o : ℕ) (bs : List ℕ) (r : A)
-    → o + length bs ≤ length xs → f bs ≡ r → f (gets (puts xs o 0 bs) o 0 (length bs)) ≡ r
-back f xs o bs r h p = ap f (gets-puts xs o bs h) ∙ p
+-- numbers of the widths ws on their own, read back
+back : {A : Type 0} (xs : List ℕ) (of : List ℕ → A) (ws vs : List ℕ) (o : ℕ) (r : A) → o + length (bytes ws vs) ≤ length xs
+    → Fit ws vs → of vs ≡ r → of (numbers ws (gets (puts xs o 0 (bytes ws vs)) o 0 (length (bytes ws vs)))) ≡ r
+back xs of ws vs o r h f q = ap (λ (b : List ℕ). of (numbers ws b)) (gets-puts xs o (bytes ws vs) h) ∙ ap of (numbers-bytes ws vs f) ∙ q
 
 module _ (xs : List ℕ) (sized : length xs ≡ 2839) where
   pub view-eps : (k : ℕ) (r : EpState) → k < 32 → view (puts xs (0 + k * 30) 0 (bytes epWidths (epAs r))) ≡ withEps (view xs) (set (view xs .eps) k r)
   unfolding view
   view-eps k r l =
-      let o = 0 + k * 30 in
       let bs = bytes epWidths (epAs r) in
-      λ i. record {
-        eps = table-set epIn 0 32 30 xs k bs r l (omega arith) refl (ap epOf (numbers-bytes epWidths (epAs r) tt)) i;
-        lens = lens-off xs o bs (inr (omega arith)) i;
-        stamps = stamps-off xs o bs (inr (omega arith)) i;
-        globals = globals-off xs o bs (inr (omega arith)) i;
-        allocator = allocator-off xs o bs (inr (omega arith)) i;
-        paced = paced-off xs o bs (inr (omega arith)) i;
-        requests = requests-off xs o bs (inr (omega arith)) i;
-        control = control-off xs o bs (inr (omega arith)) i;
-        wakes = wakes-off xs o bs (inr (omega arith)) i;
-      }
+      stored xs (0 + k * 30) bs 0 960 (omega arith) (omega arith)
+      ∙ ap (withEps (view xs)) (table-set epIn 0 32 30 xs k bs r l (omega arith) refl (ap epOf (numbers-bytes epWidths (epAs r) tt)))
 
   pub view-lens : (k v : ℕ) → k < 512 → view (puts xs (960 + k * 2) 0 (digits 2 v)) ≡ withLens (view xs) (set (view xs .lens) k v)
   unfolding view
   view-lens k v l =
-      let o = 960 + k * 2 in
-      let bs = digits 2 v in
-      λ i. record {
-        eps = eps-off xs o bs (inl (omega arith)) i;
-        lens = table-set number 960 512 2 xs k bs v l (omega arith) refl (number-digits 1 v) i;
-        stamps = stamps-off xs o bs (inr (omega arith)) i;
-        globals = globals-off xs o bs (inr (omega arith)) i;
-        allocator = allocator-off xs o bs (inr (omega arith)) i;
-        paced = paced-off xs o bs (inr (omega arith)) i;
-        requests = requests-off xs o bs (inr (omega arith)) i;
-        control = control-off xs o bs (inr (omega arith)) i;
-        wakes = wakes-off xs o bs (inr (omega arith)) i;
-      }
+      stored xs (960 + k * 2) (digits 2 v) 960 1984 (omega arith) (omega arith)
+      ∙ ap (withLens (view xs)) (table-set number 960 512 2 xs k (digits 2 v) v l (omega arith) refl (number-digits 1 v))
 
   pub view-stamps : (k v : ℕ) → k < 256 → view (puts xs (1984 + k * 2) 0 (digits 2 v)) ≡ withStamps (view xs) (set (view xs .stamps) k v)
   unfolding view
   view-stamps k v l =
-      let o = 1984 + k * 2 in
-      let bs = digits 2 v in
-      λ i. record {
-        eps = eps-off xs o bs (inl (omega arith)) i;
-        lens = lens-off xs o bs (inl (omega arith)) i;
-        stamps = table-set number 1984 256 2 xs k bs v l (omega arith) refl (number-digits 1 v) i;
-        globals = globals-off xs o bs (inr (omega arith)) i;
-        allocator = allocator-off xs o bs (inr (omega arith)) i;
-        paced = paced-off xs o bs (inr (omega arith)) i;
-        requests = requests-off xs o bs (inr (omega arith)) i;
-        control = control-off xs o bs (inr (omega arith)) i;
-        wakes = wakes-off xs o bs (inr (omega arith)) i;
-      }
+      stored xs (1984 + k * 2) (digits 2 v) 1984 2496 (omega arith) (omega arith)
+      ∙ ap (withStamps (view xs)) (table-set number 1984 256 2 xs k (digits 2 v) v l (omega arith) refl (number-digits 1 v))
 
   pub view-globals : (r : Globals) → view (puts xs 2496 0 (bytes globalsWidths (globalsAs r))) ≡ withGlobals (view xs) r
   unfolding view
   view-globals r =
-      let o : ℕ = 2496 in
-      let bs = bytes globalsWidths (globalsAs r) in
-      λ i. record {
-        eps = eps-off xs o bs (inl (omega arith)) i;
-        lens = lens-off xs o bs (inl (omega arith)) i;
-        stamps = stamps-off xs o bs (inl (omega arith)) i;
-        globals = back globalsIn xs o bs r (omega arith) (ap globalsOf (numbers-bytes globalsWidths (globalsAs r) tt)) i;
-        allocator = allocator-off xs o bs (inr (omega arith)) i;
-        paced = paced-off xs o bs (inr (omega arith)) i;
-        requests = requests-off xs o bs (inr (omega arith)) i;
-        control = control-off xs o bs (inr (omega arith)) i;
-        wakes = wakes-off xs o bs (inr (omega arith)) i;
-      }
+      stored xs 2496 (bytes globalsWidths (globalsAs r)) 2496 2533 (omega arith) (omega arith)
+      ∙ ap (withGlobals (view xs)) (back xs globalsOf globalsWidths (globalsAs r) 2496 r (omega arith) tt refl)
 
   pub view-allocator : (r : Allocator) → view (puts xs 2533 0 (bytes allocatorWidths (allocatorAs r))) ≡ withAllocator (view xs) r
   unfolding view
   view-allocator r =
-      let o : ℕ = 2533 in
-      let bs = bytes allocatorWidths (allocatorAs r) in
-      λ i. record {
-        eps = eps-off xs o bs (inl (omega arith)) i;
-        lens = lens-off xs o bs (inl (omega arith)) i;
-        stamps = stamps-off xs o bs (inl (omega arith)) i;
-        globals = globals-off xs o bs (inl (omega arith)) i;
-        allocator = back allocatorIn xs o bs r (omega arith) (ap allocatorOf (numbers-bytes allocatorWidths (allocatorAs r) tt)) i;
-        paced = paced-off xs o bs (inr (omega arith)) i;
-        requests = requests-off xs o bs (inr (omega arith)) i;
-        control = control-off xs o bs (inr (omega arith)) i;
-        wakes = wakes-off xs o bs (inr (omega arith)) i;
-      }
+      stored xs 2533 (bytes allocatorWidths (allocatorAs r)) 2533 2551 (omega arith) (omega arith)
+      ∙ ap (withAllocator (view xs)) (back xs allocatorOf allocatorWidths (allocatorAs r) 2533 r (omega arith) tt refl)
 
   pub view-paceds : (k v : ℕ) → k < 16 → view (puts xs (2551 + k * 2) 0 (digits 2 v)) ≡ withPaced (view xs) (set (view xs .paced) k v)
   unfolding view
   view-paceds k v l =
-      let o = 2551 + k * 2 in
-      let bs = digits 2 v in
-      λ i. record {
-        eps = eps-off xs o bs (inl (omega arith)) i;
-        lens = lens-off xs o bs (inl (omega arith)) i;
-        stamps = stamps-off xs o bs (inl (omega arith)) i;
-        globals = globals-off xs o bs (inl (omega arith)) i;
-        allocator = allocator-off xs o bs (inl (omega arith)) i;
-        paced = table-set number 2551 16 2 xs k bs v l (omega arith) refl (number-digits 1 v) i;
-        requests = requests-off xs o bs (inr (omega arith)) i;
-        control = control-off xs o bs (inr (omega arith)) i;
-        wakes = wakes-off xs o bs (inr (omega arith)) i;
-      }
+      stored xs (2551 + k * 2) (digits 2 v) 2551 2583 (omega arith) (omega arith)
+      ∙ ap (withPaced (view xs)) (table-set number 2551 16 2 xs k (digits 2 v) v l (omega arith) refl (number-digits 1 v))
 
   pub view-requests : (k : ℕ) (r : Request) → k < 32 → view (puts xs (2583 + k * 5) 0 (bytes requestWidths (requestAs r)))
       ≡ withRequests (view xs) (set (view xs .requests) k r)
   unfolding view
   view-requests k r l =
-      let o = 2583 + k * 5 in
       let bs = bytes requestWidths (requestAs r) in
-      λ i. record {
-        eps = eps-off xs o bs (inl (omega arith)) i;
-        lens = lens-off xs o bs (inl (omega arith)) i;
-        stamps = stamps-off xs o bs (inl (omega arith)) i;
-        globals = globals-off xs o bs (inl (omega arith)) i;
-        allocator = allocator-off xs o bs (inl (omega arith)) i;
-        paced = paced-off xs o bs (inl (omega arith)) i;
-        requests = table-set requestIn 2583 32 5 xs k bs r l (omega arith) refl (ap requestOf (numbers-bytes requestWidths (requestAs r) tt)) i;
-        control = control-off xs o bs (inr (omega arith)) i;
-        wakes = wakes-off xs o bs (inr (omega arith)) i;
-      }
+      stored xs (2583 + k * 5) bs 2583 2743 (omega arith) (omega arith)
+      ∙ ap (withRequests (view xs))
+      (table-set requestIn 2583 32 5 xs k bs r l (omega arith) refl (ap requestOf (numbers-bytes requestWidths (requestAs r) tt)))
 
   pub view-control : (r : Control) → view (puts xs 2743 0 (bytes controlWidths (controlAs r))) ≡ withControl (view xs) r
   unfolding view
   view-control r =
-      let o : ℕ = 2743 in
-      let bs = bytes controlWidths (controlAs r) in
-      λ i. record {
-        eps = eps-off xs o bs (inl (omega arith)) i;
-        lens = lens-off xs o bs (inl (omega arith)) i;
-        stamps = stamps-off xs o bs (inl (omega arith)) i;
-        globals = globals-off xs o bs (inl (omega arith)) i;
-        allocator = allocator-off xs o bs (inl (omega arith)) i;
-        paced = paced-off xs o bs (inl (omega arith)) i;
-        requests = requests-off xs o bs (inl (omega arith)) i;
-        control = back controlIn xs o bs r (omega arith) (ap controlOf (numbers-bytes controlWidths (controlAs r) tt)) i;
-        wakes = wakes-off xs o bs (inr (omega arith)) i;
-      }
+      stored xs 2743 (bytes controlWidths (controlAs r)) 2743 2752 (omega arith) (omega arith)
+      ∙ ap (withControl (view xs)) (back xs controlOf controlWidths (controlAs r) 2743 r (omega arith) tt refl)
 
   pub view-count : (v : ℕ) → view (puts xs 2752 0 (digits 1 v)) ≡ withWakes (view xs) (withCount (view xs .wakes) v)
   unfolding view
   view-count v =
-      let o : ℕ = 2752 in
-      let bs = digits 1 v in
-      λ i. record {
-        eps = eps-off xs o bs (inl (omega arith)) i;
-        lens = lens-off xs o bs (inl (omega arith)) i;
-        stamps = stamps-off xs o bs (inl (omega arith)) i;
-        globals = globals-off xs o bs (inl (omega arith)) i;
-        allocator = allocator-off xs o bs (inl (omega arith)) i;
-        paced = paced-off xs o bs (inl (omega arith)) i;
-        requests = requests-off xs o bs (inl (omega arith)) i;
-        control = control-off xs o bs (inl (omega arith)) i;
-        wakes = record { count = back number xs o bs v (omega arith) (number-digits 0 v) i; codes = codes-off xs o bs (inr (omega arith)) i };
-      }
+      stored xs 2752 (digits 1 v) 2752 2753 (omega arith) (omega arith)
+      ∙ ap (λ (n : ℕ). withWakes (view xs) (withCount (view xs .wakes) n)) (ap number (gets-puts xs 2752 (digits 1 v) (omega arith)) ∙ number-digits 0 v)
 
   pub view-codes : (k v : ℕ) → k < 64 → view (puts xs (2753 + k * 1) 0 (digits 1 v))
       ≡ withWakes (view xs) (withCodes (view xs .wakes) (set (view xs .wakes .codes) k v))
   unfolding view
   view-codes k v l =
-      let o = 2753 + k * 1 in
-      let bs = digits 1 v in
-      λ i. record {
-        eps = eps-off xs o bs (inl (omega arith)) i;
-        lens = lens-off xs o bs (inl (omega arith)) i;
-        stamps = stamps-off xs o bs (inl (omega arith)) i;
-        globals = globals-off xs o bs (inl (omega arith)) i;
-        allocator = allocator-off xs o bs (inl (omega arith)) i;
-        paced = paced-off xs o bs (inl (omega arith)) i;
-        requests = requests-off xs o bs (inl (omega arith)) i;
-        control = control-off xs o bs (inl (omega arith)) i;
-        wakes = record {
-          count = count-off xs o bs (inl (omega arith)) i;
-          codes = table-set number 2753 64 1 xs k bs v l (omega arith) refl (number-digits 0 v) i;
-        };
-      }
+      stored xs (2753 + k * 1) (digits 1 v) 2753 2817 (omega arith) (omega arith)
+      ∙ ap (λ (w : List ℕ). withWakes (view xs) (withCodes (view xs .wakes) w))
+      (table-set number 2753 64 1 xs k (digits 1 v) v l (omega arith) refl (number-digits 0 v))
 
   pub view-saved : (r : Saved) → view (puts xs 2817 0 (bytes savedWidths (savedAs r))) ≡ view xs
   unfolding view
-  view-saved r =
-      let o : ℕ = 2817 in
-      let bs = bytes savedWidths (savedAs r) in
-      λ i. record {
-        eps = eps-off xs o bs (inl (omega arith)) i;
-        lens = lens-off xs o bs (inl (omega arith)) i;
-        stamps = stamps-off xs o bs (inl (omega arith)) i;
-        globals = globals-off xs o bs (inl (omega arith)) i;
-        allocator = allocator-off xs o bs (inl (omega arith)) i;
-        paced = paced-off xs o bs (inl (omega arith)) i;
-        requests = requests-off xs o bs (inl (omega arith)) i;
-        control = control-off xs o bs (inl (omega arith)) i;
-        wakes = wakes-off xs o bs (inl (omega arith)) i;
-      }
+  view-saved r = stored xs 2817 (bytes savedWidths (savedAs r)) 2817 2839 (omega arith) (omega arith)
 
   pub saved-saved : (r : Saved) → saved (puts xs 2817 0 (bytes savedWidths (savedAs r))) ≡ r
   unfolding saved
-  saved-saved r = back savedIn xs 2817 (bytes savedWidths (savedAs r)) r (omega arith) (ap savedOf (numbers-bytes savedWidths (savedAs r) tt))
+  saved-saved r = back xs savedOf savedWidths (savedAs r) 2817 r (omega arith) tt refl
 
   -- a record of a table, at the place of an endpoint
   pub view-ep : (dir : Dir) (e k : ℕ) (r : EpState)

@@ -9,7 +9,6 @@ use Rattle.state.specs.declared.Globals.{Globals}
 use Rattle.state.specs.declared.Request.{Request}
 use Rattle.state.specs.declared.Control.{Control}
 use Rattle.state.specs.declared.Saved.{Saved}
-use Rattle.le_bytes.specs.Bytes.{numbers, bytes}
 
 abbrev pub epWidths : List ℕ
 epWidths = 1 ∷ 1 ∷ 1 ∷ 1 ∷ 1 ∷ 1 ∷ 1 ∷ 1 ∷ 1 ∷ 1 ∷ 2 ∷ 2 ∷ 2 ∷ 2 ∷ 4 ∷ 4 ∷ 4 ∷ []

@@ -1,17 +1,16 @@
 -- The view and the suspended operation determine every byte: so storing what was loaded changes none. Assumes nothing.
-use mathlib.Core.Path.{_≡_, refl, sym, ap, _∙_}
+use mathlib.Core.Path.{_≡_, sym, ap, _∙_}
 use mathlib.Core.Logic.{⊎-elim}
 use mathlib.Core.List.{List}
 use Prim.Native.Nat.{ℕ, _≤_, _<_}
 use native.Mathlib.Omega.{arith}
 use lib.ListN.{length, getD}
 use lib.Seq.{ext-getD}
-use Rattle.le_bytes.specs.Bytes.{number, numbers}
+use Rattle.le_bytes.specs.Bytes.{number}
 use Rattle.le_bytes.specs.Runs.{Same}
 use Rattle.le_bytes.specs.TablesLaws.{lt-or-ge}
-use Rattle.le_bytes.specs.Injective.{Tells, tells-number, tells-numbers, one-tells, table-tells}
+use Rattle.le_bytes.specs.Injective.{tells-number, tells-numbers, one-tells, table-tells}
 use Rattle.regs.specs.declared.Dir.{Dir}
-use Rattle.state.specs.declared.EpState.{EpState}
 use Rattle.state.specs.Codec as codec
 use Rattle.state.specs.Driver.{Driver, noEp, noRequest, epOn, withOn}
 use Rattle.state.specs.State.{epIn, allocatorIn, globalsIn, requestIn, controlIn, savedIn, view, saved}

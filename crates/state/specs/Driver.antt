@@ -1,7 +1,8 @@
 -- What the state says of the driver: all but the suspended operation. Which record an endpoint has, and one record changed.
-use mathlib.Core.List.{List}
+use mathlib.Core.List.{List, []}
 use Prim.Native.Nat.{ℕ, _+_, _*_, _%_}
 use lib.ListN.{getD, set}
+use Rattle.state.specs.Codec.{epOf, requestOf}
 use Rattle.regs.specs.declared.Dir.{Dir}
 use Rattle.regs.specs.declared.Dir.the-variants.{Out, In}
 use Rattle.state.specs.declared.EpState.{EpState}
@@ -37,147 +38,53 @@ lenKey dir e i = key dir e * 16 + i % 16
 unfoldable pub stampKey : ℕ → ℕ → ℕ
 stampKey e i = e % 16 * 16 + i % 16
 
--- what a list answers past its end
+-- what a list answers past its end: a record of zeros
 abbrev pub noEp : EpState
-noEp = record {
-  ready = 0;
-  len = 0;
-  armed = 0;
-  iso = 0;
-  kind = 0;
-  base = 0;
-  stride = 0;
-  slots = 0;
-  head = 0;
-  tail = 0;
-  loaded = 0;
-  overruns = 0;
-  «last_frame» = 0;
-  «max_len» = 0;
-  «armed_slot» = 0;
-  tog = 0;
-  «open» = 0;
-}
+noEp = epOf []
 
 abbrev pub noRequest : Request
-noRequest = record { begun = 0; length = 0 }
+noRequest = requestOf []
+
+-- a driver of its parts, in their order; then one with a part set anew
+abbrev pub driverOf : List EpState → List ℕ → List ℕ → Globals → Allocator → List ℕ → List Request → Control → Wakes → Driver
+driverOf eps lens stamps globals allocator paced requests control wakes = record {
+  eps = eps;
+  lens = lens;
+  stamps = stamps;
+  globals = globals;
+  allocator = allocator;
+  paced = paced;
+  requests = requests;
+  control = control;
+  wakes = wakes;
+}
 
 abbrev pub withEps : Driver → List EpState → Driver
-withEps d x = record {
-  eps = x;
-  lens = d .lens;
-  stamps = d .stamps;
-  globals = d .globals;
-  allocator = d .allocator;
-  paced = d .paced;
-  requests = d .requests;
-  control = d .control;
-  wakes = d .wakes;
-}
+withEps d x = driverOf x (d .lens) (d .stamps) (d .globals) (d .allocator) (d .paced) (d .requests) (d .control) (d .wakes)
 
 abbrev pub withLens : Driver → List ℕ → Driver
-withLens d x = record {
-  eps = d .eps;
-  lens = x;
-  stamps = d .stamps;
-  globals = d .globals;
-  allocator = d .allocator;
-  paced = d .paced;
-  requests = d .requests;
-  control = d .control;
-  wakes = d .wakes;
-}
+withLens d x = driverOf (d .eps) x (d .stamps) (d .globals) (d .allocator) (d .paced) (d .requests) (d .control) (d .wakes)
 
 abbrev pub withStamps : Driver → List ℕ → Driver
-withStamps d x = record {
-  eps = d .eps;
-  lens = d .lens;
-  stamps = x;
-  globals = d .globals;
-  allocator = d .allocator;
-  paced = d .paced;
-  requests = d .requests;
-  control = d .control;
-  wakes = d .wakes;
-}
+withStamps d x = driverOf (d .eps) (d .lens) x (d .globals) (d .allocator) (d .paced) (d .requests) (d .control) (d .wakes)
 
 abbrev pub withGlobals : Driver → Globals → Driver
-withGlobals d x = record {
-  eps = d .eps;
-  lens = d .lens;
-  stamps = d .stamps;
-  globals = x;
-  allocator = d .allocator;
-  paced = d .paced;
-  requests = d .requests;
-  control = d .control;
-  wakes = d .wakes;
-}
+withGlobals d x = driverOf (d .eps) (d .lens) (d .stamps) x (d .allocator) (d .paced) (d .requests) (d .control) (d .wakes)
 
 abbrev pub withAllocator : Driver → Allocator → Driver
-withAllocator d x = record {
-  eps = d .eps;
-  lens = d .lens;
-  stamps = d .stamps;
-  globals = d .globals;
-  allocator = x;
-  paced = d .paced;
-  requests = d .requests;
-  control = d .control;
-  wakes = d .wakes;
-}
+withAllocator d x = driverOf (d .eps) (d .lens) (d .stamps) (d .globals) x (d .paced) (d .requests) (d .control) (d .wakes)
 
 abbrev pub withPaced : Driver → List ℕ → Driver
-withPaced d x = record {
-  eps = d .eps;
-  lens = d .lens;
-  stamps = d .stamps;
-  globals = d .globals;
-  allocator = d .allocator;
-  paced = x;
-  requests = d .requests;
-  control = d .control;
-  wakes = d .wakes;
-}
+withPaced d x = driverOf (d .eps) (d .lens) (d .stamps) (d .globals) (d .allocator) x (d .requests) (d .control) (d .wakes)
 
 abbrev pub withRequests : Driver → List Request → Driver
-withRequests d x = record {
-  eps = d .eps;
-  lens = d .lens;
-  stamps = d .stamps;
-  globals = d .globals;
-  allocator = d .allocator;
-  paced = d .paced;
-  requests = x;
-  control = d .control;
-  wakes = d .wakes;
-}
+withRequests d x = driverOf (d .eps) (d .lens) (d .stamps) (d .globals) (d .allocator) (d .paced) x (d .control) (d .wakes)
 
 abbrev pub withControl : Driver → Control → Driver
-withControl d x = record {
-  eps = d .eps;
-  lens = d .lens;
-  stamps = d .stamps;
-  globals = d .globals;
-  allocator = d .allocator;
-  paced = d .paced;
-  requests = d .requests;
-  control = x;
-  wakes = d .wakes;
-}
+withControl d x = driverOf (d .eps) (d .lens) (d .stamps) (d .globals) (d .allocator) (d .paced) (d .requests) x (d .wakes)
 
 abbrev pub withWakes : Driver → Wakes → Driver
-withWakes d x = record {
-  eps = d .eps;
-  lens = d .lens;
-  stamps = d .stamps;
-  globals = d .globals;
-  allocator = d .allocator;
-  paced = d .paced;
-  requests = d .requests;
-  control = d .control;
-  wakes = x;
-}
+withWakes d x = driverOf (d .eps) (d .lens) (d .stamps) (d .globals) (d .allocator) (d .paced) (d .requests) (d .control) x
 
 -- no wake-up is gathered yet
 abbrev pub noneGathered : Driver → Driver

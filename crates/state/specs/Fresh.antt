@@ -1,11 +1,12 @@
 -- The state that start-up makes, the stamps of an OUT ring made 0
-use mathlib.Core.List.{List}
+use mathlib.Core.List.{List, [], _∷_}
 use Prim.Native.Nat.{ℕ, zero, suc, _+_, _*_, _%_}
 use lib.ListN.{set, replicate}
 use Rattle.state.specs.declared.Allocator.{Allocator}
 use Rattle.state.specs.declared.Globals.{Globals}
 use Rattle.state.specs.declared.Control.{Control}
 use Rattle.state.specs.declared.Saved.{Saved}
+use Rattle.state.specs.Codec.{allocatorOf, controlOf, savedOf}
 use Rattle.state.specs.Ep.{newEp}
 use Rattle.state.specs.Wakes.{none-woken}
 use Rattle.state.specs.Driver.{Driver, noRequest, withStamps}
@@ -24,27 +25,11 @@ unfoldable pub noStamps : Driver → Driver
 noStamps d = withStamps d (replicate 256 0)
 
 abbrev pub noControl : Control
-noControl = record { sort = 0; length = 0; last = 0; wait = 0; «sets_address» = 0; address = 0 }
+noControl = controlOf []
 
--- nothing is under way
+-- nothing is under way: all fields are 0
 abbrev pub nothing : Saved
-nothing = record {
-  tag = 0;
-  sub = 0;
-  site = 0;
-  flag = 0;
-  busy = 0;
-  late = 0;
-  «len_ok» = 0;
-  st = 0;
-  now = 0;
-  ep = 0;
-  len = 0;
-  frame = 0;
-  eps = 0;
-  n = 0;
-  value = 0;
-}
+nothing = savedOf []
 
 -- stage 1: started up, before EP0's start
 abbrev pub freshGlobals : ℕ → Globals
@@ -67,18 +52,9 @@ freshGlobals callback = record {
   entered = 0;
 }
 
+-- no buffer used, no number taken: all but size and count is 0
 abbrev pub freshAllocator : ℕ → ℕ → Allocator
-freshAllocator size count = record {
-  size = size;
-  count = count;
-  next = 0;
-  «taken_out» = 0;
-  «taken_in» = 0;
-  «iso_nums» = 0;
-  «other_nums» = 0;
-  «allocated_out» = 0;
-  «allocated_in» = 0;
-}
+freshAllocator size count = allocatorOf (size ∷ count ∷ [])
 
 -- as the Rust's statics at power-on, with the buffers' size and count and the callback
 unfoldable pub freshDriver : ℕ → ℕ → ℕ → Driver

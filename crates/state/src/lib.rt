@@ -31,6 +31,7 @@ pub use stamps::clear_stamps;
 pub use stamps::load_stamp;
 pub use stamps::store_stamp;
 pub use start_up::fresh;
+pub use start_up::nothing;
 pub use wakes::clear_wakes;
 pub use wakes::wake;
 pub use wakes::wake_code;

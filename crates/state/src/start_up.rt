@@ -33,25 +33,10 @@ ghost use Rattle.state.specs.Fresh.{filled, freshDriver, freshGlobals, f
 fn no_ep() -> EpState
     ensures { λ r. ⌜ r ≡ noEp ⌝ }
 {
-    EpState {
-        ready: 0,
-        len: 0,
-        armed: 0,
-        iso: 0,
-        kind: 0,
-        base: 0,
-        stride: 0,
-        slots: 0,
-        head: 0,
-        tail: 0,
-        loaded: 0,
-        overruns: 0,
-        last_frame: 0,
-        max_len: 0,
-        armed_slot: 0,
-        tog: 0,
-        open: 0,
-    }
+    let mut r = EpState::NEW;
+    r.slots = 0;
+    r.last_frame = 0;
+    r
 }
 
 fn clear_eps(s: &mut [u8; STATE_LEN])
@@ -198,30 +183,34 @@ fn fresh_control(s: &mut [u8; STATE_LEN])
     );
 }
 
+// No operation is under way.
+pub fn nothing() -> Saved
+    ensures { λ r. ⌜ r ≡ nothing ⌝ }
+{
+    Saved {
+        tag: 0,
+        sub: 0,
+        site: 0,
+        flag: 0,
+        busy: 0,
+        late: 0,
+        len_ok: 0,
+        st: 0,
+        now: 0,
+        ep: 0,
+        len: 0,
+        frame: 0,
+        eps: 0,
+        n: 0,
+        value: 0,
+    }
+}
+
 fn fresh_saved(s: &mut [u8; STATE_LEN])
     ensures { λ _. ⌜ view (now (s .exit)) ≡ view (now (s .entry)) ⌝ }
     ensures { λ _. ⌜ saved (now (s .exit)) ≡ nothing ⌝ }
 {
-    store_saved(
-        s,
-        Saved {
-            tag: 0,
-            sub: 0,
-            site: 0,
-            flag: 0,
-            busy: 0,
-            late: 0,
-            len_ok: 0,
-            st: 0,
-            now: 0,
-            ep: 0,
-            len: 0,
-            frame: 0,
-            eps: 0,
-            n: 0,
-            value: 0,
-        },
-    );
+    store_saved(s, nothing());
 }
 
 pub fn fresh(s: &mut [u8; STATE_LEN], size: u16, count: u16, callback: u8)

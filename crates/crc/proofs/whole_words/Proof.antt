@@ -2,6 +2,7 @@ use mathlib.Core.Path.{_≡_, refl, ap, _∙_}
 use Prim.Native.Nat.{ℕ, _+_, _-_, _*_, _/_, _%_, _≤_}
 use native.Mathlib.Omega.{arith}
 use borrow.Author.Needs.{needs}
+use mathlib.Core.List.{List}
 use lib.ListN.{length, drop}
 use Rattle.crc.specs.Register.{over}
 use Rattle.crc.specs.Fold.{Even, odd, settled, remainderOf}
@@ -20,18 +21,19 @@ seed-is : remainderOf 0xFFFF 0 ≡ 0xFFFF
 unfolding remainderOf settled odd
 seed-is = refl
 
+-- i bytes in steps of w are in the sum and the words, of those up to `end`
+abbrev Walked : ℕ → List ℕ → ℕ → ℕ → ℕ → ℕ → Type 0
+Walked w bytes end sum words i =
+    (end ≡ length bytes / w * w) × (i % w ≡ 0) × (i ≤ end) × Even sum × (over (remainderOf sum words) (drop i bytes) ≡ over 65535 bytes)
+
 abbrev Inv-loop : tie.InvT-loop
-Inv-loop bytes fours end s₀ i₀ s i =
-    (fours ≡ length bytes / 16 * 16) × (i % 16 ≡ 0) × (i ≤ fours) × Even (s .sum)
-    × (over (remainderOf (s .sum) (s .words)) (drop i bytes) ≡ over 65535 bytes)
+Inv-loop bytes fours end s₀ i₀ s i = Walked 16 bytes fours (s .sum) (s .words) i
 
 abbrev μ-loop : tie.MeasureT-loop
 μ-loop bytes fours end s₀ i₀ s i = fours - i
 
 abbrev Inv-loop2 : tie.InvT-loop2
-Inv-loop2 bytes fours end s₀ i₀ s i =
-    (end ≡ length bytes / 4 * 4) × (i % 4 ≡ 0) × (i ≤ end) × Even (s .sum)
-    × (over (remainderOf (s .sum) (s .words)) (drop i bytes) ≡ over 65535 bytes)
+Inv-loop2 bytes fours end s₀ i₀ s i = Walked 4 bytes end (s .sum) (s .words) i
 
 abbrev μ-loop2 : tie.MeasureT-loop2
 μ-loop2 bytes fours end s₀ i₀ s i = end - i

@@ -1,4 +1,3 @@
-use native.Mathlib.Omega.{arith}
 use Rattle.frame.specs.Advance.{completions}
 use borrow.Author.Needs.{needs}
 use Rattle.frame.proofs.completions.Statement.{statement}
@@ -22,33 +21,21 @@ microframe-index-requires c κs = search needs
 distance-requires : tie.Need-distance-requires
 distance-requires c κs = search needs
 
+at-most-3-requires : tie.Need-at-most-3-requires
+at-most-3-requires c κs = search needs
+
 returns-2 : tie.Need-returns-2
 unfolding completions
 returns-2 c =
     simp (
+      c .at-most-3 .ensures,
       ← c .before .before .before .before .is-none .ensures,
       c .before .before .before .if1 .left,
       ← c .before .before .microframe-index .ensures,
       ← c .before .distance .ensures,
-    ) (omega arith)
-
-returns-3 : tie.Need-returns-3
-unfolding completions
-returns-3 c =
-    simp (
-      ← c .before .before .before .before .is-none .ensures,
-      c .before .before .before .if1 .left,
-      ← c .before .before .microframe-index .ensures,
-      ← c .before .distance .ensures,
-    ) (omega arith)
+    )
 
 pub completions-spec : {M : Type 1} → statement M
 completions-spec =
     tie.close
-    (tie.spec
-    is-none-requires
-    returns
-    microframe-index-requires
-    distance-requires
-    returns-2
-    returns-3)
+    (tie.spec is-none-requires returns microframe-index-requires distance-requires at-most-3-requires returns-2)

@@ -40,51 +40,22 @@ returns-3 c =
 cast-e : tie.Need-cast-e
 cast-e c = search needs
 
-is-free-requires : tie.Need-is-free-requires
-is-free-requires c κs = search needs
+free-number-requires : tie.Need-free-number-requires
+free-number-requires c κs = search needs
 
 returns-4 : tie.Need-returns-4
 unfolding askedOf
 returns-4 c =
-    let index : bitAnd (c .before .before .before .before .before .before .args .address) 127
-    ≡ c .before .before .before .before .before .before .args .address % 128 =
-    and-mask (c .before .before .before .before .before .before .args .address) 7 in
+    let address = c .before .before .before .before .before .args .address in
+    let index : bitAnd address 127 ≡ address % 128 = and-mask address 7 in
     simp (
       ← index,
-      c .if4 .taken,
-      ← c .before .is-free .ensures,
-      lt-leb _ _ (c .before .before .if3 .left),
-      ne-eqb _ _ (c .before .before .before .if2 .left),
-      eq-eqb _ _ (c .before .before .before .before .if1 .left),
-      ← c .before .before .before .before .before .dir-bit .ensures,
-    )
-
-returns-5 : tie.Need-returns-5
-unfolding askedOf
-returns-5 c =
-    let index : bitAnd (c .before .before .before .before .before .before .args .address) 127
-    ≡ c .before .before .before .before .before .before .args .address % 128 =
-    and-mask (c .before .before .before .before .before .before .args .address) 7 in
-    simp (
-      ← index,
-      c .if4 .left,
-      ← c .before .is-free .ensures,
-      lt-leb _ _ (c .before .before .if3 .left),
-      ne-eqb _ _ (c .before .before .before .if2 .left),
-      eq-eqb _ _ (c .before .before .before .before .if1 .left),
-      ← c .before .before .before .before .before .dir-bit .ensures,
+      ← c .free-number .ensures,
+      lt-leb _ _ (c .before .if3 .left),
+      ne-eqb _ _ (c .before .before .if2 .left),
+      eq-eqb _ _ (c .before .before .before .if1 .left),
+      ← c .before .before .before .before .dir-bit .ensures,
     )
 
 pub asked-spec : {M : Type 1} → statement M
-asked-spec =
-    tie.close
-    (tie.spec
-    dir-bit-requires
-    returns
-    returns-2
-    cast-if3
-    returns-3
-    cast-e
-    is-free-requires
-    returns-4
-    returns-5)
+asked-spec = tie.close (tie.spec dir-bit-requires returns returns-2 cast-if3 returns-3 cast-e free-number-requires returns-4)

@@ -1,4 +1,3 @@
-use mathlib.Core.Path.{refl}
 use Rattle.model_ops.specs.Rings.{openOn}
 use borrow.Author.Needs.{needs}
 use Rattle.model_ops.proofs.rings.open_oldest.Statement.{statement}
@@ -13,25 +12,14 @@ has-waiting-requires c κs = search needs
 opened-requires : tie.Need-opened-requires
 opened-requires c κs = search needs
 
-store-ep-requires : tie.Need-store-ep-requires
-store-ep-requires c κs = search needs
+store-where-requires : tie.Need-store-where-requires
+store-where-requires c κs = search needs
 
 returns : tie.Need-returns
 unfolding openOn
-returns c = (
-  simp (
-    c .store-ep .ensures .0,
-    ← c .before .opened .ensures,
-    c .before .before .before .if1 .taken,
-    ← c .before .before .before .before .has-waiting .ensures,
-    ← c .before .before .before .before .before .load-ep .ensures,
-  ),
-  c .store-ep .ensures .1,
-)
-
-returns-2 : tie.Need-returns-2
-unfolding openOn
-returns-2 c = (simp (c .if1 .left, ← c .before .has-waiting .ensures, ← c .before .before .load-ep .ensures), refl)
+returns c =
+    let s = c .store-where .ensures in
+    (simp (s .0, c .before .opened .ensures, c .before .before .has-waiting .ensures, c .before .before .before .before .load-ep .ensures), s .1)
 
 pub open-oldest-spec : {M : Type 1} → statement M
-open-oldest-spec = tie.close (tie.spec load-ep-requires has-waiting-requires opened-requires store-ep-requires returns returns-2)
+open-oldest-spec = tie.close (tie.spec load-ep-requires has-waiting-requires opened-requires store-where-requires returns)

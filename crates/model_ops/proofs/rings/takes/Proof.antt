@@ -1,4 +1,4 @@
-use borrow.Author.Tests.{lt-ltb, le-ltb, not-true, not-false}
+use borrow.Author.Tests.{not-true, not-false}
 use Rattle.model_ops.specs.Rings.{roomIn}
 use borrow.Author.Needs.{needs}
 use Rattle.model_ops.proofs.rings.takes.Statement.{statement}
@@ -23,28 +23,17 @@ returns-2 c = simp (
   not-false (c .before .before .before .is-on .result) (c .before .before .if1 .left),
 )
 
-cast-if3 : tie.Need-cast-if3
-cast-if3 c = search needs
+cast-result : tie.Need-cast-result
+cast-result c = search needs
 
 returns-3 : tie.Need-returns-3
 unfolding roomIn
 returns-3 c = simp (
-  lt-ltb _ _ (c .if3 .taken),
-  ← c .before .before .before .has-room-in .ensures,
-  not-false (c .before .before .before .has-room-in .result) (c .before .before .if2 .left),
-  ← c .before .before .before .before .before .is-on .ensures,
-  not-false (c .before .before .before .before .before .is-on .result) (c .before .before .before .before .if1 .left),
-)
-
-returns-4 : tie.Need-returns-4
-unfolding roomIn
-returns-4 c = simp (
-  le-ltb _ _ (c .if3 .left),
-  ← c .before .before .before .has-room-in .ensures,
-  not-false (c .before .before .before .has-room-in .result) (c .before .before .if2 .left),
-  ← c .before .before .before .before .before .is-on .ensures,
-  not-false (c .before .before .before .before .before .is-on .result) (c .before .before .before .before .if1 .left),
+  ← c .before .before .has-room-in .ensures,
+  not-false (c .before .before .has-room-in .result) (c .before .if2 .left),
+  ← c .before .before .before .before .is-on .ensures,
+  not-false (c .before .before .before .before .is-on .result) (c .before .before .before .if1 .left),
 )
 
 pub takes-spec : {M : Type 1} → statement M
-takes-spec = tie.close (tie.spec is-on-requires returns has-room-in-requires returns-2 cast-if3 returns-3 returns-4)
+takes-spec = tie.close (tie.spec is-on-requires returns has-room-in-requires returns-2 cast-result returns-3)

@@ -32,81 +32,49 @@ loop-holds c =
     let s = c .before .before .args in
     begins (view (s .stream .now)) (s .room .now) (s .place) (c .before .before .fits .place)
 
+-- the stream is no longer than numbers go
+far : (p : tie.After-take-near Inv-loop μ-loop) → Fits w64 (total (view (p .before .before .before .before .before .args .stream .now)))
+far p = omega (arith, p .before .before .before .before .before .good)
+
+-- what is in the room after a stretch was taken
+near : (p : tie.After-take-near Inv-loop μ-loop)
+    → let s = p .before .before .before .before .before .args in
+    let t = p .before .before .loop in
+    let w = p .take-near .result in
+    Taking (view (s .stream .now)) (some (s .stream .now) (s .place) (length (s .room .now))) (s .room .now) (p .take-near .last .1 .1 .1 .0)
+    (t .count + w .count) (t .used + w .bytes) (t .d + w .bytes) (t .first)
+near p =
+    let s = p .before .before .before .before .before .args in
+    let t = p .before .before .loop in
+    let w = p .take-near .ensures in
+    goes-near _ _ (s .room .now) (t .room) _ (t .count) (t .used) (t .d) (t .first) _ _ (far p) (t .inv) (w .0) (w .1)
+
 take-near-requires : tie.Need-take-near-requires Inv-loop μ-loop
 take-near-requires c κs = (c .before .loop .inv .seen, omega arith)
 
 add-count : tie.Need-add-count Inv-loop μ-loop
-add-count c =
-    let s = c .before .before .before .before .before .before .before .before .args in
-    let t = c .before .before .before .before .before .loop in
-    let w = c .before .before .before .take-near in
-    let v = view (s .stream .now) in
-    let far : Fits w64 (total v) = omega (arith, c .before .before .before .before .before .before .before .before .good) in
-    let near =
-    goes-near v _ (s .room .now) (t .room) _ (t .count) (t .used) (t .d) (t .first) _ _ far (t .inv) (w .ensures .0) (w .ensures .1) in
-    omega (arith, near .counted, near .inside)
+add-count c = let h = near (c .before .before .before) in omega (arith, h .counted, h .inside)
 
 add-used : tie.Need-add-used Inv-loop μ-loop
-add-used c =
-    let s = c .before .before .before .before .before .before .before .before .before .args in
-    let t = c .before .before .before .before .before .before .loop in
-    let w = c .before .before .before .before .take-near in
-    let v = view (s .stream .now) in
-    let far : Fits w64 (total v) = omega (arith, c .before .before .before .before .before .before .before .before .before .good) in
-    let near =
-    goes-near v _ (s .room .now) (t .room) _ (t .count) (t .used) (t .d) (t .first) _ _ far (t .inv) (w .ensures .0) (w .ensures .1) in
-    omega (arith, near .inside)
+add-used c = let h = near (c .before .before .before .before) in omega (arith, h .inside)
 
 add-d : tie.Need-add-d Inv-loop μ-loop
-add-d c =
-    let s = c .before .before .before .before .before .before .before .before .before .before .args in
-    let t = c .before .before .before .before .before .before .before .loop in
-    let w = c .before .before .before .before .before .take-near in
-    let v = view (s .stream .now) in
-    let far : Fits w64 (total v) = omega (arith, c .before .before .before .before .before .before .before .before .before .before .good) in
-    let near =
-    goes-near v _ (s .room .now) (t .room) _ (t .count) (t .used) (t .d) (t .first) _ _ far (t .inv) (w .ensures .0) (w .ensures .1) in
-    near .held
+add-d c = near (c .before .before .before .before .before) .held
 
 find-from-requires : tie.Need-find-from-requires Inv-loop μ-loop
-find-from-requires c κs =
-    let s = c .before .before .before .before .before .before .before .before .before .before .args in
-    let t = c .before .before .before .before .before .before .before .loop in
-    let w = c .before .before .before .before .before .take-near in
-    let v = view (s .stream .now) in
-    let far : Fits w64 (total v) = omega (arith, c .before .before .before .before .before .before .before .before .before .before .good) in
-    let near =
-    goes-near v _ (s .room .now) (t .room) _ (t .count) (t .used) (t .d) (t .first) _ _ far (t .inv) (w .ensures .0) (w .ensures .1) in
-    near .seen
+find-from-requires c κs = near (c .before .before .before .before .before) .seen
 
 enum-told : tie.Need-enum-told Inv-loop μ-loop
 enum-told c = search needs
 
 same-length : tie.Need-same-length Inv-loop μ-loop
-same-length c =
-    let n = c .before .before .before in
-    let s = n .before .before .before .before .before .before .before .before .before .before .args in
-    let t = n .before .before .before .before .before .before .before .loop in
-    let w = n .before .before .before .before .before .take-near in
-    let v = view (s .stream .now) in
-    let far : Fits w64 (total v) = omega (arith, n .before .before .before .before .before .before .before .before .before .before .good) in
-    let near =
-    goes-near v _ (s .room .now) (t .room) _ (t .count) (t .used) (t .d) (t .first) _ _ far (t .inv) (w .ensures .0) (w .ensures .1) in
-    near .same
+same-length c = near (c .before .before .before .before .before .before .before .before) .same
 
 returns : tie.Need-returns Inv-loop μ-loop
 returns c =
-    let n = c .before .before .before in
-    let s = n .before .before .before .before .before .before .before .before .before .before .args in
-    let t = n .before .before .before .before .before .before .before .loop in
-    let w = n .before .before .before .before .before .take-near in
-    let v = view (s .stream .now) in
-    let far : Fits w64 (total v) = omega (arith, n .before .before .before .before .before .before .before .before .before .before .good) in
-    let near =
-    goes-near v _ (s .room .now) (t .room) _ (t .count) (t .used) (t .d) (t .first) _ _ far (t .inv) (w .ensures .0) (w .ensures .1) in
+    let h = near (c .before .before .before .before .before .before .before .before) in
     let found = sym (c .before .before .find-from .ensures) ∙ c .enum-told .given .1 in
-    let stops = some-end v (near .fuel) _ _ (near .enough) found in
-    ends v _ (s .room .now) _ _ _ _ _ false near stops
+    ends _ _ _ _ _ _ _ _ false h (some-end _ (h .fuel) _ _ (h .enough) found)
 
 enum-known-at : tie.Need-enum-known-at Inv-loop μ-loop
 enum-known-at c = search needs
@@ -118,152 +86,61 @@ add-n : tie.Need-add-n Inv-loop μ-loop
 add-n c = search needs
 
 sub-if1 : tie.Need-sub-if1 Inv-loop μ-loop
-sub-if1 c =
-    let n = c .before .before .before .before in
-    let s = n .before .before .before .before .before .before .before .before .before .before .args in
-    let t = n .before .before .before .before .before .before .before .loop in
-    let w = n .before .before .before .before .before .take-near in
-    let v = view (s .stream .now) in
-    let far : Fits w64 (total v) = omega (arith, n .before .before .before .before .before .before .before .before .before .before .good) in
-    let near =
-    goes-near v _ (s .room .now) (t .room) _ (t .count) (t .used) (t .d) (t .first) _ _ far (t .inv) (w .ensures .0) (w .ensures .1) in
-    omega (arith, near .inside, near .same)
+sub-if1 c = let h = near (c .before .before .before .before .before .before .before .before .before) in omega (arith, h .inside, h .same)
 
 same-length-2 : tie.Need-same-length-2 Inv-loop μ-loop
-same-length-2 c =
-    let n = c .before .before .before .before .before in
-    let s = n .before .before .before .before .before .before .before .before .before .before .args in
-    let t = n .before .before .before .before .before .before .before .loop in
-    let w = n .before .before .before .before .before .take-near in
-    let v = view (s .stream .now) in
-    let far : Fits w64 (total v) = omega (arith, n .before .before .before .before .before .before .before .before .before .before .good) in
-    let near =
-    goes-near v _ (s .room .now) (t .room) _ (t .count) (t .used) (t .d) (t .first) _ _ far (t .inv) (w .ensures .0) (w .ensures .1) in
-    near .same
+same-length-2 c = near (c .before .before .before .before .before .before .before .before .before .before) .same
 
 returns-2 : tie.Need-returns-2 Inv-loop μ-loop
 returns-2 c =
-    let n = c .before .before .before .before .before in
-    let s = n .before .before .before .before .before .before .before .before .before .before .args in
-    let t = n .before .before .before .before .before .before .before .loop in
-    let w = n .before .before .before .before .before .take-near in
-    let v = view (s .stream .now) in
-    let far : Fits w64 (total v) = omega (arith, n .before .before .before .before .before .before .before .before .before .before .good) in
-    let near =
-    goes-near v _ (s .room .now) (t .room) _ (t .count) (t .used) (t .d) (t .first) _ _ far (t .inv) (w .ensures .0) (w .ensures .1) in
-    let told = c .before .before .at .given .1 in
-    let found = sym (c .before .before .before .before .find-from .ensures) ∙ told in
-    let stops = some-short v (near .fuel) _ _ _ _ _ (near .enough) found (omega (arith, near .same)) in
-    ends v _ (s .room .now) _ _ _ _ _ true near stops
+    let q = c .before .before in
+    let h = near (q .before .before .before .before .before .before .before .before) in
+    let found = sym (q .before .before .find-from .ensures) ∙ q .at .given .1 in
+    ends _ _ _ _ _ _ _ _ true h (some-short _ (h .fuel) _ _ _ _ _ (h .enough) found (omega (arith, h .same)))
 
 copy-data-requires : tie.Need-copy-data-requires Inv-loop μ-loop
 copy-data-requires c κs =
-    let n = c .before .before .before .before .before .before in
-    let s = n .before .before .before .before .before .before .before .before .before .before .args in
-    let t = n .before .before .before .before .before .before .before .loop in
-    let w = n .before .before .before .before .before .take-near in
-    let v = view (s .stream .now) in
-    let far : Fits w64 (total v) = omega (arith, n .before .before .before .before .before .before .before .before .before .before .good) in
-    let near =
-    goes-near v _ (s .room .now) (t .room) _ (t .count) (t .used) (t .d) (t .first) _ _ far (t .inv) (w .ensures .0) (w .ensures .1) in
-    let told = c .before .before .before .at .given .1 in
-    let found = sym (c .before .before .before .before .before .find-from .ensures) ∙ told in
-    let fits = find-fits v (total v) _ _ _ _ found in
-    (omega (arith, near .same, near .inside), omega arith)
+    let h = near (c .before .before .before .before .before .before .before .before .before .before .before) in
+    let q = c .before .before .before in
+    let l = find-fits _ _ _ _ _ _ (sym (q .before .before .find-from .ensures) ∙ q .at .given .1) in
+    (omega (arith, h .same, h .inside), omega arith)
 
 add-count-2 : tie.Need-add-count-2 Inv-loop μ-loop
 add-count-2 c =
-    let n = c .before .before .before .before .before .before .before .before .before in
-    let s = n .before .before .before .before .before .before .before .before .before .before .args in
-    let t = n .before .before .before .before .before .before .before .loop in
-    let w = n .before .before .before .before .before .take-near in
-    let v = view (s .stream .now) in
-    let far : Fits w64 (total v) = omega (arith, n .before .before .before .before .before .before .before .before .before .before .good) in
-    let near =
-    goes-near v _ (s .room .now) (t .room) _ (t .count) (t .used) (t .d) (t .first) _ _ far (t .inv) (w .ensures .0) (w .ensures .1) in
-    omega (
-      arith,
-      near .counted,
-      near .inside,
-      near .same,
-      c .before .before .before .before .if1 .left,
-      n .before .before .before .before .before .before .before .before .before .before .good,
-    )
+    let p = c .before .before .before .before .before .before .before .before .before .before .before .before .before .before in
+    let h = near p in
+    omega (arith, h .counted, h .inside, h .same, c .before .before .before .before .if1 .left, p .before .before .before .before .before .good)
 
 add-used-2 : tie.Need-add-used-2 Inv-loop μ-loop
 add-used-2 c =
-    let n = c .before .before .before .before .before .before .before .before .before in
-    let s = n .before .before .before .before .before .before .before .before .before .before .args in
-    let t = n .before .before .before .before .before .before .before .loop in
-    let w = n .before .before .before .before .before .take-near in
-    let v = view (s .stream .now) in
-    let far : Fits w64 (total v) = omega (arith, n .before .before .before .before .before .before .before .before .before .before .good) in
-    let near =
-    goes-near v _ (s .room .now) (t .room) _ (t .count) (t .used) (t .d) (t .first) _ _ far (t .inv) (w .ensures .0) (w .ensures .1) in
-    omega (
-      arith,
-      near .inside,
-      near .same,
-      c .before .before .before .before .if1 .left,
-      n .before .before .before .before .before .before .before .before .before .before .good,
-    )
+    let p = c .before .before .before .before .before .before .before .before .before .before .before .before .before .before in
+    let h = near p in
+    omega (arith, h .inside, h .same, c .before .before .before .before .if1 .left, p .before .before .before .before .before .good)
 
 add-d-2 : tie.Need-add-d-2 Inv-loop μ-loop
 add-d-2 c =
-    let n = c .before .before .before .before .before .before .before .before .before in
-    let s = n .before .before .before .before .before .before .before .before .before .before .args in
-    let t = n .before .before .before .before .before .before .before .loop in
-    let w = n .before .before .before .before .before .take-near in
-    let v = view (s .stream .now) in
-    let far : Fits w64 (total v) = omega (arith, n .before .before .before .before .before .before .before .before .before .before .good) in
-    let near =
-    goes-near v _ (s .room .now) (t .room) _ (t .count) (t .used) (t .d) (t .first) _ _ far (t .inv) (w .ensures .0) (w .ensures .1) in
-    let told = c .before .before .before .before .before .before .at .given .1 in
-    let found = sym (c .before .before .before .before .before .before .before .before .find-from .ensures) ∙ told in
-    let fits = find-fits v (total v) _ _ _ _ found in
-    omega arith
+    let q = c .before .before .before .before .before .before in
+    let l = find-fits _ _ _ _ _ _ (sym (q .before .before .find-from .ensures) ∙ q .at .given .1) in
+    omega (arith, far (q .before .before .before .before .before .before .before .before))
 
 add-first : tie.Need-add-first Inv-loop μ-loop
 add-first c =
-    let n = c .before .before .before .before .before .before .before .before .before in
-    let s = n .before .before .before .before .before .before .before .before .before .before .args in
-    let t = n .before .before .before .before .before .before .before .loop in
-    let w = n .before .before .before .before .before .take-near in
-    let v = view (s .stream .now) in
-    let far : Fits w64 (total v) = omega (arith, n .before .before .before .before .before .before .before .before .before .before .good) in
-    let near =
-    goes-near v _ (s .room .now) (t .room) _ (t .count) (t .used) (t .d) (t .first) _ _ far (t .inv) (w .ensures .0) (w .ensures .1) in
-    let told = c .before .before .before .before .before .before .at .given .1 in
-    let found = sym (c .before .before .before .before .before .before .before .before .find-from .ensures) ∙ told in
-    let fits = find-fits v (total v) _ _ _ _ found in
-    omega (arith, n .before .before .before .before .before .before .before .before .before .before .good)
+    let q = c .before .before .before .before .before .before in
+    let l = find-fits _ _ _ _ _ _ (sym (q .before .before .find-from .ensures) ∙ q .at .given .1) in
+    omega (arith, q .before .before .before .before .before .before .before .before .before .before .before .before .before .good)
 
 loop-less : tie.Need-loop-less Inv-loop μ-loop
 loop-less c =
-    let n = c .before .before .before .before .before .before .before .before .before in
-    let s = n .before .before .before .before .before .before .before .before .before .before .args in
-    let t = n .before .before .before .before .before .before .before .loop in
-    let w = n .before .before .before .before .before .take-near in
-    let v = view (s .stream .now) in
-    let far : Fits w64 (total v) = omega (arith, n .before .before .before .before .before .before .before .before .before .before .good) in
-    let near =
-    goes-near v _ (s .room .now) (t .room) _ (t .count) (t .used) (t .d) (t .first) _ _ far (t .inv) (w .ensures .0) (w .ensures .1) in
-    omega (arith, near .inside, near .same)
+    let h = near (c .before .before .before .before .before .before .before .before .before .before .before .before .before .before) in
+    omega (arith, h .inside, h .same)
 
 loop-again : tie.Need-loop-again Inv-loop μ-loop
 loop-again c =
-    let n = c .before .before .before .before .before .before .before .before .before in
-    let s = n .before .before .before .before .before .before .before .before .before .before .args in
-    let t = n .before .before .before .before .before .before .before .loop in
-    let w = n .before .before .before .before .before .take-near in
-    let v = view (s .stream .now) in
-    let far : Fits w64 (total v) = omega (arith, n .before .before .before .before .before .before .before .before .before .before .good) in
-    let near =
-    goes-near v _ (s .room .now) (t .room) _ (t .count) (t .used) (t .d) (t .first) _ _ far (t .inv) (w .ensures .0) (w .ensures .1) in
-    let told = c .before .before .before .before .before .before .at .given .1 in
-    let found = sym (c .before .before .before .before .before .before .before .before .find-from .ensures) ∙ told in
-    let copied = c .before .before .copy-data .ensures in
-    goes-on v _ (s .room .now) _ _ _ _ _ _ _ _ _ far near found (omega (arith, near .same)) copied
+    let q = c .before .before .before .before .before .before in
+    let p = q .before .before .before .before .before .before .before .before in
+    let h = near p in
+    let found = sym (q .before .before .find-from .ensures) ∙ q .at .given .1 in
+    goes-on _ _ _ _ _ _ _ _ _ _ _ _ (far p) h found (omega (arith, h .same)) (c .before .before .copy-data .ensures)
 
 pub take-spec : {M : Type 1} → statement M
 take-spec =

@@ -1,10 +1,11 @@
-use mathlib.Core.Path.{_≡_, refl, ap, _∙_}
+use mathlib.Core.Path.{ap, _∙_}
 use mathlib.Core.List.{List}
-use Prim.Native.Nat.{ℕ, _+_, _-_, _*_, _/_, _%_, _≤_}
+use Prim.Native.Nat.{ℕ, _+_, _-_, _*_, _/_, _%_}
 use native.Mathlib.Omega.{arith}
 use borrow.Author.Needs.{needs}
 use lib.ListN.{length, drop}
-use lib.Seq.{paste, paste-zero, length-paste}
+use lib.Seq.{paste, length-paste}
+use Rattle.req_card.specs.PasteLaws.{Pasted, none-pasted, all-pasted}
 use Rattle.req_card.specs.Reading.{bytesFrom}
 use Rattle.req_card.specs.Streams.{view}
 use Rattle.req_card_reader.specs.Rooms.{length-bytes, paste-places}
@@ -16,8 +17,7 @@ use Rattle.req_card_reader.proofs.reading.copy_run.Reads as copy-run-re
 use Rattle.req_card_reader.proofs.reading.run_of.Reads as run-of-reads
 
 abbrev Inv-loop : tie.InvT-loop
-Inv-loop stream d room₀ at n i₀ room i =
-    (i ≤ n) × (length room ≡ length room₀) × (room ≡ paste room₀ at (bytesFrom (view stream) d n) i)
+Inv-loop stream d room₀ at n i₀ room i = Pasted room₀ (bytesFrom (view stream) d n) at n room i
 
 abbrev μ-loop : tie.MeasureT-loop
 μ-loop stream d room₀ at n i₀ room i = n - i
@@ -26,7 +26,7 @@ abbrev μ-loop : tie.MeasureT-loop
 loop-holds : tie.Need-loop-holds Inv-loop μ-loop
 loop-holds c =
     let s = c .before .before .args in
-    (omega arith, refl, paste-zero (s .room .now) (s .at) (bytesFrom (view (s .stream .now)) (s .d) (s .n)))
+    none-pasted (s .room .now) (bytesFrom (view (s .stream .now)) (s .d) (s .n)) (s .at) (s .n)
 
 -- src/reading.rt:180:17
 add-e : tie.Need-add-e Inv-loop μ-loop
@@ -82,24 +82,22 @@ loop-again c =
     paste-places (s .stream .now) (s .room .now) (s .d) (s .at) (t .i) (run .result) (s .n) (omega arith) (omega (arith, run .ensures .0 .0))
     (omega arith) (run .ensures .0 .1) in
     let source = drop ((s .d + t .i) / 504 * 512 + (6 + (s .d + t .i) % 504)) (s .stream .now) in
-    let now = c .before .before .copy-run .ensures ∙ ap (λ (l : List ℕ). paste l (s .at + t .i) source (run .result)) (t .inv .2) ∙ places in
-    let long = length-bytes (view (s .stream .now)) (s .n) (s .d) in (
-      omega (arith, run .ensures .0 .0),
-      ap length now ∙ length-paste (s .room .now) (s .at) _ (t .i + run .result) (omega (arith, run .ensures .0 .0)) (omega (arith, long, run .ensures .0 .0)),
-      now,
-    )
+    let now = c .before .before .copy-run .ensures ∙ ap (λ (l : List ℕ). paste l (s .at + t .i) source (run .result)) (t .inv .holds) ∙ places in
+    let long = length-bytes (view (s .stream .now)) (s .n) (s .d) in
+    record {
+      few = omega (arith, run .ensures .0 .0);
+      long = ap length now
+          ∙ length-paste (s .room .now) (s .at) _ (t .i + run .result) (omega (arith, run .ensures .0 .0)) (omega (arith, long, run .ensures .0 .0));
+      holds = now;
+    }
 
 -- src/reading.rt:174:1
 same-length : tie.Need-same-length Inv-loop μ-loop
-same-length c = c .before .loop .inv .1
+same-length c = c .before .loop .inv .long
 
 -- src/reading.rt:174:1
 returns : tie.Need-returns Inv-loop μ-loop
-returns c =
-    let s = c .before .before .before .before .args in
-    let t = c .before .loop in
-    let e : t .i ≡ s .n = omega arith in
-    t .inv .2 ∙ rw e
+returns c = all-pasted _ _ _ _ _ _ (c .before .loop .inv) (omega arith)
 
 pub copy-data-spec : {M : Type 1} → statement M
 copy-data-spec =

@@ -1,26 +1,20 @@
-use mathlib.Core.Path.{_≡_, refl, _∙_}
-use Prim.Native.Nat.{ℕ, _+_, _-_, _≤_}
-use native.Mathlib.Numerals.{add-one}
 use native.Mathlib.Omega.{arith}
-use lib.ListN.{length, drop, getD, length-set, length-drop}
-use lib.Seq.{paste, paste-zero, paste-suc, getD-drop}
+use Prim.Native.Nat.{_-_}
+use lib.ListN.{drop, length-drop}
+use lib.Seq.{getD-drop}
+use Rattle.req_card.specs.PasteLaws.{Pasted, none-pasted, one-pasted, all-pasted}
 use Rattle.req_card_reader.proofs.reading.copy_run.Statement.{statement}
 use Rattle.req_card_reader.proofs.reading.copy_run.Tie as tie
-use Rattle.req_card_reader.proofs.reading.copy_run.Reads as reads
-use Rattle.req_card_reader.proofs.reading.copy_run.Lts as lts
 
 abbrev Inv-loop : tie.InvT-loop
-Inv-loop stream from room₀ at n i₀ room i =
-    (i ≤ n) × (length room ≡ length room₀) × (room ≡ paste room₀ at (drop from stream) i)
+Inv-loop stream from room₀ at n i₀ room i = Pasted room₀ (drop from stream) at n room i
 
 abbrev μ-loop : tie.MeasureT-loop
 μ-loop stream from room₀ at n i₀ room i = n - i
 
 -- src/reading.rt:155:5
 loop-holds : tie.Need-loop-holds Inv-loop μ-loop
-loop-holds c =
-    let s = c .args in
-    (omega arith, refl, paste-zero (s .room .now) (s .at) (drop (s .from) (s .stream .now)))
+loop-holds c = none-pasted (c .args .room .now) (drop (c .args .from) (c .args .stream .now)) (c .args .at) (c .args .n)
 
 -- src/reading.rt:156:31
 add-room : tie.Need-add-room Inv-loop μ-loop
@@ -51,37 +45,17 @@ loop-again : tie.Need-loop-again Inv-loop μ-loop
 loop-again c =
     let s = c .before .before .before .args in
     let t = c .before .before .loop in
-    let source = drop (s .from) (s .stream .now) in
-    let long : length source ≡ length (s .stream .now) - s .from = length-drop (s .from) (s .stream .now) in
-    let byte : getD source (t .i) 0 ≡ getD (s .stream .now) (s .from + t .i) 0 = getD-drop (s .from) (s .stream .now) (t .i) 0 in
-    let more = rw (byte, ← add-one (t .i)) at (paste-suc (s .room .now) (s .at) source (t .i) 0 (omega arith) (omega arith)) in
-    (omega arith, length-set (t .room) _ _ ∙ t .inv .1, rw (t .inv .2) more)
+    let long = length-drop (s .from) (s .stream .now) in
+    one-pasted _ _ (s .at) (s .n) (t .room) (t .i) _ (t .inv) (getD-drop (s .from) (s .stream .now) (t .i) 0) (omega arith) (omega arith) (omega arith)
 
 -- src/reading.rt:150:1
 same-length : tie.Need-same-length Inv-loop μ-loop
-same-length c = c .before .loop .inv .1
+same-length c = c .before .loop .inv .long
 
 -- src/reading.rt:150:1
 returns : tie.Need-returns Inv-loop μ-loop
-returns c =
-    let s = c .before .before .args in
-    let t = c .before .loop in
-    let e : t .i ≡ s .n = omega arith in
-    t .inv .2 ∙ rw e
+returns c = all-pasted _ _ _ _ _ _ (c .before .loop .inv) (omega arith)
 
 pub copy-run-spec : {M : Type 1} → statement M
 copy-run-spec =
-    tie.close
-    (tie.spec
-    Inv-loop
-    μ-loop
-    loop-holds
-    add-room
-    shared-slice-read-room
-    add-room-2
-    slice-write-room
-    add-i
-    loop-less
-    loop-again
-    same-length
-    returns)
+    tie.close (tie.spec Inv-loop μ-loop loop-holds add-room shared-slice-read-room add-room-2 slice-write-room add-i loop-less loop-again same-length returns)

@@ -59,6 +59,7 @@ use Rattle.req_channels.proofs.list.flag as flag′
 use Rattle.req_channels.proofs.list.flag.Symbol as flag′-def
 use Rattle.req_channels.proofs.list.flag.Symbol.{name as #req-channels·list·flag}
 use Rattle.req_channels.proofs.list.flag.Met as flag′-thm
+use Rattle.req_channels.proofs.Walks.{word, then}
 use Rattle.req_channels.proofs.list.mark.Key.{name as #f}
 use Rattle.req_channels.proofs.list.mark as f
 use Rattle.req_channels.proofs.list.mark.Statement as stated
@@ -81,23 +82,8 @@ marked-none ys w = sym (flagged-none ys w)
 abbrev slice : Ty
 slice = sliceTy (tyRef (named 0) mut (pointee (T.the-row .written)))
 
-abbrev word : Ty
-word = tyInt w64
-
 abbrev byte : Ty
 byte = tyInt w8
-
-abbrev then : Body → Body
-then (seq a b) = b
-then skipᴹ = skipᴹ
-then (assign p r) = skipᴹ
-then (block b) = skipᴹ
-then (loop b) = skipᴹ
-then (cond c a b) = skipᴹ
-then (switch c a) = skipᴹ
-then (exit n) = skipᴹ
-then return = skipᴹ
-then (call f xs d) = skipᴹ
 
 -- what a turn does after its test
 abbrev more : Body

@@ -65,6 +65,7 @@ use Rattle.req_channels.proofs.list.put as put
 use Rattle.req_channels.proofs.list.put.Symbol as put-def
 use Rattle.req_channels.proofs.list.put.Symbol.{name as #req-channels·list·put}
 use Rattle.req_channels.proofs.list.put.Met as put-thm
+use Rattle.req_channels.proofs.Walks.{word, then}
 use Rattle.req_channels.proofs.list.read.Key.{name as #f}
 use Rattle.req_channels.proofs.list.read as f
 use Rattle.req_channels.proofs.list.read.Statement as stated
@@ -85,23 +86,8 @@ read-none ys = refl
 abbrev slice : Ty
 slice = sliceTy (tyRef (named 0) imm (pointee (T.the-row .written)))
 
-abbrev word : Ty
-word = tyInt w64
-
 abbrev short : Ty
 short = tyInt w16
-
-abbrev then : Body → Body
-then (seq a b) = b
-then skipᴹ = skipᴹ
-then (assign p r) = skipᴹ
-then (block b) = skipᴹ
-then (loop b) = skipᴹ
-then (cond c a b) = skipᴹ
-then (switch c a) = skipᴹ
-then (exit n) = skipᴹ
-then return = skipᴹ
-then (call f xs d) = skipᴹ
 
 -- what a turn does after its test
 abbrev more : Body

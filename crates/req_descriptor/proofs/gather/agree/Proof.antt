@@ -8,7 +8,7 @@ use borrow.Author.Tests.{not-true, not-false}
 use Rattle.req_descriptor.specs.Row.{isRow, endpointsOf}
 use Rattle.req_descriptor.specs.Endpoints.{listed, agree}
 use Rattle.req_descriptor.specs.Reading.{endpoints}
-use Rattle.req_descriptor.specs.WalkLaws.{on, begins, agree-at, agree-over}
+use Rattle.req_descriptor.specs.WalkLaws.{On, on, begins, agree-at, agree-over}
 use Rattle.req_descriptor.proofs.gather.agree.Statement.{statement}
 use Rattle.req_descriptor.proofs.gather.agree.Tie as tie
 
@@ -32,43 +32,31 @@ wide-requires c κs = search needs
 loop-holds : tie.Need-loop-holds Inv-loop μ-loop
 loop-holds c =
     let p = c .before .before .before .pre in
-    let s = c .before .before .before .args .bytes .now in
-    let b = begins s (p .0) in
-    let f = b .fits in
+    let b = begins (c .before .before .before .args .bytes .now) (p .0) in
     let e = c .wide .ensures in
-    (omega arith, length s, false, rw e (b .row), rw e)
+    (omega (arith, b .fits), length (c .before .before .before .args .bytes .now), false, rw e (b .row), rw e)
+
+-- the descriptor at `at`, and the row after it
+here : (p : tie.In-loop Inv-loop μ-loop)
+    → let a = p .before .before .before .before .before .args in
+    let k = p .before .loop in
+    On (k .inv .1) (a .bytes .now) (k .at) (a .zeroth) (k .now-in)
+here p =
+    let v = p .before .loop .inv in
+    on (v .1) (v .2) _ _ _ _ (λ j. omega (arith, p .before .before .before .before .shared-slice-known .given j)) (omega arith) (v .3)
 
 setting-requires : tie.Need-setting-requires Inv-loop μ-loop
-setting-requires c κs =
-    let k = c .before in
-    let v = k .loop .inv in
-    let a = k .before .before .before .before .args in
-    let s = a .bytes .now in
-    let b : (j : ℕ) → getD s j 0 < 256 = λ j. omega (arith, k .before .before .before .shared-slice-known .given j) in
-    let o = on (v .1) (v .2) s (k .loop .at) (a .zeroth) (k .loop .now-in) b (omega arith) (v .3) in
-    o .sound
+setting-requires c κs = here c .sound
 
 agrees-requires : tie.Need-agrees-requires Inv-loop μ-loop
-agrees-requires c κs =
-    let k = c .before .before in
-    let v = k .loop .inv in
-    let a = k .before .before .before .before .args in
-    let s = a .bytes .now in
-    let b : (j : ℕ) → getD s j 0 < 256 = λ j. omega (arith, k .before .before .before .shared-slice-known .given j) in
-    let o = on (v .1) (v .2) s (k .loop .at) (a .zeroth) (k .loop .now-in) b (omega arith) (v .3) in
-    (o .sound, k .before .before .before .before .pre .1)
+agrees-requires c κs = (here (c .before) .sound, c .before .before .before .before .before .before .pre .1)
 
 returns : tie.Need-returns Inv-loop μ-loop
 returns c =
     let k = c .before .before .before .before in
-    let v = k .loop .inv in
-    let a = k .before .before .before .before .args in
-    let s = a .bytes .now in
-    let b : (j : ℕ) → getD s j 0 < 256 = λ j. omega (arith, k .before .before .before .shared-slice-known .given j) in
-    let o = on (v .1) (v .2) s (k .loop .at) (a .zeroth) (k .loop .now-in) b (omega arith) (v .3) in
     let x = c .before .before .setting .ensures in
     let y = sym (c .before .agrees .ensures) ∙ not-true _ (c .if1 .taken) in
-    sym (agree-at (v .1) s (k .loop .at) (a .zeroth) (k .loop .now-in) o (listed (a .list)) ∙ rw (rw x at y)) ∙ v .4
+    sym (agree-at _ _ _ _ _ (here (c .before .before .before)) (listed (k .before .before .before .before .args .list)) ∙ rw (rw x at y)) ∙ k .loop .inv .4
 
 shared-slice-read-wide-2 : tie.Need-shared-slice-read-wide-2 Inv-loop μ-loop
 shared-slice-read-wide-2 c = omega arith
@@ -81,24 +69,14 @@ add-at c = omega (arith, c .before .shared-slice-known3 .given (c .before .befor
 
 loop-less : tie.Need-loop-less Inv-loop μ-loop
 loop-less c =
-    let k = c .before .before .before .before .before .before in
-    let v = k .loop .inv in
-    let a = k .before .before .before .before .args in
-    let s = a .bytes .now in
-    let b : (j : ℕ) → getD s j 0 < 256 = λ j. omega (arith, k .before .before .before .shared-slice-known .given j) in
-    let o = on (v .1) (v .2) s (k .loop .at) (a .zeroth) (k .loop .now-in) b (omega arith) (v .3) in
-    let m = o .sound .here .moves in
+    let m = here (c .before .before .before .before .before) .sound .here .moves in
     let e = c .wide2 .ensures in
     omega arith
 
 loop-again : tie.Need-loop-again Inv-loop μ-loop
 loop-again c =
     let k = c .before .before .before .before .before .before in
-    let v = k .loop .inv in
-    let a = k .before .before .before .before .args in
-    let s = a .bytes .now in
-    let b : (j : ℕ) → getD s j 0 < 256 = λ j. omega (arith, k .before .before .before .shared-slice-known .given j) in
-    let o = on (v .1) (v .2) s (k .loop .at) (a .zeroth) (k .loop .now-in) b (omega arith) (v .3) in
+    let o = here (c .before .before .before .before .before) in
     let f = o .sound .here .fits in
     let x = c .before .before .before .before .setting .ensures in
     let y = sym (c .before .before .before .agrees .ensures) ∙ not-false _ (c .before .before .if1 .left) in
@@ -107,7 +85,7 @@ loop-again c =
       o .left,
       o .inside,
       rw e (o .row),
-      rw (x, e) (sym (agree-at (v .1) s (k .loop .at) (a .zeroth) (k .loop .now-in) o (listed (a .list)) ∙ rw (rw x at y)) ∙ v .4),
+      rw (x, e) (sym (agree-at _ _ _ _ _ o (listed (k .before .before .before .before .args .list)) ∙ rw (rw x at y)) ∙ k .loop .inv .4),
     )
 
 returns-2 : tie.Need-returns-2 Inv-loop μ-loop

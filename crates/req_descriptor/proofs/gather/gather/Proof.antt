@@ -10,7 +10,7 @@ use Rattle.req_descriptor.specs.Row.{isRow, endpointsOf}
 use Rattle.req_descriptor.specs.Endpoints.{ofList, listed, gathered}
 use Rattle.req_descriptor.specs.Reading.{endpoints}
 use Rattle.req_descriptor.specs.Lists.{Tidy}
-use Rattle.req_descriptor.specs.WalkLaws.{on, begins, gather-at, tidy-at, gather-over}
+use Rattle.req_descriptor.specs.WalkLaws.{On, on, begins, gather-at, tidy-at, gather-over}
 use Rattle.req_descriptor.proofs.gather.gather.Statement.{statement}
 use Rattle.req_descriptor.proofs.gather.gather.Tie as tie
 
@@ -35,31 +35,24 @@ wide-requires c κs = search needs
 loop-holds : tie.Need-loop-holds Inv-loop μ-loop
 loop-holds c =
     let p = c .before .before .before .pre in
-    let s = c .before .before .before .args .bytes .now in
-    let b = begins s (p .0) in
-    let f = b .fits in
+    let b = begins (c .before .before .before .args .bytes .now) (p .0) in
     let e = c .wide .ensures in
-    (p .1, omega arith, length s, false, rw e (b .row), rw e)
+    (p .1, omega (arith, b .fits), length (c .before .before .before .args .bytes .now), false, rw e (b .row), rw e)
+
+-- the descriptor at `at`, and the row after it
+here : (p : tie.In-loop Inv-loop μ-loop)
+    → let a = p .before .before .before .before .before .args in
+    let k = p .before .loop in
+    On (k .inv .2) (a .bytes .now) (k .at) (a .zeroth) (k .now-in)
+here p =
+    let v = p .before .loop .inv in
+    on (v .2) (v .3) _ _ _ _ (λ j. omega (arith, p .before .before .before .before .shared-slice-known .given j)) (omega arith) (v .4)
 
 setting-requires : tie.Need-setting-requires Inv-loop μ-loop
-setting-requires c κs =
-    let k = c .before in
-    let v = k .loop .inv in
-    let a = k .before .before .before .before .args in
-    let s = a .bytes .now in
-    let b : (j : ℕ) → getD s j 0 < 256 = λ j. omega (arith, k .before .before .before .shared-slice-known .given j) in
-    let o = on (v .2) (v .3) s (k .loop .at) (a .zeroth) (k .loop .now-in) b (omega arith) (v .4) in
-    o .sound
+setting-requires c κs = here c .sound
 
 taken-requires : tie.Need-taken-requires Inv-loop μ-loop
-taken-requires c κs =
-    let k = c .before .before in
-    let v = k .loop .inv in
-    let a = k .before .before .before .before .args in
-    let s = a .bytes .now in
-    let b : (j : ℕ) → getD s j 0 < 256 = λ j. omega (arith, k .before .before .before .shared-slice-known .given j) in
-    let o = on (v .2) (v .3) s (k .loop .at) (a .zeroth) (k .loop .now-in) b (omega arith) (v .4) in
-    (o .sound, v .0)
+taken-requires c κs = (here (c .before) .sound, c .before .before .loop .inv .0)
 
 shared-slice-read-wide-2 : tie.Need-shared-slice-read-wide-2 Inv-loop μ-loop
 shared-slice-read-wide-2 c = omega arith
@@ -72,34 +65,24 @@ add-at c = omega (arith, c .before .shared-slice-known3 .given (c .before .befor
 
 loop-less : tie.Need-loop-less Inv-loop μ-loop
 loop-less c =
-    let k = c .before .before .before .before .before in
-    let v = k .loop .inv in
-    let a = k .before .before .before .before .args in
-    let s = a .bytes .now in
-    let b : (j : ℕ) → getD s j 0 < 256 = λ j. omega (arith, k .before .before .before .shared-slice-known .given j) in
-    let o = on (v .2) (v .3) s (k .loop .at) (a .zeroth) (k .loop .now-in) b (omega arith) (v .4) in
-    let m = o .sound .here .moves in
+    let m = here (c .before .before .before .before) .sound .here .moves in
     let e = c .wide2 .ensures in
     omega arith
 
 loop-again : tie.Need-loop-again Inv-loop μ-loop
 loop-again c =
-    let k = c .before .before .before .before .before in
-    let v = k .loop .inv in
-    let a = k .before .before .before .before .args in
-    let s = a .bytes .now in
-    let b : (j : ℕ) → getD s j 0 < 256 = λ j. omega (arith, k .before .before .before .shared-slice-known .given j) in
-    let o = on (v .2) (v .3) s (k .loop .at) (a .zeroth) (k .loop .now-in) b (omega arith) (v .4) in
+    let k = c .before .before .before .before .before .loop in
+    let o = here (c .before .before .before .before) in
     let f = o .sound .here .fits in
     let x = c .before .before .before .setting .ensures in
     let y = c .before .before .taken .ensures in
     let e = c .wide2 .ensures in (
-      rw (y, x) (tidy-at (v .2) s (k .loop .at) (a .zeroth) (k .loop .now-in) o (k .loop .so-far) (v .0)),
+      rw (y, x) (tidy-at _ _ _ _ _ o (k .so-far) (k .inv .0)),
       omega arith,
       o .left,
       o .inside,
       rw e (o .row),
-      rw (y, x, e) (sym (gather-at (v .2) s (k .loop .at) (a .zeroth) (k .loop .now-in) o (k .loop .so-far)) ∙ v .5),
+      rw (y, x, e) (sym (gather-at _ _ _ _ _ o (k .so-far)) ∙ k .inv .5),
     )
 
 returns : tie.Need-returns Inv-loop μ-loop

@@ -1,27 +1,23 @@
-use mathlib.Core.Path.{_≡_, refl, sym, ap, _∙_}
+use mathlib.Core.Path.{_≡_, ap, _∙_}
 use Prim.Native.Nat.{_≤_, _-_, _+_, _*_}
 use native.Mathlib.Omega.{arith}
 use Rattle.le_bytes.specs.Bytes.{puts, bytes}
 use Rattle.state.specs.declared.EpState.{EpState}
 use Rattle.state.specs.Codec.{epWidths, epAs}
-use Rattle.state.specs.Driver.{noEp, withEps}
-use Rattle.state.specs.State.{view, saved}
-use Rattle.state.specs.Fresh.{filled}
-use Rattle.state.proofs.Filling.{filled-none, eps-next}
+use Rattle.state.specs.Driver.{noEp}
+use Rattle.state.proofs.Filling.{eps-table, Filled, none-filled, ep-filled, all-filled}
 use borrow.Author.Needs.{needs}
 use Rattle.state.proofs.start_up.clear_eps.Statement.{statement}
 use Rattle.state.proofs.start_up.clear_eps.Tie as tie
 
 abbrev Inv-loop : tie.InvT-loop
-Inv-loop s₀ k₀ s k =
-    (k ≤ 32) × ((view s ≡ withEps (view s₀) (filled (view s₀ .eps) 0 k noEp)) × (saved s ≡ saved s₀))
+Inv-loop s₀ k₀ s k = (k ≤ 32) × Filled eps-table s₀ noEp 0 k s
 
 abbrev μ-loop : tie.MeasureT-loop
 μ-loop s₀ k₀ s k = 32 - k
 
 loop-holds : tie.Need-loop-holds Inv-loop μ-loop
-loop-holds c =
-    (omega arith, (ap (withEps (view (c .args .s .now))) (sym (filled-none (view (c .args .s .now) .eps) 0 noEp)), refl))
+loop-holds c = (omega arith, none-filled eps-table (c .args .s .now) noEp 0)
 
 sized-requires : tie.Need-sized-requires Inv-loop μ-loop
 sized-requires c κs = search needs
@@ -48,30 +44,12 @@ loop-again : tie.Need-loop-again Inv-loop μ-loop
 loop-again c =
     let at = c .before .before .before .before .before .before .before .loop in
     let w = c .before .before .before .before .before .before .before .before .args .s .now in
-    let o = 0 + at .k * 30 in
-    let e = c .write-ep .ensures ∙ ap (λ (r : EpState). puts (at .s) o 0 (bytes epWidths (epAs r))) (c .before .no-ep .ensures) in
-    let sized = c .before .before .before .before .sized-arg2 .given .0 in
-    (omega arith, eps-next w (at .s) _ (at .k) noEp sized (omega arith) e (at .inv .1 .0) (at .inv .1 .1))
+    let e = c .write-ep .ensures ∙ ap (λ (r : EpState). puts (at .s) (0 + at .k * 30) 0 (bytes epWidths (epAs r))) (c .before .no-ep .ensures) in
+    (omega arith, ep-filled w (at .s) _ (at .k) noEp (c .before .before .before .before .sized-arg2 .given .0) (omega arith) e (at .inv .1))
 
 returns : tie.Need-returns Inv-loop μ-loop
-returns c =
-    let at = c .before .loop in
-    let e : at .k ≡ 32 = omega arith in
-    (rw e at (at .inv .1 .0), at .inv .1 .1)
+returns c = all-filled eps-table _ noEp 0 32 _ _ (c .before .loop .inv .1) (omega arith)
 
 pub clear-eps-spec : {M : Type 1} → statement M
 clear-eps-spec =
-    tie.close
-    (tie.spec
-    Inv-loop
-    μ-loop
-    loop-holds
-    sized-requires
-    mul-write-ep
-    add-write-ep
-    no-ep-requires
-    write-ep-requires
-    add-k
-    loop-less
-    loop-again
-    returns)
+    tie.close (tie.spec Inv-loop μ-loop loop-holds sized-requires mul-write-ep add-write-ep no-ep-requires write-ep-requires add-k loop-less loop-again returns)
