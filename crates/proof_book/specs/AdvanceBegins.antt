@@ -15,9 +15,8 @@ use Rattle.proof_book.specs.Pages.{Pages}
 use Rattle.proof_book.specs.Book.{Bk, putB, actB, bookOps, book}
 use Rattle.proof_book.specs.FrontPage.{written}
 use Rattle.proof_book.specs.BookDecides.{sendsTo}
-use Rattle.proof_book.specs.BookCalls.{sending, sending-blank}
 use Rattle.proof_book.specs.Refusing.{Same, leavesPages, put-same, act-same}
-use Rattle.proof_book.specs.OthersCalls.{fed-in}
+use Rattle.proof_book.specs.AnswersLaws.{sending-same, fed-in}
 
 -- a script that leaves the pages until its first access, a reading
 data Waits : (A : Type 0) → Script false A → Type 1 where
@@ -69,8 +68,7 @@ module _ (a : Ans Answer) (e f : ℕ) (n : Machine Answer Pages) (b : Buf) where
 
   halted : (o : tree.Out Bk Answer) → First (n .st, b) o → Leaves (halt calls (book .driver) (fed book a) false o)
   halted (ends z t) h s = h .ins f
-  halted (asks q t k) h s = fed-in a (t .0) f (sym (sending-blank a f) ∙ ap (λ (z : Ans Answer). sending z f) s ∙ sending-blank (handed q) f ∙ h .1 f)
-      ∙ h .0 .ins f
+  halted (asks q t k) h s = fed-in a (t .0) f (sending-same f a (handed q) s ∙ h .1 f) ∙ h .0 .ins f
 
   begun-leaves : (w : Way Answer Pages) → Leaves (begun calls (book .driver) (fed book a) (other (Advance e)) n w b)
   begun-leaves idle s = halted (run bookOps (otherCode (Advance e)) (n .st, b)) (waits-run (of-advance e) (n .st, b)) s

@@ -36,8 +36,7 @@ use Rattle.model_ops.specs.Records.{plainOf}
 use Rattle.proof_book.specs.Pages.{OutPage}
 use Rattle.proof_book.specs.Book.{freshPages}
 use Rattle.proof_book.specs.Coupling.{Coupling, Held, AtRest, lensOf, slotStamps}
-use Rattle.proof_book.specs.Frame.{none-stands}
-use Rattle.proof_book.specs.StampsLaws.{none-stamps}
+use Rattle.proof_book.specs.EmptyPagesLaws.{empty-out, empty-in}
 use Rattle.proof_book.specs.GivenParts.{zero-addr}
 
 -- ---- start-up
@@ -157,28 +156,9 @@ module _ (c : Config) (b : Buf) (row : startRow c b ≡ 0) where
       plain = λ dir e. ap plainOf (record-new dir e);
     };
     shape = λ dir e. rw (unused-new dir e, record-new dir e) (record { iso = refl; base = refl; stride = refl; slots = refl });
-    outs = λ e. rw (record-new Out e) (record {
-      held = held-new 0 Out e;
-      stamps = none-stamps newEp (slotStamps D e) (reset-count newEp refl refl);
-      opened = refl;
-      shows = λ h. absurd (true≢false h);
-      lost = refl;
-      slot = refl;
-      from = omega arith;
-      upto = omega arith;
-      ledger = refl;
-      short = tt;
-    });
-    ins = λ e. rw (record-new In e) (record {
-      held = held-new 1 In e;
-      ringless = λ _. reset-count newEp refl refl;
-      loaded = refl;
-      sends = λ h. absurd (true≢false h);
-      turn = refl;
-      ledger = refl;
-      reached = refl;
-      stands = none-stands refl;
-    });
+    outs = λ e. rw (record-new Out e)
+        (empty-out refl refl refl (held-new 0 Out e) (freshPages c .outs e) refl refl (omega arith) (omega arith) (slotStamps D e));
+    ins = λ e. rw (record-new In e) (empty-in refl refl refl (held-new 1 In e));
     arming = λ e. rw (record-new Out e) (rest-new _ _ refl);
     apart = λ dir dir′ e e′ h. rw (record-new dir e, record-new dir′ e′) (inl (omega arith));
     ep0-below = omega arith;

@@ -43,7 +43,7 @@ use Rattle.proof_book.specs.Frame.{kept-same, end-kept, out-changed, out
 use Rattle.proof_book.specs.Held.{HandAgrees, receives, receives-used, receives-slots, good-words}
 use Rattle.proof_book.specs.Lies.{received-lies}
 use Rattle.proof_book.specs.Outs.{Inner}
-use Rattle.proof_book.specs.OutsLaws.{out-on, out-page}
+use Rattle.proof_book.specs.OutsLaws.{out-on, out-page, fits-alike}
 
 -- ---- the record
 
@@ -389,25 +389,10 @@ hand-arrive e n b d t R =
 
 placed-fits : {b : Buf} {r : EpState} {ls ss : List ℕ} {p : OutPage} → OutFits b r ls ss p → OutFits b (armedAt r (r .base)) ls ss (slotTold p (r .base))
 unfolding armedAt
-placed-fits {b} {r} {ls} {ss} f =
+placed-fits {r = r} {p = p} f =
     let k = armed-alike r (r .base) in
-    record {
-      held = record {
-        placed = place-placed (k .place) (f .held .placed);
-        ring = alike-out k (f .held .ring);
-        least = f .held .least;
-        waits = alike-waits k b ls (f .held .ring .tail8) ∙ f .held .waits;
-      };
-      stamps = alike-stamps k ss (f .held .ring .tail8) ∙ f .stamps;
-      opened = f .opened;
-      shows = λ h. omega (arith, f .shows h, alike-count k);
-      lost = f .lost;
-      slot = refl;
-      from = omega arith;
-      upto = omega (arith, f .from, f .upto);
-      ledger = f .ledger;
-      short = f .short;
-    }
+    fits-alike k f refl (p .opened) (r .base) (f .opened) (λ h. omega (arith, f .shows h, alike-count k))
+    (f .lost) refl (omega arith) (omega (arith, f .from, f .upto))
 
 module _ {b : Buf} {d : Driver} {t : Pages} (R : Coupling quiet b d t) (e : ℕ) where
   place-by : (v : Bool) → receives d e ≡ v

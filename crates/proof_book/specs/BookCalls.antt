@@ -28,7 +28,8 @@ use Rattle.proof_book.specs.InterruptParts.{of-interrupt}
 use Rattle.proof_book.specs.BookCounts.{Periodic, Followed, follow}
 use Rattle.proof_book.specs.Releases.{Clears, clears, of-slotted, of-other, of-aside, of-starting}
 use Rattle.proof_book.specs.Refusing.{isNo, Tells, t-ask, call-tells, start-tells}
-use Rattle.proof_book.specs.BookDecides.{isReceive, sendsTo, Watched, watch}
+use Rattle.proof_book.specs.BookDecides.{isReceive, numberIn, Watched, watch}
+use Rattle.proof_book.specs.AnswersLaws.{tells-same, addressed-same, fed-elim, fed-out}
 
 -- ---- what is under way
 
@@ -46,37 +47,18 @@ pub record Fine (n : Machine Answer Pages) : Type 0 where
 
 -- ---- the access told
 
-feed-periodic : (q : Access) (t : Pages) → Periodic t → Periodic (feedB q t)
-feed-periodic (Read r e) t i = i
-feed-periodic (Write r e v) t i = i
-feed-periodic (Receive e a) t i = λ x y h. ap₂ (λ (k : ℕ) (p : OutPage). cond (eqb k (e % 16)) (slotTold (t .outs e) a) p) h (i x y h)
-feed-periodic (Transmit e a) t i = i
-feed-periodic (Ep0Dma a) t i = i
-feed-periodic (Wait n) t i = i
-feed-periodic Callback t i = i
+fed-periodic : (a : Ans Answer) (t : Pages) → Periodic t → Periodic (fed book a t)
+fed-periodic a t i = fed-elim Periodic a t i
+    (λ e v _. λ x y h. ap₂ (λ (k : ℕ) (p : OutPage). cond (eqb k (e % 16)) (slotTold (t .outs e) v) p) h (i x y h))
+    (λ e v _. i)
 
 -- but for its slot the page stays
-feed-page : {A : Type 0} (f : OutPage → A) → ((p : OutPage) (a : ℕ) → f (slotTold p a) ≡ f p)
-    → (q : Access) (t : Pages) → Periodic t → (x : ℕ) → f (feedB q t .outs x) ≡ f (t .outs x)
-feed-page f g (Read r e) t i x = refl
-feed-page f g (Write r e v) t i x = refl
-feed-page f g (Receive e a) t i x = at-elim (λ (p : OutPage). f p ≡ f (t .outs x)) e x
-    (slotTold (t .outs e) a) (t .outs) (λ h. g (t .outs e) a ∙ ap f (i e x (sym h))) (λ _. refl)
-feed-page f g (Transmit e a) t i x = refl
-feed-page f g (Ep0Dma a) t i x = refl
-feed-page f g (Wait n) t i x = refl
-feed-page f g Callback t i x = refl
-
-fed-periodic : (a : Ans Answer) (t : Pages) → Periodic t → Periodic (fed book a t)
-fed-periodic (ended z) t i = i
-fed-periodic (handed q) t i = feed-periodic q t i
-fed-periodic (told n) t i = i
-
 pub fed-page : {A : Type 0} (f : OutPage → A) → ((p : OutPage) (a : ℕ) → f (slotTold p a) ≡ f p)
     → (a : Ans Answer) (t : Pages) → Periodic t → (x : ℕ) → f (fed book a t .outs x) ≡ f (t .outs x)
-fed-page f g (ended z) t i x = refl
-fed-page f g (handed q) t i x = feed-page f g q t i x
-fed-page f g (told n) t i x = refl
+fed-page f g a t i x = fed-elim (λ u. f (u .outs x) ≡ f (t .outs x)) a t refl
+    (λ e v _. at-elim (λ (p : OutPage). f p ≡ f (t .outs x)) e x
+    (slotTold (t .outs e) v) (t .outs) (λ h. g (t .outs e) v ∙ ap f (i e x (sym h))) (λ _. refl))
+    (λ e v _. refl)
 
 -- ---- a call's step: from pages t, with the book's answer
 
@@ -203,15 +185,6 @@ receives (ended z) = false
 receives (handed q) = isReceive q
 receives (told n) = false
 
-abbrev numberIn : Access → ℕ
-numberIn (Read r e) = 0
-numberIn (Write r e v) = 0
-numberIn (Receive e x) = e
-numberIn (Transmit e x) = 0
-numberIn (Ep0Dma x) = 0
-numberIn (Wait n) = 0
-numberIn Callback = 0
-
 abbrev number : Ans Answer → ℕ
 number (ended z) = 0
 number (handed q) = numberIn q
@@ -231,22 +204,11 @@ received-by (ended z) h = absurd (true≢false (sym h))
 received-by (handed q) h = let z = receive-by q h in (z .0, ap handed (z .1))
 received-by (told n) h = absurd (true≢false (sym h))
 
-blank-receives : (a : Ans Answer) → (receives (blankA a) ≡ receives a) × (number (blankA a) ≡ number a)
-blank-receives (ended z) = (refl, refl)
-blank-receives (handed (Read r e)) = (refl, refl)
-blank-receives (handed (Write r e v)) = (refl, refl)
-blank-receives (handed (Receive e x)) = (refl, refl)
-blank-receives (handed (Transmit e x)) = (refl, refl)
-blank-receives (handed (Ep0Dma x)) = (refl, refl)
-blank-receives (handed (Wait n)) = (refl, refl)
-blank-receives (handed Callback) = (refl, refl)
-blank-receives (told n) = (refl, refl)
-
 -- an answer that is the same but for its address
 pub same-receive : (a y : Ans Answer) (f x : ℕ) → blankA a ≡ blankA y → y ≡ handed (Receive f x) → (z : ℕ) × (a ≡ handed (Receive f z))
 same-receive a y f x h k =
-    let r : receives a ≡ true = sym (blank-receives a .0) ∙ ap receives h ∙ blank-receives y .0 ∙ ap receives k in
-    let m : number a ≡ f = sym (blank-receives a .1) ∙ ap number h ∙ blank-receives y .1 ∙ ap number k in
+    let r : receives a ≡ true = tells-same receives (λ _ _. refl, λ _ _. refl, λ _. refl) a y h ∙ ap receives k in
+    let m : number a ≡ f = tells-same number (λ _ _. refl, λ _ _. refl, λ _. refl) a y h ∙ ap number k in
     let z = received-by a r in
     (z .0, z .1 ∙ ap (λ (f : ℕ). handed (Receive f (z .0))) m)
 
@@ -342,25 +304,13 @@ decided c a e n h b s l d = subst
 
 -- ---- no arrival
 
-pub fed-away : (z : Ans Answer) (e : ℕ) → addressed z e ≡ false → (t : Pages) → fed book z t .outs e ≡ t .outs e
-fed-away (ended z) e g t = refl
-fed-away (handed (Read r f)) e g t = refl
-fed-away (handed (Write r f w)) e g t = refl
-fed-away (handed (Receive f x)) e g t = at-elim (λ (p : OutPage). p ≡ t .outs e) f e (slotTold (t .outs f) x) (t .outs)
-    (λ k. absurd (true≢false (sym (ap (λ (m : ℕ). eqb (f % 16) m) k ∙ eq-eqb (f % 16) (f % 16) refl) ∙ g))) (λ _. refl)
-fed-away (handed (Transmit f x)) e g t = refl
-fed-away (handed (Ep0Dma x)) e g t = refl
-fed-away (handed (Wait k)) e g t = refl
-fed-away (handed Callback) e g t = refl
-fed-away (told k) e g t = refl
-
 module _ (a : Ans Answer) (e v : ℕ) (n : Machine Answer Pages) (h : Fine n) (b : Buf) (away : addressed a e ≡ false) where
   abbrev Stays : Ans Answer × Machine Answer Pages → Type 0
   Stays y = addressed (y .0) e ≡ false → y .1 .st .outs e ≡ n .st .outs e
 
   stays-at : (o : tree.Out Bk Answer) → Watched (n .st, b) o → Stays (halt calls (book .driver) (fed book a) true o)
   stays-at (ends z t) (end j q) k = q .rest .outs e
-  stays-at (asks q t g) (ask j m f) k = fed-away a e away (t .0) ∙ m .leaves e (ap (λ (u : Bool). u && receiving (n .st) e) k)
+  stays-at (asks q t g) (ask j m f) k = fed-out a (t .0) e away ∙ m .leaves e (ap (λ (u : Bool). u && receiving (n .st) e) k)
 
   stays-wide : (u : Bool) (y : Ans Answer × Machine Answer Pages) → Stays y → Stays (cond u (stay calls (book .driver) 16 (lentTo calls (book .driver) n b)) y)
   stays-wide true y s k = refl
@@ -376,37 +326,8 @@ module _ (a : Ans Answer) (e v : ℕ) (n : Machine Answer Pages) (h : Fine n) (b
   stays-fits true i k = refl
   stays-fits false i k = stays-way (n .way) (h .way) i k
 
-pub addressed-blank : (z : Ans Answer) (e : ℕ) → addressed (blankA z) e ≡ addressed z e
-addressed-blank (ended z) e = refl
-addressed-blank (handed (Read r f)) e = refl
-addressed-blank (handed (Write r f w)) e = refl
-addressed-blank (handed (Receive f x)) e = refl
-addressed-blank (handed (Transmit f x)) e = refl
-addressed-blank (handed (Ep0Dma x)) e = refl
-addressed-blank (handed (Wait k)) e = refl
-addressed-blank (handed Callback) e = refl
-addressed-blank (told k) e = refl
-
 pub unmoved : (c : Call Config Op) (a : Ans Answer) (e v : ℕ) (n : Machine Answer Pages) → Fine n → (b : Buf) → blankA a ≡ blankA (written a c n b .0)
     → c ≡ go v → inInterrupt (n .way) ≡ true → addressed a e ≡ false → written a c n b .1 .st .outs e ≡ n .st .outs e
 unmoved c a e v n h b s p i g = subst (λ (c : Call Config Op). blankA a ≡ blankA (written a c n b .0) → written a c n b .1 .st .outs e ≡ n .st .outs e) (sym p)
     (λ s. stays-fits a e v n h b g (misfit calls (book .driver) (n .st) b) i
-    (sym (addressed-blank (written a (go v) n b .0) e) ∙ ap (λ (z : Ans Answer). addressed z e) (sym s) ∙ addressed-blank a e ∙ g)) s
-
--- ---- a load
-
-abbrev pub sending : Ans Answer → ℕ → Bool
-sending (ended z) e = false
-sending (handed q) e = sendsTo q e
-sending (told k) e = false
-
-pub sending-blank : (z : Ans Answer) (e : ℕ) → sending (blankA z) e ≡ sending z e
-sending-blank (ended z) e = refl
-sending-blank (handed (Read r f)) e = refl
-sending-blank (handed (Write r f w)) e = refl
-sending-blank (handed (Receive f x)) e = refl
-sending-blank (handed (Transmit f x)) e = refl
-sending-blank (handed (Ep0Dma x)) e = refl
-sending-blank (handed (Wait k)) e = refl
-sending-blank (handed Callback) e = refl
-sending-blank (told k) e = refl
+    (addressed-same e (written a (go v) n b .0) a (sym s) ∙ g)) s

@@ -23,18 +23,8 @@ use Rattle.proof_book.specs.BookCounts.{Followed, Counts, follow}
 use Rattle.proof_book.specs.BookCalls.{Fine, WayFine}
 use Rattle.proof_book.specs.Others.{releases, releasing}
 use Rattle.proof_book.specs.Releases.{Clear, Clears, clears, of-slotted, of-other, of-aside}
+use Rattle.proof_book.specs.AnswersLaws.{releasing-same}
 use Rattle.proof_book.specs.Enabling.{Empty, told-empty}
-
-pub releasing-blank : (z : Ans Answer) → releasing (blankA z) ≡ releasing z
-releasing-blank (ended z) = refl
-releasing-blank (handed (Read r f)) = refl
-releasing-blank (handed (Write r f w)) = refl
-releasing-blank (handed (Receive f x)) = refl
-releasing-blank (handed (Transmit f x)) = refl
-releasing-blank (handed (Ep0Dma x)) = refl
-releasing-blank (handed (Wait k)) = refl
-releasing-blank (handed Callback) = refl
-releasing-blank (told k) = refl
 
 -- no one is turned away there
 uncounted : (s t : Bk) (q : Access) → releases q ≡ true → Counts s q t → (e : ℕ) → t .0 .outs e .lost ≡ s .0 .outs e .lost
@@ -114,11 +104,11 @@ pub bus-reset-empties : (c : Call Config Op) (a : Ans Answer) (v : ℕ) (n : Mac
 bus-reset-empties c a v n h b s p i g dir e =
     subst (λ (c : Call Config Op). blankA a ≡ blankA (written a c n b .0) → Emptied dir e (n .st) (written a c n b .1 .st)) (sym p)
     (λ s. fits-by a n h b dir e v (misfit calls (book .driver) (n .st) b) i
-    (sym (releasing-blank (written a (go v) n b .0)) ∙ ap releasing (sym s) ∙ releasing-blank a ∙ g)) s
+    (releasing-same (written a (go v) n b .0) a (sym s) ∙ g)) s
 
 pub begin-empties : (c : Call Config Op) (a : Ans Answer) (o : Op) (n : Machine Answer Pages) → Fine n → (b : Buf)
     → blankA a ≡ blankA (written a c n b .0) → c ≡ begin o → releasing a ≡ true
     → (dir : Dir) (e : ℕ) → Emptied dir e (n .st) (written a c n b .1 .st)
 begin-empties c a o n h b s p g dir e = subst
     (λ (c : Call Config Op). blankA a ≡ blankA (written a c n b .0) → Emptied dir e (n .st) (written a c n b .1 .st)) (sym p)
-    (λ s. begins a n h b dir e o (sym (releasing-blank (written a (begin o) n b .0)) ∙ ap releasing (sym s) ∙ releasing-blank a ∙ g)) s
+    (λ s. begins a n h b dir e o (releasing-same (written a (begin o) n b .0) a (sym s) ∙ g)) s

@@ -33,6 +33,7 @@ use Rattle.proof_book.specs.Book.{bookOps, feedB, mergedPlain}
 use Rattle.proof_book.specs.Coupling.{Short, SameKept, Shape, Held, OutFits, InFits, AtRest}
 use Rattle.proof_book.specs.Coupling.{Coupling, Good, lensOf, slotStamps}
 use Rattle.proof_book.specs.Frame.{alike-tail, stands-moved}
+use Rattle.proof_book.specs.KeptLaws.{same-values, same-tables}
 use Rattle.proof_book.specs.StampsLaws.{alike-stamps}
 
 -- ---- an endpoint's key decides its record
@@ -76,20 +77,6 @@ pub record Kin (r r′ : EpState) : Type 0 where
   pub slot : r′ .«armed_slot» ≡ r .«armed_slot»
   pub loaded : r′ .loaded ≡ r .loaded
 
-pub kin-refl : (r : EpState) → Kin r r
-kin-refl r = record {
-  alike = record { place = record { base = refl; stride = refl; slots = refl }; head = refl; tail = refl };
-  iso = refl;
-  least = refl;
-  opened = refl;
-  overruns = refl;
-  slot = refl;
-  loaded = refl;
-}
-
-pub kin-by : {r r′ r″ : EpState} → Kin r r′ → r″ ≡ r′ → Kin r r″
-kin-by {r = r} k e = subst (λ z. Kin r z) (sym e) k
-
 pub merged-kin : (r : EpState) (v : EpCore) → Kin r (merged r v)
 merged-kin r v = record {
   alike = record { place = record { base = refl; stride = refl; slots = refl }; head = refl; tail = refl };
@@ -100,6 +87,12 @@ merged-kin r v = record {
   slot = refl;
   loaded = refl;
 }
+
+pub kin-refl : (r : EpState) → Kin r r
+kin-refl r = merged-kin r (plainOf r)
+
+pub kin-by : {r r′ r″ : EpState} → Kin r r′ → r″ ≡ r′ → Kin r r″
+kin-by {r = r} k e = subst (λ z. Kin r z) (sym e) k
 
 module _ {r r′ : EpState} (k : Kin r r′) where
   pub kin-shape : (used : Bool) (a : Allocator) (dir : Dir) → Shape used a dir r → Shape used a dir r′
@@ -350,66 +343,34 @@ pub puts : (c : Cell) (v : Val c) (b : Buf) (d : Driver) (t : Pages) → Couplin
 unfolding epOn withOn requestOn withRequestOn pacedOn withPacedOn
 puts globals-cell v b d t r = (
   refl,
-  still r (globals-still d v (r .sized)) (record {
-    globals = ap (λ (g : Globals). mergedGlobals g v) (r .same .globals);
-    wakes = r .same .wakes;
-    control = r .same .control;
-    allocator = r .same .allocator;
-    paced = r .same .paced;
-    requests = r .same .requests;
-    plain = r .same .plain;
-  }) refl refl,
+  still r (globals-still d v (r .sized)) (same-values (r .same) (λ e. refl, λ dir e. refl, λ dir e. refl)
+      (ap (λ (g : Globals). mergedGlobals g v) (r .same .globals)) (r .same .wakes) (r .same .control) (r .same .allocator)) refl refl,
 )
 puts control-cell v b d t r = (
   refl,
-  still r (control-still d v (r .sized)) (record {
-    globals = r .same .globals;
-    wakes = r .same .wakes;
-    control = refl;
-    allocator = r .same .allocator;
-    paced = r .same .paced;
-    requests = r .same .requests;
-    plain = r .same .plain;
-  }) refl refl,
+  still r (control-still d v (r .sized)) (same-values (r .same) (λ e. refl, λ dir e. refl, λ dir e. refl)
+      (r .same .globals) (r .same .wakes) refl (r .same .allocator)) refl refl,
 )
 puts allocator-cell v b d t r = (refl, r)
 puts (ep-cell dir e) v b d t r = (
   refl,
-  still r (record-still d dir e (merged (epOn d dir e) v) (r .sized) (merged-kin (epOn d dir e) v)) (record {
-    globals = r .same .globals;
-    wakes = r .same .wakes;
-    control = r .same .control;
-    allocator = r .same .allocator;
-    paced = r .same .paced;
-    requests = r .same .requests;
-    plain = plain-put d (t .kept) dir e (merged (epOn d dir e) v) (r .sized) (r .same .plain)
-        (mergedPlain (t .kept .plain dir e) v) (ap (λ (p : EpCore). mergedPlain p v) (r .same .plain dir e));
-  }) refl refl,
+  still r (record-still d dir e (merged (epOn d dir e) v) (r .sized) (merged-kin (epOn d dir e) v))
+      (same-tables (r .same) refl (r .same .paced) (r .same .requests)
+      (plain-put d (t .kept) dir e (merged (epOn d dir e) v) (r .sized) (r .same .plain)
+      (mergedPlain (t .kept .plain dir e) v) (ap (λ (p : EpCore). mergedPlain p v) (r .same .plain dir e)))) refl refl,
 )
 puts (request-cell dir e) v b d t r = (
   refl,
-  still r (request-still d dir e v (r .sized)) (record {
-    globals = r .same .globals;
-    wakes = r .same .wakes;
-    control = r .same .control;
-    allocator = r .same .allocator;
-    paced = r .same .paced;
-    requests = on-put (requestOn d) (requestOn (withRequestOn d dir e v)) (t .kept .requests) dir e v (r .same .requests)
-        (λ x p. requestOn-by (withRequestOn d dir e v) dir x e p ∙ requestOn-same d dir e v (r .sized)) (λ dir′ x p. requestOn-other d dir e v dir′ x p);
-    plain = r .same .plain;
-  }) refl refl,
+  still r (request-still d dir e v (r .sized))
+      (same-tables (r .same) refl (r .same .paced)
+      (on-put (requestOn d) (requestOn (withRequestOn d dir e v)) (t .kept .requests) dir e v (r .same .requests)
+      (λ x p. requestOn-by (withRequestOn d dir e v) dir x e p ∙ requestOn-same d dir e v (r .sized)) (λ dir′ x p. requestOn-other d dir e v dir′ x p))
+      (r .same .plain)) refl refl,
 )
 puts (paced-cell e) v b d t r = (
   refl,
-  still r (paced-still d e v (r .sized)) (record {
-    globals = r .same .globals;
-    wakes = r .same .wakes;
-    control = r .same .control;
-    allocator = r .same .allocator;
-    paced = paced-put d (t .kept) e v (r .sized) (r .same .paced);
-    requests = r .same .requests;
-    plain = r .same .plain;
-  }) refl refl,
+  still r (paced-still d e v (r .sized))
+      (same-tables (r .same) refl (paced-put d (t .kept) e v (r .sized) (r .same .paced)) (r .same .requests) (r .same .plain)) refl refl,
 )
 
 -- ---- wake-ups
@@ -417,15 +378,8 @@ puts (paced-cell e) v b d t r = (
 pub wakes-kept : {b : Buf} {d : Driver} {t : Pages} → Coupling quiet b d t
     → (v w : Wakes) → v ≡ w → Coupling quiet b (withWakes d v) (withKept t (keptWakes (t .kept) w))
 unfolding pacedOn requestOn epOn
-wakes-kept {d = d} r v w e = still r (wakes-still d v (r .sized)) (record {
-  globals = r .same .globals;
-  wakes = e;
-  control = r .same .control;
-  allocator = r .same .allocator;
-  paced = r .same .paced;
-  requests = r .same .requests;
-  plain = r .same .plain;
-}) refl refl
+wakes-kept {d = d} r v w e = still r (wakes-still d v (r .sized))
+    (same-values (r .same) (λ e. refl, λ dir e. refl, λ dir e. refl) (r .same .globals) e (r .same .control) (r .same .allocator)) refl refl
 
 -- ---- accesses without an address
 

@@ -29,26 +29,13 @@ use Rattle.proof_book.specs.Others.{releases, releasing}
 use Rattle.proof_book.specs.BookTracks.{end, ask}
 use Rattle.proof_book.specs.BookCounts.{Periodic}
 use Rattle.proof_book.specs.BookDecides.{Watched, waits-on}
-use Rattle.proof_book.specs.BookCalls.{WayFine, Fine, sending, sending-blank}
+use Rattle.proof_book.specs.BookCalls.{WayFine, Fine}
 use Rattle.proof_book.specs.SendingSteps.{Followed}
 use Rattle.proof_book.specs.SendingPages.{Alike}
-use Rattle.proof_book.specs.SendingCalls.{WayFollowed, Sending, fed-alike, fed-kept}
-use Rattle.proof_book.specs.OthersCalls.{fed-in}
-use Rattle.proof_book.specs.BusResets.{releasing-blank}
+use Rattle.proof_book.specs.SendingCalls.{WayFollowed, Sending, fed-alike}
+use Rattle.proof_book.specs.AnswersLaws.{releasing-same, sending, sending-same, loading-same, fed-elim, fed-kept, fed-in}
 use Rattle.proof_book.specs.Onward.{Onto, Head, of-onto, heads-run, Goes, plainly, gives, of-slotted, of-other, of-aside, of-starting}
 use Rattle.proof_book.specs.EarlyScripts.{stage, Unstarted, giving-keeps}
-
--- an answer but for its address loads the same
-loading-blank : (z : Ans Answer) (e : ℕ) → loading (blankA z) e ≡ loading z e
-loading-blank (ended z) e = refl
-loading-blank (handed (Read r f)) e = refl
-loading-blank (handed (Write r f w)) e = refl
-loading-blank (handed (Receive f x)) e = refl
-loading-blank (handed (Transmit f x)) e = refl
-loading-blank (handed (Ep0Dma x)) e = refl
-loading-blank (handed (Wait k)) e = refl
-loading-blank (handed Callback) e = refl
-loading-blank (told k) e = refl
 
 -- a transmit address loads
 no-address : (z : Ans Answer) (e : ℕ) → loading z e ≡ false → sending z e ≡ false
@@ -157,16 +144,10 @@ module _ (a : Ans Answer) where
 
 -- an address that is told changes an OUT's slot alone
 pub fed-packets : (z : Ans Answer) (t : Pages) → Periodic t → (e : ℕ) → SamePackets (t .outs e) (fed book z t .outs e)
-fed-packets (ended z) t i e = refl
-fed-packets (handed (Read r f)) t i e = refl
-fed-packets (handed (Write r f w)) t i e = refl
-fed-packets (handed (Receive f x)) t i e = at-elim (λ (p : OutPage). SamePackets (t .outs e) p) f e (slotTold (t .outs f) x) (t .outs)
-    (λ m. ap (λ (p : OutPage). slotTold p x) (i f e (sym m))) (λ _. refl)
-fed-packets (handed (Transmit f x)) t i e = refl
-fed-packets (handed (Ep0Dma x)) t i e = refl
-fed-packets (handed (Wait k)) t i e = refl
-fed-packets (handed Callback) t i e = refl
-fed-packets (told k) t i e = refl
+fed-packets z t i e = fed-elim (λ u. SamePackets (t .outs e) (u .outs e)) z t refl
+    (λ f x _. at-elim (λ (p : OutPage). SamePackets (t .outs e) p) f e (slotTold (t .outs f) x) (t .outs)
+    (λ m. ap (λ (p : OutPage). slotTold p x) (i f e (sym m))) (λ _. refl))
+    (λ f x _. refl)
 
 module _ (a : Ans Answer) (e : ℕ) (n : Machine Answer Pages) where
   -- the call's outcome y
@@ -181,13 +162,13 @@ module _ (a : Ans Answer) (e : ℕ) (n : Machine Answer Pages) where
 
   -- what the book is told is the driver's answer, but for an address
   pub told-sends : (y : Ans Answer) → blankA a ≡ blankA y → sending y e ≡ sending a e
-  told-sends y s = sym (sending-blank y e) ∙ ap (λ (z : Ans Answer). sending z e) (sym s) ∙ sending-blank a e
+  told-sends y s = sending-same e y a (sym s)
 
   pub own-address : (x : ℕ) → a ≡ handed (Transmit e x) → sending a e ≡ true
   own-address x g = ap (λ (z : Ans Answer). sending z e) g ∙ eq-eqb (e % 16) (e % 16) refl
 
   pub told-releases : (q : Access) → blankA a ≡ blankA (handed q) → releasing a ≡ false → releases q ≡ false
-  told-releases q s r = sym (releasing-blank (handed q)) ∙ ap releasing (sym s) ∙ releasing-blank a ∙ r
+  told-releases q s r = releasing-same (handed q) a (sym s) ∙ r
 
   -- no page changed, and no address handed out
   unchanged : (y : Ans Answer × Machine Answer Pages) → sending (y .0) e ≡ false
@@ -214,7 +195,7 @@ module _ (a : Ans Answer) (e : ℕ) (n : Machine Answer Pages) where
 
   module _ (v : ℕ) (h : Fine n) (o : Sending n) (b : Buf) where
     told-loads : (q : Access) → blankA a ≡ blankA (handed q) → loading a e ≡ false → page.loads q e ≡ false
-    told-loads q s l = sym (loading-blank (handed q) e) ∙ ap (λ (z : Ans Answer). loading z e) (sym s) ∙ loading-blank a e ∙ l
+    told-loads q s l = loading-same e (handed q) a (sym s) ∙ l
 
     -- of an interrupt
     of-interrupt : (u : Bool) (z : tree.Out Bk Answer) → inInterrupt (n .way) ≡ true → Followed u (n .st, b) z → Watched (n .st, b) z

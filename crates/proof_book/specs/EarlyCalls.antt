@@ -17,7 +17,7 @@ use Rattle.proof_book.specs.FrontPage.{written, SamePackets, BeforeStart
 use Rattle.proof_book.specs.FrontPage as page
 use Rattle.proof_book.specs.RefusedCalls.{isStart}
 use Rattle.proof_book.specs.BookTracks.{end, ask}
-use Rattle.proof_book.specs.SendingCalls.{fed-kept}
+use Rattle.proof_book.specs.AnswersLaws.{fed-kept}
 use Rattle.proof_book.specs.EarlyScripts.{Along, Blank, blank-packets, blank-fed, blank-run, of-starting, stage, Begins}
 use Rattle.proof_book.specs.EarlyScripts.{lays, later, row-4, begins, Started, stays-started}
 
@@ -57,11 +57,6 @@ module _ (a : Ans Answer) where
   abbrev halts : Bool → tree.Out Bk Answer → Ans Answer × Machine Answer Pages
   halts i o = halt calls (book .driver) (fed book a) i o
 
-  fed-blank : (z : Ans Answer) (t : Pages) → Blank t → Blank (fed book z t)
-  fed-blank (ended z) t i = i
-  fed-blank (handed q) t i = blank-fed q t i
-  fed-blank (told k) t i = i
-
   fed-started : (t : Pages) → Started t → Started (fed book a t)
   fed-started t i = ap (λ (k : Kept). k .globals .stage) (fed-kept a t) ∙ i
 
@@ -76,7 +71,7 @@ module _ (a : Ans Answer) where
 
     halted-blank : (i : Bool) → i ≡ false → (b : Buf) (o : tree.Out Bk Answer) → Along Blank (t, b) o → EarlyAfter c t (halts i o)
     halted-blank i f b (ends z u) (end j q) = stays-blank (halts i (ends z u)) j tt
-    halted-blank i f b (asks q u k) (ask j m g) = stays-blank (halts i (asks q u k)) (fed-blank a (u .0) j) (f, g)
+    halted-blank i f b (asks q u k) (ask j m g) = stays-blank (halts i (asks q u k)) (blank-fed a (u .0) j) (f, g)
 
   -- a row stops it
   stays : (c : Call Config Op) (n : Machine Answer Pages) (b : Buf) (k : ℕ)

@@ -34,16 +34,18 @@ use Rattle.model.specs.Calls.{PollWrite, PollDataOut, BeginDataIn, Other, Alloc
 use Rattle.model.specs.Calls.{BusEnable, BusDisable, Microframe, SetStalled, IsStalled, SetPaced, Advance, BeginRead}
 use Rattle.model.specs.Calls.{BeginSetup, PollSetup, PollDataIn, BeginAccept, PollAccept, BeginReject, BeginDataOut}
 use Rattle.model.specs.Calls.{BeginAcceptSetAddress, Aside, Open, Close, Queue, code, otherCode, starting}
+use Rattle.model.specs.Machine.{Ans, fed}
 use Rattle.model.specs.Steps.{giving, mayAct}
 use Rattle.model.specs.StepsRuns.{Keeps}
 use Rattle.proof_book.specs.Pages.{OutPage, InPage, Pages, withOut, withIn}
 use Rattle.proof_book.specs.Book.{Bk, some, emptyOut, slotTold, emptyIn, sourceTold, placedIn, roomB, putB, actB}
 use Rattle.proof_book.specs.Book.{handB, rowB, isoOf, isoOut, receiving, waitsOn, givenB, startedB}
-use Rattle.proof_book.specs.Book.{feedB, bookOps}
+use Rattle.proof_book.specs.Book.{bookOps, book}
 use Rattle.proof_book.specs.Frame.{at-elim}
 use Rattle.proof_book.specs.GivenParts.{sets-stage}
 use Rattle.proof_book.specs.FrontPage.{SamePackets}
 use Rattle.proof_book.specs.BookTracks.{Tracks, end, ask, earlier, tracks-bind}
+use Rattle.proof_book.specs.AnswersLaws.{fed-elim}
 use Rattle.proof_book.specs.Refusing.{Same, leavesPages, put-same, act-same}
 
 -- ---- what holds of the pages all along
@@ -109,18 +111,14 @@ blank-place : (d : Dir) (e : ℕ) (s : Bk) → Blank (s .0) → Blank (handB (pl
 blank-place Out e s i = i
 blank-place In e s i = blank-in (s .0) e (placedIn (s .0 .ins e)) (ap placedIn (i .ins e)) i
 
--- an address that is told
-pub blank-fed : (q : Access) (t : Pages) → Blank t → Blank (feedB q t)
-blank-fed (Read r e) t i = i
-blank-fed (Write r e v) t i = i
-blank-fed (Receive e x) t i = record {
-  outs = λ y. at-elim BlankOut e y (slotTold (t .outs e) x) (t .outs) (λ _. ap (λ (p : OutPage). slotTold p x) (i .outs e)) (λ _. i .outs y);
-  ins = i .ins;
-}
-blank-fed (Transmit e x) t i = blank-in t e (sourceTold (t .ins e) x) (ap (λ (p : InPage). sourceTold p x) (i .ins e)) i
-blank-fed (Ep0Dma x) t i = i
-blank-fed (Wait n) t i = i
-blank-fed Callback t i = i
+-- what is told
+pub blank-fed : (a : Ans Answer) (t : Pages) → Blank t → Blank (fed book a t)
+blank-fed a t i = fed-elim Blank a t i
+    (λ e x _. record {
+      outs = λ y. at-elim BlankOut e y (slotTold (t .outs e) x) (t .outs) (λ _. ap (λ (p : OutPage). slotTold p x) (i .outs e)) (λ _. i .outs y);
+      ins = i .ins;
+    })
+    (λ e x _. blank-in t e (sourceTold (t .ins e) x) (ap (λ (p : InPage). sourceTold p x) (i .ins e)) i)
 
 -- ---- scripts that lay out endpoints' buffers
 

@@ -22,6 +22,7 @@ use Rattle.proof_book.specs.FrontPage.{written, EmptiedOut, EmptiedIn, E
 use Rattle.proof_book.specs.BookTracks.{ask}
 use Rattle.proof_book.specs.BookCounts.{Periodic, Followed, follow}
 use Rattle.proof_book.specs.BookCalls.{Fine, fed-page}
+use Rattle.proof_book.specs.AnswersLaws.{isHanded, handed-same, fed-elim}
 
 -- ---- an outcome that asks
 
@@ -121,16 +122,12 @@ module _ (t : Pages) (e : ℕ) where
 -- ---- its address told
 
 told-in : (z : Ans Answer) (e : ℕ) (t : Pages) → ((x : ℕ) → x % 16 ≡ e % 16 → EmptiedIn (t .ins x)) → EmptiedIn (fed book z t .ins e)
-told-in (ended z) e t h = h e refl
-told-in (handed (Transmit f x)) e t h = at-elim EmptiedIn f e (sourceTold (t .ins f) x) (t .ins)
-    (λ k. let p = h f (sym k) in record { waiting = p .waiting; sending = p .sending; queued = p .queued; sent = p .sent; passed = p .passed }) (λ _. h e refl)
-told-in (handed (Read r f)) e t h = h e refl
-told-in (handed (Write r f v)) e t h = h e refl
-told-in (handed (Receive f x)) e t h = h e refl
-told-in (handed (Ep0Dma x)) e t h = h e refl
-told-in (handed (Wait k)) e t h = h e refl
-told-in (handed Callback) e t h = h e refl
-told-in (told k) e t h = h e refl
+told-in z e t h = fed-elim (λ u. EmptiedIn (u .ins e)) z t (h e refl)
+    (λ f x _. h e refl)
+    (λ f x _. at-elim EmptiedIn f e (sourceTold (t .ins f) x) (t .ins) (λ k. told-source (h f (sym k))) (λ _. h e refl))
+  where
+    told-source : {p : InPage} {x : ℕ} → EmptiedIn p → EmptiedIn (sourceTold p x)
+    told-source p = record { waiting = p .waiting; sending = p .sending; queued = p .queued; sent = p .sent; passed = p .passed }
 
 pub told-empty : (z : Ans Answer) (dir : Dir) (e : ℕ) (s t : Pages) → Periodic t → Empty dir e s t → Emptied dir e s (fed book z t)
 told-empty z Out e s t i h = record {
@@ -144,19 +141,9 @@ told-empty z In e s t i h = told-in z e t h
 
 -- ---- the call
 
-abbrev hands : Ans Answer → Bool
-hands (ended z) = false
-hands (handed q) = true
-hands (told k) = false
-
-blank-hands : (z : Ans Answer) → hands (blankA z) ≡ hands z
-blank-hands (ended z) = refl
-blank-hands (handed q) = refl
-blank-hands (told k) = refl
-
 module _ (a : Ans Answer) (dir : Dir) (e : ℕ) (on : Bool) (n : Machine Answer Pages) (h : Fine n) (b : Buf) where
   abbrev Resets : Ans Answer × Machine Answer Pages → Type 0
-  Resets y = hands (y .0) ≡ true → Emptied dir e (n .st) (y .1 .st)
+  Resets y = isHanded (y .0) ≡ true → Emptied dir e (n .st) (y .1 .st)
 
   alone : (o : tree.Out Bk Answer) → Followed (n .st, b) o → Asks (Empty dir e (n .st)) o → Resets (halt calls (book .driver) (fed book a) false o)
   alone (ends z t) f w k = absurd (true≢false (sym k))
@@ -177,4 +164,4 @@ pub enabling-resets : (c : Call Config Op) (a : Ans Answer) (dir : Dir) (e : ℕ
 enabling-resets c a dir e on q n h b s p g =
     subst (λ (c : Call Config Op). blankA a ≡ blankA (written a c n b .0) → Emptied dir e (n .st) (written a c n b .1 .st)) (sym p)
     (λ s. fits-by a dir e on n h b (misfit calls (book .driver) (n .st) b)
-    (sym (blank-hands (written a (begin (slotted (SetEnabled dir e on))) n b .0)) ∙ ap hands (sym s) ∙ blank-hands a ∙ ap hands g)) s
+    (handed-same (written a (begin (slotted (SetEnabled dir e on))) n b .0) a (sym s) ∙ ap isHanded g)) s

@@ -15,6 +15,7 @@ use Rattle.regs.specs.declared.Dir.the-variants.{Out, In}
 use Rattle.state.specs.declared.EpState.{EpState}
 use Rattle.state.specs.declared.Allocator.{Allocator}
 use Rattle.state.specs.declared.Globals.{Globals}
+use Rattle.state.specs.declared.Request.{Request}
 use Rattle.state.specs.Fresh.{clearStamps}
 use Rattle.state.specs.Driver.{Driver, key, lenKey, stampKey, noRequest, epOn, withOn, withLenOn, withStampOn, pacedOn, requestOn}
 use Rattle.state.specs.Laws.{Sized, key-apart, epOn-same, epOn-other}
@@ -35,6 +36,7 @@ use Rattle.proof_book.specs.Pages.{OutPage, InPage, Kept, Pages, at, on,
 use Rattle.proof_book.specs.Lens.{key-mod, key-other, ep-mod, lens-mod, key-ep, lens-on, ep-len, lens-set-other}
 use Rattle.proof_book.specs.Lens.{stamps-mod, stamps-on, stamps-len, ep-stamp, lens-stamp, stamps-set-other}
 use Rattle.proof_book.specs.Lens.{ep-clear, lens-clear, stamps-clear-other}
+use Rattle.proof_book.specs.KeptLaws.{Values, valuesOf, same-tables}
 use Rattle.proof_book.specs.Coupling.{SameKept, endOf, Shape, Apart, ep0Room, lensOf, slotStamps, Held, OutFits}
 use Rattle.proof_book.specs.Coupling.{InFits, Stands, InRow, Arming, Step, Coupling}
 
@@ -57,22 +59,44 @@ pub record Changed (dir : Dir) (e : ℕ) (d d′ : Driver) : Type 0 where
 pub same-place : (r : EpState) → SamePlace r r
 same-place r = record { base = refl; stride = refl; slots = refl }
 
+-- all but records, lengths and stamps
+abbrev pub Rest : Type 0
+Rest = Values × List ℕ × List Request
+
+abbrev pub restOf : Driver → Rest
+restOf d = (valuesOf d, d .paced, d .requests)
+
+pub changed-by : {dir : Dir} {e : ℕ} {d d′ : Driver} → Sized d′ → restOf d′ ≡ restOf d
+    → ((dir′ : Dir) (x : ℕ) → key dir′ x ≢ key dir e → epOn d′ dir′ x ≡ epOn d dir′ x)
+    → ((dir′ : Dir) (x : ℕ) → key dir′ x ≢ key dir e → lensOf d′ dir′ x ≡ lensOf d dir′ x)
+    → ((x : ℕ) → key Out x ≢ key dir e → slotStamps d′ x ≡ slotStamps d x)
+    → SamePlace (epOn d dir e) (epOn d′ dir e) → epOn d′ dir e .iso ≡ epOn d dir e .iso → Changed dir e d d′
+changed-by z r eps lens stamps place iso = record {
+  sized = z;
+  globals = ap (λ (x : Rest). x .0 .0) r;
+  wakes = ap (λ (x : Rest). x .0 .1) r;
+  control = ap (λ (x : Rest). x .0 .2) r;
+  allocator = ap (λ (x : Rest). x .0 .3) r;
+  paced = ap (λ (x : Rest). x .1) r;
+  requests = ap (λ (x : Rest). x .2) r;
+  eps = eps;
+  lens = lens;
+  stamps = stamps;
+  place = place;
+  iso = iso;
+}
+
+-- no record changed
+pub records-stay : {dir : Dir} {e : ℕ} {d d′ : Driver} → Sized d′ → restOf d′ ≡ restOf d
+    → ((dir′ : Dir) (x : ℕ) → epOn d′ dir′ x ≡ epOn d dir′ x)
+    → ((dir′ : Dir) (x : ℕ) → key dir′ x ≢ key dir e → lensOf d′ dir′ x ≡ lensOf d dir′ x)
+    → ((x : ℕ) → key Out x ≢ key dir e → slotStamps d′ x ≡ slotStamps d x) → Changed dir e d d′
+records-stay {dir} {e} {d} {d′} z r eps lens stamps = changed-by z r (λ dir′ x _. eps dir′ x) lens stamps
+    (rw (eps dir e) (same-place (epOn d dir e))) (ap (λ (r : EpState). r .iso) (eps dir e))
+
 module _ {d : Driver} (s : Sized d) (dir : Dir) (e : ℕ) where
   pub changed-not : Changed dir e d d
-  changed-not = record {
-    sized = s;
-    globals = refl;
-    wakes = refl;
-    control = refl;
-    allocator = refl;
-    paced = refl;
-    requests = refl;
-    eps = λ dir′ x n. refl;
-    lens = λ dir′ x n. refl;
-    stamps = λ x n. refl;
-    place = same-place (epOn d dir e);
-    iso = refl;
-  }
+  changed-not = records-stay s refl (λ dir′ x. refl) (λ dir′ x n. refl) (λ x n. refl)
 
   on-sized : (r : EpState) → Sized (withOn d dir e r)
   unfolding withOn
@@ -81,20 +105,8 @@ module _ {d : Driver} (s : Sized d) (dir : Dir) (e : ℕ) where
   -- its record
   pub changed-on : (r : EpState) → SamePlace (epOn d dir e) r → r .iso ≡ epOn d dir e .iso → Changed dir e d (withOn d dir e r)
   unfolding withOn
-  changed-on r k i = record {
-    sized = on-sized r;
-    globals = refl;
-    wakes = refl;
-    control = refl;
-    allocator = refl;
-    paced = refl;
-    requests = refl;
-    eps = λ dir′ x n. epOn-other d dir e r dir′ x n;
-    lens = λ dir′ x n. lens-on d dir e r dir′ x;
-    stamps = λ x n. stamps-on d dir e r x;
-    place = rw (epOn-same d dir e r s) k;
-    iso = rw (epOn-same d dir e r s) i;
-  }
+  changed-on r k i = changed-by (on-sized r) refl (λ dir′ x n. epOn-other d dir e r dir′ x n) (λ dir′ x n. lens-on d dir e r dir′ x)
+      (λ x n. stamps-on d dir e r x) (rw (epOn-same d dir e r s) k) (rw (epOn-same d dir e r s) i)
 
   len-sized : (i v : ℕ) → Sized (withLenOn d dir e i v)
   unfolding withLenOn
@@ -109,20 +121,7 @@ module _ {d : Driver} (s : Sized d) (dir : Dir) (e : ℕ) where
   -- one of its lengths
   pub changed-len : (i v : ℕ) → Changed dir e d (withLenOn d dir e i v)
   unfolding withLenOn
-  changed-len i v = record {
-    sized = len-sized i v;
-    globals = refl;
-    wakes = refl;
-    control = refl;
-    allocator = refl;
-    paced = refl;
-    requests = refl;
-    eps = λ dir′ x n. ep-len d dir e i v dir′ x;
-    lens = λ dir′ x n. lens-set-other d dir e i v dir′ x n;
-    stamps = λ x n. stamps-len d dir e i v x;
-    place = rw (ep-len d dir e i v dir e) (same-place (epOn d dir e));
-    iso = ap (λ (r : EpState). r .iso) (ep-len d dir e i v dir e);
-  }
+  changed-len i v = records-stay (len-sized i v) refl (ep-len d dir e i v) (lens-set-other d dir e i v) (λ x n. stamps-len d dir e i v x)
 
   pub changed-trans : {d′ d″ : Driver} → Changed dir e d d′ → Changed dir e d′ d″ → Changed dir e d d″
   changed-trans a c = record {
@@ -143,38 +142,16 @@ module _ {d : Driver} (s : Sized d) (dir : Dir) (e : ℕ) where
 -- one of its stamps
 pub changed-stamp : {d : Driver} → Sized d → (e i v : ℕ) → Changed Out e d (withStampOn d e i v)
 unfolding withStampOn
-changed-stamp {d} s e i v = record {
-  sized = record { eps = s .eps; lens = s .lens; stamps = length-set (d .stamps) (stampKey e i) v ∙ s .stamps; paced = s .paced; requests = s .requests };
-  globals = refl;
-  wakes = refl;
-  control = refl;
-  allocator = refl;
-  paced = refl;
-  requests = refl;
-  eps = λ dir′ x n. ep-stamp d e i v dir′ x;
-  lens = λ dir′ x n. lens-stamp d e i v dir′ x;
-  stamps = λ x n. stamps-set-other d e i v x n;
-  place = rw (ep-stamp d e i v Out e) (same-place (epOn d Out e));
-  iso = ap (λ (r : EpState). r .iso) (ep-stamp d e i v Out e);
-}
+changed-stamp {d} s e i v = records-stay
+    (record { eps = s .eps; lens = s .lens; stamps = length-set (d .stamps) (stampKey e i) v ∙ s .stamps; paced = s .paced; requests = s .requests })
+    refl (ep-stamp d e i v) (λ dir′ x n. lens-stamp d e i v dir′ x) (stamps-set-other d e i v)
 
 -- all its stamps
 pub changed-clear : {d : Driver} → Sized d → (e : ℕ) → Changed Out e d (clearStamps d e)
 unfolding clearStamps
-changed-clear {d} s e = record {
-  sized = record { eps = s .eps; lens = s .lens; stamps = length-filled (d .stamps) (e % 16 * 16) 16 0 ∙ s .stamps; paced = s .paced; requests = s .requests };
-  globals = refl;
-  wakes = refl;
-  control = refl;
-  allocator = refl;
-  paced = refl;
-  requests = refl;
-  eps = λ dir′ x n. ep-clear d e dir′ x;
-  lens = λ dir′ x n. lens-clear d e dir′ x;
-  stamps = λ x n. stamps-clear-other d e x n;
-  place = rw (ep-clear d e Out e) (same-place (epOn d Out e));
-  iso = ap (λ (r : EpState). r .iso) (ep-clear d e Out e);
-}
+changed-clear {d} s e = records-stay
+    (record { eps = s .eps; lens = s .lens; stamps = length-filled (d .stamps) (e % 16 * 16) 16 0 ∙ s .stamps; paced = s .paced; requests = s .requests })
+    refl (ep-clear d e) (λ dir′ x n. lens-clear d e dir′ x) (stamps-clear-other d e)
 
 -- ---- pages and kept values of one endpoint changed
 
@@ -223,34 +200,23 @@ module _ {dir : Dir} {e : ℕ} {d d′ : Driver} (c : Changed dir e d d′) wher
   unfolding requestOn
   requests-same dir′ x = ap (λ l. getD l (key dir′ x) noRequest) (c .requests)
 
+  values-same : valuesOf d′ ≡ valuesOf d
+  values-same i = (c .globals i, c .wakes i, c .control i, c .allocator i)
+
   -- the kept values, where what scripts read of the record stays
   pub kept-same : {k : Kept} → plainOf (epOn d′ dir e) ≡ plainOf (epOn d dir e) → SameKept d k → SameKept d′ k
-  kept-same {k} p s = record {
-    globals = c .globals ∙ s .globals;
-    wakes = c .wakes ∙ s .wakes;
-    control = c .control ∙ s .control;
-    allocator = c .allocator ∙ s .allocator;
-    paced = λ x. paced-same x ∙ s .paced x;
-    requests = λ dir′ x. requests-same dir′ x ∙ s .requests dir′ x;
-    plain = λ dir′ x. elim (ℕ-discrete (key dir′ x) (key dir e)) [
-      | yes h ↦ ap plainOf (key-ep d′ dir′ dir x e h) ∙ p ∙ ap plainOf (sym (key-ep d dir′ dir x e h)) ∙ s .plain dir′ x
-      | no n ↦ ap plainOf (c .eps dir′ x n) ∙ s .plain dir′ x
-    ];
-  }
+  kept-same {k} p s = same-tables s values-same (λ x. paced-same x ∙ s .paced x) (λ dir′ x. requests-same dir′ x ∙ s .requests dir′ x)
+      (λ dir′ x. elim (ℕ-discrete (key dir′ x) (key dir e)) [
+        | yes h ↦ ap plainOf (key-ep d′ dir′ dir x e h) ∙ p ∙ ap plainOf (sym (key-ep d dir′ dir x e h)) ∙ s .plain dir′ x
+        | no n ↦ ap plainOf (c .eps dir′ x n) ∙ s .plain dir′ x
+      ])
 
   -- and where it changes
   pub kept-plain : {k : Kept} {v : EpCore} → plainOf (epOn d′ dir e) ≡ v → SameKept d k → SameKept d′ (keptPlain k dir e v)
-  kept-plain {k} {v} p s = record {
-    globals = c .globals ∙ s .globals;
-    wakes = c .wakes ∙ s .wakes;
-    control = c .control ∙ s .control;
-    allocator = c .allocator ∙ s .allocator;
-    paced = λ x. paced-same x ∙ s .paced x;
-    requests = λ dir′ x. requests-same dir′ x ∙ s .requests dir′ x;
-    plain = λ dir′ x. on-elim (λ y. plainOf (epOn d′ dir′ x) ≡ y) dir dir′ e x v (k .plain)
-        (λ h. ap plainOf (key-ep d′ dir′ dir x e h) ∙ p)
-        (λ n. ap plainOf (c .eps dir′ x n) ∙ s .plain dir′ x);
-  }
+  kept-plain {k} {v} p s = same-tables s values-same (λ x. paced-same x ∙ s .paced x) (λ dir′ x. requests-same dir′ x ∙ s .requests dir′ x)
+      (λ dir′ x. on-elim (λ y. plainOf (epOn d′ dir′ x) ≡ y) dir dir′ e x v (k .plain)
+      (λ h. ap plainOf (key-ep d′ dir′ dir x e h) ∙ p)
+      (λ n. ap plainOf (c .eps dir′ x n) ∙ s .plain dir′ x))
 
 -- ---- the one being sent
 

@@ -32,8 +32,8 @@ use Rattle.model_ops.specs.Records.{withSets, isoAdded, withIsoSets}
 use Rattle.proof_book.specs.Pages.{OutPage, Pages, on, withKept, keptAllocator}
 use Rattle.proof_book.specs.Book.{slotTold, emptyOut, emptyIn, pagesGiven}
 use Rattle.proof_book.specs.Coupling.{Shape, Held, OutFits, InFits, AtRest, Coupling, endOf}
-use Rattle.proof_book.specs.Frame.{none-stands}
-use Rattle.proof_book.specs.StampsLaws.{none-stamps}
+use Rattle.proof_book.specs.KeptLaws.{same-values}
+use Rattle.proof_book.specs.EmptyPagesLaws.{empty-out, empty-in}
 use Rattle.proof_book.specs.Cells.{key-by, at-same, at-other}
 
 -- ---- an allocator with the same buffers, of which perhaps more are used
@@ -62,15 +62,7 @@ further {b = b} {d = d} {t = t} r a f = record {
   sound = f .sound;
   good = rw (f .size) (r .good);
   long = rw (f .size, f .count) (r .long);
-  same = record {
-    globals = r .same .globals;
-    wakes = r .same .wakes;
-    control = r .same .control;
-    allocator = refl;
-    paced = r .same .paced;
-    requests = r .same .requests;
-    plain = r .same .plain;
-  };
+  same = same-values (r .same) (λ e. refl, λ dir e. refl, λ dir e. refl) (r .same .globals) (r .same .wakes) (r .same .control) refl;
   shape = λ dir e. rw (f .allocated dir (e % 16))
       (shape-further (isSet (allocatedIn (d .allocator) dir) (e % 16)) (d .allocator) a f dir (epOn d dir e) (r .shape dir e));
   outs = r .outs;
@@ -231,29 +223,10 @@ pub new-fits : (dir : Dir) (b : Buf) (r : EpState) (ls ss : List ℕ) (t : Pages
     → Fits dir b (allocated r kind maximum base size n) ls ss (pagesGiven dir e base t) x
 unfolding allocated
 new-fits Out b r ls ss t kind maximum base size n e x q held some lost =
-    rw (at-same e x (slotTold (emptyOut (t .outs e)) base) (t .outs) q) (record {
-      held = held (n - 1);
-      stamps = none-stamps (allocated r kind maximum base size n) ss (reset-count (allocated r kind maximum base size n) refl refl);
-      opened = refl;
-      shows = λ h. absurd (true≢false h);
-      lost = lost;
-      slot = refl;
-      from = omega arith;
-      upto = omega (arith, mul-le-mul-right size some);
-      ledger = refl;
-      short = tt;
-    })
+    rw (at-same e x (slotTold (emptyOut (t .outs e)) base) (t .outs) q)
+    (empty-out refl refl refl (held (n - 1)) (slotTold (t .outs e) base) lost refl (omega arith) (omega (arith, mul-le-mul-right size some)) ss)
 new-fits In b r ls ss t kind maximum base size n e x q held some lost =
-    rw (at-same e x emptyIn (t .ins) q) (record {
-      held = held n;
-      ringless = λ h. reset-count (allocated r kind maximum base size n) refl refl;
-      loaded = refl;
-      sends = λ h. absurd (true≢false h);
-      turn = refl;
-      ledger = refl;
-      reached = refl;
-      stands = none-stands refl;
-    })
+    rw (at-same e x emptyIn (t .ins) q) (empty-in refl refl refl (held n))
 
 new-rest : (r : EpState) (kind maximum base size n : ℕ) (p : OutPage) (on : Bool)
     → base < 2 ^ 32 → p .slot ≡ base → AtRest on (allocated r kind maximum base size n) p

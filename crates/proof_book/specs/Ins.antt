@@ -44,6 +44,7 @@ use Rattle.proof_book.specs.Lens.{lens-on, lens-set, ep-len}
 use Rattle.proof_book.specs.Frame.{changed-not, changed-on, changed-len, changed-trans, in-same, in-twice}
 use Rattle.proof_book.specs.Frame.{kept-same, in-moved, in-changed, only-bytes, alike-tail, none-stands}
 use Rattle.proof_book.specs.Frame.{sending-count}
+use Rattle.proof_book.specs.EmptyPagesLaws.{empty-in}
 use Rattle.proof_book.specs.Lies as in-buffer
 use Rattle.proof_book.specs.Held.{IsAgrees, LookAgrees, ActAgrees, HandAgrees, held-some, held-length, held-next, waits-count}
 
@@ -211,21 +212,12 @@ act-complete e b d t R = (
 
 empty-fits : {b : Buf} {r : EpState} {ls : List ℕ} {p : InPage} → InFits b r ls p → InFits b (emptied r) ls emptyIn
 unfolding emptied
-empty-fits {b} {r} {ls} f = record {
-  held = record {
-    placed = place-placed (record { base = refl; stride = refl; slots = refl }) (f .held .placed);
-    ring = reset-ring (emptied r) refl refl (r .slots) ls (f .held .ring .whole) (f .held .ring .capped);
-    least = f .held .least;
-    waits = reset-waits (emptied r) refl refl b ls;
-  };
-  ringless = λ h. reset-count (emptied r) refl refl;
-  loaded = refl;
-  sends = λ h. absurd (true≢false h);
-  turn = refl;
-  ledger = refl;
-  reached = refl;
-  stands = none-stands refl;
-}
+empty-fits {b} {r} {ls} f = empty-in refl refl refl (record {
+  placed = place-placed (record { base = refl; stride = refl; slots = refl }) (f .held .placed);
+  ring = reset-ring (emptied r) refl refl (r .slots) ls (f .held .ring .whole) (f .held .ring .capped);
+  least = f .held .least;
+  waits = reset-waits (emptied r) refl refl b ls;
+})
 
 pub act-reset-in : (e : ℕ) → ActAgrees (script.reset-ring In e)
 unfolding emptiedOn isoOut emptied

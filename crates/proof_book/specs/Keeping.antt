@@ -1,6 +1,6 @@
 -- A script that leaves `entered`, the microframe index with which the interrupt under way began (request One): each assignment of the globals has
 -- the one that was read. Then it is the same at every access and at the end, whatever is read
-use mathlib.Core.Bool.{Bool, true, false, not, cond, true≢false}
+use mathlib.Core.Bool.{Bool, true, false, not, cond, _||_, true≢false}
 use mathlib.Core.List.{List}
 use mathlib.Core.Path.{_≡_, refl, sym, ap, _∙_}
 use Prim.Native.Nat.{ℕ}
@@ -18,6 +18,8 @@ use Rattle.model.specs.Script.{enqueue, allocate, allocate0, no-wakes, waken, D
 use Rattle.model.specs.TransferKinds.{allocates}
 use Rattle.model_ops.specs.Rings.{St}
 use Rattle.model_ops.specs.Concrete.{concrete}
+use Rattle.model.specs.Steps.{is, plain, moving}
+use Rattle.proof_book.specs.ActsLaws.{actKind}
 use Rattle.proof_book.specs.LeavesLaws.{act-leaves, hand-leaves}
 
 -- ---- on every way through an outcome
@@ -79,19 +81,7 @@ got x g w = sym (ap (λ (h : Globals). h .entered) (w .2)) ∙ w .1
 
 -- the changes in an interrupt: no packet of an OUT endpoint is read, none is voided
 abbrev pub calm : Act → Bool
-calm (complete e) = true
-calm (reset-ring d e) = false
-calm (set-enabled d e on) = false
-calm (fill e bytes) = false
-calm (fill0 bytes) = false
-calm (open-oldest e) = false
-calm (close-oldest e) = false
-calm (take-oldest e) = false
-calm (enqueue e bytes) = false
-calm (allocate d kind address maximum interval) = false
-calm (allocate0 maximum) = false
-calm no-wakes = true
-calm (waken codes) = true
+calm q = is (actKind q) moving || is (actKind q) plain
 
 -- those of the calls that pass
 abbrev pub passing : Act → Bool

@@ -43,6 +43,7 @@ use Rattle.proof_book.specs.LengthInterrupt.{interrupt-told}
 use Rattle.proof_book.specs.BookTracks.{ask}
 use Rattle.proof_book.specs.BookCounts.{Followed}
 use Rattle.proof_book.specs.BookCalls.{WayFine, Fine, fed-page, same-receive}
+use Rattle.proof_book.specs.AnswersLaws.{blank-access, tells-same, fed-kept}
 
 abbrev Any : Answer → Readings → Type 0
 Any a h = Unit {0}
@@ -72,26 +73,6 @@ serving-on {t = t} {u = u} h s = record {
   };
   goes = s .goes;
 }
-
-fed-kept : (a : Ans Answer) (t : Pages) → fed book a t .kept ≡ t .kept
-fed-kept (ended z) t = refl
-fed-kept (told n) t = refl
-fed-kept (handed (Read r e)) t = refl
-fed-kept (handed (Write r e v)) t = refl
-fed-kept (handed (Receive e x)) t = refl
-fed-kept (handed (Transmit e x)) t = refl
-fed-kept (handed (Ep0Dma x)) t = refl
-fed-kept (handed (Wait n)) t = refl
-fed-kept (handed Callback) t = refl
-
-bringing-blank : (q : Access) (v : ℕ) (h : Readings) → bringing (blank q) v h ≡ bringing q v h
-bringing-blank (Read r e) v h = refl
-bringing-blank (Write r e x) v h = refl
-bringing-blank (Receive e x) v h = refl
-bringing-blank (Transmit e x) v h = refl
-bringing-blank (Ep0Dma x) v h = refl
-bringing-blank (Wait n) v h = refl
-bringing-blank Callback v h = refl
 
 -- ---- open, close and queue leave the kept values
 
@@ -158,7 +139,7 @@ module _ (x : Ans Answer) where
         maxima = M;
         even = even;
         fixed = fixed;
-        goes = λ v u l. subst (λ (h : Readings). Told I M Any h u (k v u)) (sym (bringing-blank q v h)) (g v u l);
+        goes = λ v u l. subst (λ (h : Readings). Told I M Any h u (k v u)) (sym (blank-access (λ p. bringing p v h) (λ _ _. refl, λ _ _. refl, λ _. refl) q)) (g v u l);
       }))
 
   module _ (f : Known) (t : Pages) (r : Regular t) (c b : Buf) where
@@ -227,15 +208,6 @@ module _ (x : Ans Answer) where
       (continued calls (book .driver) (fed book x) v n (n .way) b) h (continued-told f v (n .way) (n .st) (n .buf) b r h)
   call-told (question q) f n b r h = h
 
-twice : (q : Access) → blank (blank q) ≡ blank q
-twice (Read r e) = refl
-twice (Write r e x) = refl
-twice (Receive e x) = refl
-twice (Transmit e x) = refl
-twice (Ep0Dma x) = refl
-twice (Wait n) = refl
-twice Callback = refl
-
 -- after an accepted start-up no interrupt is under way
 pub start-told : (x : Ans Answer) (g : Config) (f : Known) (n : Machine Answer Pages) (b : Buf) → startRow g b ≡ zero
     → let y = written x (start g) n b in WayTold f (y .1 .way) (y .1 .st)
@@ -243,24 +215,18 @@ start-told x g f n b row = subst (λ (r : ℕ). let y = started calls (book .dri
     (plainly x f (run bookOps (starting g) (freshPages g, b)))
 
 -- an answer but for its address tells the same
-learnt-blank : (c : Call Config Op) (a : Ans Answer) (f : Known) → learnt c (blankA a) f ≡ learnt c a f
-learnt-blank (start c) (ended a) f = refl
-learnt-blank (start c) (told n) f = refl
-learnt-blank (start c) (handed q) f = ap (λ (p : Access). record { asked = p; readings = nothing-read }) (twice q)
-learnt-blank (begin o) (ended a) f = refl
-learnt-blank (begin o) (told n) f = refl
-learnt-blank (begin o) (handed q) f = ap (λ (p : Access). record { asked = p; readings = nothing-read }) (twice q)
-learnt-blank (go v) (ended a) f = refl
-learnt-blank (go v) (told n) f = refl
-learnt-blank (go v) (handed q) f = ap (λ (p : Access). record { asked = p; readings = bringing (f .asked) v (f .readings) }) (twice q)
-learnt-blank (question q) a f = refl
+learnt-same : (c : Call Config Op) (f : Known) (a b : Ans Answer) → blankA a ≡ blankA b → learnt c a f ≡ learnt c b f
+learnt-same (start c) f = tells-same (λ z. learnt (start c) z f) (λ _ _. refl, λ _ _. refl, λ _. refl)
+learnt-same (begin o) f = tells-same (λ z. learnt (begin o) z f) (λ _ _. refl, λ _ _. refl, λ _. refl)
+learnt-same (go v) f = tells-same (λ z. learnt (go v) z f) (λ _ _. refl, λ _ _. refl, λ _. refl)
+learnt-same (question q) f = λ _ _ _. refl
 
 pub told-on : (x : Ans Answer) (c : Call Config Op) (f : Known) (n : Machine Answer Pages) (b : Buf) → blankA x ≡ blankA (written x c n b .0) → Regular (n .st)
     → WayTold f (n .way) (n .st) → let y = written x c n b in WayTold (learnt c x f) (y .1 .way) (y .1 .st)
 told-on x c f n b same r h =
     let y = written x c n b in
     subst (λ (g : Known). WayTold g (y .1 .way) (y .1 .st))
-    (sym (learnt-blank c (y .0) f) ∙ ap (λ (z : Ans Answer). learnt c z f) (sym same) ∙ learnt-blank c x f) (call-told x c f n b r h)
+    (learnt-same c f (y .0) x (sym same)) (call-told x c f n b r h)
 
 -- ---- an arrival
 

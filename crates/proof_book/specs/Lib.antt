@@ -6,6 +6,7 @@ pub mod Lengths
 pub mod Others
 pub mod FrontPage
 pub mod Coupling
+pub mod KeptLaws
 pub mod Cells
 pub mod GivenParts
 pub mod Given
@@ -14,6 +15,7 @@ pub mod AllocationsLaws
 pub mod Lens
 pub mod Frame
 pub mod FrameBytes
+pub mod EmptyPagesLaws
 pub mod Held
 pub mod Lies
 pub mod Chips
@@ -39,6 +41,7 @@ pub mod Demand3
 pub mod MachineRuns
 pub mod SlotsKept
 pub mod InterruptParts
+pub mod ActsLaws
 pub mod Refusing
 pub mod BookTracks
 pub mod BookCounts
@@ -46,6 +49,7 @@ pub mod BookDecides
 pub mod QuietParts
 pub mod LengthScripts
 pub mod LengthInterrupt
+pub mod AnswersLaws
 pub mod Releases
 pub mod BookCalls
 pub mod LengthCalls

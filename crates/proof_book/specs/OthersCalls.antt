@@ -23,43 +23,13 @@ use Rattle.proof_book.specs.FrontPage.{written, addressed}
 use Rattle.proof_book.specs.Others.{releasing, Names, none, opNames, onNames, slottedNames, otherNames, asideNames, underWay}
 use Rattle.proof_book.specs.Others.{callNames, Away, SamePage}
 use Rattle.proof_book.specs.BookTracks.{end, ask}
-use Rattle.proof_book.specs.BookCalls.{addressed-blank, sending, sending-blank}
-use Rattle.proof_book.specs.BusResets.{releasing-blank}
+use Rattle.proof_book.specs.AnswersLaws.{tells-same, releasing-same, addressed-same, sending-same, fed-out, fed-in}
 use Rattle.proof_book.specs.OthersStay.{SparesAt, Spared, spare, spared-any, of-slotted, of-other, of-aside, of-starting}
 
 -- what is left of the operation under way
 abbrev pub WaySpared : Names → Way Answer Pages → Type 0
 WaySpared m idle = Unit {0}
 WaySpared m (busy i a k) = (v : ℕ) (s : Bk) → Spared m s (k v s)
-
--- ---- an address that is told
-
-same-number : (e f : ℕ) → e % 16 ≡ f % 16 → eqb (f % 16) (e % 16) ≡ true
-same-number e f h = ap (λ (n : ℕ). eqb (f % 16) n) h ∙ eq-eqb (f % 16) (f % 16) refl
-
-fed-out : (z : Ans Answer) (t : Pages) (e : ℕ) → addressed z e ≡ false → fed book z t .outs e ≡ t .outs e
-fed-out (ended z) t e g = refl
-fed-out (handed (Read r f)) t e g = refl
-fed-out (handed (Write r f w)) t e g = refl
-fed-out (handed (Receive f x)) t e g = at-elim (λ (p : OutPage). p ≡ t .outs e) f e (slotTold (t .outs f) x) (t .outs)
-    (λ k. absurd (true≢false (sym (same-number e f k) ∙ g))) (λ _. refl)
-fed-out (handed (Transmit f x)) t e g = refl
-fed-out (handed (Ep0Dma x)) t e g = refl
-fed-out (handed (Wait k)) t e g = refl
-fed-out (handed Callback) t e g = refl
-fed-out (told k) t e g = refl
-
-pub fed-in : (z : Ans Answer) (t : Pages) (e : ℕ) → sending z e ≡ false → fed book z t .ins e ≡ t .ins e
-fed-in (ended z) t e g = refl
-fed-in (handed (Read r f)) t e g = refl
-fed-in (handed (Write r f w)) t e g = refl
-fed-in (handed (Receive f x)) t e g = refl
-fed-in (handed (Transmit f x)) t e g = at-elim (λ (p : InPage). p ≡ t .ins e) f e (sourceTold (t .ins f) x) (t .ins)
-    (λ k. absurd (true≢false (sym (same-number f e (sym k)) ∙ g))) (λ _. refl)
-fed-in (handed (Ep0Dma x)) t e g = refl
-fed-in (handed (Wait k)) t e g = refl
-fed-in (handed Callback) t e g = refl
-fed-in (told k) t e g = refl
 
 -- ---- one call; x: the driver's answer, of which the book is told
 
@@ -84,11 +54,9 @@ module _ (x : Ans Answer) where
   halted-at : (m : Names) (i : Bool) (s : Bk) (q : Access) (t : Bk) (k : ℕ → Bk → tree.Out Bk Answer) → SparesAt m s q t
       → Leaves m (s .0) (halts i (asks q t k))
   halted-at m i s q t k w same r Out e a =
-      fed-out x (t .0) e (sym (addressed-blank x e) ∙ ap (λ (z : Ans Answer). addressed z e) same ∙ addressed-blank (handed q) e ∙ w .receives e a)
-      ∙ w .pages (sym (releasing-blank (handed q)) ∙ ap releasing (sym same) ∙ releasing-blank x ∙ r) .outs e a
+      fed-out x (t .0) e (addressed-same e x (handed q) same ∙ w .receives e a) ∙ w .pages (releasing-same (handed q) x (sym same) ∙ r) .outs e a
   halted-at m i s q t k w same r In e a =
-      fed-in x (t .0) e (sym (sending-blank x e) ∙ ap (λ (z : Ans Answer). sending z e) same ∙ sending-blank (handed q) e ∙ w .transmits e a)
-      ∙ w .pages (sym (releasing-blank (handed q)) ∙ ap releasing (sym same) ∙ releasing-blank x ∙ r) .ins e a
+      fed-in x (t .0) e (sending-same e x (handed q) same ∙ w .transmits e a) ∙ w .pages (releasing-same (handed q) x (sym same) ∙ r) .ins e a
 
   halted : (m : Names) (i : Bool) (s : Bk) (o : tree.Out Bk Answer) → Spared m s o → Leaves m (s .0) (halts i o)
   halted m i s (ends z t) (end j q) same r Out e a = q .outs e a
@@ -197,15 +165,11 @@ start-spared x g m n b row = subst (λ (r : ℕ). WaySpared m (started calls (bo
     (halted-way x m false (run bookOps (starting g) (freshPages g, b)) (spare (of-starting m g) (freshPages g, b)))
 
 -- an answer but for its address tells the same
-under-blank : (c : Call Config Op) (a : Ans Answer) (m : Names) → underWay c (blankA a) m ≡ underWay c a m
-under-blank (start c) (ended a) m = refl
-under-blank (start c) (told n) m = refl
-under-blank (start c) (handed q) m = refl
-under-blank (begin o) (ended a) m = refl
-under-blank (begin o) (told n) m = refl
-under-blank (begin o) (handed q) m = refl
-under-blank (go v) a m = refl
-under-blank (question q) a m = refl
-
 pub under-same : (c : Call Config Op) (a b : Ans Answer) (m : Names) → blankA a ≡ blankA b → underWay c b m ≡ underWay c a m
-under-same c a b m h = sym (under-blank c b m) ∙ ap (λ (z : Ans Answer). underWay c z m) (sym h) ∙ under-blank c a m
+under-same c a b m h = by c
+  where
+    by : (c : Call Config Op) → underWay c b m ≡ underWay c a m
+    by (start g) = tells-same (λ z. underWay (start g) z m) (λ _ _. refl, λ _ _. refl, λ _. refl) b a (sym h)
+    by (begin o) = tells-same (λ z. underWay (begin o) z m) (λ _ _. refl, λ _ _. refl, λ _. refl) b a (sym h)
+    by (go v) = refl
+    by (question q) = refl

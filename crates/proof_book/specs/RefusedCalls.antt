@@ -13,17 +13,13 @@ use Rattle.proof_book.specs.Pages.{Pages}
 use Rattle.proof_book.specs.Book.{Bk, freshPages, bookOps, book}
 use Rattle.proof_book.specs.FrontPage.{written}
 use Rattle.proof_book.specs.BookCalls.{Fine, WayFine}
+use Rattle.proof_book.specs.AnswersLaws.{tells-same}
 use Rattle.proof_book.specs.Refusing.{isNo, Same, Tells, t-end, call-tells, start-tells}
 
 abbrev refused : Ans Answer → Bool
 refused (ended z) = isNo z
 refused (handed q) = false
 refused (told k) = false
-
-refused-blank : (z : Ans Answer) → refused (blankA z) ≡ refused z
-refused-blank (ended z) = refl
-refused-blank (handed q) = refl
-refused-blank (told k) = refl
 
 module _ (a : Ans Answer) (n : Machine Answer Pages) (b : Buf) where
   abbrev Leaves : Ans Answer × Machine Answer Pages → Type 0
@@ -87,4 +83,4 @@ pub refusal-leaves : (c : Call Config Op) (a : Ans Answer) (n : Machine Answer P
     → (isStart c ≡ false → Fine n) → (b : Buf) → blankA a ≡ blankA (written a c n b .0)
     → (z : Answer) → isNo z ≡ true → a ≡ ended z → Same (n .st) (written a c n b .1 .st)
 refusal-leaves c a n h b s z k g = call-leaves a n b c (no-start a n b c h)
-    (sym (refused-blank (written a c n b .0)) ∙ ap refused (sym s) ∙ refused-blank a ∙ ap refused g ∙ k)
+    (tells-same refused (λ _ _. refl, λ _ _. refl, λ _. refl) (written a c n b .0) a (sym s) ∙ ap refused g ∙ k)

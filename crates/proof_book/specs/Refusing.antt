@@ -1,5 +1,5 @@
 -- Scripts that leave every page where they end with a refusal or a poll's "not yet", and the scripts of all calls: they are such
-use mathlib.Core.Bool.{Bool, true, false, cond, true≢false}
+use mathlib.Core.Bool.{Bool, true, false, cond, _||_, true≢false}
 use mathlib.Core.List.{List}
 use mathlib.Core.Path.{_≡_, refl, sym, _∙_}
 use Prim.Native.Nat.{ℕ}
@@ -26,6 +26,9 @@ use Rattle.model.specs.Calls.{BusEnable, BusDisable, Microframe, SetStalled, Is
 use Rattle.model.specs.Calls.{BeginSetup, PollSetup, PollDataIn, BeginAccept, PollAccept, BeginReject, BeginDataOut}
 use Rattle.model.specs.Calls.{BeginAcceptSetAddress, Aside, Open, Close, Queue, code, slottedCode, otherCode}
 use Rattle.model.specs.Calls.{asideCode, interruptCode, starting}
+use Rattle.model.specs.Steps.{is, plain, turning, receiving}
+use Rattle.model.specs.Steps as kinds
+use Rattle.proof_book.specs.ActsLaws.{actKind}
 use Rattle.proof_book.specs.Pages.{Pages}
 use Rattle.proof_book.specs.Book.{Bk, putB, actB, isoOut, givenB, startedB, bookOps}
 
@@ -82,19 +85,7 @@ pub data Never : (i : Bool) → Script i Answer → Type 1 where
 
 -- a change that leaves the pages
 abbrev pub leavesPages : Act → Bool
-leavesPages (complete e) = false
-leavesPages (reset-ring d e) = false
-leavesPages (set-enabled d e on) = true
-leavesPages (fill e bytes) = true
-leavesPages (fill0 bytes) = true
-leavesPages (open-oldest e) = false
-leavesPages (close-oldest e) = false
-leavesPages (take-oldest e) = false
-leavesPages (enqueue e bytes) = false
-leavesPages (allocate d kind address maximum interval) = false
-leavesPages (allocate0 maximum) = true
-leavesPages no-wakes = true
-leavesPages (waken codes) = true
+leavesPages q = let k = actKind q in is k turning || (is k receiving || (is k kinds.starting || is k plain))
 
 -- it hands out nothing and leaves the pages
 pub data Calm : (i : Bool) (A : Type 0) → Script i A → Type 1 where

@@ -34,7 +34,8 @@ use Rattle.proof_book.specs.Book.{emptyOut, emptyIn, allReset}
 use Rattle.proof_book.specs.Coupling.{SameKept, lensOf, slotStamps, Held, OutFits, InFits, Coupling}
 use Rattle.proof_book.specs.Lens.{ep-mod, key-other}
 use Rattle.proof_book.specs.StampsLaws.{none-stamps}
-use Rattle.proof_book.specs.Frame.{Keeps, rebuilt, changed-on, out-moved, in-moved, none-stands}
+use Rattle.proof_book.specs.Frame.{Rest, restOf, Keeps, rebuilt, changed-on, out-moved, in-moved}
+use Rattle.proof_book.specs.EmptyPagesLaws.{empty-out, empty-in}
 use Rattle.proof_book.specs.Chips.{armed-or}
 use Rattle.proof_book.specs.Steps.{RowStep, phase-changed, globals-changed, none-enabled}
 
@@ -54,30 +55,10 @@ reset-held {most = most} {b = b} {r = r} {ls = ls} h = record {
 
 -- nor any stamp, whatever its slots have
 pub reset-out : {b : Buf} {r : EpState} {ls ss : List ℕ} {p : OutPage} → OutFits b r ls ss p → (ss′ : List ℕ) → OutFits b (resetOf r) ls ss′ (emptyOut p)
-reset-out {r = r} f ss′ = record {
-  held = reset-held (f .held);
-  stamps = none-stamps (resetOf r) ss′ (reset-count (resetOf r) refl refl);
-  opened = refl;
-  shows = λ q. absurd (true≢false q);
-  lost = f .lost;
-  slot = f .slot;
-  from = f .from;
-  upto = f .upto;
-  ledger = refl;
-  short = tt;
-}
+reset-out {p = p} f ss′ = empty-out refl refl refl (reset-held (f .held)) p (f .lost) (f .slot) (f .from) (f .upto) ss′
 
 reset-in : {b : Buf} {r : EpState} {ls : List ℕ} {p : InPage} → InFits b r ls p → InFits b (resetOf r) ls emptyIn
-reset-in {r = r} f = record {
-  held = reset-held (f .held);
-  ringless = λ q. reset-count (resetOf r) refl refl;
-  loaded = refl;
-  sends = λ q. absurd (true≢false q);
-  turn = refl;
-  ledger = refl;
-  reached = refl;
-  stands = none-stands refl;
-}
+reset-in f = empty-in refl refl refl (reset-held (f .held))
 
 module _ (d : Driver) (z : Sized d) (dir : Dir) (e : ℕ) where
   renewed-sized : Sized (renewed dir e d)
@@ -110,41 +91,20 @@ module _ (d : Driver) (z : Sized d) (e : ℕ) where
 -- the records of the endpoints below n reset, and nothing else
 record Below (n : ℕ) (d d′ : Driver) : Type 0 where
   sized : Sized d′
-  globals : d′ .globals ≡ d .globals
-  wakes : d′ .wakes ≡ d .wakes
-  control : d′ .control ≡ d .control
-  allocator : d′ .allocator ≡ d .allocator
-  paced : d′ .paced ≡ d .paced
-  requests : d′ .requests ≡ d .requests
+  rest : restOf d′ ≡ restOf d
   lens : d′ .lens ≡ d .lens
   these : (dir : Dir) (x : ℕ) → x % 16 < n → epOn d′ dir x ≡ resetOf (epOn d dir x)
   others : (dir : Dir) (x : ℕ) → n ≤ x % 16 → epOn d′ dir x ≡ epOn d dir x
 
 reset-below : (n : ℕ) (d : Driver) → n ≤ 16 → Sized d → Below n d (resetBelow n d)
 unfolding resetBelow withOn
-reset-below zero d l z = record {
-  sized = z;
-  globals = refl;
-  wakes = refl;
-  control = refl;
-  allocator = refl;
-  paced = refl;
-  requests = refl;
-  lens = refl;
-  these = λ dir x h. absurd (omega arith);
-  others = λ dir x h. refl;
-}
+reset-below zero d l z = record { sized = z; rest = refl; lens = refl; these = λ dir x h. absurd (omega arith); others = λ dir x h. refl }
 reset-below (suc n) d l z = more (resetBelow n d) (reset-below n d (omega arith) z)
   where
     more : (x : Driver) → Below n d x → Below (suc n) d (both-renewed n x)
     more x w = record {
       sized = pair-sized x (w .sized) n;
-      globals = w .globals;
-      wakes = w .wakes;
-      control = w .control;
-      allocator = w .allocator;
-      paced = w .paced;
-      requests = w .requests;
+      rest = w .rest;
       lens = w .lens;
       these = λ dir y h. elim (ℕ-discrete (y % 16) (n % 16)) [
         | yes q ↦ pair-same x (w .sized) n dir y q ∙ ap resetOf (w .others dir y (omega arith))
@@ -170,9 +130,12 @@ module _ {b : Buf} {d : Driver} {t : Pages} (R : Coupling (mid bus-reset 1) b d 
   unfolding resetAll noStamps lenOn
   all-lens dir x = ap (λ (l : List ℕ). tab 16 (λ i. getD l (lenKey dir x i) 0)) (all-below .lens)
 
+  below-globals : resetBelow 16 d .globals ≡ d .globals
+  below-globals = ap (λ (x : Rest). x .0 .0) (all-below .rest)
+
   all-globals : resetAll d .globals ≡ withSetup 0 (d .globals .«setup_low») (d .globals .«setup_high») (d .globals)
   unfolding resetAll noStamps
-  all-globals = ap (λ (g : Globals). withSetup 0 (g .«setup_low») (g .«setup_high») g) (all-below .globals)
+  all-globals = ap (λ (g : Globals). withSetup 0 (g .«setup_low») (g .«setup_high») g) below-globals
 
   all-keeps : Keeps d (resetAll d)
   unfolding resetAll noStamps
@@ -184,26 +147,28 @@ module _ {b : Buf} {d : Driver} {t : Pages} (R : Coupling (mid bus-reset 1) b d 
       paced = all-below .sized .paced;
       requests = all-below .sized .requests;
     };
-    allocator = all-below .allocator;
-    stage = ap (λ (g : Globals). g .stage) (all-below .globals);
-    ep0-buf = ap (λ (g : Globals). g .«ep0_buf») (all-below .globals);
-    ep0-max = ap (λ (g : Globals). g .«ep0_max») (all-below .globals);
-    iso-outs = ap (λ (g : Globals). g .«iso_out_eps») (all-below .globals);
+    allocator = ap (λ (x : Rest). x .0 .3) (all-below .rest);
+    stage = ap (λ (g : Globals). g .stage) below-globals;
+    ep0-buf = ap (λ (g : Globals). g .«ep0_buf») below-globals;
+    ep0-max = ap (λ (g : Globals). g .«ep0_max») below-globals;
+    iso-outs = ap (λ (g : Globals). g .«iso_out_eps») below-globals;
     place = λ dir x. subst (λ r. SamePlace (epOn d dir x) r) (sym (all-ep dir x)) (reset-place (epOn d dir x));
     iso = λ dir x. ap (λ (r : EpState). r .iso) (all-ep dir x);
   }
 
   all-same : SameKept (resetAll d) (allReset t .kept)
   unfolding resetAll noStamps pacedOn requestOn
-  all-same = record {
-    globals = all-globals ∙ ap (λ (g : Globals). withSetup 0 (g .«setup_low») (g .«setup_high») g) (R .same .globals);
-    wakes = all-below .wakes ∙ R .same .wakes;
-    control = all-below .control ∙ R .same .control;
-    allocator = all-below .allocator ∙ R .same .allocator;
-    paced = λ x. ap (λ (l : List ℕ). getD l (x % 16) 0) (all-below .paced) ∙ R .same .paced x;
-    requests = λ dir x. ap (λ l. getD l (key dir x) noRequest) (all-below .requests) ∙ R .same .requests dir x;
-    plain = λ dir x. ap plainOf (all-ep dir x) ∙ ap statics.renewed (R .same .plain dir x);
-  }
+  all-same =
+      let r = all-below .rest in
+      record {
+        globals = all-globals ∙ ap (λ (g : Globals). withSetup 0 (g .«setup_low») (g .«setup_high») g) (R .same .globals);
+        wakes = ap (λ (x : Rest). x .0 .1) r ∙ R .same .wakes;
+        control = ap (λ (x : Rest). x .0 .2) r ∙ R .same .control;
+        allocator = ap (λ (x : Rest). x .0 .3) r ∙ R .same .allocator;
+        paced = λ x. ap (λ (y : Rest). getD (y .1) (x % 16) 0) r ∙ R .same .paced x;
+        requests = λ dir x. ap (λ (y : Rest). getD (y .2) (key dir x) noRequest) r ∙ R .same .requests dir x;
+        plain = λ dir x. ap plainOf (all-ep dir x) ∙ ap statics.renewed (R .same .plain dir x);
+      }
 
   all-disabled : (x : ℕ) → isSet (isoOuts (resetAll d .globals)) (x % 16) ≡ false
   unfolding isoOuts

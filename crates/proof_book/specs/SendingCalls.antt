@@ -38,6 +38,7 @@ use Rattle.proof_book.specs.SendingPages.{Orderly, Alike, alike-refl, al
 use Rattle.proof_book.specs.SendingPages.{Follows, orderly-with, never, none-left}
 use Rattle.proof_book.specs.SendingPages as pages-of
 use Rattle.proof_book.specs.SendingSteps.{spot, Goes, Within, Asked, Followed, follow, follow-parts}
+use Rattle.proof_book.specs.AnswersLaws.{isHanded, handed-same, fed-elim, fed-kept}
 use Rattle.proof_book.specs.SlotsKept.{sent-used, sent-size}
 
 -- ---- in the book alone
@@ -72,38 +73,15 @@ stays-put e s = goes (record { sending = s; shown = refl; place = refl; size = r
 
 -- the access told changes a source alone
 pub fed-alike : (a : Ans Answer) (t : Pages) → Orderly t → (e : ℕ) → Alike (t .ins e) (fed book a t .ins e)
-fed-alike (ended z) t i e = alike-refl
-fed-alike (handed (Read r f)) t i e = alike-refl
-fed-alike (handed (Write r f v)) t i e = alike-refl
-fed-alike (handed (Receive f x)) t i e = alike-refl
-fed-alike (handed (Transmit f x)) t i e = at-elim (λ (p : InPage). Alike (t .ins e) p) f e (sourceTold (t .ins f) x) (t .ins)
-    (λ m. subst (λ (p : InPage). Alike p (sourceTold (t .ins f) x)) (i .periodic f e (sym m)) (told-alike (t .ins f) x)) (λ _. alike-refl)
-fed-alike (handed (Ep0Dma x)) t i e = alike-refl
-fed-alike (handed (Wait n)) t i e = alike-refl
-fed-alike (handed Callback) t i e = alike-refl
-fed-alike (told n) t i e = alike-refl
-
-pub fed-kept : (a : Ans Answer) (t : Pages) → fed book a t .kept ≡ t .kept
-fed-kept (ended z) t = refl
-fed-kept (handed (Read r f)) t = refl
-fed-kept (handed (Write r f v)) t = refl
-fed-kept (handed (Receive f x)) t = refl
-fed-kept (handed (Transmit f x)) t = refl
-fed-kept (handed (Ep0Dma x)) t = refl
-fed-kept (handed (Wait n)) t = refl
-fed-kept (handed Callback) t = refl
-fed-kept (told n) t = refl
+fed-alike a t i e = fed-elim (λ u. Alike (t .ins e) (u .ins e)) a t alike-refl
+    (λ f x _. alike-refl)
+    (λ f x _. at-elim (λ (p : InPage). Alike (t .ins e) p) f e (sourceTold (t .ins f) x) (t .ins)
+    (λ m. subst (λ (p : InPage). Alike p (sourceTold (t .ins f) x)) (i .periodic f e (sym m)) (told-alike (t .ins f) x)) (λ _. alike-refl))
 
 fed-orderly : (a : Ans Answer) (t : Pages) → Orderly t → Orderly (fed book a t)
-fed-orderly (ended z) t i = i
-fed-orderly (handed (Read r f)) t i = i
-fed-orderly (handed (Write r f v)) t i = i
-fed-orderly (handed (Receive f x)) t i = record { periodic = i .periodic; bases = i .bases; loads = i .loads }
-fed-orderly (handed (Transmit f x)) t i = orderly-with t f (sourceTold (t .ins f) x) (i .loads f) i
-fed-orderly (handed (Ep0Dma x)) t i = i
-fed-orderly (handed (Wait n)) t i = i
-fed-orderly (handed Callback) t i = i
-fed-orderly (told n) t i = i
+fed-orderly a t i = fed-elim Orderly a t i
+    (λ f x _. record { periodic = i .periodic; bases = i .bases; loads = i .loads })
+    (λ f x _. orderly-with t f (sourceTold (t .ins f) x) (i .loads f) i)
 
 fate-alike : {e : ℕ} {s t u : Pages} → Alike (t .ins e) (u .ins e) → u .kept ≡ t .kept → Fate e s t → Fate e s u
 fate-alike h k (goes g) = goes (record {
@@ -124,11 +102,6 @@ WayFollowed (busy i q k) = (u : Bool) × ((v : ℕ) (s : Bk) → Orderly (s .0) 
 pub record Sending (n : Machine Answer Pages) : Type 0 where
   pub pages : Orderly (n .st)
   pub way : WayFollowed (n .way)
-
-abbrev isHanded : Ans Answer → Bool
-isHanded (ended z) = false
-isHanded (handed q) = true
-isHanded (told n) = false
 
 -- from pages t, where the book is told the driver's answer a
 pub record SendingAfter (a : Ans Answer) (t : Pages) (y : Ans Answer × Machine Answer Pages) : Type 0 where
@@ -230,16 +203,11 @@ module _ (a : Ans Answer) where
   after-call (go v) n h b = either (misfit calls (book .driver) (n .st) b) _ _ (stays 1 n h) (continues n h b v (n .way) (h .way))
   after-call (question q) n h b = record { machine = lent-sending b h; fates = stays-put; source = λ e x _ k. never k }
 
-handed-blank : (z : Ans Answer) → isHanded (blankA z) ≡ isHanded z
-handed-blank (ended z) = refl
-handed-blank (handed q) = refl
-handed-blank (told n) = refl
-
 -- an address that is a load's: the slot being sent lies there
 pub told-source : {a : Ans Answer} {t : Pages} {y : Ans Answer × Machine Answer Pages} → SendingAfter a t y → blankA a ≡ blankA (y .0)
     → (e x : ℕ) → a ≡ handed (Transmit e x) → y .1 .st .ins e .load ≡ true → BeingSent (y .1 .st) e × (y .1 .st .ins e .source ≡ x)
-told-source {y = y} z s e x h l =
-    let g : isHanded (y .0) ≡ true = sym (handed-blank (y .0)) ∙ ap isHanded (sym s) ∙ ap (λ (a : Ans Answer). isHanded (blankA a)) h in
+told-source {a = a} {y = y} z s e x h l =
+    let g : isHanded (y .0) ≡ true = handed-same (y .0) a (sym s) ∙ ap isHanded h in
     (z .machine .pages .loads e l, z .source e x h g l)
 
 -- ---- with the driver

@@ -32,7 +32,8 @@ use Rattle.proof_book.specs.Book.{emptyOut, openOut, readOut, arrived, j
 use Rattle.proof_book.specs.Book.{bookOps, book}
 use Rattle.proof_book.specs.Frame.{at-elim}
 use Rattle.proof_book.specs.FrontPage.{written, addressed, BeforeStart, allocation, allocations}
-use Rattle.proof_book.specs.BookCalls.{Fine, fed-away}
+use Rattle.proof_book.specs.BookCalls.{Fine}
+use Rattle.proof_book.specs.AnswersLaws.{fed-out}
 
 -- ---- each step of a script but an allocation leaves the slots; f: the slots
 
@@ -175,7 +176,7 @@ module _ (a : Ans Answer) (o : Op) (e : ℕ) (n : Machine Answer Pages) (fine : 
 
   alone : (i : Bool) (x : tree.Out Bk Answer) → Runs x → Stays (halt calls (book .driver) (fed book a) i x)
   alone i (ends z t) (end h) = h e
-  alone i (asks q t k) (ask h g) = ap (λ (p : OutPage). p .slot) (fed-away a e away (t .0)) ∙ h e
+  alone i (asks q t k) (ask h g) = ap (λ (p : OutPage). p .slot) (fed-out a (t .0) e away) ∙ h e
 
   besides : (x : tree.Out Bk Answer) → Runs x → Stays (beside calls (book .driver) (lentTo calls (book .driver) n b) x)
   besides (ends z t) (end h) = h e

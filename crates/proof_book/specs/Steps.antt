@@ -20,6 +20,7 @@ use Rattle.model.specs.Machine.{Buf, blank}
 use Rattle.model_ops.specs.Rings.{rowOn}
 use Rattle.proof_book.specs.Pages.{Pages, withKept, keptGlobals}
 use Rattle.proof_book.specs.Book.{rowB, feedB}
+use Rattle.proof_book.specs.KeptLaws.{same-values}
 use Rattle.proof_book.specs.Coupling.{Arming, Step, Coupling, Good}
 use Rattle.proof_book.specs.Frame.{rebuilt, same-place, changed-not, keeps-changed}
 use Rattle.proof_book.specs.Held.{receives-is}
@@ -59,15 +60,7 @@ module _ {φ : Phase} {b : Buf} {d : Driver} {t : Pages} (R : Coupling φ b d t)
       refl
       (record {
         step = s;
-        same = record {
-          globals = q;
-          wakes = R .same .wakes;
-          control = R .same .control;
-          allocator = R .same .allocator;
-          paced = R .same .paced;
-          requests = R .same .requests;
-          plain = R .same .plain;
-        };
+        same = same-values (R .same) (λ e. refl, λ dir e. refl, λ dir e. refl) q (R .same .wakes) (R .same .control) (R .same .allocator);
         outs = R .outs;
         ins = R .ins;
         arming = a;

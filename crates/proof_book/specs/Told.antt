@@ -38,11 +38,11 @@ use Rattle.proof_book.specs.FrontPage.{opens, closes, queues, waits, giv
 use Rattle.proof_book.specs.BookTracks.{end, ask}
 use Rattle.proof_book.specs.BookCounts.{Followed}
 use Rattle.proof_book.specs.BookDecides.{Watched}
-use Rattle.proof_book.specs.BookCalls.{Fine, WayFine, fed-away}
+use Rattle.proof_book.specs.BookCalls.{Fine, WayFine}
 use Rattle.proof_book.specs.ContinueCalls.{WayOnto, GoesOn, fed-packets}
 use Rattle.proof_book.specs.Onward.{Onto}
 use Rattle.proof_book.specs.Others.{releasing}
-use Rattle.proof_book.specs.BusResets.{releasing-blank}
+use Rattle.proof_book.specs.AnswersLaws.{isHanded, handed-same, releasing-same, fed-out}
 use Rattle.proof_book.specs.Enabling.{Asks, Empty, first-access}
 use Rattle.proof_book.specs.PollsWhole.{ended-same}
 
@@ -68,16 +68,6 @@ module _ {φ : Phase} {b : Buf} {d : Driver} {t : Pages} (R : Coupling φ b d t)
   )
 
 -- ---- the address that is told
-
-abbrev isHanded : Ans Answer → Bool
-isHanded (ended z) = false
-isHanded (handed q) = true
-isHanded (told k) = false
-
-handed-blank : (z : Ans Answer) → isHanded (blankA z) ≡ isHanded z
-handed-blank (ended z) = refl
-handed-blank (handed q) = refl
-handed-blank (told k) = refl
 
 module _ (a : Ans Answer) where
   -- a call that hands out an access leaves pages that were told it
@@ -125,7 +115,7 @@ pub slot-told : (c : Call Config Op) (a : Ans Answer) (n : Machine Answer Pages)
     → blankA a ≡ blankA (written a c n b .0)
     → (e x : ℕ) → a ≡ handed (Receive e x) → written a c n b .1 .st .outs e .slot ≡ x
 slot-told c a n b s e x g =
-    let z = told-by a c n b (sym (handed-blank (written a c n b .0)) ∙ ap isHanded (sym s) ∙ handed-blank a ∙ ap isHanded g) in
+    let z = told-by a c n b (handed-same (written a c n b .0) a (sym s) ∙ ap isHanded g) in
     ap (λ (t : Pages). t .outs e .slot) (z .1) ∙ ap (λ (y : Ans Answer). fed book y (z .0) .outs e .slot) g
     ∙ ap (λ (p : OutPage). p .slot) (out-same (z .0) e (slotTold (z .0 .outs e) x))
 
@@ -172,8 +162,7 @@ module _ (a : Ans Answer) (e v : ℕ) (n : Machine Answer Pages) (b : Buf)
 
   same-at : (z : Bool) (o : tree.Out Bk Answer) → Onto z (n .st, b) o → Same (halt calls (book .driver) (fed book a) false o)
   same-at y (ends z t) (end j w) s = w .outs e
-  same-at y (asks q t k) (ask j w g) s = fed-away a e away (t .0)
-      ∙ w (sym (releasing-blank (handed q)) ∙ ap releasing (sym s) ∙ releasing-blank a ∙ kept) .outs e
+  same-at y (asks q t k) (ask j w g) s = fed-out a (t .0) e away ∙ w (releasing-same (handed q) a (sym s) ∙ kept) .outs e
 
   either-same : (u : Bool) (x y : Ans Answer × Machine Answer Pages) → Same x → Same y → Same (cond u x y)
   either-same true x y p q = p

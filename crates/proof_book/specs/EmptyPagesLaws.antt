@@ -1,0 +1,42 @@
+-- Laws: a ring whose head and tail are 0 has none that wait, and its page is the empty one
+use mathlib.Core.Bool.{true≢false}
+use mathlib.Core.List.{List, []}
+use mathlib.Core.Path.{_≡_, refl, ap, sym, _∙_}
+use Prim.Native.Nat.{ℕ, _+_, _-_, _%_, _^_, _≤_}
+use lib.Dec.{eqb}
+use Rattle.state.specs.declared.EpState.{EpState}
+use Rattle.ring.specs.Laws.{reset-count}
+use Rattle.model.specs.Machine.{Buf}
+use Rattle.proof_book.specs.Pages.{OutPage}
+use Rattle.proof_book.specs.Book.{emptyOut, emptyIn}
+use Rattle.proof_book.specs.StampsLaws.{none-stamps}
+use Rattle.proof_book.specs.Coupling.{Held, OutFits, InFits, endOf}
+use Rattle.proof_book.specs.Frame.{none-stands}
+
+module _ {b : Buf} {r : EpState} {ls : List ℕ} (h : r .head ≡ 0) (l : r .tail ≡ 0) where
+  pub empty-out : r .«open» ≡ 0 → Held (r .slots - 1) b r ls [] → (p : OutPage) → r .overruns ≡ p .lost % 2 ^ 32
+      → r .«armed_slot» ≡ p .slot → r .base ≤ p .slot → p .slot + r .stride ≤ endOf r → (ss : List ℕ) → OutFits b r ls ss (emptyOut p)
+  empty-out o held p lost slot from upto ss = record {
+    held = held;
+    stamps = none-stamps r ss (reset-count r h l);
+    opened = o;
+    shows = λ q. absurd (true≢false (sym (ap (λ (n : ℕ). eqb n 0) o) ∙ q));
+    lost = lost;
+    slot = slot;
+    from = from;
+    upto = upto;
+    ledger = refl;
+    short = tt;
+  }
+
+  pub empty-in : r .loaded ≡ 0 → Held (r .slots) b r ls [] → InFits b r ls emptyIn
+  empty-in o held = record {
+    held = held;
+    ringless = λ _. reset-count r h l;
+    loaded = o;
+    sends = λ q. absurd (true≢false (sym (ap (λ (n : ℕ). eqb n 0) o) ∙ q));
+    turn = ap (λ (n : ℕ). n % 2) h;
+    ledger = refl;
+    reached = refl;
+    stands = none-stands refl;
+  }
