@@ -20,7 +20,7 @@ use Rattle.proof_book.specs.Others.{releasing}
 use Rattle.proof_book.specs.BookTracks.{ask}
 use Rattle.proof_book.specs.InterruptParts.{of-interrupt}
 use Rattle.proof_book.specs.BookDecides.{sendsTo, Watched, watch}
-use Rattle.proof_book.specs.BookCalls.{sending}
+use Rattle.proof_book.specs.AnswersLaws.{sending}
 use Rattle.proof_book.specs.EarlyScripts.{stage}
 use Rattle.proof_book.specs.Onward.{Head, heads-run, Goes, plainly, gives, of-slotted, of-other, of-aside}
 use Rattle.proof_book.specs.ContinueCalls.{told-sends, own-address, told-releases, fed-loaded}

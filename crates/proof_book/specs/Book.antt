@@ -101,8 +101,8 @@ slotTold p x = record { waiting = p .waiting; opened = p .opened; lost = p .lost
 
 -- the packets of an IN: those waiting, the slot of the next, those queued, sent and passed in the stretch
 abbrev pub withPackets : InPage → List (List ℕ) → ℕ → List (List ℕ) → List (List ℕ) → List (List ℕ) → InPage
-withPackets p waiting turn queued sent passed = record {
-  waiting = waiting;
+withPackets p all turn queued sent passed = record {
+  waiting = all;
   sending = p .sending;
   load = p .load;
   turn = turn;

@@ -124,10 +124,10 @@ module _ (t : Pages) (e : ℕ) where
 told-in : (z : Ans Answer) (e : ℕ) (t : Pages) → ((x : ℕ) → x % 16 ≡ e % 16 → EmptiedIn (t .ins x)) → EmptiedIn (fed book z t .ins e)
 told-in z e t h = fed-elim (λ u. EmptiedIn (u .ins e)) z t (h e refl)
     (λ f x _. h e refl)
-    (λ f x _. at-elim EmptiedIn f e (sourceTold (t .ins f) x) (t .ins) (λ k. told-source (h f (sym k))) (λ _. h e refl))
+    (λ f x _. at-elim EmptiedIn f e (sourceTold (t .ins f) x) (t .ins) (λ k. told-source x (h f (sym k))) (λ _. h e refl))
   where
-    told-source : {p : InPage} {x : ℕ} → EmptiedIn p → EmptiedIn (sourceTold p x)
-    told-source p = record { waiting = p .waiting; sending = p .sending; queued = p .queued; sent = p .sent; passed = p .passed }
+    told-source : (x : ℕ) {p : InPage} → EmptiedIn p → EmptiedIn (sourceTold p x)
+    told-source x p = record { waiting = p .waiting; sending = p .sending; queued = p .queued; sent = p .sent; passed = p .passed }
 
 pub told-empty : (z : Ans Answer) (dir : Dir) (e : ℕ) (s t : Pages) → Periodic t → Empty dir e s t → Emptied dir e s (fed book z t)
 told-empty z Out e s t i h = record {
