@@ -19,7 +19,7 @@ use Rattle.model.specs.declared.Transfer.{Transfer}
 use Rattle.model.specs.Tree as tree
 use Rattle.model.specs.Tree.{ends, asks, Prog, bindOut}
 use Rattle.model.specs.Cells.{Cell, Val, globals-cell, ep-cell}
-use Rattle.model.specs.Script.{Script, Test, Look, Fetch, Act, DmaStep, ret, bind, test}
+use Rattle.model.specs.Script.{Script, Ops, run, Test, Look, Fetch, Act, DmaStep, ret, bind, test}
 use Rattle.model.specs.Script.{_>>_, done, when, read, write, callback, get, put, is, look, fetch, act, hand}
 use Rattle.model.specs.Statics.{modifyReg}
 use Rattle.model.specs.IsoIn.{firstInFrame, isoInLoad, isoInComplete, unseen, sofOne, sofWalk, onSof, lateOne, lateWalk}
@@ -44,6 +44,15 @@ ask-path : {S A : Type 0} (n : ℕ) (q : Access) (s : S) (k : ℕ → S → tree
 unfolding accesses
 ask-path n q s k x [] = omega arith
 ask-path n q s k x (c ∷ w) = omega (arith, x (c .0) (c .1) w)
+
+abbrev Ends : {S A : Type 0} → tree.Out S A → Type 0
+Ends (ends a s) = Unit {0}
+Ends (asks q s k) = ⊥
+
+ends-path : {S A : Type 0} {n : ℕ} (o : tree.Out S A) → Ends o → Within n o
+unfolding accesses
+ends-path (ends a s) h w = omega arith
+ends-path (asks q s k) h w = absurd h
 
 module _ {i : Bool} {A : Type 0} where
   more : {m n : ℕ} {p : Script i A} → Asks≤ m p → m ≤ n → Asks≤ n p
@@ -84,29 +93,27 @@ module _ {i : Bool} where
   unfolding accesses
   a-callback = record { on = λ S O s. ask-path 0 _ s _ (λ v t w. omega arith) }
 
+  -- it ends at once, whatever the state
+  at-once : {A : Type 0} {n : ℕ} {p : Script i A} → ((S : Type 0) (O : Ops S) (s : S) → Ends (run O p s)) → Asks≤ {i = i} n p
+  at-once {p = p} h = record { on = λ S O s. ends-path (run O p s) (h S O s) }
+
   no-get : {n : ℕ} (c : Cell) → Asks≤ {i = i} n (get c)
-  unfolding accesses
-  no-get c = record { on = λ S O s w. omega arith }
+  no-get c = at-once (λ S O s. tt)
 
   no-put : {n : ℕ} (c : Cell) {v : Val c} → Asks≤ {i = i} n (put c v)
-  unfolding accesses
-  no-put c = record { on = λ S O s w. omega arith }
+  no-put c = at-once (λ S O s. tt)
 
   no-is : {n : ℕ} {q : Test} → Asks≤ {i = i} n (is q)
-  unfolding accesses
-  no-is = record { on = λ S O s w. omega arith }
+  no-is = at-once (λ S O s. tt)
 
   no-look : {n : ℕ} {q : Look} → Asks≤ {i = i} n (look q)
-  unfolding accesses
-  no-look = record { on = λ S O s w. omega arith }
+  no-look = at-once (λ S O s. tt)
 
   no-fetch : {n : ℕ} {q : Fetch} → Asks≤ {i = i} n (fetch q)
-  unfolding accesses
-  no-fetch = record { on = λ S O s w. omega arith }
+  no-fetch = at-once (λ S O s. tt)
 
   no-act : {n : ℕ} {q : Act} → Asks≤ {i = i} n (act q)
-  unfolding accesses
-  no-act = record { on = λ S O s w. omega arith }
+  no-act = at-once (λ S O s. tt)
 
   if : {n : ℕ} {b : Bool} {p : Script i Unit} → Asks≤ n p → Asks≤ n (when b p)
   if x = either x end

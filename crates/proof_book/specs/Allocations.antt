@@ -157,7 +157,8 @@ module _ (c : Config) (b : Buf) (row : startRow c b ≡ 0) where
     };
     shape = λ dir e. rw (unused-new dir e, record-new dir e) (record { iso = refl; base = refl; stride = refl; slots = refl });
     outs = λ e. rw (record-new Out e)
-        (empty-out refl refl refl (held-new 0 Out e) (freshPages c .outs e) refl refl (omega arith) (omega arith) (slotStamps D e));
+        (empty-out refl refl refl (held-new 0 Out e) (freshPages c .outs e)
+        (record { lost = refl; slot = refl; from = omega arith; upto = omega arith }) (slotStamps D e));
     ins = λ e. rw (record-new In e) (empty-in refl refl refl (held-new 1 In e));
     arming = λ e. rw (record-new Out e) (rest-new _ _ refl);
     apart = λ dir dir′ e e′ h. rw (record-new dir e, record-new dir′ e′) (inl (omega arith));

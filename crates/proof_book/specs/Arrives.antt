@@ -392,7 +392,7 @@ unfolding armedAt
 placed-fits {r = r} {p = p} f =
     let k = armed-alike r (r .base) in
     fits-alike k f refl (p .opened) (r .base) (f .opened) (λ h. omega (arith, f .shows h, alike-count k))
-    (f .lost) refl (omega arith) (omega (arith, f .from, f .upto))
+    (record { lost = f .lost; slot = refl; from = omega arith; upto = omega (arith, f .from, f .upto) })
 
 module _ {b : Buf} {d : Driver} {t : Pages} (R : Coupling quiet b d t) (e : ℕ) where
   place-by : (v : Bool) → receives d e ≡ v

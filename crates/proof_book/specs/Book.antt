@@ -99,36 +99,19 @@ emptyOut p = withLedger (withWaiting p [] false) [] []
 abbrev pub slotTold : OutPage → ℕ → OutPage
 slotTold p x = record { waiting = p .waiting; opened = p .opened; lost = p .lost; slot = x; admitted = p .admitted; read = p .read }
 
+abbrev pub inPage : List (List ℕ) → Bool → Bool → ℕ → List (List ℕ) → List (List ℕ) → List (List ℕ) → ℕ → Buf → InPage
+inPage w g l n q s p x b = record { waiting = w; sending = g; load = l; turn = n; queued = q; sent = s; passed = p; source = x; shown = b }
+
+abbrev pub emptyIn : InPage
+emptyIn = inPage [] false false 0 [] [] [] 0 []
+
 -- the packets of an IN: those waiting, the slot of the next, those queued, sent and passed in the stretch
 abbrev pub withPackets : InPage → List (List ℕ) → ℕ → List (List ℕ) → List (List ℕ) → List (List ℕ) → InPage
-withPackets p all turn queued sent passed = record {
-  waiting = all;
-  sending = p .sending;
-  load = p .load;
-  turn = turn;
-  queued = queued;
-  sent = sent;
-  passed = passed;
-  source = p .source;
-  shown = p .shown;
-}
+withPackets i w n q s p = inPage w (i .sending) (i .load) n q s p (i .source) (i .shown)
 
 -- whether one is being sent, whether the last address is a load's, from where, and the lent bytes as they stood then
 abbrev pub withSending : InPage → Bool → Bool → ℕ → Buf → InPage
-withSending p sending load source shown = record {
-  waiting = p .waiting;
-  sending = sending;
-  load = load;
-  turn = p .turn;
-  queued = p .queued;
-  sent = p .sent;
-  passed = p .passed;
-  source = source;
-  shown = shown;
-}
-
-abbrev pub emptyIn : InPage
-emptyIn = record { waiting = []; sending = false; load = false; turn = 0; queued = []; sent = []; passed = []; source = 0; shown = [] }
+withSending i g l x b = inPage (i .waiting) g l (i .turn) (i .queued) (i .sent) (i .passed) x b
 
 -- "Load: what the Rust's tail passes waits no more"
 abbrev pub passedIn : InPage → InPage

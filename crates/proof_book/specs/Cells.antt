@@ -78,15 +78,9 @@ pub record Kin (r r′ : EpState) : Type 0 where
   pub loaded : r′ .loaded ≡ r .loaded
 
 pub merged-kin : (r : EpState) (v : EpCore) → Kin r (merged r v)
-merged-kin r v = record {
-  alike = record { place = record { base = refl; stride = refl; slots = refl }; head = refl; tail = refl };
-  iso = refl;
-  least = refl;
-  opened = refl;
-  overruns = refl;
-  slot = refl;
-  loaded = refl;
-}
+merged-kin r v =
+    let a : Alike r (merged r v) = record { place = record { base = refl; stride = refl; slots = refl }; head = refl; tail = refl } in
+    record { alike = a; iso = refl; least = refl; opened = refl; overruns = refl; slot = refl; loaded = refl }
 
 pub kin-refl : (r : EpState) → Kin r r
 kin-refl r = merged-kin r (plainOf r)

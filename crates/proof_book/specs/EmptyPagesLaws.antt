@@ -13,18 +13,24 @@ use Rattle.proof_book.specs.StampsLaws.{none-stamps}
 use Rattle.proof_book.specs.Coupling.{Held, OutFits, InFits, endOf}
 use Rattle.proof_book.specs.Frame.{none-stands}
 
+-- the count of those turned away, and the slot that the chip was told, one of the endpoint's own
+pub record Seat (r : EpState) (p : OutPage) : Type 0 where
+  pub lost : r .overruns ≡ p .lost % 2 ^ 32
+  pub slot : r .«armed_slot» ≡ p .slot
+  pub from : r .base ≤ p .slot
+  pub upto : p .slot + r .stride ≤ endOf r
+
 module _ {b : Buf} {r : EpState} {ls : List ℕ} (h : r .head ≡ 0) (l : r .tail ≡ 0) where
-  pub empty-out : r .«open» ≡ 0 → Held (r .slots - 1) b r ls [] → (p : OutPage) → r .overruns ≡ p .lost % 2 ^ 32
-      → r .«armed_slot» ≡ p .slot → r .base ≤ p .slot → p .slot + r .stride ≤ endOf r → (ss : List ℕ) → OutFits b r ls ss (emptyOut p)
-  empty-out o held p lost slot from upto ss = record {
+  pub empty-out : r .«open» ≡ 0 → Held (r .slots - 1) b r ls [] → (p : OutPage) → Seat r p → (ss : List ℕ) → OutFits b r ls ss (emptyOut p)
+  empty-out o held p z ss = record {
     held = held;
     stamps = none-stamps r ss (reset-count r h l);
     opened = o;
     shows = λ q. absurd (true≢false (sym (ap (λ (n : ℕ). eqb n 0) o) ∙ q));
-    lost = lost;
-    slot = slot;
-    from = from;
-    upto = upto;
+    lost = z .lost;
+    slot = z .slot;
+    from = z .from;
+    upto = z .upto;
     ledger = refl;
     short = tt;
   }

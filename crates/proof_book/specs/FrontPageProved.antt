@@ -284,32 +284,25 @@ later-call c l m n k a = record {
 
 -- machines that agree
 record Agreeing (m : Machine Answer Driver) (n : Machine Answer Pages) : Type 0 where
-  phase : Phase
-  ways : Ways driverOf book agree calls phase (m .way) (n .way)
-  rest : Coupling phase (m .buf) (m .st) (n .st)
-  room : Kept m
-  fine : Fine n
-  sending : Sending n
-  onto : GoesOn n
-  early : Early n
-
-before-of : {m : Machine Answer Driver} {n : Machine Answer Pages} → Agreeing m n → Before m n
-before-of k = record { phase = k .phase; rest = k .rest; room = k .room; fine = k .fine; sending = k .sending; onto = k .onto; early = k .early }
+  before : Before m n
+  ways : Ways driverOf book agree calls (before .phase) (m .way) (n .way)
 
 one : (c : Call Config Op) (l : Buf) (m : Machine Answer Driver) (n : Machine Answer Pages) → Agreeing m n → LentAsLeft c n (m .buf) l
     → let x = drive c m l in Holds-after c l m n × Agreeing (x .1) (written (x .0) c n l .1)
 one c l m n k p =
-    let a : Agrees c l m n = agrees driverOf book agree calls fresh-kept c l m n (k .ways) (k .rest) (lent-is m n (k .rest) l c p) in (
-      later-call c l m n (before-of k) a,
+    let a : Agrees c l m n = agrees driverOf book agree calls fresh-kept c l m n (k .ways) (k .before .rest) (lent-is m n (k .before .rest) l c p) in (
+      later-call c l m n (k .before) a,
       record {
-        phase = a .phase;
+        before = record {
+          phase = a .phase;
+          rest = a .rest;
+          room = steps c m (k .before .room) l;
+          fine = call-fine (drive c m l .0) c n (k .before .fine) l;
+          sending = sent-after c l m n (k .before) .machine;
+          onto = goes-on (drive c m l .0) c n (k .before .onto) l;
+          early = early-call (drive c m l .0) c n (k .before .early) l .machine;
+        };
         ways = a .ways;
-        rest = a .rest;
-        room = steps c m (k .room) l;
-        fine = call-fine (drive c m l .0) c n (k .fine) l;
-        sending = sent-after c l m n (before-of k) .machine;
-        onto = goes-on (drive c m l .0) c n (k .onto) l;
-        early = early-call (drive c m l .0) c n (k .early) l .machine;
       },
     )
 
@@ -326,17 +319,19 @@ module _ (c : Config) (b : Buf) (row : startRow c b ≡ zero) (m : Machine Answe
       let a = start-agrees in (
         first-start c b row m n a,
         record {
-          phase = a .phase;
           ways = a .ways;
-          rest = a .rest;
-          room = subst (λ (z : Ans Answer × Machine Answer Driver). Kept (z .1)) (sym start-is) (start-kept c m b row);
-          fine = subst (λ (r : ℕ). Fine (started calls (book .driver) (fed book (drive (start c) m b .0)) c r n b .1))
-              (sym row) (start-fine (drive (start c) m b .0) c n b);
-          sending = start-sent c b row m n .machine;
-          onto = subst (λ (r : ℕ). GoesOn (started calls (book .driver) (fed book (drive (start c) m b .0)) c r n b .1))
-              (sym row) (start-onto (drive (start c) m b .0) c n b);
-          early = subst (λ (r : ℕ). Early (started calls (book .driver) (fed book (drive (start c) m b .0)) c r n b .1))
-              (sym row) (start-early (drive (start c) m b .0) c n b);
+          before = record {
+            phase = a .phase;
+            rest = a .rest;
+            room = subst (λ (z : Ans Answer × Machine Answer Driver). Kept (z .1)) (sym start-is) (start-kept c m b row);
+            fine = subst (λ (r : ℕ). Fine (started calls (book .driver) (fed book (drive (start c) m b .0)) c r n b .1))
+                (sym row) (start-fine (drive (start c) m b .0) c n b);
+            sending = start-sent c b row m n .machine;
+            onto = subst (λ (r : ℕ). GoesOn (started calls (book .driver) (fed book (drive (start c) m b .0)) c r n b .1))
+                (sym row) (start-onto (drive (start c) m b .0) c n b);
+            early = subst (λ (r : ℕ). Early (started calls (book .driver) (fed book (drive (start c) m b .0)) c r n b .1))
+                (sym row) (start-early (drive (start c) m b .0) c n b);
+          };
         },
       )
 
@@ -374,7 +369,12 @@ same-answer xs a n m k did p =
     let c = m .event .call in
     let l = m .event .lent in
     subst (λ (x : Ans Answer × Machine Answer Driver). blankA (x .0) ≡ blankA (written (x .0) c n l .0)) (sym did)
-    (agrees driverOf book agree calls fresh-kept c l (machineOf xs a) n (k .ways) (k .rest) (lent-is (machineOf xs a) n (k .rest) l c p) .same)
+    (agrees driverOf book agree calls fresh-kept c l (machineOf xs a) n (k .ways) (k .before .rest) (lent-is (machineOf xs a) n (k .before .rest) l c p) .same)
+
+-- a call: the book's answer, and what is so after it
+made : (xs : List ℕ) (a : Buf) (n : Machine Answer Pages) (m : Made) → Agreeing (machineOf xs a) n → CallStep xs a m
+    → LentAsLeft (m .event .call) n a (m .event .lent) → (blankA (m .answer) ≡ blankA (noted m n .0)) × Said m n
+made xs a n m k did p = (same-answer xs a n m k did p, said xs a n m did (one (m .event .call) (m .event .lent) (machineOf xs a) n k p))
 
 -- the lengths of those that arrive, by what was brought
 lengths : (ms : List Made) (xs : List ℕ) (a : Buf) (n : Machine Answer Pages) (f : Known) → Agreeing (machineOf xs a) n → WayTold f (n .way) (n .st)
@@ -383,10 +383,9 @@ lengths [] xs a n f k w p = tt
 lengths (m ∷ ms) xs a n f k w p =
     let c = m .event .call in
     let l = m .event .lent in
-    let same = same-answer xs a n m k (p .0) (p .1) in
-    let z = said xs a n m (p .0) (one c l (machineOf xs a) n k (p .1)) in (
-      λ e d q h. length-is c (m .answer) e n (k .rest) (k .fine) f w l same d q h,
-      lengths ms (m .bytes) (m .slots) _ _ (z .1) (told-on (m .answer) c f n l same (regular (k .rest)) w) (p .2),
+    let z = made xs a n m k (p .0) (p .1) in (
+      λ e d q h. length-is c (m .answer) e n (k .before .rest) (k .before .fine) f w l (z .0) d q h,
+      lengths ms (m .bytes) (m .slots) _ _ (z .1 .1) (told-on (m .answer) c f n l (z .0) (regular (k .before .rest)) w) (p .2),
     )
 
 -- the pages of the endpoints not named
@@ -394,14 +393,11 @@ others : (ms : List Made) (xs : List ℕ) (a : Buf) (n : Machine Answer Pages) (
     → page.Calls xs a n ms → OthersEach n f ms
 others [] xs a n f k w p = tt
 others (m ∷ ms) xs a n f k w p =
-    let c = m .event .call in
-    let l = m .event .lent in
-    let same = same-answer xs a n m k (p .0) (p .1) in
-    let z = said xs a n m (p .0) (one c l (machineOf xs a) n k (p .1)) in
-    let y = call-goes (m .answer) c f n l w in (
-      λ r d e h. y .pages same r d e h,
-      others ms (m .bytes) (m .slots) _ _ (z .1)
-          (subst (λ (g : Names). WaySpared g (noted m n .1 .way)) (under-same c (m .answer) (noted m n .0) f same) (y .way)) (p .2),
+    let z = made xs a n m k (p .0) (p .1) in
+    let y = call-goes (m .answer) (m .event .call) f n (m .event .lent) w in (
+      λ r d e h. y .pages (z .0) r d e h,
+      others ms (m .bytes) (m .slots) _ _ (z .1 .1)
+          (subst (λ (g : Names). WaySpared g (noted m n .1 .way)) (under-same (m .event .call) (m .answer) (noted m n .0) f (z .0)) (y .way)) (p .2),
     )
 
 pub demand-3 : Demand3

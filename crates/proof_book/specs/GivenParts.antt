@@ -224,7 +224,8 @@ pub new-fits : (dir : Dir) (b : Buf) (r : EpState) (ls ss : List ℕ) (t : Pages
 unfolding allocated
 new-fits Out b r ls ss t kind maximum base size n e x q held some lost =
     rw (at-same e x (slotTold (emptyOut (t .outs e)) base) (t .outs) q)
-    (empty-out refl refl refl (held (n - 1)) (slotTold (t .outs e) base) lost refl (omega arith) (omega (arith, mul-le-mul-right size some)) ss)
+    (empty-out refl refl refl (held (n - 1)) (slotTold (t .outs e) base)
+    (record { lost = lost; slot = refl; from = omega arith; upto = omega (arith, mul-le-mul-right size some) }) ss)
 new-fits In b r ls ss t kind maximum base size n e x q held some lost =
     rw (at-same e x emptyIn (t .ins) q) (empty-in refl refl refl (held n))
 

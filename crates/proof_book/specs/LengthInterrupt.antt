@@ -1,11 +1,11 @@
 -- The interrupt's script: every packet that arrives has the length that the interrupt's readings tell, else the one by the marks
-use mathlib.Core.Bool.{Bool, true, false, not, cond, _&&_, _||_, true≢false}
+use mathlib.Core.Bool.{Bool, true, false, not, cond, _&&_, _||_, true≢false, and-true, and-false}
 use mathlib.Core.List.{List, [], _∷_, _++_}
 use mathlib.Core.Logic.{_⊎_, inl, inr}
 use mathlib.Core.Path.{_≡_, refl, ap, ap₂, sym, _∙_}
 use Prim.Native.Nat.{ℕ}
 use lib.Dec.{eqb}
-use borrow.Author.Tests.{eqb-true}
+use borrow.Author.Tests.{eqb-true, not-true}
 use Rattle.bits.specs.Walk.{setBits}
 use Rattle.regs.specs.declared.Access.the-variants.{Read}
 use Rattle.regs.specs.declared.Reg.{Reg}
@@ -36,28 +36,7 @@ use Rattle.proof_book.specs.QuietParts.{of-late-walk, of-dispatch, of-ep
 use Rattle.proof_book.specs.QuietParts.{of-masked}
 use Rattle.proof_book.specs.LengthScripts.{Evens, Fixed, Told, t-end, t-ask, told-from, told-bind, told-cond, no-arrival, measures, arrive-fixed}
 use Rattle.proof_book.specs.LengthScripts.{quiet-run}
-
--- ---- Booleans
-
-and-left : (a b : Bool) → (a && b) ≡ true → a ≡ true
-and-left true b h = refl
-and-left false b h = h
-
-and-right : (a b : Bool) → (a && b) ≡ true → b ≡ true
-and-right true b h = h
-and-right false b h = absurd (true≢false (sym h))
-
-and-true : (a : Bool) → (a && true) ≡ a
-and-true true = refl
-and-true false = refl
-
-and-false : (a : Bool) → (a && false) ≡ false
-and-false true = refl
-and-false false = refl
-
-not-true : (a : Bool) → not a ≡ true → a ≡ false
-not-true true h = sym h
-not-true false h = refl
+use Rattle.proof_book.specs.Ins.{left, right}
 
 not-false : (a : Bool) → not a ≡ false → a ≡ true
 not-false true h = refl
@@ -167,10 +146,10 @@ module _ {I : ℕ → Bool} {M : ℕ → ℕ} (even : Evens I M) where
   -- an isochronous OUT's status is the transfer's own
   is-iso : (st e : ℕ) (o n : EpCore) → isOn (o .iso) ≡ I (endpoint st) → arriving st e ≡ true → I e ≡ true → isoFor (token st) o n ≡ true
   unfolding arriving isOut isoFor
-  is-iso st e o n k a i = by (token st) (and-left (outToken (token st)) (eqb (endpoint st) e) a)
+  is-iso st e o n k a i = by (token st) (left (outToken (token st)) (eqb (endpoint st) e) a)
     where
       by : (t : Token) → outToken t ≡ true → isoFor t o n ≡ true
-      by tok.Out h = k ∙ ap I (eqb-true (endpoint st) e (and-right (outToken (token st)) (eqb (endpoint st) e) a)) ∙ i
+      by tok.Out h = k ∙ ap I (eqb-true (endpoint st) e (right (outToken (token st)) (eqb (endpoint st) e) a)) ∙ i
       by tok.Sof h = absurd (true≢false (sym h))
       by tok.In h = absurd (true≢false (sym h))
       by tok.Setup h = absurd (true≢false (sym h))
@@ -232,8 +211,8 @@ module _ {I : ℕ → Bool} {M : ℕ → ℕ} (even : Evens I M) where
 
         by : (u : Bool) → (togOk st && arriving st e) ≡ u → (u && (not (eqb len 0) && arriving now e)) ≡ (same-out && (isoFor (token st) o n && u))
         by true own =
-            let a = and-right (togOk st) (arriving st e) own in
-            let same-number : endpoint st ≡ e = eqb-true (endpoint st) e (and-right (isOut st) (eqb (endpoint st) e) a) in
+            let a = right (togOk st) (arriving st e) own in
+            let same-number : endpoint st ≡ e = eqb-true (endpoint st) e (right (isOut st) (eqb (endpoint st) e) a) in
             ap (λ (f : ℕ). not (eqb len 0) && (isOut now && eqb (endpoint now) f)) (sym same-number)
             ∙ sym (and-true same-out) ∙ ap (λ (u : Bool). same-out && u) (sym (and-true (isoFor (token st) o n) ∙ is-iso st e o n k a i))
         by false own = sym (ap (λ (u : Bool). same-out && u) (and-false (isoFor (token st) o n)) ∙ and-false same-out)
@@ -294,13 +273,13 @@ module _ {I : ℕ → Bool} {M : ℕ → ℕ} (even : Evens I M) where
     unfolding waitsForIso waitsForBulk
     settle-told s h k b =
         told-cond (waitsForIso x₀ o)
-        (λ u. let busy : sieFree m ≡ false = not-true (sieFree m) (and-left (not (sieFree m)) (isOut st && isOn (o .iso)) u) in
+        (λ u. let busy : sieFree m ≡ false = not-true (sieFree m) (left (not (sieFree m)) (isOut st && isOn (o .iso)) u) in
         told-bind (quiet-run even (began-on m st n) (of-looks 2001) s h k b)
         (λ _ t g l c. t-ask (no-arrival refl) l (λ now u l. t-ask (no-arrival refl) l (λ len w l. t-end idle l
         (was-late m st n now len (c .later) [] [] (c .engine) (ap (λ (l : List ℕ). l ++ (now ∷ [])) (c .status)) (ap (λ (l : List ℕ). l ++
         (len ∷ [])) (c .lengths)) busy)))))
         (λ free. told-cond (waitsForBulk x₀ (getB (ep-cell In (endpoint st)) s))
-        (λ u. let busy : not (sieFree m) ≡ true = and-left (not (sieFree m)) _ u in
+        (λ u. let busy : not (sieFree m) ≡ true = left (not (sieFree m)) _ u in
         told-bind (quiet-run even (began-on m st n) (of-looks 2001) s h k b)
         (λ _ t g l c. t-ask (no-arrival refl) l (λ len w l. t-end idle l
         (was-other m st (waited x₀ len) (heads-on m st RxLen 0 len g refl (heads-of c)) (not-true (sieFree m) busy) (others free busy) (inr

@@ -32,17 +32,10 @@ use Rattle.proof_book.specs.Coupling.{Short, Coupling}
 use Rattle.proof_book.specs.Frame.{out-same}
 use Rattle.proof_book.specs.Agrees.{agree}
 use Rattle.proof_book.specs.ReadRoom.{ReadRoom}
-use Rattle.proof_book.specs.FrontPage.{ReadsFirst, written}
+use Rattle.proof_book.specs.FrontPage.{isDone, ReadsFirst, written}
 use Rattle.proof_book.specs.Asides.{reads-first}
 
 -- ---- answers told apart
-
-abbrev isDone : Answer → Bool
-isDone (Refused n) = false
-isDone (End n w) = false
-isDone NotYet = false
-isDone (Done bytes) = true
-isDone (Shown bytes n) = false
 
 abbrev doneBytes : Answer → List ℕ
 doneBytes (Refused n) = []

@@ -1,6 +1,6 @@
 -- The scripts of all calls but the interrupt: `Write IntFg 0 1`, the release of the bus reset's flag, is handed out in a bus reset's row alone,
 -- with none waiting on any endpoint in the book
-use mathlib.Core.Bool.{Bool, true, false, not, _&&_, _||_, true≢false}
+use mathlib.Core.Bool.{Bool, true, false, cond, not, _&&_, _||_, true≢false}
 use mathlib.Core.List.{List, []}
 use mathlib.Core.Path.{_≡_, refl, ap, sym, _∙_}
 use Prim.Native.Nat.{ℕ, zero, suc}
@@ -27,13 +27,14 @@ use Rattle.model.specs.Calls.{BeginAccept, PollAccept, BeginReject, BeginDataOu
 use Rattle.model.specs.Calls.{slotted, other, aside, slottedCode, otherCode, asideCode}
 use Rattle.model.specs.Calls as the-calls
 use Rattle.model.specs.Every.{sameReg}
-use Rattle.model.specs.Steps.{Kind, plain, turning, resetting, giving, queueing, kindOf, codeOf, is, mayAsk, mayPut, mayAct}
+use Rattle.model.specs.Steps.{Kind, plain, moving, turning, resetting, giving, queueing, kindOf, codeOf, is, mayAsk, mayPut, mayAct}
 use Rattle.model.specs.Steps.{mayRow, Asks, Steps}
 use Rattle.model.specs.StepsCalls.{call-steps, start-up-steps}
 use Rattle.model.specs.StepsRunsLaws.{if-true, if-so, Handed, kinds-apart, writes-flag}
 use Rattle.proof_book.specs.Pages.{OutPage, InPage}
 use Rattle.proof_book.specs.Book.{Bk, rowB, handB, bookOps}
 use Rattle.proof_book.specs.BookTracks.{Tracks, end, ask, earlier, tracks-bind}
+use Rattle.proof_book.specs.ActsLaws.{actKind}
 use Rattle.proof_book.specs.BookDecides.{Any}
 pub use Rattle.proof_book.specs.Others.{releases}
 
@@ -41,19 +42,7 @@ pub use Rattle.proof_book.specs.Others.{releases}
 
 -- u: a change of a script that may queue packets; else of one in which the tail may pass packets and endpoints may be emptied
 abbrev pub suits : Bool → Act → Bool
-suits u (complete e) = not u
-suits u (reset-ring d e) = not u
-suits u (set-enabled d e on) = true
-suits u (fill e bytes) = true
-suits u (fill0 bytes) = true
-suits u (open-oldest e) = true
-suits u (close-oldest e) = true
-suits u (take-oldest e) = true
-suits u (enqueue e bytes) = u
-suits u (allocate d kind address maximum interval) = not u
-suits u (allocate0 maximum) = true
-suits u no-wakes = true
-suits u (waken codes) = true
+suits u q = let k = actKind q in cond (is k moving || (is k resetting || is k giving)) (not u) (cond (is k queueing) u true)
 
 pub data InRows (u : Bool) : (A : Type 0) → Script false A → Type 1 where
   r-ret : {A : Type 0} {a : A} → InRows u A (ret a)
@@ -115,17 +104,8 @@ row-cleared (switch e on) zero s h = not-released refl h
 row-cleared (switch e on) (suc zero) s h = not-released refl h
 row-cleared (switch e on) (suc (suc zero)) s h = not-released refl h
 row-cleared (switch e on) (suc (suc (suc n))) s h = not-released refl h
-row-cleared bus-reset zero s h = λ e. record {
-  waiting = refl;
-  opened = refl;
-  admitted = refl;
-  read = refl;
-  waiting-in = refl;
-  sending = refl;
-  queued = refl;
-  sent = refl;
-  passed = refl;
-}
+row-cleared bus-reset zero s h = λ e.
+    record { waiting = refl; opened = refl; admitted = refl; read = refl; waiting-in = refl; sending = refl; queued = refl; sent = refl; passed = refl }
 row-cleared bus-reset (suc zero) s h = not-released refl h
 row-cleared bus-reset (suc (suc zero)) s h = not-released refl h
 row-cleared bus-reset (suc (suc (suc n))) s h = not-released refl h
@@ -216,12 +196,7 @@ of-nak-all (suc n) e = r-bind (r-write refl r-ret) (λ _. r-bind (r-write refl r
 
 -- a write's poll queues a packet
 abbrev pub mayQueue : Slotted → Bool
-mayQueue (SetEnabled dir e onn) = false
-mayQueue (PollRead e n) = false
-mayQueue (BeginWrite e bytes) = false
-mayQueue (PollWrite e bytes) = true
-mayQueue (PollDataOut n) = false
-mayQueue (BeginDataIn bytes first last) = false
+mayQueue o = is (kindOf (slotted o)) queueing
 
 of-kind : (o : Slotted) → is (kindOf (slotted o)) resetting ≡ false → InRows (is (kindOf (slotted o)) queueing) Answer (slottedCode o)
 of-kind o h = in-rows (kindOf (slotted o)) h (slottedCode o) (call-steps (slotted o))

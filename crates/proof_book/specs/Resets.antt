@@ -55,7 +55,7 @@ reset-held {most = most} {b = b} {r = r} {ls = ls} h = record {
 
 -- nor any stamp, whatever its slots have
 pub reset-out : {b : Buf} {r : EpState} {ls ss : List ℕ} {p : OutPage} → OutFits b r ls ss p → (ss′ : List ℕ) → OutFits b (resetOf r) ls ss′ (emptyOut p)
-reset-out {p = p} f ss′ = empty-out refl refl refl (reset-held (f .held)) p (f .lost) (f .slot) (f .from) (f .upto) ss′
+reset-out {p = p} f ss′ = empty-out refl refl refl (reset-held (f .held)) p (record { lost = f .lost; slot = f .slot; from = f .from; upto = f .upto }) ss′
 
 reset-in : {b : Buf} {r : EpState} {ls : List ℕ} {p : InPage} → InFits b r ls p → InFits b (resetOf r) ls emptyIn
 reset-in f = empty-in refl refl refl (reset-held (f .held))

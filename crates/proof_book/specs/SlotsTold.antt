@@ -34,6 +34,7 @@ use Rattle.proof_book.specs.Frame.{at-elim}
 use Rattle.proof_book.specs.FrontPage.{written, addressed, BeforeStart, allocation, allocations}
 use Rattle.proof_book.specs.BookCalls.{Fine}
 use Rattle.proof_book.specs.AnswersLaws.{fed-out}
+use Rattle.proof_book.specs.Refusing.{put-same}
 
 -- ---- each step of a script but an allocation leaves the slots; f: the slots
 
@@ -56,12 +57,7 @@ module _ (f : ℕ → ℕ) (periodic : (x y : ℕ) → x % 16 ≡ y % 16 → f x
   either-of false x y h k = k
 
   puts : (c : Cell) (v : Val c) (s : Bk) → AreIn s → AreIn (putB c v s)
-  puts globals-cell v s k = k
-  puts control-cell v s k = k
-  puts allocator-cell v s k = k
-  puts (ep-cell d e) v s k = k
-  puts (request-cell d e) v s k = k
-  puts (paced-cell e) v s k = k
+  puts c v s k x = ap (λ (p : OutPage). p .slot) (put-same c v s .outs x) ∙ k x
 
   started : (maximum : ℕ) (a : alloc-answer.Answer) (t : Pages) → Are t → Are (startedB maximum a t)
   started maximum (alloc.Refused n) t k = k

@@ -297,19 +297,16 @@ step (begin o) b idle d a idle t a′ f both-idle R h k =
     record { serves = begin-idle (x .0) f t (x .1 .st) o a′ b; stamps = tt }
 step (begin o) b (busy false q j) d a (busy false q′ j′) t a′ f (both-busy i z p g) R h k =
     let x = drive (begin o) (record { way = busy false q j; st = d; buf = a }) b in
-    let y = written (x .0) (begin o) (record { way = busy false q j′; st = t; buf = a′ }) b in
-    record { serves = begin-late (x .0) f t (x .1 .st) o q j′ a′ b (noticed (begin o) (y .0) f); stamps = tt }
+    record { serves = begin-late (x .0) f t (x .1 .st) o q j′ a′ b _; stamps = tt }
 step (begin o) b (busy true q j) d a (busy true q′ j′) t a′ f (both-busy i z p g) R h k =
     let x = drive (begin o) (record { way = busy true q j; st = d; buf = a }) b in
     record { serves = begin-serves (x .0) f q j′ t a′ b (x .1 .st) (serves-on f (busy true q j′) d (x .1 .st) (begin-entered q j d a b o) h) o; stamps = tt }
 step (go v) b idle d a idle t a′ f both-idle R h k =
     let x = drive (go v) (record { way = idle; st = d; buf = a }) b in
-    let y = written (x .0) (go v) (record { way = idle; st = t; buf = a′ }) b in
-    record { serves = go-idle (x .0) f t (x .1 .st) v a′ b (noticed (go v) (y .0) f); stamps = tt }
+    record { serves = go-idle (x .0) f t (x .1 .st) v a′ b _; stamps = tt }
 step (go v) b (busy false q j) d a (busy false q′ j′) t a′ f (both-busy i z p g) R h k =
     let x = drive (go v) (record { way = busy false q j; st = d; buf = a }) b in
-    let y = written (x .0) (go v) (record { way = busy false q j′; st = t; buf = a′ }) b in
-    record { serves = go-plain (x .0) f t (x .1 .st) v q j′ a′ b (noticed (go v) (y .0) f); stamps = tt }
+    record { serves = go-plain (x .0) f t (x .1 .st) v q j′ a′ b _; stamps = tt }
 step (go v) b (busy true q j) d a (busy true q′ j′) t a′ f (both-busy i z p g) R h k =
     let x = drive (go v) (record { way = busy true q j; st = d; buf = a }) b in
     let u = go-serves R b (x .0) v f q j′ h a′ (k .rest) in

@@ -1,5 +1,5 @@
 -- The row that switches an isochronous OUT: none wait from its first step on; each slot armed; the kind, then the enable bit
-use mathlib.Core.Bool.{Bool, true, false, cond, _&&_, true≢false}
+use mathlib.Core.Bool.{Bool, true, false, cond, _&&_, true≢false, and-false}
 use mathlib.Core.List.{List}
 use mathlib.Core.Logic.{_≢_}
 use mathlib.Core.Path.{_≡_, refl, ap, subst, sym, _∙_}
@@ -49,10 +49,6 @@ use Rattle.proof_book.specs.Steps.{RowStep, phase-changed, globals-chang
 use Rattle.proof_book.specs.Resets.{reset-place, reset-out}
 
 -- ---- the endpoint that is switched, and those that are not
-
-and-false : (a : Bool) → (a && false) ≡ false
-and-false true = refl
-and-false false = refl
 
 module _ (e : ℕ) (onn : Bool) (n x : ℕ) (u : Bool) (r : EpState) (p : OutPage) where
   row-here : x % 16 ≡ e % 16 → isOn (r .iso) ≡ true → (eqb (x % 16) (e % 16) && isOn (r .iso)) ≡ true

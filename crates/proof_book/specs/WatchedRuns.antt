@@ -44,6 +44,7 @@ use Rattle.proof_book.specs.FrontPage as page
 use Rattle.proof_book.specs.Watched.{Watch, Seen, armsBy, watchHand, watchRow, watchAct, watched, Stored}
 use Rattle.proof_book.specs.Watched.{TrueLength, noted, LentBy, AllLent, TrueLengths, RunLent, TrueLengthsMade}
 use Rattle.proof_book.specs.WatchedLaws.{Clean, clean-stored, Stays, clean-moved, put-stays, act-stays, clean-armed, true-length}
+use Rattle.model.specs.TransferKinds.{allocates}
 
 abbrev numberOf : DmaStep → ℕ
 numberOf (arrive f n) = f
@@ -87,19 +88,11 @@ module _ (e n : ℕ) (packet : List ℕ) where
   iso-same R R′ h f = sym (R′ .isos f) ∙ ap (λ (g : Globals). isSet (g .«iso_out_eps») (f % 16)) (R′ .same .globals ∙ h ∙ sym (R .same .globals)) ∙ R .isos f
 
   act-watch : (q : Act) (w : Watch) → watchAct q w .armed ≡ true → watchAct q w ≡ w
-  act-watch (complete f) w h = refl
-  act-watch (reset-ring d f) w h = refl
-  act-watch (set-enabled d f onn) w h = refl
-  act-watch (fill f bytes) w h = refl
-  act-watch (fill0 bytes) w h = refl
-  act-watch (open-oldest f) w h = refl
-  act-watch (close-oldest f) w h = refl
-  act-watch (take-oldest f) w h = refl
-  act-watch (enqueue f bytes) w h = refl
-  act-watch (allocate d kind address maximum interval) w h = absurd (true≢false (sym h))
-  act-watch (allocate0 maximum) w h = absurd (true≢false (sym h))
-  act-watch no-wakes w h = refl
-  act-watch (waken codes) w h = refl
+  act-watch q w = by (allocates q)
+    where
+      by : (u : Bool) → cond u (armsBy false w) w .armed ≡ true → cond u (armsBy false w) w ≡ w
+      by true h = absurd (true≢false (sym h))
+      by false h = refl
 
   pub act-claims : (q : Act) (b : Buf) (d : Driver) (t : Pages) (w : Watch) → Coupling quiet b d t → Claim w t b
       → Claim (watchAct q w) (actB q (t, b) .0) (concrete .act q (d, b) .1)

@@ -23,6 +23,7 @@ use Rattle.proof_book.specs.Pages.{Pages}
 use Rattle.proof_book.specs.Book.{book}
 use Rattle.proof_book.specs.FrontPage.{written, Chip, unless, LentAsLeft}
 use Rattle.proof_book.specs.MachineRuns.{Premise}
+pub use Rattle.proof_book.specs.Ins.{left, right}
 
 -- a call, what the chip stores before it, and whether what it comes to is told
 pub record Input : Type 0 where
@@ -49,14 +50,6 @@ eventsOf (i ∷ is) m n =
     e ∷ eventsOf is (x .1) (written (x .0) (e .call) n (e .lent) .1)
 
 -- ---- the premise
-
-pub left : (x y : Bool) → (x && y) ≡ true → x ≡ true
-left true y h = refl
-left false y h = absurd (true≢false (sym h))
-
-pub right : (x y : Bool) → (x && y) ≡ true → y ≡ true
-right true y h = h
-right false y h = absurd (true≢false (sym h))
 
 chip-stores : (t : Pages) (b : Buf) (bytes : List ℕ) → Chip t b (storedIn t b bytes)
 chip-stores t b [] = record { long = refl; others = λ k h. refl }
