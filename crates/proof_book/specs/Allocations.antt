@@ -131,6 +131,9 @@ module _ (c : Config) (b : Buf) (row : startRow c b ≡ 0) where
   unfolding isOn
   off = refl
 
+  plain-new : (dir : Dir) (e : ℕ) → plainOf (epOn D dir e) ≡ plainOf newEp
+  plain-new dir e = ap plainOf (record-new dir e)
+
   -- a start-up that no row stops
   pub fresh-kept : Coupling quiet b D (freshPages c)
   unfolding freshDriver
@@ -146,15 +149,7 @@ module _ (c : Config) (b : Buf) (row : startRow c b ≡ 0) where
     sound = sound-new;
     good = size-good (c .size) (c .count) (rows .1);
     long = rows .0;
-    same = record {
-      globals = refl;
-      wakes = refl;
-      control = refl;
-      allocator = refl;
-      paced = paced-new;
-      requests = request-new;
-      plain = λ dir e. ap plainOf (record-new dir e);
-    };
+    same = record { globals = refl; wakes = refl; control = refl; allocator = refl; paced = paced-new; requests = request-new; plain = plain-new };
     shape = λ dir e. rw (unused-new dir e, record-new dir e) (record { iso = refl; base = refl; stride = refl; slots = refl });
     outs = λ e. rw (record-new Out e)
         (empty-out refl refl refl (held-new 0 Out e) (freshPages c .outs e)

@@ -13,7 +13,7 @@ use Rattle.proof_book.specs.Pages.{OutPage, InPage, Pages, withOut, with
 use Rattle.proof_book.specs.Book.{slotTold, sourceTold, book}
 use Rattle.proof_book.specs.Frame.{at-elim}
 use Rattle.proof_book.specs.FrontPage.{addressed, loading}
-use Rattle.proof_book.specs.Others.{releasing}
+use Rattle.proof_book.specs.Others.{handsOut, releasing}
 use Rattle.proof_book.specs.BookDecides.{sendsTo}
 
 -- ---- but for its address
@@ -44,9 +44,7 @@ tells-same f h a b s = sym (blank-answer f h a) ∙ ap f s ∙ blank-answer f h 
 
 -- whether an access is handed out
 abbrev pub isHanded : Ans Answer → Bool
-isHanded (ended z) = false
-isHanded (handed q) = true
-isHanded (told n) = false
+isHanded a = handsOut (λ q. true) a
 
 pub handed-same : (a b : Ans Answer) → blankA a ≡ blankA b → isHanded a ≡ isHanded b
 handed-same = tells-same isHanded (λ _ _. refl, λ _ _. refl, λ _. refl)
@@ -56,9 +54,7 @@ releasing-same = tells-same releasing (λ _ _. refl, λ _ _. refl, λ _. refl)
 
 -- a transmit address of IN e
 abbrev pub sending : Ans Answer → ℕ → Bool
-sending (ended z) e = false
-sending (handed q) e = sendsTo q e
-sending (told n) e = false
+sending a e = handsOut (λ q. sendsTo q e) a
 
 module _ (e : ℕ) where
   pub addressed-same : (a b : Ans Answer) → blankA a ≡ blankA b → addressed a e ≡ addressed b e

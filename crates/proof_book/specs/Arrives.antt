@@ -391,7 +391,7 @@ placed-fits : {b : Buf} {r : EpState} {ls ss : List ℕ} {p : OutPage} → OutFi
 unfolding armedAt
 placed-fits {r = r} {p = p} f =
     let k = armed-alike r (r .base) in
-    fits-alike k f refl (p .opened) (r .base) (f .opened) (λ h. omega (arith, f .shows h, alike-count k))
+    fits-alike k f refl (p .opened) (r .base) (record { opened = f .opened; shows = λ h. omega (arith, f .shows h, alike-count k) })
     (record { lost = f .lost; slot = refl; from = omega arith; upto = omega (arith, f .from, f .upto) })
 
 module _ {b : Buf} {d : Driver} {t : Pages} (R : Coupling quiet b d t) (e : ℕ) where

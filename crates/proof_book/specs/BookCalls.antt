@@ -29,6 +29,7 @@ use Rattle.proof_book.specs.BookCounts.{Periodic, Followed, follow}
 use Rattle.proof_book.specs.Releases.{Clears, clears, of-slotted, of-other, of-aside, of-starting}
 use Rattle.proof_book.specs.Refusing.{isNo, Tells, t-ask, call-tells, start-tells}
 use Rattle.proof_book.specs.BookDecides.{isReceive, numberIn, Watched, watch}
+use Rattle.proof_book.specs.Others.{handsOut}
 use Rattle.proof_book.specs.AnswersLaws.{tells-same, addressed-same, fed-elim, fed-out}
 
 -- ---- what is under way
@@ -181,9 +182,7 @@ module _ (a : Ans Answer) where
 -- ---- the count
 
 abbrev receives : Ans Answer → Bool
-receives (ended z) = false
-receives (handed q) = isReceive q
-receives (told n) = false
+receives a = handsOut isReceive a
 
 abbrev number : Ans Answer → ℕ
 number (ended z) = 0

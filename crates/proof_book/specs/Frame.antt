@@ -39,6 +39,7 @@ use Rattle.proof_book.specs.Lens.{ep-clear, lens-clear, stamps-clear-oth
 use Rattle.proof_book.specs.KeptLaws.{Values, valuesOf, same-tables}
 use Rattle.proof_book.specs.Coupling.{SameKept, endOf, Shape, Apart, ep0Room, lensOf, slotStamps, Held, OutFits}
 use Rattle.proof_book.specs.Coupling.{InFits, Stands, InRow, Arming, Step, Coupling}
+use Rattle.proof_book.specs.Book.{withSending}
 
 -- ---- one endpoint's record, lengths and stamps changed, its buffers where they were
 
@@ -238,6 +239,20 @@ flag-some false l h q = absurd (true≢false (sym q))
 pub sending-count : {b : Buf} {r : EpState} {ls : List ℕ} {p : InPage} → InFits b r ls p → p .sending ≡ true → 0 < countOf r
 sending-count {r = r} {p = p} f s = f .sends (flag-some (p .sending) (r .loaded) (f .loaded) s)
 
+-- the same packets, in a buffer where they stand; whether the last address is a load's is free
+pub in-again : {b b′ : Buf} {r : EpState} {ls : List ℕ} {p : InPage} → InFits b r ls p → (l : Bool) → Held (r .slots) b′ r ls (p .waiting)
+    → let p′ = withSending p (p .sending) l (p .source) (p .shown) in Stands b′ r p′ → InFits b′ r ls p′
+in-again f l held stands = record {
+  held = held;
+  ringless = f .ringless;
+  loaded = f .loaded;
+  sends = f .sends;
+  turn = f .turn;
+  ledger = f .ledger;
+  reached = f .reached;
+  stands = stands;
+}
+
 -- ---- the buffer changed, away from those that wait
 
 module _ {b b′ : Buf} {r : EpState} {ls : List ℕ} (long : length b′ ≡ length b) (w : waiting b′ r ls ≡ waiting b r ls) where
@@ -259,19 +274,10 @@ module _ {b b′ : Buf} {r : EpState} {ls : List ℕ} (long : length b′ ≡ le
   }
 
   pub in-bytes : {p : InPage} → (0 < countOf r → Same (slotAddr r (r .tail)) (slotAddr r (r .tail) + r .stride) b b′) → InFits b r ls p → InFits b′ r ls p
-  in-bytes s h = record {
-    held = held-bytes (h .held);
-    ringless = h .ringless;
-    loaded = h .loaded;
-    sends = h .sends;
-    turn = h .turn;
-    ledger = h .ledger;
-    reached = h .reached;
-    stands = record {
-      slot = h .stands .slot;
-      bytes = λ q k l u. s (sending-count h q) k (omega (arith, h .stands .slot q)) (omega (arith, h .stands .slot q)) ∙ h .stands .bytes q k l u;
-    };
-  }
+  in-bytes {p} s h = in-again h (p .load) (held-bytes (h .held)) (record {
+    slot = h .stands .slot;
+    bytes = λ q k l u. s (sending-count h q) k (omega (arith, h .stands .slot q)) (omega (arith, h .stands .slot q)) ∙ h .stands .bytes q k l u;
+  })
 
 pub out-moved : {b : Buf} {r r′ : EpState} {ls ls′ ss ss′ : List ℕ} {p : OutPage} → r′ ≡ r → ls′ ≡ ls → ss′ ≡ ss → OutFits b r ls ss p → OutFits b r′ ls′ ss′ p
 out-moved {b} {r} {r′} {ls} {ls′} {ss} {ss′} {p} h k l f =

@@ -32,7 +32,7 @@ use Rattle.proof_book.specs.Pages.{Packet, bytesOf, stampsOf, OutPage, I
 use Rattle.proof_book.specs.Book.{isoOf, receiving, front, slotTold, book}
 use Rattle.proof_book.specs.Stamps.{stamped}
 use Rattle.proof_book.specs.Lengths.{Known, learnt, lengthAt}
-use Rattle.proof_book.specs.Others.{releasing, Names, underWay, callNames, Away, SamePage}
+use Rattle.proof_book.specs.Others.{handsOut, releasing, Names, underWay, callNames, Away, SamePage}
 
 -- ---- a list of calls
 
@@ -217,9 +217,7 @@ givesTo (Wait n) e = false
 givesTo Callback e = false
 
 abbrev pub addressed : Ans Answer → ℕ → Bool
-addressed (ended z) e = false
-addressed (handed q) e = givesTo q e
-addressed (told k) e = false
+addressed a e = handsOut (λ q. givesTo q e) a
 
 -- an OUT's page is as before but for its slot, that of the last receive address
 abbrev pub SamePackets : OutPage → OutPage → Type 0
@@ -241,9 +239,7 @@ loads (Wait n) e = false
 loads Callback e = false
 
 abbrev pub loading : Ans Answer → ℕ → Bool
-loading (ended z) e = false
-loading (handed q) e = loads q e
-loading (told k) e = false
+loading a e = handsOut (λ q. loads q e) a
 
 -- "Load: what the Rust's tail passes waits no more": the one being sent may pass; all others wait on, and none is queued
 pub record PassesOn (p p′ : InPage) : Type 0 where

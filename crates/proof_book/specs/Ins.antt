@@ -43,7 +43,7 @@ use Rattle.proof_book.specs.Coupling.{Used, Shape, lensOf, Held, Stands,
 use Rattle.proof_book.specs.Lens.{lens-on, lens-set, ep-len}
 use Rattle.proof_book.specs.Frame.{changed-not, changed-on, changed-len, changed-trans, in-same, in-twice}
 use Rattle.proof_book.specs.Frame.{kept-same, in-moved, in-changed, only-bytes, alike-tail, none-stands}
-use Rattle.proof_book.specs.Frame.{sending-count}
+use Rattle.proof_book.specs.Frame.{sending-count, in-again}
 use Rattle.proof_book.specs.EmptyPagesLaws.{empty-in}
 use Rattle.proof_book.specs.Lies as in-buffer
 use Rattle.proof_book.specs.Held.{IsAgrees, LookAgrees, ActAgrees, HandAgrees, held-some, held-length, held-next, waits-count}
@@ -383,16 +383,7 @@ loaded-plain r = refl
 
 -- an address that sends nothing
 place-fits : {b : Buf} {r : EpState} {ls : List ℕ} {p : InPage} → InFits b r ls p → InFits b r ls (placedIn p)
-place-fits f = record {
-  held = f .held;
-  ringless = f .ringless;
-  loaded = f .loaded;
-  sends = f .sends;
-  turn = f .turn;
-  ledger = f .ledger;
-  reached = f .reached;
-  stands = record { slot = f .stands .slot; bytes = f .stands .bytes };
-}
+place-fits f = in-again f false (f .held) (record { slot = f .stands .slot; bytes = f .stands .bytes })
 
 -- the address told after the page changed
 told-in : (t : Pages) (e x : ℕ) (q : InPage) → feedB (Transmit e x) (withIn t e q) ≡ withIn t e (sourceTold q x)

@@ -64,13 +64,19 @@ unfolding looks
 of-looks zero = search apart
 of-looks (suc n) = p-bind (p-read (λ v. p-ret)) (λ m. p-test p-ret (of-looks n))
 
+-- a walk over endpoints, from what is done at one
+of-walk : (w : List ℕ → Script true Unit) (one : ℕ → Script true Unit) → Parts Unit (w [])
+    → ((e : ℕ) (es : List ℕ) → Parts Unit (bind (one e) (λ _. w es)) → Parts Unit (w (e ∷ es)))
+    → ((e : ℕ) → Parts Unit (one e)) → (es : List ℕ) → Parts Unit (w es)
+of-walk w one h g p [] = h
+of-walk w one h g p (e ∷ es) = g e es (p-bind (p e) (λ _. of-walk w one h g p es))
+
 of-sof-one : (frame e : ℕ) → Parts Unit (sofOne {i = true} frame e)
 of-sof-one frame e = search apart depth 30
 
 of-sof-walk : (frame : ℕ) (es : List ℕ) → Parts Unit (sofWalk {i = true} frame es)
 unfolding sofWalk
-of-sof-walk frame [] = search apart
-of-sof-walk frame (e ∷ es) = p-bind (of-sof-one frame e) (λ _. of-sof-walk frame es)
+of-sof-walk frame = of-walk (sofWalk frame) (sofOne frame) p-ret (λ e es x. x) (of-sof-one frame)
 
 of-sof : (frame : ℕ) → Parts Unit (onSof {i = true} frame)
 of-sof frame = search (of-sof-walk, apart) depth 30
@@ -80,16 +86,14 @@ of-late-one frame e = search apart depth 30
 
 of-late-walk : (frame : ℕ) (es : List ℕ) → Parts Unit (lateWalk {i = true} frame es)
 unfolding lateWalk
-of-late-walk frame [] = search apart
-of-late-walk frame (e ∷ es) = p-bind (of-late-one frame e) (λ _. of-late-walk frame es)
+of-late-walk frame = of-walk (lateWalk frame) (lateOne frame) p-ret (λ e es x. x) (of-late-one frame)
 
 of-check-one : (y : Transfer) (iso : Bool) (e : ℕ) → Parts Unit (checkOne {i = true} y iso e)
 of-check-one y iso e = search apart depth 30
 
 of-check-walk : (y : Transfer) (iso : Bool) (es : List ℕ) → Parts Unit (checkWalk {i = true} y iso es)
 unfolding checkWalk
-of-check-walk y iso [] = search apart
-of-check-walk y iso (e ∷ es) = p-bind (of-check-one y iso e) (λ _. of-check-walk y iso es)
+of-check-walk y iso = of-walk (checkWalk y iso) (checkOne y iso) p-ret (λ e es x. x) (of-check-one y iso)
 
 of-toggled : (dir : Dir) (e : ℕ) → Parts Bool (toggled {i = true} dir e)
 of-toggled dir e = search (of-looks, apart) depth 30

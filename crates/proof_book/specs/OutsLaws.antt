@@ -32,7 +32,7 @@ use Rattle.proof_book.specs.StampsLaws.{alike-stamps, close-stamps}
 use Rattle.proof_book.specs.Frame.{changed-not, changed-on, kept-same, out-changed, out-moved}
 use Rattle.proof_book.specs.Held.{IsAgrees, LookAgrees, FetchAgrees, ActAgrees, held-some, waits-count, held-next}
 use Rattle.proof_book.specs.Held.{held-first, held-stamp, receives, plain-receives}
-use Rattle.proof_book.specs.EmptyPagesLaws.{Seat, empty-out}
+use Rattle.proof_book.specs.EmptyPagesLaws.{Seat, Shown, empty-out}
 use Rattle.proof_book.specs.Outs.{Inner}
 
 -- ---- what is asked
@@ -99,8 +99,8 @@ abbrev pub shownAs : OutPage → Bool → ℕ → OutPage
 shownAs p o x = record { waiting = p .waiting; opened = o; lost = p .lost; slot = x; admitted = p .admitted; read = p .read }
 
 pub fits-alike : {b : Buf} {r r′ : EpState} {ls ss : List ℕ} {p : OutPage} → Alike r r′ → OutFits b r ls ss p → r′ .«max_len» ≡ r .«max_len»
-    → (o : Bool) (x : ℕ) → r′ .«open» ≡ flag o → Shows r′ → Seat r′ (shownAs p o x) → OutFits b r′ ls ss (shownAs p o x)
-fits-alike {b} {ls = ls} {ss = ss} {p = p} k f m o x opened shows z = record {
+    → (o : Bool) (x : ℕ) → Shown r′ o → Seat r′ (shownAs p o x) → OutFits b r′ ls ss (shownAs p o x)
+fits-alike {b} {ls = ls} {ss = ss} {p = p} k f m o x s z = record {
   held = record {
     placed = place-placed (k .place) (f .held .placed);
     ring = alike-out k (f .held .ring);
@@ -108,8 +108,8 @@ fits-alike {b} {ls = ls} {ss = ss} {p = p} k f m o x opened shows z = record {
     waits = alike-waits k b ls (f .held .ring .tail8) ∙ f .held .waits;
   };
   stamps = alike-stamps k ss (f .held .ring .tail8) ∙ f .stamps;
-  opened = opened;
-  shows = shows;
+  opened = s .opened;
+  shows = s .shows;
   lost = z .lost;
   slot = z .slot;
   from = z .from;
@@ -127,7 +127,7 @@ open-inner r = record { place = record { base = refl; stride = refl; slots = ref
 module _ {b : Buf} {r : EpState} {ls ss : List ℕ} {p : OutPage} (f : OutFits b r ls ss p) (w : hasWaiting r ≡ true) where
   open-fits : OutFits b (openedOf r) ls ss (openOut p)
   unfolding openedOf
-  open-fits = fits-alike (opened-alike r) f refl true (p .slot) refl (opened-shows r (waits-count r w))
+  open-fits = fits-alike (opened-alike r) f refl true (p .slot) (record { opened = refl; shows = opened-shows r (waits-count r w) })
       (record { lost = f .lost; slot = f .slot; from = f .from; upto = f .upto })
 
   open-rest : {u : Bool} → AtRest u r p → AtRest u (openedOf r) (openOut p)
