@@ -1,7 +1,7 @@
 -- The begin of an advance changes no page of an IN: its completions come after its first access
 use mathlib.Core.Bool.{Bool, true, false}
 use mathlib.Core.List.{List}
-use mathlib.Core.Path.{_≡_, refl, ap, subst, sym, _∙_}
+use mathlib.Core.Path.{_≡_, refl, subst, sym, _∙_}
 use Prim.Native.Nat.{ℕ}
 use Rattle.regs.specs.declared.Reg.{Reg}
 use Rattle.model.specs.Tree as tree

@@ -6,7 +6,7 @@ use mathlib.Core.Path.{_≡_, refl, ap, ap₂, subst, sym, _∙_}
 use Prim.Native.Nat.{ℕ, zero, suc, _+_, _%_, _≤_}
 use native.Mathlib.Omega.{arith}
 use lib.Dec.{eqb, ltb}
-use borrow.Author.Tests.{ltb-true, ltb-false, eq-eqb}
+use borrow.Author.Tests.{ltb-true, ltb-false}
 use lib.ListN.{length, take, drop}
 use Rattle.regs.specs.declared.Access.{Access}
 use Rattle.regs.specs.declared.Access.the-variants.{Read, Write, Receive, Transmit, Ep0Dma, Wait, Callback}
@@ -20,7 +20,7 @@ use Rattle.model.specs.Machine.{Buf, Call, start, begin, go, question, Ans, end
 use Rattle.model.specs.Machine.{idle, busy, Machine, over, misfit, stay, lentTo, beside, halt, begun, continued}
 use Rattle.model.specs.Machine.{started, fed}
 use Rattle.proof_book.specs.Pages.{Packet, OutPage, Pages}
-use Rattle.proof_book.specs.Book.{Bk, receiving, slotTold, arrived, joined, overrun, feedB, freshPages, bookOps, book}
+use Rattle.proof_book.specs.Book.{Bk, receiving, slotTold, arrived, joined, overrun, freshPages, bookOps, book}
 use Rattle.proof_book.specs.Frame.{at-elim}
 use Rattle.proof_book.specs.FrontPage.{written, inInterrupt, Decides, Decided, admitted, turned-away, Counted, same, one-more, none, addressed}
 use Rattle.proof_book.specs.BookTracks.{end, ask}

@@ -5,7 +5,6 @@ use mathlib.Core.Path.{_≡_, refl, ap, subst, sym, _∙_}
 use Prim.Native.Nat.{ℕ}
 use lib.Dec.{eqb}
 use Rattle.regs.specs.declared.Access.{Access}
-use Rattle.regs.specs.declared.Access.the-variants.{Read, Write, Receive, Transmit, Ep0Dma, Wait, Callback}
 use Rattle.regs.specs.declared.Dir.{Dir}
 use Rattle.regs.specs.declared.Dir.the-variants.{Out, In}
 use Rattle.model.specs.Tree as tree
@@ -13,7 +12,7 @@ use Rattle.model.specs.Tree.{ends, asks}
 use Rattle.model.specs.Script.{run}
 use Rattle.model.specs.Answers.{Answer}
 use Rattle.model.specs.Calls.{Config, Op, interrupt, slotted, other, aside, calls, code}
-use Rattle.model.specs.Machine.{Buf, Call, begin, go, Ans, ended, handed, told, blankA, Way, idle, busy, Machine, over}
+use Rattle.model.specs.Machine.{Buf, Call, begin, go, Ans, blankA, Way, idle, busy, Machine, over}
 use Rattle.model.specs.Machine.{misfit, stay, lentTo, beside, halt, begun, continued, fed}
 use Rattle.proof_book.specs.Pages.{Pages}
 use Rattle.proof_book.specs.Book.{Bk, bookOps, book}

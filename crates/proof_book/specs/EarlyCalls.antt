@@ -9,7 +9,7 @@ use Rattle.model.specs.Tree.{ends, asks}
 use Rattle.model.specs.Script.{run}
 use Rattle.model.specs.Answers.{Answer, Refused}
 use Rattle.model.specs.Calls.{Config, Op, other, calls, code, starting, startRow}
-use Rattle.model.specs.Machine.{Buf, Call, start, begin, go, question, pending, Ans, ended, handed, told, Way, idle, busy, Machine}
+use Rattle.model.specs.Machine.{Buf, Call, start, begin, go, question, pending, Ans, Way, idle, busy, Machine}
 use Rattle.model.specs.Machine.{over, misfit, stay, lentTo, beside, halt, begun, continued, started, fed}
 use Rattle.proof_book.specs.Pages.{Kept, Pages}
 use Rattle.proof_book.specs.Book.{Bk, freshPages, bookOps, book}

@@ -4,7 +4,6 @@ use mathlib.Core.Path.{_≡_, refl, ap, subst, sym, _∙_}
 use Prim.Native.Nat.{ℕ, _%_}
 use lib.Dec.{eqb}
 use Rattle.regs.specs.declared.Access.{Access}
-use Rattle.regs.specs.declared.Access.the-variants.{Read, Write, Receive, Transmit, Ep0Dma, Wait, Callback}
 use Rattle.regs.specs.declared.Dir.{Dir}
 use Rattle.regs.specs.declared.Dir.the-variants.{Out, In}
 use Rattle.model.specs.Tree as tree
@@ -14,7 +13,7 @@ use Rattle.model.specs.Statics.{isOn, wake}
 use Rattle.model.specs.Answers.{Answer, Refused, End, isAllocated}
 use Rattle.model.specs.Bus as bus
 use Rattle.model.specs.Calls.{Config, Op, slotted, SetEnabled, setEnabled, calls}
-use Rattle.model.specs.Machine.{Buf, Call, begin, Ans, ended, handed, told, blankA, Way, idle, busy, Machine, misfit, stay, halt, begun, fed}
+use Rattle.model.specs.Machine.{Buf, Call, begin, Ans, handed, blankA, Way, idle, busy, Machine, misfit, stay, halt, begun, fed}
 use Rattle.proof_book.specs.Pages.{OutPage, InPage, Pages, withOut, withIn}
 use Rattle.proof_book.specs.Book.{Bk, isoOf, emptyOut, emptyIn, placedIn, sourceTold, actB, bookOps, book}
 use Rattle.proof_book.specs.Frame.{at-elim, out-same, in-same}

@@ -1,5 +1,5 @@
 -- What an accepted allocation changes, part by part: the allocator, the endpoint's record, the sets of endpoints, its page
-use mathlib.Core.Bool.{Bool, true, false, cond, true≢false}
+use mathlib.Core.Bool.{Bool, true, false, cond}
 use mathlib.Core.List.{List, []}
 use mathlib.Core.Logic.{_≢_}
 use mathlib.Core.Path.{_≡_, refl, ap, subst, sym, _∙_}

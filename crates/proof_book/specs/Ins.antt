@@ -24,7 +24,7 @@ use Rattle.ring.specs.Window.{window-is, only-apart}
 use Rattle.ring.specs.Slots.{slot-is, slot-in, slot-lies, slot-upto, slots-apart}
 use Rattle.ring.specs.Laws.{place-placed, place-trans, place-addr, head-away, alike-count, alike-waits, alike-in}
 use Rattle.ring.specs.Laws.{waiting-length, waiting-head, slot-region, join-place, join-count, join-waits, join-ring}
-use Rattle.ring.specs.Laws.{reset-count, reset-waits, reset-ring, first-part}
+use Rattle.ring.specs.Laws.{reset-waits, reset-ring, first-part}
 use Rattle.ring.specs.InLaws as ring-in
 use Rattle.marks.specs.Copies.{copied}
 use Rattle.marks.specs.OnlyLaws as marks-laws

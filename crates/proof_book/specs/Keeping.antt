@@ -13,8 +13,7 @@ use Rattle.model.specs.Tree.{ends, asks, bindOut}
 use Rattle.model.specs.Cells.{Cell, Val, globals-cell, control-cell, allocator-cell, ep-cell, request-cell, paced-cell}
 use Rattle.model.specs.Script.{Script, ret, bind, test, read-then, write-then, wait-then, callback-then, get-then}
 use Rattle.model.specs.Script.{put-then, is-then, look-then, fetch-then, act-then, hand-then, row-then, run, get, Act}
-use Rattle.model.specs.Script.{complete, reset-ring, set-enabled, fill, fill0, open-oldest, close-oldest, take-oldest}
-use Rattle.model.specs.Script.{enqueue, allocate, allocate0, no-wakes, waken, DmaStep}
+use Rattle.model.specs.Script.{DmaStep}
 use Rattle.model.specs.TransferKinds.{allocates}
 use Rattle.model_ops.specs.Rings.{St}
 use Rattle.model_ops.specs.Concrete.{concrete}

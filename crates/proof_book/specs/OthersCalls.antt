@@ -1,11 +1,10 @@
 -- A call leaves the pages of the endpoints that it does not name, over every list of calls
-use mathlib.Core.Bool.{Bool, true, false, cond, true≢false}
+use mathlib.Core.Bool.{Bool, true, false, cond}
 use mathlib.Core.Path.{_≡_, refl, ap, subst, sym, _∙_}
-use Prim.Native.Nat.{ℕ, zero, suc, _%_}
+use Prim.Native.Nat.{ℕ, zero, suc}
 use lib.Dec.{eqb}
-use borrow.Author.Tests.{eq-eqb}
 use Rattle.regs.specs.declared.Access.{Access}
-use Rattle.regs.specs.declared.Access.the-variants.{Read, Write, Receive, Transmit, Ep0Dma, Wait, Callback}
+use Rattle.regs.specs.declared.Access.the-variants.{Read}
 use Rattle.regs.specs.declared.Reg.the-variants.{FrameNo}
 use Rattle.regs.specs.declared.Dir.{Dir}
 use Rattle.regs.specs.declared.Dir.the-variants.{Out, In}
@@ -14,12 +13,11 @@ use Rattle.model.specs.Tree.{ends, asks}
 use Rattle.model.specs.Script.{run, no-wakes}
 use Rattle.model.specs.Answers.{Answer, Refused}
 use Rattle.model.specs.Calls.{Config, Op, interrupt, slotted, other, aside, calls, code, starting, startRow}
-use Rattle.model.specs.Machine.{Buf, Call, start, begin, go, question, Ans, ended, handed, told, blankA, Way, idle}
+use Rattle.model.specs.Machine.{Buf, Call, start, begin, go, question, Ans, handed, blankA, Way, idle}
 use Rattle.model.specs.Machine.{busy, Machine, over, misfit, stay, lentTo, beside, halt, begun, continued, started, fed}
-use Rattle.proof_book.specs.Pages.{OutPage, InPage, Pages}
-use Rattle.proof_book.specs.Book.{Bk, slotTold, sourceTold, actB, freshPages, bookOps, book}
-use Rattle.proof_book.specs.Frame.{at-elim}
-use Rattle.proof_book.specs.FrontPage.{written, addressed}
+use Rattle.proof_book.specs.Pages.{Pages}
+use Rattle.proof_book.specs.Book.{Bk, actB, freshPages, bookOps, book}
+use Rattle.proof_book.specs.FrontPage.{written}
 use Rattle.proof_book.specs.Others.{releasing, Names, none, opNames, onNames, slottedNames, otherNames, asideNames, underWay}
 use Rattle.proof_book.specs.Others.{callNames, Away, SamePage}
 use Rattle.proof_book.specs.BookTracks.{end, ask}

@@ -2,7 +2,7 @@
 use mathlib.Core.Bool.{Bool, true, false, not, cond, true≢false}
 use mathlib.Core.List.{List, [], _∷_, _++_, map, tail, append-assoc}
 use mathlib.Core.Path.{_≡_, refl, ap, subst, sym, _∙_}
-use Prim.Native.Nat.{ℕ, _+_, _-_, _%_, _^_, _≤_, _<_}
+use Prim.Native.Nat.{ℕ, _-_, _<_}
 use native.Mathlib.Omega.{arith}
 use lib.Dec.{eqb}
 use borrow.Author.Tests.{not-true}
@@ -26,7 +26,7 @@ use Rattle.model_ops.specs.Records.{plainOf, isoOut}
 use Rattle.model_ops.specs.Rings.{changedOn, markedOn, waitingOn, openedOn, oldestAt, oldestOn, emptied, emptiedOn, openOn, closeOn, takeOn}
 use Rattle.proof_book.specs.Pages.{Packet, bytesOf, OutPage, Pages, withOut}
 use Rattle.proof_book.specs.Book.{some, front, isoOf, openOut, readOut, emptyOut}
-use Rattle.proof_book.specs.Coupling.{Short, lensOf, slotStamps, OutFits, AtRest, Coupling, endOf}
+use Rattle.proof_book.specs.Coupling.{Short, lensOf, slotStamps, OutFits, AtRest, Coupling}
 use Rattle.proof_book.specs.Lens.{lens-on, stamps-on}
 use Rattle.proof_book.specs.StampsLaws.{alike-stamps, close-stamps}
 use Rattle.proof_book.specs.Frame.{changed-not, changed-on, kept-same, out-changed, out-moved}

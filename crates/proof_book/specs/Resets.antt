@@ -33,7 +33,6 @@ use Rattle.proof_book.specs.Pages.{OutPage, InPage, Pages}
 use Rattle.proof_book.specs.Book.{emptyOut, emptyIn, allReset}
 use Rattle.proof_book.specs.Coupling.{SameKept, lensOf, slotStamps, Held, OutFits, InFits, Coupling}
 use Rattle.proof_book.specs.Lens.{ep-mod, key-other}
-use Rattle.proof_book.specs.StampsLaws.{none-stamps}
 use Rattle.proof_book.specs.Frame.{Rest, restOf, Keeps, rebuilt, changed-on, out-moved, in-moved}
 use Rattle.proof_book.specs.EmptyPagesLaws.{empty-out, empty-in}
 use Rattle.proof_book.specs.Chips.{armed-or}

@@ -10,7 +10,7 @@ use Rattle.alloc.specs.declared.Answer.the-variants as alloc
 use Rattle.alloc.specs.Alloc.{allocateEp0Of}
 use Rattle.model.specs.Tree as tree
 use Rattle.model.specs.Tree.{ends, asks}
-use Rattle.model.specs.Cells.{Cell, Val, globals-cell, control-cell, allocator-cell, ep-cell, request-cell, paced-cell}
+use Rattle.model.specs.Cells.{Cell, Val}
 use Rattle.model.specs.Script.{run, Act, complete, reset-ring, set-enabled, fill, fill0, open-oldest, close-oldest}
 use Rattle.model.specs.Script.{take-oldest, enqueue, allocate, allocate0, no-wakes, waken, DmaStep, arrive, send, place}
 use Rattle.model.specs.Script.{place0, Burst, switch, bus-reset}

@@ -10,7 +10,6 @@ use borrow.Author.Tests.{eqb-true}
 use lib.Dec.{eqb}
 use lib.ListN.{length, getD}
 use Rattle.le_bytes.specs.Tables.{tab}
-use Rattle.regs.specs.declared.Access.the-variants.{Read, Write, Receive, Transmit, Ep0Dma, Wait, Callback}
 use Rattle.regs.specs.declared.Dir.the-variants.{Out}
 use Rattle.frame.specs.Usb20.{indexOf}
 use Rattle.state.specs.declared.Globals.{Globals}
@@ -22,7 +21,7 @@ use Rattle.model.specs.Simulates.{Phase}
 use Rattle.model.specs.Answers.{Answer, Refused, resultless}
 use Rattle.model.specs.Calls.{Config, Op, interrupt, slotted, other, aside, Aside, asideCode, code, calls, startRow, interruptCode}
 use Rattle.model.specs.Handler.{onInterrupt, stampedInterrupt}
-use Rattle.model.specs.Machine.{Buf, Call, start, begin, go, question, Event, Ans, ended, handed, told, Awaits, awaited}
+use Rattle.model.specs.Machine.{Buf, Call, start, begin, go, question, Event, Ans, Awaits, awaited}
 use Rattle.model.specs.Machine.{Way, idle, busy, Machine, fed, blankA, over, misfit, stay, lentTo, beside, halt, begun}
 use Rattle.model.specs.Machine.{started}
 use Rattle.model.specs.Agree.{Ways, both-idle, both-busy, After, agrees, from-start}

@@ -17,8 +17,8 @@ use Rattle.ring.specs.Out.{cappedAt}
 use Rattle.marks.specs.Marks.{armed}
 use Rattle.model.specs.Answers.{Answer}
 use Rattle.model.specs.Cells.{EpCore}
-use Rattle.model.specs.Script.{Act, complete, reset-ring, set-enabled, fill, fill0, open-oldest, close-oldest}
-use Rattle.model.specs.Script.{take-oldest, enqueue, allocate, allocate0, no-wakes, waken, DmaStep, arrive, send, place}
+use Rattle.model.specs.Script.{Act}
+use Rattle.model.specs.Script.{DmaStep, arrive, send, place}
 use Rattle.model.specs.Script.{place0, dmaStepAsk, Burst, switch, bus-reset, burstAsk, lastOf}
 use Rattle.model.specs.Simulates.{Phase, quiet}
 use Rattle.model.specs.Statics.{isOn, isoOuts, renewed}
