@@ -139,7 +139,8 @@ module _ (x : Ans Answer) where
         maxima = M;
         even = even;
         fixed = fixed;
-        goes = λ v u l. subst (λ (h : Readings). Told I M Any h u (k v u)) (sym (blank-access (λ p. bringing p v h) (λ _ _. refl, λ _ _. refl, λ _. refl) q)) (g v u l);
+        goes = λ v u l. subst (λ (h : Readings). Told I M Any h u (k v u))
+            (sym (blank-access (λ p. bringing p v h) (λ _ _. refl, λ _ _. refl, λ _. refl) q)) (g v u l);
       }))
 
   module _ (f : Known) (t : Pages) (r : Regular t) (c b : Buf) where

@@ -180,7 +180,8 @@ module _ {φ ψ : Phase} {c c′ : Buf} {d d′ : Driver} {t : Pages} (R : Coupl
       → let y = halt calls (book .driver) (fed book x) true o in Coupling ψ c′ d′ (y .1 .st) → Went f n t d d′ y
   went w e (ends-so s k p) R′ = record { serves = tt; more = none-more f R R′ s }
   went w e (asks-so {q = q} {t = u} {k = g} j k h) R′ =
-      let i : d′ .globals .entered ≡ indexOf w = ap (λ (g : Globals). g .entered) (R′ .same .globals) ∙ ap (λ (k : book-of.Kept). k .globals .entered) (fed-kept x (u .0)) ∙ k in
+      let i : d′ .globals .entered ≡ indexOf w
+      = ap (λ (g : Globals). g .entered) (R′ .same .globals) ∙ ap (λ (k : book-of.Kept). k .globals .entered) (fed-kept x (u .0)) ∙ k in
       record {
         serves = subst (λ y. Serves y (busy true (awaited q) g) d′) (sym e) (i, h);
         more = subst (λ y. OneMore y d d′) (sym e) (one-more w R R′ (fed-joins (indexOf w) t (u .0) (even-of R) j x));
