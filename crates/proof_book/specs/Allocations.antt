@@ -1,4 +1,4 @@
--- Allocation, EP0's start, enabling and start-up agree
+-- A start-up agrees: driver and book begin alike
 use mathlib.Core.Bool.{Bool, true, false, cond, not, true≢false}
 use mathlib.Core.List.{[]}
 use mathlib.Core.Logic.{_≢_, inl}

@@ -1,4 +1,4 @@
--- Laws on the definitions of Allocations.antt
+-- Allocation, EP0's start and enabling agree
 use mathlib.Core.Bool.{Bool, true, false, cond}
 use mathlib.Core.Logic.{inr}
 use mathlib.Core.Path.{_≡_, refl, ap, subst, sym, _∙_}

@@ -42,8 +42,7 @@ use Rattle.proof_book.specs.Frame.{Changed, changed-not, changed-on, cha
 use Rattle.proof_book.specs.Frame.{kept-same, end-kept, out-changed, out-moved, out-same, out-twice, only-bytes}
 use Rattle.proof_book.specs.Held.{HandAgrees, receives, receives-used, receives-slots, good-words}
 use Rattle.proof_book.specs.Lies.{received-lies}
-use Rattle.proof_book.specs.Outs.{Inner}
-use Rattle.proof_book.specs.OutsLaws.{out-on, out-page, fits-alike}
+use Rattle.proof_book.specs.OutsLaws.{Inner, out-on, out-page, fits-alike}
 
 -- ---- the record
 

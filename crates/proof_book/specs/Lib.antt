@@ -19,7 +19,6 @@ pub mod EmptyPagesLaws
 pub mod Held
 pub mod Lies
 pub mod Chips
-pub mod Outs
 pub mod OutsLaws
 pub mod Late
 pub mod Arrives
@@ -75,6 +74,7 @@ pub mod Told
 pub mod SlotsTold
 pub mod Lent
 pub mod Code
+pub mod CodeLaws
 pub mod FrontPageProved
 pub mod SlotsStay
 pub mod LeavesLaws

@@ -1,4 +1,4 @@
--- Laws on the definitions of Outs.antt
+-- OUT endpoints: what is asked of them, and a packet opened, closed, taken, a ring emptied
 use mathlib.Core.Bool.{Bool, true, false, not, cond, true≢false}
 use mathlib.Core.List.{List, [], _∷_, _++_, map, tail, append-assoc}
 use mathlib.Core.Path.{_≡_, refl, ap, subst, sym, _∙_}
@@ -12,7 +12,7 @@ use Rattle.state.specs.Driver.{Driver, epOn, withOn}
 use Rattle.state.specs.Laws.{epOn-same}
 use Rattle.ring.specs.Slot.{countOf, hasWaiting, passedOf}
 use Rattle.ring.specs.Out.{openedOf, closedOf}
-use Rattle.ring.specs.Waiting.{waiting, Alike, Shows}
+use Rattle.ring.specs.Waiting.{waiting, SamePlace, Alike, Shows}
 use Rattle.ring.specs.Laws.{place-placed, place-addr, alike-count, alike-waits, alike-out, reset-count, reset-waits, reset-ring}
 use Rattle.ring.specs.OutLaws.{opened-alike, opened-shows, closed-place, closed-shows, close-waits, close-ring}
 use Rattle.marks.specs.Marks.{isMarked, markedLen}
@@ -33,7 +33,11 @@ use Rattle.proof_book.specs.Frame.{changed-not, changed-on, kept-same, o
 use Rattle.proof_book.specs.Held.{IsAgrees, LookAgrees, FetchAgrees, ActAgrees, held-some, waits-count, held-next}
 use Rattle.proof_book.specs.Held.{held-first, held-stamp, receives, plain-receives}
 use Rattle.proof_book.specs.EmptyPagesLaws.{Seat, Shown, empty-out}
-use Rattle.proof_book.specs.Outs.{Inner}
+
+-- a record changed, bytes as they were: the ring's place, and what scripts read of the record
+pub record Inner (r r′ : EpState) : Type 0 where
+  pub place : SamePlace r r′
+  pub plain : plainOf r′ ≡ plainOf r
 
 -- ---- what is asked
 
