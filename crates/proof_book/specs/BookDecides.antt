@@ -5,7 +5,7 @@ use mathlib.Core.Logic.{_⊎_, inl, inr}
 use mathlib.Core.Path.{_≡_, refl, ap, subst, sym, _∙_}
 use Prim.Native.Nat.{ℕ, _%_, _<_, min}
 use native.Mathlib.Omega.{arith}
-use lib.ListN.{length}
+use lib.ListN.{length, getD}
 use Rattle.bits.specs.Bit.{isSet}
 use Rattle.regs.specs.declared.Access.{Access}
 use Rattle.regs.specs.declared.Access.the-variants.{Read, Write, Receive, Transmit, Ep0Dma, Wait, Callback}
@@ -25,7 +25,7 @@ use Rattle.proof_book.specs.Frame.{out-same, in-same, at-elim}
 use Rattle.proof_book.specs.FrontPage.{givesTo, PassesOn, NoneLeft}
 use Rattle.proof_book.specs.FrontPage as page
 use borrow.Author.Tests.{eq-eqb}
-use lib.Dec.{eqb}
+use lib.Dec.{eqb, ltb}
 use Rattle.proof_book.specs.Refusing.{put-same}
 use Rattle.proof_book.specs.BookTracks.{Tracks, end, ask, earlier, tracks-bind}
 use Rattle.proof_book.specs.InterruptParts.{Parts, p-ret, p-bind, p-test, p-read, p-write, p-wait, p-callback}
@@ -119,23 +119,21 @@ moves-then s t u q h k = record {
 pub idle : {s : Bk} → Idle s s
 idle = record { outs = λ e. refl; sets = refl; bytes = refl }
 
+-- the endpoint of a receive address
+abbrev receiveOf : Access → List ℕ
+receiveOf (Read r e) = []
+receiveOf (Write r e v) = []
+receiveOf (Receive e x) = e ∷ []
+receiveOf (Transmit e x) = []
+receiveOf (Ep0Dma x) = []
+receiveOf (Wait n) = []
+receiveOf Callback = []
+
 abbrev pub isReceive : Access → Bool
-isReceive (Read r e) = false
-isReceive (Write r e v) = false
-isReceive (Receive e x) = true
-isReceive (Transmit e x) = false
-isReceive (Ep0Dma x) = false
-isReceive (Wait n) = false
-isReceive Callback = false
+isReceive q = ltb 0 (length (receiveOf q))
 
 abbrev pub numberIn : Access → ℕ
-numberIn (Read r e) = 0
-numberIn (Write r e v) = 0
-numberIn (Receive e x) = e
-numberIn (Transmit e x) = 0
-numberIn (Ep0Dma x) = 0
-numberIn (Wait n) = 0
-numberIn Callback = 0
+numberIn q = getD (receiveOf q) 0 0
 
 pub no-receive : {X : Type 0} {q : Access} {e x : ℕ} → isReceive q ≡ false → q ≡ Receive e x → X
 no-receive h a = absurd (true≢false (sym (ap isReceive a) ∙ h))
