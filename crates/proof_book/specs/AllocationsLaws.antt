@@ -29,14 +29,14 @@ use Rattle.model.specs.Cells.{EpCore}
 use Rattle.model.specs.Statics.{isOn, isoOuts}
 use Rattle.model_ops.specs.Records.{isoOut, configured, enabledOn, givenTo, allocatedOn, withEp0, startedWith, allocatedEp0}
 use Rattle.proof_book.specs.Book as book
-use Rattle.proof_book.specs.Cells.{epOn-by}
+use Rattle.proof_book.specs.CellsLaws.{epOn-by}
 use Rattle.proof_book.specs.Pages.{Pages, withKept, keptAllocator}
 use Rattle.proof_book.specs.Book.{globalsBy, enableB, givenB, allocateB, startedB, allocateB0}
 use Rattle.proof_book.specs.Coupling.{Coupling, Shape, endOf}
 use Rattle.proof_book.specs.KeptLaws.{same-values}
-use Rattle.proof_book.specs.Steps.{globals-changed}
-use Rattle.proof_book.specs.Given.{gives}
-use Rattle.proof_book.specs.GivenParts.{Further, further, receives, receives-by}
+use Rattle.proof_book.specs.StepsLaws.{globals-changed}
+use Rattle.proof_book.specs.GivenLaws.{gives}
+use Rattle.proof_book.specs.GivenPartsLaws.{Further, further, receives, receives-by}
 
 same-further : (a : Allocator) → Sound a → Further a a
 same-further a s = record { size = refl; count = refl; next = omega arith; sound = s; allocated = λ dir j. refl }

@@ -11,10 +11,10 @@ use Rattle.model.specs.Answers.{Answer}
 use Rattle.model.specs.Machine.{Ans, ended, handed, told, blank, blankA, fed}
 use Rattle.proof_book.specs.Pages.{OutPage, InPage, Pages, withOut, withIn}
 use Rattle.proof_book.specs.Book.{slotTold, sourceTold, book}
-use Rattle.proof_book.specs.Frame.{at-elim}
+use Rattle.proof_book.specs.FrameLaws.{at-elim}
 use Rattle.proof_book.specs.FrontPage.{addressed, loading}
 use Rattle.proof_book.specs.Others.{handsOut, releasing}
-use Rattle.proof_book.specs.BookDecides.{sendsTo}
+use Rattle.proof_book.specs.BookDecidesLaws.{sendsTo}
 
 -- ---- but for its address
 

@@ -9,7 +9,7 @@ use Rattle.model.specs.Agree.{After, Lent}
 use Rattle.machine.specs.Suspended.{driverOf, machineOf}
 use Rattle.proof_book.specs.Pages.{Pages}
 use Rattle.proof_book.specs.Book.{book}
-use Rattle.proof_book.specs.Agrees.{agree}
+use Rattle.proof_book.specs.AgreesLaws.{agree}
 pub use Rattle.proof_book.specs.FrontPage.{Made, CallStep, noted}
 
 -- calls one after the other, each as its contract says, and each lent the slot buffer as the last one left it but for the chip's stores

@@ -12,8 +12,8 @@ use Rattle.machine.specs.Suspended.{driverOf, drive, machineOf}
 use Rattle.proof_book.specs.Pages.{Pages}
 use Rattle.proof_book.specs.Book.{book}
 use Rattle.proof_book.specs.Coupling.{Coupling}
-use Rattle.proof_book.specs.Allocations.{fresh-kept}
-use Rattle.proof_book.specs.Agrees.{agree}
+use Rattle.proof_book.specs.StartUpLaws.{fresh-kept}
+use Rattle.proof_book.specs.AgreesLaws.{agree}
 use Rattle.proof_book.specs.FrontPage.{Made, CallStep, noted}
 use Rattle.proof_book.specs.Code.{Run, Agreed}
 

@@ -13,7 +13,7 @@ use Rattle.proof_book.specs.Pages.{OutPage}
 use Rattle.proof_book.specs.Book.{emptyOut, emptyIn}
 use Rattle.proof_book.specs.StampsLaws.{none-stamps}
 use Rattle.proof_book.specs.Coupling.{Held, OutFits, InFits, endOf}
-use Rattle.proof_book.specs.Frame.{none-stands}
+use Rattle.proof_book.specs.FrameLaws.{none-stands}
 
 -- the count of those turned away, and the slot that the chip was told, one of the endpoint's own
 pub record Seat (r : EpState) (p : OutPage) : Type 0 where

@@ -1,5 +1,5 @@
 -- Demand 3, to be read alone: what a list of calls is, what each call is lent, what document 01 compares after each call, and demand 3's own
--- sentences. Definitions only. `demand-3` (FrontPageProved.antt) says that `AfterCall` holds after every call of every list that an accepted start-up
+-- sentences. Definitions only. `demand-3` (FrontPageLaws.antt) says that `AfterCall` holds after every call of every list that an accepted start-up
 -- begins. The calls are in model/specs/Calls.antt, the book in Book.antt over Pages.antt: what waits, was admitted, read, queued, sent
 use mathlib.Core.Bool.{Bool, true, false, cond, _&&_}
 use mathlib.Core.List.{List, [], _∷_, _++_, tail}

@@ -17,7 +17,7 @@ use Rattle.model.specs.Machine.{Buf}
 use Rattle.proof_book.specs.Pages.{Packet, bytesOf, Pages}
 use Rattle.proof_book.specs.Book.{front}
 use Rattle.proof_book.specs.Coupling.{Shape, lensOf, Coupling}
-use Rattle.proof_book.specs.Held.{held-length}
+use Rattle.proof_book.specs.HeldLaws.{held-length}
 
 slots-out : (i : Bool) → slotsOf i Out ≤ 16
 unfolding slotsOf

@@ -27,11 +27,11 @@ use Rattle.model_ops.specs.Rings.{changedOn, markedOn, waitingOn, openedOn, old
 use Rattle.proof_book.specs.Pages.{Packet, bytesOf, OutPage, Pages, withOut}
 use Rattle.proof_book.specs.Book.{some, front, isoOf, openOut, readOut, emptyOut}
 use Rattle.proof_book.specs.Coupling.{Short, lensOf, slotStamps, OutFits, AtRest, Coupling}
-use Rattle.proof_book.specs.Lens.{lens-on, stamps-on}
+use Rattle.proof_book.specs.LensLaws.{lens-on, stamps-on}
 use Rattle.proof_book.specs.StampsLaws.{alike-stamps, close-stamps}
-use Rattle.proof_book.specs.Frame.{changed-not, changed-on, kept-same, out-changed, out-moved}
-use Rattle.proof_book.specs.Held.{IsAgrees, LookAgrees, FetchAgrees, ActAgrees, held-some, waits-count, held-next}
-use Rattle.proof_book.specs.Held.{held-first, held-stamp, receives, plain-receives}
+use Rattle.proof_book.specs.FrameLaws.{changed-not, changed-on, kept-same, out-changed, out-moved}
+use Rattle.proof_book.specs.HeldLaws.{IsAgrees, LookAgrees, FetchAgrees, ActAgrees, held-some, waits-count, held-next}
+use Rattle.proof_book.specs.HeldLaws.{held-first, held-stamp, receives, plain-receives}
 use Rattle.proof_book.specs.EmptyPagesLaws.{Seat, Shown, empty-out}
 
 -- a record changed, bytes as they were: the ring's place, and what scripts read of the record

@@ -34,16 +34,16 @@ use Rattle.proof_book.specs.Pages as book-of
 use Rattle.proof_book.specs.Stamps.{stamped}
 use Rattle.proof_book.specs.Book.{Bk, slotTold, bookOps, book}
 use Rattle.proof_book.specs.Coupling.{Coupling}
-use Rattle.proof_book.specs.Allocations.{fresh-kept}
-use Rattle.proof_book.specs.Agrees.{agree}
+use Rattle.proof_book.specs.StartUpLaws.{fresh-kept}
+use Rattle.proof_book.specs.AgreesLaws.{agree}
 use Rattle.proof_book.specs.FrontPage.{Made, CallStep, written, Calls, ringStamps}
 use Rattle.proof_book.specs.MachineRuns.{Premise}
 use Rattle.proof_book.specs.AnswersLaws.{tells-same, fed-elim, fed-kept}
-use Rattle.proof_book.specs.SlotsKept.{lent-is}
-use Rattle.proof_book.specs.Keeping.{Throughout, at-end, at-ask, At, keeps-run}
-use Rattle.proof_book.specs.Entered.{of-interrupt, of-aside}
+use Rattle.proof_book.specs.SlotsKeptLaws.{lent-is}
+use Rattle.proof_book.specs.KeepingLaws.{Throughout, at-end, at-ask, At, keeps-run}
+use Rattle.proof_book.specs.EnteredLaws.{of-interrupt, of-aside}
 use Rattle.proof_book.specs.Stamping.{First, not-yet, brought, firstOf, noticed, OneMore, Stamping, StampsEach, StampsMade}
-use Rattle.proof_book.specs.StampingScripts.{Even, Kept, Stays, Joins, Either, Grows, ends-so, asks-so, grows-from, grows-bind, grows-run}
+use Rattle.proof_book.specs.StampingScriptsLaws.{Even, Kept, Stays, Joins, Either, Grows, ends-so, asks-so, grows-from, grows-bind, grows-run}
 
 abbrev Any : Answer → Type 0
 Any a = Unit {0}

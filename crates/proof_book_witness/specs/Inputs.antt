@@ -23,7 +23,7 @@ use Rattle.proof_book.specs.Pages.{Pages}
 use Rattle.proof_book.specs.Book.{book}
 use Rattle.proof_book.specs.FrontPage.{written, Chip, unless, LentAsLeft}
 use Rattle.proof_book.specs.MachineRuns.{Premise}
-pub use Rattle.proof_book.specs.Ins.{left, right}
+pub use Rattle.proof_book.specs.InsLaws.{left, right}
 
 -- a call, what the chip stores before it, and whether what it comes to is told
 pub record Input : Type 0 where
