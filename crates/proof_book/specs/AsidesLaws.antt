@@ -14,7 +14,7 @@ use Rattle.model.specs.Tree as tree
 use Rattle.model.specs.Tree.{ends, asks}
 use Rattle.model.specs.Script.{run}
 use Rattle.model.specs.Statics.{isOn}
-use Rattle.model.specs.Answers.{Answer, Refused, End, NotYet, Done, Shown, ok, isAllocated}
+use Rattle.model.specs.Answers.{Answer, Refused, NotYet, Shown, ok, isAllocated}
 use Rattle.model.specs.Driver.{openPacket, closePacket, queuePacket}
 use Rattle.model.specs.Calls.{aside, Aside, Open, Close, Queue, asideCode, calls}
 use Rattle.model.specs.Machine.{Buf, begin, Ans, ended, handed, told, Way, idle, busy, Machine, misfit, stay, lentTo, beside, halt, begun, fed}
@@ -22,38 +22,23 @@ use Rattle.proof_book.specs.Pages.{Packet, bytesOf, OutPage, InPage, Pag
 use Rattle.proof_book.specs.Book.{Bk, some, first, firstStamp, front, isoOf, roomB, waitsOn, openOut, readOut, queuedIn, bookOps, book}
 use Rattle.proof_book.specs.FrameLaws.{out-same, in-same}
 use Rattle.proof_book.specs.FrontPage.{ReadsFirst, Joins, written}
+use Rattle.proof_book.specs.RefusingLaws.{onAnswer}
 
 -- ---- answers told apart
 
 abbrev isRefused : Answer → Bool
-isRefused (Refused n) = true
-isRefused (End n w) = false
-isRefused NotYet = false
-isRefused (Done bytes) = false
-isRefused (Shown bytes n) = false
+isRefused a = onAnswer (λ _. true) (λ _ _. false) false (λ _. false) (λ _ _. false) a
 
 abbrev row : Answer → ℕ
-row (Refused n) = n
-row (End n w) = 0
-row NotYet = 0
-row (Done bytes) = 0
-row (Shown bytes n) = 0
+row a = onAnswer (λ n. n) (λ _ _. 0) 0 (λ _. 0) (λ _ _. 0) a
 
 abbrev shown : Answer → List ℕ
-shown (Refused n) = []
-shown (End n w) = []
-shown NotYet = []
-shown (Done bytes) = []
-shown (Shown bytes n) = bytes
+shown a = onAnswer (λ _. []) (λ _ _. []) [] (λ _. []) (λ bytes _. bytes) a
 
 abbrev stampShown : Answer → ℕ
-stampShown (Refused n) = 0
-stampShown (End n w) = 0
-stampShown NotYet = 0
-stampShown (Done bytes) = 0
-stampShown (Shown bytes n) = n
+stampShown a = onAnswer (λ _. 0) (λ _ _. 0) 0 (λ _. 0) (λ _ n. n) a
 
-abbrev answered : Ans Answer → Answer
+abbrev pub answered : Ans Answer → Answer
 answered (ended a) = a
 answered (handed q) = NotYet
 answered (told n) = NotYet

@@ -19,7 +19,7 @@ use Rattle.model.specs.Simulates.{Phase}
 use Rattle.model.specs.Cells.{ep-cell}
 use Rattle.model.specs.Script.{run, ret, bind, test, get, is, act, fetch, waiting, oldest, take-oldest, _>>_}
 use Rattle.model.specs.Statics.{isOn, withReady, modifyEp}
-use Rattle.model.specs.Answers.{Answer, Refused, End, NotYet, Done, Shown, named, unless, isAllocated}
+use Rattle.model.specs.Answers.{Answer, Refused, NotYet, Done, named, unless, isAllocated}
 use Rattle.model.specs.Endpoint.{ends-request, take-iso, take-ready, polled, pollRead}
 use Rattle.model.specs.Calls.{Config, Op, slotted, PollRead, calls}
 use Rattle.model.specs.Machine.{Buf, Call, begin, Ans, ended, handed, told, blankA, Way, idle, busy, Machine, misfit, stay, fed, halt}
@@ -33,24 +33,16 @@ use Rattle.proof_book.specs.FrameLaws.{out-same}
 use Rattle.proof_book.specs.AgreesLaws.{agree}
 use Rattle.proof_book.specs.ReadRoomLaws.{ReadRoom}
 use Rattle.proof_book.specs.FrontPage.{isDone, ReadsFirst, written}
-use Rattle.proof_book.specs.AsidesLaws.{reads-first}
+use Rattle.proof_book.specs.AsidesLaws.{answered, reads-first}
+use Rattle.proof_book.specs.RefusingLaws.{onAnswer}
 
 -- ---- answers told apart
 
 abbrev doneBytes : Answer → List ℕ
-doneBytes (Refused n) = []
-doneBytes (End n w) = []
-doneBytes NotYet = []
-doneBytes (Done bytes) = bytes
-doneBytes (Shown bytes n) = []
+doneBytes a = onAnswer (λ _. []) (λ _ _. []) [] (λ bytes. bytes) (λ _ _. []) a
 
 not-done : {X : Type 0} (a : Answer) (bytes : List ℕ) → isDone a ≡ false → a ≡ Done bytes → X
 not-done a bytes h q = absurd (true≢false (sym (ap isDone q) ∙ h))
-
-abbrev answered : Ans Answer → Answer
-answered (ended a) = a
-answered (handed q) = NotYet
-answered (told n) = NotYet
 
 abbrev kindOf : Ans Answer → Bool
 kindOf (ended a) = true

@@ -32,13 +32,17 @@ use Rattle.proof_book.specs.ActsLaws.{actKind}
 use Rattle.proof_book.specs.Pages.{Pages}
 use Rattle.proof_book.specs.Book.{Bk, putB, actB, isoOut, givenB, startedB, bookOps}
 
+-- an answer by its sort: a refusal, an end, "not yet", a poll's bytes, a packet shown
+abbrev pub onAnswer : {A : Type 0} → (ℕ → A) → (ℕ → List ℕ → A) → A → (List ℕ → A) → (List ℕ → ℕ → A) → Answer → A
+onAnswer r e y d s (Refused n) = r n
+onAnswer r e y d s (End n w) = e n w
+onAnswer r e y d s NotYet = y
+onAnswer r e y d s (Done bytes) = d bytes
+onAnswer r e y d s (Shown bytes n) = s bytes n
+
 -- a refusal, or "not yet"
 abbrev pub isNo : Answer → Bool
-isNo (Refused n) = true
-isNo (End n w) = false
-isNo NotYet = true
-isNo (Done bytes) = false
-isNo (Shown bytes n) = false
+isNo a = onAnswer (λ _. true) (λ _ _. false) true (λ _. false) (λ _ _. false) a
 
 -- all pages are as they were
 pub record Same (s t : Pages) : Type 0 where
