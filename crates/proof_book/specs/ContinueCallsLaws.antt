@@ -50,13 +50,15 @@ no-address (handed Callback) e g = refl
 no-address (told k) e g = refl
 
 alike-passes : {p q r : InPage} → Alike q r → PassesOn p q → PassesOn p r
-alike-passes k x = record {
-  waiting = elim (x .waiting) [
-    | inl y ↦ inl (k .waiting ∙ y)
-    | inr y ↦ inr (y .0, k .waiting ∙ y .1)
-  ];
-  queued = k .queued ∙ x .queued;
-}
+alike-passes {p} {q} {r} k x =
+    let w : r .waiting ≡ q .waiting = ap (λ (i : InPage). i .waiting) k in
+    record {
+      waiting = elim (x .waiting) [
+        | inl y ↦ inl (w ∙ y)
+        | inr y ↦ inr (y .0, w ∙ y .1)
+      ];
+      queued = ap (λ (i : InPage). i .queued) k ∙ x .queued;
+    }
 
 -- ---- what is left of the operation under way; an interrupt's is in BookCallsLaws.antt
 
@@ -204,7 +206,7 @@ module _ (a : Ans Answer) (e : ℕ) (n : Machine Answer Pages) where
     of-interrupt u (asks q t k) i (ask j m f) (ask x w g) = record {
       outs = λ _ g _. absurd (true≢false (sym i ∙ g));
       spares = λ s _ l. fed-in a (t .0) e (no-address a e l) ∙ w .passing .spares e (told-loads q s l);
-      passes = λ _ _. alike-passes (fed-alike a (t .0) j e) (w .passing .passes (o .pages .periodic) e);
+      passes = λ _ _. alike-passes {q = t .0 .ins e} {r = fed book a (t .0) .ins e} (fed-alike a (t .0) j e) (w .passing .passes (o .pages .periodic) e);
       empties = λ s _ g. fed-empties (t .0) g (w .passing .empties e (told-sends (handed q) s ∙ ap (λ (z : Ans Answer). sending z e) g));
       sends = λ x s _ g. fed-loaded (t .0) x g (w .loads e (told-sends (handed q) s ∙ own-address x g));
     }
@@ -219,7 +221,8 @@ module _ (a : Ans Answer) (e : ℕ) (n : Machine Answer Pages) where
           let p : Periodic (t .0) = λ x y m. c .outs x ∙ h .pages x y m ∙ sym (c .outs y) in
           subst (λ (p : OutPage). SamePackets p (fed book a (t .0) .outs e)) (c .outs e) (fed-packets a (t .0) p e);
       spares = λ s r l. fed-in a (t .0) e (no-address a e l) ∙ w (told-releases q s (not-emptying r)) .passing .spares e (told-loads q s l);
-      passes = λ s r. alike-passes (fed-alike a (t .0) j e) (w (told-releases q s (not-emptying r)) .passing .passes (o .pages .periodic) e);
+      passes = λ s r. alike-passes {q = t .0 .ins e} {r = fed book a (t .0) .ins e} (fed-alike a (t .0) j e)
+          (w (told-releases q s (not-emptying r)) .passing .passes (o .pages .periodic) e);
       empties = λ s r g. fed-empties (t .0) g
           (w (told-releases q s (not-emptying r)) .passing .empties e (told-sends (handed q) s ∙ ap (λ (z : Ans Answer). sending z e) g));
       sends = λ x s m g. fed-loaded (t .0) x g

@@ -50,6 +50,7 @@ use Rattle.proof_book.specs.BookDecidesLaws.{Any, Passing, Loads, sendsT
 use Rattle.proof_book.specs.BookDecidesLaws.{empty-load, packet-load}
 use Rattle.proof_book.specs.EarlyScriptsLaws.{stage, row-4}
 use Rattle.proof_book.specs.RefusingLaws.{Same, leavesPages, put-same, act-same}
+use Rattle.proof_book.specs.RefusingLaws.{Silent, c-ret, c-bind, c-test, c-get, c-put, c-is, c-look, c-fetch, c-act}
 
 -- ---- from an access on
 
@@ -112,16 +113,8 @@ pub data Later (z : Bool) : (A : Type 0) → Script false A → Type 1 where
   k-bus-reset : {A : Type 0} {p : Script false A} → Later z A p → Later z A (row-then bus-reset p)
 
 -- one that hands out no access
-pub data Free : (A : Type 0) → Script false A → Type 1 where
-  x-ret : {A : Type 0} {a : A} → Free A (ret a)
-  x-bind : {A B : Type 0} {p : Script false B} {f : B → Script false A} → Free B p → ((b : B) → Free A (f b)) → Free A (bind p f)
-  x-test : {A : Type 0} {b : Bool} {p q : Script false A} → Free A p → Free A q → Free A (test b p q)
-  x-get : {A : Type 0} {c : Cell} {k : Val c → Script false A} → ((v : Val c) → Free A (k v)) → Free A (get-then c k)
-  x-put : {A : Type 0} {c : Cell} {v : Val c} {p : Script false A} → Free A p → Free A (put-then c v p)
-  x-is : {A : Type 0} {q : Test} {k : Bool → Script false A} → ((b : Bool) → Free A (k b)) → Free A (is-then q k)
-  x-look : {A : Type 0} {q : Look} {k : ℕ → Script false A} → ((n : ℕ) → Free A (k n)) → Free A (look-then q k)
-  x-fetch : {A : Type 0} {q : Fetch} {k : List ℕ → Script false A} → ((l : List ℕ) → Free A (k l)) → Free A (fetch-then q k)
-  x-act : {A : Type 0} {q : Act} {p : Script false A} → Free A p → Free A (act-then q p)
+abbrev pub Free : (A : Type 0) → Script false A → Type 1
+Free A p = Silent (λ q. true) A p
 
 -- one that does so from its first access on; y: which may be an address that sends nothing
 pub data Heads (y z : Bool) : (A : Type 0) → Script false A → Type 1 where
@@ -154,7 +147,7 @@ ruleset later = (
 
 ruleset heading = (h-then, h-bind, h-test, h-switch, h-later, h-place, h-free)
 
-ruleset free = (x-ret, x-bind, x-test, x-get, x-put, x-is, x-look, x-fetch, x-act)
+ruleset free = (c-ret, c-bind, c-test, c-get, c-put, c-is, c-look, c-fetch, c-act)
 
 -- ---- their runs
 
@@ -213,19 +206,19 @@ onward (k-place0 h) s = ask tt (kept-at (Ep0Dma 0) (λ _. refl) (still s)) (λ _
 onward (k-bus-reset h) s = resets 3 (λ t. onward h t) s
 
 pub free-ends : {A : Type 0} {p : Script false A} → Free A p → (s : Bk) → (a : A) × (t : Bk) × (run bookOps p s ≡ ends a t)
-free-ends (x-ret {a = a}) s = (a, s, refl)
-free-ends (x-bind {f = f} h g) s =
+free-ends (c-ret {a = a}) s = (a, s, refl)
+free-ends (c-bind {f = f} h g) s =
     let z = free-ends h s in
     let w = free-ends (g (z .0)) (z .1) in
     (w .0, w .1, ap (λ (o : tree.Out Bk _). bindOut o (λ a t. run bookOps (f a) t)) (z .2) ∙ w .2)
-free-ends (x-test {b = true} h g) s = free-ends h s
-free-ends (x-test {b = false} h g) s = free-ends g s
-free-ends (x-get h) s = free-ends (h _) s
-free-ends (x-put h) s = free-ends h _
-free-ends (x-is h) s = free-ends (h _) s
-free-ends (x-look h) s = free-ends (h _) s
-free-ends (x-fetch h) s = free-ends (h _) s
-free-ends (x-act h) s = free-ends h _
+free-ends (c-test {b = true} h g) s = free-ends h s
+free-ends (c-test {b = false} h g) s = free-ends g s
+free-ends (c-get h) s = free-ends (h _) s
+free-ends (c-put h) s = free-ends h _
+free-ends (c-is h) s = free-ends (h _) s
+free-ends (c-look h) s = free-ends (h _) s
+free-ends (c-fetch h) s = free-ends (h _) s
+free-ends (c-act m h) s = free-ends h _
 
 -- what comes after the first access
 abbrev pub Head : {A : Type 0} → Bool → Bool → tree.Out Bk A → Type 0
@@ -321,7 +314,7 @@ of-allocated d kind maximum (alloc.Given e base slots) = search later depth 20
 of-each : (es : List Endpoint) → Free Unit (allocateEach es)
 unfolding allocateEach
 of-each [] = search free
-of-each (e ∷ es) = x-bind (x-act x-ret) (λ _. of-each es)
+of-each (e ∷ es) = c-bind (c-act refl c-ret) (λ _. of-each es)
 
 of-begins-at : (dir : Dir) (x left e : ℕ) → Later true ℕ (beginsAt dir x left e)
 unfolding beginsAt
@@ -344,7 +337,7 @@ of-announce-all [] = search later
 of-announce-all (e ∷ es) = search (of-announce, of-announce-after, later)
 
 of-allocate-read : (bytes : List ℕ) (a : reading-answer.Answer) → Heads false true Answer (allocate-read bytes a)
-of-allocate-read bytes (reading.Refused n) = h-free x-ret
+of-allocate-read bytes (reading.Refused n) = h-free c-ret
 of-allocate-read bytes reading.Listed = search (of-each, of-announce-all, heading, later, free) depth 30 fits 100000
 
 of-enabling : (dir : Dir) (e : ℕ) (onn : Bool) → Heads (enabling (slotted (SetEnabled dir e onn))) false Unit (bus.setEnabled dir e onn)

@@ -91,23 +91,27 @@ pub data Never : (i : Bool) → Script i Answer → Type 1 where
 abbrev pub leavesPages : Act → Bool
 leavesPages q = let k = actKind q in is k turning || (is k receiving || (is k kinds.starting || is k plain))
 
--- it hands out nothing and leaves the pages
-pub data Calm : (i : Bool) (A : Type 0) → Script i A → Type 1 where
-  c-ret : {i : Bool} {A : Type 0} {a : A} → Calm i A (ret a)
-  c-bind : {i : Bool} {A B : Type 0} {p : Script i B} {f : B → Script i A} → Calm i B p → ((b : B) → Calm i A (f b)) → Calm i A (bind p f)
-  c-test : {i : Bool} {A : Type 0} {b : Bool} {p q : Script i A} → Calm i A p → Calm i A q → Calm i A (test b p q)
-  c-get : {i : Bool} {A : Type 0} {c : Cell} {k : Val c → Script i A} → ((v : Val c) → Calm i A (k v)) → Calm i A (get-then c k)
-  c-put : {i : Bool} {A : Type 0} {c : Cell} {v : Val c} {p : Script i A} → Calm i A p → Calm i A (put-then c v p)
-  c-is : {i : Bool} {A : Type 0} {q : Test} {k : Bool → Script i A} → ((b : Bool) → Calm i A (k b)) → Calm i A (is-then q k)
-  c-look : {i : Bool} {A : Type 0} {q : Look} {k : ℕ → Script i A} → ((n : ℕ) → Calm i A (k n)) → Calm i A (look-then q k)
-  c-fetch : {i : Bool} {A : Type 0} {q : Fetch} {k : List ℕ → Script i A} → ((l : List ℕ) → Calm i A (k l)) → Calm i A (fetch-then q k)
-  c-act : {i : Bool} {A : Type 0} {q : Act} {p : Script i A} → leavesPages q ≡ true → Calm i A p → Calm i A (act-then q p)
+-- it hands out nothing, and its changes are such
+pub data Silent {i : Bool} (ok : Act → Bool) : (A : Type 0) → Script i A → Type 1 where
+  c-ret : {A : Type 0} {a : A} → Silent ok A (ret a)
+  c-bind : {A B : Type 0} {p : Script i B} {f : B → Script i A} → Silent ok B p → ((b : B) → Silent ok A (f b)) → Silent ok A (bind p f)
+  c-test : {A : Type 0} {b : Bool} {p q : Script i A} → Silent ok A p → Silent ok A q → Silent ok A (test b p q)
+  c-get : {A : Type 0} {c : Cell} {k : Val c → Script i A} → ((v : Val c) → Silent ok A (k v)) → Silent ok A (get-then c k)
+  c-put : {A : Type 0} {c : Cell} {v : Val c} {p : Script i A} → Silent ok A p → Silent ok A (put-then c v p)
+  c-is : {A : Type 0} {q : Test} {k : Bool → Script i A} → ((b : Bool) → Silent ok A (k b)) → Silent ok A (is-then q k)
+  c-look : {A : Type 0} {q : Look} {k : ℕ → Script i A} → ((n : ℕ) → Silent ok A (k n)) → Silent ok A (look-then q k)
+  c-fetch : {A : Type 0} {q : Fetch} {k : List ℕ → Script i A} → ((l : List ℕ) → Silent ok A (k l)) → Silent ok A (fetch-then q k)
+  c-act : {A : Type 0} {q : Act} {p : Script i A} → ok q ≡ true → Silent ok A p → Silent ok A (act-then q p)
+
+-- it leaves the pages too
+abbrev Calm : {i : Bool} (A : Type 0) → Script i A → Type 1
+Calm A p = Silent leavesPages A p
 
 -- it ends with neither from its first change of a page on
 pub data Fair : (i : Bool) → Script i Answer → Type 1 where
   f-never : {i : Bool} {p : Script i Answer} → Never i p → Fair i p
   f-ret : {i : Bool} {a : Answer} → Fair i (ret a)
-  f-bind : {i : Bool} {A : Type 0} {p : Script i A} {f : A → Script i Answer} → Calm i A p → ((a : A) → Fair i (f a)) → Fair i (bind p f)
+  f-bind : {i : Bool} {A : Type 0} {p : Script i A} {f : A → Script i Answer} → Calm A p → ((a : A) → Fair i (f a)) → Fair i (bind p f)
   f-test : {i : Bool} {b : Bool} {p q : Script i Answer} → Fair i p → Fair i q → Fair i (test b p q)
   f-allocate : (d : Dir) (kind address maximum interval : ℕ) → Fair false (allocEndpoint d kind address maximum interval)
 
@@ -152,7 +156,7 @@ never-run (n-bind {p = p} g) s t = never-bind (run bookOps p t) (λ a s t. never
 never-run (n-test {b = true} h g) s t = never-run h s t
 never-run (n-test {b = false} h g) s t = never-run g s t
 
-calm-run : {i : Bool} {A : Type 0} {p : Script i A} → Calm i A p → (s : Bk) → Tells any s (run bookOps p s)
+calm-run : {i : Bool} {A : Type 0} {p : Script i A} → Calm A p → (s : Bk) → Tells any s (run bookOps p s)
 calm-run c-ret s = t-end (λ _. same)
 calm-run (c-bind h g) s = tells-bind (calm-run h s) (λ a t. calm-run (g a) t)
 calm-run (c-test {b = true} h g) s = calm-run h s

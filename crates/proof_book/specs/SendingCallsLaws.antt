@@ -34,7 +34,7 @@ use Rattle.proof_book.specs.FrontPage.{written, EmptiedIn, slotSize, Bei
 use Rattle.proof_book.specs.BookTracksLaws.{end, ask}
 use Rattle.proof_book.specs.InterruptPartsLaws.{of-interrupt}
 use Rattle.proof_book.specs.ReleasesLaws.{mayQueue, of-slotted, of-other, of-aside, of-starting}
-use Rattle.proof_book.specs.SendingPagesLaws.{Orderly, Alike, alike-refl, alike-empty, told-alike, Going, keeps, empties}
+use Rattle.proof_book.specs.SendingPagesLaws.{Orderly, Alike, alike-empty, Going, keeps, empties}
 use Rattle.proof_book.specs.SendingPagesLaws.{Follows, orderly-with, never, none-left}
 use Rattle.proof_book.specs.SendingPagesLaws as pages-of
 use Rattle.proof_book.specs.SendingStepsLaws.{spot, Goes, Within, Asked, Followed, follow, follow-parts}
@@ -73,10 +73,10 @@ stays-put e s = goes (record { sending = s; shown = refl; place = refl; size = r
 
 -- the access told changes a source alone
 pub fed-alike : (a : Ans Answer) (t : Pages) → Orderly t → (e : ℕ) → Alike (t .ins e) (fed book a t .ins e)
-fed-alike a t i e = fed-elim (λ u. Alike (t .ins e) (u .ins e)) a t alike-refl
-    (λ f x _. alike-refl)
+fed-alike a t i e = fed-elim (λ u. Alike (t .ins e) (u .ins e)) a t refl
+    (λ f x _. refl)
     (λ f x _. at-elim (λ (p : InPage). Alike (t .ins e) p) f e (sourceTold (t .ins f) x) (t .ins)
-    (λ m. subst (λ (p : InPage). Alike p (sourceTold (t .ins f) x)) (i .periodic f e (sym m)) (told-alike (t .ins f) x)) (λ _. alike-refl))
+    (λ m. subst (λ (p : InPage). Alike p (sourceTold (t .ins f) x)) (i .periodic f e (sym m)) refl) (λ _. refl))
 
 fed-orderly : (a : Ans Answer) (t : Pages) → Orderly t → Orderly (fed book a t)
 fed-orderly a t i = fed-elim Orderly a t i
@@ -84,14 +84,17 @@ fed-orderly a t i = fed-elim Orderly a t i
     (λ f x _. orderly-with t f (sourceTold (t .ins f) x) (i .loads f) i)
 
 fate-alike : {e : ℕ} {s t u : Pages} → Alike (t .ins e) (u .ins e) → u .kept ≡ t .kept → Fate e s t → Fate e s u
-fate-alike h k (goes g) = goes (record {
-  sending = h .sending ∙ g .sending;
-  shown = h .shown ∙ g .shown;
-  place = rw (k, h .turn, h .waiting) (g .place);
-  size = ap (λ (k : Kept). k .allocator .size) k ∙ g .size;
-})
-fate-alike h k (passes a) = passes (h .passed ∙ a)
-fate-alike h k (anew a) = anew (alike-empty h a)
+fate-alike {e} {t = t} {u = u} h k (goes g) =
+    let n : u .ins e .turn ≡ t .ins e .turn = ap (λ (q : InPage). q .turn) h in
+    let w : u .ins e .waiting ≡ t .ins e .waiting = ap (λ (q : InPage). q .waiting) h in
+    goes (record {
+      sending = ap (λ (q : InPage). q .sending) h ∙ g .sending;
+      shown = ap (λ (q : InPage). q .shown) h ∙ g .shown;
+      place = rw (k, n, w) (g .place);
+      size = ap (λ (k : Kept). k .allocator .size) k ∙ g .size;
+    })
+fate-alike h k (passes a) = passes (ap (λ (q : InPage). q .passed) h ∙ a)
+fate-alike {e} {t = t} {u = u} h k (anew a) = anew (alike-empty {p = t .ins e} {p′ = u .ins e} h a)
 
 -- ---- a call
 
@@ -132,7 +135,7 @@ module _ (a : Ans Answer) where
 
   halted-empty : (i : Bool) (s : Bk) (o : tree.Out Bk Answer) → Followed false s o → (e : ℕ) → EmptiedIn (s .0 .ins e) → EmptiedIn (halts i o .1 .st .ins e)
   halted-empty i s (ends z t) (end j q) e x = q .pages e .empty x
-  halted-empty i s (asks q t k) (ask j m g) e x = alike-empty (fed-alike a (t .0) j e) (m .pages e .empty x)
+  halted-empty i s (asks q t k) (ask j m g) e x = alike-empty {p = t .0 .ins e} {p′ = fed book a (t .0) .ins e} (fed-alike a (t .0) j e) (m .pages e .empty x)
 
   stays : (k : ℕ) (m : Machine Answer Pages) → Sending m → SendingAfter a (m .st) (stay calls (book .driver) k m)
   stays k m h = record { machine = h; fates = stays-put; source = λ e x _ k. never k }

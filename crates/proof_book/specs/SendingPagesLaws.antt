@@ -9,7 +9,7 @@ use lib.Dec.{eqb}
 use Rattle.regs.specs.declared.Dir.the-variants.{In}
 use Rattle.model.specs.Machine.{Buf}
 use Rattle.proof_book.specs.Pages.{InPage, Pages, withIn}
-use Rattle.proof_book.specs.Book.{some, front, emptyIn, passedIn, sentIn, sourceTold}
+use Rattle.proof_book.specs.Book.{some, front, emptyIn, passedIn, sentIn, withSending}
 use Rattle.proof_book.specs.Book.{placedIn, loadedIn}
 use Rattle.proof_book.specs.FrameLaws.{at-elim}
 use Rattle.proof_book.specs.FrontPage.{EmptiedIn, slotSize}
@@ -88,39 +88,36 @@ turns-then {P} {p} {q} {r} h k = record {
     resting-then (emptied x) = emptied (k .empty x)
 
 -- the same page, but for whether the address told last is a load's, and which it is
-pub record Alike (p p′ : InPage) : Type 0 where
-  pub waiting : p′ .waiting ≡ p .waiting
-  pub sending : p′ .sending ≡ p .sending
-  pub turn : p′ .turn ≡ p .turn
-  pub queued : p′ .queued ≡ p .queued
-  pub sent : p′ .sent ≡ p .sent
-  pub passed : p′ .passed ≡ p .passed
-  pub shown : p′ .shown ≡ p .shown
-
-pub alike-refl : {p : InPage} → Alike p p
-alike-refl = record { waiting = refl; sending = refl; turn = refl; queued = refl; sent = refl; passed = refl; shown = refl }
+abbrev pub Alike : InPage → InPage → Type 0
+Alike p p′ = p′ ≡ withSending p (p .sending) (p′ .load) (p′ .source) (p .shown)
 
 pub alike-empty : {p p′ : InPage} → Alike p p′ → EmptiedIn p → EmptiedIn p′
 alike-empty h x = record {
-  waiting = h .waiting ∙ x .waiting;
-  sending = h .sending ∙ x .sending;
-  queued = h .queued ∙ x .queued;
-  sent = h .sent ∙ x .sent;
-  passed = h .passed ∙ x .passed;
+  waiting = ap (λ (q : InPage). q .waiting) h ∙ x .waiting;
+  sending = ap (λ (q : InPage). q .sending) h ∙ x .sending;
+  queued = ap (λ (q : InPage). q .queued) h ∙ x .queued;
+  sent = ap (λ (q : InPage). q .sent) h ∙ x .sent;
+  passed = ap (λ (q : InPage). q .passed) h ∙ x .passed;
 }
-
-pub told-alike : (p : InPage) (x : ℕ) → Alike p (sourceTold p x)
-told-alike p x = record { waiting = refl; sending = refl; turn = refl; queued = refl; sent = refl; passed = refl; shown = refl }
 
 turns-alike : {p p′ : InPage} → Alike p p′ → Turns Unsent p p′
-turns-alike h = record {
-  going = λ x. keeps (record { sending = h .sending ∙ x; shown = h .shown; waiting = h .waiting; turn = h .turn; passed = h .passed });
-  resting = λ x. rests (h .passed) (h .sending ∙ x);
-  empty = alike-empty h;
-}
+turns-alike {p} {p′} h =
+    let s : p′ .sending ≡ p .sending = ap (λ (q : InPage). q .sending) h in
+    let o : p′ .passed ≡ p .passed = ap (λ (q : InPage). q .passed) h in
+    record {
+      going = λ x. keeps (record {
+        sending = s ∙ x;
+        shown = ap (λ (q : InPage). q .shown) h;
+        waiting = ap (λ (q : InPage). q .waiting) h;
+        turn = ap (λ (q : InPage). q .turn) h;
+        passed = o;
+      });
+      resting = λ x. rests o (s ∙ x);
+      empty = alike-empty {p = p} {p′ = p′} h;
+    }
 
 pub turns-refl : {p : InPage} → Turns Unsent p p
-turns-refl = turns-alike alike-refl
+turns-refl {p} = turns-alike {p = p} {p′ = p} refl
 
 pub weaker : {p p′ : InPage} → Turns Unsent p p′ → Turns Either p p′
 weaker {p} {p′} h = record { going = λ s. goes (h .going s); resting = λ s. stays (h .resting s); empty = h .empty }
@@ -154,7 +151,7 @@ pub empty-turns : {P : InPage → Type 0} {p : InPage} → Turns P p emptyIn
 empty-turns = record { going = λ _. empties none-left; resting = λ _. emptied none-left; empty = λ _. none-left }
 
 pub placed-turns : (p : InPage) → Turns Unsent p (placedIn p)
-placed-turns p = turns-alike (record { waiting = refl; sending = refl; turn = refl; queued = refl; sent = refl; passed = refl; shown = refl })
+placed-turns p = turns-alike {p = p} {p′ = placedIn p} refl
 
 -- a second load of the same packet keeps the bytes as they were shown by the first
 pub loaded-turns : (p : InPage) (b : Buf) → Turns Either p (loadedIn p b)
