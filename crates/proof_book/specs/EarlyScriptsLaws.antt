@@ -26,7 +26,7 @@ use Rattle.model.specs.Script.{Act, complete, reset-ring, set-enabled, fill, fi
 use Rattle.model.specs.Script.{take-oldest, enqueue, allocate, allocate0, no-wakes, waken, DmaStep, arrive, send, place}
 use Rattle.model.specs.Script.{place0, Burst, switch, bus-reset, lastOf}
 use Rattle.model.specs.Driver.{allocated-as, started-as}
-use Rattle.model.specs.AllocateAll.{allocateEach, announce, beginsAt, announceAfter, announceAll, allocate-read}
+use Rattle.model.specs.AllocateAll.{allocateEach, announce, announceAll, allocate-read}
 use Rattle.model.specs.Answers.{Answer, Refused}
 use Rattle.model.specs.Calls.{Config, Op, interrupt, slotted, other, aside, Slotted, SetEnabled, PollRead, BeginWrite}
 use Rattle.model.specs.Calls.{PollWrite, PollDataOut, BeginDataIn, Other, Allocate, AllocateAll, Start, BusPoll}
@@ -46,6 +46,7 @@ use Rattle.proof_book.specs.FrontPage.{SamePackets}
 use Rattle.proof_book.specs.BookTracksLaws.{Tracks, end, ask, earlier, tracks-bind}
 use Rattle.proof_book.specs.AnswersLaws.{fed-elim}
 use Rattle.proof_book.specs.RefusingLaws.{Same, leavesPages, put-same, act-same}
+use Rattle.proof_book.specs.AnnouncingLaws.{announced}
 
 -- ---- what holds of the pages all along
 
@@ -161,25 +162,11 @@ unfolding allocateEach
 of-each [] = search laying
 of-each (e ∷ es) = l-bind (l-allocate l-ret) (λ _. of-each es)
 
-of-begins-at : (dir : Dir) (x left e : ℕ) → Lays ℕ (beginsAt dir x left e)
-unfolding beginsAt
-of-begins-at dir x zero e = search laying
-of-begins-at dir x (suc left) e = l-bind (l-get (λ _. l-ret)) (λ _. l-bind (l-get (λ _. l-ret)) (λ _. l-test l-ret (of-begins-at dir x left (suc e))))
-
 of-announce : (dir : Dir) (e : ℕ) → Lays ℕ (announce dir e)
 of-announce dir e = search laying depth 20
 
-of-announce-after : (left total : ℕ) (dir : Dir) (e : ℕ) → Lays ℕ (announceAfter left total dir e)
-unfolding announceAfter
-of-announce-after zero total dir e = search laying
-of-announce-after (suc left) total dir e = l-bind (l-bind (l-get (λ _. l-ret)) (λ _. l-bind (l-get (λ _. l-ret)) (λ _. l-ret)))
-    (λ x. l-bind (of-begins-at Out x 15 1) (λ o. l-test
-    (l-bind (of-begins-at In x 15 1) (λ n. l-bind (of-announce In n) (λ _. of-announce-after left total In n)))
-    (l-bind (of-announce Out o) (λ _. of-announce-after left total Out o))))
-
 of-announce-all : (es : List Endpoint) → Lays ℕ (announceAll es)
-of-announce-all [] = search laying
-of-announce-all (e ∷ es) = search (of-announce, of-announce-after, laying)
+of-announce-all = announced Lays (record { end = l-ret; then = l-bind; either = l-test; got = l-get }) of-announce
 
 of-allocate-read : (bytes : List ℕ) (a : reading-answer.Answer) → Lays Answer (allocate-read bytes a)
 of-allocate-read bytes (reading.Refused n) = search laying

@@ -75,6 +75,7 @@ pub mod ContinueCallsLaws
 pub mod WritePollsLaws
 pub mod BeginSendsLaws
 pub mod AdvanceBeginsLaws
+pub mod AnnouncingLaws
 pub mod EarlyScriptsLaws
 pub mod EarlyCallsLaws
 pub mod PollsWholeLaws

@@ -31,7 +31,7 @@ use Rattle.model.specs.IsoIn.{isoInComplete, isoInCompletions}
 use Rattle.model.specs.Bus as bus
 use Rattle.model.specs.Control.{acks}
 use Rattle.model.specs.Driver.{allocated-as, started-as}
-use Rattle.model.specs.AllocateAll.{allocateEach, announce, beginsAt, announceAfter, announceAll, allocate-read}
+use Rattle.model.specs.AllocateAll.{allocateEach, announce, announceAll, allocate-read}
 use Rattle.model.specs.Answers.{Answer, Refused}
 use Rattle.model.specs.Calls.{Config, Slotted, SetEnabled, PollRead, BeginWrite, PollWrite, PollDataOut, BeginDataIn}
 use Rattle.model.specs.Calls.{Other, Allocate, AllocateAll, Start, BusPoll, BusEnable, BusDisable, Microframe}
@@ -51,6 +51,7 @@ use Rattle.proof_book.specs.BookDecidesLaws.{empty-load, packet-load}
 use Rattle.proof_book.specs.EarlyScriptsLaws.{stage, row-4}
 use Rattle.proof_book.specs.RefusingLaws.{Same, leavesPages, put-same, act-same}
 use Rattle.proof_book.specs.RefusingLaws.{Silent, c-ret, c-bind, c-test, c-get, c-put, c-is, c-look, c-fetch, c-act}
+use Rattle.proof_book.specs.AnnouncingLaws.{announced}
 
 -- ---- from an access on
 
@@ -316,25 +317,11 @@ unfolding allocateEach
 of-each [] = search free
 of-each (e ∷ es) = c-bind (c-act refl c-ret) (λ _. of-each es)
 
-of-begins-at : (dir : Dir) (x left e : ℕ) → Later true ℕ (beginsAt dir x left e)
-unfolding beginsAt
-of-begins-at dir x zero e = search later
-of-begins-at dir x (suc left) e = k-bind (k-get (λ _. k-ret)) (λ _. k-bind (k-get (λ _. k-ret)) (λ _. k-test k-ret (of-begins-at dir x left (suc e))))
-
 of-announce : (dir : Dir) (e : ℕ) → Later true ℕ (announce dir e)
 of-announce dir e = search later depth 20
 
-of-announce-after : (left total : ℕ) (dir : Dir) (e : ℕ) → Later true ℕ (announceAfter left total dir e)
-unfolding announceAfter
-of-announce-after zero total dir e = search later
-of-announce-after (suc left) total dir e = k-bind (k-bind (k-get (λ _. k-ret)) (λ _. k-bind (k-get (λ _. k-ret)) (λ _. k-ret)))
-    (λ x. k-bind (of-begins-at Out x 15 1) (λ o. k-test
-    (k-bind (of-begins-at In x 15 1) (λ n. k-bind (of-announce In n) (λ _. of-announce-after left total In n)))
-    (k-bind (of-announce Out o) (λ _. of-announce-after left total Out o))))
-
 of-announce-all : (es : List Endpoint) → Later true ℕ (announceAll es)
-of-announce-all [] = search later
-of-announce-all (e ∷ es) = search (of-announce, of-announce-after, later)
+of-announce-all = announced (Later true) (record { end = k-ret; then = k-bind; either = k-test; got = k-get }) of-announce
 
 of-allocate-read : (bytes : List ℕ) (a : reading-answer.Answer) → Heads false true Answer (allocate-read bytes a)
 of-allocate-read bytes (reading.Refused n) = h-free c-ret
