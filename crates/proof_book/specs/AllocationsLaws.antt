@@ -1,4 +1,4 @@
--- Laws on the definitions of Allocations.antt
+-- Allocation, EP0's start and enabling agree
 use mathlib.Core.Bool.{Bool, true, false, cond}
 use mathlib.Core.Logic.{inr}
 use mathlib.Core.Path.{_≡_, refl, ap, subst, sym, _∙_}
@@ -29,12 +29,14 @@ use Rattle.model.specs.Cells.{EpCore}
 use Rattle.model.specs.Statics.{isOn, isoOuts}
 use Rattle.model_ops.specs.Records.{isoOut, configured, enabledOn, givenTo, allocatedOn, withEp0, startedWith, allocatedEp0}
 use Rattle.proof_book.specs.Book as book
-use Rattle.proof_book.specs.Cells.{epOn-by}
+use Rattle.proof_book.specs.CellsLaws.{epOn-by}
 use Rattle.proof_book.specs.Pages.{Pages, withKept, keptAllocator}
 use Rattle.proof_book.specs.Book.{globalsBy, enableB, givenB, allocateB, startedB, allocateB0}
 use Rattle.proof_book.specs.Coupling.{Coupling, Shape, endOf}
-use Rattle.proof_book.specs.Given.{gives}
-use Rattle.proof_book.specs.GivenParts.{Further, further, receives, receives-by}
+use Rattle.proof_book.specs.KeptLaws.{same-values}
+use Rattle.proof_book.specs.StepsLaws.{globals-changed}
+use Rattle.proof_book.specs.GivenLaws.{gives}
+use Rattle.proof_book.specs.GivenPartsLaws.{Further, further, receives, receives-by}
 
 same-further : (a : Allocator) → Sound a → Further a a
 same-further a s = record { size = refl; count = refl; next = omega arith; sound = s; allocated = λ dir j. refl }
@@ -90,15 +92,8 @@ started {b = b} {d = d} {t = t} r maximum z s (gave-ep0 m x small l) =
       sound = q .sound;
       good = q .good;
       long = q .long;
-      same = record {
-        globals = ap (withEp0 (d .allocator .next * d .allocator .size) maximum) (r .same .globals);
-        wakes = q .same .wakes;
-        control = q .same .control;
-        allocator = refl;
-        paced = q .same .paced;
-        requests = q .same .requests;
-        plain = q .same .plain;
-      };
+      same = same-values (q .same) (λ e. refl, λ dir e. refl, λ dir e. refl)
+          (ap (withEp0 (d .allocator .next * d .allocator .size) maximum) (r .same .globals)) (q .same .wakes) (q .same .control) refl;
       shape = q .shape;
       outs = q .outs;
       ins = q .ins;
@@ -146,32 +141,9 @@ receives-kept {d = d} r Out e on h x = elim (ℕ-discrete (x % 16) (e % 16)) [
 configures : {b : Buf} {d : Driver} {t : Pages} → Coupling quiet b d t → (dir : Dir) (e : ℕ) (on : Bool) → isoOut d dir e ≡ false
     → Coupling quiet b (configured d dir e on) (globalsBy t (λ g. withEpConfig (enables.withOn (g .«ep_config») dir e on) g))
 unfolding configured epOn lenOn stampOn pacedOn requestOn
-configures {b = b} {d = d} {t = t} r dir e on h = record {
-  step = tt;
-  sized = record { eps = r .sized .eps; lens = r .sized .lens; stamps = r .sized .stamps; paced = r .sized .paced; requests = r .sized .requests };
-  sound = r .sound;
-  good = r .good;
-  long = r .long;
-  same = record {
-    globals = ap (λ (g : Globals). withEpConfig (enables.withOn (g .«ep_config») dir e on) g) (r .same .globals);
-    wakes = r .same .wakes;
-    control = r .same .control;
-    allocator = r .same .allocator;
-    paced = r .same .paced;
-    requests = r .same .requests;
-    plain = r .same .plain;
-  };
-  shape = r .shape;
-  outs = r .outs;
-  ins = r .ins;
-  arming = λ x. rw (receives-kept r dir e on h x) (r .arming x);
-  apart = r .apart;
-  ep0-below = r .ep0-below;
-  ep0-apart = r .ep0-apart;
-  ep0-lies = r .ep0-lies;
-  ep0-least = r .ep0-least;
-  isos = r .isos;
-}
+configures {d = d} r dir e on h = globals-changed r _ _
+    (ap (λ (g : Globals). withEpConfig (enables.withOn (g .«ep_config») dir e on) g) (r .same .globals)) refl refl refl refl tt
+    (λ x. rw (receives-kept r dir e on h x) (r .arming x))
 
 iso-same : {b : Buf} {d : Driver} {t : Pages} → Coupling quiet b d t → (dir : Dir) (e : ℕ) → isoOut d dir e ≡ book.isoOut t dir e
 unfolding isoOut

@@ -28,7 +28,7 @@ use Rattle.model.specs.Script.{setup-word, Fetch, oldest, received, received0, 
 use Rattle.model.specs.Script.{set-enabled, fill, fill0, open-oldest, close-oldest, take-oldest, enqueue, allocate}
 use Rattle.model.specs.Script.{allocate0, no-wakes, waken, DmaStep, arrive, send, place, place0, Burst, switch}
 use Rattle.model.specs.Script.{bus-reset}
-use Rattle.model.specs.Statics.{isOn, flag, isoOuts, renewed, withSetup}
+use Rattle.model.specs.Statics.{isOn, flag, isoOuts, renewed, withSetup, withReady, withLen, withArmed, withLastFrame, withTog}
 use Rattle.model.specs.Answers.{isNumber}
 use Rattle.model.specs.Calls.{Config}
 use Rattle.model.specs.Machine as machine
@@ -99,97 +99,53 @@ emptyOut p = withLedger (withWaiting p [] false) [] []
 abbrev pub slotTold : OutPage → ℕ → OutPage
 slotTold p x = record { waiting = p .waiting; opened = p .opened; lost = p .lost; slot = x; admitted = p .admitted; read = p .read }
 
+abbrev pub inPage : List (List ℕ) → Bool → Bool → ℕ → List (List ℕ) → List (List ℕ) → List (List ℕ) → ℕ → Buf → InPage
+inPage w g l n q s p x b = record { waiting = w; sending = g; load = l; turn = n; queued = q; sent = s; passed = p; source = x; shown = b }
+
 abbrev pub emptyIn : InPage
-emptyIn = record { waiting = []; sending = false; load = false; turn = 0; queued = []; sent = []; passed = []; source = 0; shown = [] }
+emptyIn = inPage [] false false 0 [] [] [] 0 []
+
+-- the packets of an IN: those waiting, the slot of the next, those queued, sent and passed in the stretch
+abbrev pub withPackets : InPage → List (List ℕ) → ℕ → List (List ℕ) → List (List ℕ) → List (List ℕ) → InPage
+withPackets i w n q s p = inPage w (i .sending) (i .load) n q s p (i .source) (i .shown)
+
+-- whether one is being sent, whether the last address is a load's, from where, and the lent bytes as they stood then
+abbrev pub withSending : InPage → Bool → Bool → ℕ → Buf → InPage
+withSending i g l x b = inPage (i .waiting) g l (i .turn) (i .queued) (i .sent) (i .passed) x b
 
 -- "Load: what the Rust's tail passes waits no more"
 abbrev pub passedIn : InPage → InPage
-passedIn p = record {
-  waiting = cond (p .sending) (tail (p .waiting)) (p .waiting);
-  sending = false;
-  load = false;
-  turn = p .turn;
-  queued = p .queued;
-  sent = p .sent;
-  passed = p .passed ++ cond (p .sending) (front (p .waiting)) [];
-  source = 0;
-  shown = [];
-}
+passedIn p = withSending
+    (withPackets p (cond (p .sending) (tail (p .waiting)) (p .waiting)) (p .turn) (p .queued) (p .sent)
+    (p .passed ++ cond (p .sending) (front (p .waiting)) []))
+    false false 0 []
 
 -- the first is being sent: it reaches the chip, unless it was being sent already; b: the lent bytes as they stand then
 abbrev pub sentIn : InPage → Buf → InPage
-sentIn p b = record {
-  waiting = p .waiting;
-  sending = true;
-  load = true;
-  turn = p .turn;
-  queued = p .queued;
-  sent = p .sent ++ cond (p .sending) [] (front (p .waiting));
-  passed = p .passed;
-  source = p .source;
-  shown = cond (p .sending) (p .shown) b;
-}
+sentIn p b = withSending
+    (withPackets p (p .waiting) (p .turn) (p .queued) (p .sent ++ cond (p .sending) [] (front (p .waiting))) (p .passed))
+    true true (p .source) (cond (p .sending) (p .shown) b)
 
 -- a load's transmit address is that of the one being sent
 abbrev pub sourceTold : InPage → ℕ → InPage
-sourceTold p x = record {
-  waiting = p .waiting;
-  sending = p .sending;
-  load = p .load;
-  turn = p .turn;
-  queued = p .queued;
-  sent = p .sent;
-  passed = p .passed;
-  source = cond (p .load) x (p .source);
-  shown = p .shown;
-}
+sourceTold p x = withSending p (p .sending) (p .load) (cond (p .load) x (p .source)) (p .shown)
 
 -- an address that sends nothing
 abbrev pub placedIn : InPage → InPage
-placedIn p = record {
-  waiting = p .waiting;
-  sending = p .sending;
-  load = false;
-  turn = p .turn;
-  queued = p .queued;
-  sent = p .sent;
-  passed = p .passed;
-  source = p .source;
-  shown = p .shown;
-}
+placedIn p = withSending p (p .sending) false (p .source) (p .shown)
 
 abbrev pub loadedIn : InPage → Buf → InPage
 loadedIn p b = cond (some (p .waiting)) (sentIn p b) (placedIn p)
 
--- "Queue: its bytes wait, last"
+-- "Queue: its bytes wait, last"; it is not sent before its address is handed out
 abbrev pub queuedIn : InPage → List ℕ → InPage
-queuedIn p bytes = record {
-  waiting = p .waiting ++ (bytes ∷ []);
-  sending = p .sending;
-  load = p .load;
-  turn = (p .turn + 1) % 2;
-  queued = p .queued ++ (bytes ∷ []);
-  sent = p .sent;  -- not before its address is handed out
-  passed = p .passed;
-  source = p .source;
-  shown = p .shown;
-}
+queuedIn p bytes = withPackets p (p .waiting ++ (bytes ∷ [])) ((p .turn + 1) % 2) (p .queued ++ (bytes ∷ [])) (p .sent) (p .passed)
 
 -- ---- kept values
 
 -- of an endpoint's record `ready`, `len`, `armed`, `last_frame` and `tog` are assigned
 abbrev pub mergedPlain : EpCore → EpCore → EpCore
-mergedPlain p v = record {
-  ready = v .ready;
-  len = v .len;
-  armed = v .armed;
-  «last_frame» = v .«last_frame»;
-  tog = v .tog;
-  iso = p .iso;
-  kind = p .kind;
-  base = p .base;
-  «max_len» = p .«max_len»;
-}
+mergedPlain p v = withTog (v .tog) (withLastFrame (v .«last_frame») (withArmed (v .armed) (withLen (v .len) (withReady (v .ready) p))))
 
 -- an endpoint's record after its allocation
 abbrev pub shapedPlain : EpCore → ℕ → ℕ → ℕ → EpCore

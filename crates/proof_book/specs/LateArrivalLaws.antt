@@ -22,18 +22,18 @@ use Rattle.machine.specs.Suspended.{driverOf, drive, machineOf}
 use Rattle.proof_book.specs.Pages.{Packet, Pages}
 use Rattle.proof_book.specs.Book.{book}
 use Rattle.proof_book.specs.Coupling.{Coupling}
-use Rattle.proof_book.specs.Allocations.{fresh-kept}
-use Rattle.proof_book.specs.Chips.{chip}
-use Rattle.proof_book.specs.Agrees.{agree}
+use Rattle.proof_book.specs.StartUpLaws.{fresh-kept}
+use Rattle.proof_book.specs.ChipsLaws.{chip}
+use Rattle.proof_book.specs.AgreesLaws.{agree}
 use Rattle.proof_book.specs.Lengths.{Known, learnt, lengthOf}
 use Rattle.proof_book.specs.FrontPage.{Made, CallStep, written, Decides, Decided, admitted, turned-away, AfterEach, LengthIs, LengthsEach}
 use Rattle.proof_book.specs.FrontPage as page
-use Rattle.proof_book.specs.FrontPageProved.{demand-3}
-use Rattle.proof_book.specs.SlotsKept.{lent-is}
+use Rattle.proof_book.specs.FrontPageLaws.{demand-3}
+use Rattle.proof_book.specs.SlotsKeptLaws.{lent-is}
 use Rattle.proof_book.specs.Watched.{Seen, watched, slotAt, most, Stored, LentBy, RunLent}
 use Rattle.proof_book.specs.Watched as watch
 use Rattle.proof_book.specs.WatchedLaws.{clean-stored, true-length}
-use Rattle.proof_book.specs.WatchedRuns.{Claims, agreed, made-agrees, start-agrees}
+use Rattle.proof_book.specs.WatchedRunsLaws.{Claims, agreed, made-agrees, start-agrees}
 use Rattle.proof_book.specs.LateArrival.{ByMarks, StoredWhole, JoinEach}
 
 -- two books of one driver

@@ -37,6 +37,8 @@ use Rattle.model_ops.specs.Rings.{St, completeOn, emptied, emptiedOn, openOn, c
 use Rattle.model_ops.specs.Rings.{enqueueOn, recordedOn, admittedOn, arrivedAt, arriveOn, sendOn, placeOn, renewedOn}
 use Rattle.model_ops.specs.Rings.{armAt, slotStep, typeStep, configStep, resetBelow, resetAll}
 use Rattle.model_ops.specs.Concrete.{concrete}
+use Rattle.model.specs.Steps.{is, turning}
+use Rattle.proof_book.specs.ActsLaws.{actKind}
 
 -- ---- any part
 
@@ -123,19 +125,7 @@ queued-leaves d e n = then (others d (withLenOn d In e _ n) refl refl) (ring-onl
 
 -- the change that sets the kept ep_config
 abbrev pub turns : Act → Bool
-turns (complete e) = false
-turns (reset-ring d e) = false
-turns (set-enabled d e on) = true
-turns (fill e bytes) = false
-turns (fill0 bytes) = false
-turns (open-oldest e) = false
-turns (close-oldest e) = false
-turns (take-oldest e) = false
-turns (enqueue e bytes) = false
-turns (allocate d kind address maximum interval) = false
-turns (allocate0 maximum) = false
-turns no-wakes = false
-turns (waken codes) = false
+turns q = is (actKind q) turning
 
 pub act-leaves : (q : Act) → allocates q ≡ false → (s : St) → RingsOnly (turns q) (s .0) (concrete .act q s .0)
 unfolding completeOn emptiedOn emptied enabledOn configured openOn openedOf closeOn takeOn closedOf passedOf enqueueOn

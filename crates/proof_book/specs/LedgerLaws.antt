@@ -6,6 +6,7 @@ use Prim.Native.Nat.{ℕ, _≤_}
 use native.Mathlib.Omega.{arith}
 use lib.ListN.{length, length-map}
 use Rattle.bits.specs.Bit.{isSet}
+use Rattle.regs.specs.declared.Dir.{Dir}
 use Rattle.regs.specs.declared.Dir.the-variants.{Out, In}
 use Rattle.state.specs.Driver.{Driver, epOn}
 use Rattle.alloc.specs.Alloc.{allocatedIn, slotsOf}
@@ -16,7 +17,7 @@ use Rattle.model.specs.Machine.{Buf}
 use Rattle.proof_book.specs.Pages.{Packet, bytesOf, Pages}
 use Rattle.proof_book.specs.Book.{front}
 use Rattle.proof_book.specs.Coupling.{Shape, lensOf, Coupling}
-use Rattle.proof_book.specs.Held.{held-length}
+use Rattle.proof_book.specs.HeldLaws.{held-length}
 
 slots-out : (i : Bool) → slotsOf i Out ≤ 16
 unfolding slotsOf
@@ -29,19 +30,18 @@ slots-in true = omega arith
 slots-in false = omega arith
 
 module _ {φ : Phase} {b : Buf} {d : Driver} {t : Pages} (R : Coupling φ b d t) (e : ℕ) where
-  few-out : epOn d Out e .slots ≤ 16
-  few-out = go (isSet (allocatedIn (d .allocator) Out) _) (R .shape Out e)
+  few : (dir : Dir) (n : ℕ) → 1 ≤ n → ((i : Bool) → slotsOf i dir ≤ n) → epOn d dir e .slots ≤ n
+  few dir n l most = go (isSet (allocatedIn (d .allocator) dir) _) (R .shape dir e)
     where
-      go : (u : Bool) → Shape u (d .allocator) Out (epOn d Out e) → epOn d Out e .slots ≤ 16
-      go true s = omega (arith, s .slots, slots-out (isOn (epOn d Out e .iso)))
+      go : (u : Bool) → Shape u (d .allocator) dir (epOn d dir e) → epOn d dir e .slots ≤ n
+      go true s = omega (arith, s .slots, most (isOn (epOn d dir e .iso)))
       go false s = omega (arith, s .slots)
 
+  few-out : epOn d Out e .slots ≤ 16
+  few-out = few Out 16 (omega arith) slots-out
+
   few-in : epOn d In e .slots ≤ 2
-  few-in = go (isSet (allocatedIn (d .allocator) In) _) (R .shape In e)
-    where
-      go : (u : Bool) → Shape u (d .allocator) In (epOn d In e) → epOn d In e .slots ≤ 2
-      go true s = omega (arith, s .slots, slots-in (isOn (epOn d In e .iso)))
-      go false s = omega (arith, s .slots)
+  few-in = few In 2 (omega arith) slots-in
 
   -- "the packets read in its stretch, then those queued, are exactly that stretch's admitted arrivals, in order"
   pub read-then-queued : bytesOf (t .outs e .read) ++ waiting b (epOn d Out e) (lensOf d Out e) ≡ bytesOf (t .outs e .admitted)

@@ -1,5 +1,5 @@
 -- FrontPage.antt's definitions for lists of calls of the machine that the state's bytes are: what each is lent, and what holds after each. The
--- theorem is `machine-demand-3` (FrontPageProved.antt)
+-- theorem is `machine-demand-3` (FrontPageLaws.antt)
 use mathlib.Core.List.{List, [], _∷_}
 use Rattle.state.specs.Driver.{Driver}
 use Rattle.model.specs.Answers.{Answer}

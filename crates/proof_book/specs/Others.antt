@@ -30,10 +30,14 @@ releases (Ep0Dma x) = false
 releases (Wait n) = false
 releases Callback = false
 
+-- an answer that hands out such an access
+abbrev pub handsOut : (Access → Bool) → Ans Answer → Bool
+handsOut f (ended z) = false
+handsOut f (handed q) = f q
+handsOut f (told k) = false
+
 abbrev pub releasing : Ans Answer → Bool
-releasing (ended z) = false
-releasing (handed q) = releases q
-releasing (told k) = false
+releasing a = handsOut releases a
 
 -- the endpoints whose packets a call may change: one, none of them, any
 pub data Names : Type 0 where

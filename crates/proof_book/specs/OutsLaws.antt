@@ -1,4 +1,4 @@
--- Laws on the definitions of Outs.antt
+-- OUT endpoints: what is asked of them, and a packet opened, closed, taken, a ring emptied
 use mathlib.Core.Bool.{Bool, true, false, not, cond, true≢false}
 use mathlib.Core.List.{List, [], _∷_, _++_, map, tail, append-assoc}
 use mathlib.Core.Path.{_≡_, refl, ap, subst, sym, _∙_}
@@ -12,7 +12,7 @@ use Rattle.state.specs.Driver.{Driver, epOn, withOn}
 use Rattle.state.specs.Laws.{epOn-same}
 use Rattle.ring.specs.Slot.{countOf, hasWaiting, passedOf}
 use Rattle.ring.specs.Out.{openedOf, closedOf}
-use Rattle.ring.specs.Waiting.{waiting, Shows}
+use Rattle.ring.specs.Waiting.{waiting, SamePlace, Alike, Shows}
 use Rattle.ring.specs.Laws.{place-placed, place-addr, alike-count, alike-waits, alike-out, reset-count, reset-waits, reset-ring}
 use Rattle.ring.specs.OutLaws.{opened-alike, opened-shows, closed-place, closed-shows, close-waits, close-ring}
 use Rattle.marks.specs.Marks.{isMarked, markedLen}
@@ -27,12 +27,17 @@ use Rattle.model_ops.specs.Rings.{changedOn, markedOn, waitingOn, openedOn, old
 use Rattle.proof_book.specs.Pages.{Packet, bytesOf, OutPage, Pages, withOut}
 use Rattle.proof_book.specs.Book.{some, front, isoOf, openOut, readOut, emptyOut}
 use Rattle.proof_book.specs.Coupling.{Short, lensOf, slotStamps, OutFits, AtRest, Coupling}
-use Rattle.proof_book.specs.Lens.{lens-on, stamps-on}
-use Rattle.proof_book.specs.StampsLaws.{alike-stamps, none-stamps, close-stamps}
-use Rattle.proof_book.specs.Frame.{changed-not, changed-on, kept-same, out-changed, out-moved}
-use Rattle.proof_book.specs.Held.{IsAgrees, LookAgrees, FetchAgrees, ActAgrees, held-some, waits-count, held-next}
-use Rattle.proof_book.specs.Held.{held-first, held-stamp, receives, plain-receives}
-use Rattle.proof_book.specs.Outs.{Inner}
+use Rattle.proof_book.specs.LensLaws.{lens-on, stamps-on}
+use Rattle.proof_book.specs.StampsLaws.{alike-stamps, close-stamps}
+use Rattle.proof_book.specs.FrameLaws.{changed-not, changed-on, kept-same, out-changed, out-moved}
+use Rattle.proof_book.specs.HeldLaws.{IsAgrees, LookAgrees, FetchAgrees, ActAgrees, held-some, waits-count, held-next}
+use Rattle.proof_book.specs.HeldLaws.{held-first, held-stamp, receives, plain-receives}
+use Rattle.proof_book.specs.EmptyPagesLaws.{Seat, Shown, empty-out}
+
+-- a record changed, bytes as they were: the ring's place, and what scripts read of the record
+pub record Inner (r r′ : EpState) : Type 0 where
+  pub place : SamePlace r r′
+  pub plain : plainOf r′ ≡ plainOf r
 
 -- ---- what is asked
 
@@ -93,6 +98,30 @@ out-page {b} {d} {t} R e p f a =
     let c = changed-not (R .sized) Out e in
     out-changed R e p c (R .same) refl (λ i h. refl) f tt (λ x u n y. y) a
 
+-- another record with the same ring; packets and count as they were
+abbrev pub shownAs : OutPage → Bool → ℕ → OutPage
+shownAs p o x = record { waiting = p .waiting; opened = o; lost = p .lost; slot = x; admitted = p .admitted; read = p .read }
+
+pub fits-alike : {b : Buf} {r r′ : EpState} {ls ss : List ℕ} {p : OutPage} → Alike r r′ → OutFits b r ls ss p → r′ .«max_len» ≡ r .«max_len»
+    → (o : Bool) (x : ℕ) → Shown r′ o → Seat r′ (shownAs p o x) → OutFits b r′ ls ss (shownAs p o x)
+fits-alike {b} {ls = ls} {ss = ss} {p = p} k f m o x s z = record {
+  held = record {
+    placed = place-placed (k .place) (f .held .placed);
+    ring = alike-out k (f .held .ring);
+    least = rw (m, k .place .stride) (f .held .least);
+    waits = alike-waits k b ls (f .held .ring .tail8) ∙ f .held .waits;
+  };
+  stamps = alike-stamps k ss (f .held .ring .tail8) ∙ f .stamps;
+  opened = s .opened;
+  shows = s .shows;
+  lost = z .lost;
+  slot = z .slot;
+  from = z .from;
+  upto = z .upto;
+  ledger = f .ledger;
+  short = subst (λ n. Short n (p .waiting)) (sym m) (f .short);
+}
+
 -- ---- opened
 
 open-inner : (r : EpState) → Inner r (openedOf r)
@@ -102,25 +131,8 @@ open-inner r = record { place = record { base = refl; stride = refl; slots = ref
 module _ {b : Buf} {r : EpState} {ls ss : List ℕ} {p : OutPage} (f : OutFits b r ls ss p) (w : hasWaiting r ≡ true) where
   open-fits : OutFits b (openedOf r) ls ss (openOut p)
   unfolding openedOf
-  open-fits =
-      let k = opened-alike r in
-      record {
-        held = record {
-          placed = place-placed (k .place) (f .held .placed);
-          ring = alike-out k (f .held .ring);
-          least = f .held .least;
-          waits = alike-waits k b ls (f .held .ring .tail8) ∙ f .held .waits;
-        };
-        stamps = alike-stamps k ss (f .held .ring .tail8) ∙ f .stamps;
-        opened = refl;
-        shows = opened-shows r (waits-count r w);
-        lost = f .lost;
-        slot = f .slot;
-        from = f .from;
-        upto = f .upto;
-        ledger = f .ledger;
-        short = f .short;
-      }
+  open-fits = fits-alike (opened-alike r) f refl true (p .slot) (record { opened = refl; shows = opened-shows r (waits-count r w) })
+      (record { lost = f .lost; slot = f .slot; from = f .from; upto = f .upto })
 
   open-rest : {u : Bool} → AtRest u r p → AtRest u (openedOf r) (openOut p)
   unfolding openedOf
@@ -235,23 +247,14 @@ empty-inner r = record { place = record { base = refl; stride = refl; slots = re
 
 empty-fits : {b : Buf} {r : EpState} {ls ss : List ℕ} {p : OutPage} → OutFits b r ls ss p → OutFits b (emptied r) ls ss (emptyOut p)
 unfolding emptied
-empty-fits {b} {r} {ls} {ss} f = record {
-  held = record {
-    placed = place-placed (empty-inner r .place) (f .held .placed);
-    ring = reset-ring (emptied r) refl refl (r .slots - 1) ls (f .held .ring .whole) (f .held .ring .capped);
-    least = f .held .least;
-    waits = reset-waits (emptied r) refl refl b ls;
-  };
-  stamps = none-stamps (emptied r) ss (reset-count (emptied r) refl refl);
-  opened = refl;
-  shows = λ h. absurd (true≢false h);
-  lost = f .lost;
-  slot = f .slot;
-  from = f .from;
-  upto = f .upto;
-  ledger = refl;
-  short = tt;
-}
+empty-fits {b} {r} {ls} {ss} {p} f = empty-out refl refl refl
+    (record {
+      placed = place-placed (empty-inner r .place) (f .held .placed);
+      ring = reset-ring (emptied r) refl refl (r .slots - 1) ls (f .held .ring .whole) (f .held .ring .capped);
+      least = f .held .least;
+      waits = reset-waits (emptied r) refl refl b ls;
+    })
+    p (record { lost = f .lost; slot = f .slot; from = f .from; upto = f .upto }) ss
 
 empty-count : (r : EpState) → countOf (emptied r) ≡ 0
 unfolding emptied

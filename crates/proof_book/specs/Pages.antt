@@ -84,29 +84,16 @@ withOut t e p = record { kept = t .kept; outs = at e p (t .outs); ins = t .ins }
 abbrev pub withIn : Pages → ℕ → InPage → Pages
 withIn t e p = record { kept = t .kept; outs = t .outs; ins = at e p (t .ins) }
 
+abbrev pub keptOf : Globals → Wakes → Control → Allocator → (ℕ → ℕ) → (Dir → ℕ → Request) → (Dir → ℕ → EpCore) → Kept
+keptOf g w c a p r x = record { globals = g; wakes = w; control = c; allocator = a; paced = p; requests = r; plain = x }
+
 -- the values that are one for all endpoints
 abbrev pub keptValues : Kept → Globals → Wakes → Control → Allocator → Kept
-keptValues k g w c a = record {
-  globals = g;
-  wakes = w;
-  control = c;
-  allocator = a;
-  paced = k .paced;
-  requests = k .requests;
-  plain = k .plain;
-}
+keptValues k g w c a = keptOf g w c a (k .paced) (k .requests) (k .plain)
 
 -- those of each endpoint
 abbrev pub keptTables : Kept → (ℕ → ℕ) → (Dir → ℕ → Request) → (Dir → ℕ → EpCore) → Kept
-keptTables k p r x = record {
-  globals = k .globals;
-  wakes = k .wakes;
-  control = k .control;
-  allocator = k .allocator;
-  paced = p;
-  requests = r;
-  plain = x;
-}
+keptTables k p r x = keptOf (k .globals) (k .wakes) (k .control) (k .allocator) p r x
 
 abbrev pub keptGlobals : Kept → Globals → Kept
 keptGlobals k v = keptValues k v (k .wakes) (k .control) (k .allocator)

@@ -23,7 +23,7 @@ use Rattle.machine.specs.Suspended.{driverOf, drive, haltsAs}
 use Rattle.proof_book.specs.Always.{after}
 use Rattle.proof_book.specs.Sorting.{Sorting}
 use Rattle.proof_book.specs.SortingLaws.{after-sorting}
-use Rattle.proof_book.specs.Readings.{Stores, sorting-4056}
+use Rattle.proof_book.specs.ReadingsLaws.{Stores, sorting-4056}
 use Rattle.proof_book.specs.Served.{andThen}
 
 -- those that the calls of a list hand out, up to the call after which no interrupt is under way

@@ -40,8 +40,8 @@ use Rattle.model_ops.specs.Concrete.{concrete}
 use Rattle.machine.specs.Suspended.{driverOf}
 use Rattle.proof_book.specs.Pages.{Pages}
 use Rattle.proof_book.specs.Coupling.{Coupling, Shape}
-use Rattle.proof_book.specs.Cells.{key-by, on-key}
-use Rattle.proof_book.specs.Allocations.{fresh-kept}
+use Rattle.proof_book.specs.CellsLaws.{key-by, on-key}
+use Rattle.proof_book.specs.StartUpLaws.{fresh-kept}
 use Rattle.proof_book.specs.TransferKinds.{Steady}
 use Rattle.proof_book.specs.TransferKindsLaws.{others, put-steady, rings-steady, hand-steady, row-steady}
 use Rattle.proof_book.specs.LeavesLaws.{turns, by-act}

@@ -10,7 +10,6 @@ use borrow.Author.Tests.{eqb-true}
 use lib.Dec.{eqb}
 use lib.ListN.{length, getD}
 use Rattle.le_bytes.specs.Tables.{tab}
-use Rattle.regs.specs.declared.Access.the-variants.{Read, Write, Receive, Transmit, Ep0Dma, Wait, Callback}
 use Rattle.regs.specs.declared.Dir.the-variants.{Out}
 use Rattle.frame.specs.Usb20.{indexOf}
 use Rattle.state.specs.declared.Globals.{Globals}
@@ -22,7 +21,7 @@ use Rattle.model.specs.Simulates.{Phase}
 use Rattle.model.specs.Answers.{Answer, Refused, resultless}
 use Rattle.model.specs.Calls.{Config, Op, interrupt, slotted, other, aside, Aside, asideCode, code, calls, startRow, interruptCode}
 use Rattle.model.specs.Handler.{onInterrupt, stampedInterrupt}
-use Rattle.model.specs.Machine.{Buf, Call, start, begin, go, question, Event, Ans, ended, handed, told, Awaits, awaited}
+use Rattle.model.specs.Machine.{Buf, Call, start, begin, go, question, Event, Ans, Awaits, awaited}
 use Rattle.model.specs.Machine.{Way, idle, busy, Machine, fed, blankA, over, misfit, stay, lentTo, beside, halt, begun}
 use Rattle.model.specs.Machine.{started}
 use Rattle.model.specs.Agree.{Ways, both-idle, both-busy, After, agrees, from-start}
@@ -31,18 +30,20 @@ use Rattle.model_ops.specs.Concrete.{concrete}
 use Rattle.state.specs.State.{view}
 use Rattle.machine.specs.Suspended.{driverOf, drive, machineOf}
 use Rattle.proof_book.specs.Pages.{stampsOf, Pages}
+use Rattle.proof_book.specs.Pages as book-of
 use Rattle.proof_book.specs.Stamps.{stamped}
 use Rattle.proof_book.specs.Book.{Bk, slotTold, bookOps, book}
 use Rattle.proof_book.specs.Coupling.{Coupling}
-use Rattle.proof_book.specs.Allocations.{fresh-kept}
-use Rattle.proof_book.specs.Agrees.{agree}
+use Rattle.proof_book.specs.StartUpLaws.{fresh-kept}
+use Rattle.proof_book.specs.AgreesLaws.{agree}
 use Rattle.proof_book.specs.FrontPage.{Made, CallStep, written, Calls, ringStamps}
 use Rattle.proof_book.specs.MachineRuns.{Premise}
-use Rattle.proof_book.specs.SlotsKept.{lent-is}
-use Rattle.proof_book.specs.Keeping.{Throughout, at-end, at-ask, At, keeps-run}
-use Rattle.proof_book.specs.Entered.{of-interrupt, of-aside}
+use Rattle.proof_book.specs.AnswersLaws.{tells-same, fed-elim, fed-kept}
+use Rattle.proof_book.specs.SlotsKeptLaws.{lent-is}
+use Rattle.proof_book.specs.KeepingLaws.{Throughout, at-end, at-ask, At, keeps-run}
+use Rattle.proof_book.specs.EnteredLaws.{of-interrupt, of-aside}
 use Rattle.proof_book.specs.Stamping.{First, not-yet, brought, firstOf, noticed, OneMore, Stamping, StampsEach, StampsMade}
-use Rattle.proof_book.specs.StampingScripts.{Even, Kept, Stays, Joins, Either, Grows, ends-so, asks-so, grows-from, grows-bind, grows-run}
+use Rattle.proof_book.specs.StampingScriptsLaws.{Even, Kept, Stays, Joins, Either, Grows, ends-so, asks-so, grows-from, grows-bind, grows-run}
 
 abbrev Any : Answer → Type 0
 Any a = Unit {0}
@@ -71,30 +72,13 @@ begins-so a f s d = by (eqb (s .0 .kept .globals .stage) 2)
 -- ---- what the book is told leaves both
 
 fed-joins : (x : ℕ) (s t : Pages) → Even s → Joins x s t → (a : Ans Answer) → Joins x s (fed book a t)
-fed-joins x s t z j (ended b) = j
-fed-joins x s t z j (told n) = j
-fed-joins x s t z j (handed (Read r e)) = j
-fed-joins x s t z j (handed (Write r e y)) = j
-fed-joins x s t z j (handed (Receive e y)) = λ f. by f (eqb (f % 16) (e % 16)) refl
+fed-joins x s t z j a = fed-elim (Joins x s) a t j (λ e y _. λ f. by e y f (eqb (f % 16) (e % 16)) refl) (λ e y _. j)
   where
-    by : (f : ℕ) (u : Bool) → eqb (f % 16) (e % 16) ≡ u → Either x s f (stampsOf (cond u (slotTold (t .outs e) y) (t .outs f) .waiting))
-    by f true h = let g = z e f (sym (eqb-true (f % 16) (e % 16) h)) in ⊎-elim (λ p. inl (p ∙ g)) (λ p. inr (p ∙ ap (λ (l : List ℕ). l ++ (x ∷ [])) g)) (j e)
-    by f false h = j f
-fed-joins x s t z j (handed (Transmit e y)) = j
-fed-joins x s t z j (handed (Ep0Dma y)) = j
-fed-joins x s t z j (handed (Wait n)) = j
-fed-joins x s t z j (handed Callback) = j
-
-fed-entered : (a : Ans Answer) (t : Pages) → fed book a t .kept .globals .entered ≡ t .kept .globals .entered
-fed-entered (ended b) t = refl
-fed-entered (told n) t = refl
-fed-entered (handed (Read r e)) t = refl
-fed-entered (handed (Write r e y)) t = refl
-fed-entered (handed (Receive e y)) t = refl
-fed-entered (handed (Transmit e y)) t = refl
-fed-entered (handed (Ep0Dma y)) t = refl
-fed-entered (handed (Wait n)) t = refl
-fed-entered (handed Callback) t = refl
+    by : (e y f : ℕ) (u : Bool) → eqb (f % 16) (e % 16) ≡ u → Either x s f (stampsOf (cond u (slotTold (t .outs e) y) (t .outs f) .waiting))
+    by e y f true h =
+        let g = z e f (sym (eqb-true (f % 16) (e % 16) h)) in
+        ⊎-elim (λ p. inl (p ∙ g)) (λ p. inr (p ∙ ap (λ (l : List ℕ). l ++ (x ∷ [])) g)) (j e)
+    by e y f false h = j f
 
 -- ---- the driver's stamps are the book's
 
@@ -126,17 +110,11 @@ none-more {d = d} {d′ = d′} f R R′ s e h =
 -- ---- one call
 
 -- an answer but for its address tells the same
-noticed-blank : (c : Call Config Op) (a : Ans Answer) (f : First) → noticed c a f ≡ noticed c (blankA a) f
-noticed-blank (start c) (handed q) f = refl
-noticed-blank (start c) (ended a) f = refl
-noticed-blank (start c) (told n) f = refl
-noticed-blank (begin o) (handed q) f = refl
-noticed-blank (begin o) (ended a) f = refl
-noticed-blank (begin o) (told n) f = refl
-noticed-blank (go v) (handed q) f = refl
-noticed-blank (go v) (ended a) f = refl
-noticed-blank (go v) (told n) f = refl
-noticed-blank (question q) a f = refl
+noticed-same : (c : Call Config Op) (f : First) (a b : Ans Answer) → blankA a ≡ blankA b → noticed c a f ≡ noticed c b f
+noticed-same (start c) f = tells-same (λ z. noticed (start c) z f) (λ _ _. refl, λ _ _. refl, λ _. refl)
+noticed-same (begin o) f = tells-same (λ z. noticed (begin o) z f) (λ _ _. refl, λ _ _. refl, λ _. refl)
+noticed-same (go v) f = tells-same (λ z. noticed (go v) z f) (λ _ _. refl, λ _ _. refl, λ _. refl)
+noticed-same (question q) f = λ _ _ _. refl
 
 plainly : (a : Ans Answer) (f : First) (o : tree.Out Bk Answer) (d : Driver) → Serves f (halt calls (book .driver) (fed book a) false o .1 .way) d
 plainly a f (ends x s) d = tt
@@ -202,7 +180,8 @@ module _ {φ ψ : Phase} {c c′ : Buf} {d d′ : Driver} {t : Pages} (R : Coupl
       → let y = halt calls (book .driver) (fed book x) true o in Coupling ψ c′ d′ (y .1 .st) → Went f n t d d′ y
   went w e (ends-so s k p) R′ = record { serves = tt; more = none-more f R R′ s }
   went w e (asks-so {q = q} {t = u} {k = g} j k h) R′ =
-      let i : d′ .globals .entered ≡ indexOf w = ap (λ (g : Globals). g .entered) (R′ .same .globals) ∙ fed-entered x (u .0) ∙ k in
+      let i : d′ .globals .entered ≡ indexOf w
+      = ap (λ (g : Globals). g .entered) (R′ .same .globals) ∙ ap (λ (k : book-of.Kept). k .globals .entered) (fed-kept x (u .0)) ∙ k in
       record {
         serves = subst (λ y. Serves y (busy true (awaited q) g) d′) (sym e) (i, h);
         more = subst (λ y. OneMore y d d′) (sym e) (one-more w R R′ (fed-joins (indexOf w) t (u .0) (even-of R) j x));
@@ -318,19 +297,16 @@ step (begin o) b idle d a idle t a′ f both-idle R h k =
     record { serves = begin-idle (x .0) f t (x .1 .st) o a′ b; stamps = tt }
 step (begin o) b (busy false q j) d a (busy false q′ j′) t a′ f (both-busy i z p g) R h k =
     let x = drive (begin o) (record { way = busy false q j; st = d; buf = a }) b in
-    let y = written (x .0) (begin o) (record { way = busy false q j′; st = t; buf = a′ }) b in
-    record { serves = begin-late (x .0) f t (x .1 .st) o q j′ a′ b (noticed (begin o) (y .0) f); stamps = tt }
+    record { serves = begin-late (x .0) f t (x .1 .st) o q j′ a′ b _; stamps = tt }
 step (begin o) b (busy true q j) d a (busy true q′ j′) t a′ f (both-busy i z p g) R h k =
     let x = drive (begin o) (record { way = busy true q j; st = d; buf = a }) b in
     record { serves = begin-serves (x .0) f q j′ t a′ b (x .1 .st) (serves-on f (busy true q j′) d (x .1 .st) (begin-entered q j d a b o) h) o; stamps = tt }
 step (go v) b idle d a idle t a′ f both-idle R h k =
     let x = drive (go v) (record { way = idle; st = d; buf = a }) b in
-    let y = written (x .0) (go v) (record { way = idle; st = t; buf = a′ }) b in
-    record { serves = go-idle (x .0) f t (x .1 .st) v a′ b (noticed (go v) (y .0) f); stamps = tt }
+    record { serves = go-idle (x .0) f t (x .1 .st) v a′ b _; stamps = tt }
 step (go v) b (busy false q j) d a (busy false q′ j′) t a′ f (both-busy i z p g) R h k =
     let x = drive (go v) (record { way = busy false q j; st = d; buf = a }) b in
-    let y = written (x .0) (go v) (record { way = busy false q j′; st = t; buf = a′ }) b in
-    record { serves = go-plain (x .0) f t (x .1 .st) v q j′ a′ b (noticed (go v) (y .0) f); stamps = tt }
+    record { serves = go-plain (x .0) f t (x .1 .st) v q j′ a′ b _; stamps = tt }
 step (go v) b (busy true q j) d a (busy true q′ j′) t a′ f (both-busy i z p g) R h k =
     let x = drive (go v) (record { way = busy true q j; st = d; buf = a }) b in
     let u = go-serves R b (x .0) v f q j′ h a′ (k .rest) in
@@ -347,7 +323,7 @@ one : (c : Call Config Op) (b : Buf) {φ : Phase} (m : Machine Answer Driver) (n
 one c b m n f w R h k =
     let x = drive c m b in
     let y = written (x .0) c n b in
-    subst (λ g. Step c (m .way) (m .st) g x y) (noticed-blank c (y .0) f ∙ ap (λ z. noticed c z f) (sym (k .same)) ∙ sym (noticed-blank c (x .0) f))
+    subst (λ g. Step c (m .way) (m .st) g x y) (noticed-same c f (y .0) (x .0) (sym (k .same)))
     (step c b (m .way) (m .st) (m .buf) (n .way) (n .st) (n .buf) f w R h k)
 
 each : (es : List (Event Config Op)) {φ : Phase} (m : Machine Answer Driver) (n : Machine Answer Pages) (f : First)

@@ -14,8 +14,8 @@ use Rattle.marks.specs.Marks.{markedLen}
 use Rattle.marks.specs.Copies.{bytesAt}
 use Rattle.marks.specs.Finds.{LastDiffers}
 use Rattle.model.specs.Answers.{Answer}
-use Rattle.model.specs.Script.{Act, complete, reset-ring, set-enabled, fill, fill0, open-oldest, close-oldest}
-use Rattle.model.specs.Script.{take-oldest, enqueue, allocate, allocate0, no-wakes, waken, DmaStep, arrive, send, place}
+use Rattle.model.specs.Script.{Act}
+use Rattle.model.specs.Script.{DmaStep, arrive, send, place}
 use Rattle.model.specs.Script.{place0, Burst, switch, bus-reset}
 use Rattle.model.specs.Calls.{Config, Op, calls}
 use Rattle.model.specs.Machine as machine
@@ -24,6 +24,7 @@ use Rattle.machine.specs.Suspended.{driverOf, drive, machineOf}
 use Rattle.proof_book.specs.Pages.{Pages}
 use Rattle.proof_book.specs.Book.{Bk, receiving, isoOf, getB, putB, isB, lookB, fetchB, actB, handB, rowB, freshPages, questionB, feedB, book}
 use Rattle.proof_book.specs.FrontPage.{Made, CallStep, Chip, unless}
+use Rattle.model.specs.TransferKinds.{allocates}
 
 -- ---- how often a slot of OUT e was armed
 
@@ -58,20 +59,9 @@ watchRow e (switch f onn) (suc (suc zero)) t w = w
 watchRow e (switch f onn) (suc (suc (suc k))) t w = cond (eqb (e % 16) (f % 16)) (armsBy (isoOf t Out f) w) w
 watchRow e bus-reset n t w = armsBy false w
 
+-- an allocation may place another buffer
 abbrev pub watchAct : Act → Watch → Watch
-watchAct (complete f) w = w
-watchAct (reset-ring d f) w = w
-watchAct (set-enabled d f onn) w = w
-watchAct (fill f bytes) w = w
-watchAct (fill0 bytes) w = w
-watchAct (open-oldest f) w = w
-watchAct (close-oldest f) w = w
-watchAct (take-oldest f) w = w
-watchAct (enqueue f bytes) w = w
-watchAct (allocate d kind address maximum interval) w = armsBy false w
-watchAct (allocate0 maximum) w = armsBy false w
-watchAct no-wakes w = w
-watchAct (waken codes) w = w
+watchAct q w = cond (allocates q) (armsBy false w) w
 
 abbrev pub bookOf : Seen × Buf → Bk
 bookOf s = (s .0 .pages, s .1)

@@ -27,10 +27,10 @@ use Rattle.proof_book.specs.Pages.{OutPage, Pages, at, withOut}
 use Rattle.proof_book.specs.Book.{some, waitsOn, openOut, readOut, roomB}
 use Rattle.proof_book.specs.Book.{isoOut, putB, actB, isoOf}
 use Rattle.proof_book.specs.Coupling.{Coupling}
-use Rattle.proof_book.specs.Lens.{ep-mod}
-use Rattle.proof_book.specs.Held.{Words}
-use Rattle.proof_book.specs.Switches.{slot-words}
-use Rattle.proof_book.specs.Untouched.{Untouched}
+use Rattle.proof_book.specs.LensLaws.{ep-mod}
+use Rattle.proof_book.specs.HeldLaws.{Words}
+use Rattle.proof_book.specs.SwitchesLaws.{slot-words}
+use Rattle.proof_book.specs.UntouchedLaws.{Untouched}
 use Rattle.proof_book.specs.Watched.{Watch, watchAct, slotAt, most, Alone, Whole}
 
 module _ (e : ℕ) (packet : List ℕ) where

@@ -1,10 +1,10 @@
 -- Lists of calls made from what is done, each lent the slot buffer as the last one left it, but for the chip's stores into the slot of OUT 1's last
 -- receive address: every such list meets the premise of demand 3
-use mathlib.Core.Bool.{Bool, true, false, cond, _&&_, true≢false}
+use mathlib.Core.Bool.{Bool, true, false, cond, _&&_}
 use mathlib.Core.List.{List, [], _∷_}
 use mathlib.Core.Logic.{inl, inr}
-use mathlib.Core.Path.{_≡_, refl, sym}
-use Prim.Native.Nat.{ℕ, _+_, _%_, _≤_}
+use mathlib.Core.Path.{_≡_, refl}
+use Prim.Native.Nat.{ℕ, _%_}
 use native.Mathlib.Omega.{arith}
 use lib.Dec.{leb}
 use borrow.Author.Tests.{leb-true}
@@ -23,6 +23,7 @@ use Rattle.proof_book.specs.Pages.{Pages}
 use Rattle.proof_book.specs.Book.{book}
 use Rattle.proof_book.specs.FrontPage.{written, Chip, unless, LentAsLeft}
 use Rattle.proof_book.specs.MachineRuns.{Premise}
+pub use Rattle.proof_book.specs.InsLaws.{left, right}
 
 -- a call, what the chip stores before it, and whether what it comes to is told
 pub record Input : Type 0 where
@@ -49,14 +50,6 @@ eventsOf (i ∷ is) m n =
     e ∷ eventsOf is (x .1) (written (x .0) (e .call) n (e .lent) .1)
 
 -- ---- the premise
-
-pub left : (x y : Bool) → (x && y) ≡ true → x ≡ true
-left true y h = refl
-left false y h = absurd (true≢false (sym h))
-
-pub right : (x y : Bool) → (x && y) ≡ true → y ≡ true
-right true y h = h
-right false y h = absurd (true≢false (sym h))
 
 chip-stores : (t : Pages) (b : Buf) (bytes : List ℕ) → Chip t b (storedIn t b bytes)
 chip-stores t b [] = record { long = refl; others = λ k h. refl }

@@ -25,7 +25,7 @@ use Rattle.model.specs.Script.{Burst}
 use Rattle.model_ops.specs.Records.{recordGiven, setsGiven, givenTo, allocatedOn, startedWith, allocatedEp0}
 use Rattle.model_ops.specs.Rings.{St}
 use Rattle.model_ops.specs.Concrete.{concrete}
-use Rattle.proof_book.specs.Cells.{on-key}
+use Rattle.proof_book.specs.CellsLaws.{on-key}
 use Rattle.proof_book.specs.LeavesLaws.{RingsOnly, turns, by-act, hand-leaves, givenOf, GivenStays, given-stays, rings-stay, put-given, turnsRow, row-stays}
 use Rattle.proof_bus_time.specs.Enabled.{isTaken}
 

@@ -1,5 +1,5 @@
 -- Each of the four runs as it would alone, but for the enablings that were turned down: to the driver these are as a question. So demand 3 holds of each
--- (proof_book/specs/Demand3.antt speaks of every list of calls), and where none was turned down the driver's calls are those of the Rust
+-- (proof_book/specs/Demand3Laws.antt speaks of every list of calls), and where none was turned down the driver's calls are those of the Rust
 use mathlib.Core.Bool.{Bool, true, false, cond}
 use mathlib.Core.List.{List, [], _∷_}
 use mathlib.Core.Path.{_≡_, refl, ap, sym, _∙_}

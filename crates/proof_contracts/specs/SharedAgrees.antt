@@ -25,10 +25,10 @@ use Rattle.call_bus_time.specs.Sharing.{turnedDown, timeAfter, settled, sharedC
 use Rattle.proof_book.specs.Pages.{Pages}
 use Rattle.proof_book.specs.Book.{book}
 use Rattle.proof_book.specs.Coupling.{Coupling, Chip}
-use Rattle.proof_book.specs.Allocations.{fresh-kept}
-use Rattle.proof_book.specs.Agrees.{agree}
+use Rattle.proof_book.specs.StartUpLaws.{fresh-kept}
+use Rattle.proof_book.specs.AgreesLaws.{agree}
 use Rattle.proof_book.specs.FrontPage.{written, LentAsLeft}
-use Rattle.proof_book.specs.SlotsKept.{lent-is}
+use Rattle.proof_book.specs.SlotsKeptLaws.{lent-is}
 use Rattle.proof_contracts.specs.SharedBook.{chargeIn, wouldPass, sharedStep, timeIn}
 
 -- driver and book agree after a call (proof_book/specs/Coupling.antt), and the record is what the book works out

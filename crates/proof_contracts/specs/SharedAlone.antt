@@ -15,7 +15,7 @@ use Rattle.machine.specs.Suspended.{driverOf, machineOf}
 use Rattle.proof_book.specs.Pages.{Pages}
 use Rattle.proof_book.specs.Book.{book}
 use Rattle.proof_book.specs.Coupling.{Coupling}
-use Rattle.proof_book.specs.Agrees.{agree}
+use Rattle.proof_book.specs.AgreesLaws.{agree}
 use Rattle.proof_book.specs.FrontPage.{LentAsLeft}
 use Rattle.proof_book.specs.FrontPage as page
 use Rattle.proof_contracts.specs.SharedPage.{Made, outcomeOf, noted, Calls}

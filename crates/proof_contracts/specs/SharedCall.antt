@@ -19,9 +19,9 @@ use Rattle.call_bus_time.specs.Sharing.{sortOf, turnedDown, timeAfter, settled,
 use Rattle.proof_book.specs.Pages.{Pages}
 use Rattle.proof_book.specs.Book.{book}
 use Rattle.proof_book.specs.Coupling.{Coupling}
-use Rattle.proof_book.specs.Agrees.{agree}
+use Rattle.proof_book.specs.AgreesLaws.{agree}
 use Rattle.proof_book.specs.FrontPage.{written, LentAsLeft}
-use Rattle.proof_book.specs.SlotsKept.{lent-is}
+use Rattle.proof_book.specs.SlotsKeptLaws.{lent-is}
 use Rattle.proof_contracts.specs.SharedBook.{sharedStep}
 use Rattle.proof_contracts.specs.SharedAgrees.{down-chip, down-same}
 

@@ -18,7 +18,7 @@ use Rattle.proof_book.specs.Lengths.{Known, learnt, lengthAt}
 use Rattle.proof_book.specs.Others.{releasing, Names, underWay, callNames, Away, SamePage}
 use Rattle.proof_book.specs.FrontPage.{Decides, Compared, Sentences, same, AfterCall}
 use Rattle.proof_book.specs.FrontPage as page
-use Rattle.proof_book.specs.FrontPageProved.{demand-3}
+use Rattle.proof_book.specs.FrontPageLaws.{demand-3}
 use Rattle.proof_contracts.specs.SharedPage.{Made, outcomeOf, CallStep, Calls, noted, AfterEach}
 use Rattle.proof_contracts.specs.SharedPage.{LengthIs, LengthsEach, OthersStay, OthersEach, SharedDemand3}
 use Rattle.proof_contracts.specs.SharedCall.{as-shared}

@@ -15,8 +15,8 @@ use Rattle.call_bus_time.specs.Sharing.{sortOf, timeAfter, settled, sharedCall}
 use Rattle.proof_book.specs.Pages.{Pages}
 use Rattle.proof_book.specs.Book.{book}
 use Rattle.proof_book.specs.Coupling.{Coupling}
-use Rattle.proof_book.specs.Allocations.{fresh-kept}
-use Rattle.proof_book.specs.Agrees.{agree}
+use Rattle.proof_book.specs.StartUpLaws.{fresh-kept}
+use Rattle.proof_book.specs.AgreesLaws.{agree}
 use Rattle.proof_contracts.specs.SharedBook.{timeIn}
 use Rattle.proof_contracts.specs.SharedPage.{Made, CallStep, noted, Calls}
 use Rattle.proof_contracts.specs.SharedAgrees.{Agreed, shared-agrees}

@@ -14,10 +14,10 @@ use Rattle.machine.specs.Goes.{Called}
 use Rattle.proof_book.specs.Pages.{Pages}
 use Rattle.proof_book.specs.Book.{book}
 use Rattle.proof_book.specs.Coupling.{Coupling}
-use Rattle.proof_book.specs.Agrees.{agree}
+use Rattle.proof_book.specs.AgreesLaws.{agree}
 use Rattle.proof_book.specs.FrontPage.{written, AfterCall}
 use Rattle.proof_book.specs.MachineRuns as alone
-use Rattle.proof_book.specs.FrontPageProved.{machine-demand-3}
+use Rattle.proof_book.specs.FrontPageLaws.{machine-demand-3}
 use Rattle.proof_contracts.specs.SharedPage.{AfterShared}
 use Rattle.proof_contracts.specs.SharedAgrees.{Agreed, shared-agrees}
 use Rattle.proof_contracts.specs.SharedRuns.{shared-start}

@@ -27,9 +27,9 @@ use Rattle.model.specs.Simulates.{quiet}
 use Rattle.model_ops.specs.Rings.{St, waitingOn, roomOn, roomIn, openedOn, nextStamp, oldestAt, oldestOn, openOn, closeOn, queuedOn, enqueueOn, nextLen}
 use Rattle.model_ops.specs.Concrete.{concrete, isOf, lookOf, fetchOf, actOn}
 use Rattle.proof_book.specs.Coupling.{endOf, lensOf, slotStamps}
-use Rattle.proof_book.specs.Lens.{stamps-at, lens-at, lens-length, lens-set, lens-mod, ep-len}
-use Rattle.proof_book.specs.Frame.{changed-on, changed-len, same-place}
-use Rattle.proof_book.specs.Outs.{Inner}
+use Rattle.proof_book.specs.LensLaws.{stamps-at, lens-at, lens-length, lens-set, lens-mod, ep-len}
+use Rattle.proof_book.specs.FrameLaws.{changed-on, changed-len, same-place}
+use Rattle.proof_book.specs.OutsLaws.{Inner}
 use Rattle.proof_isolation.specs.EqualExcept.{EqualExcept, Beside, Lawful, Channel, LowEquiv, Touched}
 use Rattle.proof_isolation.specs.Apart.{Pair}
 use Rattle.proof_isolation.specs.Likes.{inner-stays, own-changed, but-refl, touched-refl, touched-trans}

@@ -30,10 +30,10 @@ use Rattle.model_ops.specs.Rings.{St, rowOn}
 use Rattle.model_ops.specs.Concrete.{putOn, actOn, handOn}
 use Rattle.proof_book.specs.Book.{mergedPlain}
 use Rattle.proof_book.specs.Coupling.{endOf, Apart, ep0Room, lensOf, slotStamps}
-use Rattle.proof_book.specs.Lens.{key-ep, lens-on, stamps-on}
-use Rattle.proof_book.specs.Frame.{Changed, same-place}
-use Rattle.proof_book.specs.Agrees.{agree}
-use Rattle.proof_book.specs.Rows.{rows-first, rows-next, rows-finish}
+use Rattle.proof_book.specs.LensLaws.{key-ep, lens-on, stamps-on}
+use Rattle.proof_book.specs.FrameLaws.{Changed, same-place}
+use Rattle.proof_book.specs.AgreesLaws.{agree}
+use Rattle.proof_book.specs.RowsLaws.{rows-first, rows-next, rows-finish}
 use Rattle.proof_book.specs.TransferKinds.{Steady, Has}
 use Rattle.proof_book.specs.TransferKindsLaws.{sorted, row-steady}
 use Rattle.proof_isolation.specs.EqualExcept.{OtherWakes, Stays, EqualExcept, Lawful, Channel, LowEquiv}

@@ -16,7 +16,7 @@ use Rattle.model.specs.Simulates.{quiet}
 use Rattle.model_ops.specs.Records.{isoOut, configured, enabledOn}
 use Rattle.model_ops.specs.Rings.{St, emptied, emptiedOn, placeOn}
 use Rattle.model_ops.specs.Concrete.{actOn, handOn}
-use Rattle.proof_book.specs.Frame.{same-place}
+use Rattle.proof_book.specs.FrameLaws.{same-place}
 use Rattle.proof_isolation.specs.EqualExcept.{Channel, LowEquiv}
 use Rattle.proof_isolation.specs.Apart.{Pair}
 use Rattle.proof_isolation.specs.Pairs.{Any, p-then, p-write, p-act, p-hand}

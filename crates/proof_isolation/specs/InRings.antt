@@ -23,8 +23,8 @@ use Rattle.model.specs.Simulates.{quiet}
 use Rattle.model_ops.specs.Rings.{St, waitingOn, nextLen, wordAt, completeOn, sendOn, sendAddr}
 use Rattle.model_ops.specs.Concrete.{isOf, lookOf, actOn, handOn}
 use Rattle.proof_book.specs.Coupling.{lensOf}
-use Rattle.proof_book.specs.Lens.{lens-at}
-use Rattle.proof_book.specs.Frame.{same-place}
+use Rattle.proof_book.specs.LensLaws.{lens-at}
+use Rattle.proof_book.specs.FrameLaws.{same-place}
 use Rattle.proof_isolation.specs.EqualExcept.{Channel, LowEquiv}
 use Rattle.proof_isolation.specs.Values.{in-other}
 use Rattle.proof_isolation.specs.Buts.{but-on, but-cond, like-made, lawful-act, lawful-hand, ep0-same}

@@ -27,7 +27,7 @@ use Rattle.model.specs.Machine.{Buf}
 use Rattle.model_ops.specs.Rings.{St, filledOn, filledEp0}
 use Rattle.model_ops.specs.Concrete.{getOn, putOn, actOn}
 use Rattle.proof_book.specs.Coupling.{endOf}
-use Rattle.proof_book.specs.Frame.{same-place}
+use Rattle.proof_book.specs.FrameLaws.{same-place}
 use Rattle.proof_isolation.specs.EqualExcept.{EqualExcept, Channel, LowEquiv}
 use Rattle.proof_isolation.specs.Apart.{Pair}
 use Rattle.proof_isolation.specs.Pairs.{Eq, Any, p-get, p-put, p-act}

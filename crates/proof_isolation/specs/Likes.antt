@@ -20,8 +20,8 @@ use Rattle.model.specs.TransferKinds.{TransferKinds}
 use Rattle.model.specs.Machine.{Buf}
 use Rattle.model_ops.specs.Rings.{St}
 use Rattle.proof_book.specs.Coupling.{endOf}
-use Rattle.proof_book.specs.Frame.{Changed, same-place, end-kept}
-use Rattle.proof_book.specs.Outs.{Inner}
+use Rattle.proof_book.specs.FrameLaws.{Changed, same-place, end-kept}
+use Rattle.proof_book.specs.OutsLaws.{Inner}
 use Rattle.proof_isolation.specs.EqualExcept.{OtherWakes, Stays, ButBy, Beside, Lawful, Channel, LowEquiv, Touched}
 
 -- ---- wake-ups

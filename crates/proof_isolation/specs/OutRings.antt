@@ -28,10 +28,10 @@ use Rattle.model_ops.specs.Rings.{St, changedOn, markedOn, arrivedAt, arriveOn}
 use Rattle.model_ops.specs.Concrete.{isOf, lookOf, handOn}
 use Rattle.proof_book.specs.Pages.{Pages}
 use Rattle.proof_book.specs.Coupling.{endOf, Used, lensOf, slotStamps, Coupling}
-use Rattle.proof_book.specs.Lens.{lens-on, stamps-on, lens-mod, stamps-mod}
-use Rattle.proof_book.specs.Frame.{Changed, changed-on, changed-trans, same-place}
-use Rattle.proof_book.specs.Held.{receives, iso-used, receives-slots, good-words}
-use Rattle.proof_book.specs.Arrives.{admits, headAddr, armed-plain, admitted-ep, admitted-lens, admitted-stamps, admitted-changed}
+use Rattle.proof_book.specs.LensLaws.{lens-on, stamps-on, lens-mod, stamps-mod}
+use Rattle.proof_book.specs.FrameLaws.{Changed, changed-on, changed-trans, same-place}
+use Rattle.proof_book.specs.HeldLaws.{receives, iso-used, receives-slots, good-words}
+use Rattle.proof_book.specs.ArrivesLaws.{admits, headAddr, armed-plain, admitted-ep, admitted-lens, admitted-stamps, admitted-changed}
 use Rattle.proof_isolation.specs.EqualExcept.{EqualExcept, Channel, LowEquiv}
 use Rattle.proof_isolation.specs.Buts.{but-changed, changed-seat, like-made, lawful-hand, others-same}
 use Rattle.proof_isolation.specs.Bytes.{armed-like, only-like}

@@ -19,8 +19,8 @@ use Rattle.model.specs.Simulates.{quiet}
 use Rattle.model_ops.specs.Records.{plainOf}
 use Rattle.model_ops.specs.Rings.{St, takeOn}
 use Rattle.model_ops.specs.Concrete.{concrete, putOn, actOn}
-use Rattle.proof_book.specs.Lens.{key-ep}
-use Rattle.proof_book.specs.Frame.{Changed, changed-on}
+use Rattle.proof_book.specs.LensLaws.{key-ep}
+use Rattle.proof_book.specs.FrameLaws.{Changed, changed-on}
 use Rattle.proof_isolation.specs.EqualExcept.{Stays, Beside, Lawful, Channel, Touched}
 use Rattle.proof_isolation.specs.Likes.{stays-refl, own-changed, but-refl, touched-refl, touched-trans}
 use Rattle.proof_isolation.specs.Buts.{lawful-put, lawful-act}

@@ -25,9 +25,9 @@ use Rattle.model.specs.Simulates.{quiet}
 use Rattle.model_ops.specs.Rings.{St, arrivedAt, arriveOn}
 use Rattle.model_ops.specs.Concrete.{concrete, isOf, lookOf, actOn, handOn}
 use Rattle.proof_book.specs.Coupling.{endOf}
-use Rattle.proof_book.specs.Held.{receives}
-use Rattle.proof_book.specs.Outs.{Inner}
-use Rattle.proof_book.specs.Arrives.{admits, headAddr, arrived-inner, armed-plain, arrived-words}
+use Rattle.proof_book.specs.HeldLaws.{receives}
+use Rattle.proof_book.specs.OutsLaws.{Inner}
+use Rattle.proof_book.specs.ArrivesLaws.{admits, headAddr, arrived-inner, armed-plain, arrived-words}
 use Rattle.proof_isolation.specs.EqualExcept.{Beside, Lawful, Channel, LowEquiv, Touched}
 use Rattle.proof_isolation.specs.Whose.{sof}
 use Rattle.proof_isolation.specs.Apart.{Its, status, receive, ApartBy, Apart, left, owns, PairBy, Pair}

@@ -20,8 +20,8 @@ use Rattle.model.specs.Statics.{renewed, withSetup}
 use Rattle.model.specs.Bus as bus
 use Rattle.model.specs.Simulates.{quiet, mid}
 use Rattle.model_ops.specs.Rings.{St, resetBelow, resetAll}
-use Rattle.proof_book.specs.Frame.{same-place, changed-on}
-use Rattle.proof_book.specs.Resets.{reset-place}
+use Rattle.proof_book.specs.FrameLaws.{same-place, changed-on}
+use Rattle.proof_book.specs.ResetsLaws.{reset-place}
 use Rattle.proof_isolation.specs.EqualExcept.{Stays, EqualExcept, Channel, LowEquiv}
 use Rattle.proof_isolation.specs.Apart.{Pair}
 use Rattle.proof_isolation.specs.Pairs.{Eq, Any, Steps, p-ret, p-then, p-test, p-write, p-row}

@@ -23,7 +23,7 @@ use Rattle.model.specs.Simulates.{quiet}
 use Rattle.model_ops.specs.Records.{plainOf, merged}
 use Rattle.model_ops.specs.Rings.{St, takeOn}
 use Rattle.model_ops.specs.Concrete.{concrete, fetchOf, putOn, actOn}
-use Rattle.proof_book.specs.Frame.{same-place}
+use Rattle.proof_book.specs.FrameLaws.{same-place}
 use Rattle.proof_isolation.specs.EqualExcept.{Channel, LowEquiv}
 use Rattle.proof_isolation.specs.Apart.{Apart, Pair}
 use Rattle.proof_isolation.specs.Pairs.{p-ret, p-same, p-then, p-test, p-is, p-fetch, p-act}

@@ -19,14 +19,14 @@ use Rattle.machine.specs.Goes.{Called}
 use Rattle.proof_book.specs.Pages.{Pages}
 use Rattle.proof_book.specs.Book.{book}
 use Rattle.proof_book.specs.Coupling.{Coupling}
-use Rattle.proof_book.specs.Allocations.{fresh-kept}
-use Rattle.proof_book.specs.Agrees.{agree}
+use Rattle.proof_book.specs.StartUpLaws.{fresh-kept}
+use Rattle.proof_book.specs.AgreesLaws.{agree}
 use Rattle.proof_book.specs.TransferKinds.{Has}
 use Rattle.proof_book.specs.Sorting.{sortsOf, Sorting}
 use Rattle.proof_book.specs.SortingLaws.{ep0-plain, after-sorting}
 use Rattle.proof_book.specs.Always.{after}
 use Rattle.proof_book.specs.MachineRuns.{Premise}
-use Rattle.proof_book.specs.SlotsKept.{lent-is}
+use Rattle.proof_book.specs.SlotsKeptLaws.{lent-is}
 use Rattle.call_bus_time.specs.Sharing.{starting, sortOf, timeAfter, turnedDown}
 use Rattle.proof_wake_ups.specs.Rooms.{Few, Roomy, Rooms}
 use Rattle.proof_wake_ups.specs.RoomsLaws.{room, rooms, start-rooms}

@@ -15,7 +15,7 @@ use Rattle.model.specs.Machine.{Buf}
 use Rattle.model_ops.specs.Rings.{St}
 use Rattle.proof_book.specs.Pages.{Pages}
 use Rattle.proof_book.specs.Coupling.{Coupling, Chip}
-use Rattle.proof_book.specs.Chips.{chip}
+use Rattle.proof_book.specs.ChipsLaws.{chip}
 use Rattle.proof_isolation.specs.EqualExcept.{Lawful, Channel, LowEquiv, Touched}
 use Rattle.proof_isolation.specs.Likes.{but-refl}
 use Rattle.proof_isolation.specs.Stores.{Stored, Lent, OwnLent}

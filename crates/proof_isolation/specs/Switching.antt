@@ -32,9 +32,9 @@ use Rattle.model.specs.Machine.{Buf}
 use Rattle.model_ops.specs.Rings.{St, renewedOn, armAt, slotStep, typeStep, configStep}
 use Rattle.model_ops.specs.Stamps.{cleared-stamp}
 use Rattle.proof_book.specs.Coupling.{endOf, slotStamps}
-use Rattle.proof_book.specs.Lens.{key-other, stamps-mod, stamps-clear-other}
-use Rattle.proof_book.specs.Frame.{Changed, same-place, changed-on, changed-clear, changed-trans}
-use Rattle.proof_book.specs.Resets.{reset-place}
+use Rattle.proof_book.specs.LensLaws.{key-other, stamps-mod, stamps-clear-other}
+use Rattle.proof_book.specs.FrameLaws.{Changed, same-place, changed-on, changed-clear, changed-trans}
+use Rattle.proof_book.specs.ResetsLaws.{reset-place}
 use Rattle.proof_isolation.specs.EqualExcept.{Stays, EqualExcept, Channel, LowEquiv}
 use Rattle.proof_isolation.specs.Apart.{Pair}
 use Rattle.proof_isolation.specs.Pairs.{Any, Steps, p-then, p-test, p-row}

@@ -21,8 +21,8 @@ use Rattle.model_ops.specs.Records.{plainOf, merged, mergedGlobals}
 use Rattle.model_ops.specs.Rings.{St}
 use Rattle.model_ops.specs.Concrete.{concrete, putOn, actOn}
 use Rattle.proof_book.specs.Book.{mergedPlain}
-use Rattle.proof_book.specs.Lens.{key-ep}
-use Rattle.proof_book.specs.Frame.{same-place, changed-on}
+use Rattle.proof_book.specs.LensLaws.{key-ep}
+use Rattle.proof_book.specs.FrameLaws.{same-place, changed-on}
 use Rattle.proof_book.specs.TransferKindsLaws.{sorted}
 use Rattle.proof_isolation.specs.EqualExcept.{SameCodes, Stays, Channel, LowEquiv}
 use Rattle.proof_isolation.specs.Apart.{ApartBy, end, PairBy, Pair}

@@ -38,7 +38,7 @@ use Rattle.model_ops.specs.Rings.{St, changedOn, markedOn, waitingOn, openedOn,
 use Rattle.model_ops.specs.Rings.{writtenOn, recordedOn, admittedOn, armAt, armOn, arrivedAt, arriveOn}
 use Rattle.model_ops.specs.Concrete.{getOn, putOn, isOf, lookOf, handOn}
 use Rattle.proof_book.specs.Coupling.{endOf}
-use Rattle.proof_book.specs.Lens.{key-ep}
+use Rattle.proof_book.specs.LensLaws.{key-ep}
 use Rattle.proof_isolation.specs.EqualExcept.{ButBy, Lawful, Channel, Touched}
 use Rattle.proof_isolation_late.specs.Late.{Light, opens, closes, asks-of, Other}
 use Rattle.proof_isolation.specs.Schedule.{Asked}

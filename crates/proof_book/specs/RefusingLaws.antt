@@ -1,0 +1,252 @@
+-- Scripts that leave every page where they end with a refusal or a poll's "not yet", and the scripts of all calls: they are such
+use mathlib.Core.Bool.{Bool, true, false, cond, _||_, true≢false}
+use mathlib.Core.List.{List}
+use mathlib.Core.Path.{_≡_, refl, sym, _∙_}
+use Prim.Native.Nat.{ℕ}
+use lib.Dec.{eqb}
+use Rattle.regs.specs.declared.Access.{Access}
+use Rattle.regs.specs.declared.Dir.{Dir}
+use Rattle.alloc.specs.declared.Answer as alloc-answer
+use Rattle.alloc.specs.declared.Answer.the-variants as alloc
+use Rattle.alloc.specs.Alloc.{allocateOf, allocateEp0Of}
+use Rattle.req_descriptor.specs.declared.Answer as reading-answer
+use Rattle.req_descriptor.specs.declared.Answer.the-variants as reading
+use Rattle.model.specs.Tree as tree
+use Rattle.model.specs.Tree.{ends, asks, bindOut}
+use Rattle.model.specs.Cells.{Cell, Val, globals-cell, control-cell, allocator-cell, ep-cell, request-cell, paced-cell}
+use Rattle.model.specs.Script.{Script, run, ret, bind, test, get-then, put-then, is-then, look-then, fetch-then}
+use Rattle.model.specs.Script.{act-then, Test, Look, Fetch, Act, complete, reset-ring, set-enabled, fill, fill0}
+use Rattle.model.specs.Script.{open-oldest, close-oldest, take-oldest, enqueue, allocate, allocate0, no-wakes, waken}
+use Rattle.model.specs.Answers.{Answer, Refused, End, NotYet, Done, Shown}
+use Rattle.model.specs.Driver.{allocEndpoint, allocated-as, started-as}
+use Rattle.model.specs.AllocateAll.{allocate-read}
+use Rattle.model.specs.Calls.{Config, Op, interrupt, slotted, other, aside, Slotted, SetEnabled, PollRead, BeginWrite}
+use Rattle.model.specs.Calls.{PollWrite, PollDataOut, BeginDataIn, Other, Allocate, AllocateAll, Start, BusPoll}
+use Rattle.model.specs.Calls.{BusEnable, BusDisable, Microframe, SetStalled, IsStalled, SetPaced, Advance, BeginRead}
+use Rattle.model.specs.Calls.{BeginSetup, PollSetup, PollDataIn, BeginAccept, PollAccept, BeginReject, BeginDataOut}
+use Rattle.model.specs.Calls.{BeginAcceptSetAddress, Aside, Open, Close, Queue, code, slottedCode, otherCode}
+use Rattle.model.specs.Calls.{asideCode, interruptCode, starting}
+use Rattle.model.specs.Steps.{is, plain, turning, receiving}
+use Rattle.model.specs.Steps as kinds
+use Rattle.proof_book.specs.ActsLaws.{actKind}
+use Rattle.proof_book.specs.Pages.{Pages}
+use Rattle.proof_book.specs.Book.{Bk, putB, actB, isoOut, givenB, startedB, bookOps}
+
+-- an answer by its sort: a refusal, an end, "not yet", a poll's bytes, a packet shown
+abbrev pub onAnswer : {A : Type 0} → (ℕ → A) → (ℕ → List ℕ → A) → A → (List ℕ → A) → (List ℕ → ℕ → A) → Answer → A
+onAnswer r e y d s (Refused n) = r n
+onAnswer r e y d s (End n w) = e n w
+onAnswer r e y d s NotYet = y
+onAnswer r e y d s (Done bytes) = d bytes
+onAnswer r e y d s (Shown bytes n) = s bytes n
+
+-- a refusal, or "not yet"
+abbrev pub isNo : Answer → Bool
+isNo a = onAnswer (λ _. true) (λ _ _. false) true (λ _. false) (λ _ _. false) a
+
+-- all pages are as they were
+pub record Same (s t : Pages) : Type 0 where
+  pub outs : (e : ℕ) → t .outs e ≡ s .outs e
+  pub ins : (e : ℕ) → t .ins e ≡ s .ins e
+
+same : {s : Pages} → Same s s
+same = record { outs = λ e. refl; ins = λ e. refl }
+
+-- ---- an outcome: where it ends with such a result, the pages are as the call found them
+
+pub data Tells {A : Type 0} (no : A → Bool) : Bk → tree.Out Bk A → Type 0 where
+  t-end : {a : A} {s t : Bk} → (no a ≡ true → Same (s .0) (t .0)) → Tells no s (ends a t)
+  t-ask : {q : Access} {s t : Bk} {k : ℕ → Bk → tree.Out Bk A} → ((v : ℕ) (u : Bk) → Tells no u (k v u)) → Tells no s (asks q t k)
+
+abbrev any : {A : Type 0} → A → Bool
+any a = true
+
+tells-from : {A : Type 0} {no : A → Bool} {s t : Bk} {o : tree.Out Bk A} → Same (s .0) (t .0) → Tells no t o → Tells no s o
+tells-from h (t-end k) = t-end (λ z. let y = k z in record { outs = λ e. y .outs e ∙ h .outs e; ins = λ e. y .ins e ∙ h .ins e })
+tells-from h (t-ask k) = t-ask k
+
+tells-bind : {A B : Type 0} {no : B → Bool} {s : Bk} {o : tree.Out Bk A} {f : A → Bk → tree.Out Bk B}
+    → Tells any s o → ((a : A) (t : Bk) → Tells no t (f a t)) → Tells no s (bindOut o f)
+tells-bind (t-end h) g = tells-from (h refl) (g _ _)
+tells-bind (t-ask k) g = t-ask (λ v u. tells-bind (k v u) g)
+
+never-bind : {A B : Type 0} {no : B → Bool} (o : tree.Out Bk A) {f : A → Bk → tree.Out Bk B}
+    → ((a : A) (s t : Bk) → Tells no s (f a t)) → (s : Bk) → Tells no s (bindOut o f)
+never-bind (ends a t) g s = g a s t
+never-bind (asks q t k) g s = t-ask (λ v u. never-bind (k v u) g u)
+
+tells-test : {A : Type 0} {no : A → Bool} {s : Bk} (u : Bool) {x y : tree.Out Bk A} → Tells no s x → Tells no s y → Tells no s (cond u x y)
+tells-test true h g = h
+tells-test false h g = g
+
+-- ---- scripts
+
+-- it ends with neither
+pub data Never : (i : Bool) → Script i Answer → Type 1 where
+  n-ret : {i : Bool} {a : Answer} → isNo a ≡ false → Never i (ret a)
+  n-bind : {i : Bool} {A : Type 0} {p : Script i A} {f : A → Script i Answer} → ((a : A) → Never i (f a)) → Never i (bind p f)
+  n-test : {i : Bool} {b : Bool} {p q : Script i Answer} → Never i p → Never i q → Never i (test b p q)
+
+-- a change that leaves the pages
+abbrev pub leavesPages : Act → Bool
+leavesPages q = let k = actKind q in is k turning || (is k receiving || (is k kinds.starting || is k plain))
+
+-- it hands out nothing, and its changes are such
+pub data Silent {i : Bool} (ok : Act → Bool) : (A : Type 0) → Script i A → Type 1 where
+  c-ret : {A : Type 0} {a : A} → Silent ok A (ret a)
+  c-bind : {A B : Type 0} {p : Script i B} {f : B → Script i A} → Silent ok B p → ((b : B) → Silent ok A (f b)) → Silent ok A (bind p f)
+  c-test : {A : Type 0} {b : Bool} {p q : Script i A} → Silent ok A p → Silent ok A q → Silent ok A (test b p q)
+  c-get : {A : Type 0} {c : Cell} {k : Val c → Script i A} → ((v : Val c) → Silent ok A (k v)) → Silent ok A (get-then c k)
+  c-put : {A : Type 0} {c : Cell} {v : Val c} {p : Script i A} → Silent ok A p → Silent ok A (put-then c v p)
+  c-is : {A : Type 0} {q : Test} {k : Bool → Script i A} → ((b : Bool) → Silent ok A (k b)) → Silent ok A (is-then q k)
+  c-look : {A : Type 0} {q : Look} {k : ℕ → Script i A} → ((n : ℕ) → Silent ok A (k n)) → Silent ok A (look-then q k)
+  c-fetch : {A : Type 0} {q : Fetch} {k : List ℕ → Script i A} → ((l : List ℕ) → Silent ok A (k l)) → Silent ok A (fetch-then q k)
+  c-act : {A : Type 0} {q : Act} {p : Script i A} → ok q ≡ true → Silent ok A p → Silent ok A (act-then q p)
+
+-- it leaves the pages too
+abbrev Calm : {i : Bool} (A : Type 0) → Script i A → Type 1
+Calm A p = Silent leavesPages A p
+
+-- it ends with neither from its first change of a page on
+pub data Fair : (i : Bool) → Script i Answer → Type 1 where
+  f-never : {i : Bool} {p : Script i Answer} → Never i p → Fair i p
+  f-ret : {i : Bool} {a : Answer} → Fair i (ret a)
+  f-bind : {i : Bool} {A : Type 0} {p : Script i A} {f : A → Script i Answer} → Calm A p → ((a : A) → Fair i (f a)) → Fair i (bind p f)
+  f-test : {i : Bool} {b : Bool} {p q : Script i Answer} → Fair i p → Fair i q → Fair i (test b p q)
+  f-allocate : (d : Dir) (kind address maximum interval : ℕ) → Fair false (allocEndpoint d kind address maximum interval)
+
+ruleset fairly = (f-never, f-ret, f-bind, f-test, n-ret, n-bind, n-test, c-ret, c-bind, c-test, c-get, c-put, c-is, c-look, c-fetch, c-act)
+
+-- ---- their runs
+
+pub put-same : (c : Cell) (v : Val c) (s : Bk) → Same (s .0) (putB c v s .0)
+put-same globals-cell v s = record { outs = λ e. refl; ins = λ e. refl }
+put-same control-cell v s = record { outs = λ e. refl; ins = λ e. refl }
+put-same allocator-cell v s = same
+put-same (ep-cell d e) v s = record { outs = λ e. refl; ins = λ e. refl }
+put-same (request-cell d e) v s = record { outs = λ e. refl; ins = λ e. refl }
+put-same (paced-cell e) v s = record { outs = λ e. refl; ins = λ e. refl }
+
+either : (u : Bool) {t x y : Pages} → Same t x → Same t y → Same t (cond u x y)
+either true h g = h
+either false h g = g
+
+started-same : (maximum : ℕ) (a : alloc-answer.Answer) {t : Pages} (x : Pages) → Same t x → Same t (startedB maximum a x)
+started-same maximum (alloc.Refused n) x h = h
+started-same maximum (alloc.Given e base slots) x h = record { outs = h .outs; ins = h .ins }
+
+pub act-same : (q : Act) → leavesPages q ≡ true → (s : Bk) → Same (s .0) (actB q s .0)
+act-same (complete e) h s = absurd (true≢false (sym h))
+act-same (reset-ring d e) h s = absurd (true≢false (sym h))
+act-same (set-enabled d e on) h s = either (isoOut (s .0) d e) same (record { outs = λ e. refl; ins = λ e. refl })
+act-same (fill e bytes) h s = same
+act-same (fill0 bytes) h s = same
+act-same (open-oldest e) h s = absurd (true≢false (sym h))
+act-same (close-oldest e) h s = absurd (true≢false (sym h))
+act-same (take-oldest e) h s = absurd (true≢false (sym h))
+act-same (enqueue e bytes) h s = absurd (true≢false (sym h))
+act-same (allocate d kind address maximum interval) h s = absurd (true≢false (sym h))
+act-same (allocate0 maximum) h s = started-same maximum (allocateEp0Of (s .0 .kept .allocator) maximum .answer) _ (record { outs = λ e. refl; ins = λ e. refl })
+act-same no-wakes h s = record { outs = λ e. refl; ins = λ e. refl }
+act-same (waken codes) h s = record { outs = λ e. refl; ins = λ e. refl }
+
+pub never-run : {i : Bool} {p : Script i Answer} → Never i p → (s t : Bk) → Tells isNo s (run bookOps p t)
+never-run (n-ret h) s t = t-end (λ k. absurd (true≢false (sym k ∙ h)))
+never-run (n-bind {p = p} g) s t = never-bind (run bookOps p t) (λ a s t. never-run (g a) s t) s
+never-run (n-test {b = true} h g) s t = never-run h s t
+never-run (n-test {b = false} h g) s t = never-run g s t
+
+calm-run : {i : Bool} {A : Type 0} {p : Script i A} → Calm A p → (s : Bk) → Tells any s (run bookOps p s)
+calm-run c-ret s = t-end (λ _. same)
+calm-run (c-bind h g) s = tells-bind (calm-run h s) (λ a t. calm-run (g a) t)
+calm-run (c-test {b = true} h g) s = calm-run h s
+calm-run (c-test {b = false} h g) s = calm-run g s
+calm-run (c-get h) s = calm-run (h _) s
+calm-run (c-put {c = c} {v = v} h) s = tells-from (put-same c v s) (calm-run h _)
+calm-run (c-is h) s = calm-run (h _) s
+calm-run (c-look h) s = calm-run (h _) s
+calm-run (c-fetch h) s = calm-run (h _) s
+calm-run (c-act {q = q} e h) s = tells-from (act-same q e s) (calm-run h _)
+
+-- an allocation that is refused leaves the pages
+module _ (d : Dir) (kind address maximum interval : ℕ) (s : Bk) where
+  given-never : (e base slots : ℕ) → Never false (allocated-as {i = false} d kind maximum (alloc.Given e base slots))
+  given-never e base slots = search fairly depth 20
+
+  by-answer : (z : alloc-answer.Answer) (x : Pages) → Same (s .0) x
+      → Tells isNo s (run bookOps (allocated-as {i = false} d kind maximum z) (givenB d kind maximum interval z x, s .1))
+  by-answer (alloc.Refused n) x h = t-end (λ _. h)
+  by-answer (alloc.Given e base slots) x h = never-run (given-never e base slots) s (givenB d kind maximum interval (alloc.Given e base slots) x, s .1)
+
+  allocate-tells : Tells isNo s (run bookOps (allocEndpoint {i = false} d kind address maximum interval) s)
+  allocate-tells = tells-test (eqb (s .0 .kept .globals .stage) 1)
+      (by-answer (allocateOf (s .0 .kept .allocator) kind address maximum d .answer) _ (record { outs = λ e. refl; ins = λ e. refl }))
+      (t-end (λ _. same))
+
+fair-run : {i : Bool} {p : Script i Answer} → Fair i p → (s : Bk) → Tells isNo s (run bookOps p s)
+fair-run (f-never h) s = never-run h s s
+fair-run f-ret s = t-end (λ _. same)
+fair-run (f-bind h g) s = tells-bind (calm-run h s) (λ a t. fair-run (g a) t)
+fair-run (f-test {b = true} h g) s = fair-run h s
+fair-run (f-test {b = false} h g) s = fair-run g s
+fair-run (f-allocate d kind address maximum interval) s = allocate-tells d kind address maximum interval s
+
+-- ---- the calls
+
+fair-slotted : (o : Slotted) → Fair false (slottedCode o)
+fair-slotted (SetEnabled dir e onn) = search fairly depth 20
+fair-slotted (PollRead e n) = search fairly depth 40 fits 100000
+fair-slotted (BeginWrite e bytes) = search fairly depth 40 fits 100000
+fair-slotted (PollWrite e bytes) = search fairly depth 40 fits 100000
+fair-slotted (PollDataOut n) = search fairly depth 40 fits 100000
+fair-slotted (BeginDataIn bytes first last) = search fairly depth 40 fits 100000
+
+fair-aside : (o : Aside) → Fair false (asideCode o)
+fair-aside (Open e) = search fairly depth 40 fits 100000
+fair-aside (Close e) = search fairly depth 40 fits 100000
+fair-aside (Queue e bytes) = search fairly depth 40 fits 100000
+
+fair-started : (maximum : ℕ) (a : alloc-answer.Answer) → Fair false (started-as maximum a)
+fair-started maximum (alloc.Refused n) = search fairly
+fair-started maximum (alloc.Given e base slots) = search fairly depth 20
+
+fair-read : (bytes : List ℕ) (a : reading-answer.Answer) → Fair false (allocate-read bytes a)
+fair-read bytes (reading.Refused n) = search fairly
+fair-read bytes reading.Listed = search fairly depth 30 fits 100000
+
+fair-other : (o : Other) → Fair false (otherCode o)
+fair-other (Allocate dir kind address maximum interval) = f-allocate dir kind address maximum interval
+fair-other (AllocateAll bytes) = search (fair-read, fairly) depth 20
+fair-other (Start maximum) = search (fair-started, fairly) depth 20
+fair-other BusPoll = search fairly depth 20
+fair-other BusEnable = search fairly depth 20
+fair-other BusDisable = search fairly depth 20
+fair-other Microframe = search fairly depth 20
+fair-other (SetStalled dir e onn) = search fairly depth 20
+fair-other (IsStalled dir e) = search fairly depth 20
+fair-other (SetPaced e onn) = search fairly depth 20
+fair-other (Advance e) = search fairly depth 20
+fair-other (BeginRead e n) = search fairly depth 40 fits 100000
+fair-other BeginSetup = search fairly depth 20
+fair-other PollSetup = search fairly depth 30 fits 100000
+fair-other PollDataIn = search fairly depth 40 fits 100000
+fair-other BeginAccept = search fairly depth 40 fits 100000
+fair-other PollAccept = search fairly depth 40 fits 100000
+fair-other BeginReject = search fairly depth 40 fits 100000
+fair-other (BeginDataOut n first) = search fairly depth 40 fits 100000
+fair-other (BeginAcceptSetAddress a) = search fairly depth 40 fits 100000
+
+fair-interrupt : Fair true interruptCode
+fair-interrupt = search fairly depth 20
+
+pub call-tells : (o : Op) (s : Bk) → Tells isNo s (run bookOps (code o) s)
+call-tells interrupt s = fair-run fair-interrupt s
+call-tells (slotted o) s = fair-run (fair-slotted o) s
+call-tells (other o) s = fair-run (fair-other o) s
+call-tells (aside o) s = fair-run (fair-aside o) s
+
+never-starting : (c : Config) → Never false (starting c)
+never-starting c = search fairly depth 20
+
+pub start-tells : (c : Config) (s t : Bk) → Tells isNo s (run bookOps (starting c) t)
+start-tells c s t = never-run (never-starting c) s t

@@ -1,0 +1,82 @@
+-- A write's poll ends at once; done on an isochronous IN it queues its bytes, else it leaves the page
+use mathlib.Core.Bool.{Bool, true, false, not, cond, _&&_, true≢false}
+use mathlib.Core.List.{List}
+use mathlib.Core.Path.{_≡_, refl, ap, subst, sym, _∙_}
+use Prim.Native.Nat.{ℕ}
+use lib.Dec.{eqb}
+use lib.ListN.{length}
+use Rattle.regs.specs.declared.Dir.the-variants.{In}
+use Rattle.regs.specs.Enables as enables
+use Rattle.model.specs.Tree as tree
+use Rattle.model.specs.Script.{run}
+use Rattle.model.specs.Statics.{isOn}
+use Rattle.model.specs.Answers.{Answer, Refused, isAllocated}
+use Rattle.model.specs.Endpoint.{pollWrite}
+use Rattle.model.specs.Calls.{slotted, PollWrite, calls}
+use Rattle.model.specs.Machine.{Buf, begin, Ans, ended, Way, idle, busy, Machine, misfit, stay, lentTo, halt, begun, fed}
+use Rattle.proof_book.specs.Pages.{Pages}
+use Rattle.proof_book.specs.Book.{Bk, isoOf, roomB, bookOps, book}
+use Rattle.proof_book.specs.FrontPage.{isDone, Joins, written}
+use Rattle.proof_book.specs.AsidesLaws.{Ends, by-test, room-joins}
+use Rattle.proof_book.specs.OnwardLaws.{free-ends, of-write-poll}
+
+module _ (t : Pages) (e : ℕ) (bytes : List ℕ) where
+  pub record Wrote (z : Answer) (t′ : Pages) : Type 0 where
+    pub joins : isDone z ≡ true → isoOf t In e ≡ true → Joins (t .ins e) (t′ .ins e) bytes
+    pub leaves : (isDone z && isoOf t In e) ≡ false → t′ .ins e ≡ t .ins e
+
+  not-done : {z : Answer} {t′ : Pages} → isDone z ≡ false → t′ .ins e ≡ t .ins e → Wrote z t′
+  not-done h k = record { joins = λ d. absurd (true≢false (sym d ∙ h)); leaves = λ _. k }
+
+  write-ends : (b : Buf) → Ends Wrote (run bookOps (pollWrite {i = false} e bytes) (t, b))
+  write-ends b =
+      by-test Wrote (eqb (t .kept .globals .stage) 2) _ _
+      (λ _. by-test Wrote (isAllocated (t .kept .allocator) In e) _ _
+      (λ _. by-test Wrote (not (isOn (t .kept .requests In e .begun))) _ _
+      (λ _. not-done refl refl)
+      (λ _. by-test Wrote (eqb (t .kept .requests In e .length) (length bytes)) _ _
+      (λ _. by-test Wrote (isOn (t .kept .plain In e .iso)) _ _
+      (λ iso. by-test Wrote (enables.isOn (t .kept .globals .«ep_config») In e) _ _
+      (λ _. by-test Wrote (roomB t e (length bytes)) _ _
+      (λ h. record {
+        joins = λ _ _. room-joins t e bytes (roomB t e (length bytes)) refl h b;
+        leaves = λ k. absurd (true≢false (sym iso ∙ k));
+      })
+      (λ _. not-done refl refl))
+      (λ _. not-done refl refl))
+      (λ other. by-test Wrote (isOn (t .kept .plain In e .ready)) _ _
+      (λ _. record { joins = λ _ k. absurd (true≢false (sym k ∙ other)); leaves = λ _. refl })
+      (λ _. by-test Wrote (enables.isOn (t .kept .globals .«ep_config») In e) _ _ (λ _. not-done refl refl) (λ _. not-done refl refl))))
+      (λ _. not-done refl refl)))
+      (λ _. not-done refl refl))
+      (λ _. not-done refl refl)
+
+-- the call ends at once
+module _ (a : Ans Answer) (e : ℕ) (bytes : List ℕ) (n : Machine Answer Pages) (b : Buf) where
+  pub record Polled (y : Ans Answer × Machine Answer Pages) : Type 0 where
+    pub answer : Answer
+    pub ends-with : y .0 ≡ ended answer
+    pub wrote : Wrote (n .st) e bytes answer (y .1 .st)
+
+  refused : (k : ℕ) (m : Machine Answer Pages) → m .st ≡ n .st → Polled (stay calls (book .driver) k m)
+  refused k m h = record {
+    answer = Refused k;
+    ends-with = refl;
+    wrote = not-done (n .st) e bytes refl (ap (λ (t : Pages). t .ins e) h);
+  }
+
+  begins : (w : Way Answer Pages) → Polled (begun calls (book .driver) (fed book a) (slotted (PollWrite e bytes)) n w b)
+  begins idle =
+      let r = free-ends (of-write-poll e bytes) (n .st, b) in
+      subst (λ (o : tree.Out Bk Answer). Ends (Wrote (n .st) e bytes) o → Polled (halt calls (book .driver) (fed book a) false o)) (sym (r .2))
+      (λ h. record { answer = r .0; ends-with = refl; wrote = h }) (write-ends (n .st) e bytes b)
+  begins (busy true q k) = refused 3 (lentTo calls (book .driver) n b) refl
+  begins (busy false q k) = refused 3 (lentTo calls (book .driver) n b) refl
+
+  fits : (u : Bool) → Polled
+      (cond u (stay calls (book .driver) 1 n) (begun calls (book .driver) (fed book a) (slotted (PollWrite e bytes)) n (n .way) b))
+  fits true = refused 1 n refl
+  fits false = begins (n .way)
+
+  pub write-polled : Polled (written a (begin (slotted (PollWrite e bytes))) n b)
+  write-polled = fits (misfit calls (book .driver) (n .st) b)
