@@ -20,7 +20,8 @@ use Rattle.model.specs.Script.{Script, run, ret, done, _>>=_, _>>_, read, write
 use Rattle.model.specs.Statics.{withReady, withArmed, completed, withSetup, withEntered, modify, modifyEp, modifyIntEn, wake, wakeBus}
 use Rattle.model.specs.IsoIn.{onSof}
 use Rattle.model.specs.IsoOut.{isoOutCheck}
-use Rattle.model.specs.Handler.{nakNonIso, settle, isoFor, received, sent, dispatch, ep0MovedOn, framed, onTransfer, onSetup, onInterrupt}
+use Rattle.model.specs.Handler.{nakNonIso, settle, isoFor, received, sent, dispatch, ep0MovedOn, framed, onTransfer, takeSetup, onSetup}
+use Rattle.model.specs.Handler.{onInterrupt}
 use Rattle.iso_in.specs.Late.{lateAll}
 use Rattle.model_ops.specs.Rings.{St}
 use Rattle.model_ops.specs.Concrete.{concrete}
@@ -42,14 +43,7 @@ afterSetupReleased = do
   wake In 0
 
 unfoldable pub afterSetupTx : Script true Unit
-afterSetupTx = do
-  low ← look (setup-word 0)
-  high ← look (setup-word 1)
-  modifyEp Out 0 (λ s. withArmed 0 (withReady 0 s))
-  modifyEp In 0 (λ s. withArmed 0 (withReady 0 s))
-  modify (withSetup 1 low high)
-  write IntFg 0 SETUP_ACT
-  afterSetupReleased
+afterSetupTx = takeSetup
 
 abbrev pub afterSetupRx : Script true Unit
 afterSetupRx = do

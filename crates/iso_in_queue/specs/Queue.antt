@@ -9,17 +9,7 @@ use Rattle.model.specs.Cells.{ep-cell, allocator-cell}
 use Rattle.model.specs.Script.{Script, ret, test, _>>=_, _>>_, get, is, act, room, enqueue}
 use Rattle.model.specs.Statics.{isOn}
 use Rattle.model.specs.Answers.{Answer, Refused, ok, unless}
-use Rattle.model.specs.Endpoint.{enabled-else}
+use Rattle.model.specs.Driver as scripts
 
 abbrev pub queueing : ℕ → List ℕ → Script false Answer
-queueing ep bytes = enabled-else In ep (ret (Refused 9)) (do
-  a ← get allocator-cell
-  unless (ltb (a .size) (length bytes)) 10 (do
-    s ← get (ep-cell In ep)
-    unless (not (isOn (s .iso))) 11 (do
-      b ← is (room ep (length bytes))
-      test b
-          (do
-            act (enqueue ep bytes)
-            ret ok)
-          (ret (Refused 13)))))
+queueing ep bytes = scripts.queueing ep bytes

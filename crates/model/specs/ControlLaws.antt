@@ -1,8 +1,8 @@
 -- The script's control transfers have the stages of USB 2.0, 8.5.3: the toggle of EP0's control words, which the chip leaves as it is written
-use mathlib.Core.Bool.{Bool, true, false, not, cond, _&&_}
+use mathlib.Core.Bool.{Bool, true, false, cond, _&&_}
 use mathlib.Core.List.{List}
 use mathlib.Core.Path.{_≡_, refl, ap, subst, sym, _∙_}
-use Prim.Native.Nat.{ℕ, zero, suc, _+_, _-_, _*_, _/_, _%_, _<_}
+use Prim.Native.Nat.{ℕ, zero, suc, _<_}
 use native.Mathlib.Omega.{arith}
 use lib.Dec.{eqb, ltb, eqb·suc-zero}
 use lib.ListN.{length}
@@ -14,13 +14,13 @@ use Rattle.regs.specs.declared.Dir.{Dir}
 use Rattle.regs.specs.declared.Dir.the-variants.{Out, In}
 use Rattle.regs.specs.Registers.{ctrlOf}
 use Rattle.regs.specs.ControlWord as word
-use Rattle.regs.specs.ControlWord.{response, toggle, withResponse, withToggle, wordOf, ack, nak, flip, nakflip, status}
+use Rattle.regs.specs.ControlWord.{response, toggle, withResponse, withToggle, wordOf, nak, flip, nakflip, status}
 use Rattle.regs.specs.Status.{endpoint, togOk}
 use Rattle.model.specs.declared.Transfer.{Transfer}
 use Rattle.model.specs.Tree as tree
 use Rattle.model.specs.Tree.{ends}
-use Rattle.model.specs.Cells.{EpCore, ep-cell, globals-cell}
-use Rattle.model.specs.Script.{Ops, run, Script, ret, done, when, _>>=_, _>>_}
+use Rattle.model.specs.Cells.{ep-cell, globals-cell}
+use Rattle.model.specs.Script.{Ops, run, Script, when, _>>=_, _>>_}
 use Rattle.model.specs.Statics.{isOn, modifyReg, modifyEp, completed, wake}
 use Rattle.model.specs.Answers.{Answer, Refused, End, NotYet, Done, Shown}
 use Rattle.model.specs.Handler.{outNaks, inNaks, nakNonIso, outArm, inArm, received, movedOn}

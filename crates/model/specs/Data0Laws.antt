@@ -1,10 +1,9 @@
 -- DATA0 after a configuration, a cleared halt and a bus reset (USB 2.0, 9.1.1.5, 9.4.5): every control word that their scripts write has it. That they write
 -- the endpoint's own is `proof_toggles/specs/Data0.antt`, the driver's record RestartLaws.antt
 use mathlib.Core.Bool.{Bool, true, false, _||_}
-use mathlib.Core.Path.{_≡_, refl, ap, sym, _∙_}
-use Prim.Native.Nat.{ℕ, zero, suc, _+_, _*_, _/_, _%_}
+use mathlib.Core.Path.{_≡_, refl}
+use Prim.Native.Nat.{ℕ, zero, suc}
 use native.Mathlib.Omega.{arith}
-use Rattle.bits.specs.Bit.{digit}
 use Rattle.regs.specs.declared.Access.{Access}
 use Rattle.regs.specs.declared.Access.the-variants.{Read, Write, Receive, Transmit, Ep0Dma, Wait, Callback}
 use Rattle.regs.specs.declared.Reg.{Reg}
@@ -13,8 +12,8 @@ use Rattle.regs.specs.declared.Dir.{Dir}
 use Rattle.regs.specs.declared.Dir.the-variants.{Out, In}
 use Rattle.regs.specs.ControlWord as word
 use Rattle.regs.specs.ControlWord.{toggle, wordOf}
-use Rattle.model.specs.Cells.{EpCore, ep-cell}
-use Rattle.model.specs.Script.{Ops, run, Script, row, Burst, switch, bus-reset, burstAsk, resetAsk, switchAsk}
+use Rattle.model.specs.Cells.{EpCore}
+use Rattle.model.specs.Script.{resetAsk, switchAsk}
 use Rattle.model.specs.Statics.{isOn}
 use Rattle.model.specs.Bus.{setStalled, setEnabled, setEnabledOut, setEnabledIn, kept, busReset, nakAll, restarted, restartedOut, restartedIn}
 use Rattle.model.specs.Every.{sameReg, Where}

@@ -15,6 +15,7 @@ use Rattle.model.specs.Calls.{BeginWrite, PollWrite, PollDataOut, BeginDataIn, 
 use Rattle.model.specs.Calls.{BusPoll, BusEnable, BusDisable, Microframe, SetStalled, IsStalled, SetPaced, Advance}
 use Rattle.model.specs.Calls.{BeginRead, BeginSetup, PollSetup, PollDataIn, BeginAccept, PollAccept, BeginReject}
 use Rattle.model.specs.Calls.{BeginDataOut, BeginAcceptSetAddress}
+use Rattle.model.specs.Kinds.{resetting, is, kindOf}
 use Rattle.model.specs.Machine.{Call, start, begin, go, question, Ans, ended, handed, told}
 use Rattle.call_bus_time.specs.Sharing.{chargeOn}
 use Rattle.proof_bus_time.specs.History.{Line}
@@ -34,33 +35,10 @@ slottedBegun (PollWrite e bs) = neither
 slottedBegun (PollDataOut n) = neither
 slottedBegun (BeginDataIn bs first last) = neither
 
--- is it a poll of the bus?
-abbrev pub isBusPoll : Other → Bool
-isBusPoll BusPoll = true
-isBusPoll (Allocate dir kind address maximum interval) = false
-isBusPoll (AllocateAll bytes) = false
-isBusPoll (Start maximum) = false
-isBusPoll BusEnable = false
-isBusPoll BusDisable = false
-isBusPoll Microframe = false
-isBusPoll (SetStalled dir e on) = false
-isBusPoll (IsStalled dir e) = false
-isBusPoll (SetPaced e on) = false
-isBusPoll (Advance e) = false
-isBusPoll (BeginRead e n) = false
-isBusPoll BeginSetup = false
-isBusPoll PollSetup = false
-isBusPoll PollDataIn = false
-isBusPoll BeginAccept = false
-isBusPoll PollAccept = false
-isBusPoll BeginReject = false
-isBusPoll (BeginDataOut n first) = false
-isBusPoll (BeginAcceptSetAddress address) = false
-
 abbrev pub opBegun : Op → Begun
 opBegun interrupt = neither
 opBegun (slotted o) = slottedBegun o
-opBegun (other o) = cond (isBusPoll o) polls-bus neither
+opBegun (other o) = cond (is (kindOf (other o)) resetting) polls-bus neither
 opBegun (aside o) = neither
 
 -- by a call that hands out an access; a continue goes on with what was begun

@@ -12,7 +12,9 @@ use Rattle.regs.specs.declared.Dir.the-variants.{Out, In}
 use Rattle.state.specs.declared.EpState.{EpState}
 use Rattle.state.specs.declared.Globals.{Globals}
 use Rattle.state.specs.Wakes.{Wakes}
+use Rattle.state.specs.declared.Request.{Request}
 use Rattle.state.specs.Driver.{Driver, key, epOn, withOn, lenOn, stampOn, requestOn, withGlobals, withWakes}
+use Rattle.state.specs.Driver.{withStamps, withPaced, withRequests, withControl}
 use Rattle.state.specs.Laws.{Sized, key-apart, epOn-same, epOn-other}
 use Rattle.marks.specs.Only.{Same, Only}
 use Rattle.marks.specs.OnlyLaws.{only-apart}
@@ -43,36 +45,37 @@ use Rattle.proof_isolation.specs.Likes.{stays-refl}
 
 -- ---- drivers
 
+-- with other parts; its records, their lengths and the allocator stay
+abbrev with-parts : Driver → Globals → Control → List ℕ → Wakes → List Request → List ℕ → Driver
+with-parts d g c p w r t = withStamps (withRequests (withWakes (withPaced (withControl (withGlobals d g) c) p) w) r) t
+
 module _ {x : ℕ} {d d′ : Driver} (h : EqualExcept x d d′) where
-  pub but-globals : (g g′ : Globals) → g ≡ g′ → EqualExcept x (withGlobals d g) (withGlobals d′ g′)
+  pub but-parts : {g g′ : Globals} {c c′ : Control} {p p′ : List ℕ} {w w′ : Wakes} {r r′ : List Request} {t t′ : List ℕ}
+      → g ≡ g′ → c ≡ c′ → p ≡ p′ → OtherWakes x w w′
+      → ((dir : Dir) (e : ℕ) → key dir e ≢ key Out x → requestOn (withRequests d r) dir e ≡ requestOn (withRequests d′ r′) dir e)
+      → ((e : ℕ) → key Out e ≢ key Out x → slotStamps (withStamps d t) e ≡ slotStamps (withStamps d′ t′) e)
+      → EqualExcept x (with-parts d g c p w r t) (with-parts d′ g′ c′ p′ w′ r′ t′)
   unfolding epOn lenOn stampOn requestOn
-  but-globals g g′ e = record {
-    globals = e;
+  but-parts g c p w r t = record {
+    globals = g;
     allocator = h .allocator;
-    control = h .control;
-    paced = h .paced;
-    wakes = h .wakes;
-    requests = h .requests;
+    control = c;
+    paced = p;
+    wakes = w;
+    requests = r;
     eps = h .eps;
     lens = h .lens;
-    stamps = h .stamps;
+    stamps = t;
     own = h .own;
   }
 
+  pub but-globals : (g g′ : Globals) → g ≡ g′ → EqualExcept x (withGlobals d g) (withGlobals d′ g′)
+  unfolding stampOn requestOn
+  but-globals g g′ e = but-parts e (h .control) (h .paced) (h .wakes) (h .requests) (h .stamps)
+
   pub but-wakes : (w w′ : Wakes) → OtherWakes x w w′ → EqualExcept x (withWakes d w) (withWakes d′ w′)
-  unfolding epOn lenOn stampOn requestOn
-  but-wakes w w′ e = record {
-    globals = h .globals;
-    allocator = h .allocator;
-    control = h .control;
-    paced = h .paced;
-    wakes = e;
-    requests = h .requests;
-    eps = h .eps;
-    lens = h .lens;
-    stamps = h .stamps;
-    own = h .own;
-  }
+  unfolding stampOn requestOn
+  but-wakes w w′ e = but-parts (h .globals) (h .control) (h .paced) e (h .requests) (h .stamps)
 
   -- one endpoint's record: the same one, or x's with what stays of it
   module _ (z : Sized d) (z′ : Sized d′) (dir : Dir) (e : ℕ) (r r′ : EpState) where

@@ -10,7 +10,7 @@ use Rattle.state.specs.declared.Globals.{Globals}
 use Rattle.state.specs.Driver.{Driver}
 use Rattle.alloc.specs.declared.Answer.{Answer}
 use Rattle.alloc.specs.declared.Answer.the-variants.{Refused, Given}
-use Rattle.model.specs.Cells.{Cell, Val, globals-cell, control-cell, allocator-cell, ep-cell, request-cell, paced-cell}
+use Rattle.model.specs.Cells.{sameSort, Cell, Val, globals-cell, control-cell, allocator-cell, ep-cell, request-cell, paced-cell}
 use Rattle.model.specs.Script.{Act, DmaStep, Burst}
 use Rattle.model_ops.specs.Rings.{St}
 use Rattle.proof_isolation.specs.EqualExcept.{Bounded}
@@ -18,9 +18,4 @@ use Rattle.proof_isolation.specs.EqualExcept.{Bounded}
 -- ---- assignments
 
 abbrev pub isControl : Cell → Bool
-isControl globals-cell = false
-isControl control-cell = true
-isControl allocator-cell = false
-isControl (ep-cell d e) = false
-isControl (request-cell d e) = false
-isControl (paced-cell e) = false
+isControl c = sameSort c control-cell

@@ -22,6 +22,7 @@ use Rattle.model.specs.Script.{Act, complete, reset-ring, set-enabled, fill, fi
 use Rattle.model.specs.Script.{take-oldest, enqueue, allocate, allocate0, no-wakes, waken, DmaStep, arrive, send, place}
 use Rattle.model.specs.Script.{place0, Burst, switch, bus-reset}
 use Rattle.model.specs.Statics.{isOn, isoOuts}
+use Rattle.model.specs.Acts.{sameAct}
 use Rattle.model.specs.TransferKinds.{allocates}
 use Rattle.model_ops.specs.Records.{isoOut, configured, enabledOn, isoAdded, withSets, recordGiven, setsGiven, givenTo, allocatedOn}
 use Rattle.model_ops.specs.Rings.{St, completeOn, emptied, emptiedOn, openOn, closeOn, takeOn, roomOn, queuedOn}
@@ -58,34 +59,14 @@ put-settled (paced-cell e) h v s = record { control = refl; stage = refl; most =
 -- ---- changes
 
 abbrev pub starts : Act → Bool
-starts (complete e) = false
-starts (reset-ring d e) = false
-starts (set-enabled d e on) = false
-starts (fill e bytes) = false
-starts (fill0 bytes) = false
-starts (open-oldest e) = false
-starts (close-oldest e) = false
-starts (take-oldest e) = false
-starts (enqueue e bytes) = false
-starts (allocate d kind address maximum interval) = false
-starts (allocate0 maximum) = true
-starts no-wakes = false
-starts (waken codes) = false
+starts q = sameAct q (allocate0 0)
 
 pub no-start : (q : Act) → allocates q ≡ false → starts q ≡ false
-no-start (complete e) h = refl
-no-start (reset-ring d e) h = refl
-no-start (set-enabled d e on) h = refl
-no-start (fill e bytes) h = refl
-no-start (fill0 bytes) h = refl
-no-start (open-oldest e) h = refl
-no-start (close-oldest e) h = refl
-no-start (take-oldest e) h = refl
-no-start (enqueue e bytes) h = refl
-no-start (allocate d kind address maximum interval) h = refl
-no-start (allocate0 maximum) h = absurd (true≢false h)
-no-start no-wakes h = refl
-no-start (waken codes) h = refl
+no-start q h = by (sameAct q (allocate Out 0 0 0 0)) h
+  where
+    by : {b : Bool} (a : Bool) → a || b ≡ false → b ≡ false
+    by true h = absurd (true≢false h)
+    by false h = h
 
 sets-settled : (dir : Dir) (kind interval e : ℕ) (g : Globals)
     → (withSets dir kind interval e g .stage ≡ g .stage) × (withSets dir kind interval e g .«ep0_max» ≡ g .«ep0_max»)

@@ -36,7 +36,7 @@ module _ (D : Dir) (E : ℕ) where
 
   pub q-complete : {m : Bool} {i : Bool} (e : ℕ) → (m ≡ true → Else D E In e)
       → Quiet D E m (Idle D E) (isoInComplete {i = i} e)
-  q-complete e o = (q-bind D E) ((q-act-as D E) refl tt (q-ret D E))
+  q-complete e o = (q-bind D E) ((q-act-as D E) refl (λ _. tt) (q-ret D E))
       (λ _. (q-bind D E) ((q-bind D E) ((q-is D E) (λ _. (q-ret D E))) (λ b. (q-test D E)
       ((q-bind D E) ((q-hand D E) (q-ret D E)) (λ _. (q-bind D E) ((q-look D E) (λ _. (q-ret D E))) (λ _. (q-write D E) (q-ret D E))))
       ((q-write D E) (q-ret D E)))) (λ _. (q-wakes D E) In e o))

@@ -8,6 +8,7 @@ use Rattle.regs.specs.Status.{endpoint, token}
 use Rattle.model.specs.declared.Transfer.{Transfer}
 use Rattle.model.specs.Cells.{ep-cell, globals-cell}
 use Rattle.model.specs.Script.{Script, get, read, _>>=_, _>>_}
+pub use Rattle.model.specs.Handler.{frames}
 use Rattle.model.specs.Handler.{isoFor, ownIn, framed, released, served}
 
 pub framed-st : (x : Transfer) (iso : Bool) (sof frame : ℕ) → framed x iso sof frame .st ≡ x .st
@@ -16,12 +17,3 @@ framed-st x iso sof frame = by (ownIn x iso sof frame)
     by : (b : Bool) → cond b (released x) x .st ≡ x .st
     by true = refl
     by false = refl
-
-abbrev pub frames : Transfer → Script true Unit
-frames x = do
-  o ← get (ep-cell Out (endpoint (x .st)))
-  n ← get (ep-cell In (endpoint (x .st)))
-  let iso = isoFor (token (x .st)) o n
-  frame ← read FrameNo 0
-  g ← get globals-cell
-  served (framed x iso (g .«sof_frame») frame) iso frame

@@ -25,6 +25,7 @@ use Rattle.model.specs.Calls.{PollWrite, PollDataOut, BeginDataIn, Other, Alloc
 use Rattle.model.specs.Calls.{BusEnable, BusDisable, Microframe, SetStalled, IsStalled, SetPaced, Advance, BeginRead}
 use Rattle.model.specs.Calls.{BeginSetup, PollSetup, PollDataIn, BeginAccept, PollAccept, BeginReject, BeginDataOut}
 use Rattle.model.specs.Calls.{BeginAcceptSetAddress}
+use Rattle.model.specs.Kinds as kinds
 use Rattle.model.specs.Every.{sameReg}
 use Rattle.model.specs.AddressWrites.{Writes}
 use Rattle.model.specs.TogglesLaws.{number}
@@ -249,41 +250,20 @@ ends (aside o) n w = w
 pub data Poll : Type 0 where
   none begins pollSetup pollOut pollIn pollStatus : Poll
 
-abbrev pub pollSlotted : Slotted → Poll
-pollSlotted (SetEnabled d e on) = none
-pollSlotted (PollRead e n) = none
-pollSlotted (BeginWrite e bs) = none
-pollSlotted (PollWrite e bs) = none
-pollSlotted (PollDataOut n) = pollOut
-pollSlotted (BeginDataIn bs first last) = begins
+abbrev stagePoll : kinds.Poll → Poll
+stagePoll (kinds.request d e) = none
+stagePoll kinds.setup = pollSetup
+stagePoll kinds.data-out = pollOut
+stagePoll kinds.data-in = pollIn
+stagePoll kinds.status = pollStatus
 
-abbrev pub pollOther : Other → Poll
-pollOther (Allocate d kind address maximum interval) = none
-pollOther (AllocateAll bytes) = none
-pollOther (Start maximum) = none
-pollOther BusPoll = none
-pollOther BusEnable = none
-pollOther BusDisable = none
-pollOther Microframe = none
-pollOther (SetStalled d e on) = none
-pollOther (IsStalled d e) = none
-pollOther (SetPaced e on) = none
-pollOther (Advance e) = none
-pollOther (BeginRead e n) = none
-pollOther BeginSetup = none
-pollOther PollSetup = pollSetup
-pollOther PollDataIn = pollIn
-pollOther BeginAccept = begins
-pollOther PollAccept = pollStatus
-pollOther BeginReject = none
-pollOther (BeginDataOut n first) = begins
-pollOther (BeginAcceptSetAddress a) = begins
+abbrev partPoll : kinds.Part → Poll
+partPoll kinds.apart = none
+partPoll kinds.begins = begins
+partPoll (kinds.polls p) = stagePoll p
 
 abbrev pub pollOf : Op → Poll
-pollOf interrupt = none
-pollOf (slotted o) = pollSlotted o
-pollOf (other o) = pollOther o
-pollOf (aside o) = none
+pollOf o = partPoll (kinds.partOf o)
 
 -- what it was waiting for is over
 abbrev pub settled : Poll → Log → Log

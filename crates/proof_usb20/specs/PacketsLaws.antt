@@ -21,7 +21,7 @@ use Rattle.model.specs.Tree as tree
 use Rattle.model.specs.Cells.{EpCore, ep-cell}
 use Rattle.model.specs.Script.{Script, ret, test, when, get, run, waken, _>>=_, _>>_}
 use Rattle.model.specs.Statics.{isOn, flag, withArmed, withTog, withLen, withReady, completed, modifyEp, modifyReg}
-use Rattle.model.specs.Handler.{looks, repeated, toggled, received, sent, outArm, inArm}
+use Rattle.model.specs.Handler.{looks, repeated, verdict, toggled, received, sent, outArm, inArm}
 use Rattle.model.specs.Every.{Every, at-end, at-ask}
 use Rattle.model.specs.EveryLaws.{every-bind, every-cond}
 use Rattle.model.specs.Usb20Toggles.{Pid, DATA0, DATA1, Transaction, bitAfterAll, passed}
@@ -69,20 +69,8 @@ module _ (d : Dir) (e : ℕ) (r : EpCore) (k : Wakes) (p : Pid) where
   Judged true ws b t = (b ≡ true) × (concrete .get (ep-cell d e) t ≡ withArmed 0 (withTog (number p) r)) × (ws ≡ []) × Whole t × (t .0 .wakes ≡ k)
   Judged false ws b t = (b ≡ false) × (concrete .get (ep-cell d e) t ≡ r) × Answered d e p (isOn (r .armed)) ws × (t .0 .wakes ≡ k)
 
-  -- `toggled` once the word is read
-  abbrev verdict : {i : Bool} → ℕ → Script i Bool
-  verdict word = do
-    s ← get (ep-cell d e)
-    test (repeated s word)
-        (do
-          when (isOn (s .armed)) (modifyReg (ctrlOf d) e ack)
-          ret false)
-        (do
-          modifyEp d e (λ s. withArmed 0 (withTog (flag (isData1 word)) s))
-          ret true)
-
   judged : (i new : Bool) (ws : List Access) → ws ≡ [] → (u : St) (word : ℕ) → Same u → toggle word ≡ number p
-      → repeated r word ≡ not new → Runs (Judged new) ws (run concrete (verdict {i = i} word) u)
+      → repeated r word ≡ not new → Runs (Judged new) ws (run concrete (verdict {i = i} d e word) u)
   unfolding withOn
   judged i true ws n u word h b y = every-cond (repeated (concrete .get (ep-cell d e) u) word)
       (λ x. differ (sym y ∙ (ap (λ (q : EpCore). repeated q word) (sym (h .0)) ∙ x)))
