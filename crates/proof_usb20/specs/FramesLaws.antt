@@ -8,7 +8,7 @@ use Rattle.regs.specs.Status.{endpoint, token}
 use Rattle.model.specs.declared.Transfer.{Transfer}
 use Rattle.model.specs.Cells.{ep-cell, globals-cell}
 use Rattle.model.specs.Script.{Script, get, read, _>>=_, _>>_}
-pub use Rattle.model.specs.Handler.{frames}
+use Rattle.model.specs.Handler as handler
 use Rattle.model.specs.Handler.{isoFor, ownIn, framed, released, served}
 
 pub framed-st : (x : Transfer) (iso : Bool) (sof frame : ℕ) → framed x iso sof frame .st ≡ x .st
@@ -17,3 +17,6 @@ framed-st x iso sof frame = by (ownIn x iso sof frame)
     by : (b : Bool) → cond b (released x) x .st ≡ x .st
     by true = refl
     by false = refl
+
+abbrev pub frames : Transfer → Script true Unit
+frames x = handler.frames x
