@@ -5,7 +5,6 @@ use mathlib.Core.Path.{_≡_, refl}
 use Prim.Native.Nat.{ℕ, zero, suc}
 use native.Mathlib.Omega.{arith}
 use Rattle.regs.specs.declared.Access.{Access}
-use Rattle.regs.specs.declared.Access.the-variants.{Read, Write, Receive, Transmit, Ep0Dma, Wait, Callback}
 use Rattle.regs.specs.declared.Reg.{Reg}
 use Rattle.regs.specs.declared.Reg.the-variants.{EpRxCtrl, EpTxCtrl}
 use Rattle.regs.specs.declared.Dir.{Dir}
@@ -16,7 +15,7 @@ use Rattle.model.specs.Cells.{EpCore}
 use Rattle.model.specs.Script.{resetAsk, switchAsk}
 use Rattle.model.specs.Statics.{isOn}
 use Rattle.model.specs.Bus.{setStalled, setEnabled, setEnabledOut, setEnabledIn, kept, busReset, nakAll, restarted, restartedOut, restartedIn}
-use Rattle.model.specs.Every.{sameReg, Where}
+use Rattle.model.specs.Every.{sameReg, Where, OnWrite}
 use Rattle.model.specs.EveryLaws.{Only}
 use Rattle.model.specs.Usb20Toggles.{initial}
 use Rattle.model.specs.TogglesLaws.{number}
@@ -26,13 +25,7 @@ abbrev pub isControl : Reg → Bool
 isControl r = sameReg r EpRxCtrl || sameReg r EpTxCtrl
 
 abbrev pub Initial : Access → Type 0
-Initial (Write r e v) = Where (isControl r) (toggle v ≡ number initial)
-Initial (Read r e) = Unit {0}
-Initial (Receive e x) = Unit {0}
-Initial (Transmit e x) = Unit {0}
-Initial (Ep0Dma x) = Unit {0}
-Initial (Wait n) = Unit {0}
-Initial Callback = Unit {0}
+Initial q = OnWrite (λ r e v. Where (isControl r) (toggle v ≡ number initial)) q
 
 pub word-data0 : (r : ℕ) (a : Bool) → toggle (wordOf r word.DATA0 a) ≡ number initial
 unfolding wordOf toggle

@@ -33,6 +33,16 @@ onWrite f x (Ep0Dma y) = x
 onWrite f x (Wait n) = x
 onWrite f x Callback = x
 
+-- what a write has to meet
+abbrev pub OnWrite : (Reg → ℕ → ℕ → Type 0) → Access → Type 0
+OnWrite Ok (Write r e v) = Ok r e v
+OnWrite Ok (Read r e) = Unit {0}
+OnWrite Ok (Receive e x) = Unit {0}
+OnWrite Ok (Transmit e x) = Unit {0}
+OnWrite Ok (Ep0Dma x) = Unit {0}
+OnWrite Ok (Wait n) = Unit {0}
+OnWrite Ok Callback = Unit {0}
+
 -- `Ok` of each access that is handed out, and `P` of what the chip holds, the answer and the state at each end. `Keeps`: what becomes of the
 -- state between an access and the next call
 pub data Every {S : Type 0} (C : Chip) (Keeps : S → S → Type 0)

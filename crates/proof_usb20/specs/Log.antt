@@ -265,23 +265,21 @@ partPoll (kinds.polls p) = stagePoll p
 abbrev pub pollOf : Op → Poll
 pollOf o = partPoll (kinds.partOf o)
 
--- what it was waiting for is over
+-- what it was waiting for is over; of a setup's poll the log is u
+abbrev pub overBy : Log → Poll → Log → Log
+overBy u none w = w
+overBy u begins w = w
+overBy u pollSetup w = u
+overBy u pollOut w = withAwaits nothing w
+overBy u pollIn w = withAwaits nothing w
+overBy u pollStatus w = withAwaits nothing w
+
 abbrev pub settled : Poll → Log → Log
-settled none w = w
-settled begins w = w
-settled pollSetup w = w
-settled pollOut w = withAwaits nothing w
-settled pollIn w = withAwaits nothing w
-settled pollStatus w = withAwaits nothing w
+settled p w = overBy w p w
 
 -- a poll is done: it has taken what it waited for
 abbrev pub done : Poll → Log → Log
-done none w = w
-done begins w = w
-done pollSetup w = withTaken w
-done pollOut w = withAwaits nothing w
-done pollIn w = withAwaits nothing w
-done pollStatus w = withAwaits nothing w
+done p w = overBy (withTaken w) p w
 
 -- a poll's refusals 9 and 10 end its request
 abbrev pub closes : Op → Answer → Log → Log
