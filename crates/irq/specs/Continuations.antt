@@ -1,5 +1,5 @@
 -- The rest of the interrupt (model's Handler.antt) from each of its accesses on
-use mathlib.Core.Bool.{Bool, true, false, not, cond, _&&_, _||_}
+use mathlib.Core.Bool.{Bool, true, false, not, _&&_, _||_}
 use Prim.Native.Nat.{ℕ}
 use lib.Dec.{eqb}
 use Rattle.frame.specs.Usb20.{indexOf}
@@ -8,7 +8,7 @@ use Rattle.regs.specs.declared.Dir.{Dir}
 use Rattle.regs.specs.declared.Dir.the-variants.{Out, In}
 use Rattle.regs.specs.Registers.{ctrlOf}
 use Rattle.regs.specs.ControlWord.{NAK, DATA0, wordOf, flip, nakflip}
-use Rattle.regs.specs.Flags.{busRst, transfer, suspend, hstSof, fifoOv, setupAct, TRANSFER, HST_SOF, FIFO_OV, SETUP_ACT}
+use Rattle.regs.specs.Flags.{busRst, transfer, suspend, hstSof, fifoOv, setupAct, TRANSFER, HST_SOF, FIFO_OV}
 use Rattle.regs.specs.Status.{endpoint, token, isSof}
 use Rattle.regs.specs.MisStatus.{sieFree}
 use Rattle.regs.specs.IntEn.{withBusRst, withSuspend}
@@ -16,8 +16,8 @@ use Rattle.model.specs.declared.Transfer.{Transfer}
 use Rattle.model.specs.Tree as tree
 use Rattle.model.specs.Tree.{ends, bindOut}
 use Rattle.model.specs.Cells.{globals-cell, ep-cell}
-use Rattle.model.specs.Script.{Script, run, ret, done, _>>=_, _>>_, read, write, get, look, when, setup-word}
-use Rattle.model.specs.Statics.{withReady, withArmed, completed, withSetup, withEntered, modify, modifyEp, modifyIntEn, wake, wakeBus}
+use Rattle.model.specs.Script.{Script, run, ret, _>>=_, _>>_, read, write, get, when}
+use Rattle.model.specs.Statics.{withArmed, completed, withEntered, modify, modifyEp, modifyIntEn, wake, wakeBus}
 use Rattle.model.specs.IsoIn.{onSof}
 use Rattle.model.specs.IsoOut.{isoOutCheck}
 use Rattle.model.specs.Handler.{nakNonIso, settle, isoFor, received, sent, dispatch, ep0MovedOn, framed, onTransfer, takeSetup, onSetup}

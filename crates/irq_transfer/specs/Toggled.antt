@@ -6,13 +6,11 @@ use Prim.Native.Nat.{ℕ}
 use Rattle.regs.specs.declared.Reg.the-variants.{MisSt, EpRxCtrl}
 use Rattle.regs.specs.declared.Dir.{Dir}
 use Rattle.regs.specs.Registers.{ctrlOf, widthOf, fitsIn}
-use Rattle.regs.specs.ControlWord.{ack, isData1}
+use Rattle.regs.specs.ControlWord.{ack}
 use Rattle.state.specs.Driver.{Driver}
 use Rattle.model.specs.Tree as tree
 use Rattle.model.specs.Tree.{asks, ends, bindOut}
-use Rattle.model.specs.Cells.{ep-cell}
-use Rattle.model.specs.Script.{Script, run, ret, test, _>>=_, _>>_, read, write, get, when}
-use Rattle.model.specs.Statics.{isOn, flag, withArmed, withTog, modifyEp, modifyReg}
+use Rattle.model.specs.Script.{Script, run, ret, _>>=_, _>>_, read, write}
 use Rattle.model.specs.Machine.{Awaits, nothing, reading, awaited}
 use Rattle.model.specs.Handler.{verdict}
 use Rattle.model_ops.specs.Rings.{St}

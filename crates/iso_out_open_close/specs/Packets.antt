@@ -1,6 +1,6 @@
 -- What open, close and queue answer, and the scripts of open and close behind rows 4 and 5
 use mathlib.Core.Path.{_≡_}
-use mathlib.Core.Bool.{false, not}
+use mathlib.Core.Bool.{false}
 use mathlib.Core.List.{List}
 use Prim.Native.Nat.{ℕ}
 use Rattle.regs.specs.declared.Dir.the-variants.{Out}
@@ -8,10 +8,8 @@ use Rattle.state.specs.Driver.{Driver}
 use Rattle.marks.specs.Copies.{bytesAt}
 use Rattle.model.specs.Tree as tree
 use Rattle.model.specs.Tree.{ends}
-use Rattle.model.specs.Cells.{ep-cell}
-use Rattle.model.specs.Script.{Script, ret, test, _>>=_, _>>_, get, is, look, fetch, act, waiting, opened, next-stamp, oldest, open-oldest, close-oldest}
-use Rattle.model.specs.Statics.{isOn}
-use Rattle.model.specs.Answers.{Answer, Refused, Shown, ok, unless}
+use Rattle.model.specs.Script.{Script}
+use Rattle.model.specs.Answers.{Answer, Refused, Shown, ok}
 use Rattle.model.specs.Driver as scripts
 use Rattle.model_ops.specs.Rings.{St, oldestAt, nextLen, nextStamp}
 use Rattle.iso_out_open_close.specs.declared.Packet.{Packet}

@@ -17,6 +17,14 @@ pub data Answer : Type 0 where
   Done : List ℕ → Answer  -- a poll, with the bytes that it brought
   Shown : List ℕ → ℕ → Answer  -- an open packet and its stamp, the microframe index of its admission
 
+-- what an end with a result gives; any other answer gives x
+abbrev pub onEnd : {A : Type 0} → (ℕ → A) → A → Answer → A
+onEnd f x (Refused n) = x
+onEnd f x (End n ws) = f n
+onEnd f x NotYet = x
+onEnd f x (Done bytes) = x
+onEnd f x (Shown bytes stamp) = x
+
 -- an operation: its wake-ups are gathered from none and answered at its end
 abbrev pub operation : {i : Bool} → Script i ℕ → Script i Answer
 operation p = do

@@ -3,13 +3,14 @@ use mathlib.Core.Bool.{Bool, true, false, cond}
 use mathlib.Core.Path.{_≡_, refl}
 use Prim.Native.Nat.{ℕ, zero, suc}
 use Rattle.regs.specs.declared.Access.{Access}
-use Rattle.regs.specs.declared.Access.the-variants.{Read, Write, Wait, Callback}
+use Rattle.regs.specs.declared.Access.the-variants.{Read, Write, Receive, Transmit, Ep0Dma, Wait, Callback}
+use Rattle.regs.specs.declared.Reg.{Reg}
 use Rattle.model.specs.Tree as tree
 use Rattle.model.specs.Tree.{bindOut}
 use Rattle.model.specs.Script.{Script, ret, bind, test, read-then, write-then, wait-then, callback-then, get-then}
 use Rattle.model.specs.Script.{put-then, is-then, look-then, fetch-then, act-then, hand-then, row-then, Ops, run}
 use Rattle.model.specs.Script.{rows, Burst, dmaStepAsk, burstAsk, lastOf}
-use Rattle.model.specs.Every.{Chip, Every, at-end, at-ask, All}
+use Rattle.model.specs.Every.{onWrite, Chip, Every, at-end, at-ask, All}
 
 module _ {S : Type 0} {C : Chip} {Keeps : S → S → Type 0} {Ok : Access → Type 0} where
   pub every-bind : {A B : Type 0} {P : C .Holds → A → S → Type 0} {Q : C .Holds → B → S → Type 0} {h : C .Holds} {o : tree.Out S A} {f : A → S → tree.Out S B}
@@ -26,6 +27,17 @@ module _ {S : Type 0} {C : Chip} {Keeps : S → S → Type 0} {Ok : Access → T
       → (b ≡ true → Every C Keeps Ok P h o) → (b ≡ false → Every C Keeps Ok P h u) → Every C Keeps Ok P h (cond b o u)
   every-cond true x y = x refl
   every-cond false x y = y refl
+
+-- of each write, so of each access
+pub of-write : (f g : Reg → ℕ → ℕ → Bool) → ((r : Reg) (e v : ℕ) → f r e v ≡ true → g r e v ≡ false)
+    → (q : Access) → onWrite f true q ≡ true → onWrite g false q ≡ false
+of-write f g x (Write r e v) h = x r e v h
+of-write f g x (Read r e) h = refl
+of-write f g x (Receive e y) h = refl
+of-write f g x (Transmit e y) h = refl
+of-write f g x (Ep0Dma y) h = refl
+of-write f g x (Wait n) h = refl
+of-write f g x Callback h = refl
 
 -- each access of a script, whatever was read and whatever the state
 abbrev pub Only : {i : Bool} {A : Type 0} → (Access → Type 0) → Script i A → Type 0

@@ -1,7 +1,7 @@
 -- What an endpoint is charged, "worked out from the history of enables, disables, resets and start-ups" (document 02,
 -- request Seven): from the calls, whether each handed out an access, and which accesses write ep_config. No record is
 -- looked at, and no word that was written. Definitions
-use mathlib.Core.Bool.{Bool, true, false, cond}
+use mathlib.Core.Bool.{cond}
 use mathlib.Core.List.{List, [], _∷_}
 use Prim.Native.Nat.{ℕ, _%_}
 use lib.Dec.{eqb}
@@ -11,10 +11,7 @@ use Rattle.regs.specs.Enables.{place}
 use Rattle.state.specs.Driver.{Driver}
 use Rattle.model.specs.Answers.{Answer}
 use Rattle.model.specs.Calls.{Config, Op, interrupt, slotted, other, aside, Slotted, SetEnabled, PollRead}
-use Rattle.model.specs.Calls.{BeginWrite, PollWrite, PollDataOut, BeginDataIn, Other, Allocate, AllocateAll, Start}
-use Rattle.model.specs.Calls.{BusPoll, BusEnable, BusDisable, Microframe, SetStalled, IsStalled, SetPaced, Advance}
-use Rattle.model.specs.Calls.{BeginRead, BeginSetup, PollSetup, PollDataIn, BeginAccept, PollAccept, BeginReject}
-use Rattle.model.specs.Calls.{BeginDataOut, BeginAcceptSetAddress}
+use Rattle.model.specs.Calls.{BeginWrite, PollWrite, PollDataOut, BeginDataIn}
 use Rattle.model.specs.Kinds.{resetting, is, kindOf}
 use Rattle.model.specs.Machine.{Call, start, begin, go, question, Ans, ended, handed, told}
 use Rattle.call_bus_time.specs.Sharing.{chargeOn}

@@ -9,10 +9,8 @@ use Prim.Native.Nat.{ℕ, zero}
 use Rattle.state.specs.State.{saved}
 use Rattle.state.specs.Fresh.{nothing}
 use Rattle.model.specs.Answers.{Answer}
-use Rattle.model.specs.Calls.{Config, Op, interrupt, slotted, other, aside, Other, Allocate, AllocateAll, Start}
-use Rattle.model.specs.Calls.{BusPoll, BusEnable, BusDisable, Microframe, SetStalled, IsStalled, SetPaced, Advance}
-use Rattle.model.specs.Calls.{BeginRead, BeginSetup, PollSetup, PollDataIn, BeginAccept, PollAccept, BeginReject}
-use Rattle.model.specs.Calls.{BeginDataOut, BeginAcceptSetAddress, startRow}
+use Rattle.model.specs.Calls.{Config, Op}
+use Rattle.model.specs.Calls.{startRow}
 use Rattle.model.specs.Calls as calls
 use Rattle.model.specs.Kinds.{pacing, is, kindOf}
 use Rattle.model.specs.Machine.{Buf, Call, start, begin, go, question, idle, Ans}

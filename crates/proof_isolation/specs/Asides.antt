@@ -34,14 +34,14 @@ use Rattle.proof_isolation.specs.EqualExcept.{EqualExcept, Beside, Lawfu
 use Rattle.proof_isolation.specs.Apart.{Pair}
 use Rattle.proof_isolation.specs.Likes.{inner-stays, own-changed, but-refl, touched-refl, touched-trans}
 use Rattle.proof_isolation.specs.Pairs.{Eq, p-ret, p-same, p-then, p-test, p-get, p-is, p-look, p-fetch, p-act}
-use Rattle.proof_isolation.specs.Buts.{but-on, but-cond, but-changed, like-made, lawful-act, others-same}
+use Rattle.proof_isolation.specs.Buts.{but-on, but-changed, like-made, lawful-act, others-same}
 use Rattle.proof_isolation.specs.Values.{in-other, p-globals, p-plain, p-plain-in}
 use Rattle.proof_isolation.specs.Answers.{SameAnswer, same}
 use Rattle.proof_isolation.specs.AnswersLaws.{p-staged, p-named}
 use Rattle.proof_isolation.specs.Bytes.{copied-like, only-like}
 use Rattle.proof_isolation.specs.Ending.{Finished}
 use Rattle.proof_isolation.specs.EndingLaws.{Brief, b-ret, b-bind, b-test, b-get, b-is, b-look, b-fetch, b-act}
-use Rattle.proof_isolation.specs.InRings.{len-mod, next-same, on-seat, cond-seat}
+use Rattle.proof_isolation.specs.InRings.{len-mod, next-same, out-changed}
 
 -- ---- of another OUT endpoint
 
@@ -80,24 +80,13 @@ module _ (c : Channel) (e : ℕ) (n : key Out e ≢ key Out (c .number)) (s t : 
       (stamp-any (s .0) (t .0) e (slotOf (epOn (t .0) Out e) (epOn (t .0) Out e .tail)) (l .but .stamps e n))
 
   opens : LowEquiv c quiet (actOn (open-oldest e) s) (actOn (open-oldest e) t)
-  unfolding openOn withOn
-  opens = like-made l
-      (lawful-act c (open-oldest e) refl (l .left))
-      (lawful-act c (open-oldest e) refl (l .right))
-      (but-cond _ _ (ap hasWaiting h)
-      (but-on (l .but) (l .left .rest .sized) (l .right .rest .sized) Out e _ _ (λ _. ap openedOf h) (λ p. absurd (n p))) (l .but))
-      (cond-seat (c .number) (epOn (s .0) Out (c .number)) (hasWaiting (epOn (s .0) Out e)) _ _
-      (on-seat (c .number) (s .0) Out e _ n) (same-place (epOn (s .0) Out (c .number)))) (l .bytes)
+  unfolding openOn
+  opens = out-changed c e n hasWaiting openedOf s t l (lawful-act c (open-oldest e) refl (l .left)) (lawful-act c (open-oldest e) refl (l .right))
 
   closes : LowEquiv c quiet (actOn (close-oldest e) s) (actOn (close-oldest e) t)
-  unfolding closeOn withOn
-  closes = like-made l
-      (lawful-act c (close-oldest e) refl (l .left))
-      (lawful-act c (close-oldest e) refl (l .right))
-      (but-cond _ _ (ap (λ (r : EpState). isOn (r .«open»)) h)
-      (but-on (l .but) (l .left .rest .sized) (l .right .rest .sized) Out e _ _ (λ _. ap closedOf h) (λ p. absurd (n p))) (l .but))
-      (cond-seat (c .number) (epOn (s .0) Out (c .number)) (isOn (epOn (s .0) Out e .«open»)) _ _
-      (on-seat (c .number) (s .0) Out e _ n) (same-place (epOn (s .0) Out (c .number)))) (l .bytes)
+  unfolding closeOn
+  closes = out-changed c e n (λ r. isOn (r .«open»)) closedOf s t l
+      (lawful-act c (close-oldest e) refl (l .left)) (lawful-act c (close-oldest e) refl (l .right))
 
 -- the bytes of its oldest packet
 len-capped : (d : Driver) (dir : Dir) (e most : ℕ) (i : ℕ) → Ring most (epOn d dir e) (lensOf d dir e) → lenOn d dir e i ≤ epOn d dir e .stride

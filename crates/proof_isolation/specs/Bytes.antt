@@ -1,19 +1,17 @@
 -- Arming and copying do the same to two buffers, byte by byte
-use mathlib.Core.Bool.{true, false, cond}
+use mathlib.Core.Bool.{cond}
 use mathlib.Core.List.{List, [], _∷_, _++_}
-use mathlib.Core.Path.{_≡_, refl, ap, sym, _∙_}
-use Prim.Native.Nat.{ℕ, zero, suc, _+_, _-_, _*_, _≤_, _<_}
+use mathlib.Core.Path.{_≡_, ap, sym, _∙_}
+use Prim.Native.Nat.{ℕ, zero, suc, _+_, _-_, _*_, _≤_}
 use native.Mathlib.Omega.{arith}
 use native.Mathlib.Decide.{ℕ-discrete, decLt}
 use borrow.Author.Tests.{lt-ltb, le-ltb}
-use lib.Dec.{ltb}
-use lib.ListN.{length, getD, set, take, drop, length-set, length-drop, List·getD-eq-default, List·getD-append}
-use lib.Seq.{sets, getD-set-same, getD-set-other, getD-append-add, getD-drop}
+use lib.ListN.{length, getD, set, take, drop, length-set, length-drop, List·getD-eq-default}
+use lib.Seq.{sets, getD-set-same, getD-set-other}
 use Rattle.marks.specs.Marks.{mark, marked, markedRun, armedWords, arm, reach, short, armed}
 use Rattle.marks.specs.Copies.{copied, over}
 use Rattle.marks.specs.Only.{Only}
-use Rattle.marks.specs.OnlyLaws.{only-set, only-sets, back-low, back-high, part-byte}
-use Rattle.marks.specs.Arms.{only-marked, only-run, only-arm}
+use Rattle.marks.specs.OnlyLaws.{back-low, back-high, part-byte}
 use Rattle.marks.specs.Slots.{only-armed, only-copied, over-low, over-high}
 
 -- byte k of two buffers is the same

@@ -8,7 +8,6 @@ use native.Mathlib.Omega.{arith}
 use native.Mathlib.Decide.{ℕ-discrete}
 use lib.Dec.{eqb}
 use borrow.Author.Tests.{eqb-true, ne-eqb}
-use Rattle.bits.specs.Walk as walk
 use Rattle.bits.specs.WalkLaws as walk-laws
 use Rattle.bits.specs.Walk.{setBits}
 use Rattle.bits.specs.WalkLaws.{walked-set, walk-rises}

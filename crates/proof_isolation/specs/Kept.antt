@@ -14,7 +14,7 @@ use Rattle.state.specs.declared.EpState.{EpState}
 use Rattle.state.specs.declared.Globals.{Globals}
 use Rattle.state.specs.declared.Request.{Request}
 use Rattle.state.specs.declared.Control.{Control}
-use Rattle.state.specs.Driver.{Driver, key, noRequest, epOn, lenOn, stampOn, pacedOn, withPacedOn, requestOn, withRequestOn, withControl}
+use Rattle.state.specs.Driver.{Driver, key, noRequest, epOn, stampOn, pacedOn, withPacedOn, requestOn, withRequestOn, withControl}
 use Rattle.state.specs.Laws.{Sized, requestOn-same, requestOn-other}
 use Rattle.marks.specs.Only.{Only}
 use Rattle.marks.specs.Copies.{copied}

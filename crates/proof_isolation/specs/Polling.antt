@@ -11,7 +11,7 @@ use Rattle.state.specs.declared.Globals.{Globals}
 use Rattle.state.specs.Ep.{resetOf}
 use Rattle.state.specs.Fresh.{noStamps}
 use Rattle.state.specs.Kept.{withEpConfig, withEpType}
-use Rattle.state.specs.Driver.{Driver, epOn, withOn, lenOn, stampOn, requestOn}
+use Rattle.state.specs.Driver.{Driver, epOn, withOn, stampOn, requestOn}
 use Rattle.state.specs.Laws.{Sized}
 use Rattle.ring.specs.Waiting.{SamePlace}
 use Rattle.ring.specs.Laws.{place-trans}

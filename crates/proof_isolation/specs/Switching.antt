@@ -14,7 +14,7 @@ use Rattle.state.specs.declared.Globals.{Globals}
 use Rattle.state.specs.Ep.{resetOf}
 use Rattle.state.specs.Fresh.{clearStamps}
 use Rattle.state.specs.Kept.{withEpConfig, withEpType}
-use Rattle.state.specs.Driver.{Driver, key, epOn, withOn, lenOn, stampOn, requestOn}
+use Rattle.state.specs.Driver.{Driver, key, epOn, withOn, stampOn, requestOn}
 use Rattle.state.specs.Laws.{Sized}
 use Rattle.marks.specs.Marks.{armed}
 use Rattle.marks.specs.Only.{Only}

@@ -3,7 +3,7 @@ use mathlib.Core.Bool.{Bool, true, false, not, cond}
 use mathlib.Core.List.{List, []}
 use mathlib.Core.Logic.{_≢_, inl, inr, ⊎-elim}
 use mathlib.Core.Path.{_≡_, refl, ap, sym, _∙_}
-use Prim.Native.Nat.{ℕ, _+_, _%_, _≤_}
+use Prim.Native.Nat.{ℕ, _%_, _≤_}
 use native.Mathlib.Omega.{arith}
 use native.Mathlib.Decide.{ℕ-discrete}
 use lib.ListN.{getD, set}
@@ -13,7 +13,6 @@ use Rattle.regs.specs.declared.Dir.{Dir}
 use Rattle.regs.specs.declared.Dir.the-variants.{Out, In}
 use Rattle.regs.specs.Enables as enables
 use Rattle.state.specs.declared.EpState.{EpState}
-use Rattle.state.specs.declared.Allocator.{Allocator}
 use Rattle.state.specs.declared.Globals.{Globals}
 use Rattle.state.specs.Wakes.{Wakes}
 use Rattle.state.specs.Driver.{Driver, key, lenKey, withEps, epOn, withOn, lenOn, withLenOn, stampOn, stampKey, withStampOn, pacedOn, requestOn}
@@ -39,7 +38,7 @@ use Rattle.model_ops.specs.Rings.{writtenOn, recordedOn, admittedOn, armAt, arm
 use Rattle.model_ops.specs.Concrete.{getOn, putOn, isOf, lookOf, handOn}
 use Rattle.proof_book.specs.Coupling.{endOf}
 use Rattle.proof_book.specs.Lens.{key-ep}
-use Rattle.proof_isolation.specs.EqualExcept.{ButBy, Lawful, Channel, Touched}
+use Rattle.proof_isolation.specs.EqualExcept.{Lawful, Channel, Touched}
 use Rattle.proof_isolation_late.specs.Late.{Light, opens, closes, asks-of, Other}
 use Rattle.proof_isolation.specs.Schedule.{Asked}
 use Rattle.proof_isolation.specs.InRings.{next-same}

@@ -10,11 +10,7 @@ use Rattle.state.specs.Driver.{Driver, epOn, withOn, withRequestOn, withControl
 use Rattle.model.specs.Statics.{withReady}
 use Rattle.model.specs.Endpoint.{no-request}
 use Rattle.model.specs.Control.{no-control}
-use Rattle.model.specs.Calls.{Config, Op, interrupt, slotted, other, aside, slots, Slotted, SetEnabled, PollRead}
-use Rattle.model.specs.Calls.{BeginWrite, PollWrite, PollDataOut, BeginDataIn, Other, Allocate, AllocateAll, Start}
-use Rattle.model.specs.Calls.{BusPoll, BusEnable, BusDisable, Microframe, SetStalled, IsStalled, SetPaced, Advance}
-use Rattle.model.specs.Calls.{BeginRead, BeginSetup, PollSetup, PollDataIn, BeginAccept, PollAccept, BeginReject}
-use Rattle.model.specs.Calls.{BeginDataOut, BeginAcceptSetAddress}
+use Rattle.model.specs.Calls.{Config, Op, slots}
 use Rattle.model.specs.Kinds as kinds
 use Rattle.model.specs.Machine.{Buf, Call, start, begin, go, question}
 use Rattle.model_ops.specs.Records.{plainOf, merged}

@@ -46,7 +46,7 @@ use Rattle.proof_usb20.specs.Watch.{at-end, at-ask}
 use Rattle.proof_usb20.specs.WokenLaws.{Others, all-others}
 use Rattle.proof_usb20.specs.FollowLaws.{record-view, act-view, hand-view}
 use Rattle.bits.specs.Walk.{setBits}
-use Rattle.model.specs.Script.{when, get, act, no-wakes}
+use Rattle.model.specs.Script.{when, get, no-wakes}
 use Rattle.model.specs.Statics.{wake, wakeBus, isoInEvery, isoOuts, modify, modifyEp, modifyReg, modifyIntEn}
 use Rattle.model.specs.Answers.{Answer, staged, operation, resultless}
 use Rattle.model.specs.Handler.{looks}

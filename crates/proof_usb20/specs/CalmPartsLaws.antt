@@ -21,7 +21,6 @@ use Rattle.regs.specs.Status.{endpoint}
 use Rattle.frame.specs.Usb20.{indexOf, frameOf}
 use Rattle.frame.specs.Advance.{previous}
 use Rattle.model.specs.declared.Transfer.{Transfer}
-use Rattle.model.specs.Script.{get}
 use Rattle.model.specs.Statics.{completed, withLen, withReady, withTog, withSofFrame, withSetup, flag, isoInEvery, isoOuts}
 use Rattle.model.specs.IsoIn.{firstInFrame, isoInComplete, unseen, sofOne, sofWalk, onSof, lateWalk, isoInCompletions}
 use Rattle.model.specs.IsoOut.{arrives, checkWalk, isoOutCheck}

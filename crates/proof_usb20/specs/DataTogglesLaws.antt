@@ -40,7 +40,7 @@ use Rattle.model_ops.specs.Rings.{St}
 use Rattle.model_ops.specs.Concrete.{concrete}
 use Rattle.proof_book.specs.Sorting.{Sorting}
 use Rattle.proof_usb20.specs.Sequence as log
-use Rattle.proof_usb20.specs.Sequence.{before, opens, closes, Fair, own, Writing, wrote, Leaves}
+use Rattle.proof_usb20.specs.Sequence.{before, opens, Fair, own, Writing, wrote, Leaves}
 use Rattle.proof_usb20.specs.Observer.{Observer, Under, at-rest, doing, starting, Watched, startedBy, ReadAt, Read, Reads, All, Meaning}
 use Rattle.proof_usb20.specs.Watch.{Along, at-end, at-ask}
 use Rattle.proof_usb20.specs.WatchLaws.{watch-more}

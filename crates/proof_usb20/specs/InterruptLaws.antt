@@ -13,7 +13,7 @@ use Rattle.regs.specs.declared.Dir.the-variants.{Out, In}
 use Rattle.regs.specs.declared.Token.{Token}
 use Rattle.regs.specs.declared.Token.the-variants as tok
 use Rattle.regs.specs.ControlWord.{nak, flip, nakflip}
-use Rattle.regs.specs.Status.{endpoint, token, isSof, togOk}
+use Rattle.regs.specs.Status.{endpoint, isSof, togOk}
 use Rattle.model.specs.declared.Transfer.{Transfer}
 use Rattle.model.specs.Tree as tree
 use Rattle.model.specs.Cells.{EpCore, ep-cell, globals-cell}

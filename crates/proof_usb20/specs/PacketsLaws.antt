@@ -19,8 +19,8 @@ use Rattle.state.specs.Driver.{epOn, withOn}
 use Rattle.model.specs.declared.Transfer.{Transfer}
 use Rattle.model.specs.Tree as tree
 use Rattle.model.specs.Cells.{EpCore, ep-cell}
-use Rattle.model.specs.Script.{Script, ret, test, when, get, run, waken, _>>=_, _>>_}
-use Rattle.model.specs.Statics.{isOn, flag, withArmed, withTog, withLen, withReady, completed, modifyEp, modifyReg}
+use Rattle.model.specs.Script.{when, run, waken}
+use Rattle.model.specs.Statics.{isOn, flag, withArmed, withTog, withLen, withReady, completed}
 use Rattle.model.specs.Handler.{looks, repeated, verdict, toggled, received, sent, outArm, inArm}
 use Rattle.model.specs.Every.{Every, at-end, at-ask}
 use Rattle.model.specs.EveryLaws.{every-bind, every-cond}
