@@ -25,7 +25,8 @@ use Rattle.model_ops.specs.Concrete.{concrete}
 use Rattle.proof_book.specs.TransferKindsLaws.{put-steady, act-steady}
 use Rattle.proof_usb20.specs.Pipe.{Pipe, Awaited, keeps, sets}
 use Rattle.proof_usb20.specs.Log.{Log, afresh}
-use Rattle.proof_usb20.specs.Watch.{Watch, at-end, at-ask}
+use Rattle.proof_usb20.specs.Ep0.{Watch}
+use Rattle.proof_usb20.specs.Watch.{at-end, at-ask}
 use Rattle.proof_usb20.specs.WatchLaws.{watch-cond}
 use Rattle.proof_usb20.specs.Ep0.{View, view, Keeps, no-request, Rel, Law}
 use Rattle.proof_usb20.specs.ExemptLaws.{differ, exempt-law}
