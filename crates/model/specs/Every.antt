@@ -20,6 +20,11 @@ abbrev pub Where : Bool → Type 0 → Type 0
 Where true X = X
 Where false X = Unit {0}
 
+-- a type where a test holds, else none
+abbrev pub If : Bool → Type 0 → Type 0
+If true X = X
+If false X = ⊥
+
 abbrev pub sameReg : Reg → Reg → Bool
 sameReg r q = eqb (numberOf r) (numberOf q)
 

@@ -46,10 +46,11 @@ pub data Poll : Type 0 where
   request : Dir → ℕ → Poll
   setup data-out data-in status : Poll
 
--- a call begins a stage of the control pipe after the setup packet, polls, or does neither
+-- a call begins a stage of the control pipe after the setup packet, polls, enables or disables an endpoint, or does none of these
 pub data Part : Type 0 where
   apart begins : Part
   polls : Poll → Part
+  turns : Dir → ℕ → Bool → Part
 
 pub record Entry : Type 0 where
   pub kind : Kind
@@ -59,7 +60,7 @@ abbrev entry : Kind → Part → Entry
 entry k p = record { kind = k; part = p }
 
 abbrev slottedEntry : Slotted → Entry
-slottedEntry (SetEnabled d e on) = entry turning apart
+slottedEntry (SetEnabled d e on) = entry turning (turns d e on)
 slottedEntry (PollRead e n) = entry plain (polls (request Out e))
 slottedEntry (BeginWrite e bs) = entry plain apart
 slottedEntry (PollWrite e bs) = entry queueing (polls (request In e))

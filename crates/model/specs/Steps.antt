@@ -13,6 +13,7 @@ use Rattle.model.specs.Script.{Script, ret, bind, test, read-then, write
 use Rattle.model.specs.Script.{put-then, is-then, look-then, fetch-then, act-then, hand-then, row-then, Act, Burst}
 use Rattle.model.specs.Script.{switch, bus-reset, complete, reset-ring, set-enabled, fill, fill0, open-oldest}
 use Rattle.model.specs.Script.{close-oldest, take-oldest, enqueue, allocate, allocate0, no-wakes, waken, dmaStepAsk}
+pub use Rattle.model.specs.Every.{If}
 use Rattle.model.specs.Every.{onWrite}
 use Rattle.model.specs.Control.{DATA-OUT}
 pub use Rattle.model.specs.Kinds.{Kind, plain, moving, turning, resetting, giving, starting, accepting, reading}
@@ -62,11 +63,6 @@ mayRow k (switch e on) = is k turning
 mayRow k bus-reset = is k resetting
 
 -- ---- a script that does no more than a call of kind k, whatever is read and whatever the state
-
--- a type where a test holds, else none
-abbrev pub If : Bool → Type 0 → Type 0
-If true X = X
-If false X = ⊥
 
 abbrev pub Asks : Kind → Access → Type 0
 Asks k q = If (mayAsk k q) (Unit {0})

@@ -10,9 +10,8 @@ use Rattle.regs.specs.declared.Dir.{Dir}
 use Rattle.regs.specs.Enables.{place}
 use Rattle.state.specs.Driver.{Driver}
 use Rattle.model.specs.Answers.{Answer}
-use Rattle.model.specs.Calls.{Config, Op, interrupt, slotted, other, aside, Slotted, SetEnabled, PollRead}
-use Rattle.model.specs.Calls.{BeginWrite, PollWrite, PollDataOut, BeginDataIn}
-use Rattle.model.specs.Kinds.{resetting, is, kindOf}
+use Rattle.model.specs.Calls.{Config, Op, interrupt, slotted, other, aside}
+use Rattle.model.specs.Kinds.{resetting, is, kindOf, Part, apart, begins, polls, turns, partOf}
 use Rattle.model.specs.Machine.{Call, start, begin, go, question, Ans, ended, handed, told}
 use Rattle.call_bus_time.specs.Sharing.{chargeOn}
 use Rattle.proof_bus_time.specs.History.{Line}
@@ -24,17 +23,15 @@ pub data Begun : Type 0 where
   enables disables : Dir → ℕ → Begun
   polls-bus neither : Begun
 
-abbrev pub slottedBegun : Slotted → Begun
-slottedBegun (SetEnabled dir e on) = cond on (enables dir e) (disables dir e)
-slottedBegun (PollRead e n) = neither
-slottedBegun (BeginWrite e bs) = neither
-slottedBegun (PollWrite e bs) = neither
-slottedBegun (PollDataOut n) = neither
-slottedBegun (BeginDataIn bs first last) = neither
+abbrev begunBy : Part → Begun
+begunBy (turns dir e on) = cond on (enables dir e) (disables dir e)
+begunBy (polls p) = neither
+begunBy begins = neither
+begunBy apart = neither
 
 abbrev pub opBegun : Op → Begun
 opBegun interrupt = neither
-opBegun (slotted o) = slottedBegun o
+opBegun (slotted o) = begunBy (partOf (slotted o))
 opBegun (other o) = cond (is (kindOf (other o)) resetting) polls-bus neither
 opBegun (aside o) = neither
 

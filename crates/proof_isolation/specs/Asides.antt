@@ -26,7 +26,7 @@ use Rattle.model.specs.Calls.{Aside, Open, Close, Queue, asideCode}
 use Rattle.model.specs.Simulates.{quiet}
 use Rattle.model_ops.specs.Rings.{St, waitingOn, roomOn, roomIn, openedOn, nextStamp, oldestAt, oldestOn, openOn, closeOn, queuedOn, enqueueOn, nextLen}
 use Rattle.model_ops.specs.Concrete.{concrete, isOf, lookOf, fetchOf, actOn}
-use Rattle.proof_book.specs.Coupling.{endOf, lensOf, slotStamps}
+use Rattle.proof_book.specs.Coupling.{endOf, lensOf, slotStamps, Held}
 use Rattle.proof_book.specs.Lens.{stamps-at, lens-at, lens-length, lens-set, lens-mod, ep-len}
 use Rattle.proof_book.specs.Frame.{changed-on, changed-len, same-place}
 use Rattle.proof_book.specs.Outs.{Inner}
@@ -100,19 +100,25 @@ next-capped d dir e most g = by (hasWaiting (epOn d dir e))
     by true = len-capped d dir e most _ g
     by false = omega arith
 
+-- where its record, its lengths and the bytes of its slots are the same
+pub oldest-by : (s t : St) (e : ℕ) {most : ℕ} {w : List (List ℕ)} → Held most (s .1) (epOn (s .0) Out e) (lensOf (s .0) Out e) w
+    → length (t .1) ≡ length (s .1)
+    → ((lo hi : ℕ) → epOn (s .0) Out e .base ≤ lo → hi ≤ endOf (epOn (s .0) Out e) → Same lo hi (s .1) (t .1))
+    → epOn (s .0) Out e ≡ epOn (t .0) Out e → lensOf (s .0) Out e ≡ lensOf (t .0) Out e → oldestOn (s .0) e (s .1) ≡ oldestOn (t .0) e (t .1)
+unfolding oldestOn oldestAt
+oldest-by s t e f long alike g ls =
+    let r = epOn (s .0) Out e in
+    let k = next-capped (s .0) Out e _ (f .ring) in
+    let u = slot-upto (f .placed) (r .tail) in
+    bytes-same (s .1) (t .1) (slotAddr r (r .tail)) (nextLen (s .0) Out e) long (omega (arith, k, u, f .placed .inside))
+    (alike _ _ (slot-from (f .placed) (r .tail)) (omega (arith, k, u)))
+    ∙ ap (λ (r : EpState). bytesAt (t .1) (slotAddr r (r .tail)) (nextLen (s .0) Out e)) g
+    ∙ ap (λ k. bytesAt (t .1) (slotAddr (epOn (t .0) Out e) (epOn (t .0) Out e .tail)) k) (next-same (s .0) (t .0) Out e g ls)
+
 module _ (c : Channel) (e : ℕ) (n : key Out e ≢ key Out (c .number)) (s t : St) (l : LowEquiv c quiet s t) where
   pub oldest-out : fetchOf (oldest e) s ≡ fetchOf (oldest e) t
-  unfolding oldestOn oldestAt
-  oldest-out =
-      let r = epOn (s .0) Out e in
-      let f = l .left .rest .outs e .held in
-      let k = next-capped (s .0) Out e _ (f .ring) in
-      let u = slot-upto (f .placed) (r .tail) in
-      let h = l .but .eps Out e n in
-      bytes-same (s .1) (t .1) (slotAddr r (r .tail)) (nextLen (s .0) Out e) (l .bytes .long) (omega (arith, k, u, f .placed .inside))
-      (others-same l Out e _ _ n (slot-from (f .placed) (r .tail)) (omega (arith, k, u)))
-      ∙ ap (λ (r : EpState). bytesAt (t .1) (slotAddr r (r .tail)) (nextLen (s .0) Out e)) h
-      ∙ ap (λ k. bytesAt (t .1) (slotAddr (epOn (t .0) Out e) (epOn (t .0) Out e .tail)) k) (next-same (s .0) (t .0) Out e h (l .but .lens Out e n))
+  oldest-out = oldest-by s t e (l .left .rest .outs e .held) (l .bytes .long)
+      (λ lo hi. others-same l Out e lo hi n) (l .but .eps Out e n) (l .but .lens Out e n)
 
 -- ---- of an IN endpoint
 

@@ -1,4 +1,5 @@
 -- Being the same but for x's data: symmetric, and kept where one of the two is touched
+use mathlib.Core.Bool.{Bool, true, false, _&&_}
 use mathlib.Core.Path.{_≡_, refl, ap, subst, sym, _∙_}
 use mathlib.Core.List.{List}
 use Prim.Native.Nat.{ℕ}
@@ -18,6 +19,14 @@ use Rattle.proof_book.specs.Coupling.{endOf}
 use Rattle.proof_book.specs.Frame.{Changed, same-place, end-kept}
 use Rattle.proof_book.specs.Outs.{Inner}
 use Rattle.proof_isolation.specs.EqualExcept.{OtherWakes, Stays, ButBy, Beside, Lawful, Channel, LowEquiv, Touched}
+
+pub and-true : (b : Bool) → (b && true) ≡ b
+and-true true = refl
+and-true false = refl
+
+pub and-false : (b : Bool) → (b && false) ≡ false
+and-false true = refl
+and-false false = refl
 
 -- ---- wake-ups
 

@@ -15,7 +15,7 @@ use Rattle.alloc.specs.declared.Answer.{Answer}
 use Rattle.alloc.specs.declared.Answer.the-variants.{Refused, Given}
 use Rattle.alloc.specs.Alloc.{allocateOf, isIso}
 use Rattle.ring.specs.Slot.{slotAddr, hasWaiting}
-use Rattle.ring.specs.Out.{hasRoomOut, cappedAt, armedAt}
+use Rattle.ring.specs.Out.{hasRoomOut, cappedAt}
 use Rattle.marks.specs.Copies.{copied}
 use Rattle.model.specs.Cells.{Cell, Val, globals-cell, control-cell, allocator-cell, ep-cell, request-cell, paced-cell}
 use Rattle.model.specs.Script.{Act, complete, reset-ring, set-enabled, fill, fill0, open-oldest, close-oldest}
@@ -29,6 +29,7 @@ use Rattle.model_ops.specs.Rings.{St, completeOn, emptied, emptiedOn, openOn, c
 use Rattle.model_ops.specs.Rings.{enqueueOn, recordedOn, admittedOn, arrivedAt, arriveOn, sendOn, placeOn, renewedOn}
 use Rattle.model_ops.specs.Rings.{armAt, slotStep, typeStep, configStep, resetBelow, resetAll, rowOn}
 use Rattle.model_ops.specs.Concrete.{putOn, actOn, handOn}
+use Rattle.proof_wake_ups.specs.Still.{placed-by}
 use Rattle.proof_isolation.specs.EqualExcept.{Bounded}
 use Rattle.proof_isolation.specs.Settled.{isControl}
 
@@ -126,14 +127,7 @@ hand-settled (arrive e n) s = by (isSet (isoOuts (s .0 .globals)) (e % 16))
     by true = let k = recorded-settled (s .0) e (cappedAt (epOn (s .0) Out e) n) in record { control = k .control; stage = k .stage; most = k .most }
     by false = same (s .0)
 hand-settled (send e) s = either (hasWaiting (epOn (s .0) In e)) (s .0) (record { control = refl; stage = refl; most = refl }) (same (s .0))
-hand-settled (place Out e) s = by (isSet (isoOuts (s .0 .globals)) (e % 16))
-  where
-    by : (b : Bool) → Settled (s .0) (cond {A = ℕ × Driver} b (epOn (s .0) Out e .«armed_slot», s .0) (
-      epOn (s .0) Out e .base,
-      withOn (s .0) Out e (armedAt (epOn (s .0) Out e) (epOn (s .0) Out e .base)),
-    ) .1)
-    by true = same (s .0)
-    by false = record { control = refl; stage = refl; most = refl }
+hand-settled (place Out e) s = placed-by (Settled (s .0)) s e (same (s .0)) (record { control = refl; stage = refl; most = refl })
 hand-settled (place In e) s = same (s .0)
 hand-settled place0 s = same (s .0)
 

@@ -18,6 +18,7 @@ use Rattle.model_ops.specs.Rings.{St}
 use Rattle.machine.specs.Suspended.{driverOf}
 use Rattle.machine.specs.Goes.{Called}
 use Rattle.proof_wake_ups.specs.Rooms.{Few, Roomy}
+use Rattle.proof_isolation.specs.Likes.{and-false}
 use Rattle.proof_isolation.specs.EqualExcept.{Channel}
 use Rattle.proof_isolation.specs.Whose.{madeFor, ownWay}
 use Rattle.proof_isolation.specs.Apart.{next, Another, never, elsewhere, ownable, Its, status, receive}
@@ -42,10 +43,6 @@ abbrev pub runOf : Bool → tree.Out St Answer → Access → Ans Answer → Lis
 runOf i o q a t = record { machine = stops i o .1; access = accessOf (stops i o .0) q; answer = a; time = t }
 
 -- ---- the test says whose access it is
-
-and-false : (b : Bool) → (b && false) ≡ false
-and-false true = refl
-and-false false = refl
 
 module _ {A : Type 0} where
   pub never-made : (x : ℕ) (q : Access) (o : tree.Out St A) → ownable x q ≡ false → madeFor x q o ≡ false

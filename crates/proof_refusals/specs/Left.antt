@@ -32,6 +32,7 @@ abbrev partPoll : kinds.Part → Poll
 partPoll (kinds.polls p) = refusedPoll p
 partPoll kinds.apart = none
 partPoll kinds.begins = none
+partPoll (kinds.turns d e on) = none
 
 abbrev pub pollOf : Op → Poll
 pollOf o = partPoll (kinds.partOf o)

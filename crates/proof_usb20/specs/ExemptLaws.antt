@@ -33,6 +33,11 @@ use Rattle.proof_usb20.specs.Log.{Allowed}
 use Rattle.proof_usb20.specs.WatchLaws.{watch-any}
 use Rattle.proof_usb20.specs.Ep0.{Watch, Keeps, Ends}
 
+-- a test, either way
+pub by-test : {A : Type 0} (b : Bool) → (b ≡ true → A) → (b ≡ false → A) → A
+by-test true x y = x refl
+by-test false x y = y refl
+
 pub differ : {A : Type 0} → false ≡ true → A
 differ h = absurd (subst (λ (b : Bool). cond b ⊥ (Unit {0})) h tt)
 

@@ -261,6 +261,7 @@ abbrev partPoll : kinds.Part → Poll
 partPoll kinds.apart = none
 partPoll kinds.begins = begins
 partPoll (kinds.polls p) = stagePoll p
+partPoll (kinds.turns d e on) = none
 
 abbrev pub pollOf : Op → Poll
 pollOf o = partPoll (kinds.partOf o)

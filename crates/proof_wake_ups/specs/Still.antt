@@ -82,6 +82,19 @@ recorded-still : (d : Driver) (e len : ℕ) → Quiet d (recordedOn d e len)
 unfolding recordedOn withLenOn withStampOn
 recorded-still d e len = either (hasRoomOut (epOn d Out e)) d _ d refl refl
 
+-- a hand that looks whether OUT e is isochronous: P of the state as it was, and as its buffer is placed
+pub placed-by : (P : Driver → Type 0) (s : St) (e : ℕ) → P (s .0) → P (withOn (s .0) Out e (armedAt (epOn (s .0) Out e) (epOn (s .0) Out e .base)))
+    → P (concrete .hand (place Out e) s .1 .0)
+unfolding placeOn
+placed-by P s e x y = by (isSet (isoOuts (s .0 .globals)) (e % 16))
+  where
+    by : (b : Bool) → P (cond {A = ℕ × Driver} b (epOn (s .0) Out e .«armed_slot», s .0) (
+      epOn (s .0) Out e .base,
+      withOn (s .0) Out e (armedAt (epOn (s .0) Out e) (epOn (s .0) Out e .base)),
+    ) .1)
+    by true = x
+    by false = y
+
 pub hand-still : (q : DmaStep) (s : St) → Quiet (s .0) (concrete .hand q s .1 .0)
 unfolding arriveOn admittedOn sendOn placeOn withOn
 hand-still (arrive e n) s = by (isSet (isoOuts (s .0 .globals)) (e % 16))
@@ -90,14 +103,7 @@ hand-still (arrive e n) s = by (isSet (isoOuts (s .0 .globals)) (e % 16))
     by true = recorded-still (s .0) e (cappedAt (epOn (s .0) Out e) n)
     by false = refl
 hand-still (send e) s = either (hasWaiting (epOn (s .0) In e)) (s .0) _ (s .0) refl refl
-hand-still (place Out e) s = by (isSet (isoOuts (s .0 .globals)) (e % 16))
-  where
-    by : (b : Bool) → Quiet (s .0) (cond {A = ℕ × Driver} b (epOn (s .0) Out e .«armed_slot», s .0) (
-      epOn (s .0) Out e .base,
-      withOn (s .0) Out e (armedAt (epOn (s .0) Out e) (epOn (s .0) Out e .base)),
-    ) .1)
-    by true = refl
-    by false = refl
+hand-still (place Out e) s = placed-by (Quiet (s .0)) s e refl refl
 hand-still (place In e) s = refl
 hand-still place0 s = refl
 
