@@ -20,10 +20,6 @@ use Rattle.proof_book.specs.Frame.{Changed, same-place, end-kept}
 use Rattle.proof_book.specs.Outs.{Inner}
 use Rattle.proof_isolation.specs.EqualExcept.{OtherWakes, Stays, ButBy, Beside, Lawful, Channel, LowEquiv, Touched}
 
-pub and-true : (b : Bool) → (b && true) ≡ b
-and-true true = refl
-and-true false = refl
-
 pub and-false : (b : Bool) → (b && false) ≡ false
 and-false true = refl
 and-false false = refl

@@ -1,6 +1,6 @@
 -- The bus time that up to four drivers share (request Seven): a call that answers the same in both runs does the same to the record and is turned
 -- down in both or in none
-use mathlib.Core.Bool.{true, false, cond, _&&_}
+use mathlib.Core.Bool.{Bool, true, false, cond, _&&_}
 use mathlib.Core.List.{List}
 use mathlib.Core.Path.{_≡_, refl, ap, sym}
 use Prim.Native.Nat.{ℕ}
@@ -17,7 +17,7 @@ use Rattle.machine.specs.Suspended.{driverOf, drive}
 use Rattle.machine.specs.Goes.{Called}
 use Rattle.req_bus_time.specs.Time.{chargeOf, entryOf, passes}
 use Rattle.call_bus_time.specs.Sharing.{Sort, enabling, starting, going, apart, chargeOn, isHanded, sortOf, timeAfter, turnedDown, settled, sharedCall}
-use Rattle.proof_isolation.specs.Likes.{and-true, and-false}
+use Rattle.proof_isolation.specs.Likes.{and-false}
 use Rattle.proof_isolation.specs.EqualExcept.{Channel, LowEquiv}
 use Rattle.proof_isolation.specs.Buts.{stays-any}
 use Rattle.proof_isolation.specs.Schedule.{shared}
@@ -46,6 +46,10 @@ module _ (i : ℕ) {c : Channel} {φ : Phase} {s t : St} (l : LowEquiv c φ s t)
   same-turned-down apart a r = refl
 
 -- ---- a run's calls
+
+and-true : (b : Bool) → (b && true) ≡ b
+and-true true = refl
+and-true false = refl
 
 module _ (n : ℕ) (d : Call Config Op) (m : Machine Answer Driver) (t : List ℕ) (b : Buf) where
   -- of a driver that shares the bus time they are those of request Seven

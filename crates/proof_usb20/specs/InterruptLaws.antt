@@ -34,7 +34,7 @@ use Rattle.proof_usb20.specs.Pipe.{isReady, packet}
 use Rattle.proof_usb20.specs.Log.{Log, off, reads, writes, Brings, withRx, withTx, withPhase, happens, ofToken}
 use Rattle.proof_usb20.specs.Watch.{at-end, at-ask}
 use Rattle.proof_usb20.specs.WatchLaws.{watch-bind, watch-more, watch-cond}
-use Rattle.proof_usb20.specs.Ep0.{Watch, Rec, View, view, Rel, R, Keeps}
+use Rattle.proof_usb20.specs.Ep0.{Watch, Rec, View, view, R, Keeps}
 use Rattle.proof_usb20.specs.ExemptLaws.{differ}
 use Rattle.proof_usb20.specs.ViewsLaws.{rec, setOut, setIn}
 use Rattle.proof_usb20.specs.Ep0Laws.{act-view}
@@ -45,20 +45,18 @@ use Rattle.proof_usb20.specs.EventsLaws.{completed, packet-out, packet-i
 
 -- ---- the events, of a log that may be exempt
 
+-- a packet that comes unready exempts
+unless-ready : {X : Type 0} (e b : Bool) → (b ≡ true → X) → ((e || not b) || false ≡ true) ⊎ X
+unless-ready e true x = inr (x refl)
+unless-ready true false x = inl refl
+unless-ready false false x = inl refl
+
 -- a packet OUT, then the token
 pub r-out : (w : Log) (x : View) (m : Bool) → isOn (x .inn .armed) ≡ m → R w x
     → R (withTx (cond m (nakflip (w .tx)) (w .tx)) (withRx (flip (nak (w .rx))) (happens (pipe.token Out) (happens (packet Out) w))))
     (cond m (setIn completed (setOut completed x)) (setOut completed x))
 r-out w x m h (inl e) = inl (rw e refl)
-r-out w x m h (inr r) = by (w .exempt) (isReady (w .pipe .out .answers)) refl
-  where
-    by : (e b : Bool) → isReady (w .pipe .out .answers) ≡ b
-        → ((e || not b) || false ≡ true) ⊎ Rel (flip (nak (w .rx))) (cond m (nakflip (w .tx)) (w .tx))
-        (w .len) (pipe.after (pipe.token Out) (pipe.after (packet Out) (w .pipe)))
-        (w .awaits) (w .untaken) (cond m (setIn completed (setOut completed x)) (setOut completed x))
-    by e true q = inr (token-out m h (packet-out q r))
-    by true false q = inl refl
-    by false false q = inl refl
+r-out w x m h (inr r) = unless-ready (w .exempt) (isReady (w .pipe .out .answers)) (λ q. token-out m h (packet-out q r))
 
 -- the token OUT alone
 pub r-token-out : (w : Log) (x : View) (m : Bool) → isOn (x .inn .armed) ≡ m → R w x
@@ -71,15 +69,7 @@ pub r-in : (w : Log) (x : View) (m : Bool) → isOn (x .out .armed) ≡ m → R 
     → R (withRx (cond m (nakflip (w .rx)) (w .rx)) (withTx (flip (nak (w .tx))) (happens (pipe.token In) (happens (packet In) w))))
     (cond m (setOut completed (setIn completed x)) (setIn completed x))
 r-in w x m h (inl e) = inl (rw e refl)
-r-in w x m h (inr r) = by (w .exempt) (isReady (w .pipe .inn .answers)) refl
-  where
-    by : (e b : Bool) → isReady (w .pipe .inn .answers) ≡ b
-        → ((e || not b) || false ≡ true) ⊎ Rel (cond m (nakflip (w .rx)) (w .rx))
-        (flip (nak (w .tx))) (w .len) (pipe.after (pipe.token In) (pipe.after (packet In) (w .pipe)))
-        (w .awaits) (w .untaken) (cond m (setOut completed (setIn completed x)) (setIn completed x))
-    by e true q = inr (token-in m h (packet-in q r))
-    by true false q = inl refl
-    by false false q = inl refl
+r-in w x m h (inr r) = unless-ready (w .exempt) (isReady (w .pipe .inn .answers)) (λ q. token-in m h (packet-in q r))
 
 -- the token IN alone
 pub r-token-in : (w : Log) (x : View) (m : Bool) → isOn (x .out .armed) ≡ m → R w x

@@ -145,16 +145,18 @@ other-status taken r h = refl
 other-status (given last) r h = refl
 other-status (confirmed s) r h = differ (sym h ∙ ap (λ (n : ℕ). eqb n 4) (r .waits .0))
 
--- ---- data_out
+-- where nothing is waited for, nothing is ready
+nothing-ready : {p : Pipe} {x : View} {b : Bool} → Rests p x
+    → (x .control .sort ≡ 2 → isOn (x .out .ready) ≡ b → false ≡ b) × (x .control .sort ≡ 4 → isOn (x .inn .ready) ≡ b → false ≡ b)
+nothing-ready (no-request a b c) = (λ q _. absurd (a q), λ q _. absurd (c q))
+nothing-ready (set-up e f g h i) = (λ _ o. sym f ∙ o, λ _ o. sym g ∙ o)
 
-rests-out : {p : Pipe} {x : View} {b : Bool} → Rests p x → x .control .sort ≡ 2 → isOn (x .out .ready) ≡ b → false ≡ b
-rests-out (no-request a b c) q o = absurd (a q)
-rests-out (set-up e f g h i) q o = sym f ∙ o
+-- ---- data_out
 
 -- not ready: the wait goes on, or a setup packet has ended it
 ready-out : (a : Awaited) {rx tx l : ℕ} {p : Pipe} {u b : Bool} {x : View} → Rel rx tx l p a u x → x .control .sort ≡ 2
     → isOn (x .out .ready) ≡ b → asksAfter pollOut a && over a p ≡ b
-ready-out nothing r q o = rests-out (r .waits) q o
+ready-out nothing r q o = nothing-ready (r .waits) .0 q o
 ready-out taken r q o = sym (r .waits .1) ∙ o
 ready-out (given last) r q o = absurd (omega (arith, q, r .waits .0))
 ready-out (confirmed s) r q o = absurd (omega (arith, q, r .waits .0))
@@ -179,13 +181,9 @@ law-poll-data-out n w s (inr r) z =
 
 -- ---- accept
 
-rests-in : {p : Pipe} {x : View} {b : Bool} → Rests p x → x .control .sort ≡ 4 → isOn (x .inn .ready) ≡ b → false ≡ b
-rests-in (no-request a b c) q o = absurd (c q)
-rests-in (set-up e f g h i) q o = sym g ∙ o
-
 ready-status : (a : Awaited) {rx tx l : ℕ} {p : Pipe} {u b : Bool} {x : View} → Rel rx tx l p a u x → x .control .sort ≡ 4
     → isOn (x .inn .ready) ≡ b → asksAfter pollStatus a && over a p ≡ b
-ready-status nothing r q o = rests-in (r .waits) q o
+ready-status nothing r q o = nothing-ready (r .waits) .1 q o
 ready-status taken r q o = absurd (omega (arith, q, r .waits .0))
 ready-status (given last) r q o = absurd (omega (arith, q, r .waits .0))
 ready-status (confirmed s) r q o = sym (r .waits .1) ∙ o
