@@ -269,7 +269,8 @@ module _ {S : Type 0} {O : Ops S} {K : S → Type 0} {iso : TransferKinds} (M : 
       (dispatch-none _ z f frame (ap token (framed-st x f (g .«sof_frame») frame) ∙ t) (iso-out (token (x .st)) o n t ∙ (so ∙ y)))
       (λ _. omega arith)))))
 
-  rest-bulk : (j k : ℕ) → Most j (iso In) → Most k (iso Out) → j * 2 + k ≤ 44 → (x : Transfer) → eqb (endpoint (x .st)) 0 ≡ false → Reads O K 2048 Any (frames {i = i} x)
+  rest-bulk : (j k : ℕ) → Most j (iso In) → Most k (iso Out) → j * 2 + k ≤ 44 → (x : Transfer) → eqb (endpoint (x .st)) 0 ≡ false
+      → Reads O K 2048 Any (frames {i = i} x)
   rest-bulk j k a b h x e = free (no-get M (ep-cell _ _))
       (λ o _. free (no-get M (ep-cell _ _)) (λ n _. once one-read (λ frame _. free (no-get M globals-cell) (λ g _.
       let f = isoFor (token (x .st)) o n in

@@ -28,7 +28,7 @@ use Rattle.model.specs.Calls as the-calls
 use Rattle.model.specs.Steps.{Kind, plain, turning, resetting, giving, starting, queueing, kindOf, Steps}
 use Rattle.model.specs.StepsInterrupt.{placed, of-stamped, of-advance}
 use Rattle.model.specs.StepsRequests.{of-poll-read, of-poll-write, of-begin-read, of-begin-write, of-begin-data-out}
-use Rattle.model.specs.StepsRequests.{behind, unless, asked, operated, resultless}
+use Rattle.model.specs.StepsRequests.{behind, unless, noted, asked, operated, resultless}
 use Rattle.model.specs.StepsRequests.{of-poll-data-out, of-begin-data-in, of-poll-data-in}
 
 of-enabled : (d : Dir) (e : ℕ) (on : Bool) → Steps turning (bus.setEnabled d e on)
@@ -168,18 +168,21 @@ of-other (IsStalled d e) = behind (operated ((tt, λ _. tt), λ _. tt), behind (
 of-other (SetPaced e on) = behind (((λ _. tt, λ _. (tt, λ _. tt)), λ _. tt), tt)
 of-other (Advance e) = behind (resultless (of-advance false e), tt)
 of-other (BeginRead e n) = of-begin-read e n
-of-other BeginSetup = behind (tt, λ _. resultless tt)
+of-other BeginSetup = behind (noted (resultless tt))
 of-other PollSetup = behind (asked (λ c. (λ _. tt, λ _. ((tt, λ _. (tt, λ _. tt)), tt))))
 of-other PollDataIn = of-poll-data-in
-of-other BeginAccept = behind (unless (tt, λ _. resultless of-status-in))
-of-other PollAccept = behind (asked (λ c. (λ _. tt, λ _. (
-  ((λ _. tt, λ _. tt), λ _. (tt, λ _. (resultless (tt, tt), tt))),
-  (λ _. tt, λ _. ((tt, λ _. tt), tt)),
-))))
-of-other BeginReject = behind (tt, λ _. resultless
-    ((λ _. tt, λ _. tt), λ _. ((λ _. tt, λ _. tt), λ _. (((tt, λ _. tt), λ _. (tt, tt)), λ _. ((tt, λ _. tt), λ _. (tt, tt))))))
+of-other BeginAccept = behind (unless (noted (resultless of-status-in)))
+of-other PollAccept = behind (asked (λ c. (
+  λ _. tt,
+  λ _. (
+    ((λ _. tt, λ _. tt), λ _. (tt, λ _. (resultless (tt, tt), tt))),
+    (λ _. tt, λ _. ((tt, λ _. tt), tt)),
+  ),
+)))
+of-other BeginReject = behind (noted (resultless
+    ((λ _. tt, λ _. tt), λ _. ((λ _. tt, λ _. tt), λ _. (((tt, λ _. tt), λ _. (tt, tt)), λ _. ((tt, λ _. tt), λ _. (tt, tt)))))))
 of-other (BeginDataOut n first) = of-begin-data-out n first
-of-other (BeginAcceptSetAddress a) = behind (unless (tt, λ _. resultless of-status-in))
+of-other (BeginAcceptSetAddress a) = behind (unless (noted (resultless of-status-in)))
 
 of-aside : (o : Aside) → Steps queueing (asideCode o)
 of-aside (Open e) = behind (behind

@@ -27,6 +27,13 @@ module _ {A B X : Type 0} where
 chosen : {A B X Y : Type 0} → Y → X → (A → Unit {0}) × (B → X × Y)
 chosen y x = (λ _. tt, λ _. (x, y))
 
+-- after an assignment; of a record whose maximum allows it
+pub noted : {A X : Type 0} → X → Unit {0} × (A → X)
+noted x = (tt, λ _. x)
+
+begins : {A B C X : Type 0} → X → (A → Unit {0}) × (B → Unit {0} × (Unit {0} × (C → X)))
+begins x = (λ _. tt, λ _. (tt, (tt, λ _. x)))
+
 -- of a request that is under way
 pub asked : {A B : Type 0} {X : B → Type 0} → ((c : B) → X c) → (A → Unit {0}) × ((c : B) → X c × Unit {0})
 asked x = (λ _. tt, λ c. (x c, tt))
@@ -59,12 +66,12 @@ of-poll-write e bs = behind (behind (polls (λ s. (
 ))))
 
 pub of-begin-read : (e n : ℕ) → Steps reading (beginRead {i = false} e n)
-of-begin-read e n = behind (behind (chosen tt (λ _. tt, λ _. (tt, (tt, λ _. resultless
-    (tt, (tt, ((λ _. tt, λ _. tt), λ _. ((tt, λ _. tt), λ _. (tt, tt))))))))))
+of-begin-read e n = behind (behind (chosen tt (begins (resultless
+    (tt, (tt, ((λ _. tt, λ _. tt), λ _. ((tt, λ _. tt), λ _. (tt, tt)))))))))
 
 pub of-begin-write : (e : ℕ) (bs : List ℕ) → Steps plain (beginWrite {i = false} e bs)
-of-begin-write e bs = behind (behind (chosen tt (λ _. tt, λ _. (tt, (tt, λ _. resultless
-    (tt, (tt, λ _. ((λ _. tt, λ _. tt), λ _. ((tt, tt), λ _. ((tt, λ _. tt), λ _. (tt, tt)))))))))))
+of-begin-write e bs = behind (behind (chosen tt (begins (resultless
+    (tt, (tt, λ _. ((λ _. tt, λ _. tt), λ _. ((tt, tt), λ _. ((tt, λ _. tt), λ _. (tt, tt))))))))))
 
 -- ---- control stages
 
@@ -73,8 +80,8 @@ of-acks k d true = (control k d (wordOf ACK DATA1 false), tt)
 of-acks k d false = ((tt, λ _. tt), λ w. (control k d (ack w), tt))
 
 pub of-begin-data-out : (n : ℕ) (first : Bool) → Steps receiving (beginDataOut {i = false} n first)
-of-begin-data-out n first = behind (unless (unless
-    (tt, λ _. resultless ((λ _. tt, λ _. tt), λ _. of-acks receiving Out first))))
+of-begin-data-out n first =
+    behind (unless (unless (noted (resultless ((λ _. tt, λ _. tt), λ _. of-acks receiving Out first)))))
 
 pub of-poll-data-out : (n : ℕ) → Steps plain (pollDataOut {i = false} n)
 of-poll-data-out n = behind (asked (λ c. (
@@ -83,16 +90,19 @@ of-poll-data-out n = behind (asked (λ c. (
 )))
 
 pub of-begin-data-in : (bs : List ℕ) (first last : Bool) → Steps plain (beginDataIn {i = false} bs first last)
-of-begin-data-in bs first last = behind (unless (unless (tt, λ _. resultless (tt, λ _. (
+of-begin-data-in bs first last = behind (unless (unless (noted (resultless (noted (
   (λ _. tt, λ _. tt),
   λ _. ((((λ _. tt, λ _. tt), λ _. (tt, tt)), tt), λ _. ((λ _. tt, λ _. tt), λ _. ((tt, tt), λ _. of-acks plain In first))),
-)))))
+))))))
 
 of-closing : (now : Bool) (c : Control) → Steps plain (take-closing {i = false} now c)
-of-closing now c = (λ _. tt, λ _. (
-  ((λ _. tt, λ _. tt), λ _. (((λ _. tt, λ _. tt), tt), λ _. (tt, λ _. tt))),
-  (λ _. tt, λ _. ((tt, λ _. tt), ((((λ _. tt, λ _. tt), λ _. tt), tt), λ _. tt))),
-))
+of-closing now c = (
+  λ _. tt,
+  λ _. (
+    ((λ _. tt, λ _. tt), λ _. (((λ _. tt, λ _. tt), tt), λ _. (tt, λ _. tt))),
+    (λ _. tt, λ _. ((tt, λ _. tt), ((((λ _. tt, λ _. tt), λ _. tt), tt), λ _. tt))),
+  ),
+)
 
 pub of-poll-data-in : Steps plain (pollDataIn {i = false})
 of-poll-data-in = behind (asked (λ c. (
