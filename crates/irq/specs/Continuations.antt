@@ -8,7 +8,7 @@ use Rattle.regs.specs.declared.Dir.{Dir}
 use Rattle.regs.specs.declared.Dir.the-variants.{Out, In}
 use Rattle.regs.specs.Registers.{ctrlOf}
 use Rattle.regs.specs.ControlWord.{NAK, DATA0, wordOf, flip, nakflip}
-use Rattle.regs.specs.Flags.{busRst, transfer, suspend, hstSof, fifoOv, setupAct, TRANSFER, HST_SOF, FIFO_OV, SETUP_ACT}
+use Rattle.regs.specs.Flags.{busRst, transfer, suspend, hstSof, fifoOv, setupAct, TRANSFER, HST_SOF, FIFO_OV}
 use Rattle.regs.specs.Status.{endpoint, token, isSof}
 use Rattle.regs.specs.MisStatus.{sieFree}
 use Rattle.regs.specs.IntEn.{withBusRst, withSuspend}
@@ -16,11 +16,12 @@ use Rattle.model.specs.declared.Transfer.{Transfer}
 use Rattle.model.specs.Tree as tree
 use Rattle.model.specs.Tree.{ends, bindOut}
 use Rattle.model.specs.Cells.{globals-cell, ep-cell}
-use Rattle.model.specs.Script.{Script, run, ret, _>>=_, _>>_, read, write, get, look, when, setup-word}
-use Rattle.model.specs.Statics.{withReady, withArmed, completed, withSetup, withEntered, modify, modifyEp, modifyIntEn, wake, wakeBus}
+use Rattle.model.specs.Script.{Script, run, ret, read, write, get, when}
+use Rattle.model.specs.Statics.{withArmed, completed, withEntered, modify, modifyEp, modifyIntEn, wake, wakeBus}
 use Rattle.model.specs.IsoIn.{onSof}
 use Rattle.model.specs.IsoOut.{isoOutCheck}
-use Rattle.model.specs.Handler.{nakNonIso, settle, isoFor, received, sent, dispatch, ep0MovedOn, framed, onTransfer, onSetup, onInterrupt}
+use Rattle.model.specs.Handler.{nakNonIso, settle, isoFor, received, sent, dispatch, ep0MovedOn, framed, onTransfer, takeSetup, onSetup}
+use Rattle.model.specs.Handler.{onInterrupt}
 use Rattle.iso_in.specs.Late.{lateAll}
 use Rattle.model_ops.specs.Rings.{St}
 use Rattle.model_ops.specs.Concrete.{concrete}
@@ -42,14 +43,7 @@ afterSetupReleased = do
   wake In 0
 
 unfoldable pub afterSetupTx : Script true Unit
-afterSetupTx = do
-  low ← look (setup-word 0)
-  high ← look (setup-word 1)
-  modifyEp Out 0 (λ s. withArmed 0 (withReady 0 s))
-  modifyEp In 0 (λ s. withArmed 0 (withReady 0 s))
-  modify (withSetup 1 low high)
-  write IntFg 0 SETUP_ACT
-  afterSetupReleased
+afterSetupTx = takeSetup
 
 abbrev pub afterSetupRx : Script true Unit
 afterSetupRx = do

@@ -6,15 +6,13 @@ use Prim.Native.Nat.{ℕ}
 use Rattle.regs.specs.declared.Reg.the-variants.{MisSt, EpRxCtrl}
 use Rattle.regs.specs.declared.Dir.{Dir}
 use Rattle.regs.specs.Registers.{ctrlOf, widthOf, fitsIn}
-use Rattle.regs.specs.ControlWord.{ack, isData1}
+use Rattle.regs.specs.ControlWord.{ack}
 use Rattle.state.specs.Driver.{Driver}
 use Rattle.model.specs.Tree as tree
 use Rattle.model.specs.Tree.{asks, ends, bindOut}
-use Rattle.model.specs.Cells.{ep-cell}
-use Rattle.model.specs.Script.{Script, run, ret, test, _>>=_, _>>_, read, write, get, when}
-use Rattle.model.specs.Statics.{isOn, flag, withArmed, withTog, modifyEp, modifyReg}
+use Rattle.model.specs.Script.{Script, run, ret, _>>=_, _>>_, read, write}
 use Rattle.model.specs.Machine.{Awaits, nothing, reading, awaited}
-use Rattle.model.specs.Handler.{repeated}
+use Rattle.model.specs.Handler.{verdict}
 use Rattle.model_ops.specs.Rings.{St}
 use Rattle.model_ops.specs.Concrete.{concrete}
 use Rattle.irq_transfer.specs.declared.toggled.Toggled.{Toggled}
@@ -24,15 +22,7 @@ use Rattle.irq_transfer.specs.declared.toggled.ToggledNext.the-variants 
 use Rattle.irq_transfer.specs.Wait.{looked}
 
 unfoldable pub afterWord : Dir → ℕ → ℕ → Script true Bool
-afterWord dir ep word = do
-  s ← get (ep-cell dir ep)
-  test (repeated s word)
-      (do
-        when (isOn (s .armed)) (modifyReg (ctrlOf dir) ep ack)
-        ret false)
-      (do
-        modifyEp dir ep (λ s. withArmed 0 (withTog (flag (isData1 word)) s))
-        ret true)
+afterWord dir ep word = verdict dir ep word
 
 unfoldable pub afterWait : Dir → ℕ → Script true Bool
 afterWait dir ep = do

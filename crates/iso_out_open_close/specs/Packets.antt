@@ -1,6 +1,6 @@
 -- What open, close and queue answer, and the scripts of open and close behind rows 4 and 5
 use mathlib.Core.Path.{_≡_}
-use mathlib.Core.Bool.{false, not}
+use mathlib.Core.Bool.{false}
 use mathlib.Core.List.{List}
 use Prim.Native.Nat.{ℕ}
 use Rattle.regs.specs.declared.Dir.the-variants.{Out}
@@ -8,10 +8,9 @@ use Rattle.state.specs.Driver.{Driver}
 use Rattle.marks.specs.Copies.{bytesAt}
 use Rattle.model.specs.Tree as tree
 use Rattle.model.specs.Tree.{ends}
-use Rattle.model.specs.Cells.{ep-cell}
-use Rattle.model.specs.Script.{Script, ret, test, _>>=_, _>>_, get, is, look, fetch, act, waiting, opened, next-stamp, oldest, open-oldest, close-oldest}
-use Rattle.model.specs.Statics.{isOn}
-use Rattle.model.specs.Answers.{Answer, Refused, Shown, ok, unless}
+use Rattle.model.specs.Script.{Script}
+use Rattle.model.specs.Answers.{Answer, Refused, Shown, ok}
+use Rattle.model.specs.Driver as scripts
 use Rattle.model_ops.specs.Rings.{St, oldestAt, nextLen, nextStamp}
 use Rattle.iso_out_open_close.specs.declared.Packet.{Packet}
 use Rattle.iso_out_open_close.specs.declared.Packet.the-variants as packet
@@ -32,23 +31,7 @@ ShownAt (packet.Shown at n stamp) d e = (at ≡ oldestAt d e) × (n ≡ nextLen 
 ShownAt packet.Ok d e = Unit {0}
 
 abbrev pub opening : ℕ → Script false Answer
-opening ep = do
-  s ← get (ep-cell Out ep)
-  unless (not (isOn (s .iso))) 11 (do
-    b ← is (waiting Out ep)
-    test b
-        (do
-          act (open-oldest ep)
-          bytes ← fetch (oldest ep)
-          stamp ← look (next-stamp ep)
-          ret (Shown bytes stamp))
-        (ret (Refused 12)))
+opening ep = scripts.opening ep
 
 abbrev pub closing : ℕ → Script false Answer
-closing ep = do
-  b ← is (opened ep)
-  test b
-      (do
-        act (close-oldest ep)
-        ret ok)
-      (ret (Refused 14))
+closing ep = scripts.closing ep

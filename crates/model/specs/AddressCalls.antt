@@ -1,25 +1,12 @@
 -- What AddressCallsLaws.antt speaks of. It proves: which addresses each call writes to dev_ad: none but a bus reset's 0
 -- and the one accepted
-use mathlib.Core.Bool.{Bool}
-use mathlib.Core.List.{List, [], _∷_}
 use mathlib.Core.Path.{_≡_}
-use Prim.Native.Nat.{ℕ, _%_}
-use Rattle.regs.specs.declared.Dir.{Dir}
-use Rattle.regs.specs.declared.Dir.the-variants.{Out, In}
-use Rattle.alloc.specs.declared.Answer as alloc-answer
-use Rattle.alloc.specs.declared.Answer.the-variants as alloc
-use Rattle.req_descriptor.specs.declared.Endpoint.{Endpoint}
-use Rattle.req_descriptor.specs.declared.Answer as reading-answer
-use Rattle.req_descriptor.specs.declared.Answer.the-variants as reading
-use Rattle.model.specs.Script.{Script}
-use Rattle.model.specs.Bus as bus
-use Rattle.model.specs.Calls.{Config, Op, interrupt, slotted, other, aside, Slotted, SetEnabled, PollRead}
-use Rattle.model.specs.Calls.{BeginWrite, PollWrite, PollDataOut, BeginDataIn, Other, Allocate, AllocateAll}
+use Prim.Native.Nat.{ℕ}
+use Rattle.model.specs.Calls.{Op, interrupt, slotted, other, aside}
+use Rattle.model.specs.Calls.{Other, Allocate, AllocateAll}
 use Rattle.model.specs.Calls.{Start, BusPoll, BusEnable, BusDisable, Microframe, SetStalled, IsStalled, SetPaced}
 use Rattle.model.specs.Calls.{Advance, BeginRead, BeginSetup, PollSetup, PollDataIn, BeginAccept, PollAccept}
-use Rattle.model.specs.Calls.{BeginReject, BeginDataOut, BeginAcceptSetAddress, Aside, Open, Close, Queue}
-use Rattle.model.specs.EveryLaws.{Only}
-use Rattle.model.specs.AddressWrites.{Writes}
+use Rattle.model.specs.Calls.{BeginReject, BeginDataOut, BeginAcceptSetAddress}
 
 abbrev pub Zero : ℕ → Type 0
 Zero v = v ≡ 0

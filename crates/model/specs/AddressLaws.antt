@@ -1,7 +1,7 @@
 -- The device's address changes once the status stage of Set Address is complete (USB 2.0, 9.4.6)
-use mathlib.Core.Bool.{Bool, true, false, not, cond, _&&_}
-use mathlib.Core.Path.{_≡_, refl, ap, sym, _∙_}
-use Prim.Native.Nat.{ℕ, zero, suc, _%_}
+use mathlib.Core.Bool.{Bool, false, cond, _&&_}
+use mathlib.Core.Path.{_≡_, refl, _∙_}
+use Prim.Native.Nat.{ℕ, _%_}
 use lib.Dec.{eqb}
 use Rattle.regs.specs.declared.Access.{Access}
 use Rattle.regs.specs.declared.Access.the-variants.{Read, Write, Receive, Transmit, Ep0Dma, Wait, Callback}
@@ -12,7 +12,7 @@ use Rattle.model.specs.Cells.{globals-cell, control-cell, ep-cell}
 use Rattle.model.specs.Script.{Ops, run, Script}
 use Rattle.model.specs.Statics.{isOn}
 use Rattle.model.specs.Control.{ACCEPT, pollAccept}
-use Rattle.model.specs.Every.{Chip, Every, at-end, at-ask, sameReg, Where}
+use Rattle.model.specs.Every.{onWrite, Chip, Every, at-end, at-ask, sameReg, Where}
 use Rattle.model.specs.EveryLaws.{every-cond, only-run}
 use Rattle.model.specs.AddressWrites.{Writes}
 use Rattle.model.specs.AddressCallsLaws.{None, N}
@@ -20,13 +20,7 @@ use Rattle.model.specs.Usb20Control.{addressAfter}
 
 -- the address in force: the one last written
 abbrev pub inForce : ℕ → Access → ℕ
-inForce a (Write r e v) = cond (sameReg r DevAd) v a
-inForce a (Read r e) = a
-inForce a (Receive e x) = a
-inForce a (Transmit e x) = a
-inForce a (Ep0Dma x) = a
-inForce a (Wait n) = a
-inForce a Callback = a
+inForce a q = onWrite (λ r e v. cond (sameReg r DevAd) v a) a q
 
 abbrev pub addressed : Chip
 addressed = record { Holds = ℕ; Brings = λ _ _ _. Unit {0}; after = inForce }

@@ -9,10 +9,9 @@ use Rattle.regs.specs.declared.Access.{Access}
 use Rattle.regs.specs.declared.Access.the-variants.{Read, Write, Receive, Transmit, Ep0Dma, Wait, Callback}
 use Rattle.regs.specs.declared.Dir.the-variants.{Out, In}
 use Rattle.model.specs.Tree as tree
-use Rattle.model.specs.Tree.{ends, asks, bindOut}
 use Rattle.model.specs.Cells.{Cell, Val}
-use Rattle.model.specs.Script.{Ops, Script, run, Test, Look, Fetch, Act, DmaStep, arrive, send, place, place0}
-use Rattle.model.specs.Script.{dmaStepAsk, dma, Burst, switch, bus-reset, lastOf, burstAsk, switchAsk, resetAsk}
+use Rattle.model.specs.Script.{Test, Look, Fetch, Act, DmaStep, arrive, send, place, place0}
+use Rattle.model.specs.Script.{dmaStepAsk, Burst, lastOf, burstAsk}
 use Rattle.model.specs.Simulates.{Rels, Sim, end, ask, alike, Phase, quiet, mid, Fits, Bare}
 use Rattle.model.specs.Machine.{Buf, Question, Call, start, begin, go, question, Event, Ans, ended, handed, told}
 use Rattle.model.specs.Machine.{Awaits, awaited, Way, idle, busy, Machine, Calls, Instance, Book, fed, blank}

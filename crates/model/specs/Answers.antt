@@ -1,8 +1,8 @@
 -- What a call answers, and the checks that stand before it
-use mathlib.Core.Bool.{Bool, true, false, not, cond, _&&_}
+use mathlib.Core.Bool.{Bool, _&&_}
 use mathlib.Core.List.{List, []}
 use Prim.Native.Nat.{ℕ}
-use lib.Dec.{eqb, leb, ltb}
+use lib.Dec.{eqb, ltb}
 use Rattle.bits.specs.Bit.{isSet}
 use Rattle.regs.specs.declared.Dir.{Dir}
 use Rattle.regs.specs.declared.Dir.the-variants.{Out, In}
@@ -16,6 +16,14 @@ pub data Answer : Type 0 where
   NotYet : Answer  -- a poll
   Done : List ℕ → Answer  -- a poll, with the bytes that it brought
   Shown : List ℕ → ℕ → Answer  -- an open packet and its stamp, the microframe index of its admission
+
+-- what an end with a result gives; any other answer gives x
+abbrev pub onEnd : {A : Type 0} → (ℕ → A) → A → Answer → A
+onEnd f x (Refused n) = x
+onEnd f x (End n ws) = f n
+onEnd f x NotYet = x
+onEnd f x (Done bytes) = x
+onEnd f x (Shown bytes stamp) = x
 
 -- an operation: its wake-ups are gathered from none and answered at its end
 abbrev pub operation : {i : Bool} → Script i ℕ → Script i Answer

@@ -1,6 +1,6 @@
 -- The bus: stalls (mod.rs 1053-1108), reset, enable, poll (1187-1266), endpoint_set_enabled (1268-1330)
 use mathlib.Core.Bool.{Bool, true, false, not, cond, _&&_}
-use Prim.Native.Nat.{ℕ, zero, suc, _+_, _-_}
+use Prim.Native.Nat.{ℕ, zero, suc}
 use lib.Dec.{eqb}
 use Rattle.regs.specs.declared.Reg.the-variants.{IntFg, MisSt, Ctrl, DevAd, EpConfig, EpTLen, EpRxCtrl, EpTxCtrl}
 use Rattle.regs.specs.declared.Dir.{Dir}
@@ -16,7 +16,7 @@ use Rattle.model.specs.Cells.{EpCore, globals-cell, ep-cell, paced-cell}
 use Rattle.model.specs.Script.{Script, ret, done, test, _>>=_, _>>_, read, write, get, put, act, hand, row, when}
 use Rattle.model.specs.Script.{reset-ring, set-enabled, place, switch, bus-reset}
 use Rattle.frame.specs.Advance.{NO_FRAME}
-use Rattle.model.specs.Statics.{isOn, flag, withTog, withArmed, renewed, completed, withPower, modify, modifyEp}
+use Rattle.model.specs.Statics.{isOn, flag, withTog, withArmed, renewed, completed, withPower, modifyEp}
 use Rattle.model.specs.Statics.{modifyReg, modifyIntEn, modifyEpType, wake, wakeAll}
 
 -- ---- `set_endpoint_stalled`, 1053-1099

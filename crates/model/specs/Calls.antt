@@ -1,15 +1,14 @@
 -- The calls of document 01, each with its script; which bring the slot buffer and which pass during an interrupt
-use mathlib.Core.Bool.{Bool, true, false, not, cond, _&&_}
+use mathlib.Core.Bool.{Bool, true, false, not, cond}
 use mathlib.Core.List.{List}
-use Prim.Native.Nat.{ℕ, _%_, _*_, _^_}
-use lib.Dec.{eqb, ltb}
+use Prim.Native.Nat.{ℕ}
+use lib.Dec.{eqb}
 use lib.ListN.{length}
 use Rattle.regs.specs.declared.Dir.{Dir}
 use Rattle.regs.specs.Registers.{fitsIn}
 use Rattle.alloc.specs.Buffer.{goodBuffer, fits}
-use Rattle.model.specs.Cells.{globals-cell}
 use Rattle.model.specs.Script.{Script, ret, done, test, _>>=_, _>>_}
-use Rattle.model.specs.Answers.{Answer, Refused, ok, operation, resultless, staged, named, unless, isNumber}
+use Rattle.model.specs.Answers.{Answer, Refused, ok, operation, resultless, staged, named, isNumber}
 use Rattle.model.specs.IsoIn.{isoInAdvance, isoInSetPaced, microframe}
 use Rattle.model.specs.Handler.{stampedInterrupt}
 use Rattle.model.specs.Bus as bus

@@ -1,7 +1,7 @@
 -- The control pipe (control.rs 26-185): one request, each stage a begin and a poll
-use mathlib.Core.Bool.{Bool, true, false, not, cond, _&&_, _||_}
+use mathlib.Core.Bool.{Bool, true, false, cond}
 use mathlib.Core.List.{List, [], _∷_, _++_}
-use Prim.Native.Nat.{ℕ, _+_, _*_, _/_, _%_}
+use Prim.Native.Nat.{ℕ, _/_, _%_}
 use lib.Dec.{eqb, ltb}
 use lib.ListN.{length}
 use Rattle.regs.specs.declared.Reg.the-variants.{DevAd, EpTLen, EpRxCtrl, EpTxCtrl}
@@ -11,10 +11,10 @@ use Rattle.regs.specs.Registers.{ctrlOf}
 use Rattle.regs.specs.ControlWord.{ACK, DATA1, wordOf, ack, stall, status}
 use Rattle.state.specs.declared.Control.{Control}
 use Rattle.state.specs.declared.Globals.{Globals}
-use Rattle.model.specs.Cells.{EpCore, globals-cell, ep-cell, control-cell}
-use Rattle.model.specs.Script.{Script, ret, done, test, _>>=_, _>>_, read, write, get, put, fetch, act, when, received0, fill0}
+use Rattle.model.specs.Cells.{globals-cell, ep-cell, control-cell}
+use Rattle.model.specs.Script.{Script, ret, done, test, _>>=_, _>>_, write, get, put, fetch, act, when, received0, fill0}
 use Rattle.model.specs.Statics.{isOn, flag, withReady, withArmed, withLen, withSetup, modifyEp, modifyReg}
-use Rattle.model.specs.Answers.{Answer, Refused, End, NotYet, Done, operation, resultless, staged, unless}
+use Rattle.model.specs.Answers.{Answer, Refused, NotYet, Done, resultless, staged, unless}
 
 -- the request: its sort, its begin's length, whether it is the last data_in, which of its waits comes next, the address
 abbrev pub SETUP : ℕ

@@ -1,31 +1,31 @@
 -- The script's control transfers have the stages of USB 2.0, 8.5.3: the toggle of EP0's control words, which the chip leaves as it is written
-use mathlib.Core.Bool.{Bool, true, false, not, cond, _&&_}
+use mathlib.Core.Bool.{Bool, true, false, cond, _&&_}
 use mathlib.Core.List.{List}
 use mathlib.Core.Path.{_≡_, refl, ap, subst, sym, _∙_}
-use Prim.Native.Nat.{ℕ, zero, suc, _+_, _-_, _*_, _/_, _%_, _<_}
+use Prim.Native.Nat.{ℕ, zero, suc, _<_}
 use native.Mathlib.Omega.{arith}
 use lib.Dec.{eqb, ltb, eqb·suc-zero}
 use lib.ListN.{length}
 use Rattle.bits.specs.Bit.{pick}
 use Rattle.regs.specs.declared.Access.{Access}
-use Rattle.regs.specs.declared.Access.the-variants.{Read, Write, Receive, Transmit, Ep0Dma, Wait, Callback}
+use Rattle.regs.specs.declared.Access.the-variants.{Read}
 use Rattle.regs.specs.declared.Reg.the-variants.{EpRxCtrl, EpTxCtrl, EpTLen}
 use Rattle.regs.specs.declared.Dir.{Dir}
 use Rattle.regs.specs.declared.Dir.the-variants.{Out, In}
 use Rattle.regs.specs.Registers.{ctrlOf}
 use Rattle.regs.specs.ControlWord as word
-use Rattle.regs.specs.ControlWord.{response, toggle, withResponse, withToggle, wordOf, ack, nak, flip, nakflip, status}
+use Rattle.regs.specs.ControlWord.{response, toggle, withResponse, withToggle, wordOf, nak, flip, nakflip, status}
 use Rattle.regs.specs.Status.{endpoint, togOk}
 use Rattle.model.specs.declared.Transfer.{Transfer}
 use Rattle.model.specs.Tree as tree
 use Rattle.model.specs.Tree.{ends}
-use Rattle.model.specs.Cells.{EpCore, ep-cell, globals-cell}
-use Rattle.model.specs.Script.{Ops, run, Script, ret, done, when, _>>=_, _>>_}
+use Rattle.model.specs.Cells.{ep-cell, globals-cell}
+use Rattle.model.specs.Script.{Ops, run, Script, when, _>>=_, _>>_}
 use Rattle.model.specs.Statics.{isOn, modifyReg, modifyEp, completed, wake}
 use Rattle.model.specs.Answers.{Answer, Refused, End, NotYet, Done, Shown}
 use Rattle.model.specs.Handler.{outNaks, inNaks, nakNonIso, outArm, inArm, received, movedOn}
 use Rattle.model.specs.Control.{acks, beginDataOut, beginDataIn, statusIn, beginAccept, beginAcceptSetAddress}
-use Rattle.model.specs.Every.{Chip, Every, at-end, at-ask, Where, sameReg}
+use Rattle.model.specs.Every.{Chip, Every, at-end, at-ask, Where, sameReg, onWrite, OnWrite}
 use Rattle.model.specs.EveryLaws.{every-bind, every-cond, Only}
 use Rattle.model.specs.Usb20Toggles.{Pid, DATA0, DATA1, other}
 use Rattle.model.specs.Usb20Control.{dataPid, statusPid, statusLength, statusDir}
@@ -67,26 +67,14 @@ acked-data1 = refl
 -- ---- EP0's control word of a direction: a reading brings the toggle last written
 
 abbrev pub left : Dir → ℕ → Access → ℕ
-left d b (Write r e v) = cond (sameReg r (ctrlOf d) && eqb e 0) (toggle v) b
-left d b (Read r e) = b
-left d b (Receive e x) = b
-left d b (Transmit e x) = b
-left d b (Ep0Dma x) = b
-left d b (Wait n) = b
-left d b Callback = b
+left d b q = onWrite (λ r e v. cond (sameReg r (ctrlOf d) && eqb e 0) (toggle v) b) b q
 
 abbrev pub ep0 : Dir → Chip
 ep0 d = record { Holds = ℕ; Brings = λ b q v. q ≡ Read (ctrlOf d) 0 → toggle v ≡ b; after = left d }
 
 -- a packet's length, as it is written for an IN
 abbrev pub Empty : Access → Type 0
-Empty (Write r e v) = Where (sameReg r EpTLen) (v ≡ statusLength)
-Empty (Read r e) = Unit {0}
-Empty (Receive e x) = Unit {0}
-Empty (Transmit e x) = Unit {0}
-Empty (Ep0Dma x) = Unit {0}
-Empty (Wait n) = Unit {0}
-Empty Callback = Unit {0}
+Empty q = OnWrite (λ r e v. Where (sameReg r EpTLen) (v ≡ statusLength)) q
 
 -- the status stage IN has no bytes
 pub status-empty : (i : Bool) → Only Empty (statusIn {i = i})
@@ -106,40 +94,40 @@ Begun old new b (Shown bytes stamp) = ⊥
 
 module _ {S : Type 0} (O : Ops S) where
   -- past the rows 4, 10 and 9
-  begins : {d : Dir} {b new : ℕ} (n : ℕ) (s : S) {o : tree.Out S Answer} → Leads d (Begun b new) b o
+  begins : (d : Dir) {b new : ℕ} (n : ℕ) (s : S) {o : tree.Out S Answer} → Leads d (Begun b new) b o
       → Leads d (Begun b new) b
       (cond (eqb (O .get globals-cell s .stage) 2) (cond (ltb (O .get globals-cell s .«ep0_max») n) (ends (Refused 10) s)
       (cond (isOn (O .get globals-cell s .«setup_ready»)) (ends (Refused 9) s) o)) (ends (Refused 4) s))
-  begins n s x = every-cond (eqb (O .get globals-cell s .stage) 2)
+  begins d n s x = every-cond (eqb (O .get globals-cell s .stage) 2)
       (λ _. every-cond (ltb (O .get globals-cell s .«ep0_max») n) (λ _. at-end refl)
       (λ _. every-cond (isOn (O .get globals-cell s .«setup_ready»)) (λ _. at-end refl) (λ _. x))) (λ _. at-end refl)
 
   -- past the rows 4 and 9
-  accepts : {d : Dir} {b new : ℕ} (s : S) {o : tree.Out S Answer} → Leads d (Begun b new) b o → Leads d (Begun b new) b
+  accepts : (d : Dir) {b new : ℕ} (s : S) {o : tree.Out S Answer} → Leads d (Begun b new) b o → Leads d (Begun b new) b
       (cond (eqb (O .get globals-cell s .stage) 2)
       (cond (isOn (O .get globals-cell s .«setup_ready»)) (ends (Refused 9) s) o) (ends (Refused 4) s))
-  accepts s x = every-cond (eqb (O .get globals-cell s .stage) 2)
+  accepts d s x = every-cond (eqb (O .get globals-cell s .stage) 2)
       (λ _. every-cond (isOn (O .get globals-cell s .«setup_ready»)) (λ _. at-end refl) (λ _. x)) (λ _. at-end refl)
 
   -- ---- the data stage
 
   -- its first packet
   pub first-out : (i : Bool) (n b : ℕ) (s : S) → Leads Out (Begun b (number (dataPid 0))) b (run O (beginDataOut {i = i} n true) s)
-  first-out i n b s = begins n s (at-ask tt (λ _ _ _ _. at-end acked-data1))
+  first-out i n b s = begins Out n s (at-ask tt (λ _ _ _ _. at-end acked-data1))
 
   pub first-in : (i : Bool) (bytes : List ℕ) (last : Bool) (b : ℕ) (s : S)
       → Leads In (Begun b (number (dataPid 0))) b (run O (beginDataIn {i = i} bytes true last) s)
-  first-in i bytes true b s = begins (length bytes) s (at-ask tt (λ _ _ _ _. at-ask tt (λ _ _ _ _. at-ask tt (λ _ _ _ _. at-end acked-data1))))
-  first-in i bytes false b s = begins (length bytes) s (at-ask tt (λ _ _ _ _. at-ask tt (λ _ _ _ _. at-end acked-data1)))
+  first-in i bytes true b s = begins In (length bytes) s (at-ask tt (λ _ _ _ _. at-ask tt (λ _ _ _ _. at-ask tt (λ _ _ _ _. at-end acked-data1))))
+  first-in i bytes false b s = begins In (length bytes) s (at-ask tt (λ _ _ _ _. at-ask tt (λ _ _ _ _. at-end acked-data1)))
 
   -- a later one goes out with the toggle as it stands
   pub next-out : (i : Bool) (n b : ℕ) (s : S) → Leads Out (Begun b b) b (run O (beginDataOut {i = i} n false) s)
-  next-out i n b s = begins n s (at-ask tt (λ w _ r _. at-ask tt (λ _ _ _ _. at-end (ack-keeps w ∙ r refl))))
+  next-out i n b s = begins Out n s (at-ask tt (λ w _ r _. at-ask tt (λ _ _ _ _. at-end (ack-keeps w ∙ r refl))))
 
   pub next-in : (i : Bool) (bytes : List ℕ) (last : Bool) (b : ℕ) (s : S) → Leads In (Begun b b) b (run O (beginDataIn {i = i} bytes false last) s)
-  next-in i bytes true b s = begins (length bytes) s
+  next-in i bytes true b s = begins In (length bytes) s
       (at-ask tt (λ _ _ _ _. at-ask tt (λ _ _ _ _. at-ask tt (λ w _ r _. at-ask tt (λ _ _ _ _. at-end (ack-keeps w ∙ r refl))))))
-  next-in i bytes false b s = begins (length bytes) s (at-ask tt (λ _ _ _ _. at-ask tt (λ w _ r _. at-ask tt (λ _ _ _ _. at-end (ack-keeps w ∙ r refl)))))
+  next-in i bytes false b s = begins In (length bytes) s (at-ask tt (λ _ _ _ _. at-ask tt (λ w _ r _. at-ask tt (λ _ _ _ _. at-end (ack-keeps w ∙ r refl)))))
 
   -- the interrupt's NAK, of whichever endpoint, leaves it
   pub nak-leaves : (i : Bool) (d : Dir) (st b : ℕ) (s : S) → Leads d (λ c _. c ≡ b) b (run O (nakNonIso {i = i} st) s)
@@ -185,15 +173,15 @@ module _ {S : Type 0} (O : Ops S) where
   -- after a data stage IN: the closing OUT is armed with the last packet
   pub status-out : (i : Bool) (bytes : List ℕ) (first : Bool) (k b : ℕ) (s : S)
       → Leads (statusDir In (suc k)) (Begun b (number statusPid)) b (run O (beginDataIn {i = i} bytes first true) s)
-  status-out i bytes true k b s = begins (length bytes) s (at-ask tt (λ _ _ _ _. at-ask tt (λ _ _ _ _. at-ask tt (λ _ _ _ _. at-end acked-data1))))
-  status-out i bytes false k b s = begins (length bytes) s
+  status-out i bytes true k b s = begins Out (length bytes) s (at-ask tt (λ _ _ _ _. at-ask tt (λ _ _ _ _. at-ask tt (λ _ _ _ _. at-end acked-data1))))
+  status-out i bytes false k b s = begins Out (length bytes) s
       (at-ask tt (λ _ _ _ _. at-ask tt (λ _ _ _ _. at-ask tt (λ _ _ _ _. at-ask tt (λ _ _ _ _. at-end acked-data1)))))
 
   -- and not before
   pub no-status-out : (i : Bool) (bytes : List ℕ) (first : Bool) (k b : ℕ) (s : S)
       → Leads (statusDir In (suc k)) (Begun b b) b (run O (beginDataIn {i = i} bytes first false) s)
-  no-status-out i bytes true k b s = begins (length bytes) s (at-ask tt (λ _ _ _ _. at-ask tt (λ _ _ _ _. at-end refl)))
-  no-status-out i bytes false k b s = begins (length bytes) s (at-ask tt (λ _ _ _ _. at-ask tt (λ _ _ _ _. at-ask tt (λ _ _ _ _. at-end refl))))
+  no-status-out i bytes true k b s = begins Out (length bytes) s (at-ask tt (λ _ _ _ _. at-ask tt (λ _ _ _ _. at-end refl)))
+  no-status-out i bytes false k b s = begins Out (length bytes) s (at-ask tt (λ _ _ _ _. at-ask tt (λ _ _ _ _. at-ask tt (λ _ _ _ _. at-end refl))))
 
   -- after a data stage OUT or none
   in-status : (k : ℕ) → statusDir Out k ≡ In
@@ -201,12 +189,12 @@ module _ {S : Type 0} (O : Ops S) where
   in-status (suc k) = refl
 
   pub status-in : (i : Bool) (k b : ℕ) (s : S) → Leads (statusDir Out k) (Begun b (number statusPid)) b (run O (beginAccept {i = i}) s)
-  status-in i k b s = rw (in-status k) (accepts s (at-ask tt (λ _ _ _ _. at-ask tt (λ w _ _ _. at-ask tt (λ _ _ _ _. at-end (status-data1 w))))))
+  status-in i k b s = rw (in-status k) (accepts In s (at-ask tt (λ _ _ _ _. at-ask tt (λ w _ _ _. at-ask tt (λ _ _ _ _. at-end (status-data1 w))))))
 
   pub status-in-address : (i : Bool) (address k b : ℕ) (s : S)
       → Leads (statusDir Out k) (Begun b (number statusPid)) b (run O (beginAcceptSetAddress {i = i} address) s)
   status-in-address i address k b s = rw (in-status k)
-      (accepts s (at-ask tt (λ _ _ _ _. at-ask tt (λ w _ _ _. at-ask tt (λ _ _ _ _. at-end (status-data1 w))))))
+      (accepts In s (at-ask tt (λ _ _ _ _. at-ask tt (λ w _ _ _. at-ask tt (λ _ _ _ _. at-end (status-data1 w))))))
 
   -- ---- packet by packet: the first is armed, then each time the interrupt sees one go through and the next is armed
   abbrev pub goesThrough : {i : Bool} → Dir → Transfer → ℕ → Script i Unit

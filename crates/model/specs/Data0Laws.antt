@@ -1,23 +1,21 @@
 -- DATA0 after a configuration, a cleared halt and a bus reset (USB 2.0, 9.1.1.5, 9.4.5): every control word that their scripts write has it. That they write
 -- the endpoint's own is `proof_toggles/specs/Data0.antt`, the driver's record RestartLaws.antt
 use mathlib.Core.Bool.{Bool, true, false, _||_}
-use mathlib.Core.Path.{_≡_, refl, ap, sym, _∙_}
-use Prim.Native.Nat.{ℕ, zero, suc, _+_, _*_, _/_, _%_}
+use mathlib.Core.Path.{_≡_, refl}
+use Prim.Native.Nat.{ℕ, zero, suc}
 use native.Mathlib.Omega.{arith}
-use Rattle.bits.specs.Bit.{digit}
 use Rattle.regs.specs.declared.Access.{Access}
-use Rattle.regs.specs.declared.Access.the-variants.{Read, Write, Receive, Transmit, Ep0Dma, Wait, Callback}
 use Rattle.regs.specs.declared.Reg.{Reg}
 use Rattle.regs.specs.declared.Reg.the-variants.{EpRxCtrl, EpTxCtrl}
 use Rattle.regs.specs.declared.Dir.{Dir}
 use Rattle.regs.specs.declared.Dir.the-variants.{Out, In}
 use Rattle.regs.specs.ControlWord as word
 use Rattle.regs.specs.ControlWord.{toggle, wordOf}
-use Rattle.model.specs.Cells.{EpCore, ep-cell}
-use Rattle.model.specs.Script.{Ops, run, Script, row, Burst, switch, bus-reset, burstAsk, resetAsk, switchAsk}
+use Rattle.model.specs.Cells.{EpCore}
+use Rattle.model.specs.Script.{resetAsk, switchAsk}
 use Rattle.model.specs.Statics.{isOn}
 use Rattle.model.specs.Bus.{setStalled, setEnabled, setEnabledOut, setEnabledIn, kept, busReset, nakAll, restarted, restartedOut, restartedIn}
-use Rattle.model.specs.Every.{sameReg, Where}
+use Rattle.model.specs.Every.{sameReg, Where, OnWrite}
 use Rattle.model.specs.EveryLaws.{Only}
 use Rattle.model.specs.Usb20Toggles.{initial}
 use Rattle.model.specs.TogglesLaws.{number}
@@ -27,13 +25,7 @@ abbrev pub isControl : Reg → Bool
 isControl r = sameReg r EpRxCtrl || sameReg r EpTxCtrl
 
 abbrev pub Initial : Access → Type 0
-Initial (Write r e v) = Where (isControl r) (toggle v ≡ number initial)
-Initial (Read r e) = Unit {0}
-Initial (Receive e x) = Unit {0}
-Initial (Transmit e x) = Unit {0}
-Initial (Ep0Dma x) = Unit {0}
-Initial (Wait n) = Unit {0}
-Initial Callback = Unit {0}
+Initial q = OnWrite (λ r e v. Where (isControl r) (toggle v ≡ number initial)) q
 
 pub word-data0 : (r : ℕ) (a : Bool) → toggle (wordOf r word.DATA0 a) ≡ number initial
 unfolding wordOf toggle

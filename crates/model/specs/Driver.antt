@@ -1,8 +1,8 @@
 -- The driver: start-up (mod.rs 886-951), allocation (953-1043, endpoint.rs 19-37), EP0's start (1144-1178), packets taken and queued in place
 -- (253-271, 342-395)
-use mathlib.Core.Bool.{Bool, true, false, not, cond}
-use mathlib.Core.List.{List, []}
-use Prim.Native.Nat.{ℕ, _%_, _*_}
+use mathlib.Core.Bool.{Bool, false, not}
+use mathlib.Core.List.{List}
+use Prim.Native.Nat.{ℕ, _%_}
 use lib.Dec.{eqb, ltb}
 use lib.ListN.{length}
 use Rattle.regs.specs.declared.Reg.the-variants.{Ctrl, HostCtrl, EpMaxLen, EpRxCtrl, EpTxCtrl}
@@ -14,12 +14,12 @@ use Rattle.regs.specs.IntEn.{atStart}
 use Rattle.alloc.specs.declared.Answer as alloc-answer
 use Rattle.alloc.specs.declared.Answer.the-variants as alloc
 use Rattle.alloc.specs.Alloc.{allocateOf, allocateEp0Of}
-use Rattle.model.specs.Cells.{EpCore, globals-cell, ep-cell, allocator-cell}
-use Rattle.model.specs.Script.{Script, ret, done, test, _>>=_, _>>_, read, write, wait, get, put, is, look, fetch}
+use Rattle.model.specs.Cells.{ep-cell, allocator-cell}
+use Rattle.model.specs.Script.{Script, ret, test, _>>=_, _>>_, write, wait, get, is, look, fetch}
 use Rattle.model.specs.Script.{act, hand, when, waiting, room, opened, next-stamp, oldest, place, place0}
 use Rattle.model.specs.Script.{open-oldest, close-oldest, enqueue, allocate, allocate0}
 use Rattle.model.specs.Statics.{isOn, modifyIntEn, modifyReg}
-use Rattle.model.specs.Answers.{Answer, Refused, End, Shown, ok, operation, resultless, staged, named, unless}
+use Rattle.model.specs.Answers.{Answer, Refused, Shown, ok, operation, resultless, staged, named, unless}
 use Rattle.model.specs.Endpoint.{enabled-else}
 
 -- `Driver::new`, 907-941
@@ -73,8 +73,8 @@ start maximum = staged 1 (do
   started-as maximum (allocateEp0Of a maximum .answer))
 
 -- `iso_out_take`, parted: open shows the oldest packet
-abbrev pub openPacket : {i : Bool} → ℕ → Script i Answer
-openPacket ep = staged 2 (named Out ep (do
+abbrev pub opening : {i : Bool} → ℕ → Script i Answer
+opening ep = do
   s ← get (ep-cell Out ep)
   unless (not (isOn (s .iso))) 11 (do
     b ← is (waiting Out ep)
@@ -84,21 +84,27 @@ openPacket ep = staged 2 (named Out ep (do
           bytes ← fetch (oldest ep)
           stamp ← look (next-stamp ep)
           ret (Shown bytes stamp))
-        (ret (Refused 12)))))
+        (ret (Refused 12)))
+
+abbrev pub openPacket : {i : Bool} → ℕ → Script i Answer
+openPacket ep = staged 2 (named Out ep (opening ep))
 
 -- and close gives its slot back
-abbrev pub closePacket : {i : Bool} → ℕ → Script i Answer
-closePacket ep = staged 2 (named Out ep (do
+abbrev pub closing : {i : Bool} → ℕ → Script i Answer
+closing ep = do
   b ← is (opened ep)
   test b
       (do
         act (close-oldest ep)
         ret ok)
-      (ret (Refused 14))))
+      (ret (Refused 14))
+
+abbrev pub closePacket : {i : Bool} → ℕ → Script i Answer
+closePacket ep = staged 2 (named Out ep (closing ep))
 
 -- `iso_in_prime`
-abbrev pub queuePacket : {i : Bool} → ℕ → List ℕ → Script i Answer
-queuePacket ep bytes = staged 2 (named In ep (enabled-else In ep (ret (Refused 9)) (do
+abbrev pub queueing : {i : Bool} → ℕ → List ℕ → Script i Answer
+queueing ep bytes = enabled-else In ep (ret (Refused 9)) (do
   a ← get allocator-cell
   unless (ltb (a .size) (length bytes)) 10 (do
     s ← get (ep-cell In ep)
@@ -108,4 +114,7 @@ queuePacket ep bytes = staged 2 (named In ep (enabled-else In ep (ret (Refused 9
           (do
             act (enqueue ep bytes)
             ret ok)
-          (ret (Refused 13)))))))
+          (ret (Refused 13)))))
+
+abbrev pub queuePacket : {i : Bool} → ℕ → List ℕ → Script i Answer
+queuePacket ep bytes = staged 2 (named In ep (queueing ep bytes))

@@ -1,5 +1,5 @@
 -- Reads and writes (endpoint.rs 82-195), each a begin and a poll
-use mathlib.Core.Bool.{Bool, true, false, not, cond, _&&_, _||_}
+use mathlib.Core.Bool.{Bool, not, _||_}
 use mathlib.Core.List.{List, []}
 use Prim.Native.Nat.{ℕ}
 use lib.Dec.{eqb, ltb}
@@ -11,10 +11,10 @@ use Rattle.regs.specs.ControlWord.{ack}
 use Rattle.regs.specs.Enables as enables
 use Rattle.state.specs.declared.Request.{Request}
 use Rattle.model.specs.Cells.{EpCore, globals-cell, ep-cell, request-cell}
-use Rattle.model.specs.Script.{Script, ret, done, test, _>>=_, _>>_, read, write, get, put, is, fetch, act, when}
+use Rattle.model.specs.Script.{Script, ret, done, test, _>>=_, _>>_, write, get, put, is, fetch, act}
 use Rattle.model.specs.Script.{waiting, room, oldest, received, fill, take-oldest, enqueue}
 use Rattle.model.specs.Statics.{isOn, withReady, withArmed, modifyEp, modifyReg}
-use Rattle.model.specs.Answers.{Answer, Refused, End, NotYet, Done, operation, resultless, staged, named, unless}
+use Rattle.model.specs.Answers.{Answer, Refused, NotYet, Done, resultless, staged, named, unless}
 
 abbrev pub begun : ℕ → Request
 begun n = record { begun = 1; length = n }

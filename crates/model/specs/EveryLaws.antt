@@ -3,14 +3,14 @@ use mathlib.Core.Bool.{Bool, true, false, cond}
 use mathlib.Core.Path.{_≡_, refl}
 use Prim.Native.Nat.{ℕ, zero, suc}
 use Rattle.regs.specs.declared.Access.{Access}
-use Rattle.regs.specs.declared.Access.the-variants.{Read, Write, Wait, Callback}
+use Rattle.regs.specs.declared.Access.the-variants.{Read, Write, Receive, Transmit, Ep0Dma, Wait, Callback}
 use Rattle.regs.specs.declared.Reg.{Reg}
 use Rattle.model.specs.Tree as tree
 use Rattle.model.specs.Tree.{bindOut}
 use Rattle.model.specs.Script.{Script, ret, bind, test, read-then, write-then, wait-then, callback-then, get-then}
 use Rattle.model.specs.Script.{put-then, is-then, look-then, fetch-then, act-then, hand-then, row-then, Ops, run}
-use Rattle.model.specs.Script.{rows, Burst, dmaStepAsk, burstAsk, lastOf}
-use Rattle.model.specs.Every.{Chip, Every, at-end, at-ask, All}
+use Rattle.model.specs.Script.{rows, Act, Burst, dmaStepAsk, burstAsk, lastOf}
+use Rattle.model.specs.Every.{If, onWrite, Chip, Every, at-end, at-ask, All}
 
 module _ {S : Type 0} {C : Chip} {Keeps : S → S → Type 0} {Ok : Access → Type 0} where
   pub every-bind : {A B : Type 0} {P : C .Holds → A → S → Type 0} {Q : C .Holds → B → S → Type 0} {h : C .Holds} {o : tree.Out S A} {f : A → S → tree.Out S B}
@@ -28,23 +28,38 @@ module _ {S : Type 0} {C : Chip} {Keeps : S → S → Type 0} {Ok : Access → T
   every-cond true x y = x refl
   every-cond false x y = y refl
 
--- each access of a script, whatever was read and whatever the state
+-- of each write, so of each access
+pub of-write : (f g : Reg → ℕ → ℕ → Bool) → ((r : Reg) (e v : ℕ) → f r e v ≡ true → g r e v ≡ false)
+    → (q : Access) → onWrite f true q ≡ true → onWrite g false q ≡ false
+of-write f g x (Write r e v) h = x r e v h
+of-write f g x (Read r e) h = refl
+of-write f g x (Receive e y) h = refl
+of-write f g x (Transmit e y) h = refl
+of-write f g x (Ep0Dma y) h = refl
+of-write f g x (Wait n) h = refl
+of-write f g x Callback h = refl
+
+-- each access, change and row of a script, whatever was read and whatever the state
+abbrev pub OnlyBy : {i : Bool} {A : Type 0} → (Access → Type 0) → (Act → Bool) → (Burst → Type 0) → Script i A → Type 0
+OnlyBy Ok May Row (ret a) = Unit {0}
+OnlyBy Ok May Row (bind p f) = OnlyBy Ok May Row p × ((a : _) → OnlyBy Ok May Row (f a))
+OnlyBy Ok May Row (test b p q) = OnlyBy Ok May Row p × OnlyBy Ok May Row q
+OnlyBy Ok May Row (read-then r e k) = Ok (Read r e) × ((v : ℕ) → OnlyBy Ok May Row (k v))
+OnlyBy Ok May Row (write-then r e v p) = Ok (Write r e v) × OnlyBy Ok May Row p
+OnlyBy Ok May Row (wait-then n p) = Ok (Wait n) × OnlyBy Ok May Row p
+OnlyBy Ok May Row (callback-then p) = Ok Callback × OnlyBy Ok May Row p
+OnlyBy Ok May Row (get-then c k) = (v : _) → OnlyBy Ok May Row (k v)
+OnlyBy Ok May Row (put-then c v p) = OnlyBy Ok May Row p
+OnlyBy Ok May Row (is-then q k) = (b : Bool) → OnlyBy Ok May Row (k b)
+OnlyBy Ok May Row (look-then q k) = (n : ℕ) → OnlyBy Ok May Row (k n)
+OnlyBy Ok May Row (fetch-then q k) = (l : _) → OnlyBy Ok May Row (k l)
+OnlyBy Ok May Row (act-then q p) = If (May q) (OnlyBy Ok May Row p)
+OnlyBy Ok May Row (hand-then q p) = ((x : ℕ) → Ok (dmaStepAsk q x)) × OnlyBy Ok May Row p
+OnlyBy Ok May Row (row-then g p) = Row g × OnlyBy Ok May Row p
+
+-- each access
 abbrev pub Only : {i : Bool} {A : Type 0} → (Access → Type 0) → Script i A → Type 0
-Only Ok (ret a) = Unit {0}
-Only Ok (bind p f) = Only Ok p × ((a : _) → Only Ok (f a))
-Only Ok (test b p q) = Only Ok p × Only Ok q
-Only Ok (read-then r e k) = Ok (Read r e) × ((v : ℕ) → Only Ok (k v))
-Only Ok (write-then r e v p) = Ok (Write r e v) × Only Ok p
-Only Ok (wait-then n p) = Ok (Wait n) × Only Ok p
-Only Ok (callback-then p) = Ok Callback × Only Ok p
-Only Ok (get-then c k) = (v : _) → Only Ok (k v)
-Only Ok (put-then c v p) = Only Ok p
-Only Ok (is-then q k) = (b : Bool) → Only Ok (k b)
-Only Ok (look-then q k) = (n : ℕ) → Only Ok (k n)
-Only Ok (fetch-then q k) = (l : _) → Only Ok (k l)
-Only Ok (act-then q p) = Only Ok p
-Only Ok (hand-then q p) = ((x : ℕ) → Ok (dmaStepAsk q x)) × Only Ok p
-Only Ok (row-then g p) = ((n x : ℕ) → Ok (burstAsk g n x)) × Only Ok p
+Only Ok p = OnlyBy Ok (λ _. true) (λ g. (n x : ℕ) → Ok (burstAsk g n x)) p
 
 module _ {S : Type 0} {C : Chip} {Keeps : S → S → Type 0} {Ok : Access → Type 0} (O : Ops S) where
   only-rows : {A : Type 0} (g : Burst) → ((n x : ℕ) → Ok (burstAsk g n x)) → (n : ℕ) (k : S → tree.Out S A)

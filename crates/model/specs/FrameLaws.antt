@@ -1,6 +1,5 @@
 -- `microframe` answers USB 2.0's count of microframes (8.4.3) of the register's reading
 use mathlib.Core.Path.{_≡_, refl}
-use Prim.Native.Nat.{ℕ}
 use mathlib.Core.Bool.{Bool}
 use Rattle.regs.specs.declared.Access.the-variants.{Read}
 use Rattle.regs.specs.declared.Reg.the-variants.{FrameNo}

@@ -10,7 +10,7 @@ use Rattle.regs.specs.declared.Dir.the-variants.{Out, In}
 use Rattle.regs.specs.declared.Token.{Token}
 use Rattle.regs.specs.declared.Token.the-variants as tok
 use Rattle.regs.specs.Registers.{ctrlOf}
-use Rattle.regs.specs.ControlWord.{NAK, ACK, DATA0, wordOf, ack, nak, flip, nakflip, isData1}
+use Rattle.regs.specs.ControlWord.{NAK, DATA0, wordOf, ack, nak, flip, nakflip, isData1}
 use Rattle.regs.specs.Flags.{busRst, transfer, suspend, hstSof, fifoOv, setupAct, TRANSFER, HST_SOF, FIFO_OV, SETUP_ACT}
 use Rattle.regs.specs.Status.{endpoint, token, isOut, isIn, isSof, togOk}
 use Rattle.regs.specs.MisStatus.{sieFree}
@@ -18,7 +18,7 @@ use Rattle.frame.specs.Usb20.{indexOf}
 use Rattle.regs.specs.IntEn.{withBusRst, withSuspend}
 use Rattle.model.specs.declared.Transfer.{Transfer}
 use Rattle.model.specs.Cells.{EpCore, globals-cell, ep-cell}
-use Rattle.model.specs.Script.{Script, ret, done, test, _>>=_, _>>_, read, write, get, put, look, when, setup-word}
+use Rattle.model.specs.Script.{Script, ret, done, test, _>>=_, _>>_, read, write, get, look, when, setup-word}
 use Rattle.model.specs.Statics.{isOn, flag, withReady, withArmed, withLen, withTog, completed, withSetup}
 use Rattle.model.specs.Statics.{withEntered, modify, modifyEp, modifyReg, modifyIntEn, wake, wakeBus, isoInEvery}
 use Rattle.model.specs.IsoIn.{firstInFrame, isoInComplete, onSof, lateWalk}
@@ -57,10 +57,9 @@ nakNonIso st = do
 unfoldable pub repeated : EpCore → ℕ → Bool
 repeated s word = eqb (s .tog) (flag (isData1 word))
 
-abbrev pub toggled : {i : Bool} → Dir → ℕ → Script i Bool
-toggled dir ep = do
-  sieWait
-  word ← read (ctrlOf dir) ep
+-- once the word is read
+abbrev pub verdict : {i : Bool} → Dir → ℕ → ℕ → Script i Bool
+verdict dir ep word = do
   s ← get (ep-cell dir ep)
   test (repeated s word)
       (do
@@ -69,6 +68,12 @@ toggled dir ep = do
       (do
         modifyEp dir ep (λ s. withArmed 0 (withTog (flag (isData1 word)) s))
         ret true)
+
+abbrev pub toggled : {i : Bool} → Dir → ℕ → Script i Bool
+toggled dir ep = do
+  sieWait
+  word ← read (ctrlOf dir) ep
+  verdict dir ep word
 
 -- ---- the transfer, 656-801
 
@@ -218,6 +223,16 @@ served x iso frame = do
 abbrev pub framed : Transfer → Bool → ℕ → ℕ → Transfer
 framed x iso sof frame = cond (ownIn x iso sof frame) (released x) x
 
+-- once the wait is over
+abbrev pub frames : {i : Bool} → Transfer → Script i Unit
+frames x = do
+  o ← get (ep-cell Out (endpoint (x .st)))
+  n ← get (ep-cell In (endpoint (x .st)))
+  let iso = isoFor (token (x .st)) o n
+  frame ← read FrameNo 0
+  g ← get globals-cell
+  served (framed x iso (g .«sof_frame») frame) iso frame
+
 abbrev pub onTransfer : {i : Bool} → Script i Unit
 onTransfer = do
   m ← read MisSt 0
@@ -227,18 +242,11 @@ onTransfer = do
   when (not (x .busy) || (not (isSof st) && not (eqb (endpoint st) 0))) (nakNonIso st)
   write IntFg 0 TRANSFER
   x ← settle x
-  o ← get (ep-cell Out (endpoint (x .st)))
-  n ← get (ep-cell In (endpoint (x .st)))
-  let iso = isoFor (token (x .st)) o n
-  frame ← read FrameNo 0
-  g ← get globals-cell
-  served (framed x iso (g .«sof_frame») frame) iso frame
+  frames x
 
 -- 803-818: a new control transfer; the setup packet is taken in the call that releases its flag
-abbrev pub onSetup : {i : Bool} → Script i Unit
-onSetup = do
-  write EpRxCtrl 0 (wordOf NAK DATA0 false)
-  write EpTxCtrl 0 (wordOf NAK DATA0 false)
+abbrev pub takeSetup : {i : Bool} → Script i Unit
+takeSetup = do
   low ← look (setup-word 0)
   high ← look (setup-word 1)
   modifyEp Out 0 (λ s. withArmed 0 (withReady 0 s))
@@ -247,6 +255,12 @@ onSetup = do
   write IntFg 0 SETUP_ACT
   wake Out 0
   wake In 0
+
+abbrev pub onSetup : {i : Bool} → Script i Unit
+onSetup = do
+  write EpRxCtrl 0 (wordOf NAK DATA0 false)
+  write EpTxCtrl 0 (wordOf NAK DATA0 false)
+  takeSetup
 
 -- `on_interrupt`, 634-819
 abbrev pub onInterrupt : {i : Bool} → Script i Unit

@@ -1,16 +1,16 @@
 -- Isochronous IN: completions and loads (mod.rs 397-414, 558-608), paced advance (323-340)
-use mathlib.Core.Bool.{Bool, true, false, not, cond, _&&_}
+use mathlib.Core.Bool.{Bool, not, _&&_}
 use mathlib.Core.List.{List, [], _∷_}
-use Prim.Native.Nat.{ℕ, zero, suc, _+_, _-_, _*_, _/_, _%_}
+use Prim.Native.Nat.{ℕ, zero, suc}
 use lib.Dec.{eqb}
 use Rattle.bits.specs.Bit.{isSet, withBit}
 use Rattle.bits.specs.Walk.{setBits}
 use Rattle.regs.specs.declared.Reg.the-variants.{MisSt, IntSt, FrameNo, EpTLen}
-use Rattle.regs.specs.declared.Dir.the-variants.{Out, In}
+use Rattle.regs.specs.declared.Dir.the-variants.{In}
 use Rattle.regs.specs.MisStatus.{sieFree}
 use Rattle.regs.specs.Status.{endpoint, isIn}
 use Rattle.regs.specs.Enables as enables
-use Rattle.model.specs.Cells.{EpCore, globals-cell, ep-cell, paced-cell}
+use Rattle.model.specs.Cells.{globals-cell, ep-cell, paced-cell}
 use Rattle.model.specs.Script.{Script, ret, done, test, _>>=_, _>>_, read, write, callback, get, put, is, look}
 use Rattle.model.specs.Script.{act, hand, when, waiting, next-len, complete, send}
 use Rattle.frame.specs.Usb20.{indexOf, frameOf}

@@ -1,15 +1,15 @@
 -- Isochronous OUT: arrivals (`iso_out_check`, mod.rs 461-512)
-use mathlib.Core.Bool.{Bool, true, false, not, cond, _&&_}
+use mathlib.Core.Bool.{Bool, not, _&&_}
 use mathlib.Core.List.{List, [], _∷_}
 use Prim.Native.Nat.{ℕ}
 use lib.Dec.{eqb}
 use Rattle.bits.specs.Walk.{setBits}
 use Rattle.regs.specs.declared.Reg.the-variants.{IntSt}
-use Rattle.regs.specs.declared.Dir.the-variants.{Out, In}
+use Rattle.regs.specs.declared.Dir.the-variants.{Out}
 use Rattle.regs.specs.Status.{endpoint, isOut, togOk}
 use Rattle.model.specs.declared.Transfer.{Transfer}
 use Rattle.model.specs.Cells.{globals-cell}
-use Rattle.model.specs.Script.{Script, ret, done, test, _>>=_, _>>_, read, write, get, put, is, look, hand, when, changed, marked, arrive}
+use Rattle.model.specs.Script.{Script, done, test, _>>=_, _>>_, read, get, is, look, hand, when, changed, marked, arrive}
 use Rattle.model.specs.Statics.{wake, isoOuts}
 
 -- the status shows OUT for this endpoint: its packet may still be arriving

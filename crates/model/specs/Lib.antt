@@ -1,6 +1,7 @@
 pub mod Tree
 pub mod Cells
 pub mod Script
+pub mod Acts
 pub mod Simulates
 pub mod Machine
 pub mod Agree
@@ -29,6 +30,7 @@ pub mod ToggledLaws
 pub mod Data0Laws
 pub mod RestartLaws
 pub mod ControlLaws
+pub mod Kinds
 pub mod Steps
 pub mod StepsInterrupt
 pub mod StepsRequests

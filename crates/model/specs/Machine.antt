@@ -1,21 +1,16 @@
 -- Two machines run the same calls: the driver's, and a book's that is told the accesses which the driver handed out
-use mathlib.Core.Bool.{Bool, true, false, not, cond}
-use mathlib.Core.List.{List, [], _∷_}
-use mathlib.Core.Path.{_≡_, refl, ap, subst, sym, _∙_}
-use Prim.Native.Nat.{ℕ, zero, suc, _+_, _*_}
+use mathlib.Core.Bool.{Bool, false, not, cond}
+use mathlib.Core.List.{List}
+use Prim.Native.Nat.{ℕ, zero, suc}
 use lib.Dec.{eqb}
 use lib.ListN.{length}
 use Rattle.regs.specs.declared.Access.{Access}
 use Rattle.regs.specs.declared.Access.the-variants.{Read, Write, Receive, Transmit, Ep0Dma, Wait, Callback}
 use Rattle.regs.specs.Registers.{widthOf}
 use Rattle.regs.specs.declared.Dir.{Dir}
-use Rattle.regs.specs.declared.Dir.the-variants.{Out, In}
 use Rattle.model.specs.Tree as tree
-use Rattle.model.specs.Tree.{ends, asks, bindOut}
-use Rattle.model.specs.Cells.{Cell, Val}
-use Rattle.model.specs.Script.{Ops, Script, run, Test, Look, Fetch, Act, DmaStep, arrive, send, place, place0}
-use Rattle.model.specs.Script.{dmaStepAsk, dma, Burst, switch, bus-reset, lastOf, burstAsk, switchAsk, resetAsk}
-use Rattle.model.specs.Simulates.{Rels, Sim, end, ask, alike, Phase, quiet, mid, Fits, Bare}
+use Rattle.model.specs.Tree.{ends, asks}
+use Rattle.model.specs.Script.{Ops, Script, run}
 
 abbrev pub Buf : Type 0
 Buf = List ℕ

@@ -11,18 +11,17 @@ use Rattle.bits.specs.WalkLaws.{walk-length}
 use Rattle.regs.specs.declared.Access.{Access}
 use Rattle.regs.specs.declared.Access.the-variants.{Read}
 use Rattle.regs.specs.declared.Reg.{Reg}
-use Rattle.regs.specs.declared.Dir.{Dir}
 use Rattle.regs.specs.declared.Dir.the-variants.{Out, In}
 use Rattle.model.specs.Tree as tree
 use Rattle.model.specs.Tree.{ends, asks, Prog, bindOut}
 use Rattle.model.specs.Cells.{Cell, Val}
-use Rattle.model.specs.Script.{Script, Ops, run, rows, Test, Look, Fetch, Act, DmaStep, dmaStepAsk, arrive, send}
+use Rattle.model.specs.Script.{Script, Ops, rows, Test, Look, Fetch, Act, DmaStep, dmaStepAsk, arrive, send}
 use Rattle.model.specs.Script.{place, place0, Burst, switch, bus-reset, lastOf, burstAsk, ret, bind, test}
 use Rattle.model.specs.Script.{read-then, write-then, wait-then, callback-then, get-then, put-then, is-then}
 use Rattle.model.specs.Script.{look-then, fetch-then, act-then, hand-then, row-then, _>>_, done, when, read}
 use Rattle.model.specs.Script.{write, callback, get, put, is, look, fetch, act, hand}
 use Rattle.model.specs.Statics.{modifyReg}
-use Rattle.model.specs.Readings.{reading, Continues, readings, AtMost, Reads≤}
+use Rattle.model.specs.Readings.{reading, readings, AtMost, Reads≤}
 
 -- ---- outcomes
 

@@ -1,5 +1,5 @@
 -- Scripts, what they may do to a state, and their run over one
-use mathlib.Core.Bool.{Bool, true, false, cond}
+use mathlib.Core.Bool.{Bool, false, cond}
 use mathlib.Core.List.{List}
 use Prim.Native.Nat.{ℕ, zero, suc}
 use Rattle.regs.specs.declared.Access.{Access}
@@ -8,13 +8,9 @@ use Rattle.regs.specs.declared.Reg.{Reg}
 use Rattle.regs.specs.declared.Reg.the-variants.{EpRxCtrl, EpType, EpConfig, EpBufMod, IntFg}
 use Rattle.regs.specs.declared.Dir.{Dir}
 use Rattle.regs.specs.declared.Dir.the-variants.{Out, In}
-use Rattle.state.specs.declared.Globals.{Globals}
-use Rattle.state.specs.declared.Allocator.{Allocator}
-use Rattle.state.specs.declared.Request.{Request}
-use Rattle.state.specs.declared.Control.{Control}
 use Rattle.model.specs.Tree as tree
 use Rattle.model.specs.Tree.{ends, asks, bindOut}
-use Rattle.model.specs.Cells.{Cell, Val, EpCore, globals-cell, control-cell, allocator-cell, ep-cell, request-cell, paced-cell}
+use Rattle.model.specs.Cells.{Cell, Val}
 
 -- what is asked of a ring or of slots
 pub data Test : Type 0 where

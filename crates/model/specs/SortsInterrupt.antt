@@ -3,7 +3,7 @@
 use mathlib.Core.Bool.{Bool, true, false, not, cond, _&&_, _||_}
 use mathlib.Core.Logic.{_⊎_, inl, inr, ⊎-elim}
 use mathlib.Core.Path.{_≡_, refl, ap, sym, _∙_}
-use Prim.Native.Nat.{ℕ, zero, suc, _+_, _*_, _≤_, _<_, _%_}
+use Prim.Native.Nat.{ℕ, zero, suc, _+_, _*_, _≤_, _<_}
 use native.Mathlib.Nat.{eq-zero-or-pos}
 use native.Mathlib.Omega.{arith}
 use lib.Dec.{eqb}
@@ -14,20 +14,19 @@ use Rattle.regs.specs.declared.Dir.{Dir}
 use Rattle.regs.specs.declared.Dir.the-variants.{Out, In}
 use Rattle.regs.specs.declared.Token.{Token}
 use Rattle.regs.specs.declared.Token.the-variants as tok
-use Rattle.regs.specs.declared.Reg.the-variants.{FrameNo}
 use Rattle.regs.specs.Status.{endpoint, token, outToken, isOut, isIn}
 use Rattle.state.specs.declared.Globals.{Globals}
 use Rattle.model.specs.declared.Transfer.{Transfer}
 use Rattle.model.specs.Cells.{EpCore, globals-cell, ep-cell}
-use Rattle.model.specs.Script.{Script, Ops, run, bind, _>>=_, _>>_, read, get, complete, no-wakes, waken, send}
-use Rattle.model.specs.Script.{arrive, open-oldest, close-oldest, enqueue}
+use Rattle.model.specs.Script.{Ops, run, bind, complete, no-wakes, waken, send}
+use Rattle.model.specs.Script.{arrive}
 use Rattle.model.specs.Statics.{isOn, isoInEvery, isoOuts}
 use Rattle.model.specs.IsoIn.{firstInFrame, isoInLoad, isoInComplete, unseen, sofOne, sofWalk, onSof, lateOne, lateWalk}
 use Rattle.model.specs.IsoOut.{arrives, checkOne, checkWalk, isoOutCheck}
 use Rattle.model.specs.Handler.{looks, sieWait, nakNonIso, toggled, retake, settle, entered, waitsForIso}
 use Rattle.model.specs.Handler.{waitsForBulk, received, sent, sofArm, outArm, isoInArm, inArm, dispatch, movedOn}
 use Rattle.model.specs.Handler.{ep0MovedOn, isoFor, ownIn, released, framed, served, onTransfer, onSetup}
-use Rattle.model.specs.Handler.{onInterrupt, keepMicroframe}
+use Rattle.model.specs.Handler.{frames, onInterrupt, keepMicroframe}
 use Rattle.model.specs.Calls.{interruptCode}
 use Rattle.model.specs.Readings.{Continues, readings}
 use Rattle.model.specs.ToggledLaws.{apart}
@@ -262,16 +261,7 @@ module _ {S : Type 0} {O : Ops S} {K : S → Type 0} {iso : TransferKinds} (M : 
       when-reads (λ e. reads-more (ep0MovedOn-reads (token (x .st))) (z e)))))))
 
   -- `onTransfer` once the wait is over
-  abbrev rest : Transfer → Script i Unit
-  rest x = do
-    o ← get (ep-cell Out (endpoint (x .st)))
-    n ← get (ep-cell In (endpoint (x .st)))
-    let f = isoFor (token (x .st)) o n
-    frame ← read FrameNo 0
-    g ← get globals-cell
-    served (framed x f (g .«sof_frame») frame) f frame
-
-  rest-late : (x : Transfer) → token (x .st) ≡ tok.Out → iso Out (endpoint (x .st)) ≡ true → Reads O K 47 Any (rest x)
+  rest-late : (x : Transfer) → token (x .st) ≡ tok.Out → iso Out (endpoint (x .st)) ≡ true → Reads O K 47 Any (frames {i = i} x)
   rest-late x t y = free (no-get M (ep-cell _ _)) (λ o so. free (no-get M (ep-cell _ _)) (λ n _. once one-read (λ frame _. free (no-get M globals-cell) (λ g _.
       let f = isoFor (token (x .st)) o n in
       let z = framed x f (g .«sof_frame») frame in
@@ -279,7 +269,8 @@ module _ {S : Type 0} {O : Ops S} {K : S → Type 0} {iso : TransferKinds} (M : 
       (dispatch-none _ z f frame (ap token (framed-st x f (g .«sof_frame») frame) ∙ t) (iso-out (token (x .st)) o n t ∙ (so ∙ y)))
       (λ _. omega arith)))))
 
-  rest-bulk : (j k : ℕ) → Most j (iso In) → Most k (iso Out) → j * 2 + k ≤ 44 → (x : Transfer) → eqb (endpoint (x .st)) 0 ≡ false → Reads O K 2048 Any (rest x)
+  rest-bulk : (j k : ℕ) → Most j (iso In) → Most k (iso Out) → j * 2 + k ≤ 44 → (x : Transfer) → eqb (endpoint (x .st)) 0 ≡ false
+      → Reads O K 2048 Any (frames {i = i} x)
   rest-bulk j k a b h x e = free (no-get M (ep-cell _ _))
       (λ o _. free (no-get M (ep-cell _ _)) (λ n _. once one-read (λ frame _. free (no-get M globals-cell) (λ g _.
       let f = isoFor (token (x .st)) o n in
@@ -288,7 +279,7 @@ module _ {S : Type 0} {O : Ops S} {K : S → Type 0} {iso : TransferKinds} (M : 
       (λ (q : eqb (endpoint (z .st)) 0 ≡ true). apart (sym q
       ∙ (ap (λ (st : ℕ). eqb (endpoint st) 0) (framed-st x f (g .«sof_frame») frame) ∙ e)))) (omega (arith, h))))))
 
-  rest-else : (x : Transfer) → Reads O K 2050 Any (rest x)
+  rest-else : (x : Transfer) → Reads O K 2050 Any (frames {i = i} x)
   rest-else x = free (no-get M (ep-cell _ _)) (λ o _. free (no-get M (ep-cell _ _)) (λ n _. once one-read (λ frame _. free (no-get M globals-cell) (λ g _.
       let f = isoFor (token (x .st)) o n in
       let z = framed x f (g .«sof_frame») frame in
@@ -296,14 +287,14 @@ module _ {S : Type 0} {O : Ops S} {K : S → Type 0} {iso : TransferKinds} (M : 
 
   -- the endpoint that waited is missing from its direction's walk
   rest-missing : (x : Transfer) → eqb (endpoint (x .st)) 0 ≡ false
-      → (iso Out (endpoint (x .st)) ≡ false) ⊎ (iso In (endpoint (x .st)) ≡ false) → Reads O K 2048 Any (rest x)
+      → (iso Out (endpoint (x .st)) ≡ false) ⊎ (iso In (endpoint (x .st)) ≡ false) → Reads O K 2048 Any (frames {i = i} x)
   rest-missing x e (inl q) = rest-bulk 15 14 (every-in M)
       (most-14 (iso Out) (M .ep0 Out) (endpoint (x .st)) (not-ep0 (endpoint (x .st)) e) (endpoint-lt (x .st)) q) (omega arith) x e
   rest-missing x e (inr q) =
       rest-bulk 14 15 (most-14 (iso In) (M .ep0 In) (endpoint (x .st)) (not-ep0 (endpoint (x .st)) e) (endpoint-lt (x .st)) q)
       (every-out M) (omega arith) x e
 
-  settled : (x : Transfer) (a b : Bool) → lateBy iso x ≡ a → bulkBy iso x ≡ b → Reads O K 4050 Any (bind (settle x) rest)
+  settled : (x : Transfer) (a b : Bool) → lateBy iso x ≡ a → bulkBy iso x ≡ b → Reads O K 4050 Any (bind (settle x) (frames {i = i}))
   settled x true b l h =
       let z = late-is (x .busy) (isOut (x .st)) (iso Out (endpoint (x .st))) l in
       reads-more

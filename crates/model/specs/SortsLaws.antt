@@ -1,17 +1,13 @@
 -- The readings of composed scripts while the sorts stay: the rules of ReadingsLaws, with what a test and a cell say
-use mathlib.Core.Bool.{Bool, true, false, cond}
+use mathlib.Core.Bool.{Bool, true, false}
 use mathlib.Core.List.{List, [], _∷_}
-use mathlib.Core.Path.{_≡_, refl}
-use Prim.Native.Nat.{ℕ, zero, suc, _+_, _-_, _*_, _≤_}
+use mathlib.Core.Path.{_≡_}
+use Prim.Native.Nat.{ℕ, zero, suc, _+_, _*_, _≤_}
 use native.Mathlib.Nat.{suc-mul}
 use native.Mathlib.Omega.{arith}
 use lib.ListN.{length}
-use Rattle.regs.specs.declared.Access.{Access}
 use Rattle.regs.specs.declared.Reg.{Reg}
-use Rattle.regs.specs.declared.Dir.{Dir}
-use Rattle.regs.specs.declared.Dir.the-variants.{Out, In}
 use Rattle.model.specs.Tree as tree
-use Rattle.model.specs.Tree.{ends, asks}
 use Rattle.model.specs.Cells.{Cell, Val}
 use Rattle.model.specs.Script.{Script, Ops, run, Test, Look, Fetch, Act, DmaStep, dmaStepAsk, ret, bind, test}
 use Rattle.model.specs.Script.{_>>_, done, when, read, write, callback, get, put, is, look, fetch, act, hand}

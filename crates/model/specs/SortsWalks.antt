@@ -1,9 +1,9 @@
 -- How many endpoints a walk over isochronous endpoints has: never EP0, so 15; without another one, 14
-use mathlib.Core.Bool.{Bool, true, false, cond}
-use mathlib.Core.List.{List, [], _∷_}
-use mathlib.Core.Logic.{_⊎_, inl, inr, ⊎-elim}
+use mathlib.Core.Bool.{Bool, true, false}
+use mathlib.Core.List.{List}
+use mathlib.Core.Logic.{⊎-elim}
 use mathlib.Core.Path.{_≡_, refl, sym, _∙_}
-use Prim.Native.Nat.{ℕ, zero, suc, _+_, _-_, _/_, _%_, _≤_, _<_}
+use Prim.Native.Nat.{ℕ, zero, suc, _-_, _/_, _%_, _≤_, _<_}
 use native.Mathlib.Omega.{arith}
 use lib.Bits.{bitAnd}
 use lib.ListN.{length}
@@ -11,11 +11,10 @@ use Rattle.bits.specs.Bit.{bit, isSet, both}
 use Rattle.bits.specs.BitLaws.{bit-suc, bit-cases, one-set, set-and}
 use Rattle.bits.specs.Walk.{consIf, bitsFrom, setBits}
 use Rattle.regs.specs.Enables.{inEnabled, outEnabled}
-use Rattle.regs.specs.declared.Dir.the-variants.{Out, In}
 use Rattle.state.specs.declared.Globals.{Globals}
 use Rattle.model.specs.Statics.{isoInEvery, isoOuts}
 use Rattle.model.specs.ToggledLaws.{apart}
-use Rattle.model.specs.TransferKinds.{TransferKinds, Among}
+use Rattle.model.specs.TransferKinds.{Among}
 
 -- no walk over such endpoints has more
 abbrev pub Most : ℕ → (ℕ → Bool) → Type 0

@@ -4,7 +4,7 @@ use mathlib.Core.Bool.{Bool, true, false, not, cond, _&&_, _||_}
 use Prim.Native.Nat.{ℕ}
 use lib.Dec.{eqb}
 use Rattle.regs.specs.declared.Access.{Access}
-use Rattle.regs.specs.declared.Access.the-variants.{Read, Write, Receive, Transmit, Ep0Dma, Wait, Callback}
+use Rattle.regs.specs.declared.Access.the-variants.{Read, Write, Wait, Callback}
 use Rattle.regs.specs.declared.Reg.the-variants.{IntFg, DevAd, EpConfig}
 use Rattle.regs.specs.declared.Dir.the-variants.{Out, In}
 use Rattle.regs.specs.Registers.{numberOf}
@@ -13,78 +13,11 @@ use Rattle.model.specs.Script.{Script, ret, bind, test, read-then, write
 use Rattle.model.specs.Script.{put-then, is-then, look-then, fetch-then, act-then, hand-then, row-then, Act, Burst}
 use Rattle.model.specs.Script.{switch, bus-reset, complete, reset-ring, set-enabled, fill, fill0, open-oldest}
 use Rattle.model.specs.Script.{close-oldest, take-oldest, enqueue, allocate, allocate0, no-wakes, waken, dmaStepAsk}
+pub use Rattle.model.specs.Every.{If}
+use Rattle.model.specs.Every.{onWrite}
 use Rattle.model.specs.Control.{DATA-OUT}
-use Rattle.model.specs.Calls.{Op, interrupt, slotted, other, aside, Slotted, SetEnabled, PollRead, BeginWrite}
-use Rattle.model.specs.Calls.{PollWrite, PollDataOut, BeginDataIn, Other, Allocate, AllocateAll, Start, BusPoll}
-use Rattle.model.specs.Calls.{BusEnable, BusDisable, Microframe, SetStalled, IsStalled, SetPaced, Advance, BeginRead}
-use Rattle.model.specs.Calls.{BeginSetup, PollSetup, PollDataIn, BeginAccept, PollAccept, BeginReject, BeginDataOut}
-use Rattle.model.specs.Calls.{BeginAcceptSetAddress, Aside}
-
--- ---- the kinds of calls, by what no other call does
-
-pub data Kind : Type 0 where
-  plain : Kind
-  moving : Kind  -- the interrupt and advance: packets arrive, are sent and are complete
-  turning : Kind  -- an endpoint is enabled or disabled
-  resetting : Kind  -- the bus' poll
-  giving : Kind  -- allocations
-  starting : Kind  -- EP0's start
-  accepting : Kind  -- an accept's poll writes the address
-  reading : Kind  -- a read is begun
-  receiving : Kind  -- a data_out is begun
-  queueing : Kind  -- a packet is queued, or one is shown or given back
-
-abbrev slottedKind : Slotted → Kind
-slottedKind (SetEnabled d e on) = turning
-slottedKind (PollRead e n) = plain
-slottedKind (BeginWrite e bs) = plain
-slottedKind (PollWrite e bs) = queueing
-slottedKind (PollDataOut n) = plain
-slottedKind (BeginDataIn bs first last) = plain
-
-abbrev otherKind : Other → Kind
-otherKind (Allocate d kind address maximum interval) = giving
-otherKind (AllocateAll bytes) = giving
-otherKind (Start maximum) = starting
-otherKind BusPoll = resetting
-otherKind BusEnable = plain
-otherKind BusDisable = plain
-otherKind Microframe = plain
-otherKind (SetStalled d e on) = plain
-otherKind (IsStalled d e) = plain
-otherKind (SetPaced e on) = plain
-otherKind (Advance e) = moving
-otherKind (BeginRead e n) = reading
-otherKind BeginSetup = plain
-otherKind PollSetup = plain
-otherKind PollDataIn = plain
-otherKind BeginAccept = plain
-otherKind PollAccept = accepting
-otherKind BeginReject = plain
-otherKind (BeginDataOut n first) = receiving
-otherKind (BeginAcceptSetAddress a) = plain
-
-abbrev pub kindOf : Op → Kind
-kindOf interrupt = moving
-kindOf (slotted o) = slottedKind o
-kindOf (other o) = otherKind o
-kindOf (aside o) = queueing
-
--- two kinds are one
-abbrev pub codeOf : Kind → ℕ
-codeOf plain = 0
-codeOf moving = 1
-codeOf turning = 2
-codeOf resetting = 3
-codeOf giving = 4
-codeOf starting = 5
-codeOf accepting = 6
-codeOf reading = 7
-codeOf receiving = 8
-codeOf queueing = 9
-
-abbrev pub is : Kind → Kind → Bool
-is k j = eqb (codeOf k) (codeOf j)
+pub use Rattle.model.specs.Kinds.{Kind, plain, moving, turning, resetting, giving, starting, accepting, reading}
+pub use Rattle.model.specs.Kinds.{receiving, queueing, kindOf, codeOf, is}
 
 -- ---- what a call of a kind may do
 
@@ -98,13 +31,7 @@ mayWrite k n v = cond (eqb n (numberOf DevAd)) (mayAddress k v)
     (cond (eqb n (numberOf EpConfig)) (is k turning || is k resetting) (not (eqb n (numberOf IntFg) && eqb v 1) || is k resetting))
 
 abbrev pub mayAsk : Kind → Access → Bool
-mayAsk k (Write r e v) = mayWrite k (numberOf r) v
-mayAsk k (Read r e) = true
-mayAsk k (Receive e x) = true
-mayAsk k (Transmit e x) = true
-mayAsk k (Ep0Dma x) = true
-mayAsk k (Wait n) = true
-mayAsk k Callback = true
+mayAsk k q = onWrite (λ r e v. mayWrite k (numberOf r) v) true q
 
 -- a request that is begun is a write's, or the one that the call begins
 abbrev pub mayPut : Kind → (c : Cell) → Val c → Bool
@@ -136,11 +63,6 @@ mayRow k (switch e on) = is k turning
 mayRow k bus-reset = is k resetting
 
 -- ---- a script that does no more than a call of kind k, whatever is read and whatever the state
-
--- a type where a test holds, else none
-abbrev pub If : Bool → Type 0 → Type 0
-If true X = X
-If false X = ⊥
 
 abbrev pub Asks : Kind → Access → Type 0
 Asks k q = If (mayAsk k q) (Unit {0})

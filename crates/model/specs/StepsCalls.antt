@@ -15,6 +15,7 @@ use Rattle.req_descriptor.specs.Reading.{readingOf, listOf}
 use Rattle.req_preview.specs.Trial.{directionOf}
 use Rattle.model.specs.Bus as bus
 use Rattle.model.specs.Bus.{nakAll}
+use Rattle.model.specs.Control.{statusIn}
 use Rattle.model.specs.Driver.{allocated-as, started-as}
 use Rattle.model.specs.AllocateAll.{allocateEach, announce, beginsAt, announceAfter, announceAll, allocate-read}
 use Rattle.model.specs.Calls.{Config, Op, interrupt, slotted, other, aside, Slotted, SetEnabled, PollRead}
@@ -27,6 +28,7 @@ use Rattle.model.specs.Calls as the-calls
 use Rattle.model.specs.Steps.{Kind, plain, turning, resetting, giving, starting, queueing, kindOf, Steps}
 use Rattle.model.specs.StepsInterrupt.{placed, of-stamped, of-advance}
 use Rattle.model.specs.StepsRequests.{of-poll-read, of-poll-write, of-begin-read, of-begin-write, of-begin-data-out}
+use Rattle.model.specs.StepsRequests.{behind, unless, noted, asked, operated, resultless}
 use Rattle.model.specs.StepsRequests.{of-poll-data-out, of-begin-data-in, of-poll-data-in}
 
 of-enabled : (d : Dir) (e : ℕ) (on : Bool) → Steps turning (bus.setEnabled d e on)
@@ -74,7 +76,7 @@ of-stalled In e false = (λ _. tt, λ _. (tt, λ _. ((tt, tt), λ _. (((λ _. tt
 
 of-place : (d : Dir) (kind maximum : ℕ) (a : alloc-answer.Answer) → Steps giving (allocated-as {i = false} d kind maximum a)
 of-place d kind maximum (alloc.Refused n) = tt
-of-place d kind maximum (alloc.Given ep base slots) = (tt, λ _. (((tt, tt), λ _. (((placed giving d ep, tt), tt), λ _. tt)), λ _. (λ _. tt, λ _. tt)))
+of-place d kind maximum (alloc.Given ep base slots) = operated ((tt, tt), λ _. (((placed giving d ep, tt), tt), λ _. tt))
 
 of-each : (es : List Endpoint) → Steps giving (allocateEach {i = false} es)
 unfolding allocateEach
@@ -112,14 +114,11 @@ of-announce-all (e ∷ es) = (
 
 of-all : (bytes : List ℕ) (a : reading-answer.Answer) → Steps giving (allocate-read {i = false} bytes a)
 of-all bytes (descriptor.Refused n) = tt
-of-all bytes descriptor.Listed = (λ _. tt, λ _. ((of-each (listOf bytes), λ _. (tt, λ _. (of-announce-all (listOf bytes), λ _. (λ _. tt, λ _. tt)))), tt))
+of-all bytes descriptor.Listed = (λ _. tt, λ _. ((of-each (listOf bytes), λ _. operated (of-announce-all (listOf bytes))), tt))
 
 of-started : (maximum : ℕ) (a : alloc-answer.Answer) → Steps starting (started-as {i = false} maximum a)
 of-started maximum (alloc.Refused n) = tt
-of-started maximum (alloc.Given ep base slots) = (
-  tt,
-  λ _. ((((λ _. tt, tt), λ _. ((tt, tt), λ _. ((tt, tt), λ _. ((tt, tt), λ _. (tt, tt))))), λ _. tt), λ _. (λ _. tt, λ _. tt)),
-)
+of-started maximum (alloc.Given ep base slots) = resultless ((λ _. tt, tt), λ _. ((tt, tt), λ _. ((tt, tt), λ _. ((tt, tt), λ _. (tt, tt)))))
 
 of-nak-all : (n e : ℕ) → Steps resetting (nakAll {i = false} n e)
 unfolding nakAll
@@ -144,8 +143,11 @@ of-bus-poll = (
   ),
 )
 
+of-status-in : Steps plain (statusIn {i = false})
+of-status-in = ((λ _. tt, λ _. tt), λ _. ((tt, tt), λ _. ((tt, λ _. tt), λ _. (tt, tt))))
+
 of-slotted : (o : Slotted) → Steps (kindOf (slotted o)) (slottedCode o)
-of-slotted (SetEnabled d e on) = (λ _. tt, λ _. ((λ _. tt, λ _. ((tt, λ _. ((of-enabled d e on, λ _. tt), λ _. (λ _. tt, λ _. tt))), tt)), tt))
+of-slotted (SetEnabled d e on) = behind (behind (resultless (of-enabled d e on)))
 of-slotted (PollRead e n) = of-poll-read e n
 of-slotted (BeginWrite e bs) = of-begin-write e bs
 of-slotted (PollWrite e bs) = of-poll-write e bs
@@ -154,131 +156,48 @@ of-slotted (BeginDataIn bs first last) = of-begin-data-in bs first last
 
 of-other : (o : Other) → Steps (kindOf (other o)) (otherCode o)
 of-other (Allocate d kind address maximum interval) =
-    (λ _. tt, λ _. ((λ _. tt, λ a. (tt, λ _. of-place d kind maximum (allocateOf a kind address maximum d .answer))), tt))
-of-other (AllocateAll bytes) = (λ _. tt, λ _. (of-all bytes (readingOf bytes .answer), tt))
-of-other (Start maximum) = (λ _. tt, λ _. ((λ _. tt, λ a. (tt, λ _. of-started maximum (allocateEp0Of a maximum .answer))), tt))
-of-other BusPoll = (λ _. tt, λ _. ((tt, λ _. (of-bus-poll, λ _. (λ _. tt, λ _. tt))), tt))
-of-other BusEnable = (λ _. tt, λ _. ((tt, λ _. ((((tt, λ _. tt), λ _. (tt, tt)), λ _. tt), λ _. (λ _. tt, λ _. tt))), tt))
-of-other BusDisable = (λ _. tt, λ _. ((tt, λ _. ((tt, λ _. tt), λ _. (λ _. tt, λ _. tt))), tt))
-of-other Microframe = (λ _. tt, λ _. ((tt, λ _. (((tt, λ _. tt), λ _. tt), λ _. (λ _. tt, λ _. tt))), tt))
-of-other (SetStalled d e on) = (
-  λ _. tt,
-  λ _. (
-    (
-      (tt, λ _. ((of-stalled d e on, λ _. tt), λ _. (λ _. tt, λ _. tt))),
-      (λ _. tt, λ _. ((tt, λ _. ((of-stalled d e on, λ _. tt), λ _. (λ _. tt, λ _. tt))), tt)),
-    ),
-    tt,
-  ),
-)
-of-other (IsStalled d e) = (
-  λ _. tt,
-  λ _. (
-    (
-      (tt, λ _. (((tt, λ _. tt), λ _. tt), λ _. (λ _. tt, λ _. tt))),
-      (λ _. tt, λ _. ((tt, λ _. (((tt, λ _. tt), λ _. tt), λ _. (λ _. tt, λ _. tt))), tt)),
-    ),
-    tt,
-  ),
-)
-of-other (SetPaced e on) = (λ _. tt, λ _. ((((λ _. tt, λ _. (tt, λ _. tt)), λ _. tt), tt), tt))
-of-other (Advance e) = (λ _. tt, λ _. (((tt, λ _. ((of-advance false e, λ _. tt), λ _. (λ _. tt, λ _. tt))), tt), tt))
+    behind (λ _. tt, λ a. (tt, λ _. of-place d kind maximum (allocateOf a kind address maximum d .answer)))
+of-other (AllocateAll bytes) = behind (of-all bytes (readingOf bytes .answer))
+of-other (Start maximum) = behind (λ _. tt, λ a. (tt, λ _. of-started maximum (allocateEp0Of a maximum .answer)))
+of-other BusPoll = behind (operated of-bus-poll)
+of-other BusEnable = behind (resultless ((tt, λ _. tt), λ _. (tt, tt)))
+of-other BusDisable = behind (resultless tt)
+of-other Microframe = behind (operated ((tt, λ _. tt), λ _. tt))
+of-other (SetStalled d e on) = behind (let x = resultless (of-stalled d e on) in (x, behind x))
+of-other (IsStalled d e) = behind (operated ((tt, λ _. tt), λ _. tt), behind (operated ((tt, λ _. tt), λ _. tt)))
+of-other (SetPaced e on) = behind (((λ _. tt, λ _. (tt, λ _. tt)), λ _. tt), tt)
+of-other (Advance e) = behind (resultless (of-advance false e), tt)
 of-other (BeginRead e n) = of-begin-read e n
-of-other BeginSetup = (λ _. tt, λ _. ((tt, λ _. (tt, λ _. ((tt, λ _. tt), λ _. (λ _. tt, λ _. tt)))), tt))
-of-other PollSetup = (λ _. tt, λ _. ((λ _. tt, λ c. ((λ _. tt, λ _. ((tt, λ _. (tt, λ _. tt)), tt)), tt)), tt))
+of-other BeginSetup = behind (noted (resultless tt))
+of-other PollSetup = behind (asked (λ c. (λ _. tt, λ _. ((tt, λ _. (tt, λ _. tt)), tt))))
 of-other PollDataIn = of-poll-data-in
-of-other BeginAccept = (
+of-other BeginAccept = behind (unless (noted (resultless of-status-in)))
+of-other PollAccept = behind (asked (λ c. (
   λ _. tt,
   λ _. (
-    (
-      λ _. tt,
-      λ _. (
-        tt,
-        (tt, λ _. (tt, λ _. ((((λ _. tt, λ _. tt), λ _. ((tt, tt), λ _. ((tt, λ _. tt), λ _. (tt, tt)))), λ _. tt), λ _. (λ _. tt, λ _. tt)))),
-      ),
-    ),
-    tt,
+    ((λ _. tt, λ _. tt), λ _. (tt, λ _. (resultless (tt, tt), tt))),
+    (λ _. tt, λ _. ((tt, λ _. tt), tt)),
   ),
-)
-of-other PollAccept = (
-  λ _. tt,
-  λ _. (
-    (
-      λ _. tt,
-      λ c. (
-        (
-          λ _. tt,
-          λ _. (
-            ((λ _. tt, λ _. tt), λ _. (tt, λ _. ((tt, λ _. (((tt, tt), λ _. tt), λ _. (λ _. tt, λ _. tt))), tt))),
-            (λ _. tt, λ _. ((tt, λ _. tt), tt)),
-          ),
-        ),
-        tt,
-      ),
-    ),
-    tt,
-  ),
-)
-of-other BeginReject = (
-  λ _. tt,
-  λ _. (
-    (
-      tt,
-      λ _. (
-        tt,
-        λ _. (
-          (
-            ((λ _. tt, λ _. tt), λ _. ((λ _. tt, λ _. tt), λ _. (((tt, λ _. tt), λ _. (tt, tt)), λ _. ((tt, λ _. tt), λ _. (tt, tt))))),
-            λ _. tt,
-          ),
-          λ _. (λ _. tt, λ _. tt),
-        ),
-      ),
-    ),
-    tt,
-  ),
-)
+)))
+of-other BeginReject = behind (noted (resultless
+    ((λ _. tt, λ _. tt), λ _. ((λ _. tt, λ _. tt), λ _. (((tt, λ _. tt), λ _. (tt, tt)), λ _. ((tt, λ _. tt), λ _. (tt, tt)))))))
 of-other (BeginDataOut n first) = of-begin-data-out n first
-of-other (BeginAcceptSetAddress a) = (
-  λ _. tt,
-  λ _. (
-    (
-      λ _. tt,
-      λ _. (
-        tt,
-        (tt, λ _. (tt, λ _. ((((λ _. tt, λ _. tt), λ _. ((tt, tt), λ _. ((tt, λ _. tt), λ _. (tt, tt)))), λ _. tt), λ _. (λ _. tt, λ _. tt)))),
-      ),
-    ),
-    tt,
-  ),
-)
+of-other (BeginAcceptSetAddress a) = behind (unless (noted (resultless of-status-in)))
 
 of-aside : (o : Aside) → Steps queueing (asideCode o)
-of-aside (Open e) = (λ _. tt, λ _. ((λ _. tt, λ _. ((λ _. tt, λ _. (tt, (λ _. tt, λ _. ((tt, λ _. (λ _. tt, λ _. (λ _. tt, λ _. tt))), tt)))), tt)), tt))
-of-aside (Close e) = (λ _. tt, λ _. ((λ _. tt, λ _. ((λ _. tt, λ _. ((tt, λ _. tt), tt)), tt)), tt))
-of-aside (Queue e bs) = (
-  λ _. tt,
-  λ _. ((λ _. tt, λ _. ((λ _. tt, λ _. ((λ _. tt, λ _. (tt, (λ _. tt, λ _. (tt, (λ _. tt, λ _. ((tt, λ _. tt), tt)))))), tt)), tt)), tt),
-)
+of-aside (Open e) = behind (behind
+    (λ _. tt, λ _. (tt, (λ _. tt, λ _. ((tt, λ _. (λ _. tt, λ _. (λ _. tt, λ _. tt))), tt)))))
+of-aside (Close e) = behind (behind (λ _. tt, λ _. ((tt, λ _. tt), tt)))
+of-aside (Queue e bs) = behind (behind
+    (λ _. tt, λ _. ((λ _. tt, λ _. (tt, (λ _. tt, λ _. (tt, (λ _. tt, λ _. ((tt, λ _. tt), tt)))))), tt)))
 
 pub call-steps : (o : Op) → Steps (kindOf o) (code o)
-call-steps interrupt = (λ _. tt, λ _. ((tt, λ _. ((of-stamped true, λ _. tt), λ _. (λ _. tt, λ _. tt))), tt))
+call-steps interrupt = (λ _. tt, λ _. (resultless (of-stamped true), tt))
 call-steps (slotted o) = of-slotted o
 call-steps (other o) = of-other o
 call-steps (aside o) = of-aside o
 
 -- start-up does what any call may
 pub start-up-steps : (k : Kind) (c : Config) → Steps k (the-calls.starting c)
-start-up-steps k c = (
-  tt,
-  λ _. (
-    (
-      (
-        (tt, tt),
-        λ _. ((tt, tt), λ _. (((tt, λ _. tt), λ _. (tt, tt)), λ _. ((tt, tt), λ _. ((tt, tt), λ _. (λ _. tt, λ _. (tt, λ _. (tt, tt))))))),
-      ),
-      λ _. tt,
-    ),
-    λ _. (λ _. tt, λ _. tt),
-  ),
-)
+start-up-steps k c = resultless
+    ((tt, tt), λ _. ((tt, tt), λ _. (((tt, λ _. tt), λ _. (tt, tt)), λ _. ((tt, tt), λ _. ((tt, tt), λ _. (λ _. tt, λ _. (tt, λ _. (tt, tt))))))))

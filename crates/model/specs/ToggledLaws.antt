@@ -1,23 +1,22 @@
 -- `toggled` answers whether a new packet passed, records the bit, and acknowledges a repeat again
-use mathlib.Core.Bool.{Bool, true, false, not, cond, _&&_}
+use mathlib.Core.Bool.{Bool, true, false, not, _&&_}
 use mathlib.Core.List.{List, [], _∷_}
-use mathlib.Core.Path.{_≡_, refl, ap, subst, sym, _∙_}
-use Prim.Native.Nat.{ℕ, zero, suc, _+_, _-_, _*_, _/_, _%_, _≤_}
+use mathlib.Core.Path.{_≡_, refl, ap, sym, _∙_}
+use Prim.Native.Nat.{ℕ, zero, suc, _≤_}
 use native.Mathlib.Omega.{arith}
 use lib.Dec.{eqb}
 use Rattle.regs.specs.declared.Access.{Access}
-use Rattle.regs.specs.declared.Access.the-variants.{Read, Write, Receive, Transmit, Ep0Dma, Wait, Callback}
-use Rattle.regs.specs.declared.Reg.the-variants.{MisSt}
+use Rattle.regs.specs.declared.Access.the-variants.{Read, Write}
 use Rattle.regs.specs.declared.Dir.{Dir}
 use Rattle.regs.specs.Registers.{ctrlOf}
 use Rattle.regs.specs.ControlWord.{ACK, response, toggle, withResponse, ack, isData1}
 use Rattle.regs.specs.MisStatus.{sieFree}
 use Rattle.model.specs.Tree as tree
 use Rattle.model.specs.Cells.{EpCore, ep-cell}
-use Rattle.model.specs.Script.{Ops, run, Script, ret, test, when, get, _>>=_, _>>_}
-use Rattle.model.specs.Statics.{isOn, flag, withArmed, withTog, modifyEp, modifyReg}
-use Rattle.model.specs.Handler.{looks, repeated, toggled}
-use Rattle.model.specs.Every.{Chip, Every, at-end, at-ask}
+use Rattle.model.specs.Script.{Ops, run}
+use Rattle.model.specs.Statics.{isOn, flag, withArmed, withTog}
+use Rattle.model.specs.Handler.{looks, repeated, verdict, toggled}
+use Rattle.model.specs.Every.{onWrite, Chip, Every, at-end, at-ask}
 use Rattle.model.specs.EveryLaws.{every-bind, every-cond}
 use Rattle.model.specs.Usb20Toggles.{Pid, Transaction, bitAfterAll, passed}
 use Rattle.model.specs.TogglesLaws.{number, shown, repeated-not-passed}
@@ -32,13 +31,7 @@ ack-acks w = omega arith
 
 -- the writes handed out, the last first
 abbrev pub written : List Access → Access → List Access
-written ws (Write r e v) = Write r e v ∷ ws
-written ws (Read r e) = ws
-written ws (Receive e x) = ws
-written ws (Transmit e x) = ws
-written ws (Ep0Dma x) = ws
-written ws (Wait n) = ws
-written ws Callback = ws
+written ws q = onWrite (λ r e v. Write r e v ∷ ws) ws q
 
 -- the chip's toggle of the endpoint's direction is the sequence bit p
 abbrev pub toggling : Dir → ℕ → Pid → Chip
@@ -73,18 +66,6 @@ pub record Toggled {S : Type 0} (O : Ops S) (d : Dir) (e : ℕ) (r : EpCore) (p 
   pub answer : told ≡ new
   pub recorded : O .get (ep-cell d e) t ≡ recordAfter p new r
   pub handshake : Answered d e p (not new && isOn (r .armed)) ws
-
--- `toggled` once the word is read
-abbrev verdict : {i : Bool} → Dir → ℕ → ℕ → Script i Bool
-verdict d e word = do
-  s ← get (ep-cell d e)
-  test (repeated s word)
-      (do
-        when (isOn (s .armed)) (modifyReg (ctrlOf d) e ack)
-        ret false)
-      (do
-        modifyEp d e (λ s. withArmed 0 (withTog (flag (isData1 word)) s))
-        ret true)
 
 pub apart : {A : Type 0} → true ≡ false → A
 apart h = let z : _≡_ {A = ℕ} 0 1 = cc in absurd (omega arith)

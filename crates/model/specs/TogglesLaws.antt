@@ -1,17 +1,17 @@
 -- The script's data toggles are those of USB 2.0, 8.6
-use mathlib.Core.Bool.{Bool, true, false, not, cond, _&&_}
+use mathlib.Core.Bool.{Bool, true, false, not, cond}
 use mathlib.Core.List.{List, [], _∷_}
-use mathlib.Core.Path.{_≡_, refl, ap, subst, sym, _∙_}
+use mathlib.Core.Path.{_≡_, refl, ap, _∙_}
 use Prim.Native.Nat.{ℕ, zero, suc, _+_, _≤_}
 use native.Mathlib.Omega.{arith}
 use lib.Dec.{eqb}
 use Rattle.regs.specs.declared.Dir.{Dir}
-use Rattle.regs.specs.declared.Dir.the-variants.{Out, In}
+use Rattle.regs.specs.declared.Dir.the-variants.{Out}
 use Rattle.regs.specs.ControlWord.{toggle, isData1}
 use Rattle.model.specs.Cells.{EpCore}
 use Rattle.model.specs.Statics.{flag}
 use Rattle.model.specs.Handler.{repeated}
-use Rattle.model.specs.Usb20Toggles.{Pid, DATA0, DATA1, other, same, Transaction, received, not-taken, passes}
+use Rattle.model.specs.Usb20Toggles.{Pid, DATA0, DATA1, other, Transaction, received, passes}
 use Rattle.model.specs.Usb20Toggles.{acknowledges, bitAfter, bitAfterAll, count, passed}
 
 -- a bit as the control word and the driver's record have it

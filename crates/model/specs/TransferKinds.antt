@@ -1,6 +1,6 @@
 -- The endpoints' sorts: which are isochronous. They come with the allocation, and no call that passes during an interrupt changes them
-use mathlib.Core.Bool.{Bool, true, false}
-use mathlib.Core.List.{List, [], _∷_}
+use mathlib.Core.Bool.{Bool, true, false, _||_}
+use mathlib.Core.List.{[], _∷_}
 use mathlib.Core.Path.{_≡_}
 use Prim.Native.Nat.{ℕ, _<_}
 use Rattle.bits.specs.Bit.{isSet}
@@ -9,8 +9,9 @@ use Rattle.regs.specs.declared.Dir.the-variants.{Out, In}
 use Rattle.model.specs.Tree as tree
 use Rattle.model.specs.Tree.{ends, asks}
 use Rattle.model.specs.Cells.{Cell, Val, globals-cell, control-cell, allocator-cell, ep-cell, request-cell, paced-cell}
-use Rattle.model.specs.Script.{Ops, Act, complete, reset-ring, set-enabled, fill, fill0, open-oldest}
-use Rattle.model.specs.Script.{close-oldest, take-oldest, enqueue, allocate, allocate0, no-wakes, waken, DmaStep}
+use Rattle.model.specs.Script.{Ops, Act}
+use Rattle.model.specs.Script.{allocate, allocate0, DmaStep}
+use Rattle.model.specs.Acts.{sameAct}
 use Rattle.model.specs.Statics.{isOn}
 use Rattle.model.specs.Readings.{Continues}
 
@@ -32,19 +33,7 @@ Shows iso (request-cell d e) r = Unit {0}
 Shows iso (paced-cell e) n = Unit {0}
 
 abbrev pub allocates : Act → Bool
-allocates (complete e) = false
-allocates (reset-ring d e) = false
-allocates (set-enabled d e on) = false
-allocates (fill e bytes) = false
-allocates (fill0 bytes) = false
-allocates (open-oldest e) = false
-allocates (close-oldest e) = false
-allocates (take-oldest e) = false
-allocates (enqueue e bytes) = false
-allocates (allocate d kind address maximum interval) = true
-allocates (allocate0 maximum) = true
-allocates no-wakes = false
-allocates (waken codes) = false
+allocates q = sameAct q (allocate Out 0 0 0 0) || sameAct q (allocate0 0)
 
 -- the states K have the sorts `iso`, EP0 is not isochronous, and no operation but an allocation leaves K
 pub record Sorted {S : Type 0} (O : Ops S) (iso : TransferKinds) (K : S → Type 0) : Type 0 where

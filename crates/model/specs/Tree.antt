@@ -1,5 +1,4 @@
 -- What a run comes to, over any state S
-use mathlib.Core.Bool.{Bool, true, false}
 use Prim.Native.Nat.{ℕ}
 use Rattle.regs.specs.declared.Access.{Access}
 

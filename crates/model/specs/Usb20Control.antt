@@ -1,5 +1,5 @@
 -- Control transfers by USB 2.0, 8.5.3: a setup stage, a data stage of any number of packets in one direction or none, a status stage. Assumes nothing.
-use mathlib.Core.Bool.{Bool, true, false, cond}
+use mathlib.Core.Bool.{Bool, cond}
 use Prim.Native.Nat.{ℕ, zero, suc}
 use Rattle.regs.specs.declared.Dir.{Dir}
 use Rattle.regs.specs.declared.Dir.the-variants.{Out, In}

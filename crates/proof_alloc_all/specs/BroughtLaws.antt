@@ -1,6 +1,6 @@
 -- A list allocated as one operation is its endpoints allocated one by one, whatever numbers the continues bring and whatever is stored in the slots
 -- between: allocations neither read nor look at a slot. Assumes nothing.
-use mathlib.Core.Bool.{Bool, true, false, cond, not, _&&_}
+use mathlib.Core.Bool.{Bool, true, false, not, _&&_}
 use mathlib.Core.List.{List, [], _∷_, _++_}
 use mathlib.Core.Path.{_≡_, refl, sym, ap, ap₂, subst, _∙_}
 use Prim.Native.Nat.{ℕ, zero, suc, _%_, _<_}
@@ -9,10 +9,6 @@ use lib.ListN.{length, getD}
 use Rattle.regs.specs.declared.Access.{Access}
 use Rattle.regs.specs.declared.Dir.{Dir}
 use Rattle.regs.specs.declared.Dir.the-variants.{Out, In}
-use Rattle.regs.specs.declared.Reg.{Reg}
-use Rattle.state.specs.declared.Allocator.{Allocator}
-use Rattle.state.specs.declared.EpState.{EpState}
-use Rattle.state.specs.Wakes.{listed}
 use Rattle.state.specs.Driver.{Driver, noneGathered}
 use Rattle.alloc.specs.declared.Answer as alloc-answer
 use Rattle.alloc.specs.declared.Answer.the-variants as alloc
@@ -24,19 +20,17 @@ use Rattle.req_descriptor.specs.Reading.{readingOf, listOf}
 use Rattle.req_preview.specs.Trial.{directionOf, trialOf}
 use Rattle.model.specs.Tree as tree
 use Rattle.model.specs.Tree.{ends, asks, bindOut}
-use Rattle.model.specs.Cells.{allocator-cell, ep-cell, globals-cell}
-use Rattle.model.specs.Script.{Script, ret, bind, test, run, get, act, write, hand, when, place, allocate}
+use Rattle.model.specs.Script.{Script, ret, bind, test, run}
 use Rattle.model.specs.Answers as answers
 use Rattle.model.specs.Answers.{End, operation, staged, isAllocated}
 use Rattle.model.specs.Driver.{newEndpoint, allocated-as}
-use Rattle.model.specs.AllocateAll.{allocateEach, announce, endOf, beginsAt, announceAfter, announceAll, allocate-tried, allocate-read}
+use Rattle.model.specs.AllocateAll.{allocateEach, announce, beginsAt, announceAfter, announceAll, allocate-read}
 use Rattle.model.specs.Calls.{AllocateAll, otherCode}
 use Rattle.model_ops.specs.Rings.{St}
 use Rattle.model_ops.specs.Concrete.{concrete}
 use Rattle.proof_alloc_all.specs.Hands.{handsOut, endsWith, allocation, oneByOne}
 use Rattle.proof_alloc_all.specs.Brought.{Brings, handsAs, endsAs, oneByOneAs}
 use Rattle.proof_alloc_all.specs.Settled.{Settled}
-use Rattle.proof_alloc_all.specs.Order.{InOrder}
 use Rattle.proof_alloc_all.specs.OrderLaws.{in-order}
 
 -- ---- two runs with the same accesses, answer and driver, whatever is brought and stored

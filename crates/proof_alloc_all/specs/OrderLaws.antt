@@ -29,7 +29,7 @@ use Rattle.req_preview.specs.Trial.{directionOf, asked, trialOf}
 use Rattle.req_preview.specs.OneByOne.{Run, all, stopped, goes, one-by-one}
 use Rattle.model.specs.Tree as tree
 use Rattle.model.specs.Tree.{ends, asks, bindOut}
-use Rattle.model.specs.Script.{_>>=_, run, dma}
+use Rattle.model.specs.Script.{run, dma}
 use Rattle.model.specs.Answers as answers
 use Rattle.model.specs.Answers.{End, operation}
 use Rattle.model.specs.Driver.{allocated-as}

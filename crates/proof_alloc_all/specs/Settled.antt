@@ -1,21 +1,14 @@
 -- What SettledLaws.antt speaks of. It proves: states in which the buffers tell the order of the endpoints; every
 -- allocation keeps them so
-use mathlib.Core.Bool.{Bool, true, true≢false}
-use mathlib.Core.Logic.{_≢_}
-use mathlib.Core.Path.{_≡_, _∙_}
-use Prim.Native.Nat.{ℕ, _+_, _*_, _%_, _≤_, _<_}
+use mathlib.Core.Bool.{true}
+use mathlib.Core.Path.{_≡_}
+use Prim.Native.Nat.{ℕ, _*_, _≤_, _<_}
 use Rattle.bits.specs.Bit.{isSet}
 use Rattle.regs.specs.declared.Dir.{Dir}
-use Rattle.regs.specs.declared.Dir.the-variants.{Out, In}
-use Rattle.state.specs.declared.EpState.{EpState}
-use Rattle.state.specs.declared.Allocator.{Allocator}
 use Rattle.state.specs.Driver.{Driver, epOn}
 use Rattle.state.specs.Laws.{Sized}
-use Rattle.alloc.specs.declared.Answer.the-variants.{Given}
 use Rattle.alloc.specs.Alloc.{allocatedIn}
-use Rattle.alloc.specs.Outcome.{Gives}
 use Rattle.alloc.specs.Sound.{Sound}
-use Rattle.req_descriptor.specs.declared.Endpoint.{Endpoint}
 
 -- the allocator is sound, and the buffers of every endpoint that is allocated begin below the next free one, as after every start-up and every
 -- allocation

@@ -13,7 +13,7 @@ use Rattle.regs.specs.declared.Dir.the-variants.{Out, In}
 use Rattle.state.specs.declared.EpState.{EpState}
 use Rattle.state.specs.declared.Allocator.{Allocator}
 use Rattle.state.specs.Driver.{Driver, key, epOn}
-use Rattle.state.specs.Laws.{Sized, key-apart, key-same}
+use Rattle.state.specs.Laws.{key-apart, key-same}
 use Rattle.alloc.specs.declared.Answer.the-variants.{Given}
 use Rattle.alloc.specs.Alloc.{if, isIso, isOut, slotsOf, allocatedIn, allocated}
 use Rattle.alloc.specs.Outcome.{sameDir, inAdded, Gives}

@@ -26,7 +26,7 @@ use Rattle.ring.specs.Slot.{slotAddr, joinedOf, passedOf, hasWaiting}
 use Rattle.ring.specs.Out.{hasRoomOut, cappedAt, overrunOf, arrivedOf, armedAt, openedOf, closedOf}
 use Rattle.ring.specs.In.{completedOf, loadedOf, unloadedOf}
 use Rattle.marks.specs.Copies.{copied}
-use Rattle.model.specs.Cells.{Cell, Val, globals-cell, control-cell, allocator-cell, ep-cell, request-cell, paced-cell}
+use Rattle.model.specs.Cells.{sameSort, Cell, Val, globals-cell, control-cell, allocator-cell, ep-cell, request-cell, paced-cell}
 use Rattle.model.specs.Script.{Act, complete, reset-ring, set-enabled, fill, fill0, open-oldest, close-oldest}
 use Rattle.model.specs.Script.{take-oldest, enqueue, allocate, allocate0, no-wakes, waken, DmaStep, arrive, send, place}
 use Rattle.model.specs.Script.{place0, Burst, switch, bus-reset}
@@ -251,12 +251,7 @@ put-given (request-cell d e) v s = others (s .0) _ refl refl
 put-given (paced-cell e) v s = others (s .0) _ refl refl
 
 abbrev pub isRequest : Cell → Bool
-isRequest globals-cell = false
-isRequest control-cell = false
-isRequest allocator-cell = false
-isRequest (ep-cell d e) = false
-isRequest (request-cell d e) = true
-isRequest (paced-cell e) = false
+isRequest c = sameSort c (request-cell Out 0)
 
 put-requests : (c : Cell) → isRequest c ≡ false → (v : Val c) (s : St) → concrete .put c v s .0 .requests ≡ s .0 .requests
 unfolding withOn withPacedOn

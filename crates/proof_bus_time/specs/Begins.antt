@@ -32,7 +32,7 @@ use Rattle.call_bus_time.specs.Sharing.{Sort, enabling, starting, apart, opSort
 use Rattle.proof_bus_time.specs.History.{byAccess}
 use Rattle.proof_bus_time.specs.Histories.{none-set}
 use Rattle.proof_bus_time.specs.Enabled.{isEnabled, begins}
-use Rattle.proof_bus_time.specs.Charged.{Begun, enables, disables, polls-bus, neither, slottedBegun, opBegun}
+use Rattle.proof_bus_time.specs.Charged.{Begun, enables, disables, polls-bus, neither, opBegun}
 use Rattle.proof_bus_time.specs.Charged.{givenBack}
 use Rattle.proof_bus_time.specs.Stays.{configOf, Stays, act-stays}
 use Rattle.proof_bus_time.specs.Calm.{Quiet, Calm}
@@ -195,7 +195,7 @@ module _ (dir : Dir) (e : ℕ) where
       (λ g _ t y. at-end y)) (λ g _ t y. at-end (ended-rests g (t .0) y))
 
   opens-turn : (dir′ : Dir) (e′ : ℕ) (on : Bool) (c : ℕ) (was : Bool) (s : St) → Rests c (s .0)
-      → Opens (opSort (slotted (SetEnabled dir′ e′ on))) (slottedBegun (SetEnabled dir′ e′ on)) (s .0) c was
+      → Opens (opSort (slotted (SetEnabled dir′ e′ on))) (opBegun (slotted (SetEnabled dir′ e′ on))) (s .0) c was
       (run concrete (code (slotted (SetEnabled dir′ e′ on))) s)
   opens-turn dir′ e′ true c was s r = let x = enabling dir′ e′ in
       opens-cond (eqb (s .0 .globals .stage) 2)

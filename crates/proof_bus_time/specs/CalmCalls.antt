@@ -4,7 +4,7 @@ use mathlib.Core.Path.{_≡_, refl, sym, _∙_}
 use Prim.Native.Nat.{ℕ}
 use lib.Dec.{eqb}
 use Rattle.regs.specs.declared.Access.{Access}
-use Rattle.regs.specs.declared.Access.the-variants.{Read, Write, Receive, Transmit, Ep0Dma, Wait, Callback}
+use Rattle.regs.specs.declared.Access.the-variants.{Read, Write, Wait, Callback}
 use Rattle.regs.specs.declared.Reg.the-variants.{EpConfig}
 use Rattle.regs.specs.declared.Dir.{Dir}
 use Rattle.model.specs.Script.{Script, run, ret, bind, test, read-then, write-then, wait-then, callback-then, get-then}
@@ -20,8 +20,11 @@ use Rattle.model.specs.Calls as the-calls
 use Rattle.model.specs.Tree.{ends}
 use Rattle.model.specs.Answers.{Refused}
 use Rattle.model.specs.Every.{sameReg}
+use Rattle.model.specs.EveryLaws.{of-write}
+use Rattle.regs.specs.Registers.{numberOf}
+use Rattle.proof_bus_time.specs.Enabled.{writesConfig}
 use Rattle.model.specs.Steps.{Kind, plain, turning, resetting, giving, starting, queueing, kindOf, is, mayAsk, mayPut}
-use Rattle.model.specs.Steps.{mayAct, mayRow, Asks, Steps}
+use Rattle.model.specs.Steps.{mayWrite, mayAct, mayRow, Asks, Steps}
 use Rattle.model.specs.StepsCalls.{call-steps, start-up-steps}
 use Rattle.model.specs.StepsRunsLaws.{if-true, if-so, Handed, writes-config}
 use Rattle.model_ops.specs.Rings.{St}
@@ -73,18 +76,17 @@ module _ {gives : Bool} {k : Kind} (c : Calmly gives k) where
       by true r p q h = never p refl
       by false r p q h = never q h
 
-  quiet-write : (b : Bool) → (b ≡ true → ⊥) → If (not b) (Unit {0})
-  quiet-write true f = f refl
-  quiet-write false f = tt
+  unless-true : (b : Bool) → (b ≡ true → ⊥) → b ≡ false
+  unless-true true f = absurd (f refl)
+  unless-true false f = refl
+
+  quiet-so : (b : Bool) → b ≡ false → If (not b) (Unit {0})
+  quiet-so true h = absurd (true≢false h)
+  quiet-so false h = tt
 
   quiet : (q : Access) → mayAsk k q ≡ true → Quiet q
-  quiet (Write r e v) h = quiet-write (sameReg r EpConfig) (λ g. still (writes-config k r v h g))
-  quiet (Read r e) h = tt
-  quiet (Receive e x) h = tt
-  quiet (Transmit e x) h = tt
-  quiet (Ep0Dma x) h = tt
-  quiet (Wait n) h = tt
-  quiet Callback h = tt
+  quiet q h = quiet-so (writesConfig q) (of-write (λ r e v. mayWrite k (numberOf r) v) (λ r e v. sameReg r EpConfig)
+      (λ r e v m. unless-true (sameReg r EpConfig) (λ g. still (writes-config k r v m g))) q h)
 
   quietly : (q : Access) → Asks k q → Quiet q
   quietly q x = quiet q (if-true (mayAsk k q) (Unit {0}) x)

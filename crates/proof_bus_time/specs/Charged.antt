@@ -1,7 +1,7 @@
 -- What an endpoint is charged, "worked out from the history of enables, disables, resets and start-ups" (document 02,
 -- request Seven): from the calls, whether each handed out an access, and which accesses write ep_config. No record is
 -- looked at, and no word that was written. Definitions
-use mathlib.Core.Bool.{Bool, true, false, cond}
+use mathlib.Core.Bool.{cond}
 use mathlib.Core.List.{List, [], _∷_}
 use Prim.Native.Nat.{ℕ, _%_}
 use lib.Dec.{eqb}
@@ -10,11 +10,8 @@ use Rattle.regs.specs.declared.Dir.{Dir}
 use Rattle.regs.specs.Enables.{place}
 use Rattle.state.specs.Driver.{Driver}
 use Rattle.model.specs.Answers.{Answer}
-use Rattle.model.specs.Calls.{Config, Op, interrupt, slotted, other, aside, Slotted, SetEnabled, PollRead}
-use Rattle.model.specs.Calls.{BeginWrite, PollWrite, PollDataOut, BeginDataIn, Other, Allocate, AllocateAll, Start}
-use Rattle.model.specs.Calls.{BusPoll, BusEnable, BusDisable, Microframe, SetStalled, IsStalled, SetPaced, Advance}
-use Rattle.model.specs.Calls.{BeginRead, BeginSetup, PollSetup, PollDataIn, BeginAccept, PollAccept, BeginReject}
-use Rattle.model.specs.Calls.{BeginDataOut, BeginAcceptSetAddress}
+use Rattle.model.specs.Calls.{Config, Op, interrupt, slotted, other, aside}
+use Rattle.model.specs.Kinds.{resetting, is, kindOf, Part, apart, begins, polls, turns, partOf}
 use Rattle.model.specs.Machine.{Call, start, begin, go, question, Ans, ended, handed, told}
 use Rattle.call_bus_time.specs.Sharing.{chargeOn}
 use Rattle.proof_bus_time.specs.History.{Line}
@@ -26,41 +23,16 @@ pub data Begun : Type 0 where
   enables disables : Dir → ℕ → Begun
   polls-bus neither : Begun
 
-abbrev pub slottedBegun : Slotted → Begun
-slottedBegun (SetEnabled dir e on) = cond on (enables dir e) (disables dir e)
-slottedBegun (PollRead e n) = neither
-slottedBegun (BeginWrite e bs) = neither
-slottedBegun (PollWrite e bs) = neither
-slottedBegun (PollDataOut n) = neither
-slottedBegun (BeginDataIn bs first last) = neither
-
--- is it a poll of the bus?
-abbrev pub isBusPoll : Other → Bool
-isBusPoll BusPoll = true
-isBusPoll (Allocate dir kind address maximum interval) = false
-isBusPoll (AllocateAll bytes) = false
-isBusPoll (Start maximum) = false
-isBusPoll BusEnable = false
-isBusPoll BusDisable = false
-isBusPoll Microframe = false
-isBusPoll (SetStalled dir e on) = false
-isBusPoll (IsStalled dir e) = false
-isBusPoll (SetPaced e on) = false
-isBusPoll (Advance e) = false
-isBusPoll (BeginRead e n) = false
-isBusPoll BeginSetup = false
-isBusPoll PollSetup = false
-isBusPoll PollDataIn = false
-isBusPoll BeginAccept = false
-isBusPoll PollAccept = false
-isBusPoll BeginReject = false
-isBusPoll (BeginDataOut n first) = false
-isBusPoll (BeginAcceptSetAddress address) = false
+abbrev begunBy : Part → Begun
+begunBy (turns dir e on) = cond on (enables dir e) (disables dir e)
+begunBy (polls p) = neither
+begunBy begins = neither
+begunBy apart = neither
 
 abbrev pub opBegun : Op → Begun
 opBegun interrupt = neither
-opBegun (slotted o) = slottedBegun o
-opBegun (other o) = cond (isBusPoll o) polls-bus neither
+opBegun (slotted o) = begunBy (partOf (slotted o))
+opBegun (other o) = cond (is (kindOf (other o)) resetting) polls-bus neither
 opBegun (aside o) = neither
 
 -- by a call that hands out an access; a continue goes on with what was begun

@@ -18,6 +18,7 @@ use Rattle.model.specs.Calls.{Config, Op, interrupt, slotted, other, aside, Set
 use Rattle.model.specs.Calls.{PollWrite, PollDataOut, BeginDataIn, asideCode, slots, irq, startRow, calls}
 use Rattle.model.specs.Machine.{Buf, Call, start, begin, go, question, Way, idle, busy, Awaits, Machine, ended, lentTo}
 use Rattle.model.specs.Machine.{misfit, stay, halt, beside, begun, continued, started, over}
+use Rattle.model.specs.Kinds.{resetting, is, kindOf}
 use Rattle.model_ops.specs.Rings.{St}
 use Rattle.machine.specs.Suspended.{driverOf, drive}
 use Rattle.machine.specs.Goes.{Called}
@@ -27,7 +28,7 @@ use Rattle.proof_bus_time.specs.History.{Line, lineOf, history, byAccess
 use Rattle.proof_bus_time.specs.Limit.{Within, always-within}
 use Rattle.proof_bus_time.specs.Histories.{each-charge, zeros}
 use Rattle.proof_bus_time.specs.Enabled.{isEnabled, beginsBy, lastBegun, isBusy, FourAtFirst}
-use Rattle.proof_bus_time.specs.Charged.{Begun, polls-bus, neither, isBusPoll, opBegun, lastOf, counted}
+use Rattle.proof_bus_time.specs.Charged.{Begun, polls-bus, neither, opBegun, lastOf, counted}
 use Rattle.proof_bus_time.specs.Charged.{givenBack, chargedBy, lastAfter, chargedAfter, chargedFrom}
 use Rattle.proof_bus_time.specs.Stays.{Stays, still, stays}
 use Rattle.proof_bus_time.specs.CalmCalls.{of-aside}
@@ -62,7 +63,7 @@ module _ (dir : Dir) (e : ℕ) where
   begin-same (slotted (PollWrite e′ bs)) q d c = refl
   begin-same (slotted (PollDataOut n)) q d c = refl
   begin-same (slotted (BeginDataIn bs first end)) q d c = refl
-  begin-same (other o) q d c = by (isBusPoll o)
+  begin-same (other o) q d c = by (is (kindOf (other o)) resetting)
     where
       by : (b : Bool) → c ≡ counted dir e (cond b polls-bus neither) d c
       by true = refl

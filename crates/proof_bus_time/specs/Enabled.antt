@@ -7,7 +7,6 @@ use Prim.Native.Nat.{ℕ, _+_, _%_, _<_}
 use lib.Dec.{eqb}
 use Rattle.bits.specs.Bit.{isSet}
 use Rattle.regs.specs.declared.Access.{Access}
-use Rattle.regs.specs.declared.Access.the-variants.{Read, Write, Receive, Transmit, Ep0Dma, Wait, Callback}
 use Rattle.regs.specs.declared.Reg.the-variants.{EpConfig}
 use Rattle.regs.specs.declared.Dir.{Dir}
 use Rattle.regs.specs.declared.Dir.the-variants.{Out, In}
@@ -15,7 +14,7 @@ use Rattle.regs.specs.Enables as enables
 use Rattle.regs.specs.Enables.{place}
 use Rattle.state.specs.Driver.{Driver}
 use Rattle.alloc.specs.Alloc.{takenIn}
-use Rattle.model.specs.Every.{sameReg}
+use Rattle.model.specs.Every.{onWrite, sameReg}
 use Rattle.model.specs.Answers.{Answer}
 use Rattle.model.specs.Machine.{Way, idle, busy, Machine, Ans, ended, handed, told}
 use Rattle.req_bus_time.specs.Time.{uncharged}
@@ -71,13 +70,7 @@ countedTime m ls = sumOf (λ i dir e. cond (isEnabled (m i .st) dir e || isEnabl
 
 -- is it a write of ep_config?
 abbrev pub writesConfig : Access → Bool
-writesConfig (Write r e w) = sameReg r EpConfig
-writesConfig (Read r e) = false
-writesConfig (Receive e x) = false
-writesConfig (Transmit e x) = false
-writesConfig (Ep0Dma x) = false
-writesConfig (Wait n) = false
-writesConfig Callback = false
+writesConfig q = onWrite (λ r e w. sameReg r EpConfig) false q
 
 -- is a write of ep_config handed out?
 abbrev pub handsConfig : Ans Answer → Bool

@@ -152,16 +152,24 @@ unfolding sum
 sum-as f g zero h = refl
 sum-as f g (suc n) h = omega (arith, h n (omega arith), sum-as f g n (λ k l. h k (omega arith)))
 
-total-from : (t : List ℕ) (a n : ℕ) → total t (a + n) ≡ total t a + sum (λ k. getD t (a + k) 0) n
-unfolding total sum
-total-from t a zero = let e = ap (total t) (none a) in omega arith
+pub sum-from : (f : ℕ → ℕ) (a n : ℕ) → sum f (a + n) ≡ sum f a + sum (λ k. f (a + k)) n
+unfolding sum
+sum-from f a zero = let h = ap (sum f) (none a) in omega arith
   where
     none : (a : ℕ) → a + 0 ≡ a
     none a = omega arith
-total-from t a (suc n) = let e = ap (total t) (more a n) in omega (arith, total-from t a n)
+sum-from f a (suc n) = let h = ap (sum f) (more a n) in omega (arith, sum-from f a n)
   where
     more : (a n : ℕ) → a + suc n ≡ suc (a + n)
     more a n = omega arith
+
+total-is : (t : List ℕ) (n : ℕ) → total t n ≡ sum (λ k. getD t k 0) n
+unfolding total sum
+total-is t zero = refl
+total-is t (suc n) = omega (arith, total-is t n)
+
+total-from : (t : List ℕ) (a n : ℕ) → total t (a + n) ≡ total t a + sum (λ k. getD t (a + k) 0) n
+total-from t a n = omega (arith, total-is t (a + n), total-is t a, sum-from (λ k. getD t k 0) a n)
 
 four-of : (g : ℕ → ℕ) → sum g 4 ≡ g 0 + g 1 + g 2 + g 3
 unfolding sum

@@ -6,11 +6,10 @@ use Prim.Native.Nat.{ℕ, zero, suc, _+_, _%_}
 use lib.Dec.{eqb}
 use Rattle.bits.specs.Bit.{isSet}
 use Rattle.regs.specs.declared.Access.{Access}
-use Rattle.regs.specs.declared.Access.the-variants.{Read, Write, Receive, Transmit, Ep0Dma, Wait, Callback}
 use Rattle.regs.specs.declared.Reg.the-variants.{EpConfig}
 use Rattle.regs.specs.Enables.{place}
 use Rattle.state.specs.Driver.{Driver}
-use Rattle.model.specs.Every.{sameReg}
+use Rattle.model.specs.Every.{onWrite, sameReg}
 use Rattle.model.specs.Answers.{Answer}
 use Rattle.model.specs.Calls.{Config, Op}
 use Rattle.model.specs.Machine.{Call, Ans, ended, handed, told}
@@ -39,13 +38,7 @@ history (x ∷ xs) f = lineOf x f ∷ history xs (next x f)
 
 -- "time comes back with the write .. that clears its ep_config bit"
 abbrev pub cleared : ℕ → Access → ℕ → ℕ
-cleared bit (Write r e w) charge = cond (sameReg r EpConfig) (cond (isSet w bit) charge 0) charge
-cleared bit (Read r e) charge = charge
-cleared bit (Receive e x) charge = charge
-cleared bit (Transmit e x) charge = charge
-cleared bit (Ep0Dma x) charge = charge
-cleared bit (Wait n) charge = charge
-cleared bit Callback charge = charge
+cleared bit q charge = onWrite (λ r e w. cond (sameReg r EpConfig) (cond (isSet w bit) charge 0) charge) charge q
 
 -- "an enable counts from its beginning"; "or as an accepted start-up begins"
 abbrev pub byAccess : ℕ → Sort → Access → Driver → ℕ → ℕ

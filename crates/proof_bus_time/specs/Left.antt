@@ -11,7 +11,7 @@ use Rattle.model.specs.Tree as tree
 use Rattle.model.specs.Tree.{ends, asks, bindOut}
 use Rattle.model.specs.Cells.{Cell, Val}
 use Rattle.model.specs.Script.{Script, ret, bind, test, read-then, write-then, wait-then, callback-then, get-then}
-use Rattle.model.specs.Script.{put-then, is-then, look-then, fetch-then, act-then, hand-then, Act, DmaStep, dmaStepAsk}
+use Rattle.model.specs.Script.{put-then, is-then, look-then, fetch-then, act-then, hand-then, row-then, Act, DmaStep, dmaStepAsk}
 use Rattle.model.specs.Script.{run}
 use Rattle.model.specs.Every.{sameReg}
 use Rattle.model_ops.specs.Rings.{St}
@@ -145,6 +145,7 @@ module _ {giving : Bool} {K : Driver → Type 0} (M : Keeps giving K) (bit : ℕ
   calm-run (act-then q p) x s k = let y = opened (allowed giving q) x in calm-run p (y .1) (concrete .act q s) (M .act q (y .0) s k)
   calm-run (hand-then q p) x s k = ask (dmaStepAsk q (concrete .hand q s .0))
       (concrete .hand q s .1) (x .0 (concrete .hand q s .0)) (M .hand q s k) (λ _ t y. calm-run p (x .1) t y)
+  calm-run (row-then g p) x s k = absurd (x .0)
 
   -- a calm part, and the rest
   pub calm-then : {i : Bool} {A B : Type 0} {P : ℕ → Driver → Type 0} {p : Script i A} {f : A → Script i B}
@@ -170,3 +171,4 @@ calm-first giving (look-then q f) x s = calm-first giving (f (concrete .look q s
 calm-first giving (fetch-then q f) x s = calm-first giving (f (concrete .fetch q s)) (x (concrete .fetch q s)) s
 calm-first giving (act-then q p) x s = calm-first giving p (opened (allowed giving q) x .1) (concrete .act q s)
 calm-first giving (hand-then q p) x s = some (x .0 (concrete .hand q s .0))
+calm-first giving (row-then g p) x s = absurd (x .0)

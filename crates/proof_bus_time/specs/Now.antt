@@ -17,7 +17,7 @@ use Rattle.call_bus_time.specs.Sharing.{chargeOn}
 use Rattle.proof_bus_time.specs.Four.{Four, Turn, after}
 use Rattle.proof_bus_time.specs.History.{history, sum, timeBy}
 use Rattle.proof_bus_time.specs.Limit.{Within, uncharged-within}
-use Rattle.proof_bus_time.specs.Histories.{sum-as, by-drivers, zeros, in-use-is}
+use Rattle.proof_bus_time.specs.Histories.{sum-as, sum-from, by-drivers, zeros, in-use-is}
 use Rattle.proof_bus_time.specs.Enabled.{isEnabled, sumOf, enabledTime, lastBegun, isBusy, isEnabling, countedTime, FourAtFirst}
 use Rattle.proof_bus_time.specs.Charged.{neither, chargedFrom, charged, chargedTime}
 use Rattle.proof_bus_time.specs.Course.{course-due, runs-all, charged-all, at-first}
@@ -42,17 +42,6 @@ charge-at-rest xs f z i li h dir e = charge-now xs f z i li dir e
     rests false = ap (λ (w : Way Answer Driver). isBusy w && lastBegun i (place dir e) (history xs f) false) h
 
 -- ---- the time in use
-
-sum-from : (f : ℕ → ℕ) (a n : ℕ) → sum f (a + n) ≡ sum f a + sum (λ k. f (a + k)) n
-unfolding sum
-sum-from f a zero = let h = ap (sum f) (none a) in omega arith
-  where
-    none : (a : ℕ) → a + 0 ≡ a
-    none a = omega arith
-sum-from f a (suc n) = let h = ap (sum f) (more a n) in omega (arith, sum-from f a n)
-  where
-    more : (a n : ℕ) → a + suc n ≡ suc (a + n)
-    more a n = omega arith
 
 sum-both : (f g : ℕ → ℕ) (n : ℕ) → sum (λ k. f k + g k) n ≡ sum f n + sum g n
 unfolding sum

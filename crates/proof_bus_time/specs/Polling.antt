@@ -11,7 +11,7 @@ use Rattle.state.specs.Wakes.{every-endpoint}
 use Rattle.model.specs.Tree as tree
 use Rattle.model.specs.Tree.{ends}
 use Rattle.model.specs.Script.{Script, bind, test, run, rows, waken, bus-reset}
-use Rattle.model.specs.Statics.{isOn, wakeAll}
+use Rattle.model.specs.Statics.{wakeAll}
 use Rattle.model.specs.Answers.{operation}
 use Rattle.model.specs.Bus as bus
 use Rattle.model.specs.Bus.{nakAll}

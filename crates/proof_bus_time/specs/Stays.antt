@@ -14,7 +14,7 @@ use Rattle.alloc.specs.declared.Answer.the-variants.{Refused, Given}
 use Rattle.alloc.specs.Alloc.{isIso}
 use Rattle.model.specs.Cells.{Cell, Val}
 use Rattle.model.specs.Script.{Act}
-use Rattle.model.specs.Script.{DmaStep, place}
+use Rattle.model.specs.Script.{DmaStep}
 use Rattle.model.specs.Script.{switch, bus-reset}
 use Rattle.model.specs.TransferKinds.{allocates}
 use Rattle.model.specs.Statics.{isOn}

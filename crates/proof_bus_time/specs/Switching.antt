@@ -17,14 +17,14 @@ use Rattle.model.specs.Tree.{ends}
 use Rattle.model.specs.Script.{Script, bind, run, rows, waken, switch}
 use Rattle.model.specs.Statics.{isOn, wake}
 use Rattle.model.specs.Bus as bus
-use Rattle.model.specs.Calls.{SetEnabled}
+use Rattle.model.specs.Calls.{slotted, SetEnabled}
 use Rattle.model_ops.specs.Records.{isoOut}
 use Rattle.model_ops.specs.Rings.{St, configStep}
 use Rattle.model_ops.specs.Concrete.{concrete}
 use Rattle.req_bus_time.specs.Time.{chargeOf}
 use Rattle.call_bus_time.specs.Sharing.{chargeOn}
 use Rattle.proof_bus_time.specs.Enabled.{isEnabled}
-use Rattle.proof_bus_time.specs.Charged.{slottedBegun, givenBack}
+use Rattle.proof_bus_time.specs.Charged.{opBegun, givenBack}
 use Rattle.proof_bus_time.specs.Stays.{configOf, Turns, Stays, still, stays, act-stays, switch-stays, turned, enabled-turns, row-turns}
 use Rattle.proof_bus_time.specs.Calm.{Calm}
 use Rattle.proof_bus_time.specs.Left.{Left, at-end, at-ask, left-bind, left-more, Goes, Keeps, keeps, calm-run, calm-then}
@@ -73,7 +73,7 @@ back-bit false false false charge c h = sym h
 
 by-begun : (dir dir′ : Dir) (e e′ : ℕ) (on : Bool) (c : ℕ)
     → cond on c (cond (eqb (place dir′ e′) (place dir e)) 0 c) ≡ givenBack dir e
-    (slottedBegun (SetEnabled dir′ e′ on)) c
+    (opBegun (slotted (SetEnabled dir′ e′ on))) c
 by-begun dir dir′ e e′ true c = refl
 by-begun dir dir′ e e′ false c = refl
 
@@ -104,7 +104,7 @@ module _ (dir : Dir) (e : ℕ) where
 
     -- what its write of ep_config gives back
     abbrev pub turnsBack : ℕ → ℕ
-    turnsBack c = givenBack dir e (slottedBegun (SetEnabled dir′ e′ on)) c
+    turnsBack c = givenBack dir e (opBegun (slotted (SetEnabled dir′ e′ on))) c
 
     abbrev Both : ℕ → Bool → ℕ → Type 0
     Both c b charge = (cond b c 0 ≡ cond (b || mine) charge 0) × (cond b c 0 ≡ cond (b || false) charge 0)

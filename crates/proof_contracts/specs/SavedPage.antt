@@ -2,54 +2,26 @@
 -- follow from its inputs alone, for refusals too". After every call of every list from an accepted start-up they are
 -- the encoding of what is under way, and all zero where nothing is. Definitions only. `code-canonical`
 -- (SavedRuns.antt) is the theorem
-use mathlib.Core.Bool.{Bool, true, false}
+use mathlib.Core.Bool.{Bool, true, false, _||_}
 use mathlib.Core.List.{List, [], _∷_}
 use mathlib.Core.Path.{_≡_}
 use Prim.Native.Nat.{ℕ, zero}
 use Rattle.state.specs.State.{saved}
 use Rattle.state.specs.Fresh.{nothing}
 use Rattle.model.specs.Answers.{Answer}
-use Rattle.model.specs.Calls.{Config, Op, interrupt, slotted, other, aside, Other, Allocate, AllocateAll, Start}
-use Rattle.model.specs.Calls.{BusPoll, BusEnable, BusDisable, Microframe, SetStalled, IsStalled, SetPaced, Advance}
-use Rattle.model.specs.Calls.{BeginRead, BeginSetup, PollSetup, PollDataIn, BeginAccept, PollAccept, BeginReject}
-use Rattle.model.specs.Calls.{BeginDataOut, BeginAcceptSetAddress, startRow}
+use Rattle.model.specs.Calls.{Config, Op}
+use Rattle.model.specs.Calls.{startRow}
+use Rattle.model.specs.Calls as calls
+use Rattle.model.specs.Kinds.{pacing, is, kindOf}
 use Rattle.model.specs.Machine.{Buf, Call, start, begin, go, question, idle, Ans}
 use Rattle.machine.specs.Suspended.{encode, decode, machineOf}
 use Rattle.machine.specs.Keeps.{KeptBy}
 use Rattle.proof_contracts.specs.SharedPage.{Made, CallStep}
 
 -- a call that neither begins an operation nor goes on with one, nor polls: pacing; open, close and queue; a question
-abbrev pub isPacing : Other → Bool
-isPacing (Allocate dir kind address maximum interval) = false
-isPacing (AllocateAll bytes) = false
-isPacing (Start maximum) = false
-isPacing BusPoll = false
-isPacing BusEnable = false
-isPacing BusDisable = false
-isPacing Microframe = false
-isPacing (SetStalled dir e on) = false
-isPacing (IsStalled dir e) = false
-isPacing (SetPaced e on) = true
-isPacing (Advance e) = false
-isPacing (BeginRead e n) = false
-isPacing BeginSetup = false
-isPacing PollSetup = false
-isPacing PollDataIn = false
-isPacing BeginAccept = false
-isPacing PollAccept = false
-isPacing BeginReject = false
-isPacing (BeginDataOut n first) = false
-isPacing (BeginAcceptSetAddress address) = false
-
-abbrev pub passesOp : Op → Bool
-passesOp interrupt = false
-passesOp (slotted o) = false
-passesOp (other o) = isPacing o
-passesOp (aside o) = true
-
 abbrev pub passes : Call Config Op → Bool
 passes (start c) = false
-passes (begin o) = passesOp o
+passes (begin o) = is (kindOf o) pacing || calls.passes o
 passes (go v) = false
 passes (question q) = true
 

@@ -18,6 +18,7 @@ use Rattle.proof_book.specs.Coupling.{Coupling}
 use Rattle.proof_book.specs.AgreesLaws.{agree}
 use Rattle.proof_book.specs.FrontPage.{LentAsLeft}
 use Rattle.proof_book.specs.FrontPage as page
+use Rattle.proof_contracts.specs.Steps.{made}
 use Rattle.proof_contracts.specs.SharedPage.{Made, outcomeOf, noted, Calls}
 use Rattle.proof_contracts.specs.SharedCall.{isStopped, callAlone, answerAlone}
 use Rattle.proof_contracts.specs.SharedCall.{lent-alone, noted-alone, did-alone}
@@ -72,14 +73,7 @@ calls-alone i (m ∷ ms) xs a n h k = (
 
 -- a start-up is not stopped by row 19
 abbrev with-event : Made → Event Config Op → Made
-with-event m v = record {
-  event = v;
-  before = m .before;
-  answer = m .answer;
-  bytes = m .bytes;
-  slots = m .slots;
-  time = m .time;
-}
+with-event m v = made (v .call) (v .lent) (m .before) (m .time) (m .answer) (m .bytes) (m .slots)
 
 start-noted : (i : ℕ) (c : Config) (b : Buf) (xs : List ℕ) (a : Buf) (n : Machine Answer Pages) (m : Made)
     → m .event ≡ record { call = start c; lent = b }

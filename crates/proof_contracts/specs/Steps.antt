@@ -10,65 +10,35 @@ use Rattle.model.specs.Answers.{Answer}
 use Rattle.model.specs.Calls.{Config, Op, startRow}
 use Rattle.model.specs.Machine.{Buf, Call, start, question, Question, Ans, told}
 use Rattle.machine.specs.Suspended.{lentOr}
-use Rattle.proof_contracts.specs.SharedPage.{CallStep}
+use Rattle.proof_contracts.specs.SharedPage.{Made, CallStep}
 use Rattle.proof_contracts.specs.SavedPage.{Saves}
+
+-- the call c, lent the slot buffer b: the record of bus time before and after it, its answer, the state's bytes and the run's slot buffer
+abbrev pub made : Call Config Op → Buf → List ℕ → List ℕ → Ans Answer → List ℕ → Buf → Made
+made c b time time′ x ys slots =
+    record { event = record { call = c; lent = b }; before = time; answer = x; bytes = ys; slots = slots; time = time′ }
 
 -- it brings neither the slot buffer nor the record: both stay as they stand then (b, time)
 pub record IsStep (c : Call Config Op) (xs : List ℕ) (x : Buf → Ans Answer) (ys : List ℕ) : Type 0 where
-  pub did : (i : ℕ) (a b : Buf) (time : List ℕ)
-      → CallStep i xs a (record {
-        event = record { call = c; lent = b };
-        before = time;
-        answer = x b;
-        bytes = ys;
-        slots =
-            b;
-        time = time;
-      })
+  pub did : (i : ℕ) (a b : Buf) (time : List ℕ) → CallStep i xs a (made c b time time (x b) ys b)
   pub saves : (b : Buf) → Saves c (x b) xs ys
 
 -- it brings the slot buffer: b before it, b′ after it; where its length is wrong (row 1) the run's own stays. The
 -- record stays
 pub record IsStepLent (c : Call Config Op) (xs : List ℕ) (x : Ans Answer) (ys : List ℕ) (b b′ : Buf) : Type 0 where
-  pub did : (i : ℕ) (a : Buf) (time : List ℕ)
-      → CallStep i xs a (record {
-        event = record { call = c; lent = b };
-        before = time;
-        answer = x;
-        bytes = ys;
-        slots =
-            lentOr (view xs) b b′ a;
-        time = time;
-      })
+  pub did : (i : ℕ) (a : Buf) (time : List ℕ) → CallStep i xs a (made c b time time x ys (lentOr (view xs) b b′ a))
   pub saves : Saves c x xs ys
 
 -- it brings both, as driver i: the record before it and after it
 pub record IsStepCharged (i : ℕ) (c : Call Config Op) (xs : List ℕ) (x : Ans Answer) (ys : List ℕ) (b b′ : Buf)
     (time time′ : List ℕ) : Type 0 where
-  pub did : (a : Buf)
-      → CallStep i xs a (record {
-        event = record { call = c; lent = b };
-        before = time;
-        answer = x;
-        bytes = ys;
-        slots =
-            lentOr (view xs) b b′ a;
-        time = time′;
-      })
+  pub did : (a : Buf) → CallStep i xs a (made c b time time′ x ys (lentOr (view xs) b b′ a))
   pub saves : Saves c x xs ys
 
 -- a start-up by driver i: the slot buffer that it brings is the run's from then on, unless rows 1 and 2 stop it
 pub record IsStepStart (i : ℕ) (c : Config) (xs : List ℕ) (x : Ans Answer) (ys : List ℕ) (b : Buf)
     (time time′ : List ℕ) : Type 0 where
-  pub did : (a : Buf)
-      → CallStep i xs a (record {
-        event = record { call = start c; lent = b };
-        before = time;
-        answer = x;
-        bytes = ys;
-        slots = cond (eqb (startRow c b) 0) b a;
-        time = time′;
-      })
+  pub did : (a : Buf) → CallStep i xs a (made (start c) b time time′ x ys (cond (eqb (startRow c b) 0) b a))
   pub saves : Saves (start c) x xs ys
 
 -- a question, answered with n: nothing changes

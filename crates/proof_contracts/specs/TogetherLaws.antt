@@ -17,7 +17,7 @@ use Rattle.model.specs.Script.{Script, ret, test, run}
 use Rattle.model.specs.Answers.{Answer, Refused, resultless}
 use Rattle.model.specs.Handler.{stampedInterrupt}
 use Rattle.model.specs.Calls.{Config, Op, interrupt, calls}
-use Rattle.model.specs.Machine.{Buf, Call, begin, go, Event, Machine, misfit, Ans, ended, handed, told, Way, idle, busy, stay, begun, continued, halt, fed}
+use Rattle.model.specs.Machine.{Buf, begin, go, Event, Machine, misfit, Ans, ended, handed, told, Way, idle, busy, stay, begun, continued, halt, fed}
 use Rattle.machine.specs.declared.Step.{Step}
 use Rattle.machine.specs.declared.Step.the-variants as step
 use Rattle.machine.specs.Suspended.{machineOf, driverOf, answerOf, lentOr, slotsFit, BufferUnchangedOnRow1}
@@ -25,7 +25,7 @@ use Rattle.machine.specs.KeepsLaws.{kept-by}
 use Rattle.machine.specs.Goes.{Called}
 use Rattle.call_bus_time.specs.Sharing.{settled, sharedCall}
 use Rattle.call_answer_word.specs.Word.{Worded}
-use Rattle.call_readings.specs.Readings.{Reading, reading, Lent, lent, Begins, Continues, If, Over, Brings, BeginsWith, ContinuesWith, asksFor}
+use Rattle.call_readings.specs.Readings.{Reading, reading, Lent, lent, Continues, If, Over, Brings, BeginsWith, ContinuesWith, asksFor}
 use Rattle.usbhs_c.proofs.readings.usbhs_interrupt.Reads as interrupt-contract
 use Rattle.usbhs_c.proofs.readings.usbhs_continue_transfer.Reads as continue-transfer-contract
 use Rattle.proof_book.specs.Pages.{Pages, withKept, keptWakes}

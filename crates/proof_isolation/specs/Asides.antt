@@ -26,22 +26,23 @@ use Rattle.model.specs.Calls.{Aside, Open, Close, Queue, asideCode}
 use Rattle.model.specs.Simulates.{quiet}
 use Rattle.model_ops.specs.Rings.{St, waitingOn, roomOn, roomIn, openedOn, nextStamp, oldestAt, oldestOn, openOn, closeOn, queuedOn, enqueueOn, nextLen}
 use Rattle.model_ops.specs.Concrete.{concrete, isOf, lookOf, fetchOf, actOn}
-use Rattle.proof_book.specs.Coupling.{endOf, lensOf, slotStamps}
+use Rattle.proof_book.specs.Coupling.{endOf, lensOf, slotStamps, Held}
 use Rattle.proof_book.specs.LensLaws.{stamps-at, lens-at, lens-length, lens-set, lens-mod, ep-len}
 use Rattle.proof_book.specs.FrameLaws.{changed-on, changed-len, same-place}
 use Rattle.proof_book.specs.OutsLaws.{Inner}
+use Rattle.proof_book.specs.Outs.{Inner}
 use Rattle.proof_isolation.specs.EqualExcept.{EqualExcept, Beside, Lawful, Channel, LowEquiv, Touched}
 use Rattle.proof_isolation.specs.Apart.{Pair}
 use Rattle.proof_isolation.specs.Likes.{inner-stays, own-changed, but-refl, touched-refl, touched-trans}
 use Rattle.proof_isolation.specs.Pairs.{Eq, p-ret, p-same, p-then, p-test, p-get, p-is, p-look, p-fetch, p-act}
-use Rattle.proof_isolation.specs.Buts.{but-on, but-cond, but-changed, like-made, lawful-act, others-same}
+use Rattle.proof_isolation.specs.Buts.{but-on, but-changed, like-made, lawful-act, others-same}
 use Rattle.proof_isolation.specs.Values.{in-other, p-globals, p-plain, p-plain-in}
 use Rattle.proof_isolation.specs.Answers.{SameAnswer, same}
 use Rattle.proof_isolation.specs.AnswersLaws.{p-staged, p-named}
 use Rattle.proof_isolation.specs.Bytes.{copied-like, only-like}
 use Rattle.proof_isolation.specs.Ending.{Finished}
 use Rattle.proof_isolation.specs.EndingLaws.{Brief, b-ret, b-bind, b-test, b-get, b-is, b-look, b-fetch, b-act}
-use Rattle.proof_isolation.specs.InRings.{len-mod, next-same, on-seat, cond-seat}
+use Rattle.proof_isolation.specs.InRings.{len-mod, next-same, out-changed}
 
 -- ---- of another OUT endpoint
 
@@ -80,24 +81,13 @@ module _ (c : Channel) (e : ℕ) (n : key Out e ≢ key Out (c .number)) (s t : 
       (stamp-any (s .0) (t .0) e (slotOf (epOn (t .0) Out e) (epOn (t .0) Out e .tail)) (l .but .stamps e n))
 
   opens : LowEquiv c quiet (actOn (open-oldest e) s) (actOn (open-oldest e) t)
-  unfolding openOn withOn
-  opens = like-made l
-      (lawful-act c (open-oldest e) refl (l .left))
-      (lawful-act c (open-oldest e) refl (l .right))
-      (but-cond _ _ (ap hasWaiting h)
-      (but-on (l .but) (l .left .rest .sized) (l .right .rest .sized) Out e _ _ (λ _. ap openedOf h) (λ p. absurd (n p))) (l .but))
-      (cond-seat (c .number) (epOn (s .0) Out (c .number)) (hasWaiting (epOn (s .0) Out e)) _ _
-      (on-seat (c .number) (s .0) Out e _ n) (same-place (epOn (s .0) Out (c .number)))) (l .bytes)
+  unfolding openOn
+  opens = out-changed c e n hasWaiting openedOf s t l (lawful-act c (open-oldest e) refl (l .left)) (lawful-act c (open-oldest e) refl (l .right))
 
   closes : LowEquiv c quiet (actOn (close-oldest e) s) (actOn (close-oldest e) t)
-  unfolding closeOn withOn
-  closes = like-made l
-      (lawful-act c (close-oldest e) refl (l .left))
-      (lawful-act c (close-oldest e) refl (l .right))
-      (but-cond _ _ (ap (λ (r : EpState). isOn (r .«open»)) h)
-      (but-on (l .but) (l .left .rest .sized) (l .right .rest .sized) Out e _ _ (λ _. ap closedOf h) (λ p. absurd (n p))) (l .but))
-      (cond-seat (c .number) (epOn (s .0) Out (c .number)) (isOn (epOn (s .0) Out e .«open»)) _ _
-      (on-seat (c .number) (s .0) Out e _ n) (same-place (epOn (s .0) Out (c .number)))) (l .bytes)
+  unfolding closeOn
+  closes = out-changed c e n (λ r. isOn (r .«open»)) closedOf s t l
+      (lawful-act c (close-oldest e) refl (l .left)) (lawful-act c (close-oldest e) refl (l .right))
 
 -- the bytes of its oldest packet
 len-capped : (d : Driver) (dir : Dir) (e most : ℕ) (i : ℕ) → Ring most (epOn d dir e) (lensOf d dir e) → lenOn d dir e i ≤ epOn d dir e .stride
@@ -111,19 +101,25 @@ next-capped d dir e most g = by (hasWaiting (epOn d dir e))
     by true = len-capped d dir e most _ g
     by false = omega arith
 
+-- where its record, its lengths and the bytes of its slots are the same
+pub oldest-by : (s t : St) (e : ℕ) {most : ℕ} {w : List (List ℕ)} → Held most (s .1) (epOn (s .0) Out e) (lensOf (s .0) Out e) w
+    → length (t .1) ≡ length (s .1)
+    → ((lo hi : ℕ) → epOn (s .0) Out e .base ≤ lo → hi ≤ endOf (epOn (s .0) Out e) → Same lo hi (s .1) (t .1))
+    → epOn (s .0) Out e ≡ epOn (t .0) Out e → lensOf (s .0) Out e ≡ lensOf (t .0) Out e → oldestOn (s .0) e (s .1) ≡ oldestOn (t .0) e (t .1)
+unfolding oldestOn oldestAt
+oldest-by s t e f long alike g ls =
+    let r = epOn (s .0) Out e in
+    let k = next-capped (s .0) Out e _ (f .ring) in
+    let u = slot-upto (f .placed) (r .tail) in
+    bytes-same (s .1) (t .1) (slotAddr r (r .tail)) (nextLen (s .0) Out e) long (omega (arith, k, u, f .placed .inside))
+    (alike _ _ (slot-from (f .placed) (r .tail)) (omega (arith, k, u)))
+    ∙ ap (λ (r : EpState). bytesAt (t .1) (slotAddr r (r .tail)) (nextLen (s .0) Out e)) g
+    ∙ ap (λ k. bytesAt (t .1) (slotAddr (epOn (t .0) Out e) (epOn (t .0) Out e .tail)) k) (next-same (s .0) (t .0) Out e g ls)
+
 module _ (c : Channel) (e : ℕ) (n : key Out e ≢ key Out (c .number)) (s t : St) (l : LowEquiv c quiet s t) where
   pub oldest-out : fetchOf (oldest e) s ≡ fetchOf (oldest e) t
-  unfolding oldestOn oldestAt
-  oldest-out =
-      let r = epOn (s .0) Out e in
-      let f = l .left .rest .outs e .held in
-      let k = next-capped (s .0) Out e _ (f .ring) in
-      let u = slot-upto (f .placed) (r .tail) in
-      let h = l .but .eps Out e n in
-      bytes-same (s .1) (t .1) (slotAddr r (r .tail)) (nextLen (s .0) Out e) (l .bytes .long) (omega (arith, k, u, f .placed .inside))
-      (others-same l Out e _ _ n (slot-from (f .placed) (r .tail)) (omega (arith, k, u)))
-      ∙ ap (λ (r : EpState). bytesAt (t .1) (slotAddr r (r .tail)) (nextLen (s .0) Out e)) h
-      ∙ ap (λ k. bytesAt (t .1) (slotAddr (epOn (t .0) Out e) (epOn (t .0) Out e .tail)) k) (next-same (s .0) (t .0) Out e h (l .but .lens Out e n))
+  oldest-out = oldest-by s t e (l .left .rest .outs e .held) (l .bytes .long)
+      (λ lo hi. others-same l Out e lo hi n) (l .but .eps Out e n) (l .but .lens Out e n)
 
 -- ---- of an IN endpoint
 

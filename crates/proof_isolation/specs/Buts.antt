@@ -1,78 +1,78 @@
 -- Changes that leave two states the same but for x's data
 use mathlib.Core.Bool.{Bool, true, false, cond}
 use mathlib.Core.List.{List}
-use mathlib.Core.Logic.{_≢_, _⊎_, inl, inr, ⊎-elim}
+use mathlib.Core.Logic.{_≢_, inl, inr, ⊎-elim}
 use mathlib.Core.Path.{_≡_, refl, ap, subst, sym, _∙_}
-use Prim.Native.Nat.{ℕ, zero, suc, _+_, _*_, _%_, _≤_, _<_}
+use Prim.Native.Nat.{ℕ, zero, suc, _+_, _≤_}
 use native.Mathlib.Omega.{arith}
 use native.Mathlib.Decide.{ℕ-discrete}
-use lib.ListN.{length, getD, set}
 use Rattle.regs.specs.declared.Dir.{Dir}
-use Rattle.regs.specs.declared.Dir.the-variants.{Out, In}
+use Rattle.regs.specs.declared.Dir.the-variants.{Out}
 use Rattle.state.specs.declared.EpState.{EpState}
 use Rattle.state.specs.declared.Globals.{Globals}
 use Rattle.state.specs.Wakes.{Wakes}
+use Rattle.state.specs.declared.Request.{Request}
 use Rattle.state.specs.Driver.{Driver, key, epOn, withOn, lenOn, stampOn, requestOn, withGlobals, withWakes}
-use Rattle.state.specs.Laws.{Sized, key-apart, epOn-same, epOn-other}
+use Rattle.state.specs.Driver.{withStamps, withPaced, withRequests, withControl}
+use Rattle.state.specs.Laws.{Sized, epOn-same, epOn-other}
 use Rattle.marks.specs.Only.{Same, Only}
 use Rattle.marks.specs.OnlyLaws.{only-apart}
 use Rattle.ring.specs.Waiting.{SamePlace}
 use Rattle.state.specs.declared.Control.{Control}
-use Rattle.model.specs.Cells.{Cell, Val, EpCore, control-cell}
+use Rattle.model.specs.Cells.{Cell, Val, control-cell}
 use Rattle.model.specs.Control.{DATA-OUT}
 use Rattle.model.specs.Script.{Act, DmaStep, Burst, lastOf}
 use Rattle.model.specs.Statics.{isOn}
 use Rattle.model.specs.Simulates.{Phase, quiet, mid}
-use Rattle.model.specs.TransferKinds.{TransferKinds, Sorted, allocates}
-use Rattle.model.specs.Machine.{Buf}
-use Rattle.model_ops.specs.Records.{plainOf, merged}
+use Rattle.model.specs.TransferKinds.{allocates}
 use Rattle.model_ops.specs.Rings.{St, rowOn}
 use Rattle.model_ops.specs.Concrete.{putOn, actOn, handOn}
-use Rattle.proof_book.specs.Book.{mergedPlain}
-use Rattle.proof_book.specs.Coupling.{endOf, Apart, ep0Room, lensOf, slotStamps}
+use Rattle.proof_book.specs.Coupling.{endOf, ep0Room, lensOf, slotStamps}
 use Rattle.proof_book.specs.LensLaws.{key-ep, lens-on, stamps-on}
 use Rattle.proof_book.specs.FrameLaws.{Changed, same-place}
 use Rattle.proof_book.specs.AgreesLaws.{agree}
 use Rattle.proof_book.specs.RowsLaws.{rows-first, rows-next, rows-finish}
 use Rattle.proof_book.specs.TransferKinds.{Steady, Has}
 use Rattle.proof_book.specs.TransferKindsLaws.{sorted, row-steady}
-use Rattle.proof_isolation.specs.EqualExcept.{OtherWakes, Stays, EqualExcept, Lawful, Channel, LowEquiv}
+use Rattle.proof_isolation.specs.EqualExcept.{OtherWakes, Stays, ButBy, EqualExcept, Lawful, Channel, LowEquiv}
 use Rattle.proof_isolation.specs.Settled.{isControl}
 use Rattle.proof_isolation.specs.SettledLaws.{put-settled, no-start, act-settled, hand-settled, row-settled, settled-bounded}
 use Rattle.proof_isolation.specs.Likes.{stays-refl}
 
 -- ---- drivers
 
+-- with other parts; its records, their lengths and the allocator stay
+abbrev with-parts : Driver → Globals → Control → List ℕ → Wakes → List Request → List ℕ → Driver
+with-parts d g c p w r t = withStamps (withRequests (withWakes (withPaced (withControl (withGlobals d g) c) p) w) r) t
+
+pub but-parts : {W : Wakes → Wakes → Type 0} {x : ℕ} {d d′ : Driver} → ButBy W x d d′
+    → {g g′ : Globals} {c c′ : Control} {p p′ : List ℕ} {w w′ : Wakes} {r r′ : List Request} {t t′ : List ℕ}
+    → g ≡ g′ → c ≡ c′ → p ≡ p′ → W w w′
+    → ((dir : Dir) (e : ℕ) → key dir e ≢ key Out x → requestOn (withRequests d r) dir e ≡ requestOn (withRequests d′ r′) dir e)
+    → ((e : ℕ) → key Out e ≢ key Out x → slotStamps (withStamps d t) e ≡ slotStamps (withStamps d′ t′) e)
+    → ButBy W x (with-parts d g c p w r t) (with-parts d′ g′ c′ p′ w′ r′ t′)
+unfolding epOn lenOn stampOn requestOn
+but-parts h g c p w r t = record {
+  globals = g;
+  allocator = h .allocator;
+  control = c;
+  paced = p;
+  wakes = w;
+  requests = r;
+  eps = h .eps;
+  lens = h .lens;
+  stamps = t;
+  own = h .own;
+}
+
 module _ {x : ℕ} {d d′ : Driver} (h : EqualExcept x d d′) where
   pub but-globals : (g g′ : Globals) → g ≡ g′ → EqualExcept x (withGlobals d g) (withGlobals d′ g′)
-  unfolding epOn lenOn stampOn requestOn
-  but-globals g g′ e = record {
-    globals = e;
-    allocator = h .allocator;
-    control = h .control;
-    paced = h .paced;
-    wakes = h .wakes;
-    requests = h .requests;
-    eps = h .eps;
-    lens = h .lens;
-    stamps = h .stamps;
-    own = h .own;
-  }
+  unfolding stampOn requestOn
+  but-globals g g′ e = but-parts h e (h .control) (h .paced) (h .wakes) (h .requests) (h .stamps)
 
   pub but-wakes : (w w′ : Wakes) → OtherWakes x w w′ → EqualExcept x (withWakes d w) (withWakes d′ w′)
-  unfolding epOn lenOn stampOn requestOn
-  but-wakes w w′ e = record {
-    globals = h .globals;
-    allocator = h .allocator;
-    control = h .control;
-    paced = h .paced;
-    wakes = e;
-    requests = h .requests;
-    eps = h .eps;
-    lens = h .lens;
-    stamps = h .stamps;
-    own = h .own;
-  }
+  unfolding stampOn requestOn
+  but-wakes w w′ e = but-parts h (h .globals) (h .control) (h .paced) e (h .requests) (h .stamps)
 
   -- one endpoint's record: the same one, or x's with what stays of it
   module _ (z : Sized d) (z′ : Sized d′) (dir : Dir) (e : ℕ) (r r′ : EpState) where

@@ -1,19 +1,17 @@
 -- Arming and copying do the same to two buffers, byte by byte
-use mathlib.Core.Bool.{true, false, cond}
+use mathlib.Core.Bool.{cond}
 use mathlib.Core.List.{List, [], _∷_, _++_}
-use mathlib.Core.Path.{_≡_, refl, ap, sym, _∙_}
-use Prim.Native.Nat.{ℕ, zero, suc, _+_, _-_, _*_, _≤_, _<_}
+use mathlib.Core.Path.{_≡_, ap, sym, _∙_}
+use Prim.Native.Nat.{ℕ, zero, suc, _+_, _-_, _*_, _≤_}
 use native.Mathlib.Omega.{arith}
 use native.Mathlib.Decide.{ℕ-discrete, decLt}
 use borrow.Author.Tests.{lt-ltb, le-ltb}
-use lib.Dec.{ltb}
-use lib.ListN.{length, getD, set, take, drop, length-set, length-drop, List·getD-eq-default, List·getD-append}
-use lib.Seq.{sets, getD-set-same, getD-set-other, getD-append-add, getD-drop}
-use Rattle.marks.specs.Marks.{mark, marked, markedRun, armedWords, arm, reach, armed}
+use lib.ListN.{length, getD, set, take, drop, length-set, length-drop, List·getD-eq-default}
+use lib.Seq.{sets, getD-set-same, getD-set-other}
+use Rattle.marks.specs.Marks.{mark, marked, markedRun, armedWords, arm, reach, short, armed}
 use Rattle.marks.specs.Copies.{copied, over}
 use Rattle.marks.specs.Only.{Only}
-use Rattle.marks.specs.OnlyLaws.{only-set, only-sets, back-low, back-high, part-byte}
-use Rattle.marks.specs.Arms.{only-marked, only-run, only-arm}
+use Rattle.marks.specs.OnlyLaws.{back-low, back-high, part-byte}
 use Rattle.marks.specs.Slots.{only-armed, only-copied, over-low, over-high}
 
 -- byte k of two buffers is the same
@@ -61,17 +59,22 @@ back-like b c p q at k l (long, e) h = elim (decLt k at) [
 part-at : (b c : List ℕ) (at k : ℕ) → at ≤ k → At k b c → At (k - at) (drop at b) (drop at c)
 part-at b c at k l (long, e) = (simp (length-drop) (ap (λ n. n - at) long), part-byte c at k l ∙ e ∙ sym (part-byte b at k l))
 
+-- a part of n bytes changed by f where it fits
+changed-like : (b c : List ℕ) (at n k : ℕ) (f : List ℕ → List ℕ)
+    → (At (k - at) (drop at b) (drop at c) → getD (f (drop at c)) (k - at) 0 ≡ getD (f (drop at b)) (k - at) 0) → At k b c
+    → getD (cond (short c at n) c (take at c ++ f (drop at c))) k 0 ≡ getD (cond (short b at n) b (take at b ++ f (drop at b))) k 0
+changed-like b c at n k f g h = elim (decLt (length b) (at + n)) [
+  | yes l ↦ rw (lt-ltb (length b) (at + n) l, lt-ltb (length c) (at + n) (omega (arith, h .0))) (h .1)
+  | no l ↦ rw (le-ltb (length b) (at + n) (omega arith), le-ltb (length c) (at + n) (omega (arith, h .0)))
+      (back-like b c (f (drop at b)) (f (drop at c)) at k (omega arith) h (λ l. g (part-at b c at k l h)))
+]
+
 pub armed-like : (b c : List ℕ) (at maximum k : ℕ) → At k b c → At k (armed b at maximum) (armed c at maximum)
 unfolding armed
-armed-like b c at maximum k h = (only-armed c at maximum .long ∙ h .0 ∙ sym (only-armed b at maximum .long), byte)
-  where
-    byte : getD (armed c at maximum) k 0 ≡ getD (armed b at maximum) k 0
-    byte = elim (decLt (length b) (at + reach maximum)) [
-      | yes g ↦ rw (lt-ltb (length b) (at + reach maximum) g, lt-ltb (length c) (at + reach maximum) (omega (arith, h .0))) (h .1)
-      | no g ↦ rw (le-ltb (length b) (at + reach maximum) (omega arith), le-ltb (length c) (at + reach maximum) (omega (arith, h .0)))
-          (back-like b c (arm maximum (drop at b)) (arm maximum (drop at c)) at k
-          (omega arith) h (λ l. arm-like maximum (drop at b) (drop at c) (k - at) (part-at b c at k l h) .1))
-    ]
+armed-like b c at maximum k h = (
+  only-armed c at maximum .long ∙ h .0 ∙ sym (only-armed b at maximum .long),
+  changed-like b c at (reach maximum) k (arm maximum) (λ p. arm-like maximum (drop at b) (drop at c) (k - at) p .1) h,
+)
 
 over-like : (v b c : List ℕ) (k : ℕ) → At k b c → getD (over v c) k 0 ≡ getD (over v b) k 0
 over-like v b c k h = elim (decLt k (length v)) [
@@ -81,15 +84,10 @@ over-like v b c k h = elim (decLt k (length v)) [
 
 pub copied-like : (b c : List ℕ) (at : ℕ) (v : List ℕ) (k : ℕ) → At k b c → At k (copied b at v) (copied c at v)
 unfolding copied
-copied-like b c at v k h = (only-copied c at v .long ∙ h .0 ∙ sym (only-copied b at v .long), byte)
-  where
-    byte : getD (copied c at v) k 0 ≡ getD (copied b at v) k 0
-    byte = elim (decLt (length b) (at + length v)) [
-      | yes g ↦ rw (lt-ltb (length b) (at + length v) g, lt-ltb (length c) (at + length v) (omega (arith, h .0))) (h .1)
-      | no g ↦ rw (le-ltb (length b) (at + length v) (omega arith), le-ltb (length c) (at + length v) (omega (arith, h .0)))
-          (back-like b c (over v (drop at b)) (over v (drop at c)) at k
-          (omega arith) h (λ l. over-like v (drop at b) (drop at c) (k - at) (part-at b c at k l h)))
-    ]
+copied-like b c at v k h = (
+  only-copied c at v .long ∙ h .0 ∙ sym (only-copied b at v .long),
+  changed-like b c at (length v) k (over v) (λ p. over-like v (drop at b) (drop at c) (k - at) p) h,
+)
 
 -- so two buffers that are the same but for some bytes stay so
 pub only-like : {lo hi : ℕ} {b c b1 c1 : List ℕ} → Only lo hi b c → ((k : ℕ) → At k b c → At k b1 c1) → Only lo hi b1 c1

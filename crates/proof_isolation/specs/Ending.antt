@@ -1,8 +1,5 @@
 -- Calls that end at once
-use mathlib.Core.Bool.{Bool}
-use Rattle.model.specs.Cells.{Cell, Val}
 use Rattle.model.specs.Tree as tree
-use Rattle.model.specs.Script.{Script, Test, Look, Fetch, Act}
 use Rattle.model_ops.specs.Rings.{St}
 
 -- in a state of which K holds

@@ -7,7 +7,7 @@ use Prim.Native.Nat.{ℕ, _≤_, _<_}
 use lib.Dec.{eqb}
 use lib.ListN.{length}
 use Rattle.regs.specs.declared.Dir.{Dir}
-use Rattle.regs.specs.declared.Dir.the-variants.{Out, In}
+use Rattle.regs.specs.declared.Dir.the-variants.{Out}
 use Rattle.state.specs.declared.EpState.{EpState}
 use Rattle.state.specs.Wakes.{Wakes, wakeCode, listed}
 use Rattle.state.specs.WakesLaws.{Room}

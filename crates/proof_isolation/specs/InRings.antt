@@ -25,7 +25,7 @@ use Rattle.model_ops.specs.Concrete.{isOf, lookOf, actOn, handOn}
 use Rattle.proof_book.specs.Coupling.{lensOf}
 use Rattle.proof_book.specs.LensLaws.{lens-at}
 use Rattle.proof_book.specs.FrameLaws.{same-place}
-use Rattle.proof_isolation.specs.EqualExcept.{Channel, LowEquiv}
+use Rattle.proof_isolation.specs.EqualExcept.{Channel, LowEquiv, Lawful}
 use Rattle.proof_isolation.specs.Values.{in-other}
 use Rattle.proof_isolation.specs.Buts.{but-on, but-cond, like-made, lawful-act, lawful-hand, ep0-same}
 
@@ -56,6 +56,19 @@ pub cond-seat : (x : ℕ) (r : EpState) (u : Bool) (a b : Driver)
     → SamePlace r (epOn a Out x) → SamePlace r (epOn b Out x) → SamePlace r (epOn (cond u a b) Out x)
 cond-seat x r true a b p q = p
 cond-seat x r false a b p q = q
+
+-- an OUT endpoint's record, but the channel's, changed where a test of it holds
+module _ (c : Channel) (e : ℕ) (n : key Out e ≢ key Out (c .number)) (g : EpState → Bool) (f : EpState → EpState) where
+  abbrev where-so : St → St
+  where-so s = (cond (g (epOn (s .0) Out e)) (withOn (s .0) Out e (f (epOn (s .0) Out e))) (s .0), s .1)
+
+  pub out-changed : (s t : St) → LowEquiv c quiet s t → Lawful (c .iso) quiet (where-so s) → Lawful (c .iso) quiet (where-so t)
+      → LowEquiv c quiet (where-so s) (where-so t)
+  out-changed s t l x y = let h = l .but .eps Out e n in like-made l x y
+      (but-cond _ _ (ap g h)
+      (but-on (l .but) (l .left .rest .sized) (l .right .rest .sized) Out e _ _ (λ _. ap f h) (λ p. absurd (n p))) (l .but))
+      (cond-seat (c .number) (epOn (s .0) Out (c .number)) (g (epOn (s .0) Out e)) _ _
+      (on-seat (c .number) (s .0) Out e _ n) (same-place (epOn (s .0) Out (c .number)))) (l .bytes)
 
 -- ---- a word of EP0's buffer
 

@@ -8,7 +8,6 @@ use native.Mathlib.Omega.{arith}
 use native.Mathlib.Decide.{ℕ-discrete}
 use lib.Dec.{eqb}
 use borrow.Author.Tests.{eqb-true, ne-eqb}
-use Rattle.bits.specs.Walk as walk
 use Rattle.bits.specs.WalkLaws as walk-laws
 use Rattle.bits.specs.Walk.{setBits}
 use Rattle.bits.specs.WalkLaws.{walked-set, walk-rises}
@@ -33,6 +32,7 @@ use Rattle.model.specs.Calls.{interruptCode}
 use Rattle.model.specs.SortsWalks.{among-outs}
 use Rattle.model_ops.specs.Rings.{St}
 use Rattle.model_ops.specs.Concrete.{concrete}
+use Rattle.proof_isolation.specs.Likes.{and-false}
 use Rattle.proof_isolation.specs.EqualExcept.{Channel}
 use Rattle.proof_isolation.specs.Whose.{sof}
 use Rattle.proof_isolation.specs.Apart.{Next, next, PairBy, Pair}
@@ -75,10 +75,6 @@ and-both false b h = absurd (true≢false (sym h))
 arriving-out : (st x : ℕ) → arriving st x ≡ true → (token st ≡ tok.Out) × (endpoint st ≡ x)
 unfolding arriving isOut
 arriving-out st x h = let p = and-both (outToken (token st)) (eqb (endpoint st) x) h in (out-token (token st) (p .0), eqb-true (endpoint st) x (p .1))
-
-and-false : (a : Bool) → (a && false) ≡ false
-and-false true = refl
-and-false false = refl
 
 -- one status, one endpoint
 arriving-other : (st x e : ℕ) → e ≢ x → arriving st x ≡ true → arriving st e ≡ false

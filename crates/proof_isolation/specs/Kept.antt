@@ -14,7 +14,7 @@ use Rattle.state.specs.declared.EpState.{EpState}
 use Rattle.state.specs.declared.Globals.{Globals}
 use Rattle.state.specs.declared.Request.{Request}
 use Rattle.state.specs.declared.Control.{Control}
-use Rattle.state.specs.Driver.{Driver, key, noRequest, epOn, lenOn, stampOn, pacedOn, withPacedOn, requestOn, withRequestOn, withControl}
+use Rattle.state.specs.Driver.{Driver, key, noRequest, epOn, stampOn, pacedOn, withPacedOn, requestOn, withRequestOn, withControl}
 use Rattle.state.specs.Laws.{Sized, requestOn-same, requestOn-other}
 use Rattle.marks.specs.Only.{Only}
 use Rattle.marks.specs.Copies.{copied}
@@ -31,7 +31,7 @@ use Rattle.proof_book.specs.FrameLaws.{same-place}
 use Rattle.proof_isolation.specs.EqualExcept.{EqualExcept, Channel, LowEquiv}
 use Rattle.proof_isolation.specs.Apart.{Pair}
 use Rattle.proof_isolation.specs.Pairs.{Eq, Any, p-get, p-put, p-act}
-use Rattle.proof_isolation.specs.Buts.{like-made, lawful-put, lawful-control, lawful-act}
+use Rattle.proof_isolation.specs.Buts.{but-parts, like-made, lawful-put, lawful-control, lawful-act}
 use Rattle.proof_isolation.specs.Bytes.{copied-like, only-like}
 use Rattle.proof_isolation.specs.Values.{in-other}
 
@@ -43,53 +43,22 @@ request-key d a dir f e p = ap (λ k. getD (d .requests) k noRequest) p
 
 module _ {x : ℕ} {d d′ : Driver} (h : EqualExcept x d d′) where
   but-control : (v : Control) → EqualExcept x (withControl d v) (withControl d′ v)
-  unfolding epOn lenOn stampOn requestOn
-  but-control v = record {
-    globals = h .globals;
-    allocator = h .allocator;
-    control = refl;
-    paced = h .paced;
-    wakes = h .wakes;
-    requests = h .requests;
-    eps = h .eps;
-    lens = h .lens;
-    stamps = h .stamps;
-    own = h .own;
-  }
+  unfolding stampOn requestOn
+  but-control v = but-parts h (h .globals) refl (h .paced) (h .wakes) (h .requests) (h .stamps)
 
   but-paced : (e v : ℕ) → EqualExcept x (withPacedOn d e v) (withPacedOn d′ e v)
-  unfolding withPacedOn epOn lenOn stampOn requestOn
-  but-paced e v = record {
-    globals = h .globals;
-    allocator = h .allocator;
-    control = h .control;
-    paced = ap (λ l. set l (e % 16) v) (h .paced);
-    wakes = h .wakes;
-    requests = h .requests;
-    eps = h .eps;
-    lens = h .lens;
-    stamps = h .stamps;
-    own = h .own;
-  }
+  unfolding withPacedOn stampOn requestOn
+  but-paced e v = but-parts h (h .globals) (h .control) (ap (λ l. set l (e % 16) v) (h .paced)) (h .wakes) (h .requests) (h .stamps)
 
   but-request : Sized d → Sized d′ → (dir : Dir) (e : ℕ) (v : Request) → EqualExcept x (withRequestOn d dir e v) (withRequestOn d′ dir e v)
-  unfolding withRequestOn epOn lenOn stampOn
-  but-request z z′ dir e v = record {
-    globals = h .globals;
-    allocator = h .allocator;
-    control = h .control;
-    paced = h .paced;
-    wakes = h .wakes;
-    requests = λ a f n. elim (ℕ-discrete (key a f) (key dir e)) [
-      | yes p ↦ request-key (withRequestOn d dir e v) a dir f e p ∙ requestOn-same d dir e v z
-          ∙ sym (request-key (withRequestOn d′ dir e v) a dir f e p ∙ requestOn-same d′ dir e v z′)
-      | no p ↦ requestOn-other d dir e v a f p ∙ h .requests a f n ∙ sym (requestOn-other d′ dir e v a f p)
-    ];
-    eps = h .eps;
-    lens = h .lens;
-    stamps = h .stamps;
-    own = h .own;
-  }
+  unfolding withRequestOn stampOn
+  but-request z z′ dir e v = but-parts h (h .globals) (h .control) (h .paced) (h .wakes)
+      (λ a f n. elim (ℕ-discrete (key a f) (key dir e)) [
+        | yes p ↦ request-key (withRequestOn d dir e v) a dir f e p ∙ requestOn-same d dir e v z
+            ∙ sym (request-key (withRequestOn d′ dir e v) a dir f e p ∙ requestOn-same d′ dir e v z′)
+        | no p ↦ requestOn-other d dir e v a f p ∙ h .requests a f n ∙ sym (requestOn-other d′ dir e v a f p)
+      ])
+      (h .stamps)
 
 -- ---- states
 

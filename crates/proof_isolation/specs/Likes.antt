@@ -1,11 +1,10 @@
 -- Being the same but for x's data: symmetric, and kept where one of the two is touched
+use mathlib.Core.Bool.{Bool, true, false, _&&_}
 use mathlib.Core.Path.{_≡_, refl, ap, subst, sym, _∙_}
 use mathlib.Core.List.{List}
-use Prim.Native.Nat.{ℕ, _+_, _*_, _%_, _≤_, _<_}
-use native.Mathlib.Omega.{arith}
+use Prim.Native.Nat.{ℕ}
 use lib.ListN.{getD}
-use Rattle.regs.specs.declared.Dir.{Dir}
-use Rattle.regs.specs.declared.Dir.the-variants.{Out, In}
+use Rattle.regs.specs.declared.Dir.the-variants.{Out}
 use Rattle.state.specs.Wakes.{Wakes}
 use Rattle.state.specs.WakesLaws.{Room}
 use Rattle.state.specs.declared.EpState.{EpState}
@@ -13,16 +12,17 @@ use Rattle.state.specs.declared.Request.{Request}
 use Rattle.state.specs.Driver.{Driver, key, epOn, requestOn, noRequest}
 use Rattle.marks.specs.Only.{Only}
 use Rattle.marks.specs.OnlyLaws.{only-refl, only-trans}
-use Rattle.ring.specs.Waiting.{SamePlace}
-use Rattle.model.specs.Simulates.{Phase, quiet}
-use Rattle.model.specs.Cells.{EpCore}
-use Rattle.model.specs.TransferKinds.{TransferKinds}
+use Rattle.model.specs.Simulates.{Phase}
 use Rattle.model.specs.Machine.{Buf}
 use Rattle.model_ops.specs.Rings.{St}
 use Rattle.proof_book.specs.Coupling.{endOf}
 use Rattle.proof_book.specs.FrameLaws.{Changed, same-place, end-kept}
 use Rattle.proof_book.specs.OutsLaws.{Inner}
 use Rattle.proof_isolation.specs.EqualExcept.{OtherWakes, Stays, ButBy, Beside, Lawful, Channel, LowEquiv, Touched}
+
+pub and-false : (b : Bool) → (b && false) ≡ false
+and-false true = refl
+and-false false = refl
 
 -- ---- wake-ups
 

@@ -1,7 +1,7 @@
 -- Laws on the definitions of Operations.antt
 use mathlib.Core.Bool.{Bool, true, false, true≢false}
 use mathlib.Core.List.{List}
-use mathlib.Core.Logic.{_≢_, _⊎_, inl, inr}
+use mathlib.Core.Logic.{_⊎_, inl, inr}
 use mathlib.Core.Path.{_≡_, refl, ap, subst, sym, _∙_}
 use Prim.Native.Nat.{ℕ, zero, suc}
 use native.Mathlib.Decide.{ℕ-discrete}
@@ -25,7 +25,7 @@ use Rattle.model.specs.Control.{acks, closing-out, take-closing, take-in, statu
 use Rattle.model.specs.Calls.{Slotted, SetEnabled, PollRead, BeginWrite, PollWrite, PollDataOut, BeginDataIn, Other}
 use Rattle.model.specs.Calls.{Allocate, AllocateAll, Start, BusPoll, BusEnable, BusDisable, Microframe, SetStalled}
 use Rattle.model.specs.Calls.{IsStalled, SetPaced, Advance, BeginRead, BeginSetup, PollSetup, PollDataIn, BeginAccept}
-use Rattle.model.specs.Calls.{PollAccept, BeginReject, BeginDataOut, BeginAcceptSetAddress, Aside, Open, Close, Queue}
+use Rattle.model.specs.Calls.{PollAccept, BeginReject, BeginDataOut, BeginAcceptSetAddress, Open, Close, Queue}
 use Rattle.model.specs.Calls.{Op, interrupt, slotted, other, aside, code}
 use Rattle.proof_isolation.specs.EqualExcept.{Channel}
 use Rattle.proof_isolation.specs.Apart.{PairBy, Pair}
@@ -35,7 +35,7 @@ use Rattle.proof_isolation.specs.Answers.{SameAnswer, same}
 use Rattle.proof_isolation.specs.AnswersLaws.{p-operation, p-resultless, p-staged, p-named}
 use Rattle.proof_isolation.specs.Walks.{ctrl-steady, p-reads, p-modify-reg, p-complete}
 use Rattle.proof_isolation.specs.Interrupt.{p-interrupt}
-use Rattle.proof_isolation.specs.Asides.{Others, Mine, p-aside, room-in, enqueues}
+use Rattle.proof_isolation.specs.Asides.{p-aside, room-in, enqueues}
 use Rattle.proof_isolation.specs.Rows.{p-unless, p-numbered, p-named-or-0, p-enabled, p-ends-request, p-polled}
 use Rattle.proof_isolation.specs.Reading.{p-poll-read}
 use Rattle.proof_isolation.specs.Enabling.{p-set-enabled}

@@ -22,8 +22,8 @@ use Rattle.model_ops.specs.Concrete.{concrete, putOn, actOn}
 use Rattle.proof_book.specs.LensLaws.{key-ep}
 use Rattle.proof_book.specs.FrameLaws.{Changed, changed-on}
 use Rattle.proof_isolation.specs.EqualExcept.{Stays, Beside, Lawful, Channel, Touched}
-use Rattle.proof_isolation.specs.Likes.{stays-refl, own-changed, but-refl, touched-refl, touched-trans}
-use Rattle.proof_isolation.specs.Buts.{lawful-put, lawful-act}
+use Rattle.proof_isolation.specs.Likes.{own-changed, but-refl, touched-refl, touched-trans}
+use Rattle.proof_isolation.specs.Buts.{but-parts, lawful-put, lawful-act}
 use Rattle.proof_isolation.specs.Ending.{Finished, fin}
 use Rattle.proof_isolation.specs.EndingLaws.{Brief, b-ret, b-bind, b-test, b-get, b-is, b-fetch, b-act, b-put}
 
@@ -82,18 +82,8 @@ module _ (c : Channel) (e : ℕ) (p : key Out e ≡ key Out (c .number)) where
     requests v = record {
       left = l;
       right = lawful-put c (request-cell Out e) v l refl;
-      but = record {
-        globals = refl;
-        allocator = refl;
-        control = refl;
-        paced = refl;
-        wakes = refl;
-        requests = λ dir f n. sym (requestOn-other (s .0) Out e v dir f (λ q. n (q ∙ p)));
-        eps = λ dir f n. refl;
-        lens = λ dir f n. refl;
-        stamps = λ f n. refl;
-        own = stays-refl (epOn (s .0) Out (c .number));
-      };
+      but = but-parts (but-refl (c .number) (s .0)) refl refl refl refl
+          (λ dir f n. sym (requestOn-other (s .0) Out e v dir f (λ q. n (q ∙ p)))) (λ f n. refl);
       bytes = only-refl _ _ (s .1);
     }
 

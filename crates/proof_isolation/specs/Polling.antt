@@ -11,7 +11,7 @@ use Rattle.state.specs.declared.Globals.{Globals}
 use Rattle.state.specs.Ep.{resetOf}
 use Rattle.state.specs.Fresh.{noStamps}
 use Rattle.state.specs.Kept.{withEpConfig, withEpType}
-use Rattle.state.specs.Driver.{Driver, epOn, withOn, lenOn, stampOn, requestOn}
+use Rattle.state.specs.Driver.{Driver, epOn, withOn, stampOn, requestOn}
 use Rattle.state.specs.Laws.{Sized}
 use Rattle.ring.specs.Waiting.{SamePlace}
 use Rattle.ring.specs.Laws.{place-trans}
@@ -25,7 +25,8 @@ use Rattle.proof_book.specs.ResetsLaws.{reset-place}
 use Rattle.proof_isolation.specs.EqualExcept.{Stays, EqualExcept, Channel, LowEquiv}
 use Rattle.proof_isolation.specs.Apart.{Pair}
 use Rattle.proof_isolation.specs.Pairs.{Eq, Any, Steps, p-ret, p-then, p-test, p-write, p-row}
-use Rattle.proof_isolation.specs.Buts.{stays-any, but-globals, but-on, changed-seat, like-made, lawful-first, lawful-next, row-over}
+use Rattle.proof_isolation.specs.Buts.{stays-any, but-parts, but-globals, but-on, changed-seat, like-made, lawful-first}
+use Rattle.proof_isolation.specs.Buts.{lawful-next, row-over}
 use Rattle.proof_isolation.specs.Values.{p-assign, p-wake-all, p-globals}
 use Rattle.proof_isolation.specs.Walks.{p-reads, p-int-en}
 
@@ -69,19 +70,8 @@ below-but (suc n) z z′ h =
 
 -- no stamp stays
 none-but : {x : ℕ} {d d′ : Driver} → EqualExcept x d d′ → EqualExcept x (noStamps d) (noStamps d′)
-unfolding noStamps epOn lenOn stampOn requestOn
-none-but h = record {
-  globals = h .globals;
-  allocator = h .allocator;
-  control = h .control;
-  paced = h .paced;
-  wakes = h .wakes;
-  requests = h .requests;
-  eps = h .eps;
-  lens = h .lens;
-  stamps = λ e n. refl;
-  own = h .own;
-}
+unfolding noStamps stampOn requestOn
+none-but h = but-parts h (h .globals) (h .control) (h .paced) (h .wakes) (h .requests) (λ e n. refl)
 
 -- all of them, and no setup packet
 module _ (c : Channel) where

@@ -8,7 +8,7 @@ use lib.Dec.{ltb}
 use borrow.Author.Tests.{ltb-false}
 use Rattle.regs.specs.declared.Dir.the-variants.{Out}
 use Rattle.state.specs.declared.EpState.{EpState}
-use Rattle.state.specs.Driver.{key, epOn, withOn}
+use Rattle.state.specs.Driver.{key, epOn}
 use Rattle.state.specs.Laws.{epOn-same}
 use Rattle.marks.specs.Copies.{bytesAt}
 use Rattle.ring.specs.Slot.{hasWaiting}
@@ -23,14 +23,13 @@ use Rattle.model.specs.Simulates.{quiet}
 use Rattle.model_ops.specs.Records.{plainOf, merged}
 use Rattle.model_ops.specs.Rings.{St, takeOn}
 use Rattle.model_ops.specs.Concrete.{concrete, fetchOf, putOn, actOn}
-use Rattle.proof_book.specs.FrameLaws.{same-place}
 use Rattle.proof_isolation.specs.EqualExcept.{Channel, LowEquiv}
 use Rattle.proof_isolation.specs.Apart.{Apart, Pair}
 use Rattle.proof_isolation.specs.Pairs.{p-ret, p-same, p-then, p-test, p-is, p-fetch, p-act}
-use Rattle.proof_isolation.specs.Buts.{but-on, but-cond, like-made, lawful-act, others-same}
+use Rattle.proof_isolation.specs.Buts.{lawful-act, others-same}
 use Rattle.proof_isolation.specs.Values.{plain-other, record-kept}
 use Rattle.proof_isolation.specs.Answers.{SameAnswer, same}
-use Rattle.proof_isolation.specs.InRings.{on-seat, cond-seat}
+use Rattle.proof_isolation.specs.InRings.{out-changed}
 use Rattle.proof_isolation.specs.Asides.{bytes-same, waiting-out, oldest-out}
 use Rattle.proof_isolation.specs.Rows.{p-enabled, p-ends-request, p-polled}
 
@@ -57,16 +56,8 @@ taking e k v = test (isOn (v .iso)) (take-iso e k) (take-ready e k v)
 
 module _ (c : Channel) (e : ℕ) (n : key Out e ≢ key Out (c .number)) where
   takes : (s t : St) → LowEquiv c quiet s t → LowEquiv c quiet (actOn (take-oldest e) s) (actOn (take-oldest e) t)
-  unfolding takeOn withOn
-  takes s t l =
-      let h = l .but .eps Out e n in
-      like-made l
-      (lawful-act c (take-oldest e) refl (l .left))
-      (lawful-act c (take-oldest e) refl (l .right))
-      (but-cond _ _ (ap hasWaiting h)
-      (but-on (l .but) (l .left .rest .sized) (l .right .rest .sized) Out e _ _ (λ _. ap closedOf h) (λ p. absurd (n p))) (l .but))
-      (cond-seat (c .number) (epOn (s .0) Out (c .number)) (hasWaiting (epOn (s .0) Out e)) _ _
-      (on-seat (c .number) (s .0) Out e _ n) (same-place (epOn (s .0) Out (c .number)))) (l .bytes)
+  unfolding takeOn
+  takes s t l = out-changed c e n hasWaiting closedOf s t l (lawful-act c (take-oldest e) refl (l .left)) (lawful-act c (take-oldest e) refl (l .right))
 
   -- what was received, within the maximum, lies in its own slot
   received-same : (s t : St) → LowEquiv c quiet s t → (k : ℕ) → k ≤ epOn (s .0) Out e .«max_len» → fetchOf (received e k) s ≡ fetchOf (received e k) t

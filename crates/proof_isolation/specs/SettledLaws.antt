@@ -1,5 +1,5 @@
 -- Laws on the definitions of Settled.antt
-use mathlib.Core.Bool.{Bool, true, false, cond, true≢false}
+use mathlib.Core.Bool.{Bool, true, false, cond, true≢false, _||_}
 use mathlib.Core.Path.{_≡_, refl, ap, sym, _∙_}
 use Prim.Native.Nat.{ℕ, zero, suc, _%_}
 use lib.Dec.{eqb, ltb}
@@ -15,19 +15,21 @@ use Rattle.alloc.specs.declared.Answer.{Answer}
 use Rattle.alloc.specs.declared.Answer.the-variants.{Refused, Given}
 use Rattle.alloc.specs.Alloc.{allocateOf, isIso}
 use Rattle.ring.specs.Slot.{slotAddr, hasWaiting}
-use Rattle.ring.specs.Out.{hasRoomOut, cappedAt, armedAt}
+use Rattle.ring.specs.Out.{hasRoomOut, cappedAt}
 use Rattle.marks.specs.Copies.{copied}
 use Rattle.model.specs.Cells.{Cell, Val, globals-cell, control-cell, allocator-cell, ep-cell, request-cell, paced-cell}
 use Rattle.model.specs.Script.{Act, complete, reset-ring, set-enabled, fill, fill0, open-oldest, close-oldest}
 use Rattle.model.specs.Script.{take-oldest, enqueue, allocate, allocate0, no-wakes, waken, DmaStep, arrive, send, place}
 use Rattle.model.specs.Script.{place0, Burst, switch, bus-reset}
 use Rattle.model.specs.Statics.{isOn, isoOuts}
+use Rattle.model.specs.Acts.{sameAct}
 use Rattle.model.specs.TransferKinds.{allocates}
 use Rattle.model_ops.specs.Records.{isoOut, configured, enabledOn, isoAdded, withSets, recordGiven, setsGiven, givenTo, allocatedOn}
 use Rattle.model_ops.specs.Rings.{St, completeOn, emptied, emptiedOn, openOn, closeOn, takeOn, roomOn, queuedOn}
 use Rattle.model_ops.specs.Rings.{enqueueOn, recordedOn, admittedOn, arrivedAt, arriveOn, sendOn, placeOn, renewedOn}
 use Rattle.model_ops.specs.Rings.{armAt, slotStep, typeStep, configStep, resetBelow, resetAll, rowOn}
 use Rattle.model_ops.specs.Concrete.{putOn, actOn, handOn}
+use Rattle.proof_wake_ups.specs.Still.{placed-by}
 use Rattle.proof_isolation.specs.EqualExcept.{Bounded}
 use Rattle.proof_isolation.specs.Settled.{isControl}
 
@@ -58,34 +60,14 @@ put-settled (paced-cell e) h v s = record { control = refl; stage = refl; most =
 -- ---- changes
 
 abbrev pub starts : Act → Bool
-starts (complete e) = false
-starts (reset-ring d e) = false
-starts (set-enabled d e on) = false
-starts (fill e bytes) = false
-starts (fill0 bytes) = false
-starts (open-oldest e) = false
-starts (close-oldest e) = false
-starts (take-oldest e) = false
-starts (enqueue e bytes) = false
-starts (allocate d kind address maximum interval) = false
-starts (allocate0 maximum) = true
-starts no-wakes = false
-starts (waken codes) = false
+starts q = sameAct q (allocate0 0)
 
 pub no-start : (q : Act) → allocates q ≡ false → starts q ≡ false
-no-start (complete e) h = refl
-no-start (reset-ring d e) h = refl
-no-start (set-enabled d e on) h = refl
-no-start (fill e bytes) h = refl
-no-start (fill0 bytes) h = refl
-no-start (open-oldest e) h = refl
-no-start (close-oldest e) h = refl
-no-start (take-oldest e) h = refl
-no-start (enqueue e bytes) h = refl
-no-start (allocate d kind address maximum interval) h = refl
-no-start (allocate0 maximum) h = absurd (true≢false h)
-no-start no-wakes h = refl
-no-start (waken codes) h = refl
+no-start q h = by (sameAct q (allocate Out 0 0 0 0)) h
+  where
+    by : {b : Bool} (a : Bool) → a || b ≡ false → b ≡ false
+    by true h = absurd (true≢false h)
+    by false h = h
 
 sets-settled : (dir : Dir) (kind interval e : ℕ) (g : Globals)
     → (withSets dir kind interval e g .stage ≡ g .stage) × (withSets dir kind interval e g .«ep0_max» ≡ g .«ep0_max»)
@@ -145,14 +127,7 @@ hand-settled (arrive e n) s = by (isSet (isoOuts (s .0 .globals)) (e % 16))
     by true = let k = recorded-settled (s .0) e (cappedAt (epOn (s .0) Out e) n) in record { control = k .control; stage = k .stage; most = k .most }
     by false = same (s .0)
 hand-settled (send e) s = either (hasWaiting (epOn (s .0) In e)) (s .0) (record { control = refl; stage = refl; most = refl }) (same (s .0))
-hand-settled (place Out e) s = by (isSet (isoOuts (s .0 .globals)) (e % 16))
-  where
-    by : (b : Bool) → Settled (s .0) (cond {A = ℕ × Driver} b (epOn (s .0) Out e .«armed_slot», s .0) (
-      epOn (s .0) Out e .base,
-      withOn (s .0) Out e (armedAt (epOn (s .0) Out e) (epOn (s .0) Out e .base)),
-    ) .1)
-    by true = same (s .0)
-    by false = record { control = refl; stage = refl; most = refl }
+hand-settled (place Out e) s = placed-by (Settled (s .0)) s e (same (s .0)) (record { control = refl; stage = refl; most = refl })
 hand-settled (place In e) s = same (s .0)
 hand-settled place0 s = same (s .0)
 

@@ -2,33 +2,33 @@
 use mathlib.Core.Bool.{Bool, true, false, _&&_, true≢false}
 use mathlib.Core.List.{List}
 use mathlib.Core.Path.{_≡_, refl, ap, subst, sym, _∙_}
-use Prim.Native.Nat.{ℕ, _*_}
+use Prim.Native.Nat.{ℕ}
 use borrow.Author.Tests.{eq-eqb}
 use Rattle.regs.specs.declared.Access.{Access}
 use Rattle.regs.specs.declared.Access.the-variants.{Read, Write, Receive, Transmit, Ep0Dma, Wait, Callback}
-use Rattle.regs.specs.declared.Reg.the-variants.{IntSt, EpConfig}
+use Rattle.regs.specs.declared.Reg.the-variants.{IntSt}
 use Rattle.state.specs.Driver.{Driver}
 use Rattle.model.specs.Tree as tree
 use Rattle.model.specs.Tree.{asks}
-use Rattle.model.specs.Every.{Where, sameReg}
+use Rattle.model.specs.Every.{sameReg}
 use Rattle.model.specs.Answers.{Answer}
-use Rattle.model.specs.Simulates.{Phase}
 use Rattle.model.specs.Calls.{calls}
 use Rattle.model.specs.Machine.{Ans, ended, awaited, Way, busy, Machine, halt}
 use Rattle.model_ops.specs.Rings.{St}
 use Rattle.machine.specs.Suspended.{driverOf}
 use Rattle.machine.specs.Goes.{Called}
-use Rattle.proof_wake_ups.specs.Rooms.{Few, Roomy, Rooms}
-use Rattle.proof_isolation.specs.EqualExcept.{Lawful, Channel}
+use Rattle.proof_wake_ups.specs.Rooms.{Few, Roomy}
+use Rattle.proof_isolation.specs.Likes.{and-false}
+use Rattle.proof_isolation.specs.EqualExcept.{Channel}
 use Rattle.proof_isolation.specs.Whose.{madeFor, ownWay}
-use Rattle.proof_isolation.specs.Apart.{next, Another, never, elsewhere, ownable, Its, status, receive, Past}
+use Rattle.proof_isolation.specs.Apart.{next, Another, never, elsewhere, ownable, Its, status, receive}
 use Rattle.proof_isolation.specs.Apart.{waits, Shared, Own, ApartBy, end, both, left, right, owns}
 use Rattle.proof_isolation.specs.Pairs.{apart-more, apart-flip}
 use Rattle.proof_isolation.specs.Answers as answer
 use Rattle.proof_isolation.specs.Answers.{SameAnswer}
 use Rattle.proof_isolation.specs.AnswersLaws.{answer-sym}
-use Rattle.call_bus_time.specs.Spares.{Spares, Sparing}
-use Rattle.proof_isolation.specs.Schedule.{Run, Two, accessOf, SameAns, same, ended-same, SameStand, SameOthers, Answers}
+use Rattle.call_bus_time.specs.Spares.{Sparing}
+use Rattle.proof_isolation.specs.Schedule.{Run, Two, accessOf, SameAns, same, ended-same, Answers}
 
 -- ---- machines
 
@@ -43,10 +43,6 @@ abbrev pub runOf : Bool → tree.Out St Answer → Access → Ans Answer → Lis
 runOf i o q a t = record { machine = stops i o .1; access = accessOf (stops i o .0) q; answer = a; time = t }
 
 -- ---- the test says whose access it is
-
-and-false : (b : Bool) → (b && false) ≡ false
-and-false true = refl
-and-false false = refl
 
 module _ {A : Type 0} where
   pub never-made : (x : ℕ) (q : Access) (o : tree.Out St A) → ownable x q ≡ false → madeFor x q o ≡ false

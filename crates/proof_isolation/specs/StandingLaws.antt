@@ -1,5 +1,5 @@
 -- Laws on the definitions of Standing.antt
-use mathlib.Core.Bool.{Bool, true, false, not, cond, _&&_, true≢false}
+use mathlib.Core.Bool.{Bool, true, false, not, cond, true≢false}
 use mathlib.Core.List.{List}
 use mathlib.Core.Path.{_≡_, refl, ap, sym, _∙_}
 use Prim.Native.Nat.{ℕ, _*_}
@@ -7,27 +7,25 @@ use lib.ListN.{length}
 use borrow.Author.Tests.{eq-eqb}
 use Rattle.regs.specs.declared.Access.{Access}
 use Rattle.regs.specs.declared.Access.the-variants.{Read, Write, Receive, Transmit, Ep0Dma, Wait, Callback}
-use Rattle.regs.specs.declared.Reg.the-variants.{IntSt, EpConfig}
+use Rattle.regs.specs.declared.Reg.the-variants.{EpConfig}
 use Rattle.state.specs.Driver.{Driver}
 use Rattle.model.specs.Tree as tree
 use Rattle.model.specs.Every.{at-end, at-ask, Where, sameReg}
 use Rattle.model.specs.Answers.{Answer}
 use Rattle.model.specs.Simulates.{Phase}
 use Rattle.model.specs.Calls.{calls}
-use Rattle.model.specs.Machine.{Ans, Way, Machine, misfit}
+use Rattle.model.specs.Machine.{Ans, misfit}
 use Rattle.model_ops.specs.Rings.{St}
 use Rattle.machine.specs.Suspended.{driverOf}
-use Rattle.machine.specs.Goes.{Called}
 use Rattle.call_bus_time.specs.Sharing.{going, written, timeAfter}
-use Rattle.proof_wake_ups.specs.Rooms.{Few, Roomy, Rooms}
+use Rattle.proof_wake_ups.specs.Rooms.{Few, Rooms}
 use Rattle.proof_wake_ups.specs.RoomsLaws.{short}
 use Rattle.proof_isolation.specs.EqualExcept.{Lawful, Channel}
-use Rattle.proof_isolation.specs.Apart.{Another, Its, status, Past, gone, waits, Shared, Own, ApartBy, end, both, left, right, owns}
-use Rattle.proof_isolation.specs.Answers as answer
+use Rattle.proof_isolation.specs.Apart.{status, Past, gone, waits, ApartBy, end, both, left, right, owns}
 use Rattle.proof_isolation.specs.Answers.{SameAnswer}
 use Rattle.call_bus_time.specs.Spares.{Spares, Sparing}
 use Rattle.proof_isolation.specs.Others.{same-others}
-use Rattle.proof_isolation.specs.Schedule.{Run, Two, atOwn, SameAns, same, SameStand, SameOthers, Answers, alike, own-first}
+use Rattle.proof_isolation.specs.Schedule.{Two, atOwn, SameAns, same, SameStand, SameOthers, Answers, alike, own-first}
 use Rattle.proof_isolation.specs.Schedule.{own-second}
 use Rattle.proof_isolation.specs.Standing.{stops, runOf, own-yes, own-no, same-ans, telling, flips, told-flips, At, at, Both}
 

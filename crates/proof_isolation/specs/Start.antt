@@ -138,18 +138,21 @@ freshBook k b a = started calls (book .driver) (fed book a) k zero (record { way
 
 -- after a start-up that rows 1 and 2 do not stop, and a list of calls under demand 3's premise
 module _ (share : Bool) (n : ℕ) (k : Config) (b : Buf) (row : startRow k b ≡ zero) where
+  abbrev new : Machine Answer Driver
+  new = record { way = idle; st = driverOf .fresh k; buf = b }
+
   -- what was before is gone
   abbrev pub anew : List ℕ → Run
-  anew t = let x = started calls driverOf (λ s. s) k zero (record { way = idle; st = driverOf .fresh k; buf = b }) b in
+  anew t = let x = started calls driverOf (λ s. s) k zero new b in
       runBy (Wait 0) (x, timeAfter n starting (x .0) (driverOf .fresh k) t)
 
   pub starts : (r : Run) → called share n (start k) b r ≡ anew (r .time)
   starts r = rw row refl
 
   anew-rooms : (t : List ℕ) → Roomed (anew t)
-  anew-rooms t = let x : Rooms (started calls driverOf (λ s. s) k zero (record { way = idle; st = driverOf .fresh k; buf = b }) b) =
-      subst (λ i. Rooms (started calls driverOf (λ s. s) k i (record { way = idle; st = driverOf .fresh k; buf = b }) b)) row
-      (start-rooms k b row (record { way = idle; st = driverOf .fresh k; buf = b })) in
+  anew-rooms t = let x : Rooms (started calls driverOf (λ s. s) k zero new b) =
+      subst (λ i. Rooms (started calls driverOf (λ s. s) k i new b)) row
+      (start-rooms k b row new) in
       record { few = x .answer; machine = x .machine }
 
   abbrev Claim : List Early → Run → Type 0
@@ -164,29 +167,22 @@ module _ (share : Bool) (n : ℕ) (k : Config) (b : Buf) (row : startRow k b ≡
     abbrev heard : List (Event Config Op)
     heard = heeded share n es (anew t)
 
+    -- what holds after the start-up and the list that was heeded
+    met-by : (P : Driver → Type 0) → P (after calls driverOf heard (started calls driverOf (λ s. s) k (startRow k b) new b .1) .st) → P (met .machine .st)
+    met-by P h = subst (λ (m : Machine Answer Driver). P (m .st)) (sym (heeds share n es (anew t)))
+        (subst (λ i. P (after calls driverOf heard (started calls driverOf (λ s. s) k i new b .1) .st)) row h)
+
     met-sorting : Sorting (met .machine .st)
-    met-sorting = subst (λ (m : Machine Answer Driver). Sorting (m .st)) (sym (heeds share n es (anew t)))
-        (subst (λ i. Sorting (after calls driverOf heard (started calls driverOf (λ s. s) k i (record {
-          way = idle;
-          st = driverOf .fresh k;
-          buf = b;
-        }) b .1) .st)) row
-        (after-sorting k b row heard (record { way = idle; st = driverOf .fresh k; buf = b })))
+    met-sorting = met-by Sorting (after-sorting k b row heard new)
 
     met-bounded : Bounded (met .machine .st)
-    met-bounded = subst (λ (m : Machine Answer Driver). Bounded (m .st)) (sym (heeds share n es (anew t)))
-        (subst (λ i. Bounded (after calls driverOf heard (started calls driverOf (λ s. s) k i (record {
-          way = idle;
-          st = driverOf .fresh k;
-          buf = b;
-        }) b .1) .st)) row
-        (after-bounded k b row heard (record { way = idle; st = driverOf .fresh k; buf = b })))
+    met-bounded = met-by Bounded (after-bounded k b row heard new)
 
     stands-met : Premise heard (anew t .machine) (freshBook k b (anew t .answer))
         → met .machine .way ≡ idle → met .machine .st .globals .stage ≡ 2 → (c : Channel)
         → c .iso ≡ sortsOf (met .machine .st) → At c (record { first = met; second = met; status = 0 })
     stands-met l e g c f =
-        let a = from-start driverOf book agree calls fresh-kept k b row [] (record { way = idle; st = driverOf .fresh k; buf = b })
+        let a = from-start driverOf book agree calls fresh-kept k b row [] new
         (record { way = idle; st = book .driver .fresh k; buf = b }) tt .0 in
         let z : Stood (met .machine) = subst Stood (sym (heeds share n es (anew t))) (stood heard _ _ (a .ways) (a .rest) l) in
         stands-idle c met (record {

@@ -1,21 +1,17 @@
 -- The slot buffer that a call is lent: the one that the last call left, but for the chip's stores
 use mathlib.Core.Bool.{true}
-use mathlib.Core.Logic.{_⊎_, ⊎-elim}
-use mathlib.Core.Path.{_≡_, _∙_}
+use mathlib.Core.Logic.{_⊎_}
+use mathlib.Core.Path.{_≡_}
 use Prim.Native.Nat.{ℕ, _+_, _%_, _≤_, _<_}
 use lib.ListN.{length, getD}
 use Rattle.bits.specs.Bit.{isSet}
 use Rattle.regs.specs.declared.Dir.the-variants.{Out}
-use Rattle.state.specs.declared.Allocator.{Allocator}
-use Rattle.state.specs.declared.Globals.{Globals}
 use Rattle.state.specs.Driver.{Driver, epOn}
 use Rattle.alloc.specs.Alloc.{allocatedIn}
-use Rattle.model.specs.Simulates.{Phase}
 use Rattle.model.specs.Machine.{Buf}
 use Rattle.model_ops.specs.Rings.{St}
-use Rattle.proof_book.specs.Pages.{Pages}
-use Rattle.proof_book.specs.Coupling.{endOf, Coupling, Chip}
-use Rattle.proof_isolation.specs.EqualExcept.{Lawful, Channel, LowEquiv, Touched}
+use Rattle.proof_book.specs.Coupling.{endOf}
+use Rattle.proof_isolation.specs.EqualExcept.{Channel}
 
 -- demand 3's premise, by the driver: byte k lies outside of the armed slot of every OUT endpoint of this run, and outside of EP0's buffer
 pub record Away (d : Driver) (k : ℕ) : Type 0 where

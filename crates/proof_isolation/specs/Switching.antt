@@ -14,7 +14,7 @@ use Rattle.state.specs.declared.Globals.{Globals}
 use Rattle.state.specs.Ep.{resetOf}
 use Rattle.state.specs.Fresh.{clearStamps}
 use Rattle.state.specs.Kept.{withEpConfig, withEpType}
-use Rattle.state.specs.Driver.{Driver, key, epOn, withOn, lenOn, stampOn, requestOn}
+use Rattle.state.specs.Driver.{Driver, key, epOn, withOn, stampOn, requestOn}
 use Rattle.state.specs.Laws.{Sized}
 use Rattle.marks.specs.Marks.{armed}
 use Rattle.marks.specs.Only.{Only}
@@ -38,7 +38,8 @@ use Rattle.proof_book.specs.ResetsLaws.{reset-place}
 use Rattle.proof_isolation.specs.EqualExcept.{Stays, EqualExcept, Channel, LowEquiv}
 use Rattle.proof_isolation.specs.Apart.{Pair}
 use Rattle.proof_isolation.specs.Pairs.{Any, Steps, p-then, p-test, p-row}
-use Rattle.proof_isolation.specs.Buts.{stays-any, but-globals, but-on, changed-seat, like-made, lawful-first, lawful-next, row-over}
+use Rattle.proof_isolation.specs.Buts.{stays-any, but-parts, but-globals, but-on, changed-seat, like-made, lawful-first}
+use Rattle.proof_isolation.specs.Buts.{lawful-next, row-over}
 use Rattle.proof_isolation.specs.Bytes.{armed-like, only-like}
 use Rattle.proof_isolation.specs.Values.{p-wake, p-plain-any}
 use Rattle.proof_isolation.specs.Polling.{reset-stays}
@@ -55,19 +56,8 @@ module _ {x : ℕ} {d d′ : Driver} (z : Sized d) (z′ : Sized d′) (h : Equa
   ]
 
   clear-but : EqualExcept x (clearStamps d e) (clearStamps d′ e)
-  unfolding clearStamps epOn lenOn requestOn
-  clear-but = record {
-    globals = h .globals;
-    allocator = h .allocator;
-    control = h .control;
-    paced = h .paced;
-    wakes = h .wakes;
-    requests = h .requests;
-    eps = h .eps;
-    lens = h .lens;
-    stamps = clear-stamps;
-    own = h .own;
-  }
+  unfolding clearStamps requestOn
+  clear-but = but-parts h (h .globals) (h .control) (h .paced) (h .wakes) (h .requests) clear-stamps
 
   renewed-but : EqualExcept x (renewedOn d e) (renewedOn d′ e)
   unfolding renewedOn

@@ -17,6 +17,7 @@ use Rattle.machine.specs.Suspended.{driverOf, drive}
 use Rattle.machine.specs.Goes.{Called}
 use Rattle.req_bus_time.specs.Time.{chargeOf, entryOf, passes}
 use Rattle.call_bus_time.specs.Sharing.{Sort, enabling, starting, going, apart, chargeOn, isHanded, sortOf, timeAfter, turnedDown, settled, sharedCall}
+use Rattle.proof_isolation.specs.Likes.{and-false}
 use Rattle.proof_isolation.specs.EqualExcept.{Channel, LowEquiv}
 use Rattle.proof_isolation.specs.Buts.{stays-any}
 use Rattle.proof_isolation.specs.Schedule.{shared}
@@ -49,10 +50,6 @@ module _ (i : ℕ) {c : Channel} {φ : Phase} {s t : St} (l : LowEquiv c φ s t)
 and-true : (b : Bool) → (b && true) ≡ b
 and-true true = refl
 and-true false = refl
-
-and-false : (b : Bool) → (b && false) ≡ false
-and-false true = refl
-and-false false = refl
 
 module _ (n : ℕ) (d : Call Config Op) (m : Machine Answer Driver) (t : List ℕ) (b : Buf) where
   -- of a driver that shares the bus time they are those of request Seven

@@ -1,7 +1,7 @@
 -- "One channel's data can't disturb another" (request Fourteen), over two lists of calls
 use mathlib.Core.Bool.{Bool}
 use mathlib.Core.List.{List, [], _∷_}
-use mathlib.Core.Path.{_≡_, ap, _∙_}
+use mathlib.Core.Path.{_≡_, ap}
 use Prim.Native.Nat.{ℕ, zero}
 use Rattle.model.specs.Calls.{Config, Op, startRow}
 use Rattle.model.specs.Machine.{Buf, start, Event, idle}
@@ -9,7 +9,8 @@ use Rattle.proof_book.specs.MachineRuns.{Premise}
 use Rattle.proof_book.specs.Sorting.{sortsOf}
 use Rattle.proof_isolation.specs.EqualExcept.{Channel}
 use Rattle.proof_isolation.specs.Schedule.{Run, Two, Early, Turn, begins, goes, asked, stores, others-time, first}
-use Rattle.proof_isolation.specs.Schedule.{second, turn, called, given, heeded, after, May, After, Allowed, Every}
+use Rattle.proof_isolation.specs.Schedule.{second, turn, called, given, heeded, after, May, After, Answered, Allowed}
+use Rattle.proof_isolation.specs.Schedule.{Every}
 use Rattle.proof_isolation.specs.Standing.{At, at}
 use Rattle.proof_isolation.specs.StandingLaws.{at-stands, at-lined, at-alike, at-time, at-swap}
 use Rattle.proof_isolation.specs.Runs.{goes-by, begins-by, asked-by, stores-by}
@@ -65,57 +66,23 @@ module _ (c : Channel) (share : Bool) (n : ℕ) where
   first-stands : {w : Two} → At c w → (d : Event Config Op) → May c (first d) w → At c (turn share n (first d) w)
   first-stands (at st i l q q′ h k k′ e) d m = alone-by c share n st i l q q′ h k k′ e (d .call) (d .lent) m
 
+  stepped : (t : Turn) {w : Two} → At c w → Answered c t w → Steps t w
+  stepped t y a = record {
+    stand = y;
+    after-it = record { answers = a; stands = at-stands y; lined = at-lined y; alike = at-alike y; time = at-time y };
+  }
+
   pub step : (t : Turn) {w : Two} → At c w → May c t w → Steps t (turn share n t w)
-  step (begins v o b b′) (at st i l q q′ h k k′ e) m =
-      let y = begins-by c share n st i l q q′ k k′ e v o b b′ m in
-      record {
-        stand = y .stand;
-        after-it = record {
-          answers = y .answers;
-          stands = at-stands (y .stand);
-          lined = at-lined (y .stand);
-          alike = at-alike (y .stand);
-          time = at-time (y .stand);
-        };
-      }
-  step (goes v v′ b b′) (at st i l q q′ h k k′ e) m =
-      let y = goes-by c share n st i l q q′ k k′ e v v′ b b′ m in
-      record {
-        stand = y .stand;
-        after-it = record {
-          answers = y .answers;
-          stands = at-stands (y .stand);
-          lined = at-lined (y .stand);
-          alike = at-alike (y .stand);
-          time = at-time (y .stand);
-        };
-      }
-  step (asked v b b′) (at st i l q q′ h k k′ e) m =
-      let y = asked-by c share n st i l q q′ k k′ e v b b′ m in
-      record {
-        stand = y .stand;
-        after-it = record {
-          answers = y .answers;
-          stands = at-stands (y .stand);
-          lined = at-lined (y .stand);
-          alike = at-alike (y .stand);
-          time = at-time (y .stand);
-        };
-      }
-  step (stores b b′) (at st i l q q′ h k k′ e) m =
-      let y = stores-by c share n st i l q q′ h k k′ e b b′ m in
-      record { stand = y; after-it = record { answers = tt; stands = at-stands y; lined = at-lined y; alike = at-alike y; time = at-time y } }
-  step (others-time f) (at st i l q q′ h k k′ e) m =
-      let y = at st i l q q′ h k k′ (ap f e) in
-      record { stand = y; after-it = record { answers = tt; stands = at-stands y; lined = at-lined y; alike = at-alike y; time = at-time y } }
-  step (first d) a m = let y = first-stands a d m in record {
-    stand = y;
-    after-it = record { answers = tt; stands = at-stands y; lined = at-lined y; alike = at-alike y; time = at-time y };
-  }
-  step (second d) a m = let y = at-swap (first-stands (at-swap a) d m) in record {
-    stand = y;
-    after-it = record { answers = tt; stands = at-stands y; lined = at-lined y; alike = at-alike y; time = at-time y };
-  }
+  step (begins v o b b′) (at st i l q q′ h k k′ e) m = let y = begins-by c share n st i l q q′ k k′ e v o b b′ m in
+      stepped (begins v o b b′) (y .stand) (y .answers)
+  step (goes v v′ b b′) (at st i l q q′ h k k′ e) m = let y = goes-by c share n st i l q q′ k k′ e v v′ b b′ m in
+      stepped (goes v v′ b b′) (y .stand) (y .answers)
+  step (asked v b b′) (at st i l q q′ h k k′ e) m = let y = asked-by c share n st i l q q′ k k′ e v b b′ m in
+      stepped (asked v b b′) (y .stand) (y .answers)
+  step (stores b b′) (at st i l q q′ h k k′ e) m = stepped (stores b b′) (stores-by c share n st i l q q′ h k k′ e b b′ m) tt
+  step (others-time f) (at st i l q q′ h k k′ e) m = stepped (others-time f) (at st i l q q′ h k k′ (ap f e)) tt
+  step (first d) a m = stepped (first d) (first-stands a d m) tt
+  step (second d) a m = stepped (second d) (at-swap (first-stands (at-swap a) d m)) tt
 
   -- every list of turns, from where they line up
   pub always : (ts : List Turn) {w : Two} → At c w → Allowed c share n ts w → Every c share n ts w

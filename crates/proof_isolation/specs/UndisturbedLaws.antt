@@ -3,11 +3,7 @@ use mathlib.Core.Bool.{Bool}
 use mathlib.Core.List.{List, [], _∷_}
 use mathlib.Core.Path.{_≡_, ap, subst, sym, _∙_}
 use Prim.Native.Nat.{ℕ}
-use Rattle.model.specs.Calls.{Config, Op}
-use Rattle.model.specs.Machine.{Buf, Event}
-use Rattle.proof_book.specs.MachineRuns.{Premise}
-use Rattle.proof_isolation.specs.EqualExcept.{Channel}
-use Rattle.proof_isolation.specs.Schedule.{Run, Two, Early, Turn, first, second, given, May, After, Allowed, Every}
+use Rattle.proof_isolation.specs.Schedule.{Run, Two, first, second, given}
 use Rattle.proof_isolation.specs.Standing.{At}
 use Rattle.proof_isolation.specs.StandingLaws.{at-time}
 use Rattle.proof_isolation.specs.Start.{anew, starts, one-so-far}

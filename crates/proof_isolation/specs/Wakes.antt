@@ -2,15 +2,15 @@
 use mathlib.Core.Bool.{Bool, true, false, cond}
 use mathlib.Core.List.{List, [], _∷_, _++_, append-nil}
 use mathlib.Core.Path.{_≡_, refl, ap, sym, _∙_}
-use Prim.Native.Nat.{ℕ, _+_, _≤_, _<_}
+use Prim.Native.Nat.{ℕ, _<_}
 use native.Mathlib.Omega.{arith}
 use native.Mathlib.Decide.{decLt}
 use borrow.Author.Tests.{eq-eqb}
 use lib.Dec.{eqb}
 use lib.ListN.{length}
-use Rattle.regs.specs.declared.Dir.the-variants.{Out, In}
+use Rattle.regs.specs.declared.Dir.the-variants.{Out}
 use Rattle.state.specs.Wakes.{Wakes, wakeCode, unwoken, listed, woken, all-woken}
-use Rattle.state.specs.WakesLaws.{Room, unwoken-room, unwoken-listed, woken-full, woken-count, woken-keeps, woken-listed, listed-count}
+use Rattle.state.specs.WakesLaws.{Room, unwoken-room, unwoken-listed, woken-full, woken-keeps, woken-listed, listed-count}
 use Rattle.proof_isolation.specs.EqualExcept.{without, others, OtherWakes}
 
 without-append : (o : ℕ) (l m : List ℕ) → without o (l ++ m) ≡ without o l ++ without o m

@@ -16,7 +16,7 @@ use Rattle.model.specs.Statics.{isOn}
 use Rattle.model.specs.Answers.{Answer, Refused, Shown, ok, isAllocated}
 use Rattle.model.specs.Simulates.{quiet}
 use Rattle.model.specs.Calls.{calls, Open, Close, asideCode}
-use Rattle.model.specs.Machine.{pending, Ans, ended, handed, told, awaited, Way, idle, busy, beside}
+use Rattle.model.specs.Machine.{pending, Ans, ended, handed, told, awaited, busy, beside}
 use Rattle.model_ops.specs.Rings.{St, waitingOn, openedOn, oldestOn, nextStamp}
 use Rattle.model_ops.specs.Concrete.{concrete}
 use Rattle.machine.specs.Suspended.{driverOf, drive}
@@ -30,9 +30,8 @@ use Rattle.proof_isolation.specs.Schedule.{Run, runBy, wide, atOwn}
 use Rattle.proof_isolation.specs.Standing.{machineOf, stops, runOf, never-made}
 use Rattle.proof_isolation.specs.Runs.{go-busy, aside-busy}
 use Rattle.proof_isolation_late.specs.Late.{Light, opens, closes, asks-of, callOf, Item, gets, goes-own, lightsOf, lit, gone, lits}
-use Rattle.proof_isolation_late.specs.Late.{items, litAnswers, itemAnswers, Other, AtOwn}
+use Rattle.proof_isolation_late.specs.Late.{litAnswers, itemAnswers, Other, AtOwn}
 use Rattle.proof_isolation_late.specs.Lights.{done-by, Seen, seen}
-use Rattle.proof_isolation_late.specs.LightsLaws.{Shows}
 use Rattle.proof_isolation_late.specs.LightsLaws.{open-is, close-is, oldest-opening, stamp-opening}
 use Rattle.proof_isolation_late.specs.Slides.{Slid, slid-end, slid-ask, slid-lost, Free, FreeWay, halt-free}
 

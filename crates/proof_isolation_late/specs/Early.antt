@@ -13,26 +13,17 @@ use Rattle.machine.specs.Suspended.{driverOf, drive}
 use Rattle.proof_isolation.specs.Standing.{machineOf}
 
 module _ (s : St) (h : eqb (s .0 .globals .stage) 2 ≡ false) where
+  -- row 1 of an open, or the call
+  by-row : (w : Way Answer Driver) (e : ℕ) → begun calls driverOf (λ s. s) (aside (Open e)) (machineOf w s) w (s .1) .1 ≡ machineOf w s → (b : Bool)
+      → cond b (stay calls driverOf 1 (machineOf w s)) (begun calls driverOf (λ s. s) (aside (Open e)) (machineOf w s) w (s .1)) .1 ≡ machineOf w s
+  by-row w e x true = refl
+  by-row w e x false = x
+
   -- lent the slot buffer as it was left
   pub open-early : (w : Way Answer Driver) (e : ℕ) → drive (begin (aside (Open e))) (machineOf w s) (s .1) .1 ≡ machineOf w s
-  open-early idle e = by (misfit calls driverOf (s .0) (s .1))
-    where
-      by : (b : Bool) → cond b (stay calls driverOf 1 (machineOf idle s))
-          (begun calls driverOf (λ s. s) (aside (Open e)) (machineOf idle s) idle (s .1)) .1 ≡ machineOf idle s
-      by true = refl
-      by false = rw h refl
-  open-early (busy true a k) e = by (misfit calls driverOf (s .0) (s .1))
-    where
-      by : (b : Bool) → cond b (stay calls driverOf 1 (machineOf (busy true a k) s))
-          (begun calls driverOf (λ s. s) (aside (Open e)) (machineOf (busy true a k) s) (busy true a k) (s .1)) .1 ≡ machineOf (busy true a k) s
-      by true = refl
-      by false = rw h refl
-  open-early (busy false a k) e = by (misfit calls driverOf (s .0) (s .1))
-    where
-      by : (b : Bool) → cond b (stay calls driverOf 1 (machineOf (busy false a k) s))
-          (begun calls driverOf (λ s. s) (aside (Open e)) (machineOf (busy false a k) s) (busy false a k) (s .1)) .1 ≡ machineOf (busy false a k) s
-      by true = refl
-      by false = refl
+  open-early idle e = by-row idle e (rw h refl) (misfit calls driverOf (s .0) (s .1))
+  open-early (busy true a k) e = by-row (busy true a k) e (rw h refl) (misfit calls driverOf (s .0) (s .1))
+  open-early (busy false a k) e = by-row (busy false a k) e refl (misfit calls driverOf (s .0) (s .1))
 
   pub close-early : (w : Way Answer Driver) (e : ℕ) → drive (begin (aside (Close e))) (machineOf w s) (s .1) .1 ≡ machineOf w s
   close-early idle e = rw h refl

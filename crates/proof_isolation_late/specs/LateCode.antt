@@ -7,14 +7,13 @@ use Prim.Native.Nat.{ℕ}
 use Rattle.model.specs.Answers.{Answer}
 use Rattle.model.specs.Machine.{go, Ans}
 use Rattle.proof_isolation.specs.EqualExcept.{Channel}
-use Rattle.proof_isolation.specs.Schedule.{Run, Two, turn}
 use Rattle.proof_isolation.specs.Standing.{At}
 use Rattle.proof_isolation.specs.StandingLaws.{at-time}
 use Rattle.proof_isolation.specs.Code.{Left, Held, Pair, runOf, twoOf, CallStep, heard, Step, next, Made, sessionOf, openedBy, afterSteps, DidStep, DidSteps}
 use Rattle.proof_isolation.specs.Code.{EveryStep, Begun}
 use Rattle.proof_isolation.specs.Code.{heard-is, next-by, code-every, opened-is, begun-at}
 use Rattle.proof_isolation_late.specs.Late as late
-use Rattle.proof_isolation_late.specs.Late.{Light, callOf, Item, gets, goes-own, lightsOf, Later, lit, gone, lits, items, litAnswers}
+use Rattle.proof_isolation_late.specs.Late.{callOf, Item, gets, goes-own, lightsOf, Later, gone, lits, items, litAnswers}
 use Rattle.proof_isolation_late.specs.Late.{itemAnswers, later, MayLate, AllSame, AfterLate}
 use Rattle.proof_isolation_late.specs.LateRuns.{FreeBoth, turn-free, later-free, opened-free, late-step}
 

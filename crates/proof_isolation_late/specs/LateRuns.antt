@@ -1,17 +1,16 @@
 -- "One channel's data can't disturb another" (request Fourteen), where some of the others' calls fall late in one run
 use mathlib.Core.Bool.{Bool, true, false, cond, _&&_, true≢false}
 use mathlib.Core.List.{List, [], _∷_}
-use mathlib.Core.Path.{_≡_, refl, ap, subst, sym, _∙_}
+use mathlib.Core.Path.{_≡_, subst, sym, _∙_}
 use Prim.Native.Nat.{ℕ, zero}
 use Rattle.regs.specs.declared.Access.{Access}
-use Rattle.state.specs.Driver.{Driver}
 use Rattle.model.specs.Tree as tree
 use Rattle.model.specs.Tree.{ends, asks}
 use Rattle.model.specs.Script.{run}
 use Rattle.model.specs.Answers.{Answer, Refused}
-use Rattle.model.specs.Simulates.{quiet, mid, Fits}
+use Rattle.model.specs.Simulates.{quiet, mid}
 use Rattle.model.specs.Calls.{Config, Op, calls, startRow, Open, Close, asideCode}
-use Rattle.model.specs.Machine.{Buf, Call, start, begin, go, question, Event, Ans, ended, told, awaited, Way, busy, Machine, lentTo}
+use Rattle.model.specs.Machine.{Buf, Call, start, begin, go, question, Ans, ended, told, awaited, busy, lentTo}
 use Rattle.model_ops.specs.Rings.{St}
 use Rattle.model_ops.specs.Concrete.{concrete}
 use Rattle.machine.specs.Suspended.{driverOf, drive}
@@ -20,7 +19,6 @@ use Rattle.call_bus_time.specs.Sharing.{sortOf, timeAfter, turnedDown}
 use Rattle.proof_wake_ups.specs.Rooms.{Few, Roomy, Rooms}
 use Rattle.proof_wake_ups.specs.RoomsLaws.{rooms}
 use Rattle.proof_isolation.specs.EqualExcept.{Channel, LowEquiv}
-use Rattle.proof_isolation.specs.Whose.{ownWay}
 use Rattle.proof_isolation.specs.Apart.{Brings, gone, waits, Shared, ApartBy, end, both, left, right, owns}
 use Rattle.proof_isolation.specs.Answers.{SameAnswer}
 use Rattle.proof_isolation.specs.Pairs.{brings-sym}
@@ -28,24 +26,24 @@ use Rattle.proof_isolation.specs.Asides.{p-aside}
 use Rattle.proof_isolation.specs.StoresLaws.{lent-back, own-lent-back}
 use Rattle.proof_isolation.specs.Others.{same-answers}
 use Rattle.proof_isolation.specs.Schedule.{Run, Two, Turn, begins, goes, asked, stores, others-time, first, second, Early, gets, shares}
-use Rattle.proof_isolation.specs.Schedule.{called, alone, turn, given, after, sharing, wide, atOwn, go-on, own-lent, SameAns, same, After, Allowed}
-use Rattle.proof_isolation.specs.Standing.{machineOf, stops, runOf, own-yes, own-no, same-ans, ans-sym, Told, Keeps, At, at}
-use Rattle.proof_isolation.specs.StandingLaws.{past-no, swap}
+use Rattle.proof_isolation.specs.Schedule.{called, alone, turn, given, after, sharing, wide, atOwn, go-on, own-lent, SameAns, same, After}
+use Rattle.proof_isolation.specs.Standing.{machineOf, runOf, own-yes, own-no, same-ans, ans-sym, Keeps, At, at}
+use Rattle.proof_isolation.specs.StandingLaws.{past-no}
 use Rattle.proof_isolation.specs.StandingLaws.{at-stands, at-lined, at-alike, at-time, at-swap}
 use Rattle.proof_isolation.specs.Runs.{goes-by, spares-put}
-use Rattle.proof_isolation.specs.Start.{anew, starts}
+use Rattle.proof_isolation.specs.Start.{starts}
 use Rattle.proof_isolation.specs.Undisturbed.{Session, started-up, opened, step, always, stands-after}
 use Rattle.proof_isolation.specs.UndisturbedLaws.{opened-at}
 use Rattle.proof_isolation_late.specs.Late as late
 use Rattle.proof_isolation_late.specs.Late.{Light, opens, closes, asks-of, callOf, Item, goes-own, lightsOf, Later, timely, first-late, second-late}
-use Rattle.proof_isolation_late.specs.Late.{lit, lits, items, litAnswers, itemAnswers, later, afterAll, Serving, Other, Continues, AtOwn, MayLate}
+use Rattle.proof_isolation_late.specs.Late.{lit, lits, items, litAnswers, later, afterAll, Other, Continues, AtOwn, MayLate}
 use Rattle.proof_isolation_late.specs.Late.{AllowedLate}
-use Rattle.proof_isolation_late.specs.Late.{AllSame, none, more, Heard, AfterLate, EveryLate, LateSession, openedLate, AllOpenLate, UndisturbedLate}
+use Rattle.proof_isolation_late.specs.Late.{AllSame, none, more, Heard, AfterLate, EveryLate, LateSession, AllOpenLate, UndisturbedLate}
 use Rattle.proof_isolation_late.specs.Lights.{seen}
 use Rattle.proof_isolation_late.specs.Slides.{FreeWay, halt-late, drive-free}
 use Rattle.proof_isolation_late.specs.Crossing.{openAnswer, closeAnswer, answered, done-at, open-run, close-run, answering, mute}
 use Rattle.proof_isolation_late.specs.Crossing.{light-drive, lit-is, Busy, busy-at, OwnSome, own-some, lit-busy, lit-wide, lit-some}
-use Rattle.proof_isolation_late.specs.Crossing.{Crosses, crosses, gone-busy, Others, lits-cross, through-own, through-others, through-cross, item-answers}
+use Rattle.proof_isolation_late.specs.Crossing.{crosses, gone-busy, Others, lits-cross, through-others, through-cross, item-answers}
 
 -- ---- a call of the others in both, at one access
 

@@ -2,30 +2,17 @@
 -- but for another endpoint's arrival or completion
 use mathlib.Core.Bool.{Bool, false, cond}
 use mathlib.Core.List.{List, []}
-use mathlib.Core.Logic.{_≢_, ⊎-elim}
-use mathlib.Core.Path.{_≡_, _∙_}
-use Prim.Native.Nat.{ℕ, _+_, _%_, _≤_}
-use native.Mathlib.Decide.{ℕ-discrete}
-use Rattle.regs.specs.declared.Dir.{Dir}
-use Rattle.regs.specs.declared.Dir.the-variants.{Out, In}
-use Rattle.regs.specs.Enables as enables
+use Prim.Native.Nat.{ℕ}
+use Rattle.regs.specs.declared.Dir.the-variants.{Out}
 use Rattle.state.specs.declared.EpState.{EpState}
 use Rattle.state.specs.declared.Allocator.{Allocator}
-use Rattle.state.specs.declared.Globals.{Globals}
-use Rattle.state.specs.Wakes.{Wakes}
 use Rattle.state.specs.Driver.{Driver, epOn, withOn}
-use Rattle.state.specs.Laws.{Sized}
-use Rattle.marks.specs.Only.{Same}
 use Rattle.ring.specs.Slot.{hasWaiting}
 use Rattle.ring.specs.Out.{openedOf, closedOf}
-use Rattle.model.specs.Cells.{Cell, Val, EpCore}
 use Rattle.model.specs.Statics.{isOn}
-use Rattle.model.specs.Machine.{Question}
 use Rattle.machine.specs.Questions.{questionOf}
 use Rattle.model_ops.specs.Rings.{St, waitingOn, openedOn, nextStamp, oldestOn}
-use Rattle.proof_isolation.specs.EqualExcept.{ButBy, Lawful, Channel, Touched}
-use Rattle.proof_isolation_late.specs.Late.{Light, opens, closes, asks-of, Other}
-use Rattle.proof_isolation.specs.Schedule.{Asked}
+use Rattle.proof_isolation_late.specs.Late.{Light, opens, closes, asks-of}
 
 -- ---- what it does to the state
 

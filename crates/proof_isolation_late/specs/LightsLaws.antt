@@ -3,7 +3,7 @@ use mathlib.Core.Bool.{Bool, true, false, not, cond}
 use mathlib.Core.List.{List, []}
 use mathlib.Core.Logic.{_≢_, inl, inr, ⊎-elim}
 use mathlib.Core.Path.{_≡_, refl, ap, sym, _∙_}
-use Prim.Native.Nat.{ℕ, _+_, _%_, _≤_}
+use Prim.Native.Nat.{ℕ, _%_, _≤_}
 use native.Mathlib.Omega.{arith}
 use native.Mathlib.Decide.{ℕ-discrete}
 use lib.ListN.{getD, set}
@@ -13,7 +13,6 @@ use Rattle.regs.specs.declared.Dir.{Dir}
 use Rattle.regs.specs.declared.Dir.the-variants.{Out, In}
 use Rattle.regs.specs.Enables as enables
 use Rattle.state.specs.declared.EpState.{EpState}
-use Rattle.state.specs.declared.Allocator.{Allocator}
 use Rattle.state.specs.declared.Globals.{Globals}
 use Rattle.state.specs.Wakes.{Wakes}
 use Rattle.state.specs.Driver.{Driver, key, lenKey, withEps, epOn, withOn, lenOn, withLenOn, stampOn, stampKey, withStampOn, pacedOn, requestOn}
@@ -24,7 +23,6 @@ use Rattle.marks.specs.Marks.{armed, isMarked, markedLen}
 use Rattle.marks.specs.Only.{Same}
 use Rattle.marks.specs.OnlyLaws.{only-apart}
 use Rattle.ring.specs.Slot.{slotOf, slotAddr, countOf, hasWaiting, passedOf}
-use Rattle.ring.specs.Slots.{slot-from, slot-upto}
 use Rattle.ring.specs.Out.{hasRoomOut, cappedAt, arrivedOf, armedAt, openedOf, closedOf}
 use Rattle.model.specs.Cells.{Cell, Val, EpCore, globals-cell, control-cell, allocator-cell, ep-cell, request-cell, paced-cell}
 use Rattle.model.specs.Script.{changed, marked, setup-word, arrive}
@@ -39,12 +37,11 @@ use Rattle.model_ops.specs.Rings.{writtenOn, recordedOn, admittedOn, armAt, arm
 use Rattle.model_ops.specs.Concrete.{getOn, putOn, isOf, lookOf, handOn}
 use Rattle.proof_book.specs.Coupling.{endOf}
 use Rattle.proof_book.specs.LensLaws.{key-ep}
-use Rattle.proof_isolation.specs.EqualExcept.{ButBy, Lawful, Channel, Touched}
+use Rattle.proof_isolation.specs.EqualExcept.{Lawful, Channel, Touched}
 use Rattle.proof_isolation_late.specs.Late.{Light, opens, closes, asks-of, Other}
 use Rattle.proof_isolation.specs.Schedule.{Asked}
-use Rattle.proof_isolation.specs.InRings.{next-same}
 use Rattle.proof_isolation.specs.OwnSteps.{own-arrives}
-use Rattle.proof_isolation.specs.Asides.{bytes-same, next-capped, stamp-any}
+use Rattle.proof_isolation.specs.Asides.{stamp-any, oldest-by}
 use Rattle.proof_isolation.specs.Values.{in-other}
 use Rattle.proof_isolation_late.specs.Lights.{opening, closing, changeOf, done-by, Seen, seen}
 
@@ -329,17 +326,8 @@ module _ (c : Channel) where
         (⊎-elim (λ a. inr (omega arith)) (λ a. inl (omega arith)) (m .left .rest .apart Out Out (c .number) e (λ z. n (sym z))))
 
     oldest-stays : (e : ℕ) → key Out e ≢ key Out (c .number) → oldestOn (s .0) e (s .1) ≡ oldestOn (t .0) e (t .1)
-    unfolding oldestOn oldestAt
-    oldest-stays e n =
-        let r = epOn (s .0) Out e in
-        let f = m .left .rest .outs e .held in
-        let k = next-capped (s .0) Out e _ (f .ring) in
-        let u = slot-upto (f .placed) (r .tail) in
-        let h = m .but .eps Out e n in
-        bytes-same (s .1) (t .1) (slotAddr r (r .tail)) (nextLen (s .0) Out e) (m .bytes .long) (omega (arith, k, u, f .placed .inside))
-        (bytes-stay e _ _ n (slot-from (f .placed) (r .tail)) (omega (arith, k, u)))
-        ∙ ap (λ (r : EpState). bytesAt (t .1) (slotAddr r (r .tail)) (nextLen (s .0) Out e)) h
-        ∙ ap (λ k. bytesAt (t .1) (slotAddr (epOn (t .0) Out e) (epOn (t .0) Out e .tail)) k) (next-same (s .0) (t .0) Out e h (m .but .lens Out e n))
+    oldest-stays e n = oldest-by s t e (m .left .rest .outs e .held) (m .bytes .long)
+        (λ lo hi. bytes-stay e lo hi n) (m .but .eps Out e n) (m .but .lens Out e n)
 
     stamp-stays : (e : ℕ) → key Out e ≢ key Out (c .number) → nextStamp (s .0) e ≡ nextStamp (t .0) e
     unfolding nextStamp

@@ -26,16 +26,15 @@ use Rattle.model.specs.Tree.{ends, asks, bindOut}
 use Rattle.model.specs.Cells.{Cell, Val, EpCore, globals-cell, ep-cell}
 use Rattle.model.specs.Script.{Script, Act, run, ret, bind, test, _>>=_, _>>_, when, read, write, callback, get, put, is, look, fetch, act, hand}
 use Rattle.model.specs.Script.{changed, waiting, marked, next-len, setup-word, gathered, complete, no-wakes, waken, arrive, send}
-use Rattle.model.specs.Statics.{isoInEvery, isoOuts, modify, modifyEp, modifyReg, modifyIntEn, wake, wakeBus}
-use Rattle.model.specs.Answers.{Answer, staged, resultless}
-use Rattle.model.specs.Simulates.{quiet}
+use Rattle.model.specs.Statics.{isoInEvery, isoOuts, modify, modifyEp, modifyReg, modifyIntEn, wake}
+use Rattle.model.specs.Answers.{Answer}
 use Rattle.model.specs.TransferKinds.{allocates}
-use Rattle.model.specs.IsoIn.{firstInFrame, isoInLoad, isoInComplete, unseen, sofOne, sofWalk, onSof, lateOne, lateWalk}
+use Rattle.model.specs.IsoIn.{firstInFrame, isoInLoad, isoInComplete, unseen, sofOne, sofWalk, onSof, lateWalk}
 use Rattle.model.specs.IsoOut.{arrives, checkOne, checkWalk, isoOutCheck}
-use Rattle.model.specs.Handler.{looks, sieWait, nakNonIso, toggled, retake, settle, received, sent, sofArm, outArm, isoInArm, inArm, entered, framed, isoFor}
-use Rattle.model.specs.Handler.{dispatch, movedOn, ep0MovedOn, served, onTransfer, onSetup, onInterrupt, keepMicroframe, stampedInterrupt}
+use Rattle.model.specs.Handler.{looks, nakNonIso, toggled, retake, settle, received, sent, outArm, isoInArm, inArm, entered, framed, isoFor}
+use Rattle.model.specs.Handler.{dispatch, movedOn, ep0MovedOn, served, onTransfer, onSetup, onInterrupt, stampedInterrupt}
 use Rattle.model.specs.Calls.{Config, Op, interrupt, slotted, other, aside, calls, code, startRow, interruptCode}
-use Rattle.model.specs.Machine.{Buf, Call, start, begin, go, question, Ans, Way, idle, busy, Machine, over, misfit, stay, lentTo}
+use Rattle.model.specs.Machine.{Buf, Call, start, begin, go, question, Way, idle, busy, Machine, over, misfit, stay, lentTo}
 use Rattle.model.specs.Machine.{beside, begun, continued, started}
 use Rattle.model_ops.specs.Rings.{St}
 use Rattle.model_ops.specs.Concrete.{concrete, getOn, putOn, isOf, lookOf, actOn, handOn}

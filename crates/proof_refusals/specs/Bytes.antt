@@ -8,7 +8,7 @@ use lib.Dec.{eqb}
 use Rattle.state.specs.Driver.{Driver}
 use Rattle.state.specs.State.{view, saved}
 use Rattle.state.specs.Determined.{Bytes, determined}
-use Rattle.model.specs.Answers.{Answer, Refused}
+use Rattle.model.specs.Answers.{Answer}
 use Rattle.model.specs.Calls.{Config, Op, slots}
 use Rattle.model.specs.Machine.{Buf, Call, start, begin, go, question, Machine}
 use Rattle.machine.specs.declared.Step.the-variants as step

@@ -10,11 +10,8 @@ use Rattle.state.specs.Driver.{Driver, epOn, withOn, withRequestOn, withControl
 use Rattle.model.specs.Statics.{withReady}
 use Rattle.model.specs.Endpoint.{no-request}
 use Rattle.model.specs.Control.{no-control}
-use Rattle.model.specs.Calls.{Config, Op, interrupt, slotted, other, aside, slots, Slotted, SetEnabled, PollRead}
-use Rattle.model.specs.Calls.{BeginWrite, PollWrite, PollDataOut, BeginDataIn, Other, Allocate, AllocateAll, Start}
-use Rattle.model.specs.Calls.{BusPoll, BusEnable, BusDisable, Microframe, SetStalled, IsStalled, SetPaced, Advance}
-use Rattle.model.specs.Calls.{BeginRead, BeginSetup, PollSetup, PollDataIn, BeginAccept, PollAccept, BeginReject}
-use Rattle.model.specs.Calls.{BeginDataOut, BeginAcceptSetAddress}
+use Rattle.model.specs.Calls.{Config, Op, slots}
+use Rattle.model.specs.Kinds as kinds
 use Rattle.model.specs.Machine.{Buf, Call, start, begin, go, question}
 use Rattle.model_ops.specs.Records.{plainOf, merged}
 use Rattle.machine.specs.Suspended.{slotsFit}
@@ -24,41 +21,21 @@ pub data Poll : Type 0 where
   none data-out data-in accept : Poll
   request : Dir → ℕ → Poll
 
-abbrev pub slottedPoll : Slotted → Poll
-slottedPoll (SetEnabled d e on) = none
-slottedPoll (PollRead e n) = request Out e
-slottedPoll (BeginWrite e bs) = none
-slottedPoll (PollWrite e bs) = request In e
-slottedPoll (PollDataOut n) = data-out
-slottedPoll (BeginDataIn bs first last) = none
+abbrev refusedPoll : kinds.Poll → Poll
+refusedPoll (kinds.request d e) = request d e
+refusedPoll kinds.setup = none
+refusedPoll kinds.data-out = data-out
+refusedPoll kinds.data-in = data-in
+refusedPoll kinds.status = accept
 
-abbrev pub otherPoll : Other → Poll
-otherPoll (Allocate d kind address maximum interval) = none
-otherPoll (AllocateAll bytes) = none
-otherPoll (Start maximum) = none
-otherPoll BusPoll = none
-otherPoll BusEnable = none
-otherPoll BusDisable = none
-otherPoll Microframe = none
-otherPoll (SetStalled d e on) = none
-otherPoll (IsStalled d e) = none
-otherPoll (SetPaced e on) = none
-otherPoll (Advance e) = none
-otherPoll (BeginRead e n) = none
-otherPoll BeginSetup = none
-otherPoll PollSetup = none
-otherPoll PollDataIn = data-in
-otherPoll BeginAccept = none
-otherPoll PollAccept = accept
-otherPoll BeginReject = none
-otherPoll (BeginDataOut n first) = none
-otherPoll (BeginAcceptSetAddress a) = none
+abbrev partPoll : kinds.Part → Poll
+partPoll (kinds.polls p) = refusedPoll p
+partPoll kinds.apart = none
+partPoll kinds.begins = none
+partPoll (kinds.turns d e on) = none
 
 abbrev pub pollOf : Op → Poll
-pollOf interrupt = none
-pollOf (slotted o) = slottedPoll o
-pollOf (other o) = otherPoll o
-pollOf (aside o) = none
+pollOf o = partPoll (kinds.partOf o)
 
 -- the request that was begun is ended
 abbrev pub requestEnded : Poll → Driver → Driver

@@ -12,7 +12,7 @@ use Rattle.model.specs.Script.{ret, _>>_, run, no-wakes}
 use Rattle.model.specs.Statics.{flag}
 use Rattle.model.specs.Driver.{new}
 use Rattle.model.specs.Answers.{Answer, Refused, End, NotYet, Done, Shown}
-use Rattle.model.specs.Calls.{Config, Op, calls, startRow, passes, slots, irq, code}
+use Rattle.model.specs.Calls.{Config, Op, calls, startRow, passes, irq, code}
 use Rattle.model.specs.Machine.{Buf, Call, start, begin, go, question, Way, idle, busy, Machine, Awaits, Ans, ended}
 use Rattle.model.specs.Machine.{handed, told, beside, begun, continued, started, stay, over}
 use Rattle.model_ops.specs.Rings.{St}
@@ -28,7 +28,7 @@ use Rattle.machine.specs.declared.Suspended.the-variants as under
 use Rattle.machine.specs.Suspended.{decode, finish, wayOf, machineAt, machineOf, driverOf, drive, haltsAs, slotsFit}
 use Rattle.proof_book.specs.Code.{Made, CallStep}
 use Rattle.proof_refusals.specs.Left.{Poll, pollOf, leftBy, left, buffersRow}
-use Rattle.proof_refusals.specs.Outcomes.{Listed, OutLeaves}
+use Rattle.proof_refusals.specs.Outcomes.{Listed, AnswerLeaves, OutLeaves}
 use Rattle.proof_refusals.specs.Scripts.{code-leaves}
 
 abbrev pub Called : Type 0
@@ -59,21 +59,21 @@ chosen f false x y h g = g
 
 -- ---- begins and polls
 
+ends-is : (w : Way Answer Driver) (x : Poll) (d : Driver) (b : Buf) (a : Answer) (t : St)
+    → AnswerLeaves x (d, b) a t → Is (λ n. machineIn w (leftBy x n d) b) (ended a, machineIn w (t .0) (t .1))
+ends-is w x d b (Refused n) t h = ap (λ (u : St). machineIn w (u .0) (u .1)) h
+ends-is w x d b (End n v) t h = h
+ends-is w x d b NotYet t h = tt
+ends-is w x d b (Done bs) t h = tt
+ends-is w x d b (Shown bs k) t h = tt
+
 halt-is : (i : Bool) (x : Poll) (d : Driver) (b : Buf) (o : Out St Answer) → OutLeaves x (d, b) o → Is (λ n. machineIn idle (leftBy x n d) b) (haltsAs i o)
-halt-is i x d b (ends (Refused n) t) h = ap (λ (u : St). machineIn idle (u .0) (u .1)) h
-halt-is i x d b (ends (End n w) t) h = h
-halt-is i x d b (ends NotYet t) h = tt
-halt-is i x d b (ends (Done bs) t) h = tt
-halt-is i x d b (ends (Shown bs k) t) h = tt
+halt-is i x d b (ends a t) h = ends-is idle x d b a t h
 halt-is i x d b (asks q t k) h = tt
 
 beside-is : (w : Way Answer Driver) (x : Poll) (d : Driver) (b : Buf) (o : Out St Answer)
     → OutLeaves x (d, b) o → Is (λ n. machineIn w (leftBy x n d) b) (beside calls driverOf (machineIn w d b) o)
-beside-is w x d b (ends (Refused n) t) h = ap (λ (u : St). machineIn w (u .0) (u .1)) h
-beside-is w x d b (ends (End n v) t) h = h
-beside-is w x d b (ends NotYet t) h = tt
-beside-is w x d b (ends (Done bs) t) h = tt
-beside-is w x d b (ends (Shown bs k) t) h = tt
+beside-is w x d b (ends a t) h = ends-is w x d b a t h
 beside-is w x d b (asks q t k) h = refl
 
 begun-is : (o : Op) (w : Way Answer Driver) (d : Driver) (a b : Buf)

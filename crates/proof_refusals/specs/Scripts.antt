@@ -27,12 +27,12 @@ use Rattle.model.specs.Calls.{BeginRead, BeginSetup, PollSetup, PollDataIn, Beg
 use Rattle.model.specs.Calls.{BeginDataOut, BeginAcceptSetAddress, otherCode, Aside, Open, Close, Queue, asideCode}
 use Rattle.model_ops.specs.Rings.{St}
 use Rattle.model_ops.specs.Records.{givenTo, allocatedOn, startedWith, allocatedEp0}
-use Rattle.proof_refusals.specs.Left.{none, data-in, slottedPoll, otherPoll, pollOf, requestEnded, unready, leftBy}
+use Rattle.proof_refusals.specs.Left.{none, data-in, pollOf, requestEnded, unready, leftBy}
 use Rattle.proof_refusals.specs.Outcomes.{Leaves, tests, each, picks, after, whatever, refuses, answers, begins}
 
 -- ---- calls that bring the slots
 
-pub slotted-leaves : (o : Slotted) (s : St) → Leaves (slottedPoll o) s s (slottedCode o)
+pub slotted-leaves : (o : Slotted) (s : St) → Leaves (pollOf (slotted o)) s s (slottedCode o)
 slotted-leaves (SetEnabled d e on) s = after refl (each (after refl (each begins (refuses refl))) (refuses refl))
 slotted-leaves (PollRead e n) s = after refl (each (after refl (each (after refl (each (refuses refl) (each (after refl (each
     (after refl (each (after refl (each (after refl (after refl (after refl (answers tt)))) (answers tt))) (after refl (refuses refl))))
@@ -99,7 +99,7 @@ read-leaves s bytes reading.Listed = after refl (each (whatever (λ _ _. begins)
 
 -- ---- the others
 
-pub other-leaves : (o : Other) (s : St) → Leaves (otherPoll o) s s (otherCode o)
+pub other-leaves : (o : Other) (s : St) → Leaves (pollOf (other o)) s s (otherCode o)
 other-leaves (Allocate d kind address maximum interval) s = after refl (each
     (after refl (after refl (allocated-leaves d kind maximum (allocateOf (s .0 .allocator) kind address maximum d .answer)
     (λ n q. ap (λ (x : Driver). (x, s .1)) (allocation-kept (s .0) d kind address maximum interval n q)))))

@@ -46,7 +46,7 @@ use Rattle.proof_usb20.specs.Watch.{at-end, at-ask}
 use Rattle.proof_usb20.specs.WokenLaws.{Others, all-others}
 use Rattle.proof_usb20.specs.FollowLaws.{record-view, act-view, hand-view}
 use Rattle.bits.specs.Walk.{setBits}
-use Rattle.model.specs.Script.{when, get, act, no-wakes}
+use Rattle.model.specs.Script.{when, get, no-wakes}
 use Rattle.model.specs.Statics.{wake, wakeBus, isoInEvery, isoOuts, modify, modifyEp, modifyReg, modifyIntEn}
 use Rattle.model.specs.Answers.{Answer, staged, operation, resultless}
 use Rattle.model.specs.Handler.{looks}
@@ -183,20 +183,23 @@ module _ (D : Dir) (E : ℕ) where
   -- ---- wake-ups
 
   -- which operations leave them
+  abbrev pub LeavesWakes : Act → Type 0
+  LeavesWakes no-wakes = ⊥
+  LeavesWakes (waken codes) = Others (wakeCode D E) codes
+  LeavesWakes (complete e) = Unit {0}
+  LeavesWakes (reset-ring d e) = Unit {0}
+  LeavesWakes (set-enabled d e on) = Unit {0}
+  LeavesWakes (fill e bytes) = Unit {0}
+  LeavesWakes (fill0 bytes) = Unit {0}
+  LeavesWakes (open-oldest e) = Unit {0}
+  LeavesWakes (close-oldest e) = Unit {0}
+  LeavesWakes (take-oldest e) = Unit {0}
+  LeavesWakes (enqueue e bytes) = Unit {0}
+  LeavesWakes (allocate d kind address maximum interval) = Unit {0}
+  LeavesWakes (allocate0 maximum) = Unit {0}
+
   abbrev pub Silent : Bool → Act → Type 0
-  Silent m no-wakes = m ≡ false
-  Silent m (waken codes) = m ≡ true → Others (wakeCode D E) codes
-  Silent m (complete e) = Unit {0}
-  Silent m (reset-ring d e) = Unit {0}
-  Silent m (set-enabled d e on) = Unit {0}
-  Silent m (fill e bytes) = Unit {0}
-  Silent m (fill0 bytes) = Unit {0}
-  Silent m (open-oldest e) = Unit {0}
-  Silent m (close-oldest e) = Unit {0}
-  Silent m (take-oldest e) = Unit {0}
-  Silent m (enqueue e bytes) = Unit {0}
-  Silent m (allocate d kind address maximum interval) = Unit {0}
-  Silent m (allocate0 maximum) = Unit {0}
+  Silent m q = m ≡ true → LeavesWakes q
 
   still-kept : {m : Bool} (q : Act) → allocates q ≡ false → Other q → (s : St) → Kept m s
       → Kept m (concrete .act q s) × Hears m s (concrete .act q s)
@@ -208,11 +211,11 @@ module _ (D : Dir) (E : ℕ) where
   act-kept no-wakes h o s k = (
     record {
       whole = act-steady no-wakes refl s .places ∙ k .whole;
-      sorts = λ q. differ (sym o ∙ q);
-      plain = λ q. differ (sym o ∙ q);
-      room = λ q. differ (sym o ∙ q);
+      sorts = λ q. absurd (o q);
+      plain = λ q. absurd (o q);
+      room = λ q. absurd (o q);
     },
-    record { same = λ q. differ (sym o ∙ q); grows = λ q. differ (sym o ∙ q) },
+    record { same = λ q. absurd (o q); grows = λ q. absurd (o q) },
   )
   act-kept (waken codes) h o s k =
       let p = act-steady (waken codes) refl s in (
@@ -350,22 +353,7 @@ module _ (D : Dir) (E : ℕ) where
   module _ {P : Track → Type 0} where
     pub q-act : {i : Bool} {A : Type 0} {q : Act} {p : Script i A} → allocates q ≡ false → Quiet false P p
         → Quiet false P (act-then q p)
-    q-act {q = q} h x = q-act-as h (any q) x
-      where
-        any : (q : Act) → Silent false q
-        any no-wakes = refl
-        any (waken codes) = λ h. differ h
-        any (complete e) = tt
-        any (reset-ring d e) = tt
-        any (set-enabled d e on) = tt
-        any (fill e bytes) = tt
-        any (fill0 bytes) = tt
-        any (open-oldest e) = tt
-        any (close-oldest e) = tt
-        any (take-oldest e) = tt
-        any (enqueue e bytes) = tt
-        any (allocate d kind address maximum interval) = tt
-        any (allocate0 maximum) = tt
+    q-act h x = q-act-as h (λ e. differ e) x
 
   -- ---- assignments
 

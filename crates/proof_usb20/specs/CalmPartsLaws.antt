@@ -21,7 +21,6 @@ use Rattle.regs.specs.Status.{endpoint}
 use Rattle.frame.specs.Usb20.{indexOf, frameOf}
 use Rattle.frame.specs.Advance.{previous}
 use Rattle.model.specs.declared.Transfer.{Transfer}
-use Rattle.model.specs.Script.{get}
 use Rattle.model.specs.Statics.{completed, withLen, withReady, withTog, withSofFrame, withSetup, flag, isoInEvery, isoOuts}
 use Rattle.model.specs.IsoIn.{firstInFrame, isoInComplete, unseen, sofOne, sofWalk, onSof, lateWalk, isoInCompletions}
 use Rattle.model.specs.IsoOut.{arrives, checkWalk, isoOutCheck}
@@ -36,7 +35,7 @@ module _ (D : Dir) (E : ℕ) where
 
   pub q-complete : {m : Bool} {i : Bool} (e : ℕ) → (m ≡ true → Else D E In e)
       → Quiet D E m (Idle D E) (isoInComplete {i = i} e)
-  q-complete e o = (q-bind D E) ((q-act-as D E) refl tt (q-ret D E))
+  q-complete e o = (q-bind D E) ((q-act-as D E) refl (λ _. tt) (q-ret D E))
       (λ _. (q-bind D E) ((q-bind D E) ((q-is D E) (λ _. (q-ret D E))) (λ b. (q-test D E)
       ((q-bind D E) ((q-hand D E) (q-ret D E)) (λ _. (q-bind D E) ((q-look D E) (λ _. (q-ret D E))) (λ _. (q-write D E) (q-ret D E))))
       ((q-write D E) (q-ret D E)))) (λ _. (q-wakes D E) In e o))

@@ -117,11 +117,11 @@ new : (out : tree.Out St Answer) → Ups control (λ s. R before (view (s .0))) 
 new (tree.ends a s) = at-end (inl refl)
 new (tree.asks q s k) = at-ask tt (λ v t b h. new (k v t))
 
-unlent : (o : Op) (w : Log) (x : View) → R w x → R (closes o (Refused 1) (opens o w)) x
-unlent interrupt w x r = r
-unlent (slotted o) w x r = r
-unlent (other o) w x r = r
-unlent (aside o) w x r = r
+unlent : (o : Op) → calls .slots o ≡ true → (w : Log) (x : View) → R w x → R (closes o (Refused 1) (opens o w)) x
+unlent interrupt h w x r = r
+unlent (slotted o) h w x r = r
+unlent (other o) h w x r = r
+unlent (aside o) h w x r = r
 
 fair-1 : (p : Poll) (w : Log) → FairPoll p (Refused 1) w
 fair-1 none w = tt

@@ -17,6 +17,7 @@ use Rattle.model.specs.Machine.{Buf, Event, Machine, started}
 use Rattle.model.specs.TogglesLaws.{number}
 use Rattle.model.specs.Usb20Toggles.{Pid, DATA0, DATA1}
 use Rattle.machine.specs.Suspended.{driverOf}
+use Rattle.proof_usb20.specs.ExemptLaws.{differ}
 use Rattle.proof_usb20.specs.Sequence.{Track}
 use Rattle.proof_usb20.specs.Follow.{Seen, Fits, Law}
 use Rattle.proof_usb20.specs.CalmLaws.{Else}
@@ -40,7 +41,7 @@ use Rattle.model_ops.specs.Rings.{St}
 use Rattle.model_ops.specs.Concrete.{concrete}
 use Rattle.proof_book.specs.Sorting.{Sorting}
 use Rattle.proof_usb20.specs.Sequence as log
-use Rattle.proof_usb20.specs.Sequence.{before, opens, closes, Fair, own, Writing, wrote, Leaves}
+use Rattle.proof_usb20.specs.Sequence.{before, opens, Fair, own, Writing, wrote, Leaves}
 use Rattle.proof_usb20.specs.Observer.{Observer, Under, at-rest, doing, starting, Watched, startedBy, ReadAt, Read, Reads, All, Meaning}
 use Rattle.proof_usb20.specs.Watch.{Along, at-end, at-ask}
 use Rattle.proof_usb20.specs.WatchLaws.{watch-more}
@@ -149,40 +150,17 @@ module _ (D : Dir) (E : ℕ) (z : (d : Dir) → Else D E d 0) where
   last true x y = refl
   last false x y = refl
 
-  unlent : (o : Op) (w : Track) (v : Seen) → Fits w v → Fits (log.closes D E o (Refused 1) (log.opens D E o w)) v
-  unlent interrupt w v r = r
-  unlent (slotted (SetEnabled d e on)) w v r =
+  unlent : (o : Op) → calls .slots o ≡ true → (w : Track) (v : Seen) → Fits w v → Fits (log.closes D E o (Refused 1) (log.opens D E o w)) v
+  unlent interrupt h w v r = r
+  unlent (slotted (SetEnabled d e on)) h w v r =
       rw (last (log.own D E d e) (log.renewed D E (log.armsAt D E d on) (log.withPhase log.off w)) (log.withPhase log.off w)) r
-  unlent (slotted (PollRead e n)) w v r = rw (last (log.own D E Out e) (log.taken D E (log.withPhase log.off w)) (log.withPhase log.off w)) r
-  unlent (slotted (BeginWrite e bs)) w v r = rw (last (log.own D E In e) (log.loaded D E (log.withPhase log.off w)) (log.withPhase log.off w)) r
-  unlent (slotted (PollWrite e bs)) w v r = rw (last (log.own D E In e) (log.taken D E (log.withPhase log.off w)) (log.withPhase log.off w)) r
-  unlent (slotted (PollDataOut n)) w v r = r
-  unlent (slotted (BeginDataIn bs first final)) w v r = r
-  unlent (other o) w v r = others o
-    where
-      others : (o : Other) → Fits (log.closes D E (other o) (Refused 1) (log.withPhase log.off w)) v
-      others (Allocate d kind address maximum interval) = r
-      others (AllocateAll bytes) = r
-      others (Start maximum) = r
-      others BusPoll = r
-      others BusEnable = r
-      others BusDisable = r
-      others Microframe = r
-      others (SetStalled d e true) = rw (last (log.own D E d e) (log.cleared D E (log.withPhase log.off w)) (log.withPhase log.off w)) r
-      others (SetStalled d e false) = rw (last (log.own D E d e) (log.cleared D E (log.withPhase log.off w)) (log.withPhase log.off w)) r
-      others (IsStalled d e) = r
-      others (SetPaced e on) = r
-      others (Advance e) = r
-      others (BeginRead e n) = rw (last (log.own D E Out e) (log.awaits D E (log.withPhase log.off w)) (log.withPhase log.off w)) r
-      others BeginSetup = r
-      others PollSetup = r
-      others PollDataIn = r
-      others BeginAccept = r
-      others PollAccept = r
-      others BeginReject = r
-      others (BeginDataOut n first) = r
-      others (BeginAcceptSetAddress a) = r
-  unlent (aside o) w v r = r
+  unlent (slotted (PollRead e n)) h w v r = rw (last (log.own D E Out e) (log.taken D E (log.withPhase log.off w)) (log.withPhase log.off w)) r
+  unlent (slotted (BeginWrite e bs)) h w v r = rw (last (log.own D E In e) (log.loaded D E (log.withPhase log.off w)) (log.withPhase log.off w)) r
+  unlent (slotted (PollWrite e bs)) h w v r = rw (last (log.own D E In e) (log.taken D E (log.withPhase log.off w)) (log.withPhase log.off w)) r
+  unlent (slotted (PollDataOut n)) h w v r = r
+  unlent (slotted (BeginDataIn bs first final)) h w v r = r
+  unlent (other o) h w v r = differ h
+  unlent (aside o) h w v r = r
 
   fair-refused : (o : Op) (n : ℕ) (w : Track) → Fair D E o (Refused n) w
   fair-refused interrupt n w = tt
@@ -342,7 +320,7 @@ module _ (D : Dir) (E : ℕ) (h : E % 16 ≡ 0 → ⊥) where
         asks = L .asks;
         besides = L .besides;
         new = L .new;
-        unlent = λ o x v r. L .unlent o (x .0) v r;
+        unlent = λ o h x v r. L .unlent o h (x .0) v r;
         fair-1 = λ o x. refused-leaves o (x .1);
       }
 

@@ -20,6 +20,7 @@ use Rattle.state.specs.Kept.{withEpType}
 use Rattle.state.specs.Wakes.{wakeCode}
 use Rattle.frame.specs.Advance.{NO_FRAME}
 use Rattle.model.specs.Tree as tree
+use Rattle.model.specs.Tree.{ends}
 use Rattle.model.specs.Cells.{EpCore, ep-cell, globals-cell, paced-cell}
 use Rattle.regs.specs.declared.Reg.the-variants.{EpRxCtrl, EpTxCtrl, EpTLen}
 use Rattle.regs.specs.ControlWord.{ACK, NAK, NYET, DATA0, wordOf, response, toggle, ack}
@@ -39,9 +40,9 @@ use Rattle.proof_usb20.specs.Follow as following
 use Rattle.proof_usb20.specs.Follow.{Seen, FitsAs, Fits, view, Follow, Ends, Law}
 use Rattle.proof_usb20.specs.Watch.{Along, at-end, at-ask}
 use Rattle.proof_usb20.specs.WatchLaws.{watch-bind, watch-cond, watch-any}
-use Rattle.proof_usb20.specs.ExemptLaws.{differ}
+use Rattle.proof_usb20.specs.ExemptLaws.{by-test, differ}
 use Rattle.model.specs.TogglesLaws.{number}
-use Rattle.model.specs.Answers.{Answer, isAllocated, resultless}
+use Rattle.model.specs.Answers.{Answer, Refused, isAllocated, resultless}
 use Rattle.proof_usb20.specs.FollowLaws.{act-view}
 use Rattle.proof_usb20.specs.CalmLaws.{Whole, Off, Else, Hush, Kept, Stays, Quiet, loose, loosely, asked, onward}
 use Rattle.proof_usb20.specs.CalmLaws.{with-other, put-globals, put-paced, q-act, q-bind, q-ep, q-got, q-hand, q-put}
@@ -331,42 +332,36 @@ module _ (D : Dir) (E : ℕ) where
   acked true v u h = ack-acks v
   acked false v u h = differ h
 
+  -- past the rows 4, 5 and 9, and 10 where g holds
+  past-rows : {P : Writing → Answer → St → Type 0} {u : Writing} (d : Dir) (e : ℕ) (g : Bool) (s : St) {o : tree.Out St Answer}
+      → ((n : ℕ) → P u (Refused n) s) → Marks P u o
+      → Marks P u (cond (eqb (s .0 .globals .stage) 2) (cond (isAllocated (s .0 .allocator) d e)
+      (cond (enables.isOn (s .0 .globals .«ep_config») d e) (cond g (ends (Refused 10) s) o) (ends (Refused 9) s)) (ends (Refused 5) s)) (ends (Refused 4) s))
+  past-rows d e g s f x = watch-cond (eqb (s .0 .globals .stage) 2) (λ _. watch-cond (isAllocated (s .0 .allocator) d e)
+      (λ _. watch-cond (enables.isOn (s .0 .globals .«ep_config») d e) (λ _. watch-cond g (λ _. at-end (f 10)) (λ _. x)) (λ _. at-end (f 9)))
+      (λ _. at-end (f 5))) (λ _. at-end (f 4))
+
   pub leaves-read : (e n : ℕ) → WordLaw (other (BeginRead e n))
-  leaves-read e n w s r i = by (own D E Out e) refl
-    where
-      by : (b : Bool) → own D E Out e ≡ b
-          → Marks (λ u a _. Leaves D E (other (BeginRead e n)) a u) (unwritten-yet w) (run concrete (code (other (BeginRead e n))) s)
-      by false h = leaves-any (other (BeginRead e n)) (λ a u k. not-own (own D E Out e) (log.ended D E a) h k) w s r i
-      by true h =
-          let o = own-true D E Out e h in
-          watch-cond (eqb (s .0 .globals .stage) 2)
-          (λ _. watch-cond (isAllocated (s .0 .allocator) Out e) (λ _. watch-cond (enables.isOn (s .0 .globals .«ep_config») Out e)
-          (λ _. watch-cond (ltb n (concrete .get (ep-cell Out e) s .«max_len»)) (λ _. at-end (λ k. never (own D E Out e) k))
-          (λ _. watch-bind {P = λ x _ _. (x .there ≡ false → Acks (x .word))}
-          (watch-bind {P = λ x _ _. (x .there ≡ false → Acks (x .word))}
-          (watch-cond (isOn (concrete .get (ep-cell Out e) s .iso)) (λ q. iso-own D E Out e s o i q)
-          (λ _. watch-cond (isOn (concrete .get (ep-cell Out e) s .ready))
-          (λ q. at-end (λ f. differ (sym f ∙ (sym (r .ready) ∙ (sym (ap (λ (p : EpCore). isOn (p .ready)) (reading.got D E Out e s o)) ∙ q)))))
-          (λ _. at-ask tt (λ v _ _ _. at-ask tt (λ _ _ _ _. at-end (λ _. acked (own D E Out e) v (unwritten-yet w) h)))))) (λ _ _ _ m. at-end m))
-          (λ _ _ _ m. at-end (λ _. m))))
-          (λ _. at-end (λ k. never (own D E Out e) k))) (λ _. at-end (λ k. never (own D E Out e) k))) (λ _. at-end (λ k. never (own D E Out e) k))
+  leaves-read e n w s r i = by-test (own D E Out e)
+      (λ h. let o = own-true D E Out e h in
+      past-rows Out e (ltb n (concrete .get (ep-cell Out e) s .«max_len»)) s (λ _ k. never (own D E Out e) k)
+      (watch-bind {P = λ x _ _. (x .there ≡ false → Acks (x .word))} (watch-bind {P = λ x _ _. (x .there ≡ false → Acks (x .word))}
+      (watch-cond (isOn (concrete .get (ep-cell Out e) s .iso)) (λ q. iso-own D E Out e s o i q)
+      (λ _. watch-cond (isOn (concrete .get (ep-cell Out e) s .ready))
+      (λ q. at-end (λ f. differ (sym f ∙ (sym (r .ready) ∙ (sym (ap (λ (p : EpCore). isOn (p .ready)) (reading.got D E Out e s o)) ∙ q)))))
+      (λ _. at-ask tt (λ v _ _ _. at-ask tt (λ _ _ _ _. at-end (λ _. acked (own D E Out e) v (unwritten-yet w) h)))))) (λ _ _ _ m. at-end m))
+      (λ _ _ _ m. at-end (λ _. m))))
+      (λ h. leaves-any (other (BeginRead e n)) (λ a u k. not-own (own D E Out e) (log.ended D E a) h k) w s r i)
 
   pub leaves-write : (e : ℕ) (bytes : List ℕ) → WordLaw (slotted (BeginWrite e bytes))
-  leaves-write e bytes w s r i = by (own D E In e) refl
-    where
-      by : (b : Bool) → own D E In e ≡ b
-          → Marks (λ u a _. Leaves D E (slotted (BeginWrite e bytes)) a u) (unwritten-yet w) (run concrete (code (slotted (BeginWrite e bytes))) s)
-      by false h = leaves-any (slotted (BeginWrite e bytes)) (λ a u k. not-own (own D E In e) (log.ended D E a) h k) w s r i
-      by true h =
-          watch-cond (eqb (s .0 .globals .stage) 2)
-          (λ _. watch-cond (isAllocated (s .0 .allocator) In e) (λ _. watch-cond (enables.isOn (s .0 .globals .«ep_config») In e)
-          (λ _. watch-cond (ltb (concrete .get (ep-cell In e) s .«max_len») (length bytes)) (λ _. at-end (λ k. never (own D E In e) k))
-          (λ _. watch-bind {P = λ x _ _. Acks (x .word)} (watch-bind {P = λ x _ _. Acks (x .word)}
-          (watch-cond (isOn (concrete .get (ep-cell In e) s .iso)) (λ q. iso-own D E In e s (own-true D E In e h) i q)
-          (λ _. at-ask tt (λ _ _ _ _. at-ask tt (λ v _ _ _. at-ask tt (λ _ _ _ _. at-end (acked (own D E In e) v (unwritten-yet w) h))))))
-          (λ _ _ _ m. at-end m))
-          (λ _ _ _ m. at-end (λ _. m))))
-          (λ _. at-end (λ k. never (own D E In e) k))) (λ _. at-end (λ k. never (own D E In e) k))) (λ _. at-end (λ k. never (own D E In e) k))
+  leaves-write e bytes w s r i = by-test (own D E In e)
+      (λ h. past-rows In e (ltb (concrete .get (ep-cell In e) s .«max_len») (length bytes)) s (λ _ k. never (own D E In e) k)
+      (watch-bind {P = λ x _ _. Acks (x .word)} (watch-bind {P = λ x _ _. Acks (x .word)}
+      (watch-cond (isOn (concrete .get (ep-cell In e) s .iso)) (λ q. iso-own D E In e s (own-true D E In e h) i q)
+      (λ _. at-ask tt (λ _ _ _ _. at-ask tt (λ v _ _ _. at-ask tt (λ _ _ _ _. at-end (acked (own D E In e) v (unwritten-yet w) h))))))
+      (λ _ _ _ m. at-end m))
+      (λ _ _ _ m. at-end (λ _. m))))
+      (λ h. leaves-any (slotted (BeginWrite e bytes)) (λ a u k. not-own (own D E In e) (log.ended D E a) h k) w s r i)
 
   -- ---- a bus reset
 

@@ -27,11 +27,16 @@ use Rattle.model_ops.specs.Concrete.{concrete}
 use Rattle.proof_usb20.specs.Pipe.{Event, packet, token}
 use Rattle.proof_usb20.specs.Log.{Phase, off, entered, flagged, again, timed, shows, Log, withPhase, happens}
 use Rattle.proof_usb20.specs.Log.{ofToken, seen, reads, saw, opens, endsOther, endsSlotted, ends, Poll, none}
-use Rattle.proof_usb20.specs.Log.{pollSetup, pollOut, pollIn, pollStatus, pollOf, settled, done, closes}
+use Rattle.proof_usb20.specs.Log.{pollSetup, pollOut, pollIn, pollStatus, pollOf, overBy, withTaken, closes}
 use Rattle.proof_usb20.specs.Log.{Unfinished, Begins, begins, Completes, Wrote, GivesSetup, FairPoll, AllowedTo}
 use Rattle.proof_usb20.specs.Log.{Allowed}
 use Rattle.proof_usb20.specs.WatchLaws.{watch-any}
 use Rattle.proof_usb20.specs.Ep0.{Watch, Keeps, Ends}
+
+-- a test, either way
+pub by-test : {A : Type 0} (b : Bool) → (b ≡ true → A) → (b ≡ false → A) → A
+by-test true x y = x refl
+by-test false x y = y refl
 
 pub differ : {A : Type 0} → false ≡ true → A
 differ h = absurd (subst (λ (b : Bool). cond b ⊥ (Unit {0})) h tt)
@@ -133,21 +138,13 @@ allowed-exempt pollOut w q h = tt
 allowed-exempt pollIn w q h = tt
 allowed-exempt pollStatus w q h = (λ z. differ (sym z ∙ h), λ z. differ (sym z ∙ h))
 
-settled-exempt : (p : Poll) (w : Log) → w .exempt ≡ true → settled p w .exempt ≡ true
-settled-exempt none w h = h
-settled-exempt begins w h = h
-settled-exempt pollSetup w h = h
-settled-exempt pollOut w h = h
-settled-exempt pollIn w h = h
-settled-exempt pollStatus w h = h
-
-done-exempt : (p : Poll) (w : Log) → w .exempt ≡ true → done p w .exempt ≡ true
-done-exempt none w h = h
-done-exempt begins w h = h
-done-exempt pollSetup w h = h
-done-exempt pollOut w h = h
-done-exempt pollIn w h = h
-done-exempt pollStatus w h = h
+over-exempt : (u : Log) (p : Poll) (w : Log) → u .exempt ≡ true → w .exempt ≡ true → overBy u p w .exempt ≡ true
+over-exempt u none w g h = h
+over-exempt u begins w g h = h
+over-exempt u pollSetup w g h = g
+over-exempt u pollOut w g h = h
+over-exempt u pollIn w g h = h
+over-exempt u pollStatus w g h = h
 
 ends-other : (o : Other) (n : ℕ) (w : Log) → w .exempt ≡ true → endsOther o n w .exempt ≡ true
 ends-other (Allocate d kind address maximum interval) n w h = h
@@ -192,10 +189,10 @@ ends-exempt (other o) t n w h = ends-other o n w h
 ends-exempt (aside o) t n w h = h
 
 closes-exempt : (o : Op) → Task o → (a : Answer) (w : Log) → w .exempt ≡ true → closes o a w .exempt ≡ true
-closes-exempt o t (Refused n) w h = either (eqb n 9 || eqb n 10) (it (settled-exempt (pollOf o) w h)) (it h) .is
+closes-exempt o t (Refused n) w h = either (eqb n 9 || eqb n 10) (it (over-exempt w (pollOf o) w h h)) (it h) .is
 closes-exempt o t (End n ws) w h = ends-exempt o t n w h
 closes-exempt o t NotYet w h = h
-closes-exempt o t (Done bytes) w h = done-exempt (pollOf o) w h
+closes-exempt o t (Done bytes) w h = over-exempt (withTaken w) (pollOf o) w h h
 closes-exempt o t (Shown bytes stamp) w h = h
 
 opens-exempt : (o : Op) (w : Log) → w .exempt ≡ true → opens o w .exempt ≡ true

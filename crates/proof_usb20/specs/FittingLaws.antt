@@ -11,7 +11,6 @@ use Rattle.model.specs.Statics.{isOn, flag}
 use Rattle.model.specs.Control.{DATA-OUT, ACCEPT, requestOf, no-control, dataInOf}
 use Rattle.model.specs.ToggledLaws.{ack-keeps, ack-acks}
 use Rattle.model.specs.ControlLaws.{toggle-with}
-use Rattle.model.specs.Usb20Toggles.{DATA1}
 use Rattle.proof_usb20.specs.Pipe.{Stage, data-stage, status-stage, acks, Half, readied, halted, dataReady}
 use Rattle.proof_usb20.specs.Pipe.{Setting, Choice, takes, gives, confirms, rejects, chosen, orderly}
 use Rattle.proof_usb20.specs.Log.{Log, withRx, withTx, withLen, choose}

@@ -2,13 +2,10 @@
 use mathlib.Core.Bool.{Bool, true, false, cond}
 use mathlib.Core.Path.{_≡_, refl}
 use Prim.Native.Nat.{ℕ}
-use Rattle.regs.specs.declared.Reg.the-variants.{FrameNo}
-use Rattle.regs.specs.declared.Dir.the-variants.{Out, In}
-use Rattle.regs.specs.Status.{endpoint, token}
 use Rattle.model.specs.declared.Transfer.{Transfer}
-use Rattle.model.specs.Cells.{ep-cell, globals-cell}
-use Rattle.model.specs.Script.{Script, get, read, _>>=_, _>>_}
-use Rattle.model.specs.Handler.{isoFor, ownIn, framed, released, served}
+use Rattle.model.specs.Script.{Script}
+use Rattle.model.specs.Handler as handler
+use Rattle.model.specs.Handler.{ownIn, framed, released}
 
 pub framed-st : (x : Transfer) (iso : Bool) (sof frame : ℕ) → framed x iso sof frame .st ≡ x .st
 framed-st x iso sof frame = by (ownIn x iso sof frame)
@@ -18,10 +15,4 @@ framed-st x iso sof frame = by (ownIn x iso sof frame)
     by false = refl
 
 abbrev pub frames : Transfer → Script true Unit
-frames x = do
-  o ← get (ep-cell Out (endpoint (x .st)))
-  n ← get (ep-cell In (endpoint (x .st)))
-  let iso = isoFor (token (x .st)) o n
-  frame ← read FrameNo 0
-  g ← get globals-cell
-  served (framed x iso (g .«sof_frame») frame) iso frame
+frames x = handler.frames x

@@ -8,12 +8,14 @@ use lib.Dec.{eqb}
 use Rattle.bits.specs.Walk.{setBits}
 use Rattle.regs.specs.declared.Access.the-variants.{Read}
 use Rattle.regs.specs.declared.Reg.{Reg}
-use Rattle.regs.specs.declared.Reg.the-variants.{EpRxCtrl, EpTxCtrl}
+use Rattle.regs.specs.declared.Reg.the-variants.{EpTxCtrl}
 use Rattle.regs.specs.declared.Dir.the-variants.{Out, In}
+use Rattle.regs.specs.declared.Dir.{Dir}
+use Rattle.regs.specs.Registers.{ctrlOf}
 use Rattle.regs.specs.declared.Token.{Token}
 use Rattle.regs.specs.declared.Token.the-variants as tok
 use Rattle.regs.specs.ControlWord.{nak, flip, nakflip}
-use Rattle.regs.specs.Status.{endpoint, token, isSof, togOk}
+use Rattle.regs.specs.Status.{endpoint, isSof, togOk}
 use Rattle.model.specs.declared.Transfer.{Transfer}
 use Rattle.model.specs.Tree as tree
 use Rattle.model.specs.Cells.{EpCore, ep-cell, globals-cell}
@@ -29,34 +31,32 @@ use Rattle.model_ops.specs.Concrete.{concrete}
 use Rattle.proof_book.specs.TransferKindsLaws.{put-steady, act-steady}
 use Rattle.proof_usb20.specs.Pipe as pipe
 use Rattle.proof_usb20.specs.Pipe.{isReady, packet}
-use Rattle.proof_usb20.specs.Log.{Log, off, reads, withRx, withTx, withPhase, happens, ofToken}
+use Rattle.proof_usb20.specs.Log.{Log, off, reads, writes, Brings, withRx, withTx, withPhase, happens, ofToken}
 use Rattle.proof_usb20.specs.Watch.{at-end, at-ask}
 use Rattle.proof_usb20.specs.WatchLaws.{watch-bind, watch-more, watch-cond}
-use Rattle.proof_usb20.specs.Ep0.{Watch, Rec, View, view, Rel, R, Keeps}
+use Rattle.proof_usb20.specs.Ep0.{Watch, Rec, View, view, R, Keeps}
 use Rattle.proof_usb20.specs.ExemptLaws.{differ}
-use Rattle.proof_usb20.specs.ViewsLaws.{setOut, setIn}
+use Rattle.proof_usb20.specs.ViewsLaws.{rec, setOut, setIn}
 use Rattle.proof_usb20.specs.Ep0Laws.{act-view}
-use Rattle.proof_usb20.specs.StagesLaws.{outWith, inWith, out-view, in-view, in-whole}
+use Rattle.proof_usb20.specs.StagesLaws.{inWith, Whole, out-view, in-view, in-whole}
 use Rattle.proof_usb20.specs.QuietLaws.{Plainly, plainly, steadily, Any, Quiet, q-ret, q-bind, q-if, q-every}
 use Rattle.proof_usb20.specs.PartsLaws.{q-got, q-when, q-sof, q-late, q-check, q-sof-arm, q-dispatch}
 use Rattle.proof_usb20.specs.EventsLaws.{completed, packet-out, packet-in, token-out, token-in}
 
 -- ---- the events, of a log that may be exempt
 
+-- a packet that comes unready exempts
+unless-ready : {X : Type 0} (e b : Bool) → (b ≡ true → X) → ((e || not b) || false ≡ true) ⊎ X
+unless-ready e true x = inr (x refl)
+unless-ready true false x = inl refl
+unless-ready false false x = inl refl
+
 -- a packet OUT, then the token
 pub r-out : (w : Log) (x : View) (m : Bool) → isOn (x .inn .armed) ≡ m → R w x
     → R (withTx (cond m (nakflip (w .tx)) (w .tx)) (withRx (flip (nak (w .rx))) (happens (pipe.token Out) (happens (packet Out) w))))
     (cond m (setIn completed (setOut completed x)) (setOut completed x))
 r-out w x m h (inl e) = inl (rw e refl)
-r-out w x m h (inr r) = by (w .exempt) (isReady (w .pipe .out .answers)) refl
-  where
-    by : (e b : Bool) → isReady (w .pipe .out .answers) ≡ b
-        → ((e || not b) || false ≡ true) ⊎ Rel (flip (nak (w .rx))) (cond m (nakflip (w .tx)) (w .tx))
-        (w .len) (pipe.after (pipe.token Out) (pipe.after (packet Out) (w .pipe)))
-        (w .awaits) (w .untaken) (cond m (setIn completed (setOut completed x)) (setOut completed x))
-    by e true q = inr (token-out m h (packet-out q r))
-    by true false q = inl refl
-    by false false q = inl refl
+r-out w x m h (inr r) = unless-ready (w .exempt) (isReady (w .pipe .out .answers)) (λ q. token-out m h (packet-out q r))
 
 -- the token OUT alone
 pub r-token-out : (w : Log) (x : View) (m : Bool) → isOn (x .inn .armed) ≡ m → R w x
@@ -69,15 +69,7 @@ pub r-in : (w : Log) (x : View) (m : Bool) → isOn (x .out .armed) ≡ m → R 
     → R (withRx (cond m (nakflip (w .rx)) (w .rx)) (withTx (flip (nak (w .tx))) (happens (pipe.token In) (happens (packet In) w))))
     (cond m (setOut completed (setIn completed x)) (setIn completed x))
 r-in w x m h (inl e) = inl (rw e refl)
-r-in w x m h (inr r) = by (w .exempt) (isReady (w .pipe .inn .answers)) refl
-  where
-    by : (e b : Bool) → isReady (w .pipe .inn .answers) ≡ b
-        → ((e || not b) || false ≡ true) ⊎ Rel (cond m (nakflip (w .rx)) (w .rx))
-        (flip (nak (w .tx))) (w .len) (pipe.after (pipe.token In) (pipe.after (packet In) (w .pipe)))
-        (w .awaits) (w .untaken) (cond m (setOut completed (setIn completed x)) (setIn completed x))
-    by e true q = inr (token-in m h (packet-in q r))
-    by true false q = inl refl
-    by false false q = inl refl
+r-in w x m h (inr r) = unless-ready (w .exempt) (isReady (w .pipe .inn .answers)) (λ q. token-in m h (packet-in q r))
 
 -- the token IN alone
 pub r-token-in : (w : Log) (x : View) (m : Bool) → isOn (x .out .armed) ≡ m → R w x
@@ -124,40 +116,64 @@ read-off w r v z = ap (λ p. reads p r v w) z
 flags : (p : EpCore) → (p .ready ≡ 1) × (p .armed ≡ 0) → _≡_ {A = Rec} (record { ready = p .ready; armed = p .armed }) completed
 flags p q = rw (q .0, q .1) refl
 
--- EP0's word of a direction is read, changed and written; then its record completed
-flipped-out : (f : ℕ → ℕ) (g : EpCore → EpCore) (w : Log) (s : St) → ((p : EpCore) → (g p .ready ≡ 1) × (g p .armed ≡ 0))
-    → w .phase ≡ off
-    → Watch Keeps Any (Exactly (withRx (f (w .rx)) w) (setOut completed (view (s .0)))) w (run concrete (do
-      modifyReg {i = true} EpRxCtrl 0 f
-      modifyEp Out 0 g
-      wake Out 0) s)
-flipped-out f g w s c z = at-ask {q = Read EpRxCtrl 0} tt (λ v t b k. back (read-off w EpRxCtrl v z) (at-ask tt (λ _ u _ l.
-    let h = l .1 .places in
-    let o = outWith g u in
-    at-end (
-      ap (λ n. withRx (f n) w) (b .0 refl),
-      act-view (waken (wakeCode Out 0 ∷ [])) refl o ∙ (out-view g u h
-          ∙ (ap (λ (r : Rec). setOut r (view (u .0))) (flags (g (concrete .get (ep-cell Out 0) u)) (c (concrete .get (ep-cell Out 0) u)))
-          ∙ ap (setOut completed) (l .0 ∙ k .0))),
-      steadily (act-steady (waken (wakeCode Out 0 ∷ [])) refl o)
-          (steadily (put-steady (ep-cell Out 0) (g (concrete .get (ep-cell Out 0) u)) u) (plainly (l .1))),
-    ))))
+-- ---- EP0's direction d: its control word in the log, its record in the view
 
-flipped-in : (f : ℕ → ℕ) (g : EpCore → EpCore) (w : Log) (s : St) → ((p : EpCore) → (g p .ready ≡ 1) × (g p .armed ≡ 0))
+abbrev ctrl : Dir → Log → ℕ
+ctrl Out w = w .rx
+ctrl In w = w .tx
+
+abbrev withCtrl : Dir → ℕ → Log → Log
+withCtrl Out v w = withRx v w
+withCtrl In v w = withTx v w
+
+abbrev setRec : Dir → Rec → View → View
+setRec Out r y = setOut r y
+setRec In r y = setIn r y
+
+abbrev recOf : Dir → View → Rec
+recOf Out y = y .out
+recOf In y = y .inn
+
+wrote : (d : Dir) (v : ℕ) (w : Log) → writes (ctrlOf d) 0 v w ≡ withCtrl d v w
+wrote Out v w = refl
+wrote In v w = refl
+
+brought : (d : Dir) (w : Log) (v : ℕ) → Brings w (Read (ctrlOf d) 0) v → v ≡ ctrl d w
+brought Out w v b = b .0 refl
+brought In w v b = b .1 refl
+
+same-ctrl : (d : Dir) (w : Log) → w ≡ withCtrl d (ctrl d w) w
+same-ctrl Out w = refl
+same-ctrl In w = refl
+
+armed-as : (d : Dir) (s : St) → concrete .get (ep-cell d 0) s .armed ≡ recOf d (view (s .0)) .armed
+armed-as Out s = refl
+armed-as In s = refl
+
+abbrev epWith : Dir → (EpCore → EpCore) → St → St
+epWith d f s = concrete .put (ep-cell d 0) (f (concrete .get (ep-cell d 0) s)) s
+
+rec-view : (d : Dir) (f : EpCore → EpCore) (s : St) → Whole s
+    → view (epWith d f s .0) ≡ setRec d (rec (f (concrete .get (ep-cell d 0) s))) (view (s .0))
+rec-view Out f s h = out-view f s h
+rec-view In f s h = in-view f s h
+
+-- its word is read, changed and written; then its record completed
+flipped : (d : Dir) (f : ℕ → ℕ) (g : EpCore → EpCore) (w : Log) (s : St) → ((p : EpCore) → (g p .ready ≡ 1) × (g p .armed ≡ 0))
     → w .phase ≡ off
-    → Watch Keeps Any (Exactly (withTx (f (w .tx)) w) (setIn completed (view (s .0)))) w (run concrete (do
-      modifyReg {i = true} EpTxCtrl 0 f
-      modifyEp In 0 g
-      wake In 0) s)
-flipped-in f g w s c z = at-ask {q = Read EpTxCtrl 0} tt (λ v t b k. back (read-off w EpTxCtrl v z) (at-ask tt (λ _ u _ l.
-    let h = l .1 .places in
-    let o = inWith g u in
+    → Watch Keeps Any (Exactly (withCtrl d (f (ctrl d w)) w) (setRec d completed (view (s .0)))) w (run concrete (do
+      modifyReg {i = true} (ctrlOf d) 0 f
+      modifyEp d 0 g
+      wake d 0) s)
+flipped d f g w s c z = at-ask {q = Read (ctrlOf d) 0} tt (λ v t b k. back (read-off w (ctrlOf d) v z) (at-ask tt (λ _ u _ l.
+    let o = epWith d g u in
     at-end (
-      ap (λ n. withTx (f n) w) (b .1 refl),
-      act-view (waken (wakeCode In 0 ∷ [])) refl o ∙ (in-view g u h
-          ∙ (ap (λ (r : Rec). setIn r (view (u .0))) (flags (g (concrete .get (ep-cell In 0) u)) (c (concrete .get (ep-cell In 0) u)))
-          ∙ ap (setIn completed) (l .0 ∙ k .0))),
-      steadily (act-steady (waken (wakeCode In 0 ∷ [])) refl o) (steadily (put-steady (ep-cell In 0) (g (concrete .get (ep-cell In 0) u)) u) (plainly (l .1))),
+      wrote d (f v) w ∙ ap (λ n. withCtrl d (f n) w) (brought d w v b),
+      act-view (waken (wakeCode d 0 ∷ [])) refl o ∙ (rec-view d g u (l .1 .places)
+          ∙ (ap (λ (r : Rec). setRec d r (view (u .0))) (flags (g (concrete .get (ep-cell d 0) u)) (c (concrete .get (ep-cell d 0) u)))
+          ∙ ap (setRec d completed) (l .0 ∙ k .0))),
+      steadily (act-steady (waken (wakeCode d 0 ∷ [])) refl o)
+          (steadily (put-steady (ep-cell d 0) (g (concrete .get (ep-cell d 0) u)) u) (plainly (l .1))),
     ))))
 
 -- a packet IN
@@ -181,19 +197,13 @@ sent-in w s z = at-ask {q = Read EpTxCtrl 0} tt (λ v t b k. back (read-off w Ep
     ))))
 
 -- a hidden stage
-moved-in : (w : Log) (s : St) → w .phase ≡ off → Plainly s → (m : Bool) → isOn (view (s .0) .inn .armed) ≡ m
-    → Watch Keeps Any (Exactly (withTx (cond m (nakflip (w .tx)) (w .tx)) w) (cond m (setIn completed (view (s .0))) (view (s .0)))) w
-    (run concrete (movedOn {i = true} In) s)
-moved-in w s z k true h = watch-cond (isOn (concrete .get (ep-cell In 0) s .armed))
-    (λ _. flipped-in nakflip statics.completed w s (λ _. (refl, refl)) z) (λ q. differ (sym q ∙ h))
-moved-in w s z k false h = watch-cond (isOn (concrete .get (ep-cell In 0) s .armed)) (λ q. differ (sym h ∙ q)) (λ _. at-end (refl, refl, k))
-
-moved-out : (w : Log) (s : St) → w .phase ≡ off → Plainly s → (m : Bool) → isOn (view (s .0) .out .armed) ≡ m
-    → Watch Keeps Any (Exactly (withRx (cond m (nakflip (w .rx)) (w .rx)) w) (cond m (setOut completed (view (s .0))) (view (s .0)))) w
-    (run concrete (movedOn {i = true} Out) s)
-moved-out w s z k true h = watch-cond (isOn (concrete .get (ep-cell Out 0) s .armed))
-    (λ _. flipped-out nakflip statics.completed w s (λ _. (refl, refl)) z) (λ q. differ (sym q ∙ h))
-moved-out w s z k false h = watch-cond (isOn (concrete .get (ep-cell Out 0) s .armed)) (λ q. differ (sym h ∙ q)) (λ _. at-end (refl, refl, k))
+moved-on : (d : Dir) (w : Log) (s : St) → w .phase ≡ off → Plainly s → (m : Bool) → isOn (recOf d (view (s .0)) .armed) ≡ m
+    → Watch Keeps Any (Exactly (withCtrl d (cond m (nakflip (ctrl d w)) (ctrl d w)) w) (cond m (setRec d completed (view (s .0))) (view (s .0)))) w
+    (run concrete (movedOn {i = true} d) s)
+moved-on d w s z k true h = watch-cond (isOn (concrete .get (ep-cell d 0) s .armed))
+    (λ _. flipped d nakflip statics.completed w s (λ _. (refl, refl)) z) (λ q. differ (sym q ∙ (ap isOn (armed-as d s) ∙ h)))
+moved-on d w s z k false h = watch-cond (isOn (concrete .get (ep-cell d 0) s .armed))
+    (λ q. differ (sym (ap isOn (armed-as d s) ∙ h) ∙ q)) (λ _. at-end (same-ctrl d w, refl, k))
 
 -- ---- `served`, its token apart
 
@@ -277,12 +287,12 @@ module _ (x : Transfer) (frame : ℕ) (mine : eqb (endpoint (x .st)) 0 ≡ true)
       let v = withRx (flip (u .rx)) u in
       (framing x frame mine u refl s k tok.Out false v (setOut completed (view (s .0))) refl
       (λ t e l. made (watch-cond (not (x .busy)) (λ _. watch-cond (eqb (endpoint (x .st)) 0) (λ _. watch-cond (togOk (x .st))
-      (λ _. watch-more (flipped-out flip (λ p. statics.completed (withLen (x .len) p)) u t (λ _. (refl, refl)) refl) (λ _ _ _ m. (
+      (λ _. watch-more (flipped Out flip (λ p. statics.completed (withLen (x .len) p)) u t (λ _. (refl, refl)) refl) (λ _ _ _ m. (
         m .0,
         m .1 ∙ ap (setOut completed) e,
         m .2,
       ))) (λ q. differ (sym q ∙ ok))) (λ q. differ (sym q ∙ mine))) (λ q. differ (sym q ∙ ap not b))))
-      (λ t e l. made (watch-more (moved-in v t refl l armedIn (ap (λ (y : View). isOn (y .inn .armed)) e))
+      (λ t e l. made (watch-more (moved-on In v t refl l armedIn (ap (λ (y : View). isOn (y .inn .armed)) e))
       (λ y _ o m. conclude y _ o _ (m .0) (m .1 ∙ ap (λ (q : View). cond armedIn (setIn completed q) q) e)
       (r-out w (view (s .0)) armedIn refl r) (same-stage armedIn _ _ two two) seen-su)))) .ok
 
@@ -295,7 +305,7 @@ module _ (x : Transfer) (frame : ℕ) (mine : eqb (endpoint (x .st)) 0 ≡ true)
       (λ t e l. made (watch-cond (not (x .busy)) (λ f. watch-cond (eqb (endpoint (x .st)) 0)
       (λ _. watch-cond (togOk (x .st)) (λ g. differ (sym none ∙ both (sym b) (sym o) f g)) (λ _. at-end (refl, e, l)))
       (λ q. differ (sym q ∙ mine))) (λ _. at-end (refl, e, l))))
-      (λ t e l. made (watch-more (moved-in u t refl l armedIn (ap (λ (y : View). isOn (y .inn .armed)) e))
+      (λ t e l. made (watch-more (moved-on In u t refl l armedIn (ap (λ (y : View). isOn (y .inn .armed)) e))
       (λ y _ o m. conclude y _ o _ (m .0) (m .1 ∙ ap (λ (q : View). cond armedIn (setIn completed q) q) e)
       (r-token-out w (view (s .0)) armedIn refl r) (same-stage armedIn _ _ two two) seen-su)))) .ok
     where
@@ -313,7 +323,7 @@ module _ (x : Transfer) (frame : ℕ) (mine : eqb (endpoint (x .st)) 0 ≡ true)
         m .1 ∙ ap (setIn completed) e,
         m .2,
       ))) (λ q. differ (sym q ∙ mine))) (λ q. differ (sym q ∙ ap not b))))
-      (λ t e l. made (watch-more (moved-out v t refl l armedOut (ap (λ (y : View). isOn (y .out .armed)) e))
+      (λ t e l. made (watch-more (moved-on Out v t refl l armedOut (ap (λ (y : View). isOn (y .out .armed)) e))
       (λ y _ o m. conclude y _ o _ (m .0) (m .1 ∙ ap (λ (q : View). cond armedOut (setOut completed q) q) e)
       (r-in w (view (s .0)) armedOut refl r) (same-stage armedOut _ _ two two) seen-su)))) .ok
 
@@ -323,7 +333,7 @@ module _ (x : Transfer) (frame : ℕ) (mine : eqb (endpoint (x .st)) 0 ≡ true)
       let u = happens (pipe.token In) (withPhase off w) in
       (framing x frame mine u refl s k tok.In false u (view (s .0)) refl
       (λ t e l. made (watch-cond (not (x .busy)) (λ f. differ (ap not (sym b) ∙ f)) (λ _. at-end (refl, e, l))))
-      (λ t e l. made (watch-more (moved-out u t refl l armedOut (ap (λ (y : View). isOn (y .out .armed)) e))
+      (λ t e l. made (watch-more (moved-on Out u t refl l armedOut (ap (λ (y : View). isOn (y .out .armed)) e))
       (λ y _ o m. conclude y _ o _ (m .0) (m .1 ∙ ap (λ (q : View). cond armedOut (setOut completed q) q) e)
       (r-token-in w (view (s .0)) armedOut refl r) (same-stage armedOut _ _ two two) seen-su)))) .ok
 

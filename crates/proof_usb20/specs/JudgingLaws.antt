@@ -20,10 +20,10 @@ use Rattle.state.specs.Driver.{key, epOn, withOn}
 use Rattle.model.specs.declared.Transfer.{Transfer}
 use Rattle.model.specs.Tree as tree
 use Rattle.model.specs.Cells.{EpCore, ep-cell}
-use Rattle.model.specs.Script.{run, when, waken}
-use Rattle.model.specs.Statics.{isOn, flag, withReady, withArmed, withTog, withLen, completed, modifyReg}
+use Rattle.model.specs.Script.{run, when, waken, _>>=_, _>>_}
+use Rattle.model.specs.Statics.{modifyEp, wake, isOn, flag, withReady, withArmed, withTog, withLen, completed, modifyReg}
 use Rattle.model.specs.Every.{sameReg}
-use Rattle.model.specs.Handler.{repeated, toggled, received, sent, outArm, inArm}
+use Rattle.model.specs.Handler.{repeated, toggled, outArm, inArm}
 use Rattle.model.specs.TogglesLaws.{number}
 use Rattle.model.specs.Usb20Toggles.{Pid, DATA0, DATA1, same}
 use Rattle.model_ops.specs.Rings.{St}
@@ -35,7 +35,7 @@ use Rattle.proof_usb20.specs.FollowLaws as follow
 use Rattle.proof_usb20.specs.Follow.{Seen, Fits, view, Follow}
 use Rattle.proof_usb20.specs.Watch.{at-end, at-ask}
 use Rattle.proof_usb20.specs.FollowLaws.{act-view}
-use Rattle.proof_usb20.specs.CalmLaws.{Idle, Kept, Hears, kept-by, hears-same, hears-then, heard, put-kept, put-hears, q-looks}
+use Rattle.proof_usb20.specs.CalmLaws.{Whole, Idle, Kept, Hears, kept-by, hears-same, hears-then, heard, put-kept, put-hears, q-looks}
 use Rattle.proof_usb20.specs.WokenLaws.{woken-room, woken-own}
 use Rattle.proof_usb20.specs.ReadingLaws.{Own, own-true, got, changed, fits-2}
 
@@ -202,59 +202,49 @@ module _ (D : Dir) (E e : ℕ) (o : Own D E D e) (u : St) (l : Kept D E true u) 
       by (inl f) = inl f
       by (inr f) = inr (f ∙ (ap (λ k. k + 1) h ∙ sym (ap flag n)))
 
-module _ (E : ℕ) (x : Transfer) (k : ℕ) (w : Track) (s : St) (quiet : w .new ≡ false) (none : heard Out E s ≡ 0) where
-  pub arm-out : own Out E Out (endpoint (x .st)) ≡ true → eqb (endpoint (x .st)) 0 ≡ false → x .len ≡ k
-      → Kept Out E true s → Fits w (view Out E (s .0)) → eqb (s .0 .globals .stage) 2 ≡ true
-      → Follow Out E (Done Out E) (withPhase (due k) w) (run concrete (outArm {i = true} x false) s)
+-- once the toggle has told: of a new packet the record is completed by f, and its task is woken
+module _ (D : Dir) (E e k : ℕ) (o : own D E D e ≡ true) (w : Track) (s : St) (quiet : w .new ≡ false) (none : heard D E s ≡ 0) where
+  finishes : (f : EpCore → EpCore)
+      → ((v : ℕ) (t : St) → Whole t → epOn (t .0) D E .tog ≡ number (shown v) → epOn (t .0) D E .len ≡ w .len
+      → isOn (epOn (t .0) D E .armed) ≡ false → eqb (t .0 .globals .stage) 2 ≡ true
+      → Fits (newly D v k w) (view D E (concrete .put (ep-cell D e) (f (concrete .get (ep-cell D e) t)) t .0)))
+      → (y : Track) (b : Bool) (t : St) → Told D E s w k y b t
+      → Follow D E (Done D E) y (run {i = true} concrete (when b (do
+        modifyEp D e f
+        wake D e)) t)
   unfolding withOn isOn
-  arm-out o nz e l r two =
-      follow.follow-cond Out E (eqb (endpoint (x .st)) 0) (λ z. differ (sym nz ∙ z))
-      (λ _. follow.follow-bind Out E (toggles-own Out E (endpoint (x .st)) k w o s l r two) (λ y b t m. go y b t m))
-    where
-      go : (y : Track) (b : Bool) (t : St) → Told Out E s w k y b t
-          → Follow Out E (Done Out E) y (run {i = true} concrete (when b (received (endpoint (x .st)) (x .len))) t)
-      go y b t (repeat h p f l two m) = follow.follow-cond Out E b (λ z. differ (sym h ∙ z))
-          (λ _. at-end (done-as Out E y (withPhase off w) t p refl f l two (inr (m .same refl ∙ (none ∙ sym (ap flag quiet))))))
-      go y b t (new v h p g n a l two m) = follow.follow-cond Out E b
-          (λ _.
-          let q = own-true Out E Out (endpoint (x .st)) o in
-          let f : EpCore → EpCore = λ p. completed (withLen (x .len) p) in
-          let u = concrete .put (ep-cell Out (endpoint (x .st))) (f (concrete .get (ep-cell Out (endpoint (x .st))) t)) t in
-          let c = changed Out E Out (endpoint (x .st)) f t q (l .whole) in
-          let i = waken (wakeCode Out (endpoint (x .st)) ∷ []) in
-          let ku = put-kept Out E (ep-cell Out (endpoint (x .st))) (f (concrete .get (ep-cell Out (endpoint (x .st))) t)) t l in
-          at-end
-          (done-as Out E y (newly Out v k w) (concrete .act i u) p refl
-          (subst (Fits (newly Out v k w)) (sym (act-view Out E i refl u ∙ c)) (fits-2 Out E two g refl e refl))
-          (woken-kept Out E (endpoint (x .st)) q u ku) two
-          (woken-heard Out E (endpoint (x .st)) q u ku (newly Out v k w) refl (put-hears Out E {m = true} (ep-cell Out (endpoint (x .st)))
-          (f (concrete .get (ep-cell Out (endpoint (x .st))) t)) t .same refl ∙ (m .same refl ∙ none)))))
-          (λ z. differ (sym z ∙ h))
+  finishes f fits y b t (repeat h p g l two m) = follow.follow-cond D E b (λ z. differ (sym h ∙ z))
+      (λ _. at-end (done-as D E y (withPhase off w) t p refl g l two (inr (m .same refl ∙ (none ∙ sym (ap flag quiet))))))
+  finishes f fits y b t (new v h p g n a l two m) = follow.follow-cond D E b
+      (λ _.
+      let q = own-true D E D e o in
+      let r = f (concrete .get (ep-cell D e) t) in
+      let u = concrete .put (ep-cell D e) r t in
+      let i = waken (wakeCode D e ∷ []) in
+      let ku = put-kept D E (ep-cell D e) r t l in
+      at-end (done-as D E y (newly D v k w) (concrete .act i u) p refl
+      (subst (Fits (newly D v k w)) (sym (act-view D E i refl u)) (fits v t (l .whole) g n a two)) (woken-kept D E e q u ku) two
+      (woken-heard D E e q u ku (newly D v k w) refl (put-hears D E {m = true} (ep-cell D e) r t .same refl ∙ (m .same refl ∙ none)))))
+      (λ z. differ (sym z ∙ h))
 
-module _ (E : ℕ) (x : Transfer) (frame k : ℕ) (w : Track) (s : St) (quiet : w .new ≡ false) (none : heard In E s ≡ 0) where
-  pub arm-in : own In E In (endpoint (x .st)) ≡ true → eqb (endpoint (x .st)) 0 ≡ false → x .len ≡ k → Kept In E true s
-      → Fits w (view In E (s .0)) → eqb (s .0 .globals .stage) 2 ≡ true
-      → Follow In E (Done In E) (withPhase (due k) w) (run concrete (inArm {i = true} x false frame) s)
-  unfolding withOn isOn
-  arm-in o nz e l r two =
-      follow.follow-cond In E (eqb (endpoint (x .st)) 0) (λ z. differ (sym nz ∙ z))
-      (λ _. follow.follow-bind In E (toggles-own In E (endpoint (x .st)) k w o s l r two) (λ y b t m. go y b t m))
-    where
-      go : (y : Track) (b : Bool) (t : St) → Told In E s w k y b t
-          → Follow In E (Done In E) y (run {i = true} concrete (when b (sent (endpoint (x .st)))) t)
-      go y b t (repeat h p f l two m) = follow.follow-cond In E b (λ z. differ (sym h ∙ z))
-          (λ _. at-end (done-as In E y (withPhase off w) t p refl f l two (inr (m .same refl ∙ (none ∙ sym (ap flag quiet))))))
-      go y b t (new v h p g n a l two m) = follow.follow-cond In E b
-          (λ _.
-          let q = own-true In E In (endpoint (x .st)) o in
-          let u = concrete .put (ep-cell In (endpoint (x .st))) (withReady 1 (concrete .get (ep-cell In (endpoint (x .st))) t)) t in
-          let c = changed In E In (endpoint (x .st)) (withReady 1) t q (l .whole) in
-          let i = waken (wakeCode In (endpoint (x .st)) ∷ []) in
-          let ku = put-kept In E (ep-cell In (endpoint (x .st))) (withReady 1 (concrete .get (ep-cell In (endpoint (x .st))) t)) t l in
-          at-end
-          (done-as In E y (newly In v k w) (concrete .act i u) p refl
-          (subst (Fits (newly In v k w)) (sym (act-view In E i refl u ∙ c)) (fits-2 In E two g refl n a))
-          (woken-kept In E (endpoint (x .st)) q u ku) two
-          (woken-heard In E (endpoint (x .st)) q u ku (newly In v k w) refl (put-hears In E {m = true} (ep-cell In (endpoint (x .st)))
-          (withReady 1 (concrete .get (ep-cell In (endpoint (x .st))) t)) t .same refl ∙ (m .same refl ∙ none)))))
-          (λ z. differ (sym z ∙ h))
+pub arm-out : (E : ℕ) (x : Transfer) (k : ℕ) (w : Track) (s : St) → w .new ≡ false → heard Out E s ≡ 0
+    → own Out E Out (endpoint (x .st)) ≡ true → eqb (endpoint (x .st)) 0 ≡ false → x .len ≡ k
+    → Kept Out E true s → Fits w (view Out E (s .0)) → eqb (s .0 .globals .stage) 2 ≡ true
+    → Follow Out E (Done Out E) (withPhase (due k) w) (run concrete (outArm {i = true} x false) s)
+unfolding isOn
+arm-out E x k w s quiet none o nz e l r two = follow.follow-cond Out E (eqb (endpoint (x .st)) 0) (λ z. differ (sym nz ∙ z))
+    (λ _. follow.follow-bind Out E (toggles-own Out E (endpoint (x .st)) k w o s l r two)
+    (finishes Out E (endpoint (x .st)) k o w s quiet none (λ p. completed (withLen (x .len) p)) (λ v t u g n a two.
+    subst (Fits (newly Out v k w))
+    (sym (changed Out E Out (endpoint (x .st)) (λ p. completed (withLen (x .len) p)) t (own-true Out E Out (endpoint (x .st)) o) u))
+    (fits-2 Out E two g refl e refl))))
+
+pub arm-in : (E : ℕ) (x : Transfer) (frame k : ℕ) (w : Track) (s : St) → w .new ≡ false → heard In E s ≡ 0
+    → own In E In (endpoint (x .st)) ≡ true → eqb (endpoint (x .st)) 0 ≡ false → x .len ≡ k → Kept In E true s
+    → Fits w (view In E (s .0)) → eqb (s .0 .globals .stage) 2 ≡ true
+    → Follow In E (Done In E) (withPhase (due k) w) (run concrete (inArm {i = true} x false frame) s)
+unfolding isOn
+arm-in E x frame k w s quiet none o nz e l r two = follow.follow-cond In E (eqb (endpoint (x .st)) 0) (λ z. differ (sym nz ∙ z))
+    (λ _. follow.follow-bind In E (toggles-own In E (endpoint (x .st)) k w o s l r two)
+    (finishes In E (endpoint (x .st)) k o w s quiet none (withReady 1) (λ v t u g n a two. subst (Fits (newly In v k w))
+    (sym (changed In E In (endpoint (x .st)) (withReady 1) t (own-true In E In (endpoint (x .st)) o) u)) (fits-2 In E two g refl n a))))

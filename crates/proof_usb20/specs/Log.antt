@@ -25,6 +25,7 @@ use Rattle.model.specs.Calls.{PollWrite, PollDataOut, BeginDataIn, Other, Alloc
 use Rattle.model.specs.Calls.{BusEnable, BusDisable, Microframe, SetStalled, IsStalled, SetPaced, Advance, BeginRead}
 use Rattle.model.specs.Calls.{BeginSetup, PollSetup, PollDataIn, BeginAccept, PollAccept, BeginReject, BeginDataOut}
 use Rattle.model.specs.Calls.{BeginAcceptSetAddress}
+use Rattle.model.specs.Kinds as kinds
 use Rattle.model.specs.Every.{sameReg}
 use Rattle.model.specs.AddressWrites.{Writes}
 use Rattle.model.specs.TogglesLaws.{number}
@@ -249,59 +250,37 @@ ends (aside o) n w = w
 pub data Poll : Type 0 where
   none begins pollSetup pollOut pollIn pollStatus : Poll
 
-abbrev pub pollSlotted : Slotted → Poll
-pollSlotted (SetEnabled d e on) = none
-pollSlotted (PollRead e n) = none
-pollSlotted (BeginWrite e bs) = none
-pollSlotted (PollWrite e bs) = none
-pollSlotted (PollDataOut n) = pollOut
-pollSlotted (BeginDataIn bs first last) = begins
+abbrev stagePoll : kinds.Poll → Poll
+stagePoll (kinds.request d e) = none
+stagePoll kinds.setup = pollSetup
+stagePoll kinds.data-out = pollOut
+stagePoll kinds.data-in = pollIn
+stagePoll kinds.status = pollStatus
 
-abbrev pub pollOther : Other → Poll
-pollOther (Allocate d kind address maximum interval) = none
-pollOther (AllocateAll bytes) = none
-pollOther (Start maximum) = none
-pollOther BusPoll = none
-pollOther BusEnable = none
-pollOther BusDisable = none
-pollOther Microframe = none
-pollOther (SetStalled d e on) = none
-pollOther (IsStalled d e) = none
-pollOther (SetPaced e on) = none
-pollOther (Advance e) = none
-pollOther (BeginRead e n) = none
-pollOther BeginSetup = none
-pollOther PollSetup = pollSetup
-pollOther PollDataIn = pollIn
-pollOther BeginAccept = begins
-pollOther PollAccept = pollStatus
-pollOther BeginReject = none
-pollOther (BeginDataOut n first) = begins
-pollOther (BeginAcceptSetAddress a) = begins
+abbrev partPoll : kinds.Part → Poll
+partPoll kinds.apart = none
+partPoll kinds.begins = begins
+partPoll (kinds.polls p) = stagePoll p
+partPoll (kinds.turns d e on) = none
 
 abbrev pub pollOf : Op → Poll
-pollOf interrupt = none
-pollOf (slotted o) = pollSlotted o
-pollOf (other o) = pollOther o
-pollOf (aside o) = none
+pollOf o = partPoll (kinds.partOf o)
 
--- what it was waiting for is over
+-- what it was waiting for is over; of a setup's poll the log is u
+abbrev pub overBy : Log → Poll → Log → Log
+overBy u none w = w
+overBy u begins w = w
+overBy u pollSetup w = u
+overBy u pollOut w = withAwaits nothing w
+overBy u pollIn w = withAwaits nothing w
+overBy u pollStatus w = withAwaits nothing w
+
 abbrev pub settled : Poll → Log → Log
-settled none w = w
-settled begins w = w
-settled pollSetup w = w
-settled pollOut w = withAwaits nothing w
-settled pollIn w = withAwaits nothing w
-settled pollStatus w = withAwaits nothing w
+settled p w = overBy w p w
 
 -- a poll is done: it has taken what it waited for
 abbrev pub done : Poll → Log → Log
-done none w = w
-done begins w = w
-done pollSetup w = withTaken w
-done pollOut w = withAwaits nothing w
-done pollIn w = withAwaits nothing w
-done pollStatus w = withAwaits nothing w
+done p w = overBy (withTaken w) p w
 
 -- a poll's refusals 9 and 10 end its request
 abbrev pub closes : Op → Answer → Log → Log

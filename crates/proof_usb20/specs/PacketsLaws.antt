@@ -17,11 +17,12 @@ use Rattle.regs.specs.Status.{endpoint}
 use Rattle.state.specs.Wakes.{Wakes, wakeCode, all-woken}
 use Rattle.state.specs.Driver.{epOn, withOn}
 use Rattle.model.specs.declared.Transfer.{Transfer}
+use Rattle.state.specs.declared.EpState.{EpState}
 use Rattle.model.specs.Tree as tree
 use Rattle.model.specs.Cells.{EpCore, ep-cell}
-use Rattle.model.specs.Script.{Script, ret, test, when, get, run, waken, _>>=_, _>>_}
-use Rattle.model.specs.Statics.{isOn, flag, withArmed, withTog, withLen, withReady, completed, modifyEp, modifyReg}
-use Rattle.model.specs.Handler.{looks, repeated, toggled, received, sent, outArm, inArm}
+use Rattle.model.specs.Script.{when, run, waken, _>>=_, _>>_}
+use Rattle.model.specs.Statics.{modifyEp, wake, isOn, flag, withArmed, withTog, withLen, withReady, completed}
+use Rattle.model.specs.Handler.{looks, repeated, verdict, toggled, outArm, inArm}
 use Rattle.model.specs.Every.{Every, at-end, at-ask}
 use Rattle.model.specs.EveryLaws.{every-bind, every-cond}
 use Rattle.model.specs.Usb20Toggles.{Pid, DATA0, DATA1, Transaction, bitAfterAll, passed}
@@ -69,20 +70,8 @@ module _ (d : Dir) (e : ℕ) (r : EpCore) (k : Wakes) (p : Pid) where
   Judged true ws b t = (b ≡ true) × (concrete .get (ep-cell d e) t ≡ withArmed 0 (withTog (number p) r)) × (ws ≡ []) × Whole t × (t .0 .wakes ≡ k)
   Judged false ws b t = (b ≡ false) × (concrete .get (ep-cell d e) t ≡ r) × Answered d e p (isOn (r .armed)) ws × (t .0 .wakes ≡ k)
 
-  -- `toggled` once the word is read
-  abbrev verdict : {i : Bool} → ℕ → Script i Bool
-  verdict word = do
-    s ← get (ep-cell d e)
-    test (repeated s word)
-        (do
-          when (isOn (s .armed)) (modifyReg (ctrlOf d) e ack)
-          ret false)
-        (do
-          modifyEp d e (λ s. withArmed 0 (withTog (flag (isData1 word)) s))
-          ret true)
-
   judged : (i new : Bool) (ws : List Access) → ws ≡ [] → (u : St) (word : ℕ) → Same u → toggle word ≡ number p
-      → repeated r word ≡ not new → Runs (Judged new) ws (run concrete (verdict {i = i} word) u)
+      → repeated r word ≡ not new → Runs (Judged new) ws (run concrete (verdict {i = i} d e word) u)
   unfolding withOn
   judged i true ws n u word h b y = every-cond (repeated (concrete .get (ep-cell d e) u) word)
       (λ x. differ (sym y ∙ (ap (λ (q : EpCore). repeated q word) (sym (h .0)) ∙ x)))
@@ -128,35 +117,37 @@ judges : (r : EpCore) (p : Pid) (new : Bool) → eqb (r .tog) (number p) ≡ not
 unfolding repeated
 judges r p new h word b = ap (eqb (r .tog)) (shown p word b) ∙ h
 
+-- the record of a packet that passed is completed by f, and its task is woken
+completes : (d : Dir) (e : ℕ) (r : EpCore) (k : Wakes) (p : Pid) (n : ℕ) (f : EpCore → EpCore)
+    → ((x : EpState) → plainOf (merged x (f (plainOf x))) ≡ f (plainOf x)) → f (withArmed 0 (withTog (number p) r)) ≡ delivered d p n r
+    → (new : Bool) (ws : List Access) (b : Bool) (t : St) → Judged d e r k p new ws b t
+    → Runs d e r k p (λ ws _ t. Passed d e r k p n new ws t) ws (run {i = true} concrete (when b (do
+      modifyEp d e f
+      wake d e)) t)
+unfolding withOn
+completes d e r k p n f same done true ws b t j = every-cond b
+    (λ _.
+    let v = f (concrete .get (ep-cell d e) t) in
+    at-end (
+      wake-leaves d e (wakeCode d e ∷ []) (concrete .put (ep-cell d e) v t)
+          ∙ (put-get d e r k p v t (j .3) (same (epOn (t .0) d e)) ∙ (ap f (j .1) ∙ done)),
+      ap (all-woken (wakeCode d e ∷ [])) (j .4),
+      j .2,
+    ))
+    (λ z. differ (sym z ∙ j .0))
+completes d e r k p n f same done false ws b t j = every-cond b (λ z. differ (sym (j .0) ∙ z)) (λ _. at-end (j .1, j .3, j .2))
+
 -- the sequence bit in the chip is p; `new`: the recorded one is another. OUT ..
 pub out-packet : (x : Transfer) (s : St) (p : Pid) (new : Bool) → eqb (endpoint (x .st)) 0 ≡ false → Whole s
     → let e = endpoint (x .st) in let r = concrete .get (ep-cell Out e) s in
     eqb (r .tog) (number p) ≡ not new
     → Every (toggling Out e p) (Stay Out e (s .0 .wakes)) (λ _. Unit {0})
     (λ ws _ t. Passed Out e r (s .0 .wakes) p (x .len) new ws t) [] (run concrete (outArm {i = true} x false) s)
-unfolding withOn
 out-packet x s p new o h y =
     let e = endpoint (x .st) in let r = concrete .get (ep-cell Out e) s in let k = s .0 .wakes in
     every-cond (eqb e 0) (λ z. differ (sym o ∙ z))
-    (λ _. every-bind (told Out e r k p true new s (refl, (h, refl)) (judges r p new y)) (λ ws b t j. go new ws b t j))
-  where
-    go : (new : Bool) (ws : List Access) (b : Bool) (t : St)
-        → Judged Out (endpoint (x .st)) (concrete .get (ep-cell Out (endpoint (x .st))) s) (s .0 .wakes) p new ws b t
-        → Every (toggling Out (endpoint (x .st)) p) (Stay Out (endpoint (x .st)) (s .0 .wakes)) (λ _. Unit {0})
-        (λ ws _ t. Passed Out (endpoint (x .st)) (concrete .get (ep-cell Out (endpoint (x .st))) s) (s .0 .wakes) p
-        (x .len) new ws t) ws (run {i = true} concrete (when b (received (endpoint (x .st)) (x .len))) t)
-    go true ws b t j = every-cond b
-        (λ _.
-        let e = endpoint (x .st) in let v = completed (withLen (x .len) (concrete .get (ep-cell Out e) t)) in
-        at-end (
-          wake-leaves Out e (wakeCode Out e ∷ []) (concrete .put (ep-cell Out e) v t)
-              ∙ (put-get Out e (concrete .get (ep-cell Out e) s) (s .0 .wakes) p v t (j .3) refl
-              ∙ ap (λ (q : EpCore). completed (withLen (x .len) q)) (j .1)),
-          ap (all-woken (wakeCode Out e ∷ [])) (j .4),
-          j .2,
-        ))
-        (λ z. differ (sym z ∙ j .0))
-    go false ws b t j = every-cond b (λ z. differ (sym (j .0) ∙ z)) (λ _. at-end (j .1, j .3, j .2))
+    (λ _. every-bind (told Out e r k p true new s (refl, (h, refl)) (judges r p new y))
+    (completes Out e r k p (x .len) (λ q. completed (withLen (x .len) q)) (λ _. refl) refl new))
 
 -- .. and IN
 pub in-packet : (x : Transfer) (s : St) (frame : ℕ) (p : Pid) (new : Bool) → eqb (endpoint (x .st)) 0 ≡ false → Whole s
@@ -164,28 +155,11 @@ pub in-packet : (x : Transfer) (s : St) (frame : ℕ) (p : Pid) (new : Bool) →
     eqb (r .tog) (number p) ≡ not new
     → Every (toggling In e p) (Stay In e (s .0 .wakes)) (λ _. Unit {0})
     (λ ws _ t. Passed In e r (s .0 .wakes) p (x .len) new ws t) [] (run concrete (inArm {i = true} x false frame) s)
-unfolding withOn
 in-packet x s frame p new o h y =
     let e = endpoint (x .st) in let r = concrete .get (ep-cell In e) s in let k = s .0 .wakes in
     every-cond (eqb e 0) (λ z. differ (sym o ∙ z))
-    (λ _. every-bind (told In e r k p true new s (refl, (h, refl)) (judges r p new y)) (λ ws b t j. go new ws b t j))
-  where
-    go : (new : Bool) (ws : List Access) (b : Bool) (t : St)
-        → Judged In (endpoint (x .st)) (concrete .get (ep-cell In (endpoint (x .st))) s) (s .0 .wakes) p new ws b t
-        → Every (toggling In (endpoint (x .st)) p) (Stay In (endpoint (x .st)) (s .0 .wakes)) (λ _. Unit {0})
-        (λ ws _ t. Passed In (endpoint (x .st)) (concrete .get (ep-cell In (endpoint (x .st))) s) (s .0 .wakes) p (x .len) new ws t) ws
-        (run {i = true} concrete (when b (sent (endpoint (x .st)))) t)
-    go true ws b t j = every-cond b
-        (λ _.
-        let e = endpoint (x .st) in let v = withReady 1 (concrete .get (ep-cell In e) t) in
-        at-end (
-          wake-leaves In e (wakeCode In e ∷ []) (concrete .put (ep-cell In e) v t)
-              ∙ (put-get In e (concrete .get (ep-cell In e) s) (s .0 .wakes) p v t (j .3) refl ∙ ap (withReady 1) (j .1)),
-          ap (all-woken (wakeCode In e ∷ [])) (j .4),
-          j .2,
-        ))
-        (λ z. differ (sym z ∙ j .0))
-    go false ws b t j = every-cond b (λ z. differ (sym (j .0) ∙ z)) (λ _. at-end (j .1, j .3, j .2))
+    (λ _. every-bind (told In e r k p true new s (refl, (h, refl)) (judges r p new y))
+    (completes In e r k p (x .len) (withReady 1) (λ _. refl) refl new))
 
 -- the record has the bit b as it was, `ts` are the transactions since, of which at most one passed: the chip's bit is
 -- another exactly if one did

@@ -145,26 +145,21 @@ other-status taken r h = refl
 other-status (given last) r h = refl
 other-status (confirmed s) r h = differ (sym h ∙ ap (λ (n : ℕ). eqb n 4) (r .waits .0))
 
+-- where nothing is waited for, nothing is ready
+nothing-ready : {p : Pipe} {x : View} {b : Bool} → Rests p x
+    → (x .control .sort ≡ 2 → isOn (x .out .ready) ≡ b → false ≡ b) × (x .control .sort ≡ 4 → isOn (x .inn .ready) ≡ b → false ≡ b)
+nothing-ready (no-request a b c) = (λ q _. absurd (a q), λ q _. absurd (c q))
+nothing-ready (set-up e f g h i) = (λ _ o. sym f ∙ o, λ _ o. sym g ∙ o)
+
 -- ---- data_out
 
 -- not ready: the wait goes on, or a setup packet has ended it
-ready-out : (a : Awaited) {rx tx l : ℕ} {p : Pipe} {u : Bool} {x : View} → Rel rx tx l p a u x → x .control .sort ≡ 2
-    → isOn (x .out .ready) ≡ true → asksAfter pollOut a && over a p ≡ true
-ready-out nothing {p = p} {x = x} r q o = by (r .waits)
-  where
-    by : Rests p x → false ≡ true
-    by (no-request a b c) = absurd (a q)
-    by (set-up e f g h i) = differ (sym f ∙ o)
+ready-out : (a : Awaited) {rx tx l : ℕ} {p : Pipe} {u b : Bool} {x : View} → Rel rx tx l p a u x → x .control .sort ≡ 2
+    → isOn (x .out .ready) ≡ b → asksAfter pollOut a && over a p ≡ b
+ready-out nothing r q o = nothing-ready (r .waits) .0 q o
 ready-out taken r q o = sym (r .waits .1) ∙ o
 ready-out (given last) r q o = absurd (omega (arith, q, r .waits .0))
 ready-out (confirmed s) r q o = absurd (omega (arith, q, r .waits .0))
-
-unready-out : (a : Awaited) {rx tx l : ℕ} {p : Pipe} {u : Bool} {x : View} → Rel rx tx l p a u x → x .control .sort ≡ 2
-    → isOn (x .out .ready) ≡ false → asksAfter pollOut a && over a p ≡ false
-unready-out nothing r q o = refl
-unready-out taken r q o = sym (r .waits .1) ∙ o
-unready-out (given last) r q o = absurd (omega (arith, q, r .waits .0))
-unready-out (confirmed s) r q o = absurd (omega (arith, q, r .waits .0))
 
 pub law-poll-data-out : (n : ℕ) → Law (slotted (PollDataOut n))
 law-poll-data-out n w s (inl e) z = exempt-law (slotted (PollDataOut n)) tt w s e
@@ -179,30 +174,19 @@ law-poll-data-out n w s (inr r) z =
     (λ _. at-end (over-now r (kin-out s (z .places)) (done-none (outWith (withReady 0) s)), (tt, λ _. ready-out (w .awaits) r two o))))
     (λ o. watch-cond (isOn (s .0 .globals .«setup_ready»))
     (λ g. at-end (over-now r (kin-none s) (done-none s), ((λ _ _. sym (r .setup) ∙ g, λ h. differ h), tt)))
-    (λ g. at-end (inr r, ((λ _. unready-out (w .awaits) r two o, λ _. sym (r .setup) ∙ g), tt)))))
+    (λ g. at-end (inr r, ((λ _. ready-out (w .awaits) r two o, λ _. sym (r .setup) ∙ g), tt)))))
     (λ _. at-end (over-now r (kin-out s (z .places)) (done-none (outWith (withReady 0) s)), ((λ h. differ h, λ h. differ h), tt))))
     (λ k. at-end (inr r, ((λ h. differ h, λ _ _. other-out (w .awaits) r k), tt))))
     (λ _. at-end (inr r, ((λ h. differ h, λ h. differ h), tt)))
 
 -- ---- accept
 
-ready-status : (a : Awaited) {rx tx l : ℕ} {p : Pipe} {u : Bool} {x : View} → Rel rx tx l p a u x → x .control .sort ≡ 4
-    → isOn (x .inn .ready) ≡ true → asksAfter pollStatus a && over a p ≡ true
-ready-status nothing {p = p} {x = x} r q o = by (r .waits)
-  where
-    by : Rests p x → false ≡ true
-    by (no-request a b c) = absurd (c q)
-    by (set-up e f g h i) = differ (sym g ∙ o)
+ready-status : (a : Awaited) {rx tx l : ℕ} {p : Pipe} {u b : Bool} {x : View} → Rel rx tx l p a u x → x .control .sort ≡ 4
+    → isOn (x .inn .ready) ≡ b → asksAfter pollStatus a && over a p ≡ b
+ready-status nothing r q o = nothing-ready (r .waits) .1 q o
 ready-status taken r q o = absurd (omega (arith, q, r .waits .0))
 ready-status (given last) r q o = absurd (omega (arith, q, r .waits .0))
 ready-status (confirmed s) r q o = sym (r .waits .1) ∙ o
-
-unready-status : (a : Awaited) {rx tx l : ℕ} {p : Pipe} {u : Bool} {x : View} → Rel rx tx l p a u x
-    → x .control .sort ≡ 4 → isOn (x .inn .ready) ≡ false → asksAfter pollStatus a && over a p ≡ false
-unready-status nothing r q o = refl
-unready-status taken r q o = absurd (omega (arith, q, r .waits .0))
-unready-status (given last) r q o = absurd (omega (arith, q, r .waits .0))
-unready-status (confirmed s) r q o = sym (r .waits .1) ∙ o
 
 -- the address that is written is the accepted one, if one is
 address-written : (a : Awaited) {rx tx l : ℕ} {p : Pipe} {u : Bool} {x : View} → Rel rx tx l p a u x → x .control .sort ≡ 4
@@ -242,7 +226,7 @@ law-poll-accept w s (inr r) z =
     )))
     (λ o. watch-cond (isOn (s .0 .globals .«setup_ready»))
     (λ g. at-end (over-now r (kin-none s) (done-none s), ((λ _ _. sym (r .setup) ∙ g, λ h. differ h), tt, tt)))
-    (λ g. at-end (inr r, ((λ _. unready-status (w .awaits) r four o, λ _. sym (r .setup) ∙ g), tt, tt)))))
+    (λ g. at-end (inr r, ((λ _. ready-status (w .awaits) r four o, λ _. sym (r .setup) ∙ g), tt, tt)))))
     (λ k. at-end (inr r, ((λ h. differ h, λ _ _. other-status (w .awaits) r k), tt, tt))))
     (λ _. at-end (inr r, ((λ h. differ h, λ h. differ h), tt, tt)))
 

@@ -29,7 +29,7 @@ use Rattle.model.specs.Tree as tree
 use Rattle.model.specs.Cells.{ep-cell, allocator-cell}
 use Rattle.model.specs.Script.{bind, run, row, rows, bus-reset, no-wakes, waken, allocate, allocate0}
 use Rattle.model.specs.Statics.{isOn, withTog, completed, wake, wakeAll, withPower}
-use Rattle.model.specs.Answers.{Answer, isAllocated, operation, resultless}
+use Rattle.model.specs.Answers.{isAllocated, operation, resultless}
 use Rattle.model.specs.Bus as bus
 use Rattle.model.specs.Driver.{newEndpoint, allocated-as, startEp0, started-as}
 use Rattle.model.specs.AllocateAll.{allocateEach, announce, beginsAt, announceAfter, announceAll, allocate-read}

@@ -56,8 +56,8 @@ module _ (O : Observer) where
         → run concrete (asideCode o) (d, b) ≡ tree.ends a t → (O .view (t .0) ≡ O .view d) × (t .0 .wakes ≡ d .wakes)
     pub new : (c : Config) (b : Buf)
         → Ups (λ s. R (O .before) (O .view (s .0))) (run concrete (calls .starts c) (driverOf .fresh c, b))
-    -- row 1 leaves all as it was
-    pub unlent : (o : Op) (w : O .Log) (x : O .View) → R w x → R (O .closes o (Refused 1) (O .opens o w)) x
+    -- row 1, of a call that brings the slots, leaves all as it was
+    pub unlent : (o : Op) → calls .slots o ≡ true → (w : O .Log) (x : O .View) → R w x → R (O .closes o (Refused 1) (O .opens o w)) x
     pub fair-1 : (o : Op) (w : O .Log) → O .Fair o (Refused 1) w
 
   module _ {R : O .Log → O .View → Type 0} (L : Laws R) where
@@ -170,15 +170,19 @@ module _ (O : Observer) where
     during (aside o) b true y k d l x z j = passing (aside o) b true y k x d l o z j (run concrete (asideCode o) (d, b)) refl
     during (aside o) b false y k d l x z j = stepped (aside o) b false y k x (ended (Refused 3)) d b j
 
+    brought-so : (s m : Bool) → cond s m false ≡ true → s ≡ true
+    brought-so true m h = refl
+    brought-so false m h = h
+
     -- at rest, with row 1
-    afresh : (o : Op) (b : Buf) (g : Bool) (d : Driver) (l : Buf) (w : O .Log) → R w (O .view d) → O .Meant (O .view d)
+    afresh : (o : Op) (b : Buf) (g : Bool) → (g ≡ true → calls .slots o ≡ true) → (d : Driver) (l : Buf) (w : O .Log) → R w (O .view d) → O .Meant (O .view d)
         → Sorting d
         → Steps (begin o) b
         (cond g (stay calls driverOf 1 (record { way = idle; st = d; buf = l }))
         (begun calls driverOf (λ s. s) o (record { way = idle; st = d; buf = l }) idle b)) (watched O w at-rest)
-    afresh o b true d l w r p z few = let n = L .unlent o w (O .view d) r in
+    afresh o b true h d l w r p z few = let n = L .unlent o (h refl) w (O .view d) r in
         record { claim = L .fair-1 o (O .opens o w); standing = L .stands _ (O .view d) n; next = n }
-    afresh o b false d l w r p z few = begins o (calls .irq o) b w (L .call o w (d, b) r p z) (L .asks o (d, b)) few
+    afresh o b false h d l w r p z few = begins o (calls .irq o) b w (L .call o w (d, b) r p z) (L .asks o (d, b)) few
 
     -- row 1 of a call in the midst of an operation
     row-1 : (o : Op) (b : Buf) (g : Bool) (i : Bool) (y : Awaits) (k : ℕ → St → tree.Out St Answer) (d : Driver) (l : Buf) (x : Watched O)
@@ -240,7 +244,7 @@ module _ (O : Observer) where
             → Steps (begin o) b
             (cond g (stay calls driverOf 1 (record { way = y; st = m .st; buf = m .buf }))
             (begun calls driverOf (λ s. s) o (record { way = y; st = m .st; buf = m .buf }) y b)) (watched O (x .log) u)
-        by idle at-rest i few = afresh o b g (m .st) (m .buf) (x .log) i p z few
+        by idle at-rest i few = afresh o b g (brought-so (calls .slots o) (misfit calls driverOf (m .st) b)) (m .st) (m .buf) (x .log) i p z few
         by (busy h a k) u i few = row-1 o b g h a k (m .st) (m .buf) (watched O (x .log) u) z i
     step (go v) b m x j z p r few = continues v b (misfit calls driverOf (m .st) b) (m .way) (m .st) (m .buf) (x .log) (x .under) j z r few
     step (question q) b m x j z p r few = record { claim = tt; standing = standing-of (m .way) (m .st) (x .log) (x .under) j; next = j }

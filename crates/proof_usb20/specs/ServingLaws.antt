@@ -22,7 +22,7 @@ use Rattle.state.specs.Kept.{withIntEn}
 use Rattle.frame.specs.Usb20.{indexOf}
 use Rattle.model.specs.declared.Transfer.{Transfer}
 use Rattle.model.specs.Cells.{EpCore, ep-cell, globals-cell}
-use Rattle.model.specs.Script.{get, when, run, waken, no-wakes, setup-word, _>>=_, _>>_}
+use Rattle.model.specs.Script.{when, run, waken, no-wakes, setup-word, _>>=_, _>>_}
 use Rattle.model.specs.Statics.{isOn, withReady, withArmed, withSetup, withEntered, modifyIntEn, wakeBus}
 use Rattle.model.specs.Calls.{interrupt}
 use Rattle.model.specs.Handler.{entered, nakNonIso, isoFor, ownIn, framed, released, onTransfer, onSetup, onInterrupt}

@@ -1,5 +1,5 @@
 -- The laws of the control pipe's begins: each leaves EP0 armed as the pipe says, or is refused and leaves all as it was
-use mathlib.Core.Bool.{Bool, true, false}
+use mathlib.Core.Bool.{Bool, true, false, cond}
 use mathlib.Core.List.{List}
 use mathlib.Core.Logic.{_⊎_, inl, inr}
 use mathlib.Core.Path.{_≡_, refl, ap, subst, sym, _∙_}
@@ -7,9 +7,13 @@ use Prim.Native.Nat.{ℕ, _%_}
 use native.Mathlib.Omega.{arith}
 use lib.Dec.{eqb, ltb}
 use lib.ListN.{length}
+use Rattle.regs.specs.declared.Access.{Access}
 use Rattle.regs.specs.declared.Dir.the-variants.{Out, In}
 use Rattle.regs.specs.ControlWord.{toggle, ack, stall, status}
 use Rattle.state.specs.declared.Control.{Control}
+use Rattle.model.specs.Tree as tree
+use Rattle.model.specs.Tree.{ends}
+use Rattle.model.specs.Answers.{Answer, Refused}
 use Rattle.model.specs.Cells.{EpCore, ep-cell, control-cell}
 use Rattle.model.specs.Script.{no-wakes, fill0}
 use Rattle.model.specs.Statics.{isOn, withReady, withArmed, withLen}
@@ -20,10 +24,11 @@ use Rattle.model_ops.specs.Rings.{St}
 use Rattle.model_ops.specs.Concrete.{concrete}
 use Rattle.proof_book.specs.TransferKindsLaws.{put-steady, act-steady}
 use Rattle.proof_usb20.specs.Pipe.{Pipe, Awaited, keeps, sets}
-use Rattle.proof_usb20.specs.Log.{afresh}
+use Rattle.proof_usb20.specs.Log.{Log, afresh}
+use Rattle.proof_usb20.specs.Ep0.{Watch}
 use Rattle.proof_usb20.specs.Watch.{at-end, at-ask}
 use Rattle.proof_usb20.specs.WatchLaws.{watch-cond}
-use Rattle.proof_usb20.specs.Ep0.{View, view, no-request, Rel, Law}
+use Rattle.proof_usb20.specs.Ep0.{View, view, Keeps, no-request, Rel, Law}
 use Rattle.proof_usb20.specs.ExemptLaws.{differ, exempt-law}
 use Rattle.proof_usb20.specs.ViewsLaws.{rec, setOut, setIn, setControl, put-out, put-in, put-control}
 use Rattle.proof_usb20.specs.Ep0Laws.{act-view}
@@ -71,6 +76,23 @@ pub moved : {ex : Bool} {rx tx l : ℕ} {p : Pipe} {a : Awaited} {u : Bool} {x y
     → (ex ≡ true) ⊎ Rel rx tx l p a u x → (ex ≡ true) ⊎ Rel rx tx l p a u y
 moved {ex = ex} {rx = rx} {tx = tx} {l = l} {p = p} {a = a} {u = u} e r = subst (λ z. (ex ≡ true) ⊎ Rel rx tx l p a u z) (sym e) r
 
+-- ---- the rows before a stage
+
+module _ {P : Log → Answer → St → Type 0} {May : Log → Access → Type 0} {w : Log} (s : St) {o : tree.Out St Answer} where
+  -- 4 and 9
+  past-setup : P w (Refused 4) s → (isOn (s .0 .globals .«setup_ready») ≡ true → P w (Refused 9) s) → Watch Keeps May P w o
+      → Watch Keeps May P w (cond (eqb (s .0 .globals .stage) 2) (cond (isOn (s .0 .globals .«setup_ready»)) (ends (Refused 9) s) o) (ends (Refused 4) s))
+  past-setup a b x = watch-cond (eqb (s .0 .globals .stage) 2)
+      (λ _. watch-cond (isOn (s .0 .globals .«setup_ready»)) (λ g. at-end (b g)) (λ _. x)) (λ _. at-end a)
+
+  -- 4, 10 and 9
+  past-rows : (n : ℕ) → P w (Refused 4) s → P w (Refused 10) s → (isOn (s .0 .globals .«setup_ready») ≡ true → P w (Refused 9) s)
+      → Watch Keeps May P w o
+      → Watch Keeps May P w (cond (eqb (s .0 .globals .stage) 2) (cond (ltb (s .0 .globals .«ep0_max») n) (ends (Refused 10) s)
+      (cond (isOn (s .0 .globals .«setup_ready»)) (ends (Refused 9) s) o)) (ends (Refused 4) s))
+  past-rows n a b c x = watch-cond (eqb (s .0 .globals .stage) 2) (λ _. watch-cond (ltb (s .0 .globals .«ep0_max») n) (λ _. at-end b)
+      (λ _. watch-cond (isOn (s .0 .globals .«setup_ready»)) (λ g. at-end (c g)) (λ _. x))) (λ _. at-end a)
+
 -- ---- data_out
 
 -- the state before its access
@@ -83,21 +105,15 @@ armed-out n s h = out-view (λ p. withArmed 1 (withLen n (withReady 0 p))) (note
 pub law-data-out : (n : ℕ) (first : Bool) → Law (other (BeginDataOut n first))
 law-data-out n first w s (inl e) z = exempt-law (other (BeginDataOut n first)) tt w s e
 law-data-out n true w s (inr r) z =
-    watch-cond (eqb (s .0 .globals .stage) 2)
-    (λ _. watch-cond (ltb (s .0 .globals .«ep0_max») n) (λ _. at-end (inr r, λ h. differ h))
-    (λ _. watch-cond (isOn (s .0 .globals .«setup_ready»)) (λ g. at-end (inr r, λ _ _. sym (r .setup) ∙ g))
-    (λ _. at-ask tt (λ v t b k. at-end (moved (k .0 ∙ armed-out n s (z .places)) (fits-takes true (afresh w) (view (s .0)) _ n r acked-ack acked-one), tt)))))
-    (λ _. at-end (inr r, λ h. differ h))
+    past-rows s n (inr r, λ h. differ h) (inr r, λ h. differ h) (λ g. (inr r, λ _ _. sym (r .setup) ∙ g))
+    (at-ask tt (λ v t b k. at-end (moved (k .0 ∙ armed-out n s (z .places)) (fits-takes true (afresh w) (view (s .0)) _ n r acked-ack acked-one), tt)))
 law-data-out n false w s (inr r) z =
-    watch-cond (eqb (s .0 .globals .stage) 2)
-    (λ _. watch-cond (ltb (s .0 .globals .«ep0_max») n) (λ _. at-end (inr r, λ h. differ h))
-    (λ _. watch-cond (isOn (s .0 .globals .«setup_ready»)) (λ g. at-end (inr r, λ _ _. sym (r .setup) ∙ g))
-    (λ _. at-ask tt (λ v t b k. at-ask tt (λ _ u _ l. at-end (
+    past-rows s n (inr r, λ h. differ h) (inr r, λ h. differ h) (λ g. (inr r, λ _ _. sym (r .setup) ∙ g))
+    (at-ask tt (λ v t b k. at-ask tt (λ _ u _ l. at-end (
       moved (l .0 ∙ (k .0 ∙ armed-out n s (z .places)))
           (fits-takes false (afresh w) (view (s .0)) (ack v) n r (ack-acks v) (ack-keeps v ∙ ap toggle (b .0 refl))),
       tt,
-    ))))))
-    (λ _. at-end (inr r, λ h. differ h))
+    ))))
 
 -- ---- data_in
 
@@ -137,46 +153,34 @@ opening n bytes s h =
 pub law-data-in : (bytes : List ℕ) (first last : Bool) → Law (slotted (BeginDataIn bytes first last))
 law-data-in bytes first last w s (inl e) z = exempt-law (slotted (BeginDataIn bytes first last)) tt w s e
 law-data-in bytes true true w s (inr r) z =
-    watch-cond (eqb (s .0 .globals .stage) 2)
-    (λ _. watch-cond (ltb (s .0 .globals .«ep0_max») (length bytes)) (λ _. at-end (inr r, λ h. differ h))
-    (λ _. watch-cond (isOn (s .0 .globals .«setup_ready»)) (λ g. at-end (inr r, λ _ _. sym (r .setup) ∙ g))
-    (λ _. at-ask tt (λ _ t _ k. at-ask tt (λ _ t′ _ k′. at-ask tt (λ _ u _ l. at-end (
+    past-rows s (length bytes) (inr r, λ h. differ h) (inr r, λ h. differ h) (λ g. (inr r, λ _ _. sym (r .setup) ∙ g))
+    (at-ask tt (λ _ t _ k. at-ask tt (λ _ t′ _ k′. at-ask tt (λ _ u _ l. at-end (
       moved (l .0 ∙ (k′ .0 ∙ armed-in t _ (k .1 .places) (k .0 ∙ closing (length bytes) bytes s (z .places))))
           (fits-gives-last true (afresh w) (view (s .0)) _ _ (length bytes) r acked-ack acked-one acked-ack acked-one),
       tt,
-    )))))))
-    (λ _. at-end (inr r, λ h. differ h))
+    )))))
 law-data-in bytes false true w s (inr r) z =
-    watch-cond (eqb (s .0 .globals .stage) 2)
-    (λ _. watch-cond (ltb (s .0 .globals .«ep0_max») (length bytes)) (λ _. at-end (inr r, λ h. differ h))
-    (λ _. watch-cond (isOn (s .0 .globals .«setup_ready»)) (λ g. at-end (inr r, λ _ _. sym (r .setup) ∙ g))
-    (λ _. at-ask tt (λ _ t _ k. at-ask tt (λ _ t′ _ k′. at-ask tt (λ v t″ b k″. at-ask tt (λ _ u _ l. at-end (
+    past-rows s (length bytes) (inr r, λ h. differ h) (inr r, λ h. differ h) (λ g. (inr r, λ _ _. sym (r .setup) ∙ g))
+    (at-ask tt (λ _ t _ k. at-ask tt (λ _ t′ _ k′. at-ask tt (λ v t″ b k″. at-ask tt (λ _ u _ l. at-end (
       moved (l .0 ∙ (k″ .0 ∙ (k′ .0 ∙ armed-in t _ (k .1 .places) (k .0 ∙ closing (length bytes) bytes s (z .places)))))
           (fits-gives-last false (afresh w) (view (s .0)) _
           (ack v) (length bytes) r acked-ack acked-one (ack-acks v) (ack-keeps v ∙ ap toggle (b .1 refl))),
       tt,
-    ))))))))
-    (λ _. at-end (inr r, λ h. differ h))
+    ))))))
 law-data-in bytes true false w s (inr r) z =
-    watch-cond (eqb (s .0 .globals .stage) 2)
-    (λ _. watch-cond (ltb (s .0 .globals .«ep0_max») (length bytes)) (λ _. at-end (inr r, λ h. differ h))
-    (λ _. watch-cond (isOn (s .0 .globals .«setup_ready»)) (λ g. at-end (inr r, λ _ _. sym (r .setup) ∙ g))
-    (λ _. at-ask tt (λ _ t _ k. at-ask tt (λ _ u _ l. at-end (
+    past-rows s (length bytes) (inr r, λ h. differ h) (inr r, λ h. differ h) (λ g. (inr r, λ _ _. sym (r .setup) ∙ g))
+    (at-ask tt (λ _ t _ k. at-ask tt (λ _ u _ l. at-end (
       moved (l .0 ∙ (k .0 ∙ opening (length bytes) bytes s (z .places)))
           (fits-gives true (afresh w) (view (s .0)) _ (length bytes) r acked-ack acked-one),
       tt,
-    ))))))
-    (λ _. at-end (inr r, λ h. differ h))
+    ))))
 law-data-in bytes false false w s (inr r) z =
-    watch-cond (eqb (s .0 .globals .stage) 2)
-    (λ _. watch-cond (ltb (s .0 .globals .«ep0_max») (length bytes)) (λ _. at-end (inr r, λ h. differ h))
-    (λ _. watch-cond (isOn (s .0 .globals .«setup_ready»)) (λ g. at-end (inr r, λ _ _. sym (r .setup) ∙ g))
-    (λ _. at-ask tt (λ _ t _ k. at-ask tt (λ v t′ b k′. at-ask tt (λ _ u _ l. at-end (
+    past-rows s (length bytes) (inr r, λ h. differ h) (inr r, λ h. differ h) (λ g. (inr r, λ _ _. sym (r .setup) ∙ g))
+    (at-ask tt (λ _ t _ k. at-ask tt (λ v t′ b k′. at-ask tt (λ _ u _ l. at-end (
       moved (l .0 ∙ (k′ .0 ∙ (k .0 ∙ opening (length bytes) bytes s (z .places))))
           (fits-gives false (afresh w) (view (s .0)) (ack v) (length bytes) r (ack-acks v) (ack-keeps v ∙ ap toggle (b .1 refl))),
       tt,
-    )))))))
-    (λ _. at-end (inr r, λ h. differ h))
+    )))))
 
 -- ---- accept
 
@@ -188,27 +192,23 @@ cleared c s h = in-view (withReady 0) (noted c s) (noted-whole c s h)
 pub law-accept : Law (other BeginAccept)
 law-accept w s (inl e) z = exempt-law (other BeginAccept) tt w s e
 law-accept w s (inr r) z =
-    watch-cond (eqb (s .0 .globals .stage) 2)
-    (λ _. watch-cond (isOn (s .0 .globals .«setup_ready»)) (λ g. at-end (inr r, λ _ _. sym (r .setup) ∙ g))
-    (λ _. at-ask tt (λ _ t _ k. at-ask tt (λ v t′ b k′. at-ask tt (λ _ u _ l. at-end (
+    past-setup s (inr r, λ h. differ h) (λ g. (inr r, λ _ _. sym (r .setup) ∙ g))
+    (at-ask tt (λ _ t _ k. at-ask tt (λ v t′ b k′. at-ask tt (λ _ u _ l. at-end (
       moved (l .0 ∙ (k′ .0 ∙ (k .0 ∙ cleared (requestOf ACCEPT 0) s (z .places))))
           (fits-confirms keeps (afresh w) (view (s .0)) (status v) (requestOf ACCEPT 0) refl off r (status-acks v) (status-one v)),
       tt,
-    ))))))
-    (λ _. at-end (inr r, λ h. differ h))
+    )))))
 
 pub law-accept-address : (a : ℕ) → Law (other (BeginAcceptSetAddress a))
 law-accept-address a w s (inl e) z = exempt-law (other (BeginAcceptSetAddress a)) tt w s e
 law-accept-address a w s (inr r) z =
-    watch-cond (eqb (s .0 .globals .stage) 2)
-    (λ _. watch-cond (isOn (s .0 .globals .«setup_ready»)) (λ g. at-end (inr r, λ _ _. sym (r .setup) ∙ g))
-    (λ _. at-ask tt (λ _ t _ k. at-ask tt (λ v t′ b k′. at-ask tt (λ _ u _ l. at-end (
+    past-setup s (inr r, λ h. differ h) (λ g. (inr r, λ _ _. sym (r .setup) ∙ g))
+    (at-ask tt (λ _ t _ k. at-ask tt (λ v t′ b k′. at-ask tt (λ _ u _ l. at-end (
       moved (l .0 ∙ (k′ .0 ∙ (k .0 ∙ cleared (addressOf (a % 256)) s (z .places))))
           (fits-confirms (sets (a % 128)) (afresh w)
           (view (s .0)) (status v) (addressOf (a % 256)) refl (on, omega arith) r (status-acks v) (status-one v)),
       tt,
-    ))))))
-    (λ _. at-end (inr r, λ h. differ h))
+    )))))
 
 -- ---- reject
 

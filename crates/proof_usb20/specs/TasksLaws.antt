@@ -32,7 +32,7 @@ use Rattle.model.specs.Answers.{Answer, Refused, End, NotYet, Done, Shown, oper
 use Rattle.model.specs.IsoIn.{isoInCompletions, isoInSetPaced}
 use Rattle.model.specs.Bus as bus
 use Rattle.model.specs.Endpoint.{enabled-else, ends-request, polled, no-request, begun}
-use Rattle.model.specs.Calls.{Op, slotted, other, aside, PollRead, BeginWrite, PollWrite, Other, Allocate, AllocateAll}
+use Rattle.model.specs.Calls.{Op, slotted, other, aside, PollRead, BeginWrite, PollWrite, Allocate, AllocateAll}
 use Rattle.model.specs.Calls.{Start, BusPoll, BusEnable, BusDisable, Microframe, SetStalled, IsStalled, SetPaced}
 use Rattle.model.specs.Calls.{Advance, BeginRead, Aside, Open, Close, Queue, asideCode, code}
 use Rattle.model_ops.specs.Rings.{St}

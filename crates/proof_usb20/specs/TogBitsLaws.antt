@@ -21,7 +21,7 @@ use Rattle.ring.specs.Out.{armedAt}
 use Rattle.alloc.specs.Alloc.{allocateOf, allocateEp0Of, allocated}
 use Rattle.alloc.specs.declared.Answer as alloc-answer
 use Rattle.alloc.specs.declared.Answer.the-variants as alloc
-use Rattle.model.specs.Cells.{EpCore, Cell, Val, globals-cell, control-cell, allocator-cell, ep-cell, request-cell, paced-cell}
+use Rattle.model.specs.Cells.{sameSort, EpCore, Cell, Val, globals-cell, control-cell, allocator-cell, ep-cell, request-cell, paced-cell}
 use Rattle.model.specs.Script.{Script, run, ret, bind, test, read-then, write-then, wait-then, callback-then}
 use Rattle.model.specs.Script.{get-then, put-then, is-then, look-then, fetch-then, act-then, hand-then, row-then, Test}
 use Rattle.model.specs.Script.{Look, Fetch, Act}
@@ -69,12 +69,7 @@ either false p q = q
 -- ---- each operation
 
 abbrev isEp : Cell → Bool
-isEp globals-cell = false
-isEp control-cell = false
-isEp allocator-cell = false
-isEp (ep-cell d e) = true
-isEp (request-cell d e) = false
-isEp (paced-cell e) = false
+isEp c = sameSort c (ep-cell Out 0)
 
 put-bits : (c : Cell) → isEp c ≡ false → (v : Val c) (s : St) → TogBits (s .0) → TogBits (concrete .put c v s .0)
 unfolding withPacedOn withRequestOn

@@ -1,17 +1,11 @@
 -- The same of the Rattle code, whose calls are steps of the machine of calls that the lent bytes are (proof_book/specs/Code.antt)
 use mathlib.Core.List.{List, [], _∷_}
 use mathlib.Core.Path.{_≡_}
-use Prim.Native.Nat.{ℕ, _≤_}
-use Rattle.model.specs.Answers.{Answer, Refused, End, NotYet, Done, Shown}
-use Rattle.model.specs.Calls.{Config, Op}
-use Rattle.model.specs.Machine.{Buf, Event, Machine, Ans}
-use Rattle.machine.specs.declared.Step.{Step}
-use Rattle.machine.specs.declared.Step.the-variants as step
-use Rattle.proof_book.specs.Code.{Made, CallStep}
-use Rattle.proof_book.specs.CodeReadings.{Steps}
+use Rattle.model.specs.Answers.{Answer}
+use Rattle.model.specs.Machine.{Machine}
+use Rattle.proof_book.specs.Code.{Made}
 use Rattle.proof_wake_ups.specs.Heard.{Heard}
-use Rattle.proof_wake_ups.specs.Machines.{Told, hear, Pair}
-use Rattle.proof_wake_ups.specs.MachinesLaws.{Alike}
+use Rattle.proof_wake_ups.specs.Machines.{hear}
 
 -- each answer is that of the driver beside the record, call by call
 abbrev pub AsHeard : Machine Answer Heard → List Made → Type 0

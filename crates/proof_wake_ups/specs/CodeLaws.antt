@@ -1,12 +1,10 @@
 -- Laws on the definitions of Code.antt
 use mathlib.Core.List.{List, [], _∷_}
 use mathlib.Core.Path.{_≡_, sym, subst}
-use Prim.Native.Nat.{ℕ, zero, _≤_}
-use Rattle.model.specs.Answers.{Answer, Refused, End, NotYet, Done, Shown}
+use Prim.Native.Nat.{ℕ, zero}
+use Rattle.model.specs.Answers.{Answer}
 use Rattle.model.specs.Calls.{Config, Op, startRow}
-use Rattle.model.specs.Machine.{Buf, Event, Machine, Ans, start}
-use Rattle.machine.specs.declared.Step.{Step}
-use Rattle.machine.specs.declared.Step.the-variants as step
+use Rattle.model.specs.Machine.{Buf, Event, Machine, start}
 use Rattle.machine.specs.Suspended.{machineOf, drive}
 use Rattle.proof_book.specs.Code.{Made, CallStep}
 use Rattle.proof_book.specs.CodeReadings.{Steps}

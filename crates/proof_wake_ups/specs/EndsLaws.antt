@@ -1,10 +1,9 @@
 -- Laws on the definitions of Ends.antt
 use mathlib.Core.Bool.{Bool, true, false, cond}
 use mathlib.Core.List.{List, []}
-use Prim.Native.Nat.{ℕ, _≤_}
+use Prim.Native.Nat.{ℕ}
 use native.Mathlib.Omega.{arith}
 use lib.Dec.{eqb}
-use Rattle.regs.specs.declared.Access.{Access}
 use Rattle.regs.specs.declared.Dir.{Dir}
 use Rattle.regs.specs.declared.Dir.the-variants.{Out, In}
 use Rattle.state.specs.declared.Control.{Control}
@@ -18,7 +17,7 @@ use Rattle.model.specs.Tree as tree
 use Rattle.model.specs.Tree.{ends, asks, bindOut}
 use Rattle.model.specs.Cells.{EpCore}
 use Rattle.model.specs.Script.{Script, run, ret, bind, test}
-use Rattle.model.specs.Answers.{Answer, Refused, End, NotYet, Done, Shown, operation, staged, named, unless}
+use Rattle.model.specs.Answers.{Answer, Refused, Done, operation, staged, named, unless}
 use Rattle.model.specs.Endpoint.{enabled-else, ends-request, polled}
 use Rattle.model.specs.Control.{unlessSetup, withinMaximum, requested, ends-control, aborted-else, take-closing}
 use Rattle.model.specs.Driver.{allocated-as, started-as}

@@ -3,9 +3,8 @@
 use mathlib.Core.List.{List, [], _++_}
 use Prim.Native.Nat.{ℕ}
 use Rattle.state.specs.Driver.{Driver}
-use Rattle.model.specs.Script.{Ops, Fetch, oldest, received, received0, gathered, Act, complete, reset-ring}
-use Rattle.model.specs.Script.{set-enabled, fill, fill0, open-oldest, close-oldest, take-oldest, enqueue, allocate}
-use Rattle.model.specs.Script.{allocate0, no-wakes, waken}
+use Rattle.model.specs.Script.{Ops, Fetch, oldest, received, received0, gathered, Act}
+use Rattle.model.specs.Acts.{onWakes}
 use Rattle.model.specs.Machine.{Buf}
 use Rattle.model_ops.specs.Rings.{St}
 use Rattle.model_ops.specs.Concrete.{concrete}
@@ -26,19 +25,7 @@ onto t s = ((s .0, t .0 .1), s .1)
 
 -- the record after a change: a begin has none, and each wake-up stands last
 abbrev pub recorded : Act → List ℕ → List ℕ
-recorded no-wakes l = []
-recorded (waken codes) l = l ++ codes
-recorded (complete e) l = l
-recorded (reset-ring d e) l = l
-recorded (set-enabled d e on) l = l
-recorded (fill e bytes) l = l
-recorded (fill0 bytes) l = l
-recorded (open-oldest e) l = l
-recorded (close-oldest e) l = l
-recorded (take-oldest e) l = l
-recorded (enqueue e bytes) l = l
-recorded (allocate d kind address maximum interval) l = l
-recorded (allocate0 maximum) l = l
+recorded q l = onWakes [] (λ codes. l ++ codes) l q
 
 abbrev pub fetchHeard : Fetch → Hst → List ℕ
 fetchHeard gathered t = t .0 .1

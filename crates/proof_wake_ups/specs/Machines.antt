@@ -1,7 +1,7 @@
 -- What MachinesLaws.antt speaks of. It proves: the driver and the driver beside the record answer every call alike
 -- (request Nine): the list that an end gives has every wake-up since the operation's begin, in order, and none is lost
 use mathlib.Core.Bool.{Bool}
-use mathlib.Core.List.{List, [], _∷_}
+use mathlib.Core.List.{List, []}
 use mathlib.Core.Path.{_≡_}
 use Prim.Native.Nat.{ℕ}
 use Rattle.state.specs.Driver.{Driver}
@@ -9,7 +9,7 @@ use Rattle.model.specs.Tree as tree
 use Rattle.model.specs.Answers.{Answer}
 use Rattle.model.specs.Calls.{Config, Op, calls}
 use Rattle.model.specs.Machine as machine
-use Rattle.model.specs.Machine.{Buf, Event, Call, question, Ans, Awaits, Way, idle, busy, Machine, call}
+use Rattle.model.specs.Machine.{Buf, Call, question, Ans, Awaits, Way, idle, busy, Machine, call}
 use Rattle.model_ops.specs.Rings.{St}
 use Rattle.machine.specs.Suspended.{driverOf}
 use Rattle.proof_wake_ups.specs.Heard.{Heard, Hst, bare, heardOps}

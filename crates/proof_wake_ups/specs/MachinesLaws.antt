@@ -12,7 +12,7 @@ use Rattle.model.specs.Tree as tree
 use Rattle.model.specs.Answers.{Answer}
 use Rattle.model.specs.Calls.{Config, Op, interrupt, slotted, other, aside, calls, startRow}
 use Rattle.model.specs.Machine as machine
-use Rattle.model.specs.Machine.{Buf, Event, Call, start, begin, go, question, Ans, Awaits, Way, Machine, over, halt, beside, begun, continued, started, call}
+use Rattle.model.specs.Machine.{Buf, Event, Call, start, begin, go, question, Way, Machine, over, halt, beside, begun, continued, started, call}
 use Rattle.model_ops.specs.Rings.{St}
 use Rattle.machine.specs.Suspended.{driverOf, drive}
 use Rattle.proof_wake_ups.specs.Heard.{Heard, Hst}

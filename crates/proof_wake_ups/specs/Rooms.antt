@@ -1,16 +1,13 @@
 -- What RoomsLaws.antt speaks of. It proves: in every run from an accepted start-up the wake-ups gathered, and those
 -- that an end gives, are fewer than 64 at each moment
 use mathlib.Core.Bool.{Bool}
-use mathlib.Core.List.{List, [], _∷_}
-use mathlib.Core.Path.{_≡_}
+use mathlib.Core.List.{List}
 use Prim.Native.Nat.{ℕ}
 use Rattle.state.specs.Driver.{Driver}
 use Rattle.state.specs.Wakes.{listed}
-use Rattle.state.specs.WakesLaws.{Room}
 use Rattle.model.specs.Tree as tree
 use Rattle.model.specs.Answers.{Answer, Refused, End, NotYet, Done, Shown}
-use Rattle.model.specs.Calls.{Config, Op}
-use Rattle.model.specs.Machine.{Buf, Event, Call, Ans, ended, handed, told, Awaits, Way, idle, busy, Machine}
+use Rattle.model.specs.Machine.{Ans, ended, handed, told, Awaits, Way, idle, busy, Machine}
 use Rattle.model_ops.specs.Rings.{St}
 use Rattle.proof_wake_ups.specs.Heard.{Heard}
 use Rattle.proof_wake_ups.specs.Twins.{Short}

@@ -10,8 +10,8 @@ use Rattle.state.specs.Wakes.{listed}
 use Rattle.state.specs.WakesLaws.{Room}
 use Rattle.model.specs.Tree as tree
 use Rattle.model.specs.Answers.{Answer, Refused, End, NotYet, Done, Shown}
-use Rattle.model.specs.Calls.{Config, Op, aside, calls, startRow}
-use Rattle.model.specs.Machine.{Buf, Event, Call, start, begin, go, question, Ans, ended, handed, told, Awaits, Way}
+use Rattle.model.specs.Calls.{Config, Op, calls, startRow}
+use Rattle.model.specs.Machine.{Buf, Event, Call, start, begin, go, question, Ans, ended, handed, told, Way}
 use Rattle.model.specs.Machine.{idle, Machine, over, halt, stay, lentTo, beside, begun, continued, started, misfit}
 use Rattle.model_ops.specs.Rings.{St}
 use Rattle.machine.specs.Suspended.{driverOf, drive}
@@ -20,7 +20,7 @@ use Rattle.proof_wake_ups.specs.Heard.{Heard}
 use Rattle.proof_wake_ups.specs.Twins.{Short}
 use Rattle.proof_wake_ups.specs.Machines.{Told, Pair}
 use Rattle.proof_wake_ups.specs.MachinesLaws.{steps, from-start}
-use Rattle.proof_wake_ups.specs.Ends.{Lists, Ends, end, ask}
+use Rattle.proof_wake_ups.specs.Ends.{Ends, end, ask}
 use Rattle.proof_wake_ups.specs.EndsLaws.{gives, start-up-gives}
 use Rattle.proof_wake_ups.specs.Rooms.{Few, Goes, rests, works, Roomy, Gathered, Kept, Rooms}
 

@@ -1,5 +1,6 @@
 -- No operation but a begin and a wake-up changes the wake-ups
-use mathlib.Core.Bool.{Bool, true, false, cond}
+use mathlib.Core.Bool.{Bool, true, false, not, cond, _||_}
+use mathlib.Core.List.{[]}
 use mathlib.Core.Path.{_≡_, refl}
 use Prim.Native.Nat.{ℕ, zero, suc, _%_}
 use lib.Dec.{eqb}
@@ -18,6 +19,8 @@ use Rattle.model.specs.Cells.{Cell, Val, globals-cell, control-cell, allocator-
 use Rattle.model.specs.Script.{Act, complete, reset-ring, set-enabled, fill, fill0, open-oldest, close-oldest}
 use Rattle.model.specs.Script.{take-oldest, enqueue, allocate, allocate0, no-wakes, waken, DmaStep, arrive, send, place}
 use Rattle.model.specs.Script.{place0, Burst, switch, bus-reset}
+use Rattle.model.specs.Acts.{sameAct}
+use Rattle.model.specs.Steps.{If}
 use Rattle.model.specs.Statics.{isOn, isoOuts}
 use Rattle.model_ops.specs.Records.{isoOut, configured, enabledOn, recordGiven, setsGiven, givenTo, allocatedOn, startedWith, allocatedEp0}
 use Rattle.model_ops.specs.Rings.{St, completeOn, emptied, emptiedOn, openOn, closeOn, takeOn, roomOn, queuedOn}
@@ -43,19 +46,7 @@ put-still (paced-cell e) v s = refl
 
 -- no begin and no wake-up
 abbrev pub Other : Act → Type 0
-Other no-wakes = ⊥
-Other (waken codes) = ⊥
-Other (complete e) = Unit {0}
-Other (reset-ring d e) = Unit {0}
-Other (set-enabled d e on) = Unit {0}
-Other (fill e bytes) = Unit {0}
-Other (fill0 bytes) = Unit {0}
-Other (open-oldest e) = Unit {0}
-Other (close-oldest e) = Unit {0}
-Other (take-oldest e) = Unit {0}
-Other (enqueue e bytes) = Unit {0}
-Other (allocate d kind address maximum interval) = Unit {0}
-Other (allocate0 maximum) = Unit {0}
+Other q = If (not (sameAct q no-wakes || sameAct q (waken []))) (Unit {0})
 
 given-still : (dir : _) (kind maximum interval : ℕ) (a : Answer) (d : Driver) → Quiet d (givenTo dir kind maximum interval a d)
 unfolding givenTo setsGiven recordGiven withOn
@@ -91,6 +82,19 @@ recorded-still : (d : Driver) (e len : ℕ) → Quiet d (recordedOn d e len)
 unfolding recordedOn withLenOn withStampOn
 recorded-still d e len = either (hasRoomOut (epOn d Out e)) d _ d refl refl
 
+-- a hand that looks whether OUT e is isochronous: P of the state as it was, and as its buffer is placed
+pub placed-by : (P : Driver → Type 0) (s : St) (e : ℕ) → P (s .0) → P (withOn (s .0) Out e (armedAt (epOn (s .0) Out e) (epOn (s .0) Out e .base)))
+    → P (concrete .hand (place Out e) s .1 .0)
+unfolding placeOn
+placed-by P s e x y = by (isSet (isoOuts (s .0 .globals)) (e % 16))
+  where
+    by : (b : Bool) → P (cond {A = ℕ × Driver} b (epOn (s .0) Out e .«armed_slot», s .0) (
+      epOn (s .0) Out e .base,
+      withOn (s .0) Out e (armedAt (epOn (s .0) Out e) (epOn (s .0) Out e .base)),
+    ) .1)
+    by true = x
+    by false = y
+
 pub hand-still : (q : DmaStep) (s : St) → Quiet (s .0) (concrete .hand q s .1 .0)
 unfolding arriveOn admittedOn sendOn placeOn withOn
 hand-still (arrive e n) s = by (isSet (isoOuts (s .0 .globals)) (e % 16))
@@ -99,14 +103,7 @@ hand-still (arrive e n) s = by (isSet (isoOuts (s .0 .globals)) (e % 16))
     by true = recorded-still (s .0) e (cappedAt (epOn (s .0) Out e) n)
     by false = refl
 hand-still (send e) s = either (hasWaiting (epOn (s .0) In e)) (s .0) _ (s .0) refl refl
-hand-still (place Out e) s = by (isSet (isoOuts (s .0 .globals)) (e % 16))
-  where
-    by : (b : Bool) → Quiet (s .0) (cond {A = ℕ × Driver} b (epOn (s .0) Out e .«armed_slot», s .0) (
-      epOn (s .0) Out e .base,
-      withOn (s .0) Out e (armedAt (epOn (s .0) Out e) (epOn (s .0) Out e .base)),
-    ) .1)
-    by true = refl
-    by false = refl
+hand-still (place Out e) s = placed-by (Quiet (s .0)) s e refl refl
 hand-still (place In e) s = refl
 hand-still place0 s = refl
 

@@ -1,23 +1,16 @@
 -- A script's run on the driver and beside the record, side by side: the same accesses and results, and what the driver lists is what was recorded.
 -- How many wake-ups a script has at most, whatever is read and whatever becomes of the driver between two accesses but for its wake-ups
-use mathlib.Core.Bool.{Bool}
-use mathlib.Core.List.{List, [], _∷_, _++_}
-use mathlib.Core.Path.{_≡_, _∙_}
-use Prim.Native.Nat.{ℕ, _+_, _*_, _≤_, _<_}
+use mathlib.Core.List.{List}
+use mathlib.Core.Path.{_≡_}
+use Prim.Native.Nat.{ℕ, _<_}
 use lib.ListN.{length}
 use Rattle.regs.specs.declared.Access.{Access}
-use Rattle.regs.specs.declared.Reg.{Reg}
-use Rattle.state.specs.Driver.{Driver}
 use Rattle.state.specs.Wakes.{listed}
 use Rattle.state.specs.WakesLaws.{Room}
 use Rattle.model.specs.Tree as tree
-use Rattle.model.specs.Tree.{ends, asks, Prog}
-use Rattle.model.specs.Cells.{Cell, Val}
-use Rattle.model.specs.Script.{Script, Test, Look, Fetch, Act, DmaStep, Burst, _>>=_, _>>_}
-use Rattle.model.specs.Answers.{Answer, End}
+use Rattle.model.specs.Tree.{ends, asks}
 use Rattle.model_ops.specs.Rings.{St}
 use Rattle.proof_wake_ups.specs.Heard.{Heard, Hst, bare}
-use Rattle.proof_wake_ups.specs.Still.{Quiet, Other}
 
 -- the driver lists what was recorded
 pub record Fits (h : Heard) : Type 0 where
