@@ -27,7 +27,8 @@ pub neither : (t : Bool) (x y : tree.Out St Answer) (out : List ℕ) → out ≡
 neither true x y out h k = h
 neither false x y out h k = k
 
-pub brings : (xs out after : List ℕ) (n : ℕ) (d : Driver) (b : List ℕ) (y : tree.Out St Answer) → n ≡ length xs → after ≡ over xs out → ends (Done xs) (d, b) ≡ y
+pub brings : (xs out after : List ℕ) (n : ℕ) (d : Driver) (b : List ℕ) (y : tree.Out St Answer) → n ≡ length xs → after ≡ over xs out → ends (Done xs)
+    (d, b) ≡ y
     → Brought (ends (Done (front n after)) (d, b)) after out y
 brings xs out after n d b y k o t = (ap (λ (ys : List ℕ). ends (Done ys) (d, b)) first ∙ t, o ∙ lends out t) where
   first : front n after ≡ xs

@@ -10,5 +10,7 @@ pub mod Rows
 pub mod RowsLaws
 pub mod Lent
 pub mod Tags
+pub mod Contracts
+pub mod ContractsLaws
 pub mod Keeps
 pub mod KeepsLaws

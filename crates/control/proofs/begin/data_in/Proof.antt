@@ -42,14 +42,14 @@ returns : tie.Need-returns
 returns c =
     let asked = c .before .before .before .before .before .before .before .before .before .before .before in
     let row = asked .before .before .before .before in
-    let start = row .before .before .before .before .before .before .args in (
+    let start = row .before .before .before .before .before .before .args in
+    let cleared = c .before .before .before .before .before .before .before .before .before .clear-wakes .ensures in (
       c .load-in .ensures .0 _ ∙ in-loads (view (start .s .now)) _ _ _ _ _ (start .bytes .now) (start .first) (start .last)
           (row .before .before .load-globals .ensures) (row .before .begin-row .ensures) (row .if1 .taken)
           (asked .before .before .before .length16 .ensures) (asked .before .flag-of .ensures) (asked .set-data-in .ensures .0)
-          (c .before .before .before .before .before .before .before .before .before .clear-wakes .ensures .0) (c .before .before .before .before .before .before .fill0 .ensures) (c .before .before .unready .ensures .0),
+          (cleared .0) (c .before .before .before .before .before .before .fill0 .ensures) (c .before .before .unready .ensures .0),
       (
-        c .load-in .ensures .1 .0 ∙ c .before .before .unready .ensures .1 ∙ c .before .before .before .before .before .before .before .before .before .clear-wakes .ensures .1
-            ∙ asked .set-data-in .ensures .1,
+        c .load-in .ensures .1 .0 ∙ c .before .before .unready .ensures .1 ∙ cleared .1 ∙ asked .set-data-in .ensures .1,
         c .load-in .ensures .1 .1,
       ),
     )
