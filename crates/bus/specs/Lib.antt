@@ -1,5 +1,4 @@
 pub mod Points
-pub mod Stages
 pub mod Laws
 pub mod Codec
 pub mod CodecLaws

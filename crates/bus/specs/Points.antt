@@ -6,7 +6,7 @@ use Prim.Native.Nat.{ℕ, zero, suc, _-_}
 use Rattle.regs.specs.declared.Reg.the-variants.{IntFg, MisSt, Ctrl, EpConfig, EpTLen, EpRxCtrl, EpTxCtrl}
 use Rattle.regs.specs.declared.Dir.{Dir}
 use Rattle.regs.specs.declared.Dir.the-variants.{Out, In}
-use Rattle.regs.specs.Registers.{ctrlOf, widthOf, fitsIn}
+use Rattle.regs.specs.Registers.{ctrlOf, widthOf}
 use Rattle.regs.specs.ControlWord.{ACK, NYET, NAK, DATA0, wordOf, stall, isStalled}
 use Rattle.regs.specs.Flags.{busRst, suspend, SUSPEND}
 use Rattle.regs.specs.MisStatus.{suspended}
@@ -24,6 +24,7 @@ use Rattle.model.specs.Bus.{nakAll, busReset, kept, setEnabledOut}
 use Rattle.model_ops.specs.Records.{plainOf, merged}
 use Rattle.model_ops.specs.Rings.{St, emptiedOn}
 use Rattle.model_ops.specs.Concrete.{concrete}
+use Rattle.model_points.specs.Numbers.{fits}
 use Rattle.bus.specs.declared.Point.{Point}
 use Rattle.bus.specs.declared.Point.the-variants as point
 use Rattle.bus.specs.declared.Next.{Next}
@@ -196,7 +197,7 @@ abbrev pub meaning : Next → Driver → List ℕ → tree.Out St ℕ
 meaning (next.Asks q p) d b = asks q (d, b) (λ v t. denote p v t)
 meaning (next.Ends n) d b = ends n (d, b)
 
--- what a point awaits, and that it is the access handed out with it
+-- what a point awaits
 abbrev pub awaitsAt : Point → Awaits
 awaitsAt point.Enable = reading (widthOf Ctrl)
 awaitsAt (point.Event n) = nothing
@@ -223,33 +224,11 @@ awaitsAt (point.Words d e iso on) = nothing
 awaitsAt (point.Type d e on) = nothing
 awaitsAt (point.Switch e on n) = nothing
 
+-- row 16 turned round
+unfoldable pub fitsAt : Point → ℕ → Bool
+fitsAt p v = fits (awaitsAt p) v
+
+-- what it awaits is the access handed out with it
 abbrev pub Linked : Next → Type 0
 Linked (next.Asks q p) = awaited q ≡ awaitsAt p
 Linked (next.Ends n) = Unit {0}
-
--- row 16 turned round: a reading has no bit above its register's width
-unfoldable pub fitsAt : Point → ℕ → Bool
-fitsAt point.Enable v = fitsIn v (widthOf Ctrl)
-fitsAt (point.Event n) v = true
-fitsAt point.Stalled v = fitsIn v (widthOf EpTxCtrl)
-fitsAt (point.StallLen e) v = true
-fitsAt (point.StallWord d e) v = fitsIn v (widthOf (ctrlOf d))
-fitsAt (point.Restarted e iso) v = true
-fitsAt (point.Woken d e) v = true
-fitsAt point.Flags v = fitsIn v (widthOf IntFg)
-fitsAt point.Status v = fitsIn v (widthOf MisSt)
-fitsAt (point.Released down) v = true
-fitsAt point.Address v = true
-fitsAt point.Ep0Out v = true
-fitsAt (point.NakIn e) v = true
-fitsAt (point.Naked e) v = true
-fitsAt point.Disabled v = true
-fitsAt point.Untyped v = true
-fitsAt point.Single v = true
-fitsAt point.Reset v = true
-fitsAt (point.PlacedOut e on) v = true
-fitsAt (point.PlacedIn e iso on) v = true
-fitsAt (point.NoLength e iso on) v = true
-fitsAt (point.Words d e iso on) v = true
-fitsAt (point.Type d e on) v = true
-fitsAt (point.Switch e on n) v = true

@@ -1,17 +1,14 @@
 // The bus (mod.rs 1053-1106, 1187-1330): the points of its operations, one access at a time. Every function is total: any number is safe.
 use regs::Access;
 use regs::Dir;
-use regs::registers::fits;
 
 mod codec; // codec.rt: points as numbers
 
-pub use codec::decode;
 pub use codec::encode;
-pub use codec::flag_of;
+pub use model_points::flag_of;
 ghost use mathlib.Core.Path.{_≡_};
 ghost use mathlib.Core.Bool.{true};
 ghost use Rattle.regs.specs.Registers.{fitsIn};
-ghost use Rattle.bus.specs.Points.{fitsAt};
 
 // Where an operation stands: what it handed out last, with what the rest of it needs.
 pub enum Point {
@@ -53,18 +50,4 @@ pub fn byte(v: u32) -> u8
     ensures { λ r. ⌜ r ≡ v ⌝ }
 {
     v as u8
-}
-
-// Row 16 turned round: where a reading is awaited, has it no bit above its register's width?
-pub fn fits_at(p: Point, v: u32) -> bool
-    ensures { λ r. ⌜ r ≡ fitsAt p v ⌝ }
-{
-    match p {
-        Point::Enable => fits(v, 6),
-        Point::Stalled => fits(v, 8),
-        Point::StallWord(_, _) => fits(v, 8),
-        Point::Flags => fits(v, 6),
-        Point::Status => fits(v, 2),
-        _ => true, // a write
-    }
 }

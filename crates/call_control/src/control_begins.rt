@@ -4,21 +4,12 @@ use machine::halts::begun_control;
 use machine::saved::is_idle;
 use machine::stops::slots_fit;
 use state::STATE_LEN;
-ghost use mathlib.Core.Path.{_≡_};
-ghost use mathlib.Core.List.{List, []};
-ghost use Prim.Native.Nat.{ℕ};
-ghost use Rattle.state.specs.State.{view};
-ghost use Rattle.model.specs.Machine.{begin};
-ghost use Rattle.model.specs.Calls.{other, slotted, BeginSetup, BeginDataOut, BeginDataIn, BeginAccept, BeginAcceptSetAddress, BeginReject};
-ghost use Rattle.machine.specs.Suspended.{machineOf, drive, answerOf, lentOr, BufferUnchangedOnRow1, SavedByAnswer};
+ghost use Rattle.model.specs.Calls.{BeginSetup, BeginDataOut, BeginDataIn, BeginAccept, BeginAcceptSetAddress, BeginReject};
+ghost use Rattle.machine.specs.Contracts.{OtherCall, SlottedCall};
 
 // `setup` (control.rs 70-80).
 pub fn begin_setup(s: &mut [u8; STATE_LEN]) -> Step
-    ensures { λ r. ⌜ ((a b : List ℕ) → (
-      answerOf r [] (view (now (s .exit))),
-      machineOf (now (s .exit)) b,
-    ) ≡ drive (begin (other BeginSetup)) (machineOf (now (s .entry)) a) b) ⌝ }
-    ensures { λ r. ⌜ SavedByAnswer r (now (s .entry)) (now (s .exit)) ⌝ }
+    ensures { λ r. ⌜ OtherCall BeginSetup r (now (s .entry)) (now (s .exit)) ⌝ }
 {
     if is_idle(s) {
         let x = control::setup(s);
@@ -29,11 +20,7 @@ pub fn begin_setup(s: &mut [u8; STATE_LEN]) -> Step
 
 // `data_out` (82-115), into a slice of n bytes.
 pub fn begin_data_out(s: &mut [u8; STATE_LEN], n: u32, first: bool) -> Step
-    ensures { λ r. ⌜ ((a b : List ℕ) → (
-      answerOf r [] (view (now (s .exit))),
-      machineOf (now (s .exit)) b,
-    ) ≡ drive (begin (other (BeginDataOut n first))) (machineOf (now (s .entry)) a) b) ⌝ }
-    ensures { λ r. ⌜ SavedByAnswer r (now (s .entry)) (now (s .exit)) ⌝ }
+    ensures { λ r. ⌜ OtherCall (BeginDataOut n first) r (now (s .entry)) (now (s .exit)) ⌝ }
 {
     if is_idle(s) {
         let x = control::data_out(s, n, first);
@@ -50,12 +37,7 @@ pub fn begin_data_in(
     first: bool,
     last: bool,
 ) -> Step
-    ensures { λ r. ⌜ ((a : List ℕ) → (
-      answerOf r [] (view (now (s .exit))),
-      machineOf (now (s .exit)) (lentOr (view (now (s .entry))) (now (slots .entry)) (now (slots .exit)) a),
-    ) ≡ drive (begin (slotted (BeginDataIn (now (bytes .entry)) first last))) (machineOf (now (s .entry)) a) (now (slots .entry))) ⌝ }
-    ensures { λ _. ⌜ BufferUnchangedOnRow1 (view (now (s .entry))) (now (slots .entry)) (now (slots .exit)) ⌝ }
-    ensures { λ r. ⌜ SavedByAnswer r (now (s .entry)) (now (s .exit)) ⌝ }
+    ensures { λ r. ⌜ SlottedCall (BeginDataIn (now (bytes .entry)) first last) r (now (s .entry)) (now (slots .entry)) (now (s .exit)) (now (slots .exit)) ⌝ }
 {
     if slots_fit(s, slots) {
         if is_idle(s) {
@@ -69,11 +51,7 @@ pub fn begin_data_in(
 
 // `accept` (26-46, 163-166).
 pub fn begin_accept(s: &mut [u8; STATE_LEN]) -> Step
-    ensures { λ r. ⌜ ((a b : List ℕ) → (
-      answerOf r [] (view (now (s .exit))),
-      machineOf (now (s .exit)) b,
-    ) ≡ drive (begin (other BeginAccept)) (machineOf (now (s .entry)) a) b) ⌝ }
-    ensures { λ r. ⌜ SavedByAnswer r (now (s .entry)) (now (s .exit)) ⌝ }
+    ensures { λ r. ⌜ OtherCall BeginAccept r (now (s .entry)) (now (s .exit)) ⌝ }
 {
     if is_idle(s) {
         let x = control::accept(s);
@@ -84,11 +62,7 @@ pub fn begin_accept(s: &mut [u8; STATE_LEN]) -> Step
 
 // `accept_set_address` (179-186).
 pub fn begin_accept_set_address(s: &mut [u8; STATE_LEN], address: u32) -> Step
-    ensures { λ r. ⌜ ((a b : List ℕ) → (
-      answerOf r [] (view (now (s .exit))),
-      machineOf (now (s .exit)) b,
-    ) ≡ drive (begin (other (BeginAcceptSetAddress address))) (machineOf (now (s .entry)) a) b) ⌝ }
-    ensures { λ r. ⌜ SavedByAnswer r (now (s .entry)) (now (s .exit)) ⌝ }
+    ensures { λ r. ⌜ OtherCall (BeginAcceptSetAddress address) r (now (s .entry)) (now (s .exit)) ⌝ }
 {
     if is_idle(s) {
         let x = control::accept_set_address(s, address);
@@ -99,11 +73,7 @@ pub fn begin_accept_set_address(s: &mut [u8; STATE_LEN], address: u32) -> Step
 
 // `reject` (168-177).
 pub fn begin_reject(s: &mut [u8; STATE_LEN]) -> Step
-    ensures { λ r. ⌜ ((a b : List ℕ) → (
-      answerOf r [] (view (now (s .exit))),
-      machineOf (now (s .exit)) b,
-    ) ≡ drive (begin (other BeginReject)) (machineOf (now (s .entry)) a) b) ⌝ }
-    ensures { λ r. ⌜ SavedByAnswer r (now (s .entry)) (now (s .exit)) ⌝ }
+    ensures { λ r. ⌜ OtherCall BeginReject r (now (s .entry)) (now (s .exit)) ⌝ }
 {
     if is_idle(s) {
         let x = control::reject(s);

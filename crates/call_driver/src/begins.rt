@@ -14,14 +14,11 @@ ghost use Rattle.state.specs.State.{view, saved};
 ghost use Rattle.model.specs.Machine.{begin};
 ghost use Rattle.model.specs.Calls.{other, interrupt, Microframe, SetPaced, Advance};
 ghost use Rattle.machine.specs.Suspended.{machineOf, drive, answerOf, SavedByAnswer};
+ghost use Rattle.machine.specs.Contracts.{OtherCall};
 
 // The current microframe number (mod.rs 236-238).
 pub fn begin_microframe(s: &mut [u8; STATE_LEN]) -> Step
-    ensures { λ r. ⌜ ((a b : List ℕ) → (
-      answerOf r [] (view (now (s .exit))),
-      machineOf (now (s .exit)) b,
-    ) ≡ drive (begin (other Microframe)) (machineOf (now (s .entry)) a) b) ⌝ }
-    ensures { λ r. ⌜ SavedByAnswer r (now (s .entry)) (now (s .exit)) ⌝ }
+    ensures { λ r. ⌜ OtherCall Microframe r (now (s .entry)) (now (s .exit)) ⌝ }
 {
     let n = stop(s, 2);
     if n == 0 {
@@ -52,11 +49,7 @@ pub fn set_paced(s: &mut [u8; STATE_LEN], e: u32, on: bool) -> Step
 
 // `iso_in_advance` (mod.rs 323-340).
 pub fn begin_advance(s: &mut [u8; STATE_LEN], e: u32) -> Step
-    ensures { λ r. ⌜ ((a b : List ℕ) → (
-      answerOf r [] (view (now (s .exit))),
-      machineOf (now (s .exit)) b,
-    ) ≡ drive (begin (other (Advance e))) (machineOf (now (s .entry)) a) b) ⌝ }
-    ensures { λ r. ⌜ SavedByAnswer r (now (s .entry)) (now (s .exit)) ⌝ }
+    ensures { λ r. ⌜ OtherCall (Advance e) r (now (s .entry)) (now (s .exit)) ⌝ }
 {
     let n = stop(s, 2);
     if n == 0 {

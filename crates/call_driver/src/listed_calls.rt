@@ -13,11 +13,11 @@ ghost use mathlib.Core.List.{List, []};
 ghost use Prim.Native.Nat.{ℕ};
 ghost use Rattle.req_descriptor.specs.Writing.{stored};
 ghost use Rattle.state.specs.State.{view, saved};
-ghost use Rattle.model.specs.Machine.{begin};
-ghost use Rattle.model.specs.Calls.{other, AllocateAll};
-ghost use Rattle.machine.specs.Suspended.{decode, machineOf, drive, answerOf, SavedByAnswer};
+ghost use Rattle.model.specs.Calls.{AllocateAll};
+ghost use Rattle.machine.specs.Suspended.{decode, machineOf, answerOf, SavedByAnswer};
 ghost use Rattle.req_preview.specs.Preview.{refusedBy};
 ghost use Rattle.machine.specs.Rows.{isIdle, stopOf};
+ghost use Rattle.machine.specs.Contracts.{OtherCall};
 ghost use Rattle.call_driver.specs.Listed.{allocatedAll, previewed};
 
 // All or none, where nothing is under way: the refusal of the first that would be refused, or all allocated and the first announced.
@@ -41,11 +41,7 @@ fn allocate_listed(s: &mut [u8; STATE_LEN], list: Endpoints) -> Step
 
 // A descriptor's endpoints allocated in its order, or none: rows 3, 4, 17, 18, then 6, 7 or 8 of the first that would be refused.
 pub fn allocate_all(s: &mut [u8; STATE_LEN], bytes: &[u8]) -> Step
-    ensures { λ r. ⌜ ((a b : List ℕ) → (
-      answerOf r [] (view (now (s .exit))),
-      machineOf (now (s .exit)) b,
-    ) ≡ drive (begin (other (AllocateAll (now (bytes .entry))))) (machineOf (now (s .entry)) a) b) ⌝ }
-    ensures { λ r. ⌜ SavedByAnswer r (now (s .entry)) (now (s .exit)) ⌝ }
+    ensures { λ r. ⌜ OtherCall (AllocateAll (now (bytes .entry))) r (now (s .entry)) (now (s .exit)) ⌝ }
 {
     let n = stop(s, 1);
     if n == 0 {

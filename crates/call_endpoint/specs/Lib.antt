@@ -1,2 +1,3 @@
+pub mod AskedLaws
 pub mod AtOnce
 pub mod Shown

@@ -5,22 +5,14 @@ use machine::halts::polled_endpoint;
 use machine::saved::is_idle;
 use machine::stops::slots_fit;
 use state::STATE_LEN;
-ghost use mathlib.Core.Path.{_≡_};
-ghost use mathlib.Core.List.{List, []};
-ghost use Prim.Native.Nat.{ℕ};
 ghost use lib.ListN.{length};
-ghost use Rattle.state.specs.State.{view};
 ghost use Rattle.model.specs.Machine.{begin};
-ghost use Rattle.model.specs.Calls.{other, slotted, BeginRead, PollRead, BeginWrite, PollWrite};
-ghost use Rattle.machine.specs.Suspended.{machineOf, drive, answerOf, lentOr, BufferUnchangedOnRow1, lentBy, SavedByAnswer};
+ghost use Rattle.model.specs.Calls.{BeginRead, PollRead, BeginWrite, PollWrite};
+ghost use Rattle.machine.specs.Contracts.{OtherCall, SlottedCall, PolledCall};
 
 // `read` (endpoint.rs 83-142), into a slice of n bytes.
 pub fn begin_read(s: &mut [u8; STATE_LEN], e: u32, n: u32) -> Step
-    ensures { λ r. ⌜ ((a b : List ℕ) → (
-      answerOf r [] (view (now (s .exit))),
-      machineOf (now (s .exit)) b,
-    ) ≡ drive (begin (other (BeginRead e n))) (machineOf (now (s .entry)) a) b) ⌝ }
-    ensures { λ r. ⌜ SavedByAnswer r (now (s .entry)) (now (s .exit)) ⌝ }
+    ensures { λ r. ⌜ OtherCall (BeginRead e n) r (now (s .entry)) (now (s .exit)) ⌝ }
 {
     if is_idle(s) {
         let x = endpoint::begin_read(s, e, n);
@@ -31,13 +23,7 @@ pub fn begin_read(s: &mut [u8; STATE_LEN], e: u32, n: u32) -> Step
 
 // The packet at the front of `out`.
 pub fn poll_read(s: &mut [u8; STATE_LEN], slots: &[u8], e: u32, out: &mut [u8]) -> Step
-    ensures { λ r. ⌜ ((a : List ℕ) → (
-      answerOf r (now (out .exit)) (view (now (s .exit))),
-      machineOf (now (s .exit)) (lentOr (view (now (s .entry))) (now (slots .entry)) (now (slots .entry)) a),
-    ) ≡ drive (begin (slotted (PollRead e (length (now (out .entry)))))) (machineOf (now (s .entry)) a) (now (slots .entry))) ⌝ }
-    ensures { λ _. ⌜ ((a : List ℕ) → now (out .exit) ≡ lentBy (drive (begin (slotted (PollRead e (length (now (out .entry))))))
-        (machineOf (now (s .entry)) a) (now (slots .entry)) .0) (now (out .entry))) ⌝ }
-    ensures { λ r. ⌜ SavedByAnswer r (now (s .entry)) (now (s .exit)) ⌝ }
+    ensures { λ r. ⌜ PolledCall (PollRead e (length (now (out .entry)))) r (now (s .entry)) (now (slots .entry)) (now (out .entry)) (now (s .exit)) (now (out .exit)) ⌝ }
 {
     if slots_fit(s, slots) {
         if is_idle(s) {
@@ -51,12 +37,7 @@ pub fn poll_read(s: &mut [u8; STATE_LEN], slots: &[u8], e: u32, out: &mut [u8]) 
 
 // `write` (146-194).
 pub fn begin_write(s: &mut [u8; STATE_LEN], slots: &mut [u8], e: u32, bytes: &[u8]) -> Step
-    ensures { λ r. ⌜ ((a : List ℕ) → (
-      answerOf r [] (view (now (s .exit))),
-      machineOf (now (s .exit)) (lentOr (view (now (s .entry))) (now (slots .entry)) (now (slots .exit)) a),
-    ) ≡ drive (begin (slotted (BeginWrite e (now (bytes .entry))))) (machineOf (now (s .entry)) a) (now (slots .entry))) ⌝ }
-    ensures { λ _. ⌜ BufferUnchangedOnRow1 (view (now (s .entry))) (now (slots .entry)) (now (slots .exit)) ⌝ }
-    ensures { λ r. ⌜ SavedByAnswer r (now (s .entry)) (now (s .exit)) ⌝ }
+    ensures { λ r. ⌜ SlottedCall (BeginWrite e (now (bytes .entry))) r (now (s .entry)) (now (slots .entry)) (now (s .exit)) (now (slots .exit)) ⌝ }
 {
     if slots_fit(s, slots) {
         if is_idle(s) {
@@ -69,12 +50,7 @@ pub fn begin_write(s: &mut [u8; STATE_LEN], slots: &mut [u8], e: u32, bytes: &[u
 }
 
 pub fn poll_write(s: &mut [u8; STATE_LEN], slots: &mut [u8], e: u32, bytes: &[u8]) -> Step
-    ensures { λ r. ⌜ ((a : List ℕ) → (
-      answerOf r [] (view (now (s .exit))),
-      machineOf (now (s .exit)) (lentOr (view (now (s .entry))) (now (slots .entry)) (now (slots .exit)) a),
-    ) ≡ drive (begin (slotted (PollWrite e (now (bytes .entry))))) (machineOf (now (s .entry)) a) (now (slots .entry))) ⌝ }
-    ensures { λ _. ⌜ BufferUnchangedOnRow1 (view (now (s .entry))) (now (slots .entry)) (now (slots .exit)) ⌝ }
-    ensures { λ r. ⌜ SavedByAnswer r (now (s .entry)) (now (s .exit)) ⌝ }
+    ensures { λ r. ⌜ SlottedCall (PollWrite e (now (bytes .entry))) r (now (s .entry)) (now (slots .entry)) (now (s .exit)) (now (slots .exit)) ⌝ }
 {
     if slots_fit(s, slots) {
         if is_idle(s) {

@@ -11,10 +11,11 @@ ghost use mathlib.Core.List.{List, []};
 ghost use Prim.Native.Nat.{ℕ};
 ghost use lib.Dec.{eqb};
 ghost use Rattle.state.specs.State.{view};
-ghost use Rattle.model.specs.Machine.{begin, start};
-ghost use Rattle.model.specs.Calls.{other, Allocate, Start, startRow};
+ghost use Rattle.model.specs.Machine.{start};
+ghost use Rattle.model.specs.Calls.{Allocate, Start, startRow};
 ghost use Rattle.model.specs.Statics.{flag};
 ghost use Rattle.machine.specs.Suspended.{machineOf, drive, answerOf, configOf, SavedByAnswer};
+ghost use Rattle.machine.specs.Contracts.{OtherCall};
 
 // Allocation (mod.rs 953-1043, endpoint.rs 18-36): rows 6, 7, 8 are the allocator's answer.
 pub fn allocate(
@@ -25,11 +26,7 @@ pub fn allocate(
     maximum: u32,
     interval: u32,
 ) -> Step
-    ensures { λ r. ⌜ ((a b : List ℕ) → (
-      answerOf r [] (view (now (s .exit))),
-      machineOf (now (s .exit)) b,
-    ) ≡ drive (begin (other (Allocate dir kind address maximum interval))) (machineOf (now (s .entry)) a) b) ⌝ }
-    ensures { λ r. ⌜ SavedByAnswer r (now (s .entry)) (now (s .exit)) ⌝ }
+    ensures { λ r. ⌜ OtherCall (Allocate dir kind address maximum interval) r (now (s .entry)) (now (s .exit)) ⌝ }
 {
     let n = stop(s, 1);
     if n == 0 {
@@ -49,11 +46,7 @@ pub fn allocate(
 
 // EP0's start (mod.rs 1144-1178).
 pub fn start(s: &mut [u8; STATE_LEN], maximum: u32) -> Step
-    ensures { λ r. ⌜ ((a b : List ℕ) → (
-      answerOf r [] (view (now (s .exit))),
-      machineOf (now (s .exit)) b,
-    ) ≡ drive (begin (other (Start maximum))) (machineOf (now (s .entry)) a) b) ⌝ }
-    ensures { λ r. ⌜ SavedByAnswer r (now (s .entry)) (now (s .exit)) ⌝ }
+    ensures { λ r. ⌜ OtherCall (Start maximum) r (now (s .entry)) (now (s .exit)) ⌝ }
 {
     let n = stop(s, 1);
     if n == 0 {

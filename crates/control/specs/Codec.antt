@@ -1,41 +1,17 @@
 -- A point as numbers, and back
-use mathlib.Core.Path.{_≡_}
-use mathlib.Core.Bool.{Bool, cond}
+use mathlib.Core.Bool.{cond}
 use Prim.Native.Nat.{ℕ}
 use lib.Dec.{eqb}
-use Rattle.regs.specs.declared.Dir.{Dir}
-use Rattle.regs.specs.declared.Dir.the-variants.{Out, In}
 use Rattle.state.specs.declared.Saved.{Saved}
+use Rattle.model_points.specs.Numbers.{numbers}
+pub use Rattle.model_points.specs.Numbers.{dirAs, dirOf}
 use Rattle.model.specs.Statics.{isOn, flag}
 use Rattle.control.specs.declared.Point.{Point}
 use Rattle.control.specs.declared.Point.the-variants as point
 
-abbrev pub dirAs : Dir → ℕ
-dirAs Out = 0
-dirAs In = 1
-
-abbrev pub dirOf : ℕ → Dir
-dirOf n = cond (eqb n 0) Out In
-
 -- the point's number, its direction, its flag and its length
 abbrev pub code : ℕ → ℕ → ℕ → ℕ → Saved
-code sub site f n = record {
-  tag = 0;
-  sub = sub;
-  site = site;
-  flag = f;
-  busy = 0;
-  late = 0;
-  «len_ok» = 0;
-  st = 0;
-  now = 0;
-  ep = 0;
-  len = n;
-  frame = 0;
-  eps = 0;
-  n = 0;
-  value = 0;
-}
+code sub site f n = numbers sub site f 0 0 0 0 n 0
 
 unfoldable pub encode : Point → Saved
 encode point.Wrote = code 0 0 0 0

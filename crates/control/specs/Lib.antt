@@ -1,4 +1,4 @@
 pub mod Points
-pub mod PointsLaws
+pub mod Rows
 pub mod Codec
 pub mod CodecLaws

@@ -1,25 +1,26 @@
 -- What is left to run at each point, and what the answers of the control pipe's calls mean
 use mathlib.Core.Path.{_≡_}
-use mathlib.Core.Bool.{Bool, true, false}
-use mathlib.Core.List.{List, [], _++_}
+use mathlib.Core.Bool.{Bool, false}
+use mathlib.Core.List.{List, _++_}
 use Prim.Native.Nat.{ℕ}
-use Rattle.regs.specs.declared.Reg.the-variants.{DevAd, EpTLen, EpRxCtrl, EpTxCtrl}
+use Rattle.regs.specs.declared.Reg.the-variants.{EpTLen, EpRxCtrl, EpTxCtrl}
 use Rattle.regs.specs.declared.Dir.{Dir}
 use Rattle.regs.specs.declared.Dir.the-variants.{Out, In}
-use Rattle.regs.specs.Registers.{ctrlOf, widthOf, fitsIn}
+use Rattle.regs.specs.Registers.{ctrlOf, widthOf}
 use Rattle.regs.specs.ControlWord.{ack, stall, status}
 use Rattle.state.specs.Wakes.{listed}
 use Rattle.state.specs.Driver.{Driver}
 use Rattle.model.specs.Tree as tree
 use Rattle.model.specs.Tree.{ends, asks}
-use Rattle.model.specs.Script.{Script, run, ret, _>>=_, _>>_, write}
+use Rattle.model.specs.Script.{Script, run, ret, _>>=_, _>>_, write, when}
 use Rattle.model.specs.Statics.{withArmed, modifyEp, modifyReg}
 use Rattle.model.specs.Machine.{Awaits, nothing, reading, awaited}
 use Rattle.model.specs.Answers.{Answer, Refused, End, NotYet, Done}
-use Rattle.model.specs.Control.{acks, wordBytes}
+use Rattle.model.specs.Control.{acks, wordBytes, closing-out}
 use Rattle.model_ops.specs.Rings.{St}
 use Rattle.model_ops.specs.Concrete.{concrete}
 use Rattle.endpoint_common.specs.Answers.{finished, front}
+use Rattle.model_points.specs.Numbers.{fits}
 use Rattle.control.specs.declared.Point.{Point}
 use Rattle.control.specs.declared.Point.the-variants as point
 use Rattle.control.specs.declared.Next.{Next}
@@ -29,12 +30,30 @@ use Rattle.control.specs.declared.Begun.the-variants as begun
 use Rattle.control.specs.declared.Polled.{Polled}
 use Rattle.control.specs.declared.Polled.the-variants as polled
 
+-- ---- a begin past its rows
+
+-- a stage's packet is answered with ACK
+abbrev pub acked : Dir → Bool → Script false ℕ
+acked d first = do
+  acks d first
+  ret 0
+
 -- data_in after its closing OUT
 abbrev pub loaded : ℕ → Bool → Script false Unit
 loaded n first = do
   modifyEp In 0 (withArmed 1)
   write EpTLen 0 n
   acks In first
+
+-- and from it on
+abbrev pub loading : ℕ → Bool → Bool → Script false ℕ
+loading n first last = do
+  (do
+    when last closing-out
+    loaded n first)
+  ret 0
+
+-- ---- points
 
 abbrev pub denote : Point → ℕ → Script false ℕ
 denote point.Wrote v = ret {A = ℕ} 0
@@ -64,18 +83,6 @@ denote (point.Loaded first) v = do
   acks In first
   ret 0
 
--- row 16 turned round: what was read at the point fits its register
-unfoldable pub fitsAt : Point → ℕ → Bool
-fitsAt point.Wrote v = true
-fitsAt (point.Ack d) v = fitsIn v (widthOf (ctrlOf d))
-fitsAt point.StatusLen v = true
-fitsAt point.Status v = fitsIn v (widthOf EpTxCtrl)
-fitsAt point.StallIn v = fitsIn v (widthOf EpTxCtrl)
-fitsAt point.StalledIn v = true
-fitsAt point.StallOut v = fitsIn v (widthOf EpRxCtrl)
-fitsAt (point.Closing n first) v = true
-fitsAt (point.Loaded first) v = true
-
 -- the next access and the point at which it stops, or the result
 abbrev pub meaning : Next → Driver → List ℕ → tree.Out St ℕ
 meaning (next.Asks q p) d b = asks q (d, b) (λ v t. run concrete (denote p v) t)
@@ -95,7 +102,7 @@ polledAs (polled.Done n) out d b = ends (Done (front n out)) (d, b)
 polledAs (polled.Setup low high) out d b = ends (Done (wordBytes low ++ wordBytes high)) (d, b)
 polledAs (polled.Asks q p) out d b = asks q (d, b) (λ v t. run concrete (finished (denote p v)) t)
 
--- what a point awaits, and that it is the access handed out with it
+-- what a point awaits
 abbrev pub awaitsAt : Point → Awaits
 awaitsAt point.Wrote = nothing
 awaitsAt (point.Ack d) = reading (widthOf EpTxCtrl)
@@ -107,6 +114,11 @@ awaitsAt point.StallOut = reading (widthOf EpRxCtrl)
 awaitsAt (point.Closing n first) = nothing
 awaitsAt (point.Loaded first) = nothing
 
+-- row 16 turned round
+unfoldable pub fitsAt : Point → ℕ → Bool
+fitsAt p v = fits (awaitsAt p) v
+
+-- what it awaits is the access handed out with it
 abbrev pub Linked : Next → Type 0
 Linked (next.Asks q p) = awaited q ≡ awaitsAt p
 Linked (next.Ends n) = Unit {0}

@@ -5,18 +5,17 @@ use crate::checks::ACCEPT;
 use crate::checks::DATA_OUT;
 use crate::checks::SETUP;
 use crate::checks::arm_out;
+use crate::checks::begin_row;
 use crate::checks::close_out;
-use crate::checks::is_above;
 use crate::checks::is_started;
 use crate::checks::set_address;
 use crate::checks::set_data_in;
 use crate::checks::set_request;
-use crate::codec::flag_as;
 use endpoint_common::length16;
 use endpoint_common::set_armed;
 use endpoint_common::unready;
 use model_ops::rings::fill0;
-use model_ops::rings::is_on;
+use model_points::flag_of;
 use regs::Access;
 use regs::Dir;
 use regs::Reg;
@@ -30,10 +29,14 @@ ghost use mathlib.Core.Path.{_≡_};
 ghost use mathlib.Core.Bool.{true, false};
 ghost use mathlib.Core.List.{List};
 ghost use Prim.Native.Nat.{ℕ};
+ghost use Rattle.regs.specs.declared.Dir.the-variants.{Out};
+ghost use Rattle.state.specs.Driver.{Driver};
 ghost use Rattle.state.specs.State.{view, saved};
-ghost use Rattle.model.specs.Control.{beginSetup, beginDataOut, beginDataIn, beginAccept, beginAcceptSetAddress, beginReject};
+ghost use Rattle.model.specs.Answers.{resultless};
+ghost use Rattle.model.specs.Control.{statusIn, beginSetup, beginDataOut, beginDataIn, beginAccept, beginAcceptSetAddress, beginReject};
 ghost use Rattle.model_ops.specs.Concrete.{go};
-ghost use Rattle.control.specs.Points.{begunAs, LinkedBegun};
+ghost use Rattle.endpoint_common.specs.Answers.{finished};
+ghost use Rattle.control.specs.Points.{acked, loading, begunAs, LinkedBegun};
 
 // `setup`, control.rs 70-80.
 pub fn setup(s: &mut [u8; STATE_LEN]) -> Begun
@@ -50,26 +53,11 @@ pub fn setup(s: &mut [u8; STATE_LEN]) -> Begun
     Begun::Refused(4)
 }
 
-// `data_out`, 82-115, into a slice of n bytes.
-pub fn data_out(s: &mut [u8; STATE_LEN], n: u32, first: bool) -> Begun
-    ensures { λ r. ⌜ ((b : List ℕ) → begunAs r (view (now (s .exit))) b ≡ go {i = false} (beginDataOut n first) (view (now (s .entry))) b) ⌝ }
-    ensures { λ _. ⌜ saved (now (s .exit)) ≡ saved (now (s .entry)) ⌝ }
+// OUT 0 answers: the stage's first packet is DATA1, for another the word is read.
+fn ack_out(first: bool) -> Begun
+    ensures { λ r. ⌜ ((d : Driver) (b : List ℕ) → begunAs r d b ≡ go (finished (acked Out first)) d b) ⌝ }
     ensures { λ r. ⌜ LinkedBegun r ⌝ }
 {
-    let g = load_globals(s);
-    if !is_started(g) {
-        return Begun::Refused(4);
-    }
-    if is_above(g, n as usize) {
-        return Begun::Refused(10);
-    }
-    if is_on(g.setup_ready) {
-        return Begun::Refused(9);
-    }
-    let k = length16(n as usize, g.ep0_max);
-    set_request(s, DATA_OUT, n);
-    clear_wakes(s);
-    arm_out(s, k);
     if first {
         let w = word_of(ACK, DATA1, false);
         return Begun::Asks(Access::Write(Reg::EpRxCtrl, 0, w as u32), Point::Wrote);
@@ -77,34 +65,30 @@ pub fn data_out(s: &mut [u8; STATE_LEN], n: u32, first: bool) -> Begun
     Begun::Asks(Access::Read(Reg::EpRxCtrl, 0), Point::Ack(Dir::Out))
 }
 
-// `data_in`, 117-161: the packet into EP0's slot; with the last one the status stage's OUT right away.
-pub fn data_in(
-    s: &mut [u8; STATE_LEN],
-    buf: &mut [u8],
-    bytes: &[u8],
-    first: bool,
-    last: bool,
-) -> Begun
-    ensures { λ r. ⌜ begunAs r (view (now (s .exit))) (now (buf .exit))
-        ≡ go {i = false} (beginDataIn (now (bytes .entry)) first last) (view (now (s .entry))) (now (buf .entry)) ⌝ }
+// `data_out`, 82-115, into a slice of n bytes.
+pub fn data_out(s: &mut [u8; STATE_LEN], n: u32, first: bool) -> Begun
+    ensures { λ r. ⌜ ((b : List ℕ) → begunAs r (view (now (s .exit))) b ≡ go {i = false} (beginDataOut n first) (view (now (s .entry))) b) ⌝ }
     ensures { λ _. ⌜ saved (now (s .exit)) ≡ saved (now (s .entry)) ⌝ }
     ensures { λ r. ⌜ LinkedBegun r ⌝ }
 {
     let g = load_globals(s);
-    if !is_started(g) {
-        return Begun::Refused(4);
+    let row = begin_row(g, n as usize);
+    if row == 0 {
+        let k = length16(n as usize, g.ep0_max);
+        set_request(s, DATA_OUT, n);
+        clear_wakes(s);
+        arm_out(s, k);
+        return ack_out(first);
     }
-    if is_above(g, bytes.len()) {
-        return Begun::Refused(10);
-    }
-    if is_on(g.setup_ready) {
-        return Begun::Refused(9);
-    }
-    let n = length16(bytes.len(), g.ep0_max);
-    set_data_in(s, n as u32, flag_as(last), 1);
-    clear_wakes(s);
-    fill0(s, buf, bytes);
-    unready(s, Dir::In, 0);
+    Begun::Refused(row)
+}
+
+// EP0's packet of n bytes goes out; with the last one the status stage's OUT right away.
+fn load_in(s: &mut [u8; STATE_LEN], n: u16, first: bool, last: bool) -> Begun
+    ensures { λ r. ⌜ ((b : List ℕ) → begunAs r (view (now (s .exit))) b ≡ go (finished (loading n first last)) (view (now (s .entry))) b) ⌝ }
+    ensures { λ _. ⌜ saved (now (s .exit)) ≡ saved (now (s .entry)) ⌝ }
+    ensures { λ r. ⌜ LinkedBegun r ⌝ }
+{
     if last {
         close_out(s);
         let w = word_of(ACK, DATA1, false);
@@ -120,23 +104,55 @@ pub fn data_in(
     )
 }
 
+// `data_in`, 117-161: the packet into EP0's slot.
+pub fn data_in(
+    s: &mut [u8; STATE_LEN],
+    buf: &mut [u8],
+    bytes: &[u8],
+    first: bool,
+    last: bool,
+) -> Begun
+    ensures { λ r. ⌜ begunAs r (view (now (s .exit))) (now (buf .exit))
+        ≡ go {i = false} (beginDataIn (now (bytes .entry)) first last) (view (now (s .entry))) (now (buf .entry)) ⌝ }
+    ensures { λ _. ⌜ saved (now (s .exit)) ≡ saved (now (s .entry)) ⌝ }
+    ensures { λ r. ⌜ LinkedBegun r ⌝ }
+{
+    let g = load_globals(s);
+    let row = begin_row(g, bytes.len());
+    if row == 0 {
+        let n = length16(bytes.len(), g.ep0_max);
+        set_data_in(s, n as u32, flag_of(last), 1);
+        clear_wakes(s);
+        fill0(s, buf, bytes);
+        unready(s, Dir::In, 0);
+        return load_in(s, n, first, last);
+    }
+    Begun::Refused(row)
+}
+
+// The status stage's IN, of no bytes.
+fn status_in(s: &mut [u8; STATE_LEN]) -> Begun
+    ensures { λ r. ⌜ ((b : List ℕ) → begunAs r (view (now (s .exit))) b ≡ go {i = false} (resultless statusIn) (view (now (s .entry))) b) ⌝ }
+    ensures { λ _. ⌜ saved (now (s .exit)) ≡ saved (now (s .entry)) ⌝ }
+    ensures { λ r. ⌜ LinkedBegun r ⌝ }
+{
+    clear_wakes(s);
+    unready(s, Dir::In, 0);
+    Begun::Asks(Access::Write(Reg::EpTLen, 0, 0), Point::StatusLen)
+}
+
 // `accept`, 26-46, 163-166.
 pub fn accept(s: &mut [u8; STATE_LEN]) -> Begun
     ensures { λ r. ⌜ ((b : List ℕ) → begunAs r (view (now (s .exit))) b ≡ go {i = false} beginAccept (view (now (s .entry))) b) ⌝ }
     ensures { λ _. ⌜ saved (now (s .exit)) ≡ saved (now (s .entry)) ⌝ }
     ensures { λ r. ⌜ LinkedBegun r ⌝ }
 {
-    let g = load_globals(s);
-    if !is_started(g) {
-        return Begun::Refused(4);
+    let row = begin_row(load_globals(s), 0);
+    if row == 0 {
+        set_request(s, ACCEPT, 0);
+        return status_in(s);
     }
-    if is_on(g.setup_ready) {
-        return Begun::Refused(9);
-    }
-    set_request(s, ACCEPT, 0);
-    clear_wakes(s);
-    unready(s, Dir::In, 0);
-    Begun::Asks(Access::Write(Reg::EpTLen, 0, 0), Point::StatusLen)
+    Begun::Refused(row)
 }
 
 // `accept_set_address`, 179-186.
@@ -145,17 +161,12 @@ pub fn accept_set_address(s: &mut [u8; STATE_LEN], address: u32) -> Begun
     ensures { λ _. ⌜ saved (now (s .exit)) ≡ saved (now (s .entry)) ⌝ }
     ensures { λ r. ⌜ LinkedBegun r ⌝ }
 {
-    let g = load_globals(s);
-    if !is_started(g) {
-        return Begun::Refused(4);
+    let row = begin_row(load_globals(s), 0);
+    if row == 0 {
+        set_address(s, (address % 256) as u8);
+        return status_in(s);
     }
-    if is_on(g.setup_ready) {
-        return Begun::Refused(9);
-    }
-    set_address(s, (address % 256) as u8);
-    clear_wakes(s);
-    unready(s, Dir::In, 0);
-    Begun::Asks(Access::Write(Reg::EpTLen, 0, 0), Point::StatusLen)
+    Begun::Refused(row)
 }
 
 // `reject`, 168-177.

@@ -1,4 +1,5 @@
 // The checks before a stage (rows 4, 15 and 10), the pipe's request, and EP0's record where a stage begins.
+use model_ops::rings::is_on;
 use regs::Dir;
 use state::Control;
 use state::Globals;
@@ -7,13 +8,14 @@ use state::load_ep;
 use state::store_control;
 use state::store_ep;
 ghost use mathlib.Core.Path.{_≡_};
-ghost use lib.Dec.{eqb, ltb};
+ghost use lib.Dec.{eqb};
 ghost use Rattle.regs.specs.declared.Dir.the-variants.{Out, In};
 ghost use Rattle.state.specs.Driver.{withControl};
 ghost use Rattle.state.specs.State.{view, saved};
 ghost use Rattle.model.specs.Statics.{withReady, withLen, withArmed};
 ghost use Rattle.model.specs.Control.{requestOf, dataInOf, addressOf};
 ghost use Rattle.endpoint_common.specs.Records.{modifiedOn};
+ghost use Rattle.control.specs.Rows.{beginRow, pollRow};
 
 pub const SETUP: u8 = 1;
 
@@ -30,18 +32,33 @@ pub fn is_started(g: Globals) -> bool
     g.stage == 2
 }
 
-// Is the request of this sort (row 15 turned round)?
-pub fn is_sort(c: Control, sort: u8) -> bool
-    ensures { λ r. ⌜ r ≡ eqb (c .sort) sort ⌝ }
+// The row that stops the begin of a stage of n bytes: 4, 10 above EP0's maximum, 9 where a setup packet waits; else 0.
+pub fn begin_row(g: Globals, n: usize) -> u8
+    ensures { λ r. ⌜ r ≡ beginRow g n ⌝ }
 {
-    c.sort == sort
+    if is_started(g) {
+        if (g.ep0_max as usize) < n {
+            return 10;
+        }
+        if is_on(g.setup_ready) {
+            return 9;
+        }
+        return 0;
+    }
+    4
 }
 
-// More than EP0's maximum (row 10)?
-pub fn is_above(g: Globals, n: usize) -> bool
-    ensures { λ r. ⌜ r ≡ ltb (g .«ep0_max») n ⌝ }
+// The row that stops the poll of a stage: 4, 15 where the request is of another sort; else 0.
+pub fn poll_row(g: Globals, c: Control, sort: u8) -> u8
+    ensures { λ r. ⌜ r ≡ pollRow g c sort ⌝ }
 {
-    (g.ep0_max as usize) < n
+    if is_started(g) {
+        if c.sort == sort {
+            return 0;
+        }
+        return 15;
+    }
+    4
 }
 
 // The request that an accepted begin leaves; of sort 0, none.

@@ -5,8 +5,7 @@ use crate::checks::ACCEPT;
 use crate::checks::DATA_IN;
 use crate::checks::DATA_OUT;
 use crate::checks::SETUP;
-use crate::checks::is_sort;
-use crate::checks::is_started;
+use crate::checks::poll_row;
 use crate::checks::set_data_in;
 use crate::checks::set_request;
 use endpoint_common::fetch;
@@ -16,6 +15,7 @@ use regs::Access;
 use regs::Dir;
 use regs::Reg;
 use state::Control;
+use state::Globals;
 use state::STATE_LEN;
 use state::clear_wakes;
 use state::load_control;
@@ -38,6 +38,7 @@ ghost use Rattle.model.specs.Answers.{NotYet};
 ghost use Rattle.model_ops.specs.Concrete.{go};
 ghost use Rattle.endpoint_common.specs.Answers.{lentAfter};
 ghost use Rattle.control.specs.Points.{polledAs, LinkedPolled};
+ghost use Rattle.control.specs.Rows.{Polls};
 
 // Not ready yet, or a setup packet ends the stage (`complete`, control.rs 48-61).
 fn wait_on(s: &mut [u8; STATE_LEN]) -> Polled
@@ -53,43 +54,44 @@ fn wait_on(s: &mut [u8; STATE_LEN]) -> Polled
     Polled::NotYet
 }
 
-// `setup`, 70-80.
-pub fn poll_setup(s: &mut [u8; STATE_LEN]) -> Polled
+// The setup packet, once it is there.
+fn take_setup(s: &mut [u8; STATE_LEN], g: Globals) -> Polled
+    requires { ⌜ (g ≡ view (now s) .globals) × Polls (view (now s)) (view (now s) .control) 1 ⌝ }
     ensures { λ r. ⌜ ((b : List ℕ) → polledAs r [] (view (now (s .exit))) b ≡ go {i = false} pollSetup (view (now (s .entry))) b) ⌝ }
     ensures { λ _. ⌜ saved (now (s .exit)) ≡ saved (now (s .entry)) ⌝ }
     ensures { λ r. ⌜ LinkedPolled r ⌝ }
 {
-    let mut g = load_globals(s);
-    if !is_started(g) {
-        return Polled::Refused(4);
-    }
-    let c = load_control(s);
-    if !is_sort(c, SETUP) {
-        return Polled::Refused(15);
-    }
     if is_on(g.setup_ready) {
-        g.setup_ready = 0;
-        store_globals(s, g);
+        let mut h = g;
+        h.setup_ready = 0;
+        store_globals(s, h);
         set_request(s, 0, 0);
         return Polled::Setup(g.setup_low, g.setup_high);
     }
     Polled::NotYet
 }
 
-// `accept` and `accept_set_address`, 26-46: the address changes only after the status stage.
-pub fn poll_accept(s: &mut [u8; STATE_LEN]) -> Polled
-    ensures { λ r. ⌜ ((b : List ℕ) → polledAs r [] (view (now (s .exit))) b ≡ go {i = false} pollAccept (view (now (s .entry))) b) ⌝ }
+// `setup`, 70-80.
+pub fn poll_setup(s: &mut [u8; STATE_LEN]) -> Polled
+    ensures { λ r. ⌜ ((b : List ℕ) → polledAs r [] (view (now (s .exit))) b ≡ go {i = false} pollSetup (view (now (s .entry))) b) ⌝ }
     ensures { λ _. ⌜ saved (now (s .exit)) ≡ saved (now (s .entry)) ⌝ }
     ensures { λ r. ⌜ LinkedPolled r ⌝ }
 {
     let g = load_globals(s);
-    if !is_started(g) {
-        return Polled::Refused(4);
+    let row = poll_row(g, load_control(s), SETUP);
+    if row == 0 {
+        return take_setup(s, g);
     }
-    let c = load_control(s);
-    if !is_sort(c, ACCEPT) {
-        return Polled::Refused(15);
-    }
+    Polled::Refused(row)
+}
+
+// The status stage's end: the address changes only then.
+fn take_accept(s: &mut [u8; STATE_LEN], c: Control) -> Polled
+    requires { ⌜ Polls (view (now s)) c 4 ⌝ }
+    ensures { λ r. ⌜ ((b : List ℕ) → polledAs r [] (view (now (s .exit))) b ≡ go {i = false} pollAccept (view (now (s .entry))) b) ⌝ }
+    ensures { λ _. ⌜ saved (now (s .exit)) ≡ saved (now (s .entry)) ⌝ }
+    ensures { λ r. ⌜ LinkedPolled r ⌝ }
+{
     let r = load_ep(s, Dir::In, 0);
     if is_on(r.ready) {
         unready(s, Dir::In, 0);
@@ -102,6 +104,20 @@ pub fn poll_accept(s: &mut [u8; STATE_LEN]) -> Polled
         return Polled::Asks(Access::Write(Reg::DevAd, 0, a as u32), Point::Wrote);
     }
     wait_on(s)
+}
+
+// `accept` and `accept_set_address`, 26-46.
+pub fn poll_accept(s: &mut [u8; STATE_LEN]) -> Polled
+    ensures { λ r. ⌜ ((b : List ℕ) → polledAs r [] (view (now (s .exit))) b ≡ go {i = false} pollAccept (view (now (s .entry))) b) ⌝ }
+    ensures { λ _. ⌜ saved (now (s .exit)) ≡ saved (now (s .entry)) ⌝ }
+    ensures { λ r. ⌜ LinkedPolled r ⌝ }
+{
+    let c = load_control(s);
+    let row = poll_row(load_globals(s), c, ACCEPT);
+    if row == 0 {
+        return take_accept(s, c);
+    }
+    Polled::Refused(row)
 }
 
 // The closing OUT must be empty.
@@ -169,18 +185,15 @@ pub fn poll_data_in(s: &mut [u8; STATE_LEN]) -> Polled
     ensures { λ _. ⌜ saved (now (s .exit)) ≡ saved (now (s .entry)) ⌝ }
     ensures { λ r. ⌜ LinkedPolled r ⌝ }
 {
-    let g = load_globals(s);
-    if !is_started(g) {
-        return Polled::Refused(4);
-    }
     let c = load_control(s);
-    if !is_sort(c, DATA_IN) {
-        return Polled::Refused(15);
+    let row = poll_row(load_globals(s), c, DATA_IN);
+    if row == 0 {
+        if c.wait == 2 {
+            return take_closing(s, false, c);
+        }
+        return take_in(s, c);
     }
-    if c.wait == 2 {
-        return take_closing(s, false, c);
-    }
-    take_in(s, c)
+    Polled::Refused(row)
 }
 
 // The packet out of EP0's slot, no longer than the slice.
@@ -216,18 +229,15 @@ pub fn poll_data_out(s: &mut [u8; STATE_LEN], buf: &[u8], out: &mut [u8]) -> Pol
     ensures { λ _. ⌜ saved (now (s .exit)) ≡ saved (now (s .entry)) ⌝ }
     ensures { λ r. ⌜ LinkedPolled r ⌝ }
 {
-    let g = load_globals(s);
-    if !is_started(g) {
-        return Polled::Refused(4);
-    }
     let c = load_control(s);
-    if !is_sort(c, DATA_OUT) {
-        return Polled::Refused(15);
+    let row = poll_row(load_globals(s), c, DATA_OUT);
+    if row == 0 {
+        if c.length as usize == out.len() {
+            return take_out(s, buf, out);
+        }
+        unready(s, Dir::Out, 0);
+        set_request(s, 0, 0);
+        return Polled::Refused(10);
     }
-    if c.length as usize == out.len() {
-        return take_out(s, buf, out);
-    }
-    unready(s, Dir::Out, 0);
-    set_request(s, 0, 0);
-    Polled::Refused(10)
+    Polled::Refused(row)
 }

@@ -1,6 +1,6 @@
 -- What is left to run at each suspension point, and what a call's answer comes to
 use mathlib.Core.Path.{_≡_}
-use mathlib.Core.Bool.{Bool, true, false, not}
+use mathlib.Core.Bool.{Bool, false, not}
 use mathlib.Core.List.{List}
 use Prim.Native.Nat.{ℕ, _%_}
 use lib.Dec.{eqb}
@@ -9,7 +9,7 @@ use Rattle.regs.specs.declared.Dir.{Dir}
 use Rattle.regs.specs.ControlWord.{NAK, DATA0, wordOf}
 use Rattle.regs.specs.Ctrl.{RUN, resetEnded, PHY_SUSPENDM}
 use Rattle.regs.specs.IntEn.{atStart}
-use Rattle.regs.specs.Registers.{widthOf, fitsIn}
+use Rattle.regs.specs.Registers.{widthOf}
 use Rattle.frame.specs.Usb20.{indexOf}
 use Rattle.state.specs.Driver.{Driver}
 use Rattle.model.specs.Tree as tree
@@ -22,6 +22,7 @@ use Rattle.model.specs.IsoIn as isoIn
 use Rattle.model.specs.Machine.{Awaits, nothing, reading, awaited}
 use Rattle.model_ops.specs.Rings.{St}
 use Rattle.model_ops.specs.Concrete.{concrete}
+use Rattle.model_points.specs.Numbers.{fits}
 use Rattle.driver.specs.declared.Point.{Point}
 use Rattle.driver.specs.declared.Point.the-variants as point
 use Rattle.driver.specs.declared.Next.{Next}
@@ -116,7 +117,7 @@ abbrev pub meaning : Next → Driver → List ℕ → tree.Out St ℕ
 meaning (next.Asks q p) d b = asks q (d, b) (λ v t. run concrete (denote p v) t)
 meaning (next.Ends n) d b = ends n (d, b)
 
--- what a point awaits, and that it is the access handed out with it
+-- what a point awaits
 abbrev pub awaitsAt : Point → Awaits
 awaitsAt (point.Clear callback) = nothing
 awaitsAt (point.Wait callback) = nothing
@@ -136,26 +137,11 @@ awaitsAt point.FrameNo = reading (widthOf FrameNo)
 awaitsAt (point.ListMaxLen d kind ep left total) = nothing
 awaitsAt (point.ListPlace d ep left total) = nothing
 
+-- row 16 turned round
+unfoldable pub fitsAt : Point → ℕ → Bool
+fitsAt p v = fits (awaitsAt p) v
+
+-- what it awaits is the access handed out with it
 abbrev pub Linked : Next → Type 0
 Linked (next.Asks q p) = awaited q ≡ awaitsAt p
 Linked (next.Ends n) = Unit {0}
-
--- row 16 turned round: a reading has no bit above the register's width; any other number brought is ignored
-unfoldable pub fitsAt : Point → ℕ → Bool
-fitsAt (point.Clear callback) v = true
-fitsAt (point.Wait callback) v = true
-fitsAt (point.Reset callback) v = fitsIn v (widthOf Ctrl)
-fitsAt (point.ResetEnd callback) v = true
-fitsAt (point.Host callback) v = true
-fitsAt (point.Run callback) v = true
-fitsAt point.IntEn v = true
-fitsAt (point.MaxLen d kind ep) v = true
-fitsAt (point.Place ep) v = true
-fitsAt (point.Ep0Place maximum) v = true
-fitsAt point.Ep0MaxLen v = true
-fitsAt point.Ep0Rx v = true
-fitsAt point.Ep0Tx v = true
-fitsAt point.Ep0Packet v = true
-fitsAt point.FrameNo v = fitsIn v (widthOf FrameNo)
-fitsAt (point.ListMaxLen d kind ep left total) v = true
-fitsAt (point.ListPlace d ep left total) v = true

@@ -1,62 +1,21 @@
 -- A point as the saved record, and back. `tag`, which says whose point it is, is the caller's.
-use mathlib.Core.Path.{_≡_}
-use mathlib.Core.Bool.{Bool, cond}
+use mathlib.Core.Bool.{cond}
 use Prim.Native.Nat.{ℕ}
 use lib.Dec.{eqb}
-use Rattle.regs.specs.declared.Dir.{Dir}
-use Rattle.regs.specs.declared.Dir.the-variants.{Out, In}
 use Rattle.state.specs.declared.Saved.{Saved}
+use Rattle.model_points.specs.Numbers.{numbers}
+pub use Rattle.model_points.specs.Numbers.{dirAs, dirOf}
 use Rattle.model.specs.Statics.{isOn, flag}
 use Rattle.driver.specs.declared.Point.{Point}
 use Rattle.driver.specs.declared.Point.the-variants as point
 
--- a direction in a byte
-abbrev pub dirAs : Dir → ℕ
-dirAs Out = 0
-dirAs In = 1
-
-abbrev pub dirOf : ℕ → Dir
-dirOf n = cond (eqb n 0) Out In
-
 -- the point's number; callback or direction, kind, endpoint, maximum
 abbrev pub code : ℕ → ℕ → ℕ → ℕ → ℕ → Saved
-code n f kind ep value = record {
-  tag = 0;
-  sub = n;
-  site = 0;
-  flag = f;
-  busy = 0;
-  late = 0;
-  «len_ok» = 0;
-  st = kind;
-  now = 0;
-  ep = ep;
-  len = 0;
-  frame = 0;
-  eps = 0;
-  n = 0;
-  value = value;
-}
+code n f kind ep value = numbers n 0 f 0 0 kind ep 0 value
 
 -- of a list's endpoints also how many are left and how many there are
 abbrev pub listCode : ℕ → ℕ → ℕ → ℕ → ℕ → ℕ → Saved
-listCode n f kind ep left total = record {
-  tag = 0;
-  sub = n;
-  site = 0;
-  flag = f;
-  busy = left;
-  late = total;
-  «len_ok» = 0;
-  st = kind;
-  now = 0;
-  ep = ep;
-  len = 0;
-  frame = 0;
-  eps = 0;
-  n = 0;
-  value = 0;
-}
+listCode n f kind ep left total = numbers n 0 f left total kind ep 0 0
 
 unfoldable pub encode : Point → Saved
 encode (point.Clear callback) = code 0 (flag callback) 0 0 0

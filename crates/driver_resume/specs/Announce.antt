@@ -1,18 +1,13 @@
 -- The walk that announces a list's endpoints, as the code goes it
 use mathlib.Core.Bool.{Bool, false, cond, _&&_}
-use mathlib.Core.List.{List}
-use mathlib.Core.Path.{_≡_, _∙_}
-use Prim.Native.Nat.{ℕ, zero, suc, _+_, _-_, _*_, _<_}
+use Prim.Native.Nat.{ℕ, zero, suc, _+_, _-_, _*_}
 use lib.Dec.{eqb}
 use Rattle.regs.specs.declared.Dir.{Dir}
-use Rattle.regs.specs.declared.Dir.the-variants.{Out, In}
 use Rattle.alloc.specs.Alloc.{isIso, slotsOf}
 use Rattle.state.specs.Driver.{Driver, epOn}
-use Rattle.model.specs.Tree as tree
 use Rattle.model.specs.Script.{Script, _>>=_, _>>_}
 use Rattle.model.specs.Answers.{isAllocated}
 use Rattle.model.specs.AllocateAll.{announce, announceAfter}
-use Rattle.model_ops.specs.Rings.{St}
 
 -- the byte where an endpoint's buffers end
 unfoldable pub endOn : Driver → Dir → ℕ → ℕ

@@ -13,7 +13,7 @@ use Rattle.alloc.specs.Alloc.{isIso, slotsOf}
 use Rattle.state.specs.Driver.{Driver, epOn}
 use Rattle.model.specs.Tree as tree
 use Rattle.model.specs.Tree.{ends, bindOut}
-use Rattle.model.specs.Script.{Script, _>>=_, _>>_, run}
+use Rattle.model.specs.Script.{run}
 use Rattle.model.specs.Answers.{isAllocated}
 use Rattle.model.specs.AllocateAll.{announce, beginsAt, announceAfter}
 use Rattle.model_ops.specs.Rings.{St}

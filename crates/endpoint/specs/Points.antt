@@ -1,22 +1,23 @@
 -- What is left to run at each point, and what the answers of reads and writes mean
 use mathlib.Core.Path.{_≡_}
-use mathlib.Core.Bool.{Bool, true, false}
+use mathlib.Core.Bool.{Bool, false}
 use mathlib.Core.List.{List}
 use Prim.Native.Nat.{ℕ}
 use Rattle.regs.specs.declared.Reg.the-variants.{EpTxCtrl}
-use Rattle.regs.specs.Registers.{ctrlOf, widthOf, fitsIn}
+use Rattle.regs.specs.Registers.{ctrlOf, widthOf}
 use Rattle.regs.specs.ControlWord.{ack}
 use Rattle.state.specs.Wakes.{listed}
 use Rattle.state.specs.Driver.{Driver}
 use Rattle.model.specs.Tree as tree
 use Rattle.model.specs.Tree.{ends, asks}
-use Rattle.model.specs.Script.{Script, run, ret, _>>=_, _>>_, read, write}
+use Rattle.model.specs.Script.{Script, run, ret, _>>=_, _>>_, write}
 use Rattle.model.specs.Statics.{modifyReg}
 use Rattle.model.specs.Machine.{Awaits, nothing, reading, awaited}
 use Rattle.model.specs.Answers.{Answer, Refused, End, NotYet, Done}
 use Rattle.model_ops.specs.Rings.{St}
 use Rattle.model_ops.specs.Concrete.{concrete}
 use Rattle.endpoint_common.specs.Answers.{finished, front}
+use Rattle.model_points.specs.Numbers.{fits}
 use Rattle.endpoint.specs.declared.Point.{Point}
 use Rattle.endpoint.specs.declared.Point.the-variants as point
 use Rattle.endpoint.specs.declared.Next.{Next}
@@ -35,12 +36,6 @@ denote (point.Loaded e) v = do
   modifyReg EpTxCtrl e ack
   ret 0
 
--- row 16 turned round: what was read at the point fits its register
-unfoldable pub fitsAt : Point → ℕ → Bool
-fitsAt (point.Ack d e) v = fitsIn v (widthOf (ctrlOf d))
-fitsAt point.Wrote v = true
-fitsAt (point.Loaded e) v = true
-
 -- the next access and the point at which it stops, or the result
 abbrev pub meaning : Next → Driver → List ℕ → tree.Out St ℕ
 meaning (next.Asks q p) d b = asks q (d, b) (λ v t. run concrete (denote p v) t)
@@ -58,12 +53,17 @@ polledAs (polled.Refused n) out d b = ends (Refused n) (d, b)
 polledAs polled.NotYet out d b = ends NotYet (d, b)
 polledAs (polled.Done n) out d b = ends (Done (front n out)) (d, b)
 
--- what a point awaits, and that it is the access handed out with it
+-- what a point awaits
 abbrev pub awaitsAt : Point → Awaits
 awaitsAt (point.Ack d e) = reading (widthOf EpTxCtrl)
 awaitsAt point.Wrote = nothing
 awaitsAt (point.Loaded e) = nothing
 
+-- row 16 turned round
+unfoldable pub fitsAt : Point → ℕ → Bool
+fitsAt p v = fits (awaitsAt p) v
+
+-- what it awaits is the access handed out with it
 abbrev pub Linked : Next → Type 0
 Linked (next.Asks q p) = awaited q ≡ awaitsAt p
 Linked (next.Ends n) = Unit {0}

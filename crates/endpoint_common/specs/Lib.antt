@@ -3,3 +3,4 @@ pub mod RecordsLaws
 pub mod Fetch
 pub mod Answers
 pub mod Front
+pub mod Brought

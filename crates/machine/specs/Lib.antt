@@ -10,6 +10,8 @@ pub mod Rows
 pub mod RowsLaws
 pub mod Lent
 pub mod Tags
+pub mod Contracts
+pub mod ContractsLaws
 pub mod Keeps
 pub mod KeepsLaws
 pub mod Stands

@@ -5,15 +5,15 @@ use Rattle.driver_codec.proofs.encode.Tie as tie
 use Rattle.driver_codec.proofs.encode.Reads as reads
 use Rattle.driver_codec.proofs.encode.Lts as lts
 use Rattle.driver_codec.proofs.code.Reads as code-reads
-use Rattle.driver_codec.proofs.dir_as.Reads as dir-as-reads
-use Rattle.driver_codec.proofs.flag.Reads as flag-reads
+use Rattle.model_points.proofs.dir_as.Reads as dir-as-reads
+use Rattle.model_points.proofs.flag_of.Reads as flag-of-reads
 use Rattle.driver_codec.proofs.list_code.Reads as list-code-reads
 
 enum-known-p : tie.Need-enum-known-p
 enum-known-p c = search needs
 
-flag-requires : tie.Need-flag-requires
-flag-requires c κs = search needs
+flag-of-requires : tie.Need-flag-of-requires
+flag-of-requires c κs = search needs
 
 code-requires : tie.Need-code-requires
 code-requires c κs = search needs
@@ -21,8 +21,8 @@ code-requires c κs = search needs
 enum-known-p-2 : tie.Need-enum-known-p-2
 enum-known-p-2 c = search needs
 
-flag-requires-2 : tie.Need-flag-requires-2
-flag-requires-2 c κs = search needs
+flag-of-requires-2 : tie.Need-flag-of-requires-2
+flag-of-requires-2 c κs = search needs
 
 code-requires-2 : tie.Need-code-requires-2
 code-requires-2 c κs = search needs
@@ -30,8 +30,8 @@ code-requires-2 c κs = search needs
 enum-known-p-3 : tie.Need-enum-known-p-3
 enum-known-p-3 c = search needs
 
-flag-requires-3 : tie.Need-flag-requires-3
-flag-requires-3 c κs = search needs
+flag-of-requires-3 : tie.Need-flag-of-requires-3
+flag-of-requires-3 c κs = search needs
 
 code-requires-3 : tie.Need-code-requires-3
 code-requires-3 c κs = search needs
@@ -39,8 +39,8 @@ code-requires-3 c κs = search needs
 enum-known-p-4 : tie.Need-enum-known-p-4
 enum-known-p-4 c = search needs
 
-flag-requires-4 : tie.Need-flag-requires-4
-flag-requires-4 c κs = search needs
+flag-of-requires-4 : tie.Need-flag-of-requires-4
+flag-of-requires-4 c κs = search needs
 
 code-requires-4 : tie.Need-code-requires-4
 code-requires-4 c κs = search needs
@@ -48,8 +48,8 @@ code-requires-4 c κs = search needs
 enum-known-p-5 : tie.Need-enum-known-p-5
 enum-known-p-5 c = search needs
 
-flag-requires-5 : tie.Need-flag-requires-5
-flag-requires-5 c κs = search needs
+flag-of-requires-5 : tie.Need-flag-of-requires-5
+flag-of-requires-5 c κs = search needs
 
 code-requires-5 : tie.Need-code-requires-5
 code-requires-5 c κs = search needs
@@ -57,8 +57,8 @@ code-requires-5 c κs = search needs
 enum-known-p-6 : tie.Need-enum-known-p-6
 enum-known-p-6 c = search needs
 
-flag-requires-6 : tie.Need-flag-requires-6
-flag-requires-6 c κs = search needs
+flag-of-requires-6 : tie.Need-flag-of-requires-6
+flag-of-requires-6 c κs = search needs
 
 code-requires-6 : tie.Need-code-requires-6
 code-requires-6 c κs = search needs
@@ -140,27 +140,27 @@ list-code-requires-2 c κs = search needs
 
 returns : tie.Need-returns
 unfolding encode
-returns c = simp (← c .code .ensures, ← c .before .flag .ensures, c .before .before .before .p .given .1)
+returns c = simp (← c .code .ensures, ← c .before .flag-of .ensures, c .before .before .before .p .given .1)
 
 returns-2 : tie.Need-returns-2
 unfolding encode
-returns-2 c = simp (← c .code2 .ensures, ← c .before .flag2 .ensures, c .before .before .before .p2 .given .1)
+returns-2 c = simp (← c .code2 .ensures, ← c .before .flag-of2 .ensures, c .before .before .before .p2 .given .1)
 
 returns-3 : tie.Need-returns-3
 unfolding encode
-returns-3 c = simp (← c .code3 .ensures, ← c .before .flag3 .ensures, c .before .before .before .p3 .given .1)
+returns-3 c = simp (← c .code3 .ensures, ← c .before .flag-of3 .ensures, c .before .before .before .p3 .given .1)
 
 returns-4 : tie.Need-returns-4
 unfolding encode
-returns-4 c = simp (← c .code4 .ensures, ← c .before .flag4 .ensures, c .before .before .before .p4 .given .1)
+returns-4 c = simp (← c .code4 .ensures, ← c .before .flag-of4 .ensures, c .before .before .before .p4 .given .1)
 
 returns-5 : tie.Need-returns-5
 unfolding encode
-returns-5 c = simp (← c .code5 .ensures, ← c .before .flag5 .ensures, c .before .before .before .p5 .given .1)
+returns-5 c = simp (← c .code5 .ensures, ← c .before .flag-of5 .ensures, c .before .before .before .p5 .given .1)
 
 returns-6 : tie.Need-returns-6
 unfolding encode
-returns-6 c = simp (← c .code6 .ensures, ← c .before .flag6 .ensures, c .before .before .before .p6 .given .1)
+returns-6 c = simp (← c .code6 .ensures, ← c .before .flag-of6 .ensures, c .before .before .before .p6 .given .1)
 
 returns-7 : tie.Need-returns-7
 unfolding encode
@@ -211,22 +211,22 @@ encode-spec =
     tie.close
     (tie.spec
     enum-known-p
-    flag-requires
+    flag-of-requires
     code-requires
     enum-known-p-2
-    flag-requires-2
+    flag-of-requires-2
     code-requires-2
     enum-known-p-3
-    flag-requires-3
+    flag-of-requires-3
     code-requires-3
     enum-known-p-4
-    flag-requires-4
+    flag-of-requires-4
     code-requires-4
     enum-known-p-5
-    flag-requires-5
+    flag-of-requires-5
     code-requires-5
     enum-known-p-6
-    flag-requires-6
+    flag-of-requires-6
     code-requires-6
     enum-told
     code-requires-7

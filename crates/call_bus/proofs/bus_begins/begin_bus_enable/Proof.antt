@@ -1,21 +1,13 @@
-use Rattle.machine.specs.RowsLaws.{back, other-call}
+use mathlib.Core.Path.{refl}
 use Rattle.model.specs.Calls as calls
-use Rattle.model.specs.Answers.{resultless}
+use Rattle.model.specs.Answers.{operation}
+use Rattle.state.specs.State.{view}
 use Rattle.model.specs.Bus as script
-use Rattle.machine.specs.Suspended.{decode}
-use Rattle.state.specs.State.{view, saved}
-use denote.Ref.{now}
-use mathlib.Core.Path.{_∙_, refl}
-use borrow.Author.Tests.{eq-eqb, ne-eqb}
+use Rattle.bus.specs.Points.{resultless}
+use Rattle.machine.specs.ContractsLaws.{begins, other-passed, other-stopped}
 use borrow.Author.Needs.{needs}
 use Rattle.call_bus.proofs.bus_begins.begin_bus_enable.Statement.{statement}
 use Rattle.call_bus.proofs.bus_begins.begin_bus_enable.Tie as tie
-use Rattle.call_bus.proofs.bus_begins.begin_bus_enable.Reads as reads
-use Rattle.call_bus.proofs.bus_begins.begin_bus_enable.Lts as lts
-use Rattle.bus_events.proofs.enable.Reads as enable-reads
-use Rattle.state.proofs.clear_wakes.Reads as clear-wakes-reads
-use Rattle.machine.proofs.stops.stop.Reads as stop-reads
-use Rattle.machine.proofs.halts.suspend_or_end_bus.Reads as suspend-or-end-bus-reads
 
 stop-requires : tie.Need-stop-requires
 stop-requires c κs = search needs
@@ -30,35 +22,14 @@ suspend-or-end-bus-requires : tie.Need-suspend-or-end-bus-requires
 suspend-or-end-bus-requires c κs = c .enable .ensures .1
 
 returns : tie.Need-returns
-returns c = (
-  λ a b. back
-      (other-call calls.BusEnable 2 (resultless script.enable)
-      (decode (saved (now (c .before .before .before .before .before .before .before .before .args .s))))
-      (view (now (c .before .before .before .before .before .before .before .before .args .s))) a b refl)
-      (c .suspend-or-end-bus .ensures .0 b ∙ simp (
-        c .before .enable .ensures .0,
-        c .before .before .before .clear-wakes .ensures .0,
-        ← c .before .before .before .before .before .before .stop .ensures,
-        eq-eqb _ _ (c .before .before .before .before .before .if1 .taken),
-      )),
-  c .suspend-or-end-bus .ensures .1 _,
-)
+returns c = other-passed calls.BusEnable 2 (operation (resultless script.enable)) _ (c .before .before .before .before .before .before .stop .ensures)
+    (λ b. refl) (c .before .before .before .before .before .if1 .taken) (c .suspend-or-end-bus .result) _
+    (begins (resultless script.enable) (view (c .before .before .before .before .before .before .before .before .args .s .now))
+    (c .suspend-or-end-bus .result) _ (c .before .before .before .clear-wakes .ensures .0) (c .before .enable .ensures .0 _)
+    (c .suspend-or-end-bus .ensures .0)) (c .suspend-or-end-bus .ensures .1 _)
 
 returns-2 : tie.Need-returns-2
-returns-2 c = (
-  λ a b. back
-      (other-call calls.BusEnable 2 (resultless script.enable) (decode (saved (now (c .before .before .before .args .s))))
-      (view (now (c .before .before .before .args .s))) a b refl) (simp (← c .before .stop .ensures, ne-eqb _ _ (c .if1 .left))),
-  refl,
-)
+returns-2 c = other-stopped calls.BusEnable 2 (operation (resultless script.enable)) _ (c .before .stop .ensures) (λ b. refl) (c .if1 .left)
 
 pub begin-bus-enable-spec : {M : Type 1} → statement M
-begin-bus-enable-spec =
-    tie.close
-    (tie.spec
-    stop-requires
-    clear-wakes-requires
-    enable-requires
-    suspend-or-end-bus-requires
-    returns
-    returns-2)
+begin-bus-enable-spec = tie.close (tie.spec stop-requires clear-wakes-requires enable-requires suspend-or-end-bus-requires returns returns-2)

@@ -1,25 +1,16 @@
-use Rattle.machine.specs.RowsLaws.{back}
-use Rattle.call_bus.specs.Stalls.{stall-call}
-use Rattle.endpoint_rows.specs.RowsLaws.{stallable-lt}
 use Rattle.model.specs.Calls as calls
-use Rattle.model.specs.Answers.{resultless}
+use Rattle.model.specs.Answers.{operation}
+use Rattle.state.specs.State.{view}
 use Rattle.model.specs.Bus as script
-use Rattle.machine.specs.Suspended.{decode}
-use Rattle.state.specs.State.{view, saved}
-use denote.Ref.{now}
-use mathlib.Core.Path.{_∙_, sym, refl}
-use borrow.Author.Tests.{eq-eqb, ne-eqb}
+use Rattle.endpoint_rows.specs.Rows.{stallable}
+use Rattle.endpoint_rows.specs.RowsLaws.{stallable-lt}
+use Rattle.call_bus.specs.Stalls.{stall-call}
+use mathlib.Core.Path.{refl, sym, _∙_}
+use Rattle.bus.specs.Points.{resultless}
+use Rattle.machine.specs.ContractsLaws.{begins, row-passed, row-refused, row-stopped}
 use borrow.Author.Needs.{needs}
 use Rattle.call_bus.proofs.bus_begins.begin_set_stalled.Statement.{statement}
 use Rattle.call_bus.proofs.bus_begins.begin_set_stalled.Tie as tie
-use Rattle.call_bus.proofs.bus_begins.begin_set_stalled.Reads as reads
-use Rattle.call_bus.proofs.bus_begins.begin_set_stalled.Lts as lts
-use Rattle.bus_set_stalled.proofs.set_endpoint_stalled.Reads as set-endpoint-stalled-reads
-use Rattle.state.proofs.clear_wakes.Reads as clear-wakes-reads
-use Rattle.endpoint_rows.proofs.endpoint.Reads as endpoint-reads
-use Rattle.endpoint_rows.proofs.is_stallable.Reads as is-stallable-reads
-use Rattle.machine.proofs.stops.stop.Reads as stop-reads
-use Rattle.machine.proofs.halts.suspend_or_end_bus.Reads as suspend-or-end-bus-reads
 
 stop-requires : tie.Need-stop-requires
 stop-requires c κs = search needs
@@ -40,60 +31,31 @@ suspend-or-end-bus-requires : tie.Need-suspend-or-end-bus-requires
 suspend-or-end-bus-requires c κs = c .before .set-endpoint-stalled .ensures .1 .1
 
 returns : tie.Need-returns
-returns c = (
-  λ a b. back
-      (stall-call
-      (calls.SetStalled (c .before .before .before .before .before .before .before .before .before .before .before .before .before .args .dir)
-      (c .before .before .before .before .before .before .before .before .before .before .before .before .before .args .e)
-      (c .before .before .before .before .before .before .before .before .before .before .before .before .before .args .on))
-      (c .before .before .before .before .before .before .before .before .before .before .before .before .before .args .dir)
-      (c .before .before .before .before .before .before .before .before .before .before .before .before .before .args .e) (resultless
-      (script.setStalled (c .before .before .before .before .before .before .before .before .before .before .before .before .before .args .dir)
-      (c .before .before .before .before .before .before .before .before .before .before .before .before .before .args .e)
-      (c .before .before .before .before .before .before .before .before .before .before .before .before .before .args .on)))
-      (decode (saved (now (c .before .before .before .before .before .before .before .before .before .before .before .before .before .args .s))))
-      (view (now (c .before .before .before .before .before .before .before .before .before .before .before .before .before .args .s)))
-      a b refl) (c .suspend-or-end-bus .ensures .0 b ∙ simp (
-        c .before .before .set-endpoint-stalled .ensures .0,
-        c .before .before .before .endpoint .ensures,
-        c .before .before .before .before .before .clear-wakes .ensures .0,
-        ← c .before .before .before .before .before .before .before .before .before .before .before .stop .ensures,
-        eq-eqb _ _ (c .before .before .before .before .before .before .before .before .before .before .if1 .taken),
-        ← c .before .before .before .before .before .before .before .before .is-stallable .ensures,
-        c .before .before .before .before .before .before .before .if2 .taken,
-      )),
-  c .suspend-or-end-bus .ensures .1 _,
-)
+returns c = let start = c .before .before .before .before .before .before .before .before .before .before .before .before .before .args in
+    row-passed (calls.SetStalled (start .dir) (start .e) (start .on)) (operation (resultless (script.setStalled (start .dir) (start .e) (start .on)))) _ _
+    (c .before .before .before .before .before .before .before .before .before .before .before .stop .ensures)
+    (λ a b. stall-call (calls.SetStalled (start .dir) (start .e) (start .on)) (start .dir) (start .e)
+    (operation (resultless (script.setStalled (start .dir) (start .e) (start .on)))) _ _ a b refl)
+    (c .before .before .before .before .before .before .before .before .before .before .if1 .taken)
+    (c .before .before .before .before .before .before .before .before .is-stallable .ensures)
+    (c .before .before .before .before .before .before .before .if2 .taken) (c .suspend-or-end-bus .result) _
+    (begins (resultless (script.setStalled (start .dir) (start .e) (start .on))) (view (start .s .now)) (c .suspend-or-end-bus .result) _
+    (c .before .before .before .before .before .clear-wakes .ensures .0) (λ b. c .before .before .set-endpoint-stalled .ensures .0 b ∙ rw
+    (c .before .before .before .endpoint .ensures)) (c .suspend-or-end-bus .ensures .0)) (c .suspend-or-end-bus .ensures .1 _)
 
 returns-2 : tie.Need-returns-2
-returns-2 c = (
-  λ a b. back
-      (stall-call (calls.SetStalled (c .before .before .before .before .before .before .args .dir)
-      (c .before .before .before .before .before .before .args .e) (c .before .before .before .before .before .before .args .on))
-      (c .before .before .before .before .before .before .args .dir) (c .before .before .before .before .before .before .args .e)
-      (resultless (script.setStalled (c .before .before .before .before .before .before .args .dir)
-      (c .before .before .before .before .before .before .args .e) (c .before .before .before .before .before .before .args .on)))
-      (decode (saved (now (c .before .before .before .before .before .before .args .s))))
-      (view (now (c .before .before .before .before .before .before .args .s))) a b refl) (simp (
-        ← c .before .before .before .before .stop .ensures,
-        eq-eqb _ _ (c .before .before .before .if1 .taken),
-        ← c .before .is-stallable .ensures,
-        c .if2 .left,
-      )),
-  refl,
-)
+returns-2 c = let start = c .before .before .before .before .before .before .args in
+    row-refused (calls.SetStalled (start .dir) (start .e) (start .on)) (operation (resultless (script.setStalled (start .dir) (start .e) (start .on)))) _ _
+    (c .before .before .before .before .stop .ensures) (λ a b. stall-call (calls.SetStalled (start .dir) (start .e) (start .on)) (start .dir) (start .e)
+    (operation (resultless (script.setStalled (start .dir) (start .e) (start .on)))) _ _ a b refl) (c .before .before .before .if1 .taken)
+    (c .before .is-stallable .ensures) (c .if2 .left)
 
 returns-3 : tie.Need-returns-3
-returns-3 c = (
-  λ a b. back
-      (stall-call
-      (calls.SetStalled (c .before .before .before .args .dir) (c .before .before .before .args .e) (c .before .before .before .args .on))
-      (c .before .before .before .args .dir) (c .before .before .before .args .e)
-      (resultless (script.setStalled (c .before .before .before .args .dir) (c .before .before .before .args .e) (c .before .before .before .args .on)))
-      (decode (saved (now (c .before .before .before .args .s)))) (view (now (c .before .before .before .args .s))) a b refl)
-      (simp (← c .before .stop .ensures, ne-eqb _ _ (c .if1 .left))),
-  refl,
-)
+returns-3 c = let start = c .before .before .before .args in
+    row-stopped (calls.SetStalled (start .dir) (start .e) (start .on)) (operation (resultless (script.setStalled (start .dir) (start .e) (start .on))))
+    (stallable (view (start .s .now) .allocator) (start .dir) (start .e)) _ (c .before .stop .ensures)
+    (λ a b. stall-call (calls.SetStalled (start .dir) (start .e) (start .on)) (start .dir) (start .e)
+    (operation (resultless (script.setStalled (start .dir) (start .e) (start .on)))) _ _ a b refl) (c .if1 .left)
 
 pub begin-set-stalled-spec : {M : Type 1} → statement M
 begin-set-stalled-spec =

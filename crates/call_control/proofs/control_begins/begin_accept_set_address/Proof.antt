@@ -1,18 +1,8 @@
-use Rattle.machine.specs.KeepsLaws.{kept-from}
-use Rattle.machine.specs.RowsLaws.{back, other-idle}
 use Rattle.model.specs.Calls as calls
-use Rattle.machine.specs.Suspended.{decode}
-use Rattle.state.specs.State.{view, saved}
-use denote.Ref.{now}
-use mathlib.Core.Path.{_∙_, sym, refl}
+use Rattle.machine.specs.ContractsLaws.{idled, other-begun, other-busy}
 use borrow.Author.Needs.{needs}
 use Rattle.call_control.proofs.control_begins.begin_accept_set_address.Statement.{statement}
 use Rattle.call_control.proofs.control_begins.begin_accept_set_address.Tie as tie
-use Rattle.call_control.proofs.control_begins.begin_accept_set_address.Reads as reads
-use Rattle.call_control.proofs.control_begins.begin_accept_set_address.Lts as lts
-use Rattle.control.proofs.accept_set_address.Reads as accept-set-address-reads
-use Rattle.machine.proofs.halts.begun_control.Reads as begun-control-reads
-use Rattle.machine.proofs.saved.is_idle.Reads as is-idle-reads
 
 is-idle-requires : tie.Need-is-idle-requires
 is-idle-requires c κs = search needs
@@ -21,40 +11,16 @@ accept-set-address-requires : tie.Need-accept-set-address-requires
 accept-set-address-requires c κs = search needs
 
 begun-control-requires : tie.Need-begun-control-requires
-begun-control-requires c κs = (
-  c .before .accept-set-address .ensures .1 .1,
-  simp (c .before .accept-set-address .ensures .1 .0)
-      (sym (c .before .before .before .before .is-idle .ensures) ∙ c .before .before .before .if1 .taken),
-)
+begun-control-requires c κs = let at = c .before .before .before in idled _ _ (c .before .accept-set-address .ensures .1) (at .before .is-idle .ensures)
+    (at .if1 .taken)
 
 returns : tie.Need-returns
-returns c = (
-  λ a b. back
-      (other-idle (calls.BeginAcceptSetAddress (c .before .before .before .before .before .before .before .args .address))
-      (decode (saved (now (c .before .before .before .before .before .before .before .args .s))))
-      (view (now (c .before .before .before .before .before .before .before .args .s))) a b) (c .begun-control .ensures .0 b ∙ simp (
-        c .before .before .accept-set-address .ensures .0,
-        ← c .before .before .before .before .before .is-idle .ensures,
-        c .before .before .before .before .if1 .taken,
-      )),
-  kept-from (c .begun-control .result) _ _ _ (c .before .before .accept-set-address .ensures .1 .0) (c .begun-control .ensures .1),
-)
+returns c = other-begun (calls.BeginAcceptSetAddress (c .before .before .before .before .before .before .before .args .address)) _
+    (c .before .before .before .before .before .is-idle .ensures) (c .begun-control .result) _ _ (c .before .before .before .before .if1 .taken)
+    (c .before .before .accept-set-address .ensures) (c .begun-control .ensures)
 
 returns-2 : tie.Need-returns-2
-returns-2 c = (
-  λ a b. back
-      (other-idle (calls.BeginAcceptSetAddress (c .before .before .before .args .address))
-      (decode (saved (now (c .before .before .before .args .s))))
-      (view (now (c .before .before .before .args .s))) a b) (simp (← c .before .is-idle .ensures, c .if1 .left)),
-  refl,
-)
+returns-2 c = other-busy (calls.BeginAcceptSetAddress (c .before .before .before .args .address)) _ (c .before .is-idle .ensures) (c .if1 .left)
 
 pub begin-accept-set-address-spec : {M : Type 1} → statement M
-begin-accept-set-address-spec =
-    tie.close
-    (tie.spec
-    is-idle-requires
-    accept-set-address-requires
-    begun-control-requires
-    returns
-    returns-2)
+begin-accept-set-address-spec = tie.close (tie.spec is-idle-requires accept-set-address-requires begun-control-requires returns returns-2)

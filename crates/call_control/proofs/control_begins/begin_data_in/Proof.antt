@@ -1,20 +1,9 @@
-use Rattle.machine.specs.KeepsLaws.{kept-from}
-use Rattle.machine.specs.RowsLaws.{back, slotted-idle}
 use Rattle.model.specs.Calls as calls
-use Rattle.machine.specs.Suspended.{decode}
-use Rattle.machine.specs.Lent.{as-lent}
-use Rattle.state.specs.State.{view, saved}
-use denote.Ref.{now}
-use mathlib.Core.Path.{_∙_, sym, refl}
+use Rattle.machine.specs.KeepsLaws.{kept-from}
+use Rattle.machine.specs.ContractsLaws.{idled, slotted-done, slotted-busy, slotted-misfit}
 use borrow.Author.Needs.{needs}
 use Rattle.call_control.proofs.control_begins.begin_data_in.Statement.{statement}
 use Rattle.call_control.proofs.control_begins.begin_data_in.Tie as tie
-use Rattle.call_control.proofs.control_begins.begin_data_in.Reads as reads
-use Rattle.call_control.proofs.control_begins.begin_data_in.Lts as lts
-use Rattle.control.proofs.data_in.Reads as data-in-reads
-use Rattle.machine.proofs.halts.begun_control.Reads as begun-control-reads
-use Rattle.machine.proofs.stops.slots_fit.Reads as slots-fit-reads
-use Rattle.machine.proofs.saved.is_idle.Reads as is-idle-reads
 
 slots-fit-requires : tie.Need-slots-fit-requires
 slots-fit-requires c κs = search needs
@@ -26,75 +15,37 @@ data-in-requires : tie.Need-data-in-requires
 data-in-requires c κs = search needs
 
 begun-control-requires : tie.Need-begun-control-requires
-begun-control-requires c κs = (
-  c .before .before .before .data-in .ensures .1 .1,
-  simp (c .before .before .before .data-in .ensures .1 .0)
-      (sym (c .before .before .before .before .before .before .before .is-idle .ensures)
-      ∙ c .before .before .before .before .before .before .if2 .taken),
-)
+begun-control-requires c κs = idled _ _ (c .before .before .before .data-in .ensures .1)
+    (c .before .before .before .before .before .before .before .is-idle .ensures) (c .before .before .before .before .before .before .if2 .taken)
 
 same-length : tie.Need-same-length
 same-length c = search needs
 
 returns : tie.Need-returns
-returns c = (
-  λ a. back
-      (slotted-idle (calls.BeginDataIn
-      (now (c .before .before .before .before .before .before .before .before .before .before .before .before .before .before .before .before .args .bytes))
-      (c .before .before .before .before .before .before .before .before .before .before .before .before .before .before .before .before .args .first)
-      (c .before .before .before .before .before .before .before .before .before .before .before .before .before .before .before .before .args .last))
-      (decode (saved
-      (now (c .before .before .before .before .before .before .before .before .before .before .before .before .before .before .before .before .args .s))))
-      (view (now (c .before .before .before .before .before .before .before .before .before .before .before .before .before .before .before .before .args .s)))
-      a (now (c .before .before .before .before .before .before .before .before .before .before .before .before .before .before .before .before .args .slots)))
-      (simp (
-        ← c .before .before .before .before .before .before .before .before .before .before .before .slots-fit .ensures,
-        c .before .before .before .before .before .before .before .before .before .before .if1 .taken,
-      ) (c .begun-control .ensures .0 _ ∙ simp (
-        c .before .before .before .before .data-in .ensures .0,
-        ← c .before .before .before .before .before .before .before .before .is-idle .ensures,
-        c .before .before .before .before .before .before .before .if2 .taken,
-      ))),
-  (
-    as-lent _ _ _
-        (sym (c .before .before .before .before .before .before .before .before .before .before .before .slots-fit .ensures)
-        ∙ c .before .before .before .before .before .before .before .before .before .before .if1 .taken),
-    kept-from (c .begun-control .result) _ _ _ (c .before .before .before .before .data-in .ensures .1 .0) (c .begun-control .ensures .1),
-  ),
-)
+returns c =
+    let start = c .before .before .before .before .before .before .before .before .before .before .before .before .before .before .before .before .args in
+    let begun = c .before .before .before .before .data-in in
+    let idle = c .before .before .before .before .before .before .before in
+    let fit = idle .before .before .before in
+    slotted-done (calls.BeginDataIn (start .bytes .now) (start .first) (start .last)) _ _ (fit .before .slots-fit .ensures) (fit .if1 .taken)
+    (idle .before .is-idle .ensures) (idle .if2 .taken)
+    (c .begun-control .result) _ _ (begun .ensures .0)
+    (kept-from (c .begun-control .result) _ _ _ (begun .ensures .1 .0) (c .begun-control .ensures .1)) _ (c .begun-control .ensures .0 _)
 
 same-length-2 : tie.Need-same-length-2
 same-length-2 c = search needs
 
 returns-2 : tie.Need-returns-2
-returns-2 c = (
-  λ a. back
-      (slotted-idle (calls.BeginDataIn (now (c .before .before .before .before .before .before .before .before .before .args .bytes))
-      (c .before .before .before .before .before .before .before .before .before .args .first)
-      (c .before .before .before .before .before .before .before .before .before .args .last))
-      (decode (saved (now (c .before .before .before .before .before .before .before .before .before .args .s))))
-      (view (now (c .before .before .before .before .before .before .before .before .before .args .s))) a
-      (now (c .before .before .before .before .before .before .before .before .before .args .slots))) (simp (
-        ← c .before .before .before .before .slots-fit .ensures,
-        c .before .before .before .if1 .taken,
-        ← c .before .is-idle .ensures,
-        c .if2 .left,
-      )),
-  (as-lent _ _ _ (sym (c .before .before .before .before .slots-fit .ensures) ∙ c .before .before .before .if1 .taken), refl),
-)
+returns-2 c = let start = c .before .before .before .before .before .before .before .before .before .args in
+    slotted-busy (calls.BeginDataIn (start .bytes .now) (start .first) (start .last)) _ _ (c .before .before .before .before .slots-fit .ensures)
+    (c .before .before .before .if1 .taken) (c .before .is-idle .ensures) (c .if2 .left)
 
 same-length-3 : tie.Need-same-length-3
 same-length-3 c = search needs
 
 returns-3 : tie.Need-returns-3
-returns-3 c = (
-  λ a. back (slotted-idle (calls.BeginDataIn (now (c .before .before .before .before .before .before .args .bytes))
-      (c .before .before .before .before .before .before .args .first) (c .before .before .before .before .before .before .args .last))
-      (decode (saved (now (c .before .before .before .before .before .before .args .s))))
-      (view (now (c .before .before .before .before .before .before .args .s))) a
-      (now (c .before .before .before .before .before .before .args .slots))) (simp (← c .before .slots-fit .ensures, c .if1 .left)),
-  (λ h. refl, refl),
-)
+returns-3 c = let start = c .before .before .before .before .before .before .args in slotted-misfit
+    (calls.BeginDataIn (start .bytes .now) (start .first) (start .last)) _ _ (c .before .slots-fit .ensures) (c .if1 .left)
 
 pub begin-data-in-spec : {M : Type 1} → statement M
 begin-data-in-spec =

@@ -1,18 +1,8 @@
-use Rattle.machine.specs.KeepsLaws.{kept-from}
-use Rattle.machine.specs.RowsLaws.{back, other-idle}
 use Rattle.model.specs.Calls as calls
-use Rattle.machine.specs.Suspended.{decode}
-use Rattle.state.specs.State.{view, saved}
-use denote.Ref.{now}
-use mathlib.Core.Path.{_∙_, sym, refl}
+use Rattle.machine.specs.ContractsLaws.{idled, other-begun, other-busy}
 use borrow.Author.Needs.{needs}
 use Rattle.call_control.proofs.control_begins.begin_data_out.Statement.{statement}
 use Rattle.call_control.proofs.control_begins.begin_data_out.Tie as tie
-use Rattle.call_control.proofs.control_begins.begin_data_out.Reads as reads
-use Rattle.call_control.proofs.control_begins.begin_data_out.Lts as lts
-use Rattle.control.proofs.data_out.Reads as data-out-reads
-use Rattle.machine.proofs.halts.begun_control.Reads as begun-control-reads
-use Rattle.machine.proofs.saved.is_idle.Reads as is-idle-reads
 
 is-idle-requires : tie.Need-is-idle-requires
 is-idle-requires c κs = search needs
@@ -21,41 +11,16 @@ data-out-requires : tie.Need-data-out-requires
 data-out-requires c κs = search needs
 
 begun-control-requires : tie.Need-begun-control-requires
-begun-control-requires c κs = (
-  c .before .data-out .ensures .1 .1,
-  simp (c .before .data-out .ensures .1 .0)
-      (sym (c .before .before .before .before .is-idle .ensures) ∙ c .before .before .before .if1 .taken),
-)
+begun-control-requires c κs = let at = c .before .before .before in idled _ _ (c .before .data-out .ensures .1) (at .before .is-idle .ensures) (at .if1 .taken)
 
 returns : tie.Need-returns
-returns c = (
-  λ a b. back
-      (other-idle (calls.BeginDataOut (c .before .before .before .before .before .before .before .args .n)
-      (c .before .before .before .before .before .before .before .args .first))
-      (decode (saved (now (c .before .before .before .before .before .before .before .args .s))))
-      (view (now (c .before .before .before .before .before .before .before .args .s))) a b) (c .begun-control .ensures .0 b ∙ simp (
-        c .before .before .data-out .ensures .0,
-        ← c .before .before .before .before .before .is-idle .ensures,
-        c .before .before .before .before .if1 .taken,
-      )),
-  kept-from (c .begun-control .result) _ _ _ (c .before .before .data-out .ensures .1 .0) (c .begun-control .ensures .1),
-)
+returns c = other-begun (calls.BeginDataOut (c .before .before .before .before .before .before .before .args .n)
+    (c .before .before .before .before .before .before .before .args .first)) _ (c .before .before .before .before .before .is-idle .ensures)
+    (c .begun-control .result) _ _ (c .before .before .before .before .if1 .taken) (c .before .before .data-out .ensures) (c .begun-control .ensures)
 
 returns-2 : tie.Need-returns-2
-returns-2 c = (
-  λ a b. back
-      (other-idle (calls.BeginDataOut (c .before .before .before .args .n) (c .before .before .before .args .first))
-      (decode (saved (now (c .before .before .before .args .s))))
-      (view (now (c .before .before .before .args .s))) a b) (simp (← c .before .is-idle .ensures, c .if1 .left)),
-  refl,
-)
+returns-2 c = other-busy (calls.BeginDataOut (c .before .before .before .args .n) (c .before .before .before .args .first)) _ (c .before .is-idle .ensures)
+    (c .if1 .left)
 
 pub begin-data-out-spec : {M : Type 1} → statement M
-begin-data-out-spec =
-    tie.close
-    (tie.spec
-    is-idle-requires
-    data-out-requires
-    begun-control-requires
-    returns
-    returns-2)
+begin-data-out-spec = tie.close (tie.spec is-idle-requires data-out-requires begun-control-requires returns returns-2)

@@ -1,18 +1,8 @@
-use Rattle.machine.specs.KeepsLaws.{kept-from}
-use Rattle.machine.specs.RowsLaws.{back, other-idle}
 use Rattle.model.specs.Calls as calls
-use Rattle.machine.specs.Suspended.{decode}
-use Rattle.state.specs.State.{view, saved}
-use denote.Ref.{now}
-use mathlib.Core.Path.{_∙_, sym, refl}
+use Rattle.machine.specs.ContractsLaws.{idled, other-begun, other-busy}
 use borrow.Author.Needs.{needs}
 use Rattle.call_control.proofs.control_begins.begin_setup.Statement.{statement}
 use Rattle.call_control.proofs.control_begins.begin_setup.Tie as tie
-use Rattle.call_control.proofs.control_begins.begin_setup.Reads as reads
-use Rattle.call_control.proofs.control_begins.begin_setup.Lts as lts
-use Rattle.control.proofs.setup.Reads as setup-reads
-use Rattle.machine.proofs.halts.begun_control.Reads as begun-control-reads
-use Rattle.machine.proofs.saved.is_idle.Reads as is-idle-reads
 
 is-idle-requires : tie.Need-is-idle-requires
 is-idle-requires c κs = search needs
@@ -21,38 +11,14 @@ setup-requires : tie.Need-setup-requires
 setup-requires c κs = search needs
 
 begun-control-requires : tie.Need-begun-control-requires
-begun-control-requires c κs = (
-  c .before .setup .ensures .1 .1,
-  simp (c .before .setup .ensures .1 .0)
-      (sym (c .before .before .before .before .is-idle .ensures) ∙ c .before .before .before .if1 .taken),
-)
+begun-control-requires c κs = let at = c .before .before .before in idled _ _ (c .before .setup .ensures .1) (at .before .is-idle .ensures) (at .if1 .taken)
 
 returns : tie.Need-returns
-returns c = (
-  λ a b. back
-      (other-idle calls.BeginSetup (decode (saved (now (c .before .before .before .before .before .before .before .args .s))))
-      (view (now (c .before .before .before .before .before .before .before .args .s))) a b) (c .begun-control .ensures .0 b ∙ simp (
-        c .before .before .setup .ensures .0,
-        ← c .before .before .before .before .before .is-idle .ensures,
-        c .before .before .before .before .if1 .taken,
-      )),
-  kept-from (c .begun-control .result) _ _ _ (c .before .before .setup .ensures .1 .0) (c .begun-control .ensures .1),
-)
+returns c = other-begun calls.BeginSetup _ (c .before .before .before .before .before .is-idle .ensures) (c .begun-control .result) _ _
+    (c .before .before .before .before .if1 .taken) (c .before .before .setup .ensures) (c .begun-control .ensures)
 
 returns-2 : tie.Need-returns-2
-returns-2 c = (
-  λ a b. back
-      (other-idle calls.BeginSetup (decode (saved (now (c .before .before .before .args .s))))
-      (view (now (c .before .before .before .args .s))) a b) (simp (← c .before .is-idle .ensures, c .if1 .left)),
-  refl,
-)
+returns-2 c = other-busy calls.BeginSetup _ (c .before .is-idle .ensures) (c .if1 .left)
 
 pub begin-setup-spec : {M : Type 1} → statement M
-begin-setup-spec =
-    tie.close
-    (tie.spec
-    is-idle-requires
-    setup-requires
-    begun-control-requires
-    returns
-    returns-2)
+begin-setup-spec = tie.close (tie.spec is-idle-requires setup-requires begun-control-requires returns returns-2)

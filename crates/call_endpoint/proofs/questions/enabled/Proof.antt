@@ -1,13 +1,9 @@
 use Rattle.machine.specs.Questions.{enabledAsked}
+use mathlib.Core.Path.{_∙_}
+use Rattle.call_endpoint.specs.AskedLaws.{asked, unasked}
 use borrow.Author.Needs.{needs}
 use Rattle.call_endpoint.proofs.questions.enabled.Statement.{statement}
 use Rattle.call_endpoint.proofs.questions.enabled.Tie as tie
-use Rattle.call_endpoint.proofs.questions.enabled.Reads as reads
-use Rattle.call_endpoint.proofs.questions.enabled.Lts as lts
-use Rattle.regs.proofs.enables.is_on.Reads as is-on-reads
-use Rattle.state.proofs.load_globals.Reads as load-globals-reads
-use Rattle.endpoint_rows.proofs.is_number.Reads as is-number-reads
-use Rattle.endpoint_rows.proofs.low.Reads as low-reads
 
 is-number-requires : tie.Need-is-number-requires
 is-number-requires c κs = search needs
@@ -23,25 +19,12 @@ is-on-requires c κs = search needs
 
 returns : tie.Need-returns
 unfolding enabledAsked
-returns c = simp (
-  c .is-on .ensures,
-  c .before .low .ensures,
-  c .before .before .load-globals .ensures,
-  ← c .before .before .before .before .is-number .ensures,
-  c .before .before .before .if1 .taken,
-)
+returns c = let at = c .before .before .before in asked _ _ (at .before .is-number .ensures) (at .if1 .taken)
+    (c .is-on .ensures ∙ rw (c .before .low .ensures, c .before .before .load-globals .ensures))
 
 returns-2 : tie.Need-returns-2
 unfolding enabledAsked
-returns-2 c = simp (← c .before .is-number .ensures, c .if1 .left)
+returns-2 c = unasked _ _ (c .before .is-number .ensures) (c .if1 .left)
 
 pub enabled-spec : {M : Type 1} → statement M
-enabled-spec =
-    tie.close
-    (tie.spec
-    is-number-requires
-    load-globals-requires
-    low-requires
-    is-on-requires
-    returns
-    returns-2)
+enabled-spec = tie.close (tie.spec is-number-requires load-globals-requires low-requires is-on-requires returns returns-2)

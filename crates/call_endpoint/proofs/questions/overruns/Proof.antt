@@ -1,13 +1,9 @@
 use Rattle.machine.specs.Questions.{overrunsOn}
+use mathlib.Core.Path.{_∙_}
+use Rattle.call_endpoint.specs.AskedLaws.{asked, unasked}
 use borrow.Author.Needs.{needs}
 use Rattle.call_endpoint.proofs.questions.overruns.Statement.{statement}
 use Rattle.call_endpoint.proofs.questions.overruns.Tie as tie
-use Rattle.call_endpoint.proofs.questions.overruns.Reads as reads
-use Rattle.call_endpoint.proofs.questions.overruns.Lts as lts
-use Rattle.state.proofs.load_ep.Reads as load-ep-reads
-use Rattle.endpoint_rows.proofs.is_number.Reads as is-number-reads
-use Rattle.endpoint_rows.proofs.low.Reads as low-reads
-use Rattle.call_endpoint.proofs.questions.iso_out_overruns.Reads as iso-out-overruns-reads
 
 is-number-requires : tie.Need-is-number-requires
 is-number-requires c κs = search needs
@@ -23,25 +19,12 @@ iso-out-overruns-requires c κs = search needs
 
 returns : tie.Need-returns
 unfolding overrunsOn
-returns c = simp (
-  c .iso-out-overruns .ensures,
-  c .before .load-ep .ensures,
-  c .before .before .low .ensures,
-  ← c .before .before .before .before .is-number .ensures,
-  c .before .before .before .if1 .taken,
-)
+returns c = let at = c .before .before .before in asked _ _ (at .before .is-number .ensures) (at .if1 .taken)
+    (c .iso-out-overruns .ensures ∙ rw (c .before .load-ep .ensures, c .before .before .low .ensures))
 
 returns-2 : tie.Need-returns-2
 unfolding overrunsOn
-returns-2 c = simp (← c .before .is-number .ensures, c .if1 .left)
+returns-2 c = unasked _ _ (c .before .is-number .ensures) (c .if1 .left)
 
 pub overruns-spec : {M : Type 1} → statement M
-overruns-spec =
-    tie.close
-    (tie.spec
-    is-number-requires
-    low-requires
-    load-ep-requires
-    iso-out-overruns-requires
-    returns
-    returns-2)
+overruns-spec = tie.close (tie.spec is-number-requires low-requires load-ep-requires iso-out-overruns-requires returns returns-2)

@@ -1,13 +1,10 @@
 use Rattle.ring.specs.Slot.{countOf}
 use Rattle.machine.specs.Questions.{pendingOn}
+use mathlib.Core.Path.{_∙_}
+use Rattle.call_endpoint.specs.AskedLaws.{asked, unasked}
 use borrow.Author.Needs.{needs}
 use Rattle.call_endpoint.proofs.questions.pending.Statement.{statement}
 use Rattle.call_endpoint.proofs.questions.pending.Tie as tie
-use Rattle.call_endpoint.proofs.questions.pending.Reads as reads
-use Rattle.call_endpoint.proofs.questions.pending.Lts as lts
-use Rattle.state.proofs.load_ep.Reads as load-ep-reads
-use Rattle.endpoint_rows.proofs.is_number.Reads as is-number-reads
-use Rattle.endpoint_rows.proofs.low.Reads as low-reads
 
 is-number-requires : tie.Need-is-number-requires
 is-number-requires c κs = search needs
@@ -26,26 +23,12 @@ cast-result c = search needs
 
 returns : tie.Need-returns
 unfolding countOf pendingOn
-returns c = simp (
-  c .count .ensures,
-  c .before .load-ep .ensures,
-  c .before .before .low .ensures,
-  ← c .before .before .before .before .is-number .ensures,
-  c .before .before .before .if1 .taken,
-)
+returns c = let at = c .before .before .before in asked _ _ (at .before .is-number .ensures) (at .if1 .taken)
+    (c .count .ensures ∙ rw (c .before .load-ep .ensures, c .before .before .low .ensures))
 
 returns-2 : tie.Need-returns-2
 unfolding pendingOn
-returns-2 c = simp (← c .before .is-number .ensures, c .if1 .left)
+returns-2 c = unasked _ _ (c .before .is-number .ensures) (c .if1 .left)
 
 pub pending-spec : {M : Type 1} → statement M
-pending-spec =
-    tie.close
-    (tie.spec
-    is-number-requires
-    low-requires
-    load-ep-requires
-    count-requires
-    cast-result
-    returns
-    returns-2)
+pending-spec = tie.close (tie.spec is-number-requires low-requires load-ep-requires count-requires cast-result returns returns-2)

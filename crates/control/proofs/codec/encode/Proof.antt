@@ -5,8 +5,8 @@ use Rattle.control.proofs.codec.encode.Tie as tie
 use Rattle.control.proofs.codec.encode.Reads as reads
 use Rattle.control.proofs.codec.encode.Lts as lts
 use Rattle.control.proofs.codec.code.Reads as code-reads
-use Rattle.control.proofs.codec.dir_as.Reads as dir-as-reads
-use Rattle.control.proofs.codec.flag_as.Reads as flag-as-reads
+use Rattle.model_points.proofs.dir_as.Reads as dir-as-reads
+use Rattle.model_points.proofs.flag_of.Reads as flag-of-reads
 
 enum-told : tie.Need-enum-told
 enum-told c = search needs
@@ -56,8 +56,8 @@ code-requires-7 c κs = search needs
 enum-known-p-2 : tie.Need-enum-known-p-2
 enum-known-p-2 c = search needs
 
-flag-as-requires : tie.Need-flag-as-requires
-flag-as-requires c κs = search needs
+flag-of-requires : tie.Need-flag-of-requires
+flag-of-requires c κs = search needs
 
 code-requires-8 : tie.Need-code-requires-8
 code-requires-8 c κs = search needs
@@ -65,8 +65,8 @@ code-requires-8 c κs = search needs
 enum-known-p-3 : tie.Need-enum-known-p-3
 enum-known-p-3 c = search needs
 
-flag-as-requires-2 : tie.Need-flag-as-requires-2
-flag-as-requires-2 c κs = search needs
+flag-of-requires-2 : tie.Need-flag-of-requires-2
+flag-of-requires-2 c κs = search needs
 
 code-requires-9 : tie.Need-code-requires-9
 code-requires-9 c κs = search needs
@@ -101,11 +101,11 @@ returns-7 c = simp (c .code7 .ensures, c .before .enum-told6 .given .1)
 
 returns-8 : tie.Need-returns-8
 unfolding encode
-returns-8 c = simp (c .code8 .ensures, c .before .flag-as .ensures, c .before .before .before .p2 .given .1)
+returns-8 c = simp (c .code8 .ensures, c .before .flag-of .ensures, c .before .before .before .p2 .given .1)
 
 returns-9 : tie.Need-returns-9
 unfolding encode
-returns-9 c = simp (c .code9 .ensures, c .before .flag-as2 .ensures, c .before .before .before .p3 .given .1)
+returns-9 c = simp (c .code9 .ensures, c .before .flag-of2 .ensures, c .before .before .before .p3 .given .1)
 
 pub encode-spec : {M : Type 1} → statement M
 encode-spec =
@@ -127,10 +127,10 @@ encode-spec =
     enum-told-6
     code-requires-7
     enum-known-p-2
-    flag-as-requires
+    flag-of-requires
     code-requires-8
     enum-known-p-3
-    flag-as-requires-2
+    flag-of-requires-2
     code-requires-9
     returns
     returns-2

@@ -24,26 +24,12 @@ enum-told-2 : tie.Need-enum-told-2
 enum-told-2 c = search needs
 
 returns-2 : tie.Need-returns-2
-returns-2 c = (
-  λ b. simp (
-    c .before .before .place .ensures .0,
-    c .before .before .place .ensures .1 .0,
-    ne-eqb _ _ (c .before .before .before .before .if1 .left),
-    c .enum-told .given .1,
-  ),
-  (c .before .before .place .ensures .1 .1, refl),
-)
+returns-2 c = let placed = c .before .before .place .ensures in
+    (λ b. simp (placed .0, placed .1 .0, ne-eqb _ _ (c .before .before .before .before .if1 .left), c .enum-told .given .1), (placed .1 .1, refl))
 
 returns-3 : tie.Need-returns-3
-returns-3 c = (
-  λ b. simp (
-    c .before .before .place .ensures .0,
-    c .before .before .place .ensures .1 .0,
-    ne-eqb _ _ (c .before .before .before .before .if1 .left),
-    c .enum-told2 .given .1,
-  ),
-  (c .before .before .place .ensures .1 .1, refl),
-)
+returns-3 c = let placed = c .before .before .place .ensures in
+    (λ b. simp (placed .0, placed .1 .0, ne-eqb _ _ (c .before .before .before .before .if1 .left), c .enum-told2 .given .1), (placed .1 .1, refl))
 
 pub after-max-len-spec : {M : Type 1} → statement M
 after-max-len-spec =

@@ -1,16 +1,12 @@
 use mathlib.Core.Path.{refl, _∙_}
-use lib.Dec.{eqb}
 use lib.ListN.{length}
-use borrow.Author.Tests.{eq-eqb, ne-eqb, not-true, not-false}
+use Rattle.regs.specs.declared.Dir.the-variants.{Out}
 use Rattle.state.specs.State.{view}
-use Rattle.model.specs.Statics.{isOn}
-use Rattle.endpoint_common.specs.RecordsLaws.{on-driver}
-use Rattle.endpoint.proofs.Laws.{lends, read-none, read-is-iso, read-is-ready, read-other}
+use Rattle.endpoint_common.specs.Brought.{lends}
+use Rattle.endpoint.proofs.Laws.{reads, poll-none, poll-other, poll-takes, picks, leaves}
 use borrow.Author.Needs.{needs}
 use Rattle.endpoint.proofs.read.take_read.Statement.{statement}
 use Rattle.endpoint.proofs.read.take_read.Tie as tie
-use Rattle.endpoint.proofs.read.take_read.Reads as reads
-use Rattle.endpoint.proofs.read.take_read.Lts as lts
 
 load-request-requires : tie.Need-load-request-requires
 load-request-requires c κs = search needs
@@ -19,12 +15,12 @@ is-on-requires : tie.Need-is-on-requires
 is-on-requires c κs = search needs
 
 returns : tie.Need-returns
-returns c = let p = read-none (view (c .before .before .before .before .before .before .args .s .now))
-    (c .before .before .before .before .before .before .args .buf .now)
-    (c .before .before .before .before .before .before .args .out .now) (c .before .before .before .before .before .before .args .e)
-    (length (c .before .before .before .before .before .before .args .out .now)) (c .before .before .before .before .before .before .pre)
-    (on-driver (λ y. isOn (y .begun)) (c .before .before .load-request .ensures)
-    (c .before .is-on .ensures) (not-true (c .before .is-on .result) (c .if1 .taken))) in (p .0, (p .1, refl))
+returns c =
+    let start = c .before .before .before .before .before .before in
+    let is = poll-none Out (start .args .e) (length (start .args .out .now)) (reads (start .args .e) (length (start .args .out .now)))
+    (view (start .args .s .now)) (start .args .buf .now) (start .pre)
+    (c .before .before .load-request .ensures) (c .before .is-on .ensures) (c .if1 .taken) in
+    (is, (lends (start .args .out .now) is, refl))
 
 cast-if2 : tie.Need-cast-if2
 cast-if2 c = search needs
@@ -42,62 +38,17 @@ same-length : tie.Need-same-length
 same-length c = search needs
 
 returns-2 : tie.Need-returns-2
-returns-2 c = (
-  c .before .before .take-iso .ensures .0 ∙ read-is-iso
-      (view
-      (c .before .before .before .before .before .before .before .before .before .before .before .before .before .before .before .before .before .args .s .now))
-      (c .before .before .before .before .before .before .before .before .before .before .before .before .before .before .before .before .before
-      .args .buf .now)
-      (c .before .before .before .before .before .before .before .before .before .before .before .before .before .before .before .before .before
-      .args .out .now)
-      (c .before .before .before .before .before .before .before .before .before .before .before .before .before .before .before .before .before .args .e)
-      (length
-      (c .before .before .before .before .before .before .before .before .before .before .before .before .before .before .before .before .before
-      .args .out .now))
-      (c .before .before .before .before .before .before .before .before .before .before .before .before .before .before .before .before .before .pre)
-      (on-driver (λ y. isOn (y .begun))
-      (c .before .before .before .before .before .before .before .before .before .before .before .before .before .load-request .ensures)
-      (c .before .before .before .before .before .before .before .before .before .before .before .before .is-on .ensures)
-      (not-false (c .before .before .before .before .before .before .before .before .before .before .before .before .is-on .result)
-      (c .before .before .before .before .before .before .before .before .before .before .before .if1 .left)))
-      (on-driver (λ y. eqb (y .length) (length
-      (c .before .before .before .before .before .before .before .before .before .before .before .before .before .before .before .before .before
-      .args .out .now)))
-      (c .before .before .before .before .before .before .before .before .before .before .before .before .before .load-request .ensures) refl
-      (eq-eqb _ _ (c .before .before .before .before .before .before .before .before .before .if2 .taken)))
-      (on-driver (λ y. isOn (y .iso)) (c .before .before .before .before .before .before .before .load-ep .ensures)
-      (c .before .before .before .before .before .before .is-on2 .ensures) (c .before .before .before .before .before .if3 .taken)),
-  (
-    c .before .before .take-iso .ensures .1 .0 ∙ lends
-        (c .before .before .before .before .before .before .before .before .before .before .before .before .before .before .before .before .before
-        .args .out .now)
-        (read-is-iso (view
-        (c .before .before .before .before .before .before .before .before .before .before .before .before .before .before .before .before .before
-        .args .s .now))
-        (c .before .before .before .before .before .before .before .before .before .before .before .before .before .before .before .before .before
-        .args .buf .now)
-        (c .before .before .before .before .before .before .before .before .before .before .before .before .before .before .before .before .before
-        .args .out .now)
-        (c .before .before .before .before .before .before .before .before .before .before .before .before .before .before .before .before .before .args .e)
-        (length
-        (c .before .before .before .before .before .before .before .before .before .before .before .before .before .before .before .before .before
-        .args .out .now))
-        (c .before .before .before .before .before .before .before .before .before .before .before .before .before .before .before .before .before .pre)
-        (on-driver (λ y. isOn (y .begun))
-        (c .before .before .before .before .before .before .before .before .before .before .before .before .before .load-request .ensures)
-        (c .before .before .before .before .before .before .before .before .before .before .before .before .is-on .ensures)
-        (not-false (c .before .before .before .before .before .before .before .before .before .before .before .before .is-on .result)
-        (c .before .before .before .before .before .before .before .before .before .before .before .if1 .left)))
-        (on-driver (λ y. eqb (y .length) (length
-        (c .before .before .before .before .before .before .before .before .before .before .before .before .before .before .before .before .before
-        .args .out .now)))
-        (c .before .before .before .before .before .before .before .before .before .before .before .before .before .load-request .ensures) refl
-        (eq-eqb _ _ (c .before .before .before .before .before .before .before .before .before .if2 .taken)))
-        (on-driver (λ y. isOn (y .iso)) (c .before .before .before .before .before .before .before .load-ep .ensures)
-        (c .before .before .before .before .before .before .is-on2 .ensures) (c .before .before .before .before .before .if3 .taken))),
-    c .before .before .take-iso .ensures .1 .1,
-  ),
-)
+returns-2 c =
+    let asked = c .before .before .before .before .before .before .before .before .before .before .before in
+    let start = asked .before .before .before .before .before .before in
+    let is = picks _ _ (c .before .before .before .before .before .before .is-on2 .ensures) (c .before .before .before .before .before .if3 .taken)
+    ∙ poll-takes Out (start .args .e) (length (start .args .out .now)) (reads (start .args .e) (length (start .args .out .now)))
+    (view (start .args .s .now)) (start .args .buf .now) (start .pre)
+    (asked .before .before .load-request .ensures) (asked .before .is-on .ensures) (asked .if1 .left)
+    (c .before .before .before .before .before .before .before .before .before .if2 .taken) _
+    (c .before .before .before .before .before .before .before .load-ep .ensures) in
+    let taken = c .before .before .take-iso .ensures in
+    (taken .0 ∙ is, (taken .1 .0 ∙ lends (start .args .out .now) is, taken .1 .1))
 
 take-ready-requires : tie.Need-take-ready-requires
 take-ready-requires c κs = search needs
@@ -106,66 +57,17 @@ same-length-2 : tie.Need-same-length-2
 same-length-2 c = search needs
 
 returns-3 : tie.Need-returns-3
-returns-3 c = (
-  c .before .before .take-ready .ensures .0 ∙ read-is-ready
-      (view
-      (c .before .before .before .before .before .before .before .before .before .before .before .before .before .before .before .before .before .args .s .now))
-      (c .before .before .before .before .before .before .before .before .before .before .before .before .before .before .before .before .before
-      .args .buf .now)
-      (c .before .before .before .before .before .before .before .before .before .before .before .before .before .before .before .before .before
-      .args .out .now)
-      (c .before .before .before .before .before .before .before .before .before .before .before .before .before .before .before .before .before .args .e)
-      (length
-      (c .before .before .before .before .before .before .before .before .before .before .before .before .before .before .before .before .before
-      .args .out .now))
-      (c .before .before .before .before .before .before .before .before .before .before .before .before .before .before .before .before .before .pre)
-      (on-driver (λ y. isOn (y .begun))
-      (c .before .before .before .before .before .before .before .before .before .before .before .before .before .load-request .ensures)
-      (c .before .before .before .before .before .before .before .before .before .before .before .before .is-on .ensures)
-      (not-false (c .before .before .before .before .before .before .before .before .before .before .before .before .is-on .result)
-      (c .before .before .before .before .before .before .before .before .before .before .before .if1 .left)))
-      (on-driver (λ y. eqb (y .length) (length
-      (c .before .before .before .before .before .before .before .before .before .before .before .before .before .before .before .before .before
-      .args .out .now)))
-      (c .before .before .before .before .before .before .before .before .before .before .before .before .before .load-request .ensures) refl
-      (eq-eqb _ _ (c .before .before .before .before .before .before .before .before .before .if2 .taken)))
-      (on-driver (λ y. isOn (y .iso)) (c .before .before .before .before .before .before .before .load-ep .ensures)
-      (c .before .before .before .before .before .before .is-on2 .ensures) (c .before .before .before .before .before .if3 .left))
-      (c .before .before .before .before .before .before .before .load-ep .result)
-      (c .before .before .before .before .before .before .before .load-ep .ensures),
-  (
-    c .before .before .take-ready .ensures .1 .0 ∙ lends
-        (c .before .before .before .before .before .before .before .before .before .before .before .before .before .before .before .before .before
-        .args .out .now)
-        (read-is-ready (view
-        (c .before .before .before .before .before .before .before .before .before .before .before .before .before .before .before .before .before
-        .args .s .now))
-        (c .before .before .before .before .before .before .before .before .before .before .before .before .before .before .before .before .before
-        .args .buf .now)
-        (c .before .before .before .before .before .before .before .before .before .before .before .before .before .before .before .before .before
-        .args .out .now)
-        (c .before .before .before .before .before .before .before .before .before .before .before .before .before .before .before .before .before .args .e)
-        (length
-        (c .before .before .before .before .before .before .before .before .before .before .before .before .before .before .before .before .before
-        .args .out .now))
-        (c .before .before .before .before .before .before .before .before .before .before .before .before .before .before .before .before .before .pre)
-        (on-driver (λ y. isOn (y .begun))
-        (c .before .before .before .before .before .before .before .before .before .before .before .before .before .load-request .ensures)
-        (c .before .before .before .before .before .before .before .before .before .before .before .before .is-on .ensures)
-        (not-false (c .before .before .before .before .before .before .before .before .before .before .before .before .is-on .result)
-        (c .before .before .before .before .before .before .before .before .before .before .before .if1 .left)))
-        (on-driver (λ y. eqb (y .length) (length
-        (c .before .before .before .before .before .before .before .before .before .before .before .before .before .before .before .before .before
-        .args .out .now)))
-        (c .before .before .before .before .before .before .before .before .before .before .before .before .before .load-request .ensures) refl
-        (eq-eqb _ _ (c .before .before .before .before .before .before .before .before .before .if2 .taken)))
-        (on-driver (λ y. isOn (y .iso)) (c .before .before .before .before .before .before .before .load-ep .ensures)
-        (c .before .before .before .before .before .before .is-on2 .ensures) (c .before .before .before .before .before .if3 .left))
-        (c .before .before .before .before .before .before .before .load-ep .result)
-        (c .before .before .before .before .before .before .before .load-ep .ensures)),
-    c .before .before .take-ready .ensures .1 .1,
-  ),
-)
+returns-3 c =
+    let asked = c .before .before .before .before .before .before .before .before .before .before .before in
+    let start = asked .before .before .before .before .before .before in
+    let is = leaves _ _ (c .before .before .before .before .before .before .is-on2 .ensures) (c .before .before .before .before .before .if3 .left)
+    ∙ poll-takes Out (start .args .e) (length (start .args .out .now)) (reads (start .args .e) (length (start .args .out .now)))
+    (view (start .args .s .now)) (start .args .buf .now) (start .pre)
+    (asked .before .before .load-request .ensures) (asked .before .is-on .ensures) (asked .if1 .left)
+    (c .before .before .before .before .before .before .before .before .before .if2 .taken) _
+    (c .before .before .before .before .before .before .before .load-ep .ensures) in
+    let taken = c .before .before .take-ready .ensures in
+    (taken .0 ∙ is, (taken .1 .0 ∙ lends (start .args .out .now) is, taken .1 .1))
 
 unready-requires : tie.Need-unready-requires
 unready-requires c κs = search needs
@@ -174,22 +76,14 @@ end-request-requires : tie.Need-end-request-requires
 end-request-requires c κs = search needs
 
 returns-4 : tie.Need-returns-4
-returns-4 c = let p = read-other
-    (view (c .before .before .before .before .before .before .before .before .before .before .before .before .args .s .now))
-    (c .before .before .before .before .before .before .before .before .before .before .before .before .args .buf .now)
-    (c .before .before .before .before .before .before .before .before .before .before .before .before .args .out .now)
-    (c .before .before .before .before .before .before .before .before .before .before .before .before .args .e)
-    (length (c .before .before .before .before .before .before .before .before .before .before .before .before .args .out .now))
-    (c .before .before .before .before .before .before .before .before .before .before .before .before .pre)
-    (on-driver (λ y. isOn (y .begun)) (c .before .before .before .before .before .before .before .before .load-request .ensures)
-    (c .before .before .before .before .before .before .before .is-on .ensures)
-    (not-false (c .before .before .before .before .before .before .before .is-on .result)
-    (c .before .before .before .before .before .before .if1 .left)))
-    (on-driver
-    (λ y. eqb (y .length) (length (c .before .before .before .before .before .before .before .before .before .before .before .before .args .out .now)))
-    (c .before .before .before .before .before .before .before .before .load-request .ensures) refl
-    (ne-eqb _ _ (c .before .before .before .before .if2 .left))) _ _ (c .before .before .unready .ensures .0)
-    (c .end-request .ensures .0) in (p .0, (p .1, c .end-request .ensures .1 ∙ c .before .before .unready .ensures .1))
+returns-4 c =
+    let asked = c .before .before .before .before .before .before in
+    let start = asked .before .before .before .before .before .before in
+    let is = poll-other Out (start .args .e) (length (start .args .out .now)) (reads (start .args .e) (length (start .args .out .now)))
+    (view (start .args .s .now)) (start .args .buf .now) (start .pre)
+    (asked .before .before .load-request .ensures) (asked .before .is-on .ensures) (asked .if1 .left) (c .before .before .before .before .if2 .left) _ _
+    (c .before .before .unready .ensures .0) (c .end-request .ensures .0) in
+    (is, (lends (start .args .out .now) is, c .end-request .ensures .1 ∙ c .before .before .unready .ensures .1))
 
 pub take-read-spec : {M : Type 1} → statement M
 take-read-spec =

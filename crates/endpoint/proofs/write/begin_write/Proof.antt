@@ -1,18 +1,13 @@
-use mathlib.Core.Bool.{false}
-use mathlib.Core.Path.{refl, ap, sym, _∙_}
-use Prim.Native.Nat.{ℕ}
+use mathlib.Core.Path.{refl, sym, _∙_}
 use borrow.Author.Tests.{eq-eqb, ne-eqb}
 use Rattle.state.specs.State.{view}
-use Rattle.model_ops.specs.Concrete.{go}
+use Rattle.endpoint_rows.specs.RowsLaws.{numbered}
 use Rattle.regs.specs.declared.Dir.the-variants.{In}
 use Rattle.model.specs.Endpoint.{beginWrite}
-use Rattle.endpoint_rows.specs.RowsLaws.{numbered}
-use Rattle.endpoint.proofs.Laws.{refused}
+use Rattle.endpoint.proofs.Laws.{refused, lowered}
 use borrow.Author.Needs.{needs}
 use Rattle.endpoint.proofs.write.begin_write.Statement.{statement}
 use Rattle.endpoint.proofs.write.begin_write.Tie as tie
-use Rattle.endpoint.proofs.write.begin_write.Reads as reads
-use Rattle.endpoint.proofs.write.begin_write.Lts as lts
 
 refusal-requires : tie.Need-refusal-requires
 refusal-requires c κs = search needs
@@ -30,23 +25,13 @@ same-length : tie.Need-same-length
 same-length c = search needs
 
 returns : tie.Need-returns
-returns c = (
-  c .before .before .start-write .ensures .0 ∙ ap (λ (x : ℕ). go {i = false}
-      (beginWrite x (c .before .before .before .before .before .before .before .before .before .before .before .args .bytes .now))
-      (view (c .before .before .before .before .before .before .before .before .before .before .before .args .s .now))
-      (c .before .before .before .before .before .before .before .before .before .before .before .args .buf .now))
-      (c .before .before .before .low .ensures),
-  c .before .before .start-write .ensures .1,
-)
+returns c =
+    let start = c .before .before .before .before .before .before .before .before .before .before .before .args in
+    let begun = c .before .before .start-write .ensures in
+    (begun .0 ∙ lowered (λ x. beginWrite x (start .bytes .now)) (view (start .s .now)) (start .buf .now) (c .before .before .before .low .ensures), begun .1)
 
 returns-2 : tie.Need-returns-2
-returns-2 c = (
-  refused (view (c .before .before .before .before .before .args .s .now)) In (c .before .before .before .before .before .args .e) _
-      (c .before .before .before .before .before .args .buf .now) _ (c .before .refusal .ensures) (ne-eqb _ _ (c .if1 .left)),
-  (refl, tt),
-)
+returns-2 c = (refused _ In _ _ _ _ (c .before .refusal .ensures) (ne-eqb _ _ (c .if1 .left)), (refl, tt))
 
 pub begin-write-spec : {M : Type 1} → statement M
-begin-write-spec =
-    tie.close
-    (tie.spec refusal-requires low-requires start-write-requires same-length returns returns-2)
+begin-write-spec = tie.close (tie.spec refusal-requires low-requires start-write-requires same-length returns returns-2)

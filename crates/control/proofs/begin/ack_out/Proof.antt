@@ -1,0 +1,19 @@
+use mathlib.Core.Path.{refl}
+use borrow.Author.Needs.{needs}
+use Rattle.control.proofs.begin.ack_out.Statement.{statement}
+use Rattle.control.proofs.begin.ack_out.Tie as tie
+
+word-of-requires : tie.Need-word-of-requires
+word-of-requires c κs = search needs
+
+cast-t5 : tie.Need-cast-t5
+cast-t5 c = search needs
+
+returns : tie.Need-returns
+returns c = (λ d b. rw (c .word-of .ensures, c .before .if1 .taken), refl)
+
+returns-2 : tie.Need-returns-2
+returns-2 c = (λ d b. rw (c .if1 .left), refl)
+
+pub ack-out-spec : {M : Type 1} → statement M
+ack-out-spec = tie.close (tie.spec word-of-requires cast-t5 returns returns-2)

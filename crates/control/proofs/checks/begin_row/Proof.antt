@@ -1,0 +1,47 @@
+use borrow.Author.Tests.{lt-ltb, le-ltb}
+use Rattle.control.specs.Rows.{beginRow}
+use borrow.Author.Needs.{needs}
+use Rattle.control.proofs.checks.begin_row.Statement.{statement}
+use Rattle.control.proofs.checks.begin_row.Tie as tie
+
+is-started-requires : tie.Need-is-started-requires
+is-started-requires c κs = search needs
+
+returns : tie.Need-returns
+unfolding beginRow
+returns c = simp (lt-ltb _ _ (c .if2 .taken), c .before .before .if1 .taken, ← c .before .before .before .is-started .ensures)
+
+cast-if2 : tie.Need-cast-if2
+cast-if2 c = search needs
+
+returns-2 : tie.Need-returns-2
+unfolding beginRow
+returns-2 c = simp (
+  c .if3 .taken,
+  ← c .before .is-on .ensures,
+  le-ltb _ _ (c .before .before .if2 .left),
+  c .before .before .before .before .if1 .taken,
+  ← c .before .before .before .before .before .is-started .ensures,
+)
+
+is-on-requires : tie.Need-is-on-requires
+is-on-requires c κs = search needs
+
+returns-3 : tie.Need-returns-3
+unfolding beginRow
+returns-3 c = simp (
+  c .if3 .left,
+  ← c .before .is-on .ensures,
+  le-ltb _ _ (c .before .before .if2 .left),
+  c .before .before .before .before .if1 .taken,
+  ← c .before .before .before .before .before .is-started .ensures,
+)
+
+returns-4 : tie.Need-returns-4
+unfolding beginRow
+returns-4 c = simp (c .if1 .left, ← c .before .is-started .ensures)
+
+pub begin-row-spec : {M : Type 1} → statement M
+begin-row-spec =
+    tie.close
+    (tie.spec is-started-requires cast-if2 returns is-on-requires returns-2 returns-3 returns-4)
