@@ -5,8 +5,7 @@ use mathlib.Core.List.{List, []}
 use Prim.Native.Nat.{ℕ}
 use borrow.Author.Tests.{eq-eqb, ne-eqb}
 use Rattle.state.specs.declared.Saved.{Saved}
-use Rattle.state.specs.Driver.{Driver, withWakes}
-use Rattle.state.specs.Wakes.{none-woken}
+use Rattle.state.specs.Driver.{Driver, noneGathered}
 use Rattle.state.specs.State.{view, saved}
 use Rattle.endpoint_common.specs.Answers.{lentAfter}
 use Rattle.model.specs.Tree.{Out, bindOut}
@@ -85,7 +84,7 @@ abbrev Stopped : ℕ → ℕ → List ℕ → Type 0
 Stopped n k xs = n ≡ stopOf (isIdle (decode (saved xs))) k (view xs .globals .stage)
 
 -- an operation that begins: its wake-ups are cleared, then x is left to run
-pub begins : (p : Script false ℕ) (d : Driver) {d1 : Driver} (r : Step) (zs : List ℕ) {x : Buf → Out St ℕ} → d1 ≡ withWakes d none-woken
+pub begins : (p : Script false ℕ) (d : Driver) {d1 : Driver} (r : Step) (zs : List ℕ) {x : Buf → Out St ℕ} → d1 ≡ noneGathered d
     → ((b : Buf) → x b ≡ run concrete p (d1, b)) → Comes r zs (λ b. bindOut (x b) (λ n u. run concrete (finish n) u))
     → Comes r zs (λ b. run concrete (operation p) (d, b))
 begins p d r zs w h c b = c b ∙ rw (h b, w)

@@ -30,7 +30,7 @@ use Rattle.proof_book.specs.Coupling.{endOf, lensOf, slotStamps, Held}
 use Rattle.proof_book.specs.LensLaws.{stamps-at, lens-at, lens-length, lens-set, lens-mod, ep-len}
 use Rattle.proof_book.specs.FrameLaws.{changed-on, changed-len, same-place}
 use Rattle.proof_book.specs.OutsLaws.{Inner}
-use Rattle.proof_book.specs.Outs.{Inner}
+use Rattle.proof_book.specs.OutsLaws.{Inner}
 use Rattle.proof_isolation.specs.EqualExcept.{EqualExcept, Beside, Lawful, Channel, LowEquiv, Touched}
 use Rattle.proof_isolation.specs.Apart.{Pair}
 use Rattle.proof_isolation.specs.Likes.{inner-stays, own-changed, but-refl, touched-refl, touched-trans}
