@@ -183,5 +183,5 @@ abbrev pub Stored : Step → List ℕ → Type 0
 Stored r ys = (xs : List ℕ) → SavedByAnswer r xs ys
 
 -- of an answer that comes with what was saved before
-abbrev pub Leaves : Step → Type 0
-Leaves r = (xs ys : List ℕ) → saved ys ≡ saved xs → SavedByAnswer r xs ys
+abbrev pub KeepsSaved : Step → Type 0
+KeepsSaved r = (xs ys : List ℕ) → saved ys ≡ saved xs → SavedByAnswer r xs ys

@@ -22,7 +22,7 @@ ghost use Rattle.endpoint.specs.Points as endpoint;
 ghost use Rattle.iso_in.specs.Advance as advance;
 ghost use Rattle.irq.specs.Points as handler;
 ghost use Rattle.machine.specs.Suspended.{withTag, encode, decode, finish, machineAt, machineOf, haltsAs, halts};
-ghost use Rattle.machine.specs.Suspended.{answerOf, SavedByAnswer, Stored, Leaves};
+ghost use Rattle.machine.specs.Suspended.{answerOf, SavedByAnswer, Stored, KeepsSaved};
 ghost use Rattle.machine.specs.Stands.{Stands, halted, Leads, Ends};
 ghost use Rattle.machine.specs.Rows.{isIdle};
 
@@ -167,7 +167,7 @@ pub fn polled_endpoint(n: endpoint::Polled) -> Step
       answerOf r out d,
       machineAt u d b,
     ) ≡ halts (endpoint.polledAs n out d b)) ⌝ }
-    ensures { λ r. ⌜ Leaves r ⌝ }
+    ensures { λ r. ⌜ KeepsSaved r ⌝ }
 {
     match n {
         endpoint::Polled::Refused(k) => Step::Refused(k),

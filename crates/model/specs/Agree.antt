@@ -139,11 +139,11 @@ module _ {C S T : Type 0} (D : Instance C S) (K : Book C T) (M : Agree D K) wher
     unless true X = Unit {0}
     unless false X = X
 
-    abbrev pub Lent : Call C Op → Machine A S → Machine A T → Buf → Type 0
-    Lent (start c) m d b = Unit {0}
-    Lent (begin o) m d b = unless (cond (L .slots o) (misfit L D (m .st) b) false) (M .Chip (d .st) (m .buf) b)
-    Lent (go v) m d b = unless (misfit L D (m .st) b) (M .Chip (d .st) (m .buf) b)
-    Lent (question q) m d b = M .Chip (d .st) (m .buf) b
+    abbrev pub LentAlike : Call C Op → Machine A S → Machine A T → Buf → Type 0
+    LentAlike (start c) m d b = Unit {0}
+    LentAlike (begin o) m d b = unless (cond (L .slots o) (misfit L D (m .st) b) false) (M .Chip (d .st) (m .buf) b)
+    LentAlike (go v) m d b = unless (misfit L D (m .st) b) (M .Chip (d .st) (m .buf) b)
+    LentAlike (question q) m d b = M .Chip (d .st) (m .buf) b
 
     awaited-blank : (q : Access) → awaited q ≡ awaited (blank q)
     awaited-blank (Read r e) = refl
@@ -228,7 +228,7 @@ module _ {C S T : Type 0} (D : Instance C S) (K : Book C T) (M : Agree D K) wher
 
       -- one call
       pub agrees : (c : Call C Op) (b : Buf) {φ : Phase} (m : Machine A S) (d : Machine A T)
-          → Ways φ (m .way) (d .way) → M .Coupling φ (m .buf) (m .st) (d .st) → Lent c m d b
+          → Ways φ (m .way) (d .way) → M .Coupling φ (m .buf) (m .st) (d .st) → LentAlike c m d b
           → After (drive c m b) (write-up (drive c m b .0) c d b)
       agrees (start c) b m d w r l = starting c b (L .refuses c b) refl m d w r
       agrees (begin o) b {φ = φ} m d w r l =
@@ -249,7 +249,7 @@ module _ {C S T : Type 0} (D : Instance C S) (K : Book C T) (M : Agree D K) wher
       Lawful (e ∷ es) m d =
           let x = drive (e .call) m (e .lent) in
           let y = write-up (x .0) (e .call) d (e .lent) in
-          Lent (e .call) m d (e .lent) × Lawful es (x .1) (y .1)
+          LentAlike (e .call) m d (e .lent) × Lawful es (x .1) (y .1)
 
       -- they agree after each call
       abbrev pub All : List (Event C Op) → Machine A S → Machine A T → Type 0

@@ -63,14 +63,14 @@ of-advance : (e : ℕ) → Waits Answer (otherCode (Advance e))
 of-advance e = search waiting depth 40
 
 module _ (a : Ans Answer) (e f : ℕ) (n : Machine Answer Pages) (b : Buf) where
-  abbrev Leaves : Ans Answer × Machine Answer Pages → Type 0
-  Leaves y = blankA a ≡ blankA (y .0) → y .1 .st .ins f ≡ n .st .ins f
+  abbrev PageStays : Ans Answer × Machine Answer Pages → Type 0
+  PageStays y = blankA a ≡ blankA (y .0) → y .1 .st .ins f ≡ n .st .ins f
 
-  halted : (o : tree.Out Bk Answer) → First (n .st, b) o → Leaves (halt calls (book .driver) (fed book a) false o)
+  halted : (o : tree.Out Bk Answer) → First (n .st, b) o → PageStays (halt calls (book .driver) (fed book a) false o)
   halted (ends z t) h s = h .ins f
   halted (asks q t k) h s = fed-in a (t .0) f (sending-same f a (handed q) s ∙ h .1 f) ∙ h .0 .ins f
 
-  begun-leaves : (w : Way Answer Pages) → Leaves (begun calls (book .driver) (fed book a) (other (Advance e)) n w b)
+  begun-leaves : (w : Way Answer Pages) → PageStays (begun calls (book .driver) (fed book a) (other (Advance e)) n w b)
   begun-leaves idle s = halted (run bookOps (otherCode (Advance e)) (n .st, b)) (waits-run (of-advance e) (n .st, b)) s
   begun-leaves (busy true q k) s = refl
   begun-leaves (busy false q k) s = refl

@@ -7,7 +7,7 @@ use Rattle.model.specs.Cells.{Cell, Val}
 use Rattle.model.specs.Script.{Test, Look, Fetch, Act, DmaStep, Burst, lastOf, burstAsk}
 use Rattle.model.specs.Simulates.{Phase}
 use Rattle.model.specs.Machine.{Buf, Question, Call, start, begin, go, question, Event, Machine, Calls, Instance, Book, fed, blank, misfit, started, call}
-use Rattle.model.specs.Agree.{Agree, Ways, Lent, unless, write-up, agrees, from-start}
+use Rattle.model.specs.Agree.{Agree, Ways, LentAlike, unless, write-up, agrees, from-start}
 use Rattle.proof_book.specs.Always.{after}
 
 pub record Invariant {C S : Type 0} (D : Instance C S) (P : S → Type 0) : Type 0 where
@@ -89,7 +89,7 @@ module _ {C S : Type 0} (D : Instance C S) {P : S → Type 0} (K : Invariant D P
     any true = tt
     any false = tt
 
-    lent : (c : Call C Op) (m n : Machine A S) (b : Buf) → Lent D itself agree-itself L c m n b
+    lent : (c : Call C Op) (m n : Machine A S) (b : Buf) → LentAlike D itself agree-itself L c m n b
     lent (start c) m n b = tt
     lent (begin o) m n b = any (cond (L .slots o) (misfit L D (m .st) b) false)
     lent (go v) m n b = any (misfit L D (m .st) b)

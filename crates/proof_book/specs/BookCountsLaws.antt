@@ -58,31 +58,31 @@ counts-then s t u q h k e = elim (k e) [
 
 -- ---- operations
 
-record Keeps (t t′ : Pages) : Type 0 where
+record LostStays (t t′ : Pages) : Type 0 where
   periodic : Periodic t′
   lost : (e : ℕ) → t′ .outs e .lost ≡ t .outs e .lost
 
-stays : {t : Pages} → Periodic t → Keeps t t
+stays : {t : Pages} → Periodic t → LostStays t t
 stays i = record { periodic = i; lost = λ e. refl }
 
-either : (u : Bool) {t x y : Pages} → Keeps t x → Keeps t y → Keeps t (cond u x y)
+either : (u : Bool) {t x y : Pages} → LostStays t x → LostStays t y → LostStays t (cond u x y)
 either true h k = h
 either false h k = k
 
-either-of : (u : Bool) {t : Pages} (x y : Bk) → Keeps t (x .0) → Keeps t (y .0) → Keeps t (cond u x y .0)
+either-of : (u : Bool) {t : Pages} (x y : Bk) → LostStays t (x .0) → LostStays t (y .0) → LostStays t (cond u x y .0)
 either-of true x y h k = h
 either-of false x y h k = k
 
 periodic-with : (t : Pages) (e : ℕ) (p : OutPage) → Periodic t → Periodic (withOut t e p)
 periodic-with t e p i x y h = ap₂ (λ (k : ℕ) (q : OutPage). cond (eqb k (e % 16)) p q) h (i x y h)
 
-with-page : (t : Pages) (e : ℕ) (p : OutPage) → p .lost ≡ t .outs e .lost → Periodic t → Keeps t (withOut t e p)
+with-page : (t : Pages) (e : ℕ) (p : OutPage) → p .lost ≡ t .outs e .lost → Periodic t → LostStays t (withOut t e p)
 with-page t e p h i = record {
   periodic = periodic-with t e p i;
   lost = λ x. at-elim (λ (q : OutPage). q .lost ≡ t .outs x .lost) e x p (t .outs) (λ m. h ∙ ap (λ (q : OutPage). q .lost) (i e x (sym m))) (λ _. refl);
 }
 
-puts : (c : Cell) (v : Val c) (s : Bk) → Periodic (s .0) → Keeps (s .0) (putB c v s .0)
+puts : (c : Cell) (v : Val c) (s : Bk) → Periodic (s .0) → LostStays (s .0) (putB c v s .0)
 puts globals-cell v s i = record { periodic = i; lost = λ e. refl }
 puts control-cell v s i = record { periodic = i; lost = λ e. refl }
 puts allocator-cell v s i = stays i
@@ -90,18 +90,18 @@ puts (ep-cell d e) v s i = record { periodic = i; lost = λ e. refl }
 puts (request-cell d e) v s i = record { periodic = i; lost = λ e. refl }
 puts (paced-cell e) v s i = record { periodic = i; lost = λ e. refl }
 
-given : (d : Dir) (kind maximum interval : ℕ) (a : alloc-answer.Answer) (t : Pages) → Periodic t → Keeps t (givenB d kind maximum interval a t)
+given : (d : Dir) (kind maximum interval : ℕ) (a : alloc-answer.Answer) (t : Pages) → Periodic t → LostStays t (givenB d kind maximum interval a t)
 given d kind maximum interval (alloc.Refused n) t i = stays i
 given Out kind maximum interval (alloc.Given e base slots) t i =
     let k = with-page t e (slotTold (emptyOut (t .outs e)) base) refl i in
     record { periodic = k .periodic; lost = k .lost }
 given In kind maximum interval (alloc.Given e base slots) t i = record { periodic = i; lost = λ e. refl }
 
-started : (maximum : ℕ) (a : alloc-answer.Answer) (t : Pages) → Periodic t → Keeps t (startedB maximum a t)
+started : (maximum : ℕ) (a : alloc-answer.Answer) (t : Pages) → Periodic t → LostStays t (startedB maximum a t)
 started maximum (alloc.Refused n) t i = stays i
 started maximum (alloc.Given e base slots) t i = record { periodic = i; lost = λ e. refl }
 
-acts : (q : Act) (s : Bk) → Periodic (s .0) → Keeps (s .0) (actB q s .0)
+acts : (q : Act) (s : Bk) → Periodic (s .0) → LostStays (s .0) (actB q s .0)
 acts (complete e) s i = record { periodic = i; lost = λ e. refl }
 acts (reset-ring Out e) s i = either (isoOf (s .0) Out e) (stays i) (with-page (s .0) e (emptyOut (s .0 .outs e)) refl i)
 acts (reset-ring In e) s i = record { periodic = i; lost = λ e. refl }
@@ -132,7 +132,7 @@ arrives-at t e q x h false m i b y z = inr (record {
 })
 
 -- an access that changes no page of an OUT endpoint, or leaves the counts
-quietly : {s : Bk} {t : Bk} (q : Access) → Keeps (s .0) (t .0) → Counts s q t
+quietly : {s : Bk} {t : Bk} (q : Access) → LostStays (s .0) (t .0) → Counts s q t
 quietly q k e = inl (k .lost e)
 
 hands : (q : DmaStep) (s : Bk) → Periodic (s .0) → Periodic (handB q s .1 .0) × Counts s (dmaStepAsk q (handB q s .0)) (handB q s .1)
@@ -160,13 +160,13 @@ hands (place Out e) s i = (i, λ x. inl refl)
 hands (place In e) s i = (i, λ x. inl refl)
 hands place0 s i = (i, λ x. inl refl)
 
-resets : (n : ℕ) (t : Pages) → Periodic t → Keeps t (busResetB n t)
+resets : (n : ℕ) (t : Pages) → Periodic t → LostStays t (busResetB n t)
 resets zero t i = record { periodic = λ x y h. ap emptyOut (i x y h); lost = λ e. refl }
 resets (suc zero) t i = stays i
 resets (suc (suc zero)) t i = record { periodic = i; lost = λ e. refl }
 resets (suc (suc (suc k))) t i = record { periodic = i; lost = λ e. refl }
 
-switches : (e : ℕ) (onn : Bool) (n : ℕ) (t : Pages) → Periodic t → Keeps t (switchB e onn n t .1)
+switches : (e : ℕ) (onn : Bool) (n : ℕ) (t : Pages) → Periodic t → LostStays t (switchB e onn n t .1)
 switches e onn zero t i = record { periodic = i; lost = λ e. refl }
 switches e onn (suc zero) t i = record { periodic = i; lost = λ e. refl }
 switches e onn (suc (suc zero)) t i = stays i
@@ -174,7 +174,7 @@ switches e onn (suc (suc (suc k))) t i =
     let m = with-page t e (emptyOut (t .outs e)) refl i in
     either (isoOf t Out e && eqb k 15) (record { periodic = m .periodic; lost = m .lost }) (stays i)
 
-row-steps : (g : Burst) (n : ℕ) (s : Bk) → Periodic (s .0) → Keeps (s .0) (rowB g n s .1 .0)
+row-steps : (g : Burst) (n : ℕ) (s : Bk) → Periodic (s .0) → LostStays (s .0) (rowB g n s .1 .0)
 row-steps (switch e onn) n s i = switches e onn n (s .0) i
 row-steps bus-reset n s i = resets n (s .0) i
 

@@ -52,8 +52,8 @@ Arrives s q t = (e x : ℕ) → q ≡ Receive e x → receiving (s .0) e ≡ tru
     → (n : ℕ) × (k : Packet) × (k .bytes ≡ bytesAt (s .1) (s .0 .outs e .slot) n) × (t .0 .outs e ≡ arrived (s .0 .outs e) k)
 
 -- where the access is not a receive address of OUT e, or OUT e is not enabled as isochronous, its page stays
-abbrev pub Leaves : Bk → Access → Bk → Type 0
-Leaves s q t = (e : ℕ) → (givesTo q e && receiving (s .0) e) ≡ false → t .0 .outs e ≡ s .0 .outs e
+abbrev pub OutStays : Bk → Access → Bk → Type 0
+OutStays s q t = (e : ℕ) → (givesTo q e && receiving (s .0) e) ≡ false → t .0 .outs e ≡ s .0 .outs e
 
 -- a transmit address of IN e
 abbrev pub sendsTo : Access → ℕ → Bool
@@ -82,7 +82,7 @@ pub record Passing (s : Bk) (q : Access) (t : Bk) : Type 0 where
 
 pub record Moves (s : Bk) (q : Access) (t : Bk) : Type 0 where
   pub arrives : Arrives s q t
-  pub leaves : Leaves s q t
+  pub leaves : OutStays s q t
   pub loads : Loads q t
   pub passing : Passing s q t
 
@@ -157,7 +157,7 @@ arrives f n s e x a r = subst
     by true h = out-same (s .0) f (arrived (s .0 .outs f) (packetB f n s))
     by false h = absurd (true≢false (sym h))
 
-leaves : (f n : ℕ) (s : Bk) → Leaves s (Receive f 0) (handB (arrive f n) s .1)
+leaves : (f n : ℕ) (s : Bk) → OutStays s (Receive f 0) (handB (arrive f n) s .1)
 leaves f n s e g = by (receiving (s .0) f) refl
   where
     page : OutPage

@@ -5,7 +5,7 @@ use Prim.Native.Nat.{ℕ}
 use Rattle.model.specs.Answers.{Answer}
 use Rattle.model.specs.Calls.{calls}
 use Rattle.model.specs.Machine.{Buf, Machine}
-use Rattle.model.specs.Agree.{After, Lent}
+use Rattle.model.specs.Agree.{After, LentAlike}
 use Rattle.machine.specs.Suspended.{driverOf, machineOf}
 use Rattle.proof_book.specs.Pages.{Pages}
 use Rattle.proof_book.specs.Book.{book}
@@ -16,7 +16,7 @@ pub use Rattle.proof_book.specs.FrontPage.{Made, CallStep, noted}
 abbrev pub Run : List ℕ → Buf → Machine Answer Pages → List Made → Type 0
 Run xs a n [] = Unit {0}
 Run xs a n (m ∷ ms) = CallStep xs a m
-    × (Lent driverOf book agree calls (m .event .call) (machineOf xs a) n (m .event .lent) × Run (m .bytes) (m .slots) (noted m n .1) ms)
+    × (LentAlike driverOf book agree calls (m .event .call) (machineOf xs a) n (m .event .lent) × Run (m .bytes) (m .slots) (noted m n .1) ms)
 
 -- code and book agree after each call
 abbrev pub Agreed : Machine Answer Pages → List Made → Type 0

@@ -31,7 +31,7 @@ use Rattle.proof_book.specs.BookCountsLaws.{Periodic}
 use Rattle.proof_book.specs.BookDecidesLaws.{Watched, waits-on}
 use Rattle.proof_book.specs.BookCallsLaws.{WayFine, Fine}
 use Rattle.proof_book.specs.SendingStepsLaws.{Followed}
-use Rattle.proof_book.specs.SendingPagesLaws.{Alike}
+use Rattle.proof_book.specs.SendingPagesLaws.{SameButLoad}
 use Rattle.proof_book.specs.SendingCallsLaws.{WayFollowed, Sending, fed-alike}
 use Rattle.proof_book.specs.AnswersLaws.{releasing-same, sending, sending-same, loading-same, fed-elim, fed-kept, fed-in}
 use Rattle.proof_book.specs.OnwardLaws.{Onto, Head, of-onto, heads-run, Goes, plainly, gives, of-slotted, of-other, of-aside, of-starting}
@@ -49,7 +49,7 @@ no-address (handed (Wait k)) e g = refl
 no-address (handed Callback) e g = refl
 no-address (told k) e g = refl
 
-alike-passes : {p q r : InPage} → Alike q r → PassesOn p q → PassesOn p r
+alike-passes : {p q r : InPage} → SameButLoad q r → PassesOn p q → PassesOn p r
 alike-passes {p} {q} {r} k x =
     let w : r .waiting ≡ q .waiting = ap (λ (i : InPage). i .waiting) k in
     record {

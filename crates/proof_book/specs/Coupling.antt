@@ -144,14 +144,14 @@ Arming (mid bus-reset zero) e enabled r p = AtRest enabled r p
 -- every endpoint is disabled, the records are not yet reset
 Arming (mid bus-reset (suc n)) e enabled r p = (enabled ≡ false) × (Armed r p ⊎ (countOf r ≡ 0))
 
-abbrev pub Step : Phase → Type 0
-Step quiet = Unit {0}
-Step (mid g n) = n ≤ lastOf g
+abbrev pub PhaseStep : Phase → Type 0
+PhaseStep quiet = Unit {0}
+PhaseStep (mid g n) = n ≤ lastOf g
 
 -- ---- the relation
 
 pub record Coupling (φ : Phase) (b : Buf) (d : Driver) (t : Pages) : Type 0 where
-  pub step : Step φ
+  pub step : PhaseStep φ
   pub sized : Sized d
   pub sound : Sound (d .allocator)
   pub good : goodSize (d .allocator .size) ≡ true

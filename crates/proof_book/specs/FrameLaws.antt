@@ -38,7 +38,7 @@ use Rattle.proof_book.specs.LensLaws.{stamps-mod, stamps-on, stamps-len,
 use Rattle.proof_book.specs.LensLaws.{ep-clear, lens-clear, stamps-clear-other}
 use Rattle.proof_book.specs.KeptLaws.{Values, valuesOf, same-tables}
 use Rattle.proof_book.specs.Coupling.{SameKept, endOf, Shape, Apart, ep0Room, lensOf, slotStamps, Held, OutFits}
-use Rattle.proof_book.specs.Coupling.{InFits, Stands, InRow, Arming, Step, Coupling}
+use Rattle.proof_book.specs.Coupling.{InFits, Stands, InRow, Arming, PhaseStep, Coupling}
 use Rattle.proof_book.specs.Book.{withSending}
 
 -- ---- one endpoint's record, lengths and stamps changed, its buffers where they were
@@ -288,7 +288,7 @@ in-moved {b} {r} {r′} {ls} {ls′} {p} h k f = subst (λ x. InFits b x ls′ p
 
 -- ---- allocation, the buffers' places and the sets of endpoints as they were
 
-pub record Keeps (d d′ : Driver) : Type 0 where
+pub record SamePlaces (d d′ : Driver) : Type 0 where
   pub sized : Sized d′
   pub allocator : d′ .allocator ≡ d .allocator
   pub stage : d′ .globals .stage ≡ d .globals .stage
@@ -300,7 +300,7 @@ pub record Keeps (d d′ : Driver) : Type 0 where
 
 -- what is left to show
 pub record Parts (ψ : Phase) (b : Buf) (d : Driver) (t : Pages) : Type 0 where
-  pub step : Step ψ
+  pub step : PhaseStep ψ
   pub same : SameKept d (t .kept)
   pub outs : (e : ℕ) → OutFits b (epOn d Out e) (lensOf d Out e) (slotStamps d e) (t .outs e)
   pub ins : (e : ℕ) → InFits b (epOn d In e) (lensOf d In e) (t .ins e)
@@ -321,7 +321,7 @@ apart-kept : {lo lo′ hi hi′ x x′ y y′ : ℕ} → lo′ ≡ lo → hi′ 
 apart-kept a b c d h = rw (a, b, c, d) h
 
 pub rebuilt : {φ ψ : Phase} {b b′ : Buf} {d d′ : Driver} {t t′ : Pages}
-    → Coupling φ b d t → Keeps d d′ → length b′ ≡ length b → Parts ψ b′ d′ t′ → Coupling ψ b′ d′ t′
+    → Coupling φ b d t → SamePlaces d d′ → length b′ ≡ length b → Parts ψ b′ d′ t′ → Coupling ψ b′ d′ t′
 rebuilt {d = d} {d′ = d′} R k l p =
     let room : ep0Room (d′ .globals) (d′ .allocator) ≡ ep0Room (d .globals) (d .allocator) = rw (k .stage, k .allocator) refl in
     record {
@@ -347,7 +347,7 @@ rebuilt {d = d} {d′ = d′} R k l p =
 
 -- ---- one endpoint changed, bytes in its region alone
 
-pub keeps-changed : {dir : Dir} {e : ℕ} {d d′ : Driver} → Changed dir e d d′ → Keeps d d′
+pub keeps-changed : {dir : Dir} {e : ℕ} {d d′ : Driver} → Changed dir e d d′ → SamePlaces d d′
 keeps-changed {dir} {e} {d} {d′} c = record {
   sized = c .sized;
   allocator = c .allocator;
@@ -397,7 +397,7 @@ module _ {φ : Phase} {b b′ : Buf} {d d′ : Driver} {t : Pages} (R : Coupling
 
   -- OUT e
   pub out-changed : {ψ : Phase} {k : Kept} (e : ℕ) (p : OutPage) → Changed Out e d d′ → SameKept d′ k → length b′ ≡ length b
-      → Only (epOn d Out e .base) (endOf (epOn d Out e)) b b′ → OutFits b′ (epOn d′ Out e) (lensOf d′ Out e) (slotStamps d′ e) p → Step ψ
+      → Only (epOn d Out e .base) (endOf (epOn d Out e)) b b′ → OutFits b′ (epOn d′ Out e) (lensOf d′ Out e) (slotStamps d′ e) p → PhaseStep ψ
       → ((x : ℕ) (u : Bool) → x % 16 ≢ e % 16 → Arming φ x u (epOn d Out x) (t .outs x) → Arming ψ x u (epOn d Out x) (t .outs x))
       → Arming ψ e (isSet (isoOuts (d .globals)) (e % 16)) (epOn d′ Out e) p → Coupling ψ b′ d′ (withOut (withKept t k) e p)
   out-changed {ψ} {k} e p c s long o f step others a = rebuilt R (keeps-changed c) long (record {

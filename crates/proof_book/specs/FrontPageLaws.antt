@@ -28,7 +28,7 @@ use Rattle.proof_book.specs.HeldLaws.{held-length}
 use Rattle.proof_book.specs.StartUpLaws.{fresh-kept}
 use Rattle.proof_book.specs.AgreesLaws.{agree}
 use Rattle.proof_book.specs.LedgerLaws as ledger
-use Rattle.proof_book.specs.ReadRoomCallsLaws.{Kept, steps, start-kept}
+use Rattle.proof_book.specs.ReadRoomCallsLaws.{RoomKept, steps, start-kept}
 use Rattle.proof_book.specs.FrontPage.{Made, CallStep, noted, written, LentAsLeft, ringBytes, ringStamps, EmptiedIn, BeingSent, Sends, emptied, Compared}
 use Rattle.proof_book.specs.FrontPage.{done, Sentences, AfterCall, Counted, none, AfterEach, LengthsEach, OthersEach, Demand3}
 use Rattle.proof_book.specs.FrontPage as page
@@ -100,7 +100,7 @@ Anew t e = (t .outs e .lost ≡ 0) × (t .outs e .waiting ≡ []) × (t .outs e 
 record Before (m : Machine Answer Driver) (n : Machine Answer Pages) : Type 0 where
   phase : Phase
   rest : Coupling phase (m .buf) (m .st) (n .st)
-  room : Kept m
+  room : RoomKept m
   fine : Fine n
   sending : Sending n
   onto : GoesOn n
@@ -323,7 +323,7 @@ module _ (c : Config) (b : Buf) (row : startRow c b ≡ zero) (m : Machine Answe
           before = record {
             phase = a .phase;
             rest = a .rest;
-            room = subst (λ (z : Ans Answer × Machine Answer Driver). Kept (z .1)) (sym start-is) (start-kept c m b row);
+            room = subst (λ (z : Ans Answer × Machine Answer Driver). RoomKept (z .1)) (sym start-is) (start-kept c m b row);
             fine = subst (λ (r : ℕ). Fine (started calls (book .driver) (fed book (drive (start c) m b .0)) c r n b .1))
                 (sym row) (start-fine (drive (start c) m b .0) c n b);
             sending = start-sent c b row m n .machine;

@@ -87,22 +87,22 @@ abbrev pub passing : Act → Bool
 passing q = not (allocates q)
 
 -- its changes are of the kind `ok`
-abbrev pub Keeps : {i : Bool} {A : Type 0} → (Act → Bool) → ℕ → Script i A → Type 0
-Keeps ok x (ret a) = Unit {0}
-Keeps ok x (bind p f) = Keeps ok x p × ((a : _) → Gives x p a → Keeps ok x (f a))
-Keeps ok x (test b p q) = Keeps ok x p × Keeps ok x q
-Keeps ok x (read-then r e k) = (v : ℕ) → Keeps ok x (k v)
-Keeps ok x (write-then r e v p) = Keeps ok x p
-Keeps ok x (wait-then n p) = Keeps ok x p
-Keeps ok x (callback-then p) = Keeps ok x p
-Keeps ok x (get-then c k) = (v : Val c) → Says x c v → Keeps ok x (k v)
-Keeps ok x (put-then c v p) = Says x c v × Keeps ok x p
-Keeps ok x (is-then q k) = (b : Bool) → Keeps ok x (k b)
-Keeps ok x (look-then q k) = (n : ℕ) → Keeps ok x (k n)
-Keeps ok x (fetch-then q k) = (l : List ℕ) → Keeps ok x (k l)
-Keeps ok x (act-then q p) = (ok q ≡ true) × Keeps ok x p
-Keeps ok x (hand-then q p) = Keeps ok x p
-Keeps ok x (row-then g p) = ⊥
+abbrev pub ChangesOnly : {i : Bool} {A : Type 0} → (Act → Bool) → ℕ → Script i A → Type 0
+ChangesOnly ok x (ret a) = Unit {0}
+ChangesOnly ok x (bind p f) = ChangesOnly ok x p × ((a : _) → Gives x p a → ChangesOnly ok x (f a))
+ChangesOnly ok x (test b p q) = ChangesOnly ok x p × ChangesOnly ok x q
+ChangesOnly ok x (read-then r e k) = (v : ℕ) → ChangesOnly ok x (k v)
+ChangesOnly ok x (write-then r e v p) = ChangesOnly ok x p
+ChangesOnly ok x (wait-then n p) = ChangesOnly ok x p
+ChangesOnly ok x (callback-then p) = ChangesOnly ok x p
+ChangesOnly ok x (get-then c k) = (v : Val c) → Says x c v → ChangesOnly ok x (k v)
+ChangesOnly ok x (put-then c v p) = Says x c v × ChangesOnly ok x p
+ChangesOnly ok x (is-then q k) = (b : Bool) → ChangesOnly ok x (k b)
+ChangesOnly ok x (look-then q k) = (n : ℕ) → ChangesOnly ok x (k n)
+ChangesOnly ok x (fetch-then q k) = (l : List ℕ) → ChangesOnly ok x (k l)
+ChangesOnly ok x (act-then q p) = (ok q ≡ true) × ChangesOnly ok x p
+ChangesOnly ok x (hand-then q p) = ChangesOnly ok x p
+ChangesOnly ok x (row-then g p) = ⊥
 
 -- ---- the driver's operations
 
@@ -138,7 +138,7 @@ not-allocates : (b : Bool) → not b ≡ true → b ≡ false
 not-allocates true h = absurd (true≢false (sym h))
 not-allocates false h = refl
 
-pub keeps-run : {i : Bool} {A : Type 0} (x : ℕ) (p : Script i A) → Keeps passing x p → (s : St) → At x s → Throughout (At x) (Gives x p) (run concrete p s)
+pub keeps-run : {i : Bool} {A : Type 0} (x : ℕ) (p : Script i A) → ChangesOnly passing x p → (s : St) → At x s → Throughout (At x) (Gives x p) (run concrete p s)
 keeps-run x (ret a) h s k = at-end k refl
 keeps-run x (bind p f) h s k = through-bind (keeps-run x p (h .0) s k) (λ a t l g. through-more (keeps-run x (f a) (h .1 a g) t l) (λ b w. tt))
 keeps-run x (test b p q) h s k = through-cond b (through-more (keeps-run x p (h .0) s k) (λ a w. tt)) (through-more (keeps-run x q (h .1) s k) (λ a w. tt))

@@ -30,7 +30,7 @@ use Rattle.proof_book.specs.FrontPage.{Made, CallStep, written, Decides,
 use Rattle.proof_book.specs.FrontPage as page
 use Rattle.proof_book.specs.FrontPageLaws.{demand-3}
 use Rattle.proof_book.specs.SlotsKeptLaws.{lent-is}
-use Rattle.proof_book.specs.Watched.{Seen, watched, slotAt, most, Stored, LentBy, RunLent}
+use Rattle.proof_book.specs.Watched.{WatchedBook, watched, slotAt, most, Stored, LentBy, RunLent}
 use Rattle.proof_book.specs.Watched as watch
 use Rattle.proof_book.specs.WatchedLaws.{clean-stored, true-length}
 use Rattle.proof_book.specs.WatchedRunsLaws.{Claims, agreed, made-agrees, start-agrees}
@@ -62,7 +62,7 @@ taken false m z a q h g x = x
 module _ (e k : ℕ) (packet : List ℕ) where
   -- ---- one call
 
-  module _ (xs : List ℕ) (a : Buf) (m : Made) (n : Machine Answer Pages) (f : Known) (y : Machine Answer Seen) (did : CallStep xs a m)
+  module _ (xs : List ℕ) (a : Buf) (m : Made) (n : Machine Answer Pages) (f : Known) (y : Machine Answer WatchedBook) (did : CallStep xs a m)
       (lent : LentBy e k packet (m .event .call) (machineOf xs a) y (m .event .lent)) where
     abbrev l : Buf
     l = m .event .lent
@@ -122,7 +122,7 @@ module _ (e k : ℕ) (packet : List ℕ) where
 
   -- ---- every list of calls
 
-  each : (ms : List Made) (xs : List ℕ) (a : Buf) {φ ψ : Phase} (n : Machine Answer Pages) (f : Known) (y : Machine Answer Seen)
+  each : (ms : List Made) (xs : List ℕ) (a : Buf) {φ ψ : Phase} (n : Machine Answer Pages) (f : Known) (y : Machine Answer WatchedBook)
       → Ways driverOf book agree calls φ (machineOf xs a .way) (n .way) → Coupling φ a (view xs) (n .st)
       → Ways driverOf (watched e) (agreed e k packet) calls ψ (machineOf xs a .way) (y .way) → Claims e k packet ψ a (view xs) (y .st)
       → page.Calls xs a n ms → RunLent e k packet xs a y ms → AfterEach n ms → LengthsEach n f ms → JoinEach e k packet n f y ms
@@ -140,7 +140,7 @@ module _ (e k : ℕ) (packet : List ℕ) where
       )
 
   -- any bytes, a start-up that rows 1 and 2 do not stop, and then any calls of demand 3's premise and Eight's
-  pub late-arrivals : (c : Config) (b : Buf) → startRow c b ≡ zero → (xs : List ℕ) (a : Buf) (n : Machine Answer Pages) (y : Machine Answer Seen) (first : Made)
+  pub late-arrivals : (c : Config) (b : Buf) → startRow c b ≡ zero → (xs : List ℕ) (a : Buf) (n : Machine Answer Pages) (y : Machine Answer WatchedBook) (first : Made)
       → first .event ≡ record { call = start c; lent = b } → (ms : List Made) → page.Calls xs a n (first ∷ ms)
       → let z = started calls (watched e .driver) (fed (watched e) (first .answer)) c zero y b in
       RunLent e k packet (first .bytes) (first .slots) (z .1) ms → (f : Known)

@@ -7,7 +7,7 @@ use Rattle.state.specs.Driver.{Driver}
 use Rattle.model.specs.Answers.{Answer}
 use Rattle.model.specs.Calls.{Config, Op, calls, startRow}
 use Rattle.model.specs.Machine.{Buf, Call, start, begin, go, question, Event, Machine, fed, misfit, started}
-use Rattle.model.specs.Agree.{After, All, Lawful, Lent, unless}
+use Rattle.model.specs.Agree.{After, All, Lawful, LentAlike, unless}
 use Rattle.machine.specs.Suspended.{driverOf, drive}
 use Rattle.proof_book.specs.Pages.{Pages}
 use Rattle.proof_book.specs.Book.{book}
@@ -28,7 +28,7 @@ granted : (g : Bool) {X : Type 0} → X → unless driverOf book agree calls g X
 granted true x = tt
 granted false x = x
 
-pub lent : (c : Call Config Op) (m : Machine Answer Driver) (n : Machine Answer Pages) → Lent driverOf book agree calls c m n (m .buf)
+pub lent : (c : Call Config Op) (m : Machine Answer Driver) (n : Machine Answer Pages) → LentAlike driverOf book agree calls c m n (m .buf)
 lent (start c) m n = tt
 lent (begin o) m n = granted (cond (calls .slots o) (misfit calls driverOf (m .st) (m .buf)) false) (no-store (n .st) (m .buf))
 lent (go v) m n = granted (misfit calls driverOf (m .st) (m .buf)) (no-store (n .st) (m .buf))

@@ -61,31 +61,31 @@ pub record Comes (z : Bool) (s : Bk) (q : Access) (t : Bk) : Type 0 where
   pub passing : Passing s q t
   pub loads : z ≡ false → Loads q t
 
-abbrev pub Kept : Bk → Bk → Type 0
-Kept s t = Same (s .0) (t .0)
+abbrev pub SentKept : Bk → Bk → Type 0
+SentKept s t = Same (s .0) (t .0)
 
 abbrev pub KeptAt : Bool → Bk → Access → Bk → Type 0
 KeptAt z s q t = releases q ≡ false → Comes z s q t
 
 abbrev pub Onto : {A : Type 0} → Bool → Bk → tree.Out Bk A → Type 0
-Onto z s o = Tracks Any Kept (KeptAt z) s o
+Onto z s o = Tracks Any SentKept (KeptAt z) s o
 
-kept-then : (s t u : Bk) → Kept s t → Kept t u → Kept s u
+kept-then : (s t u : Bk) → SentKept s t → SentKept t u → SentKept s u
 kept-then s t u h k = record { outs = λ e. k .outs e ∙ h .outs e; ins = λ e. k .ins e ∙ h .ins e }
 
-at-then : {z : Bool} (s t u : Bk) (q : Access) → Kept s t → KeptAt z t q u → KeptAt z s q u
+at-then : {z : Bool} (s t u : Bk) (q : Access) → SentKept s t → KeptAt z t q u → KeptAt z s q u
 at-then s t u q h k r =
     let x = k r in record { outs = λ e. x .outs e ∙ h .outs e; passing = passing-then s t u q (h .ins) (x .passing); loads = x .loads }
 
-still : (s : Bk) → Kept s s
+still : (s : Bk) → SentKept s s
 still s = record { outs = λ e. refl; ins = λ e. refl }
 
 -- an access with which no page changes, no transmit address
-kept-at : {z : Bool} {s t : Bk} (q : Access) → ((e : ℕ) → sendsTo q e ≡ false) → Kept s t → KeptAt z s q t
+kept-at : {z : Bool} {s t : Bk} (q : Access) → ((e : ℕ) → sendsTo q e ≡ false) → SentKept s t → KeptAt z s q t
 kept-at q l h r = record { outs = h .outs; passing = still-in q (h .ins); loads = λ _ e k. absurd (true≢false (sym k ∙ l e)) }
 
-after : {z : Bool} {A : Type 0} {s t : Bk} {o : tree.Out Bk A} → Kept s t → Onto z t o → Onto z s o
-after {z} h w = earlier Any Kept (KeptAt z) kept-then at-then h w
+after : {z : Bool} {A : Type 0} {s t : Bk} {o : tree.Out Bk A} → SentKept s t → Onto z t o → Onto z s o
+after {z} h w = earlier Any SentKept (KeptAt z) kept-then at-then h w
 
 -- ---- a script that does so all along
 
@@ -185,7 +185,7 @@ resets (suc (suc (suc n))) h s =
 pub onward : {z : Bool} {A : Type 0} {p : Script false A} → Later z A p → (s : Bk) → Onto z s (run bookOps p s)
 onward k-ret s = end tt (still s)
 onward (k-load {e = e}) s = load-onto e s (some (passed e s .0 .ins e .waiting)) refl
-onward {z} (k-bind h g) s = tracks-bind Any Kept (KeptAt z) kept-then at-then (onward h s) (λ a t _. onward (g a) t)
+onward {z} (k-bind h g) s = tracks-bind Any SentKept (KeptAt z) kept-then at-then (onward h s) (λ a t _. onward (g a) t)
 onward (k-test {b = true} h g) s = onward h s
 onward (k-test {b = false} h g) s = onward g s
 onward (k-read {r = r} {e = e} h) s = ask tt (kept-at (Read r e) (λ _. refl) (still s)) (λ v t _. onward (h v) t)
@@ -233,7 +233,7 @@ of-onto y (ask i m k) = (λ _ h r. m r .loads h, λ v u. k v u tt)
 head-bind : (y : Bool) {z : Bool} {A B : Type 0} (o : tree.Out Bk B) {f : B → Bk → tree.Out Bk A} → Head y z o → ((b : B) (t : Bk) → Onto z t (f b t))
     → Head y z (bindOut o f)
 head-bind y (ends a t) h g = of-onto y (g a t)
-head-bind y {z} (asks q t k) h g = (h .0, λ v u. tracks-bind Any Kept (KeptAt z) kept-then at-then (h .1 v u) (λ a t _. g a t))
+head-bind y {z} (asks q t k) h g = (h .0, λ v u. tracks-bind Any SentKept (KeptAt z) kept-then at-then (h .1 v u) (λ a t _. g a t))
 
 -- the row of a switch after its first access
 module _ (f : ℕ) (on : Bool) where
@@ -244,7 +244,7 @@ module _ (f : ℕ) (on : Bool) where
       by true v x k = subst (λ (w : Bool). Same t (cond w x t)) (sym k) (record { outs = λ e. refl; ins = λ e. refl })
       by false v x k = record { outs = λ e. refl; ins = λ e. refl }
 
-  switch-step : (n : ℕ) (s : Bk) → n < 18 → Kept s (rowB (switch f on) n s .1)
+  switch-step : (n : ℕ) (s : Bk) → n < 18 → SentKept s (rowB (switch f on) n s .1)
   switch-step zero s h = record { outs = λ e. refl; ins = λ e. refl }
   switch-step (suc zero) s h = record { outs = λ e. refl; ins = λ e. refl }
   switch-step (suc (suc zero)) s h = still s

@@ -42,21 +42,21 @@ module _ (x : Ans Answer) where
   halts i o = halt calls (book .driver) (fed book x) i o
 
   -- the pages of all but those named, from t on
-  abbrev Leaves : Names → Pages → Ans Answer × Machine Answer Pages → Type 0
-  Leaves m t y = blankA x ≡ blankA (y .0) → releasing x ≡ false → (d : Dir) (e : ℕ) → Away m d e → SamePage d e t (y .1 .st)
+  abbrev AwayStays : Names → Pages → Ans Answer × Machine Answer Pages → Type 0
+  AwayStays m t y = blankA x ≡ blankA (y .0) → releasing x ≡ false → (d : Dir) (e : ℕ) → Away m d e → SamePage d e t (y .1 .st)
 
-  unchanged : (m : Names) (t : Pages) (y : Ans Answer × Machine Answer Pages) → y .1 .st ≡ t → Leaves m t y
+  unchanged : (m : Names) (t : Pages) (y : Ans Answer × Machine Answer Pages) → y .1 .st ≡ t → AwayStays m t y
   unchanged m t y h s r Out e a = ap (λ (t : Pages). t .outs e) h
   unchanged m t y h s r In e a = ap (λ (t : Pages). t .ins e) h
 
   halted-at : (m : Names) (i : Bool) (s : Bk) (q : Access) (t : Bk) (k : ℕ → Bk → tree.Out Bk Answer) → SparesAt m s q t
-      → Leaves m (s .0) (halts i (asks q t k))
+      → AwayStays m (s .0) (halts i (asks q t k))
   halted-at m i s q t k w same r Out e a =
       fed-out x (t .0) e (addressed-same e x (handed q) same ∙ w .receives e a) ∙ w .pages (releasing-same (handed q) x (sym same) ∙ r) .outs e a
   halted-at m i s q t k w same r In e a =
       fed-in x (t .0) e (sending-same e x (handed q) same ∙ w .transmits e a) ∙ w .pages (releasing-same (handed q) x (sym same) ∙ r) .ins e a
 
-  halted : (m : Names) (i : Bool) (s : Bk) (o : tree.Out Bk Answer) → Spared m s o → Leaves m (s .0) (halts i o)
+  halted : (m : Names) (i : Bool) (s : Bk) (o : tree.Out Bk Answer) → Spared m s o → AwayStays m (s .0) (halts i o)
   halted m i s (ends z t) (end j q) same r Out e a = q .outs e a
   halted m i s (ends z t) (end j q) same r In e a = q .ins e a
   halted m i s (asks q t k) (ask j w g) same r d e a = halted-at m i s q t k w same r d e a
@@ -67,7 +67,7 @@ module _ (x : Ans Answer) where
 
   pub record Goes (c : Call Config Op) (m : Names) (t : Pages) (y : Ans Answer × Machine Answer Pages) : Type 0 where
     pub way : WaySpared (underWay c (y .0) m) (y .1 .way)
-    pub pages : Leaves (callNames c m) t y
+    pub pages : AwayStays (callNames c m) t y
 
   either : (c : Call Config Op) (m : Names) (t : Pages) (u : Bool) (y z : Ans Answer × Machine Answer Pages) → Goes c m t y → Goes c m t z
       → Goes c m t (cond u y z)
@@ -84,12 +84,12 @@ module _ (x : Ans Answer) where
   abbrev entry : Bk → (ℕ → Bk → tree.Out Bk Answer) → Bool → tree.Out Bk Answer
   entry s k u = cond u (asks (Read FrameNo 0) (actB no-wakes s) k) (ends (Refused 4) s)
 
-  entry-leaves : (s : Bk) (k : ℕ → Bk → tree.Out Bk Answer) (u : Bool) → Leaves none (s .0) (halts true (entry s k u))
+  entry-leaves : (s : Bk) (k : ℕ → Bk → tree.Out Bk Answer) (u : Bool) → AwayStays none (s .0) (halts true (entry s k u))
   entry-leaves s k true = halted-at none true s (Read FrameNo 0) (actB no-wakes s) k
       (record { pages = λ _. record { outs = λ e a. refl; ins = λ e a. refl }; receives = λ e a. refl; transmits = λ e a. refl })
   entry-leaves s k false = unchanged none (s .0) (halts true (ends (Refused 4) s)) refl
 
-  begun-pages : (o : Op) (s : Bk) → Leaves (opNames o) (s .0) (halts (calls .irq o) (run bookOps (code o) s))
+  begun-pages : (o : Op) (s : Bk) → AwayStays (opNames o) (s .0) (halts (calls .irq o) (run bookOps (code o) s))
   begun-pages interrupt s = entry-leaves s _ (eqb (s .0 .kept .globals .stage) 2)
   begun-pages (slotted o) s = halted (slottedNames o) false s (run bookOps (code (slotted o)) s) (spare (of-slotted o) s)
   begun-pages (other o) s = halted (otherNames o) false s (run bookOps (code (other o)) s) (spare (of-other o) s)
@@ -100,16 +100,16 @@ module _ (x : Ans Answer) where
     abbrev besides : tree.Out Bk Answer → Ans Answer × Machine Answer Pages
     besides z = beside calls (book .driver) (lentTo calls (book .driver) n b) z
 
-    beside-leaves : (m : Names) (z : tree.Out Bk Answer) → Spared m (n .st, b) z → Leaves m (n .st) (besides z)
+    beside-leaves : (m : Names) (z : tree.Out Bk Answer) → Spared m (n .st, b) z → AwayStays m (n .st) (besides z)
     beside-leaves m (ends a t) (end j q) s r Out e f = q .outs e f
     beside-leaves m (ends a t) (end j q) s r In e f = q .ins e f
     beside-leaves m (asks q t k) w s r d e f = unchanged m (n .st) (besides (asks q t k)) refl s r d e f
 
-    beside-entry : (k : ℕ → Bk → tree.Out Bk Answer) (u : Bool) → Leaves none (n .st) (besides (entry (n .st, b) k u))
+    beside-entry : (k : ℕ → Bk → tree.Out Bk Answer) (u : Bool) → AwayStays none (n .st) (besides (entry (n .st, b) k u))
     beside-entry k true = unchanged none (n .st) (besides (entry (n .st, b) k true)) refl
     beside-entry k false = unchanged none (n .st) (besides (entry (n .st, b) k false)) refl
 
-    beside-pages : (o : Op) → Leaves (opNames o) (n .st) (besides (run bookOps (code o) (n .st, b)))
+    beside-pages : (o : Op) → AwayStays (opNames o) (n .st) (besides (run bookOps (code o) (n .st, b)))
     beside-pages interrupt = beside-entry _ (eqb (n .st .kept .globals .stage) 2)
     beside-pages (slotted o) = beside-leaves (slottedNames o) (run bookOps (code (slotted o)) (n .st, b)) (spare (of-slotted o) (n .st, b))
     beside-pages (other o) = beside-leaves (otherNames o) (run bookOps (code (other o)) (n .st, b)) (spare (of-other o) (n .st, b))

@@ -25,7 +25,7 @@ use Rattle.model.specs.StepsCalls.{call-steps, start-up-steps}
 use Rattle.model.specs.StepsKinds.{Begins, a-read, a-data-out, ep0, none, begins}
 use Rattle.model.specs.StepsRuns.{Holds, end}
 use Rattle.model.specs.StepsRunsLaws.{holds-run}
-use Rattle.model.specs.MachineKept.{Lent, Preserves}
+use Rattle.model.specs.MachineKept.{LentKeeps, Preserves}
 use Rattle.model.specs.MachineKept as machine
 use Rattle.model.specs.MachineKeptLaws as machine-laws
 use Rattle.model_ops.specs.Records.{plainOf}
@@ -53,11 +53,11 @@ named-taken e d s h =
     rw z (s .taken Out e ∙ right (ltb 0 e && ltb e 16) (isSet (d .allocator .«allocated_out») e) h)
 
 -- a read's begin (rows 4, 5, 9 and 10)
-begin-read : (e n : ℕ) (s : St) → ReadRoom (s .0) → Holds (Lent ReadRoom) (run {i = false} concrete (beginRead e n) s)
+begin-read : (e n : ℕ) (s : St) → ReadRoom (s .0) → Holds (LentKeeps ReadRoom) (run {i = false} concrete (beginRead e n) s)
 begin-read e n s b = staged-by s b (eqb (s .0 .globals .stage) 2)
   where
     most-by : (s : St) → ReadRoom (s .0) → isSet (takenIn (s .0 .allocator) Out) (e % 16) ≡ true → (u : Bool) → ltb n (epOn (s .0) Out e .«max_len») ≡ u
-        → Holds (Lent ReadRoom)
+        → Holds (LentKeeps ReadRoom)
         (run {i = false} concrete (unless u 10 (put (request-cell Out e) (begun n) >> resultless (arm-read e (plainOf (epOn (s .0) Out e))))) s)
     most-by s b t true h = end b
     most-by s b t false h =
@@ -66,21 +66,21 @@ begin-read e n s b = staged-by s b (eqb (s .0 .globals .stage) 2)
         (put-out e (begun n) (λ _. (t, ltb-false n (epOn (s .0) Out e .«max_len») h)) b)
 
     enabled-by : (s : St) → ReadRoom (s .0) → isSet (takenIn (s .0 .allocator) Out) (e % 16) ≡ true → (u : Bool)
-        → Holds (Lent ReadRoom)
+        → Holds (LentKeeps ReadRoom)
         (run {i = false} concrete (test u (bind (get (ep-cell Out e))
         (λ p. unless (ltb n (p .«max_len»)) 10 (put (request-cell Out e) (begun n) >> resultless (arm-read e p)))) (ret (Refused 9))) s)
     enabled-by s b t true = most-by s b t (ltb n (epOn (s .0) Out e .«max_len»)) refl
     enabled-by s b t false = end b
 
     named-by : (s : St) → ReadRoom (s .0) → (u : Bool) → isAllocated (s .0 .allocator) Out e ≡ u
-        → Holds (Lent ReadRoom)
+        → Holds (LentKeeps ReadRoom)
         (run {i = false} concrete (test u (enabled-else Out e (ret (Refused 9)) (bind (get (ep-cell Out e))
         (λ p. unless (ltb n (p .«max_len»)) 10 (put (request-cell Out e) (begun n) >> resultless (arm-read e p))))) (ret (Refused 5))) s)
     named-by s b true h = enabled-by s b (named-taken e (s .0) (b .sound) h) (enables.isOn (s .0 .globals .«ep_config») Out e)
     named-by s b false h = end b
 
     staged-by : (s : St) → ReadRoom (s .0) → (u : Bool)
-        → Holds (Lent ReadRoom)
+        → Holds (LentKeeps ReadRoom)
         (run {i = false} concrete (test u (named Out e (enabled-else Out e (ret (Refused 9)) (bind (get (ep-cell Out e))
         (λ p. unless (ltb n (p .«max_len»)) 10 (put (request-cell Out e) (begun n) >> resultless (arm-read e p)))))) (ret (Refused 4))) s)
     staged-by s b true = named-by s b (isAllocated (s .0 .allocator) Out e) refl
@@ -88,7 +88,7 @@ begin-read e n s b = staged-by s b (eqb (s .0 .globals .stage) 2)
 
 -- ---- every call
 
-keeps-room : {o : Op} → Begins o → (s : St) → ReadRoom (s .0) → Holds (Lent ReadRoom) (run concrete (code o) s)
+keeps-room : {o : Op} → Begins o → (s : St) → ReadRoom (s .0) → Holds (LentKeeps ReadRoom) (run concrete (code o) s)
 keeps-room (a-read e n) s b = begin-read e n s b
 keeps-room (a-data-out n first) s b =
     holds-run (room-keeps receiving refl) (code (other (BeginDataOut n first))) (call-steps (other (BeginDataOut n first))) s b
@@ -109,11 +109,11 @@ preserved = record {
 }
 
 -- at each call, and in what is under way
-abbrev pub Kept : Machine Answer Driver → Type 0
-Kept m = machine.Kept ReadRoom m
+abbrev pub RoomKept : Machine Answer Driver → Type 0
+RoomKept m = machine.MachineKeeps ReadRoom m
 
-pub start-kept : (c : Config) (m : Machine Answer Driver) (b : Buf) → startRow c b ≡ zero → Kept (started calls driverOf (λ s. s) c zero m b .1)
+pub start-kept : (c : Config) (m : Machine Answer Driver) (b : Buf) → startRow c b ≡ zero → RoomKept (started calls driverOf (λ s. s) c zero m b .1)
 start-kept c m b row = machine-laws.start-kept preserved c m b row
 
-pub steps : (c : Call Config Op) (m : Machine Answer Driver) → Kept m → (b : Buf) → Kept (drive c m b .1)
+pub steps : (c : Call Config Op) (m : Machine Answer Driver) → RoomKept m → (b : Buf) → RoomKept (drive c m b .1)
 steps c m k b = machine-laws.call-kept preserved c m k b

@@ -9,7 +9,7 @@ use Rattle.model.specs.Statics.{isOn}
 use Rattle.model.specs.Steps.{Kind, reading, is, mayPut}
 use Rattle.model.specs.StepsRuns.{Keeps}
 use Rattle.model.specs.StepsRunsLaws.{or-else}
-use Rattle.model.specs.MachineKept.{Lent}
+use Rattle.model.specs.MachineKept.{LentKeeps}
 use Rattle.model_ops.specs.Rings.{St}
 use Rattle.model_ops.specs.Concrete.{concrete}
 use Rattle.proof_book.specs.LeavesLaws.{hand-leaves, rings-stay, put-stays, turnsRow, row-stays}
@@ -28,7 +28,7 @@ module _ (k : Kind) (other : is k reading ≡ false) where
       put-out e v (λ z. absurd (true≢false (sym z ∙ ap isOn ended ∙ off))) b
   puts (paced-cell e) v h s b = room-stays false (put-stays (paced-cell e) refl v s) b
 
-  pub room-keeps : Keeps concrete (Lent ReadRoom) k
+  pub room-keeps : Keeps concrete (LentKeeps ReadRoom) k
   room-keeps = record {
     put = puts;
     act = λ q _ s b. act-room q s b;

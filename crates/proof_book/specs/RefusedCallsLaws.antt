@@ -22,36 +22,36 @@ refused (handed q) = false
 refused (told k) = false
 
 module _ (a : Ans Answer) (n : Machine Answer Pages) (b : Buf) where
-  abbrev Leaves : Ans Answer × Machine Answer Pages → Type 0
-  Leaves y = refused (y .0) ≡ true → Same (n .st) (y .1 .st)
+  abbrev RefusedSame : Ans Answer × Machine Answer Pages → Type 0
+  RefusedSame y = refused (y .0) ≡ true → Same (n .st) (y .1 .st)
 
-  stays : (m : Machine Answer Pages) (r : ℕ) → m .st ≡ n .st → Leaves (stay calls (book .driver) r m)
+  stays : (m : Machine Answer Pages) (r : ℕ) → m .st ≡ n .st → RefusedSame (stay calls (book .driver) r m)
   stays m r h k = record { outs = λ e. ap (λ (t : Pages). t .outs e) h; ins = λ e. ap (λ (t : Pages). t .ins e) h }
 
-  halts : (i : Bool) (s : Bk) → s .0 ≡ n .st → (o : tree.Out Bk Answer) → Tells isNo s o → Leaves (halt calls (book .driver) (fed book a) i o)
+  halts : (i : Bool) (s : Bk) → s .0 ≡ n .st → (o : tree.Out Bk Answer) → Tells isNo s o → RefusedSame (halt calls (book .driver) (fed book a) i o)
   halts i s g (ends z t) (t-end h) k = let y = h k in
       record { outs = λ e. y .outs e ∙ ap (λ (t : Pages). t .outs e) g; ins = λ e. y .ins e ∙ ap (λ (t : Pages). t .ins e) g }
   halts i s g (asks q t f) h k = absurd (true≢false (sym k))
 
-  besides : (o : tree.Out Bk Answer) → Tells isNo (n .st, b) o → Leaves (beside calls (book .driver) (lentTo calls (book .driver) n b) o)
+  besides : (o : tree.Out Bk Answer) → Tells isNo (n .st, b) o → RefusedSame (beside calls (book .driver) (lentTo calls (book .driver) n b) o)
   besides (ends z t) (t-end h) k = h k
   besides (asks q t f) h k = stays (lentTo calls (book .driver) n b) 3 refl k
 
-  either : (u : Bool) (x y : Ans Answer × Machine Answer Pages) → Leaves x → Leaves y → Leaves (cond u x y)
+  either : (u : Bool) (x y : Ans Answer × Machine Answer Pages) → RefusedSame x → RefusedSame y → RefusedSame (cond u x y)
   either true x y h g = h
   either false x y h g = g
 
-  begins : (o : Op) (w : Way Answer Pages) → Leaves (begun calls (book .driver) (fed book a) o n w b)
+  begins : (o : Op) (w : Way Answer Pages) → RefusedSame (begun calls (book .driver) (fed book a) o n w b)
   begins o idle = halts (calls .irq o) (n .st, b) refl (run bookOps (calls .code o) (n .st, b)) (call-tells o (n .st, b))
   begins o (busy i q k) = either (cond i (calls .aside o) false) _ _
       (besides (run bookOps (calls .code o) (n .st, b)) (call-tells o (n .st, b))) (stays (lentTo calls (book .driver) n b) 3 refl)
 
-  goes : Fine n → (v : ℕ) (w : Way Answer Pages) → WayFine w → Leaves (continued calls (book .driver) (fed book a) v n w b)
+  goes : Fine n → (v : ℕ) (w : Way Answer Pages) → WayFine w → RefusedSame (continued calls (book .driver) (fed book a) v n w b)
   goes h v idle g = stays (lentTo calls (book .driver) n b) 15 refl
   goes h v (busy i q k) g = either (over calls q v) _ _ (stays (lentTo calls (book .driver) n b) 16 refl)
       (halts i (n .st, b) refl (k v (n .st, b)) (g v (n .st, b) (h .pages) .2))
 
-  starts : (c : Config) (r : ℕ) → Leaves (started calls (book .driver) (fed book a) c r n b)
+  starts : (c : Config) (r : ℕ) → RefusedSame (started calls (book .driver) (fed book a) c r n b)
   starts c zero = halts false (n .st, b) refl (run bookOps (starting c) (freshPages c, b)) (start-tells c (n .st, b) (freshPages c, b))
   starts c (suc r) = stays n (suc r) refl
 
@@ -61,7 +61,7 @@ module _ (a : Ans Answer) (n : Machine Answer Pages) (b : Buf) where
   NoStart (go v) = Fine n
   NoStart (question q) = Fine n
 
-  call-leaves : (c : Call Config Op) → NoStart c → Leaves (written a c n b)
+  call-leaves : (c : Call Config Op) → NoStart c → RefusedSame (written a c n b)
   call-leaves (start c) h = starts c (startRow c b)
   call-leaves (begin o) h = either (cond (calls .slots o) (misfit calls (book .driver) (n .st) b) false) _ _ (stays n 1 refl) (begins o (n .way))
   call-leaves (go v) h = either (misfit calls (book .driver) (n .st) b) _ _ (stays n 1 refl) (goes h v (n .way) (h .way))

@@ -33,7 +33,7 @@ use Rattle.proof_book.specs.Pages.{OutPage, InPage, Pages}
 use Rattle.proof_book.specs.Book.{emptyOut, emptyIn, allReset}
 use Rattle.proof_book.specs.Coupling.{SameKept, lensOf, slotStamps, Held, OutFits, InFits, Coupling}
 use Rattle.proof_book.specs.LensLaws.{ep-mod, key-other}
-use Rattle.proof_book.specs.FrameLaws.{Rest, restOf, Keeps, rebuilt, changed-on, out-moved, in-moved}
+use Rattle.proof_book.specs.FrameLaws.{Rest, restOf, SamePlaces, rebuilt, changed-on, out-moved, in-moved}
 use Rattle.proof_book.specs.EmptyPagesLaws.{empty-out, empty-in}
 use Rattle.proof_book.specs.ChipsLaws.{armed-or}
 use Rattle.proof_book.specs.StepsLaws.{RowStep, phase-changed, globals-changed, none-enabled}
@@ -136,7 +136,7 @@ module _ {b : Buf} {d : Driver} {t : Pages} (R : Coupling (mid bus-reset 1) b d 
   unfolding resetAll noStamps
   all-globals = ap (λ (g : Globals). withSetup 0 (g .«setup_low») (g .«setup_high») g) below-globals
 
-  all-keeps : Keeps d (resetAll d)
+  all-keeps : SamePlaces d (resetAll d)
   unfolding resetAll noStamps
   all-keeps = record {
     sized = record {

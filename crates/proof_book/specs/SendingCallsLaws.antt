@@ -34,7 +34,7 @@ use Rattle.proof_book.specs.FrontPage.{written, EmptiedIn, slotSize, Bei
 use Rattle.proof_book.specs.BookTracksLaws.{end, ask}
 use Rattle.proof_book.specs.InterruptPartsLaws.{of-interrupt}
 use Rattle.proof_book.specs.ReleasesLaws.{mayQueue, of-slotted, of-other, of-aside, of-starting}
-use Rattle.proof_book.specs.SendingPagesLaws.{Orderly, Alike, alike-empty, Going, keeps, empties}
+use Rattle.proof_book.specs.SendingPagesLaws.{Orderly, SameButLoad, alike-empty, Going, keeps, empties}
 use Rattle.proof_book.specs.SendingPagesLaws.{Follows, orderly-with, never, none-left}
 use Rattle.proof_book.specs.SendingPagesLaws as pages-of
 use Rattle.proof_book.specs.SendingStepsLaws.{spot, Goes, Within, Asked, Followed, follow, follow-parts}
@@ -72,18 +72,18 @@ stays-put : {t : Pages} → Fates t t
 stays-put e s = goes (record { sending = s; shown = refl; place = refl; size = refl })
 
 -- the access told changes a source alone
-pub fed-alike : (a : Ans Answer) (t : Pages) → Orderly t → (e : ℕ) → Alike (t .ins e) (fed book a t .ins e)
-fed-alike a t i e = fed-elim (λ u. Alike (t .ins e) (u .ins e)) a t refl
+pub fed-alike : (a : Ans Answer) (t : Pages) → Orderly t → (e : ℕ) → SameButLoad (t .ins e) (fed book a t .ins e)
+fed-alike a t i e = fed-elim (λ u. SameButLoad (t .ins e) (u .ins e)) a t refl
     (λ f x _. refl)
-    (λ f x _. at-elim (λ (p : InPage). Alike (t .ins e) p) f e (sourceTold (t .ins f) x) (t .ins)
-    (λ m. subst (λ (p : InPage). Alike p (sourceTold (t .ins f) x)) (i .periodic f e (sym m)) refl) (λ _. refl))
+    (λ f x _. at-elim (λ (p : InPage). SameButLoad (t .ins e) p) f e (sourceTold (t .ins f) x) (t .ins)
+    (λ m. subst (λ (p : InPage). SameButLoad p (sourceTold (t .ins f) x)) (i .periodic f e (sym m)) refl) (λ _. refl))
 
 fed-orderly : (a : Ans Answer) (t : Pages) → Orderly t → Orderly (fed book a t)
 fed-orderly a t i = fed-elim Orderly a t i
     (λ f x _. record { periodic = i .periodic; bases = i .bases; loads = i .loads })
     (λ f x _. orderly-with t f (sourceTold (t .ins f) x) (i .loads f) i)
 
-fate-alike : {e : ℕ} {s t u : Pages} → Alike (t .ins e) (u .ins e) → u .kept ≡ t .kept → Fate e s t → Fate e s u
+fate-alike : {e : ℕ} {s t u : Pages} → SameButLoad (t .ins e) (u .ins e) → u .kept ≡ t .kept → Fate e s t → Fate e s u
 fate-alike {e} {t = t} {u = u} h k (goes g) =
     let n : u .ins e .turn ≡ t .ins e .turn = ap (λ (q : InPage). q .turn) h in
     let w : u .ins e .waiting ≡ t .ins e .waiting = ap (λ (q : InPage). q .waiting) h in

@@ -23,7 +23,7 @@ pub record Orderly (t : Pages) : Type 0 where
 -- ---- one page
 
 -- the packet being sent is being sent still
-pub record Keeps (p p′ : InPage) : Type 0 where
+pub record SendingStill (p p′ : InPage) : Type 0 where
   pub sending : p′ .sending ≡ true
   pub shown : p′ .shown ≡ p .shown
   pub waiting : p′ .waiting ≡ p .waiting
@@ -32,7 +32,7 @@ pub record Keeps (p p′ : InPage) : Type 0 where
 
 -- P: of a page on which none is being sent, or none is known to be
 pub data Going (P : InPage → Type 0) (p p′ : InPage) : Type 0 where
-  keeps : Keeps p p′ → Going P p p′
+  keeps : SendingStill p p′ → Going P p p′
   passes : p′ .passed ≡ p .passed ++ front (p .waiting) → P p′ → Going P p p′
   empties : EmptiedIn p′ → Going P p p′
 
@@ -59,7 +59,7 @@ turns-then {P} {p} {q} {r} h k = record {
   empty = λ x. k .empty (h .empty x);
 }
   where
-    going-keeps : Keeps p q → Going P q r → Going P p r
+    going-keeps : SendingStill p q → Going P q r → Going P p r
     going-keeps x (keeps y) = keeps (record {
       sending = y .sending;
       shown = y .shown ∙ x .shown;
@@ -88,10 +88,10 @@ turns-then {P} {p} {q} {r} h k = record {
     resting-then (emptied x) = emptied (k .empty x)
 
 -- the same page, but for whether the address told last is a load's, and which it is
-abbrev pub Alike : InPage → InPage → Type 0
-Alike p p′ = p′ ≡ withSending p (p .sending) (p′ .load) (p′ .source) (p .shown)
+abbrev pub SameButLoad : InPage → InPage → Type 0
+SameButLoad p p′ = p′ ≡ withSending p (p .sending) (p′ .load) (p′ .source) (p .shown)
 
-pub alike-empty : {p p′ : InPage} → Alike p p′ → EmptiedIn p → EmptiedIn p′
+pub alike-empty : {p p′ : InPage} → SameButLoad p p′ → EmptiedIn p → EmptiedIn p′
 alike-empty h x = record {
   waiting = ap (λ (q : InPage). q .waiting) h ∙ x .waiting;
   sending = ap (λ (q : InPage). q .sending) h ∙ x .sending;
@@ -100,7 +100,7 @@ alike-empty h x = record {
   passed = ap (λ (q : InPage). q .passed) h ∙ x .passed;
 }
 
-turns-alike : {p p′ : InPage} → Alike p p′ → Turns Unsent p p′
+turns-alike : {p p′ : InPage} → SameButLoad p p′ → Turns Unsent p p′
 turns-alike {p} {p′} h =
     let s : p′ .sending ≡ p .sending = ap (λ (q : InPage). q .sending) h in
     let o : p′ .passed ≡ p .passed = ap (λ (q : InPage). q .passed) h in

@@ -191,23 +191,23 @@ abbrev pub Asked : Bool → Pages → Pages → Type 0
 Asked true t t′ = Stays t t′
 Asked false t t′ = Follows Either t t′
 
-record Step (u : Bool) (t t′ : Pages) : Type 0 where
+record SendingStep (u : Bool) (t t′ : Pages) : Type 0 where
   orderly : Orderly t′
   within : Within u t t′
 
-calm-step : (u : Bool) {t t′ : Pages} → Orderly t → Calm t t′ → Step u t t′
+calm-step : (u : Bool) {t t′ : Pages} → Orderly t → Calm t t′ → SendingStep u t t′
 calm-step true i c = record { orderly = calm-orderly i c; within = calm-stays c }
 calm-step false i c = record { orderly = calm-orderly i c; within = calm-done i c .follows }
 
-done-step : {t t′ : Pages} → Done Unsent t t′ → Step false t t′
+done-step : {t t′ : Pages} → Done Unsent t t′ → SendingStep false t t′
 done-step h = record { orderly = h .orderly; within = h .follows }
 
 room-step : (t : Pages) → Orderly t → (f : ℕ) (bytes : List ℕ) (v : Bool) (b b′ : Buf)
-    → Step true t (cond {A = Bk} v (withIn t f (queuedIn (t .ins f) bytes), b′) (t, b) .0)
+    → SendingStep true t (cond {A = Bk} v (withIn t f (queuedIn (t .ins f) bytes), b′) (t, b) .0)
 room-step t i f bytes true b b′ = record { orderly = orderly-with t f (queuedIn (t .ins f) bytes) (i .loads f) i; within = queued-stays t i f bytes }
 room-step t i f bytes false b b′ = calm-step true i calm
 
-acts : (u : Bool) (q : Act) → suits u q ≡ true → (s : Bk) → Orderly (s .0) → Step u (s .0) (actB q s .0)
+acts : (u : Bool) (q : Act) → suits u q ≡ true → (s : Bk) → Orderly (s .0) → SendingStep u (s .0) (actB q s .0)
 acts true (complete f) h s i = never h
 acts false (complete f) h s i = done-step (with-page (λ p. turns-refl) (s .0) f (passedIn (s .0 .ins f)) never (passed-turns (s .0 .ins f)) i)
 acts true (reset-ring d f) h s i = never h

@@ -18,7 +18,7 @@ use Rattle.model.specs.Statics.{isOn}
 use Rattle.model.specs.Answers.{Answer}
 use Rattle.model.specs.Calls.{Config, Op, calls}
 use Rattle.model.specs.Machine.{Buf, Call, start, begin, go, question, misfit, Machine, Ans, ended, handed, told}
-use Rattle.model.specs.Agree.{After, GoodA, Lent, unless}
+use Rattle.model.specs.Agree.{After, GoodA, LentAlike, unless}
 use Rattle.machine.specs.Suspended.{driverOf}
 use Rattle.proof_book.specs.Pages.{Pages}
 use Rattle.proof_book.specs.Book.{book}
@@ -87,7 +87,7 @@ module _ {φ : Phase} (m : Machine Answer Driver) (n : Machine Answer Pages) (R 
       by true p = tt
       by false p = p
 
-  pub lent-is : (c : Call Config Op) → LentAsLeft c n (m .buf) b → Lent driverOf book agree calls c m n b
+  pub lent-is : (c : Call Config Op) → LentAsLeft c n (m .buf) b → LentAlike driverOf book agree calls c m n b
   lent-is (start c) p = tt
   lent-is (begin o) p = lent-as (λ u. cond (calls .slots o) u false) p
   lent-is (go v) p = lent-as (λ u. u) p

@@ -43,7 +43,7 @@ use Rattle.proof_book.specs.SlotsKeptLaws.{lent-is}
 use Rattle.proof_book.specs.KeepingLaws.{Throughout, at-end, at-ask, At, keeps-run}
 use Rattle.proof_book.specs.EnteredLaws.{of-interrupt, of-aside}
 use Rattle.proof_book.specs.Stamping.{First, not-yet, brought, firstOf, noticed, OneMore, Stamping, StampsEach, StampsMade}
-use Rattle.proof_book.specs.StampingScriptsLaws.{Even, Kept, Stays, Joins, Either, Grows, ends-so, asks-so, grows-from, grows-bind, grows-run}
+use Rattle.proof_book.specs.StampingScriptsLaws.{Even, StampsKept, Stays, Joins, Either, Grows, ends-so, asks-so, grows-from, grows-bind, grows-run}
 
 abbrev Any : Answer → Type 0
 Any a = Unit {0}
@@ -53,7 +53,7 @@ abbrev Serves : First → Way Answer Pages → Driver → Type 0
 Serves f idle d = Unit {0}
 Serves f (busy false a k) d = Unit {0}
 Serves not-yet (busy true a k) d = (v : ℕ) (u : Bk) → Even (u .0) → Grows (indexOf v) Any u (k v u)
-Serves (brought w) (busy true a k) d = (d .globals .entered ≡ indexOf w) × ((v : ℕ) (u : Bk) → Kept (indexOf w) u → Grows (indexOf w) Any u (k v u))
+Serves (brought w) (busy true a k) d = (d .globals .entered ≡ indexOf w) × ((v : ℕ) (u : Bk) → StampsKept (indexOf w) u → Grows (indexOf w) Any u (k v u))
 
 -- as it begins
 abbrev Begins : Ans Answer → First → Driver → tree.Out Bk Answer → Type 0
@@ -89,7 +89,7 @@ stamps-mod d e f h = ap (λ j. stamped (getD (d .eps) j noEp) (tab 16 (λ i. get
 even-of : {φ : Phase} {b : Buf} {d : Driver} {t : Pages} → Coupling φ b d t → Even t
 even-of {d = d} R e f h = sym (R .outs e .stamps) ∙ stamps-mod d e f h ∙ R .outs f .stamps
 
-kept-of : {φ : Phase} {b : Buf} {d : Driver} {t : Pages} {x : ℕ} → Coupling φ b d t → d .globals .entered ≡ x → (c : Buf) → Kept x (t, c)
+kept-of : {φ : Phase} {b : Buf} {d : Driver} {t : Pages} {x : ℕ} → Coupling φ b d t → d .globals .entered ≡ x → (c : Buf) → StampsKept x (t, c)
 kept-of R h c = record { entered = sym (ap (λ (g : Globals). g .entered) (R .same .globals)) ∙ h; even = even-of R }
 
 -- one more, where it joined
@@ -275,7 +275,7 @@ module _ (x : Ans Answer) (f : First) (t : Pages) (d : Driver) where
   start-serves c b m n h zero = tt
   start-serves c b m n h (suc r) = h
 
-record Step (c : Call Config Op) (w : Way Answer Driver) (d : Driver) (f : First) (x : Ans Answer × Machine Answer Driver)
+record StampingStep (c : Call Config Op) (w : Way Answer Driver) (d : Driver) (f : First) (x : Ans Answer × Machine Answer Driver)
     (y : Ans Answer × Machine Answer Pages) : Type 0 where
   serves : Serves f (y .1 .way) (x .1 .st)
   stamps : Stamping c w f d (x .1 .st)
@@ -285,7 +285,7 @@ step : (c : Call Config Op) (b : Buf) {φ : Phase} (w : Way Answer Driver) (d : 
     (f : First) → Ways driverOf book agree calls φ w w′ → Coupling φ a d t → Serves f w′ d
     → let x = drive c (record { way = w; st = d; buf = a }) b in
     let y = written (x .0) c (record { way = w′; st = t; buf = a′ }) b in
-    After driverOf book agree calls x y → Step c w d (noticed c (y .0) f) x y
+    After driverOf book agree calls x y → StampingStep c w d (noticed c (y .0) f) x y
 step (start c) b w d a w′ t a′ f v R h k =
     record {
       serves = start-serves (drive (start c) (record { way = w; st = d; buf = a }) b .0) f t d c b (record { way = w; st = d; buf = a })
@@ -319,11 +319,11 @@ one : (c : Call Config Op) (b : Buf) {φ : Phase} (m : Machine Answer Driver) (n
     → Ways driverOf book agree calls φ (m .way) (n .way) → Coupling φ (m .buf) (m .st) (n .st) → Serves f (n .way) (m .st)
     → let x = drive c m b in
     let y = written (x .0) c n b in
-    After driverOf book agree calls x y → Step c (m .way) (m .st) (noticed c (x .0) f) x y
+    After driverOf book agree calls x y → StampingStep c (m .way) (m .st) (noticed c (x .0) f) x y
 one c b m n f w R h k =
     let x = drive c m b in
     let y = written (x .0) c n b in
-    subst (λ g. Step c (m .way) (m .st) g x y) (noticed-same c f (y .0) (x .0) (sym (k .same)))
+    subst (λ g. StampingStep c (m .way) (m .st) g x y) (noticed-same c f (y .0) (x .0) (sym (k .same)))
     (step c b (m .way) (m .st) (m .buf) (n .way) (n .st) (n .buf) f w R h k)
 
 each : (es : List (Event Config Op)) {φ : Phase} (m : Machine Answer Driver) (n : Machine Answer Pages) (f : First)
@@ -356,7 +356,7 @@ made-each (m ∷ ms) xs a n f w R h r =
     let b = m .event .lent in
     let k = agrees driverOf book agree calls fresh-kept c b (machineOf xs a) n w R (lent-is (machineOf xs a) n R b c (r .1)) in
     let z = subst (λ (x : Ans Answer × Machine Answer Driver). After driverOf book agree calls x (written (x .0) c n b)
-    × Step c (machineOf xs a .way) (view xs) (noticed c (x .0) f) x (written (x .0) c n b)) (sym (r .0))
+    × StampingStep c (machineOf xs a .way) (view xs) (noticed c (x .0) f) x (written (x .0) c n b)) (sym (r .0))
     (k, one c b (machineOf xs a) n f w R h k) in
     (z .1 .stamps, made-each ms (m .bytes) (m .slots) _ _ (z .0 .ways) (z .0 .rest) (z .1 .serves) (r .2))
 

@@ -19,7 +19,7 @@ use Rattle.model.specs.Script.{complete, reset-ring, set-enabled, fill, fill0, 
 use Rattle.model.specs.Script.{enqueue, allocate, allocate0, no-wakes, waken, DmaStep, arrive, send, place, place0}
 use Rattle.proof_book.specs.Pages.{Packet, stampsOf, OutPage, Pages, withOut}
 use Rattle.proof_book.specs.Book.{Bk, joined, overrun, arrived, packetB, getB, putB, actB, handB, arriveB, receiving, bookOps}
-use Rattle.proof_book.specs.KeepingLaws.{Says, Gives, Keeps, calm}
+use Rattle.proof_book.specs.KeepingLaws.{Says, Gives, ChangesOnly, calm}
 
 -- ---- the book, from a call's beginning to its next access or its end
 
@@ -30,7 +30,7 @@ stampsB t e = stampsOf (t .outs e .waiting)
 abbrev pub Even : Pages → Type 0
 Even t = (e f : ℕ) → e % 16 ≡ f % 16 → stampsB t e ≡ stampsB t f
 
-pub record Kept (x : ℕ) (s : Bk) : Type 0 where
+pub record StampsKept (x : ℕ) (s : Bk) : Type 0 where
   pub entered : s .0 .kept .globals .entered ≡ x
   pub even : Even (s .0)
 
@@ -42,9 +42,9 @@ Joins x t u = (e : ℕ) → (stampsB u e ≡ stampsB t e) ⊎ (stampsB u e ≡ s
 
 -- from s on: at an access one packet of each endpoint at most has joined, with stamp x; at the end none has
 pub data Grows (x : ℕ) {A : Type 0} (P : A → Type 0) : Bk → tree.Out Bk A → Type 0 where
-  ends-so : {s : Bk} {a : A} {t : Bk} → Stays (s .0) (t .0) → Kept x t → P a → Grows x P s (ends a t)
+  ends-so : {s : Bk} {a : A} {t : Bk} → Stays (s .0) (t .0) → StampsKept x t → P a → Grows x P s (ends a t)
   asks-so : {s : Bk} {q : Access} {t : Bk} {k : ℕ → Bk → tree.Out Bk A} → Joins x (s .0) (t .0) → t .0 .kept .globals .entered ≡ x
-      → ((v : ℕ) (u : Bk) → Kept x u → Grows x P u (k v u)) → Grows x P s (asks q t k)
+      → ((v : ℕ) (u : Bk) → StampsKept x u → Grows x P u (k v u)) → Grows x P s (asks q t k)
 
 joins-from : (x : ℕ) (s t u : Pages) → Stays s t → Joins x t u → Joins x s u
 joins-from x s t u h j e = ⊎-elim (λ p. inl (p ∙ h e)) (λ p. inr (p ∙ ap (λ (l : List ℕ). l ++ (x ∷ [])) (h e))) (j e)
@@ -59,7 +59,7 @@ module _ {x : ℕ} where
   grows-from {s = s} {t = t} h (asks-so {t = u} g k f) = asks-so (joins-from x (s .0) (t .0) (u .0) h g) k f
 
   pub grows-bind : {A B : Type 0} {P : A → Type 0} {Q : B → Type 0} {s : Bk} {o : tree.Out Bk A} {f : A → Bk → tree.Out Bk B}
-      → Grows x P s o → ((a : A) (t : Bk) → Kept x t → P a → Grows x Q t (f a t)) → Grows x Q s (bindOut o f)
+      → Grows x P s o → ((a : A) (t : Bk) → StampsKept x t → P a → Grows x Q t (f a t)) → Grows x Q s (bindOut o f)
   grows-bind (ends-so h k p) f = grows-from h (f _ _ k p)
   grows-bind (asks-so h k g) f = asks-so h k (λ v u l. grows-bind (g v u l) f)
 
@@ -69,7 +69,7 @@ module _ {x : ℕ} where
 
 -- ---- the book's operations
 
-get-says : (x : ℕ) (c : Cell) (s : Bk) → Kept x s → Says x c (getB c s)
+get-says : (x : ℕ) (c : Cell) (s : Bk) → StampsKept x s → Says x c (getB c s)
 get-says x globals-cell s k = k .entered
 get-says x control-cell s k = tt
 get-says x allocator-cell s k = tt
@@ -85,7 +85,7 @@ put-stays (ep-cell d f) v s e = refl
 put-stays (request-cell d f) v s e = refl
 put-stays (paced-cell f) v s e = refl
 
-put-kept : (x : ℕ) (c : Cell) (v : Val c) (s : Bk) → Says x c v → Even (s .0) → (globals-kept : s .0 .kept .globals .entered ≡ x) → Kept x (putB c v s)
+put-kept : (x : ℕ) (c : Cell) (v : Val c) (s : Bk) → Says x c v → Even (s .0) → (globals-kept : s .0 .kept .globals .entered ≡ x) → StampsKept x (putB c v s)
 put-kept x globals-cell v s h z k = record { entered = h; even = z }
 put-kept x control-cell v s h z k = record { entered = k; even = z }
 put-kept x allocator-cell v s h z k = record { entered = k; even = z }
@@ -108,7 +108,7 @@ act-stays (allocate0 maximum) h s e = absurd (true≢false (sym h))
 act-stays no-wakes h s e = refl
 act-stays (waken codes) h s e = refl
 
-act-kept : (x : ℕ) (q : Act) → calm q ≡ true → (s : Bk) → Kept x s → Kept x (actB q s)
+act-kept : (x : ℕ) (q : Act) → calm q ≡ true → (s : Bk) → StampsKept x s → StampsKept x (actB q s)
 act-kept x (complete f) h s k = record { entered = k .entered; even = k .even }
 act-kept x (reset-ring d f) h s k = absurd (true≢false (sym h))
 act-kept x (set-enabled d f on) h s k = absurd (true≢false (sym h))
@@ -127,7 +127,7 @@ abbrev pub Either : ℕ → Pages → ℕ → List ℕ → Type 0
 Either x t f l = (l ≡ stampsB t f) ⊎ (l ≡ stampsB t f ++ (x ∷ []))
 
 -- an arrival joins with the index that is kept, or is turned away
-arrive-joins : (x e n : ℕ) (s : Bk) → Kept x s → Joins x (s .0) (arriveB e n s)
+arrive-joins : (x e n : ℕ) (s : Bk) → StampsKept x s → Joins x (s .0) (arriveB e n s)
 arrive-joins x e n s k f = by (receiving (s .0) e)
   where
     p : OutPage
@@ -149,7 +149,7 @@ arrive-joins x e n s k f = by (receiving (s .0) e)
     by true = here (eqb (f % 16) (e % 16)) refl
     by false = inl refl
 
-hand-joins : (x : ℕ) (q : DmaStep) (s : Bk) → Kept x s → Joins x (s .0) (handB q s .1 .0)
+hand-joins : (x : ℕ) (q : DmaStep) (s : Bk) → StampsKept x s → Joins x (s .0) (handB q s .1 .0)
 hand-joins x (arrive e n) s k = arrive-joins x e n s k
 hand-joins x (send e) s k = λ f. inl refl
 hand-joins x (place Out e) s k = λ f. inl refl
@@ -169,7 +169,7 @@ hand-entered place0 s = refl
 
 -- ---- an interrupt's script
 
-pub grows-run : {i : Bool} {A : Type 0} (x : ℕ) (p : Script i A) → Keeps calm x p → (s : Bk) → Kept x s → Grows x (Gives x p) s (run bookOps p s)
+pub grows-run : {i : Bool} {A : Type 0} (x : ℕ) (p : Script i A) → ChangesOnly calm x p → (s : Bk) → StampsKept x s → Grows x (Gives x p) s (run bookOps p s)
 grows-run x (ret a) h s k = ends-so (λ e. refl) k refl
 grows-run x (bind p f) h s k = grows-bind (grows-run x p (h .0) s k) (λ a t l g. grows-more (grows-run x (f a) (h .1 a g) t l) (λ b w. tt))
 grows-run x (test b p q) h s k = grows-cond b (grows-more (grows-run x p (h .0) s k) (λ a w. tt)) (grows-more (grows-run x q (h .1) s k) (λ a w. tt))

@@ -21,7 +21,7 @@ use Rattle.model_ops.specs.Rings.{rowOn}
 use Rattle.proof_book.specs.Pages.{Pages, withKept, keptGlobals}
 use Rattle.proof_book.specs.Book.{rowB, feedB}
 use Rattle.proof_book.specs.KeptLaws.{same-values}
-use Rattle.proof_book.specs.Coupling.{Arming, Step, Coupling, Good}
+use Rattle.proof_book.specs.Coupling.{Arming, PhaseStep, Coupling, Good}
 use Rattle.proof_book.specs.FrameLaws.{rebuilt, same-place, changed-not, keeps-changed}
 use Rattle.proof_book.specs.HeldLaws.{receives-is}
 
@@ -37,13 +37,13 @@ RowStep g n b d t =
 
 module _ {φ : Phase} {b : Buf} {d : Driver} {t : Pages} (R : Coupling φ b d t) where
   -- nothing but the phase
-  pub phase-changed : {ψ : Phase} → Step ψ → ((e : ℕ) → Arming ψ e (isSet (isoOuts (d .globals)) (e % 16)) (epOn d Out e) (t .outs e)) → Coupling ψ b d t
+  pub phase-changed : {ψ : Phase} → PhaseStep ψ → ((e : ℕ) → Arming ψ e (isSet (isoOuts (d .globals)) (e % 16)) (epOn d Out e) (t .outs e)) → Coupling ψ b d t
   phase-changed s a = rebuilt R (keeps-changed (changed-not (R .sized) Out 0)) refl
       (record { step = s; same = R .same; outs = R .outs; ins = R .ins; arming = a })
 
   -- the globals, but not the sets of endpoints nor EP0's buffer
   pub globals-changed : {ψ : Phase} (g h : Globals) → g ≡ h → g .stage ≡ d .globals .stage → g .«ep0_buf» ≡ d .globals .«ep0_buf»
-      → g .«ep0_max» ≡ d .globals .«ep0_max» → g .«iso_out_eps» ≡ d .globals .«iso_out_eps» → Step ψ
+      → g .«ep0_max» ≡ d .globals .«ep0_max» → g .«iso_out_eps» ≡ d .globals .«iso_out_eps» → PhaseStep ψ
       → ((e : ℕ) → Arming ψ e (isSet (isoOuts g) (e % 16)) (epOn d Out e) (t .outs e)) → Coupling ψ b (withGlobals d g) (withKept t (keptGlobals (t .kept) h))
   unfolding epOn lenOn stampOn pacedOn requestOn
   globals-changed g h q stage buf most isos s a = rebuilt R

@@ -34,7 +34,7 @@ pub record Watch : Type 0 where
   pub armed : Bool
 
 -- the book beside it
-pub record Seen : Type 0 where
+pub record WatchedBook : Type 0 where
   pub pages : Pages
   pub watch : Watch
 
@@ -63,13 +63,13 @@ watchRow e bus-reset n t w = armsBy false w
 abbrev pub watchAct : Act → Watch → Watch
 watchAct q w = cond (allocates q) (armsBy false w) w
 
-abbrev pub bookOf : Seen × Buf → Bk
+abbrev pub bookOf : WatchedBook × Buf → Bk
 bookOf s = (s .0 .pages, s .1)
 
-abbrev pub seenBy : Watch → Bk → Seen × Buf
+abbrev pub seenBy : Watch → Bk → WatchedBook × Buf
 seenBy w z = (record { pages = z .0; watch = w }, z .1)
 
-abbrev pub watched : ℕ → machine.Book Config Seen
+abbrev pub watched : ℕ → machine.Book Config WatchedBook
 watched e = record {
   driver = record {
     ops = record {
@@ -104,7 +104,7 @@ Alone e packet t b b′ = (k : ℕ) → k < most e t
     → (getD b′ (slotAt e t + k) 0 ≡ getD b (slotAt e t + k) 0) ⊎ ((k < length packet) × (getD b′ (slotAt e t + k) 0 ≡ getD packet k 0))
 
 -- the chip's stores between two calls: those of demand 3's premise, and after arming n of OUT e, up to its next receive address, of this packet alone
-pub record Stored (e n : ℕ) (packet : List ℕ) (s : Seen) (b b′ : Buf) : Type 0 where
+pub record Stored (e n : ℕ) (packet : List ℕ) (s : WatchedBook) (b b′ : Buf) : Type 0 where
   pub chip : Chip (s .pages) b b′
   pub alone : s .watch .armed ≡ true → s .watch .armings ≡ n → Alone e packet (s .pages) b b′
 
@@ -115,31 +115,31 @@ abbrev pub Whole : ℕ → List ℕ → Pages → Buf → Type 0
 Whole e packet t b = (k : ℕ) → k < length packet → getD b (slotAt e t + k) 0 ≡ getD packet k 0
 
 -- after a call that left the lent bytes b and the driver d; b′: what the next call is lent
-abbrev pub TrueLength : ℕ → ℕ → List ℕ → Driver → Buf → Seen → Type 0
+abbrev pub TrueLength : ℕ → ℕ → List ℕ → Driver → Buf → WatchedBook → Type 0
 TrueLength e n packet d b s = (b′ : Buf) → Stored e n packet s b b′ → s .watch .armed ≡ true → s .watch .armings ≡ n
     → length packet ≤ epOn d Out e .«max_len» → Whole e packet (s .pages) b′ → LastDiffers (length packet) packet
     → (markedLen b′ (epOn d Out e .«armed_slot») (epOn d Out e .«max_len») ≡ length packet) × (bytesAt b′ (epOn d Out e .«armed_slot») (length packet) ≡ packet)
 
 -- ---- runs
 
-abbrev pub noted : ℕ → Ans Answer → Call Config Op → Machine Answer Seen → Buf → Ans Answer × Machine Answer Seen
+abbrev pub noted : ℕ → Ans Answer → Call Config Op → Machine Answer WatchedBook → Buf → Ans Answer × Machine Answer WatchedBook
 noted e a c n b = call calls (watched e .driver) (fed (watched e) a) c n b
 
 -- the premise, of one call: to a start-up, or where the length is wrong (row 1), any buffer is lent; else the one that the last call left, but for
 -- the chip's stores
-abbrev pub LentBy : ℕ → ℕ → List ℕ → Call Config Op → Machine Answer Driver → Machine Answer Seen → Buf → Type 0
+abbrev pub LentBy : ℕ → ℕ → List ℕ → Call Config Op → Machine Answer Driver → Machine Answer WatchedBook → Buf → Type 0
 LentBy e n packet (start c) m y b = Unit {0}
 LentBy e n packet (begin o) m y b = unless (cond (calls .slots o) (misfit calls driverOf (m .st) b) false) (Stored e n packet (y .st) (m .buf) b)
 LentBy e n packet (go v) m y b = unless (misfit calls driverOf (m .st) b) (Stored e n packet (y .st) (m .buf) b)
 LentBy e n packet (question q) m y b = Stored e n packet (y .st) (m .buf) b
 
-abbrev pub AllLent : ℕ → ℕ → List ℕ → List (Event Config Op) → Machine Answer Driver → Machine Answer Seen → Type 0
+abbrev pub AllLent : ℕ → ℕ → List ℕ → List (Event Config Op) → Machine Answer Driver → Machine Answer WatchedBook → Type 0
 AllLent e n packet [] m y = Unit {0}
 AllLent e n packet (v ∷ vs) m y =
     let x = drive (v .call) m (v .lent) in
     LentBy e n packet (v .call) m y (v .lent) × AllLent e n packet vs (x .1) (noted e (x .0) (v .call) y (v .lent) .1)
 
-abbrev pub TrueLengths : ℕ → ℕ → List ℕ → List (Event Config Op) → Machine Answer Driver → Machine Answer Seen → Type 0
+abbrev pub TrueLengths : ℕ → ℕ → List ℕ → List (Event Config Op) → Machine Answer Driver → Machine Answer WatchedBook → Type 0
 TrueLengths e n packet [] m y = Unit {0}
 TrueLengths e n packet (v ∷ vs) m y =
     let x = drive (v .call) m (v .lent) in
@@ -147,12 +147,12 @@ TrueLengths e n packet (v ∷ vs) m y =
     TrueLength e n packet (x .1 .st) (x .1 .buf) (z .1 .st) × TrueLengths e n packet vs (x .1) (z .1)
 
 -- calls of the code one after the other, each as its contract says and lent so
-abbrev pub RunLent : ℕ → ℕ → List ℕ → List ℕ → Buf → Machine Answer Seen → List Made → Type 0
+abbrev pub RunLent : ℕ → ℕ → List ℕ → List ℕ → Buf → Machine Answer WatchedBook → List Made → Type 0
 RunLent e n packet xs a y [] = Unit {0}
 RunLent e n packet xs a y (m ∷ ms) = CallStep xs a m × LentBy e n packet (m .event .call) (machineOf xs a) y (m .event .lent)
     × RunLent e n packet (m .bytes) (m .slots) (noted e (m .answer) (m .event .call) y (m .event .lent) .1) ms
 
-abbrev pub TrueLengthsMade : ℕ → ℕ → List ℕ → Machine Answer Seen → List Made → Type 0
+abbrev pub TrueLengthsMade : ℕ → ℕ → List ℕ → Machine Answer WatchedBook → List Made → Type 0
 TrueLengthsMade e n packet y [] = Unit {0}
 TrueLengthsMade e n packet y (m ∷ ms) =
     let z = noted e (m .answer) (m .event .call) y (m .event .lent) .1 in

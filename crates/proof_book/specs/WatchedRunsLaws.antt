@@ -24,7 +24,7 @@ use Rattle.model.specs.Simulates.{Phase, quiet}
 use Rattle.model.specs.Statics.{isOn, isoOuts, renewed}
 use Rattle.model.specs.Calls.{Config, Op, calls, startRow}
 use Rattle.model.specs.Machine.{Buf, Call, start, begin, go, question, Event, Ans, Machine, misfit, fed, started}
-use Rattle.model.specs.Agree.{Agree, After, All, Lawful, Lent, Ways, unless, agrees, from-start}
+use Rattle.model.specs.Agree.{Agree, After, All, Lawful, LentAlike, Ways, unless, agrees, from-start}
 use Rattle.model_ops.specs.Concrete.{concrete}
 use Rattle.model_ops.specs.Rings.{St, renewedOn, slotStep}
 use Rattle.model_ops.specs.Late.{arms-slot, arrive-arms, slot-arms}
@@ -41,7 +41,7 @@ use Rattle.proof_book.specs.UntouchedLaws.{put-leaves, act-leaves, hand-
 use Rattle.proof_book.specs.AgreesLaws.{agree}
 use Rattle.proof_book.specs.FrontPage.{Made, CallStep}
 use Rattle.proof_book.specs.FrontPage as page
-use Rattle.proof_book.specs.Watched.{Watch, Seen, armsBy, watchHand, watchRow, watchAct, watched, Stored}
+use Rattle.proof_book.specs.Watched.{Watch, WatchedBook, armsBy, watchHand, watchRow, watchAct, watched, Stored}
 use Rattle.proof_book.specs.Watched.{TrueLength, noted, LentBy, AllLent, TrueLengths, RunLent, TrueLengthsMade}
 use Rattle.proof_book.specs.WatchedLaws.{Clean, clean-stored, Stays, clean-moved, put-stays, act-stays, clean-armed, true-length}
 use Rattle.model.specs.TransferKinds.{allocates}
@@ -202,7 +202,7 @@ module _ (e n : ℕ) (packet : List ℕ) where
 
   -- ---- driver and watched book agree
 
-  abbrev pub Claims : Phase → Buf → Driver → Seen → Type 0
+  abbrev pub Claims : Phase → Buf → Driver → WatchedBook → Type 0
   Claims φ b d s = Coupling φ b d (s .pages) × Claim (s .watch) (s .pages) b
 
   abbrev pub agreed : Agree driverOf (watched e)
@@ -240,13 +240,13 @@ module _ (e n : ℕ) (packet : List ℕ) where
 
   -- ---- every list of calls
 
-  found : {x : Ans Answer × Machine Answer Driver} {y : Ans Answer × Machine Answer Seen} → After driverOf (watched e) agreed calls x y
+  found : {x : Ans Answer × Machine Answer Driver} {y : Ans Answer × Machine Answer WatchedBook} → After driverOf (watched e) agreed calls x y
       → TrueLength e n packet (x .1 .st) (x .1 .buf) (y .1 .st)
   found {x} {y} k b′ s a m small whole last =
       true-length e packet (chip (x .1 .buf) b′ (k .phase) (x .1 .st) (y .1 .st .pages) (k .rest .0) (s .chip))
       (clean-stored e packet (y .1 .st .pages) (x .1 .buf) b′ (k .rest .1 a m) (s .alone a m)) small whole last
 
-  each : (vs : List (Event Config Op)) (m : Machine Answer Driver) (y : Machine Answer Seen)
+  each : (vs : List (Event Config Op)) (m : Machine Answer Driver) (y : Machine Answer WatchedBook)
       → All driverOf (watched e) agreed calls fresh-claims vs m y → TrueLengths e n packet vs m y
   each [] m y a = tt
   each (v ∷ vs) m y a = (found (a .0), each vs _ _ (a .1))
@@ -255,21 +255,21 @@ module _ (e n : ℕ) (packet : List ℕ) where
   lent-as true X p = tt
   lent-as false X p = p
 
-  lent-is : (c : Call Config Op) (m : Machine Answer Driver) (y : Machine Answer Seen) (b : Buf) → LentBy e n packet c m y b
-      → Lent driverOf (watched e) agreed calls c m y b
+  lent-is : (c : Call Config Op) (m : Machine Answer Driver) (y : Machine Answer WatchedBook) (b : Buf) → LentBy e n packet c m y b
+      → LentAlike driverOf (watched e) agreed calls c m y b
   lent-is (start c) m y b p = tt
   lent-is (begin o) m y b p = lent-as (cond (calls .slots o) (misfit calls driverOf (m .st) b) false) (Stored e n packet (y .st) (m .buf) b) p
   lent-is (go v) m y b p = lent-as (misfit calls driverOf (m .st) b) (Stored e n packet (y .st) (m .buf) b) p
   lent-is (question q) m y b p = p
 
-  lawful : (vs : List (Event Config Op)) (m : Machine Answer Driver) (y : Machine Answer Seen) → AllLent e n packet vs m y
+  lawful : (vs : List (Event Config Op)) (m : Machine Answer Driver) (y : Machine Answer WatchedBook) → AllLent e n packet vs m y
       → Lawful driverOf (watched e) agreed calls fresh-claims vs m y
   lawful [] m y p = tt
   lawful (v ∷ vs) m y p = (lent-is (v .call) m y (v .lent) (p .0), lawful vs _ _ (p .1))
 
   -- the first call is a start-up that rows 1 and 2 do not stop, on whatever was before; every later call is lent the slot buffer as the last one
   -- left it, but for the chip's stores
-  pub true-lengths : (c : Config) (b : Buf) → startRow c b ≡ zero → (vs : List (Event Config Op)) (m : Machine Answer Driver) (y : Machine Answer Seen)
+  pub true-lengths : (c : Config) (b : Buf) → startRow c b ≡ zero → (vs : List (Event Config Op)) (m : Machine Answer Driver) (y : Machine Answer WatchedBook)
       → let x = started calls driverOf (λ s. s) c zero m b in
       let z = started calls (watched e .driver) (fed (watched e) (x .0)) c zero y b in
       AllLent e n packet vs (x .1) (z .1) → TrueLengths e n packet vs (x .1) (z .1)
@@ -277,7 +277,7 @@ module _ (e n : ℕ) (packet : List ℕ) where
 
   -- ---- of the code
 
-  pub made-agrees : (m : Made) {φ : Phase} (xs : List ℕ) (a : Buf) (y : Machine Answer Seen)
+  pub made-agrees : (m : Made) {φ : Phase} (xs : List ℕ) (a : Buf) (y : Machine Answer WatchedBook)
       → Ways driverOf (watched e) agreed calls φ (machineOf xs a .way) (y .way) → Claims φ a (view xs) (y .st) → CallStep xs a m
       → LentBy e n packet (m .event .call) (machineOf xs a) y (m .event .lent)
       → After driverOf (watched e) agreed calls (m .answer, machineOf (m .bytes) (m .slots)) (noted e (m .answer) (m .event .call) y (m .event .lent))
@@ -287,7 +287,7 @@ module _ (e n : ℕ) (packet : List ℕ) where
       (agrees driverOf (watched e) agreed calls fresh-claims (m .event .call) (m .event .lent) (machineOf xs a) y w r
       (lent-is (m .event .call) (machineOf xs a) y (m .event .lent) l))
 
-  made-each : (ms : List Made) {φ : Phase} (xs : List ℕ) (a : Buf) (y : Machine Answer Seen)
+  made-each : (ms : List Made) {φ : Phase} (xs : List ℕ) (a : Buf) (y : Machine Answer WatchedBook)
       → Ways driverOf (watched e) agreed calls φ (machineOf xs a .way) (y .way) → Claims φ a (view xs) (y .st) → RunLent e n packet xs a y ms
       → TrueLengthsMade e n packet y ms
   made-each [] xs a y w r h = tt
@@ -295,7 +295,7 @@ module _ (e n : ℕ) (packet : List ℕ) where
       let k = made-agrees m xs a y w r (h .0) (h .1) in
       (found k, made-each ms (m .bytes) (m .slots) _ (k .ways) (k .rest) (h .2))
 
-  pub start-agrees : (c : Config) (b : Buf) → startRow c b ≡ zero → (xs : List ℕ) (a : Buf) (y : Machine Answer Seen) (first : Made)
+  pub start-agrees : (c : Config) (b : Buf) → startRow c b ≡ zero → (xs : List ℕ) (a : Buf) (y : Machine Answer WatchedBook) (first : Made)
       → first .event ≡ record { call = start c; lent = b } → CallStep xs a first
       → After driverOf (watched e) agreed calls (first .answer, machineOf (first .bytes) (first .slots))
       (started calls (watched e .driver) (fed (watched e) (first .answer)) c zero y b)
@@ -308,7 +308,7 @@ module _ (e n : ℕ) (packet : List ℕ) where
       (from-start driverOf (watched e) agreed calls fresh-claims c b row [] (machineOf xs a) y tt .0)
 
   -- any bytes, a start-up that rows 1 and 2 do not stop, and then any calls whose contracts say what they are steps of
-  pub code-true-lengths : (c : Config) (b : Buf) → startRow c b ≡ zero → (xs : List ℕ) (a : Buf) (y : Machine Answer Seen) (first : Made)
+  pub code-true-lengths : (c : Config) (b : Buf) → startRow c b ≡ zero → (xs : List ℕ) (a : Buf) (y : Machine Answer WatchedBook) (first : Made)
       → first .event ≡ record { call = start c; lent = b } → CallStep xs a first → (ms : List Made)
       → let z = started calls (watched e .driver) (fed (watched e) (first .answer)) c zero y b in
       RunLent e n packet (first .bytes) (first .slots) (z .1) ms → TrueLengthsMade e n packet (z .1) ms

@@ -11,17 +11,17 @@ use Rattle.machine.specs.Suspended.{machineOf}
 use Rattle.proof_bus_time.specs.Four.{Four, Turn, called}
 
 -- each driver's state and slot buffer by its number, and the record
-pub record Lent : Type 0 where
+pub record LentFour : Type 0 where
   pub bytes : ℕ → List ℕ
   pub slots : ℕ → Buf
   pub time : List ℕ
 
 -- what they are
-abbrev pub fourOf : Lent → Four
+abbrev pub fourOf : LentFour → Four
 fourOf l = record { driver = λ i. machineOf (l .bytes i) (l .slots i); time = l .time }
 
 -- a call that was made: what it answered, the caller's bytes, its slot buffer and the record as the call left them
-pub record Made : Type 0 where
+pub record TurnMade : Type 0 where
   pub turn : Turn
   pub answer : Ans Answer
   pub bytes : List ℕ
@@ -29,10 +29,10 @@ pub record Made : Type 0 where
   pub time : List ℕ
 
 -- its contract
-abbrev pub CallStep : Lent → Made → Type 0
+abbrev pub CallStep : LentFour → TurnMade → Type 0
 CallStep l m = ((m .answer, machineOf (m .bytes) (m .slots)), m .time) ≡ called (m .turn) (fourOf l)
 
-abbrev pub left : Lent → Made → Lent
+abbrev pub left : LentFour → TurnMade → LentFour
 left l m = record {
   bytes = λ j. cond (eqb j (m .turn .who % 4)) (m .bytes) (l .bytes j);
   slots = λ j. cond (eqb j (m .turn .who % 4)) (m .slots) (l .slots j);
@@ -40,14 +40,14 @@ left l m = record {
 }
 
 -- calls one after the other, each as its contract says
-abbrev pub Run : Lent → List Made → Type 0
+abbrev pub Run : LentFour → List TurnMade → Type 0
 Run l [] = Unit {0}
 Run l (m ∷ ms) = CallStep l m × Run (left l m) ms
 
-abbrev pub turns : List Made → List Turn
+abbrev pub turns : List TurnMade → List Turn
 turns [] = []
 turns (m ∷ ms) = m .turn ∷ turns ms
 
-abbrev pub last : Lent → List Made → Lent
+abbrev pub last : LentFour → List TurnMade → LentFour
 last l [] = l
 last l (m ∷ ms) = last (left l m) ms

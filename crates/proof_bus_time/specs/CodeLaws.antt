@@ -21,7 +21,7 @@ use Rattle.proof_bus_time.specs.Histories.{in-use-is}
 use Rattle.proof_bus_time.specs.Enabled.{enabledTime, countedTime, AtFirst, FourAtFirst}
 use Rattle.proof_bus_time.specs.Charged.{chargedTime}
 use Rattle.proof_bus_time.specs.Now.{in-use-now, in-use-at-rest, in-use-charged}
-use Rattle.proof_bus_time.specs.Code.{Lent, fourOf, Made, CallStep, left, Run, turns, last}
+use Rattle.proof_bus_time.specs.Code.{LentFour, fourOf, TurnMade, CallStep, left, Run, turns, last}
 
 -- the calls that do not bring the record (all but start-up, an enabling and continue) leave it, and so every charge:
 -- such a call, whose contract is the
@@ -37,7 +37,7 @@ leaves-record i c m time b h = ap (λ (x : Sort). settled i x m time b (drive c 
     by (handed q) = refl
     by (told n) = refl
 
-pub did-without : (l : Lent) (x : Turn) (answer : Ans Answer) (bytes : List ℕ) (slots : Buf)
+pub did-without : (l : LentFour) (x : Turn) (answer : Ans Answer) (bytes : List ℕ) (slots : Buf)
     → sortOf (x .event .call) ≡ apart
     → (answer, machineOf bytes slots) ≡ drive (x .event .call) (fourOf l .driver (x .who % 4)) (x .event .lent)
     → CallStep l (record { turn = x; answer = answer; bytes = bytes; slots = slots; time = l .time })
@@ -45,7 +45,7 @@ did-without l x answer bytes slots h did =
     ap (λ (z : Called). (z, l .time)) did
     ∙ sym (leaves-record (x .who) (x .event .call) (fourOf l .driver (x .who % 4)) (l .time) (x .event .lent) h)
 
-step : (l : Lent) (m : Made) → CallStep l m → fourOf (left l m) ≡ next (m .turn) (fourOf l)
+step : (l : LentFour) (m : TurnMade) → CallStep l m → fourOf (left l m) ≡ next (m .turn) (fourOf l)
 step l m h = λ i. record { driver = λ j. drivers j i; time = ap (λ (x : Called × List ℕ). x .1) h i }
   where
     by : (b : Bool) (j : ℕ) → machineOf (cond b (m .bytes) (l .bytes j)) (cond b (m .slots) (l .slots j))
@@ -56,11 +56,11 @@ step l m h = λ i. record { driver = λ j. drivers j i; time = ap (λ (x : Calle
     drivers : (j : ℕ) → fourOf (left l m) .driver j ≡ next (m .turn) (fourOf l) .driver j
     drivers j = by (eqb j (m .turn .who % 4)) j
 
-made-after : (ms : List Made) (l : Lent) → Run l ms → fourOf (last l ms) ≡ after (turns ms) (fourOf l)
+made-after : (ms : List TurnMade) (l : LentFour) → Run l ms → fourOf (last l ms) ≡ after (turns ms) (fourOf l)
 made-after [] l r = refl
 made-after (m ∷ ms) l r = made-after ms (left l m) (r .1) ∙ ap (after (turns ms)) (step l m (r .0))
 
-module _ (ms : List Made) (l : Lent) (run : Run l ms) (none : l .time ≡ uncharged) where
+module _ (ms : List TurnMade) (l : LentFour) (run : Run l ms) (none : l .time ≡ uncharged) where
   time-after : last l ms .time ≡ after (turns ms) (fourOf l) .time
   time-after = ap (λ (f : Four). f .time) (made-after ms l run)
 
@@ -77,7 +77,7 @@ pub zeros-at-first : (b : Buf) → AtFirst (machineOf (replicate 2839 0) b)
 unfolding view saved decode
 zeros-at-first b = record { idles = refl; none = refl }
 
-module _ (ms : List Made) (l : Lent) (run : Run l ms) (first : FourAtFirst (fourOf l)) where
+module _ (ms : List TurnMade) (l : LentFour) (run : Run l ms) (first : FourAtFirst (fourOf l)) where
   made : fourOf (last l ms) ≡ after (turns ms) (fourOf l)
   made = made-after ms l run
 

@@ -89,14 +89,14 @@ unwritten : (b : Bool) (x y : ℕ) → If (not b) (Unit {0}) → y ≡ cond b x 
 unwritten false x y h = refl
 
 -- what the operations that a calm script has keep
-pub record Keeps (giving : Bool) (K : Driver → Type 0) : Type 0 where
+pub record CalmKeeps (giving : Bool) (K : Driver → Type 0) : Type 0 where
   pub put : (c : Cell) (v : Val c) (s : St) → K (s .0) → K (concrete .put c v s .0)
   pub act : (q : Act) → allowed giving q ≡ true → (s : St) → K (s .0) → K (concrete .act q s .0)
   pub hand : (q : DmaStep) (s : St) → K (s .0) → K (concrete .hand q s .1 .0)
   pub later : (d d′ : Driver) → Stays d d′ → K d → K d′
 
 -- what follows from what stays
-pub keeps : {K : Driver → Type 0} → ((d d′ : Driver) → Stays d d′ → K d → K d′) → Keeps false K
+pub keeps : {K : Driver → Type 0} → ((d d′ : Driver) → Stays d d′ → K d → K d′) → CalmKeeps false K
 keeps f = record {
   put = λ c v s k. f _ _ (put-stays c v s) k;
   act = λ q h s k. f _ _ (act-stays q h s) k;
@@ -105,7 +105,7 @@ keeps f = record {
 }
 
 -- no endpoint enabled: allocations keep it too
-pub none-keeps : Keeps true (λ d. configOf d ≡ 0)
+pub none-keeps : CalmKeeps true (λ d. configOf d ≡ 0)
 none-keeps = record {
   put = λ c v s k. put-stays c v s .config ∙ k;
   act = λ q h s k. gives-config q h s ∙ k;
@@ -113,7 +113,7 @@ none-keeps = record {
   later = λ d d′ x k. x .config ∙ k;
 }
 
-module _ {giving : Bool} {K : Driver → Type 0} (M : Keeps giving K) (bit : ℕ) (back : ℕ → ℕ) (c : ℕ)
+module _ {giving : Bool} {K : Driver → Type 0} (M : CalmKeeps giving K) (bit : ℕ) (back : ℕ → ℕ) (c : ℕ)
     (X : ℕ → Driver → Type 0) (shows : (d : Driver) → K d → X c d) where
   abbrev Same : ℕ → Driver → Type 0
   Same g d = (g ≡ c) × K d

@@ -27,7 +27,7 @@ use Rattle.proof_bus_time.specs.Enabled.{isEnabled}
 use Rattle.proof_bus_time.specs.Charged.{opBegun, givenBack}
 use Rattle.proof_bus_time.specs.Stays.{configOf, Turns, Stays, still, stays, act-stays, switch-stays, turned, enabled-turns, row-turns}
 use Rattle.proof_bus_time.specs.Calm.{Calm}
-use Rattle.proof_bus_time.specs.Left.{Left, at-end, at-ask, left-bind, left-more, Goes, Keeps, keeps, calm-run, calm-then}
+use Rattle.proof_bus_time.specs.Left.{Left, at-end, at-ask, left-bind, left-more, Goes, CalmKeeps, keeps, calm-run, calm-then}
 
 -- ---- what is due
 
@@ -131,7 +131,7 @@ module _ (dir : Dir) (e : ℕ) where
       abbrev K : Driver → Type 0
       K x = Stays d x
 
-      M : Keeps false K
+      M : CalmKeeps false K
       M = keeps (λ x y p k. still k p)
 
       shown : (x : Driver) → K x → Due dir e mine c x

@@ -11,14 +11,14 @@ use Rattle.call_bus_time.specs.Sharing.{sharedCall}
 use Rattle.proof_bus_time.specs.History.{history}
 use Rattle.proof_bus_time.specs.Enabled.{FourAtFirst}
 use Rattle.proof_bus_time.specs.Charged.{chargedTime}
-use Rattle.proof_bus_time.specs.Code.{Lent, fourOf, Run, turns, last}
+use Rattle.proof_bus_time.specs.Code.{LentFour, fourOf, Run, turns, last}
 use Rattle.proof_bus_time.specs.CodeLaws.{code-in-use-charged}
 use Rattle.proof_bus_time.specs.Code as four
 use Rattle.usbhs_c.proofs.usbhs_time_in_use.Reads as time-in-use-contract
-use Rattle.proof_contracts.specs.SharedPage.{Made, CallStep}
+use Rattle.proof_contracts.specs.SharedPage.{MadeShared, CallStep}
 
 -- a call of driver i, as one of the four
-abbrev pub asTurn : ℕ → Made → four.Made
+abbrev pub asTurn : ℕ → MadeShared → four.TurnMade
 asTurn i m = record {
   turn = record { who = i; event = m .event };
   answer = m .answer;
@@ -29,7 +29,7 @@ asTurn i m = record {
 }
 
 -- it gets its own bytes, and the record as the last call of the four left it
-pub did-of-four : (l : Lent) (i : ℕ) (m : Made) → m .before ≡ l .time → CallStep i (l .bytes (i % 4)) (l .slots (i % 4)) m
+pub did-of-four : (l : LentFour) (i : ℕ) (m : MadeShared) → m .before ≡ l .time → CallStep i (l .bytes (i % 4)) (l .slots (i % 4)) m
     → four.CallStep l (asTurn i m)
 did-of-four l i m h did = did
     ∙ ap (λ (t : List ℕ). sharedCall i (m .event .call) (machineOf (l .bytes (i % 4)) (l .slots (i % 4))) t
@@ -37,6 +37,6 @@ did-of-four l i m h did = did
 
 -- "a question answers the time in use, always": after every list of calls of four drivers, by the history alone
 pub time-in-use-is : (κs time r z : _) → time-in-use-contract.Learnt κs (time, tt) r z
-    → (ms : List four.Made) (l : Lent) → Run l ms → FourAtFirst (fourOf l) → now time ≡ last l ms .time
+    → (ms : List four.TurnMade) (l : LentFour) → Run l ms → FourAtFirst (fourOf l) → now time ≡ last l ms .time
     → r ≡ chargedTime (history (turns ms) (fourOf l))
 time-in-use-is κs time r z h ms l run first e = h ∙ (ap inUse e ∙ code-in-use-charged ms l run first)

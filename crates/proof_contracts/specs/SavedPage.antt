@@ -16,7 +16,7 @@ use Rattle.model.specs.Kinds.{pacing, is, kindOf}
 use Rattle.model.specs.Machine.{Buf, Call, start, begin, go, question, idle, Ans}
 use Rattle.machine.specs.Suspended.{encode, decode, machineOf}
 use Rattle.machine.specs.Keeps.{KeptBy}
-use Rattle.proof_contracts.specs.SharedPage.{Made, CallStep}
+use Rattle.proof_contracts.specs.SharedPage.{MadeShared, CallStep}
 
 -- a call that neither begins an operation nor goes on with one, nor polls: pacing; open, close and queue; a question
 abbrev pub passes : Call Config Op → Bool
@@ -37,23 +37,23 @@ Saves c a xs ys = SavesAs (passes c) a xs ys
 
 -- calls of driver i one after the other, from the state's bytes xs and the slot buffer a: by its contract each is a
 -- step of the machine of calls (`CallStep`) and saves what it says. Whatever they are lent and whatever they bring
-abbrev pub Saving : ℕ → List ℕ → Buf → List Made → Type 0
+abbrev pub Saving : ℕ → List ℕ → Buf → List MadeShared → Type 0
 Saving i xs a [] = Unit {0}
 Saving i xs a (m ∷ ms) =
     CallStep i xs a m × Saves (m .event .call) (m .answer) xs (m .bytes) × Saving i (m .bytes) (m .slots) ms
 
-pub record Pinned (m : Made) : Type 0 where
+pub record Pinned (m : MadeShared) : Type 0 where
   -- the 22 bytes are the encoding of what is under way
   pub encoded : saved (m .bytes) ≡ encode (decode (saved (m .bytes)))
   -- where nothing is under way all are zero
   pub zeros : machineOf (m .bytes) (m .slots) .way ≡ idle → saved (m .bytes) ≡ nothing
 
-abbrev pub AllPinned : List Made → Type 0
+abbrev pub AllPinned : List MadeShared → Type 0
 AllPinned [] = Unit {0}
 AllPinned (m ∷ ms) = Pinned m × AllPinned ms
 
 -- after every call of every list from an accepted start-up, whatever bytes the state had before
 abbrev pub CodeCanonical : Type 0
-CodeCanonical = (i : ℕ) (c : Config) (b : Buf) → startRow c b ≡ zero → (xs : List ℕ) (a : Buf) (first : Made)
-    → first .event ≡ record { call = start c; lent = b } → (ms : List Made) → Saving i xs a (first ∷ ms)
+CodeCanonical = (i : ℕ) (c : Config) (b : Buf) → startRow c b ≡ zero → (xs : List ℕ) (a : Buf) (first : MadeShared)
+    → first .event ≡ record { call = start c; lent = b } → (ms : List MadeShared) → Saving i xs a (first ∷ ms)
     → AllPinned (first ∷ ms)

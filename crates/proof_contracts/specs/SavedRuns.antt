@@ -19,7 +19,7 @@ use Rattle.machine.specs.Keeps.{KeptBy}
 use Rattle.machine.specs.KeepsLaws.{canonical}
 use Rattle.machine.specs.Goes.{Called}
 use Rattle.call_bus_time.specs.Sharing.{sharedCall, settled, isHanded}
-use Rattle.proof_contracts.specs.SharedPage.{Made}
+use Rattle.proof_contracts.specs.SharedPage.{MadeShared}
 use Rattle.proof_contracts.specs.SavedPage.{passes, SavesAs, Saves, Saving, Pinned, AllPinned, CodeCanonical}
 
 -- ---- nothing is under way
@@ -40,7 +40,7 @@ all-zero = refl
 zeros-of : (xs : List ℕ) → Canonical xs → wayOf (decode (saved xs)) ≡ idle → saved xs ≡ nothing
 zeros-of xs h w = h ∙ ap encode (none-of (decode (saved xs)) w) ∙ all-zero
 
-pinned : (m : Made) → Canonical (m .bytes) → Pinned m
+pinned : (m : MadeShared) → Canonical (m .bytes) → Pinned m
 pinned m h = record { encoded = h; zeros = λ w. zeros-of (m .bytes) h w }
 
 -- ---- one call
@@ -86,7 +86,7 @@ unfolding settled
 begins i c b row m time = ap (λ (n : ℕ). isHanded (started calls driverOf (λ s. s) c n m b .0)) row
 
 -- whatever was saved before it
-pub start-canonical : (i : ℕ) (c : Config) (b : Buf) → startRow c b ≡ zero → (xs : List ℕ) (a : Buf) (m : Made)
+pub start-canonical : (i : ℕ) (c : Config) (b : Buf) → startRow c b ≡ zero → (xs : List ℕ) (a : Buf) (m : MadeShared)
     → m .event ≡ record { call = start c; lent = b } → Saving i xs a (m ∷ []) → Canonical (m .bytes)
 start-canonical i c b row xs a m is-start run =
     let did =
@@ -97,7 +97,7 @@ start-canonical i c b row xs a m is-start run =
 
 -- ---- every list of calls
 
-all-canonical : (i : ℕ) (ms : List Made) (xs : List ℕ) (a : Buf) → Canonical xs → Saving i xs a ms → AllPinned ms
+all-canonical : (i : ℕ) (ms : List MadeShared) (xs : List ℕ) (a : Buf) → Canonical xs → Saving i xs a ms → AllPinned ms
 all-canonical i [] xs a h run = tt
 all-canonical i (m ∷ ms) xs a h run =
     let after = stays-canonical (m .event .call) (m .answer) xs (m .bytes) (run .1) h in

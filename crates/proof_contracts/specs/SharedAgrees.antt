@@ -16,7 +16,7 @@ use Rattle.model.specs.Answers.{Answer, Refused}
 use Rattle.model.specs.Calls.{Config, Op, calls, startRow}
 use Rattle.model.specs.Machine.{Buf, Call, start, begin, go, question, Way, idle, busy, Machine, Ans, ended, handed}
 use Rattle.model.specs.Machine.{told, fed, halt, begun, continued, started, call, misfit, stay, lentTo, over, blankA}
-use Rattle.model.specs.Agree.{After, Ways, Lent, unless, agrees}
+use Rattle.model.specs.Agree.{After, Ways, LentAlike, unless, agrees}
 use Rattle.machine.specs.Suspended.{driverOf, drive}
 use Rattle.machine.specs.Goes.{Called}
 use Rattle.req_bus_time.specs.Time.{chargeOf, entryOf, passes}
@@ -132,7 +132,7 @@ down-fits i x d m y time false h l = l
 
 pub down-chip : (i : ℕ) (c : Call Config Op) (m : Machine Answer Driver) (n : Machine Answer Pages) (time : List ℕ)
     (b : Buf)
-    → turnedDown i (sortOf c) (drive c m b .0) (m .st) time ≡ true → Lent driverOf book agree calls c m n b
+    → turnedDown i (sortOf c) (drive c m b .0) (m .st) time ≡ true → LentAlike driverOf book agree calls c m n b
     → Chip (n .st) (m .buf) b
 down-chip i (start c) m n time b h l = absurd (true≢false (sym h))
 down-chip i (begin o) m n time b h l =

@@ -19,17 +19,17 @@ use Rattle.proof_book.specs.AgreesLaws.{agree}
 use Rattle.proof_book.specs.FrontPage.{LentAsLeft}
 use Rattle.proof_book.specs.FrontPage as page
 use Rattle.proof_contracts.specs.Steps.{made}
-use Rattle.proof_contracts.specs.SharedPage.{Made, outcomeOf, noted, Calls}
+use Rattle.proof_contracts.specs.SharedPage.{MadeShared, outcomeOf, noted, Calls}
 use Rattle.proof_contracts.specs.SharedCall.{isStopped, callAlone, answerAlone}
 use Rattle.proof_contracts.specs.SharedCall.{lent-alone, noted-alone, did-alone}
 use Rattle.proof_contracts.specs.SharedRuns.{AgreedAll, agreed-all}
 
 -- row 19 stops it
-abbrev pub isDown : ℕ → List ℕ → Buf → Made → Bool
+abbrev pub isDown : ℕ → List ℕ → Buf → MadeShared → Bool
 isDown i xs a m = isStopped i (m .event .call) (machineOf xs a) (m .before) (m .event .lent)
 
 -- the call as the driver alone gets it
-abbrev pub madeAlone : ℕ → List ℕ → Buf → Made → page.Made
+abbrev pub madeAlone : ℕ → List ℕ → Buf → MadeShared → page.Made
 madeAlone i xs a m = record {
   event = record { call = callAlone (isDown i xs a m) (m .event .call); lent = m .event .lent };
   answer = answerAlone (isDown i xs a m) (view xs) (m .answer);
@@ -37,20 +37,20 @@ madeAlone i xs a m = record {
   slots = m .slots;
 }
 
-abbrev pub allAlone : ℕ → List ℕ → Buf → List Made → List page.Made
+abbrev pub allAlone : ℕ → List ℕ → Buf → List MadeShared → List page.Made
 allAlone i xs a [] = []
 allAlone i xs a (m ∷ ms) = madeAlone i xs a m ∷ allAlone i (m .bytes) (m .slots) ms
 
 -- ---- every list of calls
 
 -- the book goes the same way, and is lent the same
-abbrev pub NotedAll : ℕ → List ℕ → Buf → Machine Answer Pages → List Made → Type 0
+abbrev pub NotedAll : ℕ → List ℕ → Buf → Machine Answer Pages → List MadeShared → Type 0
 NotedAll i xs a n [] = Unit {0}
 NotedAll i xs a n (m ∷ ms) = (noted i m n .1 ≡ page.noted (madeAlone i xs a m) n .1)
     × LentAsLeft (madeAlone i xs a m .event .call) n a (m .event .lent)
     × NotedAll i (m .bytes) (m .slots) (noted i m n .1) ms
 
-noted-all : (i : ℕ) (ms : List Made) {φ : Phase} (xs : List ℕ) (a : Buf) (n : Machine Answer Pages)
+noted-all : (i : ℕ) (ms : List MadeShared) {φ : Phase} (xs : List ℕ) (a : Buf) (n : Machine Answer Pages)
     → Ways driverOf book agree calls φ (machineOf xs a .way) (n .way) → Coupling φ a (view xs) (n .st) → Calls i xs a n ms
     → AgreedAll i n ms → NotedAll i xs a n ms
 noted-all i [] xs a n w r h k = tt
@@ -61,7 +61,7 @@ noted-all i (m ∷ ms) xs a n w r h k = (
       (k .0 .both .rest) (h .2) (k .1),
 )
 
-calls-alone : (i : ℕ) (ms : List Made) (xs : List ℕ) (a : Buf) (n : Machine Answer Pages) → Calls i xs a n ms
+calls-alone : (i : ℕ) (ms : List MadeShared) (xs : List ℕ) (a : Buf) (n : Machine Answer Pages) → Calls i xs a n ms
     → NotedAll i xs a n ms → page.Calls xs a n (allAlone i xs a ms)
 calls-alone i [] xs a n h k = tt
 calls-alone i (m ∷ ms) xs a n h k = (
@@ -72,22 +72,22 @@ calls-alone i (m ∷ ms) xs a n h k = (
 )
 
 -- a start-up is not stopped by row 19
-abbrev with-event : Made → Event Config Op → Made
+abbrev with-event : MadeShared → Event Config Op → MadeShared
 with-event m v = made (v .call) (v .lent) (m .before) (m .time) (m .answer) (m .bytes) (m .slots)
 
-start-noted : (i : ℕ) (c : Config) (b : Buf) (xs : List ℕ) (a : Buf) (n : Machine Answer Pages) (m : Made)
+start-noted : (i : ℕ) (c : Config) (b : Buf) (xs : List ℕ) (a : Buf) (n : Machine Answer Pages) (m : MadeShared)
     → m .event ≡ record { call = start c; lent = b }
     → noted i m n .1 ≡ page.noted (madeAlone i xs a m) n .1
 start-noted i c b xs a n m e =
     subst (λ (v : Event Config Op). noted i (with-event m v) n .1 ≡ page.noted (madeAlone i xs a (with-event m v)) n
     .1) (sym e) refl
 
-start-lent : (i : ℕ) (c : Config) (b : Buf) (xs : List ℕ) (a : Buf) (n : Machine Answer Pages) (m : Made)
+start-lent : (i : ℕ) (c : Config) (b : Buf) (xs : List ℕ) (a : Buf) (n : Machine Answer Pages) (m : MadeShared)
     → m .event ≡ record { call = start c; lent = b } → LentAsLeft (madeAlone i xs a m .event .call) n a (m .event .lent)
 start-lent i c b xs a n m e =
     subst (λ (v : Event Config Op). LentAsLeft (madeAlone i xs a (with-event m v) .event .call) n a (v .lent)) (sym e) tt
 
-pub start-alone : (i : ℕ) (c : Config) (b : Buf) (xs : List ℕ) (a : Buf) (m : Made)
+pub start-alone : (i : ℕ) (c : Config) (b : Buf) (xs : List ℕ) (a : Buf) (m : MadeShared)
     → m .event ≡ record { call = start c; lent = b }
     → madeAlone i xs a m .event ≡ record { call = start c; lent = b }
 start-alone i c b xs a m e =
@@ -96,8 +96,8 @@ start-alone i c b xs a m e =
 
 -- from an accepted start-up on
 pub all-noted : (i : ℕ) (c : Config) (b : Buf) → startRow c b ≡ zero
-    → (xs : List ℕ) (a : Buf) (n : Machine Answer Pages) (first : Made)
-    → first .event ≡ record { call = start c; lent = b } → (ms : List Made) → Calls i xs a n (first ∷ ms)
+    → (xs : List ℕ) (a : Buf) (n : Machine Answer Pages) (first : MadeShared)
+    → first .event ≡ record { call = start c; lent = b } → (ms : List MadeShared) → Calls i xs a n (first ∷ ms)
     → NotedAll i xs a n (first ∷ ms)
 all-noted i c b row xs a n first is-start ms run =
     let k = agreed-all i c b row xs a n first is-start ms run in (
@@ -108,8 +108,8 @@ all-noted i c b row xs a n first is-start ms run =
     )
 
 pub code-alone : (i : ℕ) (c : Config) (b : Buf) → startRow c b ≡ zero
-    → (xs : List ℕ) (a : Buf) (n : Machine Answer Pages) (first : Made)
-    → first .event ≡ record { call = start c; lent = b } → (ms : List Made) → Calls i xs a n (first ∷ ms)
+    → (xs : List ℕ) (a : Buf) (n : Machine Answer Pages) (first : MadeShared)
+    → first .event ≡ record { call = start c; lent = b } → (ms : List MadeShared) → Calls i xs a n (first ∷ ms)
     → page.Calls xs a n (allAlone i xs a (first ∷ ms))
 code-alone i c b row xs a n first is-start ms run =
     calls-alone i (first ∷ ms) xs a n run (all-noted i c b row xs a n first is-start ms run)

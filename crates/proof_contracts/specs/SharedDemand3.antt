@@ -19,7 +19,7 @@ use Rattle.proof_book.specs.Others.{releasing, Names, underWay, callNames, Away
 use Rattle.proof_book.specs.FrontPage.{Decides, Compared, Sentences, same, AfterCall}
 use Rattle.proof_book.specs.FrontPage as page
 use Rattle.proof_book.specs.FrontPageLaws.{demand-3}
-use Rattle.proof_contracts.specs.SharedPage.{Made, outcomeOf, CallStep, Calls, noted, AfterEach}
+use Rattle.proof_contracts.specs.SharedPage.{MadeShared, outcomeOf, CallStep, Calls, noted, AfterEach}
 use Rattle.proof_contracts.specs.SharedPage.{LengthIs, LengthsEach, OthersStay, OthersEach, SharedDemand3}
 use Rattle.proof_contracts.specs.SharedCall.{as-shared}
 use Rattle.proof_contracts.specs.SharedRuns.{AgreedAll, agreed-all}
@@ -103,7 +103,7 @@ module _ (dir : Dir) (e : ℕ) (lent b : Buf) (n : Machine Answer Pages) (d : Dr
 
 -- ---- one call, by what the driver alone does
 
-module _ (i : ℕ) (xs : List ℕ) (a : Buf) (m : Made) (n : Machine Answer Pages) (did : CallStep i xs a m)
+module _ (i : ℕ) (xs : List ℕ) (a : Buf) (m : MadeShared) (n : Machine Answer Pages) (did : CallStep i xs a m)
     (goes : noted i m n .1 ≡ page.noted (madeAlone i xs a m) n .1) where
   abbrev alone : page.Made
   alone = madeAlone i xs a m
@@ -148,7 +148,7 @@ module _ (i : ℕ) (xs : List ℕ) (a : Buf) (m : Made) (n : Machine Answer Page
 
 -- ---- every list of calls
 
-after-each : (i : ℕ) (ms : List Made) (xs : List ℕ) (a : Buf) (n : Machine Answer Pages) → Calls i xs a n ms
+after-each : (i : ℕ) (ms : List MadeShared) (xs : List ℕ) (a : Buf) (n : Machine Answer Pages) → Calls i xs a n ms
     → NotedAll i xs a n ms → AgreedAll i n ms
     → page.AfterEach n (allAlone i xs a ms) → AfterEach i n ms
 after-each i [] xs a n run goes k y = tt
@@ -159,7 +159,7 @@ after-each i (m ∷ ms) xs a n run goes k y = (
       (y .1)),
 )
 
-lengths-each : (i : ℕ) (ms : List Made) (xs : List ℕ) (a : Buf) (n : Machine Answer Pages) (k : Known)
+lengths-each : (i : ℕ) (ms : List MadeShared) (xs : List ℕ) (a : Buf) (n : Machine Answer Pages) (k : Known)
     → Calls i xs a n ms → NotedAll i xs a n ms → page.LengthsEach n k (allAlone i xs a ms) → LengthsEach i n k ms
 lengths-each i [] xs a n k run goes y = tt
 lengths-each i (m ∷ ms) xs a n k run goes y = (
@@ -169,7 +169,7 @@ lengths-each i (m ∷ ms) xs a n k run goes y = (
       (sym (goes .0)) (learnt-same i xs a m n (run .0) (goes .0) k) (y .1)),
 )
 
-others-each : (i : ℕ) (ms : List Made) (xs : List ℕ) (a : Buf) (n : Machine Answer Pages) (k : Names)
+others-each : (i : ℕ) (ms : List MadeShared) (xs : List ℕ) (a : Buf) (n : Machine Answer Pages) (k : Names)
     → Calls i xs a n ms → NotedAll i xs a n ms → page.OthersEach n k (allAlone i xs a ms) → OthersEach i n k ms
 others-each i [] xs a n k run goes y = tt
 others-each i (m ∷ ms) xs a n k run goes y = (

@@ -22,7 +22,7 @@ use Rattle.proof_contracts.specs.SharedBook.{sharedStep, timeIn}
 -- a call that was made: the call and the slot buffer it was lent; the record before it; its answer; the state's
 -- bytes, the slot buffer and the record as
 -- it left them
-pub record Made : Type 0 where
+pub record MadeShared : Type 0 where
   pub event : Event Config Op
   pub before : List ℕ
   pub answer : Ans Answer
@@ -31,20 +31,20 @@ pub record Made : Type 0 where
   pub time : List ℕ
 
 -- what it came to
-abbrev pub outcomeOf : Made → Called × List ℕ
+abbrev pub outcomeOf : MadeShared → Called × List ℕ
 outcomeOf m = ((m .answer, machineOf (m .bytes) (m .slots)), m .time)
 
 -- its contract, by driver i, where the state's bytes were xs and the slot buffer a (call_bus_time/specs/Sharing.antt)
-abbrev pub CallStep : ℕ → List ℕ → Buf → Made → Type 0
+abbrev pub CallStep : ℕ → List ℕ → Buf → MadeShared → Type 0
 CallStep i xs a m = outcomeOf m ≡ sharedCall i (m .event .call) (machineOf xs a) (m .before) (m .event .lent)
 
-abbrev pub noted : ℕ → Made → Machine Answer Pages → Ans Answer × Machine Answer Pages
+abbrev pub noted : ℕ → MadeShared → Machine Answer Pages → Ans Answer × Machine Answer Pages
 noted i m n = sharedStep i (m .answer) (m .event .call) n (m .before) (m .event .lent)
 
 -- calls of driver i one after the other, from the state's bytes xs, the slot buffer a and the book n. Between two of
 -- them the other drivers' calls may
 -- have changed the record in any way
-abbrev pub Calls : ℕ → List ℕ → Buf → Machine Answer Pages → List Made → Type 0
+abbrev pub Calls : ℕ → List ℕ → Buf → Machine Answer Pages → List MadeShared → Type 0
 Calls i xs a n [] = Unit {0}
 Calls i xs a n (m ∷ ms) =
     CallStep i xs a m × LentAsLeft (m .event .call) n a (m .event .lent)
@@ -62,29 +62,29 @@ pub record AfterShared (i : ℕ) (v : Event Config Op) (before : List ℕ) (x : 
   -- the record is what the book works out
   pub time : x .1 ≡ timeIn i (sortOf (v .call)) (x .0 .0) (n .st) before
 
-abbrev pub AfterEach : ℕ → Machine Answer Pages → List Made → Type 0
+abbrev pub AfterEach : ℕ → Machine Answer Pages → List MadeShared → Type 0
 AfterEach i n [] = Unit {0}
 AfterEach i n (m ∷ ms) = AfterShared i (m .event) (m .before) (outcomeOf m) n × AfterEach i (noted i m n .1) ms
 
 -- the lengths of those that arrive (LengthIs of FrontPage.antt). A call that row 19 stops leaves what the operation
 -- under way was brought
-abbrev pub LengthIs : ℕ → Made → Machine Answer Pages → Known → Type 0
+abbrev pub LengthIs : ℕ → MadeShared → Machine Answer Pages → Known → Type 0
 LengthIs i m n k = (e : ℕ) → Decides (m .event .call) n (m .answer) e → (q : Packet)
     → noted i m n .1 .st .outs e .waiting ≡ n .st .outs e .waiting ++ (q ∷ [])
     → length (q .bytes) ≡ lengthAt (k .readings) (m .event .lent) (n .st) e
 
-abbrev pub LengthsEach : ℕ → Machine Answer Pages → Known → List Made → Type 0
+abbrev pub LengthsEach : ℕ → Machine Answer Pages → Known → List MadeShared → Type 0
 LengthsEach i n k [] = Unit {0}
 LengthsEach i n k (m ∷ ms) =
     let l = learnt (m .event .call) (m .answer) k in LengthIs i m n l × LengthsEach i (noted i m n .1) l ms
 
 -- the pages of the endpoints that are not named stay (OthersStay of FrontPage.antt). A call that row 19 stops leaves
 -- what the operation under way names
-abbrev pub OthersStay : ℕ → Made → Machine Answer Pages → Names → Type 0
+abbrev pub OthersStay : ℕ → MadeShared → Machine Answer Pages → Names → Type 0
 OthersStay i m n k = releasing (m .answer) ≡ false → (d : Dir) (e : ℕ) → Away (callNames (m .event .call) k) d e
     → SamePage d e (n .st) (noted i m n .1 .st)
 
-abbrev pub OthersEach : ℕ → Machine Answer Pages → Names → List Made → Type 0
+abbrev pub OthersEach : ℕ → Machine Answer Pages → Names → List MadeShared → Type 0
 OthersEach i n k [] = Unit {0}
 OthersEach i n k (m ∷ ms) =
     OthersStay i m n k × OthersEach i (noted i m n .1) (underWay (m .event .call) (m .answer) k) ms
@@ -92,7 +92,7 @@ OthersEach i n k (m ∷ ms) =
 -- as Demand3 of FrontPage.antt, for each of the four drivers
 abbrev pub SharedDemand3 : Type 0
 SharedDemand3 = (i : ℕ) (c : Config) (b : Buf) → startRow c b ≡ zero
-    → (xs : List ℕ) (a : Buf) (n : Machine Answer Pages) (first : Made)
-    → first .event ≡ record { call = start c; lent = b } → (ms : List Made) → Calls i xs a n (first ∷ ms)
+    → (xs : List ℕ) (a : Buf) (n : Machine Answer Pages) (first : MadeShared)
+    → first .event ≡ record { call = start c; lent = b } → (ms : List MadeShared) → Calls i xs a n (first ∷ ms)
     → AfterEach i n (first ∷ ms) × ((k : Known) → LengthsEach i n k (first ∷ ms))
     × ((k : Names) → OthersEach i n k (first ∷ ms))

@@ -18,25 +18,25 @@ use Rattle.proof_book.specs.Coupling.{Coupling}
 use Rattle.proof_book.specs.StartUpLaws.{fresh-kept}
 use Rattle.proof_book.specs.AgreesLaws.{agree}
 use Rattle.proof_contracts.specs.SharedBook.{timeIn}
-use Rattle.proof_contracts.specs.SharedPage.{Made, CallStep, noted, Calls}
+use Rattle.proof_contracts.specs.SharedPage.{MadeShared, CallStep, noted, Calls}
 use Rattle.proof_contracts.specs.SharedAgrees.{Agreed, shared-agrees}
 
 -- of a call that was made
-abbrev pub AgreedOn : ℕ → Made → Machine Answer Pages → Type 0
+abbrev pub AgreedOn : ℕ → MadeShared → Machine Answer Pages → Type 0
 AgreedOn i m n = Agreed i (m .event .call) (m .answer, machineOf (m .bytes) (m .slots)) (m .before) (m .time)
     (m .event .lent) n
 
-abbrev pub AgreedAll : ℕ → Machine Answer Pages → List Made → Type 0
+abbrev pub AgreedAll : ℕ → Machine Answer Pages → List MadeShared → Type 0
 AgreedAll i n [] = Unit {0}
 AgreedAll i n (m ∷ ms) = AgreedOn i m n × AgreedAll i (noted i m n .1) ms
 
-of-made : (i : ℕ) (m : Made) (xs : List ℕ) (a : Buf) (n : Machine Answer Pages) → CallStep i xs a m
+of-made : (i : ℕ) (m : MadeShared) (xs : List ℕ) (a : Buf) (n : Machine Answer Pages) → CallStep i xs a m
     → let z = sharedCall i (m .event .call) (machineOf xs a) (m .before) (m .event .lent) in
     Agreed i (m .event .call) (z .0) (m .before) (z .1) (m .event .lent) n → AgreedOn i m n
 of-made i m xs a n did k =
     subst (λ (z : Called × List ℕ). Agreed i (m .event .call) (z .0) (m .before) (z .1) (m .event .lent) n) (sym did) k
 
-always : (i : ℕ) (ms : List Made) {φ : Phase} (xs : List ℕ) (a : Buf) (n : Machine Answer Pages)
+always : (i : ℕ) (ms : List MadeShared) {φ : Phase} (xs : List ℕ) (a : Buf) (n : Machine Answer Pages)
     → Ways driverOf book agree calls φ (machineOf xs a .way) (n .way) → Coupling φ a (view xs) (n .st) → Calls i xs a n ms
     → AgreedAll i n ms
 always i [] xs a n w r h = tt
@@ -78,8 +78,8 @@ starts i c b row xs a n before v e = subst At (sym e) (shared-start i c b row (m
         (v .lent) n
 
 pub agreed-all : (i : ℕ) (c : Config) (b : Buf) → startRow c b ≡ zero
-    → (xs : List ℕ) (a : Buf) (n : Machine Answer Pages) (first : Made)
-    → first .event ≡ record { call = start c; lent = b } → (ms : List Made) → Calls i xs a n (first ∷ ms)
+    → (xs : List ℕ) (a : Buf) (n : Machine Answer Pages) (first : MadeShared)
+    → first .event ≡ record { call = start c; lent = b } → (ms : List MadeShared) → Calls i xs a n (first ∷ ms)
     → AgreedAll i n (first ∷ ms)
 agreed-all i c b row xs a n first is-start ms run =
     let k = of-made i first xs a n (run .0) (starts i c b row xs a n (first .before) (first .event) is-start) in

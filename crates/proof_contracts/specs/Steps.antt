@@ -10,11 +10,11 @@ use Rattle.model.specs.Answers.{Answer}
 use Rattle.model.specs.Calls.{Config, Op, startRow}
 use Rattle.model.specs.Machine.{Buf, Call, start, question, Question, Ans, told}
 use Rattle.machine.specs.Suspended.{lentOr}
-use Rattle.proof_contracts.specs.SharedPage.{Made, CallStep}
+use Rattle.proof_contracts.specs.SharedPage.{MadeShared, CallStep}
 use Rattle.proof_contracts.specs.SavedPage.{Saves}
 
 -- the call c, lent the slot buffer b: the record of bus time before and after it, its answer, the state's bytes and the run's slot buffer
-abbrev pub made : Call Config Op → Buf → List ℕ → List ℕ → Ans Answer → List ℕ → Buf → Made
+abbrev pub made : Call Config Op → Buf → List ℕ → List ℕ → Ans Answer → List ℕ → Buf → MadeShared
 made c b time time′ x ys slots =
     record { event = record { call = c; lent = b }; before = time; answer = x; bytes = ys; slots = slots; time = time′ }
 

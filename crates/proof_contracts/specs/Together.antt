@@ -13,7 +13,7 @@ use Rattle.model.specs.Machine.{Buf, Call, begin, go, Event, Ans, ended, handed
 use Rattle.machine.specs.declared.Step.{Step}
 use Rattle.machine.specs.Suspended.{answerOf, lentOr, BufferUnchangedOnRow1}
 use Rattle.call_readings.specs.Readings.{Reading, Lent, lent, readsOf}
-use Rattle.proof_contracts.specs.SharedPage.{Made}
+use Rattle.proof_contracts.specs.SharedPage.{MadeShared}
 use Rattle.proof_contracts.specs.SavedPage.{Saving}
 
 -- the answer hands out a reading of that register
@@ -27,19 +27,19 @@ event c b = record { call = c; lent = b }
 
 -- calls after m: each is a continue that brings the next reading, which the answer before it asks for, and is lent what that call left; they end where
 -- another one is asked for, or none is left
-abbrev pub InTurn : List Reading → Made → List Made → Type 0
+abbrev pub InTurn : List Reading → MadeShared → List MadeShared → Type 0
 InTurn [] m [] = Unit {0}
 InTurn [] m (k ∷ ks) = ⊥
 InTurn (v ∷ vs) m [] = asked (v .register) (m .answer) ≡ false
 InTurn (v ∷ vs) m (k ∷ ks) = (asked (v .register) (m .answer) ≡ true) × (k .event ≡ event (go (v .value)) (m .slots))
     × (k .before ≡ m .time) × InTurn vs k ks
 
-abbrev pub lastOf : Made → List Made → Made
+abbrev pub lastOf : MadeShared → List MadeShared → MadeShared
 lastOf m [] = m
 lastOf m (k ∷ ks) = lastOf k ks
 
 -- it answered r and left the state's bytes and the record as l has them, and b as the run's slot buffer
-pub record Leaves (m : Made) (r : Step) (l : Lent) (b : Buf) : Type 0 where
+pub record ComesTo (m : MadeShared) (r : Step) (l : Lent) (b : Buf) : Type 0 where
   pub answer : m .answer ≡ answerOf r [] (view (l .bytes))
   pub bytes : m .bytes ≡ l .bytes
   pub slots : m .slots ≡ b
@@ -47,24 +47,24 @@ pub record Leaves (m : Made) (r : Step) (l : Lent) (b : Buf) : Type 0 where
 
 -- a continue of driver i that brings v, and those that bring the readings: from what was lent, and the run's slot buffer a, they come to the answer r and
 -- leave l′. As with one continue (`IsStepCharged`, Steps.antt): where the length of the lent buffer is wrong the run's own stays, and the lent one too
-pub record AreSteps (i v : ℕ) (vs : List Reading) (l : Lent) (a : Buf) (r : Step) (l′ : Lent) (first : Made) (further : List Made) : Type 0 where
+pub record AreSteps (i v : ℕ) (vs : List Reading) (l : Lent) (a : Buf) (r : Step) (l′ : Lent) (first : MadeShared) (further : List MadeShared) : Type 0 where
   pub called : first .event ≡ event (go v) (l .slots)
   pub before : first .before ≡ l .time
   pub steps : Saving i (l .bytes) a (first ∷ further)
   pub turns : InTurn vs first further
-  pub leaves : Leaves (lastOf first further) r l′ (lentOr (view (l .bytes)) (l .slots) (l′ .slots) a)
+  pub leaves : ComesTo (lastOf first further) r l′ (lentOr (view (l .bytes)) (l .slots) (l′ .slots) a)
   pub kept : BufferUnchangedOnRow1 (view (l .bytes)) (l .slots) (l′ .slots)
 
 -- calls after m, which brought no slot buffer: none where m does not ask for the reading v; else a continue that brings it, and is the first that is
 -- lent the buffer, and those that bring the readings after it
-abbrev pub Followed : ℕ → Reading → List Reading → Lent → Step → Lent → Made → List Made → Type 0
-Followed i v vs l r l′ m [] = (asked (v .register) (m .answer) ≡ false) × Leaves m r l′ (m .slots) × (l′ .slots ≡ l .slots)
+abbrev pub Followed : ℕ → Reading → List Reading → Lent → Step → Lent → MadeShared → List MadeShared → Type 0
+Followed i v vs l r l′ m [] = (asked (v .register) (m .answer) ≡ false) × ComesTo m r l′ (m .slots) × (l′ .slots ≡ l .slots)
 Followed i v vs l r l′ m (k ∷ ks) =
     (asked (v .register) (m .answer) ≡ true) × AreSteps i (v .value) vs (lent (m .bytes) (l .slots) (m .time)) (m .slots) r l′ k ks
 
 -- the interrupt's begin by driver i, and those that bring the readings. The begin brings neither the slot buffer nor the record: as with the begin alone
 -- (`IsStep`, Steps.antt) both stay as they stand then, b and what was lent
-pub record InterruptSteps (i : ℕ) (v : Reading) (vs : List Reading) (l : Lent) (a b : Buf) (r : Step) (l′ : Lent) (first : Made) (further : List Made)
+pub record InterruptSteps (i : ℕ) (v : Reading) (vs : List Reading) (l : Lent) (a b : Buf) (r : Step) (l′ : Lent) (first : MadeShared) (further : List MadeShared)
     : Type 0 where
   pub called : first .event ≡ event (begin interrupt) b
   pub before : first .before ≡ l .time

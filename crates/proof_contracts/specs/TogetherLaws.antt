@@ -33,10 +33,10 @@ use Rattle.proof_book.specs.Book.{book}
 use Rattle.proof_book.specs.FrontPage.{Chip, LentAsLeft, unless}
 use Rattle.proof_bus_time.specs.CodeLaws.{leaves-record}
 use Rattle.proof_contracts.specs.SharedBook.{sharedStep}
-use Rattle.proof_contracts.specs.SharedPage.{Made, CallStep, Calls, noted}
+use Rattle.proof_contracts.specs.SharedPage.{MadeShared, CallStep, Calls, noted}
 use Rattle.proof_contracts.specs.SavedPage.{Saving}
 use Rattle.proof_contracts.specs.StepsLaws.{worded}
-use Rattle.proof_contracts.specs.Together.{asked, event, InTurn, lastOf, Leaves, AreSteps, Followed, InterruptSteps}
+use Rattle.proof_contracts.specs.Together.{asked, event, InTurn, lastOf, ComesTo, AreSteps, Followed, InterruptSteps}
 
 asked-is : (r : Reg) (x : Step) (d : Driver) → asked r (answerOf x [] d) ≡ asksFor r x
 asked-is r (step.Refused n) d = refl
@@ -48,7 +48,7 @@ asked-is r (step.Setup low high) d = refl
 asked-is r (step.Shown at n stamp) d = refl
 
 -- a call that answered r and left l
-abbrev made : Event Config Op → List ℕ → Step → Lent → Made
+abbrev made : Event Config Op → List ℕ → Step → Lent → MadeShared
 made e before r l = record {
   event = e;
   before = before;
@@ -73,22 +73,22 @@ continue-step i v l x k c =
     ∙ c .did (l .slots)
 
 -- no further call
-over : (m : Made) (r : Step) (l : Lent) (b : Buf) (r′ : Step) (l′ : Lent) → Leaves m r l b → Over r l r′ l′ → Leaves m r′ l′ b
-over m r l b r′ l′ h o = subst (λ (z : Step). Leaves m z l′ b) (sym (o .0)) (subst (λ (z : Lent). Leaves m r z b) (sym (o .1)) h)
+over : (m : MadeShared) (r : Step) (l : Lent) (b : Buf) (r′ : Step) (l′ : Lent) → ComesTo m r l b → Over r l r′ l′ → ComesTo m r′ l′ b
+over m r l b r′ l′ h o = subst (λ (z : Step). ComesTo m z l′ b) (sym (o .0)) (subst (λ (z : Lent). ComesTo m r z b) (sym (o .1)) h)
 
-leaves-made : (e : Event Config Op) (before : List ℕ) (r : Step) (l : Lent) (b : Buf) → Leaves (made e before r (lent (l .bytes) b (l .time))) r l b
+leaves-made : (e : Event Config Op) (before : List ℕ) (r : Step) (l : Lent) (b : Buf) → ComesTo (made e before r (lent (l .bytes) b (l .time))) r l b
 leaves-made e before r l b = record { answer = refl; bytes = refl; slots = refl; time = refl }
 
 as-over : (r : Step) (l : Lent) (r′ : Step) (l′ : Lent) → Over r l r′ l′ → l .slots ≡ l′ .slots
 as-over r l r′ l′ o = ap (λ (z : Lent). z .slots) (sym (o .1))
 
 -- the calls that follow
-abbrev Following : ℕ → List Reading → Made → Lent → Step → Lent → Type 0
-Following i vs m l r′ l′ = (ms : List Made) × Saving i (l .bytes) (l .slots) ms × InTurn vs m ms × Leaves (lastOf m ms) r′ l′ (l′ .slots)
+abbrev Following : ℕ → List Reading → MadeShared → Lent → Step → Lent → Type 0
+Following i vs m l r′ l′ = (ms : List MadeShared) × Saving i (l .bytes) (l .slots) ms × InTurn vs m ms × ComesTo (lastOf m ms) r′ l′ (l′ .slots)
 
 -- none follow
-at-end : (m : Made) (r : Step) (l : Lent) (r′ : Step) (l′ : Lent) → Leaves m r l (l .slots) → Over r l r′ l′ → Leaves m r′ l′ (l′ .slots)
-at-end m r l r′ l′ h o = subst (λ (b : Buf). Leaves m r′ l′ b) (as-over r l r′ l′ o) (over m r l (l .slots) r′ l′ h o)
+at-end : (m : MadeShared) (r : Step) (l : Lent) (r′ : Step) (l′ : Lent) → ComesTo m r l (l .slots) → Over r l r′ l′ → ComesTo m r′ l′ (l′ .slots)
+at-end m r l r′ l′ h o = subst (λ (b : Buf). ComesTo m r′ l′ b) (as-over r l r′ l′ o) (over m r l (l .slots) r′ l′ h o)
 
 following : (i : ℕ) (vs : List Reading) (e : Event Config Op) (before : List ℕ) (r : Step) (l : Lent) (r′ : Step) (l′ : Lent)
     → Brings i vs r l r′ l′ → Following i vs (made e before r l) l r′ l′
@@ -129,14 +129,14 @@ none-brought i [] x k r l none h = h
 none-brought i (v ∷ vs) x k r l none h =
     subst (λ (u : Bool). If u ((y : Step) × (m : Lent) × Continues i (v .value) k y m × Brings i vs y m r l) (Over x k r l)) (none (v .register)) h
 
-none-in-turn : (vs : List Reading) (m : Made) → ((q : Reg) → asked q (m .answer) ≡ false) → InTurn vs m []
+none-in-turn : (vs : List Reading) (m : MadeShared) → ((q : Reg) → asked q (m .answer) ≡ false) → InTurn vs m []
 none-in-turn [] m none = tt
 none-in-turn (v ∷ vs) m none = none (v .register)
 
 -- ---- a continue, then the readings
 
 abbrev Steps : ℕ → ℕ → List Reading → Lent → Buf → Step → Lent → Type 0
-Steps i v vs l a r l′ = (first : Made) × (further : List Made) × AreSteps i v vs l a r l′ first further
+Steps i v vs l a r l′ = (first : MadeShared) × (further : List MadeShared) × AreSteps i v vs l a r l′ first further
 
 continues-steps : (i v : ℕ) (vs : List Reading) (l : Lent) (r : Step) (l′ : Lent) → ContinuesWith i v vs l r l′ → (a : Buf) → Steps i v vs l a r l′
 continues-steps i v vs l r l′ h a = by (slotsFit (view (l .bytes)) (l .slots)) refl
@@ -161,9 +161,9 @@ continues-steps i v vs l r l′ h a = by (slotsFit (view (l .bytes)) (l .slots))
         ≡ sharedCall i (go v) (machineOf (l .bytes) a) (l .time) (l .slots)) fits (h .2 .did a)
 
     -- and after the last
-    last : (u : Bool) → slotsFit (view (l .bytes)) (l .slots) ≡ u → (m : Made) → Leaves m r l′ (cond u (l′ .slots) a)
-        → Leaves m r l′ (lentOr (view (l .bytes)) (l .slots) (l′ .slots) a)
-    last u fits m y = subst (λ (z : Bool). Leaves m r l′ (cond z (l′ .slots) a)) (sym fits) y
+    last : (u : Bool) → slotsFit (view (l .bytes)) (l .slots) ≡ u → (m : MadeShared) → ComesTo m r l′ (cond u (l′ .slots) a)
+        → ComesTo m r l′ (lentOr (view (l .bytes)) (l .slots) (l′ .slots) a)
+    last u fits m y = subst (λ (z : Bool). ComesTo m r l′ (cond z (l′ .slots) a)) (sym fits) y
 
     by : (u : Bool) → slotsFit (view (l .bytes)) (l .slots) ≡ u → Steps i v vs l a r l′
     by true fits =
@@ -198,7 +198,7 @@ continues-steps i v vs l r l′ h a = by (slotsFit (view (l .bytes)) (l .slots))
 -- ---- a begin of the interrupt, then the readings
 
 abbrev Interrupts : ℕ → Reading → List Reading → Lent → Buf → Buf → Step → Lent → Type 0
-Interrupts i v vs l a b r l′ = (first : Made) × (further : List Made) × InterruptSteps i v vs l a b r l′ first further
+Interrupts i v vs l a b r l′ = (first : MadeShared) × (further : List MadeShared) × InterruptSteps i v vs l a b r l′ first further
 
 begins-steps : (i : ℕ) (v : Reading) (vs : List Reading) (l : Lent) (r : Step) (l′ : Lent) → BeginsWith i (v ∷ vs) l r l′
     → (a b : Buf) → Interrupts i v vs l a b r l′
@@ -217,7 +217,7 @@ begins-steps i v vs l r l′ h a b =
     e : Event Config Op
     e = event (begin interrupt) b
 
-    m : Made
+    m : MadeShared
     m = made e (l .time) x (lent (k .bytes) b (l .time))
 
     did : CallStep i (l .bytes) a m
@@ -254,14 +254,14 @@ begins-steps i v vs l r l′ h a b =
 
 pub interrupt-steps : (κs s slots time driver frame flags r z : _)
     → interrupt-contract.Learnt κs (s, (slots, (time, (driver, (frame, (flags, tt)))))) r z
-    → Worded r (λ x. (a b : Buf) → (first : Made) × (further : List Made)
+    → Worded r (λ x. (a b : Buf) → (first : MadeShared) × (further : List MadeShared)
     × InterruptSteps driver (reading FrameNo frame) (reading IntFg flags ∷ []) (lent (now s) (now slots) (now time)) a b x
     (lent (now (z .0)) (now (z .1 .0)) (now (z .1 .1 .0))) first further)
 interrupt-steps κs s slots time driver frame flags r z h = worded r h (λ x k a b. begins-steps _ _ _ _ _ _ k a b)
 
 pub continue-transfer-steps : (κs s slots time driver mis st len r z : _)
     → continue-transfer-contract.Learnt κs (s, (slots, (time, (driver, (mis, (st, (len, tt))))))) r z
-    → Worded r (λ x. (a : Buf) → (first : Made) × (further : List Made)
+    → Worded r (λ x. (a : Buf) → (first : MadeShared) × (further : List MadeShared)
     × AreSteps driver mis (reading IntSt st ∷ reading RxLen len ∷ []) (lent (now s) (now slots) (now time)) a x
     (lent (now (z .0)) (now (z .1 .0)) (now (z .1 .1 .0))) first further)
 continue-transfer-steps κs s slots time driver mis st len r z h = worded r h (λ x k a. continues-steps _ _ _ _ _ _ k a)
@@ -278,7 +278,7 @@ lent-as-left v n b = by (misfit calls (book .driver) (n .st) b)
     by true = tt
     by false = unchanged n b
 
-calls-in-turn : (i : ℕ) (vs : List Reading) (m : Made) (ms : List Made) → InTurn vs m ms → Saving i (m .bytes) (m .slots) ms
+calls-in-turn : (i : ℕ) (vs : List Reading) (m : MadeShared) (ms : List MadeShared) → InTurn vs m ms → Saving i (m .bytes) (m .slots) ms
     → (n : Machine Answer Pages) → Calls i (m .bytes) (m .slots) n ms
 calls-in-turn i [] m [] t s n = tt
 calls-in-turn i [] m (k ∷ ks) t s n = absurd t
@@ -290,7 +290,7 @@ calls-in-turn i (v ∷ vs) m (k ∷ ks) t s n = (
 )
 
 -- a continue and those after it: the chip's stores are those that the first one's own place in a list asks for
-pub continue-calls : (i v : ℕ) (vs : List Reading) (l : Lent) (a : Buf) (r : Step) (l′ : Lent) (first : Made) (further : List Made)
+pub continue-calls : (i v : ℕ) (vs : List Reading) (l : Lent) (a : Buf) (r : Step) (l′ : Lent) (first : MadeShared) (further : List MadeShared)
     → AreSteps i v vs l a r l′ first further → (n : Machine Answer Pages) → LentAsLeft (go v) n a (l .slots)
     → Calls i (l .bytes) a n (first ∷ further)
 continue-calls i v vs l a r l′ first further h n chip = (
@@ -335,7 +335,7 @@ module _ (v : ℕ) (b b′ : Buf) (n : Machine Answer Pages) (chip : LentAsLeft 
   after-begin i (handed Callback) time q h = absurd (true≢false (sym h))
 
 -- the interrupt's begin and those after it: it is lent b, as its own place in a list asks; the first continue, where it is made, the caller's buffer
-pub interrupt-calls : (i : ℕ) (v : Reading) (vs : List Reading) (l : Lent) (a b : Buf) (r : Step) (l′ : Lent) (first : Made) (further : List Made)
+pub interrupt-calls : (i : ℕ) (v : Reading) (vs : List Reading) (l : Lent) (a b : Buf) (r : Step) (l′ : Lent) (first : MadeShared) (further : List MadeShared)
     → InterruptSteps i v vs l a b r l′ first further → (n : Machine Answer Pages) → LentAsLeft (begin interrupt) n a b
     → (asked (v .register) (first .answer) ≡ true → LentAsLeft (go (v .value)) n b (l .slots))
     → Calls i (l .bytes) a n (first ∷ further)
@@ -345,7 +345,7 @@ interrupt-calls i v vs l a b r l′ first further h n begins goes = (
   on further (h .rest),
 )
   where
-    on : (ms : List Made) → Followed i v vs l r l′ first ms → Calls i (first .bytes) (first .slots) (noted i first n .1) ms
+    on : (ms : List MadeShared) → Followed i v vs l r l′ first ms → Calls i (first .bytes) (first .slots) (noted i first n .1) ms
     on [] f = tt
     on (k ∷ ks) f =
         continue-calls i (v .value) vs (lent (first .bytes) (l .slots) (first .time)) (first .slots) r l′ k ks (f .1) (noted i first n .1)
@@ -354,7 +354,7 @@ interrupt-calls i v vs l a b r l′ first further h n begins goes = (
         (sym (h .called)) (after-begin (v .value) b (l .slots) n (goes (f .0)) i (first .answer) (first .before) (v .register) (f .0))))
 
 -- the begin lent the run's own buffer: the chip's stores are those of a continue in the call's place
-pub interrupt-calls-own : (i : ℕ) (v : Reading) (vs : List Reading) (l : Lent) (a : Buf) (r : Step) (l′ : Lent) (first : Made) (further : List Made)
+pub interrupt-calls-own : (i : ℕ) (v : Reading) (vs : List Reading) (l : Lent) (a : Buf) (r : Step) (l′ : Lent) (first : MadeShared) (further : List MadeShared)
     → InterruptSteps i v vs l a a r l′ first further → (n : Machine Answer Pages) → LentAsLeft (go (v .value)) n a (l .slots)
     → Calls i (l .bytes) a n (first ∷ further)
 interrupt-calls-own i v vs l a r l′ first further h n chip = interrupt-calls i v vs l a a r l′ first further h n (unchanged n a) (λ asks. chip)

@@ -32,7 +32,7 @@ use Rattle.proof_isolation.specs.Stores.{OwnLent}
 use Rattle.proof_isolation.specs.StoresLaws.{own-like}
 use Rattle.call_bus_time.specs.SparesLaws.{spares-on}
 use Rattle.proof_isolation.specs.Schedule.{Run, Two, accessOf, runBy, ownBy, alone, stateOf, Timely, wide, atOwn, OwnCall, own-row1, own-lent, Alone}
-use Rattle.proof_isolation.specs.Standing.{machineOf, stops, runOf, own-no, Told, telling, telling-own, Keeps, At, at}
+use Rattle.proof_isolation.specs.Standing.{machineOf, stops, runOf, own-no, Told, telling, telling-own, Orderly, At, at}
 use Rattle.proof_isolation.specs.StandingLaws.{past-no, time-spared}
 use Rattle.proof_isolation.specs.Runs.{go-busy, go-wide, go-unfit, begin-idle, begin-unfit, aside-busy, aside-late, spares-put, row-one}
 use Rattle.proof_isolation.specs.RunsLaws.{through-one}
@@ -98,7 +98,7 @@ module _ (c : Channel) (share : Bool) (n : ℕ) where
   Within v b r = (atOwn c r ≡ true) × (wide (r .machine .way) v ≡ false) × OwnLent c (stateOf r) b
 
   within-go : (st : ℕ) (i : Bool) {o u : tree.Out St Answer} (l : ApartBy c st i (SameAnswer (c .number)) true o u)
-      (q q′ : Access) {a a′ : Ans Answer} {t t′ : List ℕ} → Told l a a′ → Keeps i o a → Keeps i u a′ → t ≡ t′
+      (q q′ : Access) {a a′ : Ans Answer} {t t′ : List ℕ} → Told l a a′ → Orderly i o a → Orderly i u a′ → t ≡ t′
       → (v : ℕ) (b : Buf) → Within v b (runOf i o q a t) → At c (one st i (alone share n (go v) b (runOf i o q a t)) u q′ a′ t′)
   within-go st i (end x l) q q′ h k k′ e v b m = absurd (true≢false (sym (m .0)))
   within-go st i (both {s = s} {k = g} φ z w w′ l f) q q′ h k k′ e v b m = absurd (true≢false (sym (m .0) ∙ own-no (c .number) g s w))
@@ -127,7 +127,7 @@ module _ (c : Channel) (share : Bool) (n : ℕ) where
 
   -- row 16: it stays awaited
   wide-go : (st : ℕ) (i : Bool) {o u : tree.Out St Answer} (l : ApartBy c st i (SameAnswer (c .number)) true o u)
-      (q q′ : Access) {a a′ : Ans Answer} {t t′ : List ℕ} → Told l a a′ → Keeps i o a → Keeps i u a′ → t ≡ t′
+      (q q′ : Access) {a a′ : Ans Answer} {t t′ : List ℕ} → Told l a a′ → Orderly i o a → Orderly i u a′ → t ≡ t′
       → (v : ℕ) (b : Buf) → atOwn c (runOf i o q a t) ≡ true → wide (stops i o .1 .way) v ≡ true
       → OwnLent c (stateOf (runOf i o q a t)) b → At c (one st i (alone share n (go v) b (runOf i o q a t)) u q′ a′ t′)
   wide-go st i (end x l) q q′ h k k′ e v b m z d = absurd (true≢false (sym m))
@@ -150,7 +150,7 @@ module _ (c : Channel) (share : Bool) (n : ℕ) where
 
   -- row 1: it stays as it is
   stay-go : (st : ℕ) (i : Bool) {o u : tree.Out St Answer} (l : ApartBy c st i (SameAnswer (c .number)) true o u)
-      (q q′ : Access) {a a′ : Ans Answer} {t t′ : List ℕ} → Told l a a′ → Keeps i o a → Keeps i u a′ → t ≡ t′
+      (q q′ : Access) {a a′ : Ans Answer} {t t′ : List ℕ} → Told l a a′ → Orderly i o a → Orderly i u a′ → t ≡ t′
       → atOwn c (runOf i o q a t) ≡ true → At c (one st i (runOf i o q (ended (Refused 1)) t) u q′ a′ t′)
   stay-go st i (end x l) q q′ h k k′ e m = absurd (true≢false (sym m))
   stay-go st i (both {s = s} {k = g} φ y w w′ l f) q q′ h k k′ e m = absurd (true≢false (sym m ∙ own-no (c .number) g s w))
@@ -159,7 +159,7 @@ module _ (c : Channel) (share : Bool) (n : ℕ) where
   stay-go st i (owns w w′ l f f′) q q′ h k k′ e m = at st i (owns w w′ l f f′) q q′ tt (record { spares = k .spares; few = tt; room = k .room }) k′ e
 
   alone-go : (st : ℕ) (i : Bool) {o u : tree.Out St Answer} (l : ApartBy c st i (SameAnswer (c .number)) true o u)
-      (q q′ : Access) {a a′ : Ans Answer} {t t′ : List ℕ} → Told l a a′ → Keeps i o a → Keeps i u a′ → t ≡ t′
+      (q q′ : Access) {a a′ : Ans Answer} {t t′ : List ℕ} → Told l a a′ → Orderly i o a → Orderly i u a′ → t ≡ t′
       → (v : ℕ) (b : Buf) → Alone c (go v) b (runOf i o q a t) → At c (one st i (alone share n (go v) b (runOf i o q a t)) u q′ a′ t′)
   alone-go st i {o} {u} l q q′ {a} {a′} {t} {t′} h k k′ e v b m = by (m .1)
     where
@@ -180,8 +180,8 @@ module _ (c : Channel) (share : Bool) (n : ℕ) where
   -- with nothing under way
   moves-rests : (st : ℕ) (i : Bool) {d : Answer} {s : St} {u : tree.Out St Answer}
       (l : ApartBy c st i (SameAnswer (c .number)) true (ends d s) u) (q q′ : Access) {a a′ : Ans Answer} {t t′ : List ℕ}
-      → Told l a a′ → Keeps i (ends d s) a
-      → Keeps i u a′ → t ≡ t′ → {y : tree.Out St Answer} → Finished (Touched c quiet s) y → Rooms (stops false y)
+      → Told l a a′ → Orderly i (ends d s) a
+      → Orderly i u a′ → t ≡ t′ → {y : tree.Out St Answer} → Finished (Touched c quiet s) y → Rooms (stops false y)
       → At c (one st i (ownBy q a (stops false y, timeAfter n sharing.apart (stops false y .0) (s .0) t)) u q′ a′ t′)
   moves-rests st i l q q′ {a = a} {a′ = a′} h k k′ e (fin x m) r = at st i (touch-rests l m) q q′
       (told-rests l m a a′ h) (record { spares = λ _. at-end tt; few = k .few; room = r .machine }) k′ e
@@ -189,7 +189,7 @@ module _ (c : Channel) (share : Bool) (n : ℕ) where
   moves-busy : (st : ℕ) {p : Access} {s : St} {g : ℕ → St → tree.Out St Answer} {u : tree.Out St Answer}
       (l : ApartBy c st true (SameAnswer (c .number)) true (asks p s g) u) (q q′ : Access) {a a′ : Ans Answer} {t t′ : List ℕ}
       → Told l a a′
-      → Keeps true (asks p s g) a → Keeps true u a′ → t ≡ t′ → (b : Buf) {y : tree.Out St Answer}
+      → Orderly true (asks p s g) a → Orderly true u a′ → t ≡ t′ → (b : Buf) {y : tree.Out St Answer}
       → Finished (Touched c quiet s) y → Rooms (beside calls driverOf (machineOf (busy true (awaited p) g) (s .0, b)) y)
       → At c (one st true (ownBy p a (
         beside calls driverOf (machineOf (busy true (awaited p) g) (s .0, b)) y,
@@ -202,7 +202,7 @@ module _ (c : Channel) (share : Bool) (n : ℕ) where
   moves-late : (st : ℕ) {p : Access} {s : St} {g : ℕ → St → tree.Out St Answer} {u : tree.Out St Answer}
       (l : ApartBy c st false (SameAnswer (c .number)) true (asks p s g) u) (q q′ : Access) {a a′ : Ans Answer} {t t′ : List ℕ}
       → Told l a a′
-      → Keeps false (asks p s g) a → Keeps false u a′ → t ≡ t′ → (o : Aside) (b : Buf) → OwnLent c s b
+      → Orderly false (asks p s g) a → Orderly false u a′ → t ≡ t′ → (o : Aside) (b : Buf) → OwnLent c s b
       → At c (one st false (ownBy p a (
         drive (begin (aside o)) (machineOf (busy false (awaited p) g) s) b,
         timeAfter n sharing.apart (drive (begin (aside o)) (machineOf (busy false (awaited p) g) s) b .0) (s .0) t,
@@ -218,7 +218,7 @@ module _ (c : Channel) (share : Bool) (n : ℕ) where
 
   alone-aside : (st : ℕ) (i : Bool) (x : tree.Out St Answer) {u : tree.Out St Answer}
       (l : ApartBy c st i (SameAnswer (c .number)) true x u) (q q′ : Access) {a a′ : Ans Answer} {t t′ : List ℕ}
-      → Told l a a′ → Keeps i x a → Keeps i u a′ → t ≡ t′
+      → Told l a a′ → Orderly i x a → Orderly i u a′ → t ≡ t′
       → (o : Aside) → Mine (c .number) o → (b : Buf) → OwnLent c (stops i x .1 .st, stops i x .1 .buf) b
       → At c (one st i (alone share n (begin (aside o)) b (runOf i x q a t)) u q′ a′ t′)
   alone-aside st i (ends y s) {u} l q q′ {a = a} {a′ = a′} {t = r} {t′ = r′} h k k′ e o p b m =
@@ -235,8 +235,8 @@ module _ (c : Channel) (share : Bool) (n : ℕ) where
 
   alone-poll : (st : ℕ) (i : Bool) {y : Answer} {s : St} {u : tree.Out St Answer}
       (l : ApartBy c st i (SameAnswer (c .number)) true (ends y s) u) (q q′ : Access) {a a′ : Ans Answer} {t t′ : List ℕ}
-      → Told l a a′ → Keeps i (ends y s) a
-      → Keeps i u a′ → t ≡ t′ → (j v : ℕ) → key Out j ≡ key Out (c .number) → (b : Buf) → OwnLent c s b
+      → Told l a a′ → Orderly i (ends y s) a
+      → Orderly i u a′ → t ≡ t′ → (j v : ℕ) → key Out j ≡ key Out (c .number) → (b : Buf) → OwnLent c s b
       → At c (one st i (alone share n (begin (slotted (PollRead j v))) b (runOf i (ends y s) q a t)) u q′ a′ t′)
   alone-poll st i {s = s} {u = u} l q q′ {a = a} {a′ = a′} {t = r} {t′ = r′} h k k′ e j v p b m =
       let d = own-like (lawful-rests l) m in
@@ -246,7 +246,7 @@ module _ (c : Channel) (share : Bool) (n : ℕ) where
 
   alone-own : (st : ℕ) (i : Bool) (x : tree.Out St Answer) {u : tree.Out St Answer}
       (l : ApartBy c st i (SameAnswer (c .number)) true x u) (q q′ : Access) {a a′ : Ans Answer} {t t′ : List ℕ}
-      → Told l a a′ → Keeps i x a → Keeps i u a′ → t ≡ t′
+      → Told l a a′ → Orderly i x a → Orderly i u a′ → t ≡ t′
       → {o : Op} → OfChannel (c .number) o
       → (b : Buf) → Timely (stops i x .1 .way) o → OwnLent c (stops i x .1 .st, stops i x .1 .buf) b
       → At c (one st i (alone share n (begin o) b (runOf i x q a t)) u q′ a′ t′)
@@ -256,7 +256,7 @@ module _ (c : Channel) (share : Bool) (n : ℕ) where
   alone-own st i (asks y s g) l q q′ h k k′ e (passes o p) b z m = alone-aside st i (asks y s g) l q q′ h k k′ e o p b m
 
   alone-begin : (st : ℕ) (i : Bool) {x u : tree.Out St Answer} (l : ApartBy c st i (SameAnswer (c .number)) true x u)
-      (q q′ : Access) {a a′ : Ans Answer} {t t′ : List ℕ} → Told l a a′ → Keeps i x a → Keeps i u a′ → t ≡ t′
+      (q q′ : Access) {a a′ : Ans Answer} {t t′ : List ℕ} → Told l a a′ → Orderly i x a → Orderly i u a′ → t ≡ t′
       → (o : Op) (b : Buf) → Alone c (begin o) b (runOf i x q a t) → At c (one st i (alone share n (begin o) b (runOf i x q a t)) u q′ a′ t′)
   alone-begin st i {x} {u} l q q′ {a} {a′} {t} {t′} h k k′ e o b m = by (m .2)
     where
@@ -268,7 +268,7 @@ module _ (c : Channel) (share : Bool) (n : ℕ) where
       by (own-lent d) = alone-own st i x l q q′ h k k′ e (m .0) b (m .1) d
 
   pub alone-by : (st : ℕ) (i : Bool) {x u : tree.Out St Answer} (l : ApartBy c st i (SameAnswer (c .number)) true x u)
-      (q q′ : Access) {a a′ : Ans Answer} {t t′ : List ℕ} → Told l a a′ → Keeps i x a → Keeps i u a′ → t ≡ t′
+      (q q′ : Access) {a a′ : Ans Answer} {t t′ : List ℕ} → Told l a a′ → Orderly i x a → Orderly i u a′ → t ≡ t′
       → (d : Call Config Op) (b : Buf) → Alone c d b (runOf i x q a t) → At c (one st i (alone share n d b (runOf i x q a t)) u q′ a′ t′)
   alone-by st i l q q′ h k k′ e (go v) b m = alone-go st i l q q′ h k k′ e v b m
   alone-by st i l q q′ h k k′ e (begin o) b m = alone-begin st i l q q′ h k k′ e o b m

@@ -10,7 +10,7 @@ use Rattle.model.specs.Control.{DATA-OUT}
 use Rattle.model.specs.Steps.{Kind, receiving, starting, is, mayPut, mayAct}
 use Rattle.model.specs.StepsRuns.{Keeps}
 use Rattle.model.specs.StepsRunsLaws.{or-else}
-use Rattle.model.specs.MachineKept.{Lent}
+use Rattle.model.specs.MachineKept.{LentKeeps}
 use Rattle.model_ops.specs.Rings.{St}
 use Rattle.model_ops.specs.Concrete.{concrete}
 use Rattle.proof_isolation.specs.EqualExcept.{Bounded}
@@ -46,7 +46,7 @@ module _ (k : Kind) (no-out : is k receiving ≡ false) (no-start : is k startin
   none-starts no-wakes h = refl
   none-starts (waken codes) h = refl
 
-  pub bounds-keep : Keeps concrete (Lent Bounded) k
+  pub bounds-keep : Keeps concrete (LentKeeps Bounded) k
   bounds-keep = record {
     put = puts;
     act = λ q h s b. settled-bounded (act-settled q (none-starts q h) s) b;

@@ -29,7 +29,7 @@ use Rattle.model.specs.StepsCalls.{call-steps, start-up-steps}
 use Rattle.model.specs.StepsKinds.{Begins, a-read, a-data-out, ep0, none, begins}
 use Rattle.model.specs.StepsRuns.{Holds, end}
 use Rattle.model.specs.StepsRunsLaws.{holds-run}
-use Rattle.model.specs.MachineKept.{Lent, Kept, Preserves}
+use Rattle.model.specs.MachineKept.{LentKeeps, MachineKeeps, Preserves}
 use Rattle.model.specs.MachineKeptLaws.{start-kept, call-kept}
 use Rattle.model_ops.specs.Records.{startedWith, allocatedEp0}
 use Rattle.model_ops.specs.Rings.{St}
@@ -51,12 +51,12 @@ ep0-steps maximum (alloc.Given e base slots) =
     (tt, λ _. ((((λ _. tt, tt), λ _. ((tt, tt), λ _. ((tt, tt), λ _. ((tt, tt), λ _. (tt, tt))))), λ _. tt), λ _. (λ _. tt, λ _. tt)))
 
 -- EP0's start (row 4): before it no data_out is begun
-begin-ep0 : (maximum : ℕ) (s : St) → Bounded (s .0) → Holds (Lent Bounded) (run {i = false} concrete (driver.start maximum) s)
+begin-ep0 : (maximum : ℕ) (s : St) → Bounded (s .0) → Holds (LentKeeps Bounded) (run {i = false} concrete (driver.start maximum) s)
 unfolding allocatedEp0
 begin-ep0 maximum s b = by s b (eqb (s .0 .globals .stage) 1) refl
   where
     by : (s : St) → Bounded (s .0) → (u : Bool) → eqb (s .0 .globals .stage) 1 ≡ u
-        → Holds (Lent Bounded)
+        → Holds (LentKeeps Bounded)
         (run {i = false} concrete
         (test u (bind (get allocator-cell) (λ a. act (allocate0 maximum) >> started-as maximum (allocateEp0Of a maximum .answer)))
         (ret (Refused 4))) s)
@@ -76,21 +76,21 @@ arms n first = resultless (modifyEp Out 0 (λ s. withArmed 1 (withLen n (withRea
 arm-steps : (n : ℕ) (first : Bool) → Steps plain (arms n first)
 arm-steps n first = (tt, λ _. ((((λ _. tt, λ _. tt), λ _. of-acks plain Out first), λ _. tt), λ _. (λ _. tt, λ _. tt)))
 
-begin-out : (n : ℕ) (first : Bool) (s : St) → Bounded (s .0) → Holds (Lent Bounded) (run {i = false} concrete (beginDataOut n first) s)
+begin-out : (n : ℕ) (first : Bool) (s : St) → Bounded (s .0) → Holds (LentKeeps Bounded) (run {i = false} concrete (beginDataOut n first) s)
 begin-out n first s b = staged-by s b (eqb (s .0 .globals .stage) 2) refl
   where
     setup-by : (s : St) → Bounded (s .0) → s .0 .globals .stage ≡ 2 → n ≤ s .0 .globals .«ep0_max» → (u : Bool)
-        → Holds (Lent Bounded) (run {i = false} concrete (unless u 9 (put control-cell (requestOf DATA-OUT n) >> arms n first)) s)
+        → Holds (LentKeeps Bounded) (run {i = false} concrete (unless u 9 (put control-cell (requestOf DATA-OUT n) >> arms n first)) s)
     setup-by s b h k true = end b
     setup-by s b h k false =
         holds-run (bounds-keep plain refl refl) (arms n first) (arm-steps n first) (putOn control-cell (requestOf DATA-OUT n) s) (λ _. (h, k))
 
     within-by : (s : St) → Bounded (s .0) → s .0 .globals .stage ≡ 2 → (u : Bool) → ltb (s .0 .globals .«ep0_max») n ≡ u
-        → Holds (Lent Bounded) (run {i = false} concrete (unless u 10 (unlessSetup (put control-cell (requestOf DATA-OUT n) >> arms n first))) s)
+        → Holds (LentKeeps Bounded) (run {i = false} concrete (unless u 10 (unlessSetup (put control-cell (requestOf DATA-OUT n) >> arms n first))) s)
     within-by s b h true w = end b
     within-by s b h false w = setup-by s b h (ltb-false (s .0 .globals .«ep0_max») n w) (isOn (s .0 .globals .«setup_ready»))
 
-    staged-by : (s : St) → Bounded (s .0) → (u : Bool) → eqb (s .0 .globals .stage) 2 ≡ u → Holds (Lent Bounded)
+    staged-by : (s : St) → Bounded (s .0) → (u : Bool) → eqb (s .0 .globals .stage) 2 ≡ u → Holds (LentKeeps Bounded)
         (run {i = false} concrete
         (test u (withinMaximum n (unlessSetup (put control-cell (requestOf DATA-OUT n) >> arms n first))) (ret (Refused 4))) s)
     staged-by s b true h = within-by s b (eqb-true (s .0 .globals .stage) 2 h) (ltb (s .0 .globals .«ep0_max») n) refl
@@ -98,7 +98,7 @@ begin-out n first s b = staged-by s b (eqb (s .0 .globals .stage) 2) refl
 
 -- ---- every call
 
-keeps-bounds : {o : Op} → Begins o → (s : St) → Bounded (s .0) → Holds (Lent Bounded) (run concrete (code o) s)
+keeps-bounds : {o : Op} → Begins o → (s : St) → Bounded (s .0) → Holds (LentKeeps Bounded) (run concrete (code o) s)
 keeps-bounds (a-read e n) s b = holds-run (bounds-keep reading refl refl) (code (other (BeginRead e n))) (call-steps (other (BeginRead e n))) s b
 keeps-bounds (a-data-out n first) s b = begin-out n first s b
 keeps-bounds (ep0 maximum) s b = begin-ep0 maximum s b
@@ -115,7 +115,7 @@ preserved = record {
   fresh = λ c b row. fresh-bounded c;
 }
 
-always : (es : List (Event Config Op)) (m : Machine Answer Driver) → Kept Bounded m → Kept Bounded (after calls driverOf es m)
+always : (es : List (Event Config Op)) (m : Machine Answer Driver) → MachineKeeps Bounded m → MachineKeeps Bounded (after calls driverOf es m)
 always [] m k = k
 always (e ∷ es) m k = always es _ (call-kept preserved (e .call) m k (e .lent))
 

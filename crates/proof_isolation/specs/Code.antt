@@ -81,7 +81,7 @@ abbrev pub timed : (List ℕ → List ℕ) → Held → Held
 timed f h = record { bytes = h .bytes; slots = h .slots; access = h .access; answer = h .answer; time = f (h .time) }
 
 -- a turn with what its calls left; where it is of one run alone, the other's is not looked at
-pub record Step : Type 0 where
+pub record TurnStep : Type 0 where
   pub turn : Turn
   pub first : Left
   pub second : Left
@@ -96,7 +96,7 @@ nextBy (others-time f) l l′ w = record { first = timed f (w .first); second = 
 nextBy (first e) l l′ w = record { first = heardOwn (e .call) l (w .first); second = w .second; status = w .status }
 nextBy (second e) l l′ w = record { first = w .first; second = heardOwn (e .call) l′ (w .second); status = w .status }
 
-abbrev pub next : Step → Pair → Pair
+abbrev pub next : TurnStep → Pair → Pair
 next s w = nextBy (s .turn) (s .first) (s .second) w
 
 -- before the two part: a call of both, with what it left in each, or what other drivers do to the bus time
@@ -115,29 +115,29 @@ afterEarly (got e l l′ ∷ ms) w = afterEarly ms (record { first = heard l (w 
 afterEarly (shared-by f ∷ ms) w = afterEarly ms (record { first = timed f (w .first); second = timed f (w .second); status = w .status })
 
 -- a session (`Session`): a start-up with what it left in both, the list that is one in both, and the steps
-pub record Made : Type 0 where
+pub record SessionMade : Type 0 where
   pub config : Config
   pub lent : Buf
   pub up : Left
   pub up′ : Left
   pub before : List EarlyMade
   pub channel : Channel
-  pub steps : List Step
+  pub steps : List TurnStep
 
-abbrev turnsOf : List Step → List Turn
+abbrev turnsOf : List TurnStep → List Turn
 turnsOf [] = []
 turnsOf (s ∷ ss) = s .turn ∷ turnsOf ss
 
-abbrev pub sessionOf : Made → Session
+abbrev pub sessionOf : SessionMade → Session
 sessionOf m = record { config = m .config; lent = m .lent; before = early (m .before); channel = m .channel; turns = turnsOf (m .steps) }
 
-abbrev pub startedBy : Made → Pair → Pair
+abbrev pub startedBy : SessionMade → Pair → Pair
 startedBy m w = record { first = heard (m .up) (w .first); second = heard (m .up′) (w .second); status = 0 }
 
-abbrev pub openedBy : Made → Pair → Pair
+abbrev pub openedBy : SessionMade → Pair → Pair
 openedBy m w = afterEarly (m .before) (startedBy m w)
 
-abbrev pub afterSteps : List Step → Pair → Pair
+abbrev pub afterSteps : List TurnStep → Pair → Pair
 afterSteps [] w = w
 afterSteps (s ∷ ss) w = afterSteps ss (next s w)
 
@@ -153,7 +153,7 @@ module _ (share : Bool) (n : ℕ) where
   DidBy (first e) l l′ w = CallStep share n (e .call) (e .lent) (w .first) l
   DidBy (second e) l l′ w = CallStep share n (e .call) (e .lent) (w .second) l′
 
-  abbrev pub DidStep : Step → Pair → Type 0
+  abbrev pub DidStep : TurnStep → Pair → Type 0
   DidStep s w = DidBy (s .turn) (s .first) (s .second) w
 
   abbrev pub DidEarly : List EarlyMade → Pair → Type 0
@@ -163,18 +163,18 @@ module _ (share : Bool) (n : ℕ) where
       × DidEarly ms (record { first = heard l (w .first); second = heard l′ (w .second); status = w .status })
   DidEarly (shared-by f ∷ ms) w = DidEarly ms (record { first = timed f (w .first); second = timed f (w .second); status = w .status })
 
-  abbrev pub DidSteps : Channel → List Step → Pair → Type 0
+  abbrev pub DidSteps : Channel → List TurnStep → Pair → Type 0
   DidSteps c [] w = Unit {0}
   DidSteps c (s ∷ ss) w = DidStep s w × May c (s .turn) (twoOf w) × DidSteps c ss (next s w)
 
   -- the promise after every step
-  abbrev pub EveryStep : Channel → List Step → Pair → Type 0
+  abbrev pub EveryStep : Channel → List TurnStep → Pair → Type 0
   EveryStep c [] w = Unit {0}
   EveryStep c (s ∷ ss) w = After c (s .turn) (twoOf (next s w)) × EveryStep c ss (next s w)
 
   -- the start-up is accepted; the list that is one in both is one of demand 3's premise and comes to a point after EP0's start with nothing under way;
   -- the channel is an isochronous OUT endpoint of the run
-  pub record Begun (m : Made) (w : Pair) : Type 0 where
+  pub record Begun (m : SessionMade) (w : Pair) : Type 0 where
     pub accepted : startRow (m .config) (m .lent) ≡ zero
     pub up : CallStep share n (start (m .config)) (m .lent) (w .first) (m .up)
     pub up′ : CallStep share n (start (m .config)) (m .lent) (w .second) (m .up′)
@@ -186,11 +186,11 @@ module _ (share : Bool) (n : ℕ) where
     pub sorts : m .channel .iso ≡ sortsOf (runOf (openedBy m w .first) .machine .st)
     pub steps : DidSteps (m .channel) (m .steps) (openedBy m w)
 
-  abbrev pub AllBegun : List Made → Pair → Type 0
+  abbrev pub AllBegun : List SessionMade → Pair → Type 0
   AllBegun [] w = Unit {0}
   AllBegun (m ∷ ms) w = Begun m w × AllBegun ms (afterSteps (m .steps) (openedBy m w))
 
-  abbrev pub CodeUndisturbed : List Made → Pair → Type 0
+  abbrev pub CodeUndisturbed : List SessionMade → Pair → Type 0
   CodeUndisturbed [] w = Unit {0}
   CodeUndisturbed (m ∷ ms) w = EveryStep (m .channel) (m .steps) (openedBy m w) × CodeUndisturbed ms (afterSteps (m .steps) (openedBy m w))
 
@@ -242,7 +242,7 @@ module _ (share : Bool) (n : ℕ) where
 
   -- ---- the theorem
 
-  pub code-every : (c : Channel) (ss : List Step) (w : Pair)
+  pub code-every : (c : Channel) (ss : List TurnStep) (w : Pair)
       → At c (twoOf w) → DidSteps share n c ss w → EveryStep share n c ss w × At c (twoOf (afterSteps ss w))
   code-every c [] w a d = (tt, a)
   code-every c (s ∷ ss) w a d =
@@ -251,7 +251,7 @@ module _ (share : Bool) (n : ℕ) where
       let z = code-every c ss (next s w) (subst (At c) e (y .stand)) (d .2) in
       ((subst (After c (s .turn)) e (y .after-it), z .0), z .1)
 
-  module _ (m : Made) (w : Pair) (o : Begun share n m w) where
+  module _ (m : SessionMade) (w : Pair) (o : Begun share n m w) where
     up-is : runOf (startedBy m w .first) ≡ started-up share n (sessionOf m) (runOf (w .first))
     up-is = heard-is (start (m .config)) (m .lent) (w .first) (m .up) (o .up)
 
@@ -277,7 +277,7 @@ module _ (share : Bool) (n : ℕ) where
     begun-at e = subst (At (m .channel)) opened-is (opened-at share n _ (twoOf w) e opens)
 
   -- any bytes in each of two runs with one record of the bus time; start-ups, and calls whose contracts say what they are steps of
-  pub code-undisturbed : (ms : List Made) (w : Pair) → w .first .time ≡ w .second .time → AllBegun share n ms w → CodeUndisturbed share n ms w
+  pub code-undisturbed : (ms : List SessionMade) (w : Pair) → w .first .time ≡ w .second .time → AllBegun share n ms w → CodeUndisturbed share n ms w
   code-undisturbed [] w e o = tt
   code-undisturbed (m ∷ ms) w e o =
       let z = code-every (m .channel) (m .steps) (openedBy m w) (begun-at m w (o .0) e) (o .0 .steps) in

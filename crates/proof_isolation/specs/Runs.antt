@@ -29,7 +29,7 @@ use Rattle.proof_isolation.specs.Ending.{Finished, fin}
 use Rattle.proof_isolation.specs.Asides.{Others, p-aside, finishes}
 use Rattle.proof_isolation.specs.Operations.{Common}
 use Rattle.proof_isolation.specs.OperationsLaws.{p-call}
-use Rattle.proof_isolation.specs.Stores.{Lent}
+use Rattle.proof_isolation.specs.Stores.{StoredAlike}
 use Rattle.proof_isolation.specs.StoresLaws.{lent-like}
 use Rattle.proof_isolation.specs.Time.{same-record, same-turned-down}
 use Rattle.proof_isolation.specs.Others.{same-answers}
@@ -39,7 +39,7 @@ use Rattle.proof_isolation.specs.Schedule.{Run, Two, begins, goes, asked
 use Rattle.proof_isolation.specs.Schedule.{shared, called, turn, stateOf, Timely, atOwn, unfit, wide, BringsAt}
 use Rattle.proof_isolation.specs.Schedule.{BothCall, call-row1, call-lent, BothGo, go-row1, go-row16, go-on, May}
 use Rattle.proof_isolation.specs.Schedule.{SameAns, same, alike}
-use Rattle.proof_isolation.specs.Standing.{machineOf, stops, runOf, own-yes, same-ans, Told, Keeps, At, at, Both}
+use Rattle.proof_isolation.specs.Standing.{machineOf, stops, runOf, own-yes, same-ans, Told, Orderly, At, at, Both}
 use Rattle.proof_isolation.specs.StandingLaws.{fits, past-no, times-on, lands}
 
 -- ---- what the machine of calls does
@@ -186,7 +186,7 @@ module _ (c : Channel) (share : Bool) (n : ℕ) where
 
   -- where both stay as they are, with an answer that is the same; where nothing is under way, whatever the next status word
   stays-by : (st w : ℕ) (i : Bool) {o u : tree.Out St Answer} (l : ApartBy c st i (SameAnswer (c .number)) true o u)
-      (q q′ : Access) {a a′ : Ans Answer} {t t′ : List ℕ} → Keeps i o a → Keeps i u a′ → t ≡ t′
+      (q q′ : Access) {a a′ : Ans Answer} {t t′ : List ℕ} → Orderly i o a → Orderly i u a′ → t ≡ t′
       → atOwn c (runOf i o q a t) ≡ atOwn c (runOf i u q′ a′ t′)
       → Both c (two (statusOf (stops i o .1 .way) w st) i o u q q′ (ended (Refused 1)) (ended (Refused 1)) t t′)
   stays-by st w i (end x l) q q′ k k′ e m = record {
@@ -213,10 +213,10 @@ module _ (c : Channel) (share : Bool) (n : ℕ) where
   abbrev Within : ℕ → ℕ → Buf → Buf → Two → Type 0
   Within v v′ b b′ w = (atOwn c (w .first) ≡ false) × (atOwn c (w .second) ≡ false)
       × BringsAt c (w .first .machine .way) (w .status) (w .first .access) v v′ × (wide (w .first .machine .way) v ≡ false)
-      × (wide (w .second .machine .way) v′ ≡ false) × Lent c (stateOf (w .first)) (stateOf (w .second)) b b′
+      × (wide (w .second .machine .way) v′ ≡ false) × StoredAlike c (stateOf (w .first)) (stateOf (w .second)) b b′
 
   goes-within : (st : ℕ) (i : Bool) {o u : tree.Out St Answer} (l : ApartBy c st i (SameAnswer (c .number)) true o u)
-      (q q′ : Access) {a a′ : Ans Answer} {t t′ : List ℕ} → Keeps i o a → Keeps i u a′ → t ≡ t′
+      (q q′ : Access) {a a′ : Ans Answer} {t t′ : List ℕ} → Orderly i o a → Orderly i u a′ → t ≡ t′
       → (v v′ : ℕ) (b b′ : Buf) → Within v v′ b b′ (two st i o u q q′ a a′ t t′) → Both c (turn share n (goes v v′ b b′) (two st i o u q q′ a a′ t t′))
   goes-within st i (end {s = s} {t = t} x l) q q′ {t = r} {t′ = r′} k k′ e v v′ b b′ m =
       let h = lent-like l (m .5) in
@@ -247,10 +247,10 @@ module _ (c : Channel) (share : Bool) (n : ℕ) where
 
   -- row 16 in both: they stay at the access, lent what they are
   goes-wide : (st : ℕ) (i : Bool) {o u : tree.Out St Answer} (l : ApartBy c st i (SameAnswer (c .number)) true o u)
-      (q q′ : Access) {a a′ : Ans Answer} {t t′ : List ℕ} → Keeps i o a → Keeps i u a′ → t ≡ t′
+      (q q′ : Access) {a a′ : Ans Answer} {t t′ : List ℕ} → Orderly i o a → Orderly i u a′ → t ≡ t′
       → (v v′ : ℕ) (b b′ : Buf) → let w = two st i o u q q′ a a′ t t′ in
       atOwn c (w .first) ≡ false → atOwn c (w .second) ≡ false → wide (w .first .machine .way) v ≡ true
-      → wide (w .second .machine .way) v′ ≡ true → Lent c (stateOf (w .first)) (stateOf (w .second)) b b′
+      → wide (w .second .machine .way) v′ ≡ true → StoredAlike c (stateOf (w .first)) (stateOf (w .second)) b b′
       → Both c (turn share n (goes v v′ b b′) w)
   goes-wide st i (end x l) q q′ k k′ e v v′ b b′ m m′ z z′ d = absurd (true≢false (sym z))
   goes-wide st i (both {q = p} {s = s} {t = t} {k = g} {k′ = g′} φ y w w′ l f) q q′ {t = r} {t′ = r′} k k′ e v v′ b b′ m m′ z z′ d =
@@ -274,7 +274,7 @@ module _ (c : Channel) (share : Bool) (n : ℕ) where
 
   -- row 1 in both
   refused-by : (st w : ℕ) (i : Bool) {o u : tree.Out St Answer} (l : ApartBy c st i (SameAnswer (c .number)) true o u)
-      (q q′ : Access) {a a′ : Ans Answer} {t t′ : List ℕ} → Keeps i o a → Keeps i u a′ → t ≡ t′
+      (q q′ : Access) {a a′ : Ans Answer} {t t′ : List ℕ} → Orderly i o a → Orderly i u a′ → t ≡ t′
       → atOwn c (runOf i o q a t) ≡ atOwn c (runOf i u q′ a′ t′)
       → (d d′ : Call Config Op) (b b′ : Buf) → drive d (stops i o .1) b ≡ (ended (Refused 1), stops i o .1)
       → drive d′ (stops i u .1) b′ ≡ (ended (Refused 1), stops i u .1)
@@ -297,7 +297,7 @@ module _ (c : Channel) (share : Bool) (n : ℕ) where
       (stays-by st w i l q q′ k k′ e m))
 
   pub goes-by : (st : ℕ) (i : Bool) {o u : tree.Out St Answer} (l : ApartBy c st i (SameAnswer (c .number)) true o u)
-      (q q′ : Access) {a a′ : Ans Answer} {t t′ : List ℕ} → Keeps i o a → Keeps i u a′ → t ≡ t′
+      (q q′ : Access) {a a′ : Ans Answer} {t t′ : List ℕ} → Orderly i o a → Orderly i u a′ → t ≡ t′
       → (v v′ : ℕ) (b b′ : Buf) → May c (goes v v′ b b′) (two st i o u q q′ a a′ t t′) → Both c (turn share n (goes v v′ b b′) (two st i o u q q′ a a′ t t′))
   goes-by st i {o} {u} l q q′ {a} {a′} {t} {t′} k k′ e v v′ b b′ m = by (m .2)
     where
@@ -319,7 +319,7 @@ module _ (c : Channel) (share : Bool) (n : ℕ) where
   -- open, close or queue of another endpoint, where both stand at a common access or at one of the channel's own
   module _ (st : ℕ) (i : Bool) (j : i ≡ true) (o : Aside)
       (x : Others (c .number) o) {s t : St} (p p′ : Access) (g g′ : ℕ → St → tree.Out St Answer) (b b′ : Buf)
-      (h : LowEquiv c quiet (s .0, b) (t .0, b′)) (a a′ : Ans Answer) (r r′ : List ℕ) (k : Keeps i (asks p s g) a) (k′ : Keeps i (asks p′ t g′) a′)
+      (h : LowEquiv c quiet (s .0, b) (t .0, b′)) (a a′ : Ans Answer) (r r′ : List ℕ) (k : Orderly i (asks p s g) a) (k′ : Orderly i (asks p′ t g′) a′)
       (G : Run → Run → Type 0)
       (f : (d d′ : Answer) (u u′ : St) → SameAnswer (c .number) d d′ → LowEquiv c quiet u u′
       → Rooms (ended d, machineOf (busy i (awaited p) g) u) → Rooms (ended d′, machineOf (busy i (awaited p′) g′) u′)
@@ -346,10 +346,10 @@ module _ (c : Channel) (share : Bool) (n : ℕ) where
   -- lent as the premise has it
   abbrev Lends : Op → Buf → Buf → Two → Type 0
   Lends op b b′ w = (atOwn c (w .first) ≡ atOwn c (w .second)) × Common (c .number) op
-      × Timely (w .first .machine .way) op × Lent c (stateOf (w .first)) (stateOf (w .second)) b b′
+      × Timely (w .first .machine .way) op × StoredAlike c (stateOf (w .first)) (stateOf (w .second)) b b′
 
   begins-lent : (st : ℕ) (i : Bool) {o u : tree.Out St Answer} (l : ApartBy c st i (SameAnswer (c .number)) true o u)
-      (q q′ : Access) {a a′ : Ans Answer} {t t′ : List ℕ} → Keeps i o a → Keeps i u a′ → t ≡ t′
+      (q q′ : Access) {a a′ : Ans Answer} {t t′ : List ℕ} → Orderly i o a → Orderly i u a′ → t ≡ t′
       → (w : ℕ) (op : Op) (b b′ : Buf) → Lends op b b′ (two st i o u q q′ a a′ t t′) → Both c (turn share n (begins w op b b′) (two st i o u q q′ a a′ t t′))
   begins-lent st i (end {s = s} {t = t} x l) q q′ {t = r} {t′ = r′} k k′ e w op b b′ m =
       let h = lent-like l (m .3) in
@@ -423,7 +423,7 @@ module _ (c : Channel) (share : Bool) (n : ℕ) where
   begins-lent st i (owns w w′ l f f′) q q′ k k′ e v (other o) b b′ m = absurd (m .2)
 
   pub begins-by : (st : ℕ) (i : Bool) {o u : tree.Out St Answer} (l : ApartBy c st i (SameAnswer (c .number)) true o u)
-      (q q′ : Access) {a a′ : Ans Answer} {t t′ : List ℕ} → Keeps i o a → Keeps i u a′ → t ≡ t′
+      (q q′ : Access) {a a′ : Ans Answer} {t t′ : List ℕ} → Orderly i o a → Orderly i u a′ → t ≡ t′
       → (v : ℕ) (op : Op) (b b′ : Buf) → May c (begins v op b b′) (two st i o u q q′ a a′ t t′)
       → Both c (turn share n (begins v op b b′) (two st i o u q q′ a a′ t t′))
   begins-by st i {o} {u} l q q′ {a} {a′} {t} {t′} k k′ e v op b b′ m = by (m .3)
@@ -438,7 +438,7 @@ module _ (c : Channel) (share : Bool) (n : ℕ) where
   -- ---- a question of both
 
   pub asked-by : (st : ℕ) (i : Bool) {o u : tree.Out St Answer} (l : ApartBy c st i (SameAnswer (c .number)) true o u)
-      (q q′ : Access) {a a′ : Ans Answer} {t t′ : List ℕ} → Keeps i o a → Keeps i u a′ → t ≡ t′
+      (q q′ : Access) {a a′ : Ans Answer} {t t′ : List ℕ} → Orderly i o a → Orderly i u a′ → t ≡ t′
       → (w : Question) (b b′ : Buf) → May c (asked w b b′) (two st i o u q q′ a a′ t t′) → Both c (turn share n (asked w b b′) (two st i o u q q′ a a′ t t′))
   asked-by st i (end x l) q q′ k k′ e w b b′ m = record {
     stand = at st i (end x (lent-like l (m .2))) q q′ (told-same (same-answers l w (m .1))) (record {
@@ -468,7 +468,7 @@ module _ (c : Channel) (share : Bool) (n : ℕ) where
   -- ---- stores in both
 
   pub stores-by : (st : ℕ) (i : Bool) {o u : tree.Out St Answer} (l : ApartBy c st i (SameAnswer (c .number)) true o u)
-      (q q′ : Access) {a a′ : Ans Answer} {t t′ : List ℕ} → Told l a a′ → Keeps i o a → Keeps i u a′ → t ≡ t′
+      (q q′ : Access) {a a′ : Ans Answer} {t t′ : List ℕ} → Told l a a′ → Orderly i o a → Orderly i u a′ → t ≡ t′
       → (b b′ : Buf) → May c (stores b b′) (two st i o u q q′ a a′ t t′) → At c (turn share n (stores b b′) (two st i o u q q′ a a′ t t′))
   stores-by st i (end x l) q q′ h k k′ e b b′ m =
       at st i (end x (lent-like l (m .1))) q q′ h (record {

@@ -26,7 +26,7 @@ use Rattle.proof_isolation.specs.EqualExcept.{others, Channel}
 use Rattle.proof_isolation.specs.Whose.{own}
 use Rattle.proof_isolation.specs.Apart.{Brings}
 use Rattle.proof_isolation.specs.Operations.{Common, OfChannel}
-use Rattle.proof_isolation.specs.Stores.{Lent, OwnLent}
+use Rattle.proof_isolation.specs.Stores.{StoredAlike, OwnLent}
 
 -- ---- the runs
 
@@ -174,10 +174,10 @@ module _ (c : Channel) where
   Asked (overruns e) = key Out e ≢ key Out (c .number)
   Asked (enabled dir e) = Unit {0}
 
-  -- a call of both: refused with 1, which any buffer of a wrong length is; or lent the slot buffers as `Lent` says
+  -- a call of both: refused with 1, which any buffer of a wrong length is; or lent the slot buffers as `StoredAlike` says
   pub data BothCall (o : Op) (r r′ : Run) (b b′ : Buf) : Type 0 where
     call-row1 : unfit (begin o) r b ≡ true → unfit (begin o) r′ b′ ≡ true → BothCall o r r′ b b′
-    call-lent : Lent c (stateOf r) (stateOf r′) b b′ → BothCall o r r′ b b′
+    call-lent : StoredAlike c (stateOf r) (stateOf r′) b b′ → BothCall o r r′ b b′
 
   -- after a reading its values; where nothing is under way any number (row 15)
   abbrev pub BringsAt : Way Answer Driver → ℕ → Access → ℕ → ℕ → Type 0
@@ -187,9 +187,9 @@ module _ (c : Channel) where
   -- a continue of both: refused with 1; refused with 16, both readings being too wide; or with readings as `Brings` says
   pub data BothGo (st v v′ : ℕ) (r r′ : Run) (b b′ : Buf) : Type 0 where
     go-row1 : unfit (go v) r b ≡ true → unfit (go v′) r′ b′ ≡ true → BothGo st v v′ r r′ b b′
-    go-row16 : wide (r .machine .way) v ≡ true → wide (r′ .machine .way) v′ ≡ true → Lent c (stateOf r) (stateOf r′) b b′ → BothGo st v v′ r r′ b b′
+    go-row16 : wide (r .machine .way) v ≡ true → wide (r′ .machine .way) v′ ≡ true → StoredAlike c (stateOf r) (stateOf r′) b b′ → BothGo st v v′ r r′ b b′
     go-on : wide (r .machine .way) v ≡ false → wide (r′ .machine .way) v′ ≡ false → BringsAt (r .machine .way) st (r .access) v v′
-        → Lent c (stateOf r) (stateOf r′) b b′ → BothGo st v v′ r r′ b b′
+        → StoredAlike c (stateOf r) (stateOf r′) b b′ → BothGo st v v′ r r′ b b′
 
   -- a call of one alone: refused with 1, or lent its slot buffer as `OwnLent` says
   pub data OwnCall (d : Call Config Op) (r : Run) (b : Buf) : Type 0 where
@@ -212,8 +212,8 @@ module _ (c : Channel) where
   May (begins st o b b′) w = (atOwn (w .first) ≡ atOwn (w .second)) × Common (c .number) o
       × Timely (w .first .machine .way) o × BothCall o (w .first) (w .second) b b′
   May (goes v v′ b b′) w = (atOwn (w .first) ≡ false) × (atOwn (w .second) ≡ false) × BothGo (w .status) v v′ (w .first) (w .second) b b′
-  May (asked q b b′) w = (atOwn (w .first) ≡ atOwn (w .second)) × Asked q × Lent c (stateOf (w .first)) (stateOf (w .second)) b b′
-  May (stores b b′) w = (atOwn (w .first) ≡ atOwn (w .second)) × Lent c (stateOf (w .first)) (stateOf (w .second)) b b′
+  May (asked q b b′) w = (atOwn (w .first) ≡ atOwn (w .second)) × Asked q × StoredAlike c (stateOf (w .first)) (stateOf (w .second)) b b′
+  May (stores b b′) w = (atOwn (w .first) ≡ atOwn (w .second)) × StoredAlike c (stateOf (w .first)) (stateOf (w .second)) b b′
   May (others-time f) w = Unit {0}
   May (first e) w = Alone (e .call) (e .lent) (w .first)
   May (second e) w = Alone (e .call) (e .lent) (w .second)

@@ -120,14 +120,14 @@ module _ {c : Channel} {st : ℕ} {i : Bool} where
 -- ---- where they stand
 
 -- of each run: an interrupt writes no ep_config, and there is room for wake-ups
-pub record Keeps (i : Bool) (o : tree.Out St Answer) (a : Ans Answer) : Type 0 where
+pub record Orderly (i : Bool) (o : tree.Out St Answer) (a : Ans Answer) : Type 0 where
   pub spares : i ≡ true → Sparing o
   pub few : Few a
   pub room : Roomy (stops i o .1)
 
 pub data At (c : Channel) : Two → Type 0 where
   at : (st : ℕ) (i : Bool) {o u : tree.Out St Answer} (l : ApartBy c st i (SameAnswer (c .number)) true o u) (q q′ : Access) {a a′ : Ans Answer} {t t′ : List ℕ}
-      → Told l a a′ → Keeps i o a → Keeps i u a′ → t ≡ t′ → At c (record { first = runOf i o q a t; second = runOf i u q′ a′ t′; status = st })
+      → Told l a a′ → Orderly i o a → Orderly i u a′ → t ≡ t′ → At c (record { first = runOf i o q a t; second = runOf i u q′ a′ t′; status = st })
 
 -- after a call of both
 pub record Both (c : Channel) (w : Two) : Type 0 where

@@ -29,7 +29,7 @@ abbrev pub Outside : Channel → Driver → ℕ → Type 0
 Outside c d k = (k < epOn d Out (c .number) .base) ⊎ (endOf (epOn d Out (c .number)) ≤ k)
 
 -- the two runs are lent the same but for "the bytes stored in the slots of one isochronous OUT endpoint": a byte elsewhere that was the same is
-pub record Lent (c : Channel) (s t : St) (b b′ : Buf) : Type 0 where
+pub record StoredAlike (c : Channel) (s t : St) (b b′ : Buf) : Type 0 where
   pub left : Stored (s .0) (s .1) b
   pub right : Stored (t .0) (t .1) b′
   pub same : (k : ℕ) → Outside c (s .0) k → getD (t .1) k 0 ≡ getD (s .1) k 0 → getD b′ k 0 ≡ getD b k 0

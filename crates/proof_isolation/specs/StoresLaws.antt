@@ -18,13 +18,13 @@ use Rattle.proof_book.specs.Coupling.{Coupling, Chip}
 use Rattle.proof_book.specs.ChipsLaws.{chip}
 use Rattle.proof_isolation.specs.EqualExcept.{Lawful, Channel, LowEquiv, Touched}
 use Rattle.proof_isolation.specs.Likes.{but-refl}
-use Rattle.proof_isolation.specs.Stores.{Stored, Lent, OwnLent}
+use Rattle.proof_isolation.specs.Stores.{Stored, StoredAlike, OwnLent}
 
 -- lent as it was left, no call is shut out
 stored-none : (d : Driver) (b : Buf) → Stored d b b
 stored-none d b = record { long = refl; others = λ k w. refl }
 
-pub lent-back : (c : Channel) (s t : St) → Lent c s t (s .1) (t .1)
+pub lent-back : (c : Channel) (s t : St) → StoredAlike c s t (s .1) (t .1)
 lent-back c s t = record { left = stored-none (s .0) (s .1); right = stored-none (t .0) (t .1); same = λ k o e. e }
 
 pub own-lent-back : (c : Channel) (s : St) → OwnLent c s (s .1)
@@ -59,7 +59,7 @@ lawful-stored c {φ} {s} {b} l h = record {
 }
 
 module _ {c : Channel} {φ : Phase} where
-  pub lent-like : {s t : St} {b b′ : Buf} → LowEquiv c φ s t → Lent c s t b b′ → LowEquiv c φ (s .0, b) (t .0, b′)
+  pub lent-like : {s t : St} {b b′ : Buf} → LowEquiv c φ s t → StoredAlike c s t b b′ → LowEquiv c φ (s .0, b) (t .0, b′)
   lent-like {s} {t} {b} {b′} l h = record {
     left = lawful-stored c (l .left) (h .left);
     right = lawful-stored c (l .right) (h .right);

@@ -31,26 +31,26 @@ use Rattle.proof_isolation.specs.Standing.{machineOf, stops, runOf, never-made}
 use Rattle.proof_isolation.specs.Runs.{go-busy, aside-busy}
 use Rattle.proof_isolation_late.specs.Late.{Light, opens, closes, asks-of, callOf, Item, gets, goes-own, lightsOf, lit, gone, lits}
 use Rattle.proof_isolation_late.specs.Late.{litAnswers, itemAnswers, Other, AtOwn}
-use Rattle.proof_isolation_late.specs.Lights.{done-by, Seen, seen}
+use Rattle.proof_isolation_late.specs.Lights.{done-by, AnswerParts, seen}
 use Rattle.proof_isolation_late.specs.LightsLaws.{open-is, close-is, oldest-opening, stamp-opening}
 use Rattle.proof_isolation_late.specs.Slides.{Slid, slid-end, slid-ask, slid-lost, Free, FreeWay, halt-free}
 
 -- ---- what such a call is answered, and whether it changes anything
 
-abbrev pub openAnswer : ℕ → Seen → Answer
+abbrev pub openAnswer : ℕ → AnswerParts → Answer
 openAnswer e z = cond (eqb (z .stage) 2)
     (cond (isAllocated (z .allocator) Out e) (cond (not (isOn (z .iso))) (Refused 11) (cond (z .any) (Shown (z .bytes) (z .number)) (Refused 12))) (Refused 5))
     (Refused 4)
 
-abbrev pub closeAnswer : ℕ → Seen → Answer
+abbrev pub closeAnswer : ℕ → AnswerParts → Answer
 closeAnswer e z = cond (eqb (z .stage) 2) (cond (isAllocated (z .allocator) Out e) (cond (z .any) ok (Refused 14)) (Refused 5)) (Refused 4)
 
-abbrev pub answered : Light → Seen → Ans Answer
+abbrev pub answered : Light → AnswerParts → Ans Answer
 answered (opens e) z = ended (openAnswer e z)
 answered (closes e) z = ended (closeAnswer e z)
 answered (asks-of q) z = told (z .number)
 
-abbrev taken : Light → Seen → Bool
+abbrev taken : Light → AnswerParts → Bool
 taken (opens e) z = eqb (z .stage) 2 && (isAllocated (z .allocator) Out e && (not (not (isOn (z .iso))) && z .any))
 taken (closes e) z = eqb (z .stage) 2 && (isAllocated (z .allocator) Out e && z .any)
 taken (asks-of q) z = false

@@ -9,7 +9,7 @@ use Rattle.model.specs.Machine.{go, Ans}
 use Rattle.proof_isolation.specs.EqualExcept.{Channel}
 use Rattle.proof_isolation.specs.Standing.{At}
 use Rattle.proof_isolation.specs.StandingLaws.{at-time}
-use Rattle.proof_isolation.specs.Code.{Left, Held, Pair, runOf, twoOf, CallStep, heard, Step, next, Made, sessionOf, openedBy, afterSteps, DidStep, DidSteps}
+use Rattle.proof_isolation.specs.Code.{Left, Held, Pair, runOf, twoOf, CallStep, heard, TurnStep, next, SessionMade, sessionOf, openedBy, afterSteps, DidStep, DidSteps}
 use Rattle.proof_isolation.specs.Code.{EveryStep, Begun}
 use Rattle.proof_isolation.specs.Code.{heard-is, next-by, code-every, opened-is, begun-at}
 use Rattle.proof_isolation_late.specs.Late as late
@@ -27,7 +27,7 @@ pub record ItemMade : Type 0 where
 
 -- a step (Code.antt); or a late turn, with what the late run's continue, each of these calls and the other run's continue left
 pub data LateStep : Type 0 where
-  timely : Step → LateStep
+  timely : TurnStep → LateStep
   first-late second-late : ℕ → ℕ → Left → List ItemMade → Left → LateStep
 
 abbrev pub itemsOf : List ItemMade → List Item
@@ -122,9 +122,9 @@ module _ (share : Bool) (n : ℕ) where
   EveryLateStep c [] w = Unit {0}
   EveryLateStep c (s ∷ ss) w = HeardMade c s × AfterLate c share n (laterOf s) (twoOf (nextLate s w)) × EveryLateStep c ss (nextLate s w)
 
--- a session's calls (`Made`, Code.antt), and then steps some of which are late
+-- a session's calls (`SessionMade`, Code.antt), and then steps some of which are late
 pub record LateMade : Type 0 where
-  pub opening : Made
+  pub opening : SessionMade
   pub steps : List LateStep
 
 module _ (share : Bool) (n : ℕ) where
@@ -225,7 +225,7 @@ module _ (share : Bool) (n : ℕ) where
       (subst (FreeBoth c share n) e (later-free c share n (laterOf s) (twoOf w) f)) (d .2) in
       ((heard-made c s w (d .0) (y .heard), subst (AfterLate c share n (laterOf s)) e (y .after-it), z .0), z .1)
 
-  steps-free : (c : Channel) (ss : List Step) (w : Pair) → FreeBoth c share n (twoOf w) → DidSteps share n c ss w → FreeBoth c share n (twoOf (afterSteps ss w))
+  steps-free : (c : Channel) (ss : List TurnStep) (w : Pair) → FreeBoth c share n (twoOf w) → DidSteps share n c ss w → FreeBoth c share n (twoOf (afterSteps ss w))
   steps-free c [] w f d = f
   steps-free c (s ∷ ss) w f d =
       steps-free c ss (next s w) (subst (FreeBoth c share n) (sym (next-by share n (s .turn) (s .first) (s .second) w (d .0)))

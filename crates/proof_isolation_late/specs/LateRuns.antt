@@ -27,7 +27,7 @@ use Rattle.proof_isolation.specs.StoresLaws.{lent-back, own-lent-back}
 use Rattle.proof_isolation.specs.Others.{same-answers}
 use Rattle.proof_isolation.specs.Schedule.{Run, Two, Turn, begins, goes, asked, stores, others-time, first, second, Early, gets, shares}
 use Rattle.proof_isolation.specs.Schedule.{called, alone, turn, given, after, sharing, wide, atOwn, go-on, own-lent, SameAns, same, After}
-use Rattle.proof_isolation.specs.Standing.{machineOf, runOf, own-yes, own-no, same-ans, ans-sym, Keeps, At, at}
+use Rattle.proof_isolation.specs.Standing.{machineOf, runOf, own-yes, own-no, same-ans, ans-sym, Orderly, At, at}
 use Rattle.proof_isolation.specs.StandingLaws.{past-no}
 use Rattle.proof_isolation.specs.StandingLaws.{at-stands, at-lined, at-alike, at-time, at-swap}
 use Rattle.proof_isolation.specs.Runs.{goes-by, spares-put}
@@ -54,11 +54,11 @@ ended-like (end q l) = (q, l)
 told-alike : {x m n : ℕ} → m ≡ n → SameAns x (told m) (told n)
 told-alike {x} {m} e = subst (λ k. SameAns x (told m) (told k)) e (same (told m))
 
-record Alike (c : Channel) (o : Light) (s t : St) : Type 0 where
+record SameLate (c : Channel) (o : Light) (s t : St) : Type 0 where
   like : LowEquiv c quiet (done-at o s) (done-at o t)
   same-told : Few (answered o (seen o s)) → Few (answered o (seen o t)) → SameAns (c .number) (answered o (seen o s)) (answered o (seen o t))
 
-light-both : (c : Channel) (st : ℕ) (o : Light) → Other c o → {s t : St} → LowEquiv c quiet s t → Alike c o s t
+light-both : (c : Channel) (st : ℕ) (o : Light) → Other c o → {s t : St} → LowEquiv c quiet s t → SameLate c o s t
 light-both c st (opens e) n {s} {t} l =
     let y = ended-like (subst (λ u. ApartBy c st false (SameAnswer (c .number)) false
     (ends (openAnswer e (seen (opens e) s)) (done-at (opens e) s)) u) (open-run e t (l .right .rest .sized))
@@ -161,7 +161,7 @@ module _ (c : Channel) (share : Bool) (n : ℕ) where
       (v v′ : ℕ) (in-width : wide (busy true (awaited p) g) v ≡ false) (in-width′ : wide (busy true (awaited p) g′) v′ ≡ false)
       (brings : Brings (c .number) st p v v′) where
     lits-both : (os : List Light) → Others c share n os → {s t : St} → LowEquiv c quiet s t → (q q′ : Access) {a a′ : Ans Answer} {τ τ′ : List ℕ}
-        → Keeps true (asks p s g) a → Keeps true (asks p t g′) a′ → τ ≡ τ′ → Reached st v v′ os (runOf true (asks p s g) q a τ)
+        → Orderly true (asks p s g) a → Orderly true (asks p t g′) a′ → τ ≡ τ′ → Reached st v v′ os (runOf true (asks p s g) q a τ)
         (runOf true (asks p t g′) q′ a′ τ′)
     lits-both [] m {s} {t} l q q′ k k′ e = (
       goes-by c share n st true (both quiet tt w w′ l f) q q′ k k′ e v v′ (s .1) (t .1)

@@ -34,7 +34,7 @@ done-by (asks-of q) s = s
 
 -- ---- of what its answer is made
 
-pub record Seen : Type 0 where
+pub record AnswerParts : Type 0 where
   pub stage : ℕ
   pub allocator : Allocator
   pub iso : ℕ
@@ -42,7 +42,7 @@ pub record Seen : Type 0 where
   pub bytes : List ℕ
   pub number : ℕ
 
-abbrev pub seen : Light → St → Seen
+abbrev pub seen : Light → St → AnswerParts
 seen (opens e) s = record {
   stage = s .0 .globals .stage;
   allocator = s .0 .allocator;

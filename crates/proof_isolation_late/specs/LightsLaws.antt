@@ -43,7 +43,7 @@ use Rattle.proof_isolation.specs.Schedule.{Asked}
 use Rattle.proof_isolation.specs.OwnSteps.{own-arrives}
 use Rattle.proof_isolation.specs.Asides.{stamp-any, oldest-by}
 use Rattle.proof_isolation.specs.Values.{in-other}
-use Rattle.proof_isolation_late.specs.Lights.{opening, closing, changeOf, done-by, Seen, seen}
+use Rattle.proof_isolation_late.specs.Lights.{opening, closing, changeOf, done-by, AnswerParts, seen}
 
 pub open-is : (d : Driver) (e : ℕ) → openOn d e ≡ changeOf opening e d
 unfolding openOn
@@ -372,7 +372,7 @@ module _ (c : Channel) where
 
   -- ---- a lawful state in which it sees z
 
-  pub record Shows (o : Light) (z : Seen) (s : St) : Type 0 where
+  pub record Shows (o : Light) (z : AnswerParts) (s : St) : Type 0 where
     pub lawful : Lawful (c .iso) quiet s
     pub sees : seen o s ≡ z
 

@@ -46,7 +46,7 @@ use Rattle.proof_isolation.specs.Settled.{isControl}
 use Rattle.proof_isolation.specs.Buts.{lawful-put, lawful-act, lawful-hand}
 use Rattle.proof_isolation_late.specs.Late.{Light, Other}
 use Rattle.proof_isolation.specs.Standing.{stops}
-use Rattle.proof_isolation_late.specs.Lights.{done-by, Seen, seen}
+use Rattle.proof_isolation_late.specs.Lights.{done-by, AnswerParts, seen}
 use Rattle.proof_isolation_late.specs.LightsLaws.{Shows, seen-arrive, get-done, put-done}
 use Rattle.proof_isolation_late.specs.LightsLaws.{seen-put, seen-wakes}
 use Rattle.proof_isolation_late.specs.LightsLaws.{changed-done, marked-done, setup-done, wakes-same, wakes-done, arrive-done}
@@ -54,7 +54,7 @@ use Rattle.proof_isolation_late.specs.LightsLaws.{changed-done, marked-d
 module _ (c : Channel) where
   -- one script's outcomes from a state in which o sees z, and from that state with o done: both end or hand out the same access and go on alike, and
   -- o may as well be done then; or the first hands out an access that is not made for the channel
-  pub data Slid (o : Light) (z : Seen) {A : Type 0} : tree.Out St A → tree.Out St A → Type 0 where
+  pub data Slid (o : Light) (z : AnswerParts) {A : Type 0} : tree.Out St A → tree.Out St A → Type 0 where
     slid-end : {a : A} {s : St} → Shows c o z s → Slid o z (ends a s) (ends a (done-by o s))
     slid-ask : {q : Access} {s : St} {k : ℕ → St → tree.Out St A} → Shows c o z s → Slid o z (asks q s k) (asks q (done-by o s) k)
     slid-lost : {q : Access} {s : St} {k : ℕ → St → tree.Out St A} {u : tree.Out St A} → ownable (c .number) q ≡ false → Slid o z (asks q s k) u
@@ -63,16 +63,16 @@ module _ (c : Channel) where
   pub data Free {A : Type 0} : tree.Out St A → Type 0 where
     free-end : {a : A} {s : St} → Free (ends a s)
     free-ask : {q : Access} {s : St} {k : ℕ → St → tree.Out St A} → ((v : ℕ) (t : St) → Free (k v t))
-        → ((o : Light) (z : Seen) (v : ℕ) (t : St) → Other c o → Shows c o z t → Slid o z (k v t) (k v (done-by o t))) → Free (asks q s k)
+        → ((o : Light) (z : AnswerParts) (v : ℕ) (t : St) → Other c o → Shows c o z t → Slid o z (k v t) (k v (done-by o t))) → Free (asks q s k)
 
-  slid-bind : {o : Light} {z : Seen} {A B : Type 0} {y u : tree.Out St A} {g : A → St → tree.Out St B} → Slid o z y u
+  slid-bind : {o : Light} {z : AnswerParts} {A B : Type 0} {y u : tree.Out St A} {g : A → St → tree.Out St B} → Slid o z y u
       → ((a : A) (s : St) → Shows c o z s → Slid o z (g a s) (g a (done-by o s))) → Slid o z (bindOut y g) (bindOut u g)
   slid-bind (slid-end p) h = h _ _ p
   slid-bind (slid-ask p) h = slid-ask p
   slid-bind (slid-lost n) h = slid-lost n
 
   free-bind : {A B : Type 0} {y : tree.Out St A} {g : A → St → tree.Out St B} → Free y → ((a : A) (s : St) → Free (g a s))
-      → ((o : Light) (z : Seen) (a : A) (s : St) → Other c o → Shows c o z s → Slid o z (g a s) (g a (done-by o s))) → Free (bindOut y g)
+      → ((o : Light) (z : AnswerParts) (a : A) (s : St) → Other c o → Shows c o z s → Slid o z (g a s) (g a (done-by o s))) → Free (bindOut y g)
   free-bind free-end h k = h _ _
   free-bind (free-ask f l) h k = free-ask (λ v t. free-bind (f v t) h k) (λ o z v t n p. slid-bind (l o z v t n p) (λ a s q. k o z a s n q))
 
@@ -80,7 +80,7 @@ module _ (c : Channel) where
 
   pub record Slides {A : Type 0} (p : Script true A) : Type 0 where
     pub free : (s : St) → Free (run concrete p s)
-    pub slid : (o : Light) (z : Seen) (s : St) → Other c o → Shows c o z s → Slid o z (run concrete p s) (run concrete p (done-by o s))
+    pub slid : (o : Light) (z : AnswerParts) (s : St) → Other c o → Shows c o z s → Slid o z (run concrete p s) (run concrete p (done-by o s))
 
   s-ret : {A : Type 0} {a : A} → Slides (ret a)
   s-ret = record { free = λ s. free-end; slid = λ o z s n p. slid-end p }
@@ -186,7 +186,7 @@ module _ (c : Channel) where
   data Lost {A : Type 0} : tree.Out St A → Type 0 where
     lost : {q : Access} {s : St} {k : ℕ → St → tree.Out St A} → ownable (c .number) q ≡ false → Lost (asks q s k)
 
-  lost-slid : {o : Light} {z : Seen} {A : Type 0} {y u : tree.Out St A} → Lost y → Slid o z y u
+  lost-slid : {o : Light} {z : AnswerParts} {A : Type 0} {y u : tree.Out St A} → Lost y → Slid o z y u
   lost-slid (lost n) = slid-lost n
 
   lost-bind : {A B : Type 0} {y : tree.Out St A} (g : A → St → tree.Out St B) → Lost y → Lost (bindOut y g)
@@ -368,7 +368,7 @@ module _ (c : Channel) where
   FreeWay idle = Unit {0}
   FreeWay (busy false a k) = Unit {0}
   FreeWay (busy true a k) = ((v : ℕ) (t : St) → Free (k v t))
-      × ((o : Light) (z : Seen) (v : ℕ) (t : St) → Other c o → Shows c o z t → Slid o z (k v t) (k v (done-by o t)))
+      × ((o : Light) (z : AnswerParts) (v : ℕ) (t : St) → Other c o → Shows c o z t → Slid o z (k v t) (k v (done-by o t)))
 
   abbrev FreeAfter : Called → Type 0
   FreeAfter x = FreeWay (x .1 .way)

@@ -105,15 +105,15 @@ abbrev waitingOn : ℕ → Run → List (List ℕ)
 waitingOn e r = waiting (r .machine .buf) (epOn (r .machine .st) Out e) (lensOf (r .machine .st) Out e)
 
 -- the packets that wait on OUT 1 and on OUT 2, and the wake-ups that were answered last (17: OUT 1's, 18: OUT 2's)
-pub record Seen : Type 0 where
+pub record Witnessed : Type 0 where
   pub channel : List (List ℕ)
   pub other : List (List ℕ)
   pub wakes : List ℕ
 
-abbrev pub seenOf : Run → Seen
+abbrev pub seenOf : Run → Witnessed
 seenOf r = record { channel = waitingOn 1 r; other = waitingOn 2 r; wakes = wakesOf (r .answer) }
 
-abbrev pub bothSeen : Two → Seen × Seen
+abbrev pub bothSeen : Two → Witnessed × Witnessed
 bothSeen w = (seenOf (w .first), seenOf (w .second))
 
 -- ---- the two meet the premise
@@ -144,7 +144,7 @@ turnsBy closed = 16
 turnsBy last = 29
 
 -- both runs then
-abbrev pub seenBy : Moment → Seen × Seen
+abbrev pub seenBy : Moment → Witnessed × Witnessed
 seenBy admitted = (
   record { channel = (1 ∷ 2 ∷ 3 ∷ 4 ∷ []) ∷ []; other = (5 ∷ 5 ∷ []) ∷ []; wakes = 17 ∷ 18 ∷ [] },
   record { channel = (9 ∷ 8 ∷ 7 ∷ []) ∷ []; other = (5 ∷ 5 ∷ []) ∷ []; wakes = 17 ∷ 18 ∷ [] },

@@ -29,38 +29,38 @@ OutLeaves x s (ends a t) = AnswerLeaves x s a t
 OutLeaves x s (asks q t k) = Unit {0}
 
 -- the script's run from t, where it ends at once with refusal n, leaves of the state s what `leftBy` says, and the buffer of s
-pub record Leaves (x : Poll) (s t : St) {i : Bool} (p : Script i Answer) : Type 0 where
+pub record LeavesByRow (x : Poll) (s t : St) {i : Bool} (p : Script i Answer) : Type 0 where
   pub leaves : OutLeaves x s (run concrete p t)
 
 module _ {x : Poll} {s t : St} {i : Bool} where
-  pub refuses : {n : ℕ} → t ≡ (leftBy x n (s .0), s .1) → Leaves x s t {i = i} (ret (Refused n))
+  pub refuses : {n : ℕ} → t ≡ (leftBy x n (s .0), s .1) → LeavesByRow x s t {i = i} (ret (Refused n))
   refuses q = record { leaves = q }
 
   -- any other answer
-  pub answers : {a : Answer} → AnswerLeaves x s a t → Leaves x s t {i = i} (ret a)
+  pub answers : {a : Answer} → AnswerLeaves x s a t → LeavesByRow x s t {i = i} (ret a)
   answers h = record { leaves = h }
 
-  pub tests : {b : Bool} {p q : Script i Answer} → (b ≡ true → Leaves x s t p) → (b ≡ false → Leaves x s t q) → Leaves x s t (test b p q)
+  pub tests : {b : Bool} {p q : Script i Answer} → (b ≡ true → LeavesByRow x s t p) → (b ≡ false → LeavesByRow x s t q) → LeavesByRow x s t (test b p q)
   tests {b} h g = by-cases b h g
     where
-      by-cases : (b : Bool) {p q : Script i Answer} → (b ≡ true → Leaves x s t p) → (b ≡ false → Leaves x s t q) → Leaves x s t (test b p q)
+      by-cases : (b : Bool) {p q : Script i Answer} → (b ≡ true → LeavesByRow x s t p) → (b ≡ false → LeavesByRow x s t q) → LeavesByRow x s t (test b p q)
       by-cases true h g = record { leaves = h refl .leaves }
       by-cases false h g = record { leaves = g refl .leaves }
 
-  pub each : {b : Bool} {p q : Script i Answer} → Leaves x s t p → Leaves x s t q → Leaves x s t (test b p q)
+  pub each : {b : Bool} {p q : Script i Answer} → LeavesByRow x s t p → LeavesByRow x s t q → LeavesByRow x s t (test b p q)
   each h g = tests (λ _. h) (λ _. g)
 
   -- steps without an access
   pub after : {A : Type 0} {p : Script i A} {k : A → Script i Answer} {a : A} {u : St}
-      → run concrete p t ≡ ends a u → Leaves x s u (k a) → Leaves x s t (bind p k)
+      → run concrete p t ≡ ends a u → LeavesByRow x s u (k a) → LeavesByRow x s t (bind p k)
   after {k = k} q h = record { leaves = subst (λ o. OutLeaves x s (bindOut o (λ a u. run concrete (k a) u))) (sym q) (h .leaves) }
 
-  pub picks : (b : Bool) {y z : Answer} → Leaves x s t {i = i} (ret y) → Leaves x s t {i = i} (ret z) → Leaves x s t {i = i} (ret (cond b y z))
+  pub picks : (b : Bool) {y z : Answer} → LeavesByRow x s t {i = i} (ret y) → LeavesByRow x s t {i = i} (ret z) → LeavesByRow x s t {i = i} (ret (cond b y z))
   picks true h g = h
   picks false h g = g
 
   -- steps, whatever they do, after which no way refuses
-  pub whatever : {A : Type 0} {p : Script i A} {k : A → Script i Answer} → ((a : A) (u : St) → Leaves x s u (k a)) → Leaves x s t (bind p k)
+  pub whatever : {A : Type 0} {p : Script i A} {k : A → Script i Answer} → ((a : A) (u : St) → LeavesByRow x s u (k a)) → LeavesByRow x s t (bind p k)
   whatever {A} {p} {k} h = record { leaves = gone (run concrete p t) }
     where
       gone : (o : Out St A) → OutLeaves x s (bindOut o (λ a u. run concrete (k a) u))
@@ -68,7 +68,7 @@ module _ {x : Poll} {s t : St} {i : Bool} where
       gone (asks q u l) = tt
 
   -- an operation that has begun ends with no refusal
-  pub begins : {p : Script i ℕ} → Leaves x s t (operation p)
+  pub begins : {p : Script i ℕ} → LeavesByRow x s t (operation p)
   begins {p} = record { leaves = ended (run concrete p (concrete .act no-wakes t)) }
     where
       ended : (o : Out St ℕ) → OutLeaves x s (bindOut o (λ n u. ends (End n (concrete .fetch gathered u)) u))

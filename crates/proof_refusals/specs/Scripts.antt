@@ -28,11 +28,11 @@ use Rattle.model.specs.Calls.{BeginDataOut, BeginAcceptSetAddress, otherCode, A
 use Rattle.model_ops.specs.Rings.{St}
 use Rattle.model_ops.specs.Records.{givenTo, allocatedOn, startedWith, allocatedEp0}
 use Rattle.proof_refusals.specs.Left.{none, data-in, pollOf, requestEnded, unready, leftBy}
-use Rattle.proof_refusals.specs.Outcomes.{Leaves, tests, each, picks, after, whatever, refuses, answers, begins}
+use Rattle.proof_refusals.specs.Outcomes.{LeavesByRow, tests, each, picks, after, whatever, refuses, answers, begins}
 
 -- ---- calls that bring the slots
 
-pub slotted-leaves : (o : Slotted) (s : St) → Leaves (pollOf (slotted o)) s s (slottedCode o)
+pub slotted-leaves : (o : Slotted) (s : St) → LeavesByRow (pollOf (slotted o)) s s (slottedCode o)
 slotted-leaves (SetEnabled d e on) s = after refl (each (after refl (each begins (refuses refl))) (refuses refl))
 slotted-leaves (PollRead e n) s = after refl (each (after refl (each (after refl (each (refuses refl) (each (after refl (each
     (after refl (each (after refl (each (after refl (after refl (after refl (answers tt)))) (answers tt))) (after refl (refuses refl))))
@@ -66,16 +66,16 @@ unpolled n d = same (eqb n 9) (eqb n 10)
 refused-here : (n : ℕ) (s : St) → s ≡ (leftBy none n (s .0), s .1)
 refused-here n s = ap (λ (d : Driver). (d, s .1)) (sym (unpolled n (s .0)))
 
-refuses-here : {s : St} {n : ℕ} → Leaves none s s {i = false} (ret (Refused n))
+refuses-here : {s : St} {n : ℕ} → LeavesByRow none s s {i = false} (ret (Refused n))
 refuses-here {s} {n} = refuses (refused-here n s)
 
 allocated-leaves : {s t : St} (d : Dir) (kind maximum : ℕ) (x : alloc-answer.Answer)
-    → ((n : ℕ) → x ≡ alloc.Refused n → t ≡ s) → Leaves none s t {i = false} (allocated-as d kind maximum x)
+    → ((n : ℕ) → x ≡ alloc.Refused n → t ≡ s) → LeavesByRow none s t {i = false} (allocated-as d kind maximum x)
 allocated-leaves {s} d kind maximum (alloc.Refused n) h = refuses (h n refl ∙ refused-here n s)
 allocated-leaves d kind maximum (alloc.Given ep base slots) h = begins
 
 started-leaves : {s t : St} (maximum : ℕ) (x : alloc-answer.Answer)
-    → ((n : ℕ) → x ≡ alloc.Refused n → t ≡ s) → Leaves none s t {i = false} (started-as maximum x)
+    → ((n : ℕ) → x ≡ alloc.Refused n → t ≡ s) → LeavesByRow none s t {i = false} (started-as maximum x)
 started-leaves {s} maximum (alloc.Refused n) h = refuses (h n refl ∙ refused-here n s)
 started-leaves maximum (alloc.Given ep base slots) h = begins
 
@@ -93,13 +93,13 @@ start-kept d maximum n q =
     ap (λ (x : alloc-answer.Answer). startedWith maximum x (withAllocator d (allocateEp0Of (d .allocator) maximum .after))) q
     ∙ ap (withAllocator d) (keeps (d .allocator) (run.ep0 maximum) n q)
 
-read-leaves : (s : St) (bytes : List ℕ) (x : reading-answer.Answer) → Leaves none s s {i = false} (allocate-read bytes x)
+read-leaves : (s : St) (bytes : List ℕ) (x : reading-answer.Answer) → LeavesByRow none s s {i = false} (allocate-read bytes x)
 read-leaves s bytes (reading.Refused n) = refuses-here
 read-leaves s bytes reading.Listed = after refl (each (whatever (λ _ _. begins)) refuses-here)
 
 -- ---- the others
 
-pub other-leaves : (o : Other) (s : St) → Leaves (pollOf (other o)) s s (otherCode o)
+pub other-leaves : (o : Other) (s : St) → LeavesByRow (pollOf (other o)) s s (otherCode o)
 other-leaves (Allocate d kind address maximum interval) s = after refl (each
     (after refl (after refl (allocated-leaves d kind maximum (allocateOf (s .0 .allocator) kind address maximum d .answer)
     (λ n q. ap (λ (x : Driver). (x, s .1)) (allocation-kept (s .0) d kind address maximum interval n q)))))
@@ -148,7 +148,7 @@ other-leaves (BeginDataOut n first) s =
     after refl (each (after refl (each (refuses refl) (after refl (each (refuses refl) (after refl begins))))) (refuses refl))
 other-leaves (BeginAcceptSetAddress a) s = after refl (each (after refl (each (refuses refl) (after refl begins))) (refuses refl))
 
-pub aside-leaves : (o : Aside) (s : St) → Leaves none s s (asideCode o)
+pub aside-leaves : (o : Aside) (s : St) → LeavesByRow none s s (asideCode o)
 aside-leaves (Open e) s = after refl (each (after refl (each (after refl (each (refuses refl)
     (after refl (each (after refl (after refl (after refl (answers tt)))) (refuses refl))))) (refuses refl))) (refuses refl))
 aside-leaves (Close e) s = after refl
@@ -156,7 +156,7 @@ aside-leaves (Close e) s = after refl
 aside-leaves (Queue e bs) s = after refl (each (after refl (each (after refl (each (after refl (each (refuses refl)
     (after refl (each (refuses refl) (after refl (each (after refl (answers (inl refl))) (refuses refl))))))) (refuses refl))) (refuses refl))) (refuses refl))
 
-pub code-leaves : (o : Op) (s : St) → Leaves (pollOf o) s s (code o)
+pub code-leaves : (o : Op) (s : St) → LeavesByRow (pollOf o) s s (code o)
 code-leaves interrupt s = after refl (each begins (refuses refl))
 code-leaves (slotted o) s = slotted-leaves o s
 code-leaves (other o) s = other-leaves o s

@@ -40,8 +40,8 @@ lastToggle d e b Callback = b
 abbrev pub control-word : Dir → ℕ → Chip
 control-word d e = record { Holds = ℕ; Brings = λ _ _ _. Unit {0}; after = lastToggle d e }
 
-abbrev pub Leaves : {S A : Type 0} → Dir → ℕ → (ℕ → Type 0) → ℕ → tree.Out S A → Type 0
-Leaves {S = S} d e P b o = Every (control-word d e) (λ (s t : S). Unit {0}) (λ _. Unit {0}) (λ c _ _. P c) b o
+abbrev pub ToggleAtEnd : {S A : Type 0} → Dir → ℕ → (ℕ → Type 0) → ℕ → tree.Out S A → Type 0
+ToggleAtEnd {S = S} d e P b o = Every (control-word d e) (λ (s t : S). Unit {0}) (λ _. Unit {0}) (λ c _ _. P c) b o
 
 abbrev pub IsData0 : ℕ → Type 0
 IsData0 c = c ≡ number initial
@@ -69,7 +69,7 @@ switched-data0 false = refl
 module _ {S : Type 0} (O : Ops S) where
   -- ---- a cleared halt
 
-  pub cleared : (i : Bool) (d : Dir) (e b : ℕ) (s : S) → Leaves d e IsData0 b (run O (setStalled {i = i} d e false) s)
+  pub cleared : (i : Bool) (d : Dir) (e b : ℕ) (s : S) → ToggleAtEnd d e IsData0 b (run O (setStalled {i = i} d e false) s)
   unfolding restartedOut restartedIn
   cleared i Out e b s = at-ask tt (λ _ t _ _. at-end (own e b _ (restarted-data0 _ e _)))
   cleared i In e b s = at-ask tt (λ _ t _ _. every-bind {P = λ c _ _. IsData0 c}
@@ -79,23 +79,23 @@ module _ {S : Type 0} (O : Ops S) where
 
   -- ---- an endpoint is enabled or disabled
 
-  of-in : (e : ℕ) (on : Bool) (b : ℕ) (s : S) → Leaves In e IsData0 b (run O (setEnabled In e on) s)
+  of-in : (e : ℕ) (on : Bool) (b : ℕ) (s : S) → ToggleAtEnd In e IsData0 b (run O (setEnabled In e on) s)
   of-in e on b s = at-ask tt
       (λ _ _ _ _. at-ask tt (λ _ _ _ _. at-ask tt (λ _ _ _ _. at-ask tt (λ _ _ _ _. at-ask tt (λ _ _ _ _. at-end (own e b _ (word-data0 _ _)))))))
 
-  of-plain : (e : ℕ) (on : Bool) (b : ℕ) (s : S) → Leaves Out e IsData0 b (run O (setEnabledOut {i = false} e on) s)
+  of-plain : (e : ℕ) (on : Bool) (b : ℕ) (s : S) → ToggleAtEnd Out e IsData0 b (run O (setEnabledOut {i = false} e on) s)
   of-plain e on b s = at-ask tt (λ _ _ _ _. at-ask tt (λ _ _ _ _. at-ask tt (λ _ _ _ _. at-ask tt (λ _ _ _ _. at-end (own e b _ (word-data0 _ _))))))
 
-  of-row : (e : ℕ) (on : Bool) (n b : ℕ) (s : S) → Leaves Out e IsData0 b (rows O (switch e on) (suc (suc n)) (λ t. ends (tt {0}) t) s)
+  of-row : (e : ℕ) (on : Bool) (n b : ℕ) (s : S) → ToggleAtEnd Out e IsData0 b (rows O (switch e on) (suc (suc n)) (λ t. ends (tt {0}) t) s)
   of-row e on zero b s = at-ask tt (λ _ _ _ _. at-ask tt (λ _ _ _ _. at-ask tt (λ _ _ _ _. at-end (own e b _ (switched-data0 on)))))
   of-row e on (suc n) b s = at-ask tt (λ _ t _ _. of-row e on n b t)
 
-  of-out : (e : ℕ) (on iso : Bool) (b : ℕ) (s : S) → Leaves Out e IsData0 b
+  of-out : (e : ℕ) (on iso : Bool) (b : ℕ) (s : S) → ToggleAtEnd Out e IsData0 b
       (cond iso (rows O (switch e on) 18 (λ t. ends (tt {0}) t) s) (run O (setEnabledOut {i = false} e on) s))
   of-out e on true b s = of-row e on 16 b s
   of-out e on false b s = of-plain e on b s
 
-  pub enabled : (d : Dir) (e : ℕ) (on : Bool) (b : ℕ) (s : S) → Leaves d e IsData0 b (run O (setEnabled d e on) s)
+  pub enabled : (d : Dir) (e : ℕ) (on : Bool) (b : ℕ) (s : S) → ToggleAtEnd d e IsData0 b (run O (setEnabled d e on) s)
   enabled In e on b s = of-in e on b s
   enabled Out e on b s = every-bind (of-out e on (isOn (O .get (ep-cell Out e) s .iso)) b s) (λ _ _ _ p. at-end p)
 
@@ -108,7 +108,7 @@ module _ {S : Type 0} (O : Ops S) where
   next e n f b (inr k) (yes q) = inl (rw (eq-eqb f e q) (word-data0 _ _))
   next e n f b (inr k) (no q) = inr (omega (arith, k .0, k .1), omega (arith, k .0, k .1))
 
-  naks : (d : Dir) (e n f b : ℕ) (s : S) → IsData0 b ⊎ ((f ≤ e) × (e < f + n)) → Leaves d e IsData0 b (run O (nakAll {i = false} n f) s)
+  naks : (d : Dir) (e n f b : ℕ) (s : S) → IsData0 b ⊎ ((f ≤ e) × (e < f + n)) → ToggleAtEnd d e IsData0 b (run O (nakAll {i = false} n f) s)
   unfolding nakAll
   naks d e zero f b s (inl h) = at-end h
   naks d e zero f b s (inr h) = absurd (omega (arith, h .0, h .1))
@@ -123,11 +123,11 @@ module _ {S : Type 0} (O : Ops S) where
       go (no q) = inr (omega arith, omega arith)
 
   -- the row writes no control word
-  ends-row : (d : Dir) (e b : ℕ) (s : S) → IsData0 b → Leaves d e IsData0 b (rows O bus-reset 3 (λ t. ends (tt {0}) t) s)
+  ends-row : (d : Dir) (e b : ℕ) (s : S) → IsData0 b → ToggleAtEnd d e IsData0 b (rows O bus-reset 3 (λ t. ends (tt {0}) t) s)
   ends-row Out e b s h = at-ask tt (λ _ _ _ _. at-ask tt (λ _ _ _ _. at-ask tt (λ _ _ _ _. at-ask tt (λ _ _ _ _. at-end h))))
   ends-row In e b s h = at-ask tt (λ _ _ _ _. at-ask tt (λ _ _ _ _. at-ask tt (λ _ _ _ _. at-ask tt (λ _ _ _ _. at-end h))))
 
-  pub bus-reset-all : (d : Dir) (e : ℕ) → e ≤ 15 → (b : ℕ) (s : S) → Leaves d e IsData0 b (run O busReset s)
+  pub bus-reset-all : (d : Dir) (e : ℕ) → e ≤ 15 → (b : ℕ) (s : S) → ToggleAtEnd d e IsData0 b (run O busReset s)
   bus-reset-all Out e l b s = at-ask tt (λ _ _ _ _. at-ask tt (λ _ _ _ _. at-ask tt (λ _ t _ _.
       every-bind (naks Out e 15 1 _ t (first e b _ l (word-data0 _ _)))
       (λ c _ u p. every-bind {f = λ (_ : Unit {0}) (v : S). run O (wakeAll {i = false}) v} (ends-row Out e c u p) (λ _ _ _ z. at-end z)))))

@@ -41,7 +41,7 @@ use Rattle.proof_book.specs.Sorting.{sortsOf}
 use Rattle.proof_usb20.specs.WalksLaws.{Each, each-set}
 use Rattle.proof_usb20.specs.Sequence.{off, Track, howOften, reads, writes, saw}
 use Rattle.proof_usb20.specs.FollowLaws as follow
-use Rattle.proof_usb20.specs.Follow.{Seen, seenOf, view, Keeps, Follow}
+use Rattle.proof_usb20.specs.Follow.{EpSeen, seenOf, view, Between, Follow}
 use Rattle.proof_usb20.specs.Watch.{at-end, at-ask}
 use Rattle.proof_usb20.specs.WokenLaws.{Others, all-others}
 use Rattle.proof_usb20.specs.FollowLaws.{record-view, act-view, hand-view}
@@ -86,7 +86,7 @@ module _ (D : Dir) (E : ℕ) where
   abbrev pub Else : Dir → ℕ → Type 0
   Else d e = key D E ≡ key d e → ⊥
 
-  pub record Kept (m : Bool) (s : St) : Type 0 where
+  pub record CalmKept (m : Bool) (s : St) : Type 0 where
     pub whole : Whole s
     pub sorts : m ≡ true → Has (sortsOf (s .0)) (s .0)
     pub plain : m ≡ true → isOn (epOn (s .0) D E .iso) ≡ false
@@ -117,7 +117,7 @@ module _ (D : Dir) (E : ℕ) where
       le {x = x} {y = y} {z = z} a b = omega (arith, a, b)
 
   -- by the driver's operations
-  pub kept-steady : {m : Bool} {s t : St} → Steady (s .0) (t .0) → t .0 .wakes ≡ s .0 .wakes → Kept m s → Kept m t
+  pub kept-steady : {m : Bool} {s t : St} → Steady (s .0) (t .0) → t .0 .wakes ≡ s .0 .wakes → CalmKept m s → CalmKept m t
   kept-steady p e k = record {
     whole = p .places ∙ k .whole;
     sorts = λ h. record {
@@ -130,26 +130,26 @@ module _ (D : Dir) (E : ℕ) where
   }
 
   -- between two accesses
-  pub kept-by : {m : Bool} {s t : St} → Keeps D E s t → Kept m s → Kept m t
+  pub kept-by : {m : Bool} {s t : St} → Between D E s t → CalmKept m s → CalmKept m t
   kept-by p k = record {
     whole = p .1 .places;
     sorts = λ _. p .1 .has;
-    plain = λ h. ap (λ (x : Seen). isOn (x .iso)) (p .0) ∙ k .plain h;
+    plain = λ h. ap (λ (x : EpSeen). isOn (x .iso)) (p .0) ∙ k .plain h;
     room = λ h. subst Room (sym (p .2)) (k .room h);
   }
 
   -- of a call that is no interrupt
-  pub loose : {s : St} → Whole s → Kept false s
+  pub loose : {s : St} → Whole s → CalmKept false s
   loose l = record { whole = l; sorts = λ h. differ h; plain = λ h. differ h; room = λ h. differ h }
 
   pub loosely : {s t : St} → Hears false s t
   loosely = record { same = λ h. differ h; grows = λ h. differ h }
 
   abbrev pub Stays : Bool → Track → St → Track → St → Type 0
-  Stays m w s x t = (x ≡ w) × (view D E (t .0) ≡ view D E (s .0)) × Kept m t × Hears m s t
+  Stays m w s x t = (x ≡ w) × (view D E (t .0) ≡ view D E (s .0)) × CalmKept m t × Hears m s t
 
   pub record Quiet (m : Bool) (P : Track → Type 0) {i : Bool} {A : Type 0} (p : Script i A) : Type 0 where
-    pub goes : (w : Track) (s : St) → P w × Hush w → Kept m s
+    pub goes : (w : Track) (s : St) → P w × Hush w → CalmKept m s
         → Follow D E {A = A} (λ x _ t. Stays m w s x t) w (run concrete p s)
 
   pub only : {m : Bool} {P Q : Track → Type 0} {i : Bool} {A : Type 0} {p : Script i A} → ((w : Track) → P w → Q w)
@@ -159,9 +159,9 @@ module _ (D : Dir) (E : ℕ) where
   -- ---- how they are put together
 
   -- an access that leaves the log, the state as it was
-  pub asked : {m : Bool} {A : Type 0} {q : Access} {s : St} {f : ℕ → St → tree.Out St A} (w : Track) → Kept m s
+  pub asked : {m : Bool} {A : Type 0} {q : Access} {s : St} {f : ℕ → St → tree.Out St A} (w : Track) → CalmKept m s
       → ((v : ℕ) → saw D E w q v ≡ w)
-      → ((v : ℕ) (t : St) → Kept m t → Follow D E {A = A} (λ x _ u. Stays m w t x u) w (f v t))
+      → ((v : ℕ) (t : St) → CalmKept m t → Follow D E {A = A} (λ x _ u. Stays m w t x u) w (f v t))
       → Follow D E {A = A} (λ x _ u. Stays m w s x u) w (tree.asks q s f)
   asked {m = m} {s = s} {f = f} w l e g = at-ask tt
       (λ v t _ k. subst (λ (u : Track). Follow D E (λ x _ t. Stays m w s x t) u (f v t)) (sym (e v))
@@ -201,12 +201,12 @@ module _ (D : Dir) (E : ℕ) where
   abbrev pub Silent : Bool → Act → Type 0
   Silent m q = m ≡ true → LeavesWakes q
 
-  still-kept : {m : Bool} (q : Act) → allocates q ≡ false → Other q → (s : St) → Kept m s
-      → Kept m (concrete .act q s) × Hears m s (concrete .act q s)
+  still-kept : {m : Bool} (q : Act) → allocates q ≡ false → Other q → (s : St) → CalmKept m s
+      → CalmKept m (concrete .act q s) × Hears m s (concrete .act q s)
   still-kept q h o s k = let e = act-still q o s in (kept-steady (act-steady q h s) e k, hears-same e)
 
-  pub act-kept : {m : Bool} (q : Act) → allocates q ≡ false → Silent m q → (s : St) → Kept m s
-      → Kept m (concrete .act q s) × Hears m s (concrete .act q s)
+  pub act-kept : {m : Bool} (q : Act) → allocates q ≡ false → Silent m q → (s : St) → CalmKept m s
+      → CalmKept m (concrete .act q s) × Hears m s (concrete .act q s)
   unfolding epOn
   act-kept no-wakes h o s k = (
     record {
@@ -242,7 +242,7 @@ module _ (D : Dir) (E : ℕ) where
   act-kept (allocate d kind address maximum interval) h o s k = differ (sym h)
   act-kept (allocate0 maximum) h o s k = differ (sym h)
 
-  pub put-kept : {m : Bool} (c : Cell) (v : Val c) (s : St) → Kept m s → Kept m (concrete .put c v s)
+  pub put-kept : {m : Bool} (c : Cell) (v : Val c) (s : St) → CalmKept m s → CalmKept m (concrete .put c v s)
   put-kept c v s k = kept-steady (put-steady c v s) (put-still c v s) k
 
   pub put-hears : {m : Bool} (c : Cell) (v : Val c) (s : St) → Hears m s (concrete .put c v s)

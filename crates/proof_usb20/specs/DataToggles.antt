@@ -4,10 +4,10 @@ use mathlib.Core.Path.{_≡_}
 use Prim.Native.Nat.{ℕ}
 use Rattle.regs.specs.declared.Dir.{Dir}
 use Rattle.proof_usb20.specs.Sequence.{Track}
-use Rattle.proof_usb20.specs.Follow.{Seen, Fits}
+use Rattle.proof_usb20.specs.Follow.{EpSeen, Fits}
 use mathlib.Core.Bool.{false}
 use Rattle.model.specs.Statics.{isOn}
-use Rattle.proof_usb20.specs.Sequence.{before, opens, saw, closes, Fair, Writing, unwritten-yet, wrote, Leaves}
+use Rattle.proof_usb20.specs.Sequence.{before, opens, saw, closes, Fair, Writing, unwritten-yet, wrote, LeavesWord}
 use Rattle.proof_usb20.specs.Observer.{Observer}
 use Rattle.proof_usb20.specs.Follow.{view}
 
@@ -24,7 +24,7 @@ toggles D E = record {
   Fair = Fair D E;
   Allowed = λ _ _ _. Unit {0};
   Asks = λ _ _. Unit {0};
-  View = Seen;
+  View = EpSeen;
   view = view D E;
   Stands = Fits;
   Meant = λ x. isOn (x .iso) ≡ false;
@@ -41,10 +41,10 @@ words D E = record {
   saw = λ x q v. (saw D E (x .0) q v, wrote D E (x .1) q v);
   closes = λ o a x. (closes D E o a (x .0), x .1);
   Brings = λ _ _ _. Unit {0};
-  Fair = λ o a x. Leaves D E o a (x .1);
+  Fair = λ o a x. LeavesWord D E o a (x .1);
   Allowed = λ _ _ _. Unit {0};
   Asks = λ _ _. Unit {0};
-  View = Seen;
+  View = EpSeen;
   view = view D E;
   Stands = λ _ _. Unit {0};
   Meant = λ x. isOn (x .iso) ≡ false;

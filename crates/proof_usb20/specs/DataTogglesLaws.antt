@@ -19,7 +19,7 @@ use Rattle.model.specs.Usb20Toggles.{Pid, DATA0, DATA1}
 use Rattle.machine.specs.Suspended.{driverOf}
 use Rattle.proof_usb20.specs.ExemptLaws.{differ}
 use Rattle.proof_usb20.specs.Sequence.{Track}
-use Rattle.proof_usb20.specs.Follow.{Seen, Fits, Law}
+use Rattle.proof_usb20.specs.Follow.{EpSeen, Fits, Law}
 use Rattle.proof_usb20.specs.CalmLaws.{Else}
 use mathlib.Core.Bool.{Bool, true, false, cond, _&&_}
 use lib.ListN.{length, getD, replicate, getD-replicate}
@@ -41,7 +41,7 @@ use Rattle.model_ops.specs.Rings.{St}
 use Rattle.model_ops.specs.Concrete.{concrete}
 use Rattle.proof_book.specs.Sorting.{Sorting}
 use Rattle.proof_usb20.specs.Sequence as log
-use Rattle.proof_usb20.specs.Sequence.{before, opens, Fair, own, Writing, wrote, Leaves}
+use Rattle.proof_usb20.specs.Sequence.{before, opens, Fair, own, Writing, wrote, LeavesWord}
 use Rattle.proof_usb20.specs.Observer.{Observer, Under, at-rest, doing, starting, Watched, startedBy, ReadAt, Read, Reads, All, Meaning}
 use Rattle.proof_usb20.specs.Watch.{Along, at-end, at-ask}
 use Rattle.proof_usb20.specs.WatchLaws.{watch-more}
@@ -150,7 +150,7 @@ module _ (D : Dir) (E : ℕ) (z : (d : Dir) → Else D E d 0) where
   last true x y = refl
   last false x y = refl
 
-  unlent : (o : Op) → calls .slots o ≡ true → (w : Track) (v : Seen) → Fits w v → Fits (log.closes D E o (Refused 1) (log.opens D E o w)) v
+  unlent : (o : Op) → calls .slots o ≡ true → (w : Track) (v : EpSeen) → Fits w v → Fits (log.closes D E o (Refused 1) (log.opens D E o w)) v
   unlent interrupt h w v r = r
   unlent (slotted (SetEnabled d e on)) h w v r =
       rw (last (log.own D E d e) (log.renewed D E (log.armsAt D E d on) (log.withPhase log.off w)) (log.withPhase log.off w)) r
@@ -231,7 +231,7 @@ code-data-toggles D E h c b row xs a first e ms s p = code-from-start (toggles D
     (laws D E (not-ep0 D E h)) c b row xs a first e ms s p (code-reads-any (toggles D E) (λ _ _ _. tt) ms _)
 
 -- DECISIONS 94, of such an endpoint, where nothing is under way
-pub tog-is-bit : (w : Track) (x : Seen) → Fits w x → (x .tog ≡ 0) ⊎ (x .tog ≡ 1)
+pub tog-is-bit : (w : Track) (x : EpSeen) → Fits w x → (x .tog ≡ 0) ⊎ (x .tog ≡ 1)
 tog-is-bit w x r = by (w .bit) (r .tog)
   where
     by : (b : Pid) → x .tog ≡ number b → (x .tog ≡ 0) ⊎ (x .tog ≡ 1)
@@ -272,12 +272,12 @@ module _ (D : Dir) (E : ℕ) (h : E % 16 ≡ 0 → ⊥) where
   -- two logs of one outcome
   together : {A : Type 0} {P : Track → A → St → Type 0} {Q : Writing → A → St → Type 0} {w : Track} {u : Writing} {o : tree.Out St A}
       → Sees (toggles D E) (λ _ _. Unit {0}) P w o
-      → Along (wrote D E) (λ _ _ _. Unit {0}) (following.Keeps D E) (λ _ _. Unit {0}) Q u o
+      → Along (wrote D E) (λ _ _ _. Unit {0}) (following.Between D E) (λ _ _. Unit {0}) Q u o
       → Sees (words D E) (λ _ _. Unit {0}) (λ x a t. P (x .0) a t × Q (x .1) a t) (w, u) o
   together (at-end p) (at-end q) = at-end (p, q)
   together (at-ask _ f) (at-ask _ g) = at-ask tt (λ v t b k. together (f v t tt k) (g v t tt k))
 
-  refused-leaves : (o : Op) (u : Writing) → Leaves D E o (Refused 1) u
+  refused-leaves : (o : Op) (u : Writing) → LeavesWord D E o (Refused 1) u
   refused-leaves interrupt u = tt
   refused-leaves (slotted (SetEnabled d e on)) u = λ k. never (own D E d e) k
   refused-leaves (slotted (PollRead e n)) u = tt
@@ -287,7 +287,7 @@ module _ (D : Dir) (E : ℕ) (h : E % 16 ≡ 0 → ⊥) where
   refused-leaves (slotted (BeginDataIn bs first last)) u = tt
   refused-leaves (other o) u = of-others o
     where
-      of-others : (o : Other) → Leaves D E (other o) (Refused 1) u
+      of-others : (o : Other) → LeavesWord D E (other o) (Refused 1) u
       of-others (Allocate d kind address maximum interval) = tt
       of-others (AllocateAll bytes) = tt
       of-others (Start maximum) = tt

@@ -34,17 +34,17 @@ use Rattle.model_ops.specs.Rings.{St, slotStep, armAt, renewedOn, typeStep, con
 use Rattle.model_ops.specs.Concrete.{concrete}
 use Rattle.proof_book.specs.TransferKindsLaws.{act-steady, row-steady}
 use Rattle.proof_usb20.specs.Sequence as log
-use Rattle.proof_usb20.specs.Sequence.{Track, off, withPhase, own, saw, armsAt, Writing, written, withWord, unwritten-yet, Restarts, Acks, wrote, Leaves}
+use Rattle.proof_usb20.specs.Sequence.{Track, off, withPhase, own, saw, armsAt, Writing, written, withWord, unwritten-yet, Restarts, Acks, wrote, LeavesWord}
 use Rattle.proof_usb20.specs.FollowLaws as follow
 use Rattle.proof_usb20.specs.Follow as following
-use Rattle.proof_usb20.specs.Follow.{Seen, FitsAs, Fits, view, Follow, Ends, Law}
+use Rattle.proof_usb20.specs.Follow.{EpSeen, FitsAs, Fits, view, Follow, Ends, Law}
 use Rattle.proof_usb20.specs.Watch.{Along, at-end, at-ask}
 use Rattle.proof_usb20.specs.WatchLaws.{watch-bind, watch-cond, watch-any}
 use Rattle.proof_usb20.specs.ExemptLaws.{by-test, differ}
 use Rattle.model.specs.TogglesLaws.{number}
 use Rattle.model.specs.Answers.{Answer, Refused, isAllocated, resultless}
 use Rattle.proof_usb20.specs.FollowLaws.{act-view}
-use Rattle.proof_usb20.specs.CalmLaws.{Whole, Off, Else, Hush, Kept, Stays, Quiet, loose, loosely, asked, onward}
+use Rattle.proof_usb20.specs.CalmLaws.{Whole, Off, Else, Hush, CalmKept, Stays, Quiet, loose, loosely, asked, onward}
 use Rattle.proof_usb20.specs.CalmLaws.{with-other, put-globals, put-paced, q-act, q-bind, q-ep, q-got, q-hand, q-put}
 use Rattle.proof_usb20.specs.CalmLaws.{q-resultless, q-ret, q-staged, q-test, q-wake, q-write}
 use Rattle.proof_usb20.specs.ReadingLaws as reading
@@ -85,7 +85,7 @@ module _ (D : Dir) (E : ℕ) where
   silent e on (suc (suc zero)) x w v h = h _ _ _ v
   silent e on (suc (suc (suc n))) x w v h = refl
 
-  in-row : (e : ℕ) (on : Bool) → Else D E Out e → (n : ℕ) (w : Track) (s : St) → Hush D E w → Kept D E false s
+  in-row : (e : ℕ) (on : Bool) → Else D E Out e → (n : ℕ) (w : Track) (s : St) → Hush D E w → CalmKept D E false s
       → Follow D E (λ x _ t. Stays D E false w s x t) w (rows concrete (switch e on) n (λ t. tree.ends (tt {0}) t) s)
   in-row e on m zero w s h k = onward D E w s (concrete .row (switch e on) zero s .1) (switch-view e on zero m s) (loosely D E)
       (asked D E w (loose D E (row-steady (switch e on) zero s .places ∙ k .whole))
@@ -160,7 +160,7 @@ module _ (D : Dir) (E : ℕ) where
       let v = act-view D E (reset-ring Out e) refl s in
       let l : Whole a = act-steady (reset-ring Out e) refl s .places ∙ k in
       let g = renews-by Out e f on w a o l (subst (Fits w) (sym v) r)
-      (ap (λ (q : Seen). eqb (q .stage) 2) v ∙ two) (λ _. refl) (λ _. refl) (λ _. refl) (λ _. flagged on) in
+      (ap (λ (q : EpSeen). eqb (q .stage) 2) v ∙ two) (λ _. refl) (λ _. refl) (λ _. refl) (λ _. flagged on) in
       follow.follow-bind D E {P = λ y _ u. Stays D E false (withPhase off w) t y u}
       (follow.follow-cond D E (isOn (concrete .get (ep-cell Out e) s .iso)) (λ q. iso-own D E Out e s o i q)
       (λ _. q-rest-out e on .goes (withPhase off w) t (refl, λ _ _ _ _. refl)
@@ -175,7 +175,7 @@ module _ (D : Dir) (E : ℕ) where
       let v = act-view D E (reset-ring In e) refl s in
       let l : Whole a = act-steady (reset-ring In e) refl s .places ∙ k in
       let g = renews-by In e statics.renewed false w a o l (subst (Fits w) (sym v) r)
-      (ap (λ (q : Seen). eqb (q .stage) 2) v ∙ two) (λ _. refl) (λ _. refl) (λ _. refl) (λ _. refl) in
+      (ap (λ (q : EpSeen). eqb (q .stage) 2) v ∙ two) (λ _. refl) (λ _. refl) (λ _. refl) (λ _. refl) in
       follow.follow-bind D E {P = λ y _ u. Stays D E false (withPhase off w) t y u} {f = λ (_ : Unit {0}) (u : St). run {i = false} concrete (wake In e) u}
       (q-rest-in e (isOn (concrete .get (ep-cell In e) s .iso)) on .goes (withPhase off w) t (refl, λ _ _ _ _. refl)
       (loose D E (whole-put D E (ep-cell In e) (statics.renewed (concrete .get (ep-cell In e) a)) a l)))
@@ -204,7 +204,7 @@ module _ (D : Dir) (E : ℕ) where
           follow.follow-bind D E {P = Renews (armsAt D E d on) w}
           (follow.follow-bind D E {P = Renews (armsAt D E d on) w}
           (enabling d e on w a (own-true D E d e h) (act-steady no-wakes refl s .places ∙ z .places)
-          (subst (Fits w) (sym v) r) two (ap (λ (q : Seen). isOn (q .iso)) v ∙ i)) (λ y _ t m. at-end m))
+          (subst (Fits w) (sym v) r) two (ap (λ (q : EpSeen). isOn (q .iso)) v ∙ i)) (λ y _ t m. at-end m))
           (λ y _ t m. at-end (rw (m .0) (rw h (m .1)), tt)))
           (λ _. at-end (nothing, tt))) (λ _. at-end (nothing, tt))
 
@@ -234,14 +234,14 @@ not-own false c h k = differ k
 
 module _ (D : Dir) (E : ℕ) where
   abbrev pub Marks : {A : Type 0} → (Writing → A → St → Type 0) → Writing → tree.Out St A → Type 0
-  Marks P u o = Along (wrote D E) (λ _ _ _. Unit {0}) (following.Keeps D E) (λ _ _. Unit {0}) P u o
+  Marks P u o = Along (wrote D E) (λ _ _ _. Unit {0}) (following.Between D E) (λ _ _. Unit {0}) P u o
 
   abbrev pub WordLaw : Op → Type 0
   WordLaw o = (w : Track) (s : St) → Fits w (view D E (s .0)) → isOn (epOn (s .0) D E .iso) ≡ false
-      → Marks (λ u a _. Leaves D E o a u) (unwritten-yet w) (run concrete (code o) s)
+      → Marks (λ u a _. LeavesWord D E o a u) (unwritten-yet w) (run concrete (code o) s)
 
   -- a call of which nothing is claimed
-  pub leaves-any : (o : Op) → ((a : Answer) (u : Writing) → Leaves D E o a u) → WordLaw o
+  pub leaves-any : (o : Op) → ((a : Answer) (u : Writing) → LeavesWord D E o a u) → WordLaw o
   leaves-any o f w s r i = watch-any (λ _. Unit {0}) (λ _ _ _. tt) (λ _ _ _ _. tt) (λ x a _ _. f a x) (unwritten-yet w) tt (run concrete (code o) s)
 
   abbrev Word0 : Bool → {A : Type 0} → Writing → A → St → Type 0
@@ -270,13 +270,13 @@ module _ (D : Dir) (E : ℕ) where
   leaves-enabled d e on w s r i = by (own D E d e) refl
     where
       by : (b : Bool) → own D E d e ≡ b
-          → Marks (λ u a _. Leaves D E (slotted (SetEnabled d e on)) a u) (unwritten-yet w) (run concrete (code (slotted (SetEnabled d e on))) s)
+          → Marks (λ u a _. LeavesWord D E (slotted (SetEnabled d e on)) a u) (unwritten-yet w) (run concrete (code (slotted (SetEnabled d e on))) s)
       by false h = leaves-any (slotted (SetEnabled d e on)) (λ a u k. not-own (own D E d e) (log.ended D E a) h k) w s r i
       by true h = watch-cond (eqb (s .0 .globals .stage) 2) (λ _. watch-cond (isAllocated (s .0 .allocator) d e)
           (λ _.
           let v = act-view D E no-wakes refl s in
           watch-bind {P = Word0 (armsAt D E d on)} (watch-bind {P = Word0 (armsAt D E d on)}
-          (enabled-word d e on (unwritten-yet w) (concrete .act no-wakes s) h (ap (λ (q : Seen). isOn (q .iso)) v ∙ i))
+          (enabled-word d e on (unwritten-yet w) (concrete .act no-wakes s) h (ap (λ (q : EpSeen). isOn (q .iso)) v ∙ i))
           (λ _ _ _ m. at-end m)) (λ _ _ _ m. at-end (λ _. m)))
           (λ _. at-end (λ k. never (own D E d e) k))) (λ _. at-end (λ k. never (own D E d e) k))
 
@@ -310,21 +310,21 @@ module _ (D : Dir) (E : ℕ) where
   leaves-stalled d e false w s r i = by (own D E d e) refl
     where
       by : (b : Bool) → own D E d e ≡ b
-          → Marks (λ u a _. Leaves D E (other (SetStalled d e false)) a u) (unwritten-yet w) (run concrete (code (other (SetStalled d e false))) s)
+          → Marks (λ u a _. LeavesWord D E (other (SetStalled d e false)) a u) (unwritten-yet w) (run concrete (code (other (SetStalled d e false))) s)
       by false h = leaves-any (other (SetStalled d e false)) (λ a u k. not-own (own D E d e) (log.ended D E a) h k) w s r i
       by true h = watch-cond (eqb (s .0 .globals .stage) 2)
           (λ _. watch-cond (eqb e 0) (λ _. goes)
           (λ _. watch-cond (isAllocated (s .0 .allocator) d e) (λ _. goes) (λ _. at-end (λ k. never (own D E d e) k))))
           (λ _. at-end (λ k. never (own D E d e) k))
         where
-          goes : Marks (λ u a _. Leaves D E (other (SetStalled d e false)) a u)
+          goes : Marks (λ u a _. LeavesWord D E (other (SetStalled d e false)) a u)
               (unwritten-yet w) (run {i = false} concrete (resultless (bus.setStalled d e false)) s)
           goes =
               let v = act-view D E no-wakes refl s in
               watch-bind {P = λ x _ _. Restarts (armsAt D E d (x .waited)) (x .word)}
               (watch-bind {P = λ x _ _. Restarts (armsAt D E d (x .waited)) (x .word)}
-              (cleared-word d e (unwritten-yet w) (concrete .act no-wakes s) h (ap (λ (q : Seen). isOn (q .iso)) v ∙ i)
-              (ap (λ (q : Seen). isOn (q .armed)) v ∙ r .armed)) (λ _ _ _ m. at-end m)) (λ _ _ _ m. at-end (λ _. m))
+              (cleared-word d e (unwritten-yet w) (concrete .act no-wakes s) h (ap (λ (q : EpSeen). isOn (q .iso)) v ∙ i)
+              (ap (λ (q : EpSeen). isOn (q .armed)) v ∙ r .armed)) (λ _ _ _ m. at-end m)) (λ _ _ _ m. at-end (λ _. m))
 
   -- ---- reads and writes
 

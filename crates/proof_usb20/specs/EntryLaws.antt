@@ -23,7 +23,7 @@ use Rattle.model_ops.specs.Concrete.{concrete}
 use Rattle.proof_usb20.specs.Log.{Log, shows, again, writes, saw, withRx, withTx, withPhase}
 use Rattle.proof_usb20.specs.Watch.{at-end, at-ask}
 use Rattle.proof_usb20.specs.WatchLaws.{watch-bind, watch-more, watch-cond}
-use Rattle.proof_usb20.specs.Ep0.{Watch, View, view, Keeps}
+use Rattle.proof_usb20.specs.Ep0.{Watch, View, view, Between}
 use Rattle.proof_usb20.specs.ExemptLaws.{differ}
 use Rattle.proof_usb20.specs.FittingLaws.{both, negated}
 use Rattle.proof_usb20.specs.QuietLaws.{Plainly, plainly, Any, other-word}
@@ -55,7 +55,7 @@ module _ (w : Log) (b : Bool) (shown : ℕ) (s : St) (k : Plainly s) where
   L y = withPhase (shows b shown) y
 
   pub nak-other : (st : ℕ) → eqb (endpoint st) 0 ≡ false
-      → Watch Keeps Any (Exactly (L w) (view (s .0))) (L w) (run concrete (nakNonIso {i = true} st) s)
+      → Watch Between Any (Exactly (L w) (view (s .0))) (L w) (run concrete (nakNonIso {i = true} st) s)
   nak-other st h =
       watch-cond (outNaks st (concrete .get (ep-cell Out (endpoint st)) s))
       (λ _. at-ask tt (λ v t _ i. at-ask tt (λ _ u _ j. at-end (other-word Out (endpoint st) (nak v) h (L w), j .0 ∙ i .0, plainly (j .1)))))
@@ -67,7 +67,7 @@ module _ (w : Log) (b : Bool) (shown : ℕ) (s : St) (k : Plainly s) where
   not-iso st h = ap (λ (e : ℕ). isOn (concrete .get (ep-cell In e) s .iso)) (eqb-true (endpoint st) 0 h) ∙ k .plain In
 
   neither : (st : ℕ) → eqb (endpoint st) 0 ≡ true → (t : Token) → token st ≡ t → outToken t ≡ false → inToken t ≡ false
-      → Watch Keeps Any (Exactly (L w) (view (s .0))) (L w) (run concrete (nakNonIso {i = true} st) s)
+      → Watch Between Any (Exactly (L w) (view (s .0))) (L w) (run concrete (nakNonIso {i = true} st) s)
   neither st h t e a c =
       watch-cond (outNaks st (concrete .get (ep-cell Out (endpoint st)) s))
       (λ q. differ (sym (out-naks st (concrete .get (ep-cell Out (endpoint st)) s) t e h ∙ ap (λ (z : Bool). z && togOk st) a) ∙ q))
@@ -77,7 +77,7 @@ module _ (w : Log) (b : Bool) (shown : ℕ) (s : St) (k : Plainly s) where
 
   -- EP0's
   pub nak-own : (st : ℕ) → eqb (endpoint st) 0 ≡ true → (t : Token) → token st ≡ t → (ok : Bool) → togOk st ≡ ok
-      → Watch Keeps Any (Exactly (L (naked t false ok w)) (view (s .0))) (L w) (run concrete (nakNonIso {i = true} st) s)
+      → Watch Between Any (Exactly (L (naked t false ok w)) (view (s .0))) (L w) (run concrete (nakNonIso {i = true} st) s)
   nak-own st h tok.Out e true o =
       watch-cond (outNaks st (concrete .get (ep-cell Out (endpoint st)) s))
       (λ _. at-ask {q = Read EpRxCtrl (endpoint st)} tt (λ v t c i. at-ask tt (λ _ u _ j. at-end (
@@ -122,7 +122,7 @@ naked-busy tok.Sof ok w = refl
 naked-busy tok.Setup ok w = refl
 
 looked : (w : Log) (b : Bool) (st n : ℕ) (s : St) → Plainly s
-    → Watch Keeps Any (Exactly (withPhase (shows b st) w) (view (s .0))) (withPhase (shows b st) w) (run concrete (looks {i = true} n) s)
+    → Watch Between Any (Exactly (withPhase (shows b st) w) (view (s .0))) (withPhase (shows b st) w) (run concrete (looks {i = true} n) s)
 unfolding looks
 looked w b st zero s k = at-end (refl, refl, k)
 looked w b st (suc n) s k = at-ask tt
@@ -147,7 +147,7 @@ flag-taken : (st f : ℕ) (w : Log) → transfer f ≡ false
 flag-taken st f w q = rw q refl
 
 retakes : (w : Log) (s : St) (x : Transfer) → x .busy ≡ true → Plainly s
-    → Watch Keeps Any (λ l y t. Settled w (view (s .0)) l y t) (withPhase (shows true (x .st)) w) (run concrete (retake {i = true} x) s)
+    → Watch Between Any (λ l y t. Settled w (view (s .0)) l y t) (withPhase (shows true (x .st)) w) (run concrete (retake {i = true} x) s)
 retakes w s x b k = at-ask tt (λ m t _ i. watch-cond (sieFree m)
     (λ _. at-ask {q = Read IntFg 0} tt (λ f u _ j. watch-cond (transfer f)
     (λ q. back (flag-kept (x .st) f w q) (at-end (stays w s u x b (j .0 ∙ i .0) (plainly (j .1)))))
@@ -156,12 +156,12 @@ retakes w s x b k = at-ask tt (λ m t _ i. watch-cond (sieFree m)
     (λ _. at-end (stays w s t x b (i .0) (plainly (i .1)))))
   where
     named : (st : ℕ) (o : St) → view (o .0) ≡ view (s .0) → Plainly o
-        → Watch Keeps Any (λ l y t. Settled w (view (s .0)) l y t)
+        → Watch Between Any (λ l y t. Settled w (view (s .0)) l y t)
         (withPhase (shows false st) w) (run {i = true} concrete (bind (nakNonIso st) (λ _. ret (retaken x st))) o)
     named st o e n = by (eqb (endpoint st) 0) refl
       where
         by : (z : Bool) → eqb (endpoint st) 0 ≡ z
-            → Watch Keeps Any (λ l y t. Settled w (view (s .0)) l y t) (withPhase (shows false st) w)
+            → Watch Between Any (λ l y t. Settled w (view (s .0)) l y t) (withPhase (shows false st) w)
             (run {i = true} concrete (bind (nakNonIso st) (λ _. ret (retaken x st))) o)
         by true h = watch-bind (nak-own w false st o n st h (token st) refl (togOk st) refl) (λ y _ u m. at-end (mine h (m .0) (m .1 ∙ e) (m .2)))
         by false h = watch-bind (nak-other w false st o n st h) (λ y _ u m. at-end (others h false (m .0) (m .1 ∙ e) (m .2)))
@@ -187,7 +187,7 @@ abbrev pub entry : Log → Transfer → Log
 entry w x = withPhase (shows (x .busy) (x .st)) (cond (eqb (endpoint (x .st)) 0) (naked (token (x .st)) (x .busy) (togOk (x .st)) w) w)
 
 pub settles : (w : Log) (s : St) (x : Transfer) → Plainly s
-    → Watch Keeps Any (λ l y t. Settled w (view (s .0)) l y t) (entry w x) (run concrete (settle {i = true} x) s)
+    → Watch Between Any (λ l y t. Settled w (view (s .0)) l y t) (entry w x) (run concrete (settle {i = true} x) s)
 settles w s x k = by (eqb (endpoint (x .st)) 0) refl (x .busy) refl
   where
     O : EpCore
@@ -200,7 +200,7 @@ settles w s x k = by (eqb (endpoint (x .st)) 0) refl (x .busy) refl
     plain-out h = ap (λ (e : ℕ). isOn (concrete .get (ep-cell Out e) s .iso)) (eqb-true (endpoint (x .st)) 0 h) ∙ k .plain Out
 
     by : (m : Bool) → eqb (endpoint (x .st)) 0 ≡ m → (b : Bool) → x .busy ≡ b
-        → Watch Keeps Any (λ l y t. Settled w (view (s .0)) l y t) (entry w x) (run concrete (settle {i = true} x) s)
+        → Watch Between Any (λ l y t. Settled w (view (s .0)) l y t) (entry w x) (run concrete (settle {i = true} x) s)
     -- EP0, complete
     by true h false b =
         watch-cond (waitsForIso x O) (λ q. differ (sym b ∙ iso-waits x O q .0)) (λ _. watch-cond (waitsForBulk x N) (λ q. differ (sym b ∙ bulk-waits x N q .0))

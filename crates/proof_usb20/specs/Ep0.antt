@@ -99,11 +99,11 @@ abbrev pub Watch : (St → St → Type 0) → (Log → Access → Type 0) → {A
 Watch K Ok P w o = Along saw Brings K Ok P w o
 
 -- between two accesses: calls that pass during an interrupt, and stores in the slots
-abbrev pub Keeps : St → St → Type 0
-Keeps s t = (view (t .0) ≡ view (s .0)) × Sorting (t .0) × (t .0 .wakes ≡ s .0 .wakes)
+abbrev pub Between : St → St → Type 0
+Between s t = (view (t .0) ≡ view (s .0)) × Sorting (t .0) × (t .0 .wakes ≡ s .0 .wakes)
 
 abbrev pub Ends : Op → Log → Answer → St → Type 0
 Ends o w a s = R (closes o a w) (view (s .0)) × Fair o a w
 
 abbrev pub Law : Op → Type 0
-Law o = (w : Log) (s : St) → R w (view (s .0)) → Sorting (s .0) → Watch Keeps (Allowed o) (Ends o) (opens o w) (run concrete (code o) s)
+Law o = (w : Log) (s : St) → R w (view (s .0)) → Sorting (s .0) → Watch Between (Allowed o) (Ends o) (opens o w) (run concrete (code o) s)

@@ -31,7 +31,7 @@ use Rattle.proof_usb20.specs.Log.{pollSetup, pollOut, pollIn, pollStatus
 use Rattle.proof_usb20.specs.Log.{Unfinished, Begins, begins, Completes, Wrote, GivesSetup, FairPoll, AllowedTo}
 use Rattle.proof_usb20.specs.Log.{Allowed}
 use Rattle.proof_usb20.specs.WatchLaws.{watch-any}
-use Rattle.proof_usb20.specs.Ep0.{Watch, Keeps, Ends}
+use Rattle.proof_usb20.specs.Ep0.{Watch, Between, Ends}
 
 -- a test, either way
 pub by-test : {A : Type 0} (b : Bool) → (b ≡ true → A) → (b ≡ false → A) → A
@@ -203,7 +203,7 @@ opens-exempt (aside o) w h = h
 
 -- a task's call, whatever it does
 pub exempt-law : (o : Op) → Task o → (w : Log) (s : St) → w .exempt ≡ true
-    → Watch Keeps (Allowed o) (Ends o) (opens o w) (run concrete (code o) s)
+    → Watch Between (Allowed o) (Ends o) (opens o w) (run concrete (code o) s)
 exempt-law o t w s h = watch-any (λ x. x .exempt ≡ true) (λ x q g. allowed-exempt (pollOf o) x q g)
     (λ x q v g. saw-exempt x q v (it g) .is) (λ x a u g. (inl (closes-exempt o t a x g), fair-exempt (pollOf o) a x g))
     (opens o w) (opens-exempt o w h) (run concrete (code o) s)

@@ -21,7 +21,7 @@ use Rattle.proof_wake_ups.specs.Rooms.{Few}
 use Rattle.proof_usb20.specs.Watch.{Along}
 use Rattle.proof_usb20.specs.Sequence.{Track, saw, opens, closes, Fair}
 
-pub record Seen : Type 0 where
+pub record EpSeen : Type 0 where
   pub ready : ℕ
   pub len : ℕ
   pub armed : ℕ
@@ -29,31 +29,31 @@ pub record Seen : Type 0 where
   pub iso : ℕ
   pub stage : ℕ
 
-abbrev pub seenOf : EpState → ℕ → Seen
+abbrev pub seenOf : EpState → ℕ → EpSeen
 seenOf r n = record { ready = r .ready; len = r .len; armed = r .armed; tog = r .tog; iso = r .iso; stage = n }
 
 -- the record is as the log says; before EP0's start nothing has happened yet
-pub record FitsAs (b : Pid) (through : Bool) (n : ℕ) (a : Bool) (x : Seen) : Type 0 where
+pub record FitsAs (b : Pid) (through : Bool) (n : ℕ) (a : Bool) (x : EpSeen) : Type 0 where
   pub tog : x .tog ≡ number b
   pub ready : isOn (x .ready) ≡ through
   pub len : x .len ≡ n
   pub armed : isOn (x .armed) ≡ a
   pub early : eqb (x .stage) 2 ≡ false → (b ≡ initial) × (through ≡ false) × (a ≡ false)
 
-abbrev pub Fits : Track → Seen → Type 0
+abbrev pub Fits : Track → EpSeen → Type 0
 Fits w x = FitsAs (w .bit) (w .through) (w .len) (w .armed) x
 
 module _ (D : Dir) (E : ℕ) where
-  abbrev pub view : Driver → Seen
+  abbrev pub view : Driver → EpSeen
   view d = seenOf (epOn d D E) (d .globals .stage)
 
   -- between two accesses: open, close and queue, and stores in the slots
-  abbrev pub Keeps : St → St → Type 0
-  Keeps s t = (view (t .0) ≡ view (s .0)) × Sorting (t .0) × (t .0 .wakes ≡ s .0 .wakes)
+  abbrev pub Between : St → St → Type 0
+  Between s t = (view (t .0) ≡ view (s .0)) × Sorting (t .0) × (t .0 .wakes ≡ s .0 .wakes)
 
   -- `P` at each end, of what the log is then: nothing is asked of the chip, and any access is allowed
   abbrev pub Follow : {A : Type 0} → (Track → A → St → Type 0) → Track → tree.Out St A → Type 0
-  Follow P w o = Along (saw D E) (λ _ _ _. Unit {0}) Keeps (λ _ _. Unit {0}) P w o
+  Follow P w o = Along (saw D E) (λ _ _ _. Unit {0}) Between (λ _ _. Unit {0}) P w o
 
   abbrev pub Ends : Op → Track → Answer → St → Type 0
   Ends o w a s = Fits (closes D E o a w) (view (s .0)) × Fair D E o a w

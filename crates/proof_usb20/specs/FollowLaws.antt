@@ -15,9 +15,9 @@ use Rattle.model.specs.Tree as tree
 use Rattle.model.specs.Tree.{bindOut}
 use Rattle.proof_usb20.specs.WatchLaws.{watch-bind, watch-more, watch-cond}
 use Rattle.proof_usb20.specs.Sequence.{Track}
-use Rattle.proof_usb20.specs.Follow.{Seen, seenOf, view, Follow}
+use Rattle.proof_usb20.specs.Follow.{EpSeen, seenOf, view, Follow}
 
-abbrev core : EpState → Seen
+abbrev core : EpState → EpSeen
 core r = seenOf r 0
 
 abbrev stageOf : Driver → ℕ

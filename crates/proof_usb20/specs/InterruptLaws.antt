@@ -34,7 +34,7 @@ use Rattle.proof_usb20.specs.Pipe.{isReady, packet}
 use Rattle.proof_usb20.specs.Log.{Log, off, reads, writes, Brings, withRx, withTx, withPhase, happens, ofToken}
 use Rattle.proof_usb20.specs.Watch.{at-end, at-ask}
 use Rattle.proof_usb20.specs.WatchLaws.{watch-bind, watch-more, watch-cond}
-use Rattle.proof_usb20.specs.Ep0.{Watch, Rec, View, view, R, Keeps}
+use Rattle.proof_usb20.specs.Ep0.{Watch, Rec, View, view, R, Between}
 use Rattle.proof_usb20.specs.ExemptLaws.{differ}
 use Rattle.proof_usb20.specs.ViewsLaws.{rec, setOut, setIn}
 use Rattle.proof_usb20.specs.Ep0Laws.{act-view}
@@ -80,13 +80,13 @@ r-token-in w x m h (inr r) = inr (token-in m h r)
 -- ---- scripts
 
 -- a log that is another's
-pub back : {A : Type 0} {P : Log → A → St → Type 0} {u w : Log} {o : tree.Out St A} → u ≡ w → Watch Keeps Any P w o
-    → Watch Keeps Any P u o
-back {P = P} {o = o} e x = subst (λ (y : Log). Watch Keeps Any P y o) (sym e) x
+pub back : {A : Type 0} {P : Log → A → St → Type 0} {u w : Log} {o : tree.Out St A} → u ≡ w → Watch Between Any P w o
+    → Watch Between Any P u o
+back {P = P} {o = o} e x = subst (λ (y : Log). Watch Between Any P y o) (sym e) x
 
 -- a script's run, so that the script shows
 pub record Runs {i : Bool} {A : Type 0} (P : Log → A → St → Type 0) (p : Script i A) (w : Log) (s : St) : Type 0 where
-  pub ok : Watch Keeps Any P w (run concrete p s)
+  pub ok : Watch Between Any P w (run concrete p s)
 
 pub then-quiet : {i : Bool} {A B : Type 0} {p : Script i A} {f : A → Script i B} {P : Log → B → St → Type 0} {w : Log} {s : St}
     → w .phase ≡ off → Plainly s → Quiet p
@@ -161,7 +161,7 @@ rec-view In f s h = in-view f s h
 -- its word is read, changed and written; then its record completed
 flipped : (d : Dir) (f : ℕ → ℕ) (g : EpCore → EpCore) (w : Log) (s : St) → ((p : EpCore) → (g p .ready ≡ 1) × (g p .armed ≡ 0))
     → w .phase ≡ off
-    → Watch Keeps Any (Exactly (withCtrl d (f (ctrl d w)) w) (setRec d completed (view (s .0)))) w (run concrete (do
+    → Watch Between Any (Exactly (withCtrl d (f (ctrl d w)) w) (setRec d completed (view (s .0)))) w (run concrete (do
       modifyReg {i = true} (ctrlOf d) 0 f
       modifyEp d 0 g
       wake d 0) s)
@@ -178,7 +178,7 @@ flipped d f g w s c z = at-ask {q = Read (ctrlOf d) 0} tt (λ v t b k. back (rea
 
 -- a packet IN
 sent-in : (w : Log) (s : St) → w .phase ≡ off
-    → Watch Keeps Any (Exactly (withTx (flip (w .tx)) w) (setIn completed (view (s .0)))) w (run concrete (do
+    → Watch Between Any (Exactly (withTx (flip (w .tx)) w) (setIn completed (view (s .0)))) w (run concrete (do
       modifyReg {i = true} EpTxCtrl 0 flip
       modifyEp In 0 (withArmed 0)
       sent 0) s)
@@ -198,7 +198,7 @@ sent-in w s z = at-ask {q = Read EpTxCtrl 0} tt (λ v t b k. back (read-off w Ep
 
 -- a hidden stage
 moved-on : (d : Dir) (w : Log) (s : St) → w .phase ≡ off → Plainly s → (m : Bool) → isOn (recOf d (view (s .0)) .armed) ≡ m
-    → Watch Keeps Any (Exactly (withCtrl d (cond m (nakflip (ctrl d w)) (ctrl d w)) w) (cond m (setRec d completed (view (s .0))) (view (s .0)))) w
+    → Watch Between Any (Exactly (withCtrl d (cond m (nakflip (ctrl d w)) (ctrl d w)) w) (cond m (setRec d completed (view (s .0))) (view (s .0)))) w
     (run concrete (movedOn {i = true} d) s)
 moved-on d w s z k true h = watch-cond (isOn (concrete .get (ep-cell d 0) s .armed))
     (λ _. flipped d nakflip statics.completed w s (λ _. (refl, refl)) z) (λ q. differ (sym q ∙ (ap isOn (armed-as d s) ∙ h)))
@@ -245,7 +245,7 @@ module _ (x : Transfer) (frame : ℕ) (mine : eqb (endpoint (x .st)) 0 ≡ true)
       if-so (eqb (endpoint (x .st)) 0) mine (sign u′ (d ∙ m .1) n)))))))
 
 pub made : {i : Bool} {A : Type 0} {P : Log → A → St → Type 0} {p : Script i A} {w : Log} {s : St}
-    → Watch Keeps Any P w (run concrete p s) → Runs P p w s
+    → Watch Between Any P w (run concrete p s) → Runs P p w s
 made x = record { ok = x }
 
 conclude : {su : Bool} (y w : Log) (u : St) (v : View) → y ≡ w → view (u .0) ≡ v → R w v → v .stage ≡ 2
@@ -281,7 +281,7 @@ module _ (x : Transfer) (frame : ℕ) (mine : eqb (endpoint (x .st)) 0 ≡ true)
   armedOut = isOn (view (s .0) .out .armed)
 
   out-taken : x .busy ≡ false → togOk (x .st) ≡ true
-      → Watch Keeps Any (Served su) (ofToken tok.Out false true (withPhase off (withRx (nak (w .rx)) w))) (run concrete (servedAs tok.Out x false frame) s)
+      → Watch Between Any (Served su) (ofToken tok.Out false true (withPhase off (withRx (nak (w .rx)) w))) (run concrete (servedAs tok.Out x false frame) s)
   out-taken b ok =
       let u = ofToken tok.Out false true (withPhase off (withRx (nak (w .rx)) w)) in
       let v = withRx (flip (u .rx)) u in
@@ -298,7 +298,7 @@ module _ (x : Transfer) (frame : ℕ) (mine : eqb (endpoint (x .st)) 0 ≡ true)
 
   -- the token OUT alone: a repeat, or a transaction that is not complete
   out-token : (busy ok : Bool) → not busy && ok ≡ false → x .busy ≡ busy → togOk (x .st) ≡ ok
-      → Watch Keeps Any (Served su) (happens (pipe.token Out) (withPhase off w)) (run concrete (servedAs tok.Out x false frame) s)
+      → Watch Between Any (Served su) (happens (pipe.token Out) (withPhase off w)) (run concrete (servedAs tok.Out x false frame) s)
   out-token busy ok none b o =
       let u = happens (pipe.token Out) (withPhase off w) in
       (framing x frame mine u refl s k tok.Out false u (view (s .0)) refl
@@ -313,7 +313,7 @@ module _ (x : Transfer) (frame : ℕ) (mine : eqb (endpoint (x .st)) 0 ≡ true)
       both p q f g = rw (p, q, f, g) refl
 
   in-sent : x .busy ≡ false
-      → Watch Keeps Any (Served su) (ofToken tok.In false true (withPhase off (withTx (nak (w .tx)) w))) (run concrete (servedAs tok.In x false frame) s)
+      → Watch Between Any (Served su) (ofToken tok.In false true (withPhase off (withTx (nak (w .tx)) w))) (run concrete (servedAs tok.In x false frame) s)
   in-sent b =
       let u = ofToken tok.In false true (withPhase off (withTx (nak (w .tx)) w)) in
       let v = withTx (flip (u .tx)) u in
@@ -328,7 +328,7 @@ module _ (x : Transfer) (frame : ℕ) (mine : eqb (endpoint (x .st)) 0 ≡ true)
       (r-in w (view (s .0)) armedOut refl r) (same-stage armedOut _ _ two two) seen-su)))) .ok
 
   in-token : x .busy ≡ true
-      → Watch Keeps Any (Served su) (happens (pipe.token In) (withPhase off w)) (run concrete (servedAs tok.In x false frame) s)
+      → Watch Between Any (Served su) (happens (pipe.token In) (withPhase off w)) (run concrete (servedAs tok.In x false frame) s)
   in-token b =
       let u = happens (pipe.token In) (withPhase off w) in
       (framing x frame mine u refl s k tok.In false u (view (s .0)) refl
@@ -339,7 +339,7 @@ module _ (x : Transfer) (frame : ℕ) (mine : eqb (endpoint (x .st)) 0 ≡ true)
 
   plain-token : (tk : Token) (iso : Bool) → Quiet {i = true} (dispatch tk x iso frame)
       → Quiet {i = true} (ep0MovedOn tk)
-      → Watch Keeps Any (Served su) (withPhase off w) (run concrete (servedAs tk x iso frame) s)
+      → Watch Between Any (Served su) (withPhase off w) (run concrete (servedAs tk x iso frame) s)
   plain-token tk iso q p =
       (framing x frame mine (withPhase off w) refl s k tk iso (withPhase off w) (view (s .0)) refl
       (λ t e l. made (watch-more (q-when {b = not (x .busy)} q .goes (withPhase off w) t refl l) (λ _ _ _ m. (m .0, m .1 ∙ e, m .2))))
@@ -347,7 +347,7 @@ module _ (x : Transfer) (frame : ℕ) (mine : eqb (endpoint (x .st)) 0 ≡ true)
       (λ y _ o m. conclude y (withPhase off w) o (view (s .0)) (m .0) (m .1 ∙ e) r two seen-su)))) .ok
 
   pub served-ep0 : (tk : Token) (iso busy ok : Bool) → x .busy ≡ busy → togOk (x .st) ≡ ok → NotIso tk iso
-      → Watch Keeps Any (Served su) (ofToken tk busy ok (withPhase off (naked tk busy ok w))) (run concrete (servedAs tk x iso frame) s)
+      → Watch Between Any (Served su) (ofToken tk busy ok (withPhase off (naked tk busy ok w))) (run concrete (servedAs tk x iso frame) s)
   served-ep0 tok.Out false false true b o i = out-taken b o
   served-ep0 tok.Out false false false b o i = out-token false false refl b o
   served-ep0 tok.Out false true ok b o i = out-token true ok refl b o

@@ -32,10 +32,10 @@ use Rattle.proof_book.specs.TransferKindsLaws.{act-steady}
 use Rattle.proof_usb20.specs.ExemptLaws.{differ}
 use Rattle.proof_usb20.specs.Sequence.{Track, off, due, owes, withPhase, own, shown, lengthOf, judged, acksAs, howOften, reads, saw}
 use Rattle.proof_usb20.specs.FollowLaws as follow
-use Rattle.proof_usb20.specs.Follow.{Seen, Fits, view, Follow}
+use Rattle.proof_usb20.specs.Follow.{EpSeen, Fits, view, Follow}
 use Rattle.proof_usb20.specs.Watch.{at-end, at-ask}
 use Rattle.proof_usb20.specs.FollowLaws.{act-view}
-use Rattle.proof_usb20.specs.CalmLaws.{Whole, Idle, Kept, Hears, kept-by, hears-same, hears-then, heard, put-kept, put-hears, q-looks}
+use Rattle.proof_usb20.specs.CalmLaws.{Whole, Idle, CalmKept, Hears, kept-by, hears-same, hears-then, heard, put-kept, put-hears, q-looks}
 use Rattle.proof_usb20.specs.WokenLaws.{woken-room, woken-own}
 use Rattle.proof_usb20.specs.ReadingLaws.{Own, own-true, got, changed, fits-2}
 
@@ -80,10 +80,10 @@ newly D v k w = record { bit = shown v; through = true; len = lengthOf D k (w .l
 module _ (D : Dir) (E : ℕ) where
   -- what `toggled` leaves: the same bit, or another and that recorded
   pub data Told (s : St) (w : Track) (k : ℕ) (y : Track) (b : Bool) (t : St) : Type 0 where
-    repeat : b ≡ false → y ≡ withPhase off w → Fits w (view D E (t .0)) → Kept D E true t
+    repeat : b ≡ false → y ≡ withPhase off w → Fits w (view D E (t .0)) → CalmKept D E true t
         → eqb (t .0 .globals .stage) 2 ≡ true → Hears D E true s t → Told s w k y b t
     new : (v : ℕ) → b ≡ true → y ≡ newly D v k w → epOn (t .0) D E .tog ≡ number (shown v)
-        → epOn (t .0) D E .len ≡ w .len → isOn (epOn (t .0) D E .armed) ≡ false → Kept D E true t
+        → epOn (t .0) D E .len ≡ w .len → isOn (epOn (t .0) D E .armed) ≡ false → CalmKept D E true t
         → eqb (t .0 .globals .stage) 2 ≡ true
         → Hears D E true s t → Told s w k y b t
 
@@ -113,45 +113,45 @@ module _ (D : Dir) (E : ℕ) where
 
     -- a repeat: acknowledged again where a packet is waited for
     again : (s t : St) (v : ℕ) (b : Bool) → isOn (concrete .get (ep-cell D e) t .armed) ≡ b
-        → view D E (t .0) ≡ view D E (s .0) → Kept D E true t → Hears D E true s t
-        → Follow D E (λ y _ u. (y ≡ withPhase off w) × (view D E (u .0) ≡ view D E (s .0)) × Kept D E true u × Hears D E true s u)
+        → view D E (t .0) ≡ view D E (s .0) → CalmKept D E true t → Hears D E true s t
+        → Follow D E (λ y _ u. (y ≡ withPhase off w) × (view D E (u .0) ≡ view D E (s .0)) × CalmKept D E true u × Hears D E true s u)
         (withPhase (cond b (owes v) off) w)
         (run {i = true} concrete (when (isOn (concrete .get (ep-cell D e) t .armed)) (modifyReg (ctrlOf D) e ack)) t)
     again s t v true h z l f = follow.follow-cond D E (isOn (concrete .get (ep-cell D e) t .armed))
         (λ _. at-ask tt (λ n u _ p. back D E (read-again v n) (at-ask tt (λ x a _ q. back D E (acked n x) (
-        let ku : Kept D E true u = kept-by D E {s = t} {t = u} p l in
-        let ka : Kept D E true a = kept-by D E {s = u} {t = a} q ku in
+        let ku : CalmKept D E true u = kept-by D E {s = t} {t = u} p l in
+        let ka : CalmKept D E true a = kept-by D E {s = u} {t = a} q ku in
         let hu : Hears D E true t u = hears-same D E {s = t} {t = u} (p .2) in
         let ha : Hears D E true u a = hears-same D E {s = u} {t = a} (q .2) in
         at-end (refl, q .0 ∙ (p .0 ∙ z), ka, hears-then D E f (hears-then D E hu ha)))))))
         (λ q. differ (sym q ∙ h))
     again s t v false h z l f = follow.follow-cond D E (isOn (concrete .get (ep-cell D e) t .armed)) (λ q. differ (sym h ∙ q)) (λ _. at-end (refl, z, l, f))
 
-    pub toggles-own : (s : St) → Kept D E true s → Fits w (view D E (s .0)) → eqb (s .0 .globals .stage) 2 ≡ true
+    pub toggles-own : (s : St) → CalmKept D E true s → Fits w (view D E (s .0)) → eqb (s .0 .globals .stage) 2 ≡ true
         → Follow D E (Told s w k) (withPhase (due k) w) (run concrete (toggled {i = true} D e) s)
     unfolding repeated withOn isOn
     toggles-own s l r two = follow.follow-bind D E ((q-looks D E) 2001 .goes (withPhase (due k) w) s (due-idle k w, λ _ _ _ _. refl) l)
         (λ y _ a m. back D E (m .0) (at-ask tt (λ v t _ p.
         let z : view D E (t .0) ≡ view D E (s .0) = p .0 ∙ m .1 in
         let q : Own D E D e = own-true D E D e o in
-        let kt : Kept D E true t = kept-by D E {s = a} {t = t} p (m .2) in
+        let kt : CalmKept D E true t = kept-by D E {s = a} {t = t} p (m .2) in
         let at : Hears D E true a t = hears-same D E {s = a} {t = t} (p .2) in
         let hs : Hears D E true s t = hears-then D E (m .3) at in
         let g : repeated (concrete .get (ep-cell D e) t) v
         ≡ same (w .bit) (shown v) = ap (λ (x : EpCore). eqb (x .tog) (flag (isData1 v))) (got D E D e t q)
-        ∙ (ap (λ (x : Seen). eqb (x .tog) (flag (isData1 v))) z ∙ (ap (λ n. eqb n (flag (isData1 v))) (r .tog) ∙ agree (w .bit) v)) in
-        let st2 : eqb (t .0 .globals .stage) 2 ≡ true = ap (λ (x : Seen). eqb (x .stage) 2) z ∙ two in
+        ∙ (ap (λ (x : EpSeen). eqb (x .tog) (flag (isData1 v))) z ∙ (ap (λ n. eqb n (flag (isData1 v))) (r .tog) ∙ agree (w .bit) v)) in
+        let st2 : eqb (t .0 .globals .stage) 2 ≡ true = ap (λ (x : EpSeen). eqb (x .stage) 2) z ∙ two in
         let ar : isOn (concrete .get (ep-cell D e) t .armed) ≡ w .armed =
-        ap (λ (x : EpCore). isOn (x .armed)) (got D E D e t q) ∙ (ap (λ (x : Seen). isOn (x .armed)) z ∙ r .armed) in
+        ap (λ (x : EpCore). isOn (x .armed)) (got D E D e t q) ∙ (ap (λ (x : EpSeen). isOn (x .armed)) z ∙ r .armed) in
         back D E (read-word v) (follow.follow-cond D E (repeated (concrete .get (ep-cell D e) t) v)
         (λ h. back D E (same-bit v (w .armed) refl (sym g ∙ h)) (follow.follow-bind D E (again s t v (w .armed) ar z kt hs)
-        (λ y _ u x. at-end (repeat refl (x .0) (subst (Fits w) (sym (x .1)) r) (x .2) (ap (λ (x : Seen). eqb (x .stage) 2) (x .1) ∙ two) (x .3)))))
+        (λ y _ u x. at-end (repeat refl (x .0) (subst (Fits w) (sym (x .1)) r) (x .2) (ap (λ (x : EpSeen). eqb (x .stage) 2) (x .1) ∙ two) (x .3)))))
         (λ h. back D E (other-bit v (sym g ∙ h))
         (let f : EpCore → EpCore = λ p. withArmed 0 (withTog (flag (isData1 v)) p) in
         let c = changed D E D e f t q (kt .whole) in
         at-end
-        (new v refl refl (ap (λ (x : Seen). x .tog) c ∙ numbers v) (ap (λ (x : Seen). x .len) (c) ∙ (ap (λ (x : Seen). x .len) z ∙ r .len))
-        (ap (λ (x : Seen). isOn (x .armed)) c) (put-kept D E (ep-cell D e) (f (concrete .get (ep-cell D e) t)) t kt) st2
+        (new v refl refl (ap (λ (x : EpSeen). x .tog) c ∙ numbers v) (ap (λ (x : EpSeen). x .len) (c) ∙ (ap (λ (x : EpSeen). x .len) z ∙ r .len))
+        (ap (λ (x : EpSeen). isOn (x .armed)) c) (put-kept D E (ep-cell D e) (f (concrete .get (ep-cell D e) t)) t kt) st2
         (hears-then D E hs (put-hears D E (ep-cell D e) (f (concrete .get (ep-cell D e) t)) t)))))))))
 
 -- ---- the arms
@@ -161,10 +161,10 @@ abbrev pub Heard : (D : Dir) (E : ℕ) → Track → St → Type 0
 Heard D E y t = (64 ≤ t .0 .wakes .count) ⊎ (heard D E t ≡ flag (y .new))
 
 abbrev pub Done : (D : Dir) (E : ℕ) → {A : Type 0} → Track → A → St → Type 0
-Done D E y _ t = (y .phase ≡ off) × Fits y (view D E (t .0)) × Kept D E true t × (eqb (t .0 .globals .stage) 2 ≡ true) × Heard D E y t
+Done D E y _ t = (y .phase ≡ off) × Fits y (view D E (t .0)) × CalmKept D E true t × (eqb (t .0 .globals .stage) 2 ≡ true) × Heard D E y t
 
 pub done-as : (D : Dir) (E : ℕ) (y z : Track) (t : St) → y ≡ z → z .phase ≡ off → Fits z (view D E (t .0))
-    → Kept D E true t → eqb (t .0 .globals .stage) 2 ≡ true → Heard D E z t → Done D E {A = Unit {0}} y tt t
+    → CalmKept D E true t → eqb (t .0 .globals .stage) 2 ≡ true → Heard D E z t → Done D E {A = Unit {0}} y tt t
 done-as D E y z t h p f l two n = (
   ap (λ (x : Track). x .phase) h ∙ p,
   subst (λ (x : Track). Fits x (view D E (t .0))) (sym h) f,
@@ -184,8 +184,8 @@ code-own Out E e o = eq-eqb (16 + e % 16) (16 + E % 16) (omega (arith, o))
 code-own In E e o = eq-eqb (e % 16) (E % 16) (omega (arith, o))
 
 -- its task is woken
-module _ (D : Dir) (E e : ℕ) (o : Own D E D e) (u : St) (l : Kept D E true u) where
-  woken-kept : Kept D E true (concrete .act (waken (wakeCode D e ∷ [])) u)
+module _ (D : Dir) (E e : ℕ) (o : Own D E D e) (u : St) (l : CalmKept D E true u) where
+  woken-kept : CalmKept D E true (concrete .act (waken (wakeCode D e ∷ [])) u)
   unfolding epOn
   woken-kept = record {
     whole = act-steady (waken (wakeCode D e ∷ [])) refl u .places ∙ l .whole;
@@ -229,7 +229,7 @@ module _ (D : Dir) (E e k : ℕ) (o : own D E D e ≡ true) (w : Track) (s : St)
 
 pub arm-out : (E : ℕ) (x : Transfer) (k : ℕ) (w : Track) (s : St) → w .new ≡ false → heard Out E s ≡ 0
     → own Out E Out (endpoint (x .st)) ≡ true → eqb (endpoint (x .st)) 0 ≡ false → x .len ≡ k
-    → Kept Out E true s → Fits w (view Out E (s .0)) → eqb (s .0 .globals .stage) 2 ≡ true
+    → CalmKept Out E true s → Fits w (view Out E (s .0)) → eqb (s .0 .globals .stage) 2 ≡ true
     → Follow Out E (Done Out E) (withPhase (due k) w) (run concrete (outArm {i = true} x false) s)
 unfolding isOn
 arm-out E x k w s quiet none o nz e l r two = follow.follow-cond Out E (eqb (endpoint (x .st)) 0) (λ z. differ (sym nz ∙ z))
@@ -240,7 +240,7 @@ arm-out E x k w s quiet none o nz e l r two = follow.follow-cond Out E (eqb (end
     (fits-2 Out E two g refl e refl))))
 
 pub arm-in : (E : ℕ) (x : Transfer) (frame k : ℕ) (w : Track) (s : St) → w .new ≡ false → heard In E s ≡ 0
-    → own In E In (endpoint (x .st)) ≡ true → eqb (endpoint (x .st)) 0 ≡ false → x .len ≡ k → Kept In E true s
+    → own In E In (endpoint (x .st)) ≡ true → eqb (endpoint (x .st)) 0 ≡ false → x .len ≡ k → CalmKept In E true s
     → Fits w (view In E (s .0)) → eqb (s .0 .globals .stage) 2 ≡ true
     → Follow In E (Done In E) (withPhase (due k) w) (run concrete (inArm {i = true} x false frame) s)
 unfolding isOn

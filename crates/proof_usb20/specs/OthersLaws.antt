@@ -30,7 +30,7 @@ use Rattle.model_ops.specs.Concrete.{concrete}
 use Rattle.proof_book.specs.Sorting.{Sorting}
 use Rattle.proof_usb20.specs.Sequence.{Track, before}
 use Rattle.proof_usb20.specs.FollowLaws as follow
-use Rattle.proof_usb20.specs.Follow.{Seen, view, Follow, Law}
+use Rattle.proof_usb20.specs.Follow.{EpSeen, view, Follow, Law}
 use Rattle.proof_usb20.specs.Watch.{at-end}
 use Rattle.proof_usb20.specs.CalmLaws.{Off, Else, Quiet, loose, only, off-idle, off-read, put-globals, put-control}
 use Rattle.proof_usb20.specs.CalmLaws.{put-paced, q-act, q-bind, q-enabled, q-ep, q-fetch, q-got, q-is, q-look}
@@ -93,7 +93,7 @@ module _ (D : Dir) (E : ℕ) where
   pub law-aside : (o : Aside) → Law D E (aside o)
   law-aside o = quiet-law D E (aside o) refl (λ _ _. refl) (λ _ _. tt) (q-aside o)
 
-  ended-view : {A : Type 0} {w : Track} {v : Seen} {a : A} {t : St}
+  ended-view : {A : Type 0} {w : Track} {v : EpSeen} {a : A} {t : St}
       → Follow D E {A = A} (λ _ _ t. view D E (t .0) ≡ v) w (tree.ends a t) → view D E (t .0) ≡ v
   ended-view (at-end p) = p
 

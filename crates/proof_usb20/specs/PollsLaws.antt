@@ -26,7 +26,7 @@ use Rattle.proof_usb20.specs.Pipe.{Half, Pipe, Awaited, nothing, taken, 
 use Rattle.proof_usb20.specs.Log.{Log, afresh, Accepted, Allowed, asksAfter, pollOut, pollIn, pollStatus}
 use Rattle.proof_usb20.specs.Watch.{at-end, at-ask}
 use Rattle.proof_usb20.specs.WatchLaws.{watch-cond}
-use Rattle.proof_usb20.specs.Ep0.{Watch, Rec, View, view, Fits, Rests, no-request, set-up, Gives, first-wait, second-wait, Rel, R, Keeps, Ends, Law}
+use Rattle.proof_usb20.specs.Ep0.{Watch, Rec, View, view, Fits, Rests, no-request, set-up, Gives, first-wait, second-wait, Rel, R, Between, Ends, Law}
 use Rattle.proof_usb20.specs.ExemptLaws.{exempt-law, differ}
 use Rattle.proof_usb20.specs.FittingLaws as fitting
 use Rattle.proof_usb20.specs.ViewsLaws.{setIn, setControl, setReady, put-control, put-globals}
@@ -275,7 +275,7 @@ second-view s h = put-control (dataInOf (s .0 .control .length) (s .0 .control .
     ∙ ap (setControl (dataInOf (s .0 .control .length) (s .0 .control .last) 2)) (in-view (withReady 0) s h)
 
 abbrev Polled : Log → St → tree.Out St Answer → Type 0
-Polled w s o = Watch Keeps (Allowed (other PollDataIn)) (Ends (other PollDataIn)) (afresh w) o
+Polled w s o = Watch Between (Allowed (other PollDataIn)) (Ends (other PollDataIn)) (afresh w) o
 
 module _ (w : Log) (s : St) (r : Rel (w .rx) (w .tx) (w .len) (w .pipe) (w .awaits) (w .untaken) (view (s .0))) (z : Sorting (s .0)) where
   -- the closing OUT came, empty or with data
@@ -378,7 +378,7 @@ law-poll-data-in w s (inl e) z = exempt-law (other PollDataIn) tt w s e
 law-poll-data-in w s (inr r) z = by (eqb (s .0 .control .sort) DATA-IN) refl
   where
     by : (t : Bool) → eqb (s .0 .control .sort) DATA-IN ≡ t
-        → Watch Keeps (Allowed (other PollDataIn)) (Ends (other PollDataIn)) (afresh w) (run concrete (code (other PollDataIn)) s)
+        → Watch Between (Allowed (other PollDataIn)) (Ends (other PollDataIn)) (afresh w) (run concrete (code (other PollDataIn)) s)
     by true q = polled-in w s r z (waiting (w .awaits) r (eqb-true (s .0 .control .sort) DATA-IN q))
     by false q = watch-cond (eqb (s .0 .globals .stage) 2)
         (λ _. watch-cond (eqb (s .0 .control .sort) DATA-IN) (λ y. differ (sym q ∙ y)) (λ k. at-end (

@@ -37,7 +37,7 @@ use Rattle.proof_usb20.specs.WalksLaws.{Each, each-set}
 use Rattle.proof_usb20.specs.Log.{Log, off, reads, writes, saw}
 use Rattle.proof_usb20.specs.Watch.{at-end, at-ask}
 use Rattle.proof_usb20.specs.WatchLaws.{watch-bind, watch-more, watch-cond}
-use Rattle.proof_usb20.specs.Ep0.{Watch, view, recOf, Keeps}
+use Rattle.proof_usb20.specs.Ep0.{Watch, view, recOf, Between}
 use Rattle.proof_usb20.specs.Ep0Laws.{record-view, act-view, hand-view}
 use Rattle.proof_usb20.specs.ViewsLaws.{made, ep-other, put-globals}
 
@@ -73,7 +73,7 @@ Any x q = Unit {0}
 
 pub record Quiet {i : Bool} {A : Type 0} (p : Script i A) : Type 0 where
   pub goes : (w : Log) (s : St) → w .phase ≡ off → Plainly s
-      → Watch Keeps Any {A = A} (λ x _ t. Stays w s x t) w (run concrete p s)
+      → Watch Between Any {A = A} (λ x _ t. Stays w s x t) w (run concrete p s)
 
 -- ---- how they are put together
 
@@ -84,7 +84,7 @@ pub q-bind : {i : Bool} {A B : Type 0} {p : Script i A} {f : A → Script i B} �
     → Quiet (bind p f)
 q-bind {f = f} x y = record {
   goes = λ w s z k. watch-bind (x .goes w s z k)
-      (λ v a t l. subst (λ (u : Log). Watch Keeps Any (λ x _ t. Stays w s x t) u (run concrete (f a) t))
+      (λ v a t l. subst (λ (u : Log). Watch Between Any (λ x _ t. Stays w s x t) u (run concrete (f a) t))
       (sym (l .0)) (watch-more (y a .goes w t z (l .2)) (λ _ _ _ m. (m .0, m .1 ∙ l .1, m .2))));
 }
 
@@ -98,10 +98,10 @@ q-if b x y = record { goes = λ w s z k. watch-cond b (λ h. x h .goes w s z k) 
 
 -- an access that leaves the log, the state as it was
 pub asked : {A : Type 0} {q : Access} {s : St} {f : ℕ → St → tree.Out St A} (w : Log) → ((v : ℕ) → saw w q v ≡ w)
-    → ((v : ℕ) (t : St) → Plainly t → Watch Keeps Any {A = A} (λ x _ u. Stays w t x u) w (f v t))
-    → Watch Keeps Any {A = A} (λ x _ u. Stays w s x u) w (tree.asks q s f)
+    → ((v : ℕ) (t : St) → Plainly t → Watch Between Any {A = A} (λ x _ u. Stays w t x u) w (f v t))
+    → Watch Between Any {A = A} (λ x _ u. Stays w s x u) w (tree.asks q s f)
 asked {s = s} {f = f} w e g = at-ask tt
-    (λ v t b k. subst (λ (u : Log). Watch Keeps Any (λ x _ t. Stays w s x t) u (f v t))
+    (λ v t b k. subst (λ (u : Log). Watch Between Any (λ x _ t. Stays w s x t) u (f v t))
     (sym (e v)) (watch-more (g v t (plainly (k .1))) (λ _ _ _ m. (m .0, m .1 ∙ k .0, m .2))))
 
 pub q-read : {i : Bool} {A : Type 0} {r : Reg} {e : ℕ} {f : ℕ → Script i A} → ((v : ℕ) → Quiet (f v))
@@ -142,7 +142,7 @@ q-fetch {q = q} x = record { goes = λ w s z k. x (concrete .fetch q s) .goes w 
 
 -- a state that shows the same
 pub onward : {A : Type 0} {o : tree.Out St A} (w : Log) (s t : St) → view (t .0) ≡ view (s .0)
-    → Watch Keeps Any {A = A} (λ x _ u. Stays w t x u) w o → Watch Keeps Any {A = A} (λ x _ u. Stays w s x u) w o
+    → Watch Between Any {A = A} (λ x _ u. Stays w t x u) w o → Watch Between Any {A = A} (λ x _ u. Stays w s x u) w o
 onward w s t e x = watch-more x (λ _ _ _ m. (m .0, m .1 ∙ e, m .2))
 
 pub q-act : {i : Bool} {A : Type 0} {q : Act} {p : Script i A} → allocates q ≡ false → Quiet p → Quiet (act-then q p)

@@ -33,7 +33,7 @@ use Rattle.proof_usb20.specs.ExemptLaws.{by-test, differ}
 use Rattle.proof_usb20.specs.Sequence as log
 use Rattle.proof_usb20.specs.Sequence.{Track, off, withPhase, own, opens, closes, takes, taken, awaits, loaded, Fair}
 use Rattle.proof_usb20.specs.FollowLaws as follow
-use Rattle.proof_usb20.specs.Follow.{Seen, seenOf, FitsAs, Fits, view, Follow, Ends, Law}
+use Rattle.proof_usb20.specs.Follow.{EpSeen, seenOf, FitsAs, Fits, view, Follow, Ends, Law}
 use Rattle.proof_usb20.specs.Watch.{at-end, at-ask}
 use Rattle.proof_usb20.specs.FollowLaws.{act-view}
 use Rattle.proof_usb20.specs.CalmLaws.{Whole, Off, Else, Quiet, loose, put-request, q-act, q-bind, q-enabled, q-ends}
@@ -65,7 +65,7 @@ module _ (D : Dir) (E : ℕ) where
   unfolding epOn withOn
   own-with x d e r h l = ap (λ k. getD (set (x .eps) (key d e) r) k noEp) (sym h) ∙ getD-set-same (x .eps) (key d e) r noEp (omega (arith, l, key-lt d e))
 
-  abbrev pub written : EpCore → Seen → Seen
+  abbrev pub written : EpCore → EpSeen → EpSeen
   written v x = record { ready = v .ready; len = v .len; armed = v .armed; tog = v .tog; iso = x .iso; stage = x .stage }
 
   pub put-own : (d : Dir) (e : ℕ) (v : EpCore) (s : St) → Own d e → Whole s
@@ -81,7 +81,7 @@ module _ (D : Dir) (E : ℕ) where
   whole-put c v s h = put-steady c v s .places ∙ h
 
   -- after EP0's start
-  pub fits-2 : {b : Pid} {t : Bool} {n : ℕ} {a : Bool} {x : Seen} → eqb (x .stage) 2 ≡ true → x .tog ≡ number b
+  pub fits-2 : {b : Pid} {t : Bool} {n : ℕ} {a : Bool} {x : EpSeen} → eqb (x .stage) 2 ≡ true → x .tog ≡ number b
       → isOn (x .ready) ≡ t → x .len ≡ n → isOn (x .armed) ≡ a → FitsAs b t n a x
   fits-2 h p q r g = record { tog = p; ready = q; len = r; armed = g; early = λ k. differ (sym k ∙ h) }
 
@@ -150,7 +150,7 @@ module _ (D : Dir) (E : ℕ) where
       → isOn (concrete .get (ep-cell d e) s .iso) ≡ true → A
   iso-own d e s h i q = differ (sym i ∙ (sym (ap (λ (p : EpCore). isOn (p .iso)) (got d e s h)) ∙ q))
 
-  stay : (d : Dir) (e : ℕ) (a : Answer) (w : Track) (x : Seen) → takes D E a ≡ false → Fits w x
+  stay : (d : Dir) (e : ℕ) (a : Answer) (w : Track) (x : EpSeen) → takes D E a ≡ false → Fits w x
       → Fits (cond (own D E d e && takes D E a) (taken D E (withPhase off w)) (withPhase off w)) x
   stay d e a w x h r = rw (h, last (own D E d e)) r
     where
@@ -158,7 +158,7 @@ module _ (D : Dir) (E : ℕ) where
       last true = refl
       last false = refl
 
-  gone : (d : Dir) (e : ℕ) (a : Answer) (w : Track) (x : Seen) → own D E d e ≡ true → takes D E a ≡ true
+  gone : (d : Dir) (e : ℕ) (a : Answer) (w : Track) (x : EpSeen) → own D E d e ≡ true → takes D E a ≡ true
       → FitsAs (w .bit) false (w .len) (w .armed) x
       → Fits (cond (own D E d e && takes D E a) (taken D E (withPhase off w)) (withPhase off w)) x
   gone d e a w x h k r = rw (h, k) r
@@ -209,7 +209,7 @@ module _ (D : Dir) (E : ℕ) where
           at-ask tt (λ _ a _ p. at-ask tt (λ _ c _ m. at-end (
             refl,
             subst (FitsAs (w .bit) (w .through) (w .len) (cond (w .through) (w .armed) true)) (sym (m .0 ∙ (p .0 ∙ changed Out e (withArmed 1) s2 o k)))
-                (let f = subst (Fits w) (sym v) r in fits-2 (ap (λ (q : Seen). eqb (q .stage) 2) v ∙ two) (f .tog) (f .ready) (f .len) (sym g)),
+                (let f = subst (Fits w) (sym v) r in fits-2 (ap (λ (q : EpSeen). eqb (q .stage) 2) v ∙ two) (f .tog) (f .ready) (f .len) (sym g)),
           )))))) (λ y _ a m. at-end m))
           (λ y n a m. at-end (rw (m .0) (rw h (m .1)), tt))))
           (λ _. at-end (nothing, tt))) (λ _. at-end (nothing, tt))) (λ _. at-end (nothing, tt))
@@ -313,7 +313,7 @@ module _ (D : Dir) (E : ℕ) where
           (λ _. at-ask tt (λ _ a _ p. at-ask tt (λ _ b _ q. at-ask tt (λ _ c _ m. at-end (refl, m .0 ∙ (q .0 ∙ p .0))))))) (λ y _ a m. at-end m))
           (λ y n a m. at-end (
             rw (m .0) (rw h (subst (FitsAs (w .bit) false (w .len) true) (sym (m .1 ∙ changed In e (λ p. withArmed 1 (withReady 0 p)) u o k))
-                (let f = subst (Fits w) (sym v) r in fits-2 (ap (λ (q : Seen). eqb (q .stage) 2) v ∙ two) (f .tog) refl (f .len) refl))),
+                (let f = subst (Fits w) (sym v) r in fits-2 (ap (λ (q : EpSeen). eqb (q .stage) 2) v ∙ two) (f .tog) refl (f .len) refl))),
             tt,
           ))))
           (λ _. at-end (nothing 9, tt))) (λ _. at-end (nothing 5, tt))) (λ _. at-end (nothing 4, tt))

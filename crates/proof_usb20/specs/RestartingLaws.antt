@@ -43,7 +43,7 @@ use Rattle.proof_usb20.specs.ExemptLaws.{differ}
 use Rattle.proof_usb20.specs.Sequence as log
 use Rattle.proof_usb20.specs.Sequence.{Track, off, withPhase, own}
 use Rattle.proof_usb20.specs.FollowLaws as follow
-use Rattle.proof_usb20.specs.Follow.{Seen, FitsAs, Fits, view, Follow, Ends, Law}
+use Rattle.proof_usb20.specs.Follow.{EpSeen, FitsAs, Fits, view, Follow, Ends, Law}
 use Rattle.proof_usb20.specs.Watch.{at-end, at-ask}
 use Rattle.proof_usb20.specs.FollowLaws.{act-view}
 use Rattle.proof_usb20.specs.CalmLaws.{Whole, Off, Else, Quiet, loose, put-other, put-globals, q-bind, q-ep, q-got}
@@ -136,8 +136,8 @@ module _ (D : Dir) (E : ℕ) where
       let x : view D E (b .0) ≡ written D E (completed (plainOf (epOn (u .0) D E))) (view D E (u .0)) = changed D E In e completed u o (p .1 .places) in
       let y : FitsAs initial (log.finishes D E D (w .through)) (w .len) (log.staysArmed D E D (w .armed)) (view D E (b .0)) =
       subst (FitsAs initial (log.finishes D E D (w .through)) (w .len) (log.staysArmed D E D (w .armed))) (sym x)
-      (fits-2 D E (ap (λ (q : Seen). eqb (q .stage) 2) (p .0 ∙ v) ∙ two) (ap (λ (q : Seen). q .tog) (p .0 ∙ v))
-      (sym (ends-in e (w .through) o)) (ap (λ (q : Seen). q .len) (p .0 ∙ v) ∙ r .len) (sym (ends-armed e (w .armed) o))) in
+      (fits-2 D E (ap (λ (q : EpSeen). eqb (q .stage) 2) (p .0 ∙ v) ∙ two) (ap (λ (q : EpSeen). q .tog) (p .0 ∙ v))
+      (sym (ends-in e (w .through) o)) (ap (λ (q : EpSeen). q .len) (p .0 ∙ v) ∙ r .len) (sym (ends-armed e (w .armed) o))) in
       follow.follow-bind D E {P = Clears w} {f = λ (_ : Unit {0}) (u : St). run {i = false} concrete (wake In e) u}
       (follow.follow-cond D E (not (isOn (concrete .get (ep-cell In e) s .iso)))
       (λ _. at-end (refl, y)) (λ q. iso-own D E In e s o i (turned (isOn (concrete .get (ep-cell In e) s .iso)) q)))
@@ -188,7 +188,7 @@ module _ (D : Dir) (E : ℕ) where
               follow.follow-bind D E {P = Clears w}
               (follow.follow-bind D E {P = Clears w}
               (clearing d e w a (own-true D E d e h) (act-steady no-wakes refl s .places ∙ z .places)
-              (subst (Fits w) (sym v) r) two (ap (λ (q : Seen). isOn (q .iso)) v ∙ i)) (λ y _ t m. at-end m))
+              (subst (Fits w) (sym v) r) two (ap (λ (q : EpSeen). isOn (q .iso)) v ∙ i)) (λ y _ t m. at-end m))
               (λ y _ t m. at-end (rw (m .0) (rw h (m .1)), tt))
 
   -- ---- a bus reset
@@ -218,7 +218,7 @@ module _ (D : Dir) (E : ℕ) where
       → Follow D E (Restarted w) (withPhase off w) (rows concrete bus-reset 3 (λ t. tree.ends (tt {0}) t) s)
   rests w s k r two = at-ask tt (λ _ b _ p. at-ask tt (λ _ c _ q. at-ask tt (λ _ e _ f.
       let v : view D E (e .0) ≡ view D E (s .0) = f .0 ∙ (q .0 ∙ (types b ∙ (p .0 ∙ configs s))) in
-      let g = reset-fits D E w (e .0) (f .1 .places) (subst (Fits w) (sym v) r) (ap (λ (x : Seen). eqb (x .stage) 2) v ∙ two) in
+      let g = reset-fits D E w (e .0) (f .1 .places) (subst (Fits w) (sym v) r) (ap (λ (x : EpSeen). eqb (x .stage) 2) v ∙ two) in
       at-ask tt (λ _ h _ l. at-end (refl, subst (FitsAs initial false (w .len) false) (sym (l .0)) g, l .1 .places)))))
 
   resets : (w : Track) (s : St) → Whole s → Fits w (view D E (s .0)) → eqb (s .0 .globals .stage) 2 ≡ true
@@ -231,7 +231,7 @@ module _ (D : Dir) (E : ℕ) where
       let v : view D E (a .0) ≡ view D E (s .0) = m .1 ∙ (p3 .0 ∙ (p2 .0 ∙ p1 .0)) in
       subst (λ (u : Track). Follow D E (Restarted w) u (run concrete (bind (row bus-reset) (λ _. wakeAll)) a)) (sym (m .0))
       (follow.follow-bind D E {f = λ (_ : Unit {0}) (u : St). run {i = false} concrete wakeAll u}
-      (rests w a (m .2 .whole) (subst (Fits w) (sym v) r) (ap (λ (x : Seen). eqb (x .stage) 2) v ∙ two))
+      (rests w a (m .2 .whole) (subst (Fits w) (sym v) r) (ap (λ (x : EpSeen). eqb (x .stage) 2) v ∙ two))
       (λ y _ t x. at-end {s = concrete .act (waken every-endpoint) t} (
         x .0,
         subst (FitsAs initial false (w .len) false) (sym (act-view D E (waken every-endpoint) refl t)) (x .1),
@@ -247,7 +247,7 @@ module _ (D : Dir) (E : ℕ) where
       (λ _. at-ask tt (λ f a _ p.
       let v : view D E (a .0) ≡ view D E (s .0) = p .0 ∙ v0 in
       follow.follow-cond D E (busRst f)
-      (λ _. follow.follow-bind D E (resets w a (p .1 .places) (subst (Fits w) (sym v) r) (ap (λ (x : Seen). eqb (x .stage) 2) v ∙ two)) (λ y _ t m.
+      (λ _. follow.follow-bind D E (resets w a (p .1 .places) (subst (Fits w) (sym v) r) (ap (λ (x : EpSeen). eqb (x .stage) 2) v ∙ two)) (λ y _ t m.
       let g = withIntEn (withBusRst (t .0 .globals .«int_en») true) (t .0 .globals) in
       follow.follow-at D E (m .0)
       (at-ask tt (λ _ u _ q. at-end (reset refl refl (subst (FitsAs initial false (w .len) false) (sym (q .0 ∙ put-globals D E g t)) (m .1)))))))

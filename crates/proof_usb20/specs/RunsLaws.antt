@@ -36,15 +36,15 @@ Only Ok out = ways.All anyChip (λ (s t : St). Unit {0}) Ok tt out
 
 module _ (O : Observer) where
   -- between two accesses: calls that pass during an interrupt, and stores in the slots
-  abbrev pub Keeps : St → St → Type 0
-  Keeps s t = (O .view (t .0) ≡ O .view (s .0)) × Sorting (t .0) × (t .0 .wakes ≡ s .0 .wakes)
+  abbrev pub Between : St → St → Type 0
+  Between s t = (O .view (t .0) ≡ O .view (s .0)) × Sorting (t .0) × (t .0 .wakes ≡ s .0 .wakes)
 
   abbrev pub Sees : {A : Type 0} → (O .Log → Access → Type 0) → (O .Log → A → St → Type 0) → O .Log → tree.Out St A → Type 0
-  Sees Ok P w out = Along (O .saw) (O .Brings) Keeps Ok P w out
+  Sees Ok P w out = Along (O .saw) (O .Brings) Between Ok P w out
 
   -- `P` at each end, whatever is read
   abbrev pub Ups : (St → Type 0) → tree.Out St Answer → Type 0
-  Ups P out = Along {L = Unit {0}} (λ _ _ _. tt) (λ _ _ _. Unit {0}) Keeps (λ _ _. Unit {0}) (λ _ _ s. P s) tt out
+  Ups P out = Along {L = Unit {0}} (λ _ _ _. tt) (λ _ _ _. Unit {0}) Between (λ _ _. Unit {0}) (λ _ _ s. P s) tt out
 
   -- what each call keeps, and what follows from it
   pub record Laws (R : O .Log → O .View → Type 0) : Type 0 where
@@ -64,14 +64,14 @@ module _ (O : Observer) where
     abbrev Ends : Op → O .Log → Answer → St → Type 0
     Ends o x a t = R (O .closes o a x) (O .view (t .0)) × (Few (ended a) → O .Fair o a x)
 
-    abbrev Kept : Driver → St → Type 0
-    Kept d t = (O .view (t .0) ≡ O .view d) × Sorting (t .0) × (t .0 .wakes ≡ d .wakes)
+    abbrev BetweenFrom : Driver → St → Type 0
+    BetweenFrom d t = (O .view (t .0) ≡ O .view d) × Sorting (t .0) × (t .0 .wakes ≡ d .wakes)
 
     abbrev Goes : Op → Access → O .Log → (ℕ → St → tree.Out St Answer) → Driver → Type 0
-    Goes o q w k d = (v : ℕ) (t : St) → O .Brings w q v → Kept d t → Sees (O .Allowed o) (Ends o) (O .saw w q v) (k v t)
+    Goes o q w k d = (v : ℕ) (t : St) → O .Brings w q v → BetweenFrom d t → Sees (O .Allowed o) (Ends o) (O .saw w q v) (k v t)
 
     abbrev Up : (ℕ → St → tree.Out St Answer) → Driver → Type 0
-    Up k d = (v : ℕ) (t : St) → Kept d t → Ups (λ s. R (O .before) (O .view (s .0))) (k v t)
+    Up k d = (v : ℕ) (t : St) → BetweenFrom d t → Ups (λ s. R (O .before) (O .view (s .0))) (k v t)
 
     -- the state fits the log where nothing is under way; else what is left to run does
     abbrev J : Way Answer Driver → Driver → O .Log → Under → Type 0
@@ -82,14 +82,14 @@ module _ (O : Observer) where
     J (busy i a k) d w (doing o q) = Goes o q w k d × ((v : ℕ) (t : St) → Only (O .Asks o) (k v t))
     J (busy i a k) d w starting = (w ≡ O .before) × Up k d
 
-    record Step (c : Call Config Op) (b : Buf) (y : Ans Answer × Machine Answer Driver) (x : Watched O) : Type 0 where
+    record ObserverStep (c : Call Config Op) (b : Buf) (y : Ans Answer × Machine Answer Driver) (x : Watched O) : Type 0 where
       claim : Claim O c (y .0) (serves (y .1 .way)) x
       standing : let z = noted O c b (y .0) (serves (y .1 .way)) x in Standing O (y .1 .st) (z .log) (z .under)
       next : let z = noted O c b (y .0) (serves (y .1 .way)) x in J (y .1 .way) (y .1 .st) (z .log) (z .under)
 
     -- of an answer that is not too long
     abbrev Steps : Call Config Op → Buf → Ans Answer × Machine Answer Driver → Watched O → Type 0
-    Steps c b y x = Few (y .0) → Step c b y x
+    Steps c b y x = Few (y .0) → ObserverStep c b y x
 
     standing-of : (y : Way Answer Driver) (d : Driver) (w : O .Log) (u : Under) → J y d w u → Standing O d w u
     standing-of idle d w at-rest j = L .stands w (O .view d) j
@@ -111,17 +111,17 @@ module _ (O : Observer) where
 
     -- a start-up's own script
     starts : (i : Bool) (v : ℕ) (b : Buf) (w : O .Log) → w ≡ O .before → {out : tree.Out St Answer}
-        → Ups (λ s. R (O .before) (O .view (s .0))) out → Step (go v) b (haltsAs i out) (watched O w starting)
+        → Ups (λ s. R (O .before) (O .view (s .0))) out → ObserverStep (go v) b (haltsAs i out) (watched O w starting)
     starts i v b w e (at-end {s = s} f) = let r = subst (λ (x : O .Log). R x (O .view (s .0))) (sym e) f in
         record { claim = tt; standing = L .stands w (O .view (s .0)) r; next = r }
     starts i v b w e (at-ask _ k) = record { claim = tt; standing = tt; next = (e, λ v t h. k v t tt h) }
 
     started-up : (c : Config) (b : Buf) (n : ℕ) → startRow c b ≡ n → (m : Machine Answer Driver) (x : Watched O)
-        → J (m .way) (m .st) (x .log) (x .under) → Step (start c) b (started calls driverOf (λ s. s) c n m b) x
+        → J (m .way) (m .st) (x .log) (x .under) → ObserverStep (start c) b (started calls driverOf (λ s. s) c n m b) x
     started-up c b zero h m x j = halted (L .new c b)
       where
         halted : {out : tree.Out St Answer} → Ups (λ s. R (O .before) (O .view (s .0))) out
-            → Step (start c) b (haltsAs false out) x
+            → ObserverStep (start c) b (haltsAs false out) x
         halted (at-end {s = s} f) = record { claim = tt; standing = rw h (L .stands (O .before) (O .view (s .0)) f); next = rw h f }
         halted (at-ask _ k) = record { claim = tt; standing = rw h tt; next = rw h (refl, λ v t h. k v t tt h) }
     started-up c b (suc n) h m x j = record { claim = tt; standing = rw h (standing-of (m .way) (m .st) (x .log) (x .under) j); next = rw h j }
@@ -145,7 +145,7 @@ module _ (O : Observer) where
 
     module _ (o : Op) (b : Buf) (i : Bool) (y : Awaits) (k : ℕ → St → tree.Out St Answer) (x : Watched O) where
       stepped : (a : Ans Answer) (d : Driver) (l : Buf) → J (busy i y k) d (x .log) (x .under)
-          → Step (begin o) b (a, record { way = busy i y k; st = d; buf = l }) x
+          → ObserverStep (begin o) b (a, record { way = busy i y k; st = d; buf = l }) x
       stepped a d l j = record {
         claim = unclaimed o a (x .log) (x .under) i y k d j;
         standing = rw (same-begun o a (x .log) (x .under) i y k d j) (standing-of (busy i y k) d (x .log) (x .under) j);
@@ -154,13 +154,13 @@ module _ (O : Observer) where
 
       passing : (d : Driver) (l : Buf) (f : Aside) → Sorting d → J (busy i y k) d (x .log) (x .under)
           → (out : tree.Out St Answer) → run concrete (asideCode f) (d, b) ≡ out
-          → Step (begin o) b (beside calls driverOf (record { way = busy i y k; st = d; buf = b }) out) x
+          → ObserverStep (begin o) b (beside calls driverOf (record { way = busy i y k; st = d; buf = b }) out) x
       passing d l f z j (tree.ends a t) h = stepped (ended a) (t .0) (t .1) (still-J i y k d (t .0) (x .log) (x .under) (L .besides f d b a t z h) j)
       passing d l f z j (tree.asks q t g) h = stepped (ended (Refused 3)) d b j
 
     during : (o : Op) (b : Buf) (i : Bool) (y : Awaits) (k : ℕ → St → tree.Out St Answer) (d : Driver) (l : Buf) (x : Watched O)
         → Sorting d → J (busy i y k) d (x .log) (x .under)
-        → Step (begin o) b (begun calls driverOf (λ s. s) o (record { way = busy i y k; st = d; buf = l }) (busy i y k) b) x
+        → ObserverStep (begin o) b (begun calls driverOf (λ s. s) o (record { way = busy i y k; st = d; buf = l }) (busy i y k) b) x
     during interrupt b true y k d l x z j = stepped interrupt b true y k x (ended (Refused 3)) d b j
     during interrupt b false y k d l x z j = stepped interrupt b false y k x (ended (Refused 3)) d b j
     during (slotted o) b true y k d l x z j = stepped (slotted o) b true y k x (ended (Refused 3)) d b j
@@ -187,7 +187,7 @@ module _ (O : Observer) where
     -- row 1 of a call in the midst of an operation
     row-1 : (o : Op) (b : Buf) (g : Bool) (i : Bool) (y : Awaits) (k : ℕ → St → tree.Out St Answer) (d : Driver) (l : Buf) (x : Watched O)
         → Sorting d → J (busy i y k) d (x .log) (x .under)
-        → Step (begin o) b
+        → ObserverStep (begin o) b
         (cond g (stay calls driverOf 1 (record { way = busy i y k; st = d; buf = l }))
         (begun calls driverOf (λ s. s) o (record { way = busy i y k; st = d; buf = l }) (busy i y k) b)) x
     row-1 o b true i y k d l x z j = stepped o b i y k x (ended (Refused 1)) d l j
@@ -196,7 +196,7 @@ module _ (O : Observer) where
     -- a continue
     stays : (v : ℕ) (b : Buf) (n : ℕ) (i : Bool) (y : Awaits) (k : ℕ → St → tree.Out St Answer) (d : Driver) (l : Buf) (w : O .Log) (u : Under)
         → J (busy i y k) d w u
-        → Step (go v) b (ended (Refused n), record { way = busy i y k; st = d; buf = l }) (watched O w u)
+        → ObserverStep (go v) b (ended (Refused n), record { way = busy i y k; st = d; buf = l }) (watched O w u)
     stays v b n i y k d l w (doing o q) j = record { claim = tt; standing = tt; next = j }
     stays v b n i y k d l w starting j = record { claim = tt; standing = tt; next = j }
 

@@ -35,7 +35,7 @@ use Rattle.proof_usb20.specs.Pipe as pipe
 use Rattle.proof_usb20.specs.Log as log
 use Rattle.proof_usb20.specs.Watch.{at-end, at-ask}
 use Rattle.proof_usb20.specs.WatchLaws.{watch-bind, watch-more, watch-cond}
-use Rattle.proof_usb20.specs.Ep0.{Watch, View, view, Rel, R, Keeps, Law}
+use Rattle.proof_usb20.specs.Ep0.{Watch, View, view, Rel, R, Between, Law}
 use Rattle.proof_usb20.specs.ExemptLaws.{differ}
 use Rattle.proof_usb20.specs.ViewsLaws.{setOut, setIn, setReady, put-globals}
 use Rattle.proof_usb20.specs.Ep0Laws.{act-view}
@@ -60,7 +60,7 @@ entry-other : (w : Log) (x : Transfer) → eqb (endpoint (x .st)) 0 ≡ false
 entry-other w x h = rw h refl
 
 naks-first : (w : Log) (s : St) (x : Transfer) → Plainly s
-    → Watch Keeps Any (Exactly (entry w x) (view (s .0))) (withPhase (shows (x .busy) (x .st)) w)
+    → Watch Between Any (Exactly (entry w x) (view (s .0))) (withPhase (shows (x .busy) (x .st)) w)
     (run {i = true} concrete (when (not (x .busy) || (not (isSof (x .st)) && not (eqb (endpoint (x .st)) 0))) (nakNonIso (x .st))) s)
 naks-first w s x k = by (eqb (endpoint (x .st)) 0) refl (x .busy) refl
   where
@@ -78,7 +78,7 @@ naks-first w s x k = by (eqb (endpoint (x .st)) 0) refl (x .busy) refl
     shut b h = rw (b, h) (last (not (isSof (x .st))))
 
     by : (m : Bool) → eqb (endpoint (x .st)) 0 ≡ m → (b : Bool) → x .busy ≡ b
-        → Watch Keeps Any (Exactly (entry w x) (view (s .0))) (withPhase (shows (x .busy) (x .st)) w) (run {i = true} concrete (when C (nakNonIso (x .st))) s)
+        → Watch Between Any (Exactly (entry w x) (view (s .0))) (withPhase (shows (x .busy) (x .st)) w) (run {i = true} concrete (when C (nakNonIso (x .st))) s)
     by true h false b = watch-cond C
         (λ _. watch-more (nak-own w (x .busy) (x .st) s k (x .st) h (token (x .st)) refl (togOk (x .st)) refl)
         (λ y _ t m. (m .0 ∙ entry-free w x h b, m .1, m .2))) (λ q. differ (sym q ∙ free b))
@@ -118,7 +118,7 @@ not-own x t iso sof frame e i = by t e i
     by tok.Setup e i = rw e (nothing (x .busy) iso)
 
 serves : (w : Log) (v : View) (x : Transfer) (l : Log) (t : St) {su : Bool} → R w v → v .stage ≡ 2 → w .setup-seen ≡ su
-    → Settled w v l x t → Watch Keeps Any (Served su) l (run concrete (frames x) t)
+    → Settled w v l x t → Watch Between Any (Served su) l (run concrete (frames x) t)
 serves w v x l t {su = su} r two e (others h b m q k) = back m (at-ask {q = Read FrameNo 0} tt (λ frame u _ i.
     let iso = isoFor (token (x .st)) (concrete .get (ep-cell Out (endpoint (x .st))) t) (concrete .get (ep-cell In (endpoint (x .st))) t) in
     let y = framed x iso (u .0 .globals .«sof_frame») frame in
@@ -145,7 +145,7 @@ serves w v x l t {su = su} r two e (mine h m q k) = back m (at-ask {q = Read Fra
     let same : framed x iso (u .0 .globals .«sof_frame») frame ≡ x = ap (λ (b : Bool). cond b (released x) x)
     (not-own x (token (x .st)) iso (u .0 .globals .«sof_frame») frame refl not-iso) in
     back (here (x .busy) (x .st) (naked (token (x .st)) (x .busy) (togOk (x .st)) w) h)
-    (subst (λ (y : Transfer). Watch Keeps Any (Served su)
+    (subst (λ (y : Transfer). Watch Between Any (Served su)
     (log.ofToken (token (x .st)) (x .busy) (togOk (x .st)) (withPhase off (naked (token (x .st)) (x .busy) (togOk (x .st)) w)))
     (run concrete (servedAs (token (y .st)) y iso frame) u)) (sym same)
     (served-ep0 x frame h w u (plainly (i .1)) (subst (R w) (sym (i .0 ∙ q)) r) (ap (λ (a : View). a .stage) (i .0 ∙ q)
@@ -158,7 +158,7 @@ serves w v x l t {su = su} r two e (mine h m q k) = back m (at-ask {q = Read Fra
 -- ---- the transfer
 
 transfers : (w : Log) (s : St) {su : Bool} → R w (view (s .0)) → view (s .0) .stage ≡ 2 → w .setup-seen ≡ su
-    → Watch Keeps Any (Served su) (withPhase flagged w) (run concrete (onTransfer {i = true}) s)
+    → Watch Between Any (Served su) (withPhase flagged w) (run concrete (onTransfer {i = true}) s)
 transfers w s r two e = at-ask tt (λ m a _ i. at-ask tt (λ st b _ j. at-ask tt (λ n c _ l.
     let v = l .0 ∙ (j .0 ∙ i .0) in
     watch-bind (naks-first w c (entered m st n) (plainly (l .1))) (λ y _ o q. back (q .0) (at-ask tt (λ _ u _ p.
@@ -181,7 +181,7 @@ ready-setup x e {v = v} {y = y} h r = subst (λ (b : Bool). R (cond b (set-up x)
     (sym e) (inr (subst (Rel (x .rx) (x .tx) (x .len) (pipe.after pipe.setup (x .pipe)) pipe.nothing true) (sym h) r))
 
 sets-up : (w : Log) (s : St) → view (s .0) .stage ≡ 2 → w .setup-seen ≡ true
-    → Watch Keeps Any (λ x _ t. R (cond (x .setup-seen) (set-up x) x) (view (t .0))) w (run concrete (onSetup {i = true}) s)
+    → Watch Between Any (λ x _ t. R (cond (x .setup-seen) (set-up x) x) (view (t .0))) w (run concrete (onSetup {i = true}) s)
 sets-up w s two e = at-ask tt (λ _ a _ i. at-ask tt (λ _ b _ j. at-ask tt (λ _ c _ l.
     let h = j .1 .places in
     let o = outWith cleared b in
@@ -198,7 +198,7 @@ sets-up w s two e = at-ask tt (λ _ a _ i. at-ask tt (λ _ b _ j. at-ask tt (λ 
 -- ---- the flags
 
 masks : (f : ℕ → ℕ) (w : Log) (s : St) → Plainly s
-    → Watch Keeps Any (Exactly w (view (s .0))) w (run {i = true} concrete (do
+    → Watch Between Any (Exactly w (view (s .0))) w (run {i = true} concrete (do
       modifyIntEn f
       wakeBus) s)
 masks f w s k =
@@ -217,7 +217,7 @@ none : (x : Log) (v : View) → x .setup-seen ≡ false → R x v → R (cond (x
 none x v h r = rw h r
 
 on-interrupt : (w : Log) (s : St) → R w (view (s .0)) → view (s .0) .stage ≡ 2
-    → Watch Keeps Any Over (opens interrupt w) (run concrete (onInterrupt {i = true}) s)
+    → Watch Between Any Over (opens interrupt w) (run concrete (onInterrupt {i = true}) s)
 on-interrupt w s r two = at-ask tt (λ f b _ j.
     let u = withFlags (setupAct f) (opens interrupt w) in
     watch-bind {P = Exactly u (view (s .0))}

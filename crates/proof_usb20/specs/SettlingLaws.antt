@@ -28,9 +28,9 @@ use Rattle.proof_usb20.specs.FittingLaws.{both}
 use Rattle.proof_usb20.specs.Sequence.{Track, shows, again, withPhase, own, mine, tokenFor, saw}
 use Rattle.proof_usb20.specs.FollowLaws as follow
 use Rattle.proof_usb20.specs.Follow as following
-use Rattle.proof_usb20.specs.Follow.{Seen, view, Follow}
+use Rattle.proof_usb20.specs.Follow.{EpSeen, view, Follow}
 use Rattle.proof_usb20.specs.Watch.{at-end, at-ask}
-use Rattle.proof_usb20.specs.CalmLaws.{Else, Kept, Hears, kept-by, hears-same, hears-then, Quiet, q-bind, q-got, q-read, q-ret, q-test, q-when, q-write}
+use Rattle.proof_usb20.specs.CalmLaws.{Else, CalmKept, Hears, kept-by, hears-same, hears-then, Quiet, q-bind, q-got, q-read, q-ret, q-test, q-when, q-write}
 use Rattle.proof_usb20.specs.ReadingLaws.{Own, own-true, got}
 use Rattle.proof_usb20.specs.JudgingLaws.{back}
 
@@ -71,12 +71,12 @@ module _ (D : Dir) (E : ℕ) where
   -- ---- the transfer settles
 
   -- the log then; of a token of the endpoint, the length and that the bus is free
-  pub record Settled (s : St) (w : Track) (v : Seen) (l : Track) (y : Transfer) (t : St) : Type 0 where
+  pub record Settled (s : St) (w : Track) (v : EpSeen) (l : Track) (y : Transfer) (t : St) : Type 0 where
     pub len : ℕ
     pub log : l ≡ withPhase (shows (y .st) len) w
     pub its : mine D E (y .st) ≡ true → (len ≡ y .len) × (y .busy ≡ false)
     pub view : view D E (t .0) ≡ v
-    pub kept : Kept D E true t
+    pub kept : CalmKept D E true t
     pub hears : Hears D E true s t
 
   -- a token of the endpoint: the endpoint's record says that it is not isochronous
@@ -139,13 +139,13 @@ module _ (D : Dir) (E : ℕ) where
     not-mine-iso s i x q h = differ (sym (no-iso-wait s i z (x .st) h x refl) ∙ q)
 
     -- after one access more
-    after : (s a t : St) → Hears D E true s a → following.Keeps D E a t → Hears D E true s t
+    after : (s a t : St) → Hears D E true s a → following.Between D E a t → Hears D E true s t
     after s a t h p = hears-then D E h (hears-same D E {s = a} {t = t} (p .2))
 
     abbrev same : (s : St) → Hears D E true s s
     same s = hears-same D E {s = s} {t = s} refl
 
-    pub settles : (w : Track) (s : St) (x : Transfer) → isOn (epOn (s .0) D E .iso) ≡ false → Kept D E true s
+    pub settles : (w : Track) (s : St) (x : Transfer) → isOn (epOn (s .0) D E .iso) ≡ false → CalmKept D E true s
         → Follow D E (λ l y t. Settled s w (view D E (s .0)) l y t) (withPhase (shows (x .st) (x .len)) w) (run concrete (settle {i = true} x) s)
     settles w s x i k = follow.follow-cond D E (waitsForIso x (concrete .get (ep-cell Out (endpoint (x .st))) s))
         (λ q. follow.follow-bind D E (q-waits 2001 .goes (withPhase (shows (x .st) (x .len)) w) s (deaf (x .st) (x .len) w, λ _ _ _ _. refl) k)

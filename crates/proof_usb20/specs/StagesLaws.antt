@@ -28,7 +28,7 @@ use Rattle.proof_usb20.specs.Log.{Log, afresh}
 use Rattle.proof_usb20.specs.Ep0.{Watch}
 use Rattle.proof_usb20.specs.Watch.{at-end, at-ask}
 use Rattle.proof_usb20.specs.WatchLaws.{watch-cond}
-use Rattle.proof_usb20.specs.Ep0.{View, view, Keeps, no-request, Rel, Law}
+use Rattle.proof_usb20.specs.Ep0.{View, view, Between, no-request, Rel, Law}
 use Rattle.proof_usb20.specs.ExemptLaws.{differ, exempt-law}
 use Rattle.proof_usb20.specs.ViewsLaws.{rec, setOut, setIn, setControl, put-out, put-in, put-control}
 use Rattle.proof_usb20.specs.Ep0Laws.{act-view}
@@ -80,15 +80,15 @@ moved {ex = ex} {rx = rx} {tx = tx} {l = l} {p = p} {a = a} {u = u} e r = subst 
 
 module _ {P : Log → Answer → St → Type 0} {May : Log → Access → Type 0} {w : Log} (s : St) {o : tree.Out St Answer} where
   -- 4 and 9
-  past-setup : P w (Refused 4) s → (isOn (s .0 .globals .«setup_ready») ≡ true → P w (Refused 9) s) → Watch Keeps May P w o
-      → Watch Keeps May P w (cond (eqb (s .0 .globals .stage) 2) (cond (isOn (s .0 .globals .«setup_ready»)) (ends (Refused 9) s) o) (ends (Refused 4) s))
+  past-setup : P w (Refused 4) s → (isOn (s .0 .globals .«setup_ready») ≡ true → P w (Refused 9) s) → Watch Between May P w o
+      → Watch Between May P w (cond (eqb (s .0 .globals .stage) 2) (cond (isOn (s .0 .globals .«setup_ready»)) (ends (Refused 9) s) o) (ends (Refused 4) s))
   past-setup a b x = watch-cond (eqb (s .0 .globals .stage) 2)
       (λ _. watch-cond (isOn (s .0 .globals .«setup_ready»)) (λ g. at-end (b g)) (λ _. x)) (λ _. at-end a)
 
   -- 4, 10 and 9
   past-rows : (n : ℕ) → P w (Refused 4) s → P w (Refused 10) s → (isOn (s .0 .globals .«setup_ready») ≡ true → P w (Refused 9) s)
-      → Watch Keeps May P w o
-      → Watch Keeps May P w (cond (eqb (s .0 .globals .stage) 2) (cond (ltb (s .0 .globals .«ep0_max») n) (ends (Refused 10) s)
+      → Watch Between May P w o
+      → Watch Between May P w (cond (eqb (s .0 .globals .stage) 2) (cond (ltb (s .0 .globals .«ep0_max») n) (ends (Refused 10) s)
       (cond (isOn (s .0 .globals .«setup_ready»)) (ends (Refused 9) s) o)) (ends (Refused 4) s))
   past-rows n a b c x = watch-cond (eqb (s .0 .globals .stage) 2) (λ _. watch-cond (ltb (s .0 .globals .«ep0_max») n) (λ _. at-end b)
       (λ _. watch-cond (isOn (s .0 .globals .«setup_ready»)) (λ g. at-end (c g)) (λ _. x))) (λ _. at-end a)

@@ -21,7 +21,7 @@ use Rattle.model_ops.specs.Rings.{St, slotStep, armAt, renewedOn, typeStep, con
 use Rattle.model_ops.specs.Concrete.{concrete}
 use Rattle.proof_usb20.specs.Log.{Log, saw}
 use Rattle.proof_usb20.specs.Watch.{at-end}
-use Rattle.proof_usb20.specs.Ep0.{Watch, view, recOf, Keeps, Law}
+use Rattle.proof_usb20.specs.Ep0.{Watch, view, recOf, Between, Law}
 use Rattle.proof_usb20.specs.ViewsLaws.{made, ep-other}
 use Rattle.proof_usb20.specs.QuietLaws.{Plainly, Stays, Any, Quiet, asked, onward, apart, q-ret, q-bind, q-test}
 use Rattle.proof_usb20.specs.QuietLaws.{q-write, q-act, q-hand, q-put, Other, put-kept, other-word, other-length}
@@ -65,7 +65,7 @@ silent e on (suc (suc zero)) x h w v = other-word Out e (cond on 1 2) h w
 silent e on (suc (suc (suc n))) x h w v = refl
 
 in-row : (e : ℕ) (on : Bool) → Numbered e → (n : ℕ) (w : Log) (s : St) → Plainly s
-    → Watch Keeps Any (λ x _ t. Stays w s x t) w (rows concrete (switch e on) n (λ t. tree.ends (tt {0}) t) s)
+    → Watch Between Any (λ x _ t. Stays w s x t) w (rows concrete (switch e on) n (λ t. tree.ends (tt {0}) t) s)
 in-row e on m zero w s k = onward w s (concrete .row (switch e on) zero s .1) (switch-view e on zero (m .apart) s)
     (asked w (silent e on zero (concrete .row (switch e on) zero s .0) (m .zero-not) w) (λ _ t l. at-end (refl, refl, l)))
 in-row e on m (suc n) w s k = onward w s (concrete .row (switch e on) (suc n) s .1) (switch-view e on (suc n) (m .apart) s)

@@ -42,7 +42,7 @@ use Rattle.proof_usb20.specs.Log as log
 use Rattle.proof_usb20.specs.Log.{Log, before, exempted, afresh, opens, ends, closes, Poll, none, pollOf, settled, FairPoll, Allowed, AllowedTo}
 use Rattle.proof_usb20.specs.Watch.{at-end, at-ask}
 use Rattle.proof_usb20.specs.WatchLaws.{watch-bind, watch-more, watch-cond, watch-any}
-use Rattle.proof_usb20.specs.Ep0.{Watch, View, view, R, Keeps, Ends, Law}
+use Rattle.proof_usb20.specs.Ep0.{Watch, View, view, R, Between, Ends, Law}
 use Rattle.proof_usb20.specs.ExemptLaws.{differ, Task, exempt-law}
 use Rattle.proof_usb20.specs.Ep0Laws.{act-view}
 use Rattle.proof_usb20.specs.FittingLaws.{both}
@@ -55,7 +55,7 @@ use Rattle.proof_usb20.specs.PartsLaws.{q-got, q-wake, q-when, q-reg, q-
 -- ---- a quiet call
 
 allows : {A : Type 0} {P : Log → A → St → Type 0} {Ok : Log → Access → Type 0} {w : Log} {o : tree.Out St A} → ((x : Log) (q : Access) → Ok x q)
-    → Watch Keeps Any P w o → Watch Keeps Ok P w o
+    → Watch Between Any P w o → Watch Between Ok P w o
 allows g (at-end x) = at-end x
 allows g (at-ask _ x) = at-ask (g _ _) (λ v t b k. allows g (x v t b k))
 
@@ -76,7 +76,7 @@ opened (other o) t w = refl
 opened (aside o) t w = refl
 
 pub quiet-law : (o : Op) → Task o → pollOf o ≡ none → ((n : ℕ) (x : Log) → ends o n x ≡ x) → Quiet (code o) → Law o
-quiet-law o t p e q w s r z = subst (λ (u : Log). Watch Keeps (Allowed o) (Ends o) u (run concrete (code o) s)) (sym (opened o t w))
+quiet-law o t p e q w s r z = subst (λ (u : Log). Watch Between (Allowed o) (Ends o) u (run concrete (code o) s)) (sym (opened o t w))
     (allows (λ x q. subst (λ (a : Poll). AllowedTo a x q) (sym p) tt) (watch-more (q .goes (afresh w) s refl (plainly z))
     (λ x a u m. (
       subst (λ (y : Log). R y (view (u .0))) (sym (closed o p e a x ∙ m .0)) (subst (R w) (sym (m .1)) r),
@@ -244,18 +244,18 @@ pub law-aside : (o : Aside) → Law (aside o)
 law-aside o = quiet-law (aside o) tt refl (λ _ _. refl) (q-aside o)
 
 ended-view : {A : Type 0} {w : Log} {v : View} {a : A} {t : St}
-    → Watch Keeps Any {A = A} (λ _ _ t. (view (t .0) ≡ v)) w (tree.ends a t) → view (t .0) ≡ v
+    → Watch Between Any {A = A} (λ _ _ t. (view (t .0) ≡ v)) w (tree.ends a t) → view (t .0) ≡ v
 ended-view (at-end p) = p
 
 pub aside-view : (o : Aside) (d : Driver) (b : Buf) (a : Answer) (t : St) → Sorting d
     → run concrete (asideCode o) (d, b) ≡ tree.ends a t → view (t .0) ≡ view d
 aside-view o d b a t z h = ended-view
-    (subst (Watch Keeps Any (λ _ _ t. (view (t .0) ≡ view d)) before) h
+    (subst (Watch Between Any (λ _ _ t. (view (t .0) ≡ view d)) before) h
     (watch-more (q-aside o .goes before (d, b) refl (plainly z)) (λ _ _ _ m. m .1)))
 
 -- ---- halts
 
-any-end : {A : Type 0} (w : Log) (o : tree.Out St A) → Watch Keeps Any (λ _ _ _. Unit {0}) w o
+any-end : {A : Type 0} (w : Log) (o : tree.Out St A) → Watch Between Any (λ _ _ _. Unit {0}) w o
 any-end w o = watch-any (λ _. Unit {0}) (λ _ _ _. tt) (λ _ _ _ _. tt) (λ _ _ _ _. tt) w tt o
 
 q-stalled : {i : Bool} (d : Dir) (e : ℕ) (on : Bool) → Numbered e → Quiet (bus.setStalled {i = i} d e on)
@@ -276,10 +276,10 @@ pub law-set-stalled : (d : Dir) (e : ℕ) (on : Bool) → Law (other (SetStalled
 law-set-stalled d e on w s r z = by (eqb e 0) refl
   where
     by : (b : Bool) → eqb e 0 ≡ b
-        → Watch Keeps (Allowed (other (SetStalled d e on))) (Ends (other (SetStalled d e on))) (afresh w) (run concrete (code (other (SetStalled d e on))) s)
+        → Watch Between (Allowed (other (SetStalled d e on))) (Ends (other (SetStalled d e on))) (afresh w) (run concrete (code (other (SetStalled d e on))) s)
     by false h = quiet-part
       where
-        quiet-part : Watch Keeps (Allowed (other (SetStalled d e on)))
+        quiet-part : Watch Between (Allowed (other (SetStalled d e on)))
             (Ends (other (SetStalled d e on))) (afresh w) (run concrete (code (other (SetStalled d e on))) s)
         quiet-part = quiet-law (other (SetStalled d e on)) tt refl (λ _ x. ap (λ (b : Bool). cond b (exempted x) x) h)
             (q-staged 2 (q-if (eqb e 0) (λ q. differ (sym h ∙ q)) (λ _. q-named d e (λ m. q-resultless (q-stalled d e on m))))) w s r z

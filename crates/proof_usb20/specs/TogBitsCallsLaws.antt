@@ -25,117 +25,117 @@ use Rattle.model.specs.Calls.{SetStalled, IsStalled, SetPaced, Advance, BeginRe
 use Rattle.model.specs.Calls.{BeginAccept, PollAccept, BeginReject, BeginDataOut, BeginAcceptSetAddress, Aside, Open}
 use Rattle.model.specs.Calls.{Close, Queue, Op, interrupt, slotted, other, aside, slottedCode, otherCode, asideCode}
 use Rattle.model.specs.Calls.{code, starting}
-use Rattle.proof_usb20.specs.TogBitsLaws.{Keeps, k-bind, k-test, keeping}
+use Rattle.proof_usb20.specs.TogBitsLaws.{KeepsBits, k-bind, k-test, keeping}
 
 module _ {i : Bool} where
-  k-looks : (n : ℕ) → Keeps (looks {i = i} n)
+  k-looks : (n : ℕ) → KeepsBits (looks {i = i} n)
   unfolding looks
   k-looks zero = search keeping
   k-looks (suc n) = k-bind (search keeping) (λ m. k-test (search keeping) (k-looks n))
 
-  k-complete : (e : ℕ) → Keeps (isoInComplete {i = i} e)
+  k-complete : (e : ℕ) → KeepsBits (isoInComplete {i = i} e)
   k-complete e = search keeping depth 30
 
-  k-sof-one : (frame e : ℕ) → Keeps (sofOne {i = i} frame e)
+  k-sof-one : (frame e : ℕ) → KeepsBits (sofOne {i = i} frame e)
   k-sof-one frame e = search (k-complete, keeping) depth 30
 
-  k-sof-walk : (frame : ℕ) (es : List ℕ) → Keeps (sofWalk {i = i} frame es)
+  k-sof-walk : (frame : ℕ) (es : List ℕ) → KeepsBits (sofWalk {i = i} frame es)
   unfolding sofWalk
   k-sof-walk frame [] = search keeping
   k-sof-walk frame (e ∷ es) = k-bind (k-sof-one frame e) (λ _. k-sof-walk frame es)
 
-  k-sof : (frame : ℕ) → Keeps (onSof {i = i} frame)
+  k-sof : (frame : ℕ) → KeepsBits (onSof {i = i} frame)
   k-sof frame = search (k-sof-walk, keeping) depth 30
 
-  k-late-walk : (frame : ℕ) (es : List ℕ) → Keeps (lateWalk {i = i} frame es)
+  k-late-walk : (frame : ℕ) (es : List ℕ) → KeepsBits (lateWalk {i = i} frame es)
   unfolding lateWalk
   k-late-walk frame [] = search keeping
   k-late-walk frame (e ∷ es) = k-bind (search (k-complete, keeping) depth 30) (λ _. k-late-walk frame es)
 
-  k-check-walk : (y : Transfer) (iso : Bool) (es : List ℕ) → Keeps (checkWalk {i = i} y iso es)
+  k-check-walk : (y : Transfer) (iso : Bool) (es : List ℕ) → KeepsBits (checkWalk {i = i} y iso es)
   unfolding checkWalk
   k-check-walk y iso [] = search keeping
   k-check-walk y iso (e ∷ es) = k-bind (search keeping depth 30) (λ _. k-check-walk y iso es)
 
-  k-toggled : (dir : Dir) (e : ℕ) → Keeps (toggled {i = i} dir e)
+  k-toggled : (dir : Dir) (e : ℕ) → KeepsBits (toggled {i = i} dir e)
   k-toggled dir e = search (k-looks, keeping) depth 30
 
-  k-retake : (y : Transfer) → Keeps (retake {i = i} y)
+  k-retake : (y : Transfer) → KeepsBits (retake {i = i} y)
   k-retake y = search keeping depth 40
 
-  k-settle : (y : Transfer) → Keeps (settle {i = i} y)
+  k-settle : (y : Transfer) → KeepsBits (settle {i = i} y)
   k-settle y = search (k-looks, k-retake, keeping) depth 40
 
-  k-dispatch : (t : Token) (y : Transfer) (iso : Bool) (frame : ℕ) → Keeps (dispatch {i = i} t y iso frame)
+  k-dispatch : (t : Token) (y : Transfer) (iso : Bool) (frame : ℕ) → KeepsBits (dispatch {i = i} t y iso frame)
   k-dispatch tok.Sof y iso frame = search (k-sof, keeping) depth 30
   k-dispatch tok.Out y iso frame = search (k-toggled, keeping) depth 30
   k-dispatch tok.In y iso frame = search (k-toggled, k-complete, keeping) depth 30
   k-dispatch tok.Setup y iso frame = search keeping
 
-  k-moved : (dir : Dir) → Keeps (movedOn {i = i} dir)
+  k-moved : (dir : Dir) → KeepsBits (movedOn {i = i} dir)
   k-moved dir = search keeping depth 30
 
-  k-ep0-moved : (t : Token) → Keeps (ep0MovedOn {i = i} t)
+  k-ep0-moved : (t : Token) → KeepsBits (ep0MovedOn {i = i} t)
   k-ep0-moved tok.Out = k-moved In
   k-ep0-moved tok.In = k-moved Out
   k-ep0-moved tok.Sof = search keeping
   k-ep0-moved tok.Setup = search keeping
 
-  k-served : (y : Transfer) (iso : Bool) (frame : ℕ) → Keeps (served {i = i} y iso frame)
+  k-served : (y : Transfer) (iso : Bool) (frame : ℕ) → KeepsBits (served {i = i} y iso frame)
   k-served y iso frame = search (k-sof, k-late-walk, k-dispatch, k-check-walk, k-ep0-moved, keeping) depth 40
 
-  k-on-transfer : Keeps (onTransfer {i = i})
+  k-on-transfer : KeepsBits (onTransfer {i = i})
   k-on-transfer = search (k-settle, k-served, keeping) depth 40
 
-  k-on-setup : Keeps (onSetup {i = i})
+  k-on-setup : KeepsBits (onSetup {i = i})
   k-on-setup = search keeping depth 60
 
-  k-interrupt : Keeps (stampedInterrupt {i = i})
+  k-interrupt : KeepsBits (stampedInterrupt {i = i})
   k-interrupt = search (k-on-transfer, k-on-setup, keeping) depth 60
 
 -- ---- the calls
 
 module _ {i : Bool} where
-  k-nak-all : (n e : ℕ) → Keeps (bus.nakAll {i = i} n e)
+  k-nak-all : (n e : ℕ) → KeepsBits (bus.nakAll {i = i} n e)
   unfolding bus.nakAll
   k-nak-all zero e = search keeping
   k-nak-all (suc n) e = k-bind (search keeping) (λ _. k-bind (search keeping) (λ _. k-nak-all n (suc e)))
 
-  k-completions : (n e : ℕ) → Keeps (isoInCompletions {i = i} n e)
+  k-completions : (n e : ℕ) → KeepsBits (isoInCompletions {i = i} n e)
   unfolding isoInCompletions
   k-completions zero e = search keeping
   k-completions (suc n) e = k-bind (k-complete e) (λ _. k-completions n e)
 
-  k-acks : (dir : Dir) (first : Bool) → Keeps (acks {i = i} dir first)
+  k-acks : (dir : Dir) (first : Bool) → KeepsBits (acks {i = i} dir first)
   k-acks dir true = search keeping
   k-acks dir false = search keeping
 
-  k-stalled : (dir : Dir) (e : ℕ) (onn : Bool) → Keeps (bus.setStalled {i = i} dir e onn)
+  k-stalled : (dir : Dir) (e : ℕ) (onn : Bool) → KeepsBits (bus.setStalled {i = i} dir e onn)
   k-stalled Out e true = search keeping depth 20
   k-stalled In e true = search keeping depth 20
   k-stalled Out e false = search keeping depth 20
   k-stalled In e false = search keeping depth 30
 
   k-allocated : (dir : Dir) (kind maximum : ℕ) (a : alloc-answer.Answer)
-      → Keeps (allocated-as {i = i} dir kind maximum a)
+      → KeepsBits (allocated-as {i = i} dir kind maximum a)
   k-allocated dir kind maximum (alloc.Refused n) = search keeping
   k-allocated dir kind maximum (alloc.Given e base slots) = search keeping depth 20
 
-  k-each : (es : List Endpoint) → Keeps (allocateEach {i = i} es)
+  k-each : (es : List Endpoint) → KeepsBits (allocateEach {i = i} es)
   unfolding allocateEach
   k-each [] = search keeping
   k-each (e ∷ es) = k-bind (search keeping) (λ _. k-each es)
 
-  k-begins-at : (dir : Dir) (x left e : ℕ) → Keeps (beginsAt {i = i} dir x left e)
+  k-begins-at : (dir : Dir) (x left e : ℕ) → KeepsBits (beginsAt {i = i} dir x left e)
   unfolding beginsAt
   k-begins-at dir x zero e = search keeping
   k-begins-at dir x (suc left) e = k-bind (search keeping) (λ a. k-bind (search keeping) (λ s.
       k-test (search keeping) (k-begins-at dir x left (suc e))))
 
-  k-announce : (dir : Dir) (e : ℕ) → Keeps (announce {i = i} dir e)
+  k-announce : (dir : Dir) (e : ℕ) → KeepsBits (announce {i = i} dir e)
   k-announce dir e = search keeping depth 20
 
-  k-announce-after : (left total : ℕ) (dir : Dir) (e : ℕ) → Keeps (announceAfter {i = i} left total dir e)
+  k-announce-after : (left total : ℕ) (dir : Dir) (e : ℕ) → KeepsBits (announceAfter {i = i} left total dir e)
   unfolding announceAfter
   k-announce-after zero total dir e = search keeping
   k-announce-after (suc left) total dir e = k-bind (search keeping depth 10) (λ x. k-bind (k-begins-at Out x 15 1) (λ o.
@@ -143,19 +143,19 @@ module _ {i : Bool} where
       (k-bind (k-begins-at In x 15 1) (λ n. k-bind (k-announce In n) (λ _. k-announce-after left total In n)))
       (k-bind (k-announce Out o) (λ _. k-announce-after left total Out o))))
 
-  k-announce-all : (es : List Endpoint) → Keeps (announceAll {i = i} es)
+  k-announce-all : (es : List Endpoint) → KeepsBits (announceAll {i = i} es)
   k-announce-all [] = search keeping
   k-announce-all (e ∷ es) = search (k-announce, k-announce-after, keeping)
 
-  k-allocate-read : (bytes : List ℕ) (a : reading-answer.Answer) → Keeps (allocate-read {i = i} bytes a)
+  k-allocate-read : (bytes : List ℕ) (a : reading-answer.Answer) → KeepsBits (allocate-read {i = i} bytes a)
   k-allocate-read bytes (reading.Refused n) = search keeping
   k-allocate-read bytes reading.Listed = search (k-each, k-announce-all, keeping) depth 20
 
-k-enabling : (dir : Dir) (e : ℕ) (onn : Bool) → Keeps (bus.setEnabled dir e onn)
+k-enabling : (dir : Dir) (e : ℕ) (onn : Bool) → KeepsBits (bus.setEnabled dir e onn)
 k-enabling Out e onn = search keeping depth 40
 k-enabling In e onn = search keeping depth 40
 
-k-slotted : (o : Slotted) → Keeps (slottedCode o)
+k-slotted : (o : Slotted) → KeepsBits (slottedCode o)
 k-slotted (SetEnabled dir e onn) = search (k-enabling, keeping) depth 20
 k-slotted (PollRead e n) = search keeping depth 40
 k-slotted (BeginWrite e bytes) = search keeping depth 40
@@ -164,16 +164,16 @@ k-slotted (PollDataOut n) = search keeping depth 40
 k-slotted (BeginDataIn bytes first true) = search (k-acks, keeping) depth 60
 k-slotted (BeginDataIn bytes first false) = search (k-acks, keeping) depth 60
 
-k-aside : (o : Aside) → Keeps (asideCode o)
+k-aside : (o : Aside) → KeepsBits (asideCode o)
 k-aside (Open e) = search keeping depth 40
 k-aside (Close e) = search keeping depth 40
 k-aside (Queue e bytes) = search keeping depth 40
 
-k-started : (maximum : ℕ) (a : alloc-answer.Answer) → Keeps {i = false} (started-as maximum a)
+k-started : (maximum : ℕ) (a : alloc-answer.Answer) → KeepsBits {i = false} (started-as maximum a)
 k-started maximum (alloc.Refused n) = search keeping
 k-started maximum (alloc.Given e base slots) = search keeping depth 20
 
-k-other : (o : Other) → Keeps (otherCode o)
+k-other : (o : Other) → KeepsBits (otherCode o)
 k-other (Allocate dir kind address maximum interval) = search (k-allocated, keeping) depth 20
 k-other (AllocateAll bytes) = search (k-allocate-read, keeping) depth 20
 k-other (Start maximum) = search (k-started, keeping) depth 20
@@ -195,11 +195,11 @@ k-other BeginReject = search keeping depth 40
 k-other (BeginDataOut n first) = search (k-acks, keeping) depth 60
 k-other (BeginAcceptSetAddress a) = search keeping depth 40
 
-pub k-call : (o : Op) → Keeps (code o)
+pub k-call : (o : Op) → KeepsBits (code o)
 k-call interrupt = search (k-interrupt, keeping) depth 20
 k-call (slotted o) = k-slotted o
 k-call (other o) = k-other o
 k-call (aside o) = k-aside o
 
-pub k-starting : (c : Config) → Keeps (starting c)
+pub k-starting : (c : Config) → KeepsBits (starting c)
 k-starting c = search keeping depth 30

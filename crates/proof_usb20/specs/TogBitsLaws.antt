@@ -30,7 +30,7 @@ use Rattle.model.specs.Script.{switch, bus-reset, lastOf}
 use Rattle.model.specs.Statics.{isOn, flag}
 use Rattle.model.specs.StepsRuns.{Holds, end, ask}
 use Rattle.model.specs.StepsRunsLaws.{holds-bind, holds-rows}
-use Rattle.model.specs.MachineKept.{Lent}
+use Rattle.model.specs.MachineKept.{LentKeeps}
 use Rattle.model_ops.specs.Records.{merged, recordGiven, setsGiven, givenTo, allocatedOn, startedWith, allocatedEp0}
 use Rattle.model_ops.specs.Rings.{St, renewedOn, armAt, slotStep, typeStep, configStep, resetBelow, resetAll}
 use Rattle.model_ops.specs.Concrete.{concrete}
@@ -143,8 +143,8 @@ row-bits bus-reset (suc (suc (suc n))) s k = else-bits refl k
 
 -- ---- scripts
 
-pub record Keeps {i : Bool} {A : Type 0} (p : Script i A) : Type 0 where
-  pub on : (s : St) → TogBits (s .0) → Holds (Lent TogBits) (run concrete p s)
+pub record KeepsBits {i : Bool} {A : Type 0} (p : Script i A) : Type 0 where
+  pub on : (s : St) → TogBits (s .0) → Holds (LentKeeps TogBits) (run concrete p s)
 
 -- the chip's bit, and DATA0
 pub bit-read : (b : Bool) → IsBit (flag b)
@@ -155,62 +155,62 @@ pub bit-0 : IsBit 0
 bit-0 = inl refl
 
 module _ {i : Bool} {A : Type 0} where
-  pub k-ret : {a : A} → Keeps {i = i} (ret a)
+  pub k-ret : {a : A} → KeepsBits {i = i} (ret a)
   k-ret = record { on = λ s b. end b }
 
-  pub k-bind : {B : Type 0} {p : Script i B} {f : B → Script i A} → Keeps p → ((b : B) → Keeps (f b)) → Keeps (bind p f)
+  pub k-bind : {B : Type 0} {p : Script i B} {f : B → Script i A} → KeepsBits p → ((b : B) → KeepsBits (f b)) → KeepsBits (bind p f)
   k-bind h g = record { on = λ s b. holds-bind (h .on s b) (λ a t c. g a .on t c) }
 
-  pub k-test : {b : Bool} {p q : Script i A} → Keeps p → Keeps q → Keeps (test b p q)
+  pub k-test : {b : Bool} {p q : Script i A} → KeepsBits p → KeepsBits q → KeepsBits (test b p q)
   k-test {b} {p} {q} h g = by b
     where
-      by : (b : Bool) → Keeps (test b p q)
+      by : (b : Bool) → KeepsBits (test b p q)
       by true = record { on = λ s c. h .on s c }
       by false = record { on = λ s c. g .on s c }
 
-  pub k-read : {r : Reg} {e : ℕ} {k : ℕ → Script i A} → ((v : ℕ) → Keeps (k v)) → Keeps (read-then r e k)
+  pub k-read : {r : Reg} {e : ℕ} {k : ℕ → Script i A} → ((v : ℕ) → KeepsBits (k v)) → KeepsBits (read-then r e k)
   k-read h = record { on = λ s b. ask b (λ v t c. h v .on t c) }
 
-  pub k-write : {r : Reg} {e v : ℕ} {p : Script i A} → Keeps p → Keeps (write-then r e v p)
+  pub k-write : {r : Reg} {e v : ℕ} {p : Script i A} → KeepsBits p → KeepsBits (write-then r e v p)
   k-write h = record { on = λ s b. ask b (λ v t c. h .on t c) }
 
-  pub k-wait : {n : ℕ} {p : Script i A} → Keeps p → Keeps (wait-then n p)
+  pub k-wait : {n : ℕ} {p : Script i A} → KeepsBits p → KeepsBits (wait-then n p)
   k-wait h = record { on = λ s b. ask b (λ v t c. h .on t c) }
 
-  pub k-callback : {p : Script i A} → Keeps p → Keeps (callback-then p)
+  pub k-callback : {p : Script i A} → KeepsBits p → KeepsBits (callback-then p)
   k-callback h = record { on = λ s b. ask b (λ v t c. h .on t c) }
 
   -- a record's toggle is 0 or 1 where it is got
-  pub k-got : {d : Dir} {e : ℕ} {f : EpCore → Script i A} → ((p : EpCore) → IsBit (p .tog) → Keeps (f p))
-      → Keeps (bind (get-then (ep-cell d e) ret) f)
+  pub k-got : {d : Dir} {e : ℕ} {f : EpCore → Script i A} → ((p : EpCore) → IsBit (p .tog) → KeepsBits (f p))
+      → KeepsBits (bind (get-then (ep-cell d e) ret) f)
   k-got {d} {e} h = record { on = λ s b. h _ (b .bits d e) .on s b }
 
-  pub k-get : {c : Cell} {k : Val c → Script i A} → ((v : Val c) → Keeps (k v)) → Keeps (get-then c k)
+  pub k-get : {c : Cell} {k : Val c → Script i A} → ((v : Val c) → KeepsBits (k v)) → KeepsBits (get-then c k)
   k-get h = record { on = λ s b. h _ .on s b }
 
-  pub k-put : {c : Cell} {v : Val c} {p : Script i A} → isEp c ≡ false → Keeps p → Keeps (put-then c v p)
+  pub k-put : {c : Cell} {v : Val c} {p : Script i A} → isEp c ≡ false → KeepsBits p → KeepsBits (put-then c v p)
   k-put {c} {v} e h = record { on = λ s b. h .on _ (put-bits c e v s b) }
 
-  pub k-assigned : {d : Dir} {e : ℕ} {v : EpCore} {p : Script i A} → IsBit (v .tog) → Keeps p
-      → Keeps (put-then (ep-cell d e) v p)
+  pub k-assigned : {d : Dir} {e : ℕ} {v : EpCore} {p : Script i A} → IsBit (v .tog) → KeepsBits p
+      → KeepsBits (put-then (ep-cell d e) v p)
   k-assigned {d} {e} {v} t h = record { on = λ s b. h .on _ (record-bits d e (merged (epOn (s .0) d e) v) t b) }
 
-  pub k-is : {q : Test} {k : Bool → Script i A} → ((b : Bool) → Keeps (k b)) → Keeps (is-then q k)
+  pub k-is : {q : Test} {k : Bool → Script i A} → ((b : Bool) → KeepsBits (k b)) → KeepsBits (is-then q k)
   k-is h = record { on = λ s b. h _ .on s b }
 
-  pub k-look : {q : Look} {k : ℕ → Script i A} → ((n : ℕ) → Keeps (k n)) → Keeps (look-then q k)
+  pub k-look : {q : Look} {k : ℕ → Script i A} → ((n : ℕ) → KeepsBits (k n)) → KeepsBits (look-then q k)
   k-look h = record { on = λ s b. h _ .on s b }
 
-  pub k-fetch : {q : Fetch} {k : List ℕ → Script i A} → ((l : List ℕ) → Keeps (k l)) → Keeps (fetch-then q k)
+  pub k-fetch : {q : Fetch} {k : List ℕ → Script i A} → ((l : List ℕ) → KeepsBits (k l)) → KeepsBits (fetch-then q k)
   k-fetch h = record { on = λ s b. h _ .on s b }
 
-  pub k-act : {q : Act} {p : Script i A} → Keeps p → Keeps (act-then q p)
+  pub k-act : {q : Act} {p : Script i A} → KeepsBits p → KeepsBits (act-then q p)
   k-act {q} h = record { on = λ s b. h .on _ (act-bits q s b) }
 
-  pub k-hand : {q : DmaStep} {p : Script i A} → Keeps p → Keeps (hand-then q p)
+  pub k-hand : {q : DmaStep} {p : Script i A} → KeepsBits p → KeepsBits (hand-then q p)
   k-hand {q} h = record { on = λ s b. ask (rings-bits false (hand-leaves q s) b) (λ v t c. h .on t c) }
 
-pub k-row : {A : Type 0} {g : Burst} {p : Script false A} → Keeps p → Keeps (row-then g p)
+pub k-row : {A : Type 0} {g : Burst} {p : Script false A} → KeepsBits p → KeepsBits (row-then g p)
 k-row {g = g} h = record { on = λ s b. holds-rows concrete g (row-bits g) (lastOf g) (λ t c. h .on t c) s b }
 
 -- rules by which a script is taken apart: what it got and assigns, and the rest

@@ -11,7 +11,7 @@ use Rattle.state.specs.State.{view}
 use Rattle.model.specs.Answers.{Answer}
 use Rattle.model.specs.Calls.{Config, Op, calls, startRow}
 use Rattle.model.specs.Machine.{Buf, Event, start, Ans, Machine, started}
-use Rattle.model.specs.MachineKept.{Kept, Preserves}
+use Rattle.model.specs.MachineKept.{MachineKeeps, Preserves}
 use Rattle.model.specs.MachineKeptLaws.{start-kept, call-kept}
 use Rattle.machine.specs.Suspended.{driverOf, drive, machineOf}
 use Rattle.proof_book.specs.Always.{after}
@@ -29,7 +29,7 @@ preserved : Preserves TogBits calls driverOf
 preserved = record { calls = λ o s b. k-call o .on s b; starts = λ c s b. k-starting c .on s b; fresh = λ c b row. fresh-bits c }
 
 abbrev Togs : Machine Answer Driver → Type 0
-Togs m = Kept TogBits m
+Togs m = MachineKeeps TogBits m
 
 -- an accepted start-up, on whatever was before
 accepted : (c : Config) (m : Machine Answer Driver) (b : Buf) → startRow c b ≡ zero → Togs (drive (start c) m b .1)

@@ -43,10 +43,10 @@ use Rattle.proof_usb20.specs.Sequence as log
 use Rattle.proof_usb20.specs.Sequence.{Track, off, flagged, shows, due, withPhase, own, mine, tokenFor, howOften, saw}
 use Rattle.proof_usb20.specs.FollowLaws as follow
 use Rattle.proof_usb20.specs.Follow as following
-use Rattle.proof_usb20.specs.Follow.{Seen, Fits, view, Follow, EndsFew}
+use Rattle.proof_usb20.specs.Follow.{EpSeen, Fits, view, Follow, EndsFew}
 use Rattle.proof_usb20.specs.Watch.{at-end, at-ask}
 use Rattle.proof_usb20.specs.FollowLaws.{act-view}
-use Rattle.proof_usb20.specs.CalmLaws.{Idle, Off, Hush, Else, Kept, Stays, Quiet, kept-by, hears-same, heard}
+use Rattle.proof_usb20.specs.CalmLaws.{Idle, Off, Hush, Else, CalmKept, Stays, Quiet, kept-by, hears-same, heard}
 use Rattle.proof_usb20.specs.CalmLaws.{put-kept, put-hears, only, off-idle, off-hush, put-globals, q-bind, q-ins}
 use Rattle.proof_usb20.specs.CalmLaws.{q-wake-bus, q-got, q-int-en, q-ret, q-when, q-write}
 use Rattle.proof_usb20.specs.CalmPartsLaws.{q-check, q-dispatch, q-ep0-moved, q-late, q-setup, q-sof}
@@ -59,7 +59,7 @@ use Rattle.proof_usb20.specs.SettlingLaws.{Settled, deaf, settles, its-t
 Arms : Dir → ℕ → Type 0
 Arms D E = (x : Transfer) (frame k : ℕ) (w : Track) (s : St) → w .new ≡ false → heard D E s ≡ 0
     → tokenFor D (token (x .st)) ≡ true → own D E D (endpoint (x .st)) ≡ true → eqb (endpoint (x .st)) 0 ≡ false
-    → x .len ≡ k → Kept D E true s → Fits w (view D E (s .0)) → eqb (s .0 .globals .stage) 2 ≡ true
+    → x .len ≡ k → CalmKept D E true s → Fits w (view D E (s .0)) → eqb (s .0 .globals .stage) 2 ≡ true
     → Follow D E (Done D E) (withPhase (due k) w) (run concrete (dispatch {i = true} (token (x .st)) x false frame) s)
 
 arms : (D : Dir) (E : ℕ) → Arms D E
@@ -99,7 +99,7 @@ module _ (D : Dir) (E : ℕ) (z : (d : Dir) → Else D E d 0) where
     ap (λ (q : Track). q .phase) (g .0) ∙ f .0,
     subst (λ (q : Track). Fits q (view D E (u .0))) (sym (g .0)) (subst (Fits x) (sym (g .1)) (f .1)),
     g .2,
-    ap (λ (q : Seen). eqb (q .stage) 2) (g .1) ∙ f .3,
+    ap (λ (q : EpSeen). eqb (q .stage) 2) (g .1) ∙ f .3,
     subst (λ (q : Track). Heard D E q u) (sym (g .0)) (heard-on D E x e u (g .3) (f .4)),
   )
 
@@ -131,7 +131,7 @@ module _ (D : Dir) (E : ℕ) (z : (d : Dir) → Else D E d 0) where
   -- ours
   ours : (w : Track) (y : Transfer) (k frame : ℕ) (s : St) → w .new ≡ false → heard D E s ≡ 0
       → tokenFor D (token (y .st)) ≡ true → own D E D (endpoint (y .st)) ≡ true → eqb (endpoint (y .st)) 0 ≡ false
-      → y .len ≡ k → y .busy ≡ false → Kept D E true s → Fits w (view D E (s .0)) → eqb (s .0 .globals .stage) 2 ≡ true
+      → y .len ≡ k → y .busy ≡ false → CalmKept D E true s → Fits w (view D E (s .0)) → eqb (s .0 .globals .stage) 2 ≡ true
       → Follow D E (Done D E) (withPhase (due k) w) (run concrete (served {i = true} y false frame) s)
   unfolding Arms
   ours w y k frame s q j t o nz l b h r two =
@@ -144,7 +144,7 @@ module _ (D : Dir) (E : ℕ) (z : (d : Dir) → Else D E d 0) where
       (let v : view D E (c .0) ≡ view D E (s .0) = n .1 ∙ m .1 in
       follow.follow-bind D E {P = Done D E} (follow.follow-cond D E (not (y .busy))
       (λ _. arms D E y frame k w c q (n .3 .same refl ∙ (m .3 .same refl ∙ j)) t o nz l (n .2) (subst (Fits w) (sym v) r)
-      (ap (λ (x : Seen). eqb (x .stage) 2) v ∙ two)) (λ q. differ (sym q ∙ ap not b))) (λ x _ e f.
+      (ap (λ (x : EpSeen). eqb (x .stage) 2) v ∙ two)) (λ q. differ (sym q ∙ ap not b))) (λ x _ e f.
       follow.follow-more D E (q-rest y false frame .goes x e (f .0, off-hush D E x (f .0)) (f .2)) (λ x′ _ u g. went x x′ e u f g))))))
 
   -- another's
@@ -188,15 +188,15 @@ module _ (D : Dir) (E : ℕ) (z : (d : Dir) → Else D E d 0) where
       → saw D E (withPhase (shows st n) w) (Read FrameNo 0) v ≡ withPhase (cond b (due n) off) w
   due-now st n w b h v = rw h refl
 
-  framing : (w : Track) (v : Seen) (x : Transfer) (l : Track) (s t : St) → w .new ≡ false → heard D E s ≡ 0 → Fits w v
+  framing : (w : Track) (v : EpSeen) (x : Transfer) (l : Track) (s t : St) → w .new ≡ false → heard D E s ≡ 0 → Fits w v
       → isOn (v .iso) ≡ false → eqb (v .stage) 2 ≡ true → Settled D E s w v l x t
       → Follow D E (Done D E) l (run concrete (frames x) t)
   framing w v x l s t quiet none r i two m = back D E (m .log) (by (mine D E (x .st)) refl)
     where
       i-here : isOn (epOn (t .0) D E .iso) ≡ false
-      i-here = ap (λ (q : Seen). isOn (q .iso)) (m .view) ∙ i
+      i-here = ap (λ (q : EpSeen). isOn (q .iso)) (m .view) ∙ i
 
-      heard-here : (u : St) → following.Keeps D E t u → heard D E u ≡ 0
+      heard-here : (u : St) → following.Between D E t u → heard D E u ≡ 0
       heard-here u p = hears-same D E {m = true} {s = t} {t = u} (p .2) .same refl ∙ (m .hears .same refl ∙ none)
 
       by : (b : Bool) → mine D E (x .st) ≡ b
@@ -212,7 +212,7 @@ module _ (D : Dir) (E : ℕ) (z : (d : Dir) → Else D E d 0) where
           (sym (not-framed x false (u .0 .globals .«sof_frame») frame (q .1)))
           (ours w x (m .len) frame u quiet (heard-here u p) (its-token D E t i-here z (x .st) h)
           (both (tokenFor D (token (x .st))) (own D E D (endpoint (x .st))) h .1) (not-zero D E t i-here z (x .st) h) (sym (q .0))
-          (q .1) (kept-by D E {s = t} {t = u} p (m .kept)) (subst (Fits w) (sym g) r) (ap (λ (a : Seen). eqb (a .stage) 2) g ∙ two)))))
+          (q .1) (kept-by D E {s = t} {t = u} p (m .kept)) (subst (Fits w) (sym g) r) (ap (λ (a : EpSeen). eqb (a .stage) 2) g ∙ two)))))
       by false h = at-ask tt (λ frame u _ p. back D E (due-now (x .st) (m .len) w false h frame)
           (let g : view D E (u .0) ≡ v = p .0 ∙ m .view in
           let iso = isoFor (token (x .st)) (concrete .get (ep-cell Out (endpoint (x .st))) t) (concrete .get (ep-cell In (endpoint (x .st))) t) in
@@ -227,7 +227,7 @@ module _ (D : Dir) (E : ℕ) (z : (d : Dir) → Else D E d 0) where
             refl,
             subst (Fits w) (sym g) r,
             kept-by D E {s = t} {t = u} p (m .kept),
-            ap (λ (q : Seen). eqb (q .stage) 2) g ∙ two,
+            ap (λ (q : EpSeen). eqb (q .stage) 2) g ∙ two,
             inr (heard-here u p ∙ sym (ap flag quiet)),
           ) f)))
 
@@ -240,7 +240,7 @@ module _ (D : Dir) (E : ℕ) (z : (d : Dir) → Else D E d 0) where
       by true h = sym (eqb-true n 0 h)
       by false h = refl
 
-  transfers : (w : Track) (s : St) → w .new ≡ false → heard D E s ≡ 0 → Kept D E true s → Fits w (view D E (s .0))
+  transfers : (w : Track) (s : St) → w .new ≡ false → heard D E s ≡ 0 → CalmKept D E true s → Fits w (view D E (s .0))
       → isOn (epOn (s .0) D E .iso) ≡ false → eqb (s .0 .globals .stage) 2 ≡ true
       → Follow D E (Done D E) (withPhase flagged w) (run concrete (onTransfer {i = true}) s)
   transfers w s quiet none ks r i two = at-ask tt (λ m a _ p. at-ask tt (λ st b _ q. at-ask tt (λ n c _ f.
@@ -257,9 +257,9 @@ module _ (D : Dir) (E : ℕ) (z : (d : Dir) → Else D E d 0) where
       let ku = kept-by D E {s = e} {t = u} h (g .2) in
       let nu : heard D E u ≡ 0 = hears-same D E {m = true} {s = e} {t = u} (h .2) .same refl
       ∙ (g .3 .same refl ∙ (hears-same D E {m = true} {s = s} {t = c} wc .same refl ∙ none)) in
-      follow.follow-bind D E (settles D E z w u (entered m st n) (ap (λ (a : Seen). isOn (a .iso)) k ∙ i) ku)
-      (λ l y t d. framing w (view D E (u .0)) y l u t quiet nu (subst (Fits w) (sym k) r) (ap (λ (a : Seen). isOn (a .iso)) k
-      ∙ i) (ap (λ (a : Seen). eqb (a .stage) 2) k ∙ two) d))))))))
+      follow.follow-bind D E (settles D E z w u (entered m st n) (ap (λ (a : EpSeen). isOn (a .iso)) k ∙ i) ku)
+      (λ l y t d. framing w (view D E (u .0)) y l u t quiet nu (subst (Fits w) (sym k) r) (ap (λ (a : EpSeen). isOn (a .iso)) k
+      ∙ i) (ap (λ (a : EpSeen). eqb (a .stage) 2) k ∙ two) d))))))))
 
   -- ---- the interrupt
 
@@ -288,12 +288,12 @@ module _ (D : Dir) (E : ℕ) (z : (d : Dir) → Else D E d 0) where
       → saw D E (withPhase log.entered w) (Read IntFg 0) f ≡ withPhase (cond b flagged off) w
   on-flag w f b h = rw h refl
 
-  on-interrupt : (w : Track) (s : St) → w .new ≡ false → heard D E s ≡ 0 → Kept D E true s → Fits w (view D E (s .0))
+  on-interrupt : (w : Track) (s : St) → w .new ≡ false → heard D E s ≡ 0 → CalmKept D E true s → Fits w (view D E (s .0))
       → isOn (epOn (s .0) D E .iso) ≡ false → eqb (s .0 .globals .stage) 2 ≡ true
       → Follow D E (Done D E) (withPhase log.entered w) (run concrete (onInterrupt {i = true}) s)
   on-interrupt w s quiet none ks r i two = at-ask tt (λ f a _ p. by f a p (transfer f) refl)
     where
-      by : (f : ℕ) (a : St) → following.Keeps D E s a → (b : Bool) → transfer f ≡ b
+      by : (f : ℕ) (a : St) → following.Between D E s a → (b : Bool) → transfer f ≡ b
           → Follow D E (Done D E) (saw D E (withPhase log.entered w) (Read IntFg 0) f)
           (run concrete (bind (when {i = true} (busRst f) (bind (modifyIntEn (λ w. withBusRst w false)) (λ _. wakeBus)))
           (λ _. bind (when (suspend f) (bind (modifyIntEn (λ w. withSuspend w false)) (λ _. wakeBus)))
@@ -315,15 +315,15 @@ module _ (D : Dir) (E : ℕ) (z : (d : Dir) → Else D E d 0) where
           (m3 .2)) (λ x _ a4 m4. back D E (m4 .0)
           (let v : view D E (a4 .0) ≡ view D E (s .0) = m4 .1 ∙ (m3 .1 ∙ (m2 .1 ∙ (m1 .1 ∙ p .0))) in
           let r4 = subst (Fits w) (sym v) r in
-          let two4 = ap (λ (q : Seen). eqb (q .stage) 2) v ∙ two in
+          let two4 = ap (λ (q : EpSeen). eqb (q .stage) 2) v ∙ two in
           let n4 : heard D E a4 ≡ 0 = m4 .3 .same refl ∙ (m3 .3 .same refl
           ∙ (m2 .3 .same refl ∙ (m1 .3 .same refl ∙ (hears-same D E {m = true} {s = s} {t = a} (p .2) .same refl ∙ none)))) in
-          follow.follow-bind D E {P = Done D E} (moves f a4 n4 (m4 .2) b h r4 (ap (λ (q : Seen). isOn (q .iso)) v ∙ i) two4) (λ x _ c n.
+          follow.follow-bind D E {P = Done D E} (moves f a4 n4 (m4 .2) b h r4 (ap (λ (q : EpSeen). isOn (q .iso)) v ∙ i) two4) (λ x _ c n.
           follow.follow-cond D E (setupAct f)
           (λ _. follow.follow-more D E ((q-setup D E) z {i = true} .goes x c (n .0, off-hush D E x (n .0)) (n .2)) (λ y _ u g. went x y c u n g))
           (λ _. at-end n)))))))))))
         where
-          moves : (f : ℕ) (c : St) → heard D E c ≡ 0 → Kept D E true c → (b : Bool) → transfer f ≡ b
+          moves : (f : ℕ) (c : St) → heard D E c ≡ 0 → CalmKept D E true c → (b : Bool) → transfer f ≡ b
               → Fits w (view D E (c .0)) → isOn (epOn (c .0) D E .iso) ≡ false → eqb (c .0 .globals .stage) 2 ≡ true
               → Follow D E (Done D E) (withPhase (cond b flagged off) w) (run {i = true} concrete (when (transfer f) onTransfer) c)
           moves f c nc k true h r i two = follow.follow-cond D E (transfer f) (λ _. transfers w c quiet nc k r i two) (λ q. differ (sym q ∙ h))
@@ -331,7 +331,7 @@ module _ (D : Dir) (E : ℕ) (z : (d : Dir) → Else D E d 0) where
               (transfer f) (λ q. differ (sym h ∙ q)) (λ _. at-end (refl, r, k, two, inr (nc ∙ sym (ap flag quiet))))
 
   -- its wake-ups are gathered from none
-  gathers : (s : St) → isOn (epOn (s .0) D E .iso) ≡ false → Sorting (s .0) → Kept D E true (concrete .act no-wakes s)
+  gathers : (s : St) → isOn (epOn (s .0) D E .iso) ≡ false → Sorting (s .0) → CalmKept D E true (concrete .act no-wakes s)
   unfolding epOn
   gathers s i k = record {
     whole = k .places;
@@ -344,7 +344,7 @@ module _ (D : Dir) (E : ℕ) (z : (d : Dir) → Else D E d 0) where
   heard-none s = ap (howOften (wakeCode D E)) (unwoken-listed (s .0 .wakes))
 
   -- fewer wake-ups than there is room for, so the list is not full
-  ends-few : (y : Track) (t : St) → Kept D E true t → Heard D E y t → Few (ended (End 0 (listed (t .0 .wakes))))
+  ends-few : (y : Track) (t : St) → CalmKept D E true t → Heard D E y t → Few (ended (End 0 (listed (t .0 .wakes))))
       → howOften (wakeCode D E) (listed (t .0 .wakes)) ≡ flag (y .new)
   ends-few y t k (inl n) f = absurd (omega (arith, n, f, listed-count (t .0 .wakes) (k .room refl)))
   ends-few y t k (inr n) f = n
@@ -363,6 +363,6 @@ module _ (D : Dir) (E : ℕ) (z : (d : Dir) → Else D E d 0) where
       let na : heard D E (concrete .put globals-cell g a) ≡ 0 = put-hears D E {m = true} globals-cell g a .same refl
       ∙ (hears-same D E {m = true} {s = s0} {t = a} (p .2) .same refl ∙ heard-none s) in
       on-interrupt (begun w) (concrete .put globals-cell g a) refl na (put-kept D E globals-cell g a ka)
-      (subst (Fits w) (sym v) r) (ap (λ (q : Seen). isOn (q .iso)) v ∙ i) (ap (λ (q : Seen). eqb (q .stage) 2) v ∙ two)))
+      (subst (Fits w) (sym v) r) (ap (λ (q : EpSeen). isOn (q .iso)) v ∙ i) (ap (λ (q : EpSeen). eqb (q .stage) 2) v ∙ two)))
       (λ y _ t m. at-end m)) (λ y _ t m. at-end (m .1, λ few. (m .0, ends-few y t (m .2) (m .4) few))))
       (λ _. at-end (r, λ _. tt))

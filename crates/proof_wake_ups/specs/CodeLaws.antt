@@ -10,13 +10,13 @@ use Rattle.proof_book.specs.Code.{Made, CallStep}
 use Rattle.proof_book.specs.CodeReadings.{Steps}
 use Rattle.proof_wake_ups.specs.Heard.{Heard}
 use Rattle.proof_wake_ups.specs.Machines.{Told, hear, Pair}
-use Rattle.proof_wake_ups.specs.MachinesLaws.{Alike, steps, from-start}
+use Rattle.proof_wake_ups.specs.MachinesLaws.{SameTold, steps, from-start}
 use Rattle.proof_wake_ups.specs.Code.{AsHeard}
 
 made : (m : Made) (xs : List ℕ) (a : Buf) (n : Machine Answer Heard) → CallStep xs a m
-    → Alike (drive (m .event .call) (machineOf xs a) (m .event .lent)) (hear (m .event .call) n (m .event .lent))
-    → Alike (m .answer, machineOf (m .bytes) (m .slots)) (hear (m .event .call) n (m .event .lent))
-made m xs a n d s = subst (λ (z : Told). Alike z (hear (m .event .call) n (m .event .lent))) (sym d) s
+    → SameTold (drive (m .event .call) (machineOf xs a) (m .event .lent)) (hear (m .event .call) n (m .event .lent))
+    → SameTold (m .answer, machineOf (m .bytes) (m .slots)) (hear (m .event .call) n (m .event .lent))
+made m xs a n d s = subst (λ (z : Told). SameTold z (hear (m .event .call) n (m .event .lent))) (sym d) s
 
 code-always : (ms : List Made) (xs : List ℕ) (a : Buf) (n : Machine Answer Heard) → Pair (machineOf xs a) n → Steps xs a ms → AsHeard n ms
 code-always [] xs a n p h = tt
@@ -31,6 +31,6 @@ pub code-wake-ups : (c : Config) (b : Buf) → startRow c b ≡ zero → (xs : L
     → Steps xs a (first ∷ ms) → AsHeard n (first ∷ ms)
 code-wake-ups c b row xs a n first e ms h =
     let s = made first xs a n (h .0)
-    (subst (λ (v : Event Config Op). Alike (drive (v .call) (machineOf xs a) (v .lent)) (hear (v .call) n (v .lent)))
+    (subst (λ (v : Event Config Op). SameTold (drive (v .call) (machineOf xs a) (v .lent)) (hear (v .call) n (v .lent)))
     (sym e) (from-start c b row (machineOf xs a) n)) in
     (s .answer, code-always ms (first .bytes) (first .slots) _ (s .pair) (h .1))

@@ -41,7 +41,7 @@ Gathered (ended a) w = Lists a w
 Gathered (handed q) w = Unit {0}
 Gathered (told n) w = Unit {0}
 
-pub record Kept (x : Told) : Type 0 where
+pub record RoomsKept (x : Told) : Type 0 where
   pub answer : Gathered (x .0) (listed (x .1 .st .wakes))
   pub goes : Goes (x .1 .way)
 

@@ -22,37 +22,37 @@ use Rattle.proof_wake_ups.specs.Machines.{Told, Pair}
 use Rattle.proof_wake_ups.specs.MachinesLaws.{steps, from-start}
 use Rattle.proof_wake_ups.specs.Ends.{Ends, end, ask}
 use Rattle.proof_wake_ups.specs.EndsLaws.{gives, start-up-gives}
-use Rattle.proof_wake_ups.specs.Rooms.{Few, Goes, rests, works, Roomy, Gathered, Kept, Rooms}
+use Rattle.proof_wake_ups.specs.Rooms.{Few, Goes, rests, works, Roomy, Gathered, RoomsKept, Rooms}
 
-halts : (i : Bool) {o : tree.Out St Answer} → Ends o → Kept (halt calls driverOf (λ s. s) i o)
+halts : (i : Bool) {o : tree.Out St Answer} → Ends o → RoomsKept (halt calls driverOf (λ s. s) i o)
 halts i (end h) = record { answer = h; goes = rests }
 halts i (ask k) = record { answer = tt; goes = works k }
 
-stays : (n : ℕ) (m : Machine Answer Driver) → Goes (m .way) → Kept (stay calls driverOf n m)
+stays : (n : ℕ) (m : Machine Answer Driver) → Goes (m .way) → RoomsKept (stay calls driverOf n m)
 stays n m g = record { answer = tt; goes = g }
 
-besides : (m : Machine Answer Driver) → Goes (m .way) → {o : tree.Out St Answer} → Ends o → Kept (beside calls driverOf m o)
+besides : (m : Machine Answer Driver) → Goes (m .way) → {o : tree.Out St Answer} → Ends o → RoomsKept (beside calls driverOf m o)
 besides m g (end h) = record { answer = h; goes = g }
 besides m g (ask k) = stays 3 m g
 
-either : (b : Bool) {x y : Told} → Kept x → Kept y → Kept (cond b x y)
+either : (b : Bool) {x y : Told} → RoomsKept x → RoomsKept y → RoomsKept (cond b x y)
 either true p q = p
 either false p q = q
 
-begins : (o : Op) (m : Machine Answer Driver) {w : Way Answer Driver} → Goes (m .way) → Goes w → (b : Buf) → Kept (begun calls driverOf (λ s. s) o m w b)
+begins : (o : Op) (m : Machine Answer Driver) {w : Way Answer Driver} → Goes (m .way) → Goes w → (b : Buf) → RoomsKept (begun calls driverOf (λ s. s) o m w b)
 begins o m g rests b = halts (calls .irq o) (gives o .on (m .st, b))
 begins o m g (works {i = i} k) b = either (cond i (calls .aside o) false)
     (besides (lentTo calls driverOf m b) g (gives o .on (m .st, b))) (stays 3 (lentTo calls driverOf m b) g)
 
-continues : (v : ℕ) (m : Machine Answer Driver) {w : Way Answer Driver} → Goes (m .way) → Goes w → (b : Buf) → Kept (continued calls driverOf (λ s. s) v m w b)
+continues : (v : ℕ) (m : Machine Answer Driver) {w : Way Answer Driver} → Goes (m .way) → Goes w → (b : Buf) → RoomsKept (continued calls driverOf (λ s. s) v m w b)
 continues v m g rests b = stays 15 (lentTo calls driverOf m b) g
 continues v m g (works {i = i} {q = q} k) b = either (over calls q v) (stays 16 (lentTo calls driverOf m b) g) (halts i (k v (m .st, b)))
 
-starts : (c : Config) (n : ℕ) (m : Machine Answer Driver) → Goes (m .way) → (b : Buf) → Kept (started calls driverOf (λ s. s) c n m b)
+starts : (c : Config) (n : ℕ) (m : Machine Answer Driver) → Goes (m .way) → (b : Buf) → RoomsKept (started calls driverOf (λ s. s) c n m b)
 starts c zero m g b = halts false (start-up-gives c .on (driverOf .fresh c, b))
 starts c (suc n) m g b = stays (suc n) m g
 
-keeps : (c : Call Config Op) (m : Machine Answer Driver) → Goes (m .way) → (b : Buf) → Kept (drive c m b)
+keeps : (c : Call Config Op) (m : Machine Answer Driver) → Goes (m .way) → (b : Buf) → RoomsKept (drive c m b)
 keeps (start c) m g b = starts c (startRow c b) m g b
 keeps (begin o) m g b = either (cond (calls .slots o) (misfit calls driverOf (m .st) b) false) (stays 1 m g) (begins o m g g b)
 keeps (go v) m g b = either (misfit calls driverOf (m .st) b) (stays 1 m g) (continues v m g g b)
@@ -77,7 +77,7 @@ short r = short-by (r .pair)
 pub room : {m : Machine Answer Driver} → Roomy m → Room (m .st .wakes)
 room r = rw (r .pair .driver) (r .pair .fits .room)
 
-rooms-by : {x : Told} {n : Machine Answer Heard} → Kept x → Pair (x .1) n → Rooms x
+rooms-by : {x : Told} {n : Machine Answer Heard} → RoomsKept x → Pair (x .1) n → Rooms x
 rooms-by {x} {n} k p = record { answer = few (x .0) _ (k .answer) (short-by p); machine = record { heard = n; pair = p; goes = k .goes } }
 
 pub rooms : (c : Call Config Op) {m : Machine Answer Driver} → Roomy m → (b : Buf) → Rooms (drive c m b)
@@ -87,7 +87,7 @@ rooms c {m} r b = rooms-by (keeps c m (r .goes) b) (steps c m (r .heard) (r .pai
 pub start-rooms : (c : Config) (b : Buf) → startRow c b ≡ zero → (m : Machine Answer Driver) → Rooms (drive (start c) m b)
 start-rooms c b row m = rooms-by (by (startRow c b) row) (from-start c b row m none .pair)
   where
-    by : (n : ℕ) → n ≡ zero → Kept (started calls driverOf (λ s. s) c n m b)
+    by : (n : ℕ) → n ≡ zero → RoomsKept (started calls driverOf (λ s. s) c n m b)
     by zero e = halts false (start-up-gives c .on (driverOf .fresh c, b))
     by (suc n) e = absurd (omega (arith, e))
 

@@ -106,14 +106,14 @@ clear-endpoint inside d h e = both-true inside (isClear (getD d 2 0)) (rw e at h
 -- ---- one step along a row
 
 -- a row that has a descriptor: n is one more than what the rest needs
-pub record Step (n : ℕ) (inside : Bool) (d : List ℕ) : Type 0 where
+pub record RowStep (n : ℕ) (inside : Bool) (d : List ℕ) : Type 0 where
   pub left : ℕ
   pub one : n ≡ suc left
   pub first : whole d ≡ true
   pub may : allowed inside d ≡ true
   pub rest : isRow left (entered inside d) (next d) ≡ true
 
-pub step : (n : ℕ) (inside : Bool) (d : List ℕ) → 0 < length d → isRow n inside d ≡ true → Step n inside d
+pub step : (n : ℕ) (inside : Bool) (d : List ℕ) → 0 < length d → isRow n inside d ≡ true → RowStep n inside d
 unfolding isRow
 step zero inside d l h = absurd (omega (arith, eqb-true (length d) 0 h))
 step (suc n) inside [] l h = absurd (omega arith)
