@@ -138,7 +138,8 @@ not-allocates : (b : Bool) → not b ≡ true → b ≡ false
 not-allocates true h = absurd (true≢false (sym h))
 not-allocates false h = refl
 
-pub keeps-run : {i : Bool} {A : Type 0} (x : ℕ) (p : Script i A) → ChangesOnly passing x p → (s : St) → At x s → Throughout (At x) (Gives x p) (run concrete p s)
+pub keeps-run : {i : Bool} {A : Type 0} (x : ℕ) (p : Script i A) → ChangesOnly passing x p → (s : St) → At x s
+    → Throughout (At x) (Gives x p) (run concrete p s)
 keeps-run x (ret a) h s k = at-end k refl
 keeps-run x (bind p f) h s k = through-bind (keeps-run x p (h .0) s k) (λ a t l g. through-more (keeps-run x (f a) (h .1 a g) t l) (λ b w. tt))
 keeps-run x (test b p q) h s k = through-cond b (through-more (keeps-run x p (h .0) s k) (λ a w. tt)) (through-more (keeps-run x q (h .1) s k) (λ a w. tt))

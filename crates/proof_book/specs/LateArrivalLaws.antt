@@ -140,7 +140,8 @@ module _ (e k : ℕ) (packet : List ℕ) where
       )
 
   -- any bytes, a start-up that rows 1 and 2 do not stop, and then any calls of demand 3's premise and Eight's
-  pub late-arrivals : (c : Config) (b : Buf) → startRow c b ≡ zero → (xs : List ℕ) (a : Buf) (n : Machine Answer Pages) (y : Machine Answer WatchedBook) (first : Made)
+  pub late-arrivals : (c : Config) (b : Buf) → startRow c b ≡ zero → (xs : List ℕ) (a : Buf) (n : Machine Answer Pages)
+      (y : Machine Answer WatchedBook) (first : Made)
       → first .event ≡ record { call = start c; lent = b } → (ms : List Made) → page.Calls xs a n (first ∷ ms)
       → let z = started calls (watched e .driver) (fed (watched e) (first .answer)) c zero y b in
       RunLent e k packet (first .bytes) (first .slots) (z .1) ms → (f : Known)

@@ -64,7 +64,8 @@ Followed i v vs l r l′ m (k ∷ ks) =
 
 -- the interrupt's begin by driver i, and those that bring the readings. The begin brings neither the slot buffer nor the record: as with the begin alone
 -- (`IsStep`, Steps.antt) both stay as they stand then, b and what was lent
-pub record InterruptSteps (i : ℕ) (v : Reading) (vs : List Reading) (l : Lent) (a b : Buf) (r : Step) (l′ : Lent) (first : MadeShared) (further : List MadeShared)
+pub record InterruptSteps (i : ℕ) (v : Reading) (vs : List Reading) (l : Lent) (a b : Buf) (r : Step) (l′ : Lent) (first : MadeShared)
+    (further : List MadeShared)
     : Type 0 where
   pub called : first .event ≡ event (begin interrupt) b
   pub before : first .before ≡ l .time

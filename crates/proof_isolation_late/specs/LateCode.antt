@@ -9,7 +9,8 @@ use Rattle.model.specs.Machine.{go, Ans}
 use Rattle.proof_isolation.specs.EqualExcept.{Channel}
 use Rattle.proof_isolation.specs.Standing.{At}
 use Rattle.proof_isolation.specs.StandingLaws.{at-time}
-use Rattle.proof_isolation.specs.Code.{Left, Held, Pair, runOf, twoOf, CallStep, heard, TurnStep, next, SessionMade, sessionOf, openedBy, afterSteps, DidStep, DidSteps}
+use Rattle.proof_isolation.specs.Code.{Left, Held, Pair, runOf, twoOf, CallStep, heard, TurnStep, next, SessionMade, sessionOf, openedBy, afterSteps}
+use Rattle.proof_isolation.specs.Code.{DidStep, DidSteps}
 use Rattle.proof_isolation.specs.Code.{EveryStep, Begun}
 use Rattle.proof_isolation.specs.Code.{heard-is, next-by, code-every, opened-is, begun-at}
 use Rattle.proof_isolation_late.specs.Late as late
@@ -225,7 +226,8 @@ module _ (share : Bool) (n : ℕ) where
       (subst (FreeBoth c share n) e (later-free c share n (laterOf s) (twoOf w) f)) (d .2) in
       ((heard-made c s w (d .0) (y .heard), subst (AfterLate c share n (laterOf s)) e (y .after-it), z .0), z .1)
 
-  steps-free : (c : Channel) (ss : List TurnStep) (w : Pair) → FreeBoth c share n (twoOf w) → DidSteps share n c ss w → FreeBoth c share n (twoOf (afterSteps ss w))
+  steps-free : (c : Channel) (ss : List TurnStep) (w : Pair) → FreeBoth c share n (twoOf w) → DidSteps share n c ss w
+      → FreeBoth c share n (twoOf (afterSteps ss w))
   steps-free c [] w f d = f
   steps-free c (s ∷ ss) w f d =
       steps-free c ss (next s w) (subst (FreeBoth c share n) (sym (next-by share n (s .turn) (s .first) (s .second) w (d .0)))

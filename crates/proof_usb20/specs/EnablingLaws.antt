@@ -34,7 +34,8 @@ use Rattle.model_ops.specs.Rings.{St, slotStep, armAt, renewedOn, typeStep, con
 use Rattle.model_ops.specs.Concrete.{concrete}
 use Rattle.proof_book.specs.TransferKindsLaws.{act-steady, row-steady}
 use Rattle.proof_usb20.specs.Sequence as log
-use Rattle.proof_usb20.specs.Sequence.{Track, off, withPhase, own, saw, armsAt, Writing, written, withWord, unwritten-yet, Restarts, Acks, wrote, LeavesWord}
+use Rattle.proof_usb20.specs.Sequence.{Track, off, withPhase, own, saw, armsAt, Writing, written, withWord, unwritten-yet, Restarts, Acks, wrote}
+use Rattle.proof_usb20.specs.Sequence.{LeavesWord}
 use Rattle.proof_usb20.specs.FollowLaws as follow
 use Rattle.proof_usb20.specs.Follow as following
 use Rattle.proof_usb20.specs.Follow.{EpSeen, FitsAs, Fits, view, Follow, Ends, Law}

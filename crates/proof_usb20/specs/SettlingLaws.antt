@@ -30,7 +30,8 @@ use Rattle.proof_usb20.specs.FollowLaws as follow
 use Rattle.proof_usb20.specs.Follow as following
 use Rattle.proof_usb20.specs.Follow.{EpSeen, view, Follow}
 use Rattle.proof_usb20.specs.Watch.{at-end, at-ask}
-use Rattle.proof_usb20.specs.CalmLaws.{Else, CalmKept, Hears, kept-by, hears-same, hears-then, Quiet, q-bind, q-got, q-read, q-ret, q-test, q-when, q-write}
+use Rattle.proof_usb20.specs.CalmLaws.{Else, CalmKept, Hears, kept-by, hears-same, hears-then, Quiet, q-bind, q-got, q-read, q-ret, q-test, q-when}
+use Rattle.proof_usb20.specs.CalmLaws.{q-write}
 use Rattle.proof_usb20.specs.ReadingLaws.{Own, own-true, got}
 use Rattle.proof_usb20.specs.JudgingLaws.{back}
 

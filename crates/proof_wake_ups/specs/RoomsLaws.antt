@@ -44,7 +44,8 @@ begins o m g rests b = halts (calls .irq o) (gives o .on (m .st, b))
 begins o m g (works {i = i} k) b = either (cond i (calls .aside o) false)
     (besides (lentTo calls driverOf m b) g (gives o .on (m .st, b))) (stays 3 (lentTo calls driverOf m b) g)
 
-continues : (v : ℕ) (m : Machine Answer Driver) {w : Way Answer Driver} → Goes (m .way) → Goes w → (b : Buf) → RoomsKept (continued calls driverOf (λ s. s) v m w b)
+continues : (v : ℕ) (m : Machine Answer Driver) {w : Way Answer Driver} → Goes (m .way) → Goes w → (b : Buf)
+    → RoomsKept (continued calls driverOf (λ s. s) v m w b)
 continues v m g rests b = stays 15 (lentTo calls driverOf m b) g
 continues v m g (works {i = i} {q = q} k) b = either (over calls q v) (stays 16 (lentTo calls driverOf m b) g) (halts i (k v (m .st, b)))
 
