@@ -55,12 +55,12 @@ abbrev pub busy-next : Transfer → Bool → SettleNext
 busy-next x true = settle-next.Asks (Read MisSt 0) settle-point.Mis
 busy-next x false = settle-next.Ends x
 
-pub settle-busy : (x : Transfer) (d : Driver) (b : List ℕ) (e : ℕ) (o n : EpState) (u y a : Bool) → e ≡ endpoint (x .st)
+pub settle-busy : (x : Transfer) (d : Driver) (e : ℕ) (o n : EpState) (u y a : Bool) → e ≡ endpoint (x .st)
     → o ≡ epOn d Out e → u ≡ waitsForIso x (plainOf o) → u ≡ false → n ≡ epOn d In e → y ≡ waitsForBulk x (plainOf n) → y ≡ false → x .busy ≡ a
-    → settle.meaning x (busy-next x a) d b ≡ run concrete (script.settle {i = true} x) (d, b)
+    → ((b : List ℕ) → settle.meaning x (busy-next x a) d b ≡ run concrete (script.settle {i = true} x) (d, b)) × settle.Linked (busy-next x a)
 unfolding settle.afterMis settle.afterFlags settle.afterSt
-settle-busy x d b e o n u y true he ho hu lu hn hy ly lb = simp (← he, ← ho, ← hu, lu, ← hn, ← hy, ly, lb)
-settle-busy x d b e o n u y false he ho hu lu hn hy ly lb = simp (← he, ← ho, ← hu, lu, ← hn, ← hy, ly, lb)
+settle-busy x d e o n u y true he ho hu lu hn hy ly lb = (λ b. simp (← he, ← ho, ← hu, lu, ← hn, ← hy, ly, lb), refl)
+settle-busy x d e o n u y false he ho hu lu hn hy ly lb = (λ b. simp (← he, ← ho, ← hu, lu, ← hn, ← hy, ly, lb), tt)
 
 -- ---- the rest f after `nak_non_iso`
 

@@ -53,20 +53,16 @@ returns-2 c = (
 returns-3 : tie.Need-returns-3
 returns-3 c =
     let bulk = c .before .before in
-    let iso = bulk .before .before .before in (
-      λ b. settle-busy _ _ b _ _ _ _ _ true (iso .before .before .endpoint .ensures) (iso .before .load-ep .ensures) (iso .waits-for-iso .ensures)
-          (bulk .before .before .if1 .left) (bulk .before .load-ep2 .ensures) (bulk .waits-for-bulk .ensures) (c .before .if2 .left) (c .if3 .taken),
-      refl,
-    )
+    let iso = bulk .before .before .before in
+    settle-busy _ _ _ _ _ _ _ true (iso .before .before .endpoint .ensures) (iso .before .load-ep .ensures) (iso .waits-for-iso .ensures)
+    (bulk .before .before .if1 .left) (bulk .before .load-ep2 .ensures) (bulk .waits-for-bulk .ensures) (c .before .if2 .left) (c .if3 .taken)
 
 returns-4 : tie.Need-returns-4
 returns-4 c =
     let bulk = c .before .before in
-    let iso = bulk .before .before .before in (
-      λ b. settle-busy _ _ b _ _ _ _ _ false (iso .before .before .endpoint .ensures) (iso .before .load-ep .ensures) (iso .waits-for-iso .ensures)
-          (bulk .before .before .if1 .left) (bulk .before .load-ep2 .ensures) (bulk .waits-for-bulk .ensures) (c .before .if2 .left) (c .if3 .left),
-      tt,
-    )
+    let iso = bulk .before .before .before in
+    settle-busy _ _ _ _ _ _ _ false (iso .before .before .endpoint .ensures) (iso .before .load-ep .ensures) (iso .waits-for-iso .ensures)
+    (bulk .before .before .if1 .left) (bulk .before .load-ep2 .ensures) (bulk .waits-for-bulk .ensures) (c .before .if2 .left) (c .if3 .left)
 
 pub begin-spec : {M : Type 1} → statement M
 begin-spec =
