@@ -7,7 +7,7 @@ use native.Mathlib.Omega.{arith}
 use borrow.Author.Tests.{lt-ltb, ltb-true}
 use Rattle.regs.specs.declared.Access.{Access}
 use Rattle.regs.specs.declared.Access.the-variants.{Read}
-use Rattle.regs.specs.declared.Reg.the-variants.{EpTxCtrl}
+use Rattle.regs.specs.declared.Reg.the-variants.{MisSt, EpTxCtrl}
 use Rattle.regs.specs.declared.Dir.{Dir}
 use Rattle.regs.specs.declared.Dir.the-variants.{Out, In}
 use Rattle.regs.specs.Registers.{ctrlOf, widthOf, fitsIn}
@@ -19,7 +19,8 @@ use Rattle.model.specs.Tree as tree
 use Rattle.model.specs.Tree.{asks, ends, bindOut}
 use Rattle.model.specs.Script.{run}
 use Rattle.model.specs.Machine.{awaited}
-use Rattle.model.specs.Handler.{nakNonIso, outNaks, inNaks, retaken}
+use Rattle.model.specs.Handler as script
+use Rattle.model.specs.Handler.{nakNonIso, outNaks, inNaks, waitsForIso, waitsForBulk, retaken}
 use Rattle.model_ops.specs.Records.{plainOf}
 use Rattle.model_ops.specs.Rings.{St}
 use Rattle.model_ops.specs.Concrete.{concrete}
@@ -29,6 +30,9 @@ use Rattle.irq_transfer.specs.declared.nak.NakNext.{NakNext}
 use Rattle.irq_transfer.specs.declared.nak.NakNext.the-variants as nak-next
 use Rattle.irq_transfer.specs.declared.toggled.Toggled.{Toggled}
 use Rattle.irq_transfer.specs.declared.settle.Settle.{Settle}
+use Rattle.irq_transfer.specs.declared.settle.Settle.the-variants as settle-point
+use Rattle.irq_transfer.specs.declared.settle.SettleNext.{SettleNext}
+use Rattle.irq_transfer.specs.declared.settle.SettleNext.the-variants as settle-next
 use Rattle.irq_transfer.specs.Nak as nak
 use Rattle.irq_transfer.specs.Toggled as toggled
 use Rattle.irq_transfer.specs.Settle as settle
@@ -44,6 +48,19 @@ pub nak-in : (st : ℕ) (d : Driver) (b : List ℕ) (e : ℕ) (o n : EpState) (x
     → nak.meaning st (in-next e a) d b ≡ run concrete (nakNonIso {i = true} st) (d, b)
 nak-in st d b e o n x y true he ho hx lx hn hy ly = simp (← he, ← ho, ← hx, lx, ← hn, ← hy, ly)
 nak-in st d b e o n x y false he ho hx lx hn hy ly = simp (← he, ← ho, ← hx, lx, ← hn, ← hy, ly)
+
+-- ---- a transfer that waits for nothing: by whether it was on the bus
+
+abbrev pub busy-next : Transfer → Bool → SettleNext
+busy-next x true = settle-next.Asks (Read MisSt 0) settle-point.Mis
+busy-next x false = settle-next.Ends x
+
+pub settle-busy : (x : Transfer) (d : Driver) (e : ℕ) (o n : EpState) (u y a : Bool) → e ≡ endpoint (x .st)
+    → o ≡ epOn d Out e → u ≡ waitsForIso x (plainOf o) → u ≡ false → n ≡ epOn d In e → y ≡ waitsForBulk x (plainOf n) → y ≡ false → x .busy ≡ a
+    → ((b : List ℕ) → settle.meaning x (busy-next x a) d b ≡ run concrete (script.settle {i = true} x) (d, b)) × settle.Linked (busy-next x a)
+unfolding settle.afterMis settle.afterFlags settle.afterSt
+settle-busy x d e o n u y true he ho hu lu hn hy ly lb = (λ b. simp (← he, ← ho, ← hu, lu, ← hn, ← hy, ly, lb), refl)
+settle-busy x d e o n u y false he ho hu lu hn hy ly lb = (λ b. simp (← he, ← ho, ← hu, lu, ← hn, ← hy, ly, lb), tt)
 
 -- ---- the rest f after `nak_non_iso`
 

@@ -1,6 +1,7 @@
-use Rattle.irq_transfer.specs.Settle.{afterFlags, afterMis, afterSt}
 use Rattle.irq_transfer.specs.WaitLaws.{wait-begun}
 use mathlib.Core.Path.{refl}
+use mathlib.Core.Bool.{true, false}
+use Rattle.irq_transfer.specs.Laws.{settle-busy}
 use borrow.Author.Needs.{needs}
 use Rattle.irq_transfer.proofs.settle.begin.Statement.{statement}
 use Rattle.irq_transfer.proofs.settle.begin.Tie as tie
@@ -50,35 +51,18 @@ returns-2 c = (
 )
 
 returns-3 : tie.Need-returns-3
-unfolding afterMis afterFlags afterSt
-returns-3 c = (
-  λ b. simp (
-    ← c .before .before .before .before .before .before .before .endpoint .ensures,
-    ← c .before .before .before .before .before .before .load-ep .ensures,
-    ← c .before .before .before .before .before .waits-for-iso .ensures,
-    c .before .before .before .before .if1 .left,
-    ← c .before .before .before .load-ep2 .ensures,
-    ← c .before .before .waits-for-bulk .ensures,
-    c .before .if2 .left,
-    c .if3 .taken,
-  ),
-  refl,
-)
+returns-3 c =
+    let bulk = c .before .before in
+    let iso = bulk .before .before .before in
+    settle-busy _ _ _ _ _ _ _ true (iso .before .before .endpoint .ensures) (iso .before .load-ep .ensures) (iso .waits-for-iso .ensures)
+    (bulk .before .before .if1 .left) (bulk .before .load-ep2 .ensures) (bulk .waits-for-bulk .ensures) (c .before .if2 .left) (c .if3 .taken)
 
 returns-4 : tie.Need-returns-4
-returns-4 c = (
-  λ b. simp (
-    ← c .before .before .before .before .before .before .before .endpoint .ensures,
-    ← c .before .before .before .before .before .before .load-ep .ensures,
-    ← c .before .before .before .before .before .waits-for-iso .ensures,
-    c .before .before .before .before .if1 .left,
-    ← c .before .before .before .load-ep2 .ensures,
-    ← c .before .before .waits-for-bulk .ensures,
-    c .before .if2 .left,
-    c .if3 .left,
-  ),
-  tt,
-)
+returns-4 c =
+    let bulk = c .before .before in
+    let iso = bulk .before .before .before in
+    settle-busy _ _ _ _ _ _ _ false (iso .before .before .endpoint .ensures) (iso .before .load-ep .ensures) (iso .waits-for-iso .ensures)
+    (bulk .before .before .if1 .left) (bulk .before .load-ep2 .ensures) (bulk .waits-for-bulk .ensures) (c .before .if2 .left) (c .if3 .left)
 
 pub begin-spec : {M : Type 1} → statement M
 begin-spec =
