@@ -61,16 +61,5 @@ returns-3 c = simp (
 
 pub alloc-endpoint-spec : {M : Type 1} → statement M
 alloc-endpoint-spec =
-    tie.close
-    (tie.spec
-    cast-if1
-    refused-requires
-    returns
-    is-iso-requires
-    find-requires
-    enum-told
-    refused-requires-2
-    enum-known-found
-    buffered-requires
-    returns-2
-    returns-3)
+    tie.close (tie.spec cast-if1 refused-requires returns is-iso-requires find-requires enum-told refused-requires-2 enum-known-found
+    buffered-requires returns-2 returns-3)

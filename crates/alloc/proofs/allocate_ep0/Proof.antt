@@ -60,18 +60,5 @@ returns-4 c = simp (
 
 pub allocate-ep0-spec : {M : Type 1} → statement M
 allocate-ep0-spec =
-    tie.close
-    (tie.spec
-    refused-requires
-    returns
-    cast-if2
-    refused-requires-2
-    returns-2
-    refused-requires-3
-    returns-3
-    cast-base
-    cast-base-2
-    mul-base
-    add-with-next
-    with-next-requires
-    returns-4)
+    tie.close (tie.spec refused-requires returns cast-if2 refused-requires-2 returns-2 refused-requires-3 returns-3 cast-base cast-base-2 mul-base
+    add-with-next with-next-requires returns-4)

@@ -62,18 +62,5 @@ returns-2 c =
 
 pub buffered-spec : {M : Type 1} → statement M
 buffered-spec =
-    tie.close
-    (tie.spec
-    slots-requires
-    end-requires
-    cast-if1
-    refused-requires
-    returns
-    cast-base
-    cast-base-2
-    mul-base
-    taken-requires
-    cast-with-next
-    with-next-requires
-    with-allocated-requires
-    returns-2)
+    tie.close (tie.spec slots-requires end-requires cast-if1 refused-requires returns cast-base cast-base-2 mul-base taken-requires cast-with-next
+    with-next-requires with-allocated-requires returns-2)

@@ -72,16 +72,4 @@ returns c =
 
 pub allocate-each-spec : {M : Type 1} → statement M
 allocate-each-spec =
-    tie.close
-    (tie.spec
-    Inv-loop
-    μ-loop
-    count-requires
-    loop-holds
-    mul-e
-    element-copy-out-e
-    allocate-one-requires
-    add-i
-    loop-less
-    loop-again
-    returns)
+    tie.close (tie.spec Inv-loop μ-loop count-requires loop-holds mul-e element-copy-out-e allocate-one-requires add-i loop-less loop-again returns)

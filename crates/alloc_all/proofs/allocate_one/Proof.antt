@@ -28,12 +28,4 @@ unfolding oneOn
 returns c = (c .allocate .ensures .1 .0 ∙ simp (c .before .before .before .before .direction .ensures), c .allocate .ensures .1 .1)
 
 pub allocate-one-spec : {M : Type 1} → statement M
-allocate-one-spec =
-    tie.close
-    (tie.spec
-    direction-requires
-    cast-allocate
-    cast-allocate-2
-    cast-allocate-3
-    allocate-requires
-    returns)
+allocate-one-spec = tie.close (tie.spec direction-requires cast-allocate cast-allocate-2 cast-allocate-3 allocate-requires returns)

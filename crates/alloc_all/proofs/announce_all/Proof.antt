@@ -56,15 +56,4 @@ returns-2 c =
     )
 
 pub announce-all-spec : {M : Type 1} → statement M
-announce-all-spec =
-    tie.close
-    (tie.spec
-    count-requires
-    returns
-    element-copy-out-e
-    sub-first
-    cast-first
-    cast-first-2
-    direction-requires
-    first-requires
-    returns-2)
+announce-all-spec = tie.close (tie.spec count-requires returns element-copy-out-e sub-first cast-first cast-first-2 direction-requires first-requires returns-2)

@@ -157,48 +157,8 @@ returns c = search needs
 
 pub run-spec : {M : Type 1} → statement M
 run-spec =
-    tie.close
-    (tie.spec
-    Inv-loop2
-    μ-loop2
-    Inv-loop
-    μ-loop
-    usbhs-card-new-requires
-    usbhs-card-new-requires-2
-    loop-holds
-    sub-left
-    entry-at-requires
-    number-requires
-    store-requires
-    store-requires-2
-    sent-requires
-    loop2-holds
-    sub-times
-    made-requires
-    wrapping-add-u32-requires
-    wrapping-add-u32-requires-2
-    told-requires
-    kept-requires
-    kept-requires-2
-    loop2-less
-    loop2-again
-    loop2-less-2
-    loop2-again-2
-    changed-requires
-    loop-less
-    loop-again
-    loop-less-2
-    loop-again-2
-    say-requires
-    slice-aggregate-print
-    print-requires
-    say-requires-2
-    slice-aggregate-print-2
-    print-requires-2
-    slice-aggregate-summed
-    summed-requires
-    slice-aggregate-export
-    export-requires
-    slice-aggregate-export-2
-    export-requires-2
-    returns)
+    tie.close (tie.spec Inv-loop2 μ-loop2 Inv-loop μ-loop usbhs-card-new-requires usbhs-card-new-requires-2 loop-holds sub-left entry-at-requires
+    number-requires store-requires store-requires-2 sent-requires loop2-holds sub-times made-requires wrapping-add-u32-requires
+    wrapping-add-u32-requires-2 told-requires kept-requires kept-requires-2 loop2-less loop2-again loop2-less-2 loop2-again-2 changed-requires
+    loop-less loop-again loop-less-2 loop-again-2 say-requires slice-aggregate-print print-requires say-requires-2 slice-aggregate-print-2
+    print-requires-2 slice-aggregate-summed summed-requires slice-aggregate-export export-requires slice-aggregate-export-2 export-requires-2 returns)

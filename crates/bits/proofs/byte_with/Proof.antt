@@ -20,5 +20,4 @@ returns-2 : tie.Need-returns-2
 returns-2 c = rw (c .if1 .left) (clears 8 (c .before .args .byte) (c .before .args .bit % 8) (c .before .fits .byte .fits) (omega arith))
 
 pub byte-with-spec : {M : Type 1} → statement M
-byte-with-spec =
-    tie.close (tie.spec shl-result shl-result-2 returns returns-2)
+byte-with-spec = tie.close (tie.spec shl-result shl-result-2 returns returns-2)

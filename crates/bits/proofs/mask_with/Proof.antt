@@ -26,5 +26,4 @@ returns-2 : tie.Need-returns-2
 returns-2 c = rw (c .if1 .left) (clears 16 (c .before .args .mask) (c .before .args .endpoint % 16) (c .before .fits .mask .fits) (omega arith))
 
 pub mask-with-spec : {M : Type 1} → statement M
-mask-with-spec =
-    tie.close (tie.spec cast-result shl-result cast-result-2 shl-result-2 returns returns-2)
+mask-with-spec = tie.close (tie.spec cast-result shl-result cast-result-2 shl-result-2 returns returns-2)

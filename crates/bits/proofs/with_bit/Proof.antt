@@ -26,5 +26,4 @@ returns-2 : tie.Need-returns-2
 returns-2 c = rw (c .if1 .left) (clears 32 (c .before .args .word) (c .before .args .bit % 32) (c .before .fits .word .fits) (omega arith))
 
 pub with-bit-spec : {M : Type 1} → statement M
-with-bit-spec =
-    tie.close (tie.spec cast-result shl-result cast-result-2 shl-result-2 returns returns-2)
+with-bit-spec = tie.close (tie.spec cast-result shl-result cast-result-2 shl-result-2 returns returns-2)

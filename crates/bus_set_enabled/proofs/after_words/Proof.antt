@@ -29,6 +29,4 @@ returns c = (
 )
 
 pub after-words-spec : {M : Type 1} → statement M
-after-words-spec =
-    tie.close
-    (tie.spec load-globals-requires both-requires with-on-requires set-ep-type-requires returns)
+after-words-spec = tie.close (tie.spec load-globals-requires both-requires with-on-requires set-ep-type-requires returns)

@@ -61,15 +61,5 @@ returns-3 c = (
 
 pub endpoint-set-enabled-spec : {M : Type 1} → statement M
 endpoint-set-enabled-spec =
-    tie.close
-    (tie.spec
-    enum-told
-    iso-out-requires
-    after-switch-requires
-    same-length
-    returns
-    set-enabled-out-requires
-    enum-told-2
-    set-enabled-in-requires
-    returns-2
-    returns-3)
+    tie.close (tie.spec enum-told iso-out-requires after-switch-requires same-length returns set-enabled-out-requires enum-told-2
+    set-enabled-in-requires returns-2 returns-3)

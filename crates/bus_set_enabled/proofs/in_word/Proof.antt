@@ -18,5 +18,4 @@ returns-2 : tie.Need-returns-2
 returns-2 c = simp (c .word-of2 .ensures, ← c .before .before .both .ensures, c .before .if1 .left)
 
 pub in-word-spec : {M : Type 1} → statement M
-in-word-spec =
-    tie.close (tie.spec both-requires word-of-requires returns word-of-requires-2 returns-2)
+in-word-spec = tie.close (tie.spec both-requires word-of-requires returns word-of-requires-2 returns-2)

@@ -40,12 +40,4 @@ returns c = (
 )
 
 pub set-enabled-in-spec : {M : Type 1} → statement M
-set-enabled-in-spec =
-    tie.close
-    (tie.spec
-    load-ep-requires
-    is-on-requires
-    renew-requires
-    store-paced-requires
-    place-requires
-    returns)
+set-enabled-in-spec = tie.close (tie.spec load-ep-requires is-on-requires renew-requires store-paced-requires place-requires returns)

@@ -33,12 +33,4 @@ returns-2 c = (
 )
 
 pub after-restart-spec : {M : Type 1} → statement M
-after-restart-spec =
-    tie.close
-    (tie.spec
-    wake-requires
-    returns
-    load-ep-requires
-    store-ep-requires
-    wake-requires-2
-    returns-2)
+after-restart-spec = tie.close (tie.spec wake-requires returns load-ep-requires store-ep-requires wake-requires-2 returns-2)

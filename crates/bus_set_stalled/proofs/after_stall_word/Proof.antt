@@ -21,5 +21,4 @@ unfolding afterStallWord
 returns c = (λ d b. simp (c .ctrl-of .ensures, c .before .stall .ensures, c .before .before .byte .ensures), refl)
 
 pub after-stall-word-spec : {M : Type 1} → statement M
-after-stall-word-spec =
-    tie.close (tie.spec byte-requires stall-requires ctrl-of-requires cast-t7 returns)
+after-stall-word-spec = tie.close (tie.spec byte-requires stall-requires ctrl-of-requires cast-t7 returns)

@@ -32,12 +32,4 @@ returns c = (
 )
 
 pub restart-in-spec : {M : Type 1} → statement M
-restart-in-spec =
-    tie.close
-    (tie.spec
-    load-ep-requires
-    restarted-in-requires
-    is-on-requires
-    store-ep-requires
-    cast-t12
-    returns)
+restart-in-spec = tie.close (tie.spec load-ep-requires restarted-in-requires is-on-requires store-ep-requires cast-t12 returns)

@@ -24,5 +24,4 @@ returns c = (
 )
 
 pub restart-out-spec : {M : Type 1} → statement M
-restart-out-spec =
-    tie.close (tie.spec load-ep-requires restarted-out-requires store-ep-requires cast-t11 returns)
+restart-out-spec = tie.close (tie.spec load-ep-requires restarted-out-requires store-ep-requires cast-t11 returns)

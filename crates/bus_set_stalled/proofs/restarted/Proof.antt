@@ -22,5 +22,4 @@ unfolding restarted
 returns-2 c = simp (c .word-of2 .ensures, ← c .before .before .is-on .ensures, c .before .if1 .left, and-yes)
 
 pub restarted-spec : {M : Type 1} → statement M
-restarted-spec =
-    tie.close (tie.spec is-on-requires word-of-requires returns word-of-requires-2 returns-2)
+restarted-spec = tie.close (tie.spec is-on-requires word-of-requires returns word-of-requires-2 returns-2)

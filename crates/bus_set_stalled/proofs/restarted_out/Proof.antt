@@ -21,5 +21,4 @@ unfolding restartedOut
 returns-2 c = simp (c .restarted2 .ensures, ← c .before .before .is-on .ensures, c .before .if1 .left)
 
 pub restarted-out-spec : {M : Type 1} → statement M
-restarted-out-spec =
-    tie.close (tie.spec is-on-requires restarted-requires returns restarted-requires-2 returns-2)
+restarted-out-spec = tie.close (tie.spec is-on-requires restarted-requires returns restarted-requires-2 returns-2)

@@ -37,14 +37,4 @@ returns-4 c = (
 )
 
 pub set-endpoint-stalled-spec : {M : Type 1} → statement M
-set-endpoint-stalled-spec =
-    tie.close
-    (tie.spec
-    enum-told
-    returns
-    restart-out-requires
-    enum-told-2
-    returns-2
-    restart-in-requires
-    returns-3
-    returns-4)
+set-endpoint-stalled-spec = tie.close (tie.spec enum-told returns restart-out-requires enum-told-2 returns-2 restart-in-requires returns-3 returns-4)

@@ -43,17 +43,5 @@ returns-4 c = simp (ne-eqb _ _ (c .match .rest .1), ne-eqb _ _ (c .match .rest .
 
 pub access-of-spec : {M : Type 1} → statement M
 access-of-spec =
-    tie.close
-    (tie.spec
-    low-byte-requires
-    register-of-requires
-    low-byte-requires-2
-    low-byte-requires-3
-    low-byte-requires-4
-    high-word-requires
-    write-of-requires
-    low-byte-requires-5
-    returns
-    returns-2
-    returns-3
-    returns-4)
+    tie.close (tie.spec low-byte-requires register-of-requires low-byte-requires-2 low-byte-requires-3 low-byte-requires-4 high-word-requires
+    write-of-requires low-byte-requires-5 returns returns-2 returns-3 returns-4)

@@ -89,19 +89,5 @@ returns-6 c =
 
 pub step-of-spec : {M : Type 1} → statement M
 step-of-spec =
-    tie.close
-    (tie.spec
-    kind-of-requires
-    low-byte-requires
-    low-half-requires
-    low-byte-requires-2
-    low-half-requires-2
-    access-of-requires
-    high-word-requires
-    low-half-requires-3
-    returns
-    returns-2
-    returns-3
-    returns-4
-    returns-5
-    returns-6)
+    tie.close (tie.spec kind-of-requires low-byte-requires low-half-requires low-byte-requires-2 low-half-requires-2 access-of-requires
+    high-word-requires low-half-requires-3 returns returns-2 returns-3 returns-4 returns-5 returns-6)

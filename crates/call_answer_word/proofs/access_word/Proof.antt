@@ -93,29 +93,6 @@ returns-7 c = access-says _ _ _ (c .enum-told .given .1) tt refl
 
 pub access-word-spec : {M : Type 1} → statement M
 access-word-spec =
-    tie.close
-    (tie.spec
-    enum-known-q
-    number-requires
-    read-word-requires
-    enum-known-q-2
-    number-requires-2
-    write-word-requires
-    enum-known-q-3
-    write-word-requires-2
-    enum-known-q-4
-    write-word-requires-3
-    enum-known-q-5
-    write-word-requires-4
-    enum-known-q-6
-    cast-result
-    mul-result
-    add-result
-    enum-told
-    returns
-    returns-2
-    returns-3
-    returns-4
-    returns-5
-    returns-6
-    returns-7)
+    tie.close (tie.spec enum-known-q number-requires read-word-requires enum-known-q-2 number-requires-2 write-word-requires enum-known-q-3
+    write-word-requires-2 enum-known-q-4 write-word-requires-3 enum-known-q-5 write-word-requires-4 enum-known-q-6 cast-result mul-result add-result
+    enum-told returns returns-2 returns-3 returns-4 returns-5 returns-6 returns-7)

@@ -40,15 +40,5 @@ returns-3 c = c .access-word .ensures
 
 pub continue-access-word-spec : {M : Type 1} → statement M
 continue-access-word-spec =
-    tie.close
-    (tie.spec
-    enum-known-q
-    number-requires
-    read-word-requires
-    enum-known-q-2
-    number-requires-2
-    write-word-requires
-    access-word-requires
-    returns
-    returns-2
-    returns-3)
+    tie.close (tie.spec enum-known-q number-requires read-word-requires enum-known-q-2 number-requires-2 write-word-requires access-word-requires
+    returns returns-2 returns-3)

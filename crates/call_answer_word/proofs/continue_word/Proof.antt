@@ -32,13 +32,4 @@ returns-3 c = c .word-of .ensures
 
 pub continue-word-spec : {M : Type 1} → statement M
 continue-word-spec =
-    tie.close
-    (tie.spec
-    enum-known-step
-    continue-access-word-requires
-    enum-known-step-2
-    end-word-requires
-    word-of-requires
-    returns
-    returns-2
-    returns-3)
+    tie.close (tie.spec enum-known-step continue-access-word-requires enum-known-step-2 end-word-requires word-of-requires returns returns-2 returns-3)

@@ -23,11 +23,4 @@ unfolding endWord
 returns c = (omega arith, (search needs, search needs))
 
 pub end-word-spec : {M : Type 1} → statement M
-end-word-spec =
-    tie.close
-    (tie.spec
-    mul-result
-    add-result
-    mul-result-2
-    add-result-2
-    returns)
+end-word-spec = tie.close (tie.spec mul-result add-result mul-result-2 add-result-2 returns)

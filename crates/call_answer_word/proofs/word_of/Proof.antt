@@ -83,26 +83,6 @@ returns-7 c = says _ _ _ (c .before .before .step6 .given .1) (search needs, sea
 
 pub word-of-spec : {M : Type 1} → statement M
 word-of-spec =
-    tie.close
-    (tie.spec
-    enum-known-step
-    cast-result
-    mul-result
-    enum-known-step-2
-    access-word-requires
-    enum-known-step-3
-    end-word-requires
-    enum-told
-    enum-known-step-4
-    done-word-requires
-    enum-known-step-5
-    done-word-requires-2
-    enum-known-step-6
-    shown-word-requires
-    returns
-    returns-2
-    returns-3
-    returns-4
-    returns-5
-    returns-6
-    returns-7)
+    tie.close (tie.spec enum-known-step cast-result mul-result enum-known-step-2 access-word-requires enum-known-step-3 end-word-requires enum-told
+    enum-known-step-4 done-word-requires enum-known-step-5 done-word-requires-2 enum-known-step-6 shown-word-requires returns returns-2 returns-3
+    returns-4 returns-5 returns-6 returns-7)

@@ -36,12 +36,4 @@ returns-2 c =
     )
 
 pub begin-set-enabled-spec : {M : Type 1} → statement M
-begin-set-enabled-spec =
-    tie.close
-    (tie.spec
-    enable-requires
-    same-length
-    returns
-    begin-set-enabled-requires
-    same-length-2
-    returns-2)
+begin-set-enabled-spec = tie.close (tie.spec enable-requires same-length returns begin-set-enabled-requires same-length-2 returns-2)

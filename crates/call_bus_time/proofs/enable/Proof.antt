@@ -90,18 +90,5 @@ returns-3 c =
 
 pub enable-spec : {M : Type 1} → statement M
 enable-spec =
-    tie.close
-    (tie.spec
-    entry-requires
-    charge-on-requires
-    passes-requires
-    is-accepted-requires
-    same-length
-    returns
-    begin-set-enabled-requires
-    same-length-2
-    returns-2
-    begin-set-enabled-requires-2
-    charged-requires
-    same-length-3
-    returns-3)
+    tie.close (tie.spec entry-requires charge-on-requires passes-requires is-accepted-requires same-length returns begin-set-enabled-requires
+    same-length-2 returns-2 begin-set-enabled-requires-2 charged-requires same-length-3 returns-3)

@@ -36,6 +36,4 @@ unfolding accepts
 returns-3 c = simp (← c .before .slots-fit .ensures, c .if1 .left)
 
 pub is-accepted-spec : {M : Type 1} → statement M
-is-accepted-spec =
-    tie.close
-    (tie.spec slots-fit-requires stop-requires is-allocated-requires returns returns-2 returns-3)
+is-accepted-spec = tie.close (tie.spec slots-fit-requires stop-requires is-allocated-requires returns returns-2 returns-3)

@@ -42,15 +42,4 @@ returns-4 : tie.Need-returns-4
 returns-4 c h = absurd (true≢false (sym h))
 
 pub are-taken-spec : {M : Type 1} → statement M
-are-taken-spec =
-    tie.close
-    (tie.spec
-    fits-requires
-    byte-requires
-    sie-free-requires
-    fits-requires-2
-    fits-requires-3
-    returns
-    returns-2
-    returns-3
-    returns-4)
+are-taken-spec = tie.close (tie.spec fits-requires byte-requires sie-free-requires fits-requires-2 fits-requires-3 returns returns-2 returns-3 returns-4)

@@ -76,18 +76,5 @@ returns-3 c = search needs
 
 pub enter-spec : {M : Type 1} → statement M
 enter-spec =
-    tie.close
-    (tie.spec
-    may-enter-requires
-    clear-wakes-requires
-    sized-requires
-    keep-frame-requires
-    sized-requires-2
-    is-transfer-requires
-    byte-requires
-    setup-act-requires
-    stand-mis-requires
-    returns
-    stand-flags-requires
-    returns-2
-    returns-3)
+    tie.close (tie.spec may-enter-requires clear-wakes-requires sized-requires keep-frame-requires sized-requires-2 is-transfer-requires byte-requires
+    setup-act-requires stand-mis-requires returns stand-flags-requires returns-2 returns-3)

@@ -65,18 +65,5 @@ returns-6 c h = absurd (true≢false (sym h))
 
 pub is-transfer-spec : {M : Type 1} → statement M
 is-transfer-spec =
-    tie.close
-    (tie.spec
-    fits-requires
-    byte-requires
-    bus-rst-requires
-    returns
-    suspend-requires
-    returns-2
-    fifo-ov-requires
-    returns-3
-    hst-sof-requires
-    returns-4
-    transfer-requires
-    returns-5
-    returns-6)
+    tie.close (tie.spec fits-requires byte-requires bus-rst-requires returns suspend-requires returns-2 fifo-ov-requires returns-3 hst-sof-requires
+    returns-4 transfer-requires returns-5 returns-6)

@@ -30,11 +30,4 @@ returns c =
     )
 
 pub keep-frame-spec : {M : Type 1} → statement M
-keep-frame-spec =
-    tie.close
-    (tie.spec
-    short-requires
-    microframe-index-requires
-    load-globals-requires
-    store-globals-requires
-    returns)
+keep-frame-spec = tie.close (tie.spec short-requires microframe-index-requires load-globals-requires store-globals-requires returns)

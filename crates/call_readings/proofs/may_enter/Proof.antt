@@ -31,5 +31,4 @@ returns-3 : tie.Need-returns-3
 returns-3 c h = absurd (true≢false (sym h))
 
 pub may-enter-spec : {M : Type 1} → statement M
-may-enter-spec =
-    tie.close (tie.spec stop-requires slots-fit-requires fits-requires returns returns-2 returns-3)
+may-enter-spec = tie.close (tie.spec stop-requires slots-fit-requires fits-requires returns returns-2 returns-3)

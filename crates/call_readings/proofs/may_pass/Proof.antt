@@ -38,14 +38,4 @@ returns-4 : tie.Need-returns-4
 returns-4 c h = absurd (true≢false (sym h))
 
 pub may-pass-spec : {M : Type 1} → statement M
-may-pass-spec =
-    tie.close
-    (tie.spec
-    tag-requires
-    site-byte-requires
-    slots-fit-requires
-    are-taken-requires
-    returns
-    returns-2
-    returns-3
-    returns-4)
+may-pass-spec = tie.close (tie.spec tag-requires site-byte-requires slots-fit-requires are-taken-requires returns returns-2 returns-3 returns-4)

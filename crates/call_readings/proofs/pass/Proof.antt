@@ -128,18 +128,5 @@ returns-3 c = search needs
 
 pub pass-spec : {M : Type 1} → statement M
 pass-spec =
-    tie.close
-    (tie.spec
-    may-pass-requires
-    sized-requires
-    setup-at-requires
-    byte-requires
-    short-requires
-    nak-non-iso-requires
-    enum-known-n
-    stand-nak-requires
-    enum-told
-    stand-released-requires
-    returns
-    returns-2
-    returns-3)
+    tie.close (tie.spec may-pass-requires sized-requires setup-at-requires byte-requires short-requires nak-non-iso-requires enum-known-n
+    stand-nak-requires enum-told stand-released-requires returns returns-2 returns-3)

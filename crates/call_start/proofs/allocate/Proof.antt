@@ -61,15 +61,5 @@ returns-3 c = let start = c .before .before .before .args in other-stopped (call
 
 pub allocate-spec : {M : Type 1} → statement M
 allocate-spec =
-    tie.close
-    (tie.spec
-    stop-requires
-    allocate-requires
-    enum-known-z
-    returns
-    enum-known-z-2
-    clear-wakes-requires
-    new-endpoint-requires
-    suspend-or-end-requires
-    returns-2
-    returns-3)
+    tie.close (tie.spec stop-requires allocate-requires enum-known-z returns enum-known-z-2 clear-wakes-requires new-endpoint-requires
+    suspend-or-end-requires returns-2 returns-3)

@@ -59,15 +59,5 @@ returns-3 c = let start = c .before .before .before .args in other-stopped (call
 
 pub start-spec : {M : Type 1} → statement M
 start-spec =
-    tie.close
-    (tie.spec
-    stop-requires
-    allocate0-requires
-    enum-known-z
-    returns
-    enum-known-z-2
-    clear-wakes-requires
-    start-ep0-requires
-    suspend-or-end-requires
-    returns-2
-    returns-3)
+    tie.close (tie.spec stop-requires allocate0-requires enum-known-z returns enum-known-z-2 clear-wakes-requires start-ep0-requires
+    suspend-or-end-requires returns-2 returns-3)

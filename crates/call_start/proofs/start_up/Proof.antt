@@ -68,17 +68,5 @@ returns-3 c = (λ a. simp (← c .before .fits2 .ensures, c .if1 .left), refl)
 
 pub start-up-spec : {M : Type 1} → statement M
 start-up-spec =
-    tie.close
-    (tie.spec
-    fits-requires
-    good-buffer-requires
-    cast-fresh
-    cast-fresh-2
-    flag-of-requires
-    fresh-requires
-    clear-wakes-requires
-    start-up-requires
-    suspend-or-end-requires
-    returns
-    returns-2
-    returns-3)
+    tie.close (tie.spec fits-requires good-buffer-requires cast-fresh cast-fresh-2 flag-of-requires fresh-requires clear-wakes-requires
+    start-up-requires suspend-or-end-requires returns returns-2 returns-3)

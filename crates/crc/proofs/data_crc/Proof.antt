@@ -65,16 +65,5 @@ returns c =
 
 pub data-crc-spec : {M : Type 1} → statement M
 data-crc-spec =
-    tie.close
-    (tie.spec
-    Inv-loop
-    μ-loop
-    whole-words-requires
-    mul-i
-    loop-holds
-    shared-slice-read-turn-byte
-    turn-byte-requires
-    add-i
-    loop-less
-    loop-again
-    returns)
+    tie.close (tie.spec Inv-loop μ-loop whole-words-requires mul-i loop-holds shared-slice-read-turn-byte turn-byte-requires add-i loop-less
+    loop-again returns)

@@ -36,6 +36,4 @@ returns c =
     sym (turns-none (v .i) (v .kept) (v .x) (omega arith)) ∙ v .inv .1
 
 pub turn-byte-spec : {M : Type 1} → statement M
-turn-byte-spec =
-    tie.close
-    (tie.spec Inv-loop μ-loop loop-holds turn-requires add-i loop-less loop-again returns)
+turn-byte-spec = tie.close (tie.spec Inv-loop μ-loop loop-holds turn-requires add-i loop-less loop-again returns)

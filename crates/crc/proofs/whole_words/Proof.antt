@@ -137,29 +137,6 @@ returns c =
 
 pub whole-words-spec : {M : Type 1} → statement M
 whole-words-spec =
-    tie.close
-    (tie.spec
-    Inv-loop
-    μ-loop
-    Inv-loop2
-    μ-loop2
-    mul-fours
-    mul-end
-    loop-holds
-    with-word-requires
-    add-with-word
-    with-word-requires-2
-    add-with-word-2
-    with-word-requires-3
-    add-with-word-3
-    with-word-requires-4
-    add-i
-    loop-less
-    loop-again
-    loop2-holds
-    with-word-requires-5
-    add-i-2
-    loop2-less
-    loop2-again
-    settle-requires
-    returns)
+    tie.close (tie.spec Inv-loop μ-loop Inv-loop2 μ-loop2 mul-fours mul-end loop-holds with-word-requires add-with-word with-word-requires-2
+    add-with-word-2 with-word-requires-3 add-with-word-3 with-word-requires-4 add-i loop-less loop-again loop2-holds with-word-requires-5 add-i-2
+    loop2-less loop2-again settle-requires returns)

@@ -63,15 +63,5 @@ returns c =
 
 pub with-word-spec : {M : Type 1} → statement M
 with-word-spec =
-    tie.close
-    (tie.spec
-    shared-slice-read-word
-    add-word
-    shared-slice-read-word-2
-    add-word-2
-    shared-slice-read-word-3
-    add-word-3
-    shared-slice-read-word-4
-    word-requires
-    fold-requires
-    returns)
+    tie.close (tie.spec shared-slice-read-word add-word shared-slice-read-word-2 add-word-2 shared-slice-read-word-3 add-word-3
+    shared-slice-read-word-4 word-requires fold-requires returns)

@@ -34,11 +34,4 @@ returns c = (
 )
 
 pub iso-in-set-paced-spec : {M : Type 1} → statement M
-iso-in-set-paced-spec =
-    tie.close
-    (tie.spec
-    load-globals-requires
-    mask-with-requires
-    store-globals-requires
-    store-paced-requires
-    returns)
+iso-in-set-paced-spec = tie.close (tie.spec load-globals-requires mask-with-requires store-globals-requires store-paced-requires returns)

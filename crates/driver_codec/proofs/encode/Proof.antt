@@ -208,65 +208,10 @@ returns-17 c = simp (← c .list-code2 .ensures, ← c .before .dir-as3 .ensures
 
 pub encode-spec : {M : Type 1} → statement M
 encode-spec =
-    tie.close
-    (tie.spec
-    enum-known-p
-    flag-of-requires
-    code-requires
-    enum-known-p-2
-    flag-of-requires-2
-    code-requires-2
-    enum-known-p-3
-    flag-of-requires-3
-    code-requires-3
-    enum-known-p-4
-    flag-of-requires-4
-    code-requires-4
-    enum-known-p-5
-    flag-of-requires-5
-    code-requires-5
-    enum-known-p-6
-    flag-of-requires-6
-    code-requires-6
-    enum-told
-    code-requires-7
-    enum-known-p-7
-    dir-as-requires
-    code-requires-8
-    enum-known-p-8
-    code-requires-9
-    enum-known-p-9
-    code-requires-10
-    enum-told-2
-    code-requires-11
-    enum-told-3
-    code-requires-12
-    enum-told-4
-    code-requires-13
-    enum-told-5
-    code-requires-14
-    enum-told-6
-    code-requires-15
-    enum-known-p-10
-    dir-as-requires-2
-    list-code-requires
-    enum-known-p-11
-    dir-as-requires-3
-    list-code-requires-2
-    returns
-    returns-2
-    returns-3
-    returns-4
-    returns-5
-    returns-6
-    returns-7
-    returns-8
-    returns-9
-    returns-10
-    returns-11
-    returns-12
-    returns-13
-    returns-14
-    returns-15
-    returns-16
-    returns-17)
+    tie.close (tie.spec enum-known-p flag-of-requires code-requires enum-known-p-2 flag-of-requires-2 code-requires-2 enum-known-p-3
+    flag-of-requires-3 code-requires-3 enum-known-p-4 flag-of-requires-4 code-requires-4 enum-known-p-5 flag-of-requires-5 code-requires-5
+    enum-known-p-6 flag-of-requires-6 code-requires-6 enum-told code-requires-7 enum-known-p-7 dir-as-requires code-requires-8 enum-known-p-8
+    code-requires-9 enum-known-p-9 code-requires-10 enum-told-2 code-requires-11 enum-told-3 code-requires-12 enum-told-4 code-requires-13 enum-told-5
+    code-requires-14 enum-told-6 code-requires-15 enum-known-p-10 dir-as-requires-2 list-code-requires enum-known-p-11 dir-as-requires-3
+    list-code-requires-2 returns returns-2 returns-3 returns-4 returns-5 returns-6 returns-7 returns-8 returns-9 returns-10 returns-11 returns-12
+    returns-13 returns-14 returns-15 returns-16 returns-17)

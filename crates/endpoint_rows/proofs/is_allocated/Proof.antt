@@ -66,15 +66,5 @@ returns-3 c = sym (no-number _ _ _ (sym (c .before .is-number .ensures) ∙ c .i
 
 pub is-allocated-spec : {M : Type 1} → statement M
 is-allocated-spec =
-    tie.close
-    (tie.spec
-    is-number-requires
-    load-allocator-requires
-    low-requires
-    enum-told
-    mask-has-requires
-    returns
-    enum-told-2
-    mask-has-requires-2
-    returns-2
-    returns-3)
+    tie.close (tie.spec is-number-requires load-allocator-requires low-requires enum-told mask-has-requires returns enum-told-2 mask-has-requires-2
+    returns-2 returns-3)

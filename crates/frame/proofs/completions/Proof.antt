@@ -36,6 +36,4 @@ returns-2 c =
     )
 
 pub completions-spec : {M : Type 1} → statement M
-completions-spec =
-    tie.close
-    (tie.spec is-none-requires returns microframe-index-requires distance-requires at-most-3-requires returns-2)
+completions-spec = tie.close (tie.spec is-none-requires returns microframe-index-requires distance-requires at-most-3-requires returns-2)

@@ -36,12 +36,4 @@ returns-2 c =
     )
 
 pub in-previous-spec : {M : Type 1} → statement M
-in-previous-spec =
-    tie.close
-    (tie.spec
-    is-none-requires
-    returns
-    microframe-index-requires
-    microframe-index-requires-2
-    previous-requires
-    returns-2)
+in-previous-spec = tie.close (tie.spec is-none-requires returns microframe-index-requires microframe-index-requires-2 previous-requires returns-2)

@@ -8,7 +8,4 @@ returns : tie.Need-returns
 returns c = (λ d b. interrupt-begun (d, b), refl)
 
 pub on-interrupt-spec : {M : Type 1} → statement M
-on-interrupt-spec =
-    tie.close
-    (tie.spec
-    returns)
+on-interrupt-spec = tie.close (tie.spec returns)

@@ -25,10 +25,4 @@ returns c =
     (after (a .setup) (λ _ u. run concrete (afterCheck (a .x)) u) _ _ (c .before .before .before .before .before .iso-out-check-resume .ensures .0))
 
 pub after-checking-spec : {M : Type 1} → statement M
-after-checking-spec =
-    tie.close
-    (tie.spec
-    iso-out-check-resume-requires
-    checked-requires
-    same-length
-    returns)
+after-checking-spec = tie.close (tie.spec iso-out-check-resume-requires checked-requires same-length returns)

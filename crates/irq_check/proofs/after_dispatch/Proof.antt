@@ -76,17 +76,5 @@ returns-3 c =
 
 pub after-dispatch-spec : {M : Type 1} → statement M
 after-dispatch-spec =
-    tie.close
-    (tie.spec
-    is-sof-requires
-    after-transfer-requires
-    returns
-    iso-out-check-requires
-    enum-known-n
-    stand-check-requires
-    enum-told
-    ep0-moved-on-requires
-    same-length
-    returns-2
-    same-length-2
-    returns-3)
+    tie.close (tie.spec is-sof-requires after-transfer-requires returns iso-out-check-requires enum-known-n stand-check-requires enum-told
+    ep0-moved-on-requires same-length returns-2 same-length-2 returns-3)

@@ -25,12 +25,4 @@ returns c =
     (λ b. simp (c .before .ctrl-of .ensures, c .before .before .before .nakflip .ensures, c .before .before .before .before .byte .ensures))
 
 pub after-moved-read-spec : {M : Type 1} → statement M
-after-moved-read-spec =
-    tie.close
-    (tie.spec
-    byte-requires
-    nakflip-requires
-    ctrl-of-requires
-    cast-t9
-    stand-moved-wrote-requires
-    returns)
+after-moved-read-spec = tie.close (tie.spec byte-requires nakflip-requires ctrl-of-requires cast-t9 stand-moved-wrote-requires returns)

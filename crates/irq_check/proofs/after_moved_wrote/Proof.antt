@@ -26,11 +26,4 @@ returns c =
     )
 
 pub after-moved-wrote-spec : {M : Type 1} → statement M
-after-moved-wrote-spec =
-    tie.close
-    (tie.spec
-    load-ep-requires
-    store-ep-requires
-    wake-requires
-    after-transfer-requires
-    returns)
+after-moved-wrote-spec = tie.close (tie.spec load-ep-requires store-ep-requires wake-requires after-transfer-requires returns)

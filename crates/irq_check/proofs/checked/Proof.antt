@@ -27,12 +27,4 @@ returns-2 : tie.Need-returns-2
 returns-2 c = goes-on (c .ep0-moved-on .ensures .0 _, c .ep0-moved-on .ensures .1) (simp (c .before .before .enum-told .given .1))
 
 pub checked-spec : {M : Type 1} → statement M
-checked-spec =
-    tie.close
-    (tie.spec
-    enum-known-n
-    stand-check-requires
-    enum-told
-    ep0-moved-on-requires
-    returns
-    returns-2)
+checked-spec = tie.close (tie.spec enum-known-n stand-check-requires enum-told ep0-moved-on-requires returns returns-2)

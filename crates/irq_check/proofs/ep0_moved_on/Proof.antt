@@ -81,17 +81,5 @@ returns-4 c =
 
 pub ep0-moved-on-spec : {M : Type 1} → statement M
 ep0-moved-on-spec =
-    tie.close
-    (tie.spec
-    endpoint-requires
-    token-requires
-    enum-told
-    moved-on-requires
-    enum-told-2
-    moved-on-requires-2
-    after-transfer-requires
-    after-transfer-requires-2
-    returns
-    returns-2
-    returns-3
-    returns-4)
+    tie.close (tie.spec endpoint-requires token-requires enum-told moved-on-requires enum-told-2 moved-on-requires-2 after-transfer-requires
+    after-transfer-requires-2 returns returns-2 returns-3 returns-4)

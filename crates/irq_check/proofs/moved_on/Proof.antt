@@ -36,13 +36,4 @@ returns-2 c =
     (λ b. simp (← c .before .before .before .before .load-ep .ensures, ← c .before .before .before .is-on .ensures, c .before .before .if1 .left))
 
 pub moved-on-spec : {M : Type 1} → statement M
-moved-on-spec =
-    tie.close
-    (tie.spec
-    load-ep-requires
-    is-on-requires
-    ctrl-of-requires
-    stand-moved-read-requires
-    returns
-    after-transfer-requires
-    returns-2)
+moved-on-spec = tie.close (tie.spec load-ep-requires is-on-requires ctrl-of-requires stand-moved-read-requires returns after-transfer-requires returns-2)

@@ -18,6 +18,4 @@ returns : tie.Need-returns
 returns c = simp (c .flag-of4 .ensures, c .before .flag-of3 .ensures, c .before .before .flag-of2 .ensures, c .before .before .before .flag-of .ensures)
 
 pub code-spec : {M : Type 1} → statement M
-code-spec =
-    tie.close
-    (tie.spec flag-of-requires flag-of-requires-2 flag-of-requires-3 flag-of-requires-4 returns)
+code-spec = tie.close (tie.spec flag-of-requires flag-of-requires-2 flag-of-requires-3 flag-of-requires-4 returns)

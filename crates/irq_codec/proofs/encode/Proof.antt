@@ -355,16 +355,15 @@ returns-26 c = simp (c .bare5 .ensures, c .before .enum-told5 .given .1)
 
 pub encode-spec : {M : Type 1} → statement M
 encode-spec =
-    tie.close (tie.spec enum-told bare-requires enum-told-2 bare-requires-2 enum-known-p early-requires none-requires code-requires
-    enum-known-p-2 early-requires-2 none-requires-2 code-requires-2 enum-known-p-3 early-requires-3 none-requires-3 code-requires-3
-    enum-known-p-4 early-requires-4 none-requires-4 code-requires-4 enum-known-p-5 early-requires-5 none-requires-5 code-requires-5
-    enum-known-p-6 early-requires-6 none-requires-6 code-requires-6 enum-known-p-7 early-requires-7 none-requires-7 code-requires-7
-    enum-known-p-8 nak-as-requires code-requires-8 enum-known-p-9 none-requires-8 code-requires-9 enum-known-p-10 settle-as-requires
-    code-requires-10 enum-known-p-11 none-requires-9 code-requires-11 enum-known-p-12 sof-as-requires code-requires-12 enum-known-p-13
-    late-as-requires code-requires-13 enum-known-p-14 sof-as-requires-2 code-requires-14 enum-known-p-15 on-dir-requires code-requires-15
-    enum-known-p-16 on-dir-requires-2 code-requires-16 enum-known-p-17 toggled-as-requires code-requires-17 enum-known-p-18
-    complete-as-requires code-requires-18 enum-known-p-19 check-as-requires code-requires-19 enum-known-p-20 early-requires-8
-    on-dir-requires-3 code-requires-20 enum-known-p-21 early-requires-9 on-dir-requires-4 code-requires-21 enum-told-3 bare-requires-3
-    enum-told-4 bare-requires-4 enum-told-5 bare-requires-5 returns returns-2 returns-3 returns-4 returns-5 returns-6 returns-7 returns-8
-    returns-9 returns-10 returns-11 returns-12 returns-13 returns-14 returns-15 returns-16 returns-17 returns-18 returns-19 returns-20
-    returns-21 returns-22 returns-23 returns-24 returns-25 returns-26)
+    tie.close (tie.spec enum-told bare-requires enum-told-2 bare-requires-2 enum-known-p early-requires none-requires code-requires enum-known-p-2
+    early-requires-2 none-requires-2 code-requires-2 enum-known-p-3 early-requires-3 none-requires-3 code-requires-3 enum-known-p-4 early-requires-4
+    none-requires-4 code-requires-4 enum-known-p-5 early-requires-5 none-requires-5 code-requires-5 enum-known-p-6 early-requires-6 none-requires-6
+    code-requires-6 enum-known-p-7 early-requires-7 none-requires-7 code-requires-7 enum-known-p-8 nak-as-requires code-requires-8 enum-known-p-9
+    none-requires-8 code-requires-9 enum-known-p-10 settle-as-requires code-requires-10 enum-known-p-11 none-requires-9 code-requires-11
+    enum-known-p-12 sof-as-requires code-requires-12 enum-known-p-13 late-as-requires code-requires-13 enum-known-p-14 sof-as-requires-2
+    code-requires-14 enum-known-p-15 on-dir-requires code-requires-15 enum-known-p-16 on-dir-requires-2 code-requires-16 enum-known-p-17
+    toggled-as-requires code-requires-17 enum-known-p-18 complete-as-requires code-requires-18 enum-known-p-19 check-as-requires code-requires-19
+    enum-known-p-20 early-requires-8 on-dir-requires-3 code-requires-20 enum-known-p-21 early-requires-9 on-dir-requires-4 code-requires-21
+    enum-told-3 bare-requires-3 enum-told-4 bare-requires-4 enum-told-5 bare-requires-5 returns returns-2 returns-3 returns-4 returns-5 returns-6
+    returns-7 returns-8 returns-9 returns-10 returns-11 returns-12 returns-13 returns-14 returns-15 returns-16 returns-17 returns-18 returns-19
+    returns-20 returns-21 returns-22 returns-23 returns-24 returns-25 returns-26)

@@ -37,6 +37,4 @@ unfolding nakAs
 returns-3 c = simp (c .inner3 .ensures, c .before .enum-told3 .given .1)
 
 pub nak-as-spec : {M : Type 1} → statement M
-nak-as-spec =
-    tie.close (tie.spec enum-known-p enum-told inner-requires enum-told-2 inner-requires-2 enum-told-3 inner-requires-3 returns returns-2
-    returns-3)
+nak-as-spec = tie.close (tie.spec enum-known-p enum-told inner-requires enum-told-2 inner-requires-2 enum-told-3 inner-requires-3 returns returns-2 returns-3)

@@ -95,6 +95,6 @@ returns-9 c = simp (c .nak-as .ensures, c .before .before .p4 .given .1)
 
 pub settle-as-spec : {M : Type 1} → statement M
 settle-as-spec =
-    tie.close (tie.spec enum-known-p inner-requires enum-told inner-requires-2 enum-known-p-2 inner-requires-3 enum-known-p-3
-    inner-requires-4 enum-told-2 inner-requires-5 enum-told-3 inner-requires-6 enum-told-4 inner-requires-7 enum-told-5 inner-requires-8
-    enum-known-p-4 nak-as-requires returns returns-2 returns-3 returns-4 returns-5 returns-6 returns-7 returns-8 returns-9)
+    tie.close (tie.spec enum-known-p inner-requires enum-told inner-requires-2 enum-known-p-2 inner-requires-3 enum-known-p-3 inner-requires-4
+    enum-told-2 inner-requires-5 enum-told-3 inner-requires-6 enum-told-4 inner-requires-7 enum-told-5 inner-requires-8 enum-known-p-4 nak-as-requires
+    returns returns-2 returns-3 returns-4 returns-5 returns-6 returns-7 returns-8 returns-9)

@@ -48,5 +48,5 @@ returns-4 c = simp (c .inner3 .ensures, c .before .enum-told .given .1, c .befor
 
 pub sof-as-spec : {M : Type 1} → statement M
 sof-as-spec =
-    tie.close (tie.spec flag-of-requires enum-known-p inner-requires enum-known-p-2 inner-requires-2 enum-known-p-3 complete-as-requires
-    enum-told inner-requires-3 returns returns-2 returns-3 returns-4)
+    tie.close (tie.spec flag-of-requires enum-known-p inner-requires enum-known-p-2 inner-requires-2 enum-known-p-3 complete-as-requires enum-told
+    inner-requires-3 returns returns-2 returns-3 returns-4)

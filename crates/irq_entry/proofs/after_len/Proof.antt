@@ -80,17 +80,5 @@ returns-3 c =
 
 pub after-len-spec : {M : Type 1} → statement M
 after-len-spec =
-    tie.close
-    (tie.spec
-    short-requires
-    entered-requires
-    naks-first-requires
-    nak-non-iso-requires
-    enum-known-n
-    stand-nak-requires
-    enum-told
-    release-requires
-    release-requires-2
-    returns
-    returns-2
-    returns-3)
+    tie.close (tie.spec short-requires entered-requires naks-first-requires nak-non-iso-requires enum-known-n stand-nak-requires enum-told
+    release-requires release-requires-2 returns returns-2 returns-3)

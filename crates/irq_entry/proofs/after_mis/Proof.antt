@@ -19,10 +19,4 @@ unfolding afterMis
 returns c = pauses-in (c .stand-st .ensures) refl (λ b. simp (c .before .before .sie-free .ensures, c .before .before .before .byte .ensures))
 
 pub after-mis-spec : {M : Type 1} → statement M
-after-mis-spec =
-    tie.close
-    (tie.spec
-    byte-requires
-    sie-free-requires
-    stand-st-requires
-    returns)
+after-mis-spec = tie.close (tie.spec byte-requires sie-free-requires stand-st-requires returns)

@@ -19,9 +19,4 @@ returns c =
     (λ b. after (a .setup) (λ _ u. run concrete (afterNak (a .x)) u) _ _ (c .before .before .nak-non-iso-resume .ensures .0 _ b))
 
 pub after-naking-spec : {M : Type 1} → statement M
-after-naking-spec =
-    tie.close
-    (tie.spec
-    nak-non-iso-resume-requires
-    then-nak-requires
-    returns)
+after-naking-spec = tie.close (tie.spec nak-non-iso-resume-requires then-nak-requires returns)

@@ -43,13 +43,4 @@ returns-2 c =
     ∙ after (a .setup) (λ y u. run concrete (afterSettle y) u) _ _ (c .before .before .before .before .before .begin .ensures .0 b))
 
 pub after-released-spec : {M : Type 1} → statement M
-after-released-spec =
-    tie.close
-    (tie.spec
-    begin-requires
-    enum-known-n
-    stand-settle-requires
-    enum-known-n-2
-    after-settle-requires
-    returns
-    returns-2)
+after-released-spec = tie.close (tie.spec begin-requires enum-known-n stand-settle-requires enum-known-n-2 after-settle-requires returns returns-2)

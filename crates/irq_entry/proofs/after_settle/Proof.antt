@@ -32,12 +32,4 @@ returns c =
     ))
 
 pub after-settle-spec : {M : Type 1} → statement M
-after-settle-spec =
-    tie.close
-    (tie.spec
-    endpoint-requires
-    load-ep-requires
-    load-ep-requires-2
-    iso-for-requires
-    stand-frame-no-requires
-    returns)
+after-settle-spec = tie.close (tie.spec endpoint-requires load-ep-requires load-ep-requires-2 iso-for-requires stand-frame-no-requires returns)

@@ -18,9 +18,4 @@ returns c =
     (λ b. after (c .before .before .before .before .args .setup) (λ y u. run concrete (afterSettle y) u) _ _ (c .before .before .resume .ensures .0 b))
 
 pub after-settling-spec : {M : Type 1} → statement M
-after-settling-spec =
-    tie.close
-    (tie.spec
-    resume-requires
-    then-settle-requires
-    returns)
+after-settling-spec = tie.close (tie.spec resume-requires then-settle-requires returns)

@@ -16,9 +16,4 @@ unfolding afterSt
 returns c = pauses-in (c .stand-len .ensures) refl (λ b. simp (c .before .byte .ensures))
 
 pub after-st-spec : {M : Type 1} → statement M
-after-st-spec =
-    tie.close
-    (tie.spec
-    byte-requires
-    stand-len-requires
-    returns)
+after-st-spec = tie.close (tie.spec byte-requires stand-len-requires returns)

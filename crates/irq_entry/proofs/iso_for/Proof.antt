@@ -42,16 +42,5 @@ returns-4 c = simp (← c .before .before .token .ensures, c .enum-told4 .given 
 
 pub iso-for-spec : {M : Type 1} → statement M
 iso-for-spec =
-    tie.close
-    (tie.spec
-    token-requires
-    enum-told
-    is-on-requires
-    enum-told-2
-    enum-told-3
-    is-on-requires-2
-    enum-told-4
-    returns
-    returns-2
-    returns-3
+    tie.close (tie.spec token-requires enum-told is-on-requires enum-told-2 enum-told-3 is-on-requires-2 enum-told-4 returns returns-2 returns-3
     returns-4)

@@ -22,11 +22,4 @@ unfolding naksFirst
 returns-3 c = simp (c .if1 .left)
 
 pub naks-first-spec : {M : Type 1} → statement M
-naks-first-spec =
-    tie.close
-    (tie.spec
-    is-sof-requires
-    returns
-    endpoint-requires
-    returns-2
-    returns-3)
+naks-first-spec = tie.close (tie.spec is-sof-requires returns endpoint-requires returns-2 returns-3)

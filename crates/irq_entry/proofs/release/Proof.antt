@@ -13,8 +13,4 @@ unfolding afterNak
 returns c = pauses-in (c .stand-released .ensures) refl (λ b. refl)
 
 pub release-spec : {M : Type 1} → statement M
-release-spec =
-    tie.close
-    (tie.spec
-    stand-released-requires
-    returns)
+release-spec = tie.close (tie.spec stand-released-requires returns)

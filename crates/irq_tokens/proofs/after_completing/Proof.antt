@@ -29,10 +29,4 @@ returns c =
     )
 
 pub after-completing-spec : {M : Type 1} → statement M
-after-completing-spec =
-    tie.close
-    (tie.spec
-    iso-in-complete-resume-requires
-    then-complete-requires
-    same-length
-    returns)
+after-completing-spec = tie.close (tie.spec iso-in-complete-resume-requires then-complete-requires same-length returns)

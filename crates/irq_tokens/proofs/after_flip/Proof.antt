@@ -25,12 +25,4 @@ returns c =
     (λ b. simp (c .before .ctrl-of .ensures, c .before .before .before .flip .ensures, c .before .before .before .before .byte .ensures))
 
 pub after-flip-spec : {M : Type 1} → statement M
-after-flip-spec =
-    tie.close
-    (tie.spec
-    byte-requires
-    flip-requires
-    ctrl-of-requires
-    cast-t11
-    stand-flipped-requires
-    returns)
+after-flip-spec = tie.close (tie.spec byte-requires flip-requires ctrl-of-requires cast-t11 stand-flipped-requires returns)

@@ -27,10 +27,4 @@ returns c =
     )
 
 pub after-flipped-spec : {M : Type 1} → statement M
-after-flipped-spec =
-    tie.close
-    (tie.spec
-    flip-done-requires
-    after-dispatch-requires
-    same-length
-    returns)
+after-flipped-spec = tie.close (tie.spec flip-done-requires after-dispatch-requires same-length returns)

@@ -48,13 +48,5 @@ returns-2 c =
 
 pub after-passing-spec : {M : Type 1} → statement M
 after-passing-spec =
-    tie.close
-    (tie.spec
-    endpoint-requires
-    passed-requires
-    after-dispatch-requires
-    same-length
-    returns
-    after-dispatch-requires-2
-    same-length-2
+    tie.close (tie.spec endpoint-requires passed-requires after-dispatch-requires same-length returns after-dispatch-requires-2 same-length-2
     returns-2)

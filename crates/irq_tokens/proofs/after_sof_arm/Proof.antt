@@ -25,10 +25,4 @@ returns c =
     (after (a .setup) (λ _ u. run concrete (afterDispatch (a .x) (a .iso)) u) _ _ (c .before .before .before .before .before .on-sof-resume .ensures .0 _))
 
 pub after-sof-arm-spec : {M : Type 1} → statement M
-after-sof-arm-spec =
-    tie.close
-    (tie.spec
-    on-sof-resume-requires
-    then-sof-arm-requires
-    same-length
-    returns)
+after-sof-arm-spec = tie.close (tie.spec on-sof-resume-requires then-sof-arm-requires same-length returns)

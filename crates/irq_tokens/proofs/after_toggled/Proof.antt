@@ -35,11 +35,4 @@ returns c =
     (λ (z : ℕ). toggled.denote (a .d) z (a .p) (a .v) (view (a .s .now), a .buf .now)) (the-resume .ensures .0 _))
 
 pub after-toggled-spec : {M : Type 1} → statement M
-after-toggled-spec =
-    tie.close
-    (tie.spec
-    endpoint-requires
-    resume-requires
-    then-toggled-requires
-    same-length
-    returns)
+after-toggled-spec = tie.close (tie.spec endpoint-requires resume-requires then-toggled-requires same-length returns)

@@ -68,21 +68,5 @@ returns-4 c = goes-on (c .before .before .after-dispatch .ensures)
 
 pub dispatch-spec : {M : Type 1} → statement M
 dispatch-spec =
-    tie.close
-    (tie.spec
-    token-requires
-    enum-told
-    sof-arm-requires
-    enum-told-2
-    out-arm-requires
-    enum-told-3
-    in-arm-requires
-    enum-told-4
-    after-dispatch-requires
-    returns
-    same-length
-    returns-2
-    same-length-2
-    returns-3
-    same-length-3
-    returns-4)
+    tie.close (tie.spec token-requires enum-told sof-arm-requires enum-told-2 out-arm-requires enum-told-3 in-arm-requires enum-told-4
+    after-dispatch-requires returns same-length returns-2 same-length-2 returns-3 same-length-3 returns-4)

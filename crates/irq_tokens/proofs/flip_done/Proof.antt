@@ -33,14 +33,4 @@ returns-2 c = (
 )
 
 pub flip-done-spec : {M : Type 1} → statement M
-flip-done-spec =
-    tie.close
-    (tie.spec
-    enum-told
-    received-requires
-    enum-told-2
-    load-ep-requires
-    store-ep-requires
-    sent-requires
-    returns
-    returns-2)
+flip-done-spec = tie.close (tie.spec enum-told received-requires enum-told-2 load-ep-requires store-ep-requires sent-requires returns returns-2)

@@ -46,5 +46,6 @@ returns-3 c =
     (of-other (thenCheck (a .setup) (a .x) (a .iso)) (a .iso) _ _ _ (e .before .endpoint .ensures) (e .before .before .if1 .left) (ne-eqb _ _ (e .if2 .left)))
 
 pub in-arm-spec : {M : Type 1} → statement M
-in-arm-spec = tie.close
-    (tie.spec iso-in-arm-requires same-length returns endpoint-requires stand-flip-requires returns-2 toggled-arm-requires same-length-2 returns-3)
+in-arm-spec =
+    tie.close (tie.spec iso-in-arm-requires same-length returns endpoint-requires stand-flip-requires returns-2 toggled-arm-requires same-length-2
+    returns-3)

@@ -117,23 +117,6 @@ returns-4 c =
 
 pub iso-in-arm-spec : {M : Type 1} → statement M
 iso-in-arm-spec =
-    tie.close
-    (tie.spec
-    endpoint-requires
-    load-globals-requires
-    mask-has-requires
-    after-dispatch-requires
-    same-length
-    returns
-    first-in-frame-requires
-    iso-in-complete-requires
-    enum-known-n
-    stand-completing-requires
-    enum-told
-    after-dispatch-requires-2
-    after-dispatch-requires-3
-    returns-2
-    same-length-2
-    returns-3
-    same-length-3
-    returns-4)
+    tie.close (tie.spec endpoint-requires load-globals-requires mask-has-requires after-dispatch-requires same-length returns first-in-frame-requires
+    iso-in-complete-requires enum-known-n stand-completing-requires enum-told after-dispatch-requires-2 after-dispatch-requires-3 returns-2
+    same-length-2 returns-3 same-length-3 returns-4)

@@ -67,18 +67,5 @@ returns-4 c =
 
 pub out-arm-spec : {M : Type 1} → statement M
 out-arm-spec =
-    tie.close
-    (tie.spec
-    after-dispatch-requires
-    same-length
-    returns
-    endpoint-requires
-    tog-ok-requires
-    stand-flip-requires
-    returns-2
-    after-dispatch-requires-2
-    same-length-2
-    returns-3
-    toggled-arm-requires
-    same-length-3
-    returns-4)
+    tie.close (tie.spec after-dispatch-requires same-length returns endpoint-requires tog-ok-requires stand-flip-requires returns-2
+    after-dispatch-requires-2 same-length-2 returns-3 toggled-arm-requires same-length-3 returns-4)

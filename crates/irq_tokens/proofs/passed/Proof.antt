@@ -22,12 +22,4 @@ returns-2 : tie.Need-returns-2
 returns-2 c = (λ b. passed-known _ _ _ _ _ _ (c .before .before .enum-told2 .given .1) (c .sent .ensures .0 b), c .sent .ensures .1)
 
 pub passed-spec : {M : Type 1} → statement M
-passed-spec =
-    tie.close
-    (tie.spec
-    enum-told
-    received-requires
-    enum-told-2
-    sent-requires
-    returns
-    returns-2)
+passed-spec = tie.close (tie.spec enum-told received-requires enum-told-2 sent-requires returns returns-2)

@@ -74,15 +74,5 @@ returns-3 c =
 
 pub sof-arm-spec : {M : Type 1} → statement M
 sof-arm-spec =
-    tie.close
-    (tie.spec
-    load-globals-requires
-    after-transfer-requires
-    returns
-    on-sof-requires
-    enum-known-n
-    stand-sof-arm-requires
-    enum-told
-    after-transfer-requires-2
-    returns-2
-    returns-3)
+    tie.close (tie.spec load-globals-requires after-transfer-requires returns on-sof-requires enum-known-n stand-sof-arm-requires enum-told
+    after-transfer-requires-2 returns-2 returns-3)

@@ -53,15 +53,5 @@ returns-3 c = goes-on (c .before .before .after-dispatch .ensures) (simp (c .bef
 
 pub then-sof-arm-spec : {M : Type 1} → statement M
 then-sof-arm-spec =
-    tie.close
-    (tie.spec
-    enum-known-n
-    stand-sof-arm-requires
-    enum-told
-    is-sof-requires
-    after-transfer-requires
-    returns
-    after-dispatch-requires
-    returns-2
-    same-length
-    returns-3)
+    tie.close (tie.spec enum-known-n stand-sof-arm-requires enum-told is-sof-requires after-transfer-requires returns after-dispatch-requires
+    returns-2 same-length returns-3)

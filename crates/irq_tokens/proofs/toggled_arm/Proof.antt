@@ -63,14 +63,5 @@ returns-2 c =
 
 pub toggled-arm-spec : {M : Type 1} → statement M
 toggled-arm-spec =
-    tie.close
-    (tie.spec
-    endpoint-requires
-    begin-requires
-    enum-known-n
-    stand-toggled-requires
-    enum-known-n-2
-    after-passing-requires
-    returns
-    same-length
+    tie.close (tie.spec endpoint-requires begin-requires enum-known-n stand-toggled-requires enum-known-n-2 after-passing-requires returns same-length
     returns-2)

@@ -122,6 +122,6 @@ returns-5 c =
     )
 
 pub queue-at-spec : {M : Type 1} → statement M
-queue-at-spec = tie.close
-    (tie.spec load-globals-requires is-on-requires load-allocator-requires cast-if2 returns load-ep-requires
-    is-on-requires-2 room-requires iso-in-enqueue-requires same-length returns-2 returns-3 returns-4 returns-5)
+queue-at-spec =
+    tie.close (tie.spec load-globals-requires is-on-requires load-allocator-requires cast-if2 returns load-ep-requires is-on-requires-2 room-requires
+    iso-in-enqueue-requires same-length returns-2 returns-3 returns-4 returns-5)

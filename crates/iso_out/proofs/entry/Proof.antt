@@ -41,6 +41,4 @@ unfolding entry
 returns-5 c = simp (c .if2 .left, c .before .if1 .left)
 
 pub entry-spec : {M : Type 1} → statement M
-entry-spec =
-    tie.close
-    (tie.spec returns tog-ok-requires arriving-requires returns-2 returns-3 returns-4 returns-5)
+entry-spec = tie.close (tie.spec returns tog-ok-requires arriving-requires returns-2 returns-3 returns-4 returns-5)

@@ -61,16 +61,4 @@ returns-2 c =
     λ x iso. at .inv .1 x iso ∙ walk-end x iso (at .m) (view (now (a .s)), now (a .buf)) (c .loop-test .left)
 
 pub find-spec : {M : Type 1} → statement M
-find-spec =
-    tie.close
-    (tie.spec
-    Inv-loop
-    μ-loop
-    loop-holds
-    next-endpoint-requires
-    rest-of-requires
-    changed-requires
-    returns
-    loop-less
-    loop-again
-    returns-2)
+find-spec = tie.close (tie.spec Inv-loop μ-loop loop-holds next-endpoint-requires rest-of-requires changed-requires returns loop-less loop-again returns-2)

@@ -96,18 +96,5 @@ returns-3 c =
 
 pub iso-out-check-spec : {M : Type 1} → statement M
 iso-out-check-spec =
-    tie.close
-    (tie.spec
-    load-globals-requires
-    out-enabled-requires
-    find-requires
-    enum-known-f
-    entry-requires
-    arm-requires
-    same-length
-    returns
-    enum-told
-    same-length-2
-    returns-2
-    same-length-3
-    returns-3)
+    tie.close (tie.spec load-globals-requires out-enabled-requires find-requires enum-known-f entry-requires arm-requires same-length returns
+    enum-told same-length-2 returns-2 same-length-3 returns-3)

@@ -58,5 +58,6 @@ returns-3 c =
     (sym (f .ensures (a .x) (a .iso) ∙ found-nothing (a .x) (a .iso) (f .result) (view (now (a .s)), now (a .buf)) (c .enum-told .given .1)), (refl, tt))
 
 pub walk-on-spec : {M : Type 1} → statement M
-walk-on-spec = tie.close
-    (tie.spec find-requires enum-known-f entry-requires arm-requires same-length returns enum-told same-length-2 returns-2 same-length-3 returns-3)
+walk-on-spec =
+    tie.close (tie.spec find-requires enum-known-f entry-requires arm-requires same-length returns enum-told same-length-2 returns-2 same-length-3
+    returns-3)

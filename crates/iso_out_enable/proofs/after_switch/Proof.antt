@@ -59,15 +59,5 @@ returns-4 c =
 
 pub after-switch-spec : {M : Type 1} → statement M
 after-switch-spec =
-    tie.close
-    (tie.spec
-    sub-slot-step
-    slot-step-requires
-    same-length
-    returns
-    switch-word-requires
-    returns-2
-    type-step-requires
-    returns-3
-    config-step-requires
-    returns-4)
+    tie.close (tie.spec sub-slot-step slot-step-requires same-length returns switch-word-requires returns-2 type-step-requires returns-3
+    config-step-requires returns-4)

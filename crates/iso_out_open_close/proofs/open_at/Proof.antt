@@ -67,6 +67,6 @@ returns-3 c =
     )
 
 pub open-at-spec : {M : Type 1} → statement M
-open-at-spec = tie.close
-    (tie.spec load-ep-requires is-on-requires waiting-requires
-    open-oldest-requires oldest-at-requires next-len-requires next-stamp-requires returns returns-2 returns-3)
+open-at-spec =
+    tie.close (tie.spec load-ep-requires is-on-requires waiting-requires open-oldest-requires oldest-at-requires next-len-requires next-stamp-requires
+    returns returns-2 returns-3)

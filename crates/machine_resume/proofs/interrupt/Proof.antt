@@ -46,6 +46,4 @@ returns-2 c = (
 )
 
 pub interrupt-spec : {M : Type 1} → statement M
-interrupt-spec =
-    tie.close
-    (tie.spec slots-fit-requires resume-interrupt-requires same-length returns same-length-2 returns-2)
+interrupt-spec = tie.close (tie.spec slots-fit-requires resume-interrupt-requires same-length returns same-length-2 returns-2)

@@ -41,6 +41,4 @@ returns-2 c = (
 )
 
 pub operation-spec : {M : Type 1} → statement M
-operation-spec =
-    tie.close
-    (tie.spec slots-fit-requires resume-at-requires same-length returns same-length-2 returns-2)
+operation-spec = tie.close (tie.spec slots-fit-requires resume-at-requires same-length returns same-length-2 returns-2)

@@ -60,18 +60,5 @@ returns-6 c = record {
 
 pub resume-at-spec : {M : Type 1} → statement M
 resume-at-spec =
-    tie.close
-    (tie.spec
-    tag-requires
-    resume-driver-requires
-    resume-bus-requires
-    resume-control-requires
-    resume-endpoint-requires
-    resume-advance-requires
-    returns
-    same-length
-    returns-2
-    returns-3
-    returns-4
-    returns-5
-    returns-6)
+    tie.close (tie.spec tag-requires resume-driver-requires resume-bus-requires resume-control-requires resume-endpoint-requires
+    resume-advance-requires returns same-length returns-2 returns-3 returns-4 returns-5 returns-6)

@@ -200,7 +200,7 @@ resume-interrupt-spec =
     resume-host-requires resume-mis-requires resume-st-requires resume-len-requires resume-nak-requires resume-released-requires
     resume-settle-requires resume-frame-no-requires resume-sof-requires resume-late-requires resume-sof-arm-requires resume-flip-requires
     resume-flipped-requires resume-toggled-requires resume-completing-requires resume-check-requires resume-moved-read-requires
-    resume-moved-wrote-requires resume-setup-rx-requires resume-setup-tx-requires resume-setup-released-requires resume-frame-requires
-    returns returns-2 returns-3 returns-4 returns-5 returns-6 returns-7 returns-8 returns-9 returns-10 returns-11 same-length returns-12
-    same-length-2 returns-13 same-length-3 returns-14 same-length-4 returns-15 returns-16 same-length-5 returns-17 same-length-6 returns-18
-    same-length-7 returns-19 same-length-8 returns-20 returns-21 returns-22 returns-23 same-length-9 returns-24 returns-25 returns-26)
+    resume-moved-wrote-requires resume-setup-rx-requires resume-setup-tx-requires resume-setup-released-requires resume-frame-requires returns
+    returns-2 returns-3 returns-4 returns-5 returns-6 returns-7 returns-8 returns-9 returns-10 returns-11 same-length returns-12 same-length-2
+    returns-13 same-length-3 returns-14 same-length-4 returns-15 returns-16 same-length-5 returns-17 same-length-6 returns-18 same-length-7 returns-19
+    same-length-8 returns-20 returns-21 returns-22 returns-23 same-length-9 returns-24 returns-25 returns-26)

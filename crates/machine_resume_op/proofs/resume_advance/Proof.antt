@@ -60,12 +60,5 @@ returns-2 c = λ b. record {
 
 pub resume-advance-spec : {M : Type 1} → statement M
 resume-advance-spec =
-    tie.close
-    (tie.spec
-    load-saved-requires
-    decode-requires
-    fits-at-requires
-    iso-in-advance-resume-requires
-    suspend-or-end-advance-requires
-    returns
+    tie.close (tie.spec load-saved-requires decode-requires fits-at-requires iso-in-advance-resume-requires suspend-or-end-advance-requires returns
     returns-2)

@@ -161,9 +161,9 @@ returns-24 c = c .resume-enable .ensures _
 pub resume-bus-spec : {M : Type 1} → statement M
 resume-bus-spec =
     tie.close (tie.spec sub-byte-requires resume-event-requires resume-stalled-requires resume-stall-len-requires resume-stall-word-requires
-    resume-restarted-requires resume-woken-requires resume-flags-requires resume-status-requires resume-released-requires
-    resume-address-requires resume-ep0-out-requires resume-nak-in-requires resume-naked-requires resume-disabled-requires
-    resume-untyped-requires resume-single-requires resume-reset-requires resume-placed-out-requires resume-placed-in-requires
-    resume-no-length-requires resume-words-requires resume-typed-requires resume-switch-requires resume-enable-requires returns returns-2
-    returns-3 returns-4 returns-5 returns-6 returns-7 returns-8 returns-9 returns-10 returns-11 returns-12 returns-13 returns-14 returns-15
-    returns-16 returns-17 returns-18 returns-19 returns-20 returns-21 returns-22 same-length returns-23 returns-24)
+    resume-restarted-requires resume-woken-requires resume-flags-requires resume-status-requires resume-released-requires resume-address-requires
+    resume-ep0-out-requires resume-nak-in-requires resume-naked-requires resume-disabled-requires resume-untyped-requires resume-single-requires
+    resume-reset-requires resume-placed-out-requires resume-placed-in-requires resume-no-length-requires resume-words-requires resume-typed-requires
+    resume-switch-requires resume-enable-requires returns returns-2 returns-3 returns-4 returns-5 returns-6 returns-7 returns-8 returns-9 returns-10
+    returns-11 returns-12 returns-13 returns-14 returns-15 returns-16 returns-17 returns-18 returns-19 returns-20 returns-21 returns-22 same-length
+    returns-23 returns-24)

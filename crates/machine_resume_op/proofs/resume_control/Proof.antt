@@ -68,5 +68,5 @@ returns-9 c = c .resume-wrote .ensures _
 pub resume-control-spec : {M : Type 1} → statement M
 resume-control-spec =
     tie.close (tie.spec sub-byte-requires resume-ack-requires resume-status-len-requires resume-status-requires resume-stall-in-requires
-    resume-stalled-in-requires resume-stall-out-requires resume-closing-requires resume-loaded-requires resume-wrote-requires returns
-    returns-2 returns-3 returns-4 returns-5 returns-6 returns-7 returns-8 returns-9)
+    resume-stalled-in-requires resume-stall-out-requires resume-closing-requires resume-loaded-requires resume-wrote-requires returns returns-2
+    returns-3 returns-4 returns-5 returns-6 returns-7 returns-8 returns-9)

@@ -116,7 +116,7 @@ returns-17 c = c .resume-clear .ensures _
 pub resume-driver-spec : {M : Type 1} → statement M
 resume-driver-spec =
     tie.close (tie.spec sub-byte-requires resume-wait-requires resume-reset-requires resume-reset-end-requires resume-host-requires
-    resume-run-requires resume-int-en-requires resume-max-len-requires resume-place-requires resume-ep0-place-requires
-    resume-ep0-max-len-requires resume-ep0-rx-requires resume-ep0-tx-requires resume-ep0-packet-requires resume-frame-no-requires
-    resume-list-max-len-requires resume-list-place-requires resume-clear-requires returns returns-2 returns-3 returns-4 returns-5 returns-6
-    returns-7 returns-8 returns-9 returns-10 returns-11 returns-12 returns-13 returns-14 returns-15 returns-16 returns-17)
+    resume-run-requires resume-int-en-requires resume-max-len-requires resume-place-requires resume-ep0-place-requires resume-ep0-max-len-requires
+    resume-ep0-rx-requires resume-ep0-tx-requires resume-ep0-packet-requires resume-frame-no-requires resume-list-max-len-requires
+    resume-list-place-requires resume-clear-requires returns returns-2 returns-3 returns-4 returns-5 returns-6 returns-7 returns-8 returns-9
+    returns-10 returns-11 returns-12 returns-13 returns-14 returns-15 returns-16 returns-17)

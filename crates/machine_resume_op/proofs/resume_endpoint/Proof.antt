@@ -30,5 +30,4 @@ returns-3 : tie.Need-returns-3
 returns-3 c = c .resume-wrote .ensures _
 
 pub resume-endpoint-spec : {M : Type 1} → statement M
-resume-endpoint-spec =
-    tie.close (tie.spec sub-byte-requires resume-ack-requires resume-loaded-requires resume-wrote-requires returns returns-2 returns-3)
+resume-endpoint-spec = tie.close (tie.spec sub-byte-requires resume-ack-requires resume-loaded-requires resume-wrote-requires returns returns-2 returns-3)

@@ -76,18 +76,5 @@ returns c =
 
 pub copy-spec : {M : Type 1} → statement M
 copy-spec =
-    tie.close
-    (tie.spec
-    Inv-loop
-    μ-loop
-    cast-copy-few
-    copy-few-requires
-    loop-holds
-    copy16-requires
-    add-copy16
-    copy16-requires-2
-    add-i
-    loop-less
-    loop-again
-    same-length
-    returns)
+    tie.close (tie.spec Inv-loop μ-loop cast-copy-few copy-few-requires loop-holds copy16-requires add-copy16 copy16-requires-2 add-i loop-less
+    loop-again same-length returns)

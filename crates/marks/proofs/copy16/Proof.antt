@@ -59,18 +59,5 @@ returns c =
 
 pub copy16-spec : {M : Type 1} → statement M
 copy16-spec =
-    tie.close
-    (tie.spec
-    add-j
-    add-k
-    add-l
-    get4-requires
-    get4-requires-2
-    get4-requires-3
-    get4-requires-4
-    put4-requires
-    put4-requires-2
-    put4-requires-3
-    put4-requires-4
-    same-length
-    returns)
+    tie.close (tie.spec add-j add-k add-l get4-requires get4-requires-2 get4-requires-3 get4-requires-4 put4-requires put4-requires-2 put4-requires-3
+    put4-requires-4 same-length returns)

@@ -56,17 +56,5 @@ returns c = sym (copied-none _ _ _ _ (c .loop-test .left)) ∙ c .before .loop .
 
 pub copy-few-spec : {M : Type 1} → statement M
 copy-few-spec =
-    tie.close
-    (tie.spec
-    Inv-loop
-    μ-loop
-    loop-holds
-    cast-part
-    shared-slice-read-part
-    cast-part-2
-    slice-write-part
-    add-i
-    loop-less
-    loop-again
-    same-length
-    returns)
+    tie.close (tie.spec Inv-loop μ-loop loop-holds cast-part shared-slice-read-part cast-part-2 slice-write-part add-i loop-less loop-again
+    same-length returns)

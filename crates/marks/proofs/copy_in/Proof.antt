@@ -38,15 +38,4 @@ returns-3 c =
     copied-fits (s .buf .now) (c .before .before .copy .last .0) (s .at) (s .packet .now) (omega arith) (c .before .before .copy .ensures)
 
 pub copy-in-spec : {M : Type 1} → statement M
-copy-in-spec =
-    tie.close
-    (tie.spec
-    returns
-    sub-if2
-    returns-2
-    sub-copy
-    part-copy-start
-    part-copy-end
-    copy-requires
-    same-length
-    returns-3)
+copy-in-spec = tie.close (tie.spec returns sub-if2 returns-2 sub-copy part-copy-start part-copy-end copy-requires same-length returns-3)

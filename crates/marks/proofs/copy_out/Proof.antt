@@ -40,15 +40,4 @@ returns-3 c =
     (c .before .before .copy .last .0) (omega arith) (omega arith) (omega arith) (c .before .before .copy .ensures)
 
 pub copy-out-spec : {M : Type 1} → statement M
-copy-out-spec =
-    tie.close
-    (tie.spec
-    add-e
-    returns
-    returns-2
-    sub-copy
-    part-copy-start
-    part-copy-end
-    copy-requires
-    same-length
-    returns-3)
+copy-out-spec = tie.close (tie.spec add-e returns returns-2 sub-copy part-copy-start part-copy-end copy-requires same-length returns-3)

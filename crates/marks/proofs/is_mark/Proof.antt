@@ -53,17 +53,5 @@ returns-4 c =
 
 pub is-mark-spec : {M : Type 1} → statement M
 is-mark-spec =
-    tie.close
-    (tie.spec
-    mul-a
-    shared-slice-read-if1
-    returns
-    add-if2
-    shared-slice-read-if2
-    returns-2
-    add-if3
-    shared-slice-read-if3
-    returns-3
-    add-result
-    shared-slice-read-result
-    returns-4)
+    tie.close (tie.spec mul-a shared-slice-read-if1 returns add-if2 shared-slice-read-if2 returns-2 add-if3 shared-slice-read-if3 returns-3 add-result
+    shared-slice-read-result returns-4)

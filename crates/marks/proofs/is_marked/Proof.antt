@@ -29,13 +29,4 @@ returns-2 c =
     c .is-mark .ensures ∙ marked-fits (s .buf .now) (s .at) (omega arith)
 
 pub is-marked-spec : {M : Type 1} → statement M
-is-marked-spec =
-    tie.close
-    (tie.spec
-    add-if1
-    returns
-    sub-is-mark
-    part-is-mark-start
-    part-is-mark-end
-    is-mark-requires
-    returns-2)
+is-marked-spec = tie.close (tie.spec add-if1 returns sub-is-mark part-is-mark-start part-is-mark-end is-mark-requires returns-2)

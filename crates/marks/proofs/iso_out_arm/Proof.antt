@@ -44,16 +44,5 @@ returns-2 c =
 
 pub iso-out-arm-spec : {M : Type 1} → statement M
 iso-out-arm-spec =
-    tie.close
-    (tie.spec
-    armed-words-requires
-    cast-if1
-    mul-if1
-    add-if1
-    returns
-    sub-mark-words
-    part-mark-words-start
-    part-mark-words-end
-    mark-words-requires
-    same-length
-    returns-2)
+    tie.close (tie.spec armed-words-requires cast-if1 mul-if1 add-if1 returns sub-mark-words part-mark-words-start part-mark-words-end
+    mark-words-requires same-length returns-2)

@@ -54,18 +54,5 @@ returns-2 c = sym (found-none _ _ (omega arith)) ∙ c .before .loop .inv .2
 
 pub len-part-spec : {M : Type 1} → statement M
 len-part-spec =
-    tie.close
-    (tie.spec
-    Inv-loop
-    μ-loop
-    loop-holds
-    cast-k
-    sub-k
-    shared-slice-read-if1
-    mark-byte-requires
-    returns
-    sub-skip-words
-    skip-words-requires
-    loop-less
-    loop-again
-    returns-2)
+    tie.close (tie.spec Inv-loop μ-loop loop-holds cast-k sub-k shared-slice-read-if1 mark-byte-requires returns sub-skip-words skip-words-requires
+    loop-less loop-again returns-2)

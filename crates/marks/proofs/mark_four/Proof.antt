@@ -38,14 +38,5 @@ returns c =
 
 pub mark-four-spec : {M : Type 1} → statement M
 mark-four-spec =
-    tie.close
-    (tie.spec
-    mark-word-requires
-    add-mark-word
-    mark-word-requires-2
-    add-mark-word-2
-    mark-word-requires-3
-    add-mark-word-3
-    mark-word-requires-4
-    same-length
-    returns)
+    tie.close (tie.spec mark-word-requires add-mark-word mark-word-requires-2 add-mark-word-2 mark-word-requires-3 add-mark-word-3
+    mark-word-requires-4 same-length returns)

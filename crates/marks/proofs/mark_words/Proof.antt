@@ -85,23 +85,5 @@ returns c = sym (run-none _ _ _ (c .loop2-test .left)) ∙ c .before .loop2 .inv
 
 pub mark-words-spec : {M : Type 1} → statement M
 mark-words-spec =
-    tie.close
-    (tie.spec
-    Inv-loop
-    μ-loop
-    Inv-loop2
-    μ-loop2
-    loop-holds
-    cast-mark-word
-    mark-word-requires
-    add-i
-    loop-less
-    loop-again
-    loop2-holds
-    cast-mark-four
-    mark-four-requires
-    add-i-2
-    loop2-less
-    loop2-again
-    same-length
-    returns)
+    tie.close (tie.spec Inv-loop μ-loop Inv-loop2 μ-loop2 loop-holds cast-mark-word mark-word-requires add-i loop-less loop-again loop2-holds
+    cast-mark-four mark-four-requires add-i-2 loop2-less loop2-again same-length returns)

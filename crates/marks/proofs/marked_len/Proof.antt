@@ -31,13 +31,4 @@ returns-2 c =
     c .len-part .ensures ∙ len-fits (s .buf .now) (s .at) (s .max) (omega arith)
 
 pub marked-len-spec : {M : Type 1} → statement M
-marked-len-spec =
-    tie.close
-    (tie.spec
-    add-if1
-    returns
-    sub-len-part
-    part-len-part-start
-    part-len-part-end
-    len-part-requires
-    returns-2)
+marked-len-spec = tie.close (tie.spec add-if1 returns sub-len-part part-len-part-start part-len-part-end len-part-requires returns-2)

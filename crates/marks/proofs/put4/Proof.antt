@@ -39,15 +39,4 @@ returns c =
     rw (e1, e2, e3)
 
 pub put4-spec : {M : Type 1} → statement M
-put4-spec =
-    tie.close
-    (tie.spec
-    slice-write-s
-    add-s
-    slice-write-s-2
-    add-s-2
-    slice-write-s-3
-    add-s-3
-    slice-write-s-4
-    same-length
-    returns)
+put4-spec = tie.close (tie.spec slice-write-s add-s slice-write-s-2 add-s-2 slice-write-s-3 add-s-3 slice-write-s-4 same-length returns)

@@ -27,6 +27,4 @@ returns-2 : tie.Need-returns-2
 returns-2 c = search needs
 
 pub skip-words-spec : {M : Type 1} → statement M
-skip-words-spec =
-    tie.close
-    (tie.spec cast-unmarked-words unmarked-words-requires mul-result cast-result returns returns-2)
+skip-words-spec = tie.close (tie.spec cast-unmarked-words unmarked-words-requires mul-result cast-result returns returns-2)

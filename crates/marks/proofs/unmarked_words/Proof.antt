@@ -51,17 +51,4 @@ returns-2 c =
     (omega arith, rw z at (v .2))
 
 pub unmarked-words-spec : {M : Type 1} → statement M
-unmarked-words-spec =
-    tie.close
-    (tie.spec
-    Inv-loop
-    μ-loop
-    loop-holds
-    cast-is-mark
-    sub-is-mark
-    is-mark-requires
-    returns
-    sub-i
-    loop-less
-    loop-again
-    returns-2)
+unmarked-words-spec = tie.close (tie.spec Inv-loop μ-loop loop-holds cast-is-mark sub-is-mark is-mark-requires returns sub-i loop-less loop-again returns-2)

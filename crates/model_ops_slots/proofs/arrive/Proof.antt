@@ -71,5 +71,4 @@ returns-2 c =
     (ap (λ (x : ℕ × St). x .0) h, (ap (λ (x : ℕ × St). x .1 .0) h, (ap (λ (x : ℕ × St). x .1 .1) h, refl)))
 
 pub arrive-spec : {M : Type 1} → statement M
-arrive-spec =
-    tie.close (tie.spec load-globals-requires load-ep-requires receives-requires capped-requires arrived-requires same-length returns returns-2)
+arrive-spec = tie.close (tie.spec load-globals-requires load-ep-requires receives-requires capped-requires arrived-requires same-length returns returns-2)

@@ -96,16 +96,5 @@ returns-3 c =
 
 pub slot-step-spec : {M : Type 1} → statement M
 slot-step-spec =
-    tie.close
-    (tie.spec
-    load-ep-requires
-    is-on-requires
-    clear-stamps-requires
-    by-loan-requires
-    arm-requires
-    same-length
-    returns
-    arm-requires-2
-    same-length-2
-    returns-2
-    returns-3)
+    tie.close (tie.spec load-ep-requires is-on-requires clear-stamps-requires by-loan-requires arm-requires same-length returns arm-requires-2
+    same-length-2 returns-2 returns-3)

@@ -50,18 +50,5 @@ returns-2 c = (rw (c .enum-told2 .given .1) refl, omega arith)
 
 pub entry-spec : {M : Type 1} → statement M
 entry-spec =
-    tie.close
-    (tie.spec
-    enum-told
-    cast-result
-    mul-result
-    cast-result-2
-    add-result
-    enum-told-2
-    cast-result-3
-    mul-result-2
-    cast-result-4
-    add-result-2
-    add-result-3
-    returns
-    returns-2)
+    tie.close (tie.spec enum-told cast-result mul-result cast-result-2 add-result enum-told-2 cast-result-3 mul-result-2 cast-result-4 add-result-2
+    add-result-3 returns returns-2)

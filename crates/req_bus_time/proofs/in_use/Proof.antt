@@ -52,18 +52,4 @@ returns c =
     (rw e at (c .before .loop .inv .2), omega arith)
 
 pub in-use-spec : {M : Type 1} → statement M
-in-use-spec =
-    tie.close
-    (tie.spec
-    Inv-loop
-    μ-loop
-    loop-holds
-    cast-at
-    mul-wide
-    element-copy-out-wide
-    wide-requires
-    add-sum
-    add-k
-    loop-less
-    loop-again
-    returns)
+in-use-spec = tie.close (tie.spec Inv-loop μ-loop loop-holds cast-at mul-wide element-copy-out-wide wide-requires add-sum add-k loop-less loop-again returns)

@@ -73,21 +73,5 @@ returns c =
 
 pub keep-spec : {M : Type 1} → statement M
 keep-spec =
-    tie.close
-    (tie.spec
-    Inv-loop
-    μ-loop
-    cast-first
-    mul-first
-    loop-holds
-    cast-at
-    add-at
-    mul-entry-kept
-    element-copy-out-entry-kept
-    entry-kept-requires
-    mul-time
-    element-write-time
-    add-bit
-    loop-less
-    loop-again
-    returns)
+    tie.close (tie.spec Inv-loop μ-loop cast-first mul-first loop-holds cast-at add-at mul-entry-kept element-copy-out-entry-kept entry-kept-requires
+    mul-time element-write-time add-bit loop-less loop-again returns)

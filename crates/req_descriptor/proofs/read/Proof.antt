@@ -79,16 +79,5 @@ returns-4 c =
 
 pub read-spec : {M : Type 1} → statement M
 read-spec =
-    tie.close
-    (tie.spec
-    is-configuration-requires
-    refused-requires
-    returns
-    gathered-requires
-    agree-requires
-    refused-requires-2
-    returns-2
-    agree-requires-2
-    refused-requires-3
-    returns-3
-    returns-4)
+    tie.close (tie.spec is-configuration-requires refused-requires returns gathered-requires agree-requires refused-requires-2 returns-2
+    agree-requires-2 refused-requires-3 returns-3 returns-4)

@@ -72,17 +72,5 @@ returns-4 c =
 
 pub rewrite-spec : {M : Type 1} → statement M
 rewrite-spec =
-    tie.close
-    (tie.spec
-    is-configuration-requires
-    returns
-    gathered-requires
-    is-short-requires
-    returns-2
-    read-requires
-    enum-known-answer
-    enum-told
-    write-requires
-    returns-3
-    same-length
-    returns-4)
+    tie.close (tie.spec is-configuration-requires returns gathered-requires is-short-requires returns-2 read-requires enum-known-answer enum-told
+    write-requires returns-3 same-length returns-4)

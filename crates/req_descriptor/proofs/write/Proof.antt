@@ -51,15 +51,4 @@ returns-2 c =
     )
 
 pub write-spec : {M : Type 1} → statement M
-write-spec =
-    tie.close
-    (tie.spec
-    count-requires
-    mul-total
-    add-total
-    returns
-    configuration-requires
-    interface-requires
-    endpoints-requires
-    same-length
-    returns-2)
+write-spec = tie.close (tie.spec count-requires mul-total add-total returns configuration-requires interface-requires endpoints-requires same-length returns-2)

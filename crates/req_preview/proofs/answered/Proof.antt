@@ -21,5 +21,4 @@ unfolding answered
 returns-2 c = simp (c .given .ensures, c .before .before .answer2 .given .1)
 
 pub answered-spec : {M : Type 1} → statement M
-answered-spec =
-    tie.close (tie.spec enum-known-answer enum-known-answer-2 given-requires returns returns-2)
+answered-spec = tie.close (tie.spec enum-known-answer enum-known-answer-2 given-requires returns returns-2)

@@ -21,5 +21,4 @@ unfolding asked
 returns c = c .alloc-endpoint .ensures ∙ rw (c .before .direction .ensures)
 
 pub asked-spec : {M : Type 1} → statement M
-asked-spec =
-    tie.close (tie.spec cast-alloc-endpoint cast-alloc-endpoint-2 direction-requires alloc-endpoint-requires returns)
+asked-spec = tie.close (tie.spec cast-alloc-endpoint cast-alloc-endpoint-2 direction-requires alloc-endpoint-requires returns)

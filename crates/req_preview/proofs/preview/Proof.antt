@@ -53,13 +53,4 @@ returns-2 c =
     rw e (ap (λ (x : Trial). shown x) t)
 
 pub preview-spec : {M : Type 1} → statement M
-preview-spec =
-    tie.close
-    (tie.spec
-    read-requires
-    enum-known-answer
-    refused-requires
-    enum-told
-    try-all-requires
-    returns
-    returns-2)
+preview-spec = tie.close (tie.spec read-requires enum-known-answer refused-requires enum-told try-all-requires returns returns-2)

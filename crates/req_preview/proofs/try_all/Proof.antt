@@ -90,18 +90,5 @@ returns-2 c =
 
 pub try-all-spec : {M : Type 1} → statement M
 try-all-spec =
-    tie.close
-    (tie.spec
-    Inv-loop
-    μ-loop
-    count-requires
-    start-requires
-    loop-holds
-    returns
-    mul-e
-    element-copy-out-e
-    step-requires
-    add-i
-    loop-less
-    loop-again
-    returns-2)
+    tie.close (tie.spec Inv-loop μ-loop count-requires start-requires loop-holds returns mul-e element-copy-out-e step-requires add-i loop-less
+    loop-again returns-2)

@@ -46,13 +46,4 @@ returns-3 c =
     )
 
 pub between-visits-spec : {M : Type 1} → statement M
-between-visits-spec =
-    tie.close
-    (tie.spec
-    no-limits-requires
-    returns
-    no-limits-requires-2
-    returns-2
-    least-requires
-    greatest-requires
-    returns-3)
+between-visits-spec = tie.close (tie.spec no-limits-requires returns no-limits-requires-2 returns-2 least-requires greatest-requires returns-3)

@@ -24,5 +24,4 @@ returns-3 c =
     simp (← c .before .no-distance2 .ensures, c .if2 .left, ← c .before .before .before .no-distance .ensures, c .before .before .if1 .left)
 
 pub no-limits-spec : {M : Type 1} → statement M
-no-limits-spec =
-    tie.close (tie.spec no-distance-requires returns no-distance-requires-2 returns-2 returns-3)
+no-limits-spec = tie.close (tie.spec no-distance-requires returns no-distance-requires-2 returns-2 returns-3)

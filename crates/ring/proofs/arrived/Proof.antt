@@ -21,11 +21,4 @@ unfolding arrivedOf
 returns-2 c = simp (c .overrun .ensures, c .before .if1 .left, ← c .before .before .has-room-out .ensures)
 
 pub arrived-spec : {M : Type 1} → statement M
-arrived-spec =
-    tie.close
-    (tie.spec
-    has-room-out-requires
-    joined-requires
-    returns
-    overrun-requires
-    returns-2)
+arrived-spec = tie.close (tie.spec has-room-out-requires joined-requires returns overrun-requires returns-2)

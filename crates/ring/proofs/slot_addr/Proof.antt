@@ -27,12 +27,4 @@ unfolding slotAddr
 returns c = simp (c .wrapping-add-u32 .ensures, ← c .before .before .slot-index .ensures)
 
 pub slot-addr-spec : {M : Type 1} → statement M
-slot-addr-spec =
-    tie.close
-    (tie.spec
-    slot-index-requires
-    cast-offset
-    cast-offset-2
-    mul-offset
-    wrapping-add-u32-requires
-    returns)
+slot-addr-spec = tie.close (tie.spec slot-index-requires cast-offset cast-offset-2 mul-offset wrapping-add-u32-requires returns)

@@ -28,6 +28,4 @@ unfolding key
 returns-2 c = (simp (c .enum-told2 .given .1), omega arith)
 
 pub key-of-spec : {M : Type 1} → statement M
-key-of-spec =
-    tie.close
-    (tie.spec enum-told cast-result enum-told-2 cast-result-2 add-result returns returns-2)
+key-of-spec = tie.close (tie.spec enum-told cast-result enum-told-2 cast-result-2 add-result returns returns-2)

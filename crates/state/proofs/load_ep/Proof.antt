@@ -23,5 +23,4 @@ returns c =
     ep-at (now (st .args .s)) (st .args .dir) (st .args .e) (k .result) (c .read-ep .result) (k .ensures .0) (k .ensures .1) (c .read-ep .ensures)
 
 pub load-ep-spec : {M : Type 1} → statement M
-load-ep-spec =
-    tie.close (tie.spec key-of-requires mul-read-ep add-read-ep read-ep-requires returns)
+load-ep-spec = tie.close (tie.spec key-of-requires mul-read-ep add-read-ep read-ep-requires returns)

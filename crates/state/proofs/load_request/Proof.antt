@@ -24,6 +24,4 @@ returns c =
     (st .args .e) (k .result) (c .read-request .result) (k .ensures .0) (k .ensures .1) (c .read-request .ensures)
 
 pub load-request-spec : {M : Type 1} → statement M
-load-request-spec =
-    tie.close
-    (tie.spec key-of-requires mul-read-request add-read-request read-request-requires returns)
+load-request-spec = tie.close (tie.spec key-of-requires mul-read-request add-read-request read-request-requires returns)

@@ -36,6 +36,4 @@ returns c =
     )
 
 pub store-ep-spec : {M : Type 1} → statement M
-store-ep-spec =
-    tie.close
-    (tie.spec sized-requires key-of-requires mul-write-ep add-write-ep write-ep-requires returns)
+store-ep-spec = tie.close (tie.spec sized-requires key-of-requires mul-write-ep add-write-ep write-ep-requires returns)

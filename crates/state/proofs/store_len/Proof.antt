@@ -35,5 +35,4 @@ returns c =
     )
 
 pub store-len-spec : {M : Type 1} → statement M
-store-len-spec =
-    tie.close (tie.spec sized-requires len-key-requires mul-put16 add-put16 put16-requires returns)
+store-len-spec = tie.close (tie.spec sized-requires len-key-requires mul-put16 add-put16 put16-requires returns)

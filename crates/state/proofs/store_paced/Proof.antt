@@ -32,5 +32,4 @@ returns c =
     )
 
 pub store-paced-spec : {M : Type 1} → statement M
-store-paced-spec =
-    tie.close (tie.spec sized-requires cast-put16 mul-put16 add-put16 put16-requires returns)
+store-paced-spec = tie.close (tie.spec sized-requires cast-put16 mul-put16 add-put16 put16-requires returns)

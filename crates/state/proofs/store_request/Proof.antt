@@ -37,12 +37,4 @@ returns c =
     )
 
 pub store-request-spec : {M : Type 1} → statement M
-store-request-spec =
-    tie.close
-    (tie.spec
-    sized-requires
-    key-of-requires
-    mul-write-request
-    add-write-request
-    write-request-requires
-    returns)
+store-request-spec = tie.close (tie.spec sized-requires key-of-requires mul-write-request add-write-request write-request-requires returns)

@@ -37,14 +37,5 @@ returns-2 c =
 
 pub usbhs-between-visits-spec : {M : Type 1} → statement M
 usbhs-between-visits-spec =
-    tie.close
-    (tie.spec
-    between-visits-requires
-    enum-known-row
-    refused-requires
-    enum-known-l
-    reached-requires
-    reached-requires-2
-    ended-requires
-    returns
-    returns-2)
+    tie.close (tie.spec between-visits-requires enum-known-row refused-requires enum-known-l reached-requires reached-requires-2 ended-requires
+    returns returns-2)

@@ -59,19 +59,5 @@ returns-3 c =
 
 pub usbhs-card-finish-spec : {M : Type 1} → statement M
 usbhs-card-finish-spec =
-    tie.close
-    (tie.spec
-    writer-in-requires
-    finish-requires
-    enum-known-row
-    refused-requires
-    enum-told
-    ended-requires
-    enum-told-2
-    ended-requires-2
-    same-length
-    returns
-    same-length-2
-    returns-2
-    same-length-3
-    returns-3)
+    tie.close (tie.spec writer-in-requires finish-requires enum-known-row refused-requires enum-told ended-requires enum-told-2 ended-requires-2
+    same-length returns same-length-2 returns-2 same-length-3 returns-3)

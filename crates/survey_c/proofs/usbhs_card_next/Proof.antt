@@ -56,19 +56,5 @@ returns-3 c =
 
 pub usbhs-card-next-spec : {M : Type 1} → statement M
 usbhs-card-next-spec =
-    tie.close
-    (tie.spec
-    next-packet-requires
-    enum-known-row
-    refused-requires
-    enum-told
-    ended-requires
-    enum-known-e
-    cast-endpoint
-    done-requires
-    same-length
-    returns
-    same-length-2
-    returns-2
-    same-length-3
-    returns-3)
+    tie.close (tie.spec next-packet-requires enum-known-row refused-requires enum-told ended-requires enum-known-e cast-endpoint done-requires
+    same-length returns same-length-2 returns-2 same-length-3 returns-3)

@@ -71,18 +71,5 @@ returns-3 c =
 
 pub usbhs-card-read-spec : {M : Type 1} → statement M
 usbhs-card-read-spec =
-    tie.close
-    (tie.spec
-    next-packets-requires
-    enum-known-row
-    refused-requires
-    enum-told
-    ended-requires
-    enum-known-n
-    ended-requires-2
-    same-length
-    returns
-    same-length-2
-    returns-2
-    same-length-3
-    returns-3)
+    tie.close (tie.spec next-packets-requires enum-known-row refused-requires enum-told ended-requires enum-known-n ended-requires-2 same-length
+    returns same-length-2 returns-2 same-length-3 returns-3)

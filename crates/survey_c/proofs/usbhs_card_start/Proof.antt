@@ -29,13 +29,4 @@ returns-2 c =
     (rw e (c .ended .ensures), rw e)
 
 pub usbhs-card-start-spec : {M : Type 1} → statement M
-usbhs-card-start-spec =
-    tie.close
-    (tie.spec
-    start-requires
-    enum-known-row
-    refused-requires
-    enum-known-reader
-    ended-requires
-    returns
-    returns-2)
+usbhs-card-start-spec = tie.close (tie.spec start-requires enum-known-row refused-requires enum-known-reader ended-requires returns returns-2)

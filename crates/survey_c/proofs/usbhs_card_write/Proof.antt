@@ -61,18 +61,5 @@ returns-2 c =
 
 pub usbhs-card-write-spec : {M : Type 1} → statement M
 usbhs-card-write-spec =
-    tie.close
-    (tie.spec
-    writer-in-requires
-    endpoint-of-requires
-    write-requires
-    enum-known-row
-    refused-requires
-    enum-known-next
-    numbers-of-requires
-    result-of-requires
-    ended-requires
-    same-length
-    returns
-    same-length-2
-    returns-2)
+    tie.close (tie.spec writer-in-requires endpoint-of-requires write-requires enum-known-row refused-requires enum-known-next numbers-of-requires
+    result-of-requires ended-requires same-length returns same-length-2 returns-2)

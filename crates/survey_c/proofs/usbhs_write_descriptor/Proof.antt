@@ -41,15 +41,5 @@ returns-2 c =
 
 pub usbhs-write-descriptor-spec : {M : Type 1} → statement M
 usbhs-write-descriptor-spec =
-    tie.close
-    (tie.spec
-    rewrite-requires
-    enum-known-row
-    refused-requires
-    enum-known-n
-    cast-done
-    done-requires
-    same-length
-    returns
-    same-length-2
+    tie.close (tie.spec rewrite-requires enum-known-row refused-requires enum-known-n cast-done done-requires same-length returns same-length-2
     returns-2)

@@ -27,5 +27,4 @@ returns c = (
 )
 
 pub usbhs-allocate-spec : {M : Type 1} → statement M
-usbhs-allocate-spec =
-    tie.close (tie.spec dir-of-requires cast-allocate allocate-requires word-of-requires returns)
+usbhs-allocate-spec = tie.close (tie.spec dir-of-requires cast-allocate allocate-requires word-of-requires returns)

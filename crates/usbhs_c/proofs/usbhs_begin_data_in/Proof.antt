@@ -28,12 +28,4 @@ returns c =
     (_, c .word-of .ensures, c .before .before .before .begin-data-in .ensures)
 
 pub usbhs-begin-data-in-spec : {M : Type 1} → statement M
-usbhs-begin-data-in-spec =
-    tie.close
-    (tie.spec
-    flag-of-requires
-    flag-of-requires-2
-    begin-data-in-requires
-    word-of-requires
-    same-length
-    returns)
+usbhs-begin-data-in-spec = tie.close (tie.spec flag-of-requires flag-of-requires-2 begin-data-in-requires word-of-requires same-length returns)

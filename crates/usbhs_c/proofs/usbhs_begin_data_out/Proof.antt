@@ -24,10 +24,4 @@ returns c = (
 )
 
 pub usbhs-begin-data-out-spec : {M : Type 1} → statement M
-usbhs-begin-data-out-spec =
-    tie.close
-    (tie.spec
-    flag-of-requires
-    begin-data-out-requires
-    word-of-requires
-    returns)
+usbhs-begin-data-out-spec = tie.close (tie.spec flag-of-requires begin-data-out-requires word-of-requires returns)

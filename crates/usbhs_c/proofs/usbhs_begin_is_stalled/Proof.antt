@@ -27,5 +27,4 @@ returns c = (
 )
 
 pub usbhs-begin-is-stalled-spec : {M : Type 1} → statement M
-usbhs-begin-is-stalled-spec =
-    tie.close (tie.spec dir-of-requires begin-is-stalled-requires word-of-requires returns)
+usbhs-begin-is-stalled-spec = tie.close (tie.spec dir-of-requires begin-is-stalled-requires word-of-requires returns)

@@ -29,12 +29,4 @@ returns c =
     (_, c .word-of .ensures, c .before .before .before .begin-set-enabled .ensures)
 
 pub usbhs-begin-set-enabled-spec : {M : Type 1} → statement M
-usbhs-begin-set-enabled-spec =
-    tie.close
-    (tie.spec
-    dir-of-requires
-    flag-of-requires
-    begin-set-enabled-requires
-    word-of-requires
-    same-length
-    returns)
+usbhs-begin-set-enabled-spec = tie.close (tie.spec dir-of-requires flag-of-requires begin-set-enabled-requires word-of-requires same-length returns)

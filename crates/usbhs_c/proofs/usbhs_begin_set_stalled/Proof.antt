@@ -34,6 +34,4 @@ returns c = (
 )
 
 pub usbhs-begin-set-stalled-spec : {M : Type 1} → statement M
-usbhs-begin-set-stalled-spec =
-    tie.close
-    (tie.spec dir-of-requires flag-of-requires begin-set-stalled-requires word-of-requires returns)
+usbhs-begin-set-stalled-spec = tie.close (tie.spec dir-of-requires flag-of-requires begin-set-stalled-requires word-of-requires returns)

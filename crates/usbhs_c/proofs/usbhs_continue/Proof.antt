@@ -37,13 +37,4 @@ returns-2 : tie.Need-returns-2
 returns-2 c = search needs
 
 pub usbhs-continue-spec : {M : Type 1} → statement M
-usbhs-continue-spec =
-    tie.close
-    (tie.spec
-    tag-requires
-    interrupt-requires
-    same-length
-    returns
-    operation-word-requires
-    same-length-2
-    returns-2)
+usbhs-continue-spec = tie.close (tie.spec tag-requires interrupt-requires same-length returns operation-word-requires same-length-2 returns-2)

@@ -22,10 +22,4 @@ returns c = (
 )
 
 pub usbhs-poll-data-out-spec : {M : Type 1} → statement M
-usbhs-poll-data-out-spec =
-    tie.close
-    (tie.spec
-    poll-data-out-requires
-    word-of-requires
-    same-length
-    returns)
+usbhs-poll-data-out-spec = tie.close (tie.spec poll-data-out-requires word-of-requires same-length returns)

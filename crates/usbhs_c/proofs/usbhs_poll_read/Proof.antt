@@ -22,10 +22,4 @@ returns c = (
 )
 
 pub usbhs-poll-read-spec : {M : Type 1} → statement M
-usbhs-poll-read-spec =
-    tie.close
-    (tie.spec
-    poll-read-requires
-    word-of-requires
-    same-length
-    returns)
+usbhs-poll-read-spec = tie.close (tie.spec poll-read-requires word-of-requires same-length returns)

@@ -39,9 +39,4 @@ returns c = (
 )
 
 pub usbhs-poll-setup-spec : {M : Type 1} → statement M
-usbhs-poll-setup-spec =
-    tie.close
-    (tie.spec
-    poll-setup-requires
-    setup-word-requires
-    returns)
+usbhs-poll-setup-spec = tie.close (tie.spec poll-setup-requires setup-word-requires returns)

@@ -24,5 +24,4 @@ returns c = (
 )
 
 pub usbhs-set-paced-spec : {M : Type 1} → statement M
-usbhs-set-paced-spec =
-    tie.close (tie.spec flag-of-requires set-paced-requires word-of-requires returns)
+usbhs-set-paced-spec = tie.close (tie.spec flag-of-requires set-paced-requires word-of-requires returns)

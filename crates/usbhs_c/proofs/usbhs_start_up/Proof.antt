@@ -20,5 +20,4 @@ returns : tie.Need-returns
 returns c = (_, c .word-of .ensures, (λ a. simp (← c .before .before .flag-of .ensures) (c .before .start-up .ensures .0 a), c .before .start-up .ensures .1))
 
 pub usbhs-start-up-spec : {M : Type 1} → statement M
-usbhs-start-up-spec =
-    tie.close (tie.spec flag-of-requires start-up-requires word-of-requires returns)
+usbhs-start-up-spec = tie.close (tie.spec flag-of-requires start-up-requires word-of-requires returns)

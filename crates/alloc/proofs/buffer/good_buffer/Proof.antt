@@ -33,5 +33,4 @@ returns-3 c = simp (
 )
 
 pub good-buffer-spec : {M : Type 1} → statement M
-good-buffer-spec =
-    tie.close (tie.spec validate-buffer-size-requires returns returns-2 product-requires returns-3)
+good-buffer-spec = tie.close (tie.spec validate-buffer-size-requires returns returns-2 product-requires returns-3)

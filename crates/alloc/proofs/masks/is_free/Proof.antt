@@ -30,6 +30,4 @@ returns-2 c = simp (
 )
 
 pub is-free-spec : {M : Type 1} → statement M
-is-free-spec =
-    tie.close
-    (tie.spec taken-in-requires has-requires returns nums-requires has-requires-2 returns-2)
+is-free-spec = tie.close (tie.spec taken-in-requires has-requires returns nums-requires has-requires-2 returns-2)

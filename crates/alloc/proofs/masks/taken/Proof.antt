@@ -39,12 +39,4 @@ returns c =
     }
 
 pub taken-spec : {M : Type 1} → statement M
-taken-spec =
-    tie.close
-    (tie.spec
-    is-out-requires
-    add-to-requires
-    add-to-requires-2
-    add-to-requires-3
-    add-to-requires-4
-    returns)
+taken-spec = tie.close (tie.spec is-out-requires add-to-requires add-to-requires-2 add-to-requires-3 add-to-requires-4 returns)

@@ -17,5 +17,4 @@ unfolding withAllocated
 returns c = simp (c .add-to2 .ensures, ← c .before .add-to .ensures, ← c .before .before .is-out .ensures)
 
 pub with-allocated-spec : {M : Type 1} → statement M
-with-allocated-spec =
-    tie.close (tie.spec is-out-requires add-to-requires add-to-requires-2 returns)
+with-allocated-spec = tie.close (tie.spec is-out-requires add-to-requires add-to-requires-2 returns)

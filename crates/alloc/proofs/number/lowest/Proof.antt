@@ -64,15 +64,4 @@ returns-2 c =
     rw (i, z, none)
 
 pub lowest-spec : {M : Type 1} → statement M
-lowest-spec =
-    tie.close
-    (tie.spec
-    Inv-loop
-    μ-loop
-    loop-holds
-    is-free-requires
-    returns
-    add-e
-    loop-less
-    loop-again
-    returns-2)
+lowest-spec = tie.close (tie.spec Inv-loop μ-loop loop-holds is-free-requires returns add-e loop-less loop-again returns-2)

@@ -316,92 +316,12 @@ returns-24 c = simp (← c .code24 .ensures, ← c .before .flag-of11 .ensures, 
 
 pub encode-spec : {M : Type 1} → statement M
 encode-spec =
-    tie.close
-    (tie.spec
-    enum-told
-    code-requires
-    enum-known-p
-    code-requires-2
-    enum-told-2
-    code-requires-3
-    enum-known-p-2
-    code-requires-4
-    enum-known-p-3
-    dir-as-requires
-    code-requires-5
-    enum-known-p-4
-    flag-of-requires
-    code-requires-6
-    enum-known-p-5
-    dir-as-requires-2
-    code-requires-7
-    enum-told-3
-    code-requires-8
-    enum-told-4
-    code-requires-9
-    enum-known-p-6
-    flag-of-requires-2
-    code-requires-10
-    enum-told-5
-    code-requires-11
-    enum-told-6
-    code-requires-12
-    enum-known-p-7
-    code-requires-13
-    enum-known-p-8
-    code-requires-14
-    enum-told-7
-    code-requires-15
-    enum-told-8
-    code-requires-16
-    enum-told-9
-    code-requires-17
-    enum-told-10
-    code-requires-18
-    enum-known-p-9
-    flag-of-requires-3
-    code-requires-19
-    enum-known-p-10
-    flag-of-requires-4
-    flag-of-requires-5
-    code-requires-20
-    enum-known-p-11
-    flag-of-requires-6
-    flag-of-requires-7
-    code-requires-21
-    enum-known-p-12
-    dir-as-requires-3
-    flag-of-requires-8
-    flag-of-requires-9
-    code-requires-22
-    enum-known-p-13
-    dir-as-requires-4
-    flag-of-requires-10
-    code-requires-23
-    enum-known-p-14
-    flag-of-requires-11
-    code-requires-24
-    returns
-    returns-2
-    returns-3
-    returns-4
-    returns-5
-    returns-6
-    returns-7
-    returns-8
-    returns-9
-    returns-10
-    returns-11
-    returns-12
-    returns-13
-    returns-14
-    returns-15
-    returns-16
-    returns-17
-    returns-18
-    returns-19
-    returns-20
-    returns-21
-    returns-22
-    returns-23
-    returns-24)
+    tie.close (tie.spec enum-told code-requires enum-known-p code-requires-2 enum-told-2 code-requires-3 enum-known-p-2 code-requires-4 enum-known-p-3
+    dir-as-requires code-requires-5 enum-known-p-4 flag-of-requires code-requires-6 enum-known-p-5 dir-as-requires-2 code-requires-7 enum-told-3
+    code-requires-8 enum-told-4 code-requires-9 enum-known-p-6 flag-of-requires-2 code-requires-10 enum-told-5 code-requires-11 enum-told-6
+    code-requires-12 enum-known-p-7 code-requires-13 enum-known-p-8 code-requires-14 enum-told-7 code-requires-15 enum-told-8 code-requires-16
+    enum-told-9 code-requires-17 enum-told-10 code-requires-18 enum-known-p-9 flag-of-requires-3 code-requires-19 enum-known-p-10 flag-of-requires-4
+    flag-of-requires-5 code-requires-20 enum-known-p-11 flag-of-requires-6 flag-of-requires-7 code-requires-21 enum-known-p-12 dir-as-requires-3
+    flag-of-requires-8 flag-of-requires-9 code-requires-22 enum-known-p-13 dir-as-requires-4 flag-of-requires-10 code-requires-23 enum-known-p-14
+    flag-of-requires-11 code-requires-24 returns returns-2 returns-3 returns-4 returns-5 returns-6 returns-7 returns-8 returns-9 returns-10 returns-11
+    returns-12 returns-13 returns-14 returns-15 returns-16 returns-17 returns-18 returns-19 returns-20 returns-21 returns-22 returns-23 returns-24)

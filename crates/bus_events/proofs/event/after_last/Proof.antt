@@ -13,5 +13,4 @@ unfolding afterNaked afterReset
 returns c = (λ e h b. simp (c .set-ep-config .ensures .0, nak-none e h), (c .set-ep-config .ensures .1, refl))
 
 pub after-last-spec : {M : Type 1} → statement M
-after-last-spec =
-    tie.close (tie.spec set-ep-config-requires returns)
+after-last-spec = tie.close (tie.spec set-ep-config-requires returns)

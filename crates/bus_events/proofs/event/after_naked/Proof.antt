@@ -16,5 +16,4 @@ unfolding afterNaked
 returns c = (λ d b. simp (c .nak-word .ensures, nak-more _ (c .before .pre)), refl)
 
 pub after-naked-spec : {M : Type 1} → statement M
-after-naked-spec =
-    tie.close (tie.spec add-t3 nak-word-requires returns)
+after-naked-spec = tie.close (tie.spec add-t3 nak-word-requires returns)

@@ -26,11 +26,4 @@ returns c =
     )
 
 pub after-released-spec : {M : Type 1} → statement M
-after-released-spec =
-    tie.close
-    (tie.spec
-    load-globals-requires
-    with-suspend-requires
-    set-int-en-requires
-    cast-t8
-    returns)
+after-released-spec = tie.close (tie.spec load-globals-requires with-suspend-requires set-int-en-requires cast-t8 returns)

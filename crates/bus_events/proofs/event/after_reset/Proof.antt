@@ -32,12 +32,4 @@ returns c = (
 )
 
 pub after-reset-spec : {M : Type 1} → statement M
-after-reset-spec =
-    tie.close
-    (tie.spec
-    wake-all-requires
-    load-globals-requires
-    with-bus-rst-requires
-    set-int-en-requires
-    cast-t9
-    returns)
+after-reset-spec = tie.close (tie.spec wake-all-requires load-globals-requires with-bus-rst-requires set-int-en-requires cast-t9 returns)

@@ -30,6 +30,4 @@ returns-2 c = (
 )
 
 pub poll-spec : {M : Type 1} → statement M
-poll-spec =
-    tie.close
-    (tie.spec load-globals-requires is-on-requires returns store-globals-requires returns-2)
+poll-spec = tie.close (tie.spec load-globals-requires is-on-requires returns store-globals-requires returns-2)

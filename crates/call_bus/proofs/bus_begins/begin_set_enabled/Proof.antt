@@ -165,20 +165,5 @@ returns-4 c = (
 
 pub begin-set-enabled-spec : {M : Type 1} → statement M
 begin-set-enabled-spec =
-    tie.close
-    (tie.spec
-    slots-fit-requires
-    stop-requires
-    is-allocated-requires
-    clear-wakes-requires
-    low-requires
-    endpoint-set-enabled-requires
-    suspend-or-end-bus-requires
-    same-length
-    returns
-    same-length-2
-    returns-2
-    same-length-3
-    returns-3
-    same-length-4
-    returns-4)
+    tie.close (tie.spec slots-fit-requires stop-requires is-allocated-requires clear-wakes-requires low-requires endpoint-set-enabled-requires
+    suspend-or-end-bus-requires same-length returns same-length-2 returns-2 same-length-3 returns-3 same-length-4 returns-4)

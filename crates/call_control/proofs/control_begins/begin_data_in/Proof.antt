@@ -49,15 +49,5 @@ returns-3 c = let start = c .before .before .before .before .before .before .arg
 
 pub begin-data-in-spec : {M : Type 1} → statement M
 begin-data-in-spec =
-    tie.close
-    (tie.spec
-    slots-fit-requires
-    is-idle-requires
-    data-in-requires
-    begun-control-requires
-    same-length
-    returns
-    same-length-2
-    returns-2
-    same-length-3
-    returns-3)
+    tie.close (tie.spec slots-fit-requires is-idle-requires data-in-requires begun-control-requires same-length returns same-length-2 returns-2
+    same-length-3 returns-3)

@@ -45,13 +45,4 @@ returns-3 c = let start = c .before .before .before .before .before .args in pol
 
 pub poll-data-out-spec : {M : Type 1} → statement M
 poll-data-out-spec =
-    tie.close
-    (tie.spec
-    slots-fit-requires
-    is-idle-requires
-    poll-data-out-requires
-    polled-control-requires
-    same-length
-    returns
-    returns-2
-    returns-3)
+    tie.close (tie.spec slots-fit-requires is-idle-requires poll-data-out-requires polled-control-requires same-length returns returns-2 returns-3)

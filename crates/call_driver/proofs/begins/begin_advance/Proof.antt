@@ -52,14 +52,5 @@ returns-3 c = let start = c .before .before .before .args in
 
 pub begin-advance-spec : {M : Type 1} → statement M
 begin-advance-spec =
-    tie.close
-    (tie.spec
-    stop-requires
-    is-number-requires
-    clear-wakes-requires
-    low-requires
-    iso-in-advance-requires
-    suspend-or-end-advance-requires
-    returns
-    returns-2
-    returns-3)
+    tie.close (tie.spec stop-requires is-number-requires clear-wakes-requires low-requires iso-in-advance-requires suspend-or-end-advance-requires
+    returns returns-2 returns-3)

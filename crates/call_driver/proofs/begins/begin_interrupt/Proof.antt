@@ -48,12 +48,4 @@ returns-2 c = (
 )
 
 pub begin-interrupt-spec : {M : Type 1} → statement M
-begin-interrupt-spec =
-    tie.close
-    (tie.spec
-    stop-requires
-    clear-wakes-requires
-    on-interrupt-requires
-    suspend-or-end-interrupt-requires
-    returns
-    returns-2)
+begin-interrupt-spec = tie.close (tie.spec stop-requires clear-wakes-requires on-interrupt-requires suspend-or-end-interrupt-requires returns returns-2)

@@ -69,13 +69,4 @@ returns-3 c = (
 )
 
 pub set-paced-spec : {M : Type 1} → statement M
-set-paced-spec =
-    tie.close
-    (tie.spec
-    stop-requires
-    is-number-requires
-    low-requires
-    iso-in-set-paced-requires
-    returns
-    returns-2
-    returns-3)
+set-paced-spec = tie.close (tie.spec stop-requires is-number-requires low-requires iso-in-set-paced-requires returns returns-2 returns-3)

@@ -77,14 +77,4 @@ returns-3 c =
     )
 
 pub allocate-all-spec : {M : Type 1} → statement M
-allocate-all-spec =
-    tie.close
-    (tie.spec
-    stop-requires
-    read-requires
-    enum-known-answer
-    returns
-    enum-told
-    allocate-listed-requires
-    returns-2
-    returns-3)
+allocate-all-spec = tie.close (tie.spec stop-requires read-requires enum-known-answer returns enum-told allocate-listed-requires returns-2 returns-3)

@@ -59,13 +59,5 @@ returns-2 c =
 
 pub allocate-listed-spec : {M : Type 1} → statement M
 allocate-listed-spec =
-    tie.close
-    (tie.spec
-    load-allocator-requires
-    try-all-requires
-    allocate-each-requires
-    clear-wakes-requires
-    announce-all-requires
-    suspend-or-end-requires
-    returns
-    returns-2)
+    tie.close (tie.spec load-allocator-requires try-all-requires allocate-each-requires clear-wakes-requires announce-all-requires
+    suspend-or-end-requires returns returns-2)

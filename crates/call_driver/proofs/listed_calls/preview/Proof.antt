@@ -30,12 +30,4 @@ returns-2 : tie.Need-returns-2
 returns-2 c = c .unshown .ensures ∙ simp (← c .before .before .stop .ensures, ne-eqb _ _ (c .before .if1 .left))
 
 pub preview-spec : {M : Type 1} → statement M
-preview-spec =
-    tie.close
-    (tie.spec
-    stop-requires
-    load-allocator-requires
-    preview-requires
-    returns
-    unshown-requires
-    returns-2)
+preview-spec = tie.close (tie.spec stop-requires load-allocator-requires preview-requires returns unshown-requires returns-2)

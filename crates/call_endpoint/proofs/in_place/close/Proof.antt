@@ -45,11 +45,4 @@ returns-2 c = (
 )
 
 pub close-spec : {M : Type 1} → statement M
-close-spec =
-    tie.close
-    (tie.spec
-    may-pass-requires
-    iso-out-take-close-requires
-    told-requires
-    returns
-    returns-2)
+close-spec = tie.close (tie.spec may-pass-requires iso-out-take-close-requires told-requires returns returns-2)

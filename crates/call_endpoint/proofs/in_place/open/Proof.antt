@@ -69,13 +69,4 @@ returns-3 c = (
 )
 
 pub open-spec : {M : Type 1} → statement M
-open-spec =
-    tie.close
-    (tie.spec
-    slots-fit-requires
-    may-pass-requires
-    iso-out-take-requires
-    told-requires
-    returns
-    returns-2
-    returns-3)
+open-spec = tie.close (tie.spec slots-fit-requires may-pass-requires iso-out-take-requires told-requires returns returns-2 returns-3)

@@ -92,15 +92,5 @@ returns-3 c = (
 
 pub queue-spec : {M : Type 1} → statement M
 queue-spec =
-    tie.close
-    (tie.spec
-    slots-fit-requires
-    may-pass-requires
-    iso-in-prime-requires
-    told-requires
-    same-length
-    returns
-    same-length-2
-    returns-2
-    same-length-3
-    returns-3)
+    tie.close (tie.spec slots-fit-requires may-pass-requires iso-in-prime-requires told-requires same-length returns same-length-2 returns-2
+    same-length-3 returns-3)

@@ -26,12 +26,4 @@ returns-3 : tie.Need-returns-3
 returns-3 c = (λ b x. simp (c .enum-told .given .1), λ d e h. tt)
 
 pub told-spec : {M : Type 1} → statement M
-told-spec =
-    tie.close
-    (tie.spec
-    enum-known-p
-    enum-known-p-2
-    enum-told
-    returns
-    returns-2
-    returns-3)
+told-spec = tie.close (tie.spec enum-known-p enum-known-p-2 enum-told returns returns-2 returns-3)

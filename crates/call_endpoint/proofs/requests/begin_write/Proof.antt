@@ -49,15 +49,5 @@ returns-3 c = let start = c .before .before .before .before .before .before .arg
 
 pub begin-write-spec : {M : Type 1} → statement M
 begin-write-spec =
-    tie.close
-    (tie.spec
-    slots-fit-requires
-    is-idle-requires
-    begin-write-requires
-    begun-endpoint-requires
-    same-length
-    returns
-    same-length-2
-    returns-2
-    same-length-3
-    returns-3)
+    tie.close (tie.spec slots-fit-requires is-idle-requires begin-write-requires begun-endpoint-requires same-length returns same-length-2 returns-2
+    same-length-3 returns-3)

@@ -48,15 +48,5 @@ returns-3 c = let start = c .before .before .before .before .before .before .arg
 
 pub poll-write-spec : {M : Type 1} → statement M
 poll-write-spec =
-    tie.close
-    (tie.spec
-    slots-fit-requires
-    is-idle-requires
-    poll-write-requires
-    polled-endpoint-requires
-    same-length
-    returns
-    same-length-2
-    returns-2
-    same-length-3
-    returns-3)
+    tie.close (tie.spec slots-fit-requires is-idle-requires poll-write-requires polled-endpoint-requires same-length returns same-length-2 returns-2
+    same-length-3 returns-3)

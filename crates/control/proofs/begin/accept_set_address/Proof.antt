@@ -28,12 +28,4 @@ returns-2 c = (λ b. accept-refused _ b _ (c .before .before .load-globals .ensu
 
 pub accept-set-address-spec : {M : Type 1} → statement M
 accept-set-address-spec =
-    tie.close
-    (tie.spec
-    load-globals-requires
-    begin-row-requires
-    cast-set-address
-    set-address-requires
-    status-in-requires
-    returns
-    returns-2)
+    tie.close (tie.spec load-globals-requires begin-row-requires cast-set-address set-address-requires status-in-requires returns returns-2)

@@ -59,18 +59,5 @@ returns-2 c = (begin-refused _ _ _ _ (c .before .before .load-globals .ensures) 
 
 pub data-in-spec : {M : Type 1} → statement M
 data-in-spec =
-    tie.close
-    (tie.spec
-    load-globals-requires
-    begin-row-requires
-    length16-requires
-    cast-set-data-in
-    flag-of-requires
-    set-data-in-requires
-    clear-wakes-requires
-    fill0-requires
-    unready-requires
-    load-in-requires
-    same-length
-    returns
-    returns-2)
+    tie.close (tie.spec load-globals-requires begin-row-requires length16-requires cast-set-data-in flag-of-requires set-data-in-requires
+    clear-wakes-requires fill0-requires unready-requires load-in-requires same-length returns returns-2)

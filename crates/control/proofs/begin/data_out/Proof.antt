@@ -44,14 +44,5 @@ returns-2 c = (λ b. begin-refused _ _ b _ (c .before .before .load-globals .ens
 
 pub data-out-spec : {M : Type 1} → statement M
 data-out-spec =
-    tie.close
-    (tie.spec
-    load-globals-requires
-    begin-row-requires
-    length16-requires
-    set-request-requires
-    clear-wakes-requires
-    arm-out-requires
-    ack-out-requires
-    returns
-    returns-2)
+    tie.close (tie.spec load-globals-requires begin-row-requires length16-requires set-request-requires clear-wakes-requires arm-out-requires
+    ack-out-requires returns returns-2)

@@ -22,6 +22,4 @@ returns-2 : tie.Need-returns-2
 returns-2 c = (λ b. rw (c .set-armed .ensures .0, c .before .before .if1 .left), (c .set-armed .ensures .1, refl))
 
 pub load-in-spec : {M : Type 1} → statement M
-load-in-spec =
-    tie.close
-    (tie.spec close-out-requires word-of-requires cast-t10 returns set-armed-requires returns-2)
+load-in-spec = tie.close (tie.spec close-out-requires word-of-requires cast-t10 returns set-armed-requires returns-2)

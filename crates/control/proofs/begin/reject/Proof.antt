@@ -59,13 +59,5 @@ returns-2 c = (
 
 pub reject-spec : {M : Type 1} → statement M
 reject-spec =
-    tie.close
-    (tie.spec
-    load-globals-requires
-    is-started-requires
-    set-request-requires
-    clear-wakes-requires
-    set-armed-requires
-    set-armed-requires-2
-    returns
-    returns-2)
+    tie.close (tie.spec load-globals-requires is-started-requires set-request-requires clear-wakes-requires set-armed-requires set-armed-requires-2
+    returns returns-2)

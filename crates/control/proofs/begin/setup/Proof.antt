@@ -37,12 +37,4 @@ returns-2 : tie.Need-returns-2
 returns-2 c = (λ b. simp (c .if1 .left, ← c .before .is-started .ensures, ← c .before .before .load-globals .ensures), (refl, tt))
 
 pub setup-spec : {M : Type 1} → statement M
-setup-spec =
-    tie.close
-    (tie.spec
-    load-globals-requires
-    is-started-requires
-    set-request-requires
-    clear-wakes-requires
-    returns
-    returns-2)
+setup-spec = tie.close (tie.spec load-globals-requires is-started-requires set-request-requires clear-wakes-requires returns returns-2)

@@ -42,6 +42,4 @@ unfolding beginRow
 returns-4 c = simp (c .if1 .left, ← c .before .is-started .ensures)
 
 pub begin-row-spec : {M : Type 1} → statement M
-begin-row-spec =
-    tie.close
-    (tie.spec is-started-requires cast-if2 returns is-on-requires returns-2 returns-3 returns-4)
+begin-row-spec = tie.close (tie.spec is-started-requires cast-if2 returns is-on-requires returns-2 returns-3 returns-4)

@@ -109,35 +109,6 @@ returns-9 c = simp (c .code9 .ensures, c .before .flag-of2 .ensures, c .before .
 
 pub encode-spec : {M : Type 1} → statement M
 encode-spec =
-    tie.close
-    (tie.spec
-    enum-told
-    code-requires
-    enum-known-p
-    dir-as-requires
-    code-requires-2
-    enum-told-2
-    code-requires-3
-    enum-told-3
-    code-requires-4
-    enum-told-4
-    code-requires-5
-    enum-told-5
-    code-requires-6
-    enum-told-6
-    code-requires-7
-    enum-known-p-2
-    flag-of-requires
-    code-requires-8
-    enum-known-p-3
-    flag-of-requires-2
-    code-requires-9
-    returns
-    returns-2
-    returns-3
-    returns-4
-    returns-5
-    returns-6
-    returns-7
-    returns-8
-    returns-9)
+    tie.close (tie.spec enum-told code-requires enum-known-p dir-as-requires code-requires-2 enum-told-2 code-requires-3 enum-told-3 code-requires-4
+    enum-told-4 code-requires-5 enum-told-5 code-requires-6 enum-told-6 code-requires-7 enum-known-p-2 flag-of-requires code-requires-8 enum-known-p-3
+    flag-of-requires-2 code-requires-9 returns returns-2 returns-3 returns-4 returns-5 returns-6 returns-7 returns-8 returns-9)

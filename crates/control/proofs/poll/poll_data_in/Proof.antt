@@ -47,13 +47,5 @@ returns-3 c = (
 
 pub poll-data-in-spec : {M : Type 1} → statement M
 poll-data-in-spec =
-    tie.close
-    (tie.spec
-    load-control-requires
-    load-globals-requires
-    poll-row-requires
-    take-closing-requires
-    returns
-    take-in-requires
-    returns-2
+    tie.close (tie.spec load-control-requires load-globals-requires poll-row-requires take-closing-requires returns take-in-requires returns-2
     returns-3)

@@ -57,16 +57,5 @@ returns-3 c = let start = c .before .before .before .before .before .before .bef
 
 pub poll-data-out-spec : {M : Type 1} → statement M
 poll-data-out-spec =
-    tie.close
-    (tie.spec
-    load-control-requires
-    load-globals-requires
-    poll-row-requires
-    cast-if2
-    take-out-requires
-    same-length
-    returns
-    unready-requires
-    set-request-requires
-    returns-2
-    returns-3)
+    tie.close (tie.spec load-control-requires load-globals-requires poll-row-requires cast-if2 take-out-requires same-length returns unready-requires
+    set-request-requires returns-2 returns-3)

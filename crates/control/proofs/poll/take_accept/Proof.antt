@@ -69,16 +69,5 @@ returns-3 c = let start = c .before .before .before .before .before .before in (
 
 pub take-accept-spec : {M : Type 1} → statement M
 take-accept-spec =
-    tie.close
-    (tie.spec
-    load-ep-requires
-    is-on-requires
-    unready-requires
-    set-request-requires
-    is-on-requires-2
-    returns
-    clear-wakes-requires
-    cast-t16
-    returns-2
-    wait-on-requires
-    returns-3)
+    tie.close (tie.spec load-ep-requires is-on-requires unready-requires set-request-requires is-on-requires-2 returns clear-wakes-requires cast-t16
+    returns-2 wait-on-requires returns-3)

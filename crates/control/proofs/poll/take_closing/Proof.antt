@@ -133,23 +133,6 @@ returns-5 c = (
 
 pub take-closing-spec : {M : Type 1} → statement M
 take-closing-spec =
-    tie.close
-    (tie.spec
-    load-ep-requires
-    is-on-requires
-    unready-requires
-    unready-requires-2
-    set-request-requires
-    closed-requires
-    returns
-    set-request-requires-2
-    closed-requires-2
-    returns-2
-    load-globals-requires
-    is-on-requires-2
-    set-request-requires-3
-    returns-3
-    unready-requires-3
-    set-data-in-requires
-    returns-4
-    returns-5)
+    tie.close (tie.spec load-ep-requires is-on-requires unready-requires unready-requires-2 set-request-requires closed-requires returns
+    set-request-requires-2 closed-requires-2 returns-2 load-globals-requires is-on-requires-2 set-request-requires-3 returns-3 unready-requires-3
+    set-data-in-requires returns-4 returns-5)

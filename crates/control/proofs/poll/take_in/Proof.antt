@@ -72,15 +72,5 @@ returns-3 c = (
 
 pub take-in-spec : {M : Type 1} → statement M
 take-in-spec =
-    tie.close
-    (tie.spec
-    load-ep-requires
-    is-on-requires
-    is-on-requires-2
-    take-closing-requires
-    returns
-    unready-requires
-    set-request-requires
-    returns-2
-    wait-on-requires
-    returns-3)
+    tie.close (tie.spec load-ep-requires is-on-requires is-on-requires-2 take-closing-requires returns unready-requires set-request-requires returns-2
+    wait-on-requires returns-3)

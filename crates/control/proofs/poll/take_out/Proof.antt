@@ -77,18 +77,5 @@ returns-3 c =
 
 pub take-out-spec : {M : Type 1} → statement M
 take-out-spec =
-    tie.close
-    (tie.spec
-    load-ep-requires
-    is-on-requires
-    unready-requires
-    cast-if2
-    set-request-requires
-    returns
-    load-globals-requires
-    fetch-requires
-    set-request-requires-2
-    same-length
-    returns-2
-    wait-on-requires
-    returns-3)
+    tie.close (tie.spec load-ep-requires is-on-requires unready-requires cast-if2 set-request-requires returns load-globals-requires fetch-requires
+    set-request-requires-2 same-length returns-2 wait-on-requires returns-3)

@@ -33,6 +33,4 @@ returns-2 c = let start = c .before .before in (
 )
 
 pub take-setup-spec : {M : Type 1} → statement M
-take-setup-spec =
-    tie.close
-    (tie.spec is-on-requires store-globals-requires set-request-requires returns returns-2)
+take-setup-spec = tie.close (tie.spec is-on-requires store-globals-requires set-request-requires returns returns-2)

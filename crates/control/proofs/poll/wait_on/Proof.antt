@@ -32,6 +32,4 @@ returns-2 : tie.Need-returns-2
 returns-2 c = (λ out b. simp (c .if1 .left, ← c .before .is-on .ensures, ← c .before .before .load-globals .ensures), (refl, tt))
 
 pub wait-on-spec : {M : Type 1} → statement M
-wait-on-spec =
-    tie.close
-    (tie.spec load-globals-requires is-on-requires set-request-requires returns returns-2)
+wait-on-spec = tie.close (tie.spec load-globals-requires is-on-requires set-request-requires returns returns-2)

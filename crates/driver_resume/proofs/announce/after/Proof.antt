@@ -56,15 +56,5 @@ returns-3 c =
 
 pub after-spec : {M : Type 1} → statement M
 after-spec =
-    tie.close
-    (tie.spec
-    returns
-    end-of-requires
-    found-at-requires
-    found-at-requires-2
-    sub-first
-    first-requires
-    returns-2
-    sub-first-2
-    first-requires-2
+    tie.close (tie.spec returns end-of-requires found-at-requires found-at-requires-2 sub-first first-requires returns-2 sub-first-2 first-requires-2
     returns-3)

@@ -32,6 +32,4 @@ returns-3 c = let placed = c .before .before .place .ensures in
     (λ b. simp (placed .0, placed .1 .0, ne-eqb _ _ (c .before .before .before .before .if1 .left), c .enum-told2 .given .1), (placed .1 .1, refl))
 
 pub after-max-len-spec : {M : Type 1} → statement M
-after-max-len-spec =
-    tie.close
-    (tie.spec after-requires returns place-requires enum-told enum-told-2 returns-2 returns-3)
+after-max-len-spec = tie.close (tie.spec after-requires returns place-requires enum-told enum-told-2 returns-2 returns-3)

@@ -46,14 +46,5 @@ returns c = simp (
 
 pub end-of-spec : {M : Type 1} → statement M
 end-of-spec =
-    tie.close
-    (tie.spec
-    load-allocator-requires
-    load-ep-requires
-    is-iso-requires
-    slots-requires
-    cast-result
-    room-requires
-    cast-result-2
-    add-result
+    tie.close (tie.spec load-allocator-requires load-ep-requires is-iso-requires slots-requires cast-result room-requires cast-result-2 add-result
     returns)

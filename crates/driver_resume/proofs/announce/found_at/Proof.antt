@@ -54,15 +54,4 @@ returns-2 c =
     rw (i, z, found-none)
 
 pub found-at-spec : {M : Type 1} → statement M
-found-at-spec =
-    tie.close
-    (tie.spec
-    Inv-loop
-    μ-loop
-    loop-holds
-    starts-at-requires
-    returns
-    add-e
-    loop-less
-    loop-again
-    returns-2)
+found-at-spec = tie.close (tie.spec Inv-loop μ-loop loop-holds starts-at-requires returns add-e loop-less loop-again returns-2)

@@ -26,5 +26,4 @@ unfolding startsAt
 returns-2 c = simp (← c .before .is-allocated .ensures, c .if1 .left)
 
 pub starts-at-spec : {M : Type 1} → statement M
-starts-at-spec =
-    tie.close (tie.spec is-allocated-requires load-ep-requires cast-result returns returns-2)
+starts-at-spec = tie.close (tie.spec is-allocated-requires load-ep-requires cast-result returns returns-2)

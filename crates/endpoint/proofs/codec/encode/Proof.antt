@@ -40,15 +40,5 @@ returns-3 c = simp (c .code3 .ensures, c .before .before .p2 .given .1)
 
 pub encode-spec : {M : Type 1} → statement M
 encode-spec =
-    tie.close
-    (tie.spec
-    enum-known-p
-    dir-as-requires
-    code-requires
-    enum-told
-    code-requires-2
-    enum-known-p-2
-    code-requires-3
-    returns
-    returns-2
+    tie.close (tie.spec enum-known-p dir-as-requires code-requires enum-told code-requires-2 enum-known-p-2 code-requires-3 returns returns-2
     returns-3)

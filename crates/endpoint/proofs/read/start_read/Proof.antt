@@ -135,18 +135,5 @@ returns-5 c = (
 
 pub start-read-spec : {M : Type 1} → statement M
 start-read-spec =
-    tie.close
-    (tie.spec
-    is-enabled-requires
-    returns
-    load-ep-requires
-    cast-if2
-    returns-2
-    set-request-requires
-    clear-wakes-requires
-    is-on-requires
-    returns-3
-    is-on-requires-2
-    returns-4
-    set-armed-requires
-    returns-5)
+    tie.close (tie.spec is-enabled-requires returns load-ep-requires cast-if2 returns-2 set-request-requires clear-wakes-requires is-on-requires
+    returns-3 is-on-requires-2 returns-4 set-armed-requires returns-5)

@@ -88,18 +88,5 @@ returns-3 c = let p = iso-taken
 
 pub take-iso-spec : {M : Type 1} → statement M
 take-iso-spec =
-    tie.close
-    (tie.spec
-    is-enabled-requires
-    end-request-requires
-    returns
-    waiting-requires
-    returns-2
-    oldest-at-requires
-    next-len-requires
-    shorter-requires
-    fetch-requires
-    take-oldest-requires
-    end-request-requires-2
-    same-length
-    returns-3)
+    tie.close (tie.spec is-enabled-requires end-request-requires returns waiting-requires returns-2 oldest-at-requires next-len-requires
+    shorter-requires fetch-requires take-oldest-requires end-request-requires-2 same-length returns-3)

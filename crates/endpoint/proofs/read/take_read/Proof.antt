@@ -87,20 +87,5 @@ returns-4 c =
 
 pub take-read-spec : {M : Type 1} → statement M
 take-read-spec =
-    tie.close
-    (tie.spec
-    load-request-requires
-    is-on-requires
-    returns
-    cast-if2
-    load-ep-requires
-    is-on-requires-2
-    take-iso-requires
-    same-length
-    returns-2
-    take-ready-requires
-    same-length-2
-    returns-3
-    unready-requires
-    end-request-requires
-    returns-4)
+    tie.close (tie.spec load-request-requires is-on-requires returns cast-if2 load-ep-requires is-on-requires-2 take-iso-requires same-length
+    returns-2 take-ready-requires same-length-2 returns-3 unready-requires end-request-requires returns-4)

@@ -82,17 +82,5 @@ returns-3 c = let p = ready-waits (view (c .before .before .before .before .befo
 
 pub take-ready-spec : {M : Type 1} → statement M
 take-ready-spec =
-    tie.close
-    (tie.spec
-    is-on-requires
-    unready-requires
-    too-long-requires
-    end-request-requires
-    returns
-    load-ep-requires
-    fetch-requires
-    end-request-requires-2
-    same-length
-    returns-2
-    wait-on-requires
-    returns-3)
+    tie.close (tie.spec is-on-requires unready-requires too-long-requires end-request-requires returns load-ep-requires fetch-requires
+    end-request-requires-2 same-length returns-2 wait-on-requires returns-3)

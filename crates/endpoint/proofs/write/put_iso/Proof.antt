@@ -69,14 +69,5 @@ returns-3 c = (
 
 pub put-iso-spec : {M : Type 1} → statement M
 put-iso-spec =
-    tie.close
-    (tie.spec
-    is-enabled-requires
-    end-request-requires
-    returns
-    room-requires
-    returns-2
-    iso-in-enqueue-requires
-    end-request-requires-2
-    same-length
-    returns-3)
+    tie.close (tie.spec is-enabled-requires end-request-requires returns room-requires returns-2 iso-in-enqueue-requires end-request-requires-2
+    same-length returns-3)

@@ -38,12 +38,4 @@ returns-2 c = (
 )
 
 pub sent-ready-spec : {M : Type 1} → statement M
-sent-ready-spec =
-    tie.close
-    (tie.spec
-    is-on-requires
-    unready-requires
-    end-request-requires
-    returns
-    wait-on-requires
-    returns-2)
+sent-ready-spec = tie.close (tie.spec is-on-requires unready-requires end-request-requires returns wait-on-requires returns-2)

@@ -134,21 +134,5 @@ returns-4 c = (
 
 pub start-write-spec : {M : Type 1} → statement M
 start-write-spec =
-    tie.close
-    (tie.spec
-    is-enabled-requires
-    returns
-    load-ep-requires
-    cast-if2
-    returns-2
-    length16-requires
-    cast-set-request
-    set-request-requires
-    clear-wakes-requires
-    is-on-requires
-    returns-3
-    fill-requires
-    arm-in-requires
-    cast-t16
-    same-length
-    returns-4)
+    tie.close (tie.spec is-enabled-requires returns load-ep-requires cast-if2 returns-2 length16-requires cast-set-request set-request-requires
+    clear-wakes-requires is-on-requires returns-3 fill-requires arm-in-requires cast-t16 same-length returns-4)

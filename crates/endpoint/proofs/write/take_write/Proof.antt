@@ -83,19 +83,5 @@ returns-4 c =
 
 pub take-write-spec : {M : Type 1} → statement M
 take-write-spec =
-    tie.close
-    (tie.spec
-    load-request-requires
-    is-on-requires
-    returns
-    cast-if2
-    load-ep-requires
-    is-on-requires-2
-    put-iso-requires
-    same-length
-    returns-2
-    sent-ready-requires
-    returns-3
-    unready-requires
-    end-request-requires
-    returns-4)
+    tie.close (tie.spec load-request-requires is-on-requires returns cast-if2 load-ep-requires is-on-requires-2 put-iso-requires same-length returns-2
+    sent-ready-requires returns-3 unready-requires end-request-requires returns-4)

@@ -20,10 +20,4 @@ returns c =
     (λ v b. then-on (the-stop .ensures .0 b) (simp (the-wake2 .ensures .0, the-wake .ensures .0)), the-stop .ensures .1)
 
 pub after-setup-released-spec : {M : Type 1} → statement M
-after-setup-released-spec =
-    tie.close
-    (tie.spec
-    wake-requires
-    wake-requires-2
-    stop-requires
-    returns)
+after-setup-released-spec = tie.close (tie.spec wake-requires wake-requires-2 stop-requires returns)

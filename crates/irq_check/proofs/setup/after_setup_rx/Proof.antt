@@ -16,9 +16,4 @@ returns c =
     (λ v b. stops-at (the-stand-setup-tx .ensures) (refl) b (simp (c .before .nak-word .ensures)), stored-at (the-stand-setup-tx .ensures))
 
 pub after-setup-rx-spec : {M : Type 1} → statement M
-after-setup-rx-spec =
-    tie.close
-    (tie.spec
-    nak-word-requires
-    stand-setup-tx-requires
-    returns)
+after-setup-rx-spec = tie.close (tie.spec nak-word-requires stand-setup-tx-requires returns)

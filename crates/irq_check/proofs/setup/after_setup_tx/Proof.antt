@@ -17,9 +17,4 @@ returns c =
     (λ v. stops-at (the-stand-setup-released .ensures) (refl) _ (the-take .ensures .0), stored-at (the-stand-setup-released .ensures))
 
 pub after-setup-tx-spec : {M : Type 1} → statement M
-after-setup-tx-spec =
-    tie.close
-    (tie.spec
-    take-requires
-    stand-setup-released-requires
-    returns)
+after-setup-tx-spec = tie.close (tie.spec take-requires stand-setup-released-requires returns)

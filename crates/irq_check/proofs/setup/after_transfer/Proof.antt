@@ -23,11 +23,4 @@ unfolding afterTransfer
 returns-2 c = goes-in (c .stop .ensures) (λ b. simp (c .before .before .if1 .left))
 
 pub after-transfer-spec : {M : Type 1} → statement M
-after-transfer-spec =
-    tie.close
-    (tie.spec
-    nak-word-requires
-    stand-setup-rx-requires
-    returns
-    stop-requires
-    returns-2)
+after-transfer-spec = tie.close (tie.spec nak-word-requires stand-setup-rx-requires returns stop-requires returns-2)

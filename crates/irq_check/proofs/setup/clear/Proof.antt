@@ -12,9 +12,4 @@ returns : tie.Need-returns
 returns c = (simp (c .store-ep .ensures .0, c .before .before .load-ep .ensures), c .store-ep .ensures .1)
 
 pub clear-spec : {M : Type 1} → statement M
-clear-spec =
-    tie.close
-    (tie.spec
-    load-ep-requires
-    store-ep-requires
-    returns)
+clear-spec = tie.close (tie.spec load-ep-requires store-ep-requires returns)

@@ -12,9 +12,4 @@ returns : tie.Need-returns
 returns c = (simp (c .store-globals .ensures .0, c .before .before .load-globals .ensures), c .store-globals .ensures .1)
 
 pub keep-spec : {M : Type 1} → statement M
-keep-spec =
-    tie.close
-    (tie.spec
-    load-globals-requires
-    store-globals-requires
-    returns)
+keep-spec = tie.close (tie.spec load-globals-requires store-globals-requires returns)

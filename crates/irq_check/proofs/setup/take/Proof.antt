@@ -28,12 +28,4 @@ returns c = (
 )
 
 pub take-spec : {M : Type 1} → statement M
-take-spec =
-    tie.close
-    (tie.spec
-    setup-word-requires
-    setup-word-requires-2
-    clear-requires
-    clear-requires-2
-    keep-requires
-    returns)
+take-spec = tie.close (tie.spec setup-word-requires setup-word-requires-2 clear-requires clear-requires-2 keep-requires returns)

@@ -16,9 +16,4 @@ returns c =
     (λ v b. then-on (the-suspend .ensures .0 b) (simp (the-wake-bus .ensures .0)), the-suspend .ensures .1)
 
 pub after-bus-rst-spec : {M : Type 1} → statement M
-after-bus-rst-spec =
-    tie.close
-    (tie.spec
-    wake-bus-requires
-    suspend-requires
-    returns)
+after-bus-rst-spec = tie.close (tie.spec wake-bus-requires suspend-requires returns)

@@ -23,11 +23,4 @@ unfolding afterFifo
 returns-2 c = goes-in (c .after-host .ensures) (λ b. simp (← c .before .before .before .hst-sof .ensures, c .before .before .if1 .left))
 
 pub after-fifo-spec : {M : Type 1} → statement M
-after-fifo-spec =
-    tie.close
-    (tie.spec
-    hst-sof-requires
-    stand-host-requires
-    returns
-    after-host-requires
-    returns-2)
+after-fifo-spec = tie.close (tie.spec hst-sof-requires stand-host-requires returns after-host-requires returns-2)

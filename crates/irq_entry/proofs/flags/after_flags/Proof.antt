@@ -56,15 +56,5 @@ returns-2 c =
 
 pub after-flags-spec : {M : Type 1} → statement M
 after-flags-spec =
-    tie.close
-    (tie.spec
-    byte-requires
-    bus-rst-requires
-    load-globals-requires
-    with-bus-rst-requires
-    set-int-en-requires
-    cast-stand-bus-rst
-    stand-bus-rst-requires
-    returns
-    suspend-requires
-    returns-2)
+    tie.close (tie.spec byte-requires bus-rst-requires load-globals-requires with-bus-rst-requires set-int-en-requires cast-stand-bus-rst
+    stand-bus-rst-requires returns suspend-requires returns-2)

@@ -32,12 +32,4 @@ returns c =
     (the-store-globals .ensures .0))
 
 pub after-frame-spec : {M : Type 1} → statement M
-after-frame-spec =
-    tie.close
-    (tie.spec
-    short-requires
-    microframe-index-requires
-    load-globals-requires
-    store-globals-requires
-    stand-flags-requires
-    returns)
+after-frame-spec = tie.close (tie.spec short-requires microframe-index-requires load-globals-requires store-globals-requires stand-flags-requires returns)

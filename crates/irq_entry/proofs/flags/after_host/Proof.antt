@@ -30,12 +30,4 @@ returns-2 c =
     (tells _ _ _ (c .before .before .before .transfer .ensures) (c .before .before .if1 .left)))
 
 pub after-host-spec : {M : Type 1} → statement M
-after-host-spec =
-    tie.close
-    (tie.spec
-    setup-act-requires
-    transfer-requires
-    stand-mis-requires
-    returns
-    after-transfer-requires
-    returns-2)
+after-host-spec = tie.close (tie.spec setup-act-requires transfer-requires stand-mis-requires returns after-transfer-requires returns-2)

@@ -16,9 +16,4 @@ returns c =
     (λ v b. then-on (the-fifo .ensures .0 b) (simp (the-wake-bus .ensures .0)), the-fifo .ensures .1)
 
 pub after-suspend-spec : {M : Type 1} → statement M
-after-suspend-spec =
-    tie.close
-    (tie.spec
-    wake-bus-requires
-    fifo-requires
-    returns)
+after-suspend-spec = tie.close (tie.spec wake-bus-requires fifo-requires returns)

@@ -23,11 +23,4 @@ unfolding afterSuspend
 returns-2 c = goes-in (c .after-fifo .ensures) (λ b. simp (← c .before .before .before .fifo-ov .ensures, c .before .before .if1 .left))
 
 pub fifo-spec : {M : Type 1} → statement M
-fifo-spec =
-    tie.close
-    (tie.spec
-    fifo-ov-requires
-    stand-fifo-requires
-    returns
-    after-fifo-requires
-    returns-2)
+fifo-spec = tie.close (tie.spec fifo-ov-requires stand-fifo-requires returns after-fifo-requires returns-2)

@@ -43,14 +43,5 @@ returns-2 c = goes-in (c .fifo .ensures) (λ b. simp (← c .before .before .bef
 
 pub suspend-spec : {M : Type 1} → statement M
 suspend-spec =
-    tie.close
-    (tie.spec
-    suspend-requires
-    load-globals-requires
-    with-suspend-requires
-    set-int-en-requires
-    cast-stand-suspend
-    stand-suspend-requires
-    returns
-    fifo-requires
-    returns-2)
+    tie.close (tie.spec suspend-requires load-globals-requires with-suspend-requires set-int-en-requires cast-stand-suspend stand-suspend-requires
+    returns fifo-requires returns-2)

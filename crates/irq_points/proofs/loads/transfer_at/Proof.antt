@@ -47,5 +47,5 @@ returns c =
 
 pub transfer-at-spec : {M : Type 1} → statement M
 transfer-at-spec =
-    tie.close (tie.spec busy-byte-requires is-on-requires st-byte-requires len-word-requires late-byte-requires is-on-requires-2
-    len-ok-byte-requires is-on-requires-3 returns)
+    tie.close (tie.spec busy-byte-requires is-on-requires st-byte-requires len-word-requires late-byte-requires is-on-requires-2 len-ok-byte-requires
+    is-on-requires-3 returns)

@@ -43,5 +43,4 @@ returns-2 c =
     (sym (c .before .fits-at .ensures) ∙ c .if1 .left)
 
 pub resume-nak-spec : {M : Type 1} → statement M
-resume-nak-spec =
-    tie.close (tie.spec nak-at-requires fits-at-requires setup-at-requires transfer-at-requires after-naking-requires returns returns-2)
+resume-nak-spec = tie.close (tie.spec nak-at-requires fits-at-requires setup-at-requires transfer-at-requires after-naking-requires returns returns-2)

@@ -43,6 +43,4 @@ returns-2 c =
     (sym (c .before .fits-at .ensures) ∙ c .if1 .left)
 
 pub resume-settle-spec : {M : Type 1} → statement M
-resume-settle-spec =
-    tie.close (tie.spec settle-at-requires fits-at-requires setup-at-requires transfer-at-requires after-settling-requires returns
-    returns-2)
+resume-settle-spec = tie.close (tie.spec settle-at-requires fits-at-requires setup-at-requires transfer-at-requires after-settling-requires returns returns-2)

@@ -53,5 +53,5 @@ returns-2 c =
 
 pub resume-check-spec : {M : Type 1} → statement M
 resume-check-spec =
-    tie.close (tie.spec check-at-requires fits-at-requires setup-at-requires transfer-at-requires iso-at-requires after-checking-requires
-    same-length returns returns-2)
+    tie.close (tie.spec check-at-requires fits-at-requires setup-at-requires transfer-at-requires iso-at-requires after-checking-requires same-length
+    returns returns-2)

@@ -46,5 +46,4 @@ returns-2 c = refuses-16 (at-site 12 (c .before .before .before .pre) refl) (sym
 
 pub resume-frame-no-spec : {M : Type 1} → statement M
 resume-frame-no-spec =
-    tie.close (tie.spec fits-requires setup-at-requires transfer-at-requires iso-at-requires after-frame-no-requires same-length returns
-    returns-2)
+    tie.close (tie.spec fits-requires setup-at-requires transfer-at-requires iso-at-requires after-frame-no-requires same-length returns returns-2)

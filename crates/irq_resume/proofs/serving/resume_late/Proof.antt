@@ -44,5 +44,5 @@ returns c =
 
 pub resume-late-spec : {M : Type 1} → statement M
 resume-late-spec =
-    tie.close (tie.spec setup-at-requires transfer-at-requires iso-at-requires frame-word-requires late-at-requires
-    after-completions-requires same-length returns)
+    tie.close (tie.spec setup-at-requires transfer-at-requires iso-at-requires frame-word-requires late-at-requires after-completions-requires
+    same-length returns)

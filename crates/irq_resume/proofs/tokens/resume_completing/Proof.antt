@@ -38,5 +38,4 @@ returns c =
 
 pub resume-completing-spec : {M : Type 1} → statement M
 resume-completing-spec =
-    tie.close (tie.spec setup-at-requires transfer-at-requires iso-at-requires complete-at-requires after-completing-requires same-length
-    returns)
+    tie.close (tie.spec setup-at-requires transfer-at-requires iso-at-requires complete-at-requires after-completing-requires same-length returns)

@@ -46,5 +46,4 @@ returns-2 c = λ b. refuses-16 (at-site 16 (c .before .before .pre) refl) (sym (
 
 pub resume-flip-spec : {M : Type 1} → statement M
 resume-flip-spec =
-    tie.close (tie.spec fits-requires dir-at-requires setup-at-requires transfer-at-requires iso-at-requires after-flip-requires returns
-    returns-2)
+    tie.close (tie.spec fits-requires dir-at-requires setup-at-requires transfer-at-requires iso-at-requires after-flip-requires returns returns-2)

@@ -37,5 +37,4 @@ returns c =
     λ v. goes-on here refl (c .before .before .after-flipped .ensures .0 v) (c .before .before .after-flipped .ensures .1)
 
 pub resume-flipped-spec : {M : Type 1} → statement M
-resume-flipped-spec =
-    tie.close (tie.spec dir-at-requires setup-at-requires transfer-at-requires iso-at-requires after-flipped-requires same-length returns)
+resume-flipped-spec = tie.close (tie.spec dir-at-requires setup-at-requires transfer-at-requires iso-at-requires after-flipped-requires same-length returns)

@@ -29,12 +29,4 @@ returns c =
     (frame-read (a .setup) (a .x) _ (a .iso) _ _ _ _ _ (the-framed .ensures) (the-load-globals .ensures) (the-short .ensures))
 
 pub after-frame-no-spec : {M : Type 1} → statement M
-after-frame-no-spec =
-    tie.close
-    (tie.spec
-    short-requires
-    load-globals-requires
-    framed-requires
-    serve-requires
-    same-length
-    returns)
+after-frame-no-spec = tie.close (tie.spec short-requires load-globals-requires framed-requires serve-requires same-length returns)

@@ -12,9 +12,4 @@ returns-2 : tie.Need-returns-2
 returns-2 c = simp (← c .before .own-in .ensures, c .if1 .left)
 
 pub framed-spec : {M : Type 1} → statement M
-framed-spec =
-    tie.close
-    (tie.spec
-    own-in-requires
-    returns
-    returns-2)
+framed-spec = tie.close (tie.spec own-in-requires returns returns-2)

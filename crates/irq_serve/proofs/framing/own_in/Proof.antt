@@ -23,11 +23,4 @@ unfolding ownIn
 returns-4 c = simp (c .if1 .left)
 
 pub own-in-spec : {M : Type 1} → statement M
-own-in-spec =
-    tie.close
-    (tie.spec
-    is-in-requires
-    returns
-    returns-2
-    returns-3
-    returns-4)
+own-in-spec = tie.close (tie.spec is-in-requires returns returns-2 returns-3 returns-4)

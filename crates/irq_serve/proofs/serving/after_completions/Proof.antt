@@ -29,10 +29,4 @@ returns c =
     )
 
 pub after-completions-spec : {M : Type 1} → statement M
-after-completions-spec =
-    tie.close
-    (tie.spec
-    resume-requires
-    then-late-requires
-    same-length
-    returns)
+after-completions-spec = tie.close (tie.spec resume-requires then-late-requires same-length returns)

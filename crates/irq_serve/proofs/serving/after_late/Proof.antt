@@ -40,12 +40,4 @@ returns-2 c =
     (λ _ u. run concrete (afterDispatch (a .x) (a .iso)) u) _ _ (ap not (c .before .before .before .before .before .if1 .left)))
 
 pub after-late-spec : {M : Type 1} → statement M
-after-late-spec =
-    tie.close
-    (tie.spec
-    after-dispatch-requires
-    same-length
-    returns
-    dispatch-requires
-    same-length-2
-    returns-2)
+after-late-spec = tie.close (tie.spec after-dispatch-requires same-length returns dispatch-requires same-length-2 returns-2)

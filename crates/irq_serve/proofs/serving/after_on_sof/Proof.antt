@@ -26,10 +26,4 @@ returns c =
     (c .before .before .before .before .before .on-sof-resume .ensures .0 _))
 
 pub after-on-sof-spec : {M : Type 1} → statement M
-after-on-sof-spec =
-    tie.close
-    (tie.spec
-    on-sof-resume-requires
-    then-sof-requires
-    same-length
-    returns)
+after-on-sof-spec = tie.close (tie.spec on-sof-resume-requires then-sof-requires same-length returns)

@@ -45,13 +45,4 @@ returns-2 c =
     (c .before .before .before .before .before .if1 .left))
 
 pub after-sof-spec : {M : Type 1} → statement M
-after-sof-spec =
-    tie.close
-    (tie.spec
-    begin-requires
-    then-late-requires
-    same-length
-    returns
-    after-late-requires
-    same-length-2
-    returns-2)
+after-sof-spec = tie.close (tie.spec begin-requires then-late-requires same-length returns after-late-requires same-length-2 returns-2)

@@ -84,18 +84,5 @@ returns-3 c =
 
 pub serve-spec : {M : Type 1} → statement M
 serve-spec =
-    tie.close
-    (tie.spec
-    load-globals-requires
-    sof-due-requires
-    on-sof-requires
-    then-sof-requires
-    same-length
-    returns
-    begin-requires
-    then-late-requires
-    same-length-2
-    returns-2
-    after-late-requires
-    same-length-3
-    returns-3)
+    tie.close (tie.spec load-globals-requires sof-due-requires on-sof-requires then-sof-requires same-length returns begin-requires then-late-requires
+    same-length-2 returns-2 after-late-requires same-length-3 returns-3)

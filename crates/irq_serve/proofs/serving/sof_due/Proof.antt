@@ -15,9 +15,4 @@ unfolding sofDue
 returns-2 c = simp (← c .before .is-sof .ensures, c .if1 .left)
 
 pub sof-due-spec : {M : Type 1} → statement M
-sof-due-spec =
-    tie.close
-    (tie.spec
-    is-sof-requires
-    returns
-    returns-2)
+sof-due-spec = tie.close (tie.spec is-sof-requires returns returns-2)

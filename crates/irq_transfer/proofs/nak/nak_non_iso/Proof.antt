@@ -50,14 +50,4 @@ returns-3 c =
     )
 
 pub nak-non-iso-spec : {M : Type 1} → statement M
-nak-non-iso-spec =
-    tie.close
-    (tie.spec
-    endpoint-requires
-    load-ep-requires
-    out-naks-requires
-    returns
-    load-ep-requires-2
-    in-naks-requires
-    returns-2
-    returns-3)
+nak-non-iso-spec = tie.close (tie.spec endpoint-requires load-ep-requires out-naks-requires returns load-ep-requires-2 in-naks-requires returns-2 returns-3)

@@ -45,15 +45,4 @@ returns-2 : tie.Need-returns-2
 returns-2 c = (λ d b. simp (c .enum-told .given .1), tt)
 
 pub nak-non-iso-resume-spec : {M : Type 1} → statement M
-nak-non-iso-resume-spec =
-    tie.close
-    (tie.spec
-    enum-known-p
-    byte-requires
-    nak-requires
-    ctrl-of-requires
-    endpoint-requires
-    cast-t9
-    enum-told
-    returns
-    returns-2)
+nak-non-iso-resume-spec = tie.close (tie.spec enum-known-p byte-requires nak-requires ctrl-of-requires endpoint-requires cast-t9 enum-told returns returns-2)

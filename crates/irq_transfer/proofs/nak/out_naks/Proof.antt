@@ -37,13 +37,4 @@ returns-3 c =
     simp (← c .is-on .ensures, ← c .before .before .endpoint .ensures, ne-eqb _ _ (c .before .if2 .left), ← o .ensures, not-false (o .result) (at .if1 .left))
 
 pub out-naks-spec : {M : Type 1} → statement M
-out-naks-spec =
-    tie.close
-    (tie.spec
-    is-out-requires
-    returns
-    endpoint-requires
-    tog-ok-requires
-    returns-2
-    is-on-requires
-    returns-3)
+out-naks-spec = tie.close (tie.spec is-out-requires returns endpoint-requires tog-ok-requires returns-2 is-on-requires returns-3)

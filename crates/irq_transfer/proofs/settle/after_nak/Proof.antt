@@ -41,5 +41,4 @@ returns-2 c = (
 )
 
 pub after-nak-spec : {M : Type 1} → statement M
-after-nak-spec =
-    tie.close (tie.spec nak-non-iso-resume-requires enum-known-n enum-told retaken-requires returns returns-2)
+after-nak-spec = tie.close (tie.spec nak-non-iso-resume-requires enum-known-n enum-told retaken-requires returns returns-2)

@@ -33,13 +33,4 @@ returns-2 c = (
 )
 
 pub after-st-spec : {M : Type 1} → statement M
-after-st-spec =
-    tie.close
-    (tie.spec
-    byte-requires
-    nak-non-iso-requires
-    enum-known-n
-    enum-told
-    retaken-requires
-    returns
-    returns-2)
+after-st-spec = tie.close (tie.spec byte-requires nak-non-iso-requires enum-known-n enum-told retaken-requires returns returns-2)

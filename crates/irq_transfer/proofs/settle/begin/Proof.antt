@@ -66,14 +66,5 @@ returns-4 c =
 
 pub begin-spec : {M : Type 1} → statement M
 begin-spec =
-    tie.close
-    (tie.spec
-    endpoint-requires
-    load-ep-requires
-    waits-for-iso-requires
-    returns
-    load-ep-requires-2
-    waits-for-bulk-requires
-    returns-2
-    returns-3
-    returns-4)
+    tie.close (tie.spec endpoint-requires load-ep-requires waits-for-iso-requires returns load-ep-requires-2 waits-for-bulk-requires returns-2
+    returns-3 returns-4)

@@ -98,17 +98,5 @@ returns-5 c = simp (c .fits-at .ensures, c .before .before .p .given .1)
 
 pub fits-at-spec : {M : Type 1} → statement M
 fits-at-spec =
-    tie.close
-    (tie.spec
-    fits-requires
-    fits-requires-2
-    fits-requires-3
-    enum-told
-    fits-requires-4
-    enum-known-p
-    fits-at-requires
-    returns
-    returns-2
-    returns-3
-    returns-4
-    returns-5)
+    tie.close (tie.spec fits-requires fits-requires-2 fits-requires-3 enum-told fits-requires-4 enum-known-p fits-at-requires returns returns-2
+    returns-3 returns-4 returns-5)

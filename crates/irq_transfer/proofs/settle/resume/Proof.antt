@@ -107,34 +107,6 @@ returns-9 c = (λ b. simp (c .after-nak .ensures .0, c .before .before .p4 .give
 
 pub resume-spec : {M : Type 1} → statement M
 resume-spec =
-    tie.close
-    (tie.spec
-    enum-known-p
-    after-iso-look-requires
-    enum-told
-    byte-requires
-    enum-known-p-2
-    short-requires
-    late-taken-requires
-    enum-known-p-3
-    after-bulk-look-requires
-    enum-told-2
-    short-requires-2
-    waited-requires
-    enum-told-3
-    after-mis-requires
-    enum-told-4
-    after-flags-requires
-    enum-told-5
-    after-st-requires
-    enum-known-p-4
-    after-nak-requires
-    returns
-    returns-2
-    returns-3
-    returns-4
-    returns-5
-    returns-6
-    returns-7
-    returns-8
-    returns-9)
+    tie.close (tie.spec enum-known-p after-iso-look-requires enum-told byte-requires enum-known-p-2 short-requires late-taken-requires enum-known-p-3
+    after-bulk-look-requires enum-told-2 short-requires-2 waited-requires enum-told-3 after-mis-requires enum-told-4 after-flags-requires enum-told-5
+    after-st-requires enum-known-p-4 after-nak-requires returns returns-2 returns-3 returns-4 returns-5 returns-6 returns-7 returns-8 returns-9)

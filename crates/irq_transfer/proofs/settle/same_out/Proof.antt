@@ -34,6 +34,4 @@ returns-3 c = simp (
 )
 
 pub same-out-spec : {M : Type 1} → statement M
-same-out-spec =
-    tie.close
-    (tie.spec returns is-out-requires returns-2 endpoint-requires endpoint-requires-2 returns-3)
+same-out-spec = tie.close (tie.spec returns is-out-requires returns-2 endpoint-requires endpoint-requires-2 returns-3)

@@ -68,15 +68,4 @@ returns-5 c = simp (
 )
 
 pub waits-for-bulk-spec : {M : Type 1} → statement M
-waits-for-bulk-spec =
-    tie.close
-    (tie.spec
-    returns
-    endpoint-requires
-    returns-2
-    is-out-requires
-    returns-3
-    is-in-requires
-    returns-4
-    is-on-requires
-    returns-5)
+waits-for-bulk-spec = tie.close (tie.spec returns endpoint-requires returns-2 is-out-requires returns-3 is-in-requires returns-4 is-on-requires returns-5)

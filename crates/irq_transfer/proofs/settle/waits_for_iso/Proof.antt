@@ -34,5 +34,4 @@ returns-3 c = simp (
 )
 
 pub waits-for-iso-spec : {M : Type 1} → statement M
-waits-for-iso-spec =
-    tie.close (tie.spec returns is-out-requires returns-2 is-on-requires returns-3)
+waits-for-iso-spec = tie.close (tie.spec returns is-out-requires returns-2 is-on-requires returns-3)

@@ -21,5 +21,4 @@ returns : tie.Need-returns
 returns c = (λ d b. simp (c .ctrl-of .ensures, c .before .ack .ensures, c .before .before .byte .ensures), refl)
 
 pub after-ack-read-spec : {M : Type 1} → statement M
-after-ack-read-spec =
-    tie.close (tie.spec byte-requires ack-requires ctrl-of-requires cast-t7 returns)
+after-ack-read-spec = tie.close (tie.spec byte-requires ack-requires ctrl-of-requires cast-t7 returns)

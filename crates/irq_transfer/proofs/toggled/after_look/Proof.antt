@@ -35,5 +35,4 @@ returns-2 : tie.Need-returns-2
 returns-2 c = (λ d b. simp (wait-more _ _ (over-told _ _ _ _ _ (c .before .before .byte .ensures) (c .before .over .ensures) (c .if1 .left))), refl)
 
 pub after-look-spec : {M : Type 1} → statement M
-after-look-spec =
-    tie.close (tie.spec byte-requires over-requires ctrl-of-requires returns sub-t12 returns-2)
+after-look-spec = tie.close (tie.spec byte-requires over-requires ctrl-of-requires returns sub-t12 returns-2)

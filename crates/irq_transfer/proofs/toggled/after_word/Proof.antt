@@ -73,15 +73,5 @@ returns-3 c = (
 
 pub after-word-spec : {M : Type 1} → statement M
 after-word-spec =
-    tie.close
-    (tie.spec
-    byte-requires
-    load-ep-requires
-    repeated-requires
-    is-on-requires
-    ctrl-of-requires
-    returns
-    returns-2
-    data1-requires
-    store-ep-requires
-    returns-3)
+    tie.close (tie.spec byte-requires load-ep-requires repeated-requires is-on-requires ctrl-of-requires returns returns-2 data1-requires
+    store-ep-requires returns-3)

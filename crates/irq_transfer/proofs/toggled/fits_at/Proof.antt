@@ -44,16 +44,5 @@ returns-4 c = simp (c .enum-told3 .given .1)
 
 pub fits-at-spec : {M : Type 1} → statement M
 fits-at-spec =
-    tie.close
-    (tie.spec
-    enum-known-p
-    fits-requires
-    enum-told
-    fits-requires-2
-    enum-told-2
-    fits-requires-3
-    enum-told-3
-    returns
-    returns-2
-    returns-3
+    tie.close (tie.spec enum-known-p fits-requires enum-told fits-requires-2 enum-told-2 fits-requires-3 enum-told-3 returns returns-2 returns-3
     returns-4)

@@ -47,16 +47,5 @@ returns-4 c = (λ b. simp (c .enum-told3 .given .1), (refl, tt))
 
 pub resume-spec : {M : Type 1} → statement M
 resume-spec =
-    tie.close
-    (tie.spec
-    enum-known-p
-    after-look-requires
-    enum-told
-    after-word-requires
-    enum-told-2
-    after-ack-read-requires
-    enum-told-3
-    returns
-    returns-2
-    returns-3
-    returns-4)
+    tie.close (tie.spec enum-known-p after-look-requires enum-told after-word-requires enum-told-2 after-ack-read-requires enum-told-3 returns
+    returns-2 returns-3 returns-4)

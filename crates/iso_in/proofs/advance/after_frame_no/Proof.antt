@@ -39,6 +39,6 @@ returns c = (
 )
 
 pub after-frame-no-spec : {M : Type 1} → statement M
-after-frame-no-spec = tie.close
-    (tie.spec half-requires microframe-index-requires
-    load-paced-requires completions-requires frame-of-index-requires cast-go-on go-on-requires returns)
+after-frame-no-spec =
+    tie.close (tie.spec half-requires microframe-index-requires load-paced-requires completions-requires frame-of-index-requires cast-go-on
+    go-on-requires returns)

@@ -66,5 +66,6 @@ returns-2 c = (
 )
 
 pub find-spec : {M : Type 1} → statement M
-find-spec = tie.close
-    (tie.spec Inv-loop μ-loop loop-holds next-endpoint-requires rest-of-requires first-in-frame-requires returns loop-less loop-again returns-2)
+find-spec =
+    tie.close (tie.spec Inv-loop μ-loop loop-holds next-endpoint-requires rest-of-requires first-in-frame-requires returns loop-less loop-again
+    returns-2)

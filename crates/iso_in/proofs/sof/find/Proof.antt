@@ -65,6 +65,6 @@ returns-2 c = λ b.
     ∙ c .before .loop .inv .1 b
 
 pub find-spec : {M : Type 1} → statement M
-find-spec = tie.close
-    (tie.spec Inv-loop μ-loop loop-holds next-endpoint-requires
-    rest-of-requires load-ep-requires in-previous-requires returns loop-less loop-again returns-2)
+find-spec =
+    tie.close (tie.spec Inv-loop μ-loop loop-holds next-endpoint-requires rest-of-requires load-ep-requires in-previous-requires returns loop-less
+    loop-again returns-2)

@@ -42,6 +42,6 @@ returns-4 : tie.Need-returns-4
 returns-4 c = (λ b. simp (c .enum-told .given .1), (refl, tt))
 
 pub on-sof-resume-spec : {M : Type 1} → statement M
-on-sof-resume-spec = tie.close
-    (tie.spec enum-known-p after-mis-requires enum-known-p-2
-    after-st-requires enum-known-p-3 after-completing-requires enum-told returns returns-2 returns-3 returns-4)
+on-sof-resume-spec =
+    tie.close (tie.spec enum-known-p after-mis-requires enum-known-p-2 after-st-requires enum-known-p-3 after-completing-requires enum-told returns
+    returns-2 returns-3 returns-4)

@@ -13,5 +13,4 @@ returns : tie.Need-returns
 returns c = λ u e. record { answered = refl; viewed = c .store-saved .ensures .0; stored = c .store-saved .ensures .1 ∙ sym e }
 
 pub asks-spec : {M : Type 1} → statement M
-asks-spec =
-    tie.close (tie.spec store-saved-requires returns)
+asks-spec = tie.close (tie.spec store-saved-requires returns)

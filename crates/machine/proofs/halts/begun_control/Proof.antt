@@ -47,5 +47,4 @@ returns-3 : tie.Need-returns-3
 returns-3 c = (λ b. c .ended .ensures .there b ∙ simp (c .before .before .before .n3 .given .1), c .ended .ensures .stored _)
 
 pub begun-control-spec : {M : Type 1} → statement M
-begun-control-spec =
-    tie.close (tie.spec enum-known-n enum-known-n-2 encode-requires asks-requires enum-known-n-3 ended-requires returns returns-2 returns-3)
+begun-control-spec = tie.close (tie.spec enum-known-n enum-known-n-2 encode-requires asks-requires enum-known-n-3 ended-requires returns returns-2 returns-3)

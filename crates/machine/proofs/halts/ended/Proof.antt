@@ -33,5 +33,4 @@ returns c = record {
 }
 
 pub ended-spec : {M : Type 1} → statement M
-ended-spec =
-    tie.close (tie.spec nothing-requires store-saved-requires how-many-requires returns)
+ended-spec = tie.close (tie.spec nothing-requires store-saved-requires how-many-requires returns)

@@ -74,5 +74,5 @@ returns-5 c =
 
 pub polled-control-spec : {M : Type 1} → statement M
 polled-control-spec =
-    tie.close (tie.spec enum-known-n enum-told enum-known-n-2 enum-known-n-3 enum-known-n-4 encode-requires asks-requires returns returns-2
-    returns-3 returns-4 returns-5)
+    tie.close (tie.spec enum-known-n enum-told enum-known-n-2 enum-known-n-3 enum-known-n-4 encode-requires asks-requires returns returns-2 returns-3
+    returns-4 returns-5)

@@ -20,5 +20,4 @@ returns-2 : tie.Need-returns-2
 returns-2 c = simp (idle-by (saved (now (c .before .before .args .s))) _ (c .before .tag .ensures), ne-eqb _ _ (c .if1 .left))
 
 pub is-idle-spec : {M : Type 1} → statement M
-is-idle-spec =
-    tie.close (tie.spec tag-requires returns returns-2)
+is-idle-spec = tie.close (tie.spec tag-requires returns returns-2)

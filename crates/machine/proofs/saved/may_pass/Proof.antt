@@ -20,5 +20,4 @@ returns-2 : tie.Need-returns-2
 returns-2 c = simp (passes-by (saved (now (c .before .before .args .s))) _ (c .before .tag .ensures), ne-eqb _ _ (c .if1 .left))
 
 pub may-pass-spec : {M : Type 1} → statement M
-may-pass-spec =
-    tie.close (tie.spec tag-requires returns returns-2)
+may-pass-spec = tie.close (tie.spec tag-requires returns returns-2)

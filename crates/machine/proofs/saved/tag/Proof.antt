@@ -12,5 +12,4 @@ returns : tie.Need-returns
 returns c = simp (c .load-saved .ensures)
 
 pub tag-spec : {M : Type 1} → statement M
-tag-spec =
-    tie.close (tie.spec load-saved-requires returns)
+tag-spec = tie.close (tie.spec load-saved-requires returns)

@@ -25,5 +25,4 @@ unfolding slotsFit fits
 returns c = simp (c .fits2 .ensures, c .before .before .before .load-allocator .ensures)
 
 pub slots-fit-spec : {M : Type 1} → statement M
-slots-fit-spec =
-    tie.close (tie.spec load-allocator-requires cast-fits cast-fits-2 fits-requires returns)
+slots-fit-spec = tie.close (tie.spec load-allocator-requires cast-fits cast-fits-2 fits-requires returns)

@@ -37,5 +37,4 @@ unfolding stopOf
 returns-3 c = simp (← c .before .is-idle .ensures, c .if1 .left)
 
 pub stop-spec : {M : Type 1} → statement M
-stop-spec =
-    tie.close (tie.spec is-idle-requires load-globals-requires returns returns-2 returns-3)
+stop-spec = tie.close (tie.spec is-idle-requires load-globals-requires returns returns-2 returns-3)

@@ -70,5 +70,5 @@ returns-4 c = λ b. stays-at bus (at-point bus 7 (c .before .before .pre) refl) 
 
 pub resume-flags-spec : {M : Type 1} → statement M
 resume-flags-spec =
-    tie.close (tie.spec fits-requires byte-requires bus-rst-requires stand-address-requires returns suspend-requires stand-status-requires
-    returns-2 stop-requires returns-3 returns-4)
+    tie.close (tie.spec fits-requires byte-requires bus-rst-requires stand-address-requires returns suspend-requires stand-status-requires returns-2
+    stop-requires returns-3 returns-4)

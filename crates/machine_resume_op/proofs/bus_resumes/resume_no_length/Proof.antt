@@ -33,5 +33,4 @@ returns c =
     λ v b. goes-to bus here refl (c .stand-words .ensures) (next .ensures .1) (next .ensures .0 _ b)
 
 pub resume-no-length-spec : {M : Type 1} → statement M
-resume-no-length-spec =
-    tie.close (tie.spec ep-byte-requires iso-at-requires on-at-requires after-no-length-requires stand-words-requires returns)
+resume-no-length-spec = tie.close (tie.spec ep-byte-requires iso-at-requires on-at-requires after-no-length-requires stand-words-requires returns)

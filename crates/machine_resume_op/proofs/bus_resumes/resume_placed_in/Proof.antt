@@ -34,5 +34,4 @@ returns c =
     λ v b. goes-to bus here refl (c .stand-no-length .ensures) (next .ensures .1 true true) (next .ensures .0 _ _ v _ b)
 
 pub resume-placed-in-spec : {M : Type 1} → statement M
-resume-placed-in-spec =
-    tie.close (tie.spec ep-byte-requires iso-at-requires on-at-requires after-placed-in-requires stand-no-length-requires returns)
+resume-placed-in-spec = tie.close (tie.spec ep-byte-requires iso-at-requires on-at-requires after-placed-in-requires stand-no-length-requires returns)

@@ -37,5 +37,4 @@ returns-2 c =
     λ v b. goes-to bus here refl (c .stand-event2 .ensures) (next .ensures .1 .1 4) (next .ensures .0 false b)
 
 pub resume-released-spec : {M : Type 1} → statement M
-resume-released-spec =
-    tie.close (tie.spec iso-at-requires after-released-requires stand-event-requires returns stand-event-requires-2 returns-2)
+resume-released-spec = tie.close (tie.spec iso-at-requires after-released-requires stand-event-requires returns stand-event-requires-2 returns-2)

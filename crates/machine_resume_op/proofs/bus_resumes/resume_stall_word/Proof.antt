@@ -39,5 +39,4 @@ returns-2 : tie.Need-returns-2
 returns-2 c = λ b. stays-at bus (at-point bus 4 (c .before .before .pre) refl) (fits-word _ _ _ (sym (c .before .fits2 .ensures) ∙ c .if1 .left))
 
 pub resume-stall-word-spec : {M : Type 1} → statement M
-resume-stall-word-spec =
-    tie.close (tie.spec fits-requires dir-at-requires ep-byte-requires after-stall-word-requires stand-woken-requires returns returns-2)
+resume-stall-word-spec = tie.close (tie.spec fits-requires dir-at-requires ep-byte-requires after-stall-word-requires stand-woken-requires returns returns-2)

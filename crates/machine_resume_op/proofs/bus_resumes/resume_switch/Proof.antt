@@ -58,5 +58,5 @@ returns-2 c =
 
 pub resume-switch-spec : {M : Type 1} → statement M
 resume-switch-spec =
-    tie.close (tie.spec ep-byte-requires on-at-requires st-byte-requires wake-requires stop-requires returns after-switch-requires
-    sub-stand-switch stand-switch-requires same-length returns-2)
+    tie.close (tie.spec ep-byte-requires on-at-requires st-byte-requires wake-requires stop-requires returns after-switch-requires sub-stand-switch
+    stand-switch-requires same-length returns-2)

@@ -37,5 +37,4 @@ returns c =
     λ v b. goes-to bus here refl (c .stand-typed .ensures) (next .ensures .1 .1) (next .ensures .0 b)
 
 pub resume-words-spec : {M : Type 1} → statement M
-resume-words-spec =
-    tie.close (tie.spec dir-at-requires ep-byte-requires iso-at-requires on-at-requires after-words-requires stand-typed-requires returns)
+resume-words-spec = tie.close (tie.spec dir-at-requires ep-byte-requires iso-at-requires on-at-requires after-words-requires stand-typed-requires returns)

@@ -43,6 +43,4 @@ returns-2 : tie.Need-returns-2
 returns-2 c = λ b. stays-at control (at-point control 1 (c .before .before .pre) refl) (fits-ack _ _ (sym (c .before .fits2 .ensures) ∙ c .if1 .left))
 
 pub resume-ack-spec : {M : Type 1} → statement M
-resume-ack-spec =
-    tie.close (tie.spec fits-requires dir-at-requires byte-requires ack-requires ctrl-of-requires cast-t10 stand-wrote-requires returns
-    returns-2)
+resume-ack-spec = tie.close (tie.spec fits-requires dir-at-requires byte-requires ack-requires ctrl-of-requires cast-t10 stand-wrote-requires returns returns-2)

@@ -36,5 +36,4 @@ returns-2 c =
     (ap point.Loaded (sym (c .before .before .if1 .left) ∙ c .before .before .before .on-at .ensures))) refl (c .stand-ack-in .ensures) refl refl
 
 pub resume-loaded-spec : {M : Type 1} → statement M
-resume-loaded-spec =
-    tie.close (tie.spec on-at-requires word-of-requires cast-t8 stand-wrote-requires returns stand-ack-in-requires returns-2)
+resume-loaded-spec = tie.close (tie.spec on-at-requires word-of-requires cast-t8 stand-wrote-requires returns stand-ack-in-requires returns-2)

@@ -41,5 +41,5 @@ returns c =
 
 pub resume-list-place-spec : {M : Type 1} → statement M
 resume-list-place-spec =
-    tie.close (tie.spec flag-dir-at-requires ep-byte-requires busy-byte-requires late-byte-requires after-requires
-    suspend-or-end-driver-requires returns)
+    tie.close (tie.spec flag-dir-at-requires ep-byte-requires busy-byte-requires late-byte-requires after-requires suspend-or-end-driver-requires
+    returns)

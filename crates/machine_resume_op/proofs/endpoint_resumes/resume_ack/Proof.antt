@@ -50,5 +50,5 @@ returns-2 c = λ b. stays-at endpoint (at-point endpoint 1 (c .before .before .p
 
 pub resume-ack-spec : {M : Type 1} → statement M
 resume-ack-spec =
-    tie.close (tie.spec fits-requires dir-at-requires ep-byte-requires byte-requires ack-requires ctrl-of-requires cast-t12
-    stand-wrote-requires returns returns-2)
+    tie.close (tie.spec fits-requires dir-at-requires ep-byte-requires byte-requires ack-requires ctrl-of-requires cast-t12 stand-wrote-requires
+    returns returns-2)

@@ -62,13 +62,5 @@ returns-2 c = (
 
 pub allocate-spec : {M : Type 1} → statement M
 allocate-spec =
-    tie.close
-    (tie.spec
-    load-allocator-requires
-    alloc-endpoint-requires
-    store-allocator-requires
-    cast-if1
-    returns
-    maximum16-requires
-    given-requires
+    tie.close (tie.spec load-allocator-requires alloc-endpoint-requires store-allocator-requires cast-if1 returns maximum16-requires given-requires
     returns-2)

@@ -62,13 +62,5 @@ returns-2 c = (
 
 pub allocate0-spec : {M : Type 1} → statement M
 allocate0-spec =
-    tie.close
-    (tie.spec
-    load-allocator-requires
-    allocate-ep0-requires
-    store-allocator-requires
-    cast-if1
-    returns
-    maximum16-requires
-    started-requires
+    tie.close (tie.spec load-allocator-requires allocate-ep0-requires store-allocator-requires cast-if1 returns maximum16-requires started-requires
     returns-2)

@@ -34,6 +34,4 @@ returns c = (
 )
 
 pub give-record-spec : {M : Type 1} → statement M
-give-record-spec =
-    tie.close
-    (tie.spec load-ep-requires load-allocator-requires endpoint-requires store-ep-requires returns)
+give-record-spec = tie.close (tie.spec load-ep-requires load-allocator-requires endpoint-requires store-ep-requires returns)

@@ -22,5 +22,4 @@ unfolding setsGiven
 returns c = (simp (c .store-globals .ensures .0, c .before .with-sets .ensures, c .before .before .before .load-globals .ensures), c .store-globals .ensures .1)
 
 pub give-sets-spec : {M : Type 1} → statement M
-give-sets-spec =
-    tie.close (tie.spec load-globals-requires with-sets-requires store-globals-requires returns)
+give-sets-spec = tie.close (tie.spec load-globals-requires with-sets-requires store-globals-requires returns)

@@ -32,12 +32,4 @@ returns-2 c = (
 )
 
 pub given-spec : {M : Type 1} → statement M
-given-spec =
-    tie.close
-    (tie.spec
-    enum-known-a
-    enum-known-a-2
-    give-record-requires
-    give-sets-requires
-    returns
-    returns-2)
+given-spec = tie.close (tie.spec enum-known-a enum-known-a-2 give-record-requires give-sets-requires returns returns-2)

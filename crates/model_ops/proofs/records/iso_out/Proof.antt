@@ -28,5 +28,4 @@ unfolding isoOut
 returns-2 c = simp (c .enum-told2 .given .1)
 
 pub iso-out-spec : {M : Type 1} → statement M
-iso-out-spec =
-    tie.close (tie.spec enum-told load-ep-requires is-on-requires enum-told-2 returns returns-2)
+iso-out-spec = tie.close (tie.spec enum-told load-ep-requires is-on-requires enum-told-2 returns returns-2)

@@ -67,15 +67,4 @@ returns-3 c = (
 )
 
 pub place-spec : {M : Type 1} → statement M
-place-spec =
-    tie.close
-    (tie.spec
-    load-ep-requires
-    enum-told
-    enum-told-2
-    receiving-requires
-    returns
-    armed-requires
-    store-ep-requires
-    returns-2
-    returns-3)
+place-spec = tie.close (tie.spec load-ep-requires enum-told enum-told-2 receiving-requires returns armed-requires store-ep-requires returns-2 returns-3)

@@ -41,12 +41,4 @@ returns-2 c = (
 )
 
 pub set-enabled-spec : {M : Type 1} → statement M
-set-enabled-spec =
-    tie.close
-    (tie.spec
-    iso-out-requires
-    returns
-    load-globals-requires
-    with-on-requires
-    set-ep-config-requires
-    returns-2)
+set-enabled-spec = tie.close (tie.spec iso-out-requires returns load-globals-requires with-on-requires set-ep-config-requires returns-2)

@@ -32,12 +32,4 @@ returns-2 c = (
 )
 
 pub started-spec : {M : Type 1} → statement M
-started-spec =
-    tie.close
-    (tie.spec
-    enum-known-a
-    enum-known-a-2
-    load-globals-requires
-    store-globals-requires
-    returns
-    returns-2)
+started-spec = tie.close (tie.spec enum-known-a enum-known-a-2 load-globals-requires store-globals-requires returns returns-2)

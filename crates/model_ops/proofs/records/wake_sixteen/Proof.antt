@@ -57,6 +57,4 @@ returns c =
     (rw e at (at .inv .1 .0), at .inv .1 .1)
 
 pub wake-sixteen-spec : {M : Type 1} → statement M
-wake-sixteen-spec =
-    tie.close
-    (tie.spec Inv-loop μ-loop loop-holds add-wake wake-requires add-k loop-less loop-again returns)
+wake-sixteen-spec = tie.close (tie.spec Inv-loop μ-loop loop-holds add-wake wake-requires add-k loop-less loop-again returns)

@@ -56,15 +56,4 @@ unfolding withSets
 returns-4 c = simp (← c .before .is-iso .ensures, c .if1 .left)
 
 pub with-sets-spec : {M : Type 1} → statement M
-with-sets-spec =
-    tie.close
-    (tie.spec
-    is-iso-requires
-    enum-told
-    mask-with-requires
-    enum-told-2
-    mask-with-requires-2
-    returns
-    returns-2
-    returns-3
-    returns-4)
+with-sets-spec = tie.close (tie.spec is-iso-requires enum-told mask-with-requires enum-told-2 mask-with-requires-2 returns returns-2 returns-3 returns-4)

@@ -72,6 +72,6 @@ returns-2 c = (
 )
 
 pub iso-in-enqueue-spec : {M : Type 1} → statement M
-iso-in-enqueue-spec = tie.close
-    (tie.spec load-ep-requires takes-requires returns slot-index-requires length16-requires
-    store-len-requires joined-requires store-ep-requires slot-addr-requires copy-in-requires same-length returns-2)
+iso-in-enqueue-spec =
+    tie.close (tie.spec load-ep-requires takes-requires returns slot-index-requires length16-requires store-len-requires joined-requires
+    store-ep-requires slot-addr-requires copy-in-requires same-length returns-2)

@@ -36,12 +36,4 @@ unfolding nextLen
 returns-2 c = simp (← c .before .before .load-ep .ensures, ← c .before .has-waiting .ensures, c .if1 .left)
 
 pub next-len-spec : {M : Type 1} → statement M
-next-len-spec =
-    tie.close
-    (tie.spec
-    load-ep-requires
-    has-waiting-requires
-    slot-index-requires
-    load-len-requires
-    returns
-    returns-2)
+next-len-spec = tie.close (tie.spec load-ep-requires has-waiting-requires slot-index-requires load-len-requires returns returns-2)

@@ -36,12 +36,4 @@ unfolding nextStamp
 returns-2 c = simp (← c .before .before .load-ep .ensures, ← c .before .has-waiting .ensures, c .if1 .left)
 
 pub next-stamp-spec : {M : Type 1} → statement M
-next-stamp-spec =
-    tie.close
-    (tie.spec
-    load-ep-requires
-    has-waiting-requires
-    slot-index-requires
-    load-stamp-requires
-    returns
-    returns-2)
+next-stamp-spec = tie.close (tie.spec load-ep-requires has-waiting-requires slot-index-requires load-stamp-requires returns returns-2)

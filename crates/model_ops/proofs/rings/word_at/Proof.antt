@@ -51,6 +51,6 @@ returns-3 c = simp (
 )
 
 pub word-at-spec : {M : Type 1} → statement M
-word-at-spec = tie.close
-    (tie.spec returns sub-if2 returns-2 shared-slice-read-word add-word shared-slice-read-word-2
-    add-word-2 shared-slice-read-word-3 add-word-3 shared-slice-read-word-4 word-requires returns-3)
+word-at-spec =
+    tie.close (tie.spec returns sub-if2 returns-2 shared-slice-read-word add-word shared-slice-read-word-2 add-word-2 shared-slice-read-word-3
+    add-word-3 shared-slice-read-word-4 word-requires returns-3)

@@ -38,5 +38,4 @@ returns-2 c =
     (c .answer .ensures ∙ batch-taken (s .stream .now) _ _ _ whole (taken .0), taken .1 ∙ batch-room (s .stream .now) _ (s .room .now) whole)
 
 pub next-packets-spec : {M : Type 1} → statement M
-next-packets-spec =
-    tie.close (tie.spec returns take-requires answer-requires same-length returns-2)
+next-packets-spec = tie.close (tie.spec returns take-requires answer-requires same-length returns-2)

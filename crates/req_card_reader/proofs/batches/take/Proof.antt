@@ -144,29 +144,5 @@ loop-again c =
 
 pub take-spec : {M : Type 1} → statement M
 take-spec =
-    tie.close
-    (tie.spec
-    Inv-loop
-    μ-loop
-    loop-holds
-    take-near-requires
-    add-count
-    add-used
-    add-d
-    find-from-requires
-    enum-told
-    same-length
-    returns
-    enum-known-at
-    cast-n
-    add-n
-    sub-if1
-    same-length-2
-    returns-2
-    copy-data-requires
-    add-count-2
-    add-used-2
-    add-d-2
-    add-first
-    loop-less
-    loop-again)
+    tie.close (tie.spec Inv-loop μ-loop loop-holds take-near-requires add-count add-used add-d find-from-requires enum-told same-length returns
+    enum-known-at cast-n add-n sub-if1 same-length-2 returns-2 copy-data-requires add-count-2 add-used-2 add-d-2 add-first loop-less loop-again)

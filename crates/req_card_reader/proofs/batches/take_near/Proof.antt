@@ -76,16 +76,4 @@ returns-2 c =
     (near, copied ∙ near-bytes (s .stream .now) (s .room .now) (s .d) (s .used) (walk .result .bytes) good (walk .ensures .inside))
 
 pub take-near-spec : {M : Type 1} → statement M
-take-near-spec =
-    tie.close
-    (tie.spec
-    add-if1
-    returns
-    sub-walk
-    walk-requires
-    mul-copy-run
-    add-copy-run
-    add-copy-run-2
-    copy-run-requires
-    same-length
-    returns-2)
+take-near-spec = tie.close (tie.spec add-if1 returns sub-walk walk-requires mul-copy-run add-copy-run add-copy-run-2 copy-run-requires same-length returns-2)

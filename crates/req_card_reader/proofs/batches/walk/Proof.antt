@@ -124,27 +124,5 @@ returns-3 c =
 
 pub walk-spec : {M : Type 1} → statement M
 walk-spec =
-    tie.close
-    (tie.spec
-    Inv-loop
-    μ-loop
-    add-from
-    sub-least
-    least-requires
-    loop-holds
-    add-loop
-    add-i
-    mul-byte-at
-    add-byte-at
-    add-byte-at-2
-    byte-at-requires
-    returns
-    pair-at-requires
-    add-n
-    sub-if2
-    returns-2
-    add-count
-    add-bytes
-    loop-less
-    loop-again
-    returns-3)
+    tie.close (tie.spec Inv-loop μ-loop add-from sub-least least-requires loop-holds add-loop add-i mul-byte-at add-byte-at add-byte-at-2
+    byte-at-requires returns pair-at-requires add-n sub-if2 returns-2 add-count add-bytes loop-less loop-again returns-3)

@@ -21,5 +21,4 @@ unfolding dataByte
 returns c = refl
 
 pub data-byte-spec : {M : Type 1} → statement M
-data-byte-spec =
-    tie.close (tie.spec mul-result add-result add-result-2 shared-slice-read-result returns)
+data-byte-spec = tie.close (tie.spec mul-result add-result add-result-2 shared-slice-read-result returns)

@@ -42,15 +42,4 @@ returns c =
     (c .before .data-crc .ensures ∙ ap (λ (m : ℕ). dataCrc (take m (drop (s .k * 512) (s .stream .now)))) n)
 
 pub is-checked-spec : {M : Type 1} → statement M
-is-checked-spec =
-    tie.close
-    (tie.spec
-    mul-a
-    add-e
-    sub-data-crc
-    part-data-crc-start
-    part-data-crc-end
-    data-crc-requires
-    pair-at-requires
-    cast-result
-    returns)
+is-checked-spec = tie.close (tie.spec mul-a add-e sub-data-crc part-data-crc-start part-data-crc-end data-crc-requires pair-at-requires cast-result returns)

@@ -27,5 +27,4 @@ returns-3 c =
     ∙ good-here (s .stream .now) (s .k) (omega arith) (sym (c .before .before .is-placed .ensures) ∙ not-false _ (c .before .if2 .left))
 
 pub is-good-spec : {M : Type 1} → statement M
-is-good-spec =
-    tie.close (tie.spec returns is-placed-requires returns-2 is-checked-requires returns-3)
+is-good-spec = tie.close (tie.spec returns is-placed-requires returns-2 is-checked-requires returns-3)

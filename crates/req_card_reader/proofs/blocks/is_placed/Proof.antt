@@ -28,5 +28,4 @@ returns c =
     ap (λ (n : ℕ). eqb n (s .k % 4294967296)) e
 
 pub is-placed-spec : {M : Type 1} → statement M
-is-placed-spec =
-    tie.close (tie.spec pair-at-requires pair-at-requires-2 mul-result add-result returns)
+is-placed-spec = tie.close (tie.spec pair-at-requires pair-at-requires-2 mul-result add-result returns)

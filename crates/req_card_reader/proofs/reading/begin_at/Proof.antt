@@ -52,17 +52,5 @@ returns-2 c =
 
 pub begin-at-spec : {M : Type 1} → statement M
 begin-at-spec =
-    tie.close
-    (tie.spec
-    add-data-byte
-    data-byte-requires
-    returns
-    data-byte-requires-2
-    cast-low
-    add-data-byte-2
-    data-byte-requires-3
-    cast-high
-    mul-packet-at
-    add-packet-at
-    packet-at-requires
-    returns-2)
+    tie.close (tie.spec add-data-byte data-byte-requires returns data-byte-requires-2 cast-low add-data-byte-2 data-byte-requires-3 cast-high
+    mul-packet-at add-packet-at packet-at-requires returns-2)

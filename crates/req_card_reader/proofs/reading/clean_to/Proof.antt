@@ -46,15 +46,4 @@ returns-2 c =
     sym (clean-stop (view (s .stream .now)) (v .k) _ (omega arith)) ∙ v .inv
 
 pub clean-to-spec : {M : Type 1} → statement M
-clean-to-spec =
-    tie.close
-    (tie.spec
-    Inv-loop
-    μ-loop
-    loop-holds
-    is-good-requires
-    returns
-    add-k
-    loop-less
-    loop-again
-    returns-2)
+clean-to-spec = tie.close (tie.spec Inv-loop μ-loop loop-holds is-good-requires returns add-k loop-less loop-again returns-2)

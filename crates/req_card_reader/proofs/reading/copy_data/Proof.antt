@@ -101,21 +101,5 @@ returns c = all-pasted _ _ _ _ _ _ (c .before .loop .inv) (omega arith)
 
 pub copy-data-spec : {M : Type 1} → statement M
 copy-data-spec =
-    tie.close
-    (tie.spec
-    Inv-loop
-    μ-loop
-    loop-holds
-    add-e
-    sub-run-of
-    run-of-requires
-    mul-copy-run
-    add-copy-run
-    add-copy-run-2
-    add-copy-run-3
-    copy-run-requires
-    add-i
-    loop-less
-    loop-again
-    same-length
-    returns)
+    tie.close (tie.spec Inv-loop μ-loop loop-holds add-e sub-run-of run-of-requires mul-copy-run add-copy-run add-copy-run-2 add-copy-run-3
+    copy-run-requires add-i loop-less loop-again same-length returns)

@@ -58,4 +58,5 @@ returns c = all-pasted _ _ _ _ _ _ (c .before .loop .inv) (omega arith)
 
 pub copy-run-spec : {M : Type 1} → statement M
 copy-run-spec =
-    tie.close (tie.spec Inv-loop μ-loop loop-holds add-room shared-slice-read-room add-room-2 slice-write-room add-i loop-less loop-again same-length returns)
+    tie.close (tie.spec Inv-loop μ-loop loop-holds add-room shared-slice-read-room add-room-2 slice-write-room add-i loop-less loop-again same-length
+    returns)

@@ -61,17 +61,4 @@ returns-2 c =
     (v .inv .0 .1) (v .inv .0 .2) (sym (c .before .before .before .step .ensures) ∙ c .before .endpoint .given .1)
 
 pub find-from-spec : {M : Type 1} → statement M
-find-from-spec =
-    tie.close
-    (tie.spec
-    Inv-loop
-    μ-loop
-    loop-holds
-    step-requires
-    enum-told
-    returns
-    enum-known-e
-    loop-less
-    loop-again
-    enum-known-endpoint
-    returns-2)
+find-from-spec = tie.close (tie.spec Inv-loop μ-loop loop-holds step-requires enum-told returns enum-known-e loop-less loop-again enum-known-endpoint returns-2)

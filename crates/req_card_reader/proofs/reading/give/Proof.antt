@@ -39,6 +39,4 @@ returns-2 c =
     )
 
 pub give-spec : {M : Type 1} → statement M
-give-spec =
-    tie.close
-    (tie.spec returns add-copy-data copy-data-requires add-t7 add-t12 same-length returns-2)
+give-spec = tie.close (tie.spec returns add-copy-data copy-data-requires add-t7 add-t12 same-length returns-2)

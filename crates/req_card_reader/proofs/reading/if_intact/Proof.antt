@@ -42,14 +42,4 @@ returns-2 c =
     sym (intact-good (view (s .stream .now)) (s .d) (s .e) (s .s) (omega (arith, x)))
 
 pub if-intact-spec : {M : Type 1} → statement M
-if-intact-spec =
-    tie.close
-    (tie.spec
-    add-end
-    add-clean-to
-    add-clean-to-2
-    clean-to-requires
-    add-seek
-    seek-requires
-    returns
-    returns-2)
+if-intact-spec = tie.close (tie.spec add-end add-clean-to add-clean-to-2 clean-to-requires add-seek seek-requires returns returns-2)

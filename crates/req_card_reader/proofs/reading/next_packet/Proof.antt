@@ -53,14 +53,4 @@ returns-3 c =
     )
 
 pub next-packet-spec : {M : Type 1} → statement M
-next-packet-spec =
-    tie.close
-    (tie.spec
-    returns
-    find-from-requires
-    enum-told
-    enum-known-at
-    give-requires
-    returns-2
-    same-length
-    returns-3)
+next-packet-spec = tie.close (tie.spec returns find-from-requires enum-told enum-known-at give-requires returns-2 same-length returns-3)

@@ -50,16 +50,5 @@ returns-2 c =
 
 pub packet-at-spec : {M : Type 1} → statement M
 packet-at-spec =
-    tie.close
-    (tie.spec
-    mul-all
-    sub-if1
-    sub-if1-2
-    if-intact-requires
-    returns
-    add-data-byte
-    data-byte-requires
-    add-if-intact
-    add-if-intact-2
-    if-intact-requires-2
-    returns-2)
+    tie.close (tie.spec mul-all sub-if1 sub-if1-2 if-intact-requires returns add-data-byte data-byte-requires add-if-intact add-if-intact-2
+    if-intact-requires-2 returns-2)

@@ -72,19 +72,5 @@ returns-2 c =
 
 pub seek-spec : {M : Type 1} → statement M
 seek-spec =
-    tie.close
-    (tie.spec
-    Inv-loop
-    μ-loop
-    loop-holds
-    names-begin-requires
-    mul-result
-    pair-at-requires
-    sub-result
-    add-result
-    returns
-    add-k
-    loop-less
-    loop-again
-    mul-result-2
-    returns-2)
+    tie.close (tie.spec Inv-loop μ-loop loop-holds names-begin-requires mul-result pair-at-requires sub-result add-result returns add-k loop-less
+    loop-again mul-result-2 returns-2)

@@ -64,17 +64,4 @@ returns-4 c =
     ∙ sym (step-begin v (s .d) (omega arith) ∙ intact-good v (s .d) (s .d + 3) (beginAt v (s .d)) (omega (arith, looked)))
 
 pub step-spec : {M : Type 1} → statement M
-step-spec =
-    tie.close
-    (tie.spec
-    mul-all
-    returns
-    returns-2
-    add-end
-    add-end-2
-    clean-to-requires
-    add-seek
-    seek-requires
-    returns-3
-    begin-at-requires
-    returns-4)
+step-spec = tie.close (tie.spec mul-all returns returns-2 add-end add-end-2 clean-to-requires add-seek seek-requires returns-3 begin-at-requires returns-4)

@@ -35,14 +35,4 @@ returns-4 c =
     byte-rest (s .endpoint) (s .bytes .now) (s .i) (omega arith)
 
 pub packet-byte-spec : {M : Type 1} → statement M
-packet-byte-spec =
-    tie.close
-    (tie.spec
-    cast-result
-    returns
-    cast-result-2
-    returns-2
-    returns-3
-    sub-result
-    shared-slice-read-result
-    returns-4)
+packet-byte-spec = tie.close (tie.spec cast-result returns cast-result-2 returns-2 returns-3 sub-result shared-slice-read-result returns-4)

@@ -39,15 +39,5 @@ returns c =
 
 pub put-check-spec : {M : Type 1} → statement M
 put-check-spec =
-    tie.close
-    (tie.spec
-    sub-data-crc
-    part-data-crc-start
-    part-data-crc-end
-    data-crc-requires
-    cast-block
-    slice-write-block
-    cast-block-2
-    slice-write-block-2
-    same-length
-    returns)
+    tie.close (tie.spec sub-data-crc part-data-crc-start part-data-crc-end data-crc-requires cast-block slice-write-block cast-block-2
+    slice-write-block-2 same-length returns)

@@ -49,19 +49,5 @@ returns c = head-stores (c .args .block .now) (c .args .number) (c .args .first)
 
 pub put-head-spec : {M : Type 1} → statement M
 put-head-spec =
-    tie.close
-    (tie.spec
-    cast-block
-    slice-write-block
-    cast-block-2
-    slice-write-block-2
-    cast-block-3
-    slice-write-block-3
-    cast-block-4
-    slice-write-block-4
-    cast-block-5
-    slice-write-block-5
-    cast-block-6
-    slice-write-block-6
-    same-length
-    returns)
+    tie.close (tie.spec cast-block slice-write-block cast-block-2 slice-write-block-2 cast-block-3 slice-write-block-3 cast-block-4
+    slice-write-block-4 cast-block-5 slice-write-block-5 cast-block-6 slice-write-block-6 same-length returns)

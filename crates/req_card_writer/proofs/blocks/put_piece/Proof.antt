@@ -54,5 +54,5 @@ returns c = all-pasted _ _ _ _ _ _ (c .before .loop .inv) (omega arith)
 
 pub put-piece-spec : {M : Type 1} → statement M
 put-piece-spec =
-    tie.close
-    (tie.spec Inv-loop μ-loop loop-holds add-packet-byte packet-byte-requires add-block slice-write-block add-i loop-less loop-again same-length returns)
+    tie.close (tie.spec Inv-loop μ-loop loop-holds add-packet-byte packet-byte-requires add-block slice-write-block add-i loop-less loop-again
+    same-length returns)

@@ -40,5 +40,4 @@ returns : tie.Need-returns Inv-loop μ-loop
 returns c = all-pasted _ _ _ _ _ _ (c .before .loop .inv) (omega arith)
 
 pub put-zeros-spec : {M : Type 1} → statement M
-put-zeros-spec =
-    tie.close (tie.spec Inv-loop μ-loop loop-holds add-block slice-write-block add-i loop-less loop-again same-length returns)
+put-zeros-spec = tie.close (tie.spec Inv-loop μ-loop loop-holds add-block slice-write-block add-i loop-less loop-again same-length returns)

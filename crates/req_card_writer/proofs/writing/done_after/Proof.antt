@@ -27,6 +27,4 @@ returns-2 c =
     ∙ done-part (s .w) (s .n) (sym (c .before .before .before .is-whole .ensures) ∙ c .before .before .if1 .left)
 
 pub done-after-spec : {M : Type 1} → statement M
-done-after-spec =
-    tie.close
-    (tie.spec is-whole-requires returns done-of-requires piece-of-requires add-result returns-2)
+done-after-spec = tie.close (tie.spec is-whole-requires returns done-of-requires piece-of-requires add-result returns-2)

@@ -43,15 +43,5 @@ returns-3 c =
 
 pub finish-spec : {M : Type 1} → statement M
 finish-spec =
-    tie.close
-    (tie.spec
-    returns
-    used-of-requires
-    cast-used
-    returns-2
-    add-put-zeros
-    sub-put-zeros
-    put-zeros-requires
-    close-requires
-    same-length
+    tie.close (tie.spec returns used-of-requires cast-used returns-2 add-put-zeros sub-put-zeros put-zeros-requires close-requires same-length
     returns-3)

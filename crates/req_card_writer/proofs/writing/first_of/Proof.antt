@@ -41,6 +41,4 @@ returns-4 c =
     (c .before .before .if2 .left) (omega (arith, c .before .used-of .ensures))
 
 pub first-of-spec : {M : Type 1} → statement M
-first-of-spec =
-    tie.close
-    (tie.spec done-of-requires returns returns-2 used-of-requires add-result returns-3 returns-4)
+first-of-spec = tie.close (tie.spec done-of-requires returns returns-2 used-of-requires add-result returns-3 returns-4)

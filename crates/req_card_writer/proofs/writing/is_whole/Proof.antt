@@ -18,5 +18,4 @@ returns : tie.Need-returns
 returns c = simp (c .piece-of .ensures, c .before .done-of .ensures)
 
 pub is-whole-spec : {M : Type 1} → statement M
-is-whole-spec =
-    tie.close (tie.spec done-of-requires piece-of-requires add-result add-result-2 returns)
+is-whole-spec = tie.close (tie.spec done-of-requires piece-of-requires add-result add-result-2 returns)

@@ -24,13 +24,4 @@ returns : tie.Need-returns
 returns c = simp (c .least .ensures, c .before .done-of .ensures, c .before .before .used-of .ensures)
 
 pub piece-of-spec : {M : Type 1} → statement M
-piece-of-spec =
-    tie.close
-    (tie.spec
-    used-of-requires
-    done-of-requires
-    sub-least
-    add-least
-    sub-least-2
-    least-requires
-    returns)
+piece-of-spec = tie.close (tie.spec used-of-requires done-of-requires sub-least add-least sub-least-2 least-requires returns)

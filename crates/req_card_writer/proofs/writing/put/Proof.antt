@@ -72,21 +72,5 @@ returns-2 c =
 
 pub put-spec : {M : Type 1} → statement M
 put-spec =
-    tie.close
-    (tie.spec
-    cast-n
-    used-of-requires
-    done-of-requires
-    piece-of-requires
-    cast-put-piece
-    add-put-piece
-    cast-put-piece-2
-    cast-put-piece-3
-    put-piece-requires
-    is-full-requires
-    first-of-requires
-    close-requires
-    same-length
-    returns
-    same-length-2
-    returns-2)
+    tie.close (tie.spec cast-n used-of-requires done-of-requires piece-of-requires cast-put-piece add-put-piece cast-put-piece-2 cast-put-piece-3
+    put-piece-requires is-full-requires first-of-requires close-requires same-length returns same-length-2 returns-2)

@@ -60,16 +60,5 @@ returns-5 c =
 
 pub write-spec : {M : Type 1} → statement M
 write-spec =
-    tie.close
-    (tie.spec
-    returns
-    returns-2
-    returns-3
-    returns-4
-    put-requires
-    cast-n
-    writer-of-requires
-    is-full-requires
-    is-whole-requires
-    same-length
+    tie.close (tie.spec returns returns-2 returns-3 returns-4 put-requires cast-n writer-of-requires is-full-requires is-whole-requires same-length
     returns-5)

@@ -41,14 +41,5 @@ returns-2 c =
 
 pub writer-of-spec : {M : Type 1} → statement M
 writer-of-spec =
-    tie.close
-    (tie.spec
-    done-after-requires
-    is-full-requires
-    wrapping-add-u32-requires
-    returns
-    used-of-requires
-    piece-of-requires
-    first-of-requires
-    add-t9
-    returns-2)
+    tie.close (tie.spec done-after-requires is-full-requires wrapping-add-u32-requires returns used-of-requires piece-of-requires first-of-requires
+    add-t9 returns-2)

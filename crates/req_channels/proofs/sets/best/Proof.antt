@@ -36,6 +36,4 @@ returns c =
     rw (← e) (c .before .loop .inv .1)
 
 pub best-spec : {M : Type 1} → statement M
-best-spec =
-    tie.close
-    (tie.spec Inv-loop μ-loop loop-holds look-requires add-set loop-less loop-again returns)
+best-spec = tie.close (tie.spec Inv-loop μ-loop loop-holds look-requires add-set loop-less loop-again returns)

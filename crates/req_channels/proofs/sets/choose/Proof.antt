@@ -30,12 +30,4 @@ returns c =
     )
 
 pub choose-spec : {M : Type 1} → statement M
-choose-spec =
-    tie.close
-    (tie.spec
-    all-sets-requires
-    lesser-requires
-    room-requires
-    best-requires
-    figure-requires
-    returns)
+choose-spec = tie.close (tie.spec all-sets-requires lesser-requires room-requires best-requires figure-requires returns)

@@ -48,18 +48,4 @@ returns c =
     rw (← e) (c .before .loop .inv .2)
 
 pub total-spec : {M : Type 1} → statement M
-total-spec =
-    tie.close
-    (tie.spec
-    Inv-loop
-    μ-loop
-    loop-holds
-    mul-part
-    array-read-part
-    part-requires
-    cast-sum
-    add-sum
-    add-i
-    loop-less
-    loop-again
-    returns)
+total-spec = tie.close (tie.spec Inv-loop μ-loop loop-holds mul-part array-read-part part-requires cast-sum add-sum add-i loop-less loop-again returns)

@@ -97,19 +97,5 @@ returns-2 c =
 
 pub agree-spec : {M : Type 1} → statement M
 agree-spec =
-    tie.close
-    (tie.spec
-    Inv-loop
-    μ-loop
-    shared-slice-read-wide
-    wide-requires
-    loop-holds
-    setting-requires
-    agrees-requires
-    returns
-    shared-slice-read-wide-2
-    wide-requires-2
-    add-at
-    loop-less
-    loop-again
-    returns-2)
+    tie.close (tie.spec Inv-loop μ-loop shared-slice-read-wide wide-requires loop-holds setting-requires agrees-requires returns
+    shared-slice-read-wide-2 wide-requires-2 add-at loop-less loop-again returns-2)

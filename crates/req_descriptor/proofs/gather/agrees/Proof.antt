@@ -23,5 +23,4 @@ returns-2 : tie.Need-returns-2
 returns-2 c = rw (← c .before .is-meant .ensures, c .if1 .left)
 
 pub agrees-spec : {M : Type 1} → statement M
-agrees-spec =
-    tie.close (tie.spec is-meant-requires endpoint-requires agrees-requires returns returns-2)
+agrees-spec = tie.close (tie.spec is-meant-requires endpoint-requires agrees-requires returns returns-2)

@@ -95,18 +95,5 @@ returns c =
 
 pub gather-spec : {M : Type 1} → statement M
 gather-spec =
-    tie.close
-    (tie.spec
-    Inv-loop
-    μ-loop
-    shared-slice-read-wide
-    wide-requires
-    loop-holds
-    setting-requires
-    taken-requires
-    shared-slice-read-wide-2
-    wide-requires-2
-    add-at
-    loop-less
-    loop-again
-    returns)
+    tie.close (tie.spec Inv-loop μ-loop shared-slice-read-wide wide-requires loop-holds setting-requires taken-requires shared-slice-read-wide-2
+    wide-requires-2 add-at loop-less loop-again returns)

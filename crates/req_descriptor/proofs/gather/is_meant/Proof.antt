@@ -23,12 +23,4 @@ returns-3 : tie.Need-returns-3
 returns-3 c = rw (meant-at, ← c .before .before .is-endpoint .ensures, not-false (c .before .before .is-endpoint .result) (c .before .if1 .left), c .if2 .left)
 
 pub is-meant-spec : {M : Type 1} → statement M
-is-meant-spec =
-    tie.close
-    (tie.spec
-    add-is-endpoint
-    shared-slice-read-is-endpoint
-    is-endpoint-requires
-    returns
-    returns-2
-    returns-3)
+is-meant-spec = tie.close (tie.spec add-is-endpoint shared-slice-read-is-endpoint is-endpoint-requires returns returns-2 returns-3)

@@ -30,13 +30,4 @@ returns-2 : tie.Need-returns-2
 returns-2 c = rw (setting-at, ← c .before .is-interface .ensures, c .if1 .left)
 
 pub setting-spec : {M : Type 1} → statement M
-setting-spec =
-    tie.close
-    (tie.spec
-    add-is-interface
-    shared-slice-read-is-interface
-    is-interface-requires
-    add-result
-    shared-slice-read-result
-    returns
-    returns-2)
+setting-spec = tie.close (tie.spec add-is-interface shared-slice-read-is-interface is-interface-requires add-result shared-slice-read-result returns returns-2)

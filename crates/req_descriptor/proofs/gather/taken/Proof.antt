@@ -28,5 +28,4 @@ returns-2 : tie.Need-returns-2
 returns-2 c = rw (← c .before .is-meant .ensures, c .if1 .left)
 
 pub taken-spec : {M : Type 1} → statement M
-taken-spec =
-    tie.close (tie.spec is-meant-requires endpoint-requires noted-requires returns returns-2)
+taken-spec = tie.close (tie.spec is-meant-requires endpoint-requires noted-requires returns returns-2)

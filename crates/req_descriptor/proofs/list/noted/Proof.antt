@@ -45,16 +45,5 @@ returns-2 c =
 
 pub noted-spec : {M : Type 1} → statement M
 noted-spec =
-    tie.close
-    (tie.spec
-    place-requires
-    mul-x
-    element-copy-out-x
-    merged-requires
-    mul-t9
-    element-set-from-list
-    returns
-    mul-e
-    element-set-from-e
-    add-list
+    tie.close (tie.spec place-requires mul-x element-copy-out-x merged-requires mul-t9 element-set-from-list returns mul-e element-set-from-e add-list
     returns-2)

@@ -61,16 +61,4 @@ returns-2 c =
     omega arith
 
 pub place-spec : {M : Type 1} → statement M
-place-spec =
-    tie.close
-    (tie.spec
-    Inv-loop
-    μ-loop
-    loop-holds
-    mul-e
-    element-copy-out-e
-    returns
-    add-i
-    loop-less
-    loop-again
-    returns-2)
+place-spec = tie.close (tie.spec Inv-loop μ-loop loop-holds mul-e element-copy-out-e returns add-i loop-less loop-again returns-2)

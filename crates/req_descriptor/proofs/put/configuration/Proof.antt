@@ -31,14 +31,4 @@ returns c = c .before .before .put .ensures ∙ rw (
 )
 
 pub configuration-spec : {M : Type 1} → statement M
-configuration-spec =
-    tie.close
-    (tie.spec
-    mul-total
-    add-total
-    low-requires
-    high-requires
-    slice-aggregate-put
-    put-requires
-    same-length
-    returns)
+configuration-spec = tie.close (tie.spec mul-total add-total low-requires high-requires slice-aggregate-put put-requires same-length returns)

@@ -28,13 +28,4 @@ returns c = c .before .before .put .ensures ∙ rw (
 )
 
 pub endpoint-spec : {M : Type 1} → statement M
-endpoint-spec =
-    tie.close
-    (tie.spec
-    cast-maximum
-    low-requires
-    high-requires
-    slice-aggregate-put
-    put-requires
-    same-length
-    returns)
+endpoint-spec = tie.close (tie.spec cast-maximum low-requires high-requires slice-aggregate-put put-requires same-length returns)

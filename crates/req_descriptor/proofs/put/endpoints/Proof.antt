@@ -69,18 +69,5 @@ returns c =
 
 pub endpoints-spec : {M : Type 1} → statement M
 endpoints-spec =
-    tie.close
-    (tie.spec
-    Inv-loop
-    μ-loop
-    loop-holds
-    mul-e
-    element-copy-out-e
-    mul-endpoint
-    add-endpoint
-    endpoint-requires
-    add-i
-    loop-less
-    loop-again
-    same-length
-    returns)
+    tie.close (tie.spec Inv-loop μ-loop loop-holds mul-e element-copy-out-e mul-endpoint add-endpoint endpoint-requires add-i loop-less loop-again
+    same-length returns)

@@ -54,17 +54,4 @@ returns c =
     v .2 ∙ rw (e, take-length)
 
 pub put-spec : {M : Type 1} → statement M
-put-spec =
-    tie.close
-    (tie.spec
-    Inv-loop
-    μ-loop
-    loop-holds
-    shared-slice-read-room
-    add-room
-    slice-write-room
-    add-i
-    loop-less
-    loop-again
-    same-length
-    returns)
+put-spec = tie.close (tie.spec Inv-loop μ-loop loop-holds shared-slice-read-room add-room slice-write-room add-i loop-less loop-again same-length returns)

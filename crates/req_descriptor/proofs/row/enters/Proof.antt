@@ -19,11 +19,4 @@ returns-2 : tie.Need-returns-2
 returns-2 c = rw (entered-at, c .before .before .if1 .left, c .is-interface .ensures)
 
 pub enters-spec : {M : Type 1} → statement M
-enters-spec =
-    tie.close
-    (tie.spec
-    returns
-    add-is-interface
-    shared-slice-read-is-interface
-    is-interface-requires
-    returns-2)
+enters-spec = tie.close (tie.spec returns add-is-interface shared-slice-read-is-interface is-interface-requires returns-2)

@@ -47,14 +47,5 @@ returns-4 c = rw (allowed-at, ne-eqb _ _ (c .before .if1 .left), ne-eqb _ _ (c .
 
 pub is-allowed-spec : {M : Type 1} → statement M
 is-allowed-spec =
-    tie.close
-    (tie.spec
-    add-kind
-    shared-slice-read-kind
-    returns
-    returns-2
-    add-is-clear
-    shared-slice-read-is-clear
-    is-clear-requires
-    returns-3
+    tie.close (tie.spec add-kind shared-slice-read-kind returns returns-2 add-is-clear shared-slice-read-is-clear is-clear-requires returns-3
     returns-4)

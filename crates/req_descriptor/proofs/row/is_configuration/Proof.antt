@@ -83,16 +83,5 @@ returns-5 c = rw (
 
 pub is-configuration-spec : {M : Type 1} → statement M
 is-configuration-spec =
-    tie.close
-    (tie.spec
-    returns
-    is-whole-requires
-    returns-2
-    shared-slice-read-if3
-    returns-3
-    total-requires
-    returns-4
-    shared-slice-read-wide
-    wide-requires
-    is-row-requires
-    returns-5)
+    tie.close (tie.spec returns is-whole-requires returns-2 shared-slice-read-if3 returns-3 total-requires returns-4 shared-slice-read-wide
+    wide-requires is-row-requires returns-5)

@@ -91,19 +91,5 @@ returns-3 c =
 
 pub is-row-spec : {M : Type 1} → statement M
 is-row-spec =
-    tie.close
-    (tie.spec
-    Inv-loop
-    μ-loop
-    loop-holds
-    is-whole-requires
-    returns
-    is-allowed-requires
-    returns-2
-    enters-requires
-    shared-slice-read-wide
-    wide-requires
-    add-at
-    loop-less
-    loop-again
-    returns-3)
+    tie.close (tie.spec Inv-loop μ-loop loop-holds is-whole-requires returns is-allowed-requires returns-2 enters-requires shared-slice-read-wide
+    wide-requires add-at loop-less loop-again returns-3)

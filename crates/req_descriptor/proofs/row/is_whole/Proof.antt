@@ -42,15 +42,5 @@ returns-3 c =
 
 pub is-whole-spec : {M : Type 1} → statement M
 is-whole-spec =
-    tie.close
-    (tie.spec
-    sub-left
-    returns
-    shared-slice-read-if2
-    add-least
-    shared-slice-read-least
-    least-requires
-    returns-2
-    shared-slice-read-wide
-    wide-requires
-    returns-3)
+    tie.close (tie.spec sub-left returns shared-slice-read-if2 add-least shared-slice-read-least least-requires returns-2 shared-slice-read-wide
+    wide-requires returns-3)

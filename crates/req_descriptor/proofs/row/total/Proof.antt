@@ -27,13 +27,4 @@ unfolding totalOf
 returns c = rw (c .wide2 .ensures, c .before .before .wide .ensures)
 
 pub total-spec : {M : Type 1} → statement M
-total-spec =
-    tie.close
-    (tie.spec
-    shared-slice-read-wide
-    wide-requires
-    shared-slice-read-wide-2
-    wide-requires-2
-    mul-result
-    add-result
-    returns)
+total-spec = tie.close (tie.spec shared-slice-read-wide wide-requires shared-slice-read-wide-2 wide-requires-2 mul-result add-result returns)

@@ -49,15 +49,5 @@ returns c =
 
 pub read-ep-spec : {M : Type 1} → statement M
 read-ep-spec =
-    tie.close
-    (tie.spec
-    get8x5-requires
-    get8x5-requires-2
-    get16-requires
-    get16-requires-2
-    get16-requires-3
-    get16-requires-4
-    get32-requires
-    get32-requires-2
-    get32-requires-3
-    returns)
+    tie.close (tie.spec get8x5-requires get8x5-requires-2 get16-requires get16-requires-2 get16-requires-3 get16-requires-4 get32-requires
+    get32-requires-2 get32-requires-3 returns)

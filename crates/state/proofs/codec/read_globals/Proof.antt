@@ -44,14 +44,5 @@ returns c =
 
 pub read-globals-spec : {M : Type 1} → statement M
 read-globals-spec =
-    tie.close
-    (tie.spec
-    get8x5-requires
-    get16x5-requires
-    get16-requires
-    get32-requires
-    get32-requires-2
-    get32-requires-3
-    get32-requires-4
-    get32-requires-5
-    returns)
+    tie.close (tie.spec get8x5-requires get16x5-requires get16-requires get32-requires get32-requires-2 get32-requires-3 get32-requires-4
+    get32-requires-5 returns)

@@ -38,13 +38,4 @@ returns c =
 
 pub read-saved-spec : {M : Type 1} → statement M
 read-saved-spec =
-    tie.close
-    (tie.spec
-    get8x5-requires
-    get8x5-requires-2
-    get16-requires
-    get16-requires-2
-    get16-requires-3
-    get16-requires-4
-    get32-requires
-    returns)
+    tie.close (tie.spec get8x5-requires get8x5-requires-2 get16-requires get16-requires-2 get16-requires-3 get16-requires-4 get32-requires returns)

@@ -32,12 +32,4 @@ returns c =
     ∙ ap (left 10) (c .before .before .before .before .before .before .before .before .put16x5 .ensures)
 
 pub write-allocator-spec : {M : Type 1} → statement M
-write-allocator-spec =
-    tie.close
-    (tie.spec
-    put16x5-requires
-    put16-requires
-    put16-requires-2
-    put16-requires-3
-    put16-requires-4
-    returns)
+write-allocator-spec = tie.close (tie.spec put16x5-requires put16-requires put16-requires-2 put16-requires-3 put16-requires-4 returns)

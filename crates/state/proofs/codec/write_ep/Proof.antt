@@ -51,15 +51,5 @@ returns c =
 
 pub write-ep-spec : {M : Type 1} → statement M
 write-ep-spec =
-    tie.close
-    (tie.spec
-    put8x5-requires
-    put8x5-requires-2
-    put16-requires
-    put16-requires-2
-    put16-requires-3
-    put16-requires-4
-    put32-requires
-    put32-requires-2
-    put32-requires-3
-    returns)
+    tie.close (tie.spec put8x5-requires put8x5-requires-2 put16-requires put16-requires-2 put16-requires-3 put16-requires-4 put32-requires
+    put32-requires-2 put32-requires-3 returns)

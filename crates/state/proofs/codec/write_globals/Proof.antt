@@ -45,14 +45,5 @@ returns c =
 
 pub write-globals-spec : {M : Type 1} → statement M
 write-globals-spec =
-    tie.close
-    (tie.spec
-    put8x5-requires
-    put16x5-requires
-    put16-requires
-    put32-requires
-    put32-requires-2
-    put32-requires-3
-    put32-requires-4
-    put32-requires-5
-    returns)
+    tie.close (tie.spec put8x5-requires put16x5-requires put16-requires put32-requires put32-requires-2 put32-requires-3 put32-requires-4
+    put32-requires-5 returns)

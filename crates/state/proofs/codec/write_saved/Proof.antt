@@ -41,13 +41,4 @@ returns c =
 
 pub write-saved-spec : {M : Type 1} → statement M
 write-saved-spec =
-    tie.close
-    (tie.spec
-    put8x5-requires
-    put8x5-requires-2
-    put16-requires
-    put16-requires-2
-    put16-requires-3
-    put16-requires-4
-    put32-requires
-    returns)
+    tie.close (tie.spec put8x5-requires put8x5-requires-2 put16-requires put16-requires-2 put16-requires-3 put16-requires-4 put32-requires returns)

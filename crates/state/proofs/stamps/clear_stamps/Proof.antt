@@ -17,5 +17,4 @@ unfolding clearStamps
 returns c = (c .clear-from .ensures .0, c .clear-from .ensures .1)
 
 pub clear-stamps-spec : {M : Type 1} → statement M
-clear-stamps-spec =
-    tie.close (tie.spec cast-clear-from mul-clear-from clear-from-requires returns)
+clear-stamps-spec = tie.close (tie.spec cast-clear-from mul-clear-from clear-from-requires returns)

@@ -35,5 +35,4 @@ returns c =
     )
 
 pub store-stamp-spec : {M : Type 1} → statement M
-store-stamp-spec =
-    tie.close (tie.spec sized-requires stamp-key-requires mul-put16 add-put16 put16-requires returns)
+store-stamp-spec = tie.close (tie.spec sized-requires stamp-key-requires mul-put16 add-put16 put16-requires returns)

@@ -52,4 +52,5 @@ returns c = all-filled eps-table _ noEp 0 32 _ _ (c .before .loop .inv .1) (omeg
 
 pub clear-eps-spec : {M : Type 1} → statement M
 clear-eps-spec =
-    tie.close (tie.spec Inv-loop μ-loop loop-holds sized-requires mul-write-ep add-write-ep no-ep-requires write-ep-requires add-k loop-less loop-again returns)
+    tie.close (tie.spec Inv-loop μ-loop loop-holds sized-requires mul-write-ep add-write-ep no-ep-requires write-ep-requires add-k loop-less
+    loop-again returns)

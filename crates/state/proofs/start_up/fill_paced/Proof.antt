@@ -50,5 +50,4 @@ returns : tie.Need-returns Inv-loop μ-loop
 returns c = all-filled paced-table _ 0x1800 0 16 _ _ (c .before .loop .inv .1) (omega arith)
 
 pub fill-paced-spec : {M : Type 1} → statement M
-fill-paced-spec =
-    tie.close (tie.spec Inv-loop μ-loop loop-holds sized-requires mul-put16 add-put16 put16-requires add-k loop-less loop-again returns)
+fill-paced-spec = tie.close (tie.spec Inv-loop μ-loop loop-holds sized-requires mul-put16 add-put16 put16-requires add-k loop-less loop-again returns)

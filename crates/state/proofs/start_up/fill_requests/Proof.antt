@@ -54,4 +54,5 @@ returns c = all-filled requests-table _ noRequest 0 32 _ _ (c .before .loop .inv
 
 pub fill-requests-spec : {M : Type 1} → statement M
 fill-requests-spec =
-    tie.close (tie.spec Inv-loop μ-loop loop-holds sized-requires mul-write-request add-write-request write-request-requires add-k loop-less loop-again returns)
+    tie.close (tie.spec Inv-loop μ-loop loop-holds sized-requires mul-write-request add-write-request write-request-requires add-k loop-less
+    loop-again returns)

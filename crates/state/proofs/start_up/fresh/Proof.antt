@@ -65,16 +65,5 @@ returns c =
 
 pub fresh-spec : {M : Type 1} → statement M
 fresh-spec =
-    tie.close
-    (tie.spec
-    fill-eps-requires
-    fill-lengths-requires
-    clear-all-stamps-requires
-    fill-paced-requires
-    fill-requests-requires
-    fresh-globals-requires
-    fresh-allocator-requires
-    fresh-control-requires
-    fresh-wakes-requires
-    fresh-saved-requires
-    returns)
+    tie.close (tie.spec fill-eps-requires fill-lengths-requires clear-all-stamps-requires fill-paced-requires fill-requests-requires
+    fresh-globals-requires fresh-allocator-requires fresh-control-requires fresh-wakes-requires fresh-saved-requires returns)

@@ -63,19 +63,5 @@ returns c = all-filled eps-table _ newEp 0 32 _ _ (c .before .loop .inv .1) (ome
 
 pub new-eps-spec : {M : Type 1} → statement M
 new-eps-spec =
-    tie.close
-    (tie.spec
-    Inv-loop
-    μ-loop
-    loop-holds
-    sized-requires
-    mul-read-ep
-    add-read-ep
-    read-ep-requires
-    mul-write-ep
-    add-write-ep
-    write-ep-requires
-    add-k
-    loop-less
-    loop-again
-    returns)
+    tie.close (tie.spec Inv-loop μ-loop loop-holds sized-requires mul-read-ep add-read-ep read-ep-requires mul-write-ep add-write-ep write-ep-requires
+    add-k loop-less loop-again returns)

@@ -52,6 +52,4 @@ returns c =
     (rw e at (at .inv .1 .0), at .inv .1 .1)
 
 pub clear-codes-spec : {M : Type 1} → statement M
-clear-codes-spec =
-    tie.close
-    (tie.spec Inv-loop μ-loop loop-holds store-code-requires add-k loop-less loop-again returns)
+clear-codes-spec = tie.close (tie.spec Inv-loop μ-loop loop-holds store-code-requires add-k loop-less loop-again returns)

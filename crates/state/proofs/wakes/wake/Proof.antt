@@ -41,12 +41,4 @@ returns-2 c =
     (ap (withWakes d) (sym (woken-full a (d .wakes) (omega (arith, sym (c .before .woken-count .ensures), c .if1 .left)))), refl)
 
 pub wake-spec : {M : Type 1} → statement M
-wake-spec =
-    tie.close
-    (tie.spec
-    woken-count-requires
-    store-code-requires
-    add-store-count
-    store-count-requires
-    returns
-    returns-2)
+wake-spec = tie.close (tie.spec woken-count-requires store-code-requires add-store-count store-count-requires returns returns-2)

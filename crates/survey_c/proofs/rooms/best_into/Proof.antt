@@ -26,12 +26,4 @@ returns-2 c =
     (c .ended .ensures ∙ rw e, rw e, rw e, rw e)
 
 pub best-into-spec : {M : Type 1} → statement M
-best-into-spec =
-    tie.close
-    (tie.spec
-    enum-known-answer
-    refused-requires
-    enum-known-answer-2
-    ended-requires
-    returns
-    returns-2)
+best-into-spec = tie.close (tie.spec enum-known-answer refused-requires enum-known-answer-2 ended-requires returns returns-2)

@@ -42,14 +42,4 @@ returns-2 : tie.Need-returns-2
 returns-2 c = search needs
 
 pub proceed-spec : {M : Type 1} → statement M
-proceed-spec =
-    tie.close
-    (tie.spec
-    tag-requires
-    interrupt-requires
-    step-of-requires
-    same-length
-    returns
-    operate-requires
-    same-length-2
-    returns-2)
+proceed-spec = tie.close (tie.spec tag-requires interrupt-requires step-of-requires same-length returns operate-requires same-length-2 returns-2)

@@ -47,15 +47,4 @@ returns-2 c =
 
 pub usbhs-preview-spec : {M : Type 1} → statement M
 usbhs-preview-spec =
-    tie.close
-    (tie.spec
-    preview-requires
-    enum-known-said
-    cast-result
-    mul-result
-    enum-told
-    cast-refusal
-    mul-result-2
-    add-result
-    returns
-    returns-2)
+    tie.close (tie.spec preview-requires enum-known-said cast-result mul-result enum-told cast-refusal mul-result-2 add-result returns returns-2)

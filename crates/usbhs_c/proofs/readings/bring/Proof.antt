@@ -60,14 +60,5 @@ returns-3 c x says =
 
 pub bring-spec : {M : Type 1} → statement M
 bring-spec =
-    tie.close
-    (tie.spec
-    read-word-requires
-    usbhs-continue-requires
-    read-word-requires-2
-    usbhs-continue-requires-2
-    same-length
-    returns
-    same-length-2
-    returns-2
-    returns-3)
+    tie.close (tie.spec read-word-requires usbhs-continue-requires read-word-requires-2 usbhs-continue-requires-2 same-length returns same-length-2
+    returns-2 returns-3)

@@ -42,16 +42,5 @@ returns-2 c = search needs
 
 pub nak-word-spec : {M : Type 1} → statement M
 nak-word-spec =
-    tie.close
-    (tie.spec
-    enum-known-q
-    number-requires
-    cast-result
-    mul-result
-    add-result
-    cast-result-2
-    mul-result-2
-    add-result-2
-    word-of-requires
-    returns
-    returns-2)
+    tie.close (tie.spec enum-known-q number-requires cast-result mul-result add-result cast-result-2 mul-result-2 add-result-2 word-of-requires
+    returns returns-2)

@@ -69,19 +69,5 @@ returns-3 c =
 
 pub usbhs-continue-transfer-spec : {M : Type 1} → statement M
 usbhs-continue-transfer-spec =
-    tie.close
-    (tie.spec
-    pass-requires
-    enum-told
-    release-word-requires
-    enum-known-n
-    nak-word-requires
-    enum-told-2
-    usbhs-continue-requires
-    bring-requires
-    same-length
-    returns
-    same-length-2
-    returns-2
-    same-length-3
-    returns-3)
+    tie.close (tie.spec pass-requires enum-told release-word-requires enum-known-n nak-word-requires enum-told-2 usbhs-continue-requires
+    bring-requires same-length returns same-length-2 returns-2 same-length-3 returns-3)

@@ -72,19 +72,5 @@ returns-3 c =
 
 pub usbhs-interrupt-spec : {M : Type 1} → statement M
 usbhs-interrupt-spec =
-    tie.close
-    (tie.spec
-    enter-requires
-    enum-told
-    mis-word-requires
-    enum-told-2
-    usbhs-continue-requires
-    enum-told-3
-    usbhs-begin-interrupt-requires
-    bring-requires
-    same-length
-    returns
-    same-length-2
-    returns-2
-    same-length-3
-    returns-3)
+    tie.close (tie.spec enter-requires enum-told mis-word-requires enum-told-2 usbhs-continue-requires enum-told-3 usbhs-begin-interrupt-requires
+    bring-requires same-length returns same-length-2 returns-2 same-length-3 returns-3)

@@ -23,9 +23,4 @@ returns c = (
 )
 
 pub fill-spec : {M : Type 1} → statement M
-fill-spec =
-    tie.close
-    (tie.spec
-    sized-requires
-    bytes-of-requires
-    returns)
+fill-spec = tie.close (tie.spec sized-requires bytes-of-requires returns)

@@ -57,17 +57,5 @@ returns-4 c =
 
 pub setup-word-spec : {M : Type 1} → statement M
 setup-word-spec =
-    tie.close
-    (tie.spec
-    enum-known-step
-    fill-requires
-    word-of-requires
-    enum-known-step-2
-    word-of-requires-2
-    enum-known-step-3
-    word-of-requires-3
-    word-of-requires-4
-    returns
-    returns-2
-    returns-3
-    returns-4)
+    tie.close (tie.spec enum-known-step fill-requires word-of-requires enum-known-step-2 word-of-requires-2 enum-known-step-3 word-of-requires-3
+    word-of-requires-4 returns returns-2 returns-3 returns-4)

@@ -84,17 +84,5 @@ returns c =
 
 pub list-into-spec : {M : Type 1} → statement M
 list-into-spec =
-    tie.close
-    (tie.spec
-    Inv-loop
-    μ-loop
-    how-many-requires
-    sized-requires
-    loop-holds
-    woken-at-requires
-    cast-room
-    element-write-room
-    add-k
-    loop-less
-    loop-again
-    returns)
+    tie.close (tie.spec Inv-loop μ-loop how-many-requires sized-requires loop-holds woken-at-requires cast-room element-write-room add-k loop-less
+    loop-again returns)
