@@ -4,7 +4,7 @@ use driver_resume::announce::first;
 use regs::Dir;
 use req_descriptor::Endpoint;
 use req_descriptor::Endpoints;
-use state::STATE_LEN;
+use state::State;
 ghost use mathlib.Core.Path.{_≡_};
 ghost use mathlib.Core.List.{List};
 ghost use Prim.Native.Nat.{ℕ};
@@ -22,7 +22,7 @@ fn direction(address: u8) -> Dir
     if address < 128 { Dir::Out } else { Dir::In }
 }
 
-fn allocate_one(s: &mut [u8; STATE_LEN], e: Endpoint)
+fn allocate_one(s: &mut State, e: Endpoint)
     ensures { λ _. ⌜ view (now (s .exit)) ≡ oneOn (view (now (s .entry))) e ⌝ }
     ensures { λ _. ⌜ saved (now (s .exit)) ≡ saved (now (s .entry)) ⌝ }
 {
@@ -37,7 +37,7 @@ fn allocate_one(s: &mut [u8; STATE_LEN], e: Endpoint)
 }
 
 // All of the list, in its order.
-pub fn allocate_each(s: &mut [u8; STATE_LEN], list: Endpoints)
+pub fn allocate_each(s: &mut State, list: Endpoints)
     ensures { λ _. ⌜ view (now (s .exit)) ≡ eachOn (view (now (s .entry))) (stored list) ⌝ }
     ensures { λ _. ⌜ saved (now (s .exit)) ≡ saved (now (s .entry)) ⌝ }
 {
@@ -51,7 +51,7 @@ pub fn allocate_each(s: &mut [u8; STATE_LEN], list: Endpoints)
 }
 
 // The first of the list, after which come the others; none of an empty one.
-pub fn announce_all(s: &[u8; STATE_LEN], list: Endpoints) -> Next
+pub fn announce_all(s: &State, list: Endpoints) -> Next
     ensures { λ r. ⌜ ((b : List ℕ) → meaning r (view (now (s .entry))) b ≡ go (announceAll (stored list)) (view (now (s .entry))) b) ⌝ }
     ensures { λ r. ⌜ Linked r ⌝ }
 {

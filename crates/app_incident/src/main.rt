@@ -13,7 +13,9 @@ use list::SLOTS_LEN;
 use list::number;
 use print_access::text::print;
 use req_bus_time::TIME_LEN;
+use req_bus_time::Time;
 use state::STATE_LEN;
+use state::State;
 
 // The number of a store in the list, and the answer of what is no call.
 const STORE: u32 = 34;
@@ -32,9 +34,9 @@ fn made(
     list: &[u8; LIST_LEN],
     at: u32,
     code: u32,
-    s: &mut [u8; STATE_LEN],
+    s: &mut State,
     slots: &mut [u8; SLOTS_LEN],
-    time: &mut [u16; TIME_LEN],
+    time: &mut Time,
 ) -> u64 {
     let a = number(list, at, 4);
     let b = number(list, at, 8);

@@ -4,7 +4,9 @@ use print_access::text::print;
 use print_answer::show;
 use regs::Dir;
 use req_bus_time::TIME_LEN;
+use req_bus_time::Time;
 use state::STATE_LEN;
+use state::State;
 use usbhs::Step;
 
 // What the chip reads where it has nothing to tell.
@@ -31,13 +33,7 @@ fn reading(arrived: bool, left: u32) -> u32 {
 }
 
 // Shows a call's answer, and the rest of its operation as it goes on.
-fn run(
-    s: &mut [u8; STATE_LEN],
-    slots: &mut [u8],
-    time: &mut [u16; TIME_LEN],
-    first: Step,
-    arrived: bool,
-) {
+fn run(s: &mut State, slots: &mut [u8], time: &mut Time, first: Step, arrived: bool) {
     show(s, first);
     let mut step = first;
     let mut left = MOST;
@@ -55,7 +51,7 @@ fn run(
     }
 }
 
-fn questions(s: &[u8; STATE_LEN], e: u32) {
+fn questions(s: &State, e: u32) {
     print(b"IN ");
     number(e);
     print(b": ");
@@ -87,34 +83,20 @@ fn before_start_up() {
 }
 
 // Allocates an endpoint with a maximum of 64 bytes and shows what is handed out.
-fn endpoint(
-    s: &mut [u8; STATE_LEN],
-    slots: &mut [u8],
-    time: &mut [u16; TIME_LEN],
-    title: &[u8],
-    dir: Dir,
-    kind: u8,
-) {
+fn endpoint(s: &mut State, slots: &mut [u8], time: &mut Time, title: &[u8], dir: Dir, kind: u8) {
     print(title);
     let first = usbhs::starting::allocate(s, dir, kind, 256, 64, 1);
     run(s, slots, time, first, false);
 }
 
-fn enable(
-    s: &mut [u8; STATE_LEN],
-    slots: &mut [u8],
-    time: &mut [u16; TIME_LEN],
-    title: &[u8],
-    dir: Dir,
-    e: u32,
-) {
+fn enable(s: &mut State, slots: &mut [u8], time: &mut Time, title: &[u8], dir: Dir, e: u32) {
     print(title);
     let first = usbhs::bus_begins::begin_set_enabled(s, slots, time, 0, dir, e, true);
     run(s, slots, time, first, false);
 }
 
 // A driver on 21 buffers of 64 bytes, with an isochronous OUT and IN.
-fn started(s: &mut [u8; STATE_LEN], slots: &mut [u8], time: &mut [u16; TIME_LEN]) {
+fn started(s: &mut State, slots: &mut [u8], time: &mut Time) {
     print(b"\nstart-up, 21 buffers of 64 bytes\n");
     let first = usbhs::starting::start_up(s, slots, time, 0, 64, 21, false);
     run(s, slots, time, first, false);
@@ -137,7 +119,7 @@ fn started(s: &mut [u8; STATE_LEN], slots: &mut [u8], time: &mut [u16; TIME_LEN]
 }
 
 // A bulk pair and EP0.
-fn others(s: &mut [u8; STATE_LEN], slots: &mut [u8], time: &mut [u16; TIME_LEN]) {
+fn others(s: &mut State, slots: &mut [u8], time: &mut Time) {
     endpoint(s, slots, time, b"\nallocate a bulk OUT\n", Dir::Out, 2);
     endpoint(s, slots, time, b"\nallocate a bulk IN\n", Dir::In, 2);
     print(b"\nstart EP0\n");
@@ -145,7 +127,7 @@ fn others(s: &mut [u8; STATE_LEN], slots: &mut [u8], time: &mut [u16; TIME_LEN])
     run(s, slots, time, ep0, false);
 }
 
-fn enabled(s: &mut [u8; STATE_LEN], slots: &mut [u8], time: &mut [u16; TIME_LEN]) {
+fn enabled(s: &mut State, slots: &mut [u8], time: &mut Time) {
     print(b"\npull the bus up\n");
     let up = usbhs::bus_begins::begin_bus_enable(s);
     run(s, slots, time, up, false);
@@ -162,21 +144,21 @@ fn enabled(s: &mut [u8; STATE_LEN], slots: &mut [u8], time: &mut [u16; TIME_LEN]
     enable(s, slots, time, b"\nenable the bulk IN\n", Dir::In, 2);
 }
 
-fn time_in_use(time: &[u16; TIME_LEN]) {
+fn time_in_use(time: &Time) {
     print(b"\nbus time in use: ");
     number(req_bus_time::in_use(time));
     print(b" byte-times of 6,000\n");
 }
 
 // The interrupt of a packet that the chip has stored in the first slot of OUT 1.
-fn served(s: &mut [u8; STATE_LEN], slots: &mut [u8], time: &mut [u16; TIME_LEN]) {
+fn served(s: &mut State, slots: &mut [u8], time: &mut Time) {
     print(b"\nan interrupt: 4 bytes on the isochronous OUT\n");
     let first = usbhs::begins::begin_interrupt(s);
     run(s, slots, time, first, true);
 }
 
 // The packet is read where it lies.
-fn read(s: &mut [u8; STATE_LEN], slots: &[u8]) {
+fn read(s: &mut State, slots: &[u8]) {
     print(b"\nopen the oldest packet of OUT 1\n");
     let oldest = usbhs::in_place::open(s, slots, 1);
     show(s, oldest);

@@ -8,7 +8,7 @@ use regs::Reg;
 use regs::control_word;
 use regs::flags;
 use regs::int_en;
-use state::STATE_LEN;
+use state::State;
 use state::load_globals;
 use state::set_ep_config;
 use state::set_ep_type;
@@ -26,7 +26,7 @@ ghost use Rattle.model_ops.specs.Concrete.{go};
 ghost use Rattle.bus.specs.Points.{afterReset, afterNaked, afterReleased, denote, meaning, Linked};
 
 // `poll` (mod.rs 1231-1266).
-pub fn poll(s: &mut [u8; STATE_LEN]) -> Next
+pub fn poll(s: &mut State) -> Next
     ensures { λ r. ⌜ ((b : List ℕ) → meaning r (view (now (s .exit))) b ≡ go script.poll (view (now (s .entry))) b) ⌝ }
     ensures { λ _. ⌜ saved (now (s .exit)) ≡ saved (now (s .entry)) ⌝ }
     ensures { λ r. ⌜ Linked r ⌝ }
@@ -41,7 +41,7 @@ pub fn poll(s: &mut [u8; STATE_LEN]) -> Next
 }
 
 // The suspend interrupt is enabled again (mod.rs 1254); the event is by the status.
-pub fn after_released(s: &mut [u8; STATE_LEN]) -> Access
+pub fn after_released(s: &mut State) -> Access
     ensures { λ r. ⌜ ((down : Bool) (b : List ℕ) →
         meaning (Next.Asks r (Point.Event (cond down 3 4))) (view (now (s .exit))) b ≡ go (afterReleased down) (view (now (s .entry))) b) ⌝ }
     ensures { λ _. ⌜ saved (now (s .exit)) ≡ saved (now (s .entry)) ⌝ }
@@ -93,7 +93,7 @@ pub fn after_naked(e: u8) -> Access
 }
 
 // After the last, the row that disables them all.
-pub fn after_last(s: &mut [u8; STATE_LEN]) -> Access
+pub fn after_last(s: &mut State) -> Access
     ensures { λ r. ⌜ ((e : ℕ) → 15 ≤ e → (b : List ℕ) →
         meaning (Next.Asks r Point.Disabled) (view (now (s .exit))) b ≡ go (afterNaked e) (view (now (s .entry))) b) ⌝ }
     ensures { λ _. ⌜ saved (now (s .exit)) ≡ saved (now (s .entry)) ⌝ }
@@ -103,7 +103,7 @@ pub fn after_last(s: &mut [u8; STATE_LEN]) -> Access
     Access::Write(Reg::EpConfig, 0, 0)
 }
 
-pub fn after_disabled(s: &mut [u8; STATE_LEN]) -> Access
+pub fn after_disabled(s: &mut State) -> Access
     ensures { λ r. ⌜ ((v : ℕ) (b : List ℕ) → meaning (Next.Asks r Point.Untyped) (view (now (s .exit))) b
         ≡ denote Point.Disabled v (view (now (s .entry)), b)) ⌝ }
     ensures { λ _. ⌜ saved (now (s .exit)) ≡ saved (now (s .entry)) ⌝ }
@@ -121,7 +121,7 @@ pub fn after_untyped() -> Access
 }
 
 // Every record is reset in the call that clears the flag (mod.rs 1213-1216, 1245).
-pub fn after_single(s: &mut [u8; STATE_LEN]) -> Access
+pub fn after_single(s: &mut State) -> Access
     ensures { λ r. ⌜ ((v : ℕ) (b : List ℕ) → meaning (Next.Asks r Point.Reset) (view (now (s .exit))) b
         ≡ denote Point.Single v (view (now (s .entry)), b)) ⌝ }
     ensures { λ _. ⌜ saved (now (s .exit)) ≡ saved (now (s .entry)) ⌝ }
@@ -132,7 +132,7 @@ pub fn after_single(s: &mut [u8; STATE_LEN]) -> Access
 }
 
 // All are woken, and the reset interrupt is enabled again (mod.rs 1218-1220, 1247).
-pub fn after_reset(s: &mut [u8; STATE_LEN]) -> Access
+pub fn after_reset(s: &mut State) -> Access
     ensures { λ r. ⌜ ((b : List ℕ) → meaning (Next.Asks r (Point.Event 2)) (view (now (s .exit))) b ≡ go afterReset (view (now (s .entry))) b) ⌝ }
     ensures { λ _. ⌜ saved (now (s .exit)) ≡ saved (now (s .entry)) ⌝ }
     ensures { λ r. ⌜ Linked (Next.Asks r (Point.Event 2)) ⌝ }

@@ -12,7 +12,7 @@ use regs::Reg;
 use regs::control_word;
 use regs::enables;
 use state::EpState;
-use state::STATE_LEN;
+use state::State;
 use state::load_ep;
 use state::load_globals;
 use state::set_ep_type;
@@ -31,7 +31,7 @@ ghost use Rattle.model_ops.specs.Records.{isoOut};
 ghost use Rattle.bus.specs.Points.{resultless, renewedAs, enabledOut, afterType, afterWords, afterPlaced, denote, meaning, Linked};
 
 // The record reset, and armed or not.
-fn renew(s: &mut [u8; STATE_LEN], dir: Dir, e: u8, armed: u8)
+fn renew(s: &mut State, dir: Dir, e: u8, armed: u8)
     requires { ⌜ isoOut (view (now s)) dir e ≡ false ⌝ }
     ensures { λ _. ⌜ view (now (s .exit)) ≡ renewedAs (view (now (s .entry))) dir e armed ⌝ }
     ensures { λ _. ⌜ saved (now (s .exit)) ≡ saved (now (s .entry)) ⌝ }
@@ -43,7 +43,7 @@ fn renew(s: &mut [u8; STATE_LEN], dir: Dir, e: u8, armed: u8)
 }
 
 // Not isochronous: armed as soon as it is enabled (mod.rs 1279-1282, 1296).
-fn set_enabled_out(s: &mut [u8; STATE_LEN], e: u8, on: bool) -> Next
+fn set_enabled_out(s: &mut State, e: u8, on: bool) -> Next
     requires { ⌜ isoOut (view (now s)) Dir.Out e ≡ false ⌝ }
     ensures { λ r. ⌜ ((b : List ℕ) → meaning r (view (now (s .exit))) b ≡ go (enabledOut e on) (view (now (s .entry))) b) ⌝ }
     ensures { λ _. ⌜ saved (now (s .exit)) ≡ saved (now (s .entry)) ⌝ }
@@ -54,7 +54,7 @@ fn set_enabled_out(s: &mut [u8; STATE_LEN], e: u8, on: bool) -> Next
     Next::Asks(Access::Receive(e, at), Point::PlacedOut(e, on))
 }
 
-fn set_enabled_in(s: &mut [u8; STATE_LEN], e: u8, on: bool) -> Next
+fn set_enabled_in(s: &mut State, e: u8, on: bool) -> Next
     ensures { λ r. ⌜ ((b : List ℕ) → meaning r (view (now (s .exit))) b ≡ go (resultless (script.setEnabled Dir.In e on)) (view (now (s .entry))) b) ⌝ }
     ensures { λ _. ⌜ saved (now (s .exit)) ≡ saved (now (s .entry)) ⌝ }
     ensures { λ r. ⌜ Linked r ⌝ }
@@ -68,13 +68,7 @@ fn set_enabled_in(s: &mut [u8; STATE_LEN], e: u8, on: bool) -> Next
 }
 
 // `endpoint_set_enabled` (mod.rs 1268-1330).
-pub fn endpoint_set_enabled(
-    s: &mut [u8; STATE_LEN],
-    buf: &mut [u8],
-    dir: Dir,
-    e: u8,
-    on: bool,
-) -> Next
+pub fn endpoint_set_enabled(s: &mut State, buf: &mut [u8], dir: Dir, e: u8, on: bool) -> Next
     ensures { λ r. ⌜ meaning r (view (now (s .exit))) (now (buf .exit))
         ≡ go (resultless (script.setEnabled dir e on)) (view (now (s .entry))) (now (buf .entry)) ⌝ }
     ensures { λ _. ⌜ saved (now (s .exit)) ≡ saved (now (s .entry)) ⌝ }
@@ -147,7 +141,7 @@ pub fn after_no_length(e: u8, iso: bool, on: bool) -> Access
 }
 
 // ep_type's bit, then ep_config's (mod.rs 1310-1311, 1324-1325).
-pub fn after_words(s: &mut [u8; STATE_LEN], dir: Dir, e: u8, iso: bool, on: bool) -> Access
+pub fn after_words(s: &mut State, dir: Dir, e: u8, iso: bool, on: bool) -> Access
     ensures { λ r. ⌜ ((b : List ℕ) → meaning (Next.Asks r (Point.Type dir e on)) (view (now (s .exit))) b
         ≡ go (afterWords dir e iso on) (view (now (s .entry))) b) ⌝ }
     ensures { λ _. ⌜ saved (now (s .exit)) ≡ saved (now (s .entry)) ⌝ }
@@ -160,7 +154,7 @@ pub fn after_words(s: &mut [u8; STATE_LEN], dir: Dir, e: u8, iso: bool, on: bool
     Access::Write(Reg::EpType, 0, word)
 }
 
-pub fn after_type(s: &mut [u8; STATE_LEN], dir: Dir, e: u8, on: bool) -> Access
+pub fn after_type(s: &mut State, dir: Dir, e: u8, on: bool) -> Access
     ensures { λ r. ⌜ ((b : List ℕ) → meaning (Next.Asks r (Point.Woken dir e)) (view (now (s .exit))) b
         ≡ go (afterType dir e on) (view (now (s .entry))) b) ⌝ }
     ensures { λ _. ⌜ saved (now (s .exit)) ≡ saved (now (s .entry)) ⌝ }

@@ -10,7 +10,7 @@ use regs::Reg;
 use regs::control_word;
 use regs::registers::ctrl_of;
 use state::EpState;
-use state::STATE_LEN;
+use state::State;
 use state::load_ep;
 use state::store_ep;
 ghost use mathlib.Core.Path.{_≡_};
@@ -73,7 +73,7 @@ fn restarted_in(e: u8, r: EpState) -> u8
 }
 
 // The toggle restarts, and the control word.
-fn restart_out(s: &mut [u8; STATE_LEN], e: u8) -> Next
+fn restart_out(s: &mut State, e: u8) -> Next
     ensures { λ r. ⌜ ((b : List ℕ) → meaning r (view (now (s .exit))) b ≡ go (resultless (script.setStalled Dir.Out e false)) (view (now (s .entry))) b) ⌝ }
     ensures { λ _. ⌜ saved (now (s .exit)) ≡ saved (now (s .entry)) ⌝ }
     ensures { λ r. ⌜ Linked r ⌝ }
@@ -89,7 +89,7 @@ fn restart_out(s: &mut [u8; STATE_LEN], e: u8) -> Next
     )
 }
 
-fn restart_in(s: &mut [u8; STATE_LEN], e: u8) -> Next
+fn restart_in(s: &mut State, e: u8) -> Next
     ensures { λ r. ⌜ ((b : List ℕ) → meaning r (view (now (s .exit))) b ≡ go (resultless (script.setStalled Dir.In e false)) (view (now (s .entry))) b) ⌝ }
     ensures { λ _. ⌜ saved (now (s .exit)) ≡ saved (now (s .entry)) ⌝ }
     ensures { λ r. ⌜ Linked r ⌝ }
@@ -107,7 +107,7 @@ fn restart_in(s: &mut [u8; STATE_LEN], e: u8) -> Next
 }
 
 // `set_endpoint_stalled` (mod.rs 1053-1099).
-pub fn set_endpoint_stalled(s: &mut [u8; STATE_LEN], dir: Dir, e: u8, on: bool) -> Next
+pub fn set_endpoint_stalled(s: &mut State, dir: Dir, e: u8, on: bool) -> Next
     ensures { λ r. ⌜ ((b : List ℕ) → meaning r (view (now (s .exit))) b ≡ go (resultless (script.setStalled dir e on)) (view (now (s .entry))) b) ⌝ }
     ensures { λ _. ⌜ saved (now (s .exit)) ≡ saved (now (s .entry)) ⌝ }
     ensures { λ r. ⌜ Linked r ⌝ }
@@ -148,7 +148,7 @@ pub fn after_stall_word(dir: Dir, e: u8, v: u32) -> Access
 }
 
 // A write waiting on the stalled endpoint finishes; its data is dropped (mod.rs 1093-1098). The endpoint is woken.
-pub fn after_restart(s: &mut [u8; STATE_LEN], e: u8, iso: bool)
+pub fn after_restart(s: &mut State, e: u8, iso: bool)
     ensures { λ _. ⌜ ((b : List ℕ) → ends 0 (view (now (s .exit)), b) ≡ go (afterRestart e iso) (view (now (s .entry))) b) ⌝ }
     ensures { λ _. ⌜ saved (now (s .exit)) ≡ saved (now (s .entry)) ⌝ }
 {

@@ -7,12 +7,12 @@ use machine::halts::suspend_or_end_bus;
 use machine::stops::slots_fit;
 use machine::stops::stop;
 use regs::Dir;
-use state::STATE_LEN;
+use state::State;
 ghost use Rattle.model.specs.Calls.{BusEnable, BusDisable, BusPoll, IsStalled, SetStalled, SetEnabled};
 ghost use Rattle.machine.specs.Contracts.{OtherCall, SlottedCall};
 
 // `enable` (mod.rs 1225-1227).
-pub fn begin_bus_enable(s: &mut [u8; STATE_LEN]) -> Step
+pub fn begin_bus_enable(s: &mut State) -> Step
     ensures { λ r. ⌜ OtherCall BusEnable r (now (s .entry)) (now (s .exit)) ⌝ }
 {
     let n = stop(s, 2);
@@ -24,7 +24,7 @@ pub fn begin_bus_enable(s: &mut [u8; STATE_LEN]) -> Step
 }
 
 // `disable`, which has no access.
-pub fn begin_bus_disable(s: &mut [u8; STATE_LEN]) -> Step
+pub fn begin_bus_disable(s: &mut State) -> Step
     ensures { λ r. ⌜ OtherCall BusDisable r (now (s .entry)) (now (s .exit)) ⌝ }
 {
     let n = stop(s, 2);
@@ -36,7 +36,7 @@ pub fn begin_bus_disable(s: &mut [u8; STATE_LEN]) -> Step
 }
 
 // `poll` (mod.rs 1229-1266).
-pub fn begin_bus_poll(s: &mut [u8; STATE_LEN]) -> Step
+pub fn begin_bus_poll(s: &mut State) -> Step
     ensures { λ r. ⌜ OtherCall BusPoll r (now (s .entry)) (now (s .exit)) ⌝ }
 {
     let n = stop(s, 2);
@@ -49,7 +49,7 @@ pub fn begin_bus_poll(s: &mut [u8; STATE_LEN]) -> Step
 }
 
 // `is_endpoint_stalled` (mod.rs 1101-1106).
-pub fn begin_is_stalled(s: &mut [u8; STATE_LEN], dir: Dir, e: u32) -> Step
+pub fn begin_is_stalled(s: &mut State, dir: Dir, e: u32) -> Step
     ensures { λ r. ⌜ OtherCall (IsStalled dir e) r (now (s .entry)) (now (s .exit)) ⌝ }
 {
     let n = stop(s, 2);
@@ -65,7 +65,7 @@ pub fn begin_is_stalled(s: &mut [u8; STATE_LEN], dir: Dir, e: u32) -> Step
 }
 
 // `set_endpoint_stalled` (mod.rs 1053-1099).
-pub fn begin_set_stalled(s: &mut [u8; STATE_LEN], dir: Dir, e: u32, on: bool) -> Step
+pub fn begin_set_stalled(s: &mut State, dir: Dir, e: u32, on: bool) -> Step
     ensures { λ r. ⌜ OtherCall (SetStalled dir e on) r (now (s .entry)) (now (s .exit)) ⌝ }
 {
     let n = stop(s, 2);
@@ -81,13 +81,7 @@ pub fn begin_set_stalled(s: &mut [u8; STATE_LEN], dir: Dir, e: u32, on: bool) ->
 }
 
 // `endpoint_set_enabled` (mod.rs 1268-1330).
-pub fn begin_set_enabled(
-    s: &mut [u8; STATE_LEN],
-    slots: &mut [u8],
-    dir: Dir,
-    e: u32,
-    on: bool,
-) -> Step
+pub fn begin_set_enabled(s: &mut State, slots: &mut [u8], dir: Dir, e: u32, on: bool) -> Step
     ensures { λ r. ⌜ SlottedCall (SetEnabled dir e on) r (now (s .entry)) (now (slots .entry)) (now (s .exit)) (now (slots .exit)) ⌝ }
 {
     if slots_fit(s, slots) {

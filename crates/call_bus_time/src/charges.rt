@@ -3,11 +3,11 @@ use regs::Access;
 use regs::Dir;
 use regs::Reg;
 use regs::registers::number;
-use req_bus_time::TIME_LEN;
+use req_bus_time::Time;
 use req_bus_time::charge;
 use req_bus_time::charge_of;
 use req_bus_time::keep;
-use state::STATE_LEN;
+use state::State;
 ghost use mathlib.Core.Path.{_≡_};
 ghost use mathlib.Core.List.{List, []};
 ghost use Prim.Native.Nat.{ℕ, _≤_, _<_};
@@ -21,7 +21,7 @@ ghost use Rattle.call_bus_time.specs.Sharing.{chargeOn, starting, going,
 ghost use Rattle.call_bus_time.specs.Charging.{chargedAt};
 
 // What the endpoint is charged; its number counts modulo 16.
-pub fn charge_on(s: &[u8; STATE_LEN], dir: Dir, e: u32) -> u32
+pub fn charge_on(s: &State, dir: Dir, e: u32) -> u32
     ensures { λ r. ⌜ r ≡ chargeOn (view (now (s .entry))) dir e ⌝ }
     ensures { λ r. ⌜ r ≤ 65590 ⌝ }
 {
@@ -30,7 +30,7 @@ pub fn charge_on(s: &[u8; STATE_LEN], dir: Dir, e: u32) -> u32
 }
 
 // An enabling: charged where it is begun.
-pub fn charged(time: &mut [u16; TIME_LEN], at: usize, c: u32, step: Step)
+pub fn charged(time: &mut Time, at: usize, c: u32, step: Step)
     requires { ⌜ at < 128 ⌝ }
     requires { ⌜ c < 65536 ⌝ }
     ensures { λ _. ⌜ ((x : Driver) → now (time .exit) ≡ chargedAt (answerOf step [] x) at c (now (time .entry))) ⌝ }
@@ -42,7 +42,7 @@ pub fn charged(time: &mut [u16; TIME_LEN], at: usize, c: u32, step: Step)
 }
 
 // A start-up: an accepted one gives all back.
-pub fn started(time: &mut [u16; TIME_LEN], driver: u32, step: Step)
+pub fn started(time: &mut Time, driver: u32, step: Step)
     ensures { λ _. ⌜ ((x d : Driver) → now (time .exit) ≡ timeAfter driver starting (answerOf step [] x) d (now (time .entry))) ⌝ }
 {
     match step {
@@ -57,7 +57,7 @@ fn is_config(reg: Reg) -> bool
     number(reg) == 9
 }
 
-fn after_write(time: &mut [u16; TIME_LEN], driver: u32, reg: Reg, word: u32)
+fn after_write(time: &mut Time, driver: u32, reg: Reg, word: u32)
     ensures { λ _. ⌜ ((e : ℕ) → now (time .exit) ≡ written driver (Access.Write reg e word) (now (time .entry))) ⌝ }
 {
     if is_config(reg) {
@@ -65,7 +65,7 @@ fn after_write(time: &mut [u16; TIME_LEN], driver: u32, reg: Reg, word: u32)
     }
 }
 
-fn after_access(time: &mut [u16; TIME_LEN], driver: u32, q: Access)
+fn after_access(time: &mut Time, driver: u32, q: Access)
     ensures { λ _. ⌜ now (time .exit) ≡ written driver q (now (time .entry)) ⌝ }
 {
     match q {
@@ -75,7 +75,7 @@ fn after_access(time: &mut [u16; TIME_LEN], driver: u32, q: Access)
 }
 
 // A continue: the access that it hands out.
-pub fn gone_on(time: &mut [u16; TIME_LEN], driver: u32, step: Step)
+pub fn gone_on(time: &mut Time, driver: u32, step: Step)
     ensures { λ _. ⌜ ((x d : Driver) → now (time .exit) ≡ timeAfter driver going (answerOf step [] x) d (now (time .entry))) ⌝ }
 {
     match step {

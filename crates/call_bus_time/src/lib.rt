@@ -10,10 +10,10 @@ use machine::Step;
 use machine::stops::slots_fit;
 use machine::stops::stop;
 use regs::Dir;
-use req_bus_time::TIME_LEN;
+use req_bus_time::Time;
 use req_bus_time::entry;
 use req_bus_time::passes;
-use state::STATE_LEN;
+use state::State;
 ghost use mathlib.Core.Path.{_≡_};
 ghost use mathlib.Core.Bool.{cond, true};
 ghost use mathlib.Core.List.{List, []};
@@ -28,9 +28,9 @@ ghost use Rattle.call_bus_time.specs.Accepts.{accepts};
 
 // Start-up on any state: an accepted one gives back what the driver was charged.
 pub fn start_up(
-    s: &mut [u8; STATE_LEN],
+    s: &mut State,
     slots: &[u8],
-    time: &mut [u16; TIME_LEN],
+    time: &mut Time,
     driver: u32,
     size: u32,
     count: u32,
@@ -51,7 +51,7 @@ pub fn start_up(
 }
 
 // Rows 1, 3, 4 and 5 turned round.
-fn is_accepted(s: &[u8; STATE_LEN], slots: &[u8], dir: Dir, e: u32) -> bool
+fn is_accepted(s: &State, slots: &[u8], dir: Dir, e: u32) -> bool
     ensures { λ r. ⌜ r ≡ accepts (view (now (s .entry))) (decode (saved (now (s .entry)))) (now (slots .entry)) dir e ⌝ }
 {
     if slots_fit(s, slots) {
@@ -64,14 +64,7 @@ fn is_accepted(s: &[u8; STATE_LEN], slots: &[u8], dir: Dir, e: u32) -> bool
 }
 
 // Row 19 changes nothing; an enabling counts from its begin, once however often it is enabled.
-fn enable(
-    s: &mut [u8; STATE_LEN],
-    slots: &mut [u8],
-    time: &mut [u16; TIME_LEN],
-    driver: u32,
-    dir: Dir,
-    e: u32,
-) -> Step
+fn enable(s: &mut State, slots: &mut [u8], time: &mut Time, driver: u32, dir: Dir, e: u32) -> Step
     ensures { λ r. ⌜ SharedStep r driver (begin (slotted (SetEnabled dir e true))) (now (s .entry)) (now (s .exit))
         (now (slots .entry)) (now (slots .exit)) (now (time .entry)) (now (time .exit)) ⌝ }
 {
@@ -90,9 +83,9 @@ fn enable(
 
 // The endpoint enabled or disabled.
 pub fn begin_set_enabled(
-    s: &mut [u8; STATE_LEN],
+    s: &mut State,
     slots: &mut [u8],
-    time: &mut [u16; TIME_LEN],
+    time: &mut Time,
     driver: u32,
     dir: Dir,
     e: u32,

@@ -3,12 +3,12 @@ use machine::Step;
 use machine::halts::begun_control;
 use machine::saved::is_idle;
 use machine::stops::slots_fit;
-use state::STATE_LEN;
+use state::State;
 ghost use Rattle.model.specs.Calls.{BeginSetup, BeginDataOut, BeginDataIn, BeginAccept, BeginAcceptSetAddress, BeginReject};
 ghost use Rattle.machine.specs.Contracts.{OtherCall, SlottedCall};
 
 // `setup` (control.rs 70-80).
-pub fn begin_setup(s: &mut [u8; STATE_LEN]) -> Step
+pub fn begin_setup(s: &mut State) -> Step
     ensures { λ r. ⌜ OtherCall BeginSetup r (now (s .entry)) (now (s .exit)) ⌝ }
 {
     if is_idle(s) {
@@ -19,7 +19,7 @@ pub fn begin_setup(s: &mut [u8; STATE_LEN]) -> Step
 }
 
 // `data_out` (82-115), into a slice of n bytes.
-pub fn begin_data_out(s: &mut [u8; STATE_LEN], n: u32, first: bool) -> Step
+pub fn begin_data_out(s: &mut State, n: u32, first: bool) -> Step
     ensures { λ r. ⌜ OtherCall (BeginDataOut n first) r (now (s .entry)) (now (s .exit)) ⌝ }
 {
     if is_idle(s) {
@@ -30,13 +30,7 @@ pub fn begin_data_out(s: &mut [u8; STATE_LEN], n: u32, first: bool) -> Step
 }
 
 // `data_in` (117-161).
-pub fn begin_data_in(
-    s: &mut [u8; STATE_LEN],
-    slots: &mut [u8],
-    bytes: &[u8],
-    first: bool,
-    last: bool,
-) -> Step
+pub fn begin_data_in(s: &mut State, slots: &mut [u8], bytes: &[u8], first: bool, last: bool) -> Step
     ensures { λ r. ⌜ SlottedCall (BeginDataIn (now (bytes .entry)) first last) r (now (s .entry)) (now (slots .entry)) (now (s .exit)) (now (slots .exit)) ⌝ }
 {
     if slots_fit(s, slots) {
@@ -50,7 +44,7 @@ pub fn begin_data_in(
 }
 
 // `accept` (26-46, 163-166).
-pub fn begin_accept(s: &mut [u8; STATE_LEN]) -> Step
+pub fn begin_accept(s: &mut State) -> Step
     ensures { λ r. ⌜ OtherCall BeginAccept r (now (s .entry)) (now (s .exit)) ⌝ }
 {
     if is_idle(s) {
@@ -61,7 +55,7 @@ pub fn begin_accept(s: &mut [u8; STATE_LEN]) -> Step
 }
 
 // `accept_set_address` (179-186).
-pub fn begin_accept_set_address(s: &mut [u8; STATE_LEN], address: u32) -> Step
+pub fn begin_accept_set_address(s: &mut State, address: u32) -> Step
     ensures { λ r. ⌜ OtherCall (BeginAcceptSetAddress address) r (now (s .entry)) (now (s .exit)) ⌝ }
 {
     if is_idle(s) {
@@ -72,7 +66,7 @@ pub fn begin_accept_set_address(s: &mut [u8; STATE_LEN], address: u32) -> Step
 }
 
 // `reject` (168-177).
-pub fn begin_reject(s: &mut [u8; STATE_LEN]) -> Step
+pub fn begin_reject(s: &mut State) -> Step
     ensures { λ r. ⌜ OtherCall BeginReject r (now (s .entry)) (now (s .exit)) ⌝ }
 {
     if is_idle(s) {

@@ -3,13 +3,13 @@ use machine::Step;
 use machine::halts::polled_control;
 use machine::saved::is_idle;
 use machine::stops::slots_fit;
-use state::STATE_LEN;
+use state::State;
 ghost use lib.ListN.{length};
 ghost use Rattle.model.specs.Calls.{PollSetup, PollDataOut, PollDataIn, PollAccept};
 ghost use Rattle.machine.specs.Contracts.{OtherCall, PolledCall};
 
 // `setup` (control.rs 70-80).
-pub fn poll_setup(s: &mut [u8; STATE_LEN]) -> Step
+pub fn poll_setup(s: &mut State) -> Step
     ensures { λ r. ⌜ OtherCall PollSetup r (now (s .entry)) (now (s .exit)) ⌝ }
 {
     if is_idle(s) {
@@ -20,7 +20,7 @@ pub fn poll_setup(s: &mut [u8; STATE_LEN]) -> Step
 }
 
 // `data_out` (82-115): the packet at the front of `out`.
-pub fn poll_data_out(s: &mut [u8; STATE_LEN], slots: &[u8], out: &mut [u8]) -> Step
+pub fn poll_data_out(s: &mut State, slots: &[u8], out: &mut [u8]) -> Step
     ensures { λ r. ⌜ PolledCall (PollDataOut (length (now (out .entry)))) r (now (s .entry)) (now (slots .entry)) (now (out .entry)) (now (s .exit)) (now (out .exit)) ⌝ }
 {
     if slots_fit(s, slots) {
@@ -34,7 +34,7 @@ pub fn poll_data_out(s: &mut [u8; STATE_LEN], slots: &[u8], out: &mut [u8]) -> S
 }
 
 // `data_in` (117-161).
-pub fn poll_data_in(s: &mut [u8; STATE_LEN]) -> Step
+pub fn poll_data_in(s: &mut State) -> Step
     ensures { λ r. ⌜ OtherCall PollDataIn r (now (s .entry)) (now (s .exit)) ⌝ }
 {
     if is_idle(s) {
@@ -45,7 +45,7 @@ pub fn poll_data_in(s: &mut [u8; STATE_LEN]) -> Step
 }
 
 // `accept` and `accept_set_address` (26-46).
-pub fn poll_accept(s: &mut [u8; STATE_LEN]) -> Step
+pub fn poll_accept(s: &mut State) -> Step
     ensures { λ r. ⌜ OtherCall PollAccept r (now (s .entry)) (now (s .exit)) ⌝ }
 {
     if is_idle(s) {

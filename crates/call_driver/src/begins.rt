@@ -6,7 +6,7 @@ use machine::halts::suspend_or_end;
 use machine::halts::suspend_or_end_advance;
 use machine::halts::suspend_or_end_interrupt;
 use machine::stops::stop;
-use state::STATE_LEN;
+use state::State;
 ghost use mathlib.Core.Path.{_≡_};
 ghost use mathlib.Core.List.{List, []};
 ghost use Prim.Native.Nat.{ℕ};
@@ -17,7 +17,7 @@ ghost use Rattle.machine.specs.Suspended.{machineOf, drive, answerOf, SavedByAn
 ghost use Rattle.machine.specs.Contracts.{OtherCall};
 
 // The current microframe number (mod.rs 236-238).
-pub fn begin_microframe(s: &mut [u8; STATE_LEN]) -> Step
+pub fn begin_microframe(s: &mut State) -> Step
     ensures { λ r. ⌜ OtherCall Microframe r (now (s .entry)) (now (s .exit)) ⌝ }
 {
     let n = stop(s, 2);
@@ -29,7 +29,7 @@ pub fn begin_microframe(s: &mut [u8; STATE_LEN]) -> Step
 }
 
 // Whether advance moves the endpoint on (mod.rs 308-317).
-pub fn set_paced(s: &mut [u8; STATE_LEN], e: u32, on: bool) -> Step
+pub fn set_paced(s: &mut State, e: u32, on: bool) -> Step
     ensures { λ r. ⌜ ((a b : List ℕ) → (
       answerOf r [] (view (now (s .exit))),
       machineOf (now (s .exit)) b,
@@ -48,7 +48,7 @@ pub fn set_paced(s: &mut [u8; STATE_LEN], e: u32, on: bool) -> Step
 }
 
 // `iso_in_advance` (mod.rs 323-340).
-pub fn begin_advance(s: &mut [u8; STATE_LEN], e: u32) -> Step
+pub fn begin_advance(s: &mut State, e: u32) -> Step
     ensures { λ r. ⌜ OtherCall (Advance e) r (now (s .entry)) (now (s .exit)) ⌝ }
 {
     let n = stop(s, 2);
@@ -64,7 +64,7 @@ pub fn begin_advance(s: &mut [u8; STATE_LEN], e: u32) -> Step
 }
 
 // `on_interrupt` (mod.rs 634-852).
-pub fn begin_interrupt(s: &mut [u8; STATE_LEN]) -> Step
+pub fn begin_interrupt(s: &mut State) -> Step
     ensures { λ r. ⌜ ((a b : List ℕ) → (
       answerOf r [] (view (now (s .exit))),
       machineOf (now (s .exit)) b,

@@ -6,7 +6,7 @@ use req_descriptor::Answer;
 use req_descriptor::Endpoints;
 use req_preview::Said;
 use req_preview::Shown;
-use state::STATE_LEN;
+use state::State;
 ghost use mathlib.Core.Path.{_≡_};
 ghost use mathlib.Core.Bool.{true};
 ghost use mathlib.Core.List.{List, []};
@@ -21,7 +21,7 @@ ghost use Rattle.machine.specs.Contracts.{OtherCall};
 ghost use Rattle.call_driver.specs.Listed.{allocatedAll, previewed};
 
 // All or none, where nothing is under way: the refusal of the first that would be refused, or all allocated and the first announced.
-fn allocate_listed(s: &mut [u8; STATE_LEN], list: Endpoints) -> Step
+fn allocate_listed(s: &mut State, list: Endpoints) -> Step
     requires { ⌜ isIdle (decode (saved (now s))) ≡ true ⌝ }
     ensures { λ r. ⌜ ((b : List ℕ) → (
       answerOf r [] (view (now (s .exit))),
@@ -40,7 +40,7 @@ fn allocate_listed(s: &mut [u8; STATE_LEN], list: Endpoints) -> Step
 }
 
 // A descriptor's endpoints allocated in its order, or none: rows 3, 4, 17, 18, then 6, 7 or 8 of the first that would be refused.
-pub fn allocate_all(s: &mut [u8; STATE_LEN], bytes: &[u8]) -> Step
+pub fn allocate_all(s: &mut State, bytes: &[u8]) -> Step
     ensures { λ r. ⌜ OtherCall (AllocateAll (now (bytes .entry))) r (now (s .entry)) (now (s .exit)) ⌝ }
 {
     let n = stop(s, 1);
@@ -73,7 +73,7 @@ fn unshown(row: u8) -> Shown
 }
 
 // What allocating a descriptor's endpoints one by one would give, up to the first refusal: rows 3, 4, 17, 18 as above. The state is untouched.
-pub fn preview(s: &[u8; STATE_LEN], bytes: &[u8]) -> Shown
+pub fn preview(s: &State, bytes: &[u8]) -> Shown
     ensures { λ r. ⌜ r ≡ previewed (stopOf (isIdle (decode (saved (now (s .entry))))) 1 (view (now (s .entry)) .globals .stage))
         (view (now (s .entry)) .allocator) (now (bytes .entry)) ⌝ }
 {

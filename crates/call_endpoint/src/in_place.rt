@@ -4,7 +4,7 @@ use iso_out_open_close::Packet;
 use machine::Step;
 use machine::saved::may_pass;
 use machine::stops::slots_fit;
-use state::STATE_LEN;
+use state::State;
 ghost use mathlib.Core.Path.{_≡_};
 ghost use mathlib.Core.List.{List};
 ghost use Prim.Native.Nat.{ℕ};
@@ -28,7 +28,7 @@ fn told(p: Packet) -> Step
 }
 
 // `iso_out_take` (mod.rs 253-271), its first part.
-pub fn open(s: &mut [u8; STATE_LEN], slots: &[u8], e: u32) -> Step
+pub fn open(s: &mut State, slots: &[u8], e: u32) -> Step
     ensures { λ r. ⌜ ((a : List ℕ) → (
       answerOf r (now (slots .entry)) (view (now (s .exit))),
       machineOf (now (s .exit)) (lentOr (view (now (s .entry))) (now (slots .entry)) (now (slots .entry)) a),
@@ -47,7 +47,7 @@ pub fn open(s: &mut [u8; STATE_LEN], slots: &[u8], e: u32) -> Step
 }
 
 // And its last.
-pub fn close(s: &mut [u8; STATE_LEN], e: u32) -> Step
+pub fn close(s: &mut State, e: u32) -> Step
     ensures { λ r. ⌜ ((a b : List ℕ) → (
       answerOf r b (view (now (s .exit))),
       machineOf (now (s .exit)) b,
@@ -62,7 +62,7 @@ pub fn close(s: &mut [u8; STATE_LEN], e: u32) -> Step
 }
 
 // `iso_in_prime` (342-395).
-pub fn queue(s: &mut [u8; STATE_LEN], slots: &mut [u8], e: u32, bytes: &[u8]) -> Step
+pub fn queue(s: &mut State, slots: &mut [u8], e: u32, bytes: &[u8]) -> Step
     ensures { λ r. ⌜ ((a : List ℕ) → (
       answerOf r (now (slots .exit)) (view (now (s .exit))),
       machineOf (now (s .exit)) (lentOr (view (now (s .entry))) (now (slots .entry)) (now (slots .exit)) a),

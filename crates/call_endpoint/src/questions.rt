@@ -3,13 +3,13 @@ use endpoint_rows::low;
 use model_ops::rings::is_on;
 use regs::Dir;
 use state::EpState;
-use state::STATE_LEN;
+use state::State;
 ghost use mathlib.Core.Path.{_≡_};
 ghost use Rattle.state.specs.State.{view};
 ghost use Rattle.machine.specs.Questions.{pendingOn, overrunsOf, overrunsOn, enabledAsked};
 
 // The packets queued on IN e and not yet taken by the host.
-pub fn pending(s: &[u8; STATE_LEN], e: u32) -> u32
+pub fn pending(s: &State, e: u32) -> u32
     ensures { λ r. ⌜ r ≡ pendingOn (view (now (s .entry))) e ⌝ }
 {
     if is_number(e) {
@@ -29,7 +29,7 @@ fn iso_out_overruns(r: EpState) -> u32
 }
 
 // The packets of OUT e that were turned away.
-pub fn overruns(s: &[u8; STATE_LEN], e: u32) -> u32
+pub fn overruns(s: &State, e: u32) -> u32
     ensures { λ r. ⌜ r ≡ overrunsOn (view (now (s .entry))) e ⌝ }
 {
     if is_number(e) {
@@ -40,7 +40,7 @@ pub fn overruns(s: &[u8; STATE_LEN], e: u32) -> u32
 }
 
 // Whether the host enabled the endpoint.
-pub fn enabled(s: &[u8; STATE_LEN], dir: Dir, e: u32) -> bool
+pub fn enabled(s: &State, dir: Dir, e: u32) -> bool
     ensures { λ r. ⌜ r ≡ enabledAsked (view (now (s .entry))) dir e ⌝ }
 {
     if is_number(e) {

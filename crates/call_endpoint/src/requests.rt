@@ -4,14 +4,14 @@ use machine::halts::begun_endpoint;
 use machine::halts::polled_endpoint;
 use machine::saved::is_idle;
 use machine::stops::slots_fit;
-use state::STATE_LEN;
+use state::State;
 ghost use lib.ListN.{length};
 ghost use Rattle.model.specs.Machine.{begin};
 ghost use Rattle.model.specs.Calls.{BeginRead, PollRead, BeginWrite, PollWrite};
 ghost use Rattle.machine.specs.Contracts.{OtherCall, SlottedCall, PolledCall};
 
 // `read` (endpoint.rs 83-142), into a slice of n bytes.
-pub fn begin_read(s: &mut [u8; STATE_LEN], e: u32, n: u32) -> Step
+pub fn begin_read(s: &mut State, e: u32, n: u32) -> Step
     ensures { λ r. ⌜ OtherCall (BeginRead e n) r (now (s .entry)) (now (s .exit)) ⌝ }
 {
     if is_idle(s) {
@@ -22,7 +22,7 @@ pub fn begin_read(s: &mut [u8; STATE_LEN], e: u32, n: u32) -> Step
 }
 
 // The packet at the front of `out`.
-pub fn poll_read(s: &mut [u8; STATE_LEN], slots: &[u8], e: u32, out: &mut [u8]) -> Step
+pub fn poll_read(s: &mut State, slots: &[u8], e: u32, out: &mut [u8]) -> Step
     ensures { λ r. ⌜ PolledCall (PollRead e (length (now (out .entry)))) r (now (s .entry)) (now (slots .entry)) (now (out .entry)) (now (s .exit)) (now (out .exit)) ⌝ }
 {
     if slots_fit(s, slots) {
@@ -36,7 +36,7 @@ pub fn poll_read(s: &mut [u8; STATE_LEN], slots: &[u8], e: u32, out: &mut [u8]) 
 }
 
 // `write` (146-194).
-pub fn begin_write(s: &mut [u8; STATE_LEN], slots: &mut [u8], e: u32, bytes: &[u8]) -> Step
+pub fn begin_write(s: &mut State, slots: &mut [u8], e: u32, bytes: &[u8]) -> Step
     ensures { λ r. ⌜ SlottedCall (BeginWrite e (now (bytes .entry))) r (now (s .entry)) (now (slots .entry)) (now (s .exit)) (now (slots .exit)) ⌝ }
 {
     if slots_fit(s, slots) {
@@ -49,7 +49,7 @@ pub fn begin_write(s: &mut [u8; STATE_LEN], slots: &mut [u8], e: u32, bytes: &[u
     Step::Refused(1)
 }
 
-pub fn poll_write(s: &mut [u8; STATE_LEN], slots: &mut [u8], e: u32, bytes: &[u8]) -> Step
+pub fn poll_write(s: &mut State, slots: &mut [u8], e: u32, bytes: &[u8]) -> Step
     ensures { λ r. ⌜ SlottedCall (PollWrite e (now (bytes .entry))) r (now (s .entry)) (now (slots .entry)) (now (s .exit)) (now (slots .exit)) ⌝ }
 {
     if slots_fit(s, slots) {

@@ -21,7 +21,7 @@ use regs::flags;
 use regs::flags::TRANSFER;
 use regs::mis_status;
 use regs::registers::fits;
-use state::STATE_LEN;
+use state::State;
 use state::clear_wakes;
 use state::load_globals;
 use state::store_globals;
@@ -67,7 +67,7 @@ const MIS: u8 = 6;
 fn sized(_s: &[u8]) {}
 
 // Does the interrupt begin, and would frame_no be taken?
-fn may_enter(s: &[u8; STATE_LEN], slots: &[u8], frame: u32) -> bool
+fn may_enter(s: &State, slots: &[u8], frame: u32) -> bool
     ensures { λ r. ⌜ (r ≡ true → (eqb (stopOf (isIdle (decode (saved (now (s .entry))))) 2 (view (now (s .entry)) .globals .stage)) 0 ≡ true)
         × (slotsFit (view (now (s .entry))) (now (slots .entry)) ≡ true) × (fitsIn frame 16 ≡ true)) ⌝ }
 {
@@ -82,7 +82,7 @@ fn may_enter(s: &[u8; STATE_LEN], slots: &[u8], frame: u32) -> bool
 }
 
 // The microframe in which the interrupt began (`after_frame`, crate `irq_entry`).
-fn keep_frame(s: &mut [u8; STATE_LEN], v: u32)
+fn keep_frame(s: &mut State, v: u32)
     requires { ⌜ fitsIn v 16 ≡ true ⌝ }
     ensures { λ _. ⌜ ((b : List ℕ) → meaning (Next.Asks (Access.Read Reg.IntFg 0) Point.Flags) (view (now (s .exit))) b
         ≡ denote Point.Frame v (view (now (s .entry)), b)) ⌝ }
@@ -119,7 +119,7 @@ fn is_transfer(word: u32) -> bool
 }
 
 // The interrupt's begin with frame_no and, of a transfer, int_fg.
-pub fn enter(s: &mut [u8; STATE_LEN], slots: &[u8], frame: u32, word: u32) -> Entered
+pub fn enter(s: &mut State, slots: &[u8], frame: u32, word: u32) -> Entered
     ensures { λ r. ⌜ ((i : ℕ) (time : List ℕ) → EntersAs r i frame word
         (lent (now (s .entry)) (now (slots .entry)) time) (lent (now (s .exit)) (now (slots .entry)) time)) ⌝ }
 {
@@ -155,7 +155,7 @@ fn are_taken(mis: u32, st: u32, len: u32) -> bool
 }
 
 // Does a transfer await mis_st, and would it come through?
-fn may_pass(s: &[u8; STATE_LEN], slots: &[u8], mis: u32, st: u32, len: u32) -> bool
+fn may_pass(s: &State, slots: &[u8], mis: u32, st: u32, len: u32) -> bool
     ensures { λ r. ⌜ (r ≡ true → (saved (now (s .entry)) .tag ≡ 6) × (saved (now (s .entry)) .site ≡ 6)
         × (slotsFit (view (now (s .entry))) (now (slots .entry)) ≡ true)
         × (fitsIn mis 2 ≡ true) × (sieFree mis ≡ true) × (fitsIn st 7 ≡ true) × (fitsIn len 16 ≡ true)) ⌝ }
@@ -173,7 +173,7 @@ fn may_pass(s: &[u8; STATE_LEN], slots: &[u8], mis: u32, st: u32, len: u32) -> b
 }
 
 // A transfer's mis_st, int_st and rx_len, with no transaction on the bus: the flag is to be cleared, unless NAK comes first (mod.rs 656-667).
-pub fn pass(s: &mut [u8; STATE_LEN], slots: &[u8], mis: u32, st: u32, len: u32) -> Passed
+pub fn pass(s: &mut State, slots: &[u8], mis: u32, st: u32, len: u32) -> Passed
     ensures { λ r. ⌜ ((i : ℕ) (time : List ℕ) → PassesAs r i mis st len
         (lent (now (s .entry)) (now (slots .entry)) time) (lent (now (s .exit)) (now (slots .entry)) time)) ⌝ }
 {

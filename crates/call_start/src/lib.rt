@@ -4,7 +4,7 @@ use machine::Step;
 use machine::halts::suspend_or_end;
 use machine::stops::stop;
 use regs::Dir;
-use state::STATE_LEN;
+use state::State;
 ghost use mathlib.Core.Path.{_≡_};
 ghost use mathlib.Core.Bool.{cond};
 ghost use mathlib.Core.List.{List, []};
@@ -19,7 +19,7 @@ ghost use Rattle.machine.specs.Contracts.{OtherCall};
 
 // Allocation (mod.rs 953-1043, endpoint.rs 18-36): rows 6, 7, 8 are the allocator's answer.
 pub fn allocate(
-    s: &mut [u8; STATE_LEN],
+    s: &mut State,
     dir: Dir,
     kind: u8,
     address: u32,
@@ -45,7 +45,7 @@ pub fn allocate(
 }
 
 // EP0's start (mod.rs 1144-1178).
-pub fn start(s: &mut [u8; STATE_LEN], maximum: u32) -> Step
+pub fn start(s: &mut State, maximum: u32) -> Step
     ensures { λ r. ⌜ OtherCall (Start maximum) r (now (s .entry)) (now (s .exit)) ⌝ }
 {
     let n = stop(s, 1);
@@ -74,13 +74,7 @@ fn flag_of(on: bool) -> u8
 }
 
 // Start-up on any state (mod.rs 886-951), whatever is under way: a refused one changes nothing.
-pub fn start_up(
-    s: &mut [u8; STATE_LEN],
-    slots: &[u8],
-    size: u32,
-    count: u32,
-    callback: bool,
-) -> Step
+pub fn start_up(s: &mut State, slots: &[u8], size: u32, count: u32, callback: bool) -> Step
     ensures { λ r. ⌜ ((a : List ℕ) → (
       answerOf r [] (view (now (s .exit))),
       machineOf (now (s .exit)) (cond (eqb (startRow (configOf size count callback) (now (slots .entry))) 0) (now (slots .entry)) a),

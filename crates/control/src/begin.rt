@@ -22,7 +22,7 @@ use regs::Reg;
 use regs::control_word::ACK;
 use regs::control_word::DATA1;
 use regs::control_word::word_of;
-use state::STATE_LEN;
+use state::State;
 use state::clear_wakes;
 use state::load_globals;
 ghost use mathlib.Core.Path.{_≡_};
@@ -39,7 +39,7 @@ ghost use Rattle.endpoint_common.specs.Answers.{finished};
 ghost use Rattle.control.specs.Points.{acked, loading, begunAs, LinkedBegun};
 
 // `setup`, control.rs 70-80.
-pub fn setup(s: &mut [u8; STATE_LEN]) -> Begun
+pub fn setup(s: &mut State) -> Begun
     ensures { λ r. ⌜ ((b : List ℕ) → begunAs r (view (now (s .exit))) b ≡ go {i = false} beginSetup (view (now (s .entry))) b) ⌝ }
     ensures { λ _. ⌜ saved (now (s .exit)) ≡ saved (now (s .entry)) ⌝ }
     ensures { λ r. ⌜ LinkedBegun r ⌝ }
@@ -66,7 +66,7 @@ fn ack_out(first: bool) -> Begun
 }
 
 // `data_out`, 82-115, into a slice of n bytes.
-pub fn data_out(s: &mut [u8; STATE_LEN], n: u32, first: bool) -> Begun
+pub fn data_out(s: &mut State, n: u32, first: bool) -> Begun
     ensures { λ r. ⌜ ((b : List ℕ) → begunAs r (view (now (s .exit))) b ≡ go {i = false} (beginDataOut n first) (view (now (s .entry))) b) ⌝ }
     ensures { λ _. ⌜ saved (now (s .exit)) ≡ saved (now (s .entry)) ⌝ }
     ensures { λ r. ⌜ LinkedBegun r ⌝ }
@@ -84,7 +84,7 @@ pub fn data_out(s: &mut [u8; STATE_LEN], n: u32, first: bool) -> Begun
 }
 
 // EP0's packet of n bytes goes out; with the last one the status stage's OUT right away.
-fn load_in(s: &mut [u8; STATE_LEN], n: u16, first: bool, last: bool) -> Begun
+fn load_in(s: &mut State, n: u16, first: bool, last: bool) -> Begun
     ensures { λ r. ⌜ ((b : List ℕ) → begunAs r (view (now (s .exit))) b ≡ go (finished (loading n first last)) (view (now (s .entry))) b) ⌝ }
     ensures { λ _. ⌜ saved (now (s .exit)) ≡ saved (now (s .entry)) ⌝ }
     ensures { λ r. ⌜ LinkedBegun r ⌝ }
@@ -105,13 +105,7 @@ fn load_in(s: &mut [u8; STATE_LEN], n: u16, first: bool, last: bool) -> Begun
 }
 
 // `data_in`, 117-161: the packet into EP0's slot.
-pub fn data_in(
-    s: &mut [u8; STATE_LEN],
-    buf: &mut [u8],
-    bytes: &[u8],
-    first: bool,
-    last: bool,
-) -> Begun
+pub fn data_in(s: &mut State, buf: &mut [u8], bytes: &[u8], first: bool, last: bool) -> Begun
     ensures { λ r. ⌜ begunAs r (view (now (s .exit))) (now (buf .exit))
         ≡ go {i = false} (beginDataIn (now (bytes .entry)) first last) (view (now (s .entry))) (now (buf .entry)) ⌝ }
     ensures { λ _. ⌜ saved (now (s .exit)) ≡ saved (now (s .entry)) ⌝ }
@@ -131,7 +125,7 @@ pub fn data_in(
 }
 
 // The status stage's IN, of no bytes.
-fn status_in(s: &mut [u8; STATE_LEN]) -> Begun
+fn status_in(s: &mut State) -> Begun
     ensures { λ r. ⌜ ((b : List ℕ) → begunAs r (view (now (s .exit))) b ≡ go {i = false} (resultless statusIn) (view (now (s .entry))) b) ⌝ }
     ensures { λ _. ⌜ saved (now (s .exit)) ≡ saved (now (s .entry)) ⌝ }
     ensures { λ r. ⌜ LinkedBegun r ⌝ }
@@ -142,7 +136,7 @@ fn status_in(s: &mut [u8; STATE_LEN]) -> Begun
 }
 
 // `accept`, 26-46, 163-166.
-pub fn accept(s: &mut [u8; STATE_LEN]) -> Begun
+pub fn accept(s: &mut State) -> Begun
     ensures { λ r. ⌜ ((b : List ℕ) → begunAs r (view (now (s .exit))) b ≡ go {i = false} beginAccept (view (now (s .entry))) b) ⌝ }
     ensures { λ _. ⌜ saved (now (s .exit)) ≡ saved (now (s .entry)) ⌝ }
     ensures { λ r. ⌜ LinkedBegun r ⌝ }
@@ -156,7 +150,7 @@ pub fn accept(s: &mut [u8; STATE_LEN]) -> Begun
 }
 
 // `accept_set_address`, 179-186.
-pub fn accept_set_address(s: &mut [u8; STATE_LEN], address: u32) -> Begun
+pub fn accept_set_address(s: &mut State, address: u32) -> Begun
     ensures { λ r. ⌜ ((b : List ℕ) → begunAs r (view (now (s .exit))) b ≡ go {i = false} (beginAcceptSetAddress address) (view (now (s .entry))) b) ⌝ }
     ensures { λ _. ⌜ saved (now (s .exit)) ≡ saved (now (s .entry)) ⌝ }
     ensures { λ r. ⌜ LinkedBegun r ⌝ }
@@ -170,7 +164,7 @@ pub fn accept_set_address(s: &mut [u8; STATE_LEN], address: u32) -> Begun
 }
 
 // `reject`, 168-177.
-pub fn reject(s: &mut [u8; STATE_LEN]) -> Begun
+pub fn reject(s: &mut State) -> Begun
     ensures { λ r. ⌜ ((b : List ℕ) → begunAs r (view (now (s .exit))) b ≡ go {i = false} beginReject (view (now (s .entry))) b) ⌝ }
     ensures { λ _. ⌜ saved (now (s .exit)) ≡ saved (now (s .entry)) ⌝ }
     ensures { λ r. ⌜ LinkedBegun r ⌝ }

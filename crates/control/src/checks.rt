@@ -3,7 +3,7 @@ use model_ops::rings::is_on;
 use regs::Dir;
 use state::Control;
 use state::Globals;
-use state::STATE_LEN;
+use state::State;
 use state::load_ep;
 use state::store_control;
 use state::store_ep;
@@ -62,7 +62,7 @@ pub fn poll_row(g: Globals, c: Control, sort: u8) -> u8
 }
 
 // The request that an accepted begin leaves; of sort 0, none.
-pub fn set_request(s: &mut [u8; STATE_LEN], sort: u8, n: u32)
+pub fn set_request(s: &mut State, sort: u8, n: u32)
     ensures { λ _. ⌜ view (now (s .exit)) ≡ withControl (view (now (s .entry))) (requestOf sort n) ⌝ }
     ensures { λ _. ⌜ saved (now (s .exit)) ≡ saved (now (s .entry)) ⌝ }
 {
@@ -79,7 +79,7 @@ pub fn set_request(s: &mut [u8; STATE_LEN], sort: u8, n: u32)
     );
 }
 
-pub fn set_data_in(s: &mut [u8; STATE_LEN], n: u32, last: u8, wait: u8)
+pub fn set_data_in(s: &mut State, n: u32, last: u8, wait: u8)
     ensures { λ _. ⌜ view (now (s .exit)) ≡ withControl (view (now (s .entry))) (dataInOf n last wait) ⌝ }
     ensures { λ _. ⌜ saved (now (s .exit)) ≡ saved (now (s .entry)) ⌝ }
 {
@@ -96,7 +96,7 @@ pub fn set_data_in(s: &mut [u8; STATE_LEN], n: u32, last: u8, wait: u8)
     );
 }
 
-pub fn set_address(s: &mut [u8; STATE_LEN], address: u8)
+pub fn set_address(s: &mut State, address: u8)
     ensures { λ _. ⌜ view (now (s .exit)) ≡ withControl (view (now (s .entry))) (addressOf address) ⌝ }
     ensures { λ _. ⌜ saved (now (s .exit)) ≡ saved (now (s .entry)) ⌝ }
 {
@@ -114,7 +114,7 @@ pub fn set_address(s: &mut [u8; STATE_LEN], address: u8)
 }
 
 // OUT 0 awaits a packet of at most n bytes.
-pub fn arm_out(s: &mut [u8; STATE_LEN], n: u16)
+pub fn arm_out(s: &mut State, n: u16)
     ensures { λ _. ⌜ view (now (s .exit)) ≡ modifiedOn Out 0 (λ p. withArmed 1 (withLen n (withReady 0 p))) (view (now (s .entry))) ⌝ }
     ensures { λ _. ⌜ saved (now (s .exit)) ≡ saved (now (s .entry)) ⌝ }
 {
@@ -126,7 +126,7 @@ pub fn arm_out(s: &mut [u8; STATE_LEN], n: u16)
 }
 
 // OUT 0 awaits the status stage's empty packet.
-pub fn close_out(s: &mut [u8; STATE_LEN])
+pub fn close_out(s: &mut State)
     ensures { λ _. ⌜ view (now (s .exit)) ≡ modifiedOn Out 0 (λ p. withLen 0 (withReady 0 p)) (view (now (s .entry))) ⌝ }
     ensures { λ _. ⌜ saved (now (s .exit)) ≡ saved (now (s .entry)) ⌝ }
 {

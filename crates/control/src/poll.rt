@@ -16,7 +16,7 @@ use regs::Dir;
 use regs::Reg;
 use state::Control;
 use state::Globals;
-use state::STATE_LEN;
+use state::State;
 use state::clear_wakes;
 use state::load_control;
 use state::load_ep;
@@ -41,7 +41,7 @@ ghost use Rattle.control.specs.Points.{polledAs, LinkedPolled};
 ghost use Rattle.control.specs.Rows.{Polls};
 
 // Not ready yet, or a setup packet ends the stage (`complete`, control.rs 48-61).
-fn wait_on(s: &mut [u8; STATE_LEN]) -> Polled
+fn wait_on(s: &mut State) -> Polled
     ensures { λ r. ⌜ ((out b : List ℕ) → polledAs r out (view (now (s .exit))) b ≡ go {i = false} (aborted-else (ret NotYet)) (view (now (s .entry))) b) ⌝ }
     ensures { λ _. ⌜ saved (now (s .exit)) ≡ saved (now (s .entry)) ⌝ }
     ensures { λ r. ⌜ LinkedPolled r ⌝ }
@@ -55,7 +55,7 @@ fn wait_on(s: &mut [u8; STATE_LEN]) -> Polled
 }
 
 // The setup packet, once it is there.
-fn take_setup(s: &mut [u8; STATE_LEN], g: Globals) -> Polled
+fn take_setup(s: &mut State, g: Globals) -> Polled
     requires { ⌜ (g ≡ view (now s) .globals) × Polls (view (now s)) (view (now s) .control) 1 ⌝ }
     ensures { λ r. ⌜ ((b : List ℕ) → polledAs r [] (view (now (s .exit))) b ≡ go {i = false} pollSetup (view (now (s .entry))) b) ⌝ }
     ensures { λ _. ⌜ saved (now (s .exit)) ≡ saved (now (s .entry)) ⌝ }
@@ -72,7 +72,7 @@ fn take_setup(s: &mut [u8; STATE_LEN], g: Globals) -> Polled
 }
 
 // `setup`, 70-80.
-pub fn poll_setup(s: &mut [u8; STATE_LEN]) -> Polled
+pub fn poll_setup(s: &mut State) -> Polled
     ensures { λ r. ⌜ ((b : List ℕ) → polledAs r [] (view (now (s .exit))) b ≡ go {i = false} pollSetup (view (now (s .entry))) b) ⌝ }
     ensures { λ _. ⌜ saved (now (s .exit)) ≡ saved (now (s .entry)) ⌝ }
     ensures { λ r. ⌜ LinkedPolled r ⌝ }
@@ -86,7 +86,7 @@ pub fn poll_setup(s: &mut [u8; STATE_LEN]) -> Polled
 }
 
 // The status stage's end: the address changes only then.
-fn take_accept(s: &mut [u8; STATE_LEN], c: Control) -> Polled
+fn take_accept(s: &mut State, c: Control) -> Polled
     requires { ⌜ Polls (view (now s)) c 4 ⌝ }
     ensures { λ r. ⌜ ((b : List ℕ) → polledAs r [] (view (now (s .exit))) b ≡ go {i = false} pollAccept (view (now (s .entry))) b) ⌝ }
     ensures { λ _. ⌜ saved (now (s .exit)) ≡ saved (now (s .entry)) ⌝ }
@@ -107,7 +107,7 @@ fn take_accept(s: &mut [u8; STATE_LEN], c: Control) -> Polled
 }
 
 // `accept` and `accept_set_address`, 26-46.
-pub fn poll_accept(s: &mut [u8; STATE_LEN]) -> Polled
+pub fn poll_accept(s: &mut State) -> Polled
     ensures { λ r. ⌜ ((b : List ℕ) → polledAs r [] (view (now (s .exit))) b ≡ go {i = false} pollAccept (view (now (s .entry))) b) ⌝ }
     ensures { λ _. ⌜ saved (now (s .exit)) ≡ saved (now (s .entry)) ⌝ }
     ensures { λ r. ⌜ LinkedPolled r ⌝ }
@@ -132,7 +132,7 @@ fn closed(n: u16) -> Polled
 }
 
 // The second wait of the last data_in, for the closing OUT; `both`: together with the data packet's completion.
-fn take_closing(s: &mut [u8; STATE_LEN], both: bool, c: Control) -> Polled
+fn take_closing(s: &mut State, both: bool, c: Control) -> Polled
     ensures { λ r. ⌜ ((b : List ℕ) → polledAs r [] (view (now (s .exit))) b ≡ go {i = false} (take-closing both c) (view (now (s .entry))) b) ⌝ }
     ensures { λ _. ⌜ saved (now (s .exit)) ≡ saved (now (s .entry)) ⌝ }
     ensures { λ r. ⌜ LinkedPolled r ⌝ }
@@ -162,7 +162,7 @@ fn take_closing(s: &mut [u8; STATE_LEN], both: bool, c: Control) -> Polled
 }
 
 // The first wait, for the data packet.
-fn take_in(s: &mut [u8; STATE_LEN], c: Control) -> Polled
+fn take_in(s: &mut State, c: Control) -> Polled
     ensures { λ r. ⌜ ((b : List ℕ) → polledAs r [] (view (now (s .exit))) b ≡ go {i = false} (take-in c) (view (now (s .entry))) b) ⌝ }
     ensures { λ _. ⌜ saved (now (s .exit)) ≡ saved (now (s .entry)) ⌝ }
     ensures { λ r. ⌜ LinkedPolled r ⌝ }
@@ -180,7 +180,7 @@ fn take_in(s: &mut [u8; STATE_LEN], c: Control) -> Polled
 }
 
 // `data_in`, 117-161.
-pub fn poll_data_in(s: &mut [u8; STATE_LEN]) -> Polled
+pub fn poll_data_in(s: &mut State) -> Polled
     ensures { λ r. ⌜ ((b : List ℕ) → polledAs r [] (view (now (s .exit))) b ≡ go {i = false} pollDataIn (view (now (s .entry))) b) ⌝ }
     ensures { λ _. ⌜ saved (now (s .exit)) ≡ saved (now (s .entry)) ⌝ }
     ensures { λ r. ⌜ LinkedPolled r ⌝ }
@@ -197,7 +197,7 @@ pub fn poll_data_in(s: &mut [u8; STATE_LEN]) -> Polled
 }
 
 // The packet out of EP0's slot, no longer than the slice.
-fn take_out(s: &mut [u8; STATE_LEN], buf: &[u8], out: &mut [u8]) -> Polled
+fn take_out(s: &mut State, buf: &[u8], out: &mut [u8]) -> Polled
     ensures { λ r. ⌜ polledAs r (now (out .exit)) (view (now (s .exit))) (now (buf .entry))
         ≡ go {i = false} (take-out (length (now (out .entry)))) (view (now (s .entry))) (now (buf .entry)) ⌝ }
     ensures { λ _. ⌜ now (out .exit)
@@ -221,7 +221,7 @@ fn take_out(s: &mut [u8; STATE_LEN], buf: &[u8], out: &mut [u8]) -> Polled
 }
 
 // `data_out`, 82-115; the slice has its begin's length, else row 10.
-pub fn poll_data_out(s: &mut [u8; STATE_LEN], buf: &[u8], out: &mut [u8]) -> Polled
+pub fn poll_data_out(s: &mut State, buf: &[u8], out: &mut [u8]) -> Polled
     ensures { λ r. ⌜ polledAs r (now (out .exit)) (view (now (s .exit))) (now (buf .entry))
         ≡ go {i = false} (pollDataOut (length (now (out .entry)))) (view (now (s .entry))) (now (buf .entry)) ⌝ }
     ensures { λ _. ⌜ now (out .exit) ≡ lentAfter

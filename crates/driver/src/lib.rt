@@ -4,7 +4,7 @@ use bits::mask_with;
 use regs::Access;
 use regs::Dir;
 use regs::Reg;
-use state::STATE_LEN;
+use state::State;
 use state::load_globals;
 use state::store_globals;
 use state::store_paced;
@@ -72,7 +72,7 @@ pub fn new_endpoint(dir: Dir, kind: u8, maximum: u32, ep: u8) -> Next
 }
 
 // `start`, after EP0's buffer was given.
-pub fn start_ep0(s: &[u8; STATE_LEN], maximum: u32) -> Next
+pub fn start_ep0(s: &State, maximum: u32) -> Next
     ensures { λ r. ⌜ ((b : List ℕ) → meaning r (view (now (s .entry))) b ≡ go (startEp0 maximum) (view (now (s .entry))) b) ⌝ }
     ensures { λ r. ⌜ Linked r ⌝ }
 {
@@ -88,7 +88,7 @@ pub fn microframe() -> Next
 }
 
 // `iso_in_set_paced`, without an access.
-pub fn iso_in_set_paced(s: &mut [u8; STATE_LEN], e: u8, on: bool)
+pub fn iso_in_set_paced(s: &mut State, e: u8, on: bool)
     requires { ⌜ e < 16 ⌝ }
     ensures { λ _. ⌜ ((b : List ℕ) → ends tt (view (now (s .exit)), b) ≡ go (setPaced e on) (view (now (s .entry))) b) ⌝ }
     ensures { λ _. ⌜ saved (now (s .exit)) ≡ saved (now (s .entry)) ⌝ }

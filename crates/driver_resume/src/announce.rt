@@ -8,7 +8,7 @@ use model_ops::records::place;
 use regs::Access;
 use regs::Dir;
 use regs::Reg;
-use state::STATE_LEN;
+use state::State;
 use state::load_allocator;
 use state::load_ep;
 ghost use mathlib.Core.Path.{_≡_};
@@ -27,7 +27,7 @@ fn room(n: u8, size: u16) -> u32
 }
 
 // The byte where an endpoint's buffers end.
-fn end_of(s: &[u8; STATE_LEN], dir: Dir, e: u8) -> u64
+fn end_of(s: &State, dir: Dir, e: u8) -> u64
     ensures { λ r. ⌜ r ≡ endOn (view (now (s .entry))) dir e ⌝ }
 {
     let a = load_allocator(s);
@@ -37,7 +37,7 @@ fn end_of(s: &[u8; STATE_LEN], dir: Dir, e: u8) -> u64
 }
 
 // Is it allocated, and do its buffers begin at byte x?
-fn starts_at(s: &[u8; STATE_LEN], dir: Dir, x: u64, e: u8) -> bool
+fn starts_at(s: &State, dir: Dir, x: u64, e: u8) -> bool
     ensures { λ r. ⌜ r ≡ startsAt (view (now (s .entry))) dir x e ⌝ }
 {
     if is_allocated(s, dir, e as u32) {
@@ -48,7 +48,7 @@ fn starts_at(s: &[u8; STATE_LEN], dir: Dir, x: u64, e: u8) -> bool
 }
 
 // The number of the endpoint whose buffers begin at byte x, or 0.
-fn found_at(s: &[u8; STATE_LEN], dir: Dir, x: u64) -> u8
+fn found_at(s: &State, dir: Dir, x: u64) -> u8
     ensures { λ r. ⌜ r ≡ foundAt (view (now (s .entry))) dir x 15 1 ⌝ }
 {
     let mut e: u8 = 1;
@@ -62,7 +62,7 @@ fn found_at(s: &[u8; STATE_LEN], dir: Dir, x: u64) -> u8
 }
 
 // An endpoint's maximum, as its record has it; its buffer, and those left, come after it.
-pub fn first(s: &[u8; STATE_LEN], left: u8, total: u8, dir: Dir, e: u8) -> Next
+pub fn first(s: &State, left: u8, total: u8, dir: Dir, e: u8) -> Next
     ensures { λ r. ⌜ ((b : List ℕ) → meaning r (view (now (s .entry))) b ≡ go (announcing left total dir e) (view (now (s .entry))) b) ⌝ }
     ensures { λ r. ⌜ Linked r ⌝ }
 {
@@ -74,7 +74,7 @@ pub fn first(s: &[u8; STATE_LEN], left: u8, total: u8, dir: Dir, e: u8) -> Next
 }
 
 // The one whose buffers begin where those of the last end, as long as any is left.
-pub fn after(s: &[u8; STATE_LEN], left: u8, total: u8, dir: Dir, e: u8) -> Next
+pub fn after(s: &State, left: u8, total: u8, dir: Dir, e: u8) -> Next
     ensures { λ r. ⌜ ((b : List ℕ) → meaning r (view (now (s .entry))) b ≡ go (following left total dir e) (view (now (s .entry))) b) ⌝ }
     ensures { λ r. ⌜ Linked r ⌝ }
 {
@@ -91,14 +91,7 @@ pub fn after(s: &[u8; STATE_LEN], left: u8, total: u8, dir: Dir, e: u8) -> Next
 }
 
 // Its buffer's address, unless it is a control endpoint, whose successor is next.
-pub fn after_max_len(
-    s: &mut [u8; STATE_LEN],
-    dir: Dir,
-    kind: u8,
-    ep: u8,
-    left: u8,
-    total: u8,
-) -> Next
+pub fn after_max_len(s: &mut State, dir: Dir, kind: u8, ep: u8, left: u8, total: u8) -> Next
     ensures { λ r. ⌜ ((b : List ℕ) → meaning r (view (now (s .exit))) b ≡ go (denote (Point.ListMaxLen dir kind ep left total) 0) (view (now (s .entry))) b) ⌝ }
     ensures { λ _. ⌜ saved (now (s .exit)) ≡ saved (now (s .entry)) ⌝ }
     ensures { λ r. ⌜ Linked r ⌝ }

@@ -2,7 +2,7 @@
 use crate::Polled;
 use regs::Dir;
 use state::Request;
-use state::STATE_LEN;
+use state::State;
 use state::load_globals;
 use state::store_request;
 ghost use mathlib.Core.Path.{_≡_};
@@ -19,7 +19,7 @@ ghost use Rattle.model_ops.specs.Concrete.{go};
 ghost use Rattle.endpoint.specs.Points.{polledAs};
 
 // `is_enabled`, endpoint.rs 55-60 (row 9 turned round).
-pub fn is_enabled(s: &[u8; STATE_LEN], dir: Dir, e: u8) -> bool
+pub fn is_enabled(s: &State, dir: Dir, e: u8) -> bool
     ensures { λ r. ⌜ r ≡ enables.isOn (view (now (s .entry)) .globals .«ep_config») dir e ⌝ }
 {
     let g = load_globals(s);
@@ -27,7 +27,7 @@ pub fn is_enabled(s: &[u8; STATE_LEN], dir: Dir, e: u8) -> bool
 }
 
 // The request that an accepted begin leaves.
-pub fn set_request(s: &mut [u8; STATE_LEN], dir: Dir, e: u8, n: u32)
+pub fn set_request(s: &mut State, dir: Dir, e: u8, n: u32)
     ensures { λ _. ⌜ view (now (s .exit)) ≡ withRequestOn (view (now (s .entry))) dir e (begun n) ⌝ }
     ensures { λ _. ⌜ saved (now (s .exit)) ≡ saved (now (s .entry)) ⌝ }
 {
@@ -42,7 +42,7 @@ pub fn set_request(s: &mut [u8; STATE_LEN], dir: Dir, e: u8, n: u32)
     );
 }
 
-pub fn end_request(s: &mut [u8; STATE_LEN], dir: Dir, e: u8)
+pub fn end_request(s: &mut State, dir: Dir, e: u8)
     ensures { λ _. ⌜ view (now (s .exit)) ≡ withRequestOn (view (now (s .entry))) dir e no-request ⌝ }
     ensures { λ _. ⌜ saved (now (s .exit)) ≡ saved (now (s .entry)) ⌝ }
 {
@@ -58,7 +58,7 @@ pub fn end_request(s: &mut [u8; STATE_LEN], dir: Dir, e: u8)
 }
 
 // Not ready yet, or the endpoint's disabling ends the request (endpoint.rs 135-139, 187-191).
-pub fn wait_on(s: &mut [u8; STATE_LEN], dir: Dir, e: u8) -> Polled
+pub fn wait_on(s: &mut State, dir: Dir, e: u8) -> Polled
     ensures { λ r. ⌜ ((out b : List ℕ) → polledAs r out (view (now (s .exit))) b
         ≡ go {i = false} (enabled-else dir e (ends-request dir e (Refused 9)) (ret NotYet)) (view (now (s .entry))) b) ⌝ }
     ensures { λ _. ⌜ saved (now (s .exit)) ≡ saved (now (s .entry)) ⌝ }

@@ -20,7 +20,7 @@ use regs::Access;
 use regs::Dir;
 use regs::Reg;
 use state::EpState;
-use state::STATE_LEN;
+use state::State;
 use state::clear_wakes;
 use state::load_ep;
 use state::load_request;
@@ -40,7 +40,7 @@ ghost use Rattle.endpoint_rows.specs.Rows.{refusalOf};
 ghost use Rattle.endpoint.specs.Points.{begunAs, polledAs, LinkedBegun};
 
 // 84-123, past rows 4 and 5: an isochronous OUT needs no arming, nor does one with a packet.
-fn start_read(s: &mut [u8; STATE_LEN], e: u8, n: u32) -> Begun
+fn start_read(s: &mut State, e: u8, n: u32) -> Begun
     requires { ⌜ eqb (refusalOf (view (now s)) Out e) 0 ≡ true ⌝ }
     ensures { λ r. ⌜ ((b : List ℕ) → begunAs r (view (now (s .exit))) b ≡ go {i = false} (beginRead e n) (view (now (s .entry))) b) ⌝ }
     ensures { λ _. ⌜ saved (now (s .exit)) ≡ saved (now (s .entry)) ⌝ }
@@ -66,7 +66,7 @@ fn start_read(s: &mut [u8; STATE_LEN], e: u8, n: u32) -> Begun
 }
 
 // Into a slice of n bytes.
-pub fn begin_read(s: &mut [u8; STATE_LEN], e: u32, n: u32) -> Begun
+pub fn begin_read(s: &mut State, e: u32, n: u32) -> Begun
     ensures { λ r. ⌜ ((b : List ℕ) → begunAs r (view (now (s .exit))) b ≡ go {i = false} (beginRead e n) (view (now (s .entry))) b) ⌝ }
     ensures { λ _. ⌜ saved (now (s .exit)) ≡ saved (now (s .entry)) ⌝ }
     ensures { λ r. ⌜ LinkedBegun r ⌝ }
@@ -89,7 +89,7 @@ fn shorter(len: u16, n: usize) -> u16
 }
 
 // 96-113: drain the ring the interrupt fills.
-fn take_iso(s: &mut [u8; STATE_LEN], buf: &[u8], e: u8, out: &mut [u8]) -> Polled
+fn take_iso(s: &mut State, buf: &[u8], e: u8, out: &mut [u8]) -> Polled
     ensures { λ r. ⌜ polledAs r (now (out .exit)) (view (now (s .exit))) (now (buf .entry))
         ≡ go {i = false} (take-iso e (length (now (out .entry)))) (view (now (s .entry))) (now (buf .entry)) ⌝ }
     ensures { λ _. ⌜ now (out .exit)
@@ -123,7 +123,7 @@ fn too_long(n: usize, r: EpState) -> bool
 }
 
 // 125-141.
-fn take_ready(s: &mut [u8; STATE_LEN], buf: &[u8], e: u8, out: &mut [u8], r: EpState) -> Polled
+fn take_ready(s: &mut State, buf: &[u8], e: u8, out: &mut [u8], r: EpState) -> Polled
     ensures { λ x. ⌜ polledAs x (now (out .exit)) (view (now (s .exit))) (now (buf .entry))
         ≡ go {i = false} (take-ready e (length (now (out .entry))) (plainOf r)) (view (now (s .entry))) (now (buf .entry)) ⌝ }
     ensures { λ _. ⌜ now (out .exit) ≡ lentAfter
@@ -145,7 +145,7 @@ fn take_ready(s: &mut [u8; STATE_LEN], buf: &[u8], e: u8, out: &mut [u8], r: EpS
 }
 
 // Past rows 4 and 5; the slice has its begin's length, else row 10.
-fn take_read(s: &mut [u8; STATE_LEN], buf: &[u8], e: u8, out: &mut [u8]) -> Polled
+fn take_read(s: &mut State, buf: &[u8], e: u8, out: &mut [u8]) -> Polled
     requires { ⌜ eqb (refusalOf (view (now s)) Out e) 0 ≡ true ⌝ }
     ensures { λ r. ⌜ polledAs r (now (out .exit)) (view (now (s .exit))) (now (buf .entry))
         ≡ go {i = false} (pollRead e (length (now (out .entry)))) (view (now (s .entry))) (now (buf .entry)) ⌝ }
@@ -169,7 +169,7 @@ fn take_read(s: &mut [u8; STATE_LEN], buf: &[u8], e: u8, out: &mut [u8]) -> Poll
     Polled::Refused(10)
 }
 
-pub fn poll_read(s: &mut [u8; STATE_LEN], buf: &[u8], e: u32, out: &mut [u8]) -> Polled
+pub fn poll_read(s: &mut State, buf: &[u8], e: u32, out: &mut [u8]) -> Polled
     ensures { λ r. ⌜ polledAs r (now (out .exit)) (view (now (s .exit))) (now (buf .entry))
         ≡ go {i = false} (pollRead e (length (now (out .entry)))) (view (now (s .entry))) (now (buf .entry)) ⌝ }
     ensures { λ _. ⌜ now (out .exit)

@@ -18,7 +18,7 @@ use regs::Access;
 use regs::Dir;
 use regs::Reg;
 use state::EpState;
-use state::STATE_LEN;
+use state::State;
 use state::clear_wakes;
 use state::load_ep;
 use state::load_request;
@@ -39,7 +39,7 @@ ghost use Rattle.endpoint_rows.specs.Rows.{refusalOf};
 ghost use Rattle.endpoint.specs.Points.{begunAs, polledAs, LinkedBegun};
 
 // A packet is loaded.
-fn arm_in(s: &mut [u8; STATE_LEN], e: u8)
+fn arm_in(s: &mut State, e: u8)
     ensures { λ _. ⌜ view (now (s .exit)) ≡ modifiedOn In e (λ p. withArmed 1 (withReady 0 p)) (view (now (s .entry))) ⌝ }
     ensures { λ _. ⌜ saved (now (s .exit)) ≡ saved (now (s .entry)) ⌝ }
 {
@@ -50,7 +50,7 @@ fn arm_in(s: &mut [u8; STATE_LEN], e: u8)
 }
 
 // 147-180, past rows 4 and 5: an isochronous IN's packet is queued by the poll, any other's goes into its slot.
-fn start_write(s: &mut [u8; STATE_LEN], buf: &mut [u8], e: u8, bytes: &[u8]) -> Begun
+fn start_write(s: &mut State, buf: &mut [u8], e: u8, bytes: &[u8]) -> Begun
     requires { ⌜ eqb (refusalOf (view (now s)) In e) 0 ≡ true ⌝ }
     ensures { λ r. ⌜ begunAs r (view (now (s .exit))) (now (buf .exit))
         ≡ go {i = false} (beginWrite e (now (bytes .entry))) (view (now (s .entry))) (now (buf .entry)) ⌝ }
@@ -75,7 +75,7 @@ fn start_write(s: &mut [u8; STATE_LEN], buf: &mut [u8], e: u8, bytes: &[u8]) -> 
     Begun::Asks(Access::Write(Reg::EpTLen, e, n as u32), Point::Loaded(e))
 }
 
-pub fn begin_write(s: &mut [u8; STATE_LEN], buf: &mut [u8], e: u32, bytes: &[u8]) -> Begun
+pub fn begin_write(s: &mut State, buf: &mut [u8], e: u32, bytes: &[u8]) -> Begun
     ensures { λ r. ⌜ begunAs r (view (now (s .exit))) (now (buf .exit))
         ≡ go {i = false} (beginWrite e (now (bytes .entry))) (view (now (s .entry))) (now (buf .entry)) ⌝ }
     ensures { λ _. ⌜ saved (now (s .exit)) ≡ saved (now (s .entry)) ⌝ }
@@ -89,7 +89,7 @@ pub fn begin_write(s: &mut [u8; STATE_LEN], buf: &mut [u8], e: u32, bytes: &[u8]
 }
 
 // 157-171: queue it; wait while the ring is full.
-fn put_iso(s: &mut [u8; STATE_LEN], buf: &mut [u8], e: u8, bytes: &[u8]) -> Polled
+fn put_iso(s: &mut State, buf: &mut [u8], e: u8, bytes: &[u8]) -> Polled
     ensures { λ r. ⌜ polledAs r [] (view (now (s .exit))) (now (buf .exit))
         ≡ go {i = false} (put-iso e (now (bytes .entry))) (view (now (s .entry))) (now (buf .entry)) ⌝ }
     ensures { λ _. ⌜ saved (now (s .exit)) ≡ saved (now (s .entry)) ⌝ }
@@ -107,7 +107,7 @@ fn put_iso(s: &mut [u8; STATE_LEN], buf: &mut [u8], e: u8, bytes: &[u8]) -> Poll
 }
 
 // 182-193.
-fn sent_ready(s: &mut [u8; STATE_LEN], e: u8, r: EpState) -> Polled
+fn sent_ready(s: &mut State, e: u8, r: EpState) -> Polled
     ensures { λ x. ⌜ ((b : List ℕ) → polledAs x [] (view (now (s .exit))) b ≡ go {i = false} (sent-ready e (plainOf r)) (view (now (s .entry))) b) ⌝ }
     ensures { λ _. ⌜ saved (now (s .exit)) ≡ saved (now (s .entry)) ⌝ }
 {
@@ -120,7 +120,7 @@ fn sent_ready(s: &mut [u8; STATE_LEN], e: u8, r: EpState) -> Polled
 }
 
 // Past rows 4 and 5; the packet has its begin's length, else row 10.
-fn take_write(s: &mut [u8; STATE_LEN], buf: &mut [u8], e: u8, bytes: &[u8]) -> Polled
+fn take_write(s: &mut State, buf: &mut [u8], e: u8, bytes: &[u8]) -> Polled
     requires { ⌜ eqb (refusalOf (view (now s)) In e) 0 ≡ true ⌝ }
     ensures { λ r. ⌜ polledAs r [] (view (now (s .exit))) (now (buf .exit))
         ≡ go {i = false} (pollWrite e (now (bytes .entry))) (view (now (s .entry))) (now (buf .entry)) ⌝ }
@@ -142,7 +142,7 @@ fn take_write(s: &mut [u8; STATE_LEN], buf: &mut [u8], e: u8, bytes: &[u8]) -> P
     Polled::Refused(10)
 }
 
-pub fn poll_write(s: &mut [u8; STATE_LEN], buf: &mut [u8], e: u32, bytes: &[u8]) -> Polled
+pub fn poll_write(s: &mut State, buf: &mut [u8], e: u32, bytes: &[u8]) -> Polled
     ensures { λ r. ⌜ polledAs r [] (view (now (s .exit))) (now (buf .exit))
         ≡ go {i = false} (pollWrite e (now (bytes .entry))) (view (now (s .entry))) (now (buf .entry)) ⌝ }
     ensures { λ _. ⌜ saved (now (s .exit)) ≡ saved (now (s .entry)) ⌝ }

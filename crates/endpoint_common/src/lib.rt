@@ -1,7 +1,7 @@
 // What reads, writes and the control pipe share: an endpoint's flags, a reading as a byte, bytes of a slot for the caller's slice.
 use marks::copy_out;
 use regs::Dir;
-use state::STATE_LEN;
+use state::State;
 use state::load_ep;
 use state::store_ep;
 ghost use mathlib.Core.Path.{_≡_};
@@ -15,7 +15,7 @@ ghost use Rattle.marks.specs.Copies.{over, bytesAt};
 ghost use Rattle.endpoint_common.specs.Records.{modifiedOn};
 
 // No completion waits.
-pub fn unready(s: &mut [u8; STATE_LEN], dir: Dir, e: u8)
+pub fn unready(s: &mut State, dir: Dir, e: u8)
     ensures { λ _. ⌜ view (now (s .exit)) ≡ modifiedOn dir e (withReady 0) (view (now (s .entry))) ⌝ }
     ensures { λ _. ⌜ saved (now (s .exit)) ≡ saved (now (s .entry)) ⌝ }
 {
@@ -25,7 +25,7 @@ pub fn unready(s: &mut [u8; STATE_LEN], dir: Dir, e: u8)
 }
 
 // A packet is armed or loaded, or none is.
-pub fn set_armed(s: &mut [u8; STATE_LEN], dir: Dir, e: u8, v: u8)
+pub fn set_armed(s: &mut State, dir: Dir, e: u8, v: u8)
     ensures { λ _. ⌜ view (now (s .exit)) ≡ modifiedOn dir e (withArmed v) (view (now (s .entry))) ⌝ }
     ensures { λ _. ⌜ saved (now (s .exit)) ≡ saved (now (s .entry)) ⌝ }
 {

@@ -1,6 +1,6 @@
 // Rows 4 and 5, by the numbers that a call brings: EP0 is started; an endpoint's number, allocated in the direction.
 use regs::Dir;
-use state::STATE_LEN;
+use state::State;
 ghost use mathlib.Core.Path.{_≡_};
 ghost use mathlib.Core.Bool.{true};
 ghost use Prim.Native.Nat.{_<_};
@@ -27,7 +27,7 @@ pub fn low(e: u32) -> u8
 }
 
 // Is it an endpoint's number, allocated in the direction?
-pub fn is_allocated(s: &[u8; STATE_LEN], dir: Dir, e: u32) -> bool
+pub fn is_allocated(s: &State, dir: Dir, e: u32) -> bool
     ensures { λ r. ⌜ r ≡ isAllocated (view (now (s .entry)) .allocator) dir e ⌝ }
 {
     if is_number(e) {
@@ -46,7 +46,7 @@ pub fn is_allocated(s: &[u8; STATE_LEN], dir: Dir, e: u32) -> bool
 }
 
 // The row that refuses a call: 4, EP0 is not started; 5, the endpoint is not allocated in the direction; 0, neither.
-pub fn refusal(s: &[u8; STATE_LEN], dir: Dir, e: u32) -> u8
+pub fn refusal(s: &State, dir: Dir, e: u32) -> u8
     ensures { λ r. ⌜ r ≡ refusalOf (view (now (s .entry))) dir e ⌝ }
 {
     let g = state::load_globals(s);
@@ -60,7 +60,7 @@ pub fn refusal(s: &[u8; STATE_LEN], dir: Dir, e: u32) -> u8
 }
 
 // Row 5 of stalls, which take EP0 too.
-pub fn is_stallable(s: &[u8; STATE_LEN], dir: Dir, e: u32) -> bool
+pub fn is_stallable(s: &State, dir: Dir, e: u32) -> bool
     ensures { λ r. ⌜ r ≡ stallable (view (now (s .entry)) .allocator) dir e ⌝ }
 {
     if e == 0 {

@@ -15,7 +15,7 @@ use regs::control_word;
 use regs::registers::ctrl_of;
 use regs::status;
 use setup::after_transfer;
-use state::STATE_LEN;
+use state::State;
 use state::load_ep;
 use state::store_ep;
 
@@ -37,7 +37,7 @@ ghost use Rattle.irq.specs.Points.{denote};
 ghost use Rattle.irq.specs.declared.Point.the-variants as Point;
 ghost use Rattle.irq_points.specs.Stands.{Stops, Pins};
 
-pub fn after_moved_wrote(s: &mut [u8; STATE_LEN], d: Dir, setup: bool) -> u64
+pub fn after_moved_wrote(s: &mut State, d: Dir, setup: bool) -> u64
     ensures { λ r. ⌜ ((v : ℕ) (b : List ℕ) → Stops r (now (s .exit)) b (denote (Point.MovedWrote d setup) v (view (now (s .entry)), b))) ⌝ }
     ensures { λ r. ⌜ Pins r (now (s .exit)) ⌝ }
 {
@@ -49,7 +49,7 @@ pub fn after_moved_wrote(s: &mut [u8; STATE_LEN], d: Dir, setup: bool) -> u64
     after_transfer(s, setup)
 }
 
-pub fn after_moved_read(s: &mut [u8; STATE_LEN], d: Dir, setup: bool, v: u32) -> u64
+pub fn after_moved_read(s: &mut State, d: Dir, setup: bool, v: u32) -> u64
     requires { ⌜ fitsIn v 8 ≡ true ⌝ }
     ensures { λ r. ⌜ ((b : List ℕ) → Stops r (now (s .exit)) b (denote (Point.MovedRead d setup) v (view (now (s .entry)), b))) ⌝ }
     ensures { λ r. ⌜ Pins r (now (s .exit)) ⌝ }
@@ -58,7 +58,7 @@ pub fn after_moved_read(s: &mut [u8; STATE_LEN], d: Dir, setup: bool, v: u32) ->
     stand_moved_wrote(s, Access::Write(ctrl_of(d), 0, word as u32), d, setup)
 }
 
-fn moved_on(s: &mut [u8; STATE_LEN], d: Dir, setup: bool) -> u64
+fn moved_on(s: &mut State, d: Dir, setup: bool) -> u64
     ensures { λ r. ⌜ ((b : List ℕ) → Stops r (now (s .exit)) b (finish setup (run concrete (movedOn {i = true} d) (view (now (s .entry)), b)))) ⌝ }
     ensures { λ r. ⌜ Pins r (now (s .exit)) ⌝ }
 {
@@ -70,7 +70,7 @@ fn moved_on(s: &mut [u8; STATE_LEN], d: Dir, setup: bool) -> u64
 }
 
 // The host's token for the other direction says that a stage went through (`ep0_moved_on`).
-pub fn ep0_moved_on(s: &mut [u8; STATE_LEN], setup: bool, x: Transfer) -> u64
+pub fn ep0_moved_on(s: &mut State, setup: bool, x: Transfer) -> u64
     ensures { λ r. ⌜ ((b : List ℕ) → Stops r (now (s .exit)) b (finish setup (run concrete (afterCheck x) (view (now (s .entry)), b)))) ⌝ }
     ensures { λ r. ⌜ Pins r (now (s .exit)) ⌝ }
 {
@@ -87,14 +87,7 @@ pub fn ep0_moved_on(s: &mut [u8; STATE_LEN], setup: bool, x: Transfer) -> u64
 }
 
 // Where the check stops, or what follows it.
-fn checked(
-    s: &mut [u8; STATE_LEN],
-    buf: &[u8],
-    setup: bool,
-    x: Transfer,
-    iso: bool,
-    n: CheckNext,
-) -> u64
+fn checked(s: &mut State, buf: &[u8], setup: bool, x: Transfer, iso: bool, n: CheckNext) -> u64
     requires { ⌜ checks.Linked n ⌝ }
     ensures { λ r. ⌜ Stops r (now (s .exit)) (now (buf .entry))
         (finish setup (bindOut (checks.meaning x iso n (view (now (s .entry))) (now (buf .entry))) (λ _ u. run concrete (afterCheck x) u))) ⌝ }
@@ -107,7 +100,7 @@ fn checked(
 }
 
 pub fn after_checking(
-    s: &mut [u8; STATE_LEN],
+    s: &mut State,
     buf: &mut [u8],
     setup: bool,
     x: Transfer,
@@ -124,13 +117,7 @@ pub fn after_checking(
 }
 
 // An OUT completes too early in its microframe to merge into the next SOF's entry (mod.rs 795-797).
-pub fn after_dispatch(
-    s: &mut [u8; STATE_LEN],
-    buf: &mut [u8],
-    setup: bool,
-    x: Transfer,
-    iso: bool,
-) -> u64
+pub fn after_dispatch(s: &mut State, buf: &mut [u8], setup: bool, x: Transfer, iso: bool) -> u64
     ensures { λ r. ⌜ Stops r (now (s .exit)) (now (buf .exit)) (finish setup (run concrete (afterDispatch x iso) (view (now (s .entry)), now (buf .entry)))) ⌝ }
     ensures { λ r. ⌜ Pins r (now (s .exit)) ⌝ }
 {

@@ -10,7 +10,7 @@ use regs::Dir;
 use regs::Reg;
 use regs::control_word;
 use regs::flags;
-use state::STATE_LEN;
+use state::State;
 use state::load_ep;
 use state::load_globals;
 use state::store_ep;
@@ -40,7 +40,7 @@ fn nak_word() -> u32
 }
 
 // Whatever EP0 was doing is over.
-pub fn after_transfer(s: &mut [u8; STATE_LEN], setup: bool) -> u64
+pub fn after_transfer(s: &mut State, setup: bool) -> u64
     ensures { λ r. ⌜ ((b : List ℕ) → Stops r (now (s .exit)) b (go (resultless (afterTransfer setup)) (view (now (s .entry))) b)) ⌝ }
     ensures { λ r. ⌜ Pins r (now (s .exit)) ⌝ }
 {
@@ -50,7 +50,7 @@ pub fn after_transfer(s: &mut [u8; STATE_LEN], setup: bool) -> u64
     stop(s)
 }
 
-pub fn after_setup_rx(s: &mut [u8; STATE_LEN]) -> u64
+pub fn after_setup_rx(s: &mut State) -> u64
     ensures { λ r. ⌜ ((v : ℕ) (b : List ℕ) → Stops r (now (s .exit)) b (denote Point.SetupRx v (view (now (s .entry)), b))) ⌝ }
     ensures { λ r. ⌜ Pins r (now (s .exit)) ⌝ }
 {
@@ -58,7 +58,7 @@ pub fn after_setup_rx(s: &mut [u8; STATE_LEN]) -> u64
 }
 
 // EP0 in a direction: not ready, not armed.
-fn clear(s: &mut [u8; STATE_LEN], d: Dir)
+fn clear(s: &mut State, d: Dir)
     ensures { λ _. ⌜ view (now (s .exit)) ≡ withOn (view (now (s .entry))) d 0
         (merged (epOn (view (now (s .entry))) d 0) (withArmed 0 (withReady 0 (plainOf (epOn (view (now (s .entry))) d 0))))) ⌝ }
     ensures { λ _. ⌜ saved (now (s .exit)) ≡ saved (now (s .entry)) ⌝ }
@@ -69,7 +69,7 @@ fn clear(s: &mut [u8; STATE_LEN], d: Dir)
     store_ep(s, d, 0, r);
 }
 
-fn keep(s: &mut [u8; STATE_LEN], low: u32, high: u32)
+fn keep(s: &mut State, low: u32, high: u32)
     ensures { λ _. ⌜ view (now (s .exit)) ≡ withGlobals (view (now (s .entry)))
         (mergedGlobals (view (now (s .entry)) .globals) (withSetup 1 low high (view (now (s .entry)) .globals))) ⌝ }
     ensures { λ _. ⌜ saved (now (s .exit)) ≡ saved (now (s .entry)) ⌝ }
@@ -82,7 +82,7 @@ fn keep(s: &mut [u8; STATE_LEN], low: u32, high: u32)
 }
 
 // The packet is taken, EP0 is idle: what is left is the access that clears the flag.
-fn take(s: &mut [u8; STATE_LEN], buf: &[u8])
+fn take(s: &mut State, buf: &[u8])
     ensures { λ _. ⌜ asks (Access.Write Reg.IntFg 0 SETUP_ACT) (
       view (now (s .exit)),
       now (buf .entry),
@@ -97,7 +97,7 @@ fn take(s: &mut [u8; STATE_LEN], buf: &[u8])
 }
 
 // The packet is taken in the call that clears the flag.
-pub fn after_setup_tx(s: &mut [u8; STATE_LEN], buf: &[u8]) -> u64
+pub fn after_setup_tx(s: &mut State, buf: &[u8]) -> u64
     ensures { λ r. ⌜ ((v : ℕ) → Stops r (now (s .exit)) (now (buf .entry)) (denote Point.SetupTx v (view (now (s .entry)), now (buf .entry)))) ⌝ }
     ensures { λ r. ⌜ Pins r (now (s .exit)) ⌝ }
 {
@@ -105,7 +105,7 @@ pub fn after_setup_tx(s: &mut [u8; STATE_LEN], buf: &[u8]) -> u64
     stand_setup_released(s, flags::SETUP_ACT)
 }
 
-pub fn after_setup_released(s: &mut [u8; STATE_LEN]) -> u64
+pub fn after_setup_released(s: &mut State) -> u64
     ensures { λ r. ⌜ ((v : ℕ) (b : List ℕ) → Stops r (now (s .exit)) b (denote Point.SetupReleased v (view (now (s .entry)), b))) ⌝ }
     ensures { λ r. ⌜ Pins r (now (s .exit)) ⌝ }
 {

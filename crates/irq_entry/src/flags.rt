@@ -15,7 +15,7 @@ use regs::Access;
 use regs::Reg;
 use regs::flags;
 use regs::int_en;
-use state::STATE_LEN;
+use state::State;
 use state::load_globals;
 use state::set_int_en;
 use state::store_globals;
@@ -31,7 +31,7 @@ ghost use Rattle.irq.specs.Points.{denote};
 ghost use Rattle.irq.specs.declared.Point.the-variants as Point;
 ghost use Rattle.irq_points.specs.Stands.{Stops, Pins};
 
-pub fn after_host(s: &mut [u8; STATE_LEN], f: u8) -> u64
+pub fn after_host(s: &mut State, f: u8) -> u64
     ensures { λ r. ⌜ ((b : List ℕ) → Stops r (now (s .exit)) b (go (resultless (afterHost f)) (view (now (s .entry))) b)) ⌝ }
     ensures { λ r. ⌜ Pins r (now (s .exit)) ⌝ }
 {
@@ -42,7 +42,7 @@ pub fn after_host(s: &mut [u8; STATE_LEN], f: u8) -> u64
     after_transfer(s, setup)
 }
 
-pub fn after_fifo(s: &mut [u8; STATE_LEN], f: u8) -> u64
+pub fn after_fifo(s: &mut State, f: u8) -> u64
     ensures { λ r. ⌜ ((b : List ℕ) → Stops r (now (s .exit)) b (go (resultless (afterFifo f)) (view (now (s .entry))) b)) ⌝ }
     ensures { λ r. ⌜ Pins r (now (s .exit)) ⌝ }
 {
@@ -52,7 +52,7 @@ pub fn after_fifo(s: &mut [u8; STATE_LEN], f: u8) -> u64
     after_host(s, f)
 }
 
-fn fifo(s: &mut [u8; STATE_LEN], f: u8) -> u64
+fn fifo(s: &mut State, f: u8) -> u64
     ensures { λ r. ⌜ ((b : List ℕ) → Stops r (now (s .exit)) b (go (resultless (afterSuspend f)) (view (now (s .entry))) b)) ⌝ }
     ensures { λ r. ⌜ Pins r (now (s .exit)) ⌝ }
 {
@@ -63,7 +63,7 @@ fn fifo(s: &mut [u8; STATE_LEN], f: u8) -> u64
 }
 
 // The bus is woken after the mask (mod.rs 647).
-pub fn after_suspend(s: &mut [u8; STATE_LEN], f: u8) -> u64
+pub fn after_suspend(s: &mut State, f: u8) -> u64
     ensures { λ r. ⌜ ((v : ℕ) (b : List ℕ) → Stops r (now (s .exit)) b (denote (Point.Suspend f) v (view (now (s .entry)), b))) ⌝ }
     ensures { λ r. ⌜ Pins r (now (s .exit)) ⌝ }
 {
@@ -72,7 +72,7 @@ pub fn after_suspend(s: &mut [u8; STATE_LEN], f: u8) -> u64
 }
 
 // The interrupt is masked: the main thread handles it (mod.rs 644-648).
-fn suspend(s: &mut [u8; STATE_LEN], f: u8) -> u64
+fn suspend(s: &mut State, f: u8) -> u64
     ensures { λ r. ⌜ ((b : List ℕ) → Stops r (now (s .exit)) b (go (resultless (afterBusRst f)) (view (now (s .entry))) b)) ⌝ }
     ensures { λ r. ⌜ Pins r (now (s .exit)) ⌝ }
 {
@@ -85,7 +85,7 @@ fn suspend(s: &mut [u8; STATE_LEN], f: u8) -> u64
     fifo(s, f)
 }
 
-pub fn after_bus_rst(s: &mut [u8; STATE_LEN], f: u8) -> u64
+pub fn after_bus_rst(s: &mut State, f: u8) -> u64
     ensures { λ r. ⌜ ((v : ℕ) (b : List ℕ) → Stops r (now (s .exit)) b (denote (Point.BusRst f) v (view (now (s .entry)), b))) ⌝ }
     ensures { λ r. ⌜ Pins r (now (s .exit)) ⌝ }
 {
@@ -93,7 +93,7 @@ pub fn after_bus_rst(s: &mut [u8; STATE_LEN], f: u8) -> u64
     suspend(s, f)
 }
 
-pub fn after_flags(s: &mut [u8; STATE_LEN], v: u32) -> u64
+pub fn after_flags(s: &mut State, v: u32) -> u64
     requires { ⌜ fitsIn v 8 ≡ true ⌝ }
     ensures { λ r. ⌜ ((b : List ℕ) → Stops r (now (s .exit)) b (go (resultless (afterFlags v)) (view (now (s .entry))) b)) ⌝ }
     ensures { λ r. ⌜ Pins r (now (s .exit)) ⌝ }
@@ -109,7 +109,7 @@ pub fn after_flags(s: &mut [u8; STATE_LEN], v: u32) -> u64
 }
 
 // The microframe in which the interrupt began: what it admits carries it.
-pub fn after_frame(s: &mut [u8; STATE_LEN], v: u32) -> u64
+pub fn after_frame(s: &mut State, v: u32) -> u64
     requires { ⌜ fitsIn v 16 ≡ true ⌝ }
     ensures { λ r. ⌜ ((b : List ℕ) → Stops r (now (s .exit)) b (go (resultless (afterFrame v)) (view (now (s .entry))) b)) ⌝ }
     ensures { λ r. ⌜ Pins r (now (s .exit)) ⌝ }

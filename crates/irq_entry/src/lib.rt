@@ -23,7 +23,7 @@ use regs::flags::TRANSFER;
 use regs::mis_status;
 use regs::status;
 use state::EpState;
-use state::STATE_LEN;
+use state::State;
 use state::load_ep;
 
 pub mod flags; // flags.rt: the microframe, the flags but the setup's
@@ -60,7 +60,7 @@ fn iso_for(st: u8, o: EpState, n: EpState) -> bool
     }
 }
 
-fn after_settle(s: &mut [u8; STATE_LEN], setup: bool, x: Transfer) -> u64
+fn after_settle(s: &mut State, setup: bool, x: Transfer) -> u64
     ensures { λ r. ⌜ ((b : List ℕ) → Stops r (now (s .exit)) b (finish setup (run concrete (afterSettle x) (view (now (s .entry)), b)))) ⌝ }
     ensures { λ r. ⌜ Pins r (now (s .exit)) ⌝ }
 {
@@ -71,7 +71,7 @@ fn after_settle(s: &mut [u8; STATE_LEN], setup: bool, x: Transfer) -> u64
     stand_frame_no(s, setup, x, iso)
 }
 
-fn then_settle(s: &mut [u8; STATE_LEN], setup: bool, x: Transfer, n: SettleNext) -> u64
+fn then_settle(s: &mut State, setup: bool, x: Transfer, n: SettleNext) -> u64
     requires { ⌜ settles.Linked n ⌝ }
     ensures { λ r. ⌜ ((b : List ℕ) → Stops r (now (s .exit)) b
         (finish setup (bindOut (settles.meaning x n (view (now (s .entry))) b) (λ y u. run concrete (afterSettle y) u)))) ⌝ }
@@ -83,7 +83,7 @@ fn then_settle(s: &mut [u8; STATE_LEN], setup: bool, x: Transfer, n: SettleNext)
     }
 }
 
-pub fn after_settling(s: &mut [u8; STATE_LEN], setup: bool, x: Transfer, p: Settle, v: u32) -> u64
+pub fn after_settling(s: &mut State, setup: bool, x: Transfer, p: Settle, v: u32) -> u64
     requires { ⌜ settles.fitsAt p v ≡ true ⌝ }
     ensures { λ r. ⌜ ((b : List ℕ) → Stops r (now (s .exit)) b (denote (Point.Settle setup x p) v (view (now (s .entry)), b))) ⌝ }
     ensures { λ r. ⌜ Pins r (now (s .exit)) ⌝ }
@@ -92,7 +92,7 @@ pub fn after_settling(s: &mut [u8; STATE_LEN], setup: bool, x: Transfer, p: Sett
     then_settle(s, setup, x, n)
 }
 
-pub fn after_released(s: &mut [u8; STATE_LEN], setup: bool, x: Transfer) -> u64
+pub fn after_released(s: &mut State, setup: bool, x: Transfer) -> u64
     ensures { λ r. ⌜ ((b : List ℕ) → Stops r (now (s .exit)) b (finish setup (run concrete (afterRelease x) (view (now (s .entry)), b)))) ⌝ }
     ensures { λ r. ⌜ Pins r (now (s .exit)) ⌝ }
 {
@@ -104,14 +104,14 @@ pub fn after_released(s: &mut [u8; STATE_LEN], setup: bool, x: Transfer) -> u64
 }
 
 // Released early: int_st and rx_len are read (mod.rs 666-667).
-fn release(s: &mut [u8; STATE_LEN], setup: bool, x: Transfer) -> u64
+fn release(s: &mut State, setup: bool, x: Transfer) -> u64
     ensures { λ r. ⌜ ((b : List ℕ) → Stops r (now (s .exit)) b (finish setup (run concrete (afterNak x) (view (now (s .entry)), b)))) ⌝ }
     ensures { λ r. ⌜ Pins r (now (s .exit)) ⌝ }
 {
     stand_released(s, TRANSFER, setup, x)
 }
 
-fn then_nak(s: &mut [u8; STATE_LEN], setup: bool, x: Transfer, n: NakNext) -> u64
+fn then_nak(s: &mut State, setup: bool, x: Transfer, n: NakNext) -> u64
     requires { ⌜ naks.Linked n ⌝ }
     ensures { λ r. ⌜ ((b : List ℕ) → Stops r (now (s .exit)) b
         (finish setup (bindOut (naks.meaning (x .st) n (view (now (s .entry))) b) (λ _ u. run concrete (afterNak x) u)))) ⌝ }
@@ -123,7 +123,7 @@ fn then_nak(s: &mut [u8; STATE_LEN], setup: bool, x: Transfer, n: NakNext) -> u6
     }
 }
 
-pub fn after_naking(s: &mut [u8; STATE_LEN], setup: bool, x: Transfer, p: Nak, v: u32) -> u64
+pub fn after_naking(s: &mut State, setup: bool, x: Transfer, p: Nak, v: u32) -> u64
     requires { ⌜ naks.fitsAt p v ≡ true ⌝ }
     ensures { λ r. ⌜ ((b : List ℕ) → Stops r (now (s .exit)) b (denote (Point.Nak setup x p) v (view (now (s .entry)), b))) ⌝ }
     ensures { λ r. ⌜ Pins r (now (s .exit)) ⌝ }
@@ -157,7 +157,7 @@ fn entered(busy: bool, st: u8, len: u16) -> Transfer
     }
 }
 
-pub fn after_len(s: &mut [u8; STATE_LEN], setup: bool, busy: bool, st: u8, v: u32) -> u64
+pub fn after_len(s: &mut State, setup: bool, busy: bool, st: u8, v: u32) -> u64
     requires { ⌜ fitsIn v 16 ≡ true ⌝ }
     ensures { λ r. ⌜ ((b : List ℕ) → Stops r (now (s .exit)) b (denote (Point.Len setup busy st) v (view (now (s .entry)), b))) ⌝ }
     ensures { λ r. ⌜ Pins r (now (s .exit)) ⌝ }
@@ -174,7 +174,7 @@ pub fn after_len(s: &mut [u8; STATE_LEN], setup: bool, busy: bool, st: u8, v: u3
     }
 }
 
-pub fn after_st(s: &mut [u8; STATE_LEN], setup: bool, busy: bool, v: u32) -> u64
+pub fn after_st(s: &mut State, setup: bool, busy: bool, v: u32) -> u64
     requires { ⌜ fitsIn v 8 ≡ true ⌝ }
     ensures { λ r. ⌜ ((b : List ℕ) → Stops r (now (s .exit)) b (denote (Point.St setup busy) v (view (now (s .entry)), b))) ⌝ }
     ensures { λ r. ⌜ Pins r (now (s .exit)) ⌝ }
@@ -182,7 +182,7 @@ pub fn after_st(s: &mut [u8; STATE_LEN], setup: bool, busy: bool, v: u32) -> u64
     stand_len(s, setup, busy, byte(v))
 }
 
-pub fn after_mis(s: &mut [u8; STATE_LEN], setup: bool, v: u32) -> u64
+pub fn after_mis(s: &mut State, setup: bool, v: u32) -> u64
     requires { ⌜ fitsIn v 8 ≡ true ⌝ }
     ensures { λ r. ⌜ ((b : List ℕ) → Stops r (now (s .exit)) b (denote (Point.Mis setup) v (view (now (s .entry)), b))) ⌝ }
     ensures { λ r. ⌜ Pins r (now (s .exit)) ⌝ }

@@ -28,40 +28,40 @@ use machine::loads::sub_byte;
 use model::Transfer;
 use model_ops::rings::is_on;
 use regs::Dir;
-use state::STATE_LEN;
+use state::State;
 ghost use mathlib.Core.Path.{_≡_};
 ghost use Rattle.state.specs.State.{saved};
 ghost use Rattle.model.specs.Statics.{isOn};
 ghost use Rattle.irq_codec.specs.Codec.{dirOf, transferOf, nakOf, settleOf, toggledOf, completeOf, sofOf, lateOf, checkOf};
 
 // Is the setup flag set?
-pub fn setup_at(s: &[u8; STATE_LEN]) -> bool
+pub fn setup_at(s: &State) -> bool
     ensures { λ r. ⌜ r ≡ isOn (saved (now (s .entry)) .flag) ⌝ }
 {
     is_on(flag_byte(s))
 }
 
 // Was a transaction on the bus?
-pub fn busy_at(s: &[u8; STATE_LEN]) -> bool
+pub fn busy_at(s: &State) -> bool
     ensures { λ r. ⌜ r ≡ isOn (saved (now (s .entry)) .busy) ⌝ }
 {
     is_on(busy_byte(s))
 }
 
 // Is the endpoint isochronous?
-pub fn iso_at(s: &[u8; STATE_LEN]) -> bool
+pub fn iso_at(s: &State) -> bool
     ensures { λ r. ⌜ r ≡ isOn (saved (now (s .entry)) .now) ⌝ }
 {
     is_on(now_byte(s))
 }
 
-pub fn dir_at(s: &[u8; STATE_LEN]) -> Dir
+pub fn dir_at(s: &State) -> Dir
     ensures { λ r. ⌜ r ≡ dirOf (saved (now (s .entry)) .ep) ⌝ }
 {
     dir_of(ep_byte(s))
 }
 
-pub fn transfer_at(s: &[u8; STATE_LEN]) -> Transfer
+pub fn transfer_at(s: &State) -> Transfer
     ensures { λ r. ⌜ r ≡ transferOf (saved (now (s .entry))) ⌝ }
 {
     Transfer {
@@ -73,43 +73,43 @@ pub fn transfer_at(s: &[u8; STATE_LEN]) -> Transfer
     }
 }
 
-pub fn nak_at(s: &[u8; STATE_LEN]) -> Nak
+pub fn nak_at(s: &State) -> Nak
     ensures { λ r. ⌜ r ≡ nakOf (saved (now (s .entry)) .sub) ⌝ }
 {
     nak_of(sub_byte(s))
 }
 
-pub fn settle_at(s: &[u8; STATE_LEN]) -> Settle
+pub fn settle_at(s: &State) -> Settle
     ensures { λ r. ⌜ r ≡ settleOf (saved (now (s .entry)) .sub) (saved (now (s .entry)) .now) (saved (now (s .entry)) .n) ⌝ }
 {
     settle_of(sub_byte(s), now_byte(s), n_word(s))
 }
 
-pub fn toggled_at(s: &[u8; STATE_LEN]) -> Toggled
+pub fn toggled_at(s: &State) -> Toggled
     ensures { λ r. ⌜ r ≡ toggledOf (saved (now (s .entry)) .sub) (saved (now (s .entry)) .n) ⌝ }
 {
     toggled_of(sub_byte(s), n_word(s))
 }
 
-pub fn complete_at(s: &[u8; STATE_LEN]) -> Complete
+pub fn complete_at(s: &State) -> Complete
     ensures { λ r. ⌜ r ≡ completeOf (saved (now (s .entry)) .sub) (saved (now (s .entry)) .ep) ⌝ }
 {
     complete_of(sub_byte(s), ep_byte(s))
 }
 
-pub fn sof_at(s: &[u8; STATE_LEN]) -> Sof
+pub fn sof_at(s: &State) -> Sof
     ensures { λ r. ⌜ r ≡ sofOf (saved (now (s .entry)) .sub) (saved (now (s .entry)) .ep) (saved (now (s .entry)) .eps) ⌝ }
 {
     sof_of(sub_byte(s), ep_byte(s), eps_word(s))
 }
 
-pub fn late_at(s: &[u8; STATE_LEN]) -> Late
+pub fn late_at(s: &State) -> Late
     ensures { λ r. ⌜ r ≡ lateOf (saved (now (s .entry)) .sub) (saved (now (s .entry)) .ep) (saved (now (s .entry)) .eps) ⌝ }
 {
     late_of(sub_byte(s), ep_byte(s), eps_word(s))
 }
 
-pub fn check_at(s: &[u8; STATE_LEN]) -> Check
+pub fn check_at(s: &State) -> Check
     ensures { λ r. ⌜ r ≡ checkOf (saved (now (s .entry)) .sub) (saved (now (s .entry)) .ep) (saved (now (s .entry)) .eps) ⌝ }
 {
     check_of(sub_byte(s), ep_byte(s), eps_word(s))

@@ -28,8 +28,8 @@ use model::Transfer;
 use regs::Access;
 use regs::Dir;
 use regs::Reg;
-use state::STATE_LEN;
 use state::Saved;
+use state::State;
 use state::store_saved;
 ghost use mathlib.Core.Path.{_≡_};
 ghost use mathlib.Core.List.{List};
@@ -45,7 +45,7 @@ ghost use Rattle.call_answer_word.specs.Word.{Encodes};
 ghost use Rattle.irq_points.specs.Stands.{Stands, Stops, Pins};
 
 // What is saved of a point, under the interrupt's tag.
-fn store(s: &mut [u8; STATE_LEN], p: Saved)
+fn store(s: &mut State, p: Saved)
     ensures { λ _. ⌜ (view (now (s .exit)) ≡ view (now (s .entry))) × (saved (now (s .exit)) ≡ withTag 6 p) ⌝ }
 {
     let mut c = p;
@@ -54,14 +54,14 @@ fn store(s: &mut [u8; STATE_LEN], p: Saved)
 }
 
 // The word of an access is made where the point is: of a register it is a number that the compiler knows.
-fn stand(s: &mut [u8; STATE_LEN], q: Access, p: Saved) -> u64
+fn stand(s: &mut State, q: Access, p: Saved) -> u64
     ensures { λ r. ⌜ Encodes r (Step.Asks q) × ((view (now (s .exit)) ≡ view (now (s .entry))) × (saved (now (s .exit)) ≡ withTag 6 p)) ⌝ }
 {
     store(s, p);
     asks(q)
 }
 
-fn stand_read(s: &mut [u8; STATE_LEN], register: Reg, p: Saved) -> u64
+fn stand_read(s: &mut State, register: Reg, p: Saved) -> u64
     ensures { λ r. ⌜ Encodes r (Step.Asks (Access.Read register 0))
         × ((view (now (s .exit)) ≡ view (now (s .entry))) × (saved (now (s .exit)) ≡ withTag 6 p)) ⌝ }
 {
@@ -69,7 +69,7 @@ fn stand_read(s: &mut [u8; STATE_LEN], register: Reg, p: Saved) -> u64
     asks_read(register)
 }
 
-fn stand_write(s: &mut [u8; STATE_LEN], register: Reg, value: u32, p: Saved) -> u64
+fn stand_write(s: &mut State, register: Reg, value: u32, p: Saved) -> u64
     ensures { λ r. ⌜ Encodes r (Step.Asks (Access.Write register 0 value))
         × ((view (now (s .exit)) ≡ view (now (s .entry))) × (saved (now (s .exit)) ≡ withTag 6 p)) ⌝ }
 {
@@ -78,7 +78,7 @@ fn stand_write(s: &mut [u8; STATE_LEN], register: Reg, value: u32, p: Saved) -> 
 }
 
 // Int_fg is read.
-pub fn stand_flags(s: &mut [u8; STATE_LEN]) -> u64
+pub fn stand_flags(s: &mut State) -> u64
     ensures { λ r. ⌜ Stands r (Access.Read Reg.IntFg 0) Point.Flags (now (s .entry)) (now (s .exit)) ⌝ }
 {
     stand_read(
@@ -89,7 +89,7 @@ pub fn stand_flags(s: &mut [u8; STATE_LEN]) -> u64
 }
 
 // The reset interrupt is masked.
-pub fn stand_bus_rst(s: &mut [u8; STATE_LEN], value: u32, f: u8) -> u64
+pub fn stand_bus_rst(s: &mut State, value: u32, f: u8) -> u64
     ensures { λ r. ⌜ Stands r (Access.Write Reg.IntEn 0 value) (Point.BusRst f) (now (s .entry)) (now (s .exit)) ⌝ }
 {
     stand_write(
@@ -101,7 +101,7 @@ pub fn stand_bus_rst(s: &mut [u8; STATE_LEN], value: u32, f: u8) -> u64
 }
 
 // The suspend interrupt is.
-pub fn stand_suspend(s: &mut [u8; STATE_LEN], value: u32, f: u8) -> u64
+pub fn stand_suspend(s: &mut State, value: u32, f: u8) -> u64
     ensures { λ r. ⌜ Stands r (Access.Write Reg.IntEn 0 value) (Point.Suspend f) (now (s .entry)) (now (s .exit)) ⌝ }
 {
     stand_write(
@@ -113,7 +113,7 @@ pub fn stand_suspend(s: &mut [u8; STATE_LEN], value: u32, f: u8) -> u64
 }
 
 // The FIFO flag is cleared.
-pub fn stand_fifo(s: &mut [u8; STATE_LEN], value: u32, f: u8) -> u64
+pub fn stand_fifo(s: &mut State, value: u32, f: u8) -> u64
     ensures { λ r. ⌜ Stands r (Access.Write Reg.IntFg 0 value) (Point.Fifo f) (now (s .entry)) (now (s .exit)) ⌝ }
 {
     stand_write(
@@ -125,7 +125,7 @@ pub fn stand_fifo(s: &mut [u8; STATE_LEN], value: u32, f: u8) -> u64
 }
 
 // The host SOF flag is.
-pub fn stand_host(s: &mut [u8; STATE_LEN], value: u32, f: u8) -> u64
+pub fn stand_host(s: &mut State, value: u32, f: u8) -> u64
     ensures { λ r. ⌜ Stands r (Access.Write Reg.IntFg 0 value) (Point.Host f) (now (s .entry)) (now (s .exit)) ⌝ }
 {
     stand_write(
@@ -137,7 +137,7 @@ pub fn stand_host(s: &mut [u8; STATE_LEN], value: u32, f: u8) -> u64
 }
 
 // Mis_st is read.
-pub fn stand_mis(s: &mut [u8; STATE_LEN], setup: bool) -> u64
+pub fn stand_mis(s: &mut State, setup: bool) -> u64
     ensures { λ r. ⌜ Stands r (Access.Read Reg.MisSt 0) (Point.Mis setup) (now (s .entry)) (now (s .exit)) ⌝ }
 {
     stand_read(
@@ -148,7 +148,7 @@ pub fn stand_mis(s: &mut [u8; STATE_LEN], setup: bool) -> u64
 }
 
 // Int_st.
-pub fn stand_st(s: &mut [u8; STATE_LEN], setup: bool, busy: bool) -> u64
+pub fn stand_st(s: &mut State, setup: bool, busy: bool) -> u64
     ensures { λ r. ⌜ Stands r (Access.Read Reg.IntSt 0) (Point.St setup busy) (now (s .entry)) (now (s .exit)) ⌝ }
 {
     stand_read(
@@ -159,7 +159,7 @@ pub fn stand_st(s: &mut [u8; STATE_LEN], setup: bool, busy: bool) -> u64
 }
 
 // Rx_len.
-pub fn stand_len(s: &mut [u8; STATE_LEN], setup: bool, busy: bool, st: u8) -> u64
+pub fn stand_len(s: &mut State, setup: bool, busy: bool, st: u8) -> u64
     ensures { λ r. ⌜ Stands r (Access.Read Reg.RxLen 0) (Point.Len setup busy st) (now (s .entry)) (now (s .exit)) ⌝ }
 {
     stand_read(
@@ -170,28 +170,28 @@ pub fn stand_len(s: &mut [u8; STATE_LEN], setup: bool, busy: bool, st: u8) -> u6
 }
 
 // NAK before the release.
-pub fn stand_nak(s: &mut [u8; STATE_LEN], q: Access, setup: bool, x: Transfer, p: Nak) -> u64
+pub fn stand_nak(s: &mut State, q: Access, setup: bool, x: Transfer, p: Nak) -> u64
     ensures { λ r. ⌜ Stands r q (Point.Nak setup x p) (now (s .entry)) (now (s .exit)) ⌝ }
 {
     stand(s, q, code(9, setup, x, 0, nak_as(0, p)))
 }
 
 // The transfer flag is cleared.
-pub fn stand_released(s: &mut [u8; STATE_LEN], value: u32, setup: bool, x: Transfer) -> u64
+pub fn stand_released(s: &mut State, value: u32, setup: bool, x: Transfer) -> u64
     ensures { λ r. ⌜ Stands r (Access.Write Reg.IntFg 0 value) (Point.Released setup x) (now (s .entry)) (now (s .exit)) ⌝ }
 {
     stand_write(s, Reg::IntFg, value, code(10, setup, x, 0, none(false)))
 }
 
 // What was on the bus is waited for.
-pub fn stand_settle(s: &mut [u8; STATE_LEN], q: Access, setup: bool, x: Transfer, p: Settle) -> u64
+pub fn stand_settle(s: &mut State, q: Access, setup: bool, x: Transfer, p: Settle) -> u64
     ensures { λ r. ⌜ Stands r q (Point.Settle setup x p) (now (s .entry)) (now (s .exit)) ⌝ }
 {
     stand(s, q, code(11, setup, x, 0, settle_as(p)))
 }
 
 // Frame_no is read.
-pub fn stand_frame_no(s: &mut [u8; STATE_LEN], setup: bool, x: Transfer, iso: bool) -> u64
+pub fn stand_frame_no(s: &mut State, setup: bool, x: Transfer, iso: bool) -> u64
     ensures { λ r. ⌜ Stands r (Access.Read Reg.FrameNo 0) (Point.FrameNo setup x iso) (now (s .entry)) (now (s .exit)) ⌝ }
 {
     stand_read(s, Reg::FrameNo, code(12, setup, x, 0, none(iso)))
@@ -199,7 +199,7 @@ pub fn stand_frame_no(s: &mut [u8; STATE_LEN], setup: bool, x: Transfer, iso: bo
 
 // A SOF that was not handled.
 pub fn stand_sof(
-    s: &mut [u8; STATE_LEN],
+    s: &mut State,
     q: Access,
     setup: bool,
     x: Transfer,
@@ -214,7 +214,7 @@ pub fn stand_sof(
 
 // A late entry's completions.
 pub fn stand_late(
-    s: &mut [u8; STATE_LEN],
+    s: &mut State,
     q: Access,
     setup: bool,
     x: Transfer,
@@ -229,7 +229,7 @@ pub fn stand_late(
 
 // The arm of SOF.
 pub fn stand_sof_arm(
-    s: &mut [u8; STATE_LEN],
+    s: &mut State,
     q: Access,
     setup: bool,
     x: Transfer,
@@ -243,28 +243,14 @@ pub fn stand_sof_arm(
 }
 
 // EP0's control word is read.
-pub fn stand_flip(
-    s: &mut [u8; STATE_LEN],
-    q: Access,
-    d: Dir,
-    setup: bool,
-    x: Transfer,
-    iso: bool,
-) -> u64
+pub fn stand_flip(s: &mut State, q: Access, d: Dir, setup: bool, x: Transfer, iso: bool) -> u64
     ensures { λ r. ⌜ Stands r q (Point.Flip d setup x iso) (now (s .entry)) (now (s .exit)) ⌝ }
 {
     stand(s, q, code(16, setup, x, 0, on_dir(d, iso)))
 }
 
 // Its toggle is flipped.
-pub fn stand_flipped(
-    s: &mut [u8; STATE_LEN],
-    q: Access,
-    d: Dir,
-    setup: bool,
-    x: Transfer,
-    iso: bool,
-) -> u64
+pub fn stand_flipped(s: &mut State, q: Access, d: Dir, setup: bool, x: Transfer, iso: bool) -> u64
     ensures { λ r. ⌜ Stands r q (Point.Flipped d setup x iso) (now (s .entry)) (now (s .exit)) ⌝ }
 {
     stand(s, q, code(17, setup, x, 0, on_dir(d, iso)))
@@ -272,7 +258,7 @@ pub fn stand_flipped(
 
 // Did a packet go through?.
 pub fn stand_toggled(
-    s: &mut [u8; STATE_LEN],
+    s: &mut State,
     q: Access,
     d: Dir,
     setup: bool,
@@ -287,7 +273,7 @@ pub fn stand_toggled(
 
 // An isochronous IN completes.
 pub fn stand_completing(
-    s: &mut [u8; STATE_LEN],
+    s: &mut State,
     q: Access,
     setup: bool,
     x: Transfer,
@@ -300,35 +286,28 @@ pub fn stand_completing(
 }
 
 // Isochronous OUTs are looked at.
-pub fn stand_check(
-    s: &mut [u8; STATE_LEN],
-    q: Access,
-    setup: bool,
-    x: Transfer,
-    iso: bool,
-    p: Check,
-) -> u64
+pub fn stand_check(s: &mut State, q: Access, setup: bool, x: Transfer, iso: bool, p: Check) -> u64
     ensures { λ r. ⌜ Stands r q (Point.Check setup x iso p) (now (s .entry)) (now (s .exit)) ⌝ }
 {
     stand(s, q, code(20, setup, x, 0, check_as(iso, p)))
 }
 
 // EP0's control word is read, for its hidden stage.
-pub fn stand_moved_read(s: &mut [u8; STATE_LEN], q: Access, d: Dir, setup: bool) -> u64
+pub fn stand_moved_read(s: &mut State, q: Access, d: Dir, setup: bool) -> u64
     ensures { λ r. ⌜ Stands r q (Point.MovedRead d setup) (now (s .entry)) (now (s .exit)) ⌝ }
 {
     stand(s, q, code(21, setup, early(false, 0), 0, on_dir(d, false)))
 }
 
 // It answers NAK.
-pub fn stand_moved_wrote(s: &mut [u8; STATE_LEN], q: Access, d: Dir, setup: bool) -> u64
+pub fn stand_moved_wrote(s: &mut State, q: Access, d: Dir, setup: bool) -> u64
     ensures { λ r. ⌜ Stands r q (Point.MovedWrote d setup) (now (s .entry)) (now (s .exit)) ⌝ }
 {
     stand(s, q, code(22, setup, early(false, 0), 0, on_dir(d, false)))
 }
 
 // EP0's OUT answers NAK.
-pub fn stand_setup_rx(s: &mut [u8; STATE_LEN], value: u32) -> u64
+pub fn stand_setup_rx(s: &mut State, value: u32) -> u64
     ensures { λ r. ⌜ Stands r (Access.Write Reg.EpRxCtrl 0 value) Point.SetupRx (now (s .entry)) (now (s .exit)) ⌝ }
 {
     stand_write(
@@ -340,7 +319,7 @@ pub fn stand_setup_rx(s: &mut [u8; STATE_LEN], value: u32) -> u64
 }
 
 // And its IN.
-pub fn stand_setup_tx(s: &mut [u8; STATE_LEN], value: u32) -> u64
+pub fn stand_setup_tx(s: &mut State, value: u32) -> u64
     ensures { λ r. ⌜ Stands r (Access.Write Reg.EpTxCtrl 0 value) Point.SetupTx (now (s .entry)) (now (s .exit)) ⌝ }
 {
     stand_write(
@@ -352,7 +331,7 @@ pub fn stand_setup_tx(s: &mut [u8; STATE_LEN], value: u32) -> u64
 }
 
 // The setup flag is cleared.
-pub fn stand_setup_released(s: &mut [u8; STATE_LEN], value: u32) -> u64
+pub fn stand_setup_released(s: &mut State, value: u32) -> u64
     ensures { λ r. ⌜ Stands r (Access.Write Reg.IntFg 0 value) Point.SetupReleased (now (s .entry)) (now (s .exit)) ⌝ }
 {
     stand_write(
@@ -364,7 +343,7 @@ pub fn stand_setup_released(s: &mut [u8; STATE_LEN], value: u32) -> u64
 }
 
 // The interrupt has ended: nothing is under way, and its wake-ups are answered.
-pub fn stop(s: &mut [u8; STATE_LEN]) -> u64
+pub fn stop(s: &mut State) -> u64
     ensures { λ r. ⌜ ((b : List ℕ) → Stops r (now (s .exit)) b (ends 0 (view (now (s .entry)), b))) ⌝ }
     ensures { λ r. ⌜ Pins r (now (s .exit)) ⌝ }
 {

@@ -15,13 +15,13 @@ use irq_transfer::nak;
 use irq_transfer::settle;
 use machine::loads::st_byte;
 use regs::registers::fits;
-use state::STATE_LEN;
+use state::State;
 ghost use mathlib.Core.List.{List};
 ghost use Prim.Native.Nat.{ℕ};
 ghost use Rattle.irq_points.specs.Stands.{AtSite, ResumesByWord};
 
 // mis_st: is a transaction on the bus? (mod.rs 656-661).
-pub fn resume_mis(s: &mut [u8; STATE_LEN], v: u32) -> u64
+pub fn resume_mis(s: &mut State, v: u32) -> u64
     requires { ⌜ AtSite 6 (now s) ⌝ }
     ensures { λ r. ⌜ ((b : List ℕ) → ResumesByWord r v (now (s .entry)) b (now (s .exit)) b) ⌝ }
 {
@@ -33,7 +33,7 @@ pub fn resume_mis(s: &mut [u8; STATE_LEN], v: u32) -> u64
 }
 
 // int_st.
-pub fn resume_st(s: &mut [u8; STATE_LEN], v: u32) -> u64
+pub fn resume_st(s: &mut State, v: u32) -> u64
     requires { ⌜ AtSite 7 (now s) ⌝ }
     ensures { λ r. ⌜ ((b : List ℕ) → ResumesByWord r v (now (s .entry)) b (now (s .exit)) b) ⌝ }
 {
@@ -46,7 +46,7 @@ pub fn resume_st(s: &mut [u8; STATE_LEN], v: u32) -> u64
 }
 
 // rx_len.
-pub fn resume_len(s: &mut [u8; STATE_LEN], v: u32) -> u64
+pub fn resume_len(s: &mut State, v: u32) -> u64
     requires { ⌜ AtSite 8 (now s) ⌝ }
     ensures { λ r. ⌜ ((b : List ℕ) → ResumesByWord r v (now (s .entry)) b (now (s .exit)) b) ⌝ }
 {
@@ -60,7 +60,7 @@ pub fn resume_len(s: &mut [u8; STATE_LEN], v: u32) -> u64
 }
 
 // NAK before the release (mod.rs 663).
-pub fn resume_nak(s: &mut [u8; STATE_LEN], v: u32) -> u64
+pub fn resume_nak(s: &mut State, v: u32) -> u64
     requires { ⌜ AtSite 9 (now s) ⌝ }
     ensures { λ r. ⌜ ((b : List ℕ) → ResumesByWord r v (now (s .entry)) b (now (s .exit)) b) ⌝ }
 {
@@ -74,7 +74,7 @@ pub fn resume_nak(s: &mut [u8; STATE_LEN], v: u32) -> u64
 }
 
 // the transfer flag is cleared (mod.rs 666-667).
-pub fn resume_released(s: &mut [u8; STATE_LEN]) -> u64
+pub fn resume_released(s: &mut State) -> u64
     requires { ⌜ AtSite 10 (now s) ⌝ }
     ensures { λ r. ⌜ ((v : ℕ) (b : List ℕ) → ResumesByWord r v (now (s .entry)) b (now (s .exit)) b) ⌝ }
 {
@@ -84,7 +84,7 @@ pub fn resume_released(s: &mut [u8; STATE_LEN]) -> u64
 }
 
 // what was on the bus is waited for (mod.rs 668-717).
-pub fn resume_settle(s: &mut [u8; STATE_LEN], v: u32) -> u64
+pub fn resume_settle(s: &mut State, v: u32) -> u64
     requires { ⌜ AtSite 11 (now s) ⌝ }
     ensures { λ r. ⌜ ((b : List ℕ) → ResumesByWord r v (now (s .entry)) b (now (s .exit)) b) ⌝ }
 {

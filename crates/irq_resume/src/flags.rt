@@ -8,7 +8,7 @@ use irq_entry::flags::after_host;
 use irq_entry::flags::after_suspend;
 use machine::loads::st_byte;
 use regs::registers::fits;
-use state::STATE_LEN;
+use state::State;
 ghost use mathlib.Core.Path.{_≡_};
 ghost use mathlib.Core.List.{List};
 ghost use Prim.Native.Nat.{ℕ};
@@ -19,7 +19,7 @@ ghost use Rattle.machine.specs.Suspended.{decode};
 ghost use Rattle.irq_points.specs.Stands.{AtSite, ResumesByWord};
 
 // frame_no, whose microframe index what the interrupt admits carries.
-pub fn resume_frame(s: &mut [u8; STATE_LEN], v: u32) -> u64
+pub fn resume_frame(s: &mut State, v: u32) -> u64
     requires { ⌜ decode (saved (now s)) ≡ Under.Interrupt Point.Frame ⌝ }
     ensures { λ r. ⌜ ((b : List ℕ) → ResumesByWord r v (now (s .entry)) b (now (s .exit)) b) ⌝ }
 {
@@ -30,7 +30,7 @@ pub fn resume_frame(s: &mut [u8; STATE_LEN], v: u32) -> u64
 }
 
 // int_fg (mod.rs 637).
-pub fn resume_flags(s: &mut [u8; STATE_LEN], v: u32) -> u64
+pub fn resume_flags(s: &mut State, v: u32) -> u64
     requires { ⌜ AtSite 1 (now s) ⌝ }
     ensures { λ r. ⌜ ((b : List ℕ) → ResumesByWord r v (now (s .entry)) b (now (s .exit)) b) ⌝ }
 {
@@ -41,7 +41,7 @@ pub fn resume_flags(s: &mut [u8; STATE_LEN], v: u32) -> u64
 }
 
 // the reset interrupt is masked (mod.rs 640-643).
-pub fn resume_bus_rst(s: &mut [u8; STATE_LEN]) -> u64
+pub fn resume_bus_rst(s: &mut State) -> u64
     requires { ⌜ AtSite 2 (now s) ⌝ }
     ensures { λ r. ⌜ ((v : ℕ) (b : List ℕ) → ResumesByWord r v (now (s .entry)) b (now (s .exit)) b) ⌝ }
 {
@@ -50,7 +50,7 @@ pub fn resume_bus_rst(s: &mut [u8; STATE_LEN]) -> u64
 }
 
 // the suspend interrupt is (mod.rs 644-648).
-pub fn resume_suspend(s: &mut [u8; STATE_LEN]) -> u64
+pub fn resume_suspend(s: &mut State) -> u64
     requires { ⌜ AtSite 3 (now s) ⌝ }
     ensures { λ r. ⌜ ((v : ℕ) (b : List ℕ) → ResumesByWord r v (now (s .entry)) b (now (s .exit)) b) ⌝ }
 {
@@ -59,7 +59,7 @@ pub fn resume_suspend(s: &mut [u8; STATE_LEN]) -> u64
 }
 
 // the FIFO flag is cleared (mod.rs 649-651).
-pub fn resume_fifo(s: &mut [u8; STATE_LEN]) -> u64
+pub fn resume_fifo(s: &mut State) -> u64
     requires { ⌜ AtSite 4 (now s) ⌝ }
     ensures { λ r. ⌜ ((v : ℕ) (b : List ℕ) → ResumesByWord r v (now (s .entry)) b (now (s .exit)) b) ⌝ }
 {
@@ -68,7 +68,7 @@ pub fn resume_fifo(s: &mut [u8; STATE_LEN]) -> u64
 }
 
 // the host SOF flag is (mod.rs 652-655).
-pub fn resume_host(s: &mut [u8; STATE_LEN]) -> u64
+pub fn resume_host(s: &mut State) -> u64
     requires { ⌜ AtSite 5 (now s) ⌝ }
     ensures { λ r. ⌜ ((v : ℕ) (b : List ℕ) → ResumesByWord r v (now (s .entry)) b (now (s .exit)) b) ⌝ }
 {

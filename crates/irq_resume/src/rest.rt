@@ -12,13 +12,13 @@ use irq_points::loads::iso_at;
 use irq_points::loads::setup_at;
 use irq_points::loads::transfer_at;
 use regs::registers::fits;
-use state::STATE_LEN;
+use state::State;
 ghost use mathlib.Core.List.{List};
 ghost use Prim.Native.Nat.{ℕ};
 ghost use Rattle.irq_points.specs.Stands.{AtSite, ResumesByWord};
 
 // isochronous OUTs are looked at (`iso_out_check`).
-pub fn resume_check(s: &mut [u8; STATE_LEN], slots: &mut [u8], v: u32) -> u64
+pub fn resume_check(s: &mut State, slots: &mut [u8], v: u32) -> u64
     requires { ⌜ AtSite 20 (now s) ⌝ }
     ensures { λ r. ⌜ ResumesByWord r v (now (s .entry)) (now (slots .entry)) (now (s .exit)) (now (slots .exit)) ⌝ }
 {
@@ -33,7 +33,7 @@ pub fn resume_check(s: &mut [u8; STATE_LEN], slots: &mut [u8], v: u32) -> u64
 }
 
 // EP0's control word, for its hidden stage (`ep0_moved_on`).
-pub fn resume_moved_read(s: &mut [u8; STATE_LEN], v: u32) -> u64
+pub fn resume_moved_read(s: &mut State, v: u32) -> u64
     requires { ⌜ AtSite 21 (now s) ⌝ }
     ensures { λ r. ⌜ ((b : List ℕ) → ResumesByWord r v (now (s .entry)) b (now (s .exit)) b) ⌝ }
 {
@@ -46,7 +46,7 @@ pub fn resume_moved_read(s: &mut [u8; STATE_LEN], v: u32) -> u64
 }
 
 // it answers NAK.
-pub fn resume_moved_wrote(s: &mut [u8; STATE_LEN]) -> u64
+pub fn resume_moved_wrote(s: &mut State) -> u64
     requires { ⌜ AtSite 22 (now s) ⌝ }
     ensures { λ r. ⌜ ((v : ℕ) (b : List ℕ) → ResumesByWord r v (now (s .entry)) b (now (s .exit)) b) ⌝ }
 {
@@ -56,7 +56,7 @@ pub fn resume_moved_wrote(s: &mut [u8; STATE_LEN]) -> u64
 }
 
 // EP0's OUT answers NAK (mod.rs 803-818).
-pub fn resume_setup_rx(s: &mut [u8; STATE_LEN]) -> u64
+pub fn resume_setup_rx(s: &mut State) -> u64
     requires { ⌜ AtSite 23 (now s) ⌝ }
     ensures { λ r. ⌜ ((v : ℕ) (b : List ℕ) → ResumesByWord r v (now (s .entry)) b (now (s .exit)) b) ⌝ }
 {
@@ -64,7 +64,7 @@ pub fn resume_setup_rx(s: &mut [u8; STATE_LEN]) -> u64
 }
 
 // and its IN.
-pub fn resume_setup_tx(s: &mut [u8; STATE_LEN], slots: &mut [u8]) -> u64
+pub fn resume_setup_tx(s: &mut State, slots: &mut [u8]) -> u64
     requires { ⌜ AtSite 24 (now s) ⌝ }
     ensures { λ r. ⌜ ((v : ℕ) → ResumesByWord r v (now (s .entry)) (now (slots .entry)) (now (s .exit)) (now (slots .exit))) ⌝ }
 {
@@ -72,7 +72,7 @@ pub fn resume_setup_tx(s: &mut [u8; STATE_LEN], slots: &mut [u8]) -> u64
 }
 
 // the setup flag is cleared.
-pub fn resume_setup_released(s: &mut [u8; STATE_LEN]) -> u64
+pub fn resume_setup_released(s: &mut State) -> u64
     requires { ⌜ AtSite 25 (now s) ⌝ }
     ensures { λ r. ⌜ ((v : ℕ) (b : List ℕ) → ResumesByWord r v (now (s .entry)) b (now (s .exit)) b) ⌝ }
 {

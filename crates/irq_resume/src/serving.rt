@@ -11,12 +11,12 @@ use irq_serve::serving::after_on_sof;
 use iso_in::sof;
 use machine::loads::frame_word;
 use regs::registers::fits;
-use state::STATE_LEN;
+use state::State;
 ghost use Prim.Native.Nat.{ℕ};
 ghost use Rattle.irq_points.specs.Stands.{AtSite, ResumesByWord};
 
 // frame_no (mod.rs 724-728).
-pub fn resume_frame_no(s: &mut [u8; STATE_LEN], slots: &mut [u8], v: u32) -> u64
+pub fn resume_frame_no(s: &mut State, slots: &mut [u8], v: u32) -> u64
     requires { ⌜ AtSite 12 (now s) ⌝ }
     ensures { λ r. ⌜ ResumesByWord r v (now (s .entry)) (now (slots .entry)) (now (s .exit)) (now (slots .exit)) ⌝ }
 {
@@ -30,7 +30,7 @@ pub fn resume_frame_no(s: &mut [u8; STATE_LEN], slots: &mut [u8], v: u32) -> u64
 }
 
 // a SOF that was not handled (mod.rs 729-733).
-pub fn resume_sof(s: &mut [u8; STATE_LEN], slots: &mut [u8], v: u32) -> u64
+pub fn resume_sof(s: &mut State, slots: &mut [u8], v: u32) -> u64
     requires { ⌜ AtSite 13 (now s) ⌝ }
     ensures { λ r. ⌜ ResumesByWord r v (now (s .entry)) (now (slots .entry)) (now (s .exit)) (now (slots .exit)) ⌝ }
 {
@@ -46,7 +46,7 @@ pub fn resume_sof(s: &mut [u8; STATE_LEN], slots: &mut [u8], v: u32) -> u64
 }
 
 // a late entry's completions (mod.rs 735-747).
-pub fn resume_late(s: &mut [u8; STATE_LEN], slots: &mut [u8]) -> u64
+pub fn resume_late(s: &mut State, slots: &mut [u8]) -> u64
     requires { ⌜ AtSite 14 (now s) ⌝ }
     ensures { λ r. ⌜ ((v : ℕ) → ResumesByWord r v (now (s .entry)) (now (slots .entry)) (now (s .exit)) (now (slots .exit))) ⌝ }
 {

@@ -16,13 +16,13 @@ use irq_transfer::toggled;
 use iso_in::sof;
 use machine::loads::frame_word;
 use regs::registers::fits;
-use state::STATE_LEN;
+use state::State;
 ghost use mathlib.Core.List.{List};
 ghost use Prim.Native.Nat.{ℕ};
 ghost use Rattle.irq_points.specs.Stands.{AtSite, ResumesByWord};
 
 // the arm of SOF (mod.rs 750-754).
-pub fn resume_sof_arm(s: &mut [u8; STATE_LEN], slots: &mut [u8], v: u32) -> u64
+pub fn resume_sof_arm(s: &mut State, slots: &mut [u8], v: u32) -> u64
     requires { ⌜ AtSite 15 (now s) ⌝ }
     ensures { λ r. ⌜ ResumesByWord r v (now (s .entry)) (now (slots .entry)) (now (s .exit)) (now (slots .exit)) ⌝ }
 {
@@ -38,7 +38,7 @@ pub fn resume_sof_arm(s: &mut [u8; STATE_LEN], slots: &mut [u8], v: u32) -> u64
 }
 
 // EP0's control word (mod.rs 757, 781).
-pub fn resume_flip(s: &mut [u8; STATE_LEN], v: u32) -> u64
+pub fn resume_flip(s: &mut State, v: u32) -> u64
     requires { ⌜ AtSite 16 (now s) ⌝ }
     ensures { λ r. ⌜ ((b : List ℕ) → ResumesByWord r v (now (s .entry)) b (now (s .exit)) b) ⌝ }
 {
@@ -53,7 +53,7 @@ pub fn resume_flip(s: &mut [u8; STATE_LEN], v: u32) -> u64
 }
 
 // its toggle is flipped.
-pub fn resume_flipped(s: &mut [u8; STATE_LEN], slots: &mut [u8]) -> u64
+pub fn resume_flipped(s: &mut State, slots: &mut [u8]) -> u64
     requires { ⌜ AtSite 17 (now s) ⌝ }
     ensures { λ r. ⌜ ((v : ℕ) → ResumesByWord r v (now (s .entry)) (now (slots .entry)) (now (s .exit)) (now (slots .exit))) ⌝ }
 {
@@ -65,7 +65,7 @@ pub fn resume_flipped(s: &mut [u8; STATE_LEN], slots: &mut [u8]) -> u64
 }
 
 // did a packet go through? (`toggled`).
-pub fn resume_toggled(s: &mut [u8; STATE_LEN], slots: &mut [u8], v: u32) -> u64
+pub fn resume_toggled(s: &mut State, slots: &mut [u8], v: u32) -> u64
     requires { ⌜ AtSite 18 (now s) ⌝ }
     ensures { λ r. ⌜ ResumesByWord r v (now (s .entry)) (now (slots .entry)) (now (s .exit)) (now (slots .exit)) ⌝ }
 {
@@ -81,7 +81,7 @@ pub fn resume_toggled(s: &mut [u8; STATE_LEN], slots: &mut [u8], v: u32) -> u64
 }
 
 // an isochronous IN completes (mod.rs 772-777).
-pub fn resume_completing(s: &mut [u8; STATE_LEN], slots: &mut [u8]) -> u64
+pub fn resume_completing(s: &mut State, slots: &mut [u8]) -> u64
     requires { ⌜ AtSite 19 (now s) ⌝ }
     ensures { λ r. ⌜ ((v : ℕ) → ResumesByWord r v (now (s .entry)) (now (slots .entry)) (now (s .exit)) (now (slots .exit))) ⌝ }
 {

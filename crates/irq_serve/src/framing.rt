@@ -3,7 +3,7 @@ use crate::serving::serve;
 use irq_transfer::wait::short;
 use model::Transfer;
 use regs::status;
-use state::STATE_LEN;
+use state::State;
 use state::load_globals;
 ghost use mathlib.Core.Path.{_≡_};
 ghost use mathlib.Core.Bool.{true};
@@ -46,7 +46,7 @@ fn framed(x: Transfer, iso: bool, sof: u16, frame: u16) -> Transfer
 }
 
 pub fn after_frame_no(
-    s: &mut [u8; STATE_LEN],
+    s: &mut State,
     buf: &mut [u8],
     setup: bool,
     x: Transfer,

@@ -11,7 +11,7 @@ use iso_in::sof::Sof;
 use iso_in::sof::SofNext;
 use model::Transfer;
 use regs::status;
-use state::STATE_LEN;
+use state::State;
 use state::load_globals;
 ghost use mathlib.Core.Path.{_≡_};
 ghost use mathlib.Core.Bool.{true, false};
@@ -28,14 +28,7 @@ ghost use Rattle.irq.specs.declared.Point.the-variants as Point;
 ghost use Rattle.irq_points.specs.Stands.{Stops, Pins};
 
 // A transaction that is still on the bus is left to its own entry (mod.rs 748).
-fn after_late(
-    s: &mut [u8; STATE_LEN],
-    buf: &mut [u8],
-    setup: bool,
-    x: Transfer,
-    iso: bool,
-    frame: u16,
-) -> u64
+fn after_late(s: &mut State, buf: &mut [u8], setup: bool, x: Transfer, iso: bool, frame: u16) -> u64
     ensures { λ r. ⌜ Stops r (now (s .exit)) (now (buf .exit)) (finish setup (run concrete (afterLate x iso frame) (
       view (now (s .entry)),
       now (buf .entry),
@@ -49,7 +42,7 @@ fn after_late(
 }
 
 fn then_late(
-    s: &mut [u8; STATE_LEN],
+    s: &mut State,
     buf: &mut [u8],
     setup: bool,
     x: Transfer,
@@ -69,7 +62,7 @@ fn then_late(
 }
 
 pub fn after_completions(
-    s: &mut [u8; STATE_LEN],
+    s: &mut State,
     buf: &mut [u8],
     setup: bool,
     x: Transfer,
@@ -88,14 +81,7 @@ pub fn after_completions(
 }
 
 // What raised a late entry completed before the OUT (mod.rs 735-747).
-fn after_sof(
-    s: &mut [u8; STATE_LEN],
-    buf: &mut [u8],
-    setup: bool,
-    x: Transfer,
-    iso: bool,
-    frame: u16,
-) -> u64
+fn after_sof(s: &mut State, buf: &mut [u8], setup: bool, x: Transfer, iso: bool, frame: u16) -> u64
     ensures { λ r. ⌜ Stops r (now (s .exit)) (now (buf .exit)) (finish setup (run concrete (afterSof x iso frame) (
       view (now (s .entry)),
       now (buf .entry),
@@ -110,7 +96,7 @@ fn after_sof(
 }
 
 fn then_sof(
-    s: &mut [u8; STATE_LEN],
+    s: &mut State,
     buf: &mut [u8],
     setup: bool,
     x: Transfer,
@@ -130,7 +116,7 @@ fn then_sof(
 }
 
 pub fn after_on_sof(
-    s: &mut [u8; STATE_LEN],
+    s: &mut State,
     buf: &mut [u8],
     setup: bool,
     x: Transfer,
@@ -157,14 +143,7 @@ fn sof_due(x: Transfer, sof: u16, frame: u16) -> bool
 }
 
 // The flag is one bit: a late entry also stands for the SOF (mod.rs 729-733).
-pub fn serve(
-    s: &mut [u8; STATE_LEN],
-    buf: &mut [u8],
-    setup: bool,
-    x: Transfer,
-    iso: bool,
-    frame: u16,
-) -> u64
+pub fn serve(s: &mut State, buf: &mut [u8], setup: bool, x: Transfer, iso: bool, frame: u16) -> u64
     ensures { λ r. ⌜ Stops r (now (s .exit)) (now (buf .exit)) (finish setup (run concrete (serving x iso frame) (view (now (s .entry)), now (buf .entry)))) ⌝ }
     ensures { λ r. ⌜ Pins r (now (s .exit)) ⌝ }
 {

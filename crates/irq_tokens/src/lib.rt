@@ -27,7 +27,7 @@ use regs::Token;
 use regs::control_word;
 use regs::registers::ctrl_of;
 use regs::status;
-use state::STATE_LEN;
+use state::State;
 use state::load_ep;
 use state::load_globals;
 use state::store_ep;
@@ -51,7 +51,7 @@ ghost use Rattle.irq.specs.declared.Point.the-variants as Point;
 ghost use Rattle.irq_points.specs.Stands.{Stops, Pins};
 
 // A packet arrived (mod.rs 767-770).
-fn received(s: &mut [u8; STATE_LEN], ep: u8, len: u16)
+fn received(s: &mut State, ep: u8, len: u16)
     ensures { λ _. ⌜ ((b : List ℕ) → ends tt (view (now (s .exit)), b) ≡ go {i = true} (script.received ep len) (view (now (s .entry))) b) ⌝ }
     ensures { λ _. ⌜ saved (now (s .exit)) ≡ saved (now (s .entry)) ⌝ }
 {
@@ -64,7 +64,7 @@ fn received(s: &mut [u8; STATE_LEN], ep: u8, len: u16)
 }
 
 // A packet went out (mod.rs 786-787).
-fn sent(s: &mut [u8; STATE_LEN], ep: u8)
+fn sent(s: &mut State, ep: u8)
     ensures { λ _. ⌜ ((b : List ℕ) → ends tt (view (now (s .exit)), b) ≡ go {i = true} (script.sent ep) (view (now (s .entry))) b) ⌝ }
     ensures { λ _. ⌜ saved (now (s .exit)) ≡ saved (now (s .entry)) ⌝ }
 {
@@ -74,7 +74,7 @@ fn sent(s: &mut [u8; STATE_LEN], ep: u8)
     wake(s, Dir::In, ep);
 }
 
-fn passed(s: &mut [u8; STATE_LEN], d: Dir, ep: u8, len: u16)
+fn passed(s: &mut State, d: Dir, ep: u8, len: u16)
     ensures { λ _. ⌜ ((b : List ℕ) → ends tt (view (now (s .exit)), b) ≡ go (passed d ep len) (view (now (s .entry))) b) ⌝ }
     ensures { λ _. ⌜ saved (now (s .exit)) ≡ saved (now (s .entry)) ⌝ }
 {
@@ -84,7 +84,7 @@ fn passed(s: &mut [u8; STATE_LEN], d: Dir, ep: u8, len: u16)
     }
 }
 
-fn flip_done(s: &mut [u8; STATE_LEN], d: Dir, len: u16)
+fn flip_done(s: &mut State, d: Dir, len: u16)
     ensures { λ _. ⌜ ((b : List ℕ) → ends tt (view (now (s .exit)), b) ≡ go (flipDone d len) (view (now (s .entry))) b) ⌝ }
     ensures { λ _. ⌜ saved (now (s .exit)) ≡ saved (now (s .entry)) ⌝ }
 {
@@ -100,7 +100,7 @@ fn flip_done(s: &mut [u8; STATE_LEN], d: Dir, len: u16)
 }
 
 pub fn after_flipped(
-    s: &mut [u8; STATE_LEN],
+    s: &mut State,
     buf: &mut [u8],
     d: Dir,
     setup: bool,
@@ -117,14 +117,7 @@ pub fn after_flipped(
     after_dispatch(s, buf, setup, x, iso)
 }
 
-pub fn after_flip(
-    s: &mut [u8; STATE_LEN],
-    d: Dir,
-    setup: bool,
-    x: Transfer,
-    iso: bool,
-    v: u32,
-) -> u64
+pub fn after_flip(s: &mut State, d: Dir, setup: bool, x: Transfer, iso: bool, v: u32) -> u64
     requires { ⌜ fitsIn v 8 ≡ true ⌝ }
     ensures { λ r. ⌜ ((b : List ℕ) → Stops r (now (s .exit)) b (denote (Point.Flip d setup x iso) v (view (now (s .entry)), b))) ⌝ }
     ensures { λ r. ⌜ Pins r (now (s .exit)) ⌝ }
@@ -142,7 +135,7 @@ pub fn after_flip(
 
 // What follows `toggled`: a packet went through, or the endpoint stays as it is.
 fn after_passing(
-    s: &mut [u8; STATE_LEN],
+    s: &mut State,
     buf: &mut [u8],
     d: Dir,
     setup: bool,
@@ -163,7 +156,7 @@ fn after_passing(
 
 // Where `toggled` stops, or what follows it.
 fn then_toggled(
-    s: &mut [u8; STATE_LEN],
+    s: &mut State,
     buf: &mut [u8],
     d: Dir,
     setup: bool,
@@ -183,7 +176,7 @@ fn then_toggled(
 }
 
 pub fn after_toggled(
-    s: &mut [u8; STATE_LEN],
+    s: &mut State,
     buf: &mut [u8],
     d: Dir,
     setup: bool,
@@ -201,14 +194,7 @@ pub fn after_toggled(
 }
 
 // Bulk and interrupt (mod.rs 759, 778).
-fn toggled_arm(
-    s: &mut [u8; STATE_LEN],
-    buf: &mut [u8],
-    d: Dir,
-    setup: bool,
-    x: Transfer,
-    iso: bool,
-) -> u64
+fn toggled_arm(s: &mut State, buf: &mut [u8], d: Dir, setup: bool, x: Transfer, iso: bool) -> u64
     ensures { λ r. ⌜ Stops r (now (s .exit)) (now (buf .exit)) (thenCheck setup x iso (bindOut (run concrete (script.toggled {i = true} d (endpoint (x .st))) (
       view (now (s .entry)),
       now (buf .entry),
@@ -223,7 +209,7 @@ fn toggled_arm(
 }
 
 // The arms of OUT (mod.rs 755-771).
-fn out_arm(s: &mut [u8; STATE_LEN], buf: &mut [u8], setup: bool, x: Transfer, iso: bool) -> u64
+fn out_arm(s: &mut State, buf: &mut [u8], setup: bool, x: Transfer, iso: bool) -> u64
     ensures { λ r. ⌜ Stops r (now (s .exit)) (now (buf .exit)) (thenCheck setup x iso (run concrete (script.outArm {i = true} x iso) (
       view (now (s .entry)),
       now (buf .entry),
@@ -243,7 +229,7 @@ fn out_arm(s: &mut [u8; STATE_LEN], buf: &mut [u8], setup: bool, x: Transfer, is
 }
 
 fn then_complete(
-    s: &mut [u8; STATE_LEN],
+    s: &mut State,
     buf: &mut [u8],
     setup: bool,
     x: Transfer,
@@ -261,7 +247,7 @@ fn then_complete(
 }
 
 pub fn after_completing(
-    s: &mut [u8; STATE_LEN],
+    s: &mut State,
     buf: &mut [u8],
     setup: bool,
     x: Transfer,
@@ -279,14 +265,7 @@ pub fn after_completing(
 }
 
 // One isochronous IN per microframe, where it is not paced (mod.rs 772-777).
-fn iso_in_arm(
-    s: &mut [u8; STATE_LEN],
-    buf: &mut [u8],
-    setup: bool,
-    x: Transfer,
-    iso: bool,
-    frame: u16,
-) -> u64
+fn iso_in_arm(s: &mut State, buf: &mut [u8], setup: bool, x: Transfer, iso: bool, frame: u16) -> u64
     ensures { λ r. ⌜ Stops r (now (s .exit)) (now (buf .exit))
         (thenCheck setup x iso (run concrete (script.isoInArm {i = true} (endpoint (x .st)) frame) (view (now (s .entry)), now (buf .entry)))) ⌝ }
     ensures { λ r. ⌜ Pins r (now (s .exit)) ⌝ }
@@ -308,14 +287,7 @@ fn iso_in_arm(
 }
 
 // The arms of IN (mod.rs 772-788).
-fn in_arm(
-    s: &mut [u8; STATE_LEN],
-    buf: &mut [u8],
-    setup: bool,
-    x: Transfer,
-    iso: bool,
-    frame: u16,
-) -> u64
+fn in_arm(s: &mut State, buf: &mut [u8], setup: bool, x: Transfer, iso: bool, frame: u16) -> u64
     ensures { λ r. ⌜ Stops r (now (s .exit)) (now (buf .exit)) (thenCheck setup x iso (run concrete (script.inArm {i = true} x iso frame) (
       view (now (s .entry)),
       now (buf .entry),
@@ -332,7 +304,7 @@ fn in_arm(
 }
 
 fn then_sof_arm(
-    s: &mut [u8; STATE_LEN],
+    s: &mut State,
     buf: &mut [u8],
     setup: bool,
     x: Transfer,
@@ -356,7 +328,7 @@ fn then_sof_arm(
 }
 
 pub fn after_sof_arm(
-    s: &mut [u8; STATE_LEN],
+    s: &mut State,
     buf: &mut [u8],
     setup: bool,
     x: Transfer,
@@ -374,7 +346,7 @@ pub fn after_sof_arm(
 }
 
 // SOF's own (mod.rs 750-754), after which nothing of the transfer is left.
-fn sof_arm(s: &mut [u8; STATE_LEN], setup: bool, x: Transfer, iso: bool, frame: u16) -> u64
+fn sof_arm(s: &mut State, setup: bool, x: Transfer, iso: bool, frame: u16) -> u64
     requires { ⌜ isSof (x .st) ≡ true ⌝ }
     ensures { λ r. ⌜ ((b : List ℕ) → Stops r (now (s .exit)) b
         (thenCheck setup x iso (run concrete (script.sofArm {i = true} frame) (view (now (s .entry)), b)))) ⌝ }
@@ -392,7 +364,7 @@ fn sof_arm(s: &mut [u8; STATE_LEN], setup: bool, x: Transfer, iso: bool, frame: 
 }
 
 pub fn dispatch(
-    s: &mut [u8; STATE_LEN],
+    s: &mut State,
     buf: &mut [u8],
     setup: bool,
     x: Transfer,

@@ -8,7 +8,7 @@ use regs::registers::ctrl_of;
 use regs::registers::fits;
 use regs::status;
 use state::EpState;
-use state::STATE_LEN;
+use state::State;
 use state::load_ep;
 ghost use mathlib.Core.Path.{_≡_};
 ghost use mathlib.Core.Bool.{true, false};
@@ -56,7 +56,7 @@ fn in_naks(st: u8, r: EpState) -> bool
 }
 
 // `nak_non_iso` (mod.rs 416-431).
-pub fn nak_non_iso(s: &[u8; STATE_LEN], st: u8) -> NakNext
+pub fn nak_non_iso(s: &State, st: u8) -> NakNext
     ensures { λ r. ⌜ ((b : List ℕ) → meaning st r (view (now (s .entry))) b ≡ go {i = true} (nakNonIso st) (view (now (s .entry))) b) ⌝ }
     ensures { λ r. ⌜ Linked r ⌝ }
 {

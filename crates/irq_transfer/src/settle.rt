@@ -15,7 +15,7 @@ use regs::mis_status;
 use regs::registers::fits;
 use regs::status;
 use state::EpState;
-use state::STATE_LEN;
+use state::State;
 use state::load_ep;
 ghost use mathlib.Core.Path.{_≡_};
 ghost use mathlib.Core.Bool.{true, false};
@@ -81,7 +81,7 @@ fn waits_for_bulk(x: Transfer, r: EpState) -> bool
 }
 
 // A transfer is settled (mod.rs 668-715): what was on the bus is waited for, or looked at once.
-pub fn begin(s: &[u8; STATE_LEN], x: Transfer) -> SettleNext
+pub fn begin(s: &State, x: Transfer) -> SettleNext
     ensures { λ r. ⌜ ((b : List ℕ) → meaning x r (view (now (s .entry))) b ≡ go {i = true} (script.settle x) (view (now (s .entry))) b) ⌝ }
     ensures { λ r. ⌜ Linked r ⌝ }
 {
@@ -195,7 +195,7 @@ fn retaken(x: Transfer, st: u8) -> Transfer
     }
 }
 
-fn after_st(s: &[u8; STATE_LEN], x: Transfer, v: u32) -> SettleNext
+fn after_st(s: &State, x: Transfer, v: u32) -> SettleNext
     requires { ⌜ fitsIn v 8 ≡ true ⌝ }
     ensures { λ r. ⌜ ((b : List ℕ) → meaning x r (view (now (s .entry))) b ≡ go (afterSt x v) (view (now (s .entry))) b) ⌝ }
     ensures { λ r. ⌜ Linked r ⌝ }
@@ -220,7 +220,7 @@ fn after_nak(x: Transfer, st: u8, p: Nak, v: u32) -> SettleNext
     }
 }
 
-pub fn resume(s: &[u8; STATE_LEN], x: Transfer, p: Settle, v: u32) -> SettleNext
+pub fn resume(s: &State, x: Transfer, p: Settle, v: u32) -> SettleNext
     requires { ⌜ fitsAt p v ≡ true ⌝ }
     ensures { λ r. ⌜ ((b : List ℕ) → meaning x r (view (now (s .entry))) b ≡ denote x p v (view (now (s .entry)), b)) ⌝ }
     ensures { λ r. ⌜ Linked r ⌝ }

@@ -9,7 +9,7 @@ use regs::control_word;
 use regs::registers::ctrl_of;
 use regs::registers::fits;
 use state::EpState;
-use state::STATE_LEN;
+use state::State;
 use state::load_ep;
 use state::store_ep;
 ghost use mathlib.Core.Path.{_≡_};
@@ -77,7 +77,7 @@ fn repeated(r: EpState, word: u8) -> bool
 }
 
 // No new packet: a request still waiting gets its endpoint back. Or the packet's toggle is recorded.
-fn after_word(s: &mut [u8; STATE_LEN], dir: Dir, ep: u8, v: u32) -> ToggledNext
+fn after_word(s: &mut State, dir: Dir, ep: u8, v: u32) -> ToggledNext
     requires { ⌜ fitsIn v 8 ≡ true ⌝ }
     ensures { λ r. ⌜ ((b : List ℕ) → meaning dir ep r (view (now (s .exit))) b ≡ go (afterWord dir ep v) (view (now (s .entry))) b) ⌝ }
     ensures { λ _. ⌜ saved (now (s .exit)) ≡ saved (now (s .entry)) ⌝ }
@@ -106,7 +106,7 @@ fn after_ack_read(dir: Dir, ep: u8, v: u32) -> ToggledNext
     ToggledNext::Asks(Access::Write(ctrl_of(dir), ep, word as u32), Toggled::Acked)
 }
 
-pub fn resume(s: &mut [u8; STATE_LEN], dir: Dir, ep: u8, p: Toggled, v: u32) -> ToggledNext
+pub fn resume(s: &mut State, dir: Dir, ep: u8, p: Toggled, v: u32) -> ToggledNext
     requires { ⌜ fitsAt p v ≡ true ⌝ }
     ensures { λ r. ⌜ ((b : List ℕ) → meaning dir ep r (view (now (s .exit))) b ≡ denote dir ep p v (view (now (s .entry)), b)) ⌝ }
     ensures { λ _. ⌜ saved (now (s .exit)) ≡ saved (now (s .entry)) ⌝ }

@@ -14,7 +14,7 @@ use regs::Dir;
 use regs::Reg;
 use regs::enables;
 use regs::registers::fits;
-use state::STATE_LEN;
+use state::State;
 use state::load_globals;
 use state::load_paced;
 use state::store_paced;
@@ -47,7 +47,7 @@ fn is_paced(mask: u16, e: u8) -> bool
     false
 }
 
-pub fn iso_in_advance(s: &mut [u8; STATE_LEN], e: u8) -> AdvanceNext
+pub fn iso_in_advance(s: &mut State, e: u8) -> AdvanceNext
     ensures { λ r. ⌜ ((b : List ℕ) → meaning r (view (now (s .exit))) b ≡ go (advance e) (view (now (s .entry))) b) ⌝ }
     ensures { λ _. ⌜ saved (now (s .exit)) ≡ saved (now (s .entry)) ⌝ }
     ensures { λ r. ⌜ Linked r ⌝ }
@@ -64,7 +64,7 @@ pub fn iso_in_advance(s: &mut [u8; STATE_LEN], e: u8) -> AdvanceNext
 }
 
 // The next completion; after the last, the microframe is kept.
-fn go_on(s: &mut [u8; STATE_LEN], e: u8, left: u8, frame: u16) -> AdvanceNext
+fn go_on(s: &mut State, e: u8, left: u8, frame: u16) -> AdvanceNext
     ensures { λ r. ⌜ ((b : List ℕ) → meaning r (view (now (s .exit))) b ≡ completing e left frame (view (now (s .entry)), b)) ⌝ }
     ensures { λ _. ⌜ saved (now (s .exit)) ≡ saved (now (s .entry)) ⌝ }
     ensures { λ r. ⌜ Linked r ⌝ }
@@ -80,7 +80,7 @@ fn go_on(s: &mut [u8; STATE_LEN], e: u8, left: u8, frame: u16) -> AdvanceNext
     AdvanceNext::Asks(q, Advance::Completing(e, more, frame, p))
 }
 
-fn after_frame_no(s: &mut [u8; STATE_LEN], e: u8, v: u32) -> AdvanceNext
+fn after_frame_no(s: &mut State, e: u8, v: u32) -> AdvanceNext
     requires { ⌜ fitsIn v 16 ≡ true ⌝ }
     ensures { λ r. ⌜ ((b : List ℕ) → meaning r (view (now (s .exit))) b ≡ denote (Advance.FrameNo e) v (view (now (s .entry)), b)) ⌝ }
     ensures { λ _. ⌜ saved (now (s .exit)) ≡ saved (now (s .entry)) ⌝ }
@@ -93,13 +93,7 @@ fn after_frame_no(s: &mut [u8; STATE_LEN], e: u8, v: u32) -> AdvanceNext
     go_on(s, e, n as u8, kept.0)
 }
 
-fn after_completing(
-    s: &mut [u8; STATE_LEN],
-    e: u8,
-    left: u8,
-    frame: u16,
-    p: Complete,
-) -> AdvanceNext
+fn after_completing(s: &mut State, e: u8, left: u8, frame: u16, p: Complete) -> AdvanceNext
     ensures { λ r. ⌜ ((v : ℕ) (b : List ℕ) → meaning r (view (now (s .exit))) b ≡ denote (Advance.Completing e left frame p) v (view (now (s .entry)), b)) ⌝ }
     ensures { λ _. ⌜ saved (now (s .exit)) ≡ saved (now (s .entry)) ⌝ }
     ensures { λ r. ⌜ Linked r ⌝ }
@@ -121,7 +115,7 @@ pub fn fits_at(p: Advance, v: u32) -> bool
     }
 }
 
-pub fn iso_in_advance_resume(s: &mut [u8; STATE_LEN], p: Advance, v: u32) -> AdvanceNext
+pub fn iso_in_advance_resume(s: &mut State, p: Advance, v: u32) -> AdvanceNext
     requires { ⌜ fitsAt p v ≡ true ⌝ }
     ensures { λ r. ⌜ ((b : List ℕ) → meaning r (view (now (s .exit))) b ≡ denote p v (view (now (s .entry)), b)) ⌝ }
     ensures { λ _. ⌜ saved (now (s .exit)) ≡ saved (now (s .entry)) ⌝ }

@@ -6,7 +6,7 @@ use model_ops::rings::waiting;
 use regs::Access;
 use regs::Dir;
 use regs::Reg;
-use state::STATE_LEN;
+use state::State;
 ghost use mathlib.Core.Path.{_≡_};
 ghost use mathlib.Core.Bool.{true};
 ghost use mathlib.Core.List.{List};
@@ -34,7 +34,7 @@ pub struct Begun {
 }
 
 // The oldest packet, or a zero-length one.
-pub fn start(s: &mut [u8; STATE_LEN], e: u8) -> Begun
+pub fn start(s: &mut State, e: u8) -> Begun
     ensures { λ r. ⌜ ((b : List ℕ) → begun r (view (now (s .exit))) b ≡ go {i = true} (isoInComplete e) (view (now (s .entry))) b) ⌝ }
     ensures { λ _. ⌜ saved (now (s .exit)) ≡ saved (now (s .entry)) ⌝ }
     ensures { λ r. ⌜ Bound r ⌝ }
@@ -53,7 +53,7 @@ pub fn start(s: &mut [u8; STATE_LEN], e: u8) -> Begun
     }
 }
 
-pub fn iso_in_complete(s: &mut [u8; STATE_LEN], e: u8) -> CompleteNext
+pub fn iso_in_complete(s: &mut State, e: u8) -> CompleteNext
     ensures { λ r. ⌜ ((b : List ℕ) → meaning r (view (now (s .exit))) b ≡ go {i = true} (isoInComplete e) (view (now (s .entry))) b) ⌝ }
     ensures { λ _. ⌜ saved (now (s .exit)) ≡ saved (now (s .entry)) ⌝ }
     ensures { λ r. ⌜ Linked r ⌝ }
@@ -64,7 +64,7 @@ pub fn iso_in_complete(s: &mut [u8; STATE_LEN], e: u8) -> CompleteNext
     CompleteNext::Asks(q, p)
 }
 
-fn after_loaded(s: &mut [u8; STATE_LEN], e: u8) -> CompleteNext
+fn after_loaded(s: &mut State, e: u8) -> CompleteNext
     ensures { λ r. ⌜ ((b : List ℕ) → meaning r (view (now (s .exit))) b ≡ denote (Complete.Loaded e) (view (now (s .entry)), b)) ⌝ }
     ensures { λ _. ⌜ saved (now (s .exit)) ≡ saved (now (s .entry)) ⌝ }
     ensures { λ r. ⌜ Linked r ⌝ }
@@ -73,7 +73,7 @@ fn after_loaded(s: &mut [u8; STATE_LEN], e: u8) -> CompleteNext
     CompleteNext::Ends
 }
 
-fn after_sent(s: &[u8; STATE_LEN], e: u8) -> CompleteNext
+fn after_sent(s: &State, e: u8) -> CompleteNext
     ensures { λ r. ⌜ ((b : List ℕ) → meaning r (view (now (s .entry))) b ≡ denote (Complete.Sent e) (view (now (s .entry)), b)) ⌝ }
     ensures { λ r. ⌜ Linked r ⌝ }
 {
@@ -81,7 +81,7 @@ fn after_sent(s: &[u8; STATE_LEN], e: u8) -> CompleteNext
     CompleteNext::Asks(Access::Write(Reg::EpTLen, e, n as u32), Complete::Loaded(e))
 }
 
-pub fn iso_in_complete_resume(s: &mut [u8; STATE_LEN], p: Complete) -> CompleteNext
+pub fn iso_in_complete_resume(s: &mut State, p: Complete) -> CompleteNext
     ensures { λ r. ⌜ ((b : List ℕ) → meaning r (view (now (s .exit))) b ≡ denote p (view (now (s .entry)), b)) ⌝ }
     ensures { λ _. ⌜ saved (now (s .exit)) ≡ saved (now (s .entry)) ⌝ }
     ensures { λ r. ⌜ Linked r ⌝ }

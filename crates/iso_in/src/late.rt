@@ -9,7 +9,7 @@ use crate::iso_in_every;
 use bits::next_endpoint;
 use bits::rest_of;
 use regs::Access;
-use state::STATE_LEN;
+use state::State;
 use state::load_globals;
 ghost use mathlib.Core.Path.{_≡_};
 ghost use mathlib.Core.Bool.{true};
@@ -31,7 +31,7 @@ pub enum LateNext {
 }
 
 // Passes over those that completed in this microframe; it is recorded of each that is reached.
-fn find(s: &mut [u8; STATE_LEN], frame: u16, m: u16) -> Found
+fn find(s: &mut State, frame: u16, m: u16) -> Found
     ensures { λ r. ⌜ ((b : List ℕ) → looked frame r (view (now (s .exit)), b) ≡ walking frame m (view (now (s .entry)), b)) ⌝ }
     ensures { λ _. ⌜ saved (now (s .exit)) ≡ saved (now (s .entry)) ⌝ }
 {
@@ -47,7 +47,7 @@ fn find(s: &mut [u8; STATE_LEN], frame: u16, m: u16) -> Found
     Found::Nothing
 }
 
-fn walk(s: &mut [u8; STATE_LEN], frame: u16, m: u16) -> LateNext
+fn walk(s: &mut State, frame: u16, m: u16) -> LateNext
     ensures { λ r. ⌜ ((b : List ℕ) → meaning frame r (view (now (s .exit))) b ≡ walking frame m (view (now (s .entry)), b)) ⌝ }
     ensures { λ _. ⌜ saved (now (s .exit)) ≡ saved (now (s .entry)) ⌝ }
     ensures { λ r. ⌜ Linked r ⌝ }
@@ -64,7 +64,7 @@ fn walk(s: &mut [u8; STATE_LEN], frame: u16, m: u16) -> LateNext
     }
 }
 
-pub fn begin(s: &mut [u8; STATE_LEN], frame: u16) -> LateNext
+pub fn begin(s: &mut State, frame: u16) -> LateNext
     ensures { λ r. ⌜ ((b : List ℕ) → meaning frame r (view (now (s .exit))) b ≡ go (lateAll frame) (view (now (s .entry))) b) ⌝ }
     ensures { λ _. ⌜ saved (now (s .exit)) ≡ saved (now (s .entry)) ⌝ }
     ensures { λ r. ⌜ Linked r ⌝ }
@@ -73,7 +73,7 @@ pub fn begin(s: &mut [u8; STATE_LEN], frame: u16) -> LateNext
     walk(s, frame, iso_in_every(g))
 }
 
-pub fn resume(s: &mut [u8; STATE_LEN], frame: u16, p: Late) -> LateNext
+pub fn resume(s: &mut State, frame: u16, p: Late) -> LateNext
     ensures { λ r. ⌜ ((b : List ℕ) → meaning frame r (view (now (s .exit))) b ≡ denote frame p (view (now (s .entry)), b)) ⌝ }
     ensures { λ _. ⌜ saved (now (s .exit)) ≡ saved (now (s .entry)) ⌝ }
     ensures { λ r. ⌜ Linked r ⌝ }

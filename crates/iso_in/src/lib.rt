@@ -9,7 +9,7 @@ use bits::mask_except;
 use regs::Dir;
 use regs::enables::in_enabled;
 use state::Globals;
-use state::STATE_LEN;
+use state::State;
 use state::load_ep;
 use state::store_ep;
 ghost use mathlib.Core.Path.{_≡_};
@@ -33,7 +33,7 @@ pub fn iso_in_every(g: Globals) -> u16
 }
 
 // The microframe of an IN's completion is recorded.
-fn record_frame(s: &mut [u8; STATE_LEN], e: u8, frame: u16)
+fn record_frame(s: &mut State, e: u8, frame: u16)
     ensures { λ _. ⌜ view (now (s .exit)) ≡ framedOn (view (now (s .entry))) e frame ⌝ }
     ensures { λ _. ⌜ saved (now (s .exit)) ≡ saved (now (s .entry)) ⌝ }
 {
@@ -43,7 +43,7 @@ fn record_frame(s: &mut [u8; STATE_LEN], e: u8, frame: u16)
 }
 
 // `first_in_frame` (mod.rs 397-403).
-pub fn first_in_frame(s: &mut [u8; STATE_LEN], e: u8, frame: u16) -> bool
+pub fn first_in_frame(s: &mut State, e: u8, frame: u16) -> bool
     ensures { λ r. ⌜ r ≡ isFirst (view (now (s .entry))) e frame ⌝ }
     ensures { λ _. ⌜ view (now (s .exit)) ≡ framedOn (view (now (s .entry))) e frame ⌝ }
     ensures { λ _. ⌜ saved (now (s .exit)) ≡ saved (now (s .entry)) ⌝ }

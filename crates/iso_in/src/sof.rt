@@ -21,7 +21,7 @@ use regs::Reg;
 use regs::mis_status::sie_free;
 use regs::registers::fits;
 use regs::status;
-use state::STATE_LEN;
+use state::State;
 use state::load_ep;
 use state::load_globals;
 use state::store_globals;
@@ -51,7 +51,7 @@ pub enum SofNext {
 }
 
 // Passes over those that completed in the microframe before.
-fn find(s: &[u8; STATE_LEN], frame: u16, m: u16) -> Found
+fn find(s: &State, frame: u16, m: u16) -> Found
     ensures { λ r. ⌜ ((b : List ℕ) → looked frame r (view (now (s .entry)), b) ≡ walking frame m (view (now (s .entry)), b)) ⌝ }
 {
     let mut eps = m;
@@ -68,7 +68,7 @@ fn find(s: &[u8; STATE_LEN], frame: u16, m: u16) -> Found
 }
 
 // After the last endpoint, the callback.
-fn walk(s: &[u8; STATE_LEN], frame: u16, m: u16) -> SofNext
+fn walk(s: &State, frame: u16, m: u16) -> SofNext
     ensures { λ r. ⌜ ((b : List ℕ) → meaning frame r (view (now (s .entry))) b ≡ walking frame m (view (now (s .entry)), b)) ⌝ }
     ensures { λ r. ⌜ Linked r ⌝ }
 {
@@ -85,7 +85,7 @@ fn walk(s: &[u8; STATE_LEN], frame: u16, m: u16) -> SofNext
     }
 }
 
-pub fn on_sof(s: &mut [u8; STATE_LEN], frame: u16) -> SofNext
+pub fn on_sof(s: &mut State, frame: u16) -> SofNext
     ensures { λ r. ⌜ ((b : List ℕ) → meaning frame r (view (now (s .exit))) b ≡ go {i = true} (script.onSof frame) (view (now (s .entry))) b) ⌝ }
     ensures { λ _. ⌜ saved (now (s .exit)) ≡ saved (now (s .entry)) ⌝ }
     ensures { λ r. ⌜ Linked r ⌝ }
@@ -105,7 +105,7 @@ fn frame_before(frame: u16) -> u16
 }
 
 // It completed in the microframe before.
-fn unseen(s: &mut [u8; STATE_LEN], frame: u16, e: u8, m: u16) -> SofNext
+fn unseen(s: &mut State, frame: u16, e: u8, m: u16) -> SofNext
     ensures { λ r. ⌜ ((b : List ℕ) → meaning frame r (view (now (s .exit))) b
         ≡ thenWalk frame m (go {i = true} (script.unseen frame e) (view (now (s .entry))) b)) ⌝ }
     ensures { λ _. ⌜ saved (now (s .exit)) ≡ saved (now (s .entry)) ⌝ }
@@ -118,7 +118,7 @@ fn unseen(s: &mut [u8; STATE_LEN], frame: u16, e: u8, m: u16) -> SofNext
     SofNext::Asks(q, Sof::Completing(m, p))
 }
 
-fn after_mis(s: &mut [u8; STATE_LEN], frame: u16, e: u8, m: u16, v: u32) -> SofNext
+fn after_mis(s: &mut State, frame: u16, e: u8, m: u16, v: u32) -> SofNext
     requires { ⌜ fitsIn v 8 ≡ true ⌝ }
     ensures { λ r. ⌜ ((b : List ℕ) → meaning frame r (view (now (s .exit))) b ≡ denote frame (Sof.Mis e m) v (view (now (s .entry)), b)) ⌝ }
     ensures { λ _. ⌜ saved (now (s .exit)) ≡ saved (now (s .entry)) ⌝ }
@@ -140,7 +140,7 @@ fn leaving(st: u8, e: u8) -> bool
     false
 }
 
-fn after_st(s: &mut [u8; STATE_LEN], frame: u16, e: u8, m: u16, v: u32) -> SofNext
+fn after_st(s: &mut State, frame: u16, e: u8, m: u16, v: u32) -> SofNext
     requires { ⌜ fitsIn v 8 ≡ true ⌝ }
     ensures { λ r. ⌜ ((b : List ℕ) → meaning frame r (view (now (s .exit))) b ≡ denote frame (Sof.St e m) v (view (now (s .entry)), b)) ⌝ }
     ensures { λ _. ⌜ saved (now (s .exit)) ≡ saved (now (s .entry)) ⌝ }
@@ -152,7 +152,7 @@ fn after_st(s: &mut [u8; STATE_LEN], frame: u16, e: u8, m: u16, v: u32) -> SofNe
     unseen(s, frame, e, m)
 }
 
-fn after_completing(s: &mut [u8; STATE_LEN], frame: u16, m: u16, p: Complete) -> SofNext
+fn after_completing(s: &mut State, frame: u16, m: u16, p: Complete) -> SofNext
     ensures { λ r. ⌜ ((v : ℕ) (b : List ℕ) → meaning frame r (view (now (s .exit))) b ≡ denote frame (Sof.Completing m p) v (view (now (s .entry)), b)) ⌝ }
     ensures { λ _. ⌜ saved (now (s .exit)) ≡ saved (now (s .entry)) ⌝ }
     ensures { λ r. ⌜ Linked r ⌝ }
@@ -176,7 +176,7 @@ pub fn fits_at(p: Sof, v: u32) -> bool
     }
 }
 
-pub fn on_sof_resume(s: &mut [u8; STATE_LEN], frame: u16, p: Sof, v: u32) -> SofNext
+pub fn on_sof_resume(s: &mut State, frame: u16, p: Sof, v: u32) -> SofNext
     requires { ⌜ fitsAt p v ≡ true ⌝ }
     ensures { λ r. ⌜ ((b : List ℕ) → meaning frame r (view (now (s .exit))) b ≡ denote frame p v (view (now (s .entry)), b)) ⌝ }
     ensures { λ _. ⌜ saved (now (s .exit)) ≡ saved (now (s .entry)) ⌝ }

@@ -8,7 +8,7 @@ use model_ops::rings::iso_in_enqueue;
 use model_ops::rings::room;
 use regs::Dir;
 use regs::enables;
-use state::STATE_LEN;
+use state::State;
 use state::load_allocator;
 use state::load_ep;
 use state::load_globals;
@@ -21,7 +21,7 @@ ghost use Rattle.iso_out_open_close.specs.Packets.{answered};
 ghost use Rattle.iso_in_queue.specs.Queue.{queueing};
 
 // The packet is copied into the head's slot, where there is room (mod.rs 366-395).
-fn queue_at(s: &mut [u8; STATE_LEN], buf: &mut [u8], e: u8, bytes: &[u8]) -> Packet
+fn queue_at(s: &mut State, buf: &mut [u8], e: u8, bytes: &[u8]) -> Packet
     ensures { λ r. ⌜ answered r (view (now (s .exit))) (now (buf .exit)) ≡ go (queueing e (now (bytes .entry))) (view (now (s .entry))) (now (buf .entry)) ⌝ }
     ensures { λ _. ⌜ saved (now (s .exit)) ≡ saved (now (s .entry)) ⌝ }
 {
@@ -45,7 +45,7 @@ fn queue_at(s: &mut [u8; STATE_LEN], buf: &mut [u8], e: u8, bytes: &[u8]) -> Pac
 }
 
 // `iso_in_prime`.
-pub fn iso_in_prime(s: &mut [u8; STATE_LEN], buf: &mut [u8], e: u32, bytes: &[u8]) -> Packet
+pub fn iso_in_prime(s: &mut State, buf: &mut [u8], e: u32, bytes: &[u8]) -> Packet
     ensures { λ r. ⌜ answered r (view (now (s .exit))) (now (buf .exit))
         ≡ go (queuePacket {i = false} e (now (bytes .entry))) (view (now (s .entry))) (now (buf .entry)) ⌝ }
     ensures { λ _. ⌜ saved (now (s .exit)) ≡ saved (now (s .entry)) ⌝ }

@@ -14,7 +14,7 @@ use regs::registers::fits;
 use regs::status::endpoint;
 use regs::status::is_out;
 use regs::status::tog_ok;
-use state::STATE_LEN;
+use state::State;
 use state::load_globals;
 ghost use mathlib.Core.Path.{_≡_};
 ghost use mathlib.Core.Bool.{Bool, true, false};
@@ -74,7 +74,7 @@ fn entry(x: Transfer, iso: bool, e: u8) -> bool
 }
 
 // The endpoints whose slot is as it was armed are passed over (mod.rs 474-476).
-fn find(s: &[u8; STATE_LEN], buf: &[u8], mask: u16) -> Found
+fn find(s: &State, buf: &[u8], mask: u16) -> Found
     ensures { λ r. ⌜ ((x : Transfer) (iso : Bool) → go (walk x iso mask) (view (now (s .entry))) (now (buf .entry)) ≡ foundAs x iso r (
       view (now (s .entry)),
       now (buf .entry),
@@ -92,7 +92,7 @@ fn find(s: &[u8; STATE_LEN], buf: &[u8], mask: u16) -> Found
 }
 
 // The packet is admitted or turned away, and the head's slot armed (mod.rs 491-508).
-fn arm(s: &mut [u8; STATE_LEN], buf: &mut [u8], e: u8, m: u16, len: u16) -> CheckNext
+fn arm(s: &mut State, buf: &mut [u8], e: u8, m: u16, len: u16) -> CheckNext
     ensures { λ r. ⌜ ((x : Transfer) (iso : Bool) → meaning x iso r (view (now (s .exit))) (now (buf .exit))
         ≡ go (arrival x iso e len m) (view (now (s .entry))) (now (buf .entry))) ⌝ }
     ensures { λ _. ⌜ saved (now (s .exit)) ≡ saved (now (s .entry)) ⌝ }
@@ -103,7 +103,7 @@ fn arm(s: &mut [u8; STATE_LEN], buf: &mut [u8], e: u8, m: u16, len: u16) -> Chec
 }
 
 // Lowest number first; where the interrupt's length is the packet's, no status is read (mod.rs 468-485).
-fn walk_on(s: &mut [u8; STATE_LEN], buf: &mut [u8], x: Transfer, iso: bool, m: u16) -> CheckNext
+fn walk_on(s: &mut State, buf: &mut [u8], x: Transfer, iso: bool, m: u16) -> CheckNext
     ensures { λ r. ⌜ meaning x iso r (view (now (s .exit))) (now (buf .exit)) ≡ go (walk x iso m) (view (now (s .entry))) (now (buf .entry)) ⌝ }
     ensures { λ _. ⌜ saved (now (s .exit)) ≡ saved (now (s .entry)) ⌝ }
     ensures { λ r. ⌜ Linked r ⌝ }
@@ -121,7 +121,7 @@ fn walk_on(s: &mut [u8; STATE_LEN], buf: &mut [u8], x: Transfer, iso: bool, m: u
 }
 
 // A disabled endpoint's slot still holds its last packet: it is not walked (mod.rs 466-467).
-pub fn iso_out_check(s: &mut [u8; STATE_LEN], buf: &mut [u8], x: Transfer, iso: bool) -> CheckNext
+pub fn iso_out_check(s: &mut State, buf: &mut [u8], x: Transfer, iso: bool) -> CheckNext
     ensures { λ r. ⌜ meaning x iso r (view (now (s .exit))) (now (buf .exit)) ≡ go (isoOutCheck {i = true} x iso) (view (now (s .entry))) (now (buf .entry)) ⌝ }
     ensures { λ _. ⌜ saved (now (s .exit)) ≡ saved (now (s .entry)) ⌝ }
     ensures { λ r. ⌜ Linked r ⌝ }
@@ -150,7 +150,7 @@ fn byte(v: u32) -> u8
 
 // While its OUT is the last token the packet may still be arriving; else the marks show its length (mod.rs 482-488).
 fn after_st(
-    s: &mut [u8; STATE_LEN],
+    s: &mut State,
     buf: &mut [u8],
     x: Transfer,
     iso: bool,
@@ -172,14 +172,7 @@ fn after_st(
 }
 
 // The endpoint is woken, and the walk goes on (mod.rs 510).
-fn after_armed(
-    s: &mut [u8; STATE_LEN],
-    buf: &mut [u8],
-    x: Transfer,
-    iso: bool,
-    e: u8,
-    m: u16,
-) -> CheckNext
+fn after_armed(s: &mut State, buf: &mut [u8], x: Transfer, iso: bool, e: u8, m: u16) -> CheckNext
     ensures { λ r. ⌜ ((v : ℕ) → meaning x iso r (view (now (s .exit))) (now (buf .exit)) ≡ denote x iso (Check.Armed e m) v (
       view (now (s .entry)),
       now (buf .entry),
@@ -203,7 +196,7 @@ pub fn fits_at(p: Check, v: u32) -> bool
 
 // The next access of the check that stands at `p`, now that `v` was brought.
 pub fn iso_out_check_resume(
-    s: &mut [u8; STATE_LEN],
+    s: &mut State,
     buf: &mut [u8],
     x: Transfer,
     iso: bool,

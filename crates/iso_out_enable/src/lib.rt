@@ -5,7 +5,7 @@ use model_ops::records::type_step;
 use model_ops_slots::slot_step;
 use regs::Access;
 use regs::Reg;
-use state::STATE_LEN;
+use state::State;
 ghost use mathlib.Core.Path.{_≡_};
 ghost use mathlib.Core.Bool.{cond};
 ghost use Prim.Native.Nat.{_-_, _<_};
@@ -25,7 +25,7 @@ fn switch_word(on: bool) -> u32
 }
 
 // An isochronous OUT (mod.rs 1285-1311): every slot armed from the last, its control word, ep_type, ep_config. `n` of these are left.
-pub fn after_switch(s: &mut [u8; STATE_LEN], buf: &mut [u8], e: u8, on: bool, n: u8) -> Access
+pub fn after_switch(s: &mut State, buf: &mut [u8], e: u8, on: bool, n: u8) -> Access
     requires { ⌜ 0 < n ⌝ }
     ensures { λ r. ⌜ meaning (Next.Asks r (Point.Switch e on (n - 1))) (view (now (s .exit))) (now (buf .exit))
         ≡ switching e on n (view (now (s .entry)), now (buf .entry)) ⌝ }

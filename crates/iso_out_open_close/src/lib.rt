@@ -11,7 +11,7 @@ use model_ops::rings::open_oldest;
 use model_ops::rings::opened;
 use model_ops::rings::waiting;
 use regs::Dir;
-use state::STATE_LEN;
+use state::State;
 use state::load_ep;
 ghost use mathlib.Core.Path.{_≡_};
 ghost use mathlib.Core.Bool.{false};
@@ -30,7 +30,7 @@ pub enum Packet {
 }
 
 // The oldest packet is shown in the ring's slot, which stays its own (mod.rs 257-268).
-fn open_at(s: &mut [u8; STATE_LEN], e: u8) -> Packet
+fn open_at(s: &mut State, e: u8) -> Packet
     ensures { λ r. ⌜ ((b : List ℕ) → answered r (view (now (s .exit))) b ≡ go (opening e) (view (now (s .entry))) b) ⌝ }
     ensures { λ _. ⌜ saved (now (s .exit)) ≡ saved (now (s .entry)) ⌝ }
     ensures { λ r. ⌜ ShownAt r (view (now (s .exit))) e ⌝ }
@@ -50,7 +50,7 @@ fn open_at(s: &mut [u8; STATE_LEN], e: u8) -> Packet
 }
 
 // `iso_out_take`, its first part.
-pub fn iso_out_take(s: &mut [u8; STATE_LEN], buf: &[u8], e: u32) -> Packet
+pub fn iso_out_take(s: &mut State, buf: &[u8], e: u32) -> Packet
     ensures { λ r. ⌜ answered r (view (now (s .exit))) (now (buf .entry)) ≡ go (openPacket {i = false} e) (view (now (s .entry))) (now (buf .entry)) ⌝ }
     ensures { λ _. ⌜ saved (now (s .exit)) ≡ saved (now (s .entry)) ⌝ }
     ensures { λ r. ⌜ ShownAt r (view (now (s .exit))) e ⌝ }
@@ -63,7 +63,7 @@ pub fn iso_out_take(s: &mut [u8; STATE_LEN], buf: &[u8], e: u32) -> Packet
 }
 
 // The open packet's slot goes back to the ring (mod.rs 269).
-fn close_at(s: &mut [u8; STATE_LEN], e: u8) -> Packet
+fn close_at(s: &mut State, e: u8) -> Packet
     ensures { λ r. ⌜ ((b : List ℕ) → answered r (view (now (s .exit))) b ≡ go (closing e) (view (now (s .entry))) b) ⌝ }
     ensures { λ _. ⌜ saved (now (s .exit)) ≡ saved (now (s .entry)) ⌝ }
 {
@@ -75,7 +75,7 @@ fn close_at(s: &mut [u8; STATE_LEN], e: u8) -> Packet
 }
 
 // And its last.
-pub fn iso_out_take_close(s: &mut [u8; STATE_LEN], e: u32) -> Packet
+pub fn iso_out_take_close(s: &mut State, e: u32) -> Packet
     ensures { λ r. ⌜ ((b : List ℕ) → answered r (view (now (s .exit))) b ≡ go (closePacket {i = false} e) (view (now (s .entry))) b) ⌝ }
     ensures { λ _. ⌜ saved (now (s .exit)) ≡ saved (now (s .entry)) ⌝ }
 {

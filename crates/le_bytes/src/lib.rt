@@ -7,6 +7,9 @@ ghost use Rattle.le_bytes.specs.Bytes.{gets, puts, field, digits, number
 // The length of the driver's state.
 pub const STATE_LEN: usize = 2839;
 
+// The bytes that are the state.
+pub type State = [u8; STATE_LEN];
+
 pub struct Bytes5(pub u8, pub u8, pub u8, pub u8, pub u8);
 
 pub struct Words5(pub u16, pub u16, pub u16, pub u16, pub u16);
@@ -23,21 +26,21 @@ fn glue32(lo: u16, hi: u16) -> u32
     lo as u32 + hi as u32 * 65536
 }
 
-pub fn get8(s: &[u8; STATE_LEN], o: usize, k: usize) -> u8
+pub fn get8(s: &State, o: usize, k: usize) -> u8
     requires { ⌜ o + k + 1 ≤ 2839 ⌝ }
     ensures { λ r. ⌜ r ≡ field (now (s .entry)) o k 1 ⌝ }
 {
     s[o + (k + 0)]
 }
 
-pub fn get16(s: &[u8; STATE_LEN], o: usize, k: usize) -> u16
+pub fn get16(s: &State, o: usize, k: usize) -> u16
     requires { ⌜ o + k + 2 ≤ 2839 ⌝ }
     ensures { λ r. ⌜ r ≡ field (now (s .entry)) o k 2 ⌝ }
 {
     glue16(s[o + (k + 0)], s[o + (k + 1)])
 }
 
-pub fn get32(s: &[u8; STATE_LEN], o: usize, k: usize) -> u32
+pub fn get32(s: &State, o: usize, k: usize) -> u32
     requires { ⌜ o + k + 4 ≤ 2839 ⌝ }
     ensures { λ r. ⌜ r ≡ field (now (s .entry)) o k 4 ⌝ }
 {
@@ -47,7 +50,7 @@ pub fn get32(s: &[u8; STATE_LEN], o: usize, k: usize) -> u32
     )
 }
 
-pub fn get8x5(s: &[u8; STATE_LEN], o: usize, k: usize) -> Bytes5
+pub fn get8x5(s: &State, o: usize, k: usize) -> Bytes5
     requires { ⌜ o + k + 5 ≤ 2839 ⌝ }
     ensures { λ r. ⌜ Each (r .0 ∷ r .1 ∷ r .2 ∷ r .3 ∷ r .4 ∷ []) (numbers bytes5 (gets (now (s .entry)) o k 5)) ⌝ }
 {
@@ -60,7 +63,7 @@ pub fn get8x5(s: &[u8; STATE_LEN], o: usize, k: usize) -> Bytes5
     )
 }
 
-pub fn get16x5(s: &[u8; STATE_LEN], o: usize, k: usize) -> Words5
+pub fn get16x5(s: &State, o: usize, k: usize) -> Words5
     requires { ⌜ o + k + 10 ≤ 2839 ⌝ }
     ensures { λ r. ⌜ Each (r .0 ∷ r .1 ∷ r .2 ∷ r .3 ∷ r .4 ∷ []) (numbers words5 (gets (now (s .entry)) o k 10)) ⌝ }
 {
@@ -73,14 +76,14 @@ pub fn get16x5(s: &[u8; STATE_LEN], o: usize, k: usize) -> Words5
     )
 }
 
-pub fn put8(s: &mut [u8; STATE_LEN], o: usize, k: usize, v: u8)
+pub fn put8(s: &mut State, o: usize, k: usize, v: u8)
     requires { ⌜ o + k + 1 ≤ 2839 ⌝ }
     ensures { λ _. ⌜ now (s .exit) ≡ puts (now (s .entry)) o k (digits 1 v) ⌝ }
 {
     s[o + (k + 0)] = v;
 }
 
-pub fn put16(s: &mut [u8; STATE_LEN], o: usize, k: usize, v: u16)
+pub fn put16(s: &mut State, o: usize, k: usize, v: u16)
     requires { ⌜ o + k + 2 ≤ 2839 ⌝ }
     ensures { λ _. ⌜ now (s .exit) ≡ puts (now (s .entry)) o k (digits 2 v) ⌝ }
 {
@@ -88,7 +91,7 @@ pub fn put16(s: &mut [u8; STATE_LEN], o: usize, k: usize, v: u16)
     s[o + (k + 1)] = (v / 256) as u8;
 }
 
-pub fn put32(s: &mut [u8; STATE_LEN], o: usize, k: usize, v: u32)
+pub fn put32(s: &mut State, o: usize, k: usize, v: u32)
     requires { ⌜ o + k + 4 ≤ 2839 ⌝ }
     ensures { λ _. ⌜ now (s .exit) ≡ puts (now (s .entry)) o k (digits 4 v) ⌝ }
 {
@@ -98,7 +101,7 @@ pub fn put32(s: &mut [u8; STATE_LEN], o: usize, k: usize, v: u32)
     s[o + (k + 3)] = (v / 256 / 256 / 256) as u8;
 }
 
-pub fn put8x5(s: &mut [u8; STATE_LEN], o: usize, k: usize, a: u8, b: u8, c: u8, d: u8, e: u8)
+pub fn put8x5(s: &mut State, o: usize, k: usize, a: u8, b: u8, c: u8, d: u8, e: u8)
     requires { ⌜ o + k + 5 ≤ 2839 ⌝ }
     ensures { λ _. ⌜ now (s .exit) ≡ puts (now (s .entry)) o k (bytes bytes5 (a ∷ b ∷ c ∷ d ∷ e ∷ [])) ⌝ }
 {
@@ -109,7 +112,7 @@ pub fn put8x5(s: &mut [u8; STATE_LEN], o: usize, k: usize, a: u8, b: u8, c: u8, 
     s[o + (k + 4)] = e;
 }
 
-pub fn put16x5(s: &mut [u8; STATE_LEN], o: usize, k: usize, a: u16, b: u16, c: u16, d: u16, e: u16)
+pub fn put16x5(s: &mut State, o: usize, k: usize, a: u16, b: u16, c: u16, d: u16, e: u16)
     requires { ⌜ o + k + 10 ≤ 2839 ⌝ }
     ensures { λ _. ⌜ now (s .exit) ≡ puts (now (s .entry)) o k (bytes words5 (a ∷ b ∷ c ∷ d ∷ e ∷ [])) ⌝ }
 {

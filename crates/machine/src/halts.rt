@@ -4,8 +4,8 @@ use crate::saved::nothing;
 use crate::woken::how_many;
 use iso_in::advance::AdvanceNext;
 use regs::Access;
-use state::STATE_LEN;
 use state::Saved;
+use state::State;
 ghost use mathlib.Core.Path.{_≡_};
 ghost use mathlib.Core.Bool.{true};
 ghost use mathlib.Core.List.{List};
@@ -27,7 +27,7 @@ ghost use Rattle.machine.specs.Stands.{Stands, halted, Leads, Ends};
 ghost use Rattle.machine.specs.Rows.{isIdle};
 
 // The operation is under way: it stands where it handed out the access, at a point that is saved with its tag.
-fn asks(s: &mut [u8; STATE_LEN], q: Access, p: Saved, tag: u8) -> Step
+fn asks(s: &mut State, q: Access, p: Saved, tag: u8) -> Step
     ensures { λ r. ⌜ ((u : Suspended) → encode u ≡ withTag tag p → Stands r q u (now (s .entry)) (now (s .exit))) ⌝ }
 {
     let mut c = p;
@@ -37,7 +37,7 @@ fn asks(s: &mut [u8; STATE_LEN], q: Access, p: Saved, tag: u8) -> Step
 }
 
 // An operation has ended with its result: its wake-ups are answered.
-fn ended(s: &mut [u8; STATE_LEN], n: u16) -> Step
+fn ended(s: &mut State, n: u16) -> Step
     ensures { λ r. ⌜ Ends r n (now (s .entry)) (now (s .exit)) ⌝ }
 {
     state::store_saved(s, nothing());
@@ -46,7 +46,7 @@ fn ended(s: &mut [u8; STATE_LEN], n: u16) -> Step
 }
 
 // It goes on, or has ended.
-pub fn suspend_or_end(s: &mut [u8; STATE_LEN], n: driver::Next) -> Step
+pub fn suspend_or_end(s: &mut State, n: driver::Next) -> Step
     requires { ⌜ driver.Linked n ⌝ }
     ensures { λ r. ⌜ Leads r (now (s .exit)) (λ b. halted (driver.meaning n (view (now (s .entry))) b)) ⌝ }
     ensures { λ r. ⌜ Stored r (now (s .exit)) ⌝ }
@@ -58,7 +58,7 @@ pub fn suspend_or_end(s: &mut [u8; STATE_LEN], n: driver::Next) -> Step
 }
 
 // The same of the bus's operations.
-pub fn suspend_or_end_bus(s: &mut [u8; STATE_LEN], n: bus::Next) -> Step
+pub fn suspend_or_end_bus(s: &mut State, n: bus::Next) -> Step
     requires { ⌜ bus.Linked n ⌝ }
     ensures { λ r. ⌜ Leads r (now (s .exit)) (λ b. halted (bus.meaning n (view (now (s .entry))) b)) ⌝ }
     ensures { λ r. ⌜ Stored r (now (s .exit)) ⌝ }
@@ -70,7 +70,7 @@ pub fn suspend_or_end_bus(s: &mut [u8; STATE_LEN], n: bus::Next) -> Step
 }
 
 // The same of the control pipe's.
-pub fn suspend_or_end_control(s: &mut [u8; STATE_LEN], n: control::Next) -> Step
+pub fn suspend_or_end_control(s: &mut State, n: control::Next) -> Step
     requires { ⌜ control.Linked n ⌝ }
     ensures { λ r. ⌜ Leads r (now (s .exit)) (λ b. halted (control.meaning n (view (now (s .entry))) b)) ⌝ }
     ensures { λ r. ⌜ Stored r (now (s .exit)) ⌝ }
@@ -82,7 +82,7 @@ pub fn suspend_or_end_control(s: &mut [u8; STATE_LEN], n: control::Next) -> Step
 }
 
 // A begin of the control pipe's, with nothing under way.
-pub fn begun_control(s: &mut [u8; STATE_LEN], n: control::Begun) -> Step
+pub fn begun_control(s: &mut State, n: control::Begun) -> Step
     requires { ⌜ control.LinkedBegun n × (isIdle (decode (saved (now s))) ≡ true) ⌝ }
     ensures { λ r. ⌜ Leads r (now (s .exit)) (λ b. halts (control.begunAs n (view (now (s .entry))) b)) ⌝ }
     ensures { λ r. ⌜ SavedByAnswer r (now (s .entry)) (now (s .exit)) ⌝ }
@@ -95,7 +95,7 @@ pub fn begun_control(s: &mut [u8; STATE_LEN], n: control::Begun) -> Step
 }
 
 // A poll of the control pipe's, with nothing under way.
-pub fn polled_control(s: &mut [u8; STATE_LEN], n: control::Polled) -> Step
+pub fn polled_control(s: &mut State, n: control::Polled) -> Step
     requires { ⌜ control.LinkedPolled n × (isIdle (decode (saved (now s))) ≡ true) ⌝ }
     ensures { λ r. ⌜ ((out b : List ℕ) → (
       answerOf r out (view (now (s .exit))),
@@ -113,7 +113,7 @@ pub fn polled_control(s: &mut [u8; STATE_LEN], n: control::Polled) -> Step
 }
 
 // The same of reads and writes.
-pub fn suspend_or_end_endpoint(s: &mut [u8; STATE_LEN], n: endpoint::Next) -> Step
+pub fn suspend_or_end_endpoint(s: &mut State, n: endpoint::Next) -> Step
     requires { ⌜ endpoint.Linked n ⌝ }
     ensures { λ r. ⌜ Leads r (now (s .exit)) (λ b. halted (endpoint.meaning n (view (now (s .entry))) b)) ⌝ }
     ensures { λ r. ⌜ Stored r (now (s .exit)) ⌝ }
@@ -125,7 +125,7 @@ pub fn suspend_or_end_endpoint(s: &mut [u8; STATE_LEN], n: endpoint::Next) -> St
 }
 
 // Of a paced advance.
-pub fn suspend_or_end_advance(s: &mut [u8; STATE_LEN], n: AdvanceNext) -> Step
+pub fn suspend_or_end_advance(s: &mut State, n: AdvanceNext) -> Step
     requires { ⌜ advance.Linked n ⌝ }
     ensures { λ r. ⌜ Leads r (now (s .exit)) (λ b. halted (advance.meaning n (view (now (s .entry))) b)) ⌝ }
     ensures { λ r. ⌜ Stored r (now (s .exit)) ⌝ }
@@ -137,7 +137,7 @@ pub fn suspend_or_end_advance(s: &mut [u8; STATE_LEN], n: AdvanceNext) -> Step
 }
 
 // Of an interrupt.
-pub fn suspend_or_end_interrupt(s: &mut [u8; STATE_LEN], n: irq::Next) -> Step
+pub fn suspend_or_end_interrupt(s: &mut State, n: irq::Next) -> Step
     requires { ⌜ handler.Linked n ⌝ }
     ensures { λ r. ⌜ Leads r (now (s .exit)) (λ b. haltsAs true (bindOut (handler.meaning n (view (now (s .entry))) b) (λ k t. run concrete (finish k) t))) ⌝ }
     ensures { λ r. ⌜ Stored r (now (s .exit)) ⌝ }
@@ -149,7 +149,7 @@ pub fn suspend_or_end_interrupt(s: &mut [u8; STATE_LEN], n: irq::Next) -> Step
 }
 
 // A begin of a read or write, with nothing under way.
-pub fn begun_endpoint(s: &mut [u8; STATE_LEN], n: endpoint::Begun) -> Step
+pub fn begun_endpoint(s: &mut State, n: endpoint::Begun) -> Step
     requires { ⌜ endpoint.LinkedBegun n × (isIdle (decode (saved (now s))) ≡ true) ⌝ }
     ensures { λ r. ⌜ Leads r (now (s .exit)) (λ b. halts (endpoint.begunAs n (view (now (s .entry))) b)) ⌝ }
     ensures { λ r. ⌜ SavedByAnswer r (now (s .entry)) (now (s .exit)) ⌝ }

@@ -2,92 +2,92 @@
 use le_bytes::get8;
 use le_bytes::get16;
 use le_bytes::get32;
-use state::STATE_LEN;
+use state::State;
 ghost use mathlib.Core.Path.{_≡_};
 ghost use Rattle.state.specs.State.{saved};
 
 // Where crate `state` has the saved record.
 const SAVED: usize = 2817;
 
-pub fn sub_byte(s: &[u8; STATE_LEN]) -> u8
+pub fn sub_byte(s: &State) -> u8
     ensures { λ r. ⌜ r ≡ saved (now (s .entry)) .sub ⌝ }
 {
     get8(s, SAVED, 1)
 }
 
-pub fn site_byte(s: &[u8; STATE_LEN]) -> u8
+pub fn site_byte(s: &State) -> u8
     ensures { λ r. ⌜ r ≡ saved (now (s .entry)) .site ⌝ }
 {
     get8(s, SAVED, 2)
 }
 
-pub fn flag_byte(s: &[u8; STATE_LEN]) -> u8
+pub fn flag_byte(s: &State) -> u8
     ensures { λ r. ⌜ r ≡ saved (now (s .entry)) .flag ⌝ }
 {
     get8(s, SAVED, 3)
 }
 
-pub fn busy_byte(s: &[u8; STATE_LEN]) -> u8
+pub fn busy_byte(s: &State) -> u8
     ensures { λ r. ⌜ r ≡ saved (now (s .entry)) .busy ⌝ }
 {
     get8(s, SAVED, 4)
 }
 
-pub fn late_byte(s: &[u8; STATE_LEN]) -> u8
+pub fn late_byte(s: &State) -> u8
     ensures { λ r. ⌜ r ≡ saved (now (s .entry)) .late ⌝ }
 {
     get8(s, SAVED, 5)
 }
 
-pub fn len_ok_byte(s: &[u8; STATE_LEN]) -> u8
+pub fn len_ok_byte(s: &State) -> u8
     ensures { λ r. ⌜ r ≡ saved (now (s .entry)) .«len_ok» ⌝ }
 {
     get8(s, SAVED, 6)
 }
 
-pub fn st_byte(s: &[u8; STATE_LEN]) -> u8
+pub fn st_byte(s: &State) -> u8
     ensures { λ r. ⌜ r ≡ saved (now (s .entry)) .st ⌝ }
 {
     get8(s, SAVED, 7)
 }
 
-pub fn now_byte(s: &[u8; STATE_LEN]) -> u8
+pub fn now_byte(s: &State) -> u8
     ensures { λ r. ⌜ r ≡ saved (now (s .entry)) .now ⌝ }
 {
     get8(s, SAVED, 8)
 }
 
-pub fn ep_byte(s: &[u8; STATE_LEN]) -> u8
+pub fn ep_byte(s: &State) -> u8
     ensures { λ r. ⌜ r ≡ saved (now (s .entry)) .ep ⌝ }
 {
     get8(s, SAVED, 9)
 }
 
-pub fn len_word(s: &[u8; STATE_LEN]) -> u16
+pub fn len_word(s: &State) -> u16
     ensures { λ r. ⌜ r ≡ saved (now (s .entry)) .len ⌝ }
 {
     get16(s, SAVED, 10)
 }
 
-pub fn frame_word(s: &[u8; STATE_LEN]) -> u16
+pub fn frame_word(s: &State) -> u16
     ensures { λ r. ⌜ r ≡ saved (now (s .entry)) .frame ⌝ }
 {
     get16(s, SAVED, 12)
 }
 
-pub fn eps_word(s: &[u8; STATE_LEN]) -> u16
+pub fn eps_word(s: &State) -> u16
     ensures { λ r. ⌜ r ≡ saved (now (s .entry)) .eps ⌝ }
 {
     get16(s, SAVED, 14)
 }
 
-pub fn n_word(s: &[u8; STATE_LEN]) -> u16
+pub fn n_word(s: &State) -> u16
     ensures { λ r. ⌜ r ≡ saved (now (s .entry)) .n ⌝ }
 {
     get16(s, SAVED, 16)
 }
 
-pub fn value_word(s: &[u8; STATE_LEN]) -> u32
+pub fn value_word(s: &State) -> u32
     ensures { λ r. ⌜ r ≡ saved (now (s .entry)) .value ⌝ }
 {
     get32(s, SAVED, 18)

@@ -1,5 +1,5 @@
-use state::STATE_LEN;
 use state::Saved;
+use state::State;
 ghost use mathlib.Core.Path.{_≡_};
 ghost use Rattle.state.specs.State.{saved};
 ghost use Rattle.state.specs.Fresh.{nothing};
@@ -8,7 +8,7 @@ ghost use Rattle.machine.specs.Rows.{isIdle, mayPass};
 
 // Whose point is saved: the driver's (1), the bus's (2), the control pipe's (3), a read's or write's (4), a paced advance's (5), an interrupt's (6). At
 // any other number nothing is under way.
-pub fn tag(s: &[u8; STATE_LEN]) -> u8
+pub fn tag(s: &State) -> u8
     ensures { λ r. ⌜ r ≡ saved (now (s .entry)) .tag ⌝ }
 {
     let c = state::load_saved(s);
@@ -16,7 +16,7 @@ pub fn tag(s: &[u8; STATE_LEN]) -> u8
 }
 
 // Is nothing under way? (row 3 turned round)
-pub fn is_idle(s: &[u8; STATE_LEN]) -> bool
+pub fn is_idle(s: &State) -> bool
     ensures { λ r. ⌜ r ≡ isIdle (decode (saved (now (s .entry)))) ⌝ }
 {
     let t = tag(s);
@@ -27,7 +27,7 @@ pub fn is_idle(s: &[u8; STATE_LEN]) -> bool
 }
 
 // May a packet be opened, closed or queued? Nothing is under way, or an interrupt is: the call falls between two of its accesses.
-pub fn may_pass(s: &[u8; STATE_LEN]) -> bool
+pub fn may_pass(s: &State) -> bool
     ensures { λ r. ⌜ r ≡ mayPass (decode (saved (now (s .entry)))) ⌝ }
 {
     let t = tag(s);

@@ -1,12 +1,12 @@
 use crate::saved::is_idle;
-use state::STATE_LEN;
+use state::State;
 ghost use mathlib.Core.Path.{_≡_};
 ghost use Rattle.state.specs.State.{view, saved};
 ghost use Rattle.machine.specs.Suspended.{decode, slotsFit};
 ghost use Rattle.machine.specs.Rows.{isIdle, stopOf};
 
 // Is the lent buffer as long as the driver's buffers? (row 1 turned round)
-pub fn slots_fit(s: &[u8; STATE_LEN], slots: &[u8]) -> bool
+pub fn slots_fit(s: &State, slots: &[u8]) -> bool
     ensures { λ r. ⌜ r ≡ slotsFit (view (now (s .entry))) (now (slots .entry)) ⌝ }
 {
     let a = state::load_allocator(s);
@@ -15,7 +15,7 @@ pub fn slots_fit(s: &[u8; STATE_LEN], slots: &[u8]) -> bool
 
 // The row that stops a call which wants the driver at a stage (1 after start-up, 2 after EP0's start): 3, an operation is under way; 4, it is at
 // another stage; 0, neither.
-pub fn stop(s: &[u8; STATE_LEN], stage: u8) -> u8
+pub fn stop(s: &State, stage: u8) -> u8
     ensures { λ r. ⌜ r ≡ stopOf (isIdle (decode (saved (now (s .entry))))) stage (view (now (s .entry)) .globals .stage) ⌝ }
 {
     if is_idle(s) {

@@ -1,4 +1,4 @@
-use state::STATE_LEN;
+use state::State;
 ghost use mathlib.Core.Path.{_≡_};
 ghost use Prim.Native.Nat.{_≤_};
 ghost use lib.ListN.{length};
@@ -6,7 +6,7 @@ ghost use Rattle.state.specs.State.{view};
 ghost use Rattle.state.specs.Wakes.{listed};
 
 // How many wake-ups the state's list has: at most 64, whatever its bytes are.
-pub fn how_many(s: &[u8; STATE_LEN]) -> u8
+pub fn how_many(s: &State) -> u8
     ensures { λ r. ⌜ r ≡ length (listed (view (now (s .entry)) .wakes)) ⌝ }
     ensures { λ r. ⌜ r ≤ 64 ⌝ }
 {

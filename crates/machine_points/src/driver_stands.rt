@@ -4,7 +4,7 @@ use crate::stands::stand;
 use bus::flag_of;
 use machine::Step;
 use regs::Access;
-use state::STATE_LEN;
+use state::State;
 ghost use Rattle.driver.specs.declared.Point.the-variants as Point;
 ghost use Rattle.machine.specs.declared.Suspended.the-variants as Under;
 ghost use Rattle.machine.specs.Stands.{Stands};
@@ -13,77 +13,77 @@ ghost use Rattle.machine.specs.Stands.{Stands};
 const TAG: u8 = 1;
 
 // The wait; with the callback, as the next four.
-pub fn stand_wait(s: &mut [u8; STATE_LEN], q: Access, on: bool) -> Step
+pub fn stand_wait(s: &mut State, q: Access, on: bool) -> Step
     ensures { λ r. ⌜ Stands r q (Under.Driver (Point.Wait on)) (now (s .entry)) (now (s .exit)) ⌝ }
 {
     stand(s, q, code(TAG, 1, 0, flag_of(on), 0, 0, 0))
 }
 
 // Ctrl is read.
-pub fn stand_reset(s: &mut [u8; STATE_LEN], q: Access, on: bool) -> Step
+pub fn stand_reset(s: &mut State, q: Access, on: bool) -> Step
     ensures { λ r. ⌜ Stands r q (Under.Driver (Point.Reset on)) (now (s .entry)) (now (s .exit)) ⌝ }
 {
     stand(s, q, code(TAG, 2, 0, flag_of(on), 0, 0, 0))
 }
 
 // The reset is ended.
-pub fn stand_reset_end(s: &mut [u8; STATE_LEN], q: Access, on: bool) -> Step
+pub fn stand_reset_end(s: &mut State, q: Access, on: bool) -> Step
     ensures { λ r. ⌜ Stands r q (Under.Driver (Point.ResetEnd on)) (now (s .entry)) (now (s .exit)) ⌝ }
 {
     stand(s, q, code(TAG, 3, 0, flag_of(on), 0, 0, 0))
 }
 
 // Host_ctrl is written.
-pub fn stand_host(s: &mut [u8; STATE_LEN], q: Access, on: bool) -> Step
+pub fn stand_host(s: &mut State, q: Access, on: bool) -> Step
     ensures { λ r. ⌜ Stands r q (Under.Driver (Point.Host on)) (now (s .entry)) (now (s .exit)) ⌝ }
 {
     stand(s, q, code(TAG, 4, 0, flag_of(on), 0, 0, 0))
 }
 
 // Ctrl is.
-pub fn stand_run(s: &mut [u8; STATE_LEN], q: Access, on: bool) -> Step
+pub fn stand_run(s: &mut State, q: Access, on: bool) -> Step
     ensures { λ r. ⌜ Stands r q (Under.Driver (Point.Run on)) (now (s .entry)) (now (s .exit)) ⌝ }
 {
     stand(s, q, code(TAG, 5, 0, flag_of(on), 0, 0, 0))
 }
 
 // Int_en is.
-pub fn stand_int_en(s: &mut [u8; STATE_LEN], q: Access) -> Step
+pub fn stand_int_en(s: &mut State, q: Access) -> Step
     ensures { λ r. ⌜ Stands r q (Under.Driver Point.IntEn) (now (s .entry)) (now (s .exit)) ⌝ }
 {
     stand(s, q, code(TAG, 6, 0, 0, 0, 0, 0))
 }
 
 // A new endpoint's address is.
-pub fn stand_place(s: &mut [u8; STATE_LEN], q: Access, ep: u8) -> Step
+pub fn stand_place(s: &mut State, q: Access, ep: u8) -> Step
     ensures { λ r. ⌜ Stands r q (Under.Driver (Point.Place ep)) (now (s .entry)) (now (s .exit)) ⌝ }
 {
     stand(s, q, code(TAG, 8, 0, 0, 0, 0, ep))
 }
 
 // EP0's maximum is.
-pub fn stand_ep0_max_len(s: &mut [u8; STATE_LEN], q: Access) -> Step
+pub fn stand_ep0_max_len(s: &mut State, q: Access) -> Step
     ensures { λ r. ⌜ Stands r q (Under.Driver Point.Ep0MaxLen) (now (s .entry)) (now (s .exit)) ⌝ }
 {
     stand(s, q, code(TAG, 10, 0, 0, 0, 0, 0))
 }
 
 // Its OUT answers NAK.
-pub fn stand_ep0_rx(s: &mut [u8; STATE_LEN], q: Access) -> Step
+pub fn stand_ep0_rx(s: &mut State, q: Access) -> Step
     ensures { λ r. ⌜ Stands r q (Under.Driver Point.Ep0Rx) (now (s .entry)) (now (s .exit)) ⌝ }
 {
     stand(s, q, code(TAG, 11, 0, 0, 0, 0, 0))
 }
 
 // Its IN does.
-pub fn stand_ep0_tx(s: &mut [u8; STATE_LEN], q: Access) -> Step
+pub fn stand_ep0_tx(s: &mut State, q: Access) -> Step
     ensures { λ r. ⌜ Stands r q (Under.Driver Point.Ep0Tx) (now (s .entry)) (now (s .exit)) ⌝ }
 {
     stand(s, q, code(TAG, 12, 0, 0, 0, 0, 0))
 }
 
 // Its packet's maximum is written.
-pub fn stand_ep0_packet(s: &mut [u8; STATE_LEN], q: Access) -> Step
+pub fn stand_ep0_packet(s: &mut State, q: Access) -> Step
     ensures { λ r. ⌜ Stands r q (Under.Driver Point.Ep0Packet) (now (s .entry)) (now (s .exit)) ⌝ }
 {
     stand(s, q, code(TAG, 13, 0, 0, 0, 0, 0))

@@ -5,34 +5,34 @@ use machine::loads::flag_byte;
 use machine::loads::site_byte;
 use model_ops::rings::is_on;
 use regs::Dir;
-use state::STATE_LEN;
+use state::State;
 ghost use mathlib.Core.Path.{_≡_};
 ghost use Rattle.state.specs.State.{saved};
 ghost use Rattle.model.specs.Statics.{isOn};
 ghost use Rattle.irq_codec.specs.Codec.{dirOf};
 
 // Is the endpoint enabled, is there a callback, is the packet its stage's first?
-pub fn on_at(s: &[u8; STATE_LEN]) -> bool
+pub fn on_at(s: &State) -> bool
     ensures { λ r. ⌜ r ≡ isOn (saved (now (s .entry)) .flag) ⌝ }
 {
     is_on(flag_byte(s))
 }
 
 // Is the endpoint isochronous, or the bus suspended?
-pub fn iso_at(s: &[u8; STATE_LEN]) -> bool
+pub fn iso_at(s: &State) -> bool
     ensures { λ r. ⌜ r ≡ isOn (saved (now (s .entry)) .busy) ⌝ }
 {
     is_on(busy_byte(s))
 }
 
-pub fn dir_at(s: &[u8; STATE_LEN]) -> Dir
+pub fn dir_at(s: &State) -> Dir
     ensures { λ r. ⌜ r ≡ dirOf (saved (now (s .entry)) .site) ⌝ }
 {
     dir_of(site_byte(s))
 }
 
 // Of the driver's own points.
-pub fn flag_dir_at(s: &[u8; STATE_LEN]) -> Dir
+pub fn flag_dir_at(s: &State) -> Dir
     ensures { λ r. ⌜ r ≡ dirOf (saved (now (s .entry)) .flag) ⌝ }
 {
     dir_of(flag_byte(s))

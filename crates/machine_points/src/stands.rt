@@ -4,8 +4,8 @@ use machine::Step;
 use machine::saved::nothing;
 use machine::woken::how_many;
 use regs::Access;
-use state::STATE_LEN;
 use state::Saved;
+use state::State;
 use state::store_saved;
 ghost use mathlib.Core.Path.{_≡_};
 ghost use mathlib.Core.List.{List};
@@ -40,7 +40,7 @@ pub fn code(tag: u8, sub: u8, site: u8, flag: u8, busy: u8, st: u8, ep: u8) -> S
 }
 
 // What is saved of a point, with its tag.
-pub fn stand(s: &mut [u8; STATE_LEN], q: Access, c: Saved) -> Step
+pub fn stand(s: &mut State, q: Access, c: Saved) -> Step
     ensures { λ r. ⌜ (r ≡ Step.Asks q) × ((view (now (s .exit)) ≡ view (now (s .entry))) × (saved (now (s .exit)) ≡ c)) ⌝ }
 {
     store_saved(s, c);
@@ -48,7 +48,7 @@ pub fn stand(s: &mut [u8; STATE_LEN], q: Access, c: Saved) -> Step
 }
 
 // The operation has ended with its result: nothing is under way, and its wake-ups are answered.
-pub fn stop(s: &mut [u8; STATE_LEN], n: u16) -> Step
+pub fn stop(s: &mut State, n: u16) -> Step
     ensures { λ r. ⌜ Ends r n (now (s .entry)) (now (s .exit)) ⌝ }
 {
     store_saved(s, nothing());

@@ -35,7 +35,7 @@ use machine_resume_op::resume_bus;
 use machine_resume_op::resume_control;
 use machine_resume_op::resume_driver;
 use machine_resume_op::resume_endpoint;
-use state::STATE_LEN;
+use state::State;
 ghost use mathlib.Core.Path.{_≡_};
 ghost use mathlib.Core.List.{List, []};
 ghost use Prim.Native.Nat.{ℕ};
@@ -48,7 +48,7 @@ ghost use Rattle.irq_points.specs.Stands.{PinsFrom, ResumesByWord};
 
 // Goes on at an interrupt's point: the one dispatch on what is saved. Each arm is a call and nothing after it, and answers
 // its own word.
-fn resume_interrupt(s: &mut [u8; STATE_LEN], slots: &mut [u8], v: u32) -> u64
+fn resume_interrupt(s: &mut State, slots: &mut [u8], v: u32) -> u64
     requires { ⌜ saved (now s) .tag ≡ 6 ⌝ }
     ensures { λ r. ⌜ ResumesByWord r v (now (s .entry)) (now (slots .entry)) (now (s .exit)) (now (slots .exit)) ⌝ }
 {
@@ -84,7 +84,7 @@ fn resume_interrupt(s: &mut [u8; STATE_LEN], slots: &mut [u8], v: u32) -> u64
 }
 
 // Goes on at any other operation's point.
-fn resume_at(s: &mut [u8; STATE_LEN], slots: &mut [u8], v: u32) -> Step
+fn resume_at(s: &mut State, slots: &mut [u8], v: u32) -> Step
     requires { ⌜ (saved (now s) .tag ≡ 6 → ⊥) ⌝ }
     ensures { λ r. ⌜ Resumes r v (now (s .entry)) (now (slots .entry)) (now (s .exit)) (now (slots .exit)) ⌝ }
 {
@@ -99,7 +99,7 @@ fn resume_at(s: &mut [u8; STATE_LEN], slots: &mut [u8], v: u32) -> Step
 }
 
 // Goes on with the interrupt under way, with the number brought; the slots are as long as the driver's buffers.
-pub fn interrupt(s: &mut [u8; STATE_LEN], slots: &mut [u8], v: u32) -> u64
+pub fn interrupt(s: &mut State, slots: &mut [u8], v: u32) -> u64
     requires { ⌜ saved (now s) .tag ≡ 6 ⌝ }
     ensures { λ r. ⌜ ((a : List ℕ) → (
       answerOf (stepOf r) [] (view (now (s .exit))),
@@ -115,7 +115,7 @@ pub fn interrupt(s: &mut [u8; STATE_LEN], slots: &mut [u8], v: u32) -> u64
 }
 
 // Goes on with any other operation, or with none.
-pub fn operation(s: &mut [u8; STATE_LEN], slots: &mut [u8], v: u32) -> Step
+pub fn operation(s: &mut State, slots: &mut [u8], v: u32) -> Step
     requires { ⌜ (saved (now s) .tag ≡ 6 → ⊥) ⌝ }
     ensures { λ r. ⌜ ((a : List ℕ) → (
       answerOf r [] (view (now (s .exit))),

@@ -52,7 +52,7 @@ use regs::Reg;
 use regs::flags;
 use regs::mis_status;
 use regs::registers::fits;
-use state::STATE_LEN;
+use state::State;
 ghost use mathlib.Core.Path.{_≡_};
 ghost use mathlib.Core.List.{List};
 ghost use Prim.Native.Nat.{ℕ};
@@ -63,7 +63,7 @@ ghost use Rattle.machine.specs.Suspended.{decode};
 ghost use Rattle.machine.specs.Stands.{AtNumber, Resumes};
 
 // Ctrl is read.
-pub fn resume_enable(s: &mut [u8; STATE_LEN], v: u32) -> Step
+pub fn resume_enable(s: &mut State, v: u32) -> Step
     requires { ⌜ decode (saved (now s)) ≡ Under.Bus Point.Enable ⌝ }
     ensures { λ r. ⌜ ((b : List ℕ) → Resumes r v (now (s .entry)) b (now (s .exit)) b) ⌝ }
 {
@@ -75,7 +75,7 @@ pub fn resume_enable(s: &mut [u8; STATE_LEN], v: u32) -> Step
 }
 
 // The last access is made.
-pub fn resume_event(s: &mut [u8; STATE_LEN]) -> Step
+pub fn resume_event(s: &mut State) -> Step
     requires { ⌜ AtNumber 2 1 (now s) ⌝ }
     ensures { λ r. ⌜ ((v : ℕ) (b : List ℕ) → Resumes r v (now (s .entry)) b (now (s .exit)) b) ⌝ }
 {
@@ -84,7 +84,7 @@ pub fn resume_event(s: &mut [u8; STATE_LEN]) -> Step
 }
 
 // A control word is read, to be asked.
-pub fn resume_stalled(s: &mut [u8; STATE_LEN], v: u32) -> Step
+pub fn resume_stalled(s: &mut State, v: u32) -> Step
     requires { ⌜ AtNumber 2 2 (now s) ⌝ }
     ensures { λ r. ⌜ ((b : List ℕ) → Resumes r v (now (s .entry)) b (now (s .exit)) b) ⌝ }
 {
@@ -96,7 +96,7 @@ pub fn resume_stalled(s: &mut [u8; STATE_LEN], v: u32) -> Step
 }
 
 // Ep_t_len is 0.
-pub fn resume_stall_len(s: &mut [u8; STATE_LEN]) -> Step
+pub fn resume_stall_len(s: &mut State) -> Step
     requires { ⌜ AtNumber 2 3 (now s) ⌝ }
     ensures { λ r. ⌜ ((v : ℕ) (b : List ℕ) → Resumes r v (now (s .entry)) b (now (s .exit)) b) ⌝ }
 {
@@ -106,7 +106,7 @@ pub fn resume_stall_len(s: &mut [u8; STATE_LEN]) -> Step
 }
 
 // A control word is read, to be stalled.
-pub fn resume_stall_word(s: &mut [u8; STATE_LEN], v: u32) -> Step
+pub fn resume_stall_word(s: &mut State, v: u32) -> Step
     requires { ⌜ AtNumber 2 4 (now s) ⌝ }
     ensures { λ r. ⌜ ((b : List ℕ) → Resumes r v (now (s .entry)) b (now (s .exit)) b) ⌝ }
 {
@@ -120,7 +120,7 @@ pub fn resume_stall_word(s: &mut [u8; STATE_LEN], v: u32) -> Step
 }
 
 // An IN's control word is restarted.
-pub fn resume_restarted(s: &mut [u8; STATE_LEN]) -> Step
+pub fn resume_restarted(s: &mut State) -> Step
     requires { ⌜ AtNumber 2 5 (now s) ⌝ }
     ensures { λ r. ⌜ ((v : ℕ) (b : List ℕ) → Resumes r v (now (s .entry)) b (now (s .exit)) b) ⌝ }
 {
@@ -131,7 +131,7 @@ pub fn resume_restarted(s: &mut [u8; STATE_LEN]) -> Step
 }
 
 // The last access is made; the endpoint is woken.
-pub fn resume_woken(s: &mut [u8; STATE_LEN]) -> Step
+pub fn resume_woken(s: &mut State) -> Step
     requires { ⌜ AtNumber 2 6 (now s) ⌝ }
     ensures { λ r. ⌜ ((v : ℕ) (b : List ℕ) → Resumes r v (now (s .entry)) b (now (s .exit)) b) ⌝ }
 {
@@ -142,7 +142,7 @@ pub fn resume_woken(s: &mut [u8; STATE_LEN]) -> Step
 }
 
 // Int_fg is read: `poll` (mod.rs 1231-1266).
-pub fn resume_flags(s: &mut [u8; STATE_LEN], v: u32) -> Step
+pub fn resume_flags(s: &mut State, v: u32) -> Step
     requires { ⌜ AtNumber 2 7 (now s) ⌝ }
     ensures { λ r. ⌜ ((b : List ℕ) → Resumes r v (now (s .entry)) b (now (s .exit)) b) ⌝ }
 {
@@ -160,7 +160,7 @@ pub fn resume_flags(s: &mut [u8; STATE_LEN], v: u32) -> Step
 }
 
 // Mis_st is read.
-pub fn resume_status(s: &mut [u8; STATE_LEN], v: u32) -> Step
+pub fn resume_status(s: &mut State, v: u32) -> Step
     requires { ⌜ AtNumber 2 8 (now s) ⌝ }
     ensures { λ r. ⌜ ((b : List ℕ) → Resumes r v (now (s .entry)) b (now (s .exit)) b) ⌝ }
 {
@@ -172,7 +172,7 @@ pub fn resume_status(s: &mut [u8; STATE_LEN], v: u32) -> Step
 }
 
 // The suspend flag is cleared.
-pub fn resume_released(s: &mut [u8; STATE_LEN]) -> Step
+pub fn resume_released(s: &mut State) -> Step
     requires { ⌜ AtNumber 2 9 (now s) ⌝ }
     ensures { λ r. ⌜ ((v : ℕ) (b : List ℕ) → Resumes r v (now (s .entry)) b (now (s .exit)) b) ⌝ }
 {
@@ -185,7 +185,7 @@ pub fn resume_released(s: &mut [u8; STATE_LEN]) -> Step
 }
 
 // Dev_ad is 0: `bus_reset` (mod.rs 1187-1221).
-pub fn resume_address(s: &mut [u8; STATE_LEN]) -> Step
+pub fn resume_address(s: &mut State) -> Step
     requires { ⌜ AtNumber 2 10 (now s) ⌝ }
     ensures { λ r. ⌜ ((v : ℕ) (b : List ℕ) → Resumes r v (now (s .entry)) b (now (s .exit)) b) ⌝ }
 {
@@ -194,7 +194,7 @@ pub fn resume_address(s: &mut [u8; STATE_LEN]) -> Step
 }
 
 // EP0's OUT answers ACK.
-pub fn resume_ep0_out(s: &mut [u8; STATE_LEN]) -> Step
+pub fn resume_ep0_out(s: &mut State) -> Step
     requires { ⌜ AtNumber 2 11 (now s) ⌝ }
     ensures { λ r. ⌜ ((v : ℕ) (b : List ℕ) → Resumes r v (now (s .entry)) b (now (s .exit)) b) ⌝ }
 {
@@ -203,7 +203,7 @@ pub fn resume_ep0_out(s: &mut [u8; STATE_LEN]) -> Step
 }
 
 // IN e answers NAK.
-pub fn resume_nak_in(s: &mut [u8; STATE_LEN]) -> Step
+pub fn resume_nak_in(s: &mut State) -> Step
     requires { ⌜ AtNumber 2 12 (now s) ⌝ }
     ensures { λ r. ⌜ ((v : ℕ) (b : List ℕ) → Resumes r v (now (s .entry)) b (now (s .exit)) b) ⌝ }
 {
@@ -213,7 +213,7 @@ pub fn resume_nak_in(s: &mut [u8; STATE_LEN]) -> Step
 }
 
 // Endpoint e answers NAK.
-pub fn resume_naked(s: &mut [u8; STATE_LEN]) -> Step
+pub fn resume_naked(s: &mut State) -> Step
     requires { ⌜ AtNumber 2 13 (now s) ⌝ }
     ensures { λ r. ⌜ ((v : ℕ) (b : List ℕ) → Resumes r v (now (s .entry)) b (now (s .exit)) b) ⌝ }
 {
@@ -227,7 +227,7 @@ pub fn resume_naked(s: &mut [u8; STATE_LEN]) -> Step
 }
 
 // Ep_config is 0.
-pub fn resume_disabled(s: &mut [u8; STATE_LEN]) -> Step
+pub fn resume_disabled(s: &mut State) -> Step
     requires { ⌜ AtNumber 2 14 (now s) ⌝ }
     ensures { λ r. ⌜ ((v : ℕ) (b : List ℕ) → Resumes r v (now (s .entry)) b (now (s .exit)) b) ⌝ }
 {
@@ -236,7 +236,7 @@ pub fn resume_disabled(s: &mut [u8; STATE_LEN]) -> Step
 }
 
 // Ep_type is.
-pub fn resume_untyped(s: &mut [u8; STATE_LEN]) -> Step
+pub fn resume_untyped(s: &mut State) -> Step
     requires { ⌜ AtNumber 2 15 (now s) ⌝ }
     ensures { λ r. ⌜ ((v : ℕ) (b : List ℕ) → Resumes r v (now (s .entry)) b (now (s .exit)) b) ⌝ }
 {
@@ -245,7 +245,7 @@ pub fn resume_untyped(s: &mut [u8; STATE_LEN]) -> Step
 }
 
 // Ep_buf_mod is.
-pub fn resume_single(s: &mut [u8; STATE_LEN]) -> Step
+pub fn resume_single(s: &mut State) -> Step
     requires { ⌜ AtNumber 2 16 (now s) ⌝ }
     ensures { λ r. ⌜ ((v : ℕ) (b : List ℕ) → Resumes r v (now (s .entry)) b (now (s .exit)) b) ⌝ }
 {
@@ -254,7 +254,7 @@ pub fn resume_single(s: &mut [u8; STATE_LEN]) -> Step
 }
 
 // The reset flag is cleared.
-pub fn resume_reset(s: &mut [u8; STATE_LEN]) -> Step
+pub fn resume_reset(s: &mut State) -> Step
     requires { ⌜ AtNumber 2 17 (now s) ⌝ }
     ensures { λ r. ⌜ ((v : ℕ) (b : List ℕ) → Resumes r v (now (s .entry)) b (now (s .exit)) b) ⌝ }
 {
@@ -263,7 +263,7 @@ pub fn resume_reset(s: &mut [u8; STATE_LEN]) -> Step
 }
 
 // An OUT's address is set: `endpoint_set_enabled` (mod.rs 1268-1330).
-pub fn resume_placed_out(s: &mut [u8; STATE_LEN]) -> Step
+pub fn resume_placed_out(s: &mut State) -> Step
     requires { ⌜ AtNumber 2 18 (now s) ⌝ }
     ensures { λ r. ⌜ ((v : ℕ) (b : List ℕ) → Resumes r v (now (s .entry)) b (now (s .exit)) b) ⌝ }
 {
@@ -274,7 +274,7 @@ pub fn resume_placed_out(s: &mut [u8; STATE_LEN]) -> Step
 }
 
 // An IN's.
-pub fn resume_placed_in(s: &mut [u8; STATE_LEN]) -> Step
+pub fn resume_placed_in(s: &mut State) -> Step
     requires { ⌜ AtNumber 2 19 (now s) ⌝ }
     ensures { λ r. ⌜ ((v : ℕ) (b : List ℕ) → Resumes r v (now (s .entry)) b (now (s .exit)) b) ⌝ }
 {
@@ -286,7 +286,7 @@ pub fn resume_placed_in(s: &mut [u8; STATE_LEN]) -> Step
 }
 
 // Ep_t_len is 0.
-pub fn resume_no_length(s: &mut [u8; STATE_LEN]) -> Step
+pub fn resume_no_length(s: &mut State) -> Step
     requires { ⌜ AtNumber 2 20 (now s) ⌝ }
     ensures { λ r. ⌜ ((v : ℕ) (b : List ℕ) → Resumes r v (now (s .entry)) b (now (s .exit)) b) ⌝ }
 {
@@ -298,7 +298,7 @@ pub fn resume_no_length(s: &mut [u8; STATE_LEN]) -> Step
 }
 
 // The control word is set.
-pub fn resume_words(s: &mut [u8; STATE_LEN]) -> Step
+pub fn resume_words(s: &mut State) -> Step
     requires { ⌜ AtNumber 2 21 (now s) ⌝ }
     ensures { λ r. ⌜ ((v : ℕ) (b : List ℕ) → Resumes r v (now (s .entry)) b (now (s .exit)) b) ⌝ }
 {
@@ -311,7 +311,7 @@ pub fn resume_words(s: &mut [u8; STATE_LEN]) -> Step
 }
 
 // Ep_type is set.
-pub fn resume_typed(s: &mut [u8; STATE_LEN]) -> Step
+pub fn resume_typed(s: &mut State) -> Step
     requires { ⌜ AtNumber 2 22 (now s) ⌝ }
     ensures { λ r. ⌜ ((v : ℕ) (b : List ℕ) → Resumes r v (now (s .entry)) b (now (s .exit)) b) ⌝ }
 {
@@ -323,7 +323,7 @@ pub fn resume_typed(s: &mut [u8; STATE_LEN]) -> Step
 }
 
 // In the row of an isochronous OUT.
-pub fn resume_switch(s: &mut [u8; STATE_LEN], slots: &mut [u8]) -> Step
+pub fn resume_switch(s: &mut State, slots: &mut [u8]) -> Step
     requires { ⌜ AtNumber 2 23 (now s) ⌝ }
     ensures { λ r. ⌜ ((v : ℕ) → Resumes r v (now (s .entry)) (now (slots .entry)) (now (s .exit)) (now (slots .exit))) ⌝ }
 {

@@ -23,7 +23,7 @@ use regs::control_word::status;
 use regs::control_word::word_of;
 use regs::registers::ctrl_of;
 use regs::registers::fits;
-use state::STATE_LEN;
+use state::State;
 ghost use mathlib.Core.Path.{_≡_};
 ghost use mathlib.Core.List.{List};
 ghost use Prim.Native.Nat.{ℕ};
@@ -34,7 +34,7 @@ ghost use Rattle.machine.specs.Suspended.{decode};
 ghost use Rattle.machine.specs.Stands.{AtNumber, Resumes};
 
 // The last write is made.
-pub fn resume_wrote(s: &mut [u8; STATE_LEN]) -> Step
+pub fn resume_wrote(s: &mut State) -> Step
     requires { ⌜ decode (saved (now s)) ≡ Under.Control Point.Wrote ⌝ }
     ensures { λ r. ⌜ ((v : ℕ) (b : List ℕ) → Resumes r v (now (s .entry)) b (now (s .exit)) b) ⌝ }
 {
@@ -42,7 +42,7 @@ pub fn resume_wrote(s: &mut [u8; STATE_LEN]) -> Step
 }
 
 // A control word is read, to answer ACK.
-pub fn resume_ack(s: &mut [u8; STATE_LEN], v: u32) -> Step
+pub fn resume_ack(s: &mut State, v: u32) -> Step
     requires { ⌜ AtNumber 3 1 (now s) ⌝ }
     ensures { λ r. ⌜ ((b : List ℕ) → Resumes r v (now (s .entry)) b (now (s .exit)) b) ⌝ }
 {
@@ -56,7 +56,7 @@ pub fn resume_ack(s: &mut [u8; STATE_LEN], v: u32) -> Step
 }
 
 // Ep_t_len is 0: the status stage.
-pub fn resume_status_len(s: &mut [u8; STATE_LEN]) -> Step
+pub fn resume_status_len(s: &mut State) -> Step
     requires { ⌜ AtNumber 3 2 (now s) ⌝ }
     ensures { λ r. ⌜ ((v : ℕ) (b : List ℕ) → Resumes r v (now (s .entry)) b (now (s .exit)) b) ⌝ }
 {
@@ -64,7 +64,7 @@ pub fn resume_status_len(s: &mut [u8; STATE_LEN]) -> Step
 }
 
 // EP0's IN is read.
-pub fn resume_status(s: &mut [u8; STATE_LEN], v: u32) -> Step
+pub fn resume_status(s: &mut State, v: u32) -> Step
     requires { ⌜ AtNumber 3 3 (now s) ⌝ }
     ensures { λ r. ⌜ ((b : List ℕ) → Resumes r v (now (s .entry)) b (now (s .exit)) b) ⌝ }
 {
@@ -76,7 +76,7 @@ pub fn resume_status(s: &mut [u8; STATE_LEN], v: u32) -> Step
 }
 
 // It is read, to be stalled.
-pub fn resume_stall_in(s: &mut [u8; STATE_LEN], v: u32) -> Step
+pub fn resume_stall_in(s: &mut State, v: u32) -> Step
     requires { ⌜ AtNumber 3 4 (now s) ⌝ }
     ensures { λ r. ⌜ ((b : List ℕ) → Resumes r v (now (s .entry)) b (now (s .exit)) b) ⌝ }
 {
@@ -88,7 +88,7 @@ pub fn resume_stall_in(s: &mut [u8; STATE_LEN], v: u32) -> Step
 }
 
 // It is stalled.
-pub fn resume_stalled_in(s: &mut [u8; STATE_LEN]) -> Step
+pub fn resume_stalled_in(s: &mut State) -> Step
     requires { ⌜ AtNumber 3 5 (now s) ⌝ }
     ensures { λ r. ⌜ ((v : ℕ) (b : List ℕ) → Resumes r v (now (s .entry)) b (now (s .exit)) b) ⌝ }
 {
@@ -96,7 +96,7 @@ pub fn resume_stalled_in(s: &mut [u8; STATE_LEN]) -> Step
 }
 
 // EP0's OUT is read, to be stalled.
-pub fn resume_stall_out(s: &mut [u8; STATE_LEN], v: u32) -> Step
+pub fn resume_stall_out(s: &mut State, v: u32) -> Step
     requires { ⌜ AtNumber 3 6 (now s) ⌝ }
     ensures { λ r. ⌜ ((b : List ℕ) → Resumes r v (now (s .entry)) b (now (s .exit)) b) ⌝ }
 {
@@ -108,7 +108,7 @@ pub fn resume_stall_out(s: &mut [u8; STATE_LEN], v: u32) -> Step
 }
 
 // The closing OUT is armed; the packet is loaded.
-pub fn resume_closing(s: &mut [u8; STATE_LEN]) -> Step
+pub fn resume_closing(s: &mut State) -> Step
     requires { ⌜ AtNumber 3 7 (now s) ⌝ }
     ensures { λ r. ⌜ ((v : ℕ) (b : List ℕ) → Resumes r v (now (s .entry)) b (now (s .exit)) b) ⌝ }
 {
@@ -119,7 +119,7 @@ pub fn resume_closing(s: &mut [u8; STATE_LEN]) -> Step
 }
 
 // Ep_t_len is written: the first packet of a stage is DATA1; else the word is read.
-pub fn resume_loaded(s: &mut [u8; STATE_LEN]) -> Step
+pub fn resume_loaded(s: &mut State) -> Step
     requires { ⌜ AtNumber 3 8 (now s) ⌝ }
     ensures { λ r. ⌜ ((v : ℕ) (b : List ℕ) → Resumes r v (now (s .entry)) b (now (s .exit)) b) ⌝ }
 {

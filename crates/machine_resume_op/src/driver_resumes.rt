@@ -34,7 +34,7 @@ use regs::control_word::word_of;
 use regs::ctrl;
 use regs::int_en::at_start;
 use regs::registers::fits;
-use state::STATE_LEN;
+use state::State;
 use state::set_int_en;
 ghost use mathlib.Core.Path.{_≡_};
 ghost use mathlib.Core.Bool.{true, false};
@@ -65,7 +65,7 @@ fn ep0_word() -> u32
 }
 
 // Ctrl is cleared: start-up.
-pub fn resume_clear(s: &mut [u8; STATE_LEN]) -> Step
+pub fn resume_clear(s: &mut State) -> Step
     requires { ⌜ decode (saved (now s)) ≡ Under.Driver (Point.Clear (isOn (saved (now s) .flag))) ⌝ }
     ensures { λ r. ⌜ ((v : ℕ) (b : List ℕ) → Resumes r v (now (s .entry)) b (now (s .exit)) b) ⌝ }
 {
@@ -74,7 +74,7 @@ pub fn resume_clear(s: &mut [u8; STATE_LEN]) -> Step
 }
 
 // The wait is over.
-pub fn resume_wait(s: &mut [u8; STATE_LEN]) -> Step
+pub fn resume_wait(s: &mut State) -> Step
     requires { ⌜ AtNumber 1 1 (now s) ⌝ }
     ensures { λ r. ⌜ ((v : ℕ) (b : List ℕ) → Resumes r v (now (s .entry)) b (now (s .exit)) b) ⌝ }
 {
@@ -83,7 +83,7 @@ pub fn resume_wait(s: &mut [u8; STATE_LEN]) -> Step
 }
 
 // Ctrl is read.
-pub fn resume_reset(s: &mut [u8; STATE_LEN], v: u32) -> Step
+pub fn resume_reset(s: &mut State, v: u32) -> Step
     requires { ⌜ AtNumber 1 2 (now s) ⌝ }
     ensures { λ r. ⌜ ((b : List ℕ) → Resumes r v (now (s .entry)) b (now (s .exit)) b) ⌝ }
 {
@@ -96,7 +96,7 @@ pub fn resume_reset(s: &mut [u8; STATE_LEN], v: u32) -> Step
 }
 
 // The reset is ended.
-pub fn resume_reset_end(s: &mut [u8; STATE_LEN]) -> Step
+pub fn resume_reset_end(s: &mut State) -> Step
     requires { ⌜ AtNumber 1 3 (now s) ⌝ }
     ensures { λ r. ⌜ ((v : ℕ) (b : List ℕ) → Resumes r v (now (s .entry)) b (now (s .exit)) b) ⌝ }
 {
@@ -106,7 +106,7 @@ pub fn resume_reset_end(s: &mut [u8; STATE_LEN]) -> Step
 }
 
 // Host_ctrl is written.
-pub fn resume_host(s: &mut [u8; STATE_LEN]) -> Step
+pub fn resume_host(s: &mut State) -> Step
     requires { ⌜ AtNumber 1 4 (now s) ⌝ }
     ensures { λ r. ⌜ ((v : ℕ) (b : List ℕ) → Resumes r v (now (s .entry)) b (now (s .exit)) b) ⌝ }
 {
@@ -116,7 +116,7 @@ pub fn resume_host(s: &mut [u8; STATE_LEN]) -> Step
 }
 
 // Ctrl is: the interrupt enables are kept, then written.
-pub fn resume_run(s: &mut [u8; STATE_LEN]) -> Step
+pub fn resume_run(s: &mut State) -> Step
     requires { ⌜ AtNumber 1 5 (now s) ⌝ }
     ensures { λ r. ⌜ ((v : ℕ) (b : List ℕ) → Resumes r v (now (s .entry)) b (now (s .exit)) b) ⌝ }
 {
@@ -127,7 +127,7 @@ pub fn resume_run(s: &mut [u8; STATE_LEN]) -> Step
 }
 
 // Int_en is.
-pub fn resume_int_en(s: &mut [u8; STATE_LEN]) -> Step
+pub fn resume_int_en(s: &mut State) -> Step
     requires { ⌜ AtNumber 1 6 (now s) ⌝ }
     ensures { λ r. ⌜ ((v : ℕ) (b : List ℕ) → Resumes r v (now (s .entry)) b (now (s .exit)) b) ⌝ }
 {
@@ -135,7 +135,7 @@ pub fn resume_int_en(s: &mut [u8; STATE_LEN]) -> Step
 }
 
 // A new endpoint's maximum is: its buffer's address, unless it is a control endpoint.
-pub fn resume_max_len(s: &mut [u8; STATE_LEN]) -> Step
+pub fn resume_max_len(s: &mut State) -> Step
     requires { ⌜ AtNumber 1 7 (now s) ⌝ }
     ensures { λ r. ⌜ ((v : ℕ) (b : List ℕ) → Resumes r v (now (s .entry)) b (now (s .exit)) b) ⌝ }
 {
@@ -153,7 +153,7 @@ pub fn resume_max_len(s: &mut [u8; STATE_LEN]) -> Step
 }
 
 // Its address is.
-pub fn resume_place(s: &mut [u8; STATE_LEN]) -> Step
+pub fn resume_place(s: &mut State) -> Step
     requires { ⌜ AtNumber 1 8 (now s) ⌝ }
     ensures { λ r. ⌜ ((v : ℕ) (b : List ℕ) → Resumes r v (now (s .entry)) b (now (s .exit)) b) ⌝ }
 {
@@ -162,7 +162,7 @@ pub fn resume_place(s: &mut [u8; STATE_LEN]) -> Step
 }
 
 // EP0's buffer is told: its start.
-pub fn resume_ep0_place(s: &mut [u8; STATE_LEN]) -> Step
+pub fn resume_ep0_place(s: &mut State) -> Step
     requires { ⌜ AtNumber 1 9 (now s) ⌝ }
     ensures { λ r. ⌜ ((v : ℕ) (b : List ℕ) → Resumes r v (now (s .entry)) b (now (s .exit)) b) ⌝ }
 {
@@ -171,7 +171,7 @@ pub fn resume_ep0_place(s: &mut [u8; STATE_LEN]) -> Step
 }
 
 // Its maximum is written.
-pub fn resume_ep0_max_len(s: &mut [u8; STATE_LEN]) -> Step
+pub fn resume_ep0_max_len(s: &mut State) -> Step
     requires { ⌜ AtNumber 1 10 (now s) ⌝ }
     ensures { λ r. ⌜ ((v : ℕ) (b : List ℕ) → Resumes r v (now (s .entry)) b (now (s .exit)) b) ⌝ }
 {
@@ -180,7 +180,7 @@ pub fn resume_ep0_max_len(s: &mut [u8; STATE_LEN]) -> Step
 }
 
 // Its OUT answers NAK.
-pub fn resume_ep0_rx(s: &mut [u8; STATE_LEN]) -> Step
+pub fn resume_ep0_rx(s: &mut State) -> Step
     requires { ⌜ AtNumber 1 11 (now s) ⌝ }
     ensures { λ r. ⌜ ((v : ℕ) (b : List ℕ) → Resumes r v (now (s .entry)) b (now (s .exit)) b) ⌝ }
 {
@@ -189,7 +189,7 @@ pub fn resume_ep0_rx(s: &mut [u8; STATE_LEN]) -> Step
 }
 
 // Its IN does.
-pub fn resume_ep0_tx(s: &mut [u8; STATE_LEN]) -> Step
+pub fn resume_ep0_tx(s: &mut State) -> Step
     requires { ⌜ AtNumber 1 12 (now s) ⌝ }
     ensures { λ r. ⌜ ((v : ℕ) (b : List ℕ) → Resumes r v (now (s .entry)) b (now (s .exit)) b) ⌝ }
 {
@@ -197,7 +197,7 @@ pub fn resume_ep0_tx(s: &mut [u8; STATE_LEN]) -> Step
 }
 
 // Its packet's maximum is written.
-pub fn resume_ep0_packet(s: &mut [u8; STATE_LEN]) -> Step
+pub fn resume_ep0_packet(s: &mut State) -> Step
     requires { ⌜ AtNumber 1 13 (now s) ⌝ }
     ensures { λ r. ⌜ ((v : ℕ) (b : List ℕ) → Resumes r v (now (s .entry)) b (now (s .exit)) b) ⌝ }
 {
@@ -205,7 +205,7 @@ pub fn resume_ep0_packet(s: &mut [u8; STATE_LEN]) -> Step
 }
 
 // Frame_no is read: its index.
-pub fn resume_frame_no(s: &mut [u8; STATE_LEN], v: u32) -> Step
+pub fn resume_frame_no(s: &mut State, v: u32) -> Step
     requires { ⌜ AtNumber 1 14 (now s) ⌝ }
     ensures { λ r. ⌜ ((b : List ℕ) → Resumes r v (now (s .entry)) b (now (s .exit)) b) ⌝ }
 {
@@ -217,7 +217,7 @@ pub fn resume_frame_no(s: &mut [u8; STATE_LEN], v: u32) -> Step
 }
 
 // Of a list's endpoint the maximum is written: its address, or its successor.
-pub fn resume_list_max_len(s: &mut [u8; STATE_LEN]) -> Step
+pub fn resume_list_max_len(s: &mut State) -> Step
     requires { ⌜ AtNumber 1 15 (now s) ⌝ }
     ensures { λ r. ⌜ ((v : ℕ) (b : List ℕ) → Resumes r v (now (s .entry)) b (now (s .exit)) b) ⌝ }
 {
@@ -231,7 +231,7 @@ pub fn resume_list_max_len(s: &mut [u8; STATE_LEN]) -> Step
 }
 
 // Its address is: its successor.
-pub fn resume_list_place(s: &mut [u8; STATE_LEN]) -> Step
+pub fn resume_list_place(s: &mut State) -> Step
     requires { ⌜ AtNumber 1 16 (now s) ⌝ }
     ensures { λ r. ⌜ ((v : ℕ) (b : List ℕ) → Resumes r v (now (s .entry)) b (now (s .exit)) b) ⌝ }
 {

@@ -11,7 +11,7 @@ use regs::Reg;
 use regs::control_word::ack;
 use regs::registers::ctrl_of;
 use regs::registers::fits;
-use state::STATE_LEN;
+use state::State;
 ghost use mathlib.Core.Path.{_≡_};
 ghost use mathlib.Core.List.{List};
 ghost use Prim.Native.Nat.{ℕ};
@@ -22,7 +22,7 @@ ghost use Rattle.machine.specs.Suspended.{decode};
 ghost use Rattle.machine.specs.Stands.{AtNumber, Resumes};
 
 // The last write is made.
-pub fn resume_wrote(s: &mut [u8; STATE_LEN]) -> Step
+pub fn resume_wrote(s: &mut State) -> Step
     requires { ⌜ decode (saved (now s)) ≡ Under.Endpoint Point.Wrote ⌝ }
     ensures { λ r. ⌜ ((v : ℕ) (b : List ℕ) → Resumes r v (now (s .entry)) b (now (s .exit)) b) ⌝ }
 {
@@ -30,7 +30,7 @@ pub fn resume_wrote(s: &mut [u8; STATE_LEN]) -> Step
 }
 
 // The control word is read, to answer ACK.
-pub fn resume_ack(s: &mut [u8; STATE_LEN], v: u32) -> Step
+pub fn resume_ack(s: &mut State, v: u32) -> Step
     requires { ⌜ AtNumber 4 1 (now s) ⌝ }
     ensures { λ r. ⌜ ((b : List ℕ) → Resumes r v (now (s .entry)) b (now (s .exit)) b) ⌝ }
 {
@@ -45,7 +45,7 @@ pub fn resume_ack(s: &mut [u8; STATE_LEN], v: u32) -> Step
 }
 
 // Ep_t_len is written.
-pub fn resume_loaded(s: &mut [u8; STATE_LEN]) -> Step
+pub fn resume_loaded(s: &mut State) -> Step
     requires { ⌜ AtNumber 4 2 (now s) ⌝ }
     ensures { λ r. ⌜ ((v : ℕ) (b : List ℕ) → Resumes r v (now (s .entry)) b (now (s .exit)) b) ⌝ }
 {

@@ -3,7 +3,7 @@ use machine::Step;
 use machine::saved::nothing;
 use machine::woken::how_many;
 use regs::Access;
-use state::STATE_LEN;
+use state::State;
 ghost use Rattle.state.specs.State.{view};
 ghost use Rattle.driver.specs.Points as driver;
 ghost use Rattle.machine.specs.declared.Suspended.the-variants as Under;
@@ -11,7 +11,7 @@ ghost use Rattle.machine.specs.Suspended.{Stored};
 ghost use Rattle.machine.specs.Stands.{Stands, halted, Leads, Ends};
 
 // The operation stands where it handed out the access.
-fn suspends(s: &mut [u8; STATE_LEN], q: Access, p: driver::Point) -> Step
+fn suspends(s: &mut State, q: Access, p: driver::Point) -> Step
     ensures { λ r. ⌜ Stands r q (Under.Driver p) (now (s .entry)) (now (s .exit)) ⌝ }
 {
     let mut c = driver_codec::encode(p);
@@ -21,7 +21,7 @@ fn suspends(s: &mut [u8; STATE_LEN], q: Access, p: driver::Point) -> Step
 }
 
 // It has ended with its result: its wake-ups are answered.
-fn ends(s: &mut [u8; STATE_LEN], n: u16) -> Step
+fn ends(s: &mut State, n: u16) -> Step
     ensures { λ r. ⌜ Ends r n (now (s .entry)) (now (s .exit)) ⌝ }
 {
     state::store_saved(s, nothing());
@@ -29,7 +29,7 @@ fn ends(s: &mut [u8; STATE_LEN], n: u16) -> Step
     Step::Ends(n, k)
 }
 
-pub fn suspend_or_end_driver(s: &mut [u8; STATE_LEN], n: driver::Next) -> Step
+pub fn suspend_or_end_driver(s: &mut State, n: driver::Next) -> Step
     requires { ⌜ driver.Linked n ⌝ }
     ensures { λ r. ⌜ Leads r (now (s .exit)) (λ b. halted (driver.meaning n (view (now (s .entry))) b)) ⌝ }
     ensures { λ r. ⌜ Stored r (now (s .exit)) ⌝ }

@@ -10,7 +10,7 @@ use iso_in::advance;
 use machine::Step;
 use machine::halts::suspend_or_end_advance;
 use machine::loads::sub_byte;
-use state::STATE_LEN;
+use state::State;
 ghost use mathlib.Core.Path.{_≡_};
 ghost use mathlib.Core.List.{List};
 ghost use Prim.Native.Nat.{ℕ};
@@ -18,7 +18,7 @@ ghost use Rattle.state.specs.State.{saved};
 ghost use Rattle.machine.specs.Stands.{Resumes};
 
 // Goes on at the driver's own point.
-pub fn resume_driver(s: &mut [u8; STATE_LEN], v: u32) -> Step
+pub fn resume_driver(s: &mut State, v: u32) -> Step
     requires { ⌜ saved (now s) .tag ≡ 1 ⌝ }
     ensures { λ r. ⌜ ((b : List ℕ) → Resumes r v (now (s .entry)) b (now (s .exit)) b) ⌝ }
 {
@@ -45,7 +45,7 @@ pub fn resume_driver(s: &mut [u8; STATE_LEN], v: u32) -> Step
 }
 
 // At the bus's.
-pub fn resume_bus(s: &mut [u8; STATE_LEN], slots: &mut [u8], v: u32) -> Step
+pub fn resume_bus(s: &mut State, slots: &mut [u8], v: u32) -> Step
     requires { ⌜ saved (now s) .tag ≡ 2 ⌝ }
     ensures { λ r. ⌜ Resumes r v (now (s .entry)) (now (slots .entry)) (now (s .exit)) (now (slots .exit)) ⌝ }
 {
@@ -79,7 +79,7 @@ pub fn resume_bus(s: &mut [u8; STATE_LEN], slots: &mut [u8], v: u32) -> Step
 }
 
 // At the control pipe's.
-pub fn resume_control(s: &mut [u8; STATE_LEN], v: u32) -> Step
+pub fn resume_control(s: &mut State, v: u32) -> Step
     requires { ⌜ saved (now s) .tag ≡ 3 ⌝ }
     ensures { λ r. ⌜ ((b : List ℕ) → Resumes r v (now (s .entry)) b (now (s .exit)) b) ⌝ }
 {
@@ -98,7 +98,7 @@ pub fn resume_control(s: &mut [u8; STATE_LEN], v: u32) -> Step
 }
 
 // At a read's or write's.
-pub fn resume_endpoint(s: &mut [u8; STATE_LEN], v: u32) -> Step
+pub fn resume_endpoint(s: &mut State, v: u32) -> Step
     requires { ⌜ saved (now s) .tag ≡ 4 ⌝ }
     ensures { λ r. ⌜ ((b : List ℕ) → Resumes r v (now (s .entry)) b (now (s .exit)) b) ⌝ }
 {
@@ -111,7 +111,7 @@ pub fn resume_endpoint(s: &mut [u8; STATE_LEN], v: u32) -> Step
 }
 
 // At a paced advance's.
-pub fn resume_advance(s: &mut [u8; STATE_LEN], v: u32) -> Step
+pub fn resume_advance(s: &mut State, v: u32) -> Step
     requires { ⌜ saved (now s) .tag ≡ 5 ⌝ }
     ensures { λ r. ⌜ ((b : List ℕ) → Resumes r v (now (s .entry)) b (now (s .exit)) b) ⌝ }
 {

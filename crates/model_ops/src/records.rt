@@ -4,7 +4,7 @@ use bits::mask_has;
 use regs::Dir;
 use regs::enables::out_enabled;
 use state::Globals;
-use state::STATE_LEN;
+use state::State;
 ghost use mathlib.Core.Path.{_≡_};
 ghost use mathlib.Core.Bool.{true, false};
 ghost use Rattle.bits.specs.Bit.{isSet};
@@ -17,7 +17,7 @@ ghost use Rattle.model.specs.Statics.{isoOuts};
 ghost use Rattle.model_ops.specs.Records.{isoOut, enabledOn, withSets, recordGiven, setsGiven, givenTo, allocatedOn, startedWith, allocatedEp0};
 ghost use Rattle.model_ops.specs.Rings.{placeOn, switchedOn, typeStep, configStep};
 
-pub fn wake(s: &mut [u8; STATE_LEN], dir: Dir, e: u8)
+pub fn wake(s: &mut State, dir: Dir, e: u8)
     ensures { λ _. ⌜ view (now (s .exit)) ≡ withWakes (view (now (s .entry))) (woken (wakeCode dir e) (view (now (s .entry)) .wakes)) ⌝ }
     ensures { λ _. ⌜ saved (now (s .exit)) ≡ saved (now (s .entry)) ⌝ }
 {
@@ -25,7 +25,7 @@ pub fn wake(s: &mut [u8; STATE_LEN], dir: Dir, e: u8)
     state::wake(s, code);
 }
 
-pub fn wake_bus(s: &mut [u8; STATE_LEN])
+pub fn wake_bus(s: &mut State)
     ensures { λ _. ⌜ view (now (s .exit)) ≡ withWakes (view (now (s .entry))) (woken busCode (view (now (s .entry)) .wakes)) ⌝ }
     ensures { λ _. ⌜ saved (now (s .exit)) ≡ saved (now (s .entry)) ⌝ }
 {
@@ -33,7 +33,7 @@ pub fn wake_bus(s: &mut [u8; STATE_LEN])
 }
 
 // The sixteen codes from a.
-fn wake_sixteen(s: &mut [u8; STATE_LEN], a: u8)
+fn wake_sixteen(s: &mut State, a: u8)
     requires { ⌜ a ≤ 16 ⌝ }
     ensures { λ _. ⌜ view (now (s .exit)) ≡ withWakes (view (now (s .entry))) (all-woken (codesFrom a 16) (view (now (s .entry)) .wakes)) ⌝ }
     ensures { λ _. ⌜ saved (now (s .exit)) ≡ saved (now (s .entry)) ⌝ }
@@ -46,7 +46,7 @@ fn wake_sixteen(s: &mut [u8; STATE_LEN], a: u8)
 }
 
 // OUT 0 to 15, then IN 0 to 15.
-pub fn wake_all(s: &mut [u8; STATE_LEN])
+pub fn wake_all(s: &mut State)
     ensures { λ _. ⌜ view (now (s .exit)) ≡ withWakes (view (now (s .entry))) (all-woken every-endpoint (view (now (s .entry)) .wakes)) ⌝ }
     ensures { λ _. ⌜ saved (now (s .exit)) ≡ saved (now (s .entry)) ⌝ }
 {
@@ -55,7 +55,7 @@ pub fn wake_all(s: &mut [u8; STATE_LEN])
 }
 
 // An isochronous OUT.
-pub fn iso_out(s: &[u8; STATE_LEN], dir: Dir, e: u8) -> bool
+pub fn iso_out(s: &State, dir: Dir, e: u8) -> bool
     ensures { λ r. ⌜ r ≡ isoOut (view (now (s .entry))) dir e ⌝ }
 {
     match dir {
@@ -68,7 +68,7 @@ pub fn iso_out(s: &[u8; STATE_LEN], dir: Dir, e: u8) -> bool
 }
 
 // The kept ep_config bit; of an isochronous OUT, whose bit is set in a row, nothing.
-pub fn set_enabled(s: &mut [u8; STATE_LEN], dir: Dir, e: u8, on: bool)
+pub fn set_enabled(s: &mut State, dir: Dir, e: u8, on: bool)
     ensures { λ _. ⌜ view (now (s .exit)) ≡ enabledOn (view (now (s .entry))) dir e on ⌝ }
     ensures { λ _. ⌜ saved (now (s .exit)) ≡ saved (now (s .entry)) ⌝ }
 {
@@ -86,14 +86,14 @@ pub fn receives(g: Globals, e: u8) -> bool
     mask_has(out_enabled(g.ep_config, g.iso_out_eps), e)
 }
 
-pub fn receiving(s: &[u8; STATE_LEN], e: u8) -> bool
+pub fn receiving(s: &State, e: u8) -> bool
     ensures { λ r. ⌜ r ≡ isSet (isoOuts (view (now (s .entry)) .globals)) (e % 16) ⌝ }
 {
     receives(state::load_globals(s), e)
 }
 
 // The address of the endpoint's buffer, which of OUT is from now on the armed slot.
-pub fn place(s: &mut [u8; STATE_LEN], dir: Dir, e: u8) -> u32
+pub fn place(s: &mut State, dir: Dir, e: u8) -> u32
     ensures { λ r. ⌜ r ≡ placeOn dir e (view (now (s .entry))) .0 ⌝ }
     ensures { λ _. ⌜ view (now (s .exit)) ≡ placeOn dir e (view (now (s .entry))) .1 ⌝ }
     ensures { λ _. ⌜ saved (now (s .exit)) ≡ saved (now (s .entry)) ⌝ }
@@ -112,7 +112,7 @@ pub fn place(s: &mut [u8; STATE_LEN], dir: Dir, e: u8) -> u32
 }
 
 // A word with the bit of an isochronous OUT; of any other endpoint as it was.
-fn switched(s: &[u8; STATE_LEN], e: u8, on: bool, word: u32) -> u32
+fn switched(s: &State, e: u8, on: bool, word: u32) -> u32
     ensures { λ r. ⌜ r ≡ switchedOn (view (now (s .entry))) e on word ⌝ }
 {
     let r = state::load_ep(s, Dir::Out, e);
@@ -123,7 +123,7 @@ fn switched(s: &[u8; STATE_LEN], e: u8, on: bool, word: u32) -> u32
 }
 
 // ep_type's bit in the row of an isochronous OUT.
-pub fn type_step(s: &mut [u8; STATE_LEN], e: u8, on: bool) -> u32
+pub fn type_step(s: &mut State, e: u8, on: bool) -> u32
     ensures { λ r. ⌜ r ≡ typeStep e on (view (now (s .entry))) .0 ⌝ }
     ensures { λ _. ⌜ view (now (s .exit)) ≡ typeStep e on (view (now (s .entry))) .1 ⌝ }
     ensures { λ _. ⌜ saved (now (s .exit)) ≡ saved (now (s .entry)) ⌝ }
@@ -135,7 +135,7 @@ pub fn type_step(s: &mut [u8; STATE_LEN], e: u8, on: bool) -> u32
 }
 
 // And ep_config's, the row's last.
-pub fn config_step(s: &mut [u8; STATE_LEN], e: u8, on: bool) -> u32
+pub fn config_step(s: &mut State, e: u8, on: bool) -> u32
     ensures { λ r. ⌜ r ≡ configStep e on (view (now (s .entry))) .0 ⌝ }
     ensures { λ _. ⌜ view (now (s .exit)) ≡ configStep e on (view (now (s .entry))) .1 ⌝ }
     ensures { λ _. ⌜ saved (now (s .exit)) ≡ saved (now (s .entry)) ⌝ }
@@ -170,15 +170,7 @@ fn with_sets(mut g: Globals, dir: Dir, kind: u8, interval: u32, e: u8) -> Global
 }
 
 // The record of the endpoint that was allocated.
-fn give_record(
-    s: &mut [u8; STATE_LEN],
-    dir: Dir,
-    kind: u8,
-    maximum: u16,
-    e: u8,
-    base: u32,
-    slots: u8,
-)
+fn give_record(s: &mut State, dir: Dir, kind: u8, maximum: u16, e: u8, base: u32, slots: u8)
     ensures { λ _. ⌜ view (now (s .exit)) ≡ recordGiven dir kind maximum e base slots (view (now (s .entry))) ⌝ }
     ensures { λ _. ⌜ saved (now (s .exit)) ≡ saved (now (s .entry)) ⌝ }
 {
@@ -193,7 +185,7 @@ fn give_record(
 }
 
 // And the sets.
-fn give_sets(s: &mut [u8; STATE_LEN], dir: Dir, kind: u8, interval: u32, e: u8)
+fn give_sets(s: &mut State, dir: Dir, kind: u8, interval: u32, e: u8)
     ensures { λ _. ⌜ view (now (s .exit)) ≡ setsGiven dir kind interval e (view (now (s .entry))) ⌝ }
     ensures { λ _. ⌜ saved (now (s .exit)) ≡ saved (now (s .entry)) ⌝ }
 {
@@ -202,7 +194,7 @@ fn give_sets(s: &mut [u8; STATE_LEN], dir: Dir, kind: u8, interval: u32, e: u8)
 }
 
 // What an answer to an allocation makes of the records and the sets.
-fn given(s: &mut [u8; STATE_LEN], dir: Dir, kind: u8, maximum: u16, interval: u32, a: Answer)
+fn given(s: &mut State, dir: Dir, kind: u8, maximum: u16, interval: u32, a: Answer)
     ensures { λ _. ⌜ view (now (s .exit)) ≡ givenTo dir kind maximum interval a (view (now (s .entry))) ⌝ }
     ensures { λ _. ⌜ saved (now (s .exit)) ≡ saved (now (s .entry)) ⌝ }
 {
@@ -225,7 +217,7 @@ fn maximum16(n: u32, most: u16) -> u16
 
 // An endpoint is allocated, or refused: the number, its buffers, its record (mod.rs 953-1043).
 pub fn allocate(
-    s: &mut [u8; STATE_LEN],
+    s: &mut State,
     dir: Dir,
     kind: u8,
     address: u32,
@@ -250,7 +242,7 @@ pub fn allocate(
 }
 
 // EP0's buffer was given: the stage after its start, and no power event yet.
-fn started(s: &mut [u8; STATE_LEN], maximum: u16, a: Answer)
+fn started(s: &mut State, maximum: u16, a: Answer)
     ensures { λ _. ⌜ view (now (s .exit)) ≡ startedWith maximum a (view (now (s .entry))) ⌝ }
     ensures { λ _. ⌜ saved (now (s .exit)) ≡ saved (now (s .entry)) ⌝ }
 {
@@ -268,7 +260,7 @@ fn started(s: &mut [u8; STATE_LEN], maximum: u16, a: Answer)
 }
 
 // EP0's buffer, or a refusal (mod.rs 1144-1149).
-pub fn allocate0(s: &mut [u8; STATE_LEN], maximum: u32) -> Answer
+pub fn allocate0(s: &mut State, maximum: u32) -> Answer
     ensures { λ r. ⌜ r ≡ allocateEp0Of (view (now (s .entry)) .allocator) maximum .answer ⌝ }
     ensures { λ _. ⌜ view (now (s .exit)) ≡ allocatedEp0 (view (now (s .entry))) maximum ⌝ }
     ensures { λ _. ⌜ saved (now (s .exit)) ≡ saved (now (s .entry)) ⌝ }

@@ -14,7 +14,7 @@ use ring::slot_addr;
 use ring::slot_index;
 use ring::unloaded;
 use state::EpState;
-use state::STATE_LEN;
+use state::State;
 use state::load_ep;
 use state::load_globals;
 use state::load_len;
@@ -40,7 +40,7 @@ pub fn is_on(n: u8) -> bool
 }
 
 // Has the armed slot's first word changed: a packet arrived (mod.rs 474)?
-pub fn changed(s: &[u8; STATE_LEN], buf: &[u8], e: u8) -> bool
+pub fn changed(s: &State, buf: &[u8], e: u8) -> bool
     ensures { λ r. ⌜ r ≡ changedOn (view (now (s .entry))) e (now (buf .entry)) ⌝ }
 {
     let r = load_ep(s, Dir::Out, e);
@@ -48,14 +48,14 @@ pub fn changed(s: &[u8; STATE_LEN], buf: &[u8], e: u8) -> bool
 }
 
 // The length of the packet in the armed slot, by the marks (mod.rs 488).
-pub fn marked(s: &[u8; STATE_LEN], buf: &[u8], e: u8) -> u16
+pub fn marked(s: &State, buf: &[u8], e: u8) -> u16
     ensures { λ r. ⌜ r ≡ markedOn (view (now (s .entry))) e (now (buf .entry)) ⌝ }
 {
     let r = load_ep(s, Dir::Out, e);
     marked_len(buf, r.armed_slot, r.max_len)
 }
 
-pub fn waiting(s: &[u8; STATE_LEN], dir: Dir, e: u8) -> bool
+pub fn waiting(s: &State, dir: Dir, e: u8) -> bool
     ensures { λ r. ⌜ r ≡ waitingOn (view (now (s .entry))) dir e ⌝ }
 {
     has_waiting(load_ep(s, dir, e))
@@ -74,14 +74,14 @@ fn takes(r: EpState, n: usize) -> bool
     !((r.stride as usize) < n)
 }
 
-pub fn room(s: &[u8; STATE_LEN], e: u8, n: usize) -> bool
+pub fn room(s: &State, e: u8, n: usize) -> bool
     ensures { λ r. ⌜ r ≡ roomOn (view (now (s .entry))) e n ⌝ }
 {
     takes(load_ep(s, Dir::In, e), n)
 }
 
 // Is a packet open?
-pub fn opened(s: &[u8; STATE_LEN], e: u8) -> bool
+pub fn opened(s: &State, e: u8) -> bool
     ensures { λ r. ⌜ r ≡ openedOn (view (now (s .entry))) e ⌝ }
 {
     let r = load_ep(s, Dir::Out, e);
@@ -89,7 +89,7 @@ pub fn opened(s: &[u8; STATE_LEN], e: u8) -> bool
 }
 
 // The length of the oldest packet; 0 where none waits.
-pub fn next_len(s: &[u8; STATE_LEN], dir: Dir, e: u8) -> u16
+pub fn next_len(s: &State, dir: Dir, e: u8) -> u16
     ensures { λ r. ⌜ r ≡ nextLen (view (now (s .entry))) dir e ⌝ }
 {
     let r = load_ep(s, dir, e);
@@ -100,7 +100,7 @@ pub fn next_len(s: &[u8; STATE_LEN], dir: Dir, e: u8) -> u16
 }
 
 // The microframe with the oldest packet of OUT e; 0 where none waits.
-pub fn next_stamp(s: &[u8; STATE_LEN], e: u8) -> u16
+pub fn next_stamp(s: &State, e: u8) -> u16
     ensures { λ r. ⌜ r ≡ nextStamp (view (now (s .entry))) e ⌝ }
 {
     let r = load_ep(s, Dir::Out, e);
@@ -111,7 +111,7 @@ pub fn next_stamp(s: &[u8; STATE_LEN], e: u8) -> u16
 }
 
 // Where the oldest packet of OUT e lies.
-pub fn oldest_at(s: &[u8; STATE_LEN], e: u8) -> u32
+pub fn oldest_at(s: &State, e: u8) -> u32
     ensures { λ r. ⌜ r ≡ oldestAt (view (now (s .entry))) e ⌝ }
 {
     let r = load_ep(s, Dir::Out, e);
@@ -138,7 +138,7 @@ pub fn word_at(buf: &[u8], at: usize) -> u32
 }
 
 // Word k of EP0's buffer.
-pub fn setup_word(s: &[u8; STATE_LEN], buf: &[u8], k: u8) -> u32
+pub fn setup_word(s: &State, buf: &[u8], k: u8) -> u32
     ensures { λ r. ⌜ r ≡ wordAt (now (buf .entry)) (view (now (s .entry)) .globals .«ep0_buf» + k * 4) ⌝ }
 {
     let g = load_globals(s);
@@ -146,7 +146,7 @@ pub fn setup_word(s: &[u8; STATE_LEN], buf: &[u8], k: u8) -> u32
 }
 
 // The loaded packet went out (mod.rs 408-411, 606).
-pub fn complete(s: &mut [u8; STATE_LEN], e: u8)
+pub fn complete(s: &mut State, e: u8)
     ensures { λ _. ⌜ view (now (s .exit)) ≡ completeOn (view (now (s .entry))) e ⌝ }
     ensures { λ _. ⌜ saved (now (s .exit)) ≡ saved (now (s .entry)) ⌝ }
 {
@@ -156,7 +156,7 @@ pub fn complete(s: &mut [u8; STATE_LEN], e: u8)
 }
 
 // The record of OUT e, stored where the answer is yes.
-fn store_where(s: &mut [u8; STATE_LEN], e: u8, yes: bool, r: EpState)
+fn store_where(s: &mut State, e: u8, yes: bool, r: EpState)
     ensures { λ _. ⌜ view (now (s .exit)) ≡ cond yes (withOn (view (now (s .entry))) Out e r) (view (now (s .entry))) ⌝ }
     ensures { λ _. ⌜ saved (now (s .exit)) ≡ saved (now (s .entry)) ⌝ }
 {
@@ -166,7 +166,7 @@ fn store_where(s: &mut [u8; STATE_LEN], e: u8, yes: bool, r: EpState)
 }
 
 // The oldest packet is open, where one waits.
-pub fn open_oldest(s: &mut [u8; STATE_LEN], e: u8)
+pub fn open_oldest(s: &mut State, e: u8)
     ensures { λ _. ⌜ view (now (s .exit)) ≡ openOn (view (now (s .entry))) e ⌝ }
     ensures { λ _. ⌜ saved (now (s .exit)) ≡ saved (now (s .entry)) ⌝ }
 {
@@ -175,7 +175,7 @@ pub fn open_oldest(s: &mut [u8; STATE_LEN], e: u8)
 }
 
 // The open packet is read, where one is open (mod.rs 269).
-pub fn close_oldest(s: &mut [u8; STATE_LEN], e: u8)
+pub fn close_oldest(s: &mut State, e: u8)
     ensures { λ _. ⌜ view (now (s .exit)) ≡ closeOn (view (now (s .entry))) e ⌝ }
     ensures { λ _. ⌜ saved (now (s .exit)) ≡ saved (now (s .entry)) ⌝ }
 {
@@ -184,7 +184,7 @@ pub fn close_oldest(s: &mut [u8; STATE_LEN], e: u8)
 }
 
 // The oldest packet is read, where one waits.
-pub fn take_oldest(s: &mut [u8; STATE_LEN], e: u8)
+pub fn take_oldest(s: &mut State, e: u8)
     ensures { λ _. ⌜ view (now (s .exit)) ≡ takeOn (view (now (s .entry))) e ⌝ }
     ensures { λ _. ⌜ saved (now (s .exit)) ≡ saved (now (s .entry)) ⌝ }
 {
@@ -193,7 +193,7 @@ pub fn take_oldest(s: &mut [u8; STATE_LEN], e: u8)
 }
 
 // The oldest packet is being sent; where it lies (mod.rs 597-603).
-pub fn send(s: &mut [u8; STATE_LEN], e: u8) -> u32
+pub fn send(s: &mut State, e: u8) -> u32
     ensures { λ r. ⌜ r ≡ sendAddr (view (now (s .entry))) e ⌝ }
     ensures { λ _. ⌜ view (now (s .exit)) ≡ sendOn (view (now (s .entry))) e ⌝ }
     ensures { λ _. ⌜ saved (now (s .exit)) ≡ saved (now (s .entry)) ⌝ }
@@ -216,7 +216,7 @@ fn length16(n: usize, most: u16) -> u16
 }
 
 // A packet into the head's slot of an isochronous IN, where it has room (mod.rs 382-395).
-pub fn iso_in_enqueue(s: &mut [u8; STATE_LEN], buf: &mut [u8], e: u8, bytes: &[u8])
+pub fn iso_in_enqueue(s: &mut State, buf: &mut [u8], e: u8, bytes: &[u8])
     ensures { λ _. ⌜ view (now (s .exit)) ≡ enqueueOn e (now (bytes .entry)) (view (now (s .entry)), now (buf .entry)) .0 ⌝ }
     ensures { λ _. ⌜ now (buf .exit) ≡ enqueueOn e (now (bytes .entry)) (view (now (s .entry)), now (buf .entry)) .1 ⌝ }
     ensures { λ _. ⌜ saved (now (s .exit)) ≡ saved (now (s .entry)) ⌝ }
@@ -233,7 +233,7 @@ pub fn iso_in_enqueue(s: &mut [u8; STATE_LEN], buf: &mut [u8], e: u8, bytes: &[u
 }
 
 // Bytes into the slot of IN e, which has no ring; not more than the maximum.
-pub fn fill(s: &[u8; STATE_LEN], buf: &mut [u8], e: u8, bytes: &[u8])
+pub fn fill(s: &State, buf: &mut [u8], e: u8, bytes: &[u8])
     ensures { λ _. ⌜ now (buf .exit) ≡ filledOn (view (now (s .entry))) e (now (bytes .entry)) (now (buf .entry)) ⌝ }
 {
     let r = load_ep(s, Dir::In, e);
@@ -247,7 +247,7 @@ pub fn fill(s: &[u8; STATE_LEN], buf: &mut [u8], e: u8, bytes: &[u8])
 }
 
 // Bytes into EP0's slot.
-pub fn fill0(s: &[u8; STATE_LEN], buf: &mut [u8], bytes: &[u8])
+pub fn fill0(s: &State, buf: &mut [u8], bytes: &[u8])
     ensures { λ _. ⌜ now (buf .exit) ≡ filledEp0 (view (now (s .entry))) (now (bytes .entry)) (now (buf .entry)) ⌝ }
 {
     let g = load_globals(s);

@@ -10,7 +10,7 @@ use ring::has_room_out;
 use ring::slot_addr;
 use ring::slot_index;
 use state::EpState;
-use state::STATE_LEN;
+use state::State;
 use state::clear_all_stamps;
 use state::clear_stamps;
 use state::load_ep;
@@ -27,7 +27,7 @@ ghost use Rattle.state.specs.State.{view, saved};
 ghost use Rattle.model_ops.specs.Rings.{writtenOn, recordedOn, armBy, arrivedAt, arriveOn, slotStep, resetBelow, resetAll};
 
 // The length of the packet in slot i (mod.rs 499), and its microframe, that of the interrupt under way.
-fn write_packet(s: &mut [u8; STATE_LEN], e: u8, i: u8, len: u16, entered: u16)
+fn write_packet(s: &mut State, e: u8, i: u8, len: u16, entered: u16)
     requires { ⌜ entered ≡ view (now s) .globals .entered ⌝ }
     ensures { λ _. ⌜ view (now (s .exit)) ≡ writtenOn (view (now (s .entry))) e i len ⌝ }
     ensures { λ _. ⌜ saved (now (s .exit)) ≡ saved (now (s .entry)) ⌝ }
@@ -37,7 +37,7 @@ fn write_packet(s: &mut [u8; STATE_LEN], e: u8, i: u8, len: u16, entered: u16)
 }
 
 // An admitted packet is recorded (mod.rs 498-500). The endpoint's record is `r`.
-fn record(s: &mut [u8; STATE_LEN], e: u8, r: EpState, len: u16, entered: u16)
+fn record(s: &mut State, e: u8, r: EpState, len: u16, entered: u16)
     requires { ⌜ r ≡ epOn (view (now s)) Out e ⌝ }
     requires { ⌜ entered ≡ view (now s) .globals .entered ⌝ }
     ensures { λ _. ⌜ view (now (s .exit)) ≡ recordedOn (view (now (s .entry))) e len ⌝ }
@@ -51,7 +51,7 @@ fn record(s: &mut [u8; STATE_LEN], e: u8, r: EpState, len: u16, entered: u16)
 
 // The record `r` is stored with the slot of counter i armed: marked up to the endpoint's maximum, its address recorded
 // (mod.rs 547-556).
-fn arm(s: &mut [u8; STATE_LEN], buf: &mut [u8], e: u8, r: EpState, i: u8) -> u32
+fn arm(s: &mut State, buf: &mut [u8], e: u8, r: EpState, i: u8) -> u32
     ensures { λ x. ⌜ x ≡ armBy e r i (view (now (s .entry)), now (buf .entry)) .0 ⌝ }
     ensures { λ _. ⌜ view (now (s .exit)) ≡ armBy e r i (view (now (s .entry)), now (buf .entry)) .1 .0 ⌝ }
     ensures { λ _. ⌜ now (buf .exit) ≡ armBy e r i (view (now (s .entry)), now (buf .entry)) .1 .1 ⌝ }
@@ -65,14 +65,7 @@ fn arm(s: &mut [u8; STATE_LEN], buf: &mut [u8], e: u8, r: EpState, i: u8) -> u32
 
 // An arrival of `len` bytes, not above the maximum: the packet is admitted or turned away (mod.rs 491-507), the head's slot armed, and
 // the record stored once.
-fn arrived(
-    s: &mut [u8; STATE_LEN],
-    buf: &mut [u8],
-    e: u8,
-    r: EpState,
-    len: u16,
-    entered: u16,
-) -> u32
+fn arrived(s: &mut State, buf: &mut [u8], e: u8, r: EpState, len: u16, entered: u16) -> u32
     requires { ⌜ r ≡ epOn (view (now s)) Out e ⌝ }
     requires { ⌜ entered ≡ view (now s) .globals .entered ⌝ }
     ensures { λ x. ⌜ x ≡ arrivedAt e len (view (now (s .entry)), now (buf .entry)) .0 ⌝ }
@@ -86,7 +79,7 @@ fn arrived(
 }
 
 // A packet of OUT e arrived: it is admitted or turned away, and the next slot armed, whose address is handed out.
-pub fn arrive(s: &mut [u8; STATE_LEN], buf: &mut [u8], e: u8, n: u16) -> u32
+pub fn arrive(s: &mut State, buf: &mut [u8], e: u8, n: u16) -> u32
     ensures { λ r. ⌜ r ≡ arriveOn e n (view (now (s .entry)), now (buf .entry)) .0 ⌝ }
     ensures { λ _. ⌜ view (now (s .exit)) ≡ arriveOn e n (view (now (s .entry)), now (buf .entry)) .1 .0 ⌝ }
     ensures { λ _. ⌜ now (buf .exit) ≡ arriveOn e n (view (now (s .entry)), now (buf .entry)) .1 .1 ⌝ }
@@ -103,7 +96,7 @@ pub fn arrive(s: &mut [u8; STATE_LEN], buf: &mut [u8], e: u8, n: u16) -> u32
 
 // Slot k of an isochronous OUT that is enabled or disabled, from slot 15 down, is armed (mod.rs 1292-1294); before the first of them,
 // the last, the record is reset (mod.rs 1279), every stamp gone.
-pub fn slot_step(s: &mut [u8; STATE_LEN], buf: &mut [u8], e: u8, k: u8) -> u32
+pub fn slot_step(s: &mut State, buf: &mut [u8], e: u8, k: u8) -> u32
     ensures { λ r. ⌜ r ≡ slotStep e k (view (now (s .entry)), now (buf .entry)) .0 ⌝ }
     ensures { λ _. ⌜ view (now (s .exit)) ≡ slotStep e k (view (now (s .entry)), now (buf .entry)) .1 .0 ⌝ }
     ensures { λ _. ⌜ now (buf .exit) ≡ slotStep e k (view (now (s .entry)), now (buf .entry)) .1 .1 ⌝ }
@@ -121,7 +114,7 @@ pub fn slot_step(s: &mut [u8; STATE_LEN], buf: &mut [u8], e: u8, k: u8) -> u32
 }
 
 // An endpoint's record reset, in one direction.
-fn reset_one(s: &mut [u8; STATE_LEN], dir: Dir, e: u8)
+fn reset_one(s: &mut State, dir: Dir, e: u8)
     ensures { λ _. ⌜ view (now (s .exit)) ≡ withOn (view (now (s .entry))) dir e (resetOf (epOn (view (now (s .entry))) dir e)) ⌝ }
     ensures { λ _. ⌜ saved (now (s .exit)) ≡ saved (now (s .entry)) ⌝ }
 {
@@ -130,7 +123,7 @@ fn reset_one(s: &mut [u8; STATE_LEN], dir: Dir, e: u8)
 }
 
 // Every record reset.
-fn reset_eps(s: &mut [u8; STATE_LEN])
+fn reset_eps(s: &mut State)
     ensures { λ _. ⌜ view (now (s .exit)) ≡ resetBelow 16 (view (now (s .entry))) ⌝ }
     ensures { λ _. ⌜ saved (now (s .exit)) ≡ saved (now (s .entry)) ⌝ }
 {
@@ -143,7 +136,7 @@ fn reset_eps(s: &mut [u8; STATE_LEN])
 }
 
 // The bus's reset: every record reset, no setup is ready (mod.rs 1213-1216), every stamp gone.
-pub fn reset_all(s: &mut [u8; STATE_LEN])
+pub fn reset_all(s: &mut State)
     ensures { λ _. ⌜ view (now (s .exit)) ≡ resetAll (view (now (s .entry))) ⌝ }
     ensures { λ _. ⌜ saved (now (s .exit)) ≡ saved (now (s .entry)) ⌝ }
 {

@@ -6,7 +6,7 @@ use print_access::accesses::access;
 use print_access::text::hex;
 use print_access::text::number;
 use print_access::text::print;
-use state::STATE_LEN;
+use state::State;
 use state::woken_at;
 
 // Whose task is woken.
@@ -23,7 +23,7 @@ fn task(code: u8) {
 }
 
 // Those to wake, in their order.
-fn wakes(s: &[u8; STATE_LEN], k: u8) {
+fn wakes(s: &State, k: u8) {
     print(b", wakes ");
     if k == 0 {
         print(b"none");
@@ -38,7 +38,7 @@ fn wakes(s: &[u8; STATE_LEN], k: u8) {
     }
 }
 
-fn end(s: &[u8; STATE_LEN], n: u16, k: u8) {
+fn end(s: &State, n: u16, k: u8) {
     print(b"end: result ");
     number(n as u32);
     wakes(s, k);
@@ -104,7 +104,7 @@ fn shown(at: u32, n: u16, stamp: u16) {
     number(stamp as u32);
 }
 
-pub fn show(s: &[u8; STATE_LEN], step: Step) {
+pub fn show(s: &State, step: Step) {
     match step {
         Step::Refused(n) => refused(n),
         Step::Asks(q) => access(q),

@@ -9,6 +9,9 @@ ghost use Rattle.req_bus_time.specs.Time.{chargeOf, entryOf, inUse, pass
 // Four drivers with 16 endpoints in two directions.
 pub const TIME_LEN: usize = 128;
 
+// The numbers that are the record.
+pub type Time = [u16; TIME_LEN];
+
 // The byte-times of a microframe that periodic transfers may use (USB 2.0, chapter 5).
 const PERIODIC: u32 = 6000;
 
@@ -49,7 +52,7 @@ fn wide(charge: u16) -> u32
 }
 
 // The time in use.
-pub fn in_use(time: &[u16; TIME_LEN]) -> u32
+pub fn in_use(time: &Time) -> u32
     ensures { λ r. ⌜ r ≡ inUse (now (time .entry)) ⌝ }
     ensures { λ r. ⌜ r ≤ 8388480 ⌝ }
 {
@@ -64,7 +67,7 @@ pub fn in_use(time: &[u16; TIME_LEN]) -> u32
 }
 
 // Would the charge at this place pass the limit? (row 19)
-pub fn passes(time: &[u16; TIME_LEN], at: usize, charge: u32) -> bool
+pub fn passes(time: &Time, at: usize, charge: u32) -> bool
     requires { ⌜ at < 128 ⌝ }
     requires { ⌜ charge ≤ 65590 ⌝ }
     ensures { λ r. ⌜ r ≡ passes (now (time .entry)) at charge ⌝ }
@@ -73,7 +76,7 @@ pub fn passes(time: &[u16; TIME_LEN], at: usize, charge: u32) -> bool
 }
 
 // The charge at this place.
-pub fn charge(time: &mut [u16; TIME_LEN], at: usize, charge: u32)
+pub fn charge(time: &mut Time, at: usize, charge: u32)
     requires { ⌜ at < 128 ⌝ }
     requires { ⌜ charge < 65536 ⌝ }
     ensures { λ _. ⌜ now (time .exit) ≡ set (now (time .entry)) at charge ⌝ }
@@ -92,7 +95,7 @@ fn entry_kept(charge: u16, config: u32, bit: u8) -> u16
 }
 
 // Of the driver's charges those stay whose bit is set in the word of ep_config.
-pub fn keep(time: &mut [u16; TIME_LEN], driver: u32, config: u32)
+pub fn keep(time: &mut Time, driver: u32, config: u32)
     ensures { λ _. ⌜ now (time .exit) ≡ keepOf driver config (now (time .entry)) ⌝ }
 {
     let first = (driver % 4) as usize * 32;

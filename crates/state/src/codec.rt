@@ -4,8 +4,8 @@ use crate::Control;
 use crate::EpState;
 use crate::Globals;
 use crate::Request;
-use crate::STATE_LEN;
 use crate::Saved;
+use crate::State;
 use le_bytes::get8;
 use le_bytes::get8x5;
 use le_bytes::get16;
@@ -22,7 +22,7 @@ ghost use Rattle.le_bytes.specs.Bytes.{gets, puts, numbers, bytes, Each};
 ghost use Rattle.state.specs.Codec.{epWidths, epAs, allocatorWidths, allocatorAs, globalsWidths, globalsAs};
 ghost use Rattle.state.specs.Codec.{requestWidths, requestAs, controlWidths, controlAs, savedWidths, savedAs};
 
-pub fn read_ep(s: &[u8; STATE_LEN], o: usize) -> EpState
+pub fn read_ep(s: &State, o: usize) -> EpState
     requires { ⌜ o + 30 ≤ 2839 ⌝ }
     ensures { λ r. ⌜ Each (epAs r) (numbers epWidths (gets (now (s .entry)) o 0 30)) ⌝ }
 {
@@ -49,7 +49,7 @@ pub fn read_ep(s: &[u8; STATE_LEN], o: usize) -> EpState
     }
 }
 
-pub fn write_ep(s: &mut [u8; STATE_LEN], o: usize, r: EpState)
+pub fn write_ep(s: &mut State, o: usize, r: EpState)
     requires { ⌜ o + 30 ≤ 2839 ⌝ }
     ensures { λ _. ⌜ now (s .exit) ≡ puts (now (s .entry)) o 0 (bytes epWidths (epAs r)) ⌝ }
 {
@@ -64,7 +64,7 @@ pub fn write_ep(s: &mut [u8; STATE_LEN], o: usize, r: EpState)
     put32(s, o, 26, r.armed_slot);
 }
 
-pub fn read_allocator(s: &[u8; STATE_LEN], o: usize) -> Allocator
+pub fn read_allocator(s: &State, o: usize) -> Allocator
     requires { ⌜ o + 18 ≤ 2839 ⌝ }
     ensures { λ r. ⌜ Each (allocatorAs r) (numbers allocatorWidths (gets (now (s .entry)) o 0 18)) ⌝ }
 {
@@ -82,7 +82,7 @@ pub fn read_allocator(s: &[u8; STATE_LEN], o: usize) -> Allocator
     }
 }
 
-pub fn write_allocator(s: &mut [u8; STATE_LEN], o: usize, r: Allocator)
+pub fn write_allocator(s: &mut State, o: usize, r: Allocator)
     requires { ⌜ o + 18 ≤ 2839 ⌝ }
     ensures { λ _. ⌜ now (s .exit) ≡ puts (now (s .entry)) o 0 (bytes allocatorWidths (allocatorAs r)) ⌝ }
 {
@@ -93,7 +93,7 @@ pub fn write_allocator(s: &mut [u8; STATE_LEN], o: usize, r: Allocator)
     put16(s, o, 16, r.allocated_in);
 }
 
-pub fn read_globals(s: &[u8; STATE_LEN], o: usize) -> Globals
+pub fn read_globals(s: &State, o: usize) -> Globals
     requires { ⌜ o + 37 ≤ 2839 ⌝ }
     ensures { λ r. ⌜ Each (globalsAs r) (numbers globalsWidths (gets (now (s .entry)) o 0 37)) ⌝ }
 {
@@ -119,7 +119,7 @@ pub fn read_globals(s: &[u8; STATE_LEN], o: usize) -> Globals
     }
 }
 
-pub fn write_globals(s: &mut [u8; STATE_LEN], o: usize, r: Globals)
+pub fn write_globals(s: &mut State, o: usize, r: Globals)
     requires { ⌜ o + 37 ≤ 2839 ⌝ }
     ensures { λ _. ⌜ now (s .exit) ≡ puts (now (s .entry)) o 0 (bytes globalsWidths (globalsAs r)) ⌝ }
 {
@@ -151,7 +151,7 @@ pub fn write_globals(s: &mut [u8; STATE_LEN], o: usize, r: Globals)
     put32(s, o, 33, r.ep0_buf);
 }
 
-pub fn read_request(s: &[u8; STATE_LEN], o: usize) -> Request
+pub fn read_request(s: &State, o: usize) -> Request
     requires { ⌜ o + 5 ≤ 2839 ⌝ }
     ensures { λ r. ⌜ Each (requestAs r) (numbers requestWidths (gets (now (s .entry)) o 0 5)) ⌝ }
 {
@@ -161,7 +161,7 @@ pub fn read_request(s: &[u8; STATE_LEN], o: usize) -> Request
     }
 }
 
-pub fn write_request(s: &mut [u8; STATE_LEN], o: usize, r: Request)
+pub fn write_request(s: &mut State, o: usize, r: Request)
     requires { ⌜ o + 5 ≤ 2839 ⌝ }
     ensures { λ _. ⌜ now (s .exit) ≡ puts (now (s .entry)) o 0 (bytes requestWidths (requestAs r)) ⌝ }
 {
@@ -169,7 +169,7 @@ pub fn write_request(s: &mut [u8; STATE_LEN], o: usize, r: Request)
     put32(s, o, 1, r.length);
 }
 
-pub fn read_control(s: &[u8; STATE_LEN], o: usize) -> Control
+pub fn read_control(s: &State, o: usize) -> Control
     requires { ⌜ o + 9 ≤ 2839 ⌝ }
     ensures { λ r. ⌜ Each (controlAs r) (numbers controlWidths (gets (now (s .entry)) o 0 9)) ⌝ }
 {
@@ -184,7 +184,7 @@ pub fn read_control(s: &[u8; STATE_LEN], o: usize) -> Control
     }
 }
 
-pub fn write_control(s: &mut [u8; STATE_LEN], o: usize, r: Control)
+pub fn write_control(s: &mut State, o: usize, r: Control)
     requires { ⌜ o + 9 ≤ 2839 ⌝ }
     ensures { λ _. ⌜ now (s .exit) ≡ puts (now (s .entry)) o 0 (bytes controlWidths (controlAs r)) ⌝ }
 {
@@ -192,7 +192,7 @@ pub fn write_control(s: &mut [u8; STATE_LEN], o: usize, r: Control)
     put32(s, o, 5, r.length);
 }
 
-pub fn read_saved(s: &[u8; STATE_LEN], o: usize) -> Saved
+pub fn read_saved(s: &State, o: usize) -> Saved
     requires { ⌜ o + 22 ≤ 2839 ⌝ }
     ensures { λ r. ⌜ Each (savedAs r) (numbers savedWidths (gets (now (s .entry)) o 0 22)) ⌝ }
 {
@@ -217,7 +217,7 @@ pub fn read_saved(s: &[u8; STATE_LEN], o: usize) -> Saved
     }
 }
 
-pub fn write_saved(s: &mut [u8; STATE_LEN], o: usize, r: Saved)
+pub fn write_saved(s: &mut State, o: usize, r: Saved)
     requires { ⌜ o + 22 ≤ 2839 ⌝ }
     ensures { λ _. ⌜ now (s .exit) ≡ puts (now (s .entry)) o 0 (bytes savedWidths (savedAs r)) ⌝ }
 {

@@ -1,5 +1,5 @@
 // Each write of a kept register goes through one of these.
-use crate::STATE_LEN;
+use crate::State;
 use crate::load_globals;
 use crate::store_globals;
 ghost use mathlib.Core.Path.{_≡_};
@@ -7,7 +7,7 @@ ghost use Rattle.state.specs.Driver.{withGlobals};
 ghost use Rattle.state.specs.State.{view, saved};
 ghost use Rattle.state.specs.Kept.{withEpConfig, withEpType, withIntEn};
 
-pub fn set_ep_config(s: &mut [u8; STATE_LEN], v: u32)
+pub fn set_ep_config(s: &mut State, v: u32)
     ensures { λ _. ⌜ view (now (s .exit)) ≡ withGlobals (view (now (s .entry))) (withEpConfig v (view (now (s .entry)) .globals)) ⌝ }
     ensures { λ _. ⌜ saved (now (s .exit)) ≡ saved (now (s .entry)) ⌝ }
 {
@@ -16,7 +16,7 @@ pub fn set_ep_config(s: &mut [u8; STATE_LEN], v: u32)
     store_globals(s, g);
 }
 
-pub fn set_ep_type(s: &mut [u8; STATE_LEN], v: u32)
+pub fn set_ep_type(s: &mut State, v: u32)
     ensures { λ _. ⌜ view (now (s .exit)) ≡ withGlobals (view (now (s .entry))) (withEpType v (view (now (s .entry)) .globals)) ⌝ }
     ensures { λ _. ⌜ saved (now (s .exit)) ≡ saved (now (s .entry)) ⌝ }
 {
@@ -25,7 +25,7 @@ pub fn set_ep_type(s: &mut [u8; STATE_LEN], v: u32)
     store_globals(s, g);
 }
 
-pub fn set_int_en(s: &mut [u8; STATE_LEN], v: u8)
+pub fn set_int_en(s: &mut State, v: u8)
     ensures { λ _. ⌜ view (now (s .exit)) ≡ withGlobals (view (now (s .entry))) (withIntEn v (view (now (s .entry)) .globals)) ⌝ }
     ensures { λ _. ⌜ saved (now (s .exit)) ≡ saved (now (s .entry)) ⌝ }
 {

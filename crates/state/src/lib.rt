@@ -26,6 +26,7 @@ pub use kept::set_ep_config;
 pub use kept::set_ep_type;
 pub use kept::set_int_en;
 pub use le_bytes::STATE_LEN;
+pub use le_bytes::State;
 pub use stamps::clear_all_stamps;
 pub use stamps::clear_stamps;
 pub use stamps::load_stamp;
@@ -250,14 +251,14 @@ fn len_key(dir: Dir, e: u8, i: u8) -> usize
 }
 
 // The record of endpoint e, taken modulo 16, in a direction.
-pub fn load_ep(s: &[u8; STATE_LEN], dir: Dir, e: u8) -> EpState
+pub fn load_ep(s: &State, dir: Dir, e: u8) -> EpState
     ensures { λ r. ⌜ r ≡ epOn (view (now (s .entry))) dir e ⌝ }
 {
     let k = key_of(dir, e);
     read_ep(s, EPS + k * 30)
 }
 
-pub fn store_ep(s: &mut [u8; STATE_LEN], dir: Dir, e: u8, r: EpState)
+pub fn store_ep(s: &mut State, dir: Dir, e: u8, r: EpState)
     ensures { λ _. ⌜ view (now (s .exit)) ≡ withOn (view (now (s .entry))) dir e r ⌝ }
     ensures { λ _. ⌜ saved (now (s .exit)) ≡ saved (now (s .entry)) ⌝ }
 {
@@ -267,14 +268,14 @@ pub fn store_ep(s: &mut [u8; STATE_LEN], dir: Dir, e: u8, r: EpState)
 }
 
 // The length of slot i, taken modulo 16.
-pub fn load_len(s: &[u8; STATE_LEN], dir: Dir, e: u8, i: u8) -> u16
+pub fn load_len(s: &State, dir: Dir, e: u8, i: u8) -> u16
     ensures { λ r. ⌜ r ≡ lenOn (view (now (s .entry))) dir e i ⌝ }
 {
     let k = len_key(dir, e, i);
     get16(s, LENS + k * 2, 0)
 }
 
-pub fn store_len(s: &mut [u8; STATE_LEN], dir: Dir, e: u8, i: u8, v: u16)
+pub fn store_len(s: &mut State, dir: Dir, e: u8, i: u8, v: u16)
     ensures { λ _. ⌜ view (now (s .exit)) ≡ withLenOn (view (now (s .entry))) dir e i v ⌝ }
     ensures { λ _. ⌜ saved (now (s .exit)) ≡ saved (now (s .entry)) ⌝ }
 {
@@ -284,13 +285,13 @@ pub fn store_len(s: &mut [u8; STATE_LEN], dir: Dir, e: u8, i: u8, v: u16)
 }
 
 // A paced endpoint's last microframe.
-pub fn load_paced(s: &[u8; STATE_LEN], e: u8) -> u16
+pub fn load_paced(s: &State, e: u8) -> u16
     ensures { λ r. ⌜ r ≡ pacedOn (view (now (s .entry))) e ⌝ }
 {
     get16(s, PACED + (e % 16) as usize * 2, 0)
 }
 
-pub fn store_paced(s: &mut [u8; STATE_LEN], e: u8, v: u16)
+pub fn store_paced(s: &mut State, e: u8, v: u16)
     ensures { λ _. ⌜ view (now (s .exit)) ≡ withPacedOn (view (now (s .entry))) e v ⌝ }
     ensures { λ _. ⌜ saved (now (s .exit)) ≡ saved (now (s .entry)) ⌝ }
 {
@@ -299,14 +300,14 @@ pub fn store_paced(s: &mut [u8; STATE_LEN], e: u8, v: u16)
 }
 
 // The read begun on OUT e, the write begun on IN e.
-pub fn load_request(s: &[u8; STATE_LEN], dir: Dir, e: u8) -> Request
+pub fn load_request(s: &State, dir: Dir, e: u8) -> Request
     ensures { λ r. ⌜ r ≡ requestOn (view (now (s .entry))) dir e ⌝ }
 {
     let k = key_of(dir, e);
     read_request(s, REQUESTS + k * 5)
 }
 
-pub fn store_request(s: &mut [u8; STATE_LEN], dir: Dir, e: u8, r: Request)
+pub fn store_request(s: &mut State, dir: Dir, e: u8, r: Request)
     ensures { λ _. ⌜ view (now (s .exit)) ≡ withRequestOn (view (now (s .entry))) dir e r ⌝ }
     ensures { λ _. ⌜ saved (now (s .exit)) ≡ saved (now (s .entry)) ⌝ }
 {
@@ -315,13 +316,13 @@ pub fn store_request(s: &mut [u8; STATE_LEN], dir: Dir, e: u8, r: Request)
     write_request(s, REQUESTS + k * 5, r);
 }
 
-pub fn load_globals(s: &[u8; STATE_LEN]) -> Globals
+pub fn load_globals(s: &State) -> Globals
     ensures { λ r. ⌜ r ≡ view (now (s .entry)) .globals ⌝ }
 {
     read_globals(s, GLOBALS)
 }
 
-pub fn store_globals(s: &mut [u8; STATE_LEN], r: Globals)
+pub fn store_globals(s: &mut State, r: Globals)
     ensures { λ _. ⌜ view (now (s .exit)) ≡ withGlobals (view (now (s .entry))) r ⌝ }
     ensures { λ _. ⌜ saved (now (s .exit)) ≡ saved (now (s .entry)) ⌝ }
 {
@@ -329,13 +330,13 @@ pub fn store_globals(s: &mut [u8; STATE_LEN], r: Globals)
     write_globals(s, GLOBALS, r);
 }
 
-pub fn load_allocator(s: &[u8; STATE_LEN]) -> Allocator
+pub fn load_allocator(s: &State) -> Allocator
     ensures { λ r. ⌜ r ≡ view (now (s .entry)) .allocator ⌝ }
 {
     read_allocator(s, ALLOCATOR)
 }
 
-pub fn store_allocator(s: &mut [u8; STATE_LEN], r: Allocator)
+pub fn store_allocator(s: &mut State, r: Allocator)
     ensures { λ _. ⌜ view (now (s .exit)) ≡ withAllocator (view (now (s .entry))) r ⌝ }
     ensures { λ _. ⌜ saved (now (s .exit)) ≡ saved (now (s .entry)) ⌝ }
 {
@@ -343,13 +344,13 @@ pub fn store_allocator(s: &mut [u8; STATE_LEN], r: Allocator)
     write_allocator(s, ALLOCATOR, r);
 }
 
-pub fn load_control(s: &[u8; STATE_LEN]) -> Control
+pub fn load_control(s: &State) -> Control
     ensures { λ r. ⌜ r ≡ view (now (s .entry)) .control ⌝ }
 {
     read_control(s, CONTROL)
 }
 
-pub fn store_control(s: &mut [u8; STATE_LEN], r: Control)
+pub fn store_control(s: &mut State, r: Control)
     ensures { λ _. ⌜ view (now (s .exit)) ≡ withControl (view (now (s .entry))) r ⌝ }
     ensures { λ _. ⌜ saved (now (s .exit)) ≡ saved (now (s .entry)) ⌝ }
 {
@@ -358,13 +359,13 @@ pub fn store_control(s: &mut [u8; STATE_LEN], r: Control)
 }
 
 // The suspended operation stands beside the view.
-pub fn load_saved(s: &[u8; STATE_LEN]) -> Saved
+pub fn load_saved(s: &State) -> Saved
     ensures { λ r. ⌜ r ≡ saved (now (s .entry)) ⌝ }
 {
     read_saved(s, SAVED)
 }
 
-pub fn store_saved(s: &mut [u8; STATE_LEN], r: Saved)
+pub fn store_saved(s: &mut State, r: Saved)
     ensures { λ _. ⌜ view (now (s .exit)) ≡ view (now (s .entry)) ⌝ }
     ensures { λ _. ⌜ saved (now (s .exit)) ≡ r ⌝ }
 {

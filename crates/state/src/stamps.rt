@@ -1,6 +1,6 @@
 // The microframe index with each packet of an OUT ring.
 use crate::STAMPS;
-use crate::STATE_LEN;
+use crate::State;
 use crate::sized;
 use le_bytes::get16;
 use le_bytes::put16;
@@ -18,14 +18,14 @@ fn stamp_key(e: u8, i: u8) -> usize
 }
 
 // The stamp of slot i of OUT e, both taken modulo 16.
-pub fn load_stamp(s: &[u8; STATE_LEN], e: u8, i: u8) -> u16
+pub fn load_stamp(s: &State, e: u8, i: u8) -> u16
     ensures { λ r. ⌜ r ≡ stampOn (view (now (s .entry))) e i ⌝ }
 {
     let k = stamp_key(e, i);
     get16(s, STAMPS + k * 2, 0)
 }
 
-pub fn store_stamp(s: &mut [u8; STATE_LEN], e: u8, i: u8, v: u16)
+pub fn store_stamp(s: &mut State, e: u8, i: u8, v: u16)
     ensures { λ _. ⌜ view (now (s .exit)) ≡ withStampOn (view (now (s .entry))) e i v ⌝ }
     ensures { λ _. ⌜ saved (now (s .exit)) ≡ saved (now (s .entry)) ⌝ }
 {
@@ -35,7 +35,7 @@ pub fn store_stamp(s: &mut [u8; STATE_LEN], e: u8, i: u8, v: u16)
 }
 
 // The n stamps from a.
-fn clear_from(s: &mut [u8; STATE_LEN], a: usize, n: usize)
+fn clear_from(s: &mut State, a: usize, n: usize)
     requires { ⌜ a + n ≤ 256 ⌝ }
     ensures { λ _. ⌜ view (now (s .exit)) ≡ withStamps (view (now (s .entry))) (filled (view (now (s .entry)) .stamps) a n 0) ⌝ }
     ensures { λ _. ⌜ saved (now (s .exit)) ≡ saved (now (s .entry)) ⌝ }
@@ -49,7 +49,7 @@ fn clear_from(s: &mut [u8; STATE_LEN], a: usize, n: usize)
 }
 
 // All stamps of OUT e.
-pub fn clear_stamps(s: &mut [u8; STATE_LEN], e: u8)
+pub fn clear_stamps(s: &mut State, e: u8)
     ensures { λ _. ⌜ view (now (s .exit)) ≡ clearStamps (view (now (s .entry))) e ⌝ }
     ensures { λ _. ⌜ saved (now (s .exit)) ≡ saved (now (s .entry)) ⌝ }
 {
@@ -57,7 +57,7 @@ pub fn clear_stamps(s: &mut [u8; STATE_LEN], e: u8)
 }
 
 // Of every OUT endpoint.
-pub fn clear_all_stamps(s: &mut [u8; STATE_LEN])
+pub fn clear_all_stamps(s: &mut State)
     ensures { λ _. ⌜ view (now (s .exit)) ≡ noStamps (view (now (s .entry))) ⌝ }
     ensures { λ _. ⌜ saved (now (s .exit)) ≡ saved (now (s .entry)) ⌝ }
 {

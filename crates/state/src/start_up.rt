@@ -8,8 +8,8 @@ use crate::LENS;
 use crate::PACED;
 use crate::REQUESTS;
 use crate::Request;
-use crate::STATE_LEN;
 use crate::Saved;
+use crate::State;
 use crate::clear_all_stamps;
 use crate::codec::read_ep;
 use crate::codec::write_ep;
@@ -39,7 +39,7 @@ fn no_ep() -> EpState
     r
 }
 
-fn clear_eps(s: &mut [u8; STATE_LEN])
+fn clear_eps(s: &mut State)
     ensures { λ _. ⌜ view (now (s .exit)) ≡ withEps (view (now (s .entry))) (filled (view (now (s .entry)) .eps) 0 32 noEp) ⌝ }
     ensures { λ _. ⌜ saved (now (s .exit)) ≡ saved (now (s .entry)) ⌝ }
 {
@@ -52,7 +52,7 @@ fn clear_eps(s: &mut [u8; STATE_LEN])
 }
 
 // Of each cleared record the two fields that are not 0 in a new one.
-fn new_eps(s: &mut [u8; STATE_LEN])
+fn new_eps(s: &mut State)
     requires { ⌜ view (now s) .eps ≡ replicate 32 noEp ⌝ }
     ensures { λ _. ⌜ view (now (s .exit)) ≡ withEps (view (now (s .entry))) (filled (view (now (s .entry)) .eps) 0 32 newEp) ⌝ }
     ensures { λ _. ⌜ saved (now (s .exit)) ≡ saved (now (s .entry)) ⌝ }
@@ -69,7 +69,7 @@ fn new_eps(s: &mut [u8; STATE_LEN])
 }
 
 // All records cleared at once, by a memset, then two fields of each: a third of what a whole new record for each takes.
-fn fill_eps(s: &mut [u8; STATE_LEN])
+fn fill_eps(s: &mut State)
     ensures { λ _. ⌜ view (now (s .exit)) ≡ withEps (view (now (s .entry))) (filled (view (now (s .entry)) .eps) 0 32 newEp) ⌝ }
     ensures { λ _. ⌜ saved (now (s .exit)) ≡ saved (now (s .entry)) ⌝ }
 {
@@ -78,7 +78,7 @@ fn fill_eps(s: &mut [u8; STATE_LEN])
 }
 
 // The n lengths from a.
-fn fill_lengths(s: &mut [u8; STATE_LEN], a: usize, n: usize, v: u16)
+fn fill_lengths(s: &mut State, a: usize, n: usize, v: u16)
     requires { ⌜ a + n ≤ 512 ⌝ }
     ensures { λ _. ⌜ view (now (s .exit)) ≡ withLens (view (now (s .entry))) (filled (view (now (s .entry)) .lens) a n v) ⌝ }
     ensures { λ _. ⌜ saved (now (s .exit)) ≡ saved (now (s .entry)) ⌝ }
@@ -91,7 +91,7 @@ fn fill_lengths(s: &mut [u8; STATE_LEN], a: usize, n: usize, v: u16)
     }
 }
 
-fn fill_paced(s: &mut [u8; STATE_LEN])
+fn fill_paced(s: &mut State)
     ensures { λ _. ⌜ view (now (s .exit)) ≡ withPaced (view (now (s .entry))) (filled (view (now (s .entry)) .paced) 0 16 0x1800) ⌝ }
     ensures { λ _. ⌜ saved (now (s .exit)) ≡ saved (now (s .entry)) ⌝ }
 {
@@ -103,7 +103,7 @@ fn fill_paced(s: &mut [u8; STATE_LEN])
     }
 }
 
-fn fill_requests(s: &mut [u8; STATE_LEN])
+fn fill_requests(s: &mut State)
     ensures { λ _. ⌜ view (now (s .exit)) ≡ withRequests (view (now (s .entry))) (filled (view (now (s .entry)) .requests) 0 32 noRequest) ⌝ }
     ensures { λ _. ⌜ saved (now (s .exit)) ≡ saved (now (s .entry)) ⌝ }
 {
@@ -122,7 +122,7 @@ fn fill_requests(s: &mut [u8; STATE_LEN])
     }
 }
 
-fn fresh_globals(s: &mut [u8; STATE_LEN], callback: u8)
+fn fresh_globals(s: &mut State, callback: u8)
     ensures { λ _. ⌜ view (now (s .exit)) ≡ withGlobals (view (now (s .entry))) (freshGlobals callback) ⌝ }
 {
     store_globals(
@@ -148,7 +148,7 @@ fn fresh_globals(s: &mut [u8; STATE_LEN], callback: u8)
     );
 }
 
-fn fresh_allocator(s: &mut [u8; STATE_LEN], size: u16, count: u16)
+fn fresh_allocator(s: &mut State, size: u16, count: u16)
     ensures { λ _. ⌜ view (now (s .exit)) ≡ withAllocator (view (now (s .entry))) (freshAllocator size count) ⌝ }
 {
     store_allocator(
@@ -167,7 +167,7 @@ fn fresh_allocator(s: &mut [u8; STATE_LEN], size: u16, count: u16)
     );
 }
 
-fn fresh_control(s: &mut [u8; STATE_LEN])
+fn fresh_control(s: &mut State)
     ensures { λ _. ⌜ view (now (s .exit)) ≡ withControl (view (now (s .entry))) noControl ⌝ }
 {
     store_control(
@@ -206,14 +206,14 @@ pub fn nothing() -> Saved
     }
 }
 
-fn fresh_saved(s: &mut [u8; STATE_LEN])
+fn fresh_saved(s: &mut State)
     ensures { λ _. ⌜ view (now (s .exit)) ≡ view (now (s .entry)) ⌝ }
     ensures { λ _. ⌜ saved (now (s .exit)) ≡ nothing ⌝ }
 {
     store_saved(s, nothing());
 }
 
-pub fn fresh(s: &mut [u8; STATE_LEN], size: u16, count: u16, callback: u8)
+pub fn fresh(s: &mut State, size: u16, count: u16, callback: u8)
     ensures { λ _. ⌜ view (now (s .exit)) ≡ freshDriver size count callback ⌝ }
     ensures { λ _. ⌜ saved (now (s .exit)) ≡ nothing ⌝ }
 {

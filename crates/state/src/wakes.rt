@@ -1,7 +1,7 @@
 // The wake-ups gathered by the operation under way, in their order: how many, and a code for each (0 to 15 IN, 16 to 31 OUT, 32 the
 // bus). Each wake-up goes through `wake`.
 use crate::CODES;
-use crate::STATE_LEN;
+use crate::State;
 use crate::WAKES;
 use crate::sized;
 use le_bytes::get8;
@@ -25,20 +25,20 @@ pub fn wake_code(dir: Dir, e: u8) -> u8
 }
 
 // How many there are.
-pub fn woken_count(s: &[u8; STATE_LEN]) -> u8
+pub fn woken_count(s: &State) -> u8
     ensures { λ r. ⌜ r ≡ view (now (s .entry)) .wakes .count ⌝ }
 {
     get8(s, WAKES, 0)
 }
 
 // Whose is the one at place i, taken modulo 64.
-pub fn woken_at(s: &[u8; STATE_LEN], i: u8) -> u8
+pub fn woken_at(s: &State, i: u8) -> u8
     ensures { λ r. ⌜ r ≡ getD (view (now (s .entry)) .wakes .codes) (i % 64) 0 ⌝ }
 {
     get8(s, CODES + (i % 64) as usize * 1, 0)
 }
 
-fn store_count(s: &mut [u8; STATE_LEN], n: u8)
+fn store_count(s: &mut State, n: u8)
     ensures { λ _. ⌜ view (now (s .exit)) ≡ withWakes (view (now (s .entry))) (withCount (view (now (s .entry)) .wakes) n) ⌝ }
     ensures { λ _. ⌜ saved (now (s .exit)) ≡ saved (now (s .entry)) ⌝ }
 {
@@ -46,7 +46,7 @@ fn store_count(s: &mut [u8; STATE_LEN], n: u8)
     put8(s, WAKES, 0, n);
 }
 
-fn store_code(s: &mut [u8; STATE_LEN], i: u8, code: u8)
+fn store_code(s: &mut State, i: u8, code: u8)
     requires { ⌜ i ≤ 63 ⌝ }
     ensures { λ _. ⌜ view (now (s .exit)) ≡ withWakes (view (now (s .entry)))
         (withCodes (view (now (s .entry)) .wakes) (set (view (now (s .entry)) .wakes .codes) i code)) ⌝ }
@@ -57,7 +57,7 @@ fn store_code(s: &mut [u8; STATE_LEN], i: u8, code: u8)
 }
 
 // One more, the last.
-pub fn wake(s: &mut [u8; STATE_LEN], code: u8)
+pub fn wake(s: &mut State, code: u8)
     ensures { λ _. ⌜ view (now (s .exit)) ≡ withWakes (view (now (s .entry))) (woken code (view (now (s .entry)) .wakes)) ⌝ }
     ensures { λ _. ⌜ saved (now (s .exit)) ≡ saved (now (s .entry)) ⌝ }
 {
@@ -68,7 +68,7 @@ pub fn wake(s: &mut [u8; STATE_LEN], code: u8)
     }
 }
 
-fn clear_codes(s: &mut [u8; STATE_LEN])
+fn clear_codes(s: &mut State)
     ensures { λ _. ⌜ view (now (s .exit)) ≡ withWakes (view (now (s .entry)))
         (withCodes (view (now (s .entry)) .wakes) (filled (view (now (s .entry)) .wakes .codes) 0 64 0)) ⌝ }
     ensures { λ _. ⌜ saved (now (s .exit)) ≡ saved (now (s .entry)) ⌝ }
@@ -81,7 +81,7 @@ fn clear_codes(s: &mut [u8; STATE_LEN])
 }
 
 // An operation begins: none is listed. What stands behind the list is left.
-pub fn clear_wakes(s: &mut [u8; STATE_LEN])
+pub fn clear_wakes(s: &mut State)
     ensures { λ _. ⌜ view (now (s .exit)) ≡ noneGathered (view (now (s .entry))) ⌝ }
     ensures { λ _. ⌜ saved (now (s .exit)) ≡ saved (now (s .entry)) ⌝ }
 {
@@ -89,7 +89,7 @@ pub fn clear_wakes(s: &mut [u8; STATE_LEN])
 }
 
 // Start-up: every code 0.
-pub fn fresh_wakes(s: &mut [u8; STATE_LEN])
+pub fn fresh_wakes(s: &mut State)
     ensures { λ _. ⌜ view (now (s .exit)) ≡ withWakes (view (now (s .entry))) none-woken ⌝ }
     ensures { λ _. ⌜ saved (now (s .exit)) ≡ saved (now (s .entry)) ⌝ }
 {

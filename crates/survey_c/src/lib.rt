@@ -4,7 +4,7 @@ mod rooms; // rooms.rt: an answer's numbers in the caller's rooms
 mod words; // words.rt: an answer as one word
 mod writer; // writer.rt: a card's writer as four numbers
 
-use req_bus_time::TIME_LEN;
+use req_bus_time::Time;
 use req_card_reader::Batch;
 use req_card_reader::Next;
 use req_card_reader::Reader;
@@ -42,7 +42,7 @@ ghost use Rattle.survey_c.specs.Card.{writerIn, numbersOf, wroteWord, wr
 #[no_mangle]
 pub extern "C" fn usbhs_best_set(
     list: &mut [Channel],
-    time: &[u16; TIME_LEN],
+    time: &Time,
     budget: u32,
     total: &mut u32,
     figure: &mut u32,

@@ -2,8 +2,8 @@ use crate::operates::operate;
 use call_answer_step::step_of;
 use machine::Step;
 use machine::saved::tag;
-use req_bus_time::TIME_LEN;
-use state::STATE_LEN;
+use req_bus_time::Time;
+use state::State;
 ghost use mathlib.Core.Path.{_≡_};
 ghost use Rattle.model.specs.Machine.{go};
 ghost use Rattle.call_bus_time.specs.Sharing.{SharedStep};
@@ -12,13 +12,7 @@ ghost use Rattle.call_bus_time.specs.Sharing.{SharedStep};
 pub const INTERRUPT: u8 = 6;
 
 // Goes on with the operation under way. An interrupt writes no ep_config, so the record is not looked at.
-pub fn proceed(
-    s: &mut [u8; STATE_LEN],
-    slots: &mut [u8],
-    time: &mut [u16; TIME_LEN],
-    driver: u32,
-    v: u32,
-) -> Step
+pub fn proceed(s: &mut State, slots: &mut [u8], time: &mut Time, driver: u32, v: u32) -> Step
     ensures { λ r. ⌜ SharedStep r driver (go v) (now (s .entry)) (now (s .exit))
         (now (slots .entry)) (now (slots .exit)) (now (time .entry)) (now (time .exit)) ⌝ }
 {

@@ -13,10 +13,10 @@ use call_answer_word::word_of;
 use inputs::dir_of;
 use inputs::flag_of;
 use machine::saved::tag;
-use req_bus_time::TIME_LEN;
+use req_bus_time::Time;
 use setup::setup_word;
 use stamp::stamp_by;
-use state::STATE_LEN;
+use state::State;
 use usbhs::proceeds::INTERRUPT;
 use woken::list_into;
 ghost use mathlib.Core.Path.{_≡_};
@@ -42,9 +42,9 @@ ghost use Rattle.usbhs_c.specs.Calls.{dirOf, flagOf};
 // Start-up on any state, with the buffer's size and count and whether there is a start-of-frame callback.
 #[no_mangle]
 pub extern "C" fn usbhs_start_up(
-    s: &mut [u8; STATE_LEN],
+    s: &mut State,
     slots: &[u8],
-    time: &mut [u16; TIME_LEN],
+    time: &mut Time,
     driver: u32,
     size: u32,
     count: u32,
@@ -59,7 +59,7 @@ pub extern "C" fn usbhs_start_up(
 // An endpoint; its kind counts modulo 4, and an address of 256 or more asks for none.
 #[no_mangle]
 pub extern "C" fn usbhs_allocate(
-    s: &mut [u8; STATE_LEN],
+    s: &mut State,
     kind: u32,
     address: u32,
     maximum: u32,
@@ -73,20 +73,14 @@ pub extern "C" fn usbhs_allocate(
 
 // EP0's start, with its maximum.
 #[no_mangle]
-pub extern "C" fn usbhs_start(s: &mut [u8; STATE_LEN], maximum: u32) -> u64
+pub extern "C" fn usbhs_start(s: &mut State, maximum: u32) -> u64
     ensures { λ r. ⌜ Answers r (begin (other (Start maximum))) (now (s .entry)) (now (s .exit)) ⌝ }
 {
     word_of(usbhs::starting::start(s, maximum))
 }
 
 // Any operation but the interrupt goes on; apart from usbhs_continue, which so keeps nothing over a call.
-fn operation_word(
-    s: &mut [u8; STATE_LEN],
-    slots: &mut [u8],
-    time: &mut [u16; TIME_LEN],
-    driver: u32,
-    value: u32,
-) -> u64
+fn operation_word(s: &mut State, slots: &mut [u8], time: &mut Time, driver: u32, value: u32) -> u64
     requires { ⌜ (saved (now s) .tag ≡ 6 → ⊥) ⌝ }
     ensures { λ r. ⌜ AnswersCharged r driver (go value) (now (s .entry))
         (now (s .exit)) (now (slots .entry)) (now (slots .exit)) (now (time .entry)) (now (time .exit)) ⌝ }
@@ -97,9 +91,9 @@ fn operation_word(
 // Goes on with the operation under way, with the number brought. An interrupt answers its word by itself, and leaves the record of bus time.
 #[no_mangle]
 pub extern "C" fn usbhs_continue(
-    s: &mut [u8; STATE_LEN],
+    s: &mut State,
     slots: &mut [u8],
-    time: &mut [u16; TIME_LEN],
+    time: &mut Time,
     driver: u32,
     value: u32,
 ) -> u64
@@ -114,7 +108,7 @@ pub extern "C" fn usbhs_continue(
 
 // The current microframe number.
 #[no_mangle]
-pub extern "C" fn usbhs_begin_microframe(s: &mut [u8; STATE_LEN]) -> u64
+pub extern "C" fn usbhs_begin_microframe(s: &mut State) -> u64
     ensures { λ r. ⌜ Answers r (begin (other Microframe)) (now (s .entry)) (now (s .exit)) ⌝ }
 {
     word_of(usbhs::begins::begin_microframe(s))
@@ -122,7 +116,7 @@ pub extern "C" fn usbhs_begin_microframe(s: &mut [u8; STATE_LEN]) -> u64
 
 // Whether advance moves the IN endpoint on.
 #[no_mangle]
-pub extern "C" fn usbhs_set_paced(s: &mut [u8; STATE_LEN], endpoint: u32, paced: u32) -> u64
+pub extern "C" fn usbhs_set_paced(s: &mut State, endpoint: u32, paced: u32) -> u64
     ensures { λ r. ⌜ AnswersAtOnce r (begin (other (SetPaced endpoint (flagOf paced)))) (now (s .entry)) (now (s .exit)) ⌝ }
 {
     word_of(usbhs::begins::set_paced(s, endpoint, flag_of(paced)))
@@ -130,7 +124,7 @@ pub extern "C" fn usbhs_set_paced(s: &mut [u8; STATE_LEN], endpoint: u32, paced:
 
 // The paced IN endpoint moved on.
 #[no_mangle]
-pub extern "C" fn usbhs_begin_advance(s: &mut [u8; STATE_LEN], endpoint: u32) -> u64
+pub extern "C" fn usbhs_begin_advance(s: &mut State, endpoint: u32) -> u64
     ensures { λ r. ⌜ Answers r (begin (other (Advance endpoint))) (now (s .entry)) (now (s .exit)) ⌝ }
 {
     word_of(usbhs::begins::begin_advance(s, endpoint))
@@ -138,7 +132,7 @@ pub extern "C" fn usbhs_begin_advance(s: &mut [u8; STATE_LEN], endpoint: u32) ->
 
 // The interrupt: while it is under way packets may be opened, closed and queued.
 #[no_mangle]
-pub extern "C" fn usbhs_begin_interrupt(s: &mut [u8; STATE_LEN]) -> u64
+pub extern "C" fn usbhs_begin_interrupt(s: &mut State) -> u64
     ensures { λ r. ⌜ Answers r (begin interrupt) (now (s .entry)) (now (s .exit)) ⌝ }
 {
     word_of(usbhs::begins::begin_interrupt(s))
@@ -146,7 +140,7 @@ pub extern "C" fn usbhs_begin_interrupt(s: &mut [u8; STATE_LEN]) -> u64
 
 // Pulls the bus up.
 #[no_mangle]
-pub extern "C" fn usbhs_begin_bus_enable(s: &mut [u8; STATE_LEN]) -> u64
+pub extern "C" fn usbhs_begin_bus_enable(s: &mut State) -> u64
     ensures { λ r. ⌜ Answers r (begin (other BusEnable)) (now (s .entry)) (now (s .exit)) ⌝ }
 {
     word_of(usbhs::bus_begins::begin_bus_enable(s))
@@ -154,7 +148,7 @@ pub extern "C" fn usbhs_begin_bus_enable(s: &mut [u8; STATE_LEN]) -> u64
 
 // Nothing, as in the Rust.
 #[no_mangle]
-pub extern "C" fn usbhs_begin_bus_disable(s: &mut [u8; STATE_LEN]) -> u64
+pub extern "C" fn usbhs_begin_bus_disable(s: &mut State) -> u64
     ensures { λ r. ⌜ Answers r (begin (other BusDisable)) (now (s .entry)) (now (s .exit)) ⌝ }
 {
     word_of(usbhs::bus_begins::begin_bus_disable(s))
@@ -162,7 +156,7 @@ pub extern "C" fn usbhs_begin_bus_disable(s: &mut [u8; STATE_LEN]) -> u64
 
 // The bus's event: 0 not yet, 1 power detected, 2 reset, 3 suspend, 4 resume.
 #[no_mangle]
-pub extern "C" fn usbhs_begin_bus_poll(s: &mut [u8; STATE_LEN]) -> u64
+pub extern "C" fn usbhs_begin_bus_poll(s: &mut State) -> u64
     ensures { λ r. ⌜ Answers r (begin (other BusPoll)) (now (s .entry)) (now (s .exit)) ⌝ }
 {
     word_of(usbhs::bus_begins::begin_bus_poll(s))
@@ -170,7 +164,7 @@ pub extern "C" fn usbhs_begin_bus_poll(s: &mut [u8; STATE_LEN]) -> u64
 
 // Whether the endpoint answers STALL: 1 or 0.
 #[no_mangle]
-pub extern "C" fn usbhs_begin_is_stalled(s: &mut [u8; STATE_LEN], endpoint: u32, dir: u32) -> u64
+pub extern "C" fn usbhs_begin_is_stalled(s: &mut State, endpoint: u32, dir: u32) -> u64
     ensures { λ r. ⌜ Answers r (begin (other (IsStalled (dirOf dir) endpoint))) (now (s .entry)) (now (s .exit)) ⌝ }
 {
     word_of(usbhs::bus_begins::begin_is_stalled(s, dir_of(dir), endpoint))
@@ -179,7 +173,7 @@ pub extern "C" fn usbhs_begin_is_stalled(s: &mut [u8; STATE_LEN], endpoint: u32,
 // The endpoint stalled or restarted.
 #[no_mangle]
 pub extern "C" fn usbhs_begin_set_stalled(
-    s: &mut [u8; STATE_LEN],
+    s: &mut State,
     endpoint: u32,
     dir: u32,
     stalled: u32,
@@ -192,9 +186,9 @@ pub extern "C" fn usbhs_begin_set_stalled(
 // The endpoint enabled or disabled.
 #[no_mangle]
 pub extern "C" fn usbhs_begin_set_enabled(
-    s: &mut [u8; STATE_LEN],
+    s: &mut State,
     slots: &mut [u8],
-    time: &mut [u16; TIME_LEN],
+    time: &mut Time,
     driver: u32,
     endpoint: u32,
     dir: u32,
@@ -216,7 +210,7 @@ pub extern "C" fn usbhs_begin_set_enabled(
 
 // A packet awaited from the host, into a slice of that length.
 #[no_mangle]
-pub extern "C" fn usbhs_begin_read(s: &mut [u8; STATE_LEN], endpoint: u32, length: u32) -> u64
+pub extern "C" fn usbhs_begin_read(s: &mut State, endpoint: u32, length: u32) -> u64
     ensures { λ r. ⌜ Answers r (begin (other (BeginRead endpoint length))) (now (s .entry)) (now (s .exit)) ⌝ }
 {
     word_of(usbhs::requests::begin_read(s, endpoint, length))
@@ -225,7 +219,7 @@ pub extern "C" fn usbhs_begin_read(s: &mut [u8; STATE_LEN], endpoint: u32, lengt
 // The packet at the slice's front.
 #[no_mangle]
 pub extern "C" fn usbhs_poll_read(
-    s: &mut [u8; STATE_LEN],
+    s: &mut State,
     slots: &[u8],
     endpoint: u32,
     slice: &mut [u8],
@@ -239,7 +233,7 @@ pub extern "C" fn usbhs_poll_read(
 // A packet for the host.
 #[no_mangle]
 pub extern "C" fn usbhs_begin_write(
-    s: &mut [u8; STATE_LEN],
+    s: &mut State,
     slots: &mut [u8],
     endpoint: u32,
     bytes: &[u8],
@@ -253,7 +247,7 @@ pub extern "C" fn usbhs_begin_write(
 // Whether the host has taken it, or, of an isochronous endpoint, whether it is queued.
 #[no_mangle]
 pub extern "C" fn usbhs_poll_write(
-    s: &mut [u8; STATE_LEN],
+    s: &mut State,
     slots: &mut [u8],
     endpoint: u32,
     bytes: &[u8],
@@ -266,7 +260,7 @@ pub extern "C" fn usbhs_poll_write(
 
 // Setup begun: its poll waits for a setup packet.
 #[no_mangle]
-pub extern "C" fn usbhs_begin_setup(s: &mut [u8; STATE_LEN]) -> u64
+pub extern "C" fn usbhs_begin_setup(s: &mut State) -> u64
     ensures { λ r. ⌜ Answers r (begin (other BeginSetup)) (now (s .entry)) (now (s .exit)) ⌝ }
 {
     word_of(usbhs::control_begins::begin_setup(s))
@@ -274,7 +268,7 @@ pub extern "C" fn usbhs_begin_setup(s: &mut [u8; STATE_LEN]) -> u64
 
 // The setup packet's 8 bytes.
 #[no_mangle]
-pub extern "C" fn usbhs_poll_setup(s: &mut [u8; STATE_LEN], packet: &mut [u8; 8]) -> u64
+pub extern "C" fn usbhs_poll_setup(s: &mut State, packet: &mut [u8; 8]) -> u64
     ensures { λ r. ⌜ AnswersInto r (begin (other PollSetup)) (now (s .entry)) (now (s .exit)) (now (packet .entry)) (now (packet .exit)) ⌝ }
 {
     setup_word(packet, usbhs::control_polls::poll_setup(s))
@@ -282,7 +276,7 @@ pub extern "C" fn usbhs_poll_setup(s: &mut [u8; STATE_LEN], packet: &mut [u8; 8]
 
 // A packet of data awaited from the host, into a slice of that length; the first of its stage or a later one.
 #[no_mangle]
-pub extern "C" fn usbhs_begin_data_out(s: &mut [u8; STATE_LEN], length: u32, first: u32) -> u64
+pub extern "C" fn usbhs_begin_data_out(s: &mut State, length: u32, first: u32) -> u64
     ensures { λ r. ⌜ Answers r (begin (other (BeginDataOut length (flagOf first)))) (now (s .entry)) (now (s .exit)) ⌝ }
 {
     word_of(usbhs::control_begins::begin_data_out(s, length, flag_of(first)))
@@ -290,11 +284,7 @@ pub extern "C" fn usbhs_begin_data_out(s: &mut [u8; STATE_LEN], length: u32, fir
 
 // The packet at the slice's front.
 #[no_mangle]
-pub extern "C" fn usbhs_poll_data_out(
-    s: &mut [u8; STATE_LEN],
-    slots: &[u8],
-    slice: &mut [u8],
-) -> u64
+pub extern "C" fn usbhs_poll_data_out(s: &mut State, slots: &[u8], slice: &mut [u8]) -> u64
     ensures { λ r. ⌜ AnswersOutOf r (begin (slotted (PollDataOut (length (now (slice .entry))))))
         (now (s .entry)) (now (s .exit)) (now (slots .entry)) (now (slice .entry)) (now (slice .exit)) ⌝ }
 {
@@ -304,7 +294,7 @@ pub extern "C" fn usbhs_poll_data_out(
 // A packet of data for the host, with whether it is its stage's first and its last.
 #[no_mangle]
 pub extern "C" fn usbhs_begin_data_in(
-    s: &mut [u8; STATE_LEN],
+    s: &mut State,
     slots: &mut [u8],
     bytes: &[u8],
     first: u32,
@@ -318,7 +308,7 @@ pub extern "C" fn usbhs_begin_data_in(
 
 // Whether the host has taken it.
 #[no_mangle]
-pub extern "C" fn usbhs_poll_data_in(s: &mut [u8; STATE_LEN]) -> u64
+pub extern "C" fn usbhs_poll_data_in(s: &mut State) -> u64
     ensures { λ r. ⌜ Answers r (begin (other PollDataIn)) (now (s .entry)) (now (s .exit)) ⌝ }
 {
     word_of(usbhs::control_polls::poll_data_in(s))
@@ -326,7 +316,7 @@ pub extern "C" fn usbhs_poll_data_in(s: &mut [u8; STATE_LEN]) -> u64
 
 // The request accepted.
 #[no_mangle]
-pub extern "C" fn usbhs_begin_accept(s: &mut [u8; STATE_LEN]) -> u64
+pub extern "C" fn usbhs_begin_accept(s: &mut State) -> u64
     ensures { λ r. ⌜ Answers r (begin (other BeginAccept)) (now (s .entry)) (now (s .exit)) ⌝ }
 {
     word_of(usbhs::control_begins::begin_accept(s))
@@ -334,7 +324,7 @@ pub extern "C" fn usbhs_begin_accept(s: &mut [u8; STATE_LEN]) -> u64
 
 // The same, and then the address modulo 128 taken.
 #[no_mangle]
-pub extern "C" fn usbhs_begin_accept_set_address(s: &mut [u8; STATE_LEN], address: u32) -> u64
+pub extern "C" fn usbhs_begin_accept_set_address(s: &mut State, address: u32) -> u64
     ensures { λ r. ⌜ Answers r (begin (other (BeginAcceptSetAddress address))) (now (s .entry)) (now (s .exit)) ⌝ }
 {
     word_of(usbhs::control_begins::begin_accept_set_address(s, address))
@@ -342,7 +332,7 @@ pub extern "C" fn usbhs_begin_accept_set_address(s: &mut [u8; STATE_LEN], addres
 
 // Whether the status stage is over; it hands out the address's write.
 #[no_mangle]
-pub extern "C" fn usbhs_poll_accept(s: &mut [u8; STATE_LEN]) -> u64
+pub extern "C" fn usbhs_poll_accept(s: &mut State) -> u64
     ensures { λ r. ⌜ Answers r (begin (other PollAccept)) (now (s .entry)) (now (s .exit)) ⌝ }
 {
     word_of(usbhs::control_polls::poll_accept(s))
@@ -350,7 +340,7 @@ pub extern "C" fn usbhs_poll_accept(s: &mut [u8; STATE_LEN]) -> u64
 
 // The request refused: EP0 stalled.
 #[no_mangle]
-pub extern "C" fn usbhs_begin_reject(s: &mut [u8; STATE_LEN]) -> u64
+pub extern "C" fn usbhs_begin_reject(s: &mut State) -> u64
     ensures { λ r. ⌜ Answers r (begin (other BeginReject)) (now (s .entry)) (now (s .exit)) ⌝ }
 {
     word_of(usbhs::control_begins::begin_reject(s))
@@ -358,12 +348,7 @@ pub extern "C" fn usbhs_begin_reject(s: &mut [u8; STATE_LEN]) -> u64
 
 // The isochronous OUT endpoint's oldest packet shown in its slot, with its stamp.
 #[no_mangle]
-pub extern "C" fn usbhs_open(
-    s: &mut [u8; STATE_LEN],
-    slots: &[u8],
-    endpoint: u32,
-    stamp: &mut u16,
-) -> u64
+pub extern "C" fn usbhs_open(s: &mut State, slots: &[u8], endpoint: u32, stamp: &mut u16) -> u64
     ensures { λ r. ⌜ AnswersOpen r endpoint (now (s .entry)) (now (s .exit)) (now (slots .entry)) (now (stamp .entry)) (now (stamp .exit)) ⌝ }
 {
     let step = usbhs::in_place::open(s, slots, endpoint);
@@ -373,7 +358,7 @@ pub extern "C" fn usbhs_open(
 
 // Its slot given back.
 #[no_mangle]
-pub extern "C" fn usbhs_close(s: &mut [u8; STATE_LEN], endpoint: u32) -> u64
+pub extern "C" fn usbhs_close(s: &mut State, endpoint: u32) -> u64
     ensures { λ r. ⌜ AnswersBeside r (begin (aside (Close endpoint))) (now (s .entry)) (now (s .exit)) ⌝ }
 {
     word_of(usbhs::in_place::close(s, endpoint))
@@ -381,12 +366,7 @@ pub extern "C" fn usbhs_close(s: &mut [u8; STATE_LEN], endpoint: u32) -> u64
 
 // A packet queued on the isochronous IN endpoint.
 #[no_mangle]
-pub extern "C" fn usbhs_queue(
-    s: &mut [u8; STATE_LEN],
-    slots: &mut [u8],
-    endpoint: u32,
-    bytes: &[u8],
-) -> u64
+pub extern "C" fn usbhs_queue(s: &mut State, slots: &mut [u8], endpoint: u32, bytes: &[u8]) -> u64
     ensures { λ r. ⌜ AnswersShown r (begin (aside (Queue endpoint (now (bytes .entry)))))
         (now (s .entry)) (now (s .exit)) (now (slots .entry)) (now (slots .exit)) ⌝ }
 {
@@ -395,7 +375,7 @@ pub extern "C" fn usbhs_queue(
 
 // The wake-ups of the operation that ended last, in their order: their codes at the room's start, and how many.
 #[no_mangle]
-pub extern "C" fn usbhs_woken(s: &[u8; STATE_LEN], room: &mut [u8; 64]) -> u32
+pub extern "C" fn usbhs_woken(s: &State, room: &mut [u8; 64]) -> u32
     ensures { λ r. ⌜ r ≡ length (listed (view (now (s .entry)) .wakes)) ⌝ }
     ensures { λ _. ⌜ now (room .exit) ≡ over (listed (view (now (s .entry)) .wakes)) (now (room .entry)) ⌝ }
 {
@@ -404,7 +384,7 @@ pub extern "C" fn usbhs_woken(s: &[u8; STATE_LEN], room: &mut [u8; 64]) -> u32
 
 // The bus time in use, in byte-times of a microframe.
 #[no_mangle]
-pub extern "C" fn usbhs_time_in_use(time: &[u16; TIME_LEN]) -> u32
+pub extern "C" fn usbhs_time_in_use(time: &Time) -> u32
     ensures { λ r. ⌜ r ≡ inUse (now (time .entry)) ⌝ }
 {
     req_bus_time::in_use(time)
@@ -412,7 +392,7 @@ pub extern "C" fn usbhs_time_in_use(time: &[u16; TIME_LEN]) -> u32
 
 // The packets queued on the IN endpoint and not yet taken by the host.
 #[no_mangle]
-pub extern "C" fn usbhs_pending(s: &[u8; STATE_LEN], endpoint: u32) -> u32
+pub extern "C" fn usbhs_pending(s: &State, endpoint: u32) -> u32
     ensures { λ r. ⌜ r ≡ pendingOn (view (now (s .entry))) endpoint ⌝ }
 {
     usbhs::questions::pending(s, endpoint)
@@ -420,7 +400,7 @@ pub extern "C" fn usbhs_pending(s: &[u8; STATE_LEN], endpoint: u32) -> u32
 
 // The packets of the OUT endpoint that were turned away.
 #[no_mangle]
-pub extern "C" fn usbhs_overruns(s: &[u8; STATE_LEN], endpoint: u32) -> u32
+pub extern "C" fn usbhs_overruns(s: &State, endpoint: u32) -> u32
     ensures { λ r. ⌜ r ≡ overrunsOn (view (now (s .entry))) endpoint ⌝ }
 {
     usbhs::questions::overruns(s, endpoint)
@@ -428,7 +408,7 @@ pub extern "C" fn usbhs_overruns(s: &[u8; STATE_LEN], endpoint: u32) -> u32
 
 // Whether the host enabled the endpoint: 1 or 0.
 #[no_mangle]
-pub extern "C" fn usbhs_enabled(s: &[u8; STATE_LEN], endpoint: u32, dir: u32) -> u32
+pub extern "C" fn usbhs_enabled(s: &State, endpoint: u32, dir: u32) -> u32
     ensures { λ r. ⌜ r ≡ flag (enabledAsked (view (now (s .entry))) (dirOf dir) endpoint) ⌝ }
 {
     if usbhs::questions::enabled(s, dir_of(dir), endpoint) {

@@ -1,7 +1,7 @@
 // Endpoints from a configuration descriptor, exported.
 use call_answer_word::word_of;
 use req_preview::Said;
-use state::STATE_LEN;
+use state::State;
 ghost use mathlib.Core.Path.{_≡_};
 ghost use Rattle.model.specs.Machine.{begin};
 ghost use Rattle.model.specs.Calls.{other, AllocateAll};
@@ -10,7 +10,7 @@ ghost use Rattle.usbhs_c.specs.Preview.{shownBy, wordBy, numbersBy, buff
 
 // All endpoints of a configuration descriptor, or none.
 #[no_mangle]
-pub extern "C" fn usbhs_allocate_all(s: &mut [u8; STATE_LEN], bytes: &[u8]) -> u64
+pub extern "C" fn usbhs_allocate_all(s: &mut State, bytes: &[u8]) -> u64
     ensures { λ r. ⌜ Answers r (begin (other (AllocateAll (now (bytes .entry))))) (now (s .entry)) (now (s .exit)) ⌝ }
 {
     word_of(usbhs::listed_calls::allocate_all(s, bytes))
@@ -19,7 +19,7 @@ pub extern "C" fn usbhs_allocate_all(s: &mut [u8; STATE_LEN], bytes: &[u8]) -> u
 // What allocating them one by one would give: the numbers given, the buffers that these take, the first refusal or 0.
 #[no_mangle]
 pub extern "C" fn usbhs_preview(
-    s: &[u8; STATE_LEN],
+    s: &State,
     bytes: &[u8],
     numbers: &mut [u8; 32],
     buffers: &mut u32,

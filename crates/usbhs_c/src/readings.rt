@@ -8,8 +8,8 @@ use machine::Step;
 use regs::Access;
 use regs::Reg;
 use regs::registers::number;
-use req_bus_time::TIME_LEN;
-use state::STATE_LEN;
+use req_bus_time::Time;
+use state::State;
 ghost use mathlib.Core.Path.{_≡_};
 ghost use mathlib.Core.List.{List, [], _∷_};
 ghost use Prim.Native.Nat.{ℕ};
@@ -33,9 +33,9 @@ fn read_word(r: Reg) -> u64
 
 // Two readings, each brought by a continue as long as the word asks for it.
 fn bring(
-    s: &mut [u8; STATE_LEN],
+    s: &mut State,
     slots: &mut [u8],
-    time: &mut [u16; TIME_LEN],
+    time: &mut Time,
     driver: u32,
     word: u64,
     first: Reg,
@@ -81,9 +81,9 @@ fn nak_word(q: Access) -> u64
 // The interrupt's begin with its first two readings, frame_no and int_fg.
 #[no_mangle]
 pub extern "C" fn usbhs_interrupt(
-    s: &mut [u8; STATE_LEN],
+    s: &mut State,
     slots: &mut [u8],
-    time: &mut [u16; TIME_LEN],
+    time: &mut Time,
     driver: u32,
     frame: u32,
     flags: u32,
@@ -115,9 +115,9 @@ pub extern "C" fn usbhs_interrupt(
 // A continue with a transfer's three readings, mis_st, int_st and rx_len.
 #[no_mangle]
 pub extern "C" fn usbhs_continue_transfer(
-    s: &mut [u8; STATE_LEN],
+    s: &mut State,
     slots: &mut [u8],
-    time: &mut [u16; TIME_LEN],
+    time: &mut Time,
     driver: u32,
     mis: u32,
     st: u32,

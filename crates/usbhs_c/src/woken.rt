@@ -1,5 +1,5 @@
 use machine::woken::how_many;
-use state::STATE_LEN;
+use state::State;
 use state::woken_at;
 ghost use mathlib.Core.Path.{_≡_};
 ghost use lib.ListN.{length};
@@ -10,7 +10,7 @@ ghost use Rattle.state.specs.Wakes.{listed};
 fn sized(_b: &[u8]) {}
 
 // The list into the caller's room, from its start on; answers how many there are.
-pub fn list_into(s: &[u8; STATE_LEN], room: &mut [u8; 64]) -> u8
+pub fn list_into(s: &State, room: &mut [u8; 64]) -> u8
     ensures { λ r. ⌜ r ≡ length (listed (view (now (s .entry)) .wakes)) ⌝ }
     ensures { λ _. ⌜ now (room .exit) ≡ over (listed (view (now (s .entry)) .wakes)) (now (room .entry)) ⌝ }
 {
