@@ -21,10 +21,12 @@ use state::store_len;
 use state::store_stamp;
 ghost use mathlib.Core.Path.{_≡_};
 ghost use Rattle.regs.specs.declared.Dir.the-variants.{Out};
+ghost use mathlib.Core.Bool.{cond};
+ghost use lib.Dec.{eqb};
 ghost use Rattle.state.specs.Driver.{epOn, withOn};
 ghost use Rattle.state.specs.Ep.{resetOf};
 ghost use Rattle.state.specs.State.{view, saved};
-ghost use Rattle.model_ops.specs.Rings.{writtenOn, recordedOn, armBy, arrivedAt, arriveOn, slotStep, resetBelow, resetAll};
+ghost use Rattle.model_ops.specs.Rings.{writtenOn, recordedOn, armBy, arrivedAt, arriveOn, renewedOn, slotStep, resetBelow, resetAll};
 
 // The length of the packet in slot i (mod.rs 499), and its microframe, that of the interrupt under way.
 fn write_packet(s: &mut State, e: u8, i: u8, len: u16, entered: u16)
@@ -94,8 +96,28 @@ pub fn arrive(s: &mut State, buf: &mut [u8], e: u8, n: u16) -> u32
     r.armed_slot
 }
 
-// Slot k of an isochronous OUT that is enabled or disabled, from slot 15 down, is armed (mod.rs 1292-1294); before the first of them,
-// the last, the record is reset (mod.rs 1279), every stamp gone.
+// The record reset (mod.rs 1279), every stamp gone.
+fn renew(s: &mut State, e: u8)
+    ensures { λ _. ⌜ view (now (s .exit)) ≡ renewedOn (view (now (s .entry))) e ⌝ }
+    ensures { λ _. ⌜ saved (now (s .exit)) ≡ saved (now (s .entry)) ⌝ }
+{
+    let r = load_ep(s, Dir::Out, e);
+    clear_stamps(s, e);
+    store_ep(s, Dir::Out, e, state::by_loan(r));
+}
+
+// Before the first of the slots, the last.
+fn renew_first(s: &mut State, e: u8, k: u8)
+    ensures { λ _. ⌜ view (now (s .exit)) ≡ cond (eqb k 15) (renewedOn (view (now (s .entry))) e) (view (now (s .entry))) ⌝ }
+    ensures { λ _. ⌜ saved (now (s .exit)) ≡ saved (now (s .entry)) ⌝ }
+{
+    if k == 15 {
+        renew(s, e);
+        return;
+    }
+}
+
+// Slot k of an isochronous OUT that is enabled or disabled, from slot 15 down, is armed (mod.rs 1292-1294).
 pub fn slot_step(s: &mut State, buf: &mut [u8], e: u8, k: u8) -> u32
     ensures { λ r. ⌜ r ≡ slotStep e k (view (now (s .entry)), now (buf .entry)) .0 ⌝ }
     ensures { λ _. ⌜ view (now (s .exit)) ≡ slotStep e k (view (now (s .entry)), now (buf .entry)) .1 .0 ⌝ }
@@ -104,11 +126,9 @@ pub fn slot_step(s: &mut State, buf: &mut [u8], e: u8, k: u8) -> u32
 {
     let r = load_ep(s, Dir::Out, e);
     if is_on(r.iso) {
-        if k == 15 {
-            clear_stamps(s, e);
-            return arm(s, buf, e, state::by_loan(r), k);
-        }
-        return arm(s, buf, e, r, k);
+        renew_first(s, e, k);
+        let q = load_ep(s, Dir::Out, e);
+        return arm(s, buf, e, q, k);
     }
     r.armed_slot
 }
