@@ -1,11 +1,11 @@
 use crate::Step;
 use crate::Suspended;
-use crate::saved::nothing;
 use crate::woken::how_many;
 use iso_in::advance::AdvanceNext;
 use regs::Access;
 use state::Saved;
 use state::State;
+use state::nothing;
 ghost use mathlib.Core.Path.{_≡_};
 ghost use mathlib.Core.Bool.{true};
 ghost use mathlib.Core.List.{List};

@@ -1,8 +1,6 @@
-use state::Saved;
 use state::State;
 ghost use mathlib.Core.Path.{_≡_};
 ghost use Rattle.state.specs.State.{saved};
-ghost use Rattle.state.specs.Fresh.{nothing};
 ghost use Rattle.machine.specs.Suspended.{decode};
 ghost use Rattle.machine.specs.Rows.{isIdle, mayPass};
 
@@ -35,26 +33,4 @@ pub fn may_pass(s: &State) -> bool
         return true;
     }
     5 < t
-}
-
-pub fn nothing() -> Saved
-    ensures { λ r. ⌜ r ≡ nothing ⌝ }
-{
-    Saved {
-        tag: 0,
-        sub: 0,
-        site: 0,
-        flag: 0,
-        busy: 0,
-        late: 0,
-        len_ok: 0,
-        st: 0,
-        now: 0,
-        ep: 0,
-        len: 0,
-        frame: 0,
-        eps: 0,
-        n: 0,
-        value: 0,
-    }
 }

@@ -1,11 +1,11 @@
 // An operation stands at a point, or ends: the saved record's 22 bytes are stored where the point is made, and its access is the
 // answer.
 use machine::Step;
-use machine::saved::nothing;
 use machine::woken::how_many;
 use regs::Access;
 use state::Saved;
 use state::State;
+use state::nothing;
 use state::store_saved;
 ghost use mathlib.Core.Path.{_≡_};
 ghost use mathlib.Core.List.{List};

@@ -1,9 +1,9 @@
 // A continue's own: what `machine::halts` has for begins too, each with one caller, so that it is compiled in line.
 use machine::Step;
-use machine::saved::nothing;
 use machine::woken::how_many;
 use regs::Access;
 use state::State;
+use state::nothing;
 ghost use Rattle.state.specs.State.{view};
 ghost use Rattle.driver.specs.Points as driver;
 ghost use Rattle.machine.specs.declared.Suspended.the-variants as Under;

@@ -12,7 +12,6 @@ use Rattle.regs.specs.declared.Dir.{Dir}
 use Rattle.regs.specs.declared.Dir.the-variants.{Out, In}
 use Rattle.state.specs.declared.EpState.{EpState}
 use Rattle.state.specs.Ep.{resetOf}
-use Rattle.state.specs.Fresh.{clearStamps}
 use Rattle.state.specs.Driver.{Driver, epOn, withOn, withLenOn, withStampOn}
 use Rattle.state.specs.Laws.{epOn-stored, withOn-twice}
 use Rattle.ring.specs.Slot.{slotOf, slotAddr}
@@ -21,7 +20,7 @@ use Rattle.ring.specs.In.{hasRoomIn}
 use Rattle.marks.specs.Copies.{bytesAt}
 use Rattle.model.specs.Statics.{isOn}
 use Rattle.model_ops.specs.Rings.{roomIn, oldestOn, oldestAt, nextLen, resetBelow}
-use Rattle.model_ops.specs.Rings.{writtenOn, recordedOn, admittedOn, armBy, armAt, arrivedAt, renewedOn}
+use Rattle.model_ops.specs.Rings.{writtenOn, recordedOn, admittedOn, armBy, armAt, arrivedAt}
 
 -- the oldest packet's bytes, by its place and its length
 pub oldest-bytes : (d : Driver) (e : ℕ) (b : List ℕ) → oldestOn d e b ≡ bytesAt b (oldestAt d e) (nextLen d Out e)
@@ -76,9 +75,3 @@ arrived-once e len d b h =
     let r = arrivedOf (epOn d Out e) in
     let w = ap length (recorded-eps d e len) ∙ h in
     sym (ap (λ (q : EpState). armAt e (q .head) (withOn x Out e r, b)) (epOn-stored x Out e r w) ∙ arm-stored e (r .head) x b r w)
-
--- a slot armed in a record that was reset
-pub renewed-once : (e k : ℕ) (d : Driver) (b : List ℕ) → length (d .eps) ≡ 32
-    → armBy e (resetOf (epOn d Out e)) k (clearStamps d e, b) ≡ armAt e k (renewedOn d e, b)
-unfolding renewedOn clearStamps
-renewed-once e k d b h = sym (arm-stored e k (clearStamps d e) b (resetOf (epOn d Out e)) h)
