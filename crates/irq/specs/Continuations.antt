@@ -16,7 +16,7 @@ use Rattle.model.specs.declared.Transfer.{Transfer}
 use Rattle.model.specs.Tree as tree
 use Rattle.model.specs.Tree.{ends, bindOut}
 use Rattle.model.specs.Cells.{globals-cell, ep-cell}
-use Rattle.model.specs.Script.{Script, run, ret, read, write, get, when}
+use Rattle.model.specs.Script.{Script, run, ret, _>>=_, _>>_, read, write, get, when}
 use Rattle.model.specs.Statics.{withArmed, completed, withEntered, modify, modifyEp, modifyIntEn, wake, wakeBus}
 use Rattle.model.specs.IsoIn.{onSof}
 use Rattle.model.specs.IsoOut.{isoOutCheck}
