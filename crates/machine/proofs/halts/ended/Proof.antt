@@ -8,7 +8,6 @@ use Rattle.machine.proofs.halts.ended.Tie as tie
 use Rattle.machine.proofs.halts.ended.Reads as reads
 use Rattle.machine.proofs.halts.ended.Lts as lts
 use Rattle.state.proofs.store_saved.Reads as store-saved-reads
-use Rattle.machine.proofs.saved.nothing.Reads as nothing-reads
 
 nothing-requires : tie.Need-nothing-requires
 nothing-requires c κs = search needs
