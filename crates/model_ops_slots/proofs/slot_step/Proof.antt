@@ -45,8 +45,10 @@ returns c =
     let a = c .before .before .before .before .before .before .before .before .before .before .before .before .before .before .args in
     let r = c .before .before .arm .ensures in
     let renewed = c .before .before .before .before .before .before .before .renew-first .ensures in
-    let h = stages (a .e) (a .k) (view (a .s .now)) (a .buf .now) (c .before .before .before .before .before .before .before .before .before .before .before .load-ep .ensures)
-    (c .before .before .before .before .before .before .before .before .before .before .is-on .ensures) (c .before .before .before .before .before .before .before .before .before .if1 .taken) (renewed .0)
+    let h = stages (a .e) (a .k) (view (a .s .now)) (a .buf .now)
+    (c .before .before .before .before .before .before .before .before .before .before .before .load-ep .ensures)
+    (c .before .before .before .before .before .before .before .before .before .before .is-on .ensures)
+    (c .before .before .before .before .before .before .before .before .before .if1 .taken) (renewed .0)
     (c .before .before .before .before .before .load-ep2 .ensures) in (
       r .0 ∙ ap (λ (x : ℕ × St). x .0) h,
       (r .1 .0 ∙ ap (λ (x : ℕ × St). x .1 .0) h, (r .1 .1 .0 ∙ ap (λ (x : ℕ × St). x .1 .1) h, r .1 .1 .1 ∙ renewed .1)),
