@@ -60,7 +60,7 @@ fn read(text: &str, folder: &Path) -> Result<Data, String> {
             let row = match (&parts[..], &data.table) {
                 (&[name, operation], Some(table)) => {
                     let share = share_in(table, operation).ok_or(at(&format!("{operation} is not in the table")))?;
-                    Row { name: name.into(), port: share.round(), words: format!("{share:.0} %"), rust: None }
+                    Row { name: name.into(), port: share.round(), words: format!("{} %", share.round()), rust: None }
                 }
                 (&[name, calls, port, rust], None) if data.microframe > 0.0 => {
                     let whole = |ns: &str| Ok::<f64, String>(number(calls)? * number(ns)?);
