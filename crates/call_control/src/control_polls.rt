@@ -21,7 +21,8 @@ pub fn poll_setup(s: &mut State) -> Step
 
 // `data_out` (82-115): the packet at the front of `out`.
 pub fn poll_data_out(s: &mut State, slots: &[u8], out: &mut [u8]) -> Step
-    ensures { λ r. ⌜ PolledCall (PollDataOut (length (now (out .entry)))) r (now (s .entry)) (now (slots .entry)) (now (out .entry)) (now (s .exit)) (now (out .exit)) ⌝ }
+    ensures { λ r. ⌜ PolledCall (PollDataOut (length (now (out .entry)))) r (now (s .entry)) (now (slots .entry))
+        (now (out .entry)) (now (s .exit)) (now (out .exit)) ⌝ }
 {
     if slots_fit(s, slots) {
         if is_idle(s) {

@@ -23,7 +23,8 @@ pub fn begin_read(s: &mut State, e: u32, n: u32) -> Step
 
 // The packet at the front of `out`.
 pub fn poll_read(s: &mut State, slots: &[u8], e: u32, out: &mut [u8]) -> Step
-    ensures { λ r. ⌜ PolledCall (PollRead e (length (now (out .entry)))) r (now (s .entry)) (now (slots .entry)) (now (out .entry)) (now (s .exit)) (now (out .exit)) ⌝ }
+    ensures { λ r. ⌜ PolledCall (PollRead e (length (now (out .entry)))) r (now (s .entry)) (now (slots .entry))
+        (now (out .entry)) (now (s .exit)) (now (out .exit)) ⌝ }
 {
     if slots_fit(s, slots) {
         if is_idle(s) {
