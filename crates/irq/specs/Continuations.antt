@@ -23,6 +23,7 @@ use Rattle.model.specs.IsoOut.{isoOutCheck}
 use Rattle.model.specs.Handler.{nakNonIso, settle, isoFor, received, sent, dispatch, ep0MovedOn, framed, onTransfer, takeSetup, onSetup}
 use Rattle.model.specs.Handler.{onInterrupt}
 use Rattle.iso_in.specs.Late.{lateAll}
+use Rattle.irq.specs.declared.Entry.{Entry}
 use Rattle.model_ops.specs.Rings.{St}
 use Rattle.model_ops.specs.Concrete.{concrete}
 
@@ -80,6 +81,10 @@ afterDispatch x iso = do
 -- an arm's outcome, and the rest
 abbrev pub thenCheck : Bool → Transfer → Bool → tree.Out St Unit → tree.Out St ℕ
 thenCheck setup x iso o = finish setup (bindOut o (λ _ u. run concrete (afterDispatch x iso) u))
+
+-- of an entry
+abbrev pub afterArm : Entry → tree.Out St Unit → tree.Out St ℕ
+afterArm e o = thenCheck (e .setup) (e .x) (e .iso) o
 
 -- ---- 748-790: the arms
 

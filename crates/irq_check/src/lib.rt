@@ -1,4 +1,5 @@
 // Isochronous OUTs are looked at (mod.rs 792-797), then EP0's hidden stage (mod.rs 798-800, 822-852).
+use irq::Entry;
 use irq_points::stands::stand_check;
 use irq_points::stands::stand_moved_read;
 use irq_points::stands::stand_moved_wrote;
@@ -87,46 +88,41 @@ pub fn ep0_moved_on(s: &mut State, setup: bool, x: Transfer) -> u64
 }
 
 // Where the check stops, or what follows it.
-fn checked(s: &mut State, buf: &[u8], setup: bool, x: Transfer, iso: bool, n: CheckNext) -> u64
+fn checked(s: &mut State, buf: &[u8], e: Entry, n: CheckNext) -> u64
     requires { ⌜ checks.Linked n ⌝ }
     ensures { λ r. ⌜ Stops r (now (s .exit)) (now (buf .entry))
-        (finish setup (bindOut (checks.meaning x iso n (view (now (s .entry))) (now (buf .entry))) (λ _ u. run concrete (afterCheck x) u))) ⌝ }
+        (finish (e .setup) (bindOut (checks.meaning (e .x) (e .iso) n (view (now (s .entry))) (now (buf .entry)))
+        (λ _ u. run concrete (afterCheck (e .x)) u))) ⌝ }
     ensures { λ r. ⌜ Pins r (now (s .exit)) ⌝ }
 {
     match n {
-        CheckNext::Asks(q, p) => stand_check(s, q, setup, x, iso, p),
-        CheckNext::Ends => ep0_moved_on(s, setup, x),
+        CheckNext::Asks(q, p) => stand_check(s, q, e, p),
+        CheckNext::Ends => ep0_moved_on(s, e.setup, e.x),
     }
 }
 
-pub fn after_checking(
-    s: &mut State,
-    buf: &mut [u8],
-    setup: bool,
-    x: Transfer,
-    iso: bool,
-    p: Check,
-    v: u32,
-) -> u64
+pub fn after_checking(s: &mut State, buf: &mut [u8], e: Entry, p: Check, v: u32) -> u64
     requires { ⌜ checks.fitsAt p v ≡ true ⌝ }
-    ensures { λ r. ⌜ Stops r (now (s .exit)) (now (buf .exit)) (denote (Point.Check setup x iso p) v (view (now (s .entry)), now (buf .entry))) ⌝ }
+    ensures { λ r. ⌜ Stops r (now (s .exit)) (now (buf .exit))
+        (denote (Point.Check (e .setup) (e .x) (e .iso) p) v (view (now (s .entry)), now (buf .entry))) ⌝ }
     ensures { λ r. ⌜ Pins r (now (s .exit)) ⌝ }
 {
-    let n = iso_out::iso_out_check_resume(s, buf, x, iso, p, v);
-    checked(s, buf, setup, x, iso, n)
+    let n = iso_out::iso_out_check_resume(s, buf, e.x, e.iso, p, v);
+    checked(s, buf, e, n)
 }
 
 // An OUT completes too early in its microframe to merge into the next SOF's entry (mod.rs 795-797).
-pub fn after_dispatch(s: &mut State, buf: &mut [u8], setup: bool, x: Transfer, iso: bool) -> u64
-    ensures { λ r. ⌜ Stops r (now (s .exit)) (now (buf .exit)) (finish setup (run concrete (afterDispatch x iso) (view (now (s .entry)), now (buf .entry)))) ⌝ }
+pub fn after_dispatch(s: &mut State, buf: &mut [u8], e: Entry) -> u64
+    ensures { λ r. ⌜ Stops r (now (s .exit)) (now (buf .exit))
+        (finish (e .setup) (run concrete (afterDispatch (e .x) (e .iso)) (view (now (s .entry)), now (buf .entry)))) ⌝ }
     ensures { λ r. ⌜ Pins r (now (s .exit)) ⌝ }
 {
-    if status::is_sof(x.st) {
-        return after_transfer(s, setup);
+    if status::is_sof(e.x.st) {
+        return after_transfer(s, e.setup);
     }
-    let n = iso_out::iso_out_check(s, buf, x, iso);
+    let n = iso_out::iso_out_check(s, buf, e.x, e.iso);
     match n {
-        CheckNext::Asks(q, p) => stand_check(s, q, setup, x, iso, p),
-        CheckNext::Ends => ep0_moved_on(s, setup, x),
+        CheckNext::Asks(q, p) => stand_check(s, q, e, p),
+        CheckNext::Ends => ep0_moved_on(s, e.setup, e.x),
     }
 }

@@ -22,6 +22,7 @@ use Rattle.iso_in.specs.declared.sof.Sof.the-variants as sof
 use Rattle.iso_in.specs.declared.late.Late.{Late}
 use Rattle.iso_out.specs.declared.Check.{Check}
 use Rattle.iso_out.specs.declared.Check.the-variants as check
+use Rattle.irq.specs.declared.Entry.{Entry}
 use Rattle.irq.specs.declared.Point.{Point}
 use Rattle.irq.specs.declared.Point.the-variants as point
 use Rattle.irq_codec.specs.declared.Numbers.{Numbers}
@@ -175,6 +176,10 @@ encode point.SetupReleased = bare 25
 
 abbrev pub transferOf : Saved → Transfer
 transferOf c = record { busy = isOn (c .busy); st = c .st; len = c .len; late = isOn (c .late); «len_ok» = isOn (c .«len_ok») }
+
+-- what an entry of the interrupt has found out
+abbrev pub entryOf : Saved → Entry
+entryOf c = record { setup = isOn (c .flag); x = transferOf c; iso = isOn (c .now); frame = c .frame }
 
 -- an unknown number is the first point
 abbrev pub byNumber : ℕ → Saved → Point

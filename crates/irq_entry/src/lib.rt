@@ -1,4 +1,5 @@
 // The transfer is entered, released, settled (mod.rs 656-722). Every function is total: any number is safe.
+use irq::Entry;
 use irq_points::stands::stand_frame_no;
 use irq_points::stands::stand_len;
 use irq_points::stands::stand_nak;
@@ -67,8 +68,13 @@ fn after_settle(s: &mut State, setup: bool, x: Transfer) -> u64
     let ep = status::endpoint(x.st);
     let o = load_ep(s, Dir::Out, ep);
     let n = load_ep(s, Dir::In, ep);
-    let iso = iso_for(x.st, o, n);
-    stand_frame_no(s, setup, x, iso)
+    let e = Entry {
+        setup,
+        x,
+        iso: iso_for(x.st, o, n),
+        frame: 0,
+    };
+    stand_frame_no(s, e)
 }
 
 fn then_settle(s: &mut State, setup: bool, x: Transfer, n: SettleNext) -> u64

@@ -1,4 +1,5 @@
 // What a point of the interrupt has: each part is loaded alone from the saved record's bytes. Any bytes are a point.
+use irq::Entry;
 use irq_codec::check_of;
 use irq_codec::complete_of;
 use irq_codec::dir_of;
@@ -18,6 +19,7 @@ use machine::loads::busy_byte;
 use machine::loads::ep_byte;
 use machine::loads::eps_word;
 use machine::loads::flag_byte;
+use machine::loads::frame_word;
 use machine::loads::late_byte;
 use machine::loads::len_ok_byte;
 use machine::loads::len_word;
@@ -32,7 +34,7 @@ use state::State;
 ghost use mathlib.Core.Path.{_≡_};
 ghost use Rattle.state.specs.State.{saved};
 ghost use Rattle.model.specs.Statics.{isOn};
-ghost use Rattle.irq_codec.specs.Codec.{dirOf, transferOf, nakOf, settleOf, toggledOf, completeOf, sofOf, lateOf, checkOf};
+ghost use Rattle.irq_codec.specs.Codec.{dirOf, transferOf, entryOf, nakOf, settleOf, toggledOf, completeOf, sofOf, lateOf, checkOf};
 
 // Is the setup flag set?
 pub fn setup_at(s: &State) -> bool
@@ -46,13 +48,6 @@ pub fn busy_at(s: &State) -> bool
     ensures { λ r. ⌜ r ≡ isOn (saved (now (s .entry)) .busy) ⌝ }
 {
     is_on(busy_byte(s))
-}
-
-// Is the endpoint isochronous?
-pub fn iso_at(s: &State) -> bool
-    ensures { λ r. ⌜ r ≡ isOn (saved (now (s .entry)) .now) ⌝ }
-{
-    is_on(now_byte(s))
 }
 
 pub fn dir_at(s: &State) -> Dir
@@ -70,6 +65,18 @@ pub fn transfer_at(s: &State) -> Transfer
         len: len_word(s),
         late: is_on(late_byte(s)),
         len_ok: is_on(len_ok_byte(s)),
+    }
+}
+
+// What the entry has found out: of a point without a frame, 0 is saved for it.
+pub fn entry_at(s: &State) -> Entry
+    ensures { λ r. ⌜ r ≡ entryOf (saved (now (s .entry))) ⌝ }
+{
+    Entry {
+        setup: setup_at(s),
+        x: transfer_at(s),
+        iso: is_on(now_byte(s)),
+        frame: frame_word(s),
     }
 }
 

@@ -4,6 +4,7 @@ use call_answer_word::asks;
 use call_answer_word::asks_read;
 use call_answer_word::asks_write;
 use call_answer_word::ended;
+use irq::Entry;
 use irq_codec::check_as;
 use irq_codec::code;
 use irq_codec::complete_as;
@@ -32,6 +33,7 @@ use state::State;
 use state::nothing;
 use state::store_saved;
 ghost use mathlib.Core.Path.{_≡_};
+ghost use mathlib.Core.Bool.{false};
 ghost use mathlib.Core.List.{List};
 ghost use Prim.Native.Nat.{ℕ};
 ghost use Rattle.state.specs.State.{view, saved};
@@ -39,6 +41,7 @@ ghost use Rattle.model.specs.Tree.{ends};
 ghost use Rattle.regs.specs.declared.Access.the-variants as Access;
 ghost use Rattle.regs.specs.declared.Reg.the-variants as Reg;
 ghost use Rattle.irq.specs.declared.Point.the-variants as Point;
+ghost use Rattle.irq_codec.specs.Codec as codec;
 ghost use Rattle.machine.specs.declared.Step.the-variants as Step;
 ghost use Rattle.machine.specs.Suspended.{withTag};
 ghost use Rattle.call_answer_word.specs.Word.{Encodes};
@@ -77,96 +80,67 @@ fn stand_write(s: &mut State, register: Reg, value: u32, p: Saved) -> u64
     asks_write(register, value)
 }
 
+// What is saved before there is a transfer: the setup flag, whether one is on the bus, the flags or the status.
+fn before_transfer(site: u8, setup: bool, busy: bool, st: u8) -> Saved
+    ensures { λ r. ⌜ r ≡ codec.code site setup (codec.early busy st) 0 (codec.none false) ⌝ }
+{
+    code(site, setup, early(busy, st), 0, none(false))
+}
+
 // Int_fg is read.
 pub fn stand_flags(s: &mut State) -> u64
     ensures { λ r. ⌜ Stands r (Access.Read Reg.IntFg 0) Point.Flags (now (s .entry)) (now (s .exit)) ⌝ }
 {
-    stand_read(
-        s,
-        Reg::IntFg,
-        code(1, false, early(false, 0), 0, none(false)),
-    )
+    stand_read(s, Reg::IntFg, before_transfer(1, false, false, 0))
 }
 
 // The reset interrupt is masked.
 pub fn stand_bus_rst(s: &mut State, value: u32, f: u8) -> u64
     ensures { λ r. ⌜ Stands r (Access.Write Reg.IntEn 0 value) (Point.BusRst f) (now (s .entry)) (now (s .exit)) ⌝ }
 {
-    stand_write(
-        s,
-        Reg::IntEn,
-        value,
-        code(2, false, early(false, f), 0, none(false)),
-    )
+    stand_write(s, Reg::IntEn, value, before_transfer(2, false, false, f))
 }
 
 // The suspend interrupt is.
 pub fn stand_suspend(s: &mut State, value: u32, f: u8) -> u64
     ensures { λ r. ⌜ Stands r (Access.Write Reg.IntEn 0 value) (Point.Suspend f) (now (s .entry)) (now (s .exit)) ⌝ }
 {
-    stand_write(
-        s,
-        Reg::IntEn,
-        value,
-        code(3, false, early(false, f), 0, none(false)),
-    )
+    stand_write(s, Reg::IntEn, value, before_transfer(3, false, false, f))
 }
 
 // The FIFO flag is cleared.
 pub fn stand_fifo(s: &mut State, value: u32, f: u8) -> u64
     ensures { λ r. ⌜ Stands r (Access.Write Reg.IntFg 0 value) (Point.Fifo f) (now (s .entry)) (now (s .exit)) ⌝ }
 {
-    stand_write(
-        s,
-        Reg::IntFg,
-        value,
-        code(4, false, early(false, f), 0, none(false)),
-    )
+    stand_write(s, Reg::IntFg, value, before_transfer(4, false, false, f))
 }
 
 // The host SOF flag is.
 pub fn stand_host(s: &mut State, value: u32, f: u8) -> u64
     ensures { λ r. ⌜ Stands r (Access.Write Reg.IntFg 0 value) (Point.Host f) (now (s .entry)) (now (s .exit)) ⌝ }
 {
-    stand_write(
-        s,
-        Reg::IntFg,
-        value,
-        code(5, false, early(false, f), 0, none(false)),
-    )
+    stand_write(s, Reg::IntFg, value, before_transfer(5, false, false, f))
 }
 
 // Mis_st is read.
 pub fn stand_mis(s: &mut State, setup: bool) -> u64
     ensures { λ r. ⌜ Stands r (Access.Read Reg.MisSt 0) (Point.Mis setup) (now (s .entry)) (now (s .exit)) ⌝ }
 {
-    stand_read(
-        s,
-        Reg::MisSt,
-        code(6, setup, early(false, 0), 0, none(false)),
-    )
+    stand_read(s, Reg::MisSt, before_transfer(6, setup, false, 0))
 }
 
 // Int_st.
 pub fn stand_st(s: &mut State, setup: bool, busy: bool) -> u64
     ensures { λ r. ⌜ Stands r (Access.Read Reg.IntSt 0) (Point.St setup busy) (now (s .entry)) (now (s .exit)) ⌝ }
 {
-    stand_read(
-        s,
-        Reg::IntSt,
-        code(7, setup, early(busy, 0), 0, none(false)),
-    )
+    stand_read(s, Reg::IntSt, before_transfer(7, setup, busy, 0))
 }
 
 // Rx_len.
 pub fn stand_len(s: &mut State, setup: bool, busy: bool, st: u8) -> u64
     ensures { λ r. ⌜ Stands r (Access.Read Reg.RxLen 0) (Point.Len setup busy st) (now (s .entry)) (now (s .exit)) ⌝ }
 {
-    stand_read(
-        s,
-        Reg::RxLen,
-        code(8, setup, early(busy, st), 0, none(false)),
-    )
+    stand_read(s, Reg::RxLen, before_transfer(8, setup, busy, st))
 }
 
 // NAK before the release.
@@ -191,105 +165,66 @@ pub fn stand_settle(s: &mut State, q: Access, setup: bool, x: Transfer, p: Settl
 }
 
 // Frame_no is read.
-pub fn stand_frame_no(s: &mut State, setup: bool, x: Transfer, iso: bool) -> u64
-    ensures { λ r. ⌜ Stands r (Access.Read Reg.FrameNo 0) (Point.FrameNo setup x iso) (now (s .entry)) (now (s .exit)) ⌝ }
+pub fn stand_frame_no(s: &mut State, e: Entry) -> u64
+    ensures { λ r. ⌜ Stands r (Access.Read Reg.FrameNo 0) (Point.FrameNo (e .setup) (e .x) (e .iso)) (now (s .entry)) (now (s .exit)) ⌝ }
 {
-    stand_read(s, Reg::FrameNo, code(12, setup, x, 0, none(iso)))
+    stand_read(s, Reg::FrameNo, code(12, e.setup, e.x, 0, none(e.iso)))
 }
 
 // A SOF that was not handled.
-pub fn stand_sof(
-    s: &mut State,
-    q: Access,
-    setup: bool,
-    x: Transfer,
-    iso: bool,
-    frame: u16,
-    p: Sof,
-) -> u64
-    ensures { λ r. ⌜ Stands r q (Point.Sof setup x iso frame p) (now (s .entry)) (now (s .exit)) ⌝ }
+pub fn stand_sof(s: &mut State, q: Access, e: Entry, p: Sof) -> u64
+    ensures { λ r. ⌜ Stands r q (Point.Sof (e .setup) (e .x) (e .iso) (e .frame) p) (now (s .entry)) (now (s .exit)) ⌝ }
 {
-    stand(s, q, code(13, setup, x, frame, sof_as(iso, p)))
+    stand(s, q, code(13, e.setup, e.x, e.frame, sof_as(e.iso, p)))
 }
 
 // A late entry's completions.
-pub fn stand_late(
-    s: &mut State,
-    q: Access,
-    setup: bool,
-    x: Transfer,
-    iso: bool,
-    frame: u16,
-    p: Late,
-) -> u64
-    ensures { λ r. ⌜ Stands r q (Point.Late setup x iso frame p) (now (s .entry)) (now (s .exit)) ⌝ }
+pub fn stand_late(s: &mut State, q: Access, e: Entry, p: Late) -> u64
+    ensures { λ r. ⌜ Stands r q (Point.Late (e .setup) (e .x) (e .iso) (e .frame) p) (now (s .entry)) (now (s .exit)) ⌝ }
 {
-    stand(s, q, code(14, setup, x, frame, late_as(iso, p)))
+    stand(s, q, code(14, e.setup, e.x, e.frame, late_as(e.iso, p)))
 }
 
 // The arm of SOF.
-pub fn stand_sof_arm(
-    s: &mut State,
-    q: Access,
-    setup: bool,
-    x: Transfer,
-    iso: bool,
-    frame: u16,
-    p: Sof,
-) -> u64
-    ensures { λ r. ⌜ Stands r q (Point.SofArm setup x iso frame p) (now (s .entry)) (now (s .exit)) ⌝ }
+pub fn stand_sof_arm(s: &mut State, q: Access, e: Entry, p: Sof) -> u64
+    ensures { λ r. ⌜ Stands r q (Point.SofArm (e .setup) (e .x) (e .iso) (e .frame) p) (now (s .entry)) (now (s .exit)) ⌝ }
 {
-    stand(s, q, code(15, setup, x, frame, sof_as(iso, p)))
+    stand(s, q, code(15, e.setup, e.x, e.frame, sof_as(e.iso, p)))
 }
 
 // EP0's control word is read.
-pub fn stand_flip(s: &mut State, q: Access, d: Dir, setup: bool, x: Transfer, iso: bool) -> u64
-    ensures { λ r. ⌜ Stands r q (Point.Flip d setup x iso) (now (s .entry)) (now (s .exit)) ⌝ }
+pub fn stand_flip(s: &mut State, q: Access, d: Dir, e: Entry) -> u64
+    ensures { λ r. ⌜ Stands r q (Point.Flip d (e .setup) (e .x) (e .iso)) (now (s .entry)) (now (s .exit)) ⌝ }
 {
-    stand(s, q, code(16, setup, x, 0, on_dir(d, iso)))
+    stand(s, q, code(16, e.setup, e.x, 0, on_dir(d, e.iso)))
 }
 
 // Its toggle is flipped.
-pub fn stand_flipped(s: &mut State, q: Access, d: Dir, setup: bool, x: Transfer, iso: bool) -> u64
-    ensures { λ r. ⌜ Stands r q (Point.Flipped d setup x iso) (now (s .entry)) (now (s .exit)) ⌝ }
+pub fn stand_flipped(s: &mut State, q: Access, d: Dir, e: Entry) -> u64
+    ensures { λ r. ⌜ Stands r q (Point.Flipped d (e .setup) (e .x) (e .iso)) (now (s .entry)) (now (s .exit)) ⌝ }
 {
-    stand(s, q, code(17, setup, x, 0, on_dir(d, iso)))
+    stand(s, q, code(17, e.setup, e.x, 0, on_dir(d, e.iso)))
 }
 
 // Did a packet go through?.
-pub fn stand_toggled(
-    s: &mut State,
-    q: Access,
-    d: Dir,
-    setup: bool,
-    x: Transfer,
-    iso: bool,
-    p: Toggled,
-) -> u64
-    ensures { λ r. ⌜ Stands r q (Point.Toggled d setup x iso p) (now (s .entry)) (now (s .exit)) ⌝ }
+pub fn stand_toggled(s: &mut State, q: Access, d: Dir, e: Entry, p: Toggled) -> u64
+    ensures { λ r. ⌜ Stands r q (Point.Toggled d (e .setup) (e .x) (e .iso) p) (now (s .entry)) (now (s .exit)) ⌝ }
 {
-    stand(s, q, code(18, setup, x, 0, toggled_as(d, iso, p)))
+    stand(s, q, code(18, e.setup, e.x, 0, toggled_as(d, e.iso, p)))
 }
 
 // An isochronous IN completes.
-pub fn stand_completing(
-    s: &mut State,
-    q: Access,
-    setup: bool,
-    x: Transfer,
-    iso: bool,
-    p: Complete,
-) -> u64
-    ensures { λ r. ⌜ Stands r q (Point.Completing setup x iso p) (now (s .entry)) (now (s .exit)) ⌝ }
+pub fn stand_completing(s: &mut State, q: Access, e: Entry, p: Complete) -> u64
+    ensures { λ r. ⌜ Stands r q (Point.Completing (e .setup) (e .x) (e .iso) p) (now (s .entry)) (now (s .exit)) ⌝ }
 {
-    stand(s, q, code(19, setup, x, 0, complete_as(iso, 0, p)))
+    stand(s, q, code(19, e.setup, e.x, 0, complete_as(e.iso, 0, p)))
 }
 
 // Isochronous OUTs are looked at.
-pub fn stand_check(s: &mut State, q: Access, setup: bool, x: Transfer, iso: bool, p: Check) -> u64
-    ensures { λ r. ⌜ Stands r q (Point.Check setup x iso p) (now (s .entry)) (now (s .exit)) ⌝ }
+pub fn stand_check(s: &mut State, q: Access, e: Entry, p: Check) -> u64
+    ensures { λ r. ⌜ Stands r q (Point.Check (e .setup) (e .x) (e .iso) p) (now (s .entry)) (now (s .exit)) ⌝ }
 {
-    stand(s, q, code(20, setup, x, 0, check_as(iso, p)))
+    stand(s, q, code(20, e.setup, e.x, 0, check_as(e.iso, p)))
 }
 
 // EP0's control word is read, for its hidden stage.
@@ -314,7 +249,7 @@ pub fn stand_setup_rx(s: &mut State, value: u32) -> u64
         s,
         Reg::EpRxCtrl,
         value,
-        code(23, false, early(false, 0), 0, none(false)),
+        before_transfer(23, false, false, 0),
     )
 }
 
@@ -326,7 +261,7 @@ pub fn stand_setup_tx(s: &mut State, value: u32) -> u64
         s,
         Reg::EpTxCtrl,
         value,
-        code(24, false, early(false, 0), 0, none(false)),
+        before_transfer(24, false, false, 0),
     )
 }
 
@@ -334,12 +269,7 @@ pub fn stand_setup_tx(s: &mut State, value: u32) -> u64
 pub fn stand_setup_released(s: &mut State, value: u32) -> u64
     ensures { λ r. ⌜ Stands r (Access.Write Reg.IntFg 0 value) Point.SetupReleased (now (s .entry)) (now (s .exit)) ⌝ }
 {
-    stand_write(
-        s,
-        Reg::IntFg,
-        value,
-        code(25, false, early(false, 0), 0, none(false)),
-    )
+    stand_write(s, Reg::IntFg, value, before_transfer(25, false, false, 0))
 }
 
 // The interrupt has ended: nothing is under way, and its wake-ups are answered.

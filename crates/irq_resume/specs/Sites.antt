@@ -6,7 +6,9 @@ use Prim.Native.Nat.{ℕ}
 use borrow.Author.Tests.{ne-eqb}
 use Rattle.state.specs.declared.Saved.{Saved}
 use Rattle.state.specs.State.{saved}
+use Rattle.model.specs.declared.Transfer.{Transfer}
 use Rattle.model.specs.Statics.{isOn}
+use Rattle.irq.specs.declared.Entry.{Entry}
 use Rattle.irq.specs.declared.Point.{Point}
 use Rattle.irq.specs.declared.Point.the-variants as point
 use Rattle.irq_codec.specs.Codec as codec
@@ -24,6 +26,13 @@ on-site c k t h = at-interrupt c (byNumber k c) t (ap (λ (n : ℕ). byNumber n 
 -- with the parts that were loaded
 pub at-site : (k : ℕ) {p : Point} {xs : List ℕ} → AtSite k xs → p ≡ byNumber k (saved xs) → decode (saved xs) ≡ under.Interrupt p
 at-site k {p} {xs} a e = on-site (saved xs) k (a .tagged) (a .numbered) ∙ ap under.Interrupt (sym e)
+
+-- a point that has what the entry has found out, and one that has its frame too
+abbrev pub ofEntry : {A : Type 0} → (Bool → Transfer → Bool → A) → Entry → A
+ofEntry f e = f (e .setup) (e .x) (e .iso)
+
+abbrev pub ofFramed : {A : Type 0} → (Bool → Transfer → Bool → ℕ → A) → Entry → A
+ofFramed f e = ofEntry f e (e .frame)
 
 -- any other number
 first : (c : Saved) (k : ℕ) → NoneOf 25 k → point.Frame ≡ byNumber k c

@@ -1,7 +1,356 @@
 // The interrupt (`on_interrupt`, mod.rs 634-852) goes on: one function for each point, in the Rust's order. Each tests its own
 // reading's width (row 16) and loads its own point's parts.
-pub mod flags; // flags.rt: the microframe, then the flags but the setup's (mod.rs 634-655)
-pub mod entry; // entry.rt: the transfer is entered, released, settled (mod.rs 656-722)
-pub mod serving; // serving.rt: the frame, the microframe's SOF, a late entry's completions (mod.rs 724-747)
-pub mod tokens; // tokens.rt: what a token completes (mod.rs 748-790)
-pub mod rest; // rest.rt: isochronous OUTs looked at, EP0's hidden stage, a new control transfer (mod.rs 792-852)
+use call_answer_word::ROW_16;
+use irq_check::after_checking;
+use irq_check::after_moved_read;
+use irq_check::after_moved_wrote;
+use irq_check::setup::after_setup_released;
+use irq_check::setup::after_setup_rx;
+use irq_check::setup::after_setup_tx;
+use irq_entry::after_len;
+use irq_entry::after_mis;
+use irq_entry::after_naking;
+use irq_entry::after_released;
+use irq_entry::after_settling;
+use irq_entry::after_st;
+use irq_entry::flags::after_bus_rst;
+use irq_entry::flags::after_fifo;
+use irq_entry::flags::after_flags;
+use irq_entry::flags::after_frame;
+use irq_entry::flags::after_host;
+use irq_entry::flags::after_suspend;
+use irq_points::loads::busy_at;
+use irq_points::loads::check_at;
+use irq_points::loads::complete_at;
+use irq_points::loads::dir_at;
+use irq_points::loads::entry_at;
+use irq_points::loads::late_at;
+use irq_points::loads::nak_at;
+use irq_points::loads::settle_at;
+use irq_points::loads::setup_at;
+use irq_points::loads::sof_at;
+use irq_points::loads::toggled_at;
+use irq_points::loads::transfer_at;
+use irq_serve::framing::after_frame_no;
+use irq_serve::serving::after_completions;
+use irq_serve::serving::after_on_sof;
+use irq_tokens::after_completing;
+use irq_tokens::after_flip;
+use irq_tokens::after_flipped;
+use irq_tokens::after_sof_arm;
+use irq_tokens::after_toggled;
+use irq_transfer::nak;
+use irq_transfer::settle;
+use irq_transfer::toggled;
+use iso_in::sof;
+use machine::loads::st_byte;
+use regs::registers::fits;
+use state::State;
+ghost use mathlib.Core.Path.{_≡_};
+ghost use mathlib.Core.List.{List};
+ghost use Prim.Native.Nat.{ℕ};
+ghost use Rattle.state.specs.State.{saved};
+ghost use Rattle.irq.specs.declared.Point.the-variants as Point;
+ghost use Rattle.machine.specs.declared.Suspended.the-variants as Under;
+ghost use Rattle.machine.specs.Suspended.{decode};
+ghost use Rattle.irq_points.specs.Stands.{AtSite, ResumesByWord};
+
+// ---- The microframe, then the flags but the setup's (mod.rs 634-655).
+
+// frame_no, whose microframe index what the interrupt admits carries.
+pub fn resume_frame(s: &mut State, v: u32) -> u64
+    requires { ⌜ decode (saved (now s)) ≡ Under.Interrupt Point.Frame ⌝ }
+    ensures { λ r. ⌜ ((b : List ℕ) → ResumesByWord r v (now (s .entry)) b (now (s .exit)) b) ⌝ }
+{
+    if fits(v, 16) {
+        return after_frame(s, v);
+    }
+    ROW_16
+}
+
+// int_fg (mod.rs 637).
+pub fn resume_flags(s: &mut State, v: u32) -> u64
+    requires { ⌜ AtSite 1 (now s) ⌝ }
+    ensures { λ r. ⌜ ((b : List ℕ) → ResumesByWord r v (now (s .entry)) b (now (s .exit)) b) ⌝ }
+{
+    if fits(v, 6) {
+        return after_flags(s, v);
+    }
+    ROW_16
+}
+
+// the reset interrupt is masked (mod.rs 640-643).
+pub fn resume_bus_rst(s: &mut State) -> u64
+    requires { ⌜ AtSite 2 (now s) ⌝ }
+    ensures { λ r. ⌜ ((v : ℕ) (b : List ℕ) → ResumesByWord r v (now (s .entry)) b (now (s .exit)) b) ⌝ }
+{
+    let f = st_byte(s);
+    after_bus_rst(s, f)
+}
+
+// the suspend interrupt is (mod.rs 644-648).
+pub fn resume_suspend(s: &mut State) -> u64
+    requires { ⌜ AtSite 3 (now s) ⌝ }
+    ensures { λ r. ⌜ ((v : ℕ) (b : List ℕ) → ResumesByWord r v (now (s .entry)) b (now (s .exit)) b) ⌝ }
+{
+    let f = st_byte(s);
+    after_suspend(s, f)
+}
+
+// the FIFO flag is cleared (mod.rs 649-651).
+pub fn resume_fifo(s: &mut State) -> u64
+    requires { ⌜ AtSite 4 (now s) ⌝ }
+    ensures { λ r. ⌜ ((v : ℕ) (b : List ℕ) → ResumesByWord r v (now (s .entry)) b (now (s .exit)) b) ⌝ }
+{
+    let f = st_byte(s);
+    after_fifo(s, f)
+}
+
+// the host SOF flag is (mod.rs 652-655).
+pub fn resume_host(s: &mut State) -> u64
+    requires { ⌜ AtSite 5 (now s) ⌝ }
+    ensures { λ r. ⌜ ((v : ℕ) (b : List ℕ) → ResumesByWord r v (now (s .entry)) b (now (s .exit)) b) ⌝ }
+{
+    let f = st_byte(s);
+    after_host(s, f)
+}
+
+// ---- The transfer is entered, released, settled (mod.rs 656-722).
+
+// mis_st: is a transaction on the bus? (mod.rs 656-661).
+pub fn resume_mis(s: &mut State, v: u32) -> u64
+    requires { ⌜ AtSite 6 (now s) ⌝ }
+    ensures { λ r. ⌜ ((b : List ℕ) → ResumesByWord r v (now (s .entry)) b (now (s .exit)) b) ⌝ }
+{
+    if fits(v, 2) {
+        let setup = setup_at(s);
+        return after_mis(s, setup, v);
+    }
+    ROW_16
+}
+
+// int_st.
+pub fn resume_st(s: &mut State, v: u32) -> u64
+    requires { ⌜ AtSite 7 (now s) ⌝ }
+    ensures { λ r. ⌜ ((b : List ℕ) → ResumesByWord r v (now (s .entry)) b (now (s .exit)) b) ⌝ }
+{
+    if fits(v, 7) {
+        let setup = setup_at(s);
+        let busy = busy_at(s);
+        return after_st(s, setup, busy, v);
+    }
+    ROW_16
+}
+
+// rx_len.
+pub fn resume_len(s: &mut State, v: u32) -> u64
+    requires { ⌜ AtSite 8 (now s) ⌝ }
+    ensures { λ r. ⌜ ((b : List ℕ) → ResumesByWord r v (now (s .entry)) b (now (s .exit)) b) ⌝ }
+{
+    if fits(v, 16) {
+        let setup = setup_at(s);
+        let busy = busy_at(s);
+        let st = st_byte(s);
+        return after_len(s, setup, busy, st, v);
+    }
+    ROW_16
+}
+
+// NAK before the release (mod.rs 663).
+pub fn resume_nak(s: &mut State, v: u32) -> u64
+    requires { ⌜ AtSite 9 (now s) ⌝ }
+    ensures { λ r. ⌜ ((b : List ℕ) → ResumesByWord r v (now (s .entry)) b (now (s .exit)) b) ⌝ }
+{
+    let q = nak_at(s);
+    if nak::fits_at(q, v) {
+        let setup = setup_at(s);
+        let x = transfer_at(s);
+        return after_naking(s, setup, x, q, v);
+    }
+    ROW_16
+}
+
+// the transfer flag is cleared (mod.rs 666-667).
+pub fn resume_released(s: &mut State) -> u64
+    requires { ⌜ AtSite 10 (now s) ⌝ }
+    ensures { λ r. ⌜ ((v : ℕ) (b : List ℕ) → ResumesByWord r v (now (s .entry)) b (now (s .exit)) b) ⌝ }
+{
+    let setup = setup_at(s);
+    let x = transfer_at(s);
+    after_released(s, setup, x)
+}
+
+// what was on the bus is waited for (mod.rs 668-717).
+pub fn resume_settle(s: &mut State, v: u32) -> u64
+    requires { ⌜ AtSite 11 (now s) ⌝ }
+    ensures { λ r. ⌜ ((b : List ℕ) → ResumesByWord r v (now (s .entry)) b (now (s .exit)) b) ⌝ }
+{
+    let q = settle_at(s);
+    if settle::fits_at(q, v) {
+        let setup = setup_at(s);
+        let x = transfer_at(s);
+        return after_settling(s, setup, x, q, v);
+    }
+    ROW_16
+}
+
+// ---- The frame, the microframe's SOF, a late entry's completions (mod.rs 724-747).
+
+// frame_no (mod.rs 724-728).
+pub fn resume_frame_no(s: &mut State, slots: &mut [u8], v: u32) -> u64
+    requires { ⌜ AtSite 12 (now s) ⌝ }
+    ensures { λ r. ⌜ ResumesByWord r v (now (s .entry)) (now (slots .entry)) (now (s .exit)) (now (slots .exit)) ⌝ }
+{
+    if fits(v, 16) {
+        let e = entry_at(s);
+        return after_frame_no(s, slots, e, v);
+    }
+    ROW_16
+}
+
+// a SOF that was not handled (mod.rs 729-733).
+pub fn resume_sof(s: &mut State, slots: &mut [u8], v: u32) -> u64
+    requires { ⌜ AtSite 13 (now s) ⌝ }
+    ensures { λ r. ⌜ ResumesByWord r v (now (s .entry)) (now (slots .entry)) (now (s .exit)) (now (slots .exit)) ⌝ }
+{
+    let q = sof_at(s);
+    if sof::fits_at(q, v) {
+        let e = entry_at(s);
+        return after_on_sof(s, slots, e, q, v);
+    }
+    ROW_16
+}
+
+// a late entry's completions (mod.rs 735-747).
+pub fn resume_late(s: &mut State, slots: &mut [u8]) -> u64
+    requires { ⌜ AtSite 14 (now s) ⌝ }
+    ensures { λ r. ⌜ ((v : ℕ) → ResumesByWord r v (now (s .entry)) (now (slots .entry)) (now (s .exit)) (now (slots .exit))) ⌝ }
+{
+    let e = entry_at(s);
+    let q = late_at(s);
+    after_completions(s, slots, e, q)
+}
+
+// ---- What a token completes (mod.rs 748-790).
+
+// the arm of SOF (mod.rs 750-754).
+pub fn resume_sof_arm(s: &mut State, slots: &mut [u8], v: u32) -> u64
+    requires { ⌜ AtSite 15 (now s) ⌝ }
+    ensures { λ r. ⌜ ResumesByWord r v (now (s .entry)) (now (slots .entry)) (now (s .exit)) (now (slots .exit)) ⌝ }
+{
+    let q = sof_at(s);
+    if sof::fits_at(q, v) {
+        let e = entry_at(s);
+        return after_sof_arm(s, slots, e, q, v);
+    }
+    ROW_16
+}
+
+// EP0's control word (mod.rs 757, 781).
+pub fn resume_flip(s: &mut State, v: u32) -> u64
+    requires { ⌜ AtSite 16 (now s) ⌝ }
+    ensures { λ r. ⌜ ((b : List ℕ) → ResumesByWord r v (now (s .entry)) b (now (s .exit)) b) ⌝ }
+{
+    if fits(v, 8) {
+        let d = dir_at(s);
+        let e = entry_at(s);
+        return after_flip(s, d, e, v);
+    }
+    ROW_16
+}
+
+// its toggle is flipped.
+pub fn resume_flipped(s: &mut State, slots: &mut [u8]) -> u64
+    requires { ⌜ AtSite 17 (now s) ⌝ }
+    ensures { λ r. ⌜ ((v : ℕ) → ResumesByWord r v (now (s .entry)) (now (slots .entry)) (now (s .exit)) (now (slots .exit))) ⌝ }
+{
+    let d = dir_at(s);
+    let e = entry_at(s);
+    after_flipped(s, slots, d, e)
+}
+
+// did a packet go through? (`toggled`).
+pub fn resume_toggled(s: &mut State, slots: &mut [u8], v: u32) -> u64
+    requires { ⌜ AtSite 18 (now s) ⌝ }
+    ensures { λ r. ⌜ ResumesByWord r v (now (s .entry)) (now (slots .entry)) (now (s .exit)) (now (slots .exit)) ⌝ }
+{
+    let q = toggled_at(s);
+    if toggled::fits_at(q, v) {
+        let d = dir_at(s);
+        let e = entry_at(s);
+        return after_toggled(s, slots, d, e, q, v);
+    }
+    ROW_16
+}
+
+// an isochronous IN completes (mod.rs 772-777).
+pub fn resume_completing(s: &mut State, slots: &mut [u8]) -> u64
+    requires { ⌜ AtSite 19 (now s) ⌝ }
+    ensures { λ r. ⌜ ((v : ℕ) → ResumesByWord r v (now (s .entry)) (now (slots .entry)) (now (s .exit)) (now (slots .exit))) ⌝ }
+{
+    let e = entry_at(s);
+    let q = complete_at(s);
+    after_completing(s, slots, e, q)
+}
+
+// ---- Isochronous OUTs looked at, EP0's hidden stage, a new control transfer (mod.rs 792-852).
+
+// isochronous OUTs are looked at (`iso_out_check`).
+pub fn resume_check(s: &mut State, slots: &mut [u8], v: u32) -> u64
+    requires { ⌜ AtSite 20 (now s) ⌝ }
+    ensures { λ r. ⌜ ResumesByWord r v (now (s .entry)) (now (slots .entry)) (now (s .exit)) (now (slots .exit)) ⌝ }
+{
+    let q = check_at(s);
+    if iso_out::fits_at(q, v) {
+        let e = entry_at(s);
+        return after_checking(s, slots, e, q, v);
+    }
+    ROW_16
+}
+
+// EP0's control word, for its hidden stage (`ep0_moved_on`).
+pub fn resume_moved_read(s: &mut State, v: u32) -> u64
+    requires { ⌜ AtSite 21 (now s) ⌝ }
+    ensures { λ r. ⌜ ((b : List ℕ) → ResumesByWord r v (now (s .entry)) b (now (s .exit)) b) ⌝ }
+{
+    if fits(v, 8) {
+        let d = dir_at(s);
+        let setup = setup_at(s);
+        return after_moved_read(s, d, setup, v);
+    }
+    ROW_16
+}
+
+// it answers NAK.
+pub fn resume_moved_wrote(s: &mut State) -> u64
+    requires { ⌜ AtSite 22 (now s) ⌝ }
+    ensures { λ r. ⌜ ((v : ℕ) (b : List ℕ) → ResumesByWord r v (now (s .entry)) b (now (s .exit)) b) ⌝ }
+{
+    let d = dir_at(s);
+    let setup = setup_at(s);
+    after_moved_wrote(s, d, setup)
+}
+
+// EP0's OUT answers NAK (mod.rs 803-818).
+pub fn resume_setup_rx(s: &mut State) -> u64
+    requires { ⌜ AtSite 23 (now s) ⌝ }
+    ensures { λ r. ⌜ ((v : ℕ) (b : List ℕ) → ResumesByWord r v (now (s .entry)) b (now (s .exit)) b) ⌝ }
+{
+    after_setup_rx(s)
+}
+
+// and its IN.
+pub fn resume_setup_tx(s: &mut State, slots: &mut [u8]) -> u64
+    requires { ⌜ AtSite 24 (now s) ⌝ }
+    ensures { λ r. ⌜ ((v : ℕ) → ResumesByWord r v (now (s .entry)) (now (slots .entry)) (now (s .exit)) (now (slots .exit))) ⌝ }
+{
+    after_setup_tx(s, slots)
+}
+
+// the setup flag is cleared.
+pub fn resume_setup_released(s: &mut State) -> u64
+    requires { ⌜ AtSite 25 (now s) ⌝ }
+    ensures { λ r. ⌜ ((v : ℕ) (b : List ℕ) → ResumesByWord r v (now (s .entry)) b (now (s .exit)) b) ⌝ }
+{
+    after_setup_released(s)
+}

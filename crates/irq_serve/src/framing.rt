@@ -1,5 +1,6 @@
 // The frame is read, and what was on the bus is its own (mod.rs 724-728).
 use crate::serving::serve;
+use irq::Entry;
 use irq_transfer::wait::short;
 use model::Transfer;
 use regs::status;
@@ -45,20 +46,16 @@ fn framed(x: Transfer, iso: bool, sof: u16, frame: u16) -> Transfer
     x
 }
 
-pub fn after_frame_no(
-    s: &mut State,
-    buf: &mut [u8],
-    setup: bool,
-    x: Transfer,
-    iso: bool,
-    v: u32,
-) -> u64
+pub fn after_frame_no(s: &mut State, buf: &mut [u8], e: Entry, v: u32) -> u64
     requires { ⌜ fitsIn v 16 ≡ true ⌝ }
-    ensures { λ r. ⌜ Stops r (now (s .exit)) (now (buf .exit)) (denote (Point.FrameNo setup x iso) v (view (now (s .entry)), now (buf .entry))) ⌝ }
+    ensures { λ r. ⌜ Stops r (now (s .exit)) (now (buf .exit))
+        (denote (Point.FrameNo (e .setup) (e .x) (e .iso)) v (view (now (s .entry)), now (buf .entry))) ⌝ }
     ensures { λ r. ⌜ Pins r (now (s .exit)) ⌝ }
 {
     let frame = short(v);
     let g = load_globals(s);
-    let y = framed(x, iso, g.sof_frame, frame);
-    serve(s, buf, setup, y, iso, frame)
+    let mut f = e;
+    f.frame = frame;
+    f.x = framed(e.x, e.iso, g.sof_frame, frame);
+    serve(s, buf, f)
 }

@@ -1,4 +1,5 @@
 // The microframe's SOF, then a late entry's completions (mod.rs 729-747).
+use irq::Entry;
 use irq_check::after_dispatch;
 use irq_points::stands::stand_late;
 use irq_points::stands::stand_sof;
@@ -28,109 +29,78 @@ ghost use Rattle.irq.specs.declared.Point.the-variants as Point;
 ghost use Rattle.irq_points.specs.Stands.{Stops, Pins};
 
 // A transaction that is still on the bus is left to its own entry (mod.rs 748).
-fn after_late(s: &mut State, buf: &mut [u8], setup: bool, x: Transfer, iso: bool, frame: u16) -> u64
-    ensures { λ r. ⌜ Stops r (now (s .exit)) (now (buf .exit)) (finish setup (run concrete (afterLate x iso frame) (
+fn after_late(s: &mut State, buf: &mut [u8], e: Entry) -> u64
+    ensures { λ r. ⌜ Stops r (now (s .exit)) (now (buf .exit)) (finish (e .setup) (run concrete (afterLate (e .x) (e .iso) (e .frame)) (
       view (now (s .entry)),
       now (buf .entry),
     ))) ⌝ }
     ensures { λ r. ⌜ Pins r (now (s .exit)) ⌝ }
 {
-    if x.busy {
-        return after_dispatch(s, buf, setup, x, iso);
+    if e.x.busy {
+        return after_dispatch(s, buf, e);
     }
-    dispatch(s, buf, setup, x, iso, frame)
+    dispatch(s, buf, e)
 }
 
-fn then_late(
-    s: &mut State,
-    buf: &mut [u8],
-    setup: bool,
-    x: Transfer,
-    iso: bool,
-    frame: u16,
-    n: LateNext,
-) -> u64
+fn then_late(s: &mut State, buf: &mut [u8], e: Entry, n: LateNext) -> u64
     requires { ⌜ lates.Linked n ⌝ }
-    ensures { λ r. ⌜ Stops r (now (s .exit)) (now (buf .exit)) (finish setup
-        (bindOut (lates.meaning frame n (view (now (s .entry))) (now (buf .entry))) (λ _ u. run concrete (afterLate x iso frame) u))) ⌝ }
+    ensures { λ r. ⌜ Stops r (now (s .exit)) (now (buf .exit)) (finish (e .setup)
+        (bindOut (lates.meaning (e .frame) n (view (now (s .entry))) (now (buf .entry))) (λ _ u. run concrete (afterLate (e .x) (e .iso) (e .frame)) u))) ⌝ }
     ensures { λ r. ⌜ Pins r (now (s .exit)) ⌝ }
 {
     match n {
-        LateNext::Asks(q, p) => stand_late(s, q, setup, x, iso, frame, p),
-        LateNext::Ends => after_late(s, buf, setup, x, iso, frame),
+        LateNext::Asks(q, p) => stand_late(s, q, e, p),
+        LateNext::Ends => after_late(s, buf, e),
     }
 }
 
-pub fn after_completions(
-    s: &mut State,
-    buf: &mut [u8],
-    setup: bool,
-    x: Transfer,
-    iso: bool,
-    frame: u16,
-    p: Late,
-) -> u64
-    ensures { λ r. ⌜ ((v : ℕ) → Stops r (now (s .exit)) (now (buf .exit)) (denote (Point.Late setup x iso frame p) v (
+pub fn after_completions(s: &mut State, buf: &mut [u8], e: Entry, p: Late) -> u64
+    ensures { λ r. ⌜ ((v : ℕ) → Stops r (now (s .exit)) (now (buf .exit)) (denote (Point.Late (e .setup) (e .x) (e .iso) (e .frame) p) v (
       view (now (s .entry)),
       now (buf .entry),
     ))) ⌝ }
     ensures { λ r. ⌜ Pins r (now (s .exit)) ⌝ }
 {
-    let n = late::resume(s, frame, p);
-    then_late(s, buf, setup, x, iso, frame, n)
+    let n = late::resume(s, e.frame, p);
+    then_late(s, buf, e, n)
 }
 
 // What raised a late entry completed before the OUT (mod.rs 735-747).
-fn after_sof(s: &mut State, buf: &mut [u8], setup: bool, x: Transfer, iso: bool, frame: u16) -> u64
-    ensures { λ r. ⌜ Stops r (now (s .exit)) (now (buf .exit)) (finish setup (run concrete (afterSof x iso frame) (
+fn after_sof(s: &mut State, buf: &mut [u8], e: Entry) -> u64
+    ensures { λ r. ⌜ Stops r (now (s .exit)) (now (buf .exit)) (finish (e .setup) (run concrete (afterSof (e .x) (e .iso) (e .frame)) (
       view (now (s .entry)),
       now (buf .entry),
     ))) ⌝ }
     ensures { λ r. ⌜ Pins r (now (s .exit)) ⌝ }
 {
-    if x.late {
-        let n = late::begin(s, frame);
-        return then_late(s, buf, setup, x, iso, frame, n);
+    if e.x.late {
+        let n = late::begin(s, e.frame);
+        return then_late(s, buf, e, n);
     }
-    after_late(s, buf, setup, x, iso, frame)
+    after_late(s, buf, e)
 }
 
-fn then_sof(
-    s: &mut State,
-    buf: &mut [u8],
-    setup: bool,
-    x: Transfer,
-    iso: bool,
-    frame: u16,
-    n: SofNext,
-) -> u64
+fn then_sof(s: &mut State, buf: &mut [u8], e: Entry, n: SofNext) -> u64
     requires { ⌜ sofs.Linked n ⌝ }
     ensures { λ r. ⌜ Stops r (now (s .exit)) (now (buf .exit))
-        (finish setup (bindOut (sofs.meaning frame n (view (now (s .entry))) (now (buf .entry))) (λ _ u. run concrete (afterSof x iso frame) u))) ⌝ }
+        (finish (e .setup) (bindOut (sofs.meaning (e .frame) n (view (now (s .entry))) (now (buf .entry)))
+        (λ _ u. run concrete (afterSof (e .x) (e .iso) (e .frame)) u))) ⌝ }
     ensures { λ r. ⌜ Pins r (now (s .exit)) ⌝ }
 {
     match n {
-        SofNext::Asks(q, p) => stand_sof(s, q, setup, x, iso, frame, p),
-        SofNext::Ends => after_sof(s, buf, setup, x, iso, frame),
+        SofNext::Asks(q, p) => stand_sof(s, q, e, p),
+        SofNext::Ends => after_sof(s, buf, e),
     }
 }
 
-pub fn after_on_sof(
-    s: &mut State,
-    buf: &mut [u8],
-    setup: bool,
-    x: Transfer,
-    iso: bool,
-    frame: u16,
-    p: Sof,
-    v: u32,
-) -> u64
+pub fn after_on_sof(s: &mut State, buf: &mut [u8], e: Entry, p: Sof, v: u32) -> u64
     requires { ⌜ sofs.fitsAt p v ≡ true ⌝ }
-    ensures { λ r. ⌜ Stops r (now (s .exit)) (now (buf .exit)) (denote (Point.Sof setup x iso frame p) v (view (now (s .entry)), now (buf .entry))) ⌝ }
+    ensures { λ r. ⌜ Stops r (now (s .exit)) (now (buf .exit))
+        (denote (Point.Sof (e .setup) (e .x) (e .iso) (e .frame) p) v (view (now (s .entry)), now (buf .entry))) ⌝ }
     ensures { λ r. ⌜ Pins r (now (s .exit)) ⌝ }
 {
-    let n = sof::on_sof_resume(s, frame, p, v);
-    then_sof(s, buf, setup, x, iso, frame, n)
+    let n = sof::on_sof_resume(s, e.frame, p, v);
+    then_sof(s, buf, e, n)
 }
 
 fn sof_due(x: Transfer, sof: u16, frame: u16) -> bool
@@ -143,18 +113,19 @@ fn sof_due(x: Transfer, sof: u16, frame: u16) -> bool
 }
 
 // The flag is one bit: a late entry also stands for the SOF (mod.rs 729-733).
-pub fn serve(s: &mut State, buf: &mut [u8], setup: bool, x: Transfer, iso: bool, frame: u16) -> u64
-    ensures { λ r. ⌜ Stops r (now (s .exit)) (now (buf .exit)) (finish setup (run concrete (serving x iso frame) (view (now (s .entry)), now (buf .entry)))) ⌝ }
+pub fn serve(s: &mut State, buf: &mut [u8], e: Entry) -> u64
+    ensures { λ r. ⌜ Stops r (now (s .exit)) (now (buf .exit))
+        (finish (e .setup) (run concrete (serving (e .x) (e .iso) (e .frame)) (view (now (s .entry)), now (buf .entry)))) ⌝ }
     ensures { λ r. ⌜ Pins r (now (s .exit)) ⌝ }
 {
     let g = load_globals(s);
-    if sof_due(x, g.sof_frame, frame) {
-        let n = sof::on_sof(s, frame);
-        return then_sof(s, buf, setup, x, iso, frame, n);
+    if sof_due(e.x, g.sof_frame, e.frame) {
+        let n = sof::on_sof(s, e.frame);
+        return then_sof(s, buf, e, n);
     }
-    if x.late {
-        let n = late::begin(s, frame);
-        return then_late(s, buf, setup, x, iso, frame, n);
+    if e.x.late {
+        let n = late::begin(s, e.frame);
+        return then_late(s, buf, e, n);
     }
-    after_late(s, buf, setup, x, iso, frame)
+    after_late(s, buf, e)
 }

@@ -1,5 +1,6 @@
 // What a token completes (mod.rs 748-790), one access at a time. Every function is total: any number is safe.
 use bits::mask_has;
+use irq::Entry;
 use irq_check::after_dispatch;
 use irq_check::setup::after_transfer;
 use irq_points::stands::stand_completing;
@@ -18,7 +19,6 @@ use iso_in::first_in_frame;
 use iso_in::sof;
 use iso_in::sof::Sof;
 use iso_in::sof::SofNext;
-use model::Transfer;
 use model_ops::records::wake;
 use regs::Access;
 use regs::Dir;
@@ -45,7 +45,7 @@ ghost use Rattle.irq_transfer.specs.Toggled as toggles;
 ghost use Rattle.iso_in.specs.Complete as completes;
 ghost use Rattle.iso_in.specs.Sof as sofs;
 ghost use Rattle.model_ops.specs.Concrete.{concrete, go};
-ghost use Rattle.irq.specs.Continuations.{thenCheck, flipDone, passed, afterToggled};
+ghost use Rattle.irq.specs.Continuations.{afterArm, flipDone, passed, afterToggled};
 ghost use Rattle.irq.specs.Points.{denote};
 ghost use Rattle.irq.specs.declared.Point.the-variants as Point;
 ghost use Rattle.irq_points.specs.Stands.{Stops, Pins};
@@ -99,287 +99,212 @@ fn flip_done(s: &mut State, d: Dir, len: u16)
     }
 }
 
-pub fn after_flipped(
-    s: &mut State,
-    buf: &mut [u8],
-    d: Dir,
-    setup: bool,
-    x: Transfer,
-    iso: bool,
-) -> u64
-    ensures { λ r. ⌜ ((v : ℕ) → Stops r (now (s .exit)) (now (buf .exit)) (denote (Point.Flipped d setup x iso) v (
+pub fn after_flipped(s: &mut State, buf: &mut [u8], d: Dir, e: Entry) -> u64
+    ensures { λ r. ⌜ ((v : ℕ) → Stops r (now (s .exit)) (now (buf .exit)) (denote (Point.Flipped d (e .setup) (e .x) (e .iso)) v (
       view (now (s .entry)),
       now (buf .entry),
     ))) ⌝ }
     ensures { λ r. ⌜ Pins r (now (s .exit)) ⌝ }
 {
-    flip_done(s, d, x.len);
-    after_dispatch(s, buf, setup, x, iso)
+    flip_done(s, d, e.x.len);
+    after_dispatch(s, buf, e)
 }
 
-pub fn after_flip(s: &mut State, d: Dir, setup: bool, x: Transfer, iso: bool, v: u32) -> u64
+pub fn after_flip(s: &mut State, d: Dir, e: Entry, v: u32) -> u64
     requires { ⌜ fitsIn v 8 ≡ true ⌝ }
-    ensures { λ r. ⌜ ((b : List ℕ) → Stops r (now (s .exit)) b (denote (Point.Flip d setup x iso) v (view (now (s .entry)), b))) ⌝ }
+    ensures { λ r. ⌜ ((b : List ℕ) → Stops r (now (s .exit)) b (denote (Point.Flip d (e .setup) (e .x) (e .iso)) v (view (now (s .entry)), b))) ⌝ }
     ensures { λ r. ⌜ Pins r (now (s .exit)) ⌝ }
 {
     let word = control_word::flip(byte(v));
-    stand_flipped(
-        s,
-        Access::Write(ctrl_of(d), 0, word as u32),
-        d,
-        setup,
-        x,
-        iso,
-    )
+    stand_flipped(s, Access::Write(ctrl_of(d), 0, word as u32), d, e)
 }
 
 // What follows `toggled`: a packet went through, or the endpoint stays as it is.
-fn after_passing(
-    s: &mut State,
-    buf: &mut [u8],
-    d: Dir,
-    setup: bool,
-    x: Transfer,
-    iso: bool,
-    b: bool,
-) -> u64
+fn after_passing(s: &mut State, buf: &mut [u8], d: Dir, e: Entry, b: bool) -> u64
     ensures { λ r. ⌜ Stops r (now (s .exit)) (now (buf .exit))
-        (thenCheck setup x iso (run concrete (afterToggled d x b) (view (now (s .entry)), now (buf .entry)))) ⌝ }
+        (afterArm e (run concrete (afterToggled d (e .x) b) (view (now (s .entry)), now (buf .entry)))) ⌝ }
     ensures { λ r. ⌜ Pins r (now (s .exit)) ⌝ }
 {
     if b {
-        passed(s, d, status::endpoint(x.st), x.len);
-        return after_dispatch(s, buf, setup, x, iso);
+        passed(s, d, status::endpoint(e.x.st), e.x.len);
+        return after_dispatch(s, buf, e);
     }
-    after_dispatch(s, buf, setup, x, iso)
+    after_dispatch(s, buf, e)
 }
 
 // Where `toggled` stops, or what follows it.
-fn then_toggled(
-    s: &mut State,
-    buf: &mut [u8],
-    d: Dir,
-    setup: bool,
-    x: Transfer,
-    iso: bool,
-    n: ToggledNext,
-) -> u64
+fn then_toggled(s: &mut State, buf: &mut [u8], d: Dir, e: Entry, n: ToggledNext) -> u64
     requires { ⌜ toggles.Linked n ⌝ }
-    ensures { λ r. ⌜ Stops r (now (s .exit)) (now (buf .exit)) (thenCheck setup x iso
-        (bindOut (toggles.meaning d (endpoint (x .st)) n (view (now (s .entry))) (now (buf .entry))) (λ b u. run concrete (afterToggled d x b) u))) ⌝ }
+    ensures { λ r. ⌜ Stops r (now (s .exit)) (now (buf .exit)) (afterArm e
+        (bindOut (toggles.meaning d (endpoint (e .x .st)) n (view (now (s .entry))) (now (buf .entry))) (λ b u. run concrete (afterToggled d (e .x) b) u))) ⌝ }
     ensures { λ r. ⌜ Pins r (now (s .exit)) ⌝ }
 {
     match n {
-        ToggledNext::Asks(q, p) => stand_toggled(s, q, d, setup, x, iso, p),
-        ToggledNext::Ends(b) => after_passing(s, buf, d, setup, x, iso, b),
+        ToggledNext::Asks(q, p) => stand_toggled(s, q, d, e, p),
+        ToggledNext::Ends(b) => after_passing(s, buf, d, e, b),
     }
 }
 
-pub fn after_toggled(
-    s: &mut State,
-    buf: &mut [u8],
-    d: Dir,
-    setup: bool,
-    x: Transfer,
-    iso: bool,
-    p: Toggled,
-    v: u32,
-) -> u64
+pub fn after_toggled(s: &mut State, buf: &mut [u8], d: Dir, e: Entry, p: Toggled, v: u32) -> u64
     requires { ⌜ toggles.fitsAt p v ≡ true ⌝ }
-    ensures { λ r. ⌜ Stops r (now (s .exit)) (now (buf .exit)) (denote (Point.Toggled d setup x iso p) v (view (now (s .entry)), now (buf .entry))) ⌝ }
+    ensures { λ r. ⌜ Stops r (now (s .exit)) (now (buf .exit))
+        (denote (Point.Toggled d (e .setup) (e .x) (e .iso) p) v (view (now (s .entry)), now (buf .entry))) ⌝ }
     ensures { λ r. ⌜ Pins r (now (s .exit)) ⌝ }
 {
-    let n = toggled::resume(s, d, status::endpoint(x.st), p, v);
-    then_toggled(s, buf, d, setup, x, iso, n)
+    let n = toggled::resume(s, d, status::endpoint(e.x.st), p, v);
+    then_toggled(s, buf, d, e, n)
 }
 
 // Bulk and interrupt (mod.rs 759, 778).
-fn toggled_arm(s: &mut State, buf: &mut [u8], d: Dir, setup: bool, x: Transfer, iso: bool) -> u64
-    ensures { λ r. ⌜ Stops r (now (s .exit)) (now (buf .exit)) (thenCheck setup x iso (bindOut (run concrete (script.toggled {i = true} d (endpoint (x .st))) (
+fn toggled_arm(s: &mut State, buf: &mut [u8], d: Dir, e: Entry) -> u64
+    ensures { λ r. ⌜ Stops r (now (s .exit)) (now (buf .exit)) (afterArm e (bindOut (run concrete (script.toggled {i = true} d (endpoint (e .x .st))) (
       view (now (s .entry)),
       now (buf .entry),
-    )) (λ b u. run concrete (afterToggled d x b) u))) ⌝ }
+    )) (λ b u. run concrete (afterToggled d (e .x) b) u))) ⌝ }
     ensures { λ r. ⌜ Pins r (now (s .exit)) ⌝ }
 {
-    let n = toggled::begin(d, status::endpoint(x.st));
+    let n = toggled::begin(d, status::endpoint(e.x.st));
     match n {
-        ToggledNext::Asks(q, p) => stand_toggled(s, q, d, setup, x, iso, p),
-        ToggledNext::Ends(b) => after_passing(s, buf, d, setup, x, iso, b),
+        ToggledNext::Asks(q, p) => stand_toggled(s, q, d, e, p),
+        ToggledNext::Ends(b) => after_passing(s, buf, d, e, b),
     }
 }
 
 // The arms of OUT (mod.rs 755-771).
-fn out_arm(s: &mut State, buf: &mut [u8], setup: bool, x: Transfer, iso: bool) -> u64
-    ensures { λ r. ⌜ Stops r (now (s .exit)) (now (buf .exit)) (thenCheck setup x iso (run concrete (script.outArm {i = true} x iso) (
+fn out_arm(s: &mut State, buf: &mut [u8], e: Entry) -> u64
+    ensures { λ r. ⌜ Stops r (now (s .exit)) (now (buf .exit)) (afterArm e (run concrete (script.outArm {i = true} (e .x) (e .iso)) (
       view (now (s .entry)),
       now (buf .entry),
     ))) ⌝ }
     ensures { λ r. ⌜ Pins r (now (s .exit)) ⌝ }
 {
-    if iso {
-        return after_dispatch(s, buf, setup, x, iso);
+    if e.iso {
+        return after_dispatch(s, buf, e);
     }
-    if status::endpoint(x.st) == 0 {
-        if status::tog_ok(x.st) {
-            return stand_flip(s, Access::Read(Reg::EpRxCtrl, 0), Dir::Out, setup, x, iso);
+    if status::endpoint(e.x.st) == 0 {
+        if status::tog_ok(e.x.st) {
+            return stand_flip(s, Access::Read(Reg::EpRxCtrl, 0), Dir::Out, e);
         }
-        return after_dispatch(s, buf, setup, x, iso);
+        return after_dispatch(s, buf, e);
     }
-    toggled_arm(s, buf, Dir::Out, setup, x, iso)
+    toggled_arm(s, buf, Dir::Out, e)
 }
 
-fn then_complete(
-    s: &mut State,
-    buf: &mut [u8],
-    setup: bool,
-    x: Transfer,
-    iso: bool,
-    n: CompleteNext,
-) -> u64
+fn then_complete(s: &mut State, buf: &mut [u8], e: Entry, n: CompleteNext) -> u64
     requires { ⌜ completes.Linked n ⌝ }
-    ensures { λ r. ⌜ Stops r (now (s .exit)) (now (buf .exit)) (thenCheck setup x iso (completes.meaning n (view (now (s .entry))) (now (buf .entry)))) ⌝ }
+    ensures { λ r. ⌜ Stops r (now (s .exit)) (now (buf .exit)) (afterArm e (completes.meaning n (view (now (s .entry))) (now (buf .entry)))) ⌝ }
     ensures { λ r. ⌜ Pins r (now (s .exit)) ⌝ }
 {
     match n {
-        CompleteNext::Asks(q, p) => stand_completing(s, q, setup, x, iso, p),
-        CompleteNext::Ends => after_dispatch(s, buf, setup, x, iso),
+        CompleteNext::Asks(q, p) => stand_completing(s, q, e, p),
+        CompleteNext::Ends => after_dispatch(s, buf, e),
     }
 }
 
-pub fn after_completing(
-    s: &mut State,
-    buf: &mut [u8],
-    setup: bool,
-    x: Transfer,
-    iso: bool,
-    p: Complete,
-) -> u64
-    ensures { λ r. ⌜ ((v : ℕ) → Stops r (now (s .exit)) (now (buf .exit)) (denote (Point.Completing setup x iso p) v (
+pub fn after_completing(s: &mut State, buf: &mut [u8], e: Entry, p: Complete) -> u64
+    ensures { λ r. ⌜ ((v : ℕ) → Stops r (now (s .exit)) (now (buf .exit)) (denote (Point.Completing (e .setup) (e .x) (e .iso) p) v (
       view (now (s .entry)),
       now (buf .entry),
     ))) ⌝ }
     ensures { λ r. ⌜ Pins r (now (s .exit)) ⌝ }
 {
     let n = complete::iso_in_complete_resume(s, p);
-    then_complete(s, buf, setup, x, iso, n)
+    then_complete(s, buf, e, n)
 }
 
 // One isochronous IN per microframe, where it is not paced (mod.rs 772-777).
-fn iso_in_arm(s: &mut State, buf: &mut [u8], setup: bool, x: Transfer, iso: bool, frame: u16) -> u64
+fn iso_in_arm(s: &mut State, buf: &mut [u8], e: Entry) -> u64
     ensures { λ r. ⌜ Stops r (now (s .exit)) (now (buf .exit))
-        (thenCheck setup x iso (run concrete (script.isoInArm {i = true} (endpoint (x .st)) frame) (view (now (s .entry)), now (buf .entry)))) ⌝ }
+        (afterArm e (run concrete (script.isoInArm {i = true} (endpoint (e .x .st)) (e .frame)) (view (now (s .entry)), now (buf .entry)))) ⌝ }
     ensures { λ r. ⌜ Pins r (now (s .exit)) ⌝ }
 {
-    let ep = status::endpoint(x.st);
+    let ep = status::endpoint(e.x.st);
     let g = load_globals(s);
     if mask_has(g.iso_in_paced, ep) {
-        return after_dispatch(s, buf, setup, x, iso);
+        return after_dispatch(s, buf, e);
     }
-    if first_in_frame(s, ep, frame) {
+    if first_in_frame(s, ep, e.frame) {
         let n = complete::iso_in_complete(s, ep);
         match n {
-            CompleteNext::Asks(q, p) => stand_completing(s, q, setup, x, iso, p),
-            CompleteNext::Ends => after_dispatch(s, buf, setup, x, iso),
+            CompleteNext::Asks(q, p) => stand_completing(s, q, e, p),
+            CompleteNext::Ends => after_dispatch(s, buf, e),
         }
     } else {
-        after_dispatch(s, buf, setup, x, iso)
+        after_dispatch(s, buf, e)
     }
 }
 
 // The arms of IN (mod.rs 772-788).
-fn in_arm(s: &mut State, buf: &mut [u8], setup: bool, x: Transfer, iso: bool, frame: u16) -> u64
-    ensures { λ r. ⌜ Stops r (now (s .exit)) (now (buf .exit)) (thenCheck setup x iso (run concrete (script.inArm {i = true} x iso frame) (
+fn in_arm(s: &mut State, buf: &mut [u8], e: Entry) -> u64
+    ensures { λ r. ⌜ Stops r (now (s .exit)) (now (buf .exit)) (afterArm e (run concrete (script.inArm {i = true} (e .x) (e .iso) (e .frame)) (
       view (now (s .entry)),
       now (buf .entry),
     ))) ⌝ }
     ensures { λ r. ⌜ Pins r (now (s .exit)) ⌝ }
 {
-    if iso {
-        return iso_in_arm(s, buf, setup, x, iso, frame);
+    if e.iso {
+        return iso_in_arm(s, buf, e);
     }
-    if status::endpoint(x.st) == 0 {
-        return stand_flip(s, Access::Read(Reg::EpTxCtrl, 0), Dir::In, setup, x, iso);
+    if status::endpoint(e.x.st) == 0 {
+        return stand_flip(s, Access::Read(Reg::EpTxCtrl, 0), Dir::In, e);
     }
-    toggled_arm(s, buf, Dir::In, setup, x, iso)
+    toggled_arm(s, buf, Dir::In, e)
 }
 
-fn then_sof_arm(
-    s: &mut State,
-    buf: &mut [u8],
-    setup: bool,
-    x: Transfer,
-    iso: bool,
-    frame: u16,
-    n: SofNext,
-) -> u64
+fn then_sof_arm(s: &mut State, buf: &mut [u8], e: Entry, n: SofNext) -> u64
     requires { ⌜ sofs.Linked n ⌝ }
-    ensures { λ r. ⌜ Stops r (now (s .exit)) (now (buf .exit)) (thenCheck setup x iso (sofs.meaning frame n (view (now (s .entry))) (now (buf .entry)))) ⌝ }
+    ensures { λ r. ⌜ Stops r (now (s .exit)) (now (buf .exit)) (afterArm e (sofs.meaning (e .frame) n (view (now (s .entry))) (now (buf .entry)))) ⌝ }
     ensures { λ r. ⌜ Pins r (now (s .exit)) ⌝ }
 {
     match n {
-        SofNext::Asks(q, p) => stand_sof_arm(s, q, setup, x, iso, frame, p),
+        SofNext::Asks(q, p) => stand_sof_arm(s, q, e, p),
         SofNext::Ends => {
-            if status::is_sof(x.st) {
-                return after_transfer(s, setup);
+            if status::is_sof(e.x.st) {
+                return after_transfer(s, e.setup);
             }
-            after_dispatch(s, buf, setup, x, iso)
+            after_dispatch(s, buf, e)
         }
     }
 }
 
-pub fn after_sof_arm(
-    s: &mut State,
-    buf: &mut [u8],
-    setup: bool,
-    x: Transfer,
-    iso: bool,
-    frame: u16,
-    p: Sof,
-    v: u32,
-) -> u64
+pub fn after_sof_arm(s: &mut State, buf: &mut [u8], e: Entry, p: Sof, v: u32) -> u64
     requires { ⌜ sofs.fitsAt p v ≡ true ⌝ }
-    ensures { λ r. ⌜ Stops r (now (s .exit)) (now (buf .exit)) (denote (Point.SofArm setup x iso frame p) v (view (now (s .entry)), now (buf .entry))) ⌝ }
+    ensures { λ r. ⌜ Stops r (now (s .exit)) (now (buf .exit))
+        (denote (Point.SofArm (e .setup) (e .x) (e .iso) (e .frame) p) v (view (now (s .entry)), now (buf .entry))) ⌝ }
     ensures { λ r. ⌜ Pins r (now (s .exit)) ⌝ }
 {
-    let n = sof::on_sof_resume(s, frame, p, v);
-    then_sof_arm(s, buf, setup, x, iso, frame, n)
+    let n = sof::on_sof_resume(s, e.frame, p, v);
+    then_sof_arm(s, buf, e, n)
 }
 
 // SOF's own (mod.rs 750-754), after which nothing of the transfer is left.
-fn sof_arm(s: &mut State, setup: bool, x: Transfer, iso: bool, frame: u16) -> u64
-    requires { ⌜ isSof (x .st) ≡ true ⌝ }
+fn sof_arm(s: &mut State, e: Entry) -> u64
+    requires { ⌜ isSof (e .x .st) ≡ true ⌝ }
     ensures { λ r. ⌜ ((b : List ℕ) → Stops r (now (s .exit)) b
-        (thenCheck setup x iso (run concrete (script.sofArm {i = true} frame) (view (now (s .entry)), b)))) ⌝ }
+        (afterArm e (run concrete (script.sofArm {i = true} (e .frame)) (view (now (s .entry)), b)))) ⌝ }
     ensures { λ r. ⌜ Pins r (now (s .exit)) ⌝ }
 {
     let g = load_globals(s);
-    if g.sof_frame == frame {
-        return after_transfer(s, setup);
+    if g.sof_frame == e.frame {
+        return after_transfer(s, e.setup);
     }
-    let n = sof::on_sof(s, frame);
+    let n = sof::on_sof(s, e.frame);
     match n {
-        SofNext::Asks(q, p) => stand_sof_arm(s, q, setup, x, iso, frame, p),
-        SofNext::Ends => after_transfer(s, setup),
+        SofNext::Asks(q, p) => stand_sof_arm(s, q, e, p),
+        SofNext::Ends => after_transfer(s, e.setup),
     }
 }
 
-pub fn dispatch(
-    s: &mut State,
-    buf: &mut [u8],
-    setup: bool,
-    x: Transfer,
-    iso: bool,
-    frame: u16,
-) -> u64
-    ensures { λ r. ⌜ Stops r (now (s .exit)) (now (buf .exit)) (thenCheck setup x iso
-        (run concrete (script.dispatch {i = true} (token (x .st)) x iso frame) (view (now (s .entry)), now (buf .entry)))) ⌝ }
+pub fn dispatch(s: &mut State, buf: &mut [u8], e: Entry) -> u64
+    ensures { λ r. ⌜ Stops r (now (s .exit)) (now (buf .exit)) (afterArm e
+        (run concrete (script.dispatch {i = true} (token (e .x .st)) (e .x) (e .iso) (e .frame)) (view (now (s .entry)), now (buf .entry)))) ⌝ }
     ensures { λ r. ⌜ Pins r (now (s .exit)) ⌝ }
 {
-    let t = status::token(x.st);
+    let t = status::token(e.x.st);
     match t {
-        Token::Sof => sof_arm(s, setup, x, iso, frame),
-        Token::Out => out_arm(s, buf, setup, x, iso),
-        Token::In => in_arm(s, buf, setup, x, iso, frame),
-        Token::Setup => after_dispatch(s, buf, setup, x, iso),
+        Token::Sof => sof_arm(s, e),
+        Token::Out => out_arm(s, buf, e),
+        Token::In => in_arm(s, buf, e),
+        Token::Setup => after_dispatch(s, buf, e),
     }
 }

@@ -22,7 +22,7 @@ returns : tie.Need-returns
 returns c =
     let a = c .before .before .before .before .before .before .before .before .before .args in
     goes-on (c .checked .ensures)
-    (after (a .setup) (λ _ u. run concrete (afterCheck (a .x)) u) _ _ (c .before .before .before .before .before .iso-out-check-resume .ensures .0))
+    (after (a .e .setup) (λ _ u. run concrete (afterCheck (a .e .x)) u) _ _ (c .before .before .before .before .before .iso-out-check-resume .ensures .0))
 
 pub after-checking-spec : {M : Type 1} → statement M
 after-checking-spec = tie.close (tie.spec iso-out-check-resume-requires checked-requires same-length returns)

@@ -22,7 +22,7 @@ returns c =
     let the-after-transfer = c .after-transfer in
     let a = c .before .before .before .before .before .args in
     goes-on (the-after-transfer .ensures .0 _, the-after-transfer .ensures .1)
-    (sof-over (a .setup) (a .x) (a .iso) _ (tells _ _ _ (c .before .before .before .is-sof .ensures) (c .before .before .if1 .taken)))
+    (sof-over (a .e .setup) (a .e .x) (a .e .iso) _ (tells _ _ _ (c .before .before .before .is-sof .ensures) (c .before .before .if1 .taken)))
 
 iso-out-check-requires : tie.Need-iso-out-check-requires
 iso-out-check-requires c κs = search needs
@@ -51,9 +51,9 @@ returns-2 c =
     let the-is-sof = c .before .before .before .before .before .before .before .before .before .before .before .is-sof in
     let the-if1 = c .before .before .before .before .before .before .before .before .before .before .if1 in
     pauses-at (c .stand-check .ensures) (subst check.Linked (the-n .given .1) (the-begin .ensures .1 .1))
-    (check-asks (a .setup) (λ _ u. run concrete (afterCheck (a .x)) u) _ _ _ (a .x) (a .iso) _ _ (the-n .given .1)
-    ∙ (after (a .setup) (λ _ u. run concrete (afterCheck (a .x)) u) _ _ (the-begin .ensures .0)
-    ∙ when-yes (a .setup) (isoOutCheck (a .x) (a .iso)) (λ _ u. run concrete (afterCheck (a .x)) u) _ _
+    (check-asks (a .e .setup) (λ _ u. run concrete (afterCheck (a .e .x)) u) _ _ _ (a .e .x) (a .e .iso) _ _ (the-n .given .1)
+    ∙ (after (a .e .setup) (λ _ u. run concrete (afterCheck (a .e .x)) u) _ _ (the-begin .ensures .0)
+    ∙ when-yes (a .e .setup) (isoOutCheck (a .e .x) (a .e .iso)) (λ _ u. run concrete (afterCheck (a .e .x)) u) _ _
     (tells-not _ _ _ (the-is-sof .ensures) (the-if1 .left))))
 
 same-length-2 : tie.Need-same-length-2
@@ -69,9 +69,9 @@ returns-3 c =
     let the-is-sof = c .before .before .before .before .before .before .before .before .before .before .is-sof in
     let the-if1 = c .before .before .before .before .before .before .before .before .before .if1 in
     goes-on (the-after-check .ensures .0 _, the-after-check .ensures .1)
-    (check-ends (a .setup) (λ _ u. run concrete (afterCheck (a .x)) u) _ _ (a .x) (a .iso) _ (the-enum-told .given .1)
-    ∙ (after (a .setup) (λ _ u. run concrete (afterCheck (a .x)) u) _ _ (the-begin .ensures .0)
-    ∙ when-yes (a .setup) (isoOutCheck (a .x) (a .iso)) (λ _ u. run concrete (afterCheck (a .x)) u) _ _
+    (check-ends (a .e .setup) (λ _ u. run concrete (afterCheck (a .e .x)) u) _ _ (a .e .x) (a .e .iso) _ (the-enum-told .given .1)
+    ∙ (after (a .e .setup) (λ _ u. run concrete (afterCheck (a .e .x)) u) _ _ (the-begin .ensures .0)
+    ∙ when-yes (a .e .setup) (isoOutCheck (a .e .x) (a .e .iso)) (λ _ u. run concrete (afterCheck (a .e .x)) u) _ _
     (tells-not _ _ _ (the-is-sof .ensures) (the-if1 .left))))
 
 pub after-dispatch-spec : {M : Type 1} → statement M

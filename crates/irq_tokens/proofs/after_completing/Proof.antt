@@ -24,7 +24,7 @@ returns c =
     let a = c .before .before .before .before .before .before .before .before .args in
     let the-resume = c .before .before .before .before .before .iso-in-complete-resume in (
       λ v. then-on (the-then-complete .ensures .0)
-          (after (a .setup) (λ _ u. run concrete (afterDispatch (a .x) (a .iso)) u) _ _ (the-resume .ensures .0 _)),
+          (after (a .e .setup) (λ _ u. run concrete (afterDispatch (a .e .x) (a .e .iso)) u) _ _ (the-resume .ensures .0 _)),
       the-then-complete .ensures .1,
     )
 

@@ -22,7 +22,7 @@ returns c =
     let a = c .before .before .before .before .before .before .before .before .args in
     let the-flip-done = c .before .before .before .before .before .flip-done in (
       λ v. then-on (the-after-dispatch .ensures .0)
-          (after (a .setup) (λ _ u. run concrete (afterDispatch (a .x) (a .iso)) u) _ _ (the-flip-done .ensures .0 _)),
+          (after (a .e .setup) (λ _ u. run concrete (afterDispatch (a .e .x) (a .e .iso)) u) _ _ (the-flip-done .ensures .0 _)),
       the-after-dispatch .ensures .1,
     )
 

@@ -1,6 +1,6 @@
 use Rattle.irq_check.specs.StopsLaws.{goes-on}
 use Rattle.irq.specs.Laws.{after, passed-at, when-no, when-yes}
-use Rattle.irq.specs.Continuations.{afterDispatch, passed, thenCheck}
+use Rattle.irq.specs.Continuations.{afterDispatch, passed, afterArm}
 use Rattle.model_ops.specs.Concrete.{concrete}
 use Rattle.regs.specs.Status.{endpoint}
 use Rattle.model.specs.Script.{run}
@@ -28,9 +28,9 @@ returns c =
     let the-if1 = c .before .before .before .before .before .before .before .before .if1 in
     let a = c .before .before .before .before .before .before .before .before .before .before .args in
     goes-on (c .before .before .after-dispatch .ensures)
-    (after (a .setup) (λ _ u. run concrete (afterDispatch (a .x) (a .iso)) u) _ _ (the-passed .ensures .0 _)
-    ∙ (passed-at (thenCheck (a .setup) (a .x) (a .iso)) (a .d) _ _ _ _ (the-endpoint .ensures)
-    ∙ when-yes (a .setup) (passed (a .d) (endpoint ((a .x) .st)) ((a .x) .len)) (λ _ u. run concrete (afterDispatch (a .x) (a .iso)) u) _ _
+    (after (a .e .setup) (λ _ u. run concrete (afterDispatch (a .e .x) (a .e .iso)) u) _ _ (the-passed .ensures .0 _)
+    ∙ (passed-at (afterArm (a .e)) (a .d) _ _ _ _ (the-endpoint .ensures)
+    ∙ when-yes (a .e .setup) (passed (a .d) (endpoint ((a .e .x) .st)) ((a .e .x) .len)) (λ _ u. run concrete (afterDispatch (a .e .x) (a .e .iso)) u) _ _
     (the-if1 .taken)))
 
 after-dispatch-requires-2 : tie.Need-after-dispatch-requires-2
@@ -43,7 +43,7 @@ returns-2 : tie.Need-returns-2
 returns-2 c =
     let a = c .before .before .before .before .before .before .before .args in
     goes-on (c .before .before .after-dispatch2 .ensures)
-    (when-no (a .setup) (passed (a .d) (endpoint ((a .x) .st)) ((a .x) .len)) (λ _ u. run concrete (afterDispatch (a .x) (a .iso)) u) _ _
+    (when-no (a .e .setup) (passed (a .d) (endpoint ((a .e .x) .st)) ((a .e .x) .len)) (λ _ u. run concrete (afterDispatch (a .e .x) (a .e .iso)) u) _ _
     (c .before .before .before .before .before .if1 .left))
 
 pub after-passing-spec : {M : Type 1} → statement M

@@ -22,7 +22,8 @@ returns : tie.Need-returns
 returns c =
     let a = c .before .before .before .before .before .before .before .before .args in
     goes-on (c .before .before .then-sof-arm .ensures)
-    (after (a .setup) (λ _ u. run concrete (afterDispatch (a .x) (a .iso)) u) _ _ (c .before .before .before .before .before .on-sof-resume .ensures .0 _))
+    (after (a .e .setup) (λ _ u. run concrete (afterDispatch (a .e .x) (a .e .iso)) u) _ _
+    (c .before .before .before .before .before .on-sof-resume .ensures .0 _))
 
 pub after-sof-arm-spec : {M : Type 1} → statement M
 after-sof-arm-spec = tie.close (tie.spec on-sof-resume-requires then-sof-arm-requires same-length returns)

@@ -30,7 +30,7 @@ returns c =
     let the-resume = c .before .before .before .before .before .resume in
     let the-endpoint = c .before .before .before .before .before .before .endpoint in
     goes-on (c .before .before .then-toggled .ensures)
-    (toggled-as (a .setup) (λ _ u. run concrete (afterDispatch (a .x) (a .iso)) u) (λ z u. run concrete (afterToggled (a .d) (a .x) z) u) (a .d) _ _
+    (toggled-as (a .e .setup) (λ _ u. run concrete (afterDispatch (a .e .x) (a .e .iso)) u) (λ z u. run concrete (afterToggled (a .d) (a .e .x) z) u) (a .d) _ _
     (the-resume .result) _ _ (the-endpoint .ensures)
     (λ (z : ℕ). toggled.denote (a .d) z (a .p) (a .v) (view (a .s .now), a .buf .now)) (the-resume .ensures .0 _))
 

@@ -1,7 +1,7 @@
 use Rattle.iso_in.specs.Complete as complete
 use Rattle.irq_check.specs.StopsLaws.{pauses-at, goes-on}
 use Rattle.irq.specs.Laws.{after, complete-asks, complete-ends, in-frame, paced-told, tells, test-yes}
-use Rattle.irq.specs.Continuations.{afterDispatch, thenCheck}
+use Rattle.irq.specs.Continuations.{afterDispatch, afterArm}
 use Rattle.model_ops.specs.Concrete.{concrete}
 use Rattle.model.specs.Script.{run}
 use mathlib.Core.Bool.{false, true}
@@ -33,7 +33,7 @@ returns c =
     let the-if1 = c .before .before .before .before .before .if1 in
     let a = c .before .before .before .before .before .before .before .before .before .before .before .args in
     goes-on (c .before .before .after-dispatch .ensures)
-    (test-yes (thenCheck (a .setup) (a .x) (a .iso)) _ _ _
+    (test-yes (afterArm (a .e)) _ _ _
     (paced-told _ _ _ _ _ _ (the-mask-has .ensures) (the-load-globals .ensures) (the-endpoint .ensures) (the-if1 .taken)))
 
 first-in-frame-requires : tie.Need-first-in-frame-requires
@@ -70,9 +70,9 @@ returns-2 c =
     let the-endpoint = early .before .before .before .before .before .endpoint in
     let the-first-in-frame = c .before .before .before .before .before .before .before .before .first-in-frame in
     pauses-at (c .stand-completing .ensures) (subst complete.Linked (the-n .given .1) (the-begin .ensures .1 .1))
-    (complete-asks (a .setup) (λ _ u. run concrete (afterDispatch (a .x) (a .iso)) u) _ _ _ _ _ (the-n .given .1)
-    ∙ (after (a .setup) (λ _ u. run concrete (afterDispatch (a .x) (a .iso)) u) _ _ (the-begin .ensures .0 _)
-    ∙ in-frame (thenCheck (a .setup) (a .x) (a .iso)) _ _ _ _ _ ((a .x) .st) true (the-endpoint .ensures) (the-first-in-frame .ensures .1 .0)
+    (complete-asks (a .e .setup) (λ _ u. run concrete (afterDispatch (a .e .x) (a .e .iso)) u) _ _ _ _ _ (the-n .given .1)
+    ∙ (after (a .e .setup) (λ _ u. run concrete (afterDispatch (a .e .x) (a .e .iso)) u) _ _ (the-begin .ensures .0 _)
+    ∙ in-frame (afterArm (a .e)) _ _ _ _ _ ((a .e .x) .st) true (the-endpoint .ensures) (the-first-in-frame .ensures .1 .0)
     (tells _ _ _ (the-first-in-frame .ensures .0) (the-if2 .taken))
     (paced-told _ _ _ _ _ _ (the-mask-has .ensures) (the-load-globals .ensures) (the-endpoint .ensures) (the-if1 .left))))
 
@@ -92,9 +92,9 @@ returns-3 c =
     let the-endpoint = early .before .before .before .before .before .before .before .endpoint in
     let the-first-in-frame = c .before .before .before .before .before .before .before .before .before .before .first-in-frame in
     goes-on (c .before .before .after-dispatch2 .ensures)
-    (complete-ends (a .setup) (λ _ u. run concrete (afterDispatch (a .x) (a .iso)) u) _ _ _ (the-enum-told .given .1)
-    ∙ (after (a .setup) (λ _ u. run concrete (afterDispatch (a .x) (a .iso)) u) _ _ (the-begin .ensures .0 _)
-    ∙ in-frame (thenCheck (a .setup) (a .x) (a .iso)) _ _ _ _ _ ((a .x) .st) true (the-endpoint .ensures) (the-first-in-frame .ensures .1 .0)
+    (complete-ends (a .e .setup) (λ _ u. run concrete (afterDispatch (a .e .x) (a .e .iso)) u) _ _ _ (the-enum-told .given .1)
+    ∙ (after (a .e .setup) (λ _ u. run concrete (afterDispatch (a .e .x) (a .e .iso)) u) _ _ (the-begin .ensures .0 _)
+    ∙ in-frame (afterArm (a .e)) _ _ _ _ _ ((a .e .x) .st) true (the-endpoint .ensures) (the-first-in-frame .ensures .1 .0)
     (tells _ _ _ (the-first-in-frame .ensures .0) (the-if2 .taken))
     (paced-told _ _ _ _ _ _ (the-mask-has .ensures) (the-load-globals .ensures) (the-endpoint .ensures) (the-if1 .left))))
 
@@ -111,7 +111,7 @@ returns-4 c =
     let the-endpoint = c .before .before .before .before .before .before .before .before .before .before .before .before .endpoint in
     let the-first-in-frame = c .before .before .before .before .before .before .first-in-frame in
     goes-on (c .before .before .after-dispatch3 .ensures)
-    (in-frame (thenCheck (a .setup) (a .x) (a .iso)) _ _ _ _ _ ((a .x) .st) false (the-endpoint .ensures) (the-first-in-frame .ensures .1 .0)
+    (in-frame (afterArm (a .e)) _ _ _ _ _ ((a .e .x) .st) false (the-endpoint .ensures) (the-first-in-frame .ensures .1 .0)
     (tells _ _ _ (the-first-in-frame .ensures .0) (the-if2 .left))
     (paced-told _ _ _ _ _ _ (the-mask-has .ensures) (the-load-globals .ensures) (the-endpoint .ensures) (the-if1 .left)))
 

@@ -1,6 +1,6 @@
 use Rattle.irq_check.specs.StopsLaws.{pauses-at, goes-on}
 use Rattle.irq.specs.Laws.{of-ep0, of-other, tells, test-no, test-yes}
-use Rattle.irq.specs.Continuations.{thenCheck}
+use Rattle.irq.specs.Continuations.{afterArm}
 use borrow.Author.Tests.{eq-eqb, ne-eqb}
 use mathlib.Core.Path.{_∙_, refl}
 use borrow.Author.Needs.{needs}
@@ -17,7 +17,7 @@ returns : tie.Need-returns
 returns c =
     let a = c .before .before .before .before .before .before .before .args in
     goes-on (c .before .before .after-dispatch .ensures)
-    (test-yes (thenCheck (a .setup) (a .x) (a .iso)) (a .iso) _ _ (c .before .before .before .before .before .if1 .taken))
+    (test-yes (afterArm (a .e)) (a .e .iso) _ _ (c .before .before .before .before .before .if1 .taken))
 
 endpoint-requires : tie.Need-endpoint-requires
 endpoint-requires c κs = search needs
@@ -34,8 +34,8 @@ returns-2 c =
     let e = told .before .before in
     let a = e .before .before .before .before .args in
     pauses-at (c .stand-flip .ensures) refl
-    (test-yes (thenCheck (a .setup) (a .x) (a .iso)) _ _ _ (tells _ _ _ (told .before .tog-ok .ensures) (told .if3 .taken))
-    ∙ of-ep0 (thenCheck (a .setup) (a .x) (a .iso)) (a .iso) _ _ _ (e .before .endpoint .ensures) (e .before .before .if1 .left) (eq-eqb _ _ (e .if2 .taken)))
+    (test-yes (afterArm (a .e)) _ _ _ (tells _ _ _ (told .before .tog-ok .ensures) (told .if3 .taken))
+    ∙ of-ep0 (afterArm (a .e)) (a .e .iso) _ _ _ (e .before .endpoint .ensures) (e .before .before .if1 .left) (eq-eqb _ _ (e .if2 .taken)))
 
 after-dispatch-requires-2 : tie.Need-after-dispatch-requires-2
 after-dispatch-requires-2 c κs = search needs
@@ -49,8 +49,8 @@ returns-3 c =
     let e = told .before .before in
     let a = e .before .before .before .before .args in
     goes-on (c .before .before .after-dispatch2 .ensures)
-    (test-no (thenCheck (a .setup) (a .x) (a .iso)) _ _ _ (tells _ _ _ (told .before .tog-ok .ensures) (told .if3 .left))
-    ∙ of-ep0 (thenCheck (a .setup) (a .x) (a .iso)) (a .iso) _ _ _ (e .before .endpoint .ensures) (e .before .before .if1 .left) (eq-eqb _ _ (e .if2 .taken)))
+    (test-no (afterArm (a .e)) _ _ _ (tells _ _ _ (told .before .tog-ok .ensures) (told .if3 .left))
+    ∙ of-ep0 (afterArm (a .e)) (a .e .iso) _ _ _ (e .before .endpoint .ensures) (e .before .before .if1 .left) (eq-eqb _ _ (e .if2 .taken)))
 
 toggled-arm-requires : tie.Need-toggled-arm-requires
 toggled-arm-requires c κs = search needs
@@ -63,7 +63,7 @@ returns-4 c =
     let e = c .before .before .before .before .before in
     let a = e .before .before .before .before .args in
     goes-on (c .before .before .toggled-arm .ensures)
-    (of-other (thenCheck (a .setup) (a .x) (a .iso)) (a .iso) _ _ _ (e .before .endpoint .ensures) (e .before .before .if1 .left) (ne-eqb _ _ (e .if2 .left)))
+    (of-other (afterArm (a .e)) (a .e .iso) _ _ _ (e .before .endpoint .ensures) (e .before .before .if1 .left) (ne-eqb _ _ (e .if2 .left)))
 
 pub out-arm-spec : {M : Type 1} → statement M
 out-arm-spec =

@@ -25,8 +25,8 @@ returns c =
     let the-if1 = c .before .before .if1 in
     let a = c .before .before .before .before .before .before .args in
     goes-in (c .after-transfer .ensures)
-    (λ b. sof-over (a .setup) (a .x) (a .iso) _ (the-pre)
-    ∙ when-no (a .setup) (onSof (a .frame)) (λ _ u. run concrete (afterDispatch (a .x) (a .iso)) u) _ _
+    (λ b. sof-over (a .e .setup) (a .e .x) (a .e .iso) _ (the-pre)
+    ∙ when-no (a .e .setup) (onSof (a .e .frame)) (λ _ u. run concrete (afterDispatch (a .e .x) (a .e .iso)) u) _ _
     (sof-handled _ _ _ _ (the-load-globals .ensures) (eq-eqb _ _ (the-if1 .taken))))
 
 on-sof-requires : tie.Need-on-sof-requires
@@ -52,9 +52,9 @@ returns-2 c =
     let the-n = c .before .before .before .n in
     let the-begin = c .before .before .before .before .before .on-sof in
     pauses-in (c .stand-sof-arm .ensures) (subst sof.Linked (the-n .given .1) (the-begin .ensures .1 .1))
-    (λ b. sof-asks (a .setup) (λ _ u. run concrete (afterDispatch (a .x) (a .iso)) u) _ _ b (a .frame) _ _ (the-n .given .1)
-    ∙ (after (a .setup) (λ _ u. run concrete (afterDispatch (a .x) (a .iso)) u) _ _ (the-begin .ensures .0 b)
-    ∙ when-yes (a .setup) (onSof (a .frame)) (λ _ u. run concrete (afterDispatch (a .x) (a .iso)) u) _ _
+    (λ b. sof-asks (a .e .setup) (λ _ u. run concrete (afterDispatch (a .e .x) (a .e .iso)) u) _ _ b (a .e .frame) _ _ (the-n .given .1)
+    ∙ (after (a .e .setup) (λ _ u. run concrete (afterDispatch (a .e .x) (a .e .iso)) u) _ _ (the-begin .ensures .0 b)
+    ∙ when-yes (a .e .setup) (onSof (a .e .frame)) (λ _ u. run concrete (afterDispatch (a .e .x) (a .e .iso)) u) _ _
     (sof-handled _ _ _ _ (the-load-globals .ensures) (ne-eqb _ _ (the-if1 .left)))))
 
 returns-3 : tie.Need-returns-3
@@ -66,10 +66,10 @@ returns-3 c =
     let a = c .before .before .before .before .before .before .before .before .before .before .args in
     let the-begin = c .before .before .before .before .on-sof in
     goes-in (c .after-transfer2 .ensures)
-    (λ b. sof-over (a .setup) (a .x) (a .iso) _ (the-pre)
-    ∙ (sof-ends (a .setup) (λ _ u. run concrete (afterDispatch (a .x) (a .iso)) u) _ b (a .frame) _ (the-enum-told .given .1)
-    ∙ (after (a .setup) (λ _ u. run concrete (afterDispatch (a .x) (a .iso)) u) _ _ (the-begin .ensures .0 b)
-    ∙ when-yes (a .setup) (onSof (a .frame)) (λ _ u. run concrete (afterDispatch (a .x) (a .iso)) u) _ _
+    (λ b. sof-over (a .e .setup) (a .e .x) (a .e .iso) _ (the-pre)
+    ∙ (sof-ends (a .e .setup) (λ _ u. run concrete (afterDispatch (a .e .x) (a .e .iso)) u) _ b (a .e .frame) _ (the-enum-told .given .1)
+    ∙ (after (a .e .setup) (λ _ u. run concrete (afterDispatch (a .e .x) (a .e .iso)) u) _ _ (the-begin .ensures .0 b)
+    ∙ when-yes (a .e .setup) (onSof (a .e .frame)) (λ _ u. run concrete (afterDispatch (a .e .x) (a .e .iso)) u) _ _
     (sof-handled _ _ _ _ (the-load-globals .ensures) (ne-eqb _ _ (the-if1 .left))))))
 
 pub sof-arm-spec : {M : Type 1} → statement M

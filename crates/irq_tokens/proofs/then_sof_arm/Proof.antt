@@ -33,8 +33,8 @@ returns c =
     let a = c .before .before .before .before .before .before .before .args in
     let the-after-transfer = c .after-transfer in
     goes-on (the-after-transfer .ensures .0 _, the-after-transfer .ensures .1)
-    (sof-over (a .setup) (a .x) (a .iso) _ (tells _ _ _ (the-is-sof .ensures) (the-if1 .taken))
-    ∙ sof-ends (a .setup) (λ _ u. run concrete (afterDispatch (a .x) (a .iso)) u) _ _ (a .frame) _ (the-enum-told .given .1))
+    (sof-over (a .e .setup) (a .e .x) (a .e .iso) _ (tells _ _ _ (the-is-sof .ensures) (the-if1 .taken))
+    ∙ sof-ends (a .e .setup) (λ _ u. run concrete (afterDispatch (a .e .x) (a .e .iso)) u) _ _ (a .e .frame) _ (the-enum-told .given .1))
 
 after-dispatch-requires : tie.Need-after-dispatch-requires
 after-dispatch-requires c κs = search needs

@@ -39,9 +39,11 @@ returns c =
     let the-n = c .before .before .before .n in
     let the-begin = c .before .before .before .before .before .begin in
     pauses-at (c .stand-toggled .ensures) (subst toggled.Linked (the-n .given .1) (the-begin .ensures .1))
-    (toggled-asks (a .setup) (λ _ u. run concrete (afterDispatch (a .x) (a .iso)) u) (λ z u. run concrete (afterToggled (a .d) (a .x) z) u) _ _ (a .d)
-    (endpoint ((a .x) .st)) _ _ _ (the-n .given .1)
-    ∙ toggled-as (a .setup) (λ _ u. run concrete (afterDispatch (a .x) (a .iso)) u) (λ z u. run concrete (afterToggled (a .d) (a .x) z) u) (a .d) _ _
+    (toggled-asks (a .e .setup) (λ _ u. run concrete (afterDispatch (a .e .x) (a .e .iso)) u)
+    (λ z u. run concrete (afterToggled (a .d) (a .e .x) z) u) _ _ (a .d)
+    (endpoint ((a .e .x) .st)) _ _ _ (the-n .given .1)
+    ∙ toggled-as (a .e .setup) (λ _ u. run concrete (afterDispatch (a .e .x) (a .e .iso)) u)
+    (λ z u. run concrete (afterToggled (a .d) (a .e .x) z) u) (a .d) _ _
     (the-begin .result) _ _ (the-endpoint .ensures)
     (λ (z : ℕ). run concrete (script.toggled {i = true} (a .d) z) (view (a .s .now), a .buf .now)) (the-begin .ensures .0 _ _))
 
@@ -55,9 +57,11 @@ returns-2 c =
     let a = c .before .before .before .before .before .before .before .before .before .before .before .args in
     let the-begin = c .before .before .before .before .before .before .before .before .begin in
     goes-on (c .before .before .after-passing .ensures)
-    (toggled-ends (a .setup) (λ _ u. run concrete (afterDispatch (a .x) (a .iso)) u) (λ z u. run concrete (afterToggled (a .d) (a .x) z) u) _ _ (a .d)
-    (endpoint ((a .x) .st)) _ _ (the-n2 .given .1)
-    ∙ toggled-as (a .setup) (λ _ u. run concrete (afterDispatch (a .x) (a .iso)) u) (λ z u. run concrete (afterToggled (a .d) (a .x) z) u) (a .d) _ _
+    (toggled-ends (a .e .setup) (λ _ u. run concrete (afterDispatch (a .e .x) (a .e .iso)) u)
+    (λ z u. run concrete (afterToggled (a .d) (a .e .x) z) u) _ _ (a .d)
+    (endpoint ((a .e .x) .st)) _ _ (the-n2 .given .1)
+    ∙ toggled-as (a .e .setup) (λ _ u. run concrete (afterDispatch (a .e .x) (a .e .iso)) u)
+    (λ z u. run concrete (afterToggled (a .d) (a .e .x) z) u) (a .d) _ _
     (the-begin .result) _ _ (the-endpoint .ensures)
     (λ (z : ℕ). run concrete (script.toggled {i = true} (a .d) z) (view (a .s .now), a .buf .now)) (the-begin .ensures .0 _ _))
 

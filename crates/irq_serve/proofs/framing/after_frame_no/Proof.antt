@@ -26,7 +26,7 @@ returns c =
     let the-load-globals = c .before .before .before .before .before .before .load-globals in
     let the-short = c .before .before .before .before .before .before .before .before .short in
     goes-on (c .before .before .serve .ensures)
-    (frame-read (a .setup) (a .x) _ (a .iso) _ _ _ _ _ (the-framed .ensures) (the-load-globals .ensures) (the-short .ensures))
+    (frame-read (a .e .setup) (a .e .x) _ (a .e .iso) _ _ _ _ _ (the-framed .ensures) (the-load-globals .ensures) (the-short .ensures))
 
 pub after-frame-no-spec : {M : Type 1} → statement M
 after-frame-no-spec = tie.close (tie.spec short-requires load-globals-requires framed-requires serve-requires same-length returns)

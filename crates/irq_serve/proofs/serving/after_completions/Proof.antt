@@ -24,7 +24,7 @@ returns c =
     let a = c .before .before .before .before .before .before .before .before .args in
     let the-resume = c .before .before .before .before .before .resume in (
       λ v. then-on (the-then-late .ensures .0)
-          (after (a .setup) (λ _ u. run concrete (afterLate (a .x) (a .iso) (a .frame)) u) _ _ (the-resume .ensures .0 _)),
+          (after (a .e .setup) (λ _ u. run concrete (afterLate (a .e .x) (a .e .iso) (a .e .frame)) u) _ _ (the-resume .ensures .0 _)),
       the-then-late .ensures .1,
     )
 

@@ -22,8 +22,8 @@ unfolding afterLate
 returns c =
     let a = c .before .before .before .before .before .before .before .args in
     goes-on (c .before .before .after-dispatch .ensures)
-    (when-no (a .setup) (script.dispatch {i = true} (token ((a .x) .st)) (a .x) (a .iso) (a .frame))
-    (λ _ u. run concrete (afterDispatch (a .x) (a .iso)) u) _ _ (ap not (c .before .before .before .before .before .if1 .taken)))
+    (when-no (a .e .setup) (script.dispatch {i = true} (token ((a .e .x) .st)) (a .e .x) (a .e .iso) (a .e .frame))
+    (λ _ u. run concrete (afterDispatch (a .e .x) (a .e .iso)) u) _ _ (ap not (c .before .before .before .before .before .if1 .taken)))
 
 dispatch-requires : tie.Need-dispatch-requires
 dispatch-requires c κs = search needs
@@ -36,8 +36,8 @@ unfolding afterLate
 returns-2 c =
     let a = c .before .before .before .before .before .before .before .args in
     goes-on (c .before .before .dispatch .ensures)
-    (when-yes (a .setup) (script.dispatch {i = true} (token ((a .x) .st)) (a .x) (a .iso) (a .frame))
-    (λ _ u. run concrete (afterDispatch (a .x) (a .iso)) u) _ _ (ap not (c .before .before .before .before .before .if1 .left)))
+    (when-yes (a .e .setup) (script.dispatch {i = true} (token ((a .e .x) .st)) (a .e .x) (a .e .iso) (a .e .frame))
+    (λ _ u. run concrete (afterDispatch (a .e .x) (a .e .iso)) u) _ _ (ap not (c .before .before .before .before .before .if1 .left)))
 
 pub after-late-spec : {M : Type 1} → statement M
 after-late-spec = tie.close (tie.spec after-dispatch-requires same-length returns dispatch-requires same-length-2 returns-2)

@@ -22,7 +22,7 @@ returns : tie.Need-returns
 returns c =
     let a = c .before .before .before .before .before .before .before .before .args in
     goes-on (c .before .before .then-sof .ensures)
-    (after (a .setup) (λ _ u. run concrete (afterSof (a .x) (a .iso) (a .frame)) u) _ _
+    (after (a .e .setup) (λ _ u. run concrete (afterSof (a .e .x) (a .e .iso) (a .e .frame)) u) _ _
     (c .before .before .before .before .before .on-sof-resume .ensures .0 _))
 
 pub after-on-sof-spec : {M : Type 1} → statement M

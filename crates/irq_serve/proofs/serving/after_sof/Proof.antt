@@ -27,8 +27,8 @@ returns c =
     let the-begin = c .before .before .before .before .before .begin in
     let the-if1 = c .before .before .before .before .before .before .before .if1 in
     goes-on (c .before .before .then-late .ensures)
-    (after (a .setup) (λ _ u. run concrete (afterLate (a .x) (a .iso) (a .frame)) u) _ _ (the-begin .ensures .0 _)
-    ∙ when-yes (a .setup) (lateAll (a .frame)) (λ _ u. run concrete (afterLate (a .x) (a .iso) (a .frame)) u) _ _ (the-if1 .taken))
+    (after (a .e .setup) (λ _ u. run concrete (afterLate (a .e .x) (a .e .iso) (a .e .frame)) u) _ _ (the-begin .ensures .0 _)
+    ∙ when-yes (a .e .setup) (lateAll (a .e .frame)) (λ _ u. run concrete (afterLate (a .e .x) (a .e .iso) (a .e .frame)) u) _ _ (the-if1 .taken))
 
 after-late-requires : tie.Need-after-late-requires
 after-late-requires c κs = search needs
@@ -41,7 +41,7 @@ unfolding afterSof
 returns-2 c =
     let a = c .before .before .before .before .before .before .before .args in
     goes-on (c .before .before .after-late .ensures)
-    (when-no (a .setup) (lateAll (a .frame)) (λ _ u. run concrete (afterLate (a .x) (a .iso) (a .frame)) u) _ _
+    (when-no (a .e .setup) (lateAll (a .e .frame)) (λ _ u. run concrete (afterLate (a .e .x) (a .e .iso) (a .e .frame)) u) _ _
     (c .before .before .before .before .before .if1 .left))
 
 pub after-sof-spec : {M : Type 1} → statement M

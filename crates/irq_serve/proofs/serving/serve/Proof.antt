@@ -35,9 +35,9 @@ returns c =
     let the-if1 = c .before .before .before .before .before .before .before .if1 in
     let a = c .before .before .before .before .before .before .before .before .before .before .before .before .args in
     goes-on (c .before .before .then-sof .ensures)
-    (after (a .setup) (λ _ u. run concrete (afterSof (a .x) (a .iso) (a .frame)) u) _ _ (the-on-sof .ensures .0 _)
-    ∙ when-yes (a .setup) (onSof (a .frame)) (λ _ u. run concrete (afterSof (a .x) (a .iso) (a .frame)) u) _ _
-    (tells-of (λ (z : Globals). sofDue (a .x) (z .«sof_frame») (a .frame)) _ _ _ _ (the-sof-due .ensures) (the-load-globals .ensures) (the-if1 .taken)))
+    (after (a .e .setup) (λ _ u. run concrete (afterSof (a .e .x) (a .e .iso) (a .e .frame)) u) _ _ (the-on-sof .ensures .0 _)
+    ∙ when-yes (a .e .setup) (onSof (a .e .frame)) (λ _ u. run concrete (afterSof (a .e .x) (a .e .iso) (a .e .frame)) u) _ _
+    (tells-of (λ (z : Globals). sofDue (a .e .x) (z .«sof_frame») (a .e .frame)) _ _ _ _ (the-sof-due .ensures) (the-load-globals .ensures) (the-if1 .taken)))
 
 begin-requires : tie.Need-begin-requires
 begin-requires c κs = search needs
@@ -58,10 +58,10 @@ returns-2 c =
     let the-if1 = c .before .before .before .before .before .before .before .before .if1 in
     let a = c .before .before .before .before .before .before .before .before .before .before .before .before .before .args in
     goes-on (c .before .before .then-late .ensures)
-    (after (a .setup) (λ _ u. run concrete (afterLate (a .x) (a .iso) (a .frame)) u) _ _ (the-begin .ensures .0 _)
-    ∙ (when-yes (a .setup) (lateAll (a .frame)) (λ _ u. run concrete (afterLate (a .x) (a .iso) (a .frame)) u) _ _ (the-if2 .taken)
-    ∙ when-no (a .setup) (onSof (a .frame)) (λ _ u. run concrete (afterSof (a .x) (a .iso) (a .frame)) u) _ _
-    (tells-of (λ (z : Globals). sofDue (a .x) (z .«sof_frame») (a .frame)) _ _ _ _ (the-sof-due .ensures) (the-load-globals .ensures) (the-if1 .left))))
+    (after (a .e .setup) (λ _ u. run concrete (afterLate (a .e .x) (a .e .iso) (a .e .frame)) u) _ _ (the-begin .ensures .0 _)
+    ∙ (when-yes (a .e .setup) (lateAll (a .e .frame)) (λ _ u. run concrete (afterLate (a .e .x) (a .e .iso) (a .e .frame)) u) _ _ (the-if2 .taken)
+    ∙ when-no (a .e .setup) (onSof (a .e .frame)) (λ _ u. run concrete (afterSof (a .e .x) (a .e .iso) (a .e .frame)) u) _ _
+    (tells-of (λ (z : Globals). sofDue (a .e .x) (z .«sof_frame») (a .e .frame)) _ _ _ _ (the-sof-due .ensures) (the-load-globals .ensures) (the-if1 .left))))
 
 after-late-requires : tie.Need-after-late-requires
 after-late-requires c κs = search needs
@@ -78,9 +78,9 @@ returns-3 c =
     let the-if1 = c .before .before .before .before .before .before .if1 in
     let a = c .before .before .before .before .before .before .before .before .before .before .before .args in
     goes-on (c .before .before .after-late .ensures)
-    (when-no (a .setup) (lateAll (a .frame)) (λ _ u. run concrete (afterLate (a .x) (a .iso) (a .frame)) u) _ _ (the-if2 .left)
-    ∙ when-no (a .setup) (onSof (a .frame)) (λ _ u. run concrete (afterSof (a .x) (a .iso) (a .frame)) u) _ _
-    (tells-of (λ (z : Globals). sofDue (a .x) (z .«sof_frame») (a .frame)) _ _ _ _ (the-sof-due .ensures) (the-load-globals .ensures) (the-if1 .left)))
+    (when-no (a .e .setup) (lateAll (a .e .frame)) (λ _ u. run concrete (afterLate (a .e .x) (a .e .iso) (a .e .frame)) u) _ _ (the-if2 .left)
+    ∙ when-no (a .e .setup) (onSof (a .e .frame)) (λ _ u. run concrete (afterSof (a .e .x) (a .e .iso) (a .e .frame)) u) _ _
+    (tells-of (λ (z : Globals). sofDue (a .e .x) (z .«sof_frame») (a .e .frame)) _ _ _ _ (the-sof-due .ensures) (the-load-globals .ensures) (the-if1 .left)))
 
 pub serve-spec : {M : Type 1} → statement M
 serve-spec =
