@@ -1,12 +1,6 @@
 // The interrupt (`on_interrupt`, mod.rs 634-852) goes on: one function for each point, in the Rust's order. Each tests its own
 // reading's width (row 16) and loads its own point's parts.
 use call_answer_word::ROW_16;
-use irq_check::after_checking;
-use irq_check::after_moved_read;
-use irq_check::after_moved_wrote;
-use irq_check::setup::after_setup_released;
-use irq_check::setup::after_setup_rx;
-use irq_check::setup::after_setup_tx;
 use irq_entry::after_len;
 use irq_entry::after_mis;
 use irq_entry::after_naking;
@@ -20,7 +14,6 @@ use irq_entry::flags::after_frame;
 use irq_entry::flags::after_host;
 use irq_entry::flags::after_suspend;
 use irq_points::loads::busy_at;
-use irq_points::loads::check_at;
 use irq_points::loads::complete_at;
 use irq_points::loads::dir_at;
 use irq_points::loads::entry_at;
@@ -46,6 +39,9 @@ use iso_in::sof;
 use machine::loads::st_byte;
 use regs::registers::fits;
 use state::State;
+
+pub mod rest; // rest.rt: isochronous OUTs looked at, EP0's hidden stage, a new control transfer (mod.rs 792-852)
+
 ghost use mathlib.Core.Path.{_≡_};
 ghost use mathlib.Core.List.{List};
 ghost use Prim.Native.Nat.{ℕ};
@@ -291,66 +287,4 @@ pub fn resume_completing(s: &mut State, slots: &mut [u8]) -> u64
     let e = entry_at(s);
     let q = complete_at(s);
     after_completing(s, slots, e, q)
-}
-
-// ---- Isochronous OUTs looked at, EP0's hidden stage, a new control transfer (mod.rs 792-852).
-
-// isochronous OUTs are looked at (`iso_out_check`).
-pub fn resume_check(s: &mut State, slots: &mut [u8], v: u32) -> u64
-    requires { ⌜ AtSite 20 (now s) ⌝ }
-    ensures { λ r. ⌜ ResumesByWord r v (now (s .entry)) (now (slots .entry)) (now (s .exit)) (now (slots .exit)) ⌝ }
-{
-    let q = check_at(s);
-    if iso_out::fits_at(q, v) {
-        let e = entry_at(s);
-        return after_checking(s, slots, e, q, v);
-    }
-    ROW_16
-}
-
-// EP0's control word, for its hidden stage (`ep0_moved_on`).
-pub fn resume_moved_read(s: &mut State, v: u32) -> u64
-    requires { ⌜ AtSite 21 (now s) ⌝ }
-    ensures { λ r. ⌜ ((b : List ℕ) → ResumesByWord r v (now (s .entry)) b (now (s .exit)) b) ⌝ }
-{
-    if fits(v, 8) {
-        let d = dir_at(s);
-        let setup = setup_at(s);
-        return after_moved_read(s, d, setup, v);
-    }
-    ROW_16
-}
-
-// it answers NAK.
-pub fn resume_moved_wrote(s: &mut State) -> u64
-    requires { ⌜ AtSite 22 (now s) ⌝ }
-    ensures { λ r. ⌜ ((v : ℕ) (b : List ℕ) → ResumesByWord r v (now (s .entry)) b (now (s .exit)) b) ⌝ }
-{
-    let d = dir_at(s);
-    let setup = setup_at(s);
-    after_moved_wrote(s, d, setup)
-}
-
-// EP0's OUT answers NAK (mod.rs 803-818).
-pub fn resume_setup_rx(s: &mut State) -> u64
-    requires { ⌜ AtSite 23 (now s) ⌝ }
-    ensures { λ r. ⌜ ((v : ℕ) (b : List ℕ) → ResumesByWord r v (now (s .entry)) b (now (s .exit)) b) ⌝ }
-{
-    after_setup_rx(s)
-}
-
-// and its IN.
-pub fn resume_setup_tx(s: &mut State, slots: &mut [u8]) -> u64
-    requires { ⌜ AtSite 24 (now s) ⌝ }
-    ensures { λ r. ⌜ ((v : ℕ) → ResumesByWord r v (now (s .entry)) (now (slots .entry)) (now (s .exit)) (now (slots .exit))) ⌝ }
-{
-    after_setup_tx(s, slots)
-}
-
-// the setup flag is cleared.
-pub fn resume_setup_released(s: &mut State) -> u64
-    requires { ⌜ AtSite 25 (now s) ⌝ }
-    ensures { λ r. ⌜ ((v : ℕ) (b : List ℕ) → ResumesByWord r v (now (s .entry)) b (now (s .exit)) b) ⌝ }
-{
-    after_setup_released(s)
 }

@@ -1,7 +1,12 @@
 // Continue: the operation under way goes on at its point, with the number brought. An interrupt answers its word.
 use call_answer_word::ROW_1;
+use irq_resume::rest::resume_check;
+use irq_resume::rest::resume_moved_read;
+use irq_resume::rest::resume_moved_wrote;
+use irq_resume::rest::resume_setup_released;
+use irq_resume::rest::resume_setup_rx;
+use irq_resume::rest::resume_setup_tx;
 use irq_resume::resume_bus_rst;
-use irq_resume::resume_check;
 use irq_resume::resume_completing;
 use irq_resume::resume_fifo;
 use irq_resume::resume_flags;
@@ -13,14 +18,9 @@ use irq_resume::resume_host;
 use irq_resume::resume_late;
 use irq_resume::resume_len;
 use irq_resume::resume_mis;
-use irq_resume::resume_moved_read;
-use irq_resume::resume_moved_wrote;
 use irq_resume::resume_nak;
 use irq_resume::resume_released;
 use irq_resume::resume_settle;
-use irq_resume::resume_setup_released;
-use irq_resume::resume_setup_rx;
-use irq_resume::resume_setup_tx;
 use irq_resume::resume_sof;
 use irq_resume::resume_sof_arm;
 use irq_resume::resume_st;

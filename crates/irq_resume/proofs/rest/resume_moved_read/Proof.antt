@@ -5,8 +5,8 @@ use Rattle.irq.specs.declared.Point.the-variants as point
 use Rattle.irq.specs.Points.{fitsAt}
 use mathlib.Core.Path.{_∙_, sym, refl}
 use borrow.Author.Needs.{needs}
-use Rattle.irq_resume.proofs.resume_moved_read.Statement.{statement}
-use Rattle.irq_resume.proofs.resume_moved_read.Tie as tie
+use Rattle.irq_resume.proofs.rest.resume_moved_read.Statement.{statement}
+use Rattle.irq_resume.proofs.rest.resume_moved_read.Tie as tie
 
 fits-requires : tie.Need-fits-requires
 fits-requires c κs = search needs

@@ -5,8 +5,8 @@ use Rattle.irq.specs.declared.Point.the-variants as point
 use Rattle.irq.specs.Points.{fitsAt}
 use mathlib.Core.Path.{_∙_, sym, refl}
 use borrow.Author.Needs.{needs}
-use Rattle.irq_resume.proofs.resume_check.Statement.{statement}
-use Rattle.irq_resume.proofs.resume_check.Tie as tie
+use Rattle.irq_resume.proofs.rest.resume_check.Statement.{statement}
+use Rattle.irq_resume.proofs.rest.resume_check.Tie as tie
 
 check-at-requires : tie.Need-check-at-requires
 check-at-requires c κs = search needs

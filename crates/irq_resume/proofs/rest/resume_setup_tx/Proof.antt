@@ -3,8 +3,8 @@ use Rattle.irq_resume.specs.Sites.{at-site}
 use Rattle.irq.specs.Points.{fitsAt}
 use mathlib.Core.Path.{refl}
 use borrow.Author.Needs.{needs}
-use Rattle.irq_resume.proofs.resume_setup_tx.Statement.{statement}
-use Rattle.irq_resume.proofs.resume_setup_tx.Tie as tie
+use Rattle.irq_resume.proofs.rest.resume_setup_tx.Statement.{statement}
+use Rattle.irq_resume.proofs.rest.resume_setup_tx.Tie as tie
 
 after-setup-tx-requires : tie.Need-after-setup-tx-requires
 after-setup-tx-requires c κs = search needs

@@ -5,8 +5,8 @@ use Rattle.irq.specs.declared.Point.the-variants as point
 use Rattle.irq.specs.Points.{fitsAt}
 use mathlib.Core.Path.{refl}
 use borrow.Author.Needs.{needs}
-use Rattle.irq_resume.proofs.resume_moved_wrote.Statement.{statement}
-use Rattle.irq_resume.proofs.resume_moved_wrote.Tie as tie
+use Rattle.irq_resume.proofs.rest.resume_moved_wrote.Statement.{statement}
+use Rattle.irq_resume.proofs.rest.resume_moved_wrote.Tie as tie
 
 dir-at-requires : tie.Need-dir-at-requires
 dir-at-requires c κs = search needs
