@@ -27,12 +27,15 @@ on-site c k t h = at-interrupt c (byNumber k c) t (ap (λ (n : ℕ). byNumber n 
 pub at-site : (k : ℕ) {p : Point} {xs : List ℕ} → AtSite k xs → p ≡ byNumber k (saved xs) → decode (saved xs) ≡ under.Interrupt p
 at-site k {p} {xs} a e = on-site (saved xs) k (a .tagged) (a .numbered) ∙ ap under.Interrupt (sym e)
 
--- a point that has what the entry has found out, and one that has its frame too
+-- a point that has what the entry has found out; with an inner point; with its frame too
 abbrev pub ofEntry : {A : Type 0} → (Bool → Transfer → Bool → A) → Entry → A
 ofEntry f e = f (e .setup) (e .x) (e .iso)
 
-abbrev pub ofFramed : {A : Type 0} → (Bool → Transfer → Bool → ℕ → A) → Entry → A
-ofFramed f e = ofEntry f e (e .frame)
+abbrev pub ofInner : {A Q : Type 0} → (Bool → Transfer → Bool → Q → A) → Entry → Q → A
+ofInner f e q = f (e .setup) (e .x) (e .iso) q
+
+abbrev pub ofFramed : {A Q : Type 0} → (Bool → Transfer → Bool → ℕ → Q → A) → Entry → Q → A
+ofFramed f e q = f (e .setup) (e .x) (e .iso) (e .frame) q
 
 -- any other number
 first : (c : Saved) (k : ℕ) → NoneOf 25 k → point.Frame ≡ byNumber k c

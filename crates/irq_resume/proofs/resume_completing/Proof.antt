@@ -1,5 +1,5 @@
 use Rattle.irq_resume.specs.Resumes.{goes-on}
-use Rattle.irq_resume.specs.Sites.{at-site, ofEntry}
+use Rattle.irq_resume.specs.Sites.{at-site, ofInner}
 use Rattle.machine.specs.StandsLaws.{parts2}
 use Rattle.irq.specs.declared.Point.the-variants as point
 use Rattle.irq.specs.Points.{fitsAt}
@@ -24,7 +24,7 @@ returns : tie.Need-returns
 unfolding fitsAt
 returns c =
     let here = at-site 19 (c .before .before .before .before .before .before .before .before .before .before .pre)
-    (parts2 (ofEntry point.Completing) (c .before .before .before .before .before .before .before .entry-at .ensures)
+    (parts2 (ofInner point.Completing) (c .before .before .before .before .before .before .before .entry-at .ensures)
     (c .before .before .before .before .before .complete-at .ensures)) in
     λ v. goes-on here refl (c .before .before .after-completing .ensures .0 v) (c .before .before .after-completing .ensures .1)
 

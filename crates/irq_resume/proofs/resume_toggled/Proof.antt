@@ -1,5 +1,5 @@
 use Rattle.irq_resume.specs.Resumes.{goes-on, refuses-16}
-use Rattle.irq_resume.specs.Sites.{at-site, ofEntry}
+use Rattle.irq_resume.specs.Sites.{at-site, ofInner}
 use Rattle.machine.specs.StandsLaws.{parts3, parts5}
 use Rattle.irq.specs.declared.Point.the-variants as point
 use Rattle.irq.specs.Points.{fitsAt}
@@ -36,7 +36,7 @@ returns c =
     ∙ c .before .before .before .before .before .before .before .before .before .if1 .taken in
     let here = at-site 18
     (c .before .before .before .before .before .before .before .before .before .before .before .before .before .before .pre)
-    (parts3 (λ d. ofEntry (point.Toggled d)) (c .before .before .before .before .before .before .before .dir-at .ensures)
+    (parts3 (λ d. ofInner (point.Toggled d)) (c .before .before .before .before .before .before .before .dir-at .ensures)
     (c .before .before .before .before .before .entry-at .ensures)
     (c .before .before .before .before .before .before .before .before .before .before .before .toggled-at .ensures)) in
     goes-on here fitted (c .before .before .after-toggled .ensures .0) (c .before .before .after-toggled .ensures .1)

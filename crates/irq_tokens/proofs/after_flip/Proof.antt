@@ -13,8 +13,8 @@ flip-requires c κs = search needs
 ctrl-of-requires : tie.Need-ctrl-of-requires
 ctrl-of-requires c κs = search needs
 
-cast-t11 : tie.Need-cast-t11
-cast-t11 c = search needs
+cast-t9 : tie.Need-cast-t9
+cast-t9 c = search needs
 
 stand-flipped-requires : tie.Need-stand-flipped-requires
 stand-flipped-requires c κs = search needs
@@ -25,4 +25,4 @@ returns c =
     (λ b. simp (c .before .ctrl-of .ensures, c .before .before .before .flip .ensures, c .before .before .before .before .byte .ensures))
 
 pub after-flip-spec : {M : Type 1} → statement M
-after-flip-spec = tie.close (tie.spec byte-requires flip-requires ctrl-of-requires cast-t11 stand-flipped-requires returns)
+after-flip-spec = tie.close (tie.spec byte-requires flip-requires ctrl-of-requires cast-t9 stand-flipped-requires returns)

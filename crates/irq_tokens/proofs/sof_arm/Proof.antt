@@ -20,10 +20,10 @@ after-transfer-requires c κs = search needs
 
 returns : tie.Need-returns
 returns c =
-    let the-pre = c .before .before .before .before .before .before .pre in
-    let the-load-globals = c .before .before .before .before .load-globals in
+    let the-pre = c .before .before .before .before .before .before .before .pre in
+    let the-load-globals = c .before .before .before .before .before .load-globals in
     let the-if1 = c .before .before .if1 in
-    let a = c .before .before .before .before .before .before .args in
+    let a = c .before .before .before .before .before .before .before .args in
     goes-in (c .after-transfer .ensures)
     (λ b. sof-over (a .e .setup) (a .e .x) (a .e .iso) _ (the-pre)
     ∙ when-no (a .e .setup) (onSof (a .e .frame)) (λ _ u. run concrete (afterDispatch (a .e .x) (a .e .iso)) u) _ _
@@ -46,9 +46,9 @@ after-transfer-requires-2 c κs = search needs
 
 returns-2 : tie.Need-returns-2
 returns-2 c =
-    let the-load-globals = c .before .before .before .before .before .before .before .before .before .load-globals in
+    let the-load-globals = c .before .before .before .before .before .before .before .before .before .before .load-globals in
     let the-if1 = c .before .before .before .before .before .before .before .if1 in
-    let a = c .before .before .before .before .before .before .before .before .before .before .before .args in
+    let a = c .before .before .before .before .before .before .before .before .before .before .before .before .args in
     let the-n = c .before .before .before .n in
     let the-begin = c .before .before .before .before .before .on-sof in
     pauses-in (c .stand-sof-arm .ensures) (subst sof.Linked (the-n .given .1) (the-begin .ensures .1 .1))
@@ -59,11 +59,11 @@ returns-2 c =
 
 returns-3 : tie.Need-returns-3
 returns-3 c =
-    let the-pre = c .before .before .before .before .before .before .before .before .before .before .pre in
+    let the-pre = c .before .before .before .before .before .before .before .before .before .before .before .pre in
     let the-enum-told = c .before .before .enum-told in
-    let the-load-globals = c .before .before .before .before .before .before .before .before .load-globals in
+    let the-load-globals = c .before .before .before .before .before .before .before .before .before .load-globals in
     let the-if1 = c .before .before .before .before .before .before .if1 in
-    let a = c .before .before .before .before .before .before .before .before .before .before .args in
+    let a = c .before .before .before .before .before .before .before .before .before .before .before .args in
     let the-begin = c .before .before .before .before .on-sof in
     goes-in (c .after-transfer2 .ensures)
     (λ b. sof-over (a .e .setup) (a .e .x) (a .e .iso) _ (the-pre)

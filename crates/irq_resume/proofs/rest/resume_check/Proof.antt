@@ -1,5 +1,5 @@
 use Rattle.irq_resume.specs.Resumes.{goes-on, refuses-16}
-use Rattle.irq_resume.specs.Sites.{at-site, ofEntry}
+use Rattle.irq_resume.specs.Sites.{at-site, ofInner}
 use Rattle.machine.specs.StandsLaws.{parts2, parts4}
 use Rattle.irq.specs.declared.Point.the-variants as point
 use Rattle.irq.specs.Points.{fitsAt}
@@ -33,7 +33,7 @@ returns c =
     ∙ c .before .before .before .before .before .before .before .if1 .taken in
     let here = at-site 20
     (c .before .before .before .before .before .before .before .before .before .before .before .before .pre)
-    (parts2 (ofEntry point.Check) (c .before .before .before .before .before .entry-at .ensures)
+    (parts2 (ofInner point.Check) (c .before .before .before .before .before .entry-at .ensures)
     (c .before .before .before .before .before .before .before .before .before .check-at .ensures)) in
     goes-on here fitted (c .before .before .after-checking .ensures .0) (c .before .before .after-checking .ensures .1)
 
