@@ -22,7 +22,8 @@ write-ep-requires c κs = search needs
 returns : tie.Need-returns
 returns c =
     let x = c .before .before .before .before .before .before .args in
-    ep-stored (now (x .s)) (c .before .before .before .before .sized-arg2 .given .0) (x .dir) (x .e) _ (x .r) _ (c .before .before .key-of .ensures) (c .write-ep .ensures)
+    let long = c .before .before .before .before .sized-arg2 .given .0 in
+    ep-stored (now (x .s)) long (x .dir) (x .e) _ (x .r) _ (c .before .before .key-of .ensures) (c .write-ep .ensures)
 
 pub store-ep-spec : {M : Type 1} → statement M
 store-ep-spec = tie.close (tie.spec sized-requires key-of-requires mul-write-ep add-write-ep write-ep-requires returns)

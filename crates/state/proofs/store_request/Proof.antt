@@ -22,7 +22,8 @@ write-request-requires c κs = search needs
 returns : tie.Need-returns
 returns c =
     let x = c .before .before .before .before .before .before .args in
-    request-stored (now (x .s)) (c .before .before .before .before .sized-arg2 .given .0) (x .dir) (x .e) _ (x .r) _ (c .before .before .key-of .ensures) (c .write-request .ensures)
+    let long = c .before .before .before .before .sized-arg2 .given .0 in
+    request-stored (now (x .s)) long (x .dir) (x .e) _ (x .r) _ (c .before .before .key-of .ensures) (c .write-request .ensures)
 
 pub store-request-spec : {M : Type 1} → statement M
 store-request-spec = tie.close (tie.spec sized-requires key-of-requires mul-write-request add-write-request write-request-requires returns)

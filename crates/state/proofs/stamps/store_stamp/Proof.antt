@@ -22,7 +22,8 @@ put16-requires c κs = search needs
 returns : tie.Need-returns
 returns c =
     let x = c .before .before .before .before .before .before .args in
-    stamp-stored (now (x .s)) (c .before .before .before .before .sized-arg2 .given .0) (x .e) (x .i) _ (x .v) _ (c .before .before .stamp-key .ensures) (c .put16 .ensures)
+    let long = c .before .before .before .before .sized-arg2 .given .0 in
+    stamp-stored (now (x .s)) long (x .e) (x .i) _ (x .v) _ (c .before .before .stamp-key .ensures) (c .put16 .ensures)
 
 pub store-stamp-spec : {M : Type 1} → statement M
 store-stamp-spec = tie.close (tie.spec sized-requires stamp-key-requires mul-put16 add-put16 put16-requires returns)

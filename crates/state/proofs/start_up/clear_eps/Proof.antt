@@ -46,5 +46,5 @@ returns c = all-done eps-table noEp 32 _ _ _ (omega arith) (c .before .loop .inv
 
 pub clear-eps-spec : {M : Type 1} → statement M
 clear-eps-spec =
-    tie.close (tie.spec (Filling eps-table noEp 32) (Left 32) loop-holds sized-requires mul-write-ep add-write-ep no-ep-requires write-ep-requires add-k loop-less
-    loop-again returns)
+    tie.close (tie.spec (Filling eps-table noEp 32) (Left 32) loop-holds sized-requires mul-write-ep add-write-ep no-ep-requires write-ep-requires add-k
+    loop-less loop-again returns)

@@ -42,4 +42,6 @@ returns : tie.Need-returns (Filling paced-table 0x1800 16) (Left 16)
 returns c = all-done paced-table 0x1800 16 _ _ _ (omega arith) (c .before .loop .inv)
 
 pub fill-paced-spec : {M : Type 1} → statement M
-fill-paced-spec = tie.close (tie.spec (Filling paced-table 0x1800 16) (Left 16) loop-holds sized-requires mul-put16 add-put16 put16-requires add-k loop-less loop-again returns)
+fill-paced-spec =
+    tie.close (tie.spec (Filling paced-table 0x1800 16) (Left 16) loop-holds sized-requires mul-put16 add-put16 put16-requires add-k loop-less loop-again
+    returns)

@@ -46,5 +46,5 @@ returns c = all-done requests-table noRequest 32 _ _ _ (omega arith) (c .before 
 
 pub fill-requests-spec : {M : Type 1} → statement M
 fill-requests-spec =
-    tie.close (tie.spec (Filling requests-table noRequest 32) (Left 32) loop-holds sized-requires mul-write-request add-write-request write-request-requires add-k loop-less
-    loop-again returns)
+    tie.close (tie.spec (Filling requests-table noRequest 32) (Left 32) loop-holds sized-requires mul-write-request add-write-request
+    write-request-requires add-k loop-less loop-again returns)

@@ -57,5 +57,5 @@ returns c = all-done eps-table newEp 32 _ _ _ (omega arith) (c .before .loop .in
 
 pub new-eps-spec : {M : Type 1} → statement M
 new-eps-spec =
-    tie.close (tie.spec (Filling eps-table newEp 32) (Left 32) loop-holds sized-requires mul-read-ep add-read-ep read-ep-requires mul-write-ep add-write-ep write-ep-requires
-    add-k loop-less loop-again returns)
+    tie.close (tie.spec (Filling eps-table newEp 32) (Left 32) loop-holds sized-requires mul-read-ep add-read-ep read-ep-requires mul-write-ep add-write-ep
+    write-ep-requires add-k loop-less loop-again returns)
