@@ -1,6 +1,6 @@
 use native.Mathlib.Omega.{arith}
 use borrow.Author.Needs.{needs}
-use Rattle.bits.specs.BitLaws.{with-low}
+use Rattle.bits.specs.BitLaws.{low-with, low-lt}
 use Rattle.bits.proofs.byte_with.Statement.{statement}
 use Rattle.bits.proofs.byte_with.Tie as tie
 
@@ -10,13 +10,10 @@ with-bit-requires c κs = search needs
 cast-result : tie.Need-cast-result
 cast-result c =
     let x = c .before .args in
-    let w = with-low 8 (x .byte) (x .bit) (x .on) _ (c .before .fits .byte .fits) (omega arith) (omega arith) (c .with-bit .ensures) in
-    record { fits = w .0 }
+    record { fits = low-lt 8 (x .byte) (x .bit) (x .on) _ (omega arith) (omega arith) (c .with-bit .ensures) (c .before .fits .byte .fits) }
 
 returns : tie.Need-returns
-returns c =
-    let x = c .before .args in
-    with-low 8 (x .byte) (x .bit) (x .on) _ (c .before .fits .byte .fits) (omega arith) (omega arith) (c .with-bit .ensures) .1
+returns c = let x = c .before .args in low-with 8 (x .byte) (x .bit) (x .on) _ (omega arith) (omega arith) (c .with-bit .ensures)
 
 pub byte-with-spec : {M : Type 1} → statement M
 byte-with-spec = tie.close (tie.spec with-bit-requires cast-result returns)
