@@ -187,3 +187,11 @@ set-high n w j = ap (λ (x : ℕ). eqb (x % 2) 1) (shr-shr w n j)
 pub with-lt : (n w k : ℕ) (on : Bool) → w < 2 ^ n → k < n → withBit w k on < 2 ^ n
 with-lt n w k true l h = rw (← or-sets w k) (or-lt n w (2 ^ k) l (pow-lt {i = k} {j = n} h))
 with-lt n w k false l h = rw (← and-clears n w k l h) (lt-of-le-of-lt (and-le-l w ((2 ^ n - 1) - 2 ^ k)) l)
+
+-- in a word of 32 bits, too: a low bit set or cleared leaves a word of n
+module _ (n w k : ℕ) (on : Bool) (r : ℕ) (h : k % n < n) (m : n ≤ 32) (e : r ≡ withBit w (k % n % 32) on) where
+  pub low-with : r ≡ withBit w (k % n) on
+  low-with = let low : k % n % 32 ≡ k % n = mod-eq-of-lt (omega arith) in e ∙ ap (λ (j : ℕ). withBit w j on) low
+
+  pub low-lt : w < 2 ^ n → r < 2 ^ n
+  low-lt l = rw low-with (with-lt n w (k % n) on l h)

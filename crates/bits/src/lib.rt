@@ -11,6 +11,20 @@ pub fn is_set(word: u32, bit: u8) -> bool
     word >> (bit % 32) & 1 == 1
 }
 
+// The same of a byte; the bit's number counts modulo 8.
+pub fn byte_has(byte: u8, bit: u8) -> bool
+    ensures { λ r. ⌜ r ≡ isSet byte (bit % 8) ⌝ }
+{
+    is_set(byte as u32, bit % 8)
+}
+
+// Is this endpoint in a mask? Its number counts modulo 16.
+pub fn mask_has(mask: u16, endpoint: u8) -> bool
+    ensures { λ r. ⌜ r ≡ isSet mask (endpoint % 16) ⌝ }
+{
+    is_set(mask as u32, endpoint % 16)
+}
+
 // The word with this bit set or cleared.
 pub fn with_bit(word: u32, bit: u8, on: bool) -> u32
     ensures { λ r. ⌜ r ≡ withBit word (bit % 32) on ⌝ }
@@ -22,39 +36,18 @@ pub fn with_bit(word: u32, bit: u8, on: bool) -> u32
     }
 }
 
-// The same of a byte; the bit's number counts modulo 8.
-pub fn byte_has(byte: u8, bit: u8) -> bool
-    ensures { λ r. ⌜ r ≡ isSet byte (bit % 8) ⌝ }
-{
-    byte >> (bit % 8) & 1 == 1
-}
-
+// The same of a byte.
 pub fn byte_with(byte: u8, bit: u8, on: bool) -> u8
     ensures { λ r. ⌜ r ≡ withBit byte (bit % 8) on ⌝ }
 {
-    if on {
-        byte | 1 << (bit % 8)
-    } else {
-        byte & !(1 << (bit % 8))
-    }
-}
-
-// Is this endpoint in a mask? Its number counts modulo 16.
-pub fn mask_has(mask: u16, endpoint: u8) -> bool
-    ensures { λ r. ⌜ r ≡ isSet mask (endpoint % 16) ⌝ }
-{
-    mask >> (endpoint % 16) & 1 == 1
+    with_bit(byte as u32, bit % 8, on) as u8
 }
 
 // The mask with this endpoint put in or taken out.
 pub fn mask_with(mask: u16, endpoint: u8, on: bool) -> u16
     ensures { λ r. ⌜ r ≡ withBit mask (endpoint % 16) on ⌝ }
 {
-    if on {
-        mask | 1 << (endpoint % 16)
-    } else {
-        mask & !(1 << (endpoint % 16))
-    }
+    with_bit(mask as u32, endpoint % 16, on) as u16
 }
 
 // The endpoints of a mask that are not among the others.

@@ -1,4 +1,3 @@
 pub mod Usb20
 pub mod Advance
 pub mod Laws
-pub mod Table

@@ -1,1 +1,3 @@
 pub mod Large
+pub mod Oldest
+pub mod Switching

@@ -1,9 +1,8 @@
 -- Document 01's values that are marked P, in one table
-use mathlib.Core.Path.{_≡_}
+use mathlib.Core.Path.{_≡_, refl}
 use mathlib.Core.List.{[], _∷_, _++_}
-use Rattle.frame.specs.Usb20.{indexOf, frameOf}
-use Rattle.frame.specs.Advance.{completions}
-use Rattle.frame.specs.Table as frames
+use Rattle.frame.specs.Usb20.{frameNumber, microframe, indexOf, frameOf}
+use Rattle.frame.specs.Advance.{isNone, distance, completions}
 use Rattle.marks.specs.Marks.{mark, markedLen}
 use Rattle.marks.specs.Copies.{copied}
 use Rattle.marks.specs.Table as marks
@@ -30,4 +29,5 @@ pub table :
     × ((countOf (sample 3 250 0) ≡ 9)
     × (slotOf (sample 3 250 0) 250 ≡ 10)
     × (overrunOf (sample 3 250 4294967295) .overruns ≡ 0))
-table = (frames.table, marks.table, rings.table)
+unfolding indexOf frameOf frameNumber microframe isNone distance completions
+table = ((refl, refl, refl, refl, refl, refl, refl, refl, refl), marks.table, rings.table)

@@ -9,43 +9,30 @@ use Rattle.regs.specs.declared.Reg.the-variants.{EpTxCtrl}
 use Rattle.regs.specs.declared.Dir.{Dir}
 use Rattle.regs.specs.declared.Dir.the-variants.{Out, In}
 
--- a register's number; 12, 15 and 16 are ep0_dma, ep_rx_dma and ep_tx_dma
-abbrev pub numberOf : Reg → ℕ
-numberOf IntFg = 0
-numberOf IntSt = 1
-numberOf MisSt = 2
-numberOf RxLen = 3
-numberOf FrameNo = 4
-numberOf Ctrl = 5
-numberOf IntEn = 6
-numberOf DevAd = 7
-numberOf HostCtrl = 8
-numberOf EpConfig = 9
-numberOf EpType = 10
-numberOf EpBufMod = 11
-numberOf EpMaxLen = 13
-numberOf EpTLen = 14
-numberOf EpRxCtrl = 17
-numberOf EpTxCtrl = 18
+-- a register's number, and the bits of a reading, 0 for a register that is never read; 12, 15 and 16 are ep0_dma, ep_rx_dma and ep_tx_dma
+abbrev pub register : Reg → ℕ × ℕ
+register IntFg = (0, 6)
+register IntSt = (1, 7)
+register MisSt = (2, 2)
+register RxLen = (3, 16)
+register FrameNo = (4, 16)
+register Ctrl = (5, 6)
+register IntEn = (6, 0)
+register DevAd = (7, 0)
+register HostCtrl = (8, 0)
+register EpConfig = (9, 0)
+register EpType = (10, 0)
+register EpBufMod = (11, 0)
+register EpMaxLen = (13, 0)
+register EpTLen = (14, 0)
+register EpRxCtrl = (17, 8)
+register EpTxCtrl = (18, 8)
 
--- the bits of a reading, 0 for a register that is never read
+abbrev pub numberOf : Reg → ℕ
+numberOf r = register r .0
+
 abbrev pub widthOf : Reg → ℕ
-widthOf IntFg = 6
-widthOf IntSt = 7
-widthOf MisSt = 2
-widthOf RxLen = 16
-widthOf FrameNo = 16
-widthOf Ctrl = 6
-widthOf IntEn = 0
-widthOf DevAd = 0
-widthOf HostCtrl = 0
-widthOf EpConfig = 0
-widthOf EpType = 0
-widthOf EpBufMod = 0
-widthOf EpMaxLen = 0
-widthOf EpTLen = 0
-widthOf EpRxCtrl = 8
-widthOf EpTxCtrl = 8
+widthOf r = register r .1
 
 -- row 16 turned round: the value has no bit above the width
 unfoldable pub fitsIn : ℕ → ℕ → Bool

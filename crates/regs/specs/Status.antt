@@ -23,24 +23,21 @@ token w = tokenNumbered (w / 16 % 4)
 abbrev pub togOk : ℕ → Bool
 togOk w = isSet w 6
 
+abbrev pub tokenNumber : Token → ℕ
+tokenNumber Out = 0
+tokenNumber Sof = 1
+tokenNumber In = 2
+tokenNumber Setup = 3
+
 -- tests of the token
 abbrev pub outToken : Token → Bool
-outToken Out = true
-outToken Sof = false
-outToken In = false
-outToken Setup = false
+outToken t = eqb (tokenNumber t) 0
 
 abbrev pub sofToken : Token → Bool
-sofToken Out = false
-sofToken Sof = true
-sofToken In = false
-sofToken Setup = false
+sofToken t = eqb (tokenNumber t) 1
 
 abbrev pub inToken : Token → Bool
-inToken Out = false
-inToken Sof = false
-inToken In = true
-inToken Setup = false
+inToken t = eqb (tokenNumber t) 2
 
 unfoldable pub isOut : ℕ → Bool
 isOut w = outToken (token w)

@@ -2,7 +2,7 @@
 use mathlib.Core.Path.{_≡_, refl, sym, ap, subst, _∙_}
 use mathlib.Core.Logic.{⊎-elim}
 use mathlib.Core.List.{List}
-use Prim.Native.Nat.{ℕ, zero, suc, _+_, _*_, _≤_, _<_}
+use Prim.Native.Nat.{ℕ, zero, suc, _+_, _-_, _*_, _≤_, _<_}
 use native.Mathlib.Omega.{arith}
 use native.Mathlib.Numerals.{add-one}
 use lib.ListN.{length, getD, set, replicate, length-set}
@@ -122,11 +122,29 @@ module _ {A : Type 0} (t : Table A) (w : List ℕ) (v : A) where
   pub all-filled : (a n k : ℕ) (xs : List ℕ) → Filled t w v a k xs → k ≡ n → Filled t w v a n xs
   all-filled a n k xs h e = subst (λ (m : ℕ). Filled t w v a m xs) e h
 
+-- A loop over all n places of a table: after k rounds the first k are filled, and n - k are left.
+module _ {A : Type 0} (t : Table A) (v : A) (n : ℕ) where
+  abbrev pub Filling : List ℕ → ℕ → List ℕ → ℕ → Type 0
+  Filling w k₀ xs k = (k ≤ n) × Filled t w v 0 k xs
+
+  pub none-yet : (w : List ℕ) → Filling w 0 w 0
+  none-yet w = (omega arith, none-filled t w v 0)
+
+  pub one-more : (w : List ℕ) (k : ℕ) (xs ys : List ℕ) → k < n → view ys ≡ t .anew (view xs) (set (t .of (view xs)) k v) → saved ys ≡ saved xs
+      → Filling w 0 xs k → Filling w 0 ys (k + 1)
+  one-more w k xs ys l e s h = (omega arith, one-filled t w v 0 k k xs ys (omega arith) e s (h .1))
+
+  pub all-done : (w : List ℕ) (k : ℕ) (xs : List ℕ) → n ≤ k → Filling w 0 xs k → Filled t w v 0 n xs
+  all-done w k xs l h = all-filled t w v 0 n k xs (h .1) (omega (arith, h .0))
+
+abbrev pub Left : ℕ → List ℕ → ℕ → List ℕ → ℕ → ℕ
+Left n w k₀ xs k = n - k
+
 -- one endpoint's record more
-pub ep-filled : (w xs ys : List ℕ) (k : ℕ) (v : EpState) → length xs ≡ 2839 → k < 32 → ys ≡ puts xs (0 + k * 30) 0 (bytes epWidths (epAs v))
-    → Filled eps-table w v 0 k xs → Filled eps-table w v 0 (k + 1) ys
-ep-filled w xs ys k v sized l e h =
-    one-filled eps-table w v 0 k k xs ys (omega arith) (ap view e ∙ view-eps xs sized k v l)
+pub ep-more : (w xs ys : List ℕ) (k : ℕ) (v : EpState) → length xs ≡ 2839 → k < 32 → ys ≡ puts xs (0 + k * 30) 0 (bytes epWidths (epAs v))
+    → Filling eps-table v 32 w 0 xs k → Filling eps-table v 32 w 0 ys (k + 1)
+ep-more w xs ys k v sized l e h =
+    one-more eps-table v 32 w k xs ys l (ap view e ∙ view-eps xs sized k v l)
     (ap saved e ∙ saved-off xs (0 + k * 30) (bytes epWidths (epAs v)) (omega arith)) h
 
 -- a record that was cleared and not made new yet

@@ -95,6 +95,13 @@ pub saved-off : (xs : List ℕ) (o : ℕ) (bs : List ℕ) → o + length bs ≤ 
 unfolding saved
 saved-off xs o bs h = ap savedIn (gets-same xs (puts xs o 0 bs) 2817 22 (puts-same xs o bs 2817 2839 (inr h)))
 
+-- so the view becomes d and nothing else changes
+abbrev pub Becomes : List ℕ → List ℕ → Driver → Type 0
+Becomes xs ys d = (view ys ≡ d) × (saved ys ≡ saved xs)
+
+pub becomes : (xs : List ℕ) (o : ℕ) (bs ys : List ℕ) (d : Driver) → o + length bs ≤ 2817 → view (puts xs o 0 bs) ≡ d → ys ≡ puts xs o 0 bs → Becomes xs ys d
+becomes xs o bs ys d l v e = (ap view e ∙ v, ap saved e ∙ saved-off xs o bs l)
+
 -- numbers of the widths ws on their own, read back
 back : {A : Type 0} (xs : List ℕ) (of : List ℕ → A) (ws vs : List ℕ) (o : ℕ) (r : A) → o + length (bytes ws vs) ≤ length xs
     → Fit ws vs → of vs ≡ r → of (numbers ws (gets (puts xs o 0 (bytes ws vs)) o 0 (length (bytes ws vs)))) ≡ r
@@ -175,28 +182,34 @@ module _ (xs : List ℕ) (sized : length xs ≡ 2839) where
   unfolding saved
   saved-saved r = back xs savedOf savedWidths (savedAs r) 2817 r (omega arith) tt refl
 
-  -- a record of a table, at the place of an endpoint
-  pub view-ep : (dir : Dir) (e k : ℕ) (r : EpState)
-      → k ≡ key dir e → k < 32 → view (puts xs (0 + k * 30) 0 (bytes epWidths (epAs r))) ≡ withOn (view xs) dir e r
+  -- a record of a table, stored at the place of an endpoint
+  pub ep-stored : (dir : Dir) (e k : ℕ) (r : EpState) (ys : List ℕ) → (k ≡ key dir e) × (k < 32)
+      → ys ≡ puts xs (0 + k * 30) 0 (bytes epWidths (epAs r)) → Becomes xs ys (withOn (view xs) dir e r)
   unfolding withOn
-  view-ep dir e k r p l = view-eps k r l ∙ ap (λ (j : ℕ). withEps (view xs) (set (view xs .eps) j r)) p
+  ep-stored dir e k r ys p = becomes xs (0 + k * 30) (bytes epWidths (epAs r)) ys (withOn (view xs) dir e r) (omega (arith, p .1))
+      (view-eps k r (p .1) ∙ ap (λ (j : ℕ). withEps (view xs) (set (view xs .eps) j r)) (p .0))
 
-  pub view-len : (dir : Dir) (e i k v : ℕ) → k ≡ lenKey dir e i → k < 512 → view (puts xs (960 + k * 2) 0 (digits 2 v)) ≡ withLenOn (view xs) dir e i v
+  pub len-stored : (dir : Dir) (e i k v : ℕ) (ys : List ℕ) → (k ≡ lenKey dir e i) × (k < 512)
+      → ys ≡ puts xs (960 + k * 2) 0 (digits 2 v) → Becomes xs ys (withLenOn (view xs) dir e i v)
   unfolding withLenOn
-  view-len dir e i k v p l = view-lens k v l ∙ ap (λ (j : ℕ). withLens (view xs) (set (view xs .lens) j v)) p
+  len-stored dir e i k v ys p = becomes xs (960 + k * 2) (digits 2 v) ys (withLenOn (view xs) dir e i v) (omega (arith, p .1))
+      (view-lens k v (p .1) ∙ ap (λ (j : ℕ). withLens (view xs) (set (view xs .lens) j v)) (p .0))
 
-  pub view-stamp : (e i k v : ℕ) → k ≡ stampKey e i → k < 256 → view (puts xs (1984 + k * 2) 0 (digits 2 v)) ≡ withStampOn (view xs) e i v
+  pub stamp-stored : (e i k v : ℕ) (ys : List ℕ) → (k ≡ stampKey e i) × (k < 256)
+      → ys ≡ puts xs (1984 + k * 2) 0 (digits 2 v) → Becomes xs ys (withStampOn (view xs) e i v)
   unfolding withStampOn
-  view-stamp e i k v p l = view-stamps k v l ∙ ap (λ (j : ℕ). withStamps (view xs) (set (view xs .stamps) j v)) p
+  stamp-stored e i k v ys p = becomes xs (1984 + k * 2) (digits 2 v) ys (withStampOn (view xs) e i v) (omega (arith, p .1))
+      (view-stamps k v (p .1) ∙ ap (λ (j : ℕ). withStamps (view xs) (set (view xs .stamps) j v)) (p .0))
 
-  pub view-paced : (e v : ℕ) → view (puts xs (2551 + e % 16 * 2) 0 (digits 2 v)) ≡ withPacedOn (view xs) e v
+  pub paced-stored : (e v : ℕ) (ys : List ℕ) → ys ≡ puts xs (2551 + e % 16 * 2) 0 (digits 2 v) → Becomes xs ys (withPacedOn (view xs) e v)
   unfolding withPacedOn
-  view-paced e v = view-paceds (e % 16) v (omega arith)
+  paced-stored e v ys = becomes xs (2551 + e % 16 * 2) (digits 2 v) ys (withPacedOn (view xs) e v) (omega arith) (view-paceds (e % 16) v (omega arith))
 
-  pub view-request : (dir : Dir) (e k : ℕ) (r : Request) → k ≡ key dir e
-      → k < 32 → view (puts xs (2583 + k * 5) 0 (bytes requestWidths (requestAs r))) ≡ withRequestOn (view xs) dir e r
+  pub request-stored : (dir : Dir) (e k : ℕ) (r : Request) (ys : List ℕ) → (k ≡ key dir e) × (k < 32)
+      → ys ≡ puts xs (2583 + k * 5) 0 (bytes requestWidths (requestAs r)) → Becomes xs ys (withRequestOn (view xs) dir e r)
   unfolding withRequestOn
-  view-request dir e k r p l = view-requests k r l ∙ ap (λ (j : ℕ). withRequests (view xs) (set (view xs .requests) j r)) p
+  request-stored dir e k r ys p = becomes xs (2583 + k * 5) (bytes requestWidths (requestAs r)) ys (withRequestOn (view xs) dir e r) (omega (arith, p .1))
+      (view-requests k r (p .1) ∙ ap (λ (j : ℕ). withRequests (view xs) (set (view xs .requests) j r)) (p .0))
 
 -- what is loaded
 module _ (xs : List ℕ) where

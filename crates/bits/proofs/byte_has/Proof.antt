@@ -1,16 +1,19 @@
+use mathlib.Core.Path.{_≡_, ap, _∙_}
 use Prim.Native.Nat.{_%_}
+use native.Mathlib.Omega.{arith}
 use borrow.Author.Needs.{needs}
-use Rattle.bits.specs.BitLaws.{tests}
+use Rattle.bits.specs.Bit.{isSet}
 use Rattle.bits.proofs.byte_has.Statement.{statement}
 use Rattle.bits.proofs.byte_has.Tie as tie
-use Rattle.bits.proofs.byte_has.Reads as reads
-use Rattle.bits.proofs.byte_has.Lts as lts
 
-shr-result : tie.Need-shr-result
-shr-result c = search needs
+is-set-requires : tie.Need-is-set-requires
+is-set-requires c κs = search needs
 
 returns : tie.Need-returns
-returns c = tests (c .args .byte) (c .args .bit % 8)
+returns c =
+    let x = c .before .args in
+    let low : x .bit % 8 % 32 ≡ x .bit % 8 = omega arith in
+    c .is-set .ensures ∙ ap (isSet (x .byte)) low
 
 pub byte-has-spec : {M : Type 1} → statement M
-byte-has-spec = tie.close (tie.spec shr-result returns)
+byte-has-spec = tie.close (tie.spec is-set-requires returns)

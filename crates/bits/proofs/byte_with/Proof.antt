@@ -1,23 +1,19 @@
-use Prim.Native.Nat.{_%_}
-use borrow.Author.Needs.{needs}
 use native.Mathlib.Omega.{arith}
-use Rattle.bits.specs.BitLaws.{sets, clears}
+use borrow.Author.Needs.{needs}
+use Rattle.bits.specs.BitLaws.{low-with, low-lt}
 use Rattle.bits.proofs.byte_with.Statement.{statement}
 use Rattle.bits.proofs.byte_with.Tie as tie
-use Rattle.bits.proofs.byte_with.Reads as reads
-use Rattle.bits.proofs.byte_with.Lts as lts
 
-shl-result : tie.Need-shl-result
-shl-result c = search needs
+with-bit-requires : tie.Need-with-bit-requires
+with-bit-requires c κs = search needs
 
-shl-result-2 : tie.Need-shl-result-2
-shl-result-2 c = search needs
+cast-result : tie.Need-cast-result
+cast-result c =
+    let x = c .before .args in
+    record { fits = low-lt 8 (x .byte) (x .bit) (x .on) _ (omega arith) (omega arith) (c .with-bit .ensures) (c .before .fits .byte .fits) }
 
 returns : tie.Need-returns
-returns c = rw (c .if1 .taken) (sets 8 (c .before .args .byte) (c .before .args .bit % 8) (omega arith))
-
-returns-2 : tie.Need-returns-2
-returns-2 c = rw (c .if1 .left) (clears 8 (c .before .args .byte) (c .before .args .bit % 8) (c .before .fits .byte .fits) (omega arith))
+returns c = let x = c .before .args in low-with 8 (x .byte) (x .bit) (x .on) _ (omega arith) (omega arith) (c .with-bit .ensures)
 
 pub byte-with-spec : {M : Type 1} → statement M
-byte-with-spec = tie.close (tie.spec shl-result shl-result-2 returns returns-2)
+byte-with-spec = tie.close (tie.spec with-bit-requires cast-result returns)

@@ -1,19 +1,19 @@
+use mathlib.Core.Path.{_≡_, ap, _∙_}
 use Prim.Native.Nat.{_%_}
+use native.Mathlib.Omega.{arith}
 use borrow.Author.Needs.{needs}
-use Rattle.bits.specs.BitLaws.{tests}
+use Rattle.bits.specs.Bit.{isSet}
 use Rattle.bits.proofs.mask_has.Statement.{statement}
 use Rattle.bits.proofs.mask_has.Tie as tie
-use Rattle.bits.proofs.mask_has.Reads as reads
-use Rattle.bits.proofs.mask_has.Lts as lts
 
-cast-result : tie.Need-cast-result
-cast-result c = search needs
-
-shr-result : tie.Need-shr-result
-shr-result c = search needs
+is-set-requires : tie.Need-is-set-requires
+is-set-requires c κs = search needs
 
 returns : tie.Need-returns
-returns c = tests (c .args .mask) (c .args .endpoint % 16)
+returns c =
+    let x = c .before .args in
+    let low : x .endpoint % 16 % 32 ≡ x .endpoint % 16 = omega arith in
+    c .is-set .ensures ∙ ap (isSet (x .mask)) low
 
 pub mask-has-spec : {M : Type 1} → statement M
-mask-has-spec = tie.close (tie.spec cast-result shr-result returns)
+mask-has-spec = tie.close (tie.spec is-set-requires returns)

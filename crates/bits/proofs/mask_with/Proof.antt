@@ -1,29 +1,19 @@
-use Prim.Native.Nat.{_%_}
-use borrow.Author.Needs.{needs}
 use native.Mathlib.Omega.{arith}
-use Rattle.bits.specs.BitLaws.{sets, clears}
+use borrow.Author.Needs.{needs}
+use Rattle.bits.specs.BitLaws.{low-with, low-lt}
 use Rattle.bits.proofs.mask_with.Statement.{statement}
 use Rattle.bits.proofs.mask_with.Tie as tie
-use Rattle.bits.proofs.mask_with.Reads as reads
-use Rattle.bits.proofs.mask_with.Lts as lts
+
+with-bit-requires : tie.Need-with-bit-requires
+with-bit-requires c κs = search needs
 
 cast-result : tie.Need-cast-result
-cast-result c = search needs
-
-shl-result : tie.Need-shl-result
-shl-result c = search needs
-
-cast-result-2 : tie.Need-cast-result-2
-cast-result-2 c = search needs
-
-shl-result-2 : tie.Need-shl-result-2
-shl-result-2 c = search needs
+cast-result c =
+    let x = c .before .args in
+    record { fits = low-lt 16 (x .mask) (x .endpoint) (x .on) _ (omega arith) (omega arith) (c .with-bit .ensures) (c .before .fits .mask .fits) }
 
 returns : tie.Need-returns
-returns c = rw (c .if1 .taken) (sets 16 (c .before .args .mask) (c .before .args .endpoint % 16) (omega arith))
-
-returns-2 : tie.Need-returns-2
-returns-2 c = rw (c .if1 .left) (clears 16 (c .before .args .mask) (c .before .args .endpoint % 16) (c .before .fits .mask .fits) (omega arith))
+returns c = let x = c .before .args in low-with 16 (x .mask) (x .endpoint) (x .on) _ (omega arith) (omega arith) (c .with-bit .ensures)
 
 pub mask-with-spec : {M : Type 1} → statement M
-mask-with-spec = tie.close (tie.spec cast-result shl-result cast-result-2 shl-result-2 returns returns-2)
+mask-with-spec = tie.close (tie.spec with-bit-requires cast-result returns)

@@ -1,11 +1,5 @@
-use mathlib.Core.Path.{ap, _∙_}
-use Prim.Native.Nat.{_+_, _*_}
 use denote.Ref.{now}
-use native.Mathlib.Omega.{arith}
-use Rattle.le_bytes.specs.Bytes.{bytes}
-use Rattle.state.specs.Codec.{epWidths, epAs}
-use Rattle.state.specs.State.{view, saved}
-use Rattle.state.proofs.Views.{view-ep, saved-off}
+use Rattle.state.proofs.Views.{ep-stored}
 use borrow.Author.Needs.{needs}
 use Rattle.state.proofs.store_ep.Statement.{statement}
 use Rattle.state.proofs.store_ep.Tie as tie
@@ -27,13 +21,9 @@ write-ep-requires c κs = search needs
 
 returns : tie.Need-returns
 returns c =
-    let st = c .before .before .before .before .before .before in
-    let k = c .before .before .key-of in (
-      ap view (c .write-ep .ensures)
-          ∙ view-ep (now (st .args .s)) (c .before .before .before .before .sized-arg2 .given .0)
-          (st .args .dir) (st .args .e) (k .result) (st .args .r) (k .ensures .0) (k .ensures .1),
-      ap saved (c .write-ep .ensures) ∙ saved-off (now (st .args .s)) (0 + k .result * 30) (bytes epWidths (epAs (st .args .r))) (omega (arith, k .ensures .1)),
-    )
+    let x = c .before .before .before .before .before .before .args in
+    let long = c .before .before .before .before .sized-arg2 .given .0 in
+    ep-stored (now (x .s)) long (x .dir) (x .e) _ (x .r) _ (c .before .before .key-of .ensures) (c .write-ep .ensures)
 
 pub store-ep-spec : {M : Type 1} → statement M
 store-ep-spec = tie.close (tie.spec sized-requires key-of-requires mul-write-ep add-write-ep write-ep-requires returns)

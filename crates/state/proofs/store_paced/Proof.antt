@@ -1,10 +1,5 @@
-use mathlib.Core.Path.{ap, _∙_}
-use Prim.Native.Nat.{_+_, _*_, _%_}
 use denote.Ref.{now}
-use native.Mathlib.Omega.{arith}
-use Rattle.le_bytes.specs.Bytes.{digits}
-use Rattle.state.specs.State.{view, saved}
-use Rattle.state.proofs.Views.{view-paced, saved-off}
+use Rattle.state.proofs.Views.{paced-stored}
 use borrow.Author.Needs.{needs}
 use Rattle.state.proofs.store_paced.Statement.{statement}
 use Rattle.state.proofs.store_paced.Tie as tie
@@ -26,10 +21,8 @@ put16-requires c κs = search needs
 
 returns : tie.Need-returns
 returns c =
-    let st = c .before .before .before .before .before in (
-      ap view (c .put16 .ensures) ∙ view-paced (now (st .args .s)) (c .before .before .before .sized-arg2 .given .0) (st .args .e) (st .args .v),
-      ap saved (c .put16 .ensures) ∙ saved-off (now (st .args .s)) (2551 + st .args .e % 16 * 2) (digits 2 (st .args .v)) (omega arith),
-    )
+    let x = c .before .before .before .before .before .args in
+    paced-stored (now (x .s)) (c .before .before .before .sized-arg2 .given .0) (x .e) (x .v) _ (c .put16 .ensures)
 
 pub store-paced-spec : {M : Type 1} → statement M
 store-paced-spec = tie.close (tie.spec sized-requires cast-put16 mul-put16 add-put16 put16-requires returns)

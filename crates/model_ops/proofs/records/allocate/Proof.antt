@@ -1,6 +1,8 @@
-use Rattle.model_ops.proofs.Large.{allocated-large}
-use mathlib.Core.Path.{refl, _∙_}
-use Rattle.model_ops.specs.Records.{allocatedOn}
+use mathlib.Core.Path.{refl}
+use Rattle.state.specs.declared.Allocator.{Allocator}
+use Rattle.alloc.specs.Alloc.{allocateOf}
+use Rattle.model_ops.specs.Records.{allocatedOn, givenTo}
+use Rattle.model_ops.proofs.Large.{large, ended, went-on}
 use borrow.Author.Needs.{needs}
 use Rattle.model_ops.proofs.records.allocate.Statement.{statement}
 use Rattle.model_ops.proofs.records.allocate.Tie as tie
@@ -25,15 +27,13 @@ cast-if1 : tie.Need-cast-if1
 cast-if1 c = search needs
 
 returns : tie.Need-returns
-returns c = (
-  simp (c .before .before .before .alloc-endpoint .ensures, c .before .before .before .before .load-allocator .ensures),
-  (
-    c .before .store-allocator .ensures .0 ∙ allocated-large _ (c .before .before .before .alloc-endpoint .result)
-        (c .before .before .before .before .load-allocator .result) _ _ _ _ _ (c .before .before .before .alloc-endpoint .ensures)
-        (c .before .before .before .before .load-allocator .ensures) (c .if1 .taken),
-    c .before .store-allocator .ensures .1,
-  ),
-)
+unfolding allocatedOn givenTo
+returns c =
+    let x = c .before .before .before .before .before .before .args in
+    let a = c .before .before .before .before .load-allocator in
+    ended (x .s .now) (λ (b : Allocator). allocateOf b (x .kind) (x .address) (x .maximum) (x .dir)) (λ m. givenTo (x .dir) (x .kind) m (x .interval))
+    (x .maximum) _ _ (a .ensures) (c .before .before .before .alloc-endpoint .ensures) _ (c .before .store-allocator .ensures) 6
+    (large (a .result) (x .kind) (x .address) (x .maximum) (x .dir) (c .if1 .taken)) (λ _. refl)
 
 maximum16-requires : tie.Need-maximum16-requires
 maximum16-requires c κs = search needs
@@ -43,22 +43,12 @@ given-requires c κs = search needs
 
 returns-2 : tie.Need-returns-2
 unfolding allocatedOn
-returns-2 c = (
-  simp (
-    c .before .before .before .before .before .before .alloc-endpoint .ensures,
-    c .before .before .before .before .before .before .before .load-allocator .ensures,
-  ),
-  (
-    simp (
-      c .given .ensures .0,
-      c .before .before .before .before .store-allocator .ensures .0,
-      c .before .before .maximum16 .ensures,
-      c .before .before .before .before .before .before .alloc-endpoint .ensures,
-      c .before .before .before .before .before .before .before .load-allocator .ensures,
-    ),
-    c .given .ensures .1 ∙ c .before .before .before .before .store-allocator .ensures .1,
-  ),
-)
+returns-2 c =
+    let x = c .before .before .before .before .before .before .before .before .before .args in
+    went-on (x .s .now) (λ (b : Allocator). allocateOf b (x .kind) (x .address) (x .maximum) (x .dir)) (λ m. givenTo (x .dir) (x .kind) m (x .interval))
+    (x .maximum) _ _ (c .before .before .before .before .before .before .before .load-allocator .ensures)
+    (c .before .before .before .before .before .before .alloc-endpoint .ensures) _ (c .before .before .before .before .store-allocator .ensures) _ _
+    (c .before .before .maximum16 .ensures) (c .given .ensures)
 
 pub allocate-spec : {M : Type 1} → statement M
 allocate-spec =

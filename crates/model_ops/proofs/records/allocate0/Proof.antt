@@ -1,6 +1,8 @@
-use Rattle.model_ops.proofs.Large.{started-large}
-use mathlib.Core.Path.{refl, _∙_}
-use Rattle.model_ops.specs.Records.{allocatedEp0}
+use mathlib.Core.Path.{refl}
+use Rattle.state.specs.declared.Allocator.{Allocator}
+use Rattle.alloc.specs.Alloc.{allocateEp0Of}
+use Rattle.model_ops.specs.Records.{allocatedEp0, startedWith}
+use Rattle.model_ops.proofs.Large.{large0, ended, went-on}
 use borrow.Author.Needs.{needs}
 use Rattle.model_ops.proofs.records.allocate0.Statement.{statement}
 use Rattle.model_ops.proofs.records.allocate0.Tie as tie
@@ -25,15 +27,13 @@ cast-if1 : tie.Need-cast-if1
 cast-if1 c = search needs
 
 returns : tie.Need-returns
-returns c = (
-  simp (c .before .before .before .allocate-ep0 .ensures, c .before .before .before .before .load-allocator .ensures),
-  (
-    c .before .store-allocator .ensures .0 ∙ started-large _ (c .before .before .before .allocate-ep0 .result)
-        (c .before .before .before .before .load-allocator .result) _ (c .before .before .before .allocate-ep0 .ensures)
-        (c .before .before .before .before .load-allocator .ensures) (c .if1 .taken),
-    c .before .store-allocator .ensures .1,
-  ),
-)
+unfolding allocatedEp0 startedWith
+returns c =
+    let x = c .before .before .before .before .before .before .args in
+    let a = c .before .before .before .before .load-allocator in
+    ended (x .s .now) (λ (b : Allocator). allocateEp0Of b (x .maximum)) startedWith (x .maximum) _ _ (a .ensures)
+    (c .before .before .before .allocate-ep0 .ensures) _ (c .before .store-allocator .ensures) _
+    (large0 (a .result) (x .maximum) (c .if1 .taken)) (λ _. refl)
 
 maximum16-requires : tie.Need-maximum16-requires
 maximum16-requires c κs = search needs
@@ -43,22 +43,11 @@ started-requires c κs = search needs
 
 returns-2 : tie.Need-returns-2
 unfolding allocatedEp0
-returns-2 c = (
-  simp (
-    c .before .before .before .before .before .before .allocate-ep0 .ensures,
-    c .before .before .before .before .before .before .before .load-allocator .ensures,
-  ),
-  (
-    simp (
-      c .started .ensures .0,
-      c .before .before .before .before .store-allocator .ensures .0,
-      c .before .before .maximum16 .ensures,
-      c .before .before .before .before .before .before .allocate-ep0 .ensures,
-      c .before .before .before .before .before .before .before .load-allocator .ensures,
-    ),
-    c .started .ensures .1 ∙ c .before .before .before .before .store-allocator .ensures .1,
-  ),
-)
+returns-2 c =
+    let x = c .before .before .before .before .before .before .before .before .before .args in
+    went-on (x .s .now) (λ (b : Allocator). allocateEp0Of b (x .maximum)) startedWith (x .maximum) _ _
+    (c .before .before .before .before .before .before .before .load-allocator .ensures) (c .before .before .before .before .before .before .allocate-ep0 .ensures)
+    _ (c .before .before .before .before .store-allocator .ensures) _ _ (c .before .before .maximum16 .ensures) (c .started .ensures)
 
 pub allocate0-spec : {M : Type 1} → statement M
 allocate0-spec =

@@ -1,4 +1,6 @@
 use Rattle.model_ops.specs.Rings.{configStep}
+use Rattle.state.specs.Kept.{withEpConfig}
+use Rattle.model_ops.proofs.Switching.{stepped}
 use borrow.Author.Needs.{needs}
 use Rattle.model_ops.proofs.records.config_step.Statement.{statement}
 use Rattle.model_ops.proofs.records.config_step.Tie as tie
@@ -15,9 +17,8 @@ set-ep-config-requires c κs = search needs
 returns : tie.Need-returns
 unfolding configStep
 returns c =
-    let v = c .before .before .switched .ensures in
-    let g = c .before .before .before .before .load-globals .ensures in
-    (simp (v, g), (simp (c .set-ep-config .ensures .0, v, g), c .set-ep-config .ensures .1))
+    stepped (c .before .before .before .before .before .before .args .s .now) _ _ _ (λ g. g .«ep_config») withEpConfig _ _
+    (c .before .before .before .before .load-globals .ensures) (c .before .before .switched .ensures) (c .set-ep-config .ensures)
 
 pub config-step-spec : {M : Type 1} → statement M
 config-step-spec = tie.close (tie.spec load-globals-requires switched-requires set-ep-config-requires returns)

@@ -1,4 +1,6 @@
 use Rattle.model_ops.specs.Rings.{typeStep}
+use Rattle.state.specs.Kept.{withEpType}
+use Rattle.model_ops.proofs.Switching.{stepped}
 use borrow.Author.Needs.{needs}
 use Rattle.model_ops.proofs.records.type_step.Statement.{statement}
 use Rattle.model_ops.proofs.records.type_step.Tie as tie
@@ -15,9 +17,8 @@ set-ep-type-requires c κs = search needs
 returns : tie.Need-returns
 unfolding typeStep
 returns c =
-    let v = c .before .before .switched .ensures in
-    let g = c .before .before .before .before .load-globals .ensures in
-    (simp (v, g), (simp (c .set-ep-type .ensures .0, v, g), c .set-ep-type .ensures .1))
+    stepped (c .before .before .before .before .before .before .args .s .now) _ _ _ (λ g. g .«ep_type») withEpType _ _
+    (c .before .before .before .before .load-globals .ensures) (c .before .before .switched .ensures) (c .set-ep-type .ensures)
 
 pub type-step-spec : {M : Type 1} → statement M
 type-step-spec = tie.close (tie.spec load-globals-requires switched-requires set-ep-type-requires returns)

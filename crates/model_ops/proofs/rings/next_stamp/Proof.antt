@@ -1,4 +1,8 @@
 use Rattle.model_ops.specs.Rings.{nextStamp}
+use denote.Ref.{now}
+use Rattle.state.specs.Driver.{stampOn}
+use Rattle.state.specs.State.{view}
+use Rattle.model_ops.proofs.Oldest.{one-waits, none-waits}
 use borrow.Author.Needs.{needs}
 use Rattle.model_ops.proofs.rings.next_stamp.Statement.{statement}
 use Rattle.model_ops.proofs.rings.next_stamp.Tie as tie
@@ -23,17 +27,16 @@ load-stamp-requires c κs = search needs
 
 returns : tie.Need-returns
 unfolding nextStamp
-returns c = simp (
-  c .load-stamp .ensures,
-  c .before .slot-index .ensures,
-  ← c .before .before .before .before .load-ep .ensures,
-  ← c .before .before .before .has-waiting .ensures,
-  c .before .before .if1 .taken,
-)
+returns c =
+    let x = c .before .before .before .before .before .args in
+    one-waits _ _ (stampOn (view (now (x .s))) (x .e)) (c .before .before .before .before .load-ep .ensures) _
+    (c .before .before .before .has-waiting .ensures) _ _ (c .before .before .if1 .taken) (c .before .slot-index .ensures) (c .load-stamp .ensures)
 
 returns-2 : tie.Need-returns-2
 unfolding nextStamp
-returns-2 c = simp (← c .before .before .load-ep .ensures, ← c .before .has-waiting .ensures, c .if1 .left)
+returns-2 c =
+    let x = c .before .before .before .args in
+    none-waits _ _ (stampOn (view (now (x .s))) (x .e)) (c .before .before .load-ep .ensures) _ (c .before .has-waiting .ensures) (c .if1 .left)
 
 pub next-stamp-spec : {M : Type 1} → statement M
 next-stamp-spec = tie.close (tie.spec load-ep-requires has-waiting-requires slot-index-requires load-stamp-requires returns returns-2)

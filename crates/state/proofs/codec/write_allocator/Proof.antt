@@ -23,13 +23,11 @@ put16-requires-4 c κs = search needs
 
 returns : tie.Need-returns
 returns c =
-    let st = c .before .before .before .before .before .before .before .before .before .before in
-    let left = rest (st .args .o) (bytes allocatorWidths (allocatorAs (st .args .r))) in
-    c .put164 .ensures
-    ∙ ap (left 16) (c .before .before .put163 .ensures)
-    ∙ ap (left 14) (c .before .before .before .before .put162 .ensures)
-    ∙ ap (left 12) (c .before .before .before .before .before .before .put16 .ensures)
-    ∙ ap (left 10) (c .before .before .before .before .before .before .before .before .put16x5 .ensures)
+    let first = c .before .before .before .before .before .before .before .before in
+    let x = first .before .before .args in
+    let left = rest (x .o) (bytes allocatorWidths (allocatorAs (x .r))) in
+    c .put164 .ensures ∙ ap (left 16) (c .before .before .put163 .ensures) ∙ ap (left 14) (c .before .before .before .before .put162 .ensures)
+    ∙ ap (left 12) (c .before .before .before .before .before .before .put16 .ensures) ∙ ap (left 10) (first .put16x5 .ensures)
 
 pub write-allocator-spec : {M : Type 1} → statement M
 write-allocator-spec = tie.close (tie.spec put16x5-requires put16-requires put16-requires-2 put16-requires-3 put16-requires-4 returns)

@@ -35,19 +35,15 @@ put32-requires-3 c κs = search needs
 
 returns : tie.Need-returns
 returns c =
-    let st =
-    c .before .before .before .before .before .before .before .before .before .before .before .before .before .before .before .before .before .before in
-    let left = rest (st .args .o) (bytes epWidths (epAs (st .args .r))) in
-    c .put323 .ensures
-    ∙ ap (left 26) (c .before .before .put322 .ensures)
-    ∙ ap (left 22) (c .before .before .before .before .put32 .ensures)
-    ∙ ap (left 18) (c .before .before .before .before .before .before .put164 .ensures)
-    ∙ ap (left 16) (c .before .before .before .before .before .before .before .before .put163 .ensures)
-    ∙ ap (left 14) (c .before .before .before .before .before .before .before .before .before .before .put162 .ensures)
-    ∙ ap (left 12) (c .before .before .before .before .before .before .before .before .before .before .before .before .put16 .ensures)
-    ∙ ap (left 10) (c .before .before .before .before .before .before .before .before .before .before .before .before .before .before .put8x52 .ensures)
-    ∙ ap (left 5)
-    (c .before .before .before .before .before .before .before .before .before .before .before .before .before .before .before .before .put8x5 .ensures)
+    let halves = c .before .before .before .before .before .before in
+    let first = halves .before .before .before .before .before .before .before .before in
+    let x = first .before .before .before .before .args in
+    let left = rest (x .o) (bytes epWidths (epAs (x .r))) in
+    c .put323 .ensures ∙ ap (left 26) (c .before .before .put322 .ensures) ∙ ap (left 22) (c .before .before .before .before .put32 .ensures)
+    ∙ ap (left 18) (halves .put164 .ensures) ∙ ap (left 16) (halves .before .before .put163 .ensures)
+    ∙ ap (left 14) (halves .before .before .before .before .put162 .ensures)
+    ∙ ap (left 12) (halves .before .before .before .before .before .before .put16 .ensures) ∙ ap (left 10) (first .put8x52 .ensures)
+    ∙ ap (left 5) (first .before .before .put8x5 .ensures)
 
 pub write-ep-spec : {M : Type 1} → statement M
 write-ep-spec =

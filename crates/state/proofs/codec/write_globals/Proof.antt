@@ -32,16 +32,13 @@ put32-requires-5 c κs = search needs
 
 returns : tie.Need-returns
 returns c =
-    let st = c .before .before .before .before .before .before .before .before .before .before .before .before .before .before .before .before in
-    let left = rest (st .args .o) (bytes globalsWidths (globalsAs (st .args .r))) in
-    c .put325 .ensures
-    ∙ ap (left 33) (c .before .before .put324 .ensures)
-    ∙ ap (left 29) (c .before .before .before .before .put323 .ensures)
+    let halves = c .before .before .before .before .before .before .before .before .before .before in
+    let x = halves .before .before .before .before .before .before .args in
+    let left = rest (x .o) (bytes globalsWidths (globalsAs (x .r))) in
+    c .put325 .ensures ∙ ap (left 33) (c .before .before .put324 .ensures) ∙ ap (left 29) (c .before .before .before .before .put323 .ensures)
     ∙ ap (left 25) (c .before .before .before .before .before .before .put322 .ensures)
-    ∙ ap (left 21) (c .before .before .before .before .before .before .before .before .put32 .ensures)
-    ∙ ap (left 17) (c .before .before .before .before .before .before .before .before .before .before .put16 .ensures)
-    ∙ ap (left 15) (c .before .before .before .before .before .before .before .before .before .before .before .before .put16x5 .ensures)
-    ∙ ap (left 5) (c .before .before .before .before .before .before .before .before .before .before .before .before .before .before .put8x5 .ensures)
+    ∙ ap (left 21) (c .before .before .before .before .before .before .before .before .put32 .ensures) ∙ ap (left 17) (halves .put16 .ensures)
+    ∙ ap (left 15) (halves .before .before .put16x5 .ensures) ∙ ap (left 5) (halves .before .before .before .before .put8x5 .ensures)
 
 pub write-globals-spec : {M : Type 1} → statement M
 write-globals-spec =

@@ -29,15 +29,14 @@ put32-requires c κs = search needs
 
 returns : tie.Need-returns
 returns c =
-    let st = c .before .before .before .before .before .before .before .before .before .before .before .before .before .before in
-    let left = rest (st .args .o) (bytes savedWidths (savedAs (st .args .r))) in
-    c .put32 .ensures
-    ∙ ap (left 18) (c .before .before .put164 .ensures)
-    ∙ ap (left 16) (c .before .before .before .before .put163 .ensures)
-    ∙ ap (left 14) (c .before .before .before .before .before .before .put162 .ensures)
-    ∙ ap (left 12) (c .before .before .before .before .before .before .before .before .put16 .ensures)
-    ∙ ap (left 10) (c .before .before .before .before .before .before .before .before .before .before .put8x52 .ensures)
-    ∙ ap (left 5) (c .before .before .before .before .before .before .before .before .before .before .before .before .put8x5 .ensures)
+    let halves = c .before .before in
+    let first = halves .before .before .before .before .before .before .before .before in
+    let x = first .before .before .before .before .args in
+    let left = rest (x .o) (bytes savedWidths (savedAs (x .r))) in
+    c .put32 .ensures ∙ ap (left 18) (halves .put164 .ensures) ∙ ap (left 16) (halves .before .before .put163 .ensures)
+    ∙ ap (left 14) (halves .before .before .before .before .put162 .ensures)
+    ∙ ap (left 12) (halves .before .before .before .before .before .before .put16 .ensures) ∙ ap (left 10) (first .put8x52 .ensures)
+    ∙ ap (left 5) (first .before .before .put8x5 .ensures)
 
 pub write-saved-spec : {M : Type 1} → statement M
 write-saved-spec =

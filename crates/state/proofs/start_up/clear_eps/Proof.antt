@@ -1,56 +1,50 @@
-use mathlib.Core.Path.{_≡_, ap, _∙_}
-use Prim.Native.Nat.{_≤_, _-_, _+_, _*_}
+use mathlib.Core.Path.{ap, _∙_}
+use Prim.Native.Nat.{_+_, _*_}
 use native.Mathlib.Omega.{arith}
 use Rattle.le_bytes.specs.Bytes.{puts, bytes}
 use Rattle.state.specs.declared.EpState.{EpState}
 use Rattle.state.specs.Codec.{epWidths, epAs}
 use Rattle.state.specs.Driver.{noEp}
-use Rattle.state.proofs.Filling.{eps-table, Filled, none-filled, ep-filled, all-filled}
+use Rattle.state.proofs.Filling.{eps-table, Filling, Left, none-yet, ep-more, all-done}
 use borrow.Author.Needs.{needs}
 use Rattle.state.proofs.start_up.clear_eps.Statement.{statement}
 use Rattle.state.proofs.start_up.clear_eps.Tie as tie
 
-abbrev Inv-loop : tie.InvT-loop
-Inv-loop s₀ k₀ s k = (k ≤ 32) × Filled eps-table s₀ noEp 0 k s
+loop-holds : tie.Need-loop-holds (Filling eps-table noEp 32) (Left 32)
+loop-holds c = none-yet eps-table noEp 32 (c .args .s .now)
 
-abbrev μ-loop : tie.MeasureT-loop
-μ-loop s₀ k₀ s k = 32 - k
-
-loop-holds : tie.Need-loop-holds Inv-loop μ-loop
-loop-holds c = (omega arith, none-filled eps-table (c .args .s .now) noEp 0)
-
-sized-requires : tie.Need-sized-requires Inv-loop μ-loop
+sized-requires : tie.Need-sized-requires (Filling eps-table noEp 32) (Left 32)
 sized-requires c κs = search needs
 
-mul-write-ep : tie.Need-mul-write-ep Inv-loop μ-loop
+mul-write-ep : tie.Need-mul-write-ep (Filling eps-table noEp 32) (Left 32)
 mul-write-ep c = search needs
 
-add-write-ep : tie.Need-add-write-ep Inv-loop μ-loop
+add-write-ep : tie.Need-add-write-ep (Filling eps-table noEp 32) (Left 32)
 add-write-ep c = search needs
 
-no-ep-requires : tie.Need-no-ep-requires Inv-loop μ-loop
+no-ep-requires : tie.Need-no-ep-requires (Filling eps-table noEp 32) (Left 32)
 no-ep-requires c κs = search needs
 
-write-ep-requires : tie.Need-write-ep-requires Inv-loop μ-loop
+write-ep-requires : tie.Need-write-ep-requires (Filling eps-table noEp 32) (Left 32)
 write-ep-requires c κs = search needs
 
-add-k : tie.Need-add-k Inv-loop μ-loop
+add-k : tie.Need-add-k (Filling eps-table noEp 32) (Left 32)
 add-k c = search needs
 
-loop-less : tie.Need-loop-less Inv-loop μ-loop
+loop-less : tie.Need-loop-less (Filling eps-table noEp 32) (Left 32)
 loop-less c = search needs
 
-loop-again : tie.Need-loop-again Inv-loop μ-loop
+loop-again : tie.Need-loop-again (Filling eps-table noEp 32) (Left 32)
 loop-again c =
     let at = c .before .before .before .before .before .before .before .loop in
     let w = c .before .before .before .before .before .before .before .before .args .s .now in
     let e = c .write-ep .ensures ∙ ap (λ (r : EpState). puts (at .s) (0 + at .k * 30) 0 (bytes epWidths (epAs r))) (c .before .no-ep .ensures) in
-    (omega arith, ep-filled w (at .s) _ (at .k) noEp (c .before .before .before .before .sized-arg2 .given .0) (omega arith) e (at .inv .1))
+    ep-more w (at .s) _ (at .k) noEp (c .before .before .before .before .sized-arg2 .given .0) (omega arith) e (at .inv)
 
-returns : tie.Need-returns Inv-loop μ-loop
-returns c = all-filled eps-table _ noEp 0 32 _ _ (c .before .loop .inv .1) (omega arith)
+returns : tie.Need-returns (Filling eps-table noEp 32) (Left 32)
+returns c = all-done eps-table noEp 32 _ _ _ (omega arith) (c .before .loop .inv)
 
 pub clear-eps-spec : {M : Type 1} → statement M
 clear-eps-spec =
-    tie.close (tie.spec Inv-loop μ-loop loop-holds sized-requires mul-write-ep add-write-ep no-ep-requires write-ep-requires add-k loop-less
-    loop-again returns)
+    tie.close (tie.spec (Filling eps-table noEp 32) (Left 32) loop-holds sized-requires mul-write-ep add-write-ep no-ep-requires write-ep-requires add-k
+    loop-less loop-again returns)
