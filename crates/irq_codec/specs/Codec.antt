@@ -51,7 +51,7 @@ nakAs st (nak.Word Out) = inner 0 st 0 0 0
 nakAs st (nak.Word In) = inner 1 st 0 0 0
 nakAs st nak.Wrote = inner 2 st 0 0 0
 
-unfoldable pub nakOf : ℕ → Nak
+abbrev pub nakOf : ℕ → Nak
 nakOf sub = cond (eqb sub 0) (nak.Word Out) (cond (eqb sub 1) (nak.Word In) nak.Wrote)
 
 abbrev pub settleAs : Settle → Numbers
@@ -65,7 +65,7 @@ settleAs settle.Flags = inner 9 0 0 0 0
 settleAs settle.St = inner 10 0 0 0 0
 settleAs (settle.Nak st p) = nakAs st p
 
-unfoldable pub settleOf : ℕ → ℕ → ℕ → Settle
+abbrev pub settleOf : ℕ → ℕ → ℕ → Settle
 settleOf sub now n =
     cond (eqb sub 3) (settle.IsoLook n) (
     cond (eqb sub 4) settle.IsoSt (
@@ -83,14 +83,14 @@ toggledAs d iso toggled.Word = looking 1 d iso 0
 toggledAs d iso toggled.AckRead = looking 2 d iso 0
 toggledAs d iso toggled.Acked = looking 3 d iso 0
 
-unfoldable pub toggledOf : ℕ → ℕ → Toggled
+abbrev pub toggledOf : ℕ → ℕ → Toggled
 toggledOf sub n = cond (eqb sub 0) (toggled.Look n) (cond (eqb sub 1) toggled.Word (cond (eqb sub 2) toggled.AckRead toggled.Acked))
 
 abbrev pub completeAs : Bool → ℕ → Complete → Numbers
 completeAs iso m (complete.Sent e) = walked 0 iso e m
 completeAs iso m (complete.Loaded e) = walked 1 iso e m
 
-unfoldable pub completeOf : ℕ → ℕ → Complete
+abbrev pub completeOf : ℕ → ℕ → Complete
 completeOf sub e = cond (eqb sub 0) (complete.Sent e) (complete.Loaded e)
 
 abbrev pub sofAs : Bool → Sof → Numbers
@@ -99,7 +99,7 @@ sofAs iso (sof.St e m) = walked 3 iso e m
 sofAs iso (sof.Completing m p) = completeAs iso m p
 sofAs iso sof.Callback = walked 4 iso 0 0
 
-unfoldable pub sofOf : ℕ → ℕ → ℕ → Sof
+abbrev pub sofOf : ℕ → ℕ → ℕ → Sof
 sofOf sub e m =
     cond (eqb sub 2) (sof.Mis e m) (
     cond (eqb sub 3) (sof.St e m) (
@@ -109,14 +109,14 @@ sofOf sub e m =
 abbrev pub lateAs : Bool → Late → Numbers
 lateAs iso p = completeAs iso (p .rest) (p .completing)
 
-unfoldable pub lateOf : ℕ → ℕ → ℕ → Late
+abbrev pub lateOf : ℕ → ℕ → ℕ → Late
 lateOf sub e m = record { rest = m; completing = completeOf sub e }
 
 abbrev pub checkAs : Bool → Check → Numbers
 checkAs iso (check.St e m) = walked 0 iso e m
 checkAs iso (check.Armed e m) = walked 1 iso e m
 
-unfoldable pub checkOf : ℕ → ℕ → ℕ → Check
+abbrev pub checkOf : ℕ → ℕ → ℕ → Check
 checkOf sub e m = cond (eqb sub 0) (check.St e m) (check.Armed e m)
 
 -- ---- the point

@@ -20,17 +20,17 @@ use Rattle.iso_out.specs.declared.Check.{Check}
 use Rattle.iso_out.specs.declared.Check.the-variants as check
 use Rattle.irq.specs.declared.Point.{Point}
 use Rattle.irq.specs.declared.Point.the-variants as point
-use Rattle.irq_codec.specs.Codec.{nakOf, settleOf, toggledOf, completeOf, sofOf, lateOf, checkOf, encode, decode}
+use Rattle.irq_codec.specs.Codec.{encode, decode}
 
 late-back : (setup : Bool) (x : Transfer) (iso : Bool) (frame m : ℕ) (q : Complete)
     → decode (encode (point.Late setup x iso frame (record { rest = m; completing = q })))
     ≡ point.Late setup x iso frame (record { rest = m; completing = q })
-unfolding decode lateOf completeOf
+unfolding decode
 late-back setup x iso frame m (complete.Sent e) = simp flag-back
 late-back setup x iso frame m (complete.Loaded e) = simp flag-back
 
 pub decode-encode : (p : Point) → decode (encode p) ≡ p
-unfolding decode nakOf settleOf toggledOf completeOf sofOf lateOf checkOf
+unfolding decode
 decode-encode point.Frame = refl
 decode-encode point.Flags = refl
 decode-encode (point.BusRst f) = refl
