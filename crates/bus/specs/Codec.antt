@@ -12,7 +12,7 @@ use Rattle.bus.specs.declared.Point.the-variants as point
 abbrev pub code : ℕ → ℕ → ℕ → ℕ → ℕ → ℕ → Saved
 code sub site on iso n e = numbers sub site on iso 0 n e 0 0
 
-unfoldable pub encode : Point → Saved
+abbrev pub encode : Point → Saved
 encode point.Enable = code 0 0 0 0 0 0
 encode (point.Event n) = code 1 0 0 0 n 0
 encode point.Stalled = code 2 0 0 0 0 0

@@ -6,7 +6,7 @@ use Rattle.bus.specs.declared.Point.the-variants as point
 use Rattle.bus.specs.Codec.{encode, decode}
 
 pub decode-encode : (p : Point) → decode (encode p) ≡ p
-unfolding encode decode
+unfolding decode
 decode-encode point.Enable = refl
 decode-encode (point.Event n) = refl
 decode-encode point.Stalled = refl

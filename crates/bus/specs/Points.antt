@@ -4,6 +4,7 @@ use mathlib.Core.Bool.{Bool, true, false, not, cond, _&&_}
 use mathlib.Core.List.{List}
 use Prim.Native.Nat.{ℕ, zero, suc, _-_}
 use Rattle.regs.specs.declared.Reg.the-variants.{IntFg, MisSt, Ctrl, EpConfig, EpTLen, EpRxCtrl, EpTxCtrl}
+use Rattle.regs.specs.declared.Access.{Access}
 use Rattle.regs.specs.declared.Dir.{Dir}
 use Rattle.regs.specs.declared.Dir.the-variants.{Out, In}
 use Rattle.regs.specs.Registers.{ctrlOf, widthOf}
@@ -13,7 +14,9 @@ use Rattle.regs.specs.MisStatus.{suspended}
 use Rattle.regs.specs.IntEn.{withBusRst, withSuspend}
 use Rattle.regs.specs.Ctrl.{pulledUp}
 use Rattle.state.specs.declared.EpState.{EpState}
+use Rattle.state.specs.Ep.{withMoves}
 use Rattle.state.specs.Driver.{Driver, epOn, withOn}
+use Rattle.state.specs.State.{view}
 use Rattle.model.specs.Tree as tree
 use Rattle.model.specs.Tree.{asks, ends, bindOut}
 use Rattle.model.specs.Cells.{globals-cell}
@@ -25,16 +28,11 @@ use Rattle.model_ops.specs.Records.{plainOf, merged}
 use Rattle.model_ops.specs.Rings.{St, emptiedOn}
 use Rattle.model_ops.specs.Concrete.{concrete}
 use Rattle.model_points.specs.Numbers.{fits}
+pub use Rattle.model_points.specs.Results.{resultless}
 use Rattle.bus.specs.declared.Point.{Point}
 use Rattle.bus.specs.declared.Point.the-variants as point
 use Rattle.bus.specs.declared.Next.{Next}
 use Rattle.bus.specs.declared.Next.the-variants as next
-
--- an operation without a result answers 0
-abbrev pub resultless : Script false Unit → Script false ℕ
-resultless p = do
-  p
-  ret 0
 
 unfoldable pub woken : Dir → ℕ → Script false ℕ
 woken d e = resultless (wake d e)
@@ -102,25 +100,7 @@ renewedAs d dir e armed =
 
 -- both in one: `EpState::reset`, and armed or not
 abbrev pub resetAs : EpState → ℕ → EpState
-resetAs r armed = record {
-  ready = 0;
-  len = r .len;
-  armed = armed;
-  iso = r .iso;
-  kind = r .kind;
-  base = r .base;
-  stride = r .stride;
-  slots = r .slots;
-  head = 0;
-  tail = 0;
-  loaded = 0;
-  overruns = r .overruns;
-  «last_frame» = 0x1800;
-  «max_len» = r .«max_len»;
-  «armed_slot» = r .«armed_slot»;
-  tog = 0;
-  «open» = 0;
-}
+resetAs r armed = withMoves r 0 (r .len) armed 0x1800 0 0 0 0 (r .overruns) (r .«armed_slot») 0
 
 abbrev pub enabledOut : ℕ → Bool → Script false ℕ
 enabledOut e on = resultless (do
@@ -196,6 +176,10 @@ denote (point.Switch e on n) v t = switching e on n t
 abbrev pub meaning : Next → Driver → List ℕ → tree.Out St ℕ
 meaning (next.Asks q p) d b = asks q (d, b) (λ v t. denote p v t)
 meaning (next.Ends n) d b = ends n (d, b)
+
+-- on the lent bytes before and after: what is handed out with r is what is left to run at p, whatever is brought there
+abbrev pub Follows : Point → Access → Point → List ℕ → List ℕ → Type 0
+Follows p q r xs ys = (v : ℕ) (b : List ℕ) → meaning (next.Asks q r) (view ys) b ≡ denote p v (view xs, b)
 
 -- what a point awaits
 abbrev pub awaitsAt : Point → Awaits

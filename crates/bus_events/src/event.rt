@@ -23,7 +23,7 @@ ghost use Rattle.state.specs.Driver.{Driver};
 ghost use Rattle.state.specs.State.{view, saved};
 ghost use Rattle.model.specs.Bus as script;
 ghost use Rattle.model_ops.specs.Concrete.{go};
-ghost use Rattle.bus.specs.Points.{afterReset, afterNaked, afterReleased, denote, meaning, Linked};
+ghost use Rattle.bus.specs.Points.{afterReset, afterNaked, afterReleased, denote, meaning, Follows, Linked};
 
 // `poll` (mod.rs 1231-1266).
 pub fn poll(s: &mut State) -> Next
@@ -104,8 +104,7 @@ pub fn after_last(s: &mut State) -> Access
 }
 
 pub fn after_disabled(s: &mut State) -> Access
-    ensures { λ r. ⌜ ((v : ℕ) (b : List ℕ) → meaning (Next.Asks r Point.Untyped) (view (now (s .exit))) b
-        ≡ denote Point.Disabled v (view (now (s .entry)), b)) ⌝ }
+    ensures { λ r. ⌜ Follows Point.Disabled r Point.Untyped (now (s .entry)) (now (s .exit)) ⌝ }
     ensures { λ _. ⌜ saved (now (s .exit)) ≡ saved (now (s .entry)) ⌝ }
     ensures { λ r. ⌜ Linked (Next.Asks r Point.Untyped) ⌝ }
 {
@@ -122,8 +121,7 @@ pub fn after_untyped() -> Access
 
 // Every record is reset in the call that clears the flag (mod.rs 1213-1216, 1245).
 pub fn after_single(s: &mut State) -> Access
-    ensures { λ r. ⌜ ((v : ℕ) (b : List ℕ) → meaning (Next.Asks r Point.Reset) (view (now (s .exit))) b
-        ≡ denote Point.Single v (view (now (s .entry)), b)) ⌝ }
+    ensures { λ r. ⌜ Follows Point.Single r Point.Reset (now (s .entry)) (now (s .exit)) ⌝ }
     ensures { λ _. ⌜ saved (now (s .exit)) ≡ saved (now (s .entry)) ⌝ }
     ensures { λ r. ⌜ Linked (Next.Asks r Point.Reset) ⌝ }
 {

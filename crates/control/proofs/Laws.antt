@@ -36,7 +36,15 @@ use Rattle.control.specs.declared.Polled.the-variants as polled
 use Rattle.control.specs.Points.{loading, begunAs, polledAs}
 use Rattle.control.specs.Rows.{beginRow, pollRow, Polls}
 
--- ---- rows: f at the row that stops a call, else z
+-- ---- rows
+
+-- of a stage past rows 4 and 10
+pub row-within : (g : Globals) (n : ℕ) {started waits x : Bool} → started ≡ eqb (g .stage) 2 → started ≡ true → n ≤ g .«ep0_max»
+    → waits ≡ isOn (g .«setup_ready») → waits ≡ x → cond x 9 0 ≡ beginRow g n
+unfolding beginRow
+row-within g n e h l k w = simp (← e, h, le-ltb _ _ l, ← k, w)
+
+-- f at the row that stops a call, else z
 
 module _ {A : Type 0} (f : ℕ → A) (z : A) where
   tests : (s m u : Bool)

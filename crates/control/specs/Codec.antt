@@ -13,7 +13,7 @@ use Rattle.control.specs.declared.Point.the-variants as point
 abbrev pub code : ℕ → ℕ → ℕ → ℕ → Saved
 code sub site f n = numbers sub site f 0 0 0 0 n 0
 
-unfoldable pub encode : Point → Saved
+abbrev pub encode : Point → Saved
 encode point.Wrote = code 0 0 0 0
 encode (point.Ack d) = code 1 (dirAs d) 0 0
 encode point.StatusLen = code 2 0 0 0

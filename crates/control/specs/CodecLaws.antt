@@ -6,7 +6,7 @@ use Rattle.control.specs.declared.Point.the-variants as point
 use Rattle.control.specs.Codec.{encode, decode}
 
 pub decode-encode : (p : Point) → decode (encode p) ≡ p
-unfolding encode decode
+unfolding decode
 decode-encode point.Wrote = refl
 decode-encode (point.Ack d) = simp dir-back
 decode-encode point.StatusLen = refl

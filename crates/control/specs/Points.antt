@@ -21,6 +21,7 @@ use Rattle.model_ops.specs.Rings.{St}
 use Rattle.model_ops.specs.Concrete.{concrete}
 use Rattle.endpoint_common.specs.Answers.{finished, front}
 use Rattle.model_points.specs.Numbers.{fits}
+use Rattle.model_points.specs.Results.{resultless}
 use Rattle.control.specs.declared.Point.{Point}
 use Rattle.control.specs.declared.Point.the-variants as point
 use Rattle.control.specs.declared.Next.{Next}
@@ -34,9 +35,7 @@ use Rattle.control.specs.declared.Polled.the-variants as polled
 
 -- a stage's packet is answered with ACK
 abbrev pub acked : Dir → Bool → Script false ℕ
-acked d first = do
-  acks d first
-  ret 0
+acked d first = resultless (acks d first)
 
 -- data_in after its closing OUT
 abbrev pub loaded : ℕ → Bool → Script false Unit
@@ -47,41 +46,24 @@ loaded n first = do
 
 -- and from it on
 abbrev pub loading : ℕ → Bool → Bool → Script false ℕ
-loading n first last = do
-  (do
-    when last closing-out
-    loaded n first)
-  ret 0
+loading n first last = resultless (do
+  when last closing-out
+  loaded n first)
 
 -- ---- points
 
 abbrev pub denote : Point → ℕ → Script false ℕ
 denote point.Wrote v = ret {A = ℕ} 0
-denote (point.Ack d) v = do
-  write (ctrlOf d) 0 (ack v)
-  ret 0
-denote point.StatusLen v = do
-  modifyReg EpTxCtrl 0 status
-  ret 0
-denote point.Status v = do
-  write EpTxCtrl 0 (status v)
-  ret 0
+denote (point.Ack d) v = resultless (write (ctrlOf d) 0 (ack v))
+denote point.StatusLen v = resultless (modifyReg EpTxCtrl 0 status)
+denote point.Status v = resultless (write EpTxCtrl 0 (status v))
 denote point.StallIn v = do
   write EpTxCtrl 0 (stall v)
-  modifyReg EpRxCtrl 0 stall
-  ret 0
-denote point.StalledIn v = do
-  modifyReg EpRxCtrl 0 stall
-  ret 0
-denote point.StallOut v = do
-  write EpRxCtrl 0 (stall v)
-  ret 0
-denote (point.Closing n first) v = do
-  loaded n first
-  ret 0
-denote (point.Loaded first) v = do
-  acks In first
-  ret 0
+  resultless (modifyReg EpRxCtrl 0 stall)
+denote point.StalledIn v = resultless (modifyReg EpRxCtrl 0 stall)
+denote point.StallOut v = resultless (write EpRxCtrl 0 (stall v))
+denote (point.Closing n first) v = resultless (loaded n first)
+denote (point.Loaded first) v = resultless (acks In first)
 
 -- the next access and the point at which it stops, or the result
 abbrev pub meaning : Next → Driver → List ℕ → tree.Out St ℕ

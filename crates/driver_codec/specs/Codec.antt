@@ -17,7 +17,7 @@ code n f kind ep value = numbers n 0 f 0 0 kind ep 0 value
 abbrev pub listCode : ℕ → ℕ → ℕ → ℕ → ℕ → ℕ → Saved
 listCode n f kind ep left total = numbers n 0 f left total kind ep 0 0
 
-unfoldable pub encode : Point → Saved
+abbrev pub encode : Point → Saved
 encode (point.Clear callback) = code 0 (flag callback) 0 0 0
 encode (point.Wait callback) = code 1 (flag callback) 0 0 0
 encode (point.Reset callback) = code 2 (flag callback) 0 0 0

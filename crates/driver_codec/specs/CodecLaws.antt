@@ -7,7 +7,7 @@ use Rattle.driver_codec.specs.Codec.{encode, decode}
 
 -- what was saved is found again
 pub decode-encode : (p : Point) → decode (encode p) ≡ p
-unfolding encode decode
+unfolding decode
 decode-encode (point.Clear callback) = simp flag-back
 decode-encode (point.Wait callback) = simp flag-back
 decode-encode (point.Reset callback) = simp flag-back

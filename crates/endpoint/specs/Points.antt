@@ -3,21 +3,25 @@ use mathlib.Core.Path.{_≡_}
 use mathlib.Core.Bool.{Bool, false}
 use mathlib.Core.List.{List}
 use Prim.Native.Nat.{ℕ}
+use lib.ListN.{length}
 use Rattle.regs.specs.declared.Reg.the-variants.{EpTxCtrl}
 use Rattle.regs.specs.Registers.{ctrlOf, widthOf}
 use Rattle.regs.specs.ControlWord.{ack}
 use Rattle.state.specs.Wakes.{listed}
 use Rattle.state.specs.Driver.{Driver}
+use Rattle.state.specs.State.{view}
 use Rattle.model.specs.Tree as tree
 use Rattle.model.specs.Tree.{ends, asks}
-use Rattle.model.specs.Script.{Script, run, ret, _>>=_, _>>_, write}
+use Rattle.model.specs.Script.{Script, run, ret, write}
 use Rattle.model.specs.Statics.{modifyReg}
 use Rattle.model.specs.Machine.{Awaits, nothing, reading, awaited}
 use Rattle.model.specs.Answers.{Answer, Refused, End, NotYet, Done}
+use Rattle.model.specs.Endpoint.{pollRead}
 use Rattle.model_ops.specs.Rings.{St}
-use Rattle.model_ops.specs.Concrete.{concrete}
+use Rattle.model_ops.specs.Concrete.{concrete, go}
 use Rattle.endpoint_common.specs.Answers.{finished, front}
 use Rattle.model_points.specs.Numbers.{fits}
+use Rattle.model_points.specs.Results.{resultless}
 use Rattle.endpoint.specs.declared.Point.{Point}
 use Rattle.endpoint.specs.declared.Point.the-variants as point
 use Rattle.endpoint.specs.declared.Next.{Next}
@@ -28,13 +32,9 @@ use Rattle.endpoint.specs.declared.Polled.{Polled}
 use Rattle.endpoint.specs.declared.Polled.the-variants as polled
 
 abbrev pub denote : Point → ℕ → Script false ℕ
-denote (point.Ack d e) v = do
-  write (ctrlOf d) e (ack v)
-  ret 0
+denote (point.Ack d e) v = resultless (write (ctrlOf d) e (ack v))
 denote point.Wrote v = ret {A = ℕ} 0
-denote (point.Loaded e) v = do
-  modifyReg EpTxCtrl e ack
-  ret 0
+denote (point.Loaded e) v = resultless (modifyReg EpTxCtrl e ack)
 
 -- the next access and the point at which it stops, or the result
 abbrev pub meaning : Next → Driver → List ℕ → tree.Out St ℕ
@@ -52,6 +52,10 @@ abbrev pub polledAs : Polled → List ℕ → Driver → List ℕ → tree.Out S
 polledAs (polled.Refused n) out d b = ends (Refused n) (d, b)
 polledAs polled.NotYet out d b = ends NotYet (d, b)
 polledAs (polled.Done n) out d b = ends (Done (front n out)) (d, b)
+
+-- what the poll of a read into a slice comes to, on the lent bytes
+abbrev pub readOn : ℕ → List ℕ → List ℕ → List ℕ → tree.Out St Answer
+readOn e out xs b = go {i = false} (pollRead e (length out)) (view xs) b
 
 -- what a point awaits
 abbrev pub awaitsAt : Point → Awaits

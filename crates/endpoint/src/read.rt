@@ -32,12 +32,12 @@ ghost use lib.Dec.{eqb};
 ghost use lib.ListN.{length};
 ghost use Rattle.regs.specs.declared.Dir.the-variants.{Out};
 ghost use Rattle.state.specs.State.{view, saved};
-ghost use Rattle.model.specs.Endpoint.{beginRead, pollRead, tooLong, take-iso, take-ready};
+ghost use Rattle.model.specs.Endpoint.{beginRead, tooLong, take-iso, take-ready};
 ghost use Rattle.model_ops.specs.Records.{plainOf};
 ghost use Rattle.model_ops.specs.Concrete.{go};
 ghost use Rattle.endpoint_common.specs.Answers.{lentAfter};
 ghost use Rattle.endpoint_rows.specs.Rows.{refusalOf};
-ghost use Rattle.endpoint.specs.Points.{begunAs, polledAs, LinkedBegun};
+ghost use Rattle.endpoint.specs.Points.{begunAs, polledAs, readOn, LinkedBegun};
 
 // 84-123, past rows 4 and 5: an isochronous OUT needs no arming, nor does one with a packet.
 fn start_read(s: &mut State, e: u8, n: u32) -> Begun
@@ -148,9 +148,8 @@ fn take_ready(s: &mut State, buf: &[u8], e: u8, out: &mut [u8], r: EpState) -> P
 fn take_read(s: &mut State, buf: &[u8], e: u8, out: &mut [u8]) -> Polled
     requires { ⌜ eqb (refusalOf (view (now s)) Out e) 0 ≡ true ⌝ }
     ensures { λ r. ⌜ polledAs r (now (out .exit)) (view (now (s .exit))) (now (buf .entry))
-        ≡ go {i = false} (pollRead e (length (now (out .entry)))) (view (now (s .entry))) (now (buf .entry)) ⌝ }
-    ensures { λ _. ⌜ now (out .exit)
-        ≡ lentAfter (go {i = false} (pollRead e (length (now (out .entry)))) (view (now (s .entry))) (now (buf .entry))) (now (out .entry)) ⌝ }
+        ≡ readOn e (now (out .entry)) (now (s .entry)) (now (buf .entry)) ⌝ }
+    ensures { λ _. ⌜ now (out .exit) ≡ lentAfter (readOn e (now (out .entry)) (now (s .entry)) (now (buf .entry))) (now (out .entry)) ⌝ }
     ensures { λ _. ⌜ saved (now (s .exit)) ≡ saved (now (s .entry)) ⌝ }
 {
     let q = load_request(s, Dir::Out, e);
@@ -171,9 +170,8 @@ fn take_read(s: &mut State, buf: &[u8], e: u8, out: &mut [u8]) -> Polled
 
 pub fn poll_read(s: &mut State, buf: &[u8], e: u32, out: &mut [u8]) -> Polled
     ensures { λ r. ⌜ polledAs r (now (out .exit)) (view (now (s .exit))) (now (buf .entry))
-        ≡ go {i = false} (pollRead e (length (now (out .entry)))) (view (now (s .entry))) (now (buf .entry)) ⌝ }
-    ensures { λ _. ⌜ now (out .exit)
-        ≡ lentAfter (go {i = false} (pollRead e (length (now (out .entry)))) (view (now (s .entry))) (now (buf .entry))) (now (out .entry)) ⌝ }
+        ≡ readOn e (now (out .entry)) (now (s .entry)) (now (buf .entry)) ⌝ }
+    ensures { λ _. ⌜ now (out .exit) ≡ lentAfter (readOn e (now (out .entry)) (now (s .entry)) (now (buf .entry))) (now (out .entry)) ⌝ }
     ensures { λ _. ⌜ saved (now (s .exit)) ≡ saved (now (s .entry)) ⌝ }
 {
     let row = refusal(s, Dir::Out, e);

@@ -7,6 +7,7 @@ use lib.Dec.{eqb}
 use Rattle.regs.specs.declared.Dir.{Dir}
 use Rattle.regs.specs.declared.Dir.the-variants.{Out, In}
 use Rattle.state.specs.declared.Saved.{Saved}
+pub use Rattle.model_points.specs.Numbers.{dirAs, dirOf}
 use Rattle.model.specs.declared.Transfer.{Transfer}
 use Rattle.model.specs.Statics.{isOn, flag}
 use Rattle.irq_transfer.specs.declared.nak.Nak.{Nak}
@@ -27,33 +28,34 @@ use Rattle.irq.specs.declared.Point.{Point}
 use Rattle.irq.specs.declared.Point.the-variants as point
 use Rattle.irq_codec.specs.declared.Numbers.{Numbers}
 
--- ---- directions, flags, the inner points
-
-abbrev pub dirAs : Dir → ℕ
-dirAs Out = 0
-dirAs In = 1
-
-abbrev pub dirOf : ℕ → Dir
-dirOf n = cond (eqb n 0) Out In
+-- ---- the inner points
 
 abbrev pub inner : ℕ → ℕ → ℕ → ℕ → ℕ → Numbers
 inner sub now ep eps n = record { sub = sub; now = now; ep = ep; eps = eps; n = n }
 
+-- of a walk: its endpoint, and the mask of those left
+abbrev pub walked : ℕ → Bool → ℕ → ℕ → Numbers
+walked sub iso e m = inner sub (flag iso) e m 0
+
+-- of a transfer's direction: how many looks may follow
+abbrev pub looking : ℕ → Dir → Bool → ℕ → Numbers
+looking sub d iso n = inner sub (flag iso) (dirAs d) 0 n
+
 abbrev pub none : Bool → Numbers
-none iso = inner 0 (flag iso) 0 0 0
+none iso = walked 0 iso 0 0
 
 abbrev pub onDir : Dir → Bool → Numbers
-onDir d iso = inner 0 (flag iso) (dirAs d) 0 0
+onDir d iso = looking 0 d iso 0
 
-unfoldable pub nakAs : ℕ → Nak → Numbers
+abbrev pub nakAs : ℕ → Nak → Numbers
 nakAs st (nak.Word Out) = inner 0 st 0 0 0
 nakAs st (nak.Word In) = inner 1 st 0 0 0
 nakAs st nak.Wrote = inner 2 st 0 0 0
 
-unfoldable pub nakOf : ℕ → Nak
+abbrev pub nakOf : ℕ → Nak
 nakOf sub = cond (eqb sub 0) (nak.Word Out) (cond (eqb sub 1) (nak.Word In) nak.Wrote)
 
-unfoldable pub settleAs : Settle → Numbers
+abbrev pub settleAs : Settle → Numbers
 settleAs (settle.IsoLook n) = inner 3 0 0 0 n
 settleAs settle.IsoSt = inner 4 0 0 0 0
 settleAs (settle.IsoLen now) = inner 5 now 0 0 0
@@ -64,7 +66,7 @@ settleAs settle.Flags = inner 9 0 0 0 0
 settleAs settle.St = inner 10 0 0 0 0
 settleAs (settle.Nak st p) = nakAs st p
 
-unfoldable pub settleOf : ℕ → ℕ → ℕ → Settle
+abbrev pub settleOf : ℕ → ℕ → ℕ → Settle
 settleOf sub now n =
     cond (eqb sub 3) (settle.IsoLook n) (
     cond (eqb sub 4) settle.IsoSt (
@@ -76,46 +78,46 @@ settleOf sub now n =
     cond (eqb sub 10) settle.St (
     settle.Nak now (nakOf sub)))))))))
 
-unfoldable pub toggledAs : Dir → Bool → Toggled → Numbers
-toggledAs d iso (toggled.Look n) = inner 0 (flag iso) (dirAs d) 0 n
-toggledAs d iso toggled.Word = inner 1 (flag iso) (dirAs d) 0 0
-toggledAs d iso toggled.AckRead = inner 2 (flag iso) (dirAs d) 0 0
-toggledAs d iso toggled.Acked = inner 3 (flag iso) (dirAs d) 0 0
+abbrev pub toggledAs : Dir → Bool → Toggled → Numbers
+toggledAs d iso (toggled.Look n) = looking 0 d iso n
+toggledAs d iso toggled.Word = looking 1 d iso 0
+toggledAs d iso toggled.AckRead = looking 2 d iso 0
+toggledAs d iso toggled.Acked = looking 3 d iso 0
 
-unfoldable pub toggledOf : ℕ → ℕ → Toggled
+abbrev pub toggledOf : ℕ → ℕ → Toggled
 toggledOf sub n = cond (eqb sub 0) (toggled.Look n) (cond (eqb sub 1) toggled.Word (cond (eqb sub 2) toggled.AckRead toggled.Acked))
 
-unfoldable pub completeAs : Bool → ℕ → Complete → Numbers
-completeAs iso m (complete.Sent e) = inner 0 (flag iso) e m 0
-completeAs iso m (complete.Loaded e) = inner 1 (flag iso) e m 0
+abbrev pub completeAs : Bool → ℕ → Complete → Numbers
+completeAs iso m (complete.Sent e) = walked 0 iso e m
+completeAs iso m (complete.Loaded e) = walked 1 iso e m
 
-unfoldable pub completeOf : ℕ → ℕ → Complete
+abbrev pub completeOf : ℕ → ℕ → Complete
 completeOf sub e = cond (eqb sub 0) (complete.Sent e) (complete.Loaded e)
 
-unfoldable pub sofAs : Bool → Sof → Numbers
-sofAs iso (sof.Mis e m) = inner 2 (flag iso) e m 0
-sofAs iso (sof.St e m) = inner 3 (flag iso) e m 0
+abbrev pub sofAs : Bool → Sof → Numbers
+sofAs iso (sof.Mis e m) = walked 2 iso e m
+sofAs iso (sof.St e m) = walked 3 iso e m
 sofAs iso (sof.Completing m p) = completeAs iso m p
-sofAs iso sof.Callback = inner 4 (flag iso) 0 0 0
+sofAs iso sof.Callback = walked 4 iso 0 0
 
-unfoldable pub sofOf : ℕ → ℕ → ℕ → Sof
+abbrev pub sofOf : ℕ → ℕ → ℕ → Sof
 sofOf sub e m =
     cond (eqb sub 2) (sof.Mis e m) (
     cond (eqb sub 3) (sof.St e m) (
     cond (eqb sub 4) sof.Callback (
     sof.Completing m (completeOf sub e))))
 
-unfoldable pub lateAs : Bool → Late → Numbers
+abbrev pub lateAs : Bool → Late → Numbers
 lateAs iso p = completeAs iso (p .rest) (p .completing)
 
-unfoldable pub lateOf : ℕ → ℕ → ℕ → Late
+abbrev pub lateOf : ℕ → ℕ → ℕ → Late
 lateOf sub e m = record { rest = m; completing = completeOf sub e }
 
-unfoldable pub checkAs : Bool → Check → Numbers
-checkAs iso (check.St e m) = inner 0 (flag iso) e m 0
-checkAs iso (check.Armed e m) = inner 1 (flag iso) e m 0
+abbrev pub checkAs : Bool → Check → Numbers
+checkAs iso (check.St e m) = walked 0 iso e m
+checkAs iso (check.Armed e m) = walked 1 iso e m
 
-unfoldable pub checkOf : ℕ → ℕ → ℕ → Check
+abbrev pub checkOf : ℕ → ℕ → ℕ → Check
 checkOf sub e m = cond (eqb sub 0) (check.St e m) (check.Armed e m)
 
 -- ---- the point
@@ -146,7 +148,7 @@ early busy st = record { busy = busy; st = st; len = 0; late = false; «len_ok»
 abbrev pub bare : ℕ → Saved
 bare site = code site false (early false 0) 0 (none false)
 
-unfoldable pub encode : Point → Saved
+abbrev pub encode : Point → Saved
 encode point.Frame = bare 0
 encode point.Flags = bare 1
 encode (point.BusRst f) = code 2 false (early false f) 0 (none false)

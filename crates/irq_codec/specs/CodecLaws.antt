@@ -1,12 +1,10 @@
 -- Laws on the definitions of Codec.antt
 use mathlib.Core.Path.{_≡_, refl}
-use mathlib.Core.Bool.{Bool, true, false}
+use mathlib.Core.Bool.{Bool}
 use Prim.Native.Nat.{ℕ}
-use Rattle.regs.specs.declared.Dir.{Dir}
 use Rattle.regs.specs.declared.Dir.the-variants.{Out, In}
-use Rattle.state.specs.declared.Saved.{Saved}
 use Rattle.model.specs.declared.Transfer.{Transfer}
-use Rattle.model.specs.Statics.{isOn, flag}
+use Rattle.model_points.specs.NumbersLaws.{flag-back, dir-back}
 use Rattle.irq_transfer.specs.declared.nak.Nak.{Nak}
 use Rattle.irq_transfer.specs.declared.nak.Nak.the-variants as nak
 use Rattle.irq_transfer.specs.declared.settle.Settle.{Settle}
@@ -22,31 +20,17 @@ use Rattle.iso_out.specs.declared.Check.{Check}
 use Rattle.iso_out.specs.declared.Check.the-variants as check
 use Rattle.irq.specs.declared.Point.{Point}
 use Rattle.irq.specs.declared.Point.the-variants as point
-use Rattle.irq_codec.specs.declared.Numbers.{Numbers}
-use Rattle.irq_codec.specs.Codec.{dirAs, dirOf, nakAs, nakOf, settleAs, settleOf, toggledAs, toggledOf}
-use Rattle.irq_codec.specs.Codec.{completeAs, completeOf, sofAs, sofOf, lateAs, lateOf, checkAs, checkOf, encode}
-use Rattle.irq_codec.specs.Codec.{decode}
-
--- ---- back
-
-flag-back : (b : Bool) → isOn (flag b) ≡ b
-unfolding isOn
-flag-back true = refl
-flag-back false = refl
-
-dir-back : (d : Dir) → dirOf (dirAs d) ≡ d
-dir-back Out = refl
-dir-back In = refl
+use Rattle.irq_codec.specs.Codec.{encode, decode}
 
 late-back : (setup : Bool) (x : Transfer) (iso : Bool) (frame m : ℕ) (q : Complete)
     → decode (encode (point.Late setup x iso frame (record { rest = m; completing = q })))
     ≡ point.Late setup x iso frame (record { rest = m; completing = q })
-unfolding encode decode lateAs lateOf completeAs completeOf
+unfolding decode
 late-back setup x iso frame m (complete.Sent e) = simp flag-back
 late-back setup x iso frame m (complete.Loaded e) = simp flag-back
 
 pub decode-encode : (p : Point) → decode (encode p) ≡ p
-unfolding encode decode nakAs nakOf settleAs settleOf toggledAs toggledOf completeAs completeOf sofAs sofOf lateAs lateOf checkAs checkOf
+unfolding decode
 decode-encode point.Frame = refl
 decode-encode point.Flags = refl
 decode-encode (point.BusRst f) = refl

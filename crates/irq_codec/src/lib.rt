@@ -8,11 +8,12 @@ use iso_in::late::Late;
 use iso_in::sof::Sof;
 use iso_out::Check;
 use model::Transfer;
+use model_points::dir_as;
+use model_points::flag_of;
 use regs::Dir;
 use state::Saved;
 ghost use mathlib.Core.Path.{_≡_};
-ghost use Rattle.model.specs.Statics.{flag};
-ghost use Rattle.irq_codec.specs.Codec.{dirAs, dirOf, inner, none, onDir, nakAs, nakOf, settleAs, settleOf};
+ghost use Rattle.irq_codec.specs.Codec.{dirOf, inner, walked, looking, none, onDir, nakAs, nakOf, settleAs, settleOf};
 ghost use Rattle.irq_codec.specs.Codec.{toggledAs, toggledOf, completeAs, completeOf, sofAs, sofOf, lateAs};
 ghost use Rattle.irq_codec.specs.Codec.{lateOf, checkAs, checkOf, code, early, bare, encode};
 
@@ -25,28 +26,10 @@ pub struct Numbers {
     pub n: u16,
 }
 
-fn dir_as(d: Dir) -> u8
-    ensures { λ r. ⌜ r ≡ dirAs d ⌝ }
-{
-    match d {
-        Dir::Out => 0,
-        Dir::In => 1,
-    }
-}
-
 pub fn dir_of(n: u8) -> Dir
     ensures { λ r. ⌜ r ≡ dirOf n ⌝ }
 {
     if n == 0 { Dir::Out } else { Dir::In }
-}
-
-fn flag_of(b: bool) -> u8
-    ensures { λ r. ⌜ r ≡ flag b ⌝ }
-{
-    if b {
-        return 1;
-    }
-    0
 }
 
 fn inner(sub: u8, now: u8, ep: u8, eps: u16, n: u16) -> Numbers
@@ -61,16 +44,30 @@ fn inner(sub: u8, now: u8, ep: u8, eps: u16, n: u16) -> Numbers
     }
 }
 
+// Of a walk: its endpoint, and the mask of those left.
+fn walked(sub: u8, iso: bool, e: u8, m: u16) -> Numbers
+    ensures { λ r. ⌜ r ≡ walked sub iso e m ⌝ }
+{
+    inner(sub, flag_of(iso), e, m, 0)
+}
+
+// Of a transfer's direction: how many looks may follow.
+fn looking(sub: u8, d: Dir, iso: bool, n: u16) -> Numbers
+    ensures { λ r. ⌜ r ≡ looking sub d iso n ⌝ }
+{
+    inner(sub, flag_of(iso), dir_as(d), 0, n)
+}
+
 pub fn none(iso: bool) -> Numbers
     ensures { λ r. ⌜ r ≡ none iso ⌝ }
 {
-    inner(0, flag_of(iso), 0, 0, 0)
+    walked(0, iso, 0, 0)
 }
 
 pub fn on_dir(d: Dir, iso: bool) -> Numbers
     ensures { λ r. ⌜ r ≡ onDir d iso ⌝ }
 {
-    inner(0, flag_of(iso), dir_as(d), 0, 0)
+    looking(0, d, iso, 0)
 }
 
 pub fn nak_as(st: u8, p: Nak) -> Numbers
@@ -130,13 +127,11 @@ pub fn settle_of(sub: u8, now: u8, n: u16) -> Settle
 pub fn toggled_as(d: Dir, iso: bool, p: Toggled) -> Numbers
     ensures { λ r. ⌜ r ≡ toggledAs d iso p ⌝ }
 {
-    let ep = dir_as(d);
-    let now = flag_of(iso);
     match p {
-        Toggled::Look(n) => inner(0, now, ep, 0, n),
-        Toggled::Word => inner(1, now, ep, 0, 0),
-        Toggled::AckRead => inner(2, now, ep, 0, 0),
-        Toggled::Acked => inner(3, now, ep, 0, 0),
+        Toggled::Look(n) => looking(0, d, iso, n),
+        Toggled::Word => looking(1, d, iso, 0),
+        Toggled::AckRead => looking(2, d, iso, 0),
+        Toggled::Acked => looking(3, d, iso, 0),
     }
 }
 
@@ -154,10 +149,9 @@ pub fn toggled_of(sub: u8, n: u16) -> Toggled
 pub fn complete_as(iso: bool, m: u16, p: Complete) -> Numbers
     ensures { λ r. ⌜ r ≡ completeAs iso m p ⌝ }
 {
-    let now = flag_of(iso);
     match p {
-        Complete::Sent(e) => inner(0, now, e, m, 0),
-        Complete::Loaded(e) => inner(1, now, e, m, 0),
+        Complete::Sent(e) => walked(0, iso, e, m),
+        Complete::Loaded(e) => walked(1, iso, e, m),
     }
 }
 
@@ -174,12 +168,11 @@ pub fn complete_of(sub: u8, e: u8) -> Complete
 pub fn sof_as(iso: bool, p: Sof) -> Numbers
     ensures { λ r. ⌜ r ≡ sofAs iso p ⌝ }
 {
-    let now = flag_of(iso);
     match p {
-        Sof::Mis(e, m) => inner(2, now, e, m, 0),
-        Sof::St(e, m) => inner(3, now, e, m, 0),
+        Sof::Mis(e, m) => walked(2, iso, e, m),
+        Sof::St(e, m) => walked(3, iso, e, m),
         Sof::Completing(m, q) => complete_as(iso, m, q),
-        Sof::Callback => inner(4, now, 0, 0, 0),
+        Sof::Callback => walked(4, iso, 0, 0),
     }
 }
 
@@ -215,10 +208,9 @@ pub fn late_of(sub: u8, e: u8, m: u16) -> Late
 pub fn check_as(iso: bool, p: Check) -> Numbers
     ensures { λ r. ⌜ r ≡ checkAs iso p ⌝ }
 {
-    let now = flag_of(iso);
     match p {
-        Check::St(e, m) => inner(0, now, e, m, 0),
-        Check::Armed(e, m) => inner(1, now, e, m, 0),
+        Check::St(e, m) => walked(0, iso, e, m),
+        Check::Armed(e, m) => walked(1, iso, e, m),
     }
 }
 

@@ -4,7 +4,7 @@ use mathlib.Core.Bool.{Bool, true}
 use mathlib.Core.List.{List}
 use Prim.Native.Nat.{ℕ}
 use Rattle.regs.specs.declared.Reg.the-variants.{EpRxCtrl}
-use Rattle.regs.specs.Registers.{ctrlOf, widthOf, fitsIn}
+use Rattle.regs.specs.Registers.{ctrlOf, widthOf}
 use Rattle.regs.specs.ControlWord.{nak}
 use Rattle.regs.specs.Status.{endpoint}
 use Rattle.state.specs.Driver.{Driver}
@@ -14,6 +14,7 @@ use Rattle.model.specs.Script.{run, write}
 use Rattle.model.specs.Machine.{Awaits, nothing, reading, awaited}
 use Rattle.model_ops.specs.Rings.{St}
 use Rattle.model_ops.specs.Concrete.{concrete}
+use Rattle.model_points.specs.Numbers.{fits}
 use Rattle.irq_transfer.specs.declared.nak.Nak.{Nak}
 use Rattle.irq_transfer.specs.declared.nak.Nak.the-variants as nak-point
 use Rattle.irq_transfer.specs.declared.nak.NakNext.{NakNext}
@@ -35,6 +36,6 @@ abbrev pub Linked : NakNext → Type 0
 Linked (nak-next.Asks q p) = awaited q ≡ awaitsAt p
 Linked nak-next.Ends = Unit {0}
 
+-- row 16 turned round
 unfoldable pub fitsAt : Nak → ℕ → Bool
-fitsAt (nak-point.Word d) v = fitsIn v (widthOf EpRxCtrl)
-fitsAt nak-point.Wrote v = true
+fitsAt p v = fits (awaitsAt p) v

@@ -4,7 +4,7 @@ use mathlib.Core.Bool.{Bool, true}
 use mathlib.Core.List.{List}
 use Prim.Native.Nat.{ℕ}
 use Rattle.regs.specs.declared.Reg.the-variants.{IntFg, IntSt, MisSt, RxLen}
-use Rattle.regs.specs.Registers.{widthOf, fitsIn}
+use Rattle.regs.specs.Registers.{widthOf}
 use Rattle.regs.specs.MisStatus.{sieFree}
 use Rattle.regs.specs.Flags.{transfer}
 use Rattle.state.specs.Driver.{Driver}
@@ -16,6 +16,7 @@ use Rattle.model.specs.Machine.{Awaits, reading, awaited}
 use Rattle.model.specs.Handler.{nakNonIso, lateTaken, waited, retaken}
 use Rattle.model_ops.specs.Rings.{St}
 use Rattle.model_ops.specs.Concrete.{concrete}
+use Rattle.model_points.specs.Numbers.{fits}
 use Rattle.irq_transfer.specs.declared.settle.Settle.{Settle}
 use Rattle.irq_transfer.specs.declared.settle.Settle.the-variants as point
 use Rattle.irq_transfer.specs.declared.settle.SettleNext.{SettleNext}
@@ -89,13 +90,6 @@ abbrev pub Linked : SettleNext → Type 0
 Linked (next.Asks q p) = awaited q ≡ awaitsAt p
 Linked (next.Ends y) = Unit {0}
 
+-- row 16 turned round
 unfoldable pub fitsAt : Settle → ℕ → Bool
-fitsAt (point.IsoLook n) v = fitsIn v (widthOf MisSt)
-fitsAt point.IsoSt v = fitsIn v (widthOf IntSt)
-fitsAt (point.IsoLen now) v = fitsIn v (widthOf RxLen)
-fitsAt (point.BulkLook n) v = fitsIn v (widthOf MisSt)
-fitsAt point.BulkLen v = fitsIn v (widthOf RxLen)
-fitsAt point.Mis v = fitsIn v (widthOf MisSt)
-fitsAt point.Flags v = fitsIn v (widthOf IntFg)
-fitsAt point.St v = fitsIn v (widthOf IntSt)
-fitsAt (point.Nak st p) v = nak.fitsAt p v
+fitsAt p v = fits (awaitsAt p) v

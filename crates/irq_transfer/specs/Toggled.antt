@@ -5,7 +5,7 @@ use mathlib.Core.List.{List}
 use Prim.Native.Nat.{ℕ}
 use Rattle.regs.specs.declared.Reg.the-variants.{MisSt, EpRxCtrl}
 use Rattle.regs.specs.declared.Dir.{Dir}
-use Rattle.regs.specs.Registers.{ctrlOf, widthOf, fitsIn}
+use Rattle.regs.specs.Registers.{ctrlOf, widthOf}
 use Rattle.regs.specs.ControlWord.{ack}
 use Rattle.state.specs.Driver.{Driver}
 use Rattle.model.specs.Tree as tree
@@ -15,6 +15,7 @@ use Rattle.model.specs.Machine.{Awaits, nothing, reading, awaited}
 use Rattle.model.specs.Handler.{verdict}
 use Rattle.model_ops.specs.Rings.{St}
 use Rattle.model_ops.specs.Concrete.{concrete}
+use Rattle.model_points.specs.Numbers.{fits}
 use Rattle.irq_transfer.specs.declared.toggled.Toggled.{Toggled}
 use Rattle.irq_transfer.specs.declared.toggled.Toggled.the-variants as point
 use Rattle.irq_transfer.specs.declared.toggled.ToggledNext.{ToggledNext}
@@ -51,8 +52,6 @@ abbrev pub Linked : ToggledNext → Type 0
 Linked (next.Asks q p) = awaited q ≡ awaitsAt p
 Linked (next.Ends x) = Unit {0}
 
+-- row 16 turned round
 unfoldable pub fitsAt : Toggled → ℕ → Bool
-fitsAt (point.Look n) v = fitsIn v (widthOf MisSt)
-fitsAt point.Word v = fitsIn v (widthOf EpRxCtrl)
-fitsAt point.AckRead v = fitsIn v (widthOf EpRxCtrl)
-fitsAt point.Acked v = true
+fitsAt p v = fits (awaitsAt p) v

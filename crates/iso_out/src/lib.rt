@@ -128,16 +128,7 @@ pub fn iso_out_check(s: &mut State, buf: &mut [u8], x: Transfer, iso: bool) -> C
 {
     let g = load_globals(s);
     let mask = out_enabled(g.ep_config, g.iso_out_eps);
-    let f = find(s, buf, mask);
-    match f {
-        Found::At(e, rest) => {
-            if entry(x, iso, e) {
-                return arm(s, buf, e, rest, x.len);
-            }
-            CheckNext::Asks(Access::Read(Reg::IntSt, 0), Check::St(e, rest))
-        }
-        Found::Nothing => CheckNext::Ends,
-    }
+    walk_on(s, buf, x, iso, mask)
 }
 
 // A reading of a byte or less.

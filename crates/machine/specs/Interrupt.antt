@@ -42,7 +42,7 @@ over-fits-nak (point-of-nak.Word d) v = refl
 over-fits-nak point-of-nak.Wrote v = refl
 
 over-fits-settle : (p : Settle) (v : ℕ) → over calls (settle.awaitsAt p) v ≡ not (settle.fitsAt p v)
-unfolding settle.fitsAt
+unfolding settle.fitsAt nak.fitsAt
 over-fits-settle (point-of-settle.IsoLook n) v = refl
 over-fits-settle point-of-settle.IsoSt v = refl
 over-fits-settle (point-of-settle.IsoLen now) v = refl

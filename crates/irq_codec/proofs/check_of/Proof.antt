@@ -1,15 +1,12 @@
-use Rattle.irq_codec.specs.Codec.{checkOf}
 use borrow.Author.Tests.{eq-eqb, ne-eqb}
 use borrow.Author.Needs.{needs}
 use Rattle.irq_codec.proofs.check_of.Statement.{statement}
 use Rattle.irq_codec.proofs.check_of.Tie as tie
 
 returns : tie.Need-returns
-unfolding checkOf
 returns c = simp (eq-eqb _ _ (c .if1 .taken))
 
 returns-2 : tie.Need-returns-2
-unfolding checkOf
 returns-2 c = simp (ne-eqb _ _ (c .if1 .left))
 
 pub check-of-spec : {M : Type 1} → statement M

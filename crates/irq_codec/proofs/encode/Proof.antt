@@ -1,4 +1,3 @@
-use Rattle.irq_codec.specs.Codec.{encode}
 use borrow.Author.Needs.{needs}
 use Rattle.irq_codec.proofs.encode.Statement.{statement}
 use Rattle.irq_codec.proofs.encode.Tie as tie
@@ -250,107 +249,81 @@ bare-requires-5 : tie.Need-bare-requires-5
 bare-requires-5 c κs = search needs
 
 returns : tie.Need-returns
-unfolding encode
 returns c = simp (c .bare .ensures, c .before .enum-told .given .1)
 
 returns-2 : tie.Need-returns-2
-unfolding encode
 returns-2 c = simp (c .bare2 .ensures, c .before .enum-told2 .given .1)
 
 returns-3 : tie.Need-returns-3
-unfolding encode
 returns-3 c = simp (c .code .ensures, c .before .none .ensures, c .before .before .early .ensures, c .before .before .before .before .p .given .1)
 
 returns-4 : tie.Need-returns-4
-unfolding encode
 returns-4 c = simp (c .code2 .ensures, c .before .none2 .ensures, c .before .before .early2 .ensures, c .before .before .before .before .p2 .given .1)
 
 returns-5 : tie.Need-returns-5
-unfolding encode
 returns-5 c = simp (c .code3 .ensures, c .before .none3 .ensures, c .before .before .early3 .ensures, c .before .before .before .before .p3 .given .1)
 
 returns-6 : tie.Need-returns-6
-unfolding encode
 returns-6 c = simp (c .code4 .ensures, c .before .none4 .ensures, c .before .before .early4 .ensures, c .before .before .before .before .p4 .given .1)
 
 returns-7 : tie.Need-returns-7
-unfolding encode
 returns-7 c = simp (c .code5 .ensures, c .before .none5 .ensures, c .before .before .early5 .ensures, c .before .before .before .before .p5 .given .1)
 
 returns-8 : tie.Need-returns-8
-unfolding encode
 returns-8 c = simp (c .code6 .ensures, c .before .none6 .ensures, c .before .before .early6 .ensures, c .before .before .before .before .p6 .given .1)
 
 returns-9 : tie.Need-returns-9
-unfolding encode
 returns-9 c = simp (c .code7 .ensures, c .before .none7 .ensures, c .before .before .early7 .ensures, c .before .before .before .before .p7 .given .1)
 
 returns-10 : tie.Need-returns-10
-unfolding encode
 returns-10 c = simp (c .code8 .ensures, c .before .nak-as .ensures, c .before .before .before .p8 .given .1)
 
 returns-11 : tie.Need-returns-11
-unfolding encode
 returns-11 c = simp (c .code9 .ensures, c .before .none8 .ensures, c .before .before .before .p9 .given .1)
 
 returns-12 : tie.Need-returns-12
-unfolding encode
 returns-12 c = simp (c .code10 .ensures, c .before .settle-as .ensures, c .before .before .before .p10 .given .1)
 
 returns-13 : tie.Need-returns-13
-unfolding encode
 returns-13 c = simp (c .code11 .ensures, c .before .none9 .ensures, c .before .before .before .p11 .given .1)
 
 returns-14 : tie.Need-returns-14
-unfolding encode
 returns-14 c = simp (c .code12 .ensures, c .before .sof-as .ensures, c .before .before .before .p12 .given .1)
 
 returns-15 : tie.Need-returns-15
-unfolding encode
 returns-15 c = simp (c .code13 .ensures, c .before .late-as .ensures, c .before .before .before .p13 .given .1)
 
 returns-16 : tie.Need-returns-16
-unfolding encode
 returns-16 c = simp (c .code14 .ensures, c .before .sof-as2 .ensures, c .before .before .before .p14 .given .1)
 
 returns-17 : tie.Need-returns-17
-unfolding encode
 returns-17 c = simp (c .code15 .ensures, c .before .on-dir .ensures, c .before .before .before .p15 .given .1)
 
 returns-18 : tie.Need-returns-18
-unfolding encode
 returns-18 c = simp (c .code16 .ensures, c .before .on-dir2 .ensures, c .before .before .before .p16 .given .1)
 
 returns-19 : tie.Need-returns-19
-unfolding encode
 returns-19 c = simp (c .code17 .ensures, c .before .toggled-as .ensures, c .before .before .before .p17 .given .1)
 
 returns-20 : tie.Need-returns-20
-unfolding encode
 returns-20 c = simp (c .code18 .ensures, c .before .complete-as .ensures, c .before .before .before .p18 .given .1)
 
 returns-21 : tie.Need-returns-21
-unfolding encode
 returns-21 c = simp (c .code19 .ensures, c .before .check-as .ensures, c .before .before .before .p19 .given .1)
 
 returns-22 : tie.Need-returns-22
-unfolding encode
 returns-22 c = simp (c .code20 .ensures, c .before .on-dir3 .ensures, c .before .before .early8 .ensures, c .before .before .before .before .p20 .given .1)
 
 returns-23 : tie.Need-returns-23
-unfolding encode
 returns-23 c = simp (c .code21 .ensures, c .before .on-dir4 .ensures, c .before .before .early9 .ensures, c .before .before .before .before .p21 .given .1)
 
 returns-24 : tie.Need-returns-24
-unfolding encode
 returns-24 c = simp (c .bare3 .ensures, c .before .enum-told3 .given .1)
 
 returns-25 : tie.Need-returns-25
-unfolding encode
 returns-25 c = simp (c .bare4 .ensures, c .before .enum-told4 .given .1)
 
 returns-26 : tie.Need-returns-26
-unfolding encode
 returns-26 c = simp (c .bare5 .ensures, c .before .enum-told5 .given .1)
 
 pub encode-spec : {M : Type 1} → statement M

@@ -1,4 +1,3 @@
-use Rattle.irq_codec.specs.Codec.{lateAs}
 use borrow.Author.Needs.{needs}
 use Rattle.irq_codec.proofs.late_as.Statement.{statement}
 use Rattle.irq_codec.proofs.late_as.Tie as tie
@@ -7,7 +6,6 @@ complete-as-requires : tie.Need-complete-as-requires
 complete-as-requires c κs = search needs
 
 returns : tie.Need-returns
-unfolding lateAs
 returns c = simp (c .complete-as .ensures)
 
 pub late-as-spec : {M : Type 1} → statement M

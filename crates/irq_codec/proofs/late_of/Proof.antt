@@ -1,4 +1,3 @@
-use Rattle.irq_codec.specs.Codec.{lateOf}
 use borrow.Author.Needs.{needs}
 use Rattle.irq_codec.proofs.late_of.Statement.{statement}
 use Rattle.irq_codec.proofs.late_of.Tie as tie
@@ -7,7 +6,6 @@ complete-of-requires : tie.Need-complete-of-requires
 complete-of-requires c κs = search needs
 
 returns : tie.Need-returns
-unfolding lateOf
 returns c = simp (c .complete-of .ensures)
 
 pub late-of-spec : {M : Type 1} → statement M

@@ -1,4 +1,3 @@
-use Rattle.irq_codec.specs.Codec.{nakAs}
 use borrow.Author.Needs.{needs}
 use Rattle.irq_codec.proofs.nak_as.Statement.{statement}
 use Rattle.irq_codec.proofs.nak_as.Tie as tie
@@ -25,15 +24,12 @@ inner-requires-3 : tie.Need-inner-requires-3
 inner-requires-3 c κs = search needs
 
 returns : tie.Need-returns
-unfolding nakAs
 returns c = simp (c .inner .ensures, c .before .enum-told .given .1, c .before .before .before .before .p .given .1)
 
 returns-2 : tie.Need-returns-2
-unfolding nakAs
 returns-2 c = simp (c .inner2 .ensures, c .before .enum-told2 .given .1, c .before .before .before .before .p .given .1)
 
 returns-3 : tie.Need-returns-3
-unfolding nakAs
 returns-3 c = simp (c .inner3 .ensures, c .before .enum-told3 .given .1)
 
 pub nak-as-spec : {M : Type 1} → statement M

@@ -1,20 +1,16 @@
-use Rattle.irq_codec.specs.Codec.{nakOf}
 use borrow.Author.Tests.{ne-eqb}
 use borrow.Author.Needs.{needs}
 use Rattle.irq_codec.proofs.nak_of.Statement.{statement}
 use Rattle.irq_codec.proofs.nak_of.Tie as tie
 
 returns : tie.Need-returns
-unfolding nakOf
 returns c = simp (c .match .keys1)
 
 returns-2 : tie.Need-returns-2
-unfolding nakOf
 returns-2 c = simp (c .match .keys2)
 
 returns-3 : tie.Need-returns-3
-unfolding nakOf
-returns-3 c = simp (ne-eqb _ _ (c .match .rest .1), ne-eqb _ _ (c .match .rest .0 .1))
+returns-3 c = search (needs, ne-eqb)
 
 pub nak-of-spec : {M : Type 1} → statement M
 nak-of-spec = tie.close (tie.spec returns returns-2 returns-3)

@@ -1,4 +1,3 @@
-use Rattle.irq_codec.specs.Codec.{settleAs}
 use borrow.Author.Needs.{needs}
 use Rattle.irq_codec.proofs.settle_as.Statement.{statement}
 use Rattle.irq_codec.proofs.settle_as.Tie as tie
@@ -58,39 +57,30 @@ nak-as-requires : tie.Need-nak-as-requires
 nak-as-requires c κs = search needs
 
 returns : tie.Need-returns
-unfolding settleAs
 returns c = simp (c .inner .ensures, c .before .before .p .given .1)
 
 returns-2 : tie.Need-returns-2
-unfolding settleAs
 returns-2 c = simp (c .inner2 .ensures, c .before .enum-told .given .1)
 
 returns-3 : tie.Need-returns-3
-unfolding settleAs
 returns-3 c = simp (c .inner3 .ensures, c .before .before .p2 .given .1)
 
 returns-4 : tie.Need-returns-4
-unfolding settleAs
 returns-4 c = simp (c .inner4 .ensures, c .before .before .p3 .given .1)
 
 returns-5 : tie.Need-returns-5
-unfolding settleAs
 returns-5 c = simp (c .inner5 .ensures, c .before .enum-told2 .given .1)
 
 returns-6 : tie.Need-returns-6
-unfolding settleAs
 returns-6 c = simp (c .inner6 .ensures, c .before .enum-told3 .given .1)
 
 returns-7 : tie.Need-returns-7
-unfolding settleAs
 returns-7 c = simp (c .inner7 .ensures, c .before .enum-told4 .given .1)
 
 returns-8 : tie.Need-returns-8
-unfolding settleAs
 returns-8 c = simp (c .inner8 .ensures, c .before .enum-told5 .given .1)
 
 returns-9 : tie.Need-returns-9
-unfolding settleAs
 returns-9 c = simp (c .nak-as .ensures, c .before .before .p4 .given .1)
 
 pub settle-as-spec : {M : Type 1} → statement M

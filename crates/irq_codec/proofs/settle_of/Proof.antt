@@ -1,4 +1,3 @@
-use Rattle.irq_codec.specs.Codec.{settleOf}
 use borrow.Author.Tests.{ne-eqb}
 use borrow.Author.Needs.{needs}
 use Rattle.irq_codec.proofs.settle_of.Statement.{statement}
@@ -8,50 +7,31 @@ nak-of-requires : tie.Need-nak-of-requires
 nak-of-requires c κs = search needs
 
 returns : tie.Need-returns
-unfolding settleOf
 returns c = simp (c .match .keys1)
 
 returns-2 : tie.Need-returns-2
-unfolding settleOf
 returns-2 c = simp (c .match .keys2)
 
 returns-3 : tie.Need-returns-3
-unfolding settleOf
 returns-3 c = simp (c .match .keys3)
 
 returns-4 : tie.Need-returns-4
-unfolding settleOf
 returns-4 c = simp (c .match .keys4)
 
 returns-5 : tie.Need-returns-5
-unfolding settleOf
 returns-5 c = simp (c .match .keys5)
 
 returns-6 : tie.Need-returns-6
-unfolding settleOf
 returns-6 c = simp (c .match .keys6)
 
 returns-7 : tie.Need-returns-7
-unfolding settleOf
 returns-7 c = simp (c .match .keys7)
 
 returns-8 : tie.Need-returns-8
-unfolding settleOf
 returns-8 c = simp (c .match .keys8)
 
 returns-9 : tie.Need-returns-9
-unfolding settleOf
-returns-9 c = simp (
-  c .nak-of .ensures,
-  ne-eqb _ _ (c .before .match .rest .1),
-  ne-eqb _ _ (c .before .match .rest .0 .1),
-  ne-eqb _ _ (c .before .match .rest .0 .0 .1),
-  ne-eqb _ _ (c .before .match .rest .0 .0 .0 .1),
-  ne-eqb _ _ (c .before .match .rest .0 .0 .0 .0 .1),
-  ne-eqb _ _ (c .before .match .rest .0 .0 .0 .0 .0 .1),
-  ne-eqb _ _ (c .before .match .rest .0 .0 .0 .0 .0 .0 .1),
-  ne-eqb _ _ (c .before .match .rest .0 .0 .0 .0 .0 .0 .0 .1),
-)
+returns-9 c = search (needs, ne-eqb)
 
 pub settle-of-spec : {M : Type 1} → statement M
 settle-of-spec = tie.close (tie.spec nak-of-requires returns returns-2 returns-3 returns-4 returns-5 returns-6 returns-7 returns-8 returns-9)

@@ -1,4 +1,3 @@
-use Rattle.irq_codec.specs.Codec.{sofOf}
 use borrow.Author.Tests.{ne-eqb}
 use borrow.Author.Needs.{needs}
 use Rattle.irq_codec.proofs.sof_of.Statement.{statement}
@@ -8,25 +7,16 @@ complete-of-requires : tie.Need-complete-of-requires
 complete-of-requires c κs = search needs
 
 returns : tie.Need-returns
-unfolding sofOf
 returns c = simp (c .match .keys1)
 
 returns-2 : tie.Need-returns-2
-unfolding sofOf
 returns-2 c = simp (c .match .keys2)
 
 returns-3 : tie.Need-returns-3
-unfolding sofOf
 returns-3 c = simp (c .match .keys3)
 
 returns-4 : tie.Need-returns-4
-unfolding sofOf
-returns-4 c = simp (
-  c .complete-of .ensures,
-  ne-eqb _ _ (c .before .match .rest .1),
-  ne-eqb _ _ (c .before .match .rest .0 .1),
-  ne-eqb _ _ (c .before .match .rest .0 .0 .1),
-)
+returns-4 c = search (needs, ne-eqb)
 
 pub sof-of-spec : {M : Type 1} → statement M
 sof-of-spec = tie.close (tie.spec complete-of-requires returns returns-2 returns-3 returns-4)

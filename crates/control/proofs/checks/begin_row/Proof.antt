@@ -1,5 +1,6 @@
-use borrow.Author.Tests.{lt-ltb, le-ltb}
+use borrow.Author.Tests.{lt-ltb}
 use Rattle.control.specs.Rows.{beginRow}
+use Rattle.control.proofs.Laws.{row-within}
 use borrow.Author.Needs.{needs}
 use Rattle.control.proofs.checks.begin_row.Statement.{statement}
 use Rattle.control.proofs.checks.begin_row.Tie as tie
@@ -15,27 +16,17 @@ cast-if2 : tie.Need-cast-if2
 cast-if2 c = search needs
 
 returns-2 : tie.Need-returns-2
-unfolding beginRow
-returns-2 c = simp (
-  c .if3 .taken,
-  ← c .before .is-on .ensures,
-  le-ltb _ _ (c .before .before .if2 .left),
-  c .before .before .before .before .if1 .taken,
-  ← c .before .before .before .before .before .is-started .ensures,
-)
+returns-2 c =
+    row-within _ _ (c .before .before .before .before .before .is-started .ensures) (c .before .before .before .before .if1 .taken)
+    (c .before .before .if2 .left) (c .before .is-on .ensures) (c .if3 .taken)
 
 is-on-requires : tie.Need-is-on-requires
 is-on-requires c κs = search needs
 
 returns-3 : tie.Need-returns-3
-unfolding beginRow
-returns-3 c = simp (
-  c .if3 .left,
-  ← c .before .is-on .ensures,
-  le-ltb _ _ (c .before .before .if2 .left),
-  c .before .before .before .before .if1 .taken,
-  ← c .before .before .before .before .before .is-started .ensures,
-)
+returns-3 c =
+    row-within _ _ (c .before .before .before .before .before .is-started .ensures) (c .before .before .before .before .if1 .taken)
+    (c .before .before .if2 .left) (c .before .is-on .ensures) (c .if3 .left)
 
 returns-4 : tie.Need-returns-4
 unfolding beginRow

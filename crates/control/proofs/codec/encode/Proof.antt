@@ -1,4 +1,3 @@
-use Rattle.control.specs.Codec.{encode}
 use borrow.Author.Needs.{needs}
 use Rattle.control.proofs.codec.encode.Statement.{statement}
 use Rattle.control.proofs.codec.encode.Tie as tie
@@ -72,39 +71,30 @@ code-requires-9 : tie.Need-code-requires-9
 code-requires-9 c κs = search needs
 
 returns : tie.Need-returns
-unfolding encode
 returns c = simp (c .code .ensures, c .before .enum-told .given .1)
 
 returns-2 : tie.Need-returns-2
-unfolding encode
 returns-2 c = simp (c .code2 .ensures, c .before .dir-as .ensures, c .before .before .before .p .given .1)
 
 returns-3 : tie.Need-returns-3
-unfolding encode
 returns-3 c = simp (c .code3 .ensures, c .before .enum-told2 .given .1)
 
 returns-4 : tie.Need-returns-4
-unfolding encode
 returns-4 c = simp (c .code4 .ensures, c .before .enum-told3 .given .1)
 
 returns-5 : tie.Need-returns-5
-unfolding encode
 returns-5 c = simp (c .code5 .ensures, c .before .enum-told4 .given .1)
 
 returns-6 : tie.Need-returns-6
-unfolding encode
 returns-6 c = simp (c .code6 .ensures, c .before .enum-told5 .given .1)
 
 returns-7 : tie.Need-returns-7
-unfolding encode
 returns-7 c = simp (c .code7 .ensures, c .before .enum-told6 .given .1)
 
 returns-8 : tie.Need-returns-8
-unfolding encode
 returns-8 c = simp (c .code8 .ensures, c .before .flag-of .ensures, c .before .before .before .p2 .given .1)
 
 returns-9 : tie.Need-returns-9
-unfolding encode
 returns-9 c = simp (c .code9 .ensures, c .before .flag-of2 .ensures, c .before .before .before .p3 .given .1)
 
 pub encode-spec : {M : Type 1} → statement M

@@ -2,6 +2,7 @@ use Rattle.model.specs.Handler.{retaken}
 use Rattle.model.specs.Tree.{ends}
 use Rattle.model.specs.declared.Transfer.{Transfer}
 use Rattle.irq_transfer.specs.Laws.{nak-asks, nak-ends, nak-linked}
+use Rattle.irq_transfer.specs.Nak as nak
 use Rattle.irq_transfer.specs.Settle.{fitsAt}
 use mathlib.Core.Path.{_∙_, ap}
 use borrow.Author.Needs.{needs}
@@ -11,7 +12,7 @@ use Rattle.irq_transfer.proofs.settle.after_nak.Reads as reads
 use Rattle.irq_transfer.proofs.settle.after_nak.Lts as lts
 
 nak-non-iso-resume-requires : tie.Need-nak-non-iso-resume-requires
-unfolding fitsAt
+unfolding fitsAt nak.fitsAt
 nak-non-iso-resume-requires c κs = c .pre
 
 enum-known-n : tie.Need-enum-known-n

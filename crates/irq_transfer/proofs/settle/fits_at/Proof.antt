@@ -1,3 +1,4 @@
+use Rattle.irq_transfer.specs.Nak as nak
 use Rattle.irq_transfer.specs.Settle.{fitsAt}
 use Rattle.irq_transfer.specs.declared.settle.Settle.{Settle}
 use Rattle.irq_transfer.specs.declared.settle.Settle.the-variants as point
@@ -93,7 +94,7 @@ unfolding fitsAt
 returns-4 c = simp (c .fits5 .ensures, c .before .enum-told .given .1)
 
 returns-5 : tie.Need-returns-5
-unfolding fitsAt
+unfolding fitsAt nak.fitsAt
 returns-5 c = simp (c .fits-at .ensures, c .before .before .p .given .1)
 
 pub fits-at-spec : {M : Type 1} → statement M

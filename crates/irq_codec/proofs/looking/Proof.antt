@@ -1,6 +1,6 @@
 use borrow.Author.Needs.{needs}
-use Rattle.irq_codec.proofs.on_dir.Statement.{statement}
-use Rattle.irq_codec.proofs.on_dir.Tie as tie
+use Rattle.irq_codec.proofs.looking.Statement.{statement}
+use Rattle.irq_codec.proofs.looking.Tie as tie
 
 flag-of-requires : tie.Need-flag-of-requires
 flag-of-requires c κs = search needs
@@ -14,5 +14,5 @@ inner-requires c κs = search needs
 returns : tie.Need-returns
 returns c = simp (c .inner .ensures, c .before .dir-as .ensures, c .before .before .flag-of .ensures)
 
-pub on-dir-spec : {M : Type 1} → statement M
-on-dir-spec = tie.close (tie.spec flag-of-requires dir-as-requires inner-requires returns)
+pub looking-spec : {M : Type 1} → statement M
+looking-spec = tie.close (tie.spec flag-of-requires dir-as-requires inner-requires returns)

@@ -1,6 +1,6 @@
 use borrow.Author.Needs.{needs}
-use Rattle.irq_codec.proofs.none.Statement.{statement}
-use Rattle.irq_codec.proofs.none.Tie as tie
+use Rattle.irq_codec.proofs.walked.Statement.{statement}
+use Rattle.irq_codec.proofs.walked.Tie as tie
 
 flag-of-requires : tie.Need-flag-of-requires
 flag-of-requires c κs = search needs
@@ -11,5 +11,5 @@ inner-requires c κs = search needs
 returns : tie.Need-returns
 returns c = simp (c .inner .ensures, c .before .flag-of .ensures)
 
-pub none-spec : {M : Type 1} → statement M
-none-spec = tie.close (tie.spec flag-of-requires inner-requires returns)
+pub walked-spec : {M : Type 1} → statement M
+walked-spec = tie.close (tie.spec flag-of-requires inner-requires returns)
