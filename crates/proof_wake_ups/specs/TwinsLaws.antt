@@ -79,13 +79,13 @@ grows-of : (c : Bool) {l x : List ℕ} {n : ℕ} → length l + n < 64 → Grown
 grows-of false h g = g
 grows-of true h g = omega (arith, h, grown-length g)
 
-grows-le : (c : Bool) {l x : List ℕ} {m n : ℕ} → m ≤ n → Grows c l m x → Grows c l n x
-grows-le false h g = grown-le h g
-grows-le true h g = g
+grows-le : (c : Bool) (l x : List ℕ) {m n : ℕ} → m ≤ n → Grows c l m x → Grows c l n x
+grows-le false l x h g = grown-le h g
+grows-le true l x h g = g
 
-grows-then : (c : Bool) {l x y : List ℕ} {m n : ℕ} → Grown l m x → Grows c x n y → Grows c l (m + n) y
-grows-then false g h = grown-then g h
-grows-then true g h = h
+grows-then : (c : Bool) (n : ℕ) (y : List ℕ) {l x : List ℕ} {m : ℕ} → Grown l m x → Grows c x n y → Grows c l (m + n) y
+grows-then false n y g h = grown-then g h
+grows-then true n y g h = h
 
 fits-by : (h : Heard) (d : Driver) → Quiet (h .0) d → Fits h → Fits (d, h .1)
 fits-by h d q f = record { room = rw q (f .room); list = ap listed q ∙ f .list }
@@ -106,15 +106,15 @@ recorded-other (allocate d kind address maximum interval) h l = refl
 recorded-other (allocate0 maximum) h l = refl
 
 -- a record of the same length
-grows-from : (c : Bool) {l x : List ℕ} {n : ℕ} → x ≡ l → (y : List ℕ) → Grows c x n y → Grows c l n y
-grows-from c {n = n} e y g = subst (λ (z : List ℕ). Grows c z n y) e g
+grows-from : (c : Bool) (n : ℕ) {l x : List ℕ} → x ≡ l → (y : List ℕ) → Grows c x n y → Grows c l n y
+grows-from c n e y g = subst (λ (z : List ℕ). Grows c z n y) e g
 
 -- an access, after which the rest goes on
 asked : {A : Type 0} (c : Bool) (n : ℕ) {q : Access} {k : ℕ → St → tree.Out St A} {k′ : ℕ → Hst → tree.Out Hst A} (t : Hst) → Fits (t .0)
     → length (t .0 .1) + n < 64
     → ((v : ℕ) (u : Hst) → Fits (u .0) → length (u .0 .1) + n < 64 → Twin (Grows c (u .0 .1) n) (k v (bare u)) (k′ v u))
     → Twin (Grows c (t .0 .1) n) (asks q (bare t) k) (asks q t k′)
-asked c n t f r x = ask t f (grows-of c r (grown-none _ n)) (λ v u g e. twin-more (x v u g (omega (arith, r, ap length e))) (grows-from c e))
+asked c n t f r x = ask t f (grows-of c r (grown-none _ n)) (λ v u g e. twin-more (x v u g (omega (arith, r, ap length e))) (grows-from c n e))
 
 rows-twin : {A : Type 0} (c : Bool) (g : Burst) (n m : ℕ) {p : Script false A} → Wakes≤ c m p → (t : Hst) → Fits (t .0) → length (t .0 .1) + m < 64
     → Twin (Grows c (t .0 .1) m) (rows concrete g n (λ s. run concrete p s) (bare t)) (rows heardOps g n (λ u. run heardOps p u) t)
@@ -141,7 +141,7 @@ changed c n q h x = record {
       twin-more
       (x .on ((concrete .act q (bare t) .0, recorded q (t .0 .1)), concrete .act q (bare t) .1)
       (subst (λ (l : List ℕ). Fits (concrete .act q (bare t) .0, l)) (sym e) (fits-by (t .0) _ (act-still q h (bare t)) f)) (omega (arith, r, ap length e)))
-      (grows-from c e);
+      (grows-from c n e);
 }
 
 -- wake-ups, which count
@@ -154,7 +154,7 @@ waking c n cs x = record {
       (x .on ((withWakes (t .0 .0) (all-woken cs w), t .0 .1 ++ cs), t .1)
       (record { room = all-room cs w (f .room) h; list = all-listed cs w (f .room) h ∙ ap (λ (l : List ℕ). l ++ cs) (f .list) })
       (omega (arith, r, length-append (t .0 .1) cs)))
-      (λ l g. grows-then c (record { more = cs; by = refl; few = omega arith }) g);
+      (λ y g. grows-then c n y (record { more = cs; by = refl; few = omega arith }) g);
 }
 
 -- an operation begins without wake-ups
@@ -167,11 +167,11 @@ beginning m n h x = record {
 }
 
 pub wakes-of : {i c : Bool} {A : Type 0} {r w : ℕ} {p : Script i A} → Spends c r w p → Wakes≤ c w p
-wakes-of {c = c} (raised x h k) = record { on = λ t f r. twin-more (wakes-of x .on t f (omega (arith, k, r))) (λ l g. grows-le c k g) }
+wakes-of {c = c} (raised x h k) = record { on = λ t f r. twin-more (wakes-of x .on t f (omega (arith, k, r))) (λ y g. grows-le c (t .0 .1) y k g) }
 wakes-of {c = c} {w = w} ret = record { on = λ t f r. end t f (grows-of c r (grown-none (t .0 .1) w)) }
 wakes-of {c = c} (bind m n k l x y) = record {
   on = λ t f r. twin-bind _ _ (wakes-of x .on t f (omega (arith, r))) (λ _ g. grows-of c r (grown-le (omega arith) g))
-      (λ a u h g. twin-more (wakes-of (y a) .on u h (omega (arith, r, grown-length g))) (λ _ z. grows-then c g z));
+      (λ a u h g. twin-more (wakes-of (y a) .on u h (omega (arith, r, grown-length g))) (λ x z. grows-then c l x g z));
 }
 wakes-of (either {b = true} x y) = record { on = λ t f r. wakes-of x .on t f r }
 wakes-of (either {b = false} x y) = record { on = λ t f r. wakes-of y .on t f r }
