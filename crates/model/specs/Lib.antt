@@ -17,6 +17,11 @@ pub mod Driver
 pub mod AllocateAll
 pub mod Calls
 pub mod Readings
+pub mod ReadingsMost
+pub mod Spends
+pub mod SpendsLaws
+pub mod SpendsInterrupt
+pub mod SpendsCalls
 pub mod ReadingsLaws
 pub mod ReadingsInterrupt
 pub mod ReadingsCalls

@@ -10,12 +10,13 @@ use Rattle.regs.specs.Enables.{inEnabled, outEnabled}
 use Rattle.regs.specs.Status.{endpoint, tokenNumbered, token, isOut, isSof, isIn}
 use Rattle.regs.specs.declared.Dir.{Dir}
 use Rattle.state.specs.declared.Globals.{Globals}
-use Rattle.state.specs.Fresh.{freshAllocator}
+use Rattle.state.specs.Fresh.{freshGlobals, freshAllocator}
+use Rattle.state.specs.Kept.{withSettings}
 use Rattle.model.specs.Cells.{Cell, Val, EpCore, globals-cell, control-cell, allocator-cell, ep-cell, request-cell, paced-cell}
 use Rattle.model.specs.Script.{Ops, run}
 use Rattle.frame.specs.Usb20.{frameNumber, microframe, indexOf, frameOf}
 use Rattle.frame.specs.Advance.{isNone, previous, inPrevious}
-use Rattle.model.specs.Statics.{isOn, flag, isoInEvery, isoOuts}
+use Rattle.model.specs.Statics.{isOn, flag, withPower, withSofFrame, isoInEvery, isoOuts}
 use Rattle.model.specs.IsoIn.{sofWalk, lateWalk, leaving}
 use Rattle.model.specs.IsoOut.{arriving, entry, checkWalk}
 use Rattle.model.specs.Handler.{looks, outNaks, inNaks, repeated, sameOut, waitsForIso, waitsForBulk, isoFor, ownIn}
@@ -30,24 +31,7 @@ abbrev pub plain : Bool → EpCore
 plain iso = record { ready = 0; len = 0; armed = 1; «last_frame» = 0x1800; tog = 0; iso = flag iso; kind = 0; base = 0; «max_len» = 64 }
 
 abbrev globals : ℕ → ℕ → Globals
-globals outs ins = record {
-  stage = 2;
-  callback = 0;
-  power = 1;
-  «setup_ready» = 0;
-  «setup_low» = 0;
-  «setup_high» = 0;
-  «int_en» = 0;
-  «ep_config» = 0xFFFFFFFF;
-  «ep_type» = 0;
-  «iso_out_eps» = outs;
-  «iso_in_every» = ins;
-  «iso_in_paced» = 0;
-  «sof_frame» = 7;
-  «ep0_buf» = 0;
-  «ep0_max» = 64;
-  entered = 0;
-}
+globals outs ins = withPower 1 (withSofFrame 7 (withSettings (freshGlobals 0) 2 0xFFFFFFFF outs ins 0 64))
 
 -- by the two sets of isochronous endpoints, and by which endpoints' records say so
 abbrev pub cells : ℕ → ℕ → (Dir → ℕ → Bool) → (c : Cell) → Val c

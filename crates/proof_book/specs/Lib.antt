@@ -16,6 +16,7 @@ pub mod TransferKinds
 pub mod Served
 pub mod CodeReadings
 pub mod Continues
+pub mod Computing
 pub mod StampsLaws
 pub mod KeptLaws
 pub mod CellsLaws

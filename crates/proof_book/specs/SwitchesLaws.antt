@@ -249,18 +249,7 @@ module _ {φ : Phase} {b : Buf} {d : Driver} {t : Pages}
       let u = isSet (isoOuts (d .globals)) (e % 16) in
       let a = rest u (R .arming e) in
       out-changed R e (slotTold (t .outs e) (r .«armed_slot»)) (changed-not (R .sized) Out e) (R .same) refl (λ k h. refl)
-      (record {
-        held = f .held;
-        stamps = f .stamps;
-        opened = f .opened;
-        shows = f .shows;
-        lost = f .lost;
-        slot = refl;
-        from = subst (λ y. r .base ≤ y) (sym (f .slot)) (f .from);
-        upto = subst (λ y. y + r .stride ≤ endOf r) (sym (f .slot)) (f .upto);
-        ledger = f .ledger;
-        short = f .short;
-      })
+      (subst (λ y. OutFits b r (lensOf d Out e) (slotStamps d e) (slotTold (t .outs e) y)) (sym (f .slot)) f)
       step others
       (plain-in e onn n e u r (slotTold (t .outs e) (r .«armed_slot»)) i (record { armed = λ q. f .slot ∙ a .armed q; none = a .none }))
 

@@ -1,3 +1,2 @@
 pub mod Inputs
-pub mod Computing
 pub mod Witness

@@ -18,7 +18,7 @@ use Rattle.proof_book.specs.FrontPage.{written}
 use Rattle.proof_book.specs.MachineRuns.{Premise, AfterEvents}
 use Rattle.proof_book.specs.FrontPageLaws.{machine-demand-3}
 use Rattle.proof_book_witness.specs.Inputs.{Input, eventOf, eventsOf, lawful}
-use Rattle.proof_book_witness.specs.Computing.{computing}
+use Rattle.proof_book.specs.Computing.{computing}
 
 -- ---- what is done
 

@@ -14,7 +14,7 @@ use Rattle.state.specs.Driver.{Driver, key}
 use Rattle.model.specs.Statics.{flag}
 use Rattle.model.specs.Answers.{Answer}
 use Rattle.model.specs.Machine.{go, overruns, Way, idle, busy}
-use Rattle.proof_book_witness.specs.Computing.{computing}
+use Rattle.proof_book.specs.Computing.{computing}
 use Rattle.proof_isolation.specs.EqualExcept.{Channel}
 use Rattle.proof_isolation.specs.Whose.{own}
 use Rattle.proof_isolation.specs.Schedule.{Run, Two, wide, atOwn}

@@ -23,7 +23,7 @@ use Rattle.model.specs.Calls.{Config, Op, slotted, other, SetEnabled, Allocate,
 use Rattle.model.specs.Machine.{Buf, Call, begin, go, Ans, ended, handed, told, idle}
 use Rattle.machine.specs.Suspended.{driverOf}
 use Rattle.proof_book.specs.FrontPage.{lensOf}
-use Rattle.proof_book_witness.specs.Computing.{computing}
+use Rattle.proof_book.specs.Computing.{computing}
 use Rattle.proof_isolation.specs.Schedule.{Run, Two, after}
 use Rattle.proof_isolation.specs.Undisturbed.{Session, opened, AllOpen, Undisturbed}
 use Rattle.proof_isolation.specs.UndisturbedLaws.{undisturbed}

@@ -19,7 +19,7 @@ use Rattle.req_bus_time.specs.Time.{uncharged, inUse, entryOf, passes}
 use Rattle.call_bus_time.specs.Sharing as sharing
 use Rattle.call_bus_time.specs.Sharing.{isHanded, chargeOn}
 use Rattle.call_bus_time.specs.SharingLaws.{refuses}
-use Rattle.proof_book_witness.specs.Computing.{computing}
+use Rattle.proof_book.specs.Computing.{computing}
 use Rattle.proof_book_witness.specs.Inputs.{Input}
 use Rattle.proof_book_witness.specs.Witness.{config, buffer, driver, pages, accepted, told, allocated, does}
 use Rattle.proof_book_witness.specs.Witness.{continues, arrivals, lateArrival, asks, noting}

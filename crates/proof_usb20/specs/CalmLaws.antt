@@ -19,7 +19,7 @@ use Rattle.state.specs.declared.Control.{Control}
 use Rattle.state.specs.Kept.{withIntEn}
 use Rattle.state.specs.Wakes.{Wakes, wakeCode, busCode, listed}
 use Rattle.state.specs.WakesLaws.{Room}
-use Rattle.proof_wake_ups.specs.Still.{Other, put-still, act-still, hand-still}
+use Rattle.proof_wake_ups.specs.Still.{put-still, act-still, hand-still}
 use Rattle.state.specs.Driver.{Driver, key, noEp, epOn, withOn, withRequestOn, withPacedOn}
 use Rattle.model.specs.Tree as tree
 use Rattle.model.specs.Cells.{EpCore, Cell, Val, ep-cell, globals-cell, control-cell, request-cell, paced-cell}
@@ -28,6 +28,7 @@ use Rattle.model.specs.Script.{put-then, is-then, look-then, fetch-then, act-th
 use Rattle.model.specs.Script.{Act, complete, reset-ring, set-enabled, fill, fill0, open-oldest, close-oldest}
 use Rattle.model.specs.Script.{take-oldest, enqueue, allocate, allocate0, waken, DmaStep, dmaStepAsk, arrive, send}
 use Rattle.model.specs.Script.{place, place0}
+use Rattle.model.specs.Spends.{Other}
 use Rattle.model.specs.TransferKinds.{allocates}
 use Rattle.model.specs.SortsWalks.{among-ins, among-outs}
 use Rattle.model.specs.Every.{sameReg}

@@ -29,6 +29,7 @@ use Rattle.proof_usb20.specs.RunsLaws.{Laws, Ups, from-start}
 use Rattle.proof_usb20.specs.BesidesLaws.{aside-wakes}
 use Rattle.proof_book.specs.Code.{Made}
 use Rattle.proof_book.specs.CodeReadings.{Steps}
+use Rattle.proof_book.specs.Computing.{computing}
 use Rattle.proof_usb20.specs.CodeRuns.{left, CodeReads, CodeMeaning, CodeAll}
 use Rattle.proof_usb20.specs.CodeRunsLaws.{code-from-start}
 use Rattle.proof_usb20.specs.StagesLaws.{law-data-out, law-data-in, law-accept, law-accept-address, law-reject, law-setup}
@@ -49,27 +50,6 @@ use Rattle.model.specs.Machine.{Call, begin, go, Ans, ended, idle}
 use Rattle.machine.specs.Suspended.{drive}
 use Prim.Native.Nat.{suc}
 use Rattle.proof_usb20.specs.Observer.{Watched, Under, at-rest, doing, starting, serves, noted}
-use Rattle.alloc.specs.Alloc as alloc-alloc
-use Rattle.alloc.specs.Buffer as alloc-buffer
-use Rattle.bits.specs.Bit as bits-bit
-use Rattle.bits.specs.Walk as bits-walk
-use Rattle.frame.specs.Usb20 as frame-usb20
-use Rattle.marks.specs.Copies as marks-copies
-use Rattle.model_ops.specs.Records as ops-records
-use Rattle.model_ops.specs.Rings as ops-rings
-use Rattle.regs.specs.ControlWord as regs-controlword
-use Rattle.regs.specs.Enables as regs-enables
-use Rattle.regs.specs.Registers as regs-registers
-use Rattle.regs.specs.Status as regs-status
-use Rattle.model.specs.Calls as script-calls
-use Rattle.model.specs.Control as script-control
-use Rattle.model.specs.Handler as script-handler
-use Rattle.model.specs.IsoIn as script-isoin
-use Rattle.model.specs.IsoOut as script-isoout
-use Rattle.model.specs.Statics as script-statics
-use Rattle.state.specs.Driver as state-driver
-use Rattle.state.specs.Fresh as state-fresh
-use Rattle.state.specs.Wakes as state-wakes
 use Rattle.proof_usb20.specs.ControlStages.{control}
 
 of-slotted : (o : Slotted) → Law (slotted o)
@@ -269,20 +249,7 @@ answerOf set-address = ended (End 0 [])
 
 -- never exempt, and its last poll is done; a setup's gives the bytes of EP0's slot
 pub ordinary-run : (t : Transfer) → (exempts (steps t) up ≡ none-of (steps t)) × (last (steps t) up ≡ answerOf t)
-unfolding alloc-alloc.allocateEp0Of alloc-alloc.withNext alloc-alloc.taken alloc-alloc.slotsOf
-    alloc-buffer.goodBuffer alloc-buffer.goodSize alloc-buffer.fits bits-bit.isSet bits-bit.withBit
-    bits-walk.bitsFrom frame-usb20.indexOf frame-usb20.microframe frame-usb20.frameNumber frame-usb20.frameOf
-    marks-copies.copied ops-records.allocatedEp0 ops-records.startedWith ops-rings.wordAt ops-rings.filledEp0
-    ops-rings.placeOn regs-controlword.status regs-controlword.withToggle regs-controlword.toggle
-    regs-controlword.ack regs-controlword.withResponse regs-controlword.response regs-controlword.wordOf
-    regs-controlword.nakflip regs-controlword.nak regs-controlword.flip regs-enables.isOn regs-enables.inEnabled regs-enables.outEnabled
-    regs-registers.fitsIn regs-status.isIn regs-status.token regs-status.tokenNumbered
-    regs-status.endpoint regs-status.isOut regs-status.isSof script-calls.startRow script-control.setupBytes
-    script-handler.ownIn script-handler.looks script-handler.isoFor script-handler.inNaks script-handler.outNaks
-    script-handler.waitsForBulk script-handler.sameOut script-handler.waitsForIso script-isoin.sofWalk
-    script-isoin.lateWalk script-isoout.checkWalk script-statics.isOn script-statics.isoOuts
-    script-statics.isoInEvery state-driver.epOn state-driver.key state-driver.withOn state-fresh.freshDriver
-    state-fresh.noStamps state-fresh.filled state-wakes.woken state-wakes.listed state-wakes.wakeCode
+unfolding computing
 ordinary-run setup-alone = (refl, refl)
 ordinary-run control-read = (refl, refl)
 ordinary-run control-write = (refl, refl)

@@ -56,64 +56,35 @@ pub record Log : Type 0 where
   pub setup-seen : Bool
   pub wrote : Setting  -- the address that the call under way wrote to dev_ad, or none
 
-abbrev pub before : Log
-before = record {
-  rx = 0;
-  tx = 0;
-  len = 0;
-  pipe = record { out = renewed; inn = renewed; size = 0 };
-  awaits = nothing;
-  untaken = false;
-  exempt = true;
-  phase = off;
-  setup-seen = false;
-  wrote = keeps;
-}
-
--- EP0's words
-abbrev pub withWords : ℕ → ℕ → ℕ → Log → Log
-withWords rx tx n w = record {
+-- by its parts, in their order
+abbrev logOf : ℕ → ℕ → ℕ → Pipe → Awaited → Bool → Bool → Phase → Bool → Setting → Log
+logOf rx tx n p a untaken exempt phase seen setting = record {
   rx = rx;
   tx = tx;
   len = n;
-  pipe = w .pipe;
-  awaits = w .awaits;
-  untaken = w .untaken;
-  exempt = w .exempt;
-  phase = w .phase;
-  setup-seen = w .setup-seen;
-  wrote = w .wrote;
-}
-
--- the pipe, what is waited for, whether a setup packet is untaken, and whether the log is exempt
-abbrev pub withPipe : Pipe → Awaited → Bool → Bool → Log → Log
-withPipe p a untaken exempt w = record {
-  rx = w .rx;
-  tx = w .tx;
-  len = w .len;
   pipe = p;
   awaits = a;
   untaken = untaken;
   exempt = exempt;
-  phase = w .phase;
-  setup-seen = w .setup-seen;
-  wrote = w .wrote;
+  phase = phase;
+  setup-seen = seen;
+  wrote = setting;
 }
+
+abbrev pub before : Log
+before = logOf 0 0 0 (record { out = renewed; inn = renewed; size = 0 }) nothing false true off false keeps
+
+-- EP0's words
+abbrev pub withWords : ℕ → ℕ → ℕ → Log → Log
+withWords rx tx n w = logOf rx tx n (w .pipe) (w .awaits) (w .untaken) (w .exempt) (w .phase) (w .setup-seen) (w .wrote)
+
+-- the pipe, what is waited for, whether a setup packet is untaken, and whether the log is exempt
+abbrev pub withPipe : Pipe → Awaited → Bool → Bool → Log → Log
+withPipe p a untaken exempt w = logOf (w .rx) (w .tx) (w .len) p a untaken exempt (w .phase) (w .setup-seen) (w .wrote)
 
 -- what was seen of the call under way
 abbrev pub withSight : Phase → Bool → Setting → Log → Log
-withSight p s a w = record {
-  rx = w .rx;
-  tx = w .tx;
-  len = w .len;
-  pipe = w .pipe;
-  awaits = w .awaits;
-  untaken = w .untaken;
-  exempt = w .exempt;
-  phase = p;
-  setup-seen = s;
-  wrote = a;
-}
+withSight p s a w = logOf (w .rx) (w .tx) (w .len) (w .pipe) (w .awaits) (w .untaken) (w .exempt) p s a
 
 abbrev pub withRx : ℕ → Log → Log
 withRx v w = withWords v (w .tx) (w .len) w

@@ -31,7 +31,7 @@ use Rattle.model_ops.specs.Concrete.{concrete}
 use Rattle.proof_book.specs.TransferKindsLaws.{put-steady, act-steady}
 use Rattle.proof_usb20.specs.ExemptLaws.{by-test, differ}
 use Rattle.proof_usb20.specs.Sequence as log
-use Rattle.proof_usb20.specs.Sequence.{Track, off, withPhase, own, opens, closes, takes, taken, awaits, loaded, Fair}
+use Rattle.proof_usb20.specs.Sequence.{Track, off, withPhase, own, opens, closes, takes, taken, awaits, loaded, Fair, Polled}
 use Rattle.proof_usb20.specs.FollowLaws as follow
 use Rattle.proof_usb20.specs.Follow.{EpSeen, seenOf, FitsAs, Fits, view, Follow, Ends, Law}
 use Rattle.proof_usb20.specs.Watch.{at-end, at-ask}
@@ -214,40 +214,42 @@ module _ (D : Dir) (E : ℕ) where
           (λ y n a m. at-end (rw (m .0) (rw h (m .1)), tt))))
           (λ _. at-end (nothing, tt))) (λ _. at-end (nothing, tt))) (λ _. at-end (nothing, tt))
 
-  -- past the rows 4, 5 and 15, of an endpoint that is not isochronous: ready, with nothing yet (9 where it is disabled), or of another length
-  past-poll : {P : Track → Answer → St → Type 0} {w : Track} (d : Dir) (e n : ℕ) (s : St) {x o u : tree.Out St Answer}
-      → let at = concrete .get (ep-cell d e) s in
+  -- what a poll of either direction leaves
+  abbrev EndsPoll : Dir → ℕ → Track → Answer → St → Type 0
+  EndsPoll d e y a t = Fits (cond (own D E d e && takes D E a) (taken D E y) y) (view D E (t .0)) × (own D E d e ≡ true → Polled D E a y)
+
+  -- the endpoint's own, not isochronous: a row 4, 5 or 15, with nothing yet (9 where it is disabled), of another length; what is left is that it is ready
+  own-poll : (d : Dir) (e n : ℕ) (w : Track) (s : St) → own D E d e ≡ true → Fits w (view D E (s .0)) → isOn (epOn (s .0) D E .iso) ≡ false → Whole s
+      → (x : tree.Out St Answer) {o : tree.Out St Answer} → let at = concrete .get (ep-cell d e) s in
       let asked = concrete .get (request-cell d e) s in
-      P w (Refused 4) s → P w (Refused 5) s → P w (Refused 15) s → (isOn (at .iso) ≡ true → Follow D E P w x)
-      → (eqb (s .0 .globals .stage) 2 ≡ true → isOn (at .ready) ≡ true → Follow D E P w o)
-      → (isOn (at .ready) ≡ false → P w NotYet s) → P w (Refused 9) (concrete .put (request-cell d e) no-request s)
-      → (eqb (s .0 .globals .stage) 2 ≡ true → Follow D E P w u)
-      → Follow D E P w (cond (eqb (s .0 .globals .stage) 2) (cond (isAllocated (s .0 .allocator) d e)
+      (eqb (s .0 .globals .stage) 2 ≡ true → isOn (at .ready) ≡ true → Follow D E (EndsPoll d e) (withPhase off w) o)
+      → Follow D E (EndsPoll d e) (withPhase off w) (cond (eqb (s .0 .globals .stage) 2) (cond (isAllocated (s .0 .allocator) d e)
       (cond (not (isOn (asked .begun))) (ends (Refused 15) s) (cond (eqb (asked .length) n)
       (cond (isOn (at .iso)) x (cond (isOn (at .ready)) o
-      (cond (enables.isOn (s .0 .globals .«ep_config») d e) (ends NotYet s) (ends (Refused 9) (concrete .put (request-cell d e) no-request s))))) u))
+      (cond (enables.isOn (s .0 .globals .«ep_config») d e) (ends NotYet s) (ends (Refused 9) (concrete .put (request-cell d e) no-request s)))))
+      (ends (Refused 10) (concrete .put (request-cell d e) no-request (concrete .put (ep-cell d e) (withReady 0 at) s)))))
       (ends (Refused 5) s)) (ends (Refused 4) s))
-  past-poll d e n s x4 x5 x15 i y ny x9 z = follow.follow-cond D E (eqb (s .0 .globals .stage) 2)
+  own-poll d e n w s h r i z x y =
+      let o = own-true d e h in
+      follow.follow-cond D E (eqb (s .0 .globals .stage) 2)
       (λ two. follow.follow-cond D E (isAllocated (s .0 .allocator) d e)
-      (λ _. follow.follow-cond D E (not (isOn (concrete .get (request-cell d e) s .begun))) (λ _. at-end x15)
+      (λ _. follow.follow-cond D E (not (isOn (concrete .get (request-cell d e) s .begun))) (λ _. at-end (stay d e (Refused 15) w _ refl r, λ _. tt))
       (λ _. follow.follow-cond D E (eqb (concrete .get (request-cell d e) s .length) n)
-      (λ _. follow.follow-cond D E (isOn (concrete .get (ep-cell d e) s .iso)) i
+      (λ _. follow.follow-cond D E (isOn (concrete .get (ep-cell d e) s .iso)) (λ q. iso-own d e s o i q)
       (λ _. follow.follow-cond D E (isOn (concrete .get (ep-cell d e) s .ready)) (λ q. y two q)
-      (λ q. follow.follow-cond D E (enables.isOn (s .0 .globals .«ep_config») d e) (λ _. at-end (ny q)) (λ _. at-end x9))))
-      (λ _. z two)))
-      (λ _. at-end x5)) (λ _. at-end x4)
+      (λ q. follow.follow-cond D E (enables.isOn (s .0 .globals .«ep_config») d e)
+      (λ _. at-end (stay d e NotYet w _ refl r, λ _. ready-own d e w s o r q))
+      (λ _. at-end (stay d e (Refused 9) w _ refl (subst (Fits w) (sym (put-request D E d e no-request s)) r), λ _. tt)))))
+      (λ _. at-end (gone d e (Refused 10) w _ h refl (took d e w s o r two z), λ _. tt))))
+      (λ _. at-end (stay d e (Refused 5) w _ refl r, λ _. tt))) (λ _. at-end (stay d e (Refused 4) w _ refl r, λ _. tt))
 
   pub law-poll-read : (e n : ℕ) → Law D E (slotted (PollRead e n))
   law-poll-read e n w s r i z = by-test (own D E Out e)
       (λ h. let o = own-true Out e h in
-      past-poll Out e n s (stay Out e (Refused 4) w _ refl r, λ _. tt) (stay Out e (Refused 5) w _ refl r, λ _. tt)
-      (stay Out e (Refused 15) w _ refl r, λ _. tt) (λ q. iso-own Out e s o i q)
+      own-poll Out e n w s h r i (z .places) _
       (λ two q. follow.follow-cond D E (tooLong n (concrete .get (ep-cell Out e) s))
       (λ _. at-end (gone Out e (Refused 10) w _ h refl (took Out e w s o r two (z .places)), λ _. tt))
-      (λ _. at-end (gone Out e (Done []) w _ h refl (took Out e w s o r two (z .places)), λ _. ready-own Out e w s o r q)))
-      (λ q. (stay Out e NotYet w _ refl r, λ _. ready-own Out e w s o r q))
-      (stay Out e (Refused 9) w _ refl (subst (Fits w) (sym (put-request D E Out e no-request s)) r), λ _. tt)
-      (λ two. at-end (gone Out e (Refused 10) w _ h refl (took Out e w s o r two (z .places)), λ _. tt)))
+      (λ _. at-end (gone Out e (Done []) w _ h refl (took Out e w s o r two (z .places)), λ _. ready-own Out e w s o r q))))
       (λ h. off-poll-read e n h w s r i z)
 
   off-poll-write : (e : ℕ) (bytes : List ℕ) → own D E In e ≡ false → Law D E (slotted (PollWrite e bytes))
@@ -262,12 +264,8 @@ module _ (D : Dir) (E : ℕ) where
   pub law-poll-write : (e : ℕ) (bytes : List ℕ) → Law D E (slotted (PollWrite e bytes))
   law-poll-write e bytes w s r i z = by-test (own D E In e)
       (λ h. let o = own-true In e h in
-      past-poll In e (length bytes) s (stay In e (Refused 4) w _ refl r, λ _. tt) (stay In e (Refused 5) w _ refl r, λ _. tt)
-      (stay In e (Refused 15) w _ refl r, λ _. tt) (λ q. iso-own In e s o i q)
-      (λ two q. at-end (gone In e (Done []) w _ h refl (took In e w s o r two (z .places)), λ _. ready-own In e w s o r q))
-      (λ q. (stay In e NotYet w _ refl r, λ _. ready-own In e w s o r q))
-      (stay In e (Refused 9) w _ refl (subst (Fits w) (sym (put-request D E In e no-request s)) r), λ _. tt)
-      (λ two. at-end (gone In e (Refused 10) w _ h refl (took In e w s o r two (z .places)), λ _. tt)))
+      own-poll In e (length bytes) w s h r i (z .places) _
+      (λ two q. at-end (gone In e (Done []) w _ h refl (took In e w s o r two (z .places)), λ _. ready-own In e w s o r q)))
       (λ h. off-poll-write e bytes h w s r i z)
 
   off-begin-write : (e : ℕ) (bytes : List ℕ) → own D E In e ≡ false → Law D E (slotted (BeginWrite e bytes))

@@ -2,8 +2,6 @@ pub mod Heard
 pub mod Still
 pub mod Twins
 pub mod TwinsLaws
-pub mod Interrupt
-pub mod Calls
 pub mod Machines
 pub mod MachinesLaws
 pub mod Code

@@ -13,12 +13,12 @@ use Rattle.model.specs.Answers.{Answer}
 use Rattle.model.specs.Calls.{Config, Op, interrupt, slotted, other, aside, calls, startRow}
 use Rattle.model.specs.Machine as machine
 use Rattle.model.specs.Machine.{Buf, Event, Call, start, begin, go, question, Way, Machine, over, halt, beside, begun, continued, started, call}
+use Rattle.model.specs.SpendsCalls.{aside-spends, call-spends, start-up-spends}
 use Rattle.model_ops.specs.Rings.{St}
 use Rattle.machine.specs.Suspended.{driverOf, drive}
 use Rattle.proof_wake_ups.specs.Heard.{Heard, Hst}
 use Rattle.proof_wake_ups.specs.Twins.{Fits, Twin, end, ask, Short}
-use Rattle.proof_wake_ups.specs.TwinsLaws.{twin-more, grown-same}
-use Rattle.proof_wake_ups.specs.Calls.{aside-wakes, call-within, start-up-within}
+use Rattle.proof_wake_ups.specs.TwinsLaws.{twin-more, grown-same, wakes-of}
 use Rattle.proof_wake_ups.specs.Machines.{heard, Told, ToldHeard, hear, Ways, rests, works, Pair}
 
 abbrev machineOf : Way Answer Driver → Hst → Machine Answer Driver
@@ -63,12 +63,12 @@ refused false t f z x _ _ = record { answer = refl; pair = paired t f z x }
 
 begins : (o : Op) (t : Hst) → Fits (t .0) → Short (t .0 .1) → {w : Way Answer Driver} {w′ : Way Answer Heard} → Ways (t .0 .1) w w′ → (b : Buf)
     → SameTold (begun calls driverOf (λ s. s) o (machineOf w t) w b) (begun calls heard (λ s. s) o (heardOf w′ t) w′ b)
-begins o t f z rests b = halts (calls .irq o) (call-within o .on (t .0, b) f z)
+begins o t f z rests b = halts (calls .irq o) (wakes-of (call-spends o) .on (t .0, b) f (omega (arith, z)))
 begins interrupt t f z (works {i = i} k) b = refused i (t .0, b) f z (works k) _ _
 begins (slotted o) t f z (works {i = i} k) b = refused i (t .0, b) f z (works k) _ _
 begins (other o) t f z (works {i = i} k) b = refused i (t .0, b) f z (works k) _ _
 begins (aside o) t f z (works {i = true} k) b =
-    passes (t .0, b) f z (works k) (twin-more (aside-wakes o .on (t .0, b) f (omega (arith, z))) (λ l g. grown-same g))
+    passes (t .0, b) f z (works k) (twin-more (wakes-of (aside-spends {c = false} o) .on (t .0, b) f (omega (arith, z))) (λ l g. grown-same g))
 begins (aside o) t f z (works {i = false} k) b = record { answer = refl; pair = paired (t .0, b) f z (works k) }
 
 continues : (v : ℕ) (t : Hst) → Fits (t .0) → Short (t .0 .1) → {w : Way Answer Driver} {w′ : Way Answer Heard} → Ways (t .0 .1) w w′ → (b : Buf)
@@ -83,7 +83,7 @@ fresh-fits c = record { room = none-room; list = none-listed }
 
 starts : (c : Config) (n : ℕ) (t : Hst) → Fits (t .0) → Short (t .0 .1) → {w : Way Answer Driver} {w′ : Way Answer Heard} → Ways (t .0 .1) w w′ → (b : Buf)
     → SameTold (started calls driverOf (λ s. s) c n (machineOf w t) b) (started calls heard (λ s. s) c n (heardOf w′ t) b)
-starts c zero t f z x b = halts false (start-up-within c .on ((driverOf .fresh c, []), b) (fresh-fits c) (omega arith))
+starts c zero t f z x b = halts false (wakes-of (start-up-spends c) .on ((driverOf .fresh c, []), b) (fresh-fits c) (omega arith))
 starts c (suc n) t f z x b = record { answer = refl; pair = paired t f z x }
 
 -- the same machine by its parts
@@ -119,7 +119,7 @@ pub from-start : (c : Config) (b : Buf) → startRow c b ≡ zero
 from-start c b row m n = by (startRow c b) row
   where
     by : (r : ℕ) → r ≡ zero → SameTold (started calls driverOf (λ s. s) c r m b) (started calls heard (λ s. s) c r n b)
-    by zero e = halts false (start-up-within c .on ((driverOf .fresh c, []), b) (fresh-fits c) (omega arith))
+    by zero e = halts false (wakes-of (start-up-spends c) .on ((driverOf .fresh c, []), b) (fresh-fits c) (omega arith))
     by (suc r) e = absurd (omega (arith, e))
 
 pub all-wake-ups : (c : Config) (b : Buf)

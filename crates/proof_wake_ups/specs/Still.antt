@@ -1,6 +1,5 @@
 -- No operation but a begin and a wake-up changes the wake-ups
-use mathlib.Core.Bool.{Bool, true, false, not, cond, _||_}
-use mathlib.Core.List.{[]}
+use mathlib.Core.Bool.{Bool, true, false, cond}
 use mathlib.Core.Path.{_≡_, refl}
 use Prim.Native.Nat.{ℕ, zero, suc, _%_}
 use lib.Dec.{eqb}
@@ -19,8 +18,7 @@ use Rattle.model.specs.Cells.{Cell, Val, globals-cell, control-cell, allocator-
 use Rattle.model.specs.Script.{Act, complete, reset-ring, set-enabled, fill, fill0, open-oldest, close-oldest}
 use Rattle.model.specs.Script.{take-oldest, enqueue, allocate, allocate0, no-wakes, waken, DmaStep, arrive, send, place}
 use Rattle.model.specs.Script.{place0, Burst, switch, bus-reset}
-use Rattle.model.specs.Acts.{sameAct}
-use Rattle.model.specs.Steps.{If}
+use Rattle.model.specs.Spends.{Other}
 use Rattle.model.specs.Statics.{isOn, isoOuts}
 use Rattle.model_ops.specs.Records.{isoOut, configured, enabledOn, recordGiven, setsGiven, givenTo, allocatedOn, startedWith, allocatedEp0}
 use Rattle.model_ops.specs.Rings.{St, completeOn, emptied, emptiedOn, openOn, closeOn, takeOn, roomOn, queuedOn}
@@ -43,10 +41,6 @@ put-still allocator-cell v s = refl
 put-still (ep-cell d e) v s = refl
 put-still (request-cell d e) v s = refl
 put-still (paced-cell e) v s = refl
-
--- no begin and no wake-up
-abbrev pub Other : Act → Type 0
-Other q = If (not (sameAct q no-wakes || sameAct q (waken []))) (Unit {0})
 
 given-still : (dir : _) (kind maximum interval : ℕ) (a : Answer) (d : Driver) → Quiet d (givenTo dir kind maximum interval a d)
 unfolding givenTo setsGiven recordGiven withOn

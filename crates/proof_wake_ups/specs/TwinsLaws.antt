@@ -1,33 +1,26 @@
--- Laws on the definitions of Twins.antt
-use mathlib.Core.Bool.{Bool, true, false, cond}
+-- Laws on the definitions of Twins.antt: what a script spends (Spends) is a bound on its wake-ups
+use mathlib.Core.Bool.{Bool, true, false}
 use mathlib.Core.List.{List, [], _∷_, _++_, append-nil, append-assoc}
 use mathlib.Core.Path.{_≡_, refl, sym, ap, subst, _∙_}
-use Prim.Native.Nat.{ℕ, zero, suc, _+_, _*_, _≤_, _<_}
-use native.Mathlib.Nat.{suc-mul}
+use Prim.Native.Nat.{ℕ, zero, suc, _+_, _≤_, _<_}
 use native.Mathlib.Omega.{arith}
 use lib.ListN.{length, length-append}
-use Rattle.bits.specs.Walk.{setBits}
-use Rattle.bits.specs.WalkLaws.{walk-length}
 use Rattle.regs.specs.declared.Access.{Access}
-use Rattle.regs.specs.declared.Reg.{Reg}
 use Rattle.state.specs.Driver.{Driver, withWakes, noneGathered}
 use Rattle.state.specs.Wakes.{listed, all-woken}
 use Rattle.state.specs.WakesLaws.{Room, unwoken-room, unwoken-listed, all-room, all-listed, listed-count}
 use Rattle.model.specs.Tree as tree
-use Rattle.model.specs.Tree.{Prog, bindOut}
-use Rattle.model.specs.Cells.{Cell, Val}
-use Rattle.model.specs.Script.{Script, run, rows, Test, Look, Fetch, oldest, received, received0, gathered, Act}
-use Rattle.model.specs.Script.{complete, reset-ring, set-enabled, fill, fill0, open-oldest, close-oldest, take-oldest}
-use Rattle.model.specs.Script.{enqueue, allocate, allocate0, no-wakes, waken, DmaStep, Burst, lastOf, ret, bind, test}
-use Rattle.model.specs.Script.{read-then, write-then, wait-then, callback-then, get-then, put-then, is-then, look-then}
-use Rattle.model.specs.Script.{fetch-then, act-then, hand-then, row-then, _>>=_, _>>_, done, when, read, write}
-use Rattle.model.specs.Script.{callback, get, put, is, look, fetch, act, hand}
-use Rattle.model.specs.Statics.{modifyReg}
-use Rattle.model.specs.Answers.{Answer, End, operation}
+use Rattle.model.specs.Tree.{asks, Prog, bindOut}
+use Rattle.model.specs.Script.{Script, run, rows, Fetch, oldest, received, received0, gathered, Act, complete, reset-ring}
+use Rattle.model.specs.Script.{set-enabled, fill, fill0, open-oldest, close-oldest, take-oldest, enqueue, allocate}
+use Rattle.model.specs.Script.{allocate0, no-wakes, waken, Burst, lastOf, fetch-then, act-then}
+use Rattle.model.specs.Script as script
+use Rattle.model.specs.Spends.{Other, Spends, raised, ret, bind, either, yes, no, read, write, wait, callback, get, put, is}
+use Rattle.model.specs.Spends.{look, fetch, act, wake, begin, hand, row}
 use Rattle.model_ops.specs.Rings.{St}
 use Rattle.model_ops.specs.Concrete.{concrete}
 use Rattle.proof_wake_ups.specs.Heard.{Heard, Hst, bare, onto, recorded, heardOps}
-use Rattle.proof_wake_ups.specs.Still.{Quiet, Other, put-still, act-still, hand-still, row-still}
+use Rattle.proof_wake_ups.specs.Still.{Quiet, put-still, act-still, hand-still, row-still}
 use Rattle.proof_wake_ups.specs.Twins.{Fits, Twin, end, ask, Short}
 
 pub twin-more : {A : Type 0} {P Q : List ℕ → Type 0} {o : tree.Out St A} {u : tree.Out Hst A} → Twin P o u → ((l : List ℕ) → P l → Q l) → Twin Q o u
@@ -74,9 +67,25 @@ grown-same {l} g = by-more (g .more) (g .by) (g .few)
 
 -- ---- scripts
 
--- from any state with room for them
-pub record Wakes≤ {i : Bool} {A : Type 0} (n : ℕ) (p : Script i A) : Type 0 where
-  pub on : (t : Hst) → Fits (t .0) → length (t .0 .1) + n ≤ 64 → Twin (Grown (t .0 .1) n) (run concrete p (bare t)) (run heardOps p t)
+-- from any state with room for them: at most n more; of a call, which may begin anew, always room for one more
+abbrev Grows : Bool → List ℕ → ℕ → List ℕ → Type 0
+Grows false l n x = Grown l n x
+Grows true l n x = Short x
+
+pub record Wakes≤ {i : Bool} {A : Type 0} (c : Bool) (n : ℕ) (p : Script i A) : Type 0 where
+  pub on : (t : Hst) → Fits (t .0) → length (t .0 .1) + n < 64 → Twin (Grows c (t .0 .1) n) (run concrete p (bare t)) (run heardOps p t)
+
+grows-of : (c : Bool) {l x : List ℕ} {n : ℕ} → length l + n < 64 → Grown l n x → Grows c l n x
+grows-of false h g = g
+grows-of true h g = omega (arith, h, grown-length g)
+
+grows-le : (c : Bool) (l x : List ℕ) {m n : ℕ} → m ≤ n → Grows c l m x → Grows c l n x
+grows-le false l x h g = grown-le h g
+grows-le true l x h g = g
+
+grows-then : (c : Bool) (n : ℕ) (y : List ℕ) {l x : List ℕ} {m : ℕ} → Grown l m x → Grows c x n y → Grows c l (m + n) y
+grows-then false n y g h = grown-then g h
+grows-then true n y g h = h
 
 fits-by : (h : Heard) (d : Driver) → Quiet (h .0) d → Fits h → Fits (d, h .1)
 fits-by h d q f = record { room = rw q (f .room); list = ap listed q ∙ f .list }
@@ -97,215 +106,91 @@ recorded-other (allocate d kind address maximum interval) h l = refl
 recorded-other (allocate0 maximum) h l = refl
 
 -- a record of the same length
-grown-from : {l x : List ℕ} {n : ℕ} → x ≡ l → (y : List ℕ) → Grown x n y → Grown l n y
-grown-from {n = n} e y g = subst (λ (z : List ℕ). Grown z n y) e g
+grows-from : (c : Bool) (n : ℕ) {l x : List ℕ} → x ≡ l → (y : List ℕ) → Grows c x n y → Grows c l n y
+grows-from c n e y g = subst (λ (z : List ℕ). Grows c z n y) e g
 
-module _ {i : Bool} {A : Type 0} where
-  pub wakes-more : {m n : ℕ} {p : Script i A} → Wakes≤ m p → m ≤ n → Wakes≤ n p
-  wakes-more x h = record { on = λ t f r. twin-more (x .on t f (omega (arith, h, r))) (λ l g. grown-le h g) }
+-- an access, after which the rest goes on
+asked : {A : Type 0} (c : Bool) (n : ℕ) {q : Access} {k : ℕ → St → tree.Out St A} {k′ : ℕ → Hst → tree.Out Hst A} (t : Hst) → Fits (t .0)
+    → length (t .0 .1) + n < 64
+    → ((v : ℕ) (u : Hst) → Fits (u .0) → length (u .0 .1) + n < 64 → Twin (Grows c (u .0 .1) n) (k v (bare u)) (k′ v u))
+    → Twin (Grows c (t .0 .1) n) (asks q (bare t) k) (asks q t k′)
+asked c n t f r x = ask t f (grows-of c r (grown-none _ n)) (λ v u g e. twin-more (x v u g (omega (arith, r, ap length e))) (grows-from c n e))
 
-  pub wakes-ret : {n : ℕ} {a : A} → Wakes≤ {i = i} n (ret a)
-  wakes-ret {n = n} = record { on = λ t f r. end t f (grown-none (t .0 .1) n) }
+rows-twin : {A : Type 0} (c : Bool) (g : Burst) (n m : ℕ) {p : Script false A} → Wakes≤ c m p → (t : Hst) → Fits (t .0) → length (t .0 .1) + m < 64
+    → Twin (Grows c (t .0 .1) m) (rows concrete g n (λ s. run concrete p s) (bare t)) (rows heardOps g n (λ u. run heardOps p u) t)
+rows-twin c g zero m x t f r =
+    asked c m (onto t (concrete .row g zero (bare t) .1)) (fits-by (t .0) _ (row-still g zero (bare t)) f) r (λ v u h e. x .on u h e)
+rows-twin c g (suc n) m x t f r =
+    asked c m (onto t (concrete .row g (suc n) (bare t) .1)) (fits-by (t .0) _ (row-still g (suc n) (bare t)) f) r (λ v u h e. rows-twin c g n m x u h e)
 
-  pub wakes-bind : {B : Type 0} (m n : ℕ) {p : Script i B} {f : B → Script i A} → Wakes≤ m p → ((b : B) → Wakes≤ n (f b)) → Wakes≤ (m + n) (bind p f)
-  wakes-bind m n x y = record {
-    on = λ t f r. twin-bind _ _ (x .on t f (omega (arith, r))) (λ l g. grown-le (omega arith) g)
-        (λ a u h g. twin-more (y a .on u h (omega (arith, r, grown-length g))) (λ l k. grown-then g k));
-  }
+-- what is fetched: the record, where it is what the driver lists
+fetched : {i : Bool} {A : Type 0} (P : List ℕ → Type 0) (q : Fetch) (k : List ℕ → Script i A) (t : Hst) → Fits (t .0)
+    → ((l : List ℕ) → Twin P (run concrete (k l) (bare t)) (run heardOps (k l) t))
+    → Twin P (run concrete (fetch-then q k) (bare t)) (run heardOps (fetch-then q k) t)
+fetched P gathered k t f x =
+    subst (λ (l : List ℕ). Twin P (run concrete (k l) (bare t)) (run heardOps (k (t .0 .1)) t)) (sym (f .list)) (x (t .0 .1))
+fetched P (oldest e) k t f x = x _
+fetched P (received e m) k t f x = x _
+fetched P (received0 m) k t f x = x _
 
-  pub either : {n : ℕ} {b : Bool} {p q : Script i A} → Wakes≤ n p → Wakes≤ n q → Wakes≤ n (test b p q)
-  either {b = true} x y = record { on = λ t f r. x .on t f r }
-  either {b = false} x y = record { on = λ t f r. y .on t f r }
+-- a change that is no begin and no wake-up
+changed : {i : Bool} {A : Type 0} (c : Bool) (n : ℕ) (q : Act) → Other q → {p : Script i A} → Wakes≤ c n p → Wakes≤ c n (act-then q p)
+changed c n q h x = record {
+  on = λ t f r.
+      let e = recorded-other q h (t .0 .1) in
+      twin-more
+      (x .on ((concrete .act q (bare t) .0, recorded q (t .0 .1)), concrete .act q (bare t) .1)
+      (subst (λ (l : List ℕ). Fits (concrete .act q (bare t) .0, l)) (sym e) (fits-by (t .0) _ (act-still q h (bare t)) f)) (omega (arith, r, ap length e)))
+      (grows-from c n e);
+}
 
-  -- where the test is known, its way's
-  pub wakes-cond : (m n : ℕ) (b : Bool) {p q : Script i A} → Wakes≤ m p → Wakes≤ n q → Wakes≤ (cond b m n) (test b p q)
-  wakes-cond m n true x y = record { on = λ t f r. x .on t f r }
-  wakes-cond m n false x y = record { on = λ t f r. y .on t f r }
+-- wake-ups, which count
+waking : {i : Bool} {A : Type 0} (c : Bool) (n : ℕ) (cs : List ℕ) {p : Script i A} → Wakes≤ c n p → Wakes≤ c (length cs + n) (act-then (waken cs) p)
+waking c n cs x = record {
+  on = λ t f r.
+      let w = t .0 .0 .wakes in
+      let h : w .count + length cs ≤ 64 = omega (arith, r, listed-count w (f .room), ap length (f .list)) in
+      twin-more
+      (x .on ((withWakes (t .0 .0) (all-woken cs w), t .0 .1 ++ cs), t .1)
+      (record { room = all-room cs w (f .room) h; list = all-listed cs w (f .room) h ∙ ap (λ (l : List ℕ). l ++ cs) (f .list) })
+      (omega (arith, r, length-append (t .0 .1) cs)))
+      (λ y g. grows-then c n y (record { more = cs; by = refl; few = omega arith }) g);
+}
 
-  -- accesses
-  pub wakes-read : {n : ℕ} {r : Reg} {e : ℕ} {k : ℕ → Script i A} → ((v : ℕ) → Wakes≤ n (k v)) → Wakes≤ n (read-then r e k)
-  wakes-read {n = n} x = record { on = λ t f r. ask t f (grown-none _ n) (λ v u g e. twin-more (x v .on u g (omega (arith, r, ap length e))) (grown-from e)) }
+-- an operation begins without wake-ups
+beginning : {i : Bool} {A : Type 0} (m n : ℕ) → n < 64 → {p : Script i A} → Wakes≤ false n p → Wakes≤ true m (script.bind (script.act no-wakes) (λ _. p))
+beginning m n h x = record {
+  on = λ t f r. twin-more
+      (x .on ((noneGathered (t .0 .0), []), t .1)
+      (record { room = unwoken-room (t .0 .0 .wakes) (f .room .long); list = unwoken-listed (t .0 .0 .wakes) }) (omega (arith, h)))
+      (λ l g. omega (arith, grown-length g, h));
+}
 
-  pub wakes-write : {n : ℕ} {r : Reg} {e v : ℕ} {p : Script i A} → Wakes≤ n p → Wakes≤ n (write-then r e v p)
-  wakes-write {n = n} x = record { on = λ t f r. ask t f (grown-none _ n) (λ v u g e. twin-more (x .on u g (omega (arith, r, ap length e))) (grown-from e)) }
-
-  pub wakes-wait : {n m : ℕ} {p : Script i A} → Wakes≤ n p → Wakes≤ n (wait-then m p)
-  wakes-wait {n = n} x = record { on = λ t f r. ask t f (grown-none _ n) (λ v u g e. twin-more (x .on u g (omega (arith, r, ap length e))) (grown-from e)) }
-
-  pub wakes-callback : {n : ℕ} {p : Script i A} → Wakes≤ n p → Wakes≤ n (callback-then p)
-  wakes-callback {n = n} x = record { on = λ t f r. ask t f (grown-none _ n) (λ v u g e. twin-more (x .on u g (omega (arith, r, ap length e))) (grown-from e)) }
-
-  pub wakes-hand : {n : ℕ} {q : DmaStep} {p : Script i A} → Wakes≤ n p → Wakes≤ n (hand-then q p)
-  wakes-hand {n = n} {q = q} x = record {
-    on = λ t f r. ask (onto t (concrete .hand q (bare t) .1)) (fits-by (t .0) _ (hand-still q (bare t)) f) (grown-none _ n)
-        (λ v u g e. twin-more (x .on u g (omega (arith, r, ap length e))) (grown-from e));
-  }
-
-  -- what the state alone is asked or told
-  pub wakes-get : {n : ℕ} {c : Cell} {k : Val c → Script i A} → ((v : Val c) → Wakes≤ n (k v)) → Wakes≤ n (get-then c k)
-  wakes-get x = record { on = λ t f r. x _ .on t f r }
-
-  pub wakes-put : {n : ℕ} {c : Cell} {v : Val c} {p : Script i A} → Wakes≤ n p → Wakes≤ n (put-then c v p)
-  wakes-put {c = c} {v = v} x = record { on = λ t f r. x .on (onto t (concrete .put c v (bare t))) (fits-by (t .0) _ (put-still c v (bare t)) f) r }
-
-  pub wakes-is : {n : ℕ} {q : Test} {k : Bool → Script i A} → ((v : Bool) → Wakes≤ n (k v)) → Wakes≤ n (is-then q k)
-  wakes-is x = record { on = λ t f r. x _ .on t f r }
-
-  pub wakes-look : {n : ℕ} {q : Look} {k : ℕ → Script i A} → ((v : ℕ) → Wakes≤ n (k v)) → Wakes≤ n (look-then q k)
-  wakes-look x = record { on = λ t f r. x _ .on t f r }
-
-  pub wakes-fetch : {n : ℕ} {q : Fetch} {k : List ℕ → Script i A} → ((v : List ℕ) → Wakes≤ n (k v)) → Wakes≤ n (fetch-then q k)
-  wakes-fetch {n = n} {q = q} {k = k} x = record { on = λ t f r. of q t f r }
-    where
-      of : (q : Fetch) (t : Hst) → Fits (t .0) → length (t .0 .1) + n ≤ 64
-          → Twin (Grown (t .0 .1) n) (run concrete (fetch-then q k) (bare t)) (run heardOps (fetch-then q k) t)
-      of gathered t f r = subst (λ (l : List ℕ). Twin (Grown (t .0 .1) n) (run concrete (k l) (bare t)) (run heardOps (k (t .0 .1)) t))
-          (sym (f .list)) (x (t .0 .1) .on t f r)
-      of (oldest e) t f r = x _ .on t f r
-      of (received e m) t f r = x _ .on t f r
-      of (received0 m) t f r = x _ .on t f r
-
-  pub wakes-act : {n : ℕ} (q : Act) {p : Script i A} → Other q → Wakes≤ n p → Wakes≤ n (act-then q p)
-  wakes-act q h x = record {
-    on = λ t f r.
-        let e = recorded-other q h (t .0 .1) in
-        twin-more
-        (x .on ((concrete .act q (bare t) .0, recorded q (t .0 .1)), concrete .act q (bare t) .1)
-        (subst (λ (l : List ℕ). Fits (concrete .act q (bare t) .0, l)) (sym e) (fits-by (t .0) _ (act-still q h (bare t)) f)) (omega (arith, r, ap length e)))
-        (grown-from e);
-  }
-
-  -- these count
-  pub wakes-waken : {n : ℕ} (cs : List ℕ) {p : Script i A} → Wakes≤ n p → Wakes≤ (length cs + n) (act-then (waken cs) p)
-  wakes-waken cs x = record {
-    on = λ t f r.
-        let w = t .0 .0 .wakes in
-        let h : w .count + length cs ≤ 64 = omega (arith, r, listed-count w (f .room), ap length (f .list)) in
-        twin-more
-        (x .on ((withWakes (t .0 .0) (all-woken cs w), t .0 .1 ++ cs), t .1)
-        (record { room = all-room cs w (f .room) h; list = all-listed cs w (f .room) h ∙ ap (λ (l : List ℕ). l ++ cs) (f .list) })
-        (omega (arith, r, length-append (t .0 .1) cs)))
-        (λ l g. grown-then (record { more = cs; by = refl; few = omega arith }) g);
-  }
-
-  -- bind and test with the numbers that are most frequent
-  pub free : {B : Type 0} {n : ℕ} {p : Script i B} {f : B → Script i A} → Wakes≤ 0 p → ((b : B) → Wakes≤ n (f b)) → Wakes≤ n (bind p f)
-  free {n = n} x y = wakes-more (wakes-bind 0 n x y) (omega arith)
-
-  pub once : {B : Type 0} {n : ℕ} {p : Script i B} {f : B → Script i A} → Wakes≤ 1 p → ((b : B) → Wakes≤ n (f b)) → Wakes≤ (suc n) (bind p f)
-  once {n = n} x y = wakes-more (wakes-bind 1 n x y) (omega arith)
-
-  pub then-free : {B : Type 0} {n : ℕ} {p : Script i B} {f : B → Script i A} → Wakes≤ n p → ((b : B) → Wakes≤ 0 (f b)) → Wakes≤ n (bind p f)
-  then-free {n = n} x y = wakes-more (wakes-bind n 0 x y) (omega arith)
-
--- a row
-rows-twin : {A : Type 0} (g : Burst) (n m : ℕ) {p : Script false A} → Wakes≤ m p → (t : Hst) → Fits (t .0) → length (t .0 .1) + m ≤ 64
-    → Twin (Grown (t .0 .1) m) (rows concrete g n (λ s. run concrete p s) (bare t)) (rows heardOps g n (λ u. run heardOps p u) t)
-rows-twin g zero m x t f r = ask (onto t (concrete .row g zero (bare t) .1)) (fits-by (t .0) _ (row-still g zero (bare t)) f) (grown-none _ m)
-    (λ v u h e. twin-more (x .on u h (omega (arith, r, ap length e))) (grown-from e))
-rows-twin g (suc n) m x t f r = ask (onto t (concrete .row g (suc n) (bare t) .1)) (fits-by (t .0) _ (row-still g (suc n) (bare t)) f) (grown-none _ m)
-    (λ v u h e. twin-more (rows-twin g n m x u h (omega (arith, r, ap length e))) (grown-from e))
-
-pub wakes-row : {A : Type 0} {n : ℕ} {g : Burst} {p : Script false A} → Wakes≤ n p → Wakes≤ n (row-then g p)
-wakes-row {g = g} x = record { on = λ t f r. rows-twin g (lastOf g) _ x t f r }
-
-module _ {i : Bool} where
-  -- single steps
-  pub no-read : {n : ℕ} {r : Reg} {e : ℕ} → Wakes≤ {i = i} n (read r e)
-  no-read = wakes-read (λ _. wakes-ret)
-
-  pub no-write : {n : ℕ} {r : Reg} {e v : ℕ} → Wakes≤ {i = i} n (write r e v)
-  no-write = wakes-write wakes-ret
-
-  pub no-get : {n : ℕ} (c : Cell) → Wakes≤ {i = i} n (get c)
-  no-get c = wakes-get (λ _. wakes-ret)
-
-  pub no-put : {n : ℕ} (c : Cell) {v : Val c} → Wakes≤ {i = i} n (put c v)
-  no-put c = wakes-put wakes-ret
-
-  pub no-is : {n : ℕ} {q : Test} → Wakes≤ {i = i} n (is q)
-  no-is = wakes-is (λ _. wakes-ret)
-
-  pub no-look : {n : ℕ} {q : Look} → Wakes≤ {i = i} n (look q)
-  no-look = wakes-look (λ _. wakes-ret)
-
-  pub no-fetch : {n : ℕ} {q : Fetch} → Wakes≤ {i = i} n (fetch q)
-  no-fetch = wakes-fetch (λ _. wakes-ret)
-
-  pub no-act : {n : ℕ} (q : Act) → Other q → Wakes≤ {i = i} n (act q)
-  no-act q h = wakes-act q h wakes-ret
-
-  pub one-wake : {n c : ℕ} → Wakes≤ {i = i} (suc n) (act (waken (c ∷ [])))
-  one-wake {n = n} {c = c} = wakes-more (wakes-waken {n = n} (c ∷ []) {p = done} wakes-ret) (omega arith)
-
-  pub no-hand : {n : ℕ} {q : DmaStep} → Wakes≤ {i = i} n (hand q)
-  no-hand = wakes-hand wakes-ret
-
-  pub no-callback : {n : ℕ} → Wakes≤ {i = i} n callback
-  no-callback = wakes-callback wakes-ret
-
-  pub when-wakes : {n : ℕ} {b : Bool} {p : Script i Unit} → Wakes≤ n p → Wakes≤ n (when b p)
-  when-wakes x = either x wakes-ret
-
-  pub assign : {n : ℕ} (c : Cell) {f : Val c → Val c} → Wakes≤ {i = i} n (bind (get c) (λ v. put c (f v)))
-  assign c = free (no-get c) (λ _. no-put c)
-
-  pub assign-write : {n : ℕ} (c : Cell) {f : Val c → Val c} {r : Reg} {e : ℕ} {h : Val c → ℕ}
-      → Wakes≤ {i = i} n (bind (get c) (λ v. bind (put c (f v)) (λ _. write r e (h v))))
-  assign-write c = free (no-get c) (λ _. free (no-put c) (λ _. no-write))
-
-  pub modifyReg-wakes : {n : ℕ} {r : Reg} {e : ℕ} {f : ℕ → ℕ} → Wakes≤ {i = i} n (modifyReg r e f)
-  modifyReg-wakes = free no-read (λ _. no-write)
-
--- a walk over a list: one endpoint's for each
-module _ {i : Bool} (W : List ℕ → Script i Unit)
-    (one : ℕ → Script i Unit) (none : W [] ≡ done) (step : (e : ℕ) (es : List ℕ) → W (e ∷ es) ≡ (one e >> W es)) where
-  wakes-walk : {n : ℕ} → ((e : ℕ) → Wakes≤ n (one e)) → (k : ℕ) (es : List ℕ) → length es ≤ k → Wakes≤ (k * n) (W es)
-  wakes-walk x k [] h = rw none wakes-ret
-  wakes-walk x zero (e ∷ es) h = absurd (omega (arith, h))
-  wakes-walk {n = n} x (suc k) (e ∷ es) h =
-      rw (step e es) (wakes-more (wakes-bind n (k * n) (x e) (λ _. wakes-walk x k es (omega (arith, h)))) (omega (arith, suc-mul k n)))
-
-  -- the walk over a mask
-  pub wakes-mask : {n : ℕ} → ((e : ℕ) → Wakes≤ n (one e)) → (m : ℕ) → Wakes≤ (16 * n) (W (setBits m))
-  wakes-mask x m = wakes-walk x 16 (setBits m) (walk-length m)
-
--- from any state that fits: an operation begins without wake-ups
-pub record Within {i : Bool} (p : Script i Answer) : Type 0 where
-  pub on : (t : Hst) → Fits (t .0) → Short (t .0 .1) → Twin Short (run concrete p (bare t)) (run heardOps p t)
-
-module _ {i : Bool} where
-  pub within-quiet : {p : Script i Answer} → Wakes≤ 0 p → Within p
-  within-quiet x = record { on = λ t f s. twin-more (x .on t f (omega (arith, s))) (λ l g. omega (arith, grown-length g, s)) }
-
-  pub within-bind : {B : Type 0} {p : Script i B} {f : B → Script i Answer} → Wakes≤ 0 p → ((b : B) → Within (f b)) → Within (bind p f)
-  within-bind x y = record {
-    on = λ t f s. twin-bind _ _ (x .on t f (omega (arith, s)))
-        (λ l g. omega (arith, grown-length g, s)) (λ a u h g. y a .on u h (omega (arith, grown-length g, s)));
-  }
-
-  pub within-test : {b : Bool} {p q : Script i Answer} → Within p → Within q → Within (test b p q)
-  within-test {b = true} x y = record { on = λ t f s. x .on t f s }
-  within-test {b = false} x y = record { on = λ t f s. y .on t f s }
-
-  pub within-ret : {a : Answer} → Within {i = i} (ret a)
-  within-ret = within-quiet wakes-ret
-
-  -- its result and what was gathered
-  abbrev ended : Script i ℕ → Script i Answer
-  ended p = do
-    n ← p
-    w ← fetch gathered
-    ret (End n w)
-
-  ended-wakes : {n : ℕ} {p : Script i ℕ} → Wakes≤ n p → Wakes≤ n (ended p)
-  ended-wakes x = then-free x (λ _. free no-fetch (λ _. wakes-ret))
-
-  pub within-operation : {n : ℕ} {p : Script i ℕ} → n < 64 → Wakes≤ n p → Within (operation p)
-  within-operation {n = n} h x = record {
-    on = λ t f s.
-        twin-more
-        (ended-wakes x .on ((noneGathered (t .0 .0), []), t .1)
-        (record { room = unwoken-room (t .0 .0 .wakes) (f .room .long); list = unwoken-listed (t .0 .0 .wakes) }) (omega (arith, h)))
-        (λ l g. omega (arith, grown-length g, h));
-  }
+pub wakes-of : {i c : Bool} {A : Type 0} {r w : ℕ} {p : Script i A} → Spends c r w p → Wakes≤ c w p
+wakes-of {c = c} (raised x h k) = record { on = λ t f r. twin-more (wakes-of x .on t f (omega (arith, k, r))) (λ y g. grows-le c (t .0 .1) y k g) }
+wakes-of {c = c} {w = w} ret = record { on = λ t f r. end t f (grows-of c r (grown-none (t .0 .1) w)) }
+wakes-of {c = c} (bind m n k l x y) = record {
+  on = λ t f r. twin-bind _ _ (wakes-of x .on t f (omega (arith, r))) (λ _ g. grows-of c r (grown-le (omega arith) g))
+      (λ a u h g. twin-more (wakes-of (y a) .on u h (omega (arith, r, grown-length g))) (λ x z. grows-then c l x g z));
+}
+wakes-of (either {b = true} x y) = record { on = λ t f r. wakes-of x .on t f r }
+wakes-of (either {b = false} x y) = record { on = λ t f r. wakes-of y .on t f r }
+wakes-of (yes x) = record { on = λ t f r. wakes-of x .on t f r }
+wakes-of (no x) = record { on = λ t f r. wakes-of x .on t f r }
+wakes-of {c = c} {w = w} (read x) = record { on = λ t f r. asked c w t f r (λ v u g e. wakes-of (x v) .on u g e) }
+wakes-of {c = c} {w = w} (write x) = record { on = λ t f r. asked c w t f r (λ v u g e. wakes-of x .on u g e) }
+wakes-of {c = c} {w = w} (wait x) = record { on = λ t f r. asked c w t f r (λ v u g e. wakes-of x .on u g e) }
+wakes-of {c = c} {w = w} (callback x) = record { on = λ t f r. asked c w t f r (λ v u g e. wakes-of x .on u g e) }
+wakes-of (get x) = record { on = λ t f r. wakes-of (x _) .on t f r }
+wakes-of (put {x = y} {v = v} x) =
+    record { on = λ t f r. wakes-of x .on (onto t (concrete .put y v (bare t))) (fits-by (t .0) _ (put-still y v (bare t)) f) r }
+wakes-of (is x) = record { on = λ t f r. wakes-of (x _) .on t f r }
+wakes-of (look x) = record { on = λ t f r. wakes-of (x _) .on t f r }
+wakes-of (fetch {q = q} {k = k} x) = record { on = λ t f r. fetched _ q k t f (λ l. wakes-of (x l) .on t f r) }
+wakes-of {c = c} {w = w} (act q h x) = changed c w q h (wakes-of x)
+wakes-of {c = c} (wake {w = w} codes x) = waking c w codes (wakes-of x)
+wakes-of {w = w} (begin {n = n} h x) = beginning w n h (wakes-of x)
+wakes-of {c = c} {w = w} (hand {q = q} x) = record {
+  on = λ t f r. asked c w (onto t (concrete .hand q (bare t) .1)) (fits-by (t .0) _ (hand-still q (bare t)) f) r (λ v u g e. wakes-of x .on u g e);
+}
+wakes-of {c = c} {w = w} (row {g = g} x) = record { on = λ t f r. rows-twin c g (lastOf g) w (wakes-of x) t f r }
