@@ -1,7 +1,6 @@
-use Rattle.machine_points.specs.BusLaws.{at-first}
-use Rattle.state.specs.State.{saved}
+use Rattle.machine_points.specs.StandsLaws.{at-last}
+use Rattle.machine_points.specs.BusLaws.{bus, first}
 use denote.Ref.{now}
-use mathlib.Core.Path.{sym}
 use borrow.Author.Needs.{needs}
 use Rattle.machine_resume_op.proofs.resume_bus.Statement.{statement}
 use Rattle.machine_resume_op.proofs.resume_bus.Tie as tie
@@ -80,8 +79,8 @@ resume-switch-requires c κs = search needs
 
 resume-enable-requires : tie.Need-resume-enable-requires
 resume-enable-requires c κs =
-    at-first (saved (now (c .before .before .before .before .before .args .s))) _ (c .before .before .before .before .before .pre)
-    (sym (c .before .before .sub-byte .ensures)) (c .before .match .rest)
+    at-last bus (now (c .before .before .before .before .before .args .s)) (c .before .before .before .before .before .pre) (c .before .before .sub-byte .ensures)
+    (first _ _ (c .before .match .rest))
 
 returns : tie.Need-returns
 returns c = c .resume-event .ensures _ _

@@ -1,7 +1,6 @@
-use Rattle.machine_points.specs.DriverLaws.{at-first}
-use Rattle.state.specs.State.{saved}
+use Rattle.machine_points.specs.StandsLaws.{at-last}
+use Rattle.machine_points.specs.DriverLaws.{driver, first}
 use denote.Ref.{now}
-use mathlib.Core.Path.{sym}
 use borrow.Author.Needs.{needs}
 use Rattle.machine_resume_op.proofs.resume_driver.Statement.{statement}
 use Rattle.machine_resume_op.proofs.resume_driver.Tie as tie
@@ -59,8 +58,8 @@ resume-list-place-requires c κs = search needs
 
 resume-clear-requires : tie.Need-resume-clear-requires
 resume-clear-requires c κs =
-    at-first (saved (now (c .before .before .before .before .args .s))) _ (c .before .before .before .before .pre)
-    (sym (c .before .before .sub-byte .ensures)) (c .before .match .rest)
+    at-last driver (now (c .before .before .before .before .args .s)) (c .before .before .before .before .pre) (c .before .before .sub-byte .ensures)
+    (first _ _ (c .before .match .rest))
 
 returns : tie.Need-returns
 returns c = c .resume-wait .ensures _

@@ -1,7 +1,6 @@
 use Rattle.machine.specs.StandsLaws.{parts3}
 use Rattle.machine_points.specs.StandsLaws.{at-point, goes-to, comes-to}
 use Rattle.machine_points.specs.DriverLaws.{driver}
-use Rattle.driver.specs.Points.{fitsAt}
 use Rattle.driver.specs.declared.Point.the-variants as point
 use mathlib.Core.Path.{refl}
 use borrow.Author.Tests.{eq-eqb, ne-eqb}
@@ -22,7 +21,6 @@ stop-requires : tie.Need-stop-requires
 stop-requires c κs = search needs
 
 returns : tie.Need-returns
-unfolding fitsAt
 returns c =
     let here = at-point driver 7 (c .before .before .before .before .before .before .before .pre)
     (parts3 point.MaxLen refl (c .before .before .before .st-byte .ensures) (c .before .before .before .before .before .ep-byte .ensures)) in
@@ -47,7 +45,6 @@ stand-place-requires-2 : tie.Need-stand-place-requires-2
 stand-place-requires-2 c κs = search needs
 
 returns-2 : tie.Need-returns-2
-unfolding fitsAt
 returns-2 c =
     let the-place = c .before .before .before .before .place in
     let the-flag-dir-at = c .before .before .before .before .before .before .flag-dir-at in
@@ -60,7 +57,6 @@ returns-2 c =
     (simp (the-place .ensures .0, the-place .ensures .1 .0, ne-eqb _ _ (the-if1 .left), c .before .before .enum-told .given .1))
 
 returns-3 : tie.Need-returns-3
-unfolding fitsAt
 returns-3 c =
     let the-place = c .before .before .before .before .place in
     let the-flag-dir-at = c .before .before .before .before .before .before .flag-dir-at in
