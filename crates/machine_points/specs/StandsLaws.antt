@@ -55,9 +55,9 @@ module _ {P : Type 0} {under : P → Suspended} {awaits : P → Awaits} {rest : 
 
   -- a continue: the call leaves the operation where the rest o stops
   pub follows : {r : Step} {v : ℕ} {p : P} {xs zs : List ℕ} {b after : Buf} {o : Out St ℕ} → decode (saved xs) ≡ under p → fits (awaits p) v ≡ true
-      → o ≡ rest p v (view xs, b) → _≡_ {A = Called} (answerOf r [] (view zs), machineOf zs after) (halted o) → Stored r zs
+      → _≡_ {A = Called} (answerOf r [] (view zs), machineOf zs after) (halted o) → Stored r zs → o ≡ rest p v (view xs, b)
       → Resumes r v xs b zs after
-  follows {v = v} {p = p} {xs = xs} {b = b} e f m h k = record {
+  follows {v = v} {p = p} {xs = xs} {b = b} e f h k m = record {
     called = h ∙ (ap halted m ∙ (sym (gone-by (under p) (F .way p) v (view xs) b f) ∙ ap (λ (w : Suspended). resumed v w (view xs) b) (sym e)));
     kept = k xs;
   }
@@ -67,12 +67,12 @@ module _ {P : Type 0} {under : P → Suspended} {awaits : P → Awaits} {rest : 
       → Stands r q (under t) ys zs → awaited q ≡ awaits t → asks q (view ys, after) (rest t) ≡ rest p v (view xs, b)
       → Resumes r v xs b zs after
   goes-to {r = r} {q = q} {t = t} {ys = ys} {after = after} e f h l m =
-      follows e f m (handed-out h r (h .answered) [] after ∙ stood q t (view ys) after l) (stored-by h r (h .answered))
+      follows e f (handed-out h r (h .answered) [] after ∙ stood q t (view ys) after l) (stored-by h r (h .answered)) m
 
   -- it ends
   pub comes-to : {r : Step} {n v : ℕ} {p : P} {xs ys zs : List ℕ} {b after : Buf} → decode (saved xs) ≡ under p → fits (awaits p) v ≡ true
       → Ends r n ys zs → ends n (view ys, after) ≡ rest p v (view xs, b) → Resumes r v xs b zs after
-  comes-to {after = after} e f h m = follows e f m (h .there after) (h .stored)
+  comes-to {after = after} e f h m = follows e f (h .there after) (h .stored) m
 
   -- a call that leaves the operation at t leads where the rest o stops
   pub leads-to : {r : Step} {q : Access} {t : P} {xs ys : List ℕ} (o : Buf → Out St ℕ) → Stands r q (under t) xs ys → awaited q ≡ awaits t

@@ -39,7 +39,7 @@ returns c =
     let here = at-point advance 2 (c .before .before .before .before .before .before .before .before .before .before .before .before .pre)
     (parts4 (λ (e n f k : ℕ). point.Completing e n f (complete.Loaded k)) (the-ep-byte .ensures) (the-st-byte .ensures) (the-frame-word .ensures)
     (the-now-byte .ensures)) in
-    λ v b. follows advance here refl (paced-on _ _ _ _ ∙ simp (the-wake .ensures .0)) (next .ensures .0 b) (next .ensures .1)
+    λ v b. follows advance here refl (next .ensures .0 b) (next .ensures .1) (paced-on _ _ _ _ ∙ simp (the-wake .ensures .0))
 
 pub resume-loaded-spec : {M : Type 1} → statement M
 resume-loaded-spec =

@@ -24,8 +24,8 @@ now-byte-requires c κs = search needs
 next-len-requires : tie.Need-next-len-requires
 next-len-requires c κs = search needs
 
-cast-t11 : tie.Need-cast-t11
-cast-t11 c = search needs
+cast-t15 : tie.Need-cast-t15
+cast-t15 c = search needs
 
 stand-loaded-requires : tie.Need-stand-loaded-requires
 stand-loaded-requires c κs = search needs
@@ -44,4 +44,4 @@ returns c =
 
 pub resume-sent-spec : {M : Type 1} → statement M
 resume-sent-spec =
-    tie.close (tie.spec ep-byte-requires st-byte-requires frame-word-requires now-byte-requires next-len-requires cast-t11 stand-loaded-requires returns)
+    tie.close (tie.spec ep-byte-requires st-byte-requires frame-word-requires now-byte-requires next-len-requires cast-t15 stand-loaded-requires returns)

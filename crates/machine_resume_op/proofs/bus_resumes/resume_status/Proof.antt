@@ -1,6 +1,6 @@
 use Rattle.machine_points.specs.StandsLaws.{at-point, goes-to, stays-at}
 use Rattle.machine_points.specs.BusLaws.{bus}
-use Rattle.bus.specs.Points.{afterStatus}
+use Rattle.bus.specs.Points.{fitsAt, afterStatus}
 use Rattle.bus.specs.declared.Point.the-variants as point
 use mathlib.Core.Path.{refl, sym, _∙_}
 use Rattle.bus.specs.Laws.{fits-status}
@@ -12,6 +12,7 @@ fits-requires : tie.Need-fits-requires
 fits-requires c κs = search needs
 
 byte-requires : tie.Need-byte-requires
+unfolding fitsAt
 byte-requires c κs = fits-status point.Status _ refl (sym (c .before .fits2 .ensures) ∙ c .if1 .taken)
 
 suspended-requires : tie.Need-suspended-requires
