@@ -4,7 +4,6 @@ use alloc::number::slots;
 use driver::Next;
 use driver::Point;
 use endpoint_rows::is_allocated;
-use model_ops::records::place;
 use regs::Access;
 use regs::Dir;
 use regs::Reg;
@@ -14,10 +13,10 @@ use state::load_ep;
 ghost use mathlib.Core.Path.{_≡_};
 ghost use mathlib.Core.List.{List};
 ghost use Prim.Native.Nat.{ℕ, _*_};
-ghost use Rattle.state.specs.State.{view, saved};
+ghost use Rattle.state.specs.State.{view};
 ghost use Rattle.model_ops.specs.Concrete.{go};
-ghost use Rattle.driver.specs.Points.{denote, meaning, Linked};
-ghost use Rattle.driver_resume.specs.Announce.{endOn, startsAt, foundAt, following, announcing};
+ghost use Rattle.driver.specs.Points.{meaning, Linked};
+ghost use Rattle.driver_resume.specs.Announce.{endOn, startsAt, foundAt, announcing};
 
 // The bytes of n buffers.
 fn room(n: u8, size: u16) -> u32
@@ -27,7 +26,7 @@ fn room(n: u8, size: u16) -> u32
 }
 
 // The byte where an endpoint's buffers end.
-fn end_of(s: &State, dir: Dir, e: u8) -> u64
+pub fn end_of(s: &State, dir: Dir, e: u8) -> u64
     ensures { λ r. ⌜ r ≡ endOn (view (now (s .entry))) dir e ⌝ }
 {
     let a = load_allocator(s);
@@ -48,7 +47,7 @@ fn starts_at(s: &State, dir: Dir, x: u64, e: u8) -> bool
 }
 
 // The number of the endpoint whose buffers begin at byte x, or 0.
-fn found_at(s: &State, dir: Dir, x: u64) -> u8
+pub fn found_at(s: &State, dir: Dir, x: u64) -> u8
     ensures { λ r. ⌜ r ≡ foundAt (view (now (s .entry))) dir x 15 1 ⌝ }
 {
     let mut e: u8 = 1;
@@ -71,43 +70,4 @@ pub fn first(s: &State, left: u8, total: u8, dir: Dir, e: u8) -> Next
         Access::Write(Reg::EpMaxLen, e, r.max_len as u32),
         Point::ListMaxLen(dir, r.kind, e, left, total),
     )
-}
-
-// The one whose buffers begin where those of the last end, as long as any is left.
-pub fn after(s: &State, left: u8, total: u8, dir: Dir, e: u8) -> Next
-    ensures { λ r. ⌜ ((b : List ℕ) → meaning r (view (now (s .entry))) b ≡ go (following left total dir e) (view (now (s .entry))) b) ⌝ }
-    ensures { λ r. ⌜ Linked r ⌝ }
-{
-    if left == 0 {
-        return Next::Ends(total as u16);
-    }
-    let x = end_of(s, dir, e);
-    let o = found_at(s, Dir::Out, x);
-    if o == 0 {
-        let n = found_at(s, Dir::In, x);
-        return first(s, left - 1, total, Dir::In, n);
-    }
-    first(s, left - 1, total, Dir::Out, o)
-}
-
-// Its buffer's address, unless it is a control endpoint, whose successor is next.
-pub fn after_max_len(s: &mut State, dir: Dir, kind: u8, ep: u8, left: u8, total: u8) -> Next
-    ensures { λ r. ⌜ ((b : List ℕ) → meaning r (view (now (s .exit))) b ≡ go (denote (Point.ListMaxLen dir kind ep left total) 0) (view (now (s .entry))) b) ⌝ }
-    ensures { λ _. ⌜ saved (now (s .exit)) ≡ saved (now (s .entry)) ⌝ }
-    ensures { λ r. ⌜ Linked r ⌝ }
-{
-    if kind % 4 == 0 {
-        return after(s, left, total, dir, ep);
-    }
-    let at = place(s, dir, ep);
-    match dir {
-        Dir::Out => Next::Asks(
-            Access::Receive(ep, at),
-            Point::ListPlace(dir, ep, left, total),
-        ),
-        Dir::In => Next::Asks(
-            Access::Transmit(ep, at),
-            Point::ListPlace(dir, ep, left, total),
-        ),
-    }
 }

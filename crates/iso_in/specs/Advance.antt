@@ -1,10 +1,10 @@
 -- What is left to run at each point of a paced advance
 use mathlib.Core.Path.{_≡_}
-use mathlib.Core.Bool.{Bool, true, false}
+use mathlib.Core.Bool.{false}
 use mathlib.Core.List.{List}
 use Prim.Native.Nat.{ℕ}
 use Rattle.regs.specs.declared.Reg.the-variants.{FrameNo}
-use Rattle.regs.specs.Registers.{widthOf, fitsIn}
+use Rattle.regs.specs.Registers.{widthOf}
 use Rattle.frame.specs.Usb20.{indexOf, frameOf}
 use Rattle.frame.specs.Advance.{completions}
 use Rattle.state.specs.Driver.{Driver, pacedOn}
@@ -59,8 +59,3 @@ awaitsAt (point.Completing e n frame p) = nothing
 abbrev pub Linked : AdvanceNext → Type 0
 Linked (next.Asks q p) = awaited q ≡ awaitsAt p
 Linked (next.Ends n) = Unit {0}
-
--- row 16 turned round: a reading has no bit above its register's width
-unfoldable pub fitsAt : Advance → ℕ → Bool
-fitsAt (point.FrameNo e) v = fitsIn v (widthOf FrameNo)
-fitsAt (point.Completing e n frame p) v = true

@@ -35,9 +35,12 @@ unfoldable pub encode : Advance → Saved
 encode (point.FrameNo e) = code 0 e 0 0 0
 encode (point.Completing e left frame p) = completingAs e left frame p
 
--- an unknown number is the first point
+-- by the number; an unknown one is the first point
+abbrev pub byNumber : ℕ → Saved → Advance
+byNumber k c =
+    cond (eqb k 1) (point.Completing (c .ep) (c .st) (c .frame) (complete.Sent (c .now)))
+    (cond (eqb k 2) (point.Completing (c .ep) (c .st) (c .frame) (complete.Loaded (c .now)))
+    (point.FrameNo (c .ep)))
+
 unfoldable pub decode : Saved → Advance
-decode c =
-    cond (eqb (c .sub) 1) (point.Completing (c .ep) (c .st) (c .frame) (complete.Sent (c .now))) (
-    cond (eqb (c .sub) 2) (point.Completing (c .ep) (c .st) (c .frame) (complete.Loaded (c .now))) (
-    point.FrameNo (c .ep)))
+decode c = byNumber (c .sub) c

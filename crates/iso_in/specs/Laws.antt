@@ -34,12 +34,11 @@ use Rattle.model_ops.specs.Concrete.{concrete, go}
 use Rattle.iso_in.specs.declared.complete.Complete.{Complete}
 use Rattle.iso_in.specs.declared.complete.CompleteNext.{CompleteNext}
 use Rattle.iso_in.specs.declared.complete.CompleteNext.the-variants as next
+use Rattle.iso_in.specs.declared.complete.Begun.{Begun}
 use Rattle.iso_in.specs.declared.Found.{Found}
 use Rattle.iso_in.specs.declared.Found.the-variants as found
 use Rattle.iso_in.specs.declared.sof.Sof.{Sof}
 use Rattle.iso_in.specs.declared.sof.Sof.the-variants as sof-point
-use Rattle.iso_in.specs.declared.advance.Advance.{Advance}
-use Rattle.iso_in.specs.declared.advance.Advance.the-variants as advance-point
 use Rattle.iso_in.specs.Frames.{framedOn, isFirst}
 use Rattle.iso_in.specs.Complete as complete
 use Rattle.iso_in.specs.Sof as sof
@@ -80,10 +79,6 @@ fits-mis p v e m h fits = wider v 2 (omega arith) (ap (λ (q : Sof). sof.fitsAt 
 pub fits-st : (p : Sof) (v e m : ℕ) → p ≡ sof-point.St e m → sof.fitsAt p v ≡ true → fitsIn v 8 ≡ true
 unfolding sof.fitsAt
 fits-st p v e m h fits = wider v 7 (omega arith) (ap (λ (q : Sof). sof.fitsAt q v) (sym h) ∙ fits)
-
-pub fits-frame-no : (p : Advance) (v e : ℕ) → p ≡ advance-point.FrameNo e → advance.fitsAt p v ≡ true → fitsIn v 16 ≡ true
-unfolding advance.fitsAt
-fits-frame-no p v e h fits = ap (λ (q : Advance). advance.fitsAt q v) (sym h) ∙ fits
 
 -- ---- a completion's answer
 
@@ -284,27 +279,19 @@ some : (e n frame : ℕ) (t : St) → n ≢ 0 → advance.completing e n frame t
 some e zero frame t h = absurd (h refl)
 some e (suc n) frame t h = more e n frame t ∙ ap (λ (k : ℕ). advance.thenMore e k frame (run concrete (isoInComplete {i = true} e) t)) (sym (less n))
 
-pub paced-begun : (e n frame : ℕ) (q : Access) (p : Complete) (d y : Driver) (b : List ℕ)
+-- by the point at which the completion stands
+pub paced-begun : (e n frame : ℕ) (x : Begun) (p : Complete) (d y : Driver) (b : List ℕ)
     → n ≢ 0
-    → asked q p y b ≡ go {i = true} (isoInComplete e) d b
-    → asks q (y, b) (λ _ t. advance.thenMore e (n - 1) frame (complete.denote p t)) ≡ advance.completing e n frame (d, b)
-paced-begun e n frame q p d y b z h = ap (advance.thenMore e (n - 1) frame) h ∙ sym (some e n frame (d, b) z)
+    → x .point ≡ p
+    → complete.begun x y b ≡ go {i = true} (isoInComplete e) d b
+    → asks (x .access) (y, b) (λ _ t. advance.thenMore e (n - 1) frame (complete.denote p t)) ≡ advance.completing e n frame (d, b)
+paced-begun e n frame x p d y b z k h =
+    ap (advance.thenMore e (n - 1) frame) (ap (λ (r : Complete). asked (x .access) r y b) (sym k) ∙ h) ∙ sym (some e n frame (d, b) z)
 
-pub paced-more : (e m frame : ℕ) (n : CompleteNext) (q : Access) (p : Complete) (d : Driver) (b : List ℕ) (o : tree.Out St Unit)
-    → n ≡ next.Asks q p
-    → complete.meaning n d b ≡ o
-    → asks q (d, b) (λ _ t. advance.thenMore e m frame (complete.denote p t)) ≡ advance.thenMore e m frame o
-paced-more e m frame n q p d b o h k = ap (advance.thenMore e m frame) (next-asked n q p d b o h k)
-
-paced-on : (e m frame : ℕ) (t : St) → advance.completing e m frame t ≡ advance.thenMore e m frame (ends tt t)
+-- one is done
+pub paced-on : (e m frame : ℕ) (t : St) → advance.completing e m frame t ≡ advance.thenMore e m frame (ends tt t)
 unfolding advance.completing
 paced-on e m frame t = refl
-
-pub paced-next : (e m frame : ℕ) (n : CompleteNext) (d : Driver) (b : List ℕ) (o : tree.Out St Unit)
-    → n ≡ next.Ends
-    → complete.meaning n d b ≡ o
-    → advance.completing e m frame (d, b) ≡ advance.thenMore e m frame o
-paced-next e m frame n d b o h k = paced-on e m frame (d, b) ∙ ap (advance.thenMore e m frame) (next-ended n d b o h k)
 
 -- `iso_in_advance`, by the endpoint: paced and enabled, paced, neither
 abbrev counted : ℕ → Driver → List ℕ → tree.Out St Unit

@@ -1,11 +1,12 @@
-// An advance's point as numbers, and back.
+// An advance's point as numbers.
 use crate::advance::Advance;
 use crate::complete::Complete;
 use state::Saved;
 ghost use mathlib.Core.Path.{_≡_};
-ghost use Rattle.iso_in.specs.Codec.{code, completingAs, encode, decode};
+ghost use Rattle.iso_in.specs.Codec.{code, completingAs, encode};
 
-fn code(sub: u8, e: u8, left: u8, frame: u16, of: u8) -> Saved
+// Which point it is, its endpoint, the completions left, their microframe, and the completion's endpoint. All else is zero.
+pub fn code(sub: u8, e: u8, left: u8, frame: u16, of: u8) -> Saved
     ensures { λ r. ⌜ r ≡ code sub e left frame of ⌝ }
 {
     Saved {
@@ -42,17 +43,5 @@ pub fn encode(p: Advance) -> Saved
     match p {
         Advance::FrameNo(e) => code(0, e, 0, 0, 0),
         Advance::Completing(e, left, frame, q) => completing_as(e, left, frame, q),
-    }
-}
-
-// Any numbers are a point: an unknown one is the first.
-pub fn decode(c: Saved) -> Advance
-    ensures { λ r. ⌜ r ≡ decode c ⌝ }
-{
-    let k = c.sub;
-    match k {
-        1 => Advance::Completing(c.ep, c.st, c.frame, Complete::Sent(c.now)),
-        2 => Advance::Completing(c.ep, c.st, c.frame, Complete::Loaded(c.now)),
-        _ => Advance::FrameNo(c.ep),
     }
 }

@@ -61,11 +61,3 @@ fn byte(v: u32) -> u8
 {
     v as u8
 }
-
-// One of 16 bits.
-fn half(v: u32) -> u16
-    requires { ⌜ fitsIn v 16 ≡ true ⌝ }
-    ensures { λ r. ⌜ r ≡ v ⌝ }
-{
-    v as u16
-}

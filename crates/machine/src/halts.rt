@@ -69,18 +69,6 @@ pub fn suspend_or_end_bus(s: &mut State, n: bus::Next) -> Step
     }
 }
 
-// The same of the control pipe's.
-pub fn suspend_or_end_control(s: &mut State, n: control::Next) -> Step
-    requires { ⌜ control.Linked n ⌝ }
-    ensures { λ r. ⌜ Leads r (now (s .exit)) (λ b. halted (control.meaning n (view (now (s .entry))) b)) ⌝ }
-    ensures { λ r. ⌜ Stored r (now (s .exit)) ⌝ }
-{
-    match n {
-        control::Next::Asks(q, p) => asks(s, q, control::encode(p), 3),
-        control::Next::Ends(k) => ended(s, k),
-    }
-}
-
 // A begin of the control pipe's, with nothing under way.
 pub fn begun_control(s: &mut State, n: control::Begun) -> Step
     requires { ⌜ control.LinkedBegun n × (isIdle (decode (saved (now s))) ≡ true) ⌝ }
@@ -109,18 +97,6 @@ pub fn polled_control(s: &mut State, n: control::Polled) -> Step
         control::Polled::Done(k) => Step::Done(k),
         control::Polled::Setup(low, high) => Step::Setup(low, high),
         control::Polled::Asks(q, p) => asks(s, q, control::encode(p), 3),
-    }
-}
-
-// The same of reads and writes.
-pub fn suspend_or_end_endpoint(s: &mut State, n: endpoint::Next) -> Step
-    requires { ⌜ endpoint.Linked n ⌝ }
-    ensures { λ r. ⌜ Leads r (now (s .exit)) (λ b. halted (endpoint.meaning n (view (now (s .entry))) b)) ⌝ }
-    ensures { λ r. ⌜ Stored r (now (s .exit)) ⌝ }
-{
-    match n {
-        endpoint::Next::Asks(q, p) => asks(s, q, endpoint::encode(p), 4),
-        endpoint::Next::Ends(k) => ended(s, k),
     }
 }
 

@@ -1,5 +1,6 @@
 pub mod Family
 pub mod StandsLaws
+pub mod AdvanceLaws
 pub mod BusLaws
 pub mod ControlLaws
 pub mod DriverLaws

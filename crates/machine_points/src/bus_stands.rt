@@ -1,28 +1,18 @@
 // An operation of the bus stands at a point, whose bytes are stored where it is made.
 use crate::stands::code;
+use crate::stands::dir_as;
 use crate::stands::stand;
 use bus::flag_of;
 use machine::Step;
 use regs::Access;
 use regs::Dir;
 use state::State;
-ghost use mathlib.Core.Path.{_≡_};
 ghost use Rattle.bus.specs.declared.Point.the-variants as Point;
-ghost use Rattle.bus.specs.Codec.{dirAs};
 ghost use Rattle.machine.specs.declared.Suspended.the-variants as Under;
 ghost use Rattle.machine.specs.Stands.{Stands};
 
 // Whose points these are, in the saved record.
 const TAG: u8 = 2;
-
-fn dir_as(d: Dir) -> u8
-    ensures { λ r. ⌜ r ≡ dirAs d ⌝ }
-{
-    match d {
-        Dir::Out => 0,
-        Dir::In => 1,
-    }
-}
 
 // The last access; the result.
 pub fn stand_event(s: &mut State, q: Access, n: u8) -> Step

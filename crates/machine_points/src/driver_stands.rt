@@ -1,12 +1,18 @@
 // An operation of the driver's own stands at a point, whose bytes are stored where it is made.
 use crate::stands::code;
+use crate::stands::dir_as;
 use crate::stands::stand;
 use bus::flag_of;
 use machine::Step;
 use regs::Access;
+use regs::Dir;
+use state::Saved;
 use state::State;
+ghost use mathlib.Core.Path.{_≡_};
 ghost use Rattle.driver.specs.declared.Point.the-variants as Point;
+ghost use Rattle.driver_codec.specs.Codec.{listCode, dirAs};
 ghost use Rattle.machine.specs.declared.Suspended.the-variants as Under;
+ghost use Rattle.machine.specs.Suspended.{withTag};
 ghost use Rattle.machine.specs.Stands.{Stands};
 
 // Whose points these are, in the saved record.
@@ -87,4 +93,35 @@ pub fn stand_ep0_packet(s: &mut State, q: Access) -> Step
     ensures { λ r. ⌜ Stands r q (Under.Driver Point.Ep0Packet) (now (s .entry)) (now (s .exit)) ⌝ }
 {
     stand(s, q, code(TAG, 13, 0, 0, 0, 0, 0))
+}
+
+// A point's numbers where it is a list's endpoint's: how many are left, and how many there are.
+fn list_code(sub: u8, dir: Dir, kind: u8, ep: u8, left: u8, total: u8) -> Saved
+    ensures { λ r. ⌜ r ≡ withTag 1 (listCode sub (dirAs dir) kind ep left total) ⌝ }
+{
+    let mut c = code(TAG, sub, 0, dir_as(dir), left, kind, ep);
+    c.late = total;
+    c
+}
+
+// Of a list's endpoint the maximum is written.
+pub fn stand_list_max_len(
+    s: &mut State,
+    q: Access,
+    dir: Dir,
+    kind: u8,
+    ep: u8,
+    left: u8,
+    total: u8,
+) -> Step
+    ensures { λ r. ⌜ Stands r q (Under.Driver (Point.ListMaxLen dir kind ep left total)) (now (s .entry)) (now (s .exit)) ⌝ }
+{
+    stand(s, q, list_code(15, dir, kind, ep, left, total))
+}
+
+// Its address is.
+pub fn stand_list_place(s: &mut State, q: Access, dir: Dir, ep: u8, left: u8, total: u8) -> Step
+    ensures { λ r. ⌜ Stands r q (Under.Driver (Point.ListPlace dir ep left total)) (now (s .entry)) (now (s .exit)) ⌝ }
+{
+    stand(s, q, list_code(16, dir, 0, ep, left, total))
 }

@@ -3,6 +3,7 @@
 use machine::Step;
 use machine::woken::how_many;
 use regs::Access;
+use regs::Dir;
 use state::Saved;
 use state::State;
 use state::nothing;
@@ -11,10 +12,20 @@ ghost use mathlib.Core.Path.{_≡_};
 ghost use mathlib.Core.List.{List};
 ghost use Prim.Native.Nat.{ℕ};
 ghost use Rattle.state.specs.State.{view, saved};
-ghost use Rattle.bus.specs.Codec.{code};
+ghost use Rattle.bus.specs.Codec.{code, dirAs};
 ghost use Rattle.machine.specs.declared.Step.the-variants as Step;
 ghost use Rattle.machine.specs.Suspended.{withTag};
 ghost use Rattle.machine.specs.Stands.{Ends};
+
+// A direction as a number.
+pub fn dir_as(d: Dir) -> u8
+    ensures { λ r. ⌜ r ≡ dirAs d ⌝ }
+{
+    match d {
+        Dir::Out => 0,
+        Dir::In => 1,
+    }
+}
 
 // A point's numbers, with the tag that says whose it is. All else is zero.
 pub fn code(tag: u8, sub: u8, site: u8, flag: u8, busy: u8, st: u8, ep: u8) -> Saved

@@ -1,7 +1,8 @@
 // Start-up (mod.rs 886-951), new endpoints (endpoint.rs 18-36), EP0's start (mod.rs 1144-1178) and the microframe go on: one function for each of
 // their points, which loads its own parts and stores the next point's bytes.
-use crate::halts::suspend_or_end_driver;
-use driver_resume::announce;
+use crate::half;
+use driver_resume::announce::end_of;
+use driver_resume::announce::found_at;
 use frame::Frame;
 use frame::microframe_index;
 use machine::Step;
@@ -16,6 +17,8 @@ use machine_points::driver_stands::stand_ep0_rx;
 use machine_points::driver_stands::stand_ep0_tx;
 use machine_points::driver_stands::stand_host;
 use machine_points::driver_stands::stand_int_en;
+use machine_points::driver_stands::stand_list_max_len;
+use machine_points::driver_stands::stand_list_place;
 use machine_points::driver_stands::stand_place;
 use machine_points::driver_stands::stand_reset;
 use machine_points::driver_stands::stand_reset_end;
@@ -35,33 +38,78 @@ use regs::ctrl;
 use regs::int_en::at_start;
 use regs::registers::fits;
 use state::State;
+use state::load_ep;
 use state::set_int_en;
 ghost use mathlib.Core.Path.{_≡_};
-ghost use mathlib.Core.Bool.{true, false};
+ghost use mathlib.Core.Bool.{false, not};
 ghost use mathlib.Core.List.{List};
-ghost use Prim.Native.Nat.{ℕ};
+ghost use Prim.Native.Nat.{ℕ, _%_};
+ghost use lib.Dec.{eqb};
 ghost use Rattle.regs.specs.ControlWord.{wordOf};
-ghost use Rattle.regs.specs.Registers.{fitsIn};
 ghost use Rattle.model.specs.Statics.{isOn};
-ghost use Rattle.state.specs.State.{saved};
+ghost use Rattle.model.specs.Script.{dma};
+ghost use Rattle.model.specs.Machine.{nothing, awaited};
+ghost use Rattle.model_ops.specs.Rings.{placeOn};
+ghost use Rattle.model_ops.specs.Concrete.{go};
+ghost use Rattle.state.specs.State.{view, saved};
 ghost use Rattle.driver.specs.declared.Point.the-variants as Point;
+ghost use Rattle.driver_resume.specs.Announce.{announcing, following};
 ghost use Rattle.machine.specs.declared.Suspended.the-variants as Under;
-ghost use Rattle.machine.specs.Suspended.{decode};
-ghost use Rattle.machine.specs.Stands.{AtNumber, Resumes};
-
-// A reading of 16 bits.
-fn half(v: u32) -> u16
-    requires { ⌜ fitsIn v 16 ≡ true ⌝ }
-    ensures { λ r. ⌜ r ≡ v ⌝ }
-{
-    v as u16
-}
+ghost use Rattle.machine.specs.Suspended.{decode, Stored};
+ghost use Rattle.machine.specs.Stands.{AtNumber, Resumes, Leads, halted};
 
 // EP0 answers NAK, from DATA0 on.
 fn ep0_word() -> u32
     ensures { λ r. ⌜ r ≡ wordOf 2 0 false ⌝ }
 {
     word_of(NAK, DATA0, false) as u32
+}
+
+// A control endpoint has no buffer of its own.
+fn has_buffer(kind: u8) -> bool
+    ensures { λ r. ⌜ r ≡ not (eqb (kind % 4) 0) ⌝ }
+{
+    kind % 4 != 0
+}
+
+// An endpoint is told where its buffer lies.
+fn place_access(s: &mut State, dir: Dir, ep: u8) -> Access
+    ensures { λ r. ⌜ r ≡ dma dir ep (placeOn dir ep (view (now (s .entry))) .0) ⌝ }
+    ensures { λ _. ⌜ view (now (s .exit)) ≡ placeOn dir ep (view (now (s .entry))) .1 ⌝ }
+    ensures { λ r. ⌜ awaited r ≡ nothing ⌝ }
+{
+    let at = place(s, dir, ep);
+    match dir {
+        Dir::Out => Access::Receive(ep, at),
+        Dir::In => Access::Transmit(ep, at),
+    }
+}
+
+// A list's endpoint is announced: its maximum, as its record has it; its buffer, and those left, come after it.
+fn announce(s: &mut State, left: u8, total: u8, dir: Dir, e: u8) -> Step
+    ensures { λ r. ⌜ Leads r (now (s .exit)) (λ b. halted (go (announcing left total dir e) (view (now (s .entry))) b)) ⌝ }
+    ensures { λ r. ⌜ Stored r (now (s .exit)) ⌝ }
+{
+    let r = load_ep(s, dir, e);
+    let q = Access::Write(Reg::EpMaxLen, e, r.max_len as u32);
+    stand_list_max_len(s, q, dir, r.kind, e, left, total)
+}
+
+// The one whose buffers begin where those of the last end, as long as any is left.
+fn announce_after(s: &mut State, left: u8, total: u8, dir: Dir, e: u8) -> Step
+    ensures { λ r. ⌜ Leads r (now (s .exit)) (λ b. halted (go (following left total dir e) (view (now (s .entry))) b)) ⌝ }
+    ensures { λ r. ⌜ Stored r (now (s .exit)) ⌝ }
+{
+    if left == 0 {
+        return stop(s, total as u16);
+    }
+    let x = end_of(s, dir, e);
+    let o = found_at(s, Dir::Out, x);
+    if o == 0 {
+        let n = found_at(s, Dir::In, x);
+        return announce(s, left - 1, total, Dir::In, n);
+    }
+    announce(s, left - 1, total, Dir::Out, o)
 }
 
 // Ctrl is cleared: start-up.
@@ -141,15 +189,12 @@ pub fn resume_max_len(s: &mut State) -> Step
 {
     let ep = ep_byte(s);
     let kind = st_byte(s);
-    if kind % 4 == 0 {
-        return stop(s, ep as u16);
+    if has_buffer(kind) {
+        let dir = flag_dir_at(s);
+        let q = place_access(s, dir, ep);
+        return stand_place(s, q, ep);
     }
-    let dir = flag_dir_at(s);
-    let at = place(s, dir, ep);
-    match dir {
-        Dir::Out => stand_place(s, Access::Receive(ep, at), ep),
-        Dir::In => stand_place(s, Access::Transmit(ep, at), ep),
-    }
+    stop(s, ep as u16)
 }
 
 // Its address is.
@@ -226,8 +271,11 @@ pub fn resume_list_max_len(s: &mut State) -> Step
     let ep = ep_byte(s);
     let left = busy_byte(s);
     let total = late_byte(s);
-    let n = announce::after_max_len(s, dir, kind, ep, left, total);
-    suspend_or_end_driver(s, n)
+    if has_buffer(kind) {
+        let q = place_access(s, dir, ep);
+        return stand_list_place(s, q, dir, ep, left, total);
+    }
+    announce_after(s, left, total, dir, ep)
 }
 
 // Its address is: its successor.
@@ -239,6 +287,5 @@ pub fn resume_list_place(s: &mut State) -> Step
     let ep = ep_byte(s);
     let left = busy_byte(s);
     let total = late_byte(s);
-    let n = announce::after(s, left, total, dir, ep);
-    suspend_or_end_driver(s, n)
+    announce_after(s, left, total, dir, ep)
 }

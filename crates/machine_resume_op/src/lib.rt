@@ -1,19 +1,19 @@
 // An operation under way goes on at its point, with the number brought: the driver's, the bus's, the control pipe's, a read's or write's, a paced advance's.
 // One dispatch on the point's number reaches its function.
-mod bus_resumes; // bus_resumes.rt: the bus's points, one function each
+mod advance_resumes; // advance_resumes.rt: a paced advance's points, one function each
+mod bus_resumes; // bus_resumes.rt: the bus's
 mod control_resumes; // control_resumes.rt: the control pipe's
 mod driver_resumes; // driver_resumes.rt: the driver's own
 mod endpoint_resumes; // endpoint_resumes.rt: a read's or write's
-mod halts; // halts.rt: the driver's own operations suspended or ended
 
-use iso_in::advance;
 use machine::Step;
-use machine::halts::suspend_or_end_advance;
 use machine::loads::sub_byte;
 use state::State;
 ghost use mathlib.Core.Path.{_≡_};
+ghost use mathlib.Core.Bool.{true};
 ghost use mathlib.Core.List.{List};
 ghost use Prim.Native.Nat.{ℕ};
+ghost use Rattle.regs.specs.Registers.{fitsIn};
 ghost use Rattle.state.specs.State.{saved};
 ghost use Rattle.machine.specs.Stands.{Resumes};
 
@@ -115,10 +115,18 @@ pub fn resume_advance(s: &mut State, v: u32) -> Step
     requires { ⌜ saved (now s) .tag ≡ 5 ⌝ }
     ensures { λ r. ⌜ ((b : List ℕ) → Resumes r v (now (s .entry)) b (now (s .exit)) b) ⌝ }
 {
-    let p = iso_in::codec::decode(state::load_saved(s));
-    if advance::fits_at(p, v) {
-        let n = advance::iso_in_advance_resume(s, p, v);
-        return suspend_or_end_advance(s, n);
+    let k = sub_byte(s);
+    match k {
+        1 => advance_resumes::resume_sent(s),
+        2 => advance_resumes::resume_loaded(s),
+        _ => advance_resumes::resume_frame_no(s, v), // 0, or an unknown one
     }
-    Step::Refused(16)
+}
+
+// A reading of 16 bits.
+fn half(v: u32) -> u16
+    requires { ⌜ fitsIn v 16 ≡ true ⌝ }
+    ensures { λ r. ⌜ r ≡ v ⌝ }
+{
+    v as u16
 }

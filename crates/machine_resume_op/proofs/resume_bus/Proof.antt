@@ -1,7 +1,7 @@
-use Rattle.machine_points.specs.BusLaws.{at-first}
+use Rattle.machine_points.specs.StandsLaws.{at-last}
+use Rattle.machine_points.specs.BusLaws.{bus, first}
 use Rattle.state.specs.State.{saved}
 use denote.Ref.{now}
-use mathlib.Core.Path.{sym}
 use borrow.Author.Needs.{needs}
 use Rattle.machine_resume_op.proofs.resume_bus.Statement.{statement}
 use Rattle.machine_resume_op.proofs.resume_bus.Tie as tie
@@ -80,8 +80,8 @@ resume-switch-requires c κs = search needs
 
 resume-enable-requires : tie.Need-resume-enable-requires
 resume-enable-requires c κs =
-    at-first (saved (now (c .before .before .before .before .before .args .s))) _ (c .before .before .before .before .before .pre)
-    (sym (c .before .before .sub-byte .ensures)) (c .before .match .rest)
+    let xs = now (c .before .before .before .before .before .args .s) in
+    at-last bus xs (c .before .before .before .before .before .pre) (c .before .before .sub-byte .ensures) (first (saved xs) _ (c .before .match .rest))
 
 returns : tie.Need-returns
 returns c = c .resume-event .ensures _ _

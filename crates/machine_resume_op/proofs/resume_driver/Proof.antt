@@ -1,7 +1,7 @@
-use Rattle.machine_points.specs.DriverLaws.{at-first}
+use Rattle.machine_points.specs.StandsLaws.{at-last}
+use Rattle.machine_points.specs.DriverLaws.{driver, first}
 use Rattle.state.specs.State.{saved}
 use denote.Ref.{now}
-use mathlib.Core.Path.{sym}
 use borrow.Author.Needs.{needs}
 use Rattle.machine_resume_op.proofs.resume_driver.Statement.{statement}
 use Rattle.machine_resume_op.proofs.resume_driver.Tie as tie
@@ -59,8 +59,8 @@ resume-list-place-requires c κs = search needs
 
 resume-clear-requires : tie.Need-resume-clear-requires
 resume-clear-requires c κs =
-    at-first (saved (now (c .before .before .before .before .args .s))) _ (c .before .before .before .before .pre)
-    (sym (c .before .before .sub-byte .ensures)) (c .before .match .rest)
+    let xs = now (c .before .before .before .before .args .s) in
+    at-last driver xs (c .before .before .before .before .pre) (c .before .before .sub-byte .ensures) (first (saved xs) _ (c .before .match .rest))
 
 returns : tie.Need-returns
 returns c = c .resume-wait .ensures _

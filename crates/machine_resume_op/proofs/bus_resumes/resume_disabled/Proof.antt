@@ -1,6 +1,5 @@
 use Rattle.machine_points.specs.StandsLaws.{at-point, goes-to}
 use Rattle.machine_points.specs.BusLaws.{bus}
-use Rattle.bus.specs.Points.{fitsAt}
 use mathlib.Core.Path.{refl}
 use borrow.Author.Needs.{needs}
 use Rattle.machine_resume_op.proofs.bus_resumes.resume_disabled.Statement.{statement}
@@ -13,7 +12,6 @@ stand-untyped-requires : tie.Need-stand-untyped-requires
 stand-untyped-requires c κs = search needs
 
 returns : tie.Need-returns
-unfolding fitsAt
 returns c =
     let next = c .before .before .after-disabled in
     λ v b. goes-to bus (at-point bus 14 (c .before .before .before .before .pre) refl) refl (c .stand-untyped .ensures) (next .ensures .1 .1)

@@ -1,6 +1,5 @@
 use Rattle.machine_points.specs.StandsLaws.{goes-to, stays-at}
 use Rattle.machine_points.specs.BusLaws.{bus}
-use Rattle.bus.specs.Points.{fitsAt}
 use mathlib.Core.Path.{sym, _∙_}
 use borrow.Author.Needs.{needs}
 use Rattle.machine_resume_op.proofs.bus_resumes.resume_enable.Statement.{statement}
@@ -16,7 +15,6 @@ stand-event-requires : tie.Need-stand-event-requires
 stand-event-requires c κs = search needs
 
 returns : tie.Need-returns
-unfolding fitsAt
 returns c =
     let next = c .before .before .after-enable in
     λ b. goes-to bus (c .before .before .before .before .before .pre)
@@ -24,7 +22,6 @@ returns c =
     (next .ensures .0 _ b)
 
 returns-2 : tie.Need-returns-2
-unfolding fitsAt
 returns-2 c = λ b. stays-at bus (c .before .before .pre) (sym (c .before .fits2 .ensures) ∙ c .if1 .left)
 
 pub resume-enable-spec : {M : Type 1} → statement M

@@ -1,6 +1,5 @@
 use Rattle.machine_points.specs.StandsLaws.{at-point, goes-to}
 use Rattle.machine_points.specs.BusLaws.{bus}
-use Rattle.bus.specs.Points.{fitsAt}
 use mathlib.Core.Path.{refl}
 use borrow.Author.Needs.{needs}
 use Rattle.machine_resume_op.proofs.bus_resumes.resume_ep0_out.Statement.{statement}
@@ -13,7 +12,6 @@ stand-naked-requires : tie.Need-stand-naked-requires
 stand-naked-requires c κs = search needs
 
 returns : tie.Need-returns
-unfolding fitsAt
 returns c =
     let next = c .before .before .after-ep0-out in
     λ v b. goes-to bus (at-point bus 11 (c .before .before .before .pre) refl) refl (c .stand-naked .ensures) (next .ensures .1) (next .ensures .0 v _ b)

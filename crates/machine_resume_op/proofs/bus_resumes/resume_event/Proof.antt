@@ -1,6 +1,5 @@
 use Rattle.machine_points.specs.StandsLaws.{at-point, comes-to}
 use Rattle.machine_points.specs.BusLaws.{bus}
-use Rattle.bus.specs.Points.{fitsAt}
 use Rattle.bus.specs.declared.Point.the-variants as point
 use mathlib.Core.Path.{refl, ap}
 use borrow.Author.Needs.{needs}
@@ -17,7 +16,6 @@ stop-requires : tie.Need-stop-requires
 stop-requires c κs = search needs
 
 returns : tie.Need-returns
-unfolding fitsAt
 returns c =
     λ v b. comes-to bus (at-point bus 1 (c .before .before .before .before .pre) (ap point.Event (c .before .before .st-byte .ensures))) refl (c .stop .ensures)
     refl

@@ -22,7 +22,7 @@ stand-address-requires : tie.Need-stand-address-requires
 stand-address-requires c κs = search needs
 
 returns : tie.Need-returns
-unfolding fitsAt afterFlags afterNaked
+unfolding afterFlags afterNaked
 returns c =
     let fitted = sym (c .before .before .before .before .before .before .fits2 .ensures) ∙ c .before .before .before .before .before .if1 .taken in
     λ b. goes-to bus (at-point bus 7 (c .before .before .before .before .before .before .before .pre) refl) fitted (c .stand-address .ensures) refl
@@ -35,7 +35,7 @@ stand-status-requires : tie.Need-stand-status-requires
 stand-status-requires c κs = search needs
 
 returns-2 : tie.Need-returns-2
-unfolding fitsAt afterFlags afterNaked
+unfolding afterFlags afterNaked
 returns-2 c =
     let the-if3 = c .before .before .if3 in
     let the-suspend = c .before .before .before .suspend in
@@ -52,7 +52,7 @@ stop-requires : tie.Need-stop-requires
 stop-requires c κs = search needs
 
 returns-3 : tie.Need-returns-3
-unfolding fitsAt afterFlags afterNaked
+unfolding afterFlags afterNaked
 returns-3 c =
     let the-if3 = c .before .before .if3 in
     let the-suspend = c .before .before .before .suspend in
@@ -65,7 +65,7 @@ returns-3 c =
     (simp (← the-byte .ensures, ← the-bus-rst .ensures, the-if2 .left, ← the-suspend .ensures, the-if3 .left))
 
 returns-4 : tie.Need-returns-4
-unfolding fitsAt afterFlags afterNaked
+unfolding afterFlags afterNaked
 returns-4 c = λ b. stays-at bus (at-point bus 7 (c .before .before .pre) refl) (sym (c .before .fits2 .ensures) ∙ c .if1 .left)
 
 pub resume-flags-spec : {M : Type 1} → statement M

@@ -1,6 +1,5 @@
 use Rattle.machine_points.specs.StandsLaws.{at-point, goes-to}
 use Rattle.machine_points.specs.BusLaws.{bus}
-use Rattle.bus.specs.Points.{fitsAt}
 use Rattle.bus.specs.declared.Point.the-variants as point
 use mathlib.Core.Path.{refl, ap}
 use borrow.Author.Needs.{needs}
@@ -20,7 +19,6 @@ stand-nak-in-requires : tie.Need-stand-nak-in-requires
 stand-nak-in-requires c κs = search needs
 
 returns : tie.Need-returns
-unfolding fitsAt
 returns c =
     let next = c .before .before .after-naked in
     λ v b. goes-to bus
@@ -34,7 +32,6 @@ stand-disabled-requires : tie.Need-stand-disabled-requires
 stand-disabled-requires c κs = search needs
 
 returns-2 : tie.Need-returns-2
-unfolding fitsAt
 returns-2 c =
     let next = c .before .before .after-last in
     λ v b. goes-to bus (at-point bus 13 (c .before .before .before .before .before .before .before .pre)

@@ -1,7 +1,6 @@
 use Rattle.machine.specs.StandsLaws.{parts3}
 use Rattle.machine_points.specs.StandsLaws.{at-point, goes-to}
 use Rattle.machine_points.specs.BusLaws.{bus}
-use Rattle.bus.specs.Points.{fitsAt}
 use Rattle.bus.specs.declared.Point.the-variants as point
 use mathlib.Core.Bool.{true}
 use mathlib.Core.Path.{refl}
@@ -25,7 +24,6 @@ stand-no-length-requires : tie.Need-stand-no-length-requires
 stand-no-length-requires c κs = search needs
 
 returns : tie.Need-returns
-unfolding fitsAt
 returns c =
     let next = c .before .before .after-placed-in in
     let here = at-point bus 19 (c .before .before .before .before .before .before .before .before .before .pre) (parts3 point.PlacedIn

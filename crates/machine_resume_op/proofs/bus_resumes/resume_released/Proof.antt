@@ -1,6 +1,5 @@
 use Rattle.machine_points.specs.StandsLaws.{at-point, goes-to}
 use Rattle.machine_points.specs.BusLaws.{bus}
-use Rattle.bus.specs.Points.{fitsAt}
 use Rattle.bus.specs.declared.Point.the-variants as point
 use mathlib.Core.Bool.{true, false}
 use mathlib.Core.Path.{refl, ap, sym, _∙_}
@@ -18,7 +17,6 @@ stand-event-requires : tie.Need-stand-event-requires
 stand-event-requires c κs = search needs
 
 returns : tie.Need-returns
-unfolding fitsAt
 returns c =
     let next = c .before .before .before .after-released in
     let here = at-point bus 9 (c .before .before .before .before .before .before .before .pre)
@@ -29,7 +27,6 @@ stand-event-requires-2 : tie.Need-stand-event-requires-2
 stand-event-requires-2 c κs = search needs
 
 returns-2 : tie.Need-returns-2
-unfolding fitsAt
 returns-2 c =
     let next = c .before .before .before .after-released in
     let here = at-point bus 9 (c .before .before .before .before .before .before .before .pre)

@@ -1,6 +1,5 @@
 use Rattle.machine_points.specs.StandsLaws.{at-point, goes-to}
 use Rattle.machine_points.specs.BusLaws.{bus}
-use Rattle.bus.specs.Points.{fitsAt}
 use mathlib.Core.Path.{refl}
 use borrow.Author.Needs.{needs}
 use Rattle.machine_resume_op.proofs.bus_resumes.resume_reset.Statement.{statement}
@@ -13,7 +12,6 @@ stand-event-requires : tie.Need-stand-event-requires
 stand-event-requires c κs = search needs
 
 returns : tie.Need-returns
-unfolding fitsAt
 returns c =
     let next = c .before .before .after-reset in
     λ v b. goes-to bus (at-point bus 17 (c .before .before .before .before .pre) refl) refl (c .stand-event .ensures) (next .ensures .1 .1)

@@ -1,6 +1,6 @@
 use Rattle.machine.specs.StandsLaws.{parts2}
 use Rattle.machine_points.specs.StandsLaws.{at-point, goes-to, stays-at}
-use Rattle.machine_points.specs.BusLaws.{bus, fits-word}
+use Rattle.machine_points.specs.BusLaws.{bus}
 use Rattle.bus.specs.declared.Point.the-variants as point
 use mathlib.Core.Path.{sym, _∙_, refl}
 use borrow.Author.Needs.{needs}
@@ -33,10 +33,10 @@ returns c =
     ∙ c .before .before .before .before .before .before .before .if1 .taken in
     let here = at-point bus 4 (c .before .before .before .before .before .before .before .before .before .pre)
     (parts2 point.StallWord (the-dir-at .ensures) (the-ep-byte .ensures)) in
-    λ b. goes-to bus here (fits-word _ _ _ fitted) (stood .ensures) (next .ensures .1) (next .ensures .0 _ b)
+    λ b. goes-to bus here fitted (stood .ensures) (next .ensures .1) (next .ensures .0 _ b)
 
 returns-2 : tie.Need-returns-2
-returns-2 c = λ b. stays-at bus (at-point bus 4 (c .before .before .pre) refl) (fits-word _ _ _ (sym (c .before .fits2 .ensures) ∙ c .if1 .left))
+returns-2 c = λ b. stays-at bus (at-point bus 4 (c .before .before .pre) refl) (sym (c .before .fits2 .ensures) ∙ c .if1 .left)
 
 pub resume-stall-word-spec : {M : Type 1} → statement M
 resume-stall-word-spec = tie.close (tie.spec fits-requires dir-at-requires ep-byte-requires after-stall-word-requires stand-woken-requires returns returns-2)

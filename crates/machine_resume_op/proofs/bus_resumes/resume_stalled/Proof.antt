@@ -1,6 +1,5 @@
 use Rattle.machine_points.specs.StandsLaws.{at-point, comes-to, stays-at}
 use Rattle.machine_points.specs.BusLaws.{bus}
-use Rattle.bus.specs.Points.{fitsAt}
 use mathlib.Core.Path.{sym, _∙_, refl}
 use borrow.Author.Needs.{needs}
 use Rattle.machine_resume_op.proofs.bus_resumes.resume_stalled.Statement.{statement}
@@ -16,14 +15,12 @@ stop-requires : tie.Need-stop-requires
 stop-requires c κs = search needs
 
 returns : tie.Need-returns
-unfolding fitsAt
 returns c =
     let fitted = sym (c .before .before .before .before .fits2 .ensures) ∙ c .before .before .before .if1 .taken in
     let here = at-point bus 2 (c .before .before .before .before .before .pre) refl in
     λ b. comes-to bus here fitted (c .stop .ensures) (c .before .before .after-stalled .ensures _ b)
 
 returns-2 : tie.Need-returns-2
-unfolding fitsAt
 returns-2 c = λ b. stays-at bus (at-point bus 2 (c .before .before .pre) refl) (sym (c .before .fits2 .ensures) ∙ c .if1 .left)
 
 pub resume-stalled-spec : {M : Type 1} → statement M

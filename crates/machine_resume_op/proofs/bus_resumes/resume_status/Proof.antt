@@ -22,14 +22,14 @@ stand-released-requires : tie.Need-stand-released-requires
 stand-released-requires c κs = search needs
 
 returns : tie.Need-returns
-unfolding fitsAt afterStatus
+unfolding afterStatus
 returns c =
     let fitted = sym (c .before .before .before .before .before .fits2 .ensures) ∙ c .before .before .before .before .if1 .taken in
     λ b. goes-to bus (at-point bus 8 (c .before .before .before .before .before .before .pre) refl) fitted (c .stand-released .ensures) refl
     (simp (← c .before .before .before .byte .ensures, ← c .before .before .suspended .ensures))
 
 returns-2 : tie.Need-returns-2
-unfolding fitsAt afterStatus
+unfolding afterStatus
 returns-2 c = λ b. stays-at bus (at-point bus 8 (c .before .before .pre) refl) (sym (c .before .fits2 .ensures) ∙ c .if1 .left)
 
 pub resume-status-spec : {M : Type 1} → statement M

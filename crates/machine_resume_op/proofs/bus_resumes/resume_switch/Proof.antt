@@ -1,7 +1,7 @@
 use Rattle.machine.specs.StandsLaws.{parts3}
 use Rattle.machine_points.specs.StandsLaws.{at-point, goes-to, comes-to}
 use Rattle.machine_points.specs.BusLaws.{bus}
-use Rattle.bus.specs.Points.{fitsAt, switching, woken}
+use Rattle.bus.specs.Points.{switching, woken}
 use Rattle.bus.specs.declared.Point.the-variants as point
 use mathlib.Core.Path.{refl, sym, _∙_}
 use borrow.Author.Needs.{needs}
@@ -24,7 +24,7 @@ stop-requires : tie.Need-stop-requires
 stop-requires c κs = search needs
 
 returns : tie.Need-returns
-unfolding fitsAt switching woken
+unfolding switching woken
 returns c =
     let here = at-point bus 23 (c .before .before .before .before .before .before .before .before .before .before .before .before .pre) (parts3 point.Switch
     (c .before .before .before .before .before .before .before .before .before .ep-byte .ensures)
@@ -45,7 +45,7 @@ same-length : tie.Need-same-length
 same-length c = search needs
 
 returns-2 : tie.Need-returns-2
-unfolding fitsAt switching woken
+unfolding switching woken
 returns-2 c =
     let stood = c .stand-switch in
     let next = c .before .before .before .before .after-switch in

@@ -1,6 +1,5 @@
 use Rattle.machine_points.specs.StandsLaws.{at-point, goes-to}
 use Rattle.machine_points.specs.BusLaws.{bus}
-use Rattle.bus.specs.Points.{fitsAt}
 use mathlib.Core.Path.{refl}
 use borrow.Author.Needs.{needs}
 use Rattle.machine_resume_op.proofs.bus_resumes.resume_untyped.Statement.{statement}
@@ -13,7 +12,6 @@ stand-single-requires : tie.Need-stand-single-requires
 stand-single-requires c κs = search needs
 
 returns : tie.Need-returns
-unfolding fitsAt
 returns c =
     let next = c .before .before .after-untyped in
     λ v b. goes-to bus (at-point bus 15 (c .before .before .before .pre) refl) refl (c .stand-single .ensures) (next .ensures .1) (next .ensures .0 v _ b)

@@ -1,7 +1,7 @@
 use Rattle.machine.specs.StandsLaws.{parts2}
 use Rattle.machine_points.specs.StandsLaws.{at-point, comes-to}
 use Rattle.machine_points.specs.BusLaws.{bus}
-use Rattle.bus.specs.Points.{fitsAt, woken}
+use Rattle.bus.specs.Points.{woken}
 use Rattle.bus.specs.declared.Point.the-variants as point
 use mathlib.Core.Path.{refl}
 use borrow.Author.Needs.{needs}
@@ -21,7 +21,7 @@ stop-requires : tie.Need-stop-requires
 stop-requires c κs = search needs
 
 returns : tie.Need-returns
-unfolding fitsAt woken
+unfolding woken
 returns c =
     let here = at-point bus 6 (c .before .before .before .before .before .before .before .before .pre)
     (parts2 point.Woken (c .before .before .before .before .before .before .dir-at .ensures) (c .before .before .before .before .ep-byte .ensures)) in

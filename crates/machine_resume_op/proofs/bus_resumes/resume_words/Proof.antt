@@ -1,7 +1,6 @@
 use Rattle.machine.specs.StandsLaws.{parts4}
 use Rattle.machine_points.specs.StandsLaws.{at-point, goes-to}
 use Rattle.machine_points.specs.BusLaws.{bus}
-use Rattle.bus.specs.Points.{fitsAt}
 use Rattle.bus.specs.declared.Point.the-variants as point
 use mathlib.Core.Path.{refl}
 use borrow.Author.Needs.{needs}
@@ -27,7 +26,6 @@ stand-typed-requires : tie.Need-stand-typed-requires
 stand-typed-requires c κs = search needs
 
 returns : tie.Need-returns
-unfolding fitsAt
 returns c =
     let next = c .before .before .after-words in
     let here = at-point bus 21 (c .before .before .before .before .before .before .before .before .before .before .before .before .pre) (parts4 point.Words

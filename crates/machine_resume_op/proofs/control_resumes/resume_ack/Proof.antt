@@ -1,5 +1,5 @@
 use Rattle.machine_points.specs.StandsLaws.{at-point, goes-to, stays-at}
-use Rattle.machine_points.specs.ControlLaws.{control, fits-ack}
+use Rattle.machine_points.specs.ControlLaws.{control}
 use Rattle.control.specs.declared.Point.the-variants as point
 use mathlib.Core.Path.{refl, ap, sym, _∙_}
 use borrow.Author.Needs.{needs}
@@ -36,11 +36,11 @@ returns c =
     let the-ack = c .before .before .before .ack in
     let the-byte = c .before .before .before .before .byte in
     let here = at-point control 1 (c .before .before .before .before .before .before .before .before .before .pre) (ap point.Ack (the-dir-at .ensures)) in
-    λ b. goes-to control here (fits-ack _ _ (sym (the-fits2 .ensures) ∙ the-if1 .taken)) (c .stand-wrote .ensures) refl (simp
+    λ b. goes-to control here (sym (the-fits2 .ensures) ∙ the-if1 .taken) (c .stand-wrote .ensures) refl (simp
     (the-ctrl-of .ensures, the-ack .ensures, the-byte .ensures))
 
 returns-2 : tie.Need-returns-2
-returns-2 c = λ b. stays-at control (at-point control 1 (c .before .before .pre) refl) (fits-ack _ _ (sym (c .before .fits2 .ensures) ∙ c .if1 .left))
+returns-2 c = λ b. stays-at control (at-point control 1 (c .before .before .pre) refl) (sym (c .before .fits2 .ensures) ∙ c .if1 .left)
 
 pub resume-ack-spec : {M : Type 1} → statement M
 resume-ack-spec = tie.close (tie.spec fits-requires dir-at-requires byte-requires ack-requires ctrl-of-requires cast-t10 stand-wrote-requires returns returns-2)

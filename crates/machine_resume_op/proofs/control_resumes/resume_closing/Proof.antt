@@ -1,7 +1,6 @@
 use Rattle.machine.specs.StandsLaws.{parts2}
 use Rattle.machine_points.specs.StandsLaws.{at-point, goes-to}
 use Rattle.machine_points.specs.ControlLaws.{control}
-use Rattle.control.specs.Points.{fitsAt}
 use Rattle.control.specs.declared.Point.the-variants as point
 use mathlib.Core.Path.{refl}
 use borrow.Author.Needs.{needs}
@@ -24,7 +23,6 @@ stand-loaded-requires : tie.Need-stand-loaded-requires
 stand-loaded-requires c κs = search needs
 
 returns : tie.Need-returns
-unfolding fitsAt
 returns c =
     let here = at-point control 7 (c .before .before .before .before .before .before .before .before .pre)
     (parts2 point.Closing (c .before .before .before .before .before .before .len-word .ensures) (c .before .before .before .before .on-at .ensures))

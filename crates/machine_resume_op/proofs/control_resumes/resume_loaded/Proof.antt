@@ -1,6 +1,5 @@
 use Rattle.machine_points.specs.StandsLaws.{at-point, goes-to}
 use Rattle.machine_points.specs.ControlLaws.{control}
-use Rattle.control.specs.Points.{fitsAt}
 use Rattle.control.specs.declared.Point.the-variants as point
 use mathlib.Core.Path.{refl, ap, sym, _∙_}
 use borrow.Author.Needs.{needs}
@@ -20,7 +19,6 @@ stand-wrote-requires : tie.Need-stand-wrote-requires
 stand-wrote-requires c κs = search needs
 
 returns : tie.Need-returns
-unfolding fitsAt
 returns c =
     let here = at-point control 8 (c .before .before .before .before .before .before .pre)
     (ap point.Loaded (sym (c .before .before .before .if1 .taken) ∙ c .before .before .before .before .on-at .ensures)) in
@@ -30,7 +28,6 @@ stand-ack-in-requires : tie.Need-stand-ack-in-requires
 stand-ack-in-requires c κs = search needs
 
 returns-2 : tie.Need-returns-2
-unfolding fitsAt
 returns-2 c =
     λ v b. goes-to control (at-point control 8 (c .before .before .before .before .before .pre)
     (ap point.Loaded (sym (c .before .before .if1 .left) ∙ c .before .before .before .on-at .ensures))) refl (c .stand-ack-in .ensures) refl refl

@@ -1,6 +1,5 @@
 use Rattle.machine_points.specs.StandsLaws.{at-point, goes-to, stays-at}
 use Rattle.machine_points.specs.ControlLaws.{control}
-use Rattle.control.specs.Points.{fitsAt}
 use mathlib.Core.Path.{refl, sym, _∙_}
 use borrow.Author.Needs.{needs}
 use Rattle.machine_resume_op.proofs.control_resumes.resume_stall_out.Statement.{statement}
@@ -22,14 +21,12 @@ stand-wrote-requires : tie.Need-stand-wrote-requires
 stand-wrote-requires c κs = search needs
 
 returns : tie.Need-returns
-unfolding fitsAt
 returns c =
     let here = at-point control 6 (c .before .before .before .before .before .before .pre) refl in
     λ b. goes-to control here (sym (c .before .before .before .before .before .fits2 .ensures) ∙ c .before .before .before .before .if1 .taken)
     (c .stand-wrote .ensures) refl (simp (c .before .before .stall .ensures, c .before .before .before .byte .ensures))
 
 returns-2 : tie.Need-returns-2
-unfolding fitsAt
 returns-2 c = λ b. stays-at control (at-point control 6 (c .before .before .pre) refl) (sym (c .before .fits2 .ensures) ∙ c .if1 .left)
 
 pub resume-stall-out-spec : {M : Type 1} → statement M

@@ -1,6 +1,5 @@
 use Rattle.machine_points.specs.StandsLaws.{at-point, goes-to}
 use Rattle.machine_points.specs.ControlLaws.{control}
-use Rattle.control.specs.Points.{fitsAt}
 use mathlib.Core.Path.{refl}
 use borrow.Author.Needs.{needs}
 use Rattle.machine_resume_op.proofs.control_resumes.resume_status_len.Statement.{statement}
@@ -10,7 +9,6 @@ stand-status-requires : tie.Need-stand-status-requires
 stand-status-requires c κs = search needs
 
 returns : tie.Need-returns
-unfolding fitsAt
 returns c = λ v b. goes-to control (at-point control 2 (c .before .before .pre) refl) refl (c .stand-status .ensures) refl refl
 
 pub resume-status-len-spec : {M : Type 1} → statement M

@@ -1,6 +1,5 @@
 use Rattle.machine_points.specs.StandsLaws.{goes-to}
 use Rattle.machine_points.specs.DriverLaws.{driver}
-use Rattle.driver.specs.Points.{fitsAt}
 use Rattle.driver.specs.declared.Point.the-variants as point
 use Rattle.machine.specs.declared.Suspended.the-variants as under
 use mathlib.Core.Bool.{Bool}
@@ -16,7 +15,6 @@ stand-wait-requires : tie.Need-stand-wait-requires
 stand-wait-requires c κs = search needs
 
 returns : tie.Need-returns
-unfolding fitsAt
 returns c =
     λ v b. goes-to driver (c .before .before .before .before .pre ∙ ap (λ (on : Bool). under.Driver (point.Clear on)) (sym (c .before .before .on-at .ensures)))
     refl (c .stand-wait .ensures) refl refl

@@ -1,6 +1,5 @@
 use Rattle.machine_points.specs.StandsLaws.{at-point, goes-to}
 use Rattle.machine_points.specs.DriverLaws.{driver}
-use Rattle.driver.specs.Points.{fitsAt}
 use mathlib.Core.Path.{refl}
 use borrow.Author.Needs.{needs}
 use Rattle.machine_resume_op.proofs.driver_resumes.resume_ep0_max_len.Statement.{statement}
@@ -13,7 +12,6 @@ stand-ep0-rx-requires : tie.Need-stand-ep0-rx-requires
 stand-ep0-rx-requires c κs = search needs
 
 returns : tie.Need-returns
-unfolding fitsAt
 returns c =
     let here = at-point driver 10 (c .before .before .before .pre) refl in
     λ v b. goes-to driver here refl (c .stand-ep0-rx .ensures) refl (simp (c .before .before .ep0-word .ensures))

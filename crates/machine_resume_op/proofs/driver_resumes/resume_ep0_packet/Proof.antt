@@ -1,6 +1,5 @@
 use Rattle.machine_points.specs.StandsLaws.{at-point, comes-to}
 use Rattle.machine_points.specs.DriverLaws.{driver}
-use Rattle.driver.specs.Points.{fitsAt}
 use mathlib.Core.Path.{refl}
 use borrow.Author.Needs.{needs}
 use Rattle.machine_resume_op.proofs.driver_resumes.resume_ep0_packet.Statement.{statement}
@@ -10,7 +9,6 @@ stop-requires : tie.Need-stop-requires
 stop-requires c κs = search needs
 
 returns : tie.Need-returns
-unfolding fitsAt
 returns c = λ v b. comes-to driver (at-point driver 13 (c .before .before .pre) refl) refl (c .stop .ensures) refl
 
 pub resume-ep0-packet-spec : {M : Type 1} → statement M

@@ -1,6 +1,5 @@
 use Rattle.machine_points.specs.StandsLaws.{at-point, goes-to}
 use Rattle.machine_points.specs.DriverLaws.{driver}
-use Rattle.driver.specs.Points.{fitsAt}
 use Rattle.driver.specs.declared.Point.the-variants as point
 use mathlib.Core.Path.{refl, ap}
 use borrow.Author.Needs.{needs}
@@ -14,7 +13,6 @@ stand-ep0-max-len-requires : tie.Need-stand-ep0-max-len-requires
 stand-ep0-max-len-requires c κs = search needs
 
 returns : tie.Need-returns
-unfolding fitsAt
 returns c =
     λ v b. goes-to driver (at-point driver 9 (c .before .before .before .before .pre) (ap point.Ep0Place (c .before .before .value-word .ensures))) refl
     (c .stand-ep0-max-len .ensures) refl refl

@@ -1,6 +1,5 @@
 use Rattle.machine_points.specs.StandsLaws.{at-point, goes-to}
 use Rattle.machine_points.specs.DriverLaws.{driver}
-use Rattle.driver.specs.Points.{fitsAt}
 use mathlib.Core.Path.{refl}
 use borrow.Author.Needs.{needs}
 use Rattle.machine_resume_op.proofs.driver_resumes.resume_ep0_tx.Statement.{statement}
@@ -10,7 +9,6 @@ stand-ep0-packet-requires : tie.Need-stand-ep0-packet-requires
 stand-ep0-packet-requires c κs = search needs
 
 returns : tie.Need-returns
-unfolding fitsAt
 returns c = λ v b. goes-to driver (at-point driver 12 (c .before .before .pre) refl) refl (c .stand-ep0-packet .ensures) refl refl
 
 pub resume-ep0-tx-spec : {M : Type 1} → statement M

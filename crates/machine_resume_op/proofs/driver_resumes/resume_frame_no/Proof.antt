@@ -1,6 +1,5 @@
 use Rattle.machine_points.specs.StandsLaws.{at-point, comes-to, stays-at}
 use Rattle.machine_points.specs.DriverLaws.{driver}
-use Rattle.driver.specs.Points.{fitsAt}
 use mathlib.Core.Path.{sym, _∙_, refl}
 use borrow.Author.Needs.{needs}
 use Rattle.machine_resume_op.proofs.driver_resumes.resume_frame_no.Statement.{statement}
@@ -19,14 +18,12 @@ stop-requires : tie.Need-stop-requires
 stop-requires c κs = search needs
 
 returns : tie.Need-returns
-unfolding fitsAt
 returns c =
     let here = at-point driver 14 (c .before .before .before .before .before .before .pre) refl in
     λ b. comes-to driver here (sym (c .before .before .before .before .before .fits2 .ensures) ∙ c .before .before .before .before .if1 .taken)
     (c .stop .ensures) (simp (c .before .before .microframe-index .ensures, c .before .before .before .half .ensures))
 
 returns-2 : tie.Need-returns-2
-unfolding fitsAt
 returns-2 c = λ b. stays-at driver (at-point driver 14 (c .before .before .pre) refl) (sym (c .before .fits2 .ensures) ∙ c .if1 .left)
 
 pub resume-frame-no-spec : {M : Type 1} → statement M

@@ -1,6 +1,5 @@
 use Rattle.machine_points.specs.StandsLaws.{at-point, goes-to}
 use Rattle.machine_points.specs.DriverLaws.{driver}
-use Rattle.driver.specs.Points.{fitsAt}
 use Rattle.driver.specs.declared.Point.the-variants as point
 use mathlib.Core.Path.{refl, ap}
 use borrow.Author.Needs.{needs}
@@ -17,7 +16,6 @@ stand-run-requires : tie.Need-stand-run-requires
 stand-run-requires c κs = search needs
 
 returns : tie.Need-returns
-unfolding fitsAt
 returns c =
     λ v b. goes-to driver (at-point driver 4 (c .before .before .before .before .before .pre) (ap point.Host (c .before .before .before .on-at .ensures))) refl
     (c .stand-run .ensures) refl (simp (c .before .before .run .ensures))

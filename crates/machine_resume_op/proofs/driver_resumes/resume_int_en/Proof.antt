@@ -1,6 +1,5 @@
 use Rattle.machine_points.specs.StandsLaws.{at-point, comes-to}
 use Rattle.machine_points.specs.DriverLaws.{driver}
-use Rattle.driver.specs.Points.{fitsAt}
 use mathlib.Core.Path.{refl}
 use borrow.Author.Needs.{needs}
 use Rattle.machine_resume_op.proofs.driver_resumes.resume_int_en.Statement.{statement}
@@ -10,7 +9,6 @@ stop-requires : tie.Need-stop-requires
 stop-requires c κs = search needs
 
 returns : tie.Need-returns
-unfolding fitsAt
 returns c = λ v b. comes-to driver (at-point driver 6 (c .before .before .pre) refl) refl (c .stop .ensures) refl
 
 pub resume-int-en-spec : {M : Type 1} → statement M

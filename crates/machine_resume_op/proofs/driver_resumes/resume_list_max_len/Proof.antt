@@ -1,8 +1,11 @@
 use Rattle.machine.specs.StandsLaws.{parts5}
-use Rattle.machine_points.specs.StandsLaws.{at-point, follows}
+use Rattle.machine_points.specs.StandsLaws.{at-point, goes-to, follows}
 use Rattle.machine_points.specs.DriverLaws.{driver}
-use Rattle.driver.specs.Points.{fitsAt}
 use Rattle.driver.specs.declared.Point.the-variants as point
+use Rattle.driver_resume.specs.Announce.{following}
+use Rattle.model_ops.specs.Concrete.{go}
+use Rattle.state.specs.State.{view}
+use denote.Ref.{now}
 use mathlib.Core.Path.{refl}
 use borrow.Author.Needs.{needs}
 use Rattle.machine_resume_op.proofs.driver_resumes.resume_list_max_len.Statement.{statement}
@@ -23,24 +26,38 @@ busy-byte-requires c κs = search needs
 late-byte-requires : tie.Need-late-byte-requires
 late-byte-requires c κs = search needs
 
-after-max-len-requires : tie.Need-after-max-len-requires
-after-max-len-requires c κs = search needs
+has-buffer-requires : tie.Need-has-buffer-requires
+has-buffer-requires c κs = search needs
 
-suspend-or-end-driver-requires : tie.Need-suspend-or-end-driver-requires
-suspend-or-end-driver-requires c κs = search needs
+place-access-requires : tie.Need-place-access-requires
+place-access-requires c κs = search needs
+
+stand-list-place-requires : tie.Need-stand-list-place-requires
+stand-list-place-requires c κs = search needs
 
 returns : tie.Need-returns
-unfolding fitsAt
 returns c =
-    let ended = c .suspend-or-end-driver in
-    let here = at-point driver 15 (c .before .before .before .before .before .before .before .before .before .before .before .before .before .before .pre)
-    (parts5 point.ListMaxLen (c .before .before .before .before .before .before .before .before .before .before .before .before .flag-dir-at .ensures)
-    (c .before .before .before .before .before .before .before .before .before .before .st-byte .ensures)
-    (c .before .before .before .before .before .before .before .before .ep-byte .ensures)
-    (c .before .before .before .before .before .before .busy-byte .ensures) (c .before .before .before .before .late-byte .ensures)) in
-    λ v b. follows driver here refl (c .before .before .after-max-len .ensures .0 b) (ended .ensures .0 b) (ended .ensures .1)
+    let placed = c .before .before .place-access in
+    let loaded = c .before .before .before .before .before .before in
+    let here = at-point driver 15 (c .before .before .before .before .before .before .before .before .before .before .before .before .before .before .before .before .pre) (parts5 point.ListMaxLen (loaded .before .before .before .before .before .before .before .before .flag-dir-at .ensures) (loaded .before .before .before .before .before .before .st-byte .ensures)
+    (loaded .before .before .before .before .ep-byte .ensures) (loaded .before .before .busy-byte .ensures) (loaded .late-byte .ensures)) in
+    λ v b. goes-to driver here refl (c .stand-list-place .ensures) (placed .ensures .1 .1)
+    (simp (placed .ensures .0, placed .ensures .1 .0, ← c .before .before .before .before .before .has-buffer .ensures, c .before .before .before .before .if1 .taken))
+
+announce-after-requires : tie.Need-announce-after-requires
+announce-after-requires c κs = search needs
+
+returns-2 : tie.Need-returns-2
+returns-2 c =
+    let next = c .announce-after in
+    let loaded = c .before .before .before .before in
+    let here = at-point driver 15 (c .before .before .before .before .before .before .before .before .before .before .before .before .before .before .pre) (parts5 point.ListMaxLen (loaded .before .before .before .before .before .before .before .before .flag-dir-at .ensures) (loaded .before .before .before .before .before .before .st-byte .ensures)
+    (loaded .before .before .before .before .ep-byte .ensures) (loaded .before .before .busy-byte .ensures) (loaded .late-byte .ensures)) in
+    let left = following (loaded .before .before .busy-byte .result) (loaded .late-byte .result) (loaded .before .before .before .before .before .before .before .before .flag-dir-at .result) (loaded .before .before .before .before .ep-byte .result) in
+    λ v b. follows driver {o = go left (view (now (c .before .before .before .before .before .before .before .before .before .before .before .before .before .before .args .s))) b} here refl (next .ensures .0 b) (next .ensures .1)
+    (simp (← c .before .before .before .has-buffer .ensures, c .before .before .if1 .left))
 
 pub resume-list-max-len-spec : {M : Type 1} → statement M
 resume-list-max-len-spec =
-    tie.close (tie.spec flag-dir-at-requires st-byte-requires ep-byte-requires busy-byte-requires late-byte-requires after-max-len-requires
-    suspend-or-end-driver-requires returns)
+    tie.close (tie.spec flag-dir-at-requires st-byte-requires ep-byte-requires busy-byte-requires late-byte-requires has-buffer-requires
+    place-access-requires stand-list-place-requires returns announce-after-requires returns-2)

@@ -1,6 +1,5 @@
 use Rattle.machine_points.specs.StandsLaws.{at-point, goes-to, stays-at}
 use Rattle.machine_points.specs.DriverLaws.{driver}
-use Rattle.driver.specs.Points.{fitsAt}
 use Rattle.driver.specs.declared.Point.the-variants as point
 use mathlib.Core.Path.{refl, ap, sym, _∙_}
 use borrow.Author.Needs.{needs}
@@ -20,7 +19,6 @@ stand-reset-end-requires : tie.Need-stand-reset-end-requires
 stand-reset-end-requires c κs = search needs
 
 returns : tie.Need-returns
-unfolding fitsAt
 returns c =
     λ b. goes-to driver
     (at-point driver 2 (c .before .before .before .before .before .before .before .pre) (ap point.Reset (c .before .before .before .on-at .ensures)))
@@ -28,7 +26,6 @@ returns c =
     (c .stand-reset-end .ensures) refl (simp (c .before .before .reset-ended .ensures))
 
 returns-2 : tie.Need-returns-2
-unfolding fitsAt
 returns-2 c = λ b. stays-at driver (at-point driver 2 (c .before .before .pre) refl) (sym (c .before .fits2 .ensures) ∙ c .if1 .left)
 
 pub resume-reset-spec : {M : Type 1} → statement M

@@ -1,6 +1,5 @@
 use Rattle.machine_points.specs.StandsLaws.{at-point, goes-to}
 use Rattle.machine_points.specs.DriverLaws.{driver}
-use Rattle.driver.specs.Points.{fitsAt}
 use Rattle.driver.specs.declared.Point.the-variants as point
 use mathlib.Core.Path.{refl, ap}
 use borrow.Author.Needs.{needs}
@@ -23,7 +22,6 @@ stand-int-en-requires : tie.Need-stand-int-en-requires
 stand-int-en-requires c κs = search needs
 
 returns : tie.Need-returns
-unfolding fitsAt
 returns c =
     λ v b. goes-to driver (at-point driver 5 (c .before .before .before .before .before .before .before .pre)
     (ap point.Run (c .before .before .before .before .before .on-at .ensures))) refl (c .stand-int-en .ensures) refl

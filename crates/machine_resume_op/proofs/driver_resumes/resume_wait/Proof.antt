@@ -1,6 +1,5 @@
 use Rattle.machine_points.specs.StandsLaws.{at-point, goes-to}
 use Rattle.machine_points.specs.DriverLaws.{driver}
-use Rattle.driver.specs.Points.{fitsAt}
 use Rattle.driver.specs.declared.Point.the-variants as point
 use mathlib.Core.Path.{refl, ap}
 use borrow.Author.Needs.{needs}
@@ -14,7 +13,6 @@ stand-reset-requires : tie.Need-stand-reset-requires
 stand-reset-requires c κs = search needs
 
 returns : tie.Need-returns
-unfolding fitsAt
 returns c =
     λ v b. goes-to driver (at-point driver 1 (c .before .before .before .before .pre) (ap point.Wait (c .before .before .on-at .ensures))) refl
     (c .stand-reset .ensures) refl refl

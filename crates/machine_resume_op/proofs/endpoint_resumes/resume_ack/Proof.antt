@@ -1,6 +1,6 @@
 use Rattle.machine.specs.StandsLaws.{parts2}
 use Rattle.machine_points.specs.StandsLaws.{at-point, goes-to, stays-at}
-use Rattle.machine_points.specs.EndpointLaws.{endpoint, fits-ack}
+use Rattle.machine_points.specs.EndpointLaws.{endpoint}
 use Rattle.endpoint.specs.declared.Point.the-variants as point
 use mathlib.Core.Path.{refl, sym, _∙_}
 use borrow.Author.Needs.{needs}
@@ -42,11 +42,11 @@ returns c =
     let the-byte = c .before .before .before .before .byte in
     let here = at-point endpoint 1 (c .before .before .before .before .before .before .before .before .before .before .before .pre)
     (parts2 point.Ack (the-dir-at .ensures) (the-ep-byte .ensures)) in
-    λ b. goes-to endpoint here (fits-ack _ _ _ (sym (the-fits2 .ensures) ∙ the-if1 .taken)) (c .stand-wrote .ensures) refl (simp
+    λ b. goes-to endpoint here (sym (the-fits2 .ensures) ∙ the-if1 .taken) (c .stand-wrote .ensures) refl (simp
     (the-ctrl-of .ensures, the-ack .ensures, the-byte .ensures))
 
 returns-2 : tie.Need-returns-2
-returns-2 c = λ b. stays-at endpoint (at-point endpoint 1 (c .before .before .pre) refl) (fits-ack _ _ _ (sym (c .before .fits2 .ensures) ∙ c .if1 .left))
+returns-2 c = λ b. stays-at endpoint (at-point endpoint 1 (c .before .before .pre) refl) (sym (c .before .fits2 .ensures) ∙ c .if1 .left)
 
 pub resume-ack-spec : {M : Type 1} → statement M
 resume-ack-spec =

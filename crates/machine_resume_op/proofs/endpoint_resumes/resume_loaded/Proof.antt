@@ -1,6 +1,5 @@
 use Rattle.machine_points.specs.StandsLaws.{at-point, goes-to}
 use Rattle.machine_points.specs.EndpointLaws.{endpoint}
-use Rattle.endpoint.specs.Points.{fitsAt}
 use Rattle.endpoint.specs.declared.Point.the-variants as point
 use mathlib.Core.Path.{refl, ap}
 use borrow.Author.Needs.{needs}
@@ -14,7 +13,6 @@ stand-ack-in-requires : tie.Need-stand-ack-in-requires
 stand-ack-in-requires c κs = search needs
 
 returns : tie.Need-returns
-unfolding fitsAt
 returns c =
     λ v b. goes-to endpoint (at-point endpoint 2 (c .before .before .before .before .pre) (ap point.Loaded (c .before .before .ep-byte .ensures))) refl
     (c .stand-ack-in .ensures) refl refl
