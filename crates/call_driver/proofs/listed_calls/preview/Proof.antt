@@ -3,12 +3,6 @@ use borrow.Author.Tests.{eq-eqb, ne-eqb}
 use borrow.Author.Needs.{needs}
 use Rattle.call_driver.proofs.listed_calls.preview.Statement.{statement}
 use Rattle.call_driver.proofs.listed_calls.preview.Tie as tie
-use Rattle.call_driver.proofs.listed_calls.preview.Reads as reads
-use Rattle.call_driver.proofs.listed_calls.preview.Lts as lts
-use Rattle.req_preview.proofs.refused.Reads as refused-reads
-use Rattle.req_preview.proofs.preview.Reads as preview-reads
-use Rattle.state.proofs.load_allocator.Reads as load-allocator-reads
-use Rattle.machine.proofs.stops.stop.Reads as stop-reads
 
 stop-requires : tie.Need-stop-requires
 stop-requires c κs = search needs
