@@ -101,3 +101,26 @@ pub fn word_of(step: Step) -> u64
         Step::Shown(at, n, _stamp) => shown_word(at, n),
     }
 }
+
+// An access of a continue: nearly all are reads and writes. Its one caller has it in line.
+fn continue_access_word(q: Access) -> u64
+    ensures { λ r. ⌜ r ≡ accessWord q ⌝ }
+    ensures { λ _. ⌜ AccessFits q ⌝ }
+{
+    match q {
+        Access::Read(r, e) => read_word(number(r), e),
+        Access::Write(r, e, x) => write_word(number(r), e, x),
+        _ => access_word(q),
+    }
+}
+
+// The same, of a continue: nearly all of its answers are accesses and ends. Its one caller has it in line.
+pub fn continue_word(step: Step) -> u64
+    ensures { λ r. ⌜ Encodes r step ⌝ }
+{
+    match step {
+        Step::Asks(q) => continue_access_word(q),
+        Step::Ends(n, k) => end_word(n, k),
+        _ => word_of(step),
+    }
+}

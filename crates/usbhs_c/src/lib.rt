@@ -8,6 +8,7 @@ pub mod setup; // setup.rt: a setup packet's bytes
 pub mod stamp; // stamp.rt: the stamp of a packet that is shown
 pub mod woken; // woken.rt: the wake-ups of the last end
 
+use call_answer_word::continue_word;
 use call_answer_word::word_of;
 use inputs::dir_of;
 use inputs::flag_of;
@@ -84,7 +85,7 @@ fn operation_word(s: &mut State, slots: &mut [u8], time: &mut Time, driver: u32,
     ensures { λ r. ⌜ AnswersCharged r driver (go value) (now (s .entry))
         (now (s .exit)) (now (slots .entry)) (now (slots .exit)) (now (time .entry)) (now (time .exit)) ⌝ }
 {
-    word_of(usbhs::operates::operate(s, slots, time, driver, value))
+    continue_word(usbhs::operates::operate(s, slots, time, driver, value))
 }
 
 // Goes on with the operation under way, with the number brought. An interrupt answers its word by itself, and leaves the record of bus time.
