@@ -1,1 +1,3 @@
+pub mod Enters
+pub mod EntersLaws
 pub mod Stalls

@@ -10,14 +10,26 @@ use regs::Dir;
 use state::State;
 ghost use Rattle.model.specs.Calls.{BusEnable, BusDisable, BusPoll, IsStalled, SetStalled, SetEnabled};
 ghost use Rattle.machine.specs.Contracts.{OtherCall, SlottedCall};
+ghost use Rattle.call_bus.specs.Enters.{Enters};
+
+// The row that stops a call after EP0's start, as `stop` says it; where none does, the call's wake-ups are gathered from none.
+fn enter(s: &mut State) -> u8
+    ensures { λ r. ⌜ Enters r (now (s .entry)) (now (s .exit)) ⌝ }
+{
+    let n = stop(s, 2);
+    if n == 0 {
+        state::clear_wakes(s);
+        return 0;
+    }
+    n
+}
 
 // `enable` (mod.rs 1225-1227).
 pub fn begin_bus_enable(s: &mut State) -> Step
     ensures { λ r. ⌜ OtherCall BusEnable r (now (s .entry)) (now (s .exit)) ⌝ }
 {
-    let n = stop(s, 2);
+    let n = enter(s);
     if n == 0 {
-        state::clear_wakes(s);
         return suspend_or_end_bus(s, bus_events::enable());
     }
     Step::Refused(n)
@@ -27,9 +39,8 @@ pub fn begin_bus_enable(s: &mut State) -> Step
 pub fn begin_bus_disable(s: &mut State) -> Step
     ensures { λ r. ⌜ OtherCall BusDisable r (now (s .entry)) (now (s .exit)) ⌝ }
 {
-    let n = stop(s, 2);
+    let n = enter(s);
     if n == 0 {
-        state::clear_wakes(s);
         return suspend_or_end_bus(s, bus::Next::Ends(0));
     }
     Step::Refused(n)
@@ -39,9 +50,8 @@ pub fn begin_bus_disable(s: &mut State) -> Step
 pub fn begin_bus_poll(s: &mut State) -> Step
     ensures { λ r. ⌜ OtherCall BusPoll r (now (s .entry)) (now (s .exit)) ⌝ }
 {
-    let n = stop(s, 2);
+    let n = enter(s);
     if n == 0 {
-        state::clear_wakes(s);
         let x = bus_events::poll(s);
         return suspend_or_end_bus(s, x);
     }

@@ -4,7 +4,6 @@ use machine::halts::suspend_or_end;
 use machine::stops::stop;
 use req_descriptor::Answer;
 use req_descriptor::Endpoints;
-use req_preview::Said;
 use req_preview::Shown;
 use state::State;
 ghost use mathlib.Core.Path.{_≡_};
@@ -15,7 +14,6 @@ ghost use Rattle.req_descriptor.specs.Writing.{stored};
 ghost use Rattle.state.specs.State.{view, saved};
 ghost use Rattle.model.specs.Calls.{AllocateAll};
 ghost use Rattle.machine.specs.Suspended.{decode, machineOf, answerOf, SavedByAnswer};
-ghost use Rattle.req_preview.specs.Preview.{refusedBy};
 ghost use Rattle.machine.specs.Rows.{isIdle, stopOf};
 ghost use Rattle.machine.specs.Contracts.{OtherCall};
 ghost use Rattle.call_driver.specs.Listed.{allocatedAll, previewed};
@@ -60,18 +58,6 @@ pub fn allocate_all(s: &mut State, bytes: &[u8]) -> Step
     Step::Refused(n)
 }
 
-fn unshown(row: u8) -> Shown
-    ensures { λ r. ⌜ r ≡ refusedBy row ⌝ }
-{
-    Shown {
-        said: Said::Refused(row),
-        numbers: [0; 32],
-        count: 0,
-        buffers: 0,
-        refusal: 0,
-    }
-}
-
 // What allocating a descriptor's endpoints one by one would give, up to the first refusal: rows 3, 4, 17, 18 as above. The state is untouched.
 pub fn preview(s: &State, bytes: &[u8]) -> Shown
     ensures { λ r. ⌜ r ≡ previewed (stopOf (isIdle (decode (saved (now (s .entry))))) 1 (view (now (s .entry)) .globals .stage))
@@ -81,5 +67,5 @@ pub fn preview(s: &State, bytes: &[u8]) -> Shown
     if n == 0 {
         return req_preview::preview(state::load_allocator(s), bytes);
     }
-    unshown(n)
+    req_preview::refused(n)
 }

@@ -13,19 +13,13 @@ use Rattle.state.specs.Driver.{Driver}
 use Rattle.model.specs.Answers.{isNumber, isAllocated}
 use Rattle.endpoint_rows.specs.Rows.{refusalOf, stallable}
 
-both-true : (a b : Bool) → (a && b) ≡ true → b ≡ true
-both-true true b e = e
-both-true false true e = refl
-both-true false false e = e
-
-first-true : (x y : Bool) → (x && y) ≡ true → x ≡ true
-first-true true y h = refl
-first-true false true h = h
-first-true false false h = h
+both : (x y : Bool) → (x && y) ≡ true → (x ≡ true) × (y ≡ true)
+both true y h = (refl, h)
+both false y h = absurd (true≢false (sym h))
 
 pub number-lt : (e : ℕ) → isNumber e ≡ true → e < 16
 unfolding isNumber
-number-lt e h = ltb-true e 16 (both-true (ltb 0 e) (ltb e 16) h)
+number-lt e h = ltb-true e 16 (both (ltb 0 e) (ltb e 16) h .1)
 
 pub no-number : (a : Allocator) (d : Dir) (e : ℕ) → isNumber e ≡ false → isAllocated a d e ≡ false
 unfolding isAllocated
@@ -34,8 +28,8 @@ no-number a In e h = simp h
 
 pub allocated-number : (a : Allocator) (d : Dir) (e : ℕ) → isAllocated a d e ≡ true → isNumber e ≡ true
 unfolding isAllocated
-allocated-number a Out e h = first-true (isNumber e) (isSet (a .«allocated_out») e) h
-allocated-number a In e h = first-true (isNumber e) (isSet (a .«allocated_in») e) h
+allocated-number a Out e h = both (isNumber e) (isSet (a .«allocated_out») e) h .0
+allocated-number a In e h = both (isNumber e) (isSet (a .«allocated_in») e) h .0
 
 either : (x y : Bool) (e : ℕ) → (x ≡ true → e < 16) → (y ≡ true → e < 16) → cond x true y ≡ true → e < 16
 either true y e f g h = f refl

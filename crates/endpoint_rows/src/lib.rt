@@ -1,9 +1,11 @@
 // Rows 4 and 5, by the numbers that a call brings: EP0 is started; an endpoint's number, allocated in the direction.
 use regs::Dir;
+use state::Allocator;
 use state::State;
 ghost use mathlib.Core.Path.{_≡_};
-ghost use mathlib.Core.Bool.{true};
-ghost use Prim.Native.Nat.{_<_};
+ghost use mathlib.Core.Bool.{true, _&&_};
+ghost use Prim.Native.Nat.{ℕ, _<_};
+ghost use Rattle.bits.specs.Bit.{isSet};
 ghost use Rattle.state.specs.State.{view};
 ghost use Rattle.model.specs.Answers.{isNumber, isAllocated};
 ghost use Rattle.endpoint_rows.specs.Rows.{refusalOf, stallable};
@@ -26,21 +28,23 @@ pub fn low(e: u32) -> u8
     e as u8
 }
 
+// The numbers that are allocated in a direction.
+fn allocated(a: Allocator, dir: Dir) -> u16
+    ensures { λ r. ⌜ ((e : ℕ) → isAllocated a dir e ≡ (isNumber e && isSet r e)) ⌝ }
+{
+    match dir {
+        Dir::Out => a.allocated_out,
+        Dir::In => a.allocated_in,
+    }
+}
+
 // Is it an endpoint's number, allocated in the direction?
 pub fn is_allocated(s: &State, dir: Dir, e: u32) -> bool
     ensures { λ r. ⌜ r ≡ isAllocated (view (now (s .entry)) .allocator) dir e ⌝ }
 {
     if is_number(e) {
         let a = state::load_allocator(s);
-        let n = low(e);
-        match dir {
-            Dir::Out => {
-                return bits::mask_has(a.allocated_out, n);
-            }
-            Dir::In => {
-                return bits::mask_has(a.allocated_in, n);
-            }
-        }
+        return bits::mask_has(allocated(a, dir), low(e));
     }
     false
 }

@@ -2,6 +2,7 @@
 use crate::text::endpoints;
 use crate::text::hex;
 use crate::text::item;
+use crate::text::items;
 use crate::text::none;
 use crate::text::number;
 use crate::text::print;
@@ -52,32 +53,25 @@ pub fn value(reg: Reg, x: u32) {
 
 fn flags(x: u32) {
     print(b"clears ");
-    let a = item(x, 0, b"bus reset", false);
-    let b = item(x, 1, b"transfer", a);
-    let c = item(x, 2, b"suspend", b);
-    let d = item(x, 3, b"host start of frame", c);
-    let e = item(x, 4, b"FIFO overflow", d);
-    none(item(x, 5, b"setup", e));
+    items(
+        x,
+        b"bus reset,transfer,suspend,host start of frame,FIFO overflow,setup,",
+    );
 }
 
 fn control(x: u32) {
-    let a = item(x, 0, b"clear all", false);
-    let b = item(x, 1, b"reset the SIE", a);
-    let c = item(x, 2, b"NAK while an interrupt waits", b);
-    let d = item(x, 3, b"DMA", c);
-    let e = item(x, 4, b"high speed", d);
-    none(item(x, 5, b"pull-up", e));
+    items(
+        x,
+        b"clear all,reset the SIE,NAK while an interrupt waits,DMA,high speed,pull-up,",
+    );
 }
 
 fn enables(x: u32) {
     print(b"interrupts: ");
-    let a = item(x, 0, b"NAK", false);
-    let b = item(x, 1, b"FIFO overflow", a);
-    let c = item(x, 2, b"setup", b);
-    let d = item(x, 3, b"suspend", c);
-    let e = item(x, 4, b"bus reset", d);
-    let f = item(x, 5, b"transfer", e);
-    none(item(x, 6, b"start of frame", f));
+    items(
+        x,
+        b"NAK,FIFO overflow,setup,suspend,bus reset,transfer,start of frame,",
+    );
 }
 
 // bit e: IN e, bit 16 + e: OUT e

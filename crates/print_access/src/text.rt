@@ -1,5 +1,7 @@
 use libc::STDOUT_FILENO;
 
+const COMMA: u8 = 0x2C;
+
 pub fn print(text: &[u8]) {
     io::write_all(STDOUT_FILENO, text);
 }
@@ -48,4 +50,21 @@ pub fn none(some: bool) {
     if !some {
         print(b"none");
     }
+}
+
+// The names of a word's bits that are set, or none: `names` has them from bit 0 on, each with a comma behind it.
+pub fn items(word: u32, names: &[u8]) {
+    let mut some = false;
+    let mut bit: u8 = 0;
+    let mut from = 0;
+    let mut i = 0;
+    while i < names.len() {
+        if names[i] == COMMA {
+            some = item(word, bit, &names[from..i], some);
+            bit = (bit + 1) % 32;
+            from = i + 1;
+        }
+        i += 1;
+    }
+    none(some);
 }

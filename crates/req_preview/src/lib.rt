@@ -126,7 +126,8 @@ pub fn try_all(a: Allocator, list: Endpoints) -> Trial
     t
 }
 
-fn refused(row: u8) -> Shown
+// A call that a row refuses: nothing was tried.
+pub fn refused(row: u8) -> Shown
     ensures { λ r. ⌜ r ≡ refusedBy row ⌝ }
 {
     Shown {

@@ -16,12 +16,7 @@ returns-3 : tie.Need-returns-3
 returns-3 c = simp (c .match .keys3)
 
 returns-4 : tie.Need-returns-4
-returns-4 c = simp (
-  c .register-of .ensures,
-  ne-eqb _ _ (c .before .match .rest .1),
-  ne-eqb _ _ (c .before .match .rest .0 .1),
-  ne-eqb _ _ (c .before .match .rest .0 .0 .1),
-)
+returns-4 c = let r = c .before .match .rest in simp (c .register-of .ensures, ne-eqb _ _ (r .1), ne-eqb _ _ (r .0 .1), ne-eqb _ _ (r .0 .0 .1))
 
 pub write-of-spec : {M : Type 1} → statement M
 write-of-spec = tie.close (tie.spec register-of-requires returns returns-2 returns-3 returns-4)

@@ -1,19 +1,14 @@
 use mathlib.Core.Path.{refl}
 use Rattle.model.specs.Calls as calls
-use Rattle.model.specs.Answers.{operation}
-use Rattle.state.specs.State.{view}
 use Rattle.model.specs.Bus as script
 use Rattle.bus.specs.Points.{resultless}
-use Rattle.machine.specs.ContractsLaws.{begins, other-passed, other-stopped}
+use Rattle.call_bus.specs.EntersLaws.{entered, stopped}
 use borrow.Author.Needs.{needs}
 use Rattle.call_bus.proofs.bus_begins.begin_bus_enable.Statement.{statement}
 use Rattle.call_bus.proofs.bus_begins.begin_bus_enable.Tie as tie
 
-stop-requires : tie.Need-stop-requires
-stop-requires c κs = search needs
-
-clear-wakes-requires : tie.Need-clear-wakes-requires
-clear-wakes-requires c κs = search needs
+enter-requires : tie.Need-enter-requires
+enter-requires c κs = search needs
 
 enable-requires : tie.Need-enable-requires
 enable-requires c κs = search needs
@@ -22,14 +17,13 @@ suspend-or-end-bus-requires : tie.Need-suspend-or-end-bus-requires
 suspend-or-end-bus-requires c κs = c .enable .ensures .1
 
 returns : tie.Need-returns
-returns c = other-passed calls.BusEnable 2 (operation (resultless script.enable)) _ (c .before .before .before .before .before .before .stop .ensures)
-    (λ b. refl) (c .before .before .before .before .before .if1 .taken) (c .suspend-or-end-bus .result) _
-    (begins (resultless script.enable) (view (c .before .before .before .before .before .before .before .before .args .s .now))
-    (c .suspend-or-end-bus .result) _ (c .before .before .before .clear-wakes .ensures .0) (c .before .enable .ensures .0 _)
-    (c .suspend-or-end-bus .ensures .0)) (c .suspend-or-end-bus .ensures .1 _)
+returns c =
+    let test = c .before .before .before in
+    entered calls.BusEnable (resultless script.enable) _ _ (test .before .enter .ensures) (λ b. refl) (test .if1 .taken)
+    (c .suspend-or-end-bus .result) _ (c .before .enable .ensures .0 _) (c .suspend-or-end-bus .ensures .0) (c .suspend-or-end-bus .ensures .1 _)
 
 returns-2 : tie.Need-returns-2
-returns-2 c = other-stopped calls.BusEnable 2 (operation (resultless script.enable)) _ (c .before .stop .ensures) (λ b. refl) (c .if1 .left)
+returns-2 c = stopped calls.BusEnable (resultless script.enable) _ _ (c .before .enter .ensures) (λ b. refl) (c .if1 .left)
 
 pub begin-bus-enable-spec : {M : Type 1} → statement M
-begin-bus-enable-spec = tie.close (tie.spec stop-requires clear-wakes-requires enable-requires suspend-or-end-bus-requires returns returns-2)
+begin-bus-enable-spec = tie.close (tie.spec enter-requires enable-requires suspend-or-end-bus-requires returns returns-2)

@@ -1,18 +1,13 @@
 use mathlib.Core.Path.{refl}
 use Rattle.model.specs.Calls as calls
-use Rattle.model.specs.Answers.{operation}
-use Rattle.state.specs.State.{view}
 use Rattle.model.specs.Bus as script
-use Rattle.machine.specs.ContractsLaws.{begins, other-passed, other-stopped}
+use Rattle.call_bus.specs.EntersLaws.{entered, stopped}
 use borrow.Author.Needs.{needs}
 use Rattle.call_bus.proofs.bus_begins.begin_bus_poll.Statement.{statement}
 use Rattle.call_bus.proofs.bus_begins.begin_bus_poll.Tie as tie
 
-stop-requires : tie.Need-stop-requires
-stop-requires c κs = search needs
-
-clear-wakes-requires : tie.Need-clear-wakes-requires
-clear-wakes-requires c κs = search needs
+enter-requires : tie.Need-enter-requires
+enter-requires c κs = search needs
 
 poll-requires : tie.Need-poll-requires
 poll-requires c κs = search needs
@@ -21,14 +16,13 @@ suspend-or-end-bus-requires : tie.Need-suspend-or-end-bus-requires
 suspend-or-end-bus-requires c κs = c .before .poll .ensures .1 .1
 
 returns : tie.Need-returns
-returns c = other-passed calls.BusPoll 2 (operation script.poll) _ (c .before .before .before .before .before .before .before .stop .ensures) (λ b. refl)
-    (c .before .before .before .before .before .before .if1 .taken) (c .suspend-or-end-bus .result) _
-    (begins script.poll (view (c .before .before .before .before .before .before .before .before .before .args .s .now)) (c .suspend-or-end-bus .result) _
-    (c .before .before .before .before .clear-wakes .ensures .0) (c .before .before .poll .ensures .0) (c .suspend-or-end-bus .ensures .0))
-    (c .suspend-or-end-bus .ensures .1 _)
+returns c =
+    let test = c .before .before .before .before in
+    entered calls.BusPoll script.poll _ _ (test .before .enter .ensures) (λ b. refl) (test .if1 .taken)
+    (c .suspend-or-end-bus .result) _ (c .before .before .poll .ensures .0) (c .suspend-or-end-bus .ensures .0) (c .suspend-or-end-bus .ensures .1 _)
 
 returns-2 : tie.Need-returns-2
-returns-2 c = other-stopped calls.BusPoll 2 (operation script.poll) _ (c .before .stop .ensures) (λ b. refl) (c .if1 .left)
+returns-2 c = stopped calls.BusPoll script.poll _ _ (c .before .enter .ensures) (λ b. refl) (c .if1 .left)
 
 pub begin-bus-poll-spec : {M : Type 1} → statement M
-begin-bus-poll-spec = tie.close (tie.spec stop-requires clear-wakes-requires poll-requires suspend-or-end-bus-requires returns returns-2)
+begin-bus-poll-spec = tie.close (tie.spec enter-requires poll-requires suspend-or-end-bus-requires returns returns-2)

@@ -3,12 +3,6 @@ use borrow.Author.Tests.{eq-eqb, ne-eqb}
 use borrow.Author.Needs.{needs}
 use Rattle.call_driver.proofs.listed_calls.preview.Statement.{statement}
 use Rattle.call_driver.proofs.listed_calls.preview.Tie as tie
-use Rattle.call_driver.proofs.listed_calls.preview.Reads as reads
-use Rattle.call_driver.proofs.listed_calls.preview.Lts as lts
-use Rattle.call_driver.proofs.listed_calls.unshown.Reads as unshown-reads
-use Rattle.req_preview.proofs.preview.Reads as preview-reads
-use Rattle.state.proofs.load_allocator.Reads as load-allocator-reads
-use Rattle.machine.proofs.stops.stop.Reads as stop-reads
 
 stop-requires : tie.Need-stop-requires
 stop-requires c κs = search needs
@@ -23,11 +17,11 @@ returns : tie.Need-returns
 returns c = c .preview .ensures
     ∙ simp (c .before .load-allocator .ensures, ← c .before .before .before .stop .ensures, eq-eqb _ _ (c .before .before .if1 .taken))
 
-unshown-requires : tie.Need-unshown-requires
-unshown-requires c κs = search needs
+refused-requires : tie.Need-refused-requires
+refused-requires c κs = search needs
 
 returns-2 : tie.Need-returns-2
-returns-2 c = c .unshown .ensures ∙ simp (← c .before .before .stop .ensures, ne-eqb _ _ (c .before .if1 .left))
+returns-2 c = c .refused .ensures ∙ simp (← c .before .before .stop .ensures, ne-eqb _ _ (c .before .if1 .left))
 
 pub preview-spec : {M : Type 1} → statement M
-preview-spec = tie.close (tie.spec stop-requires load-allocator-requires preview-requires returns unshown-requires returns-2)
+preview-spec = tie.close (tie.spec stop-requires load-allocator-requires preview-requires returns refused-requires returns-2)
