@@ -52,8 +52,8 @@ use Rattle.call_endpoint.proofs.questions.enabled.Reads as enabled-contract
 use Rattle.call_bus_time.proofs.start_up.Reads as start-up-contract
 use Rattle.call_bus_time.proofs.begin_set_enabled.Reads as begin-set-enabled-contract
 use Rattle.usbhs.proofs.proceeds.proceed.Reads as proceed-contract
-use Rattle.proof_contracts.specs.Steps.{IsStep, IsStepLent, IsStepCharged, IsStepStart, IsQuestion}
-use Rattle.proof_contracts.specs.StepsLaws.{unlent, lent, asked}
+use Rattle.proof_contracts.specs.Steps.{IsStep, IsStepLent, IsStepInto, IsStepCharged, IsStepStart, IsQuestion}
+use Rattle.proof_contracts.specs.StepsLaws.{unlent, lent, filled, asked}
 
 -- ---- allocation and EP0's start (crate `call_start`)
 
@@ -126,7 +126,7 @@ pub begin-data-in-step : (κs s slots bytes first last r z : _)
     → begin-data-in-contract.Learnt κs (s, (slots, (bytes, (first, (last, tt))))) r z
     → IsStepLent (begin (slotted (BeginDataIn (now bytes) first last))) (now s) (answerOf r [] (view (now (z .0))))
     (now (z .0)) (now slots) (now (z .1 .0))
-begin-data-in-step κs s slots bytes first last r z h = lent refl (h .0) (kept-by r _ _ _ _ (h .1 .1))
+begin-data-in-step κs s slots bytes first last r z h = lent refl (h .0) (kept-by r _ _ _ _ (h .1 .1)) (h .1 .0)
 
 pub begin-accept-step : (κs s r z : _) → begin-accept-contract.Learnt κs (s, tt) r z
     → IsStep (begin (other BeginAccept)) (now s) (λ b. answerOf r [] (view (now (z .0)))) (now (z .0))
@@ -147,9 +147,9 @@ pub poll-setup-step : (κs s r z : _) → poll-setup-contract.Learnt κs (s, tt)
 poll-setup-step κs s r z h = unlent refl (h .0) (λ b. kept-by r _ _ _ _ (h .1))
 
 pub poll-data-out-step : (κs s slots out r z : _) → poll-data-out-contract.Learnt κs (s, (slots, (out, tt))) r z
-    → IsStepLent (begin (slotted (PollDataOut (length (now out))))) (now s)
-    (answerOf r (now (z .1 .1 .0)) (view (now (z .0)))) (now (z .0)) (now slots) (now slots)
-poll-data-out-step κs s slots out r z h = lent refl (h .0) (kept-by r _ _ _ _ (h .1 .1))
+    → IsStepInto (begin (slotted (PollDataOut (length (now out))))) (now s)
+    (answerOf r (now (z .1 .1 .0)) (view (now (z .0)))) (now (z .0)) (now slots) (now out) (now (z .1 .1 .0))
+poll-data-out-step κs s slots out r z h = filled refl (h .0) (kept-by r _ _ _ _ (h .1 .1)) (h .1 .0)
 
 pub poll-data-in-step : (κs s r z : _) → poll-data-in-contract.Learnt κs (s, tt) r z
     → IsStep (begin (other PollDataIn)) (now s) (λ b. answerOf r [] (view (now (z .0)))) (now (z .0))
@@ -166,24 +166,24 @@ pub begin-read-step : (κs s e n r z : _) → begin-read-contract.Learnt κs (s,
 begin-read-step κs s e n r z h = unlent refl (h .0) (λ b. kept-by r _ _ _ _ (h .1))
 
 pub poll-read-step : (κs s slots e out r z : _) → poll-read-contract.Learnt κs (s, (slots, (e, (out, tt)))) r z
-    → IsStepLent (begin (slotted (PollRead e (length (now out))))) (now s)
-    (answerOf r (now (z .1 .1 .1 .0)) (view (now (z .0)))) (now (z .0)) (now slots) (now slots)
-poll-read-step κs s slots e out r z h = lent refl (h .0) (kept-by r _ _ _ _ (h .1 .1))
+    → IsStepInto (begin (slotted (PollRead e (length (now out))))) (now s)
+    (answerOf r (now (z .1 .1 .1 .0)) (view (now (z .0)))) (now (z .0)) (now slots) (now out) (now (z .1 .1 .1 .0))
+poll-read-step κs s slots e out r z h = filled refl (h .0) (kept-by r _ _ _ _ (h .1 .1)) (h .1 .0)
 
 pub begin-write-step : (κs s slots e bytes r z : _) → begin-write-contract.Learnt κs (s, (slots, (e, (bytes, tt)))) r z
     → IsStepLent (begin (slotted (BeginWrite e (now bytes)))) (now s) (answerOf r [] (view (now (z .0)))) (now (z .0))
     (now slots) (now (z .1 .0))
-begin-write-step κs s slots e bytes r z h = lent refl (h .0) (kept-by r _ _ _ _ (h .1 .1))
+begin-write-step κs s slots e bytes r z h = lent refl (h .0) (kept-by r _ _ _ _ (h .1 .1)) (h .1 .0)
 
 pub poll-write-step : (κs s slots e bytes r z : _) → poll-write-contract.Learnt κs (s, (slots, (e, (bytes, tt)))) r z
     → IsStepLent (begin (slotted (PollWrite e (now bytes)))) (now s) (answerOf r [] (view (now (z .0)))) (now (z .0))
     (now slots) (now (z .1 .0))
-poll-write-step κs s slots e bytes r z h = lent refl (h .0) (kept-by r _ _ _ _ (h .1 .1))
+poll-write-step κs s slots e bytes r z h = lent refl (h .0) (kept-by r _ _ _ _ (h .1 .1)) (h .1 .0)
 
 pub open-step : (κs s slots e r z : _) → open-contract.Learnt κs (s, (slots, (e, tt))) r z
     → IsStepLent (begin (aside (Open e))) (now s) (answerOf r (now slots) (view (now (z .0)))) (now (z .0))
     (now slots) (now slots)
-open-step κs s slots e r z h = lent refl (h .0) (h .1 .1)
+open-step κs s slots e r z h = lent refl (h .0) (h .1 .1) (λ _. refl)
 
 pub close-step : (κs s e r z : _) → close-contract.Learnt κs (s, (e, tt)) r z
     → IsStep (begin (aside (Close e))) (now s) (λ b. answerOf r b (view (now (z .0)))) (now (z .0))
@@ -192,7 +192,7 @@ close-step κs s e r z h = unlent refl (h .0) (λ b. h .1)
 pub queue-step : (κs s slots e bytes r z : _) → queue-contract.Learnt κs (s, (slots, (e, (bytes, tt)))) r z
     → IsStepLent (begin (aside (Queue e (now bytes)))) (now s) (answerOf r (now (z .1 .0)) (view (now (z .0))))
     (now (z .0)) (now slots) (now (z .1 .0))
-queue-step κs s slots e bytes r z h = lent refl (h .0) (h .1 .1)
+queue-step κs s slots e bytes r z h = lent refl (h .0) (h .1 .1) (h .1 .0)
 
 pub pending-step : (κs s e r z : _) → pending-contract.Learnt κs (s, (e, tt)) r z
     → IsQuestion (pending e) (now s) r
@@ -219,7 +219,7 @@ pub begin-set-enabled-step : (κs s slots time driver dir e on r z : _)
     → IsStepCharged driver (begin (slotted (SetEnabled dir e on))) (now s) (answerOf r [] (view (now (z .0))))
     (now (z .0)) (now slots) (now (z .1 .0)) (now time) (now (z .1 .1 .0))
 begin-set-enabled-step κs s slots time driver dir e on r z h =
-    record { did = h .0; saves = kept-by r _ _ _ _ (h .1 .1) }
+    record { did = h .0; saves = kept-by r _ _ _ _ (h .1 .1); kept = h .1 .0 }
 
 -- ---- continue, with the record (`usbhs`)
 
@@ -227,4 +227,5 @@ pub proceed-step : (κs s slots time driver v r z : _)
     → proceed-contract.Learnt κs (s, (slots, (time, (driver, (v, tt))))) r z
     → IsStepCharged driver (go v) (now s) (answerOf r [] (view (now (z .0)))) (now (z .0)) (now slots) (now (z .1 .0))
     (now time) (now (z .1 .1 .0))
-proceed-step κs s slots time driver v r z h = record { did = h .0; saves = kept-by r _ _ _ _ (h .1 .1) }
+proceed-step κs s slots time driver v r z h =
+    record { did = h .0; saves = kept-by r _ _ _ _ (h .1 .1); kept = h .1 .0 }

@@ -11,17 +11,20 @@ use Prim.Native.Nat.{_%_}
 use lib.ListN.{length}
 use denote.Ref.{now}
 use Rattle.state.specs.State.{view}
-use Rattle.model.specs.Machine.{begin, go, pending, overruns, enabled}
+use Rattle.model.specs.Answers.{Answer}
+use Rattle.model.specs.Machine.{begin, go, pending, overruns, enabled, Ans}
 use Rattle.model.specs.Calls.{other, slotted, aside, interrupt, Microframe, Allocate, AllocateAll, Start, SetPaced}
 use Rattle.model.specs.Calls.{BusEnable, BusDisable, BusPoll, IsStalled, SetStalled, SetEnabled, BeginSetup}
 use Rattle.model.specs.Calls.{PollSetup, BeginDataOut, PollDataOut, BeginDataIn, PollDataIn, BeginAccept}
 use Rattle.model.specs.Calls.{BeginAcceptSetAddress, PollAccept, BeginReject, Advance, BeginRead, PollRead}
 use Rattle.model.specs.Calls.{BeginWrite, PollWrite, Open, Close, Queue}
-use Rattle.machine.specs.Suspended.{configOf, answerOf}
+use Rattle.machine.specs.Suspended.{configOf, answerOf, lentBy}
 use Rattle.machine.specs.KeepsLaws.{kept-by}
 use Rattle.req_bus_time.specs.Time.{inUse}
+use Rattle.call_endpoint.specs.Shown.{ShownAt}
 use Rattle.call_answer_word.specs.Word.{Worded}
 use Rattle.usbhs_c.specs.Calls.{dirOf, flagOf}
+use Rattle.usbhs_c.specs.Stamp.{stampBy}
 use Rattle.usbhs_c.proofs.usbhs_start_up.Reads as start-up-contract
 use Rattle.usbhs_c.proofs.usbhs_allocate.Reads as allocate-contract
 use Rattle.usbhs_c.proofs.usbhs_start.Reads as start-contract
@@ -58,8 +61,8 @@ use Rattle.usbhs_c.proofs.usbhs_pending.Reads as pending-contract
 use Rattle.usbhs_c.proofs.usbhs_overruns.Reads as overruns-contract
 use Rattle.usbhs_c.proofs.usbhs_enabled.Reads as enabled-contract
 use Rattle.usbhs_c.proofs.usbhs_time_in_use.Reads as time-in-use-contract
-use Rattle.proof_contracts.specs.Steps.{IsStep, IsStepLent, IsStepCharged, IsStepStart, IsQuestion}
-use Rattle.proof_contracts.specs.StepsLaws.{unlent, lent, asked, worded}
+use Rattle.proof_contracts.specs.Steps.{IsStep, IsStepLent, IsStepInto, IsStepCharged, IsStepStart, IsQuestion}
+use Rattle.proof_contracts.specs.StepsLaws.{unlent, lent, filled, answered, asked, worded}
 
 -- ---- calls
 
@@ -87,7 +90,7 @@ pub continue-step : (κs s slots time driver value r z : _)
     → Worded r (λ step. IsStepCharged driver (go value) (now s) (answerOf step [] (view (now (z .0)))) (now (z .0))
     (now slots) (now (z .1 .0)) (now time) (now (z .1 .1 .0)))
 continue-step κs s slots time driver value r z h =
-    worded r h (λ step k. record { did = k .0; saves = kept-by step _ _ _ _ (k .1 .1) })
+    worded r h (λ step k. record { did = k .0; saves = kept-by step _ _ _ _ (k .1 .1); kept = k .1 .0 })
 
 pub begin-microframe-step : (κs s r z : _) → begin-microframe-contract.Learnt κs (s, tt) r z
     → Worded r (λ step. IsStep (begin (other Microframe)) (now s) (λ b. answerOf step [] (view (now (z .0))))
@@ -141,7 +144,7 @@ pub begin-set-enabled-step : (κs s slots time driver endpoint dir on r z : _)
     → Worded r (λ step. IsStepCharged driver (begin (slotted (SetEnabled (dirOf dir) endpoint (flagOf on)))) (now s)
     (answerOf step [] (view (now (z .0)))) (now (z .0)) (now slots) (now (z .1 .0)) (now time) (now (z .1 .1 .0)))
 begin-set-enabled-step κs s slots time driver endpoint dir on r z h =
-    worded r h (λ step k. record { did = k .0; saves = kept-by step _ _ _ _ (k .1 .1) })
+    worded r h (λ step k. record { did = k .0; saves = kept-by step _ _ _ _ (k .1 .1); kept = k .1 .0 })
 
 pub begin-read-step : (κs s endpoint n r z : _) → begin-read-contract.Learnt κs (s, (endpoint, (n, tt))) r z
     → Worded r (λ step. IsStep (begin (other (BeginRead endpoint n))) (now s)
@@ -150,24 +153,25 @@ begin-read-step κs s endpoint n r z h = worded r h (λ step k. unlent refl (k .
 
 pub poll-read-step : (κs s slots endpoint slice r z : _)
     → poll-read-contract.Learnt κs (s, (slots, (endpoint, (slice, tt)))) r z
-    → Worded r (λ step. IsStepLent (begin (slotted (PollRead endpoint (length (now slice))))) (now s)
-    (answerOf step (now (z .1 .1 .1 .0)) (view (now (z .0)))) (now (z .0)) (now slots) (now slots))
+    → Worded r (λ step. IsStepInto (begin (slotted (PollRead endpoint (length (now slice))))) (now s)
+    (answerOf step (now (z .1 .1 .1 .0)) (view (now (z .0)))) (now (z .0)) (now slots) (now slice)
+    (now (z .1 .1 .1 .0)))
 poll-read-step κs s slots endpoint slice r z h =
-    worded r (h .0) (λ step k. lent refl (k .0) (kept-by step _ _ _ _ (k .1)))
+    worded r (h .0) (λ step k. filled refl (k .0) (kept-by step _ _ _ _ (k .1)) (h .1))
 
 pub begin-write-step : (κs s slots endpoint bytes r z : _)
     → begin-write-contract.Learnt κs (s, (slots, (endpoint, (bytes, tt)))) r z
     → Worded r (λ step. IsStepLent (begin (slotted (BeginWrite endpoint (now bytes)))) (now s)
     (answerOf step [] (view (now (z .0)))) (now (z .0)) (now slots) (now (z .1 .0)))
 begin-write-step κs s slots endpoint bytes r z h =
-    worded r h (λ step k. lent refl (k .0) (kept-by step _ _ _ _ (k .1 .1)))
+    worded r h (λ step k. lent refl (k .0) (kept-by step _ _ _ _ (k .1 .1)) (k .1 .0))
 
 pub poll-write-step : (κs s slots endpoint bytes r z : _)
     → poll-write-contract.Learnt κs (s, (slots, (endpoint, (bytes, tt)))) r z
     → Worded r (λ step. IsStepLent (begin (slotted (PollWrite endpoint (now bytes)))) (now s)
     (answerOf step [] (view (now (z .0)))) (now (z .0)) (now slots) (now (z .1 .0)))
 poll-write-step κs s slots endpoint bytes r z h =
-    worded r h (λ step k. lent refl (k .0) (kept-by step _ _ _ _ (k .1 .1)))
+    worded r h (λ step k. lent refl (k .0) (kept-by step _ _ _ _ (k .1 .1)) (k .1 .0))
 
 pub begin-setup-step : (κs s r z : _) → begin-setup-contract.Learnt κs (s, tt) r z
     → Worded r (λ step. IsStep (begin (other BeginSetup)) (now s) (λ b. answerOf step [] (view (now (z .0))))
@@ -176,8 +180,12 @@ begin-setup-step κs s r z h = worded r h (λ step k. unlent refl (k .0) (λ b. 
 
 pub poll-setup-step : (κs s packet r z : _) → poll-setup-contract.Learnt κs (s, (packet, tt)) r z
     → Worded r (λ step. IsStep (begin (other PollSetup)) (now s)
-    (λ b. answerOf step (now (z .1 .0)) (view (now (z .0)))) (now (z .0)))
-poll-setup-step κs s packet r z h = worded r (h .0) (λ step k. unlent refl (k .0) (λ b. kept-by step _ _ _ _ (k .1)))
+    (λ b. answerOf step (now (z .1 .0)) (view (now (z .0)))) (now (z .0))
+    × (now (z .1 .0) ≡ lentBy (answerOf step (now (z .1 .0)) (view (now (z .0)))) (now packet)))
+poll-setup-step κs s packet r z h = worded r (h .0) (λ step k. (
+  unlent refl (k .0) (λ b. kept-by step _ _ _ _ (k .1)),
+  answered (λ (x : Ans Answer). lentBy x (now packet)) (k .0 [] []) (h .1 [] []),
+))
 
 pub begin-data-out-step : (κs s n first r z : _) → begin-data-out-contract.Learnt κs (s, (n, (first, tt))) r z
     → Worded r (λ step. IsStep (begin (other (BeginDataOut n (flagOf first)))) (now s)
@@ -185,16 +193,17 @@ pub begin-data-out-step : (κs s n first r z : _) → begin-data-out-contract.Le
 begin-data-out-step κs s n first r z h = worded r h (λ step k. unlent refl (k .0) (λ b. kept-by step _ _ _ _ (k .1)))
 
 pub poll-data-out-step : (κs s slots slice r z : _) → poll-data-out-contract.Learnt κs (s, (slots, (slice, tt))) r z
-    → Worded r (λ step. IsStepLent (begin (slotted (PollDataOut (length (now slice))))) (now s)
-    (answerOf step (now (z .1 .1 .0)) (view (now (z .0)))) (now (z .0)) (now slots) (now slots))
-poll-data-out-step κs s slots slice r z h = worded r (h .0) (λ step k. lent refl (k .0) (kept-by step _ _ _ _ (k .1)))
+    → Worded r (λ step. IsStepInto (begin (slotted (PollDataOut (length (now slice))))) (now s)
+    (answerOf step (now (z .1 .1 .0)) (view (now (z .0)))) (now (z .0)) (now slots) (now slice) (now (z .1 .1 .0)))
+poll-data-out-step κs s slots slice r z h =
+    worded r (h .0) (λ step k. filled refl (k .0) (kept-by step _ _ _ _ (k .1)) (h .1))
 
 pub begin-data-in-step : (κs s slots bytes first last r z : _)
     → begin-data-in-contract.Learnt κs (s, (slots, (bytes, (first, (last, tt))))) r z
     → Worded r (λ step. IsStepLent (begin (slotted (BeginDataIn (now bytes) (flagOf first) (flagOf last)))) (now s)
     (answerOf step [] (view (now (z .0)))) (now (z .0)) (now slots) (now (z .1 .0)))
 begin-data-in-step κs s slots bytes first last r z h =
-    worded r h (λ step k. lent refl (k .0) (kept-by step _ _ _ _ (k .1 .1)))
+    worded r h (λ step k. lent refl (k .0) (kept-by step _ _ _ _ (k .1 .1)) (k .1 .0))
 
 pub poll-data-in-step : (κs s r z : _) → poll-data-in-contract.Learnt κs (s, tt) r z
     → Worded r (λ step. IsStep (begin (other PollDataIn)) (now s) (λ b. answerOf step [] (view (now (z .0))))
@@ -230,8 +239,14 @@ allocate-all-step κs s bytes r z h = worded r h (λ step k. unlent refl (k .0) 
 
 pub open-step : (κs s slots endpoint stamp r z : _) → open-contract.Learnt κs (s, (slots, (endpoint, (stamp, tt)))) r z
     → Worded r (λ step. IsStepLent (begin (aside (Open endpoint))) (now s)
-    (answerOf step (now slots) (view (now (z .0)))) (now (z .0)) (now slots) (now slots))
-open-step κs s slots endpoint stamp r z h = worded r (h .0) (λ _ k. lent refl (k .0) (k .1 .1))
+    (answerOf step (now slots) (view (now (z .0)))) (now (z .0)) (now slots) (now slots)
+    × ShownAt step (view (now (z .0))) endpoint
+    × (now (z .1 .1 .1 .0) ≡ stampBy (answerOf step (now slots) (view (now (z .0)))) (now stamp)))
+open-step κs s slots endpoint stamp r z h = worded r (h .0) (λ step k. (
+  lent refl (k .0) (k .1 .1) (λ _. refl),
+  k .1 .0,
+  answered (λ (x : Ans Answer). stampBy x (now stamp)) (k .0 []) (h .1 []),
+))
 
 pub close-step : (κs s endpoint r z : _) → close-contract.Learnt κs (s, (endpoint, tt)) r z
     → Worded r (λ step. IsStep (begin (aside (Close endpoint))) (now s) (λ b. answerOf step b (view (now (z .0))))
@@ -242,7 +257,7 @@ pub queue-step : (κs s slots endpoint bytes r z : _)
     → queue-contract.Learnt κs (s, (slots, (endpoint, (bytes, tt)))) r z
     → Worded r (λ step. IsStepLent (begin (aside (Queue endpoint (now bytes)))) (now s)
     (answerOf step (now (z .1 .0)) (view (now (z .0)))) (now (z .0)) (now slots) (now (z .1 .0)))
-queue-step κs s slots endpoint bytes r z h = worded r h (λ _ k. lent refl (k .0) (k .1 .1))
+queue-step κs s slots endpoint bytes r z h = worded r h (λ _ k. lent refl (k .0) (k .1 .1) (k .1 .0))
 
 -- ---- questions
 

@@ -16,3 +16,4 @@ pub mod Exported
 pub mod FourDrivers
 pub mod Together
 pub mod TogetherLaws
+pub mod SharedStepsLaws

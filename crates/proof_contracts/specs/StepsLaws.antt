@@ -1,22 +1,22 @@
 -- From what a contract says to the step: one law for each form of contract
-use mathlib.Core.List.{List}
+use mathlib.Core.List.{List, []}
 use mathlib.Core.Path.{_≡_, refl, ap, sym, _∙_}
 use Prim.Native.Nat.{ℕ}
 use Rattle.state.specs.State.{view}
 use Rattle.state.specs.Driver.{Driver}
 use Rattle.model.specs.Answers.{Answer}
 use Rattle.model.specs.Calls.{Config, Op}
-use Rattle.model.specs.Machine.{Buf, Call, Question, Ans, told}
+use Rattle.model.specs.Machine.{Buf, Call, Question, Ans, told, Machine}
 use Rattle.machine.specs.declared.Step.{Step}
 use Rattle.machine.specs.Questions.{questionOf}
-use Rattle.machine.specs.Suspended.{machineOf, drive, answerOf, lentOr}
+use Rattle.machine.specs.Suspended.{machineOf, drive, answerOf, lentOr, lentBy, BufferUnchangedOnRow1}
 use Rattle.machine.specs.Goes.{Called}
 use Rattle.call_bus_time.specs.Sharing.{apart, sortOf}
 use Rattle.call_answer_word.specs.Parts.{stepOf, spoken}
 use Rattle.call_answer_word.specs.Word.{Encodes, Worded}
 use Rattle.proof_bus_time.specs.CodeLaws.{leaves-record}
 use Rattle.proof_contracts.specs.SavedPage.{Saves}
-use Rattle.proof_contracts.specs.Steps.{IsStep, IsStepLent, IsQuestion}
+use Rattle.proof_contracts.specs.Steps.{IsStep, IsStepLent, IsStepInto, IsQuestion}
 
 -- neither the slot buffer nor the record is brought
 pub unlent : {c : Call Config Op} {xs ys : List ℕ} {x : Buf → Ans Answer} → sortOf c ≡ apart
@@ -32,13 +32,26 @@ unlent {c = c} {xs = xs} p h k =
 -- the slot buffer is brought
 pub lent : {c : Call Config Op} {xs ys : List ℕ} {x : Ans Answer} {b b′ : Buf} → sortOf c ≡ apart
     → ((a : Buf) → (x, machineOf ys (lentOr (view xs) b b′ a)) ≡ drive c (machineOf xs a) b) → Saves c x xs ys
-    → IsStepLent c xs x ys b b′
-lent {c = c} {xs = xs} {b = b} p h k =
+    → BufferUnchangedOnRow1 (view xs) b b′ → IsStepLent c xs x ys b b′
+lent {c = c} {xs = xs} {b = b} p h k l =
     record {
       did = λ i a time. ap (λ (z : Called). (z, time)) (h a) ∙ sym
           (leaves-record i c (machineOf xs a) time b p);
       saves = k;
+      kept = l;
     }
+
+-- what follows of the answer that the machine of calls gives, of the call's own
+pub answered : {A : Type 0} {x : Ans Answer} {n : Machine Answer Driver} {y : Called} {v : A} (f : Ans Answer → A)
+    → (x, n) ≡ y → v ≡ f (y .0) → v ≡ f x
+answered f e h = h ∙ ap (λ (z : Called). f (z .0)) (sym e)
+
+-- the slot buffer is brought, and a slice
+pub filled : {c : Call Config Op} {xs ys out out′ : List ℕ} {x : Ans Answer} {b : Buf} → sortOf c ≡ apart
+    → ((a : Buf) → (x, machineOf ys (lentOr (view xs) b b a)) ≡ drive c (machineOf xs a) b) → Saves c x xs ys
+    → ((a : Buf) → out′ ≡ lentBy (drive c (machineOf xs a) b .0) out) → IsStepInto c xs x ys b out out′
+filled {out = out} p h k l =
+    record { step = lent p h k (λ _. refl); slice = answered (λ (z : Ans Answer). lentBy z out) (h []) (l []) }
 
 -- a question
 pub asked : {q : Question} {xs : List ℕ} {n : ℕ} → n ≡ questionOf q (view xs) → IsQuestion q xs n

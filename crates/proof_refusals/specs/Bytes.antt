@@ -8,15 +8,17 @@ use lib.Dec.{eqb}
 use Rattle.state.specs.Driver.{Driver}
 use Rattle.state.specs.State.{view, saved}
 use Rattle.state.specs.Determined.{Bytes, determined}
-use Rattle.model.specs.Answers.{Answer}
+use Rattle.model.specs.Answers.{Answer, Refused}
 use Rattle.model.specs.Calls.{Config, Op, slots}
-use Rattle.model.specs.Machine.{Buf, Call, start, begin, go, question, Machine}
+use Rattle.model.specs.Machine.{Buf, Call, start, begin, go, question, Machine, Ans, ended}
 use Rattle.machine.specs.declared.Step.the-variants as step
-use Rattle.machine.specs.Suspended.{decode, machineOf, drive, answerOf, slotsFit, lentOr, BufferUnchangedOnRow1, SavedByAnswer}
+use Rattle.machine.specs.Suspended.{decode, machineAt, machineOf, drive, answerOf, slotsFit, lentOr, BufferUnchangedOnRow1, SavedByAnswer}
 use Rattle.machine.specs.Goes.{Called}
+use Rattle.call_bus_time.specs.Sharing.{sharedCall}
 use Rattle.proof_refusals.specs.Left.{Poll, none, pollOf, requestEnded, flagCleared, leftBy, left, buffersRow}
 use Rattle.proof_refusals.specs.Scripts.{unpolled}
 use Rattle.proof_refusals.specs.Refusals.{refusal}
+use Rattle.proof_refusals.specs.Shared.{shared-refusal}
 
 abbrev pub pollIn : Call Config Op → Poll
 pollIn (start c) = none
@@ -67,16 +69,51 @@ fitting-row (begin o) d b h f = ap (λ (x : Bool). cond x (not (slotsFit d b)) f
 fitting-row (go v) d b h f = ap not f
 fitting-row (question q) d b h f = absurd (true≢false (sym h))
 
+-- the run's slot buffer, as a refusal leaves it, is the lent one where that fits
+as-lent : (c : Call Config Op) (xs : List ℕ) (b after : Buf) → lentOr (view xs) b after [] ≡ cond (buffersRow c (view xs) b) [] b
+    → BufferUnchangedOnRow1 (view xs) b after → BringsSlots c ≡ true → after ≡ b
+as-lent c xs b after run l h = by-fit (slotsFit (view xs) b) refl
+  where
+    by-fit : (x : Bool) → slotsFit (view xs) b ≡ x → after ≡ b
+    by-fit false f = l f
+    by-fit true f = sym (ap (λ (z : Bool). cond z after []) f) ∙ run ∙ ap (λ (z : Bool). cond z [] b) (fitting-row c (view xs) b h f)
+
 -- every byte of the slots
 pub slots-left : (c : Call Config Op) (n : ℕ) (xs ys : List ℕ) (b after : Buf)
     → ((a : Buf) → _≡_ {A = Called} (answerOf (step.Refused n) [] (view ys), machineOf ys (lentOr (view xs) b after a)) (drive c (machineOf xs a) b))
     → BufferUnchangedOnRow1 (view xs) b after → BringsSlots c ≡ true → after ≡ b
-slots-left c n xs ys b after e l h = by-fit (slotsFit (view xs) b) refl
+slots-left c n xs ys b after e l h = as-lent c xs b after run-buffer l h
   where
     run-buffer : lentOr (view xs) b after [] ≡ cond (buffersRow c (view xs) b) [] b
     run-buffer = ap (λ (z : Called). z .1 .buf) (e []) ∙ ap (λ (z : Machine Answer Driver). z .buf)
         (refusal c (decode (saved xs)) (view xs) [] b n (sym (ap (λ (z : Called). z .0) (e []))))
 
-    by-fit : (x : Bool) → slotsFit (view xs) b ≡ x → after ≡ b
-    by-fit false f = l f
-    by-fit true f = sym (ap (λ (z : Bool). cond z after []) f) ∙ run-buffer ∙ ap (λ (z : Bool). cond z [] b) (fitting-row c (view xs) b h f)
+-- ---- with the record of bus time, row 19 too: x is what the call of driver i answered, t the record before it, t′ the one after it
+
+module _ (i : ℕ) (c : Call Config Op) (n : ℕ) (xs ys : List ℕ) (x : Ans Answer) (refuses : x ≡ ended (Refused n)) where
+  module _ (a b b′ : Buf) (t t′ : List ℕ)
+      (did : _≡_ {A = Called × List ℕ} ((x, machineOf ys b′), t′) (sharedCall i c (machineOf xs a) t b)) where
+    leaves : (sharedCall i c (machineOf xs a) t b .0 .1
+        ≡ machineAt (decode (saved xs)) (left c n (view xs)) (cond (buffersRow c (view xs) b) a b))
+        × (sharedCall i c (machineOf xs a) t b .1 ≡ t)
+    leaves = shared-refusal i c (decode (saved xs)) (view xs) a b t n (sym (ap (λ (z : Called × List ℕ). z .0 .0) did) ∙ refuses)
+
+    -- the record
+    pub time-left : t′ ≡ t
+    time-left = ap (λ (z : Called × List ℕ). z .1) did ∙ leaves .1
+
+    run-left : b′ ≡ cond (buffersRow c (view xs) b) a b
+    run-left = ap (λ (z : Called × List ℕ). z .0 .1 .buf) did ∙ ap (λ (z : Machine Answer Driver). z .buf) (leaves .0)
+
+    -- every byte of the state
+    pub shared-bytes-left : saved ys ≡ saved xs → Spares c n → Bytes xs → Bytes ys → ys ≡ xs
+    shared-bytes-left k s p q =
+        let v : view ys ≡ left c n (view xs) =
+        ap (λ (z : Called × List ℕ). z .0 .1 .st) did ∙ ap (λ (z : Machine Answer Driver). z .st) (leaves .0) in
+        determined xs ys p q (v ∙ spared c n (view xs) s) k
+
+  -- every byte of the slots
+  pub shared-slots-left : (b after : Buf) (t t′ : List ℕ)
+      → ((a : Buf) → _≡_ {A = Called × List ℕ} ((x, machineOf ys (lentOr (view xs) b after a)), t′) (sharedCall i c (machineOf xs a) t b))
+      → BufferUnchangedOnRow1 (view xs) b after → BringsSlots c ≡ true → after ≡ b
+  shared-slots-left b after t t′ e l h = as-lent c xs b after (run-left [] b (lentOr (view xs) b after []) t t′ (e [])) l h

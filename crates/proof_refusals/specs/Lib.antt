@@ -3,5 +3,5 @@ pub mod Outcomes
 pub mod Scripts
 pub mod Refusals
 pub mod Ends
-pub mod Bytes
 pub mod Shared
+pub mod Bytes
