@@ -10,6 +10,7 @@ use Rattle.model.specs.Tree as tree
 use Rattle.model.specs.Tree.{asks, ends}
 use Rattle.model.specs.Script.{Script, run, _>>=_, _>>_, write, look, next-len}
 use Rattle.model.specs.Statics.{wake}
+use Rattle.model.specs.IsoIn.{isoInLoad}
 use Rattle.model.specs.Machine.{Awaits, nothing, awaited}
 use Rattle.model_ops.specs.Rings.{St}
 use Rattle.model_ops.specs.Concrete.{concrete}
@@ -24,6 +25,12 @@ abbrev pub afterSent : ℕ → Script true Unit
 afterSent e = do
   n ← look (next-len In e)
   write EpTLen e n
+  wake In e
+
+-- a packet is loaded, then the wake-up
+abbrev pub loading : ℕ → Script true Unit
+loading e = do
+  isoInLoad e
   wake In e
 
 abbrev pub denote : Complete → tree.Prog St Unit

@@ -14,7 +14,7 @@ ghost use Prim.Native.Nat.{ℕ};
 ghost use Rattle.state.specs.State.{view, saved};
 ghost use Rattle.model.specs.IsoIn.{isoInComplete};
 ghost use Rattle.model_ops.specs.Concrete.{go};
-ghost use Rattle.iso_in.specs.Complete.{denote, begun, meaning, Linked, Bound};
+ghost use Rattle.iso_in.specs.Complete.{denote, loading, begun, meaning, Linked, Bound};
 
 // What was handed out last, of which endpoint. Nothing is awaited at either.
 pub enum Complete {
@@ -34,12 +34,11 @@ pub struct Begun {
 }
 
 // The oldest packet, or a zero-length one.
-pub fn start(s: &mut State, e: u8) -> Begun
-    ensures { λ r. ⌜ ((b : List ℕ) → begun r (view (now (s .exit))) b ≡ go {i = true} (isoInComplete e) (view (now (s .entry))) b) ⌝ }
+fn iso_in_load(s: &mut State, e: u8) -> Begun
+    ensures { λ r. ⌜ ((b : List ℕ) → begun r (view (now (s .exit))) b ≡ go (loading e) (view (now (s .entry))) b) ⌝ }
     ensures { λ _. ⌜ saved (now (s .exit)) ≡ saved (now (s .entry)) ⌝ }
     ensures { λ r. ⌜ Bound r ⌝ }
 {
-    model_ops::rings::complete(s, e);
     if waiting(s, Dir::In, e) {
         let at = send(s, e);
         return Begun {
@@ -51,6 +50,16 @@ pub fn start(s: &mut State, e: u8) -> Begun
         access: Access::Write(Reg::EpTLen, e, 0),
         point: Complete::Loaded(e),
     }
+}
+
+// What went out is counted, the next is loaded.
+pub fn start(s: &mut State, e: u8) -> Begun
+    ensures { λ r. ⌜ ((b : List ℕ) → begun r (view (now (s .exit))) b ≡ go {i = true} (isoInComplete e) (view (now (s .entry))) b) ⌝ }
+    ensures { λ _. ⌜ saved (now (s .exit)) ≡ saved (now (s .entry)) ⌝ }
+    ensures { λ r. ⌜ Bound r ⌝ }
+{
+    model_ops::rings::complete(s, e);
+    iso_in_load(s, e)
 }
 
 pub fn iso_in_complete(s: &mut State, e: u8) -> CompleteNext
