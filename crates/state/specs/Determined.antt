@@ -50,7 +50,7 @@ determined xs ys x y v s =
     (λ bs cs l m p q e. tells-numbers codec.savedWidths bs cs l m p q (ap codec.savedAs e)) s)))))))))) in
     ext-getD 0 ys xs (y .long ∙ sym (x .long)) (λ i b. all i (omega arith) (omega (arith, y .long)))
 
--- an endpoint's record, stored as it was loaded; the other records likewise, by their laws `…-back`
+-- an endpoint's record, stored as it was loaded; the other records likewise, by `put-back` (Laws.antt)
 pub stored-back : (xs ys : List ℕ) (dir : Dir) (e : ℕ)
     → Bytes xs → Bytes ys → view ys ≡ withOn (view xs) dir e (epOn (view xs) dir e) → saved ys ≡ saved xs → ys ≡ xs
 stored-back xs ys dir e x y v s = determined xs ys x y (v ∙ withOn-back (view xs) dir e) s

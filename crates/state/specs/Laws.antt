@@ -86,11 +86,6 @@ module _ (d : Driver) (dir : Dir) (e : ℕ) where
   unfolding epOn withOn
   epOn-other r dir′ e′ h = getD-set-other (d .eps) (key dir e) (key dir′ e′) r noEp h
 
-  -- all but the endpoints' records is as it was
-  pub withOn-only : (r : EpState) → withOn d dir e r ≡ withEps d (withOn d dir e r .eps)
-  unfolding withOn
-  withOn-only r = refl
-
   pub withOn-back : withOn d dir e (epOn d dir e) ≡ d
   unfolding withOn epOn
   withOn-back = ap (withEps d) (set-getD (d .eps) (key dir e) noEp)
@@ -103,14 +98,6 @@ module _ (d : Driver) (dir : Dir) (e : ℕ) where
   unfolding lenOn withLenOn
   lenOn-other i v dir′ e′ i′ h = getD-set-other (d .lens) (lenKey dir e i) (lenKey dir′ e′ i′) v 0 h
 
-  pub withLenOn-only : (i v : ℕ) → withLenOn d dir e i v ≡ withLens d (withLenOn d dir e i v .lens)
-  unfolding withLenOn
-  withLenOn-only i v = refl
-
-  pub withLenOn-back : (i : ℕ) → withLenOn d dir e i (lenOn d dir e i) ≡ d
-  unfolding withLenOn lenOn
-  withLenOn-back i = ap (withLens d) (set-getD (d .lens) (lenKey dir e i) 0)
-
   pub requestOn-same : (r : Request) → Sized d → requestOn (withRequestOn d dir e r) dir e ≡ r
   unfolding requestOn withRequestOn
   requestOn-same r s = getD-set-same (d .requests) (key dir e) r noRequest (omega (arith, s .requests, key-lt dir e))
@@ -118,14 +105,6 @@ module _ (d : Driver) (dir : Dir) (e : ℕ) where
   pub requestOn-other : (r : Request) (dir′ : Dir) (e′ : ℕ) → key dir′ e′ ≢ key dir e → requestOn (withRequestOn d dir e r) dir′ e′ ≡ requestOn d dir′ e′
   unfolding requestOn withRequestOn
   requestOn-other r dir′ e′ h = getD-set-other (d .requests) (key dir e) (key dir′ e′) r noRequest h
-
-  pub withRequestOn-only : (r : Request) → withRequestOn d dir e r ≡ withRequests d (withRequestOn d dir e r .requests)
-  unfolding withRequestOn
-  withRequestOn-only r = refl
-
-  pub withRequestOn-back : withRequestOn d dir e (requestOn d dir e) ≡ d
-  unfolding withRequestOn requestOn
-  withRequestOn-back = ap (withRequests d) (set-getD (d .requests) (key dir e) noRequest)
 
 module _ (d : Driver) (e : ℕ) where
   pub stampOn-same : (i v : ℕ) → Sized d → stampOn (withStampOn d e i v) e i ≡ v
@@ -136,14 +115,6 @@ module _ (d : Driver) (e : ℕ) where
   unfolding stampOn withStampOn
   stampOn-other i v e′ i′ h = getD-set-other (d .stamps) (stampKey e i) (stampKey e′ i′) v 0 h
 
-  pub withStampOn-only : (i v : ℕ) → withStampOn d e i v ≡ withStamps d (withStampOn d e i v .stamps)
-  unfolding withStampOn
-  withStampOn-only i v = refl
-
-  pub withStampOn-back : (i : ℕ) → withStampOn d e i (stampOn d e i) ≡ d
-  unfolding withStampOn stampOn
-  withStampOn-back i = ap (withStamps d) (set-getD (d .stamps) (stampKey e i) 0)
-
   pub pacedOn-same : (v : ℕ) → Sized d → pacedOn (withPacedOn d e v) e ≡ v
   unfolding pacedOn withPacedOn
   pacedOn-same v s = getD-set-same (d .paced) (e % 16) v 0 (omega (arith, s .paced))
@@ -152,13 +123,29 @@ module _ (d : Driver) (e : ℕ) where
   unfolding pacedOn withPacedOn
   pacedOn-other v e′ h = getD-set-other (d .paced) (e % 16) (e′ % 16) v 0 h
 
-  pub withPacedOn-only : (v : ℕ) → withPacedOn d e v ≡ withPaced d (withPacedOn d e v .paced)
-  unfolding withPacedOn
-  withPacedOn-only v = refl
+-- what is stored as it was loaded changes nothing
+pub put-back : (d : Driver) (dir : Dir) (e i : ℕ) →
+    (withLenOn d dir e i (lenOn d dir e i) ≡ d)
+    × (withStampOn d e i (stampOn d e i) ≡ d)
+    × (withPacedOn d e (pacedOn d e) ≡ d)
+    × (withRequestOn d dir e (requestOn d dir e) ≡ d)
+unfolding withLenOn lenOn withStampOn stampOn withPacedOn pacedOn withRequestOn requestOn
+put-back d dir e i = (
+  ap (withLens d) (set-getD (d .lens) (lenKey dir e i) 0),
+  ap (withStamps d) (set-getD (d .stamps) (stampKey e i) 0),
+  ap (withPaced d) (set-getD (d .paced) (e % 16) 0),
+  ap (withRequests d) (set-getD (d .requests) (key dir e) noRequest),
+)
 
-  pub withPacedOn-back : withPacedOn d e (pacedOn d e) ≡ d
-  unfolding withPacedOn pacedOn
-  withPacedOn-back = ap (withPaced d) (set-getD (d .paced) (e % 16) 0)
+-- each store leaves all but its own table
+pub its-own : (d : Driver) (dir : Dir) (e i v : ℕ) (r : EpState) (q : Request) →
+    (withOn d dir e r ≡ withEps d (withOn d dir e r .eps))
+    × (withLenOn d dir e i v ≡ withLens d (withLenOn d dir e i v .lens))
+    × (withStampOn d e i v ≡ withStamps d (withStampOn d e i v .stamps))
+    × (withPacedOn d e v ≡ withPaced d (withPacedOn d e v .paced))
+    × (withRequestOn d dir e q ≡ withRequests d (withRequestOn d dir e q .requests))
+unfolding withOn withLenOn withStampOn withPacedOn withRequestOn
+its-own d dir e i v r q = (refl, refl, refl, refl, refl)
 
 -- all bytes 0: before the first start-up, and nothing is under way
 pub before-start : (xs : List ℕ) → ((i : ℕ) → getD xs i 0 ≡ 0) → (view xs .globals .stage ≡ 0) × (saved xs .tag ≡ 0)

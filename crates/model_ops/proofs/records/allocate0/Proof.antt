@@ -46,8 +46,9 @@ unfolding allocatedEp0
 returns-2 c =
     let x = c .before .before .before .before .before .before .before .before .before .args in
     went-on (x .s .now) (λ (b : Allocator). allocateEp0Of b (x .maximum)) startedWith (x .maximum) _ _
-    (c .before .before .before .before .before .before .before .load-allocator .ensures) (c .before .before .before .before .before .before .allocate-ep0 .ensures)
-    _ (c .before .before .before .before .store-allocator .ensures) _ _ (c .before .before .maximum16 .ensures) (c .started .ensures)
+    (c .before .before .before .before .before .before .before .load-allocator .ensures)
+    (c .before .before .before .before .before .before .allocate-ep0 .ensures) _ (c .before .before .before .before .store-allocator .ensures) _ _
+    (c .before .before .maximum16 .ensures) (c .started .ensures)
 
 pub allocate0-spec : {M : Type 1} → statement M
 allocate0-spec =
