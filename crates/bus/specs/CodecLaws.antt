@@ -5,11 +5,6 @@ use Rattle.bus.specs.declared.Point.{Point}
 use Rattle.bus.specs.declared.Point.the-variants as point
 use Rattle.bus.specs.Codec.{asNumbers, encode, decode}
 
--- `encode` is shut but here
-pub by-table : (p : Point) → encode p ≡ asNumbers p
-unfolding encode
-by-table p = refl
-
 pub decode-encode : (p : Point) → decode (encode p) ≡ p
 unfolding encode decode
 decode-encode point.Enable = refl
@@ -36,3 +31,8 @@ decode-encode (point.NoLength e iso on) = simp flag-back
 decode-encode (point.Words d e iso on) = simp (dir-back, flag-back)
 decode-encode (point.Type d e on) = simp (dir-back, flag-back)
 decode-encode (point.Switch e on n) = simp flag-back
+
+-- `encode` is shut elsewhere
+pub by-table : (p : Point) → encode p ≡ asNumbers p
+unfolding encode
+by-table p = refl

@@ -5,11 +5,6 @@ use Rattle.control.specs.declared.Point.{Point}
 use Rattle.control.specs.declared.Point.the-variants as point
 use Rattle.control.specs.Codec.{asNumbers, encode, decode}
 
--- `encode` is shut but here
-pub by-table : (p : Point) → encode p ≡ asNumbers p
-unfolding encode
-by-table p = refl
-
 pub decode-encode : (p : Point) → decode (encode p) ≡ p
 unfolding encode decode
 decode-encode point.Wrote = refl
@@ -21,3 +16,8 @@ decode-encode point.StalledIn = refl
 decode-encode point.StallOut = refl
 decode-encode (point.Closing n first) = simp flag-back
 decode-encode (point.Loaded first) = simp flag-back
+
+-- `encode` is shut elsewhere
+pub by-table : (p : Point) → encode p ≡ asNumbers p
+unfolding encode
+by-table p = refl

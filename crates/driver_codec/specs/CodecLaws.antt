@@ -5,11 +5,6 @@ use Rattle.driver.specs.declared.Point.{Point}
 use Rattle.driver.specs.declared.Point.the-variants as point
 use Rattle.driver_codec.specs.Codec.{asNumbers, encode, decode}
 
--- `encode` is shut but here
-pub by-table : (p : Point) → encode p ≡ asNumbers p
-unfolding encode
-by-table p = refl
-
 -- what was saved is found again
 pub decode-encode : (p : Point) → decode (encode p) ≡ p
 unfolding encode decode
@@ -30,3 +25,8 @@ decode-encode point.Ep0Packet = refl
 decode-encode point.FrameNo = refl
 decode-encode (point.ListMaxLen d kind ep left total) = simp dir-back
 decode-encode (point.ListPlace d ep left total) = simp dir-back
+
+-- `encode` is shut elsewhere
+pub by-table : (p : Point) → encode p ≡ asNumbers p
+unfolding encode
+by-table p = refl

@@ -22,11 +22,6 @@ use Rattle.irq.specs.declared.Point.{Point}
 use Rattle.irq.specs.declared.Point.the-variants as point
 use Rattle.irq_codec.specs.Codec.{asNumbers, encode, decode}
 
--- `encode` is shut but here
-pub by-table : (p : Point) → encode p ≡ asNumbers p
-unfolding encode
-by-table p = refl
-
 late-back : (setup : Bool) (x : Transfer) (iso : Bool) (frame m : ℕ) (q : Complete)
     → decode (encode (point.Late setup x iso frame (record { rest = m; completing = q })))
     ≡ point.Late setup x iso frame (record { rest = m; completing = q })
@@ -87,3 +82,8 @@ decode-encode (point.MovedWrote d setup) = simp (flag-back, dir-back)
 decode-encode point.SetupRx = refl
 decode-encode point.SetupTx = refl
 decode-encode point.SetupReleased = refl
+
+-- `encode` is shut elsewhere
+pub by-table : (p : Point) → encode p ≡ asNumbers p
+unfolding encode
+by-table p = refl

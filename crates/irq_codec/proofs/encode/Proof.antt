@@ -271,22 +271,14 @@ returns-21 : tie.Need-returns-21
 returns-21 c = simp (by-table, c .code12 .ensures, c .before .check-as .ensures, c .before .before .before .p19 .given .1)
 
 returns-22 : tie.Need-returns-22
-returns-22 c = simp (
-  by-table,
-  c .code13 .ensures,
-  c .before .on-dir3 .ensures,
-  c .before .before .early .ensures,
-  c .before .before .before .before .p20 .given .1,
-)
+returns-22 c =
+    let told = c .before .before .before .before .p20 .given .1 in
+    simp (by-table, c .code13 .ensures, c .before .on-dir3 .ensures, c .before .before .early .ensures, told)
 
 returns-23 : tie.Need-returns-23
-returns-23 c = simp (
-  by-table,
-  c .code14 .ensures,
-  c .before .on-dir4 .ensures,
-  c .before .before .early2 .ensures,
-  c .before .before .before .before .p21 .given .1,
-)
+returns-23 c =
+    let told = c .before .before .before .before .p21 .given .1 in
+    simp (by-table, c .code14 .ensures, c .before .on-dir4 .ensures, c .before .before .early2 .ensures, told)
 
 returns-24 : tie.Need-returns-24
 returns-24 c = simp (by-table, c .bare3 .ensures, c .before .enum-told3 .given .1)

@@ -255,41 +255,25 @@ returns-19 : tie.Need-returns-19
 returns-19 c = simp (by-table, ← c .code19 .ensures, ← c .before .flag-of3 .ensures, c .before .before .before .p9 .given .1)
 
 returns-20 : tie.Need-returns-20
-returns-20 c = simp (
-  by-table,
-  ← c .code20 .ensures,
-  ← c .before .before .flag-of4 .ensures,
-  ← c .before .flag-of5 .ensures,
-  c .before .before .before .before .p10 .given .1,
-)
+returns-20 c =
+    let told = c .before .before .before .before .p10 .given .1 in
+    simp (by-table, ← c .code20 .ensures, ← c .before .before .flag-of4 .ensures, ← c .before .flag-of5 .ensures, told)
 
 returns-21 : tie.Need-returns-21
-returns-21 c = simp (
-  by-table,
-  ← c .code21 .ensures,
-  ← c .before .before .flag-of6 .ensures,
-  ← c .before .flag-of7 .ensures,
-  c .before .before .before .before .p11 .given .1,
-)
+returns-21 c =
+    let told = c .before .before .before .before .p11 .given .1 in
+    simp (by-table, ← c .code21 .ensures, ← c .before .before .flag-of6 .ensures, ← c .before .flag-of7 .ensures, told)
 
 returns-22 : tie.Need-returns-22
-returns-22 c = simp (
-  by-table,
-  ← c .code22 .ensures,
-  ← c .before .before .before .dir-as3 .ensures,
-  ← c .before .before .flag-of8 .ensures,
-  ← c .before .flag-of9 .ensures,
-  c .before .before .before .before .before .p12 .given .1,
-)
+returns-22 c =
+    let told = c .before .before .before .before .before .p12 .given .1 in
+    let dir = c .before .before .before .dir-as3 .ensures in
+    simp (by-table, ← c .code22 .ensures, ← dir, ← c .before .before .flag-of8 .ensures, ← c .before .flag-of9 .ensures, told)
 
 returns-23 : tie.Need-returns-23
-returns-23 c = simp (
-  by-table,
-  ← c .code23 .ensures,
-  ← c .before .before .dir-as4 .ensures,
-  ← c .before .flag-of10 .ensures,
-  c .before .before .before .before .p13 .given .1,
-)
+returns-23 c =
+    let told = c .before .before .before .before .p13 .given .1 in
+    simp (by-table, ← c .code23 .ensures, ← c .before .before .dir-as4 .ensures, ← c .before .flag-of10 .ensures, told)
 
 returns-24 : tie.Need-returns-24
 returns-24 c = simp (by-table, ← c .code24 .ensures, ← c .before .flag-of11 .ensures, c .before .before .before .p14 .given .1)
