@@ -12,31 +12,34 @@ use Rattle.bus.specs.declared.Point.the-variants as point
 abbrev pub code : ℕ → ℕ → ℕ → ℕ → ℕ → ℕ → Saved
 code sub site on iso n e = numbers sub site on iso 0 n e 0 0
 
-abbrev pub encode : Point → Saved
-encode point.Enable = code 0 0 0 0 0 0
-encode (point.Event n) = code 1 0 0 0 n 0
-encode point.Stalled = code 2 0 0 0 0 0
-encode (point.StallLen e) = code 3 0 0 0 0 e
-encode (point.StallWord d e) = code 4 (dirAs d) 0 0 0 e
-encode (point.Restarted e iso) = code 5 0 0 (flag iso) 0 e
-encode (point.Woken d e) = code 6 (dirAs d) 0 0 0 e
-encode point.Flags = code 7 0 0 0 0 0
-encode point.Status = code 8 0 0 0 0 0
-encode (point.Released iso) = code 9 0 0 (flag iso) 0 0
-encode point.Address = code 10 0 0 0 0 0
-encode point.Ep0Out = code 11 0 0 0 0 0
-encode (point.NakIn e) = code 12 0 0 0 0 e
-encode (point.Naked e) = code 13 0 0 0 0 e
-encode point.Disabled = code 14 0 0 0 0 0
-encode point.Untyped = code 15 0 0 0 0 0
-encode point.Single = code 16 0 0 0 0 0
-encode point.Reset = code 17 0 0 0 0 0
-encode (point.PlacedOut e on) = code 18 0 (flag on) 0 0 e
-encode (point.PlacedIn e iso on) = code 19 0 (flag on) (flag iso) 0 e
-encode (point.NoLength e iso on) = code 20 0 (flag on) (flag iso) 0 e
-encode (point.Words d e iso on) = code 21 (dirAs d) (flag on) (flag iso) 0 e
-encode (point.Type d e on) = code 22 (dirAs d) (flag on) 0 0 e
-encode (point.Switch e on n) = code 23 0 (flag on) 0 n e
+abbrev pub asNumbers : Point → Saved
+asNumbers point.Enable = code 0 0 0 0 0 0
+asNumbers (point.Event n) = code 1 0 0 0 n 0
+asNumbers point.Stalled = code 2 0 0 0 0 0
+asNumbers (point.StallLen e) = code 3 0 0 0 0 e
+asNumbers (point.StallWord d e) = code 4 (dirAs d) 0 0 0 e
+asNumbers (point.Restarted e iso) = code 5 0 0 (flag iso) 0 e
+asNumbers (point.Woken d e) = code 6 (dirAs d) 0 0 0 e
+asNumbers point.Flags = code 7 0 0 0 0 0
+asNumbers point.Status = code 8 0 0 0 0 0
+asNumbers (point.Released iso) = code 9 0 0 (flag iso) 0 0
+asNumbers point.Address = code 10 0 0 0 0 0
+asNumbers point.Ep0Out = code 11 0 0 0 0 0
+asNumbers (point.NakIn e) = code 12 0 0 0 0 e
+asNumbers (point.Naked e) = code 13 0 0 0 0 e
+asNumbers point.Disabled = code 14 0 0 0 0 0
+asNumbers point.Untyped = code 15 0 0 0 0 0
+asNumbers point.Single = code 16 0 0 0 0 0
+asNumbers point.Reset = code 17 0 0 0 0 0
+asNumbers (point.PlacedOut e on) = code 18 0 (flag on) 0 0 e
+asNumbers (point.PlacedIn e iso on) = code 19 0 (flag on) (flag iso) 0 e
+asNumbers (point.NoLength e iso on) = code 20 0 (flag on) (flag iso) 0 e
+asNumbers (point.Words d e iso on) = code 21 (dirAs d) (flag on) (flag iso) 0 e
+asNumbers (point.Type d e on) = code 22 (dirAs d) (flag on) 0 0 e
+asNumbers (point.Switch e on n) = code 23 0 (flag on) 0 n e
+
+unfoldable pub encode : Point → Saved
+encode p = asNumbers p
 
 -- an unknown number is the first point
 abbrev pub byNumber : ℕ → Saved → Point

@@ -73,37 +73,32 @@ fn restarted_in(e: u8, r: EpState) -> u8
 }
 
 // The toggle restarts, and the control word.
-fn restart_out(s: &mut State, e: u8) -> Next
-    ensures { λ r. ⌜ ((b : List ℕ) → meaning r (view (now (s .exit))) b ≡ go (resultless (script.setStalled Dir.Out e false)) (view (now (s .entry))) b) ⌝ }
+fn restart(s: &mut State, dir: Dir, e: u8) -> Next
+    ensures { λ r. ⌜ ((b : List ℕ) → meaning r (view (now (s .exit))) b ≡ go (resultless (script.setStalled dir e false)) (view (now (s .entry))) b) ⌝ }
     ensures { λ _. ⌜ saved (now (s .exit)) ≡ saved (now (s .entry)) ⌝ }
     ensures { λ r. ⌜ Linked r ⌝ }
 {
-    let r = load_ep(s, Dir::Out, e);
-    let word = restarted_out(e, r);
+    let r = load_ep(s, dir, e);
     let mut t = r;
     t.tog = 0;
-    store_ep(s, Dir::Out, e, t);
-    Next::Asks(
-        Access::Write(Reg::EpRxCtrl, e, word as u32),
-        Point::Woken(Dir::Out, e),
-    )
-}
-
-fn restart_in(s: &mut State, e: u8) -> Next
-    ensures { λ r. ⌜ ((b : List ℕ) → meaning r (view (now (s .exit))) b ≡ go (resultless (script.setStalled Dir.In e false)) (view (now (s .entry))) b) ⌝ }
-    ensures { λ _. ⌜ saved (now (s .exit)) ≡ saved (now (s .entry)) ⌝ }
-    ensures { λ r. ⌜ Linked r ⌝ }
-{
-    let r = load_ep(s, Dir::In, e);
-    let word = restarted_in(e, r);
-    let iso = is_on(r.iso);
-    let mut t = r;
-    t.tog = 0;
-    store_ep(s, Dir::In, e, t);
-    Next::Asks(
-        Access::Write(Reg::EpTxCtrl, e, word as u32),
-        Point::Restarted(e, iso),
-    )
+    store_ep(s, dir, e, t);
+    match dir {
+        Dir::Out => {
+            let word = restarted_out(e, r);
+            Next::Asks(
+                Access::Write(Reg::EpRxCtrl, e, word as u32),
+                Point::Woken(Dir::Out, e),
+            )
+        }
+        Dir::In => {
+            let word = restarted_in(e, r);
+            let iso = is_on(r.iso);
+            Next::Asks(
+                Access::Write(Reg::EpTxCtrl, e, word as u32),
+                Point::Restarted(e, iso),
+            )
+        }
+    }
 }
 
 // `set_endpoint_stalled` (mod.rs 1053-1099).
@@ -112,22 +107,15 @@ pub fn set_endpoint_stalled(s: &mut State, dir: Dir, e: u8, on: bool) -> Next
     ensures { λ _. ⌜ saved (now (s .exit)) ≡ saved (now (s .entry)) ⌝ }
     ensures { λ r. ⌜ Linked r ⌝ }
 {
+    if !on {
+        return restart(s, dir, e);
+    }
     match dir {
-        Dir::Out => {
-            if on {
-                return Next::Asks(
-                    Access::Read(Reg::EpRxCtrl, e),
-                    Point::StallWord(Dir::Out, e),
-                );
-            }
-            restart_out(s, e)
-        }
-        Dir::In => {
-            if on {
-                return Next::Asks(Access::Write(Reg::EpTLen, e, 0), Point::StallLen(e));
-            }
-            restart_in(s, e)
-        }
+        Dir::Out => Next::Asks(
+            Access::Read(Reg::EpRxCtrl, e),
+            Point::StallWord(Dir::Out, e),
+        ),
+        Dir::In => Next::Asks(Access::Write(Reg::EpTLen, e, 0), Point::StallLen(e)),
     }
 }
 

@@ -13,16 +13,19 @@ use Rattle.control.specs.declared.Point.the-variants as point
 abbrev pub code : ℕ → ℕ → ℕ → ℕ → Saved
 code sub site f n = numbers sub site f 0 0 0 0 n 0
 
-abbrev pub encode : Point → Saved
-encode point.Wrote = code 0 0 0 0
-encode (point.Ack d) = code 1 (dirAs d) 0 0
-encode point.StatusLen = code 2 0 0 0
-encode point.Status = code 3 0 0 0
-encode point.StallIn = code 4 0 0 0
-encode point.StalledIn = code 5 0 0 0
-encode point.StallOut = code 6 0 0 0
-encode (point.Closing n first) = code 7 0 (flag first) n
-encode (point.Loaded first) = code 8 0 (flag first) 0
+abbrev pub asNumbers : Point → Saved
+asNumbers point.Wrote = code 0 0 0 0
+asNumbers (point.Ack d) = code 1 (dirAs d) 0 0
+asNumbers point.StatusLen = code 2 0 0 0
+asNumbers point.Status = code 3 0 0 0
+asNumbers point.StallIn = code 4 0 0 0
+asNumbers point.StalledIn = code 5 0 0 0
+asNumbers point.StallOut = code 6 0 0 0
+asNumbers (point.Closing n first) = code 7 0 (flag first) n
+asNumbers (point.Loaded first) = code 8 0 (flag first) 0
+
+unfoldable pub encode : Point → Saved
+encode p = asNumbers p
 
 -- by the number
 abbrev pub byNumber : ℕ → Saved → Point

@@ -17,24 +17,27 @@ code n f kind ep value = numbers n 0 f 0 0 kind ep 0 value
 abbrev pub listCode : ℕ → ℕ → ℕ → ℕ → ℕ → ℕ → Saved
 listCode n f kind ep left total = numbers n 0 f left total kind ep 0 0
 
-abbrev pub encode : Point → Saved
-encode (point.Clear callback) = code 0 (flag callback) 0 0 0
-encode (point.Wait callback) = code 1 (flag callback) 0 0 0
-encode (point.Reset callback) = code 2 (flag callback) 0 0 0
-encode (point.ResetEnd callback) = code 3 (flag callback) 0 0 0
-encode (point.Host callback) = code 4 (flag callback) 0 0 0
-encode (point.Run callback) = code 5 (flag callback) 0 0 0
-encode point.IntEn = code 6 0 0 0 0
-encode (point.MaxLen d kind ep) = code 7 (dirAs d) kind ep 0
-encode (point.Place ep) = code 8 0 0 ep 0
-encode (point.Ep0Place maximum) = code 9 0 0 0 maximum
-encode point.Ep0MaxLen = code 10 0 0 0 0
-encode point.Ep0Rx = code 11 0 0 0 0
-encode point.Ep0Tx = code 12 0 0 0 0
-encode point.Ep0Packet = code 13 0 0 0 0
-encode point.FrameNo = code 14 0 0 0 0
-encode (point.ListMaxLen d kind ep left total) = listCode 15 (dirAs d) kind ep left total
-encode (point.ListPlace d ep left total) = listCode 16 (dirAs d) 0 ep left total
+abbrev pub asNumbers : Point → Saved
+asNumbers (point.Clear callback) = code 0 (flag callback) 0 0 0
+asNumbers (point.Wait callback) = code 1 (flag callback) 0 0 0
+asNumbers (point.Reset callback) = code 2 (flag callback) 0 0 0
+asNumbers (point.ResetEnd callback) = code 3 (flag callback) 0 0 0
+asNumbers (point.Host callback) = code 4 (flag callback) 0 0 0
+asNumbers (point.Run callback) = code 5 (flag callback) 0 0 0
+asNumbers point.IntEn = code 6 0 0 0 0
+asNumbers (point.MaxLen d kind ep) = code 7 (dirAs d) kind ep 0
+asNumbers (point.Place ep) = code 8 0 0 ep 0
+asNumbers (point.Ep0Place maximum) = code 9 0 0 0 maximum
+asNumbers point.Ep0MaxLen = code 10 0 0 0 0
+asNumbers point.Ep0Rx = code 11 0 0 0 0
+asNumbers point.Ep0Tx = code 12 0 0 0 0
+asNumbers point.Ep0Packet = code 13 0 0 0 0
+asNumbers point.FrameNo = code 14 0 0 0 0
+asNumbers (point.ListMaxLen d kind ep left total) = listCode 15 (dirAs d) kind ep left total
+asNumbers (point.ListPlace d ep left total) = listCode 16 (dirAs d) 0 ep left total
+
+unfoldable pub encode : Point → Saved
+encode p = asNumbers p
 
 -- by the point's number; an unknown one is the first
 abbrev pub byNumber : ℕ → Saved → Point

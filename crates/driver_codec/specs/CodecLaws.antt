@@ -3,11 +3,11 @@ use mathlib.Core.Path.{_≡_, refl}
 use Rattle.model_points.specs.NumbersLaws.{flag-back, dir-back}
 use Rattle.driver.specs.declared.Point.{Point}
 use Rattle.driver.specs.declared.Point.the-variants as point
-use Rattle.driver_codec.specs.Codec.{encode, decode}
+use Rattle.driver_codec.specs.Codec.{asNumbers, encode, decode}
 
 -- what was saved is found again
 pub decode-encode : (p : Point) → decode (encode p) ≡ p
-unfolding decode
+unfolding encode decode
 decode-encode (point.Clear callback) = simp flag-back
 decode-encode (point.Wait callback) = simp flag-back
 decode-encode (point.Reset callback) = simp flag-back
@@ -25,3 +25,8 @@ decode-encode point.Ep0Packet = refl
 decode-encode point.FrameNo = refl
 decode-encode (point.ListMaxLen d kind ep left total) = simp dir-back
 decode-encode (point.ListPlace d ep left total) = simp dir-back
+
+-- `encode` is shut elsewhere
+pub by-table : (p : Point) → encode p ≡ asNumbers p
+unfolding encode
+by-table p = refl

@@ -12,7 +12,7 @@ use Rattle.endpoint.specs.declared.Point.the-variants as point
 abbrev pub code : ℕ → ℕ → ℕ → Saved
 code sub site e = numbers sub site 0 0 0 0 e 0 0
 
-abbrev pub encode : Point → Saved
+unfoldable pub encode : Point → Saved
 encode (point.Ack d e) = code 1 (dirAs d) e
 encode point.Wrote = code 0 0 0
 encode (point.Loaded e) = code 2 0 e

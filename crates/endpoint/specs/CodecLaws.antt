@@ -6,7 +6,7 @@ use Rattle.endpoint.specs.declared.Point.the-variants as point
 use Rattle.endpoint.specs.Codec.{encode, decode}
 
 pub decode-encode : (p : Point) → decode (encode p) ≡ p
-unfolding decode
+unfolding encode decode
 decode-encode (point.Ack d e) = simp dir-back
 decode-encode point.Wrote = refl
 decode-encode (point.Loaded e) = refl

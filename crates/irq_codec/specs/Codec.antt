@@ -145,36 +145,42 @@ code site setup x frame i = record {
 abbrev pub early : Bool → ℕ → Transfer
 early busy st = record { busy = busy; st = st; len = 0; late = false; «len_ok» = false }
 
-abbrev pub bare : ℕ → Saved
-bare site = code site false (early false 0) 0 (none false)
+abbrev pub entered : ℕ → Bool → Bool → ℕ → Saved
+entered site setup busy st = code site setup (early busy st) 0 (none false)
 
-abbrev pub encode : Point → Saved
-encode point.Frame = bare 0
-encode point.Flags = bare 1
-encode (point.BusRst f) = code 2 false (early false f) 0 (none false)
-encode (point.Suspend f) = code 3 false (early false f) 0 (none false)
-encode (point.Fifo f) = code 4 false (early false f) 0 (none false)
-encode (point.Host f) = code 5 false (early false f) 0 (none false)
-encode (point.Mis setup) = code 6 setup (early false 0) 0 (none false)
-encode (point.St setup busy) = code 7 setup (early busy 0) 0 (none false)
-encode (point.Len setup busy st) = code 8 setup (early busy st) 0 (none false)
-encode (point.Nak setup x p) = code 9 setup x 0 (nakAs 0 p)
-encode (point.Released setup x) = code 10 setup x 0 (none false)
-encode (point.Settle setup x p) = code 11 setup x 0 (settleAs p)
-encode (point.FrameNo setup x iso) = code 12 setup x 0 (none iso)
-encode (point.Sof setup x iso frame p) = code 13 setup x frame (sofAs iso p)
-encode (point.Late setup x iso frame p) = code 14 setup x frame (lateAs iso p)
-encode (point.SofArm setup x iso frame p) = code 15 setup x frame (sofAs iso p)
-encode (point.Flip d setup x iso) = code 16 setup x 0 (onDir d iso)
-encode (point.Flipped d setup x iso) = code 17 setup x 0 (onDir d iso)
-encode (point.Toggled d setup x iso p) = code 18 setup x 0 (toggledAs d iso p)
-encode (point.Completing setup x iso p) = code 19 setup x 0 (completeAs iso 0 p)
-encode (point.Check setup x iso p) = code 20 setup x 0 (checkAs iso p)
-encode (point.MovedRead d setup) = code 21 setup (early false 0) 0 (onDir d false)
-encode (point.MovedWrote d setup) = code 22 setup (early false 0) 0 (onDir d false)
-encode point.SetupRx = bare 23
-encode point.SetupTx = bare 24
-encode point.SetupReleased = bare 25
+abbrev pub bare : ℕ → Saved
+bare site = entered site false false 0
+
+abbrev pub asNumbers : Point → Saved
+asNumbers point.Frame = bare 0
+asNumbers point.Flags = bare 1
+asNumbers (point.BusRst f) = entered 2 false false f
+asNumbers (point.Suspend f) = entered 3 false false f
+asNumbers (point.Fifo f) = entered 4 false false f
+asNumbers (point.Host f) = entered 5 false false f
+asNumbers (point.Mis setup) = entered 6 setup false 0
+asNumbers (point.St setup busy) = entered 7 setup busy 0
+asNumbers (point.Len setup busy st) = entered 8 setup busy st
+asNumbers (point.Nak setup x p) = code 9 setup x 0 (nakAs 0 p)
+asNumbers (point.Released setup x) = code 10 setup x 0 (none false)
+asNumbers (point.Settle setup x p) = code 11 setup x 0 (settleAs p)
+asNumbers (point.FrameNo setup x iso) = code 12 setup x 0 (none iso)
+asNumbers (point.Sof setup x iso frame p) = code 13 setup x frame (sofAs iso p)
+asNumbers (point.Late setup x iso frame p) = code 14 setup x frame (lateAs iso p)
+asNumbers (point.SofArm setup x iso frame p) = code 15 setup x frame (sofAs iso p)
+asNumbers (point.Flip d setup x iso) = code 16 setup x 0 (onDir d iso)
+asNumbers (point.Flipped d setup x iso) = code 17 setup x 0 (onDir d iso)
+asNumbers (point.Toggled d setup x iso p) = code 18 setup x 0 (toggledAs d iso p)
+asNumbers (point.Completing setup x iso p) = code 19 setup x 0 (completeAs iso 0 p)
+asNumbers (point.Check setup x iso p) = code 20 setup x 0 (checkAs iso p)
+asNumbers (point.MovedRead d setup) = code 21 setup (early false 0) 0 (onDir d false)
+asNumbers (point.MovedWrote d setup) = code 22 setup (early false 0) 0 (onDir d false)
+asNumbers point.SetupRx = bare 23
+asNumbers point.SetupTx = bare 24
+asNumbers point.SetupReleased = bare 25
+
+unfoldable pub encode : Point → Saved
+encode p = asNumbers p
 
 abbrev pub transferOf : Saved → Transfer
 transferOf c = record { busy = isOn (c .busy); st = c .st; len = c .len; late = isOn (c .late); «len_ok» = isOn (c .«len_ok») }

@@ -20,17 +20,17 @@ use Rattle.iso_out.specs.declared.Check.{Check}
 use Rattle.iso_out.specs.declared.Check.the-variants as check
 use Rattle.irq.specs.declared.Point.{Point}
 use Rattle.irq.specs.declared.Point.the-variants as point
-use Rattle.irq_codec.specs.Codec.{encode, decode}
+use Rattle.irq_codec.specs.Codec.{asNumbers, encode, decode}
 
 late-back : (setup : Bool) (x : Transfer) (iso : Bool) (frame m : ℕ) (q : Complete)
     → decode (encode (point.Late setup x iso frame (record { rest = m; completing = q })))
     ≡ point.Late setup x iso frame (record { rest = m; completing = q })
-unfolding decode
+unfolding encode decode
 late-back setup x iso frame m (complete.Sent e) = simp flag-back
 late-back setup x iso frame m (complete.Loaded e) = simp flag-back
 
 pub decode-encode : (p : Point) → decode (encode p) ≡ p
-unfolding decode
+unfolding encode decode
 decode-encode point.Frame = refl
 decode-encode point.Flags = refl
 decode-encode (point.BusRst f) = refl
@@ -82,3 +82,8 @@ decode-encode (point.MovedWrote d setup) = simp (flag-back, dir-back)
 decode-encode point.SetupRx = refl
 decode-encode point.SetupTx = refl
 decode-encode point.SetupReleased = refl
+
+-- `encode` is shut elsewhere
+pub by-table : (p : Point) → encode p ≡ asNumbers p
+unfolding encode
+by-table p = refl

@@ -15,7 +15,7 @@ use state::Saved;
 ghost use mathlib.Core.Path.{_≡_};
 ghost use Rattle.irq_codec.specs.Codec.{dirOf, inner, walked, looking, none, onDir, nakAs, nakOf, settleAs, settleOf};
 ghost use Rattle.irq_codec.specs.Codec.{toggledAs, toggledOf, completeAs, completeOf, sofAs, sofOf, lateAs};
-ghost use Rattle.irq_codec.specs.Codec.{lateOf, checkAs, checkOf, code, early, bare, encode};
+ghost use Rattle.irq_codec.specs.Codec.{lateOf, checkAs, checkOf, code, early, entered, bare, encode};
 
 // An inner point's numbers, with the isochronous flag or a status.
 pub struct Numbers {
@@ -259,10 +259,16 @@ pub fn early(busy: bool, st: u8) -> Transfer
     }
 }
 
+fn entered(site: u8, setup: bool, busy: bool, st: u8) -> Saved
+    ensures { λ r. ⌜ r ≡ entered site setup busy st ⌝ }
+{
+    code(site, setup, early(busy, st), 0, none(false))
+}
+
 fn bare(site: u8) -> Saved
     ensures { λ r. ⌜ r ≡ bare site ⌝ }
 {
-    code(site, false, early(false, 0), 0, none(false))
+    entered(site, false, false, 0)
 }
 
 pub fn encode(p: Point) -> Saved
@@ -271,13 +277,13 @@ pub fn encode(p: Point) -> Saved
     match p {
         Point::Frame => bare(0),
         Point::Flags => bare(1),
-        Point::BusRst(f) => code(2, false, early(false, f), 0, none(false)),
-        Point::Suspend(f) => code(3, false, early(false, f), 0, none(false)),
-        Point::Fifo(f) => code(4, false, early(false, f), 0, none(false)),
-        Point::Host(f) => code(5, false, early(false, f), 0, none(false)),
-        Point::Mis(setup) => code(6, setup, early(false, 0), 0, none(false)),
-        Point::St(setup, busy) => code(7, setup, early(busy, 0), 0, none(false)),
-        Point::Len(setup, busy, st) => code(8, setup, early(busy, st), 0, none(false)),
+        Point::BusRst(f) => entered(2, false, false, f),
+        Point::Suspend(f) => entered(3, false, false, f),
+        Point::Fifo(f) => entered(4, false, false, f),
+        Point::Host(f) => entered(5, false, false, f),
+        Point::Mis(setup) => entered(6, setup, false, 0),
+        Point::St(setup, busy) => entered(7, setup, busy, 0),
+        Point::Len(setup, busy, st) => entered(8, setup, busy, st),
         Point::Nak(setup, x, q) => code(9, setup, x, 0, nak_as(0, q)),
         Point::Released(setup, x) => code(10, setup, x, 0, none(false)),
         Point::Settle(setup, x, q) => code(11, setup, x, 0, settle_as(q)),

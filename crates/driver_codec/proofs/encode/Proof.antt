@@ -1,3 +1,4 @@
+use Rattle.driver_codec.specs.CodecLaws.{by-table}
 use borrow.Author.Needs.{needs}
 use Rattle.driver_codec.proofs.encode.Statement.{statement}
 use Rattle.driver_codec.proofs.encode.Tie as tie
@@ -138,55 +139,55 @@ list-code-requires-2 : tie.Need-list-code-requires-2
 list-code-requires-2 c κs = search needs
 
 returns : tie.Need-returns
-returns c = simp (← c .code .ensures, ← c .before .flag-of .ensures, c .before .before .before .p .given .1)
+returns c = simp (by-table, ← c .code .ensures, ← c .before .flag-of .ensures, c .before .before .before .p .given .1)
 
 returns-2 : tie.Need-returns-2
-returns-2 c = simp (← c .code2 .ensures, ← c .before .flag-of2 .ensures, c .before .before .before .p2 .given .1)
+returns-2 c = simp (by-table, ← c .code2 .ensures, ← c .before .flag-of2 .ensures, c .before .before .before .p2 .given .1)
 
 returns-3 : tie.Need-returns-3
-returns-3 c = simp (← c .code3 .ensures, ← c .before .flag-of3 .ensures, c .before .before .before .p3 .given .1)
+returns-3 c = simp (by-table, ← c .code3 .ensures, ← c .before .flag-of3 .ensures, c .before .before .before .p3 .given .1)
 
 returns-4 : tie.Need-returns-4
-returns-4 c = simp (← c .code4 .ensures, ← c .before .flag-of4 .ensures, c .before .before .before .p4 .given .1)
+returns-4 c = simp (by-table, ← c .code4 .ensures, ← c .before .flag-of4 .ensures, c .before .before .before .p4 .given .1)
 
 returns-5 : tie.Need-returns-5
-returns-5 c = simp (← c .code5 .ensures, ← c .before .flag-of5 .ensures, c .before .before .before .p5 .given .1)
+returns-5 c = simp (by-table, ← c .code5 .ensures, ← c .before .flag-of5 .ensures, c .before .before .before .p5 .given .1)
 
 returns-6 : tie.Need-returns-6
-returns-6 c = simp (← c .code6 .ensures, ← c .before .flag-of6 .ensures, c .before .before .before .p6 .given .1)
+returns-6 c = simp (by-table, ← c .code6 .ensures, ← c .before .flag-of6 .ensures, c .before .before .before .p6 .given .1)
 
 returns-7 : tie.Need-returns-7
-returns-7 c = simp (← c .code7 .ensures, c .before .enum-told .given .1)
+returns-7 c = simp (by-table, ← c .code7 .ensures, c .before .enum-told .given .1)
 
 returns-8 : tie.Need-returns-8
-returns-8 c = simp (← c .code8 .ensures, ← c .before .dir-as .ensures, c .before .before .before .p7 .given .1)
+returns-8 c = simp (by-table, ← c .code8 .ensures, ← c .before .dir-as .ensures, c .before .before .before .p7 .given .1)
 
 returns-9 : tie.Need-returns-9
-returns-9 c = simp (← c .code9 .ensures, c .before .before .p8 .given .1)
+returns-9 c = simp (by-table, ← c .code9 .ensures, c .before .before .p8 .given .1)
 
 returns-10 : tie.Need-returns-10
-returns-10 c = simp (← c .code10 .ensures, c .before .before .p9 .given .1)
+returns-10 c = simp (by-table, ← c .code10 .ensures, c .before .before .p9 .given .1)
 
 returns-11 : tie.Need-returns-11
-returns-11 c = simp (← c .code11 .ensures, c .before .enum-told2 .given .1)
+returns-11 c = simp (by-table, ← c .code11 .ensures, c .before .enum-told2 .given .1)
 
 returns-12 : tie.Need-returns-12
-returns-12 c = simp (← c .code12 .ensures, c .before .enum-told3 .given .1)
+returns-12 c = simp (by-table, ← c .code12 .ensures, c .before .enum-told3 .given .1)
 
 returns-13 : tie.Need-returns-13
-returns-13 c = simp (← c .code13 .ensures, c .before .enum-told4 .given .1)
+returns-13 c = simp (by-table, ← c .code13 .ensures, c .before .enum-told4 .given .1)
 
 returns-14 : tie.Need-returns-14
-returns-14 c = simp (← c .code14 .ensures, c .before .enum-told5 .given .1)
+returns-14 c = simp (by-table, ← c .code14 .ensures, c .before .enum-told5 .given .1)
 
 returns-15 : tie.Need-returns-15
-returns-15 c = simp (← c .code15 .ensures, c .before .enum-told6 .given .1)
+returns-15 c = simp (by-table, ← c .code15 .ensures, c .before .enum-told6 .given .1)
 
 returns-16 : tie.Need-returns-16
-returns-16 c = simp (← c .list-code .ensures, ← c .before .dir-as2 .ensures, c .before .before .before .p10 .given .1)
+returns-16 c = simp (by-table, ← c .list-code .ensures, ← c .before .dir-as2 .ensures, c .before .before .before .p10 .given .1)
 
 returns-17 : tie.Need-returns-17
-returns-17 c = simp (← c .list-code2 .ensures, ← c .before .dir-as3 .ensures, c .before .before .before .p11 .given .1)
+returns-17 c = simp (by-table, ← c .list-code2 .ensures, ← c .before .dir-as3 .ensures, c .before .before .before .p11 .given .1)
 
 pub encode-spec : {M : Type 1} → statement M
 encode-spec =

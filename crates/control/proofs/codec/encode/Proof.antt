@@ -1,3 +1,4 @@
+use Rattle.control.specs.CodecLaws.{by-table}
 use borrow.Author.Needs.{needs}
 use Rattle.control.proofs.codec.encode.Statement.{statement}
 use Rattle.control.proofs.codec.encode.Tie as tie
@@ -71,31 +72,31 @@ code-requires-9 : tie.Need-code-requires-9
 code-requires-9 c κs = search needs
 
 returns : tie.Need-returns
-returns c = simp (c .code .ensures, c .before .enum-told .given .1)
+returns c = simp (by-table, c .code .ensures, c .before .enum-told .given .1)
 
 returns-2 : tie.Need-returns-2
-returns-2 c = simp (c .code2 .ensures, c .before .dir-as .ensures, c .before .before .before .p .given .1)
+returns-2 c = simp (by-table, c .code2 .ensures, c .before .dir-as .ensures, c .before .before .before .p .given .1)
 
 returns-3 : tie.Need-returns-3
-returns-3 c = simp (c .code3 .ensures, c .before .enum-told2 .given .1)
+returns-3 c = simp (by-table, c .code3 .ensures, c .before .enum-told2 .given .1)
 
 returns-4 : tie.Need-returns-4
-returns-4 c = simp (c .code4 .ensures, c .before .enum-told3 .given .1)
+returns-4 c = simp (by-table, c .code4 .ensures, c .before .enum-told3 .given .1)
 
 returns-5 : tie.Need-returns-5
-returns-5 c = simp (c .code5 .ensures, c .before .enum-told4 .given .1)
+returns-5 c = simp (by-table, c .code5 .ensures, c .before .enum-told4 .given .1)
 
 returns-6 : tie.Need-returns-6
-returns-6 c = simp (c .code6 .ensures, c .before .enum-told5 .given .1)
+returns-6 c = simp (by-table, c .code6 .ensures, c .before .enum-told5 .given .1)
 
 returns-7 : tie.Need-returns-7
-returns-7 c = simp (c .code7 .ensures, c .before .enum-told6 .given .1)
+returns-7 c = simp (by-table, c .code7 .ensures, c .before .enum-told6 .given .1)
 
 returns-8 : tie.Need-returns-8
-returns-8 c = simp (c .code8 .ensures, c .before .flag-of .ensures, c .before .before .before .p2 .given .1)
+returns-8 c = simp (by-table, c .code8 .ensures, c .before .flag-of .ensures, c .before .before .before .p2 .given .1)
 
 returns-9 : tie.Need-returns-9
-returns-9 c = simp (c .code9 .ensures, c .before .flag-of2 .ensures, c .before .before .before .p3 .given .1)
+returns-9 c = simp (by-table, c .code9 .ensures, c .before .flag-of2 .ensures, c .before .before .before .p3 .given .1)
 
 pub encode-spec : {M : Type 1} → statement M
 encode-spec =

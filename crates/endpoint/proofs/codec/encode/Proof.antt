@@ -1,3 +1,4 @@
+use Rattle.endpoint.specs.Codec.{encode}
 use borrow.Author.Needs.{needs}
 use Rattle.endpoint.proofs.codec.encode.Statement.{statement}
 use Rattle.endpoint.proofs.codec.encode.Tie as tie
@@ -26,12 +27,15 @@ code-requires-3 : tie.Need-code-requires-3
 code-requires-3 c κs = search needs
 
 returns : tie.Need-returns
+unfolding encode
 returns c = simp (c .code .ensures, c .before .dir-as .ensures, c .before .before .before .p .given .1)
 
 returns-2 : tie.Need-returns-2
+unfolding encode
 returns-2 c = simp (c .code2 .ensures, c .before .enum-told .given .1)
 
 returns-3 : tie.Need-returns-3
+unfolding encode
 returns-3 c = simp (c .code3 .ensures, c .before .before .p2 .given .1)
 
 pub encode-spec : {M : Type 1} → statement M

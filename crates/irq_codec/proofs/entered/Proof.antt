@@ -1,6 +1,6 @@
 use borrow.Author.Needs.{needs}
-use Rattle.irq_codec.proofs.bare.Statement.{statement}
-use Rattle.irq_codec.proofs.bare.Tie as tie
+use Rattle.irq_codec.proofs.entered.Statement.{statement}
+use Rattle.irq_codec.proofs.entered.Tie as tie
 
 early-requires : tie.Need-early-requires
 early-requires c κs = search needs
@@ -14,5 +14,5 @@ code-requires c κs = search needs
 returns : tie.Need-returns
 returns c = simp (c .code .ensures, c .before .none .ensures, c .before .before .early .ensures)
 
-pub bare-spec : {M : Type 1} → statement M
-bare-spec = tie.close (tie.spec early-requires none-requires code-requires returns)
+pub entered-spec : {M : Type 1} → statement M
+entered-spec = tie.close (tie.spec early-requires none-requires code-requires returns)
