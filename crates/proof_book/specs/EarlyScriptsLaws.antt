@@ -166,7 +166,7 @@ of-announce : (dir : Dir) (e : ℕ) → Lays ℕ (announce dir e)
 of-announce dir e = search laying depth 20
 
 of-announce-all : (es : List Endpoint) → Lays ℕ (announceAll es)
-of-announce-all = announced Lays (record { end = l-ret; then = l-bind; either = l-test; got = l-get }) of-announce
+of-announce-all = announced Lays (record { end = l-ret; then = l-bind; either = l-test; got = λ c. l-get (λ _. l-ret) }) of-announce
 
 of-allocate-read : (bytes : List ℕ) (a : reading-answer.Answer) → Lays Answer (allocate-read bytes a)
 of-allocate-read bytes (reading.Refused n) = search laying
