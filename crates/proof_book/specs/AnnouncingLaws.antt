@@ -21,7 +21,8 @@ module _ (P : (A : Type 0) → Script false A → Type 1) (c : Closed P) (one : 
   begins-at : (dir : Dir) (x left e : ℕ) → P ℕ (beginsAt dir x left e)
   unfolding beginsAt
   begins-at dir x zero e = c .end
-  begins-at dir x (suc left) e = c .then (c .got allocator-cell) (λ _. c .then (c .got (ep-cell dir e)) (λ _. c .either (c .end) (begins-at dir x left (suc e))))
+  begins-at dir x (suc left) e =
+      c .then (c .got allocator-cell) (λ _. c .then (c .got (ep-cell dir e)) (λ _. c .either (c .end) (begins-at dir x left (suc e))))
 
   after : (left total : ℕ) (dir : Dir) (e : ℕ) → P ℕ (announceAfter left total dir e)
   unfolding announceAfter
