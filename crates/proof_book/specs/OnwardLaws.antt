@@ -49,7 +49,7 @@ use Rattle.proof_book.specs.BookTracksLaws.{Tracks, end, ask, tracks-bin
 use Rattle.proof_book.specs.BookDecidesLaws.{Any, Passing, Loads, sendsTo, passing-then, waits-on, still-in, sends, passed}
 use Rattle.proof_book.specs.BookDecidesLaws.{empty-load, packet-load}
 use Rattle.proof_book.specs.EarlyScriptsLaws.{stage, row-4}
-use Rattle.proof_book.specs.RefusingLaws.{Same, act-same}
+use Rattle.proof_book.specs.RefusingLaws.{Same, act-same, silent-ends, silently}
 use Rattle.proof_book.specs.RefusingLaws.{Silent, c-ret, c-bind, c-test, c-get, c-put, c-is, c-look, c-fetch, c-act}
 use Rattle.proof_book.specs.AnnouncingLaws.{announced}
 
@@ -118,8 +118,6 @@ ruleset later = (k-load, k-bind, k-test, k-place, k-none, minding)
 
 ruleset heading = (h-then, h-bind, h-test, h-switch, h-later, h-place, h-free)
 
-ruleset free = (c-ret, c-bind, c-test, c-get, c-put, c-is, c-look, c-fetch, c-act)
-
 -- ---- their runs
 
 places : (f : ℕ) (s : Bk) → Passing s (Transmit f 0) (handB (place In f) s .1)
@@ -163,21 +161,6 @@ onward (k-place {d = In} {e = e} m h) s = ask tt (λ _. record {
   passing = places e s;
   loads = λ i. absurd (true≢false (sym (sym (ap (λ (u : Bool). mayPlace u In) i) ∙ m)));
 }) (λ _ t _. onward h t)
-
-pub free-ends : {A : Type 0} {p : Script false A} → Free A p → (s : Bk) → (a : A) × (t : Bk) × (run bookOps p s ≡ ends a t)
-free-ends (c-ret {a = a}) s = (a, s, refl)
-free-ends (c-bind {f = f} h g) s =
-    let z = free-ends h s in
-    let w = free-ends (g (z .0)) (z .1) in
-    (w .0, w .1, ap (λ (o : tree.Out Bk _). bindOut o (λ a t. run bookOps (f a) t)) (z .2) ∙ w .2)
-free-ends (c-test {b = true} h g) s = free-ends h s
-free-ends (c-test {b = false} h g) s = free-ends g s
-free-ends (c-get h) s = free-ends (h _) s
-free-ends (c-put h) s = free-ends h _
-free-ends (c-is h) s = free-ends (h _) s
-free-ends (c-look h) s = free-ends (h _) s
-free-ends (c-fetch h) s = free-ends (h _) s
-free-ends (c-act m h) s = free-ends h _
 
 -- what comes after the first access
 abbrev pub Head : {A : Type 0} → Bool → Bool → tree.Out Bk A → Type 0
@@ -225,9 +208,9 @@ module _ (f : ℕ) (on : Bool) where
 
 pub heads-run : {y z : Bool} {A : Type 0} {p : Script false A} → Heads y z A p → (s : Bk) → Head y z (run bookOps p s)
 heads-run {y} (h-later h) s = of-onto y (onward h s)
-heads-run {y} {z} (h-free h) s = let x = free-ends h s in subst (Head y z) (sym (x .2)) tt
+heads-run {y} {z} (h-free h) s = let x = silent-ends h s in subst (Head y z) (sym (x .2)) tt
 heads-run {y} {z} (h-then {f = f} h g) s =
-    let x = free-ends h s in
+    let x = silent-ends h s in
     subst (λ (o : tree.Out Bk _). Head y z (bindOut o (λ a t. run bookOps (f a) t))) (sym (x .2)) (heads-run (g (x .0)) (x .1))
 heads-run {y} (h-bind {p = p} h g) s = head-bind y (run bookOps p s) (heads-run h s) (λ b t. onward (g b) t)
 heads-run (h-test {b = true} h g) s = heads-run h s
@@ -251,7 +234,7 @@ of-allocated d kind maximum (alloc.Given e base slots) = search later depth 20
 
 of-each : (es : List Endpoint) → Free Unit (allocateEach es)
 unfolding allocateEach
-of-each [] = search free
+of-each [] = search silently
 of-each (e ∷ es) = c-bind (c-act refl c-ret) (λ _. of-each es)
 
 of-announce : (dir : Dir) (e : ℕ) → Later true ℕ (announce dir e)
@@ -263,7 +246,7 @@ of-announce-all = announced (Later true)
 
 of-allocate-read : (bytes : List ℕ) (a : reading-answer.Answer) → Heads false true Answer (allocate-read bytes a)
 of-allocate-read bytes (reading.Refused n) = h-free c-ret
-of-allocate-read bytes reading.Listed = search (of-each, of-announce-all, heading, later, free) depth 30 fits 100000
+of-allocate-read bytes reading.Listed = search (of-each, of-announce-all, heading, later, silently) depth 30 fits 100000
 
 of-kept : (dir : Dir) (e : ℕ) (iso onn : Bool) → Minds none Unit (bus.kept dir e iso onn)
 of-kept dir e iso onn = search minding depth 20
@@ -285,21 +268,21 @@ of-advance : (e : ℕ) → Later false Answer (otherCode (Advance e))
 of-advance e = search (of-completions, later) depth 40 fits 100000
 
 pub of-write-poll : (e : ℕ) (bytes : List ℕ) → Free Answer (slottedCode (PollWrite e bytes))
-of-write-poll e bytes = search free depth 40
+of-write-poll e bytes = search silently depth 40
 
 pub of-slotted : (o : Slotted) → Heads (enabling (slotted o)) false Answer (slottedCode o)
-of-slotted (SetEnabled Out e onn) = search (of-enabling, heading, later, free) depth 30 fits 100000
-of-slotted (SetEnabled In e onn) = search (of-enabling, heading, later, free) depth 30 fits 100000
-of-slotted (PollRead e n) = search (h-free, free) depth 40
+of-slotted (SetEnabled Out e onn) = search (of-enabling, heading, later, silently) depth 30 fits 100000
+of-slotted (SetEnabled In e onn) = search (of-enabling, heading, later, silently) depth 30 fits 100000
+of-slotted (PollRead e n) = search (h-free, silently) depth 40
 of-slotted (BeginWrite e bytes) = h-later (k-none (stay.of-slotted (BeginWrite e bytes)))
 of-slotted (PollWrite e bytes) = h-free (of-write-poll e bytes)
 of-slotted (PollDataOut n) = h-later (k-none (stay.of-slotted (PollDataOut n)))
 of-slotted (BeginDataIn bytes first last) = h-later (k-none (stay.of-slotted (BeginDataIn bytes first last)))
 
 pub of-aside : (o : Aside) → Heads false false Answer (asideCode o)
-of-aside (Open e) = search (h-free, free) depth 40
-of-aside (Close e) = search (h-free, free) depth 40
-of-aside (Queue e bytes) = search (h-free, free) depth 40
+of-aside (Open e) = search (h-free, silently) depth 40
+of-aside (Close e) = search (h-free, silently) depth 40
+of-aside (Queue e bytes) = search (h-free, silently) depth 40
 
 pub of-starting : (c : Config) → Heads false false Answer (starting c)
 of-starting c = h-later (k-none (stay.of-starting none c))
@@ -315,10 +298,10 @@ quietly : (o : Other) → otherNames o ≡ none → Goes o
 quietly o h = plainly (h-later (k-none (subst (λ (m : Names). Minds m Answer (otherCode o)) h (stay.of-other o))))
 
 pub of-other : (o : Other) → Goes o
-of-other (Allocate dir kind address maximum interval) = gives (search (of-allocated, heading, later, free) depth 30 fits 100000)
+of-other (Allocate dir kind address maximum interval) = gives (search (of-allocated, heading, later, silently) depth 30 fits 100000)
     (call-steps (other (Allocate dir kind address maximum interval)))
     (λ s h. row-4 (eqb (stage (s .0)) 1) _ _ (ap (λ (n : ℕ). eqb n 1) h))
-of-other (AllocateAll bytes) = gives (search (of-allocate-read, heading, free) depth 20) (call-steps (other (AllocateAll bytes)))
+of-other (AllocateAll bytes) = gives (search (of-allocate-read, heading, silently) depth 20) (call-steps (other (AllocateAll bytes)))
     (λ s h. row-4 (eqb (stage (s .0)) 1) _ _ (ap (λ (n : ℕ). eqb n 1) h))
 of-other (Start maximum) = quietly (Start maximum) refl
 of-other BusPoll = quietly BusPoll refl
