@@ -21,7 +21,7 @@ use Rattle.model.specs.Tree as tree
 use Rattle.model.specs.Tree.{ends}
 use Rattle.model.specs.Cells.{Cell, Val, globals-cell, control-cell, allocator-cell, ep-cell, request-cell, paced-cell}
 use Rattle.model.specs.Script.{Script, run, rows, ret, bind, test, read-then, write-then, wait-then, callback-then}
-use Rattle.model.specs.Script.{get-then, put-then, is-then, look-then, fetch-then, act-then, hand-then, row-then, Fetch}
+use Rattle.model.specs.Script.{get-then, put-then, is-then, look-then, fetch-then, act-then, hand-then, row-then}
 use Rattle.model.specs.Script.{Act, complete, reset-ring, set-enabled, fill, fill0, open-oldest, close-oldest}
 use Rattle.model.specs.Script.{take-oldest, enqueue, allocate, allocate0, no-wakes, waken, DmaStep, arrive, send, place}
 use Rattle.model.specs.Script.{place0, Burst, switch, bus-reset, lastOf}
@@ -45,7 +45,7 @@ use Rattle.proof_book.specs.GivenPartsLaws.{sets-stage}
 use Rattle.proof_book.specs.FrontPage.{SamePackets}
 use Rattle.proof_book.specs.BookTracksLaws.{Tracks, end, ask, earlier, tracks-bind}
 use Rattle.proof_book.specs.AnswersLaws.{fed-elim}
-use Rattle.proof_book.specs.RefusingLaws.{Same, leavesPages, put-same, act-same, Silent, c-ret, c-get, silently, silent-ends}
+use Rattle.proof_book.specs.RefusingLaws.{Same, leavesPages, Silent, c-ret, c-get, silently, silent-ends}
 use Rattle.proof_book.specs.AnnouncingLaws.{announced}
 
 -- ---- what holds of the pages all along

@@ -50,7 +50,7 @@ use Rattle.proof_book.specs.BookDecidesLaws.{Any, Passing, Loads, sendsT
 use Rattle.proof_book.specs.BookDecidesLaws.{empty-load, packet-load}
 use Rattle.proof_book.specs.EarlyScriptsLaws.{stage, row-4}
 use Rattle.proof_book.specs.RefusingLaws.{Same, act-same, silent-ends, silently}
-use Rattle.proof_book.specs.RefusingLaws.{Silent, c-ret, c-bind, c-test, c-get, c-put, c-is, c-look, c-fetch, c-act}
+use Rattle.proof_book.specs.RefusingLaws.{Silent, c-ret, c-bind, c-get, c-put, c-act}
 use Rattle.proof_book.specs.AnnouncingLaws.{announced}
 
 -- ---- from an access on
