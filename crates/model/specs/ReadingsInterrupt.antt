@@ -1,5 +1,4 @@
 -- The interrupt has at most 4,096 readings (document 01, demand 1)
-use Prim.Native.Nat.{ℕ}
 use native.Mathlib.Omega.{arith}
 use Rattle.model.specs.Calls.{interrupt, interruptCode}
 use Rattle.model.specs.Readings.{Reads≤}

@@ -20,7 +20,7 @@ use Rattle.model.specs.IsoIn.{firstInFrame, isoInLoad, isoInComplete, un
 use Rattle.model.specs.IsoOut.{arrives, checkOne, checkWalk, isoOutCheck}
 use Rattle.model.specs.Handler.{looks, sieWait, nakNonIso, toggled, retake, settle, received, sent, sofArm}
 use Rattle.model.specs.Handler.{outArm, isoInArm, inArm, dispatch, movedOn, ep0MovedOn, isoFor, framed, served}
-use Rattle.model.specs.Handler.{onTransfer, onSetup, onInterrupt, keepMicroframe, stampedInterrupt}
+use Rattle.model.specs.Handler.{onTransfer, onSetup, onInterrupt, stampedInterrupt}
 use Rattle.model.specs.Spends.{Spends, ret, bind, either, no}
 use Rattle.model.specs.SpendsLaws.{more, reads-by, free, once, woken, reading, then-free, one-read, one-wake, no-write}
 use Rattle.model.specs.SpendsLaws.{no-get, no-put, no-is, no-look, no-act, no-hand, no-callback, when-spends}

@@ -15,7 +15,7 @@ use Rattle.proof_book.specs.Pages.{Pages}
 use Rattle.proof_book.specs.Book.{Bk, putB, actB, bookOps, book}
 use Rattle.proof_book.specs.FrontPage.{written}
 use Rattle.proof_book.specs.BookDecidesLaws.{sendsTo}
-use Rattle.proof_book.specs.RefusingLaws.{Same, leavesPages, put-same, act-same}
+use Rattle.proof_book.specs.RefusingLaws.{Same, same-then, leavesPages, put-same, act-same}
 use Rattle.proof_book.specs.AnswersLaws.{sending-same, fed-in}
 
 -- a script that leaves the pages until its first access, a reading
@@ -35,9 +35,6 @@ ruleset waiting = (w-ret, w-reads, w-bind, w-test, w-get, w-put, w-fetch, w-act)
 abbrev First : {A : Type 0} → Bk → tree.Out Bk A → Type 0
 First s (ends a t) = Same (s .0) (t .0)
 First s (asks q t k) = Same (s .0) (t .0) × ((e : ℕ) → sendsTo q e ≡ false)
-
-same-then : {s t u : Pages} → Same s t → Same t u → Same s u
-same-then h k = record { outs = λ e. k .outs e ∙ h .outs e; ins = λ e. k .ins e ∙ h .ins e }
 
 first-after : {A : Type 0} (s t : Bk) (o : tree.Out Bk A) → Same (s .0) (t .0) → First t o → First s o
 first-after s t (ends a u) h k = same-then h k

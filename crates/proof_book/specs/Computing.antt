@@ -31,24 +31,19 @@ use Rattle.state.specs.Fresh as state-fresh
 use Rattle.state.specs.Wakes as state-wakes
 use Rattle.machine.specs.Questions as way-questions
 
--- bits, frame numbers, marks in a slot
+-- bits, frame numbers, marks in a slot, what a register's value says
 unfoldable numbers : Unit {0}
 unfolding bits-bit.isSet bits-bit.withBit bits-walk.bitsFrom frame-advance.completions frame-advance.distance
     frame-advance.isNone frame-advance.previous frame-advance.inPrevious frame-usb20.indexOf frame-usb20.microframe
     frame-usb20.frameNumber frame-usb20.frameOf marks-copies.copied marks-marks.markedLen marks-marks.found
     marks-marks.isMarked marks-marks.isMark marks-marks.armed marks-marks.arm marks-marks.markedRun
-    marks-marks.marked
+    marks-marks.marked regs-controlword.status regs-controlword.withToggle regs-controlword.toggle
+    regs-controlword.ack regs-controlword.withResponse regs-controlword.response regs-controlword.wordOf
+    regs-controlword.stall regs-controlword.isStalled regs-controlword.nakflip regs-controlword.nak
+    regs-controlword.flip regs-controlword.isData1 regs-enables.isOn regs-enables.withOn regs-enables.outEnabled
+    regs-enables.inEnabled regs-registers.fitsIn regs-status.isIn regs-status.token regs-status.tokenNumbered
+    regs-status.endpoint regs-status.isOut regs-status.isSof
 numbers = tt
-
--- what a register's value says
-unfoldable registers : Unit {0}
-unfolding regs-controlword.status regs-controlword.withToggle regs-controlword.toggle regs-controlword.ack
-    regs-controlword.withResponse regs-controlword.response regs-controlword.wordOf regs-controlword.stall
-    regs-controlword.isStalled regs-controlword.nakflip regs-controlword.nak regs-controlword.flip
-    regs-controlword.isData1 regs-enables.isOn regs-enables.withOn regs-enables.outEnabled regs-enables.inEnabled
-    regs-registers.fitsIn regs-status.isIn regs-status.token regs-status.tokenNumbered regs-status.endpoint
-    regs-status.isOut regs-status.isSof
-registers = tt
 
 -- endpoint numbers and buffers
 unfoldable allocation : Unit {0}
@@ -102,5 +97,5 @@ unfolding script-answers.isNumber script-answers.isAllocated script-bus.restarte
 scripts = tt
 
 unfoldable pub computing : Unit {0}
-unfolding numbers registers allocation state rings operations scripts
+unfolding numbers allocation state rings operations scripts
 computing = tt

@@ -21,7 +21,7 @@ use Rattle.model.specs.Tree as tree
 use Rattle.model.specs.Tree.{ends}
 use Rattle.model.specs.Cells.{Cell, Val, globals-cell, control-cell, allocator-cell, ep-cell, request-cell, paced-cell}
 use Rattle.model.specs.Script.{Script, run, rows, ret, bind, test, read-then, write-then, wait-then, callback-then}
-use Rattle.model.specs.Script.{get-then, put-then, is-then, look-then, fetch-then, act-then, hand-then, row-then, Fetch}
+use Rattle.model.specs.Script.{get-then, put-then, is-then, look-then, fetch-then, act-then, hand-then, row-then}
 use Rattle.model.specs.Script.{Act, complete, reset-ring, set-enabled, fill, fill0, open-oldest, close-oldest}
 use Rattle.model.specs.Script.{take-oldest, enqueue, allocate, allocate0, no-wakes, waken, DmaStep, arrive, send, place}
 use Rattle.model.specs.Script.{place0, Burst, switch, bus-reset, lastOf}
@@ -45,7 +45,7 @@ use Rattle.proof_book.specs.GivenPartsLaws.{sets-stage}
 use Rattle.proof_book.specs.FrontPage.{SamePackets}
 use Rattle.proof_book.specs.BookTracksLaws.{Tracks, end, ask, earlier, tracks-bind}
 use Rattle.proof_book.specs.AnswersLaws.{fed-elim}
-use Rattle.proof_book.specs.RefusingLaws.{Same, leavesPages, put-same, act-same}
+use Rattle.proof_book.specs.RefusingLaws.{Same, leavesPages, Silent, c-ret, c-get, silently, silent-ends}
 use Rattle.proof_book.specs.AnnouncingLaws.{announced}
 
 -- ---- what holds of the pages all along
@@ -123,35 +123,29 @@ blank-fed a t i = fed-elim Blank a t i
 -- ---- scripts that lay out endpoints' buffers
 
 pub data Lays : (A : Type 0) → Script false A → Type 1 where
-  l-ret : {A : Type 0} {a : A} → Lays A (ret a)
+  -- it hands out nothing, and leaves the pages
+  l-calm : {A : Type 0} {p : Script false A} → Silent leavesPages A p → Lays A p
   l-bind : {A B : Type 0} {p : Script false B} {f : B → Script false A} → Lays B p → ((b : B) → Lays A (f b)) → Lays A (bind p f)
   l-test : {A : Type 0} {b : Bool} {p q : Script false A} → Lays A p → Lays A q → Lays A (test b p q)
   l-read : {A : Type 0} {r : Reg} {e : ℕ} {k : ℕ → Script false A} → ((v : ℕ) → Lays A (k v)) → Lays A (read-then r e k)
   l-write : {A : Type 0} {r : Reg} {e v : ℕ} {p : Script false A} → Lays A p → Lays A (write-then r e v p)
   l-wait : {A : Type 0} {n : ℕ} {p : Script false A} → Lays A p → Lays A (wait-then n p)
-  l-get : {A : Type 0} {c : Cell} {k : Val c → Script false A} → ((v : Val c) → Lays A (k v)) → Lays A (get-then c k)
-  l-put : {A : Type 0} {c : Cell} {v : Val c} {p : Script false A} → Lays A p → Lays A (put-then c v p)
-  l-fetch : {A : Type 0} {q : Fetch} {k : List ℕ → Script false A} → ((l : List ℕ) → Lays A (k l)) → Lays A (fetch-then q k)
-  l-act : {A : Type 0} {q : Act} {p : Script false A} → leavesPages q ≡ true → Lays A p → Lays A (act-then q p)
   l-allocate : {A : Type 0} {d : Dir} {kind address maximum interval : ℕ} {p : Script false A} → Lays A p
       → Lays A (act-then (allocate d kind address maximum interval) p)
   l-place : {A : Type 0} {d : Dir} {e : ℕ} {p : Script false A} → Lays A p → Lays A (hand-then (place d e) p)
   l-place0 : {A : Type 0} {p : Script false A} → Lays A p → Lays A (hand-then place0 p)
 
-ruleset laying = (l-ret, l-bind, l-test, l-read, l-write, l-wait, l-get, l-put, l-fetch, l-act, l-allocate, l-place, l-place0)
+ruleset laying = (l-bind, l-test, l-read, l-write, l-wait, l-allocate, l-place, l-place0, l-calm, silently)
 
 pub blank-run : {A : Type 0} {p : Script false A} → Lays A p → (s : Bk) → Blank (s .0) → Along Blank s (run bookOps p s)
-blank-run l-ret s i = end i tt
+blank-run (l-calm h) s i =
+    let z = silent-ends h s in subst (λ (o : tree.Out Bk _). Along Blank s o) (sym (z .2)) (end (blank-same (z .3 (λ q l. l)) i) tt)
 blank-run (l-bind h g) s i = along-bind (blank-run h s i) (λ a t j. blank-run (g a) t j)
 blank-run (l-test {b = true} h g) s i = blank-run h s i
 blank-run (l-test {b = false} h g) s i = blank-run g s i
 blank-run (l-read h) s i = ask i tt (λ v t j. blank-run (h v) t j)
 blank-run (l-write h) s i = ask i tt (λ v t j. blank-run h t j)
 blank-run (l-wait h) s i = ask i tt (λ v t j. blank-run h t j)
-blank-run (l-get h) s i = blank-run (h _) s i
-blank-run (l-put {c = c} {v = v} h) s i = after (blank-run h (putB c v s) (blank-same (put-same c v s) i))
-blank-run (l-fetch h) s i = blank-run (h _) s i
-blank-run (l-act {q = q} m h) s i = after (blank-run h (actB q s) (blank-same (act-same q m s) i))
 blank-run (l-allocate {d = d} {kind = kind} {address = address} {maximum = maximum} {interval = interval} h) s i =
     after (blank-run h (actB (allocate d kind address maximum interval) s) (blank-allocate d kind address maximum interval s i))
 blank-run (l-place {d = d} {e = e} h) s i = ask (blank-place d e s i) tt (λ v t j. blank-run h t j)
@@ -160,13 +154,13 @@ blank-run (l-place0 h) s i = ask i tt (λ v t j. blank-run h t j)
 of-each : (es : List Endpoint) → Lays Unit (allocateEach es)
 unfolding allocateEach
 of-each [] = search laying
-of-each (e ∷ es) = l-bind (l-allocate l-ret) (λ _. of-each es)
+of-each (e ∷ es) = l-bind (l-allocate (l-calm c-ret)) (λ _. of-each es)
 
 of-announce : (dir : Dir) (e : ℕ) → Lays ℕ (announce dir e)
 of-announce dir e = search laying depth 20
 
 of-announce-all : (es : List Endpoint) → Lays ℕ (announceAll es)
-of-announce-all = announced Lays (record { end = l-ret; then = l-bind; either = l-test; got = l-get }) of-announce
+of-announce-all = announced Lays (record { end = l-calm c-ret; then = l-bind; either = l-test; got = λ c. l-calm (c-get (λ _. c-ret)) }) of-announce
 
 of-allocate-read : (bytes : List ℕ) (a : reading-answer.Answer) → Lays Answer (allocate-read bytes a)
 of-allocate-read bytes (reading.Refused n) = search laying

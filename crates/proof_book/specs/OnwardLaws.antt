@@ -9,8 +9,7 @@ use native.Mathlib.Omega.{arith}
 use borrow.Author.Tests.{ne-eqb}
 use lib.Dec.{eqb}
 use Rattle.regs.specs.declared.Access.{Access}
-use Rattle.regs.specs.declared.Access.the-variants.{Read, Write, Receive, Transmit, Ep0Dma, Wait}
-use Rattle.regs.specs.declared.Reg.{Reg}
+use Rattle.regs.specs.declared.Access.the-variants.{Write, Receive, Transmit}
 use Rattle.regs.specs.declared.Reg.the-variants.{EpTLen}
 use Rattle.regs.specs.declared.Dir.{Dir}
 use Rattle.regs.specs.declared.Dir.the-variants.{Out, In}
@@ -22,15 +21,14 @@ use Rattle.req_descriptor.specs.declared.Answer as reading-answer
 use Rattle.req_descriptor.specs.declared.Answer.the-variants as reading
 use Rattle.model.specs.Tree as tree
 use Rattle.model.specs.Tree.{ends, asks, bindOut}
-use Rattle.model.specs.Cells.{Cell, Val}
-use Rattle.model.specs.Script.{Script, run, rows, ret, bind, test, look, write, next-len, read-then, write-then, wait-then}
-use Rattle.model.specs.Script.{get-then, put-then, is-then, look-then, fetch-then, act-then, hand-then}
-use Rattle.model.specs.Script.{row-then, Test, Look, Fetch, Act, waken, send, place, place0, switch, bus-reset, switchAsk, burstAsk}
-use Rattle.model.specs.Statics.{wake}
+use Rattle.model.specs.Cells.{EpCore}
+use Rattle.model.specs.Script.{Script, run, rows, bind, test, look, write, next-len}
+use Rattle.model.specs.Script.{hand-then}
+use Rattle.model.specs.Script.{row-then, waken, send, place, switch, switchAsk, burstAsk}
+use Rattle.model.specs.Statics.{isOn, wake}
 use Rattle.model.specs.IsoIn.{isoInComplete, isoInCompletions}
 use Rattle.model.specs.Bus as bus
-use Rattle.model.specs.Control.{acks}
-use Rattle.model.specs.Driver.{allocated-as, started-as}
+use Rattle.model.specs.Driver.{allocated-as}
 use Rattle.model.specs.AllocateAll.{allocateEach, announce, announceAll, allocate-read}
 use Rattle.model.specs.Answers.{Answer, Refused}
 use Rattle.model.specs.Calls.{Config, Slotted, SetEnabled, PollRead, BeginWrite, PollWrite, PollDataOut, BeginDataIn}
@@ -44,13 +42,15 @@ use Rattle.proof_book.specs.Pages.{InPage, Pages}
 use Rattle.proof_book.specs.Book.{Bk, some, placedIn, handB, rowB, isoOf, switchB, bookOps}
 use Rattle.proof_book.specs.FrameLaws.{at-elim}
 use Rattle.proof_book.specs.FrontPage.{PassesOn, enabling}
-use Rattle.proof_book.specs.Others.{releases}
-use Rattle.proof_book.specs.BookTracksLaws.{Tracks, end, ask, earlier, tracks-bind}
+use Rattle.proof_book.specs.Others.{releases, Names, none, otherNames}
+use Rattle.proof_book.specs.OthersStayLaws as stay
+use Rattle.proof_book.specs.OthersStayLaws.{Minds, m-ret, m-bind, m-write, m-get, minding, Spared, spare}
+use Rattle.proof_book.specs.BookTracksLaws.{Tracks, end, ask, tracks-bind}
 use Rattle.proof_book.specs.BookDecidesLaws.{Any, Passing, Loads, sendsTo, passing-then, waits-on, still-in, sends, passed}
 use Rattle.proof_book.specs.BookDecidesLaws.{empty-load, packet-load}
 use Rattle.proof_book.specs.EarlyScriptsLaws.{stage, row-4}
-use Rattle.proof_book.specs.RefusingLaws.{Same, leavesPages, put-same, act-same}
-use Rattle.proof_book.specs.RefusingLaws.{Silent, c-ret, c-bind, c-test, c-get, c-put, c-is, c-look, c-fetch, c-act}
+use Rattle.proof_book.specs.RefusingLaws.{Same, act-same, silent-ends, silently}
+use Rattle.proof_book.specs.RefusingLaws.{Silent, c-ret, c-bind, c-get, c-put, c-act}
 use Rattle.proof_book.specs.AnnouncingLaws.{announced}
 
 -- ---- from an access on
@@ -84,9 +84,6 @@ still s = record { outs = λ e. refl; ins = λ e. refl }
 kept-at : {z : Bool} {s t : Bk} (q : Access) → ((e : ℕ) → sendsTo q e ≡ false) → SentKept s t → KeptAt z s q t
 kept-at q l h r = record { outs = h .outs; passing = still-in q (h .ins); loads = λ _ e k. absurd (true≢false (sym k ∙ l e)) }
 
-after : {z : Bool} {A : Type 0} {s t : Bk} {o : tree.Out Bk A} → SentKept s t → Onto z t o → Onto z s o
-after {z} h w = earlier Any SentKept (KeptAt z) kept-then at-then h w
-
 -- ---- a script that does so all along
 
 -- an address that sends nothing: of an OUT, or an allocation's
@@ -96,22 +93,12 @@ mayPlace false Out = true
 mayPlace false In = false
 
 pub data Later (z : Bool) : (A : Type 0) → Script false A → Type 1 where
-  k-ret : {A : Type 0} {a : A} → Later z A (ret a)
+  -- it changes no page
+  k-none : {A : Type 0} {p : Script false A} → Minds none A p → Later z A p
   k-load : {e : ℕ} → Later z Unit (isoInComplete e)
   k-bind : {A B : Type 0} {p : Script false B} {f : B → Script false A} → Later z B p → ((b : B) → Later z A (f b)) → Later z A (bind p f)
   k-test : {A : Type 0} {b : Bool} {p q : Script false A} → Later z A p → Later z A q → Later z A (test b p q)
-  k-read : {A : Type 0} {r : Reg} {e : ℕ} {k : ℕ → Script false A} → ((v : ℕ) → Later z A (k v)) → Later z A (read-then r e k)
-  k-write : {A : Type 0} {r : Reg} {e v : ℕ} {p : Script false A} → Later z A p → Later z A (write-then r e v p)
-  k-wait : {A : Type 0} {n : ℕ} {p : Script false A} → Later z A p → Later z A (wait-then n p)
-  k-get : {A : Type 0} {c : Cell} {k : Val c → Script false A} → ((v : Val c) → Later z A (k v)) → Later z A (get-then c k)
-  k-put : {A : Type 0} {c : Cell} {v : Val c} {p : Script false A} → Later z A p → Later z A (put-then c v p)
-  k-is : {A : Type 0} {q : Test} {k : Bool → Script false A} → ((b : Bool) → Later z A (k b)) → Later z A (is-then q k)
-  k-look : {A : Type 0} {q : Look} {k : ℕ → Script false A} → ((n : ℕ) → Later z A (k n)) → Later z A (look-then q k)
-  k-fetch : {A : Type 0} {q : Fetch} {k : List ℕ → Script false A} → ((l : List ℕ) → Later z A (k l)) → Later z A (fetch-then q k)
-  k-act : {A : Type 0} {q : Act} {p : Script false A} → leavesPages q ≡ true → Later z A p → Later z A (act-then q p)
   k-place : {A : Type 0} {d : Dir} {e : ℕ} {p : Script false A} → mayPlace z d ≡ true → Later z A p → Later z A (hand-then (place d e) p)
-  k-place0 : {A : Type 0} {p : Script false A} → Later z A p → Later z A (hand-then place0 p)
-  k-bus-reset : {A : Type 0} {p : Script false A} → Later z A p → Later z A (row-then bus-reset p)
 
 -- one that hands out no access
 abbrev pub Free : (A : Type 0) → Script false A → Type 1
@@ -127,28 +114,9 @@ pub data Heads (y z : Bool) : (A : Type 0) → Script false A → Type 1 where
   h-switch : {A : Type 0} {e : ℕ} {on : Bool} {p : Script false A} → Later z A p → Heads y z A (row-then (switch e on) p)
   h-place : {A : Type 0} {d : Dir} {e : ℕ} {p : Script false A} → y ≡ true → Later z A p → Heads y z A (hand-then (place d e) p)
 
-ruleset later = (
-  k-ret,
-  k-load,
-  k-bind,
-  k-test,
-  k-read,
-  k-write,
-  k-wait,
-  k-get,
-  k-put,
-  k-is,
-  k-look,
-  k-fetch,
-  k-act,
-  k-place,
-  k-place0,
-  k-bus-reset,
-)
+ruleset later = (k-load, k-bind, k-test, k-place, k-none, minding)
 
 ruleset heading = (h-then, h-bind, h-test, h-switch, h-later, h-place, h-free)
-
-ruleset free = (c-ret, c-bind, c-test, c-get, c-put, c-is, c-look, c-fetch, c-act)
 
 -- ---- their runs
 
@@ -170,56 +138,29 @@ load-onto : {z : Bool} (e : ℕ) (s : Bk) (u : Bool) → some (passed e s .0 .in
     (asks (Write EpTLen e 0) (passed e s) (λ _ t. ends tt t))) (λ _ t. run bookOps (wake {i = false} In e) t))
 load-onto e s true one = ask tt (λ _. record { outs = λ e. refl; passing = packet-load e s; loads = λ _. sends e (passed e s) one })
     (λ v t _. ask tt (kept-at (Write EpTLen e _) (λ _. refl) (still t)) (λ v t _. end tt (act-same (waken (wakeCode In e ∷ [])) refl t)))
-load-onto e s false none = ask tt
-    (λ _. record { outs = λ e. refl; passing = empty-load e s none; loads = λ _ e k. absurd (true≢false (sym k)) })
+load-onto e s false empty = ask tt
+    (λ _. record { outs = λ e. refl; passing = empty-load e s empty; loads = λ _ e k. absurd (true≢false (sym k)) })
     (λ v t _. end tt (act-same (waken (wakeCode In e ∷ [])) refl t))
 
-resets : {z : Bool} {A : Type 0} (n : ℕ) {k : Bk → tree.Out Bk A} → ((t : Bk) → Onto z t (k t)) → (s : Bk) → Onto z s (rows bookOps bus-reset n k s)
-resets zero h s = ask tt (λ r. absurd (true≢false r)) (λ v t _. h t)
-resets (suc zero) h s = ask tt (kept-at (burstAsk bus-reset 1 0) (λ _. refl) (still s)) (λ v t _. resets zero h t)
-resets (suc (suc zero)) h s =
-    ask tt (kept-at (burstAsk bus-reset 2 0) (λ _. refl) (record { outs = λ e. refl; ins = λ e. refl })) (λ v t _. resets (suc zero) h t)
-resets (suc (suc (suc n))) h s =
-    ask tt (kept-at (burstAsk bus-reset (suc (suc (suc n))) 0) (λ _. refl) (record { outs = λ e. refl; ins = λ e. refl })) (λ v t _. resets (suc (suc n)) h t)
+-- one that changes no page
+onto-none : {z : Bool} {A : Type 0} {s : Bk} {o : tree.Out Bk A} → Spared none s o → Onto z s o
+onto-none (end i q) = end i (record { outs = λ e. q .outs e tt; ins = λ e. q .ins e tt })
+onto-none (ask {q = q} i m k) =
+    ask i (λ r. let x = m .pages r in kept-at q (λ e. m .transmits e tt) (record { outs = λ e. x .outs e tt; ins = λ e. x .ins e tt }) r)
+    (λ v t j. onto-none (k v t j))
 
 pub onward : {z : Bool} {A : Type 0} {p : Script false A} → Later z A p → (s : Bk) → Onto z s (run bookOps p s)
-onward k-ret s = end tt (still s)
+onward (k-none h) s = onto-none (spare h s)
 onward (k-load {e = e}) s = load-onto e s (some (passed e s .0 .ins e .waiting)) refl
 onward {z} (k-bind h g) s = tracks-bind Any SentKept (KeptAt z) kept-then at-then (onward h s) (λ a t _. onward (g a) t)
 onward (k-test {b = true} h g) s = onward h s
 onward (k-test {b = false} h g) s = onward g s
-onward (k-read {r = r} {e = e} h) s = ask tt (kept-at (Read r e) (λ _. refl) (still s)) (λ v t _. onward (h v) t)
-onward (k-write {r = r} {e = e} {v = v} h) s = ask tt (kept-at (Write r e v) (λ _. refl) (still s)) (λ _ t _. onward h t)
-onward (k-wait {n = n} h) s = ask tt (kept-at (Wait n) (λ _. refl) (still s)) (λ _ t _. onward h t)
-onward (k-get h) s = onward (h _) s
-onward (k-put {c = c} {v = v} h) s = after (put-same c v s) (onward h _)
-onward (k-is h) s = onward (h _) s
-onward (k-look h) s = onward (h _) s
-onward (k-fetch h) s = onward (h _) s
-onward (k-act {q = q} m h) s = after (act-same q m s) (onward h _)
 onward (k-place {d = Out} {e = e} m h) s = ask tt (kept-at (Receive e 0) (λ _. refl) (still s)) (λ _ t _. onward h t)
 onward (k-place {d = In} {e = e} m h) s = ask tt (λ _. record {
   outs = λ e. refl;
   passing = places e s;
   loads = λ i. absurd (true≢false (sym (sym (ap (λ (u : Bool). mayPlace u In) i) ∙ m)));
 }) (λ _ t _. onward h t)
-onward (k-place0 h) s = ask tt (kept-at (Ep0Dma 0) (λ _. refl) (still s)) (λ _ t _. onward h t)
-onward (k-bus-reset h) s = resets 3 (λ t. onward h t) s
-
-pub free-ends : {A : Type 0} {p : Script false A} → Free A p → (s : Bk) → (a : A) × (t : Bk) × (run bookOps p s ≡ ends a t)
-free-ends (c-ret {a = a}) s = (a, s, refl)
-free-ends (c-bind {f = f} h g) s =
-    let z = free-ends h s in
-    let w = free-ends (g (z .0)) (z .1) in
-    (w .0, w .1, ap (λ (o : tree.Out Bk _). bindOut o (λ a t. run bookOps (f a) t)) (z .2) ∙ w .2)
-free-ends (c-test {b = true} h g) s = free-ends h s
-free-ends (c-test {b = false} h g) s = free-ends g s
-free-ends (c-get h) s = free-ends (h _) s
-free-ends (c-put h) s = free-ends h _
-free-ends (c-is h) s = free-ends (h _) s
-free-ends (c-look h) s = free-ends (h _) s
-free-ends (c-fetch h) s = free-ends (h _) s
-free-ends (c-act m h) s = free-ends h _
 
 -- what comes after the first access
 abbrev pub Head : {A : Type 0} → Bool → Bool → tree.Out Bk A → Type 0
@@ -267,9 +208,9 @@ module _ (f : ℕ) (on : Bool) where
 
 pub heads-run : {y z : Bool} {A : Type 0} {p : Script false A} → Heads y z A p → (s : Bk) → Head y z (run bookOps p s)
 heads-run {y} (h-later h) s = of-onto y (onward h s)
-heads-run {y} {z} (h-free h) s = let x = free-ends h s in subst (Head y z) (sym (x .2)) tt
+heads-run {y} {z} (h-free h) s = let x = silent-ends h s in subst (Head y z) (sym (x .2)) tt
 heads-run {y} {z} (h-then {f = f} h g) s =
-    let x = free-ends h s in
+    let x = silent-ends h s in
     subst (λ (o : tree.Out Bk _). Head y z (bindOut o (λ a t. run bookOps (f a) t))) (sym (x .2)) (heads-run (g (x .0)) (x .1))
 heads-run {y} (h-bind {p = p} h g) s = head-bind y (run bookOps p s) (heads-run h s) (λ b t. onward (g b) t)
 heads-run (h-test {b = true} h g) s = heads-run h s
@@ -284,29 +225,8 @@ heads-run (h-place i h) s = (λ j. absurd (true≢false (sym i ∙ j)), λ v u. 
 
 of-completions : (n e : ℕ) → Later false Unit (isoInCompletions n e)
 unfolding isoInCompletions
-of-completions zero e = search later
+of-completions zero e = k-none m-ret
 of-completions (suc n) e = k-bind k-load (λ _. of-completions n e)
-
-of-nak-all : (n e : ℕ) → Later false Unit (bus.nakAll n e)
-unfolding bus.nakAll
-of-nak-all zero e = search later
-of-nak-all (suc n) e = k-bind (k-write k-ret) (λ _. k-bind (k-write k-ret) (λ _. of-nak-all n (suc e)))
-
-of-acks : (dir : Dir) (first : Bool) → Later false Unit (acks dir first)
-of-acks Out true = search later
-of-acks Out false = search later
-of-acks In true = search later
-of-acks In false = search later
-
-of-stalled : (dir : Dir) (e : ℕ) (onn : Bool) → Later false Unit (bus.setStalled dir e onn)
-of-stalled Out e true = search later depth 20
-of-stalled In e true = search later depth 20
-of-stalled Out e false = search later depth 20
-of-stalled In e false = search later depth 30
-
-of-started : (maximum : ℕ) (a : alloc-answer.Answer) → Later false Answer (started-as maximum a)
-of-started maximum (alloc.Refused n) = search later
-of-started maximum (alloc.Given e base slots) = search later depth 20
 
 of-allocated : (d : Dir) (kind maximum : ℕ) (a : alloc-answer.Answer) → Later true Answer (allocated-as d kind maximum a)
 of-allocated d kind maximum (alloc.Refused n) = search later
@@ -314,43 +234,58 @@ of-allocated d kind maximum (alloc.Given e base slots) = search later depth 20
 
 of-each : (es : List Endpoint) → Free Unit (allocateEach es)
 unfolding allocateEach
-of-each [] = search free
+of-each [] = search silently
 of-each (e ∷ es) = c-bind (c-act refl c-ret) (λ _. of-each es)
 
 of-announce : (dir : Dir) (e : ℕ) → Later true ℕ (announce dir e)
 of-announce dir e = search later depth 20
 
 of-announce-all : (es : List Endpoint) → Later true ℕ (announceAll es)
-of-announce-all = announced (Later true) (record { end = k-ret; then = k-bind; either = k-test; got = k-get }) of-announce
+of-announce-all = announced (Later true)
+    (record { end = k-none m-ret; then = k-bind; either = k-test; got = λ c. k-none (m-get (λ _. m-ret)) }) of-announce
 
 of-allocate-read : (bytes : List ℕ) (a : reading-answer.Answer) → Heads false true Answer (allocate-read bytes a)
 of-allocate-read bytes (reading.Refused n) = h-free c-ret
-of-allocate-read bytes reading.Listed = search (of-each, of-announce-all, heading, later, free) depth 30 fits 100000
+of-allocate-read bytes reading.Listed = search (of-each, of-announce-all, heading, later, silently) depth 30 fits 100000
+
+of-kept : (dir : Dir) (e : ℕ) (iso onn : Bool) → Minds none Unit (bus.kept dir e iso onn)
+of-kept dir e iso onn = search minding depth 20
+
+of-wake : (dir : Dir) (e : ℕ) → Minds none Unit (wake dir e)
+of-wake dir e = search minding
 
 of-enabling : (dir : Dir) (e : ℕ) (onn : Bool) → Heads (enabling (slotted (SetEnabled dir e onn))) false Unit (bus.setEnabled dir e onn)
-of-enabling Out e onn = search (heading, later, free) depth 40 fits 100000
-of-enabling In e onn = search (heading, later, free) depth 40 fits 100000
+of-enabling Out e onn = h-then (c-get (λ _. c-ret)) (λ _. h-bind
+    (h-test (h-switch (k-none m-ret)) (h-then (c-act refl c-ret) (λ _. h-then (c-bind (c-get (λ _. c-ret)) (λ _. c-put c-ret)) (λ _.
+    h-later (k-bind (k-place refl (k-none m-ret)) (λ _. k-none (m-bind (m-write m-ret) (λ _. of-kept Out e false onn))))))))
+    (λ _. k-none (of-wake Out e)))
+of-enabling In e onn = h-then (c-get (λ _. c-ret)) (λ (s : EpCore). h-bind
+    (h-then (c-act refl c-ret) (λ _. h-then (c-bind (c-get (λ _. c-ret)) (λ _. c-put c-ret)) (λ _. h-then (c-put c-ret) (λ _.
+    h-bind (h-place refl (k-none m-ret)) (λ _. k-none (m-bind (m-write m-ret) (λ _. m-bind (m-write m-ret) (λ _. of-kept In e (isOn (s .iso)) onn))))))))
+    (λ _. k-none (of-wake In e)))
+
+of-advance : (e : ℕ) → Later false Answer (otherCode (Advance e))
+of-advance e = search (of-completions, later) depth 40 fits 100000
 
 pub of-write-poll : (e : ℕ) (bytes : List ℕ) → Free Answer (slottedCode (PollWrite e bytes))
-of-write-poll e bytes = search free depth 40
+of-write-poll e bytes = search silently depth 40
 
 pub of-slotted : (o : Slotted) → Heads (enabling (slotted o)) false Answer (slottedCode o)
-of-slotted (SetEnabled Out e onn) = search (of-enabling, heading, later, free) depth 30 fits 100000
-of-slotted (SetEnabled In e onn) = search (of-enabling, heading, later, free) depth 30 fits 100000
-of-slotted (PollRead e n) = search (h-free, free) depth 40
-of-slotted (BeginWrite e bytes) = search (h-later, later) depth 40
+of-slotted (SetEnabled Out e onn) = search (of-enabling, heading, later, silently) depth 30 fits 100000
+of-slotted (SetEnabled In e onn) = search (of-enabling, heading, later, silently) depth 30 fits 100000
+of-slotted (PollRead e n) = search (h-free, silently) depth 40
+of-slotted (BeginWrite e bytes) = h-later (k-none (stay.of-slotted (BeginWrite e bytes)))
 of-slotted (PollWrite e bytes) = h-free (of-write-poll e bytes)
-of-slotted (PollDataOut n) = search (h-later, later) depth 40
-of-slotted (BeginDataIn bytes first true) = search (h-later, of-acks, later) depth 60
-of-slotted (BeginDataIn bytes first false) = search (h-later, of-acks, later) depth 60
+of-slotted (PollDataOut n) = h-later (k-none (stay.of-slotted (PollDataOut n)))
+of-slotted (BeginDataIn bytes first last) = h-later (k-none (stay.of-slotted (BeginDataIn bytes first last)))
 
 pub of-aside : (o : Aside) → Heads false false Answer (asideCode o)
-of-aside (Open e) = search (h-free, free) depth 40
-of-aside (Close e) = search (h-free, free) depth 40
-of-aside (Queue e bytes) = search (h-free, free) depth 40
+of-aside (Open e) = search (h-free, silently) depth 40
+of-aside (Close e) = search (h-free, silently) depth 40
+of-aside (Queue e bytes) = search (h-free, silently) depth 40
 
 pub of-starting : (c : Config) → Heads false false Answer (starting c)
-of-starting c = search (h-later, later) depth 30
+of-starting c = h-later (k-none (stay.of-starting none c))
 
 -- an allocation, which row 4 stops after EP0's start, or another
 pub data Goes (o : Other) : Type 1 where
@@ -358,27 +293,31 @@ pub data Goes (o : Other) : Type 1 where
   gives : Heads false true Answer (otherCode o) → Steps giving (otherCode o)
       → ((s : Bk) → stage (s .0) ≡ 2 → run bookOps (otherCode o) s ≡ ends (Refused 4) s) → Goes o
 
+-- one that names no endpoint
+quietly : (o : Other) → otherNames o ≡ none → Goes o
+quietly o h = plainly (h-later (k-none (subst (λ (m : Names). Minds m Answer (otherCode o)) h (stay.of-other o))))
+
 pub of-other : (o : Other) → Goes o
-of-other (Allocate dir kind address maximum interval) = gives (search (of-allocated, heading, later, free) depth 30 fits 100000)
+of-other (Allocate dir kind address maximum interval) = gives (search (of-allocated, heading, later, silently) depth 30 fits 100000)
     (call-steps (other (Allocate dir kind address maximum interval)))
     (λ s h. row-4 (eqb (stage (s .0)) 1) _ _ (ap (λ (n : ℕ). eqb n 1) h))
-of-other (AllocateAll bytes) = gives (search (of-allocate-read, heading, free) depth 20) (call-steps (other (AllocateAll bytes)))
+of-other (AllocateAll bytes) = gives (search (of-allocate-read, heading, silently) depth 20) (call-steps (other (AllocateAll bytes)))
     (λ s h. row-4 (eqb (stage (s .0)) 1) _ _ (ap (λ (n : ℕ). eqb n 1) h))
-of-other (Start maximum) = plainly (search (h-later, of-started, later) depth 20)
-of-other BusPoll = plainly (search (h-later, of-nak-all, later) depth 60)
-of-other BusEnable = plainly (search (h-later, later) depth 20)
-of-other BusDisable = plainly (search (h-later, later) depth 20)
-of-other Microframe = plainly (search (h-later, later) depth 20)
-of-other (SetStalled dir e onn) = plainly (search (h-later, of-stalled, later) depth 20)
-of-other (IsStalled dir e) = plainly (search (h-later, later) depth 20)
-of-other (SetPaced e onn) = plainly (search (h-later, later) depth 20)
-of-other (Advance e) = plainly (search (h-later, of-completions, later) depth 40)
-of-other (BeginRead e n) = plainly (search (h-later, later) depth 60)
-of-other BeginSetup = plainly (search (h-later, later) depth 20)
-of-other PollSetup = plainly (search (h-later, later) depth 20)
-of-other PollDataIn = plainly (search (h-later, later) depth 40)
-of-other BeginAccept = plainly (search (h-later, later) depth 40)
-of-other PollAccept = plainly (search (h-later, later) depth 40)
-of-other BeginReject = plainly (search (h-later, later) depth 40)
-of-other (BeginDataOut n first) = plainly (search (h-later, of-acks, later) depth 60)
-of-other (BeginAcceptSetAddress a) = plainly (search (h-later, later) depth 40)
+of-other (Start maximum) = quietly (Start maximum) refl
+of-other BusPoll = quietly BusPoll refl
+of-other BusEnable = quietly BusEnable refl
+of-other BusDisable = quietly BusDisable refl
+of-other Microframe = quietly Microframe refl
+of-other (SetStalled dir e onn) = quietly (SetStalled dir e onn) refl
+of-other (IsStalled dir e) = quietly (IsStalled dir e) refl
+of-other (SetPaced e onn) = quietly (SetPaced e onn) refl
+of-other (Advance e) = plainly (h-later (of-advance e))
+of-other (BeginRead e n) = quietly (BeginRead e n) refl
+of-other BeginSetup = quietly BeginSetup refl
+of-other PollSetup = quietly PollSetup refl
+of-other PollDataIn = quietly PollDataIn refl
+of-other BeginAccept = quietly BeginAccept refl
+of-other PollAccept = quietly PollAccept refl
+of-other BeginReject = quietly BeginReject refl
+of-other (BeginDataOut n first) = quietly (BeginDataOut n first) refl
+of-other (BeginAcceptSetAddress a) = quietly (BeginAcceptSetAddress a) refl

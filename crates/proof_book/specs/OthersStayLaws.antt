@@ -74,7 +74,7 @@ pub data Minds : Names → (A : Type 0) → Script false A → Type 1 where
   -- whatever it does
   m-any : {A : Type 0} {p : Script false A} → Minds any A p
 
-ruleset minding = (
+pub ruleset minding = (
   m-ret,
   m-bind,
   m-test,

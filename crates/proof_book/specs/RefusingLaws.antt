@@ -1,7 +1,7 @@
 -- Scripts that leave every page where they end with a refusal or a poll's "not yet", and the scripts of all calls: they are such
 use mathlib.Core.Bool.{Bool, true, false, cond, _||_, true≢false}
 use mathlib.Core.List.{List}
-use mathlib.Core.Path.{_≡_, refl, sym, _∙_}
+use mathlib.Core.Path.{_≡_, refl, ap, subst, sym, _∙_}
 use Prim.Native.Nat.{ℕ}
 use lib.Dec.{eqb}
 use Rattle.regs.specs.declared.Access.{Access}
@@ -52,6 +52,9 @@ pub record Same (s t : Pages) : Type 0 where
 same : {s : Pages} → Same s s
 same = record { outs = λ e. refl; ins = λ e. refl }
 
+pub same-then : {s t u : Pages} → Same s t → Same t u → Same s u
+same-then h k = record { outs = λ e. k .outs e ∙ h .outs e; ins = λ e. k .ins e ∙ h .ins e }
+
 -- ---- an outcome: where it ends with such a result, the pages are as the call found them
 
 pub data Tells {A : Type 0} (no : A → Bool) : Bk → tree.Out Bk A → Type 0 where
@@ -62,7 +65,7 @@ abbrev any : {A : Type 0} → A → Bool
 any a = true
 
 tells-from : {A : Type 0} {no : A → Bool} {s t : Bk} {o : tree.Out Bk A} → Same (s .0) (t .0) → Tells no t o → Tells no s o
-tells-from h (t-end k) = t-end (λ z. let y = k z in record { outs = λ e. y .outs e ∙ h .outs e; ins = λ e. y .ins e ∙ h .ins e })
+tells-from h (t-end k) = t-end (λ z. same-then h (k z))
 tells-from h (t-ask k) = t-ask k
 
 tells-bind : {A B : Type 0} {no : B → Bool} {s : Bk} {o : tree.Out Bk A} {f : A → Bk → tree.Out Bk B}
@@ -115,7 +118,9 @@ pub data Fair : (i : Bool) → Script i Answer → Type 1 where
   f-test : {i : Bool} {b : Bool} {p q : Script i Answer} → Fair i p → Fair i q → Fair i (test b p q)
   f-allocate : (d : Dir) (kind address maximum interval : ℕ) → Fair false (allocEndpoint d kind address maximum interval)
 
-ruleset fairly = (f-never, f-ret, f-bind, f-test, n-ret, n-bind, n-test, c-ret, c-bind, c-test, c-get, c-put, c-is, c-look, c-fetch, c-act)
+pub ruleset silently = (c-ret, c-bind, c-test, c-get, c-put, c-is, c-look, c-fetch, c-act)
+
+ruleset fairly = (f-never, f-ret, f-bind, f-test, n-ret, n-bind, n-test, silently)
 
 -- ---- their runs
 
@@ -156,17 +161,29 @@ never-run (n-bind {p = p} g) s t = never-bind (run bookOps p t) (λ a s t. never
 never-run (n-test {b = true} h g) s t = never-run h s t
 never-run (n-test {b = false} h g) s t = never-run g s t
 
+-- it ends at once; where its changes leave the pages, they are as they were
+pub silent-ends : {i : Bool} {ok : Act → Bool} {A : Type 0} {p : Script i A} → Silent ok A p → (s : Bk)
+    → (a : A) × (t : Bk) × (run bookOps p s ≡ ends a t) × (((q : Act) → ok q ≡ true → leavesPages q ≡ true) → Same (s .0) (t .0))
+silent-ends (c-ret {a = a}) s = (a, s, refl, λ _. same)
+silent-ends (c-bind {f = f} h g) s =
+    let z = silent-ends h s in
+    let w = silent-ends (g (z .0)) (z .1) in (
+      w .0,
+      w .1,
+      ap (λ (o : tree.Out Bk _). bindOut o (λ a t. run bookOps (f a) t)) (z .2) ∙ w .2,
+      λ l. same-then (z .3 l) (w .3 l),
+    )
+silent-ends (c-test {b = true} h g) s = silent-ends h s
+silent-ends (c-test {b = false} h g) s = silent-ends g s
+silent-ends (c-get h) s = silent-ends (h _) s
+silent-ends (c-put {c = c} {v = v} h) s = let z = silent-ends h (putB c v s) in (z .0, z .1, z .2, λ l. same-then (put-same c v s) (z .3 l))
+silent-ends (c-is h) s = silent-ends (h _) s
+silent-ends (c-look h) s = silent-ends (h _) s
+silent-ends (c-fetch h) s = silent-ends (h _) s
+silent-ends (c-act {q = q} m h) s = let z = silent-ends h (actB q s) in (z .0, z .1, z .2, λ l. same-then (act-same q (l q m) s) (z .3 l))
+
 calm-run : {i : Bool} {A : Type 0} {p : Script i A} → Calm A p → (s : Bk) → Tells any s (run bookOps p s)
-calm-run c-ret s = t-end (λ _. same)
-calm-run (c-bind h g) s = tells-bind (calm-run h s) (λ a t. calm-run (g a) t)
-calm-run (c-test {b = true} h g) s = calm-run h s
-calm-run (c-test {b = false} h g) s = calm-run g s
-calm-run (c-get h) s = calm-run (h _) s
-calm-run (c-put {c = c} {v = v} h) s = tells-from (put-same c v s) (calm-run h _)
-calm-run (c-is h) s = calm-run (h _) s
-calm-run (c-look h) s = calm-run (h _) s
-calm-run (c-fetch h) s = calm-run (h _) s
-calm-run (c-act {q = q} e h) s = tells-from (act-same q e s) (calm-run h _)
+calm-run h s = let z = silent-ends h s in subst (λ (o : tree.Out Bk _). Tells any s o) (sym (z .2)) (t-end (λ _. z .3 (λ q l. l)))
 
 -- an allocation that is refused leaves the pages
 module _ (d : Dir) (kind address maximum interval : ℕ) (s : Bk) where

@@ -18,7 +18,8 @@ use Rattle.proof_book.specs.Pages.{Pages}
 use Rattle.proof_book.specs.Book.{Bk, isoOf, roomB, bookOps, book}
 use Rattle.proof_book.specs.FrontPage.{isDone, Joins, written}
 use Rattle.proof_book.specs.AsidesLaws.{Ends, by-test, room-joins}
-use Rattle.proof_book.specs.OnwardLaws.{free-ends, of-write-poll}
+use Rattle.proof_book.specs.OnwardLaws.{of-write-poll}
+use Rattle.proof_book.specs.RefusingLaws.{silent-ends}
 
 module _ (t : Pages) (e : ℕ) (bytes : List ℕ) where
   pub record Wrote (z : Answer) (t′ : Pages) : Type 0 where
@@ -67,7 +68,7 @@ module _ (a : Ans Answer) (e : ℕ) (bytes : List ℕ) (n : Machine Answer Pages
 
   begins : (w : Way Answer Pages) → Polled (begun calls (book .driver) (fed book a) (slotted (PollWrite e bytes)) n w b)
   begins idle =
-      let r = free-ends (of-write-poll e bytes) (n .st, b) in
+      let r = silent-ends (of-write-poll e bytes) (n .st, b) in
       subst (λ (o : tree.Out Bk Answer). Ends (Wrote (n .st) e bytes) o → Polled (halt calls (book .driver) (fed book a) false o)) (sym (r .2))
       (λ h. record { answer = r .0; ends-with = refl; wrote = h }) (write-ends (n .st) e bytes b)
   begins (busy true q k) = refused 3 (lentTo calls (book .driver) n b) refl

@@ -159,32 +159,34 @@ after-each i (m ∷ ms) xs a n run goes k y = (
       (y .1)),
 )
 
-lengths-each : (i : ℕ) (ms : List MadeShared) (xs : List ℕ) (a : Buf) (n : Machine Answer Pages) (k : Known)
-    → Calls i xs a n ms → NotedAll i xs a n ms → page.LengthsEach n k (allAlone i xs a ms) → LengthsEach i n k ms
-lengths-each i [] xs a n k run goes y = tt
-lengths-each i (m ∷ ms) xs a n k run goes y = (
-  length-made i xs a m n (run .0) (goes .0) k (y .0),
-  lengths-each i ms (m .bytes) (m .slots) (noted i m n .1) (learnt (m .event .call) (m .answer) k) (run .2) (goes .2)
-      (subst₂ (λ (z : Machine Answer Pages) (l : Known). page.LengthsEach z l (allAlone i (m .bytes) (m .slots) ms))
-      (sym (goes .0)) (learnt-same i xs a m n (run .0) (goes .0) k) (y .1)),
-)
-
-others-each : (i : ℕ) (ms : List MadeShared) (xs : List ℕ) (a : Buf) (n : Machine Answer Pages) (k : Names)
-    → Calls i xs a n ms → NotedAll i xs a n ms → page.OthersEach n k (allAlone i xs a ms) → OthersEach i n k ms
-others-each i [] xs a n k run goes y = tt
-others-each i (m ∷ ms) xs a n k run goes y = (
-  others-made i xs a m n (run .0) (goes .0) k (y .0),
-  others-each i ms (m .bytes) (m .slots) (noted i m n .1) (underWay (m .event .call) (m .answer) k) (run .2) (goes .2)
-      (subst₂ (λ (z : Machine Answer Pages) (l : Names). page.OthersEach z l (allAlone i (m .bytes) (m .slots) ms))
-      (sym (goes .0)) (named-same i xs a m n (run .0) (goes .0) k) (y .1)),
-)
+-- the lengths with what was brought, the others with what is named
+known-each : (i : ℕ) (ms : List MadeShared) (xs : List ℕ) (a : Buf) (n : Machine Answer Pages) → Calls i xs a n ms → NotedAll i xs a n ms
+    → ((k : Known) → page.LengthsEach n k (allAlone i xs a ms) → LengthsEach i n k ms)
+    × ((k : Names) → page.OthersEach n k (allAlone i xs a ms) → OthersEach i n k ms)
+known-each i [] xs a n run goes = (λ k y. tt, λ k y. tt)
+known-each i (m ∷ ms) xs a n run goes =
+    let rest = known-each i ms (m .bytes) (m .slots) (noted i m n .1) (run .2) (goes .2) in (
+      λ k y. (
+        length-made i xs a m n (run .0) (goes .0) k (y .0),
+        rest .0 (learnt (m .event .call) (m .answer) k)
+            (subst₂ (λ (z : Machine Answer Pages) (l : Known). page.LengthsEach z l (allAlone i (m .bytes) (m .slots) ms))
+            (sym (goes .0)) (learnt-same i xs a m n (run .0) (goes .0) k) (y .1)),
+      ),
+      λ k y. (
+        others-made i xs a m n (run .0) (goes .0) k (y .0),
+        rest .1 (underWay (m .event .call) (m .answer) k)
+            (subst₂ (λ (z : Machine Answer Pages) (l : Names). page.OthersEach z l (allAlone i (m .bytes) (m .slots) ms))
+            (sym (goes .0)) (named-same i xs a m n (run .0) (goes .0) k) (y .1)),
+      ),
+    )
 
 pub shared-demand-3 : SharedDemand3
 shared-demand-3 i c b row xs a n first is-start ms run =
     let goes = all-noted i c b row xs a n first is-start ms run in
     let alone = demand-3 c b row xs a n (madeAlone i xs a first) (start-alone i c b xs a first is-start)
-    (allAlone i (first .bytes) (first .slots) ms) (code-alone i c b row xs a n first is-start ms run) in (
+    (allAlone i (first .bytes) (first .slots) ms) (code-alone i c b row xs a n first is-start ms run) in
+    let known = known-each i (first ∷ ms) xs a n run goes in (
       after-each i (first ∷ ms) xs a n run goes (agreed-all i c b row xs a n first is-start ms run) (alone .0),
-      λ k. lengths-each i (first ∷ ms) xs a n k run goes (alone .1 k),
-      λ k. others-each i (first ∷ ms) xs a n k run goes (alone .2 k),
+      λ k. known .0 k (alone .1 k),
+      λ k. known .1 k (alone .2 k),
     )

@@ -37,6 +37,7 @@ use Rattle.model_ops.specs.Rings.{writtenOn, recordedOn, admittedOn, armAt, arm
 use Rattle.model_ops.specs.Concrete.{getOn, putOn, isOf, lookOf, handOn}
 use Rattle.proof_book.specs.Coupling.{endOf}
 use Rattle.proof_book.specs.LensLaws.{key-ep}
+use Rattle.proof_wake_ups.specs.Still.{put-leaves}
 use Rattle.proof_isolation.specs.EqualExcept.{Lawful, Channel, Touched}
 use Rattle.proof_isolation_late.specs.Late.{Light, opens, closes, asks-of, Other}
 use Rattle.proof_isolation.specs.Schedule.{Asked}
@@ -298,21 +299,13 @@ put-steady (ep-cell a e) v s z = record { stage = refl; config = refl; allocator
 put-steady (request-cell a e) v s z = record { stage = refl; config = refl; allocator = refl; records = λ dir e. refl; lens = refl; stamps = refl }
 put-steady (paced-cell e) v s z = record { stage = refl; config = refl; allocator = refl; records = λ dir e. refl; lens = refl; stamps = refl }
 
-put-buffer : (c : Cell) (v : Val c) (s : St) → putOn c v s .1 ≡ s .1
-put-buffer globals-cell v s = refl
-put-buffer control-cell v s = refl
-put-buffer allocator-cell v s = refl
-put-buffer (ep-cell a e) v s = refl
-put-buffer (request-cell a e) v s = refl
-put-buffer (paced-cell e) v s = refl
-
 wakes-steady : (d : Driver) (w : Wakes) → Steadily d (withWakes d w)
 unfolding epOn
 wakes-steady d w = record { stage = refl; config = refl; allocator = refl; records = λ dir e. refl; lens = refl; stamps = refl }
 
 pub seen-put : (o : Light) (c : Cell) (v : Val c) (s : St) → Sized (s .0) → seen o (putOn c v s) ≡ seen o s
 seen-put o c v s z =
-    ap (λ b. seen o (putOn c v s .0, b)) (put-buffer c v s) ∙ sym (seen-steady (put-steady c v s z) (s .1) o)
+    ap (λ b. seen o (putOn c v s .0, b)) (put-leaves c v s .1) ∙ sym (seen-steady (put-steady c v s z) (s .1) o)
 
 pub seen-wakes : (o : Light) (s : St) (w : Wakes) → seen o (withWakes (s .0) w, s .1) ≡ seen o s
 seen-wakes o s w = sym (seen-steady (wakes-steady (s .0) w) (s .1) o)

@@ -1,5 +1,5 @@
 -- The law of enabling and disabling: DATA0 of the endpoint's own, nothing of the others'
-use mathlib.Core.Bool.{Bool, true, false, not, cond, _&&_}
+use mathlib.Core.Bool.{Bool, true, false, not, cond, _&&_, and-false}
 use mathlib.Core.List.{List, [], _∷_}
 use mathlib.Core.Path.{_≡_, refl, ap, subst, sym, _∙_}
 use Prim.Native.Nat.{ℕ, zero, suc, _+_, _%_, _≤_, _<_}
@@ -186,12 +186,8 @@ module _ (D : Dir) (E : ℕ) where
   unfolding Renews
   law-set-enabled d e on w s r i z = by (own D E d e) refl
     where
-      last : (b : Bool) → b && false ≡ false
-      last true = refl
-      last false = refl
-
       nothing : Fits (cond (own D E d e && false) (log.renewed D E (armsAt D E d on) (withPhase off w)) (withPhase off w)) (view D E (s .0))
-      nothing = rw (last (own D E d e)) r
+      nothing = rw (and-false (own D E d e)) r
 
       by : (b : Bool) → own D E d e ≡ b
           → Follow D E (Ends D E (slotted (SetEnabled d e on))) (withPhase off w) (run concrete (code (slotted (SetEnabled d e on))) s)

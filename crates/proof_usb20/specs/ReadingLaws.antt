@@ -1,5 +1,5 @@
 -- The laws of reads and writes: the endpoint's own, and the others'
-use mathlib.Core.Bool.{Bool, true, false, not, cond, _&&_}
+use mathlib.Core.Bool.{Bool, true, false, not, cond, _&&_, and-false}
 use mathlib.Core.List.{List, []}
 use mathlib.Core.Path.{_≡_, refl, ap, subst, sym, _∙_}
 use Prim.Native.Nat.{ℕ}
@@ -152,11 +152,7 @@ module _ (D : Dir) (E : ℕ) where
 
   stay : (d : Dir) (e : ℕ) (a : Answer) (w : Track) (x : EpSeen) → takes D E a ≡ false → Fits w x
       → Fits (cond (own D E d e && takes D E a) (taken D E (withPhase off w)) (withPhase off w)) x
-  stay d e a w x h r = rw (h, last (own D E d e)) r
-    where
-      last : (b : Bool) → b && false ≡ false
-      last true = refl
-      last false = refl
+  stay d e a w x h r = rw (h, and-false (own D E d e)) r
 
   gone : (d : Dir) (e : ℕ) (a : Answer) (w : Track) (x : EpSeen) → own D E d e ≡ true → takes D E a ≡ true
       → FitsAs (w .bit) false (w .len) (w .armed) x
@@ -167,12 +163,8 @@ module _ (D : Dir) (E : ℕ) where
   unfolding isOn
   law-begin-read e n w s r i z = by (own D E Out e) refl
     where
-      last : (b : Bool) → b && false ≡ false
-      last true = refl
-      last false = refl
-
       nothing : Fits (cond (own D E Out e && false) (awaits D E (withPhase off w)) (withPhase off w)) (view D E (s .0))
-      nothing = rw (last (own D E Out e)) r
+      nothing = rw (and-false (own D E Out e)) r
 
       there : (b : Bool) → w .through ≡ b → b ≡ true → cond (w .through) (w .armed) true ≡ w .armed
       there b h k = rw (h, k) refl
@@ -280,13 +272,9 @@ module _ (D : Dir) (E : ℕ) where
   unfolding isOn
   law-begin-write e bytes w s r i z = by (own D E In e) refl
     where
-      last : (b : Bool) → b && false ≡ false
-      last true = refl
-      last false = refl
-
       nothing : (n : ℕ)
           → Fits (cond (own D E In e && false) (loaded D E (withPhase off w)) (withPhase off w)) (view D E (s .0))
-      nothing n = rw (last (own D E In e)) r
+      nothing n = rw (and-false (own D E In e)) r
 
       by : (b : Bool) → own D E In e ≡ b
           → Follow D E (Ends D E (slotted (BeginWrite e bytes))) (withPhase off w) (run concrete (code (slotted (BeginWrite e bytes))) s)

@@ -1,5 +1,5 @@
 -- The laws of halts, of a bus reset and of the calls before EP0's start
-use mathlib.Core.Bool.{Bool, true, false, not, cond, _&&_}
+use mathlib.Core.Bool.{Bool, true, false, not, cond, _&&_, and-false}
 use mathlib.Core.List.{List, [], _∷_}
 use mathlib.Core.Path.{_≡_, refl, ap, subst, sym, _∙_}
 use Prim.Native.Nat.{ℕ, zero, suc, _%_}
@@ -163,12 +163,8 @@ module _ (D : Dir) (E : ℕ) where
       last false x y = refl
   law-set-stalled d e false w s r i z = by (own D E d e) refl
     where
-      last : (b : Bool) → b && false ≡ false
-      last true = refl
-      last false = refl
-
       nothing : Fits (cond (own D E d e && false) (log.cleared D E (withPhase off w)) (withPhase off w)) (view D E (s .0))
-      nothing = rw (last (own D E d e)) r
+      nothing = rw (and-false (own D E d e)) r
 
       by : (b : Bool) → own D E d e ≡ b
           → Follow D E (Ends D E (other (SetStalled d e false))) (withPhase off w) (run concrete (code (other (SetStalled d e false))) s)

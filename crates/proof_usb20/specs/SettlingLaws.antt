@@ -1,5 +1,5 @@
 -- The interrupt until it has read the frame: what the status shows then
-use mathlib.Core.Bool.{Bool, true, false, not, cond, _&&_, _||_}
+use mathlib.Core.Bool.{Bool, true, false, not, cond, _&&_, _||_, and-true, and-false}
 use mathlib.Core.Path.{_≡_, refl, ap, subst, sym, _∙_}
 use Prim.Native.Nat.{ℕ, zero, suc}
 use lib.Dec.{eqb}
@@ -112,21 +112,13 @@ module _ (D : Dir) (E : ℕ) where
     unfolding waitsForIso isOut
     no-iso-wait x e = rw e
         (by-token D (token st) its-token (λ _ t. x .busy && (outToken t && isOn (O .iso)) ≡ false)
-        (λ g. rw (plain Out g) (last (x .busy))) (λ g. last (x .busy)))
-      where
-        last : (b : Bool) → b && false ≡ false
-        last true = refl
-        last false = refl
+        (λ g. rw (plain Out g) (and-false (x .busy))) (λ g. and-false (x .busy)))
 
     pub bulk-wait : (x : Transfer) → x .st ≡ st → waitsForBulk x N ≡ x .busy
     unfolding waitsForBulk isOut isIn
     bulk-wait x e = rw (e, not-zero)
         (by-token D (token st) its-token (λ _ t. x .busy && (outToken t || (inToken t && not (isOn (N .iso)))) ≡ x .busy)
-        (λ g. last (x .busy)) (λ g. rw (plain In g) (last (x .busy))))
-      where
-        last : (b : Bool) → b && true ≡ b
-        last true = refl
-        last false = refl
+        (λ g. and-true (x .busy)) (λ g. rw (plain In g) (and-true (x .busy))))
 
   module _ (z : (d : Dir) → Else D E d 0) where
     -- an answer of a wait that a token of the endpoint would not give

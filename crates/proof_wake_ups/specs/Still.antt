@@ -33,14 +33,18 @@ either : (b : Bool) (d x y : Driver) → Quiet d x → Quiet d y → Quiet d (co
 either true d x y p q = p
 either false d x y p q = q
 
-pub put-still : (c : Cell) (v : Val c) (s : St) → Quiet (s .0) (concrete .put c v s .0)
+-- an assignment leaves the wake-ups, and the lent buffer
+pub put-leaves : (c : Cell) (v : Val c) (s : St) → Quiet (s .0) (concrete .put c v s .0) × (concrete .put c v s .1 ≡ s .1)
 unfolding withOn withRequestOn withPacedOn
-put-still globals-cell v s = refl
-put-still control-cell v s = refl
-put-still allocator-cell v s = refl
-put-still (ep-cell d e) v s = refl
-put-still (request-cell d e) v s = refl
-put-still (paced-cell e) v s = refl
+put-leaves globals-cell v s = (refl, refl)
+put-leaves control-cell v s = (refl, refl)
+put-leaves allocator-cell v s = (refl, refl)
+put-leaves (ep-cell d e) v s = (refl, refl)
+put-leaves (request-cell d e) v s = (refl, refl)
+put-leaves (paced-cell e) v s = (refl, refl)
+
+pub put-still : (c : Cell) (v : Val c) (s : St) → Quiet (s .0) (concrete .put c v s .0)
+put-still c v s = put-leaves c v s .0
 
 given-still : (dir : _) (kind maximum interval : ℕ) (a : Answer) (d : Driver) → Quiet d (givenTo dir kind maximum interval a d)
 unfolding givenTo setsGiven recordGiven withOn

@@ -8,7 +8,7 @@ use lib.ListN.{length, length-append}
 use Rattle.regs.specs.declared.Access.{Access}
 use Rattle.state.specs.Driver.{Driver, withWakes, noneGathered}
 use Rattle.state.specs.Wakes.{listed, all-woken}
-use Rattle.state.specs.WakesLaws.{Room, unwoken-room, unwoken-listed, all-room, all-listed, listed-count}
+use Rattle.state.specs.WakesLaws.{unwoken-room, unwoken-listed, all-room, all-listed, listed-count}
 use Rattle.model.specs.Tree as tree
 use Rattle.model.specs.Tree.{asks, Prog, bindOut}
 use Rattle.model.specs.Script.{Script, run, rows, Fetch, oldest, received, received0, gathered, Act, complete, reset-ring}
