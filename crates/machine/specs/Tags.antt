@@ -83,26 +83,26 @@ at-none c t h n1 n2 n3 n4 n5 n6 = simp (← h, ne-eqb t 1 n1, ne-eqb t 2 n2, ne-
 above : (c : Saved) (t : ℕ) → t ≡ c .tag → 6 < t → decode c ≡ under.Idle
 above c t h l = at-none c t h (λ e. omega arith) (λ e. omega arith) (λ e. omega arith) (λ e. omega arith) (λ e. omega arith) (λ e. omega arith)
 
+-- by the tag: is nothing under way; or nothing but an interrupt
+abbrev ByTag : Saved → ℕ → Type 0
+ByTag c t = (isIdle (decode c) ≡ cond (eqb t 0) true (ltb 6 t)) × (mayPass (decode c) ≡ cond (eqb t 0) true (ltb 5 t))
+
+by-tag : (c : Saved) (t : ℕ) → t ≡ c .tag → ByTag c t
+unfolding isIdle mayPass decode
+by-tag c zero h = (simp (← h), simp (← h))
+by-tag c (suc zero) h = (simp (← h), simp (← h))
+by-tag c (suc (suc zero)) h = (simp (← h), simp (← h))
+by-tag c (suc (suc (suc zero))) h = (simp (← h), simp (← h))
+by-tag c (suc (suc (suc (suc zero)))) h = (simp (← h), simp (← h))
+by-tag c (suc (suc (suc (suc (suc zero))))) h = (simp (← h), simp (← h))
+by-tag c (suc (suc (suc (suc (suc (suc zero)))))) h = (simp (← h), simp (← h))
+by-tag c (suc (suc (suc (suc (suc (suc (suc t))))))) h =
+    let n : ℕ = suc (suc (suc (suc (suc (suc (suc t)))))) in
+    let a = above c n h (omega arith) in
+    (simp (a, lt-ltb 6 n (omega arith), eqb·suc-zero), simp (a, lt-ltb 5 n (omega arith), eqb·suc-zero))
+
 pub idle-by : (c : Saved) (t : ℕ) → t ≡ c .tag → isIdle (decode c) ≡ cond (eqb t 0) true (ltb 6 t)
-unfolding isIdle decode
-idle-by c zero h = simp (← h)
-idle-by c (suc zero) h = simp (← h)
-idle-by c (suc (suc zero)) h = simp (← h)
-idle-by c (suc (suc (suc zero))) h = simp (← h)
-idle-by c (suc (suc (suc (suc zero)))) h = simp (← h)
-idle-by c (suc (suc (suc (suc (suc zero))))) h = simp (← h)
-idle-by c (suc (suc (suc (suc (suc (suc zero)))))) h = simp (← h)
-idle-by c (suc (suc (suc (suc (suc (suc (suc t))))))) h =
-    simp (above c _ h (omega arith), lt-ltb 6 (suc (suc (suc (suc (suc (suc (suc t))))))) (omega arith), eqb·suc-zero)
+idle-by c t h = by-tag c t h .0
 
 pub passes-by : (c : Saved) (t : ℕ) → t ≡ c .tag → mayPass (decode c) ≡ cond (eqb t 0) true (ltb 5 t)
-unfolding mayPass decode
-passes-by c zero h = simp (← h)
-passes-by c (suc zero) h = simp (← h)
-passes-by c (suc (suc zero)) h = simp (← h)
-passes-by c (suc (suc (suc zero))) h = simp (← h)
-passes-by c (suc (suc (suc (suc zero)))) h = simp (← h)
-passes-by c (suc (suc (suc (suc (suc zero))))) h = simp (← h)
-passes-by c (suc (suc (suc (suc (suc (suc zero)))))) h = simp (← h)
-passes-by c (suc (suc (suc (suc (suc (suc (suc t))))))) h =
-    simp (above c _ h (omega arith), lt-ltb 5 (suc (suc (suc (suc (suc (suc (suc t))))))) (omega arith), eqb·suc-zero)
+passes-by c t h = by-tag c t h .1

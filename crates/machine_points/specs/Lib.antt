@@ -1,3 +1,4 @@
+pub mod Completions
 pub mod Family
 pub mod StandsLaws
 pub mod AdvanceLaws

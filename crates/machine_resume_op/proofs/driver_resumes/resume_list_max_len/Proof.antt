@@ -38,11 +38,16 @@ stand-list-place-requires c κs = search needs
 returns : tie.Need-returns
 returns c =
     let placed = c .before .before .place-access in
-    let loaded = c .before .before .before .before .before .before in
-    let here = at-point driver 15 (c .before .before .before .before .before .before .before .before .before .before .before .before .before .before .before .before .pre) (parts5 point.ListMaxLen (loaded .before .before .before .before .before .before .before .before .flag-dir-at .ensures) (loaded .before .before .before .before .before .before .st-byte .ensures)
-    (loaded .before .before .before .before .ep-byte .ensures) (loaded .before .before .busy-byte .ensures) (loaded .late-byte .ensures)) in
+    let tested = c .before .before .before .before .before in
+    let late = tested .before in
+    let busy = late .before .before in
+    let ep = busy .before .before in
+    let kind = ep .before .before in
+    let dir = kind .before .before in
+    let here = at-point driver 15 (dir .before .before .pre) (parts5 point.ListMaxLen (dir .flag-dir-at .ensures) (kind .st-byte .ensures)
+    (ep .ep-byte .ensures) (busy .busy-byte .ensures) (late .late-byte .ensures)) in
     λ v b. goes-to driver here refl (c .stand-list-place .ensures) (placed .ensures .1 .1)
-    (simp (placed .ensures .0, placed .ensures .1 .0, ← c .before .before .before .before .before .has-buffer .ensures, c .before .before .before .before .if1 .taken))
+    (simp (placed .ensures .0, placed .ensures .1 .0, ← tested .has-buffer .ensures, c .before .before .before .before .if1 .taken))
 
 announce-after-requires : tie.Need-announce-after-requires
 announce-after-requires c κs = search needs
@@ -50,12 +55,17 @@ announce-after-requires c κs = search needs
 returns-2 : tie.Need-returns-2
 returns-2 c =
     let next = c .announce-after in
-    let loaded = c .before .before .before .before in
-    let here = at-point driver 15 (c .before .before .before .before .before .before .before .before .before .before .before .before .before .before .pre) (parts5 point.ListMaxLen (loaded .before .before .before .before .before .before .before .before .flag-dir-at .ensures) (loaded .before .before .before .before .before .before .st-byte .ensures)
-    (loaded .before .before .before .before .ep-byte .ensures) (loaded .before .before .busy-byte .ensures) (loaded .late-byte .ensures)) in
-    let left = following (loaded .before .before .busy-byte .result) (loaded .late-byte .result) (loaded .before .before .before .before .before .before .before .before .flag-dir-at .result) (loaded .before .before .before .before .ep-byte .result) in
-    λ v b. follows driver {o = go left (view (now (c .before .before .before .before .before .before .before .before .before .before .before .before .before .before .args .s))) b} here refl (next .ensures .0 b) (next .ensures .1)
-    (simp (← c .before .before .before .has-buffer .ensures, c .before .before .if1 .left))
+    let tested = c .before .before .before in
+    let late = tested .before in
+    let busy = late .before .before in
+    let ep = busy .before .before in
+    let kind = ep .before .before in
+    let dir = kind .before .before in
+    let here = at-point driver 15 (dir .before .before .pre) (parts5 point.ListMaxLen (dir .flag-dir-at .ensures) (kind .st-byte .ensures)
+    (ep .ep-byte .ensures) (busy .busy-byte .ensures) (late .late-byte .ensures)) in
+    let left = following (busy .busy-byte .result) (late .late-byte .result) (dir .flag-dir-at .result) (ep .ep-byte .result) in
+    λ v b. follows driver {o = go left (view (now (dir .before .before .args .s))) b} here refl (next .ensures .0 b) (next .ensures .1)
+    (simp (← tested .has-buffer .ensures, c .before .before .if1 .left))
 
 pub resume-list-max-len-spec : {M : Type 1} → statement M
 resume-list-max-len-spec =

@@ -25,9 +25,12 @@ announce-after-requires c κs = search needs
 returns : tie.Need-returns
 returns c =
     let next = c .announce-after in
-    let loaded = c .before .before in
-    let here = at-point driver 16 (c .before .before .before .before .before .before .before .before .before .before .pre) (parts4 point.ListPlace (loaded .before .before .before .before .before .before .flag-dir-at .ensures) (loaded .before .before .before .before .ep-byte .ensures)
-    (loaded .before .before .busy-byte .ensures) (loaded .late-byte .ensures)) in
+    let late = c .before .before in
+    let busy = late .before .before in
+    let ep = busy .before .before in
+    let dir = ep .before .before in
+    let here = at-point driver 16 (dir .before .before .pre)
+    (parts4 point.ListPlace (dir .flag-dir-at .ensures) (ep .ep-byte .ensures) (busy .busy-byte .ensures) (late .late-byte .ensures)) in
     λ v b. follows driver here refl (next .ensures .0 b) (next .ensures .1) refl
 
 pub resume-list-place-spec : {M : Type 1} → statement M
