@@ -15,12 +15,9 @@ now-byte-requires : tie.Need-now-byte-requires
 now-byte-requires c κs = search needs
 
 returns : tie.Need-returns
-returns c = simp (
-  c .now-byte .ensures,
-  c .before .frame-word .ensures,
-  c .before .before .st-byte .ensures,
-  c .before .before .before .ep-byte .ensures,
-)
+returns c =
+    let k = c .before .before in
+    simp (c .now-byte .ensures, c .before .frame-word .ensures, k .st-byte .ensures, k .before .ep-byte .ensures)
 
 pub completion-at-spec : {M : Type 1} → statement M
 completion-at-spec = tie.close (tie.spec ep-byte-requires st-byte-requires frame-word-requires now-byte-requires returns)

@@ -1,5 +1,5 @@
 use Rattle.machine_points.specs.StandsLaws.{at-point, follows}
-use Rattle.machine_points.specs.Completions.{loadedAt}
+use Rattle.machine_points.specs.Loads.{loadedAt}
 use Rattle.machine_points.specs.AdvanceLaws.{advance}
 use Rattle.iso_in.specs.Laws.{paced-on}
 use mathlib.Core.Path.{refl, ap, _∙_}

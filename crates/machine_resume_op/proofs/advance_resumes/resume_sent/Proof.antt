@@ -1,5 +1,5 @@
 use Rattle.machine_points.specs.StandsLaws.{at-point, goes-to}
-use Rattle.machine_points.specs.Completions.{sentAt}
+use Rattle.machine_points.specs.Loads.{sentAt}
 use Rattle.machine_points.specs.AdvanceLaws.{advance}
 use mathlib.Core.Path.{refl, ap}
 use borrow.Author.Needs.{needs}

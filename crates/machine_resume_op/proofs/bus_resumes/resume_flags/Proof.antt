@@ -39,8 +39,14 @@ unfolding afterFlags afterNaked
 returns-2 c =
     let k = c .before .before .before in
     let fitted = sym (k .before .before .before .before .before .fits2 .ensures) ∙ k .before .before .before .before .if1 .taken in
-    λ b. goes-to bus (at-point bus 7 (k .before .before .before .before .before .before .pre) refl) fitted (c .stand-status .ensures) refl (simp (← k .before .before .before .byte .ensures,
-    ← k .before .before .bus-rst .ensures, k .before .if2 .left, ← k .suspend .ensures, c .before .before .if3 .taken))
+    λ b. goes-to bus (at-point bus 7 (k .before .before .before .before .before .before .pre) refl) fitted
+    (c .stand-status .ensures) refl (simp (
+      ← k .before .before .before .byte .ensures,
+      ← k .before .before .bus-rst .ensures,
+      k .before .if2 .left,
+      ← k .suspend .ensures,
+      c .before .before .if3 .taken,
+    ))
 
 stop-requires : tie.Need-stop-requires
 stop-requires c κs = search needs
@@ -50,8 +56,14 @@ unfolding afterFlags afterNaked
 returns-3 c =
     let k = c .before .before .before in
     let fitted = sym (k .before .before .before .before .before .fits2 .ensures) ∙ k .before .before .before .before .if1 .taken in
-    λ b. comes-to bus (at-point bus 7 (k .before .before .before .before .before .before .pre) refl) fitted (c .stop .ensures) (simp (← k .before .before .before .byte .ensures,
-    ← k .before .before .bus-rst .ensures, k .before .if2 .left, ← k .suspend .ensures, c .before .before .if3 .left))
+    λ b. comes-to bus (at-point bus 7 (k .before .before .before .before .before .before .pre) refl) fitted
+    (c .stop .ensures) (simp (
+      ← k .before .before .before .byte .ensures,
+      ← k .before .before .bus-rst .ensures,
+      k .before .if2 .left,
+      ← k .suspend .ensures,
+      c .before .before .if3 .left,
+    ))
 
 returns-4 : tie.Need-returns-4
 unfolding afterFlags afterNaked
