@@ -266,11 +266,12 @@ pub fn resume_list_max_len(s: &mut State) -> Step
     ensures { λ r. ⌜ ((v : ℕ) (b : List ℕ) → Resumes r v (now (s .entry)) b (now (s .exit)) b) ⌝ }
 {
     let x = list_endpoint_at(s);
+    let dir = x.dir;
     if has_buffer(x.kind) {
-        let q = place_access(s, x.dir, x.ep);
-        return stand_list_place(s, q, x.dir, x.ep, x.left, x.total);
+        let q = place_access(s, dir, x.ep);
+        return stand_list_place(s, q, dir, x.ep, x.left, x.total);
     }
-    announce_after(s, x.left, x.total, x.dir, x.ep)
+    announce_after(s, x.left, x.total, dir, x.ep)
 }
 
 // Its address is: its successor.
@@ -279,5 +280,6 @@ pub fn resume_list_place(s: &mut State) -> Step
     ensures { λ r. ⌜ ((v : ℕ) (b : List ℕ) → Resumes r v (now (s .entry)) b (now (s .exit)) b) ⌝ }
 {
     let x = list_endpoint_at(s);
-    announce_after(s, x.left, x.total, x.dir, x.ep)
+    let dir = x.dir;
+    announce_after(s, x.left, x.total, dir, x.ep)
 }
