@@ -1,16 +1,53 @@
 -- The saved record's tag: whose point it is, and whether anything is under way
 use mathlib.Core.Bool.{true, cond}
-use mathlib.Core.Path.{_≡_}
+use mathlib.Core.Path.{_≡_, refl}
 use Prim.Native.Nat.{ℕ, zero, suc, _<_}
 use native.Mathlib.Omega.{arith}
 use lib.Dec.{eqb, ltb, eqb·suc-zero}
 use borrow.Author.Tests.{ne-eqb, lt-ltb}
 use Rattle.state.specs.declared.Saved.{Saved}
+use Rattle.state.specs.Fresh.{nothing}
+use Rattle.driver_codec.specs.Codec as driverCodec
+use Rattle.bus.specs.Codec as busCodec
+use Rattle.control.specs.Codec as controlCodec
+use Rattle.endpoint.specs.Codec as endpointCodec
+use Rattle.iso_in.specs.Codec as advanceCodec
 use Rattle.irq.specs.declared.Point as handlerPoint
 use Rattle.irq_codec.specs.Codec as handlerCodec
+use Rattle.machine.specs.declared.Suspended.{Suspended}
 use Rattle.machine.specs.declared.Suspended.the-variants as under
-use Rattle.machine.specs.Suspended.{decode}
+use Rattle.machine.specs.Suspended.{withTag, encode, decode}
 use Rattle.machine.specs.Rows.{isIdle, mayPass}
+
+-- ---- a point's tag, and its record without one
+
+abbrev pub tagOf : Suspended → ℕ
+tagOf under.Idle = 0
+tagOf (under.Driver p) = 1
+tagOf (under.Bus p) = 2
+tagOf (under.Control p) = 3
+tagOf (under.Endpoint p) = 4
+tagOf (under.Advance p) = 5
+tagOf (under.Interrupt p) = 6
+
+abbrev pub codeOf : Suspended → Saved
+codeOf under.Idle = nothing
+codeOf (under.Driver p) = driverCodec.encode p
+codeOf (under.Bus p) = busCodec.encode p
+codeOf (under.Control p) = controlCodec.encode p
+codeOf (under.Endpoint p) = endpointCodec.encode p
+codeOf (under.Advance p) = advanceCodec.encode p
+codeOf (under.Interrupt p) = handlerCodec.encode p
+
+pub encoded-as : (u : Suspended) → encode u ≡ withTag (tagOf u) (codeOf u)
+unfolding encode
+encoded-as under.Idle = refl
+encoded-as (under.Driver p) = refl
+encoded-as (under.Bus p) = refl
+encoded-as (under.Control p) = refl
+encoded-as (under.Endpoint p) = refl
+encoded-as (under.Advance p) = refl
+encoded-as (under.Interrupt p) = refl
 
 -- the point that a record with an interrupt's tag is
 pub at-interrupt : (c : Saved) (p : handlerPoint.Point) → c .tag ≡ 6 → p ≡ handlerCodec.decode c → decode c ≡ under.Interrupt p

@@ -2,10 +2,10 @@ use Rattle.machine.specs.declared.Suspended.the-variants as under
 use Rattle.machine.specs.StandsLaws.{handed-out, stored-by}
 use Rattle.machine.specs.Fits.{linked-polled}
 use Rattle.machine.specs.RowsLaws.{ends-idle}
-use Rattle.machine.specs.Suspended.{withTag, encode, decode}
+use Rattle.machine.specs.Suspended.{decode}
 use Rattle.state.specs.State.{view, saved}
 use denote.Ref.{now}
-use mathlib.Core.Path.{_∙_, refl, ap, sym}
+use mathlib.Core.Path.{_∙_, refl}
 use borrow.Author.Needs.{needs}
 use Rattle.machine.proofs.halts.polled_control.Statement.{statement}
 use Rattle.machine.proofs.halts.polled_control.Tie as tie
@@ -63,9 +63,8 @@ returns-4 c = (
 )
 
 returns-5 : tie.Need-returns-5
-unfolding encode
 returns-5 c =
-    let stood = c .asks .ensures (under.Control _) (ap (withTag 3) (sym (c .before .encode .ensures))) in (
+    let stood = c .asks .ensures (under.Control _) refl (c .before .encode .ensures) in (
       λ out b. handed-out stood _ (stood .answered) out b ∙ simp (
         c .before .before .before .before .n4 .given .1,
         linked-polled _ _ _ (c .before .before .before .before .n4 .given .1) (c .before .before .before .before .before .before .pre .0),

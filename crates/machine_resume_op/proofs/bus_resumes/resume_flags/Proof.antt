@@ -37,10 +37,9 @@ stand-status-requires c κs = search needs
 returns-2 : tie.Need-returns-2
 unfolding afterFlags afterNaked
 returns-2 c =
-    let k = c .before .before .before in
-    let fitted = sym (k .before .before .before .before .before .fits2 .ensures) ∙ k .before .before .before .before .if1 .taken in
-    λ b. goes-to bus (at-point bus 7 (k .before .before .before .before .before .before .pre) refl) fitted
-    (c .stand-status .ensures) refl (simp (
+    let k = c .before .before .before in λ b. goes-to bus (at-point bus 7 (k .before .before .before .before .before .before .pre) refl)
+    (sym (k .before .before .before .before .before .fits2 .ensures) ∙ k .before .before .before .before .if1 .taken) (c .stand-status .ensures) refl
+    (simp (
       ← k .before .before .before .byte .ensures,
       ← k .before .before .bus-rst .ensures,
       k .before .if2 .left,
@@ -54,10 +53,9 @@ stop-requires c κs = search needs
 returns-3 : tie.Need-returns-3
 unfolding afterFlags afterNaked
 returns-3 c =
-    let k = c .before .before .before in
-    let fitted = sym (k .before .before .before .before .before .fits2 .ensures) ∙ k .before .before .before .before .if1 .taken in
-    λ b. comes-to bus (at-point bus 7 (k .before .before .before .before .before .before .pre) refl) fitted
-    (c .stop .ensures) (simp (
+    let k = c .before .before .before in λ b. comes-to bus (at-point bus 7 (k .before .before .before .before .before .before .pre) refl)
+    (sym (k .before .before .before .before .before .fits2 .ensures) ∙ k .before .before .before .before .if1 .taken) (c .stop .ensures)
+    (simp (
       ← k .before .before .before .byte .ensures,
       ← k .before .before .bus-rst .ensures,
       k .before .if2 .left,
