@@ -31,26 +31,22 @@ kept-from (step.Done n) xs ys zs e h = h ∙ e
 kept-from (step.Setup low high) xs ys zs e h = h ∙ e
 kept-from (step.Shown at n stamp) xs ys zs e h = h ∙ e
 
-pub kept-by : (r : Step) (out : List ℕ) (d : Driver) (xs ys : List ℕ) → SavedByAnswer r xs ys → KeptBy (answerOf r out d) xs ys
-kept-by (step.Refused n) out d xs ys h = h
-kept-by (step.Asks q) out d xs ys h = h
-kept-by (step.Ends n k) out d xs ys h = h
-kept-by step.NotYet out d xs ys h = h
-kept-by (step.Done n) out d xs ys h = h
-kept-by (step.Setup low high) out d xs ys h = h
-kept-by (step.Shown at n stamp) out d xs ys h = h
+-- by the answer of the machine of calls it is the same
+kept-alike : (r : Step) (out : List ℕ) (d : Driver) (xs ys : List ℕ)
+    → (SavedByAnswer r xs ys → KeptBy (answerOf r out d) xs ys) × (KeptBy (answerOf r out d) xs ys → SavedByAnswer r xs ys)
+kept-alike (step.Refused n) out d xs ys = (λ h. h, λ h. h)
+kept-alike (step.Asks q) out d xs ys = (λ h. h, λ h. h)
+kept-alike (step.Ends n k) out d xs ys = (λ h. h, λ h. h)
+kept-alike step.NotYet out d xs ys = (λ h. h, λ h. h)
+kept-alike (step.Done n) out d xs ys = (λ h. h, λ h. h)
+kept-alike (step.Setup low high) out d xs ys = (λ h. h, λ h. h)
+kept-alike (step.Shown at n stamp) out d xs ys = (λ h. h, λ h. h)
 
-of-answer : (r : Step) (out : List ℕ) (d : Driver) (xs ys : List ℕ) → KeptBy (answerOf r out d) xs ys → SavedByAnswer r xs ys
-of-answer (step.Refused n) out d xs ys h = h
-of-answer (step.Asks q) out d xs ys h = h
-of-answer (step.Ends n k) out d xs ys h = h
-of-answer step.NotYet out d xs ys h = h
-of-answer (step.Done n) out d xs ys h = h
-of-answer (step.Setup low high) out d xs ys h = h
-of-answer (step.Shown at n stamp) out d xs ys h = h
+pub kept-by : (r : Step) (out : List ℕ) (d : Driver) (xs ys : List ℕ) → SavedByAnswer r xs ys → KeptBy (answerOf r out d) xs ys
+kept-by r out d xs ys h = kept-alike r out d xs ys .0 h
 
 -- two answers that the machine of calls does not tell apart
 pub kept-told : (r t : Step) (out out′ : List ℕ) (d : Driver) (xs ys : List ℕ)
     → answerOf t out′ d ≡ answerOf r out d → SavedByAnswer r xs ys → SavedByAnswer t xs ys
 kept-told r t out out′ d xs ys e h =
-    of-answer t out′ d xs ys (subst (λ (a : Ans Answer). KeptBy a xs ys) (sym e) (kept-by r out d xs ys h))
+    kept-alike t out′ d xs ys .1 (subst (λ (a : Ans Answer). KeptBy a xs ys) (sym e) (kept-by r out d xs ys h))

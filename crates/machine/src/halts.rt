@@ -21,14 +21,15 @@ ghost use Rattle.control.specs.Points as control;
 ghost use Rattle.endpoint.specs.Points as endpoint;
 ghost use Rattle.iso_in.specs.Advance as advance;
 ghost use Rattle.irq.specs.Points as handler;
-ghost use Rattle.machine.specs.Suspended.{withTag, encode, decode, finish, machineAt, machineOf, haltsAs, halts};
+ghost use Rattle.machine.specs.Suspended.{decode, finish, machineAt, machineOf, haltsAs, halts};
 ghost use Rattle.machine.specs.Suspended.{answerOf, SavedByAnswer, Stored, KeepsSaved};
 ghost use Rattle.machine.specs.Stands.{Stands, halted, Leads, Ends};
 ghost use Rattle.machine.specs.Rows.{isIdle};
+ghost use Rattle.machine.specs.Tags.{tagOf, codeOf};
 
 // The operation is under way: it stands where it handed out the access, at a point that is saved with its tag.
 fn asks(s: &mut State, q: Access, p: Saved, tag: u8) -> Step
-    ensures { λ r. ⌜ ((u : Suspended) → encode u ≡ withTag tag p → Stands r q u (now (s .entry)) (now (s .exit))) ⌝ }
+    ensures { λ r. ⌜ ((u : Suspended) → tagOf u ≡ tag → p ≡ codeOf u → Stands r q u (now (s .entry)) (now (s .exit))) ⌝ }
 {
     let mut c = p;
     c.tag = tag;

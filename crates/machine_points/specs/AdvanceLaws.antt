@@ -8,7 +8,7 @@ use Rattle.iso_in.specs.Advance.{denote, awaitsAt}
 use Rattle.iso_in.specs.Codec as codec
 use Rattle.iso_in.specs.Codec.{byNumber}
 use Rattle.machine.specs.declared.Suspended.the-variants as under
-use Rattle.machine.specs.Tags.{at-advance}
+use Rattle.machine.specs.Suspended.{decode}
 use Rattle.machine.specs.Stands.{NoneOf}
 use Rattle.machine_points.specs.Family.{Family}
 
@@ -17,5 +17,5 @@ pub first : (c : Saved) (k : ℕ) → NoneOf 2 k → point.FrameNo (c .ep) ≡ b
 first c k ((z, a), b) = simp (ne-eqb k 1 a, ne-eqb k 2 b)
 
 pub advance : Family under.Advance awaitsAt denote 5 byNumber
-unfolding codec.decode
-advance = record { way = λ p. refl; read = λ c t. at-advance c (byNumber (c .sub) c) t refl }
+unfolding decode codec.decode
+advance = record { way = λ p. refl; read = λ c t. simp t }

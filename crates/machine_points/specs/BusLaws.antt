@@ -8,7 +8,7 @@ use Rattle.bus.specs.Points.{denote, awaitsAt}
 use Rattle.bus.specs.Codec as codec
 use Rattle.bus.specs.Codec.{byNumber}
 use Rattle.machine.specs.declared.Suspended.the-variants as under
-use Rattle.machine.specs.Tags.{at-bus}
+use Rattle.machine.specs.Suspended.{decode}
 use Rattle.machine.specs.Stands.{NoneOf}
 use Rattle.machine_points.specs.Family.{Family}
 
@@ -20,5 +20,5 @@ first c k (((((((((((((((((((((((z, a), b), d), e), f), g), h), i), j), l), m), 
     (simp (ne-eqb k 19 u, ne-eqb k 20 v, ne-eqb k 21 w, ne-eqb k 22 x, ne-eqb k 23 y)))
 
 pub bus : Family under.Bus awaitsAt denote 2 byNumber
-unfolding codec.decode
-bus = record { way = λ p. refl; read = λ c t. at-bus c (byNumber (c .sub) c) t refl }
+unfolding decode codec.decode
+bus = record { way = λ p. refl; read = λ c t. simp t }

@@ -10,7 +10,7 @@ use Rattle.control.specs.Points.{denote, awaitsAt}
 use Rattle.control.specs.Codec as codec
 use Rattle.control.specs.Codec.{byNumber}
 use Rattle.machine.specs.declared.Suspended.the-variants as under
-use Rattle.machine.specs.Tags.{at-control}
+use Rattle.machine.specs.Suspended.{decode}
 use Rattle.machine.specs.Stands.{NoneOf}
 use Rattle.machine_points.specs.Family.{Family}
 
@@ -20,5 +20,5 @@ first c k ((((((((z, a), b), d), e), f), g), h), i) =
     simp (ne-eqb k 1 a, ne-eqb k 2 b, ne-eqb k 3 d, ne-eqb k 4 e, ne-eqb k 5 f, ne-eqb k 6 g, ne-eqb k 7 h, ne-eqb k 8 i)
 
 pub control : Family under.Control awaitsAt (λ p v t. run concrete (denote p v) t) 3 byNumber
-unfolding codec.decode
-control = record { way = λ p. refl; read = λ c t. at-control c (byNumber (c .sub) c) t refl }
+unfolding decode codec.decode
+control = record { way = λ p. refl; read = λ c t. simp t }

@@ -11,7 +11,7 @@ use Rattle.driver.specs.Points.{denote, awaitsAt}
 use Rattle.driver_codec.specs.Codec as codec
 use Rattle.driver_codec.specs.Codec.{byNumber}
 use Rattle.machine.specs.declared.Suspended.the-variants as under
-use Rattle.machine.specs.Tags.{at-driver}
+use Rattle.machine.specs.Suspended.{decode}
 use Rattle.machine.specs.Stands.{NoneOf}
 use Rattle.machine_points.specs.Family.{Family}
 
@@ -22,5 +22,5 @@ first c k ((((((((((((((((z, a), b), d), e), f), g), h), i), j), l), m), n), o),
     (simp (ne-eqb k 10 l, ne-eqb k 11 m, ne-eqb k 12 n, ne-eqb k 13 o, ne-eqb k 14 p, ne-eqb k 15 q, ne-eqb k 16 r))
 
 pub driver : Family under.Driver awaitsAt (λ p v t. run concrete (denote p v) t) 1 byNumber
-unfolding codec.decode
-driver = record { way = λ p. refl; read = λ c t. at-driver c (byNumber (c .sub) c) t refl }
+unfolding decode codec.decode
+driver = record { way = λ p. refl; read = λ c t. simp t }

@@ -10,7 +10,7 @@ use Rattle.endpoint.specs.Points.{denote, awaitsAt}
 use Rattle.endpoint.specs.Codec as codec
 use Rattle.endpoint.specs.Codec.{byNumber}
 use Rattle.machine.specs.declared.Suspended.the-variants as under
-use Rattle.machine.specs.Tags.{at-endpoint}
+use Rattle.machine.specs.Suspended.{decode}
 use Rattle.machine.specs.Stands.{NoneOf}
 use Rattle.machine_points.specs.Family.{Family}
 
@@ -20,5 +20,5 @@ first c k ((z, a), b) =
     simp (ne-eqb k 1 a, ne-eqb k 2 b)
 
 pub endpoint : Family under.Endpoint awaitsAt (λ p v t. run concrete (denote p v) t) 4 byNumber
-unfolding codec.decode
-endpoint = record { way = λ p. refl; read = λ c t. at-endpoint c (byNumber (c .sub) c) t refl }
+unfolding decode codec.decode
+endpoint = record { way = λ p. refl; read = λ c t. simp t }

@@ -1,4 +1,5 @@
 pub mod Family
+pub mod Loads
 pub mod StandsLaws
 pub mod AdvanceLaws
 pub mod BusLaws

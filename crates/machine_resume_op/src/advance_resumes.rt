@@ -8,11 +8,9 @@ use iso_in::complete::Complete;
 use iso_in::complete::start;
 use machine::Step;
 use machine::loads::ep_byte;
-use machine::loads::frame_word;
-use machine::loads::now_byte;
-use machine::loads::st_byte;
 use machine_points::advance_stands::stand_loaded;
 use machine_points::advance_stands::stand_sent;
+use machine_points::loads::completion_at;
 use machine_points::stands::stop;
 use model_ops::records::wake;
 use model_ops::rings::next_len;
@@ -73,13 +71,10 @@ pub fn resume_sent(s: &mut State) -> Step
     requires { ⌜ AtNumber 5 1 (now s) ⌝ }
     ensures { λ r. ⌜ ((v : ℕ) (b : List ℕ) → Resumes r v (now (s .entry)) b (now (s .exit)) b) ⌝ }
 {
-    let e = ep_byte(s);
-    let left = st_byte(s);
-    let frame = frame_word(s);
-    let of = now_byte(s);
-    let n = next_len(s, Dir::In, of);
-    let q = Access::Write(Reg::EpTLen, of, n as u32);
-    stand_loaded(s, q, e, left, frame, of)
+    let x = completion_at(s);
+    let n = next_len(s, Dir::In, x.of);
+    let q = Access::Write(Reg::EpTLen, x.of, n as u32);
+    stand_loaded(s, q, x.e, x.left, x.frame, x.of)
 }
 
 // Its length is: its writer is woken, and the next completion is due.
@@ -87,10 +82,7 @@ pub fn resume_loaded(s: &mut State) -> Step
     requires { ⌜ AtNumber 5 2 (now s) ⌝ }
     ensures { λ r. ⌜ ((v : ℕ) (b : List ℕ) → Resumes r v (now (s .entry)) b (now (s .exit)) b) ⌝ }
 {
-    let e = ep_byte(s);
-    let left = st_byte(s);
-    let frame = frame_word(s);
-    let of = now_byte(s);
-    wake(s, Dir::In, of);
-    iso_in_advance_resume(s, e, left, frame)
+    let x = completion_at(s);
+    wake(s, Dir::In, x.of);
+    iso_in_advance_resume(s, x.e, x.left, x.frame)
 }

@@ -6,9 +6,7 @@ use driver_resume::announce::found_at;
 use frame::Frame;
 use frame::microframe_index;
 use machine::Step;
-use machine::loads::busy_byte;
 use machine::loads::ep_byte;
-use machine::loads::late_byte;
 use machine::loads::st_byte;
 use machine::loads::value_word;
 use machine_points::driver_stands::stand_ep0_max_len;
@@ -25,6 +23,7 @@ use machine_points::driver_stands::stand_reset_end;
 use machine_points::driver_stands::stand_run;
 use machine_points::driver_stands::stand_wait;
 use machine_points::loads::flag_dir_at;
+use machine_points::loads::list_endpoint_at;
 use machine_points::loads::on_at;
 use machine_points::stands::stop;
 use model_ops::records::place;
@@ -266,16 +265,13 @@ pub fn resume_list_max_len(s: &mut State) -> Step
     requires { ⌜ AtNumber 1 15 (now s) ⌝ }
     ensures { λ r. ⌜ ((v : ℕ) (b : List ℕ) → Resumes r v (now (s .entry)) b (now (s .exit)) b) ⌝ }
 {
-    let dir = flag_dir_at(s);
-    let kind = st_byte(s);
-    let ep = ep_byte(s);
-    let left = busy_byte(s);
-    let total = late_byte(s);
-    if has_buffer(kind) {
-        let q = place_access(s, dir, ep);
-        return stand_list_place(s, q, dir, ep, left, total);
+    let x = list_endpoint_at(s);
+    let dir = x.dir;
+    if has_buffer(x.kind) {
+        let q = place_access(s, dir, x.ep);
+        return stand_list_place(s, q, dir, x.ep, x.left, x.total);
     }
-    announce_after(s, left, total, dir, ep)
+    announce_after(s, x.left, x.total, dir, x.ep)
 }
 
 // Its address is: its successor.
@@ -283,9 +279,7 @@ pub fn resume_list_place(s: &mut State) -> Step
     requires { ⌜ AtNumber 1 16 (now s) ⌝ }
     ensures { λ r. ⌜ ((v : ℕ) (b : List ℕ) → Resumes r v (now (s .entry)) b (now (s .exit)) b) ⌝ }
 {
-    let dir = flag_dir_at(s);
-    let ep = ep_byte(s);
-    let left = busy_byte(s);
-    let total = late_byte(s);
-    announce_after(s, left, total, dir, ep)
+    let x = list_endpoint_at(s);
+    let dir = x.dir;
+    announce_after(s, x.left, x.total, dir, x.ep)
 }

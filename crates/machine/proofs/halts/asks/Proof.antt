@@ -1,3 +1,6 @@
+use Rattle.machine.specs.Suspended.{withTag}
+use Rattle.machine.specs.StandsLaws.{parts2}
+use Rattle.machine.specs.Tags.{encoded-as}
 use mathlib.Core.Path.{_∙_, sym, refl}
 use borrow.Author.Needs.{needs}
 use Rattle.machine.proofs.halts.asks.Statement.{statement}
@@ -10,7 +13,11 @@ store-saved-requires : tie.Need-store-saved-requires
 store-saved-requires c κs = search needs
 
 returns : tie.Need-returns
-returns c = λ u e. record { answered = refl; viewed = c .store-saved .ensures .0; stored = c .store-saved .ensures .1 ∙ sym e }
+returns c = λ u t e. record {
+  answered = refl;
+  viewed = c .store-saved .ensures .0;
+  stored = c .store-saved .ensures .1 ∙ (parts2 withTag (sym t) e ∙ sym (encoded-as u));
+}
 
 pub asks-spec : {M : Type 1} → statement M
 asks-spec = tie.close (tie.spec store-saved-requires returns)

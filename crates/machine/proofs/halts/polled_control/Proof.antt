@@ -1,5 +1,5 @@
+use Rattle.machine.specs.declared.Suspended.the-variants as under
 use Rattle.machine.specs.StandsLaws.{handed-out, stored-by}
-use Rattle.machine.specs.Tags.{as-control}
 use Rattle.machine.specs.Fits.{linked-polled}
 use Rattle.machine.specs.RowsLaws.{ends-idle}
 use Rattle.machine.specs.Suspended.{decode}
@@ -64,7 +64,7 @@ returns-4 c = (
 
 returns-5 : tie.Need-returns-5
 returns-5 c =
-    let stood = c .asks .ensures _ (as-control _ _ (c .before .encode .ensures)) in (
+    let stood = c .asks .ensures (under.Control _) refl (c .before .encode .ensures) in (
       λ out b. handed-out stood _ (stood .answered) out b ∙ simp (
         c .before .before .before .before .n4 .given .1,
         linked-polled _ _ _ (c .before .before .before .before .n4 .given .1) (c .before .before .before .before .before .before .pre .0),

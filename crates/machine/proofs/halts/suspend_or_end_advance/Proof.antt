@@ -1,7 +1,7 @@
+use Rattle.machine.specs.declared.Suspended.the-variants as under
 use Rattle.machine.specs.StandsLaws.{suspends}
-use Rattle.machine.specs.Tags.{as-advance}
 use Rattle.machine.specs.Fits.{linked-advance}
-use mathlib.Core.Path.{_∙_}
+use mathlib.Core.Path.{refl, _∙_}
 use borrow.Author.Needs.{needs}
 use Rattle.machine.proofs.halts.suspend_or_end_advance.Statement.{statement}
 use Rattle.machine.proofs.halts.suspend_or_end_advance.Tie as tie
@@ -27,7 +27,7 @@ ended-requires c κs = search needs
 
 returns : tie.Need-returns
 returns c =
-    let told = c .before .before .before .before .n .given .1 in suspends (c .asks .ensures _ (as-advance _ _ (c .before .encode .ensures)))
+    let told = c .before .before .before .before .n .given .1 in suspends (c .asks .ensures (under.Advance _) refl (c .before .encode .ensures))
     (λ b. simp (told, linked-advance _ _ _ told (c .before .before .before .before .before .before .pre)))
 
 returns-2 : tie.Need-returns-2

@@ -21,7 +21,8 @@ returns : tie.Need-returns
 returns c =
     let a = c .before .before .before .before .before .args in
     leads-end (λ b. completing (a .e) (a .left) (a .frame) (view (now (a .s)), b)) (c .stop .ensures)
-    (λ b. ap (λ (d : Driver). ends 0 (d, b)) (c .before .before .store-paced .ensures .0) ∙ sym (paced-none _ _ _ _ b (c .before .before .before .before .if1 .taken)))
+    (λ b. ap (λ (d : Driver). ends 0 (d, b)) (c .before .before .store-paced .ensures .0)
+    ∙ sym (paced-none _ _ _ _ b (c .before .before .before .before .if1 .taken)))
 
 sub-more : tie.Need-sub-more
 sub-more c = search needs
@@ -43,17 +44,17 @@ stand-loaded-requires c κs = search needs
 
 returns-2 : tie.Need-returns-2
 returns-2 c =
-    let a = c .before .before .before .before .before .before .before .before .args in
     let begun = c .before .before .before .before .before .start in
-    leads-to advance (λ b. completing (a .e) (a .left) (a .frame) (view (now (a .s)), b)) (c .stand-sent .ensures) (begun .ensures .1 .1)
-    (λ b. paced-begun _ _ _ (begun .result) _ _ _ b (c .before .before .before .before .before .before .before .if1 .left) (c .before .before .before .p .given .1) (begun .ensures .0 b))
+    leads-to advance _ (c .stand-sent .ensures) (begun .ensures .1 .1)
+    (λ b. paced-begun _ _ _ (begun .result) _ _ _ b (c .before .before .before .before .before .before .before .if1 .left) (c .before .before .before .p .given .1)
+    (begun .ensures .0 b))
 
 returns-3 : tie.Need-returns-3
 returns-3 c =
-    let a = c .before .before .before .before .before .before .before .before .args in
     let begun = c .before .before .before .before .before .start in
-    leads-to advance (λ b. completing (a .e) (a .left) (a .frame) (view (now (a .s)), b)) (c .stand-loaded .ensures) (begun .ensures .1 .1)
-    (λ b. paced-begun _ _ _ (begun .result) _ _ _ b (c .before .before .before .before .before .before .before .if1 .left) (c .before .before .before .p2 .given .1) (begun .ensures .0 b))
+    leads-to advance _ (c .stand-loaded .ensures) (begun .ensures .1 .1)
+    (λ b. paced-begun _ _ _ (begun .result) _ _ _ b (c .before .before .before .before .before .before .before .if1 .left) (c .before .before .before .p2 .given .1)
+    (begun .ensures .0 b))
 
 pub iso-in-advance-resume-spec : {M : Type 1} → statement M
 iso-in-advance-resume-spec =

@@ -40,8 +40,9 @@ iso-in-advance-resume-requires c κs = search needs
 returns : tie.Need-returns
 returns c =
     let next = c .iso-in-advance-resume in
-    let here = c .before .before .before .before .before .before .before .before .before .before .before .before .pre ∙ ap (λ (e : ℕ). under.Advance (point.FrameNo e)) (sym (c .before .before .before .before .before .before .before .before .ep-byte .ensures)) in
-    let fitted = sym (c .before .before .before .before .before .before .before .before .before .before .before .fits2 .ensures) ∙ c .before .before .before .before .before .before .before .before .before .before .if1 .taken in
+    let k = c .before .before .before .before .before .before .before .before in
+    let here = k .before .before .before .before .pre ∙ ap (λ (e : ℕ). under.Advance (point.FrameNo e)) (sym (k .ep-byte .ensures)) in
+    let fitted = sym (k .before .before .before .fits2 .ensures) ∙ k .before .before .if1 .taken in
     λ b. follows advance here fitted (simp (
       c .before .before .frame-of-index .ensures,
       c .before .before .before .completions .ensures,

@@ -37,16 +37,15 @@ stand-status-requires c κs = search needs
 returns-2 : tie.Need-returns-2
 unfolding afterFlags afterNaked
 returns-2 c =
-    let the-if3 = c .before .before .if3 in
-    let the-suspend = c .before .before .before .suspend in
-    let the-if2 = c .before .before .before .before .if2 in
-    let the-bus-rst = c .before .before .before .before .before .bus-rst in
-    let the-byte = c .before .before .before .before .before .before .byte in
-    let fitted = sym (c .before .before .before .before .before .before .before .before .fits2 .ensures)
-    ∙ c .before .before .before .before .before .before .before .if1 .taken in
-    let here = at-point bus 7 (c .before .before .before .before .before .before .before .before .before .pre) refl in
-    λ b. goes-to bus here fitted (c .stand-status .ensures) refl
-    (simp (← the-byte .ensures, ← the-bus-rst .ensures, the-if2 .left, ← the-suspend .ensures, the-if3 .taken))
+    let k = c .before .before .before in λ b. goes-to bus (at-point bus 7 (k .before .before .before .before .before .before .pre) refl)
+    (sym (k .before .before .before .before .before .fits2 .ensures) ∙ k .before .before .before .before .if1 .taken) (c .stand-status .ensures) refl
+    (simp (
+      ← k .before .before .before .byte .ensures,
+      ← k .before .before .bus-rst .ensures,
+      k .before .if2 .left,
+      ← k .suspend .ensures,
+      c .before .before .if3 .taken,
+    ))
 
 stop-requires : tie.Need-stop-requires
 stop-requires c κs = search needs
@@ -54,15 +53,15 @@ stop-requires c κs = search needs
 returns-3 : tie.Need-returns-3
 unfolding afterFlags afterNaked
 returns-3 c =
-    let the-if3 = c .before .before .if3 in
-    let the-suspend = c .before .before .before .suspend in
-    let the-if2 = c .before .before .before .before .if2 in
-    let the-bus-rst = c .before .before .before .before .before .bus-rst in
-    let the-byte = c .before .before .before .before .before .before .byte in
-    let fitted = sym (c .before .before .before .before .before .before .before .before .fits2 .ensures)
-    ∙ c .before .before .before .before .before .before .before .if1 .taken in
-    λ b. comes-to bus (at-point bus 7 (c .before .before .before .before .before .before .before .before .before .pre) refl) fitted (c .stop .ensures)
-    (simp (← the-byte .ensures, ← the-bus-rst .ensures, the-if2 .left, ← the-suspend .ensures, the-if3 .left))
+    let k = c .before .before .before in λ b. comes-to bus (at-point bus 7 (k .before .before .before .before .before .before .pre) refl)
+    (sym (k .before .before .before .before .before .fits2 .ensures) ∙ k .before .before .before .before .if1 .taken) (c .stop .ensures)
+    (simp (
+      ← k .before .before .before .byte .ensures,
+      ← k .before .before .bus-rst .ensures,
+      k .before .if2 .left,
+      ← k .suspend .ensures,
+      c .before .before .if3 .left,
+    ))
 
 returns-4 : tie.Need-returns-4
 unfolding afterFlags afterNaked

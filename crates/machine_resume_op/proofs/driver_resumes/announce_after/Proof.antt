@@ -37,9 +37,11 @@ announce-requires c κs = search needs
 returns-2 : tie.Need-returns-2
 returns-2 c =
     let next = c .announce .ensures in
-    let a = c .before .before .before .before .before .before .before .before .before .before .args in (
-      λ b. next .0 b ∙ ap halted (after-in (a .left) (a .total) (view (now (a .s))) b (a .dir) (a .e) _ _ (c .before .before .before .before .before .before .before .before .before .if1 .left)
-          (c .before .before .before .before .before .before .before .end-of .ensures) (c .before .before .before .before .before .found-at .ensures) _ (c .before .before .before .before .if2 .taken) (c .before .before .found-at2 .ensures)),
+    let k = c .before .before .before .before in
+    let a = k .before .before .before .before .before .before .args in (
+      λ b. next .0 b ∙ ap halted (after-in (a .left) (a .total) (view (now (a .s))) b (a .dir) (a .e) _ _
+          (k .before .before .before .before .before .if1 .left) (k .before .before .before .end-of .ensures) (k .before .found-at .ensures) _ (k .if2 .taken)
+          (c .before .before .found-at2 .ensures)),
       next .1,
     )
 
@@ -52,9 +54,10 @@ announce-requires-2 c κs = search needs
 returns-3 : tie.Need-returns-3
 returns-3 c =
     let next = c .announce2 .ensures in
-    let a = c .before .before .before .before .before .before .before .before .args in (
-      λ b. next .0 b ∙ ap halted (after-out (a .left) (a .total) (view (now (a .s))) b (a .dir) (a .e) _ _ (c .before .before .before .before .before .before .before .if1 .left)
-          (c .before .before .before .before .before .end-of .ensures) (c .before .before .before .found-at .ensures) (c .before .before .if2 .left)),
+    let k = c .before .before in
+    let a = k .before .before .before .before .before .before .args in (
+      λ b. next .0 b ∙ ap halted (after-out (a .left) (a .total) (view (now (a .s))) b (a .dir) (a .e) _ _
+          (k .before .before .before .before .before .if1 .left) (k .before .before .before .end-of .ensures) (k .before .found-at .ensures) (k .if2 .left)),
       next .1,
     )
 

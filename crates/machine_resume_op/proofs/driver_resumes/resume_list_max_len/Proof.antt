@@ -1,30 +1,17 @@
-use Rattle.machine.specs.StandsLaws.{parts5}
 use Rattle.machine_points.specs.StandsLaws.{at-point, goes-to, follows}
+use Rattle.machine_points.specs.Loads.{maxLenAt}
 use Rattle.machine_points.specs.DriverLaws.{driver}
-use Rattle.driver.specs.declared.Point.the-variants as point
 use Rattle.driver_resume.specs.Announce.{following}
 use Rattle.model_ops.specs.Concrete.{go}
 use Rattle.state.specs.State.{view}
 use denote.Ref.{now}
-use mathlib.Core.Path.{refl}
+use mathlib.Core.Path.{refl, ap}
 use borrow.Author.Needs.{needs}
 use Rattle.machine_resume_op.proofs.driver_resumes.resume_list_max_len.Statement.{statement}
 use Rattle.machine_resume_op.proofs.driver_resumes.resume_list_max_len.Tie as tie
 
-flag-dir-at-requires : tie.Need-flag-dir-at-requires
-flag-dir-at-requires c κs = search needs
-
-st-byte-requires : tie.Need-st-byte-requires
-st-byte-requires c κs = search needs
-
-ep-byte-requires : tie.Need-ep-byte-requires
-ep-byte-requires c κs = search needs
-
-busy-byte-requires : tie.Need-busy-byte-requires
-busy-byte-requires c κs = search needs
-
-late-byte-requires : tie.Need-late-byte-requires
-late-byte-requires c κs = search needs
+list-endpoint-at-requires : tie.Need-list-endpoint-at-requires
+list-endpoint-at-requires c κs = search needs
 
 has-buffer-requires : tie.Need-has-buffer-requires
 has-buffer-requires c κs = search needs
@@ -38,11 +25,10 @@ stand-list-place-requires c κs = search needs
 returns : tie.Need-returns
 returns c =
     let placed = c .before .before .place-access in
-    let loaded = c .before .before .before .before .before .before in
-    let here = at-point driver 15 (c .before .before .before .before .before .before .before .before .before .before .before .before .before .before .before .before .pre) (parts5 point.ListMaxLen (loaded .before .before .before .before .before .before .before .before .flag-dir-at .ensures) (loaded .before .before .before .before .before .before .st-byte .ensures)
-    (loaded .before .before .before .before .ep-byte .ensures) (loaded .before .before .busy-byte .ensures) (loaded .late-byte .ensures)) in
+    let tested = c .before .before .before .before .before in
+    let here = at-point driver 15 (tested .before .before .before .pre) (ap maxLenAt (tested .before .list-endpoint-at .ensures)) in
     λ v b. goes-to driver here refl (c .stand-list-place .ensures) (placed .ensures .1 .1)
-    (simp (placed .ensures .0, placed .ensures .1 .0, ← c .before .before .before .before .before .has-buffer .ensures, c .before .before .before .before .if1 .taken))
+    (simp (placed .ensures .0, placed .ensures .1 .0, ← tested .has-buffer .ensures, c .before .before .before .before .if1 .taken))
 
 announce-after-requires : tie.Need-announce-after-requires
 announce-after-requires c κs = search needs
@@ -50,14 +36,13 @@ announce-after-requires c κs = search needs
 returns-2 : tie.Need-returns-2
 returns-2 c =
     let next = c .announce-after in
-    let loaded = c .before .before .before .before in
-    let here = at-point driver 15 (c .before .before .before .before .before .before .before .before .before .before .before .before .before .before .pre) (parts5 point.ListMaxLen (loaded .before .before .before .before .before .before .before .before .flag-dir-at .ensures) (loaded .before .before .before .before .before .before .st-byte .ensures)
-    (loaded .before .before .before .before .ep-byte .ensures) (loaded .before .before .busy-byte .ensures) (loaded .late-byte .ensures)) in
-    let left = following (loaded .before .before .busy-byte .result) (loaded .late-byte .result) (loaded .before .before .before .before .before .before .before .before .flag-dir-at .result) (loaded .before .before .before .before .ep-byte .result) in
-    λ v b. follows driver {o = go left (view (now (c .before .before .before .before .before .before .before .before .before .before .before .before .before .before .args .s))) b} here refl (next .ensures .0 b) (next .ensures .1)
-    (simp (← c .before .before .before .has-buffer .ensures, c .before .before .if1 .left))
+    let tested = c .before .before .before in
+    let x = tested .before .list-endpoint-at in
+    let left = following (x .result .left) (x .result .total) (x .result .dir) (x .result .ep) in
+    λ v b. follows driver {o = go left (view (now (tested .before .before .before .args .s))) b} (at-point driver 15 (tested .before .before .before .pre) (ap maxLenAt (x .ensures)))
+    refl (next .ensures .0 b) (next .ensures .1) (simp (← tested .has-buffer .ensures, c .before .before .if1 .left))
 
 pub resume-list-max-len-spec : {M : Type 1} → statement M
 resume-list-max-len-spec =
-    tie.close (tie.spec flag-dir-at-requires st-byte-requires ep-byte-requires busy-byte-requires late-byte-requires has-buffer-requires
-    place-access-requires stand-list-place-requires returns announce-after-requires returns-2)
+    tie.close (tie.spec list-endpoint-at-requires has-buffer-requires place-access-requires stand-list-place-requires returns announce-after-requires
+    returns-2)

@@ -32,7 +32,8 @@ returns c =
     let the-has-buffer = c .before .before .before .before .before .before .before .has-buffer in
     let the-st-byte = c .before .before .before .before .before .before .before .before .st-byte in
     let the-ep-byte = c .before .before .before .before .before .before .before .before .before .before .ep-byte in
-    let here = at-point driver 7 (c .before .before .before .before .before .before .before .before .before .before .before .before .pre) (parts3 point.MaxLen (the-flag-dir-at .ensures) (the-st-byte .ensures) (the-ep-byte .ensures)) in
+    let here = at-point driver 7 (c .before .before .before .before .before .before .before .before .before .before .before .before .pre)
+    (parts3 point.MaxLen (the-flag-dir-at .ensures) (the-st-byte .ensures) (the-ep-byte .ensures)) in
     λ v b. goes-to driver here refl (c .stand-place .ensures) (placed .ensures .1 .1)
     (simp (placed .ensures .0, placed .ensures .1 .0, ← the-has-buffer .ensures, c .before .before .before .before .before .before .if1 .taken))
 
@@ -44,7 +45,8 @@ stop-requires c κs = search needs
 
 returns-2 : tie.Need-returns-2
 returns-2 c =
-    let here = at-point driver 7 (c .before .before .before .before .before .before .before .before .pre) (parts3 point.MaxLen refl (c .before .before .before .before .st-byte .ensures) (c .before .before .before .before .before .before .ep-byte .ensures)) in
+    let here = at-point driver 7 (c .before .before .before .before .before .before .before .before .pre)
+    (parts3 point.MaxLen refl (c .before .before .before .before .st-byte .ensures) (c .before .before .before .before .before .before .ep-byte .ensures)) in
     λ v b. comes-to driver here refl (c .stop .ensures) (simp (← c .before .before .before .has-buffer .ensures, c .before .before .if1 .left))
 
 pub resume-max-len-spec : {M : Type 1} → statement M
