@@ -160,6 +160,16 @@ step-word (Shown at n stamp) h = shown-word at n (h .1)
 pub access-says : (r : ℕ) (q p : Access) → q ≡ p → AccessFits p → r ≡ accessWord p → (r ≡ accessWord q) × AccessFits q
 access-says r q p e h k = (k ∙ ap accessWord (sym e), subst AccessFits (sym e) h)
 
+-- that of a register's read, and of its write, made of the register's number
+pub read-says : (r n : ℕ) (q : Access) (g : Reg) (e : ℕ) → q ≡ Read g e → e < 2 ^ 8 → n ≡ numberOf g → r ≡ readWord n e → (r ≡ accessWord q) × AccessFits q
+unfolding accessWord
+read-says r n q g e p h k w = access-says r q (Read g e) p h (w ∙ ap (λ (m : ℕ). readWord m e) k)
+
+pub write-says : (r n : ℕ) (q : Access) (g : Reg) (e x : ℕ) → q ≡ Write g e x → (e < 2 ^ 8) × (x < 2 ^ 32) → n ≡ numberOf g → r ≡ writeWord n e x
+    → (r ≡ accessWord q) × AccessFits q
+unfolding accessWord
+write-says r n q g e x p h k w = access-says r q (Write g e x) p h (w ∙ ap (λ (m : ℕ). writeWord m e x) k)
+
 -- the word of an answer by another name
 pub says : (r : ℕ) (step t : Step) → step ≡ t → Fits t → r ≡ wordOf t → Encodes r step
 unfolding Encodes
