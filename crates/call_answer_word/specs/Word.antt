@@ -6,7 +6,7 @@ use Rattle.regs.specs.declared.Access.the-variants.{Read, Write, Receive, Trans
 use Rattle.regs.specs.Registers.{numberOf}
 use Rattle.machine.specs.declared.Step.{Step}
 use Rattle.machine.specs.declared.Step.the-variants.{Refused, Asks, Ends, NotYet, Done, Setup, Shown}
-use Rattle.call_answer_word.specs.Parts.{stepOf, spoken}
+use Rattle.call_answer_word.specs.Parts.{stepOf, spoken, AccessFits}
 
 -- kind 1: register 8-15, endpoint 16-23
 abbrev pub readWord : ℕ → ℕ → ℕ
@@ -25,6 +25,10 @@ accessWord (Transmit e x) = writeWord 16 e x
 accessWord (Ep0Dma x) = writeWord 12 0 x
 accessWord (Wait microseconds) = 3 + microseconds * 2 ^ 8
 accessWord Callback = 4
+
+-- r is the access's word, and the access's numbers are as wide as the call's types
+abbrev pub IsAccessWord : ℕ → Access → Type 0
+IsAccessWord r q = (r ≡ accessWord q) × AccessFits q
 
 -- kind 5: result 8-23, how many wake-ups 24-31; their list is asked for by a call of its own
 unfoldable pub endWord : ℕ → ℕ → ℕ

@@ -10,7 +10,7 @@ use Rattle.regs.specs.declared.Access.{Access}
 use Rattle.regs.specs.declared.Access.the-variants.{Read, Write, Receive, Transmit, Ep0Dma, Wait, Callback}
 use Rattle.machine.specs.declared.Step.{Step}
 use Rattle.machine.specs.declared.Step.the-variants.{Refused, Asks, Ends, NotYet, Done, Setup, Shown}
-use Rattle.call_answer_word.specs.Word.{readWord, writeWord, accessWord, endWord, doneWord, shownWord, wordOf, Encodes}
+use Rattle.call_answer_word.specs.Word.{readWord, writeWord, accessWord, IsAccessWord, endWord, doneWord, shownWord, wordOf, Encodes}
 use Rattle.call_answer_word.specs.Parts.{regOf, writeOf, byteAt, halfAt, ofKind, stepOf, spoken, AccessFits, Fits}
 
 number-lt : (r : Reg) → numberOf r < 2 ^ 8
@@ -157,8 +157,18 @@ step-word (Setup low high) h = done-word 8 (omega arith)
 step-word (Shown at n stamp) h = shown-word at n (h .1)
 
 -- the word of an access by another name
-pub access-says : (r : ℕ) (q p : Access) → q ≡ p → AccessFits p → r ≡ accessWord p → (r ≡ accessWord q) × AccessFits q
+pub access-says : (r : ℕ) (q p : Access) → q ≡ p → AccessFits p → r ≡ accessWord p → IsAccessWord r q
 access-says r q p e h k = (k ∙ ap accessWord (sym e), subst AccessFits (sym e) h)
+
+-- that of a register's read, and of its write, made of the register's number
+pub read-says : (r n : ℕ) (q : Access) (g : Reg) (e : ℕ) → q ≡ Read g e → e < 2 ^ 8 → n ≡ numberOf g → r ≡ readWord n e → IsAccessWord r q
+unfolding accessWord
+read-says r n q g e p h k w = access-says r q (Read g e) p h (w ∙ ap (λ (m : ℕ). readWord m e) k)
+
+pub write-says : (r n : ℕ) (q : Access) (g : Reg) (e x : ℕ) → q ≡ Write g e x → (e < 2 ^ 8) × (x < 2 ^ 32) → n ≡ numberOf g → r ≡ writeWord n e x
+    → IsAccessWord r q
+unfolding accessWord
+write-says r n q g e x p h k w = access-says r q (Write g e x) p h (w ∙ ap (λ (m : ℕ). writeWord m e x) k)
 
 -- the word of an answer by another name
 pub says : (r : ℕ) (step t : Step) → step ≡ t → Fits t → r ≡ wordOf t → Encodes r step

@@ -6,8 +6,8 @@ use regs::registers::number;
 ghost use mathlib.Core.Path.{_≡_};
 ghost use Rattle.regs.specs.declared.Access.the-variants as Access;
 ghost use Rattle.machine.specs.declared.Step.the-variants as Step;
-ghost use Rattle.call_answer_word.specs.Parts.{AccessFits, EndFits};
-ghost use Rattle.call_answer_word.specs.Word.{readWord, writeWord, accessWord, endWord, doneWord, shownWord, Encodes};
+ghost use Rattle.call_answer_word.specs.Parts.{EndFits};
+ghost use Rattle.call_answer_word.specs.Word.{readWord, writeWord, IsAccessWord, endWord, doneWord, shownWord, Encodes};
 
 // The words of two refusals: row 1, the slots' length; row 16, the reading's width.
 pub const ROW_1: u64 = 0x100;
@@ -27,8 +27,7 @@ fn write_word(register: u8, endpoint: u8, value: u32) -> u64
 }
 
 fn access_word(q: Access) -> u64
-    ensures { λ r. ⌜ r ≡ accessWord q ⌝ }
-    ensures { λ _. ⌜ AccessFits q ⌝ }
+    ensures { λ r. ⌜ IsAccessWord r q ⌝ }
 {
     match q {
         Access::Read(r, e) => read_word(number(r), e),
@@ -104,8 +103,7 @@ pub fn word_of(step: Step) -> u64
 
 // An access of a continue: nearly all are reads and writes. Its one caller has it in line.
 fn continue_access_word(q: Access) -> u64
-    ensures { λ r. ⌜ r ≡ accessWord q ⌝ }
-    ensures { λ _. ⌜ AccessFits q ⌝ }
+    ensures { λ r. ⌜ IsAccessWord r q ⌝ }
 {
     match q {
         Access::Read(r, e) => read_word(number(r), e),

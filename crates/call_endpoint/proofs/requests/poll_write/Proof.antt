@@ -35,16 +35,14 @@ same-length-2 : tie.Need-same-length-2
 same-length-2 c = search needs
 
 returns-2 : tie.Need-returns-2
-returns-2 c = let start = c .before .before .before .before .before .before .before .before .before .args in
-    slotted-busy (calls.PollWrite (start .e) (start .bytes .now)) _ _ (c .before .before .before .before .slots-fit .ensures)
-    (c .before .before .before .if1 .taken) (c .before .is-idle .ensures) (c .if2 .left)
+returns-2 c = let fit = c .before .before .before in
+    slotted-busy _ _ _ (fit .before .slots-fit .ensures) (fit .if1 .taken) (c .before .is-idle .ensures) (c .if2 .left)
 
 same-length-3 : tie.Need-same-length-3
 same-length-3 c = search needs
 
 returns-3 : tie.Need-returns-3
-returns-3 c = let start = c .before .before .before .before .before .before .args in slotted-misfit (calls.PollWrite (start .e) (start .bytes .now)) _ _
-    (c .before .slots-fit .ensures) (c .if1 .left)
+returns-3 c = slotted-misfit _ _ _ (c .before .slots-fit .ensures) (c .if1 .left)
 
 pub poll-write-spec : {M : Type 1} → statement M
 poll-write-spec =

@@ -26,11 +26,11 @@ starts-at-requires c κs = search needs
 
 returns : tie.Need-returns Inv-loop μ-loop
 returns c =
-    let i = c .before .before .before .loop .inv .1 in
-    let e = c .before .before .before .loop .e in
-    let a = c .before .before .before .before .args in
+    let at = c .before .before .before in
+    let e = at .loop .e in
+    let a = at .before .args in
     let s = found-step (view (now (a .s))) (a .dir) (a .x) (16 - e) e (omega arith) in
-    rw (i, s, ← c .before .starts-at .ensures, c .if1 .taken)
+    rw (at .loop .inv .1, s, ← c .before .starts-at .ensures, c .if1 .taken)
 
 add-e : tie.Need-add-e Inv-loop μ-loop
 add-e c = omega arith
@@ -40,12 +40,12 @@ loop-less c = omega arith
 
 loop-again : tie.Need-loop-again Inv-loop μ-loop
 loop-again c =
-    let i = c .before .before .before .loop .inv .1 in
-    let e = c .before .before .before .loop .e in
-    let a = c .before .before .before .before .args in
+    let at = c .before .before .before in
+    let e = at .loop .e in
+    let a = at .before .args in
     let s = found-step (view (now (a .s))) (a .dir) (a .x) (16 - e) e (omega arith) in
     let l : 16 - (e + 1) ≡ 16 - e - 1 = omega arith in
-    (omega arith, rw (i, s, ← c .before .starts-at .ensures, c .if1 .left, l))
+    (omega arith, rw (at .loop .inv .1, s, ← c .before .starts-at .ensures, c .if1 .left, l))
 
 returns-2 : tie.Need-returns-2 Inv-loop μ-loop
 returns-2 c =
