@@ -1,28 +1,43 @@
 -- Request One over a list of calls: "Each queued OUT packet carries the microframe index of that reading in the interrupt that admitted it".
 -- Definitions; the theorem is in StampingLaws
-use mathlib.Core.Bool.{true, false}
+use mathlib.Core.Bool.{true, false, cond}
 use mathlib.Core.List.{List, [], _∷_, _++_}
 use mathlib.Core.Path.{_≡_}
 use Prim.Native.Nat.{ℕ, suc}
 use lib.ListN.{length}
+use Rattle.regs.specs.declared.Access.{Access}
+use Rattle.regs.specs.declared.Access.the-variants.{Read, Write, Receive, Transmit, Ep0Dma, Wait, Callback}
+use Rattle.regs.specs.declared.Reg.the-variants.{FrameNo}
 use Rattle.frame.specs.Usb20.{indexOf}
 use Rattle.state.specs.Driver.{Driver}
 use Rattle.state.specs.State.{view}
+use Rattle.model.specs.Every.{sameReg}
 use Rattle.model.specs.Answers.{Answer}
 use Rattle.model.specs.Calls.{Config, Op}
 use Rattle.model.specs.Machine.{Buf, Call, start, begin, go, question, Event, Ans, ended, handed, told, Way, idle, busy, Machine}
 use Rattle.machine.specs.Suspended.{drive, machineOf}
 use Rattle.proof_book.specs.FrontPage.{Made, ringStamps}
 
--- ---- "that reading": the number that the first continue of the operation under way brought
+-- ---- "that reading": the number that the first continue of the operation under way brought, where frame_no was asked for
 
 pub data First : Type 0 where
-  not-yet : First
+  not-yet unasked : First
   brought : ℕ → First
 
 abbrev pub firstOf : ℕ → First → First
 firstOf v not-yet = brought v
+firstOf v unasked = unasked
 firstOf v (brought w) = brought w
+
+-- "Each interrupt now begins with a frame reading": by the access that a begin hands out
+abbrev pub askedBy : Access → First
+askedBy (Read r e) = cond (sameReg r FrameNo) not-yet unasked
+askedBy (Write r e v) = unasked
+askedBy (Receive e x) = unasked
+askedBy (Transmit e x) = unasked
+askedBy (Ep0Dma x) = unasked
+askedBy (Wait n) = unasked
+askedBy Callback = unasked
 
 -- after a call, by what it was answered: a begin or a start-up that is handed an access begins an operation; a continue that is handed one went on.
 -- A refusal and a call that ends at once leave it
@@ -30,7 +45,7 @@ abbrev pub noticed : Call Config Op → Ans Answer → First → First
 noticed (start c) (handed q) f = not-yet
 noticed (start c) (ended a) f = f
 noticed (start c) (told n) f = f
-noticed (begin o) (handed q) f = not-yet
+noticed (begin o) (handed q) f = askedBy q
 noticed (begin o) (ended a) f = f
 noticed (begin o) (told n) f = f
 noticed (go v) (handed q) f = firstOf v f
@@ -38,9 +53,10 @@ noticed (go v) (ended a) f = f
 noticed (go v) (told n) f = f
 noticed (question q) a f = f
 
--- its microframe index; before it there is none
+-- its microframe index; before it, and where it was not asked for, there is none
 abbrev pub Index : First → ℕ → Type 0
 Index not-yet x = ⊥
+Index unasked x = ⊥
 Index (brought v) x = x ≡ indexOf v
 
 -- ---- where a continue of an interrupt leaves one packet more, its stamp is that index, and those of the others are as they were

@@ -42,7 +42,7 @@ use Rattle.proof_book.specs.AnswersLaws.{tells-same, fed-elim, fed-kept}
 use Rattle.proof_book.specs.SlotsKeptLaws.{lent-is}
 use Rattle.proof_book.specs.KeepingLaws.{Throughout, at-end, at-ask, At, keeps-run}
 use Rattle.proof_book.specs.EnteredLaws.{of-interrupt, of-aside}
-use Rattle.proof_book.specs.Stamping.{First, not-yet, brought, firstOf, noticed, OneMore, Stamping, StampsEach, StampsMade}
+use Rattle.proof_book.specs.Stamping.{First, not-yet, unasked, brought, firstOf, noticed, OneMore, Stamping, StampsEach, StampsMade}
 use Rattle.proof_book.specs.StampingScriptsLaws.{Even, StampsKept, Stays, Joins, Either, Grows, ends-so, asks-so, grows-from, grows-bind, grows-run}
 
 abbrev Any : Answer → Type 0
@@ -52,6 +52,7 @@ Any a = Unit {0}
 abbrev Serves : First → Way Answer Pages → Driver → Type 0
 Serves f idle d = Unit {0}
 Serves f (busy false a k) d = Unit {0}
+Serves unasked (busy true a k) d = ⊥
 Serves not-yet (busy true a k) d = (v : ℕ) (u : Bk) → Even (u .0) → Grows (indexOf v) Any u (k v u)
 Serves (brought w) (busy true a k) d = (d .globals .entered ≡ indexOf w) × ((v : ℕ) (u : Bk) → StampsKept (indexOf w) u → Grows (indexOf w) Any u (k v u))
 
@@ -124,6 +125,7 @@ plainly a f (asks q s k) d = tt
 serves-on : (f : First) (w : Way Answer Pages) (d d′ : Driver) → d′ .globals .entered ≡ d .globals .entered → Serves f w d → Serves f w d′
 serves-on f idle d d′ e h = tt
 serves-on f (busy false a k) d d′ e h = tt
+serves-on unasked (busy true a k) d d′ e h = h
 serves-on not-yet (busy true a k) d d′ e h = h
 serves-on (brought v) (busy true a k) d d′ e h = (e ∙ h .0, h .1)
 
@@ -192,6 +194,7 @@ module _ {φ ψ : Phase} {c c′ : Buf} {d d′ : Driver} {t : Pages} (R : Coupl
   goes-on a k h R′ = by f refl h
     where
       by : (g : First) → g ≡ f → Serves g (busy true a k) d → Went f n t d d′ (halt calls (book .driver) (fed book x) true (k n (t, b)))
+      by unasked e h = absurd h
       by not-yet e h = went n (ap (firstOf n) (sym e)) (h n (t, b) (even-of R)) R′
       by (brought w) e h = went w (ap (firstOf n) (sym e)) (h .1 n (t, b) (kept-of R (h .0) b)) R′
 

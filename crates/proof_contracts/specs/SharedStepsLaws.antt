@@ -8,17 +8,23 @@ use mathlib.Core.Logic.{inl, inr}
 use mathlib.Core.Path.{_≡_, refl, ap, subst, sym, _∙_}
 use Prim.Native.Nat.{ℕ, zero, _%_, _≤_}
 use native.Mathlib.Omega.{arith}
+use lib.Dec.{eqb}
 use lib.ListN.{length}
 use denote.Ref.{now}
+use Rattle.regs.specs.declared.Access.the-variants.{Read}
+use Rattle.regs.specs.declared.Reg.the-variants.{FrameNo}
 use Rattle.regs.specs.declared.Dir.{Dir}
 use Rattle.marks.specs.Copies.{over}
 use Rattle.state.specs.Driver.{Driver}
 use Rattle.state.specs.State.{view, saved}
 use Rattle.state.specs.Wakes.{listed}
 use Rattle.state.specs.Determined.{Bytes}
-use Rattle.model.specs.Answers.{Answer, Refused, End}
+use Rattle.model.specs.Script.{ret, test, run}
+use Rattle.model.specs.Answers.{Answer, Refused, End, NotYet, Done, Shown, resultless}
+use Rattle.model.specs.Handler.{stampedInterrupt}
 use Rattle.model.specs.Calls.{Config, Op, interrupt, calls, startRow}
-use Rattle.model.specs.Machine.{Buf, Call, Event, start, begin, idle, Machine, Ans, ended, lentTo}
+use Rattle.model.specs.Machine.{Buf, Call, Event, start, begin, Way, idle, busy, Machine, Ans, ended, handed, told, lentTo, begun, halt}
+use Rattle.model_ops.specs.Concrete.{concrete}
 use Rattle.machine.specs.Suspended.{decode, machineOf, driverOf, drive}
 use Rattle.machine.specs.Goes.{Called}
 use Rattle.call_bus_time.specs.Sharing.{sortOf, timeAfter, settled, sharedCall}
@@ -175,6 +181,39 @@ module _ (n : ℕ) (xs ys : List ℕ) (long : Bytes xs) (long′ : Bytes ys) whe
         (saved-left false n x xs ys e (h .saves)) (inl refl) long long′,
     time-left i (start c) n xs ys x e [] b _ time time′ (h .did []),
   )
+
+-- ---- "each interrupt now begins with a frame reading" (request One): its begin hands out that, or a row refuses it. So the number that its first continue
+-- brings, whose index is the stamp of what arrives (`OneMore`, proof_book/specs/Stamping.antt), is a reading of frame_no
+
+abbrev pub ReadsFrame : Ans Answer → Type 0
+ReadsFrame (handed q) = q ≡ Read FrameNo 0
+ReadsFrame (ended (Refused r)) = Unit {0}
+ReadsFrame (ended (End r ws)) = ⊥
+ReadsFrame (ended NotYet) = ⊥
+ReadsFrame (ended (Done bytes)) = ⊥
+ReadsFrame (ended (Shown bytes stamp)) = ⊥
+ReadsFrame (told k) = ⊥
+
+begin-frame : (w : Way Answer Driver) (d : Driver) (a b : Buf)
+    → ReadsFrame (begun calls driverOf (λ s. s) interrupt (record { way = w; st = d; buf = a }) w b .0)
+begin-frame idle d a b = by (eqb (d .globals .stage) 2)
+  where
+    by : (u : Bool) → ReadsFrame (halt calls driverOf (λ s. s) true
+        (run {i = true} concrete (test u (resultless stampedInterrupt) (ret (Refused 4))) (d, b)) .0)
+    by true = refl
+    by false = tt
+begin-frame (busy true q k) d a b = tt
+begin-frame (busy false q k) d a b = tt
+
+pub interrupt-frame : (i : ℕ) (xs : List ℕ) (a : Buf) (m : MadeShared) (slots : Buf) → CallStep i xs a m
+    → m .event ≡ record { call = begin interrupt; lent = slots } → ReadsFrame (m .answer)
+unfolding settled
+interrupt-frame i xs a m slots did e =
+    subst (λ (v : Event Config Op). CallStep i xs a (made (v .call) (v .lent) (m .before) (m .time) (m .answer) (m .bytes) (m .slots)) → ReadsFrame (m .answer))
+    (sym e) by did
+  where
+    by : CallStep i xs a (made (begin interrupt) slots (m .before) (m .time) (m .answer) (m .bytes) (m .slots)) → ReadsFrame (m .answer)
+    by h = subst ReadsFrame (sym (ap (λ (z : Called × List ℕ). z .0 .0) h)) (begin-frame (machineOf xs a .way) (view xs) a slots)
 
 -- ---- the wake-ups that an end tells are those that usbhs_woken gives after it, in their order (request Nine)
 
