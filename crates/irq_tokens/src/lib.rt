@@ -151,7 +151,7 @@ pub fn after_toggled(s: &mut State, buf: &mut [u8], d: Dir, e: Entry, p: Toggled
         (denote (Point.Toggled d (e .setup) (e .x) (e .iso) p) v (view (now (s .entry)), now (buf .entry))) ⌝ }
     ensures { λ r. ⌜ Pins r (now (s .exit)) ⌝ }
 {
-    let n = toggled::toggled_resume(s, d, status::endpoint(e.x.st), p, v);
+    let n = toggled::resume(s, d, status::endpoint(e.x.st), p, v);
     then_toggled(s, buf, d, e, n)
 }
 
@@ -163,7 +163,7 @@ fn toggled_arm(s: &mut State, buf: &mut [u8], d: Dir, e: Entry) -> u64
     )) (λ b u. run concrete (afterToggled d (e .x) b) u))) ⌝ }
     ensures { λ r. ⌜ Pins r (now (s .exit)) ⌝ }
 {
-    let n = toggled::toggled(d, status::endpoint(e.x.st));
+    let n = toggled::begin(d, status::endpoint(e.x.st));
     match n {
         ToggledNext::Asks(q, p) => stand_toggled(s, q, d, e, p),
         ToggledNext::Ends(b) => after_passing(s, buf, d, e, b),

@@ -41,7 +41,7 @@ pub enum ToggledNext {
 }
 
 // `toggled` (mod.rs 433-459): the wait begins.
-pub fn toggled(dir: Dir, ep: u8) -> ToggledNext
+pub fn begin(dir: Dir, ep: u8) -> ToggledNext
     ensures { λ r. ⌜ ((d : Driver) (b : List ℕ) → meaning dir ep r d b ≡ go {i = true} (script.toggled dir ep) d b) ⌝ }
     ensures { λ r. ⌜ Linked r ⌝ }
 {
@@ -106,7 +106,7 @@ fn after_ack_read(dir: Dir, ep: u8, v: u32) -> ToggledNext
     ToggledNext::Asks(Access::Write(ctrl_of(dir), ep, word as u32), Toggled::Acked)
 }
 
-pub fn toggled_resume(s: &mut State, dir: Dir, ep: u8, p: Toggled, v: u32) -> ToggledNext
+pub fn resume(s: &mut State, dir: Dir, ep: u8, p: Toggled, v: u32) -> ToggledNext
     requires { ⌜ fitsAt p v ≡ true ⌝ }
     ensures { λ r. ⌜ ((b : List ℕ) → meaning dir ep r (view (now (s .exit))) b ≡ denote dir ep p v (view (now (s .entry)), b)) ⌝ }
     ensures { λ _. ⌜ saved (now (s .exit)) ≡ saved (now (s .entry)) ⌝ }

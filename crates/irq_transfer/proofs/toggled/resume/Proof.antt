@@ -3,10 +3,10 @@ use Rattle.irq_transfer.specs.Toggled.{fitsAt}
 use mathlib.Core.Path.{refl}
 use native.Mathlib.Omega.{arith}
 use borrow.Author.Needs.{needs}
-use Rattle.irq_transfer.proofs.toggled.toggled_resume.Statement.{statement}
-use Rattle.irq_transfer.proofs.toggled.toggled_resume.Tie as tie
-use Rattle.irq_transfer.proofs.toggled.toggled_resume.Reads as reads
-use Rattle.irq_transfer.proofs.toggled.toggled_resume.Lts as lts
+use Rattle.irq_transfer.proofs.toggled.resume.Statement.{statement}
+use Rattle.irq_transfer.proofs.toggled.resume.Tie as tie
+use Rattle.irq_transfer.proofs.toggled.resume.Reads as reads
+use Rattle.irq_transfer.proofs.toggled.resume.Lts as lts
 
 enum-known-p : tie.Need-enum-known-p
 enum-known-p c = search needs
@@ -45,7 +45,7 @@ returns-3 c = (λ b. simp (c .after-ack-read .ensures .0, c .before .enum-told2 
 returns-4 : tie.Need-returns-4
 returns-4 c = (λ b. simp (c .enum-told3 .given .1), (refl, tt))
 
-pub toggled-resume-spec : {M : Type 1} → statement M
-toggled-resume-spec =
+pub resume-spec : {M : Type 1} → statement M
+resume-spec =
     tie.close (tie.spec enum-known-p after-look-requires enum-told after-word-requires enum-told-2 after-ack-read-requires enum-told-3 returns
     returns-2 returns-3 returns-4)
