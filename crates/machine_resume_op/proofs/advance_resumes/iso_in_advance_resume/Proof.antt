@@ -44,17 +44,17 @@ stand-loaded-requires c κs = search needs
 
 returns-2 : tie.Need-returns-2
 returns-2 c =
-    let begun = c .before .before .before .before .before .start in
-    leads-to advance _ (c .stand-sent .ensures) (begun .ensures .1 .1)
-    (λ b. paced-begun _ _ _ (begun .result) _ _ _ b (c .before .before .before .before .before .before .before .if1 .left) (c .before .before .before .p .given .1)
-    (begun .ensures .0 b))
+    let begun = c .before .before .before .before .before in
+    leads-to advance _ (c .stand-sent .ensures) (begun .start .ensures .1 .1)
+    (λ b. paced-begun _ _ _ (begun .start .result) _ _ _ b (begun .before .before .if1 .left) (c .before .before .before .p .given .1)
+    (begun .start .ensures .0 b))
 
 returns-3 : tie.Need-returns-3
 returns-3 c =
-    let begun = c .before .before .before .before .before .start in
-    leads-to advance _ (c .stand-loaded .ensures) (begun .ensures .1 .1)
-    (λ b. paced-begun _ _ _ (begun .result) _ _ _ b (c .before .before .before .before .before .before .before .if1 .left) (c .before .before .before .p2 .given .1)
-    (begun .ensures .0 b))
+    let begun = c .before .before .before .before .before in
+    leads-to advance _ (c .stand-loaded .ensures) (begun .start .ensures .1 .1)
+    (λ b. paced-begun _ _ _ (begun .start .result) _ _ _ b (begun .before .before .if1 .left) (c .before .before .before .p2 .given .1)
+    (begun .start .ensures .0 b))
 
 pub iso-in-advance-resume-spec : {M : Type 1} → statement M
 iso-in-advance-resume-spec =

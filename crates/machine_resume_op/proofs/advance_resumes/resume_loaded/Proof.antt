@@ -19,7 +19,8 @@ iso-in-advance-resume-requires c κs = search needs
 returns : tie.Need-returns
 returns c =
     let next = c .iso-in-advance-resume in
-    let here = at-point advance 2 (c .before .before .before .before .before .before .pre) (ap loadedAt (c .before .before .before .before .completion-at .ensures)) in
+    let loaded = c .before .before .before .before in
+    let here = at-point advance 2 (loaded .before .before .pre) (ap loadedAt (loaded .completion-at .ensures)) in
     λ v b. follows advance here refl (next .ensures .0 b) (next .ensures .1) (paced-on _ _ _ _ ∙ simp (c .before .before .wake .ensures .0))
 
 pub resume-loaded-spec : {M : Type 1} → statement M

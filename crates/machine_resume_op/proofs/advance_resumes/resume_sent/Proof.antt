@@ -20,7 +20,8 @@ stand-loaded-requires c κs = search needs
 
 returns : tie.Need-returns
 returns c =
-    let here = at-point advance 1 (c .before .before .before .before .before .before .pre) (ap sentAt (c .before .before .before .before .completion-at .ensures)) in
+    let loaded = c .before .before .before .before in
+    let here = at-point advance 1 (loaded .before .before .pre) (ap sentAt (loaded .completion-at .ensures)) in
     λ v b. goes-to advance here refl (c .stand-loaded .ensures) refl (simp (c .before .before .next-len .ensures))
 
 pub resume-sent-spec : {M : Type 1} → statement M

@@ -39,8 +39,9 @@ returns-2 c =
     let tested = c .before .before .before in
     let x = tested .before .list-endpoint-at in
     let left = following (x .result .left) (x .result .total) (x .result .dir) (x .result .ep) in
-    λ v b. follows driver {o = go left (view (now (tested .before .before .before .args .s))) b} (at-point driver 15 (tested .before .before .before .pre) (ap maxLenAt (x .ensures)))
-    refl (next .ensures .0 b) (next .ensures .1) (simp (← tested .has-buffer .ensures, c .before .before .if1 .left))
+    let here = at-point driver 15 (tested .before .before .before .pre) (ap maxLenAt (x .ensures)) in
+    λ v b. follows driver {o = go left (view (now (tested .before .before .before .args .s))) b} here refl (next .ensures .0 b) (next .ensures .1)
+    (simp (← tested .has-buffer .ensures, c .before .before .if1 .left))
 
 pub resume-list-max-len-spec : {M : Type 1} → statement M
 resume-list-max-len-spec =
