@@ -193,18 +193,20 @@ afterSuspend f = do
   when (fifoOv f) (write IntFg 0 FIFO_OV)
   afterFifo f
 
+-- an event of the bus: its interrupt is masked, and the bus's task woken
+abbrev busEvent : Bool → (ℕ → Bool → ℕ) → Script true Unit
+busEvent seen withEvent = when seen (do
+  modifyIntEn (λ w. withEvent w false)
+  wakeBus)
+
 unfoldable pub afterBusRst : ℕ → Script true Unit
 afterBusRst f = do
-  when (suspend f) (do
-    modifyIntEn (λ w. withSuspend w false)
-    wakeBus)
+  busEvent (suspend f) withSuspend
   afterSuspend f
 
 unfoldable pub afterFlags : ℕ → Script true Unit
 afterFlags f = do
-  when (busRst f) (do
-    modifyIntEn (λ w. withBusRst w false)
-    wakeBus)
+  busEvent (busRst f) withBusRst
   afterBusRst f
 
 -- ---- request One: the microframe is kept
