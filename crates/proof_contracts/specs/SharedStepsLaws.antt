@@ -3,15 +3,15 @@
 -- in which a call that row 19 stops is a question (`allAlone`, SharedAlone.antt). Of what the calls are lent nothing is
 -- asked. A refusal, 19 too, leaves every byte that was lent
 use mathlib.Core.Bool.{Bool, true, false, cond}
-use mathlib.Core.List.{List, [], _∷_}
+use mathlib.Core.List.{List, [], _∷_, _++_}
 use mathlib.Core.Logic.{inl, inr}
 use mathlib.Core.Path.{_≡_, refl, ap, subst, sym, _∙_}
-use Prim.Native.Nat.{ℕ, zero, _%_, _≤_}
+use Prim.Native.Nat.{ℕ, zero, _+_, _%_, _≤_}
 use native.Mathlib.Omega.{arith}
 use lib.Dec.{eqb}
 use lib.ListN.{length}
 use denote.Ref.{now}
-use Rattle.regs.specs.declared.Access.the-variants.{Read}
+use Rattle.regs.specs.declared.Access.the-variants.{Read, Transmit}
 use Rattle.regs.specs.declared.Reg.the-variants.{FrameNo}
 use Rattle.regs.specs.declared.Dir.{Dir}
 use Rattle.marks.specs.Copies.{over}
@@ -23,13 +23,20 @@ use Rattle.model.specs.Script.{ret, test, run}
 use Rattle.model.specs.Answers.{Answer, Refused, End, NotYet, Done, Shown, resultless}
 use Rattle.model.specs.Handler.{stampedInterrupt}
 use Rattle.model.specs.Calls.{Config, Op, interrupt, calls, startRow}
-use Rattle.model.specs.Machine.{Buf, Call, Event, start, begin, Way, idle, busy, Machine, Ans, ended, handed, told, lentTo, begun, halt}
+use Rattle.model.specs.Machine.{Buf, Call, Event, start, begin, Way, idle, busy, Machine, Ans, ended, handed, told, lentTo, begun, halt, started, fed}
 use Rattle.model_ops.specs.Concrete.{concrete}
 use Rattle.machine.specs.Suspended.{decode, machineOf, driverOf, drive}
 use Rattle.machine.specs.Goes.{Called}
 use Rattle.call_bus_time.specs.Sharing.{sortOf, timeAfter, settled, sharedCall}
 use Rattle.usbhs_c.proofs.usbhs_woken.Reads as woken-contract
+use Rattle.ring.specs.Waiting.{Same}
+use Rattle.proof_book.specs.Pages.{Pages}
+use Rattle.proof_book.specs.Book.{book}
 use Rattle.proof_book.specs.FrontPage.{Made}
+use Rattle.proof_book.specs.FrontPage as page
+use Rattle.proof_book.specs.SlotsStayLaws.{slots-stay}
+use Rattle.proof_book.specs.Stamping.{not-yet, StampsMade}
+use Rattle.proof_book.specs.StampingLaws.{code-stamps}
 use Rattle.proof_book.specs.CodeReadings.{Steps, bytesAfter, slotsAfter, readBy, code-4056}
 use Rattle.proof_book.specs.Continues.{madeContinues}
 use Rattle.proof_book.specs.CodeContinuesLaws.{code-4154}
@@ -48,9 +55,9 @@ use Rattle.proof_usb20.specs.TogBitsRunsLaws.{code-tog-bits}
 use Rattle.proof_refusals.specs.Outcomes.{Listed}
 use Rattle.proof_refusals.specs.Ends.{end-lists}
 use Rattle.proof_refusals.specs.Bytes.{Spares, BringsSlots, time-left, shared-bytes-left, shared-slots-left}
-use Rattle.proof_contracts.specs.SharedPage.{MadeShared, outcomeOf, CallStep}
+use Rattle.proof_contracts.specs.SharedPage.{MadeShared, outcomeOf, CallStep, Calls}
 use Rattle.proof_contracts.specs.SharedCall.{did-alone}
-use Rattle.proof_contracts.specs.SharedAlone.{isDown, madeAlone, allAlone, start-alone}
+use Rattle.proof_contracts.specs.SharedAlone.{isDown, madeAlone, allAlone, start-alone, code-alone}
 use Rattle.proof_contracts.specs.SavedPage.{passes, SavesAs, Saves, Saving}
 use Rattle.proof_contracts.specs.Steps.{made, IsStep, IsStepLent, IsStepCharged, IsStepStart}
 
@@ -144,6 +151,48 @@ module _ (i : ℕ) where
 
     pub shared-tog-bits : TogBits (view (bytesAfter xs (up ∷ further)))
     shared-tog-bits = code-tog-bits c b row xs a up is-up further steps
+
+-- ---- theorems that ask what the calls are lent (`Calls`, SharedPage.antt): by `code-alone`
+
+appended : (i : ℕ) (ms ns : List MadeShared) (xs : List ℕ) (a : Buf) → allAlone i xs a (ms ++ ns)
+    ≡ allAlone i xs a ms ++ allAlone i (bytesAfter xs (allAlone i xs a ms)) (slotsAfter a (allAlone i xs a ms)) ns
+appended i [] ns xs a = refl
+appended i (m ∷ ms) ns xs a = ap (λ (l : List Made). madeAlone i xs a m ∷ l) (appended i ms ns (m .bytes) (m .slots))
+
+module _ (i : ℕ) (c : Config) (b : Buf) (row : startRow c b ≡ zero) (xs : List ℕ) (a : Buf) (n : Machine Answer Pages)
+    (first : MadeShared) (is-start : first .event ≡ record { call = start c; lent = b }) where
+  -- request One
+  pub shared-stamps : (ms : List MadeShared) → Calls i xs a n (first ∷ ms)
+      → StampsMade (first .bytes) (first .slots) not-yet (allAlone i (first .bytes) (first .slots) ms)
+  shared-stamps ms run =
+      let one = madeAlone i xs a first in
+      let is-one = start-alone i c b xs a first is-start in
+      let alone = code-alone i c b row xs a n first is-start ms run in
+      let y = started calls (book .driver) (fed book (one .answer)) c zero n b in
+      let booked : page.noted one n .1 ≡ y .1 =
+      subst (λ (v : Event Config Op). page.written (one .answer) (v .call) n (v .lent) .1 ≡ y .1) (sym is-one)
+      (ap (λ (r : ℕ). started calls (book .driver) (fed book (one .answer)) c r n b .1) row) in
+      code-stamps c b row xs a n one is-one (alone .0) (allAlone i (first .bytes) (first .slots) ms)
+      (subst (λ (z : Machine Answer Pages). page.Calls (first .bytes) (first .slots) z
+      (allAlone i (first .bytes) (first .slots) ms)) booked (alone .2))
+
+  -- "no slot being sent is written" (demand 3)
+  pub shared-slots-stay : (before : List MadeShared) (hands : MadeShared) (further : List MadeShared)
+      → Calls i xs a n (first ∷ (before ++ (hands ∷ further)))
+      → let one = madeAlone i xs a first in let es = allAlone i (first .bytes) (first .slots) before in
+      let hand = madeAlone i (bytesAfter xs (one ∷ es)) (slotsAfter a (one ∷ es)) hands in
+      let rest = allAlone i (hands .bytes) (hands .slots) further in
+      let n′ = page.noted hand (page.bookAfter n (one ∷ es)) .1 in
+      (e x : ℕ) → hand .answer ≡ handed (Transmit e x) → n′ .st .ins e .load ≡ true → page.NotEnded e n′ rest
+      → (b′ : Buf) → page.Chip (page.bookAfter n′ rest .st) (page.slotsAfter (hands .slots) rest) b′
+      → Same x (x + page.slotSize (n′ .st)) (hands .slots) b′
+  shared-slots-stay before hands further run =
+      let one = madeAlone i xs a first in
+      let es = allAlone i (first .bytes) (first .slots) before in
+      slots-stay c b row xs a n one (start-alone i c b xs a first is-start) es
+      (madeAlone i (bytesAfter xs (one ∷ es)) (slotsAfter a (one ∷ es)) hands) (allAlone i (hands .bytes) (hands .slots) further)
+      (subst (λ (l : List Made). page.Calls xs a n (one ∷ l)) (appended i before (hands ∷ further) (first .bytes) (first .slots))
+      (code-alone i c b row xs a n first is-start (before ++ (hands ∷ further)) run))
 
 -- ---- a refusal leaves every byte that was lent, but for a poll's 9 and 10: of a public or exported call, by its lemma
 -- (Calls.antt, Exported.antt)

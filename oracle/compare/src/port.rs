@@ -63,6 +63,9 @@ fn none(count: usize) -> Vec<Wake> {
     vec![]
 }
 
+/// Its number (`oracle::call::REGISTERS`).
+const FRAME_NO: u8 = 4;
+
 /// Of an end that has so many wake-ups, their list; the room past them stays.
 fn woken(state: &[u8], count: usize) -> Vec<Wake> {
     if count == 0 {
@@ -161,6 +164,7 @@ impl Port {
         }
         match *call {
             Call::Interrupt if accepted(a) => {
+                assert_eq!(decode(a, none), Answer::Read { reg: FRAME_NO, ep: 0 }, "its first access");
                 self.interrupts = self.interrupts.wrapping_add(1);
                 let frame = Call::Continue(stamps::frame(self.interrupts).into());
                 return decode(self.word(&frame, &mut [], &mut stamp), none);
