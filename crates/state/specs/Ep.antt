@@ -2,6 +2,28 @@
 use Prim.Native.Nat.{ℕ, _+_, _-_, _%_}
 use Rattle.state.specs.declared.EpState.{EpState}
 
+-- the Rust's `EpState::NEW`
+abbrev pub newEp : EpState
+newEp = record {
+  ready = 0;
+  len = 0;
+  armed = 0;
+  iso = 0;
+  kind = 0;
+  base = 0;
+  stride = 0;
+  slots = 1;
+  head = 0;
+  tail = 0;
+  loaded = 0;
+  overruns = 0;
+  «last_frame» = 0x1800;
+  «max_len» = 0;
+  «armed_slot» = 0;
+  tog = 0;
+  «open» = 0;
+}
+
 -- a record of its fields, in their order
 abbrev pub epFields : (ready len armed iso kind base stride slots head tail loaded overruns frame maximum slot tog opened : ℕ) → EpState
 epFields ready len armed iso kind base stride slots head tail loaded overruns frame maximum slot tog opened = record {
@@ -23,10 +45,6 @@ epFields ready len armed iso kind base stride slots head tail loaded overruns fr
   tog = tog;
   «open» = opened;
 }
-
--- the Rust's `EpState::NEW`: one slot, no frame yet, all else 0
-abbrev pub newEp : EpState
-newEp = epFields 0 0 0 0 0 0 0 1 0 0 0 0 0x1800 0 0 0 0
 
 -- what a transfer or a packet changes, set anew: the transfer, then the ring
 abbrev pub withMoves : EpState → (ready len armed frame tog : ℕ) → (head tail loaded overruns slot opened : ℕ) → EpState

@@ -6,7 +6,7 @@ use Rattle.state.specs.declared.Allocator.{Allocator}
 use Rattle.state.specs.declared.Globals.{Globals}
 use Rattle.state.specs.declared.Control.{Control}
 use Rattle.state.specs.declared.Saved.{Saved}
-use Rattle.state.specs.Codec.{allocatorOf, globalsOf, controlOf, savedOf}
+use Rattle.state.specs.Codec.{allocatorOf, controlOf, savedOf}
 use Rattle.state.specs.Ep.{newEp}
 use Rattle.state.specs.Wakes.{none-woken}
 use Rattle.state.specs.Driver.{Driver, noRequest, withStamps}
@@ -31,9 +31,26 @@ noControl = controlOf []
 abbrev pub nothing : Saved
 nothing = savedOf []
 
--- stage 1, started up, before EP0's start; no start of frame was handled (the ninth, sof_frame); all else but the callback is 0
+-- stage 1: started up, before EP0's start
 abbrev pub freshGlobals : ℕ → Globals
-freshGlobals callback = globalsOf (1 ∷ callback ∷ 0 ∷ 0 ∷ 0 ∷ 0 ∷ 0 ∷ 0 ∷ 0x1800 ∷ [])
+freshGlobals callback = record {
+  stage = 1;
+  callback = callback;
+  power = 0;
+  «setup_ready» = 0;
+  «setup_low» = 0;
+  «setup_high» = 0;
+  «int_en» = 0;
+  «ep_config» = 0;
+  «ep_type» = 0;
+  «iso_out_eps» = 0;
+  «iso_in_every» = 0;
+  «iso_in_paced» = 0;
+  «sof_frame» = 0x1800;
+  «ep0_buf» = 0;
+  «ep0_max» = 0;
+  entered = 0;
+}
 
 -- no buffer used, no number taken: all but size and count is 0
 abbrev pub freshAllocator : ℕ → ℕ → Allocator
