@@ -30,7 +30,8 @@ use Rattle.model_ops.specs.Records.{plainOf}
 use Rattle.model_ops.specs.Rings.{St, waitingOn, roomOn, oldestAt, nextLen, oldestOn, takeOn, enqueueOn, filledOn}
 use Rattle.model_ops.specs.Concrete.{go}
 use Rattle.endpoint_common.specs.Records.{modifiedOn}
-use Rattle.endpoint_common.specs.Brought.{Brought, untouched, neither, brings}
+use Rattle.endpoint_common.specs.Answers.{lentAfter}
+use Rattle.endpoint_common.specs.Brought.{Brought, lends, untouched, neither, brings}
 use Rattle.endpoint_rows.specs.Rows.{refusalOf}
 use Rattle.endpoint_rows.specs.RowsLaws.{started, allocated, by-row}
 use Rattle.endpoint.specs.declared.Point.the-variants as point
@@ -104,6 +105,11 @@ Told r after d b out y = Brought (polledAs r after d b) after out y
 pub read-refused : (d : Driver) (b : List ℕ) (e n : ℕ) {k : ℕ} → k ≡ refusalOf d Out e → (k ≡ 0 → ⊥) → ends (Refused k) (d, b) ≡ go {i = false}
     (pollRead e n) d b
 read-refused d b e n {k} r h = refused d Out e k b _ r (ne-eqb k 0 h)
+
+-- what a run brought is what one brings that comes to the same
+pub onward : {x y z : tree.Out St Answer} {after : List ℕ} {S : Type 0} (out : List ℕ)
+    → y ≡ z → (x ≡ y) × ((after ≡ lentAfter y out) × S) → (x ≡ z) × ((after ≡ lentAfter z out) × S)
+onward out e h = (h .0 ∙ e, (h .1 .0 ∙ lends out e, h .1 .1))
 
 -- ---- the poll of an isochronous OUT
 

@@ -39,4 +39,6 @@ returns-4 : tie.Need-returns-4
 returns-4 c = simp (c .walked3 .ensures, c .before .enum-told .given .1)
 
 pub sof-as-spec : {M : Type 1} → statement M
-sof-as-spec = tie.close (tie.spec enum-known-p walked-requires enum-known-p-2 walked-requires-2 enum-known-p-3 complete-as-requires enum-told walked-requires-3 returns returns-2 returns-3 returns-4)
+sof-as-spec =
+    tie.close (tie.spec enum-known-p walked-requires enum-known-p-2 walked-requires-2 enum-known-p-3 complete-as-requires enum-told walked-requires-3
+    returns returns-2 returns-3 returns-4)

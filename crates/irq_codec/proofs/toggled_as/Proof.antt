@@ -39,4 +39,6 @@ returns-4 : tie.Need-returns-4
 returns-4 c = simp (c .looking4 .ensures, c .before .enum-told3 .given .1)
 
 pub toggled-as-spec : {M : Type 1} → statement M
-toggled-as-spec = tie.close (tie.spec enum-known-p looking-requires enum-told looking-requires-2 enum-told-2 looking-requires-3 enum-told-3 looking-requires-4 returns returns-2 returns-3 returns-4)
+toggled-as-spec =
+    tie.close (tie.spec enum-known-p looking-requires enum-told looking-requires-2 enum-told-2 looking-requires-3 enum-told-3 looking-requires-4
+    returns returns-2 returns-3 returns-4)

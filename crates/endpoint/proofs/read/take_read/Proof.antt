@@ -1,12 +1,29 @@
-use mathlib.Core.Path.{refl, _∙_}
+use mathlib.Core.Path.{_≡_, refl, _∙_}
+use mathlib.Core.Bool.{false}
 use lib.ListN.{length}
 use Rattle.regs.specs.declared.Dir.the-variants.{Out}
 use Rattle.state.specs.State.{view}
+use Rattle.model_ops.specs.Records.{plainOf}
+use Rattle.model_ops.specs.Concrete.{go}
 use Rattle.endpoint_common.specs.Brought.{lends}
-use Rattle.endpoint.proofs.Laws.{reads, poll-none, poll-other, poll-takes, picks, leaves}
+use Rattle.endpoint.specs.Points.{readOn}
+use Rattle.endpoint.proofs.Laws.{reads, poll-none, poll-other, poll-takes, picks, leaves, onward}
 use borrow.Author.Needs.{needs}
 use Rattle.endpoint.proofs.read.take_read.Statement.{statement}
 use Rattle.endpoint.proofs.read.take_read.Tie as tie
+
+-- past rows 15 and 10: what is taken, by the endpoint's record
+abbrev start : tie.After-load-ep → tie.Start
+start l = l .before .before .before .before .before .before .before .before .before .before
+
+takes : (l : tie.After-load-ep) → go {i = false} (reads (start l .args .e) (length (start l .args .out .now)) (plainOf (l .load-ep .result)))
+    (view (start l .args .s .now)) (start l .args .buf .now)
+    ≡ readOn (start l .args .e) (start l .args .out .now) (start l .args .s .now) (start l .args .buf .now)
+takes l =
+    let asked = l .before .before .before .before in
+    poll-takes Out (start l .args .e) (length (start l .args .out .now)) (reads (start l .args .e) (length (start l .args .out .now)))
+    (view (start l .args .s .now)) (start l .args .buf .now) (start l .pre)
+    (asked .before .before .load-request .ensures) (asked .before .is-on .ensures) (asked .if1 .left) (l .before .before .if2 .taken) _ (l .load-ep .ensures)
 
 load-request-requires : tie.Need-load-request-requires
 load-request-requires c κs = search needs
@@ -39,16 +56,9 @@ same-length c = search needs
 
 returns-2 : tie.Need-returns-2
 returns-2 c =
-    let asked = c .before .before .before .before .before .before .before .before .before .before .before in
-    let start = asked .before .before .before .before .before .before in
-    let is = picks _ _ (c .before .before .before .before .before .before .is-on2 .ensures) (c .before .before .before .before .before .if3 .taken)
-    ∙ poll-takes Out (start .args .e) (length (start .args .out .now)) (reads (start .args .e) (length (start .args .out .now)))
-    (view (start .args .s .now)) (start .args .buf .now) (start .pre)
-    (asked .before .before .load-request .ensures) (asked .before .is-on .ensures) (asked .if1 .left)
-    (c .before .before .before .before .before .before .before .before .before .if2 .taken) _
-    (c .before .before .before .before .before .before .before .load-ep .ensures) in
-    let taken = c .before .before .take-iso .ensures in
-    (taken .0 ∙ is, (taken .1 .0 ∙ lends (start .args .out .now) is, taken .1 .1))
+    let l = c .before .before .before .before .before .before .before in
+    onward (start l .args .out .now) (picks _ _ (c .before .before .before .before .before .before .is-on2 .ensures)
+    (c .before .before .before .before .before .if3 .taken) ∙ takes l) (c .before .before .take-iso .ensures)
 
 take-ready-requires : tie.Need-take-ready-requires
 take-ready-requires c κs = search needs
@@ -58,16 +68,9 @@ same-length-2 c = search needs
 
 returns-3 : tie.Need-returns-3
 returns-3 c =
-    let asked = c .before .before .before .before .before .before .before .before .before .before .before in
-    let start = asked .before .before .before .before .before .before in
-    let is = leaves _ _ (c .before .before .before .before .before .before .is-on2 .ensures) (c .before .before .before .before .before .if3 .left)
-    ∙ poll-takes Out (start .args .e) (length (start .args .out .now)) (reads (start .args .e) (length (start .args .out .now)))
-    (view (start .args .s .now)) (start .args .buf .now) (start .pre)
-    (asked .before .before .load-request .ensures) (asked .before .is-on .ensures) (asked .if1 .left)
-    (c .before .before .before .before .before .before .before .before .before .if2 .taken) _
-    (c .before .before .before .before .before .before .before .load-ep .ensures) in
-    let taken = c .before .before .take-ready .ensures in
-    (taken .0 ∙ is, (taken .1 .0 ∙ lends (start .args .out .now) is, taken .1 .1))
+    let l = c .before .before .before .before .before .before .before in
+    onward (start l .args .out .now) (leaves _ _ (c .before .before .before .before .before .before .is-on2 .ensures)
+    (c .before .before .before .before .before .if3 .left) ∙ takes l) (c .before .before .take-ready .ensures)
 
 unready-requires : tie.Need-unready-requires
 unready-requires c κs = search needs
