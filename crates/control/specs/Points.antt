@@ -20,12 +20,9 @@ use Rattle.model.specs.Control.{acks, wordBytes, closing-out}
 use Rattle.model_ops.specs.Rings.{St}
 use Rattle.model_ops.specs.Concrete.{concrete}
 use Rattle.endpoint_common.specs.Answers.{finished, front}
-use Rattle.model_points.specs.Numbers.{fits}
 use Rattle.model_points.specs.Results.{resultless}
 use Rattle.control.specs.declared.Point.{Point}
 use Rattle.control.specs.declared.Point.the-variants as point
-use Rattle.control.specs.declared.Next.{Next}
-use Rattle.control.specs.declared.Next.the-variants as next
 use Rattle.control.specs.declared.Begun.{Begun}
 use Rattle.control.specs.declared.Begun.the-variants as begun
 use Rattle.control.specs.declared.Polled.{Polled}
@@ -65,11 +62,6 @@ denote point.StallOut v = resultless (write EpRxCtrl 0 (stall v))
 denote (point.Closing n first) v = resultless (loaded n first)
 denote (point.Loaded first) v = resultless (acks In first)
 
--- the next access and the point at which it stops, or the result
-abbrev pub meaning : Next → Driver → List ℕ → tree.Out St ℕ
-meaning (next.Asks q p) d b = asks q (d, b) (λ v t. run concrete (denote p v) t)
-meaning (next.Ends n) d b = ends n (d, b)
-
 -- a begin's answer
 abbrev pub begunAs : Begun → Driver → List ℕ → tree.Out St Answer
 begunAs (begun.Refused n) d b = ends (Refused n) (d, b)
@@ -96,15 +88,7 @@ awaitsAt point.StallOut = reading (widthOf EpRxCtrl)
 awaitsAt (point.Closing n first) = nothing
 awaitsAt (point.Loaded first) = nothing
 
--- row 16 turned round
-unfoldable pub fitsAt : Point → ℕ → Bool
-fitsAt p v = fits (awaitsAt p) v
-
 -- what it awaits is the access handed out with it
-abbrev pub Linked : Next → Type 0
-Linked (next.Asks q p) = awaited q ≡ awaitsAt p
-Linked (next.Ends n) = Unit {0}
-
 abbrev pub LinkedBegun : Begun → Type 0
 LinkedBegun (begun.Refused n) = Unit {0}
 LinkedBegun (begun.Asks q p) = awaited q ≡ awaitsAt p

@@ -32,12 +32,6 @@ pub enum Point {
     Loaded(bool),
 }
 
-// The next access, or the operation's result.
-pub enum Next {
-    Asks(Access, Point),
-    Ends(u16),
-}
-
 pub enum Begun {
     Refused(u8),
     Asks(Access, Point),

@@ -22,7 +22,6 @@ use Rattle.model.specs.IsoIn as isoIn
 use Rattle.model.specs.Machine.{Awaits, nothing, reading, awaited}
 use Rattle.model_ops.specs.Rings.{St}
 use Rattle.model_ops.specs.Concrete.{concrete}
-use Rattle.model_points.specs.Numbers.{fits}
 use Rattle.driver.specs.declared.Point.{Point}
 use Rattle.driver.specs.declared.Point.the-variants as point
 use Rattle.driver.specs.declared.Next.{Next}
@@ -136,10 +135,6 @@ awaitsAt point.Ep0Packet = nothing
 awaitsAt point.FrameNo = reading (widthOf FrameNo)
 awaitsAt (point.ListMaxLen d kind ep left total) = nothing
 awaitsAt (point.ListPlace d ep left total) = nothing
-
--- row 16 turned round
-unfoldable pub fitsAt : Point → ℕ → Bool
-fitsAt p v = fits (awaitsAt p) v
 
 -- what it awaits is the access handed out with it
 abbrev pub Linked : Next → Type 0

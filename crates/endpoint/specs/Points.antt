@@ -1,6 +1,6 @@
 -- What is left to run at each point, and what the answers of reads and writes mean
 use mathlib.Core.Path.{_≡_}
-use mathlib.Core.Bool.{Bool, false}
+use mathlib.Core.Bool.{false}
 use mathlib.Core.List.{List}
 use Prim.Native.Nat.{ℕ}
 use lib.ListN.{length}
@@ -20,12 +20,9 @@ use Rattle.model.specs.Endpoint.{pollRead}
 use Rattle.model_ops.specs.Rings.{St}
 use Rattle.model_ops.specs.Concrete.{concrete, go}
 use Rattle.endpoint_common.specs.Answers.{finished, front}
-use Rattle.model_points.specs.Numbers.{fits}
 use Rattle.model_points.specs.Results.{resultless}
 use Rattle.endpoint.specs.declared.Point.{Point}
 use Rattle.endpoint.specs.declared.Point.the-variants as point
-use Rattle.endpoint.specs.declared.Next.{Next}
-use Rattle.endpoint.specs.declared.Next.the-variants as next
 use Rattle.endpoint.specs.declared.Begun.{Begun}
 use Rattle.endpoint.specs.declared.Begun.the-variants as begun
 use Rattle.endpoint.specs.declared.Polled.{Polled}
@@ -35,11 +32,6 @@ abbrev pub denote : Point → ℕ → Script false ℕ
 denote (point.Ack d e) v = resultless (write (ctrlOf d) e (ack v))
 denote point.Wrote v = ret {A = ℕ} 0
 denote (point.Loaded e) v = resultless (modifyReg EpTxCtrl e ack)
-
--- the next access and the point at which it stops, or the result
-abbrev pub meaning : Next → Driver → List ℕ → tree.Out St ℕ
-meaning (next.Asks q p) d b = asks q (d, b) (λ v t. run concrete (denote p v) t)
-meaning (next.Ends n) d b = ends n (d, b)
 
 -- a begin's answer
 abbrev pub begunAs : Begun → Driver → List ℕ → tree.Out St Answer
@@ -63,15 +55,7 @@ awaitsAt (point.Ack d e) = reading (widthOf EpTxCtrl)
 awaitsAt point.Wrote = nothing
 awaitsAt (point.Loaded e) = nothing
 
--- row 16 turned round
-unfoldable pub fitsAt : Point → ℕ → Bool
-fitsAt p v = fits (awaitsAt p) v
-
 -- what it awaits is the access handed out with it
-abbrev pub Linked : Next → Type 0
-Linked (next.Asks q p) = awaited q ≡ awaitsAt p
-Linked (next.Ends n) = Unit {0}
-
 abbrev pub LinkedBegun : Begun → Type 0
 LinkedBegun (begun.Refused n) = Unit {0}
 LinkedBegun (begun.Asks q p) = awaited q ≡ awaitsAt p

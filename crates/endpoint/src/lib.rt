@@ -20,12 +20,6 @@ pub enum Point {
     Loaded(u8), // ep_t_len is written
 }
 
-// The next access, or the operation's result.
-pub enum Next {
-    Asks(Access, Point),
-    Ends(u16),
-}
-
 pub enum Begun {
     Refused(u8),
     Asks(Access, Point),
