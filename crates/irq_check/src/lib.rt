@@ -24,10 +24,7 @@ pub mod setup; // setup.rt: a new control transfer
 
 ghost use mathlib.Core.Path.{_≡_};
 ghost use mathlib.Core.Bool.{true};
-ghost use mathlib.Core.List.{List};
-ghost use Prim.Native.Nat.{ℕ};
 ghost use Rattle.regs.specs.Registers.{fitsIn};
-ghost use Rattle.state.specs.State.{view};
 ghost use Rattle.model.specs.Tree.{bindOut};
 ghost use Rattle.model.specs.Script.{run};
 ghost use Rattle.model.specs.Handler.{movedOn};
@@ -36,11 +33,10 @@ ghost use Rattle.model_ops.specs.Concrete.{concrete};
 ghost use Rattle.irq.specs.Continuations.{finish, afterCheck, afterDispatch};
 ghost use Rattle.irq.specs.Points.{denote};
 ghost use Rattle.irq.specs.declared.Point.the-variants as Point;
-ghost use Rattle.irq_points.specs.Stands.{Stops, Pins};
+ghost use Rattle.irq_points.specs.Stands.{Advances, AdvancesWith, AdvancesFrom};
 
 pub fn after_moved_wrote(s: &mut State, d: Dir, setup: bool) -> u64
-    ensures { λ r. ⌜ ((v : ℕ) (b : List ℕ) → Stops r (now (s .exit)) b (denote (Point.MovedWrote d setup) v (view (now (s .entry)), b))) ⌝ }
-    ensures { λ r. ⌜ Pins r (now (s .exit)) ⌝ }
+    ensures { λ r. ⌜ AdvancesFrom r (Point.MovedWrote d setup) (now (s .entry)) (now (s .exit)) ⌝ }
 {
     let mut r = load_ep(s, d, 0);
     r.ready = 1;
@@ -52,16 +48,14 @@ pub fn after_moved_wrote(s: &mut State, d: Dir, setup: bool) -> u64
 
 pub fn after_moved_read(s: &mut State, d: Dir, setup: bool, v: u32) -> u64
     requires { ⌜ fitsIn v 8 ≡ true ⌝ }
-    ensures { λ r. ⌜ ((b : List ℕ) → Stops r (now (s .exit)) b (denote (Point.MovedRead d setup) v (view (now (s .entry)), b))) ⌝ }
-    ensures { λ r. ⌜ Pins r (now (s .exit)) ⌝ }
+    ensures { λ r. ⌜ Advances r (denote (Point.MovedRead d setup) v) (now (s .entry)) (now (s .exit)) ⌝ }
 {
     let word = control_word::nakflip(byte(v));
     stand_moved_wrote(s, Access::Write(ctrl_of(d), 0, word as u32), d, setup)
 }
 
 fn moved_on(s: &mut State, d: Dir, setup: bool) -> u64
-    ensures { λ r. ⌜ ((b : List ℕ) → Stops r (now (s .exit)) b (finish setup (run concrete (movedOn {i = true} d) (view (now (s .entry)), b)))) ⌝ }
-    ensures { λ r. ⌜ Pins r (now (s .exit)) ⌝ }
+    ensures { λ r. ⌜ Advances r (λ t. finish setup (run concrete (movedOn {i = true} d) t)) (now (s .entry)) (now (s .exit)) ⌝ }
 {
     let r = load_ep(s, d, 0);
     if is_on(r.armed) {
@@ -72,8 +66,7 @@ fn moved_on(s: &mut State, d: Dir, setup: bool) -> u64
 
 // The host's token for the other direction says that a stage went through (`ep0_moved_on`).
 pub fn ep0_moved_on(s: &mut State, setup: bool, x: Transfer) -> u64
-    ensures { λ r. ⌜ ((b : List ℕ) → Stops r (now (s .exit)) b (finish setup (run concrete (afterCheck x) (view (now (s .entry)), b)))) ⌝ }
-    ensures { λ r. ⌜ Pins r (now (s .exit)) ⌝ }
+    ensures { λ r. ⌜ Advances r (λ t. finish setup (run concrete (afterCheck x) t)) (now (s .entry)) (now (s .exit)) ⌝ }
 {
     if status::endpoint(x.st) == 0 {
         let t = status::token(x.st);
@@ -90,10 +83,9 @@ pub fn ep0_moved_on(s: &mut State, setup: bool, x: Transfer) -> u64
 // Where the check stops, or what follows it.
 fn checked(s: &mut State, buf: &[u8], e: Entry, n: CheckNext) -> u64
     requires { ⌜ checks.Linked n ⌝ }
-    ensures { λ r. ⌜ Stops r (now (s .exit)) (now (buf .entry))
-        (finish (e .setup) (bindOut (checks.meaning (e .x) (e .iso) n (view (now (s .entry))) (now (buf .entry)))
-        (λ _ u. run concrete (afterCheck (e .x)) u))) ⌝ }
-    ensures { λ r. ⌜ Pins r (now (s .exit)) ⌝ }
+    ensures { λ r. ⌜ AdvancesWith r (λ t. finish (e .setup)
+        (bindOut (checks.meaning (e .x) (e .iso) n (t .0) (t .1)) (λ _ u. run concrete (afterCheck (e .x)) u)))
+        (now (s .entry)) (now (buf .entry)) (now (s .exit)) (now (buf .entry)) ⌝ }
 {
     match n {
         CheckNext::Asks(q, p) => stand_check(s, q, e, p),
@@ -103,9 +95,8 @@ fn checked(s: &mut State, buf: &[u8], e: Entry, n: CheckNext) -> u64
 
 pub fn after_checking(s: &mut State, buf: &mut [u8], e: Entry, p: Check, v: u32) -> u64
     requires { ⌜ checks.fitsAt p v ≡ true ⌝ }
-    ensures { λ r. ⌜ Stops r (now (s .exit)) (now (buf .exit))
-        (denote (Point.Check (e .setup) (e .x) (e .iso) p) v (view (now (s .entry)), now (buf .entry))) ⌝ }
-    ensures { λ r. ⌜ Pins r (now (s .exit)) ⌝ }
+    ensures { λ r. ⌜ AdvancesWith r (denote (Point.Check (e .setup) (e .x) (e .iso) p) v)
+        (now (s .entry)) (now (buf .entry)) (now (s .exit)) (now (buf .exit)) ⌝ }
 {
     let n = iso_out::iso_out_check_resume(s, buf, e.x, e.iso, p, v);
     checked(s, buf, e, n)
@@ -113,9 +104,8 @@ pub fn after_checking(s: &mut State, buf: &mut [u8], e: Entry, p: Check, v: u32)
 
 // An OUT completes too early in its microframe to merge into the next SOF's entry (mod.rs 795-797).
 pub fn after_dispatch(s: &mut State, buf: &mut [u8], e: Entry) -> u64
-    ensures { λ r. ⌜ Stops r (now (s .exit)) (now (buf .exit))
-        (finish (e .setup) (run concrete (afterDispatch (e .x) (e .iso)) (view (now (s .entry)), now (buf .entry)))) ⌝ }
-    ensures { λ r. ⌜ Pins r (now (s .exit)) ⌝ }
+    ensures { λ r. ⌜ AdvancesWith r (λ t. finish (e .setup) (run concrete (afterDispatch (e .x) (e .iso)) t))
+        (now (s .entry)) (now (buf .entry)) (now (s .exit)) (now (buf .exit)) ⌝ }
 {
     if status::is_sof(e.x.st) {
         return after_transfer(s, e.setup);

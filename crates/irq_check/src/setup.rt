@@ -17,20 +17,17 @@ use state::store_ep;
 use state::store_globals;
 ghost use mathlib.Core.Path.{_≡_};
 ghost use mathlib.Core.Bool.{false};
-ghost use mathlib.Core.List.{List};
-ghost use Prim.Native.Nat.{ℕ};
 ghost use Rattle.regs.specs.Flags.{SETUP_ACT};
 ghost use Rattle.state.specs.Driver.{epOn, withOn, withGlobals};
 ghost use Rattle.state.specs.State.{view, saved};
 ghost use Rattle.model.specs.Tree.{asks};
 ghost use Rattle.model.specs.Script.{run};
 ghost use Rattle.model.specs.Statics.{withReady, withArmed, withSetup};
-ghost use Rattle.model_ops.specs.Concrete.{concrete, go};
+ghost use Rattle.model_ops.specs.Concrete.{concrete};
 ghost use Rattle.model_ops.specs.Records.{plainOf, merged, mergedGlobals};
 ghost use Rattle.irq.specs.Continuations.{resultless, nakWord, afterSetupReleased, afterSetupTx, afterTransfer};
-ghost use Rattle.irq.specs.Points.{denote};
 ghost use Rattle.irq.specs.declared.Point.the-variants as Point;
-ghost use Rattle.irq_points.specs.Stands.{Stops, Pins};
+ghost use Rattle.irq_points.specs.Stands.{Advances, AdvancesFrom, AdvancesFromWith};
 
 // NAK, DATA0.
 fn nak_word() -> u32
@@ -41,8 +38,7 @@ fn nak_word() -> u32
 
 // Whatever EP0 was doing is over.
 pub fn after_transfer(s: &mut State, setup: bool) -> u64
-    ensures { λ r. ⌜ ((b : List ℕ) → Stops r (now (s .exit)) b (go (resultless (afterTransfer setup)) (view (now (s .entry))) b)) ⌝ }
-    ensures { λ r. ⌜ Pins r (now (s .exit)) ⌝ }
+    ensures { λ r. ⌜ Advances r (run concrete (resultless (afterTransfer setup))) (now (s .entry)) (now (s .exit)) ⌝ }
 {
     if setup {
         return stand_setup_rx(s, nak_word());
@@ -51,8 +47,7 @@ pub fn after_transfer(s: &mut State, setup: bool) -> u64
 }
 
 pub fn after_setup_rx(s: &mut State) -> u64
-    ensures { λ r. ⌜ ((v : ℕ) (b : List ℕ) → Stops r (now (s .exit)) b (denote Point.SetupRx v (view (now (s .entry)), b))) ⌝ }
-    ensures { λ r. ⌜ Pins r (now (s .exit)) ⌝ }
+    ensures { λ r. ⌜ AdvancesFrom r Point.SetupRx (now (s .entry)) (now (s .exit)) ⌝ }
 {
     stand_setup_tx(s, nak_word())
 }
@@ -98,16 +93,14 @@ fn take(s: &mut State, buf: &[u8])
 
 // The packet is taken in the call that clears the flag.
 pub fn after_setup_tx(s: &mut State, buf: &[u8]) -> u64
-    ensures { λ r. ⌜ ((v : ℕ) → Stops r (now (s .exit)) (now (buf .entry)) (denote Point.SetupTx v (view (now (s .entry)), now (buf .entry)))) ⌝ }
-    ensures { λ r. ⌜ Pins r (now (s .exit)) ⌝ }
+    ensures { λ r. ⌜ AdvancesFromWith r Point.SetupTx (now (s .entry)) (now (buf .entry)) (now (s .exit)) (now (buf .entry)) ⌝ }
 {
     take(s, buf);
     stand_setup_released(s, flags::SETUP_ACT)
 }
 
 pub fn after_setup_released(s: &mut State) -> u64
-    ensures { λ r. ⌜ ((v : ℕ) (b : List ℕ) → Stops r (now (s .exit)) b (denote Point.SetupReleased v (view (now (s .entry)), b))) ⌝ }
-    ensures { λ r. ⌜ Pins r (now (s .exit)) ⌝ }
+    ensures { λ r. ⌜ AdvancesFrom r Point.SetupReleased (now (s .entry)) (now (s .exit)) ⌝ }
 {
     wake(s, Dir::Out, 0);
     wake(s, Dir::In, 0);

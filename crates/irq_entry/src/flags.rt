@@ -21,19 +21,15 @@ use state::set_int_en;
 use state::store_globals;
 ghost use mathlib.Core.Path.{_≡_};
 ghost use mathlib.Core.Bool.{true, false};
-ghost use mathlib.Core.List.{List};
-ghost use Prim.Native.Nat.{ℕ};
 ghost use Rattle.regs.specs.Registers.{fitsIn};
-ghost use Rattle.state.specs.State.{view};
-ghost use Rattle.model_ops.specs.Concrete.{go};
+ghost use Rattle.model.specs.Script.{run};
+ghost use Rattle.model_ops.specs.Concrete.{concrete};
 ghost use Rattle.irq.specs.Continuations.{resultless, afterFrame, afterFlags, afterBusRst, afterSuspend, afterFifo, afterHost};
-ghost use Rattle.irq.specs.Points.{denote};
 ghost use Rattle.irq.specs.declared.Point.the-variants as Point;
-ghost use Rattle.irq_points.specs.Stands.{Stops, Pins};
+ghost use Rattle.irq_points.specs.Stands.{Advances, AdvancesFrom};
 
 pub fn after_host(s: &mut State, f: u8) -> u64
-    ensures { λ r. ⌜ ((b : List ℕ) → Stops r (now (s .exit)) b (go (resultless (afterHost f)) (view (now (s .entry))) b)) ⌝ }
-    ensures { λ r. ⌜ Pins r (now (s .exit)) ⌝ }
+    ensures { λ r. ⌜ Advances r (run concrete (resultless (afterHost f))) (now (s .entry)) (now (s .exit)) ⌝ }
 {
     let setup = flags::setup_act(f);
     if flags::transfer(f) {
@@ -43,8 +39,7 @@ pub fn after_host(s: &mut State, f: u8) -> u64
 }
 
 pub fn after_fifo(s: &mut State, f: u8) -> u64
-    ensures { λ r. ⌜ ((b : List ℕ) → Stops r (now (s .exit)) b (go (resultless (afterFifo f)) (view (now (s .entry))) b)) ⌝ }
-    ensures { λ r. ⌜ Pins r (now (s .exit)) ⌝ }
+    ensures { λ r. ⌜ Advances r (run concrete (resultless (afterFifo f))) (now (s .entry)) (now (s .exit)) ⌝ }
 {
     if flags::hst_sof(f) {
         return stand_host(s, flags::HST_SOF, f);
@@ -53,8 +48,7 @@ pub fn after_fifo(s: &mut State, f: u8) -> u64
 }
 
 fn fifo(s: &mut State, f: u8) -> u64
-    ensures { λ r. ⌜ ((b : List ℕ) → Stops r (now (s .exit)) b (go (resultless (afterSuspend f)) (view (now (s .entry))) b)) ⌝ }
-    ensures { λ r. ⌜ Pins r (now (s .exit)) ⌝ }
+    ensures { λ r. ⌜ Advances r (run concrete (resultless (afterSuspend f))) (now (s .entry)) (now (s .exit)) ⌝ }
 {
     if flags::fifo_ov(f) {
         return stand_fifo(s, flags::FIFO_OV, f);
@@ -64,8 +58,7 @@ fn fifo(s: &mut State, f: u8) -> u64
 
 // The bus is woken after the mask (mod.rs 647).
 pub fn after_suspend(s: &mut State, f: u8) -> u64
-    ensures { λ r. ⌜ ((v : ℕ) (b : List ℕ) → Stops r (now (s .exit)) b (denote (Point.Suspend f) v (view (now (s .entry)), b))) ⌝ }
-    ensures { λ r. ⌜ Pins r (now (s .exit)) ⌝ }
+    ensures { λ r. ⌜ AdvancesFrom r (Point.Suspend f) (now (s .entry)) (now (s .exit)) ⌝ }
 {
     wake_bus(s);
     fifo(s, f)
@@ -73,8 +66,7 @@ pub fn after_suspend(s: &mut State, f: u8) -> u64
 
 // The interrupt is masked: the main thread handles it (mod.rs 644-648).
 fn suspend(s: &mut State, f: u8) -> u64
-    ensures { λ r. ⌜ ((b : List ℕ) → Stops r (now (s .exit)) b (go (resultless (afterBusRst f)) (view (now (s .entry))) b)) ⌝ }
-    ensures { λ r. ⌜ Pins r (now (s .exit)) ⌝ }
+    ensures { λ r. ⌜ Advances r (run concrete (resultless (afterBusRst f))) (now (s .entry)) (now (s .exit)) ⌝ }
 {
     if flags::suspend(f) {
         let g = load_globals(s);
@@ -86,8 +78,7 @@ fn suspend(s: &mut State, f: u8) -> u64
 }
 
 pub fn after_bus_rst(s: &mut State, f: u8) -> u64
-    ensures { λ r. ⌜ ((v : ℕ) (b : List ℕ) → Stops r (now (s .exit)) b (denote (Point.BusRst f) v (view (now (s .entry)), b))) ⌝ }
-    ensures { λ r. ⌜ Pins r (now (s .exit)) ⌝ }
+    ensures { λ r. ⌜ AdvancesFrom r (Point.BusRst f) (now (s .entry)) (now (s .exit)) ⌝ }
 {
     wake_bus(s);
     suspend(s, f)
@@ -95,8 +86,7 @@ pub fn after_bus_rst(s: &mut State, f: u8) -> u64
 
 pub fn after_flags(s: &mut State, v: u32) -> u64
     requires { ⌜ fitsIn v 8 ≡ true ⌝ }
-    ensures { λ r. ⌜ ((b : List ℕ) → Stops r (now (s .exit)) b (go (resultless (afterFlags v)) (view (now (s .entry))) b)) ⌝ }
-    ensures { λ r. ⌜ Pins r (now (s .exit)) ⌝ }
+    ensures { λ r. ⌜ Advances r (run concrete (resultless (afterFlags v))) (now (s .entry)) (now (s .exit)) ⌝ }
 {
     let f = byte(v);
     if flags::bus_rst(f) {
@@ -111,8 +101,7 @@ pub fn after_flags(s: &mut State, v: u32) -> u64
 // The microframe in which the interrupt began: what it admits carries it.
 pub fn after_frame(s: &mut State, v: u32) -> u64
     requires { ⌜ fitsIn v 16 ≡ true ⌝ }
-    ensures { λ r. ⌜ ((b : List ℕ) → Stops r (now (s .exit)) b (go (resultless (afterFrame v)) (view (now (s .entry))) b)) ⌝ }
-    ensures { λ r. ⌜ Pins r (now (s .exit)) ⌝ }
+    ensures { λ r. ⌜ Advances r (run concrete (resultless (afterFrame v))) (now (s .entry)) (now (s .exit)) ⌝ }
 {
     let frame = short(v);
     let i = microframe_index(Frame(frame));

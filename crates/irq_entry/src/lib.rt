@@ -31,11 +31,8 @@ pub mod flags; // flags.rt: the microframe, the flags but the setup's
 
 ghost use mathlib.Core.Path.{_≡_};
 ghost use mathlib.Core.Bool.{true, false};
-ghost use mathlib.Core.List.{List};
-ghost use Prim.Native.Nat.{ℕ};
 ghost use Rattle.regs.specs.Registers.{fitsIn};
 ghost use Rattle.regs.specs.Status.{token};
-ghost use Rattle.state.specs.State.{view};
 ghost use Rattle.model.specs.Tree.{bindOut};
 ghost use Rattle.model.specs.Script.{run};
 ghost use Rattle.model.specs.Handler as script;
@@ -46,7 +43,7 @@ ghost use Rattle.model_ops.specs.Records.{plainOf};
 ghost use Rattle.irq.specs.Continuations.{finish, naksFirst, enteredAs, afterNak, afterRelease, afterSettle};
 ghost use Rattle.irq.specs.Points.{denote};
 ghost use Rattle.irq.specs.declared.Point.the-variants as Point;
-ghost use Rattle.irq_points.specs.Stands.{Stops, Pins};
+ghost use Rattle.irq_points.specs.Stands.{Advances};
 
 // `iso` (mod.rs 718-722).
 fn iso_for(st: u8, o: EpState, n: EpState) -> bool
@@ -62,8 +59,7 @@ fn iso_for(st: u8, o: EpState, n: EpState) -> bool
 }
 
 fn after_settle(s: &mut State, setup: bool, x: Transfer) -> u64
-    ensures { λ r. ⌜ ((b : List ℕ) → Stops r (now (s .exit)) b (finish setup (run concrete (afterSettle x) (view (now (s .entry)), b)))) ⌝ }
-    ensures { λ r. ⌜ Pins r (now (s .exit)) ⌝ }
+    ensures { λ r. ⌜ Advances r (λ t. finish setup (run concrete (afterSettle x) t)) (now (s .entry)) (now (s .exit)) ⌝ }
 {
     let ep = status::endpoint(x.st);
     let o = load_ep(s, Dir::Out, ep);
@@ -79,9 +75,8 @@ fn after_settle(s: &mut State, setup: bool, x: Transfer) -> u64
 
 fn then_settle(s: &mut State, setup: bool, x: Transfer, n: SettleNext) -> u64
     requires { ⌜ settles.Linked n ⌝ }
-    ensures { λ r. ⌜ ((b : List ℕ) → Stops r (now (s .exit)) b
-        (finish setup (bindOut (settles.meaning x n (view (now (s .entry))) b) (λ y u. run concrete (afterSettle y) u)))) ⌝ }
-    ensures { λ r. ⌜ Pins r (now (s .exit)) ⌝ }
+    ensures { λ r. ⌜ Advances r (λ t. finish setup (bindOut (settles.meaning x n (t .0) (t .1)) (λ y u. run concrete (afterSettle y) u)))
+        (now (s .entry)) (now (s .exit)) ⌝ }
 {
     match n {
         SettleNext::Asks(q, p) => stand_settle(s, q, setup, x, p),
@@ -91,16 +86,14 @@ fn then_settle(s: &mut State, setup: bool, x: Transfer, n: SettleNext) -> u64
 
 pub fn after_settling(s: &mut State, setup: bool, x: Transfer, p: Settle, v: u32) -> u64
     requires { ⌜ settles.fitsAt p v ≡ true ⌝ }
-    ensures { λ r. ⌜ ((b : List ℕ) → Stops r (now (s .exit)) b (denote (Point.Settle setup x p) v (view (now (s .entry)), b))) ⌝ }
-    ensures { λ r. ⌜ Pins r (now (s .exit)) ⌝ }
+    ensures { λ r. ⌜ Advances r (denote (Point.Settle setup x p) v) (now (s .entry)) (now (s .exit)) ⌝ }
 {
     let n = settle::resume(s, x, p, v);
     then_settle(s, setup, x, n)
 }
 
 pub fn after_released(s: &mut State, setup: bool, x: Transfer) -> u64
-    ensures { λ r. ⌜ ((b : List ℕ) → Stops r (now (s .exit)) b (finish setup (run concrete (afterRelease x) (view (now (s .entry)), b)))) ⌝ }
-    ensures { λ r. ⌜ Pins r (now (s .exit)) ⌝ }
+    ensures { λ r. ⌜ Advances r (λ t. finish setup (run concrete (afterRelease x) t)) (now (s .entry)) (now (s .exit)) ⌝ }
 {
     let n = settle::begin(s, x);
     match n {
@@ -111,17 +104,15 @@ pub fn after_released(s: &mut State, setup: bool, x: Transfer) -> u64
 
 // Released early: int_st and rx_len are read (mod.rs 666-667).
 fn release(s: &mut State, setup: bool, x: Transfer) -> u64
-    ensures { λ r. ⌜ ((b : List ℕ) → Stops r (now (s .exit)) b (finish setup (run concrete (afterNak x) (view (now (s .entry)), b)))) ⌝ }
-    ensures { λ r. ⌜ Pins r (now (s .exit)) ⌝ }
+    ensures { λ r. ⌜ Advances r (λ t. finish setup (run concrete (afterNak x) t)) (now (s .entry)) (now (s .exit)) ⌝ }
 {
     stand_released(s, TRANSFER, setup, x)
 }
 
 fn then_nak(s: &mut State, setup: bool, x: Transfer, n: NakNext) -> u64
     requires { ⌜ naks.Linked n ⌝ }
-    ensures { λ r. ⌜ ((b : List ℕ) → Stops r (now (s .exit)) b
-        (finish setup (bindOut (naks.meaning (x .st) n (view (now (s .entry))) b) (λ _ u. run concrete (afterNak x) u)))) ⌝ }
-    ensures { λ r. ⌜ Pins r (now (s .exit)) ⌝ }
+    ensures { λ r. ⌜ Advances r (λ t. finish setup (bindOut (naks.meaning (x .st) n (t .0) (t .1)) (λ _ u. run concrete (afterNak x) u)))
+        (now (s .entry)) (now (s .exit)) ⌝ }
 {
     match n {
         NakNext::Asks(q, p) => stand_nak(s, q, setup, x, p),
@@ -131,8 +122,7 @@ fn then_nak(s: &mut State, setup: bool, x: Transfer, n: NakNext) -> u64
 
 pub fn after_naking(s: &mut State, setup: bool, x: Transfer, p: Nak, v: u32) -> u64
     requires { ⌜ naks.fitsAt p v ≡ true ⌝ }
-    ensures { λ r. ⌜ ((b : List ℕ) → Stops r (now (s .exit)) b (denote (Point.Nak setup x p) v (view (now (s .entry)), b))) ⌝ }
-    ensures { λ r. ⌜ Pins r (now (s .exit)) ⌝ }
+    ensures { λ r. ⌜ Advances r (denote (Point.Nak setup x p) v) (now (s .entry)) (now (s .exit)) ⌝ }
 {
     let n = nak::nak_non_iso_resume(x.st, p, v);
     then_nak(s, setup, x, n)
@@ -165,8 +155,7 @@ fn entered(busy: bool, st: u8, len: u16) -> Transfer
 
 pub fn after_len(s: &mut State, setup: bool, busy: bool, st: u8, v: u32) -> u64
     requires { ⌜ fitsIn v 16 ≡ true ⌝ }
-    ensures { λ r. ⌜ ((b : List ℕ) → Stops r (now (s .exit)) b (denote (Point.Len setup busy st) v (view (now (s .entry)), b))) ⌝ }
-    ensures { λ r. ⌜ Pins r (now (s .exit)) ⌝ }
+    ensures { λ r. ⌜ Advances r (denote (Point.Len setup busy st) v) (now (s .entry)) (now (s .exit)) ⌝ }
 {
     let x = entered(busy, st, short(v));
     if naks_first(busy, st) {
@@ -182,16 +171,14 @@ pub fn after_len(s: &mut State, setup: bool, busy: bool, st: u8, v: u32) -> u64
 
 pub fn after_st(s: &mut State, setup: bool, busy: bool, v: u32) -> u64
     requires { ⌜ fitsIn v 8 ≡ true ⌝ }
-    ensures { λ r. ⌜ ((b : List ℕ) → Stops r (now (s .exit)) b (denote (Point.St setup busy) v (view (now (s .entry)), b))) ⌝ }
-    ensures { λ r. ⌜ Pins r (now (s .exit)) ⌝ }
+    ensures { λ r. ⌜ Advances r (denote (Point.St setup busy) v) (now (s .entry)) (now (s .exit)) ⌝ }
 {
     stand_len(s, setup, busy, byte(v))
 }
 
 pub fn after_mis(s: &mut State, setup: bool, v: u32) -> u64
     requires { ⌜ fitsIn v 8 ≡ true ⌝ }
-    ensures { λ r. ⌜ ((b : List ℕ) → Stops r (now (s .exit)) b (denote (Point.Mis setup) v (view (now (s .entry)), b))) ⌝ }
-    ensures { λ r. ⌜ Pins r (now (s .exit)) ⌝ }
+    ensures { λ r. ⌜ Advances r (denote (Point.Mis setup) v) (now (s .entry)) (now (s .exit)) ⌝ }
 {
     let busy = !mis_status::sie_free(byte(v));
     stand_st(s, setup, busy)

@@ -5,12 +5,13 @@ use mathlib.Core.Path.{_≡_}
 use Prim.Native.Nat.{ℕ}
 use Rattle.regs.specs.declared.Access.{Access}
 use Rattle.state.specs.State.{view, saved}
-use Rattle.model.specs.Tree.{Out, bindOut}
+use Rattle.model.specs.Tree.{Out, Prog, bindOut}
 use Rattle.model.specs.Script.{run}
 use Rattle.model.specs.Machine.{Buf}
 use Rattle.model_ops.specs.Rings.{St}
 use Rattle.model_ops.specs.Concrete.{concrete}
 use Rattle.irq.specs.declared.Point.{Point}
+use Rattle.irq.specs.Points.{denote}
 use Rattle.machine.specs.declared.Suspended.the-variants as under
 use Rattle.machine.specs.Suspended.{finish, haltsAs, machineOf, answerOf, SavedByAnswer, Stored}
 use Rattle.machine.specs.Stands.{StandsAt, Resumes}
@@ -36,6 +37,21 @@ Pins r ys = Encodes r (stepOf r) × Stored (stepOf r) ys
 
 abbrev pub PinsFrom : ℕ → List ℕ → List ℕ → Type 0
 PinsFrom r xs ys = Encodes r (stepOf r) × SavedByAnswer (stepOf r) xs ys
+
+-- what each call of the interrupt ensures that runs f from the bytes xs: its word and the bytes ys are where f stops, and pinned. Any slots stay
+abbrev pub Advances : ℕ → Prog St ℕ → List ℕ → List ℕ → Type 0
+Advances r f xs ys = ((b : Buf) → Stops r ys b (f (view xs, b))) × Pins r ys
+
+-- with the slots, b before and after it
+abbrev pub AdvancesWith : ℕ → Prog St ℕ → List ℕ → Buf → List ℕ → Buf → Type 0
+AdvancesWith r f xs b ys after = Stops r ys after (f (view xs, b)) × Pins r ys
+
+-- from a point, whatever number is brought
+abbrev pub AdvancesFrom : ℕ → Point → List ℕ → List ℕ → Type 0
+AdvancesFrom r p xs ys = ((v : ℕ) (b : Buf) → Stops r ys b (denote p v (view xs, b))) × Pins r ys
+
+abbrev pub AdvancesFromWith : ℕ → Point → List ℕ → Buf → List ℕ → Buf → Type 0
+AdvancesFromWith r p xs b ys after = ((v : ℕ) → Stops r ys after (denote p v (view xs, b))) × Pins r ys
 
 -- what is saved is the interrupt's point with this number
 pub record AtSite (number : ℕ) (xs : List ℕ) : Type 0 where

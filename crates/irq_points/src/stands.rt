@@ -34,8 +34,6 @@ use state::nothing;
 use state::store_saved;
 ghost use mathlib.Core.Path.{_≡_};
 ghost use mathlib.Core.Bool.{false};
-ghost use mathlib.Core.List.{List};
-ghost use Prim.Native.Nat.{ℕ};
 ghost use Rattle.state.specs.State.{view, saved};
 ghost use Rattle.model.specs.Tree.{ends};
 ghost use Rattle.regs.specs.declared.Access.the-variants as Access;
@@ -45,7 +43,7 @@ ghost use Rattle.irq_codec.specs.Codec as codec;
 ghost use Rattle.machine.specs.declared.Step.the-variants as Step;
 ghost use Rattle.machine.specs.Suspended.{withTag};
 ghost use Rattle.call_answer_word.specs.Word.{Encodes};
-ghost use Rattle.irq_points.specs.Stands.{Stands, Stops, Pins};
+ghost use Rattle.irq_points.specs.Stands.{Stands, Advances};
 
 // What is saved of a point, under the interrupt's tag.
 fn store(s: &mut State, p: Saved)
@@ -274,8 +272,7 @@ pub fn stand_setup_released(s: &mut State, value: u32) -> u64
 
 // The interrupt has ended: nothing is under way, and its wake-ups are answered.
 pub fn stop(s: &mut State) -> u64
-    ensures { λ r. ⌜ ((b : List ℕ) → Stops r (now (s .exit)) b (ends 0 (view (now (s .entry)), b))) ⌝ }
-    ensures { λ r. ⌜ Pins r (now (s .exit)) ⌝ }
+    ensures { λ r. ⌜ Advances r (λ t. ends 0 t) (now (s .entry)) (now (s .exit)) ⌝ }
 {
     store_saved(s, nothing());
     let k = how_many(s);

@@ -9,11 +9,10 @@ use state::load_globals;
 ghost use mathlib.Core.Path.{_≡_};
 ghost use mathlib.Core.Bool.{true};
 ghost use Rattle.regs.specs.Registers.{fitsIn};
-ghost use Rattle.state.specs.State.{view};
 ghost use Rattle.model.specs.Handler as script;
 ghost use Rattle.irq.specs.Points.{denote};
 ghost use Rattle.irq.specs.declared.Point.the-variants as Point;
-ghost use Rattle.irq_points.specs.Stands.{Stops, Pins};
+ghost use Rattle.irq_points.specs.Stands.{AdvancesWith};
 
 // With this microframe's SOF handled, an isochronous IN's entry is its own (mod.rs 724-728).
 fn own_in(x: Transfer, iso: bool, sof: u16, frame: u16) -> bool
@@ -48,9 +47,8 @@ fn framed(x: Transfer, iso: bool, sof: u16, frame: u16) -> Transfer
 
 pub fn after_frame_no(s: &mut State, buf: &mut [u8], e: Entry, v: u32) -> u64
     requires { ⌜ fitsIn v 16 ≡ true ⌝ }
-    ensures { λ r. ⌜ Stops r (now (s .exit)) (now (buf .exit))
-        (denote (Point.FrameNo (e .setup) (e .x) (e .iso)) v (view (now (s .entry)), now (buf .entry))) ⌝ }
-    ensures { λ r. ⌜ Pins r (now (s .exit)) ⌝ }
+    ensures { λ r. ⌜ AdvancesWith r (denote (Point.FrameNo (e .setup) (e .x) (e .iso)) v)
+        (now (s .entry)) (now (buf .entry)) (now (s .exit)) (now (buf .exit)) ⌝ }
 {
     let frame = short(v);
     let g = load_globals(s);

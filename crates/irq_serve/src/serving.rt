@@ -16,8 +16,6 @@ use state::State;
 use state::load_globals;
 ghost use mathlib.Core.Path.{_≡_};
 ghost use mathlib.Core.Bool.{true, false};
-ghost use Prim.Native.Nat.{ℕ};
-ghost use Rattle.state.specs.State.{view};
 ghost use Rattle.model.specs.Tree.{bindOut};
 ghost use Rattle.model.specs.Script.{run};
 ghost use Rattle.iso_in.specs.Sof as sofs;
@@ -26,15 +24,12 @@ ghost use Rattle.model_ops.specs.Concrete.{concrete};
 ghost use Rattle.irq.specs.Continuations.{finish, sofDue, afterLate, afterSof, serving};
 ghost use Rattle.irq.specs.Points.{denote};
 ghost use Rattle.irq.specs.declared.Point.the-variants as Point;
-ghost use Rattle.irq_points.specs.Stands.{Stops, Pins};
+ghost use Rattle.irq_points.specs.Stands.{AdvancesWith, AdvancesFromWith};
 
 // A transaction that is still on the bus is left to its own entry (mod.rs 748).
 fn after_late(s: &mut State, buf: &mut [u8], e: Entry) -> u64
-    ensures { λ r. ⌜ Stops r (now (s .exit)) (now (buf .exit)) (finish (e .setup) (run concrete (afterLate (e .x) (e .iso) (e .frame)) (
-      view (now (s .entry)),
-      now (buf .entry),
-    ))) ⌝ }
-    ensures { λ r. ⌜ Pins r (now (s .exit)) ⌝ }
+    ensures { λ r. ⌜ AdvancesWith r (λ t. finish (e .setup) (run concrete (afterLate (e .x) (e .iso) (e .frame)) t))
+        (now (s .entry)) (now (buf .entry)) (now (s .exit)) (now (buf .exit)) ⌝ }
 {
     if e.x.busy {
         return after_dispatch(s, buf, e);
@@ -44,9 +39,9 @@ fn after_late(s: &mut State, buf: &mut [u8], e: Entry) -> u64
 
 fn then_late(s: &mut State, buf: &mut [u8], e: Entry, n: LateNext) -> u64
     requires { ⌜ lates.Linked n ⌝ }
-    ensures { λ r. ⌜ Stops r (now (s .exit)) (now (buf .exit)) (finish (e .setup)
-        (bindOut (lates.meaning (e .frame) n (view (now (s .entry))) (now (buf .entry))) (λ _ u. run concrete (afterLate (e .x) (e .iso) (e .frame)) u))) ⌝ }
-    ensures { λ r. ⌜ Pins r (now (s .exit)) ⌝ }
+    ensures { λ r. ⌜ AdvancesWith r (λ t. finish (e .setup)
+        (bindOut (lates.meaning (e .frame) n (t .0) (t .1)) (λ _ u. run concrete (afterLate (e .x) (e .iso) (e .frame)) u)))
+        (now (s .entry)) (now (buf .entry)) (now (s .exit)) (now (buf .exit)) ⌝ }
 {
     match n {
         LateNext::Asks(q, p) => stand_late(s, q, e, p),
@@ -55,11 +50,8 @@ fn then_late(s: &mut State, buf: &mut [u8], e: Entry, n: LateNext) -> u64
 }
 
 pub fn after_completions(s: &mut State, buf: &mut [u8], e: Entry, p: Late) -> u64
-    ensures { λ r. ⌜ ((v : ℕ) → Stops r (now (s .exit)) (now (buf .exit)) (denote (Point.Late (e .setup) (e .x) (e .iso) (e .frame) p) v (
-      view (now (s .entry)),
-      now (buf .entry),
-    ))) ⌝ }
-    ensures { λ r. ⌜ Pins r (now (s .exit)) ⌝ }
+    ensures { λ r. ⌜ AdvancesFromWith r (Point.Late (e .setup) (e .x) (e .iso) (e .frame) p)
+        (now (s .entry)) (now (buf .entry)) (now (s .exit)) (now (buf .exit)) ⌝ }
 {
     let n = late::resume(s, e.frame, p);
     then_late(s, buf, e, n)
@@ -67,11 +59,8 @@ pub fn after_completions(s: &mut State, buf: &mut [u8], e: Entry, p: Late) -> u6
 
 // What raised a late entry completed before the OUT (mod.rs 735-747).
 fn after_sof(s: &mut State, buf: &mut [u8], e: Entry) -> u64
-    ensures { λ r. ⌜ Stops r (now (s .exit)) (now (buf .exit)) (finish (e .setup) (run concrete (afterSof (e .x) (e .iso) (e .frame)) (
-      view (now (s .entry)),
-      now (buf .entry),
-    ))) ⌝ }
-    ensures { λ r. ⌜ Pins r (now (s .exit)) ⌝ }
+    ensures { λ r. ⌜ AdvancesWith r (λ t. finish (e .setup) (run concrete (afterSof (e .x) (e .iso) (e .frame)) t))
+        (now (s .entry)) (now (buf .entry)) (now (s .exit)) (now (buf .exit)) ⌝ }
 {
     if e.x.late {
         let n = late::begin(s, e.frame);
@@ -82,10 +71,9 @@ fn after_sof(s: &mut State, buf: &mut [u8], e: Entry) -> u64
 
 fn then_sof(s: &mut State, buf: &mut [u8], e: Entry, n: SofNext) -> u64
     requires { ⌜ sofs.Linked n ⌝ }
-    ensures { λ r. ⌜ Stops r (now (s .exit)) (now (buf .exit))
-        (finish (e .setup) (bindOut (sofs.meaning (e .frame) n (view (now (s .entry))) (now (buf .entry)))
-        (λ _ u. run concrete (afterSof (e .x) (e .iso) (e .frame)) u))) ⌝ }
-    ensures { λ r. ⌜ Pins r (now (s .exit)) ⌝ }
+    ensures { λ r. ⌜ AdvancesWith r (λ t. finish (e .setup)
+        (bindOut (sofs.meaning (e .frame) n (t .0) (t .1)) (λ _ u. run concrete (afterSof (e .x) (e .iso) (e .frame)) u)))
+        (now (s .entry)) (now (buf .entry)) (now (s .exit)) (now (buf .exit)) ⌝ }
 {
     match n {
         SofNext::Asks(q, p) => stand_sof(s, q, e, p),
@@ -95,9 +83,8 @@ fn then_sof(s: &mut State, buf: &mut [u8], e: Entry, n: SofNext) -> u64
 
 pub fn after_on_sof(s: &mut State, buf: &mut [u8], e: Entry, p: Sof, v: u32) -> u64
     requires { ⌜ sofs.fitsAt p v ≡ true ⌝ }
-    ensures { λ r. ⌜ Stops r (now (s .exit)) (now (buf .exit))
-        (denote (Point.Sof (e .setup) (e .x) (e .iso) (e .frame) p) v (view (now (s .entry)), now (buf .entry))) ⌝ }
-    ensures { λ r. ⌜ Pins r (now (s .exit)) ⌝ }
+    ensures { λ r. ⌜ AdvancesWith r (denote (Point.Sof (e .setup) (e .x) (e .iso) (e .frame) p) v)
+        (now (s .entry)) (now (buf .entry)) (now (s .exit)) (now (buf .exit)) ⌝ }
 {
     let n = sof::on_sof_resume(s, e.frame, p, v);
     then_sof(s, buf, e, n)
@@ -114,9 +101,8 @@ fn sof_due(x: Transfer, sof: u16, frame: u16) -> bool
 
 // The flag is one bit: a late entry also stands for the SOF (mod.rs 729-733).
 pub fn serve(s: &mut State, buf: &mut [u8], e: Entry) -> u64
-    ensures { λ r. ⌜ Stops r (now (s .exit)) (now (buf .exit))
-        (finish (e .setup) (run concrete (serving (e .x) (e .iso) (e .frame)) (view (now (s .entry)), now (buf .entry)))) ⌝ }
-    ensures { λ r. ⌜ Pins r (now (s .exit)) ⌝ }
+    ensures { λ r. ⌜ AdvancesWith r (λ t. finish (e .setup) (run concrete (serving (e .x) (e .iso) (e .frame)) t))
+        (now (s .entry)) (now (buf .entry)) (now (s .exit)) (now (buf .exit)) ⌝ }
 {
     let g = load_globals(s);
     if sof_due(e.x, g.sof_frame, e.frame) {

@@ -48,7 +48,7 @@ ghost use Rattle.model_ops.specs.Concrete.{concrete, go};
 ghost use Rattle.irq.specs.Continuations.{afterArm, flipDone, passed, afterToggled};
 ghost use Rattle.irq.specs.Points.{denote};
 ghost use Rattle.irq.specs.declared.Point.the-variants as Point;
-ghost use Rattle.irq_points.specs.Stands.{Stops, Pins};
+ghost use Rattle.irq_points.specs.Stands.{Advances, AdvancesWith, AdvancesFromWith};
 
 // A packet arrived (mod.rs 767-770).
 fn received(s: &mut State, ep: u8, len: u16)
@@ -100,11 +100,7 @@ fn flip_done(s: &mut State, d: Dir, len: u16)
 }
 
 pub fn after_flipped(s: &mut State, buf: &mut [u8], d: Dir, e: Entry) -> u64
-    ensures { λ r. ⌜ ((v : ℕ) → Stops r (now (s .exit)) (now (buf .exit)) (denote (Point.Flipped d (e .setup) (e .x) (e .iso)) v (
-      view (now (s .entry)),
-      now (buf .entry),
-    ))) ⌝ }
-    ensures { λ r. ⌜ Pins r (now (s .exit)) ⌝ }
+    ensures { λ r. ⌜ AdvancesFromWith r (Point.Flipped d (e .setup) (e .x) (e .iso)) (now (s .entry)) (now (buf .entry)) (now (s .exit)) (now (buf .exit)) ⌝ }
 {
     flip_done(s, d, e.x.len);
     after_dispatch(s, buf, e)
@@ -112,8 +108,7 @@ pub fn after_flipped(s: &mut State, buf: &mut [u8], d: Dir, e: Entry) -> u64
 
 pub fn after_flip(s: &mut State, d: Dir, e: Entry, v: u32) -> u64
     requires { ⌜ fitsIn v 8 ≡ true ⌝ }
-    ensures { λ r. ⌜ ((b : List ℕ) → Stops r (now (s .exit)) b (denote (Point.Flip d (e .setup) (e .x) (e .iso)) v (view (now (s .entry)), b))) ⌝ }
-    ensures { λ r. ⌜ Pins r (now (s .exit)) ⌝ }
+    ensures { λ r. ⌜ Advances r (denote (Point.Flip d (e .setup) (e .x) (e .iso)) v) (now (s .entry)) (now (s .exit)) ⌝ }
 {
     let word = control_word::flip(byte(v));
     stand_flipped(s, Access::Write(ctrl_of(d), 0, word as u32), d, e)
@@ -121,9 +116,8 @@ pub fn after_flip(s: &mut State, d: Dir, e: Entry, v: u32) -> u64
 
 // What follows `toggled`: a packet went through, or the endpoint stays as it is.
 fn after_passing(s: &mut State, buf: &mut [u8], d: Dir, e: Entry, b: bool) -> u64
-    ensures { λ r. ⌜ Stops r (now (s .exit)) (now (buf .exit))
-        (afterArm e (run concrete (afterToggled d (e .x) b) (view (now (s .entry)), now (buf .entry)))) ⌝ }
-    ensures { λ r. ⌜ Pins r (now (s .exit)) ⌝ }
+    ensures { λ r. ⌜ AdvancesWith r (λ t. afterArm e (run concrete (afterToggled d (e .x) b) t))
+        (now (s .entry)) (now (buf .entry)) (now (s .exit)) (now (buf .exit)) ⌝ }
 {
     if b {
         passed(s, d, status::endpoint(e.x.st), e.x.len);
@@ -135,9 +129,9 @@ fn after_passing(s: &mut State, buf: &mut [u8], d: Dir, e: Entry, b: bool) -> u6
 // Where `toggled` stops, or what follows it.
 fn then_toggled(s: &mut State, buf: &mut [u8], d: Dir, e: Entry, n: ToggledNext) -> u64
     requires { ⌜ toggles.Linked n ⌝ }
-    ensures { λ r. ⌜ Stops r (now (s .exit)) (now (buf .exit)) (afterArm e
-        (bindOut (toggles.meaning d (endpoint (e .x .st)) n (view (now (s .entry))) (now (buf .entry))) (λ b u. run concrete (afterToggled d (e .x) b) u))) ⌝ }
-    ensures { λ r. ⌜ Pins r (now (s .exit)) ⌝ }
+    ensures { λ r. ⌜ AdvancesWith r (λ t. afterArm e
+        (bindOut (toggles.meaning d (endpoint (e .x .st)) n (t .0) (t .1)) (λ b u. run concrete (afterToggled d (e .x) b) u)))
+        (now (s .entry)) (now (buf .entry)) (now (s .exit)) (now (buf .exit)) ⌝ }
 {
     match n {
         ToggledNext::Asks(q, p) => stand_toggled(s, q, d, e, p),
@@ -147,9 +141,8 @@ fn then_toggled(s: &mut State, buf: &mut [u8], d: Dir, e: Entry, n: ToggledNext)
 
 pub fn after_toggled(s: &mut State, buf: &mut [u8], d: Dir, e: Entry, p: Toggled, v: u32) -> u64
     requires { ⌜ toggles.fitsAt p v ≡ true ⌝ }
-    ensures { λ r. ⌜ Stops r (now (s .exit)) (now (buf .exit))
-        (denote (Point.Toggled d (e .setup) (e .x) (e .iso) p) v (view (now (s .entry)), now (buf .entry))) ⌝ }
-    ensures { λ r. ⌜ Pins r (now (s .exit)) ⌝ }
+    ensures { λ r. ⌜ AdvancesWith r (denote (Point.Toggled d (e .setup) (e .x) (e .iso) p) v)
+        (now (s .entry)) (now (buf .entry)) (now (s .exit)) (now (buf .exit)) ⌝ }
 {
     let n = toggled::resume(s, d, status::endpoint(e.x.st), p, v);
     then_toggled(s, buf, d, e, n)
@@ -157,11 +150,9 @@ pub fn after_toggled(s: &mut State, buf: &mut [u8], d: Dir, e: Entry, p: Toggled
 
 // Bulk and interrupt (mod.rs 759, 778).
 fn toggled_arm(s: &mut State, buf: &mut [u8], d: Dir, e: Entry) -> u64
-    ensures { λ r. ⌜ Stops r (now (s .exit)) (now (buf .exit)) (afterArm e (bindOut (run concrete (script.toggled {i = true} d (endpoint (e .x .st))) (
-      view (now (s .entry)),
-      now (buf .entry),
-    )) (λ b u. run concrete (afterToggled d (e .x) b) u))) ⌝ }
-    ensures { λ r. ⌜ Pins r (now (s .exit)) ⌝ }
+    ensures { λ r. ⌜ AdvancesWith r (λ t. afterArm e
+        (bindOut (run concrete (script.toggled {i = true} d (endpoint (e .x .st))) t) (λ b u. run concrete (afterToggled d (e .x) b) u)))
+        (now (s .entry)) (now (buf .entry)) (now (s .exit)) (now (buf .exit)) ⌝ }
 {
     let n = toggled::begin(d, status::endpoint(e.x.st));
     match n {
@@ -172,11 +163,8 @@ fn toggled_arm(s: &mut State, buf: &mut [u8], d: Dir, e: Entry) -> u64
 
 // The arms of OUT (mod.rs 755-771).
 fn out_arm(s: &mut State, buf: &mut [u8], e: Entry) -> u64
-    ensures { λ r. ⌜ Stops r (now (s .exit)) (now (buf .exit)) (afterArm e (run concrete (script.outArm {i = true} (e .x) (e .iso)) (
-      view (now (s .entry)),
-      now (buf .entry),
-    ))) ⌝ }
-    ensures { λ r. ⌜ Pins r (now (s .exit)) ⌝ }
+    ensures { λ r. ⌜ AdvancesWith r (λ t. afterArm e (run concrete (script.outArm {i = true} (e .x) (e .iso)) t))
+        (now (s .entry)) (now (buf .entry)) (now (s .exit)) (now (buf .exit)) ⌝ }
 {
     if e.iso {
         return after_dispatch(s, buf, e);
@@ -192,8 +180,8 @@ fn out_arm(s: &mut State, buf: &mut [u8], e: Entry) -> u64
 
 fn then_complete(s: &mut State, buf: &mut [u8], e: Entry, n: CompleteNext) -> u64
     requires { ⌜ completes.Linked n ⌝ }
-    ensures { λ r. ⌜ Stops r (now (s .exit)) (now (buf .exit)) (afterArm e (completes.meaning n (view (now (s .entry))) (now (buf .entry)))) ⌝ }
-    ensures { λ r. ⌜ Pins r (now (s .exit)) ⌝ }
+    ensures { λ r. ⌜ AdvancesWith r (λ t. afterArm e (completes.meaning n (t .0) (t .1)))
+        (now (s .entry)) (now (buf .entry)) (now (s .exit)) (now (buf .exit)) ⌝ }
 {
     match n {
         CompleteNext::Asks(q, p) => stand_completing(s, q, e, p),
@@ -202,11 +190,8 @@ fn then_complete(s: &mut State, buf: &mut [u8], e: Entry, n: CompleteNext) -> u6
 }
 
 pub fn after_completing(s: &mut State, buf: &mut [u8], e: Entry, p: Complete) -> u64
-    ensures { λ r. ⌜ ((v : ℕ) → Stops r (now (s .exit)) (now (buf .exit)) (denote (Point.Completing (e .setup) (e .x) (e .iso) p) v (
-      view (now (s .entry)),
-      now (buf .entry),
-    ))) ⌝ }
-    ensures { λ r. ⌜ Pins r (now (s .exit)) ⌝ }
+    ensures { λ r. ⌜ AdvancesFromWith r (Point.Completing (e .setup) (e .x) (e .iso) p)
+        (now (s .entry)) (now (buf .entry)) (now (s .exit)) (now (buf .exit)) ⌝ }
 {
     let n = complete::iso_in_complete_resume(s, p);
     then_complete(s, buf, e, n)
@@ -214,9 +199,8 @@ pub fn after_completing(s: &mut State, buf: &mut [u8], e: Entry, p: Complete) ->
 
 // One isochronous IN per microframe, where it is not paced (mod.rs 772-777).
 fn iso_in_arm(s: &mut State, buf: &mut [u8], e: Entry) -> u64
-    ensures { λ r. ⌜ Stops r (now (s .exit)) (now (buf .exit))
-        (afterArm e (run concrete (script.isoInArm {i = true} (endpoint (e .x .st)) (e .frame)) (view (now (s .entry)), now (buf .entry)))) ⌝ }
-    ensures { λ r. ⌜ Pins r (now (s .exit)) ⌝ }
+    ensures { λ r. ⌜ AdvancesWith r (λ t. afterArm e (run concrete (script.isoInArm {i = true} (endpoint (e .x .st)) (e .frame)) t))
+        (now (s .entry)) (now (buf .entry)) (now (s .exit)) (now (buf .exit)) ⌝ }
 {
     let ep = status::endpoint(e.x.st);
     let g = load_globals(s);
@@ -236,11 +220,8 @@ fn iso_in_arm(s: &mut State, buf: &mut [u8], e: Entry) -> u64
 
 // The arms of IN (mod.rs 772-788).
 fn in_arm(s: &mut State, buf: &mut [u8], e: Entry) -> u64
-    ensures { λ r. ⌜ Stops r (now (s .exit)) (now (buf .exit)) (afterArm e (run concrete (script.inArm {i = true} (e .x) (e .iso) (e .frame)) (
-      view (now (s .entry)),
-      now (buf .entry),
-    ))) ⌝ }
-    ensures { λ r. ⌜ Pins r (now (s .exit)) ⌝ }
+    ensures { λ r. ⌜ AdvancesWith r (λ t. afterArm e (run concrete (script.inArm {i = true} (e .x) (e .iso) (e .frame)) t))
+        (now (s .entry)) (now (buf .entry)) (now (s .exit)) (now (buf .exit)) ⌝ }
 {
     if e.iso {
         return iso_in_arm(s, buf, e);
@@ -253,8 +234,8 @@ fn in_arm(s: &mut State, buf: &mut [u8], e: Entry) -> u64
 
 fn then_sof_arm(s: &mut State, buf: &mut [u8], e: Entry, n: SofNext) -> u64
     requires { ⌜ sofs.Linked n ⌝ }
-    ensures { λ r. ⌜ Stops r (now (s .exit)) (now (buf .exit)) (afterArm e (sofs.meaning (e .frame) n (view (now (s .entry))) (now (buf .entry)))) ⌝ }
-    ensures { λ r. ⌜ Pins r (now (s .exit)) ⌝ }
+    ensures { λ r. ⌜ AdvancesWith r (λ t. afterArm e (sofs.meaning (e .frame) n (t .0) (t .1)))
+        (now (s .entry)) (now (buf .entry)) (now (s .exit)) (now (buf .exit)) ⌝ }
 {
     match n {
         SofNext::Asks(q, p) => stand_sof_arm(s, q, e, p),
@@ -269,9 +250,8 @@ fn then_sof_arm(s: &mut State, buf: &mut [u8], e: Entry, n: SofNext) -> u64
 
 pub fn after_sof_arm(s: &mut State, buf: &mut [u8], e: Entry, p: Sof, v: u32) -> u64
     requires { ⌜ sofs.fitsAt p v ≡ true ⌝ }
-    ensures { λ r. ⌜ Stops r (now (s .exit)) (now (buf .exit))
-        (denote (Point.SofArm (e .setup) (e .x) (e .iso) (e .frame) p) v (view (now (s .entry)), now (buf .entry))) ⌝ }
-    ensures { λ r. ⌜ Pins r (now (s .exit)) ⌝ }
+    ensures { λ r. ⌜ AdvancesWith r (denote (Point.SofArm (e .setup) (e .x) (e .iso) (e .frame) p) v)
+        (now (s .entry)) (now (buf .entry)) (now (s .exit)) (now (buf .exit)) ⌝ }
 {
     let n = sof::on_sof_resume(s, e.frame, p, v);
     then_sof_arm(s, buf, e, n)
@@ -280,9 +260,7 @@ pub fn after_sof_arm(s: &mut State, buf: &mut [u8], e: Entry, p: Sof, v: u32) ->
 // SOF's own (mod.rs 750-754), after which nothing of the transfer is left.
 fn sof_arm(s: &mut State, e: Entry) -> u64
     requires { ⌜ isSof (e .x .st) ≡ true ⌝ }
-    ensures { λ r. ⌜ ((b : List ℕ) → Stops r (now (s .exit)) b
-        (afterArm e (run concrete (script.sofArm {i = true} (e .frame)) (view (now (s .entry)), b)))) ⌝ }
-    ensures { λ r. ⌜ Pins r (now (s .exit)) ⌝ }
+    ensures { λ r. ⌜ Advances r (λ t. afterArm e (run concrete (script.sofArm {i = true} (e .frame)) t)) (now (s .entry)) (now (s .exit)) ⌝ }
 {
     let g = load_globals(s);
     if g.sof_frame == e.frame {
@@ -296,9 +274,8 @@ fn sof_arm(s: &mut State, e: Entry) -> u64
 }
 
 pub fn dispatch(s: &mut State, buf: &mut [u8], e: Entry) -> u64
-    ensures { λ r. ⌜ Stops r (now (s .exit)) (now (buf .exit)) (afterArm e
-        (run concrete (script.dispatch {i = true} (token (e .x .st)) (e .x) (e .iso) (e .frame)) (view (now (s .entry)), now (buf .entry)))) ⌝ }
-    ensures { λ r. ⌜ Pins r (now (s .exit)) ⌝ }
+    ensures { λ r. ⌜ AdvancesWith r (λ t. afterArm e (run concrete (script.dispatch {i = true} (token (e .x .st)) (e .x) (e .iso) (e .frame)) t))
+        (now (s .entry)) (now (buf .entry)) (now (s .exit)) (now (buf .exit)) ⌝ }
 {
     let t = status::token(e.x.st);
     match t {
