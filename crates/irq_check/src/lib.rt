@@ -33,10 +33,10 @@ ghost use Rattle.model_ops.specs.Concrete.{concrete};
 ghost use Rattle.irq.specs.Continuations.{finish, afterCheck, afterDispatch};
 ghost use Rattle.irq.specs.Points.{denote};
 ghost use Rattle.irq.specs.declared.Point.the-variants as Point;
-ghost use Rattle.irq_points.specs.Stands.{GoesOn, GoesOnWith, GoesOnFrom};
+ghost use Rattle.irq_points.specs.Stands.{RunsOn, RunsOnWith, RunsOnFrom};
 
 pub fn after_moved_wrote(s: &mut State, d: Dir, setup: bool) -> u64
-    ensures { λ r. ⌜ GoesOnFrom r (Point.MovedWrote d setup) (now (s .entry)) (now (s .exit)) ⌝ }
+    ensures { λ r. ⌜ RunsOnFrom r (Point.MovedWrote d setup) (now (s .entry)) (now (s .exit)) ⌝ }
 {
     let mut r = load_ep(s, d, 0);
     r.ready = 1;
@@ -48,14 +48,14 @@ pub fn after_moved_wrote(s: &mut State, d: Dir, setup: bool) -> u64
 
 pub fn after_moved_read(s: &mut State, d: Dir, setup: bool, v: u32) -> u64
     requires { ⌜ fitsIn v 8 ≡ true ⌝ }
-    ensures { λ r. ⌜ GoesOn r (denote (Point.MovedRead d setup) v) (now (s .entry)) (now (s .exit)) ⌝ }
+    ensures { λ r. ⌜ RunsOn r (denote (Point.MovedRead d setup) v) (now (s .entry)) (now (s .exit)) ⌝ }
 {
     let word = control_word::nakflip(byte(v));
     stand_moved_wrote(s, Access::Write(ctrl_of(d), 0, word as u32), d, setup)
 }
 
 fn moved_on(s: &mut State, d: Dir, setup: bool) -> u64
-    ensures { λ r. ⌜ GoesOn r (λ t. finish setup (run concrete (movedOn {i = true} d) t)) (now (s .entry)) (now (s .exit)) ⌝ }
+    ensures { λ r. ⌜ RunsOn r (λ t. finish setup (run concrete (movedOn {i = true} d) t)) (now (s .entry)) (now (s .exit)) ⌝ }
 {
     let r = load_ep(s, d, 0);
     if is_on(r.armed) {
@@ -66,7 +66,7 @@ fn moved_on(s: &mut State, d: Dir, setup: bool) -> u64
 
 // The host's token for the other direction says that a stage went through (`ep0_moved_on`).
 pub fn ep0_moved_on(s: &mut State, setup: bool, x: Transfer) -> u64
-    ensures { λ r. ⌜ GoesOn r (λ t. finish setup (run concrete (afterCheck x) t)) (now (s .entry)) (now (s .exit)) ⌝ }
+    ensures { λ r. ⌜ RunsOn r (λ t. finish setup (run concrete (afterCheck x) t)) (now (s .entry)) (now (s .exit)) ⌝ }
 {
     if status::endpoint(x.st) == 0 {
         let t = status::token(x.st);
@@ -83,7 +83,7 @@ pub fn ep0_moved_on(s: &mut State, setup: bool, x: Transfer) -> u64
 // Where the check stops, or what follows it.
 fn checked(s: &mut State, buf: &[u8], e: Entry, n: CheckNext) -> u64
     requires { ⌜ checks.Linked n ⌝ }
-    ensures { λ r. ⌜ GoesOnWith r (λ t. finish (e .setup)
+    ensures { λ r. ⌜ RunsOnWith r (λ t. finish (e .setup)
         (bindOut (checks.meaning (e .x) (e .iso) n (t .0) (t .1)) (λ _ u. run concrete (afterCheck (e .x)) u)))
         (now (s .entry)) (now (buf .entry)) (now (s .exit)) (now (buf .entry)) ⌝ }
 {
@@ -95,7 +95,7 @@ fn checked(s: &mut State, buf: &[u8], e: Entry, n: CheckNext) -> u64
 
 pub fn after_checking(s: &mut State, buf: &mut [u8], e: Entry, p: Check, v: u32) -> u64
     requires { ⌜ checks.fitsAt p v ≡ true ⌝ }
-    ensures { λ r. ⌜ GoesOnWith r (denote (Point.Check (e .setup) (e .x) (e .iso) p) v)
+    ensures { λ r. ⌜ RunsOnWith r (denote (Point.Check (e .setup) (e .x) (e .iso) p) v)
         (now (s .entry)) (now (buf .entry)) (now (s .exit)) (now (buf .exit)) ⌝ }
 {
     let n = iso_out::iso_out_check_resume(s, buf, e.x, e.iso, p, v);
@@ -104,7 +104,7 @@ pub fn after_checking(s: &mut State, buf: &mut [u8], e: Entry, p: Check, v: u32)
 
 // An OUT completes too early in its microframe to merge into the next SOF's entry (mod.rs 795-797).
 pub fn after_dispatch(s: &mut State, buf: &mut [u8], e: Entry) -> u64
-    ensures { λ r. ⌜ GoesOnWith r (λ t. finish (e .setup) (run concrete (afterDispatch (e .x) (e .iso)) t))
+    ensures { λ r. ⌜ RunsOnWith r (λ t. finish (e .setup) (run concrete (afterDispatch (e .x) (e .iso)) t))
         (now (s .entry)) (now (buf .entry)) (now (s .exit)) (now (buf .exit)) ⌝ }
 {
     if status::is_sof(e.x.st) {

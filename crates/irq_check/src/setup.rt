@@ -27,7 +27,7 @@ ghost use Rattle.model_ops.specs.Concrete.{concrete};
 ghost use Rattle.model_ops.specs.Records.{plainOf, merged, mergedGlobals};
 ghost use Rattle.irq.specs.Continuations.{resultless, nakWord, afterSetupReleased, afterSetupTx, afterTransfer};
 ghost use Rattle.irq.specs.declared.Point.the-variants as Point;
-ghost use Rattle.irq_points.specs.Stands.{GoesOn, GoesOnFrom, GoesOnFromWith};
+ghost use Rattle.irq_points.specs.Stands.{RunsOn, RunsOnFrom, RunsOnFromWith};
 
 // NAK, DATA0.
 fn nak_word() -> u32
@@ -38,7 +38,7 @@ fn nak_word() -> u32
 
 // Whatever EP0 was doing is over.
 pub fn after_transfer(s: &mut State, setup: bool) -> u64
-    ensures { λ r. ⌜ GoesOn r (run concrete (resultless (afterTransfer setup))) (now (s .entry)) (now (s .exit)) ⌝ }
+    ensures { λ r. ⌜ RunsOn r (run concrete (resultless (afterTransfer setup))) (now (s .entry)) (now (s .exit)) ⌝ }
 {
     if setup {
         return stand_setup_rx(s, nak_word());
@@ -47,7 +47,7 @@ pub fn after_transfer(s: &mut State, setup: bool) -> u64
 }
 
 pub fn after_setup_rx(s: &mut State) -> u64
-    ensures { λ r. ⌜ GoesOnFrom r Point.SetupRx (now (s .entry)) (now (s .exit)) ⌝ }
+    ensures { λ r. ⌜ RunsOnFrom r Point.SetupRx (now (s .entry)) (now (s .exit)) ⌝ }
 {
     stand_setup_tx(s, nak_word())
 }
@@ -93,14 +93,14 @@ fn take(s: &mut State, buf: &[u8])
 
 // The packet is taken in the call that clears the flag.
 pub fn after_setup_tx(s: &mut State, buf: &[u8]) -> u64
-    ensures { λ r. ⌜ GoesOnFromWith r Point.SetupTx (now (s .entry)) (now (buf .entry)) (now (s .exit)) (now (buf .entry)) ⌝ }
+    ensures { λ r. ⌜ RunsOnFromWith r Point.SetupTx (now (s .entry)) (now (buf .entry)) (now (s .exit)) (now (buf .entry)) ⌝ }
 {
     take(s, buf);
     stand_setup_released(s, flags::SETUP_ACT)
 }
 
 pub fn after_setup_released(s: &mut State) -> u64
-    ensures { λ r. ⌜ GoesOnFrom r Point.SetupReleased (now (s .entry)) (now (s .exit)) ⌝ }
+    ensures { λ r. ⌜ RunsOnFrom r Point.SetupReleased (now (s .entry)) (now (s .exit)) ⌝ }
 {
     wake(s, Dir::Out, 0);
     wake(s, Dir::In, 0);

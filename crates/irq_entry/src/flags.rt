@@ -26,10 +26,10 @@ ghost use Rattle.model.specs.Script.{run};
 ghost use Rattle.model_ops.specs.Concrete.{concrete};
 ghost use Rattle.irq.specs.Continuations.{resultless, afterFrame, afterFlags, afterBusRst, afterSuspend, afterFifo, afterHost};
 ghost use Rattle.irq.specs.declared.Point.the-variants as Point;
-ghost use Rattle.irq_points.specs.Stands.{GoesOn, GoesOnFrom};
+ghost use Rattle.irq_points.specs.Stands.{RunsOn, RunsOnFrom};
 
 pub fn after_host(s: &mut State, f: u8) -> u64
-    ensures { λ r. ⌜ GoesOn r (run concrete (resultless (afterHost f))) (now (s .entry)) (now (s .exit)) ⌝ }
+    ensures { λ r. ⌜ RunsOn r (run concrete (resultless (afterHost f))) (now (s .entry)) (now (s .exit)) ⌝ }
 {
     let setup = flags::setup_act(f);
     if flags::transfer(f) {
@@ -39,7 +39,7 @@ pub fn after_host(s: &mut State, f: u8) -> u64
 }
 
 pub fn after_fifo(s: &mut State, f: u8) -> u64
-    ensures { λ r. ⌜ GoesOn r (run concrete (resultless (afterFifo f))) (now (s .entry)) (now (s .exit)) ⌝ }
+    ensures { λ r. ⌜ RunsOn r (run concrete (resultless (afterFifo f))) (now (s .entry)) (now (s .exit)) ⌝ }
 {
     if flags::hst_sof(f) {
         return stand_host(s, flags::HST_SOF, f);
@@ -48,7 +48,7 @@ pub fn after_fifo(s: &mut State, f: u8) -> u64
 }
 
 fn fifo(s: &mut State, f: u8) -> u64
-    ensures { λ r. ⌜ GoesOn r (run concrete (resultless (afterSuspend f))) (now (s .entry)) (now (s .exit)) ⌝ }
+    ensures { λ r. ⌜ RunsOn r (run concrete (resultless (afterSuspend f))) (now (s .entry)) (now (s .exit)) ⌝ }
 {
     if flags::fifo_ov(f) {
         return stand_fifo(s, flags::FIFO_OV, f);
@@ -58,7 +58,7 @@ fn fifo(s: &mut State, f: u8) -> u64
 
 // The bus is woken after the mask (mod.rs 647).
 pub fn after_suspend(s: &mut State, f: u8) -> u64
-    ensures { λ r. ⌜ GoesOnFrom r (Point.Suspend f) (now (s .entry)) (now (s .exit)) ⌝ }
+    ensures { λ r. ⌜ RunsOnFrom r (Point.Suspend f) (now (s .entry)) (now (s .exit)) ⌝ }
 {
     wake_bus(s);
     fifo(s, f)
@@ -66,7 +66,7 @@ pub fn after_suspend(s: &mut State, f: u8) -> u64
 
 // The interrupt is masked: the main thread handles it (mod.rs 644-648).
 fn suspend(s: &mut State, f: u8) -> u64
-    ensures { λ r. ⌜ GoesOn r (run concrete (resultless (afterBusRst f))) (now (s .entry)) (now (s .exit)) ⌝ }
+    ensures { λ r. ⌜ RunsOn r (run concrete (resultless (afterBusRst f))) (now (s .entry)) (now (s .exit)) ⌝ }
 {
     if flags::suspend(f) {
         let g = load_globals(s);
@@ -78,7 +78,7 @@ fn suspend(s: &mut State, f: u8) -> u64
 }
 
 pub fn after_bus_rst(s: &mut State, f: u8) -> u64
-    ensures { λ r. ⌜ GoesOnFrom r (Point.BusRst f) (now (s .entry)) (now (s .exit)) ⌝ }
+    ensures { λ r. ⌜ RunsOnFrom r (Point.BusRst f) (now (s .entry)) (now (s .exit)) ⌝ }
 {
     wake_bus(s);
     suspend(s, f)
@@ -86,7 +86,7 @@ pub fn after_bus_rst(s: &mut State, f: u8) -> u64
 
 pub fn after_flags(s: &mut State, v: u32) -> u64
     requires { ⌜ fitsIn v 8 ≡ true ⌝ }
-    ensures { λ r. ⌜ GoesOn r (run concrete (resultless (afterFlags v))) (now (s .entry)) (now (s .exit)) ⌝ }
+    ensures { λ r. ⌜ RunsOn r (run concrete (resultless (afterFlags v))) (now (s .entry)) (now (s .exit)) ⌝ }
 {
     let f = byte(v);
     if flags::bus_rst(f) {
@@ -101,7 +101,7 @@ pub fn after_flags(s: &mut State, v: u32) -> u64
 // The microframe in which the interrupt began: what it admits carries it.
 pub fn after_frame(s: &mut State, v: u32) -> u64
     requires { ⌜ fitsIn v 16 ≡ true ⌝ }
-    ensures { λ r. ⌜ GoesOn r (run concrete (resultless (afterFrame v))) (now (s .entry)) (now (s .exit)) ⌝ }
+    ensures { λ r. ⌜ RunsOn r (run concrete (resultless (afterFrame v))) (now (s .entry)) (now (s .exit)) ⌝ }
 {
     let frame = short(v);
     let i = microframe_index(Frame(frame));

@@ -43,7 +43,7 @@ ghost use Rattle.model_ops.specs.Records.{plainOf};
 ghost use Rattle.irq.specs.Continuations.{finish, naksFirst, enteredAs, afterNak, afterRelease, afterSettle};
 ghost use Rattle.irq.specs.Points.{denote};
 ghost use Rattle.irq.specs.declared.Point.the-variants as Point;
-ghost use Rattle.irq_points.specs.Stands.{GoesOn};
+ghost use Rattle.irq_points.specs.Stands.{RunsOn};
 
 // `iso` (mod.rs 718-722).
 fn iso_for(st: u8, o: EpState, n: EpState) -> bool
@@ -59,7 +59,7 @@ fn iso_for(st: u8, o: EpState, n: EpState) -> bool
 }
 
 fn after_settle(s: &mut State, setup: bool, x: Transfer) -> u64
-    ensures { λ r. ⌜ GoesOn r (λ t. finish setup (run concrete (afterSettle x) t)) (now (s .entry)) (now (s .exit)) ⌝ }
+    ensures { λ r. ⌜ RunsOn r (λ t. finish setup (run concrete (afterSettle x) t)) (now (s .entry)) (now (s .exit)) ⌝ }
 {
     let ep = status::endpoint(x.st);
     let o = load_ep(s, Dir::Out, ep);
@@ -75,7 +75,7 @@ fn after_settle(s: &mut State, setup: bool, x: Transfer) -> u64
 
 fn then_settle(s: &mut State, setup: bool, x: Transfer, n: SettleNext) -> u64
     requires { ⌜ settles.Linked n ⌝ }
-    ensures { λ r. ⌜ GoesOn r (λ t. finish setup (bindOut (settles.meaning x n (t .0) (t .1)) (λ y u. run concrete (afterSettle y) u)))
+    ensures { λ r. ⌜ RunsOn r (λ t. finish setup (bindOut (settles.meaning x n (t .0) (t .1)) (λ y u. run concrete (afterSettle y) u)))
         (now (s .entry)) (now (s .exit)) ⌝ }
 {
     match n {
@@ -86,14 +86,14 @@ fn then_settle(s: &mut State, setup: bool, x: Transfer, n: SettleNext) -> u64
 
 pub fn after_settling(s: &mut State, setup: bool, x: Transfer, p: Settle, v: u32) -> u64
     requires { ⌜ settles.fitsAt p v ≡ true ⌝ }
-    ensures { λ r. ⌜ GoesOn r (denote (Point.Settle setup x p) v) (now (s .entry)) (now (s .exit)) ⌝ }
+    ensures { λ r. ⌜ RunsOn r (denote (Point.Settle setup x p) v) (now (s .entry)) (now (s .exit)) ⌝ }
 {
     let n = settle::resume(s, x, p, v);
     then_settle(s, setup, x, n)
 }
 
 pub fn after_released(s: &mut State, setup: bool, x: Transfer) -> u64
-    ensures { λ r. ⌜ GoesOn r (λ t. finish setup (run concrete (afterRelease x) t)) (now (s .entry)) (now (s .exit)) ⌝ }
+    ensures { λ r. ⌜ RunsOn r (λ t. finish setup (run concrete (afterRelease x) t)) (now (s .entry)) (now (s .exit)) ⌝ }
 {
     let n = settle::begin(s, x);
     match n {
@@ -104,14 +104,14 @@ pub fn after_released(s: &mut State, setup: bool, x: Transfer) -> u64
 
 // Released early: int_st and rx_len are read (mod.rs 666-667).
 fn release(s: &mut State, setup: bool, x: Transfer) -> u64
-    ensures { λ r. ⌜ GoesOn r (λ t. finish setup (run concrete (afterNak x) t)) (now (s .entry)) (now (s .exit)) ⌝ }
+    ensures { λ r. ⌜ RunsOn r (λ t. finish setup (run concrete (afterNak x) t)) (now (s .entry)) (now (s .exit)) ⌝ }
 {
     stand_released(s, TRANSFER, setup, x)
 }
 
 fn then_nak(s: &mut State, setup: bool, x: Transfer, n: NakNext) -> u64
     requires { ⌜ naks.Linked n ⌝ }
-    ensures { λ r. ⌜ GoesOn r (λ t. finish setup (bindOut (naks.meaning (x .st) n (t .0) (t .1)) (λ _ u. run concrete (afterNak x) u)))
+    ensures { λ r. ⌜ RunsOn r (λ t. finish setup (bindOut (naks.meaning (x .st) n (t .0) (t .1)) (λ _ u. run concrete (afterNak x) u)))
         (now (s .entry)) (now (s .exit)) ⌝ }
 {
     match n {
@@ -122,7 +122,7 @@ fn then_nak(s: &mut State, setup: bool, x: Transfer, n: NakNext) -> u64
 
 pub fn after_naking(s: &mut State, setup: bool, x: Transfer, p: Nak, v: u32) -> u64
     requires { ⌜ naks.fitsAt p v ≡ true ⌝ }
-    ensures { λ r. ⌜ GoesOn r (denote (Point.Nak setup x p) v) (now (s .entry)) (now (s .exit)) ⌝ }
+    ensures { λ r. ⌜ RunsOn r (denote (Point.Nak setup x p) v) (now (s .entry)) (now (s .exit)) ⌝ }
 {
     let n = nak::nak_non_iso_resume(x.st, p, v);
     then_nak(s, setup, x, n)
@@ -155,7 +155,7 @@ fn entered(busy: bool, st: u8, len: u16) -> Transfer
 
 pub fn after_len(s: &mut State, setup: bool, busy: bool, st: u8, v: u32) -> u64
     requires { ⌜ fitsIn v 16 ≡ true ⌝ }
-    ensures { λ r. ⌜ GoesOn r (denote (Point.Len setup busy st) v) (now (s .entry)) (now (s .exit)) ⌝ }
+    ensures { λ r. ⌜ RunsOn r (denote (Point.Len setup busy st) v) (now (s .entry)) (now (s .exit)) ⌝ }
 {
     let x = entered(busy, st, short(v));
     if naks_first(busy, st) {
@@ -171,14 +171,14 @@ pub fn after_len(s: &mut State, setup: bool, busy: bool, st: u8, v: u32) -> u64
 
 pub fn after_st(s: &mut State, setup: bool, busy: bool, v: u32) -> u64
     requires { ⌜ fitsIn v 8 ≡ true ⌝ }
-    ensures { λ r. ⌜ GoesOn r (denote (Point.St setup busy) v) (now (s .entry)) (now (s .exit)) ⌝ }
+    ensures { λ r. ⌜ RunsOn r (denote (Point.St setup busy) v) (now (s .entry)) (now (s .exit)) ⌝ }
 {
     stand_len(s, setup, busy, byte(v))
 }
 
 pub fn after_mis(s: &mut State, setup: bool, v: u32) -> u64
     requires { ⌜ fitsIn v 8 ≡ true ⌝ }
-    ensures { λ r. ⌜ GoesOn r (denote (Point.Mis setup) v) (now (s .entry)) (now (s .exit)) ⌝ }
+    ensures { λ r. ⌜ RunsOn r (denote (Point.Mis setup) v) (now (s .entry)) (now (s .exit)) ⌝ }
 {
     let busy = !mis_status::sie_free(byte(v));
     stand_st(s, setup, busy)

@@ -39,19 +39,19 @@ abbrev pub PinsFrom : ℕ → List ℕ → List ℕ → Type 0
 PinsFrom r xs ys = Encodes r (stepOf r) × SavedByAnswer (stepOf r) xs ys
 
 -- what each call of the interrupt ensures that runs f from the bytes xs: its word and the bytes ys are where f stops, and pinned. Any slots stay
-abbrev pub GoesOn : ℕ → Prog St ℕ → List ℕ → List ℕ → Type 0
-GoesOn r f xs ys = ((b : Buf) → Stops r ys b (f (view xs, b))) × Pins r ys
+abbrev pub RunsOn : ℕ → Prog St ℕ → List ℕ → List ℕ → Type 0
+RunsOn r f xs ys = ((b : Buf) → Stops r ys b (f (view xs, b))) × Pins r ys
 
 -- with the slots, b before and after it
-abbrev pub GoesOnWith : ℕ → Prog St ℕ → List ℕ → Buf → List ℕ → Buf → Type 0
-GoesOnWith r f xs b ys after = Stops r ys after (f (view xs, b)) × Pins r ys
+abbrev pub RunsOnWith : ℕ → Prog St ℕ → List ℕ → Buf → List ℕ → Buf → Type 0
+RunsOnWith r f xs b ys after = Stops r ys after (f (view xs, b)) × Pins r ys
 
 -- from a point, whatever number is brought
-abbrev pub GoesOnFrom : ℕ → Point → List ℕ → List ℕ → Type 0
-GoesOnFrom r p xs ys = ((v : ℕ) (b : Buf) → Stops r ys b (denote p v (view xs, b))) × Pins r ys
+abbrev pub RunsOnFrom : ℕ → Point → List ℕ → List ℕ → Type 0
+RunsOnFrom r p xs ys = ((v : ℕ) (b : Buf) → Stops r ys b (denote p v (view xs, b))) × Pins r ys
 
-abbrev pub GoesOnFromWith : ℕ → Point → List ℕ → Buf → List ℕ → Buf → Type 0
-GoesOnFromWith r p xs b ys after = ((v : ℕ) → Stops r ys after (denote p v (view xs, b))) × Pins r ys
+abbrev pub RunsOnFromWith : ℕ → Point → List ℕ → Buf → List ℕ → Buf → Type 0
+RunsOnFromWith r p xs b ys after = ((v : ℕ) → Stops r ys after (denote p v (view xs, b))) × Pins r ys
 
 -- what is saved is the interrupt's point with this number
 pub record AtSite (number : ℕ) (xs : List ℕ) : Type 0 where

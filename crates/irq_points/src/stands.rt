@@ -43,7 +43,7 @@ ghost use Rattle.irq_codec.specs.Codec as codec;
 ghost use Rattle.machine.specs.declared.Step.the-variants as Step;
 ghost use Rattle.machine.specs.Suspended.{withTag};
 ghost use Rattle.call_answer_word.specs.Word.{Encodes};
-ghost use Rattle.irq_points.specs.Stands.{Stands, GoesOn};
+ghost use Rattle.irq_points.specs.Stands.{Stands, RunsOn};
 
 // What is saved of a point, under the interrupt's tag.
 fn store(s: &mut State, p: Saved)
@@ -272,7 +272,7 @@ pub fn stand_setup_released(s: &mut State, value: u32) -> u64
 
 // The interrupt has ended: nothing is under way, and its wake-ups are answered.
 pub fn stop(s: &mut State) -> u64
-    ensures { λ r. ⌜ GoesOn r (λ t. ends 0 t) (now (s .entry)) (now (s .exit)) ⌝ }
+    ensures { λ r. ⌜ RunsOn r (λ t. ends 0 t) (now (s .entry)) (now (s .exit)) ⌝ }
 {
     store_saved(s, nothing());
     let k = how_many(s);

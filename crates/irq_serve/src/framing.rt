@@ -12,7 +12,7 @@ ghost use Rattle.regs.specs.Registers.{fitsIn};
 ghost use Rattle.model.specs.Handler as script;
 ghost use Rattle.irq.specs.Points.{denote};
 ghost use Rattle.irq.specs.declared.Point.the-variants as Point;
-ghost use Rattle.irq_points.specs.Stands.{GoesOnWith};
+ghost use Rattle.irq_points.specs.Stands.{RunsOnWith};
 
 // With this microframe's SOF handled, an isochronous IN's entry is its own (mod.rs 724-728).
 fn own_in(x: Transfer, iso: bool, sof: u16, frame: u16) -> bool
@@ -47,7 +47,7 @@ fn framed(x: Transfer, iso: bool, sof: u16, frame: u16) -> Transfer
 
 pub fn after_frame_no(s: &mut State, buf: &mut [u8], e: Entry, v: u32) -> u64
     requires { ⌜ fitsIn v 16 ≡ true ⌝ }
-    ensures { λ r. ⌜ GoesOnWith r (denote (Point.FrameNo (e .setup) (e .x) (e .iso)) v)
+    ensures { λ r. ⌜ RunsOnWith r (denote (Point.FrameNo (e .setup) (e .x) (e .iso)) v)
         (now (s .entry)) (now (buf .entry)) (now (s .exit)) (now (buf .exit)) ⌝ }
 {
     let frame = short(v);

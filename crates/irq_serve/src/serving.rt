@@ -24,11 +24,11 @@ ghost use Rattle.model_ops.specs.Concrete.{concrete};
 ghost use Rattle.irq.specs.Continuations.{finish, sofDue, afterLate, afterSof, serving};
 ghost use Rattle.irq.specs.Points.{denote};
 ghost use Rattle.irq.specs.declared.Point.the-variants as Point;
-ghost use Rattle.irq_points.specs.Stands.{GoesOnWith, GoesOnFromWith};
+ghost use Rattle.irq_points.specs.Stands.{RunsOnWith, RunsOnFromWith};
 
 // A transaction that is still on the bus is left to its own entry (mod.rs 748).
 fn after_late(s: &mut State, buf: &mut [u8], e: Entry) -> u64
-    ensures { λ r. ⌜ GoesOnWith r (λ t. finish (e .setup) (run concrete (afterLate (e .x) (e .iso) (e .frame)) t))
+    ensures { λ r. ⌜ RunsOnWith r (λ t. finish (e .setup) (run concrete (afterLate (e .x) (e .iso) (e .frame)) t))
         (now (s .entry)) (now (buf .entry)) (now (s .exit)) (now (buf .exit)) ⌝ }
 {
     if e.x.busy {
@@ -39,7 +39,7 @@ fn after_late(s: &mut State, buf: &mut [u8], e: Entry) -> u64
 
 fn then_late(s: &mut State, buf: &mut [u8], e: Entry, n: LateNext) -> u64
     requires { ⌜ lates.Linked n ⌝ }
-    ensures { λ r. ⌜ GoesOnWith r (λ t. finish (e .setup)
+    ensures { λ r. ⌜ RunsOnWith r (λ t. finish (e .setup)
         (bindOut (lates.meaning (e .frame) n (t .0) (t .1)) (λ _ u. run concrete (afterLate (e .x) (e .iso) (e .frame)) u)))
         (now (s .entry)) (now (buf .entry)) (now (s .exit)) (now (buf .exit)) ⌝ }
 {
@@ -50,7 +50,7 @@ fn then_late(s: &mut State, buf: &mut [u8], e: Entry, n: LateNext) -> u64
 }
 
 pub fn after_completions(s: &mut State, buf: &mut [u8], e: Entry, p: Late) -> u64
-    ensures { λ r. ⌜ GoesOnFromWith r (Point.Late (e .setup) (e .x) (e .iso) (e .frame) p)
+    ensures { λ r. ⌜ RunsOnFromWith r (Point.Late (e .setup) (e .x) (e .iso) (e .frame) p)
         (now (s .entry)) (now (buf .entry)) (now (s .exit)) (now (buf .exit)) ⌝ }
 {
     let n = late::resume(s, e.frame, p);
@@ -59,7 +59,7 @@ pub fn after_completions(s: &mut State, buf: &mut [u8], e: Entry, p: Late) -> u6
 
 // What raised a late entry completed before the OUT (mod.rs 735-747).
 fn after_sof(s: &mut State, buf: &mut [u8], e: Entry) -> u64
-    ensures { λ r. ⌜ GoesOnWith r (λ t. finish (e .setup) (run concrete (afterSof (e .x) (e .iso) (e .frame)) t))
+    ensures { λ r. ⌜ RunsOnWith r (λ t. finish (e .setup) (run concrete (afterSof (e .x) (e .iso) (e .frame)) t))
         (now (s .entry)) (now (buf .entry)) (now (s .exit)) (now (buf .exit)) ⌝ }
 {
     if e.x.late {
@@ -71,7 +71,7 @@ fn after_sof(s: &mut State, buf: &mut [u8], e: Entry) -> u64
 
 fn then_sof(s: &mut State, buf: &mut [u8], e: Entry, n: SofNext) -> u64
     requires { ⌜ sofs.Linked n ⌝ }
-    ensures { λ r. ⌜ GoesOnWith r (λ t. finish (e .setup)
+    ensures { λ r. ⌜ RunsOnWith r (λ t. finish (e .setup)
         (bindOut (sofs.meaning (e .frame) n (t .0) (t .1)) (λ _ u. run concrete (afterSof (e .x) (e .iso) (e .frame)) u)))
         (now (s .entry)) (now (buf .entry)) (now (s .exit)) (now (buf .exit)) ⌝ }
 {
@@ -83,7 +83,7 @@ fn then_sof(s: &mut State, buf: &mut [u8], e: Entry, n: SofNext) -> u64
 
 pub fn after_on_sof(s: &mut State, buf: &mut [u8], e: Entry, p: Sof, v: u32) -> u64
     requires { ⌜ sofs.fitsAt p v ≡ true ⌝ }
-    ensures { λ r. ⌜ GoesOnWith r (denote (Point.Sof (e .setup) (e .x) (e .iso) (e .frame) p) v)
+    ensures { λ r. ⌜ RunsOnWith r (denote (Point.Sof (e .setup) (e .x) (e .iso) (e .frame) p) v)
         (now (s .entry)) (now (buf .entry)) (now (s .exit)) (now (buf .exit)) ⌝ }
 {
     let n = sof::on_sof_resume(s, e.frame, p, v);
@@ -101,7 +101,7 @@ fn sof_due(x: Transfer, sof: u16, frame: u16) -> bool
 
 // The flag is one bit: a late entry also stands for the SOF (mod.rs 729-733).
 pub fn serve(s: &mut State, buf: &mut [u8], e: Entry) -> u64
-    ensures { λ r. ⌜ GoesOnWith r (λ t. finish (e .setup) (run concrete (serving (e .x) (e .iso) (e .frame)) t))
+    ensures { λ r. ⌜ RunsOnWith r (λ t. finish (e .setup) (run concrete (serving (e .x) (e .iso) (e .frame)) t))
         (now (s .entry)) (now (buf .entry)) (now (s .exit)) (now (buf .exit)) ⌝ }
 {
     let g = load_globals(s);

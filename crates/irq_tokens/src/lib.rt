@@ -48,7 +48,7 @@ ghost use Rattle.model_ops.specs.Concrete.{concrete, go};
 ghost use Rattle.irq.specs.Continuations.{afterArm, flipDone, passed, afterToggled};
 ghost use Rattle.irq.specs.Points.{denote};
 ghost use Rattle.irq.specs.declared.Point.the-variants as Point;
-ghost use Rattle.irq_points.specs.Stands.{GoesOn, GoesOnWith, GoesOnFromWith};
+ghost use Rattle.irq_points.specs.Stands.{RunsOn, RunsOnWith, RunsOnFromWith};
 
 // A packet arrived (mod.rs 767-770).
 fn received(s: &mut State, ep: u8, len: u16)
@@ -100,7 +100,7 @@ fn flip_done(s: &mut State, d: Dir, len: u16)
 }
 
 pub fn after_flipped(s: &mut State, buf: &mut [u8], d: Dir, e: Entry) -> u64
-    ensures { λ r. ⌜ GoesOnFromWith r (Point.Flipped d (e .setup) (e .x) (e .iso)) (now (s .entry)) (now (buf .entry)) (now (s .exit)) (now (buf .exit)) ⌝ }
+    ensures { λ r. ⌜ RunsOnFromWith r (Point.Flipped d (e .setup) (e .x) (e .iso)) (now (s .entry)) (now (buf .entry)) (now (s .exit)) (now (buf .exit)) ⌝ }
 {
     flip_done(s, d, e.x.len);
     after_dispatch(s, buf, e)
@@ -108,7 +108,7 @@ pub fn after_flipped(s: &mut State, buf: &mut [u8], d: Dir, e: Entry) -> u64
 
 pub fn after_flip(s: &mut State, d: Dir, e: Entry, v: u32) -> u64
     requires { ⌜ fitsIn v 8 ≡ true ⌝ }
-    ensures { λ r. ⌜ GoesOn r (denote (Point.Flip d (e .setup) (e .x) (e .iso)) v) (now (s .entry)) (now (s .exit)) ⌝ }
+    ensures { λ r. ⌜ RunsOn r (denote (Point.Flip d (e .setup) (e .x) (e .iso)) v) (now (s .entry)) (now (s .exit)) ⌝ }
 {
     let word = control_word::flip(byte(v));
     stand_flipped(s, Access::Write(ctrl_of(d), 0, word as u32), d, e)
@@ -116,7 +116,7 @@ pub fn after_flip(s: &mut State, d: Dir, e: Entry, v: u32) -> u64
 
 // What follows `toggled`: a packet went through, or the endpoint stays as it is.
 fn after_passing(s: &mut State, buf: &mut [u8], d: Dir, e: Entry, b: bool) -> u64
-    ensures { λ r. ⌜ GoesOnWith r (λ t. afterArm e (run concrete (afterToggled d (e .x) b) t))
+    ensures { λ r. ⌜ RunsOnWith r (λ t. afterArm e (run concrete (afterToggled d (e .x) b) t))
         (now (s .entry)) (now (buf .entry)) (now (s .exit)) (now (buf .exit)) ⌝ }
 {
     if b {
@@ -129,7 +129,7 @@ fn after_passing(s: &mut State, buf: &mut [u8], d: Dir, e: Entry, b: bool) -> u6
 // Where `toggled` stops, or what follows it.
 fn then_toggled(s: &mut State, buf: &mut [u8], d: Dir, e: Entry, n: ToggledNext) -> u64
     requires { ⌜ toggles.Linked n ⌝ }
-    ensures { λ r. ⌜ GoesOnWith r (λ t. afterArm e
+    ensures { λ r. ⌜ RunsOnWith r (λ t. afterArm e
         (bindOut (toggles.meaning d (endpoint (e .x .st)) n (t .0) (t .1)) (λ b u. run concrete (afterToggled d (e .x) b) u)))
         (now (s .entry)) (now (buf .entry)) (now (s .exit)) (now (buf .exit)) ⌝ }
 {
@@ -141,7 +141,7 @@ fn then_toggled(s: &mut State, buf: &mut [u8], d: Dir, e: Entry, n: ToggledNext)
 
 pub fn after_toggled(s: &mut State, buf: &mut [u8], d: Dir, e: Entry, p: Toggled, v: u32) -> u64
     requires { ⌜ toggles.fitsAt p v ≡ true ⌝ }
-    ensures { λ r. ⌜ GoesOnWith r (denote (Point.Toggled d (e .setup) (e .x) (e .iso) p) v)
+    ensures { λ r. ⌜ RunsOnWith r (denote (Point.Toggled d (e .setup) (e .x) (e .iso) p) v)
         (now (s .entry)) (now (buf .entry)) (now (s .exit)) (now (buf .exit)) ⌝ }
 {
     let n = toggled::resume(s, d, status::endpoint(e.x.st), p, v);
@@ -150,7 +150,7 @@ pub fn after_toggled(s: &mut State, buf: &mut [u8], d: Dir, e: Entry, p: Toggled
 
 // Bulk and interrupt (mod.rs 759, 778).
 fn toggled_arm(s: &mut State, buf: &mut [u8], d: Dir, e: Entry) -> u64
-    ensures { λ r. ⌜ GoesOnWith r (λ t. afterArm e
+    ensures { λ r. ⌜ RunsOnWith r (λ t. afterArm e
         (bindOut (run concrete (script.toggled {i = true} d (endpoint (e .x .st))) t) (λ b u. run concrete (afterToggled d (e .x) b) u)))
         (now (s .entry)) (now (buf .entry)) (now (s .exit)) (now (buf .exit)) ⌝ }
 {
@@ -163,7 +163,7 @@ fn toggled_arm(s: &mut State, buf: &mut [u8], d: Dir, e: Entry) -> u64
 
 // The arms of OUT (mod.rs 755-771).
 fn out_arm(s: &mut State, buf: &mut [u8], e: Entry) -> u64
-    ensures { λ r. ⌜ GoesOnWith r (λ t. afterArm e (run concrete (script.outArm {i = true} (e .x) (e .iso)) t))
+    ensures { λ r. ⌜ RunsOnWith r (λ t. afterArm e (run concrete (script.outArm {i = true} (e .x) (e .iso)) t))
         (now (s .entry)) (now (buf .entry)) (now (s .exit)) (now (buf .exit)) ⌝ }
 {
     if e.iso {
@@ -180,7 +180,7 @@ fn out_arm(s: &mut State, buf: &mut [u8], e: Entry) -> u64
 
 fn then_complete(s: &mut State, buf: &mut [u8], e: Entry, n: CompleteNext) -> u64
     requires { ⌜ completes.Linked n ⌝ }
-    ensures { λ r. ⌜ GoesOnWith r (λ t. afterArm e (completes.meaning n (t .0) (t .1)))
+    ensures { λ r. ⌜ RunsOnWith r (λ t. afterArm e (completes.meaning n (t .0) (t .1)))
         (now (s .entry)) (now (buf .entry)) (now (s .exit)) (now (buf .exit)) ⌝ }
 {
     match n {
@@ -190,7 +190,7 @@ fn then_complete(s: &mut State, buf: &mut [u8], e: Entry, n: CompleteNext) -> u6
 }
 
 pub fn after_completing(s: &mut State, buf: &mut [u8], e: Entry, p: Complete) -> u64
-    ensures { λ r. ⌜ GoesOnFromWith r (Point.Completing (e .setup) (e .x) (e .iso) p)
+    ensures { λ r. ⌜ RunsOnFromWith r (Point.Completing (e .setup) (e .x) (e .iso) p)
         (now (s .entry)) (now (buf .entry)) (now (s .exit)) (now (buf .exit)) ⌝ }
 {
     let n = complete::iso_in_complete_resume(s, p);
@@ -199,7 +199,7 @@ pub fn after_completing(s: &mut State, buf: &mut [u8], e: Entry, p: Complete) ->
 
 // One isochronous IN per microframe, where it is not paced (mod.rs 772-777).
 fn iso_in_arm(s: &mut State, buf: &mut [u8], e: Entry) -> u64
-    ensures { λ r. ⌜ GoesOnWith r (λ t. afterArm e (run concrete (script.isoInArm {i = true} (endpoint (e .x .st)) (e .frame)) t))
+    ensures { λ r. ⌜ RunsOnWith r (λ t. afterArm e (run concrete (script.isoInArm {i = true} (endpoint (e .x .st)) (e .frame)) t))
         (now (s .entry)) (now (buf .entry)) (now (s .exit)) (now (buf .exit)) ⌝ }
 {
     let ep = status::endpoint(e.x.st);
@@ -220,7 +220,7 @@ fn iso_in_arm(s: &mut State, buf: &mut [u8], e: Entry) -> u64
 
 // The arms of IN (mod.rs 772-788).
 fn in_arm(s: &mut State, buf: &mut [u8], e: Entry) -> u64
-    ensures { λ r. ⌜ GoesOnWith r (λ t. afterArm e (run concrete (script.inArm {i = true} (e .x) (e .iso) (e .frame)) t))
+    ensures { λ r. ⌜ RunsOnWith r (λ t. afterArm e (run concrete (script.inArm {i = true} (e .x) (e .iso) (e .frame)) t))
         (now (s .entry)) (now (buf .entry)) (now (s .exit)) (now (buf .exit)) ⌝ }
 {
     if e.iso {
@@ -234,7 +234,7 @@ fn in_arm(s: &mut State, buf: &mut [u8], e: Entry) -> u64
 
 fn then_sof_arm(s: &mut State, buf: &mut [u8], e: Entry, n: SofNext) -> u64
     requires { ⌜ sofs.Linked n ⌝ }
-    ensures { λ r. ⌜ GoesOnWith r (λ t. afterArm e (sofs.meaning (e .frame) n (t .0) (t .1)))
+    ensures { λ r. ⌜ RunsOnWith r (λ t. afterArm e (sofs.meaning (e .frame) n (t .0) (t .1)))
         (now (s .entry)) (now (buf .entry)) (now (s .exit)) (now (buf .exit)) ⌝ }
 {
     match n {
@@ -250,7 +250,7 @@ fn then_sof_arm(s: &mut State, buf: &mut [u8], e: Entry, n: SofNext) -> u64
 
 pub fn after_sof_arm(s: &mut State, buf: &mut [u8], e: Entry, p: Sof, v: u32) -> u64
     requires { ⌜ sofs.fitsAt p v ≡ true ⌝ }
-    ensures { λ r. ⌜ GoesOnWith r (denote (Point.SofArm (e .setup) (e .x) (e .iso) (e .frame) p) v)
+    ensures { λ r. ⌜ RunsOnWith r (denote (Point.SofArm (e .setup) (e .x) (e .iso) (e .frame) p) v)
         (now (s .entry)) (now (buf .entry)) (now (s .exit)) (now (buf .exit)) ⌝ }
 {
     let n = sof::on_sof_resume(s, e.frame, p, v);
@@ -260,7 +260,7 @@ pub fn after_sof_arm(s: &mut State, buf: &mut [u8], e: Entry, p: Sof, v: u32) ->
 // SOF's own (mod.rs 750-754), after which nothing of the transfer is left.
 fn sof_arm(s: &mut State, e: Entry) -> u64
     requires { ⌜ isSof (e .x .st) ≡ true ⌝ }
-    ensures { λ r. ⌜ GoesOn r (λ t. afterArm e (run concrete (script.sofArm {i = true} (e .frame)) t)) (now (s .entry)) (now (s .exit)) ⌝ }
+    ensures { λ r. ⌜ RunsOn r (λ t. afterArm e (run concrete (script.sofArm {i = true} (e .frame)) t)) (now (s .entry)) (now (s .exit)) ⌝ }
 {
     let g = load_globals(s);
     if g.sof_frame == e.frame {
@@ -274,7 +274,7 @@ fn sof_arm(s: &mut State, e: Entry) -> u64
 }
 
 pub fn dispatch(s: &mut State, buf: &mut [u8], e: Entry) -> u64
-    ensures { λ r. ⌜ GoesOnWith r (λ t. afterArm e (run concrete (script.dispatch {i = true} (token (e .x .st)) (e .x) (e .iso) (e .frame)) t))
+    ensures { λ r. ⌜ RunsOnWith r (λ t. afterArm e (run concrete (script.dispatch {i = true} (token (e .x .st)) (e .x) (e .iso) (e .frame)) t))
         (now (s .entry)) (now (buf .entry)) (now (s .exit)) (now (buf .exit)) ⌝ }
 {
     let t = status::token(e.x.st);
