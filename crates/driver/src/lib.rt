@@ -11,10 +11,11 @@ use state::store_paced;
 ghost use mathlib.Core.Path.{_≡_};
 ghost use mathlib.Core.List.{List};
 ghost use Prim.Native.Nat.{ℕ, _<_};
-ghost use Rattle.state.specs.Driver.{Driver};
 ghost use Rattle.state.specs.State.{view, saved};
 ghost use Rattle.model.specs.Tree.{ends};
-ghost use Rattle.model_ops.specs.Concrete.{go};
+ghost use Rattle.model.specs.Script.{run};
+ghost use Rattle.model_points.specs.Means.{Means, MeansAt};
+ghost use Rattle.model_ops.specs.Concrete.{concrete, go};
 ghost use Rattle.driver.specs.Points.{startUp, newEndpoint, startEp0, microframe, setPaced, meaning, Linked};
 
 // The access that was handed out last, and what the rest needs.
@@ -51,8 +52,7 @@ pub enum Next {
 
 // `Driver::new`, 907-941, on a fresh state.
 pub fn start_up(callback: bool) -> Next
-    ensures { λ r. ⌜ ((d : Driver) (b : List ℕ) → meaning r d b ≡ go (startUp callback) d b) ⌝ }
-    ensures { λ r. ⌜ Linked r ⌝ }
+    ensures { λ r. ⌜ Means (meaning r) (Linked r) (run concrete (startUp callback)) ⌝ }
 {
     Next::Asks(
         Access::Write(Reg::Ctrl, 0, regs::ctrl::clear()),
@@ -62,8 +62,7 @@ pub fn start_up(callback: bool) -> Next
 
 // `Endpoint::new`, after an accepted allocation.
 pub fn new_endpoint(dir: Dir, kind: u8, maximum: u32, ep: u8) -> Next
-    ensures { λ r. ⌜ ((d : Driver) (b : List ℕ) → meaning r d b ≡ go (newEndpoint dir kind maximum ep) d b) ⌝ }
-    ensures { λ r. ⌜ Linked r ⌝ }
+    ensures { λ r. ⌜ Means (meaning r) (Linked r) (run concrete (newEndpoint dir kind maximum ep)) ⌝ }
 {
     Next::Asks(
         Access::Write(Reg::EpMaxLen, ep, maximum),
@@ -73,16 +72,14 @@ pub fn new_endpoint(dir: Dir, kind: u8, maximum: u32, ep: u8) -> Next
 
 // `start`, after EP0's buffer was given.
 pub fn start_ep0(s: &State, maximum: u32) -> Next
-    ensures { λ r. ⌜ ((b : List ℕ) → meaning r (view (now (s .entry))) b ≡ go (startEp0 maximum) (view (now (s .entry))) b) ⌝ }
-    ensures { λ r. ⌜ Linked r ⌝ }
+    ensures { λ r. ⌜ MeansAt (meaning r) (Linked r) (run concrete (startEp0 maximum)) (now (s .entry)) ⌝ }
 {
     let g = load_globals(s);
     Next::Asks(Access::Ep0Dma(g.ep0_buf), Point::Ep0Place(maximum))
 }
 
 pub fn microframe() -> Next
-    ensures { λ r. ⌜ ((d : Driver) (b : List ℕ) → meaning r d b ≡ go microframe d b) ⌝ }
-    ensures { λ r. ⌜ Linked r ⌝ }
+    ensures { λ r. ⌜ Means (meaning r) (Linked r) (run concrete microframe) ⌝ }
 {
     Next::Asks(Access::Read(Reg::FrameNo, 0), Point::FrameNo)
 }

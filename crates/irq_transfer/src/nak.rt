@@ -12,12 +12,10 @@ use state::State;
 use state::load_ep;
 ghost use mathlib.Core.Path.{_≡_};
 ghost use mathlib.Core.Bool.{true, false};
-ghost use mathlib.Core.List.{List};
-ghost use Prim.Native.Nat.{ℕ};
-ghost use Rattle.state.specs.Driver.{Driver};
-ghost use Rattle.state.specs.State.{view};
+ghost use Rattle.model.specs.Script.{run};
 ghost use Rattle.model.specs.Handler.{outNaks, inNaks, nakNonIso};
-ghost use Rattle.model_ops.specs.Concrete.{go};
+ghost use Rattle.model_points.specs.Means.{Means, MeansAt};
+ghost use Rattle.model_ops.specs.Concrete.{concrete};
 ghost use Rattle.model_ops.specs.Records.{plainOf};
 ghost use Rattle.irq_transfer.specs.Nak.{denote, meaning, Linked, fitsAt};
 
@@ -57,8 +55,7 @@ fn in_naks(st: u8, r: EpState) -> bool
 
 // `nak_non_iso` (mod.rs 416-431).
 pub fn nak_non_iso(s: &State, st: u8) -> NakNext
-    ensures { λ r. ⌜ ((b : List ℕ) → meaning st r (view (now (s .entry))) b ≡ go {i = true} (nakNonIso st) (view (now (s .entry))) b) ⌝ }
-    ensures { λ r. ⌜ Linked r ⌝ }
+    ensures { λ r. ⌜ MeansAt (meaning st r) (Linked r) (run concrete (nakNonIso {i = true} st)) (now (s .entry)) ⌝ }
 {
     let ep = status::endpoint(st);
     let o = load_ep(s, Dir::Out, ep);
@@ -74,8 +71,7 @@ pub fn nak_non_iso(s: &State, st: u8) -> NakNext
 
 pub fn nak_non_iso_resume(st: u8, p: Nak, v: u32) -> NakNext
     requires { ⌜ fitsAt p v ≡ true ⌝ }
-    ensures { λ r. ⌜ ((d : Driver) (b : List ℕ) → meaning st r d b ≡ denote st p v (d, b)) ⌝ }
-    ensures { λ r. ⌜ Linked r ⌝ }
+    ensures { λ r. ⌜ Means (meaning st r) (Linked r) (denote st p v) ⌝ }
 {
     match p {
         Nak::Word(dir) => {

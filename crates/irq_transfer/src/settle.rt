@@ -19,13 +19,11 @@ use state::State;
 use state::load_ep;
 ghost use mathlib.Core.Path.{_≡_};
 ghost use mathlib.Core.Bool.{true, false};
-ghost use mathlib.Core.List.{List};
-ghost use Prim.Native.Nat.{ℕ};
 ghost use Rattle.regs.specs.Registers.{fitsIn};
-ghost use Rattle.state.specs.Driver.{Driver};
-ghost use Rattle.state.specs.State.{view};
+ghost use Rattle.model.specs.Script.{run};
 ghost use Rattle.model.specs.Handler as script;
-ghost use Rattle.model_ops.specs.Concrete.{go};
+ghost use Rattle.model_points.specs.Means.{Means, MeansAt};
+ghost use Rattle.model_ops.specs.Concrete.{concrete};
 ghost use Rattle.model_ops.specs.Records.{plainOf};
 ghost use Rattle.irq_transfer.specs.Settle.{afterSt, afterFlags, afterMis, denote, meaning, Linked, fitsAt};
 
@@ -82,8 +80,7 @@ fn waits_for_bulk(x: Transfer, r: EpState) -> bool
 
 // A transfer is settled (mod.rs 668-715): what was on the bus is waited for, or looked at once.
 pub fn begin(s: &State, x: Transfer) -> SettleNext
-    ensures { λ r. ⌜ ((b : List ℕ) → meaning x r (view (now (s .entry))) b ≡ go {i = true} (script.settle x) (view (now (s .entry))) b) ⌝ }
-    ensures { λ r. ⌜ Linked r ⌝ }
+    ensures { λ r. ⌜ MeansAt (meaning x r) (Linked r) (run concrete (script.settle {i = true} x)) (now (s .entry)) ⌝ }
 {
     let ep = status::endpoint(x.st);
     let o = load_ep(s, Dir::Out, ep);
@@ -102,8 +99,7 @@ pub fn begin(s: &State, x: Transfer) -> SettleNext
 
 fn after_iso_look(x: Transfer, n: u16, v: u32) -> SettleNext
     requires { ⌜ fitsIn v 8 ≡ true ⌝ }
-    ensures { λ r. ⌜ ((d : Driver) (b : List ℕ) → meaning x r d b ≡ denote x (Settle.IsoLook n) v (d, b)) ⌝ }
-    ensures { λ r. ⌜ Linked r ⌝ }
+    ensures { λ r. ⌜ Means (meaning x r) (Linked r) (denote x (Settle.IsoLook n) v) ⌝ }
 {
     if over(byte(v), n) {
         return SettleNext::Asks(Access::Read(Reg::IntSt, 0), Settle::IsoSt);
@@ -138,8 +134,7 @@ fn late_taken(x: Transfer, now: u8, len: u16) -> Transfer
 
 fn after_bulk_look(x: Transfer, n: u16, v: u32) -> SettleNext
     requires { ⌜ fitsIn v 8 ≡ true ⌝ }
-    ensures { λ r. ⌜ ((d : Driver) (b : List ℕ) → meaning x r d b ≡ denote x (Settle.BulkLook n) v (d, b)) ⌝ }
-    ensures { λ r. ⌜ Linked r ⌝ }
+    ensures { λ r. ⌜ Means (meaning x r) (Linked r) (denote x (Settle.BulkLook n) v) ⌝ }
 {
     if over(byte(v), n) {
         return SettleNext::Asks(Access::Read(Reg::RxLen, 0), Settle::BulkLen);
@@ -162,8 +157,7 @@ fn waited(x: Transfer, len: u16) -> Transfer
 
 fn after_mis(x: Transfer, v: u32) -> SettleNext
     requires { ⌜ fitsIn v 8 ≡ true ⌝ }
-    ensures { λ r. ⌜ ((d : Driver) (b : List ℕ) → meaning x r d b ≡ go (afterMis x v) d b) ⌝ }
-    ensures { λ r. ⌜ Linked r ⌝ }
+    ensures { λ r. ⌜ Means (meaning x r) (Linked r) (run concrete (afterMis x v)) ⌝ }
 {
     if mis_status::sie_free(byte(v)) {
         return SettleNext::Asks(Access::Read(Reg::IntFg, 0), Settle::Flags);
@@ -173,8 +167,7 @@ fn after_mis(x: Transfer, v: u32) -> SettleNext
 
 fn after_flags(x: Transfer, v: u32) -> SettleNext
     requires { ⌜ fitsIn v 8 ≡ true ⌝ }
-    ensures { λ r. ⌜ ((d : Driver) (b : List ℕ) → meaning x r d b ≡ go (afterFlags x v) d b) ⌝ }
-    ensures { λ r. ⌜ Linked r ⌝ }
+    ensures { λ r. ⌜ Means (meaning x r) (Linked r) (run concrete (afterFlags x v)) ⌝ }
 {
     if flags::transfer(byte(v)) {
         return SettleNext::Ends(x);
@@ -197,8 +190,7 @@ fn retaken(x: Transfer, st: u8) -> Transfer
 
 fn after_st(s: &State, x: Transfer, v: u32) -> SettleNext
     requires { ⌜ fitsIn v 8 ≡ true ⌝ }
-    ensures { λ r. ⌜ ((b : List ℕ) → meaning x r (view (now (s .entry))) b ≡ go (afterSt x v) (view (now (s .entry))) b) ⌝ }
-    ensures { λ r. ⌜ Linked r ⌝ }
+    ensures { λ r. ⌜ MeansAt (meaning x r) (Linked r) (run concrete (afterSt x v)) (now (s .entry)) ⌝ }
 {
     let st = byte(v);
     let n = nak::nak_non_iso(s, st);
@@ -210,8 +202,7 @@ fn after_st(s: &State, x: Transfer, v: u32) -> SettleNext
 
 fn after_nak(x: Transfer, st: u8, p: Nak, v: u32) -> SettleNext
     requires { ⌜ fitsAt (Settle.Nak st p) v ≡ true ⌝ }
-    ensures { λ r. ⌜ ((d : Driver) (b : List ℕ) → meaning x r d b ≡ denote x (Settle.Nak st p) v (d, b)) ⌝ }
-    ensures { λ r. ⌜ Linked r ⌝ }
+    ensures { λ r. ⌜ Means (meaning x r) (Linked r) (denote x (Settle.Nak st p) v) ⌝ }
 {
     let n = nak::nak_non_iso_resume(st, p, v);
     match n {
@@ -222,8 +213,7 @@ fn after_nak(x: Transfer, st: u8, p: Nak, v: u32) -> SettleNext
 
 pub fn resume(s: &State, x: Transfer, p: Settle, v: u32) -> SettleNext
     requires { ⌜ fitsAt p v ≡ true ⌝ }
-    ensures { λ r. ⌜ ((b : List ℕ) → meaning x r (view (now (s .entry))) b ≡ denote x p v (view (now (s .entry)), b)) ⌝ }
-    ensures { λ r. ⌜ Linked r ⌝ }
+    ensures { λ r. ⌜ MeansAt (meaning x r) (Linked r) (denote x p v) (now (s .entry)) ⌝ }
 {
     match p {
         Settle::IsoLook(n) => after_iso_look(x, n, v),

@@ -14,15 +14,13 @@ use state::load_ep;
 use state::store_ep;
 ghost use mathlib.Core.Path.{_≡_};
 ghost use mathlib.Core.Bool.{true, false};
-ghost use mathlib.Core.List.{List};
-ghost use Prim.Native.Nat.{ℕ};
 ghost use Rattle.regs.specs.Registers.{fitsIn};
 ghost use Rattle.regs.specs.ControlWord.{isData1};
-ghost use Rattle.state.specs.Driver.{Driver};
-ghost use Rattle.state.specs.State.{view, saved};
+ghost use Rattle.model.specs.Script.{run};
 ghost use Rattle.model.specs.Handler as script;
 ghost use Rattle.model.specs.Statics.{flag};
-ghost use Rattle.model_ops.specs.Concrete.{go};
+ghost use Rattle.model_points.specs.Means.{Means, MeansFrom};
+ghost use Rattle.model_ops.specs.Concrete.{concrete};
 ghost use Rattle.model_ops.specs.Records.{plainOf};
 ghost use Rattle.irq_transfer.specs.Toggled.{afterWait, afterWord, denote, meaning, Linked, fitsAt};
 
@@ -42,16 +40,14 @@ pub enum ToggledNext {
 
 // `toggled` (mod.rs 433-459): the wait begins.
 pub fn begin(dir: Dir, ep: u8) -> ToggledNext
-    ensures { λ r. ⌜ ((d : Driver) (b : List ℕ) → meaning dir ep r d b ≡ go {i = true} (script.toggled dir ep) d b) ⌝ }
-    ensures { λ r. ⌜ Linked r ⌝ }
+    ensures { λ r. ⌜ Means (meaning dir ep r) (Linked r) (run concrete (script.toggled {i = true} dir ep)) ⌝ }
 {
     ToggledNext::Asks(Access::Read(Reg::MisSt, 0), Toggled::Look(LOOKS))
 }
 
 fn after_look(dir: Dir, ep: u8, n: u16, v: u32) -> ToggledNext
     requires { ⌜ fitsIn v 8 ≡ true ⌝ }
-    ensures { λ r. ⌜ ((d : Driver) (b : List ℕ) → meaning dir ep r d b ≡ denote dir ep (Toggled.Look n) v (d, b)) ⌝ }
-    ensures { λ r. ⌜ Linked r ⌝ }
+    ensures { λ r. ⌜ Means (meaning dir ep r) (Linked r) (denote dir ep (Toggled.Look n) v) ⌝ }
 {
     if over(byte(v), n) {
         return ToggledNext::Asks(Access::Read(ctrl_of(dir), ep), Toggled::Word);
@@ -79,9 +75,7 @@ fn repeated(r: EpState, word: u8) -> bool
 // No new packet: a request still waiting gets its endpoint back. Or the packet's toggle is recorded.
 fn after_word(s: &mut State, dir: Dir, ep: u8, v: u32) -> ToggledNext
     requires { ⌜ fitsIn v 8 ≡ true ⌝ }
-    ensures { λ r. ⌜ ((b : List ℕ) → meaning dir ep r (view (now (s .exit))) b ≡ go (afterWord dir ep v) (view (now (s .entry))) b) ⌝ }
-    ensures { λ _. ⌜ saved (now (s .exit)) ≡ saved (now (s .entry)) ⌝ }
-    ensures { λ r. ⌜ Linked r ⌝ }
+    ensures { λ r. ⌜ MeansFrom (meaning dir ep r) (Linked r) (run concrete (afterWord dir ep v)) (now (s .entry)) (now (s .exit)) ⌝ }
 {
     let word = byte(v);
     let mut r = load_ep(s, dir, ep);
@@ -99,8 +93,7 @@ fn after_word(s: &mut State, dir: Dir, ep: u8, v: u32) -> ToggledNext
 
 fn after_ack_read(dir: Dir, ep: u8, v: u32) -> ToggledNext
     requires { ⌜ fitsIn v 8 ≡ true ⌝ }
-    ensures { λ r. ⌜ ((d : Driver) (b : List ℕ) → meaning dir ep r d b ≡ denote dir ep Toggled.AckRead v (d, b)) ⌝ }
-    ensures { λ r. ⌜ Linked r ⌝ }
+    ensures { λ r. ⌜ Means (meaning dir ep r) (Linked r) (denote dir ep Toggled.AckRead v) ⌝ }
 {
     let word = control_word::ack(byte(v));
     ToggledNext::Asks(Access::Write(ctrl_of(dir), ep, word as u32), Toggled::Acked)
@@ -108,9 +101,7 @@ fn after_ack_read(dir: Dir, ep: u8, v: u32) -> ToggledNext
 
 pub fn resume(s: &mut State, dir: Dir, ep: u8, p: Toggled, v: u32) -> ToggledNext
     requires { ⌜ fitsAt p v ≡ true ⌝ }
-    ensures { λ r. ⌜ ((b : List ℕ) → meaning dir ep r (view (now (s .exit))) b ≡ denote dir ep p v (view (now (s .entry)), b)) ⌝ }
-    ensures { λ _. ⌜ saved (now (s .exit)) ≡ saved (now (s .entry)) ⌝ }
-    ensures { λ r. ⌜ Linked r ⌝ }
+    ensures { λ r. ⌜ MeansFrom (meaning dir ep r) (Linked r) (denote dir ep p v) (now (s .entry)) (now (s .exit)) ⌝ }
 {
     match p {
         Toggled::Look(n) => after_look(dir, ep, n, v),

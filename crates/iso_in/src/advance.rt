@@ -9,11 +9,10 @@ use state::State;
 use state::load_globals;
 use state::store_paced;
 ghost use mathlib.Core.Path.{_≡_};
-ghost use mathlib.Core.List.{List};
-ghost use Prim.Native.Nat.{ℕ};
 ghost use Rattle.bits.specs.Bit.{isSet};
-ghost use Rattle.state.specs.State.{view, saved};
-ghost use Rattle.model_ops.specs.Concrete.{go};
+ghost use Rattle.model.specs.Script.{run};
+ghost use Rattle.model_points.specs.Means.{MeansFrom};
+ghost use Rattle.model_ops.specs.Concrete.{concrete};
 ghost use Rattle.iso_in.specs.Advance.{advance, meaning, Linked};
 
 pub enum Advance {
@@ -36,9 +35,7 @@ fn is_paced(mask: u16, e: u8) -> bool
 }
 
 pub fn iso_in_advance(s: &mut State, e: u8) -> AdvanceNext
-    ensures { λ r. ⌜ ((b : List ℕ) → meaning r (view (now (s .exit))) b ≡ go (advance e) (view (now (s .entry))) b) ⌝ }
-    ensures { λ _. ⌜ saved (now (s .exit)) ≡ saved (now (s .entry)) ⌝ }
-    ensures { λ r. ⌜ Linked r ⌝ }
+    ensures { λ r. ⌜ MeansFrom (meaning r) (Linked r) (run concrete (advance e)) (now (s .entry)) (now (s .exit)) ⌝ }
 {
     let g = load_globals(s);
     if is_paced(g.iso_in_paced, e) {

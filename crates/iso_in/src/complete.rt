@@ -7,13 +7,11 @@ use regs::Access;
 use regs::Dir;
 use regs::Reg;
 use state::State;
-ghost use mathlib.Core.Path.{_≡_};
 ghost use mathlib.Core.Bool.{true};
-ghost use mathlib.Core.List.{List};
-ghost use Prim.Native.Nat.{ℕ};
-ghost use Rattle.state.specs.State.{view, saved};
+ghost use Rattle.model.specs.Script.{run};
 ghost use Rattle.model.specs.IsoIn.{isoInComplete};
-ghost use Rattle.model_ops.specs.Concrete.{go};
+ghost use Rattle.model_points.specs.Means.{MeansAt, MeansFrom};
+ghost use Rattle.model_ops.specs.Concrete.{concrete};
 ghost use Rattle.iso_in.specs.Complete.{denote, loading, begun, meaning, Linked, Bound};
 
 // What was handed out last, of which endpoint. Nothing is awaited at either.
@@ -35,9 +33,7 @@ pub struct Begun {
 
 // The oldest packet, or a zero-length one.
 fn iso_in_load(s: &mut State, e: u8) -> Begun
-    ensures { λ r. ⌜ ((b : List ℕ) → begun r (view (now (s .exit))) b ≡ go (loading e) (view (now (s .entry))) b) ⌝ }
-    ensures { λ _. ⌜ saved (now (s .exit)) ≡ saved (now (s .entry)) ⌝ }
-    ensures { λ r. ⌜ Bound r ⌝ }
+    ensures { λ r. ⌜ MeansFrom (begun r) (Bound r) (run concrete (loading e)) (now (s .entry)) (now (s .exit)) ⌝ }
 {
     if waiting(s, Dir::In, e) {
         let at = send(s, e);
@@ -54,18 +50,14 @@ fn iso_in_load(s: &mut State, e: u8) -> Begun
 
 // What went out is counted, the next is loaded.
 pub fn start(s: &mut State, e: u8) -> Begun
-    ensures { λ r. ⌜ ((b : List ℕ) → begun r (view (now (s .exit))) b ≡ go {i = true} (isoInComplete e) (view (now (s .entry))) b) ⌝ }
-    ensures { λ _. ⌜ saved (now (s .exit)) ≡ saved (now (s .entry)) ⌝ }
-    ensures { λ r. ⌜ Bound r ⌝ }
+    ensures { λ r. ⌜ MeansFrom (begun r) (Bound r) (run concrete (isoInComplete {i = true} e)) (now (s .entry)) (now (s .exit)) ⌝ }
 {
     model_ops::rings::complete(s, e);
     iso_in_load(s, e)
 }
 
 pub fn iso_in_complete(s: &mut State, e: u8) -> CompleteNext
-    ensures { λ r. ⌜ ((b : List ℕ) → meaning r (view (now (s .exit))) b ≡ go {i = true} (isoInComplete e) (view (now (s .entry))) b) ⌝ }
-    ensures { λ _. ⌜ saved (now (s .exit)) ≡ saved (now (s .entry)) ⌝ }
-    ensures { λ r. ⌜ Linked r ⌝ }
+    ensures { λ r. ⌜ MeansFrom (meaning r) (Linked r) (run concrete (isoInComplete {i = true} e)) (now (s .entry)) (now (s .exit)) ⌝ }
 {
     let x = start(s, e);
     let q = x.access;
@@ -74,26 +66,21 @@ pub fn iso_in_complete(s: &mut State, e: u8) -> CompleteNext
 }
 
 fn after_loaded(s: &mut State, e: u8) -> CompleteNext
-    ensures { λ r. ⌜ ((b : List ℕ) → meaning r (view (now (s .exit))) b ≡ denote (Complete.Loaded e) (view (now (s .entry)), b)) ⌝ }
-    ensures { λ _. ⌜ saved (now (s .exit)) ≡ saved (now (s .entry)) ⌝ }
-    ensures { λ r. ⌜ Linked r ⌝ }
+    ensures { λ r. ⌜ MeansFrom (meaning r) (Linked r) (denote (Complete.Loaded e)) (now (s .entry)) (now (s .exit)) ⌝ }
 {
     wake(s, Dir::In, e);
     CompleteNext::Ends
 }
 
 fn after_sent(s: &State, e: u8) -> CompleteNext
-    ensures { λ r. ⌜ ((b : List ℕ) → meaning r (view (now (s .entry))) b ≡ denote (Complete.Sent e) (view (now (s .entry)), b)) ⌝ }
-    ensures { λ r. ⌜ Linked r ⌝ }
+    ensures { λ r. ⌜ MeansAt (meaning r) (Linked r) (denote (Complete.Sent e)) (now (s .entry)) ⌝ }
 {
     let n = next_len(s, Dir::In, e);
     CompleteNext::Asks(Access::Write(Reg::EpTLen, e, n as u32), Complete::Loaded(e))
 }
 
 pub fn iso_in_complete_resume(s: &mut State, p: Complete) -> CompleteNext
-    ensures { λ r. ⌜ ((b : List ℕ) → meaning r (view (now (s .exit))) b ≡ denote p (view (now (s .entry)), b)) ⌝ }
-    ensures { λ _. ⌜ saved (now (s .exit)) ≡ saved (now (s .entry)) ⌝ }
-    ensures { λ r. ⌜ Linked r ⌝ }
+    ensures { λ r. ⌜ MeansFrom (meaning r) (Linked r) (denote p) (now (s .entry)) (now (s .exit)) ⌝ }
 {
     match p {
         Complete::Sent(e) => after_sent(s, e),

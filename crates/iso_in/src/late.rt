@@ -12,11 +12,12 @@ use regs::Access;
 use state::State;
 use state::load_globals;
 ghost use mathlib.Core.Path.{_≡_};
-ghost use mathlib.Core.Bool.{true};
 ghost use mathlib.Core.List.{List};
 ghost use Prim.Native.Nat.{ℕ};
 ghost use Rattle.state.specs.State.{view, saved};
-ghost use Rattle.model_ops.specs.Concrete.{go};
+ghost use Rattle.model.specs.Script.{run};
+ghost use Rattle.model_points.specs.Means.{MeansFrom};
+ghost use Rattle.model_ops.specs.Concrete.{concrete};
 ghost use Rattle.iso_in.specs.Late.{lateAll, walking, looked, denote, meaning, Linked};
 
 // An endpoint completes, and the endpoints that are left. Nothing is awaited.
@@ -48,9 +49,7 @@ fn find(s: &mut State, frame: u16, m: u16) -> Found
 }
 
 fn walk(s: &mut State, frame: u16, m: u16) -> LateNext
-    ensures { λ r. ⌜ ((b : List ℕ) → meaning frame r (view (now (s .exit))) b ≡ walking frame m (view (now (s .entry)), b)) ⌝ }
-    ensures { λ _. ⌜ saved (now (s .exit)) ≡ saved (now (s .entry)) ⌝ }
-    ensures { λ r. ⌜ Linked r ⌝ }
+    ensures { λ r. ⌜ MeansFrom (meaning frame r) (Linked r) (walking frame m) (now (s .entry)) (now (s .exit)) ⌝ }
 {
     let f = find(s, frame, m);
     match f {
@@ -65,18 +64,14 @@ fn walk(s: &mut State, frame: u16, m: u16) -> LateNext
 }
 
 pub fn begin(s: &mut State, frame: u16) -> LateNext
-    ensures { λ r. ⌜ ((b : List ℕ) → meaning frame r (view (now (s .exit))) b ≡ go (lateAll frame) (view (now (s .entry))) b) ⌝ }
-    ensures { λ _. ⌜ saved (now (s .exit)) ≡ saved (now (s .entry)) ⌝ }
-    ensures { λ r. ⌜ Linked r ⌝ }
+    ensures { λ r. ⌜ MeansFrom (meaning frame r) (Linked r) (run concrete (lateAll frame)) (now (s .entry)) (now (s .exit)) ⌝ }
 {
     let g = load_globals(s);
     walk(s, frame, iso_in_every(g))
 }
 
 pub fn resume(s: &mut State, frame: u16, p: Late) -> LateNext
-    ensures { λ r. ⌜ ((b : List ℕ) → meaning frame r (view (now (s .exit))) b ≡ denote frame p (view (now (s .entry)), b)) ⌝ }
-    ensures { λ _. ⌜ saved (now (s .exit)) ≡ saved (now (s .entry)) ⌝ }
-    ensures { λ r. ⌜ Linked r ⌝ }
+    ensures { λ r. ⌜ MeansFrom (meaning frame r) (Linked r) (denote frame p) (now (s .entry)) (now (s .exit)) ⌝ }
 {
     let rest = p.rest;
     let q = p.completing;

@@ -32,9 +32,11 @@ ghost use Prim.Native.Nat.{ℕ};
 ghost use Rattle.regs.specs.Registers.{fitsIn};
 ghost use Rattle.frame.specs.Usb20.{indexOf, frameOf};
 ghost use Rattle.frame.specs.Advance as frames;
-ghost use Rattle.state.specs.State.{view, saved};
+ghost use Rattle.state.specs.State.{view};
+ghost use Rattle.model.specs.Script.{run};
 ghost use Rattle.model.specs.IsoIn as script;
-ghost use Rattle.model_ops.specs.Concrete.{go};
+ghost use Rattle.model_points.specs.Means.{MeansAt, MeansFrom};
+ghost use Rattle.model_ops.specs.Concrete.{concrete};
 ghost use Rattle.iso_in.specs.Sof.{walking, thenWalk, looked, denote, meaning, Linked, fitsAt};
 
 // Where it stands, with the endpoints that are left.
@@ -69,8 +71,7 @@ fn find(s: &State, frame: u16, m: u16) -> Found
 
 // After the last endpoint, the callback.
 fn walk(s: &State, frame: u16, m: u16) -> SofNext
-    ensures { λ r. ⌜ ((b : List ℕ) → meaning frame r (view (now (s .entry))) b ≡ walking frame m (view (now (s .entry)), b)) ⌝ }
-    ensures { λ r. ⌜ Linked r ⌝ }
+    ensures { λ r. ⌜ MeansAt (meaning frame r) (Linked r) (walking frame m) (now (s .entry)) ⌝ }
 {
     let f = find(s, frame, m);
     match f {
@@ -86,9 +87,7 @@ fn walk(s: &State, frame: u16, m: u16) -> SofNext
 }
 
 pub fn on_sof(s: &mut State, frame: u16) -> SofNext
-    ensures { λ r. ⌜ ((b : List ℕ) → meaning frame r (view (now (s .exit))) b ≡ go {i = true} (script.onSof frame) (view (now (s .entry))) b) ⌝ }
-    ensures { λ _. ⌜ saved (now (s .exit)) ≡ saved (now (s .entry)) ⌝ }
-    ensures { λ r. ⌜ Linked r ⌝ }
+    ensures { λ r. ⌜ MeansFrom (meaning frame r) (Linked r) (run concrete (script.onSof {i = true} frame)) (now (s .entry)) (now (s .exit)) ⌝ }
 {
     let mut g = load_globals(s);
     g.sof_frame = frame;
@@ -106,10 +105,8 @@ fn frame_before(frame: u16) -> u16
 
 // It completed in the microframe before.
 fn unseen(s: &mut State, frame: u16, e: u8, m: u16) -> SofNext
-    ensures { λ r. ⌜ ((b : List ℕ) → meaning frame r (view (now (s .exit))) b
-        ≡ thenWalk frame m (go {i = true} (script.unseen frame e) (view (now (s .entry))) b)) ⌝ }
-    ensures { λ _. ⌜ saved (now (s .exit)) ≡ saved (now (s .entry)) ⌝ }
-    ensures { λ r. ⌜ Linked r ⌝ }
+    ensures { λ r. ⌜ MeansFrom (meaning frame r) (Linked r) (λ t. thenWalk frame m (run concrete (script.unseen {i = true} frame e) t))
+        (now (s .entry)) (now (s .exit)) ⌝ }
 {
     record_frame(s, e, frame_before(frame));
     let x = start(s, e);
@@ -120,9 +117,7 @@ fn unseen(s: &mut State, frame: u16, e: u8, m: u16) -> SofNext
 
 fn after_mis(s: &mut State, frame: u16, e: u8, m: u16, v: u32) -> SofNext
     requires { ⌜ fitsIn v 8 ≡ true ⌝ }
-    ensures { λ r. ⌜ ((b : List ℕ) → meaning frame r (view (now (s .exit))) b ≡ denote frame (Sof.Mis e m) v (view (now (s .entry)), b)) ⌝ }
-    ensures { λ _. ⌜ saved (now (s .exit)) ≡ saved (now (s .entry)) ⌝ }
-    ensures { λ r. ⌜ Linked r ⌝ }
+    ensures { λ r. ⌜ MeansFrom (meaning frame r) (Linked r) (denote frame (Sof.Mis e m) v) (now (s .entry)) (now (s .exit)) ⌝ }
 {
     if sie_free(byte(v)) {
         return unseen(s, frame, e, m);
@@ -142,9 +137,7 @@ fn leaving(st: u8, e: u8) -> bool
 
 fn after_st(s: &mut State, frame: u16, e: u8, m: u16, v: u32) -> SofNext
     requires { ⌜ fitsIn v 8 ≡ true ⌝ }
-    ensures { λ r. ⌜ ((b : List ℕ) → meaning frame r (view (now (s .exit))) b ≡ denote frame (Sof.St e m) v (view (now (s .entry)), b)) ⌝ }
-    ensures { λ _. ⌜ saved (now (s .exit)) ≡ saved (now (s .entry)) ⌝ }
-    ensures { λ r. ⌜ Linked r ⌝ }
+    ensures { λ r. ⌜ MeansFrom (meaning frame r) (Linked r) (denote frame (Sof.St e m) v) (now (s .entry)) (now (s .exit)) ⌝ }
 {
     if leaving(byte(v), e) {
         return walk(s, frame, m);
@@ -153,9 +146,7 @@ fn after_st(s: &mut State, frame: u16, e: u8, m: u16, v: u32) -> SofNext
 }
 
 fn after_completing(s: &mut State, frame: u16, m: u16, p: Complete) -> SofNext
-    ensures { λ r. ⌜ ((v : ℕ) (b : List ℕ) → meaning frame r (view (now (s .exit))) b ≡ denote frame (Sof.Completing m p) v (view (now (s .entry)), b)) ⌝ }
-    ensures { λ _. ⌜ saved (now (s .exit)) ≡ saved (now (s .entry)) ⌝ }
-    ensures { λ r. ⌜ Linked r ⌝ }
+    ensures { λ r. ⌜ ((v : ℕ) → MeansFrom (meaning frame r) (Linked r) (denote frame (Sof.Completing m p) v) (now (s .entry)) (now (s .exit))) ⌝ }
 {
     let n = complete::iso_in_complete_resume(s, p);
     match n {
@@ -178,9 +169,7 @@ pub fn fits_at(p: Sof, v: u32) -> bool
 
 pub fn on_sof_resume(s: &mut State, frame: u16, p: Sof, v: u32) -> SofNext
     requires { ⌜ fitsAt p v ≡ true ⌝ }
-    ensures { λ r. ⌜ ((b : List ℕ) → meaning frame r (view (now (s .exit))) b ≡ denote frame p v (view (now (s .entry)), b)) ⌝ }
-    ensures { λ _. ⌜ saved (now (s .exit)) ≡ saved (now (s .entry)) ⌝ }
-    ensures { λ r. ⌜ Linked r ⌝ }
+    ensures { λ r. ⌜ MeansFrom (meaning frame r) (Linked r) (denote frame p v) (now (s .entry)) (now (s .exit)) ⌝ }
 {
     match p {
         Sof::Mis(e, m) => after_mis(s, frame, e, m, v),

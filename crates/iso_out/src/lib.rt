@@ -20,10 +20,12 @@ ghost use mathlib.Core.Path.{_≡_};
 ghost use mathlib.Core.Bool.{Bool, true, false};
 ghost use Prim.Native.Nat.{ℕ};
 ghost use Rattle.regs.specs.Registers.{fitsIn};
-ghost use Rattle.state.specs.State.{view, saved};
+ghost use Rattle.state.specs.State.{view};
 ghost use Rattle.model.specs.declared.Transfer.{Transfer};
+ghost use Rattle.model.specs.Script.{run};
 ghost use Rattle.model.specs.IsoOut.{arriving, entry, isoOutCheck};
-ghost use Rattle.model_ops.specs.Concrete.{go};
+ghost use Rattle.model_points.specs.Means.{MeansWithSlots};
+ghost use Rattle.model_ops.specs.Concrete.{concrete, go};
 ghost use Rattle.iso_out.specs.Points.{walk, arrival, denote, meaning, foundAs, Linked, fitsAt};
 
 // Where the check stands: the endpoint, and the mask of those behind it.
@@ -93,10 +95,8 @@ fn find(s: &State, buf: &[u8], mask: u16) -> Found
 
 // The packet is admitted or turned away, and the head's slot armed (mod.rs 491-508).
 fn arm(s: &mut State, buf: &mut [u8], e: u8, m: u16, len: u16) -> CheckNext
-    ensures { λ r. ⌜ ((x : Transfer) (iso : Bool) → meaning x iso r (view (now (s .exit))) (now (buf .exit))
-        ≡ go (arrival x iso e len m) (view (now (s .entry))) (now (buf .entry))) ⌝ }
-    ensures { λ _. ⌜ saved (now (s .exit)) ≡ saved (now (s .entry)) ⌝ }
-    ensures { λ r. ⌜ Linked r ⌝ }
+    ensures { λ r. ⌜ ((x : Transfer) (iso : Bool) → MeansWithSlots (meaning x iso r) (Linked r) (run concrete (arrival x iso e len m))
+        (now (s .entry)) (now (buf .entry)) (now (s .exit)) (now (buf .exit))) ⌝ }
 {
     let at = arrive(s, buf, e, len);
     CheckNext::Asks(Access::Receive(e, at), Check::Armed(e, m))
@@ -104,9 +104,8 @@ fn arm(s: &mut State, buf: &mut [u8], e: u8, m: u16, len: u16) -> CheckNext
 
 // Lowest number first; where the interrupt's length is the packet's, no status is read (mod.rs 468-485).
 fn walk_on(s: &mut State, buf: &mut [u8], x: Transfer, iso: bool, m: u16) -> CheckNext
-    ensures { λ r. ⌜ meaning x iso r (view (now (s .exit))) (now (buf .exit)) ≡ go (walk x iso m) (view (now (s .entry))) (now (buf .entry)) ⌝ }
-    ensures { λ _. ⌜ saved (now (s .exit)) ≡ saved (now (s .entry)) ⌝ }
-    ensures { λ r. ⌜ Linked r ⌝ }
+    ensures { λ r. ⌜ MeansWithSlots (meaning x iso r) (Linked r) (run concrete (walk x iso m))
+        (now (s .entry)) (now (buf .entry)) (now (s .exit)) (now (buf .exit)) ⌝ }
 {
     let f = find(s, buf, m);
     match f {
@@ -122,9 +121,8 @@ fn walk_on(s: &mut State, buf: &mut [u8], x: Transfer, iso: bool, m: u16) -> Che
 
 // A disabled endpoint's slot still holds its last packet: it is not walked (mod.rs 466-467).
 pub fn iso_out_check(s: &mut State, buf: &mut [u8], x: Transfer, iso: bool) -> CheckNext
-    ensures { λ r. ⌜ meaning x iso r (view (now (s .exit))) (now (buf .exit)) ≡ go (isoOutCheck {i = true} x iso) (view (now (s .entry))) (now (buf .entry)) ⌝ }
-    ensures { λ _. ⌜ saved (now (s .exit)) ≡ saved (now (s .entry)) ⌝ }
-    ensures { λ r. ⌜ Linked r ⌝ }
+    ensures { λ r. ⌜ MeansWithSlots (meaning x iso r) (Linked r) (run concrete (isoOutCheck {i = true} x iso))
+        (now (s .entry)) (now (buf .entry)) (now (s .exit)) (now (buf .exit)) ⌝ }
 {
     let g = load_globals(s);
     let mask = out_enabled(g.ep_config, g.iso_out_eps);
@@ -150,9 +148,8 @@ fn after_st(
     v: u32,
 ) -> CheckNext
     requires { ⌜ fitsIn v 8 ≡ true ⌝ }
-    ensures { λ r. ⌜ meaning x iso r (view (now (s .exit))) (now (buf .exit)) ≡ denote x iso (Check.St e m) v (view (now (s .entry)), now (buf .entry)) ⌝ }
-    ensures { λ _. ⌜ saved (now (s .exit)) ≡ saved (now (s .entry)) ⌝ }
-    ensures { λ r. ⌜ Linked r ⌝ }
+    ensures { λ r. ⌜ MeansWithSlots (meaning x iso r) (Linked r) (denote x iso (Check.St e m) v)
+        (now (s .entry)) (now (buf .entry)) (now (s .exit)) (now (buf .exit)) ⌝ }
 {
     let st = byte(v);
     if arriving(st, e) {
@@ -164,12 +161,8 @@ fn after_st(
 
 // The endpoint is woken, and the walk goes on (mod.rs 510).
 fn after_armed(s: &mut State, buf: &mut [u8], x: Transfer, iso: bool, e: u8, m: u16) -> CheckNext
-    ensures { λ r. ⌜ ((v : ℕ) → meaning x iso r (view (now (s .exit))) (now (buf .exit)) ≡ denote x iso (Check.Armed e m) v (
-      view (now (s .entry)),
-      now (buf .entry),
-    )) ⌝ }
-    ensures { λ _. ⌜ saved (now (s .exit)) ≡ saved (now (s .entry)) ⌝ }
-    ensures { λ r. ⌜ Linked r ⌝ }
+    ensures { λ r. ⌜ ((v : ℕ) → MeansWithSlots (meaning x iso r) (Linked r) (denote x iso (Check.Armed e m) v)
+        (now (s .entry)) (now (buf .entry)) (now (s .exit)) (now (buf .exit))) ⌝ }
 {
     wake(s, Dir::Out, e);
     walk_on(s, buf, x, iso, m)
@@ -195,9 +188,8 @@ pub fn iso_out_check_resume(
     v: u32,
 ) -> CheckNext
     requires { ⌜ fitsAt p v ≡ true ⌝ }
-    ensures { λ r. ⌜ meaning x iso r (view (now (s .exit))) (now (buf .exit)) ≡ denote x iso p v (view (now (s .entry)), now (buf .entry)) ⌝ }
-    ensures { λ _. ⌜ saved (now (s .exit)) ≡ saved (now (s .entry)) ⌝ }
-    ensures { λ r. ⌜ Linked r ⌝ }
+    ensures { λ r. ⌜ MeansWithSlots (meaning x iso r) (Linked r) (denote x iso p v)
+        (now (s .entry)) (now (buf .entry)) (now (s .exit)) (now (buf .exit)) ⌝ }
 {
     match p {
         Check::St(e, m) => after_st(s, buf, x, iso, e, m, v),

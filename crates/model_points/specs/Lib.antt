@@ -1,3 +1,4 @@
 pub mod Numbers
 pub mod Results
+pub mod Means
 pub mod NumbersLaws

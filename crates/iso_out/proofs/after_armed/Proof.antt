@@ -18,11 +18,11 @@ same-length : tie.Need-same-length
 same-length c = search needs
 
 returns : tie.Need-returns
-returns c =
+returns c v =
     let a = c .before .before .before .before .before .before .before .before .args in
     let r = c .before .before .walk-on in
     let k = c .before .before .before .before .before .wake in (
-      λ v. r .ensures .0 ∙ ap (λ (d : Driver). go (walk (a .x) (a .iso) (a .m)) d (now (a .buf))) (k .ensures .0),
+      r .ensures .0 ∙ ap (λ (d : Driver). go (walk (a .x) (a .iso) (a .m)) d (now (a .buf))) (k .ensures .0),
       (r .ensures .1 .0 ∙ k .ensures .1, r .ensures .1 .1),
     )
 

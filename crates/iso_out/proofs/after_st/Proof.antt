@@ -40,13 +40,13 @@ same-length-2 c = search needs
 returns-2 : tie.Need-returns-2
 returns-2 c =
     let a = c .before .before .before .before .before .before .before .before .before .before .before .before .args in
-    let r = c .before .before .arm in (
-      r .ensures .0 (a .x) (a .iso) ∙ sym (status-marked (a .x) (a .iso) (a .e) (a .m) (a .v) _ (view (now (a .s)), now (a .buf))
+    let r = c .before .before .arm .ensures (a .x) (a .iso) in (
+      r .0 ∙ sym (status-marked (a .x) (a .iso) (a .e) (a .m) (a .v) _ (view (now (a .s)), now (a .buf))
           (rw (c .before .before .before .before .before .before .before .before .before .before .byte .ensures) at
           (sym (c .before .before .before .before .before .before .before .before .before .arriving .ensures)
           ∙ c .before .before .before .before .before .before .before .before .if1 .left))
           (c .before .before .before .before .before .marked .ensures)),
-      (r .ensures .1 .0, r .ensures .1 .1),
+      (r .1 .0, r .1 .1),
     )
 
 pub after-st-spec : {M : Type 1} → statement M

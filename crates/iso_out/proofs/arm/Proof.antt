@@ -10,8 +10,8 @@ same-length : tie.Need-same-length
 same-length c = search needs
 
 returns : tie.Need-returns
-returns c = (
-  λ x iso. simp (
+returns c x iso = (
+  simp (
     c .before .before .arrive .ensures .0,
     c .before .before .arrive .ensures .1 .0,
     c .before .before .arrive .ensures .1 .1 .0,

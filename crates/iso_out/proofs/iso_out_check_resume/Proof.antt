@@ -40,10 +40,10 @@ same-length-2 c = search needs
 returns-2 : tie.Need-returns-2
 returns-2 c =
     let a = c .before .before .before .before .before .before .before .before .before .args in
-    let r = c .before .before .after-armed in (
-      r .ensures .0 (a .v) ∙ ap (λ (q : Check). points.denote (a .x) (a .iso) q (a .v) (view (now (a .s)), now (a .buf)))
+    let r = c .before .before .after-armed .ensures (a .v) in (
+      r .0 ∙ ap (λ (q : Check). points.denote (a .x) (a .iso) q (a .v) (view (now (a .s)), now (a .buf)))
           (sym (c .before .before .before .before .before .before .p2 .given .1)),
-      (r .ensures .1 .0, r .ensures .1 .1),
+      (r .1 .0, r .1 .1),
     )
 
 pub iso-out-check-resume-spec : {M : Type 1} → statement M

@@ -25,12 +25,12 @@ returns : tie.Need-returns
 returns c =
     let a = c .before .before .before .before .before .before .before .before .before .before .before .before .before .before .args in
     let f = c .before .before .before .before .before .before .before .before .before .before .find in
-    let r = c .before .before .arm in (
-      r .ensures .0 (a .x) (a .iso)
+    let r = c .before .before .arm .ensures (a .x) (a .iso) in (
+      r .0
           ∙ sym (f .ensures (a .x) (a .iso) ∙ found-entry (a .x) (a .iso) (f .result) _ _ (view (now (a .s)), now (a .buf))
           (c .before .before .before .before .before .before .before .before .f .given .1)
           (sym (c .before .before .before .before .before .before .entry .ensures) ∙ c .before .before .before .before .before .if1 .taken)),
-      (r .ensures .1 .0, r .ensures .1 .1),
+      (r .1 .0, r .1 .1),
     )
 
 enum-told : tie.Need-enum-told

@@ -17,8 +17,8 @@ walk-requires : tie.Need-walk-requires
 walk-requires c κs = search needs
 
 returns : tie.Need-returns
-returns c = (
-  λ v b. sof-more (c .before .before .before .before .before .args .frame) (c .before .before .before .before .before .args .m) _ _ _ _ b _
+returns c v = (
+  λ b. sof-more (c .before .before .before .before .before .args .frame) (c .before .before .before .before .before .args .m) _ _ _ _ b _
       (c .before .n .given .1) (c .before .before .before .iso-in-complete-resume .ensures .0 b),
   (
     c .before .before .before .iso-in-complete-resume .ensures .1 .0,
@@ -27,8 +27,8 @@ returns c = (
 )
 
 returns-2 : tie.Need-returns-2
-returns-2 c = (
-  λ v b. c .walk .ensures .0 b ∙ sof-next (c .before .before .before .before .before .before .args .frame)
+returns-2 c v = (
+  λ b. c .walk .ensures .0 b ∙ sof-next (c .before .before .before .before .before .before .args .frame)
       (c .before .before .before .before .before .before .args .m) _ _ b _ (c .before .before .enum-told .given .1)
       (c .before .before .before .before .iso-in-complete-resume .ensures .0 b),
   (c .before .before .before .before .iso-in-complete-resume .ensures .1 .0, c .walk .ensures .1),

@@ -33,10 +33,9 @@ returns-2 : tie.Need-returns-2
 returns-2 c = (λ b. simp (c .after-st .ensures .0, c .before .before .before .p2 .given .1), (c .after-st .ensures .1 .0, c .after-st .ensures .1 .1))
 
 returns-3 : tie.Need-returns-3
-returns-3 c = (
-  λ b. simp (c .after-completing .ensures .0 (c .before .before .before .before .before .args .v), c .before .before .before .p3 .given .1),
-  (c .after-completing .ensures .1 .0, c .after-completing .ensures .1 .1),
-)
+returns-3 c =
+    let there = c .after-completing .ensures (c .before .before .before .before .before .args .v) in
+    (λ b. simp (there .0, c .before .before .before .p3 .given .1), (there .1 .0, there .1 .1))
 
 returns-4 : tie.Need-returns-4
 returns-4 c = (λ b. simp (c .enum-told .given .1), (refl, tt))
