@@ -21,15 +21,15 @@ ghost use Prim.Native.Nat.{ℕ, _+_, _<_, _≤_};
 ghost use Rattle.regs.specs.ControlWord.{NAK, DATA0, wordOf};
 ghost use Rattle.state.specs.Driver.{Driver};
 ghost use Rattle.state.specs.State.{view, saved};
+ghost use Rattle.model.specs.Script.{run};
 ghost use Rattle.model.specs.Bus as script;
-ghost use Rattle.model_ops.specs.Concrete.{go};
+ghost use Rattle.model_points.specs.Means.{MeansFrom};
+ghost use Rattle.model_ops.specs.Concrete.{concrete, go};
 ghost use Rattle.bus.specs.Points.{afterReset, afterNaked, afterReleased, denote, meaning, Follows, Linked};
 
 // `poll` (mod.rs 1231-1266).
 pub fn poll(s: &mut State) -> Next
-    ensures { λ r. ⌜ ((b : List ℕ) → meaning r (view (now (s .exit))) b ≡ go script.poll (view (now (s .entry))) b) ⌝ }
-    ensures { λ _. ⌜ saved (now (s .exit)) ≡ saved (now (s .entry)) ⌝ }
-    ensures { λ r. ⌜ Linked r ⌝ }
+    ensures { λ r. ⌜ MeansFrom (meaning r) (Linked r) (run concrete script.poll) (now (s .entry)) (now (s .exit)) ⌝ }
 {
     let mut g = load_globals(s);
     if is_on(g.power) {

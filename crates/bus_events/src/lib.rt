@@ -12,14 +12,15 @@ ghost use mathlib.Core.Path.{_≡_};
 ghost use mathlib.Core.List.{List};
 ghost use Prim.Native.Nat.{ℕ};
 ghost use Rattle.state.specs.Driver.{Driver};
+ghost use Rattle.model.specs.Script.{run};
 ghost use Rattle.model.specs.Bus as script;
-ghost use Rattle.model_ops.specs.Concrete.{go};
+ghost use Rattle.model_points.specs.Means.{Means};
+ghost use Rattle.model_ops.specs.Concrete.{concrete};
 ghost use Rattle.bus.specs.Points.{resultless, denote, meaning, Linked};
 
 // `enable` (mod.rs 1225-1227).
 pub fn enable() -> Next
-    ensures { λ r. ⌜ ((d : Driver) (b : List ℕ) → meaning r d b ≡ go (resultless script.enable) d b) ⌝ }
-    ensures { λ r. ⌜ Linked r ⌝ }
+    ensures { λ r. ⌜ Means (meaning r) (Linked r) (run concrete (resultless script.enable)) ⌝ }
 {
     Next::Asks(Access::Read(Reg::Ctrl, 0), Point::Enable)
 }

@@ -25,8 +25,10 @@ ghost use Prim.Native.Nat.{ℕ};
 ghost use Rattle.regs.specs.ControlWord.{ACK, NYET, NAK, DATA0, wordOf};
 ghost use Rattle.state.specs.Driver.{Driver};
 ghost use Rattle.state.specs.State.{view, saved};
+ghost use Rattle.model.specs.Script.{run};
 ghost use Rattle.model.specs.Bus as script;
-ghost use Rattle.model_ops.specs.Concrete.{go};
+ghost use Rattle.model_points.specs.Means.{MeansFrom, MeansWithSlots};
+ghost use Rattle.model_ops.specs.Concrete.{concrete, go};
 ghost use Rattle.model_ops.specs.Records.{isoOut};
 ghost use Rattle.bus.specs.Points.{resultless, renewedAs, enabledOut, afterType, afterWords, afterPlaced, denote, meaning, Linked};
 
@@ -45,9 +47,7 @@ fn renew(s: &mut State, dir: Dir, e: u8, armed: u8)
 // Not isochronous: armed as soon as it is enabled (mod.rs 1279-1282, 1296).
 fn set_enabled_out(s: &mut State, e: u8, on: bool) -> Next
     requires { ⌜ isoOut (view (now s)) Dir.Out e ≡ false ⌝ }
-    ensures { λ r. ⌜ ((b : List ℕ) → meaning r (view (now (s .exit))) b ≡ go (enabledOut e on) (view (now (s .entry))) b) ⌝ }
-    ensures { λ _. ⌜ saved (now (s .exit)) ≡ saved (now (s .entry)) ⌝ }
-    ensures { λ r. ⌜ Linked r ⌝ }
+    ensures { λ r. ⌜ MeansFrom (meaning r) (Linked r) (run concrete (enabledOut e on)) (now (s .entry)) (now (s .exit)) ⌝ }
 {
     renew(s, Dir::Out, e, flag_of(on));
     let at = place(s, Dir::Out, e);
@@ -55,9 +55,7 @@ fn set_enabled_out(s: &mut State, e: u8, on: bool) -> Next
 }
 
 fn set_enabled_in(s: &mut State, e: u8, on: bool) -> Next
-    ensures { λ r. ⌜ ((b : List ℕ) → meaning r (view (now (s .exit))) b ≡ go (resultless (script.setEnabled Dir.In e on)) (view (now (s .entry))) b) ⌝ }
-    ensures { λ _. ⌜ saved (now (s .exit)) ≡ saved (now (s .entry)) ⌝ }
-    ensures { λ r. ⌜ Linked r ⌝ }
+    ensures { λ r. ⌜ MeansFrom (meaning r) (Linked r) (run concrete (resultless (script.setEnabled Dir.In e on))) (now (s .entry)) (now (s .exit)) ⌝ }
 {
     let r = load_ep(s, Dir::In, e);
     let iso = is_on(r.iso);
@@ -69,10 +67,8 @@ fn set_enabled_in(s: &mut State, e: u8, on: bool) -> Next
 
 // `endpoint_set_enabled` (mod.rs 1268-1330).
 pub fn endpoint_set_enabled(s: &mut State, buf: &mut [u8], dir: Dir, e: u8, on: bool) -> Next
-    ensures { λ r. ⌜ meaning r (view (now (s .exit))) (now (buf .exit))
-        ≡ go (resultless (script.setEnabled dir e on)) (view (now (s .entry))) (now (buf .entry)) ⌝ }
-    ensures { λ _. ⌜ saved (now (s .exit)) ≡ saved (now (s .entry)) ⌝ }
-    ensures { λ r. ⌜ Linked r ⌝ }
+    ensures { λ r. ⌜ MeansWithSlots (meaning r) (Linked r) (run concrete (resultless (script.setEnabled dir e on)))
+        (now (s .entry)) (now (buf .entry)) (now (s .exit)) (now (buf .exit)) ⌝ }
 {
     match dir {
         Dir::Out => {

@@ -20,16 +20,17 @@ ghost use Prim.Native.Nat.{ℕ};
 ghost use Rattle.regs.specs.Registers.{fitsIn};
 ghost use Rattle.state.specs.Driver.{Driver};
 ghost use Rattle.state.specs.State.{view, saved};
+ghost use Rattle.model.specs.Script.{run};
 ghost use Rattle.model.specs.Bus as script;
-ghost use Rattle.model_ops.specs.Concrete.{go};
+ghost use Rattle.model_points.specs.Means.{Means, MeansFrom};
+ghost use Rattle.model_ops.specs.Concrete.{concrete, go};
 ghost use Rattle.model_ops.specs.Records.{plainOf};
 ghost use Rattle.model.specs.Tree.{ends};
 ghost use Rattle.bus.specs.Points.{resultless, afterStallWord, afterRestart, denote, meaning, Linked};
 
 // `is_endpoint_stalled` (mod.rs 1101-1106).
 pub fn is_endpoint_stalled(dir: Dir, e: u8) -> Next
-    ensures { λ r. ⌜ ((d : Driver) (b : List ℕ) → meaning r d b ≡ go {i = false} (script.isEndpointStalled dir e) d b) ⌝ }
-    ensures { λ r. ⌜ Linked r ⌝ }
+    ensures { λ r. ⌜ Means (meaning r) (Linked r) (run concrete (script.isEndpointStalled {i = false} dir e)) ⌝ }
 {
     Next::Asks(Access::Read(ctrl_of(dir), e), Point::Stalled)
 }
@@ -74,9 +75,7 @@ fn restarted_in(e: u8, r: EpState) -> u8
 
 // The toggle restarts, and the control word.
 fn restart(s: &mut State, dir: Dir, e: u8) -> Next
-    ensures { λ r. ⌜ ((b : List ℕ) → meaning r (view (now (s .exit))) b ≡ go (resultless (script.setStalled dir e false)) (view (now (s .entry))) b) ⌝ }
-    ensures { λ _. ⌜ saved (now (s .exit)) ≡ saved (now (s .entry)) ⌝ }
-    ensures { λ r. ⌜ Linked r ⌝ }
+    ensures { λ r. ⌜ MeansFrom (meaning r) (Linked r) (run concrete (resultless (script.setStalled dir e false))) (now (s .entry)) (now (s .exit)) ⌝ }
 {
     let r = load_ep(s, dir, e);
     let mut t = r;
@@ -103,9 +102,7 @@ fn restart(s: &mut State, dir: Dir, e: u8) -> Next
 
 // `set_endpoint_stalled` (mod.rs 1053-1099).
 pub fn set_endpoint_stalled(s: &mut State, dir: Dir, e: u8, on: bool) -> Next
-    ensures { λ r. ⌜ ((b : List ℕ) → meaning r (view (now (s .exit))) b ≡ go (resultless (script.setStalled dir e on)) (view (now (s .entry))) b) ⌝ }
-    ensures { λ _. ⌜ saved (now (s .exit)) ≡ saved (now (s .entry)) ⌝ }
-    ensures { λ r. ⌜ Linked r ⌝ }
+    ensures { λ r. ⌜ MeansFrom (meaning r) (Linked r) (run concrete (resultless (script.setStalled dir e on))) (now (s .entry)) (now (s .exit)) ⌝ }
 {
     if !on {
         return restart(s, dir, e);
