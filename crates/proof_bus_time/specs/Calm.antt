@@ -5,7 +5,7 @@ use Rattle.model.specs.Script.{Script}
 pub use Rattle.model.specs.Steps.{If}
 use Rattle.model.specs.EveryLaws.{OnlyBy}
 use Rattle.proof_bus_time.specs.Enabled.{writesConfig}
-use Rattle.proof_bus_time.specs.Stays.{allowed}
+use Rattle.proof_bus_time.specs.StaysLaws.{allowed}
 
 abbrev pub Quiet : Access → Type 0
 Quiet q = If (not (writesConfig q)) (Unit {0})

@@ -16,11 +16,11 @@ use Rattle.req_bus_time.specs.Time.{inUse, uncharged}
 use Rattle.call_bus_time.specs.Sharing.{Sort, apart, sortOf, timeAfter, settled, sharedCall}
 use Rattle.proof_bus_time.specs.Four.{Four, Turn, called, next, after}
 use Rattle.proof_bus_time.specs.History.{history, timeBy}
-use Rattle.proof_bus_time.specs.Limit.{limit}
-use Rattle.proof_bus_time.specs.Histories.{in-use-is}
+use Rattle.proof_bus_time.specs.LimitLaws.{limit}
+use Rattle.proof_bus_time.specs.HistoriesLaws.{in-use-is}
 use Rattle.proof_bus_time.specs.Enabled.{enabledTime, countedTime, AtFirst, FourAtFirst}
 use Rattle.proof_bus_time.specs.Charged.{chargedTime}
-use Rattle.proof_bus_time.specs.Now.{in-use-now, in-use-at-rest, in-use-charged}
+use Rattle.proof_bus_time.specs.NowLaws.{in-use-now, in-use-at-rest, in-use-charged}
 use Rattle.proof_bus_time.specs.Code.{LentFour, fourOf, TurnMade, CallStep, left, Run, turns, last}
 
 -- the calls that do not bring the record (all but start-up, an enabling and continue) leave it, and so every charge:

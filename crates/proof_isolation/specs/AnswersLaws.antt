@@ -8,8 +8,8 @@ use Rattle.model.specs.Script.{Script, ret, bind, fetch, gathered}
 use Rattle.model.specs.Answers.{Answer, End, operation, resultless, staged, named}
 use Rattle.proof_isolation.specs.EqualExcept.{Channel}
 use Rattle.proof_isolation.specs.Apart.{PairBy, Pair}
-use Rattle.proof_isolation.specs.Pairs.{Eq, Any, p-ret, p-bind, p-same, p-then, p-before, p-before-then, p-test, p-get}
-use Rattle.proof_isolation.specs.Values.{p-begins, p-gathered, p-globals}
+use Rattle.proof_isolation.specs.PairsLaws.{Eq, Any, p-ret, p-bind, p-same, p-then, p-before, p-before-then, p-test, p-get}
+use Rattle.proof_isolation.specs.ValuesLaws.{p-begins, p-gathered, p-globals}
 use Rattle.proof_isolation.specs.Answers.{SameAnswer, same, ended}
 
 pub answer-sym : {x : ℕ} {a b : Answer} → SameAnswer x a b → SameAnswer x b a

@@ -29,21 +29,21 @@ use Rattle.model.specs.Calls.{PollAccept, BeginReject, BeginDataOut, BeginAccep
 use Rattle.model.specs.Calls.{Op, interrupt, slotted, other, aside, code}
 use Rattle.proof_isolation.specs.EqualExcept.{Channel}
 use Rattle.proof_isolation.specs.Apart.{PairBy, Pair}
-use Rattle.proof_isolation.specs.Pairs.{Any, p-later, p-ret, p-bind, p-same, p-then, p-test, p-tests, p-when, p-write, p-get, p-is, p-act}
-use Rattle.proof_isolation.specs.Values.{p-assign, p-record, p-modify-ep, p-wake, p-globals, p-plain-in, p-plain-ep0, p-plain-any, in-other, p-records}
+use Rattle.proof_isolation.specs.PairsLaws.{Any, p-later, p-ret, p-bind, p-same, p-then, p-test, p-tests, p-when, p-write, p-get, p-is, p-act}
+use Rattle.proof_isolation.specs.ValuesLaws.{p-assign, p-record, p-modify-ep, p-wake, p-globals, p-plain-in, p-plain-ep0, p-plain-any, in-other, p-records}
 use Rattle.proof_isolation.specs.Answers.{SameAnswer, same}
 use Rattle.proof_isolation.specs.AnswersLaws.{p-operation, p-resultless, p-staged, p-named}
-use Rattle.proof_isolation.specs.Walks.{ctrl-steady, p-reads, p-modify-reg, p-complete}
-use Rattle.proof_isolation.specs.Interrupt.{p-interrupt}
-use Rattle.proof_isolation.specs.Asides.{p-aside, room-in, enqueues}
-use Rattle.proof_isolation.specs.Rows.{p-unless, p-numbered, p-named-or-0, p-enabled, p-ends-request, p-polled}
-use Rattle.proof_isolation.specs.Reading.{p-poll-read}
-use Rattle.proof_isolation.specs.Enabling.{p-set-enabled}
-use Rattle.proof_isolation.specs.EnablingOut as enabling-out
-use Rattle.proof_isolation.specs.Switching as switching
-use Rattle.proof_isolation.specs.DataOut.{p-ends-control, p-unless-setup, p-within, p-requested, p-aborted, p-begin-data-out, p-poll-data-out}
-use Rattle.proof_isolation.specs.Polling.{p-poll}
-use Rattle.proof_isolation.specs.Kept.{p-put-control, p-put-paced, p-paced, p-put-request, p-fill, p-fill0}
+use Rattle.proof_isolation.specs.WalksLaws.{ctrl-steady, p-reads, p-modify-reg, p-complete}
+use Rattle.proof_isolation.specs.InterruptLaws.{p-interrupt}
+use Rattle.proof_isolation.specs.AsidesLaws.{p-aside, room-in, enqueues}
+use Rattle.proof_isolation.specs.RowsLaws.{p-unless, p-numbered, p-named-or-0, p-enabled, p-ends-request, p-polled}
+use Rattle.proof_isolation.specs.ReadingLaws.{p-poll-read}
+use Rattle.proof_isolation.specs.EnablingLaws.{p-set-enabled}
+use Rattle.proof_isolation.specs.EnablingOutLaws as enabling-out
+use Rattle.proof_isolation.specs.SwitchingLaws as switching
+use Rattle.proof_isolation.specs.DataOutLaws.{p-ends-control, p-unless-setup, p-within, p-requested, p-aborted, p-begin-data-out, p-poll-data-out}
+use Rattle.proof_isolation.specs.PollingLaws.{p-poll}
+use Rattle.proof_isolation.specs.KeptLaws.{p-put-control, p-put-paced, p-paced, p-put-request, p-fill, p-fill0}
 use Rattle.proof_isolation.specs.Operations.{CommonSlots, Common, OfChannel, polls, passes}
 
 module _ {c : Channel} {st : ℕ} {i : Bool} where

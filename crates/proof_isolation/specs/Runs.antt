@@ -26,13 +26,14 @@ use Rattle.proof_isolation.specs.EqualExcept.{Lawful, Channel, LowEquiv}
 use Rattle.proof_isolation.specs.Apart.{ApartBy, Apart, end, both, left, right, owns}
 use Rattle.proof_isolation.specs.Answers.{SameAnswer}
 use Rattle.proof_isolation.specs.Ending.{Finished, fin}
-use Rattle.proof_isolation.specs.Asides.{Others, p-aside, finishes}
+use Rattle.proof_isolation.specs.Asides.{Others}
+use Rattle.proof_isolation.specs.AsidesLaws.{p-aside, finishes}
 use Rattle.proof_isolation.specs.Operations.{Common}
 use Rattle.proof_isolation.specs.OperationsLaws.{p-call}
 use Rattle.proof_isolation.specs.Stores.{StoredAlike}
 use Rattle.proof_isolation.specs.StoresLaws.{lent-like}
-use Rattle.proof_isolation.specs.Time.{same-record, same-turned-down}
-use Rattle.proof_isolation.specs.Others.{same-answers}
+use Rattle.proof_isolation.specs.TimeLaws.{same-record, same-turned-down}
+use Rattle.proof_isolation.specs.OthersLaws.{same-answers}
 use Rattle.call_bus_time.specs.Spares.{Sparing}
 use Rattle.call_bus_time.specs.SparesLaws.{interrupt-spares, spares-on}
 use Rattle.proof_isolation.specs.Schedule.{Run, Two, begins, goes, asked, stores, accessOf, runBy, statusOf}

@@ -18,12 +18,12 @@ use Rattle.model_ops.specs.Rings.{St}
 use Rattle.machine.specs.Suspended.{driverOf}
 use Rattle.machine.specs.Goes.{Called}
 use Rattle.proof_wake_ups.specs.Rooms.{Few, Roomy}
-use Rattle.proof_isolation.specs.Likes.{and-false}
+use Rattle.proof_isolation.specs.LikesLaws.{and-false}
 use Rattle.proof_isolation.specs.EqualExcept.{Channel}
 use Rattle.proof_isolation.specs.Whose.{madeFor, ownWay}
 use Rattle.proof_isolation.specs.Apart.{next, Another, never, elsewhere, ownable, Its, status, receive}
 use Rattle.proof_isolation.specs.Apart.{waits, Shared, Own, ApartBy, end, both, left, right, owns}
-use Rattle.proof_isolation.specs.Pairs.{apart-more, apart-flip}
+use Rattle.proof_isolation.specs.PairsLaws.{apart-more, apart-flip}
 use Rattle.proof_isolation.specs.Answers as answer
 use Rattle.proof_isolation.specs.Answers.{SameAnswer}
 use Rattle.proof_isolation.specs.AnswersLaws.{answer-sym}

@@ -24,7 +24,7 @@ use Rattle.proof_isolation.specs.EqualExcept.{Lawful, Channel}
 use Rattle.proof_isolation.specs.Apart.{status, Past, gone, waits, ApartBy, end, both, left, right, owns}
 use Rattle.proof_isolation.specs.Answers.{SameAnswer}
 use Rattle.call_bus_time.specs.Spares.{Spares, Sparing}
-use Rattle.proof_isolation.specs.Others.{same-others}
+use Rattle.proof_isolation.specs.OthersLaws.{same-others}
 use Rattle.proof_isolation.specs.Schedule.{Two, atOwn, SameAns, same, SameStand, SameOthers, Answers, alike, own-first}
 use Rattle.proof_isolation.specs.Schedule.{own-second}
 use Rattle.proof_isolation.specs.Standing.{stops, runOf, own-yes, own-no, same-ans, telling, flips, told-flips, At, at, Both}

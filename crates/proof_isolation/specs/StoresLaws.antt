@@ -17,7 +17,7 @@ use Rattle.proof_book.specs.Pages.{Pages}
 use Rattle.proof_book.specs.Coupling.{Coupling, Chip}
 use Rattle.proof_book.specs.ChipsLaws.{chip}
 use Rattle.proof_isolation.specs.EqualExcept.{Lawful, Channel, LowEquiv, Touched}
-use Rattle.proof_isolation.specs.Likes.{but-refl}
+use Rattle.proof_isolation.specs.LikesLaws.{but-refl}
 use Rattle.proof_isolation.specs.Stores.{Stored, StoredAlike, OwnLent}
 
 -- lent as it was left, no call is shut out

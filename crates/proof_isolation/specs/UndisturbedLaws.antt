@@ -3,11 +3,53 @@ use mathlib.Core.Bool.{Bool}
 use mathlib.Core.List.{List, [], _∷_}
 use mathlib.Core.Path.{_≡_, ap, subst, sym, _∙_}
 use Prim.Native.Nat.{ℕ}
-use Rattle.proof_isolation.specs.Schedule.{Run, Two, first, second, given}
-use Rattle.proof_isolation.specs.Standing.{At}
-use Rattle.proof_isolation.specs.StandingLaws.{at-time}
-use Rattle.proof_isolation.specs.Start.{anew, starts, one-so-far}
-use Rattle.proof_isolation.specs.Undisturbed.{Session, started-up, opened, Opens, AllOpen, Undisturbed, always, stands-after}
+use Rattle.proof_isolation.specs.Schedule.{Run, Two, first, second, given, Turn, begins, goes, asked, stores, others-time, turn, after, May, After, Answered, Allowed, Every}
+use Rattle.proof_isolation.specs.Standing.{At, at}
+use Rattle.proof_isolation.specs.StandingLaws.{at-time, at-stands, at-lined, at-alike, at-swap}
+use Rattle.proof_isolation.specs.StartLaws.{anew, starts, one-so-far}
+use Rattle.proof_isolation.specs.Undisturbed.{Session, started-up, opened, Opens, AllOpen, Undisturbed}
+use Rattle.model.specs.Calls.{Config, Op}
+use Rattle.model.specs.Machine.{Event}
+use Rattle.proof_isolation.specs.EqualExcept.{Channel}
+use Rattle.proof_isolation.specs.Runs.{goes-by, begins-by, asked-by, stores-by}
+use Rattle.proof_isolation.specs.AloneLaws.{alone-by}
+
+-- ---- one turn
+
+module _ (c : Channel) (share : Bool) (n : ℕ) where
+  pub record Steps (t : Turn) (w : Two) : Type 0 where
+    pub stand : At c w
+    pub after-it : After c t w
+
+  first-stands : {w : Two} → At c w → (d : Event Config Op) → May c (first d) w → At c (turn share n (first d) w)
+  first-stands (at st i l q q′ h k k′ e) d m = alone-by c share n st i l q q′ h k k′ e (d .call) (d .lent) m
+
+  stepped : (t : Turn) {w : Two} → At c w → Answered c t w → Steps t w
+  stepped t y a = record {
+    stand = y;
+    after-it = record { answers = a; stands = at-stands y; lined = at-lined y; alike = at-alike y; time = at-time y };
+  }
+
+  pub step : (t : Turn) {w : Two} → At c w → May c t w → Steps t (turn share n t w)
+  step (begins v o b b′) (at st i l q q′ h k k′ e) m = let y = begins-by c share n st i l q q′ k k′ e v o b b′ m in
+      stepped (begins v o b b′) (y .stand) (y .answers)
+  step (goes v v′ b b′) (at st i l q q′ h k k′ e) m = let y = goes-by c share n st i l q q′ k k′ e v v′ b b′ m in
+      stepped (goes v v′ b b′) (y .stand) (y .answers)
+  step (asked v b b′) (at st i l q q′ h k k′ e) m = let y = asked-by c share n st i l q q′ k k′ e v b b′ m in
+      stepped (asked v b b′) (y .stand) (y .answers)
+  step (stores b b′) (at st i l q q′ h k k′ e) m = stepped (stores b b′) (stores-by c share n st i l q q′ h k k′ e b b′ m) tt
+  step (others-time f) (at st i l q q′ h k k′ e) m = stepped (others-time f) (at st i l q q′ h k k′ (ap f e)) tt
+  step (first d) a m = stepped (first d) (first-stands a d m) tt
+  step (second d) a m = stepped (second d) (at-swap (first-stands (at-swap a) d m)) tt
+
+  -- every list of turns, from where they line up
+  pub always : (ts : List Turn) {w : Two} → At c w → Allowed c share n ts w → Every c share n ts w
+  always [] a m = tt
+  always (t ∷ ts) a m = let s = step t a (m .0) in (s .after-it, always ts (s .stand) (m .1))
+
+  pub stands-after : (ts : List Turn) {w : Two} → At c w → Allowed c share n ts w → At c (after share n ts w)
+  stands-after [] a m = a
+  stands-after (t ∷ ts) a m = stands-after ts (step t a (m .0) .stand) (m .1)
 
 -- ---- from start-ups on
 

@@ -1,6 +1,6 @@
 -- Request Fourteen, where the others' opens, closes and questions fall before an access of the channel's own in one run and after it in the other:
 -- "they line up by the accesses not made for it, between which the others get the same calls … in the same order". Definitions only; the theorem is
--- `undisturbed-late` (LateRuns.antt)
+-- `undisturbed-late` (LateRunsLaws.antt)
 use mathlib.Core.Bool.{Bool, true, false}
 use mathlib.Core.List.{List, [], _∷_}
 use mathlib.Core.Logic.{_≢_}

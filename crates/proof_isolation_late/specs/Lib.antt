@@ -1,8 +1,9 @@
 pub mod Late
 pub mod Lights
 pub mod LightsLaws
-pub mod Slides
-pub mod Crossing
-pub mod LateRuns
-pub mod Early
+pub mod SlidesLaws
+pub mod CrossingLaws
+pub mod LateRunsLaws
+pub mod EarlyLaws
 pub mod LateCode
+pub mod LateCodeLaws

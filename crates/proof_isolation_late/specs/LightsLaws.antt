@@ -41,9 +41,9 @@ use Rattle.proof_wake_ups.specs.Still.{put-leaves}
 use Rattle.proof_isolation.specs.EqualExcept.{Lawful, Channel, Touched}
 use Rattle.proof_isolation_late.specs.Late.{Light, opens, closes, asks-of, Other}
 use Rattle.proof_isolation.specs.Schedule.{Asked}
-use Rattle.proof_isolation.specs.OwnSteps.{own-arrives}
-use Rattle.proof_isolation.specs.Asides.{stamp-any, oldest-by}
-use Rattle.proof_isolation.specs.Values.{in-other}
+use Rattle.proof_isolation.specs.OwnStepsLaws.{own-arrives}
+use Rattle.proof_isolation.specs.AsidesLaws.{stamp-any, oldest-by}
+use Rattle.proof_isolation.specs.ValuesLaws.{in-other}
 use Rattle.proof_isolation_late.specs.Lights.{opening, closing, changeOf, done-by, AnswerParts, seen}
 
 pub open-is : (d : Driver) (e : ℕ) → openOn d e ≡ changeOf opening e d

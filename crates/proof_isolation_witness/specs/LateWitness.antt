@@ -22,7 +22,7 @@ use Rattle.proof_isolation.specs.Undisturbed.{Session}
 use Rattle.proof_isolation_late.specs.Late.{opens, closes, asks-of, callOf, Item, gets, goes-own, first-late, Serving, Other, AtOwn}
 use Rattle.proof_isolation_late.specs.Late.{MayLate}
 use Rattle.proof_isolation_late.specs.Late.{LateSession, AllOpenLate, UndisturbedLate}
-use Rattle.proof_isolation_late.specs.LateRuns.{undisturbed-late}
+use Rattle.proof_isolation_late.specs.LateRunsLaws.{undisturbed-late}
 use Rattle.proof_isolation_witness.specs.Moves.{Move, serves, reads, stored, stored-both, first-opens, first-closes}
 use Rattle.proof_isolation_witness.specs.Moves.{bringsB, brings-at, off}
 use Rattle.proof_isolation_witness.specs.Once.{quickly, quickly-is, flag-on, quickLast, parting, quickSetUp}

@@ -25,7 +25,7 @@ use Rattle.proof_book.specs.Sorting.{sortsOf}
 use Rattle.proof_isolation.specs.EqualExcept.{Channel}
 use Rattle.proof_isolation.specs.Schedule.{Run, Two, Turn, Early, gets, accessOf, runBy, ownBy, statusOf}
 use Rattle.proof_isolation.specs.Schedule.{called, alone, turn, given, heeded, after, May, Allowed}
-use Rattle.proof_isolation.specs.Start.{freshBook}
+use Rattle.proof_isolation.specs.FreshBook.{freshBook}
 use Rattle.proof_isolation.specs.Undisturbed.{Session, Opens}
 use Rattle.proof_isolation_witness.specs.Moves.{Move, serves, reads, stored, stored-both, first-goes, second-goes}
 use Rattle.proof_isolation_witness.specs.Moves.{first-opens, first-closes}

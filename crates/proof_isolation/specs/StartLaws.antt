@@ -1,0 +1,195 @@
+-- The two runs are one up to a point after EP0's start with nothing under way: what holds there
+use mathlib.Core.Bool.{Bool, true, false, cond, _&&_, true≢false}
+use mathlib.Core.List.{List, [], _∷_}
+use mathlib.Core.Path.{_≡_, refl, ap, subst, sym, _∙_}
+use Prim.Native.Nat.{ℕ, zero, _<_}
+use Rattle.regs.specs.declared.Access.the-variants.{Wait}
+use Rattle.regs.specs.declared.Dir.the-variants.{Out}
+use Rattle.state.specs.Driver.{Driver}
+use Rattle.model.specs.Tree.{ends}
+use Rattle.model.specs.Every.{at-end}
+use Rattle.model.specs.Answers.{Answer, Refused, NotYet}
+use Rattle.model.specs.Simulates.{Phase, quiet}
+use Rattle.model.specs.Calls.{Config, Op, calls, startRow}
+use Rattle.model.specs.Machine.{Buf, pending, start, question, Event, ended, Way, idle, busy, Machine, lentTo, started}
+use Rattle.model.specs.Agree.{Ways, both-idle, both-busy, agrees, from-start}
+use Rattle.model_ops.specs.Rings.{St}
+use Rattle.machine.specs.Suspended.{driverOf, drive}
+use Rattle.machine.specs.Goes.{Called}
+use Rattle.proof_book.specs.Pages.{Pages}
+use Rattle.proof_book.specs.Book.{book}
+use Rattle.proof_book.specs.Coupling.{Coupling}
+use Rattle.proof_book.specs.StartUpLaws.{fresh-kept}
+use Rattle.proof_book.specs.AgreesLaws.{agree}
+use Rattle.proof_book.specs.TransferKinds.{Has}
+use Rattle.proof_book.specs.Sorting.{sortsOf, Sorting}
+use Rattle.proof_book.specs.SortingLaws.{ep0-plain, after-sorting}
+use Rattle.proof_book.specs.Always.{after}
+use Rattle.proof_book.specs.MachineRuns.{Premise}
+use Rattle.proof_book.specs.SlotsKeptLaws.{lent-is}
+use Rattle.call_bus_time.specs.Sharing.{starting, sortOf, timeAfter, turnedDown}
+use Rattle.proof_wake_ups.specs.Rooms.{Few, Roomy, Rooms}
+use Rattle.proof_wake_ups.specs.RoomsLaws.{room, rooms, start-rooms}
+use Rattle.proof_isolation.specs.EqualExcept as but
+use Rattle.proof_isolation.specs.EqualExcept.{Bounded, Channel}
+use Rattle.proof_isolation.specs.BoundsLaws.{after-bounded}
+use Rattle.proof_isolation.specs.LikesLaws.{like-refl}
+use Rattle.proof_isolation.specs.Apart.{end}
+use Rattle.proof_isolation.specs.Answers as answer
+use Rattle.proof_isolation.specs.Schedule.{Run, Two, Early, gets, shares, runBy, sharing, called, given, heeded, same}
+use Rattle.proof_isolation.specs.FreshBook.{freshBook}
+use Rattle.proof_isolation.specs.Standing.{At, at}
+use Rattle.proof_isolation.specs.Runs.{lent-room}
+
+-- with room for wake-ups
+pub record Roomed (r : Run) : Type 0 where
+  pub few : Few (r .answer)
+  pub machine : Roomy (r .machine)
+
+-- ---- a run of such calls is one of demand 3
+
+module _ (share : Bool) (n : ℕ) where
+  -- a call that is turned down does to the machine what a question does
+  turned : (d : Bool) (e : Event Config Op) (m : Machine Answer Driver) (t u : List ℕ)
+      → cond {A = Called × List ℕ} d ((ended (Refused 19), lentTo calls driverOf m (e .lent)), t) (drive (e .call) m (e .lent), u) .0 .1
+      ≡ drive (cond d (record { call = question (pending 0); lent = e .lent }) e .call) m
+      (cond d (record { call = question (pending 0); lent = e .lent }) e .lent) .1
+  turned true e m t u = refl
+  turned false e m t u = refl
+
+  pub heeds : (es : List Early) (r : Run) → given share n es r .machine ≡ after calls driverOf (heeded share n es r) (r .machine)
+  heeds [] r = refl
+  heeds (shares f ∷ es) r = heeds es (sharing f r)
+  heeds (gets e ∷ es) r = heeds es (called share n (e .call) (e .lent) r)
+      ∙ ap (λ m. after calls driverOf (heeded share n es (called share n (e .call) (e .lent) r)) m)
+      (turned (turnedDown n (sortOf (e .call)) (drive (e .call) (r .machine) (e .lent) .0) (r .machine .st) (r .time) && share) e (r .machine) (r .time) _)
+
+  shared-rooms : (d : Bool) {m : Machine Answer Driver} → Roomy m → (b : Buf) {y : Called} → Rooms y → (t u : List ℕ)
+      → Rooms (cond {A = Called × List ℕ} d ((ended (Refused 19), lentTo calls driverOf m b), t) (y, u) .0)
+  shared-rooms true k b r t u = record { answer = tt; machine = lent-room k b }
+  shared-rooms false k b r t u = r
+
+  pub given-rooms : (es : List Early) (r : Run) → Roomed r → Roomed (given share n es r)
+  given-rooms [] r k = k
+  given-rooms (shares f ∷ es) r k = given-rooms es (sharing f r) (record { few = k .few; machine = k .machine })
+  given-rooms (gets e ∷ es) r k =
+      let x = shared-rooms (turnedDown n (sortOf (e .call)) (drive (e .call) (r .machine) (e .lent) .0) (r .machine .st) (r .time) && share)
+      (k .machine) (e .lent) (rooms (e .call) (k .machine) (e .lent)) (r .time) _ in
+      given-rooms es (called share n (e .call) (e .lent) r) (record { few = x .answer; machine = x .machine })
+
+-- ---- with a book
+
+record Stood (m : Machine Answer Driver) : Type 0 where
+  phase : Phase
+  pages : Machine Answer Pages
+  ways : Ways driverOf book agree calls phase (m .way) (pages .way)
+  rest : Coupling phase (m .buf) (m .st) (pages .st)
+
+stood : (es : List (Event Config Op)) {φ : Phase} (m : Machine Answer Driver) (d : Machine Answer Pages)
+    → Ways driverOf book agree calls φ (m .way) (d .way) → Coupling φ (m .buf) (m .st) (d .st)
+    → Premise es m d → Stood (after calls driverOf es m)
+stood [] {φ} m d w r l = record { phase = φ; pages = d; ways = w; rest = r }
+stood (e ∷ es) m d w r l = let a = agrees driverOf book agree calls fresh-kept
+    (e .call) (e .lent) m d w r (lent-is m d r (e .lent) (e .call) (l .0)) in stood es _ _ (a .ways) (a .rest) (l .1)
+
+abbrev isIdle : {A S : Type 0} → Way A S → Bool
+isIdle idle = true
+isIdle (busy i a k) = false
+
+at-rest : {φ : Phase} {w : Way Answer Driver} {w′ : Way Answer Pages} → Ways driverOf book agree calls φ w w′ → isIdle w ≡ true → φ ≡ quiet
+at-rest both-idle e = refl
+at-rest (both-busy i a p k) e = absurd (true≢false (sym e))
+
+quiet-rest : {m : Machine Answer Driver} (s : Stood m) → m .way ≡ idle → Coupling quiet (m .buf) (m .st) (s .pages .st)
+quiet-rest {m} s e = subst (λ φ. Coupling φ (m .buf) (m .st) (s .pages .st)) (at-rest (s .ways) (ap isIdle e)) (s .rest)
+
+-- ---- the channel
+
+-- every isochronous OUT endpoint of a run is one
+abbrev pub channelOf : {d : Driver} → Sorting d → (x : ℕ) → x < 16 → sortsOf d Out x ≡ true → Channel
+channelOf {d} k x small iso = record { number = x; below = small; iso = sortsOf d; receives = iso; ep0 = ep0-plain k }
+
+-- ---- two runs that are one
+
+stands-idle : (c : Channel) (r : Run) → but.Lawful (c .iso) quiet (r .machine .st, r .machine .buf)
+    → Roomed r → r .machine .way ≡ idle → At c (record { first = r; second = r; status = 0 })
+stands-idle c r l k e =
+    subst (λ w. Roomy (record { way = w; st = r .machine .st; buf = r .machine .buf }) → At c (twice w)) (sym e)
+    (λ y. at 0 false {o = ends NotYet s} {u = ends NotYet s} (end (answer.same NotYet) (like-refl l (room (k .machine))))
+    (r .access) (r .access) (same (r .answer)) (record { spares = λ _. at-end tt; few = k .few; room = y })
+    (record { spares = λ _. at-end tt; few = k .few; room = y }) refl)
+    (k .machine)
+  where
+    s : St
+    s = (r .machine .st, r .machine .buf)
+
+    twice : Way Answer Driver → Two
+    twice w =
+        let x : Run = record {
+          machine = record { way = w; st = r .machine .st; buf = r .machine .buf };
+          access = r .access;
+          answer = r .answer;
+          time = r .time;
+        } in
+        record { first = x; second = x; status = 0 }
+
+-- after a start-up that rows 1 and 2 do not stop, and a list of calls under demand 3's premise
+module _ (share : Bool) (n : ℕ) (k : Config) (b : Buf) (row : startRow k b ≡ zero) where
+  abbrev new : Machine Answer Driver
+  new = record { way = idle; st = driverOf .fresh k; buf = b }
+
+  -- what was before is gone
+  abbrev pub anew : List ℕ → Run
+  anew t = let x = started calls driverOf (λ s. s) k zero new b in
+      runBy (Wait 0) (x, timeAfter n starting (x .0) (driverOf .fresh k) t)
+
+  pub starts : (r : Run) → called share n (start k) b r ≡ anew (r .time)
+  starts r = rw row refl
+
+  anew-rooms : (t : List ℕ) → Roomed (anew t)
+  anew-rooms t = let x : Rooms (started calls driverOf (λ s. s) k zero new b) =
+      subst (λ i. Rooms (started calls driverOf (λ s. s) k i new b)) row
+      (start-rooms k b row new) in
+      record { few = x .answer; machine = x .machine }
+
+  abbrev Claim : List Early → Run → Type 0
+  Claim es x = let z = given share n es x in
+      Premise (heeded share n es x) (x .machine) (freshBook k b (x .answer)) → z .machine .way ≡ idle → z .machine .st .globals .stage ≡ 2
+      → (c : Channel) → c .iso ≡ sortsOf (z .machine .st) → At c (record { first = z; second = z; status = 0 })
+
+  module _ (es : List Early) (t : List ℕ) where
+    abbrev met : Run
+    met = given share n es (anew t)
+
+    abbrev heard : List (Event Config Op)
+    heard = heeded share n es (anew t)
+
+    -- what holds after the start-up and the list that was heeded
+    met-by : (P : Driver → Type 0) → P (after calls driverOf heard (started calls driverOf (λ s. s) k (startRow k b) new b .1) .st) → P (met .machine .st)
+    met-by P h = subst (λ (m : Machine Answer Driver). P (m .st)) (sym (heeds share n es (anew t)))
+        (subst (λ i. P (after calls driverOf heard (started calls driverOf (λ s. s) k i new b .1) .st)) row h)
+
+    met-sorting : Sorting (met .machine .st)
+    met-sorting = met-by Sorting (after-sorting k b row heard new)
+
+    met-bounded : Bounded (met .machine .st)
+    met-bounded = met-by Bounded (after-bounded k b row heard new)
+
+    stands-met : Premise heard (anew t .machine) (freshBook k b (anew t .answer))
+        → met .machine .way ≡ idle → met .machine .st .globals .stage ≡ 2 → (c : Channel)
+        → c .iso ≡ sortsOf (met .machine .st) → At c (record { first = met; second = met; status = 0 })
+    stands-met l e g c f =
+        let a = from-start driverOf book agree calls fresh-kept k b row [] new
+        (record { way = idle; st = book .driver .fresh k; buf = b }) tt .0 in
+        let z : Stood (met .machine) = subst Stood (sym (heeds share n es (anew t))) (stood heard _ _ (a .ways) (a .rest) l) in
+        stands-idle c met (record {
+          pages = z .pages .st;
+          rest = quiet-rest z e;
+          has = subst (λ i. Has i (met .machine .st)) (sym f) (met-sorting .has);
+          stage = g;
+          bounded = met-bounded;
+        })
+        (given-rooms share n es (anew t) (anew-rooms t)) e
+
+  pub one-so-far : (es : List Early) (r : Run) → Claim es (called share n (start k) b r)
+  one-so-far es r = subst (λ x. Claim es x) (sym (starts r)) (stands-met es (r .time))
