@@ -30,7 +30,8 @@ use Rattle.model.specs.Calls.{Op, interrupt, slotted, other, aside, code}
 use Rattle.proof_isolation.specs.EqualExcept.{Channel}
 use Rattle.proof_isolation.specs.Apart.{PairBy, Pair}
 use Rattle.proof_isolation.specs.PairsLaws.{Any, p-later, p-ret, p-bind, p-same, p-then, p-test, p-tests, p-when, p-write, p-get, p-is, p-act}
-use Rattle.proof_isolation.specs.ValuesLaws.{p-assign, p-record, p-modify-ep, p-wake, p-globals, p-plain-in, p-plain-ep0, p-plain-any, in-other, p-records}
+use Rattle.proof_isolation.specs.ValuesLaws.{p-assign, p-record, p-modify-ep, p-wake, p-globals, p-plain-in, p-plain-ep0, p-plain-any}
+use Rattle.proof_isolation.specs.ValuesLaws.{in-other, p-records}
 use Rattle.proof_isolation.specs.Answers.{SameAnswer, same}
 use Rattle.proof_isolation.specs.AnswersLaws.{p-operation, p-resultless, p-staged, p-named}
 use Rattle.proof_isolation.specs.WalksLaws.{ctrl-steady, p-reads, p-modify-reg, p-complete}

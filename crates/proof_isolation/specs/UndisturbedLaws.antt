@@ -3,7 +3,8 @@ use mathlib.Core.Bool.{Bool}
 use mathlib.Core.List.{List, [], _∷_}
 use mathlib.Core.Path.{_≡_, ap, subst, sym, _∙_}
 use Prim.Native.Nat.{ℕ}
-use Rattle.proof_isolation.specs.Schedule.{Run, Two, first, second, given, Turn, begins, goes, asked, stores, others-time, turn, after, May, After, Answered, Allowed, Every}
+use Rattle.proof_isolation.specs.Schedule.{Run, Two, first, second, given, Turn, begins, goes, asked, stores, others-time, turn}
+use Rattle.proof_isolation.specs.Schedule.{after, May, After, Answered, Allowed, Every}
 use Rattle.proof_isolation.specs.Standing.{At, at}
 use Rattle.proof_isolation.specs.StandingLaws.{at-time, at-stands, at-lined, at-alike, at-swap}
 use Rattle.proof_isolation.specs.StartLaws.{anew, starts, one-so-far}

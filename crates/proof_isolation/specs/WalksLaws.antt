@@ -28,7 +28,8 @@ use Rattle.model_ops.specs.Concrete.{concrete, isOf, actOn, putOn, getOn}
 use Rattle.proof_isolation.specs.EqualExcept.{Channel}
 use Rattle.proof_isolation.specs.Whose.{sof}
 use Rattle.proof_isolation.specs.Apart.{Reads, Next, next, elsewhere, ApartBy, both, PairBy, Pair}
-use Rattle.proof_isolation.specs.PairsLaws.{rests, Eq, Any, p-ret, p-bind, p-same, p-then, p-test, p-when, p-read, p-write, p-callback, p-is, p-look, p-act}
+use Rattle.proof_isolation.specs.PairsLaws.{rests, Eq, Any, p-ret, p-bind, p-same, p-then, p-test, p-when, p-read, p-write}
+use Rattle.proof_isolation.specs.PairsLaws.{p-callback, p-is, p-look, p-act}
 use Rattle.proof_isolation.specs.PairsLaws.{p-hand}
 use Rattle.proof_isolation.specs.ValuesLaws.{p-assign, p-record, p-modify, p-modify-ep, p-wake, p-globals, p-plain-in, p-plain-ep0, p-plain-any}
 use Rattle.proof_isolation.specs.InRingsLaws.{waiting-in, next-in, completes, sends}
