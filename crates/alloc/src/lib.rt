@@ -105,5 +105,5 @@ pub fn endpoint(mut s: EpState, kind: u8, maximum: u16, base: u32, size: u16, sl
     s.stride = size;
     s.armed_slot = base;
     s.slots = slots;
-    s.reset()
+    state::by_loan(s)
 }

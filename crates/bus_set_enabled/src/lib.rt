@@ -39,7 +39,7 @@ fn renew(s: &mut State, dir: Dir, e: u8, armed: u8)
     ensures { λ _. ⌜ saved (now (s .exit)) ≡ saved (now (s .entry)) ⌝ }
 {
     let r = load_ep(s, dir, e);
-    let mut t = r.reset();
+    let mut t = state::by_loan(r);
     t.armed = armed;
     store_ep(s, dir, e, t);
 }

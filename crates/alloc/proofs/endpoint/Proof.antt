@@ -9,12 +9,12 @@ is-iso-requires c κs = search needs
 flag-requires : tie.Need-flag-requires
 flag-requires c κs = search needs
 
-reset-requires : tie.Need-reset-requires
-reset-requires c κs = search needs
+by-loan-requires : tie.Need-by-loan-requires
+by-loan-requires c κs = search needs
 
 returns : tie.Need-returns
 unfolding allocated
-returns c = simp (c .reset .ensures, c .before .flag .ensures, ← c .before .before .is-iso .ensures)
+returns c = simp (c .by-loan .ensures, c .before .flag .ensures, ← c .before .before .is-iso .ensures)
 
 pub endpoint-spec : {M : Type 1} → statement M
-endpoint-spec = tie.close (tie.spec is-iso-requires flag-requires reset-requires returns)
+endpoint-spec = tie.close (tie.spec is-iso-requires flag-requires by-loan-requires returns)

@@ -7,8 +7,8 @@ use Rattle.bus_set_enabled.proofs.renew.Tie as tie
 load-ep-requires : tie.Need-load-ep-requires
 load-ep-requires c κs = search needs
 
-reset-requires : tie.Need-reset-requires
-reset-requires c κs = search needs
+by-loan-requires : tie.Need-by-loan-requires
+by-loan-requires c κs = search needs
 
 store-ep-requires : tie.Need-store-ep-requires
 store-ep-requires c κs = search needs
@@ -17,7 +17,7 @@ returns : tie.Need-returns
 returns c = (
   simp (
     c .store-ep .ensures .0,
-    c .before .before .reset .ensures,
+    c .before .before .by-loan .ensures,
     c .before .before .before .load-ep .ensures,
     renew-both _ (view-sized _) _ _
         (c .before .before .before .before .before .args .armed) (c .before .before .before .before .before .pre),
@@ -26,4 +26,4 @@ returns c = (
 )
 
 pub renew-spec : {M : Type 1} → statement M
-renew-spec = tie.close (tie.spec load-ep-requires reset-requires store-ep-requires returns)
+renew-spec = tie.close (tie.spec load-ep-requires by-loan-requires store-ep-requires returns)
