@@ -24,7 +24,7 @@ use Rattle.proof_book.specs.Book.{Bk, putB, actB, handB, some, receiving
 use Rattle.proof_book.specs.FrameLaws.{out-same, in-same, at-elim}
 use Rattle.proof_book.specs.FrontPage.{givesTo, PassesOn, NoneLeft}
 use Rattle.proof_book.specs.FrontPage as page
-use borrow.Author.Tests.{eq-eqb}
+use borrow.Author.Tests.{eq-eqb, eqb-true}
 use lib.Dec.{eqb, ltb}
 use Rattle.proof_book.specs.RefusingLaws.{put-same}
 use Rattle.proof_book.specs.BookTracksLaws.{Tracks, end, ask, earlier, tracks-bind}
@@ -73,12 +73,18 @@ Loads q t = (e : ℕ) → sendsTo q e ≡ true → (0 < length (t .0 .ins e .wai
 abbrev pub InPeriodic : Pages → Type 0
 InPeriodic t = (x y : ℕ) → x % 16 ≡ y % 16 → t .ins x ≡ t .ins y
 
+-- the one that was being sent waits no more, all others do
+abbrev pub PassedBy : InPage → InPage → Type 0
+PassedBy p p′ = p′ .waiting ≡ cond (p .sending) (tail (p .waiting)) (p .waiting)
+
 -- where the access does not load IN e, its page stays; where it does, the one being sent may pass
 pub record Passing (s : Bk) (q : Access) (t : Bk) : Type 0 where
   pub spares : (e : ℕ) → page.loads q e ≡ false → t .0 .ins e ≡ s .0 .ins e
   pub passes : InPeriodic (s .0) → (e : ℕ) → PassesOn (s .0 .ins e) (t .0 .ins e)
   -- with no transmit address none is left there
   pub empties : (e : ℕ) → sendsTo q e ≡ false → (t .0 .ins e ≡ s .0 .ins e) ⊎ NoneLeft (t .0 .ins e)
+  -- at a load's transmit address the one that was being sent has passed
+  pub exact : InPeriodic (s .0) → (e : ℕ) → sendsTo q e ≡ true → t .0 .ins e .load ≡ true → PassedBy (s .0 .ins e) (t .0 .ins e)
 
 pub record Moves (s : Bk) (q : Access) (t : Bk) : Type 0 where
   pub arrives : Arrives s q t
@@ -106,6 +112,7 @@ passing-then s t u q h k = record {
   spares = λ e g. k .spares e g ∙ h e;
   passes = λ i e. subst (λ (p : InPage). PassesOn p (u .0 .ins e)) (h e) (k .passes (λ x y m. h x ∙ i x y m ∙ sym (h y)) e);
   empties = λ e g. subst (λ (p : InPage). (u .0 .ins e ≡ p) ⊎ NoneLeft (u .0 .ins e)) (h e) (k .empties e g);
+  exact = λ i e g l. subst (λ (p : InPage). PassedBy p (u .0 .ins e)) (h e) (k .exact (λ x y m. h x ∙ i x y m ∙ sym (h y)) e g l);
 }
 
 moves-then : (s t u : Bk) (q : Access) → Still s t → Moves t q u → Moves s q u
@@ -176,15 +183,16 @@ leaves f n s e g = by (receiving (s .0) f) refl
 pub waits-on : {p : InPage} → PassesOn p p
 waits-on = record { waiting = inl refl; queued = refl }
 
-pub still-in : {s t : Bk} (q : Access) → ((e : ℕ) → t .0 .ins e ≡ s .0 .ins e) → Passing s q t
-still-in {s} q h = record {
+pub still-in : {s t : Bk} (q : Access) → ((e : ℕ) → sendsTo q e ≡ false) → ((e : ℕ) → t .0 .ins e ≡ s .0 .ins e) → Passing s q t
+still-in {s} q n h = record {
   spares = λ e g. h e;
   passes = λ i e. subst (λ (p : InPage). PassesOn (s .0 .ins e) p) (sym (h e)) waits-on;
   empties = λ e g. inl (h e);
+  exact = λ i e g l. absurd (true≢false (sym g ∙ n e));
 }
 
 arrive-still : (f n : ℕ) (s : Bk) → Passing s (Receive f 0) (handB (arrive f n) s .1)
-arrive-still f n s = still-in (Receive f 0) (λ e. by e (receiving (s .0) f))
+arrive-still f n s = still-in (Receive f 0) (λ e. refl) (λ e. by e (receiving (s .0) f))
   where
     by : (e : ℕ) (u : Bool) → cond u (withOut (s .0) f (arrived (s .0 .outs f) (packetB f n s))) (s .0) .ins e ≡ s .0 .ins e
     by e true = refl
@@ -196,7 +204,7 @@ unmoved {q = q} h g = record {
   arrives = λ e x a r. no-receive h a;
   leaves = λ e g. refl;
   loads = λ e k. absurd (true≢false (sym k ∙ g e));
-  passing = still-in q (λ e. refl);
+  passing = still-in q g (λ e. refl);
 }
 
 pub sends : (f : ℕ) (s : Bk) → some (s .0 .ins f .waiting) ≡ true → Loads (Transmit f 0) (handB (send f) s .1)
@@ -250,6 +258,7 @@ module _ (f : ℕ) (s : Bk) where
         (λ h. at-page i e h (passedIn (s .0 .ins f)) (passed-on (s .0 .ins f))) (λ _. waits-on);
     empties = λ e g. at-elim (λ (p : InPage). (p ≡ s .0 .ins e) ⊎ NoneLeft p) f e (passedIn (s .0 .ins f)) (s .0 .ins)
         (λ _. inr (all-passed, refl)) (λ _. inl refl);
+    exact = λ i e g l. absurd (true≢false (sym g));
   }
     where
       all-passed : passedIn (s .0 .ins f) .waiting ≡ []
@@ -264,8 +273,21 @@ module _ (f : ℕ) (s : Bk) where
         (λ h. at-page i e h (loadedIn (passed .0 .ins f) (s .1)) own)
         (λ h. at-elim (λ (p : InPage). PassesOn (s .0 .ins e) p) f e (passedIn (s .0 .ins f)) (s .0 .ins) (λ k. absurd (h k)) (λ _. waits-on));
     empties = λ e g. inl (apart e g);
+    exact = λ i e g l. subst (λ (p : InPage). PassedBy p (handB (send f) passed .1 .0 .ins e)) (i f e (sym (eqb-true (e % 16) (f % 16) g)))
+        (subst (λ (p : InPage). PassedBy (s .0 .ins f) p) (sym (here e g)) own-passed);
   }
     where
+      here : (e : ℕ) → eqb (e % 16) (f % 16) ≡ true → handB (send f) passed .1 .0 .ins e ≡ loadedIn (passed .0 .ins f) (s .1)
+      here e g = ap (λ (u : Bool). cond u (loadedIn (passed .0 .ins f) (s .1)) (passed .0 .ins e)) g
+
+      own-passed : PassedBy (s .0 .ins f) (loadedIn (passed .0 .ins f) (s .1))
+      own-passed = subst (λ (p : InPage). PassedBy (s .0 .ins f) (loadedIn p (s .1))) (sym (in-same (s .0) f (passedIn (s .0 .ins f))))
+          (by (some (passedIn (s .0 .ins f) .waiting)))
+        where
+          by : (u : Bool) → PassedBy (s .0 .ins f) (cond u (sentIn (passedIn (s .0 .ins f)) (s .1)) (placedIn (passedIn (s .0 .ins f))))
+          by true = refl
+          by false = refl
+
       apart : (e : ℕ) → eqb (e % 16) (f % 16) ≡ false → handB (send f) passed .1 .0 .ins e ≡ s .0 .ins e
       apart e g = ap (λ (u : Bool). cond u (loadedIn (passed .0 .ins f) (s .1)) (cond u (passedIn (s .0 .ins f)) (s .0 .ins e))) g
 

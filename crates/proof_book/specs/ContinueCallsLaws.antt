@@ -28,7 +28,7 @@ use Rattle.proof_book.specs.FrontPage as page
 use Rattle.proof_book.specs.Others.{releases, releasing}
 use Rattle.proof_book.specs.BookTracksLaws.{end, ask}
 use Rattle.proof_book.specs.BookCountsLaws.{Periodic}
-use Rattle.proof_book.specs.BookDecidesLaws.{Watched, waits-on}
+use Rattle.proof_book.specs.BookDecidesLaws.{Watched, waits-on, PassedBy}
 use Rattle.proof_book.specs.BookCallsLaws.{WayFine, Fine}
 use Rattle.proof_book.specs.SendingStepsLaws.{Followed}
 use Rattle.proof_book.specs.SendingPagesLaws.{SameButLoad}
@@ -161,6 +161,8 @@ module _ (a : Ans Answer) (e : ℕ) (n : Machine Answer Pages) where
         → (y .1 .st .ins e ≡ n .st .ins e) ⊎ NoneLeft (y .1 .st .ins e)
     pub sends : (x : ℕ) → blankA a ≡ blankA (y .0) → (inInterrupt (n .way) ≡ false → stage (n .st) ≡ 2) → a ≡ handed (Transmit e x)
         → SentFrom x (y .1 .st .ins e)
+    pub moves : (x : ℕ) → blankA a ≡ blankA (y .0) → emptying (n .way) a ≡ false → a ≡ handed (Transmit e x) → y .1 .st .ins e .load ≡ true
+        → PassedBy (n .st .ins e) (y .1 .st .ins e)
 
   -- what the book is told is the driver's answer, but for an address
   pub told-sends : (y : Ans Answer) → blankA a ≡ blankA y → sending y e ≡ sending a e
@@ -181,6 +183,7 @@ module _ (a : Ans Answer) (e : ℕ) (n : Machine Answer Pages) where
     passes = λ _ _. subst (λ (p : InPage). PassesOn (n .st .ins e) p) (sym k) waits-on;
     empties = λ _ _ _. inl k;
     sends = λ x s _ g. absurd (true≢false (sym (own-address x g) ∙ sym (told-sends (y .0) s) ∙ f));
+    moves = λ x s _ g _. absurd (true≢false (sym (own-address x g) ∙ sym (told-sends (y .0) s) ∙ f));
   }
 
   -- at a load's address, which is told
@@ -189,6 +192,12 @@ module _ (a : Ans Answer) (e : ℕ) (n : Machine Answer Pages) where
   fed-loaded t x g z = subst (SentFrom x)
       (sym (ap (λ (a : Ans Answer). fed book a t .ins e) g ∙ in-same t e (sourceTold (t .ins e) x)))
       (z .0, z .1, ap (λ (u : Bool). cond u x (t .ins e .source)) (z .2), z .2)
+
+  fed-moves : (t : Pages) (x : ℕ) → a ≡ handed (Transmit e x) → (t .ins e .load ≡ true → PassedBy (n .st .ins e) (t .ins e))
+      → fed book a t .ins e .load ≡ true → PassedBy (n .st .ins e) (fed book a t .ins e)
+  fed-moves t x g h =
+      subst (λ (p : InPage). p .load ≡ true → PassedBy (n .st .ins e) p)
+      (sym (ap (λ (a : Ans Answer). fed book a t .ins e) g ∙ in-same t e (sourceTold (t .ins e) x))) h
 
   -- no address is told
   fed-empties : (t : Pages) → a ≡ handed (Write EpTLen e 0) → (t .ins e ≡ n .st .ins e) ⊎ NoneLeft (t .ins e)
@@ -209,6 +218,7 @@ module _ (a : Ans Answer) (e : ℕ) (n : Machine Answer Pages) where
       passes = λ _ _. alike-passes {q = t .0 .ins e} {r = fed book a (t .0) .ins e} (fed-alike a (t .0) j e) (w .passing .passes (o .pages .periodic) e);
       empties = λ s _ g. fed-empties (t .0) g (w .passing .empties e (told-sends (handed q) s ∙ ap (λ (z : Ans Answer). sending z e) g));
       sends = λ x s _ g. fed-loaded (t .0) x g (w .loads e (told-sends (handed q) s ∙ own-address x g));
+      moves = λ x s _ g. fed-moves (t .0) x g (w .passing .exact (o .pages .periodic) e (told-sends (handed q) s ∙ own-address x g));
     }
 
     -- of another operation
@@ -227,6 +237,8 @@ module _ (a : Ans Answer) (e : ℕ) (n : Machine Answer Pages) where
           (w (told-releases q s (not-emptying r)) .passing .empties e (told-sends (handed q) s ∙ ap (λ (z : Ans Answer). sending z e) g));
       sends = λ x s m g. fed-loaded (t .0) x g
           (w (told-releases q s (ap releasing g)) .loads (late (m i)) e (told-sends (handed q) s ∙ own-address x g));
+      moves = λ x s r g. fed-moves (t .0) x g
+          (w (told-releases q s (ap releasing g)) .passing .exact (o .pages .periodic) e (told-sends (handed q) s ∙ own-address x g));
     }
       where
         not-emptying : emptying (n .way) a ≡ false → releasing a ≡ false

@@ -141,6 +141,8 @@ pub record Compared (c : Call Config Op) (t : Pages) (a : Ans Answer) (d : Drive
   -- "… and a read's poll gives the first", whole; it is read
   pub poll-gives : (e n : ℕ) (bytes : List ℕ) → c ≡ begin (slotted (PollRead e n)) → a ≡ ended (Done bytes) → isoOf t Out e ≡ true
       → (q : Packet) × (bytes ≡ q .bytes) × ReadsFirst (t .outs e) (t′ .outs e) q
+  -- .. and is "not yet" done only where none waits
+  pub poll-waits : (e n : ℕ) → c ≡ begin (slotted (PollRead e n)) → a ≡ ended NotYet → isoOf t Out e ≡ true → t .outs e .waiting ≡ []
   -- "rows 12 and 14 go by the book": none waits; none is open. A close that is not refused reads the first
   pub row-12 : (e : ℕ) → c ≡ begin (aside (Open e)) → a ≡ ended (Refused 12) → t .outs e .waiting ≡ []
   pub row-14 : (e : ℕ) → c ≡ begin (aside (Close e)) → a ≡ ended (Refused 14) → t .outs e .opened ≡ false
@@ -414,6 +416,10 @@ pub record Sentences (c : Call Config Op) (lent : Buf) (n : Machine Answer Pages
   -- IN that is enabled or disabled: its own, and its page is empty then
   pub load-sends : (e x v : ℕ) → c ≡ go v → (inInterrupt (n .way) ≡ false → n .st .kept .globals .stage ≡ 2) → a ≡ handed (Transmit e x)
       → SentFrom x (t′ .ins e)
+  -- "On IN the tail moves in the same call that hands out the next transmit address, then past the packets before that one": the one that was being
+  -- sent waits no more, all others do
+  pub load-moves : (e x v : ℕ) → c ≡ go v → (inInterrupt (n .way) ≡ false → n .st .kept .globals .stage ≡ 2) → a ≡ handed (Transmit e x)
+      → t′ .ins e .waiting ≡ cond (n .st .ins e .sending) (tail (n .st .ins e .waiting)) (n .st .ins e .waiting)
   pub begin-sends : (o : Op) (e x : ℕ) → c ≡ begin o → enabling o ≡ false → n .st .kept .globals .stage ≡ 2 → a ≡ handed (Transmit e x)
       → SentFrom x (t′ .ins e)
   pub enabling-places : (e f x : ℕ) (on : Bool) → c ≡ begin (slotted (SetEnabled In f on)) → a ≡ handed (Transmit e x) → e % 16 ≡ f % 16

@@ -1,6 +1,6 @@
 -- Demand 3: what FrontPage.antt says holds after every call of every list that an accepted start-up begins, of the Rattle code (`demand-3`) and of the
 -- machine of calls that the state's bytes are (`machine-demand-3`)
-use mathlib.Core.Bool.{Bool, true, false, _&&_, true≢false}
+use mathlib.Core.Bool.{Bool, true, false, cond, _&&_, true≢false}
 use mathlib.Core.List.{List, [], _∷_, _++_, map-append}
 use mathlib.Core.Path.{_≡_, refl, ap, subst, sym, _∙_}
 use Prim.Native.Nat.{ℕ, zero, _≤_, _<_}
@@ -18,7 +18,7 @@ use Rattle.model.specs.Statics.{flag}
 use Rattle.model.specs.Cells.{EpCore}
 use Rattle.model.specs.Answers.{Answer, Refused, NotYet, Shown, ok}
 use Rattle.model.specs.Calls.{Config, Op, slotted, PollWrite, aside, Aside, Open, Close, Queue, calls, startRow}
-use Rattle.model.specs.Machine.{Buf, Call, start, begin, Event, Ans, ended, handed, told, blankA, Machine, fed, started}
+use Rattle.model.specs.Machine.{Buf, Call, start, begin, Event, Ans, ended, handed, told, blankA, Machine, Way, fed, started}
 use Rattle.model.specs.Agree.{After, Ways, GoodA, agrees, from-start}
 use Rattle.machine.specs.Suspended.{driverOf, drive, machineOf}
 use Rattle.proof_book.specs.Pages.{Packet, bytesOf, stampsOf, Pages}
@@ -37,6 +37,7 @@ use Rattle.proof_book.specs.SlotsKeptLaws.{kept-unwritten, lies-inside, 
 use Rattle.proof_book.specs.AsidesLaws.{Opened, opened-by, Closed, closed-by, Queued, queued-by}
 use Rattle.proof_book.specs.WritePollsLaws.{Polled, write-polled}
 use Rattle.proof_book.specs.PollsWholeLaws.{ended-same, one-call}
+use Rattle.proof_book.specs.PollsWaitLaws.{poll-waits}
 use Rattle.proof_book.specs.BookCallsLaws.{Fine, start-fine, start-lost, start-anew, call-fine}
 use Rattle.proof_book.specs.BookCallsLaws as steps-of
 use Rattle.proof_book.specs.StopsLaws.{stopped-leaves}
@@ -54,6 +55,14 @@ use Rattle.proof_book.specs.Lengths.{Known, learnt}
 use Rattle.proof_book.specs.LengthCallsLaws.{WayTold, regular, told-on, start-told, length-is}
 use Rattle.proof_book.specs.Others.{releasing, Names, underWay, callNames, Away, SamePage}
 use Rattle.proof_book.specs.OthersCallsLaws.{WaySpared, call-goes, start-spared, under-same}
+
+-- an access that releases no bus reset's flag empties none
+no-emptying : (w : Way Answer Pages) (z : Ans Answer) → releasing z ≡ false → page.emptying w z ≡ false
+no-emptying w z h = by (page.inInterrupt w)
+  where
+    by : (u : Bool) → cond u false (releasing z) ≡ false
+    by true = refl
+    by false = h
 
 -- ---- from the relation of driver and book
 
@@ -176,6 +185,7 @@ module _ (c : Call Config Op) (l : Buf) (m : Machine Answer Driver)
     ring = λ e. a .rest .outs e .held .waits;
     stamps = λ e. a .rest .outs e .stamps;
     open-shows = λ e stamp bytes p q. of-open e (Shown bytes stamp) p q .shows stamp bytes refl;
+    poll-waits = λ e len p q iso. poll-waits (x .0) e len n l (subst (λ (c : Call Config Op). blankA (x .0) ≡ blankA (written (x .0) c n l .0)) p (a .same)) q iso;
     poll-gives = λ e len bytes p q iso. let k = before (ap isStart p) in one-call c l m n (k .rest) (k .room .state) a e len bytes p q iso;
     row-12 = λ e p q. of-open e (Refused 12) p q .none refl;
     row-14 = λ e p q. of-close e p (Refused 14) q .none refl;
@@ -236,6 +246,10 @@ module _ (c : Call Config Op) (l : Buf) (m : Machine Answer Driver)
     bus-reset-empties = λ v p i g. let k = before (ap isStart p) in bus-reset-empties c (x .0) v n (k .fine) l (a .same) p i g;
     begin-empties = λ o p g. begin-empties c (x .0) o n (before (ap isStart p) .fine) l (a .same) p g;
     load-sends = λ e z v p i g. let k = before (ap isStart p) in continues-of c (x .0) e v n (k .fine) (k .sending) (k .onto) l p .sends z (a .same) i g;
+    load-moves = λ e z v p i g.
+        let k = before (ap isStart p) in
+        let w = continues-of c (x .0) e v n (k .fine) (k .sending) (k .onto) l p in
+        w .moves z (a .same) (no-emptying (n .way) (x .0) (ap releasing g)) g (w .sends z (a .same) i g .3);
     begin-sends = λ o e z p f m g. begin-sends c (x .0) o e z n l (a .same) p f m g;
     enabling-places = λ e f z on p g. enabling-places c (x .0) e f z on n l (a .same) p g;
     sending-ends = ends;

@@ -104,3 +104,11 @@ pub mod AccessesInterruptLaws
 pub mod InterruptEndsLaws
 pub mod CodeContinuesLaws
 pub mod ListedLaws
+pub mod Arrivals
+pub mod ArrivalQuietLaws
+pub mod ArrivalScriptsLaws
+pub mod ArrivalInterruptLaws
+pub mod ArrivalCallsLaws
+pub mod ArrivalsLaws
+pub mod PollsWaitLaws
+pub mod ArrivalOrderLaws

@@ -82,7 +82,7 @@ still s = record { outs = λ e. refl; ins = λ e. refl }
 
 -- an access with which no page changes, no transmit address
 kept-at : {z : Bool} {s t : Bk} (q : Access) → ((e : ℕ) → sendsTo q e ≡ false) → SentKept s t → KeptAt z s q t
-kept-at q l h r = record { outs = h .outs; passing = still-in q (h .ins); loads = λ _ e k. absurd (true≢false (sym k ∙ l e)) }
+kept-at q l h r = record { outs = h .outs; passing = still-in q l (h .ins); loads = λ _ e k. absurd (true≢false (sym k ∙ l e)) }
 
 -- ---- a script that does so all along
 
@@ -127,6 +127,7 @@ places f s = record {
       (λ m. subst (λ (p : InPage). PassesOn p (placedIn (s .0 .ins f))) (i f e (sym m)) (record { waiting = inl refl; queued = refl }))
       (λ _. waits-on);
   empties = λ e g. inl (apart e g);
+  exact = λ i e g l. absurd (true≢false (sym l ∙ ap (λ (u : Bool). cond u (placedIn (s .0 .ins f)) (s .0 .ins e) .load) g));
 }
   where
     apart : (e : ℕ) → eqb (e % 16) (f % 16) ≡ false → handB (place In f) s .1 .0 .ins e ≡ s .0 .ins e

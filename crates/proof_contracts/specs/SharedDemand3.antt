@@ -34,6 +34,7 @@ module _ (dir : Dir) (e : ℕ) (lent b : Buf) (n : Machine Answer Pages) (d : Dr
     ring = x .ring;
     stamps = x .stamps;
     open-shows = λ e stamp bytes p q. let z : _≡_ {A = ℕ} 0 1 = cc in absurd (omega arith);
+    poll-waits = λ e len p q iso. let z : _≡_ {A = ℕ} 0 1 = cc in absurd (omega arith);
     poll-gives = λ e len bytes p q iso. let z : _≡_ {A = ℕ} 0 1 = cc in absurd (omega arith);
     row-12 = λ e p q. let z : _≡_ {A = ℕ} 0 1 = cc in absurd (omega arith);
     row-14 = λ e p q. let z : _≡_ {A = ℕ} 0 1 = cc in absurd (omega arith);
@@ -84,6 +85,7 @@ module _ (dir : Dir) (e : ℕ) (lent b : Buf) (n : Machine Answer Pages) (d : Dr
     sent-in-order = x .sent-in-order;
     passed-then-waiting = x .passed-then-waiting;
     sent-is = x .sent-is;
+    load-moves = λ e y v p i g. let z : _≡_ {A = ℕ} 0 1 = cc in absurd (omega arith);
     load-sends = λ e y v p i g. let z : _≡_ {A = ℕ} 0 1 = cc in absurd (omega arith);
     begin-sends = λ o e y p f m g. let z : _≡_ {A = ℕ} 0 1 = cc in absurd (omega arith);
     enabling-places = λ e f y on p g. let z : _≡_ {A = ℕ} 0 1 = cc in absurd (omega arith);

@@ -35,6 +35,8 @@ use Rattle.proof_book.specs.Book.{book}
 use Rattle.proof_book.specs.FrontPage.{Made}
 use Rattle.proof_book.specs.FrontPage as page
 use Rattle.proof_book.specs.SlotsStayLaws.{slots-stay}
+use Rattle.proof_book.specs.Arrivals.{Note, after, ArrivalsEach}
+use Rattle.proof_book.specs.ArrivalsLaws.{arrivals}
 use Rattle.proof_book.specs.Stamping.{not-yet, StampsMade}
 use Rattle.proof_book.specs.StampingLaws.{code-stamps}
 use Rattle.proof_book.specs.CodeReadings.{Steps, bytesAfter, slotsAfter, readBy, code-4056}
@@ -175,6 +177,14 @@ module _ (i : ℕ) (c : Config) (b : Buf) (row : startRow c b ≡ zero) (xs : Li
       code-stamps c b row xs a n one is-one (alone .0) (allAlone i (first .bytes) (first .slots) ms)
       (subst (λ (z : Machine Answer Pages). page.Calls (first .bytes) (first .slots) z
       (allAlone i (first .bytes) (first .slots) ms)) booked (alone .2))
+
+  -- what an arrival is (demand 3)
+  pub shared-arrivals : (ms : List MadeShared) → Calls i xs a n (first ∷ ms) → (f : Note)
+      → let one = madeAlone i xs a first in
+      ArrivalsEach (page.noted one n .1) (after (one .event .call) (one .answer) (n .st) (one .event .lent) f)
+      (allAlone i (first .bytes) (first .slots) ms)
+  shared-arrivals ms run f = arrivals c b row xs a n (madeAlone i xs a first) (start-alone i c b xs a first is-start)
+      (allAlone i (first .bytes) (first .slots) ms) (code-alone i c b row xs a n first is-start ms run) f
 
   -- "no slot being sent is written" (demand 3)
   pub shared-slots-stay : (before : List MadeShared) (hands : MadeShared) (further : List MadeShared)
