@@ -37,6 +37,8 @@ use Rattle.proof_book.specs.FrontPage as page
 use Rattle.proof_book.specs.SlotsStayLaws.{slots-stay}
 use Rattle.proof_book.specs.Arrivals.{Note, after, ArrivalsEach}
 use Rattle.proof_book.specs.ArrivalsLaws.{arrivals}
+use Rattle.proof_stale.specs.Stale.{NoneStaleEach}
+use Rattle.proof_stale.specs.NothingStaleLaws.{nothing-stale}
 use Rattle.proof_book.specs.Stamping.{not-yet, StampsMade}
 use Rattle.proof_book.specs.StampingLaws.{code-stamps}
 use Rattle.proof_book.specs.CodeReadings.{Steps, bytesAfter, slotsAfter, readBy, code-4056}
@@ -177,6 +179,12 @@ module _ (i : ℕ) (c : Config) (b : Buf) (row : startRow c b ≡ zero) (xs : Li
       code-stamps c b row xs a n one is-one (alone .0) (allAlone i (first .bytes) (first .slots) ms)
       (subst (λ (z : Machine Answer Pages). page.Calls (first .bytes) (first .slots) z
       (allAlone i (first .bytes) (first .slots) ms)) booked (alone .2))
+
+  -- no old sample is read again
+  pub shared-nothing-stale : (ms : List MadeShared) → Calls i xs a n (first ∷ ms) → (e : ℕ)
+      → let one = madeAlone i xs a first in NoneStaleEach e (one .slots) (page.noted one n .1) [] (allAlone i (first .bytes) (first .slots) ms)
+  shared-nothing-stale ms run e = nothing-stale c b row xs a n (madeAlone i xs a first) (start-alone i c b xs a first is-start)
+      (allAlone i (first .bytes) (first .slots) ms) (code-alone i c b row xs a n first is-start ms run) e
 
   -- what an arrival is (demand 3)
   pub shared-arrivals : (ms : List MadeShared) → Calls i xs a n (first ∷ ms) → (f : Note)
