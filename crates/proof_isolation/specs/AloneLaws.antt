@@ -2,7 +2,7 @@
 use mathlib.Core.Bool.{Bool, true, false, true≢false}
 use mathlib.Core.List.{List}
 use mathlib.Core.Path.{_≡_, refl, subst, sym, _∙_}
-use Prim.Native.Nat.{ℕ}
+use Prim.Native.Nat.{ℕ, zero, suc}
 use Rattle.regs.specs.declared.Access.{Access}
 use Rattle.regs.specs.declared.Dir.the-variants.{Out}
 use Rattle.state.specs.Driver.{key}
@@ -11,8 +11,8 @@ use Rattle.model.specs.Tree.{ends, asks}
 use Rattle.model.specs.Every.{at-end}
 use Rattle.model.specs.Answers.{Answer, Refused}
 use Rattle.model.specs.Simulates.{quiet, mid}
-use Rattle.model.specs.Calls.{Config, PollRead, Op, slotted, aside, Aside, calls}
-use Rattle.model.specs.Machine.{Buf, Call, start, begin, go, question, Ans, ended, awaited, busy, beside}
+use Rattle.model.specs.Calls.{Config, PollRead, Op, slotted, aside, Aside, calls, startRow}
+use Rattle.model.specs.Machine.{Buf, Call, start, begin, go, question, Ans, ended, awaited, busy, beside, started}
 use Rattle.model_ops.specs.Rings.{St}
 use Rattle.machine.specs.Suspended.{driverOf, drive}
 use Rattle.call_bus_time.specs.Sharing as sharing
@@ -273,5 +273,13 @@ module _ (c : Channel) (share : Bool) (n : ℕ) where
       → (d : Call Config Op) (b : Buf) → Alone c d b (runOf i x q a t) → At c (one st i (alone share n d b (runOf i x q a t)) u q′ a′ t′)
   alone-by st i l q q′ h k k′ e (go v) b m = alone-go st i l q q′ h k k′ e v b m
   alone-by st i l q q′ h k k′ e (begin o) b m = alone-begin st i l q q′ h k k′ e o b m
-  alone-by st i l q q′ h k k′ e (start d) b m = absurd m
-  alone-by st i l q q′ h k k′ e (question d) b m = absurd m
+  alone-by st i {x} {u} l q q′ {a} {a′} {t} {t′} h k k′ e (start d) b m = by (startRow d b) refl
+    where
+      by : (r : ℕ) → startRow d b ≡ r → At c (one st i (alone share n (start d) b (runOf i x q a t)) u q′ a′ t′)
+      by zero z = absurd (m z)
+      by (suc r) z = subst (λ r. At c (one st i (ownBy (accessOf (stops i x .0) q) a (
+          started calls driverOf (λ s. s) d r (stops i x .1) b,
+          timeAfter n sharing.starting (started calls driverOf (λ s. s) d r (stops i x .1) b .0) (stops i x .1 .st) t,
+        )) u q′ a′ t′)) (sym z) (at st i l q q′ h k k′ e)
+  alone-by st i {x} {u} l q q′ {a} {a′} {t} {t′} h k k′ e (question d) b m =
+      subst (λ b. At c (one st i (alone share n (question d) b (runOf i x q a t)) u q′ a′ t′)) (sym m) (at st i l q q′ h k k′ e)

@@ -3,7 +3,7 @@ use mathlib.Core.Bool.{Bool, true, false, cond, _&&_}
 use mathlib.Core.List.{List, [], _∷_}
 use mathlib.Core.Logic.{_≢_}
 use mathlib.Core.Path.{_≡_}
-use Prim.Native.Nat.{ℕ, _≤_, _<_}
+use Prim.Native.Nat.{ℕ, zero, _≤_, _<_}
 use lib.ListN.{getD}
 use Rattle.regs.specs.declared.Access.{Access}
 use Rattle.regs.specs.declared.Dir.{Dir}
@@ -12,7 +12,7 @@ use Rattle.state.specs.Driver.{Driver, key, epOn}
 use Rattle.state.specs.Wakes.{listed}
 use Rattle.ring.specs.Waiting.{waiting}
 use Rattle.model.specs.Answers.{Answer, Refused, End}
-use Rattle.model.specs.Calls.{Config, Op, interrupt, slotted, other, aside, slots, calls}
+use Rattle.model.specs.Calls.{Config, Op, interrupt, slotted, other, aside, slots, calls, startRow}
 use Rattle.model.specs.Machine.{Buf, Question, pending, overruns, enabled, Call, start, begin, go, question, Event, Ans}
 use Rattle.model.specs.Machine.{ended, handed, told, Way, idle, busy, Machine, over, misfit, lentTo}
 use Rattle.model_ops.specs.Rings.{St}
@@ -200,8 +200,8 @@ module _ (c : Channel) where
   abbrev pub Alone : Call Config Op → Buf → Run → Type 0
   Alone (go v) b r = (atOwn r ≡ true) × OwnCall (go v) r b
   Alone (begin o) b r = OfChannel (c .number) o × Timely (r .machine .way) o × OwnCall (begin o) r b
-  Alone (start k) b r = ⊥
-  Alone (question q) b r = ⊥
+  Alone (start k) b r = startRow k b ≢ zero
+  Alone (question q) b r = b ≡ r .machine .buf
 
   -- What is allowed. "They line up by the accesses not made for it, between which the others get the same calls and stores in the same order":
   -- a call, a question or a store of both where both stand at an access of the channel's own or neither does; a continue of both where neither does, with

@@ -49,7 +49,7 @@ by-book {d = d} {p = p} R g h = record {
   });
 }
 
-lawful-stored : (c : Channel) {φ : Phase} {s : St} {b : Buf} → Lawful (c .iso) φ s → Stored (s .0) (s .1) b → Lawful (c .iso) φ (s .0, b)
+pub lawful-stored : (c : Channel) {φ : Phase} {s : St} {b : Buf} → Lawful (c .iso) φ s → Stored (s .0) (s .1) b → Lawful (c .iso) φ (s .0, b)
 lawful-stored c {φ} {s} {b} l h = record {
   pages = l .pages;
   rest = chip (s .1) b φ (s .0) (l .pages) (l .rest) (by-book (l .rest) (l .stage) h);

@@ -178,7 +178,7 @@ module _ (c : Channel) where
       crosses-by (slid-ask {q = q1} {s = s1} {k = k1} t) ey eu h = record {
         muted = ap mute left-way ∙ sym (ap mute right-way);
         answer = ap (λ (r : Run). r .answer) left-way ∙ ap (answered o) (t .sees) ∙ sym (ap (λ (r : Run). r .answer) (lit-is o p s g q a τ l));
-        stands = subst Busy (sym went) (busy-at q1 s1 k1 p (handed q1) (written n q1 τ) (t .lawful) (halt-free c (subst (Free c) ey (f .0 v s))));
+        stands = subst Busy (sym went) (busy-at q1 s1 k1 p (handed q1) (written n q1 τ) (t .lawful) (halt-free c (subst (Free c) ey (f .0 v s l))));
       }
         where
           went : gone share n v r ≡ outcome (asks q1 s1 k1)

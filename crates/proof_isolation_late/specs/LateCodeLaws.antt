@@ -3,7 +3,9 @@ use mathlib.Core.Bool.{Bool}
 use mathlib.Core.List.{List, [], _∷_}
 use mathlib.Core.Path.{_≡_, refl, ap, subst, sym, _∙_}
 use Prim.Native.Nat.{ℕ}
-use Rattle.model.specs.Machine.{go}
+use Rattle.model.specs.Machine.{go, idle}
+use Rattle.proof_isolation.specs.Schedule.{Two}
+use Rattle.proof_isolation.specs.UndisturbedLaws.{step}
 use Rattle.proof_isolation.specs.EqualExcept.{Channel}
 use Rattle.proof_isolation.specs.Standing.{At}
 use Rattle.proof_isolation.specs.StandingLaws.{at-time}
@@ -100,15 +102,16 @@ module _ (share : Bool) (n : ℕ) where
       let y = late-step c share n (laterOf s) a f (d .1) in
       let e : later share n (laterOf s) (twoOf w) ≡ twoOf (nextLate s w) = sym (next-late s w (d .0)) in
       let z = code-every-late c ss (nextLate s w) (subst (At c) e (y .stand))
-      (subst (FreeBoth c share n) e (later-free c share n (laterOf s) (twoOf w) f)) (d .2) in
+      (subst (FreeBoth c share n) e (later-free c share n (laterOf s) (twoOf w) a (d .1) f)) (d .2) in
       ((heard-made c s w (d .0) (y .heard), subst (AfterLate c share n (laterOf s)) e (y .after-it), z .0), z .1)
 
-  steps-free : (c : Channel) (ss : List TurnStep) (w : Pair) → FreeBoth c share n (twoOf w) → DidSteps share n c ss w
+  steps-free : (c : Channel) (ss : List TurnStep) (w : Pair) → At c (twoOf w) → FreeBoth c share n (twoOf w) → DidSteps share n c ss w
       → FreeBoth c share n (twoOf (afterSteps ss w))
-  steps-free c [] w f d = f
-  steps-free c (s ∷ ss) w f d =
-      steps-free c ss (next s w) (subst (FreeBoth c share n) (sym (next-by share n (s .turn) (s .first) (s .second) w (d .0)))
-      (turn-free c share n (s .turn) (twoOf w) f)) (d .2)
+  steps-free c [] w a f d = f
+  steps-free c (s ∷ ss) w a f d =
+      let e = sym (next-by share n (s .turn) (s .first) (s .second) w (d .0)) in
+      steps-free c ss (next s w) (subst (At c) e (step c share n (s .turn) a (d .1) .stand))
+      (subst (FreeBoth c share n) e (turn-free c share n (s .turn) (twoOf w) a (d .1) f)) (d .2)
 
   -- any bytes in each of two runs with one record of the bus time; start-ups, and calls whose contracts say what they are steps of
   pub code-undisturbed-late : (ms : List LateMade) (w : Pair) → w .first .time ≡ w .second .time → AllBegunLate share n ms w → CodeUndisturbedLate share n ms w
@@ -116,8 +119,9 @@ module _ (share : Bool) (n : ℕ) where
   code-undisturbed-late (m ∷ ms) w e o =
       let c = m .opening .channel in
       let x = code-every share n c (m .opening .steps) (openedBy (m .opening) w) (begun-at share n (m .opening) w (o .0) e) (o .0 .steps) in
-      let f = steps-free c (m .opening .steps) (openedBy (m .opening) w)
-      (subst (FreeBoth c share n) (opened-is share n (m .opening) w (o .0))
-      (opened-free c share n (sessionOf (m .opening)) (twoOf w) (o .0 .accepted))) (o .0 .steps) in
+      let k = opened-is share n (m .opening) w (o .0) in
+      let f = steps-free c (m .opening .steps) (openedBy (m .opening) w) (begun-at share n (m .opening) w (o .0) e)
+      (subst (FreeBoth c share n) k (opened-free c share n (sessionOf (m .opening)) (twoOf w) (o .0 .accepted) e
+      (subst (λ (z : Two). z .first .machine .way ≡ idle) (sym k) (o .0 .rests)))) (o .0 .steps) in
       let z = code-every-late c (m .steps) (openedMade share n m w) (x .1) f (o .1) in
       (x .0, z .0, code-undisturbed-late ms (afterLateSteps (m .steps) (openedMade share n m w)) (at-time (z .1)) (o .2))

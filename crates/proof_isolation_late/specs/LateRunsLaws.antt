@@ -1,16 +1,18 @@
 -- "One channel's data can't disturb another" (request Fourteen), where some of the others' calls fall late in one run
 use mathlib.Core.Bool.{Bool, true, false, cond, _&&_, true≢false}
 use mathlib.Core.List.{List, [], _∷_}
-use mathlib.Core.Path.{_≡_, subst, sym, _∙_}
+use mathlib.Core.Logic.{_⊎_, inl, inr}
+use mathlib.Core.Path.{_≡_, refl, ap, subst, sym, _∙_}
 use Prim.Native.Nat.{ℕ, zero}
 use Rattle.regs.specs.declared.Access.{Access}
+use Rattle.state.specs.Driver.{Driver}
 use Rattle.model.specs.Tree as tree
 use Rattle.model.specs.Tree.{ends, asks}
 use Rattle.model.specs.Script.{run}
 use Rattle.model.specs.Answers.{Answer, Refused}
 use Rattle.model.specs.Simulates.{quiet, mid}
-use Rattle.model.specs.Calls.{Config, Op, calls, startRow, Open, Close, asideCode}
-use Rattle.model.specs.Machine.{Buf, Call, start, begin, go, question, Ans, ended, told, awaited, busy, lentTo}
+use Rattle.model.specs.Calls.{Config, Op, interrupt, irq, calls, startRow, Open, Close, asideCode}
+use Rattle.model.specs.Machine.{Buf, Call, start, begin, go, question, Ans, ended, told, awaited, Way, idle, busy, lentTo}
 use Rattle.model_ops.specs.Rings.{St}
 use Rattle.model_ops.specs.Concrete.{concrete}
 use Rattle.machine.specs.Suspended.{driverOf, drive}
@@ -18,33 +20,37 @@ use Rattle.machine.specs.Goes.{Called}
 use Rattle.call_bus_time.specs.Sharing.{sortOf, timeAfter, turnedDown}
 use Rattle.proof_wake_ups.specs.Rooms.{Few, Roomy, Rooms}
 use Rattle.proof_wake_ups.specs.RoomsLaws.{rooms}
-use Rattle.proof_isolation.specs.EqualExcept.{Channel, LowEquiv}
+use Rattle.proof_isolation.specs.EqualExcept.{Lawful, Channel, LowEquiv}
+use Rattle.proof_isolation.specs.Operations.{OfChannel, polls, passes}
+use Rattle.proof_isolation.specs.Stores.{Stored}
+use Rattle.proof_isolation.specs.AloneLaws.{lawful-rests, lawful-busy}
 use Rattle.proof_isolation.specs.Apart.{Brings, gone, waits, Shared, ApartBy, end, both, left, right, owns}
 use Rattle.proof_isolation.specs.Answers.{SameAnswer}
 use Rattle.proof_isolation.specs.PairsLaws.{brings-sym}
 use Rattle.proof_isolation.specs.AsidesLaws.{p-aside}
-use Rattle.proof_isolation.specs.StoresLaws.{lent-back, own-lent-back}
+use Rattle.proof_isolation.specs.StoresLaws.{lent-back, own-lent-back, lawful-stored}
 use Rattle.proof_isolation.specs.OthersLaws.{same-answers}
 use Rattle.proof_isolation.specs.Schedule.{Run, Two, Turn, begins, goes, asked, stores, others-time, first, second, Early, gets, shares}
 use Rattle.proof_isolation.specs.Schedule.{called, alone, turn, given, after, sharing, wide, atOwn, go-on, own-lent, SameAns, same, After}
+use Rattle.proof_isolation.specs.Schedule.{stateOf, unfit, BothCall, call-row1, call-lent, BothGo, go-row1, go-row16, OwnCall, own-row1, Alone, May, Allowed}
 use Rattle.proof_isolation.specs.Standing.{machineOf, runOf, own-yes, own-no, same-ans, ans-sym, Orderly, At, at}
 use Rattle.proof_isolation.specs.StandingLaws.{past-no}
 use Rattle.proof_isolation.specs.StandingLaws.{at-stands, at-lined, at-alike, at-time, at-swap}
 use Rattle.proof_isolation.specs.Runs.{goes-by, spares-put}
-use Rattle.proof_isolation.specs.StartLaws.{starts}
+use Rattle.proof_isolation.specs.StartLaws.{anew, starts}
 use Rattle.proof_isolation.specs.Undisturbed.{Session, started-up, opened}
 use Rattle.proof_isolation.specs.UndisturbedLaws.{step, always, stands-after}
 use Rattle.proof_isolation.specs.UndisturbedLaws.{opened-at}
 use Rattle.proof_isolation_late.specs.Late as late
 use Rattle.proof_isolation_late.specs.Late.{Light, opens, closes, asks-of, callOf, Item, goes-own, lightsOf, Later, timely, first-late, second-late}
 use Rattle.proof_isolation_late.specs.Late.{lit, lits, items, litAnswers, later, afterAll, Other, Continues, AtOwn, MayLate}
-use Rattle.proof_isolation_late.specs.Late.{AllowedLate}
+use Rattle.proof_isolation_late.specs.Late.{AllowedLate, Serving}
 use Rattle.proof_isolation_late.specs.Late.{AllSame, none, more, Heard, AfterLate, EveryLate, LateSession, AllOpenLate, UndisturbedLate}
 use Rattle.proof_isolation_late.specs.Lights.{seen}
-use Rattle.proof_isolation_late.specs.SlidesLaws.{FreeWay, halt-late, drive-free}
+use Rattle.proof_isolation_late.specs.SlidesLaws.{FreeWay, Needs, LentLawful, drive-free}
 use Rattle.proof_isolation_late.specs.CrossingLaws.{openAnswer, closeAnswer, answered, done-at, open-run, close-run, answering, mute}
 use Rattle.proof_isolation_late.specs.CrossingLaws.{light-drive, lit-is, Busy, busy-at, OwnSome, own-some, lit-busy, lit-wide, lit-some}
-use Rattle.proof_isolation_late.specs.CrossingLaws.{crosses, gone-busy, Others, lits-cross, through-others, through-cross, item-answers}
+use Rattle.proof_isolation_late.specs.CrossingLaws.{crosses, gone-busy, Others, lits-cross, through-own, through-others, through-cross, item-answers}
 
 -- ---- a call of the others in both, at one access
 
@@ -234,70 +240,159 @@ module _ (c : Channel) (share : Bool) (n : ℕ) where
     pub one : FreeWay c (w .first .machine .way)
     pub other : FreeWay c (w .second .machine .way)
 
-  called-free : (d : Call Config Op) (b : Buf) (r : Run) → FreeWay c (r .machine .way) → FreeWay c (called share n d b r .machine .way)
-  called-free d b r f = by (turnedDown n (sortOf d) (drive d (r .machine) b .0) (r .machine .st) (r .time) && share)
+  called-free : (d : Call Config Op) (b : Buf) (r : Run) → FreeWay c (r .machine .way) → LentLawful c d (r .machine) b
+      → FreeWay c (called share n d b r .machine .way)
+  called-free d b r f l = by (turnedDown n (sortOf d) (drive d (r .machine) b .0) (r .machine .st) (r .time) && share)
       (timeAfter n (sortOf d) (drive d (r .machine) b .0) (r .machine .st) (r .time))
     where
       by : (u : Bool) (t : List ℕ) → FreeWay c (cond {A = Called × List ℕ} u ((ended (Refused 19), lentTo calls driverOf (r .machine) b), r .time)
           (drive d (r .machine) b, t) .0 .1 .way)
       by true t = f
-      by false t = drive-free c d (r .machine) b f
+      by false t = drive-free c d (r .machine) b f l
 
-  alone-free : (d : Call Config Op) (b : Buf) (r : Run) → FreeWay c (r .machine .way) → FreeWay c (alone share n d b r .machine .way)
-  alone-free (go v) b r f = called-free (go v) b r f
-  alone-free (begin o) b r f = called-free (begin o) b r f
-  alone-free (start k) b r f = called-free (start k) b r f
-  alone-free (question q) b r f = called-free (question q) b r f
+  alone-free : (d : Call Config Op) (b : Buf) (r : Run) → FreeWay c (r .machine .way) → LentLawful c d (r .machine) b
+      → FreeWay c (alone share n d b r .machine .way)
+  alone-free (go v) b r f l = called-free (go v) b r f l
+  alone-free (begin o) b r f l = called-free (begin o) b r f l
+  alone-free (start k) b r f l = called-free (start k) b r f l
+  alone-free (question q) b r f l = called-free (question q) b r f l
 
-  pub turn-free : (t : Turn) (w : Two) → FreeBoth w → FreeBoth (turn share n t w)
-  turn-free (begins st o b b′) w f = record { one = called-free (begin o) b (w .first) (f .one); other = called-free (begin o) b′ (w .second) (f .other) }
-  turn-free (goes v v′ b b′) w f = record { one = called-free (go v) b (w .first) (f .one); other = called-free (go v′) b′ (w .second) (f .other) }
-  turn-free (asked q b b′) w f = record { one = f .one; other = f .other }
-  turn-free (stores b b′) w f = record { one = f .one; other = f .other }
-  turn-free (others-time g) w f = record { one = f .one; other = f .other }
-  turn-free (first e) w f = record { one = alone-free (e .call) (e .lent) (w .first) (f .one); other = f .other }
-  turn-free (second e) w f = record { one = f .one; other = alone-free (e .call) (e .lent) (w .second) (f .other) }
+  -- what is lent is lawful
+  abbrev Fine : Run → Type 0
+  Fine r = Needs c (r .machine .way) (Lawful (c .iso) quiet (stateOf r))
 
-  lits-free : (os : List Light) (r : Run) → FreeWay c (r .machine .way) → FreeWay c (lits share n os r .machine .way)
-  lits-free [] r f = f
-  lits-free (o ∷ os) r f = lits-free os (lit share n o r) (called-free (callOf o) (r .machine .buf) r f)
+  first-fine : {w : Two} → At c w → Fine (w .first)
+  first-fine (at st i {o = ends a s} l q q′ h k k′ e) = lawful-rests l
+  first-fine (at st true {o = asks p s g} l q q′ h k k′ e) = lawful-busy l
+  first-fine (at st false {o = asks p s g} l q q′ h k k′ e) = tt
 
-  items-free : (is : List Item) (r : Run) → FreeWay c (r .machine .way) → FreeWay c (items share n is r .machine .way)
-  items-free [] r f = f
-  items-free (late.gets o ∷ is) r f = items-free is (lit share n o r) (called-free (callOf o) (r .machine .buf) r f)
-  items-free (goes-own v ∷ is) r f = items-free is (late.gone share n v r) (called-free (go v) (r .machine .buf) r f)
+  needs-lent : (way : Way Answer Driver) {s : St} {b : Buf} → Needs c way (Lawful (c .iso) quiet s) → Stored (s .0) (s .1) b
+      → Needs c way (Lawful (c .iso) quiet (s .0, b))
+  needs-lent idle l h = lawful-stored c l h
+  needs-lent (busy true a k) l h = lawful-stored c l h
+  needs-lent (busy false a k) l h = tt
 
-  pub later-free : (t : Later) (w : Two) → FreeBoth w → FreeBoth (later share n t w)
-  later-free (timely t) w f = turn-free t w f
-  later-free (first-late v v′ is) w f = record {
-    one = items-free is (late.gone share n v (w .first)) (called-free (go v) (w .first .machine .buf) (w .first) (f .one));
-    other = called-free (go v′) (lits share n (lightsOf is) (w .second) .machine .buf) (lits share n (lightsOf is) (w .second))
-        (lits-free (lightsOf is) (w .second) (f .other));
+  fine-lent : (r : Run) {b : Buf} → Fine r → Stored (r .machine .st) (r .machine .buf) b → Needs c (r .machine .way) (Lawful (c .iso) quiet (r .machine .st, b))
+  fine-lent r f h = needs-lent (r .machine .way) f h
+
+  no-irq : {X : Type 0} {o : Op} → irq o ≡ false → o ≡ interrupt → X
+  no-irq h i = absurd (true≢false (sym (ap irq i) ∙ h))
+
+  begin-lent : (o : Op) (r : Run) (b : Buf) → Fine r → (unfit (begin o) r b ≡ true) ⊎ Stored (r .machine .st) (r .machine .buf) b → LentLawful c (begin o) (r .machine) b
+  begin-lent o r b f (inl x) i e = absurd (true≢false (sym (subst (λ o. unfit (begin o) r b ≡ true) i x)))
+  begin-lent o r b f (inr h) i e = subst (λ w. Needs c w (Lawful (c .iso) quiet (r .machine .st, b))) e (fine-lent r f h)
+
+  go-lent : (v : ℕ) (r : Run) (b : Buf) → Fine r → (unfit (go v) r b ≡ true) ⊎ Stored (r .machine .st) (r .machine .buf) b → LentLawful c (go v) (r .machine) b
+  go-lent v r b f (inl x) m = absurd (true≢false (sym x ∙ m))
+  go-lent v r b f (inr h) m = fine-lent r f h
+
+  call-left : {o : Op} {r r′ : Run} {b b′ : Buf} → BothCall c o r r′ b b′ → (unfit (begin o) r b ≡ true) ⊎ Stored (r .machine .st) (r .machine .buf) b
+  call-left (call-row1 x y) = inl x
+  call-left (call-lent h) = inr (h .left)
+
+  call-right : {o : Op} {r r′ : Run} {b b′ : Buf} → BothCall c o r r′ b b′ → (unfit (begin o) r′ b′ ≡ true) ⊎ Stored (r′ .machine .st) (r′ .machine .buf) b′
+  call-right (call-row1 x y) = inl y
+  call-right (call-lent h) = inr (h .right)
+
+  go-left : {st v v′ : ℕ} {r r′ : Run} {b b′ : Buf} → BothGo c st v v′ r r′ b b′ → (unfit (go v) r b ≡ true) ⊎ Stored (r .machine .st) (r .machine .buf) b
+  go-left (go-row1 x y) = inl x
+  go-left (go-row16 x y h) = inr (h .left)
+  go-left (go-on x y z h) = inr (h .left)
+
+  go-right : {st v v′ : ℕ} {r r′ : Run} {b b′ : Buf} → BothGo c st v v′ r r′ b b′ → (unfit (go v′) r′ b′ ≡ true) ⊎ Stored (r′ .machine .st) (r′ .machine .buf) b′
+  go-right (go-row1 x y) = inl y
+  go-right (go-row16 x y h) = inr (h .right)
+  go-right (go-on x y z h) = inr (h .right)
+
+  of-channel : {o : Op} → OfChannel (c .number) o → irq o ≡ false
+  of-channel (polls e n p) = refl
+  of-channel (passes o p) = refl
+
+  alone-lent : (d : Call Config Op) (r : Run) (b : Buf) → Fine r → Alone c d b r → LentLawful c d (r .machine) b
+  alone-lent (go v) r b f m = go-lent v r b f (by (m .1))
+    where
+      by : OwnCall c (go v) r b → (unfit (go v) r b ≡ true) ⊎ Stored (r .machine .st) (r .machine .buf) b
+      by (own-row1 x) = inl x
+      by (own-lent h) = inr (h .stored)
+  alone-lent (begin o) r b f m = λ i e. no-irq (of-channel (m .0)) i
+  alone-lent (start k) r b f m = tt
+  alone-lent (question q) r b f m = tt
+
+  pub turn-free : (t : Turn) (w : Two) → At c w → May c t w → FreeBoth w → FreeBoth (turn share n t w)
+  turn-free (begins st o b b′) w a m f = record {
+    one = called-free (begin o) b (w .first) (f .one) (begin-lent o (w .first) b (first-fine a) (call-left (m .3)));
+    other = called-free (begin o) b′ (w .second) (f .other) (begin-lent o (w .second) b′ (first-fine (at-swap a)) (call-right (m .3)));
   }
-  later-free (second-late v v′ is) w f = record {
-    one = called-free (go v) (lits share n (lightsOf is) (w .first) .machine .buf) (lits share n (lightsOf is) (w .first))
-        (lits-free (lightsOf is) (w .first) (f .one));
-    other = items-free is (late.gone share n v′ (w .second)) (called-free (go v′) (w .second .machine .buf) (w .second) (f .other));
+  turn-free (goes v v′ b b′) w a m f = record {
+    one = called-free (go v) b (w .first) (f .one) (go-lent v (w .first) b (first-fine a) (go-left (m .2)));
+    other = called-free (go v′) b′ (w .second) (f .other) (go-lent v′ (w .second) b′ (first-fine (at-swap a)) (go-right (m .2)));
+  }
+  turn-free (asked q b b′) w a m f = record { one = f .one; other = f .other }
+  turn-free (stores b b′) w a m f = record { one = f .one; other = f .other }
+  turn-free (others-time g) w a m f = record { one = f .one; other = f .other }
+  turn-free (first e) w a m f = record {
+    one = alone-free (e .call) (e .lent) (w .first) (f .one) (alone-lent (e .call) (w .first) (e .lent) (first-fine a) m);
+    other = f .other;
+  }
+  turn-free (second e) w a m f = record {
+    one = f .one;
+    other = alone-free (e .call) (e .lent) (w .second) (f .other) (alone-lent (e .call) (w .second) (e .lent) (first-fine (at-swap a)) m);
   }
 
-  turns-free : (ts : List Turn) (w : Two) → FreeBoth w → FreeBoth (after share n ts w)
-  turns-free [] w f = f
-  turns-free (t ∷ ts) w f = turns-free ts (turn share n t w) (turn-free t w f)
+  busy-of : {w : Two} → At c w → FreeWay c (w .first .machine .way) → Serving (w .first .machine .way) → Busy c share n (w .first)
+  busy-of (at st i {o = ends a s} l q q′ h k k′ e) f v = absurd v
+  busy-of (at st true {o = asks p s g} l q q′ {a = a} {t = τ} h k k′ e) f v = busy-at p s g q a τ (lawful-busy l) f
+  busy-of (at st false {o = asks p s g} l q q′ h k k′ e) f v = absurd v
 
-  given-free : (es : List Early) (r : Run) → FreeWay c (r .machine .way) → FreeWay c (given share n es r .machine .way)
-  given-free [] r f = f
-  given-free (gets e ∷ es) r f = given-free es (called share n (e .call) (e .lent) r) (called-free (e .call) (e .lent) r f)
-  given-free (shares g ∷ es) r f = given-free es (sharing g r) f
+  busy-way : {r : Run} → Busy c share n r → FreeWay c (r .machine .way)
+  busy-way (busy-at p s g q a τ l f) = f
 
-  -- whatever was before
-  start-free : (k : Config) (b : Buf) → startRow k b ≡ zero → (r : Run) → FreeWay c (called share n (start k) b r .machine .way)
-  start-free k b row r = subst (λ (z : Run). FreeWay c (z .machine .way)) (sym (starts share n k b row r))
-      (halt-late c (run concrete (calls .starts k) (driverOf .fresh k, b)))
+  busy-fine : {r : Run} → Busy c share n r → Fine r
+  busy-fine (busy-at p s g q a τ l f) = l
 
-  pub opened-free : (s : Session) (w : Two) → startRow (s .config) (s .lent) ≡ zero → FreeBoth (opened share n s w)
-  opened-free s w row = record {
-    one = given-free (s .before) (started-up share n s (w .first)) (start-free (s .config) (s .lent) row (w .first));
-    other = given-free (s .before) (started-up share n s (w .second)) (start-free (s .config) (s .lent) row (w .second));
+  lits-busy : (os : List Light) {r : Run} → Busy c share n r → Busy c share n (lits share n os r)
+  lits-busy [] b = b
+  lits-busy (o ∷ os) b = lits-busy os (lit-busy c share n b o)
+
+  items-busy : (is : List Item) {r : Run} → Busy c share n r → AtOwn c share n is r → Busy c share n (items share n is r)
+  items-busy [] b h = b
+  items-busy (late.gets o ∷ is) b h = items-busy is (lit-busy c share n b o) (h .2)
+  items-busy (goes-own v ∷ is) {r} b h = items-busy is
+      (gone-busy c share n b v (h .1) (own-some c share n (late.gone share n v r) (through-own c share n is (late.gone share n v r) (h .2)))) (h .2)
+
+  late-free : {r : Run} → Busy c share n r → (v : ℕ) → wide (r .machine .way) v ≡ false → (is : List Item) → AtOwn c share n is (late.gone share n v r)
+      → FreeWay c (items share n is (late.gone share n v r) .machine .way)
+  late-free {r} b v w is h = busy-way (items-busy is
+      (gone-busy c share n b v w (own-some c share n (late.gone share n v r) (through-own c share n is (late.gone share n v r) h))) h)
+
+  early-free : {r : Run} → Busy c share n r → (v : ℕ) (os : List Light) → FreeWay c (late.gone share n v (lits share n os r) .machine .way)
+  early-free {r} b v os =
+      let z = lits-busy os b in
+      called-free (go v) (lits share n os r .machine .buf) (lits share n os r) (busy-way z) (λ _. busy-fine z)
+
+  pub later-free : (t : Later) (w : Two) → At c w → MayLate c share n t w → FreeBoth w → FreeBoth (later share n t w)
+  later-free (timely t) w a m f = turn-free t w a m f
+  later-free (first-late v v′ is) w a m f = record {
+    one = late-free (busy-of a (f .one) (m .0 .serving)) v (m .0 .within) is (m .1);
+    other = early-free (busy-of (at-swap a) (f .other) (turned-round a (m .0) .serving)) v′ (lightsOf is);
+  }
+  later-free (second-late v v′ is) w a m f = record {
+    one = early-free (busy-of a (f .one) (m .0 .serving)) v (lightsOf is);
+    other = late-free (busy-of (at-swap a) (f .other) (turned-round a (m .0) .serving)) v′ (m .0 .within′) is (m .1);
+  }
+
+  pub turns-free : (ts : List Turn) (w : Two) → At c w → Allowed c share n ts w → FreeBoth w → FreeBoth (after share n ts w)
+  turns-free [] w a m f = f
+  turns-free (t ∷ ts) w a m f = turns-free ts (turn share n t w) (step c share n t a (m .0) .stand) (m .1) (turn-free t w a (m .0) f)
+
+  -- where the two part nothing is under way
+  pub opened-free : (s : Session) (w : Two) → startRow (s .config) (s .lent) ≡ zero → w .first .time ≡ w .second .time
+      → opened share n s w .first .machine .way ≡ idle → FreeBoth (opened share n s w)
+  opened-free s w row e rests = record {
+    one = subst (FreeWay c) (sym rests) tt;
+    other = subst (FreeWay c) (sym (subst (λ (z : Run). given share n (s .before) z .machine .way ≡ idle)
+        (starts share n (s .config) (s .lent) row (w .first) ∙ (ap (λ t. anew share n (s .config) (s .lent) row t) e
+        ∙ sym (starts share n (s .config) (s .lent) row (w .second)))) rests)) tt;
   }
 
   -- ---- lists of turns
@@ -324,7 +419,7 @@ module _ (c : Channel) (share : Bool) (n : ℕ) where
   every-late [] a f m = (tt, a)
   every-late (t ∷ ts) {w} a f m =
       let y = late-step t a f (m .0) in
-      let z = every-late ts (y .stand) (later-free t w f) (m .1) in
+      let z = every-late ts (y .stand) (later-free t w a (m .0) f) (m .1) in
       ((y .heard, y .after-it, z .0), z .1)
 
 -- two runs with one record of the bus time, whatever was before
@@ -335,6 +430,6 @@ undisturbed-late share n (s ∷ ss) w e o =
     let c = s .opening .channel in
     let a = opened-at share n (s .opening) w e (o .0) in
     let b = stands-after c share n (s .opening .turns) a (o .0 .allowed) in
-    let f = turns-free c share n (s .opening .turns) _ (opened-free c share n (s .opening) w (o .0 .accepted)) in
+    let f = turns-free c share n (s .opening .turns) _ a (o .0 .allowed) (opened-free c share n (s .opening) w (o .0 .accepted) e (o .0 .rests)) in
     let z = every-late c share n (s .turns) b f (o .1) in
     (always c share n (s .opening .turns) a (o .0 .allowed), z .0, undisturbed-late share n ss _ (at-time (z .1)) (o .2))

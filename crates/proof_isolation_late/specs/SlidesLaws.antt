@@ -7,6 +7,11 @@ use Prim.Native.Nat.{ℕ, zero, suc}
 use lib.Dec.{eqb}
 use borrow.Author.Tests.{eqb-true}
 use Rattle.bits.specs.Walk.{setBits}
+use Rattle.bits.specs.WalkLaws as walk-laws
+use Rattle.bits.specs.WalkLaws.{walked-set}
+use mathlib.Core.Logic.{inl, inr}
+use Rattle.model.specs.SortsWalks.{among-outs}
+use Rattle.proof_book.specs.TransferKindsLaws.{sorted}
 use Rattle.regs.specs.declared.Access.{Access}
 use Rattle.regs.specs.declared.Access.the-variants.{Receive}
 use Rattle.regs.specs.declared.Reg.{Reg}
@@ -28,6 +33,7 @@ use Rattle.model.specs.Script.{Script, Act, run, ret, bind, test, _>>=_, _>>_, 
 use Rattle.model.specs.Script.{changed, waiting, marked, next-len, setup-word, gathered, complete, no-wakes, waken, arrive, send}
 use Rattle.model.specs.Statics.{isoInEvery, isoOuts, modify, modifyEp, modifyReg, modifyIntEn, wake}
 use Rattle.model.specs.Answers.{Answer}
+use Rattle.model.specs.Simulates.{quiet}
 use Rattle.model.specs.TransferKinds.{allocates}
 use Rattle.model.specs.IsoIn.{firstInFrame, isoInLoad, isoInComplete, unseen, sofOne, sofWalk, onSof, lateWalk}
 use Rattle.model.specs.IsoOut.{arrives, checkOne, checkWalk, isoOutCheck}
@@ -40,7 +46,7 @@ use Rattle.model_ops.specs.Rings.{St}
 use Rattle.model_ops.specs.Concrete.{concrete, getOn, putOn, isOf, lookOf, actOn, handOn}
 use Rattle.machine.specs.Suspended.{driverOf, drive}
 use Rattle.machine.specs.Goes.{Called}
-use Rattle.proof_isolation.specs.EqualExcept.{Channel}
+use Rattle.proof_isolation.specs.EqualExcept.{Lawful, Channel}
 use Rattle.proof_isolation.specs.Apart.{ownable}
 use Rattle.proof_isolation.specs.Settled.{isControl}
 use Rattle.proof_isolation.specs.ButsLaws.{lawful-put, lawful-act, lawful-hand}
@@ -61,8 +67,8 @@ module _ (c : Channel) where
 
   -- wherever it goes on, it goes on so
   pub data Free {A : Type 0} : tree.Out St A → Type 0 where
-    free-end : {a : A} {s : St} → Free (ends a s)
-    free-ask : {q : Access} {s : St} {k : ℕ → St → tree.Out St A} → ((v : ℕ) (t : St) → Free (k v t))
+    free-end : {a : A} {s : St} → Lawful (c .iso) quiet s → Free (ends a s)
+    free-ask : {q : Access} {s : St} {k : ℕ → St → tree.Out St A} → ((v : ℕ) (t : St) → Lawful (c .iso) quiet t → Free (k v t))
         → ((o : Light) (z : AnswerParts) (v : ℕ) (t : St) → Other c o → Shows c o z t → Slid o z (k v t) (k v (done-by o t))) → Free (asks q s k)
 
   slid-bind : {o : Light} {z : AnswerParts} {A B : Type 0} {y u : tree.Out St A} {g : A → St → tree.Out St B} → Slid o z y u
@@ -71,23 +77,23 @@ module _ (c : Channel) where
   slid-bind (slid-ask p) h = slid-ask p
   slid-bind (slid-lost n) h = slid-lost n
 
-  free-bind : {A B : Type 0} {y : tree.Out St A} {g : A → St → tree.Out St B} → Free y → ((a : A) (s : St) → Free (g a s))
+  free-bind : {A B : Type 0} {y : tree.Out St A} {g : A → St → tree.Out St B} → Free y → ((a : A) (s : St) → Lawful (c .iso) quiet s → Free (g a s))
       → ((o : Light) (z : AnswerParts) (a : A) (s : St) → Other c o → Shows c o z s → Slid o z (g a s) (g a (done-by o s))) → Free (bindOut y g)
-  free-bind free-end h k = h _ _
-  free-bind (free-ask f l) h k = free-ask (λ v t. free-bind (f v t) h k) (λ o z v t n p. slid-bind (l o z v t n p) (λ a s q. k o z a s n q))
+  free-bind (free-end l) h k = h _ _ l
+  free-bind (free-ask f l) h k = free-ask (λ v t m. free-bind (f v t m) h k) (λ o z v t n p. slid-bind (l o z v t n p) (λ a s q. k o z a s n q))
 
   -- ---- scripts
 
   pub record Slides {A : Type 0} (p : Script true A) : Type 0 where
-    pub free : (s : St) → Free (run concrete p s)
+    pub free : (s : St) → Lawful (c .iso) quiet s → Free (run concrete p s)
     pub slid : (o : Light) (z : AnswerParts) (s : St) → Other c o → Shows c o z s → Slid o z (run concrete p s) (run concrete p (done-by o s))
 
   s-ret : {A : Type 0} {a : A} → Slides (ret a)
-  s-ret = record { free = λ s. free-end; slid = λ o z s n p. slid-end p }
+  s-ret = record { free = λ s l. free-end l; slid = λ o z s n p. slid-end p }
 
   s-bind : {A B : Type 0} {p : Script true A} {f : A → Script true B} → Slides p → ((a : A) → Slides (f a)) → Slides (bind p f)
   s-bind h k = record {
-    free = λ s. free-bind (h .free s) (λ a t. k a .free t) (λ o z a t n p. k a .slid o z t n p);
+    free = λ s l. free-bind (h .free s l) (λ a t m. k a .free t m) (λ o z a t n p. k a .slid o z t n p);
     slid = λ o z s n p. slid-bind (h .slid o z s n p) (λ a t q. k a .slid o z t n q);
   }
 
@@ -95,62 +101,62 @@ module _ (c : Channel) where
   s-then h k = s-bind h (λ _. k)
 
   s-test : {A : Type 0} {p q : Script true A} (b : Bool) → Slides p → Slides q → Slides (test b p q)
-  s-test true h k = record { free = λ s. h .free s; slid = λ o z s n p. h .slid o z s n p }
-  s-test false h k = record { free = λ s. k .free s; slid = λ o z s n p. k .slid o z s n p }
+  s-test true h k = record { free = λ s l. h .free s l; slid = λ o z s n p. h .slid o z s n p }
+  s-test false h k = record { free = λ s l. k .free s l; slid = λ o z s n p. k .slid o z s n p }
 
   s-when : {p : Script true Unit} (b : Bool) → Slides p → Slides (when b p)
   s-when b h = s-test b h s-ret
 
   s-read : (r : Reg) (e : ℕ) → Slides (read r e)
-  s-read r e = record { free = λ s. free-ask (λ v t. free-end) (λ o z v t n p. slid-end p); slid = λ o z s n p. slid-ask p }
+  s-read r e = record { free = λ s l. free-ask (λ v t m. free-end m) (λ o z v t n p. slid-end p); slid = λ o z s n p. slid-ask p }
 
   s-write : (r : Reg) (e v : ℕ) → Slides (write r e v)
-  s-write r e v = record { free = λ s. free-ask (λ v t. free-end) (λ o z v t n p. slid-end p); slid = λ o z s n p. slid-ask p }
+  s-write r e v = record { free = λ s l. free-ask (λ v t m. free-end m) (λ o z v t n p. slid-end p); slid = λ o z s n p. slid-ask p }
 
   s-callback : Slides callback
-  s-callback = record { free = λ s. free-ask (λ v t. free-end) (λ o z v t n p. slid-end p); slid = λ o z s n p. slid-ask p }
+  s-callback = record { free = λ s l. free-ask (λ v t m. free-end m) (λ o z v t n p. slid-end p); slid = λ o z s n p. slid-ask p }
 
   s-get : (q : Cell) → Slides (get q)
   s-get q = record {
-    free = λ s. free-end;
+    free = λ s l. free-end l;
     slid = λ o z s n p. subst (λ v. Slid o z (ends (getOn q s) s) (ends v (done-by o s))) (sym (get-done c o s (p .lawful) q)) (slid-end p);
   }
 
   s-put : (q : Cell) (v : Val q) → isControl q ≡ false → Slides (put q v)
   s-put q v h = record {
-    free = λ s. free-end;
+    free = λ s l. free-end (lawful-put c q v l h);
     slid = λ o z s n p. subst (λ t. Slid o z (ends tt (putOn q v s)) (ends tt t)) (sym (put-done c o s (p .lawful) q v))
         (slid-end (record { lawful = lawful-put c q v (p .lawful) h; sees = seen-put o q v s (p .lawful .rest .sized) ∙ p .sees }));
   }
 
-  s-changed : (e : ℕ) → Slides (is (changed e))
-  s-changed e = record {
-    free = λ s. free-end;
+  s-changed : (e : ℕ) → c .iso Out e ≡ true → Slides (is (changed e))
+  s-changed e i = record {
+    free = λ s l. free-end l;
     slid = λ o z s n p. subst (λ v. Slid o z (ends (isOf (changed e) s) s) (ends v (done-by o s))) (sym (changed-done c o s (p .lawful) e)) (slid-end p);
   }
 
-  s-marked : (e : ℕ) → Slides (look (marked e))
-  s-marked e = record {
-    free = λ s. free-end;
+  s-marked : (e : ℕ) → c .iso Out e ≡ true → Slides (look (marked e))
+  s-marked e i = record {
+    free = λ s l. free-end l;
     slid = λ o z s n p. subst (λ v. Slid o z (ends (lookOf (marked e) s) s) (ends v (done-by o s))) (sym (marked-done c o s (p .lawful) e)) (slid-end p);
   }
 
   s-setup-word : (k : ℕ) → Slides (look (setup-word k))
   s-setup-word k = record {
-    free = λ s. free-end;
+    free = λ s l. free-end l;
     slid = λ o z s n p. subst (λ v. Slid o z (ends (lookOf (setup-word k) s) s) (ends v (done-by o s))) (sym (setup-done c o s k)) (slid-end p);
   }
 
   s-gathered : Slides (fetch gathered)
   s-gathered = record {
-    free = λ s. free-end;
+    free = λ s l. free-end l;
     slid = λ o z s n p. subst (λ v. Slid o z (ends (listed (s .0 .wakes)) s) (ends v (done-by o s))) (sym (ap listed (wakes-same c o s))) (slid-end p);
   }
 
   -- a change of the wake-ups alone
   s-wakes : (q : Act) (f : Wakes → Wakes) → allocates q ≡ false → ((s : St) → actOn q s ≡ (withWakes (s .0) (f (s .0 .wakes)), s .1)) → Slides (act q)
   s-wakes q f a e = record {
-    free = λ s. free-end;
+    free = λ s l. free-end (lawful-act c q a l);
     slid = λ o z s n p. subst (λ t. Slid o z (ends tt (actOn q s)) (ends tt t))
         (sym (e (done-by o s) ∙ ap (λ w. (withWakes (done-by o s .0) (f w), done-by o s .1)) (wakes-same c o s)
         ∙ wakes-done c o s (f (s .0 .wakes)) ∙ ap (done-by o) (sym (e s))))
@@ -169,7 +175,7 @@ module _ (c : Channel) where
     where
       own-arrive : Slides (hand (arrive (c .number) m))
       own-arrive = record {
-        free = λ s. free-ask (λ v t. free-end) (λ o z v t n p. slid-end p);
+        free = λ s l. free-ask (λ v t m. free-end m) (λ o z v t n p. slid-end p);
         slid = λ o z s n p. let w = handOn (arrive (c .number) m) s in
             subst (λ (y : ℕ × St). Slid o z (asks (Receive (c .number) (w .0)) (w .1) (λ _ t. ends tt t))
             (asks (Receive (c .number) (y .0)) (y .1) (λ _ t. ends tt t)))
@@ -179,7 +185,7 @@ module _ (c : Channel) where
 
       by : (b : Bool) → eqb e (c .number) ≡ b → Slides (hand (arrive e m))
       by true h = subst (λ i. Slides (hand (arrive i m))) (sym (eqb-true e (c .number) h)) own-arrive
-      by false h = record { free = λ s. free-ask (λ v t. free-end) (λ o z v t n p. slid-end p); slid = λ o z s n p. slid-lost h }
+      by false h = record { free = λ s l. free-ask (λ v t m. free-end m) (λ o z v t n p. slid-end p); slid = λ o z s n p. slid-lost h }
 
   -- ---- a completion: an access that is not the channel's comes before anything else
 
@@ -206,15 +212,15 @@ module _ (c : Channel) where
   load-free e s = by (isOf (waiting In e) s)
     where
       by : (b : Bool) → Free (run concrete (loads e b) s)
-      by true = free-ask (λ v t. free-ask (λ v t. free-end) (λ o z v t n p. slid-end p)) (λ o z v t n p. slid-lost refl)
-      by false = free-ask (λ v t. free-end) (λ o z v t n p. slid-end p)
+      by true = free-ask (λ v t m. free-ask (λ v t m. free-end m) (λ o z v t n p. slid-end p)) (λ o z v t n p. slid-lost refl)
+      by false = free-ask (λ v t m. free-end m) (λ o z v t n p. slid-end p)
 
   s-wake : (dir : Dir) (e : ℕ) → Slides (wake dir e)
   s-wake dir e = s-waken _
 
   s-complete : (e : ℕ) → Slides (isoInComplete e)
   s-complete e = record {
-    free = λ s. free-bind (load-free e (actOn (complete e) s)) (λ a t. s-wake In e .free t) (λ o z a t n p. s-wake In e .slid o z t n p);
+    free = λ s l. free-bind (load-free e (actOn (complete e) s)) (λ a t m. s-wake In e .free t m) (λ o z a t n p. s-wake In e .slid o z t n p);
     slid = λ o z s n p. lost-slid (lost-bind (λ _ t. run concrete (wake {i = true} In e) t) (load-lost e (actOn (complete e) s)));
   }
 
@@ -281,17 +287,27 @@ module _ (c : Channel) where
   s-arrives : (e n : ℕ) → Slides (arrives e n)
   s-arrives e n = s-then (s-arrive e n) (s-wake Out e)
 
-  s-check : (x : Transfer) (iso : Bool) (e : ℕ) → Slides (checkOne x iso e)
-  s-check x iso e = s-bind (s-changed e) (λ b. s-when b (s-test _ (s-arrives e (x .len))
-      (s-bind (s-read IntSt 0) (λ st. s-test _ s-ret (s-bind (s-marked e) (λ len. s-arrives e len))))))
+  s-check : (x : Transfer) (iso : Bool) (e : ℕ) → c .iso Out e ≡ true → Slides (checkOne x iso e)
+  s-check x iso e i = s-bind (s-changed e i) (λ b. s-when b (s-test _ (s-arrives e (x .len))
+      (s-bind (s-read IntSt 0) (λ st. s-test _ s-ret (s-bind (s-marked e i) (λ len. s-arrives e len))))))
 
-  s-check-walk : (x : Transfer) (iso : Bool) (es : List ℕ) → Slides (checkWalk x iso es)
+  s-check-walk : (x : Transfer) (iso : Bool) (es : List ℕ) → ((e : ℕ) → walk-laws.In e es → c .iso Out e ≡ true) → Slides (checkWalk x iso es)
   unfolding checkWalk
-  s-check-walk x iso [] = s-ret
-  s-check-walk x iso (e ∷ es) = s-then (s-check x iso e) (s-check-walk x iso es)
+  s-check-walk x iso [] f = s-ret
+  s-check-walk x iso (e ∷ es) f = s-then (s-check x iso e (f e (inl refl))) (s-check-walk x iso es (λ a m. f a (inr m)))
+
+  -- of a lawful state: each of the walk is isochronous
+  walk-isos : (s : St) → Lawful (c .iso) quiet s → (e : ℕ) → walk-laws.In e (setBits (isoOuts (s .0 .globals))) → c .iso Out e ≡ true
+  walk-isos s l e m = let w = walked-set (isoOuts (s .0 .globals)) e m in
+      among-outs (c .iso Out) (s .0 .globals) (sorted (c .iso) (c .ep0) .shows globals-cell s (l .has) .0) e (w .0) (w .1)
 
   s-iso-out : (x : Transfer) (iso : Bool) → Slides (isoOutCheck x iso)
-  s-iso-out x iso = s-bind (s-get globals-cell) (λ g. s-check-walk x iso (setBits (isoOuts g)))
+  s-iso-out x iso = record {
+    free = λ s l. s-check-walk x iso (setBits (isoOuts (s .0 .globals))) (walk-isos s l) .free s l;
+    slid = λ o z s n p. subst (λ (g : Globals). Slid o z (run {i = true} concrete (checkWalk x iso (setBits (isoOuts (s .0 .globals)))) s)
+        (run {i = true} concrete (checkWalk x iso (setBits (isoOuts g))) (done-by o s))) (sym (get-done c o s (p .lawful) globals-cell))
+        (s-check-walk x iso (setBits (isoOuts (s .0 .globals))) (walk-isos s (p .lawful)) .slid o z s n p);
+  }
 
   s-received : (e n : ℕ) → Slides (received e n)
   s-received e n = s-then (s-modify-ep Out e _) (s-wake Out e)
@@ -367,54 +383,67 @@ module _ (c : Channel) where
   abbrev pub FreeWay : Way Answer Driver → Type 0
   FreeWay idle = Unit {0}
   FreeWay (busy false a k) = Unit {0}
-  FreeWay (busy true a k) = ((v : ℕ) (t : St) → Free (k v t))
+  FreeWay (busy true a k) = ((v : ℕ) (t : St) → Lawful (c .iso) quiet t → Free (k v t))
       × ((o : Light) (z : AnswerParts) (v : ℕ) (t : St) → Other c o → Shows c o z t → Slid o z (k v t) (k v (done-by o t)))
 
   abbrev FreeAfter : Called → Type 0
   FreeAfter x = FreeWay (x .1 .way)
 
   pub halt-free : {o : tree.Out St Answer} → Free o → FreeAfter (stops true o)
-  halt-free free-end = tt
+  halt-free (free-end l) = tt
   halt-free (free-ask f l) = (f, l)
 
   pub halt-late : (o : tree.Out St Answer) → FreeAfter (stops false o)
   halt-late (ends a s) = tt
   halt-late (asks q s k) = tt
 
-  either-free : (b : Bool) (x y : Called) → FreeAfter x → FreeAfter y → FreeAfter (cond b x y)
+  either-free : (b : Bool) (x y : Called) → FreeAfter x → (b ≡ false → FreeAfter y) → FreeAfter (cond b x y)
   either-free true x y h k = h
-  either-free false x y h k = k
+  either-free false x y h k = k refl
 
   beside-free : (m : Machine Answer Driver) → FreeWay (m .way) → (o : tree.Out St Answer) → FreeAfter (beside calls driverOf m o)
   beside-free m f (ends a s) = f
   beside-free m f (asks q s k) = f
 
-  begins-free : (o : Op) (m : Machine Answer Driver) → FreeWay (m .way) → (w : Way Answer Driver) (b : Buf) → FreeAfter (begun calls driverOf (λ s. s) o m w b)
-  begins-free interrupt m f idle b = halt-free (s-call .free (m .st, b))
-  begins-free (slotted o) m f idle b = halt-late (run concrete (code (slotted o)) (m .st, b))
-  begins-free (other o) m f idle b = halt-late (run concrete (code (other o)) (m .st, b))
-  begins-free (aside o) m f idle b = halt-late (run concrete (code (aside o)) (m .st, b))
-  begins-free o m f (busy i q k) b = either-free (cond i (calls .aside o) false)
+  -- the state with the buffer that is lent is lawful where an interrupt begins or goes on
+  abbrev pub Needs : Way Answer Driver → Type 0 → Type 0
+  Needs idle L = L
+  Needs (busy true q k) L = L
+  Needs (busy false q k) L = Unit {0}
+
+  begins-free : (o : Op) (m : Machine Answer Driver) → FreeWay (m .way) → (w : Way Answer Driver) (b : Buf)
+      → (o ≡ interrupt → w ≡ idle → Lawful (c .iso) quiet (m .st, b)) → FreeAfter (begun calls driverOf (λ s. s) o m w b)
+  begins-free interrupt m f idle b l = halt-free (s-call .free (m .st, b) (l refl refl))
+  begins-free (slotted o) m f idle b l = halt-late (run concrete (code (slotted o)) (m .st, b))
+  begins-free (other o) m f idle b l = halt-late (run concrete (code (other o)) (m .st, b))
+  begins-free (aside o) m f idle b l = halt-late (run concrete (code (aside o)) (m .st, b))
+  begins-free o m f (busy i q k) b l = either-free (cond i (calls .aside o) false)
       (beside calls driverOf (lentTo calls driverOf m b) (run concrete (code o) (m .st, b)))
-      (stay calls driverOf 3 (lentTo calls driverOf m b)) (beside-free (lentTo calls driverOf m b) f (run concrete (code o) (m .st, b))) f
+      (stay calls driverOf 3 (lentTo calls driverOf m b)) (beside-free (lentTo calls driverOf m b) f (run concrete (code o) (m .st, b))) (λ _. f)
 
   goes-free : (v : ℕ) (m : Machine Answer Driver) → FreeWay (m .way) → (w : Way Answer Driver) → FreeWay w → (b : Buf)
-      → FreeAfter (continued calls driverOf (λ s. s) v m w b)
-  goes-free v m f idle h b = f
-  goes-free v m f (busy true q k) h b = either-free (over calls q v) (stay calls driverOf 16 (lentTo calls driverOf m b))
-      (stops true (k v (m .st, b))) f (halt-free (h .0 v (m .st, b)))
-  goes-free v m f (busy false q k) h b = either-free (over calls q v) (stay calls driverOf 16 (lentTo calls driverOf m b))
-      (stops false (k v (m .st, b))) f (halt-late (k v (m .st, b)))
+      → Needs w (Lawful (c .iso) quiet (m .st, b)) → FreeAfter (continued calls driverOf (λ s. s) v m w b)
+  goes-free v m f idle h b l = f
+  goes-free v m f (busy true q k) h b l = either-free (over calls q v) (stay calls driverOf 16 (lentTo calls driverOf m b))
+      (stops true (k v (m .st, b))) f (λ _. halt-free (h .0 v (m .st, b) l))
+  goes-free v m f (busy false q k) h b l = either-free (over calls q v) (stay calls driverOf 16 (lentTo calls driverOf m b))
+      (stops false (k v (m .st, b))) f (λ _. halt-late (k v (m .st, b)))
 
   starts-free : (k : Config) (n : ℕ) (m : Machine Answer Driver) → FreeWay (m .way) → (b : Buf) → FreeAfter (started calls driverOf (λ s. s) k n m b)
   starts-free k zero m f b = halt-late (run concrete (calls .starts k) (driverOf .fresh k, b))
   starts-free k (suc n) m f b = f
 
-  pub drive-free : (d : Call Config Op) (m : Machine Answer Driver) (b : Buf) → FreeWay (m .way) → FreeAfter (drive d m b)
-  drive-free (start k) m b f = starts-free k (startRow k b) m f b
-  drive-free (begin o) m b f = either-free (cond (calls .slots o) (misfit calls driverOf (m .st) b) false) (stay calls driverOf 1 m)
+  abbrev pub LentLawful : Call Config Op → Machine Answer Driver → Buf → Type 0
+  LentLawful (start k) m b = Unit {0}
+  LentLawful (begin o) m b = o ≡ interrupt → m .way ≡ idle → Lawful (c .iso) quiet (m .st, b)
+  LentLawful (go v) m b = misfit calls driverOf (m .st) b ≡ false → Needs (m .way) (Lawful (c .iso) quiet (m .st, b))
+  LentLawful (question q) m b = Unit {0}
+
+  pub drive-free : (d : Call Config Op) (m : Machine Answer Driver) (b : Buf) → FreeWay (m .way) → LentLawful d m b → FreeAfter (drive d m b)
+  drive-free (start k) m b f l = starts-free k (startRow k b) m f b
+  drive-free (begin o) m b f l = either-free (cond (calls .slots o) (misfit calls driverOf (m .st) b) false) (stay calls driverOf 1 m)
       (begun calls driverOf (λ s. s) o m (m .way) b) f
-      (begins-free o m f (m .way) b)
-  drive-free (go v) m b f = either-free (misfit calls driverOf (m .st) b) (stay calls driverOf 1 m)
-      (continued calls driverOf (λ s. s) v m (m .way) b) f (goes-free v m f (m .way) f b)
-  drive-free (question q) m b f = f
+      (λ _. begins-free o m f (m .way) b l)
+  drive-free (go v) m b f l = either-free (misfit calls driverOf (m .st) b) (stay calls driverOf 1 m)
+      (continued calls driverOf (λ s. s) v m (m .way) b) f (λ x. goes-free v m f (m .way) f b (l x))
+  drive-free (question q) m b f l = f
