@@ -19,7 +19,7 @@ use Rattle.machine.specs.Suspended.{driverOf}
 use Rattle.model_ops.specs.Rings.{St}
 use Rattle.model_ops.specs.Concrete.{concrete}
 use Rattle.proof_usb20.specs.Log.{Log, before, opens, closes, Armed, Poll, none, begins}
-use Rattle.proof_usb20.specs.Log.{pollSetup, pollOut, pollIn, pollStatus, pollOf, FairPoll}
+use Rattle.proof_usb20.specs.Log.{pollSetup, pollOut, pollIn, pollStatus, pollOf, FairPoll, Fair}
 use Rattle.proof_usb20.specs.Observer.{startedBy, Reads, All}
 use Rattle.proof_usb20.specs.ExemptLaws.{differ}
 use Rattle.proof_usb20.specs.Watch.{at-end, at-ask}
@@ -111,6 +111,12 @@ fair-1 pollOut w = ((λ h. differ h, λ h. differ h), tt)
 fair-1 pollIn w = ((λ h. differ h, λ h. differ h), tt)
 fair-1 pollStatus w = ((λ h. differ h, λ h. differ h), tt, tt)
 
+fair-1-of : (o : Op) (w : Log) → Fair o (Refused 1) w
+fair-1-of interrupt w = tt
+fair-1-of (slotted o) w = fair-1 (pollOf (slotted o)) w
+fair-1-of (other o) w = fair-1 (pollOf (other o)) w
+fair-1-of (aside o) w = fair-1 (pollOf (aside o)) w
+
 pub laws : Laws control R
 laws = record {
   stands = stands;
@@ -119,7 +125,7 @@ laws = record {
   besides = λ o d b a t z h. (aside-view o d b a t z h, aside-wakes o d b a t h);
   new = λ c b. new (run concrete (calls .starts c) (driverOf .fresh c, b));
   unlent = unlent;
-  fair-1 = λ o w. fair-1 (pollOf o) w;
+  fair-1 = fair-1-of;
 }
 
 -- after each call: EP0's control words as last written say what USB 2.0's pipe says, a packet IN that is ready has its

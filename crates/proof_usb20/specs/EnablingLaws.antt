@@ -34,7 +34,7 @@ use Rattle.model_ops.specs.Rings.{St, slotStep, armAt, renewedOn, typeStep, con
 use Rattle.model_ops.specs.Concrete.{concrete}
 use Rattle.proof_book.specs.TransferKindsLaws.{act-steady, row-steady}
 use Rattle.proof_usb20.specs.Sequence as log
-use Rattle.proof_usb20.specs.Sequence.{Track, off, withPhase, own, saw, armsAt, Writing, written, withWord, unwritten-yet, Restarts, Acks, wrote}
+use Rattle.proof_usb20.specs.Sequence.{Track, off, withPhase, own, saw, armsAt, Writing, written, withWord, withSent, Is, unwritten-yet, Restarts, Acks, wrote}
 use Rattle.proof_usb20.specs.Sequence.{LeavesWord}
 use Rattle.proof_usb20.specs.FollowLaws as follow
 use Rattle.proof_usb20.specs.Follow as following
@@ -260,7 +260,7 @@ module _ (D : Dir) (E : ℕ) where
       let j : isOn (concrete .get (ep-cell In e) s .iso) ≡ false = ap (λ (p : EpCore). isOn (p .iso)) (reading.got D E In e s (own-true D E In e h)) ∙ i in
       watch-bind {P = Word0 false} {f = λ (_ : Unit {0}) (t : St). run {i = false} concrete (wake In e) t}
       (at-ask tt (λ _ _ _ _. at-ask tt (λ _ _ _ _. at-ask tt (λ _ _ _ _. at-ask tt (λ _ _ _ _. at-ask tt (λ _ _ _ _. at-end
-      (own-word false (own D E In e) _ u h (word-not-iso (isOn (concrete .get (ep-cell In e) s .iso)) on on _ j refl .1))))))))
+      (own-word false (own D E In e) _ _ h (word-not-iso (isOn (concrete .get (ep-cell In e) s .iso)) on on _ j refl .1))))))))
       (λ _ _ _ m. at-end m)
 
   pub leaves-enabled : (d : Dir) (e : ℕ) (on : Bool) → WordLaw (slotted (SetEnabled d e on))
@@ -350,12 +350,16 @@ module _ (D : Dir) (E : ℕ) where
       (λ _ _ _ m. at-end (λ _. m))))
       (λ h. leaves-any (other (BeginRead e n)) (λ a u k. not-own (own D E Out e) (log.ended D E a) h k) w s r i)
 
+  is-sent : (c : Bool) (v n : ℕ) (u : Writing) → c ≡ true → Is n (cond c (withWord v (cond c (withSent n u) u)) (cond c (withSent n u) u) .sent)
+  is-sent true v n u h = refl
+  is-sent false v n u h = differ h
+
   pub leaves-write : (e : ℕ) (bytes : List ℕ) → WordLaw (slotted (BeginWrite e bytes))
   leaves-write e bytes w s r i = by-test (own D E In e)
       (λ h. past-rows In e (ltb (concrete .get (ep-cell In e) s .«max_len») (length bytes)) s (λ _ k. never (own D E In e) k)
-      (watch-bind {P = λ x _ _. Acks (x .word)} (watch-bind {P = λ x _ _. Acks (x .word)}
+      (watch-bind {P = λ x _ _. Acks (x .word) × Is (length bytes) (x .sent)} (watch-bind {P = λ x _ _. Acks (x .word) × Is (length bytes) (x .sent)}
       (watch-cond (isOn (concrete .get (ep-cell In e) s .iso)) (λ q. iso-own D E In e s (own-true D E In e h) i q)
-      (λ _. at-ask tt (λ _ _ _ _. at-ask tt (λ v _ _ _. at-ask tt (λ _ _ _ _. at-end (acked (own D E In e) v (unwritten-yet w) h))))))
+      (λ _. at-ask tt (λ _ _ _ _. at-ask tt (λ v _ _ _. at-ask tt (λ _ _ _ _. at-end (acked (own D E In e) v _ h, is-sent (own D E In e) (ack v) (length bytes) (unwritten-yet w) h))))))
       (λ _ _ _ m. at-end m))
       (λ _ _ _ m. at-end (λ _. m))))
       (λ h. leaves-any (slotted (BeginWrite e bytes)) (λ a u k. not-own (own D E In e) (log.ended D E a) h k) w s r i)

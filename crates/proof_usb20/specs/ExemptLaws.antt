@@ -28,7 +28,7 @@ use Rattle.proof_usb20.specs.Pipe.{Event, packet, token}
 use Rattle.proof_usb20.specs.Log.{Phase, off, entered, flagged, again, timed, shows, Log, withPhase, happens}
 use Rattle.proof_usb20.specs.Log.{ofToken, seen, reads, saw, opens, endsOther, endsSlotted, ends, Poll, none}
 use Rattle.proof_usb20.specs.Log.{pollSetup, pollOut, pollIn, pollStatus, pollOf, overBy, withTaken, closes}
-use Rattle.proof_usb20.specs.Log.{Unfinished, Begins, begins, Completes, Wrote, GivesSetup, FairPoll, AllowedTo}
+use Rattle.proof_usb20.specs.Log.{Unfinished, Begins, begins, Completes, Wrote, GivesSetup, FairPoll, Fair, AllowedTo}
 use Rattle.proof_usb20.specs.Log.{Allowed}
 use Rattle.proof_usb20.specs.WatchLaws.{watch-any}
 use Rattle.proof_usb20.specs.Ep0.{Watch, Between, Ends}
@@ -201,9 +201,14 @@ opens-exempt (slotted o) w h = h
 opens-exempt (other o) w h = h
 opens-exempt (aside o) w h = h
 
+pub fair-task : (o : Op) → Task o → (a : Answer) (w : Log) → FairPoll (pollOf o) a w → Fair o a w
+fair-task (slotted o) t a w f = f
+fair-task (other o) t a w f = f
+fair-task (aside o) t a w f = f
+
 -- a task's call, whatever it does
 pub exempt-law : (o : Op) → Task o → (w : Log) (s : St) → w .exempt ≡ true
     → Watch Between (Allowed o) (Ends o) (opens o w) (run concrete (code o) s)
 exempt-law o t w s h = watch-any (λ x. x .exempt ≡ true) (λ x q g. allowed-exempt (pollOf o) x q g)
-    (λ x q v g. saw-exempt x q v (it g) .is) (λ x a u g. (inl (closes-exempt o t a x g), fair-exempt (pollOf o) a x g))
+    (λ x q v g. saw-exempt x q v (it g) .is) (λ x a u g. (inl (closes-exempt o t a x g), fair-task o t a x (fair-exempt (pollOf o) a x g)))
     (opens o w) (opens-exempt o w h) (run concrete (code o) s)

@@ -228,7 +228,7 @@ q-served tk x iso frame h = q-bind (q-got globals-cell)
 
 -- what is known at its end
 abbrev pub Served : Bool → {A : Type 0} → Log → A → St → Type 0
-Served su x a t = R x (view (t .0)) × (view (t .0) .stage ≡ 2) × (x .setup-seen ≡ su)
+Served su x a t = R x (view (t .0)) × (view (t .0) .stage ≡ 2) × (x .setup-seen ≡ su) × (x .phase ≡ off)
 
 -- of EP0: what comes before the token's own part, that part, the checks, the token's sign of a hidden stage
 module _ (x : Transfer) (frame : ℕ) (mine : eqb (endpoint (x .st)) 0 ≡ true) (w : Log) (z : w .phase ≡ off) (s : St) (k : Plainly s) {su : Bool} where
@@ -249,11 +249,12 @@ pub made : {i : Bool} {A : Type 0} {P : Log → A → St → Type 0} {p : Script
 made x = record { ok = x }
 
 conclude : {su : Bool} (y w : Log) (u : St) (v : View) → y ≡ w → view (u .0) ≡ v → R w v → v .stage ≡ 2
-    → w .setup-seen ≡ su → Served su y (tt {0}) u
-conclude {su = su} y w u v e h r t f = (
+    → w .setup-seen ≡ su → w .phase ≡ off → Served su y (tt {0}) u
+conclude {su = su} y w u v e h r t f p = (
   subst (λ (q : Log). R q (view (u .0))) (sym e) (subst (R w) (sym h) r),
   ap (λ (q : View). q .stage) h ∙ t,
   ap (λ (q : Log). q .setup-seen) e ∙ f,
+  ap (λ (q : Log). q .phase) e ∙ p,
 )
 
 same-stage : (m : Bool) (x y : View) → x .stage ≡ 2 → y .stage ≡ 2 → cond m x y .stage ≡ 2
@@ -294,7 +295,7 @@ module _ (x : Transfer) (frame : ℕ) (mine : eqb (endpoint (x .st)) 0 ≡ true)
       ))) (λ q. differ (sym q ∙ ok))) (λ q. differ (sym q ∙ mine))) (λ q. differ (sym q ∙ ap not b))))
       (λ t e l. made (watch-more (moved-on In v t refl l armedIn (ap (λ (y : View). isOn (y .inn .armed)) e))
       (λ y _ o m. conclude y _ o _ (m .0) (m .1 ∙ ap (λ (q : View). cond armedIn (setIn completed q) q) e)
-      (r-out w (view (s .0)) armedIn refl r) (same-stage armedIn _ _ two two) seen-su)))) .ok
+      (r-out w (view (s .0)) armedIn refl r) (same-stage armedIn _ _ two two) seen-su refl)))) .ok
 
   -- the token OUT alone: a repeat, or a transaction that is not complete
   out-token : (busy ok : Bool) → not busy && ok ≡ false → x .busy ≡ busy → togOk (x .st) ≡ ok
@@ -307,7 +308,7 @@ module _ (x : Transfer) (frame : ℕ) (mine : eqb (endpoint (x .st)) 0 ≡ true)
       (λ q. differ (sym q ∙ mine))) (λ _. at-end (refl, e, l))))
       (λ t e l. made (watch-more (moved-on In u t refl l armedIn (ap (λ (y : View). isOn (y .inn .armed)) e))
       (λ y _ o m. conclude y _ o _ (m .0) (m .1 ∙ ap (λ (q : View). cond armedIn (setIn completed q) q) e)
-      (r-token-out w (view (s .0)) armedIn refl r) (same-stage armedIn _ _ two two) seen-su)))) .ok
+      (r-token-out w (view (s .0)) armedIn refl r) (same-stage armedIn _ _ two two) seen-su refl)))) .ok
     where
       both : busy ≡ x .busy → ok ≡ togOk (x .st) → not (x .busy) ≡ true → togOk (x .st) ≡ true → not busy && ok ≡ true
       both p q f g = rw (p, q, f, g) refl
@@ -325,7 +326,7 @@ module _ (x : Transfer) (frame : ℕ) (mine : eqb (endpoint (x .st)) 0 ≡ true)
       ))) (λ q. differ (sym q ∙ mine))) (λ q. differ (sym q ∙ ap not b))))
       (λ t e l. made (watch-more (moved-on Out v t refl l armedOut (ap (λ (y : View). isOn (y .out .armed)) e))
       (λ y _ o m. conclude y _ o _ (m .0) (m .1 ∙ ap (λ (q : View). cond armedOut (setOut completed q) q) e)
-      (r-in w (view (s .0)) armedOut refl r) (same-stage armedOut _ _ two two) seen-su)))) .ok
+      (r-in w (view (s .0)) armedOut refl r) (same-stage armedOut _ _ two two) seen-su refl)))) .ok
 
   in-token : x .busy ≡ true
       → Watch Between Any (Served su) (happens (pipe.token In) (withPhase off w)) (run concrete (servedAs tok.In x false frame) s)
@@ -335,7 +336,7 @@ module _ (x : Transfer) (frame : ℕ) (mine : eqb (endpoint (x .st)) 0 ≡ true)
       (λ t e l. made (watch-cond (not (x .busy)) (λ f. differ (ap not (sym b) ∙ f)) (λ _. at-end (refl, e, l))))
       (λ t e l. made (watch-more (moved-on Out u t refl l armedOut (ap (λ (y : View). isOn (y .out .armed)) e))
       (λ y _ o m. conclude y _ o _ (m .0) (m .1 ∙ ap (λ (q : View). cond armedOut (setOut completed q) q) e)
-      (r-token-in w (view (s .0)) armedOut refl r) (same-stage armedOut _ _ two two) seen-su)))) .ok
+      (r-token-in w (view (s .0)) armedOut refl r) (same-stage armedOut _ _ two two) seen-su refl)))) .ok
 
   plain-token : (tk : Token) (iso : Bool) → Quiet {i = true} (dispatch tk x iso frame)
       → Quiet {i = true} (ep0MovedOn tk)
@@ -344,7 +345,7 @@ module _ (x : Transfer) (frame : ℕ) (mine : eqb (endpoint (x .st)) 0 ≡ true)
       (framing x frame mine (withPhase off w) refl s k tk iso (withPhase off w) (view (s .0)) refl
       (λ t e l. made (watch-more (q-when {b = not (x .busy)} q .goes (withPhase off w) t refl l) (λ _ _ _ m. (m .0, m .1 ∙ e, m .2))))
       (λ t e l. made (watch-more (p .goes (withPhase off w) t refl l)
-      (λ y _ o m. conclude y (withPhase off w) o (view (s .0)) (m .0) (m .1 ∙ e) r two seen-su)))) .ok
+      (λ y _ o m. conclude y (withPhase off w) o (view (s .0)) (m .0) (m .1 ∙ e) r two seen-su refl)))) .ok
 
   pub served-ep0 : (tk : Token) (iso busy ok : Bool) → x .busy ≡ busy → togOk (x .st) ≡ ok → NotIso tk iso
       → Watch Between Any (Served su) (ofToken tk busy ok (withPhase off (naked tk busy ok w))) (run concrete (servedAs tk x iso frame) s)

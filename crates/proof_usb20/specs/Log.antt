@@ -98,8 +98,8 @@ withLen n w = withWords (w .rx) (w .tx) n w
 abbrev pub withPhase : Phase → Log → Log
 withPhase p w = withSight p (w .setup-seen) (w .wrote) w
 
-abbrev pub withFlags : Bool → Log → Log
-withFlags s w = withSight flagged s (w .wrote) w
+abbrev pub withFlags : ℕ → Log → Log
+withFlags v w = withSight (cond (transfer v) flagged off) (setupAct v) (w .wrote) w
 
 abbrev pub withWrote : Setting → Log → Log
 withWrote a w = withSight (w .phase) (w .setup-seen) a w
@@ -131,7 +131,7 @@ seen busy st w = cond (eqb (endpoint st) 0) (ofToken (status.token st) busy (tog
 
 abbrev pub reads : Phase → Reg → ℕ → Log → Log
 reads off r v w = w
-reads entered r v w = cond (sameReg r IntFg) (withFlags (setupAct v) w) w
+reads entered r v w = cond (sameReg r IntFg) (withFlags v w) w
 reads flagged r v w = cond (sameReg r MisSt) (withPhase (timed (not (sieFree v))) w) w
 reads (timed b) r v w = cond (sameReg r IntSt) (withPhase (shows b v) w) w
 reads (shows b st) r v w = cond (sameReg r IntFg) (cond (transfer v) w (withPhase again w)) (cond (sameReg r FrameNo) (seen b st (withPhase off w)) w)
@@ -348,8 +348,19 @@ FairPoll pollOut a w = Unfinished pollOut a w × Completes pollOut a w
 FairPoll pollIn a w = Unfinished pollIn a w × Completes pollIn a w
 FairPoll pollStatus a w = Unfinished pollStatus a w × Completes pollStatus a w × Wrote a w
 
+-- an interrupt that ends has read its flags; with the transfer flag, whether the bus is free, the status and the frame
+abbrev pub Looked : Answer → Log → Type 0
+Looked (Refused n) w = Unit {0}
+Looked (End n ws) w = w .phase ≡ off
+Looked NotYet w = Unit {0}
+Looked (Done bytes) w = Unit {0}
+Looked (Shown bytes stamp) w = Unit {0}
+
 abbrev pub Fair : Op → Answer → Log → Type 0
-Fair o a w = FairPoll (pollOf o) a w
+Fair interrupt a w = Looked a w
+Fair (slotted o) a w = FairPoll (pollOf (slotted o)) a w
+Fair (other o) a w = FairPoll (pollOf (other o)) a w
+Fair (aside o) a w = FairPoll (pollOf (aside o)) a w
 
 -- the address of the Set Address that was accepted
 abbrev pub Accepted : Awaited → ℕ → Type 0

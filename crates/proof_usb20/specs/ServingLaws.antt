@@ -130,6 +130,7 @@ serves w v x l t {su = su} r two e (others h b m q k) = back m (at-ask {q = Read
       subst (λ (z : Log). R z (view (o .0))) (sym (j .0)) (subst (R w) (sym (j .1 ∙ (i .0 ∙ q))) r),
       ap (λ (a : View). a .stage) (j .1 ∙ (i .0 ∙ q)) ∙ two,
       ap (λ (z : Log). z .setup-seen) (j .0) ∙ e,
+      ap (λ (z : Log). z .phase) (j .0),
     )))))
   where
     elsewhere : (b : Bool) (st : ℕ) (w : Log) → eqb (endpoint st) 0 ≡ false
@@ -180,9 +181,9 @@ ready-setup : (x : Log) → x .setup-seen ≡ true → {v y : View} → y ≡ v
 ready-setup x e {v = v} {y = y} h r = subst (λ (b : Bool). R (cond b (set-up x) x) y)
     (sym e) (inr (subst (Rel (x .rx) (x .tx) (x .len) (pipe.after pipe.setup (x .pipe)) pipe.nothing true) (sym h) r))
 
-sets-up : (w : Log) (s : St) → view (s .0) .stage ≡ 2 → w .setup-seen ≡ true
-    → Watch Between Any (λ x _ t. R (cond (x .setup-seen) (set-up x) x) (view (t .0))) w (run concrete (onSetup {i = true}) s)
-sets-up w s two e = at-ask tt (λ _ a _ i. at-ask tt (λ _ b _ j. at-ask tt (λ _ c _ l.
+sets-up : (w : Log) (s : St) → view (s .0) .stage ≡ 2 → w .setup-seen ≡ true → w .phase ≡ off
+    → Watch Between Any (λ x _ t. R (cond (x .setup-seen) (set-up x) x) (view (t .0)) × (x .phase ≡ off)) w (run concrete (onSetup {i = true}) s)
+sets-up w s two e ph = at-ask tt (λ _ a _ i. at-ask tt (λ _ b _ j. at-ask tt (λ _ c _ l.
     let h = j .1 .places in
     let o = outWith cleared b in
     let n = inWith cleared o in
@@ -191,9 +192,9 @@ sets-up w s two e = at-ask tt (λ _ a _ i. at-ask tt (λ _ b _ j. at-ask tt (λ 
     let seen-p : view (p .0) ≡ setReady 1 (setIn aborted (setOut aborted (view (s .0)))) = put-globals g n ∙ ap (setReady 1)
     (in-view cleared o (out-whole cleared b h) ∙ ap (setIn aborted) (out-view cleared b h ∙ ap (setOut aborted) (j .0 ∙ i .0))) in
     let c′ = concrete .act (waken (wakeCode Out 0 ∷ [])) c in
-    at-end (ready-setup (withTx (wordOf word.NAK word.DATA0 false) (withRx (wordOf word.NAK word.DATA0 false) w)) e
+    at-end ((ready-setup (withTx (wordOf word.NAK word.DATA0 false) (withRx (wordOf word.NAK word.DATA0 false) w)) e
     (act-view (waken (wakeCode In 0 ∷ [])) refl c′ ∙ (act-view (waken (wakeCode Out 0 ∷ [])) refl c
-    ∙ (l .0 ∙ seen-p))) (set-up-fits _ _ _ (w .pipe) (view (s .0)) two nak-word nak-word)))))
+    ∙ (l .0 ∙ seen-p))) (set-up-fits _ _ _ (w .pipe) (view (s .0)) two nak-word nak-word)), ph))))
 
 -- ---- the flags
 
@@ -211,15 +212,21 @@ masks f w s k =
 
 -- at its end
 abbrev Over : {A : Type 0} → Log → A → St → Type 0
-Over y a t = R (cond (y .setup-seen) (set-up y) y) (view (t .0))
+Over y a t = R (cond (y .setup-seen) (set-up y) y) (view (t .0)) × (y .phase ≡ off)
 
 none : (x : Log) (v : View) → x .setup-seen ≡ false → R x v → R (cond (x .setup-seen) (set-up x) x) v
 none x v h r = rw h r
 
+is-flagged : (f : ℕ) (w : Log) → transfer f ≡ true → withFlags f w ≡ withPhase flagged (withFlags f w)
+is-flagged f w h = rw h refl
+
+is-off : (f : ℕ) (w : Log) → transfer f ≡ false → withFlags f w .phase ≡ off
+is-off f w h = rw h refl
+
 on-interrupt : (w : Log) (s : St) → R w (view (s .0)) → view (s .0) .stage ≡ 2
     → Watch Between Any Over (opens interrupt w) (run concrete (onInterrupt {i = true}) s)
 on-interrupt w s r two = at-ask tt (λ f b _ j.
-    let u = withFlags (setupAct f) (opens interrupt w) in
+    let u = withFlags f (opens interrupt w) in
     watch-bind {P = Exactly u (view (s .0))}
     (watch-cond (busRst f) (λ _. watch-more (masks (λ w. withBusRst w false) u b (plainly (j .1))) (λ _ _ _ m. (m .0, m .1 ∙ j .0, m .2)))
     (λ _. at-end (refl, j .0, plainly (j .1)))) (λ x _ c m. back (m .0) (
@@ -233,9 +240,9 @@ on-interrupt w s r two = at-ask tt (λ f b _ j.
     (watch-cond (hstSof f) (λ _. at-ask tt (λ _ t _ l. at-end (refl, l .0 ∙ o .1, plainly (l .1)))) (λ _. at-end (refl, o .1, o .2)))
     (λ x _ g p. back (p .0) (
     watch-bind {P = Served (setupAct f)}
-    (watch-cond (transfer f) (λ _. transfers u g (subst (R u) (sym (p .1)) r) (ap (λ (y : View). y .stage) (p .1) ∙ two) refl)
-    (λ _. at-end (subst (R u) (sym (p .1)) r, ap (λ (y : View). y .stage) (p .1) ∙ two, refl))) (λ x _ t k.
-    watch-cond (setupAct f) (λ h. sets-up x t (k .1) (k .2 ∙ h)) (λ h. at-end (none x (view (t .0)) (k .2 ∙ h) (k .0)))))))))))))
+    (watch-cond (transfer f) (λ h. back (is-flagged f (opens interrupt w) h) (transfers u g (subst (R u) (sym (p .1)) r) (ap (λ (y : View). y .stage) (p .1) ∙ two) refl))
+    (λ h. at-end (subst (R u) (sym (p .1)) r, ap (λ (y : View). y .stage) (p .1) ∙ two, refl, is-off f (opens interrupt w) h))) (λ x _ t k.
+    watch-cond (setupAct f) (λ h. sets-up x t (k .1) (k .2 ∙ h) (k .3)) (λ h. at-end (none x (view (t .0)) (k .2 ∙ h) (k .0), k .3))))))))))))
 
 pub law-interrupt : Law interrupt
 law-interrupt w s r z =
@@ -247,5 +254,5 @@ law-interrupt w s r z =
     ≡ view (s .0) = put-kept (withEntered (indexOf frame)) (λ _. refl) a ∙ (i .0 ∙ act-view no-wakes refl s) in
     on-interrupt w (concrete .put globals-cell (withEntered (indexOf frame) (concrete .get globals-cell a)) a)
     (subst (R w) (sym v) r) (ap (λ (y : View). y .stage) v ∙ two)))
-    (λ y _ o l. at-end l)) (λ y n o l. at-end (l, tt)))
+    (λ y _ o l. at-end l)) (λ y n o l. at-end (l .0, l .1)))
     (λ _. at-end (r, tt))

@@ -43,6 +43,7 @@ use Rattle.proof_usb20.specs.Log.{Log, before, exempted, afresh, opens, 
 use Rattle.proof_usb20.specs.Watch.{at-end, at-ask}
 use Rattle.proof_usb20.specs.WatchLaws.{watch-bind, watch-more, watch-cond, watch-any}
 use Rattle.proof_usb20.specs.Ep0.{Watch, View, view, R, Between, Ends, Law}
+use Rattle.proof_usb20.specs.ExemptLaws.{fair-task}
 use Rattle.proof_usb20.specs.ExemptLaws.{differ, Task, exempt-law}
 use Rattle.proof_usb20.specs.Ep0Laws.{act-view}
 use Rattle.proof_usb20.specs.FittingLaws.{both}
@@ -80,7 +81,7 @@ quiet-law o t p e q w s r z = subst (λ (u : Log). Watch Between (Allowed o) (En
     (allows (λ x q. subst (λ (a : Poll). AllowedTo a x q) (sym p) tt) (watch-more (q .goes (afresh w) s refl (plainly z))
     (λ x a u m. (
       subst (λ (y : Log). R y (view (u .0))) (sym (closed o p e a x ∙ m .0)) (subst (R w) (sym (m .1)) r),
-      subst (λ (y : Poll). FairPoll y a x) (sym p) tt,
+      fair-task o t a x (subst (λ (y : Poll). FairPoll y a x) (sym p) tt),
     ))))
 
 -- ---- the rows
