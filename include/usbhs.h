@@ -9,7 +9,8 @@
  * The accesses that they hand out of such bytes, with the addresses and lengths in them, are as
  * good as the bytes: only of a state that a start-up made and these calls alone have changed do
  * the addresses lie inside of the slots, each with its whole buffer. dir: 0 OUT, else IN. Flags:
- * 0 no, else yes. The chip wants the slots' start on a word boundary.
+ * 0 no, else yes. The chip wants the slots' start on a word boundary, and the library the
+ * state's: it is compiled for a state that lies on one (C: __attribute__((aligned(4)))).
  *
  * Each call answers one word:
  *
@@ -121,7 +122,7 @@ typedef uint64_t usbhs_length;
  * not compile. */
 #define USBHS_LENGTH_AT(pointer) ((void)sizeof(char[sizeof *(pointer) == 8 ? 1 : -1]), (pointer))
 
-#define USBHS_STATE_LEN 2839
+#define USBHS_STATE_LEN 2999
 
 /* The record of bus time that up to four drivers share: what each endpoint is charged. Zero at
  * first; each of their calls that brings it gets it as the last one left it, and no two calls at

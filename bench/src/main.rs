@@ -5,7 +5,7 @@ use std::hint::black_box;
 use std::sync::atomic::{AtomicU16, AtomicU32, AtomicU8, Ordering::Relaxed};
 use std::time::Instant;
 
-const STATE_LEN: usize = 2839;
+const STATE_LEN: usize = 2999;
 const CALLS: u32 = 20_000_000;
 const ROUNDS: usize = 15;
 

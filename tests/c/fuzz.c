@@ -214,8 +214,9 @@ static void corrupt(uint8_t *bytes, uint32_t length, uint32_t most) {
 }
 
 /* Where the registers and the allocator begin, and the suspended operation. */
-#define REGISTERS 2496
-#define SAVED 2817
+#define REGISTERS 1320
+#define SAVED 0
+#define SAVED_LEN 22
 
 /* Random bytes throughout. */
 static void wild_state(unsigned uses) {
@@ -223,7 +224,7 @@ static void wild_state(unsigned uses) {
     int known = chance(50);
     any_bytes(lent[STATE].as, USBHS_STATE_LEN);
     if (known) memcpy(lent[STATE].as + REGISTERS, of->state + REGISTERS, 64);
-    if (known && chance(50)) memcpy(lent[STATE].as + SAVED, of->state + SAVED, USBHS_STATE_LEN - SAVED);
+    if (known && chance(50)) memcpy(lent[STATE].as + SAVED, of->state + SAVED, SAVED_LEN);
     if (uses & U(TIME)) any_bytes(lent[TIME].as, USBHS_TIME_LEN * 2);
     lend(STATE, USBHS_STATE_LEN);
     lend(TIME, USBHS_TIME_LEN * 2);
@@ -364,7 +365,7 @@ static void fill(const struct function *f, int wild, uint32_t n[5]) {
             if (chance(10)) n[1 + below(3)] = (uint32_t)number() >> below(32);
         }
         /* most stand where a transfer's readings are asked for */
-        if (f->call == f_continue_transfer && chance(60)) lent[STATE].as[SAVED] = lent[STATE].as[SAVED + 2] = 6;
+        if (f->call == f_continue_transfer && chance(60)) lent[STATE].as[SAVED + 12] = lent[STATE].as[SAVED + 14] = 6;
         if (f->call == f_continue) n[1] = (uint32_t)number() >> (chance(90) ? 16 + below(16) : 0);
     }
 }

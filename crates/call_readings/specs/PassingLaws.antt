@@ -141,7 +141,7 @@ on-view p v b e = ap (λ (z : Driver). denote p v (z, b)) (sym e)
 module _ (i frame : ℕ) (xs ws us : List ℕ) (b : Buf) (time : List ℕ)
     (free : eqb (stopOf (isIdle (decode (saved xs))) 2 (view xs .globals .stage)) 0 ≡ true)
     (fit : slotsFit (view xs) b ≡ true) (wide : fitsIn frame 16 ≡ true)
-    (cleared : view ws ≡ noneGathered (view xs)) (long : length ws ≡ 2839)
+    (cleared : view ws ≡ noneGathered (view xs)) (long : length ws ≡ 2999)
     (kept : (c : Buf) → meaning (next.Asks (Read IntFg 0) point.Flags) (view us) c ≡ denote point.Frame frame (view ws, c)) where
   abbrev first : List ℕ
   first = standing ws point.Frame
@@ -162,7 +162,7 @@ module _ (i frame : ℕ) (xs ws us : List ℕ) (b : Buf) (time : List ℕ)
   )
 
   -- and of a transfer, with int_fg
-  module _ (flags : ℕ) (setup : Bool) (long-us : length us ≡ 2839) (wide-flags : fitsIn flags 6 ≡ true) (act : setup ≡ setupAct flags)
+  module _ (flags : ℕ) (setup : Bool) (long-us : length us ≡ 2999) (wide-flags : fitsIn flags 6 ≡ true) (act : setup ≡ setupAct flags)
       (no-reset : busRst flags ≡ false) (no-suspend : suspend flags ≡ false) (no-fifo : fifoOv flags ≡ false)
       (no-host : hstSof flags ≡ false) (is-transfer : transfer flags ≡ true) where
     abbrev second : List ℕ
@@ -189,7 +189,7 @@ module _ (i frame : ℕ) (xs ws us : List ℕ) (b : Buf) (time : List ℕ)
 
 -- ---- a transfer comes through, with no transaction on the bus: at p its access q is the answer
 
-module _ (i mis st len : ℕ) (setup : Bool) (xs : List ℕ) (b : Buf) (time : List ℕ) (here : At (point.Mis setup) xs) (long : length xs ≡ 2839)
+module _ (i mis st len : ℕ) (setup : Bool) (xs : List ℕ) (b : Buf) (time : List ℕ) (here : At (point.Mis setup) xs) (long : length xs ≡ 2999)
     (fit : slotsFit (view xs) b ≡ true) (wide-mis : fitsIn mis 2 ≡ true) (free : sieFree mis ≡ true)
     (wide-st : fitsIn st 7 ≡ true) (wide-len : fitsIn len 16 ≡ true) where
   abbrev status : List ℕ

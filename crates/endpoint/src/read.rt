@@ -12,6 +12,7 @@ use endpoint_common::unready;
 use endpoint_rows::low;
 use endpoint_rows::refusal;
 use model_ops::rings::is_on;
+use model_ops::rings::is_on_word;
 use model_ops::rings::next_len;
 use model_ops::rings::oldest_at;
 use model_ops::rings::take_oldest;
@@ -153,7 +154,7 @@ fn take_read(s: &mut State, buf: &[u8], e: u8, out: &mut [u8]) -> Polled
     ensures { λ _. ⌜ saved (now (s .exit)) ≡ saved (now (s .entry)) ⌝ }
 {
     let q = load_request(s, Dir::Out, e);
-    if !is_on(q.begun) {
+    if !is_on_word(q.begun) {
         return Polled::Refused(15);
     }
     if q.length as usize == out.len() {

@@ -12,6 +12,7 @@ use endpoint_rows::low;
 use endpoint_rows::refusal;
 use model_ops::rings::fill;
 use model_ops::rings::is_on;
+use model_ops::rings::is_on_word;
 use model_ops::rings::iso_in_enqueue;
 use model_ops::rings::room;
 use regs::Access;
@@ -127,7 +128,7 @@ fn take_write(s: &mut State, buf: &mut [u8], e: u8, bytes: &[u8]) -> Polled
     ensures { λ _. ⌜ saved (now (s .exit)) ≡ saved (now (s .entry)) ⌝ }
 {
     let q = load_request(s, Dir::In, e);
-    if !is_on(q.begun) {
+    if !is_on_word(q.begun) {
         return Polled::Refused(15);
     }
     if q.length as usize == bytes.len() {

@@ -55,8 +55,8 @@ fn after_look(dir: Dir, ep: u8, n: u16, v: u32) -> ToggledNext
     ToggledNext::Asks(Access::Read(Reg::MisSt, 0), Toggled::Look(n - 1))
 }
 
-// DATA1, as a flag in a byte.
-fn data1(word: u8) -> u8
+// DATA1, as a flag.
+fn data1(word: u8) -> u16
     ensures { λ r. ⌜ r ≡ flag (isData1 word) ⌝ }
 {
     if control_word::is_data1(word) {

@@ -5,7 +5,7 @@ ghost use Prim.Native.Nat.{_+_, _*_, _≤_};
 ghost use Rattle.le_bytes.specs.Bytes.{gets, puts, field, digits, numbers, bytes, bytes5, words5, Each};
 
 // The length of the driver's state.
-pub const STATE_LEN: usize = 2839;
+pub const STATE_LEN: usize = 2999;
 
 // The bytes that are the state.
 pub type State = [u8; STATE_LEN];
@@ -27,21 +27,21 @@ fn glue32(lo: u16, hi: u16) -> u32
 }
 
 pub fn get8(s: &State, o: usize, k: usize) -> u8
-    requires { ⌜ o + k + 1 ≤ 2839 ⌝ }
+    requires { ⌜ o + k + 1 ≤ 2999 ⌝ }
     ensures { λ r. ⌜ r ≡ field (now (s .entry)) o k 1 ⌝ }
 {
     s[o + (k + 0)]
 }
 
 pub fn get16(s: &State, o: usize, k: usize) -> u16
-    requires { ⌜ o + k + 2 ≤ 2839 ⌝ }
+    requires { ⌜ o + k + 2 ≤ 2999 ⌝ }
     ensures { λ r. ⌜ r ≡ field (now (s .entry)) o k 2 ⌝ }
 {
     glue16(s[o + (k + 0)], s[o + (k + 1)])
 }
 
 pub fn get32(s: &State, o: usize, k: usize) -> u32
-    requires { ⌜ o + k + 4 ≤ 2839 ⌝ }
+    requires { ⌜ o + k + 4 ≤ 2999 ⌝ }
     ensures { λ r. ⌜ r ≡ field (now (s .entry)) o k 4 ⌝ }
 {
     glue32(
@@ -51,7 +51,7 @@ pub fn get32(s: &State, o: usize, k: usize) -> u32
 }
 
 pub fn get8x5(s: &State, o: usize, k: usize) -> Bytes5
-    requires { ⌜ o + k + 5 ≤ 2839 ⌝ }
+    requires { ⌜ o + k + 5 ≤ 2999 ⌝ }
     ensures { λ r. ⌜ Each (r .0 ∷ r .1 ∷ r .2 ∷ r .3 ∷ r .4 ∷ []) (numbers bytes5 (gets (now (s .entry)) o k 5)) ⌝ }
 {
     Bytes5(
@@ -64,7 +64,7 @@ pub fn get8x5(s: &State, o: usize, k: usize) -> Bytes5
 }
 
 pub fn get16x5(s: &State, o: usize, k: usize) -> Words5
-    requires { ⌜ o + k + 10 ≤ 2839 ⌝ }
+    requires { ⌜ o + k + 10 ≤ 2999 ⌝ }
     ensures { λ r. ⌜ Each (r .0 ∷ r .1 ∷ r .2 ∷ r .3 ∷ r .4 ∷ []) (numbers words5 (gets (now (s .entry)) o k 10)) ⌝ }
 {
     Words5(
@@ -77,14 +77,14 @@ pub fn get16x5(s: &State, o: usize, k: usize) -> Words5
 }
 
 pub fn put8(s: &mut State, o: usize, k: usize, v: u8)
-    requires { ⌜ o + k + 1 ≤ 2839 ⌝ }
+    requires { ⌜ o + k + 1 ≤ 2999 ⌝ }
     ensures { λ _. ⌜ now (s .exit) ≡ puts (now (s .entry)) o k (digits 1 v) ⌝ }
 {
     s[o + (k + 0)] = v;
 }
 
 pub fn put16(s: &mut State, o: usize, k: usize, v: u16)
-    requires { ⌜ o + k + 2 ≤ 2839 ⌝ }
+    requires { ⌜ o + k + 2 ≤ 2999 ⌝ }
     ensures { λ _. ⌜ now (s .exit) ≡ puts (now (s .entry)) o k (digits 2 v) ⌝ }
 {
     s[o + (k + 0)] = (v % 256) as u8;
@@ -92,7 +92,7 @@ pub fn put16(s: &mut State, o: usize, k: usize, v: u16)
 }
 
 pub fn put32(s: &mut State, o: usize, k: usize, v: u32)
-    requires { ⌜ o + k + 4 ≤ 2839 ⌝ }
+    requires { ⌜ o + k + 4 ≤ 2999 ⌝ }
     ensures { λ _. ⌜ now (s .exit) ≡ puts (now (s .entry)) o k (digits 4 v) ⌝ }
 {
     s[o + (k + 0)] = (v % 256) as u8;
@@ -102,7 +102,7 @@ pub fn put32(s: &mut State, o: usize, k: usize, v: u32)
 }
 
 pub fn put8x5(s: &mut State, o: usize, k: usize, a: u8, b: u8, c: u8, d: u8, e: u8)
-    requires { ⌜ o + k + 5 ≤ 2839 ⌝ }
+    requires { ⌜ o + k + 5 ≤ 2999 ⌝ }
     ensures { λ _. ⌜ now (s .exit) ≡ puts (now (s .entry)) o k (bytes bytes5 (a ∷ b ∷ c ∷ d ∷ e ∷ [])) ⌝ }
 {
     s[o + (k + 0)] = a;
@@ -113,7 +113,7 @@ pub fn put8x5(s: &mut State, o: usize, k: usize, a: u8, b: u8, c: u8, d: u8, e: 
 }
 
 pub fn put16x5(s: &mut State, o: usize, k: usize, a: u16, b: u16, c: u16, d: u16, e: u16)
-    requires { ⌜ o + k + 10 ≤ 2839 ⌝ }
+    requires { ⌜ o + k + 10 ≤ 2999 ⌝ }
     ensures { λ _. ⌜ now (s .exit) ≡ puts (now (s .entry)) o k (bytes words5 (a ∷ b ∷ c ∷ d ∷ e ∷ [])) ⌝ }
 {
     s[o + (k + 0)] = (a % 256) as u8;

@@ -39,6 +39,20 @@ pub fn is_on(n: u8) -> bool
     n != 0
 }
 
+// One in 16 bits.
+pub fn is_on_half(n: u16) -> bool
+    ensures { λ r. ⌜ r ≡ isOn n ⌝ }
+{
+    n != 0
+}
+
+// One in 32.
+pub fn is_on_word(n: u32) -> bool
+    ensures { λ r. ⌜ r ≡ isOn n ⌝ }
+{
+    n != 0
+}
+
 // Has the armed slot's first word changed: a packet arrived (mod.rs 474)?
 pub fn changed(s: &State, buf: &[u8], e: u8) -> bool
     ensures { λ r. ⌜ r ≡ changedOn (view (now (s .entry))) e (now (buf .entry)) ⌝ }
@@ -85,7 +99,7 @@ pub fn opened(s: &State, e: u8) -> bool
     ensures { λ r. ⌜ r ≡ openedOn (view (now (s .entry))) e ⌝ }
 {
     let r = load_ep(s, Dir::Out, e);
-    is_on(r.open)
+    is_on_half(r.open)
 }
 
 // The length of the oldest packet; 0 where none waits.
@@ -180,7 +194,7 @@ pub fn close_oldest(s: &mut State, e: u8)
     ensures { λ _. ⌜ saved (now (s .exit)) ≡ saved (now (s .entry)) ⌝ }
 {
     let r = load_ep(s, Dir::Out, e);
-    store_where(s, e, is_on(r.open), closed(r));
+    store_where(s, e, is_on_half(r.open), closed(r));
 }
 
 // The oldest packet is read, where one waits.

@@ -73,7 +73,7 @@ module _ (ms : List TurnMade) (l : LentFour) (run : Run l ms) (none : l .time �
 -- ---- the endpoints now enabled
 
 -- a state of zero bytes, as it is lent before the first start-up
-pub zeros-at-first : (b : Buf) → AtFirst (machineOf (replicate 2839 0) b)
+pub zeros-at-first : (b : Buf) → AtFirst (machineOf (replicate 2999 0) b)
 unfolding view saved decode
 zeros-at-first b = record { idles = refl; none = refl }
 

@@ -141,11 +141,11 @@ abbrev pub Left : ℕ → List ℕ → ℕ → List ℕ → ℕ → ℕ
 Left n w k₀ xs k = n - k
 
 -- one endpoint's record more
-pub ep-more : (w xs ys : List ℕ) (k : ℕ) (v : EpState) → length xs ≡ 2839 → k < 32 → ys ≡ puts xs (0 + k * 30) 0 (bytes epWidths (epAs v))
+pub ep-more : (w xs ys : List ℕ) (k : ℕ) (v : EpState) → length xs ≡ 2999 → k < 32 → ys ≡ puts xs (40 + k * 32) 0 (bytes epWidths (epAs v))
     → Filling eps-table v 32 w 0 xs k → Filling eps-table v 32 w 0 ys (k + 1)
 ep-more w xs ys k v sized l e h =
     one-more eps-table v 32 w k xs ys l (ap view e ∙ view-eps xs sized k v l)
-    (ap saved e ∙ saved-off xs (0 + k * 30) (bytes epWidths (epAs v)) (omega arith)) h
+    (ap saved e ∙ saved-off xs (40 + k * 32) (bytes epWidths (epAs v)) (omega arith)) h
 
 -- a record that was cleared and not made new yet
 pub cleared-at : (w xs : List ℕ) (k : ℕ) (r : EpState) → view w .eps ≡ replicate 32 noEp

@@ -28,17 +28,17 @@ pub record Sized (d : Driver) : Type 0 where
 pub view-sized : (xs : List ℕ) → Sized (view xs)
 unfolding view
 view-sized xs = record {
-  eps = length-tab (λ k. epIn (gets xs (0 + k * 30) 0 30)) 32;
-  lens = length-tab (λ k. number (gets xs (960 + k * 2) 0 2)) 512;
-  stamps = length-tab (λ k. number (gets xs (1984 + k * 2) 0 2)) 256;
-  paced = length-tab (λ k. number (gets xs (2551 + k * 2) 0 2)) 16;
-  requests = length-tab (λ k. requestIn (gets xs (2583 + k * 5) 0 5)) 32;
+  eps = length-tab (λ k. epIn (gets xs (40 + k * 32) 0 32)) 32;
+  lens = length-tab (λ k. number (gets xs (1966 + k * 2) 0 2)) 512;
+  stamps = length-tab (λ k. number (gets xs (1454 + k * 2) 0 2)) 256;
+  paced = length-tab (λ k. number (gets xs (1422 + k * 2) 0 2)) 16;
+  requests = length-tab (λ k. requestIn (gets xs (1064 + k * 8) 0 8)) 32;
 }
 
 -- room for 64 wake-ups
 pub view-codes : (xs : List ℕ) → length (view xs .wakes .codes) ≡ 64
 unfolding view
-view-codes xs = length-tab (λ k. number (gets xs (2753 + k * 1) 0 1)) 64
+view-codes xs = length-tab (λ k. number (gets xs (1358 + k * 1) 0 1)) 64
 
 pub key-lt : (dir : Dir) (e : ℕ) → key dir e < 32
 unfolding key
@@ -150,4 +150,4 @@ its-own d dir e i v r q = (refl, refl, refl, refl, refl)
 -- all bytes 0: before the first start-up, and nothing is under way
 pub before-start : (xs : List ℕ) → ((i : ℕ) → getD xs i 0 ≡ 0) → (view xs .globals .stage ≡ 0) × (saved xs .tag ≡ 0)
 unfolding view saved
-before-start xs h = (omega (arith, h 2496), omega (arith, h 2817))
+before-start xs h = (omega (arith, h 1352), omega (arith, h 12))

@@ -23,7 +23,7 @@ abbrev pub globalsIn : List ℕ → Globals
 globalsIn bs = codec.globalsOf (numbers codec.globalsWidths bs)
 
 abbrev pub wakesIn : List ℕ → Wakes
-wakesIn xs = record { count = number (gets xs 2752 0 1); codes = table xs 2753 64 1 number }
+wakesIn xs = record { count = number (gets xs 1357 0 1); codes = table xs 1358 64 1 number }
 
 abbrev pub requestIn : List ℕ → Request
 requestIn bs = codec.requestOf (numbers codec.requestWidths bs)
@@ -36,17 +36,17 @@ savedIn bs = codec.savedOf (numbers codec.savedWidths bs)
 
 unfoldable pub view : List ℕ → Driver
 view xs = record {
-  eps = table xs 0 32 30 epIn;
-  lens = table xs 960 512 2 number;
-  stamps = table xs 1984 256 2 number;
-  globals = globalsIn (gets xs 2496 0 37);
-  allocator = allocatorIn (gets xs 2533 0 18);
-  paced = table xs 2551 16 2 number;
-  requests = table xs 2583 32 5 requestIn;
-  control = controlIn (gets xs 2743 0 9);
+  eps = table xs 40 32 32 epIn;
+  lens = table xs 1966 512 2 number;
+  stamps = table xs 1454 256 2 number;
+  globals = globalsIn (gets xs 1320 0 37);
+  allocator = allocatorIn (gets xs 22 0 18);
+  paced = table xs 1422 16 2 number;
+  requests = table xs 1064 32 8 requestIn;
+  control = controlIn (gets xs 2990 0 9);
   wakes = wakesIn xs;
 }
 
 -- the suspended operation
 unfoldable pub saved : List ℕ → Saved
-saved xs = savedIn (gets xs 2817 0 22)
+saved xs = savedIn (gets xs 0 0 22)

@@ -23,49 +23,49 @@ ghost use Rattle.state.specs.Codec.{epWidths, epAs, allocatorWidths, all
 ghost use Rattle.state.specs.Codec.{requestWidths, requestAs, controlWidths, controlAs, savedWidths, savedAs};
 
 pub fn read_ep(s: &State, o: usize) -> EpState
-    requires { ⌜ o + 30 ≤ 2839 ⌝ }
-    ensures { λ r. ⌜ Each (epAs r) (numbers epWidths (gets (now (s .entry)) o 0 30)) ⌝ }
+    requires { ⌜ o + 32 ≤ 2999 ⌝ }
+    ensures { λ r. ⌜ Each (epAs r) (numbers epWidths (gets (now (s .entry)) o 0 32)) ⌝ }
 {
-    let a = get8x5(s, o, 0);
-    let b = get8x5(s, o, 5);
+    let a = get16x5(s, o, 12);
+    let b = get8x5(s, o, 24);
     EpState {
-        ready: a.0,
-        armed: a.1,
-        iso: a.2,
-        kind: a.3,
-        slots: a.4,
-        head: b.0,
-        tail: b.1,
-        loaded: b.2,
-        tog: b.3,
-        open: b.4,
-        len: get16(s, o, 10),
-        stride: get16(s, o, 12),
-        last_frame: get16(s, o, 14),
-        max_len: get16(s, o, 16),
-        base: get32(s, o, 18),
-        overruns: get32(s, o, 22),
-        armed_slot: get32(s, o, 26),
+        base: get32(s, o, 0),
+        overruns: get32(s, o, 4),
+        armed_slot: get32(s, o, 8),
+        len: a.0,
+        stride: a.1,
+        last_frame: a.2,
+        max_len: a.3,
+        tog: a.4,
+        open: get16(s, o, 22),
+        ready: b.0,
+        armed: b.1,
+        iso: b.2,
+        kind: b.3,
+        slots: b.4,
+        head: get8(s, o, 29),
+        tail: get8(s, o, 30),
+        loaded: get8(s, o, 31),
     }
 }
 
 pub fn write_ep(s: &mut State, o: usize, r: EpState)
-    requires { ⌜ o + 30 ≤ 2839 ⌝ }
+    requires { ⌜ o + 32 ≤ 2999 ⌝ }
     ensures { λ _. ⌜ now (s .exit) ≡ puts (now (s .entry)) o 0 (bytes epWidths (epAs r)) ⌝ }
 {
-    put8x5(s, o, 0, r.ready, r.armed, r.iso, r.kind, r.slots);
-    put8x5(s, o, 5, r.head, r.tail, r.loaded, r.tog, r.open);
-    put16(s, o, 10, r.len);
-    put16(s, o, 12, r.stride);
-    put16(s, o, 14, r.last_frame);
-    put16(s, o, 16, r.max_len);
-    put32(s, o, 18, r.base);
-    put32(s, o, 22, r.overruns);
-    put32(s, o, 26, r.armed_slot);
+    put32(s, o, 0, r.base);
+    put32(s, o, 4, r.overruns);
+    put32(s, o, 8, r.armed_slot);
+    put16x5(s, o, 12, r.len, r.stride, r.last_frame, r.max_len, r.tog);
+    put16(s, o, 22, r.open);
+    put8x5(s, o, 24, r.ready, r.armed, r.iso, r.kind, r.slots);
+    put8(s, o, 29, r.head);
+    put8(s, o, 30, r.tail);
+    put8(s, o, 31, r.loaded);
 }
 
 pub fn read_allocator(s: &State, o: usize) -> Allocator
-    requires { ⌜ o + 18 ≤ 2839 ⌝ }
+    requires { ⌜ o + 18 ≤ 2999 ⌝ }
     ensures { λ r. ⌜ Each (allocatorAs r) (numbers allocatorWidths (gets (now (s .entry)) o 0 18)) ⌝ }
 {
     let a = get16x5(s, o, 0);
@@ -83,7 +83,7 @@ pub fn read_allocator(s: &State, o: usize) -> Allocator
 }
 
 pub fn write_allocator(s: &mut State, o: usize, r: Allocator)
-    requires { ⌜ o + 18 ≤ 2839 ⌝ }
+    requires { ⌜ o + 18 ≤ 2999 ⌝ }
     ensures { λ _. ⌜ now (s .exit) ≡ puts (now (s .entry)) o 0 (bytes allocatorWidths (allocatorAs r)) ⌝ }
 {
     put16x5(s, o, 0, r.size, r.count, r.next, r.taken_out, r.taken_in);
@@ -94,111 +94,101 @@ pub fn write_allocator(s: &mut State, o: usize, r: Allocator)
 }
 
 pub fn read_globals(s: &State, o: usize) -> Globals
-    requires { ⌜ o + 37 ≤ 2839 ⌝ }
+    requires { ⌜ o + 37 ≤ 2999 ⌝ }
     ensures { λ r. ⌜ Each (globalsAs r) (numbers globalsWidths (gets (now (s .entry)) o 0 37)) ⌝ }
 {
-    let a = get8x5(s, o, 0);
-    let b = get16x5(s, o, 5);
+    let a = get16x5(s, o, 20);
+    let b = get8x5(s, o, 32);
     Globals {
-        stage: a.0,
-        callback: a.1,
-        power: a.2,
-        setup_ready: a.3,
-        int_en: a.4,
-        iso_out_eps: b.0,
-        iso_in_every: b.1,
-        iso_in_paced: b.2,
-        sof_frame: b.3,
-        ep0_max: b.4,
-        entered: get16(s, o, 15),
-        setup_low: get32(s, o, 17),
-        setup_high: get32(s, o, 21),
-        ep_config: get32(s, o, 25),
-        ep_type: get32(s, o, 29),
-        ep0_buf: get32(s, o, 33),
+        setup_low: get32(s, o, 0),
+        setup_high: get32(s, o, 4),
+        ep_config: get32(s, o, 8),
+        ep_type: get32(s, o, 12),
+        ep0_buf: get32(s, o, 16),
+        iso_out_eps: a.0,
+        iso_in_every: a.1,
+        iso_in_paced: a.2,
+        sof_frame: a.3,
+        ep0_max: a.4,
+        entered: get16(s, o, 30),
+        stage: b.0,
+        callback: b.1,
+        power: b.2,
+        setup_ready: b.3,
+        int_en: b.4,
     }
 }
 
 pub fn write_globals(s: &mut State, o: usize, r: Globals)
-    requires { ⌜ o + 37 ≤ 2839 ⌝ }
+    requires { ⌜ o + 37 ≤ 2999 ⌝ }
     ensures { λ _. ⌜ now (s .exit) ≡ puts (now (s .entry)) o 0 (bytes globalsWidths (globalsAs r)) ⌝ }
 {
-    put8x5(
-        s,
-        o,
-        0,
-        r.stage,
-        r.callback,
-        r.power,
-        r.setup_ready,
-        r.int_en,
-    );
-    put16x5(
-        s,
-        o,
-        5,
-        r.iso_out_eps,
-        r.iso_in_every,
-        r.iso_in_paced,
-        r.sof_frame,
-        r.ep0_max,
-    );
-    put16(s, o, 15, r.entered);
-    put32(s, o, 17, r.setup_low);
-    put32(s, o, 21, r.setup_high);
-    put32(s, o, 25, r.ep_config);
-    put32(s, o, 29, r.ep_type);
-    put32(s, o, 33, r.ep0_buf);
+    put32(s, o, 0, r.setup_low);
+    put32(s, o, 4, r.setup_high);
+    put32(s, o, 8, r.ep_config);
+    put32(s, o, 12, r.ep_type);
+    put32(s, o, 16, r.ep0_buf);
+    put16x5(s, o, 20, r.iso_out_eps, r.iso_in_every, r.iso_in_paced, r.sof_frame, r.ep0_max);
+    put16(s, o, 30, r.entered);
+    put8x5(s, o, 32, r.stage, r.callback, r.power, r.setup_ready, r.int_en);
 }
 
 pub fn read_request(s: &State, o: usize) -> Request
-    requires { ⌜ o + 5 ≤ 2839 ⌝ }
-    ensures { λ r. ⌜ Each (requestAs r) (numbers requestWidths (gets (now (s .entry)) o 0 5)) ⌝ }
+    requires { ⌜ o + 8 ≤ 2999 ⌝ }
+    ensures { λ r. ⌜ Each (requestAs r) (numbers requestWidths (gets (now (s .entry)) o 0 8)) ⌝ }
 {
     Request {
-        begun: get8(s, o, 0),
-        length: get32(s, o, 1),
+        begun: get32(s, o, 0),
+        length: get32(s, o, 4),
     }
 }
 
 pub fn write_request(s: &mut State, o: usize, r: Request)
-    requires { ⌜ o + 5 ≤ 2839 ⌝ }
+    requires { ⌜ o + 8 ≤ 2999 ⌝ }
     ensures { λ _. ⌜ now (s .exit) ≡ puts (now (s .entry)) o 0 (bytes requestWidths (requestAs r)) ⌝ }
 {
-    put8(s, o, 0, r.begun);
-    put32(s, o, 1, r.length);
+    put32(s, o, 0, r.begun);
+    put32(s, o, 4, r.length);
 }
 
 pub fn read_control(s: &State, o: usize) -> Control
-    requires { ⌜ o + 9 ≤ 2839 ⌝ }
+    requires { ⌜ o + 9 ≤ 2999 ⌝ }
     ensures { λ r. ⌜ Each (controlAs r) (numbers controlWidths (gets (now (s .entry)) o 0 9)) ⌝ }
 {
-    let a = get8x5(s, o, 0);
     Control {
-        sort: a.0,
-        last: a.1,
-        wait: a.2,
-        sets_address: a.3,
-        address: a.4,
-        length: get32(s, o, 5),
+        sort: get8(s, o, 0),
+        last: get8(s, o, 1),
+        length: get32(s, o, 2),
+        wait: get8(s, o, 6),
+        sets_address: get8(s, o, 7),
+        address: get8(s, o, 8),
     }
 }
 
 pub fn write_control(s: &mut State, o: usize, r: Control)
-    requires { ⌜ o + 9 ≤ 2839 ⌝ }
+    requires { ⌜ o + 9 ≤ 2999 ⌝ }
     ensures { λ _. ⌜ now (s .exit) ≡ puts (now (s .entry)) o 0 (bytes controlWidths (controlAs r)) ⌝ }
 {
-    put8x5(s, o, 0, r.sort, r.last, r.wait, r.sets_address, r.address);
-    put32(s, o, 5, r.length);
+    put8(s, o, 0, r.sort);
+    put8(s, o, 1, r.last);
+    put32(s, o, 2, r.length);
+    put8(s, o, 6, r.wait);
+    put8(s, o, 7, r.sets_address);
+    put8(s, o, 8, r.address);
 }
 
 pub fn read_saved(s: &State, o: usize) -> Saved
-    requires { ⌜ o + 22 ≤ 2839 ⌝ }
+    requires { ⌜ o + 22 ≤ 2999 ⌝ }
     ensures { λ r. ⌜ Each (savedAs r) (numbers savedWidths (gets (now (s .entry)) o 0 22)) ⌝ }
 {
-    let a = get8x5(s, o, 0);
-    let b = get8x5(s, o, 5);
+    let a = get8x5(s, o, 12);
+    let b = get8x5(s, o, 17);
     Saved {
+        value: get32(s, o, 0),
+        len: get16(s, o, 4),
+        frame: get16(s, o, 6),
+        eps: get16(s, o, 8),
+        n: get16(s, o, 10),
         tag: a.0,
         sub: a.1,
         site: a.2,
@@ -209,23 +199,18 @@ pub fn read_saved(s: &State, o: usize) -> Saved
         st: b.2,
         now: b.3,
         ep: b.4,
-        len: get16(s, o, 10),
-        frame: get16(s, o, 12),
-        eps: get16(s, o, 14),
-        n: get16(s, o, 16),
-        value: get32(s, o, 18),
     }
 }
 
 pub fn write_saved(s: &mut State, o: usize, r: Saved)
-    requires { ⌜ o + 22 ≤ 2839 ⌝ }
+    requires { ⌜ o + 22 ≤ 2999 ⌝ }
     ensures { λ _. ⌜ now (s .exit) ≡ puts (now (s .entry)) o 0 (bytes savedWidths (savedAs r)) ⌝ }
 {
-    put8x5(s, o, 0, r.tag, r.sub, r.site, r.flag, r.busy);
-    put8x5(s, o, 5, r.late, r.len_ok, r.st, r.now, r.ep);
-    put16(s, o, 10, r.len);
-    put16(s, o, 12, r.frame);
-    put16(s, o, 14, r.eps);
-    put16(s, o, 16, r.n);
-    put32(s, o, 18, r.value);
+    put32(s, o, 0, r.value);
+    put16(s, o, 4, r.len);
+    put16(s, o, 6, r.frame);
+    put16(s, o, 8, r.eps);
+    put16(s, o, 10, r.n);
+    put8x5(s, o, 12, r.tag, r.sub, r.site, r.flag, r.busy);
+    put8x5(s, o, 17, r.late, r.len_ok, r.st, r.now, r.ep);
 }

@@ -45,30 +45,31 @@ ghost use Rattle.state.specs.Driver.{requestOn, withRequestOn, withGloba
 ghost use Rattle.state.specs.Ep.{newEp, resetOf, countOf};
 ghost use Rattle.state.specs.State.{view, saved};
 
-// Where each part starts.
-const EPS: usize = 0;
+// Where each part starts. In a state that lies on a word boundary each 16-bit and 32-bit number lies on its own (its place is a multiple of its width), and none
+// of the bytes is unused.
+const EPS: usize = 40;
 
-const LENS: usize = 960;
+const LENS: usize = 1966;
 
-const STAMPS: usize = 1984;
+const STAMPS: usize = 1454;
 
-const GLOBALS: usize = 2496;
+const GLOBALS: usize = 1320;
 
-const ALLOCATOR: usize = 2533;
+const ALLOCATOR: usize = 22;
 
-const PACED: usize = 2551;
+const PACED: usize = 1422;
 
-const REQUESTS: usize = 2583;
+const REQUESTS: usize = 1064;
 
-const CONTROL: usize = 2743;
+const CONTROL: usize = 2990;
 
-const WAKES: usize = 2752;
+const WAKES: usize = 1357;
 
-const CODES: usize = 2753;
+const CODES: usize = 1358;
 
-const SAVED: usize = 2817;
+const SAVED: usize = 0;
 
-// Per endpoint and direction, as in the Rust without the waker and the shortest length: flags are 0 or 1 in a byte; `lens` stands apart.
+// Per endpoint and direction, as in the Rust without the waker and the shortest length: flags are 0 or 1, two of them in 16 bits so that a record is 32 bytes; `lens` stands apart.
 pub struct EpState {
     pub ready: u8,
     pub len: u16,
@@ -85,8 +86,8 @@ pub struct EpState {
     pub last_frame: u16,
     pub max_len: u16,
     pub armed_slot: u32,
-    pub tog: u8,
-    pub open: u8,
+    pub tog: u16,
+    pub open: u16,
 }
 
 impl EpState {
@@ -194,9 +195,9 @@ pub struct Globals {
     pub entered: u16,
 }
 
-// A read or a write that was begun on an endpoint, with its begin's length.
+// A read or a write that was begun on an endpoint (1, else 0), with its begin's length.
 pub struct Request {
-    pub begun: u8,
+    pub begun: u32,
     pub length: u32,
 }
 
@@ -255,7 +256,7 @@ pub fn load_ep(s: &State, dir: Dir, e: u8) -> EpState
     ensures { λ r. ⌜ r ≡ epOn (view (now (s .entry))) dir e ⌝ }
 {
     let k = key_of(dir, e);
-    read_ep(s, EPS + k * 30)
+    read_ep(s, EPS + k * 32)
 }
 
 pub fn store_ep(s: &mut State, dir: Dir, e: u8, r: EpState)
@@ -264,7 +265,7 @@ pub fn store_ep(s: &mut State, dir: Dir, e: u8, r: EpState)
 {
     sized(s);
     let k = key_of(dir, e);
-    write_ep(s, EPS + k * 30, r);
+    write_ep(s, EPS + k * 32, r);
 }
 
 // The length of slot i, taken modulo 16.
@@ -304,7 +305,7 @@ pub fn load_request(s: &State, dir: Dir, e: u8) -> Request
     ensures { λ r. ⌜ r ≡ requestOn (view (now (s .entry))) dir e ⌝ }
 {
     let k = key_of(dir, e);
-    read_request(s, REQUESTS + k * 5)
+    read_request(s, REQUESTS + k * 8)
 }
 
 pub fn store_request(s: &mut State, dir: Dir, e: u8, r: Request)
@@ -313,7 +314,7 @@ pub fn store_request(s: &mut State, dir: Dir, e: u8, r: Request)
 {
     sized(s);
     let k = key_of(dir, e);
-    write_request(s, REQUESTS + k * 5, r);
+    write_request(s, REQUESTS + k * 8, r);
 }
 
 pub fn load_globals(s: &State) -> Globals

@@ -46,7 +46,7 @@ fn clear_eps(s: &mut State)
     let mut k: usize = 0;
     while k < 32 {
         sized(s);
-        write_ep(s, EPS + k * 30, no_ep());
+        write_ep(s, EPS + k * 32, no_ep());
         k += 1;
     }
 }
@@ -60,10 +60,10 @@ fn new_eps(s: &mut State)
     let mut k: usize = 0;
     while k < 32 {
         sized(s);
-        let mut r = read_ep(s, EPS + k * 30);
+        let mut r = read_ep(s, EPS + k * 32);
         r.slots = 1;
         r.last_frame = EpState::NO_FRAME;
-        write_ep(s, EPS + k * 30, r);
+        write_ep(s, EPS + k * 32, r);
         k += 1;
     }
 }
@@ -112,7 +112,7 @@ fn fill_requests(s: &mut State)
         sized(s);
         write_request(
             s,
-            REQUESTS + k * 5,
+            REQUESTS + k * 8,
             Request {
                 begun: 0,
                 length: 0,

@@ -1,7 +1,7 @@
 //! The calls that the archive `usbhs_c` exports, as `usbhs.h` declares them: `tests/header.rs` compares.
 
 /// `USBHS_STATE_LEN`.
-pub const STATE_LEN: usize = 2839;
+pub const STATE_LEN: usize = 2999;
 /// `USBHS_TIME_LEN`.
 pub const TIME_LEN: usize = 128;
 /// `USBHS_NUMBERS_LEN`.

@@ -17,7 +17,7 @@ returns c =
     let st = c .before in
     ap allocatorOf
     (each-eq (allocatorAs (c .read-allocator .result))
-    (numbers allocatorWidths (gets (now (st .args .s)) 2533 0 18)) (c .read-allocator .ensures))
+    (numbers allocatorWidths (gets (now (st .args .s)) 22 0 18)) (c .read-allocator .ensures))
 
 pub load-allocator-spec : {M : Type 1} → statement M
 load-allocator-spec = tie.close (tie.spec read-allocator-requires returns)

@@ -15,7 +15,7 @@ returns : tie.Need-returns
 unfolding view
 returns c =
     let st = c .before in
-    ap controlOf (each-eq (controlAs (c .read-control .result)) (numbers controlWidths (gets (now (st .args .s)) 2743 0 9)) (c .read-control .ensures))
+    ap controlOf (each-eq (controlAs (c .read-control .result)) (numbers controlWidths (gets (now (st .args .s)) 2990 0 9)) (c .read-control .ensures))
 
 pub load-control-spec : {M : Type 1} → statement M
 load-control-spec = tie.close (tie.spec read-control-requires returns)

@@ -15,7 +15,7 @@ returns : tie.Need-returns
 unfolding view
 returns c =
     let st = c .before in
-    ap globalsOf (each-eq (globalsAs (c .read-globals .result)) (numbers globalsWidths (gets (now (st .args .s)) 2496 0 37)) (c .read-globals .ensures))
+    ap globalsOf (each-eq (globalsAs (c .read-globals .result)) (numbers globalsWidths (gets (now (st .args .s)) 1320 0 37)) (c .read-globals .ensures))
 
 pub load-globals-spec : {M : Type 1} → statement M
 load-globals-spec = tie.close (tie.spec read-globals-requires returns)

@@ -15,7 +15,7 @@ returns : tie.Need-returns
 unfolding saved
 returns c =
     let st = c .before in
-    ap savedOf (each-eq (savedAs (c .read-saved .result)) (numbers savedWidths (gets (now (st .args .s)) 2817 0 22)) (c .read-saved .ensures))
+    ap savedOf (each-eq (savedAs (c .read-saved .result)) (numbers savedWidths (gets (now (st .args .s)) 0 0 22)) (c .read-saved .ensures))
 
 pub load-saved-spec : {M : Type 1} → statement M
 load-saved-spec = tie.close (tie.spec read-saved-requires returns)

@@ -19,7 +19,7 @@ returns : tie.Need-returns
 returns c =
     let st = c .before .before .before .before .before in (
       ap view (c .write-allocator .ensures) ∙ view-allocator (now (st .args .s)) (c .before .before .before .sized-arg2 .given .0) (st .args .r),
-      ap saved (c .write-allocator .ensures) ∙ saved-off (now (st .args .s)) 2533 (bytes allocatorWidths (allocatorAs (st .args .r))) (omega arith),
+      ap saved (c .write-allocator .ensures) ∙ saved-off (now (st .args .s)) 22 (bytes allocatorWidths (allocatorAs (st .args .r))) (omega arith),
     )
 
 pub store-allocator-spec : {M : Type 1} → statement M

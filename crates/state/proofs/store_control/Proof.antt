@@ -19,7 +19,7 @@ returns : tie.Need-returns
 returns c =
     let st = c .before .before .before .before .before in (
       ap view (c .write-control .ensures) ∙ view-control (now (st .args .s)) (c .before .before .before .sized-arg2 .given .0) (st .args .r),
-      ap saved (c .write-control .ensures) ∙ saved-off (now (st .args .s)) 2743 (bytes controlWidths (controlAs (st .args .r))) (omega arith),
+      ap saved (c .write-control .ensures) ∙ saved-off (now (st .args .s)) 2990 (bytes controlWidths (controlAs (st .args .r))) (omega arith),
     )
 
 pub store-control-spec : {M : Type 1} → statement M

@@ -19,7 +19,7 @@ returns : tie.Need-returns
 returns c =
     let st = c .before .before .before .before .before in (
       ap view (c .write-globals .ensures) ∙ view-globals (now (st .args .s)) (c .before .before .before .sized-arg2 .given .0) (st .args .r),
-      ap saved (c .write-globals .ensures) ∙ saved-off (now (st .args .s)) 2496 (bytes globalsWidths (globalsAs (st .args .r))) (omega arith),
+      ap saved (c .write-globals .ensures) ∙ saved-off (now (st .args .s)) 1320 (bytes globalsWidths (globalsAs (st .args .r))) (omega arith),
     )
 
 pub store-globals-spec : {M : Type 1} → statement M

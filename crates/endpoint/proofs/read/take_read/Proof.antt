@@ -23,20 +23,20 @@ takes l =
     let asked = l .before .before .before .before in
     poll-takes Out (start l .args .e) (length (start l .args .out .now)) (reads (start l .args .e) (length (start l .args .out .now)))
     (view (start l .args .s .now)) (start l .args .buf .now) (start l .pre)
-    (asked .before .before .load-request .ensures) (asked .before .is-on .ensures) (asked .if1 .left) (l .before .before .if2 .taken) _ (l .load-ep .ensures)
+    (asked .before .before .load-request .ensures) (asked .before .is-on-word .ensures) (asked .if1 .left) (l .before .before .if2 .taken) _ (l .load-ep .ensures)
 
 load-request-requires : tie.Need-load-request-requires
 load-request-requires c κs = search needs
 
-is-on-requires : tie.Need-is-on-requires
-is-on-requires c κs = search needs
+is-on-word-requires : tie.Need-is-on-word-requires
+is-on-word-requires c κs = search needs
 
 returns : tie.Need-returns
 returns c =
     let start = c .before .before .before .before .before .before in
     let is = poll-none Out (start .args .e) (length (start .args .out .now)) (reads (start .args .e) (length (start .args .out .now)))
     (view (start .args .s .now)) (start .args .buf .now) (start .pre)
-    (c .before .before .load-request .ensures) (c .before .is-on .ensures) (c .if1 .taken) in
+    (c .before .before .load-request .ensures) (c .before .is-on-word .ensures) (c .if1 .taken) in
     (is, (lends (start .args .out .now) is, refl))
 
 cast-if2 : tie.Need-cast-if2
@@ -45,8 +45,8 @@ cast-if2 c = search needs
 load-ep-requires : tie.Need-load-ep-requires
 load-ep-requires c κs = search needs
 
-is-on-requires-2 : tie.Need-is-on-requires-2
-is-on-requires-2 c κs = search needs
+is-on-requires : tie.Need-is-on-requires
+is-on-requires c κs = search needs
 
 take-iso-requires : tie.Need-take-iso-requires
 take-iso-requires c κs = search needs
@@ -57,7 +57,7 @@ same-length c = search needs
 returns-2 : tie.Need-returns-2
 returns-2 c =
     let l = c .before .before .before .before .before .before .before in
-    onward (start l .args .out .now) (picks _ _ (c .before .before .before .before .before .before .is-on2 .ensures)
+    onward (start l .args .out .now) (picks _ _ (c .before .before .before .before .before .before .is-on .ensures)
     (c .before .before .before .before .before .if3 .taken) ∙ takes l) (c .before .before .take-iso .ensures)
 
 take-ready-requires : tie.Need-take-ready-requires
@@ -69,7 +69,7 @@ same-length-2 c = search needs
 returns-3 : tie.Need-returns-3
 returns-3 c =
     let l = c .before .before .before .before .before .before .before in
-    onward (start l .args .out .now) (leaves _ _ (c .before .before .before .before .before .before .is-on2 .ensures)
+    onward (start l .args .out .now) (leaves _ _ (c .before .before .before .before .before .before .is-on .ensures)
     (c .before .before .before .before .before .if3 .left) ∙ takes l) (c .before .before .take-ready .ensures)
 
 unready-requires : tie.Need-unready-requires
@@ -84,11 +84,11 @@ returns-4 c =
     let start = asked .before .before .before .before .before .before in
     let is = poll-other Out (start .args .e) (length (start .args .out .now)) (reads (start .args .e) (length (start .args .out .now)))
     (view (start .args .s .now)) (start .args .buf .now) (start .pre)
-    (asked .before .before .load-request .ensures) (asked .before .is-on .ensures) (asked .if1 .left) (c .before .before .before .before .if2 .left) _ _
+    (asked .before .before .load-request .ensures) (asked .before .is-on-word .ensures) (asked .if1 .left) (c .before .before .before .before .if2 .left) _ _
     (c .before .before .unready .ensures .0) (c .end-request .ensures .0) in
     (is, (lends (start .args .out .now) is, c .end-request .ensures .1 ∙ c .before .before .unready .ensures .1))
 
 pub take-read-spec : {M : Type 1} → statement M
 take-read-spec =
-    tie.close (tie.spec load-request-requires is-on-requires returns cast-if2 load-ep-requires is-on-requires-2 take-iso-requires same-length
+    tie.close (tie.spec load-request-requires is-on-word-requires returns cast-if2 load-ep-requires is-on-requires take-iso-requires same-length
     returns-2 take-ready-requires same-length-2 returns-3 unready-requires end-request-requires returns-4)

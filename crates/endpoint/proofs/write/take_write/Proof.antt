@@ -10,14 +10,14 @@ use Rattle.endpoint.proofs.write.take_write.Tie as tie
 load-request-requires : tie.Need-load-request-requires
 load-request-requires c κs = search needs
 
-is-on-requires : tie.Need-is-on-requires
-is-on-requires c κs = search needs
+is-on-word-requires : tie.Need-is-on-word-requires
+is-on-word-requires c κs = search needs
 
 returns : tie.Need-returns
 returns c = let start = c .before .before .before .before .before .before in (
   poll-none In (start .args .e) (length (start .args .bytes .now))
       (writes (start .args .e) (start .args .bytes .now)) (view (start .args .s .now)) (start .args .buf .now) (start .pre)
-      (c .before .before .load-request .ensures) (c .before .is-on .ensures) (c .if1 .taken),
+      (c .before .before .load-request .ensures) (c .before .is-on-word .ensures) (c .if1 .taken),
   refl,
 )
 
@@ -27,8 +27,8 @@ cast-if2 c = search needs
 load-ep-requires : tie.Need-load-ep-requires
 load-ep-requires c κs = search needs
 
-is-on-requires-2 : tie.Need-is-on-requires-2
-is-on-requires-2 c κs = search needs
+is-on-requires : tie.Need-is-on-requires
+is-on-requires c κs = search needs
 
 put-iso-requires : tie.Need-put-iso-requires
 put-iso-requires c κs = search needs
@@ -40,10 +40,10 @@ returns-2 : tie.Need-returns-2
 returns-2 c =
     let asked = c .before .before .before .before .before .before .before .before .before .before .before in
     let start = asked .before .before .before .before .before .before in (
-      c .before .before .put-iso .ensures .0 ∙ picks _ _ (c .before .before .before .before .before .before .is-on2 .ensures)
+      c .before .before .put-iso .ensures .0 ∙ picks _ _ (c .before .before .before .before .before .before .is-on .ensures)
           (c .before .before .before .before .before .if3 .taken) ∙ poll-takes In (start .args .e) (length (start .args .bytes .now))
           (writes (start .args .e) (start .args .bytes .now)) (view (start .args .s .now)) (start .args .buf .now) (start .pre)
-          (asked .before .before .load-request .ensures) (asked .before .is-on .ensures) (asked .if1 .left)
+          (asked .before .before .load-request .ensures) (asked .before .is-on-word .ensures) (asked .if1 .left)
           (c .before .before .before .before .before .before .before .before .before .if2 .taken) _
           (c .before .before .before .before .before .before .before .load-ep .ensures),
       c .before .before .put-iso .ensures .1,
@@ -56,10 +56,10 @@ returns-3 : tie.Need-returns-3
 returns-3 c =
     let asked = c .before .before .before .before .before .before .before .before in
     let start = asked .before .before .before .before .before .before in (
-      c .sent-ready .ensures .0 (start .args .buf .now) ∙ leaves _ _ (c .before .before .before .is-on2 .ensures) (c .before .before .if3 .left)
+      c .sent-ready .ensures .0 (start .args .buf .now) ∙ leaves _ _ (c .before .before .before .is-on .ensures) (c .before .before .if3 .left)
           ∙ poll-takes In (start .args .e) (length (start .args .bytes .now)) (writes (start .args .e) (start .args .bytes .now))
           (view (start .args .s .now)) (start .args .buf .now) (start .pre)
-          (asked .before .before .load-request .ensures) (asked .before .is-on .ensures) (asked .if1 .left)
+          (asked .before .before .load-request .ensures) (asked .before .is-on-word .ensures) (asked .if1 .left)
           (c .before .before .before .before .before .before .if2 .taken) _ (c .before .before .before .before .load-ep .ensures),
       c .sent-ready .ensures .1,
     )
@@ -76,12 +76,12 @@ returns-4 c =
     let start = asked .before .before .before .before .before .before in (
       poll-other In (start .args .e) (length (start .args .bytes .now)) (writes (start .args .e) (start .args .bytes .now)) (view (start .args .s .now))
           (start .args .buf .now) (start .pre)
-          (asked .before .before .load-request .ensures) (asked .before .is-on .ensures) (asked .if1 .left) (c .before .before .before .before .if2 .left) _ _
+          (asked .before .before .load-request .ensures) (asked .before .is-on-word .ensures) (asked .if1 .left) (c .before .before .before .before .if2 .left) _ _
           (c .before .before .unready .ensures .0) (c .end-request .ensures .0),
       c .end-request .ensures .1 ∙ c .before .before .unready .ensures .1,
     )
 
 pub take-write-spec : {M : Type 1} → statement M
 take-write-spec =
-    tie.close (tie.spec load-request-requires is-on-requires returns cast-if2 load-ep-requires is-on-requires-2 put-iso-requires same-length returns-2
+    tie.close (tie.spec load-request-requires is-on-word-requires returns cast-if2 load-ep-requires is-on-requires put-iso-requires same-length returns-2
     sent-ready-requires returns-3 unready-requires end-request-requires returns-4)

@@ -6,12 +6,12 @@ use Rattle.model_ops.proofs.rings.opened.Tie as tie
 load-ep-requires : tie.Need-load-ep-requires
 load-ep-requires c κs = search needs
 
-is-on-requires : tie.Need-is-on-requires
-is-on-requires c κs = search needs
+is-on-half-requires : tie.Need-is-on-half-requires
+is-on-half-requires c κs = search needs
 
 returns : tie.Need-returns
 unfolding openedOn
-returns c = simp (c .is-on .ensures, c .before .load-ep .ensures)
+returns c = simp (c .is-on-half .ensures, c .before .load-ep .ensures)
 
 pub opened-spec : {M : Type 1} → statement M
-opened-spec = tie.close (tie.spec load-ep-requires is-on-requires returns)
+opened-spec = tie.close (tie.spec load-ep-requires is-on-half-requires returns)

@@ -3,23 +3,11 @@ use borrow.Author.Needs.{needs}
 use Rattle.state.proofs.codec.read_ep.Statement.{statement}
 use Rattle.state.proofs.codec.read_ep.Tie as tie
 
+get16x5-requires : tie.Need-get16x5-requires
+get16x5-requires c κs = search needs
+
 get8x5-requires : tie.Need-get8x5-requires
 get8x5-requires c κs = search needs
-
-get8x5-requires-2 : tie.Need-get8x5-requires-2
-get8x5-requires-2 c κs = search needs
-
-get16-requires : tie.Need-get16-requires
-get16-requires c κs = search needs
-
-get16-requires-2 : tie.Need-get16-requires-2
-get16-requires-2 c κs = search needs
-
-get16-requires-3 : tie.Need-get16-requires-3
-get16-requires-3 c κs = search needs
-
-get16-requires-4 : tie.Need-get16-requires-4
-get16-requires-4 c κs = search needs
 
 get32-requires : tie.Need-get32-requires
 get32-requires c κs = search needs
@@ -30,24 +18,22 @@ get32-requires-2 c κs = search needs
 get32-requires-3 : tie.Need-get32-requires-3
 get32-requires-3 c κs = search needs
 
+get16-requires : tie.Need-get16-requires
+get16-requires c κs = search needs
+
+get8-requires : tie.Need-get8-requires
+get8-requires c κs = search needs
+
+get8-requires-2 : tie.Need-get8-requires-2
+get8-requires-2 c κs = search needs
+
+get8-requires-3 : tie.Need-get8-requires-3
+get8-requires-3 c κs = search needs
+
 returns : tie.Need-returns
-returns c =
-    five (c .before .before .before .before .before .before .before .before .get8x5 .ensures)
-    (five (c .before .before .before .before .before .before .before .get8x52 .ensures) (
-      c .before .before .before .before .before .before .get16 .ensures,
-      (
-        c .before .before .before .before .before .get162 .ensures,
-        (
-          c .before .before .before .before .get163 .ensures,
-          (
-            c .before .before .before .get164 .ensures,
-            (c .before .before .get32 .ensures, (c .before .get322 .ensures, (c .get323 .ensures, tt))),
-          ),
-        ),
-      ),
-    ))
+returns c = (c .before .before .before .before .before .before .get32 .ensures, (c .before .before .before .before .before .get322 .ensures, (c .before .before .before .before .get323 .ensures, five (c .before .before .before .before .before .before .before .before .get16x5 .ensures)
+    ((c .before .before .before .get16 .ensures, five (c .before .before .before .before .before .before .before .get8x5 .ensures)
+    ((c .before .before .get8 .ensures, (c .before .get82 .ensures, (c .get83 .ensures, tt)))))))))
 
 pub read-ep-spec : {M : Type 1} → statement M
-read-ep-spec =
-    tie.close (tie.spec get8x5-requires get8x5-requires-2 get16-requires get16-requires-2 get16-requires-3 get16-requires-4 get32-requires
-    get32-requires-2 get32-requires-3 returns)
+read-ep-spec = tie.close (tie.spec get16x5-requires get8x5-requires get32-requires get32-requires-2 get32-requires-3 get16-requires get8-requires get8-requires-2 get8-requires-3 returns)

@@ -3,14 +3,11 @@ use borrow.Author.Needs.{needs}
 use Rattle.state.proofs.codec.read_globals.Statement.{statement}
 use Rattle.state.proofs.codec.read_globals.Tie as tie
 
-get8x5-requires : tie.Need-get8x5-requires
-get8x5-requires c κs = search needs
-
 get16x5-requires : tie.Need-get16x5-requires
 get16x5-requires c κs = search needs
 
-get16-requires : tie.Need-get16-requires
-get16-requires c κs = search needs
+get8x5-requires : tie.Need-get8x5-requires
+get8x5-requires c κs = search needs
 
 get32-requires : tie.Need-get32-requires
 get32-requires c κs = search needs
@@ -27,22 +24,13 @@ get32-requires-4 c κs = search needs
 get32-requires-5 : tie.Need-get32-requires-5
 get32-requires-5 c κs = search needs
 
+get16-requires : tie.Need-get16-requires
+get16-requires c κs = search needs
+
 returns : tie.Need-returns
-returns c =
-    five (c .before .before .before .before .before .before .before .get8x5 .ensures)
-    (five (c .before .before .before .before .before .before .get16x5 .ensures)
-    ((
-      c .before .before .before .before .before .get16 .ensures,
-      (
-        c .before .before .before .before .get32 .ensures,
-        (
-          c .before .before .before .get322 .ensures,
-          (c .before .before .get323 .ensures, (c .before .get324 .ensures, (c .get325 .ensures, tt))),
-        ),
-      ),
-    )))
+returns c = (c .before .before .before .before .before .get32 .ensures, (c .before .before .before .before .get322 .ensures, (c .before .before .before .get323 .ensures, (c .before .before .get324 .ensures, (c .before .get325 .ensures, five (c .before .before .before .before .before .before .before .get16x5 .ensures)
+    ((c .get16 .ensures, five (c .before .before .before .before .before .before .get8x5 .ensures)
+    (tt))))))))
 
 pub read-globals-spec : {M : Type 1} → statement M
-read-globals-spec =
-    tie.close (tie.spec get8x5-requires get16x5-requires get16-requires get32-requires get32-requires-2 get32-requires-3 get32-requires-4
-    get32-requires-5 returns)
+read-globals-spec = tie.close (tie.spec get16x5-requires get8x5-requires get32-requires get32-requires-2 get32-requires-3 get32-requires-4 get32-requires-5 get16-requires returns)

@@ -9,6 +9,9 @@ get8x5-requires c κs = search needs
 get8x5-requires-2 : tie.Need-get8x5-requires-2
 get8x5-requires-2 c κs = search needs
 
+get32-requires : tie.Need-get32-requires
+get32-requires c κs = search needs
+
 get16-requires : tie.Need-get16-requires
 get16-requires c κs = search needs
 
@@ -21,21 +24,10 @@ get16-requires-3 c κs = search needs
 get16-requires-4 : tie.Need-get16-requires-4
 get16-requires-4 c κs = search needs
 
-get32-requires : tie.Need-get32-requires
-get32-requires c κs = search needs
-
 returns : tie.Need-returns
-returns c =
-    five (c .before .before .before .before .before .before .get8x5 .ensures)
+returns c = (c .before .before .before .before .get32 .ensures, (c .before .before .before .get16 .ensures, (c .before .before .get162 .ensures, (c .before .get163 .ensures, (c .get164 .ensures, five (c .before .before .before .before .before .before .get8x5 .ensures)
     (five (c .before .before .before .before .before .get8x52 .ensures)
-    ((
-      c .before .before .before .before .get16 .ensures,
-      (
-        c .before .before .before .get162 .ensures,
-        (c .before .before .get163 .ensures, (c .before .get164 .ensures, (c .get32 .ensures, tt))),
-      ),
-    )))
+    (tt)))))))
 
 pub read-saved-spec : {M : Type 1} → statement M
-read-saved-spec =
-    tie.close (tie.spec get8x5-requires get8x5-requires-2 get16-requires get16-requires-2 get16-requires-3 get16-requires-4 get32-requires returns)
+read-saved-spec = tie.close (tie.spec get8x5-requires get8x5-requires-2 get32-requires get16-requires get16-requires-2 get16-requires-3 get16-requires-4 returns)

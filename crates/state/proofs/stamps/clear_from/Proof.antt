@@ -47,7 +47,7 @@ loop-again c =
       omega arith,
       one-filled stamps-table (w .s .now) 0 (w .a) (at .k) j (at .s) _ refl
           (ap view (c .put16 .ensures) ∙ view-stamps (at .s) (c .before .before .before .sized-arg2 .given .0) j 0 (omega arith))
-          (ap saved (c .put16 .ensures) ∙ saved-off (at .s) (1984 + j * 2) (digits 2 0) (omega arith)) (at .inv .1),
+          (ap saved (c .put16 .ensures) ∙ saved-off (at .s) (1454 + j * 2) (digits 2 0) (omega arith)) (at .inv .1),
     )
 
 returns : tie.Need-returns Inv-loop μ-loop

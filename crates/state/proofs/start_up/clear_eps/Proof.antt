@@ -38,7 +38,7 @@ loop-again : tie.Need-loop-again (Filling eps-table noEp 32) (Left 32)
 loop-again c =
     let at = c .before .before .before .before .before .before .before .loop in
     let w = c .before .before .before .before .before .before .before .before .args .s .now in
-    let e = c .write-ep .ensures ∙ ap (λ (r : EpState). puts (at .s) (0 + at .k * 30) 0 (bytes epWidths (epAs r))) (c .before .no-ep .ensures) in
+    let e = c .write-ep .ensures ∙ ap (λ (r : EpState). puts (at .s) (40 + at .k * 32) 0 (bytes epWidths (epAs r))) (c .before .no-ep .ensures) in
     ep-more w (at .s) _ (at .k) noEp (c .before .before .before .before .sized-arg2 .given .0) (omega arith) e (at .inv)
 
 returns : tie.Need-returns (Filling eps-table noEp 32) (Left 32)

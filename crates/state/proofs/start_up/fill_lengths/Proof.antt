@@ -47,7 +47,7 @@ loop-again c =
       omega arith,
       one-filled lens-table (w .s .now) (w .v) (w .a) (at .k) j (at .s) _ refl
           (ap view (c .put16 .ensures) ∙ view-lens (at .s) (c .before .before .before .sized-arg2 .given .0) j (w .v) (omega arith))
-          (ap saved (c .put16 .ensures) ∙ saved-off (at .s) (960 + j * 2) (digits 2 (w .v)) (omega arith)) (at .inv .1),
+          (ap saved (c .put16 .ensures) ∙ saved-off (at .s) (1966 + j * 2) (digits 2 (w .v)) (omega arith)) (at .inv .1),
     )
 
 returns : tie.Need-returns Inv-loop μ-loop

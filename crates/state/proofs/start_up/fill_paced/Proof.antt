@@ -36,7 +36,7 @@ loop-again c =
     let w = c .before .before .before .before .before .before .before .args .s .now in
     one-more paced-table 0x1800 16 w (at .k) (at .s) _ (omega arith)
     (ap view (c .put16 .ensures) ∙ view-paceds (at .s) (c .before .before .before .sized-arg2 .given .0) (at .k) 0x1800 (omega arith))
-    (ap saved (c .put16 .ensures) ∙ saved-off (at .s) (2551 + at .k * 2) (digits 2 0x1800) (omega arith)) (at .inv)
+    (ap saved (c .put16 .ensures) ∙ saved-off (at .s) (1422 + at .k * 2) (digits 2 0x1800) (omega arith)) (at .inv)
 
 returns : tie.Need-returns (Filling paced-table 0x1800 16) (Left 16)
 returns c = all-done paced-table 0x1800 16 _ _ _ (omega arith) (c .before .loop .inv)

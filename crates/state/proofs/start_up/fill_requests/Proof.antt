@@ -39,7 +39,7 @@ loop-again c =
     let e = c .write-request .ensures in
     one-more requests-table noRequest 32 w (at .k) (at .s) _ (omega arith)
     (ap view e ∙ view-requests (at .s) (c .before .before .before .sized-arg2 .given .0) (at .k) noRequest (omega arith))
-    (ap saved e ∙ saved-off (at .s) (2583 + at .k * 5) (bytes requestWidths (requestAs noRequest)) (omega arith)) (at .inv)
+    (ap saved e ∙ saved-off (at .s) (1064 + at .k * 8) (bytes requestWidths (requestAs noRequest)) (omega arith)) (at .inv)
 
 returns : tie.Need-returns (Filling requests-table noRequest 32) (Left 32)
 returns c = all-done requests-table noRequest 32 _ _ _ (omega arith) (c .before .loop .inv)

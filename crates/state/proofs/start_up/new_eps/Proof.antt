@@ -48,7 +48,7 @@ loop-again c =
     let read = c .before .before .read-ep in
     let cleared = cleared-at (start .args .s .now) (at .s) (at .k) (read .result) (start .pre) (at .inv .1 .0)
     (ep-there (at .s) (at .k) (read .result) (omega arith) (read .ensures)) in
-    let e = c .write-ep .ensures ∙ ap (λ (r : EpState). puts (at .s) (0 + at .k * 30) 0 (bytes epWidths (epAs (madeNew r)))) cleared in
+    let e = c .write-ep .ensures ∙ ap (λ (r : EpState). puts (at .s) (40 + at .k * 32) 0 (bytes epWidths (epAs (madeNew r)))) cleared in
     let sized = c .before .before .before .before .before .sized-arg2 .given .0 in
     ep-more (start .args .s .now) (at .s) _ (at .k) newEp sized (omega arith) e (at .inv)
 

@@ -26,7 +26,7 @@ returns c =
     let st = c .before .before .before .before .before in (
       ap view (c .put8 .ensures) ∙ view-codes (now (st .args .s))
           (c .before .before .before .sized-arg2 .given .0) (st .args .i) (st .args .code) (omega (arith, st .pre)),
-      ap saved (c .put8 .ensures) ∙ saved-off (now (st .args .s)) (2753 + st .args .i * 1) (digits 1 (st .args .code)) (omega (arith, st .pre)),
+      ap saved (c .put8 .ensures) ∙ saved-off (now (st .args .s)) (1358 + st .args .i * 1) (digits 1 (st .args .code)) (omega (arith, st .pre)),
     )
 
 pub store-code-spec : {M : Type 1} → statement M

@@ -18,7 +18,7 @@ returns : tie.Need-returns
 returns c =
     let st = c .before .before .before .before .before in (
       ap view (c .put8 .ensures) ∙ view-count (now (st .args .s)) (c .before .before .before .sized-arg2 .given .0) (st .args .n),
-      ap saved (c .put8 .ensures) ∙ saved-off (now (st .args .s)) 2752 (digits 1 (st .args .n)) (omega arith),
+      ap saved (c .put8 .ensures) ∙ saved-off (now (st .args .s)) 1357 (digits 1 (st .args .n)) (omega arith),
     )
 
 pub store-count-spec : {M : Type 1} → statement M
