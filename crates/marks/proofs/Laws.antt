@@ -1,13 +1,13 @@
 -- What the loops of marking, of the search and of copying keep.
 use mathlib.Core.Path.{_≡_, refl, sym, ap, _∙_}
 use mathlib.Core.Bool.{Bool, true, _&&_}
-use mathlib.Core.List.{List, _++_}
+use mathlib.Core.List.{List, [], _∷_, _++_}
 use Prim.Native.Nat.{ℕ, zero, suc, _+_, _-_, _*_, _/_, _≤_, _<_}
 use native.Mathlib.Nat.{add-zero, zero-add, suc-add}
 use native.Mathlib.Numerals.{add-one}
 use borrow.Author.Tests.{eq-eqb, ne-eqb}
 use native.Mathlib.Omega.{arith}
-use lib.ListN.{length, take, drop, set, getD, length-append, length-drop, length-set}
+use lib.ListN.{length, take, drop, set, getD, length-append, length-drop, length-set, take-append-drop}
 use lib.Seq.{sets, length-sets, length-take-le, drop-cons, take-suc, take-length, set-at, append-snoc}
 use Rattle.marks.specs.Marks.{mark, markByte, isMark, marked, markedRun, found}
 use Rattle.marks.specs.Copies.{over, four, copiedRun}
@@ -63,6 +63,61 @@ run-step p i n m h = let e : n - i ≡ m + (n - (i + m)) = omega arith in rw e (
 pub run-none : (p : List ℕ) (i n : ℕ) → n ≤ i → markedRun p i (n - i) ≡ p
 unfolding markedRun
 run-none p i n h = let e : n - i ≡ 0 = omega arith in rw e
+
+-- the same from word w on
+pub run-more-at : (p : List ℕ) (w i n : ℕ) → i < n → markedRun p (w + i) (n - i) ≡ markedRun (marked p (w + i)) (w + (i + 1)) (n - (i + 1))
+unfolding markedRun
+run-more-at p w i n h =
+    let e : n - i ≡ suc (n - (i + 1)) = omega arith in
+    let f : w + (i + 1) ≡ w + i + 1 = omega arith in
+    rw (e, f)
+
+pub run-step-at : (p : List ℕ) (w i n m : ℕ) → i + m ≤ n → markedRun p (w + i) (n - i) ≡ markedRun (markedRun p (w + i) m) (w + (i + m)) (n - (i + m))
+run-step-at p w i n m h =
+    let e : n - i ≡ m + (n - (i + m)) = omega arith in
+    let f : w + (i + m) ≡ w + i + m = omega arith in
+    rw (e, f) (run-add m (n - (i + m)) p (w + i))
+
+pub run-none-at : (p : List ℕ) (w i n : ℕ) → n ≤ i → markedRun p (w + i) (n - i) ≡ p
+unfolding markedRun
+run-none-at p w i n h = let e : n - i ≡ 0 = omega arith in rw e
+
+pub run-all-at : (p : List ℕ) (w n : ℕ) → markedRun p (w + 0) (n - 0) ≡ markedRun p w n
+run-all-at p w n = let e : n - 0 ≡ n = omega arith in let f : w + 0 ≡ w = omega arith in rw (e, f)
+
+set-behind : (xs ys : List ℕ) (j v : ℕ) → set (xs ++ ys) (length xs + j) v ≡ xs ++ set ys j v
+set-behind [] ys j v = let e : 0 + j ≡ j = omega arith in ap (λ (m : ℕ). set ys m v) e
+set-behind (x ∷ xs) ys j v =
+    let e : suc (length xs) + j ≡ suc (length xs + j) = omega arith in
+    ap (λ (m : ℕ). set (x ∷ (xs ++ ys)) m v) e ∙ ap (λ (l : List ℕ). x ∷ l) (set-behind xs ys j v)
+
+sets-behind : (xs ys : List ℕ) (j : ℕ) (vs : List ℕ) → sets (xs ++ ys) (length xs + j) vs ≡ xs ++ sets ys j vs
+sets-behind xs ys j [] = refl
+sets-behind xs ys j (v ∷ vs) =
+    let e : suc (length xs + j) ≡ length xs + suc j = omega arith in
+    ap (λ (l : List ℕ). sets l (suc (length xs + j)) vs) (set-behind xs ys j v)
+    ∙ ap (λ (m : ℕ). sets (xs ++ set ys j v) m vs) e ∙ sets-behind xs (set ys j v) (suc j) vs
+
+marked-behind : (xs ys : List ℕ) (w i : ℕ) → length xs ≡ w * 4 → marked (xs ++ ys) (w + i) ≡ xs ++ marked ys i
+unfolding marked
+marked-behind xs ys w i h =
+    let e : (w + i) * 4 ≡ length xs + i * 4 = omega (arith, h) in
+    ap (λ (m : ℕ). sets (xs ++ ys) m mark) e ∙ sets-behind xs ys (i * 4) mark
+
+run-behind : (n : ℕ) (xs ys : List ℕ) (w i : ℕ) → length xs ≡ w * 4 → markedRun (xs ++ ys) (w + i) n ≡ xs ++ markedRun ys i n
+unfolding markedRun
+run-behind zero xs ys w i h = refl
+run-behind (suc n) xs ys w i h =
+    let e : w + i + 1 ≡ w + (i + 1) = omega arith in
+    ap (λ (l : List ℕ). markedRun l (w + i + 1) n) (marked-behind xs ys w i h)
+    ∙ ap (λ (m : ℕ). markedRun (xs ++ marked ys i) m n) e ∙ run-behind n xs (marked ys i) w (i + 1) h
+
+-- words of the whole buffer are words of the part from w * 4 on
+pub run-part : (b : List ℕ) (at w n : ℕ) → at ≡ w * 4 → at ≤ length b → markedRun b w n ≡ take at b ++ markedRun (drop at b) 0 n
+run-part b at w n e l =
+    let f : w ≡ w + 0 = omega arith in
+    ap (λ (c : List ℕ). markedRun c w n) (sym (take-append-drop at b)) ∙ ap (λ (m : ℕ). markedRun (take at b ++ drop at b) m n) f
+    ∙ run-behind n (take at b) (drop at b) w 0 (length-take-le at b l ∙ e)
 
 pub all-four : {a b c : Bool} (d : Bool) → a ≡ true → b ≡ true → c ≡ true → d ≡ (a && b && c && d)
 all-four d x y z = rw (x, y, z)

@@ -2,13 +2,14 @@
 use mathlib.Core.Path.{_≡_, _∙_}
 use mathlib.Core.Bool.{true}
 use mathlib.Core.List.{List, _++_, append-nil}
-use Prim.Native.Nat.{ℕ, _+_, _-_, _≤_, _<_}
+use Prim.Native.Nat.{ℕ, _+_, _-_, _*_, _≤_, _<_}
 use borrow.Author.Tests.{lt-ltb, le-ltb}
 use native.Mathlib.Omega.{arith}
 use lib.ListN.{length, take, drop, length-drop, drop-of-length-le}
 use lib.Seq.{take-all}
 use Rattle.marks.specs.Marks.{armedWords, reach, markedRun, isMark, arm, found, isMarked, armed, markedLen}
 use Rattle.marks.specs.Copies.{over, copied, copiedOut}
+use Rattle.marks.proofs.Laws.{run-part}
 
 -- ---- the part of a list from `at` on
 
@@ -39,6 +40,12 @@ pub armed-fits : (b ys : List ℕ) (at maximum n : ℕ) → n ≡ armedWords max
     → take at b ++ (ys ++ drop (length b - at) (drop at b)) ≡ armed b at maximum
 unfolding armed arm
 armed-fits b ys at maximum n w h e = rw (le-ltb (length b) (at + reach maximum) h, part-back b ys at, e, part-is b at, w)
+
+-- by words of the whole buffer
+pub armed-words-fit : (b ys : List ℕ) (at w maximum n : ℕ) → at ≡ w * 4 → n ≡ armedWords maximum → at + reach maximum ≤ length b
+    → ys ≡ markedRun b w n → ys ≡ armed b at maximum
+unfolding armed arm
+armed-words-fit b ys at w maximum n a m h e = rw (le-ltb (length b) (at + reach maximum) h) (e ∙ run-part b at w n a (omega arith) ∙ rw m)
 
 -- ---- the length
 

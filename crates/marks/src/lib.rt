@@ -122,6 +122,23 @@ fn mark_words(part: &mut [u8], n: u16)
     }
 }
 
+// Marks n words of a whole buffer from word w on, as mark_words does. Where the buffer lies on a word boundary each is one store: firmware/clang
+// says so of the buffer of this function, which stands alone.
+fn mark_aligned(buf: &mut [u8], w: u32, n: u16)
+    requires { ⌜ w * 4 + n * 4 ≤ length (now buf) ⌝ }
+    ensures { λ r. ⌜ now (buf .exit) ≡ markedRun (now (buf .entry)) w n ⌝ }
+{
+    let mut i = 0;
+    while i < n % 4 {
+        mark_word(buf, w as usize + i as usize);
+        i += 1;
+    }
+    while i < n {
+        mark_four(buf, w as usize + i as usize);
+        i += 4;
+    }
+}
+
 // How many words arming marks.
 fn armed_words(max: u16) -> u16
     ensures { λ r. ⌜ r ≡ armedWords max ⌝ }
@@ -228,6 +245,10 @@ pub fn iso_out_arm(buf: &mut [u8], at: u32, max: u16)
     let a = at as usize;
     let n = armed_words(max);
     if buf.len() < a + n as usize * 4 {
+        return;
+    }
+    if at % 4 == 0 {
+        mark_aligned(buf, at / 4, n);
         return;
     }
     mark_words(&mut buf[a..], n);
