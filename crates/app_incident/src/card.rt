@@ -46,7 +46,7 @@ pub fn counted(c: Counts, packet: &[u8; 1024], len: u32) -> Counts {
 // A block goes to its place.
 fn stored(block: &[u8; 512], number: u32, card: &mut [u8; CARD_LEN]) {
     if number < 16 {
-        marks::copy_in(card, number * 512, block);
+        ring::marks::copy_in(card, number * 512, block);
     }
 }
 

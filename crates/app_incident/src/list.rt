@@ -77,7 +77,7 @@ pub fn copy(list: &[u8], from: u32, len: u32, to: &mut [u8], at: u32) {
     let a = from as usize;
     let e = a + len as usize;
     if e <= list.len() {
-        marks::copy_in(to, at, &list[a..e]);
+        ring::marks::copy_in(to, at, &list[a..e]);
     }
 }
 

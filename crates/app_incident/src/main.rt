@@ -11,7 +11,7 @@ use list::Entry;
 use list::LIST_LEN;
 use list::SLOTS_LEN;
 use list::number;
-use print_access::text::print;
+use print::text::print;
 use req_bus_time::TIME_LEN;
 use req_bus_time::Time;
 use state::STATE_LEN;
@@ -26,7 +26,7 @@ const NO_ANSWER: u64 = 15;
 const FRAME: u32 = 0;
 
 fn say(n: u32) {
-    print_access::text::number(n);
+    print::text::number(n);
 }
 
 // Makes an entry's call on the port; those that the incident does not have are left out.
@@ -74,7 +74,7 @@ fn kept(
     if word % 16 == 8 {
         let mut packet = [0u8; 1024];
         let len = (word / 256 % 65536) as u16;
-        marks::copy_out(slots, (word / 0x100000000) as u32, &mut packet, len);
+        ring::marks::copy_out(slots, (word / 0x100000000) as u32, &mut packet, len);
         card::put_front(writer, block, card, &packet, len);
     }
 }

@@ -1,13 +1,13 @@
 // What the driver asks of the chip, in words.
-use print_access::text::number;
-use print_access::text::print;
-use print_answer::show;
+use calls::Step;
+use print::answer::show;
+use print::text::number;
+use print::text::print;
 use regs::Dir;
 use req_bus_time::TIME_LEN;
 use req_bus_time::Time;
 use state::STATE_LEN;
 use state::State;
-use usbhs::Step;
 
 // What the chip reads where it has nothing to tell.
 const READING: u32 = 0;
@@ -41,7 +41,7 @@ fn run(s: &mut State, slots: &mut [u8], time: &mut Time, first: Step, arrived: b
         left -= 1;
         match step {
             Step::Asks(_q) => {
-                step = usbhs::proceeds::proceed(s, slots, time, 0, reading(arrived, left));
+                step = calls::proceeds::proceed(s, slots, time, 0, reading(arrived, left));
                 show(s, step);
             }
             _ => {
@@ -55,13 +55,13 @@ fn questions(s: &State, e: u32) {
     print(b"IN ");
     number(e);
     print(b": ");
-    number(usbhs::questions::pending(s, e));
+    number(calls::questions::pending(s, e));
     print(b" queued; OUT ");
     number(e);
     print(b": ");
-    number(usbhs::questions::overruns(s, e));
+    number(calls::questions::overruns(s, e));
     print(b" turned away; IN ");
-    if usbhs::questions::enabled(s, Dir::In, e) {
+    if calls::questions::enabled(s, Dir::In, e) {
         print(b"enabled\n");
     } else {
         print(b"disabled\n");
@@ -74,10 +74,10 @@ fn before_start_up() {
     let mut slots = [0u8; 0];
     let mut time = [0u16; TIME_LEN];
     print(b"continue before start-up\n");
-    let refused = usbhs::proceeds::proceed(&mut s, &mut slots, &mut time, 0, READING);
+    let refused = calls::proceeds::proceed(&mut s, &mut slots, &mut time, 0, READING);
     show(&s, refused);
     print(b"microframe before start-up\n");
-    let first = usbhs::begins::begin_microframe(&mut s);
+    let first = calls::begins::begin_microframe(&mut s);
     run(&mut s, &mut slots, &mut time, first, false);
     questions(&s, 1);
 }
@@ -85,20 +85,20 @@ fn before_start_up() {
 // Allocates an endpoint with a maximum of 64 bytes and shows what is handed out.
 fn endpoint(s: &mut State, slots: &mut [u8], time: &mut Time, title: &[u8], dir: Dir, kind: u8) {
     print(title);
-    let first = usbhs::starting::allocate(s, dir, kind, 256, 64, 1);
+    let first = calls::starting::allocate(s, dir, kind, 256, 64, 1);
     run(s, slots, time, first, false);
 }
 
 fn enable(s: &mut State, slots: &mut [u8], time: &mut Time, title: &[u8], dir: Dir, e: u32) {
     print(title);
-    let first = usbhs::bus_begins::begin_set_enabled(s, slots, time, 0, dir, e, true);
+    let first = calls::usbhs_bus_begins::begin_set_enabled(s, slots, time, 0, dir, e, true);
     run(s, slots, time, first, false);
 }
 
 // A driver on 21 buffers of 64 bytes, with an isochronous OUT and IN.
 fn started(s: &mut State, slots: &mut [u8], time: &mut Time) {
     print(b"\nstart-up, 21 buffers of 64 bytes\n");
-    let first = usbhs::starting::start_up(s, slots, time, 0, 64, 21, false);
+    let first = calls::starting::start_up(s, slots, time, 0, 64, 21, false);
     run(s, slots, time, first, false);
     endpoint(
         s,
@@ -123,13 +123,13 @@ fn others(s: &mut State, slots: &mut [u8], time: &mut Time) {
     endpoint(s, slots, time, b"\nallocate a bulk OUT\n", Dir::Out, 2);
     endpoint(s, slots, time, b"\nallocate a bulk IN\n", Dir::In, 2);
     print(b"\nstart EP0\n");
-    let ep0 = usbhs::starting::start(s, 64);
+    let ep0 = calls::starting::start(s, 64);
     run(s, slots, time, ep0, false);
 }
 
 fn enabled(s: &mut State, slots: &mut [u8], time: &mut Time) {
     print(b"\npull the bus up\n");
-    let up = usbhs::bus_begins::begin_bus_enable(s);
+    let up = calls::usbhs_bus_begins::begin_bus_enable(s);
     run(s, slots, time, up, false);
     enable(
         s,
@@ -153,20 +153,20 @@ fn time_in_use(time: &Time) {
 // The interrupt of a packet that the chip has stored in the first slot of OUT 1.
 fn served(s: &mut State, slots: &mut [u8], time: &mut Time) {
     print(b"\nan interrupt: 4 bytes on the isochronous OUT\n");
-    let first = usbhs::begins::begin_interrupt(s);
+    let first = calls::begins::begin_interrupt(s);
     run(s, slots, time, first, true);
 }
 
 // The packet is read where it lies.
 fn read(s: &mut State, slots: &[u8]) {
     print(b"\nopen the oldest packet of OUT 1\n");
-    let oldest = usbhs::in_place::open(s, slots, 1);
+    let oldest = calls::in_place::open(s, slots, 1);
     show(s, oldest);
     print(b"\nclose it\n");
-    let closed = usbhs::in_place::close(s, 1);
+    let closed = calls::in_place::close(s, 1);
     show(s, closed);
     print(b"\nopen the next\n");
-    let next = usbhs::in_place::open(s, slots, 1);
+    let next = calls::in_place::open(s, slots, 1);
     show(s, next);
 }
 

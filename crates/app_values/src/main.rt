@@ -56,9 +56,9 @@ fn advances() {
 // The length by marks of a packet stored in a marked slot whose maximum is 8.
 fn length(packet: &[u8]) -> u16 {
     let mut slot = [0u8; 8];
-    marks::iso_out_arm(&mut slot, 0, 8);
-    marks::copy_in(&mut slot, 0, packet);
-    marks::marked_len(&slot, 0, 8)
+    ring::marks::iso_out_arm(&mut slot, 0, 8);
+    ring::marks::copy_in(&mut slot, 0, packet);
+    ring::marks::marked_len(&slot, 0, 8)
 }
 
 fn lengths() {
@@ -79,9 +79,9 @@ fn lengths() {
 // Does a packet, stored in the marked slot, arrive?
 fn arrives(packet: &[u8]) -> bool {
     let mut slot = [0u8; 8];
-    marks::iso_out_arm(&mut slot, 0, 8);
-    marks::copy_in(&mut slot, 0, packet);
-    !marks::is_marked(&slot, 0)
+    ring::marks::iso_out_arm(&mut slot, 0, 8);
+    ring::marks::copy_in(&mut slot, 0, packet);
+    !ring::marks::is_marked(&slot, 0)
 }
 
 fn arrival(packet: &[u8]) {

@@ -1,3 +1,5 @@
+pub mod le_bytes; // le_bytes.rt: numbers in bytes
+
 ghost use mathlib.Core.Path.{_≡_};
 ghost use Prim.Native.Nat.{_%_};
 ghost use Rattle.bits.specs.Bit.{isSet, withBit};

@@ -27,8 +27,8 @@ use Rattle.model.specs.Bus.{nakAll, busReset, kept, setEnabledOut}
 use Rattle.model_ops.specs.Records.{plainOf, merged}
 use Rattle.model_ops.specs.Rings.{St, emptiedOn}
 use Rattle.model_ops.specs.Concrete.{concrete}
-use Rattle.model_points.specs.Numbers.{fits}
-pub use Rattle.model_points.specs.Results.{resultless}
+use Rattle.model_ops.specs.Numbers.{fits}
+pub use Rattle.model_ops.specs.Results.{resultless}
 use Rattle.bus.specs.declared.Point.{Point}
 use Rattle.bus.specs.declared.Point.the-variants as point
 use Rattle.bus.specs.declared.Next.{Next}

@@ -3,9 +3,14 @@ use regs::Access;
 use regs::Dir;
 
 mod codec; // codec.rt: points as numbers
+pub mod set_stalled; // set_stalled.rt: endpoints stalled and restarted
+pub mod set_enabled; // set_enabled.rt: endpoints enabled and disabled
+pub mod events; // events.rt: the bus goes on: enable, poll with reset, suspend and resume
+pub mod event; // event.rt: power, reset, suspend and resume
+pub mod iso_out_enable; // iso_out_enable.rt: an isochronous OUT enabled and disabled: its row of accesses
 
 pub use codec::encode;
-pub use model_points::flag_of;
+pub use model_ops::points::flag_of;
 ghost use mathlib.Core.Path.{_≡_};
 ghost use mathlib.Core.Bool.{true};
 ghost use Rattle.regs.specs.Registers.{fitsIn};

@@ -24,16 +24,16 @@ use Rattle.irq.specs.declared.Point.{Point}
 use Rattle.irq.specs.declared.Point.the-variants as point
 use Rattle.irq.specs.declared.Next.the-variants as next
 use Rattle.irq.specs.Points.{denote, meaning, awaitsAt, fitsAt}
-use Rattle.irq_transfer.specs.declared.nak.Nak.{Nak}
-use Rattle.irq_transfer.specs.declared.nak.NakNext.{NakNext}
-use Rattle.irq_transfer.specs.declared.nak.NakNext.the-variants as nak-to
-use Rattle.irq_transfer.specs.Nak as nak
+use Rattle.irq.specs.declared.nak.Nak.{Nak}
+use Rattle.irq.specs.declared.nak.NakNext.{NakNext}
+use Rattle.irq.specs.declared.nak.NakNext.the-variants as nak-to
+use Rattle.irq.specs.Nak as nak
 use Rattle.irq.specs.Continuations.{naksFirst, enteredAs, afterNak, afterFlags, afterBusRst, afterSuspend, afterFifo, afterSt, afterMis}
 use Rattle.irq.specs.Laws.{interrupt-begun, host-transfer, entered-nak, nak-asks, nak-ends}
-use Rattle.irq_points.specs.Stands.{Stands, halted}
-use Rattle.irq_points.specs.StandsLaws.{stops-at, stored-at}
-use Rattle.irq_resume.specs.Resumes.{went-on}
-use Rattle.irq_resume.specs.Sites.{on-mis, loaded-mis}
+use Rattle.interrupt.specs.Stands.{Stands, halted}
+use Rattle.interrupt.specs.StandsLaws.{stops-at, stored-at}
+use Rattle.interrupt.specs.Resumes.{went-on}
+use Rattle.interrupt.specs.Sites.{on-mis, loaded-mis}
 use Rattle.machine.specs.declared.Suspended.the-variants as under
 use Rattle.machine.specs.declared.Step.{Step}
 use Rattle.machine.specs.declared.Step.the-variants as step
@@ -44,16 +44,16 @@ use Rattle.machine.specs.GoesLaws.{proceeds}
 use Rattle.machine.specs.Lent.{as-lent}
 use Rattle.machine.specs.Rows.{isIdle, stopOf}
 use Rattle.machine.specs.RowsLaws.{back, interrupt-call}
-use Rattle.call_bus_time.specs.Sharing.{going, timeAfter}
-use Rattle.call_bus_time.specs.SharingLaws.{settles}
-use Rattle.call_bus_time.specs.StaysLaws.{interrupt-stays}
+use Rattle.calls.specs.Sharing.{going, timeAfter}
+use Rattle.calls.specs.SharingLaws.{settles}
+use Rattle.calls.specs.StaysLaws.{interrupt-stays}
 use Rattle.model.specs.declared.Transfer.{Transfer}
 use Rattle.model.specs.Handler.{nakNonIso}
 use Rattle.model.specs.Script.{run}
 use Rattle.model_ops.specs.Concrete.{concrete}
-use Rattle.call_answer_word.specs.Parts.{stepOf}
-use Rattle.call_answer_word.specs.Word.{Encodes, readWord, wordOf, accessWord}
-use Rattle.call_answer_word.specs.WordLaws as words
+use Rattle.machine.specs.Parts.{stepOf}
+use Rattle.machine.specs.Word.{Encodes, readWord, wordOf, accessWord}
+use Rattle.machine.specs.WordLaws as words
 use Rattle.call_readings.specs.Readings.{lent, Begins, Continues}
 use Rattle.call_readings.specs.Passing.{Framed, Flagged, Transferred}
 use Rattle.call_readings.specs.Standing.{standing, stands}

@@ -16,7 +16,7 @@ use Rattle.model.specs.Machine.{Buf, begin, go}
 use Rattle.machine.specs.declared.Step.{Step}
 use Rattle.machine.specs.declared.Step.the-variants as step
 use Rattle.machine.specs.Suspended.{machineOf, drive, answerOf, lentOr, BufferUnchangedOnRow1, SavedByAnswer}
-use Rattle.call_bus_time.specs.Sharing.{sharedCall}
+use Rattle.calls.specs.Sharing.{sharedCall}
 
 -- a number that is brought, and the register that it was read from
 pub record Reading : Type 0 where

@@ -6,21 +6,21 @@ use mathlib.Core.List.{List}
 use Prim.Native.Nat.{ℕ, _+_, _*_, _≤_}
 use native.Mathlib.Omega.{arith}
 use lib.ListN.{length}
-use Rattle.le_bytes.specs.Bytes.{gets, puts, number, bytes}
-use Rattle.le_bytes.specs.Runs.{Same, puts-same, gets-same, gets-puts}
-use Rattle.le_bytes.specs.Numbers.{numbers-bytes}
-use Rattle.le_bytes.specs.Tables.{table}
-use Rattle.le_bytes.specs.TablesLaws.{table-same}
+use Rattle.bits.specs.Bytes.{gets, puts, number, bytes}
+use Rattle.bits.specs.Runs.{Same, puts-same, gets-same, gets-puts}
+use Rattle.bits.specs.Numbers.{numbers-bytes}
+use Rattle.bits.specs.Tables.{table}
+use Rattle.bits.specs.TablesLaws.{table-same}
 use Rattle.regs.specs.declared.Access.{Access}
 use Rattle.state.specs.declared.Saved.{Saved}
 use Rattle.state.specs.Codec.{savedWidths, savedAs, savedOf}
 use Rattle.state.specs.State.{epIn, allocatorIn, globalsIn, requestIn, controlIn, savedIn, view, saved}
 use Rattle.irq.specs.declared.Point.{Point}
-use Rattle.irq_points.specs.Stands.{Stands}
+use Rattle.interrupt.specs.Stands.{Stands}
 use Rattle.machine.specs.declared.Suspended.the-variants as under
 use Rattle.machine.specs.declared.Step.the-variants as step
 use Rattle.machine.specs.Suspended.{encode}
-use Rattle.call_answer_word.specs.Word.{Encodes}
+use Rattle.machine.specs.Word.{Encodes}
 
 abbrev savedBytes : Saved → List ℕ
 savedBytes c = bytes savedWidths (savedAs c)

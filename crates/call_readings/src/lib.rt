@@ -2,15 +2,15 @@
 // for them. Where another answer may come before the last reading nothing is changed, and the calls are made one by one (crate `usbhs_c`, readings.rt).
 use frame::Frame;
 use frame::microframe_index;
-use irq_points::loads::setup_at;
-use irq_points::stands::stand_flags;
-use irq_points::stands::stand_mis;
-use irq_points::stands::stand_nak;
-use irq_points::stands::stand_released;
-use irq_transfer::nak;
-use irq_transfer::nak::NakNext;
-use irq_transfer::wait::byte;
-use irq_transfer::wait::short;
+use interrupt::loads::setup_at;
+use interrupt::stands::stand_flags;
+use interrupt::stands::stand_mis;
+use interrupt::stands::stand_nak;
+use interrupt::stands::stand_released;
+use irq::nak;
+use irq::nak::NakNext;
+use irq::wait::byte;
+use irq::wait::short;
 use machine::loads::site_byte;
 use machine::saved::tag;
 use machine::stops::slots_fit;

@@ -7,7 +7,7 @@ use native.Mathlib.Omega.{arith}
 use borrow.Author.Tests.{ltb-false, le-ltb, eq-eqb, ne-eqb}
 use lib.Dec.{eqb, ltb}
 use lib.ListN.{length}
-use Rattle.marks.specs.Copies.{over, bytesAt}
+use Rattle.ring.specs.Copies.{over, bytesAt}
 use Rattle.regs.specs.declared.Reg.the-variants.{DevAd, EpTxCtrl}
 use Rattle.regs.specs.declared.Access.the-variants.{Read, Write}
 use Rattle.regs.specs.declared.Dir.the-variants.{Out, In}
@@ -26,9 +26,9 @@ use Rattle.model.specs.Control.{pollDataOut, aborted-else, take-out, take-closi
 use Rattle.model.specs.Control.{no-control, unlessSetup, statusIn, beginReject, beginDataIn}
 use Rattle.model_ops.specs.Rings.{St, filledEp0}
 use Rattle.model_ops.specs.Concrete.{go}
-use Rattle.endpoint_common.specs.Records.{modifiedOn}
-use Rattle.endpoint_common.specs.Answers.{finished}
-use Rattle.endpoint_common.specs.Brought.{Brought, untouched, neither, brings}
+use Rattle.endpoint.specs.Records.{modifiedOn}
+use Rattle.endpoint.specs.Answers.{finished}
+use Rattle.endpoint.specs.Brought.{Brought, untouched, neither, brings}
 use Rattle.control.specs.declared.Point.the-variants as point
 use Rattle.control.specs.declared.Begun.the-variants as begun
 use Rattle.control.specs.declared.Polled.{Polled}

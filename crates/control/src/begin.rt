@@ -11,11 +11,11 @@ use crate::checks::is_started;
 use crate::checks::set_address;
 use crate::checks::set_data_in;
 use crate::checks::set_request;
-use endpoint_common::length16;
-use endpoint_common::set_armed;
-use endpoint_common::unready;
+use endpoint::common::length16;
+use endpoint::common::set_armed;
+use endpoint::common::unready;
+use model_ops::points::flag_of;
 use model_ops::rings::fill0;
-use model_points::flag_of;
 use regs::Access;
 use regs::Dir;
 use regs::Reg;
@@ -35,7 +35,7 @@ ghost use Rattle.state.specs.State.{view, saved};
 ghost use Rattle.model.specs.Answers.{resultless};
 ghost use Rattle.model.specs.Control.{statusIn, beginSetup, beginDataOut, beginDataIn, beginAccept, beginAcceptSetAddress, beginReject};
 ghost use Rattle.model_ops.specs.Concrete.{go};
-ghost use Rattle.endpoint_common.specs.Answers.{finished};
+ghost use Rattle.endpoint.specs.Answers.{finished};
 ghost use Rattle.control.specs.Points.{acked, loading, begunAs, LinkedBegun};
 
 // `setup`, control.rs 70-80.

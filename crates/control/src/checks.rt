@@ -14,7 +14,7 @@ ghost use Rattle.state.specs.Driver.{withControl};
 ghost use Rattle.state.specs.State.{view, saved};
 ghost use Rattle.model.specs.Statics.{withReady, withLen, withArmed};
 ghost use Rattle.model.specs.Control.{requestOf, dataInOf, addressOf};
-ghost use Rattle.endpoint_common.specs.Records.{modifiedOn};
+ghost use Rattle.endpoint.specs.Records.{modifiedOn};
 ghost use Rattle.control.specs.Rows.{beginRow, pollRow};
 
 pub const SETUP: u8 = 1;

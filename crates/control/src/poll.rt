@@ -8,8 +8,8 @@ use crate::checks::SETUP;
 use crate::checks::poll_row;
 use crate::checks::set_data_in;
 use crate::checks::set_request;
-use endpoint_common::fetch;
-use endpoint_common::unready;
+use endpoint::common::fetch;
+use endpoint::common::unready;
 use model_ops::rings::is_on;
 use regs::Access;
 use regs::Dir;
@@ -36,7 +36,7 @@ ghost use Rattle.model.specs.Control.{pollSetup, pollDataOut, pollDataIn, pollA
 ghost use Rattle.model.specs.Script.{ret};
 ghost use Rattle.model.specs.Answers.{NotYet};
 ghost use Rattle.model_ops.specs.Concrete.{go};
-ghost use Rattle.endpoint_common.specs.Answers.{lentAfter};
+ghost use Rattle.endpoint.specs.Answers.{lentAfter};
 ghost use Rattle.control.specs.Points.{polledAs, LinkedPolled};
 ghost use Rattle.control.specs.Rows.{Polls};
 

@@ -1,1 +1,7 @@
 pub mod Points
+pub mod Announce
+pub mod AnnounceLaws
+pub mod Codec
+pub mod CodecLaws
+pub mod Each
+pub mod EachLaws

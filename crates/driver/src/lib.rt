@@ -8,13 +8,18 @@ use state::State;
 use state::load_globals;
 use state::store_globals;
 use state::store_paced;
+
+pub mod announce; // announce.rt: the endpoints of a list announced, one after the other
+pub mod codec; // codec.rt: their points in the saved record
+pub mod alloc_all; // alloc_all.rt: a list's endpoints allocated and announced
+
 ghost use mathlib.Core.Path.{_≡_};
 ghost use mathlib.Core.List.{List};
 ghost use Prim.Native.Nat.{ℕ, _<_};
 ghost use Rattle.state.specs.State.{view, saved};
 ghost use Rattle.model.specs.Tree.{ends};
 ghost use Rattle.model.specs.Script.{run};
-ghost use Rattle.model_points.specs.Means.{Means, MeansAt};
+ghost use Rattle.model_ops.specs.Means.{Means, MeansAt};
 ghost use Rattle.model_ops.specs.Concrete.{concrete, go};
 ghost use Rattle.driver.specs.Points.{startUp, newEndpoint, startEp0, microframe, setPaced, meaning, Linked};
 

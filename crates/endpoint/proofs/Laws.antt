@@ -9,7 +9,7 @@ use borrow.Author.Tests.{ltb-false, eq-eqb, ne-eqb}
 use lib.Dec.{eqb, ltb}
 use lib.ListN.{length, take, drop, length-take}
 use lib.Seq.{take-all, take-take}
-use Rattle.marks.specs.Copies.{over, bytesAt}
+use Rattle.ring.specs.Copies.{over, bytesAt}
 use Rattle.regs.specs.declared.Reg.the-variants.{EpTLen, EpRxCtrl}
 use Rattle.regs.specs.declared.Access.the-variants.{Read, Write}
 use Rattle.regs.specs.declared.Dir.{Dir}
@@ -29,11 +29,11 @@ use Rattle.model.specs.Endpoint.{take-ready, beginWrite, put-iso, sent-ready}
 use Rattle.model_ops.specs.Records.{plainOf}
 use Rattle.model_ops.specs.Rings.{St, waitingOn, roomOn, oldestAt, nextLen, oldestOn, takeOn, enqueueOn, filledOn}
 use Rattle.model_ops.specs.Concrete.{go}
-use Rattle.endpoint_common.specs.Records.{modifiedOn}
-use Rattle.endpoint_common.specs.Answers.{lentAfter}
-use Rattle.endpoint_common.specs.Brought.{Brought, lends, untouched, neither, brings}
-use Rattle.endpoint_rows.specs.Rows.{refusalOf}
-use Rattle.endpoint_rows.specs.RowsLaws.{started, allocated, by-row}
+use Rattle.endpoint.specs.Records.{modifiedOn}
+use Rattle.endpoint.specs.Answers.{lentAfter}
+use Rattle.endpoint.specs.Brought.{Brought, lends, untouched, neither, brings}
+use Rattle.endpoint.specs.Rows.{refusalOf}
+use Rattle.endpoint.specs.RowsLaws.{started, allocated, by-row}
 use Rattle.endpoint.specs.declared.Point.the-variants as point
 use Rattle.endpoint.specs.declared.Begun.the-variants as begun-as
 use Rattle.endpoint.specs.declared.Polled.{Polled}

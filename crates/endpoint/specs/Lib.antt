@@ -1,3 +1,11 @@
 pub mod Points
 pub mod Codec
 pub mod CodecLaws
+pub mod Records
+pub mod RecordsLaws
+pub mod Fetch
+pub mod Answers
+pub mod Front
+pub mod Brought
+pub mod Rows
+pub mod RowsLaws

@@ -19,8 +19,8 @@ use Rattle.model.specs.Answers.{Answer, Refused, End, NotYet, Done}
 use Rattle.model.specs.Endpoint.{pollRead}
 use Rattle.model_ops.specs.Rings.{St}
 use Rattle.model_ops.specs.Concrete.{concrete, go}
-use Rattle.endpoint_common.specs.Answers.{finished, front}
-use Rattle.model_points.specs.Results.{resultless}
+use Rattle.endpoint.specs.Answers.{finished, front}
+use Rattle.model_ops.specs.Results.{resultless}
 use Rattle.endpoint.specs.declared.Point.{Point}
 use Rattle.endpoint.specs.declared.Point.the-variants as point
 use Rattle.endpoint.specs.declared.Begun.{Begun}

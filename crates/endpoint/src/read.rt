@@ -6,11 +6,11 @@ use crate::checks::end_request;
 use crate::checks::is_enabled;
 use crate::checks::set_request;
 use crate::checks::wait_on;
-use endpoint_common::fetch;
-use endpoint_common::set_armed;
-use endpoint_common::unready;
-use endpoint_rows::low;
-use endpoint_rows::refusal;
+use crate::common::fetch;
+use crate::common::set_armed;
+use crate::common::unready;
+use crate::rows::low;
+use crate::rows::refusal;
 use model_ops::rings::is_on;
 use model_ops::rings::is_on_word;
 use model_ops::rings::next_len;
@@ -36,8 +36,8 @@ ghost use Rattle.state.specs.State.{view, saved};
 ghost use Rattle.model.specs.Endpoint.{beginRead, tooLong, take-iso, take-ready};
 ghost use Rattle.model_ops.specs.Records.{plainOf};
 ghost use Rattle.model_ops.specs.Concrete.{go};
-ghost use Rattle.endpoint_common.specs.Answers.{lentAfter};
-ghost use Rattle.endpoint_rows.specs.Rows.{refusalOf};
+ghost use Rattle.endpoint.specs.Answers.{lentAfter};
+ghost use Rattle.endpoint.specs.Rows.{refusalOf};
 ghost use Rattle.endpoint.specs.Points.{begunAs, polledAs, readOn, LinkedBegun};
 
 // 84-123, past rows 4 and 5: an isochronous OUT needs no arming, nor does one with a packet.

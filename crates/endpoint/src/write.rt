@@ -6,10 +6,10 @@ use crate::checks::end_request;
 use crate::checks::is_enabled;
 use crate::checks::set_request;
 use crate::checks::wait_on;
-use endpoint_common::length16;
-use endpoint_common::unready;
-use endpoint_rows::low;
-use endpoint_rows::refusal;
+use crate::common::length16;
+use crate::common::unready;
+use crate::rows::low;
+use crate::rows::refusal;
 use model_ops::rings::fill;
 use model_ops::rings::is_on;
 use model_ops::rings::is_on_word;
@@ -35,8 +35,8 @@ ghost use Rattle.model.specs.Statics.{withReady, withArmed};
 ghost use Rattle.model.specs.Endpoint.{beginWrite, pollWrite, put-iso, sent-ready};
 ghost use Rattle.model_ops.specs.Records.{plainOf};
 ghost use Rattle.model_ops.specs.Concrete.{go};
-ghost use Rattle.endpoint_common.specs.Records.{modifiedOn};
-ghost use Rattle.endpoint_rows.specs.Rows.{refusalOf};
+ghost use Rattle.endpoint.specs.Records.{modifiedOn};
+ghost use Rattle.endpoint.specs.Rows.{refusalOf};
 ghost use Rattle.endpoint.specs.Points.{begunAs, polledAs, LinkedBegun};
 
 // A packet is loaded.

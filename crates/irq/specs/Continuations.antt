@@ -22,7 +22,7 @@ use Rattle.model.specs.IsoIn.{onSof}
 use Rattle.model.specs.IsoOut.{isoOutCheck}
 use Rattle.model.specs.Handler.{nakNonIso, settle, isoFor, received, sent, dispatch, ep0MovedOn, framed, onTransfer, takeSetup, onSetup}
 use Rattle.model.specs.Handler.{onInterrupt}
-use Rattle.iso_in.specs.Late.{lateAll}
+use Rattle.isochronous.specs.Late.{lateAll}
 use Rattle.irq.specs.declared.Entry.{Entry}
 use Rattle.model_ops.specs.Rings.{St}
 use Rattle.model_ops.specs.Concrete.{concrete}

@@ -25,31 +25,31 @@ use Rattle.model.specs.Statics.{withReady, withArmed, withSetup, withEntered}
 use Rattle.model.specs.IsoIn.{firstInFrame, isoInComplete}
 use Rattle.model.specs.Handler as script
 use Rattle.model.specs.Handler.{nakNonIso, framed, isoInArm, onTransfer, onInterrupt, stampedInterrupt}
-use Rattle.iso_in.specs.Frames.{framedOn, isFirst}
-use Rattle.irq_transfer.specs.declared.nak.Nak as nak-point
-use Rattle.irq_transfer.specs.declared.nak.NakNext as nak-next
-use Rattle.irq_transfer.specs.declared.nak.NakNext.the-variants as nak-to
-use Rattle.irq_transfer.specs.declared.settle.Settle as settle-point
-use Rattle.irq_transfer.specs.declared.settle.SettleNext as settle-next
-use Rattle.irq_transfer.specs.declared.settle.SettleNext.the-variants as settle-to
-use Rattle.irq_transfer.specs.declared.toggled.Toggled as toggled-point
-use Rattle.irq_transfer.specs.declared.toggled.ToggledNext as toggled-next
-use Rattle.irq_transfer.specs.declared.toggled.ToggledNext.the-variants as toggled-to
-use Rattle.iso_in.specs.declared.sof.Sof as sof-point
-use Rattle.iso_in.specs.declared.sof.SofNext as sof-next
-use Rattle.iso_in.specs.declared.sof.SofNext.the-variants as sof-to
-use Rattle.iso_in.specs.declared.complete.Complete as complete-point
-use Rattle.iso_in.specs.declared.complete.CompleteNext as complete-next
-use Rattle.iso_in.specs.declared.complete.CompleteNext.the-variants as complete-to
-use Rattle.iso_out.specs.declared.Check as check-point
-use Rattle.iso_out.specs.declared.CheckNext as check-next
-use Rattle.iso_out.specs.declared.CheckNext.the-variants as check-to
-use Rattle.irq_transfer.specs.Nak as nak
-use Rattle.irq_transfer.specs.Settle as settle
-use Rattle.irq_transfer.specs.Toggled as toggled
-use Rattle.iso_in.specs.Sof as sof
-use Rattle.iso_in.specs.Complete as complete
-use Rattle.iso_out.specs.Points as check
+use Rattle.isochronous.specs.Frames.{framedOn, isFirst}
+use Rattle.irq.specs.declared.nak.Nak as nak-point
+use Rattle.irq.specs.declared.nak.NakNext as nak-next
+use Rattle.irq.specs.declared.nak.NakNext.the-variants as nak-to
+use Rattle.irq.specs.declared.settle.Settle as settle-point
+use Rattle.irq.specs.declared.settle.SettleNext as settle-next
+use Rattle.irq.specs.declared.settle.SettleNext.the-variants as settle-to
+use Rattle.irq.specs.declared.toggled.Toggled as toggled-point
+use Rattle.irq.specs.declared.toggled.ToggledNext as toggled-next
+use Rattle.irq.specs.declared.toggled.ToggledNext.the-variants as toggled-to
+use Rattle.isochronous.specs.declared.sof.Sof as sof-point
+use Rattle.isochronous.specs.declared.sof.SofNext as sof-next
+use Rattle.isochronous.specs.declared.sof.SofNext.the-variants as sof-to
+use Rattle.isochronous.specs.declared.complete.Complete as complete-point
+use Rattle.isochronous.specs.declared.complete.CompleteNext as complete-next
+use Rattle.isochronous.specs.declared.complete.CompleteNext.the-variants as complete-to
+use Rattle.isochronous.specs.declared.out.Check as check-point
+use Rattle.isochronous.specs.declared.out.CheckNext as check-next
+use Rattle.isochronous.specs.declared.out.CheckNext.the-variants as check-to
+use Rattle.irq.specs.Nak as nak
+use Rattle.irq.specs.Settle as settle
+use Rattle.irq.specs.Toggled as toggled
+use Rattle.isochronous.specs.Sof as sof
+use Rattle.isochronous.specs.Complete as complete
+use Rattle.isochronous.specs.Points as check
 use Rattle.model_ops.specs.Records.{plainOf, merged, mergedGlobals}
 use Rattle.model_ops.specs.Rings.{St, wordAt}
 use Rattle.model_ops.specs.Concrete.{concrete}

@@ -13,13 +13,13 @@ use Rattle.model.specs.Script.{Script, run, _>>_}
 use Rattle.model.specs.Statics.{wakeBus}
 use Rattle.model.specs.Machine.{Awaits, nothing, reading, awaited}
 use Rattle.model.specs.Handler.{stampedInterrupt}
-use Rattle.irq_transfer.specs.Nak as nak
-use Rattle.irq_transfer.specs.Settle as settle
-use Rattle.irq_transfer.specs.Toggled as toggled
-use Rattle.iso_in.specs.Complete as complete
-use Rattle.iso_in.specs.Sof as sof
-use Rattle.iso_in.specs.Late as late
-use Rattle.iso_out.specs.Points as check
+use Rattle.irq.specs.Nak as nak
+use Rattle.irq.specs.Settle as settle
+use Rattle.irq.specs.Toggled as toggled
+use Rattle.isochronous.specs.Complete as complete
+use Rattle.isochronous.specs.Sof as sof
+use Rattle.isochronous.specs.Late as late
+use Rattle.isochronous.specs.Points as check
 use Rattle.model_ops.specs.Rings.{St}
 use Rattle.model_ops.specs.Concrete.{concrete}
 use Rattle.irq.specs.declared.Point.{Point}

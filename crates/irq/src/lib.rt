@@ -1,15 +1,22 @@
 // The interrupt (`on_interrupt`, mod.rs 634-852) one access at a time. Every function is total: any number is safe.
-use irq_transfer::nak::Nak;
-use irq_transfer::settle::Settle;
-use irq_transfer::toggled::Toggled;
-use iso_in::complete::Complete;
-use iso_in::late::Late;
-use iso_in::sof::Sof;
-use iso_out::Check;
+use crate::nak::Nak;
+use crate::settle::Settle;
+use crate::toggled::Toggled;
+use isochronous::complete::Complete;
+use isochronous::late::Late;
+use isochronous::out::Check;
+use isochronous::sof::Sof;
 use model::Transfer;
 use regs::Access;
 use regs::Dir;
 use regs::Reg;
+
+pub mod nak; // nak.rt: `nak_non_iso`
+pub mod settle; // settle.rt: a transfer whose transaction was on the bus
+pub mod toggled; // toggled.rt: `toggled`
+pub mod wait; // wait.rt: the wait for sie_free, readings as numbers
+pub mod codec; // codec.rt: the interrupt's points in the saved record
+
 ghost use mathlib.Core.Path.{_≡_};
 ghost use mathlib.Core.List.{List};
 ghost use Prim.Native.Nat.{ℕ};

@@ -7,7 +7,7 @@ use borrow.Author.Tests.{eq-eqb, ne-eqb}
 use Rattle.state.specs.declared.Saved.{Saved}
 use Rattle.state.specs.Driver.{Driver, noneGathered}
 use Rattle.state.specs.State.{view, saved}
-use Rattle.endpoint_common.specs.Answers.{lentAfter}
+use Rattle.endpoint.specs.Answers.{lentAfter}
 use Rattle.model.specs.Tree.{Out, bindOut}
 use Rattle.model.specs.Script.{Script, run}
 use Rattle.model.specs.Answers.{Answer, operation, staged}

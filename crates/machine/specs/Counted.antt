@@ -10,8 +10,8 @@ use Rattle.state.specs.Wakes.{listed}
 use Rattle.state.specs.Laws.{view-codes}
 use Rattle.model.specs.Answers.{Answer, Refused, End, NotYet, Done, Shown}
 use Rattle.model.specs.Machine.{Ans, ended, handed, told}
-use Rattle.endpoint_common.specs.Answers.{front}
-use Rattle.endpoint_common.specs.Front.{front-length}
+use Rattle.endpoint.specs.Answers.{front}
+use Rattle.endpoint.specs.Front.{front-length}
 use Rattle.machine.specs.declared.Step.the-variants as step
 use Rattle.machine.specs.Suspended.{answerOf}
 

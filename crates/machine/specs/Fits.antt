@@ -7,7 +7,7 @@ use Rattle.model.specs.Calls.{calls}
 use Rattle.model.specs.Machine.{Buf, Awaits, nothing, reading, awaited, over, Way, busy, ended, continued}
 use Rattle.model.specs.Tree.{Out}
 use Rattle.model.specs.Answers.{Answer, Refused}
-use Rattle.model_points.specs.Numbers.{fits}
+use Rattle.model_ops.specs.Numbers.{fits}
 use Rattle.model_ops.specs.Rings.{St}
 use Rattle.state.specs.Driver.{Driver}
 use Rattle.driver.specs.declared.Point.{Point}
@@ -28,10 +28,10 @@ use Rattle.endpoint.specs.declared.Point as endpointPoint
 use Rattle.endpoint.specs.declared.Begun as endpointBegun
 use Rattle.endpoint.specs.declared.Begun.the-variants as begun-of-endpoint
 use Rattle.endpoint.specs.Points as endpoint
-use Rattle.iso_in.specs.declared.advance.Advance.{Advance}
-use Rattle.iso_in.specs.declared.advance.AdvanceNext.{AdvanceNext}
-use Rattle.iso_in.specs.declared.advance.AdvanceNext.the-variants as next-of-advance
-use Rattle.iso_in.specs.Advance as advance
+use Rattle.isochronous.specs.declared.advance.Advance.{Advance}
+use Rattle.isochronous.specs.declared.advance.AdvanceNext.{AdvanceNext}
+use Rattle.isochronous.specs.declared.advance.AdvanceNext.the-variants as next-of-advance
+use Rattle.isochronous.specs.Advance as advance
 use Rattle.machine.specs.declared.Suspended.{Suspended}
 use Rattle.machine.specs.Suspended.{wayOf, driverOf, haltsAs, resumed}
 use Rattle.machine.specs.Goes.{Called}

@@ -9,21 +9,21 @@ use Rattle.model.specs.Script.{run}
 use Rattle.model.specs.Tree.{bindOut}
 use Rattle.model_ops.specs.Concrete.{concrete}
 use Rattle.state.specs.Driver.{Driver}
-use Rattle.irq_transfer.specs.declared.nak.Nak.{Nak}
-use Rattle.irq_transfer.specs.declared.nak.Nak.the-variants as point-of-nak
-use Rattle.irq_transfer.specs.Nak as nak
-use Rattle.irq_transfer.specs.declared.settle.Settle.{Settle}
-use Rattle.irq_transfer.specs.declared.settle.Settle.the-variants as point-of-settle
-use Rattle.irq_transfer.specs.Settle as settle
-use Rattle.irq_transfer.specs.declared.toggled.Toggled.{Toggled}
-use Rattle.irq_transfer.specs.declared.toggled.Toggled.the-variants as point-of-toggled
-use Rattle.irq_transfer.specs.Toggled as toggled
-use Rattle.iso_in.specs.declared.sof.Sof.{Sof}
-use Rattle.iso_in.specs.declared.sof.Sof.the-variants as point-of-sof
-use Rattle.iso_in.specs.Sof as sof
-use Rattle.iso_out.specs.declared.Check.{Check}
-use Rattle.iso_out.specs.declared.Check.the-variants as point-of-check
-use Rattle.iso_out.specs.Points as check
+use Rattle.irq.specs.declared.nak.Nak.{Nak}
+use Rattle.irq.specs.declared.nak.Nak.the-variants as point-of-nak
+use Rattle.irq.specs.Nak as nak
+use Rattle.irq.specs.declared.settle.Settle.{Settle}
+use Rattle.irq.specs.declared.settle.Settle.the-variants as point-of-settle
+use Rattle.irq.specs.Settle as settle
+use Rattle.irq.specs.declared.toggled.Toggled.{Toggled}
+use Rattle.irq.specs.declared.toggled.Toggled.the-variants as point-of-toggled
+use Rattle.irq.specs.Toggled as toggled
+use Rattle.isochronous.specs.declared.sof.Sof.{Sof}
+use Rattle.isochronous.specs.declared.sof.Sof.the-variants as point-of-sof
+use Rattle.isochronous.specs.Sof as sof
+use Rattle.isochronous.specs.declared.out.Check.{Check}
+use Rattle.isochronous.specs.declared.out.Check.the-variants as point-of-check
+use Rattle.isochronous.specs.Points as check
 use Rattle.irq.specs.declared.Point.{Point}
 use Rattle.irq.specs.declared.Point.the-variants as point
 use Rattle.irq.specs.declared.Next.{Next}

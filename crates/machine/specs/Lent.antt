@@ -4,7 +4,7 @@ use mathlib.Core.List.{List}
 use mathlib.Core.Path.{_≡_, refl, ap, sym, _∙_}
 use Prim.Native.Nat.{ℕ}
 use Rattle.state.specs.Driver.{Driver}
-use Rattle.endpoint_common.specs.Answers.{lentAfter}
+use Rattle.endpoint.specs.Answers.{lentAfter}
 use Rattle.model.specs.Script.{run}
 use Rattle.model.specs.Answers.{Answer, Refused}
 use Rattle.model.specs.Calls.{Slotted, slotted, slottedCode}

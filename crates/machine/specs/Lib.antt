@@ -16,3 +16,16 @@ pub mod Keeps
 pub mod KeepsLaws
 pub mod Stands
 pub mod StandsLaws
+pub mod Family
+pub mod Loads
+pub mod PointsStandsLaws
+pub mod AdvanceLaws
+pub mod BusLaws
+pub mod ControlLaws
+pub mod DriverLaws
+pub mod EndpointLaws
+pub mod Going
+pub mod Word
+pub mod Parts
+pub mod WordLaws
+pub mod Asked

@@ -5,7 +5,7 @@ use mathlib.Core.Path.{_≡_}
 use Prim.Native.Nat.{ℕ, _*_}
 use lib.Dec.{eqb}
 use lib.ListN.{length}
-use Rattle.marks.specs.Copies.{bytesAt}
+use Rattle.ring.specs.Copies.{bytesAt}
 use Rattle.regs.specs.declared.Access.{Access}
 use Rattle.state.specs.declared.Saved.{Saved}
 use Rattle.state.specs.Driver.{Driver}
@@ -22,18 +22,18 @@ use Rattle.model.specs.Machine.{Buf, Way, idle, busy, Machine, Ans, ended, hand
 use Rattle.model_ops.specs.Rings.{St}
 use Rattle.model_ops.specs.Concrete.{concrete}
 use Rattle.driver.specs.Points as driver
-use Rattle.driver_codec.specs.Codec as codec
+use Rattle.driver.specs.Codec as codec
 use Rattle.bus.specs.Points as bus
 use Rattle.bus.specs.Codec as busCodec
-use Rattle.endpoint_common.specs.Answers.{front, broughtBy}
+use Rattle.endpoint.specs.Answers.{front, broughtBy}
 use Rattle.control.specs.Points as control
 use Rattle.control.specs.Codec as controlCodec
 use Rattle.endpoint.specs.Points as endpoint
 use Rattle.endpoint.specs.Codec as endpointCodec
-use Rattle.iso_in.specs.Advance as advance
-use Rattle.iso_in.specs.Codec as advanceCodec
+use Rattle.isochronous.specs.Advance as advance
+use Rattle.isochronous.specs.Codec as advanceCodec
 use Rattle.irq.specs.Points as handler
-use Rattle.irq_codec.specs.Codec as handlerCodec
+use Rattle.irq.specs.Codec as handlerCodec
 use Rattle.machine.specs.declared.Suspended.{Suspended}
 use Rattle.machine.specs.declared.Suspended.the-variants as under
 use Rattle.machine.specs.declared.Step.{Step}

@@ -15,24 +15,24 @@ use Rattle.model.specs.Machine as machine
 use Rattle.model.specs.Machine.{Buf, Way, Machine, Ans, Call}
 use Rattle.model_ops.specs.Rings.{St}
 use Rattle.driver.specs.Points as driver
-use Rattle.driver_codec.specs.Codec as codec
-use Rattle.driver_codec.specs.CodecLaws as codec-laws
+use Rattle.driver.specs.Codec as codec
+use Rattle.driver.specs.CodecLaws as codec-laws
 use Rattle.bus.specs.Points as bus
 use Rattle.bus.specs.Codec as busCodec
 use Rattle.bus.specs.CodecLaws as busCodec-laws
-use Rattle.endpoint_common.specs.Answers.{lentAfter}
+use Rattle.endpoint.specs.Answers.{lentAfter}
 use Rattle.control.specs.Points as control
 use Rattle.control.specs.Codec as controlCodec
 use Rattle.control.specs.CodecLaws as controlCodec-laws
 use Rattle.endpoint.specs.Points as endpoint
 use Rattle.endpoint.specs.Codec as endpointCodec
 use Rattle.endpoint.specs.CodecLaws as endpointCodec-laws
-use Rattle.iso_in.specs.Advance as advance
-use Rattle.iso_in.specs.Codec as advanceCodec
-use Rattle.iso_in.specs.CodecLaws as advanceCodec-laws
+use Rattle.isochronous.specs.Advance as advance
+use Rattle.isochronous.specs.Codec as advanceCodec
+use Rattle.isochronous.specs.CodecLaws as advanceCodec-laws
 use Rattle.irq.specs.Points as handler
-use Rattle.irq_codec.specs.Codec as handlerCodec
-use Rattle.irq_codec.specs.CodecLaws as handlerCodec-laws
+use Rattle.irq.specs.Codec as handlerCodec
+use Rattle.irq.specs.CodecLaws as handlerCodec-laws
 use Rattle.machine.specs.declared.Suspended.{Suspended}
 use Rattle.machine.specs.declared.Suspended.the-variants as under
 use Rattle.machine.specs.declared.Step.{Step}

@@ -7,13 +7,13 @@ use lib.Dec.{eqb, ltb, eqb·suc-zero}
 use borrow.Author.Tests.{ne-eqb, lt-ltb}
 use Rattle.state.specs.declared.Saved.{Saved}
 use Rattle.state.specs.Fresh.{nothing}
-use Rattle.driver_codec.specs.Codec as driverCodec
+use Rattle.driver.specs.Codec as driverCodec
 use Rattle.bus.specs.Codec as busCodec
 use Rattle.control.specs.Codec as controlCodec
 use Rattle.endpoint.specs.Codec as endpointCodec
-use Rattle.iso_in.specs.Codec as advanceCodec
+use Rattle.isochronous.specs.Codec as advanceCodec
 use Rattle.irq.specs.declared.Point as handlerPoint
-use Rattle.irq_codec.specs.Codec as handlerCodec
+use Rattle.irq.specs.Codec as handlerCodec
 use Rattle.machine.specs.declared.Suspended.{Suspended}
 use Rattle.machine.specs.declared.Suspended.the-variants as under
 use Rattle.machine.specs.Suspended.{withTag, encode, decode}

@@ -1,7 +1,7 @@
 use crate::Step;
 use crate::Suspended;
 use crate::woken::how_many;
-use iso_in::advance::AdvanceNext;
+use isochronous::advance::AdvanceNext;
 use regs::Access;
 use state::Saved;
 use state::State;
@@ -19,7 +19,7 @@ ghost use Rattle.driver.specs.Points as driver;
 ghost use Rattle.bus.specs.Points as bus;
 ghost use Rattle.control.specs.Points as control;
 ghost use Rattle.endpoint.specs.Points as endpoint;
-ghost use Rattle.iso_in.specs.Advance as advance;
+ghost use Rattle.isochronous.specs.Advance as advance;
 ghost use Rattle.irq.specs.Points as handler;
 ghost use Rattle.machine.specs.Suspended.{decode, finish, machineAt, machineOf, haltsAs, halts};
 ghost use Rattle.machine.specs.Suspended.{answerOf, SavedByAnswer, Stored, KeepsSaved};
@@ -53,7 +53,7 @@ pub fn suspend_or_end(s: &mut State, n: driver::Next) -> Step
     ensures { λ r. ⌜ Stored r (now (s .exit)) ⌝ }
 {
     match n {
-        driver::Next::Asks(q, p) => asks(s, q, driver_codec::encode(p), 1),
+        driver::Next::Asks(q, p) => asks(s, q, driver::codec::encode(p), 1),
         driver::Next::Ends(k) => ended(s, k),
     }
 }
@@ -108,7 +108,7 @@ pub fn suspend_or_end_advance(s: &mut State, n: AdvanceNext) -> Step
     ensures { λ r. ⌜ Stored r (now (s .exit)) ⌝ }
 {
     match n {
-        AdvanceNext::Asks(q, p) => asks(s, q, iso_in::codec::encode(p), 5),
+        AdvanceNext::Asks(q, p) => asks(s, q, isochronous::codec::encode(p), 5),
         AdvanceNext::Ends(k) => ended(s, k),
     }
 }
@@ -120,7 +120,7 @@ pub fn suspend_or_end_interrupt(s: &mut State, n: irq::Next) -> Step
     ensures { λ r. ⌜ Stored r (now (s .exit)) ⌝ }
 {
     match n {
-        irq::Next::Asks(q, p) => asks(s, q, irq_codec::encode(p), 6),
+        irq::Next::Asks(q, p) => asks(s, q, irq::codec::encode(p), 6),
         irq::Next::Ends(k) => ended(s, k),
     }
 }

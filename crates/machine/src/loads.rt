@@ -1,7 +1,7 @@
 // What is saved, each number loaded alone from the record's bytes: what a point has (crates `irq_points`, `machine_points`). Any bytes are a point.
-use le_bytes::get8;
-use le_bytes::get16;
-use le_bytes::get32;
+use bits::le_bytes::get8;
+use bits::le_bytes::get16;
+use bits::le_bytes::get32;
 use state::State;
 ghost use mathlib.Core.Path.{_≡_};
 ghost use Rattle.state.specs.State.{saved};

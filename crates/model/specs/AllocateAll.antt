@@ -7,11 +7,11 @@ use lib.ListN.{length}
 use Rattle.regs.specs.declared.Dir.{Dir}
 use Rattle.regs.specs.declared.Dir.the-variants.{Out, In}
 use Rattle.alloc.specs.Alloc.{isIso, slotsOf}
-use Rattle.req_descriptor.specs.declared.Endpoint.{Endpoint}
-use Rattle.req_descriptor.specs.declared.Answer as reading-answer
-use Rattle.req_descriptor.specs.declared.Answer.the-variants as reading
-use Rattle.req_descriptor.specs.Reading.{readingOf, listOf}
-use Rattle.req_preview.specs.Trial.{directionOf, trialOf}
+use Rattle.descriptor.specs.declared.Endpoint.{Endpoint}
+use Rattle.descriptor.specs.declared.Answer as reading-answer
+use Rattle.descriptor.specs.declared.Answer.the-variants as reading
+use Rattle.descriptor.specs.Reading.{readingOf, listOf}
+use Rattle.descriptor.specs.Trial.{directionOf, trialOf}
 use Rattle.model.specs.Cells.{ep-cell, allocator-cell}
 use Rattle.model.specs.Script.{Script, ret, done, test, _>>=_, _>>_, get, act, allocate}
 use Rattle.model.specs.Answers.{Answer, Refused, operation, staged, isAllocated}

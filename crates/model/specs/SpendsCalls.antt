@@ -12,11 +12,11 @@ use Rattle.alloc.specs.Alloc.{allocateOf, allocateEp0Of}
 use Rattle.frame.specs.Laws.{completions-le}
 use Rattle.state.specs.Wakes.{every-endpoint}
 use Rattle.state.specs.declared.Control.{Control}
-use Rattle.req_descriptor.specs.declared.Endpoint.{Endpoint}
-use Rattle.req_descriptor.specs.declared.Answer as reading-answer
-use Rattle.req_descriptor.specs.declared.Answer.the-variants as descriptor
-use Rattle.req_descriptor.specs.Reading.{readingOf, listOf}
-use Rattle.req_preview.specs.Trial.{directionOf}
+use Rattle.descriptor.specs.declared.Endpoint.{Endpoint}
+use Rattle.descriptor.specs.declared.Answer as reading-answer
+use Rattle.descriptor.specs.declared.Answer.the-variants as descriptor
+use Rattle.descriptor.specs.Reading.{readingOf, listOf}
+use Rattle.descriptor.specs.Trial.{directionOf}
 use Rattle.model.specs.Cells.{EpCore, globals-cell, control-cell, allocator-cell, ep-cell, request-cell, paced-cell}
 use Rattle.model.specs.Script.{Script, reset-ring, set-enabled, fill, fill0, open-oldest, close-oldest, take-oldest}
 use Rattle.model.specs.Script.{enqueue, allocate, allocate0}

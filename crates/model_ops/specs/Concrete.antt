@@ -6,7 +6,7 @@ use Rattle.regs.specs.declared.Dir.{Dir}
 use Rattle.regs.specs.declared.Dir.the-variants.{Out, In}
 use Rattle.state.specs.Driver.{Driver, epOn, withOn, pacedOn, withPacedOn, requestOn, withRequestOn, withGlobals, withControl, withWakes, noneGathered}
 use Rattle.state.specs.Wakes.{listed, all-woken}
-use Rattle.marks.specs.Copies.{bytesAt}
+use Rattle.ring.specs.Copies.{bytesAt}
 use Rattle.model.specs.Tree as tree
 use Rattle.model.specs.Cells.{Cell, Val, globals-cell, control-cell, allocator-cell, ep-cell, request-cell, paced-cell}
 use Rattle.model.specs.Script.{Script, Ops, run, Test, changed, waiting, room, opened, Look, marked, next-len}

@@ -11,11 +11,11 @@ use Rattle.state.specs.declared.EpState.{EpState}
 use Rattle.state.specs.Driver.{epOn}
 use Rattle.state.specs.Laws.{Sized, epOn-same}
 use Rattle.ring.specs.Out.{cappedAt, armedAt}
-use Rattle.marks.specs.Marks.{reach, armed}
-use Rattle.marks.specs.Copies.{bytesAt}
-use Rattle.marks.specs.Finds.{LastDiffers}
-use Rattle.marks.specs.Stored.{StoredAlone}
-use Rattle.marks.specs.StoredLaws.{true-length, true-bytes}
+use Rattle.ring.specs.Marks.{reach, armed}
+use Rattle.ring.specs.Copies.{bytesAt}
+use Rattle.ring.specs.Finds.{LastDiffers}
+use Rattle.ring.specs.Stored.{StoredAlone}
+use Rattle.ring.specs.StoredLaws.{true-length, true-bytes}
 use Rattle.model.specs.Script.{marked}
 use Rattle.model.specs.Statics.{isOn, isoOuts}
 use Rattle.model_ops.specs.Rings.{St, markedOn, admittedOn, armAt, armOn, arriveOn, renewedOn, slotStep}

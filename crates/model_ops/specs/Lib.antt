@@ -5,3 +5,7 @@ pub mod Stamps
 pub mod Concrete
 pub mod Late
 pub mod Values
+pub mod Numbers
+pub mod Results
+pub mod Means
+pub mod NumbersLaws

@@ -17,7 +17,7 @@ use Rattle.state.specs.Laws.{epOn-stored, withOn-twice}
 use Rattle.ring.specs.Slot.{slotOf, slotAddr}
 use Rattle.ring.specs.Out.{hasRoomOut, arrivedOf, armedAt}
 use Rattle.ring.specs.In.{hasRoomIn}
-use Rattle.marks.specs.Copies.{bytesAt}
+use Rattle.ring.specs.Copies.{bytesAt}
 use Rattle.model.specs.Statics.{isOn}
 use Rattle.model_ops.specs.Rings.{roomIn, oldestOn, oldestAt, nextLen, resetBelow}
 use Rattle.model_ops.specs.Rings.{writtenOn, recordedOn, admittedOn, armBy, armAt, arrivedAt}

@@ -16,8 +16,8 @@ use Rattle.state.specs.Driver.{Driver, epOn, withOn, lenOn, withLenOn, stampOn,
 use Rattle.ring.specs.Slot.{slotOf, slotAddr, hasWaiting, joinedOf}
 use Rattle.ring.specs.Out.{hasRoomOut, cappedAt, arrivedOf, armedAt, openedOf, closedOf}
 use Rattle.ring.specs.In.{hasRoomIn, completedOf, loadedOf, unloadedOf}
-use Rattle.marks.specs.Marks.{isMarked, markedLen, armed}
-use Rattle.marks.specs.Copies.{copied, bytesAt}
+use Rattle.ring.specs.Marks.{isMarked, markedLen, armed}
+use Rattle.ring.specs.Copies.{copied, bytesAt}
 use Rattle.model.specs.Script.{Burst, switch, bus-reset}
 use Rattle.model.specs.Statics.{isOn, isoOuts, withSetup}
 use Rattle.model_ops.specs.Records.{isoOut}

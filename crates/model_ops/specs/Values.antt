@@ -3,9 +3,9 @@ use mathlib.Core.Path.{_≡_, refl}
 use mathlib.Core.List.{[], _∷_, _++_}
 use Rattle.frame.specs.Usb20.{frameNumber, microframe, indexOf, frameOf}
 use Rattle.frame.specs.Advance.{isNone, distance, completions}
-use Rattle.marks.specs.Marks.{mark, markedLen}
-use Rattle.marks.specs.Copies.{copied}
-use Rattle.marks.specs.Table as marks
+use Rattle.ring.specs.Marks.{mark, markedLen}
+use Rattle.ring.specs.Copies.{copied}
+use Rattle.ring.specs.MarksTable as marks
 use Rattle.ring.specs.Slot.{slotOf, countOf}
 use Rattle.ring.specs.Out.{overrunOf}
 use Rattle.ring.specs.Table.{sample}

@@ -1,8 +1,5 @@
 // The rings' operations on the driver and the lent buffer: what is asked of a ring, IN rings, reads of OUT rings, buffers that are no
 // ring's. Every function is total: any number is safe.
-use marks::copy_in;
-use marks::is_marked;
-use marks::marked_len;
 use regs::Dir;
 use ring::closed;
 use ring::completed;
@@ -10,6 +7,9 @@ use ring::has_room_in;
 use ring::has_waiting;
 use ring::joined;
 use ring::loaded;
+use ring::marks::copy_in;
+use ring::marks::is_marked;
+use ring::marks::marked_len;
 use ring::slot_addr;
 use ring::slot_index;
 use ring::unloaded;

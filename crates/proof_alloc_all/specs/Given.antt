@@ -21,10 +21,10 @@ use Rattle.alloc.specs.declared.Answer.the-variants.{Given}
 use Rattle.alloc.specs.declared.Allocation.{Allocation}
 use Rattle.alloc.specs.Alloc.{if, isIso, isFree, dirBit, askedOf, numberOf, allocated}
 use Rattle.alloc.specs.Outcome.{Gives, Outcome, six, seven, eight, given, outcome}
-use Rattle.req_descriptor.specs.declared.Endpoint.{Endpoint}
-use Rattle.req_preview.specs.Trial.{directionOf, asked}
+use Rattle.descriptor.specs.declared.Endpoint.{Endpoint}
+use Rattle.descriptor.specs.Trial.{directionOf, asked}
 use Rattle.model_ops.specs.Records.{withIsoSets, isoAdded, withSets, recordGiven, setsGiven, givenTo, allocatedOn}
-use Rattle.alloc_all.specs.Each.{oneOn}
+use Rattle.driver.specs.Each.{oneOn}
 
 -- ---- what the allocator gave
 

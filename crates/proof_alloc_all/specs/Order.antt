@@ -5,13 +5,13 @@ use mathlib.Core.Path.{_≡_}
 use Prim.Native.Nat.{ℕ, _*_}
 use lib.ListN.{length}
 use Rattle.state.specs.Driver.{Driver, noneGathered}
-use Rattle.req_descriptor.specs.declared.Endpoint.{Endpoint}
-use Rattle.req_descriptor.specs.Reading.{listOf}
+use Rattle.descriptor.specs.declared.Endpoint.{Endpoint}
+use Rattle.descriptor.specs.Reading.{listOf}
 use Rattle.model.specs.Script.{run}
 use Rattle.model.specs.Answers.{End}
 use Rattle.model.specs.Calls.{AllocateAll, otherCode}
 use Rattle.model_ops.specs.Concrete.{concrete}
-use Rattle.alloc_all.specs.Each.{eachOn}
+use Rattle.driver.specs.Each.{eachOn}
 use Rattle.proof_alloc_all.specs.Hands.{handsOut, endsWith, oneByOne}
 use Rattle.proof_alloc_all.specs.Walk.{handed}
 

@@ -17,16 +17,16 @@ use Rattle.state.specs.Driver.{Driver, epOn, withOn, withWakes, withAllocator, 
 use Rattle.alloc.specs.declared.Answer.{Answer}
 use Rattle.alloc.specs.declared.Answer.the-variants.{Refused, Given}
 use Rattle.alloc.specs.Alloc.{isIso, slotsOf, allocateOf}
-use Rattle.req_descriptor.specs.declared.Endpoint.{Endpoint}
-use Rattle.req_descriptor.specs.declared.Answer as reading-answer
-use Rattle.req_descriptor.specs.declared.Answer.the-variants as reading
-use Rattle.req_descriptor.specs.Reading.{readingOf, listOf}
-use Rattle.req_descriptor.specs.Lists.{Good}
-use Rattle.req_descriptor.specs.ListsLaws.{few}
-use Rattle.req_descriptor.specs.ReadBackLaws.{accepted}
-use Rattle.req_preview.specs.declared.Trial.{Trial}
-use Rattle.req_preview.specs.Trial.{directionOf, asked, trialOf}
-use Rattle.req_preview.specs.OneByOne.{Run, all, stopped, goes, one-by-one}
+use Rattle.descriptor.specs.declared.Endpoint.{Endpoint}
+use Rattle.descriptor.specs.declared.Answer as reading-answer
+use Rattle.descriptor.specs.declared.Answer.the-variants as reading
+use Rattle.descriptor.specs.Reading.{readingOf, listOf}
+use Rattle.descriptor.specs.Lists.{Good}
+use Rattle.descriptor.specs.ListsLaws.{few}
+use Rattle.descriptor.specs.ReadBackLaws.{accepted}
+use Rattle.descriptor.specs.declared.preview.Trial.{Trial}
+use Rattle.descriptor.specs.Trial.{directionOf, asked, trialOf}
+use Rattle.descriptor.specs.OneByOne.{Run, all, stopped, goes, one-by-one}
 use Rattle.model.specs.Tree as tree
 use Rattle.model.specs.Tree.{ends, asks, bindOut}
 use Rattle.model.specs.Script.{run, dma}
@@ -39,8 +39,8 @@ use Rattle.model.specs.Calls.{AllocateAll, otherCode}
 use Rattle.model_ops.specs.Records.{recordGiven, setsGiven, givenTo, allocatedOn}
 use Rattle.model_ops.specs.Rings.{St, placeOn}
 use Rattle.model_ops.specs.Concrete.{concrete, go}
-use Rattle.alloc_all.specs.Each.{oneOn, eachOn, announceAll}
-use Rattle.alloc_all.specs.EachLaws.{each-run}
+use Rattle.driver.specs.Each.{oneOn, eachOn, announceAll}
+use Rattle.driver.specs.EachLaws.{each-run}
 use Rattle.proof_alloc_all.specs.Hands.{handsOut, endsWith, allocation, oneByOne, accesses}
 use Rattle.proof_alloc_all.specs.Given.{gives, given-number, one-allocator, one-stage}
 use Rattle.proof_alloc_all.specs.Settled.{Settled}

@@ -11,17 +11,17 @@ use Rattle.state.specs.Driver.{Driver, withAllocator, noneGathered}
 use Rattle.alloc.specs.declared.Answer.{Answer}
 use Rattle.alloc.specs.declared.Answer.the-variants.{Refused}
 use Rattle.alloc.specs.Alloc.{allocateOf}
-use Rattle.req_descriptor.specs.declared.Endpoint.{Endpoint}
-use Rattle.req_descriptor.specs.declared.Answer.the-variants as reading
-use Rattle.req_descriptor.specs.Reading.{readingOf, listOf}
-use Rattle.req_descriptor.specs.ListsLaws.{few}
-use Rattle.req_descriptor.specs.ReadBackLaws.{accepted}
-use Rattle.req_preview.specs.declared.Said.the-variants as said
-use Rattle.req_preview.specs.declared.Trial.{Trial}
-use Rattle.req_preview.specs.Trial.{directionOf, asked}
-use Rattle.req_preview.specs.Preview.{shown, shownOf, previewOf}
-use Rattle.req_preview.specs.Asked.{Fair, fair-asked}
-use Rattle.req_preview.specs.OneByOne.{Run, all, stopped, goes, buffers-used, padded, one-by-one}
+use Rattle.descriptor.specs.declared.Endpoint.{Endpoint}
+use Rattle.descriptor.specs.declared.Answer.the-variants as reading
+use Rattle.descriptor.specs.Reading.{readingOf, listOf}
+use Rattle.descriptor.specs.ListsLaws.{few}
+use Rattle.descriptor.specs.ReadBackLaws.{accepted}
+use Rattle.descriptor.specs.declared.preview.Said.the-variants as said
+use Rattle.descriptor.specs.declared.preview.Trial.{Trial}
+use Rattle.descriptor.specs.Trial.{directionOf, asked}
+use Rattle.descriptor.specs.Preview.{shown, shownOf, previewOf}
+use Rattle.descriptor.specs.Asked.{Fair, fair-asked}
+use Rattle.descriptor.specs.OneByOne.{Run, all, stopped, goes, buffers-used, padded, one-by-one}
 use Rattle.model.specs.Tree.{ends}
 use Rattle.model.specs.Script.{run}
 use Rattle.model.specs.Answers as answers
@@ -30,7 +30,7 @@ use Rattle.model.specs.Driver.{allocated-as}
 use Rattle.model_ops.specs.Records.{givenTo, allocatedOn}
 use Rattle.model_ops.specs.Rings.{St}
 use Rattle.model_ops.specs.Concrete.{concrete}
-use Rattle.alloc_all.specs.Each.{oneOn}
+use Rattle.driver.specs.Each.{oneOn}
 use Rattle.proof_alloc_all.specs.Hands.{endsWith, allocation}
 use Rattle.proof_alloc_all.specs.Given.{one-allocator, one-stage}
 use Rattle.proof_alloc_all.specs.Settled.{Settled}

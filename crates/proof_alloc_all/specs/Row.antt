@@ -1,5 +1,5 @@
 -- A list is refused with the row that its preview tells, and not where this tells none (requests Three and Four). Rows 3 and 4 come before, of both:
--- `previewed` (call_driver/specs/Listed.antt) and `staged`. Assumes nothing.
+-- `previewed` (calls/specs/Listed.antt) and `staged`. Assumes nothing.
 use mathlib.Core.Bool.{Bool, true, false, cond}
 use mathlib.Core.List.{List}
 use mathlib.Core.Path.{_≡_, refl, ap, sym, _∙_}
@@ -8,15 +8,15 @@ use lib.Dec.{eqb}
 use borrow.Author.Tests.{eq-eqb, eqb-true}
 use Rattle.state.specs.Wakes.{listed}
 use Rattle.state.specs.Driver.{Driver, noneGathered}
-use Rattle.req_descriptor.specs.declared.Endpoint.{Endpoint}
-use Rattle.req_descriptor.specs.declared.Answer as reading-answer
-use Rattle.req_descriptor.specs.declared.Answer.the-variants as reading
-use Rattle.req_descriptor.specs.Reading.{readingOf, listOf}
-use Rattle.req_preview.specs.declared.Said.{Said}
-use Rattle.req_preview.specs.declared.Said.the-variants as said
-use Rattle.req_preview.specs.declared.Shown.{Shown}
-use Rattle.req_preview.specs.Trial.{trialOf}
-use Rattle.req_preview.specs.Preview.{shownOf, previewOf}
+use Rattle.descriptor.specs.declared.Endpoint.{Endpoint}
+use Rattle.descriptor.specs.declared.Answer as reading-answer
+use Rattle.descriptor.specs.declared.Answer.the-variants as reading
+use Rattle.descriptor.specs.Reading.{readingOf, listOf}
+use Rattle.descriptor.specs.declared.preview.Said.{Said}
+use Rattle.descriptor.specs.declared.preview.Said.the-variants as said
+use Rattle.descriptor.specs.declared.preview.Shown.{Shown}
+use Rattle.descriptor.specs.Trial.{trialOf}
+use Rattle.descriptor.specs.Preview.{shownOf, previewOf}
 use Rattle.model.specs.Tree as tree
 use Rattle.model.specs.Tree.{ends, asks, bindOut}
 use Rattle.model.specs.Script.{run}
@@ -26,8 +26,8 @@ use Rattle.model.specs.AllocateAll.{allocateEach, allocate-tried, allocate-read
 use Rattle.model.specs.Calls.{AllocateAll, otherCode}
 use Rattle.model_ops.specs.Rings.{St}
 use Rattle.model_ops.specs.Concrete.{concrete, go}
-use Rattle.alloc_all.specs.Each.{eachOn, announceAll}
-use Rattle.alloc_all.specs.EachLaws.{each-run}
+use Rattle.driver.specs.Each.{eachOn, announceAll}
+use Rattle.driver.specs.EachLaws.{each-run}
 
 -- the row that a preview tells: 17 or 18, or the first refusal of an allocation; 0 where there is none
 abbrev pub saidRow : Said → ℕ → ℕ

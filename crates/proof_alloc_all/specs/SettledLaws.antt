@@ -20,9 +20,9 @@ use Rattle.alloc.specs.Outcome.{sameDir, inAdded, Gives}
 use Rattle.alloc.specs.Run.{endpoint}
 use Rattle.alloc.specs.Sound.{Sound}
 use Rattle.alloc.specs.SoundLaws.{sound-call}
-use Rattle.req_descriptor.specs.declared.Endpoint.{Endpoint}
-use Rattle.req_preview.specs.Trial.{directionOf, asked}
-use Rattle.alloc_all.specs.Each.{oneOn}
+use Rattle.descriptor.specs.declared.Endpoint.{Endpoint}
+use Rattle.descriptor.specs.Trial.{directionOf, asked}
+use Rattle.driver.specs.Each.{oneOn}
 use Rattle.proof_alloc_all.specs.Given.{gives, one-allocator, one-sized, one-here, one-other}
 use Rattle.proof_alloc_all.specs.Settled.{Settled}
 

@@ -4,8 +4,8 @@ use mathlib.Core.List.{List, [], _∷_, _++_}
 use Prim.Native.Nat.{ℕ, _+_, _*_, _%_}
 use Rattle.regs.specs.declared.Access.{Access}
 use Rattle.alloc.specs.Alloc.{isIso, slotsOf}
-use Rattle.req_descriptor.specs.declared.Endpoint.{Endpoint}
-use Rattle.req_preview.specs.Trial.{directionOf}
+use Rattle.descriptor.specs.declared.Endpoint.{Endpoint}
+use Rattle.descriptor.specs.Trial.{directionOf}
 use Rattle.proof_alloc_all.specs.Hands.{accesses}
 
 -- what each hands out

@@ -19,8 +19,8 @@ use Rattle.state.specs.declared.Allocator.{Allocator}
 use Rattle.state.specs.Driver.{Driver, key, epOn, withOn}
 use Rattle.state.specs.Laws.{key-apart, withOn-back}
 use Rattle.alloc.specs.Alloc.{isIso, slotsOf, allocatedIn}
-use Rattle.req_descriptor.specs.declared.Endpoint.{Endpoint}
-use Rattle.req_preview.specs.Trial.{directionOf}
+use Rattle.descriptor.specs.declared.Endpoint.{Endpoint}
+use Rattle.descriptor.specs.Trial.{directionOf}
 use Rattle.model.specs.Tree as tree
 use Rattle.model.specs.Tree.{ends, asks, bindOut}
 use Rattle.model.specs.Script.{run, dma}
@@ -29,8 +29,8 @@ use Rattle.model.specs.Answers.{isNumber, isAllocated}
 use Rattle.ring.specs.Out.{armedAt}
 use Rattle.model_ops.specs.Rings.{St, placeOn}
 use Rattle.model_ops.specs.Concrete.{concrete, go}
-use Rattle.driver_resume.specs.Announce.{endOn, startsAt, foundAt, following, announcing}
-use Rattle.driver_resume.specs.AnnounceLaws.{after-none, after-in, after-out}
+use Rattle.driver.specs.Announce.{endOn, startsAt, foundAt, following, announcing}
+use Rattle.driver.specs.AnnounceLaws.{after-none, after-in, after-out}
 use Rattle.proof_alloc_all.specs.Hands.{handsOut, endsWith, accesses}
 use Rattle.proof_alloc_all.specs.SettledLaws.{Owns}
 use Rattle.proof_alloc_all.specs.Walk.{handed}

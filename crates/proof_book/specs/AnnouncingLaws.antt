@@ -5,7 +5,7 @@ use mathlib.Core.List.{List, [], _∷_}
 use Prim.Native.Nat.{ℕ, zero, suc}
 use Rattle.regs.specs.declared.Dir.{Dir}
 use Rattle.regs.specs.declared.Dir.the-variants.{Out, In}
-use Rattle.req_descriptor.specs.declared.Endpoint.{Endpoint}
+use Rattle.descriptor.specs.declared.Endpoint.{Endpoint}
 use Rattle.model.specs.Cells.{Cell, Val, allocator-cell, ep-cell}
 use Rattle.model.specs.Script.{Script, ret, bind, test, get}
 use Rattle.model.specs.AllocateAll.{announce, beginsAt, announceAfter, announceAll}

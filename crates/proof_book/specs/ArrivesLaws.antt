@@ -21,10 +21,10 @@ use Rattle.ring.specs.Window.{only-wider, window-length}
 use Rattle.ring.specs.Slots.{slot-in, slot-from, slot-upto}
 use Rattle.ring.specs.Laws.{place-placed, place-addr, alike-count, alike-waits, alike-out, slot-shows, slot-region}
 use Rattle.ring.specs.OutLaws.{armed-alike, arrived-place, capped-is, turned-counts, waiting-armed, room-out, arrive-waits, arrive-ring, arrive-shows}
-use Rattle.marks.specs.Marks.{armed}
-use Rattle.marks.specs.Copies.{bytesAt}
-use Rattle.marks.specs.Slots.{armed-slot}
-use Rattle.marks.specs.Only as marks
+use Rattle.ring.specs.Marks.{armed}
+use Rattle.ring.specs.Copies.{bytesAt}
+use Rattle.ring.specs.MarksSlots.{armed-slot}
+use Rattle.ring.specs.Only as marks
 use Rattle.model.specs.Cells.{EpCore}
 use Rattle.model.specs.Script as script
 use Rattle.model.specs.Simulates.{quiet}

@@ -20,8 +20,8 @@ use Rattle.state.specs.Driver.{noRequest}
 use Rattle.alloc.specs.declared.Answer.{Answer}
 use Rattle.alloc.specs.declared.Answer.the-variants.{Refused, Given}
 use Rattle.alloc.specs.Alloc.{allocateOf, allocateEp0Of, isIso}
-use Rattle.marks.specs.Marks.{isMarked, markedLen}
-use Rattle.marks.specs.Copies.{copied, bytesAt}
+use Rattle.ring.specs.Marks.{isMarked, markedLen}
+use Rattle.ring.specs.Copies.{copied, bytesAt}
 use Rattle.model.specs.Cells.{EpCore, Cell, Val, globals-cell, control-cell, allocator-cell, ep-cell, request-cell, paced-cell}
 use Rattle.model.specs.Script.{Ops, Test, changed, waiting, room, opened, Look, marked, next-len, next-stamp}
 use Rattle.model.specs.Script.{setup-word, Fetch, oldest, received, received0, gathered, Act, complete, reset-ring}

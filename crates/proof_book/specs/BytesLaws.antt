@@ -15,8 +15,8 @@ use Rattle.state.specs.declared.Globals.{Globals}
 use Rattle.state.specs.Driver.{Driver, key, epOn}
 use Rattle.ring.specs.Slot.{countOf}
 use Rattle.ring.specs.Slots.{slot-from, slot-upto}
-use Rattle.marks.specs.Copies.{bytesAt, copied}
-use Rattle.marks.specs.Slots.{only-copied}
+use Rattle.ring.specs.Copies.{bytesAt, copied}
+use Rattle.ring.specs.MarksSlots.{only-copied}
 use Rattle.model.specs.Simulates.{quiet}
 use Rattle.model.specs.Cells.{EpCore}
 use Rattle.model.specs.Script as script

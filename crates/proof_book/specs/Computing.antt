@@ -5,8 +5,8 @@ use Rattle.bits.specs.Bit as bits-bit
 use Rattle.bits.specs.Walk as bits-walk
 use Rattle.frame.specs.Advance as frame-advance
 use Rattle.frame.specs.Usb20 as frame-usb20
-use Rattle.marks.specs.Copies as marks-copies
-use Rattle.marks.specs.Marks as marks-marks
+use Rattle.ring.specs.Copies as marks-copies
+use Rattle.ring.specs.Marks as marks-marks
 use Rattle.model_ops.specs.Records as ops-records
 use Rattle.model_ops.specs.Rings as ops-rings
 use Rattle.regs.specs.ControlWord as regs-controlword

@@ -24,7 +24,7 @@ use Rattle.ring.specs.Slot.{slotAddr, countOf}
 use Rattle.ring.specs.Slots.{slot-from, slot-upto}
 use Rattle.ring.specs.Waiting.{waiting, Same, Only, Placed, SamePlace, Alike}
 use Rattle.ring.specs.Laws.{waiting-foreign, place-trans, place-addr}
-use Rattle.marks.specs.Only as marks
+use Rattle.ring.specs.Only as marks
 use Rattle.model.specs.Cells.{EpCore}
 use Rattle.model.specs.Script.{switch, bus-reset}
 use Rattle.model.specs.Simulates.{Phase, quiet, mid}

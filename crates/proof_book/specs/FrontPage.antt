@@ -16,10 +16,10 @@ use Rattle.regs.specs.declared.Dir.the-variants.{Out, In}
 use Rattle.state.specs.Driver.{Driver, epOn, lenOn, stampOn}
 use Rattle.alloc.specs.Alloc.{allocatedIn}
 use Rattle.bits.specs.Bit.{isSet}
-use Rattle.le_bytes.specs.Tables.{tab}
+use Rattle.bits.specs.Tables.{tab}
 use Rattle.state.specs.State.{view}
 use Rattle.ring.specs.Waiting.{waiting, Same}
-use Rattle.marks.specs.Copies.{bytesAt}
+use Rattle.ring.specs.Copies.{bytesAt}
 use Rattle.model.specs.Every.{sameReg}
 use Rattle.model.specs.Answers.{Answer, Refused, End, NotYet, Done, Shown, ok, isNumber}
 use Rattle.model.specs.Calls.{Config, Op, interrupt, slotted, other, aside, SetEnabled, PollRead, BeginWrite, PollWrite}

@@ -10,7 +10,7 @@ use lib.Dec.{eqb}
 use borrow.Author.Tests.{eq-eqb, eqb-true}
 use lib.ListN.{length, getD, length-set}
 use Rattle.bits.specs.Bit.{isSet}
-use Rattle.le_bytes.specs.TablesLaws.{length-tab}
+use Rattle.bits.specs.TablesLaws.{length-tab}
 use Rattle.regs.specs.declared.Dir.{Dir}
 use Rattle.regs.specs.declared.Dir.the-variants.{Out, In}
 use Rattle.state.specs.declared.EpState.{EpState}

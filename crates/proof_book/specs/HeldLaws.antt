@@ -22,7 +22,7 @@ use Rattle.ring.specs.Slot.{slotOf, slotAddr, countOf, hasWaiting}
 use Rattle.ring.specs.Waiting.{waiting}
 use Rattle.ring.specs.Slots.{slot-in}
 use Rattle.ring.specs.Laws.{waiting-length, waiting-some, first-length, first-part}
-use Rattle.marks.specs.Copies.{bytesAt}
+use Rattle.ring.specs.Copies.{bytesAt}
 use Rattle.model.specs.Script.{Test, Look, Fetch, Act, DmaStep, dmaStepAsk}
 use Rattle.model.specs.Simulates.{Phase, quiet}
 use Rattle.model.specs.Statics.{isOn, isoOuts}

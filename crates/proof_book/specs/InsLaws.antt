@@ -26,9 +26,9 @@ use Rattle.ring.specs.Laws.{place-placed, place-trans, place-addr, head-away, a
 use Rattle.ring.specs.Laws.{waiting-length, waiting-head, slot-region, join-place, join-count, join-waits, join-ring}
 use Rattle.ring.specs.Laws.{reset-waits, reset-ring, first-part}
 use Rattle.ring.specs.InLaws as ring-in
-use Rattle.marks.specs.Copies.{copied}
-use Rattle.marks.specs.OnlyLaws as marks-laws
-use Rattle.marks.specs.Slots.{only-copied, copied-bytes}
+use Rattle.ring.specs.Copies.{copied}
+use Rattle.ring.specs.OnlyLaws as marks-laws
+use Rattle.ring.specs.MarksSlots.{only-copied, copied-bytes}
 use Rattle.model.specs.Cells.{EpCore}
 use Rattle.model.specs.Script as script
 use Rattle.model.specs.Statics.{isOn, flag}

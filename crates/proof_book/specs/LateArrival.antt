@@ -7,7 +7,7 @@ use mathlib.Core.List.{List, [], _∷_, _++_}
 use mathlib.Core.Path.{_≡_}
 use Prim.Native.Nat.{ℕ, _≤_}
 use lib.ListN.{length}
-use Rattle.marks.specs.Finds.{LastDiffers}
+use Rattle.ring.specs.Finds.{LastDiffers}
 use Rattle.model.specs.Answers.{Answer}
 use Rattle.model.specs.Machine.{Buf, Machine}
 use Rattle.proof_book.specs.Pages.{Packet, Pages}

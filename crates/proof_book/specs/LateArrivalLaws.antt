@@ -10,8 +10,8 @@ use Rattle.regs.specs.declared.Access.{Access}
 use Rattle.regs.specs.declared.Dir.the-variants.{Out}
 use Rattle.state.specs.Driver.{Driver, epOn}
 use Rattle.state.specs.State.{view}
-use Rattle.marks.specs.Marks.{markedLen}
-use Rattle.marks.specs.Copies.{bytesAt}
+use Rattle.ring.specs.Marks.{markedLen}
+use Rattle.ring.specs.Copies.{bytesAt}
 use Rattle.model.specs.Cells.{EpCore}
 use Rattle.model.specs.Simulates.{Phase}
 use Rattle.model.specs.Answers.{Answer}

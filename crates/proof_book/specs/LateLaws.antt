@@ -7,11 +7,11 @@ use native.Mathlib.Omega.{arith}
 use lib.ListN.{length}
 use Rattle.regs.specs.declared.Dir.the-variants.{Out}
 use Rattle.state.specs.Driver.{Driver, epOn}
-use Rattle.marks.specs.Marks.{reach}
-use Rattle.marks.specs.Copies.{bytesAt}
-use Rattle.marks.specs.Finds.{LastDiffers}
-use Rattle.marks.specs.Stored.{StoredAlone}
-use Rattle.marks.specs.StoredLaws.{true-bytes}
+use Rattle.ring.specs.Marks.{reach}
+use Rattle.ring.specs.Copies.{bytesAt}
+use Rattle.ring.specs.Finds.{LastDiffers}
+use Rattle.ring.specs.Stored.{StoredAlone}
+use Rattle.ring.specs.StoredLaws.{true-bytes}
 use Rattle.model.specs.Cells.{EpCore}
 use Rattle.model.specs.Simulates.{quiet}
 use Rattle.model.specs.Machine.{Buf}

@@ -25,7 +25,7 @@ use Rattle.state.specs.Driver.{Driver, key, noEp, epOn, withOn, withLenOn, with
 use Rattle.ring.specs.Slot.{slotAddr, joinedOf, passedOf, hasWaiting}
 use Rattle.ring.specs.Out.{hasRoomOut, cappedAt, overrunOf, arrivedOf, armedAt, openedOf, closedOf}
 use Rattle.ring.specs.In.{completedOf, loadedOf, unloadedOf}
-use Rattle.marks.specs.Copies.{copied}
+use Rattle.ring.specs.Copies.{copied}
 use Rattle.model.specs.Cells.{sameSort, Cell, Val, globals-cell, control-cell, allocator-cell, ep-cell, request-cell, paced-cell}
 use Rattle.model.specs.Script.{Act, complete, reset-ring, set-enabled, fill, fill0, open-oldest, close-oldest}
 use Rattle.model.specs.Script.{take-oldest, enqueue, allocate, allocate0, no-wakes, waken, DmaStep, arrive, send, place}

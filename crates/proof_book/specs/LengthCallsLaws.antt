@@ -16,8 +16,8 @@ use Rattle.bits.specs.Bit.{isSet}
 use Rattle.state.specs.declared.Allocator.{Allocator}
 use Rattle.state.specs.declared.Globals.{Globals}
 use Rattle.state.specs.Driver.{Driver, key, noEp, epOn}
-use Rattle.marks.specs.Marks.{markedLen}
-use Rattle.marks.specs.Copies.{bytesAt, copied}
+use Rattle.ring.specs.Marks.{markedLen}
+use Rattle.ring.specs.Copies.{bytesAt, copied}
 use Rattle.model.specs.Tree as tree
 use Rattle.model.specs.Tree.{ends, asks}
 use Rattle.model.specs.Cells.{EpCore}

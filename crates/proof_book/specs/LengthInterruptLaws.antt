@@ -17,7 +17,7 @@ use Rattle.regs.specs.Status.{endpoint, token, isOut, isIn, isSof, togOk, outTo
 use Rattle.regs.specs.MisStatus.{sieFree}
 use Rattle.regs.specs.Flags.{busRst, transfer, suspend, hstSof, fifoOv, setupAct, HST_SOF, FIFO_OV}
 use Rattle.regs.specs.IntEn.{withBusRst, withSuspend}
-use Rattle.marks.specs.Marks.{markedLen}
+use Rattle.ring.specs.Marks.{markedLen}
 use Rattle.model.specs.declared.Transfer.{Transfer}
 use Rattle.model.specs.Tree as tree
 use Rattle.model.specs.Cells.{EpCore, ep-cell}

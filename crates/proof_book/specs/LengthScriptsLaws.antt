@@ -9,8 +9,8 @@ use Rattle.regs.specs.declared.Access.{Access}
 use Rattle.regs.specs.declared.Access.the-variants.{Read, Receive}
 use Rattle.regs.specs.declared.Reg.{Reg}
 use Rattle.regs.specs.declared.Dir.the-variants.{Out, In}
-use Rattle.marks.specs.Marks.{markedLen}
-use Rattle.marks.specs.Copies.{bytesAt}
+use Rattle.ring.specs.Marks.{markedLen}
+use Rattle.ring.specs.Copies.{bytesAt}
 use Rattle.model.specs.Tree as tree
 use Rattle.model.specs.Tree.{ends, asks, bindOut}
 use Rattle.model.specs.Cells.{EpCore, Cell, Val, globals-cell, control-cell, allocator-cell, ep-cell, request-cell, paced-cell}

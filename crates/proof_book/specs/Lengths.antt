@@ -10,7 +10,7 @@ use Rattle.regs.specs.declared.Reg.the-variants.{IntSt, MisSt, RxLen}
 use Rattle.regs.specs.declared.Dir.the-variants.{Out}
 use Rattle.regs.specs.MisStatus.{sieFree}
 use Rattle.regs.specs.Status.{togOk}
-use Rattle.marks.specs.Marks.{markedLen}
+use Rattle.ring.specs.Marks.{markedLen}
 use Rattle.model.specs.Every.{sameReg}
 use Rattle.model.specs.IsoOut.{arriving}
 use Rattle.model.specs.Answers.{Answer}

@@ -4,8 +4,8 @@ use mathlib.Core.Path.{_≡_, refl, ap}
 use Prim.Native.Nat.{ℕ, _+_, _*_, _%_, _<_}
 use native.Mathlib.Omega.{arith}
 use lib.ListN.{length, getD, set}
-use Rattle.le_bytes.specs.Tables.{tab}
-use Rattle.le_bytes.specs.TablesLaws.{tab-ext, tab-set, getD-tab, length-tab}
+use Rattle.bits.specs.Tables.{tab}
+use Rattle.bits.specs.TablesLaws.{tab-ext, tab-set, getD-tab, length-tab}
 use Rattle.regs.specs.declared.Dir.{Dir}
 use Rattle.regs.specs.declared.Dir.the-variants.{Out, In}
 use Rattle.state.specs.declared.EpState.{EpState}

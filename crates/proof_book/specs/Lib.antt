@@ -112,3 +112,5 @@ pub mod ArrivalCallsLaws
 pub mod ArrivalsLaws
 pub mod PollsWaitLaws
 pub mod ArrivalOrderLaws
+pub mod Inputs
+pub mod Witness

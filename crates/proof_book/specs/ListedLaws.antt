@@ -15,9 +15,9 @@ use Rattle.state.specs.Driver.{Driver, epOn}
 use Rattle.alloc.specs.Alloc.{allocatedIn}
 use Rattle.alloc.specs.Buffer.{goodSize}
 use Rattle.alloc.specs.BufferLaws.{each-size}
-use Rattle.req_descriptor.specs.declared.Answer.the-variants as reading
-use Rattle.req_descriptor.specs.Reading.{readingOf, listOf}
-use Rattle.req_preview.specs.Trial.{trialOf}
+use Rattle.descriptor.specs.declared.Answer.the-variants as reading
+use Rattle.descriptor.specs.Reading.{readingOf, listOf}
+use Rattle.descriptor.specs.Trial.{trialOf}
 use Rattle.model.specs.Simulates.{quiet}
 use Rattle.model.specs.Statics.{isOn}
 use Rattle.model.specs.Machine.{Buf}

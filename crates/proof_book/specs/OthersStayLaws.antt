@@ -21,7 +21,7 @@ use Rattle.model.specs.Script.{Script, run, rows, ret, bind, test, read-then, w
 use Rattle.model.specs.Script.{get-then, put-then, is-then, look-then, fetch-then, act-then, hand-then, row-then, Test}
 use Rattle.model.specs.Script.{Look, Fetch, Act, complete, reset-ring, open-oldest, close-oldest, take-oldest, enqueue}
 use Rattle.model.specs.Script.{dmaStepAsk, send, place, place0, Burst, switch, bus-reset, burstAsk}
-use Rattle.marks.specs.Copies.{copied}
+use Rattle.ring.specs.Copies.{copied}
 use Rattle.model.specs.Statics.{renewed}
 use Rattle.model.specs.IsoIn.{isoInComplete, isoInCompletions}
 use Rattle.model.specs.Bus as bus

@@ -15,8 +15,8 @@ use Rattle.ring.specs.Out.{openedOf, closedOf}
 use Rattle.ring.specs.Waiting.{waiting, SamePlace, Alike, Shows}
 use Rattle.ring.specs.Laws.{place-placed, place-addr, alike-count, alike-waits, alike-out, reset-count, reset-waits, reset-ring}
 use Rattle.ring.specs.OutLaws.{opened-alike, opened-shows, closed-place, closed-shows, close-waits, close-ring}
-use Rattle.marks.specs.Marks.{isMarked, markedLen}
-use Rattle.marks.specs.Copies.{bytesAt}
+use Rattle.ring.specs.Marks.{isMarked, markedLen}
+use Rattle.ring.specs.Copies.{bytesAt}
 use Rattle.model.specs.Cells.{EpCore}
 use Rattle.model.specs.Script as script
 use Rattle.model.specs.Simulates.{quiet}

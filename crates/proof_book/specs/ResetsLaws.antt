@@ -8,7 +8,7 @@ use native.Mathlib.Omega.{arith}
 use native.Mathlib.Decide.{ℕ-discrete}
 use lib.ListN.{getD, length-replicate}
 use Rattle.bits.specs.Bit.{isSet}
-use Rattle.le_bytes.specs.Tables.{tab}
+use Rattle.bits.specs.Tables.{tab}
 use Rattle.regs.specs.declared.Dir.{Dir}
 use Rattle.regs.specs.declared.Dir.the-variants.{Out, In}
 use Rattle.state.specs.declared.EpState.{EpState}

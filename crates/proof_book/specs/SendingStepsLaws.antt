@@ -20,7 +20,7 @@ use Rattle.alloc.specs.declared.Answer.the-variants as alloc
 use Rattle.alloc.specs.declared.Allocation.{Allocation}
 use Rattle.alloc.specs.Alloc.{if, refused, allocateOf, allocateEp0Of, withNext}
 use Rattle.alloc.specs.Outcome.{Outcome, six, seven, eight, given, outcome}
-use Rattle.marks.specs.Copies.{copied}
+use Rattle.ring.specs.Copies.{copied}
 use Rattle.model.specs.Tree as tree
 use Rattle.model.specs.Tree.{ends, asks, bindOut}
 use Rattle.model.specs.Cells.{EpCore, Cell, Val, globals-cell, control-cell, allocator-cell, ep-cell, request-cell}

@@ -9,7 +9,7 @@ use native.Mathlib.Omega.{arith}
 use borrow.Author.Tests.{eqb-true}
 use lib.Dec.{eqb}
 use lib.ListN.{length, getD}
-use Rattle.le_bytes.specs.Tables.{tab}
+use Rattle.bits.specs.Tables.{tab}
 use Rattle.regs.specs.declared.Dir.the-variants.{Out}
 use Rattle.frame.specs.Usb20.{indexOf}
 use Rattle.state.specs.declared.Globals.{Globals}

@@ -28,7 +28,7 @@ use Rattle.state.specs.Laws.{key-lt, lenKey-lt}
 use Rattle.alloc.specs.Buffer.{goodSize, goodBuffer, fits}
 use Rattle.alloc.specs.Alloc.{if}
 use Rattle.alloc.specs.SoundLaws.{sound-fresh}
-use Rattle.le_bytes.specs.TablesLaws.{getD-tab, length-tab}
+use Rattle.bits.specs.TablesLaws.{getD-tab, length-tab}
 use Rattle.ring.specs.Laws.{reset-count, reset-waits, reset-ring}
 use Rattle.model.specs.Statics.{isOn, flag}
 use Rattle.model.specs.Calls.{Config, startRow}

@@ -25,9 +25,9 @@ use Rattle.ring.specs.Waiting.{Only, SamePlace, Placed}
 use Rattle.ring.specs.Slots.{slot-from, slot-upto}
 use Rattle.ring.specs.Laws.{place-placed, place-addr, alike-ring, alike-count, waiting-none, slot-region, reset-count}
 use Rattle.ring.specs.OutLaws.{armed-alike}
-use Rattle.marks.specs.Marks.{armed}
-use Rattle.marks.specs.Only as marks
-use Rattle.marks.specs.Slots.{armed-slot}
+use Rattle.ring.specs.Marks.{armed}
+use Rattle.ring.specs.Only as marks
+use Rattle.ring.specs.MarksSlots.{armed-slot}
 use Rattle.model.specs.Cells.{EpCore}
 use Rattle.model.specs.Script.{switch}
 use Rattle.model.specs.Simulates.{Phase, quiet, mid}

@@ -17,12 +17,12 @@ use Rattle.state.specs.Laws.{key-apart}
 use Rattle.ring.specs.Slot.{slotOf, slotAddr}
 use Rattle.ring.specs.Out.{cappedAt}
 use Rattle.ring.specs.Slots.{slot-from, slot-upto}
-use Rattle.marks.specs.Marks.{armed}
-use Rattle.marks.specs.Copies.{copied}
-use Rattle.marks.specs.Slots.{armed-slot, only-copied}
-use Rattle.marks.specs.Stored.{StoredAlone}
-use Rattle.marks.specs.Only as marks
-use Rattle.marks.specs.OnlyLaws as marks-laws
+use Rattle.ring.specs.Marks.{armed}
+use Rattle.ring.specs.Copies.{copied}
+use Rattle.ring.specs.MarksSlots.{armed-slot, only-copied}
+use Rattle.ring.specs.Stored.{StoredAlone}
+use Rattle.ring.specs.Only as marks
+use Rattle.ring.specs.OnlyLaws as marks-laws
 use Rattle.model.specs.Cells.{Cell, Val, globals-cell, control-cell, allocator-cell, ep-cell, request-cell, paced-cell}
 use Rattle.model.specs.Script.{Act, complete, reset-ring, set-enabled, fill, fill0, open-oldest, close-oldest}
 use Rattle.model.specs.Script.{take-oldest, enqueue, allocate, allocate0, no-wakes, waken, DmaStep, arrive, send, place}

@@ -10,9 +10,9 @@ use lib.ListN.{length, getD}
 use Rattle.regs.specs.declared.Dir.the-variants.{Out, In}
 use Rattle.state.specs.Driver.{Driver, epOn}
 use Rattle.state.specs.State.{view}
-use Rattle.marks.specs.Marks.{markedLen}
-use Rattle.marks.specs.Copies.{bytesAt}
-use Rattle.marks.specs.Finds.{LastDiffers}
+use Rattle.ring.specs.Marks.{markedLen}
+use Rattle.ring.specs.Copies.{bytesAt}
+use Rattle.ring.specs.Finds.{LastDiffers}
 use Rattle.model.specs.Answers.{Answer}
 use Rattle.model.specs.Script.{Act}
 use Rattle.model.specs.Script.{DmaStep, arrive, send, place}

@@ -13,10 +13,10 @@ use lib.Seq.{getD-drop, getD-take, ext-getD}
 use Rattle.regs.specs.declared.Dir.the-variants.{Out, In}
 use Rattle.state.specs.declared.EpState.{EpState}
 use Rattle.state.specs.Driver.{Driver, epOn}
-use Rattle.marks.specs.Marks.{markByte, reach, armed, markedLen}
-use Rattle.marks.specs.Copies.{bytesAt}
-use Rattle.marks.specs.Finds.{LastDiffers}
-use Rattle.marks.specs.Slots.{only-armed, armed-empties, len-is}
+use Rattle.ring.specs.Marks.{markByte, reach, armed, markedLen}
+use Rattle.ring.specs.Copies.{bytesAt}
+use Rattle.ring.specs.Finds.{LastDiffers}
+use Rattle.ring.specs.MarksSlots.{only-armed, armed-empties, len-is}
 use Rattle.model.specs.Cells.{EpCore, Cell, Val, globals-cell, control-cell, allocator-cell, ep-cell, request-cell, paced-cell}
 use Rattle.model.specs.Script.{Act, complete, reset-ring, set-enabled, fill, fill0, open-oldest, close-oldest}
 use Rattle.model.specs.Script.{take-oldest, enqueue, allocate, allocate0, no-wakes, waken}

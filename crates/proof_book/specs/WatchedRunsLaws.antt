@@ -14,7 +14,7 @@ use Rattle.state.specs.Driver.{Driver, epOn}
 use Rattle.state.specs.Laws.{Sized}
 use Rattle.state.specs.State.{view}
 use Rattle.ring.specs.Out.{cappedAt}
-use Rattle.marks.specs.Marks.{armed}
+use Rattle.ring.specs.Marks.{armed}
 use Rattle.model.specs.Answers.{Answer}
 use Rattle.model.specs.Cells.{EpCore}
 use Rattle.model.specs.Script.{Act}

@@ -28,7 +28,7 @@ use Rattle.model_ops.specs.Concrete.{concrete}
 use Rattle.machine.specs.Suspended.{driverOf, finish}
 use Rattle.proof_book.specs.CellsLaws.{epOn-by}
 use Rattle.req_bus_time.specs.Time.{chargeOf}
-use Rattle.call_bus_time.specs.Sharing.{Sort, enabling, starting, apart, opSort, chargeOn}
+use Rattle.calls.specs.Sharing.{Sort, enabling, starting, apart, opSort, chargeOn}
 use Rattle.proof_bus_time.specs.History.{byAccess}
 use Rattle.proof_bus_time.specs.HistoriesLaws.{none-set}
 use Rattle.proof_bus_time.specs.Enabled.{isEnabled, begins}

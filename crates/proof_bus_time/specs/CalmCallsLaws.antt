@@ -29,7 +29,7 @@ use Rattle.model.specs.StepsCalls.{call-steps, start-up-steps}
 use Rattle.model.specs.StepsRunsLaws.{if-true, if-so, Handed, writes-config}
 use Rattle.model_ops.specs.Rings.{St}
 use Rattle.model_ops.specs.Concrete.{concrete}
-use Rattle.call_bus_time.specs.Sharing.{opSort, apart}
+use Rattle.calls.specs.Sharing.{opSort, apart}
 use Rattle.proof_bus_time.specs.StaysLaws.{allowed}
 use Rattle.proof_bus_time.specs.Calm.{If, Quiet, Calm}
 

@@ -13,7 +13,7 @@ use Rattle.model.specs.Answers.{Answer}
 use Rattle.model.specs.Calls.{Config, Op, interrupt, slotted, other, aside}
 use Rattle.model.specs.Kinds.{resetting, is, kindOf, Part, apart, begins, polls, turns, partOf}
 use Rattle.model.specs.Machine.{Call, start, begin, go, question, Ans, ended, handed, told}
-use Rattle.call_bus_time.specs.Sharing.{chargeOn}
+use Rattle.calls.specs.Sharing.{chargeOn}
 use Rattle.proof_bus_time.specs.History.{Line}
 use Rattle.proof_bus_time.specs.Enabled.{writesConfig, sumOf}
 

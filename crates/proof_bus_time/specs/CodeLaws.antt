@@ -13,7 +13,7 @@ use Rattle.model.specs.Machine.{Buf, Call, Machine, idle, Ans, ended, handed, t
 use Rattle.machine.specs.Suspended.{decode, drive, machineOf}
 use Rattle.machine.specs.Goes.{Called}
 use Rattle.req_bus_time.specs.Time.{inUse, uncharged}
-use Rattle.call_bus_time.specs.Sharing.{Sort, apart, sortOf, timeAfter, settled, sharedCall}
+use Rattle.calls.specs.Sharing.{Sort, apart, sortOf, timeAfter, settled, sharedCall}
 use Rattle.proof_bus_time.specs.Four.{Four, Turn, called, next, after}
 use Rattle.proof_bus_time.specs.History.{history, timeBy}
 use Rattle.proof_bus_time.specs.LimitLaws.{limit}

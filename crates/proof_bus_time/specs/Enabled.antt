@@ -18,7 +18,7 @@ use Rattle.model.specs.Every.{onWrite, sameReg}
 use Rattle.model.specs.Answers.{Answer}
 use Rattle.model.specs.Machine.{Way, idle, busy, Machine, Ans, ended, handed, told}
 use Rattle.req_bus_time.specs.Time.{uncharged}
-use Rattle.call_bus_time.specs.Sharing.{Sort, enabling, starting, going, apart, sortOf, chargeOn}
+use Rattle.calls.specs.Sharing.{Sort, enabling, starting, going, apart, sortOf, chargeOn}
 use Rattle.proof_bus_time.specs.Four.{Four}
 use Rattle.proof_bus_time.specs.History.{Line, sum}
 

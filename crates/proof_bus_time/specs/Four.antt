@@ -8,7 +8,7 @@ use Rattle.model.specs.Answers.{Answer}
 use Rattle.model.specs.Calls.{Config, Op}
 use Rattle.model.specs.Machine.{Event, Machine}
 use Rattle.machine.specs.Goes.{Called}
-use Rattle.call_bus_time.specs.Sharing.{sharedCall}
+use Rattle.calls.specs.Sharing.{sharedCall}
 
 -- each driver's machine by its number, and the record
 pub record Four : Type 0 where

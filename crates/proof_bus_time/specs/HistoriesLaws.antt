@@ -26,7 +26,7 @@ use Rattle.machine.specs.Suspended.{driverOf, drive}
 use Rattle.machine.specs.Goes.{Called}
 use Rattle.req_bus_time.specs.Time.{entryOf, total, inUse, entryKept, kept, keepOf, uncharged}
 use Rattle.req_bus_time.specs.TimeLaws.{total-none, kept-in, kept-out}
-use Rattle.call_bus_time.specs.Sharing.{Sort, enabling, starting, going, apart, sortOf, chargeOn, written, timeAfter, turnedDown, settled}
+use Rattle.calls.specs.Sharing.{Sort, enabling, starting, going, apart, sortOf, chargeOn, written, timeAfter, turnedDown, settled}
 use Rattle.proof_bus_time.specs.Four.{Four, Turn, called, next, after}
 use Rattle.proof_bus_time.specs.History.{lineOf, history, cleared, byAccess, byAnswer, chargeAfter, chargeBy, sum, timeBy}
 use Rattle.proof_bus_time.specs.LimitLaws.{Within, always-within, uncharged-within}

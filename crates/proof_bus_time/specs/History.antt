@@ -13,7 +13,7 @@ use Rattle.model.specs.Every.{onWrite, sameReg}
 use Rattle.model.specs.Answers.{Answer}
 use Rattle.model.specs.Calls.{Config, Op}
 use Rattle.model.specs.Machine.{Call, Ans, ended, handed, told}
-use Rattle.call_bus_time.specs.Sharing.{Sort, enabling, starting, going, apart, sortOf, chargeOn}
+use Rattle.calls.specs.Sharing.{Sort, enabling, starting, going, apart, sortOf, chargeOn}
 use Rattle.proof_bus_time.specs.Four.{Four, Turn, called, next}
 
 -- a line of it: who called, the call, what it answered, the driver's state before it

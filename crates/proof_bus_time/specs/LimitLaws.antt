@@ -18,7 +18,7 @@ use Rattle.model.specs.Machine.{Buf, Machine, Ans, ended, handed, told}
 use Rattle.machine.specs.Suspended.{drive}
 use Rattle.req_bus_time.specs.Time.{entryOf, total, inUse, passes, keepOf, uncharged}
 use Rattle.req_bus_time.specs.TimeLaws.{length-keep, keep-le, total-set}
-use Rattle.call_bus_time.specs.Sharing.{Sort, enabling, starting, going, apart, sortOf, chargeOn, written, settled}
+use Rattle.calls.specs.Sharing.{Sort, enabling, starting, going, apart, sortOf, chargeOn, written, settled}
 use Rattle.proof_bus_time.specs.Four.{Four, Turn, next, after}
 
 -- a record of four drivers within the limit

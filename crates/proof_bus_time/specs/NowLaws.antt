@@ -13,7 +13,7 @@ use Rattle.state.specs.Driver.{Driver}
 use Rattle.model.specs.Answers.{Answer}
 use Rattle.model.specs.Machine.{Way, idle}
 use Rattle.req_bus_time.specs.Time.{inUse}
-use Rattle.call_bus_time.specs.Sharing.{chargeOn}
+use Rattle.calls.specs.Sharing.{chargeOn}
 use Rattle.proof_bus_time.specs.Four.{Four, Turn, after}
 use Rattle.proof_bus_time.specs.History.{history, sum, timeBy}
 use Rattle.proof_bus_time.specs.LimitLaws.{Within, uncharged-within}

@@ -17,7 +17,7 @@ use Rattle.model.specs.Bus as bus
 use Rattle.model.specs.Bus.{nakAll}
 use Rattle.model_ops.specs.Rings.{St}
 use Rattle.model_ops.specs.Concrete.{concrete}
-use Rattle.call_bus_time.specs.Sharing.{chargeOn}
+use Rattle.calls.specs.Sharing.{chargeOn}
 use Rattle.proof_bus_time.specs.Charged.{polls-bus, givenBack}
 use Rattle.proof_bus_time.specs.HistoriesLaws.{none-set}
 use Rattle.proof_bus_time.specs.StaysLaws.{Turns, still, act-stays, reset-stays, reset-turns}

@@ -13,7 +13,7 @@ use Rattle.model.specs.Machine.{Buf, Call, question, pending, Event, Machine, e
 use Rattle.machine.specs.Suspended.{driverOf, drive}
 use Rattle.machine.specs.Goes.{Called}
 use Rattle.proof_book.specs.Always as alone
-use Rattle.call_bus_time.specs.Sharing.{sortOf, timeAfter, turnedDown, settled, sharedCall}
+use Rattle.calls.specs.Sharing.{sortOf, timeAfter, turnedDown, settled, sharedCall}
 use Rattle.proof_bus_time.specs.Four.{Four, Turn, next, after}
 
 -- was it turned down?

@@ -22,7 +22,7 @@ use Rattle.model_ops.specs.Records.{isoOut}
 use Rattle.model_ops.specs.Rings.{St, configStep}
 use Rattle.model_ops.specs.Concrete.{concrete}
 use Rattle.req_bus_time.specs.Time.{chargeOf}
-use Rattle.call_bus_time.specs.Sharing.{chargeOn}
+use Rattle.calls.specs.Sharing.{chargeOn}
 use Rattle.proof_bus_time.specs.Enabled.{isEnabled}
 use Rattle.proof_bus_time.specs.Charged.{opBegun, givenBack}
 use Rattle.proof_bus_time.specs.StaysLaws.{configOf, Turns, Stays, still, stays, act-stays, switch-stays, turned, enabled-turns, row-turns}

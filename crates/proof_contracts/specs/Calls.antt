@@ -17,41 +17,41 @@ use Rattle.model.specs.Calls.{BeginAcceptSetAddress, PollAccept, BeginReject, A
 use Rattle.model.specs.Calls.{BeginWrite, PollWrite, Open, Close, Queue}
 use Rattle.machine.specs.Suspended.{configOf, answerOf}
 use Rattle.machine.specs.KeepsLaws.{kept-by}
-use Rattle.call_start.proofs.allocate.Reads as allocate-contract
-use Rattle.call_start.proofs.start.Reads as start-contract
-use Rattle.call_driver.proofs.begins.begin_microframe.Reads as begin-microframe-contract
-use Rattle.call_driver.proofs.begins.set_paced.Reads as set-paced-contract
-use Rattle.call_driver.proofs.begins.begin_advance.Reads as begin-advance-contract
-use Rattle.call_driver.proofs.begins.begin_interrupt.Reads as begin-interrupt-contract
-use Rattle.call_driver.proofs.listed_calls.allocate_all.Reads as allocate-all-contract
-use Rattle.call_bus.proofs.bus_begins.begin_bus_enable.Reads as begin-bus-enable-contract
-use Rattle.call_bus.proofs.bus_begins.begin_bus_disable.Reads as begin-bus-disable-contract
-use Rattle.call_bus.proofs.bus_begins.begin_bus_poll.Reads as begin-bus-poll-contract
-use Rattle.call_bus.proofs.bus_begins.begin_is_stalled.Reads as begin-is-stalled-contract
-use Rattle.call_bus.proofs.bus_begins.begin_set_stalled.Reads as begin-set-stalled-contract
-use Rattle.call_control.proofs.control_begins.begin_setup.Reads as begin-setup-contract
-use Rattle.call_control.proofs.control_begins.begin_data_out.Reads as begin-data-out-contract
-use Rattle.call_control.proofs.control_begins.begin_data_in.Reads as begin-data-in-contract
-use Rattle.call_control.proofs.control_begins.begin_accept.Reads as begin-accept-contract
-use Rattle.call_control.proofs.control_begins.begin_accept_set_address.Reads as begin-accept-set-address-contract
-use Rattle.call_control.proofs.control_begins.begin_reject.Reads as begin-reject-contract
-use Rattle.call_control.proofs.control_polls.poll_setup.Reads as poll-setup-contract
-use Rattle.call_control.proofs.control_polls.poll_data_out.Reads as poll-data-out-contract
-use Rattle.call_control.proofs.control_polls.poll_data_in.Reads as poll-data-in-contract
-use Rattle.call_control.proofs.control_polls.poll_accept.Reads as poll-accept-contract
-use Rattle.call_endpoint.proofs.requests.begin_read.Reads as begin-read-contract
-use Rattle.call_endpoint.proofs.requests.poll_read.Reads as poll-read-contract
-use Rattle.call_endpoint.proofs.requests.begin_write.Reads as begin-write-contract
-use Rattle.call_endpoint.proofs.requests.poll_write.Reads as poll-write-contract
-use Rattle.call_endpoint.proofs.in_place.open.Reads as open-contract
-use Rattle.call_endpoint.proofs.in_place.close.Reads as close-contract
-use Rattle.call_endpoint.proofs.in_place.queue.Reads as queue-contract
-use Rattle.call_endpoint.proofs.questions.pending.Reads as pending-contract
-use Rattle.call_endpoint.proofs.questions.overruns.Reads as overruns-contract
-use Rattle.call_endpoint.proofs.questions.enabled.Reads as enabled-contract
-use Rattle.call_bus_time.proofs.start_up.Reads as start-up-contract
-use Rattle.call_bus_time.proofs.begin_set_enabled.Reads as begin-set-enabled-contract
-use Rattle.usbhs.proofs.proceeds.proceed.Reads as proceed-contract
+use Rattle.calls.proofs.start.allocate.Reads as allocate-contract
+use Rattle.calls.proofs.start.start.Reads as start-contract
+use Rattle.calls.proofs.begins.begin_microframe.Reads as begin-microframe-contract
+use Rattle.calls.proofs.begins.set_paced.Reads as set-paced-contract
+use Rattle.calls.proofs.begins.begin_advance.Reads as begin-advance-contract
+use Rattle.calls.proofs.begins.begin_interrupt.Reads as begin-interrupt-contract
+use Rattle.calls.proofs.listed_calls.allocate_all.Reads as allocate-all-contract
+use Rattle.calls.proofs.bus_begins.begin_bus_enable.Reads as begin-bus-enable-contract
+use Rattle.calls.proofs.bus_begins.begin_bus_disable.Reads as begin-bus-disable-contract
+use Rattle.calls.proofs.bus_begins.begin_bus_poll.Reads as begin-bus-poll-contract
+use Rattle.calls.proofs.bus_begins.begin_is_stalled.Reads as begin-is-stalled-contract
+use Rattle.calls.proofs.bus_begins.begin_set_stalled.Reads as begin-set-stalled-contract
+use Rattle.calls.proofs.control_begins.begin_setup.Reads as begin-setup-contract
+use Rattle.calls.proofs.control_begins.begin_data_out.Reads as begin-data-out-contract
+use Rattle.calls.proofs.control_begins.begin_data_in.Reads as begin-data-in-contract
+use Rattle.calls.proofs.control_begins.begin_accept.Reads as begin-accept-contract
+use Rattle.calls.proofs.control_begins.begin_accept_set_address.Reads as begin-accept-set-address-contract
+use Rattle.calls.proofs.control_begins.begin_reject.Reads as begin-reject-contract
+use Rattle.calls.proofs.control_polls.poll_setup.Reads as poll-setup-contract
+use Rattle.calls.proofs.control_polls.poll_data_out.Reads as poll-data-out-contract
+use Rattle.calls.proofs.control_polls.poll_data_in.Reads as poll-data-in-contract
+use Rattle.calls.proofs.control_polls.poll_accept.Reads as poll-accept-contract
+use Rattle.calls.proofs.requests.begin_read.Reads as begin-read-contract
+use Rattle.calls.proofs.requests.poll_read.Reads as poll-read-contract
+use Rattle.calls.proofs.requests.begin_write.Reads as begin-write-contract
+use Rattle.calls.proofs.requests.poll_write.Reads as poll-write-contract
+use Rattle.calls.proofs.in_place.open.Reads as open-contract
+use Rattle.calls.proofs.in_place.close.Reads as close-contract
+use Rattle.calls.proofs.in_place.queue.Reads as queue-contract
+use Rattle.calls.proofs.questions.pending.Reads as pending-contract
+use Rattle.calls.proofs.questions.overruns.Reads as overruns-contract
+use Rattle.calls.proofs.questions.enabled.Reads as enabled-contract
+use Rattle.calls.proofs.bus_time.start_up.Reads as start-up-contract
+use Rattle.calls.proofs.bus_time.begin_set_enabled.Reads as begin-set-enabled-contract
+use Rattle.calls.proofs.proceeds.proceed.Reads as proceed-contract
 use Rattle.proof_contracts.specs.Steps.{IsStep, IsStepLent, IsStepInto, IsStepCharged, IsStepStart, IsQuestion}
 use Rattle.proof_contracts.specs.StepsLaws.{unlent, lent, filled, asked}
 

@@ -1,6 +1,6 @@
 -- Every call that crate `usbhs_c` exports: what its generated contract gives a caller (`Learnt`) is a step of demand
 -- 3, with what it saves and with an answer that the
--- call's word says: it is the answer's word, and is read back as it (`Says`, call_answer_word/specs/Word.antt). The
+-- call's word says: it is the answer's word, and is read back as it (`Says`, machine/specs/Word.antt). The
 -- hypothesis of each lemma is the contract itself.
 -- Of the parameters' values before the call s is the state, slots the slot buffer, time the record; z holds the
 -- parameters after the call, in their
@@ -21,8 +21,8 @@ use Rattle.model.specs.Calls.{BeginWrite, PollWrite, Open, Close, Queue}
 use Rattle.machine.specs.Suspended.{configOf, answerOf, lentBy}
 use Rattle.machine.specs.KeepsLaws.{kept-by}
 use Rattle.req_bus_time.specs.Time.{inUse}
-use Rattle.call_endpoint.specs.Shown.{ShownAt}
-use Rattle.call_answer_word.specs.Word.{Worded}
+use Rattle.calls.specs.Shown.{ShownAt}
+use Rattle.machine.specs.Word.{Worded}
 use Rattle.usbhs_c.specs.Calls.{dirOf, flagOf}
 use Rattle.usbhs_c.specs.Stamp.{stampBy}
 use Rattle.usbhs_c.proofs.usbhs_start_up.Reads as start-up-contract

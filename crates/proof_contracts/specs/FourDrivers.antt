@@ -7,7 +7,7 @@ use Prim.Native.Nat.{ℕ, _%_}
 use denote.Ref.{now}
 use Rattle.machine.specs.Suspended.{machineOf}
 use Rattle.req_bus_time.specs.Time.{inUse}
-use Rattle.call_bus_time.specs.Sharing.{sharedCall}
+use Rattle.calls.specs.Sharing.{sharedCall}
 use Rattle.proof_bus_time.specs.History.{history}
 use Rattle.proof_bus_time.specs.Enabled.{FourAtFirst}
 use Rattle.proof_bus_time.specs.Charged.{chargedTime}

@@ -18,7 +18,7 @@ use Rattle.machine.specs.Rows.{idleWay}
 use Rattle.machine.specs.Keeps.{KeptBy}
 use Rattle.machine.specs.KeepsLaws.{canonical}
 use Rattle.machine.specs.Goes.{Called}
-use Rattle.call_bus_time.specs.Sharing.{sharedCall, settled, isHanded}
+use Rattle.calls.specs.Sharing.{sharedCall, settled, isHanded}
 use Rattle.proof_contracts.specs.SharedPage.{MadeShared}
 use Rattle.proof_contracts.specs.SavedPage.{passes, SavesAs, Saves, Saving, Pinned, AllPinned, CodeCanonical}
 

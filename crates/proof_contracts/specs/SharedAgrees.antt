@@ -20,8 +20,8 @@ use Rattle.model.specs.Agree.{After, Ways, LentAlike, unless, agrees}
 use Rattle.machine.specs.Suspended.{driverOf, drive}
 use Rattle.machine.specs.Goes.{Called}
 use Rattle.req_bus_time.specs.Time.{chargeOf, entryOf, passes}
-use Rattle.call_bus_time.specs.Sharing.{Sort, enabling, starting, going, apart, opSort, sortOf, isHanded, chargeOn}
-use Rattle.call_bus_time.specs.Sharing.{turnedDown, timeAfter, settled, sharedCall}
+use Rattle.calls.specs.Sharing.{Sort, enabling, starting, going, apart, opSort, sortOf, isHanded, chargeOn}
+use Rattle.calls.specs.Sharing.{turnedDown, timeAfter, settled, sharedCall}
 use Rattle.proof_book.specs.Pages.{Pages}
 use Rattle.proof_book.specs.Book.{book}
 use Rattle.proof_book.specs.Coupling.{Coupling, Chip}

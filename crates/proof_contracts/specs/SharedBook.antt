@@ -11,8 +11,8 @@ use Rattle.model.specs.Answers.{Answer, Refused}
 use Rattle.model.specs.Calls.{Config, Op, calls}
 use Rattle.model.specs.Machine.{Buf, Call, Machine, Ans, ended, handed, told, lentTo}
 use Rattle.req_bus_time.specs.Time.{chargeOf, entryOf, passes, keepOf}
-use Rattle.call_bus_time.specs.Sharing.{Sort, enabling, starting, going, apart, sortOf, isHanded}
-use Rattle.call_bus_time.specs.Sharing as sharing
+use Rattle.calls.specs.Sharing.{Sort, enabling, starting, going, apart, sortOf, isHanded}
+use Rattle.calls.specs.Sharing as sharing
 use Rattle.proof_book.specs.Pages.{Pages}
 use Rattle.proof_book.specs.Book.{book}
 use Rattle.proof_book.specs.FrontPage.{written}

@@ -15,7 +15,7 @@ use Rattle.model.specs.Agree.{Ways}
 use Rattle.machine.specs.Questions.{questionOf}
 use Rattle.machine.specs.Suspended.{driverOf, drive}
 use Rattle.machine.specs.Goes.{Called}
-use Rattle.call_bus_time.specs.Sharing.{sortOf, turnedDown, timeAfter, settled, sharedCall}
+use Rattle.calls.specs.Sharing.{sortOf, turnedDown, timeAfter, settled, sharedCall}
 use Rattle.proof_book.specs.Pages.{Pages}
 use Rattle.proof_book.specs.Book.{book}
 use Rattle.proof_book.specs.Coupling.{Coupling}

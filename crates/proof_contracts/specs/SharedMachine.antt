@@ -8,7 +8,7 @@ use Rattle.model.specs.Answers.{Answer}
 use Rattle.model.specs.Calls.{Config, Op}
 use Rattle.model.specs.Machine.{Buf, Event, start, Machine}
 use Rattle.machine.specs.Goes.{Called}
-use Rattle.call_bus_time.specs.Sharing.{sharedCall}
+use Rattle.calls.specs.Sharing.{sharedCall}
 use Rattle.proof_book.specs.Pages.{Pages}
 use Rattle.proof_book.specs.FrontPage.{LentAsLeft}
 use Rattle.proof_contracts.specs.SharedBook.{sharedStep}

@@ -12,7 +12,7 @@ use Rattle.model.specs.Calls.{Config, Op, startRow}
 use Rattle.model.specs.Machine.{Buf, Event, start, Machine, Ans, blankA}
 use Rattle.machine.specs.Suspended.{machineOf}
 use Rattle.machine.specs.Goes.{Called}
-use Rattle.call_bus_time.specs.Sharing.{sortOf, sharedCall}
+use Rattle.calls.specs.Sharing.{sortOf, sharedCall}
 use Rattle.proof_book.specs.Pages.{Packet, Pages}
 use Rattle.proof_book.specs.Lengths.{Known, learnt, lengthAt}
 use Rattle.proof_book.specs.Others.{releasing, Names, underWay, callNames, Away, SamePage}
@@ -34,7 +34,7 @@ pub record MadeShared : Type 0 where
 abbrev pub outcomeOf : MadeShared → Called × List ℕ
 outcomeOf m = ((m .answer, machineOf (m .bytes) (m .slots)), m .time)
 
--- its contract, by driver i, where the state's bytes were xs and the slot buffer a (call_bus_time/specs/Sharing.antt)
+-- its contract, by driver i, where the state's bytes were xs and the slot buffer a (calls/specs/Sharing.antt)
 abbrev pub CallStep : ℕ → List ℕ → Buf → MadeShared → Type 0
 CallStep i xs a m = outcomeOf m ≡ sharedCall i (m .event .call) (machineOf xs a) (m .before) (m .event .lent)
 

@@ -11,7 +11,7 @@ use Rattle.model.specs.Machine.{Buf, Event, start, Machine, Ans, ended, handed,
 use Rattle.model.specs.Agree.{After, Ways, from-start}
 use Rattle.machine.specs.Suspended.{driverOf, drive, machineOf}
 use Rattle.machine.specs.Goes.{Called}
-use Rattle.call_bus_time.specs.Sharing.{sortOf, timeAfter, settled, sharedCall}
+use Rattle.calls.specs.Sharing.{sortOf, timeAfter, settled, sharedCall}
 use Rattle.proof_book.specs.Pages.{Pages}
 use Rattle.proof_book.specs.Book.{book}
 use Rattle.proof_book.specs.Coupling.{Coupling}

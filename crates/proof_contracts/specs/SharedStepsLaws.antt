@@ -14,7 +14,7 @@ use denote.Ref.{now}
 use Rattle.regs.specs.declared.Access.the-variants.{Read, Transmit}
 use Rattle.regs.specs.declared.Reg.the-variants.{FrameNo}
 use Rattle.regs.specs.declared.Dir.{Dir}
-use Rattle.marks.specs.Copies.{over}
+use Rattle.ring.specs.Copies.{over}
 use Rattle.state.specs.Driver.{Driver}
 use Rattle.state.specs.State.{view, saved}
 use Rattle.state.specs.Wakes.{listed}
@@ -27,7 +27,7 @@ use Rattle.model.specs.Machine.{Buf, Call, Event, start, begin, Way, idle, busy
 use Rattle.model_ops.specs.Concrete.{concrete}
 use Rattle.machine.specs.Suspended.{decode, machineOf, driverOf, drive}
 use Rattle.machine.specs.Goes.{Called}
-use Rattle.call_bus_time.specs.Sharing.{sortOf, timeAfter, settled, sharedCall}
+use Rattle.calls.specs.Sharing.{sortOf, timeAfter, settled, sharedCall}
 use Rattle.usbhs_c.proofs.usbhs_woken.Reads as woken-contract
 use Rattle.ring.specs.Waiting.{Same}
 use Rattle.proof_book.specs.Pages.{Pages}

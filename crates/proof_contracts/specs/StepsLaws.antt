@@ -11,9 +11,9 @@ use Rattle.machine.specs.declared.Step.{Step}
 use Rattle.machine.specs.Questions.{questionOf}
 use Rattle.machine.specs.Suspended.{machineOf, drive, answerOf, lentOr, lentBy, BufferUnchangedOnRow1}
 use Rattle.machine.specs.Goes.{Called}
-use Rattle.call_bus_time.specs.Sharing.{apart, sortOf}
-use Rattle.call_answer_word.specs.Parts.{stepOf, spoken}
-use Rattle.call_answer_word.specs.Word.{Encodes, Worded}
+use Rattle.calls.specs.Sharing.{apart, sortOf}
+use Rattle.machine.specs.Parts.{stepOf, spoken}
+use Rattle.machine.specs.Word.{Encodes, Worded}
 use Rattle.proof_bus_time.specs.CodeLaws.{leaves-record}
 use Rattle.proof_contracts.specs.SavedPage.{Saves}
 use Rattle.proof_contracts.specs.Steps.{IsStep, IsStepLent, IsStepInto, IsQuestion}

@@ -23,8 +23,8 @@ use Rattle.machine.specs.declared.Step.the-variants as step
 use Rattle.machine.specs.Suspended.{machineOf, driverOf, answerOf, lentOr, slotsFit, BufferUnchangedOnRow1}
 use Rattle.machine.specs.KeepsLaws.{kept-by}
 use Rattle.machine.specs.Goes.{Called}
-use Rattle.call_bus_time.specs.Sharing.{settled, sharedCall}
-use Rattle.call_answer_word.specs.Word.{Worded}
+use Rattle.calls.specs.Sharing.{settled, sharedCall}
+use Rattle.machine.specs.Word.{Worded}
 use Rattle.call_readings.specs.Readings.{Reading, reading, Lent, lent, Continues, If, Over, Brings, BeginsWith, ContinuesWith, asksFor}
 use Rattle.usbhs_c.proofs.readings.usbhs_interrupt.Reads as interrupt-contract
 use Rattle.usbhs_c.proofs.readings.usbhs_continue_transfer.Reads as continue-transfer-contract

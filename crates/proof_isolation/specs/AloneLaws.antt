@@ -15,8 +15,8 @@ use Rattle.model.specs.Calls.{Config, PollRead, Op, slotted, aside, Aside, call
 use Rattle.model.specs.Machine.{Buf, Call, start, begin, go, question, Ans, ended, awaited, busy, beside, started}
 use Rattle.model_ops.specs.Rings.{St}
 use Rattle.machine.specs.Suspended.{driverOf, drive}
-use Rattle.call_bus_time.specs.Sharing as sharing
-use Rattle.call_bus_time.specs.Sharing.{going, timeAfter}
+use Rattle.calls.specs.Sharing as sharing
+use Rattle.calls.specs.Sharing.{going, timeAfter}
 use Rattle.proof_wake_ups.specs.Rooms.{Few, Rooms}
 use Rattle.proof_wake_ups.specs.RoomsLaws.{rooms}
 use Rattle.proof_isolation.specs.EqualExcept.{Lawful, Channel, Touched}
@@ -31,7 +31,7 @@ use Rattle.proof_isolation.specs.Operations.{OfChannel, polls, passes}
 use Rattle.proof_isolation.specs.OwnReadingLaws.{own-polls}
 use Rattle.proof_isolation.specs.Stores.{OwnLent}
 use Rattle.proof_isolation.specs.StoresLaws.{own-like}
-use Rattle.call_bus_time.specs.SparesLaws.{spares-on}
+use Rattle.calls.specs.SparesLaws.{spares-on}
 use Rattle.proof_isolation.specs.Schedule.{Run, Two, accessOf, runBy, ownBy, alone, stateOf, Timely, wide, atOwn, OwnCall, own-row1, own-lent, Alone}
 use Rattle.proof_isolation.specs.Standing.{machineOf, stops, runOf, own-no, Told, telling, telling-own, Orderly, At, at}
 use Rattle.proof_isolation.specs.StandingLaws.{past-no, time-spared}
@@ -278,8 +278,8 @@ module _ (c : Channel) (share : Bool) (n : ℕ) where
       by : (r : ℕ) → startRow d b ≡ r → At c (one st i (alone share n (start d) b (runOf i x q a t)) u q′ a′ t′)
       by zero z = absurd (m z)
       by (suc r) z = subst (λ r. At c (one st i (ownBy (accessOf (stops i x .0) q) a (
-          started calls driverOf (λ s. s) d r (stops i x .1) b,
-          timeAfter n sharing.starting (started calls driverOf (λ s. s) d r (stops i x .1) b .0) (stops i x .1 .st) t,
-        )) u q′ a′ t′)) (sym z) (at st i l q q′ h k k′ e)
+        started calls driverOf (λ s. s) d r (stops i x .1) b,
+        timeAfter n sharing.starting (started calls driverOf (λ s. s) d r (stops i x .1) b .0) (stops i x .1 .st) t,
+      )) u q′ a′ t′)) (sym z) (at st i l q q′ h k k′ e)
   alone-by st i {x} {u} l q q′ {a} {a′} {t} {t′} h k k′ e (question d) b m =
       subst (λ b. At c (one st i (alone share n (question d) b (runOf i x q a t)) u q′ a′ t′)) (sym m) (at st i l q q′ h k k′ e)

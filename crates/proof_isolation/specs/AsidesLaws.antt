@@ -11,9 +11,9 @@ use Rattle.regs.specs.declared.Dir.the-variants.{Out, In}
 use Rattle.state.specs.declared.EpState.{EpState}
 use Rattle.state.specs.Driver.{Driver, key, noEp, withEps, epOn, withOn, lenOn, withLenOn, stampOn, stampKey}
 use Rattle.state.specs.Laws.{key-apart, key-same, epOn-same, epOn-other}
-use Rattle.marks.specs.Only.{Same, Only}
-use Rattle.marks.specs.OnlyLaws.{only-refl}
-use Rattle.marks.specs.Copies.{copied, bytesAt}
+use Rattle.ring.specs.Only.{Same, Only}
+use Rattle.ring.specs.OnlyLaws.{only-refl}
+use Rattle.ring.specs.Copies.{copied, bytesAt}
 use Rattle.ring.specs.Slot.{slotOf, slotAddr, hasWaiting, joinedOf}
 use Rattle.ring.specs.Out.{openedOf, closedOf}
 use Rattle.ring.specs.Waiting.{SamePlace, Ring}

@@ -15,8 +15,8 @@ use Rattle.state.specs.declared.Request.{Request}
 use Rattle.state.specs.Driver.{Driver, key, epOn, withOn, lenOn, stampOn, requestOn, withGlobals, withWakes}
 use Rattle.state.specs.Driver.{withStamps, withPaced, withRequests, withControl}
 use Rattle.state.specs.Laws.{Sized, epOn-same, epOn-other}
-use Rattle.marks.specs.Only.{Same, Only}
-use Rattle.marks.specs.OnlyLaws.{only-apart}
+use Rattle.ring.specs.Only.{Same, Only}
+use Rattle.ring.specs.OnlyLaws.{only-apart}
 use Rattle.ring.specs.Waiting.{SamePlace}
 use Rattle.state.specs.declared.Control.{Control}
 use Rattle.model.specs.Cells.{Cell, Val, control-cell}

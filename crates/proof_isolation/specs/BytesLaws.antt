@@ -8,11 +8,11 @@ use native.Mathlib.Decide.{ℕ-discrete, decLt}
 use borrow.Author.Tests.{lt-ltb, le-ltb}
 use lib.ListN.{length, getD, set, take, drop, length-set, length-drop, List·getD-eq-default}
 use lib.Seq.{sets, getD-set-same, getD-set-other}
-use Rattle.marks.specs.Marks.{mark, marked, markedRun, armedWords, arm, reach, short, armed}
-use Rattle.marks.specs.Copies.{copied, over}
-use Rattle.marks.specs.Only.{Only}
-use Rattle.marks.specs.OnlyLaws.{back-low, back-high, part-byte}
-use Rattle.marks.specs.Slots.{only-armed, only-copied, over-low, over-high}
+use Rattle.ring.specs.Marks.{mark, marked, markedRun, armedWords, arm, reach, short, armed}
+use Rattle.ring.specs.Copies.{copied, over}
+use Rattle.ring.specs.Only.{Only}
+use Rattle.ring.specs.OnlyLaws.{back-low, back-high, part-byte}
+use Rattle.ring.specs.MarksSlots.{only-armed, only-copied, over-low, over-high}
 
 -- byte k of two buffers is the same
 abbrev pub At : ℕ → List ℕ → List ℕ → Type 0

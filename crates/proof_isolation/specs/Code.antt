@@ -1,5 +1,5 @@
 -- Request Fourteen of the Rattle code: what its calls make of the lent bytes in two runs. The contract of each call says that it is one step of the
--- machine of calls that the bytes are (machine/specs/Suspended.antt), with the bus time call_bus_time/specs/Sharing.antt
+-- machine of calls that the bytes are (machine/specs/Suspended.antt), with the bus time calls/specs/Sharing.antt
 use mathlib.Core.Bool.{Bool, true, false}
 use mathlib.Core.List.{List, [], _∷_}
 use mathlib.Core.Path.{_≡_}
@@ -9,7 +9,7 @@ use Rattle.model.specs.Answers.{Answer}
 use Rattle.model.specs.Calls.{Config, Op, startRow}
 use Rattle.model.specs.Machine.{Buf, Call, start, begin, go, question, Event, Ans, idle}
 use Rattle.machine.specs.Suspended.{drive, machineOf}
-use Rattle.call_bus_time.specs.Sharing.{sharedCall}
+use Rattle.calls.specs.Sharing.{sharedCall}
 use Rattle.proof_book.specs.MachineRuns.{Premise}
 use Rattle.proof_book.specs.Sorting.{sortsOf}
 use Rattle.proof_isolation.specs.EqualExcept.{Channel}

@@ -10,7 +10,7 @@ use Rattle.regs.specs.declared.Dir.the-variants.{Out}
 use Rattle.state.specs.declared.Globals.{Globals}
 use Rattle.state.specs.declared.Control.{Control}
 use Rattle.state.specs.Driver.{epOn, withOn}
-use Rattle.marks.specs.Copies.{bytesAt}
+use Rattle.ring.specs.Copies.{bytesAt}
 use Rattle.model.specs.Cells.{EpCore, ep-cell, control-cell}
 use Rattle.model.specs.Script.{Script, run, bind, test, ret, put, fetch, _>>_, received0}
 use Rattle.model.specs.Statics.{isOn, withReady, modifyEp}

@@ -12,7 +12,7 @@ use Rattle.state.specs.declared.EpState.{EpState}
 use Rattle.state.specs.Wakes.{Wakes, wakeCode, listed}
 use Rattle.state.specs.WakesLaws.{Room}
 use Rattle.state.specs.Driver.{Driver, key, epOn, requestOn}
-use Rattle.marks.specs.Only.{Only}
+use Rattle.ring.specs.Only.{Only}
 use Rattle.model.specs.Simulates.{Phase}
 use Rattle.model.specs.TransferKinds.{TransferKinds}
 use Rattle.model.specs.Statics.{withReady}

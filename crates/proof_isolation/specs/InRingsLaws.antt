@@ -14,7 +14,7 @@ use Rattle.state.specs.Driver.{Driver, key, lenKey, epOn, withOn, lenOn}
 use Rattle.state.specs.Laws.{epOn-other}
 use Rattle.alloc.specs.Buffer.{goodSize}
 use Rattle.alloc.specs.BufferLaws.{each-size}
-use Rattle.marks.specs.Only.{Same}
+use Rattle.ring.specs.Only.{Same}
 use Rattle.ring.specs.Slot.{slotOf, slotAddr, hasWaiting}
 use Rattle.ring.specs.In.{completedOf, loadedOf, unloadedOf}
 use Rattle.ring.specs.Waiting.{SamePlace}

@@ -16,8 +16,8 @@ use Rattle.state.specs.declared.Request.{Request}
 use Rattle.state.specs.declared.Control.{Control}
 use Rattle.state.specs.Driver.{Driver, key, noRequest, epOn, stampOn, pacedOn, withPacedOn, requestOn, withRequestOn, withControl}
 use Rattle.state.specs.Laws.{Sized, requestOn-same, requestOn-other}
-use Rattle.marks.specs.Only.{Only}
-use Rattle.marks.specs.Copies.{copied}
+use Rattle.ring.specs.Only.{Only}
+use Rattle.ring.specs.Copies.{copied}
 use Rattle.model.specs.Cells.{control-cell, request-cell, paced-cell}
 use Rattle.model.specs.Script.{put, get, act, fill, fill0}
 use Rattle.model.specs.Statics.{isOn}

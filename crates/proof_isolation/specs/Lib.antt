@@ -49,3 +49,16 @@ pub mod UndisturbedLaws
 pub mod TimeLaws
 pub mod Code
 pub mod CodeLaws
+pub mod Late
+pub mod Lights
+pub mod LightsLaws
+pub mod SlidesLaws
+pub mod CrossingLaws
+pub mod LateRunsLaws
+pub mod EarlyLaws
+pub mod LateCode
+pub mod LateCodeLaws
+pub mod Moves
+pub mod Once
+pub mod Witness
+pub mod LateWitness

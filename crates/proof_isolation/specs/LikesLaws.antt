@@ -10,8 +10,8 @@ use Rattle.state.specs.WakesLaws.{Room}
 use Rattle.state.specs.declared.EpState.{EpState}
 use Rattle.state.specs.declared.Request.{Request}
 use Rattle.state.specs.Driver.{Driver, key, epOn, requestOn, noRequest}
-use Rattle.marks.specs.Only.{Only}
-use Rattle.marks.specs.OnlyLaws.{only-refl, only-trans}
+use Rattle.ring.specs.Only.{Only}
+use Rattle.ring.specs.OnlyLaws.{only-refl, only-trans}
 use Rattle.model.specs.Simulates.{Phase}
 use Rattle.model.specs.Machine.{Buf}
 use Rattle.model_ops.specs.Rings.{St}

@@ -11,9 +11,9 @@ use Rattle.state.specs.declared.EpState.{EpState}
 use Rattle.state.specs.declared.Globals.{Globals}
 use Rattle.state.specs.Driver.{Driver, key, epOn, withOn}
 use Rattle.state.specs.Laws.{Sized, key-same, key-apart, epOn-same}
-use Rattle.marks.specs.Marks.{isMarked, markedLen, armed}
-use Rattle.marks.specs.Only.{Same, Only}
-use Rattle.marks.specs.Slots.{marked-same, len-same}
+use Rattle.ring.specs.Marks.{isMarked, markedLen, armed}
+use Rattle.ring.specs.Only.{Same, Only}
+use Rattle.ring.specs.MarksSlots.{marked-same, len-same}
 use Rattle.ring.specs.Slot.{slotOf}
 use Rattle.ring.specs.Out.{cappedAt, arrivedOf, arrivedLens, armedAt}
 use Rattle.ring.specs.Waiting.{SamePlace}

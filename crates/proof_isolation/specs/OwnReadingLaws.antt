@@ -7,7 +7,7 @@ use Rattle.state.specs.declared.EpState.{EpState}
 use Rattle.state.specs.declared.Request.{Request}
 use Rattle.state.specs.Driver.{Driver, key, epOn, withOn, lenOn, stampOn, withRequestOn}
 use Rattle.state.specs.Laws.{epOn-same, requestOn-other}
-use Rattle.marks.specs.OnlyLaws.{only-refl}
+use Rattle.ring.specs.OnlyLaws.{only-refl}
 use Rattle.ring.specs.Slot.{hasWaiting, passedOf}
 use Rattle.ring.specs.Out.{closedOf}
 use Rattle.model.specs.Cells.{EpCore, globals-cell, allocator-cell, ep-cell, request-cell}

@@ -10,8 +10,8 @@ use Rattle.regs.specs.Status.{token, tokenNumbered, isOut}
 use Rattle.regs.specs.declared.Dir.the-variants.{Out}
 use Rattle.state.specs.Wakes.{wakeCode}
 use Rattle.state.specs.Driver.{Driver, epOn}
-use Rattle.marks.specs.Only.{Only}
-use Rattle.marks.specs.OnlyLaws.{only-refl, only-wider}
+use Rattle.ring.specs.Only.{Only}
+use Rattle.ring.specs.OnlyLaws.{only-refl, only-wider}
 use Rattle.ring.specs.Slot.{slotAddr}
 use Rattle.ring.specs.Slots.{slot-from, slot-upto}
 use Rattle.ring.specs.Laws.{place-addr, place-trans}

@@ -10,7 +10,7 @@ use Rattle.regs.specs.declared.Dir.the-variants.{Out}
 use Rattle.state.specs.declared.EpState.{EpState}
 use Rattle.state.specs.Driver.{key, epOn}
 use Rattle.state.specs.Laws.{epOn-same}
-use Rattle.marks.specs.Copies.{bytesAt}
+use Rattle.ring.specs.Copies.{bytesAt}
 use Rattle.ring.specs.Slot.{hasWaiting}
 use Rattle.ring.specs.Out.{closedOf}
 use Rattle.ring.specs.Slots.{slot-from, slot-upto}

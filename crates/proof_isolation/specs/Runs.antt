@@ -18,8 +18,8 @@ use Rattle.model_ops.specs.Rings.{St}
 use Rattle.model_ops.specs.Concrete.{concrete}
 use Rattle.machine.specs.Suspended.{driverOf, drive}
 use Rattle.machine.specs.Goes.{Called}
-use Rattle.call_bus_time.specs.Sharing.{Sort, enabling, starting, going, opSort, slottedSort, sortOf, timeAfter, turnedDown}
-use Rattle.call_bus_time.specs.Sharing as sharing
+use Rattle.calls.specs.Sharing.{Sort, enabling, starting, going, opSort, slottedSort, sortOf, timeAfter, turnedDown}
+use Rattle.calls.specs.Sharing as sharing
 use Rattle.proof_wake_ups.specs.Rooms.{Roomy, Rooms}
 use Rattle.proof_wake_ups.specs.RoomsLaws.{rooms}
 use Rattle.proof_isolation.specs.EqualExcept.{Lawful, Channel, LowEquiv}
@@ -34,8 +34,8 @@ use Rattle.proof_isolation.specs.Stores.{StoredAlike}
 use Rattle.proof_isolation.specs.StoresLaws.{lent-like}
 use Rattle.proof_isolation.specs.TimeLaws.{same-record, same-turned-down}
 use Rattle.proof_isolation.specs.OthersLaws.{same-answers}
-use Rattle.call_bus_time.specs.Spares.{Sparing}
-use Rattle.call_bus_time.specs.SparesLaws.{interrupt-spares, spares-on}
+use Rattle.calls.specs.Spares.{Sparing}
+use Rattle.calls.specs.SparesLaws.{interrupt-spares, spares-on}
 use Rattle.proof_isolation.specs.Schedule.{Run, Two, begins, goes, asked, stores, accessOf, runBy, statusOf}
 use Rattle.proof_isolation.specs.Schedule.{shared, called, turn, stateOf, Timely, atOwn, unfit, wide, BringsAt}
 use Rattle.proof_isolation.specs.Schedule.{BothCall, call-row1, call-lent, BothGo, go-row1, go-row16, go-on, May}

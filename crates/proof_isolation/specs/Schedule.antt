@@ -21,7 +21,7 @@ use Rattle.machine.specs.Goes.{Called}
 use Rattle.machine.specs.Questions.{questionOf}
 use Rattle.proof_book.specs.Coupling.{endOf, lensOf, slotStamps}
 use Rattle.proof_book.specs.Stamps.{stamped}
-use Rattle.call_bus_time.specs.Sharing.{sortOf, timeAfter, turnedDown}
+use Rattle.calls.specs.Sharing.{sortOf, timeAfter, turnedDown}
 use Rattle.proof_isolation.specs.EqualExcept.{others, Channel}
 use Rattle.proof_isolation.specs.Whose.{own}
 use Rattle.proof_isolation.specs.Apart.{Brings}

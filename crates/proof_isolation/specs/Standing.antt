@@ -27,7 +27,7 @@ use Rattle.proof_isolation.specs.PairsLaws.{apart-more, apart-flip}
 use Rattle.proof_isolation.specs.Answers as answer
 use Rattle.proof_isolation.specs.Answers.{SameAnswer}
 use Rattle.proof_isolation.specs.AnswersLaws.{answer-sym}
-use Rattle.call_bus_time.specs.Spares.{Sparing}
+use Rattle.calls.specs.Spares.{Sparing}
 use Rattle.proof_isolation.specs.Schedule.{Run, Two, accessOf, SameAns, same, ended-same, Answers}
 
 -- ---- machines

@@ -17,13 +17,13 @@ use Rattle.model.specs.Calls.{calls}
 use Rattle.model.specs.Machine.{Ans, misfit}
 use Rattle.model_ops.specs.Rings.{St}
 use Rattle.machine.specs.Suspended.{driverOf}
-use Rattle.call_bus_time.specs.Sharing.{going, written, timeAfter}
+use Rattle.calls.specs.Sharing.{going, written, timeAfter}
 use Rattle.proof_wake_ups.specs.Rooms.{Few, Rooms}
 use Rattle.proof_wake_ups.specs.RoomsLaws.{short}
 use Rattle.proof_isolation.specs.EqualExcept.{Lawful, Channel}
 use Rattle.proof_isolation.specs.Apart.{status, Past, gone, waits, ApartBy, end, both, left, right, owns}
 use Rattle.proof_isolation.specs.Answers.{SameAnswer}
-use Rattle.call_bus_time.specs.Spares.{Spares, Sparing}
+use Rattle.calls.specs.Spares.{Spares, Sparing}
 use Rattle.proof_isolation.specs.OthersLaws.{same-others}
 use Rattle.proof_isolation.specs.Schedule.{Two, atOwn, SameAns, same, SameStand, SameOthers, Answers, alike, own-first}
 use Rattle.proof_isolation.specs.Schedule.{own-second}

@@ -27,7 +27,7 @@ use Rattle.proof_book.specs.SortingLaws.{ep0-plain, after-sorting}
 use Rattle.proof_book.specs.Always.{after}
 use Rattle.proof_book.specs.MachineRuns.{Premise}
 use Rattle.proof_book.specs.SlotsKeptLaws.{lent-is}
-use Rattle.call_bus_time.specs.Sharing.{starting, sortOf, timeAfter, turnedDown}
+use Rattle.calls.specs.Sharing.{starting, sortOf, timeAfter, turnedDown}
 use Rattle.proof_wake_ups.specs.Rooms.{Few, Roomy, Rooms}
 use Rattle.proof_wake_ups.specs.RoomsLaws.{room, rooms, start-rooms}
 use Rattle.proof_isolation.specs.EqualExcept as but

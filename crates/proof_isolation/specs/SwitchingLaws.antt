@@ -6,7 +6,7 @@ use mathlib.Core.Path.{_≡_, refl, ap, subst, sym, _∙_}
 use Prim.Native.Nat.{ℕ, zero, suc, _%_}
 use native.Mathlib.Decide.{ℕ-discrete}
 use lib.Dec.{eqb}
-use Rattle.le_bytes.specs.TablesLaws.{tab-ext}
+use Rattle.bits.specs.TablesLaws.{tab-ext}
 use Rattle.regs.specs.declared.Dir.the-variants.{Out}
 use Rattle.regs.specs.Enables as enables
 use Rattle.state.specs.declared.EpState.{EpState}
@@ -16,8 +16,8 @@ use Rattle.state.specs.Fresh.{clearStamps}
 use Rattle.state.specs.Kept.{withEpConfig, withEpType}
 use Rattle.state.specs.Driver.{Driver, key, epOn, withOn, stampOn, requestOn}
 use Rattle.state.specs.Laws.{Sized}
-use Rattle.marks.specs.Marks.{armed}
-use Rattle.marks.specs.Only.{Only}
+use Rattle.ring.specs.Marks.{armed}
+use Rattle.ring.specs.Only.{Only}
 use Rattle.ring.specs.Slot.{slotAddr}
 use Rattle.ring.specs.Out.{armedAt}
 use Rattle.ring.specs.Waiting.{SamePlace}

@@ -16,7 +16,7 @@ use Rattle.model_ops.specs.Rings.{St}
 use Rattle.machine.specs.Suspended.{driverOf, drive}
 use Rattle.machine.specs.Goes.{Called}
 use Rattle.req_bus_time.specs.Time.{chargeOf, entryOf, passes}
-use Rattle.call_bus_time.specs.Sharing.{Sort, enabling, starting, going, apart, chargeOn, isHanded, sortOf, timeAfter, turnedDown, settled, sharedCall}
+use Rattle.calls.specs.Sharing.{Sort, enabling, starting, going, apart, chargeOn, isHanded, sortOf, timeAfter, turnedDown, settled, sharedCall}
 use Rattle.proof_isolation.specs.LikesLaws.{and-false}
 use Rattle.proof_isolation.specs.EqualExcept.{Channel, LowEquiv}
 use Rattle.proof_isolation.specs.ButsLaws.{stays-any}

@@ -14,7 +14,7 @@ use Rattle.model.specs.Machine.{Buf, Call, start, begin, go, question, Machine,
 use Rattle.machine.specs.declared.Step.the-variants as step
 use Rattle.machine.specs.Suspended.{decode, machineAt, machineOf, drive, answerOf, slotsFit, lentOr, BufferUnchangedOnRow1, SavedByAnswer}
 use Rattle.machine.specs.Goes.{Called}
-use Rattle.call_bus_time.specs.Sharing.{sharedCall}
+use Rattle.calls.specs.Sharing.{sharedCall}
 use Rattle.proof_refusals.specs.Left.{Poll, none, pollOf, requestEnded, flagCleared, leftBy, left, buffersRow}
 use Rattle.proof_refusals.specs.Scripts.{unpolled}
 use Rattle.proof_refusals.specs.Refusals.{refusal}

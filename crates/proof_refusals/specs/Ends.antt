@@ -12,8 +12,8 @@ use Rattle.state.specs.State.{view, saved}
 use Rattle.model.specs.Answers.{Answer, End}
 use Rattle.model.specs.Calls.{Config, Op}
 use Rattle.model.specs.Machine.{Buf, Call, Ans, ended}
-use Rattle.endpoint_common.specs.Answers.{front}
-use Rattle.endpoint_common.specs.Front.{front-length}
+use Rattle.endpoint.specs.Answers.{front}
+use Rattle.endpoint.specs.Front.{front-length}
 use Rattle.machine.specs.declared.Suspended.{Suspended}
 use Rattle.machine.specs.declared.Step.the-variants as step
 use Rattle.machine.specs.Suspended.{decode, machineAt, machineOf, drive, answerOf}

@@ -21,7 +21,7 @@ use Rattle.driver.specs.Points as driver
 use Rattle.bus.specs.Points as bus
 use Rattle.control.specs.Points as control
 use Rattle.endpoint.specs.Points as endpoint
-use Rattle.iso_in.specs.Advance as advance
+use Rattle.isochronous.specs.Advance as advance
 use Rattle.irq.specs.Points as handler
 use Rattle.machine.specs.declared.Suspended.{Suspended}
 use Rattle.machine.specs.declared.Suspended.the-variants as under

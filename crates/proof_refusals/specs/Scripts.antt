@@ -13,9 +13,9 @@ use Rattle.alloc.specs.declared.Answer.the-variants as alloc
 use Rattle.alloc.specs.Alloc.{allocateOf, allocateEp0Of}
 use Rattle.alloc.specs.Run as run
 use Rattle.alloc.specs.Rows.{keeps}
-use Rattle.req_descriptor.specs.declared.Answer as reading-answer
-use Rattle.req_descriptor.specs.declared.Answer.the-variants as reading
-use Rattle.req_descriptor.specs.Reading.{readingOf}
+use Rattle.descriptor.specs.declared.Answer as reading-answer
+use Rattle.descriptor.specs.declared.Answer.the-variants as reading
+use Rattle.descriptor.specs.Reading.{readingOf}
 use Rattle.model.specs.Script.{ret}
 use Rattle.model.specs.Answers.{Refused}
 use Rattle.model.specs.Driver.{allocated-as, started-as}

@@ -9,7 +9,7 @@ use Rattle.model.specs.Calls.{Config, Op, calls}
 use Rattle.model.specs.Machine.{Buf, Call, start, begin, go, question, Way, Machine, Ans, ended, handed, told, begun, stay}
 use Rattle.machine.specs.declared.Suspended.{Suspended}
 use Rattle.machine.specs.Suspended.{wayOf, machineAt, driverOf, drive, slotsFit}
-use Rattle.call_bus_time.specs.Sharing.{Sort, enabling, starting, going, apart, opSort, sortOf, turnedDown, timeAfter, settled, sharedCall}
+use Rattle.calls.specs.Sharing.{Sort, enabling, starting, going, apart, opSort, sortOf, turnedDown, timeAfter, settled, sharedCall}
 use Rattle.proof_refusals.specs.Left.{left, buffersRow}
 use Rattle.proof_refusals.specs.Refusals.{Called, machineIn, AnsIs, Is, call-is}
 

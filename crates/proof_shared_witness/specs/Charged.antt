@@ -11,7 +11,7 @@ use Rattle.model.specs.Answers.{Answer}
 use Rattle.model.specs.Machine.{Machine}
 use Rattle.machine.specs.Goes.{Called}
 use Rattle.proof_book.specs.Pages.{Pages}
-use Rattle.proof_book_witness.specs.Inputs.{Input, eventOf, lent}
+use Rattle.proof_book.specs.Inputs.{Input, eventOf, lent}
 use Rattle.proof_contracts.specs.SharedPage.{AfterShared}
 use Rattle.proof_contracts.specs.SharedMachine.{Turn, comesTo, bookAfter, Premise, AfterTurns}
 

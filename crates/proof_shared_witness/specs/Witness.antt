@@ -16,13 +16,13 @@ use Rattle.machine.specs.Suspended.{drive}
 use Rattle.machine.specs.Goes.{Called}
 use Rattle.req_bus_time.specs.Time as bus-time
 use Rattle.req_bus_time.specs.Time.{uncharged, inUse, entryOf, passes}
-use Rattle.call_bus_time.specs.Sharing as sharing
-use Rattle.call_bus_time.specs.Sharing.{isHanded, chargeOn}
-use Rattle.call_bus_time.specs.SharingLaws.{refuses}
+use Rattle.calls.specs.Sharing as sharing
+use Rattle.calls.specs.Sharing.{isHanded, chargeOn}
+use Rattle.calls.specs.SharingLaws.{refuses}
 use Rattle.proof_book.specs.Computing.{computing}
-use Rattle.proof_book_witness.specs.Inputs.{Input}
-use Rattle.proof_book_witness.specs.Witness.{config, buffer, driver, pages, accepted, told, allocated, does}
-use Rattle.proof_book_witness.specs.Witness.{continues, arrivals, lateArrival, asks, noting}
+use Rattle.proof_book.specs.Inputs.{Input}
+use Rattle.proof_book.specs.Witness.{config, buffer, driver, pages, accepted, told, allocated, does}
+use Rattle.proof_book.specs.Witness.{continues, arrivals, lateArrival, asks, noting}
 use Rattle.proof_contracts.specs.SharedMachine.{Turn, starting, comesTo, bookAfter, Premise, AfterTurns}
 use Rattle.proof_contracts.specs.SharedTurns.{machine-shared-demand-3}
 use Rattle.proof_shared_witness.specs.Charged.{Charged, Standing, lentTime, outcomeOf, next, afterAll}

@@ -20,11 +20,11 @@ use Rattle.state.specs.Laws.{key-apart}
 use Rattle.alloc.specs.declared.Answer as alloc
 use Rattle.alloc.specs.declared.Answer.the-variants as variant
 use Rattle.alloc.specs.Alloc.{allocateOf, allocateEp0Of}
-use Rattle.req_descriptor.specs.declared.Endpoint.{Endpoint}
-use Rattle.req_descriptor.specs.declared.Answer as listing
-use Rattle.req_descriptor.specs.declared.Answer.the-variants as listed
-use Rattle.req_descriptor.specs.Reading.{readingOf, listOf}
-use Rattle.req_preview.specs.Trial.{directionOf, trialOf}
+use Rattle.descriptor.specs.declared.Endpoint.{Endpoint}
+use Rattle.descriptor.specs.declared.Answer as listing
+use Rattle.descriptor.specs.declared.Answer.the-variants as listed
+use Rattle.descriptor.specs.Reading.{readingOf, listOf}
+use Rattle.descriptor.specs.Trial.{directionOf, trialOf}
 use Rattle.model.specs.Tree as tree
 use Rattle.model.specs.Cells.{ep-cell, allocator-cell}
 use Rattle.model.specs.Script.{bind, run, row, rows, bus-reset, no-wakes, waken, allocate, allocate0}

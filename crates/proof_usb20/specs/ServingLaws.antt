@@ -192,9 +192,12 @@ sets-up w s two e ph = at-ask tt (λ _ a _ i. at-ask tt (λ _ b _ j. at-ask tt (
     let seen-p : view (p .0) ≡ setReady 1 (setIn aborted (setOut aborted (view (s .0)))) = put-globals g n ∙ ap (setReady 1)
     (in-view cleared o (out-whole cleared b h) ∙ ap (setIn aborted) (out-view cleared b h ∙ ap (setOut aborted) (j .0 ∙ i .0))) in
     let c′ = concrete .act (waken (wakeCode Out 0 ∷ [])) c in
-    at-end ((ready-setup (withTx (wordOf word.NAK word.DATA0 false) (withRx (wordOf word.NAK word.DATA0 false) w)) e
-    (act-view (waken (wakeCode In 0 ∷ [])) refl c′ ∙ (act-view (waken (wakeCode Out 0 ∷ [])) refl c
-    ∙ (l .0 ∙ seen-p))) (set-up-fits _ _ _ (w .pipe) (view (s .0)) two nak-word nak-word)), ph))))
+    at-end (
+      (ready-setup (withTx (wordOf word.NAK word.DATA0 false) (withRx (wordOf word.NAK word.DATA0 false) w)) e
+          (act-view (waken (wakeCode In 0 ∷ [])) refl c′ ∙ (act-view (waken (wakeCode Out 0 ∷ [])) refl c
+          ∙ (l .0 ∙ seen-p))) (set-up-fits _ _ _ (w .pipe) (view (s .0)) two nak-word nak-word)),
+      ph,
+    ))))
 
 -- ---- the flags
 

@@ -8,9 +8,9 @@ use Rattle.regs.specs.declared.Token.{Token}
 use Rattle.regs.specs.declared.Token.the-variants as tok
 use Rattle.alloc.specs.declared.Answer as alloc-answer
 use Rattle.alloc.specs.declared.Answer.the-variants as alloc
-use Rattle.req_descriptor.specs.declared.Endpoint.{Endpoint}
-use Rattle.req_descriptor.specs.declared.Answer as reading-answer
-use Rattle.req_descriptor.specs.declared.Answer.the-variants as reading
+use Rattle.descriptor.specs.declared.Endpoint.{Endpoint}
+use Rattle.descriptor.specs.declared.Answer as reading-answer
+use Rattle.descriptor.specs.declared.Answer.the-variants as reading
 use Rattle.model.specs.declared.Transfer.{Transfer}
 use Rattle.model.specs.IsoIn.{isoInComplete, sofOne, sofWalk, lateWalk, onSof, isoInCompletions}
 use Rattle.model.specs.IsoOut.{checkWalk}

@@ -9,3 +9,15 @@ pub mod Laws
 pub mod OutLaws
 pub mod InLaws
 pub mod Table
+pub mod Marks
+pub mod Copies
+pub mod Only
+pub mod OnlyLaws
+pub mod Words
+pub mod Arms
+pub mod Finds
+pub mod FindsLaws
+pub mod MarksSlots
+pub mod Stored
+pub mod StoredLaws
+pub mod MarksTable

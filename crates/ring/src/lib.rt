@@ -1,6 +1,9 @@
 // The rings of isochronous packets, on an endpoint's record by value. Head and tail are 8-bit counters that run free. Every function is
 // total: any number is safe.
 use state::EpState;
+
+pub mod marks; // marks.rt: marks, length by marks and copies in the slots of the lent buffer
+
 ghost use mathlib.Core.Path.{_≡_};
 ghost use Prim.Native.Nat.{_+_, _-_, _*_, _%_, _^_, _≤_, _<_};
 ghost use Rattle.ring.specs.Slot.{slotOf, slotAddr, hasWaiting, joinedOf};

@@ -3,7 +3,7 @@
 use mathlib.Core.List.{List}
 use Prim.Native.Nat.{ℕ}
 use lib.ListN.{drop}
-use Rattle.le_bytes.specs.Bytes.{puts}
+use Rattle.bits.specs.Bytes.{puts}
 
 pub five : {A B C D E R : Type 0} → A × (B × (C × (D × (E × Unit {0})))) → R → A × (B × (C × (D × (E × R))))
 five p r = (p .0, (p .1 .0, (p .1 .1 .0, (p .1 .1 .1 .0, (p .1 .1 .1 .1 .0, r)))))

@@ -7,8 +7,8 @@ use native.Mathlib.Omega.{arith}
 use native.Mathlib.Numerals.{add-one}
 use lib.ListN.{length, getD, set, replicate, length-set}
 use lib.Seq.{getD-set-same, getD-set-other, ext-getD}
-use Rattle.le_bytes.specs.TablesLaws.{lt-or-ge}
-use Rattle.le_bytes.specs.Bytes.{puts, bytes}
+use Rattle.bits.specs.TablesLaws.{lt-or-ge}
+use Rattle.bits.specs.Bytes.{puts, bytes}
 use Rattle.state.specs.declared.EpState.{EpState}
 use Rattle.state.specs.Codec.{epWidths, epAs}
 use Rattle.state.specs.State.{view, saved}

@@ -15,7 +15,7 @@ use Rattle.state.specs.declared.Globals.{Globals}
 use Rattle.state.specs.declared.Request.{Request}
 use Rattle.state.specs.declared.Control.{Control}
 use Rattle.state.specs.declared.Saved.{Saved}
-use Rattle.le_bytes.specs.Bytes.{gets, puts, number, digits, numbers, bytes, Each}
+use Rattle.bits.specs.Bytes.{gets, puts, number, digits, numbers, bytes, Each}
 use Rattle.state.specs.Codec.{epWidths, epAs, epOf, allocatorWidths, allocatorAs, allocatorOf, globalsWidths}
 use Rattle.state.specs.Codec.{globalsAs, globalsOf, requestWidths, requestAs, requestOf, controlWidths, controlAs}
 use Rattle.state.specs.Codec.{controlOf, savedWidths, savedAs, savedOf}
@@ -25,10 +25,10 @@ use Rattle.state.specs.Driver.{withPaced, withRequests, withGlobals, wit
 use Rattle.state.specs.Driver.{withOn, lenOn, withLenOn, stampOn, withStampOn, pacedOn, withPacedOn, requestOn}
 use Rattle.state.specs.Driver.{withRequestOn}
 use Rattle.state.specs.State.{epIn, allocatorIn, globalsIn, requestIn, controlIn, savedIn, view, saved}
-use Rattle.le_bytes.specs.Runs.{Same, puts-same, gets-same, gets-puts}
-use Rattle.le_bytes.specs.Numbers.{Fit, number-digits, numbers-bytes, each-eq}
-use Rattle.le_bytes.specs.Tables.{table}
-use Rattle.le_bytes.specs.TablesLaws.{table-same, table-set, table-at}
+use Rattle.bits.specs.Runs.{Same, puts-same, gets-same, gets-puts}
+use Rattle.bits.specs.Numbers.{Fit, number-digits, numbers-bytes, each-eq}
+use Rattle.bits.specs.Tables.{table}
+use Rattle.bits.specs.TablesLaws.{table-same, table-set, table-at}
 
 -- the bytes from p up to q lie before lo, or from hi on
 abbrev outside : ℕ → ℕ → ℕ → ℕ → Bool

@@ -6,10 +6,10 @@ use Prim.Native.Nat.{ℕ, _≤_, _<_}
 use native.Mathlib.Omega.{arith}
 use lib.ListN.{length, getD}
 use lib.Seq.{ext-getD}
-use Rattle.le_bytes.specs.Bytes.{number}
-use Rattle.le_bytes.specs.Runs.{Same}
-use Rattle.le_bytes.specs.TablesLaws.{lt-or-ge}
-use Rattle.le_bytes.specs.Injective.{tells-number, tells-numbers, one-tells, table-tells}
+use Rattle.bits.specs.Bytes.{number}
+use Rattle.bits.specs.Runs.{Same}
+use Rattle.bits.specs.TablesLaws.{lt-or-ge}
+use Rattle.bits.specs.Injective.{tells-number, tells-numbers, one-tells, table-tells}
 use Rattle.regs.specs.declared.Dir.{Dir}
 use Rattle.state.specs.Codec as codec
 use Rattle.state.specs.Driver.{Driver, noEp, noRequest, epOn, withOn}

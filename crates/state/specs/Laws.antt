@@ -6,8 +6,8 @@ use Prim.Native.Nat.{ℕ, _+_, _*_, _%_, _<_}
 use native.Mathlib.Omega.{arith}
 use lib.ListN.{length, getD, set}
 use lib.Seq.{getD-set-same, getD-set-other, set-getD, set-set}
-use Rattle.le_bytes.specs.Bytes.{gets, number}
-use Rattle.le_bytes.specs.TablesLaws.{length-tab}
+use Rattle.bits.specs.Bytes.{gets, number}
+use Rattle.bits.specs.TablesLaws.{length-tab}
 use Rattle.regs.specs.declared.Dir.{Dir}
 use Rattle.regs.specs.declared.Dir.the-variants.{Out, In}
 use Rattle.state.specs.declared.EpState.{EpState}

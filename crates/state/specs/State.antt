@@ -7,8 +7,8 @@ use Rattle.state.specs.declared.Globals.{Globals}
 use Rattle.state.specs.declared.Request.{Request}
 use Rattle.state.specs.declared.Control.{Control}
 use Rattle.state.specs.declared.Saved.{Saved}
-use Rattle.le_bytes.specs.Bytes.{gets, number, numbers}
-use Rattle.le_bytes.specs.Tables.{table}
+use Rattle.bits.specs.Bytes.{gets, number, numbers}
+use Rattle.bits.specs.Tables.{table}
 use Rattle.state.specs.Codec as codec
 use Rattle.state.specs.Wakes.{Wakes}
 use Rattle.state.specs.Driver.{Driver}

@@ -6,19 +6,19 @@ use crate::Globals;
 use crate::Request;
 use crate::Saved;
 use crate::State;
-use le_bytes::get8;
-use le_bytes::get8x5;
-use le_bytes::get16;
-use le_bytes::get16x5;
-use le_bytes::get32;
-use le_bytes::put8;
-use le_bytes::put8x5;
-use le_bytes::put16;
-use le_bytes::put16x5;
-use le_bytes::put32;
+use bits::le_bytes::get8;
+use bits::le_bytes::get8x5;
+use bits::le_bytes::get16;
+use bits::le_bytes::get16x5;
+use bits::le_bytes::get32;
+use bits::le_bytes::put8;
+use bits::le_bytes::put8x5;
+use bits::le_bytes::put16;
+use bits::le_bytes::put16x5;
+use bits::le_bytes::put32;
 ghost use mathlib.Core.Path.{_≡_};
 ghost use Prim.Native.Nat.{_+_, _≤_};
-ghost use Rattle.le_bytes.specs.Bytes.{gets, puts, numbers, bytes, Each};
+ghost use Rattle.bits.specs.Bytes.{gets, puts, numbers, bytes, Each};
 ghost use Rattle.state.specs.Codec.{epWidths, epAs, allocatorWidths, allocatorAs, globalsWidths, globalsAs};
 ghost use Rattle.state.specs.Codec.{requestWidths, requestAs, controlWidths, controlAs, savedWidths, savedAs};
 
@@ -128,9 +128,27 @@ pub fn write_globals(s: &mut State, o: usize, r: Globals)
     put32(s, o, 8, r.ep_config);
     put32(s, o, 12, r.ep_type);
     put32(s, o, 16, r.ep0_buf);
-    put16x5(s, o, 20, r.iso_out_eps, r.iso_in_every, r.iso_in_paced, r.sof_frame, r.ep0_max);
+    put16x5(
+        s,
+        o,
+        20,
+        r.iso_out_eps,
+        r.iso_in_every,
+        r.iso_in_paced,
+        r.sof_frame,
+        r.ep0_max,
+    );
     put16(s, o, 30, r.entered);
-    put8x5(s, o, 32, r.stage, r.callback, r.power, r.setup_ready, r.int_en);
+    put8x5(
+        s,
+        o,
+        32,
+        r.stage,
+        r.callback,
+        r.power,
+        r.setup_ready,
+        r.int_en,
+    );
 }
 
 pub fn read_request(s: &State, o: usize) -> Request

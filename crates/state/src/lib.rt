@@ -1,5 +1,7 @@
 // The driver's one state, in lent bytes. Only this crate sees bytes: others load and store records by value, and their contracts speak
 // of `view` and `saved`. Any bytes are a state; all 0 is before the first start-up.
+use bits::le_bytes::get16;
+use bits::le_bytes::put16;
 use codec::read_allocator;
 use codec::read_control;
 use codec::read_ep;
@@ -12,8 +14,6 @@ use codec::write_ep;
 use codec::write_globals;
 use codec::write_request;
 use codec::write_saved;
-use le_bytes::get16;
-use le_bytes::put16;
 use regs::Dir;
 
 mod codec;
@@ -22,11 +22,11 @@ mod stamps;
 mod start_up;
 mod wakes;
 
+pub use bits::le_bytes::STATE_LEN;
+pub use bits::le_bytes::State;
 pub use kept::set_ep_config;
 pub use kept::set_ep_type;
 pub use kept::set_int_en;
-pub use le_bytes::STATE_LEN;
-pub use le_bytes::State;
 pub use stamps::clear_all_stamps;
 pub use stamps::clear_stamps;
 pub use stamps::load_stamp;

@@ -2,8 +2,8 @@
 use crate::STAMPS;
 use crate::State;
 use crate::sized;
-use le_bytes::get16;
-use le_bytes::put16;
+use bits::le_bytes::get16;
+use bits::le_bytes::put16;
 ghost use mathlib.Core.Path.{_≡_};
 ghost use Prim.Native.Nat.{_+_, _≤_, _<_};
 ghost use Rattle.state.specs.Driver.{stampKey, stampOn, withStampOn, withStamps};

@@ -20,7 +20,7 @@ use crate::store_control;
 use crate::store_globals;
 use crate::store_saved;
 use crate::wakes::fresh_wakes;
-use le_bytes::put16;
+use bits::le_bytes::put16;
 ghost use mathlib.Core.Path.{_≡_};
 ghost use Prim.Native.Nat.{_+_, _≤_};
 ghost use lib.ListN.{replicate};

@@ -3,17 +3,17 @@ use mathlib.Core.Bool.{Bool, cond}
 use mathlib.Core.List.{List, [], _∷_}
 use Prim.Native.Nat.{ℕ, _+_, _%_}
 use lib.ListN.{getD}
-use Rattle.req_card_writer.specs.declared.Writer.{Writer}
-use Rattle.req_card_writer.specs.declared.Wrote.{Wrote}
-use Rattle.req_card_writer.specs.declared.Wrote.the-variants as wrote
-use Rattle.req_card_writer.specs.declared.Finished.{Finished}
-use Rattle.req_card_writer.specs.declared.Finished.the-variants as finished
-use Rattle.req_card_reader.specs.declared.Started.{Started}
-use Rattle.req_card_reader.specs.declared.Started.the-variants as started
-use Rattle.req_card_reader.specs.declared.Next.{Next}
-use Rattle.req_card_reader.specs.declared.Next.the-variants as next
-use Rattle.req_card_reader.specs.declared.Batch.{Batch}
-use Rattle.req_card_reader.specs.declared.Batch.the-variants as batch
+use Rattle.card.specs.declared.writer.Writer.{Writer}
+use Rattle.card.specs.declared.writer.Wrote.{Wrote}
+use Rattle.card.specs.declared.writer.Wrote.the-variants as wrote
+use Rattle.card.specs.declared.writer.Finished.{Finished}
+use Rattle.card.specs.declared.writer.Finished.the-variants as finished
+use Rattle.card.specs.declared.reader.Started.{Started}
+use Rattle.card.specs.declared.reader.Started.the-variants as started
+use Rattle.card.specs.declared.reader.Next.{Next}
+use Rattle.card.specs.declared.reader.Next.the-variants as next
+use Rattle.card.specs.declared.reader.Batch.{Batch}
+use Rattle.card.specs.declared.reader.Batch.the-variants as batch
 use Rattle.survey_c.specs.Words.{refusedWord, endWord, doneWord}
 
 -- ---- the writer

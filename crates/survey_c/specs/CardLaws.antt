@@ -7,10 +7,10 @@ use Prim.Native.Nat.{ℕ, _+_, _%_, _^_, _<_, _≤_, min}
 use native.Mathlib.Omega.{arith}
 use native.Mathlib.Decide.{decLt}
 use borrow.Author.Tests.{lt-ltb}
-use Rattle.req_card.specs.Packet.{Packet, packetOf}
-use Rattle.req_card_writer.specs.declared.Writer.{Writer}
-use Rattle.req_card_writer.specs.Writing.{newWriter, usedOf, doneOf, pieceOf, beginsFirst, firstOf, fullOf, wholeOf, doneAfter, writerOf, unfit, writeOf}
-use Rattle.req_card_writer.specs.Writing.{writtenOf}
+use Rattle.card.specs.Packet.{Packet, packetOf}
+use Rattle.card.specs.declared.writer.Writer.{Writer}
+use Rattle.card.specs.Writing.{newWriter, usedOf, doneOf, pieceOf, beginsFirst, firstOf, fullOf, wholeOf, doneAfter, writerOf, unfit, writeOf}
+use Rattle.card.specs.Writing.{writtenOf}
 use Rattle.survey_c.specs.Card.{writerIn, numbersOf}
 
 -- ---- the writer's numbers

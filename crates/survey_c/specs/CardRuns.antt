@@ -4,9 +4,9 @@ use mathlib.Core.Bool.{Bool, true, false, cond}
 use mathlib.Core.List.{List, [], _∷_, _++_}
 use Prim.Native.Nat.{ℕ, zero, suc, _+_, _/_, _%_, _^_}
 use lib.Dec.{eqb}
-use Rattle.req_card.specs.Packet.{Packet, size}
-use Rattle.req_card_writer.specs.Writing.{newWriter, writeOf, writtenOf, finishOf, lastOf}
-use Rattle.req_card_writer.specs.Runs.{Lends}
+use Rattle.card.specs.Packet.{Packet, size}
+use Rattle.card.specs.Writing.{newWriter, writeOf, writtenOf, finishOf, lastOf}
+use Rattle.card.specs.WriterRuns.{Lends}
 use Rattle.survey_c.specs.Card.{writerIn, numbersOf, wroteWord, writerBy, finishedWord}
 
 -- ---- a word's parts, as the header's macros take them

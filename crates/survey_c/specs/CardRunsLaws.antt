@@ -8,20 +8,20 @@ use native.Mathlib.Decide.{decLt}
 use lib.Dec.{eqb}
 use lib.ListN.{length}
 use borrow.Author.Tests.{lt-ltb}
-use Rattle.req_card.specs.Packet.{Packet, All, size}
-use Rattle.req_card.specs.Written.{stream}
-use Rattle.req_card.specs.Places.{length-stream}
-use Rattle.req_card.specs.Turns.{calls-give, calls-back}
-use Rattle.req_card_reader.specs.Runs.{readRun}
-use Rattle.req_card_reader.specs.RunsLaws.{run-gives}
-use Rattle.req_card_writer.specs.declared.Writer.{Writer}
-use Rattle.req_card_writer.specs.declared.Wrote.{Wrote}
-use Rattle.req_card_writer.specs.declared.Wrote.the-variants as wrote
-use Rattle.req_card_writer.specs.declared.Finished.{Finished}
-use Rattle.req_card_writer.specs.declared.Finished.the-variants as finished
-use Rattle.req_card_writer.specs.Writing.{newWriter, usedOf, writerOf, fullOf, wholeOf, unfit, blockOfPiece, pieceWrote, writeOf, writtenOf, finishOf, lastOf}
-use Rattle.req_card_writer.specs.Runs.{Lends, Desk, after, packetRun, packetsRun, lastRun, streamRun}
-use Rattle.req_card_writer.specs.Stream.{stream-run}
+use Rattle.card.specs.Packet.{Packet, All, size}
+use Rattle.card.specs.Written.{stream}
+use Rattle.card.specs.Places.{length-stream}
+use Rattle.card.specs.Turns.{calls-give, calls-back}
+use Rattle.card.specs.Runs.{readRun}
+use Rattle.card.specs.RunsLaws.{run-gives}
+use Rattle.card.specs.declared.writer.Writer.{Writer}
+use Rattle.card.specs.declared.writer.Wrote.{Wrote}
+use Rattle.card.specs.declared.writer.Wrote.the-variants as wrote
+use Rattle.card.specs.declared.writer.Finished.{Finished}
+use Rattle.card.specs.declared.writer.Finished.the-variants as finished
+use Rattle.card.specs.Writing.{newWriter, usedOf, writerOf, fullOf, wholeOf, unfit, blockOfPiece, pieceWrote, writeOf, writtenOf, finishOf, lastOf}
+use Rattle.card.specs.WriterRuns.{Lends, Desk, after, packetRun, packetsRun, lastRun, streamRun}
+use Rattle.card.specs.Stream.{stream-run}
 use Rattle.survey_c.specs.Card.{writerIn, numbersOf, wroteWord, writerBy, finishedWord}
 use Rattle.survey_c.specs.CardLaws.{Short, writer-back, new-short, next-short}
 use Rattle.survey_c.specs.CardRuns.{isRefused, blockFull, packetWritten, Caller, storedIf, packetCalls, packetsCalls, lastCall, streamCalls}

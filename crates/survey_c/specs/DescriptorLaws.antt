@@ -4,10 +4,10 @@ use mathlib.Core.List.{List}
 use mathlib.Core.Path.{_≡_}
 use Prim.Native.Nat.{ℕ, _≤_}
 use native.Mathlib.Omega.{arith}
-use Rattle.req_descriptor.specs.declared.Written.the-variants as written
-use Rattle.req_descriptor.specs.Reading.{inOrder, twoTypes}
-use Rattle.req_descriptor.specs.Writing.{isShort, totalFor, countOf, writtenOf}
-use Rattle.req_descriptor.specs.Rewriting.{listIn, seventeen, rewrittenOf}
+use Rattle.descriptor.specs.declared.Written.the-variants as written
+use Rattle.descriptor.specs.Reading.{inOrder, twoTypes}
+use Rattle.descriptor.specs.Writing.{isShort, totalFor, countOf, writtenOf}
+use Rattle.descriptor.specs.Rewriting.{listIn, seventeen, rewrittenOf}
 
 -- 32 endpoints are 242 bytes
 pub bytes-few : (s room : List ℕ) (n : ℕ) → rewrittenOf s room ≡ written.Bytes n → n ≤ 242

@@ -4,13 +4,13 @@ mod rooms; // rooms.rt: an answer's numbers in the caller's rooms
 mod words; // words.rt: an answer as one word
 mod writer; // writer.rt: a card's writer as four numbers
 
+use card::reader::Batch;
+use card::reader::Next;
+use card::reader::Reader;
+use card::reader::Started;
+use card::writer::Finished;
+use card::writer::Wrote;
 use req_bus_time::Time;
-use req_card_reader::Batch;
-use req_card_reader::Next;
-use req_card_reader::Reader;
-use req_card_reader::Started;
-use req_card_writer::Finished;
-use req_card_writer::Wrote;
 use req_channels::Channel;
 use req_visits::Bounds;
 use rooms::best_into;
@@ -22,18 +22,18 @@ use writer::endpoint_of;
 use writer::numbers_of;
 use writer::result_of;
 use writer::writer_in;
-ghost use Rattle.req_descriptor.specs.Rewriting.{rewrittenOf, roomRewritten};
+ghost use Rattle.descriptor.specs.Rewriting.{rewrittenOf, roomRewritten};
 ghost use Rattle.survey_c.specs.Descriptor.{writtenWord};
 ghost use mathlib.Core.Path.{_≡_};
 ghost use lib.ListN.{length};
 ghost use Rattle.req_bus_time.specs.Time.{inUse};
 ghost use Rattle.req_visits.specs.Bounds.{boundsOf};
-ghost use Rattle.crc.specs.Crc.{dataCrc};
-ghost use Rattle.req_card.specs.Packet.{packetOf};
-ghost use Rattle.req_card_writer.specs.Writing.{newWriter, writeOf, writtenOf, finishOf, lastOf};
-ghost use Rattle.req_card_reader.specs.Calls.{startOf, nextOf, roomOf};
+ghost use Rattle.card.specs.Crc.{dataCrc};
+ghost use Rattle.card.specs.Packet.{packetOf};
+ghost use Rattle.card.specs.Writing.{newWriter, writeOf, writtenOf, finishOf, lastOf};
+ghost use Rattle.card.specs.Calls.{startOf, nextOf, roomOf};
 ghost use Rattle.survey_c.specs.Numbers.{BestSet, boundsWord, leastBy, greatestBy};
-ghost use Rattle.req_card_reader.specs.Batches.{batchOf, batchRoomOf};
+ghost use Rattle.card.specs.Batches.{batchOf, batchRoomOf};
 ghost use Rattle.survey_c.specs.Card.{batchWord, batchPlaceBy, countBy, usedBy};
 ghost use Rattle.survey_c.specs.Card.{writerIn, numbersOf, wroteWord, writerBy, finishedWord, startedWord, startBy, nextWord, endpointBy, placeBy};
 
@@ -87,7 +87,7 @@ pub extern "C" fn usbhs_between_visits(
 pub extern "C" fn usbhs_data_crc(bytes: &[u8]) -> u32
     ensures { λ r. ⌜ r ≡ dataCrc (now (bytes .entry)) ⌝ }
 {
-    crc::data_crc(bytes) as u32
+    card::crc::data_crc(bytes) as u32
 }
 
 // A writer at the start of a stream.
@@ -95,7 +95,7 @@ pub extern "C" fn usbhs_data_crc(bytes: &[u8]) -> u32
 pub extern "C" fn usbhs_card_new(writer: &mut [u32; 4])
     ensures { λ _. ⌜ now (writer .exit) ≡ numbersOf newWriter ⌝ }
 {
-    let numbers = numbers_of(req_card_writer::writing::new());
+    let numbers = numbers_of(card::writing::new());
     *writer = numbers;
 }
 
@@ -113,7 +113,7 @@ pub extern "C" fn usbhs_card_write(
     ensures { λ _. ⌜ now (block .exit) ≡ writtenOf (writerIn (now (writer .entry))) (packetOf endpoint (now (bytes .entry))) (now (block .entry)) ⌝ }
 {
     let w = writer_in(writer);
-    match req_card_writer::writing::write(w, block, endpoint_of(endpoint), bytes) {
+    match card::writing::write(w, block, endpoint_of(endpoint), bytes) {
         Wrote::Refused(row) => refused(row),
         Wrote::Piece { next, full, done } => {
             let numbers = numbers_of(next);
@@ -129,7 +129,7 @@ pub extern "C" fn usbhs_card_finish(writer: &[u32; 4], block: &mut [u8]) -> u64
     ensures { λ r. ⌜ r ≡ finishedWord (finishOf (writerIn (now (writer .entry))) (now (block .entry))) ⌝ }
     ensures { λ _. ⌜ now (block .exit) ≡ lastOf (writerIn (now (writer .entry))) (now (block .entry)) ⌝ }
 {
-    match req_card_writer::writing::finish(writer_in(writer), block) {
+    match card::writing::finish(writer_in(writer), block) {
         Finished::Refused(row) => refused(row),
         Finished::Nothing => ended(0),
         Finished::Last => ended(1),
@@ -142,7 +142,7 @@ pub extern "C" fn usbhs_card_start(stream: &[u8], place: &mut usize) -> u64
     ensures { λ r. ⌜ r ≡ startedWord (startOf (now (stream .entry))) ⌝ }
     ensures { λ _. ⌜ now (place .exit) ≡ startBy (startOf (now (stream .entry))) (now (place .entry)) ⌝ }
 {
-    match req_card_reader::reading::start(stream) {
+    match card::reading::start(stream) {
         Started::Refused(row) => refused(row),
         Started::At(reader) => {
             *place = reader.at;
@@ -166,7 +166,7 @@ pub extern "C" fn usbhs_card_next(
     ensures { λ _. ⌜ now (room .exit) ≡ roomOf (now (stream .entry)) (now (place .entry)) (now (room .entry)) ⌝ }
 {
     let reader = Reader { at: *place };
-    match req_card_reader::reading::next_packet(reader, stream, room) {
+    match card::reading::next_packet(reader, stream, room) {
         Next::Refused(row) => refused(row),
         Next::End => ended(0),
         Next::Packet {
@@ -197,7 +197,7 @@ pub extern "C" fn usbhs_card_read(
     ensures { λ _. ⌜ now (room .exit) ≡ batchRoomOf (now (stream .entry)) (now (place .entry)) (now (room .entry)) ⌝ }
 {
     let reader = Reader { at: *place };
-    match req_card_reader::batches::next_packets(reader, stream, room) {
+    match card::batches::next_packets(reader, stream, room) {
         Batch::Refused(row) => refused(row),
         Batch::End => {
             *count = 0;
@@ -223,8 +223,8 @@ pub extern "C" fn usbhs_write_descriptor(bytes: &[u8], room: &mut [u8]) -> u64
     ensures { λ r. ⌜ r ≡ writtenWord (rewrittenOf (now (bytes .entry)) (now (room .entry))) ⌝ }
     ensures { λ _. ⌜ now (room .exit) ≡ roomRewritten (now (bytes .entry)) (now (room .entry)) ⌝ }
 {
-    match req_descriptor::rewrite(bytes, room) {
-        req_descriptor::Written::Refused(row) => refused(row),
-        req_descriptor::Written::Bytes(n) => done(n as u16),
+    match descriptor::rewrite(bytes, room) {
+        descriptor::Written::Refused(row) => refused(row),
+        descriptor::Written::Bytes(n) => done(n as u16),
     }
 }

@@ -1,5 +1,5 @@
 // A card's writer as four numbers of the caller's, and what a write ends with.
-use req_card_writer::Writer;
+use card::writer::Writer;
 ghost use mathlib.Core.Path.{_≡_};
 ghost use Prim.Native.Nat.{min};
 ghost use Rattle.survey_c.specs.Card.{writerIn, numbersOf, resultOf};

@@ -11,9 +11,9 @@ use Rattle.state.specs.State.{view, saved}
 use Rattle.model.specs.Calls.{Config, Op, aside, Open, startRow}
 use Rattle.model.specs.Machine.{Buf, Call, begin, start}
 use Rattle.machine.specs.Suspended.{machineOf, drive, answerOf, lentOr, BufferUnchangedOnRow1, lentBy, SavedByAnswer}
-use Rattle.call_endpoint.specs.Shown.{ShownAt}
-use Rattle.call_bus_time.specs.Sharing.{sharedCall, SharedStep}
-use Rattle.call_answer_word.specs.Word.{Worded}
+use Rattle.calls.specs.Shown.{ShownAt}
+use Rattle.calls.specs.Sharing.{sharedCall, SharedStep}
+use Rattle.machine.specs.Word.{Worded}
 use Rattle.usbhs_c.specs.Stamp.{stampBy}
 
 -- a number as a direction: 0 OUT, else IN

@@ -2,12 +2,12 @@
 use mathlib.Core.List.{List}
 use Prim.Native.Nat.{ℕ, _+_, _*_, _%_, _^_}
 use Rattle.state.specs.State.{view, saved}
-use Rattle.req_preview.specs.declared.Said.{Said}
-use Rattle.req_preview.specs.declared.Said.the-variants as said
-use Rattle.req_preview.specs.declared.Shown.{Shown}
+use Rattle.descriptor.specs.declared.preview.Said.{Said}
+use Rattle.descriptor.specs.declared.preview.Said.the-variants as said
+use Rattle.descriptor.specs.declared.preview.Shown.{Shown}
 use Rattle.machine.specs.Suspended.{decode}
 use Rattle.machine.specs.Rows.{isIdle, stopOf}
-use Rattle.call_driver.specs.Listed.{previewed}
+use Rattle.calls.specs.Listed.{previewed}
 
 -- by the state's bytes and the descriptor's
 abbrev pub shownBy : List ℕ → List ℕ → Shown

@@ -4,7 +4,7 @@ use mathlib.Core.Path.{_≡_, refl, ap, _∙_}
 use Prim.Native.Nat.{ℕ, zero, suc, _≤_, _<_}
 use native.Mathlib.Omega.{arith}
 use lib.ListN.{length, getD, set, take, drop}
-use Rattle.marks.specs.Copies.{over}
+use Rattle.ring.specs.Copies.{over}
 
 -- the first k of cs over the room's first k
 abbrev pub written : ℕ → List ℕ → List ℕ → List ℕ

@@ -8,19 +8,19 @@ pub mod setup; // setup.rt: a setup packet's bytes
 pub mod stamp; // stamp.rt: the stamp of a packet that is shown
 pub mod woken; // woken.rt: the wake-ups of the last end
 
-use call_answer_word::continue_word;
-use call_answer_word::word_of;
+use calls::proceeds::INTERRUPT;
 use inputs::dir_of;
 use inputs::flag_of;
 use machine::saved::tag;
+use machine::word::continue_word;
+use machine::word::word_of;
 use req_bus_time::Time;
 use setup::setup_word;
 use stamp::stamp_by;
 use state::State;
-use usbhs::proceeds::INTERRUPT;
 use woken::list_into;
 ghost use mathlib.Core.Path.{_≡_};
-ghost use Rattle.marks.specs.Copies.{over};
+ghost use Rattle.ring.specs.Copies.{over};
 ghost use Rattle.state.specs.State.{view, saved};
 ghost use Rattle.state.specs.Wakes.{listed};
 ghost use Rattle.model.specs.Statics.{flag};
@@ -53,7 +53,7 @@ pub extern "C" fn usbhs_start_up(
     ensures { λ r. ⌜ AnswersStart r driver (configOf size count (flagOf callback))
         (now (s .entry)) (now (s .exit)) (now (slots .entry)) (now (time .entry)) (now (time .exit)) ⌝ }
 {
-    word_of(usbhs::starting::start_up(s, slots, time, driver, size, count, flag_of(callback)))
+    word_of(calls::starting::start_up(s, slots, time, driver, size, count, flag_of(callback)))
 }
 
 // An endpoint; its kind counts modulo 4, and an address of 256 or more asks for none.
@@ -68,7 +68,7 @@ pub extern "C" fn usbhs_allocate(
 ) -> u64
     ensures { λ r. ⌜ Answers r (begin (other (Allocate (dirOf dir) (kind % 4) address maximum interval))) (now (s .entry)) (now (s .exit)) ⌝ }
 {
-    word_of(usbhs::starting::allocate(s, dir_of(dir), (kind % 4) as u8, address, maximum, interval))
+    word_of(calls::starting::allocate(s, dir_of(dir), (kind % 4) as u8, address, maximum, interval))
 }
 
 // EP0's start, with its maximum.
@@ -76,7 +76,7 @@ pub extern "C" fn usbhs_allocate(
 pub extern "C" fn usbhs_start(s: &mut State, maximum: u32) -> u64
     ensures { λ r. ⌜ Answers r (begin (other (Start maximum))) (now (s .entry)) (now (s .exit)) ⌝ }
 {
-    word_of(usbhs::starting::start(s, maximum))
+    word_of(calls::starting::start(s, maximum))
 }
 
 // Any operation but the interrupt goes on; apart from usbhs_continue, which so keeps nothing over a call.
@@ -85,7 +85,7 @@ fn operation_word(s: &mut State, slots: &mut [u8], time: &mut Time, driver: u32,
     ensures { λ r. ⌜ AnswersCharged r driver (go value) (now (s .entry))
         (now (s .exit)) (now (slots .entry)) (now (slots .exit)) (now (time .entry)) (now (time .exit)) ⌝ }
 {
-    continue_word(usbhs::operates::operate(s, slots, time, driver, value))
+    continue_word(calls::operates::operate(s, slots, time, driver, value))
 }
 
 // Goes on with the operation under way, with the number brought. An interrupt answers its word by itself, and leaves the record of bus time.
@@ -101,7 +101,7 @@ pub extern "C" fn usbhs_continue(
         (now (s .exit)) (now (slots .entry)) (now (slots .exit)) (now (time .entry)) (now (time .exit)) ⌝ }
 {
     if tag(s) == INTERRUPT {
-        return machine_resume::interrupt(s, slots, value);
+        return calls::resume::interrupt(s, slots, value);
     }
     operation_word(s, slots, time, driver, value)
 }
@@ -111,7 +111,7 @@ pub extern "C" fn usbhs_continue(
 pub extern "C" fn usbhs_begin_microframe(s: &mut State) -> u64
     ensures { λ r. ⌜ Answers r (begin (other Microframe)) (now (s .entry)) (now (s .exit)) ⌝ }
 {
-    word_of(usbhs::begins::begin_microframe(s))
+    word_of(calls::begins::begin_microframe(s))
 }
 
 // Whether advance moves the IN endpoint on.
@@ -119,7 +119,7 @@ pub extern "C" fn usbhs_begin_microframe(s: &mut State) -> u64
 pub extern "C" fn usbhs_set_paced(s: &mut State, endpoint: u32, paced: u32) -> u64
     ensures { λ r. ⌜ AnswersAtOnce r (begin (other (SetPaced endpoint (flagOf paced)))) (now (s .entry)) (now (s .exit)) ⌝ }
 {
-    word_of(usbhs::begins::set_paced(s, endpoint, flag_of(paced)))
+    word_of(calls::begins::set_paced(s, endpoint, flag_of(paced)))
 }
 
 // The paced IN endpoint moved on.
@@ -127,7 +127,7 @@ pub extern "C" fn usbhs_set_paced(s: &mut State, endpoint: u32, paced: u32) -> u
 pub extern "C" fn usbhs_begin_advance(s: &mut State, endpoint: u32) -> u64
     ensures { λ r. ⌜ Answers r (begin (other (Advance endpoint))) (now (s .entry)) (now (s .exit)) ⌝ }
 {
-    word_of(usbhs::begins::begin_advance(s, endpoint))
+    word_of(calls::begins::begin_advance(s, endpoint))
 }
 
 // The interrupt: while it is under way packets may be opened, closed and queued.
@@ -135,7 +135,7 @@ pub extern "C" fn usbhs_begin_advance(s: &mut State, endpoint: u32) -> u64
 pub extern "C" fn usbhs_begin_interrupt(s: &mut State) -> u64
     ensures { λ r. ⌜ Answers r (begin interrupt) (now (s .entry)) (now (s .exit)) ⌝ }
 {
-    word_of(usbhs::begins::begin_interrupt(s))
+    word_of(calls::begins::begin_interrupt(s))
 }
 
 // Pulls the bus up.
@@ -143,7 +143,7 @@ pub extern "C" fn usbhs_begin_interrupt(s: &mut State) -> u64
 pub extern "C" fn usbhs_begin_bus_enable(s: &mut State) -> u64
     ensures { λ r. ⌜ Answers r (begin (other BusEnable)) (now (s .entry)) (now (s .exit)) ⌝ }
 {
-    word_of(usbhs::bus_begins::begin_bus_enable(s))
+    word_of(calls::usbhs_bus_begins::begin_bus_enable(s))
 }
 
 // Nothing, as in the Rust.
@@ -151,7 +151,7 @@ pub extern "C" fn usbhs_begin_bus_enable(s: &mut State) -> u64
 pub extern "C" fn usbhs_begin_bus_disable(s: &mut State) -> u64
     ensures { λ r. ⌜ Answers r (begin (other BusDisable)) (now (s .entry)) (now (s .exit)) ⌝ }
 {
-    word_of(usbhs::bus_begins::begin_bus_disable(s))
+    word_of(calls::usbhs_bus_begins::begin_bus_disable(s))
 }
 
 // The bus's event: 0 not yet, 1 power detected, 2 reset, 3 suspend, 4 resume.
@@ -159,7 +159,7 @@ pub extern "C" fn usbhs_begin_bus_disable(s: &mut State) -> u64
 pub extern "C" fn usbhs_begin_bus_poll(s: &mut State) -> u64
     ensures { λ r. ⌜ Answers r (begin (other BusPoll)) (now (s .entry)) (now (s .exit)) ⌝ }
 {
-    word_of(usbhs::bus_begins::begin_bus_poll(s))
+    word_of(calls::usbhs_bus_begins::begin_bus_poll(s))
 }
 
 // Whether the endpoint answers STALL: 1 or 0.
@@ -167,7 +167,7 @@ pub extern "C" fn usbhs_begin_bus_poll(s: &mut State) -> u64
 pub extern "C" fn usbhs_begin_is_stalled(s: &mut State, endpoint: u32, dir: u32) -> u64
     ensures { λ r. ⌜ Answers r (begin (other (IsStalled (dirOf dir) endpoint))) (now (s .entry)) (now (s .exit)) ⌝ }
 {
-    word_of(usbhs::bus_begins::begin_is_stalled(s, dir_of(dir), endpoint))
+    word_of(calls::usbhs_bus_begins::begin_is_stalled(s, dir_of(dir), endpoint))
 }
 
 // The endpoint stalled or restarted.
@@ -180,7 +180,7 @@ pub extern "C" fn usbhs_begin_set_stalled(
 ) -> u64
     ensures { λ r. ⌜ Answers r (begin (other (SetStalled (dirOf dir) endpoint (flagOf stalled)))) (now (s .entry)) (now (s .exit)) ⌝ }
 {
-    word_of(usbhs::bus_begins::begin_set_stalled(s, dir_of(dir), endpoint, flag_of(stalled)))
+    word_of(calls::usbhs_bus_begins::begin_set_stalled(s, dir_of(dir), endpoint, flag_of(stalled)))
 }
 
 // The endpoint enabled or disabled.
@@ -197,7 +197,7 @@ pub extern "C" fn usbhs_begin_set_enabled(
     ensures { λ r. ⌜ AnswersCharged r driver (begin (slotted (SetEnabled (dirOf dir) endpoint (flagOf enabled))))
         (now (s .entry)) (now (s .exit)) (now (slots .entry)) (now (slots .exit)) (now (time .entry)) (now (time .exit)) ⌝ }
 {
-    word_of(usbhs::bus_begins::begin_set_enabled(
+    word_of(calls::usbhs_bus_begins::begin_set_enabled(
         s,
         slots,
         time,
@@ -213,7 +213,7 @@ pub extern "C" fn usbhs_begin_set_enabled(
 pub extern "C" fn usbhs_begin_read(s: &mut State, endpoint: u32, length: u32) -> u64
     ensures { λ r. ⌜ Answers r (begin (other (BeginRead endpoint length))) (now (s .entry)) (now (s .exit)) ⌝ }
 {
-    word_of(usbhs::requests::begin_read(s, endpoint, length))
+    word_of(calls::requests::begin_read(s, endpoint, length))
 }
 
 // The packet at the slice's front.
@@ -227,7 +227,7 @@ pub extern "C" fn usbhs_poll_read(
     ensures { λ r. ⌜ AnswersOutOf r (begin (slotted (PollRead endpoint (length (now (slice .entry))))))
         (now (s .entry)) (now (s .exit)) (now (slots .entry)) (now (slice .entry)) (now (slice .exit)) ⌝ }
 {
-    word_of(usbhs::requests::poll_read(s, slots, endpoint, slice))
+    word_of(calls::requests::poll_read(s, slots, endpoint, slice))
 }
 
 // A packet for the host.
@@ -241,7 +241,7 @@ pub extern "C" fn usbhs_begin_write(
     ensures { λ r. ⌜ AnswersLent r (begin (slotted (BeginWrite endpoint (now (bytes .entry)))))
         (now (s .entry)) (now (s .exit)) (now (slots .entry)) (now (slots .exit)) ⌝ }
 {
-    word_of(usbhs::requests::begin_write(s, slots, endpoint, bytes))
+    word_of(calls::requests::begin_write(s, slots, endpoint, bytes))
 }
 
 // Whether the host has taken it, or, of an isochronous endpoint, whether it is queued.
@@ -255,7 +255,7 @@ pub extern "C" fn usbhs_poll_write(
     ensures { λ r. ⌜ AnswersLent r (begin (slotted (PollWrite endpoint (now (bytes .entry)))))
         (now (s .entry)) (now (s .exit)) (now (slots .entry)) (now (slots .exit)) ⌝ }
 {
-    word_of(usbhs::requests::poll_write(s, slots, endpoint, bytes))
+    word_of(calls::requests::poll_write(s, slots, endpoint, bytes))
 }
 
 // Setup begun: its poll waits for a setup packet.
@@ -263,7 +263,7 @@ pub extern "C" fn usbhs_poll_write(
 pub extern "C" fn usbhs_begin_setup(s: &mut State) -> u64
     ensures { λ r. ⌜ Answers r (begin (other BeginSetup)) (now (s .entry)) (now (s .exit)) ⌝ }
 {
-    word_of(usbhs::control_begins::begin_setup(s))
+    word_of(calls::control_begins::begin_setup(s))
 }
 
 // The setup packet's 8 bytes.
@@ -271,7 +271,7 @@ pub extern "C" fn usbhs_begin_setup(s: &mut State) -> u64
 pub extern "C" fn usbhs_poll_setup(s: &mut State, packet: &mut [u8; 8]) -> u64
     ensures { λ r. ⌜ AnswersInto r (begin (other PollSetup)) (now (s .entry)) (now (s .exit)) (now (packet .entry)) (now (packet .exit)) ⌝ }
 {
-    setup_word(packet, usbhs::control_polls::poll_setup(s))
+    setup_word(packet, calls::control_polls::poll_setup(s))
 }
 
 // A packet of data awaited from the host, into a slice of that length; the first of its stage or a later one.
@@ -279,7 +279,7 @@ pub extern "C" fn usbhs_poll_setup(s: &mut State, packet: &mut [u8; 8]) -> u64
 pub extern "C" fn usbhs_begin_data_out(s: &mut State, length: u32, first: u32) -> u64
     ensures { λ r. ⌜ Answers r (begin (other (BeginDataOut length (flagOf first)))) (now (s .entry)) (now (s .exit)) ⌝ }
 {
-    word_of(usbhs::control_begins::begin_data_out(s, length, flag_of(first)))
+    word_of(calls::control_begins::begin_data_out(s, length, flag_of(first)))
 }
 
 // The packet at the slice's front.
@@ -288,7 +288,7 @@ pub extern "C" fn usbhs_poll_data_out(s: &mut State, slots: &[u8], slice: &mut [
     ensures { λ r. ⌜ AnswersOutOf r (begin (slotted (PollDataOut (length (now (slice .entry))))))
         (now (s .entry)) (now (s .exit)) (now (slots .entry)) (now (slice .entry)) (now (slice .exit)) ⌝ }
 {
-    word_of(usbhs::control_polls::poll_data_out(s, slots, slice))
+    word_of(calls::control_polls::poll_data_out(s, slots, slice))
 }
 
 // A packet of data for the host, with whether it is its stage's first and its last.
@@ -303,7 +303,7 @@ pub extern "C" fn usbhs_begin_data_in(
     ensures { λ r. ⌜ AnswersLent r (begin (slotted (BeginDataIn (now (bytes .entry)) (flagOf first) (flagOf last))))
         (now (s .entry)) (now (s .exit)) (now (slots .entry)) (now (slots .exit)) ⌝ }
 {
-    word_of(usbhs::control_begins::begin_data_in(s, slots, bytes, flag_of(first), flag_of(last)))
+    word_of(calls::control_begins::begin_data_in(s, slots, bytes, flag_of(first), flag_of(last)))
 }
 
 // Whether the host has taken it.
@@ -311,7 +311,7 @@ pub extern "C" fn usbhs_begin_data_in(
 pub extern "C" fn usbhs_poll_data_in(s: &mut State) -> u64
     ensures { λ r. ⌜ Answers r (begin (other PollDataIn)) (now (s .entry)) (now (s .exit)) ⌝ }
 {
-    word_of(usbhs::control_polls::poll_data_in(s))
+    word_of(calls::control_polls::poll_data_in(s))
 }
 
 // The request accepted.
@@ -319,7 +319,7 @@ pub extern "C" fn usbhs_poll_data_in(s: &mut State) -> u64
 pub extern "C" fn usbhs_begin_accept(s: &mut State) -> u64
     ensures { λ r. ⌜ Answers r (begin (other BeginAccept)) (now (s .entry)) (now (s .exit)) ⌝ }
 {
-    word_of(usbhs::control_begins::begin_accept(s))
+    word_of(calls::control_begins::begin_accept(s))
 }
 
 // The same, and then the address modulo 128 taken.
@@ -327,7 +327,7 @@ pub extern "C" fn usbhs_begin_accept(s: &mut State) -> u64
 pub extern "C" fn usbhs_begin_accept_set_address(s: &mut State, address: u32) -> u64
     ensures { λ r. ⌜ Answers r (begin (other (BeginAcceptSetAddress address))) (now (s .entry)) (now (s .exit)) ⌝ }
 {
-    word_of(usbhs::control_begins::begin_accept_set_address(s, address))
+    word_of(calls::control_begins::begin_accept_set_address(s, address))
 }
 
 // Whether the status stage is over; it hands out the address's write.
@@ -335,7 +335,7 @@ pub extern "C" fn usbhs_begin_accept_set_address(s: &mut State, address: u32) ->
 pub extern "C" fn usbhs_poll_accept(s: &mut State) -> u64
     ensures { λ r. ⌜ Answers r (begin (other PollAccept)) (now (s .entry)) (now (s .exit)) ⌝ }
 {
-    word_of(usbhs::control_polls::poll_accept(s))
+    word_of(calls::control_polls::poll_accept(s))
 }
 
 // The request refused: EP0 stalled.
@@ -343,7 +343,7 @@ pub extern "C" fn usbhs_poll_accept(s: &mut State) -> u64
 pub extern "C" fn usbhs_begin_reject(s: &mut State) -> u64
     ensures { λ r. ⌜ Answers r (begin (other BeginReject)) (now (s .entry)) (now (s .exit)) ⌝ }
 {
-    word_of(usbhs::control_begins::begin_reject(s))
+    word_of(calls::control_begins::begin_reject(s))
 }
 
 // The isochronous OUT endpoint's oldest packet shown in its slot, with its stamp.
@@ -351,7 +351,7 @@ pub extern "C" fn usbhs_begin_reject(s: &mut State) -> u64
 pub extern "C" fn usbhs_open(s: &mut State, slots: &[u8], endpoint: u32, stamp: &mut u16) -> u64
     ensures { λ r. ⌜ AnswersOpen r endpoint (now (s .entry)) (now (s .exit)) (now (slots .entry)) (now (stamp .entry)) (now (stamp .exit)) ⌝ }
 {
-    let step = usbhs::in_place::open(s, slots, endpoint);
+    let step = calls::in_place::open(s, slots, endpoint);
     *stamp = stamp_by(step, *stamp);
     word_of(step)
 }
@@ -361,7 +361,7 @@ pub extern "C" fn usbhs_open(s: &mut State, slots: &[u8], endpoint: u32, stamp: 
 pub extern "C" fn usbhs_close(s: &mut State, endpoint: u32) -> u64
     ensures { λ r. ⌜ AnswersBeside r (begin (aside (Close endpoint))) (now (s .entry)) (now (s .exit)) ⌝ }
 {
-    word_of(usbhs::in_place::close(s, endpoint))
+    word_of(calls::in_place::close(s, endpoint))
 }
 
 // A packet queued on the isochronous IN endpoint.
@@ -370,7 +370,7 @@ pub extern "C" fn usbhs_queue(s: &mut State, slots: &mut [u8], endpoint: u32, by
     ensures { λ r. ⌜ AnswersShown r (begin (aside (Queue endpoint (now (bytes .entry)))))
         (now (s .entry)) (now (s .exit)) (now (slots .entry)) (now (slots .exit)) ⌝ }
 {
-    word_of(usbhs::in_place::queue(s, slots, endpoint, bytes))
+    word_of(calls::in_place::queue(s, slots, endpoint, bytes))
 }
 
 // The wake-ups of the operation that ended last, in their order: their codes at the room's start, and how many.
@@ -395,7 +395,7 @@ pub extern "C" fn usbhs_time_in_use(time: &Time) -> u32
 pub extern "C" fn usbhs_pending(s: &State, endpoint: u32) -> u32
     ensures { λ r. ⌜ r ≡ pendingOn (view (now (s .entry))) endpoint ⌝ }
 {
-    usbhs::questions::pending(s, endpoint)
+    calls::questions::pending(s, endpoint)
 }
 
 // The packets of the OUT endpoint that were turned away.
@@ -403,7 +403,7 @@ pub extern "C" fn usbhs_pending(s: &State, endpoint: u32) -> u32
 pub extern "C" fn usbhs_overruns(s: &State, endpoint: u32) -> u32
     ensures { λ r. ⌜ r ≡ overrunsOn (view (now (s .entry))) endpoint ⌝ }
 {
-    usbhs::questions::overruns(s, endpoint)
+    calls::questions::overruns(s, endpoint)
 }
 
 // Whether the host enabled the endpoint: 1 or 0.
@@ -411,7 +411,7 @@ pub extern "C" fn usbhs_overruns(s: &State, endpoint: u32) -> u32
 pub extern "C" fn usbhs_enabled(s: &State, endpoint: u32, dir: u32) -> u32
     ensures { λ r. ⌜ r ≡ flag (enabledAsked (view (now (s .entry))) (dirOf dir) endpoint) ⌝ }
 {
-    if usbhs::questions::enabled(s, dir_of(dir), endpoint) {
+    if calls::questions::enabled(s, dir_of(dir), endpoint) {
         return 1;
     }
     0

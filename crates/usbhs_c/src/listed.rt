@@ -1,6 +1,6 @@
 // Endpoints from a configuration descriptor, exported.
-use call_answer_word::word_of;
-use req_preview::Said;
+use descriptor::preview::Said;
+use machine::word::word_of;
 use state::State;
 ghost use mathlib.Core.Path.{_≡_};
 ghost use Rattle.model.specs.Machine.{begin};
@@ -13,7 +13,7 @@ ghost use Rattle.usbhs_c.specs.Preview.{shownBy, wordBy, numbersBy, buff
 pub extern "C" fn usbhs_allocate_all(s: &mut State, bytes: &[u8]) -> u64
     ensures { λ r. ⌜ Answers r (begin (other (AllocateAll (now (bytes .entry))))) (now (s .entry)) (now (s .exit)) ⌝ }
 {
-    word_of(usbhs::listed_calls::allocate_all(s, bytes))
+    word_of(calls::listed_calls::allocate_all(s, bytes))
 }
 
 // What allocating them one by one would give: the numbers given, the buffers that these take, the first refusal or 0.
@@ -33,7 +33,7 @@ pub extern "C" fn usbhs_preview(
     ensures { λ _. ⌜ now (refusal .exit) ≡ refusalBy (shownBy (now (s .entry)) (now (bytes .entry)) .said)
         (shownBy (now (s .entry)) (now (bytes .entry))) (now (refusal .entry)) ⌝ }
 {
-    let x = usbhs::listed_calls::preview(s, bytes);
+    let x = calls::listed_calls::preview(s, bytes);
     let said = x.said;
     match said {
         Said::Refused(row) => row as u64 * 0x100,

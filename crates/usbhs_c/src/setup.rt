@@ -1,13 +1,13 @@
-use call_answer_word::word_of;
 use machine::Step;
+use machine::word::word_of;
 ghost use mathlib.Core.Path.{_≡_};
 ghost use mathlib.Core.List.{[], _++_};
-ghost use Rattle.marks.specs.Copies.{over};
+ghost use Rattle.ring.specs.Copies.{over};
 ghost use Rattle.state.specs.Driver.{Driver};
 ghost use Rattle.model.specs.Control.{wordBytes};
 ghost use Rattle.machine.specs.Suspended.{answerOf, lentBy};
 ghost use Rattle.usbhs_c.specs.Setup.{NoSlice};
-ghost use Rattle.call_answer_word.specs.Word.{Worded};
+ghost use Rattle.machine.specs.Word.{Worded};
 
 fn sized(_b: &[u8]) {}
 

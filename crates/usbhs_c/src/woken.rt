@@ -3,7 +3,7 @@ use state::State;
 use state::woken_at;
 ghost use mathlib.Core.Path.{_≡_};
 ghost use lib.ListN.{length};
-ghost use Rattle.marks.specs.Copies.{over};
+ghost use Rattle.ring.specs.Copies.{over};
 ghost use Rattle.state.specs.State.{view};
 ghost use Rattle.state.specs.Wakes.{listed};
 

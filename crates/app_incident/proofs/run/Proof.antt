@@ -18,7 +18,7 @@ use Rattle.app_incident.proofs.summed.Reads as summed-reads
 use Rattle.app_incident.proofs.told.Reads as told-reads
 use Rattle.std.proofs.num.wrapping_add_u32.Reads as wrapping-add-u32-reads
 use Rattle.survey_c.proofs.usbhs_card_new.Reads as usbhs-card-new-reads
-use Rattle.print_access.proofs.text.print.Reads as print-reads
+use Rattle.print.proofs.text.print.Reads as print-reads
 
 abbrev Inv-loop2 : tie.InvT-loop2
 Inv-loop2 list len s₀ time₀ slots₀ writer₀ block₀ card₀ rust-slots rust-writer₀ rust-block₀ rust-card₀ stores answers₀ differing₀ at left

@@ -10,14 +10,14 @@ use Rattle.model.specs.Machine.{awaited}
 use Rattle.model.specs.Script.{run}
 use Rattle.model.specs.Handler.{nakNonIso}
 use Rattle.model_ops.specs.Concrete.{concrete}
-use Rattle.irq_transfer.specs.Laws.{wider}
-use Rattle.irq_transfer.specs.Nak as nak
+use Rattle.irq.specs.TransferLaws.{wider}
+use Rattle.irq.specs.Nak as nak
 use Rattle.irq.specs.declared.Point.{Point}
 use Rattle.irq.specs.declared.Point.the-variants as point
 use Rattle.irq.specs.declared.Next.the-variants as next
 use Rattle.irq.specs.Points as points
 use Rattle.irq.specs.Continuations.{enteredAs}
-use Rattle.irq_points.specs.Stands.{Stands}
+use Rattle.interrupt.specs.Stands.{Stands}
 use Rattle.machine.specs.declared.Step.the-variants as step
 use Rattle.call_readings.specs.Readings.{lent}
 use Rattle.call_readings.specs.Passing.{Transferred}

@@ -1,7 +1,7 @@
 use mathlib.Core.Path.{ap, _∙_}
 use denote.Ref.{now}
 use native.Mathlib.Omega.{arith}
-use Rattle.le_bytes.specs.Bytes.{bytes}
+use Rattle.bits.specs.Bytes.{bytes}
 use Rattle.state.specs.Codec.{allocatorWidths, allocatorAs}
 use Rattle.state.specs.State.{view, saved}
 use Rattle.state.proofs.Views.{view-allocator, saved-off}

@@ -4,7 +4,7 @@ use Rattle.survey_c.proofs.usbhs_card_read.Statement.{statement}
 use Rattle.survey_c.proofs.usbhs_card_read.Tie as tie
 use Rattle.survey_c.proofs.usbhs_card_read.Reads as reads
 use Rattle.survey_c.proofs.usbhs_card_read.Lts as lts
-use Rattle.req_card_reader.proofs.batches.next_packets.Reads as next-packets-reads
+use Rattle.card.proofs.batches.next_packets.Reads as next-packets-reads
 use Rattle.survey_c.proofs.words.ended.Reads as ended-reads
 use Rattle.survey_c.proofs.words.refused.Reads as refused-reads
 

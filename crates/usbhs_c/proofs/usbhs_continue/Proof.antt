@@ -1,6 +1,6 @@
 use denote.Ref.{now}
 use mathlib.Core.Path.{sym, _∙_}
-use Rattle.usbhs.specs.ProceedsLaws.{interrupt-shared}
+use Rattle.calls.specs.ProceedsLaws.{interrupt-shared}
 use borrow.Author.Needs.{needs}
 use Rattle.usbhs_c.proofs.usbhs_continue.Statement.{statement}
 use Rattle.usbhs_c.proofs.usbhs_continue.Tie as tie

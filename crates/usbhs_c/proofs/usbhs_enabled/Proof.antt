@@ -3,7 +3,7 @@ use Rattle.usbhs_c.proofs.usbhs_enabled.Statement.{statement}
 use Rattle.usbhs_c.proofs.usbhs_enabled.Tie as tie
 use Rattle.usbhs_c.proofs.usbhs_enabled.Reads as reads
 use Rattle.usbhs_c.proofs.usbhs_enabled.Lts as lts
-use Rattle.usbhs.proofs.questions.enabled.Reads as enabled-reads
+use Rattle.calls.proofs.questions.enabled.Reads as enabled-reads
 use Rattle.usbhs_c.proofs.inputs.dir_of.Reads as dir-of-reads
 
 dir-of-requires : tie.Need-dir-of-requires

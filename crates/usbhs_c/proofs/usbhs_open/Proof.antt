@@ -7,8 +7,8 @@ use Rattle.usbhs_c.proofs.usbhs_open.Statement.{statement}
 use Rattle.usbhs_c.proofs.usbhs_open.Tie as tie
 use Rattle.usbhs_c.proofs.usbhs_open.Reads as reads
 use Rattle.usbhs_c.proofs.usbhs_open.Lts as lts
-use Rattle.call_answer_word.proofs.word_of.Reads as word-of-reads
-use Rattle.usbhs.proofs.in_place.open.Reads as open-reads
+use Rattle.machine.proofs.word.word_of.Reads as word-of-reads
+use Rattle.calls.proofs.in_place.open.Reads as open-reads
 use Rattle.usbhs_c.proofs.stamp.stamp_by.Reads as stamp-by-reads
 
 open-requires : tie.Need-open-requires

@@ -11,7 +11,7 @@ use Rattle.usbhs_c.proofs.usbhs_poll_setup.Statement.{statement}
 use Rattle.usbhs_c.proofs.usbhs_poll_setup.Tie as tie
 use Rattle.usbhs_c.proofs.usbhs_poll_setup.Reads as reads
 use Rattle.usbhs_c.proofs.usbhs_poll_setup.Lts as lts
-use Rattle.usbhs.proofs.control_polls.poll_setup.Reads as poll-setup-reads
+use Rattle.calls.proofs.control_polls.poll_setup.Reads as poll-setup-reads
 use Rattle.usbhs_c.proofs.setup.setup_word.Reads as setup-word-reads
 
 poll-setup-requires : tie.Need-poll-setup-requires

@@ -1,7 +1,7 @@
 use Rattle.state.specs.State.{view}
 use denote.Ref.{now}
 use lib.Dec.{eqb, ltb}
-use Rattle.endpoint_common.specs.RecordsLaws.{on-driver}
+use Rattle.endpoint.specs.RecordsLaws.{on-driver}
 use Rattle.control.proofs.Laws.{reject-asks, reject-refused}
 use mathlib.Core.Path.{_∙_, refl}
 use borrow.Author.Needs.{needs}
@@ -11,7 +11,7 @@ use Rattle.control.proofs.begin.reject.Reads as reads
 use Rattle.control.proofs.begin.reject.Lts as lts
 use Rattle.control.proofs.checks.is_started.Reads as is-started-reads
 use Rattle.control.proofs.checks.set_request.Reads as set-request-reads
-use Rattle.endpoint_common.proofs.set_armed.Reads as set-armed-reads
+use Rattle.endpoint.proofs.common.set_armed.Reads as set-armed-reads
 use Rattle.state.proofs.load_globals.Reads as load-globals-reads
 use Rattle.state.proofs.clear_wakes.Reads as clear-wakes-reads
 

@@ -2,7 +2,7 @@ use Rattle.state.specs.State.{view}
 use lib.ListN.{length}
 use mathlib.Core.Path.{refl, _∙_}
 use Rattle.control.proofs.Laws.{polling, out-takes, out-other, out-refused}
-use Rattle.endpoint_common.specs.Brought.{lends}
+use Rattle.endpoint.specs.Brought.{lends}
 use borrow.Author.Needs.{needs}
 use Rattle.control.proofs.poll.poll_data_out.Statement.{statement}
 use Rattle.control.proofs.poll.poll_data_out.Tie as tie

@@ -3,7 +3,7 @@ use mathlib.Core.List.{[]}
 use borrow.Author.Tests.{not-true, not-false}
 use Rattle.state.specs.State.{view}
 use Rattle.model.specs.Statics.{isOn}
-use Rattle.endpoint_common.specs.RecordsLaws.{on-driver}
+use Rattle.endpoint.specs.RecordsLaws.{on-driver}
 use Rattle.control.proofs.Laws.{accept-done, accept-address, accept-waits}
 use borrow.Author.Needs.{needs}
 use Rattle.control.proofs.poll.take_accept.Statement.{statement}

@@ -1,7 +1,7 @@
 use mathlib.Core.Path.{refl, _∙_}
 use Rattle.state.specs.State.{view}
 use Rattle.model.specs.Statics.{isOn}
-use Rattle.endpoint_common.specs.RecordsLaws.{on-driver}
+use Rattle.endpoint.specs.RecordsLaws.{on-driver}
 use Rattle.control.proofs.Laws.{setup-done, setup-waits}
 use borrow.Author.Needs.{needs}
 use Rattle.control.proofs.poll.take_setup.Statement.{statement}

@@ -2,10 +2,10 @@ use mathlib.Core.Path.{refl, sym, _∙_}
 use lib.ListN.{length}
 use borrow.Author.Tests.{eq-eqb}
 use Rattle.state.specs.State.{view}
-use Rattle.endpoint_rows.specs.RowsLaws.{numbered}
+use Rattle.endpoint.specs.RowsLaws.{numbered}
 use Rattle.regs.specs.declared.Dir.the-variants.{Out}
 use Rattle.model.specs.Endpoint.{pollRead}
-use Rattle.endpoint_common.specs.Brought.{lends}
+use Rattle.endpoint.specs.Brought.{lends}
 use Rattle.endpoint.proofs.Laws.{read-refused, lowered}
 use borrow.Author.Needs.{needs}
 use Rattle.endpoint.proofs.read.poll_read.Statement.{statement}

@@ -3,7 +3,7 @@ use lib.Dec.{ltb}
 use borrow.Author.Tests.{lt-ltb, le-ltb, not-true, not-false}
 use Rattle.state.specs.State.{view}
 use Rattle.model.specs.Statics.{isOn}
-use Rattle.endpoint_common.specs.RecordsLaws.{on-driver}
+use Rattle.endpoint.specs.RecordsLaws.{on-driver}
 use Rattle.endpoint.proofs.Laws.{read-disabled, read-short, read-iso, read-has, read-asks}
 use borrow.Author.Needs.{needs}
 use Rattle.endpoint.proofs.read.start_read.Statement.{statement}

@@ -4,7 +4,7 @@ use lib.ListN.{length}
 use borrow.Author.Tests.{lt-ltb, le-ltb, not-true, not-false}
 use Rattle.state.specs.State.{view}
 use Rattle.model.specs.Statics.{isOn}
-use Rattle.endpoint_common.specs.RecordsLaws.{on-driver}
+use Rattle.endpoint.specs.RecordsLaws.{on-driver}
 use Rattle.endpoint.proofs.Laws.{write-disabled, write-long, write-iso, write-asks}
 use borrow.Author.Needs.{needs}
 use Rattle.endpoint.proofs.write.start_write.Statement.{statement}

@@ -31,9 +31,21 @@ get8-requires-3 : tie.Need-get8-requires-3
 get8-requires-3 c κs = search needs
 
 returns : tie.Need-returns
-returns c = (c .before .before .before .before .before .before .get32 .ensures, (c .before .before .before .before .before .get322 .ensures, (c .before .before .before .before .get323 .ensures, five (c .before .before .before .before .before .before .before .before .get16x5 .ensures)
-    ((c .before .before .before .get16 .ensures, five (c .before .before .before .before .before .before .before .get8x5 .ensures)
-    ((c .before .before .get8 .ensures, (c .before .get82 .ensures, (c .get83 .ensures, tt)))))))))
+returns c = (
+  c .before .before .before .before .before .before .get32 .ensures,
+  (
+    c .before .before .before .before .before .get322 .ensures,
+    (
+      c .before .before .before .before .get323 .ensures,
+      five (c .before .before .before .before .before .before .before .before .get16x5 .ensures)
+          ((
+            c .before .before .before .get16 .ensures,
+            five (c .before .before .before .before .before .before .before .get8x5 .ensures)
+                ((c .before .before .get8 .ensures, (c .before .get82 .ensures, (c .get83 .ensures, tt)))),
+          )),
+    ),
+  ),
+)
 
 pub read-ep-spec : {M : Type 1} → statement M
 read-ep-spec = tie.close (tie.spec get16x5-requires get8x5-requires get32-requires get32-requires-2 get32-requires-3 get16-requires get8-requires get8-requires-2 get8-requires-3 returns)

@@ -28,9 +28,27 @@ get16-requires : tie.Need-get16-requires
 get16-requires c κs = search needs
 
 returns : tie.Need-returns
-returns c = (c .before .before .before .before .before .get32 .ensures, (c .before .before .before .before .get322 .ensures, (c .before .before .before .get323 .ensures, (c .before .before .get324 .ensures, (c .before .get325 .ensures, five (c .before .before .before .before .before .before .before .get16x5 .ensures)
-    ((c .get16 .ensures, five (c .before .before .before .before .before .before .get8x5 .ensures)
-    (tt))))))))
+returns c = (
+  c .before .before .before .before .before .get32 .ensures,
+  (
+    c .before .before .before .before .get322 .ensures,
+    (
+      c .before .before .before .get323 .ensures,
+      (
+        c .before .before .get324 .ensures,
+        (
+          c .before .get325 .ensures,
+          five (c .before .before .before .before .before .before .before .get16x5 .ensures)
+              ((
+                c .get16 .ensures,
+                five (c .before .before .before .before .before .before .get8x5 .ensures)
+                    (tt),
+              )),
+        ),
+      ),
+    ),
+  ),
+)
 
 pub read-globals-spec : {M : Type 1} → statement M
 read-globals-spec = tie.close (tie.spec get16x5-requires get8x5-requires get32-requires get32-requires-2 get32-requires-3 get32-requires-4 get32-requires-5 get16-requires returns)

@@ -1,7 +1,7 @@
 use mathlib.Core.Path.{ap, _∙_}
 use Prim.Native.Nat.{_+_, _*_}
 use native.Mathlib.Omega.{arith}
-use Rattle.le_bytes.specs.Bytes.{puts, bytes}
+use Rattle.bits.specs.Bytes.{puts, bytes}
 use Rattle.state.specs.declared.EpState.{EpState}
 use Rattle.state.specs.Codec.{epWidths, epAs}
 use Rattle.state.specs.Driver.{noEp}

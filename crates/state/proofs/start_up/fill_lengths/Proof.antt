@@ -1,7 +1,7 @@
 use mathlib.Core.Path.{_≡_, refl, ap, _∙_}
 use Prim.Native.Nat.{_≤_, _-_, _+_, _*_}
 use native.Mathlib.Omega.{arith}
-use Rattle.le_bytes.specs.Bytes.{digits}
+use Rattle.bits.specs.Bytes.{digits}
 use Rattle.state.specs.State.{view, saved}
 use Rattle.state.proofs.Views.{view-lens, saved-off}
 use Rattle.state.proofs.Filling.{lens-table, Filled, none-filled, one-filled, all-filled}

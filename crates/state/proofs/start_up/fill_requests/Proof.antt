@@ -1,7 +1,7 @@
 use mathlib.Core.Path.{ap, _∙_}
 use Prim.Native.Nat.{_+_, _*_}
 use native.Mathlib.Omega.{arith}
-use Rattle.le_bytes.specs.Bytes.{bytes}
+use Rattle.bits.specs.Bytes.{bytes}
 use Rattle.state.specs.Codec.{requestWidths, requestAs}
 use Rattle.state.specs.Driver.{noRequest}
 use Rattle.state.specs.State.{view, saved}

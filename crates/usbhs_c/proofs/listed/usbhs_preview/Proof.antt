@@ -1,12 +1,12 @@
 use mathlib.Core.Path.{ap, sym, _∙_}
 use Prim.Native.Nat.{_+_, _*_, _%_, _^_}
-use Rattle.req_preview.specs.declared.Shown.{Shown}
+use Rattle.descriptor.specs.declared.preview.Shown.{Shown}
 use borrow.Author.Needs.{needs}
 use Rattle.usbhs_c.proofs.listed.usbhs_preview.Statement.{statement}
 use Rattle.usbhs_c.proofs.listed.usbhs_preview.Tie as tie
 use Rattle.usbhs_c.proofs.listed.usbhs_preview.Reads as reads
 use Rattle.usbhs_c.proofs.listed.usbhs_preview.Lts as lts
-use Rattle.call_driver.proofs.listed_calls.preview.Reads as preview-reads
+use Rattle.calls.proofs.listed_calls.preview.Reads as preview-reads
 
 preview-requires : tie.Need-preview-requires
 preview-requires c κs = search needs

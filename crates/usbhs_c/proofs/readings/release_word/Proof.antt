@@ -1,7 +1,7 @@
 use mathlib.Core.Path.{refl}
 use native.Mathlib.Omega.{arith}
-use Rattle.call_answer_word.specs.Word.{wordOf, accessWord}
-use Rattle.call_answer_word.specs.WordLaws.{says}
+use Rattle.machine.specs.Word.{wordOf, accessWord}
+use Rattle.machine.specs.WordLaws.{says}
 use Rattle.usbhs_c.proofs.readings.release_word.Statement.{statement}
 use Rattle.usbhs_c.proofs.readings.release_word.Tie as tie
 

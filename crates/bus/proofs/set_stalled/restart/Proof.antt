@@ -1,0 +1,54 @@
+use mathlib.Core.Path.{refl}
+use Rattle.bus.specs.Points.{afterRestart, woken}
+use borrow.Author.Needs.{needs}
+use Rattle.bus.proofs.set_stalled.restart.Statement.{statement}
+use Rattle.bus.proofs.set_stalled.restart.Tie as tie
+
+load-ep-requires : tie.Need-load-ep-requires
+load-ep-requires c κs = search needs
+
+store-ep-requires : tie.Need-store-ep-requires
+store-ep-requires c κs = search needs
+
+enum-told : tie.Need-enum-told
+enum-told c = search needs
+
+restarted-out-requires : tie.Need-restarted-out-requires
+restarted-out-requires c κs = search needs
+
+cast-t14 : tie.Need-cast-t14
+cast-t14 c = search needs
+
+enum-told-2 : tie.Need-enum-told-2
+enum-told-2 c = search needs
+
+restarted-in-requires : tie.Need-restarted-in-requires
+restarted-in-requires c κs = search needs
+
+is-on-requires : tie.Need-is-on-requires
+is-on-requires c κs = search needs
+
+cast-t19 : tie.Need-cast-t19
+cast-t19 c = search needs
+
+returns : tie.Need-returns
+unfolding woken
+returns c =
+    let stored = c .before .before .before in (
+      λ b. rw (stored .store-ep .ensures .0, c .restarted-out .ensures, stored .before .before .load-ep .ensures, c .before .enum-told .given .1),
+      (stored .store-ep .ensures .1, refl),
+    )
+
+returns-2 : tie.Need-returns-2
+unfolding woken afterRestart
+returns-2 c =
+    let stored = c .before .before .before .before in
+    let told = c .before .before .enum-told2 .given .1 in (
+      λ b. rw (stored .store-ep .ensures .0, c .before .restarted-in .ensures, c .is-on .ensures, stored .before .before .load-ep .ensures, told),
+      (stored .store-ep .ensures .1, refl),
+    )
+
+pub restart-spec : {M : Type 1} → statement M
+restart-spec =
+    tie.close (tie.spec load-ep-requires store-ep-requires enum-told restarted-out-requires cast-t14 enum-told-2 restarted-in-requires is-on-requires
+    cast-t19 returns returns-2)

@@ -1,0 +1,30 @@
+// The bus goes on (mod.rs 1187-1266): enable, poll with reset, suspend and resume, one access at a time. Every function is total: any number is
+// safe.
+use crate::Next;
+use crate::Point;
+use crate::event::poll;
+use regs::Access;
+use regs::Reg;
+ghost use mathlib.Core.Path.{_≡_};
+ghost use mathlib.Core.List.{List};
+ghost use Prim.Native.Nat.{ℕ};
+ghost use Rattle.state.specs.Driver.{Driver};
+ghost use Rattle.model.specs.Script.{run};
+ghost use Rattle.model.specs.Bus as script;
+ghost use Rattle.model_ops.specs.Means.{Means};
+ghost use Rattle.model_ops.specs.Concrete.{concrete};
+ghost use Rattle.bus.specs.Points.{resultless, denote, meaning, Linked};
+
+// `enable` (mod.rs 1225-1227).
+pub fn enable() -> Next
+    ensures { λ r. ⌜ Means (meaning r) (Linked r) (run concrete (resultless script.enable)) ⌝ }
+{
+    Next::Asks(Access::Read(Reg::Ctrl, 0), Point::Enable)
+}
+
+pub fn after_enable(v: u32) -> Access
+    ensures { λ r. ⌜ ((d : Driver) (b : List ℕ) → meaning (Next.Asks r (Point.Event 0)) d b ≡ denote Point.Enable v (d, b)) ⌝ }
+    ensures { λ r. ⌜ Linked (Next.Asks r (Point.Event 0)) ⌝ }
+{
+    Access::Write(Reg::Ctrl, 0, regs::ctrl::pulled_up(v))
+}

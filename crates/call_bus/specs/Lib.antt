@@ -1,3 +1,0 @@
-pub mod Enters
-pub mod EntersLaws
-pub mod Stalls

@@ -1,3 +1,0 @@
-pub mod AskedLaws
-pub mod AtOnce
-pub mod Shown

@@ -1,0 +1,34 @@
+use mathlib.Core.Path.{refl}
+use Rattle.model.specs.Calls as calls
+use Rattle.model.specs.Answers.{operation}
+use Rattle.state.specs.State.{view}
+use Rattle.model.specs.IsoIn as script
+use Rattle.machine.specs.ContractsLaws.{begins, other-passed, other-stopped}
+use borrow.Author.Needs.{needs}
+use Rattle.calls.proofs.begins.begin_microframe.Statement.{statement}
+use Rattle.calls.proofs.begins.begin_microframe.Tie as tie
+
+stop-requires : tie.Need-stop-requires
+stop-requires c κs = search needs
+
+clear-wakes-requires : tie.Need-clear-wakes-requires
+clear-wakes-requires c κs = search needs
+
+microframe-requires : tie.Need-microframe-requires
+microframe-requires c κs = search needs
+
+suspend-or-end-requires : tie.Need-suspend-or-end-requires
+suspend-or-end-requires c κs = c .microframe .ensures .1
+
+returns : tie.Need-returns
+returns c = other-passed calls.Microframe 2 (operation script.microframe) _ (c .before .before .before .before .before .before .stop .ensures) (λ b. refl)
+    (c .before .before .before .before .before .if1 .taken) (c .suspend-or-end .result) _
+    (begins script.microframe (view (c .before .before .before .before .before .before .before .before .args .s .now)) (c .suspend-or-end .result) _
+    (c .before .before .before .clear-wakes .ensures .0) (c .before .microframe .ensures .0 _) (c .suspend-or-end .ensures .0))
+    (c .suspend-or-end .ensures .1 _)
+
+returns-2 : tie.Need-returns-2
+returns-2 c = other-stopped calls.Microframe 2 (operation script.microframe) _ (c .before .stop .ensures) (λ b. refl) (c .if1 .left)
+
+pub begin-microframe-spec : {M : Type 1} → statement M
+begin-microframe-spec = tie.close (tie.spec stop-requires clear-wakes-requires microframe-requires suspend-or-end-requires returns returns-2)

@@ -1,0 +1,50 @@
+use Rattle.model.specs.Calls as calls
+use Rattle.machine.specs.ContractsLaws.{idled, slotted-done, slotted-busy, slotted-misfit}
+use borrow.Author.Needs.{needs}
+use Rattle.calls.proofs.requests.poll_write.Statement.{statement}
+use Rattle.calls.proofs.requests.poll_write.Tie as tie
+
+slots-fit-requires : tie.Need-slots-fit-requires
+slots-fit-requires c κs = search needs
+
+is-idle-requires : tie.Need-is-idle-requires
+is-idle-requires c κs = search needs
+
+poll-write-requires : tie.Need-poll-write-requires
+poll-write-requires c κs = search needs
+
+polled-endpoint-requires : tie.Need-polled-endpoint-requires
+polled-endpoint-requires c κs = search needs
+
+same-length : tie.Need-same-length
+same-length c = search needs
+
+returns : tie.Need-returns
+returns c =
+    let start = c .before .before .before .before .before .before .before .before .before .before .before .before .before .before .before .args in
+    let polled = c .before .before .before .poll-write in
+    let idle = c .before .before .before .before .before .before in
+    let fit = idle .before .before .before in
+    slotted-done (calls.PollWrite (start .e) (start .bytes .now)) _ _ (fit .before .slots-fit .ensures) (fit .if1 .taken) (idle .before .is-idle .ensures)
+    (idle .if2 .taken)
+    (c .polled-endpoint .result) _ _ (polled .ensures .0)
+    (c .polled-endpoint .ensures .1 _ _ (polled .ensures .1)) _
+    (c .polled-endpoint .ensures .0 _ _ _ _ (idled {L = Unit {0}} _ _ (polled .ensures .1, tt) (idle .before .is-idle .ensures) (idle .if2 .taken) .1))
+
+same-length-2 : tie.Need-same-length-2
+same-length-2 c = search needs
+
+returns-2 : tie.Need-returns-2
+returns-2 c = let fit = c .before .before .before in
+    slotted-busy _ _ _ (fit .before .slots-fit .ensures) (fit .if1 .taken) (c .before .is-idle .ensures) (c .if2 .left)
+
+same-length-3 : tie.Need-same-length-3
+same-length-3 c = search needs
+
+returns-3 : tie.Need-returns-3
+returns-3 c = slotted-misfit _ _ _ (c .before .slots-fit .ensures) (c .if1 .left)
+
+pub poll-write-spec : {M : Type 1} → statement M
+poll-write-spec =
+    tie.close (tie.spec slots-fit-requires is-idle-requires poll-write-requires polled-endpoint-requires same-length returns same-length-2 returns-2
+    same-length-3 returns-3)

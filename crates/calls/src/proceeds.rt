@@ -1,0 +1,23 @@
+use crate::operates::operate;
+use machine::Step;
+use machine::call_answer_step::step_of;
+use machine::saved::tag;
+use req_bus_time::Time;
+use state::State;
+ghost use mathlib.Core.Path.{_≡_};
+ghost use Rattle.model.specs.Machine.{go};
+ghost use Rattle.calls.specs.Sharing.{SharedStep};
+
+// The tag of an interrupt's point.
+pub const INTERRUPT: u8 = 6;
+
+// Goes on with the operation under way. An interrupt writes no ep_config, so the record is not looked at.
+pub fn proceed(s: &mut State, slots: &mut [u8], time: &mut Time, driver: u32, v: u32) -> Step
+    ensures { λ r. ⌜ SharedStep r driver (go v) (now (s .entry)) (now (s .exit))
+        (now (slots .entry)) (now (slots .exit)) (now (time .entry)) (now (time .exit)) ⌝ }
+{
+    if tag(s) == INTERRUPT {
+        return step_of(crate::resume::interrupt(s, slots, v));
+    }
+    operate(s, slots, time, driver, v)
+}

@@ -1,0 +1,4 @@
+pub mod Laws
+pub mod ReaderLaws
+pub mod Taking
+pub mod WriterLaws

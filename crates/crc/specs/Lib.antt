@@ -1,9 +1,0 @@
-pub mod Crc
-pub mod CrcLaws
-pub mod Register
-pub mod RegisterLaws
-pub mod Xor
-pub mod Bytewise
-pub mod BytewiseLaws
-pub mod Fold
-pub mod FoldLaws

@@ -1,0 +1,18 @@
+use borrow.Author.Needs.{needs}
+use Rattle.descriptor.proofs.is_short.Statement.{statement}
+use Rattle.descriptor.proofs.is_short.Tie as tie
+
+count-requires : tie.Need-count-requires
+count-requires c κs = search needs
+
+mul-result : tie.Need-mul-result
+mul-result c = search needs
+
+add-result : tie.Need-add-result
+add-result c = search needs
+
+returns : tie.Need-returns
+returns c = rw (c .count .ensures)
+
+pub is-short-spec : {M : Type 1} → statement M
+is-short-spec = tie.close (tie.spec count-requires mul-result add-result returns)

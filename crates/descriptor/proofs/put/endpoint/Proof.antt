@@ -1,0 +1,31 @@
+use mathlib.Core.Path.{_∙_}
+use borrow.Author.Needs.{needs}
+use Rattle.descriptor.proofs.put.endpoint.Statement.{statement}
+use Rattle.descriptor.proofs.put.endpoint.Tie as tie
+
+cast-maximum : tie.Need-cast-maximum
+cast-maximum c = search needs
+
+low-requires : tie.Need-low-requires
+low-requires c κs = search needs
+
+high-requires : tie.Need-high-requires
+high-requires c κs = search needs
+
+slice-aggregate-put : tie.Need-slice-aggregate-put
+slice-aggregate-put c = search needs
+
+put-requires : tie.Need-put-requires
+put-requires c κs = search needs
+
+same-length : tie.Need-same-length
+same-length c = search needs
+
+returns : tie.Need-returns
+returns c = c .before .before .put .ensures ∙ rw (
+  c .before .before .before .before .before .before .low .ensures,
+  c .before .before .before .before .before .high .ensures,
+)
+
+pub endpoint-spec : {M : Type 1} → statement M
+endpoint-spec = tie.close (tie.spec cast-maximum low-requires high-requires slice-aggregate-put put-requires same-length returns)

@@ -1,2 +1,0 @@
-pub mod Announce
-pub mod AnnounceLaws

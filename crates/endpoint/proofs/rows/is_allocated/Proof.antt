@@ -1,0 +1,41 @@
+use mathlib.Core.Path.{_∙_, sym}
+use Rattle.endpoint.specs.RowsLaws.{no-number, number-lt}
+use native.Mathlib.Nat.{mod-eq-of-lt}
+use borrow.Author.Needs.{needs}
+use Rattle.endpoint.proofs.rows.is_allocated.Statement.{statement}
+use Rattle.endpoint.proofs.rows.is_allocated.Tie as tie
+
+is-number-requires : tie.Need-is-number-requires
+is-number-requires c κs = search needs
+
+load-allocator-requires : tie.Need-load-allocator-requires
+load-allocator-requires c κs = search needs
+
+allocated-requires : tie.Need-allocated-requires
+allocated-requires c κs = search needs
+
+low-requires : tie.Need-low-requires
+low-requires c κs = simp (← c .before .before .before .is-number .ensures, c .before .before .if1 .taken)
+
+mask-has-requires : tie.Need-mask-has-requires
+mask-has-requires c κs = search needs
+
+returns : tie.Need-returns
+returns c =
+    let test = c .before .before .before .before in
+    let e = test .before .before .args .e in
+    let number = sym (test .before .is-number .ensures) ∙ test .if1 .taken in
+    simp (
+      c .mask-has .ensures,
+      c .before .low .ensures,
+      mod-eq-of-lt (number-lt e number),
+      ← c .before .before .before .load-allocator .ensures,
+      c .before .before .allocated .ensures e,
+      number,
+    )
+
+returns-2 : tie.Need-returns-2
+returns-2 c = sym (no-number _ _ _ (sym (c .before .is-number .ensures) ∙ c .if1 .left))
+
+pub is-allocated-spec : {M : Type 1} → statement M
+is-allocated-spec = tie.close (tie.spec is-number-requires load-allocator-requires allocated-requires low-requires mask-has-requires returns returns-2)

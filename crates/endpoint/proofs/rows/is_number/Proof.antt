@@ -1,0 +1,17 @@
+use Rattle.model.specs.Answers.{isNumber}
+use borrow.Author.Tests.{lt-ltb, le-ltb}
+use Rattle.endpoint.proofs.rows.is_number.Statement.{statement}
+use Rattle.endpoint.proofs.rows.is_number.Tie as tie
+use Rattle.endpoint.proofs.rows.is_number.Reads as reads
+use Rattle.endpoint.proofs.rows.is_number.Lts as lts
+
+returns : tie.Need-returns
+unfolding isNumber
+returns c = simp (lt-ltb _ _ (c .if1 .taken))
+
+returns-2 : tie.Need-returns-2
+unfolding isNumber
+returns-2 c = simp (le-ltb _ _ (c .if1 .left))
+
+pub is-number-spec : {M : Type 1} → statement M
+is-number-spec = tie.close (tie.spec returns returns-2)

@@ -1,0 +1,22 @@
+use Rattle.endpoint.specs.Rows.{stallable}
+use borrow.Author.Tests.{eq-eqb, ne-eqb}
+use borrow.Author.Needs.{needs}
+use Rattle.endpoint.proofs.rows.is_stallable.Statement.{statement}
+use Rattle.endpoint.proofs.rows.is_stallable.Tie as tie
+use Rattle.endpoint.proofs.rows.is_stallable.Reads as reads
+use Rattle.endpoint.proofs.rows.is_stallable.Lts as lts
+use Rattle.endpoint.proofs.rows.is_allocated.Reads as is-allocated-reads
+
+returns : tie.Need-returns
+unfolding stallable
+returns c = simp (eq-eqb _ _ (c .if1 .taken))
+
+is-allocated-requires : tie.Need-is-allocated-requires
+is-allocated-requires c κs = search needs
+
+returns-2 : tie.Need-returns-2
+unfolding stallable
+returns-2 c = simp (c .is-allocated .ensures, ne-eqb _ _ (c .before .if1 .left))
+
+pub is-stallable-spec : {M : Type 1} → statement M
+is-stallable-spec = tie.close (tie.spec returns is-allocated-requires returns-2)

@@ -1,0 +1,16 @@
+use Rattle.endpoint.specs.RowsLaws.{number-lt}
+use native.Mathlib.Omega.{arith}
+use borrow.Author.Needs.{needs}
+use Rattle.endpoint.proofs.rows.low.Statement.{statement}
+use Rattle.endpoint.proofs.rows.low.Tie as tie
+use Rattle.endpoint.proofs.rows.low.Reads as reads
+use Rattle.endpoint.proofs.rows.low.Lts as lts
+
+cast-result : tie.Need-cast-result
+cast-result c = omega (arith, number-lt (c .args .e) (c .pre))
+
+returns : tie.Need-returns
+returns c = search needs
+
+pub low-spec : {M : Type 1} → statement M
+low-spec = tie.close (tie.spec cast-result returns)

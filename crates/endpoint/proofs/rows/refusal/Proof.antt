@@ -1,0 +1,36 @@
+use borrow.Author.Tests.{eq-eqb, ne-eqb}
+use Rattle.endpoint.specs.Rows.{refusalOf}
+use borrow.Author.Needs.{needs}
+use Rattle.endpoint.proofs.rows.refusal.Statement.{statement}
+use Rattle.endpoint.proofs.rows.refusal.Tie as tie
+
+load-globals-requires : tie.Need-load-globals-requires
+load-globals-requires c κs = search needs
+
+is-allocated-requires : tie.Need-is-allocated-requires
+is-allocated-requires c κs = search needs
+
+returns : tie.Need-returns
+unfolding refusalOf
+returns c = simp (
+  ← c .before .before .before .before .load-globals .ensures,
+  eq-eqb _ _ (c .before .before .if1 .taken),
+  ← c .before .is-allocated .ensures,
+  c .if2 .taken,
+)
+
+returns-2 : tie.Need-returns-2
+unfolding refusalOf
+returns-2 c = simp (
+  ← c .before .before .before .before .load-globals .ensures,
+  eq-eqb _ _ (c .before .before .if1 .taken),
+  ← c .before .is-allocated .ensures,
+  c .if2 .left,
+)
+
+returns-3 : tie.Need-returns-3
+unfolding refusalOf
+returns-3 c = simp (← c .before .before .load-globals .ensures, ne-eqb _ _ (c .if1 .left))
+
+pub refusal-spec : {M : Type 1} → statement M
+refusal-spec = tie.close (tie.spec load-globals-requires is-allocated-requires returns returns-2 returns-3)

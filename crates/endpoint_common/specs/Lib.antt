@@ -1,6 +1,0 @@
-pub mod Records
-pub mod RecordsLaws
-pub mod Fetch
-pub mod Answers
-pub mod Front
-pub mod Brought

@@ -1,0 +1,28 @@
+use Rattle.interrupt.specs.StopsLaws.{goes-on}
+use Rattle.irq.specs.Laws.{after}
+use Rattle.irq.specs.Continuations.{afterCheck}
+use Rattle.model_ops.specs.Concrete.{concrete}
+use Rattle.model.specs.Script.{run}
+use borrow.Author.Needs.{needs}
+use Rattle.interrupt.proofs.check.after_checking.Statement.{statement}
+use Rattle.interrupt.proofs.check.after_checking.Tie as tie
+
+iso-out-check-resume-requires : tie.Need-iso-out-check-resume-requires
+iso-out-check-resume-requires c κs = (c .before .before .before .pre)
+
+checked-requires : tie.Need-checked-requires
+checked-requires c κs =
+    let the-resume = c .before .before .before .before .iso-out-check-resume in
+    the-resume .ensures .1 .1
+
+same-length : tie.Need-same-length
+same-length c = search needs
+
+returns : tie.Need-returns
+returns c =
+    let a = c .before .before .before .before .before .before .before .before .before .args in
+    goes-on (c .checked .ensures)
+    (after (a .e .setup) (λ _ u. run concrete (afterCheck (a .e .x)) u) _ _ (c .before .before .before .before .before .iso-out-check-resume .ensures .0))
+
+pub after-checking-spec : {M : Type 1} → statement M
+after-checking-spec = tie.close (tie.spec iso-out-check-resume-requires checked-requires same-length returns)

@@ -1,0 +1,26 @@
+use Rattle.interrupt.specs.StopsLaws.{pauses-in, goes-in}
+use Rattle.irq.specs.Continuations.{afterSuspend}
+use mathlib.Core.Path.{refl}
+use borrow.Author.Needs.{needs}
+use Rattle.interrupt.proofs.flags.fifo.Statement.{statement}
+use Rattle.interrupt.proofs.flags.fifo.Tie as tie
+
+fifo-ov-requires : tie.Need-fifo-ov-requires
+fifo-ov-requires c κs = search needs
+
+stand-fifo-requires : tie.Need-stand-fifo-requires
+stand-fifo-requires c κs = search needs
+
+returns : tie.Need-returns
+unfolding afterSuspend
+returns c = pauses-in (c .stand-fifo .ensures) refl (λ b. simp (← c .before .before .before .fifo-ov .ensures, c .before .before .if1 .taken))
+
+after-fifo-requires : tie.Need-after-fifo-requires
+after-fifo-requires c κs = search needs
+
+returns-2 : tie.Need-returns-2
+unfolding afterSuspend
+returns-2 c = goes-in (c .after-fifo .ensures) (λ b. simp (← c .before .before .before .fifo-ov .ensures, c .before .before .if1 .left))
+
+pub fifo-spec : {M : Type 1} → statement M
+fifo-spec = tie.close (tie.spec fifo-ov-requires stand-fifo-requires returns after-fifo-requires returns-2)

@@ -1,0 +1,21 @@
+use borrow.Author.Needs.{needs}
+use Rattle.interrupt.proofs.loads.late_at.Statement.{statement}
+use Rattle.interrupt.proofs.loads.late_at.Tie as tie
+
+sub-byte-requires : tie.Need-sub-byte-requires
+sub-byte-requires c κs = search needs
+
+ep-byte-requires : tie.Need-ep-byte-requires
+ep-byte-requires c κs = search needs
+
+eps-word-requires : tie.Need-eps-word-requires
+eps-word-requires c κs = search needs
+
+late-of-requires : tie.Need-late-of-requires
+late-of-requires c κs = search needs
+
+returns : tie.Need-returns
+returns c = simp (c .late-of .ensures, c .before .before .before .sub-byte .ensures, c .before .before .ep-byte .ensures, c .before .eps-word .ensures)
+
+pub late-at-spec : {M : Type 1} → statement M
+late-at-spec = tie.close (tie.spec sub-byte-requires ep-byte-requires eps-word-requires late-of-requires returns)

@@ -1,0 +1,28 @@
+use Rattle.interrupt.specs.Resumes.{goes-on}
+use Rattle.interrupt.specs.Sites.{at-site}
+use Rattle.machine.specs.StandsLaws.{parts2}
+use Rattle.irq.specs.declared.Point.the-variants as point
+use Rattle.irq.specs.Points.{fitsAt}
+use mathlib.Core.Path.{refl}
+use borrow.Author.Needs.{needs}
+use Rattle.interrupt.proofs.rest.resume_moved_wrote.Statement.{statement}
+use Rattle.interrupt.proofs.rest.resume_moved_wrote.Tie as tie
+
+dir-at-requires : tie.Need-dir-at-requires
+dir-at-requires c κs = search needs
+
+setup-at-requires : tie.Need-setup-at-requires
+setup-at-requires c κs = search needs
+
+after-moved-wrote-requires : tie.Need-after-moved-wrote-requires
+after-moved-wrote-requires c κs = search needs
+
+returns : tie.Need-returns
+unfolding fitsAt
+returns c =
+    let here = at-site 22 (c .before .before .before .before .before .before .pre)
+    (parts2 point.MovedWrote (c .before .before .before .before .dir-at .ensures) (c .before .before .setup-at .ensures)) in
+    λ v b. goes-on here refl (c .after-moved-wrote .ensures .0 v b) (c .after-moved-wrote .ensures .1)
+
+pub resume-moved-wrote-spec : {M : Type 1} → statement M
+resume-moved-wrote-spec = tie.close (tie.spec dir-at-requires setup-at-requires after-moved-wrote-requires returns)

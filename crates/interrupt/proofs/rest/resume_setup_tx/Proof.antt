@@ -1,0 +1,21 @@
+use Rattle.interrupt.specs.Resumes.{goes-on}
+use Rattle.interrupt.specs.Sites.{at-site}
+use Rattle.irq.specs.Points.{fitsAt}
+use mathlib.Core.Path.{refl}
+use borrow.Author.Needs.{needs}
+use Rattle.interrupt.proofs.rest.resume_setup_tx.Statement.{statement}
+use Rattle.interrupt.proofs.rest.resume_setup_tx.Tie as tie
+
+after-setup-tx-requires : tie.Need-after-setup-tx-requires
+after-setup-tx-requires c κs = search needs
+
+same-length : tie.Need-same-length
+same-length c = search needs
+
+returns : tie.Need-returns
+unfolding fitsAt
+returns c =
+    λ v. goes-on (at-site 24 (c .before .before .before .before .pre) refl) refl (c .after-setup-tx .ensures .0 v) (c .after-setup-tx .ensures .1)
+
+pub resume-setup-tx-spec : {M : Type 1} → statement M
+resume-setup-tx-spec = tie.close (tie.spec after-setup-tx-requires same-length returns)

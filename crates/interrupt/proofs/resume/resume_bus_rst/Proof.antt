@@ -1,0 +1,23 @@
+use Rattle.interrupt.specs.Resumes.{goes-on}
+use Rattle.interrupt.specs.Sites.{at-site}
+use Rattle.irq.specs.declared.Point.the-variants as point
+use Rattle.irq.specs.Points.{fitsAt}
+use mathlib.Core.Path.{refl, ap}
+use borrow.Author.Needs.{needs}
+use Rattle.interrupt.proofs.resume.resume_bus_rst.Statement.{statement}
+use Rattle.interrupt.proofs.resume.resume_bus_rst.Tie as tie
+
+st-byte-requires : tie.Need-st-byte-requires
+st-byte-requires c κs = search needs
+
+after-bus-rst-requires : tie.Need-after-bus-rst-requires
+after-bus-rst-requires c κs = search needs
+
+returns : tie.Need-returns
+unfolding fitsAt
+returns c =
+    let here = at-site 2 (c .before .before .before .before .pre) (ap point.BusRst (c .before .before .st-byte .ensures)) in
+    λ v b. goes-on here refl (c .after-bus-rst .ensures .0 v b) (c .after-bus-rst .ensures .1)
+
+pub resume-bus-rst-spec : {M : Type 1} → statement M
+resume-bus-rst-spec = tie.close (tie.spec st-byte-requires after-bus-rst-requires returns)

@@ -1,0 +1,33 @@
+use Rattle.interrupt.specs.Resumes.{goes-on}
+use Rattle.interrupt.specs.Sites.{at-site, ofInner}
+use Rattle.machine.specs.StandsLaws.{parts2}
+use Rattle.irq.specs.declared.Point.the-variants as point
+use Rattle.irq.specs.Points.{fitsAt}
+use mathlib.Core.Path.{refl}
+use borrow.Author.Needs.{needs}
+use Rattle.interrupt.proofs.resume.resume_completing.Statement.{statement}
+use Rattle.interrupt.proofs.resume.resume_completing.Tie as tie
+
+entry-at-requires : tie.Need-entry-at-requires
+entry-at-requires c κs = search needs
+
+complete-at-requires : tie.Need-complete-at-requires
+complete-at-requires c κs = search needs
+
+after-completing-requires : tie.Need-after-completing-requires
+after-completing-requires c κs = search needs
+
+same-length : tie.Need-same-length
+same-length c = search needs
+
+returns : tie.Need-returns
+unfolding fitsAt
+returns c =
+    let here = at-site 19 (c .before .before .before .before .before .before .before .before .before .before .pre)
+    (parts2 (ofInner point.Completing) (c .before .before .before .before .before .before .before .entry-at .ensures)
+    (c .before .before .before .before .before .complete-at .ensures)) in
+    λ v. goes-on here refl (c .before .before .after-completing .ensures .0 v) (c .before .before .after-completing .ensures .1)
+
+pub resume-completing-spec : {M : Type 1} → statement M
+resume-completing-spec =
+    tie.close (tie.spec entry-at-requires complete-at-requires after-completing-requires same-length returns)

@@ -1,0 +1,23 @@
+use Rattle.interrupt.specs.Resumes.{goes-on}
+use Rattle.interrupt.specs.Sites.{at-site}
+use Rattle.irq.specs.declared.Point.the-variants as point
+use Rattle.irq.specs.Points.{fitsAt}
+use mathlib.Core.Path.{refl, ap}
+use borrow.Author.Needs.{needs}
+use Rattle.interrupt.proofs.resume.resume_fifo.Statement.{statement}
+use Rattle.interrupt.proofs.resume.resume_fifo.Tie as tie
+
+st-byte-requires : tie.Need-st-byte-requires
+st-byte-requires c κs = search needs
+
+after-fifo-requires : tie.Need-after-fifo-requires
+after-fifo-requires c κs = search needs
+
+returns : tie.Need-returns
+unfolding fitsAt
+returns c =
+    let here = at-site 4 (c .before .before .before .before .pre) (ap point.Fifo (c .before .before .st-byte .ensures)) in
+    λ v b. goes-on here refl (c .after-fifo .ensures .0 b) (c .after-fifo .ensures .1)
+
+pub resume-fifo-spec : {M : Type 1} → statement M
+resume-fifo-spec = tie.close (tie.spec st-byte-requires after-fifo-requires returns)

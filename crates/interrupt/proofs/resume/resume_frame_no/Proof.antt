@@ -1,0 +1,40 @@
+use Rattle.interrupt.specs.Resumes.{goes-on, refuses-16}
+use Rattle.interrupt.specs.Sites.{at-site, ofEntry}
+use Rattle.irq.specs.declared.Point.the-variants as point
+use Rattle.irq.specs.Points.{fitsAt}
+use mathlib.Core.Path.{_∙_, ap, sym, refl}
+use borrow.Author.Needs.{needs}
+use Rattle.interrupt.proofs.resume.resume_frame_no.Statement.{statement}
+use Rattle.interrupt.proofs.resume.resume_frame_no.Tie as tie
+
+fits-requires : tie.Need-fits-requires
+fits-requires c κs = search needs
+
+entry-at-requires : tie.Need-entry-at-requires
+entry-at-requires c κs = search needs
+
+after-frame-no-requires : tie.Need-after-frame-no-requires
+after-frame-no-requires c κs =
+    let the-fits2 = c .before .before .before .before .before .fits2 in
+    let the-if1 = c .before .before .before .before .if1 in
+    sym (the-fits2 .ensures) ∙ the-if1 .taken
+
+same-length : tie.Need-same-length
+same-length c = search needs
+
+returns : tie.Need-returns
+unfolding fitsAt
+returns c =
+    let fitted = sym (c .before .before .before .before .before .before .before .before .fits2 .ensures)
+    ∙ c .before .before .before .before .before .before .before .if1 .taken in
+    let here = at-site 12 (c .before .before .before .before .before .before .before .before .before .before .pre)
+    (ap (ofEntry point.FrameNo) (c .before .before .before .before .before .entry-at .ensures)) in
+    goes-on here fitted (c .before .before .after-frame-no .ensures .0) (c .before .before .after-frame-no .ensures .1)
+
+returns-2 : tie.Need-returns-2
+unfolding fitsAt
+returns-2 c = refuses-16 (at-site 12 (c .before .before .before .pre) refl) (sym (c .before .fits2 .ensures) ∙ c .if1 .left)
+
+pub resume-frame-no-spec : {M : Type 1} → statement M
+resume-frame-no-spec =
+    tie.close (tie.spec fits-requires entry-at-requires after-frame-no-requires same-length returns returns-2)

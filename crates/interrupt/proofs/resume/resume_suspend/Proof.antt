@@ -1,0 +1,23 @@
+use Rattle.interrupt.specs.Resumes.{goes-on}
+use Rattle.interrupt.specs.Sites.{at-site}
+use Rattle.irq.specs.declared.Point.the-variants as point
+use Rattle.irq.specs.Points.{fitsAt}
+use mathlib.Core.Path.{refl, ap}
+use borrow.Author.Needs.{needs}
+use Rattle.interrupt.proofs.resume.resume_suspend.Statement.{statement}
+use Rattle.interrupt.proofs.resume.resume_suspend.Tie as tie
+
+st-byte-requires : tie.Need-st-byte-requires
+st-byte-requires c κs = search needs
+
+after-suspend-requires : tie.Need-after-suspend-requires
+after-suspend-requires c κs = search needs
+
+returns : tie.Need-returns
+unfolding fitsAt
+returns c =
+    let here = at-site 3 (c .before .before .before .before .pre) (ap point.Suspend (c .before .before .st-byte .ensures)) in
+    λ v b. goes-on here refl (c .after-suspend .ensures .0 v b) (c .after-suspend .ensures .1)
+
+pub resume-suspend-spec : {M : Type 1} → statement M
+resume-suspend-spec = tie.close (tie.spec st-byte-requires after-suspend-requires returns)

@@ -1,0 +1,15 @@
+use borrow.Author.Needs.{needs}
+use Rattle.interrupt.proofs.setup.keep.Statement.{statement}
+use Rattle.interrupt.proofs.setup.keep.Tie as tie
+
+load-globals-requires : tie.Need-load-globals-requires
+load-globals-requires c κs = search needs
+
+store-globals-requires : tie.Need-store-globals-requires
+store-globals-requires c κs = search needs
+
+returns : tie.Need-returns
+returns c = (simp (c .store-globals .ensures .0, c .before .before .load-globals .ensures), c .store-globals .ensures .1)
+
+pub keep-spec : {M : Type 1} → statement M
+keep-spec = tie.close (tie.spec load-globals-requires store-globals-requires returns)

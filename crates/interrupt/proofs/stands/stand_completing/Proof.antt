@@ -1,0 +1,22 @@
+use Rattle.machine.specs.Suspended.{encode}
+use Rattle.irq.specs.Codec as codec
+use Rattle.interrupt.specs.StandsLaws.{stands-at}
+use borrow.Author.Needs.{needs}
+use Rattle.interrupt.proofs.stands.stand_completing.Statement.{statement}
+use Rattle.interrupt.proofs.stands.stand_completing.Tie as tie
+
+complete-as-requires : tie.Need-complete-as-requires
+complete-as-requires c κs = search needs
+
+code-requires : tie.Need-code-requires
+code-requires c κs = search needs
+
+stand-requires : tie.Need-stand-requires
+stand-requires c κs = search needs
+
+returns : tie.Need-returns
+unfolding encode codec.encode
+returns c = stands-at (c .stand .ensures) (simp (c .before .code .ensures, c .before .before .complete-as .ensures))
+
+pub stand-completing-spec : {M : Type 1} → statement M
+stand-completing-spec = tie.close (tie.spec complete-as-requires code-requires stand-requires returns)

@@ -1,0 +1,22 @@
+use Rattle.machine.specs.Suspended.{encode}
+use Rattle.irq.specs.Codec as codec
+use Rattle.interrupt.specs.StandsLaws.{stands-at}
+use borrow.Author.Needs.{needs}
+use Rattle.interrupt.proofs.stands.stand_frame_no.Statement.{statement}
+use Rattle.interrupt.proofs.stands.stand_frame_no.Tie as tie
+
+none-requires : tie.Need-none-requires
+none-requires c κs = search needs
+
+code-requires : tie.Need-code-requires
+code-requires c κs = search needs
+
+stand-read-requires : tie.Need-stand-read-requires
+stand-read-requires c κs = search needs
+
+returns : tie.Need-returns
+unfolding encode codec.encode
+returns c = stands-at (c .stand-read .ensures) (simp (c .before .code .ensures, c .before .before .none .ensures))
+
+pub stand-frame-no-spec : {M : Type 1} → statement M
+stand-frame-no-spec = tie.close (tie.spec none-requires code-requires stand-read-requires returns)

@@ -1,0 +1,72 @@
+use Rattle.interrupt.specs.StopsLaws.{goes-on}
+use Rattle.regs.specs.declared.Token.{Token}
+use Rattle.regs.specs.declared.Token.the-variants as tok
+use Rattle.regs.specs.Status.{isSof, sofToken, token}
+use Prim.Native.Nat.{ℕ}
+use mathlib.Core.Bool.{true}
+use mathlib.Core.Path.{_≡_, _∙_, ap, sym}
+use borrow.Author.Needs.{needs}
+use Rattle.interrupt.proofs.tokens.dispatch.Statement.{statement}
+use Rattle.interrupt.proofs.tokens.dispatch.Tie as tie
+
+sof-told : (k : Token) (st : ℕ) → k ≡ tok.Sof → k ≡ token st → isSof st ≡ true
+unfolding isSof
+sof-told k st h l = ap sofToken (sym l ∙ h)
+
+token-requires : tie.Need-token-requires
+token-requires c κs = search needs
+
+enum-told : tie.Need-enum-told
+enum-told c = search needs
+
+sof-arm-requires : tie.Need-sof-arm-requires
+sof-arm-requires c κs = sof-told _ _ ((c .before .enum-told) .given .1) ((c .before .before .before .token) .ensures)
+
+enum-told-2 : tie.Need-enum-told-2
+enum-told-2 c = search needs
+
+out-arm-requires : tie.Need-out-arm-requires
+out-arm-requires c κs = search needs
+
+enum-told-3 : tie.Need-enum-told-3
+enum-told-3 c = search needs
+
+in-arm-requires : tie.Need-in-arm-requires
+in-arm-requires c κs = search needs
+
+enum-told-4 : tie.Need-enum-told-4
+enum-told-4 c = search needs
+
+after-dispatch-requires : tie.Need-after-dispatch-requires
+after-dispatch-requires c κs = search needs
+
+returns : tie.Need-returns
+returns c =
+    goes-on (c .sof-arm .ensures .0 _, c .sof-arm .ensures .1)
+    (simp (← c .before .before .before .before .token .ensures, c .before .before .enum-told .given .1))
+
+same-length : tie.Need-same-length
+same-length c = search needs
+
+returns-2 : tie.Need-returns-2
+returns-2 c = goes-on (c .before .before .out-arm .ensures)
+    (simp (← c .before .before .before .before .before .before .before .token .ensures, c .before .before .before .before .before .enum-told2 .given .1))
+
+same-length-2 : tie.Need-same-length-2
+same-length-2 c = search needs
+
+returns-3 : tie.Need-returns-3
+returns-3 c = goes-on (c .before .before .in-arm .ensures)
+    (simp (← c .before .before .before .before .before .before .before .token .ensures, c .before .before .before .before .before .enum-told3 .given .1))
+
+same-length-3 : tie.Need-same-length-3
+same-length-3 c = search needs
+
+returns-4 : tie.Need-returns-4
+returns-4 c = goes-on (c .before .before .after-dispatch .ensures)
+    (simp (← c .before .before .before .before .before .before .before .token .ensures, c .before .before .before .before .before .enum-told4 .given .1))
+
+pub dispatch-spec : {M : Type 1} → statement M
+dispatch-spec =
+    tie.close (tie.spec token-requires enum-told sof-arm-requires enum-told-2 out-arm-requires enum-told-3 in-arm-requires enum-told-4
+    after-dispatch-requires returns same-length returns-2 same-length-2 returns-3 same-length-3 returns-4)

@@ -1,0 +1,22 @@
+use mathlib.Core.Path.{_∙_}
+use borrow.Author.Needs.{needs}
+use Rattle.interrupt.proofs.tokens.received.Statement.{statement}
+use Rattle.interrupt.proofs.tokens.received.Tie as tie
+
+load-ep-requires : tie.Need-load-ep-requires
+load-ep-requires c κs = search needs
+
+store-ep-requires : tie.Need-store-ep-requires
+store-ep-requires c κs = search needs
+
+wake-requires : tie.Need-wake-requires
+wake-requires c κs = search needs
+
+returns : tie.Need-returns
+returns c = (
+  λ b. simp (c .wake .ensures .0, c .before .before .store-ep .ensures .0, c .before .before .before .before .load-ep .ensures),
+  c .wake .ensures .1 ∙ c .before .before .store-ep .ensures .1,
+)
+
+pub received-spec : {M : Type 1} → statement M
+received-spec = tie.close (tie.spec load-ep-requires store-ep-requires wake-requires returns)

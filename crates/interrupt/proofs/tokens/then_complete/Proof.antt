@@ -1,0 +1,33 @@
+use mathlib.Core.Path.{subst}
+use Rattle.isochronous.specs.Complete as complete
+use Rattle.interrupt.specs.StopsLaws.{pauses-at, goes-on}
+use borrow.Author.Needs.{needs}
+use Rattle.interrupt.proofs.tokens.then_complete.Statement.{statement}
+use Rattle.interrupt.proofs.tokens.then_complete.Tie as tie
+
+enum-known-n : tie.Need-enum-known-n
+enum-known-n c = search needs
+
+stand-completing-requires : tie.Need-stand-completing-requires
+stand-completing-requires c κs = search needs
+
+enum-told : tie.Need-enum-told
+enum-told c = search needs
+
+after-dispatch-requires : tie.Need-after-dispatch-requires
+after-dispatch-requires c κs = search needs
+
+returns : tie.Need-returns
+returns c =
+    pauses-at (c .stand-completing .ensures)
+    (subst complete.Linked (c .before .before .before .n .given .1) (c .before .before .before .before .before .before .pre))
+    (simp (c .before .before .before .n .given .1))
+
+same-length : tie.Need-same-length
+same-length c = search needs
+
+returns-2 : tie.Need-returns-2
+returns-2 c = goes-on (c .before .before .after-dispatch .ensures) (simp (c .before .before .before .before .before .enum-told .given .1))
+
+pub then-complete-spec : {M : Type 1} → statement M
+then-complete-spec = tie.close (tie.spec enum-known-n stand-completing-requires enum-told after-dispatch-requires returns same-length returns-2)

@@ -1,3 +1,0 @@
-pub mod SofLaws
-pub mod StopsLaws
-pub mod MovedLaws

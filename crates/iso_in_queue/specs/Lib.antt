@@ -1,2 +1,0 @@
-pub mod Queue
-pub mod Laws

@@ -1,0 +1,22 @@
+use mathlib.Core.Path.{refl}
+use borrow.Author.Needs.{needs}
+use Rattle.isochronous.proofs.complete.iso_in_load.Statement.{statement}
+use Rattle.isochronous.proofs.complete.iso_in_load.Tie as tie
+
+waiting-requires : tie.Need-waiting-requires
+waiting-requires c κs = search needs
+
+send-requires : tie.Need-send-requires
+send-requires c κs = search needs
+
+returns : tie.Need-returns
+returns c = (
+  λ b. simp (← c .before .before .before .waiting .ensures, c .before .before .if1 .taken, c .send .ensures .0, c .send .ensures .1 .0),
+  (c .send .ensures .1 .1, refl),
+)
+
+returns-2 : tie.Need-returns-2
+returns-2 c = (λ b. simp (← c .before .waiting .ensures, c .if1 .left), (refl, refl))
+
+pub iso-in-load-spec : {M : Type 1} → statement M
+iso-in-load-spec = tie.close (tie.spec waiting-requires send-requires returns returns-2)

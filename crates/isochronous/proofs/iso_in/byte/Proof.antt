@@ -1,0 +1,17 @@
+use lib.Dec.{ltb}
+use borrow.Author.Tests.{ltb-true}
+use native.Mathlib.Omega.{arith}
+use Rattle.regs.specs.Registers.{fitsIn}
+use borrow.Author.Needs.{needs}
+use Rattle.isochronous.proofs.iso_in.byte.Statement.{statement}
+use Rattle.isochronous.proofs.iso_in.byte.Tie as tie
+
+cast-result : tie.Need-cast-result
+unfolding fitsIn
+cast-result c = let h = ltb-true (c .args .v) 256 (c .pre) in omega (arith, h)
+
+returns : tie.Need-returns
+returns c = search needs
+
+pub byte-spec : {M : Type 1} → statement M
+byte-spec = tie.close (tie.spec cast-result returns)

@@ -1,0 +1,64 @@
+use mathlib.Core.Path.{_≡_, refl, sym, _∙_}
+use mathlib.Core.Bool.{Bool}
+use Prim.Native.Nat.{_<_}
+use native.Mathlib.Omega.{arith}
+use denote.Ref.{now}
+use Rattle.state.specs.State.{view}
+use Rattle.model.specs.declared.Transfer.{Transfer}
+use Rattle.model_ops.specs.Concrete.{go}
+use Rattle.isochronous.specs.Points.{walk}
+use Rattle.isochronous.specs.OutLaws.{walk-over, walk-at, walk-end, rest-less}
+use borrow.Author.Needs.{needs}
+use Rattle.isochronous.proofs.out.find.Statement.{statement}
+use Rattle.isochronous.proofs.out.find.Tie as tie
+
+abbrev Inv-loop : tie.InvT-loop
+Inv-loop s buf mask m₀ m = (m < 65536) × ((x : Transfer) (iso : Bool) → go (walk x iso mask) (view s) buf ≡ go (walk x iso m) (view s) buf)
+
+abbrev μ-loop : tie.MeasureT-loop
+μ-loop s buf mask m₀ m = m
+
+loop-holds : tie.Need-loop-holds Inv-loop μ-loop
+loop-holds c = (omega arith, λ x iso. refl)
+
+next-endpoint-requires : tie.Need-next-endpoint-requires Inv-loop μ-loop
+next-endpoint-requires c κs = search needs
+
+rest-of-requires : tie.Need-rest-of-requires Inv-loop μ-loop
+rest-of-requires c κs = search needs
+
+changed-requires : tie.Need-changed-requires Inv-loop μ-loop
+changed-requires c κs = search needs
+
+returns : tie.Need-returns Inv-loop μ-loop
+returns c =
+    let at = c .before .before .before .before .before .loop in
+    let a = c .before .before .before .before .before .before .before .args in
+    λ x iso. at .inv .1 x iso ∙ walk-at x iso (at .m) _ _ (view (now (a .s)), now (a .buf))
+    (c .before .before .before .before .loop-test .taken) (at .inv .0) (c .before .before .before .next-endpoint .ensures)
+    (c .before .before .rest-of .ensures) (sym (c .before .changed .ensures) ∙ c .if1 .taken)
+
+loop-less : tie.Need-loop-less Inv-loop μ-loop
+loop-less c =
+    let at = c .before .before .before .before .before .loop in
+    rest-less (at .m) _ (c .before .before .before .before .loop-test .taken) (at .inv .0) (c .before .before .rest-of .ensures)
+
+loop-again : tie.Need-loop-again Inv-loop μ-loop
+loop-again c =
+    let at = c .before .before .before .before .before .loop in
+    let a = c .before .before .before .before .before .before .before .args in
+    let less = rest-less (at .m) _ (c .before .before .before .before .loop-test .taken) (at .inv .0) (c .before .before .rest-of .ensures) in (
+      omega arith,
+      λ x iso. at .inv .1 x iso ∙ walk-over x iso (at .m) _ _ (view (now (a .s)), now (a .buf))
+          (c .before .before .before .before .loop-test .taken) (at .inv .0) (c .before .before .before .next-endpoint .ensures)
+          (c .before .before .rest-of .ensures) (sym (c .before .changed .ensures) ∙ c .if1 .left),
+    )
+
+returns-2 : tie.Need-returns-2 Inv-loop μ-loop
+returns-2 c =
+    let at = c .before .loop in
+    let a = c .before .before .before .args in
+    λ x iso. at .inv .1 x iso ∙ walk-end x iso (at .m) (view (now (a .s)), now (a .buf)) (c .loop-test .left)
+
+pub find-spec : {M : Type 1} → statement M
+find-spec = tie.close (tie.spec Inv-loop μ-loop loop-holds next-endpoint-requires rest-of-requires changed-requires returns loop-less loop-again returns-2)

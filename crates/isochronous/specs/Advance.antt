@@ -1,0 +1,61 @@
+-- What is left to run at each point of a paced advance
+use mathlib.Core.Path.{_≡_}
+use mathlib.Core.Bool.{false}
+use mathlib.Core.List.{List}
+use Prim.Native.Nat.{ℕ}
+use Rattle.regs.specs.declared.Reg.the-variants.{FrameNo}
+use Rattle.regs.specs.Registers.{widthOf}
+use Rattle.frame.specs.Usb20.{indexOf, frameOf}
+use Rattle.frame.specs.Advance.{completions}
+use Rattle.state.specs.Driver.{Driver, pacedOn}
+use Rattle.model.specs.Tree as tree
+use Rattle.model.specs.Tree.{asks, ends, bindOut}
+use Rattle.model.specs.Cells.{paced-cell}
+use Rattle.model.specs.Script.{Script, run, ret, _>>=_, _>>_, put}
+use Rattle.model.specs.Machine.{Awaits, nothing, reading, awaited}
+use Rattle.model.specs.IsoIn.{isoInCompletions, isoInAdvance}
+use Rattle.model_ops.specs.Rings.{St}
+use Rattle.model_ops.specs.Concrete.{concrete}
+use Rattle.isochronous.specs.Complete as complete
+use Rattle.isochronous.specs.declared.advance.Advance.{Advance}
+use Rattle.isochronous.specs.declared.advance.Advance.the-variants as point
+use Rattle.isochronous.specs.declared.advance.AdvanceNext.{AdvanceNext}
+use Rattle.isochronous.specs.declared.advance.AdvanceNext.the-variants as next
+
+-- without a result it answers 0
+abbrev pub advance : ℕ → Script false ℕ
+advance e = do
+  isoInAdvance e
+  ret 0
+
+-- the completions, then their microframe is kept
+abbrev pub thenKept : ℕ → ℕ → tree.Out St Unit → tree.Out St ℕ
+thenKept e frame o = bindOut (bindOut o (λ _ u. run concrete (put {i = false} (paced-cell e) frame) u)) (λ _ u. ends 0 u)
+
+-- n completions are left
+unfoldable pub completing : ℕ → ℕ → ℕ → tree.Prog St ℕ
+completing e n frame t = thenKept e frame (run concrete (isoInCompletions {i = false} n e) t)
+
+-- one's outcome, then n
+abbrev pub thenMore : ℕ → ℕ → ℕ → tree.Out St Unit → tree.Out St ℕ
+thenMore e n frame o = thenKept e frame (bindOut o (λ _ u. run concrete (isoInCompletions {i = false} n e) u))
+
+abbrev pub afterFrameNo : ℕ → ℕ → tree.Prog St ℕ
+afterFrameNo e v t = completing e (completions (pacedOn (t .0) e) (indexOf v)) (frameOf (indexOf v)) t
+
+abbrev pub denote : Advance → ℕ → tree.Prog St ℕ
+denote (point.FrameNo e) v t = afterFrameNo e v t
+denote (point.Completing e n frame p) v t = thenMore e n frame (complete.denote p t)
+
+abbrev pub meaning : AdvanceNext → Driver → List ℕ → tree.Out St ℕ
+meaning (next.Asks q p) d b = asks q (d, b) (λ v t. denote p v t)
+meaning (next.Ends n) d b = ends n (d, b)
+
+-- what a point awaits, and that it is the access handed out with it
+abbrev pub awaitsAt : Advance → Awaits
+awaitsAt (point.FrameNo e) = reading (widthOf FrameNo)
+awaitsAt (point.Completing e n frame p) = nothing
+
+abbrev pub Linked : AdvanceNext → Type 0
+Linked (next.Asks q p) = awaited q ≡ awaitsAt p
+Linked (next.Ends n) = Unit {0}

@@ -1,0 +1,14 @@
+pub mod Frames
+pub mod Complete
+pub mod Sof
+pub mod Late
+pub mod Advance
+pub mod Codec
+pub mod CodecLaws
+pub mod Laws
+pub mod Points
+pub mod OutLaws
+pub mod Packets
+pub mod OpenCloseLaws
+pub mod Queue
+pub mod QueueLaws

@@ -1,6 +1,0 @@
-pub mod Bytes
-pub mod Runs
-pub mod Numbers
-pub mod Tables
-pub mod TablesLaws
-pub mod Injective

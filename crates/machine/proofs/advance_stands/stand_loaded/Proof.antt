@@ -1,0 +1,19 @@
+use Rattle.machine.specs.Suspended.{encode}
+use Rattle.isochronous.specs.Codec as codec
+use Rattle.machine.specs.PointsStandsLaws.{stands-at}
+use borrow.Author.Needs.{needs}
+use Rattle.machine.proofs.advance_stands.stand_loaded.Statement.{statement}
+use Rattle.machine.proofs.advance_stands.stand_loaded.Tie as tie
+
+tagged-requires : tie.Need-tagged-requires
+tagged-requires c κs = search needs
+
+stand-requires : tie.Need-stand-requires
+stand-requires c κs = search needs
+
+returns : tie.Need-returns
+unfolding encode codec.encode
+returns c = stands-at (c .stand .ensures) (c .before .tagged .ensures)
+
+pub stand-loaded-spec : {M : Type 1} → statement M
+stand-loaded-spec = tie.close (tie.spec tagged-requires stand-requires returns)

@@ -1,0 +1,22 @@
+use Rattle.machine.specs.Suspended.{encode}
+use Rattle.bus.specs.Codec as codec
+use Rattle.machine.specs.PointsStandsLaws.{stands-at}
+use borrow.Author.Needs.{needs}
+use Rattle.machine.proofs.bus_stands.stand_woken.Statement.{statement}
+use Rattle.machine.proofs.bus_stands.stand_woken.Tie as tie
+
+dir-as-requires : tie.Need-dir-as-requires
+dir-as-requires c κs = search needs
+
+code-requires : tie.Need-code-requires
+code-requires c κs = search needs
+
+stand-requires : tie.Need-stand-requires
+stand-requires c κs = search needs
+
+returns : tie.Need-returns
+unfolding encode codec.encode
+returns c = stands-at (c .stand .ensures) (simp (c .before .code .ensures, c .before .before .dir-as .ensures))
+
+pub stand-woken-spec : {M : Type 1} → statement M
+stand-woken-spec = tie.close (tie.spec dir-as-requires code-requires stand-requires returns)

@@ -1,0 +1,15 @@
+use Rattle.machine.specs.PointsStandsLaws.{comes-to}
+use Rattle.machine.specs.ControlLaws.{control}
+use mathlib.Core.Path.{refl}
+use borrow.Author.Needs.{needs}
+use Rattle.machine.proofs.control_resumes.resume_wrote.Statement.{statement}
+use Rattle.machine.proofs.control_resumes.resume_wrote.Tie as tie
+
+stop-requires : tie.Need-stop-requires
+stop-requires c κs = search needs
+
+returns : tie.Need-returns
+returns c = λ v b. comes-to control (c .before .before .pre) refl (c .stop .ensures) refl
+
+pub resume-wrote-spec : {M : Type 1} → statement M
+resume-wrote-spec = tie.close (tie.spec stop-requires returns)

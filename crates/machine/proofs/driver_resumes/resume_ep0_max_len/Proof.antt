@@ -1,0 +1,20 @@
+use Rattle.machine.specs.PointsStandsLaws.{at-point, goes-to}
+use Rattle.machine.specs.DriverLaws.{driver}
+use mathlib.Core.Path.{refl}
+use borrow.Author.Needs.{needs}
+use Rattle.machine.proofs.driver_resumes.resume_ep0_max_len.Statement.{statement}
+use Rattle.machine.proofs.driver_resumes.resume_ep0_max_len.Tie as tie
+
+ep0-word-requires : tie.Need-ep0-word-requires
+ep0-word-requires c κs = search needs
+
+stand-ep0-rx-requires : tie.Need-stand-ep0-rx-requires
+stand-ep0-rx-requires c κs = search needs
+
+returns : tie.Need-returns
+returns c =
+    let here = at-point driver 10 (c .before .before .before .pre) refl in
+    λ v b. goes-to driver here refl (c .stand-ep0-rx .ensures) refl (simp (c .before .before .ep0-word .ensures))
+
+pub resume-ep0-max-len-spec : {M : Type 1} → statement M
+resume-ep0-max-len-spec = tie.close (tie.spec ep0-word-requires stand-ep0-rx-requires returns)

@@ -1,0 +1,30 @@
+use Rattle.machine.specs.PointsStandsLaws.{at-point, comes-to, stays-at}
+use Rattle.machine.specs.DriverLaws.{driver}
+use mathlib.Core.Path.{sym, _∙_, refl}
+use borrow.Author.Needs.{needs}
+use Rattle.machine.proofs.driver_resumes.resume_frame_no.Statement.{statement}
+use Rattle.machine.proofs.driver_resumes.resume_frame_no.Tie as tie
+
+fits-requires : tie.Need-fits-requires
+fits-requires c κs = search needs
+
+half-requires : tie.Need-half-requires
+half-requires c κs = sym (c .before .fits2 .ensures) ∙ c .if1 .taken
+
+microframe-index-requires : tie.Need-microframe-index-requires
+microframe-index-requires c κs = search needs
+
+stop-requires : tie.Need-stop-requires
+stop-requires c κs = search needs
+
+returns : tie.Need-returns
+returns c =
+    let here = at-point driver 14 (c .before .before .before .before .before .before .pre) refl in
+    λ b. comes-to driver here (sym (c .before .before .before .before .before .fits2 .ensures) ∙ c .before .before .before .before .if1 .taken)
+    (c .stop .ensures) (simp (c .before .before .microframe-index .ensures, c .before .before .before .half .ensures))
+
+returns-2 : tie.Need-returns-2
+returns-2 c = λ b. stays-at driver (at-point driver 14 (c .before .before .pre) refl) (sym (c .before .fits2 .ensures) ∙ c .if1 .left)
+
+pub resume-frame-no-spec : {M : Type 1} → statement M
+resume-frame-no-spec = tie.close (tie.spec fits-requires half-requires microframe-index-requires stop-requires returns returns-2)

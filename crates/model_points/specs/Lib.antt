@@ -1,4 +1,0 @@
-pub mod Numbers
-pub mod Results
-pub mod Means
-pub mod NumbersLaws

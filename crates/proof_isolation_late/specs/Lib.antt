@@ -1,9 +1,0 @@
-pub mod Late
-pub mod Lights
-pub mod LightsLaws
-pub mod SlidesLaws
-pub mod CrossingLaws
-pub mod LateRunsLaws
-pub mod EarlyLaws
-pub mod LateCode
-pub mod LateCodeLaws

@@ -1,4 +1,0 @@
-pub mod Moves
-pub mod Once
-pub mod Witness
-pub mod LateWitness

@@ -1,9 +1,0 @@
-use borrow.Author.Needs.{needs}
-use Rattle.req_card_writer.proofs.writing.new.Statement.{statement}
-use Rattle.req_card_writer.proofs.writing.new.Tie as tie
-
-returns : tie.Need-returns
-returns c = search needs
-
-pub new-spec : {M : Type 1} → statement M
-new-spec = tie.close (tie.spec returns)

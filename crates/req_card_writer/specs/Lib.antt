@@ -1,5 +1,0 @@
-pub mod Writing
-pub mod Pieces
-pub mod Runs
-pub mod Begins
-pub mod Stream
