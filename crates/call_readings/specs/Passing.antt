@@ -4,8 +4,8 @@ use Prim.Native.Nat.{ℕ}
 use Rattle.regs.specs.declared.Access.the-variants.{Read, Write}
 use Rattle.regs.specs.declared.Reg.the-variants.{IntFg, IntSt, MisSt, RxLen, FrameNo}
 use Rattle.regs.specs.Flags.{TRANSFER}
-use Rattle.machine.specs.declared.Step.{Step}
-use Rattle.machine.specs.declared.Step.the-variants.{Asks}
+use Rattle.answer.specs.declared.Step.{Step}
+use Rattle.answer.specs.declared.Step.the-variants.{Asks}
 use Rattle.call_readings.specs.declared.Entered.{Entered}
 use Rattle.call_readings.specs.declared.Entered.the-variants as entered
 use Rattle.call_readings.specs.declared.Passed.{Passed}

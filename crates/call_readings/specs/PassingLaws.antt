@@ -18,8 +18,8 @@ use Rattle.state.specs.declared.Saved.{Saved}
 use Rattle.state.specs.Driver.{Driver, noneGathered}
 use Rattle.state.specs.State.{view, saved}
 use Rattle.model.specs.Statics.{isOn}
-use Rattle.model.specs.Answers.{Refused}
-use Rattle.model.specs.Machine.{Buf, ended, go, awaited}
+use Rattle.model.specs.Answers.{Answer, Refused}
+use Rattle.model.specs.Machine.{Buf, Machine, ended, go, awaited}
 use Rattle.irq.specs.declared.Point.{Point}
 use Rattle.irq.specs.declared.Point.the-variants as point
 use Rattle.irq.specs.declared.Next.the-variants as next
@@ -34,12 +34,14 @@ use Rattle.interrupt.specs.Stands.{Stands, halted}
 use Rattle.interrupt.specs.StandsLaws.{stops-at, stored-at}
 use Rattle.interrupt.specs.Resumes.{went-on}
 use Rattle.interrupt.specs.Sites.{on-mis, loaded-mis}
-use Rattle.machine.specs.declared.Suspended.the-variants as under
-use Rattle.machine.specs.declared.Step.{Step}
-use Rattle.machine.specs.declared.Step.the-variants as step
-use Rattle.machine.specs.Suspended.{encode, decode, machineAt, machineOf, drive, resumed, answerOf, slotsFit, SavedByAnswer}
-use Rattle.machine.specs.SuspendedLaws.{decode-encode}
-use Rattle.machine.specs.Goes.{Called}
+use Rattle.interrupt.specs.Suspended as under
+use Rattle.interrupt.specs.SuspendedLaws as alone-laws
+use Rattle.machine.specs.Lifts.{lifts, machine-lifts, saved-up}
+use Rattle.machine.specs.Stands.{Resumes}
+use Rattle.answer.specs.declared.Step.{Step}
+use Rattle.answer.specs.declared.Step.the-variants as step
+use Rattle.machine.specs.Suspended.{decode, machineAt, machineOf, drive, resumed, answerOf, slotsFit, SavedByAnswer}
+use Rattle.answer.specs.Goes.{Called}
 use Rattle.machine.specs.GoesLaws.{proceeds}
 use Rattle.machine.specs.Lent.{as-lent}
 use Rattle.machine.specs.Rows.{isIdle, stopOf}
@@ -51,9 +53,9 @@ use Rattle.model.specs.declared.Transfer.{Transfer}
 use Rattle.model.specs.Handler.{nakNonIso}
 use Rattle.model.specs.Script.{run}
 use Rattle.model_ops.specs.Concrete.{concrete}
-use Rattle.machine.specs.Parts.{stepOf}
-use Rattle.machine.specs.Word.{Encodes, readWord, wordOf, accessWord}
-use Rattle.machine.specs.WordLaws as words
+use Rattle.answer.specs.Parts.{stepOf}
+use Rattle.answer.specs.Word.{Encodes, readWord, wordOf, accessWord}
+use Rattle.answer.specs.WordLaws as words
 use Rattle.call_readings.specs.Readings.{lent, Begins, Continues}
 use Rattle.call_readings.specs.Passing.{Framed, Flagged, Transferred}
 use Rattle.call_readings.specs.Standing.{standing, stands}
@@ -61,13 +63,13 @@ use Rattle.call_readings.specs.Standing.{standing, stands}
 -- the interrupt is under way, at that point
 pub record At (p : Point) (xs : List ℕ) : Type 0 where
   pub tagged : saved xs .tag ≡ 6
-  pub decoded : decode (saved xs) ≡ under.Interrupt p
+  pub decoded : under.decode (saved xs) ≡ under.Interrupt p
 
 pub at-point : {r : ℕ} {q : Access} {p : Point} {xs ys : List ℕ} → Stands r q p xs ys → At p ys
-unfolding encode
+unfolding under.encode
 at-point {p = p} h = record {
   tagged = ap (λ (c : Saved). c .tag) (h .stored);
-  decoded = ap decode (h .stored) ∙ decode-encode (under.Interrupt p);
+  decoded = ap under.decode (h .stored) ∙ alone-laws.decode-encode (under.Interrupt p);
 }
 
 -- its word says the access
@@ -103,10 +105,12 @@ pub passes : (i v : ℕ) (p p′ : Point) (q : Access) (xs ws ys : List ℕ) (b 
     → Continues i v (lent xs b time) (step.Asks q) (lent ys b time)
 passes i v p p′ q xs ws ys b time at fit f l {w} h m =
     let said = tells h in
-    let went = went-on (saved xs) p v (view xs) b (at .decoded) f (stops-at h l b m) in
-    continues i v p xs ys b time (step.Asks q) at fit
-    (subst (λ (z : Step). (answerOf z [] (view ys), machineOf ys b) ≡ resumed v (decode (saved xs)) (view xs) b) said went)
-    (subst (λ (z : Step). SavedByAnswer z xs ys) said (stored-at h .1 xs))
+    let went : under.Resumes (stepOf w) v xs b ys b = record {
+      called = went-on (saved xs) p v (view xs) b (at .decoded) f (stops-at h l b m);
+      kept = stored-at h .1 xs;
+    } in
+    let there : Resumes (step.Asks q) v xs b ys b = lifts (at .tagged) (subst (λ (z : Step). under.Resumes z v xs b ys b) said went) in
+    continues i v p xs ys b time (step.Asks q) at fit (there .called) (there .kept)
 
 -- no row stops the interrupt's begin: it stands at its first point
 pub begins : (xs ws ys : List ℕ) (b : Buf) (time : List ℕ) → eqb (stopOf (isIdle (decode (saved xs))) 2 (view xs .globals .stage)) 0 ≡ true
@@ -116,11 +120,15 @@ unfolding halted
 begins xs ws ys b time e v h = record {
   did = λ a c. back (interrupt-call (decode (saved xs)) (view xs) a c)
       (ap (λ (z : Step). (answerOf z [] (view ys), machineOf ys c)) (sym (tells h))
-      ∙ (stops-at h refl c (interrupt-begun (view ws, c)) .there ∙ simp (v, e)));
-  saves = subst (λ (z : Step). SavedByAnswer z xs ys) (tells h) (stored-at h .1 xs);
+      ∙ (ap (λ (m : Machine Answer Driver). (answerOf (stepOf _) [] (view ys), m)) (machine-lifts ys c canonical)
+      ∙ (stops-at h refl c (interrupt-begun (view ws, c)) .there ∙ simp (v, e))));
+  saves = saved-up (step.Asks (Read FrameNo 0)) xs ys canonical;
   slots = refl;
   time = refl;
 }
+  where
+    canonical : under.Canonical ys
+    canonical = subst (λ (z : Step). under.SavedByAnswer z xs ys) (tells h) (stored-at h .1 xs)
 
 -- row 1 looks at the allocator alone
 pub still-fit : (d d′ : Driver) (b : Buf) → d′ .allocator ≡ d .allocator → slotsFit d b ≡ true → slotsFit d′ b ≡ true

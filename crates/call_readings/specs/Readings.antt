@@ -13,8 +13,8 @@ use Rattle.state.specs.State.{view}
 use Rattle.model.specs.Every.{sameReg}
 use Rattle.model.specs.Calls.{interrupt}
 use Rattle.model.specs.Machine.{Buf, begin, go}
-use Rattle.machine.specs.declared.Step.{Step}
-use Rattle.machine.specs.declared.Step.the-variants as step
+use Rattle.answer.specs.declared.Step.{Step}
+use Rattle.answer.specs.declared.Step.the-variants as step
 use Rattle.machine.specs.Suspended.{machineOf, drive, answerOf, lentOr, BufferUnchangedOnRow1, SavedByAnswer}
 use Rattle.calls.specs.Sharing.{sharedCall}
 

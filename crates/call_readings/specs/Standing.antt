@@ -17,10 +17,10 @@ use Rattle.state.specs.Codec.{savedWidths, savedAs, savedOf}
 use Rattle.state.specs.State.{epIn, allocatorIn, globalsIn, requestIn, controlIn, savedIn, view, saved}
 use Rattle.irq.specs.declared.Point.{Point}
 use Rattle.interrupt.specs.Stands.{Stands}
-use Rattle.machine.specs.declared.Suspended.the-variants as under
-use Rattle.machine.specs.declared.Step.the-variants as step
-use Rattle.machine.specs.Suspended.{encode}
-use Rattle.machine.specs.Word.{Encodes}
+use Rattle.interrupt.specs.Suspended as under
+use Rattle.answer.specs.declared.Step.the-variants as step
+use Rattle.interrupt.specs.Suspended.{encode}
+use Rattle.answer.specs.Word.{Encodes}
 
 abbrev savedBytes : Saved → List ℕ
 savedBytes c = bytes savedWidths (savedAs c)

@@ -1,5 +1,6 @@
 // Readings that follow each other, brought by one call: the points in between are neither stored nor loaded, row 1 is tested once and no answer is made
 // for them. Where another answer may come before the last reading nothing is changed, and the calls are made one by one (crate `usbhs_c`, readings.rt).
+use answer::loads::site_byte;
 use frame::Frame;
 use frame::microframe_index;
 use interrupt::loads::setup_at;
@@ -11,7 +12,6 @@ use irq::nak;
 use irq::nak::NakNext;
 use irq::wait::byte;
 use irq::wait::short;
-use machine::loads::site_byte;
 use machine::saved::tag;
 use machine::stops::slots_fit;
 use machine::stops::stop;

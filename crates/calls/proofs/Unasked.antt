@@ -11,10 +11,10 @@ use Rattle.regs.proofs.Access as declared-access
 use Rattle.state.specs.Driver.{Driver}
 use Rattle.model.specs.Answers.{Answer}
 use Rattle.model.specs.Machine.{Ans, ended, handed, told}
-use Rattle.machine.specs.declared.Step.{Step}
-use Rattle.machine.specs.declared.Step.the-variants as step
+use Rattle.answer.specs.declared.Step.{Step}
+use Rattle.answer.specs.declared.Step.the-variants as step
 use Rattle.machine.specs.Suspended.{answerOf}
-use Rattle.machine.proofs.Step as declared-step
+use Rattle.answer.proofs.Step as declared-step
 use Rattle.calls.specs.Sharing.{Sort, isHanded, written, timeAfter}
 use Rattle.calls.specs.Charging.{chargedAt}
 

@@ -15,9 +15,9 @@ use Rattle.endpoint.specs.Points as endpoint
 use Rattle.isochronous.specs.declared.open_close.Packet.{Packet}
 use Rattle.isochronous.specs.Packets as packets
 use Rattle.machine.specs.declared.Suspended.{Suspended}
-use Rattle.machine.specs.declared.Step.{Step}
+use Rattle.answer.specs.declared.Step.{Step}
 use Rattle.machine.specs.Suspended.{decode, machineAt, machineOf, halts, answerOf}
-use Rattle.machine.specs.Goes.{Called}
+use Rattle.answer.specs.Goes.{Called}
 use Rattle.machine.specs.Rows.{isIdle, mayPass}
 use Rattle.machine.specs.RowsLaws.{besides, besides-ends}
 

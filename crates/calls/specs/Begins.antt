@@ -19,7 +19,7 @@ use Rattle.model_ops.specs.Concrete.{concrete, go}
 use Rattle.driver.specs.Points.{newEndpoint, startEp0}
 use Rattle.machine.specs.declared.Suspended.{Suspended}
 use Rattle.machine.specs.Suspended.{machineAt, finish, drive, halts}
-use Rattle.machine.specs.Goes.{Called}
+use Rattle.answer.specs.Goes.{Called}
 use Rattle.machine.specs.RowsLaws.{back, other-call, passed, Passes, answered-idle}
 
 -- ---- allocation

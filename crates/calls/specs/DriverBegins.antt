@@ -14,7 +14,7 @@ use Rattle.model_ops.specs.Concrete.{go}
 use Rattle.driver.specs.Points.{setPaced}
 use Rattle.machine.specs.declared.Suspended.{Suspended}
 use Rattle.machine.specs.Suspended.{machineAt, drive, halts}
-use Rattle.machine.specs.Goes.{Called}
+use Rattle.answer.specs.Goes.{Called}
 use Rattle.machine.specs.RowsLaws.{back, numbered-call, accepted, Passes, answered-idle}
 
 abbrev pub pacing : ℕ → Bool → Script false Answer

@@ -10,7 +10,7 @@ use Rattle.model.specs.Calls.{slotted, SetEnabled}
 use Rattle.model.specs.Machine.{Buf, Machine, begin, Ans, ended, handed, told}
 use Rattle.machine.specs.declared.Suspended.{Suspended}
 use Rattle.machine.specs.Suspended.{machineAt, drive, slotsFit, lentOr}
-use Rattle.machine.specs.Goes.{Called}
+use Rattle.answer.specs.Goes.{Called}
 use Rattle.req_bus_time.specs.Time.{entryOf, passes}
 use Rattle.calls.specs.Sharing.{Sort, enabling, apart, chargeOn, isHanded, timeAfter, sharedCall}
 use Rattle.calls.specs.SharingLaws.{settles, refuses}

@@ -11,8 +11,8 @@ use Rattle.model.specs.Calls.{Other, otherCode}
 use Rattle.model.specs.Machine.{Buf}
 use Rattle.model_ops.specs.Rings.{St}
 use Rattle.model_ops.specs.Concrete.{concrete}
-use Rattle.machine.specs.declared.Step.{Step}
-use Rattle.machine.specs.declared.Step.the-variants as step
+use Rattle.answer.specs.declared.Step.{Step}
+use Rattle.answer.specs.declared.Step.the-variants as step
 use Rattle.machine.specs.Suspended.{SavedByAnswer}
 use Rattle.machine.specs.Stands.{Leads, halted}
 use Rattle.machine.specs.Contracts.{OtherCall}

@@ -22,7 +22,7 @@ use Rattle.model_ops.specs.Rings.{St}
 use Rattle.model_ops.specs.Concrete.{concrete}
 use Rattle.machine.specs.declared.Suspended.{Suspended}
 use Rattle.machine.specs.Suspended.{halts}
-use Rattle.machine.specs.Goes.{Called}
+use Rattle.answer.specs.Goes.{Called}
 use Rattle.machine.specs.RowsLaws.{Passes}
 
 -- ---- the list, where nothing is under way

@@ -26,7 +26,7 @@ use Rattle.driver.specs.Each.{eachOn, announceAll}
 use Rattle.driver.specs.EachLaws.{each-run}
 use Rattle.machine.specs.declared.Suspended.{Suspended}
 use Rattle.machine.specs.Suspended.{machineAt, finish, drive, halts}
-use Rattle.machine.specs.Goes.{Called}
+use Rattle.answer.specs.Goes.{Called}
 use Rattle.machine.specs.Rows.{isIdle, stopOf}
 use Rattle.machine.specs.RowsLaws.{back, other-call, passed, passed-idle, ends-idle, Passes}
 use Rattle.calls.specs.Listed.{trying, allocatedAll}

@@ -6,9 +6,9 @@ use Rattle.state.specs.State.{view, saved}
 use Rattle.state.specs.Driver.{Driver}
 use Rattle.model.specs.Answers.{Answer}
 use Rattle.model.specs.Machine.{Buf, Machine, go}
-use Rattle.machine.specs.declared.Step.{Step}
+use Rattle.answer.specs.declared.Step.{Step}
 use Rattle.machine.specs.Suspended.{machineOf, drive, answerOf}
-use Rattle.machine.specs.Goes.{Called}
+use Rattle.answer.specs.Goes.{Called}
 use Rattle.calls.specs.Sharing.{sharedCall, going, timeAfter}
 use Rattle.calls.specs.SharingLaws.{settles}
 use Rattle.calls.specs.StaysLaws.{interrupt-stays}

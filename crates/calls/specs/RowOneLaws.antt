@@ -5,9 +5,9 @@ use mathlib.Core.Path.{_≡_}
 use Prim.Native.Nat.{ℕ}
 use Rattle.state.specs.State.{view, saved}
 use Rattle.model.specs.Machine.{Buf, go}
-use Rattle.machine.specs.declared.Step.{Step}
+use Rattle.answer.specs.declared.Step.{Step}
 use Rattle.machine.specs.Suspended.{decode, machineOf, drive, answerOf, slotsFit, lentOr}
-use Rattle.machine.specs.Goes.{Called}
+use Rattle.answer.specs.Goes.{Called}
 use Rattle.machine.specs.GoesLaws.{proceeds}
 use Rattle.machine.specs.RowsLaws.{back}
 use Rattle.machine.specs.Stands.{Resumes}

@@ -15,9 +15,9 @@ use Rattle.model.specs.Answers.{Answer, Refused}
 use Rattle.model.specs.Calls.{Config, Op, interrupt, slotted, other, aside, Slotted, SetEnabled, PollRead, BeginWrite}
 use Rattle.model.specs.Calls.{PollWrite, PollDataOut, BeginDataIn, calls}
 use Rattle.model.specs.Machine.{Buf, Call, start, begin, go, question, Machine, Ans, ended, handed, told, lentTo}
-use Rattle.machine.specs.declared.Step.{Step}
+use Rattle.answer.specs.declared.Step.{Step}
 use Rattle.machine.specs.Suspended.{driverOf, drive, machineOf, answerOf, lentOr, BufferUnchangedOnRow1, SavedByAnswer}
-use Rattle.machine.specs.Goes.{Called}
+use Rattle.answer.specs.Goes.{Called}
 use Rattle.req_bus_time.specs.Time.{chargeOf, entryOf, passes, keepOf}
 
 -- what a call is to the bus time: an endpoint's enabling, a start-up, a continue, or none of these

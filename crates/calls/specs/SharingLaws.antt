@@ -9,7 +9,7 @@ use Rattle.model.specs.Answers.{Answer, Refused}
 use Rattle.model.specs.Calls.{Config, Op, slotted, SetEnabled, calls}
 use Rattle.model.specs.Machine.{Buf, Call, begin, Machine, ended, lentTo}
 use Rattle.machine.specs.Suspended.{driverOf, drive}
-use Rattle.machine.specs.Goes.{Called}
+use Rattle.answer.specs.Goes.{Called}
 use Rattle.req_bus_time.specs.Time.{entryOf, passes}
 use Rattle.calls.specs.Sharing.{sortOf, chargeOn, isHanded, timeAfter, turnedDown, settled, sharedCall}
 

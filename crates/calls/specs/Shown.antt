@@ -4,8 +4,8 @@ use Prim.Native.Nat.{ℕ}
 use Rattle.regs.specs.declared.Dir.the-variants.{Out}
 use Rattle.state.specs.Driver.{Driver}
 use Rattle.model_ops.specs.Rings.{oldestAt, nextLen, nextStamp}
-use Rattle.machine.specs.declared.Step.{Step}
-use Rattle.machine.specs.declared.Step.the-variants as step
+use Rattle.answer.specs.declared.Step.{Step}
+use Rattle.answer.specs.declared.Step.the-variants as step
 
 -- it is the oldest, and all of it, with its stamp
 abbrev pub ShownAt : Step → Driver → ℕ → Type 0

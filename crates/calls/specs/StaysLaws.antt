@@ -26,7 +26,7 @@ use Rattle.machine.specs.declared.Suspended.the-variants as under
 use Rattle.machine.specs.Suspended.{decode, finish, machineAt, drive, resumed, haltsAs, slotsFit}
 use Rattle.machine.specs.Tags.{at-interrupt}
 use Rattle.machine.specs.GoesLaws.{proceeds}
-use Rattle.machine.specs.Goes.{Called}
+use Rattle.answer.specs.Goes.{Called}
 use Rattle.req_bus_time.specs.Time.{keepOf}
 use Rattle.calls.specs.Sharing.{going, written, timeAfter}
 use Rattle.calls.specs.Spares.{Spares, Sparing}

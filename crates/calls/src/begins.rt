@@ -1,7 +1,7 @@
+use answer::Step;
 use endpoint::rows::is_number;
 use endpoint::rows::low;
 use isochronous::advance;
-use machine::Step;
 use machine::halts::suspend_or_end;
 use machine::halts::suspend_or_end_advance;
 use machine::halts::suspend_or_end_interrupt;

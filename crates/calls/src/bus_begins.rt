@@ -1,8 +1,8 @@
+use answer::Step;
 use endpoint::rows::endpoint;
 use endpoint::rows::is_allocated;
 use endpoint::rows::is_stallable;
 use endpoint::rows::low;
-use machine::Step;
 use machine::halts::suspend_or_end_bus;
 use machine::stops::slots_fit;
 use machine::stops::stop;

@@ -4,8 +4,8 @@
 use crate::charges::charge_on;
 use crate::charges::charged;
 use crate::charges::started;
+use answer::Step;
 use endpoint::rows::is_allocated;
-use machine::Step;
 use machine::stops::slots_fit;
 use machine::stops::stop;
 use regs::Dir;

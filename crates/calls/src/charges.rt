@@ -1,4 +1,4 @@
-use machine::Step;
+use answer::Step;
 use regs::Access;
 use regs::Dir;
 use regs::Reg;

@@ -1,7 +1,7 @@
 // Packets in place: the calls without accesses, which pass while an interrupt is under way. Rows 4, 5 and 9 to 14 are
 // those of `iso_out_open_close` and `iso_in_queue`. Of an answer that shows a packet the bytes are the slots'.
+use answer::Step;
 use isochronous::open_close::Packet;
-use machine::Step;
 use machine::saved::may_pass;
 use machine::stops::slots_fit;
 use state::State;

@@ -21,4 +21,4 @@ pub mod operates; // operates.rt: continue, of any operation but the interrupt
 pub mod proceeds; // proceeds.rt: continue
 pub mod starting; // starting.rt: start-up, allocation, EP0's start
 
-pub use machine::Step;
+pub use answer::Step;

@@ -1,8 +1,8 @@
 // Endpoints from a configuration descriptor (requests Three and Four).
+use answer::Step;
 use descriptor::Answer;
 use descriptor::Endpoints;
 use descriptor::preview::Shown;
-use machine::Step;
 use machine::halts::suspend_or_end;
 use machine::stops::stop;
 use state::State;

@@ -1,6 +1,6 @@
 // Any operation but the interrupt goes on: a write of ep_config gives back what it clears.
 use crate::charges::gone_on;
-use machine::Step;
+use answer::Step;
 use req_bus_time::Time;
 use state::State;
 ghost use mathlib.Core.Path.{_≡_};

@@ -1,6 +1,6 @@
 use crate::operates::operate;
-use machine::Step;
-use machine::call_answer_step::step_of;
+use answer::Step;
+use answer::call_answer_step::step_of;
 use machine::saved::tag;
 use req_bus_time::Time;
 use state::State;

@@ -6,7 +6,7 @@ use state::EpState;
 use state::State;
 ghost use mathlib.Core.Path.{_≡_};
 ghost use Rattle.state.specs.State.{view};
-ghost use Rattle.machine.specs.Questions.{pendingOn, overrunsOf, overrunsOn, enabledAsked};
+ghost use Rattle.answer.specs.Questions.{pendingOn, overrunsOf, overrunsOn, enabledAsked};
 
 // The packets queued on IN e and not yet taken by the host.
 pub fn pending(s: &State, e: u32) -> u32

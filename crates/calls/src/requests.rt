@@ -1,5 +1,5 @@
 // Reads and writes, each a begin and a poll. Rows 4, 5, 9, 10 and 15 are `endpoint`'s.
-use machine::Step;
+use answer::Step;
 use machine::halts::begun_endpoint;
 use machine::halts::polled_endpoint;
 use machine::saved::is_idle;

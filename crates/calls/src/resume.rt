@@ -1,4 +1,7 @@
 // Continue: the operation under way goes on at its point, with the number brought. An interrupt answers its word.
+use answer::Step;
+use answer::loads::site_byte;
+use answer::word::ROW_1;
 use interrupt::rest::resume_check;
 use interrupt::rest::resume_moved_read;
 use interrupt::rest::resume_moved_wrote;
@@ -25,8 +28,6 @@ use interrupt::resume::resume_sof_arm;
 use interrupt::resume::resume_st;
 use interrupt::resume::resume_suspend;
 use interrupt::resume::resume_toggled;
-use machine::Step;
-use machine::loads::site_byte;
 use machine::resume_op::resume_advance;
 use machine::resume_op::resume_bus;
 use machine::resume_op::resume_control;
@@ -34,7 +35,6 @@ use machine::resume_op::resume_driver;
 use machine::resume_op::resume_endpoint;
 use machine::saved::tag;
 use machine::stops::slots_fit;
-use machine::word::ROW_1;
 use state::State;
 ghost use mathlib.Core.Path.{_≡_};
 ghost use mathlib.Core.List.{List, []};
@@ -43,8 +43,9 @@ ghost use Rattle.state.specs.State.{view, saved};
 ghost use Rattle.model.specs.Machine.{go};
 ghost use Rattle.machine.specs.Suspended.{machineOf, drive, answerOf, lentOr, BufferUnchangedOnRow1, SavedByAnswer};
 ghost use Rattle.machine.specs.Stands.{Resumes};
-ghost use Rattle.machine.specs.Parts.{stepOf};
-ghost use Rattle.interrupt.specs.Stands.{PinsFrom, ResumesByWord};
+ghost use Rattle.answer.specs.Parts.{stepOf};
+ghost use Rattle.machine.specs.Lifts.{PinsFrom};
+ghost use Rattle.interrupt.specs.Stands.{ResumesByWord};
 
 // Goes on at an interrupt's point: the one dispatch on what is saved. Each arm is a call and nothing after it, and answers
 // its own word.

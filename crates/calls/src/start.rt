@@ -1,6 +1,6 @@
 // Start-up, allocation and EP0's start.
 use alloc::Answer;
-use machine::Step;
+use answer::Step;
 use machine::halts::suspend_or_end;
 use machine::stops::stop;
 use regs::Dir;

@@ -1,3 +1,5 @@
+pub mod Suspended
+pub mod SuspendedLaws
 pub mod Stands
 pub mod StandsLaws
 pub mod SofLaws

@@ -11,13 +11,13 @@ use Rattle.model.specs.Machine.{Buf}
 use Rattle.irq.specs.declared.Point.{Point}
 use Rattle.irq.specs.Points.{denote, fitsAt}
 use Rattle.interrupt.specs.Stands.{halted, Stops, Pins, ResumesByWord}
-use Rattle.machine.specs.declared.Suspended.the-variants as under
-use Rattle.machine.specs.Suspended.{decode, machineOf, resumed, answerOf}
-use Rattle.machine.specs.Goes.{Called}
-use Rattle.machine.specs.Interrupt.{gone-interrupt, stay-interrupt}
-use Rattle.machine.specs.Going.{going, staying}
-use Rattle.machine.specs.Parts.{stepOf}
-use Rattle.machine.specs.WordLaws.{refused-sound}
+use Rattle.interrupt.specs.Suspended as under
+use Rattle.interrupt.specs.Suspended.{decode, machineOf, resumed, answerOf}
+use Rattle.answer.specs.Goes.{Called}
+use Rattle.interrupt.specs.SuspendedLaws.{gone-interrupt, stay-interrupt}
+use Rattle.interrupt.specs.SuspendedLaws.{going, staying}
+use Rattle.answer.specs.Parts.{stepOf}
+use Rattle.answer.specs.WordLaws.{refused-sound}
 
 -- what was brought fits: the rest stops where the call leaves it
 pub went-on : (c : Saved) (p : Point) (v : ℕ) (d : Driver) (b : Buf) → decode c ≡ under.Interrupt p

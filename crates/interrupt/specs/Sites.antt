@@ -14,10 +14,10 @@ use Rattle.irq.specs.declared.Point.the-variants as point
 use Rattle.irq.specs.Codec as codec
 use Rattle.irq.specs.Codec.{byNumber}
 use Rattle.interrupt.specs.Stands.{AtSite}
-use Rattle.machine.specs.declared.Suspended.the-variants as under
-use Rattle.machine.specs.Suspended.{decode}
-use Rattle.machine.specs.Tags.{at-interrupt}
-use Rattle.machine.specs.Stands.{NoneOf}
+use Rattle.interrupt.specs.Suspended as under
+use Rattle.interrupt.specs.Suspended.{decode}
+use Rattle.interrupt.specs.SuspendedLaws.{at-interrupt}
+use Rattle.answer.specs.Answering.{NoneOf}
 
 on-site : (c : Saved) (k : ℕ) → c .tag ≡ 6 → c .site ≡ k → decode c ≡ under.Interrupt (byNumber k c)
 unfolding codec.decode

@@ -12,12 +12,12 @@ use Rattle.model_ops.specs.Rings.{St}
 use Rattle.model_ops.specs.Concrete.{concrete}
 use Rattle.irq.specs.declared.Point.{Point}
 use Rattle.irq.specs.Points.{denote}
-use Rattle.machine.specs.declared.Suspended.the-variants as under
-use Rattle.machine.specs.Suspended.{finish, haltsAs, machineOf, answerOf, SavedByAnswer, Stored}
-use Rattle.machine.specs.Stands.{StandsAt, Resumes}
-use Rattle.machine.specs.Goes.{Called}
-use Rattle.machine.specs.Parts.{stepOf}
-use Rattle.machine.specs.Word.{Encodes}
+use Rattle.interrupt.specs.Suspended as under
+use Rattle.interrupt.specs.Suspended.{finish, haltsAs, machineOf, answerOf, SavedByAnswer, Stored}
+use Rattle.interrupt.specs.Suspended.{StandsAt, Resumes}
+use Rattle.answer.specs.Goes.{Called}
+use Rattle.answer.specs.Parts.{stepOf}
+use Rattle.answer.specs.Word.{Encodes}
 
 -- at a point of the interrupt; the answer is its word
 abbrev pub Stands : ℕ → Access → Point → List ℕ → List ℕ → Type 0

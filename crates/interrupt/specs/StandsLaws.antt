@@ -13,14 +13,14 @@ use Rattle.model_ops.specs.Rings.{St}
 use Rattle.irq.specs.declared.Point.{Point}
 use Rattle.irq.specs.declared.Next.the-variants as next
 use Rattle.irq.specs.Points.{meaning, awaitsAt}
-use Rattle.machine.specs.declared.Suspended.the-variants as under
-use Rattle.machine.specs.declared.Step.{Step}
-use Rattle.machine.specs.declared.Step.the-variants as step
-use Rattle.machine.specs.Suspended.{encode, handedOut, SavedByAnswer}
-use Rattle.machine.specs.StandsLaws.{stored-by, handed-out}
-use Rattle.machine.specs.Parts.{stepOf}
-use Rattle.machine.specs.Word.{Encodes}
-use Rattle.machine.specs.WordLaws.{said, sound}
+use Rattle.interrupt.specs.Suspended as under
+use Rattle.answer.specs.declared.Step.{Step}
+use Rattle.answer.specs.declared.Step.the-variants as step
+use Rattle.interrupt.specs.Suspended.{encode, handedOut, SavedByAnswer}
+use Rattle.interrupt.specs.SuspendedLaws.{stored-by, handed-out}
+use Rattle.answer.specs.Parts.{stepOf}
+use Rattle.answer.specs.Word.{Encodes}
+use Rattle.answer.specs.WordLaws.{said, sound}
 use Rattle.interrupt.specs.Stands.{Stands, halted, Stops, Pins}
 
 -- the bytes of the point are stored

@@ -9,7 +9,7 @@ use crate::loads::setup_at;
 use crate::setup::after_setup_released;
 use crate::setup::after_setup_rx;
 use crate::setup::after_setup_tx;
-use machine::word::ROW_16;
+use answer::word::ROW_16;
 use regs::registers::fits;
 use state::State;
 ghost use mathlib.Core.List.{List};

@@ -31,12 +31,12 @@ use crate::tokens::after_flip;
 use crate::tokens::after_flipped;
 use crate::tokens::after_sof_arm;
 use crate::tokens::after_toggled;
+use answer::loads::st_byte;
+use answer::word::ROW_16;
 use irq::nak;
 use irq::settle;
 use irq::toggled;
 use isochronous::sof;
-use machine::loads::st_byte;
-use machine::word::ROW_16;
 use regs::registers::fits;
 use state::State;
 ghost use mathlib.Core.Path.{_≡_};
@@ -44,8 +44,8 @@ ghost use mathlib.Core.List.{List};
 ghost use Prim.Native.Nat.{ℕ};
 ghost use Rattle.state.specs.State.{saved};
 ghost use Rattle.irq.specs.declared.Point.the-variants as Point;
-ghost use Rattle.machine.specs.declared.Suspended.the-variants as Under;
-ghost use Rattle.machine.specs.Suspended.{decode};
+ghost use Rattle.interrupt.specs.Suspended as Under;
+ghost use Rattle.interrupt.specs.Suspended.{decode};
 ghost use Rattle.interrupt.specs.Stands.{AtSite, ResumesByWord};
 
 // ---- The microframe, then the flags but the setup's (mod.rs 634-655).

@@ -1,5 +1,10 @@
 // The interrupt stands at a point, or ends: the saved record's 22 bytes are stored where the point is made, and its access is the
 // answer.
+use answer::woken::how_many;
+use answer::word::asks;
+use answer::word::asks_read;
+use answer::word::asks_write;
+use answer::word::ended;
 use irq::Entry;
 use irq::codec::check_as;
 use irq::codec::code;
@@ -19,11 +24,6 @@ use isochronous::complete::Complete;
 use isochronous::late::Late;
 use isochronous::out::Check;
 use isochronous::sof::Sof;
-use machine::woken::how_many;
-use machine::word::asks;
-use machine::word::asks_read;
-use machine::word::asks_write;
-use machine::word::ended;
 use model::Transfer;
 use regs::Access;
 use regs::Dir;
@@ -40,9 +40,9 @@ ghost use Rattle.regs.specs.declared.Access.the-variants as Access;
 ghost use Rattle.regs.specs.declared.Reg.the-variants as Reg;
 ghost use Rattle.irq.specs.declared.Point.the-variants as Point;
 ghost use Rattle.irq.specs.Codec as codec;
-ghost use Rattle.machine.specs.declared.Step.the-variants as Step;
-ghost use Rattle.machine.specs.Suspended.{withTag};
-ghost use Rattle.machine.specs.Word.{Encodes};
+ghost use Rattle.answer.specs.declared.Step.the-variants as Step;
+ghost use Rattle.interrupt.specs.Suspended.{withTag};
+ghost use Rattle.answer.specs.Word.{Encodes};
 ghost use Rattle.interrupt.specs.Stands.{Stands, RunsOn};
 
 // What is saved of a point, under the interrupt's tag.

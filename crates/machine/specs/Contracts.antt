@@ -5,7 +5,7 @@ use Prim.Native.Nat.{ℕ}
 use Rattle.state.specs.State.{view}
 use Rattle.model.specs.Calls.{Other, other, Slotted, slotted}
 use Rattle.model.specs.Machine.{Buf, begin}
-use Rattle.machine.specs.declared.Step.{Step}
+use Rattle.answer.specs.declared.Step.{Step}
 use Rattle.machine.specs.Suspended.{machineOf, drive, answerOf, lentOr, lentBy, BufferUnchangedOnRow1, SavedByAnswer}
 
 -- a call that does not bring the slots

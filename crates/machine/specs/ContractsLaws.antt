@@ -15,8 +15,8 @@ use Rattle.model.specs.Calls.{Other, other, otherCode, Slotted, slotted, slotte
 use Rattle.model.specs.Machine.{Buf, begin}
 use Rattle.model_ops.specs.Rings.{St}
 use Rattle.model_ops.specs.Concrete.{concrete}
-use Rattle.machine.specs.declared.Step.{Step}
-use Rattle.machine.specs.declared.Step.the-variants as step
+use Rattle.answer.specs.declared.Step.{Step}
+use Rattle.answer.specs.declared.Step.the-variants as step
 use Rattle.machine.specs.Suspended.{decode, finish, machineOf, drive, halts, slotsFit, answerOf, SavedByAnswer}
 use Rattle.machine.specs.Rows.{isIdle, stopOf}
 use Rattle.machine.specs.RowsLaws.{back, other-idle, slotted-idle, rowed, other-call}

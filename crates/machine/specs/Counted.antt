@@ -12,21 +12,9 @@ use Rattle.model.specs.Answers.{Answer, Refused, End, NotYet, Done, Shown}
 use Rattle.model.specs.Machine.{Ans, ended, handed, told}
 use Rattle.endpoint.specs.Answers.{front}
 use Rattle.endpoint.specs.Front.{front-length}
-use Rattle.machine.specs.declared.Step.the-variants as step
+use Rattle.answer.specs.declared.Step.the-variants as step
 use Rattle.machine.specs.Suspended.{answerOf}
-
--- no more than there is room for
-pub length-most : (n : ℕ) (cs : List ℕ) → length cs ≤ n → length (take n cs) ≡ length cs
-length-most zero [] h = refl
-length-most zero (c ∷ cs) h = absurd (omega (arith, h))
-length-most (suc n) [] h = refl
-length-most (suc n) (c ∷ cs) h = ap suc (length-most n cs (omega (arith, h)))
-
--- so many from the front are the first of the room
-pub front-take : (n : ℕ) (cs : List ℕ) → front (length (take n cs)) cs ≡ take n cs
-front-take zero cs = refl
-front-take (suc n) [] = refl
-front-take (suc n) (c ∷ cs) = ap (λ (x : List ℕ). c ∷ x) (front-take n cs)
+pub use Rattle.answer.specs.Answering.{length-most, front-take}
 
 take-few : (n : ℕ) (cs : List ℕ) → length (take n cs) ≤ length cs
 take-few zero cs = omega arith

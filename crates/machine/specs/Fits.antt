@@ -34,7 +34,7 @@ use Rattle.isochronous.specs.declared.advance.AdvanceNext.the-variants as next-
 use Rattle.isochronous.specs.Advance as advance
 use Rattle.machine.specs.declared.Suspended.{Suspended}
 use Rattle.machine.specs.Suspended.{wayOf, driverOf, haltsAs, resumed}
-use Rattle.machine.specs.Goes.{Called}
+use Rattle.answer.specs.Goes.{Called}
 use Rattle.machine.specs.GoesLaws.{stayed, gone, stays}
 
 pub linked : (n : Next) (q : Access) (p : Point) → n ≡ next.Asks q p → driver.Linked n → awaited q ≡ driver.awaitsAt p

@@ -10,7 +10,7 @@ use Rattle.model.specs.Machine.{Buf, Awaits, over, Way, idle, busy, Machine, An
 use Rattle.model_ops.specs.Rings.{St}
 use Rattle.machine.specs.declared.Suspended.{Suspended}
 use Rattle.machine.specs.Suspended.{wayOf, machineAt, driverOf, drive, haltsAs, resumed, slotsFit}
-use Rattle.machine.specs.Goes.{Called}
+use Rattle.answer.specs.Goes.{Called}
 
 -- ---- row 16
 

@@ -7,8 +7,8 @@ use Rattle.state.specs.Driver.{Driver}
 use Rattle.state.specs.State.{saved}
 use Rattle.model.specs.Answers.{Answer, Refused, End, NotYet, Done, Shown}
 use Rattle.model.specs.Machine.{Ans}
-use Rattle.machine.specs.declared.Step.{Step}
-use Rattle.machine.specs.declared.Step.the-variants as step
+use Rattle.answer.specs.declared.Step.{Step}
+use Rattle.answer.specs.declared.Step.the-variants as step
 use Rattle.machine.specs.declared.Suspended.{Suspended}
 use Rattle.machine.specs.Suspended.{encode, decode, answerOf, Canonical, SavedByAnswer}
 use Rattle.machine.specs.SuspendedLaws.{decode-encode}

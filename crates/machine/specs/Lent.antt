@@ -13,7 +13,7 @@ use Rattle.model_ops.specs.Concrete.{concrete}
 use Rattle.machine.specs.declared.Suspended.{Suspended}
 use Rattle.machine.specs.Suspended.{machineAt, drive, halts, slotsFit, BufferUnchangedOnRow1, lentBy}
 use Rattle.machine.specs.SuspendedLaws.{lent-halts}
-use Rattle.machine.specs.Goes.{Called}
+use Rattle.answer.specs.Goes.{Called}
 use Rattle.machine.specs.Rows.{isIdle}
 use Rattle.machine.specs.RowsLaws.{slotted-idle}
 

@@ -1,8 +1,6 @@
-pub mod Questions
 pub mod Suspended
 pub mod SuspendedLaws
 pub mod Counted
-pub mod Goes
 pub mod GoesLaws
 pub mod Fits
 pub mod Interrupt
@@ -25,7 +23,4 @@ pub mod ControlLaws
 pub mod DriverLaws
 pub mod EndpointLaws
 pub mod Going
-pub mod Word
-pub mod Parts
-pub mod WordLaws
-pub mod Asked
+pub mod Lifts

@@ -15,10 +15,10 @@ use Rattle.model_ops.specs.Numbers.{fits}
 use Rattle.model_ops.specs.Rings.{St}
 use Rattle.model_ops.specs.Concrete.{concrete}
 use Rattle.machine.specs.declared.Suspended.{Suspended}
-use Rattle.machine.specs.declared.Step.{Step}
-use Rattle.machine.specs.declared.Step.the-variants as step
+use Rattle.answer.specs.declared.Step.{Step}
+use Rattle.answer.specs.declared.Step.the-variants as step
 use Rattle.machine.specs.Suspended.{encode, decode, machineOf, finish, handedOut, resumed, answerOf, Stored}
-use Rattle.machine.specs.Goes.{Called}
+use Rattle.answer.specs.Goes.{Called}
 use Rattle.machine.specs.GoesLaws.{stayed}
 use Rattle.machine.specs.Stands.{Stands, halted, Leads, Ends, AtNumber, Resumes}
 use Rattle.machine.specs.StandsLaws.{stored-by, handed-out, suspends}

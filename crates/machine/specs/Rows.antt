@@ -13,7 +13,7 @@ use Rattle.model.specs.Machine.{Buf, Way, idle, busy, Machine, Ans}
 use Rattle.model_ops.specs.Rings.{St}
 use Rattle.machine.specs.declared.Suspended.{Suspended}
 use Rattle.machine.specs.Suspended.{wayOf}
-use Rattle.machine.specs.Goes.{Called}
+use Rattle.answer.specs.Goes.{Called}
 
 -- nothing is under way
 abbrev pub idleWay : Way Answer Driver → Bool

@@ -16,7 +16,7 @@ use Rattle.model_ops.specs.Rings.{St}
 use Rattle.model_ops.specs.Concrete.{concrete}
 use Rattle.machine.specs.declared.Suspended.{Suspended}
 use Rattle.machine.specs.Suspended.{wayOf, machineAt, driverOf, drive, haltsAs, halts, slotsFit}
-use Rattle.machine.specs.Goes.{Called}
+use Rattle.answer.specs.Goes.{Called}
 use Rattle.machine.specs.Rows.{idleWay, isIdle, stopOf, passWay, mayPass}
 
 pub back : {A : Type 0} {x y z : A} → z ≡ y → x ≡ y → x ≡ z

@@ -11,10 +11,11 @@ use Rattle.model.specs.Machine.{Buf}
 use Rattle.model_ops.specs.Rings.{St}
 use Rattle.model_ops.specs.Concrete.{concrete}
 use Rattle.machine.specs.declared.Suspended.{Suspended}
-use Rattle.machine.specs.declared.Step.{Step}
-use Rattle.machine.specs.declared.Step.the-variants as step
+use Rattle.answer.specs.declared.Step.{Step}
+use Rattle.answer.specs.declared.Step.the-variants as step
 use Rattle.machine.specs.Suspended.{encode, decode, finish, halts, machineOf, resumed, answerOf, SavedByAnswer, Stored}
-use Rattle.machine.specs.Goes.{Called}
+use Rattle.answer.specs.Goes.{Called}
+pub use Rattle.answer.specs.Answering.{NoneOf}
 
 -- the answer r says (`Says`) the access q, the view stays, and all 22 bytes of what is saved are the encoding of u
 pub record StandsAt (A : Type 0) (Says : A → Step → Type 0) (r : A) (q : Access) (u : Suspended) (xs ys : List ℕ) : Type 0 where
@@ -43,11 +44,6 @@ pub record Ends (r : Step) (n : ℕ) (xs ys : List ℕ) : Type 0 where
 pub record AtNumber (tag number : ℕ) (xs : List ℕ) : Type 0 where
   pub tagged : saved xs .tag ≡ tag
   pub numbered : saved xs .sub ≡ number
-
--- a number that is none of 1 to n, as the last arm of a match has it
-abbrev pub NoneOf : ℕ → ℕ → Type 0
-NoneOf zero k = Unit {0}
-NoneOf (suc n) k = NoneOf n k × (k ≡ suc n → ⊥)
 
 -- a continue, with v brought: the answer and what the call leaves are the machine's, and the 22 bytes are by the answer
 pub record Resumes (r : Step) (v : ℕ) (xs : List ℕ) (b : Buf) (ys : List ℕ) (after : Buf) : Type 0 where

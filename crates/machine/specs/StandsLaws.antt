@@ -9,15 +9,16 @@ use Rattle.model.specs.Tree.{ends}
 use Rattle.model.specs.Answers.{Refused}
 use Rattle.model.specs.Machine.{Buf}
 use Rattle.machine.specs.declared.Suspended.{Suspended}
-use Rattle.machine.specs.declared.Step.{Step}
-use Rattle.machine.specs.declared.Step.the-variants as step
+use Rattle.answer.specs.declared.Step.{Step}
+use Rattle.answer.specs.declared.Step.the-variants as step
 use Rattle.machine.specs.Suspended.{decode, halts, machineOf, handedOut, answerOf, SavedByAnswer, Stored}
 use Rattle.machine.specs.SuspendedLaws.{decode-encode}
-use Rattle.machine.specs.Goes.{Called}
+use Rattle.answer.specs.Goes.{Called}
 use Rattle.machine.specs.Rows.{isIdle}
 use Rattle.machine.specs.RowsLaws.{ends-idle}
 use Rattle.machine.specs.KeepsLaws.{canonical}
 use Rattle.machine.specs.Stands.{StandsAt, Stands, Leads}
+pub use Rattle.answer.specs.Answering.{parts2, parts3, parts4, parts5}
 
 -- all 22 bytes are pinned
 pub stored-by : {A : Type 0} {Says : A → Step → Type 0} {r : A} {q : Access} {u : Suspended} {xs ys : List ℕ}
@@ -43,18 +44,3 @@ suspends {r} h k = (λ b. handed-out h r (h .answered) [] b ∙ k b, stored-by h
 pub refuses : (xs : List ℕ) {n : ℕ} {f : Buf → Called} → isIdle (decode (saved xs)) ≡ true → ((b : Buf) → halts (ends (Refused n) (view xs, b)) ≡ f b)
     → Leads (step.Refused n) xs f × SavedByAnswer (step.Refused n) xs xs
 refuses xs {n} i e = (λ b. ends-idle (decode (saved xs)) (view xs) b (Refused n) i ∙ e b, refl)
-
--- what has two parts, three, four or five
-pub parts2 : {A B C : Type 0} (f : A → B → C) {a x : A} {b y : B} → a ≡ x → b ≡ y → f a b ≡ f x y
-parts2 f p q = λ i. f (p i) (q i)
-
-pub parts3 : {A B C D : Type 0} (f : A → B → C → D) {a x : A} {b y : B} {c z : C} → a ≡ x → b ≡ y → c ≡ z → f a b c ≡ f x y z
-parts3 f p q r = λ i. f (p i) (q i) (r i)
-
-pub parts4 : {A B C D E : Type 0} (f : A → B → C → D → E) {a x : A} {b y : B} {c z : C} {d w : D}
-    → a ≡ x → b ≡ y → c ≡ z → d ≡ w → f a b c d ≡ f x y z w
-parts4 f p q r s = λ i. f (p i) (q i) (r i) (s i)
-
-pub parts5 : {A B C D E F : Type 0} (f : A → B → C → D → E → F) {a x : A} {b y : B} {c z : C} {d w : D} {e v : E}
-    → a ≡ x → b ≡ y → c ≡ z → d ≡ w → e ≡ v → f a b c d e ≡ f x y z w v
-parts5 f p q r s t = λ i. f (p i) (q i) (r i) (s i) (t i)

@@ -36,30 +36,12 @@ use Rattle.irq.specs.Points as handler
 use Rattle.irq.specs.Codec as handlerCodec
 use Rattle.machine.specs.declared.Suspended.{Suspended}
 use Rattle.machine.specs.declared.Suspended.the-variants as under
-use Rattle.machine.specs.declared.Step.{Step}
-use Rattle.machine.specs.declared.Step.the-variants as step
-use Rattle.machine.specs.Questions.{questionOf}
+use Rattle.answer.specs.declared.Step.{Step}
+use Rattle.answer.specs.declared.Step.the-variants as step
+use Rattle.answer.specs.Questions.{questionOf}
+pub use Rattle.answer.specs.Answering.{withTag, finish, driverOf, configOf, drive, haltsAs, halts, answerOf}
 
 -- ---- the saved record: its tag says whose point it is, 0 or an unknown one that nothing is under way
-
-abbrev pub withTag : ℕ → Saved → Saved
-withTag t c = record {
-  tag = t;
-  sub = c .sub;
-  site = c .site;
-  flag = c .flag;
-  busy = c .busy;
-  late = c .late;
-  «len_ok» = c .«len_ok»;
-  st = c .st;
-  now = c .now;
-  ep = c .ep;
-  len = c .len;
-  frame = c .frame;
-  eps = c .eps;
-  n = c .n;
-  value = c .value;
-}
 
 unfoldable pub encode : Suspended → Saved
 encode under.Idle = fresh.nothing
@@ -82,11 +64,6 @@ decode c =
 
 -- ---- what is left of the call
 
-abbrev pub finish : ℕ → Script false Answer
-finish n = do
-  w ← fetch gathered
-  ret (End n w)
-
 abbrev pub wayOf : Suspended → Way Answer Driver
 wayOf under.Idle = idle
 wayOf (under.Driver p) = busy false (driver.awaitsAt p) (λ v t. run concrete (driver.denote p v >>= finish) t)
@@ -103,29 +80,6 @@ machineAt u d b = record { way = wayOf u; st = d; buf = b }
 abbrev pub machineOf : List ℕ → Buf → Machine Answer Driver
 machineOf xs b = machineAt (decode (saved xs)) (view xs) b
 
-abbrev pub driverOf : machine.Instance Config Driver
-driverOf = record {
-  ops = concrete;
-  fresh = λ c. fresh.freshDriver (c .size) (c .count) (flag (c .callback));
-  size = λ d. d .allocator .count * d .allocator .size;
-  question = questionOf;
-}
-
--- a start-up's inputs
-abbrev pub configOf : ℕ → ℕ → Bool → Config
-configOf size count callback = record { size = size; count = count; callback = callback }
-
--- what a call comes to
-abbrev pub drive : Call Config Op → Machine Answer Driver → Buf → Ans Answer × Machine Answer Driver
-drive c m b = call calls driverOf (λ s. s) c m b
-
--- where a run stops: at an access or at its end; `true`: an interrupt's
-abbrev pub haltsAs : Bool → Out St Answer → Ans Answer × Machine Answer Driver
-haltsAs i o = halt calls driverOf (λ s. s) i o
-
-abbrev pub halts : Out St Answer → Ans Answer × Machine Answer Driver
-halts o = haltsAs false o
-
 -- what a continue comes to, with the number brought
 abbrev pub resumed : ℕ → Suspended → Driver → Buf → Ans Answer × Machine Answer Driver
 resumed v u d b = continued calls driverOf (λ s. s) v (machineAt u d b) (wayOf u) b
@@ -133,17 +87,6 @@ resumed v u d b = continued calls driverOf (λ s. s) v (machineAt u d b) (wayOf 
 -- the access is handed out, and the operation under way
 abbrev pub handedOut : Access → Suspended → Driver → Buf → Ans Answer × Machine Answer Driver
 handedOut q u d b = (handed q, machineAt u d b)
-
--- with the bytes that the call was lent: those of a poll's slice that it filled, or the slots in which a packet is shown; and with the state that it
--- left, which has the wake-ups: k of them, from the front of the state's room for 64
-abbrev pub answerOf : Step → List ℕ → Driver → Ans Answer
-answerOf (step.Refused n) out d = ended (Refused n)
-answerOf (step.Asks q) out d = handed q
-answerOf (step.Ends n k) out d = ended (End n (front k (d .wakes .codes)))
-answerOf step.NotYet out d = ended NotYet
-answerOf (step.Done n) out d = ended (Done (front n out))
-answerOf (step.Setup low high) out d = ended (Done (wordBytes low ++ wordBytes high))
-answerOf (step.Shown at n stamp) out d = ended (Shown (bytesAt out at n) stamp)
 
 -- the slice after a poll that answers so
 abbrev pub lentBy : Ans Answer → List ℕ → List ℕ

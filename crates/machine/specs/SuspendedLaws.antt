@@ -35,8 +35,8 @@ use Rattle.irq.specs.Codec as handlerCodec
 use Rattle.irq.specs.CodecLaws as handlerCodec-laws
 use Rattle.machine.specs.declared.Suspended.{Suspended}
 use Rattle.machine.specs.declared.Suspended.the-variants as under
-use Rattle.machine.specs.declared.Step.{Step}
-use Rattle.machine.specs.declared.Step.the-variants as step
+use Rattle.answer.specs.declared.Step.{Step}
+use Rattle.answer.specs.declared.Step.the-variants as step
 use Rattle.machine.specs.Suspended.{encode, decode, halts, lentBy}
 
 pub decode-encode : (u : Suspended) → decode (encode u) ≡ u

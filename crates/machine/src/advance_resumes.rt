@@ -1,11 +1,11 @@
 // A paced advance goes on (mod.rs 323-340, 405-414): one function for each of its points, which loads its own parts and stores the next point's bytes.
-use crate::Step;
 use crate::advance_stands::stand_loaded;
 use crate::advance_stands::stand_sent;
-use crate::loads::ep_byte;
 use crate::points_loads::completion_at;
 use crate::resume_op::half;
 use crate::stands::stop;
+use answer::Step;
+use answer::loads::ep_byte;
 use frame::Frame;
 use frame::completions;
 use frame::frame_of_index;

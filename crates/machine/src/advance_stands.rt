@@ -1,7 +1,7 @@
 // A paced advance stands at a point of a completion, whose bytes are stored where it is made: with its endpoint, how many completions come after this
 // one, the microframe to keep then, and the endpoint that completes.
-use crate::Step;
 use crate::stands::stand;
+use answer::Step;
 use isochronous::codec::code;
 use regs::Access;
 use state::Saved;

@@ -1,5 +1,4 @@
 // The bus goes on (mod.rs 1053-1106, 1187-1330): one function for each of its points, which loads its own parts and stores the next point's bytes.
-use crate::Step;
 use crate::bus_stands::stand_address;
 use crate::bus_stands::stand_disabled;
 use crate::bus_stands::stand_ep0_out;
@@ -17,12 +16,13 @@ use crate::bus_stands::stand_typed;
 use crate::bus_stands::stand_untyped;
 use crate::bus_stands::stand_woken;
 use crate::bus_stands::stand_words;
-use crate::loads::ep_byte;
-use crate::loads::st_byte;
 use crate::points_loads::dir_at;
 use crate::points_loads::iso_at;
 use crate::points_loads::on_at;
 use crate::stands::stop;
+use answer::Step;
+use answer::loads::ep_byte;
+use answer::loads::st_byte;
 use bus::byte;
 use bus::event::after_address;
 use bus::event::after_disabled;

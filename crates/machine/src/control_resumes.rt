@@ -1,15 +1,15 @@
 // The control pipe goes on (control.rs 26-186): one function for each of its points, which loads its own parts and stores the next point's bytes.
-use crate::Step;
 use crate::control_stands::stand_ack_in;
 use crate::control_stands::stand_loaded;
 use crate::control_stands::stand_stall_out;
 use crate::control_stands::stand_stalled_in;
 use crate::control_stands::stand_status;
 use crate::control_stands::stand_wrote;
-use crate::loads::len_word;
 use crate::points_loads::dir_at;
 use crate::points_loads::on_at;
 use crate::stands::stop;
+use answer::Step;
+use answer::loads::len_word;
 use endpoint::common::byte;
 use endpoint::common::set_armed;
 use regs::Access;

@@ -1,7 +1,7 @@
 // An operation of the control pipe's stands at a point, whose bytes are stored where it is made.
-use crate::Step;
 use crate::stands::code;
 use crate::stands::stand;
+use answer::Step;
 use bus::flag_of;
 use regs::Access;
 use state::State;

@@ -1,6 +1,5 @@
 // Start-up (mod.rs 886-951), new endpoints (endpoint.rs 18-36), EP0's start (mod.rs 1144-1178) and the microframe go on: one function for each of
 // their points, which loads its own parts and stores the next point's bytes.
-use crate::Step;
 use crate::driver_stands::stand_ep0_max_len;
 use crate::driver_stands::stand_ep0_packet;
 use crate::driver_stands::stand_ep0_rx;
@@ -14,14 +13,15 @@ use crate::driver_stands::stand_reset;
 use crate::driver_stands::stand_reset_end;
 use crate::driver_stands::stand_run;
 use crate::driver_stands::stand_wait;
-use crate::loads::ep_byte;
-use crate::loads::st_byte;
-use crate::loads::value_word;
 use crate::points_loads::flag_dir_at;
 use crate::points_loads::list_endpoint_at;
 use crate::points_loads::on_at;
 use crate::resume_op::half;
 use crate::stands::stop;
+use answer::Step;
+use answer::loads::ep_byte;
+use answer::loads::st_byte;
+use answer::loads::value_word;
 use driver::announce::end_of;
 use driver::announce::found_at;
 use frame::Frame;

@@ -1,10 +1,10 @@
 // A read or write goes on (endpoint.rs 82-195): one function for each of its points, which loads its own parts and stores the next point's bytes.
-use crate::Step;
 use crate::endpoint_stands::stand_ack_in;
 use crate::endpoint_stands::stand_wrote;
-use crate::loads::ep_byte;
 use crate::points_loads::dir_at;
 use crate::stands::stop;
+use answer::Step;
+use answer::loads::ep_byte;
 use endpoint::common::byte;
 use regs::Access;
 use regs::Reg;

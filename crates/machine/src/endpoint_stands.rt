@@ -1,7 +1,7 @@
 // A read or write stands at a point, whose bytes are stored where it is made.
-use crate::Step;
 use crate::stands::code;
 use crate::stands::stand;
+use answer::Step;
 use regs::Access;
 use state::State;
 ghost use Rattle.regs.specs.declared.Dir.the-variants as Dir;

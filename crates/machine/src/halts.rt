@@ -1,6 +1,6 @@
-use crate::Step;
 use crate::Suspended;
-use crate::woken::how_many;
+use answer::Step;
+use answer::woken::how_many;
 use isochronous::advance::AdvanceNext;
 use regs::Access;
 use state::Saved;

@@ -1,12 +1,12 @@
 // What a point has: each part is loaded alone from the saved record's bytes. Any bytes are a point.
-use crate::loads::busy_byte;
-use crate::loads::ep_byte;
-use crate::loads::flag_byte;
-use crate::loads::frame_word;
-use crate::loads::late_byte;
-use crate::loads::now_byte;
-use crate::loads::site_byte;
-use crate::loads::st_byte;
+use answer::loads::busy_byte;
+use answer::loads::ep_byte;
+use answer::loads::flag_byte;
+use answer::loads::frame_word;
+use answer::loads::late_byte;
+use answer::loads::now_byte;
+use answer::loads::site_byte;
+use answer::loads::st_byte;
 use irq::codec::dir_of;
 use model_ops::rings::is_on;
 use regs::Dir;

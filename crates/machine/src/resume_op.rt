@@ -1,12 +1,12 @@
 // An operation under way goes on at its point, with the number brought: the driver's, the bus's, the control pipe's, a read's or write's, a paced advance's.
 // One dispatch on the point's number reaches its function.
-use crate::Step;
 use crate::advance_resumes;
 use crate::bus_resumes;
 use crate::control_resumes;
 use crate::driver_resumes;
 use crate::endpoint_resumes;
-use crate::loads::sub_byte;
+use answer::Step;
+use answer::loads::sub_byte;
 use state::State;
 ghost use mathlib.Core.Path.{_≡_};
 ghost use mathlib.Core.Bool.{true};

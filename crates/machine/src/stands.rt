@@ -1,7 +1,7 @@
 // An operation stands at a point, or ends: the saved record's 22 bytes are stored where the point is made, and its access is the
 // answer.
-use crate::Step;
-use crate::woken::how_many;
+use answer::Step;
+use answer::woken::how_many;
 use regs::Access;
 use regs::Dir;
 use state::Saved;
@@ -13,7 +13,7 @@ ghost use mathlib.Core.List.{List};
 ghost use Prim.Native.Nat.{ℕ};
 ghost use Rattle.state.specs.State.{view, saved};
 ghost use Rattle.bus.specs.Codec.{code, dirAs};
-ghost use Rattle.machine.specs.declared.Step.the-variants as Step;
+ghost use Rattle.answer.specs.declared.Step.the-variants as Step;
 ghost use Rattle.machine.specs.Suspended.{withTag};
 ghost use Rattle.machine.specs.Stands.{Ends};
 

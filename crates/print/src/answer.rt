@@ -5,7 +5,7 @@ use crate::accesses::access;
 use crate::text::hex;
 use crate::text::number;
 use crate::text::print;
-use machine::Step;
+use answer::Step;
 use state::State;
 use state::woken_at;
 

@@ -18,7 +18,7 @@ use Rattle.model.specs.Answers.{isNumber}
 use Rattle.model.specs.Simulates.{Phase}
 use Rattle.model.specs.Machine.{Buf, Question, pending, overruns, enabled}
 use Rattle.model.specs.Agree.{Agree}
-use Rattle.machine.specs.Questions.{pendingOn, overrunsOf, overrunsOn, enabledAsked, questionOf}
+use Rattle.answer.specs.Questions.{pendingOn, overrunsOf, overrunsOn, enabledAsked, questionOf}
 use Rattle.machine.specs.Suspended.{driverOf}
 use Rattle.proof_book.specs.Pages.{Pages}
 use Rattle.proof_book.specs.Book.{book, questionB}

@@ -29,7 +29,7 @@ use Rattle.model.specs.Statics as script-statics
 use Rattle.state.specs.Driver as state-driver
 use Rattle.state.specs.Fresh as state-fresh
 use Rattle.state.specs.Wakes as state-wakes
-use Rattle.machine.specs.Questions as way-questions
+use Rattle.answer.specs.Questions as way-questions
 
 -- bits, frame numbers, marks in a slot, what a register's value says
 unfoldable numbers : Unit {0}

@@ -20,7 +20,7 @@ use Rattle.model.specs.Machine.{stay, halt, beside, begun, continued, started, 
 use Rattle.model_ops.specs.Rings.{St}
 use Rattle.model_ops.specs.Concrete.{concrete}
 use Rattle.machine.specs.Suspended.{driverOf, drive}
-use Rattle.machine.specs.Goes.{Called}
+use Rattle.answer.specs.Goes.{Called}
 use Rattle.calls.specs.Sharing.{Sort, starting, going, opSort, sortOf, timeAfter, turnedDown, settled, sharedCall}
 use Rattle.proof_bus_time.specs.Four.{Four, Turn, called, next, after}
 use Rattle.proof_bus_time.specs.History.{lineOf, history}

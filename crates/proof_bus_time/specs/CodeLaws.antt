@@ -11,7 +11,7 @@ use Rattle.model.specs.Answers.{Answer}
 use Rattle.model.specs.Calls.{Config, Op}
 use Rattle.model.specs.Machine.{Buf, Call, Machine, idle, Ans, ended, handed, told}
 use Rattle.machine.specs.Suspended.{decode, drive, machineOf}
-use Rattle.machine.specs.Goes.{Called}
+use Rattle.answer.specs.Goes.{Called}
 use Rattle.req_bus_time.specs.Time.{inUse, uncharged}
 use Rattle.calls.specs.Sharing.{Sort, apart, sortOf, timeAfter, settled, sharedCall}
 use Rattle.proof_bus_time.specs.Four.{Four, Turn, called, next, after}

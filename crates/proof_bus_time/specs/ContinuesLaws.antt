@@ -11,7 +11,7 @@ use Rattle.model_ops.specs.Rings.{St}
 use Rattle.model_ops.specs.Concrete.{concrete}
 use Rattle.model.specs.Script.{run}
 use Rattle.machine.specs.Suspended.{driverOf, drive}
-use Rattle.machine.specs.Goes.{Called}
+use Rattle.answer.specs.Goes.{Called}
 use Rattle.calls.specs.Sharing.{going, sortOf}
 use Rattle.proof_bus_time.specs.Enabled.{writesConfig, handsConfig}
 use Rattle.proof_bus_time.specs.Calm.{If}

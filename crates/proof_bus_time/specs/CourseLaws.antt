@@ -21,7 +21,7 @@ use Rattle.model.specs.Machine.{misfit, stay, halt, beside, begun, continued, s
 use Rattle.model.specs.Kinds.{resetting, is, kindOf}
 use Rattle.model_ops.specs.Rings.{St}
 use Rattle.machine.specs.Suspended.{driverOf, drive}
-use Rattle.machine.specs.Goes.{Called}
+use Rattle.answer.specs.Goes.{Called}
 use Rattle.calls.specs.Sharing.{starting, opSort, sortOf, chargeOn, timeAfter, turnedDown, settled, sharedCall}
 use Rattle.proof_bus_time.specs.Four.{Four, Turn, called, next, after}
 use Rattle.proof_bus_time.specs.History.{Line, lineOf, history, byAccess, byAnswer}

@@ -23,7 +23,7 @@ use Rattle.model.specs.Answers.{Answer, Refused}
 use Rattle.model.specs.Calls.{calls}
 use Rattle.model.specs.Machine.{Buf, Machine, Ans, ended, handed, told, lentTo}
 use Rattle.machine.specs.Suspended.{driverOf, drive}
-use Rattle.machine.specs.Goes.{Called}
+use Rattle.answer.specs.Goes.{Called}
 use Rattle.req_bus_time.specs.Time.{entryOf, total, inUse, entryKept, kept, keepOf, uncharged}
 use Rattle.req_bus_time.specs.TimeLaws.{total-none, kept-in, kept-out}
 use Rattle.calls.specs.Sharing.{Sort, enabling, starting, going, apart, sortOf, chargeOn, written, timeAfter, turnedDown, settled}

@@ -11,7 +11,7 @@ use Rattle.model.specs.Answers.{Answer, Refused}
 use Rattle.model.specs.Calls.{Config, Op, calls}
 use Rattle.model.specs.Machine.{Buf, Call, question, pending, Event, Machine, ended, lentTo}
 use Rattle.machine.specs.Suspended.{driverOf, drive}
-use Rattle.machine.specs.Goes.{Called}
+use Rattle.answer.specs.Goes.{Called}
 use Rattle.proof_book.specs.Always as alone
 use Rattle.calls.specs.Sharing.{sortOf, timeAfter, turnedDown, settled, sharedCall}
 use Rattle.proof_bus_time.specs.Four.{Four, Turn, next, after}

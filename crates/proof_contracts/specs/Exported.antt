@@ -22,7 +22,7 @@ use Rattle.machine.specs.Suspended.{configOf, answerOf, lentBy}
 use Rattle.machine.specs.KeepsLaws.{kept-by}
 use Rattle.req_bus_time.specs.Time.{inUse}
 use Rattle.calls.specs.Shown.{ShownAt}
-use Rattle.machine.specs.Word.{Worded}
+use Rattle.answer.specs.Word.{Worded}
 use Rattle.usbhs_c.specs.Calls.{dirOf, flagOf}
 use Rattle.usbhs_c.specs.Stamp.{stampBy}
 use Rattle.usbhs_c.proofs.usbhs_start_up.Reads as start-up-contract

@@ -17,7 +17,7 @@ use Rattle.machine.specs.Suspended.{encode, decode, wayOf, machineOf, driverOf,
 use Rattle.machine.specs.Rows.{idleWay}
 use Rattle.machine.specs.Keeps.{KeptBy}
 use Rattle.machine.specs.KeepsLaws.{canonical}
-use Rattle.machine.specs.Goes.{Called}
+use Rattle.answer.specs.Goes.{Called}
 use Rattle.calls.specs.Sharing.{sharedCall, settled, isHanded}
 use Rattle.proof_contracts.specs.SharedPage.{MadeShared}
 use Rattle.proof_contracts.specs.SavedPage.{passes, SavesAs, Saves, Saving, Pinned, AllPinned, CodeCanonical}

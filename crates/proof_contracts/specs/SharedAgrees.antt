@@ -18,7 +18,7 @@ use Rattle.model.specs.Machine.{Buf, Call, start, begin, go, question, Way, idl
 use Rattle.model.specs.Machine.{told, fed, halt, begun, continued, started, call, misfit, stay, lentTo, over, blankA}
 use Rattle.model.specs.Agree.{After, Ways, LentAlike, unless, agrees}
 use Rattle.machine.specs.Suspended.{driverOf, drive}
-use Rattle.machine.specs.Goes.{Called}
+use Rattle.answer.specs.Goes.{Called}
 use Rattle.req_bus_time.specs.Time.{chargeOf, entryOf, passes}
 use Rattle.calls.specs.Sharing.{Sort, enabling, starting, going, apart, opSort, sortOf, isHanded, chargeOn}
 use Rattle.calls.specs.Sharing.{turnedDown, timeAfter, settled, sharedCall}

@@ -12,9 +12,9 @@ use Rattle.model.specs.Calls.{Config, Op, interrupt, slotted, other, aside, Set
 use Rattle.model.specs.Calls.{PollWrite, PollDataOut, BeginDataIn, calls}
 use Rattle.model.specs.Machine.{Buf, Call, start, begin, go, question, pending, Machine, Ans, ended, told, lentTo}
 use Rattle.model.specs.Agree.{Ways}
-use Rattle.machine.specs.Questions.{questionOf}
+use Rattle.answer.specs.Questions.{questionOf}
 use Rattle.machine.specs.Suspended.{driverOf, drive}
-use Rattle.machine.specs.Goes.{Called}
+use Rattle.answer.specs.Goes.{Called}
 use Rattle.calls.specs.Sharing.{sortOf, turnedDown, timeAfter, settled, sharedCall}
 use Rattle.proof_book.specs.Pages.{Pages}
 use Rattle.proof_book.specs.Book.{book}

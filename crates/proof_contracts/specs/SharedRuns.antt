@@ -10,7 +10,7 @@ use Rattle.model.specs.Calls.{Config, Op, calls, startRow}
 use Rattle.model.specs.Machine.{Buf, Event, start, Machine, Ans, ended, handed, told, fed, started}
 use Rattle.model.specs.Agree.{After, Ways, from-start}
 use Rattle.machine.specs.Suspended.{driverOf, drive, machineOf}
-use Rattle.machine.specs.Goes.{Called}
+use Rattle.answer.specs.Goes.{Called}
 use Rattle.calls.specs.Sharing.{sortOf, timeAfter, settled, sharedCall}
 use Rattle.proof_book.specs.Pages.{Pages}
 use Rattle.proof_book.specs.Book.{book}

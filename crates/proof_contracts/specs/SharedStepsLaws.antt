@@ -26,7 +26,7 @@ use Rattle.model.specs.Calls.{Config, Op, interrupt, calls, startRow}
 use Rattle.model.specs.Machine.{Buf, Call, Event, start, begin, Way, idle, busy, Machine, Ans, ended, handed, told, lentTo, begun, halt, started, fed}
 use Rattle.model_ops.specs.Concrete.{concrete}
 use Rattle.machine.specs.Suspended.{decode, machineOf, driverOf, drive}
-use Rattle.machine.specs.Goes.{Called}
+use Rattle.answer.specs.Goes.{Called}
 use Rattle.calls.specs.Sharing.{sortOf, timeAfter, settled, sharedCall}
 use Rattle.usbhs_c.proofs.usbhs_woken.Reads as woken-contract
 use Rattle.ring.specs.Waiting.{Same}

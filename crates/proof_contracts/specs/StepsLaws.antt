@@ -7,13 +7,13 @@ use Rattle.state.specs.Driver.{Driver}
 use Rattle.model.specs.Answers.{Answer}
 use Rattle.model.specs.Calls.{Config, Op}
 use Rattle.model.specs.Machine.{Buf, Call, Question, Ans, told, Machine}
-use Rattle.machine.specs.declared.Step.{Step}
-use Rattle.machine.specs.Questions.{questionOf}
+use Rattle.answer.specs.declared.Step.{Step}
+use Rattle.answer.specs.Questions.{questionOf}
 use Rattle.machine.specs.Suspended.{machineOf, drive, answerOf, lentOr, lentBy, BufferUnchangedOnRow1}
-use Rattle.machine.specs.Goes.{Called}
+use Rattle.answer.specs.Goes.{Called}
 use Rattle.calls.specs.Sharing.{apart, sortOf}
-use Rattle.machine.specs.Parts.{stepOf, spoken}
-use Rattle.machine.specs.Word.{Encodes, Worded}
+use Rattle.answer.specs.Parts.{stepOf, spoken}
+use Rattle.answer.specs.Word.{Encodes, Worded}
 use Rattle.proof_bus_time.specs.CodeLaws.{leaves-record}
 use Rattle.proof_contracts.specs.SavedPage.{Saves}
 use Rattle.proof_contracts.specs.Steps.{IsStep, IsStepLent, IsStepInto, IsQuestion}

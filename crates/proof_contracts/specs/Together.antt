@@ -10,7 +10,7 @@ use Rattle.state.specs.State.{view}
 use Rattle.model.specs.Answers.{Answer}
 use Rattle.model.specs.Calls.{Config, Op, interrupt}
 use Rattle.model.specs.Machine.{Buf, Call, begin, go, Event, Ans, ended, handed, told}
-use Rattle.machine.specs.declared.Step.{Step}
+use Rattle.answer.specs.declared.Step.{Step}
 use Rattle.machine.specs.Suspended.{answerOf, lentOr, BufferUnchangedOnRow1}
 use Rattle.call_readings.specs.Readings.{Reading, Lent, lent, readsOf}
 use Rattle.proof_contracts.specs.SharedPage.{MadeShared}

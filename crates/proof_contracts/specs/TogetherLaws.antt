@@ -18,13 +18,13 @@ use Rattle.model.specs.Answers.{Answer, Refused, resultless}
 use Rattle.model.specs.Handler.{stampedInterrupt}
 use Rattle.model.specs.Calls.{Config, Op, interrupt, calls}
 use Rattle.model.specs.Machine.{Buf, begin, go, Event, Machine, misfit, Ans, ended, handed, told, Way, idle, busy, stay, begun, continued, halt, fed}
-use Rattle.machine.specs.declared.Step.{Step}
-use Rattle.machine.specs.declared.Step.the-variants as step
+use Rattle.answer.specs.declared.Step.{Step}
+use Rattle.answer.specs.declared.Step.the-variants as step
 use Rattle.machine.specs.Suspended.{machineOf, driverOf, answerOf, lentOr, slotsFit, BufferUnchangedOnRow1}
 use Rattle.machine.specs.KeepsLaws.{kept-by}
-use Rattle.machine.specs.Goes.{Called}
+use Rattle.answer.specs.Goes.{Called}
 use Rattle.calls.specs.Sharing.{settled, sharedCall}
-use Rattle.machine.specs.Word.{Worded}
+use Rattle.answer.specs.Word.{Worded}
 use Rattle.call_readings.specs.Readings.{Reading, reading, Lent, lent, Continues, If, Over, Brings, BeginsWith, ContinuesWith, asksFor}
 use Rattle.usbhs_c.proofs.readings.usbhs_interrupt.Reads as interrupt-contract
 use Rattle.usbhs_c.proofs.readings.usbhs_continue_transfer.Reads as continue-transfer-contract

@@ -16,7 +16,7 @@ use Rattle.model.specs.Machine.{Buf, Call, start, begin, go, question, Ans, end
 use Rattle.model_ops.specs.Rings.{St}
 use Rattle.model_ops.specs.Concrete.{concrete}
 use Rattle.machine.specs.Suspended.{driverOf, drive}
-use Rattle.machine.specs.Goes.{Called}
+use Rattle.answer.specs.Goes.{Called}
 use Rattle.calls.specs.Sharing.{sortOf, timeAfter, turnedDown}
 use Rattle.proof_wake_ups.specs.Rooms.{Few, Roomy, Rooms}
 use Rattle.proof_wake_ups.specs.RoomsLaws.{rooms}

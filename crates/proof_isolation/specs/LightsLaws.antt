@@ -30,7 +30,7 @@ use Rattle.model.specs.Statics.{isOn, isoOuts, flag}
 use Rattle.model.specs.Answers.{isNumber}
 use Rattle.model.specs.Simulates.{quiet}
 use Rattle.model.specs.Machine.{Question, pending, overruns, enabled}
-use Rattle.machine.specs.Questions.{pendingOn, overrunsOf, overrunsOn, enabledAsked, questionOf}
+use Rattle.answer.specs.Questions.{pendingOn, overrunsOf, overrunsOn, enabledAsked, questionOf}
 use Rattle.model_ops.specs.Records.{plainOf, merged}
 use Rattle.model_ops.specs.Rings.{St, changedOn, markedOn, waitingOn, openedOn, nextLen, nextStamp, oldestAt, oldestOn, openOn, closeOn}
 use Rattle.model_ops.specs.Rings.{writtenOn, recordedOn, admittedOn, armAt, armOn, arrivedAt, arriveOn}

@@ -15,7 +15,7 @@ use Rattle.model.specs.Calls.{Config, Op, interrupt, aside, Open, Close, calls,
 use Rattle.model.specs.Machine.{Buf, Call, start, begin, go, question, pending, Event, ended}
 use Rattle.model.specs.Machine.{Way, idle, busy, Machine, misfit, lentTo}
 use Rattle.machine.specs.Suspended.{driverOf, drive}
-use Rattle.machine.specs.Goes.{Called}
+use Rattle.answer.specs.Goes.{Called}
 use Rattle.calls.specs.Sharing.{sortOf, timeAfter, turnedDown}
 use Rattle.proof_book.specs.Pages.{Pages}
 use Rattle.proof_book.specs.Book.{book}

@@ -20,7 +20,7 @@ use Rattle.model.specs.Statics.{flag}
 use Rattle.model.specs.Simulates.{Phase}
 use Rattle.model.specs.Machine.{Question, pending, overruns, enabled, Way}
 use Rattle.proof_wake_ups.specs.Twins.{Short}
-use Rattle.machine.specs.Questions.{pendingOn, overrunsOf, overrunsOn, enabledAsked, questionOf}
+use Rattle.answer.specs.Questions.{pendingOn, overrunsOf, overrunsOn, enabledAsked, questionOf}
 use Rattle.model_ops.specs.Rings.{St}
 use Rattle.proof_book.specs.Coupling.{endOf, lensOf, slotStamps}
 use Rattle.proof_book.specs.Stamps.{stamped}

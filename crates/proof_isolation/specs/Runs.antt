@@ -17,7 +17,7 @@ use Rattle.model.specs.Machine.{Way, idle, busy, Machine, over, lentTo, beside}
 use Rattle.model_ops.specs.Rings.{St}
 use Rattle.model_ops.specs.Concrete.{concrete}
 use Rattle.machine.specs.Suspended.{driverOf, drive}
-use Rattle.machine.specs.Goes.{Called}
+use Rattle.answer.specs.Goes.{Called}
 use Rattle.calls.specs.Sharing.{Sort, enabling, starting, going, opSort, slottedSort, sortOf, timeAfter, turnedDown}
 use Rattle.calls.specs.Sharing as sharing
 use Rattle.proof_wake_ups.specs.Rooms.{Roomy, Rooms}

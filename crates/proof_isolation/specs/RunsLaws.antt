@@ -1,6 +1,6 @@
 -- Laws on the definitions of Runs.antt
 use mathlib.Core.Path.{_≡_, subst, sym}
-use Rattle.machine.specs.Goes.{Called}
+use Rattle.answer.specs.Goes.{Called}
 use Rattle.proof_wake_ups.specs.Rooms.{Rooms}
 
 pub through-one : (G : Called → Type 0) {y z : Called} → y ≡ z → Rooms y → (Rooms z → G z) → G y

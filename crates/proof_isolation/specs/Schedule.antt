@@ -17,8 +17,8 @@ use Rattle.model.specs.Machine.{Buf, Question, pending, overruns, enabled, Call
 use Rattle.model.specs.Machine.{ended, handed, told, Way, idle, busy, Machine, over, misfit, lentTo}
 use Rattle.model_ops.specs.Rings.{St}
 use Rattle.machine.specs.Suspended.{driverOf, drive}
-use Rattle.machine.specs.Goes.{Called}
-use Rattle.machine.specs.Questions.{questionOf}
+use Rattle.answer.specs.Goes.{Called}
+use Rattle.answer.specs.Questions.{questionOf}
 use Rattle.proof_book.specs.Coupling.{endOf, lensOf, slotStamps}
 use Rattle.proof_book.specs.Stamps.{stamped}
 use Rattle.calls.specs.Sharing.{sortOf, timeAfter, turnedDown}

@@ -45,7 +45,7 @@ use Rattle.model.specs.Machine.{beside, begun, continued, started}
 use Rattle.model_ops.specs.Rings.{St}
 use Rattle.model_ops.specs.Concrete.{concrete, getOn, putOn, isOf, lookOf, actOn, handOn}
 use Rattle.machine.specs.Suspended.{driverOf, drive}
-use Rattle.machine.specs.Goes.{Called}
+use Rattle.answer.specs.Goes.{Called}
 use Rattle.proof_isolation.specs.EqualExcept.{Lawful, Channel}
 use Rattle.proof_isolation.specs.Apart.{ownable}
 use Rattle.proof_isolation.specs.Settled.{isControl}

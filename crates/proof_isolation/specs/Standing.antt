@@ -16,7 +16,7 @@ use Rattle.model.specs.Calls.{calls}
 use Rattle.model.specs.Machine.{Ans, ended, awaited, Way, busy, Machine, halt}
 use Rattle.model_ops.specs.Rings.{St}
 use Rattle.machine.specs.Suspended.{driverOf}
-use Rattle.machine.specs.Goes.{Called}
+use Rattle.answer.specs.Goes.{Called}
 use Rattle.proof_wake_ups.specs.Rooms.{Few, Roomy}
 use Rattle.proof_isolation.specs.LikesLaws.{and-false}
 use Rattle.proof_isolation.specs.EqualExcept.{Channel}

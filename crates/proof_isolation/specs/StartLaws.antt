@@ -15,7 +15,7 @@ use Rattle.model.specs.Machine.{Buf, pending, start, question, Event, ended, Wa
 use Rattle.model.specs.Agree.{Ways, both-idle, both-busy, agrees, from-start}
 use Rattle.model_ops.specs.Rings.{St}
 use Rattle.machine.specs.Suspended.{driverOf, drive}
-use Rattle.machine.specs.Goes.{Called}
+use Rattle.answer.specs.Goes.{Called}
 use Rattle.proof_book.specs.Pages.{Pages}
 use Rattle.proof_book.specs.Book.{book}
 use Rattle.proof_book.specs.Coupling.{Coupling}

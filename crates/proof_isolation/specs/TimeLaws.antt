@@ -14,7 +14,7 @@ use Rattle.model.specs.Simulates.{Phase}
 use Rattle.model.specs.Machine.{Buf, Call, Ans, ended, handed, told, Machine, lentTo}
 use Rattle.model_ops.specs.Rings.{St}
 use Rattle.machine.specs.Suspended.{driverOf, drive}
-use Rattle.machine.specs.Goes.{Called}
+use Rattle.answer.specs.Goes.{Called}
 use Rattle.req_bus_time.specs.Time.{chargeOf, entryOf, passes}
 use Rattle.calls.specs.Sharing.{Sort, enabling, starting, going, apart, chargeOn, isHanded, sortOf, timeAfter, turnedDown, settled, sharedCall}
 use Rattle.proof_isolation.specs.LikesLaws.{and-false}

@@ -11,9 +11,9 @@ use Rattle.state.specs.Determined.{Bytes, determined}
 use Rattle.model.specs.Answers.{Answer, Refused}
 use Rattle.model.specs.Calls.{Config, Op, slots}
 use Rattle.model.specs.Machine.{Buf, Call, start, begin, go, question, Machine, Ans, ended}
-use Rattle.machine.specs.declared.Step.the-variants as step
+use Rattle.answer.specs.declared.Step.the-variants as step
 use Rattle.machine.specs.Suspended.{decode, machineAt, machineOf, drive, answerOf, slotsFit, lentOr, BufferUnchangedOnRow1, SavedByAnswer}
-use Rattle.machine.specs.Goes.{Called}
+use Rattle.answer.specs.Goes.{Called}
 use Rattle.calls.specs.Sharing.{sharedCall}
 use Rattle.proof_refusals.specs.Left.{Poll, none, pollOf, requestEnded, flagCleared, leftBy, left, buffersRow}
 use Rattle.proof_refusals.specs.Scripts.{unpolled}

@@ -15,7 +15,7 @@ use Rattle.model.specs.Machine.{Buf, Call, Ans, ended}
 use Rattle.endpoint.specs.Answers.{front}
 use Rattle.endpoint.specs.Front.{front-length}
 use Rattle.machine.specs.declared.Suspended.{Suspended}
-use Rattle.machine.specs.declared.Step.the-variants as step
+use Rattle.answer.specs.declared.Step.the-variants as step
 use Rattle.machine.specs.Suspended.{decode, machineAt, machineOf, drive, answerOf}
 use Rattle.machine.specs.Counted.{listed-few}
 use Rattle.proof_refusals.specs.Left.{left, buffersRow}

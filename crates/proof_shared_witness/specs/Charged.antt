@@ -9,7 +9,7 @@ use lib.ListN.{take, drop}
 use Rattle.state.specs.Driver.{Driver}
 use Rattle.model.specs.Answers.{Answer}
 use Rattle.model.specs.Machine.{Machine}
-use Rattle.machine.specs.Goes.{Called}
+use Rattle.answer.specs.Goes.{Called}
 use Rattle.proof_book.specs.Pages.{Pages}
 use Rattle.proof_book.specs.Inputs.{Input, eventOf, lent}
 use Rattle.proof_contracts.specs.SharedPage.{AfterShared}

@@ -13,7 +13,7 @@ use Rattle.model.specs.Calls.{Config, Op, slotted, aside, SetEnabled, Queue}
 use Rattle.model.specs.Machine.{Call, begin, Ans, ended, handed}
 use Rattle.model.specs.Machine as machine
 use Rattle.machine.specs.Suspended.{drive}
-use Rattle.machine.specs.Goes.{Called}
+use Rattle.answer.specs.Goes.{Called}
 use Rattle.req_bus_time.specs.Time as bus-time
 use Rattle.req_bus_time.specs.Time.{uncharged, inUse, entryOf, passes}
 use Rattle.calls.specs.Sharing as sharing

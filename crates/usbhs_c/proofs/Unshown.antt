@@ -5,10 +5,10 @@ use Prim.Native.Nat.{ℕ}
 use denote.Enum.Declared.{tagOf}
 use types.Run.{OneOf, miss}
 use Rattle.state.specs.Driver.{Driver}
-use Rattle.machine.specs.declared.Step.{Step}
-use Rattle.machine.specs.declared.Step.the-variants as step
+use Rattle.answer.specs.declared.Step.{Step}
+use Rattle.answer.specs.declared.Step.the-variants as step
 use Rattle.machine.specs.Suspended.{answerOf, lentBy}
-use Rattle.machine.proofs.Step as declared
+use Rattle.answer.proofs.Step as declared
 use Rattle.usbhs_c.specs.Stamp.{stampBy}
 
 -- all but `Shown`, the last

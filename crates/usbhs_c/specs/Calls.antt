@@ -13,7 +13,7 @@ use Rattle.model.specs.Machine.{Buf, Call, begin, start}
 use Rattle.machine.specs.Suspended.{machineOf, drive, answerOf, lentOr, BufferUnchangedOnRow1, lentBy, SavedByAnswer}
 use Rattle.calls.specs.Shown.{ShownAt}
 use Rattle.calls.specs.Sharing.{sharedCall, SharedStep}
-use Rattle.machine.specs.Word.{Worded}
+use Rattle.answer.specs.Word.{Worded}
 use Rattle.usbhs_c.specs.Stamp.{stampBy}
 
 -- a number as a direction: 0 OUT, else IN

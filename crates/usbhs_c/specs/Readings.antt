@@ -3,7 +3,7 @@
 use mathlib.Core.List.{[], _∷_}
 use Prim.Native.Nat.{ℕ}
 use Rattle.regs.specs.declared.Reg.the-variants.{IntFg, IntSt, RxLen, FrameNo}
-use Rattle.machine.specs.Word.{Worded}
+use Rattle.answer.specs.Word.{Worded}
 use Rattle.call_readings.specs.Readings.{reading, Lent, BeginsWith, ContinuesWith}
 
 -- the interrupt's begin, a continue with frame_no, one with int_fg

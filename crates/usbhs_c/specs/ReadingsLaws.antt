@@ -16,11 +16,11 @@ use Rattle.state.specs.State.{view}
 use Rattle.model.specs.Every.{sameReg}
 use Rattle.model.specs.Calls.{interrupt}
 use Rattle.model.specs.Machine.{Buf, begin, go}
-use Rattle.machine.specs.declared.Step.{Step}
-use Rattle.machine.specs.declared.Step.the-variants.{Refused, Asks, Ends, NotYet, Done, Setup, Shown}
+use Rattle.answer.specs.declared.Step.{Step}
+use Rattle.answer.specs.declared.Step.the-variants.{Refused, Asks, Ends, NotYet, Done, Setup, Shown}
 use Rattle.machine.specs.Suspended.{machineOf, drive, answerOf, SavedByAnswer}
-use Rattle.machine.specs.Word.{readWord, accessWord, wordOf, Encodes, Worded}
-use Rattle.machine.specs.Parts.{stepOf, spoken}
+use Rattle.answer.specs.Word.{readWord, accessWord, wordOf, Encodes, Worded}
+use Rattle.answer.specs.Parts.{stepOf, spoken}
 use Rattle.call_readings.specs.Readings.{Reading, reading, Lent, lent, Continues, If, Over, Brings}
 use Rattle.call_readings.specs.Readings.{asksFor, readsOf}
 use Rattle.call_readings.specs.declared.Entered.{Entered}

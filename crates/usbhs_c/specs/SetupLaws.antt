@@ -16,10 +16,10 @@ use Rattle.model.specs.Control.{SETUP, wordBytes, setupBytes}
 use Rattle.model.specs.Calls.{other, PollSetup}
 use Rattle.model.specs.Machine.{Buf, Machine, Ans, ended, handed, told, begin}
 use Rattle.machine.specs.declared.Suspended.{Suspended}
-use Rattle.machine.specs.declared.Step.{Step}
-use Rattle.machine.specs.declared.Step.the-variants as step
+use Rattle.answer.specs.declared.Step.{Step}
+use Rattle.answer.specs.declared.Step.the-variants as step
 use Rattle.machine.specs.Suspended.{machineAt, drive, halts, answerOf}
-use Rattle.machine.specs.Goes.{Called}
+use Rattle.answer.specs.Goes.{Called}
 use Rattle.machine.specs.Rows.{isIdle}
 use Rattle.machine.specs.RowsLaws.{other-idle}
 use Rattle.usbhs_c.specs.Setup.{NoSlice}

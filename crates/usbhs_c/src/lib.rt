@@ -8,12 +8,12 @@ pub mod setup; // setup.rt: a setup packet's bytes
 pub mod stamp; // stamp.rt: the stamp of a packet that is shown
 pub mod woken; // woken.rt: the wake-ups of the last end
 
+use answer::word::continue_word;
+use answer::word::word_of;
 use calls::proceeds::INTERRUPT;
 use inputs::dir_of;
 use inputs::flag_of;
 use machine::saved::tag;
-use machine::word::continue_word;
-use machine::word::word_of;
 use req_bus_time::Time;
 use setup::setup_word;
 use stamp::stamp_by;
@@ -34,7 +34,7 @@ ghost use Prim.Native.Nat.{_%_};
 ghost use lib.ListN.{length};
 ghost use Rattle.req_bus_time.specs.Time.{inUse};
 ghost use Rattle.machine.specs.Suspended.{configOf};
-ghost use Rattle.machine.specs.Questions.{pendingOn, overrunsOn, enabledAsked};
+ghost use Rattle.answer.specs.Questions.{pendingOn, overrunsOn, enabledAsked};
 ghost use Rattle.usbhs_c.specs.Calls.{Answers, AnswersAtOnce, AnswersLent, AnswersInto, AnswersOutOf};
 ghost use Rattle.usbhs_c.specs.Calls.{AnswersStart, AnswersCharged, AnswersBeside, AnswersShown, AnswersOpen};
 ghost use Rattle.usbhs_c.specs.Calls.{dirOf, flagOf};

@@ -1,6 +1,6 @@
 // Endpoints from a configuration descriptor, exported.
+use answer::word::word_of;
 use descriptor::preview::Said;
-use machine::word::word_of;
 use state::State;
 ghost use mathlib.Core.Path.{_≡_};
 ghost use Rattle.model.specs.Machine.{begin};

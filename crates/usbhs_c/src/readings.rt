@@ -1,10 +1,10 @@
 // Readings that follow each other, brought by one call: it comes to as many calls of one access each, as long as the answer asks for the next of them.
 use crate::usbhs_begin_interrupt;
 use crate::usbhs_continue;
+use answer::Step;
+use answer::word::word_of;
 use call_readings::Entered;
 use call_readings::Passed;
-use machine::Step;
-use machine::word::word_of;
 use regs::Access;
 use regs::Reg;
 use regs::registers::number;
@@ -17,10 +17,10 @@ ghost use Rattle.regs.specs.declared.Access.the-variants as Access;
 ghost use Rattle.regs.specs.declared.Reg.the-variants as Reg;
 ghost use Rattle.regs.specs.Flags.{TRANSFER};
 ghost use Rattle.regs.specs.Registers.{numberOf};
-ghost use Rattle.machine.specs.declared.Step.{Step};
-ghost use Rattle.machine.specs.declared.Step.the-variants as Step;
-ghost use Rattle.machine.specs.Word.{readWord, Encodes, Worded};
-ghost use Rattle.machine.specs.Parts.{AccessFits};
+ghost use Rattle.answer.specs.declared.Step.{Step};
+ghost use Rattle.answer.specs.declared.Step.the-variants as Step;
+ghost use Rattle.answer.specs.Word.{readWord, Encodes, Worded};
+ghost use Rattle.answer.specs.Parts.{AccessFits};
 ghost use Rattle.call_readings.specs.Readings.{reading, lent, Brings, asksFor};
 ghost use Rattle.usbhs_c.specs.Readings.{AnswersInterrupt, AnswersTransfer};
 

@@ -1,5 +1,5 @@
-use machine::Step;
-use machine::word::word_of;
+use answer::Step;
+use answer::word::word_of;
 ghost use mathlib.Core.Path.{_≡_};
 ghost use mathlib.Core.List.{[], _++_};
 ghost use Rattle.ring.specs.Copies.{over};
@@ -7,7 +7,7 @@ ghost use Rattle.state.specs.Driver.{Driver};
 ghost use Rattle.model.specs.Control.{wordBytes};
 ghost use Rattle.machine.specs.Suspended.{answerOf, lentBy};
 ghost use Rattle.usbhs_c.specs.Setup.{NoSlice};
-ghost use Rattle.machine.specs.Word.{Worded};
+ghost use Rattle.answer.specs.Word.{Worded};
 
 fn sized(_b: &[u8]) {}
 

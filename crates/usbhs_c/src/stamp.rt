@@ -1,4 +1,4 @@
-use machine::Step;
+use answer::Step;
 ghost use mathlib.Core.Path.{_≡_};
 ghost use mathlib.Core.List.{List};
 ghost use Prim.Native.Nat.{ℕ};

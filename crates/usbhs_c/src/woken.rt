@@ -1,4 +1,4 @@
-use machine::woken::how_many;
+use answer::woken::how_many;
 use state::State;
 use state::woken_at;
 ghost use mathlib.Core.Path.{_≡_};

@@ -18,7 +18,7 @@ use Rattle.irq.specs.declared.Next.the-variants as next
 use Rattle.irq.specs.Points as points
 use Rattle.irq.specs.Continuations.{enteredAs}
 use Rattle.interrupt.specs.Stands.{Stands}
-use Rattle.machine.specs.declared.Step.the-variants as step
+use Rattle.answer.specs.declared.Step.the-variants as step
 use Rattle.call_readings.specs.Readings.{lent}
 use Rattle.call_readings.specs.Passing.{Transferred}
 use Rattle.call_readings.specs.PassingLaws.{at-mis, transferred, nak-first, released-first}

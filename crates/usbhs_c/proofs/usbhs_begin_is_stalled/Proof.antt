@@ -5,7 +5,7 @@ use Rattle.usbhs_c.proofs.usbhs_begin_is_stalled.Reads as reads
 use Rattle.usbhs_c.proofs.usbhs_begin_is_stalled.Lts as lts
 use Rattle.calls.proofs.usbhs_bus_begins.begin_is_stalled.Reads as begin-is-stalled-reads
 use Rattle.usbhs_c.proofs.inputs.dir_of.Reads as dir-of-reads
-use Rattle.machine.proofs.word.word_of.Reads as word-of-reads
+use Rattle.answer.proofs.word.word_of.Reads as word-of-reads
 
 dir-of-requires : tie.Need-dir-of-requires
 dir-of-requires c κs = search needs

@@ -1,13 +1,13 @@
 use mathlib.Core.Path.{_∙_, ap}
 use denote.Ref.{now}
-use Rattle.machine.specs.Goes.{Called}
+use Rattle.answer.specs.Goes.{Called}
 use Rattle.usbhs_c.specs.Stamp.{stampBy}
 use borrow.Author.Needs.{needs}
 use Rattle.usbhs_c.proofs.usbhs_open.Statement.{statement}
 use Rattle.usbhs_c.proofs.usbhs_open.Tie as tie
 use Rattle.usbhs_c.proofs.usbhs_open.Reads as reads
 use Rattle.usbhs_c.proofs.usbhs_open.Lts as lts
-use Rattle.machine.proofs.word.word_of.Reads as word-of-reads
+use Rattle.answer.proofs.word.word_of.Reads as word-of-reads
 use Rattle.calls.proofs.in_place.open.Reads as open-reads
 use Rattle.usbhs_c.proofs.stamp.stamp_by.Reads as stamp-by-reads
 

@@ -4,7 +4,7 @@ use Rattle.usbhs_c.proofs.usbhs_poll_data_out.Tie as tie
 use Rattle.usbhs_c.proofs.usbhs_poll_data_out.Reads as reads
 use Rattle.usbhs_c.proofs.usbhs_poll_data_out.Lts as lts
 use Rattle.calls.proofs.control_polls.poll_data_out.Reads as poll-data-out-reads
-use Rattle.machine.proofs.word.word_of.Reads as word-of-reads
+use Rattle.answer.proofs.word.word_of.Reads as word-of-reads
 
 poll-data-out-requires : tie.Need-poll-data-out-requires
 poll-data-out-requires c κs = search needs

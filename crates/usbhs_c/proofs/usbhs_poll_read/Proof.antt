@@ -4,7 +4,7 @@ use Rattle.usbhs_c.proofs.usbhs_poll_read.Tie as tie
 use Rattle.usbhs_c.proofs.usbhs_poll_read.Reads as reads
 use Rattle.usbhs_c.proofs.usbhs_poll_read.Lts as lts
 use Rattle.calls.proofs.requests.poll_read.Reads as poll-read-reads
-use Rattle.machine.proofs.word.word_of.Reads as word-of-reads
+use Rattle.answer.proofs.word.word_of.Reads as word-of-reads
 
 poll-read-requires : tie.Need-poll-read-requires
 poll-read-requires c κs = search needs

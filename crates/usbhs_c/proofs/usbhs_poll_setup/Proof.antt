@@ -2,7 +2,7 @@ use mathlib.Core.List.{[]}
 use Rattle.state.specs.State.{view, saved}
 use Rattle.usbhs_c.specs.SetupLaws.{told-by, setup-no-slice}
 use Rattle.machine.specs.KeepsLaws.{kept-told}
-use Rattle.machine.specs.Goes.{Called}
+use Rattle.answer.specs.Goes.{Called}
 use Rattle.machine.specs.Suspended.{decode, lentBy}
 use denote.Ref.{now}
 use mathlib.Core.Path.{_∙_, ap}

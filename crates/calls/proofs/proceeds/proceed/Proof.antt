@@ -1,6 +1,6 @@
 use denote.Ref.{now}
 use mathlib.Core.Path.{sym, subst, _∙_}
-use Rattle.machine.specs.declared.Step.{Step}
+use Rattle.answer.specs.declared.Step.{Step}
 use Rattle.machine.specs.Suspended.{SavedByAnswer}
 use Rattle.calls.specs.ProceedsLaws.{interrupt-shared, named}
 use borrow.Author.Needs.{needs}

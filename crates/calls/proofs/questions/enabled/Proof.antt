@@ -1,4 +1,4 @@
-use Rattle.machine.specs.Questions.{enabledAsked}
+use Rattle.answer.specs.Questions.{enabledAsked}
 use mathlib.Core.Path.{_∙_}
 use Rattle.calls.specs.AskedLaws.{asked, unasked}
 use borrow.Author.Needs.{needs}

@@ -1,4 +1,4 @@
-use Rattle.machine.specs.Questions.{overrunsOf}
+use Rattle.answer.specs.Questions.{overrunsOf}
 use borrow.Author.Needs.{needs}
 use Rattle.calls.proofs.questions.iso_out_overruns.Statement.{statement}
 use Rattle.calls.proofs.questions.iso_out_overruns.Tie as tie

@@ -1,4 +1,4 @@
-use Rattle.machine.specs.Questions.{overrunsOn}
+use Rattle.answer.specs.Questions.{overrunsOn}
 use mathlib.Core.Path.{_∙_}
 use Rattle.calls.specs.AskedLaws.{asked, unasked}
 use borrow.Author.Needs.{needs}

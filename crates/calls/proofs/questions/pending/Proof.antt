@@ -1,5 +1,5 @@
 use Rattle.ring.specs.Slot.{countOf}
-use Rattle.machine.specs.Questions.{pendingOn}
+use Rattle.answer.specs.Questions.{pendingOn}
 use mathlib.Core.Path.{_∙_}
 use Rattle.calls.specs.AskedLaws.{asked, unasked}
 use borrow.Author.Needs.{needs}

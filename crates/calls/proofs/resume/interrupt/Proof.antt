@@ -1,3 +1,4 @@
+use Rattle.machine.specs.Lifts.{lifts}
 use Rattle.calls.specs.RowOneLaws.{slots-fitted}
 use Rattle.machine.specs.RowsLaws.{back}
 use Rattle.machine.specs.GoesLaws.{proceeds}
@@ -5,8 +6,8 @@ use Rattle.machine.specs.Suspended.{decode}
 use Rattle.machine.specs.Lent.{as-lent}
 use Rattle.state.specs.State.{view, saved}
 use denote.Ref.{now}
-use Rattle.machine.specs.Parts.{stepOf}
-use Rattle.machine.specs.WordLaws.{refused-sound}
+use Rattle.answer.specs.Parts.{stepOf}
+use Rattle.answer.specs.WordLaws.{refused-sound}
 use native.Mathlib.Omega.{arith}
 use mathlib.Core.Path.{refl, sym, _∙_}
 use borrow.Author.Needs.{needs}
@@ -30,7 +31,8 @@ returns : tie.Need-returns
 returns c =
     let fit = sym (c .before .before .before .before .before .before .slots-fit .ensures) ∙ c .before .before .before .before .before .if1 .taken in
     let went = c .before .before .resume-interrupt .ensures in
-    (λ a. slots-fitted a (went .resumes) fit, (as-lent _ _ _ fit, (went .worded, went .resumes .kept)))
+    let lifted = lifts (c .before .before .before .before .before .before .before .before .before .before .pre) (went .resumes) in
+    (λ a. slots-fitted a lifted fit, (as-lent _ _ _ fit, (went .worded, lifted .kept)))
 
 same-length-2 : tie.Need-same-length-2
 same-length-2 c = search needs

@@ -1,7 +1,7 @@
 use Rattle.state.specs.Wakes.{listed}
-use Rattle.machine.specs.Suspended.{decode}
-use Rattle.machine.specs.WordLaws.{said}
-use Rattle.machine.specs.Counted.{front-take}
+use Rattle.interrupt.specs.Suspended.{decode}
+use Rattle.answer.specs.WordLaws.{said}
+use Rattle.answer.specs.Answering.{front-take}
 use Rattle.interrupt.specs.Stands.{halted}
 use Rattle.interrupt.specs.StandsLaws.{pinned-end}
 use mathlib.Core.Path.{_∙_, refl}

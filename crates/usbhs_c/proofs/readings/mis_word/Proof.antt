@@ -1,7 +1,7 @@
 use mathlib.Core.Path.{refl}
 use native.Mathlib.Omega.{arith}
-use Rattle.machine.specs.Word.{wordOf, accessWord}
-use Rattle.machine.specs.WordLaws.{says}
+use Rattle.answer.specs.Word.{wordOf, accessWord}
+use Rattle.answer.specs.WordLaws.{says}
 use Rattle.usbhs_c.proofs.readings.mis_word.Statement.{statement}
 use Rattle.usbhs_c.proofs.readings.mis_word.Tie as tie
 

@@ -1,7 +1,7 @@
 use mathlib.Core.Path.{ap}
-use Rattle.machine.specs.declared.Step.the-variants.{Asks}
-use Rattle.machine.specs.Word.{wordOf, accessWord}
-use Rattle.machine.specs.WordLaws.{says}
+use Rattle.answer.specs.declared.Step.the-variants.{Asks}
+use Rattle.answer.specs.Word.{wordOf, accessWord}
+use Rattle.answer.specs.WordLaws.{says}
 use borrow.Author.Needs.{needs}
 use Rattle.usbhs_c.proofs.readings.nak_word.Statement.{statement}
 use Rattle.usbhs_c.proofs.readings.nak_word.Tie as tie

@@ -8,7 +8,7 @@ use Rattle.usbhs_c.proofs.setup.setup_word.Tie as tie
 use Rattle.usbhs_c.proofs.setup.setup_word.Reads as reads
 use Rattle.usbhs_c.proofs.setup.setup_word.Lts as lts
 use Rattle.usbhs_c.proofs.setup.fill.Reads as fill-reads
-use Rattle.machine.proofs.word.word_of.Reads as word-of-reads
+use Rattle.answer.proofs.word.word_of.Reads as word-of-reads
 
 enum-known-step : tie.Need-enum-known-step
 enum-known-step c = search needs

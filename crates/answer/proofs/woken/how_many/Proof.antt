@@ -1,0 +1,39 @@
+use mathlib.Core.Path.{sym, _∙_}
+use native.Mathlib.Omega.{arith}
+use lib.Seq.{length-take-le}
+use denote.Ref.{now}
+use Rattle.state.specs.State.{view}
+use Rattle.state.specs.Wakes.{listed}
+use Rattle.state.specs.Laws.{view-codes}
+use Rattle.answer.specs.Answering.{length-most}
+use borrow.Author.Needs.{needs}
+use Rattle.answer.proofs.woken.how_many.Statement.{statement}
+use Rattle.answer.proofs.woken.how_many.Tie as tie
+
+woken-count-requires : tie.Need-woken-count-requires
+woken-count-requires c κs = search needs
+
+returns : tie.Need-returns
+unfolding listed
+returns c =
+    let w = view (now (c .before .before .args .s)) .wakes in
+    let n = c .before .woken-count in (
+      n .ensures ∙ sym (length-take-le (w .count) (w .codes) (omega (
+        arith,
+        sym (n .ensures),
+        c .if1 .taken,
+        view-codes (now (c .before .before .args .s)),
+      ))),
+      omega (arith, c .if1 .taken),
+    )
+
+returns-2 : tie.Need-returns-2
+unfolding listed
+returns-2 c =
+    let xs = now (c .before .before .args .s) in
+    let w = view xs .wakes in
+    let n = c .before .woken-count in
+    (sym (length-most (w .count) (w .codes) (omega (arith, sym (n .ensures), c .if1 .left, view-codes xs)) ∙ view-codes xs), omega arith)
+
+pub how-many-spec : {M : Type 1} → statement M
+how-many-spec = tie.close (tie.spec woken-count-requires returns returns-2)
