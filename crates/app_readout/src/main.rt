@@ -1,6 +1,6 @@
 // What the driver asks of the chip, in words.
 use calls::Step;
-use print::answer::show;
+use print::answers::show;
 use print::text::number;
 use print::text::print;
 use regs::Dir;

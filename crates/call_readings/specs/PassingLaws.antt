@@ -20,16 +20,16 @@ use Rattle.state.specs.State.{view, saved}
 use Rattle.model.specs.Statics.{isOn}
 use Rattle.model.specs.Answers.{Answer, Refused}
 use Rattle.model.specs.Machine.{Buf, Machine, ended, go, awaited}
-use Rattle.irq.specs.declared.Point.{Point}
-use Rattle.irq.specs.declared.Point.the-variants as point
-use Rattle.irq.specs.declared.Next.the-variants as next
-use Rattle.irq.specs.Points.{denote, meaning, awaitsAt, fitsAt}
-use Rattle.irq.specs.declared.nak.Nak.{Nak}
-use Rattle.irq.specs.declared.nak.NakNext.{NakNext}
-use Rattle.irq.specs.declared.nak.NakNext.the-variants as nak-to
-use Rattle.irq.specs.Nak as nak
-use Rattle.irq.specs.Continuations.{naksFirst, enteredAs, afterNak, afterFlags, afterBusRst, afterSuspend, afterFifo, afterSt, afterMis}
-use Rattle.irq.specs.Laws.{interrupt-begun, host-transfer, entered-nak, nak-asks, nak-ends}
+use Rattle.interrupt.specs.declared.Point.{Point}
+use Rattle.interrupt.specs.declared.Point.the-variants as point
+use Rattle.interrupt.specs.declared.Next.the-variants as next
+use Rattle.interrupt.specs.Points.{denote, meaning, awaitsAt, fitsAt}
+use Rattle.interrupt.specs.declared.nak.Nak.{Nak}
+use Rattle.interrupt.specs.declared.nak.NakNext.{NakNext}
+use Rattle.interrupt.specs.declared.nak.NakNext.the-variants as nak-to
+use Rattle.interrupt.specs.Nak as nak
+use Rattle.interrupt.specs.Continuations.{naksFirst, enteredAs, afterNak, afterFlags, afterBusRst, afterSuspend, afterFifo, afterSt, afterMis}
+use Rattle.interrupt.specs.Laws.{interrupt-begun, host-transfer, entered-nak, nak-asks, nak-ends}
 use Rattle.interrupt.specs.Stands.{Stands, halted}
 use Rattle.interrupt.specs.StandsLaws.{stops-at, stored-at}
 use Rattle.interrupt.specs.Resumes.{went-on}
@@ -117,10 +117,10 @@ pub begins : (xs ws ys : List ℕ) (b : Buf) (time : List ℕ) → eqb (stopOf (
     → view ws ≡ noneGathered (view xs) → {w : ℕ} → Stands w (Read FrameNo 0) point.Frame ws ys
     → Begins (lent xs b time) (step.Asks (Read FrameNo 0)) (lent ys b time)
 unfolding halted
-begins xs ws ys b time e v h = record {
+begins xs ws ys b time e v {w} h = record {
   did = λ a c. back (interrupt-call (decode (saved xs)) (view xs) a c)
       (ap (λ (z : Step). (answerOf z [] (view ys), machineOf ys c)) (sym (tells h))
-      ∙ (ap (λ (m : Machine Answer Driver). (answerOf (stepOf _) [] (view ys), m)) (machine-lifts ys c canonical)
+      ∙ (ap (λ (m : Machine Answer Driver). (answerOf (stepOf w) [] (view ys), m)) (machine-lifts ys c canonical)
       ∙ (stops-at h refl c (interrupt-begun (view ws, c)) .there ∙ simp (v, e))));
   saves = saved-up (step.Asks (Read FrameNo 0)) xs ys canonical;
   slots = refl;

@@ -15,7 +15,7 @@ use Rattle.regs.specs.declared.Access.{Access}
 use Rattle.state.specs.declared.Saved.{Saved}
 use Rattle.state.specs.Codec.{savedWidths, savedAs, savedOf}
 use Rattle.state.specs.State.{epIn, allocatorIn, globalsIn, requestIn, controlIn, savedIn, view, saved}
-use Rattle.irq.specs.declared.Point.{Point}
+use Rattle.interrupt.specs.declared.Point.{Point}
 use Rattle.interrupt.specs.Stands.{Stands}
 use Rattle.interrupt.specs.Suspended as under
 use Rattle.answer.specs.declared.Step.the-variants as step

@@ -23,16 +23,16 @@ use Rattle.model.specs.Steps.{moving, Steps}
 use Rattle.model.specs.StepsInterrupt.{control, of-looks, of-nak, of-settle, of-complete, of-sof-walk, of-sof, of-late-walk}
 use Rattle.model.specs.StepsInterrupt.{of-check-walk, of-dispatch, of-moved-on, of-transfer, of-setup, of-interrupt}
 use Rattle.model_ops.specs.Rings.{St}
-use Rattle.irq.specs.declared.nak.Nak.{Nak}
-use Rattle.irq.specs.declared.nak.Nak.the-variants as nak-point
-use Rattle.irq.specs.declared.settle.Settle.{Settle}
-use Rattle.irq.specs.declared.settle.Settle.the-variants as settle-point
-use Rattle.irq.specs.declared.toggled.Toggled.{Toggled}
-use Rattle.irq.specs.declared.toggled.Toggled.the-variants as toggled-point
-use Rattle.irq.specs.Wait.{looked}
-use Rattle.irq.specs.Nak as nak
-use Rattle.irq.specs.Settle as settle
-use Rattle.irq.specs.Toggled as toggled
+use Rattle.interrupt.specs.declared.nak.Nak.{Nak}
+use Rattle.interrupt.specs.declared.nak.Nak.the-variants as nak-point
+use Rattle.interrupt.specs.declared.settle.Settle.{Settle}
+use Rattle.interrupt.specs.declared.settle.Settle.the-variants as settle-point
+use Rattle.interrupt.specs.declared.toggled.Toggled.{Toggled}
+use Rattle.interrupt.specs.declared.toggled.Toggled.the-variants as toggled-point
+use Rattle.interrupt.specs.Wait.{looked}
+use Rattle.interrupt.specs.Nak as nak
+use Rattle.interrupt.specs.Settle as settle
+use Rattle.interrupt.specs.Toggled as toggled
 use Rattle.isochronous.specs.declared.complete.Complete.{Complete}
 use Rattle.isochronous.specs.declared.complete.Complete.the-variants as complete-point
 use Rattle.isochronous.specs.declared.sof.Sof.{Sof}
@@ -44,14 +44,14 @@ use Rattle.isochronous.specs.Late as late
 use Rattle.isochronous.specs.declared.out.Check.{Check}
 use Rattle.isochronous.specs.declared.out.Check.the-variants as check-point
 use Rattle.isochronous.specs.Points as check
-use Rattle.irq.specs.declared.Point.{Point}
-use Rattle.irq.specs.declared.Point.the-variants as point
-use Rattle.irq.specs.Continuations.{resultless, afterSetupReleased, afterSetupTx, afterSetupRx, afterTransfer, finish, thenCheck}
-use Rattle.irq.specs.Continuations.{afterMovedWrote, afterMovedRead, afterCheck, afterDispatch, flipDone, passed}
-use Rattle.irq.specs.Continuations.{afterFlip, afterToggled, afterLate, afterSof, serving, afterFrameNo, afterSettle}
-use Rattle.irq.specs.Continuations.{afterRelease, afterNak, afterLen, afterSt, afterMis, afterHost, afterFifo}
-use Rattle.irq.specs.Continuations.{afterSuspend, afterBusRst, afterFlags, afterFrame}
-use Rattle.irq.specs.Points.{denote}
+use Rattle.interrupt.specs.declared.Point.{Point}
+use Rattle.interrupt.specs.declared.Point.the-variants as point
+use Rattle.interrupt.specs.Continuations.{resultless, afterSetupReleased, afterSetupTx, afterSetupRx, afterTransfer, finish, thenCheck}
+use Rattle.interrupt.specs.Continuations.{afterMovedWrote, afterMovedRead, afterCheck, afterDispatch, flipDone, passed}
+use Rattle.interrupt.specs.Continuations.{afterFlip, afterToggled, afterLate, afterSof, serving, afterFrameNo, afterSettle}
+use Rattle.interrupt.specs.Continuations.{afterRelease, afterNak, afterLen, afterSt, afterMis, afterHost, afterFifo}
+use Rattle.interrupt.specs.Continuations.{afterSuspend, afterBusRst, afterFlags, afterFrame}
+use Rattle.interrupt.specs.Points.{denote}
 use Rattle.calls.specs.Spares.{Sparing}
 use Rattle.calls.specs.SparesLaws.{runs}
 

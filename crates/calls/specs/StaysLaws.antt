@@ -18,9 +18,9 @@ use Rattle.model.specs.Machine.{Buf, ended, over, go}
 use Rattle.model.specs.Script.{run}
 use Rattle.model_ops.specs.Rings.{St}
 use Rattle.model_ops.specs.Concrete.{concrete}
-use Rattle.irq.specs.declared.Point.{Point}
-use Rattle.irq.specs.Points as handler
-use Rattle.irq.specs.Codec as handlerCodec
+use Rattle.interrupt.specs.declared.Point.{Point}
+use Rattle.interrupt.specs.Points as handler
+use Rattle.interrupt.specs.Codec as handlerCodec
 use Rattle.machine.specs.declared.Suspended.{Suspended}
 use Rattle.machine.specs.declared.Suspended.the-variants as under
 use Rattle.machine.specs.Suspended.{decode, finish, machineAt, drive, resumed, haltsAs, slotsFit}

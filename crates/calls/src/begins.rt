@@ -74,7 +74,7 @@ pub fn begin_interrupt(s: &mut State) -> Step
     let n = stop(s, 2);
     if n == 0 {
         state::clear_wakes(s);
-        return suspend_or_end_interrupt(s, irq::on_interrupt());
+        return suspend_or_end_interrupt(s, interrupt::on_interrupt());
     }
     Step::Refused(n)
 }

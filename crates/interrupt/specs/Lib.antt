@@ -1,3 +1,14 @@
+pub mod Continuations
+pub mod Points
+pub mod Laws
+pub mod Wait
+pub mod WaitLaws
+pub mod Nak
+pub mod Toggled
+pub mod Settle
+pub mod TransferLaws
+pub mod Codec
+pub mod CodecLaws
 pub mod Suspended
 pub mod SuspendedLaws
 pub mod Stands

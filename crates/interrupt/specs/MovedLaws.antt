@@ -10,7 +10,7 @@ use Rattle.model.specs.Script.{run, when}
 use Rattle.model.specs.Handler.{ep0MovedOn}
 use Rattle.model_ops.specs.Rings.{St}
 use Rattle.model_ops.specs.Concrete.{concrete}
-use Rattle.irq.specs.Continuations.{finish, afterCheck}
+use Rattle.interrupt.specs.Continuations.{finish, afterCheck}
 
 -- of EP0
 pub moved-as : (setup : Bool) (x : Transfer) (t : St) {e : ℕ} {k known : Token}

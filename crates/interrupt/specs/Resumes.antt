@@ -8,8 +8,8 @@ use Rattle.state.specs.declared.Saved.{Saved}
 use Rattle.state.specs.Driver.{Driver}
 use Rattle.state.specs.State.{view, saved}
 use Rattle.model.specs.Machine.{Buf}
-use Rattle.irq.specs.declared.Point.{Point}
-use Rattle.irq.specs.Points.{denote, fitsAt}
+use Rattle.interrupt.specs.declared.Point.{Point}
+use Rattle.interrupt.specs.Points.{denote, fitsAt}
 use Rattle.interrupt.specs.Stands.{halted, Stops, Pins, ResumesByWord}
 use Rattle.interrupt.specs.Suspended as under
 use Rattle.interrupt.specs.Suspended.{decode, machineOf, resumed, answerOf}

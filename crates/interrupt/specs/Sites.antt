@@ -8,11 +8,11 @@ use Rattle.state.specs.declared.Saved.{Saved}
 use Rattle.state.specs.State.{saved}
 use Rattle.model.specs.declared.Transfer.{Transfer}
 use Rattle.model.specs.Statics.{isOn}
-use Rattle.irq.specs.declared.Entry.{Entry}
-use Rattle.irq.specs.declared.Point.{Point}
-use Rattle.irq.specs.declared.Point.the-variants as point
-use Rattle.irq.specs.Codec as codec
-use Rattle.irq.specs.Codec.{byNumber}
+use Rattle.interrupt.specs.declared.Entry.{Entry}
+use Rattle.interrupt.specs.declared.Point.{Point}
+use Rattle.interrupt.specs.declared.Point.the-variants as point
+use Rattle.interrupt.specs.Codec as codec
+use Rattle.interrupt.specs.Codec.{byNumber}
 use Rattle.interrupt.specs.Stands.{AtSite}
 use Rattle.interrupt.specs.Suspended as under
 use Rattle.interrupt.specs.Suspended.{decode}

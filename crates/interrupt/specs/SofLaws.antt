@@ -12,7 +12,7 @@ use Rattle.model.specs.IsoOut.{isoOutCheck}
 use Rattle.model.specs.Handler.{ep0MovedOn}
 use Rattle.model_ops.specs.Rings.{St}
 use Rattle.model_ops.specs.Concrete.{concrete}
-use Rattle.irq.specs.Continuations.{finish, afterCheck, afterDispatch}
+use Rattle.interrupt.specs.Continuations.{finish, afterCheck, afterDispatch}
 
 over : (k : Token) (at-ep0 : Bool) (p : Script true Unit) (t : St) → sofToken k ≡ true
     → ends tt t ≡ run concrete (when (not (sofToken k)) p >> when at-ep0 (ep0MovedOn k)) t

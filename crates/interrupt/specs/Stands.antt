@@ -10,8 +10,8 @@ use Rattle.model.specs.Script.{run}
 use Rattle.model.specs.Machine.{Buf}
 use Rattle.model_ops.specs.Rings.{St}
 use Rattle.model_ops.specs.Concrete.{concrete}
-use Rattle.irq.specs.declared.Point.{Point}
-use Rattle.irq.specs.Points.{denote}
+use Rattle.interrupt.specs.declared.Point.{Point}
+use Rattle.interrupt.specs.Points.{denote}
 use Rattle.interrupt.specs.Suspended as under
 use Rattle.interrupt.specs.Suspended.{finish, haltsAs, machineOf, answerOf, SavedByAnswer, Stored}
 use Rattle.interrupt.specs.Suspended.{StandsAt, Resumes}

@@ -17,9 +17,9 @@ use Rattle.model.specs.Calls.{calls}
 use Rattle.model.specs.Machine.{Buf, Way, idle, busy, Machine, Ans, handed, continued}
 use Rattle.model_ops.specs.Rings.{St}
 use Rattle.model_ops.specs.Concrete.{concrete}
-use Rattle.irq.specs.declared.Point.{Point}
-use Rattle.irq.specs.Points as handler
-use Rattle.irq.specs.Codec as handlerCodec
+use Rattle.interrupt.specs.declared.Point.{Point}
+use Rattle.interrupt.specs.Points as handler
+use Rattle.interrupt.specs.Codec as handlerCodec
 use Rattle.answer.specs.declared.Step.{Step}
 use Rattle.answer.specs.declared.Step.the-variants as step
 use Rattle.answer.specs.Goes.{Called}

@@ -10,26 +10,26 @@ use Rattle.model.specs.Script.{run}
 use Rattle.model.specs.Tree.{bindOut}
 use Rattle.model_ops.specs.Concrete.{concrete}
 use Rattle.state.specs.Driver.{Driver}
-use Rattle.irq.specs.declared.nak.Nak.{Nak}
-use Rattle.irq.specs.declared.nak.Nak.the-variants as point-of-nak
-use Rattle.irq.specs.Nak as nak
-use Rattle.irq.specs.declared.settle.Settle.{Settle}
-use Rattle.irq.specs.declared.settle.Settle.the-variants as point-of-settle
-use Rattle.irq.specs.Settle as settle
-use Rattle.irq.specs.declared.toggled.Toggled.{Toggled}
-use Rattle.irq.specs.declared.toggled.Toggled.the-variants as point-of-toggled
-use Rattle.irq.specs.Toggled as toggled
+use Rattle.interrupt.specs.declared.nak.Nak.{Nak}
+use Rattle.interrupt.specs.declared.nak.Nak.the-variants as point-of-nak
+use Rattle.interrupt.specs.Nak as nak
+use Rattle.interrupt.specs.declared.settle.Settle.{Settle}
+use Rattle.interrupt.specs.declared.settle.Settle.the-variants as point-of-settle
+use Rattle.interrupt.specs.Settle as settle
+use Rattle.interrupt.specs.declared.toggled.Toggled.{Toggled}
+use Rattle.interrupt.specs.declared.toggled.Toggled.the-variants as point-of-toggled
+use Rattle.interrupt.specs.Toggled as toggled
 use Rattle.isochronous.specs.declared.sof.Sof.{Sof}
 use Rattle.isochronous.specs.declared.sof.Sof.the-variants as point-of-sof
 use Rattle.isochronous.specs.Sof as sof
 use Rattle.isochronous.specs.declared.out.Check.{Check}
 use Rattle.isochronous.specs.declared.out.Check.the-variants as point-of-check
 use Rattle.isochronous.specs.Points as check
-use Rattle.irq.specs.declared.Point.{Point}
-use Rattle.irq.specs.declared.Point.the-variants as point
-use Rattle.irq.specs.declared.Next.{Next}
-use Rattle.irq.specs.declared.Next.the-variants as next
-use Rattle.irq.specs.Points as handler
+use Rattle.interrupt.specs.declared.Point.{Point}
+use Rattle.interrupt.specs.declared.Point.the-variants as point
+use Rattle.interrupt.specs.declared.Next.{Next}
+use Rattle.interrupt.specs.declared.Next.the-variants as next
+use Rattle.interrupt.specs.Points as handler
 use Rattle.state.specs.declared.Saved.{Saved}
 use Rattle.state.specs.State.{view, saved}
 use Rattle.model.specs.Tree.{Out}
@@ -37,8 +37,8 @@ use Rattle.model.specs.Answers.{Answer, Refused}
 use Rattle.model.specs.Machine as ways
 use Rattle.model.specs.Machine.{Awaits, Machine, ended, continued}
 use Rattle.model_ops.specs.Rings.{St}
-use Rattle.irq.specs.Codec as handlerCodec
-use Rattle.irq.specs.CodecLaws as handlerCodec-laws
+use Rattle.interrupt.specs.Codec as handlerCodec
+use Rattle.interrupt.specs.CodecLaws as handlerCodec-laws
 use Rattle.answer.specs.declared.Step.{Step}
 use Rattle.answer.specs.declared.Step.the-variants as step
 use Rattle.answer.specs.Goes.{Called}

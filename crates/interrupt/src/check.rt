@@ -1,10 +1,10 @@
 // Isochronous OUTs are looked at (mod.rs 792-797), then EP0's hidden stage (mod.rs 798-800, 822-852).
+use crate::Entry;
 use crate::setup::after_transfer;
 use crate::stands::stand_check;
 use crate::stands::stand_moved_read;
 use crate::stands::stand_moved_wrote;
-use irq::Entry;
-use irq::wait::byte;
+use crate::wait::byte;
 use isochronous::out::Check;
 use isochronous::out::CheckNext;
 use model::Transfer;
@@ -27,9 +27,9 @@ ghost use Rattle.model.specs.Script.{run};
 ghost use Rattle.model.specs.Handler.{movedOn};
 ghost use Rattle.isochronous.specs.Points as checks;
 ghost use Rattle.model_ops.specs.Concrete.{concrete};
-ghost use Rattle.irq.specs.Continuations.{finish, afterCheck, afterDispatch};
-ghost use Rattle.irq.specs.Points.{denote};
-ghost use Rattle.irq.specs.declared.Point.the-variants as Point;
+ghost use Rattle.interrupt.specs.Continuations.{finish, afterCheck, afterDispatch};
+ghost use Rattle.interrupt.specs.Points.{denote};
+ghost use Rattle.interrupt.specs.declared.Point.the-variants as Point;
 ghost use Rattle.interrupt.specs.Stands.{RunsOn, RunsOnWith, RunsOnFrom};
 
 pub fn after_moved_wrote(s: &mut State, d: Dir, setup: bool) -> u64

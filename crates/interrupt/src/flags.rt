@@ -6,10 +6,10 @@ use crate::stands::stand_flags;
 use crate::stands::stand_host;
 use crate::stands::stand_mis;
 use crate::stands::stand_suspend;
+use crate::wait::byte;
+use crate::wait::short;
 use frame::Frame;
 use frame::microframe_index;
-use irq::wait::byte;
-use irq::wait::short;
 use model_ops::records::wake_bus;
 use regs::Access;
 use regs::Reg;
@@ -24,8 +24,8 @@ ghost use mathlib.Core.Bool.{true, false};
 ghost use Rattle.regs.specs.Registers.{fitsIn};
 ghost use Rattle.model.specs.Script.{run};
 ghost use Rattle.model_ops.specs.Concrete.{concrete};
-ghost use Rattle.irq.specs.Continuations.{resultless, afterFrame, afterFlags, afterBusRst, afterSuspend, afterFifo, afterHost};
-ghost use Rattle.irq.specs.declared.Point.the-variants as Point;
+ghost use Rattle.interrupt.specs.Continuations.{resultless, afterFrame, afterFlags, afterBusRst, afterSuspend, afterFifo, afterHost};
+ghost use Rattle.interrupt.specs.declared.Point.the-variants as Point;
 ghost use Rattle.interrupt.specs.Stands.{RunsOn, RunsOnFrom};
 
 pub fn after_host(s: &mut State, f: u8) -> u64

@@ -1,7 +1,7 @@
 // The frame is read, and what was on the bus is its own (mod.rs 724-728).
+use crate::Entry;
 use crate::serving::serve;
-use irq::Entry;
-use irq::wait::short;
+use crate::wait::short;
 use model::Transfer;
 use regs::status;
 use state::State;
@@ -10,8 +10,8 @@ ghost use mathlib.Core.Path.{_≡_};
 ghost use mathlib.Core.Bool.{true};
 ghost use Rattle.regs.specs.Registers.{fitsIn};
 ghost use Rattle.model.specs.Handler as script;
-ghost use Rattle.irq.specs.Points.{denote};
-ghost use Rattle.irq.specs.declared.Point.the-variants as Point;
+ghost use Rattle.interrupt.specs.Points.{denote};
+ghost use Rattle.interrupt.specs.declared.Point.the-variants as Point;
 ghost use Rattle.interrupt.specs.Stands.{RunsOnWith};
 
 // With this microframe's SOF handled, an isochronous IN's entry is its own (mod.rs 724-728).

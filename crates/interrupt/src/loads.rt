@@ -1,4 +1,16 @@
 // What a point of the interrupt has: each part is loaded alone from the saved record's bytes. Any bytes are a point.
+use crate::Entry;
+use crate::codec::check_of;
+use crate::codec::complete_of;
+use crate::codec::dir_of;
+use crate::codec::late_of;
+use crate::codec::nak_of;
+use crate::codec::settle_of;
+use crate::codec::sof_of;
+use crate::codec::toggled_of;
+use crate::nak::Nak;
+use crate::settle::Settle;
+use crate::toggled::Toggled;
 use answer::loads::busy_byte;
 use answer::loads::ep_byte;
 use answer::loads::eps_word;
@@ -11,18 +23,6 @@ use answer::loads::n_word;
 use answer::loads::now_byte;
 use answer::loads::st_byte;
 use answer::loads::sub_byte;
-use irq::Entry;
-use irq::codec::check_of;
-use irq::codec::complete_of;
-use irq::codec::dir_of;
-use irq::codec::late_of;
-use irq::codec::nak_of;
-use irq::codec::settle_of;
-use irq::codec::sof_of;
-use irq::codec::toggled_of;
-use irq::nak::Nak;
-use irq::settle::Settle;
-use irq::toggled::Toggled;
 use isochronous::complete::Complete;
 use isochronous::late::Late;
 use isochronous::out::Check;
@@ -34,7 +34,7 @@ use state::State;
 ghost use mathlib.Core.Path.{_≡_};
 ghost use Rattle.state.specs.State.{saved};
 ghost use Rattle.model.specs.Statics.{isOn};
-ghost use Rattle.irq.specs.Codec.{dirOf, transferOf, entryOf, nakOf, settleOf, toggledOf, completeOf, sofOf, lateOf, checkOf};
+ghost use Rattle.interrupt.specs.Codec.{dirOf, transferOf, entryOf, nakOf, settleOf, toggledOf, completeOf, sofOf, lateOf, checkOf};
 
 // Is the setup flag set?
 pub fn setup_at(s: &State) -> bool

@@ -1,9 +1,9 @@
 // The microframe's SOF, then a late entry's completions (mod.rs 729-747).
+use crate::Entry;
 use crate::check::after_dispatch;
 use crate::stands::stand_late;
 use crate::stands::stand_sof;
 use crate::tokens::dispatch;
-use irq::Entry;
 use isochronous::late;
 use isochronous::late::Late;
 use isochronous::late::LateNext;
@@ -21,9 +21,9 @@ ghost use Rattle.model.specs.Script.{run};
 ghost use Rattle.isochronous.specs.Sof as sofs;
 ghost use Rattle.isochronous.specs.Late as lates;
 ghost use Rattle.model_ops.specs.Concrete.{concrete};
-ghost use Rattle.irq.specs.Continuations.{finish, sofDue, afterLate, afterSof, serving};
-ghost use Rattle.irq.specs.Points.{denote};
-ghost use Rattle.irq.specs.declared.Point.the-variants as Point;
+ghost use Rattle.interrupt.specs.Continuations.{finish, sofDue, afterLate, afterSof, serving};
+ghost use Rattle.interrupt.specs.Points.{denote};
+ghost use Rattle.interrupt.specs.declared.Point.the-variants as Point;
 ghost use Rattle.interrupt.specs.Stands.{RunsOnWith, RunsOnFromWith};
 
 // A transaction that is still on the bus is left to its own entry (mod.rs 748).

@@ -25,8 +25,8 @@ ghost use Rattle.model.specs.Script.{run};
 ghost use Rattle.model.specs.Statics.{withReady, withArmed, withSetup};
 ghost use Rattle.model_ops.specs.Concrete.{concrete};
 ghost use Rattle.model_ops.specs.Records.{plainOf, merged, mergedGlobals};
-ghost use Rattle.irq.specs.Continuations.{resultless, nakWord, afterSetupReleased, afterSetupTx, afterTransfer};
-ghost use Rattle.irq.specs.declared.Point.the-variants as Point;
+ghost use Rattle.interrupt.specs.Continuations.{resultless, nakWord, afterSetupReleased, afterSetupTx, afterTransfer};
+ghost use Rattle.interrupt.specs.declared.Point.the-variants as Point;
 ghost use Rattle.interrupt.specs.Stands.{RunsOn, RunsOnFrom, RunsOnFromWith};
 
 // NAK, DATA0.

@@ -1,4 +1,5 @@
 // What a token completes (mod.rs 748-790), one access at a time. Every function is total: any number is safe.
+use crate::Entry;
 use crate::check::after_dispatch;
 use crate::setup::after_transfer;
 use crate::stands::stand_completing;
@@ -6,12 +7,11 @@ use crate::stands::stand_flip;
 use crate::stands::stand_flipped;
 use crate::stands::stand_sof_arm;
 use crate::stands::stand_toggled;
+use crate::toggled;
+use crate::toggled::Toggled;
+use crate::toggled::ToggledNext;
+use crate::wait::byte;
 use bits::mask_has;
-use irq::Entry;
-use irq::toggled;
-use irq::toggled::Toggled;
-use irq::toggled::ToggledNext;
-use irq::wait::byte;
 use isochronous::complete;
 use isochronous::complete::Complete;
 use isochronous::complete::CompleteNext;
@@ -41,13 +41,13 @@ ghost use Rattle.state.specs.State.{view, saved};
 ghost use Rattle.model.specs.Tree.{ends, bindOut};
 ghost use Rattle.model.specs.Script.{run};
 ghost use Rattle.model.specs.Handler as script;
-ghost use Rattle.irq.specs.Toggled as toggles;
+ghost use Rattle.interrupt.specs.Toggled as toggles;
 ghost use Rattle.isochronous.specs.Complete as completes;
 ghost use Rattle.isochronous.specs.Sof as sofs;
 ghost use Rattle.model_ops.specs.Concrete.{concrete, go};
-ghost use Rattle.irq.specs.Continuations.{afterArm, flipDone, passed, afterToggled};
-ghost use Rattle.irq.specs.Points.{denote};
-ghost use Rattle.irq.specs.declared.Point.the-variants as Point;
+ghost use Rattle.interrupt.specs.Continuations.{afterArm, flipDone, passed, afterToggled};
+ghost use Rattle.interrupt.specs.Points.{denote};
+ghost use Rattle.interrupt.specs.declared.Point.the-variants as Point;
 ghost use Rattle.interrupt.specs.Stands.{RunsOn, RunsOnWith, RunsOnFromWith};
 
 // A packet arrived (mod.rs 767-770).

@@ -1,105 +1,18 @@
 -- The interrupt's points: as in Fits.antt, with the points of its parts
 use mathlib.Core.Bool.{true, false, not}
-use mathlib.Core.Path.{_≡_, refl, ap, subst, _∙_}
+use mathlib.Core.Path.{_≡_, ap, _∙_}
 use Prim.Native.Nat.{ℕ}
-use Rattle.regs.specs.declared.Access.{Access}
-use Rattle.model.specs.Calls.{calls}
-use Rattle.model.specs.Machine.{Buf, awaited, over}
+use Rattle.model.specs.Machine.{Buf}
 use Rattle.model.specs.Script.{run}
 use Rattle.model.specs.Tree.{bindOut}
 use Rattle.model_ops.specs.Concrete.{concrete}
 use Rattle.state.specs.Driver.{Driver}
-use Rattle.irq.specs.declared.nak.Nak.{Nak}
-use Rattle.irq.specs.declared.nak.Nak.the-variants as point-of-nak
-use Rattle.irq.specs.Nak as nak
-use Rattle.irq.specs.declared.settle.Settle.{Settle}
-use Rattle.irq.specs.declared.settle.Settle.the-variants as point-of-settle
-use Rattle.irq.specs.Settle as settle
-use Rattle.irq.specs.declared.toggled.Toggled.{Toggled}
-use Rattle.irq.specs.declared.toggled.Toggled.the-variants as point-of-toggled
-use Rattle.irq.specs.Toggled as toggled
-use Rattle.isochronous.specs.declared.sof.Sof.{Sof}
-use Rattle.isochronous.specs.declared.sof.Sof.the-variants as point-of-sof
-use Rattle.isochronous.specs.Sof as sof
-use Rattle.isochronous.specs.declared.out.Check.{Check}
-use Rattle.isochronous.specs.declared.out.Check.the-variants as point-of-check
-use Rattle.isochronous.specs.Points as check
-use Rattle.irq.specs.declared.Point.{Point}
-use Rattle.irq.specs.declared.Point.the-variants as point
-use Rattle.irq.specs.declared.Next.{Next}
-use Rattle.irq.specs.declared.Next.the-variants as next
-use Rattle.irq.specs.Points as handler
+use Rattle.interrupt.specs.declared.Point.{Point}
+use Rattle.interrupt.specs.Points as handler
+pub use Rattle.interrupt.specs.SuspendedLaws.{linked-interrupt, over-fits-interrupt}
 use Rattle.machine.specs.declared.Suspended.the-variants as under
 use Rattle.machine.specs.Suspended.{finish, resumed, haltsAs}
 use Rattle.machine.specs.GoesLaws.{stayed, gone, stays}
-
-pub linked-interrupt : (n : Next) (q : Access) (p : Point) → n ≡ next.Asks q p → handler.Linked n → awaited q ≡ handler.awaitsAt p
-linked-interrupt n q p e l = subst handler.Linked e l
-
-over-fits-nak : (p : Nak) (v : ℕ) → over calls (nak.awaitsAt p) v ≡ not (nak.fitsAt p v)
-unfolding nak.fitsAt
-over-fits-nak (point-of-nak.Word d) v = refl
-over-fits-nak point-of-nak.Wrote v = refl
-
-over-fits-settle : (p : Settle) (v : ℕ) → over calls (settle.awaitsAt p) v ≡ not (settle.fitsAt p v)
-unfolding settle.fitsAt nak.fitsAt
-over-fits-settle (point-of-settle.IsoLook n) v = refl
-over-fits-settle point-of-settle.IsoSt v = refl
-over-fits-settle (point-of-settle.IsoLen now) v = refl
-over-fits-settle (point-of-settle.BulkLook n) v = refl
-over-fits-settle point-of-settle.BulkLen v = refl
-over-fits-settle point-of-settle.Mis v = refl
-over-fits-settle point-of-settle.Flags v = refl
-over-fits-settle point-of-settle.St v = refl
-over-fits-settle (point-of-settle.Nak st p) v = over-fits-nak p v
-
-over-fits-toggled : (p : Toggled) (v : ℕ) → over calls (toggled.awaitsAt p) v ≡ not (toggled.fitsAt p v)
-unfolding toggled.fitsAt
-over-fits-toggled (point-of-toggled.Look n) v = refl
-over-fits-toggled point-of-toggled.Word v = refl
-over-fits-toggled point-of-toggled.AckRead v = refl
-over-fits-toggled point-of-toggled.Acked v = refl
-
-over-fits-sof : (p : Sof) (v : ℕ) → over calls (sof.awaitsAt p) v ≡ not (sof.fitsAt p v)
-unfolding sof.fitsAt
-over-fits-sof (point-of-sof.Mis e m) v = refl
-over-fits-sof (point-of-sof.St e m) v = refl
-over-fits-sof (point-of-sof.Completing m p) v = refl
-over-fits-sof point-of-sof.Callback v = refl
-
-over-fits-check : (p : Check) (v : ℕ) → over calls (check.awaitsAt p) v ≡ not (check.fitsAt p v)
-unfolding check.fitsAt
-over-fits-check (point-of-check.St e m) v = refl
-over-fits-check (point-of-check.Armed e m) v = refl
-
-pub over-fits-interrupt : (p : Point) (v : ℕ) → over calls (handler.awaitsAt p) v ≡ not (handler.fitsAt p v)
-unfolding handler.fitsAt
-over-fits-interrupt point.Frame v = refl
-over-fits-interrupt point.Flags v = refl
-over-fits-interrupt (point.BusRst f) v = refl
-over-fits-interrupt (point.Suspend f) v = refl
-over-fits-interrupt (point.Fifo f) v = refl
-over-fits-interrupt (point.Host f) v = refl
-over-fits-interrupt (point.Mis setup) v = refl
-over-fits-interrupt (point.St setup busy) v = refl
-over-fits-interrupt (point.Len setup busy st) v = refl
-over-fits-interrupt (point.Nak setup x p) v = over-fits-nak p v
-over-fits-interrupt (point.Released setup x) v = refl
-over-fits-interrupt (point.Settle setup x p) v = over-fits-settle p v
-over-fits-interrupt (point.FrameNo setup x iso) v = refl
-over-fits-interrupt (point.Sof setup x iso frame p) v = over-fits-sof p v
-over-fits-interrupt (point.Late setup x iso frame p) v = refl
-over-fits-interrupt (point.SofArm setup x iso frame p) v = over-fits-sof p v
-over-fits-interrupt (point.Flip d setup x iso) v = refl
-over-fits-interrupt (point.Flipped d setup x iso) v = refl
-over-fits-interrupt (point.Toggled d setup x iso p) v = over-fits-toggled p v
-over-fits-interrupt (point.Completing setup x iso p) v = refl
-over-fits-interrupt (point.Check setup x iso p) v = over-fits-check p v
-over-fits-interrupt (point.MovedRead d setup) v = refl
-over-fits-interrupt (point.MovedWrote d setup) v = refl
-over-fits-interrupt point.SetupRx v = refl
-over-fits-interrupt point.SetupTx v = refl
-over-fits-interrupt point.SetupReleased v = refl
 
 -- ---- a continue at them
 

@@ -8,7 +8,7 @@ use Rattle.state.specs.State.{view, saved}
 use Rattle.state.specs.Fresh as fresh
 use Rattle.model.specs.Answers.{Answer}
 use Rattle.model.specs.Machine.{Buf, Machine, Ans}
-use Rattle.irq.specs.Codec as handlerCodec
+use Rattle.interrupt.specs.Codec as handlerCodec
 use Rattle.answer.specs.declared.Step.{Step}
 use Rattle.answer.specs.declared.Step.the-variants as step
 use Rattle.answer.specs.Goes.{Called}

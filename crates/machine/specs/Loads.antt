@@ -5,7 +5,7 @@ use Rattle.driver.specs.declared.Point.the-variants as driver
 use Rattle.isochronous.specs.declared.complete.Complete.the-variants as complete
 use Rattle.isochronous.specs.declared.advance.Advance.{Advance}
 use Rattle.isochronous.specs.declared.advance.Advance.the-variants as advance
-use Rattle.irq.specs.Codec.{dirOf}
+use Rattle.interrupt.specs.Codec.{dirOf}
 use Rattle.machine.specs.declared.points_loads.ListEndpoint.{ListEndpoint}
 use Rattle.machine.specs.declared.points_loads.Completion.{Completion}
 

@@ -32,8 +32,8 @@ use Rattle.endpoint.specs.Points as endpoint
 use Rattle.endpoint.specs.Codec as endpointCodec
 use Rattle.isochronous.specs.Advance as advance
 use Rattle.isochronous.specs.Codec as advanceCodec
-use Rattle.irq.specs.Points as handler
-use Rattle.irq.specs.Codec as handlerCodec
+use Rattle.interrupt.specs.Points as handler
+use Rattle.interrupt.specs.Codec as handlerCodec
 use Rattle.machine.specs.declared.Suspended.{Suspended}
 use Rattle.machine.specs.declared.Suspended.the-variants as under
 use Rattle.answer.specs.declared.Step.{Step}

@@ -30,9 +30,9 @@ use Rattle.endpoint.specs.CodecLaws as endpointCodec-laws
 use Rattle.isochronous.specs.Advance as advance
 use Rattle.isochronous.specs.Codec as advanceCodec
 use Rattle.isochronous.specs.CodecLaws as advanceCodec-laws
-use Rattle.irq.specs.Points as handler
-use Rattle.irq.specs.Codec as handlerCodec
-use Rattle.irq.specs.CodecLaws as handlerCodec-laws
+use Rattle.interrupt.specs.Points as handler
+use Rattle.interrupt.specs.Codec as handlerCodec
+use Rattle.interrupt.specs.CodecLaws as handlerCodec-laws
 use Rattle.machine.specs.declared.Suspended.{Suspended}
 use Rattle.machine.specs.declared.Suspended.the-variants as under
 use Rattle.answer.specs.declared.Step.{Step}

@@ -12,8 +12,8 @@ use Rattle.bus.specs.Codec as busCodec
 use Rattle.control.specs.Codec as controlCodec
 use Rattle.endpoint.specs.Codec as endpointCodec
 use Rattle.isochronous.specs.Codec as advanceCodec
-use Rattle.irq.specs.declared.Point as handlerPoint
-use Rattle.irq.specs.Codec as handlerCodec
+use Rattle.interrupt.specs.declared.Point as handlerPoint
+use Rattle.interrupt.specs.Codec as handlerCodec
 use Rattle.machine.specs.declared.Suspended.{Suspended}
 use Rattle.machine.specs.declared.Suspended.the-variants as under
 use Rattle.machine.specs.Suspended.{withTag, encode, decode}

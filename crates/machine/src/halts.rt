@@ -20,7 +20,7 @@ ghost use Rattle.bus.specs.Points as bus;
 ghost use Rattle.control.specs.Points as control;
 ghost use Rattle.endpoint.specs.Points as endpoint;
 ghost use Rattle.isochronous.specs.Advance as advance;
-ghost use Rattle.irq.specs.Points as handler;
+ghost use Rattle.interrupt.specs.Points as handler;
 ghost use Rattle.machine.specs.Suspended.{decode, finish, machineAt, machineOf, haltsAs, halts};
 ghost use Rattle.machine.specs.Suspended.{answerOf, SavedByAnswer, Stored, KeepsSaved};
 ghost use Rattle.machine.specs.Stands.{Stands, halted, Leads, Ends};
@@ -114,14 +114,14 @@ pub fn suspend_or_end_advance(s: &mut State, n: AdvanceNext) -> Step
 }
 
 // Of an interrupt.
-pub fn suspend_or_end_interrupt(s: &mut State, n: irq::Next) -> Step
+pub fn suspend_or_end_interrupt(s: &mut State, n: interrupt::Next) -> Step
     requires { ⌜ handler.Linked n ⌝ }
     ensures { λ r. ⌜ Leads r (now (s .exit)) (λ b. haltsAs true (bindOut (handler.meaning n (view (now (s .entry))) b) (λ k t. run concrete (finish k) t))) ⌝ }
     ensures { λ r. ⌜ Stored r (now (s .exit)) ⌝ }
 {
     match n {
-        irq::Next::Asks(q, p) => asks(s, q, irq::codec::encode(p), 6),
-        irq::Next::Ends(k) => ended(s, k),
+        interrupt::Next::Asks(q, p) => asks(s, q, interrupt::codec::encode(p), 6),
+        interrupt::Next::Ends(k) => ended(s, k),
     }
 }
 

@@ -24,5 +24,5 @@ pub enum Suspended {
     Control(control::Point),
     Endpoint(endpoint::Point),
     Advance(isochronous::advance::Advance),
-    Interrupt(irq::Point),
+    Interrupt(interrupt::Point),
 }

@@ -7,14 +7,14 @@ use answer::loads::late_byte;
 use answer::loads::now_byte;
 use answer::loads::site_byte;
 use answer::loads::st_byte;
-use irq::codec::dir_of;
+use interrupt::codec::dir_of;
 use model_ops::rings::is_on;
 use regs::Dir;
 use state::State;
 ghost use mathlib.Core.Path.{_≡_};
 ghost use Rattle.state.specs.State.{saved};
 ghost use Rattle.model.specs.Statics.{isOn};
-ghost use Rattle.irq.specs.Codec.{dirOf};
+ghost use Rattle.interrupt.specs.Codec.{dirOf};
 ghost use Rattle.machine.specs.Loads.{listEndpointOf, completionOf};
 
 // Is the endpoint enabled, is there a callback, is the packet its stage's first?

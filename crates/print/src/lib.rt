@@ -4,4 +4,4 @@
 pub mod accesses; // accesses.rt: an access, with the value's meaning
 pub mod registers; // registers.rt: names, values, meanings
 pub mod text; // text.rt: text and numbers
-pub mod answer; // answer.rt: a call's answer in words
+pub mod answers; // answers.rt: a call's answer in words

@@ -22,7 +22,7 @@ use Rattle.bus.specs.Points as bus
 use Rattle.control.specs.Points as control
 use Rattle.endpoint.specs.Points as endpoint
 use Rattle.isochronous.specs.Advance as advance
-use Rattle.irq.specs.Points as handler
+use Rattle.interrupt.specs.Points as handler
 use Rattle.machine.specs.declared.Suspended.{Suspended}
 use Rattle.machine.specs.declared.Suspended.the-variants as under
 use Rattle.machine.specs.Suspended.{decode, finish, wayOf, machineAt, machineOf, driverOf, drive, haltsAs, slotsFit}

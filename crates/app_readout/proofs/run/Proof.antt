@@ -5,7 +5,7 @@ use Rattle.app_readout.proofs.run.Statement.{statement}
 use Rattle.app_readout.proofs.run.Tie as tie
 use Rattle.app_readout.proofs.run.Reads as reads
 use Rattle.app_readout.proofs.run.Lts as lts
-use Rattle.print.proofs.answer.show.Reads as show-reads
+use Rattle.print.proofs.answers.show.Reads as show-reads
 
 abbrev Inv-loop : tie.InvT-loop
 Inv-loop s₀ slots₀ time₀ arrived step₀ left₀ s slots time step left = length slots ≡ length slots₀

@@ -2,7 +2,7 @@ use mathlib.Core.Bool.{true≢false}
 use mathlib.Core.Path.{sym, ap, _∙_}
 use native.Mathlib.Omega.{arith}
 use Rattle.regs.specs.MisStatus.{sieFree}
-use Rattle.irq.specs.TransferLaws.{wider}
+use Rattle.interrupt.specs.TransferLaws.{wider}
 use borrow.Author.Needs.{needs}
 use Rattle.call_readings.proofs.are_taken.Statement.{statement}
 use Rattle.call_readings.proofs.are_taken.Tie as tie

@@ -2,7 +2,7 @@ use denote.Ref.{now}
 use mathlib.Core.Path.{sym, ap, _∙_}
 use native.Mathlib.Omega.{arith}
 use Rattle.regs.specs.Flags.{setupAct}
-use Rattle.irq.specs.TransferLaws.{wider}
+use Rattle.interrupt.specs.TransferLaws.{wider}
 use Rattle.call_readings.specs.PassingLaws.{framed, flagged}
 use borrow.Author.Needs.{needs}
 use Rattle.call_readings.proofs.enter.Statement.{statement}

@@ -3,7 +3,7 @@ use mathlib.Core.Path.{_≡_, sym, subst, _∙_}
 use Prim.Native.Nat.{ℕ}
 use native.Mathlib.Omega.{arith}
 use Rattle.regs.specs.Flags.{busRst, transfer, suspend, hstSof, fifoOv}
-use Rattle.irq.specs.TransferLaws.{wider}
+use Rattle.interrupt.specs.TransferLaws.{wider}
 use borrow.Author.Needs.{needs}
 use Rattle.call_readings.proofs.is_transfer.Statement.{statement}
 use Rattle.call_readings.proofs.is_transfer.Tie as tie

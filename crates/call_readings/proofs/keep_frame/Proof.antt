@@ -1,6 +1,6 @@
 use mathlib.Core.Path.{ap}
 use Rattle.state.specs.Driver.{Driver}
-use Rattle.irq.specs.Laws.{microframe-kept}
+use Rattle.interrupt.specs.Laws.{microframe-kept}
 use borrow.Author.Needs.{needs}
 use Rattle.call_readings.proofs.keep_frame.Statement.{statement}
 use Rattle.call_readings.proofs.keep_frame.Tie as tie

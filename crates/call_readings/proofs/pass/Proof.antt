@@ -10,13 +10,13 @@ use Rattle.model.specs.Machine.{awaited}
 use Rattle.model.specs.Script.{run}
 use Rattle.model.specs.Handler.{nakNonIso}
 use Rattle.model_ops.specs.Concrete.{concrete}
-use Rattle.irq.specs.TransferLaws.{wider}
-use Rattle.irq.specs.Nak as nak
-use Rattle.irq.specs.declared.Point.{Point}
-use Rattle.irq.specs.declared.Point.the-variants as point
-use Rattle.irq.specs.declared.Next.the-variants as next
-use Rattle.irq.specs.Points as points
-use Rattle.irq.specs.Continuations.{enteredAs}
+use Rattle.interrupt.specs.TransferLaws.{wider}
+use Rattle.interrupt.specs.Nak as nak
+use Rattle.interrupt.specs.declared.Point.{Point}
+use Rattle.interrupt.specs.declared.Point.the-variants as point
+use Rattle.interrupt.specs.declared.Next.the-variants as next
+use Rattle.interrupt.specs.Points as points
+use Rattle.interrupt.specs.Continuations.{enteredAs}
 use Rattle.interrupt.specs.Stands.{Stands}
 use Rattle.answer.specs.declared.Step.the-variants as step
 use Rattle.call_readings.specs.Readings.{lent}

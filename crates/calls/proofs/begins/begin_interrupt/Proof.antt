@@ -9,7 +9,7 @@ use Rattle.calls.proofs.begins.begin_interrupt.Statement.{statement}
 use Rattle.calls.proofs.begins.begin_interrupt.Tie as tie
 use Rattle.calls.proofs.begins.begin_interrupt.Reads as reads
 use Rattle.calls.proofs.begins.begin_interrupt.Lts as lts
-use Rattle.irq.proofs.on_interrupt.Reads as on-interrupt-reads
+use Rattle.interrupt.proofs.on_interrupt.Reads as on-interrupt-reads
 use Rattle.state.proofs.clear_wakes.Reads as clear-wakes-reads
 use Rattle.machine.proofs.halts.suspend_or_end_interrupt.Reads as suspend-or-end-interrupt-reads
 use Rattle.machine.proofs.stops.stop.Reads as stop-reads

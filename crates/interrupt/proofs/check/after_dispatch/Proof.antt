@@ -1,7 +1,7 @@
 use Rattle.isochronous.specs.Points as check
 use Rattle.interrupt.specs.StopsLaws.{pauses-at, goes-on}
-use Rattle.irq.specs.Laws.{after, check-asks, check-ends, tells, tells-not, when-yes}
-use Rattle.irq.specs.Continuations.{afterCheck, afterDispatch}
+use Rattle.interrupt.specs.Laws.{after, check-asks, check-ends, tells, tells-not, when-yes}
+use Rattle.interrupt.specs.Continuations.{afterCheck, afterDispatch}
 use Rattle.interrupt.specs.SofLaws.{sof-over}
 use Rattle.model_ops.specs.Concrete.{concrete}
 use Rattle.model.specs.IsoOut.{isoOutCheck}

@@ -1,6 +1,6 @@
 use Rattle.interrupt.specs.StopsLaws.{goes-in}
 use Rattle.interrupt.specs.MovedLaws.{moved-as}
-use Rattle.irq.specs.Continuations.{afterCheck, finish}
+use Rattle.interrupt.specs.Continuations.{afterCheck, finish}
 use Rattle.model.specs.Tree.{ends}
 use Rattle.model.specs.Script.{run}
 use Rattle.model.specs.Handler.{ep0MovedOn}

@@ -1,5 +1,5 @@
 use Rattle.interrupt.specs.StopsLaws.{pauses-in, goes-in}
-use Rattle.irq.specs.TransferLaws.{word-width}
+use Rattle.interrupt.specs.TransferLaws.{word-width}
 use borrow.Author.Needs.{needs}
 use Rattle.interrupt.proofs.check.moved_on.Statement.{statement}
 use Rattle.interrupt.proofs.check.moved_on.Tie as tie

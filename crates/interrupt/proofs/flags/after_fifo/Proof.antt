@@ -1,5 +1,5 @@
 use Rattle.interrupt.specs.StopsLaws.{pauses-in, goes-in}
-use Rattle.irq.specs.Continuations.{afterFifo}
+use Rattle.interrupt.specs.Continuations.{afterFifo}
 use mathlib.Core.Path.{refl}
 use borrow.Author.Needs.{needs}
 use Rattle.interrupt.proofs.flags.after_fifo.Statement.{statement}

@@ -1,5 +1,5 @@
 use Rattle.interrupt.specs.StopsLaws.{pauses-in, goes-in}
-use Rattle.irq.specs.Continuations.{afterFlags}
+use Rattle.interrupt.specs.Continuations.{afterFlags}
 use mathlib.Core.Path.{refl}
 use borrow.Author.Needs.{needs}
 use Rattle.interrupt.proofs.flags.after_flags.Statement.{statement}

@@ -1,5 +1,5 @@
 use Rattle.interrupt.specs.StopsLaws.{pauses-in}
-use Rattle.irq.specs.Laws.{microframe-kept}
+use Rattle.interrupt.specs.Laws.{microframe-kept}
 use mathlib.Core.Path.{refl}
 use borrow.Author.Needs.{needs}
 use Rattle.interrupt.proofs.flags.after_frame.Statement.{statement}

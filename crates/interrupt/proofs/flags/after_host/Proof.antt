@@ -1,5 +1,5 @@
 use Rattle.interrupt.specs.StopsLaws.{pauses-in, goes-in}
-use Rattle.irq.specs.Laws.{host-other, host-transfer, tells}
+use Rattle.interrupt.specs.Laws.{host-other, host-transfer, tells}
 use mathlib.Core.Path.{refl}
 use borrow.Author.Needs.{needs}
 use Rattle.interrupt.proofs.flags.after_host.Statement.{statement}

@@ -1,5 +1,5 @@
 use Rattle.interrupt.specs.StopsLaws.{goes-on}
-use Rattle.irq.specs.Laws.{frame-read}
+use Rattle.interrupt.specs.Laws.{frame-read}
 use borrow.Author.Needs.{needs}
 use Rattle.interrupt.proofs.framing.after_frame_no.Statement.{statement}
 use Rattle.interrupt.proofs.framing.after_frame_no.Tie as tie

@@ -1,8 +1,8 @@
 use Rattle.interrupt.specs.Resumes.{goes-on}
 use Rattle.interrupt.specs.Sites.{at-site, ofInner}
 use Rattle.answer.specs.Answering.{parts2}
-use Rattle.irq.specs.declared.Point.the-variants as point
-use Rattle.irq.specs.Points.{fitsAt}
+use Rattle.interrupt.specs.declared.Point.the-variants as point
+use Rattle.interrupt.specs.Points.{fitsAt}
 use mathlib.Core.Path.{refl}
 use borrow.Author.Needs.{needs}
 use Rattle.interrupt.proofs.resume.resume_completing.Statement.{statement}

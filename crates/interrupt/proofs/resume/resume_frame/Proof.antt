@@ -1,5 +1,5 @@
 use Rattle.interrupt.specs.Resumes.{goes-on, refuses-16}
-use Rattle.irq.specs.Points.{fitsAt}
+use Rattle.interrupt.specs.Points.{fitsAt}
 use mathlib.Core.Path.{_∙_, sym}
 use borrow.Author.Needs.{needs}
 use Rattle.interrupt.proofs.resume.resume_frame.Statement.{statement}

@@ -1,7 +1,7 @@
 use Rattle.interrupt.specs.Resumes.{goes-on, refuses-16}
 use Rattle.interrupt.specs.Sites.{at-site, ofEntry}
-use Rattle.irq.specs.declared.Point.the-variants as point
-use Rattle.irq.specs.Points.{fitsAt}
+use Rattle.interrupt.specs.declared.Point.the-variants as point
+use Rattle.interrupt.specs.Points.{fitsAt}
 use mathlib.Core.Path.{_∙_, ap, sym, refl}
 use borrow.Author.Needs.{needs}
 use Rattle.interrupt.proofs.resume.resume_frame_no.Statement.{statement}

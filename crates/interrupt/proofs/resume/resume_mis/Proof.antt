@@ -1,8 +1,8 @@
 use Rattle.interrupt.specs.Resumes.{goes-on, refuses-16}
 use Rattle.interrupt.specs.Sites.{at-site}
-use Rattle.irq.specs.declared.Point.the-variants as point
-use Rattle.irq.specs.Points.{fitsAt}
-use Rattle.irq.specs.TransferLaws.{wider}
+use Rattle.interrupt.specs.declared.Point.the-variants as point
+use Rattle.interrupt.specs.Points.{fitsAt}
+use Rattle.interrupt.specs.TransferLaws.{wider}
 use native.Mathlib.Omega.{arith}
 use mathlib.Core.Path.{_∙_, sym, refl, ap}
 use borrow.Author.Needs.{needs}

@@ -1,6 +1,6 @@
 use Rattle.interrupt.specs.StopsLaws.{goes-on}
-use Rattle.irq.specs.Laws.{when-no, when-yes}
-use Rattle.irq.specs.Continuations.{afterDispatch, afterLate}
+use Rattle.interrupt.specs.Laws.{when-no, when-yes}
+use Rattle.interrupt.specs.Continuations.{afterDispatch, afterLate}
 use Rattle.model_ops.specs.Concrete.{concrete}
 use Rattle.regs.specs.Status.{token}
 use Rattle.model.specs.Script.{run}

@@ -1,4 +1,4 @@
-use Rattle.irq.specs.Continuations.{sofDue}
+use Rattle.interrupt.specs.Continuations.{sofDue}
 use borrow.Author.Needs.{needs}
 use Rattle.interrupt.proofs.serving.sof_due.Statement.{statement}
 use Rattle.interrupt.proofs.serving.sof_due.Tie as tie

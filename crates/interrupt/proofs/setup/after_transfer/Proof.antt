@@ -1,5 +1,5 @@
 use Rattle.interrupt.specs.StopsLaws.{pauses-in, goes-in}
-use Rattle.irq.specs.Continuations.{afterSetupTx, afterTransfer}
+use Rattle.interrupt.specs.Continuations.{afterSetupTx, afterTransfer}
 use mathlib.Core.Path.{refl}
 use borrow.Author.Needs.{needs}
 use Rattle.interrupt.proofs.setup.after_transfer.Statement.{statement}

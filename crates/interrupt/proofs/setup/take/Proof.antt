@@ -1,4 +1,4 @@
-use Rattle.irq.specs.Laws.{setup-taken}
+use Rattle.interrupt.specs.Laws.{setup-taken}
 use mathlib.Core.Path.{_∙_}
 use borrow.Author.Needs.{needs}
 use Rattle.interrupt.proofs.setup.take.Statement.{statement}

@@ -1,6 +1,6 @@
 use Rattle.interrupt.specs.StandsLaws.{then-on}
-use Rattle.irq.specs.Laws.{after}
-use Rattle.irq.specs.Continuations.{afterDispatch}
+use Rattle.interrupt.specs.Laws.{after}
+use Rattle.interrupt.specs.Continuations.{afterDispatch}
 use Rattle.model_ops.specs.Concrete.{concrete}
 use Rattle.model.specs.Script.{run}
 use borrow.Author.Needs.{needs}

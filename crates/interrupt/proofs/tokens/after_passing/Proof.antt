@@ -1,6 +1,6 @@
 use Rattle.interrupt.specs.StopsLaws.{goes-on}
-use Rattle.irq.specs.Laws.{after, passed-at, when-no, when-yes}
-use Rattle.irq.specs.Continuations.{afterDispatch, passed, afterArm}
+use Rattle.interrupt.specs.Laws.{after, passed-at, when-no, when-yes}
+use Rattle.interrupt.specs.Continuations.{afterDispatch, passed, afterArm}
 use Rattle.model_ops.specs.Concrete.{concrete}
 use Rattle.regs.specs.Status.{endpoint}
 use Rattle.model.specs.Script.{run}

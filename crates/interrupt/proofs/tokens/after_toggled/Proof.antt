@@ -1,8 +1,8 @@
 use Rattle.interrupt.specs.StopsLaws.{goes-on}
 use Prim.Native.Nat.{ℕ}
-use Rattle.irq.specs.Toggled as toggled
-use Rattle.irq.specs.Laws.{toggled-as}
-use Rattle.irq.specs.Continuations.{afterDispatch, afterToggled}
+use Rattle.interrupt.specs.Toggled as toggled
+use Rattle.interrupt.specs.Laws.{toggled-as}
+use Rattle.interrupt.specs.Continuations.{afterDispatch, afterToggled}
 use Rattle.model_ops.specs.Concrete.{concrete}
 use Rattle.model.specs.Script.{run}
 use Rattle.state.specs.State.{view}

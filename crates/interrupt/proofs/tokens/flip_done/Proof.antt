@@ -1,4 +1,4 @@
-use Rattle.irq.specs.Laws.{flip-in, flipped-known}
+use Rattle.interrupt.specs.Laws.{flip-in, flipped-known}
 use mathlib.Core.Path.{_∙_}
 use borrow.Author.Needs.{needs}
 use Rattle.interrupt.proofs.tokens.flip_done.Statement.{statement}

@@ -1,7 +1,7 @@
 use Rattle.isochronous.specs.Complete as complete
 use Rattle.interrupt.specs.StopsLaws.{pauses-at, goes-on}
-use Rattle.irq.specs.Laws.{after, complete-asks, complete-ends, in-frame, paced-told, tells, test-yes}
-use Rattle.irq.specs.Continuations.{afterDispatch, afterArm}
+use Rattle.interrupt.specs.Laws.{after, complete-asks, complete-ends, in-frame, paced-told, tells, test-yes}
+use Rattle.interrupt.specs.Continuations.{afterDispatch, afterArm}
 use Rattle.model_ops.specs.Concrete.{concrete}
 use Rattle.model.specs.Script.{run}
 use mathlib.Core.Bool.{false, true}

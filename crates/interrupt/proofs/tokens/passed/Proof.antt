@@ -1,4 +1,4 @@
-use Rattle.irq.specs.Laws.{passed-known}
+use Rattle.interrupt.specs.Laws.{passed-known}
 use borrow.Author.Needs.{needs}
 use Rattle.interrupt.proofs.tokens.passed.Statement.{statement}
 use Rattle.interrupt.proofs.tokens.passed.Tie as tie

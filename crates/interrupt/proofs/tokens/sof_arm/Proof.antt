@@ -1,7 +1,7 @@
 use Rattle.isochronous.specs.Sof as sof
 use Rattle.interrupt.specs.StopsLaws.{pauses-in, goes-in}
-use Rattle.irq.specs.Laws.{after, sof-asks, sof-ends, sof-handled, when-no, when-yes}
-use Rattle.irq.specs.Continuations.{afterDispatch}
+use Rattle.interrupt.specs.Laws.{after, sof-asks, sof-ends, sof-handled, when-no, when-yes}
+use Rattle.interrupt.specs.Continuations.{afterDispatch}
 use Rattle.interrupt.specs.SofLaws.{sof-over}
 use Rattle.model_ops.specs.Concrete.{concrete}
 use Rattle.model.specs.IsoIn.{onSof}

@@ -1,7 +1,7 @@
 use Rattle.isochronous.specs.Sof as sof
 use Rattle.interrupt.specs.StopsLaws.{pauses-at, goes-on}
-use Rattle.irq.specs.Laws.{sof-ends, tells}
-use Rattle.irq.specs.Continuations.{afterDispatch}
+use Rattle.interrupt.specs.Laws.{sof-ends, tells}
+use Rattle.interrupt.specs.Continuations.{afterDispatch}
 use Rattle.interrupt.specs.SofLaws.{sof-over}
 use Rattle.model_ops.specs.Concrete.{concrete}
 use Rattle.model.specs.Script.{run}

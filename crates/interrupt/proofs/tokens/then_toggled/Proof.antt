@@ -1,5 +1,5 @@
 use mathlib.Core.Path.{subst}
-use Rattle.irq.specs.Toggled as toggled
+use Rattle.interrupt.specs.Toggled as toggled
 use Rattle.interrupt.specs.StopsLaws.{pauses-at, goes-on}
 use borrow.Author.Needs.{needs}
 use Rattle.interrupt.proofs.tokens.then_toggled.Statement.{statement}

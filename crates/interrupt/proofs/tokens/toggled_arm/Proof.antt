@@ -1,11 +1,11 @@
-use Rattle.irq.specs.Toggled as toggled
+use Rattle.interrupt.specs.Toggled as toggled
 use Rattle.interrupt.specs.StopsLaws.{pauses-at, goes-on}
 use Prim.Native.Nat.{ℕ}
 use mathlib.Core.Bool.{true}
 use Rattle.model.specs.Handler as script
 use Rattle.state.specs.State.{view}
-use Rattle.irq.specs.Laws.{toggled-asks, toggled-ends, toggled-as}
-use Rattle.irq.specs.Continuations.{afterDispatch, afterToggled}
+use Rattle.interrupt.specs.Laws.{toggled-asks, toggled-ends, toggled-as}
+use Rattle.interrupt.specs.Continuations.{afterDispatch, afterToggled}
 use Rattle.model_ops.specs.Concrete.{concrete}
 use Rattle.regs.specs.Status.{endpoint}
 use Rattle.model.specs.Script.{run}

@@ -1,0 +1,303 @@
+use Rattle.interrupt.specs.CodecLaws.{by-table}
+use borrow.Author.Needs.{needs}
+use Rattle.interrupt.proofs.codec.encode.Statement.{statement}
+use Rattle.interrupt.proofs.codec.encode.Tie as tie
+
+enum-told : tie.Need-enum-told
+enum-told c = search needs
+
+bare-requires : tie.Need-bare-requires
+bare-requires c κs = search needs
+
+enum-told-2 : tie.Need-enum-told-2
+enum-told-2 c = search needs
+
+bare-requires-2 : tie.Need-bare-requires-2
+bare-requires-2 c κs = search needs
+
+enum-known-p : tie.Need-enum-known-p
+enum-known-p c = search needs
+
+entered-requires : tie.Need-entered-requires
+entered-requires c κs = search needs
+
+enum-known-p-2 : tie.Need-enum-known-p-2
+enum-known-p-2 c = search needs
+
+entered-requires-2 : tie.Need-entered-requires-2
+entered-requires-2 c κs = search needs
+
+enum-known-p-3 : tie.Need-enum-known-p-3
+enum-known-p-3 c = search needs
+
+entered-requires-3 : tie.Need-entered-requires-3
+entered-requires-3 c κs = search needs
+
+enum-known-p-4 : tie.Need-enum-known-p-4
+enum-known-p-4 c = search needs
+
+entered-requires-4 : tie.Need-entered-requires-4
+entered-requires-4 c κs = search needs
+
+enum-known-p-5 : tie.Need-enum-known-p-5
+enum-known-p-5 c = search needs
+
+entered-requires-5 : tie.Need-entered-requires-5
+entered-requires-5 c κs = search needs
+
+enum-known-p-6 : tie.Need-enum-known-p-6
+enum-known-p-6 c = search needs
+
+entered-requires-6 : tie.Need-entered-requires-6
+entered-requires-6 c κs = search needs
+
+enum-known-p-7 : tie.Need-enum-known-p-7
+enum-known-p-7 c = search needs
+
+entered-requires-7 : tie.Need-entered-requires-7
+entered-requires-7 c κs = search needs
+
+enum-known-p-8 : tie.Need-enum-known-p-8
+enum-known-p-8 c = search needs
+
+nak-as-requires : tie.Need-nak-as-requires
+nak-as-requires c κs = search needs
+
+code-requires : tie.Need-code-requires
+code-requires c κs = search needs
+
+enum-known-p-9 : tie.Need-enum-known-p-9
+enum-known-p-9 c = search needs
+
+none-requires : tie.Need-none-requires
+none-requires c κs = search needs
+
+code-requires-2 : tie.Need-code-requires-2
+code-requires-2 c κs = search needs
+
+enum-known-p-10 : tie.Need-enum-known-p-10
+enum-known-p-10 c = search needs
+
+settle-as-requires : tie.Need-settle-as-requires
+settle-as-requires c κs = search needs
+
+code-requires-3 : tie.Need-code-requires-3
+code-requires-3 c κs = search needs
+
+enum-known-p-11 : tie.Need-enum-known-p-11
+enum-known-p-11 c = search needs
+
+none-requires-2 : tie.Need-none-requires-2
+none-requires-2 c κs = search needs
+
+code-requires-4 : tie.Need-code-requires-4
+code-requires-4 c κs = search needs
+
+enum-known-p-12 : tie.Need-enum-known-p-12
+enum-known-p-12 c = search needs
+
+sof-as-requires : tie.Need-sof-as-requires
+sof-as-requires c κs = search needs
+
+code-requires-5 : tie.Need-code-requires-5
+code-requires-5 c κs = search needs
+
+enum-known-p-13 : tie.Need-enum-known-p-13
+enum-known-p-13 c = search needs
+
+late-as-requires : tie.Need-late-as-requires
+late-as-requires c κs = search needs
+
+code-requires-6 : tie.Need-code-requires-6
+code-requires-6 c κs = search needs
+
+enum-known-p-14 : tie.Need-enum-known-p-14
+enum-known-p-14 c = search needs
+
+sof-as-requires-2 : tie.Need-sof-as-requires-2
+sof-as-requires-2 c κs = search needs
+
+code-requires-7 : tie.Need-code-requires-7
+code-requires-7 c κs = search needs
+
+enum-known-p-15 : tie.Need-enum-known-p-15
+enum-known-p-15 c = search needs
+
+on-dir-requires : tie.Need-on-dir-requires
+on-dir-requires c κs = search needs
+
+code-requires-8 : tie.Need-code-requires-8
+code-requires-8 c κs = search needs
+
+enum-known-p-16 : tie.Need-enum-known-p-16
+enum-known-p-16 c = search needs
+
+on-dir-requires-2 : tie.Need-on-dir-requires-2
+on-dir-requires-2 c κs = search needs
+
+code-requires-9 : tie.Need-code-requires-9
+code-requires-9 c κs = search needs
+
+enum-known-p-17 : tie.Need-enum-known-p-17
+enum-known-p-17 c = search needs
+
+toggled-as-requires : tie.Need-toggled-as-requires
+toggled-as-requires c κs = search needs
+
+code-requires-10 : tie.Need-code-requires-10
+code-requires-10 c κs = search needs
+
+enum-known-p-18 : tie.Need-enum-known-p-18
+enum-known-p-18 c = search needs
+
+complete-as-requires : tie.Need-complete-as-requires
+complete-as-requires c κs = search needs
+
+code-requires-11 : tie.Need-code-requires-11
+code-requires-11 c κs = search needs
+
+enum-known-p-19 : tie.Need-enum-known-p-19
+enum-known-p-19 c = search needs
+
+check-as-requires : tie.Need-check-as-requires
+check-as-requires c κs = search needs
+
+code-requires-12 : tie.Need-code-requires-12
+code-requires-12 c κs = search needs
+
+enum-known-p-20 : tie.Need-enum-known-p-20
+enum-known-p-20 c = search needs
+
+early-requires : tie.Need-early-requires
+early-requires c κs = search needs
+
+on-dir-requires-3 : tie.Need-on-dir-requires-3
+on-dir-requires-3 c κs = search needs
+
+code-requires-13 : tie.Need-code-requires-13
+code-requires-13 c κs = search needs
+
+enum-known-p-21 : tie.Need-enum-known-p-21
+enum-known-p-21 c = search needs
+
+early-requires-2 : tie.Need-early-requires-2
+early-requires-2 c κs = search needs
+
+on-dir-requires-4 : tie.Need-on-dir-requires-4
+on-dir-requires-4 c κs = search needs
+
+code-requires-14 : tie.Need-code-requires-14
+code-requires-14 c κs = search needs
+
+enum-told-3 : tie.Need-enum-told-3
+enum-told-3 c = search needs
+
+bare-requires-3 : tie.Need-bare-requires-3
+bare-requires-3 c κs = search needs
+
+enum-told-4 : tie.Need-enum-told-4
+enum-told-4 c = search needs
+
+bare-requires-4 : tie.Need-bare-requires-4
+bare-requires-4 c κs = search needs
+
+enum-told-5 : tie.Need-enum-told-5
+enum-told-5 c = search needs
+
+bare-requires-5 : tie.Need-bare-requires-5
+bare-requires-5 c κs = search needs
+
+returns : tie.Need-returns
+returns c = simp (by-table, c .bare .ensures, c .before .enum-told .given .1)
+
+returns-2 : tie.Need-returns-2
+returns-2 c = simp (by-table, c .bare2 .ensures, c .before .enum-told2 .given .1)
+
+returns-3 : tie.Need-returns-3
+returns-3 c = simp (by-table, c .entered .ensures, c .before .before .p .given .1)
+
+returns-4 : tie.Need-returns-4
+returns-4 c = simp (by-table, c .entered2 .ensures, c .before .before .p2 .given .1)
+
+returns-5 : tie.Need-returns-5
+returns-5 c = simp (by-table, c .entered3 .ensures, c .before .before .p3 .given .1)
+
+returns-6 : tie.Need-returns-6
+returns-6 c = simp (by-table, c .entered4 .ensures, c .before .before .p4 .given .1)
+
+returns-7 : tie.Need-returns-7
+returns-7 c = simp (by-table, c .entered5 .ensures, c .before .before .p5 .given .1)
+
+returns-8 : tie.Need-returns-8
+returns-8 c = simp (by-table, c .entered6 .ensures, c .before .before .p6 .given .1)
+
+returns-9 : tie.Need-returns-9
+returns-9 c = simp (by-table, c .entered7 .ensures, c .before .before .p7 .given .1)
+
+returns-10 : tie.Need-returns-10
+returns-10 c = simp (by-table, c .code .ensures, c .before .nak-as .ensures, c .before .before .before .p8 .given .1)
+
+returns-11 : tie.Need-returns-11
+returns-11 c = simp (by-table, c .code2 .ensures, c .before .none .ensures, c .before .before .before .p9 .given .1)
+
+returns-12 : tie.Need-returns-12
+returns-12 c = simp (by-table, c .code3 .ensures, c .before .settle-as .ensures, c .before .before .before .p10 .given .1)
+
+returns-13 : tie.Need-returns-13
+returns-13 c = simp (by-table, c .code4 .ensures, c .before .none2 .ensures, c .before .before .before .p11 .given .1)
+
+returns-14 : tie.Need-returns-14
+returns-14 c = simp (by-table, c .code5 .ensures, c .before .sof-as .ensures, c .before .before .before .p12 .given .1)
+
+returns-15 : tie.Need-returns-15
+returns-15 c = simp (by-table, c .code6 .ensures, c .before .late-as .ensures, c .before .before .before .p13 .given .1)
+
+returns-16 : tie.Need-returns-16
+returns-16 c = simp (by-table, c .code7 .ensures, c .before .sof-as2 .ensures, c .before .before .before .p14 .given .1)
+
+returns-17 : tie.Need-returns-17
+returns-17 c = simp (by-table, c .code8 .ensures, c .before .on-dir .ensures, c .before .before .before .p15 .given .1)
+
+returns-18 : tie.Need-returns-18
+returns-18 c = simp (by-table, c .code9 .ensures, c .before .on-dir2 .ensures, c .before .before .before .p16 .given .1)
+
+returns-19 : tie.Need-returns-19
+returns-19 c = simp (by-table, c .code10 .ensures, c .before .toggled-as .ensures, c .before .before .before .p17 .given .1)
+
+returns-20 : tie.Need-returns-20
+returns-20 c = simp (by-table, c .code11 .ensures, c .before .complete-as .ensures, c .before .before .before .p18 .given .1)
+
+returns-21 : tie.Need-returns-21
+returns-21 c = simp (by-table, c .code12 .ensures, c .before .check-as .ensures, c .before .before .before .p19 .given .1)
+
+returns-22 : tie.Need-returns-22
+returns-22 c =
+    let told = c .before .before .before .before .p20 .given .1 in
+    simp (by-table, c .code13 .ensures, c .before .on-dir3 .ensures, c .before .before .early .ensures, told)
+
+returns-23 : tie.Need-returns-23
+returns-23 c =
+    let told = c .before .before .before .before .p21 .given .1 in
+    simp (by-table, c .code14 .ensures, c .before .on-dir4 .ensures, c .before .before .early2 .ensures, told)
+
+returns-24 : tie.Need-returns-24
+returns-24 c = simp (by-table, c .bare3 .ensures, c .before .enum-told3 .given .1)
+
+returns-25 : tie.Need-returns-25
+returns-25 c = simp (by-table, c .bare4 .ensures, c .before .enum-told4 .given .1)
+
+returns-26 : tie.Need-returns-26
+returns-26 c = simp (by-table, c .bare5 .ensures, c .before .enum-told5 .given .1)
+
+pub encode-spec : {M : Type 1} → statement M
+encode-spec =
+    tie.close (tie.spec enum-told bare-requires enum-told-2 bare-requires-2 enum-known-p entered-requires enum-known-p-2 entered-requires-2
+    enum-known-p-3 entered-requires-3 enum-known-p-4 entered-requires-4 enum-known-p-5 entered-requires-5 enum-known-p-6 entered-requires-6
+    enum-known-p-7 entered-requires-7 enum-known-p-8 nak-as-requires code-requires enum-known-p-9 none-requires code-requires-2 enum-known-p-10
+    settle-as-requires code-requires-3 enum-known-p-11 none-requires-2 code-requires-4 enum-known-p-12 sof-as-requires code-requires-5 enum-known-p-13
+    late-as-requires code-requires-6 enum-known-p-14 sof-as-requires-2 code-requires-7 enum-known-p-15 on-dir-requires code-requires-8 enum-known-p-16
+    on-dir-requires-2 code-requires-9 enum-known-p-17 toggled-as-requires code-requires-10 enum-known-p-18 complete-as-requires code-requires-11
+    enum-known-p-19 check-as-requires code-requires-12 enum-known-p-20 early-requires on-dir-requires-3 code-requires-13 enum-known-p-21
+    early-requires-2 on-dir-requires-4 code-requires-14 enum-told-3 bare-requires-3 enum-told-4 bare-requires-4 enum-told-5 bare-requires-5 returns
+    returns-2 returns-3 returns-4 returns-5 returns-6 returns-7 returns-8 returns-9 returns-10 returns-11 returns-12 returns-13 returns-14 returns-15
+    returns-16 returns-17 returns-18 returns-19 returns-20 returns-21 returns-22 returns-23 returns-24 returns-25 returns-26)

@@ -1,0 +1,18 @@
+use borrow.Author.Needs.{needs}
+use Rattle.interrupt.proofs.codec.entered.Statement.{statement}
+use Rattle.interrupt.proofs.codec.entered.Tie as tie
+
+early-requires : tie.Need-early-requires
+early-requires c κs = search needs
+
+none-requires : tie.Need-none-requires
+none-requires c κs = search needs
+
+code-requires : tie.Need-code-requires
+code-requires c κs = search needs
+
+returns : tie.Need-returns
+returns c = simp (c .code .ensures, c .before .none .ensures, c .before .before .early .ensures)
+
+pub entered-spec : {M : Type 1} → statement M
+entered-spec = tie.close (tie.spec early-requires none-requires code-requires returns)

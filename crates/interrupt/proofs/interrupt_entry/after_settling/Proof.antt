@@ -1,0 +1,21 @@
+use Rattle.interrupt.specs.StopsLaws.{goes-in}
+use Rattle.interrupt.specs.Laws.{after}
+use Rattle.interrupt.specs.Continuations.{afterSettle}
+use Rattle.model_ops.specs.Concrete.{concrete}
+use Rattle.model.specs.Script.{run}
+use Rattle.interrupt.proofs.interrupt_entry.after_settling.Statement.{statement}
+use Rattle.interrupt.proofs.interrupt_entry.after_settling.Tie as tie
+
+resume-requires : tie.Need-resume-requires
+resume-requires c κs = (c .before .pre)
+
+then-settle-requires : tie.Need-then-settle-requires
+then-settle-requires c κs = c .before .resume .ensures .1
+
+returns : tie.Need-returns
+returns c =
+    goes-in (c .then-settle .ensures)
+    (λ b. after (c .before .before .before .before .args .setup) (λ y u. run concrete (afterSettle y) u) _ _ (c .before .before .resume .ensures .0 b))
+
+pub after-settling-spec : {M : Type 1} → statement M
+after-settling-spec = tie.close (tie.spec resume-requires then-settle-requires returns)

@@ -1,0 +1,45 @@
+use Rattle.model.specs.Handler.{retaken}
+use Rattle.model.specs.Tree.{ends}
+use Rattle.model.specs.declared.Transfer.{Transfer}
+use Rattle.interrupt.specs.TransferLaws.{nak-asks, nak-ends, nak-linked}
+use Rattle.interrupt.specs.Nak as nak
+use Rattle.interrupt.specs.Settle.{fitsAt}
+use mathlib.Core.Path.{_∙_, ap}
+use borrow.Author.Needs.{needs}
+use Rattle.interrupt.proofs.settle.after_nak.Statement.{statement}
+use Rattle.interrupt.proofs.settle.after_nak.Tie as tie
+use Rattle.interrupt.proofs.settle.after_nak.Reads as reads
+use Rattle.interrupt.proofs.settle.after_nak.Lts as lts
+
+nak-non-iso-resume-requires : tie.Need-nak-non-iso-resume-requires
+unfolding fitsAt nak.fitsAt
+nak-non-iso-resume-requires c κs = c .pre
+
+enum-known-n : tie.Need-enum-known-n
+enum-known-n c = search needs
+
+enum-told : tie.Need-enum-told
+enum-told c = search needs
+
+retaken-requires : tie.Need-retaken-requires
+retaken-requires c κs = search needs
+
+returns : tie.Need-returns
+returns c = (
+  λ d b. nak-asks (λ _ u. ends (retaken (c .before .before .before .before .args .x) (c .before .before .before .before .args .st)) u)
+      (c .before .before .before .before .args .st) _ _ _ d b _
+      (c .before .n .given .1) (c .before .before .before .nak-non-iso-resume .ensures .0 d b),
+  nak-linked _ _ _ (c .before .n .given .1) (c .before .before .before .nak-non-iso-resume .ensures .1),
+)
+
+returns-2 : tie.Need-returns-2
+returns-2 c = (
+  λ d b. ap (λ (y : Transfer). ends y (d, b)) (c .retaken .ensures)
+      ∙ nak-ends (λ _ u. ends (retaken (c .before .before .before .before .args .x) (c .before .before .before .before .args .st)) u)
+      (c .before .before .before .before .args .st) _ d b _
+      (c .before .enum-told .given .1) (c .before .before .before .nak-non-iso-resume .ensures .0 d b),
+  tt,
+)
+
+pub after-nak-spec : {M : Type 1} → statement M
+after-nak-spec = tie.close (tie.spec nak-non-iso-resume-requires enum-known-n enum-told retaken-requires returns returns-2)

@@ -1,0 +1,37 @@
+use Rattle.model.specs.Handler.{sameOut}
+use borrow.Author.Tests.{eq-eqb, ne-eqb, not-false, not-true}
+use borrow.Author.Needs.{needs}
+use Rattle.interrupt.proofs.settle.same_out.Statement.{statement}
+use Rattle.interrupt.proofs.settle.same_out.Tie as tie
+use Rattle.interrupt.proofs.settle.same_out.Reads as reads
+use Rattle.interrupt.proofs.settle.same_out.Lts as lts
+
+returns : tie.Need-returns
+unfolding sameOut
+returns c = simp (eq-eqb _ _ (c .if1 .taken))
+
+is-out-requires : tie.Need-is-out-requires
+is-out-requires c κs = search needs
+
+returns-2 : tie.Need-returns-2
+unfolding sameOut
+returns-2 c = simp (ne-eqb _ _ (c .before .before .if1 .left), ← c .before .is-out .ensures, not-true (c .before .is-out .result) (c .if2 .taken))
+
+endpoint-requires : tie.Need-endpoint-requires
+endpoint-requires c κs = search needs
+
+endpoint-requires-2 : tie.Need-endpoint-requires-2
+endpoint-requires-2 c κs = search needs
+
+returns-3 : tie.Need-returns-3
+unfolding sameOut
+returns-3 c = simp (
+  ne-eqb _ _ (c .before .before .before .before .if1 .left),
+  ← c .before .before .before .is-out .ensures,
+  not-false (c .before .before .before .is-out .result) (c .before .before .if2 .left),
+  c .before .endpoint .ensures,
+  c .endpoint2 .ensures,
+)
+
+pub same-out-spec : {M : Type 1} → statement M
+same-out-spec = tie.close (tie.spec returns is-out-requires returns-2 endpoint-requires endpoint-requires-2 returns-3)
