@@ -7,9 +7,9 @@ use Rattle.regs.specs.Enables as enables
 use Rattle.state.specs.declared.EpState.{EpState}
 use Rattle.state.specs.Driver.{Driver, epOn}
 use Rattle.ring.specs.Slot.{countOf}
-use Rattle.model.specs.Statics.{isOn, flag}
-use Rattle.model.specs.Answers.{isNumber}
-use Rattle.model.specs.Machine.{Question, pending, overruns, enabled}
+use Rattle.script.specs.Statics.{isOn, flag}
+use Rattle.script.specs.Answers.{isNumber}
+use Rattle.script.specs.Machine.{Question, pending, overruns, enabled}
 
 -- `iso_in_pending`, mod.rs 292-299
 unfoldable pub pendingOn : Driver → ℕ → ℕ

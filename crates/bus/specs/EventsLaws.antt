@@ -7,12 +7,12 @@ use native.Mathlib.Omega.{arith}
 use Rattle.regs.specs.declared.Access.the-variants.{Write}
 use Rattle.regs.specs.declared.Reg.the-variants.{EpRxCtrl, EpTxCtrl}
 use Rattle.regs.specs.ControlWord.{NAK, DATA0, wordOf}
-use Rattle.model.specs.Tree as tree
-use Rattle.model.specs.Tree.{asks, ends}
-use Rattle.model.specs.Script.{run}
-use Rattle.model.specs.Bus.{nakAll}
-use Rattle.model_ops.specs.Rings.{St}
-use Rattle.model_ops.specs.Concrete.{concrete}
+use Rattle.script.specs.Tree as tree
+use Rattle.script.specs.Tree.{asks, ends}
+use Rattle.script.specs.Script.{run}
+use Rattle.script.specs.Bus.{nakAll}
+use Rattle.script_ops.specs.Rings.{St}
+use Rattle.script_ops.specs.Concrete.{concrete}
 
 -- ---- `bus_reset`: the endpoints above e
 

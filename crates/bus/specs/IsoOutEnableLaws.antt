@@ -6,8 +6,8 @@ use Prim.Native.Nat.{ℕ, zero, suc, _-_, _<_, _≤_}
 use native.Mathlib.Omega.{arith}
 use Rattle.regs.specs.declared.Access.the-variants.{Write, Receive}
 use Rattle.regs.specs.declared.Reg.the-variants.{EpConfig, EpType, EpRxCtrl}
-use Rattle.model.specs.Tree.{asks}
-use Rattle.model_ops.specs.Rings.{St, slotStep, typeStep, configStep}
+use Rattle.script.specs.Tree.{asks}
+use Rattle.script_ops.specs.Rings.{St, slotStep, typeStep, configStep}
 use Rattle.bus.specs.Points.{woken, switching}
 
 pub one-left : (n : ℕ) → 0 < n → n ≤ 3 → n ≢ 3 → n ≢ 2 → n ≡ 1

@@ -17,18 +17,18 @@ use Rattle.state.specs.declared.EpState.{EpState}
 use Rattle.state.specs.Ep.{withMoves}
 use Rattle.state.specs.Driver.{Driver, epOn, withOn}
 use Rattle.state.specs.State.{view}
-use Rattle.model.specs.Tree as tree
-use Rattle.model.specs.Tree.{asks, ends, bindOut}
-use Rattle.model.specs.Cells.{globals-cell}
-use Rattle.model.specs.Script.{Script, run, rows, ret, done, test, _>>=_, _>>_, read, write, get, act, row, when, set-enabled, switch, bus-reset}
-use Rattle.model.specs.Statics.{flag, completed, renewed, withArmed, modifyEp, modifyIntEn, wake, wakeAll}
-use Rattle.model.specs.Machine.{Awaits, nothing, reading, awaited}
-use Rattle.model.specs.Bus.{nakAll, busReset, kept, setEnabledOut}
-use Rattle.model_ops.specs.Records.{plainOf, merged}
-use Rattle.model_ops.specs.Rings.{St, emptiedOn}
-use Rattle.model_ops.specs.Concrete.{concrete}
-use Rattle.model_ops.specs.Numbers.{fits}
-pub use Rattle.model_ops.specs.Results.{resultless}
+use Rattle.script.specs.Tree as tree
+use Rattle.script.specs.Tree.{asks, ends, bindOut}
+use Rattle.script.specs.Cells.{globals-cell}
+use Rattle.script.specs.Script.{Script, run, rows, ret, done, test, _>>=_, _>>_, read, write, get, act, row, when, set-enabled, switch, bus-reset}
+use Rattle.script.specs.Statics.{flag, completed, renewed, withArmed, modifyEp, modifyIntEn, wake, wakeAll}
+use Rattle.script.specs.Machine.{Awaits, nothing, reading, awaited}
+use Rattle.script.specs.Bus.{nakAll, busReset, kept, setEnabledOut}
+use Rattle.script_ops.specs.Records.{plainOf, merged}
+use Rattle.script_ops.specs.Rings.{St, emptiedOn}
+use Rattle.script_ops.specs.Concrete.{concrete}
+use Rattle.script_ops.specs.Numbers.{fits}
+pub use Rattle.script_ops.specs.Results.{resultless}
 use Rattle.bus.specs.declared.Point.{Point}
 use Rattle.bus.specs.declared.Point.the-variants as point
 use Rattle.bus.specs.declared.Next.{Next}

@@ -9,14 +9,14 @@ use Rattle.regs.specs.declared.Dir.the-variants.{Out, In}
 use Rattle.state.specs.declared.EpState.{EpState}
 use Rattle.state.specs.Driver.{Driver, epOn, withOn, withPacedOn}
 use Rattle.state.specs.Laws.{Sized, epOn-same, withOn-twice}
-use Rattle.model.specs.Statics.{isOn, withArmed, renewed, wake}
-use Rattle.model.specs.Tree as tree
-use Rattle.model.specs.Tree.{asks}
-use Rattle.model.specs.Script.{Script, test, row, switch, _>>=_, _>>_}
-use Rattle.model.specs.Bus.{setEnabledOut, setEnabled}
-use Rattle.model_ops.specs.Records.{plainOf, merged, isoOut}
-use Rattle.model_ops.specs.Rings.{St, emptied, emptiedOn, placeOn}
-use Rattle.model_ops.specs.Concrete.{go}
+use Rattle.script.specs.Statics.{isOn, withArmed, renewed, wake}
+use Rattle.script.specs.Tree as tree
+use Rattle.script.specs.Tree.{asks}
+use Rattle.script.specs.Script.{Script, test, row, switch, _>>=_, _>>_}
+use Rattle.script.specs.Bus.{setEnabledOut, setEnabled}
+use Rattle.script_ops.specs.Records.{plainOf, merged, isoOut}
+use Rattle.script_ops.specs.Rings.{St, emptied, emptiedOn, placeOn}
+use Rattle.script_ops.specs.Concrete.{go}
 use Rattle.bus.specs.declared.Point.the-variants as point
 use Rattle.bus.specs.Points.{resultless, woken, resetAs, renewedAs, enabledOut, afterPlaced, afterWords, switching, denote}
 

@@ -1,8 +1,8 @@
 // A point as numbers.
 use crate::Point;
-use model_ops::points::dir_as;
-use model_ops::points::flag_of;
-use model_ops::points::numbers;
+use script_ops::points::dir_as;
+use script_ops::points::flag_of;
+use script_ops::points::numbers;
 use state::Saved;
 ghost use mathlib.Core.Path.{_≡_};
 ghost use Rattle.bus.specs.Codec.{code, encode};

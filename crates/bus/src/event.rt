@@ -1,13 +1,13 @@
 use crate::Next;
 use crate::Point;
-use model_ops::records::wake_all;
-use model_ops::rings::is_on;
-use model_ops::slots::reset_all;
 use regs::Access;
 use regs::Reg;
 use regs::control_word;
 use regs::flags;
 use regs::int_en;
+use script_ops::records::wake_all;
+use script_ops::rings::is_on;
+use script_ops::slots::reset_all;
 use state::State;
 use state::load_globals;
 use state::set_ep_config;
@@ -21,10 +21,10 @@ ghost use Prim.Native.Nat.{ℕ, _+_, _<_, _≤_};
 ghost use Rattle.regs.specs.ControlWord.{NAK, DATA0, wordOf};
 ghost use Rattle.state.specs.Driver.{Driver};
 ghost use Rattle.state.specs.State.{view, saved};
-ghost use Rattle.model.specs.Script.{run};
-ghost use Rattle.model.specs.Bus as script;
-ghost use Rattle.model_ops.specs.Means.{MeansFrom};
-ghost use Rattle.model_ops.specs.Concrete.{concrete, go};
+ghost use Rattle.script.specs.Script.{run};
+ghost use Rattle.script.specs.Bus as script;
+ghost use Rattle.script_ops.specs.Means.{MeansFrom};
+ghost use Rattle.script_ops.specs.Concrete.{concrete, go};
 ghost use Rattle.bus.specs.Points.{afterReset, afterNaked, afterReleased, denote, meaning, Follows, Linked};
 
 // `poll` (mod.rs 1231-1266).

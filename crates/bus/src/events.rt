@@ -9,10 +9,10 @@ ghost use mathlib.Core.Path.{_≡_};
 ghost use mathlib.Core.List.{List};
 ghost use Prim.Native.Nat.{ℕ};
 ghost use Rattle.state.specs.Driver.{Driver};
-ghost use Rattle.model.specs.Script.{run};
-ghost use Rattle.model.specs.Bus as script;
-ghost use Rattle.model_ops.specs.Means.{Means};
-ghost use Rattle.model_ops.specs.Concrete.{concrete};
+ghost use Rattle.script.specs.Script.{run};
+ghost use Rattle.script.specs.Bus as script;
+ghost use Rattle.script_ops.specs.Means.{Means};
+ghost use Rattle.script_ops.specs.Concrete.{concrete};
 ghost use Rattle.bus.specs.Points.{resultless, denote, meaning, Linked};
 
 // `enable` (mod.rs 1225-1227).

@@ -1,10 +1,10 @@
 // The burst of accesses of an isochronous OUT that is enabled or disabled (mod.rs 1285-1311), one at a time. Every
 // function is total: any number is safe.
-use model_ops::records::config_step;
-use model_ops::records::type_step;
-use model_ops::slots::slot_step;
 use regs::Access;
 use regs::Reg;
+use script_ops::records::config_step;
+use script_ops::records::type_step;
+use script_ops::slots::slot_step;
 use state::State;
 ghost use mathlib.Core.Path.{_≡_};
 ghost use mathlib.Core.Bool.{cond};

@@ -10,7 +10,7 @@ pub mod event; // event.rt: power, reset, suspend and resume
 pub mod iso_out_enable; // iso_out_enable.rt: an isochronous OUT enabled and disabled: its row of accesses
 
 pub use codec::encode;
-pub use model_ops::points::flag_of;
+pub use script_ops::points::flag_of;
 ghost use mathlib.Core.Path.{_≡_};
 ghost use mathlib.Core.Bool.{true};
 ghost use Rattle.regs.specs.Registers.{fitsIn};

@@ -3,14 +3,14 @@ use crate::Next;
 use crate::Point;
 use crate::flag_of;
 use crate::iso_out_enable::after_switch;
-use model_ops::records::iso_out;
-use model_ops::records::place;
-use model_ops::rings::is_on;
 use regs::Access;
 use regs::Dir;
 use regs::Reg;
 use regs::control_word;
 use regs::enables;
+use script_ops::records::iso_out;
+use script_ops::records::place;
+use script_ops::rings::is_on;
 use state::EpState;
 use state::State;
 use state::load_ep;
@@ -25,11 +25,11 @@ ghost use Prim.Native.Nat.{ℕ};
 ghost use Rattle.regs.specs.ControlWord.{ACK, NYET, NAK, DATA0, wordOf};
 ghost use Rattle.state.specs.Driver.{Driver};
 ghost use Rattle.state.specs.State.{view, saved};
-ghost use Rattle.model.specs.Script.{run};
-ghost use Rattle.model.specs.Bus as script;
-ghost use Rattle.model_ops.specs.Means.{MeansFrom, MeansWithSlots};
-ghost use Rattle.model_ops.specs.Concrete.{concrete, go};
-ghost use Rattle.model_ops.specs.Records.{isoOut};
+ghost use Rattle.script.specs.Script.{run};
+ghost use Rattle.script.specs.Bus as script;
+ghost use Rattle.script_ops.specs.Means.{MeansFrom, MeansWithSlots};
+ghost use Rattle.script_ops.specs.Concrete.{concrete, go};
+ghost use Rattle.script_ops.specs.Records.{isoOut};
 ghost use Rattle.bus.specs.Points.{resultless, renewedAs, enabledOut, afterType, afterWords, afterPlaced, denote, meaning, Linked};
 
 // The record reset, and armed or not.
@@ -156,7 +156,7 @@ pub fn after_type(s: &mut State, dir: Dir, e: u8, on: bool) -> Access
     ensures { λ _. ⌜ saved (now (s .exit)) ≡ saved (now (s .entry)) ⌝ }
     ensures { λ r. ⌜ Linked (Next.Asks r (Point.Woken dir e)) ⌝ }
 {
-    model_ops::records::set_enabled(s, dir, e, on);
+    script_ops::records::set_enabled(s, dir, e, on);
     let g = load_globals(s);
     Access::Write(Reg::EpConfig, 0, g.ep_config)
 }

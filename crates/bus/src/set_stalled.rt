@@ -2,13 +2,13 @@
 use crate::Next;
 use crate::Point;
 use crate::byte;
-use model_ops::records::wake;
-use model_ops::rings::is_on;
 use regs::Access;
 use regs::Dir;
 use regs::Reg;
 use regs::control_word;
 use regs::registers::ctrl_of;
+use script_ops::records::wake;
+use script_ops::rings::is_on;
 use state::EpState;
 use state::State;
 use state::load_ep;
@@ -20,12 +20,12 @@ ghost use Prim.Native.Nat.{ℕ};
 ghost use Rattle.regs.specs.Registers.{fitsIn};
 ghost use Rattle.state.specs.Driver.{Driver};
 ghost use Rattle.state.specs.State.{view, saved};
-ghost use Rattle.model.specs.Script.{run};
-ghost use Rattle.model.specs.Bus as script;
-ghost use Rattle.model_ops.specs.Means.{Means, MeansFrom};
-ghost use Rattle.model_ops.specs.Concrete.{concrete, go};
-ghost use Rattle.model_ops.specs.Records.{plainOf};
-ghost use Rattle.model.specs.Tree.{ends};
+ghost use Rattle.script.specs.Script.{run};
+ghost use Rattle.script.specs.Bus as script;
+ghost use Rattle.script_ops.specs.Means.{Means, MeansFrom};
+ghost use Rattle.script_ops.specs.Concrete.{concrete, go};
+ghost use Rattle.script_ops.specs.Records.{plainOf};
+ghost use Rattle.script.specs.Tree.{ends};
 ghost use Rattle.bus.specs.Points.{resultless, afterStallWord, afterRestart, denote, meaning, Linked};
 
 // `is_endpoint_stalled` (mod.rs 1101-1106).

@@ -17,9 +17,9 @@ use Rattle.state.specs.declared.Allocator.{Allocator}
 use Rattle.state.specs.declared.Saved.{Saved}
 use Rattle.state.specs.Driver.{Driver, noneGathered}
 use Rattle.state.specs.State.{view, saved}
-use Rattle.model.specs.Statics.{isOn}
-use Rattle.model.specs.Answers.{Answer, Refused}
-use Rattle.model.specs.Machine.{Buf, Machine, ended, go, awaited}
+use Rattle.script.specs.Statics.{isOn}
+use Rattle.script.specs.Answers.{Answer, Refused}
+use Rattle.script.specs.Machine.{Buf, Machine, ended, go, awaited}
 use Rattle.interrupt.specs.declared.Point.{Point}
 use Rattle.interrupt.specs.declared.Point.the-variants as point
 use Rattle.interrupt.specs.declared.Next.the-variants as next
@@ -49,10 +49,10 @@ use Rattle.machine.specs.RowsLaws.{back, interrupt-call}
 use Rattle.calls.specs.Sharing.{going, timeAfter}
 use Rattle.calls.specs.SharingLaws.{settles}
 use Rattle.calls.specs.StaysLaws.{interrupt-stays}
-use Rattle.model.specs.declared.Transfer.{Transfer}
-use Rattle.model.specs.Handler.{nakNonIso}
-use Rattle.model.specs.Script.{run}
-use Rattle.model_ops.specs.Concrete.{concrete}
+use Rattle.script.specs.declared.Transfer.{Transfer}
+use Rattle.script.specs.Handler.{nakNonIso}
+use Rattle.script.specs.Script.{run}
+use Rattle.script_ops.specs.Concrete.{concrete}
 use Rattle.answer.specs.Parts.{stepOf}
 use Rattle.answer.specs.Word.{Encodes, readWord, wordOf, accessWord}
 use Rattle.answer.specs.WordLaws as words

@@ -10,9 +10,9 @@ use Rattle.regs.specs.declared.Access.{Access}
 use Rattle.regs.specs.declared.Access.the-variants.{Read, Write, Receive, Transmit, Ep0Dma, Wait, Callback}
 use Rattle.regs.specs.declared.Reg.{Reg}
 use Rattle.state.specs.State.{view}
-use Rattle.model.specs.Every.{sameReg}
-use Rattle.model.specs.Calls.{interrupt}
-use Rattle.model.specs.Machine.{Buf, begin, go}
+use Rattle.script.specs.Every.{sameReg}
+use Rattle.script.specs.Calls.{interrupt}
+use Rattle.script.specs.Machine.{Buf, begin, go}
 use Rattle.answer.specs.declared.Step.{Step}
 use Rattle.answer.specs.declared.Step.the-variants as step
 use Rattle.machine.specs.Suspended.{machineOf, drive, answerOf, lentOr, BufferUnchangedOnRow1, SavedByAnswer}

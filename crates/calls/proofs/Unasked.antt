@@ -9,8 +9,8 @@ use Rattle.regs.specs.declared.Access.{Access}
 use Rattle.regs.specs.declared.Access.the-variants.{Read, Write, Receive, Transmit, Ep0Dma, Wait, Callback}
 use Rattle.regs.proofs.Access as declared-access
 use Rattle.state.specs.Driver.{Driver}
-use Rattle.model.specs.Answers.{Answer}
-use Rattle.model.specs.Machine.{Ans, ended, handed, told}
+use Rattle.script.specs.Answers.{Answer}
+use Rattle.script.specs.Machine.{Ans, ended, handed, told}
 use Rattle.answer.specs.declared.Step.{Step}
 use Rattle.answer.specs.declared.Step.the-variants as step
 use Rattle.machine.specs.Suspended.{answerOf}

@@ -4,8 +4,8 @@ use Prim.Native.Nat.{ℕ}
 use lib.Dec.{eqb}
 use Rattle.regs.specs.declared.Dir.{Dir}
 use Rattle.state.specs.Driver.{Driver}
-use Rattle.model.specs.Answers.{isAllocated}
-use Rattle.model.specs.Machine.{Buf}
+use Rattle.script.specs.Answers.{isAllocated}
+use Rattle.script.specs.Machine.{Buf}
 use Rattle.machine.specs.declared.Suspended.{Suspended}
 use Rattle.machine.specs.Suspended.{slotsFit}
 use Rattle.machine.specs.Rows.{isIdle, stopOf}

@@ -8,16 +8,16 @@ use Rattle.regs.specs.declared.Dir.{Dir}
 use Rattle.regs.specs.declared.Dir.the-variants.{Out, In}
 use lib.ListN.{getD}
 use Rattle.state.specs.Driver.{Driver, epOn, key, noEp, noneGathered}
-use Rattle.model.specs.Tree.{ends, asks}
-use Rattle.model.specs.Tree as tree
-use Rattle.model.specs.Script.{Script, run, test, _>>_, row, switch}
-use Rattle.model.specs.Statics.{isOn, wake}
-use Rattle.model.specs.Answers.{Answer, Refused, resultless, isAllocated}
-use Rattle.model.specs.Bus as script
-use Rattle.model.specs.Calls.{slotted, SetEnabled}
-use Rattle.model.specs.Machine.{Buf, begin, ended}
-use Rattle.model_ops.specs.Rings.{St}
-use Rattle.model_ops.specs.Concrete.{concrete}
+use Rattle.script.specs.Tree.{ends, asks}
+use Rattle.script.specs.Tree as tree
+use Rattle.script.specs.Script.{Script, run, test, _>>_, row, switch}
+use Rattle.script.specs.Statics.{isOn, wake}
+use Rattle.script.specs.Answers.{Answer, Refused, resultless, isAllocated}
+use Rattle.script.specs.Bus as script
+use Rattle.script.specs.Calls.{slotted, SetEnabled}
+use Rattle.script.specs.Machine.{Buf, begin, ended}
+use Rattle.script_ops.specs.Rings.{St}
+use Rattle.script_ops.specs.Concrete.{concrete}
 use Rattle.machine.specs.declared.Suspended.{Suspended}
 use Rattle.machine.specs.Suspended.{machineAt, drive, halts, slotsFit}
 use Rattle.answer.specs.Goes.{Called}

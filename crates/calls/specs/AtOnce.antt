@@ -6,10 +6,10 @@ use Prim.Native.Nat.{ℕ}
 use Rattle.state.specs.Driver.{Driver}
 use Rattle.state.specs.declared.Saved.{Saved}
 use Rattle.state.specs.State.{view, saved}
-use Rattle.model.specs.Tree.{Out}
-use Rattle.model.specs.Answers.{Answer}
-use Rattle.model.specs.Machine.{Buf, Ans, ended}
-use Rattle.model_ops.specs.Rings.{St}
+use Rattle.script.specs.Tree.{Out}
+use Rattle.script.specs.Answers.{Answer}
+use Rattle.script.specs.Machine.{Buf, Ans, ended}
+use Rattle.script_ops.specs.Rings.{St}
 use Rattle.endpoint.specs.declared.Polled.{Polled}
 use Rattle.endpoint.specs.Points as endpoint
 use Rattle.isochronous.specs.declared.open_close.Packet.{Packet}

@@ -7,15 +7,15 @@ use Rattle.alloc.specs.declared.Answer as alloc-answer
 use Rattle.alloc.specs.declared.Answer.the-variants as alloc
 use Rattle.alloc.specs.Alloc.{allocateOf, allocateEp0Of}
 use Rattle.state.specs.Driver.{Driver, noneGathered}
-use Rattle.model.specs.Tree.{bindOut}
-use Rattle.model.specs.Cells.{allocator-cell}
-use Rattle.model.specs.Script.{Script, _>>=_, _>>_, get, act, allocate, allocate0, run}
-use Rattle.model.specs.Answers.{Answer, Refused}
-use Rattle.model.specs.Calls.{other, Allocate, Start}
-use Rattle.model.specs.Driver.{allocated-as, started-as}
-use Rattle.model.specs.Machine.{Buf, ended, begin}
-use Rattle.model_ops.specs.Records.{allocatedOn, allocatedEp0}
-use Rattle.model_ops.specs.Concrete.{concrete, go}
+use Rattle.script.specs.Tree.{bindOut}
+use Rattle.script.specs.Cells.{allocator-cell}
+use Rattle.script.specs.Script.{Script, _>>=_, _>>_, get, act, allocate, allocate0, run}
+use Rattle.script.specs.Answers.{Answer, Refused}
+use Rattle.script.specs.Calls.{other, Allocate, Start}
+use Rattle.script.specs.Driver.{allocated-as, started-as}
+use Rattle.script.specs.Machine.{Buf, ended, begin}
+use Rattle.script_ops.specs.Records.{allocatedOn, allocatedEp0}
+use Rattle.script_ops.specs.Concrete.{concrete, go}
 use Rattle.driver.specs.Points.{newEndpoint, startEp0}
 use Rattle.machine.specs.declared.Suspended.{Suspended}
 use Rattle.machine.specs.Suspended.{machineAt, finish, drive, halts}

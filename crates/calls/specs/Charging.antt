@@ -2,8 +2,8 @@
 use mathlib.Core.List.{List}
 use Prim.Native.Nat.{ℕ}
 use lib.ListN.{set}
-use Rattle.model.specs.Answers.{Answer}
-use Rattle.model.specs.Machine.{Ans, ended, handed, told}
+use Rattle.script.specs.Answers.{Answer}
+use Rattle.script.specs.Machine.{Ans, ended, handed, told}
 
 -- where it is begun
 abbrev pub chargedAt : Ans Answer → ℕ → ℕ → List ℕ → List ℕ

@@ -3,14 +3,14 @@ use mathlib.Core.Bool.{Bool, true, false}
 use mathlib.Core.Path.{_≡_, refl, ap, _∙_}
 use Prim.Native.Nat.{ℕ}
 use Rattle.state.specs.Driver.{Driver}
-use Rattle.model.specs.Tree.{Out, ends, bindOut}
-use Rattle.model.specs.Script.{Script, ret, _>>_}
-use Rattle.model.specs.Answers.{Answer, ok, isNumber}
-use Rattle.model.specs.Calls.{other, SetPaced}
-use Rattle.model.specs.IsoIn.{isoInSetPaced}
-use Rattle.model.specs.Machine.{Buf, ended, begin}
-use Rattle.model_ops.specs.Rings.{St}
-use Rattle.model_ops.specs.Concrete.{go}
+use Rattle.script.specs.Tree.{Out, ends, bindOut}
+use Rattle.script.specs.Script.{Script, ret, _>>_}
+use Rattle.script.specs.Answers.{Answer, ok, isNumber}
+use Rattle.script.specs.Calls.{other, SetPaced}
+use Rattle.script.specs.IsoIn.{isoInSetPaced}
+use Rattle.script.specs.Machine.{Buf, ended, begin}
+use Rattle.script_ops.specs.Rings.{St}
+use Rattle.script_ops.specs.Concrete.{go}
 use Rattle.driver.specs.Points.{setPaced}
 use Rattle.machine.specs.declared.Suspended.{Suspended}
 use Rattle.machine.specs.Suspended.{machineAt, drive, halts}

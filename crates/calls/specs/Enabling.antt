@@ -5,9 +5,9 @@ use mathlib.Core.Path.{_≡_, refl, ap, sym, _∙_}
 use Prim.Native.Nat.{ℕ}
 use Rattle.regs.specs.declared.Dir.{Dir}
 use Rattle.state.specs.Driver.{Driver}
-use Rattle.model.specs.Answers.{Answer, Refused}
-use Rattle.model.specs.Calls.{slotted, SetEnabled}
-use Rattle.model.specs.Machine.{Buf, Machine, begin, Ans, ended, handed, told}
+use Rattle.script.specs.Answers.{Answer, Refused}
+use Rattle.script.specs.Calls.{slotted, SetEnabled}
+use Rattle.script.specs.Machine.{Buf, Machine, begin, Ans, ended, handed, told}
 use Rattle.machine.specs.declared.Suspended.{Suspended}
 use Rattle.machine.specs.Suspended.{machineAt, drive, slotsFit, lentOr}
 use Rattle.answer.specs.Goes.{Called}

@@ -4,13 +4,13 @@ use mathlib.Core.Bool.{false}
 use mathlib.Core.List.{List, []}
 use Prim.Native.Nat.{ℕ}
 use Rattle.state.specs.State.{view}
-use Rattle.model.specs.Tree.{Out}
-use Rattle.model.specs.Script.{Script, run}
-use Rattle.model.specs.Answers.{operation, staged}
-use Rattle.model.specs.Calls.{Other, otherCode}
-use Rattle.model.specs.Machine.{Buf}
-use Rattle.model_ops.specs.Rings.{St}
-use Rattle.model_ops.specs.Concrete.{concrete}
+use Rattle.script.specs.Tree.{Out}
+use Rattle.script.specs.Script.{Script, run}
+use Rattle.script.specs.Answers.{operation, staged}
+use Rattle.script.specs.Calls.{Other, otherCode}
+use Rattle.script.specs.Machine.{Buf}
+use Rattle.script_ops.specs.Rings.{St}
+use Rattle.script_ops.specs.Concrete.{concrete}
 use Rattle.answer.specs.declared.Step.{Step}
 use Rattle.answer.specs.declared.Step.the-variants as step
 use Rattle.machine.specs.Suspended.{SavedByAnswer}

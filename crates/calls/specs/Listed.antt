@@ -12,14 +12,14 @@ use Rattle.descriptor.specs.Trial.{trialOf}
 use Rattle.descriptor.specs.Preview.{refusedBy, previewOf}
 use Rattle.state.specs.declared.Allocator.{Allocator}
 use Rattle.state.specs.Driver.{Driver}
-use Rattle.model.specs.Tree as tree
-use Rattle.model.specs.Script.{Script, run}
-use Rattle.model.specs.Answers.{Answer, Refused}
-use Rattle.model.specs.AllocateAll.{allocate-tried}
-use Rattle.model.specs.Calls.{AllocateAll}
-use Rattle.model.specs.Machine.{Buf, Way}
-use Rattle.model_ops.specs.Rings.{St}
-use Rattle.model_ops.specs.Concrete.{concrete}
+use Rattle.script.specs.Tree as tree
+use Rattle.script.specs.Script.{Script, run}
+use Rattle.script.specs.Answers.{Answer, Refused}
+use Rattle.script.specs.AllocateAll.{allocate-tried}
+use Rattle.script.specs.Calls.{AllocateAll}
+use Rattle.script.specs.Machine.{Buf, Way}
+use Rattle.script_ops.specs.Rings.{St}
+use Rattle.script_ops.specs.Concrete.{concrete}
 use Rattle.machine.specs.declared.Suspended.{Suspended}
 use Rattle.machine.specs.Suspended.{halts}
 use Rattle.answer.specs.Goes.{Called}

@@ -13,15 +13,15 @@ use Rattle.descriptor.specs.declared.preview.Shown.{Shown}
 use Rattle.descriptor.specs.Trial.{trialOf}
 use Rattle.state.specs.declared.Allocator.{Allocator}
 use Rattle.state.specs.Driver.{Driver, noneGathered}
-use Rattle.model.specs.Tree as tree
-use Rattle.model.specs.Tree.{bindOut}
-use Rattle.model.specs.Script.{Script, run}
-use Rattle.model.specs.Answers.{Answer, Refused, operation}
-use Rattle.model.specs.AllocateAll.{allocate-read}
-use Rattle.model.specs.Calls.{other, AllocateAll}
-use Rattle.model.specs.Machine.{Buf, Way, ended, begin}
-use Rattle.model_ops.specs.Rings.{St}
-use Rattle.model_ops.specs.Concrete.{concrete, go}
+use Rattle.script.specs.Tree as tree
+use Rattle.script.specs.Tree.{bindOut}
+use Rattle.script.specs.Script.{Script, run}
+use Rattle.script.specs.Answers.{Answer, Refused, operation}
+use Rattle.script.specs.AllocateAll.{allocate-read}
+use Rattle.script.specs.Calls.{other, AllocateAll}
+use Rattle.script.specs.Machine.{Buf, Way, ended, begin}
+use Rattle.script_ops.specs.Rings.{St}
+use Rattle.script_ops.specs.Concrete.{concrete, go}
 use Rattle.driver.specs.Each.{eachOn, announceAll}
 use Rattle.driver.specs.EachLaws.{each-run}
 use Rattle.machine.specs.declared.Suspended.{Suspended}

@@ -4,8 +4,8 @@ use mathlib.Core.Path.{_≡_, refl, sym, ap, subst, _∙_}
 use Prim.Native.Nat.{ℕ}
 use Rattle.state.specs.State.{view, saved}
 use Rattle.state.specs.Driver.{Driver}
-use Rattle.model.specs.Answers.{Answer}
-use Rattle.model.specs.Machine.{Buf, Machine, go}
+use Rattle.script.specs.Answers.{Answer}
+use Rattle.script.specs.Machine.{Buf, Machine, go}
 use Rattle.answer.specs.declared.Step.{Step}
 use Rattle.machine.specs.Suspended.{machineOf, drive, answerOf}
 use Rattle.answer.specs.Goes.{Called}

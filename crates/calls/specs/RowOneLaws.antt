@@ -4,7 +4,7 @@ use mathlib.Core.List.{List, []}
 use mathlib.Core.Path.{_≡_}
 use Prim.Native.Nat.{ℕ}
 use Rattle.state.specs.State.{view, saved}
-use Rattle.model.specs.Machine.{Buf, go}
+use Rattle.script.specs.Machine.{Buf, go}
 use Rattle.answer.specs.declared.Step.{Step}
 use Rattle.machine.specs.Suspended.{decode, machineOf, drive, answerOf, slotsFit, lentOr}
 use Rattle.answer.specs.Goes.{Called}

@@ -10,11 +10,11 @@ use Rattle.regs.specs.declared.Reg.the-variants.{EpConfig}
 use Rattle.regs.specs.declared.Dir.{Dir}
 use Rattle.state.specs.Driver.{Driver, epOn}
 use Rattle.state.specs.State.{view}
-use Rattle.model.specs.Every.{sameReg}
-use Rattle.model.specs.Answers.{Answer, Refused}
-use Rattle.model.specs.Calls.{Config, Op, interrupt, slotted, other, aside, Slotted, SetEnabled, PollRead, BeginWrite}
-use Rattle.model.specs.Calls.{PollWrite, PollDataOut, BeginDataIn, calls}
-use Rattle.model.specs.Machine.{Buf, Call, start, begin, go, question, Machine, Ans, ended, handed, told, lentTo}
+use Rattle.script.specs.Every.{sameReg}
+use Rattle.script.specs.Answers.{Answer, Refused}
+use Rattle.script.specs.Calls.{Config, Op, interrupt, slotted, other, aside, Slotted, SetEnabled, PollRead, BeginWrite}
+use Rattle.script.specs.Calls.{PollWrite, PollDataOut, BeginDataIn, calls}
+use Rattle.script.specs.Machine.{Buf, Call, start, begin, go, question, Machine, Ans, ended, handed, told, lentTo}
 use Rattle.answer.specs.declared.Step.{Step}
 use Rattle.machine.specs.Suspended.{driverOf, drive, machineOf, answerOf, lentOr, BufferUnchangedOnRow1, SavedByAnswer}
 use Rattle.answer.specs.Goes.{Called}

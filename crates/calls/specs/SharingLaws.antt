@@ -5,9 +5,9 @@ use mathlib.Core.Path.{_≡_, refl, ap, subst}
 use Prim.Native.Nat.{ℕ}
 use Rattle.regs.specs.declared.Dir.{Dir}
 use Rattle.state.specs.Driver.{Driver}
-use Rattle.model.specs.Answers.{Answer, Refused}
-use Rattle.model.specs.Calls.{Config, Op, slotted, SetEnabled, calls}
-use Rattle.model.specs.Machine.{Buf, Call, begin, Machine, ended, lentTo}
+use Rattle.script.specs.Answers.{Answer, Refused}
+use Rattle.script.specs.Calls.{Config, Op, slotted, SetEnabled, calls}
+use Rattle.script.specs.Machine.{Buf, Call, begin, Machine, ended, lentTo}
 use Rattle.machine.specs.Suspended.{driverOf, drive}
 use Rattle.answer.specs.Goes.{Called}
 use Rattle.req_bus_time.specs.Time.{entryOf, passes}

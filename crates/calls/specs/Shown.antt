@@ -3,7 +3,7 @@ use mathlib.Core.Path.{_≡_}
 use Prim.Native.Nat.{ℕ}
 use Rattle.regs.specs.declared.Dir.the-variants.{Out}
 use Rattle.state.specs.Driver.{Driver}
-use Rattle.model_ops.specs.Rings.{oldestAt, nextLen, nextStamp}
+use Rattle.script_ops.specs.Rings.{oldestAt, nextLen, nextStamp}
 use Rattle.answer.specs.declared.Step.{Step}
 use Rattle.answer.specs.declared.Step.the-variants as step
 

@@ -2,9 +2,9 @@
 use Rattle.regs.specs.declared.Access.{Access}
 use Rattle.regs.specs.declared.Access.the-variants.{Read, Write, Receive, Transmit, Ep0Dma, Wait, Callback}
 use Rattle.regs.specs.declared.Reg.the-variants.{EpConfig}
-use Rattle.model.specs.Tree as tree
-use Rattle.model.specs.Every.{Chip, All, Where, sameReg}
-use Rattle.model_ops.specs.Rings.{St}
+use Rattle.script.specs.Tree as tree
+use Rattle.script.specs.Every.{Chip, All, Where, sameReg}
+use Rattle.script_ops.specs.Rings.{St}
 
 -- no write of ep_config
 abbrev pub Spares : Access → Type 0

@@ -5,18 +5,18 @@ use Prim.Native.Nat.{ℕ}
 use Rattle.regs.specs.declared.Access.{Access}
 use Rattle.regs.specs.declared.Access.the-variants.{Read, Write, Receive, Transmit, Ep0Dma, Wait, Callback}
 use Rattle.regs.specs.declared.Reg.the-variants.{EpConfig}
-use Rattle.model.specs.Tree as tree
-use Rattle.model.specs.Tree.{asks}
-use Rattle.model.specs.Script.{Script, run}
-use Rattle.model.specs.Answers.{Answer}
-use Rattle.model.specs.Calls.{interrupt, interruptCode}
-use Rattle.model.specs.Every.{at-ask, Where, sameReg}
-use Rattle.model.specs.EveryLaws.{only-run}
-use Rattle.model.specs.Steps.{moving, mayAsk, Steps}
-use Rattle.model.specs.StepsCalls.{call-steps}
-use Rattle.model.specs.StepsRunsLaws.{writes-config, accesses}
-use Rattle.model_ops.specs.Rings.{St}
-use Rattle.model_ops.specs.Concrete.{concrete}
+use Rattle.script.specs.Tree as tree
+use Rattle.script.specs.Tree.{asks}
+use Rattle.script.specs.Script.{Script, run}
+use Rattle.script.specs.Answers.{Answer}
+use Rattle.script.specs.Calls.{interrupt, interruptCode}
+use Rattle.script.specs.Every.{at-ask, Where, sameReg}
+use Rattle.script.specs.EveryLaws.{only-run}
+use Rattle.script.specs.Steps.{moving, mayAsk, Steps}
+use Rattle.script.specs.StepsCalls.{call-steps}
+use Rattle.script.specs.StepsRunsLaws.{writes-config, accesses}
+use Rattle.script_ops.specs.Rings.{St}
+use Rattle.script_ops.specs.Concrete.{concrete}
 use Rattle.calls.specs.Spares.{Spares, Sparing}
 
 of-kind : (q : Access) → mayAsk moving q ≡ true → Spares q

@@ -9,20 +9,20 @@ use Rattle.regs.specs.declared.Reg.the-variants.{EpConfig}
 use Rattle.regs.specs.Registers.{ctrlOf}
 use Rattle.regs.specs.ControlWord.{ack, flip, nakflip}
 use Rattle.regs.specs.Status.{endpoint, token}
-use Rattle.model.specs.declared.Transfer.{Transfer}
-use Rattle.model.specs.Tree as tree
+use Rattle.script.specs.declared.Transfer.{Transfer}
+use Rattle.script.specs.Tree as tree
 use Rattle.regs.specs.MisStatus.{sieFree}
-use Rattle.model.specs.Cells.{globals-cell}
-use Rattle.model.specs.Script.{Script, test, done, when, get, callback, _>>=_, _>>_}
-use Rattle.model.specs.Statics.{isOn, isoInEvery, isoOuts, wake, wakeBus}
-use Rattle.model.specs.IsoIn.{sofWalk, lateWalk}
-use Rattle.model.specs.Handler.{looks}
-use Rattle.model.specs.Every.{at-end, at-ask, Where, sameReg}
-use Rattle.model.specs.EveryLaws.{every-bind}
-use Rattle.model.specs.Steps.{moving, Steps}
-use Rattle.model.specs.StepsInterrupt.{control, of-looks, of-nak, of-settle, of-complete, of-sof-walk, of-sof, of-late-walk}
-use Rattle.model.specs.StepsInterrupt.{of-check-walk, of-dispatch, of-moved-on, of-transfer, of-setup, of-interrupt}
-use Rattle.model_ops.specs.Rings.{St}
+use Rattle.script.specs.Cells.{globals-cell}
+use Rattle.script.specs.Script.{Script, test, done, when, get, callback, _>>=_, _>>_}
+use Rattle.script.specs.Statics.{isOn, isoInEvery, isoOuts, wake, wakeBus}
+use Rattle.script.specs.IsoIn.{sofWalk, lateWalk}
+use Rattle.script.specs.Handler.{looks}
+use Rattle.script.specs.Every.{at-end, at-ask, Where, sameReg}
+use Rattle.script.specs.EveryLaws.{every-bind}
+use Rattle.script.specs.Steps.{moving, Steps}
+use Rattle.script.specs.StepsInterrupt.{control, of-looks, of-nak, of-settle, of-complete, of-sof-walk, of-sof, of-late-walk}
+use Rattle.script.specs.StepsInterrupt.{of-check-walk, of-dispatch, of-moved-on, of-transfer, of-setup, of-interrupt}
+use Rattle.script_ops.specs.Rings.{St}
 use Rattle.interrupt.specs.declared.nak.Nak.{Nak}
 use Rattle.interrupt.specs.declared.nak.Nak.the-variants as nak-point
 use Rattle.interrupt.specs.declared.settle.Settle.{Settle}

@@ -5,13 +5,13 @@ use Prim.Native.Nat.{ℕ}
 use lib.Dec.{eqb}
 use Rattle.regs.specs.declared.Dir.{Dir}
 use Rattle.state.specs.Driver.{Driver}
-use Rattle.model.specs.Tree.{Out, ends}
-use Rattle.model.specs.Script.{Script, run}
-use Rattle.model.specs.Answers.{Answer, Refused, staged, isAllocated}
-use Rattle.model.specs.Calls.{Other, other, otherCode, named-or-0}
-use Rattle.model.specs.Machine.{Buf, ended, begin}
-use Rattle.model_ops.specs.Rings.{St}
-use Rattle.model_ops.specs.Concrete.{concrete}
+use Rattle.script.specs.Tree.{Out, ends}
+use Rattle.script.specs.Script.{Script, run}
+use Rattle.script.specs.Answers.{Answer, Refused, staged, isAllocated}
+use Rattle.script.specs.Calls.{Other, other, otherCode, named-or-0}
+use Rattle.script.specs.Machine.{Buf, ended, begin}
+use Rattle.script_ops.specs.Rings.{St}
+use Rattle.script_ops.specs.Concrete.{concrete}
 use Rattle.endpoint.specs.Rows.{stallable}
 use Rattle.machine.specs.declared.Suspended.{Suspended}
 use Rattle.machine.specs.Suspended.{machineAt, drive, halts}

@@ -8,16 +8,16 @@ use Rattle.regs.specs.declared.Access.the-variants.{Read, Write, Receive, Trans
 use Rattle.regs.specs.declared.Reg.the-variants.{EpConfig}
 use Rattle.state.specs.declared.Saved.{Saved}
 use Rattle.state.specs.Driver.{Driver}
-use Rattle.model.specs.Tree as tree
-use Rattle.model.specs.Tree.{ends, asks}
-use Rattle.model.specs.Answers.{Answer, Refused}
-use Rattle.model.specs.Every.{Where, sameReg, at-ask}
-use Rattle.model.specs.EveryLaws.{every-bind, only-run}
-use Rattle.model.specs.Calls.{calls}
-use Rattle.model.specs.Machine.{Buf, ended, over, go}
-use Rattle.model.specs.Script.{run}
-use Rattle.model_ops.specs.Rings.{St}
-use Rattle.model_ops.specs.Concrete.{concrete}
+use Rattle.script.specs.Tree as tree
+use Rattle.script.specs.Tree.{ends, asks}
+use Rattle.script.specs.Answers.{Answer, Refused}
+use Rattle.script.specs.Every.{Where, sameReg, at-ask}
+use Rattle.script.specs.EveryLaws.{every-bind, only-run}
+use Rattle.script.specs.Calls.{calls}
+use Rattle.script.specs.Machine.{Buf, ended, over, go}
+use Rattle.script.specs.Script.{run}
+use Rattle.script_ops.specs.Rings.{St}
+use Rattle.script_ops.specs.Concrete.{concrete}
 use Rattle.interrupt.specs.declared.Point.{Point}
 use Rattle.interrupt.specs.Points as handler
 use Rattle.interrupt.specs.Codec as handlerCodec

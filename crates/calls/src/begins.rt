@@ -11,8 +11,8 @@ ghost use mathlib.Core.Path.{_≡_};
 ghost use mathlib.Core.List.{List, []};
 ghost use Prim.Native.Nat.{ℕ};
 ghost use Rattle.state.specs.State.{view, saved};
-ghost use Rattle.model.specs.Machine.{begin};
-ghost use Rattle.model.specs.Calls.{other, interrupt, Microframe, SetPaced, Advance};
+ghost use Rattle.script.specs.Machine.{begin};
+ghost use Rattle.script.specs.Calls.{other, interrupt, Microframe, SetPaced, Advance};
 ghost use Rattle.machine.specs.Suspended.{machineOf, drive, answerOf, SavedByAnswer};
 ghost use Rattle.machine.specs.Contracts.{OtherCall};
 

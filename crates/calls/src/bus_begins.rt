@@ -8,7 +8,7 @@ use machine::stops::slots_fit;
 use machine::stops::stop;
 use regs::Dir;
 use state::State;
-ghost use Rattle.model.specs.Calls.{BusEnable, BusDisable, BusPoll, IsStalled, SetStalled, SetEnabled};
+ghost use Rattle.script.specs.Calls.{BusEnable, BusDisable, BusPoll, IsStalled, SetStalled, SetEnabled};
 ghost use Rattle.machine.specs.Contracts.{OtherCall, SlottedCall};
 ghost use Rattle.calls.specs.Enters.{Enters};
 

@@ -15,7 +15,7 @@ ghost use lib.ListN.{set};
 ghost use Rattle.regs.specs.declared.Reg.the-variants.{EpConfig};
 ghost use Rattle.state.specs.Driver.{Driver};
 ghost use Rattle.state.specs.State.{view};
-ghost use Rattle.model.specs.Every.{sameReg};
+ghost use Rattle.script.specs.Every.{sameReg};
 ghost use Rattle.machine.specs.Suspended.{answerOf};
 ghost use Rattle.calls.specs.Sharing.{chargeOn, starting, going, written, timeAfter};
 ghost use Rattle.calls.specs.Charging.{chargedAt};

@@ -4,7 +4,7 @@ use machine::halts::begun_control;
 use machine::saved::is_idle;
 use machine::stops::slots_fit;
 use state::State;
-ghost use Rattle.model.specs.Calls.{BeginSetup, BeginDataOut, BeginDataIn, BeginAccept, BeginAcceptSetAddress, BeginReject};
+ghost use Rattle.script.specs.Calls.{BeginSetup, BeginDataOut, BeginDataIn, BeginAccept, BeginAcceptSetAddress, BeginReject};
 ghost use Rattle.machine.specs.Contracts.{OtherCall, SlottedCall};
 
 // `setup` (control.rs 70-80).

@@ -5,7 +5,7 @@ use machine::saved::is_idle;
 use machine::stops::slots_fit;
 use state::State;
 ghost use lib.ListN.{length};
-ghost use Rattle.model.specs.Calls.{PollSetup, PollDataOut, PollDataIn, PollAccept};
+ghost use Rattle.script.specs.Calls.{PollSetup, PollDataOut, PollDataIn, PollAccept};
 ghost use Rattle.machine.specs.Contracts.{OtherCall, PolledCall};
 
 // `setup` (control.rs 70-80).

@@ -12,7 +12,7 @@ ghost use mathlib.Core.List.{List, []};
 ghost use Prim.Native.Nat.{ℕ};
 ghost use Rattle.descriptor.specs.Writing.{stored};
 ghost use Rattle.state.specs.State.{view, saved};
-ghost use Rattle.model.specs.Calls.{AllocateAll};
+ghost use Rattle.script.specs.Calls.{AllocateAll};
 ghost use Rattle.machine.specs.Suspended.{decode, machineOf, answerOf, SavedByAnswer};
 ghost use Rattle.machine.specs.Rows.{isIdle, stopOf};
 ghost use Rattle.machine.specs.Contracts.{OtherCall};

@@ -5,7 +5,7 @@ use req_bus_time::Time;
 use state::State;
 ghost use mathlib.Core.Path.{_≡_};
 ghost use Rattle.state.specs.State.{saved};
-ghost use Rattle.model.specs.Machine.{go};
+ghost use Rattle.script.specs.Machine.{go};
 ghost use Rattle.calls.specs.Sharing.{SharedStep};
 
 pub fn operate(s: &mut State, slots: &mut [u8], time: &mut Time, driver: u32, v: u32) -> Step

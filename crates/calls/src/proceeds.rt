@@ -5,7 +5,7 @@ use machine::saved::tag;
 use req_bus_time::Time;
 use state::State;
 ghost use mathlib.Core.Path.{_≡_};
-ghost use Rattle.model.specs.Machine.{go};
+ghost use Rattle.script.specs.Machine.{go};
 ghost use Rattle.calls.specs.Sharing.{SharedStep};
 
 // The tag of an interrupt's point.

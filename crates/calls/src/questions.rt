@@ -1,7 +1,7 @@
 use endpoint::rows::is_number;
 use endpoint::rows::low;
-use model_ops::rings::is_on;
 use regs::Dir;
+use script_ops::rings::is_on;
 use state::EpState;
 use state::State;
 ghost use mathlib.Core.Path.{_≡_};

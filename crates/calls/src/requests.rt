@@ -6,8 +6,8 @@ use machine::saved::is_idle;
 use machine::stops::slots_fit;
 use state::State;
 ghost use lib.ListN.{length};
-ghost use Rattle.model.specs.Machine.{begin};
-ghost use Rattle.model.specs.Calls.{BeginRead, PollRead, BeginWrite, PollWrite};
+ghost use Rattle.script.specs.Machine.{begin};
+ghost use Rattle.script.specs.Calls.{BeginRead, PollRead, BeginWrite, PollWrite};
 ghost use Rattle.machine.specs.Contracts.{OtherCall, SlottedCall, PolledCall};
 
 // `read` (endpoint.rs 83-142), into a slice of n bytes.

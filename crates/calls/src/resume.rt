@@ -40,7 +40,7 @@ ghost use mathlib.Core.Path.{_≡_};
 ghost use mathlib.Core.List.{List, []};
 ghost use Prim.Native.Nat.{ℕ};
 ghost use Rattle.state.specs.State.{view, saved};
-ghost use Rattle.model.specs.Machine.{go};
+ghost use Rattle.script.specs.Machine.{go};
 ghost use Rattle.machine.specs.Suspended.{machineOf, drive, answerOf, lentOr, BufferUnchangedOnRow1, SavedByAnswer};
 ghost use Rattle.machine.specs.Stands.{Resumes};
 ghost use Rattle.answer.specs.Parts.{stepOf};

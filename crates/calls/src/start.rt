@@ -11,9 +11,9 @@ ghost use mathlib.Core.List.{List, []};
 ghost use Prim.Native.Nat.{ℕ};
 ghost use lib.Dec.{eqb};
 ghost use Rattle.state.specs.State.{view};
-ghost use Rattle.model.specs.Machine.{start};
-ghost use Rattle.model.specs.Calls.{Allocate, Start, startRow};
-ghost use Rattle.model.specs.Statics.{flag};
+ghost use Rattle.script.specs.Machine.{start};
+ghost use Rattle.script.specs.Calls.{Allocate, Start, startRow};
+ghost use Rattle.script.specs.Statics.{flag};
 ghost use Rattle.machine.specs.Suspended.{machineOf, drive, answerOf, configOf, SavedByAnswer};
 ghost use Rattle.machine.specs.Contracts.{OtherCall};
 
@@ -30,7 +30,7 @@ pub fn allocate(
 {
     let n = stop(s, 1);
     if n == 0 {
-        let z = model_ops::records::allocate(s, dir, kind, address, maximum, interval);
+        let z = script_ops::records::allocate(s, dir, kind, address, maximum, interval);
         match z {
             Answer::Refused(row) => {
                 return Step::Refused(row);
@@ -50,7 +50,7 @@ pub fn start(s: &mut State, maximum: u32) -> Step
 {
     let n = stop(s, 1);
     if n == 0 {
-        let z = model_ops::records::allocate0(s, maximum);
+        let z = script_ops::records::allocate0(s, maximum);
         match z {
             Answer::Refused(row) => {
                 return Step::Refused(row);

@@ -15,17 +15,17 @@ use Rattle.state.specs.declared.Globals.{Globals}
 use Rattle.state.specs.declared.Control.{Control}
 use Rattle.state.specs.declared.EpState.{EpState}
 use Rattle.state.specs.Driver.{Driver, epOn, withGlobals, withControl, noneGathered}
-use Rattle.model.specs.Statics.{isOn, flag, withReady, withArmed, withSetup}
-use Rattle.model.specs.Tree as tree
-use Rattle.model.specs.Tree.{ends}
-use Rattle.model.specs.Cells.{control-cell}
-use Rattle.model.specs.Script.{ret, put, _>>_}
-use Rattle.model.specs.Answers.{Answer, Refused, NotYet, Done, resultless, staged}
-use Rattle.model.specs.Control.{SETUP, ACCEPT, DATA-OUT, DATA-IN, setupBytes, pollSetup, pollAccept, pollDataIn}
-use Rattle.model.specs.Control.{pollDataOut, aborted-else, take-out, take-closing, take-in, dataInOf}
-use Rattle.model.specs.Control.{no-control, unlessSetup, statusIn, beginReject, beginDataIn}
-use Rattle.model_ops.specs.Rings.{St, filledEp0}
-use Rattle.model_ops.specs.Concrete.{go}
+use Rattle.script.specs.Statics.{isOn, flag, withReady, withArmed, withSetup}
+use Rattle.script.specs.Tree as tree
+use Rattle.script.specs.Tree.{ends}
+use Rattle.script.specs.Cells.{control-cell}
+use Rattle.script.specs.Script.{ret, put, _>>_}
+use Rattle.script.specs.Answers.{Answer, Refused, NotYet, Done, resultless, staged}
+use Rattle.script.specs.Control.{SETUP, ACCEPT, DATA-OUT, DATA-IN, setupBytes, pollSetup, pollAccept, pollDataIn}
+use Rattle.script.specs.Control.{pollDataOut, aborted-else, take-out, take-closing, take-in, dataInOf}
+use Rattle.script.specs.Control.{no-control, unlessSetup, statusIn, beginReject, beginDataIn}
+use Rattle.script_ops.specs.Rings.{St, filledEp0}
+use Rattle.script_ops.specs.Concrete.{go}
 use Rattle.endpoint.specs.Records.{modifiedOn}
 use Rattle.endpoint.specs.Answers.{finished}
 use Rattle.endpoint.specs.Brought.{Brought, untouched, neither, brings}

@@ -1,6 +1,6 @@
 -- Laws on the definitions of Codec.antt
 use mathlib.Core.Path.{_≡_, refl}
-use Rattle.model_ops.specs.NumbersLaws.{flag-back, dir-back}
+use Rattle.script_ops.specs.NumbersLaws.{flag-back, dir-back}
 use Rattle.control.specs.declared.Point.{Point}
 use Rattle.control.specs.declared.Point.the-variants as point
 use Rattle.control.specs.Codec.{asNumbers, encode, decode}

@@ -10,17 +10,17 @@ use Rattle.regs.specs.Registers.{ctrlOf, widthOf}
 use Rattle.regs.specs.ControlWord.{ack, stall, status}
 use Rattle.state.specs.Wakes.{listed}
 use Rattle.state.specs.Driver.{Driver}
-use Rattle.model.specs.Tree as tree
-use Rattle.model.specs.Tree.{ends, asks}
-use Rattle.model.specs.Script.{Script, run, ret, _>>=_, _>>_, write, when}
-use Rattle.model.specs.Statics.{withArmed, modifyEp, modifyReg}
-use Rattle.model.specs.Machine.{Awaits, nothing, reading, awaited}
-use Rattle.model.specs.Answers.{Answer, Refused, End, NotYet, Done}
-use Rattle.model.specs.Control.{acks, wordBytes, closing-out}
-use Rattle.model_ops.specs.Rings.{St}
-use Rattle.model_ops.specs.Concrete.{concrete}
+use Rattle.script.specs.Tree as tree
+use Rattle.script.specs.Tree.{ends, asks}
+use Rattle.script.specs.Script.{Script, run, ret, _>>=_, _>>_, write, when}
+use Rattle.script.specs.Statics.{withArmed, modifyEp, modifyReg}
+use Rattle.script.specs.Machine.{Awaits, nothing, reading, awaited}
+use Rattle.script.specs.Answers.{Answer, Refused, End, NotYet, Done}
+use Rattle.script.specs.Control.{acks, wordBytes, closing-out}
+use Rattle.script_ops.specs.Rings.{St}
+use Rattle.script_ops.specs.Concrete.{concrete}
 use Rattle.endpoint.specs.Answers.{finished, front}
-use Rattle.model_ops.specs.Results.{resultless}
+use Rattle.script_ops.specs.Results.{resultless}
 use Rattle.control.specs.declared.Point.{Point}
 use Rattle.control.specs.declared.Point.the-variants as point
 use Rattle.control.specs.declared.Begun.{Begun}

@@ -6,7 +6,7 @@ use lib.Dec.{eqb, ltb}
 use Rattle.state.specs.declared.Globals.{Globals}
 use Rattle.state.specs.declared.Control.{Control}
 use Rattle.state.specs.Driver.{Driver}
-use Rattle.model.specs.Statics.{isOn}
+use Rattle.script.specs.Statics.{isOn}
 
 -- of a stage of n bytes
 unfoldable pub beginRow : Globals → ℕ → ℕ

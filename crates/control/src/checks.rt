@@ -1,6 +1,6 @@
 // The checks before a stage (rows 4, 15 and 10), the pipe's request, and EP0's record where a stage begins.
-use model_ops::rings::is_on;
 use regs::Dir;
+use script_ops::rings::is_on;
 use state::Control;
 use state::Globals;
 use state::State;
@@ -12,8 +12,8 @@ ghost use lib.Dec.{eqb};
 ghost use Rattle.regs.specs.declared.Dir.the-variants.{Out, In};
 ghost use Rattle.state.specs.Driver.{withControl};
 ghost use Rattle.state.specs.State.{view, saved};
-ghost use Rattle.model.specs.Statics.{withReady, withLen, withArmed};
-ghost use Rattle.model.specs.Control.{requestOf, dataInOf, addressOf};
+ghost use Rattle.script.specs.Statics.{withReady, withLen, withArmed};
+ghost use Rattle.script.specs.Control.{requestOf, dataInOf, addressOf};
 ghost use Rattle.endpoint.specs.Records.{modifiedOn};
 ghost use Rattle.control.specs.Rows.{beginRow, pollRow};
 

@@ -1,9 +1,9 @@
 // A point as the fixed record of the state: the point's number in `sub`, a direction in `site`, whether the packet is the stage's
 // first in `flag`, a length in `len`.
 use crate::Point;
-use model_ops::points::dir_as;
-use model_ops::points::flag_of;
-use model_ops::points::numbers;
+use script_ops::points::dir_as;
+use script_ops::points::flag_of;
+use script_ops::points::numbers;
 use state::Saved;
 ghost use mathlib.Core.Path.{_≡_};
 ghost use Rattle.control.specs.Codec.{code, encode};

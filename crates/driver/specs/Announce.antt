@@ -5,9 +5,9 @@ use lib.Dec.{eqb}
 use Rattle.regs.specs.declared.Dir.{Dir}
 use Rattle.alloc.specs.Alloc.{isIso, slotsOf}
 use Rattle.state.specs.Driver.{Driver, epOn}
-use Rattle.model.specs.Script.{Script, _>>=_, _>>_}
-use Rattle.model.specs.Answers.{isAllocated}
-use Rattle.model.specs.AllocateAll.{announce, announceAfter}
+use Rattle.script.specs.Script.{Script, _>>=_, _>>_}
+use Rattle.script.specs.Answers.{isAllocated}
+use Rattle.script.specs.AllocateAll.{announce, announceAfter}
 
 -- the byte where an endpoint's buffers end
 unfoldable pub endOn : Driver → Dir → ℕ → ℕ

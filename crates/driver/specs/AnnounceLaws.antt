@@ -11,13 +11,13 @@ use Rattle.regs.specs.declared.Dir.{Dir}
 use Rattle.regs.specs.declared.Dir.the-variants.{Out, In}
 use Rattle.alloc.specs.Alloc.{isIso, slotsOf}
 use Rattle.state.specs.Driver.{Driver, epOn}
-use Rattle.model.specs.Tree as tree
-use Rattle.model.specs.Tree.{ends, bindOut}
-use Rattle.model.specs.Script.{run}
-use Rattle.model.specs.Answers.{isAllocated}
-use Rattle.model.specs.AllocateAll.{announce, beginsAt, announceAfter}
-use Rattle.model_ops.specs.Rings.{St}
-use Rattle.model_ops.specs.Concrete.{concrete, go}
+use Rattle.script.specs.Tree as tree
+use Rattle.script.specs.Tree.{ends, bindOut}
+use Rattle.script.specs.Script.{run}
+use Rattle.script.specs.Answers.{isAllocated}
+use Rattle.script.specs.AllocateAll.{announce, beginsAt, announceAfter}
+use Rattle.script_ops.specs.Rings.{St}
+use Rattle.script_ops.specs.Concrete.{concrete, go}
 use Rattle.driver.specs.Announce.{endOn, startsAt, foundAt, following, announcing}
 
 pub found-step : (d : Driver) (dir : Dir) (x left e : ℕ) → 0 < left → foundAt d dir x left e ≡ cond (startsAt d dir x e) e (foundAt d dir x (left - 1) (e + 1))

@@ -6,9 +6,9 @@ use Prim.Native.Nat.{ℕ, _+_, _-_, _%_}
 use Rattle.descriptor.specs.declared.Endpoint.{Endpoint}
 use Rattle.descriptor.specs.Trial.{directionOf}
 use Rattle.state.specs.Driver.{Driver}
-use Rattle.model.specs.Script.{Script}
-use Rattle.model.specs.AllocateAll as script
-use Rattle.model_ops.specs.Records.{allocatedOn}
+use Rattle.script.specs.Script.{Script}
+use Rattle.script.specs.AllocateAll as script
+use Rattle.script_ops.specs.Records.{allocatedOn}
 
 -- ---- allocated, in the list's order
 

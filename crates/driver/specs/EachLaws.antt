@@ -11,11 +11,11 @@ use Rattle.descriptor.specs.Endpoints.{none}
 use Rattle.descriptor.specs.Writing.{upTo}
 use Rattle.descriptor.specs.Trial.{directionOf}
 use Rattle.state.specs.Driver.{Driver}
-use Rattle.model.specs.Tree.{ends}
-use Rattle.model.specs.Script.{Script}
-use Rattle.model.specs.AllocateAll as script
-use Rattle.model.specs.AllocateAll.{allocateEach}
-use Rattle.model_ops.specs.Concrete.{go}
+use Rattle.script.specs.Tree.{ends}
+use Rattle.script.specs.Script.{Script}
+use Rattle.script.specs.AllocateAll as script
+use Rattle.script.specs.AllocateAll.{allocateEach}
+use Rattle.script_ops.specs.Concrete.{go}
 use Rattle.driver.specs.Announce.{announcing}
 use Rattle.driver.specs.Each.{oneOn, eachOn, announceAll}
 

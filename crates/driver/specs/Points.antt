@@ -12,16 +12,16 @@ use Rattle.regs.specs.IntEn.{atStart}
 use Rattle.regs.specs.Registers.{widthOf}
 use Rattle.frame.specs.Usb20.{indexOf}
 use Rattle.state.specs.Driver.{Driver}
-use Rattle.model.specs.Tree as tree
-use Rattle.model.specs.Tree.{ends, asks}
-use Rattle.model.specs.Script.{Script, ret, _>>=_, _>>_, write, wait, when, hand, place, run}
-use Rattle.model.specs.Statics.{modifyReg, modifyIntEn}
-use Rattle.model.specs.Driver as driver
-use Rattle.model.specs.AllocateAll.{announceAfter}
-use Rattle.model.specs.IsoIn as isoIn
-use Rattle.model.specs.Machine.{Awaits, nothing, reading, awaited}
-use Rattle.model_ops.specs.Rings.{St}
-use Rattle.model_ops.specs.Concrete.{concrete}
+use Rattle.script.specs.Tree as tree
+use Rattle.script.specs.Tree.{ends, asks}
+use Rattle.script.specs.Script.{Script, ret, _>>=_, _>>_, write, wait, when, hand, place, run}
+use Rattle.script.specs.Statics.{modifyReg, modifyIntEn}
+use Rattle.script.specs.Driver as driver
+use Rattle.script.specs.AllocateAll.{announceAfter}
+use Rattle.script.specs.IsoIn as isoIn
+use Rattle.script.specs.Machine.{Awaits, nothing, reading, awaited}
+use Rattle.script_ops.specs.Rings.{St}
+use Rattle.script_ops.specs.Concrete.{concrete}
 use Rattle.driver.specs.declared.Point.{Point}
 use Rattle.driver.specs.declared.Point.the-variants as point
 use Rattle.driver.specs.declared.Next.{Next}

@@ -11,7 +11,7 @@ ghost use Prim.Native.Nat.{ℕ};
 ghost use Rattle.descriptor.specs.Writing.{stored};
 ghost use Rattle.descriptor.specs.Trial.{directionOf};
 ghost use Rattle.state.specs.State.{view, saved};
-ghost use Rattle.model_ops.specs.Concrete.{go};
+ghost use Rattle.script_ops.specs.Concrete.{go};
 ghost use Rattle.driver.specs.Points.{meaning, Linked};
 ghost use Rattle.driver.specs.Each.{oneOn, eachOn, announceAll};
 
@@ -26,7 +26,7 @@ fn allocate_one(s: &mut State, e: Endpoint)
     ensures { λ _. ⌜ view (now (s .exit)) ≡ oneOn (view (now (s .entry))) e ⌝ }
     ensures { λ _. ⌜ saved (now (s .exit)) ≡ saved (now (s .entry)) ⌝ }
 {
-    let _z = model_ops::records::allocate(
+    let _z = script_ops::records::allocate(
         s,
         direction(e.address),
         e.kind,

@@ -14,7 +14,7 @@ ghost use mathlib.Core.Path.{_≡_};
 ghost use mathlib.Core.List.{List};
 ghost use Prim.Native.Nat.{ℕ, _*_};
 ghost use Rattle.state.specs.State.{view};
-ghost use Rattle.model_ops.specs.Concrete.{go};
+ghost use Rattle.script_ops.specs.Concrete.{go};
 ghost use Rattle.driver.specs.Points.{meaning, Linked};
 ghost use Rattle.driver.specs.Announce.{endOn, startsAt, foundAt, announcing};
 

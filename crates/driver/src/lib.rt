@@ -17,10 +17,10 @@ ghost use mathlib.Core.Path.{_≡_};
 ghost use mathlib.Core.List.{List};
 ghost use Prim.Native.Nat.{ℕ, _<_};
 ghost use Rattle.state.specs.State.{view, saved};
-ghost use Rattle.model.specs.Tree.{ends};
-ghost use Rattle.model.specs.Script.{run};
-ghost use Rattle.model_ops.specs.Means.{Means, MeansAt};
-ghost use Rattle.model_ops.specs.Concrete.{concrete, go};
+ghost use Rattle.script.specs.Tree.{ends};
+ghost use Rattle.script.specs.Script.{run};
+ghost use Rattle.script_ops.specs.Means.{Means, MeansAt};
+ghost use Rattle.script_ops.specs.Concrete.{concrete, go};
 ghost use Rattle.driver.specs.Points.{startUp, newEndpoint, startEp0, microframe, setPaced, meaning, Linked};
 
 // The access that was handed out last, and what the rest needs.

@@ -18,17 +18,17 @@ use Rattle.regs.specs.Enables as enables
 use Rattle.state.specs.declared.EpState.{EpState}
 use Rattle.state.specs.Driver.{Driver, epOn, requestOn, withRequestOn, noneGathered}
 use Rattle.state.specs.declared.Request.{Request}
-use Rattle.model.specs.Tree as tree
-use Rattle.model.specs.Tree.{ends}
-use Rattle.model.specs.Cells.{EpCore}
-use Rattle.model.specs.Script.{Script, ret, test}
-use Rattle.model.specs.Statics.{isOn, withReady, withArmed}
-use Rattle.model.specs.Answers.{Answer, Refused, NotYet, Done, isAllocated, staged, named}
-use Rattle.model.specs.Endpoint.{begun, no-request, polled, enabled-else, ends-request, tooLong, beginRead, pollRead, take-iso}
-use Rattle.model.specs.Endpoint.{take-ready, beginWrite, put-iso, sent-ready}
-use Rattle.model_ops.specs.Records.{plainOf}
-use Rattle.model_ops.specs.Rings.{St, waitingOn, roomOn, oldestAt, nextLen, oldestOn, takeOn, enqueueOn, filledOn}
-use Rattle.model_ops.specs.Concrete.{go}
+use Rattle.script.specs.Tree as tree
+use Rattle.script.specs.Tree.{ends}
+use Rattle.script.specs.Cells.{EpCore}
+use Rattle.script.specs.Script.{Script, ret, test}
+use Rattle.script.specs.Statics.{isOn, withReady, withArmed}
+use Rattle.script.specs.Answers.{Answer, Refused, NotYet, Done, isAllocated, staged, named}
+use Rattle.script.specs.Endpoint.{begun, no-request, polled, enabled-else, ends-request, tooLong, beginRead, pollRead, take-iso}
+use Rattle.script.specs.Endpoint.{take-ready, beginWrite, put-iso, sent-ready}
+use Rattle.script_ops.specs.Records.{plainOf}
+use Rattle.script_ops.specs.Rings.{St, waitingOn, roomOn, oldestAt, nextLen, oldestOn, takeOn, enqueueOn, filledOn}
+use Rattle.script_ops.specs.Concrete.{go}
 use Rattle.endpoint.specs.Records.{modifiedOn}
 use Rattle.endpoint.specs.Answers.{lentAfter}
 use Rattle.endpoint.specs.Brought.{Brought, lends, untouched, neither, brings}

@@ -3,11 +3,11 @@ use mathlib.Core.Bool.{false}
 use mathlib.Core.List.{List, [], _∷_}
 use Prim.Native.Nat.{ℕ, zero, suc}
 use Rattle.ring.specs.Copies.{over}
-use Rattle.model.specs.Tree as tree
-use Rattle.model.specs.Tree.{ends, asks}
-use Rattle.model.specs.Script.{Script, ret, _>>=_, fetch, gathered}
-use Rattle.model.specs.Answers.{Answer, Refused, End, NotYet, Done, Shown}
-use Rattle.model_ops.specs.Rings.{St}
+use Rattle.script.specs.Tree as tree
+use Rattle.script.specs.Tree.{ends, asks}
+use Rattle.script.specs.Script.{Script, ret, _>>=_, fetch, gathered}
+use Rattle.script.specs.Answers.{Answer, Refused, End, NotYet, Done, Shown}
+use Rattle.script_ops.specs.Rings.{St}
 
 -- the result with the wake-ups (`operation`)
 abbrev pub finished : Script false ℕ → Script false Answer

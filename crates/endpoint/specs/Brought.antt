@@ -6,10 +6,10 @@ use Prim.Native.Nat.{ℕ}
 use lib.ListN.{length}
 use Rattle.ring.specs.Copies.{over}
 use Rattle.state.specs.Driver.{Driver}
-use Rattle.model.specs.Tree as tree
-use Rattle.model.specs.Tree.{ends}
-use Rattle.model.specs.Answers.{Answer, Done}
-use Rattle.model_ops.specs.Rings.{St}
+use Rattle.script.specs.Tree as tree
+use Rattle.script.specs.Tree.{ends}
+use Rattle.script.specs.Answers.{Answer, Done}
+use Rattle.script_ops.specs.Rings.{St}
 use Rattle.endpoint.specs.Answers.{front, lentAfter}
 use Rattle.endpoint.specs.Front.{front-over}
 

@@ -1,6 +1,6 @@
 -- Laws on the definitions of Codec.antt
 use mathlib.Core.Path.{_≡_, refl}
-use Rattle.model_ops.specs.NumbersLaws.{dir-back}
+use Rattle.script_ops.specs.NumbersLaws.{dir-back}
 use Rattle.endpoint.specs.declared.Point.{Point}
 use Rattle.endpoint.specs.declared.Point.the-variants as point
 use Rattle.endpoint.specs.Codec.{encode, decode}

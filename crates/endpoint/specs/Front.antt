@@ -5,7 +5,7 @@ use Prim.Native.Nat.{ℕ, zero, suc, _<_}
 use native.Mathlib.Omega.{arith}
 use lib.ListN.{length, take, drop, getD}
 use Rattle.ring.specs.Copies.{over}
-use Rattle.model.specs.Answers.{Answer, Refused, End, NotYet, Done, Shown}
+use Rattle.script.specs.Answers.{Answer, Refused, End, NotYet, Done, Shown}
 use Rattle.endpoint.specs.Answers.{front}
 
 front-append : (xs ys : List ℕ) → front (length xs) (xs ++ ys) ≡ xs

@@ -10,17 +10,17 @@ use Rattle.regs.specs.ControlWord.{ack}
 use Rattle.state.specs.Wakes.{listed}
 use Rattle.state.specs.Driver.{Driver}
 use Rattle.state.specs.State.{view}
-use Rattle.model.specs.Tree as tree
-use Rattle.model.specs.Tree.{ends, asks}
-use Rattle.model.specs.Script.{Script, run, ret, write}
-use Rattle.model.specs.Statics.{modifyReg}
-use Rattle.model.specs.Machine.{Awaits, nothing, reading, awaited}
-use Rattle.model.specs.Answers.{Answer, Refused, End, NotYet, Done}
-use Rattle.model.specs.Endpoint.{pollRead}
-use Rattle.model_ops.specs.Rings.{St}
-use Rattle.model_ops.specs.Concrete.{concrete, go}
+use Rattle.script.specs.Tree as tree
+use Rattle.script.specs.Tree.{ends, asks}
+use Rattle.script.specs.Script.{Script, run, ret, write}
+use Rattle.script.specs.Statics.{modifyReg}
+use Rattle.script.specs.Machine.{Awaits, nothing, reading, awaited}
+use Rattle.script.specs.Answers.{Answer, Refused, End, NotYet, Done}
+use Rattle.script.specs.Endpoint.{pollRead}
+use Rattle.script_ops.specs.Rings.{St}
+use Rattle.script_ops.specs.Concrete.{concrete, go}
 use Rattle.endpoint.specs.Answers.{finished, front}
-use Rattle.model_ops.specs.Results.{resultless}
+use Rattle.script_ops.specs.Results.{resultless}
 use Rattle.endpoint.specs.declared.Point.{Point}
 use Rattle.endpoint.specs.declared.Point.the-variants as point
 use Rattle.endpoint.specs.declared.Begun.{Begun}

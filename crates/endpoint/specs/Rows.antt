@@ -7,7 +7,7 @@ use Rattle.regs.specs.declared.Dir.{Dir}
 use Rattle.regs.specs.declared.Dir.the-variants.{Out, In}
 use Rattle.state.specs.declared.Allocator.{Allocator}
 use Rattle.state.specs.Driver.{Driver}
-use Rattle.model.specs.Answers.{isAllocated}
+use Rattle.script.specs.Answers.{isAllocated}
 
 -- the row that refuses a call: 4, EP0 is not started; 5, the endpoint is not allocated in the direction; 0, neither
 unfoldable pub refusalOf : Driver → Dir → ℕ → ℕ

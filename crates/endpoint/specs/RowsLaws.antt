@@ -10,7 +10,7 @@ use Rattle.regs.specs.declared.Dir.{Dir}
 use Rattle.regs.specs.declared.Dir.the-variants.{Out, In}
 use Rattle.state.specs.declared.Allocator.{Allocator}
 use Rattle.state.specs.Driver.{Driver}
-use Rattle.model.specs.Answers.{isNumber, isAllocated}
+use Rattle.script.specs.Answers.{isNumber, isAllocated}
 use Rattle.endpoint.specs.Rows.{refusalOf, stallable}
 
 both : (x y : Bool) → (x && y) ≡ true → (x ≡ true) × (y ≡ true)

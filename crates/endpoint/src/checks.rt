@@ -12,10 +12,10 @@ ghost use Prim.Native.Nat.{ℕ};
 ghost use Rattle.regs.specs.Enables as enables;
 ghost use Rattle.state.specs.Driver.{withRequestOn};
 ghost use Rattle.state.specs.State.{view, saved};
-ghost use Rattle.model.specs.Answers.{Refused, NotYet};
-ghost use Rattle.model.specs.Script.{ret};
-ghost use Rattle.model.specs.Endpoint.{begun, no-request, enabled-else, ends-request};
-ghost use Rattle.model_ops.specs.Concrete.{go};
+ghost use Rattle.script.specs.Answers.{Refused, NotYet};
+ghost use Rattle.script.specs.Script.{ret};
+ghost use Rattle.script.specs.Endpoint.{begun, no-request, enabled-else, ends-request};
+ghost use Rattle.script_ops.specs.Concrete.{go};
 ghost use Rattle.endpoint.specs.Points.{polledAs};
 
 // `is_enabled`, endpoint.rs 55-60 (row 9 turned round).

@@ -1,7 +1,7 @@
 // A point as the fixed record of the state: the point's number in `sub`, a direction in `site`, an endpoint in `ep`.
 use crate::Point;
-use model_ops::points::dir_as;
-use model_ops::points::numbers;
+use script_ops::points::dir_as;
+use script_ops::points::numbers;
 use state::Saved;
 ghost use mathlib.Core.Path.{_≡_};
 ghost use Rattle.endpoint.specs.Codec.{code, encode};

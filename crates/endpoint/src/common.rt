@@ -10,7 +10,7 @@ ghost use Prim.Native.Nat.{_-_, _≤_, min};
 ghost use lib.ListN.{length};
 ghost use Rattle.regs.specs.Registers.{fitsIn};
 ghost use Rattle.state.specs.State.{view, saved};
-ghost use Rattle.model.specs.Statics.{withReady, withArmed};
+ghost use Rattle.script.specs.Statics.{withReady, withArmed};
 ghost use Rattle.ring.specs.Copies.{over, bytesAt};
 ghost use Rattle.endpoint.specs.Records.{modifiedOn};
 

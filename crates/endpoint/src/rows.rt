@@ -7,7 +7,7 @@ ghost use mathlib.Core.Bool.{true, _&&_};
 ghost use Prim.Native.Nat.{ℕ, _<_};
 ghost use Rattle.bits.specs.Bit.{isSet};
 ghost use Rattle.state.specs.State.{view};
-ghost use Rattle.model.specs.Answers.{isNumber, isAllocated};
+ghost use Rattle.script.specs.Answers.{isNumber, isAllocated};
 ghost use Rattle.endpoint.specs.Rows.{refusalOf, stallable};
 
 // 1 to 15: an endpoint's number other than EP0's.

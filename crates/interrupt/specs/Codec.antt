@@ -7,9 +7,9 @@ use lib.Dec.{eqb}
 use Rattle.regs.specs.declared.Dir.{Dir}
 use Rattle.regs.specs.declared.Dir.the-variants.{Out, In}
 use Rattle.state.specs.declared.Saved.{Saved}
-pub use Rattle.model_ops.specs.Numbers.{dirAs, dirOf}
-use Rattle.model.specs.declared.Transfer.{Transfer}
-use Rattle.model.specs.Statics.{isOn, flag}
+pub use Rattle.script_ops.specs.Numbers.{dirAs, dirOf}
+use Rattle.script.specs.declared.Transfer.{Transfer}
+use Rattle.script.specs.Statics.{isOn, flag}
 use Rattle.interrupt.specs.declared.nak.Nak.{Nak}
 use Rattle.interrupt.specs.declared.nak.Nak.the-variants as nak
 use Rattle.interrupt.specs.declared.settle.Settle.{Settle}

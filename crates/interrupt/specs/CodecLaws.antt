@@ -3,8 +3,8 @@ use mathlib.Core.Path.{_≡_, refl}
 use mathlib.Core.Bool.{Bool}
 use Prim.Native.Nat.{ℕ}
 use Rattle.regs.specs.declared.Dir.the-variants.{Out, In}
-use Rattle.model.specs.declared.Transfer.{Transfer}
-use Rattle.model_ops.specs.NumbersLaws.{flag-back, dir-back}
+use Rattle.script.specs.declared.Transfer.{Transfer}
+use Rattle.script_ops.specs.NumbersLaws.{flag-back, dir-back}
 use Rattle.interrupt.specs.declared.nak.Nak.{Nak}
 use Rattle.interrupt.specs.declared.nak.Nak.the-variants as nak
 use Rattle.interrupt.specs.declared.settle.Settle.{Settle}

@@ -12,20 +12,20 @@ use Rattle.regs.specs.Flags.{busRst, transfer, suspend, hstSof, fifoOv, setupAc
 use Rattle.regs.specs.Status.{endpoint, token, isSof}
 use Rattle.regs.specs.MisStatus.{sieFree}
 use Rattle.regs.specs.IntEn.{withBusRst, withSuspend}
-use Rattle.model.specs.declared.Transfer.{Transfer}
-use Rattle.model.specs.Tree as tree
-use Rattle.model.specs.Tree.{ends, bindOut}
-use Rattle.model.specs.Cells.{globals-cell, ep-cell}
-use Rattle.model.specs.Script.{Script, run, ret, _>>=_, _>>_, read, write, get, when}
-use Rattle.model.specs.Statics.{withArmed, completed, withEntered, modify, modifyEp, modifyIntEn, wake, wakeBus}
-use Rattle.model.specs.IsoIn.{onSof}
-use Rattle.model.specs.IsoOut.{isoOutCheck}
-use Rattle.model.specs.Handler.{nakNonIso, settle, isoFor, received, sent, dispatch, ep0MovedOn, framed, onTransfer, takeSetup, onSetup}
-use Rattle.model.specs.Handler.{onInterrupt}
+use Rattle.script.specs.declared.Transfer.{Transfer}
+use Rattle.script.specs.Tree as tree
+use Rattle.script.specs.Tree.{ends, bindOut}
+use Rattle.script.specs.Cells.{globals-cell, ep-cell}
+use Rattle.script.specs.Script.{Script, run, ret, _>>=_, _>>_, read, write, get, when}
+use Rattle.script.specs.Statics.{withArmed, completed, withEntered, modify, modifyEp, modifyIntEn, wake, wakeBus}
+use Rattle.script.specs.IsoIn.{onSof}
+use Rattle.script.specs.IsoOut.{isoOutCheck}
+use Rattle.script.specs.Handler.{nakNonIso, settle, isoFor, received, sent, dispatch, ep0MovedOn, framed, onTransfer, takeSetup, onSetup}
+use Rattle.script.specs.Handler.{onInterrupt}
 use Rattle.isochronous.specs.Late.{lateAll}
 use Rattle.interrupt.specs.declared.Entry.{Entry}
-use Rattle.model_ops.specs.Rings.{St}
-use Rattle.model_ops.specs.Concrete.{concrete}
+use Rattle.script_ops.specs.Rings.{St}
+use Rattle.script_ops.specs.Concrete.{concrete}
 
 -- an operation without a result answers 0
 abbrev pub resultless : Script true Unit → Script true ℕ

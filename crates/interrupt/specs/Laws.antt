@@ -17,14 +17,14 @@ use Rattle.regs.specs.Status.{endpoint}
 use Rattle.state.specs.declared.EpState.{EpState}
 use Rattle.state.specs.declared.Globals.{Globals}
 use Rattle.state.specs.Driver.{Driver, epOn, withOn, withGlobals}
-use Rattle.model.specs.declared.Transfer.{Transfer}
-use Rattle.model.specs.Tree as tree
-use Rattle.model.specs.Tree.{asks, ends, bindOut}
-use Rattle.model.specs.Script.{Script, run, read, when, _>>=_}
-use Rattle.model.specs.Statics.{withReady, withArmed, withSetup, withEntered}
-use Rattle.model.specs.IsoIn.{firstInFrame, isoInComplete}
-use Rattle.model.specs.Handler as script
-use Rattle.model.specs.Handler.{nakNonIso, framed, isoInArm, onTransfer, onInterrupt, stampedInterrupt}
+use Rattle.script.specs.declared.Transfer.{Transfer}
+use Rattle.script.specs.Tree as tree
+use Rattle.script.specs.Tree.{asks, ends, bindOut}
+use Rattle.script.specs.Script.{Script, run, read, when, _>>=_}
+use Rattle.script.specs.Statics.{withReady, withArmed, withSetup, withEntered}
+use Rattle.script.specs.IsoIn.{firstInFrame, isoInComplete}
+use Rattle.script.specs.Handler as script
+use Rattle.script.specs.Handler.{nakNonIso, framed, isoInArm, onTransfer, onInterrupt, stampedInterrupt}
 use Rattle.isochronous.specs.Frames.{framedOn, isFirst}
 use Rattle.interrupt.specs.declared.nak.Nak as nak-point
 use Rattle.interrupt.specs.declared.nak.NakNext as nak-next
@@ -50,9 +50,9 @@ use Rattle.interrupt.specs.Toggled as toggled
 use Rattle.isochronous.specs.Sof as sof
 use Rattle.isochronous.specs.Complete as complete
 use Rattle.isochronous.specs.Points as check
-use Rattle.model_ops.specs.Records.{plainOf, merged, mergedGlobals}
-use Rattle.model_ops.specs.Rings.{St, wordAt}
-use Rattle.model_ops.specs.Concrete.{concrete}
+use Rattle.script_ops.specs.Records.{plainOf, merged, mergedGlobals}
+use Rattle.script_ops.specs.Rings.{St, wordAt}
+use Rattle.script_ops.specs.Concrete.{concrete}
 use Rattle.interrupt.specs.declared.Point.{Point}
 use Rattle.interrupt.specs.Continuations.{resultless, afterSetupReleased, afterSetupTx, finish, afterTransfer}
 use Rattle.interrupt.specs.Continuations.{afterCheck, afterDispatch, flipDone, passed, afterLate, afterSof, sofDue}

@@ -5,11 +5,11 @@ use Prim.Native.Nat.{ℕ}
 use lib.Dec.{eqb}
 use Rattle.regs.specs.declared.Token.{Token}
 use Rattle.regs.specs.Status.{endpoint, token}
-use Rattle.model.specs.declared.Transfer.{Transfer}
-use Rattle.model.specs.Script.{run, when}
-use Rattle.model.specs.Handler.{ep0MovedOn}
-use Rattle.model_ops.specs.Rings.{St}
-use Rattle.model_ops.specs.Concrete.{concrete}
+use Rattle.script.specs.declared.Transfer.{Transfer}
+use Rattle.script.specs.Script.{run, when}
+use Rattle.script.specs.Handler.{ep0MovedOn}
+use Rattle.script_ops.specs.Rings.{St}
+use Rattle.script_ops.specs.Concrete.{concrete}
 use Rattle.interrupt.specs.Continuations.{finish, afterCheck}
 
 -- of EP0

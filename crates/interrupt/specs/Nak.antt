@@ -8,13 +8,13 @@ use Rattle.regs.specs.Registers.{ctrlOf, widthOf}
 use Rattle.regs.specs.ControlWord.{nak}
 use Rattle.regs.specs.Status.{endpoint}
 use Rattle.state.specs.Driver.{Driver}
-use Rattle.model.specs.Tree as tree
-use Rattle.model.specs.Tree.{asks, ends}
-use Rattle.model.specs.Script.{run, write}
-use Rattle.model.specs.Machine.{Awaits, nothing, reading, awaited}
-use Rattle.model_ops.specs.Rings.{St}
-use Rattle.model_ops.specs.Concrete.{concrete}
-use Rattle.model_ops.specs.Numbers.{fits}
+use Rattle.script.specs.Tree as tree
+use Rattle.script.specs.Tree.{asks, ends}
+use Rattle.script.specs.Script.{run, write}
+use Rattle.script.specs.Machine.{Awaits, nothing, reading, awaited}
+use Rattle.script_ops.specs.Rings.{St}
+use Rattle.script_ops.specs.Concrete.{concrete}
+use Rattle.script_ops.specs.Numbers.{fits}
 use Rattle.interrupt.specs.declared.nak.Nak.{Nak}
 use Rattle.interrupt.specs.declared.nak.Nak.the-variants as nak-point
 use Rattle.interrupt.specs.declared.nak.NakNext.{NakNext}

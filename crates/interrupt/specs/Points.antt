@@ -7,12 +7,12 @@ use Rattle.regs.specs.declared.Reg.the-variants.{IntFg, IntSt, MisSt, RxLen, Fr
 use Rattle.regs.specs.Registers.{widthOf, fitsIn}
 use Rattle.regs.specs.Status.{endpoint}
 use Rattle.state.specs.Driver.{Driver}
-use Rattle.model.specs.Tree as tree
-use Rattle.model.specs.Tree.{asks, ends, bindOut}
-use Rattle.model.specs.Script.{Script, run, _>>_}
-use Rattle.model.specs.Statics.{wakeBus}
-use Rattle.model.specs.Machine.{Awaits, nothing, reading, awaited}
-use Rattle.model.specs.Handler.{stampedInterrupt}
+use Rattle.script.specs.Tree as tree
+use Rattle.script.specs.Tree.{asks, ends, bindOut}
+use Rattle.script.specs.Script.{Script, run, _>>_}
+use Rattle.script.specs.Statics.{wakeBus}
+use Rattle.script.specs.Machine.{Awaits, nothing, reading, awaited}
+use Rattle.script.specs.Handler.{stampedInterrupt}
 use Rattle.interrupt.specs.Nak as nak
 use Rattle.interrupt.specs.Settle as settle
 use Rattle.interrupt.specs.Toggled as toggled
@@ -20,8 +20,8 @@ use Rattle.isochronous.specs.Complete as complete
 use Rattle.isochronous.specs.Sof as sof
 use Rattle.isochronous.specs.Late as late
 use Rattle.isochronous.specs.Points as check
-use Rattle.model_ops.specs.Rings.{St}
-use Rattle.model_ops.specs.Concrete.{concrete}
+use Rattle.script_ops.specs.Rings.{St}
+use Rattle.script_ops.specs.Concrete.{concrete}
 use Rattle.interrupt.specs.declared.Point.{Point}
 use Rattle.interrupt.specs.declared.Point.the-variants as point
 use Rattle.interrupt.specs.declared.Next.{Next}

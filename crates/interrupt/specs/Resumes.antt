@@ -7,7 +7,7 @@ use native.Mathlib.Omega.{arith}
 use Rattle.state.specs.declared.Saved.{Saved}
 use Rattle.state.specs.Driver.{Driver}
 use Rattle.state.specs.State.{view, saved}
-use Rattle.model.specs.Machine.{Buf}
+use Rattle.script.specs.Machine.{Buf}
 use Rattle.interrupt.specs.declared.Point.{Point}
 use Rattle.interrupt.specs.Points.{denote, fitsAt}
 use Rattle.interrupt.specs.Stands.{halted, Stops, Pins, ResumesByWord}

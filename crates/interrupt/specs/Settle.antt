@@ -8,15 +8,15 @@ use Rattle.regs.specs.Registers.{widthOf}
 use Rattle.regs.specs.MisStatus.{sieFree}
 use Rattle.regs.specs.Flags.{transfer}
 use Rattle.state.specs.Driver.{Driver}
-use Rattle.model.specs.declared.Transfer.{Transfer}
-use Rattle.model.specs.Tree as tree
-use Rattle.model.specs.Tree.{asks, ends, bindOut}
-use Rattle.model.specs.Script.{Script, run, ret, test, _>>=_, _>>_, read}
-use Rattle.model.specs.Machine.{Awaits, reading, awaited}
-use Rattle.model.specs.Handler.{nakNonIso, lateTaken, waited, retaken}
-use Rattle.model_ops.specs.Rings.{St}
-use Rattle.model_ops.specs.Concrete.{concrete}
-use Rattle.model_ops.specs.Numbers.{fits}
+use Rattle.script.specs.declared.Transfer.{Transfer}
+use Rattle.script.specs.Tree as tree
+use Rattle.script.specs.Tree.{asks, ends, bindOut}
+use Rattle.script.specs.Script.{Script, run, ret, test, _>>=_, _>>_, read}
+use Rattle.script.specs.Machine.{Awaits, reading, awaited}
+use Rattle.script.specs.Handler.{nakNonIso, lateTaken, waited, retaken}
+use Rattle.script_ops.specs.Rings.{St}
+use Rattle.script_ops.specs.Concrete.{concrete}
+use Rattle.script_ops.specs.Numbers.{fits}
 use Rattle.interrupt.specs.declared.settle.Settle.{Settle}
 use Rattle.interrupt.specs.declared.settle.Settle.the-variants as point
 use Rattle.interrupt.specs.declared.settle.SettleNext.{SettleNext}

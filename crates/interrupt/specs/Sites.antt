@@ -6,8 +6,8 @@ use Prim.Native.Nat.{ℕ}
 use borrow.Author.Tests.{ne-eqb}
 use Rattle.state.specs.declared.Saved.{Saved}
 use Rattle.state.specs.State.{saved}
-use Rattle.model.specs.declared.Transfer.{Transfer}
-use Rattle.model.specs.Statics.{isOn}
+use Rattle.script.specs.declared.Transfer.{Transfer}
+use Rattle.script.specs.Statics.{isOn}
 use Rattle.interrupt.specs.declared.Entry.{Entry}
 use Rattle.interrupt.specs.declared.Point.{Point}
 use Rattle.interrupt.specs.declared.Point.the-variants as point

@@ -5,13 +5,13 @@ use lib.Dec.{eqb}
 use Rattle.regs.specs.declared.Token.{Token}
 use Rattle.regs.specs.declared.Token.the-variants as tok
 use Rattle.regs.specs.Status.{endpoint, token, isSof, sofToken}
-use Rattle.model.specs.declared.Transfer.{Transfer}
-use Rattle.model.specs.Tree.{ends}
-use Rattle.model.specs.Script.{Script, run, when, _>>_}
-use Rattle.model.specs.IsoOut.{isoOutCheck}
-use Rattle.model.specs.Handler.{ep0MovedOn}
-use Rattle.model_ops.specs.Rings.{St}
-use Rattle.model_ops.specs.Concrete.{concrete}
+use Rattle.script.specs.declared.Transfer.{Transfer}
+use Rattle.script.specs.Tree.{ends}
+use Rattle.script.specs.Script.{Script, run, when, _>>_}
+use Rattle.script.specs.IsoOut.{isoOutCheck}
+use Rattle.script.specs.Handler.{ep0MovedOn}
+use Rattle.script_ops.specs.Rings.{St}
+use Rattle.script_ops.specs.Concrete.{concrete}
 use Rattle.interrupt.specs.Continuations.{finish, afterCheck, afterDispatch}
 
 over : (k : Token) (at-ep0 : Bool) (p : Script true Unit) (t : St) → sofToken k ≡ true

@@ -5,11 +5,11 @@ use mathlib.Core.Path.{_≡_}
 use Prim.Native.Nat.{ℕ}
 use Rattle.regs.specs.declared.Access.{Access}
 use Rattle.state.specs.State.{view, saved}
-use Rattle.model.specs.Tree.{Out, Prog, bindOut}
-use Rattle.model.specs.Script.{run}
-use Rattle.model.specs.Machine.{Buf}
-use Rattle.model_ops.specs.Rings.{St}
-use Rattle.model_ops.specs.Concrete.{concrete}
+use Rattle.script.specs.Tree.{Out, Prog, bindOut}
+use Rattle.script.specs.Script.{run}
+use Rattle.script.specs.Machine.{Buf}
+use Rattle.script_ops.specs.Rings.{St}
+use Rattle.script_ops.specs.Concrete.{concrete}
 use Rattle.interrupt.specs.declared.Point.{Point}
 use Rattle.interrupt.specs.Points.{denote}
 use Rattle.interrupt.specs.Suspended as under

@@ -7,9 +7,9 @@ use Rattle.state.specs.declared.Saved.{Saved}
 use Rattle.state.specs.Driver.{Driver}
 use Rattle.state.specs.State.{view, saved}
 use Rattle.state.specs.Fresh.{nothing}
-use Rattle.model.specs.Tree.{Out}
-use Rattle.model.specs.Machine.{Buf, awaited}
-use Rattle.model_ops.specs.Rings.{St}
+use Rattle.script.specs.Tree.{Out}
+use Rattle.script.specs.Machine.{Buf, awaited}
+use Rattle.script_ops.specs.Rings.{St}
 use Rattle.interrupt.specs.declared.Point.{Point}
 use Rattle.interrupt.specs.declared.Next.the-variants as next
 use Rattle.interrupt.specs.Points.{meaning, awaitsAt}

@@ -4,9 +4,9 @@ use mathlib.Core.Path.{_≡_}
 use Prim.Native.Nat.{ℕ}
 use Rattle.regs.specs.declared.Access.{Access}
 use Rattle.state.specs.State.{view}
-use Rattle.model.specs.Tree.{Out}
-use Rattle.model.specs.Machine.{Buf, awaited}
-use Rattle.model_ops.specs.Rings.{St}
+use Rattle.script.specs.Tree.{Out}
+use Rattle.script.specs.Machine.{Buf, awaited}
+use Rattle.script_ops.specs.Rings.{St}
 use Rattle.interrupt.specs.declared.Point.{Point}
 use Rattle.interrupt.specs.declared.Next.the-variants as next
 use Rattle.interrupt.specs.Points.{meaning, awaitsAt}

@@ -10,13 +10,13 @@ use Rattle.state.specs.declared.Saved.{Saved}
 use Rattle.state.specs.Driver.{Driver}
 use Rattle.state.specs.State.{view, saved}
 use Rattle.state.specs.Fresh as fresh
-use Rattle.model.specs.Tree.{Out, bindOut}
-use Rattle.model.specs.Script.{run}
-use Rattle.model.specs.Answers.{Answer}
-use Rattle.model.specs.Calls.{calls}
-use Rattle.model.specs.Machine.{Buf, Way, idle, busy, Machine, Ans, handed, continued}
-use Rattle.model_ops.specs.Rings.{St}
-use Rattle.model_ops.specs.Concrete.{concrete}
+use Rattle.script.specs.Tree.{Out, bindOut}
+use Rattle.script.specs.Script.{run}
+use Rattle.script.specs.Answers.{Answer}
+use Rattle.script.specs.Calls.{calls}
+use Rattle.script.specs.Machine.{Buf, Way, idle, busy, Machine, Ans, handed, continued}
+use Rattle.script_ops.specs.Rings.{St}
+use Rattle.script_ops.specs.Concrete.{concrete}
 use Rattle.interrupt.specs.declared.Point.{Point}
 use Rattle.interrupt.specs.Points as handler
 use Rattle.interrupt.specs.Codec as handlerCodec

@@ -4,11 +4,11 @@ use mathlib.Core.List.{List, []}
 use mathlib.Core.Path.{_≡_, refl, ap, sym, subst, _∙_}
 use Prim.Native.Nat.{ℕ}
 use Rattle.regs.specs.declared.Access.{Access}
-use Rattle.model.specs.Calls.{calls}
-use Rattle.model.specs.Machine.{Buf, awaited, over}
-use Rattle.model.specs.Script.{run}
-use Rattle.model.specs.Tree.{bindOut}
-use Rattle.model_ops.specs.Concrete.{concrete}
+use Rattle.script.specs.Calls.{calls}
+use Rattle.script.specs.Machine.{Buf, awaited, over}
+use Rattle.script.specs.Script.{run}
+use Rattle.script.specs.Tree.{bindOut}
+use Rattle.script_ops.specs.Concrete.{concrete}
 use Rattle.state.specs.Driver.{Driver}
 use Rattle.interrupt.specs.declared.nak.Nak.{Nak}
 use Rattle.interrupt.specs.declared.nak.Nak.the-variants as point-of-nak
@@ -32,11 +32,11 @@ use Rattle.interrupt.specs.declared.Next.the-variants as next
 use Rattle.interrupt.specs.Points as handler
 use Rattle.state.specs.declared.Saved.{Saved}
 use Rattle.state.specs.State.{view, saved}
-use Rattle.model.specs.Tree.{Out}
-use Rattle.model.specs.Answers.{Answer, Refused}
-use Rattle.model.specs.Machine as ways
-use Rattle.model.specs.Machine.{Awaits, Machine, ended, continued}
-use Rattle.model_ops.specs.Rings.{St}
+use Rattle.script.specs.Tree.{Out}
+use Rattle.script.specs.Answers.{Answer, Refused}
+use Rattle.script.specs.Machine as ways
+use Rattle.script.specs.Machine.{Awaits, Machine, ended, continued}
+use Rattle.script_ops.specs.Rings.{St}
 use Rattle.interrupt.specs.Codec as handlerCodec
 use Rattle.interrupt.specs.CodecLaws as handlerCodec-laws
 use Rattle.answer.specs.declared.Step.{Step}

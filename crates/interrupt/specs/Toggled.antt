@@ -8,14 +8,14 @@ use Rattle.regs.specs.declared.Dir.{Dir}
 use Rattle.regs.specs.Registers.{ctrlOf, widthOf}
 use Rattle.regs.specs.ControlWord.{ack}
 use Rattle.state.specs.Driver.{Driver}
-use Rattle.model.specs.Tree as tree
-use Rattle.model.specs.Tree.{asks, ends, bindOut}
-use Rattle.model.specs.Script.{Script, run, ret, _>>=_, _>>_, read, write}
-use Rattle.model.specs.Machine.{Awaits, nothing, reading, awaited}
-use Rattle.model.specs.Handler.{verdict}
-use Rattle.model_ops.specs.Rings.{St}
-use Rattle.model_ops.specs.Concrete.{concrete}
-use Rattle.model_ops.specs.Numbers.{fits}
+use Rattle.script.specs.Tree as tree
+use Rattle.script.specs.Tree.{asks, ends, bindOut}
+use Rattle.script.specs.Script.{Script, run, ret, _>>=_, _>>_, read, write}
+use Rattle.script.specs.Machine.{Awaits, nothing, reading, awaited}
+use Rattle.script.specs.Handler.{verdict}
+use Rattle.script_ops.specs.Rings.{St}
+use Rattle.script_ops.specs.Concrete.{concrete}
+use Rattle.script_ops.specs.Numbers.{fits}
 use Rattle.interrupt.specs.declared.toggled.Toggled.{Toggled}
 use Rattle.interrupt.specs.declared.toggled.Toggled.the-variants as point
 use Rattle.interrupt.specs.declared.toggled.ToggledNext.{ToggledNext}

@@ -14,16 +14,16 @@ use Rattle.regs.specs.Registers.{ctrlOf, widthOf, fitsIn}
 use Rattle.regs.specs.Status.{endpoint}
 use Rattle.state.specs.declared.EpState.{EpState}
 use Rattle.state.specs.Driver.{Driver, epOn}
-use Rattle.model.specs.declared.Transfer.{Transfer}
-use Rattle.model.specs.Tree as tree
-use Rattle.model.specs.Tree.{asks, ends, bindOut}
-use Rattle.model.specs.Script.{run}
-use Rattle.model.specs.Machine.{awaited}
-use Rattle.model.specs.Handler as script
-use Rattle.model.specs.Handler.{nakNonIso, outNaks, inNaks, waitsForIso, waitsForBulk, retaken}
-use Rattle.model_ops.specs.Records.{plainOf}
-use Rattle.model_ops.specs.Rings.{St}
-use Rattle.model_ops.specs.Concrete.{concrete}
+use Rattle.script.specs.declared.Transfer.{Transfer}
+use Rattle.script.specs.Tree as tree
+use Rattle.script.specs.Tree.{asks, ends, bindOut}
+use Rattle.script.specs.Script.{run}
+use Rattle.script.specs.Machine.{awaited}
+use Rattle.script.specs.Handler as script
+use Rattle.script.specs.Handler.{nakNonIso, outNaks, inNaks, waitsForIso, waitsForBulk, retaken}
+use Rattle.script_ops.specs.Records.{plainOf}
+use Rattle.script_ops.specs.Rings.{St}
+use Rattle.script_ops.specs.Concrete.{concrete}
 use Rattle.interrupt.specs.declared.nak.Nak.{Nak}
 use Rattle.interrupt.specs.declared.nak.Nak.the-variants as nak-point
 use Rattle.interrupt.specs.declared.nak.NakNext.{NakNext}

@@ -9,12 +9,12 @@ use lib.Dec.{eqb}
 use Rattle.regs.specs.declared.Access.the-variants.{Read}
 use Rattle.regs.specs.declared.Reg.the-variants.{MisSt}
 use Rattle.regs.specs.MisStatus.{sieFree}
-use Rattle.model.specs.Tree as tree
-use Rattle.model.specs.Tree.{asks, ends, bindOut}
-use Rattle.model.specs.Script.{run, done, test}
-use Rattle.model.specs.Handler.{looks, sieWait}
-use Rattle.model_ops.specs.Rings.{St}
-use Rattle.model_ops.specs.Concrete.{concrete}
+use Rattle.script.specs.Tree as tree
+use Rattle.script.specs.Tree.{asks, ends, bindOut}
+use Rattle.script.specs.Script.{run, done, test}
+use Rattle.script.specs.Handler.{looks, sieWait}
+use Rattle.script_ops.specs.Rings.{St}
+use Rattle.script_ops.specs.Concrete.{concrete}
 use Rattle.interrupt.specs.Wait.{looked, over}
 
 none-left : (t : St) → run concrete (looks {i = true} 0) t ≡ ends tt t

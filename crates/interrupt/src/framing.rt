@@ -2,14 +2,14 @@
 use crate::Entry;
 use crate::serving::serve;
 use crate::wait::short;
-use model::Transfer;
 use regs::status;
+use script::Transfer;
 use state::State;
 use state::load_globals;
 ghost use mathlib.Core.Path.{_≡_};
 ghost use mathlib.Core.Bool.{true};
 ghost use Rattle.regs.specs.Registers.{fitsIn};
-ghost use Rattle.model.specs.Handler as script;
+ghost use Rattle.script.specs.Handler as script;
 ghost use Rattle.interrupt.specs.Points.{denote};
 ghost use Rattle.interrupt.specs.declared.Point.the-variants as Point;
 ghost use Rattle.interrupt.specs.Stands.{RunsOnWith};

@@ -3,11 +3,11 @@ use isochronous::complete::Complete;
 use isochronous::late::Late;
 use isochronous::out::Check;
 use isochronous::sof::Sof;
-use model::Transfer;
 use nak::Nak;
 use regs::Access;
 use regs::Dir;
 use regs::Reg;
+use script::Transfer;
 use settle::Settle;
 use toggled::Toggled;
 
@@ -32,7 +32,7 @@ ghost use mathlib.Core.Path.{_≡_};
 ghost use mathlib.Core.List.{List};
 ghost use Prim.Native.Nat.{ℕ};
 ghost use Rattle.state.specs.Driver.{Driver};
-ghost use Rattle.model_ops.specs.Concrete.{go};
+ghost use Rattle.script_ops.specs.Concrete.{go};
 ghost use Rattle.interrupt.specs.Points.{interrupt, meaning, Linked};
 
 // What an entry of the interrupt has found out: whether the setup flag is set, the transfer, whether its endpoint is isochronous, the frame (0

@@ -27,13 +27,13 @@ use isochronous::complete::Complete;
 use isochronous::late::Late;
 use isochronous::out::Check;
 use isochronous::sof::Sof;
-use model::Transfer;
-use model_ops::rings::is_on;
 use regs::Dir;
+use script::Transfer;
+use script_ops::rings::is_on;
 use state::State;
 ghost use mathlib.Core.Path.{_≡_};
 ghost use Rattle.state.specs.State.{saved};
-ghost use Rattle.model.specs.Statics.{isOn};
+ghost use Rattle.script.specs.Statics.{isOn};
 ghost use Rattle.interrupt.specs.Codec.{dirOf, transferOf, entryOf, nakOf, settleOf, toggledOf, completeOf, sofOf, lateOf, checkOf};
 
 // Is the setup flag set?

@@ -1,5 +1,4 @@
 use crate::wait::byte;
-use model_ops::rings::is_on;
 use regs::Access;
 use regs::Dir;
 use regs::Reg;
@@ -7,16 +6,17 @@ use regs::control_word;
 use regs::registers::ctrl_of;
 use regs::registers::fits;
 use regs::status;
+use script_ops::rings::is_on;
 use state::EpState;
 use state::State;
 use state::load_ep;
 ghost use mathlib.Core.Path.{_≡_};
 ghost use mathlib.Core.Bool.{true, false};
-ghost use Rattle.model.specs.Script.{run};
-ghost use Rattle.model.specs.Handler.{outNaks, inNaks, nakNonIso};
-ghost use Rattle.model_ops.specs.Means.{Means, MeansAt};
-ghost use Rattle.model_ops.specs.Concrete.{concrete};
-ghost use Rattle.model_ops.specs.Records.{plainOf};
+ghost use Rattle.script.specs.Script.{run};
+ghost use Rattle.script.specs.Handler.{outNaks, inNaks, nakNonIso};
+ghost use Rattle.script_ops.specs.Means.{Means, MeansAt};
+ghost use Rattle.script_ops.specs.Concrete.{concrete};
+ghost use Rattle.script_ops.specs.Records.{plainOf};
 ghost use Rattle.interrupt.specs.Nak.{denote, meaning, Linked, fitsAt};
 
 // Where it stands.

@@ -1,13 +1,13 @@
 use crate::wait::LOOKS;
 use crate::wait::byte;
 use crate::wait::over;
-use model_ops::rings::is_on;
 use regs::Access;
 use regs::Dir;
 use regs::Reg;
 use regs::control_word;
 use regs::registers::ctrl_of;
 use regs::registers::fits;
+use script_ops::rings::is_on;
 use state::EpState;
 use state::State;
 use state::load_ep;
@@ -16,12 +16,12 @@ ghost use mathlib.Core.Path.{_≡_};
 ghost use mathlib.Core.Bool.{true, false};
 ghost use Rattle.regs.specs.Registers.{fitsIn};
 ghost use Rattle.regs.specs.ControlWord.{isData1};
-ghost use Rattle.model.specs.Script.{run};
-ghost use Rattle.model.specs.Handler as script;
-ghost use Rattle.model.specs.Statics.{flag};
-ghost use Rattle.model_ops.specs.Means.{Means, MeansFrom};
-ghost use Rattle.model_ops.specs.Concrete.{concrete};
-ghost use Rattle.model_ops.specs.Records.{plainOf};
+ghost use Rattle.script.specs.Script.{run};
+ghost use Rattle.script.specs.Handler as script;
+ghost use Rattle.script.specs.Statics.{flag};
+ghost use Rattle.script_ops.specs.Means.{Means, MeansFrom};
+ghost use Rattle.script_ops.specs.Concrete.{concrete};
+ghost use Rattle.script_ops.specs.Records.{plainOf};
 ghost use Rattle.interrupt.specs.Toggled.{afterWait, afterWord, denote, meaning, Linked, fitsAt};
 
 // Where it stands.

@@ -8,14 +8,14 @@ use Rattle.regs.specs.Registers.{widthOf}
 use Rattle.frame.specs.Usb20.{indexOf, frameOf}
 use Rattle.frame.specs.Advance.{completions}
 use Rattle.state.specs.Driver.{Driver, pacedOn}
-use Rattle.model.specs.Tree as tree
-use Rattle.model.specs.Tree.{asks, ends, bindOut}
-use Rattle.model.specs.Cells.{paced-cell}
-use Rattle.model.specs.Script.{Script, run, ret, _>>=_, _>>_, put}
-use Rattle.model.specs.Machine.{Awaits, nothing, reading, awaited}
-use Rattle.model.specs.IsoIn.{isoInCompletions, isoInAdvance}
-use Rattle.model_ops.specs.Rings.{St}
-use Rattle.model_ops.specs.Concrete.{concrete}
+use Rattle.script.specs.Tree as tree
+use Rattle.script.specs.Tree.{asks, ends, bindOut}
+use Rattle.script.specs.Cells.{paced-cell}
+use Rattle.script.specs.Script.{Script, run, ret, _>>=_, _>>_, put}
+use Rattle.script.specs.Machine.{Awaits, nothing, reading, awaited}
+use Rattle.script.specs.IsoIn.{isoInCompletions, isoInAdvance}
+use Rattle.script_ops.specs.Rings.{St}
+use Rattle.script_ops.specs.Concrete.{concrete}
 use Rattle.isochronous.specs.Complete as complete
 use Rattle.isochronous.specs.declared.advance.Advance.{Advance}
 use Rattle.isochronous.specs.declared.advance.Advance.the-variants as point

@@ -6,14 +6,14 @@ use Prim.Native.Nat.{ℕ}
 use Rattle.regs.specs.declared.Reg.the-variants.{EpTLen}
 use Rattle.regs.specs.declared.Dir.the-variants.{In}
 use Rattle.state.specs.Driver.{Driver}
-use Rattle.model.specs.Tree as tree
-use Rattle.model.specs.Tree.{asks, ends}
-use Rattle.model.specs.Script.{Script, run, _>>=_, _>>_, write, look, next-len}
-use Rattle.model.specs.Statics.{wake}
-use Rattle.model.specs.IsoIn.{isoInLoad}
-use Rattle.model.specs.Machine.{Awaits, nothing, awaited}
-use Rattle.model_ops.specs.Rings.{St}
-use Rattle.model_ops.specs.Concrete.{concrete}
+use Rattle.script.specs.Tree as tree
+use Rattle.script.specs.Tree.{asks, ends}
+use Rattle.script.specs.Script.{Script, run, _>>=_, _>>_, write, look, next-len}
+use Rattle.script.specs.Statics.{wake}
+use Rattle.script.specs.IsoIn.{isoInLoad}
+use Rattle.script.specs.Machine.{Awaits, nothing, awaited}
+use Rattle.script_ops.specs.Rings.{St}
+use Rattle.script_ops.specs.Concrete.{concrete}
 use Rattle.isochronous.specs.declared.complete.Complete.{Complete}
 use Rattle.isochronous.specs.declared.complete.Complete.the-variants as point
 use Rattle.isochronous.specs.declared.complete.CompleteNext.{CompleteNext}

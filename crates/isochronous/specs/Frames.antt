@@ -4,8 +4,8 @@ use Prim.Native.Nat.{ℕ}
 use lib.Dec.{eqb}
 use Rattle.regs.specs.declared.Dir.the-variants.{In}
 use Rattle.state.specs.Driver.{Driver, epOn, withOn}
-use Rattle.model.specs.Statics.{withLastFrame}
-use Rattle.model_ops.specs.Records.{plainOf, merged}
+use Rattle.script.specs.Statics.{withLastFrame}
+use Rattle.script_ops.specs.Records.{plainOf, merged}
 
 -- IN e: the frame recorded
 unfoldable pub framedOn : Driver → ℕ → ℕ → Driver

@@ -5,15 +5,15 @@ use mathlib.Core.List.{List}
 use Prim.Native.Nat.{ℕ}
 use Rattle.bits.specs.Walk.{setBits}
 use Rattle.state.specs.Driver.{Driver}
-use Rattle.model.specs.Tree as tree
-use Rattle.model.specs.Tree.{asks, ends, bindOut}
-use Rattle.model.specs.Cells.{globals-cell}
-use Rattle.model.specs.Script.{Script, run, _>>=_, get}
-use Rattle.model.specs.Statics.{isoInEvery}
-use Rattle.model.specs.Machine.{Awaits, nothing, awaited}
-use Rattle.model.specs.IsoIn.{isoInComplete, lateWalk}
-use Rattle.model_ops.specs.Rings.{St}
-use Rattle.model_ops.specs.Concrete.{concrete}
+use Rattle.script.specs.Tree as tree
+use Rattle.script.specs.Tree.{asks, ends, bindOut}
+use Rattle.script.specs.Cells.{globals-cell}
+use Rattle.script.specs.Script.{Script, run, _>>=_, get}
+use Rattle.script.specs.Statics.{isoInEvery}
+use Rattle.script.specs.Machine.{Awaits, nothing, awaited}
+use Rattle.script.specs.IsoIn.{isoInComplete, lateWalk}
+use Rattle.script_ops.specs.Rings.{St}
+use Rattle.script_ops.specs.Concrete.{concrete}
 use Rattle.isochronous.specs.Complete as complete
 use Rattle.isochronous.specs.declared.late.Late.{Late}
 use Rattle.isochronous.specs.declared.late.LateNext.{LateNext}

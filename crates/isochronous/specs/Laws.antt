@@ -23,14 +23,14 @@ use Rattle.frame.specs.Laws.{completions-le}
 use Rattle.state.specs.declared.EpState.{EpState}
 use Rattle.state.specs.Driver.{Driver, epOn, pacedOn, withPacedOn, withGlobals}
 use Rattle.state.specs.declared.Globals.{Globals}
-use Rattle.model.specs.Tree as tree
-use Rattle.model.specs.Tree.{asks, ends, bindOut}
-use Rattle.model.specs.Script.{run}
-use Rattle.model.specs.Machine.{nothing, awaited}
-use Rattle.model.specs.Statics.{withSofFrame, isoInEvery}
-use Rattle.model.specs.IsoIn.{isoInComplete, unseen, onSof, sofWalk, lateWalk, isoInCompletions}
-use Rattle.model_ops.specs.Rings.{St}
-use Rattle.model_ops.specs.Concrete.{concrete, go}
+use Rattle.script.specs.Tree as tree
+use Rattle.script.specs.Tree.{asks, ends, bindOut}
+use Rattle.script.specs.Script.{run}
+use Rattle.script.specs.Machine.{nothing, awaited}
+use Rattle.script.specs.Statics.{withSofFrame, isoInEvery}
+use Rattle.script.specs.IsoIn.{isoInComplete, unseen, onSof, sofWalk, lateWalk, isoInCompletions}
+use Rattle.script_ops.specs.Rings.{St}
+use Rattle.script_ops.specs.Concrete.{concrete, go}
 use Rattle.isochronous.specs.declared.complete.Complete.{Complete}
 use Rattle.isochronous.specs.declared.complete.CompleteNext.{CompleteNext}
 use Rattle.isochronous.specs.declared.complete.CompleteNext.the-variants as next

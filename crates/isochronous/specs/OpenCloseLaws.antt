@@ -9,14 +9,14 @@ use borrow.Author.Tests.{eq-eqb, ne-eqb}
 use Rattle.regs.specs.declared.Dir.{Dir}
 use Rattle.regs.specs.declared.Dir.the-variants.{Out}
 use Rattle.state.specs.Driver.{Driver, epOn}
-use Rattle.model.specs.Tree.{ends}
-use Rattle.model.specs.Script.{Script}
-use Rattle.model.specs.Statics.{isOn}
-use Rattle.model.specs.Answers.{Answer, Refused, Shown, staged, named, isNumber}
+use Rattle.script.specs.Tree.{ends}
+use Rattle.script.specs.Script.{Script}
+use Rattle.script.specs.Statics.{isOn}
+use Rattle.script.specs.Answers.{Answer, Refused, Shown, staged, named, isNumber}
 use Rattle.endpoint.specs.Rows.{refusalOf}
 use Rattle.endpoint.specs.RowsLaws.{numbered, by-row}
-use Rattle.model_ops.specs.Rings.{waitingOn, openedOn, oldestOn, oldestAt, nextLen, nextStamp, openOn, closeOn}
-use Rattle.model_ops.specs.Concrete.{go}
+use Rattle.script_ops.specs.Rings.{waitingOn, openedOn, oldestOn, oldestAt, nextLen, nextStamp, openOn, closeOn}
+use Rattle.script_ops.specs.Concrete.{go}
 use Rattle.isochronous.specs.declared.open_close.Packet.the-variants as packet
 use Rattle.isochronous.specs.Packets.{answered, opening, closing}
 

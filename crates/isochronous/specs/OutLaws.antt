@@ -13,14 +13,14 @@ use Rattle.regs.specs.declared.Reg.the-variants.{IntSt}
 use Rattle.regs.specs.Status.{togOk}
 use Rattle.regs.specs.Registers.{fitsIn}
 use Rattle.state.specs.Driver.{Driver}
-use Rattle.model.specs.declared.Transfer.{Transfer}
-use Rattle.model.specs.Tree as tree
-use Rattle.model.specs.Tree.{ends, asks, bindOut}
-use Rattle.model.specs.Script.{run}
-use Rattle.model.specs.Statics.{isoOuts}
-use Rattle.model.specs.IsoOut.{arriving, entry, arrives, checkWalk, isoOutCheck}
-use Rattle.model_ops.specs.Rings.{St, changedOn, markedOn}
-use Rattle.model_ops.specs.Concrete.{concrete, go}
+use Rattle.script.specs.declared.Transfer.{Transfer}
+use Rattle.script.specs.Tree as tree
+use Rattle.script.specs.Tree.{ends, asks, bindOut}
+use Rattle.script.specs.Script.{run}
+use Rattle.script.specs.Statics.{isoOuts}
+use Rattle.script.specs.IsoOut.{arriving, entry, arrives, checkWalk, isoOutCheck}
+use Rattle.script_ops.specs.Rings.{St, changedOn, markedOn}
+use Rattle.script_ops.specs.Concrete.{concrete, go}
 use Rattle.isochronous.specs.declared.out.Check.{Check}
 use Rattle.isochronous.specs.declared.out.Check.the-variants as check
 use Rattle.isochronous.specs.declared.out.Found.{Found}

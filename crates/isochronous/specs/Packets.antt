@@ -6,12 +6,12 @@ use Prim.Native.Nat.{ℕ}
 use Rattle.regs.specs.declared.Dir.the-variants.{Out}
 use Rattle.state.specs.Driver.{Driver}
 use Rattle.ring.specs.Copies.{bytesAt}
-use Rattle.model.specs.Tree as tree
-use Rattle.model.specs.Tree.{ends}
-use Rattle.model.specs.Script.{Script}
-use Rattle.model.specs.Answers.{Answer, Refused, Shown, ok}
-use Rattle.model.specs.Driver as scripts
-use Rattle.model_ops.specs.Rings.{St, oldestAt, nextLen, nextStamp}
+use Rattle.script.specs.Tree as tree
+use Rattle.script.specs.Tree.{ends}
+use Rattle.script.specs.Script.{Script}
+use Rattle.script.specs.Answers.{Answer, Refused, Shown, ok}
+use Rattle.script.specs.Driver as scripts
+use Rattle.script_ops.specs.Rings.{St, oldestAt, nextLen, nextStamp}
 use Rattle.isochronous.specs.declared.open_close.Packet.{Packet}
 use Rattle.isochronous.specs.declared.open_close.Packet.the-variants as packet
 

@@ -8,15 +8,15 @@ use Rattle.regs.specs.declared.Reg.the-variants.{IntSt}
 use Rattle.regs.specs.declared.Dir.the-variants.{Out}
 use Rattle.regs.specs.Registers.{widthOf, fitsIn}
 use Rattle.state.specs.Driver.{Driver}
-use Rattle.model.specs.declared.Transfer.{Transfer}
-use Rattle.model.specs.Tree as tree
-use Rattle.model.specs.Tree.{asks, ends}
-use Rattle.model.specs.Script.{Script, run, done, test, _>>=_, _>>_, read, look, marked}
-use Rattle.model.specs.Statics.{wake}
-use Rattle.model.specs.IsoOut.{arriving, entry, arrives, checkWalk}
-use Rattle.model.specs.Machine.{Awaits, nothing, reading, awaited}
-use Rattle.model_ops.specs.Rings.{St}
-use Rattle.model_ops.specs.Concrete.{concrete}
+use Rattle.script.specs.declared.Transfer.{Transfer}
+use Rattle.script.specs.Tree as tree
+use Rattle.script.specs.Tree.{asks, ends}
+use Rattle.script.specs.Script.{Script, run, done, test, _>>=_, _>>_, read, look, marked}
+use Rattle.script.specs.Statics.{wake}
+use Rattle.script.specs.IsoOut.{arriving, entry, arrives, checkWalk}
+use Rattle.script.specs.Machine.{Awaits, nothing, reading, awaited}
+use Rattle.script_ops.specs.Rings.{St}
+use Rattle.script_ops.specs.Concrete.{concrete}
 use Rattle.isochronous.specs.declared.out.Check.{Check}
 use Rattle.isochronous.specs.declared.out.Check.the-variants as check
 use Rattle.isochronous.specs.declared.out.CheckNext.{CheckNext}

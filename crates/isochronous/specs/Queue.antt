@@ -2,9 +2,9 @@
 use mathlib.Core.Bool.{false}
 use mathlib.Core.List.{List}
 use Prim.Native.Nat.{ℕ}
-use Rattle.model.specs.Script.{Script}
-use Rattle.model.specs.Answers.{Answer}
-use Rattle.model.specs.Driver as scripts
+use Rattle.script.specs.Script.{Script}
+use Rattle.script.specs.Answers.{Answer}
+use Rattle.script.specs.Driver as scripts
 
 abbrev pub queueing : ℕ → List ℕ → Script false Answer
 queueing ep bytes = scripts.queueing ep bytes

@@ -8,12 +8,12 @@ use lib.ListN.{length}
 use Rattle.regs.specs.declared.Dir.the-variants.{In}
 use Rattle.regs.specs.Enables as enables
 use Rattle.state.specs.Driver.{Driver, epOn}
-use Rattle.model.specs.Tree as tree
-use Rattle.model.specs.Tree.{ends}
-use Rattle.model.specs.Statics.{isOn}
-use Rattle.model.specs.Answers.{Answer, Refused, ok}
-use Rattle.model_ops.specs.Rings.{St, roomOn, enqueueOn}
-use Rattle.model_ops.specs.Concrete.{go}
+use Rattle.script.specs.Tree as tree
+use Rattle.script.specs.Tree.{ends}
+use Rattle.script.specs.Statics.{isOn}
+use Rattle.script.specs.Answers.{Answer, Refused, ok}
+use Rattle.script_ops.specs.Rings.{St, roomOn, enqueueOn}
+use Rattle.script_ops.specs.Concrete.{go}
 use Rattle.isochronous.specs.declared.open_close.Packet.the-variants as packet
 use Rattle.isochronous.specs.Packets.{answered}
 use Rattle.isochronous.specs.Queue.{queueing}

@@ -9,15 +9,15 @@ use Rattle.regs.specs.declared.Reg.the-variants.{MisSt, IntSt}
 use Rattle.regs.specs.MisStatus.{sieFree}
 use Rattle.regs.specs.Registers.{widthOf, fitsIn}
 use Rattle.state.specs.Driver.{Driver}
-use Rattle.model.specs.Tree as tree
-use Rattle.model.specs.Tree.{asks, ends, bindOut}
-use Rattle.model.specs.Cells.{globals-cell}
-use Rattle.model.specs.Script.{Script, run, done, test, _>>=_, _>>_, read, get, when, callback}
-use Rattle.model.specs.Statics.{isOn}
-use Rattle.model.specs.Machine.{Awaits, nothing, reading, awaited}
-use Rattle.model.specs.IsoIn.{leaving, unseen, sofWalk}
-use Rattle.model_ops.specs.Rings.{St}
-use Rattle.model_ops.specs.Concrete.{concrete}
+use Rattle.script.specs.Tree as tree
+use Rattle.script.specs.Tree.{asks, ends, bindOut}
+use Rattle.script.specs.Cells.{globals-cell}
+use Rattle.script.specs.Script.{Script, run, done, test, _>>=_, _>>_, read, get, when, callback}
+use Rattle.script.specs.Statics.{isOn}
+use Rattle.script.specs.Machine.{Awaits, nothing, reading, awaited}
+use Rattle.script.specs.IsoIn.{leaving, unseen, sofWalk}
+use Rattle.script_ops.specs.Rings.{St}
+use Rattle.script_ops.specs.Concrete.{concrete}
 use Rattle.isochronous.specs.Complete as complete
 use Rattle.isochronous.specs.declared.sof.Sof.{Sof}
 use Rattle.isochronous.specs.declared.sof.Sof.the-variants as point

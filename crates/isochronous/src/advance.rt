@@ -10,9 +10,9 @@ use state::load_globals;
 use state::store_paced;
 ghost use mathlib.Core.Path.{_≡_};
 ghost use Rattle.bits.specs.Bit.{isSet};
-ghost use Rattle.model.specs.Script.{run};
-ghost use Rattle.model_ops.specs.Means.{MeansFrom};
-ghost use Rattle.model_ops.specs.Concrete.{concrete};
+ghost use Rattle.script.specs.Script.{run};
+ghost use Rattle.script_ops.specs.Means.{MeansFrom};
+ghost use Rattle.script_ops.specs.Concrete.{concrete};
 ghost use Rattle.isochronous.specs.Advance.{advance, meaning, Linked};
 
 pub enum Advance {

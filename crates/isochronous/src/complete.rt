@@ -1,17 +1,17 @@
 // A completion (mod.rs 405-414, 593-608): the loaded packet went out, the next is loaded, its writer is woken.
-use model_ops::records::wake;
-use model_ops::rings::next_len;
-use model_ops::rings::send;
-use model_ops::rings::waiting;
 use regs::Access;
 use regs::Dir;
 use regs::Reg;
+use script_ops::records::wake;
+use script_ops::rings::next_len;
+use script_ops::rings::send;
+use script_ops::rings::waiting;
 use state::State;
 ghost use mathlib.Core.Bool.{true};
-ghost use Rattle.model.specs.Script.{run};
-ghost use Rattle.model.specs.IsoIn.{isoInComplete};
-ghost use Rattle.model_ops.specs.Means.{MeansAt, MeansFrom};
-ghost use Rattle.model_ops.specs.Concrete.{concrete};
+ghost use Rattle.script.specs.Script.{run};
+ghost use Rattle.script.specs.IsoIn.{isoInComplete};
+ghost use Rattle.script_ops.specs.Means.{MeansAt, MeansFrom};
+ghost use Rattle.script_ops.specs.Concrete.{concrete};
 ghost use Rattle.isochronous.specs.Complete.{denote, loading, begun, meaning, Linked, Bound};
 
 // What was handed out last, of which endpoint. Nothing is awaited at either.
@@ -52,7 +52,7 @@ fn iso_in_load(s: &mut State, e: u8) -> Begun
 pub fn start(s: &mut State, e: u8) -> Begun
     ensures { λ r. ⌜ MeansFrom (begun r) (Bound r) (run concrete (isoInComplete {i = true} e)) (now (s .entry)) (now (s .exit)) ⌝ }
 {
-    model_ops::rings::complete(s, e);
+    script_ops::rings::complete(s, e);
     iso_in_load(s, e)
 }
 

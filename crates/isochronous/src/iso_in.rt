@@ -11,7 +11,7 @@ ghost use mathlib.Core.Path.{_≡_};
 ghost use mathlib.Core.Bool.{true};
 ghost use Rattle.regs.specs.Registers.{fitsIn};
 ghost use Rattle.state.specs.State.{view, saved};
-ghost use Rattle.model.specs.Statics.{isoInEvery};
+ghost use Rattle.script.specs.Statics.{isoInEvery};
 ghost use Rattle.isochronous.specs.Frames.{framedOn, isFirst};
 
 // A walk's next endpoint that is not passed over, with the mask of those after it.

@@ -15,9 +15,9 @@ ghost use mathlib.Core.Path.{_≡_};
 ghost use mathlib.Core.List.{List};
 ghost use Prim.Native.Nat.{ℕ};
 ghost use Rattle.state.specs.State.{view, saved};
-ghost use Rattle.model.specs.Script.{run};
-ghost use Rattle.model_ops.specs.Means.{MeansFrom};
-ghost use Rattle.model_ops.specs.Concrete.{concrete};
+ghost use Rattle.script.specs.Script.{run};
+ghost use Rattle.script_ops.specs.Means.{MeansFrom};
+ghost use Rattle.script_ops.specs.Concrete.{concrete};
 ghost use Rattle.isochronous.specs.Late.{lateAll, walking, looked, denote, meaning, Linked};
 
 // An endpoint completes, and the endpoints that are left. Nothing is awaited.

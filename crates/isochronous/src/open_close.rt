@@ -2,15 +2,15 @@
 // total: any number is safe.
 use endpoint::rows::low;
 use endpoint::rows::refusal;
-use model_ops::rings::close_oldest;
-use model_ops::rings::is_on;
-use model_ops::rings::next_len;
-use model_ops::rings::next_stamp;
-use model_ops::rings::oldest_at;
-use model_ops::rings::open_oldest;
-use model_ops::rings::opened;
-use model_ops::rings::waiting;
 use regs::Dir;
+use script_ops::rings::close_oldest;
+use script_ops::rings::is_on;
+use script_ops::rings::next_len;
+use script_ops::rings::next_stamp;
+use script_ops::rings::oldest_at;
+use script_ops::rings::open_oldest;
+use script_ops::rings::opened;
+use script_ops::rings::waiting;
 use state::State;
 use state::load_ep;
 ghost use mathlib.Core.Path.{_≡_};
@@ -18,8 +18,8 @@ ghost use mathlib.Core.Bool.{false};
 ghost use mathlib.Core.List.{List};
 ghost use Prim.Native.Nat.{ℕ};
 ghost use Rattle.state.specs.State.{view, saved};
-ghost use Rattle.model.specs.Driver.{openPacket, closePacket};
-ghost use Rattle.model_ops.specs.Concrete.{go};
+ghost use Rattle.script.specs.Driver.{openPacket, closePacket};
+ghost use Rattle.script_ops.specs.Concrete.{go};
 ghost use Rattle.isochronous.specs.Packets.{answered, ShownAt, opening, closing};
 
 // The row that refuses the call; an open packet's offset into the slots, its length and its stamp; or nothing to tell.

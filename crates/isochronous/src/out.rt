@@ -1,11 +1,6 @@
 // Isochronous OUT arrivals (`iso_out_check`, mod.rs 461-512) one access at a time. Every function is total: any number is safe.
 use bits::next_endpoint;
 use bits::rest_of;
-use model::Transfer;
-use model_ops::records::wake;
-use model_ops::rings::changed;
-use model_ops::rings::marked;
-use model_ops::slots::arrive;
 use regs::Access;
 use regs::Dir;
 use regs::Reg;
@@ -14,6 +9,11 @@ use regs::registers::fits;
 use regs::status::endpoint;
 use regs::status::is_out;
 use regs::status::tog_ok;
+use script::Transfer;
+use script_ops::records::wake;
+use script_ops::rings::changed;
+use script_ops::rings::marked;
+use script_ops::slots::arrive;
 use state::State;
 use state::load_globals;
 ghost use mathlib.Core.Path.{_≡_};
@@ -21,11 +21,11 @@ ghost use mathlib.Core.Bool.{Bool, true, false};
 ghost use Prim.Native.Nat.{ℕ};
 ghost use Rattle.regs.specs.Registers.{fitsIn};
 ghost use Rattle.state.specs.State.{view};
-ghost use Rattle.model.specs.declared.Transfer.{Transfer};
-ghost use Rattle.model.specs.Script.{run};
-ghost use Rattle.model.specs.IsoOut.{arriving, entry, isoOutCheck};
-ghost use Rattle.model_ops.specs.Means.{MeansWithSlots};
-ghost use Rattle.model_ops.specs.Concrete.{concrete, go};
+ghost use Rattle.script.specs.declared.Transfer.{Transfer};
+ghost use Rattle.script.specs.Script.{run};
+ghost use Rattle.script.specs.IsoOut.{arriving, entry, isoOutCheck};
+ghost use Rattle.script_ops.specs.Means.{MeansWithSlots};
+ghost use Rattle.script_ops.specs.Concrete.{concrete, go};
 ghost use Rattle.isochronous.specs.Points.{walk, arrival, denote, meaning, foundAs, Linked, fitsAt};
 
 // Where the check stands: the endpoint, and the mask of those behind it.

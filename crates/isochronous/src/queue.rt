@@ -3,11 +3,11 @@
 use crate::open_close::Packet;
 use endpoint::rows::low;
 use endpoint::rows::refusal;
-use model_ops::rings::is_on;
-use model_ops::rings::iso_in_enqueue;
-use model_ops::rings::room;
 use regs::Dir;
 use regs::enables;
+use script_ops::rings::is_on;
+use script_ops::rings::iso_in_enqueue;
+use script_ops::rings::room;
 use state::State;
 use state::load_allocator;
 use state::load_ep;
@@ -15,8 +15,8 @@ use state::load_globals;
 ghost use mathlib.Core.Path.{_≡_};
 ghost use mathlib.Core.Bool.{false};
 ghost use Rattle.state.specs.State.{view, saved};
-ghost use Rattle.model.specs.Driver.{queuePacket};
-ghost use Rattle.model_ops.specs.Concrete.{go};
+ghost use Rattle.script.specs.Driver.{queuePacket};
+ghost use Rattle.script_ops.specs.Concrete.{go};
 ghost use Rattle.isochronous.specs.Packets.{answered};
 ghost use Rattle.isochronous.specs.Queue.{queueing};
 

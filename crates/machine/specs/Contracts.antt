@@ -3,8 +3,8 @@ use mathlib.Core.Path.{_≡_}
 use mathlib.Core.List.{List, []}
 use Prim.Native.Nat.{ℕ}
 use Rattle.state.specs.State.{view}
-use Rattle.model.specs.Calls.{Other, other, Slotted, slotted}
-use Rattle.model.specs.Machine.{Buf, begin}
+use Rattle.script.specs.Calls.{Other, other, Slotted, slotted}
+use Rattle.script.specs.Machine.{Buf, begin}
 use Rattle.answer.specs.declared.Step.{Step}
 use Rattle.machine.specs.Suspended.{machineOf, drive, answerOf, lentOr, lentBy, BufferUnchangedOnRow1, SavedByAnswer}
 

@@ -8,13 +8,13 @@ use Rattle.state.specs.declared.Saved.{Saved}
 use Rattle.state.specs.Driver.{Driver, noneGathered}
 use Rattle.state.specs.State.{view, saved}
 use Rattle.endpoint.specs.Answers.{lentAfter}
-use Rattle.model.specs.Tree.{Out, bindOut}
-use Rattle.model.specs.Script.{Script, run}
-use Rattle.model.specs.Answers.{Answer, operation, staged}
-use Rattle.model.specs.Calls.{Other, other, otherCode, Slotted, slotted, slottedCode}
-use Rattle.model.specs.Machine.{Buf, begin}
-use Rattle.model_ops.specs.Rings.{St}
-use Rattle.model_ops.specs.Concrete.{concrete}
+use Rattle.script.specs.Tree.{Out, bindOut}
+use Rattle.script.specs.Script.{Script, run}
+use Rattle.script.specs.Answers.{Answer, operation, staged}
+use Rattle.script.specs.Calls.{Other, other, otherCode, Slotted, slotted, slottedCode}
+use Rattle.script.specs.Machine.{Buf, begin}
+use Rattle.script_ops.specs.Rings.{St}
+use Rattle.script_ops.specs.Concrete.{concrete}
 use Rattle.answer.specs.declared.Step.{Step}
 use Rattle.answer.specs.declared.Step.the-variants as step
 use Rattle.machine.specs.Suspended.{decode, finish, machineOf, drive, halts, slotsFit, answerOf, SavedByAnswer}

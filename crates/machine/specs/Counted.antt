@@ -8,8 +8,8 @@ use Rattle.state.specs.Driver.{Driver}
 use Rattle.state.specs.State.{view}
 use Rattle.state.specs.Wakes.{listed}
 use Rattle.state.specs.Laws.{view-codes}
-use Rattle.model.specs.Answers.{Answer, Refused, End, NotYet, Done, Shown}
-use Rattle.model.specs.Machine.{Ans, ended, handed, told}
+use Rattle.script.specs.Answers.{Answer, Refused, End, NotYet, Done, Shown}
+use Rattle.script.specs.Machine.{Ans, ended, handed, told}
 use Rattle.endpoint.specs.Answers.{front}
 use Rattle.endpoint.specs.Front.{front-length}
 use Rattle.answer.specs.declared.Step.the-variants as step

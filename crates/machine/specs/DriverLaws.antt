@@ -3,9 +3,9 @@ use mathlib.Core.Path.{_≡_, refl}
 use Prim.Native.Nat.{ℕ}
 use borrow.Author.Tests.{ne-eqb}
 use Rattle.state.specs.declared.Saved.{Saved}
-use Rattle.model.specs.Statics.{isOn}
-use Rattle.model.specs.Script.{run}
-use Rattle.model_ops.specs.Concrete.{concrete}
+use Rattle.script.specs.Statics.{isOn}
+use Rattle.script.specs.Script.{run}
+use Rattle.script_ops.specs.Concrete.{concrete}
 use Rattle.driver.specs.declared.Point.the-variants as point
 use Rattle.driver.specs.Points.{denote, awaitsAt}
 use Rattle.driver.specs.Codec as codec

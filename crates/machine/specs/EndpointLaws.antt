@@ -3,8 +3,8 @@ use mathlib.Core.Path.{_≡_, refl}
 use Prim.Native.Nat.{ℕ}
 use borrow.Author.Tests.{ne-eqb}
 use Rattle.state.specs.declared.Saved.{Saved}
-use Rattle.model.specs.Script.{run}
-use Rattle.model_ops.specs.Concrete.{concrete}
+use Rattle.script.specs.Script.{run}
+use Rattle.script_ops.specs.Concrete.{concrete}
 use Rattle.endpoint.specs.declared.Point.the-variants as point
 use Rattle.endpoint.specs.Points.{denote, awaitsAt}
 use Rattle.endpoint.specs.Codec as codec

@@ -4,11 +4,11 @@ use mathlib.Core.Bool.{false}
 use mathlib.Core.Path.{_≡_}
 use Prim.Native.Nat.{ℕ}
 use Rattle.state.specs.declared.Saved.{Saved}
-use Rattle.model.specs.Tree.{Out, bindOut}
-use Rattle.model.specs.Script.{run}
-use Rattle.model.specs.Machine.{Awaits, busy}
-use Rattle.model_ops.specs.Rings.{St}
-use Rattle.model_ops.specs.Concrete.{concrete}
+use Rattle.script.specs.Tree.{Out, bindOut}
+use Rattle.script.specs.Script.{run}
+use Rattle.script.specs.Machine.{Awaits, busy}
+use Rattle.script_ops.specs.Rings.{St}
+use Rattle.script_ops.specs.Concrete.{concrete}
 use Rattle.machine.specs.declared.Suspended.{Suspended}
 use Rattle.machine.specs.Suspended.{decode, wayOf, finish}
 

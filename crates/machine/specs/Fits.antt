@@ -3,12 +3,12 @@ use mathlib.Core.Bool.{Bool, true, false, not}
 use mathlib.Core.Path.{_≡_, refl, ap, sym, subst, _∙_}
 use Prim.Native.Nat.{ℕ}
 use Rattle.regs.specs.declared.Access.{Access}
-use Rattle.model.specs.Calls.{calls}
-use Rattle.model.specs.Machine.{Buf, Awaits, nothing, reading, awaited, over, Way, busy, ended, continued}
-use Rattle.model.specs.Tree.{Out}
-use Rattle.model.specs.Answers.{Answer, Refused}
-use Rattle.model_ops.specs.Numbers.{fits}
-use Rattle.model_ops.specs.Rings.{St}
+use Rattle.script.specs.Calls.{calls}
+use Rattle.script.specs.Machine.{Buf, Awaits, nothing, reading, awaited, over, Way, busy, ended, continued}
+use Rattle.script.specs.Tree.{Out}
+use Rattle.script.specs.Answers.{Answer, Refused}
+use Rattle.script_ops.specs.Numbers.{fits}
+use Rattle.script_ops.specs.Rings.{St}
 use Rattle.state.specs.Driver.{Driver}
 use Rattle.driver.specs.declared.Point.{Point}
 use Rattle.driver.specs.declared.Next.{Next}

@@ -3,11 +3,11 @@ use mathlib.Core.Bool.{Bool, true, false, not, cond}
 use mathlib.Core.Path.{_≡_, refl, ap, _∙_}
 use Prim.Native.Nat.{ℕ}
 use Rattle.state.specs.Driver.{Driver}
-use Rattle.model.specs.Tree.{Out}
-use Rattle.model.specs.Answers.{Answer, Refused}
-use Rattle.model.specs.Calls.{calls}
-use Rattle.model.specs.Machine.{Buf, Awaits, over, Way, idle, busy, Machine, Ans, ended, go, continued}
-use Rattle.model_ops.specs.Rings.{St}
+use Rattle.script.specs.Tree.{Out}
+use Rattle.script.specs.Answers.{Answer, Refused}
+use Rattle.script.specs.Calls.{calls}
+use Rattle.script.specs.Machine.{Buf, Awaits, over, Way, idle, busy, Machine, Ans, ended, go, continued}
+use Rattle.script_ops.specs.Rings.{St}
 use Rattle.machine.specs.declared.Suspended.{Suspended}
 use Rattle.machine.specs.Suspended.{wayOf, machineAt, driverOf, drive, haltsAs, resumed, slotsFit}
 use Rattle.answer.specs.Goes.{Called}

@@ -3,7 +3,7 @@ use mathlib.Core.Path.{_≡_, ap, sym, _∙_}
 use Prim.Native.Nat.{ℕ}
 use Rattle.state.specs.declared.Saved.{Saved}
 use Rattle.state.specs.Driver.{Driver}
-use Rattle.model.specs.Machine.{Buf}
+use Rattle.script.specs.Machine.{Buf}
 use Rattle.machine.specs.declared.Suspended.{Suspended}
 use Rattle.machine.specs.Suspended.{decode, resumed}
 use Rattle.answer.specs.Goes.{Called}

@@ -2,10 +2,10 @@
 use mathlib.Core.Bool.{true, false, not}
 use mathlib.Core.Path.{_≡_, ap, _∙_}
 use Prim.Native.Nat.{ℕ}
-use Rattle.model.specs.Machine.{Buf}
-use Rattle.model.specs.Script.{run}
-use Rattle.model.specs.Tree.{bindOut}
-use Rattle.model_ops.specs.Concrete.{concrete}
+use Rattle.script.specs.Machine.{Buf}
+use Rattle.script.specs.Script.{run}
+use Rattle.script.specs.Tree.{bindOut}
+use Rattle.script_ops.specs.Concrete.{concrete}
 use Rattle.state.specs.Driver.{Driver}
 use Rattle.interrupt.specs.declared.Point.{Point}
 use Rattle.interrupt.specs.Points as handler

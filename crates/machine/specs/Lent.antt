@@ -5,11 +5,11 @@ use mathlib.Core.Path.{_≡_, refl, ap, sym, _∙_}
 use Prim.Native.Nat.{ℕ}
 use Rattle.state.specs.Driver.{Driver}
 use Rattle.endpoint.specs.Answers.{lentAfter}
-use Rattle.model.specs.Script.{run}
-use Rattle.model.specs.Answers.{Answer, Refused}
-use Rattle.model.specs.Calls.{Slotted, slotted, slottedCode}
-use Rattle.model.specs.Machine.{Buf, Machine, Ans, ended, begin}
-use Rattle.model_ops.specs.Concrete.{concrete}
+use Rattle.script.specs.Script.{run}
+use Rattle.script.specs.Answers.{Answer, Refused}
+use Rattle.script.specs.Calls.{Slotted, slotted, slottedCode}
+use Rattle.script.specs.Machine.{Buf, Machine, Ans, ended, begin}
+use Rattle.script_ops.specs.Concrete.{concrete}
 use Rattle.machine.specs.declared.Suspended.{Suspended}
 use Rattle.machine.specs.Suspended.{machineAt, drive, halts, slotsFit, BufferUnchangedOnRow1, lentBy}
 use Rattle.machine.specs.SuspendedLaws.{lent-halts}

@@ -7,13 +7,13 @@ use Rattle.regs.specs.declared.Access.{Access}
 use Rattle.state.specs.declared.Saved.{Saved}
 use Rattle.state.specs.Driver.{Driver}
 use Rattle.state.specs.State.{view, saved}
-use Rattle.model.specs.Answers.{Answer}
-use Rattle.model.specs.Tree.{Out, ends, asks, bindOut}
-use Rattle.model.specs.Machine.{Buf, Awaits, Way, busy, handed, awaited}
-use Rattle.model.specs.Script.{run}
-use Rattle.model_ops.specs.Numbers.{fits}
-use Rattle.model_ops.specs.Rings.{St}
-use Rattle.model_ops.specs.Concrete.{concrete}
+use Rattle.script.specs.Answers.{Answer}
+use Rattle.script.specs.Tree.{Out, ends, asks, bindOut}
+use Rattle.script.specs.Machine.{Buf, Awaits, Way, busy, handed, awaited}
+use Rattle.script.specs.Script.{run}
+use Rattle.script_ops.specs.Numbers.{fits}
+use Rattle.script_ops.specs.Rings.{St}
+use Rattle.script_ops.specs.Concrete.{concrete}
 use Rattle.machine.specs.declared.Suspended.{Suspended}
 use Rattle.answer.specs.declared.Step.{Step}
 use Rattle.answer.specs.declared.Step.the-variants as step

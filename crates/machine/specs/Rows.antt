@@ -5,12 +5,12 @@ use Prim.Native.Nat.{ℕ}
 use lib.Dec.{eqb}
 use Rattle.regs.specs.declared.Dir.{Dir}
 use Rattle.state.specs.Driver.{Driver}
-use Rattle.model.specs.Tree.{Out}
-use Rattle.model.specs.Script.{Script}
-use Rattle.model.specs.Answers.{Answer, Refused}
-use Rattle.model.specs.Calls.{Other, Slotted, Aside}
-use Rattle.model.specs.Machine.{Buf, Way, idle, busy, Machine, Ans}
-use Rattle.model_ops.specs.Rings.{St}
+use Rattle.script.specs.Tree.{Out}
+use Rattle.script.specs.Script.{Script}
+use Rattle.script.specs.Answers.{Answer, Refused}
+use Rattle.script.specs.Calls.{Other, Slotted, Aside}
+use Rattle.script.specs.Machine.{Buf, Way, idle, busy, Machine, Ans}
+use Rattle.script_ops.specs.Rings.{St}
 use Rattle.machine.specs.declared.Suspended.{Suspended}
 use Rattle.machine.specs.Suspended.{wayOf}
 use Rattle.answer.specs.Goes.{Called}

@@ -5,15 +5,15 @@ use Prim.Native.Nat.{ℕ}
 use lib.Dec.{eqb}
 use Rattle.regs.specs.declared.Dir.{Dir}
 use Rattle.state.specs.Driver.{Driver}
-use Rattle.model.specs.Tree.{Out, ends}
-use Rattle.model.specs.Script.{Script, run}
-use Rattle.model.specs.Answers.{Answer, Refused, resultless, staged, named, isNumber, isAllocated}
-use Rattle.model.specs.Handler.{stampedInterrupt}
-use Rattle.model.specs.Calls.{Other, other, otherCode, Slotted, slotted, slottedCode, Aside, aside, asideCode}
-use Rattle.model.specs.Calls.{asideSlots, interrupt, interruptCode, calls, numbered}
-use Rattle.model.specs.Machine.{Buf, Way, idle, busy, Machine, Ans, ended, begin, beside}
-use Rattle.model_ops.specs.Rings.{St}
-use Rattle.model_ops.specs.Concrete.{concrete}
+use Rattle.script.specs.Tree.{Out, ends}
+use Rattle.script.specs.Script.{Script, run}
+use Rattle.script.specs.Answers.{Answer, Refused, resultless, staged, named, isNumber, isAllocated}
+use Rattle.script.specs.Handler.{stampedInterrupt}
+use Rattle.script.specs.Calls.{Other, other, otherCode, Slotted, slotted, slottedCode, Aside, aside, asideCode}
+use Rattle.script.specs.Calls.{asideSlots, interrupt, interruptCode, calls, numbered}
+use Rattle.script.specs.Machine.{Buf, Way, idle, busy, Machine, Ans, ended, begin, beside}
+use Rattle.script_ops.specs.Rings.{St}
+use Rattle.script_ops.specs.Concrete.{concrete}
 use Rattle.machine.specs.declared.Suspended.{Suspended}
 use Rattle.machine.specs.Suspended.{wayOf, machineAt, driverOf, drive, haltsAs, halts, slotsFit}
 use Rattle.answer.specs.Goes.{Called}

@@ -5,11 +5,11 @@ use mathlib.Core.Path.{_≡_}
 use Prim.Native.Nat.{ℕ, zero, suc}
 use Rattle.regs.specs.declared.Access.{Access}
 use Rattle.state.specs.State.{view, saved}
-use Rattle.model.specs.Tree.{Out, bindOut}
-use Rattle.model.specs.Script.{run}
-use Rattle.model.specs.Machine.{Buf}
-use Rattle.model_ops.specs.Rings.{St}
-use Rattle.model_ops.specs.Concrete.{concrete}
+use Rattle.script.specs.Tree.{Out, bindOut}
+use Rattle.script.specs.Script.{run}
+use Rattle.script.specs.Machine.{Buf}
+use Rattle.script_ops.specs.Rings.{St}
+use Rattle.script_ops.specs.Concrete.{concrete}
 use Rattle.machine.specs.declared.Suspended.{Suspended}
 use Rattle.answer.specs.declared.Step.{Step}
 use Rattle.answer.specs.declared.Step.the-variants as step

@@ -5,9 +5,9 @@ use mathlib.Core.Path.{_≡_, _∙_, ap, sym, subst, refl}
 use Prim.Native.Nat.{ℕ}
 use Rattle.regs.specs.declared.Access.{Access}
 use Rattle.state.specs.State.{view, saved}
-use Rattle.model.specs.Tree.{ends}
-use Rattle.model.specs.Answers.{Refused}
-use Rattle.model.specs.Machine.{Buf}
+use Rattle.script.specs.Tree.{ends}
+use Rattle.script.specs.Answers.{Refused}
+use Rattle.script.specs.Machine.{Buf}
 use Rattle.machine.specs.declared.Suspended.{Suspended}
 use Rattle.answer.specs.declared.Step.{Step}
 use Rattle.answer.specs.declared.Step.the-variants as step

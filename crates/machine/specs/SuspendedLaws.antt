@@ -7,13 +7,13 @@ use Rattle.regs.specs.declared.Access.{Access}
 use Rattle.state.specs.declared.Saved.{Saved}
 use Rattle.state.specs.Driver.{Driver}
 use Rattle.state.specs.Fresh as fresh
-use Rattle.model.specs.Tree.{Out, ends, asks}
-use Rattle.model.specs.Script.{Script, _>>=_}
-use Rattle.model.specs.Answers.{Answer, Refused, End, NotYet, Done, Shown}
-use Rattle.model.specs.Calls.{Config, Op}
-use Rattle.model.specs.Machine as machine
-use Rattle.model.specs.Machine.{Buf, Way, Machine, Ans, Call}
-use Rattle.model_ops.specs.Rings.{St}
+use Rattle.script.specs.Tree.{Out, ends, asks}
+use Rattle.script.specs.Script.{Script, _>>=_}
+use Rattle.script.specs.Answers.{Answer, Refused, End, NotYet, Done, Shown}
+use Rattle.script.specs.Calls.{Config, Op}
+use Rattle.script.specs.Machine as machine
+use Rattle.script.specs.Machine.{Buf, Way, Machine, Ans, Call}
+use Rattle.script_ops.specs.Rings.{St}
 use Rattle.driver.specs.Points as driver
 use Rattle.driver.specs.Codec as codec
 use Rattle.driver.specs.CodecLaws as codec-laws

@@ -8,12 +8,12 @@ use answer::loads::now_byte;
 use answer::loads::site_byte;
 use answer::loads::st_byte;
 use interrupt::codec::dir_of;
-use model_ops::rings::is_on;
 use regs::Dir;
+use script_ops::rings::is_on;
 use state::State;
 ghost use mathlib.Core.Path.{_≡_};
 ghost use Rattle.state.specs.State.{saved};
-ghost use Rattle.model.specs.Statics.{isOn};
+ghost use Rattle.script.specs.Statics.{isOn};
 ghost use Rattle.interrupt.specs.Codec.{dirOf};
 ghost use Rattle.machine.specs.Loads.{listEndpointOf, completionOf};
 

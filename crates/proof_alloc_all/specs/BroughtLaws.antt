@@ -18,16 +18,16 @@ use Rattle.descriptor.specs.declared.Answer as reading-answer
 use Rattle.descriptor.specs.declared.Answer.the-variants as reading
 use Rattle.descriptor.specs.Reading.{readingOf, listOf}
 use Rattle.descriptor.specs.Trial.{directionOf, trialOf}
-use Rattle.model.specs.Tree as tree
-use Rattle.model.specs.Tree.{ends, asks, bindOut}
-use Rattle.model.specs.Script.{Script, ret, bind, test, run}
-use Rattle.model.specs.Answers as answers
-use Rattle.model.specs.Answers.{End, operation, staged, isAllocated}
-use Rattle.model.specs.Driver.{newEndpoint, allocated-as}
-use Rattle.model.specs.AllocateAll.{allocateEach, announce, beginsAt, announceAfter, announceAll, allocate-read}
-use Rattle.model.specs.Calls.{AllocateAll, otherCode}
-use Rattle.model_ops.specs.Rings.{St}
-use Rattle.model_ops.specs.Concrete.{concrete}
+use Rattle.script.specs.Tree as tree
+use Rattle.script.specs.Tree.{ends, asks, bindOut}
+use Rattle.script.specs.Script.{Script, ret, bind, test, run}
+use Rattle.script.specs.Answers as answers
+use Rattle.script.specs.Answers.{End, operation, staged, isAllocated}
+use Rattle.script.specs.Driver.{newEndpoint, allocated-as}
+use Rattle.script.specs.AllocateAll.{allocateEach, announce, beginsAt, announceAfter, announceAll, allocate-read}
+use Rattle.script.specs.Calls.{AllocateAll, otherCode}
+use Rattle.script_ops.specs.Rings.{St}
+use Rattle.script_ops.specs.Concrete.{concrete}
 use Rattle.proof_alloc_all.specs.Hands.{handsOut, endsWith, allocation, oneByOne}
 use Rattle.proof_alloc_all.specs.Brought.{Brings, handsAs, endsAs, oneByOneAs}
 use Rattle.proof_alloc_all.specs.Settled.{Settled}

@@ -23,7 +23,7 @@ use Rattle.alloc.specs.Alloc.{if, isIso, isFree, dirBit, askedOf, numberOf, all
 use Rattle.alloc.specs.Outcome.{Gives, Outcome, six, seven, eight, given, outcome}
 use Rattle.descriptor.specs.declared.Endpoint.{Endpoint}
 use Rattle.descriptor.specs.Trial.{directionOf, asked}
-use Rattle.model_ops.specs.Records.{withIsoSets, isoAdded, withSets, recordGiven, setsGiven, givenTo, allocatedOn}
+use Rattle.script_ops.specs.Records.{withIsoSets, isoAdded, withSets, recordGiven, setsGiven, givenTo, allocatedOn}
 use Rattle.driver.specs.Each.{oneOn}
 
 -- ---- what the allocator gave

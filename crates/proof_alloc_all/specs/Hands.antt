@@ -9,13 +9,13 @@ use Rattle.regs.specs.declared.Reg.the-variants.{EpMaxLen}
 use Rattle.regs.specs.declared.Dir.{Dir}
 use Rattle.descriptor.specs.declared.Endpoint.{Endpoint}
 use Rattle.descriptor.specs.Trial.{directionOf}
-use Rattle.model.specs.Tree as tree
-use Rattle.model.specs.Tree.{ends, asks}
-use Rattle.model.specs.Script.{Script, run, dma}
-use Rattle.model.specs.Answers.{Answer}
-use Rattle.model.specs.Calls.{Allocate, otherCode}
-use Rattle.model_ops.specs.Rings.{St}
-use Rattle.model_ops.specs.Concrete.{concrete}
+use Rattle.script.specs.Tree as tree
+use Rattle.script.specs.Tree.{ends, asks}
+use Rattle.script.specs.Script.{Script, run, dma}
+use Rattle.script.specs.Answers.{Answer}
+use Rattle.script.specs.Calls.{Allocate, otherCode}
+use Rattle.script_ops.specs.Rings.{St}
+use Rattle.script_ops.specs.Concrete.{concrete}
 
 -- its accesses; it reads nothing, so any number is brought
 abbrev pub handsOut : {A : Type 0} → tree.Out St A → List Access

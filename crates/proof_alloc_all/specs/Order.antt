@@ -7,10 +7,10 @@ use lib.ListN.{length}
 use Rattle.state.specs.Driver.{Driver, noneGathered}
 use Rattle.descriptor.specs.declared.Endpoint.{Endpoint}
 use Rattle.descriptor.specs.Reading.{listOf}
-use Rattle.model.specs.Script.{run}
-use Rattle.model.specs.Answers.{End}
-use Rattle.model.specs.Calls.{AllocateAll, otherCode}
-use Rattle.model_ops.specs.Concrete.{concrete}
+use Rattle.script.specs.Script.{run}
+use Rattle.script.specs.Answers.{End}
+use Rattle.script.specs.Calls.{AllocateAll, otherCode}
+use Rattle.script_ops.specs.Concrete.{concrete}
 use Rattle.driver.specs.Each.{eachOn}
 use Rattle.proof_alloc_all.specs.Hands.{handsOut, endsWith, oneByOne}
 use Rattle.proof_alloc_all.specs.Walk.{handed}

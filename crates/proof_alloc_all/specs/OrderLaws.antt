@@ -27,18 +27,18 @@ use Rattle.descriptor.specs.ReadBackLaws.{accepted}
 use Rattle.descriptor.specs.declared.preview.Trial.{Trial}
 use Rattle.descriptor.specs.Trial.{directionOf, asked, trialOf}
 use Rattle.descriptor.specs.OneByOne.{Run, all, stopped, goes, one-by-one}
-use Rattle.model.specs.Tree as tree
-use Rattle.model.specs.Tree.{ends, asks, bindOut}
-use Rattle.model.specs.Script.{run, dma}
-use Rattle.model.specs.Answers as answers
-use Rattle.model.specs.Answers.{End, operation}
-use Rattle.model.specs.Driver.{allocated-as}
-use Rattle.model.specs.AllocateAll as script
-use Rattle.model.specs.AllocateAll.{allocate-read}
-use Rattle.model.specs.Calls.{AllocateAll, otherCode}
-use Rattle.model_ops.specs.Records.{recordGiven, setsGiven, givenTo, allocatedOn}
-use Rattle.model_ops.specs.Rings.{St, placeOn}
-use Rattle.model_ops.specs.Concrete.{concrete, go}
+use Rattle.script.specs.Tree as tree
+use Rattle.script.specs.Tree.{ends, asks, bindOut}
+use Rattle.script.specs.Script.{run, dma}
+use Rattle.script.specs.Answers as answers
+use Rattle.script.specs.Answers.{End, operation}
+use Rattle.script.specs.Driver.{allocated-as}
+use Rattle.script.specs.AllocateAll as script
+use Rattle.script.specs.AllocateAll.{allocate-read}
+use Rattle.script.specs.Calls.{AllocateAll, otherCode}
+use Rattle.script_ops.specs.Records.{recordGiven, setsGiven, givenTo, allocatedOn}
+use Rattle.script_ops.specs.Rings.{St, placeOn}
+use Rattle.script_ops.specs.Concrete.{concrete, go}
 use Rattle.driver.specs.Each.{oneOn, eachOn, announceAll}
 use Rattle.driver.specs.EachLaws.{each-run}
 use Rattle.proof_alloc_all.specs.Hands.{handsOut, endsWith, allocation, oneByOne, accesses}

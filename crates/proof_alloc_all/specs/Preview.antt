@@ -22,14 +22,14 @@ use Rattle.descriptor.specs.Trial.{directionOf, asked}
 use Rattle.descriptor.specs.Preview.{shown, shownOf, previewOf}
 use Rattle.descriptor.specs.Asked.{Fair, fair-asked}
 use Rattle.descriptor.specs.OneByOne.{Run, all, stopped, goes, buffers-used, padded, one-by-one}
-use Rattle.model.specs.Tree.{ends}
-use Rattle.model.specs.Script.{run}
-use Rattle.model.specs.Answers as answers
-use Rattle.model.specs.Answers.{End}
-use Rattle.model.specs.Driver.{allocated-as}
-use Rattle.model_ops.specs.Records.{givenTo, allocatedOn}
-use Rattle.model_ops.specs.Rings.{St}
-use Rattle.model_ops.specs.Concrete.{concrete}
+use Rattle.script.specs.Tree.{ends}
+use Rattle.script.specs.Script.{run}
+use Rattle.script.specs.Answers as answers
+use Rattle.script.specs.Answers.{End}
+use Rattle.script.specs.Driver.{allocated-as}
+use Rattle.script_ops.specs.Records.{givenTo, allocatedOn}
+use Rattle.script_ops.specs.Rings.{St}
+use Rattle.script_ops.specs.Concrete.{concrete}
 use Rattle.driver.specs.Each.{oneOn}
 use Rattle.proof_alloc_all.specs.Hands.{endsWith, allocation}
 use Rattle.proof_alloc_all.specs.Given.{one-allocator, one-stage}

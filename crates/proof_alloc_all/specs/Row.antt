@@ -17,15 +17,15 @@ use Rattle.descriptor.specs.declared.preview.Said.the-variants as said
 use Rattle.descriptor.specs.declared.preview.Shown.{Shown}
 use Rattle.descriptor.specs.Trial.{trialOf}
 use Rattle.descriptor.specs.Preview.{shownOf, previewOf}
-use Rattle.model.specs.Tree as tree
-use Rattle.model.specs.Tree.{ends, asks, bindOut}
-use Rattle.model.specs.Script.{run}
-use Rattle.model.specs.Answers as answers
-use Rattle.model.specs.Answers.{End, operation}
-use Rattle.model.specs.AllocateAll.{allocateEach, allocate-tried, allocate-read}
-use Rattle.model.specs.Calls.{AllocateAll, otherCode}
-use Rattle.model_ops.specs.Rings.{St}
-use Rattle.model_ops.specs.Concrete.{concrete, go}
+use Rattle.script.specs.Tree as tree
+use Rattle.script.specs.Tree.{ends, asks, bindOut}
+use Rattle.script.specs.Script.{run}
+use Rattle.script.specs.Answers as answers
+use Rattle.script.specs.Answers.{End, operation}
+use Rattle.script.specs.AllocateAll.{allocateEach, allocate-tried, allocate-read}
+use Rattle.script.specs.Calls.{AllocateAll, otherCode}
+use Rattle.script_ops.specs.Rings.{St}
+use Rattle.script_ops.specs.Concrete.{concrete, go}
 use Rattle.driver.specs.Each.{eachOn, announceAll}
 use Rattle.driver.specs.EachLaws.{each-run}
 

@@ -21,14 +21,14 @@ use Rattle.state.specs.Laws.{key-apart, withOn-back}
 use Rattle.alloc.specs.Alloc.{isIso, slotsOf, allocatedIn}
 use Rattle.descriptor.specs.declared.Endpoint.{Endpoint}
 use Rattle.descriptor.specs.Trial.{directionOf}
-use Rattle.model.specs.Tree as tree
-use Rattle.model.specs.Tree.{ends, asks, bindOut}
-use Rattle.model.specs.Script.{run, dma}
-use Rattle.model.specs.Statics.{isoOuts}
-use Rattle.model.specs.Answers.{isNumber, isAllocated}
+use Rattle.script.specs.Tree as tree
+use Rattle.script.specs.Tree.{ends, asks, bindOut}
+use Rattle.script.specs.Script.{run, dma}
+use Rattle.script.specs.Statics.{isoOuts}
+use Rattle.script.specs.Answers.{isNumber, isAllocated}
 use Rattle.ring.specs.Out.{armedAt}
-use Rattle.model_ops.specs.Rings.{St, placeOn}
-use Rattle.model_ops.specs.Concrete.{concrete, go}
+use Rattle.script_ops.specs.Rings.{St, placeOn}
+use Rattle.script_ops.specs.Concrete.{concrete, go}
 use Rattle.driver.specs.Announce.{endOn, startsAt, foundAt, following, announcing}
 use Rattle.driver.specs.AnnounceLaws.{after-none, after-in, after-out}
 use Rattle.proof_alloc_all.specs.Hands.{handsOut, endsWith, accesses}

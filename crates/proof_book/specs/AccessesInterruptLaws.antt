@@ -15,20 +15,20 @@ use Rattle.regs.specs.declared.Dir.the-variants.{Out, In}
 use Rattle.regs.specs.declared.Token.{Token}
 use Rattle.regs.specs.declared.Token.the-variants as tok
 use Rattle.regs.specs.Status.{token}
-use Rattle.model.specs.declared.Transfer.{Transfer}
-use Rattle.model.specs.Tree as tree
-use Rattle.model.specs.Tree.{ends, asks, Prog, bindOut}
-use Rattle.model.specs.Cells.{Cell, Val, globals-cell, ep-cell}
-use Rattle.model.specs.Script.{Script, Ops, run, Test, Look, Fetch, Act, DmaStep, ret, bind, test}
-use Rattle.model.specs.Script.{_>>_, done, when, read, write, callback, get, put, is, look, fetch, act, hand}
-use Rattle.model.specs.Statics.{modifyReg}
-use Rattle.model.specs.IsoIn.{firstInFrame, isoInLoad, isoInComplete, unseen, sofOne, sofWalk, onSof, lateOne, lateWalk}
-use Rattle.model.specs.IsoOut.{arrives, checkOne, checkWalk, isoOutCheck}
-use Rattle.model.specs.Handler.{looks, sieWait, nakNonIso, toggled, retake, settle, received, sent, sofArm, outArm}
-use Rattle.model.specs.Handler.{isoInArm, inArm, dispatch, movedOn, ep0MovedOn, isoFor, framed, served, onTransfer}
-use Rattle.model.specs.Handler.{onSetup, onInterrupt, keepMicroframe}
-use Rattle.model.specs.Answers.{Answer, staged, resultless, operation}
-use Rattle.model.specs.Calls.{interruptCode}
+use Rattle.script.specs.declared.Transfer.{Transfer}
+use Rattle.script.specs.Tree as tree
+use Rattle.script.specs.Tree.{ends, asks, Prog, bindOut}
+use Rattle.script.specs.Cells.{Cell, Val, globals-cell, ep-cell}
+use Rattle.script.specs.Script.{Script, Ops, run, Test, Look, Fetch, Act, DmaStep, ret, bind, test}
+use Rattle.script.specs.Script.{_>>_, done, when, read, write, callback, get, put, is, look, fetch, act, hand}
+use Rattle.script.specs.Statics.{modifyReg}
+use Rattle.script.specs.IsoIn.{firstInFrame, isoInLoad, isoInComplete, unseen, sofOne, sofWalk, onSof, lateOne, lateWalk}
+use Rattle.script.specs.IsoOut.{arrives, checkOne, checkWalk, isoOutCheck}
+use Rattle.script.specs.Handler.{looks, sieWait, nakNonIso, toggled, retake, settle, received, sent, sofArm, outArm}
+use Rattle.script.specs.Handler.{isoInArm, inArm, dispatch, movedOn, ep0MovedOn, isoFor, framed, served, onTransfer}
+use Rattle.script.specs.Handler.{onSetup, onInterrupt, keepMicroframe}
+use Rattle.script.specs.Answers.{Answer, staged, resultless, operation}
+use Rattle.script.specs.Calls.{interruptCode}
 use Rattle.proof_book.specs.AccessesLaws.{accesses, Within, Asks≤}
 
 -- ---- composed scripts

@@ -2,9 +2,9 @@
 use mathlib.Core.Bool.{Bool}
 use mathlib.Core.List.{[], _∷_}
 use Prim.Native.Nat.{ℕ, _+_, _≤_}
-use Rattle.model.specs.Tree.{Out, ends, asks}
-use Rattle.model.specs.Script.{Script, Ops, run}
-use Rattle.model.specs.Readings.{Continues}
+use Rattle.script.specs.Tree.{Out, ends, asks}
+use Rattle.script.specs.Script.{Script, Ops, run}
+use Rattle.script.specs.Readings.{Continues}
 
 -- the accesses handed out along a path, up to the end or as far as the path goes. A path is given by the continues: the number that each brings and
 -- the state as it is then, any number and any state

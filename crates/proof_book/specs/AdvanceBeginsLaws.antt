@@ -4,13 +4,13 @@ use mathlib.Core.List.{List}
 use mathlib.Core.Path.{_≡_, refl, subst, sym, _∙_}
 use Prim.Native.Nat.{ℕ}
 use Rattle.regs.specs.declared.Reg.{Reg}
-use Rattle.model.specs.Tree as tree
-use Rattle.model.specs.Tree.{ends, asks, bindOut}
-use Rattle.model.specs.Cells.{Cell, Val}
-use Rattle.model.specs.Script.{Script, run, ret, bind, test, read-then, get-then, put-then, fetch-then, act-then, Fetch, Act}
-use Rattle.model.specs.Answers.{Answer}
-use Rattle.model.specs.Calls.{Config, Op, other, Advance, calls, otherCode}
-use Rattle.model.specs.Machine.{Buf, Call, begin, Ans, handed, blankA, Way, idle, busy, Machine, halt, begun, fed}
+use Rattle.script.specs.Tree as tree
+use Rattle.script.specs.Tree.{ends, asks, bindOut}
+use Rattle.script.specs.Cells.{Cell, Val}
+use Rattle.script.specs.Script.{Script, run, ret, bind, test, read-then, get-then, put-then, fetch-then, act-then, Fetch, Act}
+use Rattle.script.specs.Answers.{Answer}
+use Rattle.script.specs.Calls.{Config, Op, other, Advance, calls, otherCode}
+use Rattle.script.specs.Machine.{Buf, Call, begin, Ans, handed, blankA, Way, idle, busy, Machine, halt, begun, fed}
 use Rattle.proof_book.specs.Pages.{Pages}
 use Rattle.proof_book.specs.Book.{Bk, putB, actB, bookOps, book}
 use Rattle.proof_book.specs.FrontPage.{written}

@@ -8,16 +8,16 @@ use Rattle.state.specs.declared.Globals.{Globals}
 use Rattle.state.specs.declared.Allocator.{Allocator}
 use Rattle.state.specs.Wakes.{unwoken, listed, all-woken}
 use Rattle.state.specs.Driver.{Driver, epOn}
-use Rattle.model.specs.Cells.{EpCore}
-use Rattle.model.specs.Script.{Test, changed, waiting, room, opened, Look, marked, next-len, next-stamp, setup-word}
-use Rattle.model.specs.Script.{Fetch, oldest, received, received0, gathered, Act, complete, reset-ring, set-enabled}
-use Rattle.model.specs.Script.{fill, fill0, open-oldest, close-oldest, take-oldest, enqueue, allocate, allocate0}
-use Rattle.model.specs.Script.{no-wakes, waken, DmaStep, arrive, send, place, place0}
-use Rattle.model.specs.Statics.{isOn, flag}
-use Rattle.model.specs.Answers.{isNumber}
-use Rattle.model.specs.Simulates.{Phase}
-use Rattle.model.specs.Machine.{Buf, Question, pending, overruns, enabled}
-use Rattle.model.specs.Agree.{Agree}
+use Rattle.script.specs.Cells.{EpCore}
+use Rattle.script.specs.Script.{Test, changed, waiting, room, opened, Look, marked, next-len, next-stamp, setup-word}
+use Rattle.script.specs.Script.{Fetch, oldest, received, received0, gathered, Act, complete, reset-ring, set-enabled}
+use Rattle.script.specs.Script.{fill, fill0, open-oldest, close-oldest, take-oldest, enqueue, allocate, allocate0}
+use Rattle.script.specs.Script.{no-wakes, waken, DmaStep, arrive, send, place, place0}
+use Rattle.script.specs.Statics.{isOn, flag}
+use Rattle.script.specs.Answers.{isNumber}
+use Rattle.script.specs.Simulates.{Phase}
+use Rattle.script.specs.Machine.{Buf, Question, pending, overruns, enabled}
+use Rattle.script.specs.Agree.{Agree}
 use Rattle.answer.specs.Questions.{pendingOn, overrunsOf, overrunsOn, enabledAsked, questionOf}
 use Rattle.machine.specs.Suspended.{driverOf}
 use Rattle.proof_book.specs.Pages.{Pages}

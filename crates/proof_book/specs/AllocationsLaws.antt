@@ -21,13 +21,13 @@ use Rattle.alloc.specs.Outcome.{Outcome, six, seven, eight, given, outcome}
 use Rattle.alloc.specs.Run.{endpoint, ep0, Step, kept, gave-ep0, step}
 use Rattle.alloc.specs.Sound.{Sound}
 use Rattle.alloc.specs.SoundLaws.{sound-call}
-use Rattle.model.specs.Simulates.{quiet}
-use Rattle.model.specs.Machine.{Buf}
+use Rattle.script.specs.Simulates.{quiet}
+use Rattle.script.specs.Machine.{Buf}
 use Rattle.state.specs.Kept.{withEpConfig}
 use Rattle.regs.specs.EnablesLaws.{out-kept, on-with}
-use Rattle.model.specs.Cells.{EpCore}
-use Rattle.model.specs.Statics.{isOn, isoOuts}
-use Rattle.model_ops.specs.Records.{isoOut, configured, enabledOn, givenTo, allocatedOn, withEp0, startedWith, allocatedEp0}
+use Rattle.script.specs.Cells.{EpCore}
+use Rattle.script.specs.Statics.{isOn, isoOuts}
+use Rattle.script_ops.specs.Records.{isoOut, configured, enabledOn, givenTo, allocatedOn, withEp0, startedWith, allocatedEp0}
 use Rattle.proof_book.specs.Book as book
 use Rattle.proof_book.specs.CellsLaws.{epOn-by}
 use Rattle.proof_book.specs.Pages.{Pages, withKept, keptAllocator}

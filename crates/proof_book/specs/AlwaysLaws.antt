@@ -3,11 +3,11 @@ use mathlib.Core.Bool.{Bool, true, false, cond}
 use mathlib.Core.List.{List, [], _∷_}
 use mathlib.Core.Path.{_≡_, refl, sym, subst}
 use Prim.Native.Nat.{ℕ, zero}
-use Rattle.model.specs.Cells.{Cell, Val}
-use Rattle.model.specs.Script.{Test, Look, Fetch, Act, DmaStep, Burst, lastOf, burstAsk}
-use Rattle.model.specs.Simulates.{Phase}
-use Rattle.model.specs.Machine.{Buf, Question, Call, start, begin, go, question, Event, Machine, Calls, Instance, Book, fed, blank, misfit, started, call}
-use Rattle.model.specs.Agree.{Agree, Ways, LentAlike, unless, write-up, agrees, from-start}
+use Rattle.script.specs.Cells.{Cell, Val}
+use Rattle.script.specs.Script.{Test, Look, Fetch, Act, DmaStep, Burst, lastOf, burstAsk}
+use Rattle.script.specs.Simulates.{Phase}
+use Rattle.script.specs.Machine.{Buf, Question, Call, start, begin, go, question, Event, Machine, Calls, Instance, Book, fed, blank, misfit, started, call}
+use Rattle.script.specs.Agree.{Agree, Ways, LentAlike, unless, write-up, agrees, from-start}
 use Rattle.proof_book.specs.Always.{after}
 
 pub record Invariant {C S : Type 0} (D : Instance C S) (P : S → Type 0) : Type 0 where

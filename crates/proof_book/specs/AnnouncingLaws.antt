@@ -6,9 +6,9 @@ use Prim.Native.Nat.{ℕ, zero, suc}
 use Rattle.regs.specs.declared.Dir.{Dir}
 use Rattle.regs.specs.declared.Dir.the-variants.{Out, In}
 use Rattle.descriptor.specs.declared.Endpoint.{Endpoint}
-use Rattle.model.specs.Cells.{Cell, Val, allocator-cell, ep-cell}
-use Rattle.model.specs.Script.{Script, ret, bind, test, get}
-use Rattle.model.specs.AllocateAll.{announce, beginsAt, announceAfter, announceAll}
+use Rattle.script.specs.Cells.{Cell, Val, allocator-cell, ep-cell}
+use Rattle.script.specs.Script.{Script, ret, bind, test, get}
+use Rattle.script.specs.AllocateAll.{announce, beginsAt, announceAfter, announceAll}
 
 -- kept by the steps between
 pub record Closed (P : (A : Type 0) → Script false A → Type 1) : Type 1 where

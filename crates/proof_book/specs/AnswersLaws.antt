@@ -7,8 +7,8 @@ use lib.Dec.{eqb}
 use borrow.Author.Tests.{eq-eqb}
 use Rattle.regs.specs.declared.Access.{Access}
 use Rattle.regs.specs.declared.Access.the-variants.{Read, Write, Receive, Transmit, Ep0Dma, Wait, Callback}
-use Rattle.model.specs.Answers.{Answer}
-use Rattle.model.specs.Machine.{Ans, ended, handed, told, blank, blankA, fed}
+use Rattle.script.specs.Answers.{Answer}
+use Rattle.script.specs.Machine.{Ans, ended, handed, told, blank, blankA, fed}
 use Rattle.proof_book.specs.Pages.{OutPage, InPage, Pages, withOut, withIn}
 use Rattle.proof_book.specs.Book.{slotTold, sourceTold, book}
 use Rattle.proof_book.specs.FrameLaws.{at-elim}

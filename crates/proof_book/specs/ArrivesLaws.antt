@@ -25,13 +25,13 @@ use Rattle.ring.specs.Marks.{armed}
 use Rattle.ring.specs.Copies.{bytesAt}
 use Rattle.ring.specs.MarksSlots.{armed-slot}
 use Rattle.ring.specs.Only as marks
-use Rattle.model.specs.Cells.{EpCore}
-use Rattle.model.specs.Script as script
-use Rattle.model.specs.Simulates.{quiet}
-use Rattle.model.specs.Statics.{flag, isoOuts}
-use Rattle.model.specs.Machine.{Buf}
-use Rattle.model_ops.specs.Records.{plainOf}
-use Rattle.model_ops.specs.Rings.{writtenOn, recordedOn, admittedOn, arrivedAt, arriveOn, placeOn}
+use Rattle.script.specs.Cells.{EpCore}
+use Rattle.script.specs.Script as script
+use Rattle.script.specs.Simulates.{quiet}
+use Rattle.script.specs.Statics.{flag, isoOuts}
+use Rattle.script.specs.Machine.{Buf}
+use Rattle.script_ops.specs.Records.{plainOf}
+use Rattle.script_ops.specs.Rings.{writtenOn, recordedOn, admittedOn, arrivedAt, arriveOn, placeOn}
 use Rattle.proof_book.specs.Pages.{Packet, bytesOf, stampsOf, OutPage, Pages, withOut}
 use Rattle.proof_book.specs.Book.{joined, overrun, arrived, slotTold, receiving, packetB, feedB}
 use Rattle.proof_book.specs.Coupling.{Short, lensOf, slotStamps, OutFits, Armed, Coupling}

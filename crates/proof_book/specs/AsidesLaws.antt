@@ -10,14 +10,14 @@ use lib.ListN.{length}
 use Rattle.regs.specs.declared.Dir.the-variants.{Out, In}
 use Rattle.regs.specs.Enables as enables
 use Rattle.ring.specs.Copies.{copied}
-use Rattle.model.specs.Tree as tree
-use Rattle.model.specs.Tree.{ends, asks}
-use Rattle.model.specs.Script.{run}
-use Rattle.model.specs.Statics.{isOn}
-use Rattle.model.specs.Answers.{Answer, Refused, NotYet, Shown, ok, isAllocated}
-use Rattle.model.specs.Driver.{openPacket, closePacket, queuePacket}
-use Rattle.model.specs.Calls.{aside, Aside, Open, Close, Queue, asideCode, calls}
-use Rattle.model.specs.Machine.{Buf, begin, Ans, ended, handed, told, Way, idle, busy, Machine, misfit, stay, lentTo, beside, halt, begun, fed}
+use Rattle.script.specs.Tree as tree
+use Rattle.script.specs.Tree.{ends, asks}
+use Rattle.script.specs.Script.{run}
+use Rattle.script.specs.Statics.{isOn}
+use Rattle.script.specs.Answers.{Answer, Refused, NotYet, Shown, ok, isAllocated}
+use Rattle.script.specs.Driver.{openPacket, closePacket, queuePacket}
+use Rattle.script.specs.Calls.{aside, Aside, Open, Close, Queue, asideCode, calls}
+use Rattle.script.specs.Machine.{Buf, begin, Ans, ended, handed, told, Way, idle, busy, Machine, misfit, stay, lentTo, beside, halt, begun, fed}
 use Rattle.proof_book.specs.Pages.{Packet, bytesOf, OutPage, InPage, Pages, withOut, withIn}
 use Rattle.proof_book.specs.Book.{Bk, some, first, firstStamp, front, isoOf, roomB, waitsOn, openOut, readOut, queuedIn, bookOps, book}
 use Rattle.proof_book.specs.FrameLaws.{out-same, in-same}

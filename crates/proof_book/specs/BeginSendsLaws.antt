@@ -6,13 +6,13 @@ use lib.Dec.{eqb}
 use borrow.Author.Tests.{eqb-true}
 use Rattle.regs.specs.declared.Access.the-variants.{Transmit}
 use Rattle.regs.specs.declared.Dir.the-variants.{In}
-use Rattle.model.specs.Tree as tree
-use Rattle.model.specs.Tree.{ends, asks}
-use Rattle.model.specs.Script.{run}
-use Rattle.model.specs.Answers.{Answer, isAllocated}
-use Rattle.model.specs.Calls.{Config, Op, interrupt, slotted, other, aside, SetEnabled, Other, calls, code, otherCode, setEnabled}
-use Rattle.model.specs.Machine.{Buf, Call, begin, Ans, handed, blankA, Way, idle, busy, Machine, misfit, stay, lentTo, beside}
-use Rattle.model.specs.Machine.{halt, begun, fed}
+use Rattle.script.specs.Tree as tree
+use Rattle.script.specs.Tree.{ends, asks}
+use Rattle.script.specs.Script.{run}
+use Rattle.script.specs.Answers.{Answer, isAllocated}
+use Rattle.script.specs.Calls.{Config, Op, interrupt, slotted, other, aside, SetEnabled, Other, calls, code, otherCode, setEnabled}
+use Rattle.script.specs.Machine.{Buf, Call, begin, Ans, handed, blankA, Way, idle, busy, Machine, misfit, stay, lentTo, beside}
+use Rattle.script.specs.Machine.{halt, begun, fed}
 use Rattle.proof_book.specs.Pages.{Pages}
 use Rattle.proof_book.specs.Book.{Bk, bookOps, book}
 use Rattle.proof_book.specs.FrontPage.{written, enabling, SentFrom}

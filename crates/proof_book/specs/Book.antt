@@ -22,19 +22,19 @@ use Rattle.alloc.specs.declared.Answer.the-variants.{Refused, Given}
 use Rattle.alloc.specs.Alloc.{allocateOf, allocateEp0Of, isIso}
 use Rattle.ring.specs.Marks.{isMarked, markedLen}
 use Rattle.ring.specs.Copies.{copied, bytesAt}
-use Rattle.model.specs.Cells.{EpCore, Cell, Val, globals-cell, control-cell, allocator-cell, ep-cell, request-cell, paced-cell}
-use Rattle.model.specs.Script.{Ops, Test, changed, waiting, room, opened, Look, marked, next-len, next-stamp}
-use Rattle.model.specs.Script.{setup-word, Fetch, oldest, received, received0, gathered, Act, complete, reset-ring}
-use Rattle.model.specs.Script.{set-enabled, fill, fill0, open-oldest, close-oldest, take-oldest, enqueue, allocate}
-use Rattle.model.specs.Script.{allocate0, no-wakes, waken, DmaStep, arrive, send, place, place0, Burst, switch}
-use Rattle.model.specs.Script.{bus-reset}
-use Rattle.model.specs.Statics.{isOn, flag, isoOuts, renewed, withSetup, withReady, withLen, withArmed, withLastFrame, withTog}
-use Rattle.model.specs.Answers.{isNumber}
-use Rattle.model.specs.Calls.{Config}
-use Rattle.model.specs.Machine as machine
-use Rattle.model.specs.Machine.{Buf, Question, pending, overruns, enabled}
-use Rattle.model_ops.specs.Records.{plainOf, mergedGlobals, withSets, withEp0}
-use Rattle.model_ops.specs.Rings.{wordAt}
+use Rattle.script.specs.Cells.{EpCore, Cell, Val, globals-cell, control-cell, allocator-cell, ep-cell, request-cell, paced-cell}
+use Rattle.script.specs.Script.{Ops, Test, changed, waiting, room, opened, Look, marked, next-len, next-stamp}
+use Rattle.script.specs.Script.{setup-word, Fetch, oldest, received, received0, gathered, Act, complete, reset-ring}
+use Rattle.script.specs.Script.{set-enabled, fill, fill0, open-oldest, close-oldest, take-oldest, enqueue, allocate}
+use Rattle.script.specs.Script.{allocate0, no-wakes, waken, DmaStep, arrive, send, place, place0, Burst, switch}
+use Rattle.script.specs.Script.{bus-reset}
+use Rattle.script.specs.Statics.{isOn, flag, isoOuts, renewed, withSetup, withReady, withLen, withArmed, withLastFrame, withTog}
+use Rattle.script.specs.Answers.{isNumber}
+use Rattle.script.specs.Calls.{Config}
+use Rattle.script.specs.Machine as machine
+use Rattle.script.specs.Machine.{Buf, Question, pending, overruns, enabled}
+use Rattle.script_ops.specs.Records.{plainOf, mergedGlobals, withSets, withEp0}
+use Rattle.script_ops.specs.Rings.{wordAt}
 use Rattle.proof_book.specs.Pages.{Packet, bytesOf, OutPage, InPage, Pages, withKept, withOut}
 use Rattle.proof_book.specs.Pages.{withIn, keptGlobals, keptWakes, keptControl, keptAllocator, keptPaced}
 use Rattle.proof_book.specs.Pages.{keptRequest, keptPlain}

@@ -11,14 +11,14 @@ use lib.ListN.{length, take, drop}
 use Rattle.regs.specs.declared.Access.{Access}
 use Rattle.regs.specs.declared.Access.the-variants.{Read, Write, Receive, Transmit, Ep0Dma, Wait, Callback}
 use Rattle.ring.specs.Copies.{bytesAt}
-use Rattle.model.specs.Tree as tree
-use Rattle.model.specs.Tree.{ends, asks}
-use Rattle.model.specs.Script.{run}
-use Rattle.model.specs.Answers.{Answer, Refused}
-use Rattle.model.specs.Calls.{Config, Op, interrupt, slotted, other, aside, calls, code, starting, startRow}
-use Rattle.model.specs.Machine.{Buf, Call, start, begin, go, question, Ans, ended, handed, told, blankA, Way}
-use Rattle.model.specs.Machine.{idle, busy, Machine, over, misfit, stay, lentTo, beside, halt, begun, continued}
-use Rattle.model.specs.Machine.{started, fed}
+use Rattle.script.specs.Tree as tree
+use Rattle.script.specs.Tree.{ends, asks}
+use Rattle.script.specs.Script.{run}
+use Rattle.script.specs.Answers.{Answer, Refused}
+use Rattle.script.specs.Calls.{Config, Op, interrupt, slotted, other, aside, calls, code, starting, startRow}
+use Rattle.script.specs.Machine.{Buf, Call, start, begin, go, question, Ans, ended, handed, told, blankA, Way}
+use Rattle.script.specs.Machine.{idle, busy, Machine, over, misfit, stay, lentTo, beside, halt, begun, continued}
+use Rattle.script.specs.Machine.{started, fed}
 use Rattle.proof_book.specs.Pages.{Packet, OutPage, Pages}
 use Rattle.proof_book.specs.Book.{Bk, receiving, slotTold, arrived, joined, overrun, freshPages, bookOps, book}
 use Rattle.proof_book.specs.FrameLaws.{at-elim}

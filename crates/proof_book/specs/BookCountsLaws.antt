@@ -14,13 +14,13 @@ use Rattle.regs.specs.declared.Dir.the-variants.{Out, In}
 use Rattle.alloc.specs.declared.Answer as alloc-answer
 use Rattle.alloc.specs.declared.Answer.the-variants as alloc
 use Rattle.alloc.specs.Alloc.{allocateOf, allocateEp0Of}
-use Rattle.model.specs.Tree as tree
-use Rattle.model.specs.Cells.{Cell, Val, globals-cell, control-cell, allocator-cell, ep-cell, request-cell, paced-cell}
-use Rattle.model.specs.Script.{Script, run, rows, ret, bind, test, read-then, write-then, wait-then, callback-then}
-use Rattle.model.specs.Script.{get-then, put-then, is-then, look-then, fetch-then, act-then, hand-then, row-then, Act}
-use Rattle.model.specs.Script.{complete, reset-ring, set-enabled, fill, fill0, open-oldest, close-oldest, take-oldest}
-use Rattle.model.specs.Script.{enqueue, allocate, allocate0, no-wakes, waken, DmaStep, dmaStepAsk, arrive, send, place}
-use Rattle.model.specs.Script.{place0, Burst, switch, bus-reset, lastOf, burstAsk}
+use Rattle.script.specs.Tree as tree
+use Rattle.script.specs.Cells.{Cell, Val, globals-cell, control-cell, allocator-cell, ep-cell, request-cell, paced-cell}
+use Rattle.script.specs.Script.{Script, run, rows, ret, bind, test, read-then, write-then, wait-then, callback-then}
+use Rattle.script.specs.Script.{get-then, put-then, is-then, look-then, fetch-then, act-then, hand-then, row-then, Act}
+use Rattle.script.specs.Script.{complete, reset-ring, set-enabled, fill, fill0, open-oldest, close-oldest, take-oldest}
+use Rattle.script.specs.Script.{enqueue, allocate, allocate0, no-wakes, waken, DmaStep, dmaStepAsk, arrive, send, place}
+use Rattle.script.specs.Script.{place0, Burst, switch, bus-reset, lastOf, burstAsk}
 use Rattle.proof_book.specs.Pages.{Packet, OutPage, Pages, withOut}
 use Rattle.proof_book.specs.Book.{Bk, putB, actB, handB, rowB, some, waitsOn, roomB, isoOf, isoOut, receiving}
 use Rattle.proof_book.specs.Book.{emptyOut, openOut, readOut, slotTold, arrived, joined, overrun, packetB, givenB}

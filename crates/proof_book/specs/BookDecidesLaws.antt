@@ -13,12 +13,12 @@ use Rattle.regs.specs.declared.Reg.the-variants.{EpTLen}
 use Rattle.regs.specs.declared.Dir.the-variants.{Out, In}
 use Rattle.state.specs.Wakes.{wakeCode}
 use Rattle.ring.specs.Copies.{bytesAt}
-use Rattle.model.specs.Tree as tree
-use Rattle.model.specs.Tree.{ends, asks, bindOut}
-use Rattle.model.specs.Cells.{Cell, Val, globals-cell, control-cell, allocator-cell, ep-cell, request-cell, paced-cell}
-use Rattle.model.specs.Script.{Script, run, bind, look, write, next-len, complete, waken, arrive, send}
-use Rattle.model.specs.Statics.{isoOuts, wake}
-use Rattle.model.specs.Machine.{Buf}
+use Rattle.script.specs.Tree as tree
+use Rattle.script.specs.Tree.{ends, asks, bindOut}
+use Rattle.script.specs.Cells.{Cell, Val, globals-cell, control-cell, allocator-cell, ep-cell, request-cell, paced-cell}
+use Rattle.script.specs.Script.{Script, run, bind, look, write, next-len, complete, waken, arrive, send}
+use Rattle.script.specs.Statics.{isoOuts, wake}
+use Rattle.script.specs.Machine.{Buf}
 use Rattle.proof_book.specs.Pages.{Packet, OutPage, InPage, Pages, withOut}
 use Rattle.proof_book.specs.Book.{Bk, putB, actB, handB, some, receiving, arrived, packetB, passedIn, loadedIn, sentIn, placedIn, bookOps}
 use Rattle.proof_book.specs.FrameLaws.{out-same, in-same, at-elim}

@@ -7,13 +7,13 @@ use lib.Dec.{eqb}
 use Rattle.regs.specs.declared.Access.{Access}
 use Rattle.regs.specs.declared.Dir.{Dir}
 use Rattle.regs.specs.declared.Dir.the-variants.{Out, In}
-use Rattle.model.specs.Tree as tree
-use Rattle.model.specs.Tree.{ends, asks}
-use Rattle.model.specs.Script.{run}
-use Rattle.model.specs.Answers.{Answer}
-use Rattle.model.specs.Calls.{Config, Op, interrupt, slotted, other, aside, calls, code}
-use Rattle.model.specs.Machine.{Buf, Call, begin, go, Ans, blankA, Way, idle, busy, Machine, over}
-use Rattle.model.specs.Machine.{misfit, stay, lentTo, beside, halt, begun, continued, fed}
+use Rattle.script.specs.Tree as tree
+use Rattle.script.specs.Tree.{ends, asks}
+use Rattle.script.specs.Script.{run}
+use Rattle.script.specs.Answers.{Answer}
+use Rattle.script.specs.Calls.{Config, Op, interrupt, slotted, other, aside, calls, code}
+use Rattle.script.specs.Machine.{Buf, Call, begin, go, Ans, blankA, Way, idle, busy, Machine, over}
+use Rattle.script.specs.Machine.{misfit, stay, lentTo, beside, halt, begun, continued, fed}
 use Rattle.proof_book.specs.Pages.{Pages}
 use Rattle.proof_book.specs.Book.{Bk, bookOps, book}
 use Rattle.proof_book.specs.FrontPage.{written, inInterrupt, Emptied}

@@ -17,12 +17,12 @@ use Rattle.ring.specs.Slot.{countOf}
 use Rattle.ring.specs.Slots.{slot-from, slot-upto}
 use Rattle.ring.specs.Copies.{bytesAt, copied}
 use Rattle.ring.specs.MarksSlots.{only-copied}
-use Rattle.model.specs.Simulates.{quiet}
-use Rattle.model.specs.Cells.{EpCore}
-use Rattle.model.specs.Script as script
-use Rattle.model.specs.Statics.{isOn}
-use Rattle.model.specs.Machine.{Buf}
-use Rattle.model_ops.specs.Rings.{wordAt, filledOn, filledEp0}
+use Rattle.script.specs.Simulates.{quiet}
+use Rattle.script.specs.Cells.{EpCore}
+use Rattle.script.specs.Script as script
+use Rattle.script.specs.Statics.{isOn}
+use Rattle.script.specs.Machine.{Buf}
+use Rattle.script_ops.specs.Rings.{wordAt, filledOn, filledEp0}
 use Rattle.proof_book.specs.Pages.{Pages}
 use Rattle.proof_book.specs.Coupling.{endOf, Apart, Coupling}
 use Rattle.proof_book.specs.LensLaws.{key-ep}

@@ -22,12 +22,12 @@ use Rattle.alloc.specs.Alloc.{allocatedIn}
 use Rattle.ring.specs.Slot.{slotAddr}
 use Rattle.ring.specs.Waiting.{waiting, Alike}
 use Rattle.ring.specs.Laws.{place-placed, place-addr, alike-count, alike-waits, alike-ring}
-use Rattle.model.specs.Simulates.{quiet, Bare}
-use Rattle.model.specs.Cells.{EpCore, Cell, Val, globals-cell, control-cell, allocator-cell, ep-cell, request-cell, paced-cell}
-use Rattle.model.specs.Statics.{isoOuts}
-use Rattle.model.specs.Machine.{Buf}
-use Rattle.model_ops.specs.Records.{plainOf, merged, mergedGlobals}
-use Rattle.model_ops.specs.Concrete.{concrete}
+use Rattle.script.specs.Simulates.{quiet, Bare}
+use Rattle.script.specs.Cells.{EpCore, Cell, Val, globals-cell, control-cell, allocator-cell, ep-cell, request-cell, paced-cell}
+use Rattle.script.specs.Statics.{isoOuts}
+use Rattle.script.specs.Machine.{Buf}
+use Rattle.script_ops.specs.Records.{plainOf, merged, mergedGlobals}
+use Rattle.script_ops.specs.Concrete.{concrete}
 use Rattle.proof_book.specs.Pages.{bytesOf, OutPage, InPage, Kept, Pages, at, on, withKept, keptWakes}
 use Rattle.proof_book.specs.Book.{bookOps, feedB, mergedPlain}
 use Rattle.proof_book.specs.Coupling.{Short, SameKept, Shape, Held, OutFits, InFits, AtRest}

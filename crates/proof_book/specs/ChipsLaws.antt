@@ -20,10 +20,10 @@ use Rattle.ring.specs.Waiting.{waiting}
 use Rattle.ring.specs.Slots.{slots-apart, slot-from, slot-upto}
 use Rattle.ring.specs.Laws.{waiting-kept}
 use Rattle.ring.specs.OutLaws.{armed-away}
-use Rattle.model.specs.Script.{switch, bus-reset}
-use Rattle.model.specs.Simulates.{Phase, quiet, mid}
-use Rattle.model.specs.Statics.{isOn, isoOuts}
-use Rattle.model.specs.Machine.{Buf}
+use Rattle.script.specs.Script.{switch, bus-reset}
+use Rattle.script.specs.Simulates.{Phase, quiet, mid}
+use Rattle.script.specs.Statics.{isOn, isoOuts}
+use Rattle.script.specs.Machine.{Buf}
 use Rattle.proof_book.specs.Pages.{OutPage, Pages}
 use Rattle.proof_book.specs.Coupling.{endOf, Used, Shape, Apart, ep0Room, lensOf, Armed, AtRest, InRow, Arming, Coupling, Elsewhere, Chip}
 use Rattle.proof_book.specs.LensLaws.{ep-mod}

@@ -2,10 +2,10 @@
 -- that the bytes are (machine/specs/Suspended.antt)
 use mathlib.Core.List.{List, [], _∷_}
 use Prim.Native.Nat.{ℕ}
-use Rattle.model.specs.Answers.{Answer}
-use Rattle.model.specs.Calls.{calls}
-use Rattle.model.specs.Machine.{Buf, Machine}
-use Rattle.model.specs.Agree.{After, LentAlike}
+use Rattle.script.specs.Answers.{Answer}
+use Rattle.script.specs.Calls.{calls}
+use Rattle.script.specs.Machine.{Buf, Machine}
+use Rattle.script.specs.Agree.{After, LentAlike}
 use Rattle.machine.specs.Suspended.{driverOf, machineOf}
 use Rattle.proof_book.specs.Pages.{Pages}
 use Rattle.proof_book.specs.Book.{book}

@@ -3,11 +3,11 @@ use mathlib.Core.List.{List, [], _∷_}
 use mathlib.Core.Path.{_≡_, sym, subst, _∙_, ap}
 use Prim.Native.Nat.{ℕ, zero}
 use Rattle.state.specs.State.{view}
-use Rattle.model.specs.Simulates.{Phase}
-use Rattle.model.specs.Answers.{Answer}
-use Rattle.model.specs.Calls.{Config, Op, calls, startRow}
-use Rattle.model.specs.Machine.{Buf, Event, Machine, start, fed, started}
-use Rattle.model.specs.Agree.{After, Ways, agrees, write-up, from-start}
+use Rattle.script.specs.Simulates.{Phase}
+use Rattle.script.specs.Answers.{Answer}
+use Rattle.script.specs.Calls.{Config, Op, calls, startRow}
+use Rattle.script.specs.Machine.{Buf, Event, Machine, start, fed, started}
+use Rattle.script.specs.Agree.{After, Ways, agrees, write-up, from-start}
 use Rattle.machine.specs.Suspended.{driverOf, drive, machineOf}
 use Rattle.proof_book.specs.Pages.{Pages}
 use Rattle.proof_book.specs.Book.{book}

@@ -3,9 +3,9 @@ use mathlib.Core.List.{List, [], _∷_}
 use mathlib.Core.Path.{_≡_, refl, sym, subst, ap, _∙_}
 use Prim.Native.Nat.{ℕ, zero, _≤_}
 use Rattle.state.specs.Driver.{Driver}
-use Rattle.model.specs.Answers.{Answer}
-use Rattle.model.specs.Calls.{Config, Op, interrupt, calls, startRow}
-use Rattle.model.specs.Machine.{Buf, Event, Machine, Ans, start, begin, idle}
+use Rattle.script.specs.Answers.{Answer}
+use Rattle.script.specs.Calls.{Config, Op, interrupt, calls, startRow}
+use Rattle.script.specs.Machine.{Buf, Event, Machine, Ans, start, begin, idle}
 use Rattle.machine.specs.Suspended.{driverOf, machineOf}
 use Rattle.proof_book.specs.Code.{Made, CallStep}
 use Rattle.proof_book.specs.Always.{after}

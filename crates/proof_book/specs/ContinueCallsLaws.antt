@@ -11,15 +11,15 @@ use borrow.Author.Tests.{eqb-true, eq-eqb}
 use Rattle.regs.specs.declared.Access.{Access}
 use Rattle.regs.specs.declared.Access.the-variants.{Read, Write, Receive, Transmit, Ep0Dma, Wait, Callback}
 use Rattle.regs.specs.declared.Reg.the-variants.{EpTLen}
-use Rattle.model.specs.Tree as tree
-use Rattle.model.specs.Tree.{ends, asks}
-use Rattle.model.specs.Script.{run}
-use Rattle.model.specs.Answers.{Answer}
-use Rattle.model.specs.StepsRuns as runs
-use Rattle.model.specs.StepsRunsLaws.{holds-run}
-use Rattle.model.specs.Calls.{Config, Op, interrupt, slotted, other, aside, Other, calls, code, otherCode, starting, startRow}
-use Rattle.model.specs.Machine.{Buf, Call, start, begin, go, question, Ans, ended, handed, told, blankA, Way, idle, busy, Machine, over, misfit}
-use Rattle.model.specs.Machine.{stay, lentTo, beside, halt, begun, continued, started, fed}
+use Rattle.script.specs.Tree as tree
+use Rattle.script.specs.Tree.{ends, asks}
+use Rattle.script.specs.Script.{run}
+use Rattle.script.specs.Answers.{Answer}
+use Rattle.script.specs.StepsRuns as runs
+use Rattle.script.specs.StepsRunsLaws.{holds-run}
+use Rattle.script.specs.Calls.{Config, Op, interrupt, slotted, other, aside, Other, calls, code, otherCode, starting, startRow}
+use Rattle.script.specs.Machine.{Buf, Call, start, begin, go, question, Ans, ended, handed, told, blankA, Way, idle, busy, Machine, over, misfit}
+use Rattle.script.specs.Machine.{stay, lentTo, beside, halt, begun, continued, started, fed}
 use Rattle.proof_book.specs.Pages.{OutPage, InPage, Kept, Pages}
 use Rattle.proof_book.specs.Book.{Bk, slotTold, sourceTold, freshPages, bookOps, book}
 use Rattle.proof_book.specs.FrameLaws.{at-elim, in-same}

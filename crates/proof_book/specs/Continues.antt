@@ -3,9 +3,9 @@ use mathlib.Core.Bool.{cond}
 use mathlib.Core.List.{List, [], _∷_}
 use Prim.Native.Nat.{ℕ, _+_}
 use Rattle.state.specs.Driver.{Driver}
-use Rattle.model.specs.Answers.{Answer}
-use Rattle.model.specs.Calls.{Config, Op, calls}
-use Rattle.model.specs.Machine.{Buf, Call, start, begin, go, question, Event, Way, idle, busy, Machine, over, misfit}
+use Rattle.script.specs.Answers.{Answer}
+use Rattle.script.specs.Calls.{Config, Op, calls}
+use Rattle.script.specs.Machine.{Buf, Call, start, begin, go, question, Event, Way, idle, busy, Machine, over, misfit}
 use Rattle.machine.specs.Suspended.{driverOf, drive, machineOf}
 use Rattle.proof_book.specs.FrontPage.{Made}
 use Rattle.proof_book.specs.Served.{serving}

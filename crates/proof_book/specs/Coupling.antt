@@ -21,11 +21,11 @@ use Rattle.alloc.specs.Buffer.{goodSize}
 use Rattle.alloc.specs.Sound.{Sound}
 use Rattle.ring.specs.Slot.{slotAddr, countOf}
 use Rattle.ring.specs.Waiting.{waiting, Same, Placed, Ring, Sends, Shows}
-use Rattle.model.specs.Script.{switch, bus-reset, lastOf}
-use Rattle.model.specs.Simulates.{Phase, quiet, mid}
-use Rattle.model.specs.Statics.{isOn, flag, isoOuts}
-use Rattle.model.specs.Machine.{Buf}
-use Rattle.model_ops.specs.Records.{plainOf}
+use Rattle.script.specs.Script.{switch, bus-reset, lastOf}
+use Rattle.script.specs.Simulates.{Phase, quiet, mid}
+use Rattle.script.specs.Statics.{isOn, flag, isoOuts}
+use Rattle.script.specs.Machine.{Buf}
+use Rattle.script_ops.specs.Records.{plainOf}
 use Rattle.proof_book.specs.Pages.{Packet, bytesOf, stampsOf, OutPage, InPage, Kept, Pages}
 use Rattle.proof_book.specs.Book.{front}
 use Rattle.proof_book.specs.Stamps.{stamped}

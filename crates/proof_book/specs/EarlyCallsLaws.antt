@@ -4,13 +4,13 @@ use mathlib.Core.Path.{_≡_, refl, ap, subst, sym, _∙_}
 use Prim.Native.Nat.{ℕ, zero, suc}
 use lib.Dec.{eqb}
 use borrow.Author.Tests.{eqb-true}
-use Rattle.model.specs.Tree as tree
-use Rattle.model.specs.Tree.{ends, asks}
-use Rattle.model.specs.Script.{run}
-use Rattle.model.specs.Answers.{Answer, Refused}
-use Rattle.model.specs.Calls.{Config, Op, other, calls, code, starting, startRow}
-use Rattle.model.specs.Machine.{Buf, Call, start, begin, go, question, pending, Ans, Way, idle, busy, Machine}
-use Rattle.model.specs.Machine.{over, misfit, stay, lentTo, beside, halt, begun, continued, started, fed}
+use Rattle.script.specs.Tree as tree
+use Rattle.script.specs.Tree.{ends, asks}
+use Rattle.script.specs.Script.{run}
+use Rattle.script.specs.Answers.{Answer, Refused}
+use Rattle.script.specs.Calls.{Config, Op, other, calls, code, starting, startRow}
+use Rattle.script.specs.Machine.{Buf, Call, start, begin, go, question, pending, Ans, Way, idle, busy, Machine}
+use Rattle.script.specs.Machine.{over, misfit, stay, lentTo, beside, halt, begun, continued, started, fed}
 use Rattle.proof_book.specs.Pages.{Kept, Pages}
 use Rattle.proof_book.specs.Book.{Bk, freshPages, bookOps, book}
 use Rattle.proof_book.specs.FrontPage.{written, SamePackets, BeforeStart, allocation, allocations}

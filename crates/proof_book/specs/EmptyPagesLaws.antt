@@ -7,8 +7,8 @@ use lib.Dec.{eqb}
 use Rattle.state.specs.declared.EpState.{EpState}
 use Rattle.ring.specs.Waiting.{Shows}
 use Rattle.ring.specs.Laws.{reset-count}
-use Rattle.model.specs.Statics.{flag}
-use Rattle.model.specs.Machine.{Buf}
+use Rattle.script.specs.Statics.{flag}
+use Rattle.script.specs.Machine.{Buf}
 use Rattle.proof_book.specs.Pages.{OutPage}
 use Rattle.proof_book.specs.Book.{emptyOut, emptyIn}
 use Rattle.proof_book.specs.StampsLaws.{none-stamps}

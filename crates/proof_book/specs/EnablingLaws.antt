@@ -6,14 +6,14 @@ use lib.Dec.{eqb}
 use Rattle.regs.specs.declared.Access.{Access}
 use Rattle.regs.specs.declared.Dir.{Dir}
 use Rattle.regs.specs.declared.Dir.the-variants.{Out, In}
-use Rattle.model.specs.Tree as tree
-use Rattle.model.specs.Tree.{ends, asks, bindOut}
-use Rattle.model.specs.Script.{Script, ret, bind, test, fetch, row, gathered, no-wakes, switch, run}
-use Rattle.model.specs.Statics.{isOn, wake}
-use Rattle.model.specs.Answers.{Answer, Refused, End, isAllocated}
-use Rattle.model.specs.Bus as bus
-use Rattle.model.specs.Calls.{Config, Op, slotted, SetEnabled, setEnabled, calls}
-use Rattle.model.specs.Machine.{Buf, Call, begin, Ans, handed, blankA, Way, idle, busy, Machine, misfit, stay, halt, begun, fed}
+use Rattle.script.specs.Tree as tree
+use Rattle.script.specs.Tree.{ends, asks, bindOut}
+use Rattle.script.specs.Script.{Script, ret, bind, test, fetch, row, gathered, no-wakes, switch, run}
+use Rattle.script.specs.Statics.{isOn, wake}
+use Rattle.script.specs.Answers.{Answer, Refused, End, isAllocated}
+use Rattle.script.specs.Bus as bus
+use Rattle.script.specs.Calls.{Config, Op, slotted, SetEnabled, setEnabled, calls}
+use Rattle.script.specs.Machine.{Buf, Call, begin, Ans, handed, blankA, Way, idle, busy, Machine, misfit, stay, halt, begun, fed}
 use Rattle.proof_book.specs.Pages.{OutPage, InPage, Pages, withOut, withIn}
 use Rattle.proof_book.specs.Book.{Bk, isoOf, emptyOut, emptyIn, placedIn, sourceTold, actB, bookOps, book}
 use Rattle.proof_book.specs.FrameLaws.{at-elim, out-same, in-same}

@@ -9,13 +9,13 @@ use Rattle.regs.specs.declared.Dir.the-variants.{Out, In}
 use Rattle.regs.specs.declared.Token.{Token}
 use Rattle.regs.specs.declared.Token.the-variants as tok
 use Rattle.regs.specs.Status.{endpoint, token}
-use Rattle.model.specs.declared.Transfer.{Transfer}
-use Rattle.model.specs.Statics.{wake, isoInEvery, isoOuts}
-use Rattle.model.specs.Calls.{Aside, Open, Close, Queue, asideCode}
-use Rattle.model.specs.IsoIn.{isoInComplete, unseen, sofOne, sofWalk, onSof, lateOne, lateWalk}
-use Rattle.model.specs.IsoOut.{arrives, checkWalk}
-use Rattle.model.specs.Handler.{looks, nakNonIso, toggled, retake, settle, received, outArm, inArm, entered, framed}
-use Rattle.model.specs.Handler.{isoFor, dispatch, movedOn, ep0MovedOn, served, onTransfer, onSetup, onInterrupt}
+use Rattle.script.specs.declared.Transfer.{Transfer}
+use Rattle.script.specs.Statics.{wake, isoInEvery, isoOuts}
+use Rattle.script.specs.Calls.{Aside, Open, Close, Queue, asideCode}
+use Rattle.script.specs.IsoIn.{isoInComplete, unseen, sofOne, sofWalk, onSof, lateOne, lateWalk}
+use Rattle.script.specs.IsoOut.{arrives, checkWalk}
+use Rattle.script.specs.Handler.{looks, nakNonIso, toggled, retake, settle, received, outArm, inArm, entered, framed}
+use Rattle.script.specs.Handler.{isoFor, dispatch, movedOn, ep0MovedOn, served, onTransfer, onSetup, onInterrupt}
 use Rattle.proof_book.specs.KeepingLaws.{calm, passing, ChangesOnly, got}
 
 -- ---- the interrupt's script, in whose proof stand a pair for each bind and test, a function for each number brought

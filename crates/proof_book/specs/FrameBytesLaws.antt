@@ -12,8 +12,8 @@ use Rattle.state.specs.Driver.{Driver, epOn}
 use Rattle.ring.specs.Slot.{slotAddr, countOf}
 use Rattle.ring.specs.Waiting.{waiting, Same, Only}
 use Rattle.ring.specs.Laws.{waiting-foreign, waiting-none}
-use Rattle.model.specs.Simulates.{Phase}
-use Rattle.model.specs.Machine.{Buf}
+use Rattle.script.specs.Simulates.{Phase}
+use Rattle.script.specs.Machine.{Buf}
 use Rattle.proof_book.specs.Pages.{Pages}
 use Rattle.proof_book.specs.Coupling.{endOf, Apart, lensOf, Held}
 use Rattle.proof_book.specs.Coupling.{Coupling}

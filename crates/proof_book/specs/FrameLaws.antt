@@ -25,13 +25,13 @@ use Rattle.ring.specs.Slots.{slot-from, slot-upto}
 use Rattle.ring.specs.Waiting.{waiting, Same, Only, Placed, SamePlace, Alike}
 use Rattle.ring.specs.Laws.{waiting-foreign, place-trans, place-addr}
 use Rattle.ring.specs.Only as marks
-use Rattle.model.specs.Cells.{EpCore}
-use Rattle.model.specs.Script.{switch, bus-reset}
-use Rattle.model.specs.Simulates.{Phase, quiet, mid}
-use Rattle.model.specs.Statics.{isOn, flag, isoOuts}
-use Rattle.model.specs.Machine.{Buf}
-use Rattle.model_ops.specs.Records.{plainOf}
-use Rattle.model_ops.specs.Stamps.{length-filled}
+use Rattle.script.specs.Cells.{EpCore}
+use Rattle.script.specs.Script.{switch, bus-reset}
+use Rattle.script.specs.Simulates.{Phase, quiet, mid}
+use Rattle.script.specs.Statics.{isOn, flag, isoOuts}
+use Rattle.script.specs.Machine.{Buf}
+use Rattle.script_ops.specs.Records.{plainOf}
+use Rattle.script_ops.specs.Stamps.{length-filled}
 use Rattle.proof_book.specs.Pages.{OutPage, InPage, Kept, Pages, at, on, withKept, withOut, withIn, keptPlain}
 use Rattle.proof_book.specs.LensLaws.{key-mod, key-other, ep-mod, lens-mod, key-ep, lens-on, ep-len, lens-set-other}
 use Rattle.proof_book.specs.LensLaws.{stamps-mod, stamps-on, stamps-len, ep-stamp, lens-stamp, stamps-set-other}

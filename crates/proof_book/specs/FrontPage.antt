@@ -1,6 +1,6 @@
 -- Demand 3, to be read alone: what a list of calls is, what each call is lent, what document 01 compares after each call, and demand 3's own
 -- sentences. Definitions only. `demand-3` (FrontPageLaws.antt) says that `AfterCall` holds after every call of every list that an accepted start-up
--- begins. The calls are in model/specs/Calls.antt, the book in Book.antt over Pages.antt: what waits, was admitted, read, queued, sent
+-- begins. The calls are in script/specs/Calls.antt, the book in Book.antt over Pages.antt: what waits, was admitted, read, queued, sent
 use mathlib.Core.Bool.{Bool, true, false, cond, _&&_}
 use mathlib.Core.List.{List, [], _∷_, _++_, tail}
 use mathlib.Core.Logic.{_⊎_, _≢_}
@@ -20,13 +20,13 @@ use Rattle.bits.specs.Tables.{tab}
 use Rattle.state.specs.State.{view}
 use Rattle.ring.specs.Waiting.{waiting, Same}
 use Rattle.ring.specs.Copies.{bytesAt}
-use Rattle.model.specs.Every.{sameReg}
-use Rattle.model.specs.Answers.{Answer, Refused, End, NotYet, Done, Shown, ok, isNumber}
-use Rattle.model.specs.Calls.{Config, Op, interrupt, slotted, other, aside, SetEnabled, PollRead, BeginWrite, PollWrite}
-use Rattle.model.specs.Calls.{PollDataOut, BeginDataIn, Allocate, AllocateAll, Advance, Aside, Open}
-use Rattle.model.specs.Calls.{Close, Queue, calls, startRow}
-use Rattle.model.specs.Machine.{Buf, Call, start, begin, go, question, overruns, Event, Ans, ended, handed, told, Way}
-use Rattle.model.specs.Machine.{idle, busy, Machine, over, misfit, fed, call}
+use Rattle.script.specs.Every.{sameReg}
+use Rattle.script.specs.Answers.{Answer, Refused, End, NotYet, Done, Shown, ok, isNumber}
+use Rattle.script.specs.Calls.{Config, Op, interrupt, slotted, other, aside, SetEnabled, PollRead, BeginWrite, PollWrite}
+use Rattle.script.specs.Calls.{PollDataOut, BeginDataIn, Allocate, AllocateAll, Advance, Aside, Open}
+use Rattle.script.specs.Calls.{Close, Queue, calls, startRow}
+use Rattle.script.specs.Machine.{Buf, Call, start, begin, go, question, overruns, Event, Ans, ended, handed, told, Way}
+use Rattle.script.specs.Machine.{idle, busy, Machine, over, misfit, fed, call}
 use Rattle.machine.specs.Suspended.{drive, machineOf}
 use Rattle.proof_book.specs.Pages.{Packet, bytesOf, stampsOf, OutPage, InPage, Pages}
 use Rattle.proof_book.specs.Book.{isoOf, receiving, front, slotTold, book}

@@ -13,13 +13,13 @@ use Rattle.state.specs.State.{view}
 use Rattle.state.specs.Driver.{Driver, epOn}
 use Rattle.ring.specs.Slot.{countOf}
 use Rattle.ring.specs.Laws.{waiting-length}
-use Rattle.model.specs.Simulates.{Phase}
-use Rattle.model.specs.Statics.{flag}
-use Rattle.model.specs.Cells.{EpCore}
-use Rattle.model.specs.Answers.{Answer, Refused, NotYet, Shown, ok}
-use Rattle.model.specs.Calls.{Config, Op, slotted, PollWrite, aside, Aside, Open, Close, Queue, calls, startRow}
-use Rattle.model.specs.Machine.{Buf, Call, start, begin, Event, Ans, ended, handed, told, blankA, Machine, Way, fed, started}
-use Rattle.model.specs.Agree.{After, Ways, GoodA, agrees, from-start}
+use Rattle.script.specs.Simulates.{Phase}
+use Rattle.script.specs.Statics.{flag}
+use Rattle.script.specs.Cells.{EpCore}
+use Rattle.script.specs.Answers.{Answer, Refused, NotYet, Shown, ok}
+use Rattle.script.specs.Calls.{Config, Op, slotted, PollWrite, aside, Aside, Open, Close, Queue, calls, startRow}
+use Rattle.script.specs.Machine.{Buf, Call, start, begin, Event, Ans, ended, handed, told, blankA, Machine, Way, fed, started}
+use Rattle.script.specs.Agree.{After, Ways, GoodA, agrees, from-start}
 use Rattle.machine.specs.Suspended.{driverOf, drive, machineOf}
 use Rattle.proof_book.specs.Pages.{Packet, bytesOf, stampsOf, Pages}
 use Rattle.proof_book.specs.Book.{isoOf, book}

@@ -22,11 +22,11 @@ use Rattle.alloc.specs.Alloc.{if, isOut, allocatedIn, slotsOf, isIso, allocated
 use Rattle.alloc.specs.Outcome.{sameDir, inAdded, Gives}
 use Rattle.alloc.specs.Run.{kept, step}
 use Rattle.alloc.specs.Sound.{Sound}
-use Rattle.model.specs.Simulates.{quiet}
-use Rattle.model.specs.Cells.{EpCore}
-use Rattle.model.specs.Statics.{isOn, isoOuts}
-use Rattle.model.specs.Machine.{Buf}
-use Rattle.model_ops.specs.Records.{plainOf, withSets, recordGiven, setsGiven, givenTo}
+use Rattle.script.specs.Simulates.{quiet}
+use Rattle.script.specs.Cells.{EpCore}
+use Rattle.script.specs.Statics.{isOn, isoOuts}
+use Rattle.script.specs.Machine.{Buf}
+use Rattle.script_ops.specs.Records.{plainOf, withSets, recordGiven, setsGiven, givenTo}
 use Rattle.proof_book.specs.Pages.{Kept, Pages, at, withKept, keptGlobals, keptAllocator, keptPlain}
 use Rattle.proof_book.specs.Book.{shapedPlain, pagesGiven, givenB}
 use Rattle.proof_book.specs.Coupling.{SameKept, Unused, Shape, Apart, Held, Coupling, lensOf, slotStamps, endOf, ep0Room}

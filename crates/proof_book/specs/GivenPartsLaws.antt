@@ -25,10 +25,10 @@ use Rattle.alloc.specs.Run.{kept, step}
 use Rattle.alloc.specs.Sound.{Sound}
 use Rattle.ring.specs.Slot.{slotOf, slotAddr}
 use Rattle.ring.specs.Laws.{reset-count, reset-waits, reset-ring}
-use Rattle.model.specs.Simulates.{quiet}
-use Rattle.model.specs.Statics.{isOn, flag, isoOuts}
-use Rattle.model.specs.Machine.{Buf}
-use Rattle.model_ops.specs.Records.{withSets, isoAdded, withIsoSets}
+use Rattle.script.specs.Simulates.{quiet}
+use Rattle.script.specs.Statics.{isOn, flag, isoOuts}
+use Rattle.script.specs.Machine.{Buf}
+use Rattle.script_ops.specs.Records.{withSets, isoAdded, withIsoSets}
 use Rattle.proof_book.specs.Pages.{OutPage, Pages, on, withKept, keptAllocator}
 use Rattle.proof_book.specs.Book.{slotTold, emptyOut, emptyIn, pagesGiven}
 use Rattle.proof_book.specs.Coupling.{Shape, Held, OutFits, InFits, AtRest, Coupling, endOf}

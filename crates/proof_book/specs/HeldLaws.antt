@@ -23,12 +23,12 @@ use Rattle.ring.specs.Waiting.{waiting}
 use Rattle.ring.specs.Slots.{slot-in}
 use Rattle.ring.specs.Laws.{waiting-length, waiting-some, first-length, first-part}
 use Rattle.ring.specs.Copies.{bytesAt}
-use Rattle.model.specs.Script.{Test, Look, Fetch, Act, DmaStep, dmaStepAsk}
-use Rattle.model.specs.Simulates.{Phase, quiet}
-use Rattle.model.specs.Statics.{isOn, isoOuts}
-use Rattle.model.specs.Machine.{Buf}
-use Rattle.model_ops.specs.Rings.{nextLen, nextStamp}
-use Rattle.model_ops.specs.Concrete.{isOf, lookOf, fetchOf, actOn, handOn}
+use Rattle.script.specs.Script.{Test, Look, Fetch, Act, DmaStep, dmaStepAsk}
+use Rattle.script.specs.Simulates.{Phase, quiet}
+use Rattle.script.specs.Statics.{isOn, isoOuts}
+use Rattle.script.specs.Machine.{Buf}
+use Rattle.script_ops.specs.Rings.{nextLen, nextStamp}
+use Rattle.script_ops.specs.Concrete.{isOf, lookOf, fetchOf, actOn, handOn}
 use Rattle.proof_book.specs.Pages.{Packet, bytesOf, stampsOf, OutPage, Pages}
 use Rattle.proof_book.specs.Book.{some, first, firstStamp, isB, lookB, fetchB, actB, handB, feedB}
 use Rattle.proof_book.specs.Coupling.{Used, Shape, lensOf, slotStamps, Held, OutFits, Coupling, Good}

@@ -15,9 +15,9 @@ use Rattle.ring.specs.Copies.{copied}
 use Rattle.ring.specs.MarksSlots.{only-copied}
 use Rattle.regs.specs.declared.Dir.the-variants.{Out}
 use Rattle.state.specs.Driver.{Driver}
-use Rattle.model.specs.Answers.{Answer}
-use Rattle.model.specs.Calls.{Config, Op, calls}
-use Rattle.model.specs.Machine.{Buf, Call, start, begin, go, question, Event, Machine, misfit}
+use Rattle.script.specs.Answers.{Answer}
+use Rattle.script.specs.Calls.{Config, Op, calls}
+use Rattle.script.specs.Machine.{Buf, Call, start, begin, go, question, Event, Machine, misfit}
 use Rattle.machine.specs.Suspended.{drive}
 use Rattle.proof_book.specs.Pages.{Pages}
 use Rattle.proof_book.specs.Book.{book}

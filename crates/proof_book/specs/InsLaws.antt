@@ -29,14 +29,14 @@ use Rattle.ring.specs.InLaws as ring-in
 use Rattle.ring.specs.Copies.{copied}
 use Rattle.ring.specs.OnlyLaws as marks-laws
 use Rattle.ring.specs.MarksSlots.{only-copied, copied-bytes}
-use Rattle.model.specs.Cells.{EpCore}
-use Rattle.model.specs.Script as script
-use Rattle.model.specs.Statics.{isOn, flag}
-use Rattle.model.specs.Simulates.{quiet}
-use Rattle.model.specs.Machine.{Buf}
-use Rattle.model_ops.specs.Records.{plainOf, isoOut}
-use Rattle.model_ops.specs.Rings.{St, waitingOn, roomOn, roomIn, completeOn, emptied, emptiedOn, queuedOn, enqueueOn, sendOn, sendAddr, placeOn}
-use Rattle.model_ops.specs.RingLaws.{room-fits}
+use Rattle.script.specs.Cells.{EpCore}
+use Rattle.script.specs.Script as script
+use Rattle.script.specs.Statics.{isOn, flag}
+use Rattle.script.specs.Simulates.{quiet}
+use Rattle.script.specs.Machine.{Buf}
+use Rattle.script_ops.specs.Records.{plainOf, isoOut}
+use Rattle.script_ops.specs.Rings.{St, waitingOn, roomOn, roomIn, completeOn, emptied, emptiedOn, queuedOn, enqueueOn, sendOn, sendAddr, placeOn}
+use Rattle.script_ops.specs.RingLaws.{room-fits}
 use Rattle.proof_book.specs.Pages.{InPage, Pages, withIn}
 use Rattle.proof_book.specs.Book.{Bk, front, roomB, emptyIn, passedIn, sentIn, sourceTold, placedIn, queuedIn, feedB}
 use Rattle.proof_book.specs.Coupling.{Used, Shape, lensOf, Held, Stands, InFits, Coupling, Holds, Good}

@@ -8,16 +8,16 @@ use Rattle.regs.specs.declared.Dir.{Dir}
 use Rattle.regs.specs.declared.Dir.the-variants.{Out, In}
 use Rattle.regs.specs.declared.Token.{Token}
 use Rattle.regs.specs.declared.Token.the-variants as tok
-use Rattle.model.specs.declared.Transfer.{Transfer}
-use Rattle.model.specs.Cells.{Cell, Val}
-use Rattle.model.specs.Script.{Script, ret, bind, test, read-then, write-then, wait-then, callback-then, get-then}
-use Rattle.model.specs.Script.{put-then, is-then, look-then, fetch-then, act-then, hand-then, Test, Look, Fetch}
-use Rattle.model.specs.Script.{no-wakes, waken, arrive}
-use Rattle.model.specs.Answers.{Answer}
-use Rattle.model.specs.Calls.{interruptCode}
-use Rattle.model.specs.IsoIn.{isoInComplete, sofOne, sofWalk, lateOne, lateWalk, onSof}
-use Rattle.model.specs.IsoOut.{checkOne, checkWalk}
-use Rattle.model.specs.Handler.{looks, toggled, settle, dispatch, movedOn, ep0MovedOn, served, onTransfer, onSetup, stampedInterrupt}
+use Rattle.script.specs.declared.Transfer.{Transfer}
+use Rattle.script.specs.Cells.{Cell, Val}
+use Rattle.script.specs.Script.{Script, ret, bind, test, read-then, write-then, wait-then, callback-then, get-then}
+use Rattle.script.specs.Script.{put-then, is-then, look-then, fetch-then, act-then, hand-then, Test, Look, Fetch}
+use Rattle.script.specs.Script.{no-wakes, waken, arrive}
+use Rattle.script.specs.Answers.{Answer}
+use Rattle.script.specs.Calls.{interruptCode}
+use Rattle.script.specs.IsoIn.{isoInComplete, sofOne, sofWalk, lateOne, lateWalk, onSof}
+use Rattle.script.specs.IsoOut.{checkOne, checkWalk}
+use Rattle.script.specs.Handler.{looks, toggled, settle, dispatch, movedOn, ep0MovedOn, served, onTransfer, onSetup, stampedInterrupt}
 use Rattle.proof_book.specs.LeavesLaws.{isRequest}
 
 -- a script made of such parts

@@ -8,16 +8,16 @@ use Rattle.regs.specs.declared.Access.{Access}
 use Rattle.regs.specs.declared.Dir.the-variants.{Out}
 use Rattle.state.specs.declared.Globals.{Globals}
 use Rattle.state.specs.Driver.{withOn, withPacedOn, withRequestOn}
-use Rattle.model.specs.Tree as tree
-use Rattle.model.specs.Tree.{ends, asks, bindOut}
-use Rattle.model.specs.Cells.{Cell, Val, globals-cell, control-cell, allocator-cell, ep-cell, request-cell, paced-cell}
-use Rattle.model.specs.Script.{Script, ret, bind, test, read-then, write-then, wait-then, callback-then, get-then}
-use Rattle.model.specs.Script.{put-then, is-then, look-then, fetch-then, act-then, hand-then, row-then, run, get, Act}
-use Rattle.model.specs.Script.{DmaStep}
-use Rattle.model.specs.TransferKinds.{allocates}
-use Rattle.model_ops.specs.Rings.{St}
-use Rattle.model_ops.specs.Concrete.{concrete}
-use Rattle.model.specs.Steps.{is, plain, moving}
+use Rattle.script.specs.Tree as tree
+use Rattle.script.specs.Tree.{ends, asks, bindOut}
+use Rattle.script.specs.Cells.{Cell, Val, globals-cell, control-cell, allocator-cell, ep-cell, request-cell, paced-cell}
+use Rattle.script.specs.Script.{Script, ret, bind, test, read-then, write-then, wait-then, callback-then, get-then}
+use Rattle.script.specs.Script.{put-then, is-then, look-then, fetch-then, act-then, hand-then, row-then, run, get, Act}
+use Rattle.script.specs.Script.{DmaStep}
+use Rattle.script.specs.TransferKinds.{allocates}
+use Rattle.script_ops.specs.Rings.{St}
+use Rattle.script_ops.specs.Concrete.{concrete}
+use Rattle.script.specs.Steps.{is, plain, moving}
 use Rattle.proof_book.specs.ActsLaws.{actKind}
 use Rattle.proof_book.specs.LeavesLaws.{act-leaves, hand-leaves}
 

@@ -8,8 +8,8 @@ use Rattle.state.specs.declared.Globals.{Globals}
 use Rattle.state.specs.declared.Request.{Request}
 use Rattle.state.specs.Driver.{Driver, epOn, pacedOn, requestOn}
 use Rattle.state.specs.Wakes.{Wakes}
-use Rattle.model.specs.Cells.{EpCore}
-use Rattle.model_ops.specs.Records.{plainOf}
+use Rattle.script.specs.Cells.{EpCore}
+use Rattle.script_ops.specs.Records.{plainOf}
 use Rattle.proof_book.specs.Pages.{Kept, keptValues, keptTables}
 use Rattle.proof_book.specs.Coupling.{SameKept}
 

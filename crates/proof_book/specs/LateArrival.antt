@@ -8,8 +8,8 @@ use mathlib.Core.Path.{_≡_}
 use Prim.Native.Nat.{ℕ, _≤_}
 use lib.ListN.{length}
 use Rattle.ring.specs.Finds.{LastDiffers}
-use Rattle.model.specs.Answers.{Answer}
-use Rattle.model.specs.Machine.{Buf, Machine}
+use Rattle.script.specs.Answers.{Answer}
+use Rattle.script.specs.Machine.{Buf, Machine}
 use Rattle.proof_book.specs.Pages.{Packet, Pages}
 use Rattle.proof_book.specs.Lengths.{Readings, Known, learnt, lengthOf}
 use Rattle.proof_book.specs.FrontPage.{Made, Decides}

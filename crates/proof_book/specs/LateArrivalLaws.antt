@@ -12,12 +12,12 @@ use Rattle.state.specs.Driver.{Driver, epOn}
 use Rattle.state.specs.State.{view}
 use Rattle.ring.specs.Marks.{markedLen}
 use Rattle.ring.specs.Copies.{bytesAt}
-use Rattle.model.specs.Cells.{EpCore}
-use Rattle.model.specs.Simulates.{Phase}
-use Rattle.model.specs.Answers.{Answer}
-use Rattle.model.specs.Calls.{Config, Op, calls, startRow}
-use Rattle.model.specs.Machine.{Buf, Event, Call, start, go, Machine, Ans, handed, misfit, stay, continued, fed, started}
-use Rattle.model.specs.Agree.{After, Ways, agrees, from-start}
+use Rattle.script.specs.Cells.{EpCore}
+use Rattle.script.specs.Simulates.{Phase}
+use Rattle.script.specs.Answers.{Answer}
+use Rattle.script.specs.Calls.{Config, Op, calls, startRow}
+use Rattle.script.specs.Machine.{Buf, Event, Call, start, go, Machine, Ans, handed, misfit, stay, continued, fed, started}
+use Rattle.script.specs.Agree.{After, Ways, agrees, from-start}
 use Rattle.machine.specs.Suspended.{driverOf, drive, machineOf}
 use Rattle.proof_book.specs.Pages.{Packet, Pages}
 use Rattle.proof_book.specs.Book.{book}

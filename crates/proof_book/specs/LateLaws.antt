@@ -12,12 +12,12 @@ use Rattle.ring.specs.Copies.{bytesAt}
 use Rattle.ring.specs.Finds.{LastDiffers}
 use Rattle.ring.specs.Stored.{StoredAlone}
 use Rattle.ring.specs.StoredLaws.{true-bytes}
-use Rattle.model.specs.Cells.{EpCore}
-use Rattle.model.specs.Simulates.{quiet}
-use Rattle.model.specs.Machine.{Buf}
-use Rattle.model.specs.Script.{marked}
-use Rattle.model_ops.specs.Concrete.{concrete}
-use Rattle.model_ops.specs.Late.{LatePacket, late-length}
+use Rattle.script.specs.Cells.{EpCore}
+use Rattle.script.specs.Simulates.{quiet}
+use Rattle.script.specs.Machine.{Buf}
+use Rattle.script.specs.Script.{marked}
+use Rattle.script_ops.specs.Concrete.{concrete}
+use Rattle.script_ops.specs.Late.{LatePacket, late-length}
 use Rattle.proof_book.specs.Pages.{Pages}
 use Rattle.proof_book.specs.Book.{packetB, bookOps}
 use Rattle.proof_book.specs.Coupling.{Coupling}

@@ -26,18 +26,18 @@ use Rattle.ring.specs.Slot.{slotAddr, joinedOf, passedOf, hasWaiting}
 use Rattle.ring.specs.Out.{hasRoomOut, cappedAt, overrunOf, arrivedOf, armedAt, openedOf, closedOf}
 use Rattle.ring.specs.In.{completedOf, loadedOf, unloadedOf}
 use Rattle.ring.specs.Copies.{copied}
-use Rattle.model.specs.Cells.{sameSort, Cell, Val, globals-cell, control-cell, allocator-cell, ep-cell, request-cell, paced-cell}
-use Rattle.model.specs.Script.{Act, complete, reset-ring, set-enabled, fill, fill0, open-oldest, close-oldest}
-use Rattle.model.specs.Script.{take-oldest, enqueue, allocate, allocate0, no-wakes, waken, DmaStep, arrive, send, place}
-use Rattle.model.specs.Script.{place0, Burst, switch, bus-reset}
-use Rattle.model.specs.Statics.{isOn, isoOuts}
-use Rattle.model.specs.TransferKinds.{allocates}
-use Rattle.model_ops.specs.Records.{plainOf, isoOut, configured, enabledOn}
-use Rattle.model_ops.specs.Rings.{St, completeOn, emptied, emptiedOn, openOn, closeOn, takeOn, roomOn, queuedOn}
-use Rattle.model_ops.specs.Rings.{enqueueOn, recordedOn, admittedOn, arrivedAt, arriveOn, sendOn, placeOn, renewedOn}
-use Rattle.model_ops.specs.Rings.{armAt, slotStep, typeStep, configStep, resetBelow, resetAll}
-use Rattle.model_ops.specs.Concrete.{concrete}
-use Rattle.model.specs.Steps.{is, turning}
+use Rattle.script.specs.Cells.{sameSort, Cell, Val, globals-cell, control-cell, allocator-cell, ep-cell, request-cell, paced-cell}
+use Rattle.script.specs.Script.{Act, complete, reset-ring, set-enabled, fill, fill0, open-oldest, close-oldest}
+use Rattle.script.specs.Script.{take-oldest, enqueue, allocate, allocate0, no-wakes, waken, DmaStep, arrive, send, place}
+use Rattle.script.specs.Script.{place0, Burst, switch, bus-reset}
+use Rattle.script.specs.Statics.{isOn, isoOuts}
+use Rattle.script.specs.TransferKinds.{allocates}
+use Rattle.script_ops.specs.Records.{plainOf, isoOut, configured, enabledOn}
+use Rattle.script_ops.specs.Rings.{St, completeOn, emptied, emptiedOn, openOn, closeOn, takeOn, roomOn, queuedOn}
+use Rattle.script_ops.specs.Rings.{enqueueOn, recordedOn, admittedOn, arrivedAt, arriveOn, sendOn, placeOn, renewedOn}
+use Rattle.script_ops.specs.Rings.{armAt, slotStep, typeStep, configStep, resetBelow, resetAll}
+use Rattle.script_ops.specs.Concrete.{concrete}
+use Rattle.script.specs.Steps.{is, turning}
 use Rattle.proof_book.specs.ActsLaws.{actKind}
 
 -- ---- any part

@@ -11,9 +11,9 @@ use Rattle.regs.specs.declared.Dir.the-variants.{Out, In}
 use Rattle.state.specs.Driver.{Driver, epOn}
 use Rattle.alloc.specs.Alloc.{allocatedIn, slotsOf}
 use Rattle.ring.specs.Waiting.{waiting}
-use Rattle.model.specs.Simulates.{Phase}
-use Rattle.model.specs.Statics.{isOn}
-use Rattle.model.specs.Machine.{Buf}
+use Rattle.script.specs.Simulates.{Phase}
+use Rattle.script.specs.Statics.{isOn}
+use Rattle.script.specs.Machine.{Buf}
 use Rattle.proof_book.specs.Pages.{Packet, bytesOf, Pages}
 use Rattle.proof_book.specs.Book.{front}
 use Rattle.proof_book.specs.Coupling.{Shape, lensOf, Coupling}

@@ -18,19 +18,19 @@ use Rattle.state.specs.declared.Globals.{Globals}
 use Rattle.state.specs.Driver.{Driver, key, noEp, epOn}
 use Rattle.ring.specs.Marks.{markedLen}
 use Rattle.ring.specs.Copies.{bytesAt, copied}
-use Rattle.model.specs.Tree as tree
-use Rattle.model.specs.Tree.{ends, asks}
-use Rattle.model.specs.Cells.{EpCore}
-use Rattle.model.specs.Script.{run}
-use Rattle.model.specs.Simulates.{Phase}
-use Rattle.model.specs.Statics.{isOn, isoOuts}
-use Rattle.model.specs.Answers.{Answer, Refused, isAllocated}
-use Rattle.model.specs.Calls.{Config, Op, interrupt, slotted, other, aside, Aside, Open, Close, Queue, asideCode}
-use Rattle.model.specs.Calls.{interruptCode, calls, code, starting, startRow}
-use Rattle.model.specs.Machine.{Buf, Call, start, begin, go, question, Ans, ended, handed, told, blank, blankA, Awaits}
-use Rattle.model.specs.Machine.{Way, idle, busy, Machine, over, misfit, stay, lentTo, beside, halt, begun, continued}
-use Rattle.model.specs.Machine.{started, fed}
-use Rattle.model_ops.specs.Records.{plainOf}
+use Rattle.script.specs.Tree as tree
+use Rattle.script.specs.Tree.{ends, asks}
+use Rattle.script.specs.Cells.{EpCore}
+use Rattle.script.specs.Script.{run}
+use Rattle.script.specs.Simulates.{Phase}
+use Rattle.script.specs.Statics.{isOn, isoOuts}
+use Rattle.script.specs.Answers.{Answer, Refused, isAllocated}
+use Rattle.script.specs.Calls.{Config, Op, interrupt, slotted, other, aside, Aside, Open, Close, Queue, asideCode}
+use Rattle.script.specs.Calls.{interruptCode, calls, code, starting, startRow}
+use Rattle.script.specs.Machine.{Buf, Call, start, begin, go, question, Ans, ended, handed, told, blank, blankA, Awaits}
+use Rattle.script.specs.Machine.{Way, idle, busy, Machine, over, misfit, stay, lentTo, beside, halt, begun, continued}
+use Rattle.script.specs.Machine.{started, fed}
+use Rattle.script_ops.specs.Records.{plainOf}
 use Rattle.proof_book.specs.Pages.{Packet, OutPage, Kept, Pages, withOut, withIn}
 use Rattle.proof_book.specs.Book.{Bk, isoOf, receiving, some, waitsOn, roomB, openOut, readOut, queuedIn, arrived}
 use Rattle.proof_book.specs.Book.{joined, overrun, freshPages, bookOps, book}

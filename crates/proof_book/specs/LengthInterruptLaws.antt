@@ -18,16 +18,16 @@ use Rattle.regs.specs.MisStatus.{sieFree}
 use Rattle.regs.specs.Flags.{busRst, transfer, suspend, hstSof, fifoOv, setupAct, HST_SOF, FIFO_OV}
 use Rattle.regs.specs.IntEn.{withBusRst, withSuspend}
 use Rattle.ring.specs.Marks.{markedLen}
-use Rattle.model.specs.declared.Transfer.{Transfer}
-use Rattle.model.specs.Tree as tree
-use Rattle.model.specs.Cells.{EpCore, ep-cell}
-use Rattle.model.specs.Every.{sameReg}
-use Rattle.model.specs.Script.{run, write, when, changed, marked, no-wakes}
-use Rattle.model.specs.Calls.{interruptCode}
-use Rattle.model.specs.Statics.{isOn, isoOuts, isoInEvery}
-use Rattle.model.specs.IsoOut.{arriving, entry, arrives, checkOne, checkWalk}
-use Rattle.model.specs.Handler.{entered, sameOut, lateTaken, waited, retaken, released, waitsForIso, waitsForBulk}
-use Rattle.model.specs.Handler.{settle, isoFor, ownIn, framed, served, onTransfer, onInterrupt}
+use Rattle.script.specs.declared.Transfer.{Transfer}
+use Rattle.script.specs.Tree as tree
+use Rattle.script.specs.Cells.{EpCore, ep-cell}
+use Rattle.script.specs.Every.{sameReg}
+use Rattle.script.specs.Script.{run, write, when, changed, marked, no-wakes}
+use Rattle.script.specs.Calls.{interruptCode}
+use Rattle.script.specs.Statics.{isOn, isoOuts, isoInEvery}
+use Rattle.script.specs.IsoOut.{arriving, entry, arrives, checkOne, checkWalk}
+use Rattle.script.specs.Handler.{entered, sameOut, lateTaken, waited, retaken, released, waitsForIso, waitsForBulk}
+use Rattle.script.specs.Handler.{settle, isoFor, ownIn, framed, served, onTransfer, onInterrupt}
 use Rattle.proof_book.specs.Book.{Bk, getB, bookOps}
 use Rattle.proof_book.specs.Lengths.{Readings, nothing-read, one-more, bringing, first, second, itsOwn, lengthOf}
 use Rattle.proof_book.specs.BookDecidesLaws.{idle}

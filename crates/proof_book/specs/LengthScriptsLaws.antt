@@ -11,12 +11,12 @@ use Rattle.regs.specs.declared.Reg.{Reg}
 use Rattle.regs.specs.declared.Dir.the-variants.{Out, In}
 use Rattle.ring.specs.Marks.{markedLen}
 use Rattle.ring.specs.Copies.{bytesAt}
-use Rattle.model.specs.Tree as tree
-use Rattle.model.specs.Tree.{ends, asks, bindOut}
-use Rattle.model.specs.Cells.{EpCore, Cell, Val, globals-cell, control-cell, allocator-cell, ep-cell, request-cell, paced-cell}
-use Rattle.model.specs.Script.{Script, run, arrive}
-use Rattle.model.specs.Statics.{isOn}
-use Rattle.model.specs.Machine.{Buf}
+use Rattle.script.specs.Tree as tree
+use Rattle.script.specs.Tree.{ends, asks, bindOut}
+use Rattle.script.specs.Cells.{EpCore, Cell, Val, globals-cell, control-cell, allocator-cell, ep-cell, request-cell, paced-cell}
+use Rattle.script.specs.Script.{Script, run, arrive}
+use Rattle.script.specs.Statics.{isOn}
+use Rattle.script.specs.Machine.{Buf}
 use Rattle.proof_book.specs.Pages.{Packet, OutPage, Pages, withOut}
 use Rattle.proof_book.specs.Book.{Bk, putB, isoOf, receiving, arrived, packetB, handB, mergedPlain, bookOps}
 use Rattle.proof_book.specs.FrameLaws.{at-elim, out-same}

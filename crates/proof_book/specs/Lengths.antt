@@ -11,11 +11,11 @@ use Rattle.regs.specs.declared.Dir.the-variants.{Out}
 use Rattle.regs.specs.MisStatus.{sieFree}
 use Rattle.regs.specs.Status.{togOk}
 use Rattle.ring.specs.Marks.{markedLen}
-use Rattle.model.specs.Every.{sameReg}
-use Rattle.model.specs.IsoOut.{arriving}
-use Rattle.model.specs.Answers.{Answer}
-use Rattle.model.specs.Calls.{Config, Op}
-use Rattle.model.specs.Machine.{Buf, Call, start, begin, go, question, Ans, ended, handed, told, blank}
+use Rattle.script.specs.Every.{sameReg}
+use Rattle.script.specs.IsoOut.{arriving}
+use Rattle.script.specs.Answers.{Answer}
+use Rattle.script.specs.Calls.{Config, Op}
+use Rattle.script.specs.Machine.{Buf, Call, start, begin, go, question, Ans, ended, handed, told, blank}
 use Rattle.proof_book.specs.Pages.{Pages}
 
 -- ---- what the operation under way was brought

@@ -12,7 +12,7 @@ use Rattle.state.specs.declared.EpState.{EpState}
 use Rattle.state.specs.Fresh.{clearStamps}
 use Rattle.state.specs.Driver.{Driver, key, lenKey, noEp, stampKey, epOn, withOn, lenOn, withLenOn, stampOn, withStampOn}
 use Rattle.state.specs.Laws.{Sized, key-same, stampKey-same, lenOn-same, lenOn-other, stampOn-same, stampOn-other}
-use Rattle.model_ops.specs.Stamps.{cleared-other}
+use Rattle.script_ops.specs.Stamps.{cleared-other}
 use Rattle.proof_book.specs.Coupling.{lensOf, slotStamps}
 
 -- ---- endpoints count modulo 16

@@ -15,8 +15,8 @@ use Rattle.alloc.specs.Alloc.{allocatedIn}
 use Rattle.ring.specs.Slot.{slotAddr}
 use Rattle.ring.specs.Waiting.{Placed}
 use Rattle.ring.specs.Slots.{slot-from, slot-upto}
-use Rattle.model.specs.Simulates.{Phase}
-use Rattle.model.specs.Machine.{Buf}
+use Rattle.script.specs.Simulates.{Phase}
+use Rattle.script.specs.Machine.{Buf}
 use Rattle.proof_book.specs.Pages.{OutPage, Pages}
 use Rattle.proof_book.specs.Book.{feedB, slotTold}
 use Rattle.proof_book.specs.Coupling.{endOf, Shape, Coupling, Lies}

@@ -18,9 +18,9 @@ use Rattle.alloc.specs.BufferLaws.{each-size}
 use Rattle.descriptor.specs.declared.Answer.the-variants as reading
 use Rattle.descriptor.specs.Reading.{readingOf, listOf}
 use Rattle.descriptor.specs.Trial.{trialOf}
-use Rattle.model.specs.Simulates.{quiet}
-use Rattle.model.specs.Statics.{isOn}
-use Rattle.model.specs.Machine.{Buf}
+use Rattle.script.specs.Simulates.{quiet}
+use Rattle.script.specs.Statics.{isOn}
+use Rattle.script.specs.Machine.{Buf}
 use Rattle.proof_alloc_all.specs.Settled.{Settled}
 use Rattle.proof_alloc_all.specs.SettledLaws.{slots-some}
 use Rattle.proof_alloc_all.specs.Order.{InOrder}

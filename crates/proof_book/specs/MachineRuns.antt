@@ -2,9 +2,9 @@
 -- theorem is `machine-demand-3` (FrontPageLaws.antt)
 use mathlib.Core.List.{List, [], _∷_}
 use Rattle.state.specs.Driver.{Driver}
-use Rattle.model.specs.Answers.{Answer}
-use Rattle.model.specs.Calls.{Config, Op}
-use Rattle.model.specs.Machine.{Event, Machine}
+use Rattle.script.specs.Answers.{Answer}
+use Rattle.script.specs.Calls.{Config, Op}
+use Rattle.script.specs.Machine.{Event, Machine}
 use Rattle.machine.specs.Suspended.{drive}
 use Rattle.proof_book.specs.Pages.{Pages}
 use Rattle.proof_book.specs.FrontPage.{written, LentAsLeft, AfterCall}

@@ -19,25 +19,25 @@ use Rattle.alloc.specs.declared.Answer.the-variants as alloc
 use Rattle.descriptor.specs.declared.Endpoint.{Endpoint}
 use Rattle.descriptor.specs.declared.Answer as reading-answer
 use Rattle.descriptor.specs.declared.Answer.the-variants as reading
-use Rattle.model.specs.Tree as tree
-use Rattle.model.specs.Tree.{ends, asks, bindOut}
-use Rattle.model.specs.Cells.{EpCore}
-use Rattle.model.specs.Script.{Script, run, rows, bind, test, look, write, next-len}
-use Rattle.model.specs.Script.{hand-then}
-use Rattle.model.specs.Script.{row-then, waken, send, place, switch, switchAsk, burstAsk}
-use Rattle.model.specs.Statics.{isOn, wake}
-use Rattle.model.specs.IsoIn.{isoInComplete, isoInCompletions}
-use Rattle.model.specs.Bus as bus
-use Rattle.model.specs.Driver.{allocated-as}
-use Rattle.model.specs.AllocateAll.{allocateEach, announce, announceAll, allocate-read}
-use Rattle.model.specs.Answers.{Answer, Refused}
-use Rattle.model.specs.Calls.{Config, Slotted, SetEnabled, PollRead, BeginWrite, PollWrite, PollDataOut, BeginDataIn}
-use Rattle.model.specs.Calls.{Other, Allocate, AllocateAll, Start, BusPoll, BusEnable, BusDisable, Microframe}
-use Rattle.model.specs.Calls.{SetStalled, IsStalled, SetPaced, Advance, BeginRead, BeginSetup, PollSetup, PollDataIn}
-use Rattle.model.specs.Calls.{BeginAccept, PollAccept, BeginReject, BeginDataOut, BeginAcceptSetAddress, Aside, Open}
-use Rattle.model.specs.Calls.{Close, Queue, slotted, other, slottedCode, otherCode, asideCode, starting}
-use Rattle.model.specs.Steps.{giving, Steps}
-use Rattle.model.specs.StepsCalls.{call-steps}
+use Rattle.script.specs.Tree as tree
+use Rattle.script.specs.Tree.{ends, asks, bindOut}
+use Rattle.script.specs.Cells.{EpCore}
+use Rattle.script.specs.Script.{Script, run, rows, bind, test, look, write, next-len}
+use Rattle.script.specs.Script.{hand-then}
+use Rattle.script.specs.Script.{row-then, waken, send, place, switch, switchAsk, burstAsk}
+use Rattle.script.specs.Statics.{isOn, wake}
+use Rattle.script.specs.IsoIn.{isoInComplete, isoInCompletions}
+use Rattle.script.specs.Bus as bus
+use Rattle.script.specs.Driver.{allocated-as}
+use Rattle.script.specs.AllocateAll.{allocateEach, announce, announceAll, allocate-read}
+use Rattle.script.specs.Answers.{Answer, Refused}
+use Rattle.script.specs.Calls.{Config, Slotted, SetEnabled, PollRead, BeginWrite, PollWrite, PollDataOut, BeginDataIn}
+use Rattle.script.specs.Calls.{Other, Allocate, AllocateAll, Start, BusPoll, BusEnable, BusDisable, Microframe}
+use Rattle.script.specs.Calls.{SetStalled, IsStalled, SetPaced, Advance, BeginRead, BeginSetup, PollSetup, PollDataIn}
+use Rattle.script.specs.Calls.{BeginAccept, PollAccept, BeginReject, BeginDataOut, BeginAcceptSetAddress, Aside, Open}
+use Rattle.script.specs.Calls.{Close, Queue, slotted, other, slottedCode, otherCode, asideCode, starting}
+use Rattle.script.specs.Steps.{giving, Steps}
+use Rattle.script.specs.StepsCalls.{call-steps}
 use Rattle.proof_book.specs.Pages.{InPage, Pages}
 use Rattle.proof_book.specs.Book.{Bk, some, placedIn, handB, rowB, isoOf, switchB, bookOps}
 use Rattle.proof_book.specs.FrameLaws.{at-elim}

@@ -8,13 +8,13 @@ use Rattle.regs.specs.declared.Access.the-variants.{Read}
 use Rattle.regs.specs.declared.Reg.the-variants.{FrameNo}
 use Rattle.regs.specs.declared.Dir.{Dir}
 use Rattle.regs.specs.declared.Dir.the-variants.{Out, In}
-use Rattle.model.specs.Tree as tree
-use Rattle.model.specs.Tree.{ends, asks}
-use Rattle.model.specs.Script.{run, no-wakes}
-use Rattle.model.specs.Answers.{Answer, Refused}
-use Rattle.model.specs.Calls.{Config, Op, interrupt, slotted, other, aside, calls, code, starting, startRow}
-use Rattle.model.specs.Machine.{Buf, Call, start, begin, go, question, Ans, handed, blankA, Way, idle}
-use Rattle.model.specs.Machine.{busy, Machine, over, misfit, stay, lentTo, beside, halt, begun, continued, started, fed}
+use Rattle.script.specs.Tree as tree
+use Rattle.script.specs.Tree.{ends, asks}
+use Rattle.script.specs.Script.{run, no-wakes}
+use Rattle.script.specs.Answers.{Answer, Refused}
+use Rattle.script.specs.Calls.{Config, Op, interrupt, slotted, other, aside, calls, code, starting, startRow}
+use Rattle.script.specs.Machine.{Buf, Call, start, begin, go, question, Ans, handed, blankA, Way, idle}
+use Rattle.script.specs.Machine.{busy, Machine, over, misfit, stay, lentTo, beside, halt, begun, continued, started, fed}
 use Rattle.proof_book.specs.Pages.{Pages}
 use Rattle.proof_book.specs.Book.{Bk, actB, freshPages, bookOps, book}
 use Rattle.proof_book.specs.FrontPage.{written}

@@ -14,26 +14,26 @@ use Rattle.regs.specs.declared.Dir.{Dir}
 use Rattle.regs.specs.declared.Dir.the-variants.{Out, In}
 use Rattle.alloc.specs.declared.Answer as alloc-answer
 use Rattle.alloc.specs.declared.Answer.the-variants as alloc
-use Rattle.model.specs.Tree as tree
-use Rattle.model.specs.Tree.{ends, asks}
-use Rattle.model.specs.Cells.{Cell, Val}
-use Rattle.model.specs.Script.{Script, run, rows, ret, bind, test, read-then, write-then, wait-then, callback-then}
-use Rattle.model.specs.Script.{get-then, put-then, is-then, look-then, fetch-then, act-then, hand-then, row-then, Test}
-use Rattle.model.specs.Script.{Look, Fetch, Act, complete, reset-ring, open-oldest, close-oldest, take-oldest, enqueue}
-use Rattle.model.specs.Script.{dmaStepAsk, send, place, place0, Burst, switch, bus-reset, burstAsk}
+use Rattle.script.specs.Tree as tree
+use Rattle.script.specs.Tree.{ends, asks}
+use Rattle.script.specs.Cells.{Cell, Val}
+use Rattle.script.specs.Script.{Script, run, rows, ret, bind, test, read-then, write-then, wait-then, callback-then}
+use Rattle.script.specs.Script.{get-then, put-then, is-then, look-then, fetch-then, act-then, hand-then, row-then, Test}
+use Rattle.script.specs.Script.{Look, Fetch, Act, complete, reset-ring, open-oldest, close-oldest, take-oldest, enqueue}
+use Rattle.script.specs.Script.{dmaStepAsk, send, place, place0, Burst, switch, bus-reset, burstAsk}
 use Rattle.ring.specs.Copies.{copied}
-use Rattle.model.specs.Statics.{renewed}
-use Rattle.model.specs.IsoIn.{isoInComplete, isoInCompletions}
-use Rattle.model.specs.Bus as bus
-use Rattle.model.specs.Control.{acks}
-use Rattle.model.specs.Driver.{started-as}
-use Rattle.model.specs.Calls.{Config, Slotted, SetEnabled, PollRead, BeginWrite, PollWrite, PollDataOut, BeginDataIn}
-use Rattle.model.specs.Calls.{Other, Allocate, AllocateAll, Start, BusPoll, BusEnable, BusDisable, Microframe}
-use Rattle.model.specs.Calls.{SetStalled, IsStalled, SetPaced, Advance, BeginRead, BeginSetup, PollSetup, PollDataIn}
-use Rattle.model.specs.Calls.{BeginAccept, PollAccept, BeginReject, BeginDataOut, BeginAcceptSetAddress, Aside, Open}
-use Rattle.model.specs.Calls.{Close, Queue, slottedCode, otherCode, asideCode, starting}
-use Rattle.model.specs.Answers.{Answer}
-use Rattle.model.specs.Machine.{Buf}
+use Rattle.script.specs.Statics.{renewed}
+use Rattle.script.specs.IsoIn.{isoInComplete, isoInCompletions}
+use Rattle.script.specs.Bus as bus
+use Rattle.script.specs.Control.{acks}
+use Rattle.script.specs.Driver.{started-as}
+use Rattle.script.specs.Calls.{Config, Slotted, SetEnabled, PollRead, BeginWrite, PollWrite, PollDataOut, BeginDataIn}
+use Rattle.script.specs.Calls.{Other, Allocate, AllocateAll, Start, BusPoll, BusEnable, BusDisable, Microframe}
+use Rattle.script.specs.Calls.{SetStalled, IsStalled, SetPaced, Advance, BeginRead, BeginSetup, PollSetup, PollDataIn}
+use Rattle.script.specs.Calls.{BeginAccept, PollAccept, BeginReject, BeginDataOut, BeginAcceptSetAddress, Aside, Open}
+use Rattle.script.specs.Calls.{Close, Queue, slottedCode, otherCode, asideCode, starting}
+use Rattle.script.specs.Answers.{Answer}
+use Rattle.script.specs.Machine.{Buf}
 use Rattle.proof_book.specs.Pages.{OutPage, InPage, Kept, Pages, withKept, withOut, withIn, keptPlain}
 use Rattle.proof_book.specs.Book.{Bk, putB, actB, handB, rowB, isoOf, roomB, some, waitsOn, openOut, readOut}
 use Rattle.proof_book.specs.Book.{emptyOut, emptyIn, passedIn, placedIn, loadedIn, queuedIn, bookOps}

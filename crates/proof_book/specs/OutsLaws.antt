@@ -17,13 +17,13 @@ use Rattle.ring.specs.Laws.{place-placed, place-addr, alike-count, alike-waits,
 use Rattle.ring.specs.OutLaws.{opened-alike, opened-shows, closed-place, closed-shows, close-waits, close-ring}
 use Rattle.ring.specs.Marks.{isMarked, markedLen}
 use Rattle.ring.specs.Copies.{bytesAt}
-use Rattle.model.specs.Cells.{EpCore}
-use Rattle.model.specs.Script as script
-use Rattle.model.specs.Simulates.{quiet}
-use Rattle.model.specs.Statics.{isOn, flag}
-use Rattle.model.specs.Machine.{Buf}
-use Rattle.model_ops.specs.Records.{plainOf, isoOut}
-use Rattle.model_ops.specs.Rings.{changedOn, markedOn, waitingOn, openedOn, oldestAt, oldestOn, emptied, emptiedOn, openOn, closeOn, takeOn}
+use Rattle.script.specs.Cells.{EpCore}
+use Rattle.script.specs.Script as script
+use Rattle.script.specs.Simulates.{quiet}
+use Rattle.script.specs.Statics.{isOn, flag}
+use Rattle.script.specs.Machine.{Buf}
+use Rattle.script_ops.specs.Records.{plainOf, isoOut}
+use Rattle.script_ops.specs.Rings.{changedOn, markedOn, waitingOn, openedOn, oldestAt, oldestOn, emptied, emptiedOn, openOn, closeOn, takeOn}
 use Rattle.proof_book.specs.Pages.{Packet, bytesOf, OutPage, Pages, withOut}
 use Rattle.proof_book.specs.Book.{some, front, isoOf, openOut, readOut, emptyOut}
 use Rattle.proof_book.specs.Coupling.{Short, lensOf, slotStamps, OutFits, AtRest, Coupling}

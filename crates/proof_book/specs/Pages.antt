@@ -10,7 +10,7 @@ use Rattle.state.specs.declared.Allocator.{Allocator}
 use Rattle.state.specs.declared.Request.{Request}
 use Rattle.state.specs.declared.Control.{Control}
 use Rattle.state.specs.Wakes.{Wakes}
-use Rattle.model.specs.Cells.{EpCore}
+use Rattle.script.specs.Cells.{EpCore}
 
 -- a packet that waits on an OUT endpoint: its bytes, and the microframe index of the interrupt that admitted it (request One)
 pub record Packet : Type 0 where

@@ -13,18 +13,18 @@ use Rattle.regs.specs.declared.Dir.the-variants.{Out}
 use Rattle.regs.specs.Enables as enables
 use Rattle.state.specs.declared.Request.{Request}
 use Rattle.state.specs.Driver.{Driver, epOn, requestOn}
-use Rattle.model.specs.Tree as tree
-use Rattle.model.specs.Tree.{ends, asks}
-use Rattle.model.specs.Simulates.{Phase}
-use Rattle.model.specs.Cells.{ep-cell}
-use Rattle.model.specs.Script.{run, ret, bind, test, get, is, act, fetch, waiting, oldest, take-oldest, _>>_}
-use Rattle.model.specs.Statics.{isOn, withReady, modifyEp}
-use Rattle.model.specs.Answers.{Answer, Refused, NotYet, Done, named, unless, isAllocated}
-use Rattle.model.specs.Endpoint.{ends-request, take-iso, take-ready, polled, pollRead}
-use Rattle.model.specs.Calls.{Config, Op, slotted, PollRead, calls}
-use Rattle.model.specs.Machine.{Buf, Call, begin, Ans, ended, handed, told, blankA, Way, idle, busy, Machine, misfit, stay, fed, halt}
-use Rattle.model.specs.Machine as machine
-use Rattle.model.specs.Agree.{After}
+use Rattle.script.specs.Tree as tree
+use Rattle.script.specs.Tree.{ends, asks}
+use Rattle.script.specs.Simulates.{Phase}
+use Rattle.script.specs.Cells.{ep-cell}
+use Rattle.script.specs.Script.{run, ret, bind, test, get, is, act, fetch, waiting, oldest, take-oldest, _>>_}
+use Rattle.script.specs.Statics.{isOn, withReady, modifyEp}
+use Rattle.script.specs.Answers.{Answer, Refused, NotYet, Done, named, unless, isAllocated}
+use Rattle.script.specs.Endpoint.{ends-request, take-iso, take-ready, polled, pollRead}
+use Rattle.script.specs.Calls.{Config, Op, slotted, PollRead, calls}
+use Rattle.script.specs.Machine.{Buf, Call, begin, Ans, ended, handed, told, blankA, Way, idle, busy, Machine, misfit, stay, fed, halt}
+use Rattle.script.specs.Machine as machine
+use Rattle.script.specs.Agree.{After}
 use Rattle.machine.specs.Suspended.{driverOf, drive}
 use Rattle.proof_book.specs.Pages.{Packet, bytesOf, Pages, withOut}
 use Rattle.proof_book.specs.Book.{Bk, some, first, isoOf, readOut, bookOps, book}

@@ -9,15 +9,15 @@ use Rattle.regs.specs.declared.Dir.{Dir}
 use Rattle.regs.specs.declared.Dir.the-variants.{Out, In}
 use Rattle.regs.specs.declared.Token.{Token}
 use Rattle.regs.specs.declared.Token.the-variants as tok
-use Rattle.model.specs.declared.Transfer.{Transfer}
-use Rattle.model.specs.Cells.{Cell, Val}
-use Rattle.model.specs.Every.{sameReg}
-use Rattle.model.specs.Script.{Script, ret, bind, test, read-then, write-then, wait-then, callback-then, get-then}
-use Rattle.model.specs.Script.{put-then, is-then, look-then, fetch-then, act-then, hand-then, Test, Look, Fetch}
-use Rattle.model.specs.Script.{complete, no-wakes, waken, send}
-use Rattle.model.specs.Statics.{modifyIntEn, wakeBus}
-use Rattle.model.specs.IsoIn.{isoInComplete, sofOne, sofWalk, lateOne, lateWalk, onSof}
-use Rattle.model.specs.Handler.{looks, nakNonIso, toggled, dispatch, movedOn, ep0MovedOn, onSetup, keepMicroframe}
+use Rattle.script.specs.declared.Transfer.{Transfer}
+use Rattle.script.specs.Cells.{Cell, Val}
+use Rattle.script.specs.Every.{sameReg}
+use Rattle.script.specs.Script.{Script, ret, bind, test, read-then, write-then, wait-then, callback-then, get-then}
+use Rattle.script.specs.Script.{put-then, is-then, look-then, fetch-then, act-then, hand-then, Test, Look, Fetch}
+use Rattle.script.specs.Script.{complete, no-wakes, waken, send}
+use Rattle.script.specs.Statics.{modifyIntEn, wakeBus}
+use Rattle.script.specs.IsoIn.{isoInComplete, sofOne, sofWalk, lateOne, lateWalk, onSof}
+use Rattle.script.specs.Handler.{looks, nakNonIso, toggled, dispatch, movedOn, ep0MovedOn, onSetup, keepMicroframe}
 
 -- the registers whose readings tell no length; those, and the engine's; any
 abbrev pub plainly : Reg → Bool

@@ -12,25 +12,25 @@ use Rattle.regs.specs.Enables as enables
 use Rattle.alloc.specs.Alloc.{takenIn, allocatedIn}
 use Rattle.alloc.specs.Sound.{Sound}
 use Rattle.regs.specs.declared.Dir.the-variants.{Out}
-use Rattle.model.specs.Cells.{EpCore, ep-cell, request-cell}
-use Rattle.model.specs.Script.{run, bind, test, ret, get, put, _>>_}
-use Rattle.model.specs.Statics.{isOn}
-use Rattle.model.specs.Answers.{Answer, Refused, resultless, unless, named, isNumber, isAllocated}
-use Rattle.model.specs.Endpoint.{begun, enabled-else, arm-read, beginRead}
-use Rattle.model.specs.Machine.{Buf, Call, Machine, started}
-use Rattle.model.specs.Calls.{Config, Op, other, BeginDataOut, Start, code, calls, startRow}
-use Rattle.model.specs.Calls as the-calls
-use Rattle.model.specs.Steps.{plain, receiving, starting, kindOf, Steps}
-use Rattle.model.specs.StepsCalls.{call-steps, start-up-steps}
-use Rattle.model.specs.StepsKinds.{Begins, a-read, a-data-out, ep0, none, begins}
-use Rattle.model.specs.StepsRuns.{Holds, end}
-use Rattle.model.specs.StepsRunsLaws.{holds-run}
-use Rattle.model.specs.MachineKept.{LentKeeps, Preserves}
-use Rattle.model.specs.MachineKept as machine
-use Rattle.model.specs.MachineKeptLaws as machine-laws
-use Rattle.model_ops.specs.Records.{plainOf}
-use Rattle.model_ops.specs.Rings.{St}
-use Rattle.model_ops.specs.Concrete.{concrete, putOn}
+use Rattle.script.specs.Cells.{EpCore, ep-cell, request-cell}
+use Rattle.script.specs.Script.{run, bind, test, ret, get, put, _>>_}
+use Rattle.script.specs.Statics.{isOn}
+use Rattle.script.specs.Answers.{Answer, Refused, resultless, unless, named, isNumber, isAllocated}
+use Rattle.script.specs.Endpoint.{begun, enabled-else, arm-read, beginRead}
+use Rattle.script.specs.Machine.{Buf, Call, Machine, started}
+use Rattle.script.specs.Calls.{Config, Op, other, BeginDataOut, Start, code, calls, startRow}
+use Rattle.script.specs.Calls as the-calls
+use Rattle.script.specs.Steps.{plain, receiving, starting, kindOf, Steps}
+use Rattle.script.specs.StepsCalls.{call-steps, start-up-steps}
+use Rattle.script.specs.StepsKinds.{Begins, a-read, a-data-out, ep0, none, begins}
+use Rattle.script.specs.StepsRuns.{Holds, end}
+use Rattle.script.specs.StepsRunsLaws.{holds-run}
+use Rattle.script.specs.MachineKept.{LentKeeps, Preserves}
+use Rattle.script.specs.MachineKept as machine
+use Rattle.script.specs.MachineKeptLaws as machine-laws
+use Rattle.script_ops.specs.Records.{plainOf}
+use Rattle.script_ops.specs.Rings.{St}
+use Rattle.script_ops.specs.Concrete.{concrete, putOn}
 use Rattle.machine.specs.Suspended.{driverOf, drive}
 use Rattle.proof_book.specs.StartUpLaws.{fresh-kept}
 use Rattle.proof_book.specs.InsLaws.{left, right}

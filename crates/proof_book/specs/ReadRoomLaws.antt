@@ -22,11 +22,11 @@ use Rattle.alloc.specs.Outcome.{sameDir, stays, Takes, Outcome, six, seven, eig
 use Rattle.alloc.specs.Run.{endpoint, ep0, Step, kept, gave-ep0, step}
 use Rattle.alloc.specs.Sound.{Sound}
 use Rattle.alloc.specs.SoundLaws.{sound-call}
-use Rattle.model.specs.Script.{Act}
-use Rattle.model.specs.Statics.{isOn}
-use Rattle.model_ops.specs.Records.{recordGiven, setsGiven, givenTo, allocatedOn, startedWith, allocatedEp0}
-use Rattle.model_ops.specs.Rings.{St}
-use Rattle.model_ops.specs.Concrete.{concrete}
+use Rattle.script.specs.Script.{Act}
+use Rattle.script.specs.Statics.{isOn}
+use Rattle.script_ops.specs.Records.{recordGiven, setsGiven, givenTo, allocatedOn, startedWith, allocatedEp0}
+use Rattle.script_ops.specs.Rings.{St}
+use Rattle.script_ops.specs.Concrete.{concrete}
 use Rattle.proof_book.specs.CellsLaws.{epOn-by}
 use Rattle.proof_book.specs.LeavesLaws.{RequestsStay, turns, rings-stay, by-act}
 

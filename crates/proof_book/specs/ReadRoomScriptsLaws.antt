@@ -4,14 +4,14 @@ use mathlib.Core.Path.{_≡_, refl, ap, sym, _∙_}
 use lib.Dec.{eqb}
 use borrow.Author.Tests.{eqb-true}
 use Rattle.regs.specs.declared.Dir.the-variants.{Out, In}
-use Rattle.model.specs.Cells.{Cell, Val, globals-cell, control-cell, allocator-cell, ep-cell, request-cell, paced-cell}
-use Rattle.model.specs.Statics.{isOn}
-use Rattle.model.specs.Steps.{Kind, reading, is, mayPut}
-use Rattle.model.specs.StepsRuns.{Keeps}
-use Rattle.model.specs.StepsRunsLaws.{or-else}
-use Rattle.model.specs.MachineKept.{LentKeeps}
-use Rattle.model_ops.specs.Rings.{St}
-use Rattle.model_ops.specs.Concrete.{concrete}
+use Rattle.script.specs.Cells.{Cell, Val, globals-cell, control-cell, allocator-cell, ep-cell, request-cell, paced-cell}
+use Rattle.script.specs.Statics.{isOn}
+use Rattle.script.specs.Steps.{Kind, reading, is, mayPut}
+use Rattle.script.specs.StepsRuns.{Keeps}
+use Rattle.script.specs.StepsRunsLaws.{or-else}
+use Rattle.script.specs.MachineKept.{LentKeeps}
+use Rattle.script_ops.specs.Rings.{St}
+use Rattle.script_ops.specs.Concrete.{concrete}
 use Rattle.proof_book.specs.LeavesLaws.{hand-leaves, rings-stay, put-stays, turnsRow, row-stays}
 use Rattle.proof_book.specs.ReadRoomLaws.{ReadRoom, room-stays, put-out, put-in, act-room, off}
 

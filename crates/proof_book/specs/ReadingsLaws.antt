@@ -3,15 +3,15 @@ use mathlib.Core.List.{List, _∷_}
 use mathlib.Core.Path.{_≡_, subst, sym}
 use Prim.Native.Nat.{zero, _≤_}
 use Rattle.state.specs.Driver.{Driver}
-use Rattle.model.specs.Script.{run}
-use Rattle.model.specs.Answers.{Answer}
-use Rattle.model.specs.Calls.{Config, Op, calls, startRow, interruptCode}
-use Rattle.model.specs.Machine.{Buf, Event, Machine, start}
-use Rattle.model.specs.Readings.{Continues, readings}
-use Rattle.model.specs.TransferKinds.{Along}
-use Rattle.model.specs.SortsAside.{Passes, passing-4056}
-use Rattle.model_ops.specs.Rings.{St}
-use Rattle.model_ops.specs.Concrete.{concrete}
+use Rattle.script.specs.Script.{run}
+use Rattle.script.specs.Answers.{Answer}
+use Rattle.script.specs.Calls.{Config, Op, calls, startRow, interruptCode}
+use Rattle.script.specs.Machine.{Buf, Event, Machine, start}
+use Rattle.script.specs.Readings.{Continues, readings}
+use Rattle.script.specs.TransferKinds.{Along}
+use Rattle.script.specs.SortsAside.{Passes, passing-4056}
+use Rattle.script_ops.specs.Rings.{St}
+use Rattle.script_ops.specs.Concrete.{concrete}
 use Rattle.machine.specs.Suspended.{driverOf}
 use Rattle.proof_book.specs.TransferKinds.{Has}
 use Rattle.proof_book.specs.TransferKindsLaws.{sorted}

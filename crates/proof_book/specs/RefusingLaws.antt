@@ -11,23 +11,23 @@ use Rattle.alloc.specs.declared.Answer.the-variants as alloc
 use Rattle.alloc.specs.Alloc.{allocateOf, allocateEp0Of}
 use Rattle.descriptor.specs.declared.Answer as reading-answer
 use Rattle.descriptor.specs.declared.Answer.the-variants as reading
-use Rattle.model.specs.Tree as tree
-use Rattle.model.specs.Tree.{ends, asks, bindOut}
-use Rattle.model.specs.Cells.{Cell, Val, globals-cell, control-cell, allocator-cell, ep-cell, request-cell, paced-cell}
-use Rattle.model.specs.Script.{Script, run, ret, bind, test, get-then, put-then, is-then, look-then, fetch-then}
-use Rattle.model.specs.Script.{act-then, Test, Look, Fetch, Act, complete, reset-ring, set-enabled, fill, fill0}
-use Rattle.model.specs.Script.{open-oldest, close-oldest, take-oldest, enqueue, allocate, allocate0, no-wakes, waken}
-use Rattle.model.specs.Answers.{Answer, Refused, End, NotYet, Done, Shown}
-use Rattle.model.specs.Driver.{allocEndpoint, allocated-as, started-as}
-use Rattle.model.specs.AllocateAll.{allocate-read}
-use Rattle.model.specs.Calls.{Config, Op, interrupt, slotted, other, aside, Slotted, SetEnabled, PollRead, BeginWrite}
-use Rattle.model.specs.Calls.{PollWrite, PollDataOut, BeginDataIn, Other, Allocate, AllocateAll, Start, BusPoll}
-use Rattle.model.specs.Calls.{BusEnable, BusDisable, Microframe, SetStalled, IsStalled, SetPaced, Advance, BeginRead}
-use Rattle.model.specs.Calls.{BeginSetup, PollSetup, PollDataIn, BeginAccept, PollAccept, BeginReject, BeginDataOut}
-use Rattle.model.specs.Calls.{BeginAcceptSetAddress, Aside, Open, Close, Queue, code, slottedCode, otherCode}
-use Rattle.model.specs.Calls.{asideCode, interruptCode, starting}
-use Rattle.model.specs.Steps.{is, plain, turning, receiving}
-use Rattle.model.specs.Steps as kinds
+use Rattle.script.specs.Tree as tree
+use Rattle.script.specs.Tree.{ends, asks, bindOut}
+use Rattle.script.specs.Cells.{Cell, Val, globals-cell, control-cell, allocator-cell, ep-cell, request-cell, paced-cell}
+use Rattle.script.specs.Script.{Script, run, ret, bind, test, get-then, put-then, is-then, look-then, fetch-then}
+use Rattle.script.specs.Script.{act-then, Test, Look, Fetch, Act, complete, reset-ring, set-enabled, fill, fill0}
+use Rattle.script.specs.Script.{open-oldest, close-oldest, take-oldest, enqueue, allocate, allocate0, no-wakes, waken}
+use Rattle.script.specs.Answers.{Answer, Refused, End, NotYet, Done, Shown}
+use Rattle.script.specs.Driver.{allocEndpoint, allocated-as, started-as}
+use Rattle.script.specs.AllocateAll.{allocate-read}
+use Rattle.script.specs.Calls.{Config, Op, interrupt, slotted, other, aside, Slotted, SetEnabled, PollRead, BeginWrite}
+use Rattle.script.specs.Calls.{PollWrite, PollDataOut, BeginDataIn, Other, Allocate, AllocateAll, Start, BusPoll}
+use Rattle.script.specs.Calls.{BusEnable, BusDisable, Microframe, SetStalled, IsStalled, SetPaced, Advance, BeginRead}
+use Rattle.script.specs.Calls.{BeginSetup, PollSetup, PollDataIn, BeginAccept, PollAccept, BeginReject, BeginDataOut}
+use Rattle.script.specs.Calls.{BeginAcceptSetAddress, Aside, Open, Close, Queue, code, slottedCode, otherCode}
+use Rattle.script.specs.Calls.{asideCode, interruptCode, starting}
+use Rattle.script.specs.Steps.{is, plain, turning, receiving}
+use Rattle.script.specs.Steps as kinds
 use Rattle.proof_book.specs.ActsLaws.{actKind}
 use Rattle.proof_book.specs.Pages.{Pages}
 use Rattle.proof_book.specs.Book.{Bk, putB, actB, isoOut, givenB, startedB, bookOps}

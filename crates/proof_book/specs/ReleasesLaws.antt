@@ -10,27 +10,27 @@ use Rattle.regs.specs.declared.Access.the-variants.{Write}
 use Rattle.regs.specs.declared.Reg.{Reg}
 use Rattle.regs.specs.declared.Reg.the-variants.{IntFg}
 use Rattle.regs.specs.declared.Dir.the-variants.{Out, In}
-use Rattle.model.specs.Tree as tree
-use Rattle.model.specs.Cells.{Cell, Val}
-use Rattle.model.specs.Script.{Script, run, rows, ret, bind, test, read-then, write-then, wait-then, callback-then}
-use Rattle.model.specs.Script.{get-then, put-then, is-then, look-then, fetch-then, act-then, hand-then, row-then, Test}
-use Rattle.model.specs.Script.{Look, Fetch, Act, DmaStep, dmaStepAsk, arrive, send, place, place0, Burst, switch}
-use Rattle.model.specs.Script.{bus-reset, lastOf, burstAsk}
-use Rattle.model.specs.Script.{complete, reset-ring, set-enabled, fill, fill0, open-oldest, close-oldest, take-oldest}
-use Rattle.model.specs.Script.{enqueue, allocate, allocate0, no-wakes, waken}
-use Rattle.model.specs.Bus as bus
-use Rattle.model.specs.Answers.{Answer}
-use Rattle.model.specs.Calls.{Config, Slotted, SetEnabled, PollRead, BeginWrite, PollWrite, PollDataOut, BeginDataIn}
-use Rattle.model.specs.Calls.{Other, Allocate, AllocateAll, Start, BusPoll, BusEnable, BusDisable, Microframe}
-use Rattle.model.specs.Calls.{SetStalled, IsStalled, SetPaced, Advance, BeginRead, BeginSetup, PollSetup, PollDataIn}
-use Rattle.model.specs.Calls.{BeginAccept, PollAccept, BeginReject, BeginDataOut, BeginAcceptSetAddress, Aside}
-use Rattle.model.specs.Calls.{slotted, other, aside, slottedCode, otherCode, asideCode}
-use Rattle.model.specs.Calls as the-calls
-use Rattle.model.specs.Every.{sameReg}
-use Rattle.model.specs.Steps.{Kind, plain, moving, turning, resetting, giving, queueing, kindOf, codeOf, is, mayAsk, mayPut, mayAct}
-use Rattle.model.specs.Steps.{mayRow, Asks, Steps}
-use Rattle.model.specs.StepsCalls.{call-steps, start-up-steps}
-use Rattle.model.specs.StepsRunsLaws.{if-true, if-so, Handed, kinds-apart, writes-flag}
+use Rattle.script.specs.Tree as tree
+use Rattle.script.specs.Cells.{Cell, Val}
+use Rattle.script.specs.Script.{Script, run, rows, ret, bind, test, read-then, write-then, wait-then, callback-then}
+use Rattle.script.specs.Script.{get-then, put-then, is-then, look-then, fetch-then, act-then, hand-then, row-then, Test}
+use Rattle.script.specs.Script.{Look, Fetch, Act, DmaStep, dmaStepAsk, arrive, send, place, place0, Burst, switch}
+use Rattle.script.specs.Script.{bus-reset, lastOf, burstAsk}
+use Rattle.script.specs.Script.{complete, reset-ring, set-enabled, fill, fill0, open-oldest, close-oldest, take-oldest}
+use Rattle.script.specs.Script.{enqueue, allocate, allocate0, no-wakes, waken}
+use Rattle.script.specs.Bus as bus
+use Rattle.script.specs.Answers.{Answer}
+use Rattle.script.specs.Calls.{Config, Slotted, SetEnabled, PollRead, BeginWrite, PollWrite, PollDataOut, BeginDataIn}
+use Rattle.script.specs.Calls.{Other, Allocate, AllocateAll, Start, BusPoll, BusEnable, BusDisable, Microframe}
+use Rattle.script.specs.Calls.{SetStalled, IsStalled, SetPaced, Advance, BeginRead, BeginSetup, PollSetup, PollDataIn}
+use Rattle.script.specs.Calls.{BeginAccept, PollAccept, BeginReject, BeginDataOut, BeginAcceptSetAddress, Aside}
+use Rattle.script.specs.Calls.{slotted, other, aside, slottedCode, otherCode, asideCode}
+use Rattle.script.specs.Calls as the-calls
+use Rattle.script.specs.Every.{sameReg}
+use Rattle.script.specs.Steps.{Kind, plain, moving, turning, resetting, giving, queueing, kindOf, codeOf, is, mayAsk, mayPut, mayAct}
+use Rattle.script.specs.Steps.{mayRow, Asks, Steps}
+use Rattle.script.specs.StepsCalls.{call-steps, start-up-steps}
+use Rattle.script.specs.StepsRunsLaws.{if-true, if-so, Handed, kinds-apart, writes-flag}
 use Rattle.proof_book.specs.Pages.{OutPage, InPage}
 use Rattle.proof_book.specs.Book.{Bk, rowB, handB, bookOps}
 use Rattle.proof_book.specs.BookTracksLaws.{Tracks, end, ask, earlier, tracks-bind}

@@ -21,14 +21,14 @@ use Rattle.state.specs.Laws.{Sized, key-apart, epOn-same, epOn-other}
 use Rattle.ring.specs.Slot.{countOf}
 use Rattle.ring.specs.Waiting.{SamePlace}
 use Rattle.ring.specs.Laws.{place-placed, reset-count, reset-waits, reset-ring}
-use Rattle.model.specs.Script.{bus-reset}
-use Rattle.model.specs.Simulates.{quiet, mid}
-use Rattle.model.specs.Statics.{isoOuts, withSetup}
-use Rattle.model.specs.Statics as statics
-use Rattle.model.specs.Machine.{Buf}
-use Rattle.model_ops.specs.Records.{plainOf}
-use Rattle.model_ops.specs.RingLaws.{renewed}
-use Rattle.model_ops.specs.Rings.{resetBelow, resetAll}
+use Rattle.script.specs.Script.{bus-reset}
+use Rattle.script.specs.Simulates.{quiet, mid}
+use Rattle.script.specs.Statics.{isoOuts, withSetup}
+use Rattle.script.specs.Statics as statics
+use Rattle.script.specs.Machine.{Buf}
+use Rattle.script_ops.specs.Records.{plainOf}
+use Rattle.script_ops.specs.RingLaws.{renewed}
+use Rattle.script_ops.specs.Rings.{resetBelow, resetAll}
 use Rattle.proof_book.specs.Pages.{OutPage, InPage, Pages}
 use Rattle.proof_book.specs.Book.{emptyOut, emptyIn, allReset}
 use Rattle.proof_book.specs.Coupling.{SameKept, lensOf, slotStamps, Held, OutFits, InFits, Coupling}

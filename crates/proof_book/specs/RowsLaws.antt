@@ -8,11 +8,11 @@ use Rattle.bits.specs.Bit.{isSet}
 use Rattle.regs.specs.declared.Dir.the-variants.{Out}
 use Rattle.state.specs.declared.EpState.{EpState}
 use Rattle.state.specs.Driver.{Driver, epOn}
-use Rattle.model.specs.Script.{Burst, switch, bus-reset, lastOf, burstAsk}
-use Rattle.model.specs.Simulates.{quiet, mid}
-use Rattle.model.specs.Statics.{isOn, isoOuts}
-use Rattle.model.specs.Machine.{Buf, blank}
-use Rattle.model_ops.specs.Concrete.{concrete}
+use Rattle.script.specs.Script.{Burst, switch, bus-reset, lastOf, burstAsk}
+use Rattle.script.specs.Simulates.{quiet, mid}
+use Rattle.script.specs.Statics.{isOn, isoOuts}
+use Rattle.script.specs.Machine.{Buf, blank}
+use Rattle.script_ops.specs.Concrete.{concrete}
 use Rattle.proof_book.specs.Pages.{OutPage, Pages}
 use Rattle.proof_book.specs.Book.{book}
 use Rattle.proof_book.specs.Coupling.{AtRest, InRow, Coupling, Good}

@@ -14,16 +14,16 @@ use Rattle.state.specs.declared.EpState.{EpState}
 use Rattle.state.specs.Driver.{Driver, epOn}
 use Rattle.alloc.specs.Alloc.{slotsOf}
 use Rattle.ring.specs.Slot.{slotOf, slotAddr, countOf}
-use Rattle.model.specs.Tree as tree
-use Rattle.model.specs.Tree.{ends, asks}
-use Rattle.model.specs.Cells.{EpCore}
-use Rattle.model.specs.Script.{run}
-use Rattle.model.specs.Simulates as phases
-use Rattle.model.specs.Answers.{Answer}
-use Rattle.model.specs.Calls.{Config, Op, interrupt, slotted, other, aside, calls, starting, startRow}
-use Rattle.model.specs.Machine.{Buf, Call, start, begin, go, question, Ans, handed, blankA, Way, idle}
-use Rattle.model.specs.Machine.{busy, Machine, over, misfit, stay, lentTo, beside, halt, begun, continued, started}
-use Rattle.model.specs.Machine.{fed}
+use Rattle.script.specs.Tree as tree
+use Rattle.script.specs.Tree.{ends, asks}
+use Rattle.script.specs.Cells.{EpCore}
+use Rattle.script.specs.Script.{run}
+use Rattle.script.specs.Simulates as phases
+use Rattle.script.specs.Answers.{Answer}
+use Rattle.script.specs.Calls.{Config, Op, interrupt, slotted, other, aside, calls, starting, startRow}
+use Rattle.script.specs.Machine.{Buf, Call, start, begin, go, question, Ans, handed, blankA, Way, idle}
+use Rattle.script.specs.Machine.{busy, Machine, over, misfit, stay, lentTo, beside, halt, begun, continued, started}
+use Rattle.script.specs.Machine.{fed}
 use Rattle.proof_book.specs.Pages.{InPage, Kept, Pages, withIn}
 use Rattle.proof_book.specs.Book.{Bk, front, sourceTold, freshPages, bookOps}
 use Rattle.proof_book.specs.Book.{book}

@@ -7,7 +7,7 @@ use mathlib.Core.Path.{_≡_, refl, ap, ap₂, subst, sym, _∙_}
 use Prim.Native.Nat.{ℕ, _%_}
 use lib.Dec.{eqb}
 use Rattle.regs.specs.declared.Dir.the-variants.{In}
-use Rattle.model.specs.Machine.{Buf}
+use Rattle.script.specs.Machine.{Buf}
 use Rattle.proof_book.specs.Pages.{InPage, Pages, withIn}
 use Rattle.proof_book.specs.Book.{some, front, emptyIn, passedIn, sentIn, withSending}
 use Rattle.proof_book.specs.Book.{placedIn, loadedIn}

@@ -21,15 +21,15 @@ use Rattle.alloc.specs.declared.Allocation.{Allocation}
 use Rattle.alloc.specs.Alloc.{if, refused, allocateOf, allocateEp0Of, withNext}
 use Rattle.alloc.specs.Outcome.{Outcome, six, seven, eight, given, outcome}
 use Rattle.ring.specs.Copies.{copied}
-use Rattle.model.specs.Tree as tree
-use Rattle.model.specs.Tree.{ends, asks, bindOut}
-use Rattle.model.specs.Cells.{EpCore, Cell, Val, globals-cell, control-cell, allocator-cell, ep-cell, request-cell}
-use Rattle.model.specs.Cells.{paced-cell}
-use Rattle.model.specs.Script.{Script, bind, look, write, next-len, run, rows, Act, complete, reset-ring, set-enabled, fill, fill0, open-oldest}
-use Rattle.model.specs.Script.{close-oldest, take-oldest, enqueue, allocate, allocate0, no-wakes, waken, DmaStep}
-use Rattle.model.specs.Script.{arrive, send, place, place0, Burst, switch, bus-reset, lastOf}
-use Rattle.model.specs.Statics.{wake}
-use Rattle.model.specs.Machine.{Buf}
+use Rattle.script.specs.Tree as tree
+use Rattle.script.specs.Tree.{ends, asks, bindOut}
+use Rattle.script.specs.Cells.{EpCore, Cell, Val, globals-cell, control-cell, allocator-cell, ep-cell, request-cell}
+use Rattle.script.specs.Cells.{paced-cell}
+use Rattle.script.specs.Script.{Script, bind, look, write, next-len, run, rows, Act, complete, reset-ring, set-enabled, fill, fill0, open-oldest}
+use Rattle.script.specs.Script.{close-oldest, take-oldest, enqueue, allocate, allocate0, no-wakes, waken, DmaStep}
+use Rattle.script.specs.Script.{arrive, send, place, place0, Burst, switch, bus-reset, lastOf}
+use Rattle.script.specs.Statics.{wake}
+use Rattle.script.specs.Machine.{Buf}
 use Rattle.proof_book.specs.Pages.{InPage, Pages, withIn, withKept, keptAllocator, keptPlain}
 use Rattle.proof_book.specs.Book.{Bk, some, mergedPlain, shapedPlain, emptyIn, passedIn, sentIn}
 use Rattle.proof_book.specs.Book.{placedIn, loadedIn, queuedIn, roomB, putB, actB, handB, rowB, isoOf, isoOut}

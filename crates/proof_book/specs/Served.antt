@@ -3,9 +3,9 @@
 use mathlib.Core.Bool.{Bool, false, cond}
 use Prim.Native.Nat.{ℕ, _+_}
 use Rattle.state.specs.Driver.{Driver}
-use Rattle.model.specs.Answers.{Answer}
-use Rattle.model.specs.Machine.{Ans, ended, handed, told, Way, idle, busy, Machine}
-use Rattle.model.specs.Readings.{reading}
+use Rattle.script.specs.Answers.{Answer}
+use Rattle.script.specs.Machine.{Ans, ended, handed, told, Way, idle, busy, Machine}
+use Rattle.script.specs.Readings.{reading}
 
 -- is an interrupt under way?
 abbrev pub serving : Way Answer Driver → Bool

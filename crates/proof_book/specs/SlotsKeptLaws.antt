@@ -13,12 +13,12 @@ use Rattle.regs.specs.declared.Dir.the-variants.{In}
 use Rattle.state.specs.declared.Allocator.{Allocator}
 use Rattle.state.specs.Driver.{Driver, epOn}
 use Rattle.alloc.specs.Alloc.{allocatedIn}
-use Rattle.model.specs.Simulates.{Phase}
-use Rattle.model.specs.Statics.{isOn}
-use Rattle.model.specs.Answers.{Answer}
-use Rattle.model.specs.Calls.{Config, Op, calls}
-use Rattle.model.specs.Machine.{Buf, Call, start, begin, go, question, misfit, Machine, Ans, ended, handed, told}
-use Rattle.model.specs.Agree.{After, GoodA, LentAlike, unless}
+use Rattle.script.specs.Simulates.{Phase}
+use Rattle.script.specs.Statics.{isOn}
+use Rattle.script.specs.Answers.{Answer}
+use Rattle.script.specs.Calls.{Config, Op, calls}
+use Rattle.script.specs.Machine.{Buf, Call, start, begin, go, question, misfit, Machine, Ans, ended, handed, told}
+use Rattle.script.specs.Agree.{After, GoodA, LentAlike, unless}
 use Rattle.machine.specs.Suspended.{driverOf}
 use Rattle.proof_book.specs.Pages.{Pages}
 use Rattle.proof_book.specs.Book.{book}

@@ -5,8 +5,8 @@ use Prim.Native.Nat.{ℕ, _+_, _≤_, _<_}
 use native.Mathlib.Omega.{arith}
 use lib.ListN.{length, length-append}
 use Rattle.ring.specs.Waiting.{Same}
-use Rattle.model.specs.Answers.{Answer}
-use Rattle.model.specs.Machine.{Buf, Machine}
+use Rattle.script.specs.Answers.{Answer}
+use Rattle.script.specs.Machine.{Buf, Machine}
 use Rattle.proof_book.specs.Pages.{Pages}
 use Rattle.proof_book.specs.FrontPage.{Made, noted, Chip, slotSize, BeingSent, Unwritten, Sends, still, passed-by}
 use Rattle.proof_book.specs.FrontPage.{emptied, EmptiedIn, AfterEach, slotsAfter, bookAfter, NotEnded, SlotsStay}

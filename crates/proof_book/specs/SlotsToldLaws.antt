@@ -8,24 +8,24 @@ use Rattle.regs.specs.declared.Dir.the-variants.{Out, In}
 use Rattle.alloc.specs.declared.Answer as alloc-answer
 use Rattle.alloc.specs.declared.Answer.the-variants as alloc
 use Rattle.alloc.specs.Alloc.{allocateEp0Of}
-use Rattle.model.specs.Tree as tree
-use Rattle.model.specs.Tree.{ends, asks}
-use Rattle.model.specs.Cells.{Cell, Val}
-use Rattle.model.specs.Script.{run, Act, complete, reset-ring, set-enabled, fill, fill0, open-oldest, close-oldest}
-use Rattle.model.specs.Script.{take-oldest, enqueue, allocate, allocate0, no-wakes, waken, DmaStep, arrive, send, place}
-use Rattle.model.specs.Script.{place0, Burst, switch, bus-reset}
-use Rattle.model.specs.Steps.{Kind, giving, kindOf, is, mayAct}
-use Rattle.model.specs.StepsRuns.{Holds, end, ask, Keeps}
-use Rattle.model.specs.StepsRunsLaws.{holds-run}
-use Rattle.model.specs.StepsCalls.{call-steps}
-use Rattle.model.specs.Answers.{Answer}
-use Rattle.model.specs.Calls.{Config, Op, interrupt, slotted, other, aside, Slotted, SetEnabled, PollRead, BeginWrite}
-use Rattle.model.specs.Calls.{PollWrite, PollDataOut, BeginDataIn, Other, Allocate, AllocateAll, Start, BusPoll}
-use Rattle.model.specs.Calls.{BusEnable, BusDisable, Microframe, SetStalled, IsStalled, SetPaced, Advance, BeginRead}
-use Rattle.model.specs.Calls.{BeginSetup, PollSetup, PollDataIn, BeginAccept, PollAccept, BeginReject, BeginDataOut}
-use Rattle.model.specs.Calls.{BeginAcceptSetAddress, calls, code}
-use Rattle.model.specs.Machine.{Buf, Call, begin, Ans, Way, idle, busy, Machine, misfit, lentTo}
-use Rattle.model.specs.Machine.{beside, halt, begun, fed}
+use Rattle.script.specs.Tree as tree
+use Rattle.script.specs.Tree.{ends, asks}
+use Rattle.script.specs.Cells.{Cell, Val}
+use Rattle.script.specs.Script.{run, Act, complete, reset-ring, set-enabled, fill, fill0, open-oldest, close-oldest}
+use Rattle.script.specs.Script.{take-oldest, enqueue, allocate, allocate0, no-wakes, waken, DmaStep, arrive, send, place}
+use Rattle.script.specs.Script.{place0, Burst, switch, bus-reset}
+use Rattle.script.specs.Steps.{Kind, giving, kindOf, is, mayAct}
+use Rattle.script.specs.StepsRuns.{Holds, end, ask, Keeps}
+use Rattle.script.specs.StepsRunsLaws.{holds-run}
+use Rattle.script.specs.StepsCalls.{call-steps}
+use Rattle.script.specs.Answers.{Answer}
+use Rattle.script.specs.Calls.{Config, Op, interrupt, slotted, other, aside, Slotted, SetEnabled, PollRead, BeginWrite}
+use Rattle.script.specs.Calls.{PollWrite, PollDataOut, BeginDataIn, Other, Allocate, AllocateAll, Start, BusPoll}
+use Rattle.script.specs.Calls.{BusEnable, BusDisable, Microframe, SetStalled, IsStalled, SetPaced, Advance, BeginRead}
+use Rattle.script.specs.Calls.{BeginSetup, PollSetup, PollDataIn, BeginAccept, PollAccept, BeginReject, BeginDataOut}
+use Rattle.script.specs.Calls.{BeginAcceptSetAddress, calls, code}
+use Rattle.script.specs.Machine.{Buf, Call, begin, Ans, Way, idle, busy, Machine, misfit, lentTo}
+use Rattle.script.specs.Machine.{beside, halt, begun, fed}
 use Rattle.proof_book.specs.Pages.{Packet, OutPage, Pages, withOut}
 use Rattle.proof_book.specs.Book.{Bk, putB, actB, handB, rowB, some, waitsOn, roomB, isoOf, isoOut, receiving}
 use Rattle.proof_book.specs.Book.{emptyOut, openOut, readOut, arrived, joined, overrun, packetB, startedB}

@@ -9,8 +9,8 @@ use Rattle.regs.specs.declared.Dir.{Dir}
 use Rattle.state.specs.Driver.{Driver, epOn}
 use Rattle.alloc.specs.Alloc.{takenIn}
 use Rattle.alloc.specs.Sound.{Sound}
-use Rattle.model.specs.Statics.{isOn}
-use Rattle.model.specs.TransferKinds.{TransferKinds}
+use Rattle.script.specs.Statics.{isOn}
+use Rattle.script.specs.TransferKinds.{TransferKinds}
 use Rattle.proof_book.specs.TransferKinds.{Has}
 
 -- an endpoint's sort is its record's flag

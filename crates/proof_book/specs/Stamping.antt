@@ -11,10 +11,10 @@ use Rattle.regs.specs.declared.Reg.the-variants.{FrameNo}
 use Rattle.frame.specs.Usb20.{indexOf}
 use Rattle.state.specs.Driver.{Driver}
 use Rattle.state.specs.State.{view}
-use Rattle.model.specs.Every.{sameReg}
-use Rattle.model.specs.Answers.{Answer}
-use Rattle.model.specs.Calls.{Config, Op}
-use Rattle.model.specs.Machine.{Buf, Call, start, begin, go, question, Event, Ans, ended, handed, told, Way, idle, busy, Machine}
+use Rattle.script.specs.Every.{sameReg}
+use Rattle.script.specs.Answers.{Answer}
+use Rattle.script.specs.Calls.{Config, Op}
+use Rattle.script.specs.Machine.{Buf, Call, start, begin, go, question, Event, Ans, ended, handed, told, Way, idle, busy, Machine}
 use Rattle.machine.specs.Suspended.{drive, machineOf}
 use Rattle.proof_book.specs.FrontPage.{Made, ringStamps}
 

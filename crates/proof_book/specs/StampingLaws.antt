@@ -14,19 +14,19 @@ use Rattle.regs.specs.declared.Dir.the-variants.{Out}
 use Rattle.frame.specs.Usb20.{indexOf}
 use Rattle.state.specs.declared.Globals.{Globals}
 use Rattle.state.specs.Driver.{Driver, key, stampKey, noEp, epOn, stampOn}
-use Rattle.model.specs.Tree as tree
-use Rattle.model.specs.Tree.{ends, asks}
-use Rattle.model.specs.Script.{run}
-use Rattle.model.specs.Simulates.{Phase}
-use Rattle.model.specs.Answers.{Answer, Refused, resultless}
-use Rattle.model.specs.Calls.{Config, Op, interrupt, slotted, other, aside, Aside, asideCode, code, calls, startRow, interruptCode}
-use Rattle.model.specs.Handler.{onInterrupt, stampedInterrupt}
-use Rattle.model.specs.Machine.{Buf, Call, start, begin, go, question, Event, Ans, Awaits, awaited}
-use Rattle.model.specs.Machine.{Way, idle, busy, Machine, fed, blankA, over, misfit, stay, lentTo, beside, halt, begun}
-use Rattle.model.specs.Machine.{started}
-use Rattle.model.specs.Agree.{Ways, both-idle, both-busy, After, agrees, from-start}
-use Rattle.model_ops.specs.Rings.{St}
-use Rattle.model_ops.specs.Concrete.{concrete}
+use Rattle.script.specs.Tree as tree
+use Rattle.script.specs.Tree.{ends, asks}
+use Rattle.script.specs.Script.{run}
+use Rattle.script.specs.Simulates.{Phase}
+use Rattle.script.specs.Answers.{Answer, Refused, resultless}
+use Rattle.script.specs.Calls.{Config, Op, interrupt, slotted, other, aside, Aside, asideCode, code, calls, startRow, interruptCode}
+use Rattle.script.specs.Handler.{onInterrupt, stampedInterrupt}
+use Rattle.script.specs.Machine.{Buf, Call, start, begin, go, question, Event, Ans, Awaits, awaited}
+use Rattle.script.specs.Machine.{Way, idle, busy, Machine, fed, blankA, over, misfit, stay, lentTo, beside, halt, begun}
+use Rattle.script.specs.Machine.{started}
+use Rattle.script.specs.Agree.{Ways, both-idle, both-busy, After, agrees, from-start}
+use Rattle.script_ops.specs.Rings.{St}
+use Rattle.script_ops.specs.Concrete.{concrete}
 use Rattle.state.specs.State.{view}
 use Rattle.machine.specs.Suspended.{driverOf, drive, machineOf}
 use Rattle.proof_book.specs.Pages.{stampsOf, Pages}

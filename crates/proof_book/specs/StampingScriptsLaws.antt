@@ -10,13 +10,13 @@ use lib.Dec.{eqb, ltb}
 use lib.ListN.{length}
 use Rattle.regs.specs.declared.Access.{Access}
 use Rattle.regs.specs.declared.Dir.the-variants.{Out, In}
-use Rattle.model.specs.Tree as tree
-use Rattle.model.specs.Tree.{ends, asks, bindOut}
-use Rattle.model.specs.Cells.{Cell, Val, globals-cell, control-cell, allocator-cell, ep-cell, request-cell, paced-cell}
-use Rattle.model.specs.Script.{Script, ret, bind, test, read-then, write-then, wait-then, callback-then, get-then}
-use Rattle.model.specs.Script.{put-then, is-then, look-then, fetch-then, act-then, hand-then, row-then, run, Act}
-use Rattle.model.specs.Script.{complete, reset-ring, set-enabled, fill, fill0, open-oldest, close-oldest, take-oldest}
-use Rattle.model.specs.Script.{enqueue, allocate, allocate0, no-wakes, waken, DmaStep, arrive, send, place, place0}
+use Rattle.script.specs.Tree as tree
+use Rattle.script.specs.Tree.{ends, asks, bindOut}
+use Rattle.script.specs.Cells.{Cell, Val, globals-cell, control-cell, allocator-cell, ep-cell, request-cell, paced-cell}
+use Rattle.script.specs.Script.{Script, ret, bind, test, read-then, write-then, wait-then, callback-then, get-then}
+use Rattle.script.specs.Script.{put-then, is-then, look-then, fetch-then, act-then, hand-then, row-then, run, Act}
+use Rattle.script.specs.Script.{complete, reset-ring, set-enabled, fill, fill0, open-oldest, close-oldest, take-oldest}
+use Rattle.script.specs.Script.{enqueue, allocate, allocate0, no-wakes, waken, DmaStep, arrive, send, place, place0}
 use Rattle.proof_book.specs.Pages.{Packet, stampsOf, OutPage, Pages, withOut}
 use Rattle.proof_book.specs.Book.{Bk, joined, overrun, arrived, packetB, getB, putB, actB, handB, arriveB, receiving, bookOps}
 use Rattle.proof_book.specs.KeepingLaws.{Says, Gives, ChangesOnly, calm}

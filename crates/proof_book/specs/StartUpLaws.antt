@@ -18,8 +18,8 @@ use Rattle.state.specs.Driver.{Driver, key, epOn, lenOn, pacedOn, requestOn}
 use Rattle.alloc.specs.Alloc.{allocatedIn}
 use Rattle.alloc.specs.Run.{step}
 use Rattle.alloc.specs.Sound.{Sound}
-use Rattle.model.specs.Simulates.{quiet}
-use Rattle.model.specs.Machine.{Buf}
+use Rattle.script.specs.Simulates.{quiet}
+use Rattle.script.specs.Machine.{Buf}
 use Rattle.state.specs.Ep.{newEp}
 use Rattle.state.specs.Fresh.{freshDriver}
 use Rattle.state.specs.Driver.{noEp, noRequest, lenKey}
@@ -30,9 +30,9 @@ use Rattle.alloc.specs.Alloc.{if}
 use Rattle.alloc.specs.SoundLaws.{sound-fresh}
 use Rattle.bits.specs.TablesLaws.{getD-tab, length-tab}
 use Rattle.ring.specs.Laws.{reset-count, reset-waits, reset-ring}
-use Rattle.model.specs.Statics.{isOn, flag}
-use Rattle.model.specs.Calls.{Config, startRow}
-use Rattle.model_ops.specs.Records.{plainOf}
+use Rattle.script.specs.Statics.{isOn, flag}
+use Rattle.script.specs.Calls.{Config, startRow}
+use Rattle.script_ops.specs.Records.{plainOf}
 use Rattle.proof_book.specs.Pages.{OutPage}
 use Rattle.proof_book.specs.Book.{freshPages}
 use Rattle.proof_book.specs.Coupling.{Coupling, Held, AtRest, lensOf, slotStamps}

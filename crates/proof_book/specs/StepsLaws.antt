@@ -13,11 +13,11 @@ use Rattle.regs.specs.EnablesLaws.{on-with}
 use Rattle.state.specs.declared.Globals.{Globals}
 use Rattle.state.specs.Kept.{withEpConfig}
 use Rattle.state.specs.Driver.{Driver, epOn, lenOn, stampOn, pacedOn, requestOn, withGlobals}
-use Rattle.model.specs.Script.{Burst, burstAsk}
-use Rattle.model.specs.Simulates.{Phase, mid}
-use Rattle.model.specs.Statics.{isoOuts}
-use Rattle.model.specs.Machine.{Buf, blank}
-use Rattle.model_ops.specs.Rings.{rowOn}
+use Rattle.script.specs.Script.{Burst, burstAsk}
+use Rattle.script.specs.Simulates.{Phase, mid}
+use Rattle.script.specs.Statics.{isoOuts}
+use Rattle.script.specs.Machine.{Buf, blank}
+use Rattle.script_ops.specs.Rings.{rowOn}
 use Rattle.proof_book.specs.Pages.{Pages, withKept, keptGlobals}
 use Rattle.proof_book.specs.Book.{rowB, feedB}
 use Rattle.proof_book.specs.KeptLaws.{same-values}

@@ -3,10 +3,10 @@ use mathlib.Core.Bool.{Bool, true, false, cond, true≢false}
 use mathlib.Core.Path.{_≡_, refl, sym}
 use Prim.Native.Nat.{ℕ, zero, suc}
 use lib.Dec.{eqb}
-use Rattle.model.specs.Answers.{Answer}
-use Rattle.model.specs.Calls.{Config, Op, calls, startRow}
-use Rattle.model.specs.Machine.{Buf, Call, start, begin, go, question, Ans, Way, idle, busy, Machine, over, misfit}
-use Rattle.model.specs.Machine.{stay, lentTo, begun, continued, started, fed}
+use Rattle.script.specs.Answers.{Answer}
+use Rattle.script.specs.Calls.{Config, Op, calls, startRow}
+use Rattle.script.specs.Machine.{Buf, Call, start, begin, go, question, Ans, Way, idle, busy, Machine, over, misfit}
+use Rattle.script.specs.Machine.{stay, lentTo, begun, continued, started, fed}
 use Rattle.proof_book.specs.Pages.{Pages}
 use Rattle.proof_book.specs.Book.{book}
 use Rattle.proof_book.specs.FrontPage.{written, keepsOut, notGoing, stopped}

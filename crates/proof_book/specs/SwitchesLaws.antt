@@ -28,14 +28,14 @@ use Rattle.ring.specs.OutLaws.{armed-alike}
 use Rattle.ring.specs.Marks.{armed}
 use Rattle.ring.specs.Only as marks
 use Rattle.ring.specs.MarksSlots.{armed-slot}
-use Rattle.model.specs.Cells.{EpCore}
-use Rattle.model.specs.Script.{switch}
-use Rattle.model.specs.Simulates.{Phase, quiet, mid}
-use Rattle.model.specs.Statics.{isOn, isoOuts}
-use Rattle.model.specs.Statics as statics
-use Rattle.model.specs.Machine.{Buf}
-use Rattle.model_ops.specs.Records.{plainOf}
-use Rattle.model_ops.specs.Rings.{St, renewedOn, armAt, slotStep, typeStep, configStep}
+use Rattle.script.specs.Cells.{EpCore}
+use Rattle.script.specs.Script.{switch}
+use Rattle.script.specs.Simulates.{Phase, quiet, mid}
+use Rattle.script.specs.Statics.{isOn, isoOuts}
+use Rattle.script.specs.Statics as statics
+use Rattle.script.specs.Machine.{Buf}
+use Rattle.script_ops.specs.Records.{plainOf}
+use Rattle.script_ops.specs.Rings.{St, renewedOn, armAt, slotStep, typeStep, configStep}
 use Rattle.proof_book.specs.Pages.{OutPage, Kept, Pages, withKept, withOut, keptPlain}
 use Rattle.proof_book.specs.Book.{emptyOut, slotTold, isoOf, feedB}
 use Rattle.proof_book.specs.Coupling.{SameKept, endOf, lensOf, slotStamps, OutFits, AtRest, Switching, InRow, Arming, Coupling}

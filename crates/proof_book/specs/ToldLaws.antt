@@ -16,19 +16,19 @@ use Rattle.state.specs.declared.Allocator.{Allocator}
 use Rattle.state.specs.declared.Globals.{Globals}
 use Rattle.state.specs.Driver.{Driver, epOn}
 use Rattle.alloc.specs.Alloc.{allocatedIn}
-use Rattle.model.specs.Tree as tree
-use Rattle.model.specs.Tree.{ends, asks}
-use Rattle.model.specs.Cells.{EpCore}
-use Rattle.model.specs.Script.{run}
-use Rattle.model.specs.SortsWalks.{among-outs}
-use Rattle.model.specs.Simulates.{Phase}
-use Rattle.model.specs.Statics.{isOn, isoOuts}
-use Rattle.model.specs.Answers.{Answer, Refused, isAllocated}
-use Rattle.model.specs.Endpoint.{tooLong}
-use Rattle.model.specs.Calls.{Config, Op, slotted, aside, Aside, Open, Close, Queue, SetEnabled, PollRead, setEnabled}
-use Rattle.model.specs.Calls.{calls, code, starting, startRow}
-use Rattle.model.specs.Machine.{Buf, Call, start, begin, go, question, Ans, ended, handed, told, blankA, Way, idle}
-use Rattle.model.specs.Machine.{busy, Machine, over, misfit, stay, lentTo, beside, halt, begun, continued, started, fed}
+use Rattle.script.specs.Tree as tree
+use Rattle.script.specs.Tree.{ends, asks}
+use Rattle.script.specs.Cells.{EpCore}
+use Rattle.script.specs.Script.{run}
+use Rattle.script.specs.SortsWalks.{among-outs}
+use Rattle.script.specs.Simulates.{Phase}
+use Rattle.script.specs.Statics.{isOn, isoOuts}
+use Rattle.script.specs.Answers.{Answer, Refused, isAllocated}
+use Rattle.script.specs.Endpoint.{tooLong}
+use Rattle.script.specs.Calls.{Config, Op, slotted, aside, Aside, Open, Close, Queue, SetEnabled, PollRead, setEnabled}
+use Rattle.script.specs.Calls.{calls, code, starting, startRow}
+use Rattle.script.specs.Machine.{Buf, Call, start, begin, go, question, Ans, ended, handed, told, blankA, Way, idle}
+use Rattle.script.specs.Machine.{busy, Machine, over, misfit, stay, lentTo, beside, halt, begun, continued, started, fed}
 use Rattle.proof_book.specs.Pages.{bytesOf, OutPage, Pages}
 use Rattle.proof_book.specs.Book.{Bk, some, isoOf, roomB, receiving, slotTold, freshPages, bookOps, book}
 use Rattle.proof_book.specs.Coupling.{Shape, Coupling}

@@ -7,8 +7,8 @@ use lib.ListN.{length}
 use Rattle.regs.specs.declared.Dir.{Dir}
 use Rattle.regs.specs.declared.Dir.the-variants.{Out, In}
 use Rattle.state.specs.Driver.{Driver, epOn}
-use Rattle.model.specs.Statics.{isOn}
-use Rattle.model.specs.TransferKinds.{TransferKinds, Among}
+use Rattle.script.specs.Statics.{isOn}
+use Rattle.script.specs.TransferKinds.{TransferKinds, Among}
 
 -- ---- what leaves the flags and the sets
 

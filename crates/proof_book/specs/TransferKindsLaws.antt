@@ -5,12 +5,12 @@ use Prim.Native.Nat.{ℕ}
 use lib.ListN.{length}
 use Rattle.regs.specs.declared.Dir.{Dir}
 use Rattle.state.specs.Driver.{Driver, epOn}
-use Rattle.model.specs.Cells.{Cell, Val, globals-cell, control-cell, allocator-cell, ep-cell, request-cell, paced-cell}
-use Rattle.model.specs.Script.{Act, DmaStep, Burst}
-use Rattle.model.specs.Statics.{isOn}
-use Rattle.model.specs.TransferKinds.{TransferKinds, Shows, allocates, Sorted}
-use Rattle.model_ops.specs.Rings.{St}
-use Rattle.model_ops.specs.Concrete.{concrete}
+use Rattle.script.specs.Cells.{Cell, Val, globals-cell, control-cell, allocator-cell, ep-cell, request-cell, paced-cell}
+use Rattle.script.specs.Script.{Act, DmaStep, Burst}
+use Rattle.script.specs.Statics.{isOn}
+use Rattle.script.specs.TransferKinds.{TransferKinds, Shows, allocates, Sorted}
+use Rattle.script_ops.specs.Rings.{St}
+use Rattle.script_ops.specs.Concrete.{concrete}
 use Rattle.proof_book.specs.LeavesLaws.{RingsOnly, GivenStays, given-stays, rings-stay, put-given, turns, act-leaves, hand-leaves, turnsRow, row-stays}
 use Rattle.proof_book.specs.TransferKinds.{Steady, Has}
 

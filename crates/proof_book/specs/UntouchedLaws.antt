@@ -23,16 +23,16 @@ use Rattle.ring.specs.MarksSlots.{armed-slot, only-copied}
 use Rattle.ring.specs.Stored.{StoredAlone}
 use Rattle.ring.specs.Only as marks
 use Rattle.ring.specs.OnlyLaws as marks-laws
-use Rattle.model.specs.Cells.{Cell, Val, globals-cell, control-cell, allocator-cell, ep-cell, request-cell, paced-cell}
-use Rattle.model.specs.Script.{Act, complete, reset-ring, set-enabled, fill, fill0, open-oldest, close-oldest}
-use Rattle.model.specs.Script.{take-oldest, enqueue, allocate, allocate0, no-wakes, waken, DmaStep, arrive, send, place}
-use Rattle.model.specs.Script.{place0, Burst, switch, bus-reset}
-use Rattle.model.specs.Simulates.{Phase, quiet}
-use Rattle.model.specs.Statics.{isOn}
-use Rattle.model.specs.Machine.{Buf}
-use Rattle.model_ops.specs.Rings.{St, roomOn, queuedOn, enqueueOn, filledOn, filledEp0, arrivedAt, arriveOn, renewedOn, armAt, slotStep}
-use Rattle.model_ops.specs.RingLaws.{room-fits}
-use Rattle.model_ops.specs.Concrete.{concrete}
+use Rattle.script.specs.Cells.{Cell, Val, globals-cell, control-cell, allocator-cell, ep-cell, request-cell, paced-cell}
+use Rattle.script.specs.Script.{Act, complete, reset-ring, set-enabled, fill, fill0, open-oldest, close-oldest}
+use Rattle.script.specs.Script.{take-oldest, enqueue, allocate, allocate0, no-wakes, waken, DmaStep, arrive, send, place}
+use Rattle.script.specs.Script.{place0, Burst, switch, bus-reset}
+use Rattle.script.specs.Simulates.{Phase, quiet}
+use Rattle.script.specs.Statics.{isOn}
+use Rattle.script.specs.Machine.{Buf}
+use Rattle.script_ops.specs.Rings.{St, roomOn, queuedOn, enqueueOn, filledOn, filledEp0, arrivedAt, arriveOn, renewedOn, armAt, slotStep}
+use Rattle.script_ops.specs.RingLaws.{room-fits}
+use Rattle.script_ops.specs.Concrete.{concrete}
 use Rattle.proof_book.specs.Pages.{Pages}
 use Rattle.proof_book.specs.Coupling.{endOf, Apart, Coupling}
 use Rattle.proof_book.specs.LensLaws.{key-other}

@@ -13,18 +13,18 @@ use Rattle.state.specs.State.{view}
 use Rattle.ring.specs.Marks.{markedLen}
 use Rattle.ring.specs.Copies.{bytesAt}
 use Rattle.ring.specs.Finds.{LastDiffers}
-use Rattle.model.specs.Answers.{Answer}
-use Rattle.model.specs.Script.{Act}
-use Rattle.model.specs.Script.{DmaStep, arrive, send, place}
-use Rattle.model.specs.Script.{place0, Burst, switch, bus-reset}
-use Rattle.model.specs.Calls.{Config, Op, calls}
-use Rattle.model.specs.Machine as machine
-use Rattle.model.specs.Machine.{Buf, Call, start, begin, go, question, Event, Ans, Machine, misfit, fed, call}
+use Rattle.script.specs.Answers.{Answer}
+use Rattle.script.specs.Script.{Act}
+use Rattle.script.specs.Script.{DmaStep, arrive, send, place}
+use Rattle.script.specs.Script.{place0, Burst, switch, bus-reset}
+use Rattle.script.specs.Calls.{Config, Op, calls}
+use Rattle.script.specs.Machine as machine
+use Rattle.script.specs.Machine.{Buf, Call, start, begin, go, question, Event, Ans, Machine, misfit, fed, call}
 use Rattle.machine.specs.Suspended.{driverOf, drive, machineOf}
 use Rattle.proof_book.specs.Pages.{Pages}
 use Rattle.proof_book.specs.Book.{Bk, receiving, isoOf, getB, putB, isB, lookB, fetchB, actB, handB, rowB, freshPages, questionB, feedB, book}
 use Rattle.proof_book.specs.FrontPage.{Made, CallStep, Chip, unless}
-use Rattle.model.specs.TransferKinds.{allocates}
+use Rattle.script.specs.TransferKinds.{allocates}
 
 -- ---- how often a slot of OUT e was armed
 

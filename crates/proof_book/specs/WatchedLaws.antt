@@ -17,12 +17,12 @@ use Rattle.ring.specs.Marks.{markByte, reach, armed, markedLen}
 use Rattle.ring.specs.Copies.{bytesAt}
 use Rattle.ring.specs.Finds.{LastDiffers}
 use Rattle.ring.specs.MarksSlots.{only-armed, armed-empties, len-is}
-use Rattle.model.specs.Cells.{EpCore, Cell, Val, globals-cell, control-cell, allocator-cell, ep-cell, request-cell, paced-cell}
-use Rattle.model.specs.Script.{Act, complete, reset-ring, set-enabled, fill, fill0, open-oldest, close-oldest}
-use Rattle.model.specs.Script.{take-oldest, enqueue, allocate, allocate0, no-wakes, waken}
-use Rattle.model.specs.Simulates.{Phase}
-use Rattle.model.specs.Statics.{isOn}
-use Rattle.model.specs.Machine.{Buf}
+use Rattle.script.specs.Cells.{EpCore, Cell, Val, globals-cell, control-cell, allocator-cell, ep-cell, request-cell, paced-cell}
+use Rattle.script.specs.Script.{Act, complete, reset-ring, set-enabled, fill, fill0, open-oldest, close-oldest}
+use Rattle.script.specs.Script.{take-oldest, enqueue, allocate, allocate0, no-wakes, waken}
+use Rattle.script.specs.Simulates.{Phase}
+use Rattle.script.specs.Statics.{isOn}
+use Rattle.script.specs.Machine.{Buf}
 use Rattle.proof_book.specs.Pages.{OutPage, Pages, at, withOut}
 use Rattle.proof_book.specs.Book.{some, waitsOn, openOut, readOut, roomB}
 use Rattle.proof_book.specs.Book.{isoOut, putB, actB, isoOf}

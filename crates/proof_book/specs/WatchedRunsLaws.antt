@@ -15,19 +15,19 @@ use Rattle.state.specs.Laws.{Sized}
 use Rattle.state.specs.State.{view}
 use Rattle.ring.specs.Out.{cappedAt}
 use Rattle.ring.specs.Marks.{armed}
-use Rattle.model.specs.Answers.{Answer}
-use Rattle.model.specs.Cells.{EpCore}
-use Rattle.model.specs.Script.{Act}
-use Rattle.model.specs.Script.{DmaStep, arrive, send, place}
-use Rattle.model.specs.Script.{place0, dmaStepAsk, Burst, switch, bus-reset, burstAsk, lastOf}
-use Rattle.model.specs.Simulates.{Phase, quiet}
-use Rattle.model.specs.Statics.{isOn, isoOuts, renewed}
-use Rattle.model.specs.Calls.{Config, Op, calls, startRow}
-use Rattle.model.specs.Machine.{Buf, Call, start, begin, go, question, Event, Ans, Machine, misfit, fed, started}
-use Rattle.model.specs.Agree.{Agree, After, All, Lawful, LentAlike, Ways, unless, agrees, from-start}
-use Rattle.model_ops.specs.Concrete.{concrete}
-use Rattle.model_ops.specs.Rings.{St, renewedOn, slotStep}
-use Rattle.model_ops.specs.Late.{arms-slot, arrive-arms, slot-arms}
+use Rattle.script.specs.Answers.{Answer}
+use Rattle.script.specs.Cells.{EpCore}
+use Rattle.script.specs.Script.{Act}
+use Rattle.script.specs.Script.{DmaStep, arrive, send, place}
+use Rattle.script.specs.Script.{place0, dmaStepAsk, Burst, switch, bus-reset, burstAsk, lastOf}
+use Rattle.script.specs.Simulates.{Phase, quiet}
+use Rattle.script.specs.Statics.{isOn, isoOuts, renewed}
+use Rattle.script.specs.Calls.{Config, Op, calls, startRow}
+use Rattle.script.specs.Machine.{Buf, Call, start, begin, go, question, Event, Ans, Machine, misfit, fed, started}
+use Rattle.script.specs.Agree.{Agree, After, All, Lawful, LentAlike, Ways, unless, agrees, from-start}
+use Rattle.script_ops.specs.Concrete.{concrete}
+use Rattle.script_ops.specs.Rings.{St, renewedOn, slotStep}
+use Rattle.script_ops.specs.Late.{arms-slot, arrive-arms, slot-arms}
 use Rattle.machine.specs.Suspended.{driverOf, drive, machineOf}
 use Rattle.proof_book.specs.Pages.{OutPage, Pages, withOut, withKept, keptPlain}
 use Rattle.proof_book.specs.Book.{emptyOut, slotTold, arrived, packetB, receiving, isoOf, putB, actB, handB, rowB, feedB}
@@ -44,7 +44,7 @@ use Rattle.proof_book.specs.FrontPage as page
 use Rattle.proof_book.specs.Watched.{Watch, WatchedBook, armsBy, watchHand, watchRow, watchAct, watched, Stored}
 use Rattle.proof_book.specs.Watched.{TrueLength, noted, LentBy, AllLent, TrueLengths, RunLent, TrueLengthsMade}
 use Rattle.proof_book.specs.WatchedLaws.{Clean, clean-stored, Stays, clean-moved, put-stays, act-stays, clean-armed, true-length}
-use Rattle.model.specs.TransferKinds.{allocates}
+use Rattle.script.specs.TransferKinds.{allocates}
 
 abbrev numberOf : DmaStep → ℕ
 numberOf (arrive f n) = f

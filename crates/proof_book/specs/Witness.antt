@@ -7,10 +7,10 @@ use Prim.Native.Nat.{ℕ, zero, suc}
 use lib.ListN.{length}
 use Rattle.regs.specs.declared.Dir.the-variants.{Out, In}
 use Rattle.state.specs.Driver.{Driver}
-use Rattle.model.specs.Statics.{flag}
-use Rattle.model.specs.Answers.{Answer}
-use Rattle.model.specs.Calls.{Config, Op, interrupt, slotted, other, aside, SetEnabled, Allocate, Start, Open, Close, Queue, startRow}
-use Rattle.model.specs.Machine.{Buf, Call, start, begin, go, question, overruns, Event, idle, Machine}
+use Rattle.script.specs.Statics.{flag}
+use Rattle.script.specs.Answers.{Answer}
+use Rattle.script.specs.Calls.{Config, Op, interrupt, slotted, other, aside, SetEnabled, Allocate, Start, Open, Close, Queue, startRow}
+use Rattle.script.specs.Machine.{Buf, Call, start, begin, go, question, overruns, Event, idle, Machine}
 use Rattle.machine.specs.Suspended.{driverOf, drive}
 use Rattle.proof_book.specs.Pages.{Pages}
 use Rattle.proof_book.specs.Book.{freshPages}

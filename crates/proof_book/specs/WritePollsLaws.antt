@@ -7,13 +7,13 @@ use lib.Dec.{eqb}
 use lib.ListN.{length}
 use Rattle.regs.specs.declared.Dir.the-variants.{In}
 use Rattle.regs.specs.Enables as enables
-use Rattle.model.specs.Tree as tree
-use Rattle.model.specs.Script.{run}
-use Rattle.model.specs.Statics.{isOn}
-use Rattle.model.specs.Answers.{Answer, Refused, isAllocated}
-use Rattle.model.specs.Endpoint.{pollWrite}
-use Rattle.model.specs.Calls.{slotted, PollWrite, calls}
-use Rattle.model.specs.Machine.{Buf, begin, Ans, ended, Way, idle, busy, Machine, misfit, stay, lentTo, halt, begun, fed}
+use Rattle.script.specs.Tree as tree
+use Rattle.script.specs.Script.{run}
+use Rattle.script.specs.Statics.{isOn}
+use Rattle.script.specs.Answers.{Answer, Refused, isAllocated}
+use Rattle.script.specs.Endpoint.{pollWrite}
+use Rattle.script.specs.Calls.{slotted, PollWrite, calls}
+use Rattle.script.specs.Machine.{Buf, begin, Ans, ended, Way, idle, busy, Machine, misfit, stay, lentTo, halt, begun, fed}
 use Rattle.proof_book.specs.Pages.{Pages}
 use Rattle.proof_book.specs.Book.{Bk, isoOf, roomB, bookOps, book}
 use Rattle.proof_book.specs.FrontPage.{isDone, Joins, written}

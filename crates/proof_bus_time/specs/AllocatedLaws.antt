@@ -9,16 +9,16 @@ use borrow.Author.Tests.{eqb-true, eqb-false}
 use Rattle.regs.specs.declared.Access.{Access}
 use Rattle.regs.specs.declared.Dir.{Dir}
 use Rattle.state.specs.Driver.{Driver, epOn}
-use Rattle.model.specs.Tree as tree
-use Rattle.model.specs.Tree.{asks}
-use Rattle.model.specs.Script.{run}
-use Rattle.model.specs.Answers.{Answer, Refused}
-use Rattle.model.specs.Calls as the-calls
-use Rattle.model.specs.Calls.{Config, Op, slots, passes, irq, code, startRow, calls}
-use Rattle.model.specs.Machine.{Buf, Call, start, begin, go, question, Way, idle, busy, Machine, ended, lentTo, misfit}
-use Rattle.model.specs.Machine.{stay, halt, beside, begun, continued, started, over}
-use Rattle.model_ops.specs.Rings.{St}
-use Rattle.model_ops.specs.Concrete.{concrete}
+use Rattle.script.specs.Tree as tree
+use Rattle.script.specs.Tree.{asks}
+use Rattle.script.specs.Script.{run}
+use Rattle.script.specs.Answers.{Answer, Refused}
+use Rattle.script.specs.Calls as the-calls
+use Rattle.script.specs.Calls.{Config, Op, slots, passes, irq, code, startRow, calls}
+use Rattle.script.specs.Machine.{Buf, Call, start, begin, go, question, Way, idle, busy, Machine, ended, lentTo, misfit}
+use Rattle.script.specs.Machine.{stay, halt, beside, begun, continued, started, over}
+use Rattle.script_ops.specs.Rings.{St}
+use Rattle.script_ops.specs.Concrete.{concrete}
 use Rattle.machine.specs.Suspended.{driverOf, drive}
 use Rattle.answer.specs.Goes.{Called}
 use Rattle.calls.specs.Sharing.{Sort, starting, going, opSort, sortOf, timeAfter, turnedDown, settled, sharedCall}

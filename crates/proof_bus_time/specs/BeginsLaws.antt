@@ -14,17 +14,17 @@ use Rattle.regs.specs.Enables.{place}
 use Rattle.state.specs.declared.EpState.{EpState}
 use Rattle.state.specs.Driver.{Driver, epOn}
 use Rattle.state.specs.Fresh.{freshDriver}
-use Rattle.model.specs.Tree as tree
-use Rattle.model.specs.Tree.{ends, asks, bindOut}
-use Rattle.model.specs.Script.{Script, ret, run, row, switch, no-wakes}
-use Rattle.model.specs.Statics.{isOn, wake}
-use Rattle.model.specs.Answers.{Answer, Refused, operation, resultless, isAllocated}
-use Rattle.model.specs.Bus as bus
-use Rattle.model.specs.Calls.{Config, Op, slotted, other, SetEnabled, code, otherCode}
-use Rattle.model.specs.Calls as the-calls
-use Rattle.model.specs.Machine.{Buf}
-use Rattle.model_ops.specs.Rings.{St}
-use Rattle.model_ops.specs.Concrete.{concrete}
+use Rattle.script.specs.Tree as tree
+use Rattle.script.specs.Tree.{ends, asks, bindOut}
+use Rattle.script.specs.Script.{Script, ret, run, row, switch, no-wakes}
+use Rattle.script.specs.Statics.{isOn, wake}
+use Rattle.script.specs.Answers.{Answer, Refused, operation, resultless, isAllocated}
+use Rattle.script.specs.Bus as bus
+use Rattle.script.specs.Calls.{Config, Op, slotted, other, SetEnabled, code, otherCode}
+use Rattle.script.specs.Calls as the-calls
+use Rattle.script.specs.Machine.{Buf}
+use Rattle.script_ops.specs.Rings.{St}
+use Rattle.script_ops.specs.Concrete.{concrete}
 use Rattle.machine.specs.Suspended.{driverOf, finish}
 use Rattle.proof_book.specs.CellsLaws.{epOn-by}
 use Rattle.req_bus_time.specs.Time.{chargeOf}

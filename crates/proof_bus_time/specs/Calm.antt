@@ -1,9 +1,9 @@
 -- Calm scripts: they write no ep_config, enable or disable nothing and, unless they may give, allocate nothing
 use mathlib.Core.Bool.{Bool, not}
 use Rattle.regs.specs.declared.Access.{Access}
-use Rattle.model.specs.Script.{Script}
-pub use Rattle.model.specs.Steps.{If}
-use Rattle.model.specs.EveryLaws.{OnlyBy}
+use Rattle.script.specs.Script.{Script}
+pub use Rattle.script.specs.Steps.{If}
+use Rattle.script.specs.EveryLaws.{OnlyBy}
 use Rattle.proof_bus_time.specs.Enabled.{writesConfig}
 use Rattle.proof_bus_time.specs.StaysLaws.{allowed}
 

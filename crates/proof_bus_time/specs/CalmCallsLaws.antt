@@ -7,28 +7,28 @@ use Rattle.regs.specs.declared.Access.{Access}
 use Rattle.regs.specs.declared.Access.the-variants.{Read, Write, Wait, Callback}
 use Rattle.regs.specs.declared.Reg.the-variants.{EpConfig}
 use Rattle.regs.specs.declared.Dir.{Dir}
-use Rattle.model.specs.Script.{Script, run, ret, bind, test, read-then, write-then, wait-then, callback-then, get-then}
-use Rattle.model.specs.Script.{put-then, is-then, look-then, fetch-then, act-then, hand-then, row-then, Act, complete}
-use Rattle.model.specs.Script.{reset-ring, set-enabled, fill, fill0, open-oldest, close-oldest, take-oldest, enqueue}
-use Rattle.model.specs.Script.{allocate, allocate0, no-wakes, waken, dmaStepAsk, Burst, switch, bus-reset}
-use Rattle.model.specs.Calls.{Config, Op, interrupt, slotted, other, aside, Slotted, SetEnabled, PollRead, BeginWrite}
-use Rattle.model.specs.Calls.{PollWrite, PollDataOut, BeginDataIn, Other, Allocate, AllocateAll, Start, BusPoll}
-use Rattle.model.specs.Calls.{BusEnable, BusDisable, Microframe, SetStalled, IsStalled, SetPaced, Advance, BeginRead}
-use Rattle.model.specs.Calls.{BeginSetup, PollSetup, PollDataIn, BeginAccept, PollAccept, BeginReject, BeginDataOut}
-use Rattle.model.specs.Calls.{BeginAcceptSetAddress, Aside, otherCode, asideCode, code}
-use Rattle.model.specs.Calls as the-calls
-use Rattle.model.specs.Tree.{ends}
-use Rattle.model.specs.Answers.{Refused}
-use Rattle.model.specs.Every.{sameReg}
-use Rattle.model.specs.EveryLaws.{of-write}
+use Rattle.script.specs.Script.{Script, run, ret, bind, test, read-then, write-then, wait-then, callback-then, get-then}
+use Rattle.script.specs.Script.{put-then, is-then, look-then, fetch-then, act-then, hand-then, row-then, Act, complete}
+use Rattle.script.specs.Script.{reset-ring, set-enabled, fill, fill0, open-oldest, close-oldest, take-oldest, enqueue}
+use Rattle.script.specs.Script.{allocate, allocate0, no-wakes, waken, dmaStepAsk, Burst, switch, bus-reset}
+use Rattle.script.specs.Calls.{Config, Op, interrupt, slotted, other, aside, Slotted, SetEnabled, PollRead, BeginWrite}
+use Rattle.script.specs.Calls.{PollWrite, PollDataOut, BeginDataIn, Other, Allocate, AllocateAll, Start, BusPoll}
+use Rattle.script.specs.Calls.{BusEnable, BusDisable, Microframe, SetStalled, IsStalled, SetPaced, Advance, BeginRead}
+use Rattle.script.specs.Calls.{BeginSetup, PollSetup, PollDataIn, BeginAccept, PollAccept, BeginReject, BeginDataOut}
+use Rattle.script.specs.Calls.{BeginAcceptSetAddress, Aside, otherCode, asideCode, code}
+use Rattle.script.specs.Calls as the-calls
+use Rattle.script.specs.Tree.{ends}
+use Rattle.script.specs.Answers.{Refused}
+use Rattle.script.specs.Every.{sameReg}
+use Rattle.script.specs.EveryLaws.{of-write}
 use Rattle.regs.specs.Registers.{numberOf}
 use Rattle.proof_bus_time.specs.Enabled.{writesConfig}
-use Rattle.model.specs.Steps.{Kind, plain, turning, resetting, giving, starting, queueing, kindOf, is, mayAsk, mayPut}
-use Rattle.model.specs.Steps.{mayWrite, mayAct, mayRow, Asks, Steps}
-use Rattle.model.specs.StepsCalls.{call-steps, start-up-steps}
-use Rattle.model.specs.StepsRunsLaws.{if-true, if-so, Handed, writes-config}
-use Rattle.model_ops.specs.Rings.{St}
-use Rattle.model_ops.specs.Concrete.{concrete}
+use Rattle.script.specs.Steps.{Kind, plain, turning, resetting, giving, starting, queueing, kindOf, is, mayAsk, mayPut}
+use Rattle.script.specs.Steps.{mayWrite, mayAct, mayRow, Asks, Steps}
+use Rattle.script.specs.StepsCalls.{call-steps, start-up-steps}
+use Rattle.script.specs.StepsRunsLaws.{if-true, if-so, Handed, writes-config}
+use Rattle.script_ops.specs.Rings.{St}
+use Rattle.script_ops.specs.Concrete.{concrete}
 use Rattle.calls.specs.Sharing.{opSort, apart}
 use Rattle.proof_bus_time.specs.StaysLaws.{allowed}
 use Rattle.proof_bus_time.specs.Calm.{If, Quiet, Calm}

@@ -9,10 +9,10 @@ use Rattle.regs.specs.declared.Access.{Access}
 use Rattle.regs.specs.declared.Dir.{Dir}
 use Rattle.regs.specs.Enables.{place}
 use Rattle.state.specs.Driver.{Driver}
-use Rattle.model.specs.Answers.{Answer}
-use Rattle.model.specs.Calls.{Config, Op, interrupt, slotted, other, aside}
-use Rattle.model.specs.Kinds.{resetting, is, kindOf, Part, apart, begins, polls, turns, partOf}
-use Rattle.model.specs.Machine.{Call, start, begin, go, question, Ans, ended, handed, told}
+use Rattle.script.specs.Answers.{Answer}
+use Rattle.script.specs.Calls.{Config, Op, interrupt, slotted, other, aside}
+use Rattle.script.specs.Kinds.{resetting, is, kindOf, Part, apart, begins, polls, turns, partOf}
+use Rattle.script.specs.Machine.{Call, start, begin, go, question, Ans, ended, handed, told}
 use Rattle.calls.specs.Sharing.{chargeOn}
 use Rattle.proof_bus_time.specs.History.{Line}
 use Rattle.proof_bus_time.specs.Enabled.{writesConfig, sumOf}

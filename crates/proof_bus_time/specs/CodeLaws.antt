@@ -7,9 +7,9 @@ use lib.Dec.{eqb}
 use lib.ListN.{replicate}
 use Rattle.state.specs.State.{view, saved}
 use Rattle.state.specs.Driver.{Driver}
-use Rattle.model.specs.Answers.{Answer}
-use Rattle.model.specs.Calls.{Config, Op}
-use Rattle.model.specs.Machine.{Buf, Call, Machine, idle, Ans, ended, handed, told}
+use Rattle.script.specs.Answers.{Answer}
+use Rattle.script.specs.Calls.{Config, Op}
+use Rattle.script.specs.Machine.{Buf, Call, Machine, idle, Ans, ended, handed, told}
 use Rattle.machine.specs.Suspended.{decode, drive, machineOf}
 use Rattle.answer.specs.Goes.{Called}
 use Rattle.req_bus_time.specs.Time.{inUse, uncharged}

@@ -3,13 +3,13 @@ use mathlib.Core.Bool.{Bool, true, false, not, cond, true≢false}
 use mathlib.Core.Path.{_≡_, refl, sym, _∙_}
 use Prim.Native.Nat.{ℕ, zero, suc}
 use Rattle.state.specs.Driver.{Driver}
-use Rattle.model.specs.Tree as tree
-use Rattle.model.specs.Answers.{Answer}
-use Rattle.model.specs.Calls.{Config, Op, slots, passes, irq, code, startRow, calls}
-use Rattle.model.specs.Machine.{Buf, Call, start, begin, go, question, Way, idle, busy, Machine, lentTo, misfit, stay, halt, beside, begun, started}
-use Rattle.model_ops.specs.Rings.{St}
-use Rattle.model_ops.specs.Concrete.{concrete}
-use Rattle.model.specs.Script.{run}
+use Rattle.script.specs.Tree as tree
+use Rattle.script.specs.Answers.{Answer}
+use Rattle.script.specs.Calls.{Config, Op, slots, passes, irq, code, startRow, calls}
+use Rattle.script.specs.Machine.{Buf, Call, start, begin, go, question, Way, idle, busy, Machine, lentTo, misfit, stay, halt, beside, begun, started}
+use Rattle.script_ops.specs.Rings.{St}
+use Rattle.script_ops.specs.Concrete.{concrete}
+use Rattle.script.specs.Script.{run}
 use Rattle.machine.specs.Suspended.{driverOf, drive}
 use Rattle.answer.specs.Goes.{Called}
 use Rattle.calls.specs.Sharing.{going, sortOf}

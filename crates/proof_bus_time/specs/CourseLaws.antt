@@ -12,14 +12,14 @@ use Rattle.regs.specs.declared.Dir.{Dir}
 use Rattle.regs.specs.declared.Dir.the-variants.{Out, In}
 use Rattle.regs.specs.Enables.{place}
 use Rattle.state.specs.Driver.{Driver}
-use Rattle.model.specs.Tree as tree
-use Rattle.model.specs.Answers.{Answer, Refused}
-use Rattle.model.specs.Calls.{Config, Op, interrupt, slotted, other, aside, SetEnabled, PollRead, BeginWrite}
-use Rattle.model.specs.Calls.{PollWrite, PollDataOut, BeginDataIn, asideCode, slots, irq, startRow, calls}
-use Rattle.model.specs.Machine.{Buf, Call, start, begin, go, question, Way, idle, busy, Awaits, Machine, ended, lentTo}
-use Rattle.model.specs.Machine.{misfit, stay, halt, beside, begun, continued, started, over}
-use Rattle.model.specs.Kinds.{resetting, is, kindOf}
-use Rattle.model_ops.specs.Rings.{St}
+use Rattle.script.specs.Tree as tree
+use Rattle.script.specs.Answers.{Answer, Refused}
+use Rattle.script.specs.Calls.{Config, Op, interrupt, slotted, other, aside, SetEnabled, PollRead, BeginWrite}
+use Rattle.script.specs.Calls.{PollWrite, PollDataOut, BeginDataIn, asideCode, slots, irq, startRow, calls}
+use Rattle.script.specs.Machine.{Buf, Call, start, begin, go, question, Way, idle, busy, Awaits, Machine, ended, lentTo}
+use Rattle.script.specs.Machine.{misfit, stay, halt, beside, begun, continued, started, over}
+use Rattle.script.specs.Kinds.{resetting, is, kindOf}
+use Rattle.script_ops.specs.Rings.{St}
 use Rattle.machine.specs.Suspended.{driverOf, drive}
 use Rattle.answer.specs.Goes.{Called}
 use Rattle.calls.specs.Sharing.{starting, opSort, sortOf, chargeOn, timeAfter, turnedDown, settled, sharedCall}

@@ -14,9 +14,9 @@ use Rattle.regs.specs.Enables as enables
 use Rattle.regs.specs.Enables.{place}
 use Rattle.state.specs.Driver.{Driver}
 use Rattle.alloc.specs.Alloc.{takenIn}
-use Rattle.model.specs.Every.{onWrite, sameReg}
-use Rattle.model.specs.Answers.{Answer}
-use Rattle.model.specs.Machine.{Way, idle, busy, Machine, Ans, ended, handed, told}
+use Rattle.script.specs.Every.{onWrite, sameReg}
+use Rattle.script.specs.Answers.{Answer}
+use Rattle.script.specs.Machine.{Way, idle, busy, Machine, Ans, ended, handed, told}
 use Rattle.req_bus_time.specs.Time.{uncharged}
 use Rattle.calls.specs.Sharing.{Sort, enabling, starting, going, apart, sortOf, chargeOn}
 use Rattle.proof_bus_time.specs.Four.{Four}

@@ -16,15 +16,15 @@ use Rattle.alloc.specs.Alloc.{takenIn, isIso, withNext}
 use Rattle.alloc.specs.Outcome as outcomes
 use Rattle.alloc.specs.Outcome.{sameDir, Takes, Outcome, six, seven, eight, given, outcome}
 use Rattle.alloc.specs.Run.{ep0, Step, kept, gave-ep0, step}
-use Rattle.model.specs.Tree as tree
-use Rattle.model.specs.Tree.{ends, asks, bindOut}
-use Rattle.model.specs.Script.{Script, ret, bind, test, read-then, write-then, wait-then, callback-then, get-then}
-use Rattle.model.specs.Script.{put-then, is-then, look-then, fetch-then, act-then, hand-then, row-then, run, rows}
-use Rattle.model.specs.Script.{lastOf, Act}
-use Rattle.model.specs.Script.{Burst}
-use Rattle.model_ops.specs.Records.{recordGiven, setsGiven, givenTo, allocatedOn, startedWith, allocatedEp0}
-use Rattle.model_ops.specs.Rings.{St}
-use Rattle.model_ops.specs.Concrete.{concrete}
+use Rattle.script.specs.Tree as tree
+use Rattle.script.specs.Tree.{ends, asks, bindOut}
+use Rattle.script.specs.Script.{Script, ret, bind, test, read-then, write-then, wait-then, callback-then, get-then}
+use Rattle.script.specs.Script.{put-then, is-then, look-then, fetch-then, act-then, hand-then, row-then, run, rows}
+use Rattle.script.specs.Script.{lastOf, Act}
+use Rattle.script.specs.Script.{Burst}
+use Rattle.script_ops.specs.Records.{recordGiven, setsGiven, givenTo, allocatedOn, startedWith, allocatedEp0}
+use Rattle.script_ops.specs.Rings.{St}
+use Rattle.script_ops.specs.Concrete.{concrete}
 use Rattle.proof_book.specs.CellsLaws.{on-key}
 use Rattle.proof_book.specs.LeavesLaws.{RingsOnly, turns, by-act, hand-leaves, givenOf, GivenStays, given-stays, rings-stay, put-given, turnsRow, row-stays}
 use Rattle.proof_bus_time.specs.Enabled.{isTaken}

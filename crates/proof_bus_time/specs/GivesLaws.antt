@@ -18,7 +18,7 @@ use Rattle.alloc.specs.declared.Answer.the-variants.{Refused, Given}
 use Rattle.alloc.specs.declared.Allocation.{Allocation}
 use Rattle.alloc.specs.Alloc.{isOut, takenIn, allocated, allocateOf}
 use Rattle.alloc.specs.Outcome.{sameDir, Outcome, six, seven, eight, given, outcome}
-use Rattle.model_ops.specs.Records.{recordGiven, setsGiven, givenTo, allocatedOn}
+use Rattle.script_ops.specs.Records.{recordGiven, setsGiven, givenTo, allocatedOn}
 use Rattle.proof_bus_time.specs.Enabled.{isTaken}
 
 -- the number that was given

@@ -18,10 +18,10 @@ use Rattle.regs.specs.declared.Dir.{Dir}
 use Rattle.regs.specs.declared.Dir.the-variants.{Out, In}
 use Rattle.regs.specs.Enables.{place}
 use Rattle.state.specs.Driver.{Driver}
-use Rattle.model.specs.Every.{sameReg}
-use Rattle.model.specs.Answers.{Answer, Refused}
-use Rattle.model.specs.Calls.{calls}
-use Rattle.model.specs.Machine.{Buf, Machine, Ans, ended, handed, told, lentTo}
+use Rattle.script.specs.Every.{sameReg}
+use Rattle.script.specs.Answers.{Answer, Refused}
+use Rattle.script.specs.Calls.{calls}
+use Rattle.script.specs.Machine.{Buf, Machine, Ans, ended, handed, told, lentTo}
 use Rattle.machine.specs.Suspended.{driverOf, drive}
 use Rattle.answer.specs.Goes.{Called}
 use Rattle.req_bus_time.specs.Time.{entryOf, total, inUse, entryKept, kept, keepOf, uncharged}

@@ -9,10 +9,10 @@ use Rattle.regs.specs.declared.Access.{Access}
 use Rattle.regs.specs.declared.Reg.the-variants.{EpConfig}
 use Rattle.regs.specs.Enables.{place}
 use Rattle.state.specs.Driver.{Driver}
-use Rattle.model.specs.Every.{onWrite, sameReg}
-use Rattle.model.specs.Answers.{Answer}
-use Rattle.model.specs.Calls.{Config, Op}
-use Rattle.model.specs.Machine.{Call, Ans, ended, handed, told}
+use Rattle.script.specs.Every.{onWrite, sameReg}
+use Rattle.script.specs.Answers.{Answer}
+use Rattle.script.specs.Calls.{Config, Op}
+use Rattle.script.specs.Machine.{Call, Ans, ended, handed, told}
 use Rattle.calls.specs.Sharing.{Sort, enabling, starting, going, apart, sortOf, chargeOn}
 use Rattle.proof_bus_time.specs.Four.{Four, Turn, called, next}
 

@@ -7,15 +7,15 @@ use Rattle.regs.specs.declared.Access.the-variants.{Read, Write, Receive, Trans
 use Rattle.regs.specs.declared.Reg.the-variants.{EpConfig}
 use Rattle.bits.specs.Bit.{isSet}
 use Rattle.state.specs.Driver.{Driver}
-use Rattle.model.specs.Tree as tree
-use Rattle.model.specs.Tree.{ends, asks, bindOut}
-use Rattle.model.specs.Cells.{Cell, Val}
-use Rattle.model.specs.Script.{Script, ret, bind, test, read-then, write-then, wait-then, callback-then, get-then}
-use Rattle.model.specs.Script.{put-then, is-then, look-then, fetch-then, act-then, hand-then, row-then, Act, DmaStep, dmaStepAsk}
-use Rattle.model.specs.Script.{run}
-use Rattle.model.specs.Every.{sameReg}
-use Rattle.model_ops.specs.Rings.{St}
-use Rattle.model_ops.specs.Concrete.{concrete}
+use Rattle.script.specs.Tree as tree
+use Rattle.script.specs.Tree.{ends, asks, bindOut}
+use Rattle.script.specs.Cells.{Cell, Val}
+use Rattle.script.specs.Script.{Script, ret, bind, test, read-then, write-then, wait-then, callback-then, get-then}
+use Rattle.script.specs.Script.{put-then, is-then, look-then, fetch-then, act-then, hand-then, row-then, Act, DmaStep, dmaStepAsk}
+use Rattle.script.specs.Script.{run}
+use Rattle.script.specs.Every.{sameReg}
+use Rattle.script_ops.specs.Rings.{St}
+use Rattle.script_ops.specs.Concrete.{concrete}
 use Rattle.proof_bus_time.specs.History.{cleared}
 use Rattle.proof_bus_time.specs.Enabled.{writesConfig}
 use Rattle.proof_bus_time.specs.StaysLaws.{configOf, Stays, allowed, put-stays, act-stays, hand-stays, gives-config}

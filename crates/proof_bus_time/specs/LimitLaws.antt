@@ -12,9 +12,9 @@ use Rattle.regs.specs.declared.Reg.the-variants.{EpConfig}
 use Rattle.regs.specs.declared.Dir.{Dir}
 use Rattle.regs.specs.declared.Dir.the-variants.{Out, In}
 use Rattle.state.specs.Driver.{Driver}
-use Rattle.model.specs.Every.{sameReg}
-use Rattle.model.specs.Answers.{Answer}
-use Rattle.model.specs.Machine.{Buf, Machine, Ans, ended, handed, told}
+use Rattle.script.specs.Every.{sameReg}
+use Rattle.script.specs.Answers.{Answer}
+use Rattle.script.specs.Machine.{Buf, Machine, Ans, ended, handed, told}
 use Rattle.machine.specs.Suspended.{drive}
 use Rattle.req_bus_time.specs.Time.{entryOf, total, inUse, passes, keepOf, uncharged}
 use Rattle.req_bus_time.specs.TimeLaws.{length-keep, keep-le, total-set}

@@ -10,8 +10,8 @@ use Rattle.regs.specs.declared.Dir.{Dir}
 use Rattle.regs.specs.declared.Dir.the-variants.{Out, In}
 use Rattle.regs.specs.Enables.{place}
 use Rattle.state.specs.Driver.{Driver}
-use Rattle.model.specs.Answers.{Answer}
-use Rattle.model.specs.Machine.{Way, idle}
+use Rattle.script.specs.Answers.{Answer}
+use Rattle.script.specs.Machine.{Way, idle}
 use Rattle.req_bus_time.specs.Time.{inUse}
 use Rattle.calls.specs.Sharing.{chargeOn}
 use Rattle.proof_bus_time.specs.Four.{Four, Turn, after}

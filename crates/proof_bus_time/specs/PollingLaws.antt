@@ -8,15 +8,15 @@ use Rattle.regs.specs.Enables as enables
 use Rattle.regs.specs.Enables.{place}
 use Rattle.state.specs.Driver.{Driver}
 use Rattle.state.specs.Wakes.{every-endpoint}
-use Rattle.model.specs.Tree as tree
-use Rattle.model.specs.Tree.{ends}
-use Rattle.model.specs.Script.{Script, bind, test, run, rows, waken, bus-reset}
-use Rattle.model.specs.Statics.{wakeAll}
-use Rattle.model.specs.Answers.{operation}
-use Rattle.model.specs.Bus as bus
-use Rattle.model.specs.Bus.{nakAll}
-use Rattle.model_ops.specs.Rings.{St}
-use Rattle.model_ops.specs.Concrete.{concrete}
+use Rattle.script.specs.Tree as tree
+use Rattle.script.specs.Tree.{ends}
+use Rattle.script.specs.Script.{Script, bind, test, run, rows, waken, bus-reset}
+use Rattle.script.specs.Statics.{wakeAll}
+use Rattle.script.specs.Answers.{operation}
+use Rattle.script.specs.Bus as bus
+use Rattle.script.specs.Bus.{nakAll}
+use Rattle.script_ops.specs.Rings.{St}
+use Rattle.script_ops.specs.Concrete.{concrete}
 use Rattle.calls.specs.Sharing.{chargeOn}
 use Rattle.proof_bus_time.specs.Charged.{polls-bus, givenBack}
 use Rattle.proof_bus_time.specs.HistoriesLaws.{none-set}

@@ -12,16 +12,16 @@ use Rattle.regs.specs.declared.Dir.the-variants.{Out, In}
 use Rattle.regs.specs.Enables as enables
 use Rattle.regs.specs.Enables.{place}
 use Rattle.state.specs.Driver.{Driver, epOn}
-use Rattle.model.specs.Tree as tree
-use Rattle.model.specs.Tree.{ends}
-use Rattle.model.specs.Script.{run, rows, switch, bus-reset}
-use Rattle.model.specs.Statics.{isOn, wakeAll}
-use Rattle.model.specs.Every.{Chip, Every, at-end, at-ask}
-use Rattle.model.specs.EveryLaws.{every-bind}
-use Rattle.model.specs.Bus.{nakAll, busReset, setEnabledOut, setEnabled}
-use Rattle.model_ops.specs.Records.{isoOut, configured, enabledOn}
-use Rattle.model_ops.specs.Rings.{St, configStep}
-use Rattle.model_ops.specs.Concrete.{concrete}
+use Rattle.script.specs.Tree as tree
+use Rattle.script.specs.Tree.{ends}
+use Rattle.script.specs.Script.{run, rows, switch, bus-reset}
+use Rattle.script.specs.Statics.{isOn, wakeAll}
+use Rattle.script.specs.Every.{Chip, Every, at-end, at-ask}
+use Rattle.script.specs.EveryLaws.{every-bind}
+use Rattle.script.specs.Bus.{nakAll, busReset, setEnabledOut, setEnabled}
+use Rattle.script_ops.specs.Records.{isoOut, configured, enabledOn}
+use Rattle.script_ops.specs.Rings.{St, configStep}
+use Rattle.script_ops.specs.Concrete.{concrete}
 use Rattle.proof_bus_time.specs.History.{cleared}
 use Rattle.proof_bus_time.specs.HistoriesLaws.{none-set}
 

@@ -7,9 +7,9 @@ use Prim.Native.Nat.{ℕ, _%_}
 use lib.Dec.{eqb}
 use borrow.Author.Tests.{eqb-true}
 use Rattle.state.specs.Driver.{Driver}
-use Rattle.model.specs.Answers.{Answer, Refused}
-use Rattle.model.specs.Calls.{Config, Op, calls}
-use Rattle.model.specs.Machine.{Buf, Call, question, pending, Event, Machine, ended, lentTo}
+use Rattle.script.specs.Answers.{Answer, Refused}
+use Rattle.script.specs.Calls.{Config, Op, calls}
+use Rattle.script.specs.Machine.{Buf, Call, question, pending, Event, Machine, ended, lentTo}
 use Rattle.machine.specs.Suspended.{driverOf, drive}
 use Rattle.answer.specs.Goes.{Called}
 use Rattle.proof_book.specs.Always as alone

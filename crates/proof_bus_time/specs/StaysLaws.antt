@@ -12,16 +12,16 @@ use Rattle.state.specs.Driver.{Driver, epOn, withOn}
 use Rattle.alloc.specs.declared.Answer.{Answer}
 use Rattle.alloc.specs.declared.Answer.the-variants.{Refused, Given}
 use Rattle.alloc.specs.Alloc.{isIso}
-use Rattle.model.specs.Cells.{Cell, Val}
-use Rattle.model.specs.Script.{Act}
-use Rattle.model.specs.Script.{DmaStep}
-use Rattle.model.specs.Script.{switch, bus-reset}
-use Rattle.model.specs.TransferKinds.{allocates}
-use Rattle.model.specs.Statics.{isOn}
-use Rattle.model_ops.specs.Records.{isoOut, configured, enabledOn, isoAdded, withSets, recordGiven, setsGiven, givenTo, allocatedOn, startedWith, allocatedEp0}
-use Rattle.model_ops.specs.Rings.{St}
-use Rattle.model_ops.specs.Rings.{configStep, switchStep, resetStep}
-use Rattle.model_ops.specs.Concrete.{concrete}
+use Rattle.script.specs.Cells.{Cell, Val}
+use Rattle.script.specs.Script.{Act}
+use Rattle.script.specs.Script.{DmaStep}
+use Rattle.script.specs.Script.{switch, bus-reset}
+use Rattle.script.specs.TransferKinds.{allocates}
+use Rattle.script.specs.Statics.{isOn}
+use Rattle.script_ops.specs.Records.{isoOut, configured, enabledOn, isoAdded, withSets, recordGiven, setsGiven, givenTo, allocatedOn, startedWith, allocatedEp0}
+use Rattle.script_ops.specs.Rings.{St}
+use Rattle.script_ops.specs.Rings.{configStep, switchStep, resetStep}
+use Rattle.script_ops.specs.Concrete.{concrete}
 use Rattle.proof_book.specs.LeavesLaws.{RingsOnly, turns, act-leaves, by-act, hand-leaves, givenOf, GivenStays, RequestsStay, given-stays, rings-stay}
 use Rattle.proof_book.specs.LeavesLaws.{put-given, turnsRow, row-stays}
 

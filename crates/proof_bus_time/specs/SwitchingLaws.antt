@@ -12,15 +12,15 @@ use Rattle.regs.specs.Enables as enables
 use Rattle.regs.specs.Enables.{place}
 use Rattle.state.specs.Driver.{Driver, epOn}
 use Rattle.state.specs.Wakes.{wakeCode}
-use Rattle.model.specs.Tree as tree
-use Rattle.model.specs.Tree.{ends}
-use Rattle.model.specs.Script.{Script, bind, run, rows, waken, switch}
-use Rattle.model.specs.Statics.{isOn, wake}
-use Rattle.model.specs.Bus as bus
-use Rattle.model.specs.Calls.{slotted, SetEnabled}
-use Rattle.model_ops.specs.Records.{isoOut}
-use Rattle.model_ops.specs.Rings.{St, configStep}
-use Rattle.model_ops.specs.Concrete.{concrete}
+use Rattle.script.specs.Tree as tree
+use Rattle.script.specs.Tree.{ends}
+use Rattle.script.specs.Script.{Script, bind, run, rows, waken, switch}
+use Rattle.script.specs.Statics.{isOn, wake}
+use Rattle.script.specs.Bus as bus
+use Rattle.script.specs.Calls.{slotted, SetEnabled}
+use Rattle.script_ops.specs.Records.{isoOut}
+use Rattle.script_ops.specs.Rings.{St, configStep}
+use Rattle.script_ops.specs.Concrete.{concrete}
 use Rattle.req_bus_time.specs.Time.{chargeOf}
 use Rattle.calls.specs.Sharing.{chargeOn}
 use Rattle.proof_bus_time.specs.Enabled.{isEnabled}

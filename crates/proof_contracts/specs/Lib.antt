@@ -17,3 +17,5 @@ pub mod FourDrivers
 pub mod Together
 pub mod TogetherLaws
 pub mod SharedStepsLaws
+pub mod Charged
+pub mod Witness

@@ -8,12 +8,12 @@ use mathlib.Core.Path.{_≡_}
 use Prim.Native.Nat.{ℕ, zero}
 use Rattle.state.specs.State.{saved}
 use Rattle.state.specs.Fresh.{nothing}
-use Rattle.model.specs.Answers.{Answer}
-use Rattle.model.specs.Calls.{Config, Op}
-use Rattle.model.specs.Calls.{startRow}
-use Rattle.model.specs.Calls as calls
-use Rattle.model.specs.Kinds.{pacing, is, kindOf}
-use Rattle.model.specs.Machine.{Buf, Call, start, begin, go, question, idle, Ans}
+use Rattle.script.specs.Answers.{Answer}
+use Rattle.script.specs.Calls.{Config, Op}
+use Rattle.script.specs.Calls.{startRow}
+use Rattle.script.specs.Calls as calls
+use Rattle.script.specs.Kinds.{pacing, is, kindOf}
+use Rattle.script.specs.Machine.{Buf, Call, start, begin, go, question, idle, Ans}
 use Rattle.machine.specs.Suspended.{encode, decode, machineOf}
 use Rattle.machine.specs.Keeps.{KeptBy}
 use Rattle.proof_contracts.specs.SharedPage.{MadeShared, CallStep}

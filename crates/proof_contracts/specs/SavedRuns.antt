@@ -8,9 +8,9 @@ use Rattle.state.specs.Driver.{Driver}
 use Rattle.state.specs.State.{view, saved}
 use Rattle.state.specs.Fresh.{nothing}
 use Rattle.state.specs.Determined.{Bytes, determined}
-use Rattle.model.specs.Answers.{Answer, Refused, End, NotYet, Done, Shown}
-use Rattle.model.specs.Calls.{Config, Op, calls, startRow}
-use Rattle.model.specs.Machine.{Buf, Event, Call, start, idle, Machine, Ans, ended, handed, told, started}
+use Rattle.script.specs.Answers.{Answer, Refused, End, NotYet, Done, Shown}
+use Rattle.script.specs.Calls.{Config, Op, calls, startRow}
+use Rattle.script.specs.Machine.{Buf, Event, Call, start, idle, Machine, Ans, ended, handed, told, started}
 use Rattle.machine.specs.declared.Suspended.{Suspended}
 use Rattle.machine.specs.declared.Suspended.the-variants as under
 use Rattle.machine.specs.Suspended.{encode, decode, wayOf, machineOf, driverOf, Canonical}

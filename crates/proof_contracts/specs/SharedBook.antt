@@ -7,9 +7,9 @@ use Prim.Native.Nat.{ℕ}
 use lib.ListN.{set}
 use Rattle.regs.specs.declared.Access.{Access}
 use Rattle.regs.specs.declared.Dir.{Dir}
-use Rattle.model.specs.Answers.{Answer, Refused}
-use Rattle.model.specs.Calls.{Config, Op, calls}
-use Rattle.model.specs.Machine.{Buf, Call, Machine, Ans, ended, handed, told, lentTo}
+use Rattle.script.specs.Answers.{Answer, Refused}
+use Rattle.script.specs.Calls.{Config, Op, calls}
+use Rattle.script.specs.Machine.{Buf, Call, Machine, Ans, ended, handed, told, lentTo}
 use Rattle.req_bus_time.specs.Time.{chargeOf, entryOf, passes, keepOf}
 use Rattle.calls.specs.Sharing.{Sort, enabling, starting, going, apart, sortOf, isHanded}
 use Rattle.calls.specs.Sharing as sharing

@@ -6,12 +6,12 @@ use mathlib.Core.Path.{_≡_, refl, ap, subst, sym, _∙_}
 use Prim.Native.Nat.{ℕ}
 use Rattle.regs.specs.declared.Dir.{Dir}
 use Rattle.state.specs.Driver.{Driver}
-use Rattle.model.specs.Simulates.{Phase}
-use Rattle.model.specs.Answers.{Answer, Refused}
-use Rattle.model.specs.Calls.{Config, Op, interrupt, slotted, other, aside, SetEnabled, PollRead, BeginWrite}
-use Rattle.model.specs.Calls.{PollWrite, PollDataOut, BeginDataIn, calls}
-use Rattle.model.specs.Machine.{Buf, Call, start, begin, go, question, pending, Machine, Ans, ended, told, lentTo}
-use Rattle.model.specs.Agree.{Ways}
+use Rattle.script.specs.Simulates.{Phase}
+use Rattle.script.specs.Answers.{Answer, Refused}
+use Rattle.script.specs.Calls.{Config, Op, interrupt, slotted, other, aside, SetEnabled, PollRead, BeginWrite}
+use Rattle.script.specs.Calls.{PollWrite, PollDataOut, BeginDataIn, calls}
+use Rattle.script.specs.Machine.{Buf, Call, start, begin, go, question, pending, Machine, Ans, ended, told, lentTo}
+use Rattle.script.specs.Agree.{Ways}
 use Rattle.answer.specs.Questions.{questionOf}
 use Rattle.machine.specs.Suspended.{driverOf, drive}
 use Rattle.answer.specs.Goes.{Called}

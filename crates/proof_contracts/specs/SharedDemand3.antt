@@ -9,9 +9,9 @@ use Rattle.regs.specs.declared.Dir.{Dir}
 use Rattle.regs.specs.declared.Dir.the-variants.{Out, In}
 use Rattle.state.specs.State.{view}
 use Rattle.state.specs.Driver.{Driver}
-use Rattle.model.specs.Answers.{Answer, Refused}
-use Rattle.model.specs.Calls.{Config, Op, slotted, SetEnabled}
-use Rattle.model.specs.Machine.{Buf, Call, begin, question, pending, Machine, Ans, ended, told}
+use Rattle.script.specs.Answers.{Answer, Refused}
+use Rattle.script.specs.Calls.{Config, Op, slotted, SetEnabled}
+use Rattle.script.specs.Machine.{Buf, Call, begin, question, pending, Machine, Ans, ended, told}
 use Rattle.machine.specs.Suspended.{machineOf}
 use Rattle.proof_book.specs.Pages.{Packet, Pages}
 use Rattle.proof_book.specs.Lengths.{Known, learnt, lengthAt}

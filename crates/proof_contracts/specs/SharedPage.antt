@@ -7,9 +7,9 @@ use mathlib.Core.Path.{_≡_}
 use Prim.Native.Nat.{ℕ, zero}
 use lib.ListN.{length}
 use Rattle.regs.specs.declared.Dir.{Dir}
-use Rattle.model.specs.Answers.{Answer}
-use Rattle.model.specs.Calls.{Config, Op, startRow}
-use Rattle.model.specs.Machine.{Buf, Event, start, Machine, Ans, blankA}
+use Rattle.script.specs.Answers.{Answer}
+use Rattle.script.specs.Calls.{Config, Op, startRow}
+use Rattle.script.specs.Machine.{Buf, Event, start, Machine, Ans, blankA}
 use Rattle.machine.specs.Suspended.{machineOf}
 use Rattle.answer.specs.Goes.{Called}
 use Rattle.calls.specs.Sharing.{sortOf, sharedCall}

@@ -4,11 +4,11 @@ use mathlib.Core.Path.{_≡_, refl, subst, sym}
 use Prim.Native.Nat.{ℕ, zero}
 use Rattle.state.specs.State.{view}
 use Rattle.state.specs.Driver.{Driver}
-use Rattle.model.specs.Simulates.{Phase}
-use Rattle.model.specs.Answers.{Answer}
-use Rattle.model.specs.Calls.{Config, Op, calls, startRow}
-use Rattle.model.specs.Machine.{Buf, Event, start, Machine, Ans, ended, handed, told, fed, started}
-use Rattle.model.specs.Agree.{After, Ways, from-start}
+use Rattle.script.specs.Simulates.{Phase}
+use Rattle.script.specs.Answers.{Answer}
+use Rattle.script.specs.Calls.{Config, Op, calls, startRow}
+use Rattle.script.specs.Machine.{Buf, Event, start, Machine, Ans, ended, handed, told, fed, started}
+use Rattle.script.specs.Agree.{After, Ways, from-start}
 use Rattle.machine.specs.Suspended.{driverOf, drive, machineOf}
 use Rattle.answer.specs.Goes.{Called}
 use Rattle.calls.specs.Sharing.{sortOf, timeAfter, settled, sharedCall}

@@ -19,12 +19,12 @@ use Rattle.state.specs.Driver.{Driver}
 use Rattle.state.specs.State.{view, saved}
 use Rattle.state.specs.Wakes.{listed}
 use Rattle.state.specs.Determined.{Bytes}
-use Rattle.model.specs.Script.{ret, test, run}
-use Rattle.model.specs.Answers.{Answer, Refused, End, NotYet, Done, Shown, resultless}
-use Rattle.model.specs.Handler.{stampedInterrupt}
-use Rattle.model.specs.Calls.{Config, Op, interrupt, calls, startRow}
-use Rattle.model.specs.Machine.{Buf, Call, Event, start, begin, Way, idle, busy, Machine, Ans, ended, handed, told, lentTo, begun, halt, started, fed}
-use Rattle.model_ops.specs.Concrete.{concrete}
+use Rattle.script.specs.Script.{ret, test, run}
+use Rattle.script.specs.Answers.{Answer, Refused, End, NotYet, Done, Shown, resultless}
+use Rattle.script.specs.Handler.{stampedInterrupt}
+use Rattle.script.specs.Calls.{Config, Op, interrupt, calls, startRow}
+use Rattle.script.specs.Machine.{Buf, Call, Event, start, begin, Way, idle, busy, Machine, Ans, ended, handed, told, lentTo, begun, halt, started, fed}
+use Rattle.script_ops.specs.Concrete.{concrete}
 use Rattle.machine.specs.Suspended.{decode, machineOf, driverOf, drive}
 use Rattle.answer.specs.Goes.{Called}
 use Rattle.calls.specs.Sharing.{sortOf, timeAfter, settled, sharedCall}

@@ -7,9 +7,9 @@ use mathlib.Core.Path.{_≡_}
 use Prim.Native.Nat.{ℕ}
 use lib.Dec.{eqb}
 use Rattle.state.specs.State.{view}
-use Rattle.model.specs.Answers.{Answer}
-use Rattle.model.specs.Calls.{Config, Op, startRow}
-use Rattle.model.specs.Machine.{Buf, Call, start, question, Question, Ans, told}
+use Rattle.script.specs.Answers.{Answer}
+use Rattle.script.specs.Calls.{Config, Op, startRow}
+use Rattle.script.specs.Machine.{Buf, Call, start, question, Question, Ans, told}
 use Rattle.machine.specs.Suspended.{lentOr, lentBy, BufferUnchangedOnRow1}
 use Rattle.proof_contracts.specs.SharedPage.{MadeShared, CallStep}
 use Rattle.proof_contracts.specs.SavedPage.{Saves}

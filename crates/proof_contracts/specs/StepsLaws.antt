@@ -4,9 +4,9 @@ use mathlib.Core.Path.{_≡_, refl, ap, sym, _∙_}
 use Prim.Native.Nat.{ℕ}
 use Rattle.state.specs.State.{view}
 use Rattle.state.specs.Driver.{Driver}
-use Rattle.model.specs.Answers.{Answer}
-use Rattle.model.specs.Calls.{Config, Op}
-use Rattle.model.specs.Machine.{Buf, Call, Question, Ans, told, Machine}
+use Rattle.script.specs.Answers.{Answer}
+use Rattle.script.specs.Calls.{Config, Op}
+use Rattle.script.specs.Machine.{Buf, Call, Question, Ans, told, Machine}
 use Rattle.answer.specs.declared.Step.{Step}
 use Rattle.answer.specs.Questions.{questionOf}
 use Rattle.machine.specs.Suspended.{machineOf, drive, answerOf, lentOr, lentBy, BufferUnchangedOnRow1}

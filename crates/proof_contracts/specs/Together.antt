@@ -7,9 +7,9 @@ use mathlib.Core.Path.{_≡_}
 use Prim.Native.Nat.{ℕ}
 use Rattle.regs.specs.declared.Reg.{Reg}
 use Rattle.state.specs.State.{view}
-use Rattle.model.specs.Answers.{Answer}
-use Rattle.model.specs.Calls.{Config, Op, interrupt}
-use Rattle.model.specs.Machine.{Buf, Call, begin, go, Event, Ans, ended, handed, told}
+use Rattle.script.specs.Answers.{Answer}
+use Rattle.script.specs.Calls.{Config, Op, interrupt}
+use Rattle.script.specs.Machine.{Buf, Call, begin, go, Event, Ans, ended, handed, told}
 use Rattle.answer.specs.declared.Step.{Step}
 use Rattle.machine.specs.Suspended.{answerOf, lentOr, BufferUnchangedOnRow1}
 use Rattle.call_readings.specs.Readings.{Reading, Lent, lent, readsOf}

@@ -13,11 +13,11 @@ use Rattle.regs.specs.declared.Reg.the-variants.{IntFg, IntSt, RxLen, FrameNo}
 use Rattle.state.specs.State.{view}
 use Rattle.state.specs.Driver.{Driver}
 use Rattle.state.specs.Wakes.{unwoken}
-use Rattle.model.specs.Script.{Script, ret, test, run}
-use Rattle.model.specs.Answers.{Answer, Refused, resultless}
-use Rattle.model.specs.Handler.{stampedInterrupt}
-use Rattle.model.specs.Calls.{Config, Op, interrupt, calls}
-use Rattle.model.specs.Machine.{Buf, begin, go, Event, Machine, misfit, Ans, ended, handed, told, Way, idle, busy, stay, begun, continued, halt, fed}
+use Rattle.script.specs.Script.{Script, ret, test, run}
+use Rattle.script.specs.Answers.{Answer, Refused, resultless}
+use Rattle.script.specs.Handler.{stampedInterrupt}
+use Rattle.script.specs.Calls.{Config, Op, interrupt, calls}
+use Rattle.script.specs.Machine.{Buf, begin, go, Event, Machine, misfit, Ans, ended, handed, told, Way, idle, busy, stay, begun, continued, halt, fed}
 use Rattle.answer.specs.declared.Step.{Step}
 use Rattle.answer.specs.declared.Step.the-variants as step
 use Rattle.machine.specs.Suspended.{machineOf, driverOf, answerOf, lentOr, slotsFit, BufferUnchangedOnRow1}

@@ -6,14 +6,14 @@ use Prim.Native.Nat.{ℕ, zero, suc}
 use Rattle.regs.specs.declared.Access.{Access}
 use Rattle.regs.specs.declared.Dir.the-variants.{Out}
 use Rattle.state.specs.Driver.{key}
-use Rattle.model.specs.Tree as tree
-use Rattle.model.specs.Tree.{ends, asks}
-use Rattle.model.specs.Every.{at-end}
-use Rattle.model.specs.Answers.{Answer, Refused}
-use Rattle.model.specs.Simulates.{quiet, mid}
-use Rattle.model.specs.Calls.{Config, PollRead, Op, slotted, aside, Aside, calls, startRow}
-use Rattle.model.specs.Machine.{Buf, Call, start, begin, go, question, Ans, ended, awaited, busy, beside, started}
-use Rattle.model_ops.specs.Rings.{St}
+use Rattle.script.specs.Tree as tree
+use Rattle.script.specs.Tree.{ends, asks}
+use Rattle.script.specs.Every.{at-end}
+use Rattle.script.specs.Answers.{Answer, Refused}
+use Rattle.script.specs.Simulates.{quiet, mid}
+use Rattle.script.specs.Calls.{Config, PollRead, Op, slotted, aside, Aside, calls, startRow}
+use Rattle.script.specs.Machine.{Buf, Call, start, begin, go, question, Ans, ended, awaited, busy, beside, started}
+use Rattle.script_ops.specs.Rings.{St}
 use Rattle.machine.specs.Suspended.{driverOf, drive}
 use Rattle.calls.specs.Sharing as sharing
 use Rattle.calls.specs.Sharing.{going, timeAfter}

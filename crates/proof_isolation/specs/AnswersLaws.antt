@@ -3,9 +3,9 @@ use mathlib.Core.Bool.{Bool}
 use mathlib.Core.Path.{refl, subst, sym}
 use Prim.Native.Nat.{ℕ}
 use Rattle.regs.specs.declared.Dir.{Dir}
-use Rattle.model.specs.Cells.{allocator-cell}
-use Rattle.model.specs.Script.{Script, ret, bind, fetch, gathered}
-use Rattle.model.specs.Answers.{Answer, End, operation, resultless, staged, named}
+use Rattle.script.specs.Cells.{allocator-cell}
+use Rattle.script.specs.Script.{Script, ret, bind, fetch, gathered}
+use Rattle.script.specs.Answers.{Answer, End, operation, resultless, staged, named}
 use Rattle.proof_isolation.specs.EqualExcept.{Channel}
 use Rattle.proof_isolation.specs.Apart.{PairBy, Pair}
 use Rattle.proof_isolation.specs.PairsLaws.{Eq, Any, p-ret, p-bind, p-same, p-then, p-before, p-before-then, p-test, p-get}

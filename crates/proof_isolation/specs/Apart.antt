@@ -8,13 +8,13 @@ use Rattle.regs.specs.declared.Access.the-variants.{Read, Write, Receive, Trans
 use Rattle.regs.specs.declared.Reg.{Reg}
 use Rattle.regs.specs.declared.Reg.the-variants.{IntFg, IntSt, MisSt, RxLen, FrameNo, Ctrl, IntEn, DevAd, HostCtrl}
 use Rattle.regs.specs.declared.Reg.the-variants.{EpConfig, EpType, EpBufMod, EpMaxLen, EpTLen, EpRxCtrl, EpTxCtrl}
-use Rattle.model.specs.Tree.{Out, ends, asks}
-use Rattle.model.specs.Script.{Script, run}
-use Rattle.model.specs.IsoOut.{arriving}
-use Rattle.model.specs.Every.{sameReg}
-use Rattle.model.specs.Simulates.{Phase, quiet, Fits}
-use Rattle.model_ops.specs.Rings.{St}
-use Rattle.model_ops.specs.Concrete.{concrete}
+use Rattle.script.specs.Tree.{Out, ends, asks}
+use Rattle.script.specs.Script.{Script, run}
+use Rattle.script.specs.IsoOut.{arriving}
+use Rattle.script.specs.Every.{sameReg}
+use Rattle.script.specs.Simulates.{Phase, quiet, Fits}
+use Rattle.script_ops.specs.Rings.{St}
+use Rattle.script_ops.specs.Concrete.{concrete}
 use Rattle.proof_isolation.specs.EqualExcept.{Lawful, Channel, LowEquiv, Touched}
 use Rattle.proof_isolation.specs.Whose.{receives, sof}
 

@@ -4,7 +4,7 @@ use mathlib.Core.Path.{_≡_}
 use Prim.Native.Nat.{ℕ}
 use Rattle.regs.specs.declared.Dir.the-variants.{Out}
 use Rattle.state.specs.Driver.{key}
-use Rattle.model.specs.Calls.{Aside, Open, Close, Queue}
+use Rattle.script.specs.Calls.{Aside, Open, Close, Queue}
 
 -- an aside that is not the channel's open or close
 abbrev pub Others : ℕ → Aside → Type 0

@@ -19,13 +19,13 @@ use Rattle.ring.specs.Out.{openedOf, closedOf}
 use Rattle.ring.specs.Waiting.{SamePlace, Ring}
 use Rattle.ring.specs.Slots.{slot-in, slot-from, slot-upto}
 use Rattle.ring.specs.Window.{window-is, window-same}
-use Rattle.model.specs.Cells.{EpCore, globals-cell, allocator-cell, ep-cell}
-use Rattle.model.specs.Script.{run, Act, waiting, room, opened, oldest, next-stamp, open-oldest, close-oldest, enqueue}
-use Rattle.model.specs.Statics.{isOn}
-use Rattle.model.specs.Calls.{Aside, Open, Close, Queue, asideCode}
-use Rattle.model.specs.Simulates.{quiet}
-use Rattle.model_ops.specs.Rings.{St, waitingOn, roomOn, roomIn, openedOn, nextStamp, oldestAt, oldestOn, openOn, closeOn, queuedOn, enqueueOn, nextLen}
-use Rattle.model_ops.specs.Concrete.{concrete, isOf, lookOf, fetchOf, actOn}
+use Rattle.script.specs.Cells.{EpCore, globals-cell, allocator-cell, ep-cell}
+use Rattle.script.specs.Script.{run, Act, waiting, room, opened, oldest, next-stamp, open-oldest, close-oldest, enqueue}
+use Rattle.script.specs.Statics.{isOn}
+use Rattle.script.specs.Calls.{Aside, Open, Close, Queue, asideCode}
+use Rattle.script.specs.Simulates.{quiet}
+use Rattle.script_ops.specs.Rings.{St, waitingOn, roomOn, roomIn, openedOn, nextStamp, oldestAt, oldestOn, openOn, closeOn, queuedOn, enqueueOn, nextLen}
+use Rattle.script_ops.specs.Concrete.{concrete, isOf, lookOf, fetchOf, actOn}
 use Rattle.proof_book.specs.Coupling.{endOf, lensOf, slotStamps, Held}
 use Rattle.proof_book.specs.LensLaws.{stamps-at, lens-at, lens-length, lens-set, lens-mod, ep-len}
 use Rattle.proof_book.specs.FrameLaws.{changed-on, changed-len, same-place}

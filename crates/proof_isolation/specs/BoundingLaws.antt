@@ -3,16 +3,16 @@ use mathlib.Core.Bool.{Bool, true, false, not, true≢false}
 use mathlib.Core.Path.{_≡_, refl, sym, _∙_}
 use lib.Dec.{eqb}
 use borrow.Author.Tests.{eqb-false}
-use Rattle.model.specs.Cells.{Cell, Val, globals-cell, control-cell, allocator-cell, ep-cell, request-cell, paced-cell}
-use Rattle.model.specs.Script.{Act, complete, reset-ring, set-enabled, fill, fill0, open-oldest, close-oldest}
-use Rattle.model.specs.Script.{take-oldest, enqueue, allocate, allocate0, no-wakes, waken}
-use Rattle.model.specs.Control.{DATA-OUT}
-use Rattle.model.specs.Steps.{Kind, receiving, starting, is, mayPut, mayAct}
-use Rattle.model.specs.StepsRuns.{Keeps}
-use Rattle.model.specs.StepsRunsLaws.{or-else}
-use Rattle.model.specs.MachineKept.{LentKeeps}
-use Rattle.model_ops.specs.Rings.{St}
-use Rattle.model_ops.specs.Concrete.{concrete}
+use Rattle.script.specs.Cells.{Cell, Val, globals-cell, control-cell, allocator-cell, ep-cell, request-cell, paced-cell}
+use Rattle.script.specs.Script.{Act, complete, reset-ring, set-enabled, fill, fill0, open-oldest, close-oldest}
+use Rattle.script.specs.Script.{take-oldest, enqueue, allocate, allocate0, no-wakes, waken}
+use Rattle.script.specs.Control.{DATA-OUT}
+use Rattle.script.specs.Steps.{Kind, receiving, starting, is, mayPut, mayAct}
+use Rattle.script.specs.StepsRuns.{Keeps}
+use Rattle.script.specs.StepsRunsLaws.{or-else}
+use Rattle.script.specs.MachineKept.{LentKeeps}
+use Rattle.script_ops.specs.Rings.{St}
+use Rattle.script_ops.specs.Concrete.{concrete}
 use Rattle.proof_isolation.specs.EqualExcept.{Bounded}
 use Rattle.proof_isolation.specs.SettledLaws.{settled-bounded, put-settled, starts, act-settled, hand-settled, row-settled}
 

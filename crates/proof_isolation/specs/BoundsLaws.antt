@@ -13,27 +13,27 @@ use Rattle.regs.specs.declared.Dir.the-variants.{Out}
 use Rattle.alloc.specs.declared.Answer as alloc-answer
 use Rattle.alloc.specs.declared.Answer.the-variants as alloc
 use Rattle.alloc.specs.Alloc.{allocateEp0Of}
-use Rattle.model.specs.Cells.{control-cell, allocator-cell}
-use Rattle.model.specs.Script.{Script, run, bind, test, ret, get, put, act, _>>_, allocate0}
-use Rattle.model.specs.Statics.{isOn, withReady, withArmed, withLen, modifyEp}
-use Rattle.model.specs.Answers.{Answer, Refused, resultless, unless}
-use Rattle.model.specs.Control.{DATA-OUT, requestOf, unlessSetup, withinMaximum, acks, beginDataOut}
-use Rattle.model.specs.Driver.{started-as}
-use Rattle.model.specs.Driver as driver
-use Rattle.model.specs.Machine.{Buf, Event, start, Machine, started}
-use Rattle.model.specs.Calls.{Config, Op, other, BeginRead, code, calls, startRow}
-use Rattle.model.specs.Calls as the-calls
-use Rattle.model.specs.Steps.{plain, reading, kindOf, Steps}
-use Rattle.model.specs.StepsRequests.{of-acks}
-use Rattle.model.specs.StepsCalls.{call-steps, start-up-steps}
-use Rattle.model.specs.StepsKinds.{Begins, a-read, a-data-out, ep0, none, begins}
-use Rattle.model.specs.StepsRuns.{Holds, end}
-use Rattle.model.specs.StepsRunsLaws.{holds-run}
-use Rattle.model.specs.MachineKept.{LentKeeps, MachineKeeps, Preserves}
-use Rattle.model.specs.MachineKeptLaws.{start-kept, call-kept}
-use Rattle.model_ops.specs.Records.{startedWith, allocatedEp0}
-use Rattle.model_ops.specs.Rings.{St}
-use Rattle.model_ops.specs.Concrete.{concrete, putOn, actOn}
+use Rattle.script.specs.Cells.{control-cell, allocator-cell}
+use Rattle.script.specs.Script.{Script, run, bind, test, ret, get, put, act, _>>_, allocate0}
+use Rattle.script.specs.Statics.{isOn, withReady, withArmed, withLen, modifyEp}
+use Rattle.script.specs.Answers.{Answer, Refused, resultless, unless}
+use Rattle.script.specs.Control.{DATA-OUT, requestOf, unlessSetup, withinMaximum, acks, beginDataOut}
+use Rattle.script.specs.Driver.{started-as}
+use Rattle.script.specs.Driver as driver
+use Rattle.script.specs.Machine.{Buf, Event, start, Machine, started}
+use Rattle.script.specs.Calls.{Config, Op, other, BeginRead, code, calls, startRow}
+use Rattle.script.specs.Calls as the-calls
+use Rattle.script.specs.Steps.{plain, reading, kindOf, Steps}
+use Rattle.script.specs.StepsRequests.{of-acks}
+use Rattle.script.specs.StepsCalls.{call-steps, start-up-steps}
+use Rattle.script.specs.StepsKinds.{Begins, a-read, a-data-out, ep0, none, begins}
+use Rattle.script.specs.StepsRuns.{Holds, end}
+use Rattle.script.specs.StepsRunsLaws.{holds-run}
+use Rattle.script.specs.MachineKept.{LentKeeps, MachineKeeps, Preserves}
+use Rattle.script.specs.MachineKeptLaws.{start-kept, call-kept}
+use Rattle.script_ops.specs.Records.{startedWith, allocatedEp0}
+use Rattle.script_ops.specs.Rings.{St}
+use Rattle.script_ops.specs.Concrete.{concrete, putOn, actOn}
 use Rattle.machine.specs.Suspended.{driverOf}
 use Rattle.proof_book.specs.Always.{after}
 use Rattle.proof_isolation.specs.EqualExcept.{Bounded}

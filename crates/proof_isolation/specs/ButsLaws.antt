@@ -19,14 +19,14 @@ use Rattle.ring.specs.Only.{Same, Only}
 use Rattle.ring.specs.OnlyLaws.{only-apart}
 use Rattle.ring.specs.Waiting.{SamePlace}
 use Rattle.state.specs.declared.Control.{Control}
-use Rattle.model.specs.Cells.{Cell, Val, control-cell}
-use Rattle.model.specs.Control.{DATA-OUT}
-use Rattle.model.specs.Script.{Act, DmaStep, Burst, lastOf}
-use Rattle.model.specs.Statics.{isOn}
-use Rattle.model.specs.Simulates.{Phase, quiet, mid}
-use Rattle.model.specs.TransferKinds.{allocates}
-use Rattle.model_ops.specs.Rings.{St, rowOn}
-use Rattle.model_ops.specs.Concrete.{putOn, actOn, handOn}
+use Rattle.script.specs.Cells.{Cell, Val, control-cell}
+use Rattle.script.specs.Control.{DATA-OUT}
+use Rattle.script.specs.Script.{Act, DmaStep, Burst, lastOf}
+use Rattle.script.specs.Statics.{isOn}
+use Rattle.script.specs.Simulates.{Phase, quiet, mid}
+use Rattle.script.specs.TransferKinds.{allocates}
+use Rattle.script_ops.specs.Rings.{St, rowOn}
+use Rattle.script_ops.specs.Concrete.{putOn, actOn, handOn}
 use Rattle.proof_book.specs.Coupling.{endOf, ep0Room, lensOf, slotStamps}
 use Rattle.proof_book.specs.LensLaws.{key-ep, lens-on, stamps-on}
 use Rattle.proof_book.specs.FrameLaws.{Changed, same-place}

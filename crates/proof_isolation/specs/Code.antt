@@ -5,9 +5,9 @@ use mathlib.Core.List.{List, [], _∷_}
 use mathlib.Core.Path.{_≡_}
 use Prim.Native.Nat.{ℕ, zero}
 use Rattle.regs.specs.declared.Access.{Access}
-use Rattle.model.specs.Answers.{Answer}
-use Rattle.model.specs.Calls.{Config, Op, startRow}
-use Rattle.model.specs.Machine.{Buf, Call, start, begin, go, question, Event, Ans, idle}
+use Rattle.script.specs.Answers.{Answer}
+use Rattle.script.specs.Calls.{Config, Op, startRow}
+use Rattle.script.specs.Machine.{Buf, Call, start, begin, go, question, Event, Ans, idle}
 use Rattle.machine.specs.Suspended.{drive, machineOf}
 use Rattle.calls.specs.Sharing.{sharedCall}
 use Rattle.proof_book.specs.MachineRuns.{Premise}

@@ -3,8 +3,8 @@ use mathlib.Core.Bool.{Bool, true, false}
 use mathlib.Core.List.{List, [], _∷_}
 use mathlib.Core.Path.{_≡_, refl, ap, subst, sym, _∙_}
 use Prim.Native.Nat.{ℕ}
-use Rattle.model.specs.Calls.{Config, Op}
-use Rattle.model.specs.Machine.{Buf, Call, start, begin, go, question, idle}
+use Rattle.script.specs.Calls.{Config, Op}
+use Rattle.script.specs.Machine.{Buf, Call, start, begin, go, question, idle}
 use Rattle.machine.specs.Suspended.{machineOf}
 use Rattle.proof_book.specs.MachineRuns.{Premise}
 use Rattle.proof_book.specs.Sorting.{sortsOf}

@@ -9,16 +9,16 @@ use Rattle.regs.specs.declared.Access.{Access}
 use Rattle.regs.specs.declared.Dir.the-variants.{Out}
 use Rattle.state.specs.Driver.{Driver, epOn}
 use Rattle.state.specs.Laws.{Sized}
-use Rattle.model.specs.Tree as tree
-use Rattle.model.specs.Tree.{ends, asks}
-use Rattle.model.specs.Script.{run, open-oldest, close-oldest}
-use Rattle.model.specs.Statics.{isOn}
-use Rattle.model.specs.Answers.{Answer, Refused, Shown, ok, isAllocated}
-use Rattle.model.specs.Simulates.{quiet}
-use Rattle.model.specs.Calls.{calls, Open, Close, asideCode}
-use Rattle.model.specs.Machine.{pending, Ans, ended, handed, told, awaited, busy, beside}
-use Rattle.model_ops.specs.Rings.{St, waitingOn, openedOn, oldestOn, nextStamp}
-use Rattle.model_ops.specs.Concrete.{concrete}
+use Rattle.script.specs.Tree as tree
+use Rattle.script.specs.Tree.{ends, asks}
+use Rattle.script.specs.Script.{run, open-oldest, close-oldest}
+use Rattle.script.specs.Statics.{isOn}
+use Rattle.script.specs.Answers.{Answer, Refused, Shown, ok, isAllocated}
+use Rattle.script.specs.Simulates.{quiet}
+use Rattle.script.specs.Calls.{calls, Open, Close, asideCode}
+use Rattle.script.specs.Machine.{pending, Ans, ended, handed, told, awaited, busy, beside}
+use Rattle.script_ops.specs.Rings.{St, waitingOn, openedOn, oldestOn, nextStamp}
+use Rattle.script_ops.specs.Concrete.{concrete}
 use Rattle.machine.specs.Suspended.{driverOf, drive}
 use Rattle.calls.specs.Sharing as sharing
 use Rattle.calls.specs.Sharing.{going, written, timeAfter}

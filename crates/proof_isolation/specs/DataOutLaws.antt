@@ -11,15 +11,15 @@ use Rattle.state.specs.declared.Globals.{Globals}
 use Rattle.state.specs.declared.Control.{Control}
 use Rattle.state.specs.Driver.{epOn, withOn}
 use Rattle.ring.specs.Copies.{bytesAt}
-use Rattle.model.specs.Cells.{EpCore, ep-cell, control-cell}
-use Rattle.model.specs.Script.{Script, run, bind, test, ret, put, fetch, _>>_, received0}
-use Rattle.model.specs.Statics.{isOn, withReady, modifyEp}
-use Rattle.model.specs.Answers.{Answer, Refused, NotYet, Done, unless}
-use Rattle.model.specs.Control.{DATA-OUT, requestOf, ends-control, unlessSetup, withinMaximum, requested, aborted-else, take-out}
-use Rattle.model.specs.Simulates.{quiet}
-use Rattle.model_ops.specs.Records.{plainOf}
-use Rattle.model_ops.specs.Rings.{St}
-use Rattle.model_ops.specs.Concrete.{concrete, fetchOf, putOn}
+use Rattle.script.specs.Cells.{EpCore, ep-cell, control-cell}
+use Rattle.script.specs.Script.{Script, run, bind, test, ret, put, fetch, _>>_, received0}
+use Rattle.script.specs.Statics.{isOn, withReady, modifyEp}
+use Rattle.script.specs.Answers.{Answer, Refused, NotYet, Done, unless}
+use Rattle.script.specs.Control.{DATA-OUT, requestOf, ends-control, unlessSetup, withinMaximum, requested, aborted-else, take-out}
+use Rattle.script.specs.Simulates.{quiet}
+use Rattle.script_ops.specs.Records.{plainOf}
+use Rattle.script_ops.specs.Rings.{St}
+use Rattle.script_ops.specs.Concrete.{concrete, fetchOf, putOn}
 use Rattle.proof_book.specs.Coupling.{ep0Room}
 use Rattle.proof_isolation.specs.EqualExcept.{Channel, LowEquiv}
 use Rattle.proof_isolation.specs.Apart.{Apart, end, Pair}

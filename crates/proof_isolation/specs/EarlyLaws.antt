@@ -5,10 +5,10 @@ use mathlib.Core.Path.{_≡_, refl}
 use Prim.Native.Nat.{ℕ}
 use lib.Dec.{eqb}
 use Rattle.state.specs.Driver.{Driver}
-use Rattle.model.specs.Answers.{Answer}
-use Rattle.model.specs.Calls.{aside, Open, Close, calls}
-use Rattle.model.specs.Machine.{begin, Way, idle, busy, misfit, stay, begun}
-use Rattle.model_ops.specs.Rings.{St}
+use Rattle.script.specs.Answers.{Answer}
+use Rattle.script.specs.Calls.{aside, Open, Close, calls}
+use Rattle.script.specs.Machine.{begin, Way, idle, busy, misfit, stay, begun}
+use Rattle.script_ops.specs.Rings.{St}
 use Rattle.machine.specs.Suspended.{driverOf, drive}
 use Rattle.proof_isolation.specs.Standing.{machineOf}
 

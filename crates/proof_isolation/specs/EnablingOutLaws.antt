@@ -15,13 +15,13 @@ use Rattle.state.specs.Kept.{withEpConfig}
 use Rattle.state.specs.Driver.{Driver, key, epOn, withOn, withGlobals}
 use Rattle.ring.specs.Out.{armedAt}
 use Rattle.ring.specs.Waiting.{SamePlace}
-use Rattle.model.specs.Script.{reset-ring, set-enabled, place}
-use Rattle.model.specs.Statics.{isOn, isoOuts}
-use Rattle.model.specs.Bus as bus
-use Rattle.model.specs.Simulates.{quiet}
-use Rattle.model_ops.specs.Records.{isoOut, configured, enabledOn}
-use Rattle.model_ops.specs.Rings.{St, emptied, emptiedOn, placeOn}
-use Rattle.model_ops.specs.Concrete.{actOn, handOn}
+use Rattle.script.specs.Script.{reset-ring, set-enabled, place}
+use Rattle.script.specs.Statics.{isOn, isoOuts}
+use Rattle.script.specs.Bus as bus
+use Rattle.script.specs.Simulates.{quiet}
+use Rattle.script_ops.specs.Records.{isoOut, configured, enabledOn}
+use Rattle.script_ops.specs.Rings.{St, emptied, emptiedOn, placeOn}
+use Rattle.script_ops.specs.Concrete.{actOn, handOn}
 use Rattle.proof_book.specs.LensLaws.{key-ep}
 use Rattle.proof_book.specs.FrameLaws.{same-place}
 use Rattle.proof_isolation.specs.EqualExcept.{EqualExcept, Lawful, Channel, LowEquiv}

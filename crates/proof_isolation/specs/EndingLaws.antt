@@ -1,10 +1,10 @@
 -- Laws on the definitions of Ending.antt
 use mathlib.Core.Bool.{Bool, true, false}
-use Rattle.model.specs.Cells.{Cell, Val}
-use Rattle.model.specs.Tree as tree
-use Rattle.model.specs.Script.{Script, run, ret, bind, test, get, put, is, look, fetch, act, Test, Look, Fetch, Act}
-use Rattle.model_ops.specs.Rings.{St}
-use Rattle.model_ops.specs.Concrete.{concrete, putOn, actOn}
+use Rattle.script.specs.Cells.{Cell, Val}
+use Rattle.script.specs.Tree as tree
+use Rattle.script.specs.Script.{Script, run, ret, bind, test, get, put, is, look, fetch, act, Test, Look, Fetch, Act}
+use Rattle.script_ops.specs.Rings.{St}
+use Rattle.script_ops.specs.Concrete.{concrete, putOn, actOn}
 use Rattle.proof_isolation.specs.Ending.{Finished, fin}
 
 -- a script that hands out no access and keeps K

@@ -13,13 +13,13 @@ use Rattle.state.specs.Wakes.{Wakes, wakeCode, listed}
 use Rattle.state.specs.WakesLaws.{Room}
 use Rattle.state.specs.Driver.{Driver, key, epOn, requestOn}
 use Rattle.ring.specs.Only.{Only}
-use Rattle.model.specs.Simulates.{Phase}
-use Rattle.model.specs.TransferKinds.{TransferKinds}
-use Rattle.model.specs.Statics.{withReady}
-use Rattle.model.specs.Control.{DATA-OUT}
+use Rattle.script.specs.Simulates.{Phase}
+use Rattle.script.specs.TransferKinds.{TransferKinds}
+use Rattle.script.specs.Statics.{withReady}
+use Rattle.script.specs.Control.{DATA-OUT}
 use Rattle.ring.specs.Waiting.{SamePlace}
-use Rattle.model_ops.specs.Records.{plainOf}
-use Rattle.model_ops.specs.Rings.{St}
+use Rattle.script_ops.specs.Records.{plainOf}
+use Rattle.script_ops.specs.Rings.{St}
 use Rattle.proof_book.specs.Pages.{Pages}
 use Rattle.proof_book.specs.Coupling.{endOf, lensOf, slotStamps, Coupling}
 use Rattle.proof_book.specs.TransferKinds.{Has}

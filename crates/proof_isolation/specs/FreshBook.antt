@@ -1,8 +1,8 @@
 -- The book that a start-up begins
 use Prim.Native.Nat.{zero}
-use Rattle.model.specs.Answers.{Answer}
-use Rattle.model.specs.Calls.{Config, calls}
-use Rattle.model.specs.Machine.{Buf, Ans, Machine, idle, fed, started}
+use Rattle.script.specs.Answers.{Answer}
+use Rattle.script.specs.Calls.{Config, calls}
+use Rattle.script.specs.Machine.{Buf, Ans, Machine, idle, fed, started}
 use Rattle.proof_book.specs.Pages.{Pages}
 use Rattle.proof_book.specs.Book.{book}
 

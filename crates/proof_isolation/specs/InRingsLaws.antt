@@ -18,10 +18,10 @@ use Rattle.ring.specs.Only.{Same}
 use Rattle.ring.specs.Slot.{slotOf, slotAddr, hasWaiting}
 use Rattle.ring.specs.In.{completedOf, loadedOf, unloadedOf}
 use Rattle.ring.specs.Waiting.{SamePlace}
-use Rattle.model.specs.Script.{waiting, next-len, setup-word, complete, send}
-use Rattle.model.specs.Simulates.{quiet}
-use Rattle.model_ops.specs.Rings.{St, waitingOn, nextLen, wordAt, completeOn, sendOn, sendAddr}
-use Rattle.model_ops.specs.Concrete.{isOf, lookOf, actOn, handOn}
+use Rattle.script.specs.Script.{waiting, next-len, setup-word, complete, send}
+use Rattle.script.specs.Simulates.{quiet}
+use Rattle.script_ops.specs.Rings.{St, waitingOn, nextLen, wordAt, completeOn, sendOn, sendAddr}
+use Rattle.script_ops.specs.Concrete.{isOf, lookOf, actOn, handOn}
 use Rattle.proof_book.specs.Coupling.{lensOf}
 use Rattle.proof_book.specs.LensLaws.{lens-at}
 use Rattle.proof_book.specs.FrameLaws.{same-place}

@@ -20,18 +20,18 @@ use Rattle.regs.specs.Status.{endpoint, token, tokenNumbered, outToken, isOut, 
 use Rattle.regs.specs.Flags.{transfer}
 use Rattle.regs.specs.MisStatus.{sieFree}
 use Rattle.state.specs.Driver.{key}
-use Rattle.model.specs.declared.Transfer.{Transfer}
-use Rattle.model.specs.Cells.{EpCore, globals-cell, ep-cell}
-use Rattle.model.specs.Script.{Script, run, ret, bind, test, done, _>>=_, _>>_, read, get, look, changed, marked, arrive, setup-word}
-use Rattle.model.specs.Statics.{isOn, isoOuts, withReady}
-use Rattle.model.specs.IsoOut.{arriving, entry, arrives, checkOne, checkWalk, isoOutCheck}
-use Rattle.model.specs.Handler.{sieWait, nakNonIso, outNaks, inNaks, sameOut, lateTaken, waited, retaken, released}
-use Rattle.model.specs.Handler.{waitsForIso, waitsForBulk, retake, settle, isoFor, ownIn, received, outArm, inArm}
-use Rattle.model.specs.Handler.{dispatch, served, framed, onTransfer, onSetup, onInterrupt, stampedInterrupt}
-use Rattle.model.specs.Calls.{interruptCode}
-use Rattle.model.specs.SortsWalks.{among-outs}
-use Rattle.model_ops.specs.Rings.{St}
-use Rattle.model_ops.specs.Concrete.{concrete}
+use Rattle.script.specs.declared.Transfer.{Transfer}
+use Rattle.script.specs.Cells.{EpCore, globals-cell, ep-cell}
+use Rattle.script.specs.Script.{Script, run, ret, bind, test, done, _>>=_, _>>_, read, get, look, changed, marked, arrive, setup-word}
+use Rattle.script.specs.Statics.{isOn, isoOuts, withReady}
+use Rattle.script.specs.IsoOut.{arriving, entry, arrives, checkOne, checkWalk, isoOutCheck}
+use Rattle.script.specs.Handler.{sieWait, nakNonIso, outNaks, inNaks, sameOut, lateTaken, waited, retaken, released}
+use Rattle.script.specs.Handler.{waitsForIso, waitsForBulk, retake, settle, isoFor, ownIn, received, outArm, inArm}
+use Rattle.script.specs.Handler.{dispatch, served, framed, onTransfer, onSetup, onInterrupt, stampedInterrupt}
+use Rattle.script.specs.Calls.{interruptCode}
+use Rattle.script.specs.SortsWalks.{among-outs}
+use Rattle.script_ops.specs.Rings.{St}
+use Rattle.script_ops.specs.Concrete.{concrete}
 use Rattle.proof_isolation.specs.LikesLaws.{and-false}
 use Rattle.proof_isolation.specs.EqualExcept.{Channel}
 use Rattle.proof_isolation.specs.Whose.{sof}

@@ -18,14 +18,14 @@ use Rattle.state.specs.Driver.{Driver, key, noRequest, epOn, stampOn, pacedOn, 
 use Rattle.state.specs.Laws.{Sized, requestOn-same, requestOn-other}
 use Rattle.ring.specs.Only.{Only}
 use Rattle.ring.specs.Copies.{copied}
-use Rattle.model.specs.Cells.{control-cell, request-cell, paced-cell}
-use Rattle.model.specs.Script.{put, get, act, fill, fill0}
-use Rattle.model.specs.Statics.{isOn}
-use Rattle.model.specs.Control.{DATA-OUT}
-use Rattle.model.specs.Simulates.{quiet}
-use Rattle.model.specs.Machine.{Buf}
-use Rattle.model_ops.specs.Rings.{St, filledOn, filledEp0}
-use Rattle.model_ops.specs.Concrete.{getOn, putOn, actOn}
+use Rattle.script.specs.Cells.{control-cell, request-cell, paced-cell}
+use Rattle.script.specs.Script.{put, get, act, fill, fill0}
+use Rattle.script.specs.Statics.{isOn}
+use Rattle.script.specs.Control.{DATA-OUT}
+use Rattle.script.specs.Simulates.{quiet}
+use Rattle.script.specs.Machine.{Buf}
+use Rattle.script_ops.specs.Rings.{St, filledOn, filledEp0}
+use Rattle.script_ops.specs.Concrete.{getOn, putOn, actOn}
 use Rattle.proof_book.specs.Coupling.{endOf}
 use Rattle.proof_book.specs.FrameLaws.{same-place}
 use Rattle.proof_isolation.specs.EqualExcept.{EqualExcept, Channel, LowEquiv}

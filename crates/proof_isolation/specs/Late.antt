@@ -8,9 +8,9 @@ use mathlib.Core.Path.{_≡_}
 use Prim.Native.Nat.{ℕ}
 use Rattle.regs.specs.declared.Dir.the-variants.{Out}
 use Rattle.state.specs.Driver.{Driver, key}
-use Rattle.model.specs.Answers.{Answer}
-use Rattle.model.specs.Calls.{Config, Op, aside, Open, Close}
-use Rattle.model.specs.Machine.{Question, Call, begin, go, question, Ans, Way, idle, busy}
+use Rattle.script.specs.Answers.{Answer}
+use Rattle.script.specs.Calls.{Config, Op, aside, Open, Close}
+use Rattle.script.specs.Machine.{Question, Call, begin, go, question, Ans, Way, idle, busy}
 use Rattle.proof_isolation.specs.EqualExcept.{Channel}
 use Rattle.proof_isolation.specs.Schedule.{Run, Two, Turn, others-time, called, turn, after, wide, Asked, atOwn, BringsAt, May, SameAns, After, Every}
 use Rattle.proof_isolation.specs.Undisturbed.{Session, opened, Opens}

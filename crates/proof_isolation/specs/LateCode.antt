@@ -3,8 +3,8 @@
 use mathlib.Core.Bool.{Bool}
 use mathlib.Core.List.{List, [], _∷_}
 use Prim.Native.Nat.{ℕ}
-use Rattle.model.specs.Answers.{Answer}
-use Rattle.model.specs.Machine.{go, Ans}
+use Rattle.script.specs.Answers.{Answer}
+use Rattle.script.specs.Machine.{go, Ans}
 use Rattle.proof_isolation.specs.EqualExcept.{Channel}
 use Rattle.proof_isolation.specs.Code.{Left, Held, Pair, twoOf, CallStep, heard, TurnStep, next, SessionMade, openedBy, afterSteps}
 use Rattle.proof_isolation.specs.Code.{DidStep}

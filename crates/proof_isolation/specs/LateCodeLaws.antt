@@ -3,7 +3,7 @@ use mathlib.Core.Bool.{Bool}
 use mathlib.Core.List.{List, [], _∷_}
 use mathlib.Core.Path.{_≡_, refl, ap, subst, sym, _∙_}
 use Prim.Native.Nat.{ℕ}
-use Rattle.model.specs.Machine.{go, idle}
+use Rattle.script.specs.Machine.{go, idle}
 use Rattle.proof_isolation.specs.Schedule.{Two}
 use Rattle.proof_isolation.specs.UndisturbedLaws.{step}
 use Rattle.proof_isolation.specs.EqualExcept.{Channel}

@@ -6,15 +6,15 @@ use mathlib.Core.Path.{_≡_, refl, ap, subst, sym, _∙_}
 use Prim.Native.Nat.{ℕ, zero}
 use Rattle.regs.specs.declared.Access.{Access}
 use Rattle.state.specs.Driver.{Driver}
-use Rattle.model.specs.Tree as tree
-use Rattle.model.specs.Tree.{ends, asks}
-use Rattle.model.specs.Script.{run}
-use Rattle.model.specs.Answers.{Answer, Refused}
-use Rattle.model.specs.Simulates.{quiet, mid}
-use Rattle.model.specs.Calls.{Config, Op, interrupt, irq, calls, startRow, Open, Close, asideCode}
-use Rattle.model.specs.Machine.{Buf, Call, start, begin, go, question, Ans, ended, told, awaited, Way, idle, busy, lentTo}
-use Rattle.model_ops.specs.Rings.{St}
-use Rattle.model_ops.specs.Concrete.{concrete}
+use Rattle.script.specs.Tree as tree
+use Rattle.script.specs.Tree.{ends, asks}
+use Rattle.script.specs.Script.{run}
+use Rattle.script.specs.Answers.{Answer, Refused}
+use Rattle.script.specs.Simulates.{quiet, mid}
+use Rattle.script.specs.Calls.{Config, Op, interrupt, irq, calls, startRow, Open, Close, asideCode}
+use Rattle.script.specs.Machine.{Buf, Call, start, begin, go, question, Ans, ended, told, awaited, Way, idle, busy, lentTo}
+use Rattle.script_ops.specs.Rings.{St}
+use Rattle.script_ops.specs.Concrete.{concrete}
 use Rattle.machine.specs.Suspended.{driverOf, drive}
 use Rattle.answer.specs.Goes.{Called}
 use Rattle.calls.specs.Sharing.{sortOf, timeAfter, turnedDown}

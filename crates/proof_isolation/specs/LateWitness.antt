@@ -11,9 +11,9 @@ use native.Mathlib.Omega.{arith}
 use lib.ListN.{getD, drop}
 use Rattle.regs.specs.declared.Dir.the-variants.{Out}
 use Rattle.state.specs.Driver.{Driver, key}
-use Rattle.model.specs.Statics.{flag}
-use Rattle.model.specs.Answers.{Answer}
-use Rattle.model.specs.Machine.{go, overruns, Way, idle, busy}
+use Rattle.script.specs.Statics.{flag}
+use Rattle.script.specs.Answers.{Answer}
+use Rattle.script.specs.Machine.{go, overruns, Way, idle, busy}
 use Rattle.proof_book.specs.Computing.{computing}
 use Rattle.proof_isolation.specs.EqualExcept.{Channel}
 use Rattle.proof_isolation.specs.Whose.{own}

@@ -9,9 +9,9 @@ use Rattle.state.specs.declared.Allocator.{Allocator}
 use Rattle.state.specs.Driver.{Driver, epOn, withOn}
 use Rattle.ring.specs.Slot.{hasWaiting}
 use Rattle.ring.specs.Out.{openedOf, closedOf}
-use Rattle.model.specs.Statics.{isOn}
+use Rattle.script.specs.Statics.{isOn}
 use Rattle.answer.specs.Questions.{questionOf}
-use Rattle.model_ops.specs.Rings.{St, waitingOn, openedOn, nextStamp, oldestOn}
+use Rattle.script_ops.specs.Rings.{St, waitingOn, openedOn, nextStamp, oldestOn}
 use Rattle.proof_isolation.specs.Late.{Light, opens, closes, asks-of}
 
 -- ---- what it does to the state

@@ -24,17 +24,17 @@ use Rattle.ring.specs.Only.{Same}
 use Rattle.ring.specs.OnlyLaws.{only-apart}
 use Rattle.ring.specs.Slot.{slotOf, slotAddr, countOf, hasWaiting, passedOf}
 use Rattle.ring.specs.Out.{hasRoomOut, cappedAt, arrivedOf, armedAt, openedOf, closedOf}
-use Rattle.model.specs.Cells.{Cell, Val, EpCore, globals-cell, control-cell, allocator-cell, ep-cell, request-cell, paced-cell}
-use Rattle.model.specs.Script.{changed, marked, setup-word, arrive}
-use Rattle.model.specs.Statics.{isOn, isoOuts, flag}
-use Rattle.model.specs.Answers.{isNumber}
-use Rattle.model.specs.Simulates.{quiet}
-use Rattle.model.specs.Machine.{Question, pending, overruns, enabled}
+use Rattle.script.specs.Cells.{Cell, Val, EpCore, globals-cell, control-cell, allocator-cell, ep-cell, request-cell, paced-cell}
+use Rattle.script.specs.Script.{changed, marked, setup-word, arrive}
+use Rattle.script.specs.Statics.{isOn, isoOuts, flag}
+use Rattle.script.specs.Answers.{isNumber}
+use Rattle.script.specs.Simulates.{quiet}
+use Rattle.script.specs.Machine.{Question, pending, overruns, enabled}
 use Rattle.answer.specs.Questions.{pendingOn, overrunsOf, overrunsOn, enabledAsked, questionOf}
-use Rattle.model_ops.specs.Records.{plainOf, merged}
-use Rattle.model_ops.specs.Rings.{St, changedOn, markedOn, waitingOn, openedOn, nextLen, nextStamp, oldestAt, oldestOn, openOn, closeOn}
-use Rattle.model_ops.specs.Rings.{writtenOn, recordedOn, admittedOn, armAt, armOn, arrivedAt, arriveOn}
-use Rattle.model_ops.specs.Concrete.{getOn, putOn, isOf, lookOf, handOn}
+use Rattle.script_ops.specs.Records.{plainOf, merged}
+use Rattle.script_ops.specs.Rings.{St, changedOn, markedOn, waitingOn, openedOn, nextLen, nextStamp, oldestAt, oldestOn, openOn, closeOn}
+use Rattle.script_ops.specs.Rings.{writtenOn, recordedOn, admittedOn, armAt, armOn, arrivedAt, arriveOn}
+use Rattle.script_ops.specs.Concrete.{getOn, putOn, isOf, lookOf, handOn}
 use Rattle.proof_book.specs.Coupling.{endOf}
 use Rattle.proof_book.specs.LensLaws.{key-ep}
 use Rattle.proof_wake_ups.specs.Still.{put-leaves}

@@ -12,9 +12,9 @@ use Rattle.state.specs.declared.Request.{Request}
 use Rattle.state.specs.Driver.{Driver, key, epOn, requestOn, noRequest}
 use Rattle.ring.specs.Only.{Only}
 use Rattle.ring.specs.OnlyLaws.{only-refl, only-trans}
-use Rattle.model.specs.Simulates.{Phase}
-use Rattle.model.specs.Machine.{Buf}
-use Rattle.model_ops.specs.Rings.{St}
+use Rattle.script.specs.Simulates.{Phase}
+use Rattle.script.specs.Machine.{Buf}
+use Rattle.script_ops.specs.Rings.{St}
 use Rattle.proof_book.specs.Coupling.{endOf}
 use Rattle.proof_book.specs.FrameLaws.{Changed, same-place, end-kept}
 use Rattle.proof_book.specs.OutsLaws.{Inner}

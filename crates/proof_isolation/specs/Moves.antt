@@ -22,10 +22,10 @@ use Rattle.alloc.specs.Alloc.{allocatedIn}
 use Rattle.state.specs.Driver.{Driver, epOn}
 use Rattle.ring.specs.Copies.{copied}
 use Rattle.ring.specs.MarksSlots.{only-copied, copied-part, over-low}
-use Rattle.model.specs.IsoOut.{arriving}
-use Rattle.model.specs.Answers.{Answer}
-use Rattle.model.specs.Calls.{interrupt, aside, Aside, Open, Close}
-use Rattle.model.specs.Machine.{Buf, begin, go, Way, idle, busy}
+use Rattle.script.specs.IsoOut.{arriving}
+use Rattle.script.specs.Answers.{Answer}
+use Rattle.script.specs.Calls.{interrupt, aside, Aside, Open, Close}
+use Rattle.script.specs.Machine.{Buf, begin, go, Way, idle, busy}
 use Rattle.proof_book.specs.Coupling.{endOf}
 use Rattle.proof_book.specs.Inputs.{left, right}
 use Rattle.proof_isolation.specs.EqualExcept.{Channel}

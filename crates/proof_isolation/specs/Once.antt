@@ -9,11 +9,11 @@ use lib.ListN.{getD, take, drop}
 use Rattle.regs.specs.declared.Dir.{Dir}
 use Rattle.regs.specs.declared.Dir.the-variants.{Out, In}
 use Rattle.state.specs.Driver.{Driver}
-use Rattle.model.specs.Statics.{flag}
-use Rattle.model.specs.Answers.{Answer, Refused}
-use Rattle.model.specs.Calls.{Config, Op, interrupt, aside, Open, Close, calls, startRow}
-use Rattle.model.specs.Machine.{Buf, Call, start, begin, go, question, pending, Event, ended}
-use Rattle.model.specs.Machine.{Way, idle, busy, Machine, misfit, lentTo}
+use Rattle.script.specs.Statics.{flag}
+use Rattle.script.specs.Answers.{Answer, Refused}
+use Rattle.script.specs.Calls.{Config, Op, interrupt, aside, Open, Close, calls, startRow}
+use Rattle.script.specs.Machine.{Buf, Call, start, begin, go, question, pending, Event, ended}
+use Rattle.script.specs.Machine.{Way, idle, busy, Machine, misfit, lentTo}
 use Rattle.machine.specs.Suspended.{driverOf, drive}
 use Rattle.answer.specs.Goes.{Called}
 use Rattle.calls.specs.Sharing.{sortOf, timeAfter, turnedDown}

@@ -5,9 +5,9 @@ use mathlib.Core.Path.{_≡_}
 use Prim.Native.Nat.{ℕ}
 use Rattle.regs.specs.declared.Dir.the-variants.{Out}
 use Rattle.state.specs.Driver.{key}
-use Rattle.model.specs.Calls.{Slotted, SetEnabled, PollRead, BeginWrite, PollWrite, PollDataOut, BeginDataIn}
-use Rattle.model.specs.Calls.{Aside}
-use Rattle.model.specs.Calls.{Op, interrupt, slotted, other, aside}
+use Rattle.script.specs.Calls.{Slotted, SetEnabled, PollRead, BeginWrite, PollWrite, PollDataOut, BeginDataIn}
+use Rattle.script.specs.Calls.{Aside}
+use Rattle.script.specs.Calls.{Op, interrupt, slotted, other, aside}
 use Rattle.proof_isolation.specs.Asides.{Others, Mine}
 
 -- all calls but those on the channel itself whose answers tell its data: a poll of its read, its open and its close

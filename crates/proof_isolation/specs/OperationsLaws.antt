@@ -13,20 +13,20 @@ use Rattle.regs.specs.declared.Dir.the-variants.{Out, In}
 use Rattle.regs.specs.Registers.{ctrlOf}
 use Rattle.state.specs.declared.Globals.{Globals}
 use Rattle.state.specs.declared.Control.{Control}
-use Rattle.model.specs.Cells.{EpCore, globals-cell}
+use Rattle.script.specs.Cells.{EpCore, globals-cell}
 use Rattle.state.specs.Driver.{key}
-use Rattle.model.specs.Script.{Script, ret, test, room, enqueue}
-use Rattle.model.specs.Statics.{isOn, withReady, withTog}
-use Rattle.model.specs.Answers.{Answer, Refused, staged}
-use Rattle.model.specs.IsoIn.{isoInCompletions, isoInAdvance}
-use Rattle.model.specs.Bus as bus
-use Rattle.model.specs.Endpoint.{arm-read, load-write, put-iso, sent-ready}
-use Rattle.model.specs.Control.{acks, closing-out, take-closing, take-in, statusIn}
-use Rattle.model.specs.Calls.{Slotted, SetEnabled, PollRead, BeginWrite, PollWrite, PollDataOut, BeginDataIn, Other}
-use Rattle.model.specs.Calls.{Allocate, AllocateAll, Start, BusPoll, BusEnable, BusDisable, Microframe, SetStalled}
-use Rattle.model.specs.Calls.{IsStalled, SetPaced, Advance, BeginRead, BeginSetup, PollSetup, PollDataIn, BeginAccept}
-use Rattle.model.specs.Calls.{PollAccept, BeginReject, BeginDataOut, BeginAcceptSetAddress, Open, Close, Queue}
-use Rattle.model.specs.Calls.{Op, interrupt, slotted, other, aside, code}
+use Rattle.script.specs.Script.{Script, ret, test, room, enqueue}
+use Rattle.script.specs.Statics.{isOn, withReady, withTog}
+use Rattle.script.specs.Answers.{Answer, Refused, staged}
+use Rattle.script.specs.IsoIn.{isoInCompletions, isoInAdvance}
+use Rattle.script.specs.Bus as bus
+use Rattle.script.specs.Endpoint.{arm-read, load-write, put-iso, sent-ready}
+use Rattle.script.specs.Control.{acks, closing-out, take-closing, take-in, statusIn}
+use Rattle.script.specs.Calls.{Slotted, SetEnabled, PollRead, BeginWrite, PollWrite, PollDataOut, BeginDataIn, Other}
+use Rattle.script.specs.Calls.{Allocate, AllocateAll, Start, BusPoll, BusEnable, BusDisable, Microframe, SetStalled}
+use Rattle.script.specs.Calls.{IsStalled, SetPaced, Advance, BeginRead, BeginSetup, PollSetup, PollDataIn, BeginAccept}
+use Rattle.script.specs.Calls.{PollAccept, BeginReject, BeginDataOut, BeginAcceptSetAddress, Open, Close, Queue}
+use Rattle.script.specs.Calls.{Op, interrupt, slotted, other, aside, code}
 use Rattle.proof_isolation.specs.EqualExcept.{Channel}
 use Rattle.proof_isolation.specs.Apart.{PairBy, Pair}
 use Rattle.proof_isolation.specs.PairsLaws.{Any, p-later, p-ret, p-bind, p-same, p-then, p-test, p-tests, p-when, p-write, p-get, p-is, p-act}

@@ -15,13 +15,13 @@ use Rattle.ring.specs.Laws.{waiting-outside}
 use Rattle.ring.specs.Slot.{countOf}
 use Rattle.regs.specs.Enables as enables
 use Rattle.state.specs.declared.Globals.{Globals}
-use Rattle.model.specs.Answers.{Answer, isNumber}
-use Rattle.model.specs.Statics.{flag}
-use Rattle.model.specs.Simulates.{Phase}
-use Rattle.model.specs.Machine.{Question, pending, overruns, enabled, Way}
+use Rattle.script.specs.Answers.{Answer, isNumber}
+use Rattle.script.specs.Statics.{flag}
+use Rattle.script.specs.Simulates.{Phase}
+use Rattle.script.specs.Machine.{Question, pending, overruns, enabled, Way}
 use Rattle.proof_wake_ups.specs.Twins.{Short}
 use Rattle.answer.specs.Questions.{pendingOn, overrunsOf, overrunsOn, enabledAsked, questionOf}
-use Rattle.model_ops.specs.Rings.{St}
+use Rattle.script_ops.specs.Rings.{St}
 use Rattle.proof_book.specs.Coupling.{endOf, lensOf, slotStamps}
 use Rattle.proof_book.specs.Stamps.{stamped}
 use Rattle.proof_isolation.specs.EqualExcept.{SameCodes, Channel, LowEquiv}

@@ -19,13 +19,13 @@ use Rattle.ring.specs.Out.{cappedAt, arrivedOf, arrivedLens, armedAt}
 use Rattle.ring.specs.Waiting.{SamePlace}
 use Rattle.ring.specs.Slots.{slot-in}
 use Rattle.ring.specs.OutLaws.{armed-alike}
-use Rattle.model.specs.Cells.{EpCore}
-use Rattle.model.specs.Script.{changed, marked, arrive}
-use Rattle.model.specs.Simulates.{quiet}
-use Rattle.model.specs.Statics.{isoOuts}
-use Rattle.model.specs.Machine.{Buf}
-use Rattle.model_ops.specs.Rings.{St, changedOn, markedOn, arrivedAt, arriveOn}
-use Rattle.model_ops.specs.Concrete.{isOf, lookOf, handOn}
+use Rattle.script.specs.Cells.{EpCore}
+use Rattle.script.specs.Script.{changed, marked, arrive}
+use Rattle.script.specs.Simulates.{quiet}
+use Rattle.script.specs.Statics.{isoOuts}
+use Rattle.script.specs.Machine.{Buf}
+use Rattle.script_ops.specs.Rings.{St, changedOn, markedOn, arrivedAt, arriveOn}
+use Rattle.script_ops.specs.Concrete.{isOf, lookOf, handOn}
 use Rattle.proof_book.specs.Pages.{Pages}
 use Rattle.proof_book.specs.Coupling.{endOf, Used, lensOf, slotStamps, Coupling}
 use Rattle.proof_book.specs.LensLaws.{lens-on, stamps-on, lens-mod, stamps-mod}

@@ -10,15 +10,15 @@ use Rattle.state.specs.Laws.{epOn-same, requestOn-other}
 use Rattle.ring.specs.OnlyLaws.{only-refl}
 use Rattle.ring.specs.Slot.{hasWaiting, passedOf}
 use Rattle.ring.specs.Out.{closedOf}
-use Rattle.model.specs.Cells.{EpCore, globals-cell, allocator-cell, ep-cell, request-cell}
-use Rattle.model.specs.Script.{run, waiting, oldest, received, take-oldest}
-use Rattle.model.specs.Statics.{withReady, modifyEp}
-use Rattle.model.specs.Answers.{Answer}
-use Rattle.model.specs.Endpoint.{ends-request, take-iso, take-ready, pollRead}
-use Rattle.model.specs.Simulates.{quiet}
-use Rattle.model_ops.specs.Records.{plainOf}
-use Rattle.model_ops.specs.Rings.{St, takeOn}
-use Rattle.model_ops.specs.Concrete.{concrete, putOn, actOn}
+use Rattle.script.specs.Cells.{EpCore, globals-cell, allocator-cell, ep-cell, request-cell}
+use Rattle.script.specs.Script.{run, waiting, oldest, received, take-oldest}
+use Rattle.script.specs.Statics.{withReady, modifyEp}
+use Rattle.script.specs.Answers.{Answer}
+use Rattle.script.specs.Endpoint.{ends-request, take-iso, take-ready, pollRead}
+use Rattle.script.specs.Simulates.{quiet}
+use Rattle.script_ops.specs.Records.{plainOf}
+use Rattle.script_ops.specs.Rings.{St, takeOn}
+use Rattle.script_ops.specs.Concrete.{concrete, putOn, actOn}
 use Rattle.proof_book.specs.LensLaws.{key-ep}
 use Rattle.proof_book.specs.FrameLaws.{Changed, changed-on}
 use Rattle.proof_isolation.specs.EqualExcept.{Stays, Beside, Lawful, Channel, Touched}

@@ -16,14 +16,14 @@ use Rattle.ring.specs.Slot.{slotAddr}
 use Rattle.ring.specs.Slots.{slot-from, slot-upto}
 use Rattle.ring.specs.Laws.{place-addr, place-trans}
 use Rattle.ring.specs.OutLaws.{armed-alike}
-use Rattle.model.specs.declared.Transfer.{Transfer}
-use Rattle.model.specs.Tree as tree
-use Rattle.model.specs.Tree.{asks, bindOut}
-use Rattle.model.specs.Script.{Script, run, test, read, look, when, done, _>>_, _>>=_, arrive, changed, marked, waken}
-use Rattle.model.specs.IsoOut.{arriving, entry, arrives, checkOne}
-use Rattle.model.specs.Simulates.{quiet}
-use Rattle.model_ops.specs.Rings.{St, arrivedAt, arriveOn}
-use Rattle.model_ops.specs.Concrete.{concrete, isOf, lookOf, actOn, handOn}
+use Rattle.script.specs.declared.Transfer.{Transfer}
+use Rattle.script.specs.Tree as tree
+use Rattle.script.specs.Tree.{asks, bindOut}
+use Rattle.script.specs.Script.{Script, run, test, read, look, when, done, _>>_, _>>=_, arrive, changed, marked, waken}
+use Rattle.script.specs.IsoOut.{arriving, entry, arrives, checkOne}
+use Rattle.script.specs.Simulates.{quiet}
+use Rattle.script_ops.specs.Rings.{St, arrivedAt, arriveOn}
+use Rattle.script_ops.specs.Concrete.{concrete, isOf, lookOf, actOn, handOn}
 use Rattle.proof_book.specs.Coupling.{endOf}
 use Rattle.proof_book.specs.HeldLaws.{receives}
 use Rattle.proof_book.specs.OutsLaws.{Inner}

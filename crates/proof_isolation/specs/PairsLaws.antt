@@ -7,15 +7,15 @@ use Rattle.regs.specs.declared.Reg.the-variants.{IntFg, IntSt, MisSt, RxLen, Fr
 use Rattle.regs.specs.declared.Reg.the-variants.{EpConfig, EpType, EpBufMod, EpMaxLen, EpTLen, EpRxCtrl, EpTxCtrl}
 use Rattle.regs.specs.declared.Access.{Access}
 use Rattle.regs.specs.declared.Access.the-variants.{Read, Write, Receive, Transmit, Ep0Dma, Wait, Callback}
-use Rattle.model.specs.Tree.{Out, ends, asks, bindOut}
-use Rattle.model.specs.Cells.{Cell, Val}
-use Rattle.model.specs.Every.{sameReg}
-use Rattle.model.specs.Script.{Script, ret, bind, test, _>>_, when, read, write, wait, callback, get, put, is, look}
-use Rattle.model.specs.Script.{fetch, act, hand, row, rows, Test, Look, Fetch, Act, DmaStep, dmaStepAsk, Burst, lastOf}
-use Rattle.model.specs.Script.{burstAsk}
-use Rattle.model.specs.Simulates.{quiet, mid, Fits}
-use Rattle.model_ops.specs.Rings.{St, rowOn}
-use Rattle.model_ops.specs.Concrete.{concrete, getOn, putOn, isOf, lookOf, fetchOf, actOn, handOn}
+use Rattle.script.specs.Tree.{Out, ends, asks, bindOut}
+use Rattle.script.specs.Cells.{Cell, Val}
+use Rattle.script.specs.Every.{sameReg}
+use Rattle.script.specs.Script.{Script, ret, bind, test, _>>_, when, read, write, wait, callback, get, put, is, look}
+use Rattle.script.specs.Script.{fetch, act, hand, row, rows, Test, Look, Fetch, Act, DmaStep, dmaStepAsk, Burst, lastOf}
+use Rattle.script.specs.Script.{burstAsk}
+use Rattle.script.specs.Simulates.{quiet, mid, Fits}
+use Rattle.script_ops.specs.Rings.{St, rowOn}
+use Rattle.script_ops.specs.Concrete.{concrete, getOn, putOn, isOf, lookOf, fetchOf, actOn, handOn}
 use Rattle.proof_isolation.specs.EqualExcept.{Channel, LowEquiv}
 use Rattle.proof_isolation.specs.LikesLaws.{like-sym, touched-refl}
 use Rattle.proof_isolation.specs.Whose.{sof}

@@ -15,11 +15,11 @@ use Rattle.state.specs.Driver.{Driver, epOn, withOn, stampOn, requestOn}
 use Rattle.state.specs.Laws.{Sized}
 use Rattle.ring.specs.Waiting.{SamePlace}
 use Rattle.ring.specs.Laws.{place-trans}
-use Rattle.model.specs.Script.{bus-reset}
-use Rattle.model.specs.Statics.{renewed, withSetup}
-use Rattle.model.specs.Bus as bus
-use Rattle.model.specs.Simulates.{quiet, mid}
-use Rattle.model_ops.specs.Rings.{St, resetBelow, resetAll}
+use Rattle.script.specs.Script.{bus-reset}
+use Rattle.script.specs.Statics.{renewed, withSetup}
+use Rattle.script.specs.Bus as bus
+use Rattle.script.specs.Simulates.{quiet, mid}
+use Rattle.script_ops.specs.Rings.{St, resetBelow, resetAll}
 use Rattle.proof_book.specs.FrameLaws.{same-place, changed-on}
 use Rattle.proof_book.specs.ResetsLaws.{reset-place}
 use Rattle.proof_isolation.specs.EqualExcept.{Stays, EqualExcept, Channel, LowEquiv}

@@ -14,15 +14,15 @@ use Rattle.ring.specs.Copies.{bytesAt}
 use Rattle.ring.specs.Slot.{hasWaiting}
 use Rattle.ring.specs.Out.{closedOf}
 use Rattle.ring.specs.Slots.{slot-from, slot-upto}
-use Rattle.model.specs.Cells.{EpCore, ep-cell}
-use Rattle.model.specs.Script.{Script, run, ret, bind, test, fetch, _>>_, waiting, oldest, received, take-oldest}
-use Rattle.model.specs.Statics.{isOn, withReady, modifyEp}
-use Rattle.model.specs.Answers.{Answer, Refused, NotYet, Done}
-use Rattle.model.specs.Endpoint.{enabled-else, ends-request, polled, take-iso, tooLong, take-ready}
-use Rattle.model.specs.Simulates.{quiet}
-use Rattle.model_ops.specs.Records.{plainOf, merged}
-use Rattle.model_ops.specs.Rings.{St, takeOn}
-use Rattle.model_ops.specs.Concrete.{concrete, fetchOf, putOn, actOn}
+use Rattle.script.specs.Cells.{EpCore, ep-cell}
+use Rattle.script.specs.Script.{Script, run, ret, bind, test, fetch, _>>_, waiting, oldest, received, take-oldest}
+use Rattle.script.specs.Statics.{isOn, withReady, modifyEp}
+use Rattle.script.specs.Answers.{Answer, Refused, NotYet, Done}
+use Rattle.script.specs.Endpoint.{enabled-else, ends-request, polled, take-iso, tooLong, take-ready}
+use Rattle.script.specs.Simulates.{quiet}
+use Rattle.script_ops.specs.Records.{plainOf, merged}
+use Rattle.script_ops.specs.Rings.{St, takeOn}
+use Rattle.script_ops.specs.Concrete.{concrete, fetchOf, putOn, actOn}
 use Rattle.proof_isolation.specs.EqualExcept.{Channel, LowEquiv}
 use Rattle.proof_isolation.specs.Apart.{Apart, Pair}
 use Rattle.proof_isolation.specs.PairsLaws.{p-ret, p-same, p-then, p-test, p-is, p-fetch, p-act}

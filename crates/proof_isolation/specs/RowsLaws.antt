@@ -6,12 +6,12 @@ use Prim.Native.Nat.{ℕ}
 use Rattle.regs.specs.declared.Dir.{Dir}
 use Rattle.regs.specs.declared.Dir.the-variants.{Out}
 use Rattle.state.specs.Driver.{key}
-use Rattle.model.specs.Cells.{EpCore, ep-cell}
-use Rattle.model.specs.Script.{Script, bind, get}
-use Rattle.model.specs.Answers.{Answer, unless}
-use Rattle.model.specs.Statics.{withReady}
-use Rattle.model.specs.Endpoint.{enabled-else, ends-request, polled}
-use Rattle.model.specs.Calls.{numbered, named-or-0}
+use Rattle.script.specs.Cells.{EpCore, ep-cell}
+use Rattle.script.specs.Script.{Script, bind, get}
+use Rattle.script.specs.Answers.{Answer, unless}
+use Rattle.script.specs.Statics.{withReady}
+use Rattle.script.specs.Endpoint.{enabled-else, ends-request, polled}
+use Rattle.script.specs.Calls.{numbered, named-or-0}
 use Rattle.proof_isolation.specs.EqualExcept.{Channel}
 use Rattle.proof_isolation.specs.Apart.{Pair}
 use Rattle.proof_isolation.specs.PairsLaws.{p-ret, p-same, p-then, p-test}

@@ -5,17 +5,17 @@ use mathlib.Core.Path.{_≡_, refl, ap, subst, sym, _∙_}
 use Prim.Native.Nat.{ℕ}
 use Rattle.regs.specs.declared.Access.{Access}
 use Rattle.state.specs.Driver.{Driver}
-use Rattle.model.specs.Tree as tree
-use Rattle.model.specs.Tree.{ends, asks}
-use Rattle.model.specs.Every.{at-end, at-ask}
-use Rattle.model.specs.Script.{run}
-use Rattle.model.specs.Answers.{Answer, Refused}
-use Rattle.model.specs.Simulates.{Phase, quiet, mid}
-use Rattle.model.specs.Calls.{Config, Op, interrupt, slotted, other, aside, Aside, calls, irq, code, slots, asideCode, asideSlots}
-use Rattle.model.specs.Machine.{Buf, Question, pending, Call, begin, go, question, Ans, ended, handed, told, awaited}
-use Rattle.model.specs.Machine.{Way, idle, busy, Machine, over, lentTo, beside}
-use Rattle.model_ops.specs.Rings.{St}
-use Rattle.model_ops.specs.Concrete.{concrete}
+use Rattle.script.specs.Tree as tree
+use Rattle.script.specs.Tree.{ends, asks}
+use Rattle.script.specs.Every.{at-end, at-ask}
+use Rattle.script.specs.Script.{run}
+use Rattle.script.specs.Answers.{Answer, Refused}
+use Rattle.script.specs.Simulates.{Phase, quiet, mid}
+use Rattle.script.specs.Calls.{Config, Op, interrupt, slotted, other, aside, Aside, calls, irq, code, slots, asideCode, asideSlots}
+use Rattle.script.specs.Machine.{Buf, Question, pending, Call, begin, go, question, Ans, ended, handed, told, awaited}
+use Rattle.script.specs.Machine.{Way, idle, busy, Machine, over, lentTo, beside}
+use Rattle.script_ops.specs.Rings.{St}
+use Rattle.script_ops.specs.Concrete.{concrete}
 use Rattle.machine.specs.Suspended.{driverOf, drive}
 use Rattle.answer.specs.Goes.{Called}
 use Rattle.calls.specs.Sharing.{Sort, enabling, starting, going, opSort, slottedSort, sortOf, timeAfter, turnedDown}

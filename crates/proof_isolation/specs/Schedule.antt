@@ -11,11 +11,11 @@ use Rattle.regs.specs.declared.Dir.the-variants.{Out}
 use Rattle.state.specs.Driver.{Driver, key, epOn}
 use Rattle.state.specs.Wakes.{listed}
 use Rattle.ring.specs.Waiting.{waiting}
-use Rattle.model.specs.Answers.{Answer, Refused, End}
-use Rattle.model.specs.Calls.{Config, Op, interrupt, slotted, other, aside, slots, calls, startRow}
-use Rattle.model.specs.Machine.{Buf, Question, pending, overruns, enabled, Call, start, begin, go, question, Event, Ans}
-use Rattle.model.specs.Machine.{ended, handed, told, Way, idle, busy, Machine, over, misfit, lentTo}
-use Rattle.model_ops.specs.Rings.{St}
+use Rattle.script.specs.Answers.{Answer, Refused, End}
+use Rattle.script.specs.Calls.{Config, Op, interrupt, slotted, other, aside, slots, calls, startRow}
+use Rattle.script.specs.Machine.{Buf, Question, pending, overruns, enabled, Call, start, begin, go, question, Event, Ans}
+use Rattle.script.specs.Machine.{ended, handed, told, Way, idle, busy, Machine, over, misfit, lentTo}
+use Rattle.script_ops.specs.Rings.{St}
 use Rattle.machine.specs.Suspended.{driverOf, drive}
 use Rattle.answer.specs.Goes.{Called}
 use Rattle.answer.specs.Questions.{questionOf}

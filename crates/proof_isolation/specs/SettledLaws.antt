@@ -17,18 +17,18 @@ use Rattle.alloc.specs.Alloc.{allocateOf, isIso}
 use Rattle.ring.specs.Slot.{slotAddr, hasWaiting}
 use Rattle.ring.specs.Out.{hasRoomOut, cappedAt}
 use Rattle.ring.specs.Copies.{copied}
-use Rattle.model.specs.Cells.{Cell, Val, globals-cell, control-cell, allocator-cell, ep-cell, request-cell, paced-cell}
-use Rattle.model.specs.Script.{Act, complete, reset-ring, set-enabled, fill, fill0, open-oldest, close-oldest}
-use Rattle.model.specs.Script.{take-oldest, enqueue, allocate, allocate0, no-wakes, waken, DmaStep, arrive, send, place}
-use Rattle.model.specs.Script.{place0, Burst, switch, bus-reset}
-use Rattle.model.specs.Statics.{isOn, isoOuts}
-use Rattle.model.specs.Acts.{sameAct}
-use Rattle.model.specs.TransferKinds.{allocates}
-use Rattle.model_ops.specs.Records.{isoOut, configured, enabledOn, isoAdded, withSets, recordGiven, setsGiven, givenTo, allocatedOn}
-use Rattle.model_ops.specs.Rings.{St, completeOn, emptied, emptiedOn, openOn, closeOn, takeOn, roomOn, queuedOn}
-use Rattle.model_ops.specs.Rings.{enqueueOn, recordedOn, admittedOn, arrivedAt, arriveOn, sendOn, placeOn, renewedOn}
-use Rattle.model_ops.specs.Rings.{armAt, slotStep, typeStep, configStep, resetBelow, resetAll, rowOn}
-use Rattle.model_ops.specs.Concrete.{putOn, actOn, handOn}
+use Rattle.script.specs.Cells.{Cell, Val, globals-cell, control-cell, allocator-cell, ep-cell, request-cell, paced-cell}
+use Rattle.script.specs.Script.{Act, complete, reset-ring, set-enabled, fill, fill0, open-oldest, close-oldest}
+use Rattle.script.specs.Script.{take-oldest, enqueue, allocate, allocate0, no-wakes, waken, DmaStep, arrive, send, place}
+use Rattle.script.specs.Script.{place0, Burst, switch, bus-reset}
+use Rattle.script.specs.Statics.{isOn, isoOuts}
+use Rattle.script.specs.Acts.{sameAct}
+use Rattle.script.specs.TransferKinds.{allocates}
+use Rattle.script_ops.specs.Records.{isoOut, configured, enabledOn, isoAdded, withSets, recordGiven, setsGiven, givenTo, allocatedOn}
+use Rattle.script_ops.specs.Rings.{St, completeOn, emptied, emptiedOn, openOn, closeOn, takeOn, roomOn, queuedOn}
+use Rattle.script_ops.specs.Rings.{enqueueOn, recordedOn, admittedOn, arrivedAt, arriveOn, sendOn, placeOn, renewedOn}
+use Rattle.script_ops.specs.Rings.{armAt, slotStep, typeStep, configStep, resetBelow, resetAll, rowOn}
+use Rattle.script_ops.specs.Concrete.{putOn, actOn, handOn}
 use Rattle.proof_wake_ups.specs.Still.{placed-by}
 use Rattle.proof_isolation.specs.EqualExcept.{Bounded}
 use Rattle.proof_isolation.specs.Settled.{isControl}

@@ -10,7 +10,7 @@ use Rattle.bits.specs.Walk.{setBits}
 use Rattle.bits.specs.WalkLaws as walk-laws
 use Rattle.bits.specs.WalkLaws.{walked-set}
 use mathlib.Core.Logic.{inl, inr}
-use Rattle.model.specs.SortsWalks.{among-outs}
+use Rattle.script.specs.SortsWalks.{among-outs}
 use Rattle.proof_book.specs.TransferKindsLaws.{sorted}
 use Rattle.regs.specs.declared.Access.{Access}
 use Rattle.regs.specs.declared.Access.the-variants.{Receive}
@@ -25,25 +25,25 @@ use Rattle.regs.specs.Status.{endpoint, token}
 use Rattle.state.specs.declared.Globals.{Globals}
 use Rattle.state.specs.Driver.{Driver, withWakes}
 use Rattle.state.specs.Wakes.{Wakes, unwoken, listed, all-woken}
-use Rattle.model.specs.declared.Transfer.{Transfer}
-use Rattle.model.specs.Tree as tree
-use Rattle.model.specs.Tree.{ends, asks, bindOut}
-use Rattle.model.specs.Cells.{Cell, Val, EpCore, globals-cell, ep-cell}
-use Rattle.model.specs.Script.{Script, Act, run, ret, bind, test, _>>=_, _>>_, when, read, write, callback, get, put, is, look, fetch, act, hand}
-use Rattle.model.specs.Script.{changed, waiting, marked, next-len, setup-word, gathered, complete, no-wakes, waken, arrive, send}
-use Rattle.model.specs.Statics.{isoInEvery, isoOuts, modify, modifyEp, modifyReg, modifyIntEn, wake}
-use Rattle.model.specs.Answers.{Answer}
-use Rattle.model.specs.Simulates.{quiet}
-use Rattle.model.specs.TransferKinds.{allocates}
-use Rattle.model.specs.IsoIn.{firstInFrame, isoInLoad, isoInComplete, unseen, sofOne, sofWalk, onSof, lateWalk}
-use Rattle.model.specs.IsoOut.{arrives, checkOne, checkWalk, isoOutCheck}
-use Rattle.model.specs.Handler.{looks, nakNonIso, toggled, retake, settle, received, sent, outArm, isoInArm, inArm, entered, framed, isoFor}
-use Rattle.model.specs.Handler.{dispatch, movedOn, ep0MovedOn, served, onTransfer, onSetup, onInterrupt, stampedInterrupt}
-use Rattle.model.specs.Calls.{Config, Op, interrupt, slotted, other, aside, calls, code, startRow, interruptCode}
-use Rattle.model.specs.Machine.{Buf, Call, start, begin, go, question, Way, idle, busy, Machine, over, misfit, stay, lentTo}
-use Rattle.model.specs.Machine.{beside, begun, continued, started}
-use Rattle.model_ops.specs.Rings.{St}
-use Rattle.model_ops.specs.Concrete.{concrete, getOn, putOn, isOf, lookOf, actOn, handOn}
+use Rattle.script.specs.declared.Transfer.{Transfer}
+use Rattle.script.specs.Tree as tree
+use Rattle.script.specs.Tree.{ends, asks, bindOut}
+use Rattle.script.specs.Cells.{Cell, Val, EpCore, globals-cell, ep-cell}
+use Rattle.script.specs.Script.{Script, Act, run, ret, bind, test, _>>=_, _>>_, when, read, write, callback, get, put, is, look, fetch, act, hand}
+use Rattle.script.specs.Script.{changed, waiting, marked, next-len, setup-word, gathered, complete, no-wakes, waken, arrive, send}
+use Rattle.script.specs.Statics.{isoInEvery, isoOuts, modify, modifyEp, modifyReg, modifyIntEn, wake}
+use Rattle.script.specs.Answers.{Answer}
+use Rattle.script.specs.Simulates.{quiet}
+use Rattle.script.specs.TransferKinds.{allocates}
+use Rattle.script.specs.IsoIn.{firstInFrame, isoInLoad, isoInComplete, unseen, sofOne, sofWalk, onSof, lateWalk}
+use Rattle.script.specs.IsoOut.{arrives, checkOne, checkWalk, isoOutCheck}
+use Rattle.script.specs.Handler.{looks, nakNonIso, toggled, retake, settle, received, sent, outArm, isoInArm, inArm, entered, framed, isoFor}
+use Rattle.script.specs.Handler.{dispatch, movedOn, ep0MovedOn, served, onTransfer, onSetup, onInterrupt, stampedInterrupt}
+use Rattle.script.specs.Calls.{Config, Op, interrupt, slotted, other, aside, calls, code, startRow, interruptCode}
+use Rattle.script.specs.Machine.{Buf, Call, start, begin, go, question, Way, idle, busy, Machine, over, misfit, stay, lentTo}
+use Rattle.script.specs.Machine.{beside, begun, continued, started}
+use Rattle.script_ops.specs.Rings.{St}
+use Rattle.script_ops.specs.Concrete.{concrete, getOn, putOn, isOf, lookOf, actOn, handOn}
 use Rattle.machine.specs.Suspended.{driverOf, drive}
 use Rattle.answer.specs.Goes.{Called}
 use Rattle.proof_isolation.specs.EqualExcept.{Lawful, Channel}

@@ -8,13 +8,13 @@ use Rattle.regs.specs.declared.Access.{Access}
 use Rattle.regs.specs.declared.Access.the-variants.{Read, Write, Receive, Transmit, Ep0Dma, Wait, Callback}
 use Rattle.regs.specs.declared.Reg.the-variants.{IntSt}
 use Rattle.state.specs.Driver.{Driver}
-use Rattle.model.specs.Tree as tree
-use Rattle.model.specs.Tree.{asks}
-use Rattle.model.specs.Every.{sameReg}
-use Rattle.model.specs.Answers.{Answer}
-use Rattle.model.specs.Calls.{calls}
-use Rattle.model.specs.Machine.{Ans, ended, awaited, Way, busy, Machine, halt}
-use Rattle.model_ops.specs.Rings.{St}
+use Rattle.script.specs.Tree as tree
+use Rattle.script.specs.Tree.{asks}
+use Rattle.script.specs.Every.{sameReg}
+use Rattle.script.specs.Answers.{Answer}
+use Rattle.script.specs.Calls.{calls}
+use Rattle.script.specs.Machine.{Ans, ended, awaited, Way, busy, Machine, halt}
+use Rattle.script_ops.specs.Rings.{St}
 use Rattle.machine.specs.Suspended.{driverOf}
 use Rattle.answer.specs.Goes.{Called}
 use Rattle.proof_wake_ups.specs.Rooms.{Few, Roomy}

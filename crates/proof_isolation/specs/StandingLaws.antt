@@ -9,13 +9,13 @@ use Rattle.regs.specs.declared.Access.{Access}
 use Rattle.regs.specs.declared.Access.the-variants.{Read, Write, Receive, Transmit, Ep0Dma, Wait, Callback}
 use Rattle.regs.specs.declared.Reg.the-variants.{EpConfig}
 use Rattle.state.specs.Driver.{Driver}
-use Rattle.model.specs.Tree as tree
-use Rattle.model.specs.Every.{at-end, at-ask, Where, sameReg}
-use Rattle.model.specs.Answers.{Answer}
-use Rattle.model.specs.Simulates.{Phase}
-use Rattle.model.specs.Calls.{calls}
-use Rattle.model.specs.Machine.{Ans, misfit}
-use Rattle.model_ops.specs.Rings.{St}
+use Rattle.script.specs.Tree as tree
+use Rattle.script.specs.Every.{at-end, at-ask, Where, sameReg}
+use Rattle.script.specs.Answers.{Answer}
+use Rattle.script.specs.Simulates.{Phase}
+use Rattle.script.specs.Calls.{calls}
+use Rattle.script.specs.Machine.{Ans, misfit}
+use Rattle.script_ops.specs.Rings.{St}
 use Rattle.machine.specs.Suspended.{driverOf}
 use Rattle.calls.specs.Sharing.{going, written, timeAfter}
 use Rattle.proof_wake_ups.specs.Rooms.{Few, Rooms}

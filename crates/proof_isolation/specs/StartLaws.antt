@@ -6,14 +6,14 @@ use Prim.Native.Nat.{ℕ, zero, _<_}
 use Rattle.regs.specs.declared.Access.the-variants.{Wait}
 use Rattle.regs.specs.declared.Dir.the-variants.{Out}
 use Rattle.state.specs.Driver.{Driver}
-use Rattle.model.specs.Tree.{ends}
-use Rattle.model.specs.Every.{at-end}
-use Rattle.model.specs.Answers.{Answer, Refused, NotYet}
-use Rattle.model.specs.Simulates.{Phase, quiet}
-use Rattle.model.specs.Calls.{Config, Op, calls, startRow}
-use Rattle.model.specs.Machine.{Buf, pending, start, question, Event, ended, Way, idle, busy, Machine, lentTo, started}
-use Rattle.model.specs.Agree.{Ways, both-idle, both-busy, agrees, from-start}
-use Rattle.model_ops.specs.Rings.{St}
+use Rattle.script.specs.Tree.{ends}
+use Rattle.script.specs.Every.{at-end}
+use Rattle.script.specs.Answers.{Answer, Refused, NotYet}
+use Rattle.script.specs.Simulates.{Phase, quiet}
+use Rattle.script.specs.Calls.{Config, Op, calls, startRow}
+use Rattle.script.specs.Machine.{Buf, pending, start, question, Event, ended, Way, idle, busy, Machine, lentTo, started}
+use Rattle.script.specs.Agree.{Ways, both-idle, both-busy, agrees, from-start}
+use Rattle.script_ops.specs.Rings.{St}
 use Rattle.machine.specs.Suspended.{driverOf, drive}
 use Rattle.answer.specs.Goes.{Called}
 use Rattle.proof_book.specs.Pages.{Pages}

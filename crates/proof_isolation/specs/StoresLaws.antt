@@ -10,9 +10,9 @@ use Rattle.state.specs.declared.Allocator.{Allocator}
 use Rattle.state.specs.declared.Globals.{Globals}
 use Rattle.state.specs.Driver.{Driver}
 use Rattle.alloc.specs.Alloc.{allocatedIn}
-use Rattle.model.specs.Simulates.{Phase}
-use Rattle.model.specs.Machine.{Buf}
-use Rattle.model_ops.specs.Rings.{St}
+use Rattle.script.specs.Simulates.{Phase}
+use Rattle.script.specs.Machine.{Buf}
+use Rattle.script_ops.specs.Rings.{St}
 use Rattle.proof_book.specs.Pages.{Pages}
 use Rattle.proof_book.specs.Coupling.{Coupling, Chip}
 use Rattle.proof_book.specs.ChipsLaws.{chip}

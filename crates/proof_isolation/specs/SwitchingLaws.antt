@@ -23,14 +23,14 @@ use Rattle.ring.specs.Out.{armedAt}
 use Rattle.ring.specs.Waiting.{SamePlace}
 use Rattle.ring.specs.Laws.{place-addr, place-trans}
 use Rattle.ring.specs.OutLaws.{armed-alike}
-use Rattle.model.specs.Cells.{EpCore}
-use Rattle.model.specs.Script.{switch}
-use Rattle.model.specs.Statics.{isOn}
-use Rattle.model.specs.Bus as bus
-use Rattle.model.specs.Simulates.{Phase, quiet, mid}
-use Rattle.model.specs.Machine.{Buf}
-use Rattle.model_ops.specs.Rings.{St, renewedOn, armAt, slotStep, typeStep, configStep}
-use Rattle.model_ops.specs.Stamps.{cleared-stamp}
+use Rattle.script.specs.Cells.{EpCore}
+use Rattle.script.specs.Script.{switch}
+use Rattle.script.specs.Statics.{isOn}
+use Rattle.script.specs.Bus as bus
+use Rattle.script.specs.Simulates.{Phase, quiet, mid}
+use Rattle.script.specs.Machine.{Buf}
+use Rattle.script_ops.specs.Rings.{St, renewedOn, armAt, slotStep, typeStep, configStep}
+use Rattle.script_ops.specs.Stamps.{cleared-stamp}
 use Rattle.proof_book.specs.Coupling.{endOf, slotStamps}
 use Rattle.proof_book.specs.LensLaws.{key-other, stamps-mod, stamps-clear-other}
 use Rattle.proof_book.specs.FrameLaws.{Changed, same-place, changed-on, changed-clear, changed-trans}

@@ -3,8 +3,8 @@ use mathlib.Core.Bool.{Bool}
 use mathlib.Core.List.{List, [], _∷_}
 use mathlib.Core.Path.{_≡_}
 use Prim.Native.Nat.{ℕ, zero}
-use Rattle.model.specs.Calls.{Config, startRow}
-use Rattle.model.specs.Machine.{Buf, start, idle}
+use Rattle.script.specs.Calls.{Config, startRow}
+use Rattle.script.specs.Machine.{Buf, start, idle}
 use Rattle.proof_book.specs.MachineRuns.{Premise}
 use Rattle.proof_book.specs.Sorting.{sortsOf}
 use Rattle.proof_isolation.specs.EqualExcept.{Channel}

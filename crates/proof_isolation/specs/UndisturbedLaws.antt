@@ -9,8 +9,8 @@ use Rattle.proof_isolation.specs.Standing.{At, at}
 use Rattle.proof_isolation.specs.StandingLaws.{at-time, at-stands, at-lined, at-alike, at-swap}
 use Rattle.proof_isolation.specs.StartLaws.{anew, starts, one-so-far}
 use Rattle.proof_isolation.specs.Undisturbed.{Session, started-up, opened, Opens, AllOpen, Undisturbed}
-use Rattle.model.specs.Calls.{Config, Op}
-use Rattle.model.specs.Machine.{Event}
+use Rattle.script.specs.Calls.{Config, Op}
+use Rattle.script.specs.Machine.{Event}
 use Rattle.proof_isolation.specs.EqualExcept.{Channel}
 use Rattle.proof_isolation.specs.Runs.{goes-by, begins-by, asked-by, stores-by}
 use Rattle.proof_isolation.specs.AloneLaws.{alone-by}

@@ -12,14 +12,14 @@ use Rattle.state.specs.declared.Globals.{Globals}
 use Rattle.state.specs.Wakes.{wakeCode, busCode, every-endpoint}
 use Rattle.state.specs.Driver.{key, epOn, withOn}
 use Rattle.state.specs.Laws.{key-apart}
-use Rattle.model.specs.Cells.{EpCore, globals-cell, ep-cell}
-use Rattle.model.specs.Script.{Script, run, bind, get, put, act, fetch, gathered, no-wakes, waken}
-use Rattle.model.specs.Statics.{isOn, withReady, modify, modifyEp, wake, wakeAll, wakeBus}
-use Rattle.model.specs.Simulates.{quiet}
-use Rattle.model.specs.TransferKinds.{Shows}
-use Rattle.model_ops.specs.Records.{plainOf, merged, mergedGlobals}
-use Rattle.model_ops.specs.Rings.{St}
-use Rattle.model_ops.specs.Concrete.{concrete, putOn, actOn}
+use Rattle.script.specs.Cells.{EpCore, globals-cell, ep-cell}
+use Rattle.script.specs.Script.{Script, run, bind, get, put, act, fetch, gathered, no-wakes, waken}
+use Rattle.script.specs.Statics.{isOn, withReady, modify, modifyEp, wake, wakeAll, wakeBus}
+use Rattle.script.specs.Simulates.{quiet}
+use Rattle.script.specs.TransferKinds.{Shows}
+use Rattle.script_ops.specs.Records.{plainOf, merged, mergedGlobals}
+use Rattle.script_ops.specs.Rings.{St}
+use Rattle.script_ops.specs.Concrete.{concrete, putOn, actOn}
 use Rattle.proof_book.specs.Book.{mergedPlain}
 use Rattle.proof_book.specs.LensLaws.{key-ep}
 use Rattle.proof_book.specs.FrameLaws.{same-place, changed-on}

@@ -11,20 +11,20 @@ use Rattle.regs.specs.declared.Dir.{Dir}
 use Rattle.regs.specs.declared.Dir.the-variants.{Out, In}
 use Rattle.regs.specs.Registers.{ctrlOf}
 use Rattle.regs.specs.Status.{token, tokenNumbered, isIn}
-use Rattle.model.specs.Cells.{ep-cell}
-use Rattle.model.specs.Tree.{bindOut}
-use Rattle.model.specs.Script.{Script, run, bind, test, done, _>>=_, _>>_, read, write, look, hand, complete, send, waiting, next-len}
-use Rattle.model.specs.Every.{sameReg}
-use Rattle.model.specs.Simulates.{quiet}
+use Rattle.script.specs.Cells.{ep-cell}
+use Rattle.script.specs.Tree.{bindOut}
+use Rattle.script.specs.Script.{Script, run, bind, test, done, _>>=_, _>>_, read, write, look, hand, complete, send, waiting, next-len}
+use Rattle.script.specs.Every.{sameReg}
+use Rattle.script.specs.Simulates.{quiet}
 use Rattle.frame.specs.Usb20.{indexOf, frameOf}
 use Rattle.frame.specs.Advance.{previous}
-use Rattle.model.specs.Statics.{withLastFrame, modifyReg, modifyIntEn, wake}
-use Rattle.model.specs.IsoIn.{firstInFrame, isoInLoad, isoInComplete, leaving, unseen, sofOne, sofWalk, onSof, lateWalk}
-use Rattle.model.specs.Handler.{looks, sieWait, outNaks, nakNonIso, repeated, toggled, sent, sofArm, isoInArm, movedOn, ep0MovedOn}
+use Rattle.script.specs.Statics.{withLastFrame, modifyReg, modifyIntEn, wake}
+use Rattle.script.specs.IsoIn.{firstInFrame, isoInLoad, isoInComplete, leaving, unseen, sofOne, sofWalk, onSof, lateWalk}
+use Rattle.script.specs.Handler.{looks, sieWait, outNaks, nakNonIso, repeated, toggled, sent, sofArm, isoInArm, movedOn, ep0MovedOn}
 use Rattle.regs.specs.declared.Token.{Token}
 use Rattle.regs.specs.declared.Token.the-variants as tok
-use Rattle.model_ops.specs.Rings.{St}
-use Rattle.model_ops.specs.Concrete.{concrete, isOf, actOn, putOn, getOn}
+use Rattle.script_ops.specs.Rings.{St}
+use Rattle.script_ops.specs.Concrete.{concrete, isOf, actOn, putOn, getOn}
 use Rattle.proof_isolation.specs.EqualExcept.{Channel}
 use Rattle.proof_isolation.specs.Whose.{sof}
 use Rattle.proof_isolation.specs.Apart.{Reads, Next, next, elsewhere, ApartBy, both, PairBy, Pair}

@@ -6,12 +6,12 @@ use Rattle.regs.specs.declared.Access.{Access}
 use Rattle.regs.specs.declared.Access.the-variants.{Read, Write, Receive, Transmit, Ep0Dma, Wait, Callback}
 use Rattle.regs.specs.declared.Reg.the-variants.{IntSt}
 use Rattle.state.specs.Driver.{Driver}
-use Rattle.model.specs.Tree as tree
-use Rattle.model.specs.Tree.{ends, asks}
-use Rattle.model.specs.Every.{sameReg}
-use Rattle.model.specs.Answers.{Answer}
-use Rattle.model.specs.Machine.{Way, idle, busy, Machine}
-use Rattle.model_ops.specs.Rings.{St}
+use Rattle.script.specs.Tree as tree
+use Rattle.script.specs.Tree.{ends, asks}
+use Rattle.script.specs.Every.{sameReg}
+use Rattle.script.specs.Answers.{Answer}
+use Rattle.script.specs.Machine.{Way, idle, busy, Machine}
+use Rattle.script_ops.specs.Rings.{St}
 
 -- OUT x's receive address
 abbrev pub receives : ℕ → Access → Bool

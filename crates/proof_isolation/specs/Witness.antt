@@ -18,9 +18,9 @@ use Rattle.regs.specs.declared.Access.the-variants.{Wait}
 use Rattle.regs.specs.declared.Dir.the-variants.{Out}
 use Rattle.state.specs.Driver.{epOn}
 use Rattle.ring.specs.Waiting.{waiting}
-use Rattle.model.specs.Answers.{Answer, Refused, End, NotYet, Done, Shown}
-use Rattle.model.specs.Calls.{Config, Op, slotted, other, SetEnabled, Allocate, Start}
-use Rattle.model.specs.Machine.{Buf, Call, begin, go, Ans, ended, handed, told, idle}
+use Rattle.script.specs.Answers.{Answer, Refused, End, NotYet, Done, Shown}
+use Rattle.script.specs.Calls.{Config, Op, slotted, other, SetEnabled, Allocate, Start}
+use Rattle.script.specs.Machine.{Buf, Call, begin, go, Ans, ended, handed, told, idle}
 use Rattle.machine.specs.Suspended.{driverOf}
 use Rattle.proof_book.specs.FrontPage.{lensOf}
 use Rattle.proof_book.specs.Computing.{computing}

@@ -8,9 +8,9 @@ use lib.Dec.{eqb}
 use Rattle.state.specs.Driver.{Driver}
 use Rattle.state.specs.State.{view, saved}
 use Rattle.state.specs.Determined.{Bytes, determined}
-use Rattle.model.specs.Answers.{Answer, Refused}
-use Rattle.model.specs.Calls.{Config, Op, slots}
-use Rattle.model.specs.Machine.{Buf, Call, start, begin, go, question, Machine, Ans, ended}
+use Rattle.script.specs.Answers.{Answer, Refused}
+use Rattle.script.specs.Calls.{Config, Op, slots}
+use Rattle.script.specs.Machine.{Buf, Call, start, begin, go, question, Machine, Ans, ended}
 use Rattle.answer.specs.declared.Step.the-variants as step
 use Rattle.machine.specs.Suspended.{decode, machineAt, machineOf, drive, answerOf, slotsFit, lentOr, BufferUnchangedOnRow1, SavedByAnswer}
 use Rattle.answer.specs.Goes.{Called}

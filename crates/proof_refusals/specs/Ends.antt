@@ -9,9 +9,9 @@ use native.Mathlib.Omega.{arith}
 use lib.ListN.{length}
 use Rattle.state.specs.Driver.{Driver}
 use Rattle.state.specs.State.{view, saved}
-use Rattle.model.specs.Answers.{Answer, End}
-use Rattle.model.specs.Calls.{Config, Op}
-use Rattle.model.specs.Machine.{Buf, Call, Ans, ended}
+use Rattle.script.specs.Answers.{Answer, End}
+use Rattle.script.specs.Calls.{Config, Op}
+use Rattle.script.specs.Machine.{Buf, Call, Ans, ended}
 use Rattle.endpoint.specs.Answers.{front}
 use Rattle.endpoint.specs.Front.{front-length}
 use Rattle.machine.specs.declared.Suspended.{Suspended}

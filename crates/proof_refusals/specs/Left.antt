@@ -7,13 +7,13 @@ use lib.Dec.{eqb}
 use Rattle.regs.specs.declared.Dir.{Dir}
 use Rattle.regs.specs.declared.Dir.the-variants.{Out, In}
 use Rattle.state.specs.Driver.{Driver, epOn, withOn, withRequestOn, withControl}
-use Rattle.model.specs.Statics.{withReady}
-use Rattle.model.specs.Endpoint.{no-request}
-use Rattle.model.specs.Control.{no-control}
-use Rattle.model.specs.Calls.{Config, Op, slots}
-use Rattle.model.specs.Kinds as kinds
-use Rattle.model.specs.Machine.{Buf, Call, start, begin, go, question}
-use Rattle.model_ops.specs.Records.{plainOf, merged}
+use Rattle.script.specs.Statics.{withReady}
+use Rattle.script.specs.Endpoint.{no-request}
+use Rattle.script.specs.Control.{no-control}
+use Rattle.script.specs.Calls.{Config, Op, slots}
+use Rattle.script.specs.Kinds as kinds
+use Rattle.script.specs.Machine.{Buf, Call, start, begin, go, question}
+use Rattle.script_ops.specs.Records.{plainOf, merged}
 use Rattle.machine.specs.Suspended.{slotsFit}
 
 -- the polls that 9 or 10 may refuse: of a read or a write, of the control pipe's stages; a poll of setup is refused by neither

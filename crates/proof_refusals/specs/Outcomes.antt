@@ -6,11 +6,11 @@ use mathlib.Core.List.{List, []}
 use Prim.Native.Nat.{ℕ}
 use Rattle.state.specs.Driver.{Driver}
 use Rattle.state.specs.Wakes.{listed}
-use Rattle.model.specs.Tree.{Out, ends, asks, bindOut}
-use Rattle.model.specs.Script.{Script, ret, bind, test, run, no-wakes, gathered}
-use Rattle.model.specs.Answers.{Answer, Refused, End, NotYet, Done, Shown, operation}
-use Rattle.model_ops.specs.Rings.{St}
-use Rattle.model_ops.specs.Concrete.{concrete}
+use Rattle.script.specs.Tree.{Out, ends, asks, bindOut}
+use Rattle.script.specs.Script.{Script, ret, bind, test, run, no-wakes, gathered}
+use Rattle.script.specs.Answers.{Answer, Refused, End, NotYet, Done, Shown, operation}
+use Rattle.script_ops.specs.Rings.{St}
+use Rattle.script_ops.specs.Concrete.{concrete}
 use Rattle.proof_refusals.specs.Left.{Poll, leftBy}
 
 -- the wake-ups of an end are those that the state has, or none where the call is over at once

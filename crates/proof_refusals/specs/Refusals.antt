@@ -7,16 +7,16 @@ use Prim.Native.Nat.{ℕ, zero, suc}
 use Rattle.state.specs.Driver.{Driver}
 use Rattle.state.specs.State.{view, saved}
 use Rattle.state.specs.Fresh as fresh
-use Rattle.model.specs.Tree.{Out, ends, asks, bindOut}
-use Rattle.model.specs.Script.{ret, _>>_, run, no-wakes}
-use Rattle.model.specs.Statics.{flag}
-use Rattle.model.specs.Driver.{new}
-use Rattle.model.specs.Answers.{Answer, Refused, End, NotYet, Done, Shown}
-use Rattle.model.specs.Calls.{Config, Op, calls, startRow, passes, irq, code}
-use Rattle.model.specs.Machine.{Buf, Call, start, begin, go, question, Way, idle, busy, Machine, Awaits, Ans, ended}
-use Rattle.model.specs.Machine.{handed, told, beside, begun, continued, started, stay, over}
-use Rattle.model_ops.specs.Rings.{St}
-use Rattle.model_ops.specs.Concrete.{concrete}
+use Rattle.script.specs.Tree.{Out, ends, asks, bindOut}
+use Rattle.script.specs.Script.{ret, _>>_, run, no-wakes}
+use Rattle.script.specs.Statics.{flag}
+use Rattle.script.specs.Driver.{new}
+use Rattle.script.specs.Answers.{Answer, Refused, End, NotYet, Done, Shown}
+use Rattle.script.specs.Calls.{Config, Op, calls, startRow, passes, irq, code}
+use Rattle.script.specs.Machine.{Buf, Call, start, begin, go, question, Way, idle, busy, Machine, Awaits, Ans, ended}
+use Rattle.script.specs.Machine.{handed, told, beside, begun, continued, started, stay, over}
+use Rattle.script_ops.specs.Rings.{St}
+use Rattle.script_ops.specs.Concrete.{concrete}
 use Rattle.driver.specs.Points as driver
 use Rattle.bus.specs.Points as bus
 use Rattle.control.specs.Points as control

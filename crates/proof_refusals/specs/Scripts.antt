@@ -16,17 +16,17 @@ use Rattle.alloc.specs.Rows.{keeps}
 use Rattle.descriptor.specs.declared.Answer as reading-answer
 use Rattle.descriptor.specs.declared.Answer.the-variants as reading
 use Rattle.descriptor.specs.Reading.{readingOf}
-use Rattle.model.specs.Script.{ret}
-use Rattle.model.specs.Answers.{Refused}
-use Rattle.model.specs.Driver.{allocated-as, started-as}
-use Rattle.model.specs.AllocateAll.{allocate-read}
-use Rattle.model.specs.Calls.{Op, interrupt, slotted, other, aside, code, Slotted, SetEnabled, PollRead, BeginWrite}
-use Rattle.model.specs.Calls.{PollWrite, PollDataOut, BeginDataIn, slottedCode, Other, Allocate, AllocateAll, Start}
-use Rattle.model.specs.Calls.{BusPoll, BusEnable, BusDisable, Microframe, SetStalled, IsStalled, SetPaced, Advance}
-use Rattle.model.specs.Calls.{BeginRead, BeginSetup, PollSetup, PollDataIn, BeginAccept, PollAccept, BeginReject}
-use Rattle.model.specs.Calls.{BeginDataOut, BeginAcceptSetAddress, otherCode, Aside, Open, Close, Queue, asideCode}
-use Rattle.model_ops.specs.Rings.{St}
-use Rattle.model_ops.specs.Records.{givenTo, allocatedOn, startedWith, allocatedEp0}
+use Rattle.script.specs.Script.{ret}
+use Rattle.script.specs.Answers.{Refused}
+use Rattle.script.specs.Driver.{allocated-as, started-as}
+use Rattle.script.specs.AllocateAll.{allocate-read}
+use Rattle.script.specs.Calls.{Op, interrupt, slotted, other, aside, code, Slotted, SetEnabled, PollRead, BeginWrite}
+use Rattle.script.specs.Calls.{PollWrite, PollDataOut, BeginDataIn, slottedCode, Other, Allocate, AllocateAll, Start}
+use Rattle.script.specs.Calls.{BusPoll, BusEnable, BusDisable, Microframe, SetStalled, IsStalled, SetPaced, Advance}
+use Rattle.script.specs.Calls.{BeginRead, BeginSetup, PollSetup, PollDataIn, BeginAccept, PollAccept, BeginReject}
+use Rattle.script.specs.Calls.{BeginDataOut, BeginAcceptSetAddress, otherCode, Aside, Open, Close, Queue, asideCode}
+use Rattle.script_ops.specs.Rings.{St}
+use Rattle.script_ops.specs.Records.{givenTo, allocatedOn, startedWith, allocatedEp0}
 use Rattle.proof_refusals.specs.Left.{none, data-in, pollOf, requestEnded, unready, leftBy}
 use Rattle.proof_refusals.specs.Outcomes.{LeavesByRow, tests, each, picks, after, whatever, refuses, answers, begins}
 

@@ -4,9 +4,9 @@ use mathlib.Core.List.{List}
 use mathlib.Core.Path.{_≡_, refl, ap, subst, sym, _∙_}
 use Prim.Native.Nat.{ℕ}
 use Rattle.state.specs.Driver.{Driver}
-use Rattle.model.specs.Answers.{Answer, Refused, End, NotYet, Done, Shown}
-use Rattle.model.specs.Calls.{Config, Op, calls}
-use Rattle.model.specs.Machine.{Buf, Call, start, begin, go, question, Way, Machine, Ans, ended, handed, told, begun, stay}
+use Rattle.script.specs.Answers.{Answer, Refused, End, NotYet, Done, Shown}
+use Rattle.script.specs.Calls.{Config, Op, calls}
+use Rattle.script.specs.Machine.{Buf, Call, start, begin, go, question, Way, Machine, Ans, ended, handed, told, begun, stay}
 use Rattle.machine.specs.declared.Suspended.{Suspended}
 use Rattle.machine.specs.Suspended.{wayOf, machineAt, driverOf, drive, slotsFit}
 use Rattle.calls.specs.Sharing.{Sort, enabling, starting, going, apart, opSort, sortOf, turnedDown, timeAfter, settled, sharedCall}

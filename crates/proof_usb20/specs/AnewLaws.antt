@@ -11,8 +11,8 @@ use Rattle.regs.specs.declared.Dir.the-variants.{Out, In}
 use Rattle.state.specs.declared.EpState.{EpState}
 use Rattle.state.specs.Ep.{resetOf}
 use Rattle.state.specs.Driver.{Driver, key, epOn, withOn}
-use Rattle.model.specs.Statics.{isOn}
-use Rattle.model_ops.specs.Rings.{St, resetBelow, resetAll}
+use Rattle.script.specs.Statics.{isOn}
+use Rattle.script_ops.specs.Rings.{St, resetBelow, resetAll}
 use Rattle.bits.specs.Bit.{withBit}
 use Rattle.state.specs.declared.Globals.{Globals}
 use Rattle.state.specs.Fresh.{noStamps}
@@ -20,11 +20,11 @@ use Rattle.state.specs.Driver.{withAllocator}
 use Rattle.alloc.specs.declared.Answer as alloc
 use Rattle.alloc.specs.declared.Answer.the-variants as variant
 use Rattle.alloc.specs.Alloc.{allocateOf, allocated, isIso}
-use Rattle.model.specs.Script.{allocate}
-use Rattle.model.specs.TogglesLaws.{number}
-use Rattle.model.specs.Usb20Toggles.{initial}
-use Rattle.model_ops.specs.Records.{withIsoSets, isoAdded, withSets, recordGiven, setsGiven, givenTo, allocatedOn}
-use Rattle.model_ops.specs.Concrete.{concrete}
+use Rattle.script.specs.Script.{allocate}
+use Rattle.script.specs.TogglesLaws.{number}
+use Rattle.script.specs.Usb20Toggles.{initial}
+use Rattle.script_ops.specs.Records.{withIsoSets, isoAdded, withSets, recordGiven, setsGiven, givenTo, allocatedOn}
+use Rattle.script_ops.specs.Concrete.{concrete}
 use Rattle.proof_usb20.specs.Sequence.{Track}
 use Rattle.proof_usb20.specs.Follow.{FitsAs, Fits, view}
 use Rattle.proof_usb20.specs.CalmLaws.{Whole}

@@ -21,21 +21,21 @@ use Rattle.state.specs.Wakes.{Wakes, wakeCode, busCode, listed}
 use Rattle.state.specs.WakesLaws.{Room}
 use Rattle.proof_wake_ups.specs.Still.{put-still, act-still, hand-still}
 use Rattle.state.specs.Driver.{Driver, key, noEp, epOn, withOn, withRequestOn, withPacedOn}
-use Rattle.model.specs.Tree as tree
-use Rattle.model.specs.Cells.{EpCore, Cell, Val, ep-cell, globals-cell, control-cell, request-cell, paced-cell}
-use Rattle.model.specs.Script.{Script, ret, bind, test, read-then, write-then, wait-then, callback-then, get-then}
-use Rattle.model.specs.Script.{put-then, is-then, look-then, fetch-then, act-then, hand-then, run, Test, Look, Fetch}
-use Rattle.model.specs.Script.{Act, complete, reset-ring, set-enabled, fill, fill0, open-oldest, close-oldest}
-use Rattle.model.specs.Script.{take-oldest, enqueue, allocate, allocate0, waken, DmaStep, dmaStepAsk, arrive, send}
-use Rattle.model.specs.Script.{place, place0}
-use Rattle.model.specs.Spends.{Other}
-use Rattle.model.specs.TransferKinds.{allocates}
-use Rattle.model.specs.SortsWalks.{among-ins, among-outs}
-use Rattle.model.specs.Every.{sameReg}
-use Rattle.model.specs.Statics.{isOn, withLastFrame}
-use Rattle.model_ops.specs.Records.{merged}
-use Rattle.model_ops.specs.Rings.{St}
-use Rattle.model_ops.specs.Concrete.{concrete}
+use Rattle.script.specs.Tree as tree
+use Rattle.script.specs.Cells.{EpCore, Cell, Val, ep-cell, globals-cell, control-cell, request-cell, paced-cell}
+use Rattle.script.specs.Script.{Script, ret, bind, test, read-then, write-then, wait-then, callback-then, get-then}
+use Rattle.script.specs.Script.{put-then, is-then, look-then, fetch-then, act-then, hand-then, run, Test, Look, Fetch}
+use Rattle.script.specs.Script.{Act, complete, reset-ring, set-enabled, fill, fill0, open-oldest, close-oldest}
+use Rattle.script.specs.Script.{take-oldest, enqueue, allocate, allocate0, waken, DmaStep, dmaStepAsk, arrive, send}
+use Rattle.script.specs.Script.{place, place0}
+use Rattle.script.specs.Spends.{Other}
+use Rattle.script.specs.TransferKinds.{allocates}
+use Rattle.script.specs.SortsWalks.{among-ins, among-outs}
+use Rattle.script.specs.Every.{sameReg}
+use Rattle.script.specs.Statics.{isOn, withLastFrame}
+use Rattle.script_ops.specs.Records.{merged}
+use Rattle.script_ops.specs.Rings.{St}
+use Rattle.script_ops.specs.Concrete.{concrete}
 use Rattle.proof_book.specs.TransferKinds.{Steady, Has}
 use Rattle.proof_book.specs.TransferKindsLaws.{put-steady, act-steady, hand-steady}
 use Rattle.proof_book.specs.Sorting.{sortsOf}
@@ -47,11 +47,11 @@ use Rattle.proof_usb20.specs.Watch.{at-end, at-ask}
 use Rattle.proof_usb20.specs.WokenLaws.{Others, all-others}
 use Rattle.proof_usb20.specs.FollowLaws.{record-view, act-view, hand-view}
 use Rattle.bits.specs.Walk.{setBits}
-use Rattle.model.specs.Script.{when, get, no-wakes}
-use Rattle.model.specs.Statics.{wake, wakeBus, isoInEvery, isoOuts, modify, modifyEp, modifyReg, modifyIntEn}
-use Rattle.model.specs.Answers.{Answer, staged, operation, resultless}
-use Rattle.model.specs.Handler.{looks}
-use Rattle.model.specs.Endpoint.{enabled-else, ends-request, no-request}
+use Rattle.script.specs.Script.{when, get, no-wakes}
+use Rattle.script.specs.Statics.{wake, wakeBus, isoInEvery, isoOuts, modify, modifyEp, modifyReg, modifyIntEn}
+use Rattle.script.specs.Answers.{Answer, staged, operation, resultless}
+use Rattle.script.specs.Handler.{looks}
+use Rattle.script.specs.Endpoint.{enabled-else, ends-request, no-request}
 use Rattle.proof_usb20.specs.ExemptLaws.{differ}
 use Rattle.proof_usb20.specs.ViewsLaws.{ep-other}
 

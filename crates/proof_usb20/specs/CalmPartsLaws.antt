@@ -8,9 +8,9 @@ use Rattle.regs.specs.declared.Reg.the-variants.{EpRxCtrl, EpTxCtrl}
 use Rattle.regs.specs.declared.Dir.{Dir}
 use Rattle.regs.specs.declared.Dir.the-variants.{Out, In}
 use Rattle.regs.specs.Registers.{ctrlOf}
-use Rattle.model.specs.Cells.{ep-cell, globals-cell}
-use Rattle.model.specs.Statics.{withLastFrame, withArmed}
-use Rattle.model_ops.specs.Concrete.{concrete}
+use Rattle.script.specs.Cells.{ep-cell, globals-cell}
+use Rattle.script.specs.Statics.{withLastFrame, withArmed}
+use Rattle.script_ops.specs.Concrete.{concrete}
 use Rattle.proof_usb20.specs.WalksLaws.{Each}
 use Rattle.proof_usb20.specs.Watch.{at-end}
 use Rattle.bits.specs.Walk.{setBits}
@@ -20,11 +20,11 @@ use Rattle.regs.specs.ControlWord.{isData1}
 use Rattle.regs.specs.Status.{endpoint}
 use Rattle.frame.specs.Usb20.{indexOf, frameOf}
 use Rattle.frame.specs.Advance.{previous}
-use Rattle.model.specs.declared.Transfer.{Transfer}
-use Rattle.model.specs.Statics.{completed, withLen, withReady, withTog, withSofFrame, withSetup, flag, isoInEvery, isoOuts}
-use Rattle.model.specs.IsoIn.{firstInFrame, isoInComplete, unseen, sofOne, sofWalk, onSof, lateWalk, isoInCompletions}
-use Rattle.model.specs.IsoOut.{arrives, checkWalk, isoOutCheck}
-use Rattle.model.specs.Handler.{toggled, received, sent, sofArm, dispatch, movedOn, ep0MovedOn, onSetup, isoInArm}
+use Rattle.script.specs.declared.Transfer.{Transfer}
+use Rattle.script.specs.Statics.{completed, withLen, withReady, withTog, withSofFrame, withSetup, flag, isoInEvery, isoOuts}
+use Rattle.script.specs.IsoIn.{firstInFrame, isoInComplete, unseen, sofOne, sofWalk, onSof, lateWalk, isoInCompletions}
+use Rattle.script.specs.IsoOut.{arrives, checkWalk, isoOutCheck}
+use Rattle.script.specs.Handler.{toggled, received, sent, sofArm, dispatch, movedOn, ep0MovedOn, onSetup, isoInArm}
 use Rattle.proof_usb20.specs.CalmLaws.{Quiet, Else, Idle, Off, idle-read, off-idle, off-read, only, put-frame}
 use Rattle.proof_usb20.specs.CalmLaws.{put-hears, put-kept, q-act-as, q-bind, q-callback, q-ep, q-globals, q-got}
 use Rattle.proof_usb20.specs.CalmLaws.{q-hand, q-if, q-ins, q-is, q-look, q-looks, q-modify, q-outs, q-reg, q-ret}

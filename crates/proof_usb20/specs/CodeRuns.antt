@@ -3,8 +3,8 @@
 -- claimed of calls that were made
 use mathlib.Core.List.{List, [], _∷_}
 use Rattle.state.specs.Driver.{Driver}
-use Rattle.model.specs.Answers.{Answer}
-use Rattle.model.specs.Machine.{Machine}
+use Rattle.script.specs.Answers.{Answer}
+use Rattle.script.specs.Machine.{Machine}
 use Rattle.machine.specs.Suspended.{machineOf}
 use Rattle.proof_book.specs.Code.{Made}
 use Rattle.proof_usb20.specs.Observer.{Observer, serves, Watched, noted, Claim, Standing, Read}

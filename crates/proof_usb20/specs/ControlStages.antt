@@ -1,6 +1,6 @@
 -- The observer of endpoint 0. ControlStagesLaws.antt proves: control stages equal USB 2.0's, over EVERY list of calls from an accepted start-up
-use Rattle.model.specs.AddressWrites.{Writes}
-use Rattle.model.specs.AddressCalls.{Addresses}
+use Rattle.script.specs.AddressWrites.{Writes}
+use Rattle.script.specs.AddressCalls.{Addresses}
 use Rattle.proof_usb20.specs.Log.{Log, before, opens, saw, closes, Brings, Armed, Fair, Allowed}
 use Rattle.proof_usb20.specs.Observer.{Observer}
 use Rattle.proof_usb20.specs.Ep0.{View, view}

@@ -4,20 +4,20 @@ use mathlib.Core.List.{List, [], _∷_}
 use mathlib.Core.Path.{_≡_, refl, sym, _∙_}
 use Prim.Native.Nat.{ℕ, zero}
 use Rattle.state.specs.Driver.{Driver}
-use Rattle.model.specs.Tree as tree
-use Rattle.model.specs.Script.{run}
-use Rattle.model.specs.EveryLaws as ways-laws
-use Rattle.model.specs.AddressCallsLaws.{address-writes}
-use Rattle.model.specs.Answers.{Answer, Refused}
-use Rattle.model.specs.Calls.{Config, calls, startRow, Op, interrupt, slotted, other, aside, Slotted, SetEnabled}
-use Rattle.model.specs.Calls.{PollRead, BeginWrite, PollWrite, PollDataOut, BeginDataIn, Other, Allocate, AllocateAll}
-use Rattle.model.specs.Calls.{Start, BusPoll, BusEnable, BusDisable, Microframe, SetStalled, IsStalled, SetPaced}
-use Rattle.model.specs.Calls.{Advance, BeginRead, BeginSetup, PollSetup, PollDataIn, BeginAccept, PollAccept}
-use Rattle.model.specs.Calls.{BeginReject, BeginDataOut, BeginAcceptSetAddress, code}
-use Rattle.model.specs.Machine.{Buf, Event, Machine, start, started}
+use Rattle.script.specs.Tree as tree
+use Rattle.script.specs.Script.{run}
+use Rattle.script.specs.EveryLaws as ways-laws
+use Rattle.script.specs.AddressCallsLaws.{address-writes}
+use Rattle.script.specs.Answers.{Answer, Refused}
+use Rattle.script.specs.Calls.{Config, calls, startRow, Op, interrupt, slotted, other, aside, Slotted, SetEnabled}
+use Rattle.script.specs.Calls.{PollRead, BeginWrite, PollWrite, PollDataOut, BeginDataIn, Other, Allocate, AllocateAll}
+use Rattle.script.specs.Calls.{Start, BusPoll, BusEnable, BusDisable, Microframe, SetStalled, IsStalled, SetPaced}
+use Rattle.script.specs.Calls.{Advance, BeginRead, BeginSetup, PollSetup, PollDataIn, BeginAccept, PollAccept}
+use Rattle.script.specs.Calls.{BeginReject, BeginDataOut, BeginAcceptSetAddress, code}
+use Rattle.script.specs.Machine.{Buf, Event, Machine, start, started}
 use Rattle.machine.specs.Suspended.{driverOf}
-use Rattle.model_ops.specs.Rings.{St}
-use Rattle.model_ops.specs.Concrete.{concrete}
+use Rattle.script_ops.specs.Rings.{St}
+use Rattle.script_ops.specs.Concrete.{concrete}
 use Rattle.proof_usb20.specs.Log.{Log, before, opens, closes, Armed, Poll, none, begins}
 use Rattle.proof_usb20.specs.Log.{pollSetup, pollOut, pollIn, pollStatus, pollOf, FairPoll, Fair}
 use Rattle.proof_usb20.specs.Observer.{startedBy, Reads, All}
@@ -44,9 +44,9 @@ use mathlib.Core.Bool.{Bool, true, false, cond}
 use Rattle.regs.specs.declared.Access.{Access}
 use Rattle.regs.specs.declared.Access.the-variants.{Read, Write, Receive, Transmit, Ep0Dma, Wait, Callback}
 use Rattle.regs.specs.declared.Reg.the-variants.{IntFg, IntSt, MisSt, FrameNo, EpRxCtrl, EpTxCtrl}
-use Rattle.model.specs.Every.{sameReg}
-use Rattle.model.specs.Answers.{End, Done}
-use Rattle.model.specs.Machine.{Call, begin, go, Ans, ended, idle}
+use Rattle.script.specs.Every.{sameReg}
+use Rattle.script.specs.Answers.{End, Done}
+use Rattle.script.specs.Machine.{Call, begin, go, Ans, ended, idle}
 use Rattle.machine.specs.Suspended.{drive}
 use Prim.Native.Nat.{suc}
 use Rattle.proof_usb20.specs.Observer.{Watched, Under, at-rest, doing, starting, serves, noted}

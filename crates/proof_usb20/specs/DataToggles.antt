@@ -6,7 +6,7 @@ use Rattle.regs.specs.declared.Dir.{Dir}
 use Rattle.proof_usb20.specs.Sequence.{Track}
 use Rattle.proof_usb20.specs.Follow.{EpSeen, Fits}
 use mathlib.Core.Bool.{false}
-use Rattle.model.specs.Statics.{isOn}
+use Rattle.script.specs.Statics.{isOn}
 use Rattle.proof_usb20.specs.Sequence.{before, opens, saw, closes, Fair, Writing, unwritten-yet, wrote, LeavesWord}
 use Rattle.proof_usb20.specs.Observer.{Observer}
 use Rattle.proof_usb20.specs.Follow.{view}

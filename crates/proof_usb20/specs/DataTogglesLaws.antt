@@ -7,15 +7,15 @@ use Rattle.regs.specs.declared.Dir.{Dir}
 use Rattle.regs.specs.declared.Dir.the-variants.{Out, In}
 use Rattle.state.specs.Driver.{Driver, key}
 use Rattle.state.specs.Laws.{key-apart, key-same}
-use Rattle.model.specs.Answers.{Answer}
-use Rattle.model.specs.Calls.{Config, calls, startRow, Op, interrupt, slotted, other, aside, Slotted, SetEnabled}
-use Rattle.model.specs.Calls.{PollRead, BeginWrite, PollWrite, PollDataOut, BeginDataIn, Other, Allocate, AllocateAll}
-use Rattle.model.specs.Calls.{Start, BusPoll, BusEnable, BusDisable, Microframe, SetStalled, IsStalled, SetPaced}
-use Rattle.model.specs.Calls.{Advance, BeginRead, BeginSetup, PollSetup, PollDataIn, BeginAccept, PollAccept}
-use Rattle.model.specs.Calls.{BeginReject, BeginDataOut, BeginAcceptSetAddress}
-use Rattle.model.specs.Machine.{Buf, Event, Machine, started}
-use Rattle.model.specs.TogglesLaws.{number}
-use Rattle.model.specs.Usb20Toggles.{Pid, DATA0, DATA1}
+use Rattle.script.specs.Answers.{Answer}
+use Rattle.script.specs.Calls.{Config, calls, startRow, Op, interrupt, slotted, other, aside, Slotted, SetEnabled}
+use Rattle.script.specs.Calls.{PollRead, BeginWrite, PollWrite, PollDataOut, BeginDataIn, Other, Allocate, AllocateAll}
+use Rattle.script.specs.Calls.{Start, BusPoll, BusEnable, BusDisable, Microframe, SetStalled, IsStalled, SetPaced}
+use Rattle.script.specs.Calls.{Advance, BeginRead, BeginSetup, PollSetup, PollDataIn, BeginAccept, PollAccept}
+use Rattle.script.specs.Calls.{BeginReject, BeginDataOut, BeginAcceptSetAddress}
+use Rattle.script.specs.Machine.{Buf, Event, Machine, started}
+use Rattle.script.specs.TogglesLaws.{number}
+use Rattle.script.specs.Usb20Toggles.{Pid, DATA0, DATA1}
 use Rattle.machine.specs.Suspended.{driverOf}
 use Rattle.proof_usb20.specs.ExemptLaws.{differ}
 use Rattle.proof_usb20.specs.Sequence.{Track}
@@ -30,15 +30,15 @@ use Rattle.state.specs.Ep.{newEp}
 use Rattle.state.specs.Fresh.{freshDriver}
 use Rattle.state.specs.Laws.{key-lt}
 use Rattle.state.specs.Driver.{noEp, epOn}
-use Rattle.model.specs.Tree as tree
-use Rattle.model.specs.Script.{run}
-use Rattle.model.specs.Every as ways
-use Rattle.model.specs.Statics.{isOn}
-use Rattle.model.specs.Answers.{Refused}
-use Rattle.model.specs.Calls.{code}
-use Rattle.model.specs.Machine.{Call, start, begin, go, question, Ans, ended, handed, told}
-use Rattle.model_ops.specs.Rings.{St}
-use Rattle.model_ops.specs.Concrete.{concrete}
+use Rattle.script.specs.Tree as tree
+use Rattle.script.specs.Script.{run}
+use Rattle.script.specs.Every as ways
+use Rattle.script.specs.Statics.{isOn}
+use Rattle.script.specs.Answers.{Refused}
+use Rattle.script.specs.Calls.{code}
+use Rattle.script.specs.Machine.{Call, start, begin, go, question, Ans, ended, handed, told}
+use Rattle.script_ops.specs.Rings.{St}
+use Rattle.script_ops.specs.Concrete.{concrete}
 use Rattle.proof_book.specs.Sorting.{Sorting}
 use Rattle.proof_usb20.specs.Sequence as log
 use Rattle.proof_usb20.specs.Sequence.{before, opens, Fair, own, Writing, wrote, LeavesWord}

@@ -11,7 +11,7 @@ use mathlib.Core.Logic.{_⊎_, inl, inr}
 use Rattle.regs.specs.Enables as enables
 use Rattle.regs.specs.Flags.{busRst, suspend}
 use Rattle.regs.specs.MisStatus.{suspended}
-use Rattle.model.specs.ToggledLaws.{ack-acks}
+use Rattle.script.specs.ToggledLaws.{ack-acks}
 use Rattle.regs.specs.declared.Dir.{Dir}
 use Rattle.regs.specs.declared.Dir.the-variants.{Out, In}
 use Rattle.state.specs.Driver.{epOn, key}
@@ -19,19 +19,19 @@ use Rattle.state.specs.Fresh.{clearStamps}
 use Rattle.state.specs.Kept.{withEpType}
 use Rattle.state.specs.Wakes.{wakeCode}
 use Rattle.frame.specs.Advance.{NO_FRAME}
-use Rattle.model.specs.Tree as tree
-use Rattle.model.specs.Tree.{ends}
-use Rattle.model.specs.Cells.{EpCore, ep-cell, globals-cell, paced-cell}
+use Rattle.script.specs.Tree as tree
+use Rattle.script.specs.Tree.{ends}
+use Rattle.script.specs.Cells.{EpCore, ep-cell, globals-cell, paced-cell}
 use Rattle.regs.specs.declared.Reg.the-variants.{EpRxCtrl, EpTxCtrl, EpTLen}
 use Rattle.regs.specs.ControlWord.{ACK, NAK, NYET, DATA0, wordOf, response, toggle, ack}
-use Rattle.model.specs.Script.{Script, run, put, hand, write, place, row, rows, switch, switchAsk, no-wakes, waken, reset-ring, _>>=_, _>>_}
-use Rattle.model.specs.Statics as statics
-use Rattle.model.specs.Statics.{isOn, wake, wakeAll, withArmed, flag, modifyEpType}
-use Rattle.model.specs.Bus as bus
-use Rattle.model.specs.Calls.{Op, slotted, other, SetEnabled, SetStalled, BeginRead, BeginWrite, BusPoll, code}
-use Rattle.model.specs.Usb20Toggles.{initial}
-use Rattle.model_ops.specs.Rings.{St, slotStep, armAt, renewedOn, typeStep, configStep}
-use Rattle.model_ops.specs.Concrete.{concrete}
+use Rattle.script.specs.Script.{Script, run, put, hand, write, place, row, rows, switch, switchAsk, no-wakes, waken, reset-ring, _>>=_, _>>_}
+use Rattle.script.specs.Statics as statics
+use Rattle.script.specs.Statics.{isOn, wake, wakeAll, withArmed, flag, modifyEpType}
+use Rattle.script.specs.Bus as bus
+use Rattle.script.specs.Calls.{Op, slotted, other, SetEnabled, SetStalled, BeginRead, BeginWrite, BusPoll, code}
+use Rattle.script.specs.Usb20Toggles.{initial}
+use Rattle.script_ops.specs.Rings.{St, slotStep, armAt, renewedOn, typeStep, configStep}
+use Rattle.script_ops.specs.Concrete.{concrete}
 use Rattle.proof_book.specs.TransferKindsLaws.{act-steady, row-steady}
 use Rattle.proof_usb20.specs.Sequence as log
 use Rattle.proof_usb20.specs.Sequence.{Track, off, withPhase, own, saw, armsAt, Writing, written, withWord, withSent, Is, unwritten-yet, Restarts, Acks, wrote}
@@ -42,8 +42,8 @@ use Rattle.proof_usb20.specs.Follow.{EpSeen, FitsAs, Fits, view, Follow,
 use Rattle.proof_usb20.specs.Watch.{Along, at-end, at-ask}
 use Rattle.proof_usb20.specs.WatchLaws.{watch-bind, watch-cond, watch-any}
 use Rattle.proof_usb20.specs.ExemptLaws.{by-test, differ}
-use Rattle.model.specs.TogglesLaws.{number}
-use Rattle.model.specs.Answers.{Answer, Refused, isAllocated, resultless}
+use Rattle.script.specs.TogglesLaws.{number}
+use Rattle.script.specs.Answers.{Answer, Refused, isAllocated, resultless}
 use Rattle.proof_usb20.specs.FollowLaws.{act-view}
 use Rattle.proof_usb20.specs.CalmLaws.{Whole, Off, Else, Hush, CalmKept, Stays, Quiet, loose, loosely, asked, onward}
 use Rattle.proof_usb20.specs.CalmLaws.{with-other, put-globals, put-paced, q-act, q-bind, q-ep, q-got, q-hand, q-put}

@@ -13,13 +13,13 @@ use Rattle.regs.specs.ControlWord.{nak}
 use Rattle.regs.specs.Flags.{transfer}
 use Rattle.regs.specs.MisStatus.{sieFree}
 use Rattle.regs.specs.Status.{endpoint, token, outToken, inToken, isOut, isIn, togOk}
-use Rattle.model.specs.declared.Transfer.{Transfer}
-use Rattle.model.specs.Cells.{EpCore, ep-cell}
-use Rattle.model.specs.Script.{bind, ret, run}
-use Rattle.model.specs.Statics.{isOn}
-use Rattle.model.specs.Handler.{looks, nakNonIso, outNaks, inNaks, retake, retaken, settle, waitsForIso, waitsForBulk}
-use Rattle.model_ops.specs.Rings.{St}
-use Rattle.model_ops.specs.Concrete.{concrete}
+use Rattle.script.specs.declared.Transfer.{Transfer}
+use Rattle.script.specs.Cells.{EpCore, ep-cell}
+use Rattle.script.specs.Script.{bind, ret, run}
+use Rattle.script.specs.Statics.{isOn}
+use Rattle.script.specs.Handler.{looks, nakNonIso, outNaks, inNaks, retake, retaken, settle, waitsForIso, waitsForBulk}
+use Rattle.script_ops.specs.Rings.{St}
+use Rattle.script_ops.specs.Concrete.{concrete}
 use Rattle.proof_usb20.specs.Log.{Log, shows, again, writes, saw, withRx, withTx, withPhase}
 use Rattle.proof_usb20.specs.Watch.{at-end, at-ask}
 use Rattle.proof_usb20.specs.WatchLaws.{watch-bind, watch-more, watch-cond}

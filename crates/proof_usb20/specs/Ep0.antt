@@ -9,15 +9,15 @@ use Rattle.regs.specs.ControlWord.{toggle}
 use Rattle.state.specs.declared.Control.{Control}
 use Rattle.state.specs.declared.EpState.{EpState}
 use Rattle.state.specs.Driver.{Driver, epOn}
-use Rattle.model.specs.Answers.{Answer}
-use Rattle.model.specs.Calls.{Op, code}
-use Rattle.model.specs.Control.{DATA-OUT, DATA-IN, ACCEPT}
-use Rattle.model.specs.Script.{run}
-use Rattle.model.specs.Tree as tree
-use Rattle.model.specs.Statics.{isOn}
-use Rattle.model.specs.TogglesLaws.{number}
-use Rattle.model_ops.specs.Rings.{St}
-use Rattle.model_ops.specs.Concrete.{concrete}
+use Rattle.script.specs.Answers.{Answer}
+use Rattle.script.specs.Calls.{Op, code}
+use Rattle.script.specs.Control.{DATA-OUT, DATA-IN, ACCEPT}
+use Rattle.script.specs.Script.{run}
+use Rattle.script.specs.Tree as tree
+use Rattle.script.specs.Statics.{isOn}
+use Rattle.script.specs.TogglesLaws.{number}
+use Rattle.script_ops.specs.Rings.{St}
+use Rattle.script_ops.specs.Concrete.{concrete}
 use Rattle.proof_book.specs.Sorting.{Sorting}
 use Rattle.proof_usb20.specs.Pipe.{Half, Pipe, dataReady, isReady, Awaited, nothing, taken, given, confirmed, Setting, keeps, sets}
 use Rattle.proof_usb20.specs.Log.{Log, Shows, saw, Brings, opens, closes, Fair, Allowed}

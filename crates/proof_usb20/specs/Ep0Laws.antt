@@ -7,10 +7,10 @@ use Rattle.regs.specs.declared.Dir.the-variants.{Out, In}
 use Rattle.state.specs.declared.EpState.{EpState}
 use Rattle.state.specs.declared.Control.{Control}
 use Rattle.state.specs.Driver.{Driver, epOn, withOn}
-use Rattle.model.specs.Script.{Act, DmaStep}
-use Rattle.model.specs.TransferKinds.{allocates}
-use Rattle.model_ops.specs.Rings.{St}
-use Rattle.model_ops.specs.Concrete.{concrete}
+use Rattle.script.specs.Script.{Act, DmaStep}
+use Rattle.script.specs.TransferKinds.{allocates}
+use Rattle.script_ops.specs.Rings.{St}
+use Rattle.script_ops.specs.Concrete.{concrete}
 use Rattle.proof_book.specs.LeavesLaws.{Leaves, record-leaves, narrow, RingsOnly, turns, act-leaves, hand-leaves}
 use Rattle.proof_usb20.specs.Ep0.{recOf, view}
 

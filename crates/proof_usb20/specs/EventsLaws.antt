@@ -6,8 +6,8 @@ use native.Mathlib.Omega.{arith}
 use Rattle.regs.specs.declared.Dir.the-variants.{Out, In}
 use Rattle.regs.specs.ControlWord as word
 use Rattle.regs.specs.ControlWord.{response, toggle, withToggle, nak, flip, nakflip}
-use Rattle.model.specs.Statics.{isOn}
-use Rattle.model.specs.ControlLaws.{nak-keeps, flips}
+use Rattle.script.specs.Statics.{isOn}
+use Rattle.script.specs.ControlLaws.{nak-keeps, flips}
 use Rattle.proof_usb20.specs.Pipe.{data-stage, status-stage, Answers, naks, stalls, acks, Half, gone, renewed}
 use Rattle.proof_usb20.specs.Pipe.{isReady, dataReady, Pipe, with, setup, packet, token, after, Awaited, nothing}
 use Rattle.proof_usb20.specs.Pipe.{taken, given, confirmed}

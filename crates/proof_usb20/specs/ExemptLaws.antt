@@ -14,16 +14,16 @@ use Rattle.regs.specs.declared.Token.the-variants as tok
 use Rattle.regs.specs.Flags.{transfer}
 use Rattle.regs.specs.Status as status
 use Rattle.regs.specs.Status.{endpoint, togOk}
-use Rattle.model.specs.Script.{run}
-use Rattle.model.specs.Answers.{Answer, Refused, End, NotYet, Done, Shown}
-use Rattle.model.specs.Calls.{Op, interrupt, slotted, other, aside, Slotted, SetEnabled, PollRead, BeginWrite}
-use Rattle.model.specs.Calls.{PollWrite, PollDataOut, BeginDataIn, Other, Allocate, AllocateAll, Start, BusPoll}
-use Rattle.model.specs.Calls.{BusEnable, BusDisable, Microframe, SetStalled, IsStalled, SetPaced, Advance, BeginRead}
-use Rattle.model.specs.Calls.{BeginSetup, PollSetup, PollDataIn, BeginAccept, PollAccept, BeginReject, BeginDataOut}
-use Rattle.model.specs.Calls.{BeginAcceptSetAddress, code}
-use Rattle.model.specs.Every.{sameReg}
-use Rattle.model_ops.specs.Rings.{St}
-use Rattle.model_ops.specs.Concrete.{concrete}
+use Rattle.script.specs.Script.{run}
+use Rattle.script.specs.Answers.{Answer, Refused, End, NotYet, Done, Shown}
+use Rattle.script.specs.Calls.{Op, interrupt, slotted, other, aside, Slotted, SetEnabled, PollRead, BeginWrite}
+use Rattle.script.specs.Calls.{PollWrite, PollDataOut, BeginDataIn, Other, Allocate, AllocateAll, Start, BusPoll}
+use Rattle.script.specs.Calls.{BusEnable, BusDisable, Microframe, SetStalled, IsStalled, SetPaced, Advance, BeginRead}
+use Rattle.script.specs.Calls.{BeginSetup, PollSetup, PollDataIn, BeginAccept, PollAccept, BeginReject, BeginDataOut}
+use Rattle.script.specs.Calls.{BeginAcceptSetAddress, code}
+use Rattle.script.specs.Every.{sameReg}
+use Rattle.script_ops.specs.Rings.{St}
+use Rattle.script_ops.specs.Concrete.{concrete}
 use Rattle.proof_usb20.specs.Pipe.{Event, packet, token}
 use Rattle.proof_usb20.specs.Log.{Phase, off, entered, flagged, again, timed, shows, Log, withPhase, happens}
 use Rattle.proof_usb20.specs.Log.{ofToken, seen, reads, saw, opens, endsOther, endsSlotted, ends, Poll, none}

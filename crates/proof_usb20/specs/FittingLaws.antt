@@ -7,10 +7,10 @@ use native.Mathlib.Omega.{arith}
 use Rattle.regs.specs.ControlWord as word
 use Rattle.regs.specs.ControlWord.{response, toggle, withResponse, withToggle, wordOf, nak, stall, status}
 use Rattle.state.specs.declared.Control.{Control}
-use Rattle.model.specs.Statics.{isOn, flag}
-use Rattle.model.specs.Control.{DATA-OUT, ACCEPT, requestOf, no-control, dataInOf}
-use Rattle.model.specs.ToggledLaws.{ack-keeps, ack-acks}
-use Rattle.model.specs.ControlLaws.{toggle-with}
+use Rattle.script.specs.Statics.{isOn, flag}
+use Rattle.script.specs.Control.{DATA-OUT, ACCEPT, requestOf, no-control, dataInOf}
+use Rattle.script.specs.ToggledLaws.{ack-keeps, ack-acks}
+use Rattle.script.specs.ControlLaws.{toggle-with}
 use Rattle.proof_usb20.specs.Pipe.{Stage, data-stage, status-stage, acks, Half, readied, halted, dataReady}
 use Rattle.proof_usb20.specs.Pipe.{Setting, Choice, takes, gives, confirms, rejects, chosen, orderly}
 use Rattle.proof_usb20.specs.Log.{Log, withRx, withTx, withLen, choose}

@@ -6,17 +6,17 @@ use lib.Dec.{eqb}
 use Rattle.regs.specs.declared.Dir.{Dir}
 use Rattle.state.specs.declared.EpState.{EpState}
 use Rattle.state.specs.Driver.{Driver, epOn}
-use Rattle.model.specs.Tree as tree
-use Rattle.model.specs.Answers.{Answer}
-use Rattle.model.specs.Calls.{Op, code}
-use Rattle.model.specs.Script.{run}
-use Rattle.model.specs.Statics.{isOn}
-use Rattle.model.specs.TogglesLaws.{number}
-use Rattle.model.specs.Usb20Toggles.{Pid, initial}
-use Rattle.model_ops.specs.Rings.{St}
-use Rattle.model_ops.specs.Concrete.{concrete}
+use Rattle.script.specs.Tree as tree
+use Rattle.script.specs.Answers.{Answer}
+use Rattle.script.specs.Calls.{Op, code}
+use Rattle.script.specs.Script.{run}
+use Rattle.script.specs.Statics.{isOn}
+use Rattle.script.specs.TogglesLaws.{number}
+use Rattle.script.specs.Usb20Toggles.{Pid, initial}
+use Rattle.script_ops.specs.Rings.{St}
+use Rattle.script_ops.specs.Concrete.{concrete}
 use Rattle.proof_book.specs.Sorting.{Sorting}
-use Rattle.model.specs.Machine.{ended}
+use Rattle.script.specs.Machine.{ended}
 use Rattle.proof_wake_ups.specs.Rooms.{Few}
 use Rattle.proof_usb20.specs.Watch.{Along}
 use Rattle.proof_usb20.specs.Sequence.{Track, saw, opens, closes, Fair}

@@ -6,13 +6,13 @@ use Prim.Native.Nat.{ℕ}
 use Rattle.regs.specs.declared.Dir.{Dir}
 use Rattle.state.specs.declared.EpState.{EpState}
 use Rattle.state.specs.Driver.{Driver, epOn, withOn}
-use Rattle.model.specs.Script.{Act, DmaStep}
-use Rattle.model.specs.TransferKinds.{allocates}
-use Rattle.model_ops.specs.Rings.{St}
-use Rattle.model_ops.specs.Concrete.{concrete}
+use Rattle.script.specs.Script.{Act, DmaStep}
+use Rattle.script.specs.TransferKinds.{allocates}
+use Rattle.script_ops.specs.Rings.{St}
+use Rattle.script_ops.specs.Concrete.{concrete}
 use Rattle.proof_book.specs.LeavesLaws.{Leaves, record-leaves, narrow, RingsOnly, turns, act-leaves, hand-leaves}
-use Rattle.model.specs.Tree as tree
-use Rattle.model.specs.Tree.{bindOut}
+use Rattle.script.specs.Tree as tree
+use Rattle.script.specs.Tree.{bindOut}
 use Rattle.proof_usb20.specs.WatchLaws.{watch-bind, watch-more, watch-cond}
 use Rattle.proof_usb20.specs.Sequence.{Track}
 use Rattle.proof_usb20.specs.Follow.{EpSeen, seenOf, view, Follow}

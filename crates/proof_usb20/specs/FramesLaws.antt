@@ -2,10 +2,10 @@
 use mathlib.Core.Bool.{Bool, true, false, cond}
 use mathlib.Core.Path.{_≡_, refl}
 use Prim.Native.Nat.{ℕ}
-use Rattle.model.specs.declared.Transfer.{Transfer}
-use Rattle.model.specs.Script.{Script}
-use Rattle.model.specs.Handler as handler
-use Rattle.model.specs.Handler.{ownIn, framed, released}
+use Rattle.script.specs.declared.Transfer.{Transfer}
+use Rattle.script.specs.Script.{Script}
+use Rattle.script.specs.Handler as handler
+use Rattle.script.specs.Handler.{ownIn, framed, released}
 
 pub framed-st : (x : Transfer) (iso : Bool) (sof frame : ℕ) → framed x iso sof frame .st ≡ x .st
 framed-st x iso sof frame = by (ownIn x iso sof frame)

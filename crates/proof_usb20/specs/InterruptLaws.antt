@@ -16,18 +16,18 @@ use Rattle.regs.specs.declared.Token.{Token}
 use Rattle.regs.specs.declared.Token.the-variants as tok
 use Rattle.regs.specs.ControlWord.{nak, flip, nakflip}
 use Rattle.regs.specs.Status.{endpoint, isSof, togOk}
-use Rattle.model.specs.declared.Transfer.{Transfer}
-use Rattle.model.specs.Tree as tree
-use Rattle.model.specs.Cells.{EpCore, ep-cell, globals-cell}
-use Rattle.model.specs.Script.{Script, bind, test, get, when, run, waken, _>>=_, _>>_}
-use Rattle.model.specs.Statics.{isOn, wake, withReady, withArmed, withLen, modifyEp, modifyReg, isoInEvery}
-use Rattle.model.specs.Statics as statics
-use Rattle.model.specs.IsoIn.{onSof, lateWalk}
-use Rattle.model.specs.IsoOut.{isoOutCheck}
-use Rattle.model.specs.Handler.{sent, dispatch, movedOn, ep0MovedOn}
+use Rattle.script.specs.declared.Transfer.{Transfer}
+use Rattle.script.specs.Tree as tree
+use Rattle.script.specs.Cells.{EpCore, ep-cell, globals-cell}
+use Rattle.script.specs.Script.{Script, bind, test, get, when, run, waken, _>>=_, _>>_}
+use Rattle.script.specs.Statics.{isOn, wake, withReady, withArmed, withLen, modifyEp, modifyReg, isoInEvery}
+use Rattle.script.specs.Statics as statics
+use Rattle.script.specs.IsoIn.{onSof, lateWalk}
+use Rattle.script.specs.IsoOut.{isoOutCheck}
+use Rattle.script.specs.Handler.{sent, dispatch, movedOn, ep0MovedOn}
 use Rattle.state.specs.Wakes.{wakeCode}
-use Rattle.model_ops.specs.Rings.{St}
-use Rattle.model_ops.specs.Concrete.{concrete}
+use Rattle.script_ops.specs.Rings.{St}
+use Rattle.script_ops.specs.Concrete.{concrete}
 use Rattle.proof_book.specs.TransferKindsLaws.{put-steady, act-steady}
 use Rattle.proof_usb20.specs.Pipe as pipe
 use Rattle.proof_usb20.specs.Pipe.{isReady, packet}

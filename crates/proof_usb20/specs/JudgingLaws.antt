@@ -13,21 +13,21 @@ use Rattle.regs.specs.declared.Dir.{Dir}
 use Rattle.regs.specs.declared.Dir.the-variants.{Out, In}
 use Rattle.regs.specs.Registers.{ctrlOf}
 use Rattle.regs.specs.ControlWord.{toggle, ack, isData1}
-use Rattle.model.specs.ToggledLaws.{ack-keeps, ack-acks}
+use Rattle.script.specs.ToggledLaws.{ack-keeps, ack-acks}
 use Rattle.regs.specs.Status.{endpoint}
 use Rattle.state.specs.Wakes.{wakeCode, listed, woken}
 use Rattle.state.specs.Driver.{key, epOn, withOn}
-use Rattle.model.specs.declared.Transfer.{Transfer}
-use Rattle.model.specs.Tree as tree
-use Rattle.model.specs.Cells.{EpCore, ep-cell}
-use Rattle.model.specs.Script.{run, when, waken, _>>=_, _>>_}
-use Rattle.model.specs.Statics.{modifyEp, wake, isOn, flag, withReady, withArmed, withTog, withLen, completed, modifyReg}
-use Rattle.model.specs.Every.{sameReg}
-use Rattle.model.specs.Handler.{repeated, toggled, outArm, inArm}
-use Rattle.model.specs.TogglesLaws.{number}
-use Rattle.model.specs.Usb20Toggles.{Pid, DATA0, DATA1, same}
-use Rattle.model_ops.specs.Rings.{St}
-use Rattle.model_ops.specs.Concrete.{concrete}
+use Rattle.script.specs.declared.Transfer.{Transfer}
+use Rattle.script.specs.Tree as tree
+use Rattle.script.specs.Cells.{EpCore, ep-cell}
+use Rattle.script.specs.Script.{run, when, waken, _>>=_, _>>_}
+use Rattle.script.specs.Statics.{modifyEp, wake, isOn, flag, withReady, withArmed, withTog, withLen, completed, modifyReg}
+use Rattle.script.specs.Every.{sameReg}
+use Rattle.script.specs.Handler.{repeated, toggled, outArm, inArm}
+use Rattle.script.specs.TogglesLaws.{number}
+use Rattle.script.specs.Usb20Toggles.{Pid, DATA0, DATA1, same}
+use Rattle.script_ops.specs.Rings.{St}
+use Rattle.script_ops.specs.Concrete.{concrete}
 use Rattle.proof_book.specs.TransferKindsLaws.{act-steady}
 use Rattle.proof_usb20.specs.ExemptLaws.{differ}
 use Rattle.proof_usb20.specs.Sequence.{Track, off, due, owes, withPhase, own, shown, lengthOf, judged, acksAs, howOften, reads, saw}

@@ -19,16 +19,16 @@ use Rattle.regs.specs.Flags.{transfer, setupAct}
 use Rattle.regs.specs.Status as status
 use Rattle.regs.specs.Status.{endpoint, togOk}
 use Rattle.regs.specs.MisStatus.{sieFree}
-use Rattle.model.specs.Answers.{Answer, Refused, End, NotYet, Done, Shown}
-use Rattle.model.specs.Calls.{Op, interrupt, slotted, other, aside, Slotted, SetEnabled, PollRead, BeginWrite}
-use Rattle.model.specs.Calls.{PollWrite, PollDataOut, BeginDataIn, Other, Allocate, AllocateAll, Start, BusPoll}
-use Rattle.model.specs.Calls.{BusEnable, BusDisable, Microframe, SetStalled, IsStalled, SetPaced, Advance, BeginRead}
-use Rattle.model.specs.Calls.{BeginSetup, PollSetup, PollDataIn, BeginAccept, PollAccept, BeginReject, BeginDataOut}
-use Rattle.model.specs.Calls.{BeginAcceptSetAddress}
-use Rattle.model.specs.Kinds as kinds
-use Rattle.model.specs.Every.{sameReg}
-use Rattle.model.specs.AddressWrites.{Writes}
-use Rattle.model.specs.TogglesLaws.{number}
+use Rattle.script.specs.Answers.{Answer, Refused, End, NotYet, Done, Shown}
+use Rattle.script.specs.Calls.{Op, interrupt, slotted, other, aside, Slotted, SetEnabled, PollRead, BeginWrite}
+use Rattle.script.specs.Calls.{PollWrite, PollDataOut, BeginDataIn, Other, Allocate, AllocateAll, Start, BusPoll}
+use Rattle.script.specs.Calls.{BusEnable, BusDisable, Microframe, SetStalled, IsStalled, SetPaced, Advance, BeginRead}
+use Rattle.script.specs.Calls.{BeginSetup, PollSetup, PollDataIn, BeginAccept, PollAccept, BeginReject, BeginDataOut}
+use Rattle.script.specs.Calls.{BeginAcceptSetAddress}
+use Rattle.script.specs.Kinds as kinds
+use Rattle.script.specs.Every.{sameReg}
+use Rattle.script.specs.AddressWrites.{Writes}
+use Rattle.script.specs.TogglesLaws.{number}
 use Rattle.proof_usb20.specs.Pipe.{Answers, naks, stalls, acks, Half, renewed, isReady, Pipe, Event, setup}
 use Rattle.proof_usb20.specs.Pipe.{packet, token, possible, after, Choice, takes, gives, confirms, rejects}
 use Rattle.proof_usb20.specs.Pipe.{chosen, orderly, Awaited, nothing, awaitedBy, over, taken, given, confirmed}

@@ -13,20 +13,20 @@ use Rattle.state.specs.declared.Control.{Control}
 use Rattle.state.specs.Driver.{Driver}
 use Rattle.frame.specs.Usb20.{indexOf, frameOf}
 use Rattle.frame.specs.Advance.{NO_FRAME, completions}
-use Rattle.model.specs.Tree as tree
-use Rattle.model.specs.Machine.{Buf}
-use Rattle.model.specs.Cells.{ep-cell, globals-cell, allocator-cell, control-cell, paced-cell}
-use Rattle.model.specs.Script.{Script, bind, run, put}
-use Rattle.model.specs.Statics.{flag, withPaced, withSetup}
-use Rattle.model.specs.Answers.{Answer, Refused, Done, resultless}
-use Rattle.model.specs.Control.{SETUP, DATA-OUT, DATA-IN, ACCEPT, requestOf, no-control, dataInOf, addressOf}
-use Rattle.model.specs.Control.{ends-control, unlessSetup, withinMaximum, requested, aborted-else, acks, take-closing}
-use Rattle.model.specs.Control.{statusIn}
-use Rattle.model.specs.Calls.{slotted, other, aside, PollDataOut, BeginDataIn, BusEnable, BusDisable, Microframe}
-use Rattle.model.specs.Calls.{IsStalled, SetPaced, Advance, BeginSetup, PollSetup, PollDataIn, BeginAccept, PollAccept}
-use Rattle.model.specs.Calls.{BeginReject, BeginDataOut, BeginAcceptSetAddress, Aside, Open, Close, Queue, asideCode}
-use Rattle.model_ops.specs.Rings.{St}
-use Rattle.model_ops.specs.Concrete.{concrete}
+use Rattle.script.specs.Tree as tree
+use Rattle.script.specs.Machine.{Buf}
+use Rattle.script.specs.Cells.{ep-cell, globals-cell, allocator-cell, control-cell, paced-cell}
+use Rattle.script.specs.Script.{Script, bind, run, put}
+use Rattle.script.specs.Statics.{flag, withPaced, withSetup}
+use Rattle.script.specs.Answers.{Answer, Refused, Done, resultless}
+use Rattle.script.specs.Control.{SETUP, DATA-OUT, DATA-IN, ACCEPT, requestOf, no-control, dataInOf, addressOf}
+use Rattle.script.specs.Control.{ends-control, unlessSetup, withinMaximum, requested, aborted-else, acks, take-closing}
+use Rattle.script.specs.Control.{statusIn}
+use Rattle.script.specs.Calls.{slotted, other, aside, PollDataOut, BeginDataIn, BusEnable, BusDisable, Microframe}
+use Rattle.script.specs.Calls.{IsStalled, SetPaced, Advance, BeginSetup, PollSetup, PollDataIn, BeginAccept, PollAccept}
+use Rattle.script.specs.Calls.{BeginReject, BeginDataOut, BeginAcceptSetAddress, Aside, Open, Close, Queue, asideCode}
+use Rattle.script_ops.specs.Rings.{St}
+use Rattle.script_ops.specs.Concrete.{concrete}
 use Rattle.proof_book.specs.Sorting.{Sorting}
 use Rattle.proof_usb20.specs.Sequence.{Track, before}
 use Rattle.proof_usb20.specs.FollowLaws as follow

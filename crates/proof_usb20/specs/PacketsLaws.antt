@@ -16,23 +16,23 @@ use Rattle.regs.specs.MisStatus.{sieFree}
 use Rattle.regs.specs.Status.{endpoint}
 use Rattle.state.specs.Wakes.{Wakes, wakeCode, all-woken}
 use Rattle.state.specs.Driver.{epOn, withOn}
-use Rattle.model.specs.declared.Transfer.{Transfer}
+use Rattle.script.specs.declared.Transfer.{Transfer}
 use Rattle.state.specs.declared.EpState.{EpState}
-use Rattle.model.specs.Tree as tree
-use Rattle.model.specs.Cells.{EpCore, ep-cell}
-use Rattle.model.specs.Script.{when, run, waken, _>>=_, _>>_}
-use Rattle.model.specs.Statics.{modifyEp, wake, isOn, flag, withArmed, withTog, withLen, withReady, completed}
-use Rattle.model.specs.Handler.{looks, repeated, verdict, toggled, outArm, inArm}
-use Rattle.model.specs.Every.{Every, at-end, at-ask}
-use Rattle.model.specs.EveryLaws.{every-bind, every-cond}
-use Rattle.model.specs.Usb20Toggles.{Pid, DATA0, DATA1, Transaction, bitAfterAll, passed}
-use Rattle.model.specs.TogglesLaws.{number, shown, repeated-not-passed}
-use Rattle.model.specs.ToggledLaws.{toggling, KeepsRecord, Answered, ack-keeps, ack-acks}
-use Rattle.model_ops.specs.Records.{plainOf, merged}
-use Rattle.model_ops.specs.Rings.{St}
-use Rattle.model_ops.specs.Concrete.{concrete}
+use Rattle.script.specs.Tree as tree
+use Rattle.script.specs.Cells.{EpCore, ep-cell}
+use Rattle.script.specs.Script.{when, run, waken, _>>=_, _>>_}
+use Rattle.script.specs.Statics.{modifyEp, wake, isOn, flag, withArmed, withTog, withLen, withReady, completed}
+use Rattle.script.specs.Handler.{looks, repeated, verdict, toggled, outArm, inArm}
+use Rattle.script.specs.Every.{Every, at-end, at-ask}
+use Rattle.script.specs.EveryLaws.{every-bind, every-cond}
+use Rattle.script.specs.Usb20Toggles.{Pid, DATA0, DATA1, Transaction, bitAfterAll, passed}
+use Rattle.script.specs.TogglesLaws.{number, shown, repeated-not-passed}
+use Rattle.script.specs.ToggledLaws.{toggling, KeepsRecord, Answered, ack-keeps, ack-acks}
+use Rattle.script_ops.specs.Records.{plainOf, merged}
+use Rattle.script_ops.specs.Rings.{St}
+use Rattle.script_ops.specs.Concrete.{concrete}
 use Rattle.proof_book.specs.TransferKindsLaws.{put-steady}
-use Rattle.proof_toggles.specs.Toggles.{Whole, same-ep}
+use Rattle.proof_usb20.specs.Toggles.{Whole, same-ep}
 use Rattle.proof_usb20.specs.ExemptLaws.{differ}
 
 -- the record of a new packet: taken (OUT) with its length, or sent (IN); the bit as it is now

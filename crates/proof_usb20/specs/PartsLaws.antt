@@ -15,15 +15,15 @@ use Rattle.regs.specs.Registers.{ctrlOf}
 use Rattle.regs.specs.ControlWord.{isData1}
 use Rattle.regs.specs.Status.{endpoint}
 use Rattle.state.specs.declared.Globals.{Globals}
-use Rattle.model.specs.declared.Transfer.{Transfer}
-use Rattle.model.specs.Cells.{EpCore, Cell, ep-cell, globals-cell}
-use Rattle.model.specs.Script.{Script, when, get}
-use Rattle.model.specs.Statics.{wake, completed, withLen, withReady, withTog, withArmed, withSofFrame, withLastFrame}
-use Rattle.model.specs.Statics.{flag, isoInEvery, isoOuts, modify, modifyEp, modifyReg}
-use Rattle.model.specs.IsoIn.{firstInFrame, isoInComplete, unseen, sofOne, sofWalk, onSof, lateWalk}
-use Rattle.model.specs.IsoOut.{arrives, checkWalk, isoOutCheck}
-use Rattle.model.specs.Handler.{looks, toggled, received, sent, sofArm, dispatch}
-use Rattle.model_ops.specs.Concrete.{concrete}
+use Rattle.script.specs.declared.Transfer.{Transfer}
+use Rattle.script.specs.Cells.{EpCore, Cell, ep-cell, globals-cell}
+use Rattle.script.specs.Script.{Script, when, get}
+use Rattle.script.specs.Statics.{wake, completed, withLen, withReady, withTog, withArmed, withSofFrame, withLastFrame}
+use Rattle.script.specs.Statics.{flag, isoInEvery, isoOuts, modify, modifyEp, modifyReg}
+use Rattle.script.specs.IsoIn.{firstInFrame, isoInComplete, unseen, sofOne, sofWalk, onSof, lateWalk}
+use Rattle.script.specs.IsoOut.{arrives, checkWalk, isoOutCheck}
+use Rattle.script.specs.Handler.{looks, toggled, received, sent, sofArm, dispatch}
+use Rattle.script_ops.specs.Concrete.{concrete}
 use Rattle.proof_usb20.specs.ExemptLaws.{differ}
 use Rattle.proof_book.specs.TransferKindsLaws.{put-steady}
 use Rattle.frame.specs.Usb20.{indexOf, frameOf}

@@ -12,15 +12,15 @@ use borrow.Author.Tests.{eqb-true}
 use Rattle.regs.specs.declared.Dir.the-variants.{Out, In}
 use Rattle.state.specs.declared.Control.{Control}
 use Rattle.state.specs.declared.Globals.{Globals}
-use Rattle.model.specs.Tree as tree
-use Rattle.model.specs.Cells.{ep-cell, control-cell, globals-cell}
-use Rattle.model.specs.Script.{run, no-wakes}
-use Rattle.model.specs.Statics.{isOn, withReady, withSetup}
-use Rattle.model.specs.Answers.{Answer, Refused, NotYet, Done}
-use Rattle.model.specs.Control.{SETUP, DATA-OUT, DATA-IN, ACCEPT, no-control, dataInOf, setupBytes}
-use Rattle.model.specs.Calls.{slotted, other, PollDataOut, PollSetup, PollDataIn, PollAccept, code}
-use Rattle.model_ops.specs.Rings.{St}
-use Rattle.model_ops.specs.Concrete.{concrete}
+use Rattle.script.specs.Tree as tree
+use Rattle.script.specs.Cells.{ep-cell, control-cell, globals-cell}
+use Rattle.script.specs.Script.{run, no-wakes}
+use Rattle.script.specs.Statics.{isOn, withReady, withSetup}
+use Rattle.script.specs.Answers.{Answer, Refused, NotYet, Done}
+use Rattle.script.specs.Control.{SETUP, DATA-OUT, DATA-IN, ACCEPT, no-control, dataInOf, setupBytes}
+use Rattle.script.specs.Calls.{slotted, other, PollDataOut, PollSetup, PollDataIn, PollAccept, code}
+use Rattle.script_ops.specs.Rings.{St}
+use Rattle.script_ops.specs.Concrete.{concrete}
 use Rattle.proof_book.specs.Sorting.{Sorting}
 use Rattle.proof_usb20.specs.Pipe.{Half, Pipe, Awaited, nothing, taken, given, confirmed, over, keeps, sets}
 use Rattle.proof_usb20.specs.Log.{Log, afresh, Accepted, Allowed, asksAfter, pollOut, pollIn, pollStatus}

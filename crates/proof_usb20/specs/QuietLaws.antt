@@ -16,17 +16,17 @@ use Rattle.regs.specs.Registers.{ctrlOf}
 use Rattle.state.specs.declared.Globals.{Globals}
 use Rattle.state.specs.Driver.{Driver, key, epOn, withOn}
 use Rattle.state.specs.Laws.{key-apart, key-same}
-use Rattle.model.specs.Tree as tree
-use Rattle.model.specs.Cells.{EpCore, Cell, Val, ep-cell, globals-cell}
-use Rattle.model.specs.Script.{Script, get, ret, bind, test, read-then, write-then, callback-then, get-then, put-then}
-use Rattle.model.specs.Script.{is-then, look-then, fetch-then, act-then, hand-then, run, Test, Look, Fetch, Act}
-use Rattle.model.specs.Script.{DmaStep, dmaStepAsk, arrive, send, place, place0}
-use Rattle.model.specs.TransferKinds.{Among, allocates}
-use Rattle.model.specs.SortsWalks.{among-ins}
-use Rattle.model.specs.Statics.{isOn, withLastFrame, isoInEvery}
-use Rattle.model_ops.specs.Records.{merged}
-use Rattle.model_ops.specs.Rings.{St}
-use Rattle.model_ops.specs.Concrete.{concrete}
+use Rattle.script.specs.Tree as tree
+use Rattle.script.specs.Cells.{EpCore, Cell, Val, ep-cell, globals-cell}
+use Rattle.script.specs.Script.{Script, get, ret, bind, test, read-then, write-then, callback-then, get-then, put-then}
+use Rattle.script.specs.Script.{is-then, look-then, fetch-then, act-then, hand-then, run, Test, Look, Fetch, Act}
+use Rattle.script.specs.Script.{DmaStep, dmaStepAsk, arrive, send, place, place0}
+use Rattle.script.specs.TransferKinds.{Among, allocates}
+use Rattle.script.specs.SortsWalks.{among-ins}
+use Rattle.script.specs.Statics.{isOn, withLastFrame, isoInEvery}
+use Rattle.script_ops.specs.Records.{merged}
+use Rattle.script_ops.specs.Rings.{St}
+use Rattle.script_ops.specs.Concrete.{concrete}
 use Rattle.proof_book.specs.TransferKinds.{Steady}
 use Rattle.proof_book.specs.TransferKindsLaws.{put-steady, act-steady}
 use Rattle.proof_book.specs.Sorting.{Sorting}

@@ -15,19 +15,19 @@ use Rattle.regs.specs.Enables as enables
 use Rattle.state.specs.declared.EpState.{EpState}
 use Rattle.state.specs.Driver.{Driver, key, noEp, epOn, withOn}
 use Rattle.state.specs.Laws.{key-lt}
-use Rattle.model.specs.Cells.{EpCore, Cell, Val, ep-cell, allocator-cell, request-cell}
-use Rattle.model.specs.Script.{Script, run, no-wakes, fill}
-use Rattle.model.specs.Statics.{isOn, withReady, withArmed}
-use Rattle.model.specs.Tree as tree
-use Rattle.model.specs.Tree.{ends}
-use Rattle.model.specs.Answers.{Answer, Refused, NotYet, Done, named, isAllocated}
-use Rattle.model.specs.Endpoint.{polled, tooLong, no-request, begun}
-use Rattle.model.specs.Calls.{Op, slotted, other, PollRead, BeginWrite, PollWrite, BeginRead, code}
-use Rattle.model.specs.TogglesLaws.{number}
-use Rattle.model.specs.Usb20Toggles.{Pid}
-use Rattle.model_ops.specs.Records.{plainOf, merged}
-use Rattle.model_ops.specs.Rings.{St}
-use Rattle.model_ops.specs.Concrete.{concrete}
+use Rattle.script.specs.Cells.{EpCore, Cell, Val, ep-cell, allocator-cell, request-cell}
+use Rattle.script.specs.Script.{Script, run, no-wakes, fill}
+use Rattle.script.specs.Statics.{isOn, withReady, withArmed}
+use Rattle.script.specs.Tree as tree
+use Rattle.script.specs.Tree.{ends}
+use Rattle.script.specs.Answers.{Answer, Refused, NotYet, Done, named, isAllocated}
+use Rattle.script.specs.Endpoint.{polled, tooLong, no-request, begun}
+use Rattle.script.specs.Calls.{Op, slotted, other, PollRead, BeginWrite, PollWrite, BeginRead, code}
+use Rattle.script.specs.TogglesLaws.{number}
+use Rattle.script.specs.Usb20Toggles.{Pid}
+use Rattle.script_ops.specs.Records.{plainOf, merged}
+use Rattle.script_ops.specs.Rings.{St}
+use Rattle.script_ops.specs.Concrete.{concrete}
 use Rattle.proof_book.specs.TransferKindsLaws.{put-steady, act-steady}
 use Rattle.proof_usb20.specs.ExemptLaws.{by-test, differ}
 use Rattle.proof_usb20.specs.Sequence as log

@@ -25,19 +25,19 @@ use Rattle.descriptor.specs.declared.Answer as listing
 use Rattle.descriptor.specs.declared.Answer.the-variants as listed
 use Rattle.descriptor.specs.Reading.{readingOf, listOf}
 use Rattle.descriptor.specs.Trial.{directionOf, trialOf}
-use Rattle.model.specs.Tree as tree
-use Rattle.model.specs.Cells.{ep-cell, allocator-cell}
-use Rattle.model.specs.Script.{bind, run, row, rows, bus-reset, no-wakes, waken, allocate, allocate0}
-use Rattle.model.specs.Statics.{isOn, withTog, completed, wake, wakeAll, withPower}
-use Rattle.model.specs.Answers.{isAllocated, operation, resultless}
-use Rattle.model.specs.Bus as bus
-use Rattle.model.specs.Driver.{newEndpoint, allocated-as, startEp0, started-as}
-use Rattle.model.specs.AllocateAll.{allocateEach, announce, beginsAt, announceAfter, announceAll, allocate-read}
-use Rattle.model.specs.Calls.{other, Allocate, AllocateAll, Start, BusPoll, SetStalled, code}
-use Rattle.model.specs.Usb20Toggles.{initial}
-use Rattle.model_ops.specs.Records.{plainOf, startedWith, allocatedEp0}
-use Rattle.model_ops.specs.Rings.{St}
-use Rattle.model_ops.specs.Concrete.{concrete}
+use Rattle.script.specs.Tree as tree
+use Rattle.script.specs.Cells.{ep-cell, allocator-cell}
+use Rattle.script.specs.Script.{bind, run, row, rows, bus-reset, no-wakes, waken, allocate, allocate0}
+use Rattle.script.specs.Statics.{isOn, withTog, completed, wake, wakeAll, withPower}
+use Rattle.script.specs.Answers.{isAllocated, operation, resultless}
+use Rattle.script.specs.Bus as bus
+use Rattle.script.specs.Driver.{newEndpoint, allocated-as, startEp0, started-as}
+use Rattle.script.specs.AllocateAll.{allocateEach, announce, beginsAt, announceAfter, announceAll, allocate-read}
+use Rattle.script.specs.Calls.{other, Allocate, AllocateAll, Start, BusPoll, SetStalled, code}
+use Rattle.script.specs.Usb20Toggles.{initial}
+use Rattle.script_ops.specs.Records.{plainOf, startedWith, allocatedEp0}
+use Rattle.script_ops.specs.Rings.{St}
+use Rattle.script_ops.specs.Concrete.{concrete}
 use Rattle.proof_book.specs.TransferKindsLaws.{act-steady}
 use Rattle.proof_usb20.specs.ExemptLaws.{differ}
 use Rattle.proof_usb20.specs.Sequence as log

@@ -5,16 +5,16 @@ use mathlib.Core.Path.{_≡_, refl, ap, subst, sym, _∙_}
 use Prim.Native.Nat.{ℕ, zero, suc}
 use Rattle.regs.specs.declared.Access.{Access}
 use Rattle.state.specs.Driver.{Driver}
-use Rattle.model.specs.Tree as tree
-use Rattle.model.specs.Script.{run}
-use Rattle.model.specs.Every as ways
-use Rattle.model.specs.Answers.{Answer, Refused}
-use Rattle.model.specs.Calls.{Config, Op, interrupt, slotted, other, aside, Aside, asideCode, code, calls, startRow}
-use Rattle.model.specs.Machine as machine
-use Rattle.model.specs.Machine.{Buf, Call, start, begin, go, question, Event, Ans, ended, Awaits, Way, idle, busy}
-use Rattle.model.specs.Machine.{Machine, misfit, beside, begun, continued, started, stay}
-use Rattle.model_ops.specs.Rings.{St}
-use Rattle.model_ops.specs.Concrete.{concrete}
+use Rattle.script.specs.Tree as tree
+use Rattle.script.specs.Script.{run}
+use Rattle.script.specs.Every as ways
+use Rattle.script.specs.Answers.{Answer, Refused}
+use Rattle.script.specs.Calls.{Config, Op, interrupt, slotted, other, aside, Aside, asideCode, code, calls, startRow}
+use Rattle.script.specs.Machine as machine
+use Rattle.script.specs.Machine.{Buf, Call, start, begin, go, question, Event, Ans, ended, Awaits, Way, idle, busy}
+use Rattle.script.specs.Machine.{Machine, misfit, beside, begun, continued, started, stay}
+use Rattle.script_ops.specs.Rings.{St}
+use Rattle.script_ops.specs.Concrete.{concrete}
 use Rattle.machine.specs.Suspended.{driverOf, drive, haltsAs}
 use Rattle.proof_book.specs.Always.{after}
 use Rattle.proof_book.specs.Sorting.{Sorting}

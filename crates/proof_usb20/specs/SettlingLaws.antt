@@ -15,14 +15,14 @@ use Rattle.regs.specs.Flags.{transfer}
 use Rattle.regs.specs.MisStatus.{sieFree}
 use Rattle.regs.specs.Status.{endpoint, token, outToken, inToken, isOut, isIn}
 use Rattle.state.specs.Driver.{key, epOn}
-use Rattle.model.specs.declared.Transfer.{Transfer}
-use Rattle.model.specs.Cells.{EpCore, ep-cell}
-use Rattle.model.specs.Script.{Script, read-then, run}
-use Rattle.model.specs.Statics.{isOn}
-use Rattle.model.specs.Every.{sameReg}
-use Rattle.model.specs.Handler.{looks, nakNonIso, settle, waitsForIso, waitsForBulk, isoFor}
-use Rattle.model_ops.specs.Rings.{St}
-use Rattle.model_ops.specs.Concrete.{concrete}
+use Rattle.script.specs.declared.Transfer.{Transfer}
+use Rattle.script.specs.Cells.{EpCore, ep-cell}
+use Rattle.script.specs.Script.{Script, read-then, run}
+use Rattle.script.specs.Statics.{isOn}
+use Rattle.script.specs.Every.{sameReg}
+use Rattle.script.specs.Handler.{looks, nakNonIso, settle, waitsForIso, waitsForBulk, isoFor}
+use Rattle.script_ops.specs.Rings.{St}
+use Rattle.script_ops.specs.Concrete.{concrete}
 use Rattle.proof_usb20.specs.ExemptLaws.{differ}
 use Rattle.proof_usb20.specs.FittingLaws.{both}
 use Rattle.proof_usb20.specs.Sequence.{Track, shows, again, withPhase, own, mine, tokenFor, saw}

@@ -11,17 +11,17 @@ use Rattle.regs.specs.declared.Access.{Access}
 use Rattle.regs.specs.declared.Dir.the-variants.{Out, In}
 use Rattle.regs.specs.ControlWord.{toggle, ack, stall, status}
 use Rattle.state.specs.declared.Control.{Control}
-use Rattle.model.specs.Tree as tree
-use Rattle.model.specs.Tree.{ends}
-use Rattle.model.specs.Answers.{Answer, Refused}
-use Rattle.model.specs.Cells.{EpCore, ep-cell, control-cell}
-use Rattle.model.specs.Script.{no-wakes, fill0}
-use Rattle.model.specs.Statics.{isOn, withReady, withArmed, withLen}
-use Rattle.model.specs.Control.{SETUP, DATA-OUT, ACCEPT, requestOf, no-control, dataInOf, addressOf}
-use Rattle.model.specs.Calls.{slotted, other, BeginDataIn, BeginSetup, BeginAccept, BeginReject, BeginDataOut, BeginAcceptSetAddress}
-use Rattle.model.specs.ToggledLaws.{ack-keeps, ack-acks}
-use Rattle.model_ops.specs.Rings.{St}
-use Rattle.model_ops.specs.Concrete.{concrete}
+use Rattle.script.specs.Tree as tree
+use Rattle.script.specs.Tree.{ends}
+use Rattle.script.specs.Answers.{Answer, Refused}
+use Rattle.script.specs.Cells.{EpCore, ep-cell, control-cell}
+use Rattle.script.specs.Script.{no-wakes, fill0}
+use Rattle.script.specs.Statics.{isOn, withReady, withArmed, withLen}
+use Rattle.script.specs.Control.{SETUP, DATA-OUT, ACCEPT, requestOf, no-control, dataInOf, addressOf}
+use Rattle.script.specs.Calls.{slotted, other, BeginDataIn, BeginSetup, BeginAccept, BeginReject, BeginDataOut, BeginAcceptSetAddress}
+use Rattle.script.specs.ToggledLaws.{ack-keeps, ack-acks}
+use Rattle.script_ops.specs.Rings.{St}
+use Rattle.script_ops.specs.Concrete.{concrete}
 use Rattle.proof_book.specs.TransferKindsLaws.{put-steady, act-steady}
 use Rattle.proof_usb20.specs.Pipe.{Pipe, Awaited, keeps, sets}
 use Rattle.proof_usb20.specs.Log.{Log, afresh}

@@ -11,14 +11,14 @@ use Rattle.state.specs.declared.Globals.{Globals}
 use Rattle.state.specs.Fresh.{clearStamps}
 use Rattle.state.specs.Kept.{withEpType}
 use Rattle.frame.specs.Advance.{NO_FRAME}
-use Rattle.model.specs.Tree as tree
-use Rattle.model.specs.Cells.{ep-cell, globals-cell}
-use Rattle.model.specs.Script.{row, rows, switch, switchAsk}
-use Rattle.model.specs.Statics.{isOn, renewed, withArmed, flag, modifyEpType}
-use Rattle.model.specs.Bus as bus
-use Rattle.model.specs.Calls.{slotted, SetEnabled}
-use Rattle.model_ops.specs.Rings.{St, slotStep, armAt, renewedOn, typeStep, configStep}
-use Rattle.model_ops.specs.Concrete.{concrete}
+use Rattle.script.specs.Tree as tree
+use Rattle.script.specs.Cells.{ep-cell, globals-cell}
+use Rattle.script.specs.Script.{row, rows, switch, switchAsk}
+use Rattle.script.specs.Statics.{isOn, renewed, withArmed, flag, modifyEpType}
+use Rattle.script.specs.Bus as bus
+use Rattle.script.specs.Calls.{slotted, SetEnabled}
+use Rattle.script_ops.specs.Rings.{St, slotStep, armAt, renewedOn, typeStep, configStep}
+use Rattle.script_ops.specs.Concrete.{concrete}
 use Rattle.proof_usb20.specs.Log.{Log, saw}
 use Rattle.proof_usb20.specs.Watch.{at-end}
 use Rattle.proof_usb20.specs.Ep0.{Watch, view, recOf, Between, Law}

@@ -20,23 +20,23 @@ use Rattle.frame.specs.Advance.{NO_FRAME, completions}
 use Rattle.regs.specs.Flags.{busRst, suspend}
 use Rattle.regs.specs.IntEn.{withBusRst, withSuspend}
 use Rattle.state.specs.Kept.{withIntEn}
-use Rattle.model.specs.Tree as tree
-use Rattle.model.specs.Cells.{EpCore, ep-cell, globals-cell, allocator-cell, request-cell, paced-cell}
-use Rattle.model.specs.Script.{Script, ret, bind, run, no-wakes}
+use Rattle.script.specs.Tree as tree
+use Rattle.script.specs.Cells.{EpCore, ep-cell, globals-cell, allocator-cell, request-cell, paced-cell}
+use Rattle.script.specs.Script.{Script, ret, bind, run, no-wakes}
 use Rattle.bits.specs.Bit.{withBit}
-use Rattle.model.specs.Machine.{Buf}
+use Rattle.script.specs.Machine.{Buf}
 use Rattle.proof_book.specs.TransferKindsLaws.{put-steady, act-steady}
 use Rattle.proof_book.specs.Sorting.{Sorting}
-use Rattle.model.specs.Statics.{isOn, withReady, withArmed, withPaced, withTog, withPower, modifyIntEn}
-use Rattle.model.specs.Answers.{Answer, Refused, End, NotYet, Done, Shown, operation, resultless, staged, named, unless, isNumber, isAllocated}
-use Rattle.model.specs.IsoIn.{isoInCompletions, isoInSetPaced}
-use Rattle.model.specs.Bus as bus
-use Rattle.model.specs.Endpoint.{enabled-else, ends-request, polled, no-request, begun}
-use Rattle.model.specs.Calls.{Op, slotted, other, aside, PollRead, BeginWrite, PollWrite, Allocate, AllocateAll}
-use Rattle.model.specs.Calls.{Start, BusPoll, BusEnable, BusDisable, Microframe, SetStalled, IsStalled, SetPaced}
-use Rattle.model.specs.Calls.{Advance, BeginRead, Aside, Open, Close, Queue, asideCode, code}
-use Rattle.model_ops.specs.Rings.{St}
-use Rattle.model_ops.specs.Concrete.{concrete}
+use Rattle.script.specs.Statics.{isOn, withReady, withArmed, withPaced, withTog, withPower, modifyIntEn}
+use Rattle.script.specs.Answers.{Answer, Refused, End, NotYet, Done, Shown, operation, resultless, staged, named, unless, isNumber, isAllocated}
+use Rattle.script.specs.IsoIn.{isoInCompletions, isoInSetPaced}
+use Rattle.script.specs.Bus as bus
+use Rattle.script.specs.Endpoint.{enabled-else, ends-request, polled, no-request, begun}
+use Rattle.script.specs.Calls.{Op, slotted, other, aside, PollRead, BeginWrite, PollWrite, Allocate, AllocateAll}
+use Rattle.script.specs.Calls.{Start, BusPoll, BusEnable, BusDisable, Microframe, SetStalled, IsStalled, SetPaced}
+use Rattle.script.specs.Calls.{Advance, BeginRead, Aside, Open, Close, Queue, asideCode, code}
+use Rattle.script_ops.specs.Rings.{St}
+use Rattle.script_ops.specs.Concrete.{concrete}
 use Rattle.regs.specs.declared.Access.{Access}
 use Rattle.proof_usb20.specs.Log as log
 use Rattle.proof_usb20.specs.Log.{Log, before, exempted, afresh, opens, ends, closes, Poll, none, pollOf, settled, FairPoll, Allowed, AllowedTo}

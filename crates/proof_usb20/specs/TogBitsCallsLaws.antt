@@ -11,20 +11,20 @@ use Rattle.alloc.specs.declared.Answer.the-variants as alloc
 use Rattle.descriptor.specs.declared.Endpoint.{Endpoint}
 use Rattle.descriptor.specs.declared.Answer as reading-answer
 use Rattle.descriptor.specs.declared.Answer.the-variants as reading
-use Rattle.model.specs.declared.Transfer.{Transfer}
-use Rattle.model.specs.IsoIn.{isoInComplete, sofOne, sofWalk, lateWalk, onSof, isoInCompletions}
-use Rattle.model.specs.IsoOut.{checkWalk}
-use Rattle.model.specs.Handler.{looks, toggled, retake, settle, dispatch, movedOn, ep0MovedOn, served, onTransfer, onSetup, stampedInterrupt}
-use Rattle.model.specs.Bus as bus
-use Rattle.model.specs.Control.{acks}
-use Rattle.model.specs.Driver.{allocated-as, started-as}
-use Rattle.model.specs.AllocateAll.{allocateEach, announce, beginsAt, announceAfter, announceAll, allocate-read}
-use Rattle.model.specs.Calls.{Config, Slotted, SetEnabled, PollRead, BeginWrite, PollWrite, PollDataOut, BeginDataIn}
-use Rattle.model.specs.Calls.{Other, Allocate, AllocateAll, Start, BusPoll, BusEnable, BusDisable, Microframe}
-use Rattle.model.specs.Calls.{SetStalled, IsStalled, SetPaced, Advance, BeginRead, BeginSetup, PollSetup, PollDataIn}
-use Rattle.model.specs.Calls.{BeginAccept, PollAccept, BeginReject, BeginDataOut, BeginAcceptSetAddress, Aside, Open}
-use Rattle.model.specs.Calls.{Close, Queue, Op, interrupt, slotted, other, aside, slottedCode, otherCode, asideCode}
-use Rattle.model.specs.Calls.{code, starting}
+use Rattle.script.specs.declared.Transfer.{Transfer}
+use Rattle.script.specs.IsoIn.{isoInComplete, sofOne, sofWalk, lateWalk, onSof, isoInCompletions}
+use Rattle.script.specs.IsoOut.{checkWalk}
+use Rattle.script.specs.Handler.{looks, toggled, retake, settle, dispatch, movedOn, ep0MovedOn, served, onTransfer, onSetup, stampedInterrupt}
+use Rattle.script.specs.Bus as bus
+use Rattle.script.specs.Control.{acks}
+use Rattle.script.specs.Driver.{allocated-as, started-as}
+use Rattle.script.specs.AllocateAll.{allocateEach, announce, beginsAt, announceAfter, announceAll, allocate-read}
+use Rattle.script.specs.Calls.{Config, Slotted, SetEnabled, PollRead, BeginWrite, PollWrite, PollDataOut, BeginDataIn}
+use Rattle.script.specs.Calls.{Other, Allocate, AllocateAll, Start, BusPoll, BusEnable, BusDisable, Microframe}
+use Rattle.script.specs.Calls.{SetStalled, IsStalled, SetPaced, Advance, BeginRead, BeginSetup, PollSetup, PollDataIn}
+use Rattle.script.specs.Calls.{BeginAccept, PollAccept, BeginReject, BeginDataOut, BeginAcceptSetAddress, Aside, Open}
+use Rattle.script.specs.Calls.{Close, Queue, Op, interrupt, slotted, other, aside, slottedCode, otherCode, asideCode}
+use Rattle.script.specs.Calls.{code, starting}
 use Rattle.proof_usb20.specs.TogBitsLaws.{KeepsBits, k-bind, k-test, keeping}
 
 module _ {i : Bool} where

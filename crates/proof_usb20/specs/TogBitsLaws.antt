@@ -21,19 +21,19 @@ use Rattle.ring.specs.Out.{armedAt}
 use Rattle.alloc.specs.Alloc.{allocateOf, allocateEp0Of, allocated}
 use Rattle.alloc.specs.declared.Answer as alloc-answer
 use Rattle.alloc.specs.declared.Answer.the-variants as alloc
-use Rattle.model.specs.Cells.{sameSort, EpCore, Cell, Val, globals-cell, control-cell, allocator-cell, ep-cell, request-cell, paced-cell}
-use Rattle.model.specs.Script.{Script, run, ret, bind, test, read-then, write-then, wait-then, callback-then}
-use Rattle.model.specs.Script.{get-then, put-then, is-then, look-then, fetch-then, act-then, hand-then, row-then, Test}
-use Rattle.model.specs.Script.{Look, Fetch, Act}
-use Rattle.model.specs.Script.{DmaStep, Burst}
-use Rattle.model.specs.Script.{switch, bus-reset, lastOf}
-use Rattle.model.specs.Statics.{isOn, flag}
-use Rattle.model.specs.StepsRuns.{Holds, end, ask}
-use Rattle.model.specs.StepsRunsLaws.{holds-bind, holds-rows}
-use Rattle.model.specs.MachineKept.{LentKeeps}
-use Rattle.model_ops.specs.Records.{merged, recordGiven, setsGiven, givenTo, allocatedOn, startedWith, allocatedEp0}
-use Rattle.model_ops.specs.Rings.{St, renewedOn, armAt, slotStep, typeStep, configStep, resetBelow, resetAll}
-use Rattle.model_ops.specs.Concrete.{concrete}
+use Rattle.script.specs.Cells.{sameSort, EpCore, Cell, Val, globals-cell, control-cell, allocator-cell, ep-cell, request-cell, paced-cell}
+use Rattle.script.specs.Script.{Script, run, ret, bind, test, read-then, write-then, wait-then, callback-then}
+use Rattle.script.specs.Script.{get-then, put-then, is-then, look-then, fetch-then, act-then, hand-then, row-then, Test}
+use Rattle.script.specs.Script.{Look, Fetch, Act}
+use Rattle.script.specs.Script.{DmaStep, Burst}
+use Rattle.script.specs.Script.{switch, bus-reset, lastOf}
+use Rattle.script.specs.Statics.{isOn, flag}
+use Rattle.script.specs.StepsRuns.{Holds, end, ask}
+use Rattle.script.specs.StepsRunsLaws.{holds-bind, holds-rows}
+use Rattle.script.specs.MachineKept.{LentKeeps}
+use Rattle.script_ops.specs.Records.{merged, recordGiven, setsGiven, givenTo, allocatedOn, startedWith, allocatedEp0}
+use Rattle.script_ops.specs.Rings.{St, renewedOn, armAt, slotStep, typeStep, configStep, resetBelow, resetAll}
+use Rattle.script_ops.specs.Concrete.{concrete}
 use Rattle.proof_book.specs.LeavesLaws.{RingsOnly, turns, by-act, hand-leaves}
 use Rattle.proof_usb20.specs.TogBits.{IsBit, TogBits}
 

@@ -8,11 +8,11 @@ use Rattle.state.specs.Fresh.{freshDriver}
 use Rattle.state.specs.Driver.{Driver, key, noEp, epOn}
 use Rattle.state.specs.Laws.{key-lt}
 use Rattle.state.specs.State.{view}
-use Rattle.model.specs.Answers.{Answer}
-use Rattle.model.specs.Calls.{Config, Op, calls, startRow}
-use Rattle.model.specs.Machine.{Buf, Event, start, Ans, Machine, started}
-use Rattle.model.specs.MachineKept.{MachineKeeps, Preserves}
-use Rattle.model.specs.MachineKeptLaws.{start-kept, call-kept}
+use Rattle.script.specs.Answers.{Answer}
+use Rattle.script.specs.Calls.{Config, Op, calls, startRow}
+use Rattle.script.specs.Machine.{Buf, Event, start, Ans, Machine, started}
+use Rattle.script.specs.MachineKept.{MachineKeeps, Preserves}
+use Rattle.script.specs.MachineKeptLaws.{start-kept, call-kept}
 use Rattle.machine.specs.Suspended.{driverOf, drive, machineOf}
 use Rattle.proof_book.specs.Always.{after}
 use Rattle.proof_book.specs.Code.{Made, CallStep}

@@ -21,22 +21,22 @@ use Rattle.regs.specs.Status.{endpoint, token, isSof, isIn, sofToken}
 use Rattle.state.specs.Driver.{key, epOn}
 use Rattle.state.specs.Laws.{key-apart}
 use Rattle.frame.specs.Usb20.{indexOf}
-use Rattle.model.specs.declared.Transfer.{Transfer}
-use Rattle.model.specs.Cells.{ep-cell, globals-cell}
-use Rattle.model.specs.Script.{Script, bind, run, when, get, write, no-wakes, _>>=_, _>>_}
-use Rattle.model.specs.Statics.{isOn, flag, isoInEvery, withEntered, modifyIntEn, wakeBus}
-use Rattle.model.specs.IsoIn.{onSof, lateWalk}
-use Rattle.model.specs.IsoOut.{isoOutCheck}
-use Rattle.model.specs.Handler.{entered, isoFor, ownIn, framed, released, dispatch, ep0MovedOn, served, onTransfer, onSetup, onInterrupt}
-use Rattle.model.specs.Calls.{interrupt, code}
-use Rattle.model.specs.Answers.{End}
-use Rattle.model.specs.Machine.{ended}
+use Rattle.script.specs.declared.Transfer.{Transfer}
+use Rattle.script.specs.Cells.{ep-cell, globals-cell}
+use Rattle.script.specs.Script.{Script, bind, run, when, get, write, no-wakes, _>>=_, _>>_}
+use Rattle.script.specs.Statics.{isOn, flag, isoInEvery, withEntered, modifyIntEn, wakeBus}
+use Rattle.script.specs.IsoIn.{onSof, lateWalk}
+use Rattle.script.specs.IsoOut.{isoOutCheck}
+use Rattle.script.specs.Handler.{entered, isoFor, ownIn, framed, released, dispatch, ep0MovedOn, served, onTransfer, onSetup, onInterrupt}
+use Rattle.script.specs.Calls.{interrupt, code}
+use Rattle.script.specs.Answers.{End}
+use Rattle.script.specs.Machine.{ended}
 use Rattle.state.specs.Wakes.{wakeCode, listed}
 use Rattle.state.specs.WakesLaws.{unwoken-room, unwoken-listed, listed-count}
 use Rattle.proof_wake_ups.specs.Rooms.{Few}
 use Rattle.proof_book.specs.Sorting.{Sorting}
-use Rattle.model_ops.specs.Rings.{St}
-use Rattle.model_ops.specs.Concrete.{concrete}
+use Rattle.script_ops.specs.Rings.{St}
+use Rattle.script_ops.specs.Concrete.{concrete}
 use Rattle.proof_usb20.specs.ExemptLaws.{differ}
 use Rattle.proof_usb20.specs.FittingLaws.{both}
 use Rattle.proof_usb20.specs.Sequence as log

@@ -5,8 +5,8 @@ use mathlib.Core.Path.{_≡_, refl, ap}
 use Prim.Native.Nat.{ℕ, zero, suc}
 use Rattle.regs.specs.declared.Dir.{Dir}
 use Rattle.regs.specs.declared.Dir.the-variants.{Out, In}
-use Rattle.model.specs.Usb20Toggles.{other}
-use Rattle.model.specs.Usb20Control.{dataPid, statusPid}
+use Rattle.script.specs.Usb20Toggles.{other}
+use Rattle.script.specs.Usb20Control.{dataPid, statusPid}
 use Rattle.proof_usb20.specs.Pipe.{data-stage, status-stage, naks, stalls, acks, half, Pipe, Setting, setup}
 use Rattle.proof_usb20.specs.Pipe.{packet, token, possible, after, Choice, takes, gives, confirms, rejects}
 use Rattle.proof_usb20.specs.Pipe.{chosen, orderly, given, confirmed, over}

@@ -12,10 +12,10 @@ use Rattle.state.specs.declared.Globals.{Globals}
 use Rattle.state.specs.declared.Control.{Control}
 use Rattle.state.specs.Driver.{Driver, key, noEp, epOn, withOn}
 use Rattle.state.specs.Laws.{key-lt, key-apart}
-use Rattle.model.specs.Cells.{EpCore, ep-cell, globals-cell, control-cell}
-use Rattle.model_ops.specs.Records.{merged}
-use Rattle.model_ops.specs.Rings.{St}
-use Rattle.model_ops.specs.Concrete.{concrete}
+use Rattle.script.specs.Cells.{EpCore, ep-cell, globals-cell, control-cell}
+use Rattle.script_ops.specs.Records.{merged}
+use Rattle.script_ops.specs.Rings.{St}
+use Rattle.script_ops.specs.Concrete.{concrete}
 use Rattle.proof_usb20.specs.Ep0.{Rec, View, recOf, view}
 
 abbrev pub rec : EpCore → Rec

@@ -1,9 +1,9 @@
--- What holds on every way through an outcome, as a log of it sees it: as `Every` of model/specs, whose chip is told
+-- What holds on every way through an outcome, as a log of it sees it: as `Every` of script/specs, whose chip is told
 -- the accesses alone, but told the numbers brought too
 use Prim.Native.Nat.{ℕ}
 use Rattle.regs.specs.declared.Access.{Access}
-use Rattle.model.specs.Tree as tree
-use Rattle.model.specs.Tree.{ends, asks}
+use Rattle.script.specs.Tree as tree
+use Rattle.script.specs.Tree.{ends, asks}
 
 -- `Ok` of each access that is handed out, `P` at each end. `Keeps`: what becomes of the state between an access and the
 -- next call

@@ -3,8 +3,8 @@ use mathlib.Core.Bool.{Bool, true, false, cond}
 use mathlib.Core.Path.{_≡_, refl}
 use Prim.Native.Nat.{ℕ}
 use Rattle.regs.specs.declared.Access.{Access}
-use Rattle.model.specs.Tree as tree
-use Rattle.model.specs.Tree.{ends, asks, bindOut}
+use Rattle.script.specs.Tree as tree
+use Rattle.script.specs.Tree.{ends, asks, bindOut}
 use Rattle.proof_usb20.specs.Watch.{Along, at-end, at-ask}
 
 module _ {L : Type 0} {saw : L → Access → ℕ → L} {Brings : L → Access → ℕ → Type 0} {S : Type 0} {Keeps : S → S → Type 0} {Ok : L → Access → Type 0} where

@@ -1,8 +1,8 @@
 -- The same of the Rattle code, whose calls are steps of the machine of calls that the lent bytes are (proof_book/specs/Code.antt)
 use mathlib.Core.List.{List, [], _∷_}
 use mathlib.Core.Path.{_≡_}
-use Rattle.model.specs.Answers.{Answer}
-use Rattle.model.specs.Machine.{Machine}
+use Rattle.script.specs.Answers.{Answer}
+use Rattle.script.specs.Machine.{Machine}
 use Rattle.proof_book.specs.Code.{Made}
 use Rattle.proof_wake_ups.specs.Heard.{Heard}
 use Rattle.proof_wake_ups.specs.Machines.{hear}

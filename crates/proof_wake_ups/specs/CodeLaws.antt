@@ -2,9 +2,9 @@
 use mathlib.Core.List.{List, [], _∷_}
 use mathlib.Core.Path.{_≡_, sym, subst}
 use Prim.Native.Nat.{ℕ, zero}
-use Rattle.model.specs.Answers.{Answer}
-use Rattle.model.specs.Calls.{Config, Op, startRow}
-use Rattle.model.specs.Machine.{Buf, Event, Machine, start}
+use Rattle.script.specs.Answers.{Answer}
+use Rattle.script.specs.Calls.{Config, Op, startRow}
+use Rattle.script.specs.Machine.{Buf, Event, Machine, start}
 use Rattle.machine.specs.Suspended.{machineOf, drive}
 use Rattle.proof_book.specs.Code.{Made, CallStep}
 use Rattle.proof_book.specs.CodeReadings.{Steps}

@@ -13,23 +13,23 @@ use Rattle.alloc.specs.Alloc.{allocateOf, allocateEp0Of}
 use Rattle.descriptor.specs.declared.Answer as reading-answer
 use Rattle.descriptor.specs.declared.Answer.the-variants as reading
 use Rattle.descriptor.specs.Reading.{readingOf}
-use Rattle.model.specs.Tree as tree
-use Rattle.model.specs.Tree.{ends, asks, bindOut}
-use Rattle.model.specs.Cells.{EpCore}
-use Rattle.model.specs.Script.{Script, run, ret, bind, test}
-use Rattle.model.specs.Answers.{Answer, Refused, Done, operation, staged, named, unless}
-use Rattle.model.specs.Endpoint.{enabled-else, ends-request, polled}
-use Rattle.model.specs.Control.{unlessSetup, withinMaximum, requested, ends-control, aborted-else, take-closing}
-use Rattle.model.specs.Driver.{allocated-as, started-as}
-use Rattle.model.specs.AllocateAll.{allocate-read}
-use Rattle.model.specs.Calls.{Config, Slotted, SetEnabled, PollRead, BeginWrite, PollWrite, PollDataOut, BeginDataIn}
-use Rattle.model.specs.Calls.{Other, Allocate, AllocateAll, Start, BusPoll, BusEnable, BusDisable, Microframe}
-use Rattle.model.specs.Calls.{SetStalled, IsStalled, SetPaced, Advance, BeginRead, BeginSetup, PollSetup, PollDataIn}
-use Rattle.model.specs.Calls.{BeginAccept, PollAccept, BeginReject, BeginDataOut, BeginAcceptSetAddress, Aside, Open}
-use Rattle.model.specs.Calls.{Close, Queue, Op, interrupt, slotted, other, aside, slottedCode, otherCode, asideCode}
-use Rattle.model.specs.Calls.{code, starting}
-use Rattle.model_ops.specs.Rings.{St}
-use Rattle.model_ops.specs.Concrete.{concrete}
+use Rattle.script.specs.Tree as tree
+use Rattle.script.specs.Tree.{ends, asks, bindOut}
+use Rattle.script.specs.Cells.{EpCore}
+use Rattle.script.specs.Script.{Script, run, ret, bind, test}
+use Rattle.script.specs.Answers.{Answer, Refused, Done, operation, staged, named, unless}
+use Rattle.script.specs.Endpoint.{enabled-else, ends-request, polled}
+use Rattle.script.specs.Control.{unlessSetup, withinMaximum, requested, ends-control, aborted-else, take-closing}
+use Rattle.script.specs.Driver.{allocated-as, started-as}
+use Rattle.script.specs.AllocateAll.{allocate-read}
+use Rattle.script.specs.Calls.{Config, Slotted, SetEnabled, PollRead, BeginWrite, PollWrite, PollDataOut, BeginDataIn}
+use Rattle.script.specs.Calls.{Other, Allocate, AllocateAll, Start, BusPoll, BusEnable, BusDisable, Microframe}
+use Rattle.script.specs.Calls.{SetStalled, IsStalled, SetPaced, Advance, BeginRead, BeginSetup, PollSetup, PollDataIn}
+use Rattle.script.specs.Calls.{BeginAccept, PollAccept, BeginReject, BeginDataOut, BeginAcceptSetAddress, Aside, Open}
+use Rattle.script.specs.Calls.{Close, Queue, Op, interrupt, slotted, other, aside, slottedCode, otherCode, asideCode}
+use Rattle.script.specs.Calls.{code, starting}
+use Rattle.script_ops.specs.Rings.{St}
+use Rattle.script_ops.specs.Concrete.{concrete}
 use Rattle.proof_wake_ups.specs.Ends.{Lists, Ends, end, ask}
 
 -- of a script's, from every state

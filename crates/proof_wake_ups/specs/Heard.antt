@@ -3,11 +3,11 @@
 use mathlib.Core.List.{List, [], _++_}
 use Prim.Native.Nat.{ℕ}
 use Rattle.state.specs.Driver.{Driver}
-use Rattle.model.specs.Script.{Ops, Fetch, oldest, received, received0, gathered, Act}
-use Rattle.model.specs.Acts.{onWakes}
-use Rattle.model.specs.Machine.{Buf}
-use Rattle.model_ops.specs.Rings.{St}
-use Rattle.model_ops.specs.Concrete.{concrete}
+use Rattle.script.specs.Script.{Ops, Fetch, oldest, received, received0, gathered, Act}
+use Rattle.script.specs.Acts.{onWakes}
+use Rattle.script.specs.Machine.{Buf}
+use Rattle.script_ops.specs.Rings.{St}
+use Rattle.script_ops.specs.Concrete.{concrete}
 
 abbrev pub Heard : Type 0
 Heard = Driver × List ℕ

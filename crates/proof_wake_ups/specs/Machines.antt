@@ -5,12 +5,12 @@ use mathlib.Core.List.{List, []}
 use mathlib.Core.Path.{_≡_}
 use Prim.Native.Nat.{ℕ}
 use Rattle.state.specs.Driver.{Driver}
-use Rattle.model.specs.Tree as tree
-use Rattle.model.specs.Answers.{Answer}
-use Rattle.model.specs.Calls.{Config, Op, calls}
-use Rattle.model.specs.Machine as machine
-use Rattle.model.specs.Machine.{Buf, Call, question, Ans, Awaits, Way, idle, busy, Machine, call}
-use Rattle.model_ops.specs.Rings.{St}
+use Rattle.script.specs.Tree as tree
+use Rattle.script.specs.Answers.{Answer}
+use Rattle.script.specs.Calls.{Config, Op, calls}
+use Rattle.script.specs.Machine as machine
+use Rattle.script.specs.Machine.{Buf, Call, question, Ans, Awaits, Way, idle, busy, Machine, call}
+use Rattle.script_ops.specs.Rings.{St}
 use Rattle.machine.specs.Suspended.{driverOf}
 use Rattle.proof_wake_ups.specs.Heard.{Heard, Hst, bare, heardOps}
 use Rattle.proof_wake_ups.specs.Twins.{Fits, Twin, Short}

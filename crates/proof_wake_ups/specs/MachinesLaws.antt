@@ -8,13 +8,13 @@ use lib.ListN.{length}
 use Rattle.state.specs.Driver.{Driver}
 use Rattle.state.specs.Fresh.{freshDriver}
 use Rattle.state.specs.WakesLaws.{none-room, none-listed}
-use Rattle.model.specs.Tree as tree
-use Rattle.model.specs.Answers.{Answer}
-use Rattle.model.specs.Calls.{Config, Op, interrupt, slotted, other, aside, calls, startRow}
-use Rattle.model.specs.Machine as machine
-use Rattle.model.specs.Machine.{Buf, Event, Call, start, begin, go, question, Way, Machine, over, halt, beside, begun, continued, started, call}
-use Rattle.model.specs.SpendsCalls.{aside-spends, call-spends, start-up-spends}
-use Rattle.model_ops.specs.Rings.{St}
+use Rattle.script.specs.Tree as tree
+use Rattle.script.specs.Answers.{Answer}
+use Rattle.script.specs.Calls.{Config, Op, interrupt, slotted, other, aside, calls, startRow}
+use Rattle.script.specs.Machine as machine
+use Rattle.script.specs.Machine.{Buf, Event, Call, start, begin, go, question, Way, Machine, over, halt, beside, begun, continued, started, call}
+use Rattle.script.specs.SpendsCalls.{aside-spends, call-spends, start-up-spends}
+use Rattle.script_ops.specs.Rings.{St}
 use Rattle.machine.specs.Suspended.{driverOf, drive}
 use Rattle.proof_wake_ups.specs.Heard.{Heard, Hst}
 use Rattle.proof_wake_ups.specs.Twins.{Fits, Twin, end, ask, Short}

@@ -5,10 +5,10 @@ use mathlib.Core.List.{List}
 use Prim.Native.Nat.{ℕ}
 use Rattle.state.specs.Driver.{Driver}
 use Rattle.state.specs.Wakes.{listed}
-use Rattle.model.specs.Tree as tree
-use Rattle.model.specs.Answers.{Answer, Refused, End, NotYet, Done, Shown}
-use Rattle.model.specs.Machine.{Ans, ended, handed, told, Awaits, Way, idle, busy, Machine}
-use Rattle.model_ops.specs.Rings.{St}
+use Rattle.script.specs.Tree as tree
+use Rattle.script.specs.Answers.{Answer, Refused, End, NotYet, Done, Shown}
+use Rattle.script.specs.Machine.{Ans, ended, handed, told, Awaits, Way, idle, busy, Machine}
+use Rattle.script_ops.specs.Rings.{St}
 use Rattle.proof_wake_ups.specs.Heard.{Heard}
 use Rattle.proof_wake_ups.specs.Twins.{Short}
 use Rattle.proof_wake_ups.specs.Machines.{Told, Pair}

@@ -8,12 +8,12 @@ use lib.ListN.{length}
 use Rattle.state.specs.Driver.{Driver}
 use Rattle.state.specs.Wakes.{listed}
 use Rattle.state.specs.WakesLaws.{Room}
-use Rattle.model.specs.Tree as tree
-use Rattle.model.specs.Answers.{Answer, Refused, End, NotYet, Done, Shown}
-use Rattle.model.specs.Calls.{Config, Op, calls, startRow}
-use Rattle.model.specs.Machine.{Buf, Event, Call, start, begin, go, question, Ans, ended, handed, told, Way}
-use Rattle.model.specs.Machine.{idle, Machine, over, halt, stay, lentTo, beside, begun, continued, started, misfit}
-use Rattle.model_ops.specs.Rings.{St}
+use Rattle.script.specs.Tree as tree
+use Rattle.script.specs.Answers.{Answer, Refused, End, NotYet, Done, Shown}
+use Rattle.script.specs.Calls.{Config, Op, calls, startRow}
+use Rattle.script.specs.Machine.{Buf, Event, Call, start, begin, go, question, Ans, ended, handed, told, Way}
+use Rattle.script.specs.Machine.{idle, Machine, over, halt, stay, lentTo, beside, begun, continued, started, misfit}
+use Rattle.script_ops.specs.Rings.{St}
 use Rattle.machine.specs.Suspended.{driverOf, drive}
 use Rattle.proof_book.specs.Always.{after}
 use Rattle.proof_wake_ups.specs.Heard.{Heard}

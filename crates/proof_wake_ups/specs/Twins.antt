@@ -7,9 +7,9 @@ use lib.ListN.{length}
 use Rattle.regs.specs.declared.Access.{Access}
 use Rattle.state.specs.Wakes.{listed}
 use Rattle.state.specs.WakesLaws.{Room}
-use Rattle.model.specs.Tree as tree
-use Rattle.model.specs.Tree.{ends, asks}
-use Rattle.model_ops.specs.Rings.{St}
+use Rattle.script.specs.Tree as tree
+use Rattle.script.specs.Tree.{ends, asks}
+use Rattle.script_ops.specs.Rings.{St}
 use Rattle.proof_wake_ups.specs.Heard.{Heard, Hst, bare}
 
 -- the driver lists what was recorded

@@ -9,16 +9,16 @@ use Rattle.regs.specs.declared.Access.{Access}
 use Rattle.state.specs.Driver.{Driver, withWakes, noneGathered}
 use Rattle.state.specs.Wakes.{listed, all-woken}
 use Rattle.state.specs.WakesLaws.{unwoken-room, unwoken-listed, all-room, all-listed, listed-count}
-use Rattle.model.specs.Tree as tree
-use Rattle.model.specs.Tree.{asks, Prog, bindOut}
-use Rattle.model.specs.Script.{Script, run, rows, Fetch, oldest, received, received0, gathered, Act, complete, reset-ring}
-use Rattle.model.specs.Script.{set-enabled, fill, fill0, open-oldest, close-oldest, take-oldest, enqueue, allocate}
-use Rattle.model.specs.Script.{allocate0, no-wakes, waken, Burst, lastOf, fetch-then, act-then}
-use Rattle.model.specs.Script as script
-use Rattle.model.specs.Spends.{Other, Spends, raised, ret, bind, either, yes, no, read, write, wait, callback, get, put, is}
-use Rattle.model.specs.Spends.{look, fetch, act, wake, begin, hand, row}
-use Rattle.model_ops.specs.Rings.{St}
-use Rattle.model_ops.specs.Concrete.{concrete}
+use Rattle.script.specs.Tree as tree
+use Rattle.script.specs.Tree.{asks, Prog, bindOut}
+use Rattle.script.specs.Script.{Script, run, rows, Fetch, oldest, received, received0, gathered, Act, complete, reset-ring}
+use Rattle.script.specs.Script.{set-enabled, fill, fill0, open-oldest, close-oldest, take-oldest, enqueue, allocate}
+use Rattle.script.specs.Script.{allocate0, no-wakes, waken, Burst, lastOf, fetch-then, act-then}
+use Rattle.script.specs.Script as script
+use Rattle.script.specs.Spends.{Other, Spends, raised, ret, bind, either, yes, no, read, write, wait, callback, get, put, is}
+use Rattle.script.specs.Spends.{look, fetch, act, wake, begin, hand, row}
+use Rattle.script_ops.specs.Rings.{St}
+use Rattle.script_ops.specs.Concrete.{concrete}
 use Rattle.proof_wake_ups.specs.Heard.{Heard, Hst, bare, onto, recorded, heardOps}
 use Rattle.proof_wake_ups.specs.Still.{Quiet, put-still, act-still, hand-still, row-still}
 use Rattle.proof_wake_ups.specs.Twins.{Fits, Twin, end, ask, Short}

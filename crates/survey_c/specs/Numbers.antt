@@ -2,13 +2,13 @@
 use mathlib.Core.Path.{_≡_}
 use mathlib.Core.List.{List, [], _∷_}
 use Prim.Native.Nat.{ℕ}
-use Rattle.req_channels.specs.declared.Channel.{Channel}
-use Rattle.req_channels.specs.declared.Answer.{Answer}
-use Rattle.req_channels.specs.declared.Answer.the-variants as answer
-use Rattle.req_channels.specs.Answers.{answerOf, listAfter}
-use Rattle.req_visits.specs.declared.Reached.{Reached}
-use Rattle.req_visits.specs.declared.Bounds.{Bounds}
-use Rattle.req_visits.specs.declared.Bounds.the-variants as bounds
+use Rattle.channels.specs.declared.Channel.{Channel}
+use Rattle.channels.specs.declared.Answer.{Answer}
+use Rattle.channels.specs.declared.Answer.the-variants as answer
+use Rattle.channels.specs.Answers.{answerOf, listAfter}
+use Rattle.visits.specs.declared.Reached.{Reached}
+use Rattle.visits.specs.declared.Bounds.{Bounds}
+use Rattle.visits.specs.declared.Bounds.the-variants as bounds
 use Rattle.survey_c.specs.Words.{refusedWord, endWord}
 
 -- the chosen set is the result

@@ -5,9 +5,9 @@ use Prim.Native.Nat.{ℕ, _/_, _%_, _^_, _≤_, _<_}
 use native.Mathlib.Omega.{arith}
 use lib.ListN.{length}
 use lib.Pow.{pow-mono}
-use Rattle.req_channels.specs.declared.Channel.{Channel}
-use Rattle.req_channels.specs.Answers.{choiceIn, answerOf}
-use Rattle.req_channels.specs.Promises.{accepted}
+use Rattle.channels.specs.declared.Channel.{Channel}
+use Rattle.channels.specs.Answers.{choiceIn, answerOf}
+use Rattle.channels.specs.Promises.{accepted}
 use Rattle.survey_c.specs.Words.{endWord}
 use Rattle.survey_c.specs.Numbers.{bestWord}
 

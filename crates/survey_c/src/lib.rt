@@ -10,11 +10,11 @@ use card::reader::Reader;
 use card::reader::Started;
 use card::writer::Finished;
 use card::writer::Wrote;
+use channels::Channel;
 use req_bus_time::Time;
-use req_channels::Channel;
-use req_visits::Bounds;
 use rooms::best_into;
 use rooms::reached;
+use visits::Bounds;
 use words::done;
 use words::ended;
 use words::refused;
@@ -27,7 +27,7 @@ ghost use Rattle.survey_c.specs.Descriptor.{writtenWord};
 ghost use mathlib.Core.Path.{_≡_};
 ghost use lib.ListN.{length};
 ghost use Rattle.req_bus_time.specs.Time.{inUse};
-ghost use Rattle.req_visits.specs.Bounds.{boundsOf};
+ghost use Rattle.visits.specs.Bounds.{boundsOf};
 ghost use Rattle.card.specs.Crc.{dataCrc};
 ghost use Rattle.card.specs.Packet.{packetOf};
 ghost use Rattle.card.specs.Writing.{newWriter, writeOf, writtenOf, finishOf, lastOf};
@@ -52,7 +52,7 @@ pub extern "C" fn usbhs_best_set(
         (now (looked .entry)) r (now (list .exit)) (now (total .exit)) (now (figure .exit)) (now (looked .exit)) ⌝ }
 {
     let in_use = req_bus_time::in_use(time);
-    let answer = req_channels::best_set(list, in_use, budget);
+    let answer = channels::best_set(list, in_use, budget);
     best_into(answer, total, figure, looked)
 }
 
@@ -70,7 +70,7 @@ pub extern "C" fn usbhs_between_visits(
     ensures { λ _. ⌜ now (least .exit) ≡ leastBy (boundsOf a b c d) (now (least .entry)) ⌝ }
     ensures { λ _. ⌜ now (greatest .exit) ≡ greatestBy (boundsOf a b c d) (now (greatest .entry)) ⌝ }
 {
-    match req_visits::between_visits(a, b, c, d) {
+    match visits::between_visits(a, b, c, d) {
         Bounds::Refused(row) => refused(row),
         Bounds::Between(l, g) => {
             let few = reached(l);

@@ -1,8 +1,8 @@
 // An answer's numbers in the caller's rooms. A refusal leaves them.
 use crate::words::ended;
 use crate::words::refused;
-use req_channels::Answer;
-use req_visits::Reached;
+use channels::Answer;
+use visits::Reached;
 ghost use mathlib.Core.Path.{_≡_};
 ghost use Rattle.survey_c.specs.Numbers.{bestWord, totalBy, figureBy, lookedBy, numbersOf};
 

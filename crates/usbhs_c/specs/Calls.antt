@@ -8,8 +8,8 @@ use lib.Dec.{eqb}
 use Rattle.regs.specs.declared.Dir.{Dir}
 use Rattle.regs.specs.declared.Dir.the-variants.{Out, In}
 use Rattle.state.specs.State.{view, saved}
-use Rattle.model.specs.Calls.{Config, Op, aside, Open, startRow}
-use Rattle.model.specs.Machine.{Buf, Call, begin, start}
+use Rattle.script.specs.Calls.{Config, Op, aside, Open, startRow}
+use Rattle.script.specs.Machine.{Buf, Call, begin, start}
 use Rattle.machine.specs.Suspended.{machineOf, drive, answerOf, lentOr, BufferUnchangedOnRow1, lentBy, SavedByAnswer}
 use Rattle.calls.specs.Shown.{ShownAt}
 use Rattle.calls.specs.Sharing.{sharedCall, SharedStep}

@@ -13,9 +13,9 @@ use Rattle.regs.specs.declared.Reg.the-variants.{EpConfig, EpType, EpBufMod, Ep
 use Rattle.regs.specs.Registers.{numberOf}
 use Rattle.regs.specs.Flags.{TRANSFER}
 use Rattle.state.specs.State.{view}
-use Rattle.model.specs.Every.{sameReg}
-use Rattle.model.specs.Calls.{interrupt}
-use Rattle.model.specs.Machine.{Buf, begin, go}
+use Rattle.script.specs.Every.{sameReg}
+use Rattle.script.specs.Calls.{interrupt}
+use Rattle.script.specs.Machine.{Buf, begin, go}
 use Rattle.answer.specs.declared.Step.{Step}
 use Rattle.answer.specs.declared.Step.the-variants.{Refused, Asks, Ends, NotYet, Done, Setup, Shown}
 use Rattle.machine.specs.Suspended.{machineOf, drive, answerOf, SavedByAnswer}

@@ -1,5 +1,5 @@
 -- A setup packet in the caller's 8 bytes
-use Rattle.model.specs.Answers.{Refused, NotYet, Done, Shown}
+use Rattle.script.specs.Answers.{Refused, NotYet, Done, Shown}
 use Rattle.answer.specs.declared.Step.{Step}
 use Rattle.answer.specs.declared.Step.the-variants as step
 

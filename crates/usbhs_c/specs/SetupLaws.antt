@@ -9,12 +9,12 @@ use lib.ListN.{length, take, drop}
 use Rattle.ring.specs.Copies.{over}
 use Rattle.state.specs.declared.Globals.{Globals}
 use Rattle.state.specs.Driver.{Driver}
-use Rattle.model.specs.Tree.{ends}
-use Rattle.model.specs.Statics.{isOn}
-use Rattle.model.specs.Answers.{Answer, Refused, End, NotYet, Done, Shown}
-use Rattle.model.specs.Control.{SETUP, wordBytes, setupBytes}
-use Rattle.model.specs.Calls.{other, PollSetup}
-use Rattle.model.specs.Machine.{Buf, Machine, Ans, ended, handed, told, begin}
+use Rattle.script.specs.Tree.{ends}
+use Rattle.script.specs.Statics.{isOn}
+use Rattle.script.specs.Answers.{Answer, Refused, End, NotYet, Done, Shown}
+use Rattle.script.specs.Control.{SETUP, wordBytes, setupBytes}
+use Rattle.script.specs.Calls.{other, PollSetup}
+use Rattle.script.specs.Machine.{Buf, Machine, Ans, ended, handed, told, begin}
 use Rattle.machine.specs.declared.Suspended.{Suspended}
 use Rattle.answer.specs.declared.Step.{Step}
 use Rattle.answer.specs.declared.Step.the-variants as step

@@ -3,8 +3,8 @@ use answer::word::word_of;
 use descriptor::preview::Said;
 use state::State;
 ghost use mathlib.Core.Path.{_≡_};
-ghost use Rattle.model.specs.Machine.{begin};
-ghost use Rattle.model.specs.Calls.{other, AllocateAll};
+ghost use Rattle.script.specs.Machine.{begin};
+ghost use Rattle.script.specs.Calls.{other, AllocateAll};
 ghost use Rattle.usbhs_c.specs.Calls.{Answers};
 ghost use Rattle.usbhs_c.specs.Preview.{shownBy, wordBy, numbersBy, buffersBy, refusalBy};
 

@@ -4,7 +4,7 @@ ghost use mathlib.Core.Path.{_≡_};
 ghost use mathlib.Core.List.{[], _++_};
 ghost use Rattle.ring.specs.Copies.{over};
 ghost use Rattle.state.specs.Driver.{Driver};
-ghost use Rattle.model.specs.Control.{wordBytes};
+ghost use Rattle.script.specs.Control.{wordBytes};
 ghost use Rattle.machine.specs.Suspended.{answerOf, lentBy};
 ghost use Rattle.usbhs_c.specs.Setup.{NoSlice};
 ghost use Rattle.answer.specs.Word.{Worded};

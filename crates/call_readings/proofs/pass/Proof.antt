@@ -6,10 +6,10 @@ use Prim.Native.Nat.{ℕ}
 use native.Mathlib.Omega.{arith}
 use Rattle.regs.specs.declared.Access.{Access}
 use Rattle.state.specs.State.{view}
-use Rattle.model.specs.Machine.{awaited}
-use Rattle.model.specs.Script.{run}
-use Rattle.model.specs.Handler.{nakNonIso}
-use Rattle.model_ops.specs.Concrete.{concrete}
+use Rattle.script.specs.Machine.{awaited}
+use Rattle.script.specs.Script.{run}
+use Rattle.script.specs.Handler.{nakNonIso}
+use Rattle.script_ops.specs.Concrete.{concrete}
 use Rattle.interrupt.specs.TransferLaws.{wider}
 use Rattle.interrupt.specs.Nak as nak
 use Rattle.interrupt.specs.declared.Point.{Point}

@@ -1,4 +1,4 @@
--- `usbhs_best_set` meets its contract: a walk of its MIR, by hand. The time in use is asked, the list is given to `req_channels::best_set`, the three
+-- `usbhs_best_set` meets its contract: a walk of its MIR, by hand. The time in use is asked, the list is given to `channels::best_set`, the three
 -- rooms to `best_into`. Assumes nothing.
 use mathlib.Core.Path.{_≡_, refl, sym, ap, _∙_}
 use mathlib.Core.List.{List, [], _∷_}
@@ -42,22 +42,22 @@ use denote.Triple.Table.{entered, cited}
 use denote.Triple.Clauses.{ensured, lasts}
 use denote.Triple.Walked.{says, Stays, gave-slice, gave-ref, stay-none, stay-dropped, walkOf, Walks, ends-at, walked}
 use denote.Triple.Walked.{goes-gave-slice, goes-gave-ref, goes-none, goes-dropped, walk-meets}
-use Rattle.req_channels.specs.declared.Channel.{Channel}
-use Rattle.req_channels.specs.declared.Answer.{Answer}
-use Rattle.req_channels.specs.Answers.{answerOf, listAfter}
+use Rattle.channels.specs.declared.Channel.{Channel}
+use Rattle.channels.specs.declared.Answer.{Answer}
+use Rattle.channels.specs.Answers.{answerOf, listAfter}
 use Rattle.req_bus_time.specs.Time.{inUse}
 use Rattle.survey_c.specs.Numbers.{bestWord, totalBy, figureBy, lookedBy, BestSet}
-use Rattle.req_channels.proofs.Channel as T
-use Rattle.req_channels.proofs.Answer as R
-use Rattle.req_channels.proofs.Answer.Laws as R′
+use Rattle.channels.proofs.Channel as T
+use Rattle.channels.proofs.Answer as R
+use Rattle.channels.proofs.Answer.Laws as R′
 use Rattle.req_bus_time.proofs.in_use as time
 use Rattle.req_bus_time.proofs.in_use.Symbol as time-def
 use Rattle.req_bus_time.proofs.in_use.Symbol.{name as #req-bus-time·in-use}
 use Rattle.req_bus_time.proofs.in_use.Met as time-thm
-use Rattle.req_channels.proofs.best_set as best
-use Rattle.req_channels.proofs.best_set.Symbol as best-def
-use Rattle.req_channels.proofs.best_set.Symbol.{name as #req-channels·best-set}
-use Rattle.req_channels.proofs.best_set.Met as best-thm
+use Rattle.channels.proofs.best_set as best
+use Rattle.channels.proofs.best_set.Symbol as best-def
+use Rattle.channels.proofs.best_set.Symbol.{name as #req-channels·best-set}
+use Rattle.channels.proofs.best_set.Met as best-thm
 use Rattle.survey_c.proofs.rooms.best_into as into
 use Rattle.survey_c.proofs.rooms.best_into.Symbol as into-def
 use Rattle.survey_c.proofs.rooms.best_into.Symbol.{name as #survey-c·rooms·best-into}

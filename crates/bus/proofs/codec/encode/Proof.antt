@@ -5,8 +5,8 @@ use Rattle.bus.proofs.codec.encode.Tie as tie
 use Rattle.bus.proofs.codec.encode.Reads as reads
 use Rattle.bus.proofs.codec.encode.Lts as lts
 use Rattle.bus.proofs.codec.code.Reads as code-reads
-use Rattle.model_ops.proofs.points.dir_as.Reads as dir-as-reads
-use Rattle.model_ops.proofs.points.flag_of.Reads as flag-of-reads
+use Rattle.script_ops.proofs.points.dir_as.Reads as dir-as-reads
+use Rattle.script_ops.proofs.points.flag_of.Reads as flag-of-reads
 
 enum-told : tie.Need-enum-told
 enum-told c = search needs

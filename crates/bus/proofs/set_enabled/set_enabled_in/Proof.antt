@@ -1,6 +1,6 @@
 use Rattle.bus.specs.SetEnabledLaws.{enable-in}
-use Rattle.model_ops.specs.Records.{isoOut}
-use Rattle.model.specs.Statics.{isOn}
+use Rattle.script_ops.specs.Records.{isoOut}
+use Rattle.script.specs.Statics.{isOn}
 use Rattle.state.specs.Driver.{Driver, withPacedOn}
 use Rattle.state.specs.State.{view}
 use Rattle.state.specs.declared.EpState.{EpState}

@@ -1,5 +1,5 @@
 use Rattle.bus.specs.SetStalledLaws.{and-no, and-yes}
-use Rattle.model.specs.Bus.{restarted}
+use Rattle.script.specs.Bus.{restarted}
 use borrow.Author.Needs.{needs}
 use Rattle.bus.proofs.set_stalled.restarted.Statement.{statement}
 use Rattle.bus.proofs.set_stalled.restarted.Tie as tie

@@ -1,4 +1,4 @@
-use Rattle.model.specs.Bus.{restartedIn}
+use Rattle.script.specs.Bus.{restartedIn}
 use borrow.Author.Needs.{needs}
 use Rattle.bus.proofs.set_stalled.restarted_in.Statement.{statement}
 use Rattle.bus.proofs.set_stalled.restarted_in.Tie as tie

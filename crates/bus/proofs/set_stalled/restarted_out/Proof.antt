@@ -1,4 +1,4 @@
-use Rattle.model.specs.Bus.{restartedOut}
+use Rattle.script.specs.Bus.{restartedOut}
 use borrow.Author.Needs.{needs}
 use Rattle.bus.proofs.set_stalled.restarted_out.Statement.{statement}
 use Rattle.bus.proofs.set_stalled.restarted_out.Tie as tie

@@ -1,5 +1,5 @@
-use Rattle.model.specs.Calls as calls
-use Rattle.model.specs.Answers.{isNumber, operation}
+use Rattle.script.specs.Calls as calls
+use Rattle.script.specs.Answers.{isNumber, operation}
 use Rattle.state.specs.State.{view}
 use Rattle.isochronous.specs.Advance.{advance}
 use Rattle.machine.specs.RowsLaws.{numbered-call}

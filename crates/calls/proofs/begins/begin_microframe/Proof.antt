@@ -1,8 +1,8 @@
 use mathlib.Core.Path.{refl}
-use Rattle.model.specs.Calls as calls
-use Rattle.model.specs.Answers.{operation}
+use Rattle.script.specs.Calls as calls
+use Rattle.script.specs.Answers.{operation}
 use Rattle.state.specs.State.{view}
-use Rattle.model.specs.IsoIn as script
+use Rattle.script.specs.IsoIn as script
 use Rattle.machine.specs.ContractsLaws.{begins, other-passed, other-stopped}
 use borrow.Author.Needs.{needs}
 use Rattle.calls.proofs.begins.begin_microframe.Statement.{statement}

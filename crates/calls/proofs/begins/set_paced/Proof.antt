@@ -1,7 +1,7 @@
 use Rattle.machine.specs.RowsLaws.{back, numbered-call}
 use Rattle.endpoint.specs.RowsLaws.{number-lt}
 use Rattle.calls.specs.DriverBegins.{pacing, set-paced-begins}
-use Rattle.model.specs.Calls as calls
+use Rattle.script.specs.Calls as calls
 use Rattle.machine.specs.Suspended.{decode}
 use Rattle.state.specs.State.{view, saved}
 use denote.Ref.{now}

@@ -1,6 +1,6 @@
 use mathlib.Core.Path.{refl}
-use Rattle.model.specs.Calls as calls
-use Rattle.model.specs.Bus as script
+use Rattle.script.specs.Calls as calls
+use Rattle.script.specs.Bus as script
 use Rattle.calls.specs.EntersLaws.{entered, stopped}
 use borrow.Author.Needs.{needs}
 use Rattle.calls.proofs.bus_begins.begin_bus_poll.Statement.{statement}

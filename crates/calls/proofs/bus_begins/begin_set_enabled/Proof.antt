@@ -1,8 +1,8 @@
 use Rattle.endpoint.specs.RowsLaws.{allocated-number}
 use Rattle.machine.specs.RowsLaws.{back, named-call}
-use Rattle.model.specs.Calls as calls
-use Rattle.model.specs.Answers.{resultless}
-use Rattle.model.specs.Bus as script
+use Rattle.script.specs.Calls as calls
+use Rattle.script.specs.Answers.{resultless}
+use Rattle.script.specs.Bus as script
 use Rattle.machine.specs.Suspended.{decode}
 use Rattle.machine.specs.Lent.{as-lent}
 use Rattle.state.specs.State.{view, saved}

@@ -2,7 +2,7 @@ use denote.Ref.{now}
 use mathlib.Core.Path.{refl}
 use Rattle.machine.specs.Suspended.{machineOf, configOf}
 use Rattle.calls.specs.SharingLaws.{settles}
-use Rattle.model.specs.Machine.{start}
+use Rattle.script.specs.Machine.{start}
 use borrow.Author.Needs.{needs}
 use Rattle.calls.proofs.bus_time.start_up.Statement.{statement}
 use Rattle.calls.proofs.bus_time.start_up.Tie as tie

@@ -10,7 +10,7 @@ use Rattle.descriptor.specs.declared.Reading.{Reading}
 use Rattle.descriptor.specs.Reading.{listOf}
 use Rattle.descriptor.specs.Writing.{stored}
 use Rattle.descriptor.specs.ReadBackLaws.{accepted, stored-of}
-use Rattle.model.specs.Calls as calls
+use Rattle.script.specs.Calls as calls
 use Rattle.machine.specs.Suspended.{decode}
 use Rattle.machine.specs.RowsLaws.{back, other-call}
 use Rattle.calls.specs.ListedLaws.{reading-all, all-unread, all-read, passes-idle}

@@ -2,7 +2,7 @@ use denote.Ref.{now}
 use mathlib.Core.Path.{refl}
 use Rattle.machine.specs.Suspended.{machineOf}
 use Rattle.calls.specs.SharingLaws.{settles}
-use Rattle.model.specs.Machine.{go}
+use Rattle.script.specs.Machine.{go}
 use borrow.Author.Needs.{needs}
 use Rattle.calls.proofs.operates.operate.Statement.{statement}
 use Rattle.calls.proofs.operates.operate.Tie as tie

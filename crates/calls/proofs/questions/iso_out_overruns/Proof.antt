@@ -4,7 +4,7 @@ use Rattle.calls.proofs.questions.iso_out_overruns.Statement.{statement
 use Rattle.calls.proofs.questions.iso_out_overruns.Tie as tie
 use Rattle.calls.proofs.questions.iso_out_overruns.Reads as reads
 use Rattle.calls.proofs.questions.iso_out_overruns.Lts as lts
-use Rattle.model_ops.proofs.rings.is_on.Reads as is-on-reads
+use Rattle.script_ops.proofs.rings.is_on.Reads as is-on-reads
 
 is-on-requires : tie.Need-is-on-requires
 is-on-requires c κs = search needs

@@ -1,4 +1,4 @@
-use Rattle.model.specs.Calls.{startRow}
+use Rattle.script.specs.Calls.{startRow}
 use Rattle.calls.specs.Starts.{good-16}
 use mathlib.Core.Path.{_∙_, sym, refl}
 use borrow.Author.Needs.{needs}

@@ -1,6 +1,6 @@
 use Rattle.state.specs.State.{view}
 use denote.Ref.{now}
-use Rattle.model.specs.Statics.{isOn}
+use Rattle.script.specs.Statics.{isOn}
 use Rattle.endpoint.specs.RecordsLaws.{on-driver}
 use Rattle.control.proofs.Laws.{closing-now, closing-waits}
 use mathlib.Core.Path.{_∙_, refl}
@@ -12,7 +12,7 @@ use Rattle.control.proofs.poll.take_closing.Lts as lts
 use Rattle.control.proofs.checks.set_data_in.Reads as set-data-in-reads
 use Rattle.control.proofs.checks.set_request.Reads as set-request-reads
 use Rattle.control.proofs.poll.closed.Reads as closed-reads
-use Rattle.model_ops.proofs.rings.is_on.Reads as is-on-reads
+use Rattle.script_ops.proofs.rings.is_on.Reads as is-on-reads
 use Rattle.endpoint.proofs.common.unready.Reads as unready-reads
 use Rattle.state.proofs.load_ep.Reads as load-ep-reads
 use Rattle.state.proofs.load_globals.Reads as load-globals-reads

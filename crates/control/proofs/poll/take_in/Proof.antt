@@ -2,7 +2,7 @@ use mathlib.Core.List.{[]}
 use mathlib.Core.Path.{_∙_, sym}
 use denote.Ref.{now}
 use Rattle.state.specs.State.{view}
-use Rattle.model.specs.Statics.{isOn}
+use Rattle.script.specs.Statics.{isOn}
 use Rattle.endpoint.specs.RecordsLaws.{on-driver}
 use Rattle.control.proofs.Laws.{in-waits, in-closes, in-done}
 use borrow.Author.Needs.{needs}
@@ -13,7 +13,7 @@ use Rattle.control.proofs.poll.take_in.Lts as lts
 use Rattle.control.proofs.checks.set_request.Reads as set-request-reads
 use Rattle.control.proofs.poll.take_closing.Reads as take-closing-reads
 use Rattle.control.proofs.poll.wait_on.Reads as wait-on-reads
-use Rattle.model_ops.proofs.rings.is_on.Reads as is-on-reads
+use Rattle.script_ops.proofs.rings.is_on.Reads as is-on-reads
 use Rattle.endpoint.proofs.common.unready.Reads as unready-reads
 use Rattle.state.proofs.load_ep.Reads as load-ep-reads
 

@@ -5,7 +5,7 @@ use Rattle.control.proofs.poll.wait_on.Tie as tie
 use Rattle.control.proofs.poll.wait_on.Reads as reads
 use Rattle.control.proofs.poll.wait_on.Lts as lts
 use Rattle.control.proofs.checks.set_request.Reads as set-request-reads
-use Rattle.model_ops.proofs.rings.is_on.Reads as is-on-reads
+use Rattle.script_ops.proofs.rings.is_on.Reads as is-on-reads
 use Rattle.state.proofs.load_globals.Reads as load-globals-reads
 
 load-globals-requires : tie.Need-load-globals-requires

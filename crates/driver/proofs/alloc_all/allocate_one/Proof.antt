@@ -6,7 +6,7 @@ use Rattle.driver.proofs.alloc_all.allocate_one.Tie as tie
 use Rattle.driver.proofs.alloc_all.allocate_one.Reads as reads
 use Rattle.driver.proofs.alloc_all.allocate_one.Lts as lts
 use Rattle.driver.proofs.alloc_all.direction.Reads as direction-reads
-use Rattle.model_ops.proofs.records.allocate.Reads as allocate-reads
+use Rattle.script_ops.proofs.records.allocate.Reads as allocate-reads
 
 direction-requires : tie.Need-direction-requires
 direction-requires c κs = search needs

@@ -5,7 +5,7 @@ use Rattle.state.specs.State.{view}
 use Rattle.descriptor.specs.Writing.{upTo}
 use Rattle.driver.specs.Each.{announceAll}
 use Rattle.driver.specs.EachLaws.{announce-none, announce-first}
-use Rattle.model_ops.specs.Concrete.{go}
+use Rattle.script_ops.specs.Concrete.{go}
 use borrow.Author.Needs.{needs}
 use Rattle.driver.proofs.alloc_all.announce_all.Statement.{statement}
 use Rattle.driver.proofs.alloc_all.announce_all.Tie as tie

@@ -5,8 +5,8 @@ use Rattle.driver.proofs.codec.encode.Tie as tie
 use Rattle.driver.proofs.codec.encode.Reads as reads
 use Rattle.driver.proofs.codec.encode.Lts as lts
 use Rattle.driver.proofs.codec.code.Reads as code-reads
-use Rattle.model_ops.proofs.points.dir_as.Reads as dir-as-reads
-use Rattle.model_ops.proofs.points.flag_of.Reads as flag-of-reads
+use Rattle.script_ops.proofs.points.dir_as.Reads as dir-as-reads
+use Rattle.script_ops.proofs.points.flag_of.Reads as flag-of-reads
 use Rattle.driver.proofs.codec.list_code.Reads as list-code-reads
 
 enum-known-p : tie.Need-enum-known-p

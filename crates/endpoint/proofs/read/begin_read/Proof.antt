@@ -3,7 +3,7 @@ use borrow.Author.Tests.{eq-eqb, ne-eqb}
 use Rattle.state.specs.State.{view}
 use Rattle.endpoint.specs.RowsLaws.{numbered}
 use Rattle.regs.specs.declared.Dir.the-variants.{Out}
-use Rattle.model.specs.Endpoint.{beginRead}
+use Rattle.script.specs.Endpoint.{beginRead}
 use Rattle.endpoint.proofs.Laws.{refused, lowered}
 use borrow.Author.Needs.{needs}
 use Rattle.endpoint.proofs.read.begin_read.Statement.{statement}

@@ -4,7 +4,7 @@ use borrow.Author.Tests.{eq-eqb}
 use Rattle.state.specs.State.{view}
 use Rattle.endpoint.specs.RowsLaws.{numbered}
 use Rattle.regs.specs.declared.Dir.the-variants.{Out}
-use Rattle.model.specs.Endpoint.{pollRead}
+use Rattle.script.specs.Endpoint.{pollRead}
 use Rattle.endpoint.specs.Brought.{lends}
 use Rattle.endpoint.proofs.Laws.{read-refused, lowered}
 use borrow.Author.Needs.{needs}

@@ -3,8 +3,8 @@ use mathlib.Core.Bool.{false}
 use lib.ListN.{length}
 use Rattle.regs.specs.declared.Dir.the-variants.{Out}
 use Rattle.state.specs.State.{view}
-use Rattle.model_ops.specs.Records.{plainOf}
-use Rattle.model_ops.specs.Concrete.{go}
+use Rattle.script_ops.specs.Records.{plainOf}
+use Rattle.script_ops.specs.Concrete.{go}
 use Rattle.endpoint.specs.Brought.{lends}
 use Rattle.endpoint.specs.Points.{readOn}
 use Rattle.endpoint.proofs.Laws.{reads, poll-none, poll-other, poll-takes, picks, leaves, onward}

@@ -1,5 +1,5 @@
 use borrow.Author.Tests.{lt-ltb, le-ltb}
-use Rattle.model.specs.Endpoint.{tooLong}
+use Rattle.script.specs.Endpoint.{tooLong}
 use borrow.Author.Needs.{needs}
 use Rattle.endpoint.proofs.read.too_long.Statement.{statement}
 use Rattle.endpoint.proofs.read.too_long.Tie as tie

@@ -1,4 +1,4 @@
-use Rattle.model.specs.Answers.{isAllocated}
+use Rattle.script.specs.Answers.{isAllocated}
 use borrow.Author.Needs.{needs}
 use Rattle.endpoint.proofs.rows.allocated.Statement.{statement}
 use Rattle.endpoint.proofs.rows.allocated.Tie as tie

@@ -1,4 +1,4 @@
-use Rattle.model.specs.Answers.{isNumber}
+use Rattle.script.specs.Answers.{isNumber}
 use borrow.Author.Tests.{lt-ltb, le-ltb}
 use Rattle.endpoint.proofs.rows.is_number.Statement.{statement}
 use Rattle.endpoint.proofs.rows.is_number.Tie as tie

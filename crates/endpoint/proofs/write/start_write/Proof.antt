@@ -3,7 +3,7 @@ use lib.Dec.{ltb}
 use lib.ListN.{length}
 use borrow.Author.Tests.{lt-ltb, le-ltb, not-true, not-false}
 use Rattle.state.specs.State.{view}
-use Rattle.model.specs.Statics.{isOn}
+use Rattle.script.specs.Statics.{isOn}
 use Rattle.endpoint.specs.RecordsLaws.{on-driver}
 use Rattle.endpoint.proofs.Laws.{write-disabled, write-long, write-iso, write-asks}
 use borrow.Author.Needs.{needs}

@@ -3,9 +3,9 @@ use Rattle.interrupt.specs.StopsLaws.{pauses-at, goes-on}
 use Rattle.interrupt.specs.Laws.{after, check-asks, check-ends, tells, tells-not, when-yes}
 use Rattle.interrupt.specs.Continuations.{afterCheck, afterDispatch}
 use Rattle.interrupt.specs.SofLaws.{sof-over}
-use Rattle.model_ops.specs.Concrete.{concrete}
-use Rattle.model.specs.IsoOut.{isoOutCheck}
-use Rattle.model.specs.Script.{run}
+use Rattle.script_ops.specs.Concrete.{concrete}
+use Rattle.script.specs.IsoOut.{isoOutCheck}
+use Rattle.script.specs.Script.{run}
 use mathlib.Core.Path.{_∙_, subst}
 use borrow.Author.Needs.{needs}
 use Rattle.interrupt.proofs.check.after_dispatch.Statement.{statement}

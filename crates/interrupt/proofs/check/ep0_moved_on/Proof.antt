@@ -1,11 +1,11 @@
 use Rattle.interrupt.specs.StopsLaws.{goes-in}
 use Rattle.interrupt.specs.MovedLaws.{moved-as}
 use Rattle.interrupt.specs.Continuations.{afterCheck, finish}
-use Rattle.model.specs.Tree.{ends}
-use Rattle.model.specs.Script.{run}
-use Rattle.model.specs.Handler.{ep0MovedOn}
-use Rattle.model_ops.specs.Rings.{St}
-use Rattle.model_ops.specs.Concrete.{concrete}
+use Rattle.script.specs.Tree.{ends}
+use Rattle.script.specs.Script.{run}
+use Rattle.script.specs.Handler.{ep0MovedOn}
+use Rattle.script_ops.specs.Rings.{St}
+use Rattle.script_ops.specs.Concrete.{concrete}
 use Rattle.regs.specs.declared.Token.{Token}
 use Rattle.regs.specs.declared.Token.the-variants as tok
 use Rattle.regs.proofs.Token as declared

@@ -1,4 +1,4 @@
-use Rattle.model.specs.Handler.{ownIn}
+use Rattle.script.specs.Handler.{ownIn}
 use borrow.Author.Needs.{needs}
 use Rattle.interrupt.proofs.framing.own_in.Statement.{statement}
 use Rattle.interrupt.proofs.framing.own_in.Tie as tie

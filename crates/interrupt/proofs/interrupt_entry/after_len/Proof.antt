@@ -2,8 +2,8 @@ use Rattle.interrupt.specs.Nak as nak
 use Rattle.interrupt.specs.StopsLaws.{pauses-in, goes-in}
 use Rattle.interrupt.specs.Laws.{entered-free, entered-nak, nak-asks, nak-ends, tells}
 use Rattle.interrupt.specs.Continuations.{afterNak, enteredAs}
-use Rattle.model_ops.specs.Concrete.{concrete}
-use Rattle.model.specs.Script.{run}
+use Rattle.script_ops.specs.Concrete.{concrete}
+use Rattle.script.specs.Script.{run}
 use Prim.Native.Nat.{ℕ}
 use mathlib.Core.Path.{_∙_, ap, subst}
 use borrow.Author.Needs.{needs}

@@ -2,8 +2,8 @@ use Rattle.interrupt.specs.Settle as settle
 use Rattle.interrupt.specs.StopsLaws.{pauses-in, goes-in}
 use Rattle.interrupt.specs.Laws.{after, settle-asks, settle-ends}
 use Rattle.interrupt.specs.Continuations.{afterRelease, afterSettle}
-use Rattle.model_ops.specs.Concrete.{concrete}
-use Rattle.model.specs.Script.{run}
+use Rattle.script_ops.specs.Concrete.{concrete}
+use Rattle.script.specs.Script.{run}
 use mathlib.Core.Path.{_∙_, subst}
 use borrow.Author.Needs.{needs}
 use Rattle.interrupt.proofs.interrupt_entry.after_released.Statement.{statement}

@@ -1,4 +1,4 @@
-use Rattle.model.specs.Handler.{isoFor}
+use Rattle.script.specs.Handler.{isoFor}
 use borrow.Author.Needs.{needs}
 use Rattle.interrupt.proofs.interrupt_entry.iso_for.Statement.{statement}
 use Rattle.interrupt.proofs.interrupt_entry.iso_for.Tie as tie

@@ -1,4 +1,4 @@
-use Rattle.model.specs.Handler.{inNaks}
+use Rattle.script.specs.Handler.{inNaks}
 use borrow.Author.Tests.{not-false, not-true}
 use borrow.Author.Needs.{needs}
 use Rattle.interrupt.proofs.nak.in_naks.Statement.{statement}

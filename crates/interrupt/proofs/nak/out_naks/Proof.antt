@@ -1,4 +1,4 @@
-use Rattle.model.specs.Handler.{outNaks}
+use Rattle.script.specs.Handler.{outNaks}
 use borrow.Author.Tests.{eq-eqb, ne-eqb, not-false, not-true}
 use borrow.Author.Needs.{needs}
 use Rattle.interrupt.proofs.nak.out_naks.Statement.{statement}

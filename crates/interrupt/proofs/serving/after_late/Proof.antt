@@ -1,12 +1,12 @@
 use Rattle.interrupt.specs.StopsLaws.{goes-on}
 use Rattle.interrupt.specs.Laws.{when-no, when-yes}
 use Rattle.interrupt.specs.Continuations.{afterDispatch, afterLate}
-use Rattle.model_ops.specs.Concrete.{concrete}
+use Rattle.script_ops.specs.Concrete.{concrete}
 use Rattle.regs.specs.Status.{token}
-use Rattle.model.specs.Script.{run}
+use Rattle.script.specs.Script.{run}
 use mathlib.Core.Bool.{not, true}
 use mathlib.Core.Path.{ap}
-use Rattle.model.specs.Handler as script
+use Rattle.script.specs.Handler as script
 use borrow.Author.Needs.{needs}
 use Rattle.interrupt.proofs.serving.after_late.Statement.{statement}
 use Rattle.interrupt.proofs.serving.after_late.Tie as tie

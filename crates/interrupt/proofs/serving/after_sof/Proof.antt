@@ -2,8 +2,8 @@ use Rattle.interrupt.specs.StopsLaws.{goes-on}
 use Rattle.interrupt.specs.Laws.{after, when-no, when-yes}
 use Rattle.interrupt.specs.Continuations.{afterLate, afterSof}
 use Rattle.isochronous.specs.Late.{lateAll}
-use Rattle.model_ops.specs.Concrete.{concrete}
-use Rattle.model.specs.Script.{run}
+use Rattle.script_ops.specs.Concrete.{concrete}
+use Rattle.script.specs.Script.{run}
 use mathlib.Core.Path.{_∙_}
 use borrow.Author.Needs.{needs}
 use Rattle.interrupt.proofs.serving.after_sof.Statement.{statement}

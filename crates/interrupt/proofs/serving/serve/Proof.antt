@@ -2,9 +2,9 @@ use Rattle.interrupt.specs.StopsLaws.{goes-on}
 use Rattle.interrupt.specs.Laws.{after, tells-of, when-no, when-yes}
 use Rattle.interrupt.specs.Continuations.{afterLate, afterSof, serving, sofDue}
 use Rattle.isochronous.specs.Late.{lateAll}
-use Rattle.model_ops.specs.Concrete.{concrete}
-use Rattle.model.specs.IsoIn.{onSof}
-use Rattle.model.specs.Script.{run}
+use Rattle.script_ops.specs.Concrete.{concrete}
+use Rattle.script.specs.IsoIn.{onSof}
+use Rattle.script.specs.Script.{run}
 use Rattle.state.specs.declared.Globals.{Globals}
 use mathlib.Core.Path.{_∙_}
 use borrow.Author.Needs.{needs}

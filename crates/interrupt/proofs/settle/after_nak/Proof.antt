@@ -1,6 +1,6 @@
-use Rattle.model.specs.Handler.{retaken}
-use Rattle.model.specs.Tree.{ends}
-use Rattle.model.specs.declared.Transfer.{Transfer}
+use Rattle.script.specs.Handler.{retaken}
+use Rattle.script.specs.Tree.{ends}
+use Rattle.script.specs.declared.Transfer.{Transfer}
 use Rattle.interrupt.specs.TransferLaws.{nak-asks, nak-ends, nak-linked}
 use Rattle.interrupt.specs.Nak as nak
 use Rattle.interrupt.specs.Settle.{fitsAt}

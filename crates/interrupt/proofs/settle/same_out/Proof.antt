@@ -1,4 +1,4 @@
-use Rattle.model.specs.Handler.{sameOut}
+use Rattle.script.specs.Handler.{sameOut}
 use borrow.Author.Tests.{eq-eqb, ne-eqb, not-false, not-true}
 use borrow.Author.Needs.{needs}
 use Rattle.interrupt.proofs.settle.same_out.Statement.{statement}

@@ -1,4 +1,4 @@
-use Rattle.model.specs.Handler.{waitsForBulk}
+use Rattle.script.specs.Handler.{waitsForBulk}
 use borrow.Author.Tests.{eq-eqb, ne-eqb, not-false, not-true}
 use borrow.Author.Needs.{needs}
 use Rattle.interrupt.proofs.settle.waits_for_bulk.Statement.{statement}

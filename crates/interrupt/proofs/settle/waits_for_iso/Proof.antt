@@ -1,4 +1,4 @@
-use Rattle.model.specs.Handler.{waitsForIso}
+use Rattle.script.specs.Handler.{waitsForIso}
 use borrow.Author.Tests.{not-false, not-true}
 use borrow.Author.Needs.{needs}
 use Rattle.interrupt.proofs.settle.waits_for_iso.Statement.{statement}

@@ -1,4 +1,4 @@
-use Rattle.model.specs.Handler.{repeated}
+use Rattle.script.specs.Handler.{repeated}
 use borrow.Author.Needs.{needs}
 use Rattle.interrupt.proofs.toggled.repeated.Statement.{statement}
 use Rattle.interrupt.proofs.toggled.repeated.Tie as tie

@@ -1,9 +1,9 @@
 use Rattle.interrupt.specs.StopsLaws.{goes-on}
 use Rattle.interrupt.specs.Laws.{after, passed-at, when-no, when-yes}
 use Rattle.interrupt.specs.Continuations.{afterDispatch, passed, afterArm}
-use Rattle.model_ops.specs.Concrete.{concrete}
+use Rattle.script_ops.specs.Concrete.{concrete}
 use Rattle.regs.specs.Status.{endpoint}
-use Rattle.model.specs.Script.{run}
+use Rattle.script.specs.Script.{run}
 use mathlib.Core.Path.{_∙_}
 use borrow.Author.Needs.{needs}
 use Rattle.interrupt.proofs.tokens.after_passing.Statement.{statement}

@@ -3,8 +3,8 @@ use Prim.Native.Nat.{ℕ}
 use Rattle.interrupt.specs.Toggled as toggled
 use Rattle.interrupt.specs.Laws.{toggled-as}
 use Rattle.interrupt.specs.Continuations.{afterDispatch, afterToggled}
-use Rattle.model_ops.specs.Concrete.{concrete}
-use Rattle.model.specs.Script.{run}
+use Rattle.script_ops.specs.Concrete.{concrete}
+use Rattle.script.specs.Script.{run}
 use Rattle.state.specs.State.{view}
 use borrow.Author.Needs.{needs}
 use Rattle.interrupt.proofs.tokens.after_toggled.Statement.{statement}

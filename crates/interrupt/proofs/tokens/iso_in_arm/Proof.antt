@@ -2,8 +2,8 @@ use Rattle.isochronous.specs.Complete as complete
 use Rattle.interrupt.specs.StopsLaws.{pauses-at, goes-on}
 use Rattle.interrupt.specs.Laws.{after, complete-asks, complete-ends, in-frame, paced-told, tells, test-yes}
 use Rattle.interrupt.specs.Continuations.{afterDispatch, afterArm}
-use Rattle.model_ops.specs.Concrete.{concrete}
-use Rattle.model.specs.Script.{run}
+use Rattle.script_ops.specs.Concrete.{concrete}
+use Rattle.script.specs.Script.{run}
 use mathlib.Core.Bool.{false, true}
 use mathlib.Core.Path.{_∙_, subst}
 use borrow.Author.Needs.{needs}

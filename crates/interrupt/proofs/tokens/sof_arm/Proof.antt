@@ -3,9 +3,9 @@ use Rattle.interrupt.specs.StopsLaws.{pauses-in, goes-in}
 use Rattle.interrupt.specs.Laws.{after, sof-asks, sof-ends, sof-handled, when-no, when-yes}
 use Rattle.interrupt.specs.Continuations.{afterDispatch}
 use Rattle.interrupt.specs.SofLaws.{sof-over}
-use Rattle.model_ops.specs.Concrete.{concrete}
-use Rattle.model.specs.IsoIn.{onSof}
-use Rattle.model.specs.Script.{run}
+use Rattle.script_ops.specs.Concrete.{concrete}
+use Rattle.script.specs.IsoIn.{onSof}
+use Rattle.script.specs.Script.{run}
 use borrow.Author.Tests.{eq-eqb, ne-eqb}
 use mathlib.Core.Path.{_∙_, subst}
 use borrow.Author.Needs.{needs}

@@ -3,8 +3,8 @@ use Rattle.interrupt.specs.StopsLaws.{pauses-at, goes-on}
 use Rattle.interrupt.specs.Laws.{sof-ends, tells}
 use Rattle.interrupt.specs.Continuations.{afterDispatch}
 use Rattle.interrupt.specs.SofLaws.{sof-over}
-use Rattle.model_ops.specs.Concrete.{concrete}
-use Rattle.model.specs.Script.{run}
+use Rattle.script_ops.specs.Concrete.{concrete}
+use Rattle.script.specs.Script.{run}
 use mathlib.Core.Path.{_∙_, subst}
 use borrow.Author.Needs.{needs}
 use Rattle.interrupt.proofs.tokens.then_sof_arm.Statement.{statement}

@@ -2,13 +2,13 @@ use Rattle.interrupt.specs.Toggled as toggled
 use Rattle.interrupt.specs.StopsLaws.{pauses-at, goes-on}
 use Prim.Native.Nat.{ℕ}
 use mathlib.Core.Bool.{true}
-use Rattle.model.specs.Handler as script
+use Rattle.script.specs.Handler as script
 use Rattle.state.specs.State.{view}
 use Rattle.interrupt.specs.Laws.{toggled-asks, toggled-ends, toggled-as}
 use Rattle.interrupt.specs.Continuations.{afterDispatch, afterToggled}
-use Rattle.model_ops.specs.Concrete.{concrete}
+use Rattle.script_ops.specs.Concrete.{concrete}
 use Rattle.regs.specs.Status.{endpoint}
-use Rattle.model.specs.Script.{run}
+use Rattle.script.specs.Script.{run}
 use mathlib.Core.Path.{_∙_, subst}
 use borrow.Author.Needs.{needs}
 use Rattle.interrupt.proofs.tokens.toggled_arm.Statement.{statement}

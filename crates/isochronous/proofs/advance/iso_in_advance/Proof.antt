@@ -3,7 +3,7 @@ use Rattle.bits.specs.Bit.{isSet}
 use Rattle.regs.specs.declared.Dir.the-variants.{In}
 use Rattle.regs.specs.Enables as enables
 use Rattle.state.specs.declared.Globals.{Globals}
-use Rattle.model.specs.Tree.{ends}
+use Rattle.script.specs.Tree.{ends}
 use Rattle.state.specs.State.{view}
 use Rattle.state.specs.Driver.{Driver}
 use Rattle.isochronous.specs.Laws.{advance-reads, advance-forgets, advance-ends}

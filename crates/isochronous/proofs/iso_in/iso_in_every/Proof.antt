@@ -1,5 +1,5 @@
 use Rattle.bits.specs.Mask.{except}
-use Rattle.model.specs.Statics.{isoInEvery}
+use Rattle.script.specs.Statics.{isoInEvery}
 use borrow.Author.Needs.{needs}
 use Rattle.isochronous.proofs.iso_in.iso_in_every.Statement.{statement}
 use Rattle.isochronous.proofs.iso_in.iso_in_every.Tie as tie

@@ -1,7 +1,7 @@
 use mathlib.Core.Path.{refl, ap, sym, _∙_}
 use denote.Ref.{now}
 use Rattle.state.specs.declared.EpState.{EpState}
-use Rattle.model.specs.Statics.{isOn}
+use Rattle.script.specs.Statics.{isOn}
 use Rattle.state.specs.State.{view}
 use Rattle.isochronous.specs.OpenCloseLaws.{open-shown, open-none, open-other}
 use borrow.Author.Needs.{needs}

@@ -2,7 +2,7 @@ use mathlib.Core.Path.{refl, ap, sym, _∙_}
 use denote.Ref.{now}
 use Rattle.state.specs.State.{view}
 use Rattle.state.specs.Driver.{Driver}
-use Rattle.model_ops.specs.Concrete.{go}
+use Rattle.script_ops.specs.Concrete.{go}
 use Rattle.isochronous.specs.Points.{walk}
 use borrow.Author.Needs.{needs}
 use Rattle.isochronous.proofs.out.after_armed.Statement.{statement}

@@ -1,4 +1,4 @@
-use Rattle.model.specs.IsoOut.{arriving}
+use Rattle.script.specs.IsoOut.{arriving}
 use borrow.Author.Needs.{needs}
 use Rattle.isochronous.proofs.out.arriving.Statement.{statement}
 use Rattle.isochronous.proofs.out.arriving.Tie as tie

@@ -1,6 +1,6 @@
 use mathlib.Core.Path.{sym, _∙_}
 use Rattle.isochronous.specs.OutLaws.{entry-as}
-use Rattle.model.specs.IsoOut.{entry}
+use Rattle.script.specs.IsoOut.{entry}
 use borrow.Author.Needs.{needs}
 use Rattle.isochronous.proofs.out.entry.Statement.{statement}
 use Rattle.isochronous.proofs.out.entry.Tie as tie

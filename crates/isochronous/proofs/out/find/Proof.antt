@@ -4,8 +4,8 @@ use Prim.Native.Nat.{_<_}
 use native.Mathlib.Omega.{arith}
 use denote.Ref.{now}
 use Rattle.state.specs.State.{view}
-use Rattle.model.specs.declared.Transfer.{Transfer}
-use Rattle.model_ops.specs.Concrete.{go}
+use Rattle.script.specs.declared.Transfer.{Transfer}
+use Rattle.script_ops.specs.Concrete.{go}
 use Rattle.isochronous.specs.Points.{walk}
 use Rattle.isochronous.specs.OutLaws.{walk-over, walk-at, walk-end, rest-less}
 use borrow.Author.Needs.{needs}

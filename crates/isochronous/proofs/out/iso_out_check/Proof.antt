@@ -3,7 +3,7 @@ use denote.Ref.{now}
 use Rattle.state.specs.State.{view}
 use Rattle.state.specs.declared.Globals.{Globals}
 use Rattle.regs.specs.Enables.{outEnabled}
-use Rattle.model.specs.Statics.{isoOuts}
+use Rattle.script.specs.Statics.{isoOuts}
 use Rattle.isochronous.specs.OutLaws.{begun}
 use borrow.Author.Needs.{needs}
 use Rattle.isochronous.proofs.out.iso_out_check.Statement.{statement}

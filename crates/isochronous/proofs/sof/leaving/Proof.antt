@@ -1,4 +1,4 @@
-use Rattle.model.specs.IsoIn.{leaving}
+use Rattle.script.specs.IsoIn.{leaving}
 use borrow.Author.Needs.{needs}
 use Rattle.isochronous.proofs.sof.leaving.Statement.{statement}
 use Rattle.isochronous.proofs.sof.leaving.Tie as tie

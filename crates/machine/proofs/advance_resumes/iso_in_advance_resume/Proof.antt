@@ -2,7 +2,7 @@ use Rattle.machine.specs.PointsStandsLaws.{leads-to, leads-end}
 use Rattle.machine.specs.AdvanceLaws.{advance}
 use Rattle.isochronous.specs.Advance.{completing}
 use Rattle.isochronous.specs.Laws.{paced-none, paced-begun}
-use Rattle.model.specs.Tree.{ends}
+use Rattle.script.specs.Tree.{ends}
 use Rattle.state.specs.Driver.{Driver}
 use Rattle.state.specs.State.{view}
 use denote.Ref.{now}

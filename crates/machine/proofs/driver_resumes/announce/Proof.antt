@@ -1,7 +1,7 @@
 use Rattle.machine.specs.PointsStandsLaws.{leads-to}
 use Rattle.machine.specs.DriverLaws.{driver}
 use Rattle.driver.specs.Announce.{announcing}
-use Rattle.model_ops.specs.Concrete.{go}
+use Rattle.script_ops.specs.Concrete.{go}
 use Rattle.state.specs.State.{view}
 use denote.Ref.{now}
 use mathlib.Core.Path.{refl}

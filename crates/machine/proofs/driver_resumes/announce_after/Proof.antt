@@ -2,7 +2,7 @@ use Rattle.machine.specs.PointsStandsLaws.{leads-end}
 use Rattle.machine.specs.Stands.{halted}
 use Rattle.driver.specs.Announce.{following}
 use Rattle.driver.specs.AnnounceLaws.{after-none, after-in, after-out}
-use Rattle.model_ops.specs.Concrete.{go}
+use Rattle.script_ops.specs.Concrete.{go}
 use Rattle.state.specs.State.{view}
 use denote.Ref.{now}
 use mathlib.Core.Path.{ap, sym, _∙_}

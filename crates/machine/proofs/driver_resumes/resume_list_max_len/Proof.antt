@@ -2,7 +2,7 @@ use Rattle.machine.specs.PointsStandsLaws.{at-point, goes-to, follows}
 use Rattle.machine.specs.Loads.{maxLenAt}
 use Rattle.machine.specs.DriverLaws.{driver}
 use Rattle.driver.specs.Announce.{following}
-use Rattle.model_ops.specs.Concrete.{go}
+use Rattle.script_ops.specs.Concrete.{go}
 use Rattle.state.specs.State.{view}
 use denote.Ref.{now}
 use mathlib.Core.Path.{refl, ap}

@@ -1,0 +1,15 @@
+use borrow.Author.Needs.{needs}
+use Rattle.channels.proofs.sets.part.Statement.{statement}
+use Rattle.channels.proofs.sets.part.Tie as tie
+
+is-in-requires : tie.Need-is-in-requires
+is-in-requires c κs = search needs
+
+returns : tie.Need-returns
+returns c = simp (← c .before .is-in .ensures, c .if1 .taken)
+
+returns-2 : tie.Need-returns-2
+returns-2 c = simp (← c .before .is-in .ensures, c .if1 .left)
+
+pub part-spec : {M : Type 1} → statement M
+part-spec = tie.close (tie.spec is-in-requires returns returns-2)

@@ -1,2 +1,0 @@
-pub mod Charged
-pub mod Witness

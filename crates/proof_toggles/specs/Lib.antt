@@ -1,2 +1,0 @@
-pub mod Toggles
-pub mod Data0

@@ -1,1 +1,0 @@
-// The laws on toggles at the driver's own operations. It has no code.

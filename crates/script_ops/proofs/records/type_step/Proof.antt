@@ -1,0 +1,24 @@
+use Rattle.script_ops.specs.Rings.{typeStep}
+use Rattle.state.specs.Kept.{withEpType}
+use Rattle.script_ops.proofs.Switching.{stepped}
+use borrow.Author.Needs.{needs}
+use Rattle.script_ops.proofs.records.type_step.Statement.{statement}
+use Rattle.script_ops.proofs.records.type_step.Tie as tie
+
+load-globals-requires : tie.Need-load-globals-requires
+load-globals-requires c κs = search needs
+
+switched-requires : tie.Need-switched-requires
+switched-requires c κs = search needs
+
+set-ep-type-requires : tie.Need-set-ep-type-requires
+set-ep-type-requires c κs = search needs
+
+returns : tie.Need-returns
+unfolding typeStep
+returns c =
+    stepped (c .before .before .before .before .before .before .args .s .now) _ _ _ (λ g. g .«ep_type») withEpType _ _
+    (c .before .before .before .before .load-globals .ensures) (c .before .before .switched .ensures) (c .set-ep-type .ensures)
+
+pub type-step-spec : {M : Type 1} → statement M
+type-step-spec = tie.close (tie.spec load-globals-requires switched-requires set-ep-type-requires returns)

@@ -1,0 +1,31 @@
+use Rattle.script_ops.specs.Rings.{completeOn}
+use borrow.Author.Needs.{needs}
+use Rattle.script_ops.proofs.rings.complete.Statement.{statement}
+use Rattle.script_ops.proofs.rings.complete.Tie as tie
+
+load-ep-requires : tie.Need-load-ep-requires
+load-ep-requires c κs = search needs
+
+completed-requires : tie.Need-completed-requires
+completed-requires c κs = search needs
+
+unloaded-requires : tie.Need-unloaded-requires
+unloaded-requires c κs = search needs
+
+store-ep-requires : tie.Need-store-ep-requires
+store-ep-requires c κs = search needs
+
+returns : tie.Need-returns
+unfolding completeOn
+returns c = (
+  simp (
+    c .store-ep .ensures .0,
+    c .before .unloaded .ensures,
+    c .before .before .before .completed .ensures,
+    c .before .before .before .before .load-ep .ensures,
+  ),
+  c .store-ep .ensures .1,
+)
+
+pub complete-spec : {M : Type 1} → statement M
+complete-spec = tie.close (tie.spec load-ep-requires completed-requires unloaded-requires store-ep-requires returns)

@@ -1,0 +1,46 @@
+use mathlib.Core.Path.{refl}
+use Rattle.script_ops.specs.Rings.{sendAddr, sendOn}
+use borrow.Author.Needs.{needs}
+use Rattle.script_ops.proofs.rings.send.Statement.{statement}
+use Rattle.script_ops.proofs.rings.send.Tie as tie
+
+load-ep-requires : tie.Need-load-ep-requires
+load-ep-requires c κs = search needs
+
+slot-addr-requires : tie.Need-slot-addr-requires
+slot-addr-requires c κs = search needs
+
+has-waiting-requires : tie.Need-has-waiting-requires
+has-waiting-requires c κs = search needs
+
+loaded-requires : tie.Need-loaded-requires
+loaded-requires c κs = search needs
+
+store-ep-requires : tie.Need-store-ep-requires
+store-ep-requires c κs = search needs
+
+returns : tie.Need-returns
+unfolding sendAddr sendOn
+returns c = (
+  simp (c .before .before .before .before .before .slot-addr .ensures, c .before .before .before .before .before .before .load-ep .ensures),
+  (
+    simp (
+      c .store-ep .ensures .0,
+      ← c .before .loaded .ensures,
+      c .before .before .before .if1 .taken,
+      ← c .before .before .before .before .has-waiting .ensures,
+      ← c .before .before .before .before .before .before .load-ep .ensures,
+    ),
+    c .store-ep .ensures .1,
+  ),
+)
+
+returns-2 : tie.Need-returns-2
+unfolding sendAddr sendOn
+returns-2 c = (
+  simp (c .before .before .slot-addr .ensures, c .before .before .before .load-ep .ensures),
+  (simp (c .if1 .left, ← c .before .has-waiting .ensures, ← c .before .before .before .load-ep .ensures), refl),
+)
+
+pub send-spec : {M : Type 1} → statement M
+send-spec = tie.close (tie.spec load-ep-requires slot-addr-requires has-waiting-requires loaded-requires store-ep-requires returns returns-2)

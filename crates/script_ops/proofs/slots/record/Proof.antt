@@ -1,0 +1,34 @@
+use mathlib.Core.Path.{refl}
+use Rattle.script_ops.specs.Rings.{recordedOn}
+use borrow.Author.Needs.{needs}
+use Rattle.script_ops.proofs.slots.record.Statement.{statement}
+use Rattle.script_ops.proofs.slots.record.Tie as tie
+
+has-room-out-requires : tie.Need-has-room-out-requires
+has-room-out-requires c κs = search needs
+
+slot-index-requires : tie.Need-slot-index-requires
+slot-index-requires c κs = search needs
+
+write-packet-requires : tie.Need-write-packet-requires
+write-packet-requires c κs = c .before .before .before .before .pre .1
+
+returns : tie.Need-returns
+unfolding recordedOn
+returns c = (
+  simp (
+    c .write-packet .ensures .0,
+    ← c .before .slot-index .ensures,
+    c .before .before .before .if1 .taken,
+    ← c .before .before .before .before .has-room-out .ensures,
+    ← c .before .before .before .before .before .pre .0,
+  ),
+  c .write-packet .ensures .1,
+)
+
+returns-2 : tie.Need-returns-2
+unfolding recordedOn
+returns-2 c = (simp (c .if1 .left, ← c .before .has-room-out .ensures, ← c .before .before .pre .0), refl)
+
+pub record-spec : {M : Type 1} → statement M
+record-spec = tie.close (tie.spec has-room-out-requires slot-index-requires write-packet-requires returns returns-2)

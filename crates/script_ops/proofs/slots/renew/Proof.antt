@@ -1,0 +1,32 @@
+use mathlib.Core.Path.{_∙_}
+use Rattle.script_ops.specs.Rings.{renewedOn}
+use borrow.Author.Needs.{needs}
+use Rattle.script_ops.proofs.slots.renew.Statement.{statement}
+use Rattle.script_ops.proofs.slots.renew.Tie as tie
+
+load-ep-requires : tie.Need-load-ep-requires
+load-ep-requires c κs = search needs
+
+clear-stamps-requires : tie.Need-clear-stamps-requires
+clear-stamps-requires c κs = search needs
+
+by-loan-requires : tie.Need-by-loan-requires
+by-loan-requires c κs = search needs
+
+store-ep-requires : tie.Need-store-ep-requires
+store-ep-requires c κs = search needs
+
+returns : tie.Need-returns
+unfolding renewedOn
+returns c = (
+  simp (
+    c .store-ep .ensures .0,
+    c .before .by-loan .ensures,
+    c .before .before .before .clear-stamps .ensures .0,
+    c .before .before .before .before .before .load-ep .ensures,
+  ),
+  c .store-ep .ensures .1 ∙ c .before .before .before .clear-stamps .ensures .1,
+)
+
+pub renew-spec : {M : Type 1} → statement M
+renew-spec = tie.close (tie.spec load-ep-requires clear-stamps-requires by-loan-requires store-ep-requires returns)

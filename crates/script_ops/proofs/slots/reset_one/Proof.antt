@@ -1,0 +1,18 @@
+use borrow.Author.Needs.{needs}
+use Rattle.script_ops.proofs.slots.reset_one.Statement.{statement}
+use Rattle.script_ops.proofs.slots.reset_one.Tie as tie
+
+load-ep-requires : tie.Need-load-ep-requires
+load-ep-requires c κs = search needs
+
+by-loan-requires : tie.Need-by-loan-requires
+by-loan-requires c κs = search needs
+
+store-ep-requires : tie.Need-store-ep-requires
+store-ep-requires c κs = search needs
+
+returns : tie.Need-returns
+returns c = (simp (c .store-ep .ensures .0, c .before .by-loan .ensures, c .before .before .before .load-ep .ensures), c .store-ep .ensures .1)
+
+pub reset-one-spec : {M : Type 1} → statement M
+reset-one-spec = tie.close (tie.spec load-ep-requires by-loan-requires store-ep-requires returns)
