@@ -4,6 +4,8 @@
 mod card; // card.rt: packets on the card and back
 mod list; // list.rt: the recorded list
 
+use bus_time::TIME_LEN;
+use bus_time::Time;
 use card::CARD_LEN;
 use card::Counts;
 use libc::STDIN_FILENO;
@@ -12,8 +14,6 @@ use list::LIST_LEN;
 use list::SLOTS_LEN;
 use list::number;
 use print::text::print;
-use req_bus_time::TIME_LEN;
-use req_bus_time::Time;
 use state::STATE_LEN;
 use state::State;
 

@@ -1,11 +1,11 @@
 // What the driver asks of the chip, in words.
+use bus_time::TIME_LEN;
+use bus_time::Time;
 use calls::Step;
 use print::answers::show;
 use print::text::number;
 use print::text::print;
 use regs::Dir;
-use req_bus_time::TIME_LEN;
-use req_bus_time::Time;
 use state::STATE_LEN;
 use state::State;
 
@@ -146,7 +146,7 @@ fn enabled(s: &mut State, slots: &mut [u8], time: &mut Time) {
 
 fn time_in_use(time: &Time) {
     print(b"\nbus time in use: ");
-    number(req_bus_time::in_use(time));
+    number(bus_time::in_use(time));
     print(b" byte-times of 6,000\n");
 }
 

@@ -6,7 +6,7 @@ use Rattle.regs.specs.declared.Dir.{Dir}
 use Rattle.state.specs.Driver.{Driver}
 use Rattle.script.specs.Answers.{Answer}
 use Rattle.script.specs.Machine.{Ans, ended, handed, told}
-use Rattle.req_bus_time.specs.Time.{entryOf}
+use Rattle.bus_time.specs.Time.{entryOf}
 use Rattle.calls.specs.Sharing.{enabling, chargeOn, timeAfter}
 use Rattle.calls.specs.Charging.{chargedAt}
 

@@ -11,7 +11,7 @@ use Rattle.script.specs.Machine.{Buf, Machine, begin, Ans, ended, handed, told}
 use Rattle.machine.specs.declared.Suspended.{Suspended}
 use Rattle.machine.specs.Suspended.{machineAt, drive, slotsFit, lentOr}
 use Rattle.answer.specs.Goes.{Called}
-use Rattle.req_bus_time.specs.Time.{entryOf, passes}
+use Rattle.bus_time.specs.Time.{entryOf, passes}
 use Rattle.calls.specs.Sharing.{Sort, enabling, apart, chargeOn, isHanded, timeAfter, sharedCall}
 use Rattle.calls.specs.SharingLaws.{settles, refuses}
 use Rattle.calls.specs.Accepts.{accepts}

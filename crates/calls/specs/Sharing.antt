@@ -18,7 +18,7 @@ use Rattle.script.specs.Machine.{Buf, Call, start, begin, go, question, Machine
 use Rattle.answer.specs.declared.Step.{Step}
 use Rattle.machine.specs.Suspended.{driverOf, drive, machineOf, answerOf, lentOr, BufferUnchangedOnRow1, SavedByAnswer}
 use Rattle.answer.specs.Goes.{Called}
-use Rattle.req_bus_time.specs.Time.{chargeOf, entryOf, passes, keepOf}
+use Rattle.bus_time.specs.Time.{chargeOf, entryOf, passes, keepOf}
 
 -- what a call is to the bus time: an endpoint's enabling, a start-up, a continue, or none of these
 pub data Sort : Type 0 where

@@ -10,7 +10,7 @@ use Rattle.script.specs.Calls.{Config, Op, slotted, SetEnabled, calls}
 use Rattle.script.specs.Machine.{Buf, Call, begin, Machine, ended, lentTo}
 use Rattle.machine.specs.Suspended.{driverOf, drive}
 use Rattle.answer.specs.Goes.{Called}
-use Rattle.req_bus_time.specs.Time.{entryOf, passes}
+use Rattle.bus_time.specs.Time.{entryOf, passes}
 use Rattle.calls.specs.Sharing.{sortOf, chargeOn, isHanded, timeAfter, turnedDown, settled, sharedCall}
 
 -- not turned down: the driver's call, and the record after it

@@ -27,7 +27,7 @@ use Rattle.machine.specs.Suspended.{decode, finish, machineAt, drive, resumed, 
 use Rattle.machine.specs.Tags.{at-interrupt}
 use Rattle.machine.specs.GoesLaws.{proceeds}
 use Rattle.answer.specs.Goes.{Called}
-use Rattle.req_bus_time.specs.Time.{keepOf}
+use Rattle.bus_time.specs.Time.{keepOf}
 use Rattle.calls.specs.Sharing.{going, written, timeAfter}
 use Rattle.calls.specs.Spares.{Spares, Sparing}
 use Rattle.calls.specs.SparesPoints.{point-spares}

@@ -1,12 +1,12 @@
 use answer::Step;
+use bus_time::Time;
+use bus_time::charge;
+use bus_time::charge_of;
+use bus_time::keep;
 use regs::Access;
 use regs::Dir;
 use regs::Reg;
 use regs::registers::number;
-use req_bus_time::Time;
-use req_bus_time::charge;
-use req_bus_time::charge_of;
-use req_bus_time::keep;
 use state::State;
 ghost use mathlib.Core.Path.{_≡_};
 ghost use mathlib.Core.List.{List, []};

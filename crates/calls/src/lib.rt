@@ -3,7 +3,7 @@
 // The calls of the control pipe.
 // The calls on an endpoint.
 // The driver's calls: what stops one, what it begins, what it answers. Each call is one step of the machine of calls (crate `machine`) that the
-// lent bytes are; start-up, enabling and continue also bring the record of bus time (crate `call_bus_time`).
+// lent bytes are; start-up, enabling and continue also bring the record of bus time (`shared_time`).
 pub mod start; // start.rt: calls: start-up, allocation, EP0's start
 pub mod begins; // begins.rt: the microframe, pacing, a paced advance, the interrupt
 pub mod listed_calls; // listed_calls.rt: endpoints from a configuration descriptor
@@ -13,7 +13,7 @@ pub mod control_polls; // control_polls.rt: their polls
 pub mod in_place; // in_place.rt: packets opened, closed and queued in their slots
 pub mod questions; // questions.rt: pending, overruns, enabled
 pub mod requests; // requests.rt: reads and writes
-pub mod bus_time; // bus_time.rt: start-up and enabling with the bus time that drivers share; the record after a continue
+pub mod shared_time; // shared_time.rt: start-up and enabling with the bus time that drivers share; the record after a continue
 pub mod charges; // charges.rt: the record after a call
 pub mod resume; // resume.rt: continue
 pub mod usbhs_bus_begins; // usbhs_bus_begins.rt: the bus, stalls, endpoints enabled

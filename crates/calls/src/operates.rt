@@ -1,7 +1,7 @@
 // Any operation but the interrupt goes on: a write of ep_config gives back what it clears.
 use crate::charges::gone_on;
 use answer::Step;
-use req_bus_time::Time;
+use bus_time::Time;
 use state::State;
 ghost use mathlib.Core.Path.{_≡_};
 ghost use Rattle.state.specs.State.{saved};

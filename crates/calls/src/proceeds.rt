@@ -1,8 +1,8 @@
 use crate::operates::operate;
 use answer::Step;
 use answer::call_answer_step::step_of;
+use bus_time::Time;
 use machine::saved::tag;
-use req_bus_time::Time;
 use state::State;
 ghost use mathlib.Core.Path.{_≡_};
 ghost use Rattle.script.specs.Machine.{go};

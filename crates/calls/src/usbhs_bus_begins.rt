@@ -4,4 +4,4 @@ pub use crate::bus_begins::begin_bus_enable;
 pub use crate::bus_begins::begin_bus_poll;
 pub use crate::bus_begins::begin_is_stalled;
 pub use crate::bus_begins::begin_set_stalled;
-pub use crate::bus_time::begin_set_enabled;
+pub use crate::shared_time::begin_set_enabled;

@@ -27,7 +27,7 @@ use Rattle.script_ops.specs.Rings.{St}
 use Rattle.script_ops.specs.Concrete.{concrete}
 use Rattle.machine.specs.Suspended.{driverOf, finish}
 use Rattle.proof_book.specs.CellsLaws.{epOn-by}
-use Rattle.req_bus_time.specs.Time.{chargeOf}
+use Rattle.bus_time.specs.Time.{chargeOf}
 use Rattle.calls.specs.Sharing.{Sort, enabling, starting, apart, opSort, chargeOn}
 use Rattle.proof_bus_time.specs.History.{byAccess}
 use Rattle.proof_bus_time.specs.HistoriesLaws.{none-set}

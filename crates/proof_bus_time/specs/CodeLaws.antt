@@ -12,7 +12,7 @@ use Rattle.script.specs.Calls.{Config, Op}
 use Rattle.script.specs.Machine.{Buf, Call, Machine, idle, Ans, ended, handed, told}
 use Rattle.machine.specs.Suspended.{decode, drive, machineOf}
 use Rattle.answer.specs.Goes.{Called}
-use Rattle.req_bus_time.specs.Time.{inUse, uncharged}
+use Rattle.bus_time.specs.Time.{inUse, uncharged}
 use Rattle.calls.specs.Sharing.{Sort, apart, sortOf, timeAfter, settled, sharedCall}
 use Rattle.proof_bus_time.specs.Four.{Four, Turn, called, next, after}
 use Rattle.proof_bus_time.specs.History.{history, timeBy}

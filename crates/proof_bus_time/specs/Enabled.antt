@@ -17,7 +17,7 @@ use Rattle.alloc.specs.Alloc.{takenIn}
 use Rattle.script.specs.Every.{onWrite, sameReg}
 use Rattle.script.specs.Answers.{Answer}
 use Rattle.script.specs.Machine.{Way, idle, busy, Machine, Ans, ended, handed, told}
-use Rattle.req_bus_time.specs.Time.{uncharged}
+use Rattle.bus_time.specs.Time.{uncharged}
 use Rattle.calls.specs.Sharing.{Sort, enabling, starting, going, apart, sortOf, chargeOn}
 use Rattle.proof_bus_time.specs.Four.{Four}
 use Rattle.proof_bus_time.specs.History.{Line, sum}

@@ -24,8 +24,8 @@ use Rattle.script.specs.Calls.{calls}
 use Rattle.script.specs.Machine.{Buf, Machine, Ans, ended, handed, told, lentTo}
 use Rattle.machine.specs.Suspended.{driverOf, drive}
 use Rattle.answer.specs.Goes.{Called}
-use Rattle.req_bus_time.specs.Time.{entryOf, total, inUse, entryKept, kept, keepOf, uncharged}
-use Rattle.req_bus_time.specs.TimeLaws.{total-none, kept-in, kept-out}
+use Rattle.bus_time.specs.Time.{entryOf, total, inUse, entryKept, kept, keepOf, uncharged}
+use Rattle.bus_time.specs.TimeLaws.{total-none, kept-in, kept-out}
 use Rattle.calls.specs.Sharing.{Sort, enabling, starting, going, apart, sortOf, chargeOn, written, timeAfter, turnedDown, settled}
 use Rattle.proof_bus_time.specs.Four.{Four, Turn, called, next, after}
 use Rattle.proof_bus_time.specs.History.{lineOf, history, cleared, byAccess, byAnswer, chargeAfter, chargeBy, sum, timeBy}

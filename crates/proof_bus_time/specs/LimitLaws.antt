@@ -16,8 +16,8 @@ use Rattle.script.specs.Every.{sameReg}
 use Rattle.script.specs.Answers.{Answer}
 use Rattle.script.specs.Machine.{Buf, Machine, Ans, ended, handed, told}
 use Rattle.machine.specs.Suspended.{drive}
-use Rattle.req_bus_time.specs.Time.{entryOf, total, inUse, passes, keepOf, uncharged}
-use Rattle.req_bus_time.specs.TimeLaws.{length-keep, keep-le, total-set}
+use Rattle.bus_time.specs.Time.{entryOf, total, inUse, passes, keepOf, uncharged}
+use Rattle.bus_time.specs.TimeLaws.{length-keep, keep-le, total-set}
 use Rattle.calls.specs.Sharing.{Sort, enabling, starting, going, apart, sortOf, chargeOn, written, settled}
 use Rattle.proof_bus_time.specs.Four.{Four, Turn, next, after}
 

@@ -12,7 +12,7 @@ use Rattle.regs.specs.Enables.{place}
 use Rattle.state.specs.Driver.{Driver}
 use Rattle.script.specs.Answers.{Answer}
 use Rattle.script.specs.Machine.{Way, idle}
-use Rattle.req_bus_time.specs.Time.{inUse}
+use Rattle.bus_time.specs.Time.{inUse}
 use Rattle.calls.specs.Sharing.{chargeOn}
 use Rattle.proof_bus_time.specs.Four.{Four, Turn, after}
 use Rattle.proof_bus_time.specs.History.{history, sum, timeBy}

@@ -21,7 +21,7 @@ use Rattle.script.specs.Calls.{slotted, SetEnabled}
 use Rattle.script_ops.specs.Records.{isoOut}
 use Rattle.script_ops.specs.Rings.{St, configStep}
 use Rattle.script_ops.specs.Concrete.{concrete}
-use Rattle.req_bus_time.specs.Time.{chargeOf}
+use Rattle.bus_time.specs.Time.{chargeOf}
 use Rattle.calls.specs.Sharing.{chargeOn}
 use Rattle.proof_bus_time.specs.Enabled.{isEnabled}
 use Rattle.proof_bus_time.specs.Charged.{opBegun, givenBack}

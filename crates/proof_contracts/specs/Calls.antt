@@ -49,8 +49,8 @@ use Rattle.calls.proofs.in_place.queue.Reads as queue-contract
 use Rattle.calls.proofs.questions.pending.Reads as pending-contract
 use Rattle.calls.proofs.questions.overruns.Reads as overruns-contract
 use Rattle.calls.proofs.questions.enabled.Reads as enabled-contract
-use Rattle.calls.proofs.bus_time.start_up.Reads as start-up-contract
-use Rattle.calls.proofs.bus_time.begin_set_enabled.Reads as begin-set-enabled-contract
+use Rattle.calls.proofs.shared_time.start_up.Reads as start-up-contract
+use Rattle.calls.proofs.shared_time.begin_set_enabled.Reads as begin-set-enabled-contract
 use Rattle.calls.proofs.proceeds.proceed.Reads as proceed-contract
 use Rattle.proof_contracts.specs.Steps.{IsStep, IsStepLent, IsStepInto, IsStepCharged, IsStepStart, IsQuestion}
 use Rattle.proof_contracts.specs.StepsLaws.{unlent, lent, filled, asked}

@@ -20,7 +20,7 @@ use Rattle.script.specs.Calls.{BeginAcceptSetAddress, PollAccept, BeginReject, 
 use Rattle.script.specs.Calls.{BeginWrite, PollWrite, Open, Close, Queue}
 use Rattle.machine.specs.Suspended.{configOf, answerOf, lentBy}
 use Rattle.machine.specs.KeepsLaws.{kept-by}
-use Rattle.req_bus_time.specs.Time.{inUse}
+use Rattle.bus_time.specs.Time.{inUse}
 use Rattle.calls.specs.Shown.{ShownAt}
 use Rattle.answer.specs.Word.{Worded}
 use Rattle.usbhs_c.specs.Calls.{dirOf, flagOf}

@@ -6,7 +6,7 @@ use mathlib.Core.Path.{_≡_, ap, _∙_}
 use Prim.Native.Nat.{ℕ, _%_}
 use denote.Ref.{now}
 use Rattle.machine.specs.Suspended.{machineOf}
-use Rattle.req_bus_time.specs.Time.{inUse}
+use Rattle.bus_time.specs.Time.{inUse}
 use Rattle.calls.specs.Sharing.{sharedCall}
 use Rattle.proof_bus_time.specs.History.{history}
 use Rattle.proof_bus_time.specs.Enabled.{FourAtFirst}

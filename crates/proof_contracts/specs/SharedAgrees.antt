@@ -19,7 +19,7 @@ use Rattle.script.specs.Machine.{told, fed, halt, begun, continued, started, ca
 use Rattle.script.specs.Agree.{After, Ways, LentAlike, unless, agrees}
 use Rattle.machine.specs.Suspended.{driverOf, drive}
 use Rattle.answer.specs.Goes.{Called}
-use Rattle.req_bus_time.specs.Time.{chargeOf, entryOf, passes}
+use Rattle.bus_time.specs.Time.{chargeOf, entryOf, passes}
 use Rattle.calls.specs.Sharing.{Sort, enabling, starting, going, apart, opSort, sortOf, isHanded, chargeOn}
 use Rattle.calls.specs.Sharing.{turnedDown, timeAfter, settled, sharedCall}
 use Rattle.proof_book.specs.Pages.{Pages}

@@ -10,7 +10,7 @@ use Rattle.regs.specs.declared.Dir.{Dir}
 use Rattle.script.specs.Answers.{Answer, Refused}
 use Rattle.script.specs.Calls.{Config, Op, calls}
 use Rattle.script.specs.Machine.{Buf, Call, Machine, Ans, ended, handed, told, lentTo}
-use Rattle.req_bus_time.specs.Time.{chargeOf, entryOf, passes, keepOf}
+use Rattle.bus_time.specs.Time.{chargeOf, entryOf, passes, keepOf}
 use Rattle.calls.specs.Sharing.{Sort, enabling, starting, going, apart, sortOf, isHanded}
 use Rattle.calls.specs.Sharing as sharing
 use Rattle.proof_book.specs.Pages.{Pages}

@@ -12,7 +12,7 @@ use Rattle.script.specs.Calls.{Config, Op, interrupt}
 use Rattle.script.specs.Machine.{Buf, Call, begin, go, Event, Ans, ended, handed, told}
 use Rattle.answer.specs.declared.Step.{Step}
 use Rattle.machine.specs.Suspended.{answerOf, lentOr, BufferUnchangedOnRow1}
-use Rattle.call_readings.specs.Readings.{Reading, Lent, lent, readsOf}
+use Rattle.readings.specs.Readings.{Reading, Lent, lent, readsOf}
 use Rattle.proof_contracts.specs.SharedPage.{MadeShared}
 use Rattle.proof_contracts.specs.SavedPage.{Saving}
 

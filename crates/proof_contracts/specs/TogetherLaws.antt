@@ -25,9 +25,9 @@ use Rattle.machine.specs.KeepsLaws.{kept-by}
 use Rattle.answer.specs.Goes.{Called}
 use Rattle.calls.specs.Sharing.{settled, sharedCall}
 use Rattle.answer.specs.Word.{Worded}
-use Rattle.call_readings.specs.Readings.{Reading, reading, Lent, lent, Continues, If, Over, Brings, BeginsWith, ContinuesWith, asksFor}
-use Rattle.usbhs_c.proofs.readings.usbhs_interrupt.Reads as interrupt-contract
-use Rattle.usbhs_c.proofs.readings.usbhs_continue_transfer.Reads as continue-transfer-contract
+use Rattle.readings.specs.Readings.{Reading, reading, Lent, lent, Continues, If, Over, Brings, BeginsWith, ContinuesWith, asksFor}
+use Rattle.usbhs_c.proofs.together.usbhs_interrupt.Reads as interrupt-contract
+use Rattle.usbhs_c.proofs.together.usbhs_continue_transfer.Reads as continue-transfer-contract
 use Rattle.proof_book.specs.Pages.{Pages, withKept, keptWakes}
 use Rattle.proof_book.specs.Book.{book}
 use Rattle.proof_book.specs.FrontPage.{Chip, LentAsLeft, unless}

@@ -14,8 +14,8 @@ use Rattle.script.specs.Machine.{Call, begin, Ans, ended, handed}
 use Rattle.script.specs.Machine as machine
 use Rattle.machine.specs.Suspended.{drive}
 use Rattle.answer.specs.Goes.{Called}
-use Rattle.req_bus_time.specs.Time as bus-time
-use Rattle.req_bus_time.specs.Time.{uncharged, inUse, entryOf, passes}
+use Rattle.bus_time.specs.Time as bus-time
+use Rattle.bus_time.specs.Time.{uncharged, inUse, entryOf, passes}
 use Rattle.calls.specs.Sharing as sharing
 use Rattle.calls.specs.Sharing.{isHanded, chargeOn}
 use Rattle.calls.specs.SharingLaws.{refuses}

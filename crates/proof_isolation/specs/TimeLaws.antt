@@ -15,7 +15,7 @@ use Rattle.script.specs.Machine.{Buf, Call, Ans, ended, handed, told, Machine, 
 use Rattle.script_ops.specs.Rings.{St}
 use Rattle.machine.specs.Suspended.{driverOf, drive}
 use Rattle.answer.specs.Goes.{Called}
-use Rattle.req_bus_time.specs.Time.{chargeOf, entryOf, passes}
+use Rattle.bus_time.specs.Time.{chargeOf, entryOf, passes}
 use Rattle.calls.specs.Sharing.{Sort, enabling, starting, going, apart, chargeOn, isHanded, sortOf, timeAfter, turnedDown, settled, sharedCall}
 use Rattle.proof_isolation.specs.LikesLaws.{and-false}
 use Rattle.proof_isolation.specs.EqualExcept.{Channel, LowEquiv}

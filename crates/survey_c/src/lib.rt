@@ -4,6 +4,7 @@ mod rooms; // rooms.rt: an answer's numbers in the caller's rooms
 mod words; // words.rt: an answer as one word
 mod writer; // writer.rt: a card's writer as four numbers
 
+use bus_time::Time;
 use card::reader::Batch;
 use card::reader::Next;
 use card::reader::Reader;
@@ -11,7 +12,6 @@ use card::reader::Started;
 use card::writer::Finished;
 use card::writer::Wrote;
 use channels::Channel;
-use req_bus_time::Time;
 use rooms::best_into;
 use rooms::reached;
 use visits::Bounds;
@@ -26,7 +26,7 @@ ghost use Rattle.descriptor.specs.Rewriting.{rewrittenOf, roomRewritten};
 ghost use Rattle.survey_c.specs.Descriptor.{writtenWord};
 ghost use mathlib.Core.Path.{_≡_};
 ghost use lib.ListN.{length};
-ghost use Rattle.req_bus_time.specs.Time.{inUse};
+ghost use Rattle.bus_time.specs.Time.{inUse};
 ghost use Rattle.visits.specs.Bounds.{boundsOf};
 ghost use Rattle.card.specs.Crc.{dataCrc};
 ghost use Rattle.card.specs.Packet.{packetOf};
@@ -51,7 +51,7 @@ pub extern "C" fn usbhs_best_set(
     ensures { λ r. ⌜ BestSet (now (list .entry)) (inUse (now (time .entry))) budget (now (total .entry)) (now (figure .entry))
         (now (looked .entry)) r (now (list .exit)) (now (total .exit)) (now (figure .exit)) (now (looked .exit)) ⌝ }
 {
-    let in_use = req_bus_time::in_use(time);
+    let in_use = bus_time::in_use(time);
     let answer = channels::best_set(list, in_use, budget);
     best_into(answer, total, figure, looked)
 }

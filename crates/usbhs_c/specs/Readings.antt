@@ -1,10 +1,10 @@
 -- What a call that brings several readings says: its word is that of the last answer of the calls of one access each that it stands for
--- (call_readings/specs/Readings.antt)
+-- (readings/specs/Readings.antt)
 use mathlib.Core.List.{[], _∷_}
 use Prim.Native.Nat.{ℕ}
 use Rattle.regs.specs.declared.Reg.the-variants.{IntFg, IntSt, RxLen, FrameNo}
 use Rattle.answer.specs.Word.{Worded}
-use Rattle.call_readings.specs.Readings.{reading, Lent, BeginsWith, ContinuesWith}
+use Rattle.readings.specs.Readings.{reading, Lent, BeginsWith, ContinuesWith}
 
 -- the interrupt's begin, a continue with frame_no, one with int_fg
 abbrev pub AnswersInterrupt : ℕ → ℕ → ℕ → ℕ → Lent → Lent → Type 0

@@ -21,13 +21,13 @@ use Rattle.answer.specs.declared.Step.the-variants.{Refused, Asks, Ends, NotYet
 use Rattle.machine.specs.Suspended.{machineOf, drive, answerOf, SavedByAnswer}
 use Rattle.answer.specs.Word.{readWord, accessWord, wordOf, Encodes, Worded}
 use Rattle.answer.specs.Parts.{stepOf, spoken}
-use Rattle.call_readings.specs.Readings.{Reading, reading, Lent, lent, Continues, If, Over, Brings}
-use Rattle.call_readings.specs.Readings.{asksFor, readsOf}
-use Rattle.call_readings.specs.declared.Entered.{Entered}
-use Rattle.call_readings.specs.declared.Entered.the-variants as entered
-use Rattle.call_readings.specs.declared.Passed.{Passed}
-use Rattle.call_readings.specs.declared.Passed.the-variants as passed
-use Rattle.call_readings.specs.Passing.{EntersAs, Transferred, PassesAs}
+use Rattle.readings.specs.Readings.{Reading, reading, Lent, lent, Continues, If, Over, Brings}
+use Rattle.readings.specs.Readings.{asksFor, readsOf}
+use Rattle.readings.specs.declared.Entered.{Entered}
+use Rattle.readings.specs.declared.Entered.the-variants as entered
+use Rattle.readings.specs.declared.Passed.{Passed}
+use Rattle.readings.specs.declared.Passed.the-variants as passed
+use Rattle.readings.specs.Passing.{EntersAs, Transferred, PassesAs}
 use Rattle.usbhs_c.specs.Calls.{Answers, AnswersCharged}
 use Rattle.usbhs_c.specs.Readings.{AnswersInterrupt, AnswersTransfer}
 

@@ -3,18 +3,18 @@
 // share, `driver` the caller's number in it, modulo 4.
 pub mod inputs; // inputs.rt: directions and flags as numbers
 pub mod listed; // listed.rt: endpoints from a configuration descriptor
-pub mod readings; // readings.rt: readings that come in a row, brought by one call
+pub mod together; // together.rt: readings that come in a row, brought by one call
 pub mod setup; // setup.rt: a setup packet's bytes
 pub mod stamp; // stamp.rt: the stamp of a packet that is shown
 pub mod woken; // woken.rt: the wake-ups of the last end
 
 use answer::word::continue_word;
 use answer::word::word_of;
+use bus_time::Time;
 use calls::proceeds::INTERRUPT;
 use inputs::dir_of;
 use inputs::flag_of;
 use machine::saved::tag;
-use req_bus_time::Time;
 use setup::setup_word;
 use stamp::stamp_by;
 use state::State;
@@ -32,7 +32,7 @@ ghost use Rattle.script.specs.Calls.{BeginAcceptSetAddress, PollAccept, BeginRe
 ghost use Rattle.script.specs.Calls.{BeginWrite, PollWrite, Close, Queue};
 ghost use Prim.Native.Nat.{_%_};
 ghost use lib.ListN.{length};
-ghost use Rattle.req_bus_time.specs.Time.{inUse};
+ghost use Rattle.bus_time.specs.Time.{inUse};
 ghost use Rattle.machine.specs.Suspended.{configOf};
 ghost use Rattle.answer.specs.Questions.{pendingOn, overrunsOn, enabledAsked};
 ghost use Rattle.usbhs_c.specs.Calls.{Answers, AnswersAtOnce, AnswersLent, AnswersInto, AnswersOutOf};
@@ -387,7 +387,7 @@ pub extern "C" fn usbhs_woken(s: &State, room: &mut [u8; 64]) -> u32
 pub extern "C" fn usbhs_time_in_use(time: &Time) -> u32
     ensures { λ r. ⌜ r ≡ inUse (now (time .entry)) ⌝ }
 {
-    req_bus_time::in_use(time)
+    bus_time::in_use(time)
 }
 
 // The packets queued on the IN endpoint and not yet taken by the host.

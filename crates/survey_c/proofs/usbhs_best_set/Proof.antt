@@ -45,15 +45,15 @@ use denote.Triple.Walked.{goes-gave-slice, goes-gave-ref, goes-none, goes-droppe
 use Rattle.channels.specs.declared.Channel.{Channel}
 use Rattle.channels.specs.declared.Answer.{Answer}
 use Rattle.channels.specs.Answers.{answerOf, listAfter}
-use Rattle.req_bus_time.specs.Time.{inUse}
+use Rattle.bus_time.specs.Time.{inUse}
 use Rattle.survey_c.specs.Numbers.{bestWord, totalBy, figureBy, lookedBy, BestSet}
 use Rattle.channels.proofs.Channel as T
 use Rattle.channels.proofs.Answer as R
 use Rattle.channels.proofs.Answer.Laws as R′
-use Rattle.req_bus_time.proofs.in_use as time
-use Rattle.req_bus_time.proofs.in_use.Symbol as time-def
-use Rattle.req_bus_time.proofs.in_use.Symbol.{name as #req-bus-time·in-use}
-use Rattle.req_bus_time.proofs.in_use.Met as time-thm
+use Rattle.bus_time.proofs.in_use as time
+use Rattle.bus_time.proofs.in_use.Symbol as time-def
+use Rattle.bus_time.proofs.in_use.Symbol.{name as #req-bus-time·in-use}
+use Rattle.bus_time.proofs.in_use.Met as time-thm
 use Rattle.channels.proofs.best_set as best
 use Rattle.channels.proofs.best_set.Symbol as best-def
 use Rattle.channels.proofs.best_set.Symbol.{name as #req-channels·best-set}

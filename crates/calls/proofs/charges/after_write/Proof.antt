@@ -3,7 +3,7 @@ use Rattle.calls.proofs.charges.after_write.Statement.{statement}
 use Rattle.calls.proofs.charges.after_write.Tie as tie
 use Rattle.calls.proofs.charges.after_write.Reads as reads
 use Rattle.calls.proofs.charges.after_write.Lts as lts
-use Rattle.req_bus_time.proofs.keep.Reads as keep-reads
+use Rattle.bus_time.proofs.keep.Reads as keep-reads
 use Rattle.calls.proofs.charges.is_config.Reads as is-config-reads
 
 is-config-requires : tie.Need-is-config-requires

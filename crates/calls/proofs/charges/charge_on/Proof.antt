@@ -6,7 +6,7 @@ use Rattle.calls.proofs.charges.charge_on.Statement.{statement}
 use Rattle.calls.proofs.charges.charge_on.Tie as tie
 use Rattle.calls.proofs.charges.charge_on.Reads as reads
 use Rattle.calls.proofs.charges.charge_on.Lts as lts
-use Rattle.req_bus_time.proofs.charge_of.Reads as charge-of-reads
+use Rattle.bus_time.proofs.charge_of.Reads as charge-of-reads
 use Rattle.state.proofs.load_ep.Reads as load-ep-reads
 
 cast-load-ep : tie.Need-cast-load-ep
