@@ -64,27 +64,27 @@ use Rattle.channels.proofs.Answer as R
 use Rattle.channels.proofs.Answer.Laws as R′
 use Rattle.channels.proofs.is_refused as asks
 use Rattle.channels.proofs.is_refused.Symbol as asks-def
-use Rattle.channels.proofs.is_refused.Symbol.{name as #req-channels·is-refused}
+use Rattle.channels.proofs.is_refused.Symbol.{name as #channels·is-refused}
 use Rattle.channels.proofs.is_refused.Met as asks-thm
 use Rattle.channels.proofs.refusal as refuses′
 use Rattle.channels.proofs.refusal.Symbol as refuses-def
-use Rattle.channels.proofs.refusal.Symbol.{name as #req-channels·refusal}
+use Rattle.channels.proofs.refusal.Symbol.{name as #channels·refusal}
 use Rattle.channels.proofs.refusal.Met as refuses-thm
 use Rattle.channels.proofs.list.read as read
 use Rattle.channels.proofs.list.read.Symbol as read-def
-use Rattle.channels.proofs.list.read.Symbol.{name as #req-channels·list·read}
+use Rattle.channels.proofs.list.read.Symbol.{name as #channels·list·read}
 use Rattle.channels.proofs.list.read.Met as read-thm
 use Rattle.channels.proofs.best as best
 use Rattle.channels.proofs.best.Symbol as best-def
-use Rattle.channels.proofs.best.Symbol.{name as #req-channels·best}
+use Rattle.channels.proofs.best.Symbol.{name as #channels·best}
 use Rattle.channels.proofs.best.Met as best-thm
 use Rattle.channels.proofs.set_in as set-in
 use Rattle.channels.proofs.set_in.Symbol as set-in-def
-use Rattle.channels.proofs.set_in.Symbol.{name as #req-channels·set-in}
+use Rattle.channels.proofs.set_in.Symbol.{name as #channels·set-in}
 use Rattle.channels.proofs.set_in.Met as set-in-thm
 use Rattle.channels.proofs.list.mark as mark
 use Rattle.channels.proofs.list.mark.Symbol as mark-def
-use Rattle.channels.proofs.list.mark.Symbol.{name as #req-channels·list·mark}
+use Rattle.channels.proofs.list.mark.Symbol.{name as #channels·list·mark}
 use Rattle.channels.proofs.list.mark.Met as mark-thm
 use Rattle.channels.proofs.best_set.Key.{name as #f}
 use Rattle.channels.proofs.best_set as f
@@ -256,10 +256,10 @@ module _ {M : Type 1} (𝓤 : URA M) (H : Heap 𝓤) (A : Atoms 𝓤) (W : Given
   again-type = sliceTy (tyRef erased mut record-type)
 
   module _ (C : Calls 𝓤 H) (Λ : Loops 𝓤 H) (fm : FmC 𝓤 H (W .laws) C)
-      (known-asks : Triple 𝓤 (C #req-channels·is-refused) (Asks 𝓤 H A at-mem run))
-      (known-refuses : Triple 𝓤 (C #req-channels·refusal) (Refuses 𝓤 H A at-mem run))
-      (known-read : Triple 𝓤 (C #req-channels·list·read) (Read 𝓤 H A at-mem run)) (known-best : Triple 𝓤 (C #req-channels·best) (Chooses 𝓤 H A at-mem run))
-      (known-set : Triple 𝓤 (C #req-channels·set-in) (SetIn 𝓤 H A at-mem run)) (known-mark : Triple 𝓤 (C #req-channels·list·mark) (Mark 𝓤 H A at-mem run)) where
+      (known-asks : Triple 𝓤 (C #channels·is-refused) (Asks 𝓤 H A at-mem run))
+      (known-refuses : Triple 𝓤 (C #channels·refusal) (Refuses 𝓤 H A at-mem run))
+      (known-read : Triple 𝓤 (C #channels·list·read) (Read 𝓤 H A at-mem run)) (known-best : Triple 𝓤 (C #channels·best) (Chooses 𝓤 H A at-mem run))
+      (known-set : Triple 𝓤 (C #channels·set-in) (SetIn 𝓤 H A at-mem run)) (known-mark : Triple 𝓤 (C #channels·list·mark) (Mark 𝓤 H A at-mem run)) where
     module _ (gn : Room T.the-row n) (gu : u < 2 ^ 32) (gg : g < 2 ^ 32) (l₀ l₁ l₂ l₃ l₄ l₅ l₆ l₇ l₈ l₉ m₀ m₁ m₂ m₃ : ℕ) where
       abbrev En : Env 𝓤 H
       En =
@@ -450,9 +450,9 @@ module _ {M : Type 1} (𝓤 : URA M) (H : Heap 𝓤) (A : Atoms 𝓤) (W : Given
         starts gn gu gg l₀ l₁ l₂ l₃ l₄ l₅ l₆ l₇ l₈ l₉ m₀ m₁ m₂ m₃))))))))))))))
 
 module _ {M : Type 1} (𝓤 : URA M) (H : Heap 𝓤) (A : Atoms 𝓤) (W : Given 𝓤 H A) (at-mem : Memory → SProp 𝓤) (run : Routine → Fun 𝓤) (𝓣 : Tables 𝓤 H)
-    (a : Triple 𝓤 (𝓣 .C #req-channels·is-refused) (Asks 𝓤 H A at-mem run)) (b : Triple 𝓤 (𝓣 .C #req-channels·refusal) (Refuses 𝓤 H A at-mem run))
-    (c : Triple 𝓤 (𝓣 .C #req-channels·list·read) (Read 𝓤 H A at-mem run)) (d : Triple 𝓤 (𝓣 .C #req-channels·best) (Chooses 𝓤 H A at-mem run))
-    (e : Triple 𝓤 (𝓣 .C #req-channels·set-in) (SetIn 𝓤 H A at-mem run)) (h : Triple 𝓤 (𝓣 .C #req-channels·list·mark) (Mark 𝓤 H A at-mem run)) where
+    (a : Triple 𝓤 (𝓣 .C #channels·is-refused) (Asks 𝓤 H A at-mem run)) (b : Triple 𝓤 (𝓣 .C #channels·refusal) (Refuses 𝓤 H A at-mem run))
+    (c : Triple 𝓤 (𝓣 .C #channels·list·read) (Read 𝓤 H A at-mem run)) (d : Triple 𝓤 (𝓣 .C #channels·best) (Chooses 𝓤 H A at-mem run))
+    (e : Triple 𝓤 (𝓣 .C #channels·set-in) (SetIn 𝓤 H A at-mem run)) (h : Triple 𝓤 (𝓣 .C #channels·list·mark) (Mark 𝓤 H A at-mem run)) where
   f-walks : Walks 𝓤 H A f.ended stayed (WpFn 𝓤 H (𝓣 .C) (𝓣 .Λ) code.function) (f.clauses 𝓤 H A at-mem run)
   f-walks =
       walked 𝓤 H A f.ended stayed (f.clauses 𝓤 H A at-mem run) (WpFn 𝓤 H (𝓣 .C) (𝓣 .Λ) code.function)
@@ -476,14 +476,14 @@ best-set-spec 𝓤 H 𝓜 𝓖 𝓡 =
     entered 𝓤 H (tripleOf 𝓤 H (𝓖 .A) f.signature (f.spec 𝓤 H (𝓖 .A) (𝓜 .mem) (𝓡 .run)))
     (tables 𝓤 H 𝓜 𝓡 code.env .C) (tables 𝓤 H 𝓜 𝓡 code.env .Λ) #f code.function (code.unfolded 𝓤 H 𝓜 𝓡)
     (f-meets 𝓤 H (𝓖 .A) (givenOf 𝓤 H 𝓜 𝓖) (𝓜 .mem) (𝓡 .run) (tablesOf 𝓤 H 𝓜 (tables 𝓤 H 𝓜 𝓡 code.env))
-    (cited 𝓤 H (Asks 𝓤 H (𝓖 .A) (𝓜 .mem) (𝓡 .run)) 𝓜 𝓡 code.env #req-channels·is-refused asks-def.routine code.calls-req-channels·is-refused
+    (cited 𝓤 H (Asks 𝓤 H (𝓖 .A) (𝓜 .mem) (𝓡 .run)) 𝓜 𝓡 code.env #channels·is-refused asks-def.routine code.calls-channels·is-refused
     (asks-thm.met 𝓤 H 𝓜 𝓖 𝓡))
-    (cited 𝓤 H (Refuses 𝓤 H (𝓖 .A) (𝓜 .mem) (𝓡 .run)) 𝓜 𝓡 code.env #req-channels·refusal refuses-def.routine code.calls-req-channels·refusal
+    (cited 𝓤 H (Refuses 𝓤 H (𝓖 .A) (𝓜 .mem) (𝓡 .run)) 𝓜 𝓡 code.env #channels·refusal refuses-def.routine code.calls-channels·refusal
     (refuses-thm.met 𝓤 H 𝓜 𝓖 𝓡))
-    (cited 𝓤 H (Read 𝓤 H (𝓖 .A) (𝓜 .mem) (𝓡 .run)) 𝓜 𝓡 code.env #req-channels·list·read read-def.routine code.calls-req-channels·list·read
+    (cited 𝓤 H (Read 𝓤 H (𝓖 .A) (𝓜 .mem) (𝓡 .run)) 𝓜 𝓡 code.env #channels·list·read read-def.routine code.calls-channels·list·read
     (read-thm.met 𝓤 H 𝓜 𝓖 𝓡))
-    (cited 𝓤 H (Chooses 𝓤 H (𝓖 .A) (𝓜 .mem) (𝓡 .run)) 𝓜 𝓡 code.env #req-channels·best best-def.routine code.calls-req-channels·best (best-thm.met 𝓤 H 𝓜 𝓖 𝓡))
-    (cited 𝓤 H (SetIn 𝓤 H (𝓖 .A) (𝓜 .mem) (𝓡 .run)) 𝓜 𝓡 code.env #req-channels·set-in set-in-def.routine code.calls-req-channels·set-in
+    (cited 𝓤 H (Chooses 𝓤 H (𝓖 .A) (𝓜 .mem) (𝓡 .run)) 𝓜 𝓡 code.env #channels·best best-def.routine code.calls-channels·best (best-thm.met 𝓤 H 𝓜 𝓖 𝓡))
+    (cited 𝓤 H (SetIn 𝓤 H (𝓖 .A) (𝓜 .mem) (𝓡 .run)) 𝓜 𝓡 code.env #channels·set-in set-in-def.routine code.calls-channels·set-in
     (set-in-thm.met 𝓤 H 𝓜 𝓖 𝓡))
-    (cited 𝓤 H (Mark 𝓤 H (𝓖 .A) (𝓜 .mem) (𝓡 .run)) 𝓜 𝓡 code.env #req-channels·list·mark mark-def.routine code.calls-req-channels·list·mark
+    (cited 𝓤 H (Mark 𝓤 H (𝓖 .A) (𝓜 .mem) (𝓡 .run)) 𝓜 𝓡 code.env #channels·list·mark mark-def.routine code.calls-channels·list·mark
     (mark-thm.met 𝓤 H 𝓜 𝓖 𝓡)))

@@ -52,11 +52,11 @@ use Rattle.channels.proofs.Answer as R
 use Rattle.channels.proofs.Answer.Laws as R′
 use Rattle.bus_time.proofs.in_use as time
 use Rattle.bus_time.proofs.in_use.Symbol as time-def
-use Rattle.bus_time.proofs.in_use.Symbol.{name as #req-bus-time·in-use}
+use Rattle.bus_time.proofs.in_use.Symbol.{name as #bus-time·in-use}
 use Rattle.bus_time.proofs.in_use.Met as time-thm
 use Rattle.channels.proofs.best_set as best
 use Rattle.channels.proofs.best_set.Symbol as best-def
-use Rattle.channels.proofs.best_set.Symbol.{name as #req-channels·best-set}
+use Rattle.channels.proofs.best_set.Symbol.{name as #channels·best-set}
 use Rattle.channels.proofs.best_set.Met as best-thm
 use Rattle.survey_c.proofs.rooms.best_into as into
 use Rattle.survey_c.proofs.rooms.best_into.Symbol as into-def
@@ -262,8 +262,8 @@ module _ {M : Type 1} (𝓤 : URA M) (H : Heap 𝓤) (A : Atoms 𝓤) (W : Given
 
   -- ---- the walk
 
-  module _ (C : Calls 𝓤 H) (Λ : Loops 𝓤 H) (fm : FmC 𝓤 H (W .laws) C) (known-time : Triple 𝓤 (C #req-bus-time·in-use) (Asks 𝓤 H A at-mem run))
-      (known-best : Triple 𝓤 (C #req-channels·best-set) (Best 𝓤 H A at-mem run))
+  module _ (C : Calls 𝓤 H) (Λ : Loops 𝓤 H) (fm : FmC 𝓤 H (W .laws) C) (known-time : Triple 𝓤 (C #bus-time·in-use) (Asks 𝓤 H A at-mem run))
+      (known-best : Triple 𝓤 (C #channels·best-set) (Best 𝓤 H A at-mem run))
       (known-into : Triple 𝓤 (C #survey-c·rooms·best-into) (Into 𝓤 H A at-mem run)) where
     module _ (gn : Room T.the-row n) (gg : g < 2 ^ 32) (l₀ l₁ l₂ l₃ l₄ l₅ l₆ l₇ l₈ l₉ m₀ m₁ m₂ m₃ : ℕ) where
       abbrev En : Env 𝓤 H
@@ -389,7 +389,7 @@ module _ {M : Type 1} (𝓤 : URA M) (H : Heap 𝓤) (A : Atoms 𝓤) (W : Given
         starts gn gg l₀ l₁ l₂ l₃ l₄ l₅ l₆ l₇ l₈ l₉ m₀ m₁ m₂ m₃))))))))))))))
 
 module _ {M : Type 1} (𝓤 : URA M) (H : Heap 𝓤) (A : Atoms 𝓤) (W : Given 𝓤 H A) (at-mem : Memory → SProp 𝓤) (run : Routine → Fun 𝓤) (𝓣 : Tables 𝓤 H)
-    (a : Triple 𝓤 (𝓣 .C #req-bus-time·in-use) (Asks 𝓤 H A at-mem run)) (b : Triple 𝓤 (𝓣 .C #req-channels·best-set) (Best 𝓤 H A at-mem run))
+    (a : Triple 𝓤 (𝓣 .C #bus-time·in-use) (Asks 𝓤 H A at-mem run)) (b : Triple 𝓤 (𝓣 .C #channels·best-set) (Best 𝓤 H A at-mem run))
     (c : Triple 𝓤 (𝓣 .C #survey-c·rooms·best-into) (Into 𝓤 H A at-mem run)) where
   f-walks : Walks 𝓤 H A f.ended stayed (WpFn 𝓤 H (𝓣 .C) (𝓣 .Λ) code.function) (f.clauses 𝓤 H A at-mem run)
   f-walks =
@@ -434,8 +434,8 @@ usbhs-best-set-spec 𝓤 H 𝓜 𝓖 𝓡 =
     entered 𝓤 H (tripleOf 𝓤 H (𝓖 .A) f.signature (f.spec 𝓤 H (𝓖 .A) (𝓜 .mem) (𝓡 .run)))
     (tables 𝓤 H 𝓜 𝓡 code.env .C) (tables 𝓤 H 𝓜 𝓡 code.env .Λ) #f code.function (code.unfolded 𝓤 H 𝓜 𝓡)
     (f-meets 𝓤 H (𝓖 .A) (givenOf 𝓤 H 𝓜 𝓖) (𝓜 .mem) (𝓡 .run) (tablesOf 𝓤 H 𝓜 (tables 𝓤 H 𝓜 𝓡 code.env))
-    (cited 𝓤 H (Asks 𝓤 H (𝓖 .A) (𝓜 .mem) (𝓡 .run)) 𝓜 𝓡 code.env #req-bus-time·in-use time-def.routine code.calls-req-bus-time·in-use (time-thm.met 𝓤 H 𝓜 𝓖 𝓡))
-    (cited 𝓤 H (Best 𝓤 H (𝓖 .A) (𝓜 .mem) (𝓡 .run)) 𝓜 𝓡 code.env #req-channels·best-set best-def.routine code.calls-req-channels·best-set
+    (cited 𝓤 H (Asks 𝓤 H (𝓖 .A) (𝓜 .mem) (𝓡 .run)) 𝓜 𝓡 code.env #bus-time·in-use time-def.routine code.calls-bus-time·in-use (time-thm.met 𝓤 H 𝓜 𝓖 𝓡))
+    (cited 𝓤 H (Best 𝓤 H (𝓖 .A) (𝓜 .mem) (𝓡 .run)) 𝓜 𝓡 code.env #channels·best-set best-def.routine code.calls-channels·best-set
     (best-thm.met 𝓤 H 𝓜 𝓖 𝓡))
     (cited 𝓤 H (Into 𝓤 H (𝓖 .A) (𝓜 .mem) (𝓡 .run)) 𝓜 𝓡 code.env #survey-c·rooms·best-into into-def.routine code.calls-survey-c·rooms·best-into
     (into-thm.met 𝓤 H 𝓜 𝓖 𝓡)))

@@ -57,7 +57,7 @@ use Rattle.channels.proofs.Channel as T
 use Rattle.channels.proofs.Channel.Laws as T′
 use Rattle.channels.proofs.list.flag as flag′
 use Rattle.channels.proofs.list.flag.Symbol as flag′-def
-use Rattle.channels.proofs.list.flag.Symbol.{name as #req-channels·list·flag}
+use Rattle.channels.proofs.list.flag.Symbol.{name as #channels·list·flag}
 use Rattle.channels.proofs.list.flag.Met as flag′-thm
 use Rattle.channels.proofs.Walks.{word, then}
 use Rattle.channels.proofs.list.mark.Key.{name as #f}
@@ -173,7 +173,7 @@ module _ {M : Type 1} (𝓤 : URA M) (H : Heap 𝓤) (A : Atoms 𝓤) (W : Given
   made i low was = let g = LL.owed T.the-type T′.the-laws (h i) (LL.vals T.the-type T′.the-laws (h i)) was in
       LL.owes T.the-type T′.the-laws (h′ i) (g .0, (g .1 .0, ((refl, low), tt)))
 
-  module _ (𝓣 : Tables 𝓤 H) (known : Triple 𝓤 (𝓣 .C #req-channels·list·flag) (Flag 𝓤 H A at-mem run))
+  module _ (𝓣 : Tables 𝓤 H) (known : Triple 𝓤 (𝓣 .C #channels·list·flag) (Flag 𝓤 H A at-mem run))
       (gn : Room T.the-row n) (gw : w < 2 ^ 32) (few : n ≤ 16) (l₀ l₁ l₂ l₃ l₄ l₅ l₆ l₇ : ℕ) where
     abbrev C : Calls 𝓤 H
     C = 𝓣 .C
@@ -259,7 +259,7 @@ module _ {M : Type 1} (𝓤 : URA M) (H : Heap 𝓤) (A : Atoms 𝓤) (W : Given
         next : Holds (ltb (i .0) n) → Upto
         next less = (i .0 + 1, add-one-le (ltb→lt (i .0) n less))
 
-  walk : (𝓣 : Tables 𝓤 H) → Triple 𝓤 (𝓣 .C #req-channels·list·flag) (Flag 𝓤 H A at-mem run) → Room T.the-row n → w < 2 ^ 32 → n ≤ 16
+  walk : (𝓣 : Tables 𝓤 H) → Triple 𝓤 (𝓣 .C #channels·list·flag) (Flag 𝓤 H A at-mem run) → Room T.the-row n → w < 2 ^ 32 → n ≤ 16
       → ent 𝓤 (onEntry 𝓤 H A f.signature (κ, tt) (q, tt) x at) (WpFn 𝓤 H (𝓣 .C) (𝓣 .Λ) code.function (sliceVal (b, o) n ∷ vint w32 w ∷ []) Post)
   walk 𝓣 known gn gw few =
       qed W ((‵ (flft κ q) ⊛ ‵ ftrue) ∷ ‵ (owns (MutSlice (named 0) κ T.the-row ∷ u32 ∷ []) x at) ∷ []) ∵ enter !
@@ -277,7 +277,7 @@ module _ {M : Type 1} (𝓤 : URA M) (H : Heap 𝓤) (A : Atoms 𝓤) (W : Given
       loops ! 𝓣 Nearer Nearer-wf (At 𝓣 known gn gw few l₀ l₁ l₂ l₃ l₄ l₅ l₆ l₇) (turns 𝓣 known gn gw few l₀ l₁ l₂ l₃ l₄ l₅ l₆ l₇) (0, zero-le)))))))))
 
 module _ {M : Type 1} (𝓤 : URA M) (H : Heap 𝓤) (A : Atoms 𝓤) (W : Given 𝓤 H A) (at-mem : Memory → SProp 𝓤) (run : Routine → Fun 𝓤) where
-  f-walks : (𝓣 : Tables 𝓤 H) → Triple 𝓤 (𝓣 .C #req-channels·list·flag) (Flag 𝓤 H A at-mem run)
+  f-walks : (𝓣 : Tables 𝓤 H) → Triple 𝓤 (𝓣 .C #channels·list·flag) (Flag 𝓤 H A at-mem run)
       → Walks 𝓤 H A f.ended stayed (WpFn 𝓤 H (𝓣 .C) (𝓣 .Λ) code.function) (f.clauses 𝓤 H A at-mem run)
   f-walks 𝓣 known = walked 𝓤 H A f.ended stayed (f.clauses 𝓤 H A at-mem run) (WpFn 𝓤 H (𝓣 .C) (𝓣 .Λ) code.function)
       (λ κs. (slice-vals, (uint-vals w32, tt))) (λ κs. (mut-slice-tells (named 0) (κs .0) T.the-row, (uint-tells w32, tt)))
@@ -285,7 +285,7 @@ module _ {M : Type 1} (𝓤 : URA M) (H : Heap 𝓤) (A : Atoms 𝓤) (W : Given
       walk 𝓤 H A W at-mem run (κs .0) (qs .0) (a .0 .ptr .0) (a .0 .ptr .1) (a .0 .name) (a .0 .now) (a .1 .0) 𝓣 known (are .0 .0 .1) (are .1 .0 .1) few))
 
 f-meets : {M : Type 1} (𝓤 : URA M) (H : Heap 𝓤) (A : Atoms 𝓤) → Given 𝓤 H A → (at-mem : Memory → SProp 𝓤) (run : Routine → Fun 𝓤) (𝓣 : Tables 𝓤 H)
-    → Triple 𝓤 (𝓣 .C #req-channels·list·flag) (Flag 𝓤 H A at-mem run) → Meets 𝓤 H A f.signature (WpFn 𝓤 H (𝓣 .C) (𝓣 .Λ) code.function) (f.spec 𝓤 H A at-mem run)
+    → Triple 𝓤 (𝓣 .C #channels·list·flag) (Flag 𝓤 H A at-mem run) → Meets 𝓤 H A f.signature (WpFn 𝓤 H (𝓣 .C) (𝓣 .Λ) code.function) (f.spec 𝓤 H A at-mem run)
 f-meets 𝓤 H A W at-mem run 𝓣 known = walk-meets 𝓤 H A f.ended stayed W (
   goes-slice 𝓤 H A W 1 0 tt (plain (λ _. T.the-row)),
   (goes-none 𝓤 H A W 1 (λ _. u32) yes (λ κs x f. refl), tt),
@@ -298,5 +298,5 @@ mark-spec 𝓤 H 𝓜 𝓖 𝓡 =
     entered 𝓤 H (tripleOf 𝓤 H (𝓖 .A) f.signature (f.spec 𝓤 H (𝓖 .A) (𝓜 .mem) (𝓡 .run)))
     (tables 𝓤 H 𝓜 𝓡 code.env .C) (tables 𝓤 H 𝓜 𝓡 code.env .Λ) #f code.function (code.unfolded 𝓤 H 𝓜 𝓡)
     (f-meets 𝓤 H (𝓖 .A) (givenOf 𝓤 H 𝓜 𝓖) (𝓜 .mem) (𝓡 .run) (tablesOf 𝓤 H 𝓜 (tables 𝓤 H 𝓜 𝓡 code.env))
-    (cited 𝓤 H (Flag 𝓤 H (𝓖 .A) (𝓜 .mem) (𝓡 .run)) 𝓜 𝓡 code.env #req-channels·list·flag flag′-def.routine code.calls-req-channels·list·flag
+    (cited 𝓤 H (Flag 𝓤 H (𝓖 .A) (𝓜 .mem) (𝓡 .run)) 𝓜 𝓡 code.env #channels·list·flag flag′-def.routine code.calls-channels·list·flag
     (flag′-thm.met 𝓤 H 𝓜 𝓖 𝓡)))

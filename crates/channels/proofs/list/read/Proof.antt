@@ -59,11 +59,11 @@ use Rattle.channels.proofs.list.Lists as L
 use Rattle.channels.proofs.list.Lists.Laws as L′
 use Rattle.channels.proofs.list.none as nil
 use Rattle.channels.proofs.list.none.Symbol as nil-def
-use Rattle.channels.proofs.list.none.Symbol.{name as #req-channels·list·none}
+use Rattle.channels.proofs.list.none.Symbol.{name as #channels·list·none}
 use Rattle.channels.proofs.list.none.Met as nil-thm
 use Rattle.channels.proofs.list.put as put
 use Rattle.channels.proofs.list.put.Symbol as put-def
-use Rattle.channels.proofs.list.put.Symbol.{name as #req-channels·list·put}
+use Rattle.channels.proofs.list.put.Symbol.{name as #channels·list·put}
 use Rattle.channels.proofs.list.put.Met as put-thm
 use Rattle.channels.proofs.Walks.{word, then}
 use Rattle.channels.proofs.list.read.Key.{name as #f}
@@ -183,7 +183,7 @@ module _ {M : Type 1} (𝓤 : URA M) (H : Heap 𝓤) (A : Atoms 𝓤) (W : Given
   Nearer-wf : WellFounded Nearer
   Nearer-wf = InvImage·wf (λ (u : Upto). n - u .i) (Nat·lt-wfRel .wf)
 
-  module _ (𝓣 : Tables 𝓤 H) (known : Triple 𝓤 (𝓣 .C #req-channels·list·put) (Put 𝓤 H A at-mem run))
+  module _ (𝓣 : Tables 𝓤 H) (known : Triple 𝓤 (𝓣 .C #channels·list·put) (Put 𝓤 H A at-mem run))
       (gn : Room T.the-row n) (few : n ≤ 16) (l₀ l₁ l₂ l₃ l₄ l₅ l₆ l₇ l₈ l₉ : ℕ) where
     abbrev C : Calls 𝓤 H
     C = 𝓣 .C
@@ -281,8 +281,8 @@ module _ {M : Type 1} (𝓤 : URA M) (H : Heap 𝓤) (A : Atoms 𝓤) (W : Given
         move ! (1 ∷ 0 ∷ []) $
         by ! (exits (acc (u .i)) (u .v) (ap acc (le-antisymm (u .le) (nltb→le (u .i) n over))) (u .is)))
 
-  walk : (𝓣 : Tables 𝓤 H) → Triple 𝓤 (𝓣 .C #req-channels·list·none) (Nil 𝓤 H A at-mem run)
-      → Triple 𝓤 (𝓣 .C #req-channels·list·put) (Put 𝓤 H A at-mem run) → Room T.the-row n → n ≤ 16
+  walk : (𝓣 : Tables 𝓤 H) → Triple 𝓤 (𝓣 .C #channels·list·none) (Nil 𝓤 H A at-mem run)
+      → Triple 𝓤 (𝓣 .C #channels·list·put) (Put 𝓤 H A at-mem run) → Room T.the-row n → n ≤ 16
       → ent 𝓤 (onEntry 𝓤 H A f.signature (κ, tt) (q, tt) x at) (WpFn 𝓤 H (𝓣 .C) (𝓣 .Λ) code.function (sliceVal (b, o) n ∷ []) Post)
   walk 𝓣 known-nil known gn few =
       qed W ((‵ (flft κ q) ⊛ ‵ ftrue) ∷ ‵ (owns (ShrSlice (named 0) κ T.the-row ∷ []) x at) ∷ []) ∵ enter !
@@ -314,8 +314,8 @@ module _ {M : Type 1} (𝓤 : URA M) (H : Heap 𝓤) (A : Atoms 𝓤) (W : Given
       })))))))))))))))
 
 module _ {M : Type 1} (𝓤 : URA M) (H : Heap 𝓤) (A : Atoms 𝓤) (W : Given 𝓤 H A) (at-mem : Memory → SProp 𝓤) (run : Routine → Fun 𝓤) where
-  f-walks : (𝓣 : Tables 𝓤 H) → Triple 𝓤 (𝓣 .C #req-channels·list·none) (Nil 𝓤 H A at-mem run)
-      → Triple 𝓤 (𝓣 .C #req-channels·list·put) (Put 𝓤 H A at-mem run)
+  f-walks : (𝓣 : Tables 𝓤 H) → Triple 𝓤 (𝓣 .C #channels·list·none) (Nil 𝓤 H A at-mem run)
+      → Triple 𝓤 (𝓣 .C #channels·list·put) (Put 𝓤 H A at-mem run)
       → Walks 𝓤 H A f.ended stayed (WpFn 𝓤 H (𝓣 .C) (𝓣 .Λ) code.function) (f.clauses 𝓤 H A at-mem run)
   f-walks 𝓣 known-nil known = walked 𝓤 H A f.ended stayed (f.clauses 𝓤 H A at-mem run) (WpFn 𝓤 H (𝓣 .C) (𝓣 .Λ) code.function)
       (λ κs. (slice-vals, tt)) (λ κs. (shr-slice-tells (named 0) (κs .0) T.the-row, tt))
@@ -323,7 +323,7 @@ module _ {M : Type 1} (𝓤 : URA M) (H : Heap 𝓤) (A : Atoms 𝓤) (W : Given
       walk 𝓤 H A W at-mem run (κs .0) (qs .0) (a .0 .ptr .0) (a .0 .ptr .1) (a .0 .name) (a .0 .now) 𝓣 known-nil known (are .0 .0 .1) few))
 
 f-meets : {M : Type 1} (𝓤 : URA M) (H : Heap 𝓤) (A : Atoms 𝓤) → Given 𝓤 H A → (at-mem : Memory → SProp 𝓤) (run : Routine → Fun 𝓤) (𝓣 : Tables 𝓤 H)
-    → Triple 𝓤 (𝓣 .C #req-channels·list·none) (Nil 𝓤 H A at-mem run) → Triple 𝓤 (𝓣 .C #req-channels·list·put) (Put 𝓤 H A at-mem run)
+    → Triple 𝓤 (𝓣 .C #channels·list·none) (Nil 𝓤 H A at-mem run) → Triple 𝓤 (𝓣 .C #channels·list·put) (Put 𝓤 H A at-mem run)
     → Meets 𝓤 H A f.signature (WpFn 𝓤 H (𝓣 .C) (𝓣 .Λ) code.function) (f.spec 𝓤 H A at-mem run)
 f-meets 𝓤 H A W at-mem run 𝓣 known-nil known =
     walk-meets 𝓤 H A f.ended stayed W (goes-none-slice 𝓤 H A W 1 (0 ∷ []) tt (plain (λ _. T.the-row)) yes, tt)
@@ -336,6 +336,6 @@ read-spec 𝓤 H 𝓜 𝓖 𝓡 =
     entered 𝓤 H (tripleOf 𝓤 H (𝓖 .A) f.signature (f.spec 𝓤 H (𝓖 .A) (𝓜 .mem) (𝓡 .run)))
     (tables 𝓤 H 𝓜 𝓡 code.env .C) (tables 𝓤 H 𝓜 𝓡 code.env .Λ) #f code.function (code.unfolded 𝓤 H 𝓜 𝓡)
     (f-meets 𝓤 H (𝓖 .A) (givenOf 𝓤 H 𝓜 𝓖) (𝓜 .mem) (𝓡 .run) (tablesOf 𝓤 H 𝓜 (tables 𝓤 H 𝓜 𝓡 code.env))
-    (cited 𝓤 H (Nil 𝓤 H (𝓖 .A) (𝓜 .mem) (𝓡 .run)) 𝓜 𝓡 code.env #req-channels·list·none nil-def.routine code.calls-req-channels·list·none
+    (cited 𝓤 H (Nil 𝓤 H (𝓖 .A) (𝓜 .mem) (𝓡 .run)) 𝓜 𝓡 code.env #channels·list·none nil-def.routine code.calls-channels·list·none
     (nil-thm.met 𝓤 H 𝓜 𝓖 𝓡))
-    (cited 𝓤 H (Put 𝓤 H (𝓖 .A) (𝓜 .mem) (𝓡 .run)) 𝓜 𝓡 code.env #req-channels·list·put put-def.routine code.calls-req-channels·list·put (put-thm.met 𝓤 H 𝓜 𝓖 𝓡)))
+    (cited 𝓤 H (Put 𝓤 H (𝓖 .A) (𝓜 .mem) (𝓡 .run)) 𝓜 𝓡 code.env #channels·list·put put-def.routine code.calls-channels·list·put (put-thm.met 𝓤 H 𝓜 𝓖 𝓡)))
