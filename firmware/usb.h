@@ -7,7 +7,9 @@
 
 /* An isochronous OUT takes 16 buffers, an isochronous IN 2, EP0 one. */
 #define USB_BUFFER 64u
+#ifndef USB_BUFFERS
 #define USB_BUFFERS (16u + 2u + 1u)
+#endif
 
 extern uint8_t usb_state[USBHS_STATE_LEN];
 extern uint8_t usb_slots[USB_BUFFERS * USB_BUFFER];
