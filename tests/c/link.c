@@ -218,6 +218,21 @@ static void together(uint8_t *state, uint8_t *slots, uint16_t *time)
     expect("together: nothing else", USBHS_KIND(usbhs_continue_transfer(state, slots, 64, time, 0, 0, 0, 0)), USBHS_END);
 }
 
+/* A state or slots on no word boundary: start-up is refused with 24 and touches nothing. */
+static void misaligned(void)
+{
+    static uint8_t room[USBHS_STATE_LEN + 4] __attribute__((aligned(4)));
+    static uint8_t buffers[64 + 4] __attribute__((aligned(4)));
+    static uint16_t time[USBHS_TIME_LEN];
+
+    for (unsigned odd = 1; odd < 4; odd++) {
+        expect("odd state", USBHS_ROW(usbhs_start_up(room + odd, buffers, 64, time, 0, 64, 1, 0)), USBHS_ROW_MISALIGNED);
+        expect("odd slots", USBHS_ROW(usbhs_start_up(room, buffers + odd, 64, time, 0, 64, 1, 0)), USBHS_ROW_MISALIGNED);
+    }
+    for (unsigned i = 0; i < sizeof room; i++)
+        expect("untouched", room[i], 0);
+}
+
 int main(void)
 {
     static uint8_t state[USBHS_STATE_LEN];
@@ -259,6 +274,7 @@ int main(void)
     expect("write: endpoint", USBHS_ENDPOINT(word), 3);
     expect("write: value", USBHS_VALUE(word), 0xFFFFFFFFu);
 
+    misaligned();
     wake_ups(state, slots, time);
     together(state, slots, time);
     listed(4);
