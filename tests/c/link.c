@@ -7,7 +7,7 @@
 #define DRIVERS 4
 #define SLOTS_LENGTH (4u * 1024)
 
-static uint8_t states[DRIVERS][USBHS_STATE_LEN];
+static uint8_t states[DRIVERS][(USBHS_STATE_LEN + 3) / 4 * 4] __attribute__((aligned(4)));
 static uint8_t buffers[DRIVERS][SLOTS_LENGTH];
 static uint16_t shared[USBHS_TIME_LEN];
 
@@ -128,7 +128,8 @@ static void previewed(const char *what, const uint8_t *state, unsigned count, un
 /* A board's endpoints on `count` buffers of 512 bytes: the first takes two, the others one each. */
 static void listed(unsigned count)
 {
-    static uint8_t state[USBHS_STATE_LEN], before[USBHS_STATE_LEN], slots[4 * 512];
+    static uint8_t state[USBHS_STATE_LEN] __attribute__((aligned(4))), before[USBHS_STATE_LEN];
+    static uint8_t slots[4 * 512] __attribute__((aligned(4)));
     static uint16_t time[USBHS_TIME_LEN];
     uint8_t clash[sizeof board];
     uint8_t numbers[USBHS_NUMBERS_LEN] = {7};
@@ -175,7 +176,7 @@ static void listed(unsigned count)
    leaves the interrupt where it is asked for. */
 static void together(uint8_t *state, uint8_t *slots, uint16_t *time)
 {
-    static uint8_t copy[USBHS_STATE_LEN];
+    static uint8_t copy[USBHS_STATE_LEN] __attribute__((aligned(4)));
     uint64_t word;
     unsigned wide;
 
@@ -235,7 +236,7 @@ static void misaligned(void)
 
 int main(void)
 {
-    static uint8_t state[USBHS_STATE_LEN];
+    static uint8_t state[USBHS_STATE_LEN] __attribute__((aligned(4)));
     static uint8_t slots[64];
     static uint8_t room[USBHS_MOST_WAKES];
     static uint16_t time[USBHS_TIME_LEN];
