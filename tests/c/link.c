@@ -8,7 +8,7 @@
 #define SLOTS_LENGTH (4u * 1024)
 
 static uint8_t states[DRIVERS][(USBHS_STATE_LEN + 3) / 4 * 4] __attribute__((aligned(4)));
-static uint8_t buffers[DRIVERS][SLOTS_LENGTH];
+static uint8_t buffers[DRIVERS][SLOTS_LENGTH] __attribute__((aligned(4)));
 static uint16_t shared[USBHS_TIME_LEN];
 
 /* Goes on to the operation's end. */
@@ -129,7 +129,7 @@ static void previewed(const char *what, const uint8_t *state, unsigned count, un
 static void listed(unsigned count)
 {
     static uint8_t state[USBHS_STATE_LEN] __attribute__((aligned(4))), before[USBHS_STATE_LEN];
-    static uint8_t slots[4 * 512] __attribute__((aligned(4)));
+    static uint8_t slots[4 * 512] __attribute__((aligned(4))) __attribute__((aligned(4)));
     static uint16_t time[USBHS_TIME_LEN];
     uint8_t clash[sizeof board];
     uint8_t numbers[USBHS_NUMBERS_LEN] = {7};
@@ -237,7 +237,7 @@ static void misaligned(void)
 int main(void)
 {
     static uint8_t state[USBHS_STATE_LEN] __attribute__((aligned(4)));
-    static uint8_t slots[64];
+    static uint8_t slots[64] __attribute__((aligned(4)));
     static uint8_t room[USBHS_MOST_WAKES];
     static uint16_t time[USBHS_TIME_LEN];
     uint16_t stamp = 7;
