@@ -1,6 +1,5 @@
 #include "usb.h"
 #include "board.h"
-#include "descriptors.h"
 #include "tasks.h"
 
 /* The chip wants the slots on a word boundary, and copies are faster with the state on one. */
