@@ -56,4 +56,9 @@ void device_request(const uint8_t setup[8])
 void device_finish(void)
 {
     recorder_finish();
+    print("device: ");
+    print_number(recorder_packets());
+    print(" packets recorded, ");
+    print_number(usbhs_overruns(usb_state, SAMPLES_OUT));
+    print(" overruns\n");
 }
