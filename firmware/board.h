@@ -19,6 +19,9 @@ void board_wait(unsigned microseconds);
  * this. */
 void board_sleep(void);
 
+/* In place of the sleep while something waits for time to pass: returns soon, interrupt or not. */
+void board_pause(void);
+
 /* Whether this mcause is the USBHS block's interrupt. */
 int board_usb_interrupt(uint32_t cause);
 
