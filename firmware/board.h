@@ -15,6 +15,9 @@ void board_start(void);
 
 void board_wait(unsigned microseconds);
 
+/* The board's own, for the host to tell two apart. */
+const char *board_serial_number(void);
+
 /* Until an interrupt is pending. Called with interrupts off, so that none is taken between the look for work and
  * this. */
 void board_sleep(void);

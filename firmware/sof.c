@@ -40,6 +40,11 @@ void sof_write(unsigned number, unsigned endpoint, uint32_t value)
     }
 }
 
+int sof_is_on(void)
+{
+    return on;
+}
+
 void sof_transfer(int under_way)
 {
     uint32_t before = interrupts_off();

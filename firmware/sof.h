@@ -16,4 +16,7 @@ void sof_write(unsigned number, unsigned endpoint, uint32_t value);
 /* A control transfer begins, or is over. */
 void sof_transfer(int under_way);
 
+/* Whether SOFs interrupt now. */
+int sof_is_on(void);
+
 #endif

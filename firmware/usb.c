@@ -1,6 +1,5 @@
 #include "usb.h"
 #include "board.h"
-#include "descriptors.h"
 #include "look.h"
 #include "sof.h"
 #include "tasks.h"

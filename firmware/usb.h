@@ -2,12 +2,9 @@
 #ifndef USB_H
 #define USB_H
 
+#include <descriptors.h> /* the device's: where the compiler's -I finds it */
 #include "interrupts.h"
 #include "usbhs.h"
-
-/* An isochronous OUT takes 16 buffers, an isochronous IN 2, EP0 one. */
-#define USB_BUFFER 64u
-#define USB_BUFFERS (16u + 2u + 1u)
 
 extern uint8_t usb_state[USBHS_STATE_LEN];
 extern uint8_t usb_slots[USB_BUFFERS * USB_BUFFER];

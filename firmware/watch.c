@@ -10,7 +10,7 @@
 /* Begun again so often and no more: whoever has not asked for 50 ms does not wait. */
 #define MOST_TIMES 50u
 
-static enum { NOTHING, PACKET, ADDRESS } watched;
+static enum { NOTHING, PACKET, ADDRESS, STATUS } watched;
 static const uint8_t *bytes;
 static unsigned count, since, times;
 static int is_last;
@@ -42,6 +42,11 @@ void watch_address(void)
     begin(ADDRESS);
 }
 
+void watch_status(void)
+{
+    begin(STATUS);
+}
+
 void watch_nothing(void)
 {
     watched = NOTHING;
@@ -55,12 +60,17 @@ static void again(void)
     if (watched == PACKET) {
         USB_OPERATE(word, usbhs_begin_data_in(usb_state, usb_slots, sizeof usb_slots, bytes, count, 1,
                                               (uint32_t)is_last));
-    } else {
+        (void)word;
+    } else if (watched == ADDRESS) {
         /* ends the stage; the poll then hands out the write of the address */
         USB_OPERATE(word, usbhs_begin_set_stalled(usb_state, 0, USBHS_IN, 0));
+        (void)word;
         control_task();
+    } else {
+        /* once: if it is NAKed again, it seems to be over again */
+        watched = NOTHING;
+        control_accept();
     }
-    (void)word;
 }
 
 int watch_look(void)
@@ -70,7 +80,7 @@ int watch_look(void)
     if (watched == NOTHING)
         return 0;
     now = microframe();
-    if (((now - since) & 16383) < (watched == PACKET ? PATIENCE : ADDRESS_PATIENCE))
+    if (((now - since) & 16383) < (watched == ADDRESS ? ADDRESS_PATIENCE : PATIENCE))
         return 1;
     since = now;
     if (++times > MOST_TIMES)

@@ -68,6 +68,11 @@ void board_wait(unsigned microseconds)
     (void)microseconds;
 }
 
+const char *board_serial_number(void)
+{
+    return "PROCESS";
+}
+
 int board_usb_interrupt(uint32_t cause)
 {
     return cause == (0x80000000u | EMULATOR_INTERRUPT);

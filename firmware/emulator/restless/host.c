@@ -6,7 +6,7 @@
  * each other after SHORTEST_GAP to LONGEST_GAP.
  *
  * It resets and enumerates the device over and over, turns the streams on, polls an isochronous IN and sends an
- * isochronous OUT in each microframe, and meanwhile reads the device descriptor again and again. */
+ * isochronous OUT in each microframe, and meanwhile reads the device descriptor and clears a halt, in turns. */
 #include "../host.h"
 #include <string.h>
 #include "../../console.h"
@@ -23,7 +23,7 @@
 #ifndef ENUMERATIONS
 #define ENUMERATIONS 20u
 #endif
-#ifndef READS /* of each enumeration, with the streams on */
+#ifndef READS /* control transfers of each enumeration, with the streams on */
 #define READS 25u
 #endif
 #ifndef OUT_FIRST /* of the two streams' tokens in a microframe */
@@ -72,7 +72,7 @@ enum failure { DONE, NO_ANSWER, TIMED_OUT, STALLED, BABBLE, WRONG_DATA, FAILURES
 
 static unsigned enumerations, enumerations_failed, reads, reads_failed, failures[FAILURES], dropped;
 
-/* What the host does, in this order; READ is done READS times. */
+/* What the host does, in this order; READ is done READS times, every second time a request without data. */
 static enum {
     FIRST_RESET, FIRST_DESCRIPTOR, SECOND_RESET, SET_ADDRESS, DESCRIPTOR, CONFIGURATION_HEAD, CONFIGURATION,
     SET_CONFIGURATION, SET_INTERFACE, READ, STOP, FINISHED
@@ -83,6 +83,9 @@ static const uint8_t setups[][8] = {
     {0x80, 6, 0, 2, 0, 0, 9, 0}, {0x80, 6, 0, 2, 0, 0, 255, 0}, {0x00, 9, 1, 0, 0, 0, 0, 0},
     {0x01, 11, 1, 0, 0, 0, 0, 0}, {0x80, 6, 0, 1, 0, 0, 18, 0}
 };
+
+/* Every second time in place of the read: CLEAR_FEATURE of the stream's halt, which has none; no data stage. */
+static const uint8_t clear_halt[8] = {0x02, 1, 0, 0, SAMPLES_OUT, 0, 0, 0};
 
 static enum { SETUP, DATA, STATUS_OUT, STATUS_IN_STAGE } stage;
 static uint8_t setup[8], answer[320];
@@ -99,9 +102,12 @@ static int before(uint32_t one, uint32_t other)
 static int right(void)
 {
     switch (action) {
+    case READ:
+        if (setup[0] == clear_halt[0])
+            return answered == 0;
+        /* fall through */
     case FIRST_DESCRIPTOR:
     case DESCRIPTOR:
-    case READ:
         return answered == DESCRIPTOR_DEVICE_LEN && memcmp(answer, descriptor_device, answered) == 0;
     case CONFIGURATION_HEAD:
         return answered == 9 && memcmp(answer, descriptor_configuration, 9) == 0;
@@ -117,7 +123,7 @@ static void begin(int next)
     action = next;
     stage = SETUP;
     tries = 0;
-    memcpy(setup, setups[action < STOP ? action : 0], 8);
+    memcpy(setup, action == READ && read_number % 2 == 1 ? clear_halt : setups[action < STOP ? action : 0], 8);
     if (action == SET_ADDRESS)
         setup[2] = (uint8_t)(next_address = next_address % 127 + 1);
     begins = 0;
@@ -459,7 +465,7 @@ int host_check(const unsigned char *card, unsigned length, unsigned overruns)
     print("restless: ");
     tell(enumerations, " enumerations, ");
     tell(enumerations_failed, " failed; ");
-    tell(reads, " control reads while streams are on, ");
+    tell(reads, " control transfers while streams are on, ");
     tell(reads_failed, " failed; failures: no answer ");
     tell(failures[NO_ANSWER], ", timed out ");
     tell(failures[TIMED_OUT], ", stalled ");

@@ -7,6 +7,11 @@ void sof_write(unsigned number, unsigned endpoint, uint32_t value)
     register_write(number, endpoint, value);
 }
 
+int sof_is_on(void)
+{
+    return 1;
+}
+
 void sof_transfer(int under_way)
 {
     (void)under_way;

@@ -13,6 +13,10 @@ void watch_address(void)
 {
 }
 
+void watch_status(void)
+{
+}
+
 void watch_nothing(void)
 {
 }
