@@ -22,6 +22,9 @@ const char *board_serial_number(void);
  * this. */
 void board_sleep(void);
 
+/* In place of the sleep while something waits for time to pass: returns soon, interrupt or not. */
+void board_pause(void);
+
 /* Whether this mcause is the USBHS block's interrupt. */
 int board_usb_interrupt(uint32_t cause);
 

@@ -1,7 +1,9 @@
 #include "control.h"
 #include "chapter9.h"
 #include "console.h"
+#include "sof.h"
 #include "usb.h"
+#include "watch.h"
 
 #define EP0_MAXIMUM 64u
 
@@ -22,8 +24,10 @@ void control_restart(void)
     uint64_t word;
 
     stage = SETUP;
+    watch_nothing();
     USB_OPERATE(word, usbhs_begin_setup(usb_state));
     (void)word;
+    sof_transfer(0);
 }
 
 /* A begin that was refused (9: the host has sent a new setup packet) ends the transfer. */
@@ -48,6 +52,7 @@ static void send(int first)
 
     USB_OPERATE(word, usbhs_begin_data_in(usb_state, usb_slots, sizeof usb_slots, data, length, (uint32_t)first,
                                           (uint32_t)last));
+    watch_packet(data, length, first, last);
     data += length;
     left -= length;
     if (last)
@@ -97,6 +102,7 @@ void control_accept_address(unsigned address)
     uint64_t word;
 
     USB_OPERATE(word, usbhs_begin_accept_set_address(usb_state, address));
+    watch_address();
     begun(word, STATUS);
 }
 
@@ -120,6 +126,7 @@ static int poll_setup(void)
     USB_OPERATE(word, usbhs_poll_setup(usb_state, setup));
     if (USBHS_KIND(word) != USBHS_DONE)
         return 0;
+    sof_transfer(1);
     chapter9_serve(setup);
     return 1;
 }
@@ -166,7 +173,11 @@ static int poll_status(void)
     uint64_t word;
 
     USB_OPERATE(word, usbhs_poll_accept(usb_state));
-    return over(word);
+    if (!over(word))
+        return 0;
+    if (USBHS_KIND(word) == USBHS_DONE && sof_is_on())
+        watch_status();
+    return 1;
 }
 
 static int poll(void)

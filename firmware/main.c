@@ -7,6 +7,7 @@
 #include "device.h"
 #include "tasks.h"
 #include "usb.h"
+#include "watch.h"
 
 void trap(uint32_t cause);
 
@@ -40,6 +41,8 @@ static void bus_task(void)
             device_reset();
             control_restart();
         }
+        if (USBHS_RESULT(word) == USBHS_SUSPEND)
+            watch_nothing(); /* no microframes pass */
     }
 }
 
@@ -58,15 +61,20 @@ static void run(unsigned task)
     }
 }
 
-/* The next task, or sleep. Interrupts are off from the look to the sleep, which a pending interrupt ends all the
- * same. */
+/* The next task, or sleep, unless the watch waits for a microframe, which no interrupt may tell. Interrupts are off from
+ * the look to the sleep, which a pending interrupt ends all the same. */
 static void next(void)
 {
+    int awake = watch_look();
     uint32_t before = interrupts_off();
     unsigned task = task_next();
 
-    if (task == NO_TASK)
-        board_sleep();
+    if (task == NO_TASK) {
+        if (awake)
+            board_pause();
+        else
+            board_sleep();
+    }
     interrupts_restore(before);
     if (task != NO_TASK)
         run(task);

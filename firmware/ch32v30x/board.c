@@ -55,6 +55,10 @@ void board_sleep(void)
     __asm__ volatile("wfi");
 }
 
+void board_pause(void)
+{
+}
+
 int board_usb_interrupt(uint32_t cause)
 {
     return cause == (0x80000000u | USBHS_INTERRUPT);
