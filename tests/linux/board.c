@@ -162,6 +162,12 @@ void board_sleep(void)
         finish();
 }
 
+/* The bus goes on here too. */
+void board_pause(void)
+{
+    board_sleep();
+}
+
 /* A slow card (CARD_BUSY=n): up to n steps of the bus pass, with interrupts on. */
 void board_card_store(const uint8_t block[USBHS_BLOCK_LEN])
 {

@@ -23,12 +23,10 @@ static void trace(const char *token, enum handshake handshake)
     fprintf(bridge_log, "      %lu: %s %s\n", now, token, words[handshake]);
 }
 
-/* An IN token. The PID is the one that the endpoint's register has before it. */
 static enum handshake in(unsigned endpoint, uint8_t *room, unsigned *length, unsigned *pid)
 {
     counts.ins++;
-    *pid = register_read(USBHS_EP_TX_CTRL, endpoint) >> 2 & 3;
-    return block_in(address, endpoint, room, length);
+    return block_in(address, endpoint, room, length, pid);
 }
 
 static enum handshake out(unsigned endpoint, unsigned pid, const uint8_t *bytes, unsigned length)
@@ -306,9 +304,9 @@ int iso_out_token(unsigned i)
 int iso_in_token(unsigned i)
 {
     uint8_t room[PACKET];
-    unsigned length;
+    unsigned length, pid;
 
-    block_in(address, i & 15, room, &length);
+    block_in(address, i & 15, room, &length, &pid);
     counts.iso_in++;
     counts.iso_in_bytes += length;
     stream_in(i, room, length);
@@ -322,7 +320,7 @@ void probe_disabled(void)
     int interface = 0, used = 0;
     uint32_t there = 0, any = 0;
     uint8_t room[PACKET];
-    unsigned length;
+    unsigned length, pid;
 
     for (unsigned at = 0; at + 2 <= attached.length && attached.configuration[at] >= 2;) {
         const uint8_t *d = attached.configuration + at;
@@ -338,6 +336,6 @@ void probe_disabled(void)
     }
     for (unsigned i = 1; i < ENDPOINTS; i++)
         if ((any & ~there) >> i & 1 &&
-            (i & 16 ? block_in(address, i & 15, room, &length) : block_out(address, i, 0, room, 0)) != NOBODY)
+            (i & 16 ? block_in(address, i & 15, room, &length, &pid) : block_out(address, i, 0, room, 0)) != NOBODY)
             tell("endpoint %02X answers, and is not in the setting", ADDRESS(i));
 }
