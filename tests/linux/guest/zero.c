@@ -10,6 +10,8 @@
 
 #define BULK_OUT 0x01
 #define BULK_IN 0x81
+#define STORE 0x5B
+#define FETCH 0x5C
 #define LOOP 0x60
 
 /* ---- usbtest */
@@ -164,6 +166,24 @@ static void halts(void)
     result(control(0x02, 3, 0, 0, 0) == -EPIPE, "SET_FEATURE halt of endpoint 0 (9.4.5: not)");
 }
 
+/* A long data stage OUT right behind a SET_INTERFACE, and back. */
+static void stores(void)
+{
+    static uint8_t to[4095];
+    struct usbdevfs_setinterface s = {0, 0};
+    unsigned good = 0;
+
+    for (unsigned n = 0; n < 30; n++) {
+        ioctl(device, USBDEVFS_SETINTERFACE, &s);
+        for (unsigned i = 0; i < sizeof to; i++)
+            to[i] = bytes[i] = (uint8_t)rand();
+        if (control(0x40, STORE, 0, 0, sizeof to) == sizeof to && control(0xC0, FETCH, 0, 0, sizeof to) == sizeof to &&
+            memcmp(to, bytes, sizeof to) == 0)
+            good++;
+    }
+    result(good == 30, "%u of 30 times 4,095 bytes stored and fetched, each after SET_INTERFACE", good);
+}
+
 void test_zero(unsigned rounds, const char *controller)
 {
     strings("USBHS sources, sinks and a loop");
@@ -172,6 +192,7 @@ void test_zero(unsigned rounds, const char *controller)
     alternate(0);
     standard_requests();
     halts();
+    stores();
     loop("loop", 400);
     for (unsigned i = 0; i < rounds; i++) {
         reset_device();
