@@ -102,9 +102,12 @@ static void pull_out(void)
 
 static void plug(void)
 {
+    int there;
+
     close(device);
     tell_bridge("plug");
-    result(open_device(100), "plugged in: device %d", device_number());
+    there = open_device(100);
+    result(there, "plugged in: device %d", device_number());
     claim();
 }
 
