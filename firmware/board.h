@@ -15,9 +15,15 @@ void board_start(void);
 
 void board_wait(unsigned microseconds);
 
+/* The board's own, for the host to tell two apart. */
+const char *board_serial_number(void);
+
 /* Until an interrupt is pending. Called with interrupts off, so that none is taken between the look for work and
  * this. */
 void board_sleep(void);
+
+/* In place of the sleep while something waits for time to pass: returns soon, interrupt or not. */
+void board_pause(void);
 
 /* Whether this mcause is the USBHS block's interrupt. */
 int board_usb_interrupt(uint32_t cause);

@@ -1,12 +1,13 @@
-/* The firmware: samples that the host streams go to the card. The driver's interrupt wakes tasks; the main loop
- * runs them in the order in which they were woken. */
+/* The firmware of any device: the driver's interrupt wakes tasks; the main loop runs them in the order in which they
+ * were woken. */
 #include "board.h"
+#include "chapter9.h"
 #include "console.h"
 #include "control.h"
-#include "descriptors.h"
-#include "recorder.h"
+#include "device.h"
 #include "tasks.h"
 #include "usb.h"
+#include "watch.h"
 
 void trap(uint32_t cause);
 
@@ -23,15 +24,6 @@ void trap(uint32_t cause)
         board_sleep();
 }
 
-/* Queues what was recorded and what was lost; the packet goes out in the next microframe. Where two wait (row 13)
- * or the host has not enabled the stream (row 9), it is left. */
-void usb_start_of_frame(void)
-{
-    uint32_t numbers[2] = {recorder_packets(), usbhs_overruns(usb_state, SAMPLES_OUT)};
-
-    (void)usbhs_queue(usb_state, usb_slots, sizeof usb_slots, STATUS_IN, (const uint8_t *)numbers, sizeof numbers);
-}
-
 static void bus_task(void)
 {
     static const char *const events[] = {"", "power", "reset", "suspend", "resume"};
@@ -44,8 +36,13 @@ static void bus_task(void)
         print("bus: ");
         print(events[USBHS_RESULT(word)]);
         print("\n");
-        if (USBHS_RESULT(word) == USBHS_RESET)
+        if (USBHS_RESULT(word) == USBHS_RESET) {
+            chapter9_reset();
+            device_reset();
             control_restart();
+        }
+        if (USBHS_RESULT(word) == USBHS_SUSPEND)
+            watch_nothing(); /* no microframes pass */
     }
 }
 
@@ -59,23 +56,25 @@ static void run(unsigned task)
     case TASK_OUT(0):
         control_task();
         break;
-    case TASK_OUT(SAMPLES_OUT):
-        recorder_task();
-        break;
-    default: /* the status stream is fed by the callback */
-        break;
+    default:
+        device_task(task);
     }
 }
 
-/* The next task, or sleep. Interrupts are off from the look to the sleep, which a pending interrupt ends all the
- * same. */
+/* The next task, or sleep, unless the watch waits for a microframe, which no interrupt may tell. Interrupts are off from
+ * the look to the sleep, which a pending interrupt ends all the same. */
 static void next(void)
 {
+    int awake = watch_look();
     uint32_t before = interrupts_off();
     unsigned task = task_next();
 
-    if (task == NO_TASK)
-        board_sleep();
+    if (task == NO_TASK) {
+        if (awake)
+            board_pause();
+        else
+            board_sleep();
+    }
     interrupts_restore(before);
     if (task != NO_TASK)
         run(task);
@@ -86,7 +85,7 @@ int main(void)
     unsigned row;
 
     board_start();
-    recorder_start();
+    device_start();
     row = usb_start();
     if (row != 0) {
         print("start: refused with ");

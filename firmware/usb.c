@@ -1,6 +1,7 @@
 #include "usb.h"
 #include "board.h"
-#include "descriptors.h"
+#include "look.h"
+#include "sof.h"
 #include "tasks.h"
 
 /* The chip wants the slots on a word boundary, and copies are faster with the state on one. */
@@ -8,14 +9,14 @@ uint8_t usb_state[USBHS_STATE_LEN] __attribute__((aligned(4)));
 uint8_t usb_slots[USB_BUFFERS * USB_BUFFER] __attribute__((aligned(4)));
 uint16_t usb_time[USBHS_TIME_LEN];
 
-/* Makes what is handed out: the reading, 0 where there is none. */
-static uint32_t make(uint64_t word)
+uint32_t usb_make(uint64_t word)
 {
     switch (USBHS_KIND(word)) {
     case USBHS_READ:
         return register_read(USBHS_REGISTER(word), USBHS_ENDPOINT(word));
     case USBHS_WRITE:
-        register_write(USBHS_REGISTER(word), USBHS_ENDPOINT(word), USBHS_VALUE(word));
+        look_written(USBHS_REGISTER(word), USBHS_ENDPOINT(word), USBHS_VALUE(word));
+        sof_write(USBHS_REGISTER(word), USBHS_ENDPOINT(word), USBHS_VALUE(word));
         return 0;
     case USBHS_WAIT:
         board_wait(USBHS_MICROSECONDS(word));
@@ -26,7 +27,7 @@ static uint32_t make(uint64_t word)
     }
 }
 
-static void wake_tasks(uint64_t word)
+void usb_wake_tasks(uint64_t word)
 {
     uint8_t woken[USBHS_MOST_WAKES];
     unsigned n;
@@ -41,8 +42,8 @@ static void wake_tasks(uint64_t word)
 uint64_t usb_to_end(uint64_t word)
 {
     while (USBHS_KIND(word) >= USBHS_READ && USBHS_KIND(word) <= USBHS_CALLBACK)
-        word = usbhs_continue(usb_state, usb_slots, sizeof usb_slots, usb_time, 0, make(word));
-    wake_tasks(word);
+        word = usbhs_continue(usb_state, usb_slots, sizeof usb_slots, usb_time, 0, usb_make(word));
+    usb_wake_tasks(word);
     return word;
 }
 
@@ -58,6 +59,7 @@ void usb_interrupt(void)
     if (USBHS_ASKS(word, USBHS_MIS_ST))
         word = usbhs_continue_transfer(usb_state, usb_slots, sizeof usb_slots, usb_time, 0, mis, status, length);
     usb_to_end(word);
+    look_after_interrupt();
 }
 
 /* 0, or the row of a refusal. */

@@ -2,18 +2,19 @@
 #ifndef USB_H
 #define USB_H
 
+#include <descriptors.h> /* the device's: where the compiler's -I finds it */
 #include "interrupts.h"
 #include "usbhs.h"
-
-/* An isochronous OUT takes 16 buffers, an isochronous IN 2, EP0 one. */
-#define USB_BUFFER 64u
-#ifndef USB_BUFFERS
-#define USB_BUFFERS (16u + 2u + 1u)
-#endif
 
 extern uint8_t usb_state[USBHS_STATE_LEN];
 extern uint8_t usb_slots[USB_BUFFERS * USB_BUFFER];
 extern uint16_t usb_time[USBHS_TIME_LEN];
+
+/* Makes what is handed out: the reading, 0 where there is none. */
+uint32_t usb_make(uint64_t word);
+
+/* Wakes the tasks that an end names. */
+void usb_wake_tasks(uint64_t word);
 
 /* The access loop: makes each access that the driver hands out until the operation is over; wakes the tasks that
  * its end names. With interrupts off. */

@@ -40,9 +40,23 @@ void board_wait(unsigned microseconds)
         __asm__ volatile("nop");
 }
 
+/* The chip's unique number of 96 bits, in 24 digits. */
+const char *board_serial_number(void)
+{
+    static char digits[25];
+
+    for (unsigned i = 0; i < 24; i++)
+        digits[i] = "0123456789ABCDEF"[HARDWARE(UNIQUE_ID + i / 8 * 4) >> (28 - i % 8 * 4) & 15];
+    return digits;
+}
+
 void board_sleep(void)
 {
     __asm__ volatile("wfi");
+}
+
+void board_pause(void)
+{
 }
 
 int board_usb_interrupt(uint32_t cause)

@@ -44,6 +44,7 @@
 /* The interrupt's number, the controller's word that enables it, the clock's bit. */
 #define USBHS_INTERRUPT 85u
 #define PFIC_ENABLE(n) (0xE000E100u + 4u * ((n) / 32u))
+#define UNIQUE_ID 0x1FFFF7E8u /* three words */
 #define RCC_AHB_ENABLE 0x40021014u
 #define RCC_AHB_USBHS (1u << 11)
 

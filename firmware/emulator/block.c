@@ -14,6 +14,26 @@ enum {
     RESPONSE = 3, RESPONSE_ACK = 0, RESPONSE_STALL = 3, TOGGLE = 3 << 2, TOGGLE_DATA1 = 1 << 2, AUTOMATIC = 16
 };
 
+/* Three questions that no document answers (docs/SILICON.md): a build may choose the other answer. */
+
+/* INT_ST shows NAKed tokens too: a comment of the Rust's says so, not whether of those that INT_BUSY NAKs. */
+#ifndef NAKED_TOKENS_SHOW
+#define NAKED_TOKENS_SHOW 1
+#endif
+
+/* INT_ST shows a SOF while its interrupt is off: nobody says. */
+#ifndef SOFS_ALWAYS_SHOW
+#define SOFS_ALWAYS_SHOW 0
+#endif
+
+/* INT_BUSY holds off tokens while a setup packet waits too, not only while a transfer does. Else an IN right after a
+ * SETUP would be answered with what the transfer before left armed or stalled (USB 2.0, 8.5.3: a setup packet ends
+ * that transfer, and nothing of it may come after), and EP0 has one buffer, so that even the setup packet's own bytes
+ * could go out as data. Neither the Rust nor any firmware for this chip does anything against that. */
+#ifndef SETUP_HOLDS_OFF
+#define SETUP_HOLDS_OFF 1
+#endif
+
 static uint32_t written[19][16];
 static uint32_t flags, status, received, frame, suspended;
 
@@ -96,10 +116,10 @@ void block_suspend(int now)
 void block_sof(unsigned microframe)
 {
     frame = (microframe >> 3 & 0x7FF) | (microframe & 7) << 13;
-    if (written[USBHS_INT_EN][0] & ENABLE_SOF) {
+    if (SOFS_ALWAYS_SHOW || (written[USBHS_INT_EN][0] & ENABLE_SOF))
         status = TOKEN_SOF;
+    if (written[USBHS_INT_EN][0] & ENABLE_SOF)
         raise(FLAG_TRANSFER);
-    }
 }
 
 enum handshake block_setup(unsigned address, const uint8_t packet[8])
@@ -119,14 +139,23 @@ static int reached(unsigned address, unsigned endpoint, unsigned enable)
     return address == written[USBHS_DEV_AD][0] && (endpoint == 0 || is(USBHS_EP_CONFIG, enable));
 }
 
-/* The answer of an endpoint that is not isochronous. While a transfer's flag stands all are NAKed (int_busy). */
+/* The answer of an endpoint that is not isochronous. While one of these flags stands all are NAKed (int_busy). */
 static enum handshake answer(uint32_t control)
 {
-    if ((written[USBHS_CTRL][0] & CTRL_INT_BUSY) && (flags & FLAG_TRANSFER))
+    uint32_t holding = SETUP_HOLDS_OFF ? FLAG_TRANSFER | FLAG_SETUP : FLAG_TRANSFER;
+
+    if ((written[USBHS_CTRL][0] & CTRL_INT_BUSY) && (flags & holding))
         return HANDSHAKE_NAK;
     if ((control & RESPONSE) == RESPONSE_STALL)
         return HANDSHAKE_STALL;
     return (control & RESPONSE) == RESPONSE_ACK ? HANDSHAKE_ACK : HANDSHAKE_NAK;
+}
+
+/* INT_ST after a token that was answered so. */
+static void show(uint32_t token, enum handshake handshake)
+{
+    if (NAKED_TOKENS_SHOW || handshake == HANDSHAKE_ACK || handshake == UNACKNOWLEDGED)
+        status = token;
 }
 
 enum handshake block_out(unsigned address, unsigned endpoint, unsigned toggle, const uint8_t *bytes, unsigned length)
@@ -137,8 +166,10 @@ enum handshake block_out(unsigned address, unsigned endpoint, unsigned toggle, c
 
     if (!reached(address, endpoint, 16 + endpoint))
         return NOBODY;
-    status = TOKEN_OUT | endpoint;
-    if (!isochronous && (handshake = answer(control)) != HANDSHAKE_ACK)
+    if (!isochronous)
+        handshake = answer(control);
+    show(TOKEN_OUT | endpoint, handshake);
+    if (!isochronous && handshake != HANDSHAKE_ACK)
         return handshake;
     take(endpoint, bytes, length);
     if (isochronous || expected)
@@ -149,15 +180,20 @@ enum handshake block_out(unsigned address, unsigned endpoint, unsigned toggle, c
     return handshake;
 }
 
-enum handshake block_in(unsigned address, unsigned endpoint, uint8_t *room, unsigned *length)
+enum handshake block_in(unsigned address, unsigned endpoint, uint8_t *room, unsigned *length, unsigned *toggle)
 {
+    uint32_t control = written[USBHS_EP_TX_CTRL][endpoint];
     enum handshake handshake = UNACKNOWLEDGED;
+    int isochronous = is(USBHS_EP_TYPE, endpoint);
 
     *length = 0;
+    *toggle = (control & TOGGLE) >> 2;
     if (!reached(address, endpoint, endpoint))
         return NOBODY;
-    status = TOKEN_IN | endpoint;
-    if (!is(USBHS_EP_TYPE, endpoint) && (handshake = answer(written[USBHS_EP_TX_CTRL][endpoint])) != HANDSHAKE_ACK)
+    if (!isochronous)
+        handshake = answer(control);
+    show(TOKEN_IN | endpoint, handshake);
+    if (!isochronous && handshake != HANDSHAKE_ACK)
         return handshake;
     *length = written[USBHS_EP_T_LEN][endpoint];
     for (unsigned i = 0; i < *length; i++)

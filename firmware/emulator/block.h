@@ -17,7 +17,9 @@ void block_suspend(int suspended);
 void block_sof(unsigned microframe);
 enum handshake block_setup(unsigned address, const uint8_t packet[8]);
 enum handshake block_out(unsigned address, unsigned endpoint, unsigned toggle, const uint8_t *bytes, unsigned length);
-enum handshake block_in(unsigned address, unsigned endpoint, uint8_t *room, unsigned *length);
+
+/* `toggle`: the PID that the packet came with, 0 DATA0, 1 DATA1. */
+enum handshake block_in(unsigned address, unsigned endpoint, uint8_t *room, unsigned *length, unsigned *toggle);
 
 /* An isochronous OUT whose token is on the bus and whose data come while the firmware looks: after so many looks. */
 void block_out_slow(unsigned endpoint, const uint8_t *bytes, unsigned length, unsigned looks);

@@ -11,7 +11,7 @@
 #include "machine.h"
 
 #define MIE_SOFTWARE 8u
-#define CARD_BLOCKS 64u
+#define CARD_BLOCKS 8192u
 
 static uint8_t card[CARD_BLOCKS * USBHS_BLOCK_LEN];
 static unsigned stored;
@@ -24,6 +24,11 @@ void board_start(void)
 void board_wait(unsigned microseconds)
 {
     (void)microseconds;
+}
+
+const char *board_serial_number(void)
+{
+    return "EMULATOR";
 }
 
 int board_usb_interrupt(uint32_t cause)
@@ -41,6 +46,12 @@ void board_sleep(void)
 {
     if (!block_interrupt_pending() && !host_step())
         finish();
+}
+
+/* The bus goes on here too. */
+void board_pause(void)
+{
+    board_sleep();
 }
 
 void board_card_store(const uint8_t block[USBHS_BLOCK_LEN])

@@ -31,7 +31,7 @@ static unsigned next_packet(void)
 
 /* ---- control transfers */
 
-static unsigned address, naks;
+static unsigned address, naks, due, dropped;
 static enum { SETUP, DATA, STATUS_OUT, STATUS_IN_STAGE } stage;
 static uint8_t answer[256];
 static unsigned answered;
@@ -70,6 +70,19 @@ static int ended(enum handshake handshake)
     return 1;
 }
 
+/* Whether the packet has the PID that is due. Else it repeats one that the host has: acknowledged and dropped (USB 2.0,
+ * 8.6.4). The next is then due all the same. */
+static int is_due(unsigned toggle)
+{
+    if (toggle == due) {
+        due ^= 1;
+        return 1;
+    }
+    dropped++;
+    print(due ? "host: DATA0 where DATA1 was due, dropped\n" : "host: DATA1 where DATA0 was due, dropped\n");
+    return 0;
+}
+
 static void begin(const uint8_t setup[8])
 {
     enum handshake handshake;
@@ -79,6 +92,7 @@ static void begin(const uint8_t setup[8])
     print(" setup");
     tell_bytes(setup, 8);
     answered = 0;
+    due = 1;
     handshake = block_setup(address, setup);
     if (handshake != HANDSHAKE_ACK)
         ended(handshake);
@@ -89,13 +103,15 @@ static void begin(const uint8_t setup[8])
 /* A data packet IN; whether the whole transfer is over. */
 static int data(unsigned asked)
 {
-    unsigned length;
-    enum handshake handshake = block_in(address, 0, answer + answered, &length);
+    unsigned length, toggle;
+    enum handshake handshake = block_in(address, 0, answer + answered, &length, &toggle);
 
     if (!over(handshake))
         return 0;
     if (handshake != HANDSHAKE_ACK)
         return ended(handshake);
+    if (!is_due(toggle))
+        return 0;
     answered += length;
     if (length < EP0_MAXIMUM || answered >= asked)
         stage = STATUS_OUT;
@@ -106,7 +122,7 @@ static int data(unsigned asked)
 static int control(const uint8_t setup[8])
 {
     enum handshake handshake;
-    unsigned length;
+    unsigned length, toggle;
 
     switch (stage) {
     case SETUP:
@@ -118,7 +134,10 @@ static int control(const uint8_t setup[8])
         handshake = block_out(address, 0, 1, answer, 0);
         break;
     default:
-        handshake = block_in(address, 0, answer, &length);
+        due = 1;
+        handshake = block_in(address, 0, answer, &length, &toggle);
+        if (handshake == HANDSHAKE_ACK && !is_due(toggle))
+            return 0;
     }
     if (!over(handshake))
         return 0;
@@ -149,9 +168,13 @@ static void send_samples(void)
 static void fetch_status(void)
 {
     uint32_t numbers[16];
-    unsigned length;
+    unsigned length, toggle;
 
-    block_in(address, STATUS_IN, (uint8_t *)numbers, &length);
+    if (block_in(address, STATUS_IN, (uint8_t *)numbers, &length, &toggle) != NOBODY && toggle != 0) {
+        dropped++; /* one packet a microframe: DATA0 (5.9.2) */
+        print("host: DATA1 of a stream, dropped\n");
+        return;
+    }
     if (length != 8)
         return;
     print("host: told ");
@@ -228,7 +251,8 @@ static const struct step script[] = {
     REQUEST("get the device descriptor", 0, 0x80, 6, 0, 1, 0, 0, 64, 0),
     SIMPLE(RESET, "bus reset"),
     ENUMERATION(5),
-    REQUEST("get a string that there is not", 0, 0x80, 6, 1, 3, 9, 4, 255, 0),
+    REQUEST("get the product's name: a whole packet", 0, 0x80, 6, 2, 3, 9, 4, 255, 0),
+    REQUEST("get a string that there is not", 0, 0x80, 6, 9, 3, 9, 4, 255, 0),
     STREAM("samples on time", on_time, 12, 0),
     STREAM("samples seen late", late, 6, 0),
     STREAM("samples on the bus at the SOF's interrupt", later, 6, 0),
@@ -238,6 +262,7 @@ static const struct step script[] = {
     REQUEST("select alternate setting 1 while SOFs come", 13, 0x01, 11, 1, 0, 0, 0, 0, 0),
     SIMPLE(SUSPEND, "suspend"),
     SIMPLE(RESUME, "resume"),
+    REQUEST("get the device's status", 0, 0x80, 0, 0, 0, 0, 0, 2, 0),
     STREAM("samples on time", on_time, 4, 0),
     SIMPLE(RESET, "bus reset in the midst of the stream"),
     STREAM("samples to nobody", on_time, 2, 0),
@@ -349,6 +374,8 @@ int host_check(const unsigned char *card, unsigned length, unsigned overruns)
     print_number(unheard);
     print(" sent to nobody\nhost: ");
     print_number(frames_between);
-    print(" SOFs between the firmware's accesses\n");
-    return wrong != 0 || given + overruns + unheard != packets;
+    print(" SOFs between the firmware's accesses; ");
+    print_number(dropped);
+    print(" packets with the wrong PID\n");
+    return wrong != 0 || dropped != 0 || given + overruns + unheard != packets;
 }
