@@ -11,7 +11,7 @@
 #define SHORT(offset) (*(volatile uint16_t *)(USBHS_BASE + (offset)))
 #define WORD(offset) (*(volatile uint32_t *)(USBHS_BASE + (offset)))
 
-enum { TRANSFER = 2, SOF = 0x10, IN = 0x20, FREE = 0x20, MOST = 15, STATUS_IN = 2 };
+enum { TRANSFER = 2, SOF = 0x10, IN = 0x20, FREE = 0x20, MOST = 15 };
 
 void board_wait(unsigned microseconds)
 {
