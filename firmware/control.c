@@ -126,6 +126,7 @@ static int poll_setup(void)
     USB_OPERATE(word, usbhs_poll_setup(usb_state, setup));
     if (USBHS_KIND(word) != USBHS_DONE)
         return 0;
+    watch_nothing(); /* whatever it waited for, the host has gone on */
     sof_transfer(1);
     chapter9_serve(setup);
     return 1;
