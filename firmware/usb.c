@@ -9,14 +9,35 @@ uint8_t usb_state[USBHS_STATE_LEN] __attribute__((aligned(4)));
 uint8_t usb_slots[USB_BUFFERS * USB_BUFFER] __attribute__((aligned(4)));
 uint16_t usb_time[USBHS_TIME_LEN];
 
-uint32_t usb_make(uint64_t word)
+/* look.c and sof.c know of a few registers; the others are written right away. Not in line: the loop below is shorter
+ * so, by 30 instructions an interrupt. */
+__attribute__((noinline)) static void write(unsigned number, unsigned endpoint, uint32_t value)
+{
+    switch (number) {
+    case USBHS_INT_EN:
+        sof_write(number, value);
+        break;
+    case USBHS_EP_CONFIG:
+        look_written(number, endpoint, value);
+        sof_write(number, value);
+        break;
+    case USBHS_EP_TYPE:
+    case USBHS_EP_RX_DMA:
+        look_written(number, endpoint, value);
+        register_write(number, endpoint, value);
+        break;
+    default:
+        register_write(number, endpoint, value);
+    }
+}
+
+static uint32_t make(uint64_t word)
 {
     switch (USBHS_KIND(word)) {
     case USBHS_READ:
         return register_read(USBHS_REGISTER(word), USBHS_ENDPOINT(word));
     case USBHS_WRITE:
-        look_written(USBHS_REGISTER(word), USBHS_ENDPOINT(word), USBHS_VALUE(word));
-        sof_write(USBHS_REGISTER(word), USBHS_ENDPOINT(word), USBHS_VALUE(word));
+        write(USBHS_REGISTER(word), USBHS_ENDPOINT(word), USBHS_VALUE(word));
         return 0;
     case USBHS_WAIT:
         board_wait(USBHS_MICROSECONDS(word));
@@ -25,6 +46,22 @@ uint32_t usb_make(uint64_t word)
         usb_start_of_frame();
         return 0;
     }
+}
+
+/* A write; look.c and sof.c keep some of what the driver writes. */
+static void make_write(unsigned number, unsigned endpoint, uint32_t value)
+{
+    if (number == USBHS_EP_RX_DMA || number == USBHS_EP_TYPE || number == USBHS_EP_CONFIG)
+        look_written(number, endpoint, value);
+    if (number == USBHS_INT_EN || number == USBHS_EP_CONFIG)
+        sof_write(number, endpoint, value);
+    else
+        register_write(number, endpoint, value);
+}
+
+uint32_t usb_make(uint64_t word)
+{
+    return make(word);
 }
 
 void usb_wake_tasks(uint64_t word)
@@ -42,7 +79,7 @@ void usb_wake_tasks(uint64_t word)
 uint64_t usb_to_end(uint64_t word)
 {
     while (USBHS_KIND(word) >= USBHS_READ && USBHS_KIND(word) <= USBHS_CALLBACK)
-        word = usbhs_continue(usb_state, usb_slots, sizeof usb_slots, usb_time, 0, usb_make(word));
+        word = usbhs_continue(usb_state, usb_slots, sizeof usb_slots, usb_time, 0, make(word));
     usb_wake_tasks(word);
     return word;
 }
