@@ -17,7 +17,14 @@
  * isochronous, which enabled. */
 void look_written(unsigned number, unsigned endpoint, uint32_t value);
 
-/* At the interrupt's end; with interrupts off. */
-void look_after_interrupt(void);
+/* At the interrupt's end: whether the driver is to be given that interrupt, whose flags are a transfer's, whose SIE is
+ * free and whose token is LOOK_TOKEN. With interrupts off. */
+#define LOOK_TRANSFER 2u
+#define LOOK_FREE 1u
+#define LOOK_TOKEN 0x30u
+int look_wanted(void);
+
+/* The token where the driver asks for it again. The release of the flag is not made: it may be a later transfer's. */
+uint32_t look_token(void);
 
 #endif
