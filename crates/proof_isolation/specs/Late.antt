@@ -164,7 +164,7 @@ module _ (c : Channel) where
     OfOthers (o ∷ os) r = Other o (r .machine .st) × OfOthers os (lit share n o r)
 
     -- no store is seen by the continue: were they made before it, as in the other run, the run would come to an access of
-    -- the channel's own too.
+    -- the channel's own too. Where it would not, the two runs part (`seen-parts`, SeenLaws.antt)
     abbrev pub Unseen : ℕ → List Light → Run → Type 0
     Unseen v os r = AnyStore os → atOwn c (gone share n v (lits share n os r)) ≡ true
 

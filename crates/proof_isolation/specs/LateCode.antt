@@ -164,7 +164,7 @@ module _ (share : Bool) (n : ℕ) where
   AllBegunLate (m ∷ ms) w = Begun share n (m .opening) w × DidLateSteps share n (m .opening .channel) (m .steps) (openedMade m w)
       × AllBegunLate ms (afterLateSteps (m .steps) (openedMade m w))
 
-  abbrev pub CodeUndisturbedLate : List LateMade → Pair → Type 0
-  CodeUndisturbedLate [] w = Unit {0}
-  CodeUndisturbedLate (m ∷ ms) w = EveryStep share n (m .opening .channel) (m .opening .steps) (openedBy (m .opening) w)
-      × EveryLateStep share n (m .opening .channel) (m .steps) (openedMade m w) × CodeUndisturbedLate ms (afterLateSteps (m .steps) (openedMade m w))
+  abbrev pub CodeUndisturbed : List LateMade → Pair → Type 0
+  CodeUndisturbed [] w = Unit {0}
+  CodeUndisturbed (m ∷ ms) w = EveryStep share n (m .opening .channel) (m .opening .steps) (openedBy (m .opening) w)
+      × EveryLateStep share n (m .opening .channel) (m .steps) (openedMade m w) × CodeUndisturbed ms (afterLateSteps (m .steps) (openedMade m w))

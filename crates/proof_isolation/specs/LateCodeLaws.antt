@@ -21,7 +21,7 @@ use Rattle.proof_isolation.specs.Late.{itemAnswers, later, AllSame, Afte
 use Rattle.proof_isolation.specs.LateRunsLaws.{FreeBoth, turn-free, later-free, opened-free, late-step}
 use Rattle.proof_isolation.specs.LateCode.{ItemMade, LateStep, itemsOf, laterOf, lightLeft, itemLeft, afterItems, earlyLeft, afterLights, nextLate, afterLateSteps}
 use Rattle.proof_isolation.specs.LateCode.{answerLeft, lateAnswers, otherAnswers, DidLight, DidItem, DidEarlier, DidItems, DidLights, DidLate, DidLateStep}
-use Rattle.proof_isolation.specs.LateCode.{DidLateSteps, HeardMade, EveryLateStep, LateMade, openedMade, AllBegunLate, CodeUndisturbedLate}
+use Rattle.proof_isolation.specs.LateCode.{DidLateSteps, HeardMade, EveryLateStep, LateMade, openedMade, AllBegunLate, CodeUndisturbed}
 use Rattle.proof_isolation.specs.LateCode.{timely, first-late, second-late}
 
 -- ---- the bytes are the machine's
@@ -138,9 +138,9 @@ module _ (share : Bool) (n : ℕ) where
       (subst (FreeBoth c share n) e (turn-free c share n (s .turn) (twoOf w) a (d .1) f)) (d .2)
 
   -- any bytes in each of two runs with one record of the bus time; start-ups, and calls whose contracts say what they are steps of
-  pub code-undisturbed-late : (ms : List LateMade) (w : Pair) → w .first .time ≡ w .second .time → AllBegunLate share n ms w → CodeUndisturbedLate share n ms w
-  code-undisturbed-late [] w e o = tt
-  code-undisturbed-late (m ∷ ms) w e o =
+  pub code-undisturbed : (ms : List LateMade) (w : Pair) → w .first .time ≡ w .second .time → AllBegunLate share n ms w → CodeUndisturbed share n ms w
+  code-undisturbed [] w e o = tt
+  code-undisturbed (m ∷ ms) w e o =
       let c = m .opening .channel in
       let x = code-every share n c (m .opening .steps) (openedBy (m .opening) w) (begun-at share n (m .opening) w (o .0) e) (o .0 .steps) in
       let k = opened-is share n (m .opening) w (o .0) in
@@ -148,4 +148,4 @@ module _ (share : Bool) (n : ℕ) where
       (subst (FreeBoth c share n) k (opened-free c share n (sessionOf (m .opening)) (twoOf w) (o .0 .accepted) e
       (subst (λ (z : Two). z .first .machine .way ≡ idle) (sym k) (o .0 .rests)))) (o .0 .steps) in
       let z = code-every-late c (m .steps) (openedMade share n m w) (x .1) f (o .1) in
-      (x .0, z .0, code-undisturbed-late ms (afterLateSteps (m .steps) (openedMade share n m w)) (at-time (z .1)) (o .2))
+      (x .0, z .0, code-undisturbed ms (afterLateSteps (m .steps) (openedMade share n m w)) (at-time (z .1)) (o .2))
