@@ -1,7 +1,7 @@
 -- Demand 3, to be read alone: what a list of calls is, what each call is lent, what document 01 compares after each call, and demand 3's own
 -- sentences. Definitions only. `demand-3` (FrontPageLaws.antt) says that `AfterCall` holds after every call of every list that an accepted start-up
 -- begins. The calls are in script/specs/Calls.antt, the book in Book.antt over Pages.antt: what waits, was admitted, read, queued, sent
-use mathlib.Core.Bool.{Bool, true, false, cond, _&&_}
+use mathlib.Core.Bool.{Bool, true, false, cond, _&&_, _||_}
 use mathlib.Core.List.{List, [], _∷_, _++_, tail}
 use mathlib.Core.Logic.{_⊎_, _≢_}
 use mathlib.Core.Path.{_≡_}
@@ -32,7 +32,9 @@ use Rattle.proof_book.specs.Pages.{Packet, bytesOf, stampsOf, OutPage, I
 use Rattle.proof_book.specs.Book.{isoOf, receiving, front, slotTold, book}
 use Rattle.proof_book.specs.Stamps.{stamped}
 use Rattle.proof_book.specs.Lengths.{Known, learnt, lengthAt}
-use Rattle.proof_book.specs.Others.{handsOut, releasing, Names, underWay, callNames, Away, SamePage}
+pub use Rattle.proof_book.specs.Others.{givesTo, addressed}
+use Rattle.proof_book.specs.Others.{handsOut, releasing, sendsTo, Names, underWay, callNames, Away, SamePage}
+use Rattle.proof_book.specs.Arrivals.{Note, brings, checks, looks, after, above, Arrival}
 
 -- ---- a list of calls
 
@@ -207,19 +209,6 @@ pub record EmptiedIn (p′ : InPage) : Type 0 where
 abbrev pub Emptied : Dir → ℕ → Pages → Pages → Type 0
 Emptied Out e t t′ = EmptiedOut (t .outs e) (t′ .outs e)
 Emptied In e t t′ = EmptiedIn (t′ .ins e)
-
--- an answer that hands out a receive address of OUT e
-abbrev pub givesTo : Access → ℕ → Bool
-givesTo (Read r f) e = false
-givesTo (Write r f v) e = false
-givesTo (Receive f x) e = eqb (f % 16) (e % 16)
-givesTo (Transmit f x) e = false
-givesTo (Ep0Dma x) e = false
-givesTo (Wait n) e = false
-givesTo Callback e = false
-
-abbrev pub addressed : Ans Answer → ℕ → Bool
-addressed a e = handsOut (λ q. givesTo q e) a
 
 -- an OUT's page is as before but for its slot, that of the last receive address
 abbrev pub SamePackets : OutPage → OutPage → Type 0
@@ -446,6 +435,36 @@ LengthIs m n k = (e : ℕ) → Decides (m .event .call) n (m .answer) e → (q :
 abbrev pub OthersStay : Made → Machine Answer Pages → Names → Type 0
 OthersStay m n k = releasing (m .answer) ≡ false → (d : Dir) (e : ℕ) → Away (callNames (m .event .call) k) d e → SamePage d e (n .st) (noted m n .1 .st)
 
+-- "An arrival is ..": what is decided is one, found by an interrupt that checks, by what that interrupt was brought
+-- and its calls were lent, this call's number too (Arrivals.antt)
+abbrev pub ArrivalIs : Made → Machine Answer Pages → Note → Type 0
+ArrivalIs m n k = (e : ℕ) (d : Decides (m .event .call) n (m .answer) e)
+    → (checks (brings (d .brought) k) ≡ true) × Arrival (brings (d .brought) k) (n .st) (m .event .lent) e
+
+-- "Checks fall where the Rust's do": an interrupt that checks and ends has looked at every enabled isochronous OUT, and
+-- so has missed no arrival
+abbrev pub NoneMissed : Made → Machine Answer Pages → Note → Type 0
+NoneMissed m n k = (v r : ℕ) (ws : List ℕ) → m .event .call ≡ go v → inInterrupt (n .way) ≡ true
+    → m .answer ≡ ended (End r ws) → checks (brings v k) ≡ true → (e : ℕ) → e < 16 → receiving (n .st) e ≡ true
+    → (k .looked e || looks (brings v k) (n .st) (m .event .lent) (m .answer) e) ≡ true
+
+-- "Endpoint sets are walked lowest number first": what an interrupt decides is above all that it decided before, so
+-- each at most once; b: one more than the last of these
+abbrev pub InOrder : Made → Machine Answer Pages → ℕ → Type 0
+InOrder m n b = (e : ℕ) → Decides (m .event .call) n (m .answer) e → b ≤ e
+
+-- the length x that a continue writes for IN e; own: its own transmit address was handed out just before. Then, where that
+-- is a load's, it is the length of the packet, and the page stays; else it is 0, "the length 0 where none is left, then
+-- past all"
+abbrev pub LengthWritten : Bool → ℕ → InPage → InPage → Type 0
+LengthWritten true x p p′ =
+    (p′ ≡ p) × ((bytes : List ℕ) (rest : List (List ℕ)) → p .load ≡ true → p .waiting ≡ bytes ∷ rest → x ≡ length bytes)
+LengthWritten false x p p′ = (x ≡ 0) × NoneLeft p′
+
+abbrev pub LoadLength : Made → Machine Answer Pages → Known → Type 0
+LoadLength m n k = (e x v : ℕ) → 0 < e → m .event .call ≡ go v → m .answer ≡ handed (Write EpTLen e x)
+    → LengthWritten (sendsTo (k .asked) e) x (n .st .ins e) (noted m n .1 .st .ins e)
+
 -- ---- the statement
 
 -- of each call of a list that was made, with the book before it
@@ -463,12 +482,28 @@ abbrev pub OthersEach : Machine Answer Pages → Names → List Made → Type 0
 OthersEach n k [] = Unit {0}
 OthersEach n k (m ∷ ms) = OthersStay m n k × OthersEach (noted m n .1) (underWay (m .event .call) (m .answer) k) ms
 
+abbrev pub ArrivalsEach : Machine Answer Pages → Note → List Made → Type 0
+ArrivalsEach n k [] = Unit {0}
+ArrivalsEach n k (m ∷ ms) = ArrivalIs m n k × NoneMissed m n k
+    × ArrivalsEach (noted m n .1) (after (m .event .call) (m .answer) (n .st) (m .event .lent) k) ms
+
+abbrev pub OrderEach : Machine Answer Pages → ℕ → List Made → Type 0
+OrderEach n b [] = Unit {0}
+OrderEach n b (m ∷ ms) = InOrder m n b × OrderEach (noted m n .1) (above (m .event .call) (m .answer) b) ms
+
+abbrev pub LoadsEach : Machine Answer Pages → Known → List Made → Type 0
+LoadsEach n k [] = Unit {0}
+LoadsEach n k (m ∷ ms) =
+    LoadLength m n k × LoadsEach (noted m n .1) (learnt (m .event .call) (m .answer) k) ms
+
 -- the state's bytes xs, the slot buffer a and the book n may be any. The first call is a start-up that rows 1 and 2 do not stop, and any calls
 -- follow: refused ones and start-ups too, ending anywhere, whatever the chip answers. Nor does it matter what was under way before
 abbrev pub Demand3 : Type 0
 Demand3 = (c : Config) (b : Buf) → startRow c b ≡ zero → (xs : List ℕ) (a : Buf) (n : Machine Answer Pages) (first : Made)
     → first .event ≡ record { call = start c; lent = b } → (ms : List Made) → Calls xs a n (first ∷ ms)
     → AfterEach n (first ∷ ms) × ((k : Known) → LengthsEach n k (first ∷ ms)) × ((k : Names) → OthersEach n k (first ∷ ms))
+    × ((k : Note) → ArrivalsEach n k (first ∷ ms)) × ((k : ℕ) → OrderEach n k (first ∷ ms))
+    × ((k : Known) → LoadsEach n k (first ∷ ms))
 
 -- ---- no slot being sent is written, between two moments
 

@@ -18,7 +18,7 @@ use Rattle.script.specs.Statics.{flag}
 use Rattle.script.specs.Cells.{EpCore}
 use Rattle.script.specs.Answers.{Answer, Refused, NotYet, Shown, ok}
 use Rattle.script.specs.Calls.{Config, Op, slotted, PollWrite, aside, Aside, Open, Close, Queue, calls, startRow}
-use Rattle.script.specs.Machine.{Buf, Call, start, begin, Event, Ans, ended, handed, told, blankA, Machine, Way, fed, started}
+use Rattle.script.specs.Machine.{Buf, Call, start, begin, go, Event, Ans, ended, handed, told, blankA, Machine, Way, fed, started}
 use Rattle.script.specs.Agree.{After, Ways, GoodA, agrees, from-start}
 use Rattle.machine.specs.Suspended.{driverOf, drive, machineOf}
 use Rattle.proof_book.specs.Pages.{Packet, bytesOf, stampsOf, Pages}
@@ -54,6 +54,9 @@ use Rattle.proof_book.specs.EarlyCallsLaws.{Early, no-start, start-early
 use Rattle.proof_book.specs.Lengths.{Known, learnt}
 use Rattle.proof_book.specs.LengthCallsLaws.{WayTold, regular, told-on, start-told, length-is}
 use Rattle.proof_book.specs.Others.{releasing, Names, underWay, callNames, Away, SamePage}
+use Rattle.proof_book.specs.ArrivalsLaws.{arrivals}
+use Rattle.proof_book.specs.ArrivalOrderLaws.{arrivals-in-order}
+use Rattle.proof_book.specs.LoadLengthsLaws.{load-lengths}
 use Rattle.proof_book.specs.OthersCallsLaws.{WaySpared, call-goes, start-spared, under-same}
 
 -- an access that releases no bus reset's flag empties none
@@ -424,7 +427,7 @@ demand-3 c b row xs a n first is ms p =
           let f = learnt (first .event .call) (first .answer) k in
           let w = subst (λ (v : Event Config Op). let y = written (first .answer) (v .call) n (v .lent) in WayTold f (y .1 .way) (y .1 .st)) (sym is)
           (start-told (first .answer) c f n b row) in (
-            λ e d. absurd (true≢false (sym (ap (λ (v : Event Config Op). isStart (v .call)) is) ∙ ap isStart (d .continues))),
+            λ e d. absurd (starts (d .brought) (d .continues)),
             lengths ms (first .bytes) (first .slots) _ f (z .1) w (p .2),
           ),
       λ k.
@@ -435,4 +438,14 @@ demand-3 c b row xs a n first is ms p =
                 → SamePage d e (n .st) (noted first n .1 .st)) (sym is) (λ r d e h. absurd h),
             others ms (first .bytes) (first .slots) _ f (z .1) w (p .2),
           ),
+      λ k. (
+        λ e d. absurd (starts (d .brought) (d .continues)),
+        λ v r ws g. absurd (starts v g),
+        arrivals c b row xs a n first is ms p k,
+      ),
+      λ k. (λ e d. absurd (starts (d .brought) (d .continues)), arrivals-in-order c b row xs a n first is ms p k),
+      λ k. (λ e x v l g. absurd (starts v g), load-lengths c b row xs a n first is ms p k),
     )
+  where
+    starts : (v : ℕ) → first .event .call ≡ go v → ⊥
+    starts v g = true≢false (sym (ap (λ (e : Event Config Op). isStart (e .call)) is) ∙ ap isStart g)

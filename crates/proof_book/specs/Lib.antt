@@ -112,5 +112,6 @@ pub mod ArrivalCallsLaws
 pub mod ArrivalsLaws
 pub mod PollsWaitLaws
 pub mod ArrivalOrderLaws
+pub mod LoadLengthsLaws
 pub mod Inputs
 pub mod Witness
