@@ -1,12 +1,13 @@
--- The interrupt's script taken apart: the changes it makes are completions each with its load, wake-ups and arrivals, it
--- assigns no request, and writes no length but a load's
-use mathlib.Core.Bool.{Bool, true, false, not, _&&_}
+-- The interrupt's script taken apart: the changes it makes are completions each with its load, wake-ups and arrivals,
+-- it
+-- assigns no request, and writes neither ep_config nor a length but a load's
+use mathlib.Core.Bool.{Bool, true, false, not, _&&_, _||_}
 use mathlib.Core.List.{List, [], _∷_}
 use mathlib.Core.Path.{_≡_}
 use Prim.Native.Nat.{ℕ, zero, suc}
 use lib.Dec.{ltb}
 use Rattle.regs.specs.declared.Reg.{Reg}
-use Rattle.regs.specs.declared.Reg.the-variants.{EpTLen}
+use Rattle.regs.specs.declared.Reg.the-variants.{EpTLen, EpConfig}
 use Rattle.regs.specs.declared.Dir.{Dir}
 use Rattle.regs.specs.declared.Dir.the-variants.{Out, In}
 use Rattle.regs.specs.declared.Token.{Token}
@@ -24,9 +25,9 @@ use Rattle.script.specs.IsoOut.{checkOne, checkWalk}
 use Rattle.script.specs.Handler.{looks, toggled, settle, dispatch, movedOn, ep0MovedOn, served, onTransfer, onSetup, stampedInterrupt}
 use Rattle.proof_book.specs.LeavesLaws.{isRequest}
 
--- a write of another register than an endpoint's length; EP0's may be written
-abbrev pub lengthless : Reg → ℕ → Bool
-lengthless r e = not (sameReg r EpTLen && ltb 0 e)
+-- a write of another register than ep_config and an endpoint's length; EP0's may be written
+abbrev pub ordinary : Reg → ℕ → Bool
+ordinary r e = not ((sameReg r EpTLen && ltb 0 e) || sameReg r EpConfig)
 
 -- a script made of such parts
 pub data Parts : (A : Type 0) → Script true A → Type 1 where
@@ -34,7 +35,7 @@ pub data Parts : (A : Type 0) → Script true A → Type 1 where
   p-bind : {A B : Type 0} {p : Script true B} {f : B → Script true A} → Parts B p → ((b : B) → Parts A (f b)) → Parts A (bind p f)
   p-test : {A : Type 0} {b : Bool} {p q : Script true A} → Parts A p → Parts A q → Parts A (test b p q)
   p-read : {A : Type 0} {r : Reg} {e : ℕ} {k : ℕ → Script true A} → ((v : ℕ) → Parts A (k v)) → Parts A (read-then r e k)
-  p-write : {A : Type 0} {r : Reg} {e v : ℕ} {p : Script true A} → lengthless r e ≡ true → Parts A p
+  p-write : {A : Type 0} {r : Reg} {e v : ℕ} {p : Script true A} → ordinary r e ≡ true → Parts A p
       → Parts A (write-then r e v p)
   p-wait : {A : Type 0} {n : ℕ} {p : Script true A} → Parts A p → Parts A (wait-then n p)
   p-callback : {A : Type 0} {p : Script true A} → Parts A p → Parts A (callback-then p)

@@ -112,6 +112,7 @@ pub mod ArrivalCallsLaws
 pub mod ArrivalsLaws
 pub mod PollsWaitLaws
 pub mod ArrivalOrderLaws
-pub mod LoadLengthsLaws
+pub mod WritesLaws
+pub mod AsideRowsLaws
 pub mod Inputs
 pub mod Witness

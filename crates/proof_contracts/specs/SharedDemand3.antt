@@ -6,7 +6,7 @@ use Prim.Native.Nat.{ℕ, _<_}
 use native.Mathlib.Omega.{arith}
 use lib.ListN.{length}
 use Rattle.regs.specs.declared.Access.the-variants.{Write}
-use Rattle.regs.specs.declared.Reg.the-variants.{EpTLen}
+use Rattle.regs.specs.declared.Reg.the-variants.{EpTLen, EpConfig}
 use Rattle.regs.specs.declared.Dir.{Dir}
 use Rattle.regs.specs.declared.Dir.the-variants.{Out, In}
 use Rattle.state.specs.State.{view}
@@ -24,7 +24,8 @@ use Rattle.proof_book.specs.FrontPage as page
 use Rattle.proof_book.specs.FrontPageLaws.{demand-3}
 use Rattle.proof_contracts.specs.SharedPage.{MadeShared, outcomeOf, CallStep, Calls, noted, AfterEach}
 use Rattle.proof_contracts.specs.SharedPage.{LengthIs, LengthsEach, OthersStay, OthersEach, madeOf}
-use Rattle.proof_contracts.specs.SharedPage.{ArrivalsEach, OrderEach, LoadLength, LoadsEach, SharedDemand3}
+use Rattle.proof_contracts.specs.SharedPage.{ArrivalsEach, OrderEach, LoadLength, ConfigKept, WritesEach}
+use Rattle.proof_contracts.specs.SharedPage.{SharedDemand3}
 use Rattle.proof_contracts.specs.SharedCall.{as-shared}
 use Rattle.proof_contracts.specs.SharedRuns.{AgreedAll, agreed-all}
 use Rattle.proof_contracts.specs.SharedAlone.{madeAlone, allAlone, NotedAll, start-alone, all-noted, code-alone}
@@ -38,6 +39,7 @@ module _ (dir : Dir) (e : ℕ) (lent b : Buf) (n : Machine Answer Pages) (d : Dr
     ring = x .ring;
     stamps = x .stamps;
     open-shows = λ e stamp bytes p q. let z : _≡_ {A = ℕ} 0 1 = cc in absurd (omega arith);
+    write-waits = λ e bytes p q iso fits. let z : _≡_ {A = ℕ} 0 1 = cc in absurd (omega arith);
     poll-waits = λ e len p q iso. let z : _≡_ {A = ℕ} 0 1 = cc in absurd (omega arith);
     poll-gives = λ e len bytes p q iso. let z : _≡_ {A = ℕ} 0 1 = cc in absurd (omega arith);
     row-12 = λ e p q. let z : _≡_ {A = ℕ} 0 1 = cc in absurd (omega arith);
@@ -64,9 +66,11 @@ module _ (dir : Dir) (e : ℕ) (lent b : Buf) (n : Machine Answer Pages) (d : Dr
     begin-slot = λ o e p w g. refl;
     disabled-leaves = λ e v p i g. let z : _≡_ {A = ℕ} 0 1 = cc in absurd (omega arith);
     enabled-is = x .enabled-is;
+    enabled-receives = x .enabled-receives;
     slot-told = λ e y q. let z : _≡_ {A = ℕ} 0 1 = cc in absurd (omega arith);
     ep0-told = λ y q. let z : _≡_ {A = ℕ} 0 1 = cc in absurd (omega arith);
     asides-end = λ o p. let z : _≡_ {A = ℕ} 0 1 = cc in absurd (omega arith);
+    asides-rows = λ o p. let z : _≡_ {A = ℕ} 0 1 = cc in absurd (omega arith);
     polls-end = λ e k p. let z : _≡_ {A = ℕ} 0 1 = cc in absurd (omega arith);
     enabling-ends = λ dir e on z p q. (19, cc);
     unmoved = λ e v p i g. let z : _≡_ {A = ℕ} 0 1 = cc in absurd (omega arith);
@@ -178,6 +182,10 @@ module _ (i : ℕ) (xs : List ℕ) (a : Buf) (m : MadeShared) (n : Machine Answe
       → LengthWritten (sendsTo (k .asked) e) y (n .st .ins e) (t .ins e))
       (λ dir e j y f z v l p. let w : _≡_ {A = ℕ} 0 1 = cc in absurd (omega arith))
 
+  config-made : page.ConfigKept alone n → ConfigKept i m n
+  config-made = as-made (λ c x t. (v : ℕ) → x ≡ handed (Write EpConfig 0 v) → t .kept .globals .«ep_config» ≡ v)
+      (λ dir e j y v p. let w : _≡_ {A = ℕ} 0 1 = cc in absurd (omega arith))
+
   order-made : (b : ℕ) → page.InOrder alone n b → page.InOrder (madeOf m) n b
   order-made b = as-made (λ c x t. page.InOrder (likewise c x) n b)
       (λ dir e j y f d. let p = d .continues in let z : _≡_ {A = ℕ} 0 1 = cc in absurd (omega arith))
@@ -216,16 +224,17 @@ known-each i (m ∷ ms) xs a n run goes =
       ),
     )
 
--- the lengths that loads write, with what was handed out
-loads-each : (i : ℕ) (ms : List MadeShared) (xs : List ℕ) (a : Buf) (n : Machine Answer Pages)
+-- the lengths that loads write, with what was handed out, and ep_config
+writes-each : (i : ℕ) (ms : List MadeShared) (xs : List ℕ) (a : Buf) (n : Machine Answer Pages)
     → Calls i xs a n ms → NotedAll i xs a n ms
-    → (k : Known) → page.LoadsEach n k (allAlone i xs a ms) → LoadsEach i n k ms
-loads-each i [] xs a n run goes k y = tt
-loads-each i (m ∷ ms) xs a n run goes k y = (
+    → (k : Known) → page.WritesEach n k (allAlone i xs a ms) → WritesEach i n k ms
+writes-each i [] xs a n run goes k y = tt
+writes-each i (m ∷ ms) xs a n run goes k y = (
   load-made i xs a m n (run .0) (goes .0) k (y .0),
-  loads-each i ms (m .bytes) (m .slots) (noted i m n .1) (run .2) (goes .2) (learnt (m .event .call) (m .answer) k)
-      (subst₂ (λ (z : Machine Answer Pages) (l : Known). page.LoadsEach z l (allAlone i (m .bytes) (m .slots) ms))
-      (sym (goes .0)) (learnt-same i xs a m n (run .0) (goes .0) k) (y .1)),
+  config-made i xs a m n (run .0) (goes .0) (y .1),
+  writes-each i ms (m .bytes) (m .slots) (noted i m n .1) (run .2) (goes .2) (learnt (m .event .call) (m .answer) k)
+      (subst₂ (λ (z : Machine Answer Pages) (l : Known). page.WritesEach z l (allAlone i (m .bytes) (m .slots) ms))
+      (sym (goes .0)) (learnt-same i xs a m n (run .0) (goes .0) k) (y .2)),
 )
 
 -- the arrivals with what was brought and lent, their order with what was decided
@@ -264,5 +273,5 @@ shared-demand-3 i c b row xs a n first is-start ms run =
       λ k. known .1 k (alone .2 k),
       λ k. arriving .0 k (alone .3 k),
       λ b. arriving .1 b (alone .4 b),
-      λ k. loads-each i (first ∷ ms) xs a n run goes k (alone .5 k),
+      λ k. writes-each i (first ∷ ms) xs a n run goes k (alone .5 k),
     )

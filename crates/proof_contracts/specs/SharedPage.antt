@@ -7,7 +7,7 @@ use mathlib.Core.Path.{_≡_}
 use Prim.Native.Nat.{ℕ, zero, _<_}
 use lib.ListN.{length}
 use Rattle.regs.specs.declared.Access.the-variants.{Write}
-use Rattle.regs.specs.declared.Reg.the-variants.{EpTLen}
+use Rattle.regs.specs.declared.Reg.the-variants.{EpTLen, EpConfig}
 use Rattle.regs.specs.declared.Dir.{Dir}
 use Rattle.script.specs.Answers.{Answer}
 use Rattle.script.specs.Calls.{Config, Op, startRow}
@@ -114,10 +114,15 @@ abbrev pub LoadLength : ℕ → MadeShared → Machine Answer Pages → Known �
 LoadLength i m n k = (e x v : ℕ) → 0 < e → m .event .call ≡ go v → m .answer ≡ handed (Write EpTLen e x)
     → LengthWritten (sendsTo (k .asked) e) x (n .st .ins e) (noted i m n .1 .st .ins e)
 
-abbrev pub LoadsEach : ℕ → Machine Answer Pages → Known → List MadeShared → Type 0
-LoadsEach i n k [] = Unit {0}
-LoadsEach i n k (m ∷ ms) =
-    LoadLength i m n k × LoadsEach i (noted i m n .1) (learnt (m .event .call) (m .answer) k) ms
+-- ep_config is kept as it is written (ConfigKept of FrontPage.antt)
+abbrev pub ConfigKept : ℕ → MadeShared → Machine Answer Pages → Type 0
+ConfigKept i m n =
+    (v : ℕ) → m .answer ≡ handed (Write EpConfig 0 v) → noted i m n .1 .st .kept .globals .«ep_config» ≡ v
+
+abbrev pub WritesEach : ℕ → Machine Answer Pages → Known → List MadeShared → Type 0
+WritesEach i n k [] = Unit {0}
+WritesEach i n k (m ∷ ms) =
+    LoadLength i m n k × ConfigKept i m n × WritesEach i (noted i m n .1) (learnt (m .event .call) (m .answer) k) ms
 
 -- as Demand3 of FrontPage.antt, for each of the four drivers
 abbrev pub SharedDemand3 : Type 0
@@ -127,4 +132,4 @@ SharedDemand3 = (i : ℕ) (c : Config) (b : Buf) → startRow c b ≡ zero
     → AfterEach i n (first ∷ ms) × ((k : Known) → LengthsEach i n k (first ∷ ms))
     × ((k : Names) → OthersEach i n k (first ∷ ms))
     × ((k : Note) → ArrivalsEach i n k (first ∷ ms)) × ((k : ℕ) → OrderEach i n k (first ∷ ms))
-    × ((k : Known) → LoadsEach i n k (first ∷ ms))
+    × ((k : Known) → WritesEach i n k (first ∷ ms))
