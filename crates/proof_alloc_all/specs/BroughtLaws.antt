@@ -35,7 +35,7 @@ use Rattle.proof_alloc_all.specs.OrderLaws.{in-order}
 
 -- ---- two runs with the same accesses, answer and driver, whatever is brought and stored
 
-abbrev Same : {A : Type 0} → tree.Out St A → tree.Out St A → Type 0
+abbrev pub Same : {A : Type 0} → tree.Out St A → tree.Out St A → Type 0
 Same (ends a s) (ends c t) = (a ≡ c) × (s .0 ≡ t .0)
 Same (asks q s k) (asks r t l) = (q ≡ r) × (s .0 ≡ t .0) × ((v w : ℕ) (b c : List ℕ) → Same (k v (s .0, b)) (l w (t .0, c)))
 Same (ends a s) (asks r t l) = ⊥
@@ -65,8 +65,8 @@ bind-same (asks q s k) (ends c t) f h g = absurd h
 
 -- ---- scripts that are so
 
-record Deaf {A : Type 0} (p : Script false A) : Type 0 where
-  same : (d : Driver) (b c : List ℕ) → Same (run concrete p (d, b)) (run concrete p (d, c))
+pub record Deaf {A : Type 0} (p : Script false A) : Type 0 where
+  pub same : (d : Driver) (b c : List ℕ) → Same (run concrete p (d, b)) (run concrete p (d, c))
 
 returns : {A : Type 0} (a : A) → Deaf (ret a)
 returns a = record { same = λ d b c. (refl, refl) }
@@ -126,14 +126,14 @@ all-read bytes reading.Listed = then (record { same = λ d b c. (refl, refl) }) 
 staged-deaf : (n : ℕ) {p : Script false answers.Answer} → Deaf p → Deaf (staged n p)
 staged-deaf n h = then (record { same = λ d b c. (refl, refl) }) (λ g. tests (eqb (g .stage) n) h (returns (answers.Refused 4)))
 
-whole : (bytes : List ℕ) → Deaf (otherCode (AllocateAll bytes))
+pub whole : (bytes : List ℕ) → Deaf (otherCode (AllocateAll bytes))
 whole bytes = staged-deaf 1 (all-read bytes (readingOf bytes .answer))
 
 as-answered : (dir : Dir) (kind maximum : ℕ) (x : alloc-answer.Answer) → Deaf (allocated-as dir kind maximum x)
 as-answered dir kind maximum (alloc.Refused n) = returns (answers.Refused n)
 as-answered dir kind maximum (alloc.Given n base slots) = operates (new dir kind maximum n)
 
-single : (e : Endpoint) → Deaf (allocation e)
+pub single : (e : Endpoint) → Deaf (allocation e)
 single e =
     let dir = directionOf (e .address) in
     staged-deaf 1 (then (record { same = λ d b c. (refl, refl) }) (λ a. then (record { same = λ d b c. (refl, refl) }) (λ _.

@@ -17,5 +17,7 @@ pub mod FourDrivers
 pub mod Together
 pub mod TogetherLaws
 pub mod SharedStepsLaws
+pub mod ListInOrder
+pub mod ListInOrderLaws
 pub mod Charged
 pub mod Witness

@@ -35,8 +35,10 @@ use Rattle.proof_book.specs.Book.{book}
 use Rattle.proof_book.specs.FrontPage.{Made}
 use Rattle.proof_book.specs.FrontPage as page
 use Rattle.proof_book.specs.SlotsStayLaws.{slots-stay}
-use Rattle.proof_stale.specs.Stale.{NoneStaleEach}
+use Rattle.proof_stale.specs.Stale.{NoneStaleEach, OwnEach, NoArrivalEach, DecidedStoredEach}
 use Rattle.proof_stale.specs.NothingStaleLaws.{nothing-stale}
+use Rattle.proof_stale.specs.OwnSlotLaws.{own-slots, nothing-arrives}
+use Rattle.proof_stale.specs.StoredSinceLaws.{decided-stored}
 use Rattle.proof_book.specs.Stamping.{not-yet, StampsMade}
 use Rattle.proof_book.specs.StampingLaws.{code-stamps}
 use Rattle.proof_book.specs.CodeReadings.{Steps, bytesAfter, slotsAfter, readBy, code-4056}
@@ -182,6 +184,26 @@ module _ (i : ℕ) (c : Config) (b : Buf) (row : startRow c b ≡ zero) (xs : Li
   pub shared-nothing-stale : (ms : List MadeShared) → Calls i xs a n (first ∷ ms) → (e : ℕ)
       → let one = madeAlone i xs a first in NoneStaleEach e (one .slots) (page.noted one n .1) [] (allAlone i (first .bytes) (first .slots) ms)
   shared-nothing-stale ms run e = nothing-stale c b row xs a n (madeAlone i xs a first) (start-alone i c b xs a first is-start)
+      (allAlone i (first .bytes) (first .slots) ms) (code-alone i c b row xs a n first is-start ms run) e
+
+  -- whose slot is armed; nothing stored, no arrival; what is decided, turned away too, was stored since
+  pub shared-own-slots : (ms : List MadeShared) → Calls i xs a n (first ∷ ms)
+      → let one = madeAlone i xs a first in OwnEach (page.noted one n .1) (allAlone i (first .bytes) (first .slots) ms)
+  shared-own-slots ms run = own-slots c b row xs a n (madeAlone i xs a first) (start-alone i c b xs a first is-start)
+      (allAlone i (first .bytes) (first .slots) ms) (code-alone i c b row xs a n first is-start ms run)
+
+  pub shared-nothing-arrives : (ms : List MadeShared) → Calls i xs a n (first ∷ ms) → (e : ℕ)
+      → let one = madeAlone i xs a first in
+      NoArrivalEach e (one .slots) (page.noted one n .1) [] (allAlone i (first .bytes) (first .slots) ms)
+  shared-nothing-arrives ms run e =
+      nothing-arrives c b row xs a n (madeAlone i xs a first) (start-alone i c b xs a first is-start)
+      (allAlone i (first .bytes) (first .slots) ms) (code-alone i c b row xs a n first is-start ms run) e
+
+  pub shared-decided-stored : (ms : List MadeShared) → Calls i xs a n (first ∷ ms) → (e : ℕ)
+      → let one = madeAlone i xs a first in
+      DecidedStoredEach e (one .slots) (page.noted one n .1) [] (allAlone i (first .bytes) (first .slots) ms)
+  shared-decided-stored ms run e =
+      decided-stored c b row xs a n (madeAlone i xs a first) (start-alone i c b xs a first is-start)
       (allAlone i (first .bytes) (first .slots) ms) (code-alone i c b row xs a n first is-start ms run) e
 
   -- "no slot being sent is written" (demand 3)
