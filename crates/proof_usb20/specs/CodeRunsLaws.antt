@@ -10,9 +10,9 @@ use Rattle.machine.specs.Suspended.{driverOf, drive, machineOf}
 use Rattle.proof_book.specs.Always.{after}
 use Rattle.proof_book.specs.Code.{Made}
 use Rattle.proof_book.specs.CodeReadings.{Steps}
-use Rattle.proof_usb20.specs.Observer.{Observer, serves, Watched, startedBy, noted, Claim, Standing, Read, Reads, All, Meaning}
+use Rattle.proof_usb20.specs.Observer.{Observer, serves, Watched, startedBy, noted, Claim, Standing, All, Meaning}
 use Rattle.proof_usb20.specs.RunsLaws.{Laws, from-start}
-use Rattle.proof_usb20.specs.CodeRuns.{left, told, CodeReads, CodeMeaning, CodeAll}
+use Rattle.proof_usb20.specs.CodeRuns.{left, told, CodeMeaning, CodeAll}
 
 abbrev events : List Made → List (Event Config Op)
 events [] = []
@@ -21,15 +21,6 @@ events (m ∷ ms) = m .event ∷ events ms
 module _ (O : Observer) where
   abbrev Answered : Type 0
   Answered = Ans Answer × Machine Answer Driver
-
-  to-reads : (ms : List Made) (xs : List ℕ) (a : Buf) (x : Watched O) → Steps xs a ms → CodeReads O ms x
-      → Reads O (events ms) (machineOf xs a) x
-  to-reads [] xs a x h r = tt
-  to-reads (m ∷ ms) xs a x h r =
-      subst
-      (λ (z : Answered). Read O (m .event .call) (z .0) (serves (z .1 .way)) x
-      × Reads O (events ms) (z .1) (noted O (m .event .call) (m .event .lent) (z .0) (serves (z .1 .way)) x)) (h .0)
-      (r .0, to-reads ms (m .bytes) (m .slots) (told O m x) (h .1) (r .1))
 
   to-meaning : (ms : List Made) (xs : List ℕ) (a : Buf) → Steps xs a ms → CodeMeaning O (machineOf xs a) ms
       → (ds fs : List (Event Config Op)) → events ms ≡ ds ++ fs
@@ -78,13 +69,13 @@ module _ (O : Observer) where
   -- any bytes, a start-up that rows 1 and 2 do not stop, and then any calls whose contracts say what they are steps of
   pub code-from-start : {R : O .Log → O .View → Type 0} → Laws O R → (c : Config) (b : Buf) → startRow c b ≡ zero
       → (xs : List ℕ) (a : Buf) (first : Made) → first .event ≡ record { call = start c; lent = b } → (ms : List Made)
-      → Steps xs a (first ∷ ms) → CodeMeaning O (left first) ms → CodeReads O ms (startedBy O (first .answer))
+      → Steps xs a (first ∷ ms) → CodeMeaning O (left first) ms
       → CodeAll O ms (startedBy O (first .answer))
-  code-from-start L c b row xs a first e ms h p r =
+  code-from-start L c b row xs a first e ms h p =
       let q : (first .answer, left first) ≡ started calls driverOf (λ s. s) c zero (machineOf xs a) b
       = subst (λ (v : Event Config Op). (first .answer, left first) ≡ drive (v .call) (machineOf xs a) (v .lent)) e (h .0)
       ∙ ap (λ n. started calls driverOf (λ s. s) c n (machineOf xs a) b) row in
       to-code ms (first .bytes) (first .slots) (startedBy O (first .answer)) (h .1)
-      (subst (λ (z : Answered). Meaning O (events ms) (z .1) → Reads O (events ms) (z .1) (startedBy O (z .0))
+      (subst (λ (z : Answered). Meaning O (events ms) (z .1)
       → All O (events ms) (z .1) (startedBy O (z .0))) (sym q) (from-start O L c b row (events ms) (machineOf xs a))
-      (to-meaning ms (first .bytes) (first .slots) (h .1) p) (to-reads ms (first .bytes) (first .slots) (startedBy O (first .answer)) (h .1) r))
+      (to-meaning ms (first .bytes) (first .slots) (h .1) p))

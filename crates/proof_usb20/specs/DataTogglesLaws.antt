@@ -42,7 +42,7 @@ use Rattle.script_ops.specs.Concrete.{concrete}
 use Rattle.proof_book.specs.Sorting.{Sorting}
 use Rattle.proof_usb20.specs.Sequence as log
 use Rattle.proof_usb20.specs.Sequence.{before, opens, Fair, own, Writing, wrote, LeavesWord}
-use Rattle.proof_usb20.specs.Observer.{Observer, Under, at-rest, doing, starting, Watched, startedBy, ReadAt, Read, Reads, All, Meaning}
+use Rattle.proof_usb20.specs.Observer.{Observer, Under, at-rest, doing, starting, Watched, startedBy, All, Meaning}
 use Rattle.proof_usb20.specs.Watch.{Along, at-end, at-ask}
 use Rattle.proof_usb20.specs.WatchLaws.{watch-more}
 use Rattle.regs.specs.declared.Access.{Access}
@@ -53,7 +53,7 @@ use Rattle.proof_usb20.specs.Follow.{seenOf, view, Follow}
 use Rattle.proof_usb20.specs.BesidesLaws.{aside-wakes}
 use Rattle.proof_book.specs.Code.{Made}
 use Rattle.proof_book.specs.CodeReadings.{Steps}
-use Rattle.proof_usb20.specs.CodeRuns.{left, CodeReads, CodeMeaning, CodeAll}
+use Rattle.proof_usb20.specs.CodeRuns.{left, CodeMeaning, CodeAll}
 use Rattle.proof_usb20.specs.CodeRunsLaws.{code-from-start}
 use Rattle.proof_usb20.specs.CalmLaws.{Off, Quiet, loose, q-resultless, q-bind, q-ret, q-write, q-wait, q-reg, q-int-en}
 use Rattle.proof_usb20.specs.ReadingLaws.{law-begin-read, law-poll-read, law-poll-write, law-begin-write}
@@ -181,35 +181,8 @@ module _ (D : Dir) (E : ℕ) (z : (d : Dir) → Else D E d 0) where
     besides = λ o d b a t q h. (aside-view D E o d b a t q h, aside-wakes o d b a t h);
     new = λ c b. ups (new c b);
     unlent = unlent;
-    fair-1 = λ o w. fair-refused o 1 w;
+    fair-1 = λ o _ w. fair-refused o 1 w;
   }
-
--- nothing is asked of the chip
-module _ (O : Observer) (brings : (w : O .Log) (q : Access) (v : ℕ) → O .Brings w q v) where
-  read-at : (v : ℕ) (a : Ans Answer) (still : Bool) (w : O .Log) (u : Under) → ReadAt O v a still w u
-  read-at v a still w at-rest = tt
-  read-at v (ended a) true w (doing o q) = tt
-  read-at v (ended a) false w (doing o q) = brings w q v
-  read-at v (handed p) still w (doing o q) = brings w q v
-  read-at v (told n) still w (doing o q) = tt
-  read-at v (ended a) true w starting = tt
-  read-at v (ended a) false w starting = tt
-  read-at v (handed p) still w starting = tt
-  read-at v (told n) still w starting = tt
-
-  any-read : (c : Call Config Op) (a : Ans Answer) (still : Bool) (x : Watched O) → Read O c a still x
-  any-read (start c) a still x = tt
-  any-read (begin o) a still x = tt
-  any-read (go v) a still x = read-at v a still (x .log) (x .under)
-  any-read (question q) a still x = tt
-
-  reads-any : (es : List (Event Config Op)) (m : Machine Answer Driver) (x : Watched O) → Reads O es m x
-  reads-any [] m x = tt
-  reads-any (e ∷ es) m x = (any-read (e .call) _ _ x, reads-any es _ _)
-
-  code-reads-any : (ms : List Made) (x : Watched O) → CodeReads O ms x
-  code-reads-any [] x = tt
-  code-reads-any (m ∷ ms) x = (any-read (m .event .call) _ _ x, code-reads-any ms _)
 
 -- after each call: a poll of the endpoint is done exactly if a packet with another sequence bit was served since (or a
 -- cleared halt finished its write); an interrupt that ends with a token of the endpoint has read its control word;
@@ -219,7 +192,7 @@ pub data-toggles : (D : Dir) (E : ℕ) → (E % 16 ≡ 0 → ⊥) → (c : Confi
     → (es : List (Event Config Op)) (m : Machine Answer Driver)
     → let y = started calls driverOf (λ s. s) c zero m b in
     Meaning (toggles D E) es (y .1) → All (toggles D E) es (y .1) (startedBy (toggles D E) (y .0))
-data-toggles D E h c b row es m p = from-start (toggles D E) (laws D E (not-ep0 D E h)) c b row es m p (reads-any (toggles D E) (λ _ _ _. tt) es _ _)
+data-toggles D E h c b row es m p = from-start (toggles D E) (laws D E (not-ep0 D E h)) c b row es m p
 
 -- of the Rattle code: any bytes, a start-up that rows 1 and 2 do not stop, and then any calls, each as its contract
 -- says
@@ -228,7 +201,7 @@ pub code-data-toggles : (D : Dir) (E : ℕ) → (E % 16 ≡ 0 → ⊥) → (c : 
     → Steps xs a (first ∷ ms) → CodeMeaning (toggles D E) (left first) ms
     → CodeAll (toggles D E) ms (startedBy (toggles D E) (first .answer))
 code-data-toggles D E h c b row xs a first e ms s p = code-from-start (toggles D E)
-    (laws D E (not-ep0 D E h)) c b row xs a first e ms s p (code-reads-any (toggles D E) (λ _ _ _. tt) ms _)
+    (laws D E (not-ep0 D E h)) c b row xs a first e ms s p
 
 -- DECISIONS 94, of such an endpoint, where nothing is under way
 pub tog-is-bit : (w : Track) (x : EpSeen) → Fits w x → (x .tog ≡ 0) ⊎ (x .tog ≡ 1)
@@ -321,7 +294,7 @@ module _ (D : Dir) (E : ℕ) (h : E % 16 ≡ 0 → ⊥) where
         besides = L .besides;
         new = L .new;
         unlent = λ o h x v r. L .unlent o h (x .0) v r;
-        fair-1 = λ o x. refused-leaves o (x .1);
+        fair-1 = λ o _ x. refused-leaves o (x .1);
       }
 
 -- DATA0 in the chip's control word (9.1.1.5, 9.4.5), of every endpoint that is neither 0 nor isochronous, over EVERY
@@ -333,4 +306,4 @@ pub code-control-words : (D : Dir) (E : ℕ) → (E % 16 ≡ 0 → ⊥) → (c :
     → Steps xs a (first ∷ ms) → CodeMeaning (words D E) (left first) ms
     → CodeAll (words D E) ms (startedBy (words D E) (first .answer))
 code-control-words D E h c b row xs a first e ms s p =
-    code-from-start (words D E) (word-laws D E h) c b row xs a first e ms s p (code-reads-any (words D E) (λ _ _ _. tt) ms _)
+    code-from-start (words D E) (word-laws D E h) c b row xs a first e ms s p

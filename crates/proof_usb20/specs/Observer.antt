@@ -19,8 +19,6 @@ pub record Observer : Type 1 where
   pub opens : Op → Log → Log  -- an operation begins
   pub saw : Log → Access → ℕ → Log  -- an access, and the number brought for it
   pub closes : Op → Answer → Log → Log  -- a call ends
-  -- what is asked of the numbers brought
-  pub Brings : Log → Access → ℕ → Type 0
   -- what is claimed of a call's answer, and of the accesses that it hands out
   pub Fair : Op → Answer → Log → Type 0
   pub Allowed : Op → Log → Access → Type 0
@@ -124,28 +122,7 @@ module _ (O : Observer) where
   Standing d w (doing o q) = Unit {0}
   Standing d w starting = Unit {0}
 
-  -- the chip's part: the number that a continue brings, if it is not refused
-  abbrev pub ReadAt : ℕ → Ans Answer → Bool → O .Log → Under → Type 0
-  ReadAt v a still w at-rest = Unit {0}
-  ReadAt v (ended a) true w (doing o q) = Unit {0}
-  ReadAt v (ended a) false w (doing o q) = O .Brings w q v
-  ReadAt v (handed p) still w (doing o q) = O .Brings w q v
-  ReadAt v (told n) still w (doing o q) = Unit {0}
-  ReadAt v a still w starting = Unit {0}
-
-  abbrev pub Read : Call Config Op → Ans Answer → Bool → Watched → Type 0
-  Read (start c) a still x = Unit {0}
-  Read (begin o) a still x = Unit {0}
-  Read (go v) a still x = ReadAt v a still (x .log) (x .under)
-  Read (question q) a still x = Unit {0}
-
   -- ---- a list of calls
-
-  abbrev pub Reads : List (Event Config Op) → Machine Answer Driver → Watched → Type 0
-  Reads [] m x = Unit {0}
-  Reads (e ∷ es) m x =
-      let y = drive (e .call) m (e .lent) in
-      Read (e .call) (y .0) (serves (y .1 .way)) x × Reads es (y .1) (noted (e .call) (e .lent) (y .0) (serves (y .1 .way)) x)
 
   abbrev pub All : List (Event Config Op) → Machine Answer Driver → Watched → Type 0
   All [] m x = Unit {0}
