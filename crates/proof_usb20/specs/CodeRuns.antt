@@ -19,11 +19,6 @@ module _ (O : Observer) where
   abbrev pub told : Made → Watched O → Watched O
   told m x = noted O (m .event .call) (m .event .lent) (m .answer) (serves (left m .way)) x
 
-  -- the state before each call, from the bytes as the call before left them, is one that is spoken of
-  abbrev pub CodeMeaning : Machine Answer Driver → List Made → Type 0
-  CodeMeaning n [] = O .Meant (O .view (n .st))
-  CodeMeaning n (m ∷ ms) = O .Meant (O .view (n .st)) × CodeMeaning (left m) ms
-
   -- what is claimed of each call, and of the state where nothing is under way after it
   abbrev pub CodeAll : List Made → Watched O → Type 0
   CodeAll [] x = Unit {0}

@@ -20,5 +20,4 @@ control = record {
   View = View;
   view = view;
   Stands = λ w x. Armed w;
-  Meant = λ x. Unit {0};
 }

@@ -32,7 +32,7 @@ use Rattle.proof_usb20.specs.BesidesLaws.{aside-wakes}
 use Rattle.proof_book.specs.Code.{Made}
 use Rattle.proof_book.specs.CodeReadings.{Steps}
 use Rattle.proof_book.specs.Computing.{computing}
-use Rattle.proof_usb20.specs.CodeRuns.{left, CodeMeaning, CodeAll}
+use Rattle.proof_usb20.specs.CodeRuns.{CodeAll}
 use Rattle.proof_usb20.specs.CodeRunsLaws.{code-from-start}
 use Rattle.proof_usb20.specs.StagesLaws.{law-data-out, law-data-in, law-accept, law-accept-address, law-reject, law-setup}
 use Rattle.proof_usb20.specs.PollsLaws.{law-poll-setup, law-poll-data-out, law-poll-data-in, law-poll-accept}
@@ -128,7 +128,7 @@ fair-1 (aside o) h w = tt
 pub laws : Laws control R
 laws = record {
   stands = stands;
-  call = λ o w s r _ z. watch-more (law-of o w s r z) (λ x a t p. (p .0, λ _. p .1));
+  call = λ o w s r z. watch-more (law-of o w s r z) (λ x a t p. (p .0, λ _. p .1));
   asks = λ o s. ways-laws.only-run concrete (code o) (address-writes o) tt s;
   besides = λ o d b a t z h. (aside-view o d b a t z h, aside-wakes o d b a t h);
   new = new;
@@ -144,18 +144,14 @@ pub control-stages : (c : Config) (b : Buf) → startRow c b ≡ zero
     → (es : List (Event Config Op)) (m : Machine Answer Driver)
     → let y = started calls driverOf (λ s. s) c zero m b in
     All control es (y .1) (startedBy control (y .0))
-control-stages c b row es m = from-start control laws c b row es m (λ _ _ _. tt)
+control-stages c b row es m = from-start control laws c b row es m
 
 -- of the Rattle code: any bytes, a start-up that rows 1 and 2 do not stop, and then any calls, each as its contract
 -- says
 pub code-control-stages : (c : Config) (b : Buf) → startRow c b ≡ zero → (xs : List ℕ) (a : Buf) (first : Made)
     → first .event ≡ record { call = start c; lent = b } → (ms : List Made)
     → Steps xs a (first ∷ ms) → CodeAll control ms (startedBy control (first .answer))
-code-control-stages c b row xs a first e ms h = code-from-start control laws c b row xs a first e ms h (meant ms (left first))
-  where
-    meant : (ms : List Made) (n : Machine Answer Driver) → CodeMeaning control n ms
-    meant [] n = tt
-    meant (m ∷ ms) n = (tt, meant ms (left m))
+code-control-stages c b row xs a first e ms h = code-from-start control laws c b row xs a first e ms h
 
 -- ---- nothing of an ordinary transfer is exempt: calls with readings, computed by the check
 

@@ -2,16 +2,14 @@
 -- and nothing of the driver's state; from these it writes its log, and by its log it judges the next answer and the
 -- next access
 use mathlib.Core.Bool.{Bool, true, false}
-use mathlib.Core.List.{List, [], _∷_, _++_}
-use mathlib.Core.Path.{_≡_}
+use mathlib.Core.List.{List, [], _∷_}
 use Prim.Native.Nat.{ℕ, zero, suc}
 use Rattle.regs.specs.declared.Access.{Access}
 use Rattle.state.specs.Driver.{Driver}
 use Rattle.script.specs.Answers.{Answer}
-use Rattle.script.specs.Calls.{Config, Op, calls, startRow}
+use Rattle.script.specs.Calls.{Config, Op, startRow}
 use Rattle.script.specs.Machine.{Buf, Call, start, begin, go, question, Event, Ans, ended, handed, told, Way, idle, busy, Machine}
 use Rattle.machine.specs.Suspended.{driverOf, drive}
-use Rattle.proof_book.specs.Always.{after}
 
 pub record Observer : Type 1 where
   pub Log : Type 0
@@ -23,11 +21,10 @@ pub record Observer : Type 1 where
   pub Fair : Op → Answer → Log → Type 0
   pub Allowed : Op → Log → Access → Type 0
   pub Asks : Op → Access → Type 0
-  -- what the driver's state shows; what is claimed of it where nothing is under way; which states are spoken of
+  -- what the driver's state shows, and what is claimed of it where nothing is under way
   pub View : Type 0
   pub view : Driver → View
   pub Stands : Log → View → Type 0
-  pub Meant : View → Type 0
 
 -- what is under way
 pub data Under : Type 0 where
@@ -130,7 +127,3 @@ module _ (O : Observer) where
       let y = drive (e .call) m (e .lent) in
       let z = noted (e .call) (e .lent) (y .0) (serves (y .1 .way)) x in
       Claim (e .call) (y .0) (serves (y .1 .way)) x × Standing (y .1 .st) (z .log) (z .under) × All es (y .1) z
-
-  -- after each of the calls the state is one that is spoken of
-  abbrev pub Meaning : List (Event Config Op) → Machine Answer Driver → Type 0
-  Meaning es m = (ds fs : List (Event Config Op)) → es ≡ ds ++ fs → O .Meant (O .view (after calls driverOf ds m .st))

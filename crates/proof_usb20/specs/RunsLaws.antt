@@ -24,7 +24,7 @@ use Rattle.proof_wake_ups.specs.RoomsLaws.{rooms, start-rooms}
 use Rattle.proof_usb20.specs.Watch.{Along, at-end, at-ask}
 use Rattle.proof_usb20.specs.Observer.{Observer, Under, at-rest, doing, starting, serves, Watched, watched}
 use Rattle.proof_usb20.specs.Observer.{startedBy, beginsBy, noted, ClaimBegun, Claim, Standing}
-use Rattle.proof_usb20.specs.Observer.{All, Meaning}
+use Rattle.proof_usb20.specs.Observer.{All}
 
 -- a chip that may bring anything
 abbrev pub anyChip : ways.Chip
@@ -49,7 +49,7 @@ module _ (O : Observer) where
   -- what each call keeps, and what follows from it
   pub record Laws (R : O .Log → O .View → Type 0) : Type 0 where
     pub stands : (w : O .Log) (x : O .View) → R w x → O .Stands w x
-    pub call : (o : Op) (w : O .Log) (s : St) → R w (O .view (s .0)) → O .Meant (O .view (s .0)) → Sorting (s .0)
+    pub call : (o : Op) (w : O .Log) (s : St) → R w (O .view (s .0)) → Sorting (s .0)
         → Sees (O .Allowed o) (λ x a t. R (O .closes o a x) (O .view (t .0)) × (Few (ended a) → O .Fair o a x)) (O .opens o w) (run concrete (code o) s)
     pub asks : (o : Op) (s : St) → Only (O .Asks o) (run concrete (code o) s)
     pub besides : (o : Aside) (d : Driver) (b : Buf) (a : Answer) (t : St) → Sorting d
@@ -175,14 +175,14 @@ module _ (O : Observer) where
     brought-so false m h = h
 
     -- at rest, with row 1
-    afresh : (o : Op) (b : Buf) (g : Bool) → (g ≡ true → calls .slots o ≡ true) → (d : Driver) (l : Buf) (w : O .Log) → R w (O .view d) → O .Meant (O .view d)
+    afresh : (o : Op) (b : Buf) (g : Bool) → (g ≡ true → calls .slots o ≡ true) → (d : Driver) (l : Buf) (w : O .Log) → R w (O .view d)
         → Sorting d
         → Steps (begin o) b
         (cond g (stay calls driverOf 1 (record { way = idle; st = d; buf = l }))
         (begun calls driverOf (λ s. s) o (record { way = idle; st = d; buf = l }) idle b)) (watched O w at-rest)
-    afresh o b true h d l w r p z few = let n = L .unlent o (h refl) w (O .view d) r in
+    afresh o b true h d l w r z few = let n = L .unlent o (h refl) w (O .view d) r in
         record { claim = L .fair-1 o (h refl) (O .opens o w); standing = L .stands _ (O .view d) n; next = n }
-    afresh o b false h d l w r p z few = begins o (calls .irq o) b w (L .call o w (d, b) r p z) (L .asks o (d, b)) few
+    afresh o b false h d l w r z few = begins o (calls .irq o) b w (L .call o w (d, b) r z) (L .asks o (d, b)) few
 
     -- row 1 of a call in the midst of an operation
     row-1 : (o : Op) (b : Buf) (g : Bool) (i : Bool) (y : Awaits) (k : ℕ → St → tree.Out St Answer) (d : Driver) (l : Buf) (x : Watched O)
@@ -222,10 +222,10 @@ module _ (O : Observer) where
 
     -- one call
     step : (c : Call Config Op) (b : Buf) (m : Machine Answer Driver) (x : Watched O)
-        → J (m .way) (m .st) (x .log) (x .under) → Sorting (m .st) → O .Meant (O .view (m .st))
+        → J (m .way) (m .st) (x .log) (x .under) → Sorting (m .st)
         → Steps c b (drive c m b) x
-    step (start c) b m x j z p few = started-up c b (startRow c b) refl m x j
-    step (begin o) b m x j z p few = by (m .way) (x .under) j few
+    step (start c) b m x j z few = started-up c b (startRow c b) refl m x j
+    step (begin o) b m x j z few = by (m .way) (x .under) j few
       where
         g : Bool
         g = cond (calls .slots o) (misfit calls driverOf (m .st) b) false
@@ -234,27 +234,27 @@ module _ (O : Observer) where
             → Steps (begin o) b
             (cond g (stay calls driverOf 1 (record { way = y; st = m .st; buf = m .buf }))
             (begun calls driverOf (λ s. s) o (record { way = y; st = m .st; buf = m .buf }) y b)) (watched O (x .log) u)
-        by idle at-rest i few = afresh o b g (brought-so (calls .slots o) (misfit calls driverOf (m .st) b)) (m .st) (m .buf) (x .log) i p z few
+        by idle at-rest i few = afresh o b g (brought-so (calls .slots o) (misfit calls driverOf (m .st) b)) (m .st) (m .buf) (x .log) i z few
         by (busy h a k) u i few = row-1 o b g h a k (m .st) (m .buf) (watched O (x .log) u) z i
-    step (go v) b m x j z p few = continues v b (misfit calls driverOf (m .st) b) (m .way) (m .st) (m .buf) (x .log) (x .under) j z few
-    step (question q) b m x j z p few = record { claim = tt; standing = standing-of (m .way) (m .st) (x .log) (x .under) j; next = j }
+    step (go v) b m x j z few = continues v b (misfit calls driverOf (m .st) b) (m .way) (m .st) (m .buf) (x .log) (x .under) j z few
+    step (question q) b m x j z few = record { claim = tt; standing = standing-of (m .way) (m .st) (x .log) (x .under) j; next = j }
 
     -- the endpoints keep their sorts after each call
     abbrev Sorted : List (Event Config Op) → Machine Answer Driver → Type 0
     Sorted es m = (ds fs : List (Event Config Op)) → es ≡ ds ++ fs → Sorting (after calls driverOf ds m .st)
 
     each : (es : List (Event Config Op)) (m : Machine Answer Driver) (x : Watched O)
-        → J (m .way) (m .st) (x .log) (x .under) → Sorted es m → Meaning O es m → Roomy m
+        → J (m .way) (m .st) (x .log) (x .under) → Sorted es m → Roomy m
         → All O es m x
-    each [] m x j z p k = tt
-    each (e ∷ es) m x j z p k =
+    each [] m x j z k = tt
+    each (e ∷ es) m x j z k =
         let y = drive (e .call) m (e .lent) in
         let f = rooms (e .call) k (e .lent) in
-        let a = step (e .call) (e .lent) m x j (z [] (e ∷ es) refl) (p [] (e ∷ es) refl) (f .answer) in (
+        let a = step (e .call) (e .lent) m x j (z [] (e ∷ es) refl) (f .answer) in (
           a .claim,
           a .standing,
           each es (y .1) (noted O (e .call) (e .lent) (y .0) (serves (y .1 .way)) x) (a .next)
-              (λ ds fs h. z (e ∷ ds) fs (ap (e ∷_) h)) (λ ds fs h. p (e ∷ ds) fs (ap (e ∷_) h)) (f .machine),
+              (λ ds fs h. z (e ∷ ds) fs (ap (e ∷_) h)) (f .machine),
         )
 
     fresh : {out : tree.Out St Answer} → Ups (λ s. R (O .before) (O .view (s .0))) out
@@ -266,9 +266,9 @@ module _ (O : Observer) where
     pub from-start : (c : Config) (b : Buf) → startRow c b ≡ zero
         → (es : List (Event Config Op)) (m : Machine Answer Driver)
         → let y = started calls driverOf (λ s. s) c zero m b in
-        Meaning O es (y .1) → All O es (y .1) (startedBy O (y .0))
-    from-start c b h es m p =
+        All O es (y .1) (startedBy O (y .0))
+    from-start c b h es m =
         let y = started calls driverOf (λ s. s) c zero m b in
         each es (y .1) (startedBy O (y .0)) (fresh (L .new c b))
-        (λ ds fs e. subst (λ (n : ℕ). Sorting (after calls driverOf ds (started calls driverOf (λ s. s) c n m b .1) .st)) h (after-sorting c b h ds m)) p
+        (λ ds fs e. subst (λ (n : ℕ). Sorting (after calls driverOf ds (started calls driverOf (λ s. s) c n m b .1) .st)) h (after-sorting c b h ds m))
         (subst (λ (n : ℕ). Roomy (started calls driverOf (λ s. s) c n m b .1)) h (start-rooms c b h m .machine))
