@@ -48,8 +48,7 @@ use Rattle.proof_wake_ups.specs.Heard.{Heard}
 use Rattle.proof_wake_ups.specs.Code.{AsHeard}
 use Rattle.proof_wake_ups.specs.CodeLaws.{code-wake-ups}
 use Rattle.proof_usb20.specs.Observer.{startedBy}
-use Rattle.proof_usb20.specs.CodeRuns.{CodeReads, CodeMeaning, CodeAll}
-use Rattle.proof_usb20.specs.CodeRuns as usb
+use Rattle.proof_usb20.specs.CodeRuns.{CodeAll}
 use Rattle.proof_usb20.specs.ControlStages.{control}
 use Rattle.proof_usb20.specs.ControlStagesLaws.{code-control-stages}
 use Rattle.proof_usb20.specs.DataToggles.{toggles, words}
@@ -141,17 +140,16 @@ module _ (i : ℕ) where
     shared-wake-ups n = code-wake-ups c b row xs a n up is-up further steps
 
     -- USB 2.0 (demand 2)
-    pub shared-control-stages : CodeReads control further (startedBy control (up .answer))
-        → CodeAll control further (startedBy control (up .answer))
-    shared-control-stages r = code-control-stages c b row xs a up is-up further steps r
+    pub shared-control-stages : CodeAll control further (startedBy control (up .answer))
+    shared-control-stages = code-control-stages c b row xs a up is-up further steps
 
-    pub shared-data-toggles : (D : Dir) (E : ℕ) → (E % 16 ≡ 0 → ⊥) → CodeMeaning (toggles D E) (usb.left up) further
+    pub shared-data-toggles : (D : Dir) (E : ℕ) → (E % 16 ≡ 0 → ⊥)
         → CodeAll (toggles D E) further (startedBy (toggles D E) (up .answer))
-    shared-data-toggles D E h p = code-data-toggles D E h c b row xs a up is-up further steps p
+    shared-data-toggles D E h = code-data-toggles D E h c b row xs a up is-up further steps
 
-    pub shared-control-words : (D : Dir) (E : ℕ) → (E % 16 ≡ 0 → ⊥) → CodeMeaning (words D E) (usb.left up) further
+    pub shared-control-words : (D : Dir) (E : ℕ) → (E % 16 ≡ 0 → ⊥)
         → CodeAll (words D E) further (startedBy (words D E) (up .answer))
-    shared-control-words D E h p = code-control-words D E h c b row xs a up is-up further steps p
+    shared-control-words D E h = code-control-words D E h c b row xs a up is-up further steps
 
     pub shared-tog-bits : TogBits (view (bytesAfter xs (up ∷ further)))
     shared-tog-bits = code-tog-bits c b row xs a up is-up further steps

@@ -7,7 +7,7 @@ use Rattle.script.specs.Answers.{Answer}
 use Rattle.script.specs.Machine.{Machine}
 use Rattle.machine.specs.Suspended.{machineOf}
 use Rattle.proof_book.specs.Code.{Made}
-use Rattle.proof_usb20.specs.Observer.{Observer, serves, Watched, noted, Claim, Standing, Read}
+use Rattle.proof_usb20.specs.Observer.{Observer, serves, Watched, noted, Claim, Standing}
 
 -- the machine that a call left
 abbrev pub left : Made → Machine Answer Driver
@@ -18,16 +18,6 @@ module _ (O : Observer) where
   -- after it
   abbrev pub told : Made → Watched O → Watched O
   told m x = noted O (m .event .call) (m .event .lent) (m .answer) (serves (left m .way)) x
-
-  -- the chip's part
-  abbrev pub CodeReads : List Made → Watched O → Type 0
-  CodeReads [] x = Unit {0}
-  CodeReads (m ∷ ms) x = Read O (m .event .call) (m .answer) (serves (left m .way)) x × CodeReads ms (told m x)
-
-  -- the state before each call, from the bytes as the call before left them, is one that is spoken of
-  abbrev pub CodeMeaning : Machine Answer Driver → List Made → Type 0
-  CodeMeaning n [] = O .Meant (O .view (n .st))
-  CodeMeaning n (m ∷ ms) = O .Meant (O .view (n .st)) × CodeMeaning (left m) ms
 
   -- what is claimed of each call, and of the state where nothing is under way after it
   abbrev pub CodeAll : List Made → Watched O → Type 0

@@ -1,5 +1,5 @@
 -- Laws on the definitions of CodeRuns.antt: what is claimed of lists of calls is claimed of calls that were made
-use mathlib.Core.List.{List, [], _∷_, _++_}
+use mathlib.Core.List.{List, [], _∷_}
 use mathlib.Core.Path.{_≡_, ap, subst, sym, _∙_}
 use Prim.Native.Nat.{ℕ, zero}
 use Rattle.state.specs.Driver.{Driver}
@@ -7,12 +7,11 @@ use Rattle.script.specs.Answers.{Answer}
 use Rattle.script.specs.Calls.{Config, Op, calls, startRow}
 use Rattle.script.specs.Machine.{Buf, Event, Machine, Ans, start, started}
 use Rattle.machine.specs.Suspended.{driverOf, drive, machineOf}
-use Rattle.proof_book.specs.Always.{after}
 use Rattle.proof_book.specs.Code.{Made}
 use Rattle.proof_book.specs.CodeReadings.{Steps}
-use Rattle.proof_usb20.specs.Observer.{Observer, serves, Watched, startedBy, noted, Claim, Standing, Read, Reads, All, Meaning}
+use Rattle.proof_usb20.specs.Observer.{Observer, serves, Watched, startedBy, noted, Claim, Standing, All}
 use Rattle.proof_usb20.specs.RunsLaws.{Laws, from-start}
-use Rattle.proof_usb20.specs.CodeRuns.{left, told, CodeReads, CodeMeaning, CodeAll}
+use Rattle.proof_usb20.specs.CodeRuns.{left, told, CodeAll}
 
 abbrev events : List Made → List (Event Config Op)
 events [] = []
@@ -21,47 +20,6 @@ events (m ∷ ms) = m .event ∷ events ms
 module _ (O : Observer) where
   abbrev Answered : Type 0
   Answered = Ans Answer × Machine Answer Driver
-
-  to-reads : (ms : List Made) (xs : List ℕ) (a : Buf) (x : Watched O) → Steps xs a ms → CodeReads O ms x
-      → Reads O (events ms) (machineOf xs a) x
-  to-reads [] xs a x h r = tt
-  to-reads (m ∷ ms) xs a x h r =
-      subst
-      (λ (z : Answered). Read O (m .event .call) (z .0) (serves (z .1 .way)) x
-      × Reads O (events ms) (z .1) (noted O (m .event .call) (m .event .lent) (z .0) (serves (z .1 .way)) x)) (h .0)
-      (r .0, to-reads ms (m .bytes) (m .slots) (told O m x) (h .1) (r .1))
-
-  to-meaning : (ms : List Made) (xs : List ℕ) (a : Buf) → Steps xs a ms → CodeMeaning O (machineOf xs a) ms
-      → (ds fs : List (Event Config Op)) → events ms ≡ ds ++ fs
-      → O .Meant (O .view (after calls driverOf ds (machineOf xs a) .st))
-  to-meaning [] xs a h p [] fs e = p
-  to-meaning [] xs a h p (d ∷ ds) fs e = absurd (none e)
-    where
-      none : [] ≡ d ∷ (ds ++ fs) → ⊥
-      none q = subst (λ (l : List (Event Config Op)). empty l) q tt
-        where
-          empty : List (Event Config Op) → Type 0
-          empty [] = Unit {0}
-          empty (x ∷ l) = ⊥
-  to-meaning (m ∷ ms) xs a h p [] fs e = p .0
-  to-meaning (m ∷ ms) xs a h p (d ∷ ds) fs e =
-      subst (λ (c : Event Config Op). O .Meant (O .view (after calls driverOf ds (drive (c .call) (machineOf xs a) (c .lent) .1) .st))) (heads e)
-      (subst (λ (z : Answered). O .Meant (O .view (after calls driverOf ds (z .1) .st)))
-      (h .0) (to-meaning ms (m .bytes) (m .slots) (h .1) (p .1) ds fs (tails e)))
-    where
-      heads : m .event ∷ events ms ≡ d ∷ (ds ++ fs) → m .event ≡ d
-      heads q = ap (λ (l : List (Event Config Op)). first l) q
-        where
-          first : List (Event Config Op) → Event Config Op
-          first [] = d
-          first (x ∷ l) = x
-
-      tails : m .event ∷ events ms ≡ d ∷ (ds ++ fs) → events ms ≡ ds ++ fs
-      tails q = ap (λ (l : List (Event Config Op)). rest l) q
-        where
-          rest : List (Event Config Op) → List (Event Config Op)
-          rest [] = []
-          rest (x ∷ l) = l
 
   to-code : (ms : List Made) (xs : List ℕ) (a : Buf) (x : Watched O) → Steps xs a ms
       → All O (events ms) (machineOf xs a) x → CodeAll O ms x
@@ -78,13 +36,10 @@ module _ (O : Observer) where
   -- any bytes, a start-up that rows 1 and 2 do not stop, and then any calls whose contracts say what they are steps of
   pub code-from-start : {R : O .Log → O .View → Type 0} → Laws O R → (c : Config) (b : Buf) → startRow c b ≡ zero
       → (xs : List ℕ) (a : Buf) (first : Made) → first .event ≡ record { call = start c; lent = b } → (ms : List Made)
-      → Steps xs a (first ∷ ms) → CodeMeaning O (left first) ms → CodeReads O ms (startedBy O (first .answer))
-      → CodeAll O ms (startedBy O (first .answer))
-  code-from-start L c b row xs a first e ms h p r =
+      → Steps xs a (first ∷ ms) → CodeAll O ms (startedBy O (first .answer))
+  code-from-start L c b row xs a first e ms h =
       let q : (first .answer, left first) ≡ started calls driverOf (λ s. s) c zero (machineOf xs a) b
       = subst (λ (v : Event Config Op). (first .answer, left first) ≡ drive (v .call) (machineOf xs a) (v .lent)) e (h .0)
       ∙ ap (λ n. started calls driverOf (λ s. s) c n (machineOf xs a) b) row in
       to-code ms (first .bytes) (first .slots) (startedBy O (first .answer)) (h .1)
-      (subst (λ (z : Answered). Meaning O (events ms) (z .1) → Reads O (events ms) (z .1) (startedBy O (z .0))
-      → All O (events ms) (z .1) (startedBy O (z .0))) (sym q) (from-start O L c b row (events ms) (machineOf xs a))
-      (to-meaning ms (first .bytes) (first .slots) (h .1) p) (to-reads ms (first .bytes) (first .slots) (startedBy O (first .answer)) (h .1) r))
+      (subst (λ (z : Answered). All O (events ms) (z .1) (startedBy O (z .0))) (sym q) (from-start O L c b row (events ms) (machineOf xs a)))

@@ -1,7 +1,7 @@
 -- The observer of endpoint 0. ControlStagesLaws.antt proves: control stages equal USB 2.0's, over EVERY list of calls from an accepted start-up
 use Rattle.script.specs.AddressWrites.{Writes}
 use Rattle.script.specs.AddressCalls.{Addresses}
-use Rattle.proof_usb20.specs.Log.{Log, before, opens, saw, closes, Brings, Armed, Fair, Allowed}
+use Rattle.proof_usb20.specs.Log.{Log, before, opens, saw, closes, Armed, Fair, Allowed}
 use Rattle.proof_usb20.specs.Observer.{Observer}
 use Rattle.proof_usb20.specs.Ep0.{View, view}
 
@@ -14,12 +14,10 @@ control = record {
   opens = opens;
   saw = saw;
   closes = closes;
-  Brings = Brings;
   Fair = Fair;
   Allowed = Allowed;
   Asks = λ o q. Writes (Addresses o) q;
   View = View;
   view = view;
   Stands = λ w x. Armed w;
-  Meant = λ x. Unit {0};
 }

@@ -18,19 +18,21 @@ use Rattle.script.specs.Machine.{Buf, Event, Machine, start, started}
 use Rattle.machine.specs.Suspended.{driverOf}
 use Rattle.script_ops.specs.Rings.{St}
 use Rattle.script_ops.specs.Concrete.{concrete}
-use Rattle.proof_usb20.specs.Log.{Log, before, opens, closes, Armed, Poll, none, begins}
-use Rattle.proof_usb20.specs.Log.{pollSetup, pollOut, pollIn, pollStatus, pollOf, FairPoll, Fair}
-use Rattle.proof_usb20.specs.Observer.{startedBy, Reads, All}
+use Rattle.proof_usb20.specs.Log.{Log, before, opens, closes, Armed, Fair, unlent}
+use Rattle.proof_usb20.specs.Observer.{startedBy, All}
 use Rattle.proof_usb20.specs.ExemptLaws.{differ}
 use Rattle.proof_usb20.specs.Watch.{at-end, at-ask}
 use Rattle.proof_usb20.specs.WatchLaws.{watch-more}
-use Rattle.proof_usb20.specs.Ep0.{View, view, R, Law}
+use Rattle.state.specs.Fresh.{freshDriver}
+use Rattle.proof_usb20.specs.Ep0.{Watch, View, view, Between, R, Law}
+use Rattle.proof_usb20.specs.QuietLaws.{Any}
+use Rattle.proof_usb20.specs.RequestLaws.{Left, kept-base, law-new}
 use Rattle.proof_usb20.specs.RunsLaws.{Laws, Ups, from-start}
 use Rattle.proof_usb20.specs.BesidesLaws.{aside-wakes}
 use Rattle.proof_book.specs.Code.{Made}
 use Rattle.proof_book.specs.CodeReadings.{Steps}
 use Rattle.proof_book.specs.Computing.{computing}
-use Rattle.proof_usb20.specs.CodeRuns.{left, CodeReads, CodeMeaning, CodeAll}
+use Rattle.proof_usb20.specs.CodeRuns.{CodeAll}
 use Rattle.proof_usb20.specs.CodeRunsLaws.{code-from-start}
 use Rattle.proof_usb20.specs.StagesLaws.{law-data-out, law-data-in, law-accept, law-accept-address, law-reject, law-setup}
 use Rattle.proof_usb20.specs.PollsLaws.{law-poll-setup, law-poll-data-out, law-poll-data-in, law-poll-accept}
@@ -89,66 +91,67 @@ law-of (other o) = of-other o
 law-of (aside o) = law-aside o
 
 stands : (w : Log) (x : View) → R w x → Armed w
-stands w x (inl e) h = differ (sym h ∙ e)
-stands w x (inr r) h = (r .out .shows, r .inn .shows, r .size)
+stands w x (k, inl e) h = differ (sym h ∙ e)
+stands w x (k, inr r) h = (r .out .shows, r .inn .shows, r .size)
 
--- before the first setup packet
-new : (out : tree.Out St Answer) → Ups control (λ s. R before (view (s .0))) out
-new (tree.ends a s) = at-end (inl refl)
-new (tree.asks q s k) = at-ask tt (λ v t b h. new (k v t))
+-- before the first setup packet: no request, and EP0 is not started
+fresh : (c : Config) → R before (view (driverOf .fresh c))
+unfolding freshDriver
+fresh c = (record { says = refl; started = refl; maximum = λ h. differ h }, inl refl)
 
-unlent : (o : Op) → calls .slots o ≡ true → (w : Log) (x : View) → R w x → R (closes o (Refused 1) (opens o w)) x
-unlent interrupt h w x r = r
-unlent (slotted o) h w x r = r
-unlent (other o) h w x r = r
-unlent (aside o) h w x r = r
+new : (c : Config) (b : Buf) → Ups control (λ s. R before (view (s .0))) (run concrete (calls .starts c) (driverOf .fresh c, b))
+new c b = ups (law-new c .goes before (driverOf .fresh c, b))
+  where
+    ups : {w : Log} {o : tree.Out St Answer}
+        → Watch Between Any (λ x _ t. Left before (driverOf .fresh c, b) x t) w o → Ups control (λ s. R before (view (s .0))) o
+    ups (at-end l) = at-end (kept-base (fresh c .0) refl refl (l .1), inl refl)
+    ups (at-ask _ k) = at-ask tt (λ v t _ h. ups (k v t tt h))
 
-fair-1 : (p : Poll) (w : Log) → FairPoll p (Refused 1) w
-fair-1 none w = tt
-fair-1 begins w = λ h. differ h
-fair-1 pollSetup w = tt
-fair-1 pollOut w = ((λ h. differ h, λ h. differ h), tt)
-fair-1 pollIn w = ((λ h. differ h, λ h. differ h), tt)
-fair-1 pollStatus w = ((λ h. differ h, λ h. differ h), tt, tt)
+-- row 1
+refused-1 : (o : Op) → calls .slots o ≡ true → (w : Log) (x : View) → R w x → R (closes o (Refused 1) (opens o w)) x
+refused-1 interrupt h w x r = r
+refused-1 (slotted o) h w x r = r
+refused-1 (other o) h w x r = r
+refused-1 (aside o) h w x r = r
 
-fair-1-of : (o : Op) (w : Log) → Fair o (Refused 1) w
-fair-1-of interrupt w = tt
-fair-1-of (slotted o) w = fair-1 (pollOf (slotted o)) w
-fair-1-of (other o) w = fair-1 (pollOf (other o)) w
-fair-1-of (aside o) w = fair-1 (pollOf (aside o)) w
+fair-1 : (o : Op) → calls .slots o ≡ true → (w : Log) → Fair o (Refused 1) w
+fair-1 interrupt h w = tt
+fair-1 (slotted (SetEnabled d e on)) h w = tt
+fair-1 (slotted (PollRead e n)) h w = tt
+fair-1 (slotted (BeginWrite e bs)) h w = tt
+fair-1 (slotted (PollWrite e bs)) h w = tt
+fair-1 (slotted (PollDataOut n)) h w = (unlent refl, tt)
+fair-1 (slotted (BeginDataIn bs first last)) h w = unlent refl
+fair-1 (other o) h w = differ h
+fair-1 (aside o) h w = tt
 
 pub laws : Laws control R
 laws = record {
   stands = stands;
-  call = λ o w s r _ z. watch-more (law-of o w s r z) (λ x a t p. (p .0, λ _. p .1));
+  call = λ o w s r z. watch-more (law-of o w s r z) (λ x a t p. (p .0, λ _. p .1));
   asks = λ o s. ways-laws.only-run concrete (code o) (address-writes o) tt s;
   besides = λ o d b a t z h. (aside-view o d b a t z h, aside-wakes o d b a t h);
-  new = λ c b. new (run concrete (calls .starts c) (driverOf .fresh c, b));
-  unlent = unlent;
-  fair-1 = fair-1-of;
+  new = new;
+  unlent = refused-1;
+  fair-1 = fair-1;
 }
 
 -- after each call: EP0's control words as last written say what USB 2.0's pipe says, a packet IN that is ready has its
--- length, a poll is done exactly after the completion, "not yet" exactly before it, refused with 9 only after a setup
--- packet, and the address is written after the status stage alone; but for the log's exemptions (Log.antt). `Reads`:
--- EP0's control words read back as they were written
+-- length, a poll is done exactly after the completion, "not yet" exactly before it, a call is refused for its reason
+-- alone, and the address is written after the status stage alone; except where the log is exempt (Log.antt). Whatever
+-- the chip answers
 pub control-stages : (c : Config) (b : Buf) → startRow c b ≡ zero
     → (es : List (Event Config Op)) (m : Machine Answer Driver)
     → let y = started calls driverOf (λ s. s) c zero m b in
-    Reads control es (y .1) (startedBy control (y .0)) → All control es (y .1) (startedBy control (y .0))
-control-stages c b row es m r = from-start control laws c b row es m (λ _ _ _. tt) r
+    All control es (y .1) (startedBy control (y .0))
+control-stages c b row es m = from-start control laws c b row es m
 
 -- of the Rattle code: any bytes, a start-up that rows 1 and 2 do not stop, and then any calls, each as its contract
 -- says
 pub code-control-stages : (c : Config) (b : Buf) → startRow c b ≡ zero → (xs : List ℕ) (a : Buf) (first : Made)
     → first .event ≡ record { call = start c; lent = b } → (ms : List Made)
-    → Steps xs a (first ∷ ms) → CodeReads control ms (startedBy control (first .answer))
-    → CodeAll control ms (startedBy control (first .answer))
-code-control-stages c b row xs a first e ms h r = code-from-start control laws c b row xs a first e ms h (meant ms (left first)) r
-  where
-    meant : (ms : List Made) (n : Machine Answer Driver) → CodeMeaning control n ms
-    meant [] n = tt
-    meant (m ∷ ms) n = (tt, meant ms (left m))
+    → Steps xs a (first ∷ ms) → CodeAll control ms (startedBy control (first .answer))
+code-control-stages c b row xs a first e ms h = code-from-start control laws c b row xs a first e ms h
 
 -- ---- nothing of an ordinary transfer is exempt: calls with readings, computed by the check
 
@@ -167,8 +170,8 @@ serving f b s = record { op = interrupt; flags = f; free = b; status = s }
 
 -- EP0's control words read back as they were written, the frame is 8
 abbrev reading : Does → Log → Access → ℕ
-reading x w (Read r e) = cond (sameReg r EpRxCtrl) (w .rx)
-    (cond (sameReg r EpTxCtrl) (w .tx)
+reading x w (Read r e) = cond (sameReg r EpRxCtrl) (w .rx .last)
+    (cond (sameReg r EpTxCtrl) (w .tx .last)
     (cond (sameReg r IntFg) (x .flags) (cond (sameReg r MisSt) (x .free) (cond (sameReg r IntSt) (x .status) (cond (sameReg r FrameNo) 8 0)))))
 reading x w (Write r e v) = 0
 reading x w (Receive e y) = 0
@@ -225,7 +228,7 @@ abbrev setting : List Does → List Does
 setting xs = serving 32 1 0 ∷ does (other BeginSetup) ∷ does (other PollSetup) ∷ xs
 
 pub data Transfer : Type 0 where
-  setup-alone control-read control-write hidden-write set-address : Transfer
+  setup-alone control-read slow-read control-write hidden-write set-address : Transfer
 
 -- the status is of IN 0, or of OUT 0 with tog_ok; of the hidden packet OUT no interrupt tells, but
 -- the status stage's token IN while the bus is busy
@@ -234,6 +237,10 @@ steps setup-alone = setting []
 steps control-read = setting
     (does (slotted (BeginDataIn (1 ∷ 2 ∷ []) true true)) ∷ serving 2 1 32 ∷ does
     (other PollDataIn) ∷ serving 2 1 64 ∷ does (other PollDataIn) ∷ [])
+-- while the function takes its time, interrupts of other endpoints show the host's IN 0, answered with NAK
+steps slow-read = serving 32 1 0 ∷ does (other BeginSetup) ∷ serving 2 1 32 ∷ does (other PollSetup) ∷ serving 2 1 32 ∷ does
+    (slotted (BeginDataIn (1 ∷ 2 ∷ []) true true)) ∷ serving 2 1 32 ∷ does
+    (other PollDataIn) ∷ serving 2 1 64 ∷ does (other PollDataIn) ∷ []
 steps control-write = setting
     (does (other (BeginDataOut 64 true)) ∷ serving 2 1 64 ∷ does
     (slotted (PollDataOut 64)) ∷ does (other BeginAccept) ∷ serving 2 1 32 ∷ does (other PollAccept) ∷ [])
@@ -249,6 +256,7 @@ none-of (x ∷ xs) = false ∷ none-of xs
 abbrev pub answerOf : Transfer → Ans Answer
 answerOf setup-alone = ended (Done (1 ∷ 2 ∷ 3 ∷ 4 ∷ 5 ∷ 6 ∷ 7 ∷ 8 ∷ []))
 answerOf control-read = ended (Done [])
+answerOf slow-read = ended (Done [])
 answerOf control-write = ended (Done [])
 answerOf hidden-write = ended (Done [])
 answerOf set-address = ended (End 0 [])
@@ -258,6 +266,7 @@ pub ordinary-run : (t : Transfer) → (exempts (steps t) up ≡ none-of (steps t
 unfolding computing
 ordinary-run setup-alone = (refl, refl)
 ordinary-run control-read = (refl, refl)
+ordinary-run slow-read = (refl, refl)
 ordinary-run control-write = (refl, refl)
 ordinary-run hidden-write = (refl, refl)
 ordinary-run set-address = (refl, refl)

@@ -1,7 +1,7 @@
 -- Laws on the definitions of DataToggles.antt
 use mathlib.Core.List.{List, [], _∷_}
 use mathlib.Core.Logic.{_⊎_, inl, inr}
-use mathlib.Core.Path.{_≡_, refl, subst, sym}
+use mathlib.Core.Path.{_≡_, refl, ap, subst, sym, _∙_}
 use Prim.Native.Nat.{ℕ, zero, _%_}
 use Rattle.regs.specs.declared.Dir.{Dir}
 use Rattle.regs.specs.declared.Dir.the-variants.{Out, In}
@@ -21,7 +21,7 @@ use Rattle.proof_usb20.specs.ExemptLaws.{differ}
 use Rattle.proof_usb20.specs.Sequence.{Track}
 use Rattle.proof_usb20.specs.Follow.{EpSeen, Fits, Law}
 use Rattle.proof_usb20.specs.CalmLaws.{Else}
-use mathlib.Core.Bool.{Bool, true, false, cond, _&&_}
+use mathlib.Core.Bool.{Bool, true, false, cond, _&&_, _||_}
 use lib.ListN.{length, getD, replicate, getD-replicate}
 use Prim.Native.Nat.{_<_}
 use Rattle.regs.specs.declared.Reg.the-variants.{Ctrl}
@@ -36,16 +36,15 @@ use Rattle.script.specs.Every as ways
 use Rattle.script.specs.Statics.{isOn}
 use Rattle.script.specs.Answers.{Refused}
 use Rattle.script.specs.Calls.{code}
-use Rattle.script.specs.Machine.{Call, start, begin, go, question, Ans, ended, handed, told}
+use Rattle.script.specs.Machine.{start, ended}
 use Rattle.script_ops.specs.Rings.{St}
 use Rattle.script_ops.specs.Concrete.{concrete}
 use Rattle.proof_book.specs.Sorting.{Sorting}
 use Rattle.proof_usb20.specs.Sequence as log
 use Rattle.proof_usb20.specs.Sequence.{before, opens, Fair, own, Writing, wrote, LeavesWord}
-use Rattle.proof_usb20.specs.Observer.{Observer, Under, at-rest, doing, starting, Watched, startedBy, ReadAt, Read, Reads, All, Meaning}
+use Rattle.proof_usb20.specs.Observer.{startedBy, All}
 use Rattle.proof_usb20.specs.Watch.{Along, at-end, at-ask}
-use Rattle.proof_usb20.specs.WatchLaws.{watch-more}
-use Rattle.regs.specs.declared.Access.{Access}
+use Rattle.proof_usb20.specs.WatchLaws.{watch-more, watch-any}
 use Rattle.proof_usb20.specs.RunsLaws.{Laws, Sees, Ups, Only, from-start}
 use Rattle.proof_usb20.specs.FollowLaws as follow
 use Rattle.proof_usb20.specs.Follow as following
@@ -53,7 +52,7 @@ use Rattle.proof_usb20.specs.Follow.{seenOf, view, Follow}
 use Rattle.proof_usb20.specs.BesidesLaws.{aside-wakes}
 use Rattle.proof_book.specs.Code.{Made}
 use Rattle.proof_book.specs.CodeReadings.{Steps}
-use Rattle.proof_usb20.specs.CodeRuns.{left, CodeReads, CodeMeaning, CodeAll}
+use Rattle.proof_usb20.specs.CodeRuns.{CodeAll}
 use Rattle.proof_usb20.specs.CodeRunsLaws.{code-from-start}
 use Rattle.proof_usb20.specs.CalmLaws.{Off, Quiet, loose, q-resultless, q-bind, q-ret, q-write, q-wait, q-reg, q-int-en}
 use Rattle.proof_usb20.specs.ReadingLaws.{law-begin-read, law-poll-read, law-poll-write, law-begin-write}
@@ -65,6 +64,9 @@ use Rattle.proof_usb20.specs.OthersLaws.{law-data-out, law-poll-data-out
 use Rattle.proof_usb20.specs.OthersLaws.{law-accept-address, law-poll-accept, law-reject}
 use Rattle.proof_usb20.specs.RestartingLaws.{law-set-stalled, law-bus-poll, law-allocate, law-allocate-all, law-start}
 use Rattle.proof_usb20.specs.TokensLaws.{law-interrupt}
+use Rattle.proof_usb20.specs.AllocatedLaws as isochronous
+use Rattle.proof_usb20.specs.AllocatedLaws.{iso-made}
+use Rattle.proof_wake_ups.specs.Rooms.{Few}
 use Rattle.proof_usb20.specs.DataToggles.{toggles, words}
 
 not-ep0 : (D : Dir) (E : ℕ) → (E % 16 ≡ 0 → ⊥) → (d : Dir) → Else D E d 0
@@ -109,11 +111,11 @@ module _ (D : Dir) (E : ℕ) (z : (d : Dir) → Else D E d 0) where
   ups (at-ask _ k) = at-ask tt (λ v t _ h. ups (k v t tt h))
 
   few : (o : Op) {w : Track} {out : tree.Out St Answer} → Follow D E (following.Ends D E o) w out
-      → Sees (toggles D E) (λ _ _. Unit {0}) (following.EndsFew D E o) w out
+      → Follow D E (following.EndsFew D E o) w out
   few o x = watch-more x (λ x a t p. (p .0, λ _. p .1))
 
   law-of : (o : Op) (w : Track) (s : St) → Fits w (view D E (s .0)) → isOn (epOn (s .0) D E .iso) ≡ false
-      → Sorting (s .0) → Sees (toggles D E) (λ _ _. Unit {0}) (following.EndsFew D E o) (opens D E o w) (run concrete (code o) s)
+      → Sorting (s .0) → Follow D E (following.EndsFew D E o) (opens D E o w) (run concrete (code o) s)
   law-of interrupt w s r i k = law-interrupt D E z w s r i k
   law-of (slotted o) w s r i k = few (slotted o) (of-slotted o w s r i k)
   law-of (other o) w s r i k = few (other o) (of-other o w s r i k)
@@ -127,6 +129,17 @@ module _ (D : Dir) (E : ℕ) (z : (d : Dir) → Else D E d 0) where
   law-new c = q-resultless D E
       (q-bind D E (q-write D E (q-ret D E)) (λ _. q-bind D E (q-wait D E (q-ret D E)) (λ _. q-bind D E (q-reg D E Ctrl 0 _)
       (λ _. q-bind D E (q-write D E (q-ret D E)) (λ _. q-bind D E (q-write D E (q-ret D E)) (λ _. q-int-en D E _))))))
+
+  -- allocated as an isochronous one, or not, and then the record fits
+  abbrev pub Fitting : Bool × Track → EpSeen → Type 0
+  Fitting x v = (x .0 ≡ true) ⊎ ((isOn (v .iso) ≡ false) × Fits (x .1) v)
+
+  new-iso : (c : Config) → isOn (view D E (driverOf .fresh c) .iso) ≡ false
+  unfolding freshDriver epOn isOn
+  new-iso c = fresh-iso (key D E) (key-lt D E)
+    where
+      fresh-iso : (k : ℕ) → k < 32 → isOn (getD (replicate 32 newEp) k noEp .iso) ≡ false
+      fresh-iso k l = ap (λ (r : EpState). isOn (r .iso)) (getD-replicate 32 k newEp noEp l)
 
   -- start-up's own script
   new-fits : (c : Config) → Fits before (view D E (driverOf .fresh c))
@@ -142,9 +155,9 @@ module _ (D : Dir) (E : ℕ) (z : (d : Dir) → Else D E d 0) where
   new-places c = refl
 
   new : (c : Config) (b : Buf)
-      → Follow D E (λ _ _ s. Fits before (view D E (s .0))) before (run concrete (calls .starts c) (driverOf .fresh c, b))
+      → Follow D E (λ _ _ s. Fitting (false, before) (view D E (s .0))) before (run concrete (calls .starts c) (driverOf .fresh c, b))
   new c b = follow.follow-more D E (law-new c .goes before (driverOf .fresh c, b) (refl, λ _ _ _ _. refl) (loose D E (new-places c)))
-      (λ _ _ s m. subst (Fits before) (sym (m .1)) (new-fits c))
+      (λ _ _ s m. inr (ap (λ (y : EpSeen). isOn (y .iso)) (m .1) ∙ new-iso c, subst (Fits before) (sym (m .1)) (new-fits c)))
 
   last : (b : Bool) (x y : Track) → cond (b && false) x y ≡ y
   last true x y = refl
@@ -173,62 +186,76 @@ module _ (D : Dir) (E : ℕ) (z : (d : Dir) → Else D E d 0) where
   fair-refused (other o) n w = tt
   fair-refused (aside o) n w = tt
 
-  pub laws : Laws (toggles D E) Fits
+  or-true : (b : Bool) → b || true ≡ true
+  or-true true = refl
+  or-true false = refl
+
+  -- a log beside it that no access changes
+  beside : {A : Type 0} {P : Track → A → St → Type 0} {b : Bool} {w : Track} {o : tree.Out St A} → Follow D E P w o
+      → Sees (toggles D E) (λ _ _. Unit {0}) (λ x a t. (x .0 ≡ b) × P (x .1) a t) (b, w) o
+  beside (at-end p) = at-end (refl, p)
+  beside (at-ask _ k) = at-ask tt (λ v t _ h. beside (k v t tt h))
+
+  both-of : {A : Type 0} {P Q : Track → A → St → Type 0} {w : Track} {o : tree.Out St A} → Follow D E P w o → Follow D E Q w o
+      → Follow D E (λ x a t. P x a t × Q x a t) w o
+  both-of (at-end p) (at-end q) = at-end (p, q)
+  both-of (at-ask _ f) (at-ask _ g) = at-ask tt (λ v t _ k. both-of (f v t tt k) (g v t tt k))
+
+  abbrev Ended : Op → Bool × Track → Answer → St → Type 0
+  Ended o x a t = Fitting (toggles D E .closes o a x) (view D E (t .0)) × (Few (ended a) → toggles D E .Fair o a x)
+
+  silent : (o : Op) (x : Bool × Track) → x .0 ≡ true → (out : tree.Out St Answer) → Sees (toggles D E) (λ _ _. Unit {0}) (Ended o) x out
+  silent o x h out = watch-any (λ y. y .0 ≡ true) (λ _ _ _. tt) (λ _ _ _ g. g)
+      (λ y a t g. (inl (rw g refl), λ _ z. differ (sym z ∙ g))) x h out
+
+  pub heard : (o : Op) (x : Bool × Track) (s : St) → Fitting x (view D E (s .0)) → Sorting (s .0)
+      → Sees (toggles D E) (λ _ _. Unit {0}) (Ended o) (toggles D E .opens o x) (run concrete (code o) s)
+  heard o x s (inl h) q = silent o (toggles D E .opens o x) h (run concrete (code o) s)
+  heard o x s (inr (i, f)) q = watch-more (beside (both-of (law-of o (x .1) s f i q) (iso-made D E o (x .1) s (q .places) i)))
+      (λ y a t p. (after y a t (p .0) (p .1 .0 .0) (p .1 .1), λ few _. p .1 .0 .1 few))
+    where
+      after : (y : Bool × Track) (a : Answer) (t : St) → y .0 ≡ x .0 → Fits (log.closes D E o a (y .1)) (view D E (t .0))
+          → isochronous.Made D E o (y .1) a t → Fitting (toggles D E .closes o a y) (view D E (t .0))
+      after y a t e g (inl m) = inl (rw m (or-true (y .0)))
+      after y a t e g (inr n) = inr (n, g)
+
+  unlent-too : (o : Op) → calls .slots o ≡ true → (x : Bool × Track) (v : EpSeen) → Fitting x v
+      → Fitting (toggles D E .closes o (Refused 1) (toggles D E .opens o x)) v
+  unlent-too o h x v (inl e) = inl (rw e refl)
+  unlent-too o h x v (inr (i, f)) = inr (i, unlent o h (x .1) v f)
+
+  pub laws : Laws (toggles D E) Fitting
   laws = record {
-    stands = λ w x r. r;
-    call = λ o w s r i q. law-of o w s r i q;
+    stands = λ x v r h. fits-of r h;
+    call = λ o x s r q. heard o x s r q;
     asks = λ o s. any (run concrete (code o) s);
     besides = λ o d b a t q h. (aside-view D E o d b a t q h, aside-wakes o d b a t h);
     new = λ c b. ups (new c b);
-    unlent = unlent;
-    fair-1 = λ o w. fair-refused o 1 w;
+    unlent = unlent-too;
+    fair-1 = λ o _ x _. fair-refused o 1 (x .1);
   }
+    where
+      fits-of : {b : Bool} {X Y : Type 0} → (b ≡ true) ⊎ (X × Y) → b ≡ false → Y
+      fits-of (inl e) h = differ (sym h ∙ e)
+      fits-of (inr r) h = r .1
 
--- nothing is asked of the chip
-module _ (O : Observer) (brings : (w : O .Log) (q : Access) (v : ℕ) → O .Brings w q v) where
-  read-at : (v : ℕ) (a : Ans Answer) (still : Bool) (w : O .Log) (u : Under) → ReadAt O v a still w u
-  read-at v a still w at-rest = tt
-  read-at v (ended a) true w (doing o q) = tt
-  read-at v (ended a) false w (doing o q) = brings w q v
-  read-at v (handed p) still w (doing o q) = brings w q v
-  read-at v (told n) still w (doing o q) = tt
-  read-at v (ended a) true w starting = tt
-  read-at v (ended a) false w starting = tt
-  read-at v (handed p) still w starting = tt
-  read-at v (told n) still w starting = tt
-
-  any-read : (c : Call Config Op) (a : Ans Answer) (still : Bool) (x : Watched O) → Read O c a still x
-  any-read (start c) a still x = tt
-  any-read (begin o) a still x = tt
-  any-read (go v) a still x = read-at v a still (x .log) (x .under)
-  any-read (question q) a still x = tt
-
-  reads-any : (es : List (Event Config Op)) (m : Machine Answer Driver) (x : Watched O) → Reads O es m x
-  reads-any [] m x = tt
-  reads-any (e ∷ es) m x = (any-read (e .call) _ _ x, reads-any es _ _)
-
-  code-reads-any : (ms : List Made) (x : Watched O) → CodeReads O ms x
-  code-reads-any [] x = tt
-  code-reads-any (m ∷ ms) x = (any-read (m .event .call) _ _ x, code-reads-any ms _)
-
--- after each call: a poll of the endpoint is done exactly if a packet with another sequence bit was served since (or a
--- cleared halt finished its write); an interrupt that ends with a token of the endpoint has read its control word;
--- where nothing is under way, the record has the bit with the last new packet, or DATA0 since it was enabled, its halt
--- cleared, the bus reset; whether a completion is there; its length. Whatever the chip answers
+-- after each call, of an endpoint that no call has allocated as an isochronous one: a poll is done exactly if a packet
+-- with another sequence bit was served since (or a cleared halt finished its write); an interrupt that ends with a token
+-- of the endpoint has read its control word; where nothing is under way, the record has the bit with the last new
+-- packet, or DATA0 since it was enabled, its halt cleared, the bus reset; whether a completion is there; its length.
+-- Whatever the chip answers
 pub data-toggles : (D : Dir) (E : ℕ) → (E % 16 ≡ 0 → ⊥) → (c : Config) (b : Buf) → startRow c b ≡ zero
     → (es : List (Event Config Op)) (m : Machine Answer Driver)
-    → let y = started calls driverOf (λ s. s) c zero m b in
-    Meaning (toggles D E) es (y .1) → All (toggles D E) es (y .1) (startedBy (toggles D E) (y .0))
-data-toggles D E h c b row es m p = from-start (toggles D E) (laws D E (not-ep0 D E h)) c b row es m p (reads-any (toggles D E) (λ _ _ _. tt) es _ _)
+    → let y = started calls driverOf (λ s. s) c zero m b in All (toggles D E) es (y .1) (startedBy (toggles D E) (y .0))
+data-toggles D E h c b row es m = from-start (toggles D E) (laws D E (not-ep0 D E h)) c b row es m
 
 -- of the Rattle code: any bytes, a start-up that rows 1 and 2 do not stop, and then any calls, each as its contract
 -- says
 pub code-data-toggles : (D : Dir) (E : ℕ) → (E % 16 ≡ 0 → ⊥) → (c : Config) (b : Buf) → startRow c b ≡ zero
     → (xs : List ℕ) (a : Buf) (first : Made) → first .event ≡ record { call = start c; lent = b } → (ms : List Made)
-    → Steps xs a (first ∷ ms) → CodeMeaning (toggles D E) (left first) ms
-    → CodeAll (toggles D E) ms (startedBy (toggles D E) (first .answer))
-code-data-toggles D E h c b row xs a first e ms s p = code-from-start (toggles D E)
-    (laws D E (not-ep0 D E h)) c b row xs a first e ms s p (code-reads-any (toggles D E) (λ _ _ _. tt) ms _)
+    → Steps xs a (first ∷ ms) → CodeAll (toggles D E) ms (startedBy (toggles D E) (first .answer))
+code-data-toggles D E h c b row xs a first e ms s =
+    code-from-start (toggles D E) (laws D E (not-ep0 D E h)) c b row xs a first e ms s
 
 -- DECISIONS 94, of such an endpoint, where nothing is under way
 pub tog-is-bit : (w : Track) (x : EpSeen) → Fits w x → (x .tog ≡ 0) ⊎ (x .tog ≡ 1)
@@ -270,10 +297,10 @@ module _ (D : Dir) (E : ℕ) (h : E % 16 ≡ 0 → ⊥) where
   word-law (aside o) = leaves-any D E (aside o) (λ _ _. tt)
 
   -- two logs of one outcome
-  together : {A : Type 0} {P : Track → A → St → Type 0} {Q : Writing → A → St → Type 0} {w : Track} {u : Writing} {o : tree.Out St A}
-      → Sees (toggles D E) (λ _ _. Unit {0}) P w o
+  together : {A : Type 0} {P : Bool × Track → A → St → Type 0} {Q : Writing → A → St → Type 0} {x : Bool × Track} {u : Writing}
+      {o : tree.Out St A} → Sees (toggles D E) (λ _ _. Unit {0}) P x o
       → Along (wrote D E) (λ _ _ _. Unit {0}) (following.Between D E) (λ _ _. Unit {0}) Q u o
-      → Sees (words D E) (λ _ _. Unit {0}) (λ x a t. P (x .0) a t × Q (x .1) a t) (w, u) o
+      → Sees (words D E) (λ _ _. Unit {0}) (λ y a t. P (y .0, y .1) a t × Q (y .2) a t) (x .0, x .1, u) o
   together (at-end p) (at-end q) = at-end (p, q)
   together (at-ask _ f) (at-ask _ g) = at-ask tt (λ v t b k. together (f v t tt k) (g v t tt k))
 
@@ -311,26 +338,35 @@ module _ (D : Dir) (E : ℕ) (h : E % 16 ≡ 0 → ⊥) where
       of-others (BeginAcceptSetAddress a) = tt
   refused-leaves (aside o) u = tt
 
-  word-laws : Laws (words D E) (λ x v. Fits (x .0) v)
+  abbrev WordEnds : Op → Bool × Track × Writing → Answer → St → Type 0
+  WordEnds o x a t = Fitting D E (not-ep0 D E h) (toggles D E .closes o a (x .0, x .1)) (view D E (t .0)) × (Few (ended a) → words D E .Fair o a x)
+
+  word-call : (o : Op) (x : Bool × Track × Writing) (s : St) → Fitting D E (not-ep0 D E h) (x .0, x .1) (view D E (s .0)) → Sorting (s .0)
+      → Sees (words D E) (λ _ _. Unit {0}) (WordEnds o) (words D E .opens o x) (run concrete (code o) s)
+  word-call o x s (inl e) q = watch-any (λ y. y .0 ≡ true) (λ _ _ _. tt) (λ _ _ _ g. g)
+      (λ y a t g. (inl (rw g refl), λ _ z. differ (sym z ∙ g))) (words D E .opens o x) e (run concrete (code o) s)
+  word-call o x s (inr (i, f)) q =
+      watch-more (together (heard D E (not-ep0 D E h) o (x .0, x .1) s (inr (i, f)) q) (word-law o (x .1) s f i))
+      (λ y a t p. (p .0 .0, λ _ _. p .1))
+
+  word-laws : Laws (words D E) (λ x v. Fitting D E (not-ep0 D E h) (x .0, x .1) v)
   word-laws =
       let L = laws D E (not-ep0 D E h) in
       record {
         stands = λ _ _ _. tt;
-        call = λ o x s r i q. watch-more (together (L .call o (x .0) s r i q) (word-law o (x .0) s r i)) (λ y a t p. (p .0 .0, λ _. p .1));
+        call = word-call;
         asks = L .asks;
         besides = L .besides;
         new = L .new;
-        unlent = λ o h x v r. L .unlent o h (x .0) v r;
-        fair-1 = λ o x. refused-leaves o (x .1);
+        unlent = λ o h x v r. L .unlent o h (x .0, x .1) v r;
+        fair-1 = λ o _ x _. refused-leaves o (x .2);
       }
 
--- DATA0 in the chip's control word (9.1.1.5, 9.4.5), of every endpoint that is neither 0 nor isochronous, over EVERY
--- list of calls: a set_enabled, a cleared halt and a bus reset leave it with DATA0, on ACK where an OUT waits for a
+-- DATA0 in the chip's control word (9.1.1.5, 9.4.5), of every endpoint but 0 that no call has allocated as an
+-- isochronous one, over EVERY list of calls: a set_enabled, a cleared halt and a bus reset leave it with DATA0, on ACK where an OUT waits for a
 -- packet, else on NAK; a begin_read that finds no packet there, and a begin_write, leave it on ACK. Whatever the chip
 -- answers
 pub code-control-words : (D : Dir) (E : ℕ) → (E % 16 ≡ 0 → ⊥) → (c : Config) (b : Buf) → startRow c b ≡ zero
     → (xs : List ℕ) (a : Buf) (first : Made) → first .event ≡ record { call = start c; lent = b } → (ms : List Made)
-    → Steps xs a (first ∷ ms) → CodeMeaning (words D E) (left first) ms
-    → CodeAll (words D E) ms (startedBy (words D E) (first .answer))
-code-control-words D E h c b row xs a first e ms s p =
-    code-from-start (words D E) (word-laws D E h) c b row xs a first e ms s p (code-reads-any (words D E) (λ _ _ _. tt) ms _)
+    → Steps xs a (first ∷ ms) → CodeAll (words D E) ms (startedBy (words D E) (first .answer))
+code-control-words D E h c b row xs a first e ms s = code-from-start (words D E) (word-laws D E h) c b row xs a first e ms s

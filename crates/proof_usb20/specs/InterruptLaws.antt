@@ -8,13 +8,13 @@ use lib.Dec.{eqb}
 use Rattle.bits.specs.Walk.{setBits}
 use Rattle.regs.specs.declared.Access.the-variants.{Read}
 use Rattle.regs.specs.declared.Reg.{Reg}
-use Rattle.regs.specs.declared.Reg.the-variants.{EpTxCtrl}
+use Rattle.regs.specs.declared.Reg.the-variants.{EpRxCtrl, EpTxCtrl}
 use Rattle.regs.specs.declared.Dir.the-variants.{Out, In}
 use Rattle.regs.specs.declared.Dir.{Dir}
 use Rattle.regs.specs.Registers.{ctrlOf}
 use Rattle.regs.specs.declared.Token.{Token}
 use Rattle.regs.specs.declared.Token.the-variants as tok
-use Rattle.regs.specs.ControlWord.{nak, flip, nakflip}
+use Rattle.regs.specs.ControlWord.{flip, nakflip}
 use Rattle.regs.specs.Status.{endpoint, isSof, togOk}
 use Rattle.script.specs.declared.Transfer.{Transfer}
 use Rattle.script.specs.Tree as tree
@@ -31,51 +31,90 @@ use Rattle.script_ops.specs.Concrete.{concrete}
 use Rattle.proof_book.specs.TransferKindsLaws.{put-steady, act-steady}
 use Rattle.proof_usb20.specs.Pipe as pipe
 use Rattle.proof_usb20.specs.Pipe.{isReady, packet}
-use Rattle.proof_usb20.specs.Log.{Log, off, reads, writes, Brings, withRx, withTx, withPhase, happens, ofToken}
+use Rattle.proof_usb20.specs.Log.{Ep0Word, writtenAs, readAs, shownAs, Log, off, reads, compared, writes, withRx, withTx}
+use Rattle.proof_usb20.specs.Log.{withGot, withPhase, happens, ofToken}
 use Rattle.proof_usb20.specs.Watch.{at-end, at-ask}
 use Rattle.proof_usb20.specs.WatchLaws.{watch-bind, watch-more, watch-cond}
-use Rattle.proof_usb20.specs.Ep0.{Watch, Rec, View, view, R, Between}
+use Rattle.proof_usb20.specs.Ep0.{Watch, Rec, View, view, Base, R, Between}
 use Rattle.proof_usb20.specs.ExemptLaws.{differ}
 use Rattle.proof_usb20.specs.ViewsLaws.{rec, setOut, setIn}
 use Rattle.proof_usb20.specs.Ep0Laws.{act-view}
 use Rattle.proof_usb20.specs.StagesLaws.{inWith, Whole, out-view, in-view, in-whole}
 use Rattle.proof_usb20.specs.QuietLaws.{Plainly, plainly, steadily, Any, Quiet, q-ret, q-bind, q-if, q-every}
 use Rattle.proof_usb20.specs.PartsLaws.{q-got, q-when, q-sof, q-late, q-check, q-sof-arm, q-dispatch}
-use Rattle.proof_usb20.specs.EventsLaws.{completed, packet-out, packet-in, token-out, token-in}
+use Rattle.proof_usb20.specs.EventsLaws.{completed, nakked, flipped, nakflipped, packet-out, packet-in, token-out, token-in}
 
--- ---- the events, of a log that may be exempt
-
--- a packet that comes unready exempts
-unless-ready : {X : Type 0} (e b : Bool) → (b ≡ true → X) → ((e || not b) || false ≡ true) ⊎ X
-unless-ready e true x = inr (x refl)
-unless-ready true false x = inl refl
-unless-ready false false x = inl refl
-
--- a packet OUT, then the token
-pub r-out : (w : Log) (x : View) (m : Bool) → isOn (x .inn .armed) ≡ m → R w x
-    → R (withTx (cond m (nakflip (w .tx)) (w .tx)) (withRx (flip (nak (w .rx))) (happens (pipe.token Out) (happens (packet Out) w))))
-    (cond m (setIn completed (setOut completed x)) (setOut completed x))
-r-out w x m h (inl e) = inl (rw e refl)
-r-out w x m h (inr r) = unless-ready (w .exempt) (isReady (w .pipe .out .answers)) (λ q. token-out m h (packet-out q r))
+-- ---- the events, of a log that may be exempt; u, v, y: what was read of the words
 
 -- the token OUT alone
-pub r-token-out : (w : Log) (x : View) (m : Bool) → isOn (x .inn .armed) ≡ m → R w x
-    → R (withTx (cond m (nakflip (w .tx)) (w .tx)) (happens (pipe.token Out) w)) (cond m (setIn completed x) x)
-r-token-out w x m h (inl e) = inl (rw e refl)
-r-token-out w x m h (inr r) = inr (token-out m h r)
-
--- a packet IN, then the token
-pub r-in : (w : Log) (x : View) (m : Bool) → isOn (x .out .armed) ≡ m → R w x
-    → R (withRx (cond m (nakflip (w .rx)) (w .rx)) (withTx (flip (nak (w .tx))) (happens (pipe.token In) (happens (packet In) w))))
-    (cond m (setOut completed (setIn completed x)) (setIn completed x))
-r-in w x m h (inl e) = inl (rw e refl)
-r-in w x m h (inr r) = unless-ready (w .exempt) (isReady (w .pipe .inn .answers)) (λ q. token-in m h (packet-in q r))
+pub r-token-out : (w : Log) (x : View) (y : ℕ) (m : Bool) → isOn (x .inn .armed) ≡ m → R w x
+    → R (withTx (cond m (nakflipped y (w .tx)) (w .tx)) (happens (pipe.token Out) w)) (cond m (setIn (completed (x .inn .len)) x) x)
+r-token-out w x y m h (k, inl e) = (kept m k, inl (rw e refl))
+  where
+    kept : (m : Bool) → Base (w .request) (w .started) x
+        → Base (w .request) (w .started) (cond m (setIn (completed (x .inn .len)) x) x)
+    kept true k = record { says = k .says; started = k .started; maximum = k .maximum }
+    kept false k = k
+r-token-out w x y m h (k, inr r) = (kept m k, inr (token-out y m h r))
+  where
+    kept : (m : Bool) → Base (w .request) (w .started) x
+        → Base (w .request) (w .started) (cond m (setIn (completed (x .inn .len)) x) x)
+    kept true k = record { says = k .says; started = k .started; maximum = k .maximum }
+    kept false k = k
 
 -- the token IN alone
-pub r-token-in : (w : Log) (x : View) (m : Bool) → isOn (x .out .armed) ≡ m → R w x
-    → R (withRx (cond m (nakflip (w .rx)) (w .rx)) (happens (pipe.token In) w)) (cond m (setOut completed x) x)
-r-token-in w x m h (inl e) = inl (rw e refl)
-r-token-in w x m h (inr r) = inr (token-in m h r)
+pub r-token-in : (w : Log) (x : View) (y : ℕ) (m : Bool) → isOn (x .out .armed) ≡ m → R w x
+    → R (withRx (cond m (nakflipped y (w .rx)) (w .rx)) (happens (pipe.token In) w)) (cond m (setOut (completed (x .out .len)) x) x)
+r-token-in w x y m h (k, inl e) = (kept m k, inl (rw e refl))
+  where
+    kept : (m : Bool) → Base (w .request) (w .started) x
+        → Base (w .request) (w .started) (cond m (setOut (completed (x .out .len)) x) x)
+    kept true k = record { says = k .says; started = k .started; maximum = k .maximum }
+    kept false k = k
+r-token-in w x y m h (k, inr r) = (kept m k, inr (token-in y m h r))
+  where
+    kept : (m : Bool) → Base (w .request) (w .started) x
+        → Base (w .request) (w .started) (cond m (setOut (completed (x .out .len)) x) x)
+    kept true k = record { says = k .says; started = k .started; maximum = k .maximum }
+    kept false k = k
+
+-- a packet OUT of n bytes, put on NAK before it is seen and flipped after it
+abbrev outSeen : ℕ → ℕ → Log → Log
+outSeen u n w = withGot n (happens (packet Out) (withRx (nakked u (w .rx)) w))
+
+r-packet-out : (w : Log) (x : View) (u v n : ℕ) → R w x
+    → let z = outSeen u n w in R (withRx (flipped v (z .rx)) z) (setOut (completed n) x)
+r-packet-out w x u v n (k, f) = (
+  record { says = k .says; started = k .started; maximum = k .maximum },
+  packet-out (w .exempt) (w .request) u v n (k .says) f,
+)
+
+pub r-out : (w : Log) (x : View) (u v n y : ℕ) (m : Bool) → isOn (x .inn .armed) ≡ m → R w x
+    → let z = happens (pipe.token Out) (outSeen u n w) in
+    let z′ = withRx (flipped v (z .rx)) z in
+    R (withTx (cond m (nakflipped y (z′ .tx)) (z′ .tx)) z′)
+    (cond m (setIn (completed (x .inn .len)) (setOut (completed n) x)) (setOut (completed n) x))
+r-out w x u v n y m h r = let z = outSeen u n w in
+    r-token-out (withRx (flipped v (z .rx)) z) (setOut (completed n) x) y m h (r-packet-out w x u v n r)
+
+-- a packet IN
+abbrev inSeen : ℕ → Log → Log
+inSeen u w = happens (packet In) (withTx (nakked u (w .tx)) w)
+
+r-packet-in : (w : Log) (x : View) (u v : ℕ) → R w x
+    → let z = inSeen u w in R (withTx (flipped v (z .tx)) z) (setIn (completed (x .inn .len)) x)
+r-packet-in w x u v (k, f) = (
+  record { says = k .says; started = k .started; maximum = k .maximum },
+  packet-in (w .exempt) (w .request) u v (x .inn .len) (k .says) f,
+)
+
+pub r-in : (w : Log) (x : View) (u v y : ℕ) (m : Bool) → isOn (x .out .armed) ≡ m → R w x
+    → let z = happens (pipe.token In) (inSeen u w) in
+    let z′ = withTx (flipped v (z .tx)) z in
+    R (withRx (cond m (nakflipped y (z′ .rx)) (z′ .rx)) z′)
+    (cond m (setOut (completed (x .out .len)) (setIn (completed (x .inn .len)) x)) (setIn (completed (x .inn .len)) x))
+r-in w x u v y m h r = let z = inSeen u w in
+    r-token-in (withTx (flipped v (z .tx)) z) (setIn (completed (x .inn .len)) x) y m h (r-packet-in w x u v r)
 
 -- ---- scripts
 
@@ -110,19 +149,24 @@ if-so b h x = record { ok = watch-cond b (λ _. x .ok) (λ q. differ (sym q ∙ 
 abbrev pub Exactly : Log → View → {A : Type 0} → Log → A → St → Type 0
 Exactly w v x a t = (x ≡ w) × (view (t .0) ≡ v) × Plainly t
 
-read-off : (w : Log) (r : Reg) (v : ℕ) → w .phase ≡ off → reads (w .phase) r v w ≡ w
-read-off w r v z = ap (λ p. reads p r v w) z
+-- a log with a number that was read, this view
+pub record Exactly-by (L : ℕ → Log) (v : View) {A : Type 0} (x : Log) (a : A) (t : St) : Type 0 where
+  pub read : ℕ
+  pub log : x ≡ L read
+  pub shown : view (t .0) ≡ v
+  pub plain : Plainly t
 
-flags : (p : EpCore) → (p .ready ≡ 1) × (p .armed ≡ 0) → _≡_ {A = Rec} (record { ready = p .ready; armed = p .armed }) completed
-flags p q = rw (q .0, q .1) refl
+flags : (p : EpCore) (n : ℕ) → (p .ready ≡ 1) × (p .armed ≡ 0) × (p .len ≡ n)
+    → _≡_ {A = Rec} (record { ready = p .ready; armed = p .armed; len = p .len }) (completed n)
+flags p n q = rw (q .0, q .1, q .2) refl
 
 -- ---- EP0's direction d: its control word in the log, its record in the view
 
-abbrev ctrl : Dir → Log → ℕ
+abbrev ctrl : Dir → Log → Ep0Word
 ctrl Out w = w .rx
 ctrl In w = w .tx
 
-abbrev withCtrl : Dir → ℕ → Log → Log
+abbrev withCtrl : Dir → Ep0Word → Log → Log
 withCtrl Out v w = withRx v w
 withCtrl In v w = withTx v w
 
@@ -134,13 +178,12 @@ abbrev recOf : Dir → View → Rec
 recOf Out y = y .out
 recOf In y = y .inn
 
-wrote : (d : Dir) (v : ℕ) (w : Log) → writes (ctrlOf d) 0 v w ≡ withCtrl d v w
-wrote Out v w = refl
-wrote In v w = refl
-
-brought : (d : Dir) (w : Log) (v : ℕ) → Brings w (Read (ctrlOf d) 0) v → v ≡ ctrl d w
-brought Out w v b = b .0 refl
-brought In w v b = b .1 refl
+-- read, and written as f of it
+changed : (d : Dir) (f : ℕ → ℕ) (v : ℕ) (w : Log) → w .phase ≡ off
+    → writes (ctrlOf d) 0 (f v) (reads (w .phase) (ctrlOf d) v (compared (ctrlOf d) 0 v w))
+    ≡ withCtrl d (writtenAs (f v) (readAs v (ctrl d w))) w
+changed Out f v w z = ap (λ p. writes EpRxCtrl 0 (f v) (reads p EpRxCtrl v (withRx (readAs v (w .rx)) w))) z
+changed In f v w z = ap (λ p. writes EpTxCtrl 0 (f v) (reads p EpTxCtrl v (withTx (readAs v (w .tx)) w))) z
 
 same-ctrl : (d : Dir) (w : Log) → w ≡ withCtrl d (ctrl d w) w
 same-ctrl Out w = refl
@@ -150,6 +193,10 @@ armed-as : (d : Dir) (s : St) → concrete .get (ep-cell d 0) s .armed ≡ recOf
 armed-as Out s = refl
 armed-as In s = refl
 
+len-as : (d : Dir) (s : St) → concrete .get (ep-cell d 0) s .len ≡ recOf d (view (s .0)) .len
+len-as Out s = refl
+len-as In s = refl
+
 abbrev epWith : Dir → (EpCore → EpCore) → St → St
 epWith d f s = concrete .put (ep-cell d 0) (f (concrete .get (ep-cell d 0) s)) s
 
@@ -158,52 +205,60 @@ rec-view : (d : Dir) (f : EpCore → EpCore) (s : St) → Whole s
 rec-view Out f s h = out-view f s h
 rec-view In f s h = in-view f s h
 
--- its word is read, changed and written; then its record completed
-flipped : (d : Dir) (f : ℕ → ℕ) (g : EpCore → EpCore) (w : Log) (s : St) → ((p : EpCore) → (g p .ready ≡ 1) × (g p .armed ≡ 0))
+-- its word is read, changed and written; then its record completed, of the length that g leaves
+served-word : (d : Dir) (f : ℕ → ℕ) (g : EpCore → EpCore) (len : View → ℕ) (w : Log) (s : St)
+    → ((p : EpCore) → (g p .ready ≡ 1) × (g p .armed ≡ 0)) → ((t : St) → g (concrete .get (ep-cell d 0) t) .len ≡ len (view (t .0)))
     → w .phase ≡ off
-    → Watch Between Any (Exactly (withCtrl d (f (ctrl d w)) w) (setRec d completed (view (s .0)))) w (run concrete (do
+    → Watch Between Any (Exactly-by (λ v. withCtrl d (writtenAs (f v) (readAs v (ctrl d w))) w)
+    (setRec d (completed (len (view (s .0)))) (view (s .0)))) w (run concrete (do
       modifyReg {i = true} (ctrlOf d) 0 f
       modifyEp d 0 g
       wake d 0) s)
-flipped d f g w s c z = at-ask {q = Read (ctrlOf d) 0} tt (λ v t b k. back (read-off w (ctrlOf d) v z) (at-ask tt (λ _ u _ l.
+served-word d f g len w s c n z = at-ask {q = Read (ctrlOf d) 0} tt (λ v t _ k. at-ask tt (λ _ u _ l.
     let o = epWith d g u in
-    at-end (
-      wrote d (f v) w ∙ ap (λ n. withCtrl d (f n) w) (brought d w v b),
-      act-view (waken (wakeCode d 0 ∷ [])) refl o ∙ (rec-view d g u (l .1 .places)
-          ∙ (ap (λ (r : Rec). setRec d r (view (u .0))) (flags (g (concrete .get (ep-cell d 0) u)) (c (concrete .get (ep-cell d 0) u)))
-          ∙ ap (setRec d completed) (l .0 ∙ k .0))),
-      steadily (act-steady (waken (wakeCode d 0 ∷ [])) refl o)
-          (steadily (put-steady (ep-cell d 0) (g (concrete .get (ep-cell d 0) u)) u) (plainly (l .1))),
-    ))))
+    let p = g (concrete .get (ep-cell d 0) u) in
+    at-end (record {
+      read = v;
+      log = changed d f v w z;
+      shown = act-view (waken (wakeCode d 0 ∷ [])) refl o ∙ (rec-view d g u (l .1 .places)
+          ∙ (ap (λ (r : Rec). setRec d r (view (u .0))) (flags p (len (view (u .0))) (c (concrete .get (ep-cell d 0) u) .0, c (concrete .get (ep-cell d 0) u) .1, n u))
+          ∙ ap (λ (y : View). setRec d (completed (len y)) y) (l .0 ∙ k .0)));
+      plain = steadily (act-steady (waken (wakeCode d 0 ∷ [])) refl o)
+          (steadily (put-steady (ep-cell d 0) p u) (plainly (l .1)));
+    })))
 
 -- a packet IN
 sent-in : (w : Log) (s : St) → w .phase ≡ off
-    → Watch Between Any (Exactly (withTx (flip (w .tx)) w) (setIn completed (view (s .0)))) w (run concrete (do
+    → Watch Between Any (Exactly-by (λ v. withTx (flipped v (w .tx)) w) (setIn (completed (view (s .0) .inn .len)) (view (s .0)))) w (run concrete (do
       modifyReg {i = true} EpTxCtrl 0 flip
       modifyEp In 0 (withArmed 0)
       sent 0) s)
-sent-in w s z = at-ask {q = Read EpTxCtrl 0} tt (λ v t b k. back (read-off w EpTxCtrl v z) (at-ask tt (λ _ u _ l.
+sent-in w s z = at-ask {q = Read EpTxCtrl 0} tt (λ v t _ k. at-ask tt (λ _ u _ l.
     let h = l .1 .places in
     let m = inWith (withArmed 0) u in
     let o = inWith (withReady 1) m in
-    at-end (
-      ap (λ n. withTx (flip n) w) (b .1 refl),
-      act-view (waken (wakeCode In 0 ∷ [])) refl o ∙ (in-view (withReady 1) m (in-whole (withArmed 0) u h)
-          ∙ (ap (λ (y : View). setIn (record { ready = 1; armed = y .inn .armed }) y) (in-view (withArmed 0) u h)
-          ∙ ap (setIn completed) (l .0 ∙ k .0))),
-      steadily (act-steady (waken (wakeCode In 0 ∷ [])) refl o)
+    at-end (record {
+      read = v;
+      log = changed In flip v w z;
+      shown = act-view (waken (wakeCode In 0 ∷ [])) refl o ∙ (in-view (withReady 1) m (in-whole (withArmed 0) u h)
+          ∙ (ap (λ (y : View). setIn (record { ready = 1; armed = y .inn .armed; len = y .inn .len }) y) (in-view (withArmed 0) u h)
+          ∙ ap (λ (y : View). setIn (completed (y .inn .len)) y) (l .0 ∙ k .0)));
+      plain = steadily (act-steady (waken (wakeCode In 0 ∷ [])) refl o)
           (steadily (put-steady (ep-cell In 0) (withReady 1 (concrete .get (ep-cell In 0) m)) m)
-          (steadily (put-steady (ep-cell In 0) (withArmed 0 (concrete .get (ep-cell In 0) u)) u) (plainly (l .1)))),
-    ))))
+          (steadily (put-steady (ep-cell In 0) (withArmed 0 (concrete .get (ep-cell In 0) u)) u) (plainly (l .1))));
+    })))
 
 -- a hidden stage
 moved-on : (d : Dir) (w : Log) (s : St) → w .phase ≡ off → Plainly s → (m : Bool) → isOn (recOf d (view (s .0)) .armed) ≡ m
-    → Watch Between Any (Exactly (withCtrl d (cond m (nakflip (ctrl d w)) (ctrl d w)) w) (cond m (setRec d completed (view (s .0))) (view (s .0)))) w
+    → Watch Between Any (Exactly-by (λ v. withCtrl d (cond m (nakflipped v (ctrl d w)) (ctrl d w)) w)
+    (cond m (setRec d (completed (recOf d (view (s .0)) .len)) (view (s .0))) (view (s .0)))) w
     (run concrete (movedOn {i = true} d) s)
 moved-on d w s z k true h = watch-cond (isOn (concrete .get (ep-cell d 0) s .armed))
-    (λ _. flipped d nakflip statics.completed w s (λ _. (refl, refl)) z) (λ q. differ (sym q ∙ (ap isOn (armed-as d s) ∙ h)))
+    (λ _. served-word d nakflip statics.completed (λ y. recOf d y .len) w s (λ _. (refl, refl)) (λ t. len-as d t) z)
+    (λ q. differ (sym q ∙ (ap isOn (armed-as d s) ∙ h)))
 moved-on d w s z k false h = watch-cond (isOn (concrete .get (ep-cell d 0) s .armed))
-    (λ q. differ (sym (ap isOn (armed-as d s) ∙ h) ∙ q)) (λ _. at-end (same-ctrl d w, refl, k))
+    (λ q. differ (sym (ap isOn (armed-as d s) ∙ h) ∙ q))
+    (λ _. at-end (record { read = 0; log = same-ctrl d w; shown = refl; plain = k }))
 
 -- ---- `served`, its token apart
 
@@ -232,17 +287,17 @@ Served su x a t = R x (view (t .0)) × (view (t .0) .stage ≡ 2) × (x .setup-s
 
 -- of EP0: what comes before the token's own part, that part, the checks, the token's sign of a hidden stage
 module _ (x : Transfer) (frame : ℕ) (mine : eqb (endpoint (x .st)) 0 ≡ true) (w : Log) (z : w .phase ≡ off) (s : St) (k : Plainly s) {su : Bool} where
-  framing : (tk : Token) (iso : Bool) (w′ : Log) (v : View) → w′ .phase ≡ off
-      → ((t : St) → view (t .0) ≡ view (s .0) → Plainly t → Runs {i = true} (Exactly w′ v) (when (not (x .busy)) (dispatch tk x iso frame)) w t)
-      → ((t : St) → view (t .0) ≡ v → Plainly t → Runs {i = true} (Served su) (ep0MovedOn tk) w′ t)
+  framing : (tk : Token) (iso : Bool) (L : ℕ → Log) (v : View) → ((n : ℕ) → L n .phase ≡ off)
+      → ((t : St) → view (t .0) ≡ view (s .0) → Plainly t → Runs {i = true} (Exactly-by L v) (when (not (x .busy)) (dispatch tk x iso frame)) w t)
+      → ((n : ℕ) (t : St) → view (t .0) ≡ v → Plainly t → Runs {i = true} (Served su) (ep0MovedOn tk) (L n) t)
       → Runs (Served su) (servedAs tk x iso frame) w s
-  framing tk iso w′ v z′ own sign =
+  framing tk iso L v z′ own sign =
       then-quiet z k (q-got globals-cell) (λ g t e l.
       then-quiet z l (q-when (q-sof frame)) (λ _ t′ e′ l′.
       then-quiet z l′ (q-when (q-every (λ g m. q-late frame (setBits (isoInEvery g)) m))) (λ _ t″ e″ l″.
-      then (own t″ (e″ ∙ (e′ ∙ e)) l″) (λ y _ u m. back-to (m .0)
-      (then-quiet z′ (m .2) (q-when (q-check x iso)) (λ _ u′ d n.
-      if-so (eqb (endpoint (x .st)) 0) mine (sign u′ (d ∙ m .1) n)))))))
+      then (own t″ (e″ ∙ (e′ ∙ e)) l″) (λ y _ u m. back-to (m .log)
+      (then-quiet (z′ (m .read)) (m .plain) (q-when (q-check x iso)) (λ _ u′ d n.
+      if-so (eqb (endpoint (x .st)) 0) mine (sign (m .read) u′ (d ∙ m .shown) n)))))))
 
 pub made : {i : Bool} {A : Type 0} {P : Log → A → St → Type 0} {p : Script i A} {w : Log} {s : St}
     → Watch Between Any P w (run concrete p s) → Runs P p w s
@@ -261,11 +316,12 @@ same-stage : (m : Bool) (x y : View) → x .stage ≡ 2 → y .stage ≡ 2 → c
 same-stage true x y p q = p
 same-stage false x y p q = q
 
-abbrev pub naked : Token → Bool → Bool → Log → Log
-naked tok.Out busy ok w = cond (not busy && ok) (withRx (nak (w .rx)) w) w
-naked tok.In busy ok w = cond busy w (withTx (nak (w .tx)) w)
-naked tok.Sof busy ok w = w
-naked tok.Setup busy ok w = w
+-- EP0's free transaction is put on NAK before the release; u: what was read
+abbrev pub naked : Token → Bool → Bool → ℕ → Log → Log
+naked tok.Out busy ok u w = cond (not busy && ok) (withRx (nakked u (w .rx)) w) w
+naked tok.In busy ok u w = cond busy w (withTx (nakked u (w .tx)) w)
+naked tok.Sof busy ok u w = w
+naked tok.Setup busy ok u w = w
 
 abbrev pub NotIso : Token → Bool → Type 0
 NotIso tok.Out iso = iso ≡ false
@@ -281,80 +337,87 @@ module _ (x : Transfer) (frame : ℕ) (mine : eqb (endpoint (x .st)) 0 ≡ true)
   abbrev armedOut : Bool
   armedOut = isOn (view (s .0) .out .armed)
 
-  out-taken : x .busy ≡ false → togOk (x .st) ≡ true
-      → Watch Between Any (Served su) (ofToken tok.Out false true (withPhase off (withRx (nak (w .rx)) w))) (run concrete (servedAs tok.Out x false frame) s)
-  out-taken b ok =
-      let u = ofToken tok.Out false true (withPhase off (withRx (nak (w .rx)) w)) in
-      let v = withRx (flip (u .rx)) u in
-      (framing x frame mine u refl s k tok.Out false v (setOut completed (view (s .0))) refl
+  out-taken : (n : ℕ) → x .busy ≡ false → togOk (x .st) ≡ true
+      → Watch Between Any (Served su) (ofToken tok.Out false true (x .len) (withPhase off (withRx (nakked n (w .rx)) w)))
+      (run concrete (servedAs tok.Out x false frame) s)
+  out-taken n b ok =
+      let u = ofToken tok.Out false true (x .len) (withPhase off (withRx (nakked n (w .rx)) w)) in
+      (framing x frame mine u refl s k tok.Out false (λ v. withRx (flipped v (u .rx)) u) (setOut (completed (x .len)) (view (s .0))) (λ _. refl)
       (λ t e l. made (watch-cond (not (x .busy)) (λ _. watch-cond (eqb (endpoint (x .st)) 0) (λ _. watch-cond (togOk (x .st))
-      (λ _. watch-more (flipped Out flip (λ p. statics.completed (withLen (x .len) p)) u t (λ _. (refl, refl)) refl) (λ _ _ _ m. (
-        m .0,
-        m .1 ∙ ap (setOut completed) e,
-        m .2,
-      ))) (λ q. differ (sym q ∙ ok))) (λ q. differ (sym q ∙ mine))) (λ q. differ (sym q ∙ ap not b))))
-      (λ t e l. made (watch-more (moved-on In v t refl l armedIn (ap (λ (y : View). isOn (y .inn .armed)) e))
-      (λ y _ o m. conclude y _ o _ (m .0) (m .1 ∙ ap (λ (q : View). cond armedIn (setIn completed q) q) e)
-      (r-out w (view (s .0)) armedIn refl r) (same-stage armedIn _ _ two two) seen-su refl)))) .ok
+      (λ _. watch-more (served-word Out flip (λ p. statics.completed (withLen (x .len) p)) (λ _. x .len) u t (λ _. (refl, refl)) (λ _. refl) refl)
+      (λ _ _ _ m. record { read = m .read; log = m .log; shown = m .shown ∙ ap (setOut (completed (x .len))) e; plain = m .plain }))
+      (λ q. differ (sym q ∙ ok))) (λ q. differ (sym q ∙ mine))) (λ q. differ (sym q ∙ ap not b))))
+      (λ v t e l. made (watch-more (moved-on In (withRx (flipped v (u .rx)) u) t refl l armedIn (ap (λ (y : View). isOn (y .inn .armed)) e))
+      (λ y _ o m. conclude y _ o _ (m .log) (m .shown ∙ ap (λ (q : View). cond armedIn (setIn (completed (q .inn .len)) q) q) e)
+      (r-out w (view (s .0)) n v (x .len) (m .read) armedIn refl r) (same-stage armedIn _ _ two two) seen-su refl)))) .ok
 
   -- the token OUT alone: a repeat, or a transaction that is not complete
   out-token : (busy ok : Bool) → not busy && ok ≡ false → x .busy ≡ busy → togOk (x .st) ≡ ok
       → Watch Between Any (Served su) (happens (pipe.token Out) (withPhase off w)) (run concrete (servedAs tok.Out x false frame) s)
   out-token busy ok none b o =
       let u = happens (pipe.token Out) (withPhase off w) in
-      (framing x frame mine u refl s k tok.Out false u (view (s .0)) refl
+      (framing x frame mine u refl s k tok.Out false (λ _. u) (view (s .0)) (λ _. refl)
       (λ t e l. made (watch-cond (not (x .busy)) (λ f. watch-cond (eqb (endpoint (x .st)) 0)
-      (λ _. watch-cond (togOk (x .st)) (λ g. differ (sym none ∙ both (sym b) (sym o) f g)) (λ _. at-end (refl, e, l)))
-      (λ q. differ (sym q ∙ mine))) (λ _. at-end (refl, e, l))))
-      (λ t e l. made (watch-more (moved-on In u t refl l armedIn (ap (λ (y : View). isOn (y .inn .armed)) e))
-      (λ y _ o m. conclude y _ o _ (m .0) (m .1 ∙ ap (λ (q : View). cond armedIn (setIn completed q) q) e)
-      (r-token-out w (view (s .0)) armedIn refl r) (same-stage armedIn _ _ two two) seen-su refl)))) .ok
+      (λ _. watch-cond (togOk (x .st)) (λ g. differ (sym none ∙ both (sym b) (sym o) f g)) (λ _. at-end (unchanged t e l)))
+      (λ q. differ (sym q ∙ mine))) (λ _. at-end (unchanged t e l))))
+      (λ _ t e l. made (watch-more (moved-on In u t refl l armedIn (ap (λ (y : View). isOn (y .inn .armed)) e))
+      (λ y _ o m. conclude y _ o _ (m .log) (m .shown ∙ ap (λ (q : View). cond armedIn (setIn (completed (q .inn .len)) q) q) e)
+      (r-token-out w (view (s .0)) (m .read) armedIn refl r) (same-stage armedIn _ _ two two) seen-su refl)))) .ok
     where
       both : busy ≡ x .busy → ok ≡ togOk (x .st) → not (x .busy) ≡ true → togOk (x .st) ≡ true → not busy && ok ≡ true
       both p q f g = rw (p, q, f, g) refl
 
-  in-sent : x .busy ≡ false
-      → Watch Between Any (Served su) (ofToken tok.In false true (withPhase off (withTx (nak (w .tx)) w))) (run concrete (servedAs tok.In x false frame) s)
-  in-sent b =
-      let u = ofToken tok.In false true (withPhase off (withTx (nak (w .tx)) w)) in
-      let v = withTx (flip (u .tx)) u in
-      (framing x frame mine u refl s k tok.In false v (setIn completed (view (s .0))) refl
-      (λ t e l. made (watch-cond (not (x .busy)) (λ _. watch-cond (eqb (endpoint (x .st)) 0) (λ _. watch-more (sent-in u t refl) (λ _ _ _ m. (
-        m .0,
-        m .1 ∙ ap (setIn completed) e,
-        m .2,
-      ))) (λ q. differ (sym q ∙ mine))) (λ q. differ (sym q ∙ ap not b))))
-      (λ t e l. made (watch-more (moved-on Out v t refl l armedOut (ap (λ (y : View). isOn (y .out .armed)) e))
-      (λ y _ o m. conclude y _ o _ (m .0) (m .1 ∙ ap (λ (q : View). cond armedOut (setOut completed q) q) e)
-      (r-in w (view (s .0)) armedOut refl r) (same-stage armedOut _ _ two two) seen-su refl)))) .ok
+      unchanged : {A : Type 0} {u : Log} {a : A} (t : St) → view (t .0) ≡ view (s .0) → Plainly t
+          → Exactly-by (λ _. u) (view (s .0)) u a t
+      unchanged t e l = record { read = 0; log = refl; shown = e; plain = l }
+
+  in-sent : (n : ℕ) → x .busy ≡ false
+      → Watch Between Any (Served su) (ofToken tok.In false true (x .len) (withPhase off (withTx (nakked n (w .tx)) w)))
+      (run concrete (servedAs tok.In x false frame) s)
+  in-sent n b =
+      let u = ofToken tok.In false true (x .len) (withPhase off (withTx (nakked n (w .tx)) w)) in
+      (framing x frame mine u refl s k tok.In false (λ v. withTx (flipped v (u .tx)) u)
+      (setIn (completed (view (s .0) .inn .len)) (view (s .0))) (λ _. refl)
+      (λ t e l. made (watch-cond (not (x .busy)) (λ _. watch-cond (eqb (endpoint (x .st)) 0) (λ _. watch-more (sent-in u t refl)
+      (λ _ _ _ m. record {
+        read = m .read;
+        log = m .log;
+        shown = m .shown ∙ ap (λ (y : View). setIn (completed (y .inn .len)) y) e;
+        plain = m .plain;
+      })) (λ q. differ (sym q ∙ mine))) (λ q. differ (sym q ∙ ap not b))))
+      (λ v t e l. made (watch-more (moved-on Out (withTx (flipped v (u .tx)) u) t refl l armedOut (ap (λ (y : View). isOn (y .out .armed)) e))
+      (λ y _ o m. conclude y _ o _ (m .log) (m .shown ∙ ap (λ (q : View). cond armedOut (setOut (completed (q .out .len)) q) q) e)
+      (r-in w (view (s .0)) n v (m .read) armedOut refl r) (same-stage armedOut _ _ two two) seen-su refl)))) .ok
 
   in-token : x .busy ≡ true
       → Watch Between Any (Served su) (happens (pipe.token In) (withPhase off w)) (run concrete (servedAs tok.In x false frame) s)
   in-token b =
       let u = happens (pipe.token In) (withPhase off w) in
-      (framing x frame mine u refl s k tok.In false u (view (s .0)) refl
-      (λ t e l. made (watch-cond (not (x .busy)) (λ f. differ (ap not (sym b) ∙ f)) (λ _. at-end (refl, e, l))))
-      (λ t e l. made (watch-more (moved-on Out u t refl l armedOut (ap (λ (y : View). isOn (y .out .armed)) e))
-      (λ y _ o m. conclude y _ o _ (m .0) (m .1 ∙ ap (λ (q : View). cond armedOut (setOut completed q) q) e)
-      (r-token-in w (view (s .0)) armedOut refl r) (same-stage armedOut _ _ two two) seen-su refl)))) .ok
+      (framing x frame mine u refl s k tok.In false (λ _. u) (view (s .0)) (λ _. refl)
+      (λ t e l. made (watch-cond (not (x .busy)) (λ f. differ (ap not (sym b) ∙ f))
+      (λ _. at-end (record { read = 0; log = refl; shown = e; plain = l }))))
+      (λ _ t e l. made (watch-more (moved-on Out u t refl l armedOut (ap (λ (y : View). isOn (y .out .armed)) e))
+      (λ y _ o m. conclude y _ o _ (m .log) (m .shown ∙ ap (λ (q : View). cond armedOut (setOut (completed (q .out .len)) q) q) e)
+      (r-token-in w (view (s .0)) (m .read) armedOut refl r) (same-stage armedOut _ _ two two) seen-su refl)))) .ok
 
   plain-token : (tk : Token) (iso : Bool) → Quiet {i = true} (dispatch tk x iso frame)
       → Quiet {i = true} (ep0MovedOn tk)
       → Watch Between Any (Served su) (withPhase off w) (run concrete (servedAs tk x iso frame) s)
   plain-token tk iso q p =
-      (framing x frame mine (withPhase off w) refl s k tk iso (withPhase off w) (view (s .0)) refl
-      (λ t e l. made (watch-more (q-when {b = not (x .busy)} q .goes (withPhase off w) t refl l) (λ _ _ _ m. (m .0, m .1 ∙ e, m .2))))
-      (λ t e l. made (watch-more (p .goes (withPhase off w) t refl l)
+      (framing x frame mine (withPhase off w) refl s k tk iso (λ _. withPhase off w) (view (s .0)) (λ _. refl)
+      (λ t e l. made (watch-more (q-when {b = not (x .busy)} q .goes (withPhase off w) t refl l)
+      (λ _ _ _ m. record { read = 0; log = m .0; shown = m .1 ∙ e; plain = m .2 })))
+      (λ _ t e l. made (watch-more (p .goes (withPhase off w) t refl l)
       (λ y _ o m. conclude y (withPhase off w) o (view (s .0)) (m .0) (m .1 ∙ e) r two seen-su refl)))) .ok
 
-  pub served-ep0 : (tk : Token) (iso busy ok : Bool) → x .busy ≡ busy → togOk (x .st) ≡ ok → NotIso tk iso
-      → Watch Between Any (Served su) (ofToken tk busy ok (withPhase off (naked tk busy ok w))) (run concrete (servedAs tk x iso frame) s)
-  served-ep0 tok.Out false false true b o i = out-taken b o
-  served-ep0 tok.Out false false false b o i = out-token false false refl b o
-  served-ep0 tok.Out false true ok b o i = out-token true ok refl b o
-  served-ep0 tok.Out true busy ok b o i = differ (sym i)
-  served-ep0 tok.In false false ok b o i = in-sent b
-  served-ep0 tok.In false true ok b o i = in-token b
-  served-ep0 tok.In true busy ok b o i = differ (sym i)
-  served-ep0 tok.Sof iso busy ok b o i = plain-token tok.Sof iso (q-sof-arm frame) q-ret
-  served-ep0 tok.Setup iso busy ok b o i = plain-token tok.Setup iso q-ret q-ret
+  pub served-ep0 : (tk : Token) (iso busy ok : Bool) (n : ℕ) → x .busy ≡ busy → togOk (x .st) ≡ ok → NotIso tk iso
+      → Watch Between Any (Served su) (ofToken tk busy ok (x .len) (withPhase off (naked tk busy ok n w))) (run concrete (servedAs tk x iso frame) s)
+  served-ep0 tok.Out false false true n b o i = out-taken n b o
+  served-ep0 tok.Out false false false n b o i = out-token false false refl b o
+  served-ep0 tok.Out false true ok n b o i = out-token true ok refl b o
+  served-ep0 tok.Out true busy ok n b o i = differ (sym i)
+  served-ep0 tok.In false false ok n b o i = in-sent n b
+  served-ep0 tok.In false true ok n b o i = in-token b
+  served-ep0 tok.In true busy ok n b o i = differ (sym i)
+  served-ep0 tok.Sof iso busy ok n b o i = plain-token tok.Sof iso (q-sof-arm frame) q-ret
+  served-ep0 tok.Setup iso busy ok n b o i = plain-token tok.Setup iso q-ret q-ret

@@ -2,14 +2,15 @@
 -- brought for them. The function's choices are calls, the bus's events are what an interrupt's readings show of
 -- endpoint 0. It knows nothing of the driver's state.
 use mathlib.Core.Bool.{Bool, true, false, not, cond, _&&_, _||_}
+use mathlib.Core.Logic.{_⊎_}
 use mathlib.Core.Path.{_≡_}
 use Prim.Native.Nat.{ℕ, _%_}
-use lib.Dec.{eqb}
+use lib.Dec.{eqb, ltb}
 use lib.ListN.{length}
 use Rattle.regs.specs.declared.Access.{Access}
 use Rattle.regs.specs.declared.Access.the-variants.{Read, Write, Receive, Transmit, Ep0Dma, Wait, Callback}
 use Rattle.regs.specs.declared.Reg.{Reg}
-use Rattle.regs.specs.declared.Reg.the-variants.{DevAd, IntFg, IntSt, MisSt, FrameNo, EpTLen, EpRxCtrl, EpTxCtrl}
+use Rattle.regs.specs.declared.Reg.the-variants.{DevAd, IntFg, IntSt, MisSt, RxLen, FrameNo, EpTLen, EpRxCtrl, EpTxCtrl}
 use Rattle.regs.specs.declared.Dir.the-variants.{Out, In}
 use Rattle.regs.specs.declared.Token as tokens
 use Rattle.regs.specs.declared.Token.the-variants as tok
@@ -29,71 +30,111 @@ use Rattle.script.specs.Kinds as kinds
 use Rattle.script.specs.Every.{sameReg}
 use Rattle.script.specs.AddressWrites.{Writes}
 use Rattle.script.specs.TogglesLaws.{number}
-use Rattle.proof_usb20.specs.Pipe.{Answers, naks, stalls, acks, Half, renewed, isReady, Pipe, Event, setup}
-use Rattle.proof_usb20.specs.Pipe.{packet, token, possible, after, Choice, takes, gives, confirms, rejects}
+use Rattle.proof_usb20.specs.Pipe.{Answers, naks, stalls, acks, Half, renewed, isReady, isStall, Pipe, half, Event}
+use Rattle.proof_usb20.specs.Pipe.{setup, packet, token, after, Choice, takes, gives, confirms, rejects}
 use Rattle.proof_usb20.specs.Pipe.{chosen, orderly, Awaited, nothing, awaitedBy, over, taken, given, confirmed}
 use Rattle.proof_usb20.specs.Pipe.{Setting, keeps, sets}
 
--- how far an interrupt's readings are: none of them concerns endpoint 0, its flags are to come, they are read, the
--- bus's state (`true`: busy), the status it shows, the flag found taken by the release so that the status is read again
-pub data Phase : Type 0 where
-  off entered flagged again : Phase
-  timed : Bool → Phase
-  shows : Bool → ℕ → Phase
+-- ---- the log
 
--- EP0's control words and its transmit length as they were last written; `untaken`: a setup packet came that no poll
--- has given to the function yet; `exempt`: something has happened since the last setup packet of which USB 2.0 says
--- nothing, or otherwise than the Rust (below)
+-- how far an interrupt's readings are: none of them concerns endpoint 0, its flags are to come, they are read, the
+-- bus's state (`true`: busy), the status that it shows and the length, the flag found taken by the release so that the
+-- status is read again
+pub data Phase : Type 0 where
+  off entered flagged : Phase
+  timed : Bool → Phase
+  shows : Bool → ℕ → ℕ → Phase
+  again : ℕ → Phase
+
+-- a control word of EP0: as it was last written; and, since the last setup packet or the last packet that was the first
+-- of its stage: `read-back`, it was read as it was last written; `in-step`, no packet was shown that was not ready
+pub record Ep0Word : Type 0 where
+  pub last : ℕ
+  pub read-back : Bool
+  pub in-step : Bool
+
+-- the begin that no poll has ended yet, with a data_out's length
+pub data Request : Type 0 where
+  no-request for-setup for-data-in for-status : Request
+  for-data-out : ℕ → Request
+
+-- EP0's control words and its transmit length as they were last written; `got`: the length of the last packet OUT;
+-- `untaken`: a setup packet came that no poll has given to the function yet; `exempt`: something has happened since the
+-- last setup packet of which USB 2.0 says nothing, or otherwise than the Rust (below)
 pub record Log : Type 0 where
-  pub rx : ℕ
-  pub tx : ℕ
+  pub rx : Ep0Word
+  pub tx : Ep0Word
   pub len : ℕ
+  pub got : ℕ
   pub pipe : Pipe
   pub awaits : Awaited
   pub untaken : Bool
   pub exempt : Bool
+  pub started : Bool  -- EP0's start has ended
+  pub request : Request
   pub phase : Phase
   pub setup-seen : Bool
   pub wrote : Setting  -- the address that the call under way wrote to dev_ad, or none
 
 -- by its parts, in their order
-abbrev logOf : ℕ → ℕ → ℕ → Pipe → Awaited → Bool → Bool → Phase → Bool → Setting → Log
-logOf rx tx n p a untaken exempt phase seen setting = record {
+abbrev logOf : Ep0Word → Ep0Word → ℕ → ℕ → Pipe → Awaited → Bool → Bool → Bool → Request → Phase → Bool → Setting → Log
+logOf rx tx n got p a untaken exempt started request phase seen setting = record {
   rx = rx;
   tx = tx;
   len = n;
+  got = got;
   pipe = p;
   awaits = a;
   untaken = untaken;
   exempt = exempt;
+  started = started;
+  request = request;
   phase = phase;
   setup-seen = seen;
   wrote = setting;
 }
 
-abbrev pub before : Log
-before = logOf 0 0 0 (record { out = renewed; inn = renewed; size = 0 }) nothing false true off false keeps
+abbrev unwritten : Ep0Word
+unwritten = record { last = 0; read-back = false; in-step = false }
 
--- EP0's words
-abbrev pub withWords : ℕ → ℕ → ℕ → Log → Log
-withWords rx tx n w = logOf rx tx n (w .pipe) (w .awaits) (w .untaken) (w .exempt) (w .phase) (w .setup-seen) (w .wrote)
+abbrev pub before : Log
+before = logOf unwritten unwritten 0 0 (record { out = renewed; inn = renewed; size = 0 }) nothing false true false no-request
+    off false keeps
+
+-- EP0's words, and its lengths
+abbrev pub withWords : Ep0Word → Ep0Word → ℕ → ℕ → Log → Log
+withWords rx tx n got w = logOf rx tx n got (w .pipe) (w .awaits) (w .untaken) (w .exempt) (w .started) (w .request)
+    (w .phase) (w .setup-seen) (w .wrote)
 
 -- the pipe, what is waited for, whether a setup packet is untaken, and whether the log is exempt
 abbrev pub withPipe : Pipe → Awaited → Bool → Bool → Log → Log
-withPipe p a untaken exempt w = logOf (w .rx) (w .tx) (w .len) p a untaken exempt (w .phase) (w .setup-seen) (w .wrote)
+withPipe p a untaken exempt w = logOf (w .rx) (w .tx) (w .len) (w .got) p a untaken exempt (w .started) (w .request)
+    (w .phase) (w .setup-seen) (w .wrote)
+
+-- the calls: whether EP0 is started, and the request
+abbrev pub withCalls : Bool → Request → Log → Log
+withCalls started q w = logOf (w .rx) (w .tx) (w .len) (w .got) (w .pipe) (w .awaits) (w .untaken) (w .exempt) started q
+    (w .phase) (w .setup-seen) (w .wrote)
 
 -- what was seen of the call under way
 abbrev pub withSight : Phase → Bool → Setting → Log → Log
-withSight p s a w = logOf (w .rx) (w .tx) (w .len) (w .pipe) (w .awaits) (w .untaken) (w .exempt) p s a
+withSight p s a w = logOf (w .rx) (w .tx) (w .len) (w .got) (w .pipe) (w .awaits) (w .untaken) (w .exempt) (w .started)
+    (w .request) p s a
 
-abbrev pub withRx : ℕ → Log → Log
-withRx v w = withWords v (w .tx) (w .len) w
+abbrev pub withRx : Ep0Word → Log → Log
+withRx v w = withWords v (w .tx) (w .len) (w .got) w
 
-abbrev pub withTx : ℕ → Log → Log
-withTx v w = withWords (w .rx) v (w .len) w
+abbrev pub withTx : Ep0Word → Log → Log
+withTx v w = withWords (w .rx) v (w .len) (w .got) w
 
 abbrev pub withLen : ℕ → Log → Log
-withLen n w = withWords (w .rx) (w .tx) n w
+withLen n w = withWords (w .rx) (w .tx) n (w .got) w
+
+abbrev pub withGot : ℕ → Log → Log
+withGot n w = withWords (w .rx) (w .tx) (w .len) n w
+
+abbrev pub withRequest : Request → Log → Log
+withRequest q w = withCalls (w .started) q w
 
 abbrev pub withPhase : Phase → Log → Log
 withPhase p w = withSight p (w .setup-seen) (w .wrote) w
@@ -110,40 +151,94 @@ withAwaits a w = withPipe (w .pipe) a (w .untaken) (w .exempt) w
 abbrev pub withTaken : Log → Log
 withTaken w = withPipe (w .pipe) (w .awaits) false (w .exempt) w
 
+-- ---- control words
+
+abbrev pub writtenAs : ℕ → Ep0Word → Ep0Word
+writtenAs v c = record { last = v; read-back = c .read-back; in-step = c .in-step }
+
+-- the chip may show it otherwise than it was written
+abbrev pub readAs : ℕ → Ep0Word → Ep0Word
+readAs v c = record { last = c .last; read-back = c .read-back && eqb v (c .last); in-step = c .in-step }
+
+-- a packet was shown, which was ready or not
+abbrev pub shownAs : Bool → Ep0Word → Ep0Word
+shownAs ready c = record { last = c .last; read-back = c .read-back; in-step = c .in-step && ready }
+
+-- `outright`: it was written without regard to what was read
+abbrev pub anew : Bool → Ep0Word → Ep0Word
+anew outright c = record { last = c .last; read-back = outright || c .read-back; in-step = outright || c .in-step }
+
 -- ---- the bus's events
 
-abbrev pub happens : Event → Log → Log
-happens e w = withPipe (after e (w .pipe)) (w .awaits) (w .untaken) (w .exempt || not (possible e (w .pipe))) w
+-- a packet that was not ready: the status shows the host's latest token, also one that was answered with NAK
+abbrev pub shownBy : Event → Log → Log
+shownBy setup w = w
+shownBy (packet Out) w = withRx (shownAs (isReady (w .pipe .out .answers)) (w .rx)) w
+shownBy (packet In) w = withTx (shownAs (isReady (w .pipe .inn .answers)) (w .tx)) w
+shownBy (token d) w = w
 
--- a setup packet ends what the function waits for, and all exemption
+abbrev pub isStage : Request → Bool
+isStage no-request = false
+isStage for-setup = false
+isStage for-data-in = true
+isStage for-status = true
+isStage (for-data-out m) = true
+
+abbrev pub isNothing : Awaited → Bool
+isNothing nothing = true
+isNothing taken = false
+isNothing (given last) = false
+isNothing (confirmed s) = false
+
+-- a stage's request that a setup packet has ended, and no poll yet
+abbrev pub stale : Log → Bool
+stale w = isStage (w .request) && isNothing (w .awaits)
+
+-- such a packet takes a STALL back, or answers the poll of a request that a setup packet has ended
+abbrev pub breaks : Event → Log → Bool
+breaks setup w = false
+breaks (packet d) w = not (isReady (half d (w .pipe) .answers)) && (isStall (half d (w .pipe) .answers) || stale w)
+breaks (token d) w = false
+
+abbrev pub happens : Event → Log → Log
+happens e w = withPipe (after e (w .pipe)) (w .awaits) (w .untaken) (w .exempt || breaks e w) (shownBy e w)
+
+-- a setup packet ends what the function waits for, and all exemption; both words are written outright
 abbrev pub set-up : Log → Log
-set-up w = withPipe (after setup (w .pipe)) nothing true false w
+set-up w = withPipe (after setup (w .pipe)) nothing true false (withRx (anew true (w .rx)) (withTx (anew true (w .tx)) w))
 
 -- what the status shows of endpoint 0: a transaction that is complete, if the bus was free; the token in any case
-abbrev pub ofToken : tokens.Token → Bool → Bool → Log → Log
-ofToken tok.Out busy ok w = happens (token Out) (cond (not busy && ok) (happens (packet Out) w) w)
-ofToken tok.In busy ok w = happens (token In) (cond busy w (happens (packet In) w))
-ofToken tok.Sof busy ok w = w
-ofToken tok.Setup busy ok w = w
+abbrev pub ofToken : tokens.Token → Bool → Bool → ℕ → Log → Log
+ofToken tok.Out busy ok n w = happens (token Out) (cond (not busy && ok) (withGot n (happens (packet Out) w)) w)
+ofToken tok.In busy ok n w = happens (token In) (cond busy w (happens (packet In) w))
+ofToken tok.Sof busy ok n w = w
+ofToken tok.Setup busy ok n w = w
 
-abbrev pub seen : Bool → ℕ → Log → Log
-seen busy st w = cond (eqb (endpoint st) 0) (ofToken (status.token st) busy (togOk st) w) w
+abbrev pub seen : Bool → ℕ → ℕ → Log → Log
+seen busy st n w = cond (eqb (endpoint st) 0) (ofToken (status.token st) busy (togOk st) n w) w
 
 abbrev pub reads : Phase → Reg → ℕ → Log → Log
 reads off r v w = w
 reads entered r v w = cond (sameReg r IntFg) (withFlags v w) w
 reads flagged r v w = cond (sameReg r MisSt) (withPhase (timed (not (sieFree v))) w) w
-reads (timed b) r v w = cond (sameReg r IntSt) (withPhase (shows b v) w) w
-reads (shows b st) r v w = cond (sameReg r IntFg) (cond (transfer v) w (withPhase again w)) (cond (sameReg r FrameNo) (seen b st (withPhase off w)) w)
-reads again r v w = cond (sameReg r IntSt) (withPhase (shows false v) w) w
+reads (timed b) r v w = cond (sameReg r IntSt) (withPhase (shows b v 0) w) w
+reads (shows b st n) r v w = cond (sameReg r RxLen) (withPhase (shows b st v) w)
+    (cond (sameReg r IntFg) (cond (transfer v) w (withPhase (again n) w))
+    (cond (sameReg r FrameNo) (seen b st n (withPhase off w)) w))
+reads (again n) r v w = cond (sameReg r IntSt) (withPhase (shows false v n) w) w
+
+abbrev pub compared : Reg → ℕ → ℕ → Log → Log
+compared r e v w = cond (sameReg r EpRxCtrl) (cond (eqb e 0) (withRx (readAs v (w .rx)) w) w)
+    (cond (sameReg r EpTxCtrl) (cond (eqb e 0) (withTx (readAs v (w .tx)) w) w) w)
 
 abbrev pub writes : Reg → ℕ → ℕ → Log → Log
-writes r e v w = cond (sameReg r EpRxCtrl) (cond (eqb e 0) (withRx v w) w) (cond (sameReg r EpTxCtrl) (cond (eqb e 0) (withTx v w) w)
+writes r e v w = cond (sameReg r EpRxCtrl) (cond (eqb e 0) (withRx (writtenAs v (w .rx)) w) w)
+    (cond (sameReg r EpTxCtrl) (cond (eqb e 0) (withTx (writtenAs v (w .tx)) w) w)
     (cond (sameReg r EpTLen) (cond (eqb e 0) (withLen v w) w) (cond (sameReg r DevAd) (withWrote (sets v) w) w)))
 
--- an access, and the number brought for it
+-- an access, and the number brought for it: whatever the chip answers
 abbrev pub saw : Log → Access → ℕ → Log
-saw w (Read r e) v = reads (w .phase) r v w
+saw w (Read r e) v = reads (w .phase) r v (compared r e v w)
 saw w (Write r e v) x = writes r e v w
 saw w (Receive e y) x = w
 saw w (Transmit e y) x = w
@@ -151,20 +246,17 @@ saw w (Ep0Dma y) x = w
 saw w (Wait n) x = w
 saw w Callback x = w
 
--- the chip has no automatic toggle at EP0: its control words read back as they were written
-abbrev pub Brings : Log → Access → ℕ → Type 0
-Brings w (Read r e) v = (sameReg r EpRxCtrl && eqb e 0 ≡ true → v ≡ w .rx) × (sameReg r EpTxCtrl && eqb e 0 ≡ true → v ≡ w .tx)
-Brings w (Write r e v) x = Unit {0}
-Brings w (Receive e y) x = Unit {0}
-Brings w (Transmit e y) x = Unit {0}
-Brings w (Ep0Dma y) x = Unit {0}
-Brings w (Wait n) x = Unit {0}
-Brings w Callback x = Unit {0}
-
 -- ---- the function's choices
 
+-- the words of a stage's first packet, of the closing OUT and of an accept are written outright
+abbrev pub outright : Choice → Log → Log
+outright (takes first) w = withRx (anew first (w .rx)) w
+outright (gives n first last) w = withRx (anew last (w .rx)) (withTx (anew first (w .tx)) w)
+outright (confirms s) w = withTx (anew true (w .tx)) w
+outright rejects w = w
+
 abbrev pub choose : Choice → Log → Log
-choose c w = withPipe (chosen c (w .pipe)) (awaitedBy c) (w .untaken) (w .exempt || not (orderly c (w .pipe))) w
+choose c w = withPipe (chosen c (w .pipe)) (awaitedBy c) (w .untaken) (w .exempt || not (orderly c (w .pipe))) (outright c w)
 
 abbrev pub exempted : Log → Log
 exempted w = withPipe (w .pipe) (w .awaits) (w .untaken) true w
@@ -179,12 +271,12 @@ opens (slotted o) w = afresh w
 opens (other o) w = afresh w
 opens (aside o) w = afresh w
 
--- it ends with a result: a begin is the function's choice; a bus reset (result 2) and a halt of EP0 set or cleared by a
--- call exempt
+-- it ends with a result: a begin is the function's choice, and notes a request; a bus reset (result 2) and a halt of
+-- EP0 set or cleared by a call exempt. A data_out of m bytes has m until its packet is seen, and the closing OUT none
 abbrev pub endsOther : Other → ℕ → Log → Log
 endsOther (Allocate d kind address maximum interval) n w = w
 endsOther (AllocateAll bytes) n w = w
-endsOther (Start maximum) n w = exempted w
+endsOther (Start maximum) n w = exempted (withCalls true (w .request) w)
 endsOther BusPoll n w = cond (eqb n 2) (exempted w) w
 endsOther BusEnable n w = w
 endsOther BusDisable n w = w
@@ -194,14 +286,18 @@ endsOther (IsStalled d e) n w = w
 endsOther (SetPaced e on) n w = w
 endsOther (Advance e) n w = w
 endsOther (BeginRead e m) n w = w
-endsOther BeginSetup n w = withAwaits nothing w
+endsOther BeginSetup n w = withAwaits nothing (withRequest for-setup w)
 endsOther PollSetup n w = w
 endsOther PollDataIn n w = w
-endsOther BeginAccept n w = choose (confirms keeps) w
-endsOther PollAccept n w = withAwaits nothing w
-endsOther BeginReject n w = choose rejects w
-endsOther (BeginDataOut m first) n w = choose (takes first) w
-endsOther (BeginAcceptSetAddress a) n w = choose (confirms (sets (a % 128))) w
+endsOther BeginAccept n w = choose (confirms keeps) (withRequest for-status w)
+endsOther PollAccept n w = withAwaits nothing (withRequest no-request w)
+endsOther BeginReject n w = choose rejects (withRequest no-request w)
+endsOther (BeginDataOut m first) n w = choose (takes first) (withGot m (withRequest (for-data-out m) w))
+endsOther (BeginAcceptSetAddress a) n w = choose (confirms (sets (a % 128))) (withRequest for-status w)
+
+-- the closing OUT is made ready with the last packet
+abbrev pub closingGot : Bool → Log → ℕ
+closingGot last w = cond last 0 (w .got)
 
 abbrev pub endsSlotted : Slotted → Log → Log
 endsSlotted (SetEnabled d e on) w = w
@@ -209,7 +305,8 @@ endsSlotted (PollRead e n) w = w
 endsSlotted (BeginWrite e bs) w = w
 endsSlotted (PollWrite e bs) w = w
 endsSlotted (PollDataOut n) w = w
-endsSlotted (BeginDataIn bs first last) w = choose (gives (length bs) first last) w
+endsSlotted (BeginDataIn bs first last) w =
+    choose (gives (length bs) first last) (withGot (closingGot last w) (withRequest for-data-in w))
 
 abbrev pub ends : Op → ℕ → Log → Log
 ends interrupt n w = cond (w .setup-seen) (set-up w) w
@@ -237,21 +334,21 @@ partPoll (kinds.turns d e on) = none
 abbrev pub pollOf : Op → Poll
 pollOf o = partPoll (kinds.partOf o)
 
--- what it was waiting for is over; of a setup's poll the log is u
+-- its request is over, and so is what it waited for; of a setup's poll the log is u
 abbrev pub overBy : Log → Poll → Log → Log
 overBy u none w = w
 overBy u begins w = w
 overBy u pollSetup w = u
-overBy u pollOut w = withAwaits nothing w
-overBy u pollIn w = withAwaits nothing w
-overBy u pollStatus w = withAwaits nothing w
+overBy u pollOut w = withAwaits nothing (withRequest no-request w)
+overBy u pollIn w = withAwaits nothing (withRequest no-request w)
+overBy u pollStatus w = withAwaits nothing (withRequest no-request w)
 
 abbrev pub settled : Poll → Log → Log
 settled p w = overBy w p w
 
 -- a poll is done: it has taken what it waited for
 abbrev pub done : Poll → Log → Log
-done p w = overBy (withTaken w) p w
+done p w = overBy (withTaken (withRequest no-request w)) p w
 
 -- a poll's refusals 9 and 10 end its request
 abbrev pub closes : Op → Answer → Log → Log
@@ -261,18 +358,22 @@ closes o NotYet w = w
 closes o (Done bytes) w = done (pollOf o) w
 closes o (Shown bytes stamp) w = w
 
--- ---- what is claimed
+-- ---- what is claimed of EP0's words
 
--- of what a control word says: the pipe's answer, and its PID
-abbrev pub Shows : ℕ → Half → Answers → Type 0
-Shows v h naks = response v ≡ word.NAK
-Shows v h stalls = response v ≡ word.STALL
-Shows v h (acks s) = (response v ≡ word.ACK) × (toggle v ≡ number (h .bit))
+-- of what a control word says: the pipe's answer, and its PID. NAK after a packet, and the PID of a packet that is not
+-- the first, were made from what was read
+abbrev pub Shows : Ep0Word → Half → Answers → Type 0
+Shows c h naks = c .read-back ≡ true → response (c .last) ≡ word.NAK
+Shows c h stalls = response (c .last) ≡ word.STALL
+Shows c h (acks s) = (response (c .last) ≡ word.ACK)
+    × (c .read-back && c .in-step ≡ true → toggle (c .last) ≡ number (h .bit))
 
 -- EP0 is armed as the pipe says; a packet IN that is ready has its length
 abbrev pub Armed : Log → Type 0
-Armed w = w .exempt ≡ false → Shows (w .rx) (w .pipe .out) (w .pipe .out .answers) × Shows (w .tx) (w .pipe .inn) (w .pipe .inn .answers)
-    × (isReady (w .pipe .inn .answers) ≡ true → w .len ≡ w .pipe .size)
+Armed w = w .exempt ≡ false → Shows (w .rx) (w .pipe .out) (w .pipe .out .answers)
+    × Shows (w .tx) (w .pipe .inn) (w .pipe .inn .answers) × (isReady (w .pipe .inn .answers) ≡ true → w .len ≡ w .pipe .size)
+
+-- ---- what is claimed of an answer
 
 -- the poll asks after what is waited for
 abbrev pub asksAfter : Poll → Awaited → Bool
@@ -299,22 +400,82 @@ Complete q b w = w .exempt ≡ false → asksAfter q (w .awaits) && over (w .awa
 abbrev pub Untaken : Bool → Log → Type 0
 Untaken b w = w .exempt ≡ false → w .untaken ≡ b
 
--- of a stage's poll that does not answer that it is done: not yet, so the stage is not over and no setup packet has
--- ended it; or refused with 9, so one has
-abbrev pub Unfinished : Poll → Answer → Log → Type 0
-Unfinished q (Refused n) w = (eqb n 9 ≡ true → Untaken true w) × (eqb n 15 ≡ true → w .exempt ≡ false → asksAfter q (w .awaits) ≡ false)
-Unfinished q (End n ws) w = Unit {0}
-Unfinished q NotYet w = Complete q false w × Untaken false w
-Unfinished q (Done bytes) w = Unit {0}
-Unfinished q (Shown bytes stamp) w = Unit {0}
+-- a request of the poll's sort was begun
+abbrev pub begun : Poll → Request → Bool
+begun none q = false
+begun begins q = false
+begun pollSetup no-request = false
+begun pollSetup for-setup = true
+begun pollSetup for-data-in = false
+begun pollSetup for-status = false
+begun pollSetup (for-data-out m) = false
+begun pollOut no-request = false
+begun pollOut for-setup = false
+begun pollOut for-data-in = false
+begun pollOut for-status = false
+begun pollOut (for-data-out m) = true
+begun pollIn no-request = false
+begun pollIn for-setup = false
+begun pollIn for-data-in = true
+begun pollIn for-status = false
+begun pollIn (for-data-out m) = false
+begun pollStatus no-request = false
+begun pollStatus for-setup = false
+begun pollStatus for-data-in = false
+begun pollStatus for-status = true
+begun pollStatus (for-data-out m) = false
 
--- of one that does: the stage is over. An accept's poll that ends with a result has written the address
+-- why a call is refused, by its row: the slot buffer (`lent`: it brings one), EP0 is not started, a setup packet has
+-- ended the transfer, a length, no request of its sort. By no other row
+pub data Refuses (lent : Bool) (w : Log) (Setup Length Unbegun : Type 0) : ℕ → Type 0 where
+  unlent : lent ≡ true → Refuses lent w Setup Length Unbegun 1
+  unstarted : w .started ≡ false → Refuses lent w Setup Length Unbegun 4
+  ended : Setup → Refuses lent w Setup Length Unbegun 9
+  misfits : Length → Refuses lent w Setup Length Unbegun 10
+  unbegun : Unbegun → Refuses lent w Setup Length Unbegun 15
+
+-- a begin, or a reject: whether a setup packet, or a length, may refuse it
+abbrev pub Begins : Bool → Type 0 → Type 0 → Answer → Log → Type 0
+Begins lent Setup Length (Refused n) w = Refuses lent w Setup Length ⊥ n
+Begins lent Setup Length (End n ws) w = Unit {0}
+Begins lent Setup Length NotYet w = ⊥
+Begins lent Setup Length (Done bytes) w = ⊥
+Begins lent Setup Length (Shown bytes stamp) w = ⊥
+
+-- above EP0's maximum
+abbrev pub Above64 : ℕ → Type 0
+Above64 m = ltb 64 m ≡ true
+
+-- of a stage's poll that is not done: not yet, so the stage is not over and no setup packet has ended it; or refused
+abbrev pub Unfinished : Poll → Bool → Type 0 → Answer → Log → Type 0
+Unfinished q lent Length (Refused n) w = Refuses lent w (Untaken true w) Length (begun q (w .request) ≡ false) n
+Unfinished q lent Length (End n ws) w = Unit {0}
+Unfinished q lent Length NotYet w = Complete q false w × Untaken false w
+Unfinished q lent Length (Done bytes) w = Unit {0}
+Unfinished q lent Length (Shown bytes stamp) w = ⊥
+
+-- of one that is: the stage is over
 abbrev pub Completes : Poll → Answer → Log → Type 0
 Completes q (Refused n) w = Unit {0}
 Completes q (End n ws) w = Complete q true w
 Completes q NotYet w = Unit {0}
 Completes q (Done bytes) w = Complete q true w
 Completes q (Shown bytes stamp) w = Unit {0}
+
+-- another length than its begin's
+abbrev pub otherLength : ℕ → Request → Bool
+otherLength n no-request = false
+otherLength n for-setup = false
+otherLength n for-data-in = false
+otherLength n for-status = false
+otherLength n (for-data-out m) = not (eqb m n)
+
+-- a data_out's poll: another length than its begin's, or a packet that is longer; a data_in's: data in the closing OUT
+abbrev pub TooLong : ℕ → Log → Type 0
+TooLong n w = (otherLength n (w .request) ≡ true) ⊎ (Complete pollOut true w × (w .exempt ≡ false → ltb n (w .got) ≡ true))
+
+abbrev pub NotEmpty : Log → Type 0
+NotEmpty w = Complete pollIn true w × (w .exempt ≡ false → eqb (w .got) 0 ≡ false)
 
 -- of an accept's poll that is done: it has written the address of the Set Address that was accepted, or none (9.4.6)
 abbrev pub Wrote : Answer → Log → Type 0
@@ -326,27 +487,41 @@ Wrote (Shown bytes stamp) w = Unit {0}
 
 -- a setup's poll gives a packet exactly if there is one, and that has eight bytes (8.5.3)
 abbrev pub GivesSetup : Answer → Log → Type 0
-GivesSetup (Refused n) w = Unit {0}
-GivesSetup (End n ws) w = Unit {0}
+GivesSetup (Refused n) w = Refuses false w ⊥ ⊥ (begun pollSetup (w .request) ≡ false) n
+GivesSetup (End n ws) w = ⊥
 GivesSetup NotYet w = Untaken false w
-GivesSetup (Done bytes) w = Untaken true w × (w .exempt ≡ false → length bytes ≡ 8)
-GivesSetup (Shown bytes stamp) w = Unit {0}
+GivesSetup (Done bytes) w = Untaken true w × (length bytes ≡ 8)
+GivesSetup (Shown bytes stamp) w = ⊥
 
--- a stage's begin is refused with 9 only after a setup packet
-abbrev pub Begins : Answer → Log → Type 0
-Begins (Refused n) w = eqb n 9 ≡ true → Untaken true w
-Begins (End n ws) w = Unit {0}
-Begins NotYet w = Unit {0}
-Begins (Done bytes) w = Unit {0}
-Begins (Shown bytes stamp) w = Unit {0}
+abbrev pub FairSlotted : Slotted → Answer → Log → Type 0
+FairSlotted (SetEnabled d e on) a w = Unit {0}
+FairSlotted (PollRead e n) a w = Unit {0}
+FairSlotted (BeginWrite e bs) a w = Unit {0}
+FairSlotted (PollWrite e bs) a w = Unit {0}
+FairSlotted (PollDataOut n) a w = Unfinished pollOut true (TooLong n w) a w × Completes pollOut a w
+FairSlotted (BeginDataIn bs first last) a w = Begins true (Untaken true w) (Above64 (length bs)) a w
 
-abbrev pub FairPoll : Poll → Answer → Log → Type 0
-FairPoll none a w = Unit {0}
-FairPoll begins a w = Begins a w
-FairPoll pollSetup a w = GivesSetup a w
-FairPoll pollOut a w = Unfinished pollOut a w × Completes pollOut a w
-FairPoll pollIn a w = Unfinished pollIn a w × Completes pollIn a w
-FairPoll pollStatus a w = Unfinished pollStatus a w × Completes pollStatus a w × Wrote a w
+abbrev pub FairOther : Other → Answer → Log → Type 0
+FairOther (Allocate d kind address maximum interval) a w = Unit {0}
+FairOther (AllocateAll bytes) a w = Unit {0}
+FairOther (Start maximum) a w = Unit {0}
+FairOther BusPoll a w = Unit {0}
+FairOther BusEnable a w = Unit {0}
+FairOther BusDisable a w = Unit {0}
+FairOther Microframe a w = Unit {0}
+FairOther (SetStalled d e on) a w = Unit {0}
+FairOther (IsStalled d e) a w = Unit {0}
+FairOther (SetPaced e on) a w = Unit {0}
+FairOther (Advance e) a w = Unit {0}
+FairOther (BeginRead e n) a w = Unit {0}
+FairOther BeginSetup a w = Begins false ⊥ ⊥ a w
+FairOther PollSetup a w = GivesSetup a w
+FairOther PollDataIn a w = Unfinished pollIn false (NotEmpty w) a w × Completes pollIn a w
+FairOther BeginAccept a w = Begins false (Untaken true w) ⊥ a w
+FairOther PollAccept a w = Unfinished pollStatus false ⊥ a w × Completes pollStatus a w × Wrote a w
+FairOther BeginReject a w = Begins false ⊥ ⊥ a w
+FairOther (BeginDataOut m first) a w = Begins false (Untaken true w) (Above64 m) a w
+FairOther (BeginAcceptSetAddress b) a w = Begins false (Untaken true w) ⊥ a w
 
 -- an interrupt that ends has read its flags; with the transfer flag, whether the bus is free, the status and the frame
 abbrev pub Looked : Answer → Log → Type 0
@@ -358,9 +533,9 @@ Looked (Shown bytes stamp) w = Unit {0}
 
 abbrev pub Fair : Op → Answer → Log → Type 0
 Fair interrupt a w = Looked a w
-Fair (slotted o) a w = FairPoll (pollOf (slotted o)) a w
-Fair (other o) a w = FairPoll (pollOf (other o)) a w
-Fair (aside o) a w = FairPoll (pollOf (aside o)) a w
+Fair (slotted o) a w = FairSlotted o a w
+Fair (other o) a w = FairOther o a w
+Fair (aside o) a w = Unit {0}
 
 -- the address of the Set Address that was accepted
 abbrev pub Accepted : Awaited → ℕ → Type 0

@@ -2,16 +2,14 @@
 -- and nothing of the driver's state; from these it writes its log, and by its log it judges the next answer and the
 -- next access
 use mathlib.Core.Bool.{Bool, true, false}
-use mathlib.Core.List.{List, [], _∷_, _++_}
-use mathlib.Core.Path.{_≡_}
+use mathlib.Core.List.{List, [], _∷_}
 use Prim.Native.Nat.{ℕ, zero, suc}
 use Rattle.regs.specs.declared.Access.{Access}
 use Rattle.state.specs.Driver.{Driver}
 use Rattle.script.specs.Answers.{Answer}
-use Rattle.script.specs.Calls.{Config, Op, calls, startRow}
+use Rattle.script.specs.Calls.{Config, Op, startRow}
 use Rattle.script.specs.Machine.{Buf, Call, start, begin, go, question, Event, Ans, ended, handed, told, Way, idle, busy, Machine}
 use Rattle.machine.specs.Suspended.{driverOf, drive}
-use Rattle.proof_book.specs.Always.{after}
 
 pub record Observer : Type 1 where
   pub Log : Type 0
@@ -19,17 +17,14 @@ pub record Observer : Type 1 where
   pub opens : Op → Log → Log  -- an operation begins
   pub saw : Log → Access → ℕ → Log  -- an access, and the number brought for it
   pub closes : Op → Answer → Log → Log  -- a call ends
-  -- what is asked of the numbers brought
-  pub Brings : Log → Access → ℕ → Type 0
   -- what is claimed of a call's answer, and of the accesses that it hands out
   pub Fair : Op → Answer → Log → Type 0
   pub Allowed : Op → Log → Access → Type 0
   pub Asks : Op → Access → Type 0
-  -- what the driver's state shows; what is claimed of it where nothing is under way; which states are spoken of
+  -- what the driver's state shows, and what is claimed of it where nothing is under way
   pub View : Type 0
   pub view : Driver → View
   pub Stands : Log → View → Type 0
-  pub Meant : View → Type 0
 
 -- what is under way
 pub data Under : Type 0 where
@@ -124,28 +119,7 @@ module _ (O : Observer) where
   Standing d w (doing o q) = Unit {0}
   Standing d w starting = Unit {0}
 
-  -- the chip's part: the number that a continue brings, if it is not refused
-  abbrev pub ReadAt : ℕ → Ans Answer → Bool → O .Log → Under → Type 0
-  ReadAt v a still w at-rest = Unit {0}
-  ReadAt v (ended a) true w (doing o q) = Unit {0}
-  ReadAt v (ended a) false w (doing o q) = O .Brings w q v
-  ReadAt v (handed p) still w (doing o q) = O .Brings w q v
-  ReadAt v (told n) still w (doing o q) = Unit {0}
-  ReadAt v a still w starting = Unit {0}
-
-  abbrev pub Read : Call Config Op → Ans Answer → Bool → Watched → Type 0
-  Read (start c) a still x = Unit {0}
-  Read (begin o) a still x = Unit {0}
-  Read (go v) a still x = ReadAt v a still (x .log) (x .under)
-  Read (question q) a still x = Unit {0}
-
   -- ---- a list of calls
-
-  abbrev pub Reads : List (Event Config Op) → Machine Answer Driver → Watched → Type 0
-  Reads [] m x = Unit {0}
-  Reads (e ∷ es) m x =
-      let y = drive (e .call) m (e .lent) in
-      Read (e .call) (y .0) (serves (y .1 .way)) x × Reads es (y .1) (noted (e .call) (e .lent) (y .0) (serves (y .1 .way)) x)
 
   abbrev pub All : List (Event Config Op) → Machine Answer Driver → Watched → Type 0
   All [] m x = Unit {0}
@@ -153,7 +127,3 @@ module _ (O : Observer) where
       let y = drive (e .call) m (e .lent) in
       let z = noted (e .call) (e .lent) (y .0) (serves (y .1 .way)) x in
       Claim (e .call) (y .0) (serves (y .1 .way)) x × Standing (y .1 .st) (z .log) (z .under) × All es (y .1) z
-
-  -- after each of the calls the state is one that is spoken of
-  abbrev pub Meaning : List (Event Config Op) → Machine Answer Driver → Type 0
-  Meaning es m = (ds fs : List (Event Config Op)) → es ≡ ds ++ fs → O .Meant (O .view (after calls driverOf ds m .st))

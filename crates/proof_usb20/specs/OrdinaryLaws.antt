@@ -1,13 +1,16 @@
 -- Nothing of an ordinary transfer is exempt: from a setup packet on, the log of a control read, a control write, a
 -- transfer without data and one that is rejected, of any number of packets, of any length, the last ACK lost or not,
--- the last packet OUT seen or hidden, is never exempt, and ends with its stage over
+-- the last packet OUT seen or hidden, is never exempt, and ends with its stage over; nor is it where the function takes
+-- its time and interrupts show tokens of EP0 that were answered with NAK
 use mathlib.Core.Bool.{Bool, true, false, _||_}
 use mathlib.Core.List.{List, [], _∷_}
-use mathlib.Core.Path.{_≡_, refl}
+use mathlib.Core.Path.{_≡_, refl, ap}
 use Prim.Native.Nat.{ℕ}
+use Rattle.regs.specs.declared.Dir.{Dir}
 use Rattle.regs.specs.declared.Dir.the-variants.{Out, In}
-use Rattle.proof_usb20.specs.Pipe.{dataReady, Event, packet, token, Setting, keeps, Choice, takes, gives, confirms, rejects, over}
-use Rattle.proof_usb20.specs.Log.{Log, happens, set-up, choose}
+use Rattle.proof_usb20.specs.Pipe.{naks, dataReady, Event, packet, token, Setting, keeps, Choice, takes, gives}
+use Rattle.proof_usb20.specs.Pipe.{confirms, rejects, over}
+use Rattle.proof_usb20.specs.Log.{Log, isStage, happens, set-up, choose}
 
 -- the bus moves, or the function does
 pub data Move : Type 0 where
@@ -82,3 +85,48 @@ ordinary-no-data w s = (refl, refl)
 
 pub ordinary-reject : (w : Log) → play (says rejects ∷ []) (set-up w) .exempt ≡ false
 ordinary-reject w = refl
+
+-- ---- a function that takes its time
+
+-- transactions that were answered with NAK, and are shown
+abbrev pub nakked : List Dir → List Move → List Move
+nakked [] ms = ms
+nakked (d ∷ ds) ms = bus (packet d) ∷ bus (token d) ∷ nakked ds ms
+
+-- nothing is ready, and no stage's request is there
+record Thinks (w : Log) : Type 0 where
+  exempt : w .exempt ≡ false
+  out : w .pipe .out .answers ≡ naks
+  inn : w .pipe .inn .answers ≡ naks
+  request : isStage (w .request) ≡ false
+
+thinks-on : (d : Dir) (w : Log) → Thinks w → Thinks (moved (bus (token d)) (moved (bus (packet d)) w))
+thinks-on Out w t = record {
+  exempt = rw (t .exempt, t .out, t .request) refl;
+  out = rw (t .out) refl;
+  inn = rw (t .inn) refl;
+  request = t .request;
+}
+thinks-on In w t = record {
+  exempt = rw (t .exempt, t .inn, t .request) refl;
+  out = rw (t .out) refl;
+  inn = rw (t .inn) refl;
+  request = t .request;
+}
+
+slowly : (ds : List Dir) (ms : List Move) (w : Log) → Thinks w → ((u : Log) → Thinks u → Ordinary (play ms u))
+    → Ordinary (play (nakked ds ms) w)
+slowly [] ms w t f = f w t
+slowly (d ∷ ds) ms w t f = slowly ds ms _ (thinks-on d w t) f
+
+pub slow-read : (w : Log) → isStage (w .request) ≡ false → (ds : List Dir) (ms : List ℕ) (n : ℕ) (lost : Bool)
+    → Ordinary (play (nakked ds (controlRead true ms n lost)) (set-up w))
+slow-read w h ds ms n lost = slowly ds (controlRead true ms n lost) (set-up w)
+    (record { exempt = refl; out = refl; inn = refl; request = h })
+    (λ u t. reads-on true lost ms n u (t .exempt) refl (ap dataReady (t .out)))
+
+pub slow-write : (w : Log) → isStage (w .request) ≡ false → (ds : List Dir) (ms : List ℕ) (hidden : Bool)
+    → Ordinary (play (nakked ds (controlWrite true ms hidden)) (set-up w))
+slow-write w h ds ms hidden = slowly ds (controlWrite true ms hidden) (set-up w)
+    (record { exempt = refl; out = refl; inn = refl; request = h })
+    (λ u t. writes-on true hidden ms u (t .exempt) refl (ap dataReady (t .inn)))

@@ -34,7 +34,7 @@ use Rattle.proof_book.specs.SortingLaws.{ep0-plain}
 use Rattle.proof_usb20.specs.ExemptLaws.{differ}
 use Rattle.proof_usb20.specs.FittingLaws.{negated}
 use Rattle.proof_usb20.specs.WalksLaws.{Each, each-set}
-use Rattle.proof_usb20.specs.Log.{Log, off, reads, writes, saw}
+use Rattle.proof_usb20.specs.Log.{Log, off, reads, compared, writes, saw}
 use Rattle.proof_usb20.specs.Watch.{at-end, at-ask}
 use Rattle.proof_usb20.specs.WatchLaws.{watch-bind, watch-more, watch-cond}
 use Rattle.proof_usb20.specs.Ep0.{Watch, view, recOf, Between}
@@ -104,9 +104,12 @@ asked {s = s} {f = f} w e g = at-ask tt
     (λ v t b k. subst (λ (u : Log). Watch Between Any (λ x _ t. Stays w s x t) u (f v t))
     (sym (e v)) (watch-more (g v t (plainly (k .1))) (λ _ _ _ m. (m .0, m .1 ∙ k .0, m .2))))
 
-pub q-read : {i : Bool} {A : Type 0} {r : Reg} {e : ℕ} {f : ℕ → Script i A} → ((v : ℕ) → Quiet (f v))
-    → Quiet (read-then r e f)
-q-read {r = r} x = record { goes = λ w s z k. asked w (λ v. ap (λ p. reads p r v w) z) (λ v t l. x v .goes w t z l) }
+-- a reading, of no control word of EP0's
+pub q-read-of : {i : Bool} {A : Type 0} {r : Reg} {e : ℕ} {f : ℕ → Script i A} → ((v : ℕ) (w : Log) → compared r e v w ≡ w)
+    → ((v : ℕ) → Quiet (f v)) → Quiet (read-then r e f)
+q-read-of {r = r} {e = e} h x = record {
+  goes = λ w s z k. asked w (λ v. ap (reads (w .phase) r v) (h v w) ∙ ap (λ p. reads p r v w) z) (λ v t l. x v .goes w t z l);
+}
 
 -- a write, of no control word of EP0's
 pub q-write : {i : Bool} {A : Type 0} {r : Reg} {e v : ℕ} {p : Script i A} → ((w : Log) → writes r e v w ≡ w) → Quiet p
@@ -194,7 +197,7 @@ apart In Out e o q = key-apart 0 e q
 pub put-other : (d : Dir) (e : ℕ) → Other e → (v : EpCore) (s : St) → view (concrete .put (ep-cell d e) v s .0) ≡ view (s .0)
 unfolding withOn
 put-other d e o v s = made _ _ (ap recOf (ep-other (s .0) d e (merged (epOn (s .0) d e) v) Out 0 (apart d Out e o)))
-    (ap recOf (ep-other (s .0) d e (merged (epOn (s .0) d e) v) In 0 (apart d In e o))) refl refl refl
+    (ap recOf (ep-other (s .0) d e (merged (epOn (s .0) d e) v) In 0 (apart d In e o))) refl refl refl refl
 
 -- `last_frame` of any
 pub put-frame : (d : Dir) (e frame : ℕ) (s : St)
@@ -210,12 +213,17 @@ put-kept f h s = put-globals (f (s .0 .globals)) s ∙ ap (λ n. record {
   control = view (s .0) .control;
   setup-ready = n;
   stage = view (s .0) .stage;
+  maximum = view (s .0) .maximum;
 }) (h (s .0 .globals))
 
 -- a control word of another endpoint's
 pub other-word : (d : Dir) (e v : ℕ) → eqb e 0 ≡ false → (w : Log) → writes (ctrlOf d) e v w ≡ w
 other-word Out e v h w = rw h refl
 other-word In e v h w = rw h refl
+
+pub other-read : (d : Dir) (e : ℕ) → eqb e 0 ≡ false → (v : ℕ) (w : Log) → compared (ctrlOf d) e v w ≡ w
+other-read Out e h v w = rw h refl
+other-read In e h v w = rw h refl
 
 -- a length of another's
 pub other-length : (e v : ℕ) → eqb e 0 ≡ false → (w : Log) → writes EpTLen e v w ≡ w

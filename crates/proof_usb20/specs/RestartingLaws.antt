@@ -319,7 +319,7 @@ module _ (D : Dir) (E : ℕ) where
       ((q-bind D E) (q-begins-at In x 15 1) (λ m. (q-bind D E) (q-announce In m) (λ _. q-after n total In m)))
       ((q-bind D E) (q-announce Out o) (λ _. q-after n total Out o))))
 
-  q-announces : {i : Bool} (es : List Endpoint) → Quiet D E false (Off D E) (announceAll {i = i} es)
+  pub q-announces : {i : Bool} (es : List Endpoint) → Quiet D E false (Off D E) (announceAll {i = i} es)
   q-announces [] = (q-ret D E)
   q-announces (e ∷ es) = (q-bind D E) (q-announce (directionOf (e .address)) (e .address % 128))
       (λ _. q-after (length es) (suc (length es)) (directionOf (e .address)) (e .address % 128))

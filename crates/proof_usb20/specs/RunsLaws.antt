@@ -23,8 +23,8 @@ use Rattle.proof_wake_ups.specs.Rooms.{Few, Roomy}
 use Rattle.proof_wake_ups.specs.RoomsLaws.{rooms, start-rooms}
 use Rattle.proof_usb20.specs.Watch.{Along, at-end, at-ask}
 use Rattle.proof_usb20.specs.Observer.{Observer, Under, at-rest, doing, starting, serves, Watched, watched}
-use Rattle.proof_usb20.specs.Observer.{startedBy, beginsBy, noted, ClaimBegun, Claim, Standing, ReadAt, Read}
-use Rattle.proof_usb20.specs.Observer.{Reads, All, Meaning}
+use Rattle.proof_usb20.specs.Observer.{startedBy, beginsBy, noted, ClaimBegun, Claim, Standing}
+use Rattle.proof_usb20.specs.Observer.{All}
 
 -- a chip that may bring anything
 abbrev pub anyChip : ways.Chip
@@ -40,7 +40,7 @@ module _ (O : Observer) where
   Between s t = (O .view (t .0) ≡ O .view (s .0)) × Sorting (t .0) × (t .0 .wakes ≡ s .0 .wakes)
 
   abbrev pub Sees : {A : Type 0} → (O .Log → Access → Type 0) → (O .Log → A → St → Type 0) → O .Log → tree.Out St A → Type 0
-  Sees Ok P w out = Along (O .saw) (O .Brings) Between Ok P w out
+  Sees Ok P w out = Along (O .saw) (λ _ _ _. Unit {0}) Between Ok P w out
 
   -- `P` at each end, whatever is read
   abbrev pub Ups : (St → Type 0) → tree.Out St Answer → Type 0
@@ -49,7 +49,7 @@ module _ (O : Observer) where
   -- what each call keeps, and what follows from it
   pub record Laws (R : O .Log → O .View → Type 0) : Type 0 where
     pub stands : (w : O .Log) (x : O .View) → R w x → O .Stands w x
-    pub call : (o : Op) (w : O .Log) (s : St) → R w (O .view (s .0)) → O .Meant (O .view (s .0)) → Sorting (s .0)
+    pub call : (o : Op) (w : O .Log) (s : St) → R w (O .view (s .0)) → Sorting (s .0)
         → Sees (O .Allowed o) (λ x a t. R (O .closes o a x) (O .view (t .0)) × (Few (ended a) → O .Fair o a x)) (O .opens o w) (run concrete (code o) s)
     pub asks : (o : Op) (s : St) → Only (O .Asks o) (run concrete (code o) s)
     pub besides : (o : Aside) (d : Driver) (b : Buf) (a : Answer) (t : St) → Sorting d
@@ -58,7 +58,7 @@ module _ (O : Observer) where
         → Ups (λ s. R (O .before) (O .view (s .0))) (run concrete (calls .starts c) (driverOf .fresh c, b))
     -- row 1, of a call that brings the slots, leaves all as it was
     pub unlent : (o : Op) → calls .slots o ≡ true → (w : O .Log) (x : O .View) → R w x → R (O .closes o (Refused 1) (O .opens o w)) x
-    pub fair-1 : (o : Op) (w : O .Log) → O .Fair o (Refused 1) w
+    pub fair-1 : (o : Op) → calls .slots o ≡ true → (w : O .Log) → O .Fair o (Refused 1) w
 
   module _ {R : O .Log → O .View → Type 0} (L : Laws R) where
     abbrev Ends : Op → O .Log → Answer → St → Type 0
@@ -68,7 +68,7 @@ module _ (O : Observer) where
     BetweenFrom d t = (O .view (t .0) ≡ O .view d) × Sorting (t .0) × (t .0 .wakes ≡ d .wakes)
 
     abbrev Goes : Op → Access → O .Log → (ℕ → St → tree.Out St Answer) → Driver → Type 0
-    Goes o q w k d = (v : ℕ) (t : St) → O .Brings w q v → BetweenFrom d t → Sees (O .Allowed o) (Ends o) (O .saw w q v) (k v t)
+    Goes o q w k d = (v : ℕ) (t : St) → Unit {0} → BetweenFrom d t → Sees (O .Allowed o) (Ends o) (O .saw w q v) (k v t)
 
     abbrev Up : (ℕ → St → tree.Out St Answer) → Driver → Type 0
     Up k d = (v : ℕ) (t : St) → BetweenFrom d t → Ups (λ s. R (O .before) (O .view (s .0))) (k v t)
@@ -175,14 +175,14 @@ module _ (O : Observer) where
     brought-so false m h = h
 
     -- at rest, with row 1
-    afresh : (o : Op) (b : Buf) (g : Bool) → (g ≡ true → calls .slots o ≡ true) → (d : Driver) (l : Buf) (w : O .Log) → R w (O .view d) → O .Meant (O .view d)
+    afresh : (o : Op) (b : Buf) (g : Bool) → (g ≡ true → calls .slots o ≡ true) → (d : Driver) (l : Buf) (w : O .Log) → R w (O .view d)
         → Sorting d
         → Steps (begin o) b
         (cond g (stay calls driverOf 1 (record { way = idle; st = d; buf = l }))
         (begun calls driverOf (λ s. s) o (record { way = idle; st = d; buf = l }) idle b)) (watched O w at-rest)
-    afresh o b true h d l w r p z few = let n = L .unlent o (h refl) w (O .view d) r in
-        record { claim = L .fair-1 o (O .opens o w); standing = L .stands _ (O .view d) n; next = n }
-    afresh o b false h d l w r p z few = begins o (calls .irq o) b w (L .call o w (d, b) r p z) (L .asks o (d, b)) few
+    afresh o b true h d l w r z few = let n = L .unlent o (h refl) w (O .view d) r in
+        record { claim = L .fair-1 o (h refl) (O .opens o w); standing = L .stands _ (O .view d) n; next = n }
+    afresh o b false h d l w r z few = begins o (calls .irq o) b w (L .call o w (d, b) r z) (L .asks o (d, b)) few
 
     -- row 1 of a call in the midst of an operation
     row-1 : (o : Op) (b : Buf) (g : Bool) (i : Bool) (y : Awaits) (k : ℕ → St → tree.Out St Answer) (d : Driver) (l : Buf) (x : Watched O)
@@ -200,42 +200,32 @@ module _ (O : Observer) where
     stays v b n i y k d l w (doing o q) j = record { claim = tt; standing = tt; next = j }
     stays v b n i y k d l w starting j = record { claim = tt; standing = tt; next = j }
 
-    -- what the chip brought, of a continue that is not refused
-    brought : (v : ℕ) (i : Bool) (w : O .Log) (o : Op) (q : Access) (out : tree.Out St Answer)
-        → ReadAt O v (haltsAs i out .0) (serves (haltsAs i out .1 .way)) w (doing o q) → O .Brings w q v
-    brought v i w o q (tree.ends a s) r = r
-    brought v i w o q (tree.asks p s k) r = r
-
     proceeds : (v : ℕ) (b : Buf) (i : Bool) (y : Awaits) (k : ℕ → St → tree.Out St Answer) (d : Driver) (w : O .Log) (u : Under)
-        → J (busy i y k) d w u → Sorting d
-        → ReadAt O v (haltsAs i (k v (d, b)) .0) (serves (haltsAs i (k v (d, b)) .1 .way)) w u
-        → Steps (go v) b (haltsAs i (k v (d, b))) (watched O w u)
-    proceeds v b i y k d w (doing o q) j z r few = goes o i v b w q (j .0 v (d, b) (brought v i w o q (k v (d, b)) r) (refl, z, refl)) (j .1 v (d, b)) few
-    proceeds v b i y k d w starting j z r few = starts i v b w (j .0) (j .1 v (d, b) (refl, z, refl))
+        → J (busy i y k) d w u → Sorting d → Steps (go v) b (haltsAs i (k v (d, b))) (watched O w u)
+    proceeds v b i y k d w (doing o q) j z few = goes o i v b w q (j .0 v (d, b) tt (refl, z, refl)) (j .1 v (d, b)) few
+    proceeds v b i y k d w starting j z few = starts i v b w (j .0) (j .1 v (d, b) (refl, z, refl))
 
     row-16 : (v : ℕ) (b : Buf) (g : Bool) (i : Bool) (y : Awaits) (k : ℕ → St → tree.Out St Answer) (d : Driver) (w : O .Log) (u : Under)
         → J (busy i y k) d w u → Sorting d
-        → let c = cond g (stay calls driverOf 16 (record { way = busy i y k; st = d; buf = b })) (haltsAs i (k v (d, b))) in
-        ReadAt O v (c .0) (serves (c .1 .way)) w u → Steps (go v) b c (watched O w u)
-    row-16 v b true i y k d w u j z r few = stays v b 16 i y k d b w u j
-    row-16 v b false i y k d w u j z r few = proceeds v b i y k d w u j z r few
+        → Steps (go v) b (cond g (stay calls driverOf 16 (record { way = busy i y k; st = d; buf = b })) (haltsAs i (k v (d, b)))) (watched O w u)
+    row-16 v b true i y k d w u j z few = stays v b 16 i y k d b w u j
+    row-16 v b false i y k d w u j z few = proceeds v b i y k d w u j z few
 
     continues : (v : ℕ) (b : Buf) (g : Bool) (y : Way Answer Driver) (d : Driver) (l : Buf) (w : O .Log) (u : Under)
         → J y d w u → Sorting d
-        → let c = cond g (stay calls driverOf 1 (record { way = y; st = d; buf = l }))
-        (continued calls driverOf (λ s. s) v (record { way = y; st = d; buf = l }) y b) in
-        ReadAt O v (c .0) (serves (c .1 .way)) w u → Steps (go v) b c (watched O w u)
-    continues v b true idle d l w at-rest j z r few = record { claim = tt; standing = L .stands w (O .view d) j; next = j }
-    continues v b false idle d l w at-rest j z r few = record { claim = tt; standing = L .stands w (O .view d) j; next = j }
-    continues v b true (busy i y k) d l w u j z r few = stays v b 1 i y k d l w u j
-    continues v b false (busy i y k) d l w u j z r few = row-16 v b (machine.over calls y v) i y k d w u j z r few
+        → Steps (go v) b (cond g (stay calls driverOf 1 (record { way = y; st = d; buf = l }))
+        (continued calls driverOf (λ s. s) v (record { way = y; st = d; buf = l }) y b)) (watched O w u)
+    continues v b true idle d l w at-rest j z few = record { claim = tt; standing = L .stands w (O .view d) j; next = j }
+    continues v b false idle d l w at-rest j z few = record { claim = tt; standing = L .stands w (O .view d) j; next = j }
+    continues v b true (busy i y k) d l w u j z few = stays v b 1 i y k d l w u j
+    continues v b false (busy i y k) d l w u j z few = row-16 v b (machine.over calls y v) i y k d w u j z few
 
     -- one call
     step : (c : Call Config Op) (b : Buf) (m : Machine Answer Driver) (x : Watched O)
-        → J (m .way) (m .st) (x .log) (x .under) → Sorting (m .st) → O .Meant (O .view (m .st))
-        → Read O c (drive c m b .0) (serves (drive c m b .1 .way)) x → Steps c b (drive c m b) x
-    step (start c) b m x j z p r few = started-up c b (startRow c b) refl m x j
-    step (begin o) b m x j z p r few = by (m .way) (x .under) j few
+        → J (m .way) (m .st) (x .log) (x .under) → Sorting (m .st)
+        → Steps c b (drive c m b) x
+    step (start c) b m x j z few = started-up c b (startRow c b) refl m x j
+    step (begin o) b m x j z few = by (m .way) (x .under) j few
       where
         g : Bool
         g = cond (calls .slots o) (misfit calls driverOf (m .st) b) false
@@ -244,27 +234,27 @@ module _ (O : Observer) where
             → Steps (begin o) b
             (cond g (stay calls driverOf 1 (record { way = y; st = m .st; buf = m .buf }))
             (begun calls driverOf (λ s. s) o (record { way = y; st = m .st; buf = m .buf }) y b)) (watched O (x .log) u)
-        by idle at-rest i few = afresh o b g (brought-so (calls .slots o) (misfit calls driverOf (m .st) b)) (m .st) (m .buf) (x .log) i p z few
+        by idle at-rest i few = afresh o b g (brought-so (calls .slots o) (misfit calls driverOf (m .st) b)) (m .st) (m .buf) (x .log) i z few
         by (busy h a k) u i few = row-1 o b g h a k (m .st) (m .buf) (watched O (x .log) u) z i
-    step (go v) b m x j z p r few = continues v b (misfit calls driverOf (m .st) b) (m .way) (m .st) (m .buf) (x .log) (x .under) j z r few
-    step (question q) b m x j z p r few = record { claim = tt; standing = standing-of (m .way) (m .st) (x .log) (x .under) j; next = j }
+    step (go v) b m x j z few = continues v b (misfit calls driverOf (m .st) b) (m .way) (m .st) (m .buf) (x .log) (x .under) j z few
+    step (question q) b m x j z few = record { claim = tt; standing = standing-of (m .way) (m .st) (x .log) (x .under) j; next = j }
 
     -- the endpoints keep their sorts after each call
     abbrev Sorted : List (Event Config Op) → Machine Answer Driver → Type 0
     Sorted es m = (ds fs : List (Event Config Op)) → es ≡ ds ++ fs → Sorting (after calls driverOf ds m .st)
 
     each : (es : List (Event Config Op)) (m : Machine Answer Driver) (x : Watched O)
-        → J (m .way) (m .st) (x .log) (x .under) → Sorted es m → Meaning O es m → Roomy m → Reads O es m x
+        → J (m .way) (m .st) (x .log) (x .under) → Sorted es m → Roomy m
         → All O es m x
-    each [] m x j z p k r = tt
-    each (e ∷ es) m x j z p k r =
+    each [] m x j z k = tt
+    each (e ∷ es) m x j z k =
         let y = drive (e .call) m (e .lent) in
         let f = rooms (e .call) k (e .lent) in
-        let a = step (e .call) (e .lent) m x j (z [] (e ∷ es) refl) (p [] (e ∷ es) refl) (r .0) (f .answer) in (
+        let a = step (e .call) (e .lent) m x j (z [] (e ∷ es) refl) (f .answer) in (
           a .claim,
           a .standing,
           each es (y .1) (noted O (e .call) (e .lent) (y .0) (serves (y .1 .way)) x) (a .next)
-              (λ ds fs h. z (e ∷ ds) fs (ap (e ∷_) h)) (λ ds fs h. p (e ∷ ds) fs (ap (e ∷_) h)) (f .machine) (r .1),
+              (λ ds fs h. z (e ∷ ds) fs (ap (e ∷_) h)) (f .machine),
         )
 
     fresh : {out : tree.Out St Answer} → Ups (λ s. R (O .before) (O .view (s .0))) out
@@ -276,9 +266,9 @@ module _ (O : Observer) where
     pub from-start : (c : Config) (b : Buf) → startRow c b ≡ zero
         → (es : List (Event Config Op)) (m : Machine Answer Driver)
         → let y = started calls driverOf (λ s. s) c zero m b in
-        Meaning O es (y .1) → Reads O es (y .1) (startedBy O (y .0)) → All O es (y .1) (startedBy O (y .0))
-    from-start c b h es m p r =
+        All O es (y .1) (startedBy O (y .0))
+    from-start c b h es m =
         let y = started calls driverOf (λ s. s) c zero m b in
         each es (y .1) (startedBy O (y .0)) (fresh (L .new c b))
-        (λ ds fs e. subst (λ (n : ℕ). Sorting (after calls driverOf ds (started calls driverOf (λ s. s) c n m b .1) .st)) h (after-sorting c b h ds m)) p
-        (subst (λ (n : ℕ). Roomy (started calls driverOf (λ s. s) c n m b .1)) h (start-rooms c b h m .machine)) r
+        (λ ds fs e. subst (λ (n : ℕ). Sorting (after calls driverOf ds (started calls driverOf (λ s. s) c n m b .1) .st)) h (after-sorting c b h ds m))
+        (subst (λ (n : ℕ). Roomy (started calls driverOf (λ s. s) c n m b .1)) h (start-rooms c b h m .machine))

@@ -30,37 +30,38 @@ use Rattle.script_ops.specs.Rings.{St}
 use Rattle.script_ops.specs.Concrete.{concrete}
 use Rattle.proof_usb20.specs.FramesLaws.{framed-st, frames}
 use Rattle.proof_book.specs.TransferKindsLaws.{act-steady}
-use Rattle.proof_usb20.specs.Log.{Log, off, flagged, shows, withRx, withTx, withPhase, withFlags, seen, opens, set-up}
+use Rattle.proof_usb20.specs.Log.{Ep0Word, writtenAs, anew, Log, off, flagged, shows, withRx, withTx, withPhase}
+use Rattle.proof_usb20.specs.Log.{withFlags, seen, opens, set-up}
 use Rattle.proof_usb20.specs.Pipe as pipe
 use Rattle.proof_usb20.specs.Log as log
 use Rattle.proof_usb20.specs.Watch.{at-end, at-ask}
 use Rattle.proof_usb20.specs.WatchLaws.{watch-bind, watch-more, watch-cond}
-use Rattle.proof_usb20.specs.Ep0.{Watch, View, view, Rel, R, Between, Law}
+use Rattle.proof_usb20.specs.Ep0.{Watch, View, view, Rel, Base, R, Between, Law}
 use Rattle.proof_usb20.specs.ExemptLaws.{differ}
 use Rattle.proof_usb20.specs.ViewsLaws.{setOut, setIn, setReady, put-globals}
 use Rattle.proof_usb20.specs.Ep0Laws.{act-view}
 use Rattle.proof_usb20.specs.StagesLaws.{outWith, inWith, out-view, in-view, out-whole}
 use Rattle.proof_usb20.specs.QuietLaws.{Plainly, plainly, steadily, Any, put-kept}
 use Rattle.proof_usb20.specs.EventsLaws.{aborted, set-up-fits}
-use Rattle.proof_usb20.specs.InterruptLaws.{back, Exactly, Served, naked, NotIso, servedAs, q-served, served-ep0}
+use Rattle.proof_usb20.specs.InterruptLaws.{back, Exactly, Exactly-by, Served, naked, NotIso, servedAs, q-served, served-ep0}
 use Rattle.proof_usb20.specs.EntryLaws.{Settled, others, mine, entry, settles, nak-other, nak-own, naked-busy}
 
 -- ---- the NAK before the release
 
-entry-free : (w : Log) (x : Transfer) → eqb (endpoint (x .st)) 0 ≡ true → x .busy ≡ false
-    → withPhase (shows (x .busy) (x .st)) (naked (token (x .st)) false (togOk (x .st)) w) ≡ entry w x
-entry-free w x h b = rw (h, b) refl
+entry-free : (u : ℕ) (w : Log) (x : Transfer) → eqb (endpoint (x .st)) 0 ≡ true → x .busy ≡ false
+    → withPhase (shows (x .busy) (x .st) (x .len)) (naked (token (x .st)) false (togOk (x .st)) u w) ≡ entry u w x
+entry-free u w x h b = rw (h, b) refl
 
-entry-busy : (w : Log) (x : Transfer) → eqb (endpoint (x .st)) 0 ≡ true → x .busy ≡ true
-    → withPhase (shows (x .busy) (x .st)) w ≡ entry w x
-entry-busy w x h b = rw (h, b, naked-busy (token (x .st)) (togOk (x .st)) w) refl
+entry-busy : (u : ℕ) (w : Log) (x : Transfer) → eqb (endpoint (x .st)) 0 ≡ true → x .busy ≡ true
+    → withPhase (shows (x .busy) (x .st) (x .len)) w ≡ entry u w x
+entry-busy u w x h b = rw (h, b, naked-busy (token (x .st)) (togOk (x .st)) u w) refl
 
-entry-other : (w : Log) (x : Transfer) → eqb (endpoint (x .st)) 0 ≡ false
-    → withPhase (shows (x .busy) (x .st)) w ≡ entry w x
-entry-other w x h = rw h refl
+entry-other : (u : ℕ) (w : Log) (x : Transfer) → eqb (endpoint (x .st)) 0 ≡ false
+    → withPhase (shows (x .busy) (x .st) (x .len)) w ≡ entry u w x
+entry-other u w x h = rw h refl
 
 naks-first : (w : Log) (s : St) (x : Transfer) → Plainly s
-    → Watch Between Any (Exactly (entry w x) (view (s .0))) (withPhase (shows (x .busy) (x .st)) w)
+    → Watch Between Any (Exactly-by (λ u. entry u w x) (view (s .0))) (withPhase (shows (x .busy) (x .st) (x .len)) w)
     (run {i = true} concrete (when (not (x .busy) || (not (isSof (x .st)) && not (eqb (endpoint (x .st)) 0))) (nakNonIso (x .st))) s)
 naks-first w s x k = by (eqb (endpoint (x .st)) 0) refl (x .busy) refl
   where
@@ -78,14 +79,18 @@ naks-first w s x k = by (eqb (endpoint (x .st)) 0) refl (x .busy) refl
     shut b h = rw (b, h) (last (not (isSof (x .st))))
 
     by : (m : Bool) → eqb (endpoint (x .st)) 0 ≡ m → (b : Bool) → x .busy ≡ b
-        → Watch Between Any (Exactly (entry w x) (view (s .0))) (withPhase (shows (x .busy) (x .st)) w) (run {i = true} concrete (when C (nakNonIso (x .st))) s)
+        → Watch Between Any (Exactly-by (λ u. entry u w x) (view (s .0))) (withPhase (shows (x .busy) (x .st) (x .len)) w)
+        (run {i = true} concrete (when C (nakNonIso (x .st))) s)
     by true h false b = watch-cond C
-        (λ _. watch-more (nak-own w (x .busy) (x .st) s k (x .st) h (token (x .st)) refl (togOk (x .st)) refl)
-        (λ y _ t m. (m .0 ∙ entry-free w x h b, m .1, m .2))) (λ q. differ (sym q ∙ free b))
-    by true h true b = watch-cond C (λ q. differ (sym (shut b h) ∙ q)) (λ _. at-end (entry-busy w x h b, refl, k))
+        (λ _. watch-more (nak-own w (x .busy) (x .st) (x .len) s k (x .st) h (token (x .st)) refl (togOk (x .st)) refl)
+        (λ y _ t m. record { read = m .read; log = m .log ∙ entry-free (m .read) w x h b; shown = m .shown; plain = m .plain }))
+        (λ q. differ (sym q ∙ free b))
+    by true h true b = watch-cond C (λ q. differ (sym (shut b h) ∙ q))
+        (λ _. at-end (record { read = 0; log = entry-busy 0 w x h b; shown = refl; plain = k }))
     by false h c b = watch-cond C
-        (λ _. watch-more (nak-other w (x .busy) (x .st) s k (x .st) h) (λ y _ t m. (m .0 ∙ entry-other w x h, m .1, m .2)))
-        (λ _. at-end (entry-other w x h, refl, k))
+        (λ _. watch-more (nak-other w (x .busy) (x .st) (x .len) s k (x .st) h)
+        (λ y _ t m. record { read = 0; log = m .0 ∙ entry-other 0 w x h; shown = m .1; plain = m .2 }))
+        (λ _. at-end (record { read = 0; log = entry-other 0 w x h; shown = refl; plain = k }))
 
 -- ---- served
 
@@ -119,10 +124,10 @@ not-own x t iso sof frame e i = by t e i
 
 serves : (w : Log) (v : View) (x : Transfer) (l : Log) (t : St) {su : Bool} → R w v → v .stage ≡ 2 → w .setup-seen ≡ su
     → Settled w v l x t → Watch Between Any (Served su) l (run concrete (frames x) t)
-serves w v x l t {su = su} r two e (others h b m q k) = back m (at-ask {q = Read FrameNo 0} tt (λ frame u _ i.
+serves w v x l t {su = su} r two e (others h b n m q k) = back m (at-ask {q = Read FrameNo 0} tt (λ frame u _ i.
     let iso = isoFor (token (x .st)) (concrete .get (ep-cell Out (endpoint (x .st))) t) (concrete .get (ep-cell In (endpoint (x .st))) t) in
     let y = framed x iso (u .0 .globals .«sof_frame») frame in
-    back (elsewhere b (x .st) w h)
+    back (elsewhere b (x .st) n w h)
     (watch-more
     (q-served (token (y .st)) y iso frame (ap (λ (n : ℕ). eqb (endpoint n) 0) (framed-st x iso (u .0 .globals .«sof_frame») frame)
     ∙ h) .goes (withPhase off w) u refl (plainly (i .1)))
@@ -133,10 +138,10 @@ serves w v x l t {su = su} r two e (others h b m q k) = back m (at-ask {q = Read
       ap (λ (z : Log). z .phase) (j .0),
     )))))
   where
-    elsewhere : (b : Bool) (st : ℕ) (w : Log) → eqb (endpoint st) 0 ≡ false
-        → seen b st (withPhase off w) ≡ withPhase off w
-    elsewhere b st w h = rw h refl
-serves w v x l t {su = su} r two e (mine h m q k) = back m (at-ask {q = Read FrameNo 0} tt (λ frame u _ i.
+    elsewhere : (b : Bool) (st n : ℕ) (w : Log) → eqb (endpoint st) 0 ≡ false
+        → seen b st n (withPhase off w) ≡ withPhase off w
+    elsewhere b st n w h = rw h refl
+serves w v x l t {su = su} r two e (mine h v′ m q k) = back m (at-ask {q = Read FrameNo 0} tt (λ frame u _ i.
     let o = concrete .get (ep-cell Out (endpoint (x .st))) t in
     let n = concrete .get (ep-cell In (endpoint (x .st))) t in
     let iso = isoFor (token (x .st)) o n in
@@ -145,16 +150,16 @@ serves w v x l t {su = su} r two e (mine h m q k) = back m (at-ask {q = Read Fra
     (ap (λ (e : ℕ). isOn (concrete .get (ep-cell In e) t .iso)) zero-ep ∙ k .plain In) in
     let same : framed x iso (u .0 .globals .«sof_frame») frame ≡ x = ap (λ (b : Bool). cond b (released x) x)
     (not-own x (token (x .st)) iso (u .0 .globals .«sof_frame») frame refl not-iso) in
-    back (here (x .busy) (x .st) (naked (token (x .st)) (x .busy) (togOk (x .st)) w) h)
+    back (here (x .busy) (x .st) (x .len) (naked (token (x .st)) (x .busy) (togOk (x .st)) v′ w) h)
     (subst (λ (y : Transfer). Watch Between Any (Served su)
-    (log.ofToken (token (x .st)) (x .busy) (togOk (x .st)) (withPhase off (naked (token (x .st)) (x .busy) (togOk (x .st)) w)))
+    (log.ofToken (token (x .st)) (x .busy) (togOk (x .st)) (x .len) (withPhase off (naked (token (x .st)) (x .busy) (togOk (x .st)) v′ w)))
     (run concrete (servedAs (token (y .st)) y iso frame) u)) (sym same)
     (served-ep0 x frame h w u (plainly (i .1)) (subst (R w) (sym (i .0 ∙ q)) r) (ap (λ (a : View). a .stage) (i .0 ∙ q)
-    ∙ two) e (token (x .st)) iso (x .busy) (togOk (x .st)) refl refl not-iso))))
+    ∙ two) e (token (x .st)) iso (x .busy) (togOk (x .st)) v′ refl refl not-iso))))
   where
-    here : (b : Bool) (st : ℕ) (w : Log) → eqb (endpoint st) 0 ≡ true
-        → seen b st (withPhase off w) ≡ log.ofToken (token st) b (togOk st) (withPhase off w)
-    here b st w h = rw h refl
+    here : (b : Bool) (st n : ℕ) (w : Log) → eqb (endpoint st) 0 ≡ true
+        → seen b st n (withPhase off w) ≡ log.ofToken (token st) b (togOk st) n (withPhase off w)
+    here b st n w h = rw h refl
 
 -- ---- the transfer
 
@@ -162,9 +167,9 @@ transfers : (w : Log) (s : St) {su : Bool} → R w (view (s .0)) → view (s .0)
     → Watch Between Any (Served su) (withPhase flagged w) (run concrete (onTransfer {i = true}) s)
 transfers w s r two e = at-ask tt (λ m a _ i. at-ask tt (λ st b _ j. at-ask tt (λ n c _ l.
     let v = l .0 ∙ (j .0 ∙ i .0) in
-    watch-bind (naks-first w c (entered m st n) (plainly (l .1))) (λ y _ o q. back (q .0) (at-ask tt (λ _ u _ p.
-    watch-bind (settles w u (entered m st n) (plainly (p .1)))
-    (λ z x t k. serves w (view (s .0)) x z t r two e (subst (λ (y : View). Settled w y z x t) (p .0 ∙ (q .1 ∙ v)) k))))))))
+    watch-bind (naks-first w c (entered m st n) (plainly (l .1))) (λ y _ o q. back (q .log) (at-ask tt (λ _ u _ p.
+    watch-bind (settles (q .read) w u (entered m st n) (plainly (p .1)))
+    (λ z x t k. serves w (view (s .0)) x z t r two e (subst (λ (y : View). Settled w y z x t) (p .0 ∙ (q .shown ∙ v)) k))))))))
 
 -- ---- the setup packet
 
@@ -172,30 +177,35 @@ nak-word : response (wordOf word.NAK word.DATA0 false) ≡ word.NAK
 unfolding response wordOf
 nak-word = refl
 
+abbrev nakWord : Ep0Word → Ep0Word
+nakWord c = writtenAs (wordOf word.NAK word.DATA0 false) c
+
 abbrev cleared : EpCore → EpCore
 cleared p = withArmed 0 (withReady 0 p)
 
-ready-setup : (x : Log) → x .setup-seen ≡ true → {v y : View} → y ≡ v
-    → Rel (x .rx) (x .tx) (x .len) (pipe.after pipe.setup (x .pipe)) pipe.nothing true v
+ready-setup : (x : Log) → x .setup-seen ≡ true → {v y : View} → y ≡ v → Base (x .request) (x .started) v
+    → Rel (anew true (x .rx)) (anew true (x .tx)) (x .len) (x .got) (pipe.after pipe.setup (x .pipe)) pipe.nothing true v
     → R (cond (x .setup-seen) (set-up x) x) y
-ready-setup x e {v = v} {y = y} h r = subst (λ (b : Bool). R (cond b (set-up x) x) y)
-    (sym e) (inr (subst (Rel (x .rx) (x .tx) (x .len) (pipe.after pipe.setup (x .pipe)) pipe.nothing true) (sym h) r))
+ready-setup x e {v = v} {y = y} h k r = subst (λ (b : Bool). R (cond b (set-up x) x) y) (sym e) (subst (R (set-up x)) (sym h) (k, inr r))
 
-sets-up : (w : Log) (s : St) → view (s .0) .stage ≡ 2 → w .setup-seen ≡ true → w .phase ≡ off
+sets-up : (w : Log) (s : St) → R w (view (s .0)) → view (s .0) .stage ≡ 2 → w .setup-seen ≡ true → w .phase ≡ off
     → Watch Between Any (λ x _ t. R (cond (x .setup-seen) (set-up x) x) (view (t .0)) × (x .phase ≡ off)) w (run concrete (onSetup {i = true}) s)
-sets-up w s two e ph = at-ask tt (λ _ a _ i. at-ask tt (λ _ b _ j. at-ask tt (λ _ c _ l.
+sets-up w s r two e ph = at-ask tt (λ _ a _ i. at-ask tt (λ _ b _ j. at-ask tt (λ _ c _ l.
     let h = j .1 .places in
     let o = outWith cleared b in
     let n = inWith cleared o in
     let g = withSetup 1 (concrete .look (setup-word 0) b) (concrete .look (setup-word 1) b) (concrete .get globals-cell n) in
     let p = concrete .put globals-cell g n in
-    let seen-p : view (p .0) ≡ setReady 1 (setIn aborted (setOut aborted (view (s .0)))) = put-globals g n ∙ ap (setReady 1)
-    (in-view cleared o (out-whole cleared b h) ∙ ap (setIn aborted) (out-view cleared b h ∙ ap (setOut aborted) (j .0 ∙ i .0))) in
+    let seen-p : view (p .0) ≡ setReady 1 (setIn (aborted (view (s .0) .inn)) (setOut (aborted (view (s .0) .out)) (view (s .0))))
+    = put-globals g n ∙ ap (setReady 1) (in-view cleared o (out-whole cleared b h)
+    ∙ ap (λ (y : View). setIn (aborted (y .inn)) y) (out-view cleared b h
+    ∙ ap (λ (y : View). setOut (aborted (y .out)) y) (j .0 ∙ i .0))) in
     let c′ = concrete .act (waken (wakeCode Out 0 ∷ [])) c in
     at-end (
-      (ready-setup (withTx (wordOf word.NAK word.DATA0 false) (withRx (wordOf word.NAK word.DATA0 false) w)) e
-          (act-view (waken (wakeCode In 0 ∷ [])) refl c′ ∙ (act-view (waken (wakeCode Out 0 ∷ [])) refl c
-          ∙ (l .0 ∙ seen-p))) (set-up-fits _ _ _ (w .pipe) (view (s .0)) two nak-word nak-word)),
+      (ready-setup (withTx (nakWord (w .tx)) (withRx (nakWord (w .rx)) w)) e
+          (act-view (waken (wakeCode In 0 ∷ [])) refl c′ ∙ (act-view (waken (wakeCode Out 0 ∷ [])) refl c ∙ (l .0 ∙ seen-p)))
+          (record { says = r .0 .says; started = r .0 .started; maximum = r .0 .maximum })
+          (set-up-fits (nakWord (w .rx)) (nakWord (w .tx)) (w .len) (w .got) (w .pipe) (view (s .0)) two nak-word nak-word)),
       ph,
     ))))
 
@@ -245,7 +255,7 @@ on-interrupt w s r two = at-ask tt (λ f b _ j.
     watch-bind {P = Served (setupAct f)}
     (watch-cond (transfer f) (λ h. back (is-flagged f (opens interrupt w) h) (transfers u g (subst (R u) (sym (p .1)) r) (ap (λ (y : View). y .stage) (p .1) ∙ two) refl))
     (λ h. at-end (subst (R u) (sym (p .1)) r, ap (λ (y : View). y .stage) (p .1) ∙ two, refl, is-off f (opens interrupt w) h))) (λ x _ t k.
-    watch-cond (setupAct f) (λ h. sets-up x t (k .1) (k .2 ∙ h) (k .3)) (λ h. at-end (none x (view (t .0)) (k .2 ∙ h) (k .0), k .3))))))))))))
+    watch-cond (setupAct f) (λ h. sets-up x t (k .0) (k .1) (k .2 ∙ h) (k .3)) (λ h. at-end (none x (view (t .0)) (k .2 ∙ h) (k .0), k .3))))))))))))
 
 pub law-interrupt : Law interrupt
 law-interrupt w s r z =

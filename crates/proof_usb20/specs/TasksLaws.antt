@@ -1,5 +1,5 @@
 -- The laws of the calls that are not EP0's
-use mathlib.Core.Bool.{Bool, true, false, cond, _||_}
+use mathlib.Core.Bool.{Bool, true, false, cond, _&&_, _||_}
 use mathlib.Core.List.{List, []}
 use mathlib.Core.Logic.{_⊎_, inl, inr}
 use mathlib.Core.Path.{_≡_, refl, ap, subst, sym, _∙_}
@@ -22,35 +22,45 @@ use Rattle.regs.specs.IntEn.{withBusRst, withSuspend}
 use Rattle.state.specs.Kept.{withIntEn}
 use Rattle.script.specs.Tree as tree
 use Rattle.script.specs.Cells.{EpCore, ep-cell, globals-cell, allocator-cell, request-cell, paced-cell}
-use Rattle.script.specs.Script.{Script, ret, bind, run, no-wakes}
+use Rattle.script.specs.Script.{Script, run, no-wakes, allocate0, gathered}
 use Rattle.bits.specs.Bit.{withBit}
 use Rattle.script.specs.Machine.{Buf}
 use Rattle.proof_book.specs.TransferKindsLaws.{put-steady, act-steady}
 use Rattle.proof_book.specs.Sorting.{Sorting}
-use Rattle.script.specs.Statics.{isOn, withReady, withArmed, withPaced, withTog, withPower, modifyIntEn}
+use Rattle.script.specs.Statics.{isOn, withReady, withArmed, withPaced, withTog, withPower}
 use Rattle.script.specs.Answers.{Answer, Refused, End, NotYet, Done, Shown, operation, resultless, staged, named, unless, isNumber, isAllocated}
 use Rattle.script.specs.IsoIn.{isoInCompletions, isoInSetPaced}
 use Rattle.script.specs.Bus as bus
 use Rattle.script.specs.Endpoint.{enabled-else, ends-request, polled, no-request, begun}
-use Rattle.script.specs.Calls.{Op, slotted, other, aside, PollRead, BeginWrite, PollWrite, Allocate, AllocateAll}
+use Rattle.script.specs.Calls.{Op, interrupt, slotted, other, aside, PollRead, BeginWrite, PollWrite, Allocate, AllocateAll}
 use Rattle.script.specs.Calls.{Start, BusPoll, BusEnable, BusDisable, Microframe, SetStalled, IsStalled, SetPaced}
 use Rattle.script.specs.Calls.{Advance, BeginRead, Aside, Open, Close, Queue, asideCode, code}
 use Rattle.script_ops.specs.Rings.{St}
 use Rattle.script_ops.specs.Concrete.{concrete}
 use Rattle.regs.specs.declared.Access.{Access}
 use Rattle.proof_usb20.specs.Log as log
-use Rattle.proof_usb20.specs.Log.{Log, before, exempted, afresh, opens, ends, closes, Poll, none, pollOf, settled, FairPoll, Allowed, AllowedTo}
+use Rattle.proof_usb20.specs.Log.{Log, before, exempted, afresh, opens, ends, closes, Poll, none, pollOf, settled, Fair, Allowed, AllowedTo}
+use Rattle.proof_usb20.specs.Log.{Ep0Word, readAs, compared, withRx, withTx, Shows}
+use Rattle.proof_usb20.specs.Pipe.{Answers, naks, stalls, acks, Half}
+use Rattle.proof_usb20.specs.RequestLaws.{baseOf, Left, kept-base, given-64, given-start, started-base, started-stage}
+use Rattle.proof_usb20.specs.RequestLaws.{l-ret, l-bind, l-allocates, l-listed, l-start-ep0, l-stalled, l-reset, l-int-en}
+use Rattle.alloc.specs.declared.Answer as alloc
+use Rattle.alloc.specs.declared.Answer.the-variants as variant
+use Rattle.alloc.specs.Alloc.{allocateEp0Of}
+use Rattle.descriptor.specs.Reading.{readingOf}
+use Rattle.regs.specs.declared.Access.the-variants.{Read}
+use Rattle.regs.specs.Registers.{ctrlOf}
+use Rattle.script.specs.Driver.{started-as}
 use Rattle.proof_usb20.specs.Watch.{at-end, at-ask}
-use Rattle.proof_usb20.specs.WatchLaws.{watch-bind, watch-more, watch-cond, watch-any}
-use Rattle.proof_usb20.specs.Ep0.{Watch, View, view, R, Between, Ends, Law}
-use Rattle.proof_usb20.specs.ExemptLaws.{fair-task}
-use Rattle.proof_usb20.specs.ExemptLaws.{differ, Task, exempt-law}
+use Rattle.proof_usb20.specs.WatchLaws.{watch-bind, watch-more, watch-cond}
+use Rattle.proof_usb20.specs.Ep0.{Watch, Rec, View, view, Fits, R, Between, Ends, Law}
+use Rattle.proof_usb20.specs.ExemptLaws.{differ, further}
 use Rattle.proof_usb20.specs.Ep0Laws.{act-view}
-use Rattle.proof_usb20.specs.FittingLaws.{both}
+use Rattle.proof_usb20.specs.FittingLaws.{both, and, Fit}
 use Rattle.proof_usb20.specs.QuietLaws as quiet
-use Rattle.proof_usb20.specs.QuietLaws.{plainly, steadily, Any, Quiet, Stays, q-ret, q-bind, q-test, q-if, q-read}
+use Rattle.proof_usb20.specs.QuietLaws.{plainly, steadily, Any, Quiet, Stays, q-ret, q-bind, q-test, q-if, q-read-of}
 use Rattle.proof_usb20.specs.QuietLaws.{q-write, q-is, q-look, q-fetch, q-act, q-put, put-other, put-kept, other-word}
-use Rattle.proof_usb20.specs.QuietLaws.{other-length}
+use Rattle.proof_usb20.specs.QuietLaws.{other-length, other-read}
 use Rattle.proof_usb20.specs.PartsLaws.{q-got, q-wake, q-when, q-reg, q-ep, q-complete}
 
 -- ---- a quiet call
@@ -71,17 +81,25 @@ closed o p e NotYet x = refl
 closed o p e (Done bytes) x = ap (λ (q : Poll). log.done q x) p
 closed o p e (Shown bytes stamp) x = refl
 
+-- no interrupt
+abbrev pub Task : Op → Type 0
+Task interrupt = ⊥
+Task (slotted o) = Unit {0}
+Task (other o) = Unit {0}
+Task (aside o) = Unit {0}
+
 opened : (o : Op) → Task o → (w : Log) → opens o w ≡ afresh w
 opened (slotted o) t w = refl
 opened (other o) t w = refl
 opened (aside o) t w = refl
 
-pub quiet-law : (o : Op) → Task o → pollOf o ≡ none → ((n : ℕ) (x : Log) → ends o n x ≡ x) → Quiet (code o) → Law o
-quiet-law o t p e q w s r z = subst (λ (u : Log). Watch Between (Allowed o) (Ends o) u (run concrete (code o) s)) (sym (opened o t w))
+pub quiet-law : (o : Op) → Task o → pollOf o ≡ none → ((n : ℕ) (x : Log) → ends o n x ≡ x) → ((a : Answer) (x : Log) → Fair o a x)
+    → Quiet (code o) → Law o
+quiet-law o t p e fair q w s r z = subst (λ (u : Log). Watch Between (Allowed o) (Ends o) u (run concrete (code o) s)) (sym (opened o t w))
     (allows (λ x q. subst (λ (a : Poll). AllowedTo a x q) (sym p) tt) (watch-more (q .goes (afresh w) s refl (plainly z))
     (λ x a u m. (
       subst (λ (y : Log). R y (view (u .0))) (sym (closed o p e a x ∙ m .0)) (subst (R w) (sym (m .1)) r),
-      fair-task o t a x (subst (λ (y : Poll). FairPoll y a x) (sym p) tt),
+      fair a x,
     ))))
 
 -- ---- the rows
@@ -136,7 +154,7 @@ q-enabled d e x y = q-bind (q-got globals-cell) (λ g. q-test y x)
 -- ---- reads and writes
 
 pub law-begin-read : (e n : ℕ) → Law (other (BeginRead e n))
-law-begin-read e n = quiet-law (other (BeginRead e n)) tt refl (λ _ _. refl)
+law-begin-read e n = quiet-law (other (BeginRead e n)) tt refl (λ _ _. refl) (λ _ _. tt)
     (q-staged 2 (q-named Out e (λ m. q-enabled Out e q-ret (q-bind (q-got (ep-cell Out e)) (λ s. q-unless _ 10
     (q-bind (q-put (put-request Out e (begun n)) q-ret)
     (λ _. q-resultless (q-test q-ret (q-test q-ret (q-bind (q-ep Out e (withArmed 1) (m .apart)) (λ _. q-reg Out e _ (m .zero-not))))))))))))
@@ -148,14 +166,14 @@ q-polled d e n m x = q-bind (q-got (request-cell d e))
     (q-test (q-bind (q-got (ep-cell d e)) (λ s. x s)) (q-bind (q-ep d e (withReady 0) (m .apart)) (λ _. q-ends d e (Refused 10)))))
 
 pub law-poll-read : (e n : ℕ) → Law (slotted (PollRead e n))
-law-poll-read e n = quiet-law (slotted (PollRead e n)) tt refl (λ _ _. refl) (q-staged 2 (q-named Out e (λ m. q-polled Out e n m (λ s. q-test
+law-poll-read e n = quiet-law (slotted (PollRead e n)) tt refl (λ _ _. refl) (λ _ _. tt) (q-staged 2 (q-named Out e (λ m. q-polled Out e n m (λ s. q-test
     (q-enabled Out e (q-ends Out e (Refused 9)) (q-bind (q-is (λ _. q-ret))
     (λ b. q-test (q-bind (q-fetch (λ _. q-ret)) (λ bytes. q-bind (q-act refl q-ret) (λ _. q-ends Out e _))) q-ret)))
     (q-test (q-bind (q-ep Out e (withReady 0) (m .apart)) (λ _. q-test (q-ends Out e (Refused 10))
     (q-bind (q-fetch (λ _. q-ret)) (λ bytes. q-ends Out e (Done bytes))))) (q-enabled Out e (q-ends Out e (Refused 9)) q-ret))))))
 
 pub law-begin-write : (e : ℕ) (bytes : List ℕ) → Law (slotted (BeginWrite e bytes))
-law-begin-write e bytes = quiet-law (slotted (BeginWrite e bytes)) tt refl (λ _ _. refl)
+law-begin-write e bytes = quiet-law (slotted (BeginWrite e bytes)) tt refl (λ _ _. refl) (λ _ _. tt)
     (q-staged 2 (q-named In e (λ m. q-enabled In e q-ret (q-bind (q-got (ep-cell In e)) (λ s. q-unless _ 10
     (q-bind (q-put (put-request In e (begun (length bytes))) q-ret)
     (λ _. q-resultless (q-test q-ret (q-bind (q-act refl q-ret) (λ _. q-bind (q-ep In e (λ s. withArmed 1 (withReady 0 s)) (m .apart))
@@ -163,7 +181,7 @@ law-begin-write e bytes = quiet-law (slotted (BeginWrite e bytes)) tt refl (λ _
 
 pub law-poll-write : (e : ℕ) (bytes : List ℕ) → Law (slotted (PollWrite e bytes))
 law-poll-write e bytes = quiet-law (slotted (PollWrite e bytes)) tt refl
-    (λ _ _. refl) (q-staged 2 (q-named In e (λ m. q-polled In e (length bytes) m (λ s. q-test
+    (λ _ _. refl) (λ _ _. tt) (q-staged 2 (q-named In e (λ m. q-polled In e (length bytes) m (λ s. q-test
     (q-enabled In e (q-ends In e (Refused 9)) (q-bind (q-is (λ _. q-ret)) (λ b. q-test (q-bind (q-act refl q-ret) (λ _. q-ends In e (Done []))) q-ret)))
     (q-test (q-bind (q-ep In e (withReady 0) (m .apart)) (λ _. q-ends In e (Done []))) (q-enabled In e (q-ends In e (Refused 9)) q-ret))))))
 
@@ -172,35 +190,141 @@ law-poll-write e bytes = quiet-law (slotted (PollWrite e bytes)) tt refl
 unstarted : {A : Type 0} (n : ℕ) → n ≡ 2 → eqb n 1 ≡ true → A
 unstarted n h q = absurd (omega (arith, h, eqb-true n 1 q))
 
+-- the log is exempt, and what is left of the request fits
+still : (w x : Log) (s t : St) → R w (view (s .0)) → w .exempt ≡ true → Left w s x t → R x (view (t .0))
+still w x s t r e l = (kept-base (r .0) (l .0 .request) (l .0 .started) (l .1), inl (l .0 .exempt e))
+
+exempts : (w x : Log) (s t : St) → R w (view (s .0)) → Left w s x t → R (exempted x) (view (t .0))
+exempts w x s t r l = (kept-base (r .0) (l .0 .request) (l .0 .started) (l .1), inl refl)
+
 pub law-allocate : (d : Dir) (kind address maximum interval : ℕ)
     → Law (other (Allocate d kind address maximum interval))
-law-allocate d kind address maximum interval w s (inl e) z = exempt-law (other (Allocate d kind address maximum interval)) tt w s e
-law-allocate d kind address maximum interval w s (inr r) z =
-    watch-cond (eqb (s .0 .globals .stage) 1) (λ q. unstarted (s .0 .globals .stage) (r .stage) q) (λ _. at-end (inr r, tt))
+law-allocate d kind address maximum interval w s (k, inr r) z =
+    watch-cond (eqb (s .0 .globals .stage) 1) (λ q. unstarted (s .0 .globals .stage) (r .stage) q) (λ _. at-end ((k, inr r), tt))
+law-allocate d kind address maximum interval w s (k, inl e) z =
+    watch-cond (eqb (s .0 .globals .stage) 1)
+    (λ _. watch-more (l-allocates {i = false} d kind address maximum interval .goes (afresh w) s) (λ x a t l. (
+      subst (λ (y : Log). R y (view (t .0))) (sym (closed (other (Allocate d kind address maximum interval)) refl (λ _ _. refl) a x))
+          (still (afresh w) x s t (k, inl e) e l),
+      tt,
+    )))
+    (λ _. at-end ((k, inl e), tt))
 
 pub law-allocate-all : (bytes : List ℕ) → Law (other (AllocateAll bytes))
-law-allocate-all bytes w s (inl e) z = exempt-law (other (AllocateAll bytes)) tt w s e
-law-allocate-all bytes w s (inr r) z = watch-cond (eqb (s .0 .globals .stage) 1) (λ q. unstarted (s .0 .globals .stage) (r .stage) q) (λ _. at-end (inr r, tt))
+law-allocate-all bytes w s (k, inr r) z =
+    watch-cond (eqb (s .0 .globals .stage) 1) (λ q. unstarted (s .0 .globals .stage) (r .stage) q) (λ _. at-end ((k, inr r), tt))
+law-allocate-all bytes w s (k, inl e) z =
+    watch-cond (eqb (s .0 .globals .stage) 1)
+    (λ _. watch-more (l-listed {i = false} bytes (readingOf bytes .answer) .goes (afresh w) s) (λ x a t l. (
+      subst (λ (y : Log). R y (view (t .0))) (sym (closed (other (AllocateAll bytes)) refl (λ _ _. refl) a x)) (still (afresh w) x s t (k, inl e) e l),
+      tt,
+    )))
+    (λ _. at-end ((k, inl e), tt))
 
+-- EP0's start: only a maximum of 64 is given
 pub law-start : (maximum : ℕ) → Law (other (Start maximum))
-law-start maximum w s (inl e) z = exempt-law (other (Start maximum)) tt w s e
-law-start maximum w s (inr r) z = watch-cond (eqb (s .0 .globals .stage) 1) (λ q. unstarted (s .0 .globals .stage) (r .stage) q) (λ _. at-end (inr r, tt))
+law-start maximum w s (k, inr r) z =
+    watch-cond (eqb (s .0 .globals .stage) 1) (λ q. unstarted (s .0 .globals .stage) (r .stage) q) (λ _. at-end ((k, inr r), tt))
+law-start maximum w s (k, inl e) z =
+    watch-cond (eqb (s .0 .globals .stage) 1)
+    (λ _. by (allocateEp0Of (s .0 .allocator) maximum .answer) refl)
+    (λ _. at-end ((k, inl e), tt))
+  where
+    t : St
+    t = concrete .act (allocate0 maximum) s
+
+    by : (a : alloc.Answer) → allocateEp0Of (s .0 .allocator) maximum .answer ≡ a
+        → Watch Between (Allowed (other (Start maximum))) (Ends (other (Start maximum))) (afresh w) (run {i = false} concrete (started-as maximum a) t)
+    by (variant.Refused n) h = at-end (
+      subst (λ (y : Log). R y (view (t .0))) (sym (closed-refused n)) (kept-base k refl refl (started-base (s .0) maximum n h), inl e),
+      tt,
+    )
+      where
+        closed-refused : (n : ℕ) → closes (other (Start maximum)) (Refused n) (afresh w) ≡ afresh w
+        closed-refused n = same-log (eqb n 9 || eqb n 10) (afresh w)
+    by (variant.Given e base slots) h = watch-bind (l-bind {i = false} (l-start-ep0 maximum) (λ _. l-ret {a = 0}) .goes (afresh w) (concrete .act no-wakes t))
+        (λ x n u l. at-end {a = End n (concrete .fetch gathered u)} {s = u} (
+          (
+            given-start k (l .0 .request) refl (l .1 ∙ (ap baseOf (act-view no-wakes refl t) ∙ started-stage (s .0) maximum e base slots h))
+                (given-64 (s .0 .allocator) maximum e base slots h),
+            inl refl,
+          ),
+          tt,
+        ))
 
 -- ---- the bus
 
 pub law-bus-enable : Law (other BusEnable)
-law-bus-enable = quiet-law (other BusEnable) tt refl (λ _ _. refl) (q-staged 2 (q-resultless (q-bind (q-read (λ _. q-ret)) (λ v. q-write (λ _. refl) q-ret))))
+law-bus-enable = quiet-law (other BusEnable) tt refl (λ _ _. refl) (λ _ _. tt) (q-staged 2 (q-resultless (q-bind (q-read-of (λ _ _. refl) (λ _. q-ret)) (λ v. q-write (λ _. refl) q-ret))))
 
 pub law-bus-disable : Law (other BusDisable)
-law-bus-disable = quiet-law (other BusDisable) tt refl (λ _ _. refl) (q-staged 2 (q-resultless q-ret))
+law-bus-disable = quiet-law (other BusDisable) tt refl (λ _ _. refl) (λ _ _. tt) (q-staged 2 (q-resultless q-ret))
 
 pub law-microframe : Law (other Microframe)
-law-microframe = quiet-law (other Microframe) tt refl (λ _ _. refl) (q-staged 2 (q-operation (q-bind (q-read (λ _. q-ret)) (λ v. q-ret))))
+law-microframe = quiet-law (other Microframe) tt refl (λ _ _. refl) (λ _ _. tt) (q-staged 2 (q-operation (q-bind (q-read-of (λ _ _. refl) (λ _. q-ret)) (λ v. q-ret))))
+
+-- a reading of EP0's word, which it may show otherwise than it was written
+lowered : (v : ℕ) {c : Ep0Word} {h : Half} {r : Rec} → Fits c h r → Fits (readAs v c) h r
+lowered v {c = c} {h = h} f = record { shows = by (h .answers) (f .shows); toggles = λ k b. f .toggles (less k) b; armed = f .armed }
+  where
+    less : (c .read-back && eqb v (c .last)) && c .in-step ≡ true → c .read-back && c .in-step ≡ true
+    less k = let p = both (c .read-back && eqb v (c .last)) (c .in-step) k in
+        and (both (c .read-back) (eqb v (c .last)) (p .0) .0) (p .1)
+
+    by : (a : Answers) → Shows c h a → Shows (readAs v c) h a
+    by naks s = λ k. s (both (c .read-back) (eqb v (c .last)) k .0)
+    by stalls s = s
+    by (acks k) s = (s .0, λ z. s .1 (less z))
+
+r-compared : (d : Dir) (e v : ℕ) (w : Log) (x : View) → R w x → R (compared (ctrlOf d) e v w) x
+r-compared Out e v w x (k, f) = by (eqb e 0) f
+  where
+    by : (b : Bool) → Fit w x → R (cond b (withRx (readAs v (w .rx)) w) w) x
+    by false f = (k, f)
+    by true (inl e) = (k, inl e)
+    by true (inr r) = (
+      k,
+      inr (record {
+        stage = r .stage;
+        out = lowered v (r .out);
+        inn = r .inn;
+        waits = r .waits;
+        size = r .size;
+        received = r .received;
+        setup = r .setup;
+      }),
+    )
+r-compared In e v w x (k, f) = by (eqb e 0) f
+  where
+    by : (b : Bool) → Fit w x → R (cond b (withTx (readAs v (w .tx)) w) w) x
+    by false f = (k, f)
+    by true (inl e) = (k, inl e)
+    by true (inr r) = (
+      k,
+      inr (record {
+        stage = r .stage;
+        out = r .out;
+        inn = lowered v (r .inn);
+        waits = r .waits;
+        size = r .size;
+        received = r .received;
+        setup = r .setup;
+      }),
+    )
 
 pub law-is-stalled : (d : Dir) (e : ℕ) → Law (other (IsStalled d e))
-law-is-stalled d e = quiet-law (other (IsStalled d e)) tt refl (λ _ _. refl)
-    (q-staged 2 (q-test (q-operation (q-bind (q-read (λ _. q-ret)) (λ v. q-ret)))
-    (q-named d e (λ _. q-operation (q-bind (q-read (λ _. q-ret)) (λ v. q-ret))))))
+law-is-stalled d e w s r z = by (eqb e 0) refl
+  where
+    by : (b : Bool) → eqb e 0 ≡ b
+        → Watch Between (Allowed (other (IsStalled d e))) (Ends (other (IsStalled d e))) (afresh w) (run concrete (code (other (IsStalled d e))) s)
+    by false h = quiet-law (other (IsStalled d e)) tt refl (λ _ _. refl) (λ _ _. tt) (q-staged 2 (q-if (eqb e 0) (λ q. differ (sym h ∙ q))
+        (λ _. q-named d e (λ m. q-operation (q-bind (q-read-of (other-read d e h) (λ _. q-ret)) (λ v. q-ret)))))) w s r z
+    by true h = watch-cond (eqb (s .0 .globals .stage) 2)
+        (λ _. watch-cond (eqb e 0) (λ _. at-ask {q = Read (ctrlOf d) e} tt (λ v t _ k. at-end (
+          subst (R (compared (ctrlOf d) e v (afresh w))) (sym (k .0 ∙ act-view no-wakes refl s)) (r-compared d e v (afresh w) (view (s .0)) r),
+          tt,
+        ))) (λ q. differ (sym q ∙ h)))
+        (λ _. at-end (r, tt))
 
 q-paced : {i : Bool} (e : ℕ) (on : Bool) → Quiet (isoInSetPaced {i = i} e on)
 q-paced e on = record {
@@ -215,7 +339,7 @@ q-paced e on = record {
 }
 
 pub law-set-paced : (e : ℕ) (on : Bool) → Law (other (SetPaced e on))
-law-set-paced e on = quiet-law (other (SetPaced e on)) tt refl (λ _ _. refl) (q-staged 2 (q-test (q-bind (q-paced e on) (λ _. q-ret)) q-ret))
+law-set-paced e on = quiet-law (other (SetPaced e on)) tt refl (λ _ _. refl) (λ _ _. tt) (q-staged 2 (q-test (q-bind (q-paced e on) (λ _. q-ret)) q-ret))
 
 q-completions : {i : Bool} (n e : ℕ) → eqb e 0 ≡ false → Quiet (isoInCompletions {i = i} n e)
 unfolding isoInCompletions
@@ -224,8 +348,8 @@ q-completions (suc n) e h = q-bind (q-complete e h) (λ _. q-completions n e h)
 
 pub law-advance : (e : ℕ) → Law (other (Advance e))
 law-advance e = quiet-law (other (Advance e)) tt refl
-    (λ _ _. refl) (q-staged 2 (q-if (isNumber e) (λ h. q-resultless (q-bind (q-got globals-cell) (λ g. q-when (q-test
-    (q-bind (q-read (λ _. q-ret)) (λ frame. q-bind (q-got (paced-cell e))
+    (λ _ _. refl) (λ _ _. tt) (q-staged 2 (q-if (isNumber e) (λ h. q-resultless (q-bind (q-got globals-cell) (λ g. q-when (q-test
+    (q-bind (q-read-of (λ _ _. refl) (λ _. q-ret)) (λ frame. q-bind (q-got (paced-cell e))
     (λ last. q-bind (q-completions (completions last (indexOf frame)) e (numbered e h .zero-not))
     (λ _. q-put (put-paced e (frameOf (indexOf frame))) q-ret))))
     (q-put (put-paced e NO_FRAME) q-ret))))) (λ _. q-ret)))
@@ -242,7 +366,7 @@ q-aside (Queue e bytes) = q-staged 2
     (λ s. q-unless _ 11 (q-bind (q-is (λ _. q-ret)) (λ b. q-test (q-bind (q-act refl q-ret) (λ _. q-ret)) q-ret))))))))
 
 pub law-aside : (o : Aside) → Law (aside o)
-law-aside o = quiet-law (aside o) tt refl (λ _ _. refl) (q-aside o)
+law-aside o = quiet-law (aside o) tt refl (λ _ _. refl) (λ _ _. tt) (q-aside o)
 
 ended-view : {A : Type 0} {w : Log} {v : View} {a : A} {t : St}
     → Watch Between Any {A = A} (λ _ _ t. (view (t .0) ≡ v)) w (tree.ends a t) → view (t .0) ≡ v
@@ -256,9 +380,6 @@ aside-view o d b a t z h = ended-view
 
 -- ---- halts
 
-any-end : {A : Type 0} (w : Log) (o : tree.Out St A) → Watch Between Any (λ _ _ _. Unit {0}) w o
-any-end w o = watch-any (λ _. Unit {0}) (λ _ _ _. tt) (λ _ _ _ _. tt) (λ _ _ _ _. tt) w tt o
-
 q-stalled : {i : Bool} (d : Dir) (e : ℕ) (on : Bool) → Numbered e → Quiet (bus.setStalled {i = i} d e on)
 q-stalled Out e true m = q-bind (q-reg Out e _ (m .zero-not)) (λ _. q-wake Out e)
 q-stalled In e true m = q-bind (q-write (other-length e 0 (m .zero-not)) q-ret) (λ _. q-bind (q-reg In e _ (m .zero-not)) (λ _. q-wake In e))
@@ -268,9 +389,6 @@ q-stalled Out e false m = q-bind (q-got (ep-cell Out e))
 q-stalled In e false m = q-bind (q-got (ep-cell In e))
     (λ s. q-bind (q-put (put-other In e (m .apart) (withTog 0 s)) q-ret)
     (λ _. q-bind (q-write (other-word In e _ (m .zero-not)) q-ret) (λ _. q-bind (q-when (q-ep In e _ (m .apart))) (λ _. q-wake In e))))
-
-exempts : (e : ℕ) (x : Log) → eqb e 0 ≡ true → cond (eqb e 0) (exempted x) x .exempt ≡ true
-exempts e x h = rw h refl
 
 -- a halt of EP0's exempts; of another endpoint's it is quiet
 pub law-set-stalled : (d : Dir) (e : ℕ) (on : Bool) → Law (other (SetStalled d e on))
@@ -282,22 +400,28 @@ law-set-stalled d e on w s r z = by (eqb e 0) refl
       where
         quiet-part : Watch Between (Allowed (other (SetStalled d e on)))
             (Ends (other (SetStalled d e on))) (afresh w) (run concrete (code (other (SetStalled d e on))) s)
-        quiet-part = quiet-law (other (SetStalled d e on)) tt refl (λ _ x. ap (λ (b : Bool). cond b (exempted x) x) h)
+        quiet-part = quiet-law (other (SetStalled d e on)) tt refl (λ _ x. ap (λ (b : Bool). cond b (exempted x) x) h) (λ _ _. tt)
             (q-staged 2 (q-if (eqb e 0) (λ q. differ (sym h ∙ q)) (λ _. q-named d e (λ m. q-resultless (q-stalled d e on m))))) w s r z
     by true h = watch-cond (eqb (s .0 .globals .stage) 2)
         (λ _. watch-cond (eqb e 0)
-        (λ _. watch-bind {P = λ _ _ _. Unit {0}} (any-end (afresh w) (run {i = false} concrete (bind (bus.setStalled d e on) (λ _. ret 0)) _))
-        (λ x n t _. at-end (inl (exempts e x h), tt))) (λ q. differ (sym q ∙ h)))
+        (λ _. watch-bind (l-bind {i = false} (l-stalled d e on) (λ _. l-ret {a = 0}) .goes (afresh w) (concrete .act no-wakes s))
+        (λ x n t l. at-end (exempt-if x (view (t .0)) (exempts (afresh w) x s t r (l .0, l .1 ∙ ap baseOf (act-view no-wakes refl s))), tt)))
+        (λ q. differ (sym q ∙ h)))
         (λ _. at-end (r, tt))
+      where
+        exempt-if : (x : Log) (v : View) → R (exempted x) v → R (cond (eqb e 0) (exempted x) x) v
+        exempt-if x v q = subst (λ (b : Bool). R (cond b (exempted x) x) v) (sym h) q
 
 -- a bus reset exempts; the rest of a poll is quiet
 pub law-bus-poll : Law (other BusPoll)
 law-bus-poll w s r z = watch-cond (eqb (s .0 .globals .stage) 2)
-    (λ _. watch-bind {P = λ x n t. (n ≡ 2) ⊎ Stays (afresh w) s x t} (watch-cond (isOn (s .0 .globals .power))
+    (λ _. watch-bind {P = λ x n t. ((n ≡ 2) × Left (afresh w) s x t) ⊎ Stays (afresh w) s x t} (watch-cond (isOn (s .0 .globals .power))
     (λ _. at-ask tt (λ f a _ i. watch-cond (busRst f)
-    (λ _. watch-bind {P = λ _ _ _. Unit {0}} (any-end (afresh w) (run concrete bus.busReset a))
-    (λ x _ t _. watch-bind {P = λ _ _ _. Unit {0}}
-    (any-end x (run {i = false} concrete (modifyIntEn (λ v. withBusRst v true)) t)) (λ y _ u _. at-end {s = u} (inl refl))))
+    (λ _. watch-bind (l-reset .goes (afresh w) a) (λ x _ t l. watch-bind (l-int-en {i = false} (λ v. withBusRst v true) .goes x t)
+    (λ y _ u m. at-end {s = u} (inl (
+      refl,
+      (further (l .0) (m .0), m .1 ∙ (l .1 ∙ ap baseOf (i .0 ∙ act-view no-wakes refl s))),
+    )))))
     (λ _. watch-cond (suspend f)
     (λ _. at-ask tt (λ m b _ j. at-ask tt (λ _ c _ l. at-ask tt (λ _ u _ n. at-end (inr (
       refl,
@@ -315,10 +439,10 @@ law-bus-poll w s r z = watch-cond (eqb (s .0 .globals .stage) 2)
     (λ _. at-end (r, tt))
   where
     same : (b : Bool) (x : Log) (v : View) → R x v → R (cond b (exempted x) x) v
-    same true x v q = inl refl
+    same true x v q = (q .0, inl refl)
     same false x v q = q
 
-    after : (n : ℕ) (x : Log) (t : St) → (n ≡ 2) ⊎ Stays (afresh w) s x t
+    after : (n : ℕ) (x : Log) (t : St) → ((n ≡ 2) × Left (afresh w) s x t) ⊎ Stays (afresh w) s x t
         → R (cond (eqb n 2) (exempted x) x) (view (t .0))
-    after n x t (inl h) = subst (λ (m : ℕ). R (cond (eqb m 2) (exempted x) x) (view (t .0))) (sym h) (inl refl)
+    after n x t (inl h) = subst (λ (m : ℕ). R (cond (eqb m 2) (exempted x) x) (view (t .0))) (sym (h .0)) (exempts (afresh w) x s t r (h .1))
     after n x t (inr m) = same (eqb n 2) x (view (t .0)) (subst (λ (y : Log). R y (view (t .0))) (sym (m .0)) (subst (R w) (sym (m .1)) r))

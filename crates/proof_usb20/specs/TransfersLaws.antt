@@ -1,5 +1,5 @@
 -- The pipe's definitions checked against 8.5.3 itself: a control read, a control write and a transfer without data,
--- packet by packet, each in order and possible
+-- packet by packet, each in order and ready
 use mathlib.Core.Bool.{Bool, true, false}
 use mathlib.Core.Path.{_≡_, refl, ap}
 use Prim.Native.Nat.{ℕ, zero, suc}
@@ -7,8 +7,8 @@ use Rattle.regs.specs.declared.Dir.{Dir}
 use Rattle.regs.specs.declared.Dir.the-variants.{Out, In}
 use Rattle.script.specs.Usb20Toggles.{other}
 use Rattle.script.specs.Usb20Control.{dataPid, statusPid}
-use Rattle.proof_usb20.specs.Pipe.{data-stage, status-stage, naks, stalls, acks, half, Pipe, Setting, setup}
-use Rattle.proof_usb20.specs.Pipe.{packet, token, possible, after, Choice, takes, gives, confirms, rejects}
+use Rattle.proof_usb20.specs.Pipe.{data-stage, status-stage, naks, stalls, acks, isReady, half, Pipe, Setting}
+use Rattle.proof_usb20.specs.Pipe.{setup, packet, token, after, Choice, takes, gives, confirms, rejects}
 use Rattle.proof_usb20.specs.Pipe.{chosen, orderly, given, confirmed, over}
 
 -- packet k of a data stage is ready, the k before it went through
@@ -22,14 +22,14 @@ reads n first = gives n first false
 
 module _ (p : Pipe) (n : ℕ) where
   -- a control read: packet k has DATA1, DATA0, ..; the other direction answers NAK
-  pub read-pid : (k : ℕ) → stage (reads n) In p k .inn .bit ≡ dataPid k
-  read-pid zero = refl
-  read-pid (suc k) = ap other (read-pid k)
-
   pub read-ready : (k : ℕ)
       → (stage (reads n) In p k .inn .answers ≡ acks data-stage) × (stage (reads n) In p k .out .answers ≡ naks)
   read-ready zero = (refl, refl)
   read-ready (suc k) = (refl, read-ready k .1)
+
+  pub read-pid : (k : ℕ) → stage (reads n) In p k .inn .bit ≡ dataPid k
+  read-pid zero = refl
+  read-pid (suc k) = rw (read-ready k .0) (ap other (read-pid k))
 
   -- its last packet: the status stage OUT is ready with it, DATA1; the transfer is over after both
   abbrev last : ℕ → Pipe
@@ -37,7 +37,7 @@ module _ (p : Pipe) (n : ℕ) where
 
   pub read-status : (k : ℕ)
       → (last k .out .answers ≡ acks status-stage) × (last k .out .bit ≡ statusPid) × (last k .inn .bit ≡ dataPid (suc k))
-  read-status k = (refl, refl, ap other (read-pid k))
+  read-status k = (refl, refl, rw (read-ready k .0) (ap other (read-pid k)))
 
   pub read-over : (k : ℕ)
       → (over (given true) (after (packet In) (last k)) ≡ false) × (over (given true) (after (packet Out) (after (packet In) (last k))) ≡ true)
@@ -48,9 +48,13 @@ module _ (p : Pipe) (n : ℕ) where
   read-lost k = refl
 
   -- a control write
+  pub write-ready : (k : ℕ) → stage takes Out p k .out .answers ≡ acks data-stage
+  write-ready zero = refl
+  write-ready (suc k) = refl
+
   pub write-pid : (k : ℕ) → stage takes Out p k .out .bit ≡ dataPid k
   write-pid zero = refl
-  write-pid (suc k) = ap other (write-pid k)
+  write-pid (suc k) = rw (write-ready k) (ap other (write-pid k))
 
   abbrev accepted : Setting → ℕ → Pipe
   accepted s k = chosen (confirms s) (after (packet Out) (stage takes Out p k))
@@ -65,15 +69,15 @@ module _ (p : Pipe) (n : ℕ) where
       → (chosen (confirms s) (after setup p) .inn .answers ≡ acks status-stage) × (chosen (confirms s) (after setup p) .inn .bit ≡ statusPid)
   none-status s = (refl, refl)
 
-  -- all in order and possible: nothing of it is exempt
+  -- all in order and ready: nothing of it is exempt
   pub read-orderly : (k : ℕ)
-      → (orderly (gives n true false) (after setup p) ≡ true) × (possible (packet In) (stage (reads n) In p k) ≡ true)
+      → (orderly (gives n true false) (after setup p) ≡ true) × (isReady (stage (reads n) In p k .inn .answers) ≡ true)
       × (orderly (gives n false false) (after (packet In) (stage (reads n) In p k)) ≡ true)
   read-orderly zero = (refl, refl, refl)
   read-orderly (suc k) = (refl, refl, refl)
 
   pub write-orderly : (k : ℕ)
-      → (orderly (takes true) (after setup p) ≡ true) × (possible (packet Out) (stage takes Out p k) ≡ true)
+      → (orderly (takes true) (after setup p) ≡ true) × (isReady (stage takes Out p k .out .answers) ≡ true)
       × (orderly (takes false) (after (packet Out) (stage takes Out p k)) ≡ true)
   write-orderly zero = (refl, refl, refl)
   write-orderly (suc k) = (refl, refl, refl)
