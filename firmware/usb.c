@@ -9,8 +9,7 @@ uint8_t usb_state[USBHS_STATE_LEN] __attribute__((aligned(4)));
 uint8_t usb_slots[USB_BUFFERS * USB_BUFFER] __attribute__((aligned(4)));
 uint16_t usb_time[USBHS_TIME_LEN];
 
-/* look.c and sof.c know of a few registers; the others are written right away. Not in line: the loop below is shorter
- * so, by 30 instructions an interrupt. */
+/* look.c and sof.c know of a few registers; the others are written right away. */
 static void write(unsigned number, unsigned endpoint, uint32_t value)
 {
     switch (number) {
