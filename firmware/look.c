@@ -7,16 +7,22 @@
 
 enum { FLAG_TRANSFER = 2, FREE = 1, TOKEN_SETUP = 0x30 };
 
-static uint32_t slots[16], isochronous, enabled;
+int look_under_way;
 
-void look_written(unsigned number, unsigned endpoint, uint32_t value)
+uint32_t look_slots[16];
+
+static uint32_t isochronous, enabled;
+
+/* Both, of the OUT endpoints, a bit each. */
+static uint32_t streams;
+
+void look_written(unsigned number, uint32_t value)
 {
-    switch (number) {
-    case USBHS_EP_RX_DMA: slots[endpoint] = value; break;
-    case USBHS_EP_TYPE: isochronous = value; break;
-    case USBHS_EP_CONFIG: enabled = value; break;
-    default: break;
-    }
+    if (number == USBHS_EP_TYPE)
+        isochronous = value;
+    if (number == USBHS_EP_CONFIG)
+        enabled = value;
+    streams = (isochronous & enabled) >> 16;
 }
 
 /* The chip stores there too. */
@@ -27,10 +33,10 @@ static int landed(uint32_t offset)
 
 static int left(void)
 {
-    uint32_t out = (isochronous & enabled) >> 16;
+    const uint32_t *slot = look_slots;
 
-    for (unsigned endpoint = 1; out >> endpoint != 0; endpoint++)
-        if ((out >> endpoint & 1) != 0 && landed(slots[endpoint]))
+    for (uint32_t left_over = streams; left_over != 0; left_over >>= 1, slot++)
+        if ((left_over & 1) != 0 && landed(*slot))
             return 1;
     return 0;
 }
@@ -42,26 +48,25 @@ static uint32_t token(void)
 }
 
 /* The release of the flag is not made: it may be a later transfer's. */
-static uint32_t make(uint64_t word)
+int look_made(uint64_t word, uint32_t *reading)
 {
-    if (USBHS_ASKS(word, USBHS_INT_ST))
-        return token();
-    if (USBHS_KIND(word) == USBHS_WRITE && USBHS_REGISTER(word) == USBHS_INT_FG)
-        return 0;
-    return usb_make(word);
+    *reading = 0;
+    if (USBHS_ASKS(word, USBHS_INT_ST)) {
+        *reading = token();
+        return 1;
+    }
+    return USBHS_KIND(word) == USBHS_WRITE && USBHS_REGISTER(word) == USBHS_INT_FG;
 }
 
-void look_after_interrupt(void)
+int look_again(uint32_t *frame, uint32_t *flags, uint32_t *mis, uint32_t *status, uint32_t *length)
 {
-    uint64_t word;
-
-    if (!left() || (register_read(USBHS_INT_FG, 0) & FLAG_TRANSFER) != 0)
-        return;
-    word = usbhs_interrupt(usb_state, usb_slots, sizeof usb_slots, usb_time, 0, register_read(USBHS_FRAME_NO, 0),
-        FLAG_TRANSFER);
-    if (USBHS_ASKS(word, USBHS_MIS_ST))
-        word = usbhs_continue_transfer(usb_state, usb_slots, sizeof usb_slots, usb_time, 0, FREE, TOKEN_SETUP, 0);
-    while (USBHS_KIND(word) >= USBHS_READ && USBHS_KIND(word) <= USBHS_CALLBACK)
-        word = usbhs_continue(usb_state, usb_slots, sizeof usb_slots, usb_time, 0, make(word));
-    usb_wake_tasks(word);
+    look_under_way = !look_under_way && left() && (register_read(USBHS_INT_FG, 0) & FLAG_TRANSFER) == 0;
+    if (!look_under_way)
+        return 0;
+    *frame = register_read(USBHS_FRAME_NO, 0);
+    *flags = FLAG_TRANSFER;
+    *mis = FREE;
+    *status = TOKEN_SETUP;
+    *length = 0;
+    return 1;
 }

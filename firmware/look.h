@@ -13,11 +13,17 @@
 
 #include <stdint.h>
 
-/* A write of ep_rx_dma, ep_type or ep_config that the driver hands out: which slots are armed, which endpoints are
- * isochronous, which enabled. */
-void look_written(unsigned number, unsigned endpoint, uint32_t value);
+/* Where the driver had each endpoint's next packet put: its last write of ep_rx_dma. */
+extern uint32_t look_slots[16];
 
-/* At the interrupt's end; with interrupts off. */
-void look_after_interrupt(void);
+/* A write of ep_type or ep_config that it hands out: which endpoints are isochronous, which enabled. */
+void look_written(unsigned number, uint32_t value);
+
+/* At the interrupt's end, with interrupts off: whether there is to be one more, and with which readings. */
+int look_again(uint32_t *frame, uint32_t *flags, uint32_t *mis, uint32_t *status, uint32_t *length);
+
+/* That one is under way: its accesses go through look_made, which says whether it made one. */
+extern int look_under_way;
+int look_made(uint64_t word, uint32_t *reading);
 
 #endif

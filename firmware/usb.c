@@ -9,30 +9,36 @@ uint8_t usb_state[USBHS_STATE_LEN] __attribute__((aligned(4)));
 uint8_t usb_slots[USB_BUFFERS * USB_BUFFER] __attribute__((aligned(4)));
 uint16_t usb_time[USBHS_TIME_LEN];
 
-/* look.c and sof.c know of a few registers; the others are written right away. Not in line: the loop below is shorter
- * so, by 30 instructions an interrupt. */
-__attribute__((noinline)) static void write(unsigned number, unsigned endpoint, uint32_t value)
+/* The registers that look.c and sof.c know of, a bit each. */
+#define KNOWN (1u << USBHS_INT_EN | 1u << USBHS_EP_CONFIG | 1u << USBHS_EP_TYPE)
+
+/* Not in line, so that the others' way through the loop below stays short. */
+__attribute__((noinline)) static void write_known(unsigned number, uint32_t value)
 {
-    switch (number) {
-    case USBHS_INT_EN:
+    look_written(number, value);
+    if (number == USBHS_EP_TYPE)
+        register_write(number, 0, value);
+    else
         sof_write(number, value);
-        break;
-    case USBHS_EP_CONFIG:
-        look_written(number, endpoint, value);
-        sof_write(number, value);
-        break;
-    case USBHS_EP_TYPE:
-    case USBHS_EP_RX_DMA:
-        look_written(number, endpoint, value);
-        register_write(number, endpoint, value);
-        break;
-    default:
-        register_write(number, endpoint, value);
-    }
 }
 
+static void write(unsigned number, unsigned endpoint, uint32_t value)
+{
+    if (number == USBHS_EP_RX_DMA)
+        look_slots[endpoint] = value;
+    if (number >= USBHS_INT_EN && number <= USBHS_EP_TYPE && (KNOWN >> number & 1) != 0)
+        write_known(number, value);
+    else
+        register_write(number, endpoint, value);
+}
+
+/* Makes what is handed out: the reading, 0 where there is none. */
 static uint32_t make(uint64_t word)
 {
+    uint32_t reading;
+
+    if (look_under_way && look_made(word, &reading))
+        return reading;
     switch (USBHS_KIND(word)) {
     case USBHS_READ:
         return register_read(USBHS_REGISTER(word), USBHS_ENDPOINT(word));
@@ -48,12 +54,7 @@ static uint32_t make(uint64_t word)
     }
 }
 
-uint32_t usb_make(uint64_t word)
-{
-    return make(word);
-}
-
-void usb_wake_tasks(uint64_t word)
+static void wake_tasks(uint64_t word)
 {
     uint8_t woken[USBHS_MOST_WAKES];
     unsigned n;
@@ -69,24 +70,25 @@ uint64_t usb_to_end(uint64_t word)
 {
     while (USBHS_KIND(word) >= USBHS_READ && USBHS_KIND(word) <= USBHS_CALLBACK)
         word = usbhs_continue(usb_state, usb_slots, sizeof usb_slots, usb_time, 0, make(word));
-    usb_wake_tasks(word);
+    wake_tasks(word);
     return word;
 }
 
-/* With the readings that follow each other brought by one call. */
+/* What the chip shows is overwritten by the next token, so all five registers are read first, in the order in which the
+ * driver asks for them; the calls then bring those that it wants. */
 void usb_interrupt(void)
 {
-    uint32_t frame = register_read(USBHS_FRAME_NO, 0), flags = register_read(USBHS_INT_FG, 0), mis, status;
-    uint64_t word = usbhs_interrupt(usb_state, usb_slots, sizeof usb_slots, usb_time, 0, frame, flags);
+    uint32_t frame = register_read(USBHS_FRAME_NO, 0), flags = register_read(USBHS_INT_FG, 0);
+    uint32_t mis = register_read(USBHS_MIS_ST, 0), status = register_read(USBHS_INT_ST, 0);
+    uint32_t length = register_read(USBHS_RX_LEN, 0);
+    uint64_t word;
 
-    if (USBHS_ASKS(word, USBHS_MIS_ST)) {
-        mis = register_read(USBHS_MIS_ST, 0);
-        status = register_read(USBHS_INT_ST, 0);
-        word = usbhs_continue_transfer(usb_state, usb_slots, sizeof usb_slots, usb_time, 0, mis, status,
-            register_read(USBHS_RX_LEN, 0));
-    }
-    usb_to_end(word);
-    look_after_interrupt();
+    do {
+        word = usbhs_interrupt(usb_state, usb_slots, sizeof usb_slots, usb_time, 0, frame, flags);
+        if (USBHS_ASKS(word, USBHS_MIS_ST))
+            word = usbhs_continue_transfer(usb_state, usb_slots, sizeof usb_slots, usb_time, 0, mis, status, length);
+        usb_to_end(word);
+    } while (look_again(&frame, &flags, &mis, &status, &length));
 }
 
 /* 0, or the row of a refusal. */
