@@ -13,17 +13,18 @@
 
 #include <stdint.h>
 
-/* Where the driver had each endpoint's next packet put: its last write of ep_rx_dma. */
-extern uint32_t look_slots[16];
+/* A write of ep_rx_dma, ep_type or ep_config that the driver hands out: which slots are armed, which endpoints are
+ * isochronous, which enabled. */
+void look_written(unsigned number, unsigned endpoint, uint32_t value);
 
-/* A write of ep_type or ep_config that it hands out: which endpoints are isochronous, which enabled. */
-void look_written(unsigned number, uint32_t value);
+/* At the interrupt's end: whether the driver is to be given that interrupt, whose flags are a transfer's, whose SIE is
+ * free and whose token is LOOK_TOKEN. With interrupts off. */
+#define LOOK_TRANSFER 2u
+#define LOOK_FREE 1u
+#define LOOK_TOKEN 0x30u
+int look_wanted(void);
 
-/* At the interrupt's end, with interrupts off: whether there is to be one more, and with which readings. */
-int look_again(uint32_t *frame, uint32_t *flags, uint32_t *mis, uint32_t *status, uint32_t *length);
-
-/* That one is under way: its accesses go through look_made, which says whether it made one. */
-extern int look_under_way;
-int look_made(uint64_t word, uint32_t *reading);
+/* The token where the driver asks for it again. The release of the flag is not made: it may be a later transfer's. */
+uint32_t look_token(void);
 
 #endif

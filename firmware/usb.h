@@ -10,6 +10,9 @@ extern uint8_t usb_state[USBHS_STATE_LEN];
 extern uint8_t usb_slots[USB_BUFFERS * USB_BUFFER];
 extern uint16_t usb_time[USBHS_TIME_LEN];
 
+/* Wakes the tasks that an end names. */
+void usb_wake_tasks(uint64_t word);
+
 /* The access loop: makes each access that the driver hands out until the operation is over; wakes the tasks that
  * its end names. With interrupts off. */
 uint64_t usb_to_end(uint64_t word);
