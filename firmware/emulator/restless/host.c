@@ -192,10 +192,14 @@ static void not_acked(enum handshake handshake)
     }
 }
 
+/* Before the next stage the host is busy with something else, one time in eight: for up to 3 ms, after an address for
+ * less than the firmware's watch waits, as it then writes the address (firmware/watch.c). */
 static void acked(void)
 {
     tries = 0;
     asked_since = microframe;
+    if (random_number(8) == 0)
+        quiet = random_number(action == SET_ADDRESS ? 10 : 24);
 }
 
 static void setup_token(void)
@@ -374,6 +378,9 @@ static void go_on(int asleep)
         }
     }
     next_token = now + SHORTEST_GAP + random_number(LONGEST_GAP - SHORTEST_GAP + 1);
+    /* every other microframe has packets of other devices before the streams */
+    if (place == 1 && (microframe & 1) != 0)
+        next_token += random_number(MICROFRAME / 4);
 }
 
 /* ---- time */
