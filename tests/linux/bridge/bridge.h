@@ -30,7 +30,7 @@ unsigned random_number(unsigned below);
 
 extern struct counts {
     unsigned long sofs, sofs_between, resets, suspends, unplugged, setups, ins, outs, naks, stalls, wrong_pids, nested;
-    unsigned long iso_in, iso_in_bytes, iso_out, iso_out_empty, iso_out_unheard, iso_out_slow;
+    unsigned long iso_in, iso_in_bytes, iso_out, iso_out_empty, iso_out_unheard, iso_out_slow, iso_out_marked;
 } counts;
 
 /* ---- queues.c */

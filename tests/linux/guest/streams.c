@@ -152,7 +152,8 @@ void stream(const char *what, unsigned urbs_out, int with_in, int with_requests)
     if (with_in)
         submit_first(what, in, URBS, submit_in);
     submit_first(what, out, URBS < urbs_out ? URBS : (int)urbs_out, submit_out);
-    while (under_way > 0 && idle < 50) {
+    /* qemu's xHCI takes a frame number of 32 ms ago for one in two seconds: a guest that was late must wait */
+    while (under_way > 0 && idle < 200) {
         b = reap(100);
         idle = b == NULL ? idle + 1 : 0;
         if (b != NULL)
