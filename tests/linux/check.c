@@ -1,7 +1,9 @@
 /* The card against what the guest says that it streamed. Each packet on the card is one that was sent, whole, in order
  * and once; and all that were on the bus are there, except empty ones and short ones that equal the mark's beginning,
- * which nobody can see (docs/DIFFERENCES.md 3), those counted as overruns, and those sent to nobody. Packets of the recorder's own endpoint are passed over. Usage: check CARD LOG [FLOOR] [LATE]; LATE: packets
- * may lack last bytes that equal the mark's (docs/DIFFERENCES.md 3), as they come late. */
+ * which nobody can see (docs/DIFFERENCES.md 3), those counted as overruns, and those sent to nobody. Packets of the
+ * recorder's own endpoint are passed over.
+ *
+ * check CARD LOG [FLOOR] [LATE]; LATE: packets may lack last bytes that equal the mark's, as they come late. */
 #include <stdio.h>
 #include <stdlib.h>
 #include <string.h>
@@ -132,10 +134,10 @@ int main(int argc, char **argv)
         cut += make_packet(found, made) != USBHS_LENGTH(word);
         n = found + 1;
     }
-    printf("check: the guest sent %u packets (%u in URBs that were broken off), %lu were on the bus (%lu empty, %lu "
-           "as the mark, %lu to nobody); %u are on the card, %zu blocks (and %u of the recorder's own); %u wrong, %u cut, %lu overruns\n",
-           log.sent, log.broken, log.on_bus, log.empty, log.marked, log.unheard, given, length / USBHS_BLOCK_LEN, own, wrong, cut,
-           log.overruns);
+    printf("check: the guest sent %u packets (%u in URBs that were broken off), %lu were on the bus (%lu empty, %lu as "
+           "the mark, %lu to nobody); %u are on the card, %zu blocks (and %u of the recorder's own); %u wrong, %u cut, "
+           "%lu overruns\n", log.sent, log.broken, log.on_bus, log.empty, log.marked, log.unheard, given,
+           length / USBHS_BLOCK_LEN, own, wrong, cut, log.overruns);
     if (given < floor || wrong > 0 || given != log.recorded || log.on_bus > log.sent ||
         log.sent - log.on_bus > log.broken ||
         given + log.overruns + log.unheard + log.empty + log.marked != log.on_bus) {

@@ -8,8 +8,8 @@
  *   clock.c    microframes, time, suspend and resume
  *   sockets.c  the guest's two lines: usbredir, and a serial port for words
  *
- * usbredir keeps some things to itself, which are made here: SET_ADDRESS, after each reset; suspend, when the guest says
- * on its serial port that it has suspended the device (any traffic resumes it). */
+ * usbredir keeps some things to itself, which are made here: SET_ADDRESS, after each reset; suspend, when the guest
+ * says on its serial port that it has suspended the device (any traffic resumes it). */
 #ifndef BRIDGE_H
 #define BRIDGE_H
 

@@ -142,8 +142,8 @@ static void came_back(struct urb *b, unsigned urbs_out, int with_requests)
     }
 }
 
-/* A guest that is slow for some 10 ms loses events of qemu's xHCI, whose ring of them is short: the URBs were on the bus
- * and do not come back. They are taken back, and count as broken off. */
+/* A guest that is slow for some 10 ms loses events of qemu's xHCI, whose ring of them is short: the URBs were on the
+ * bus and do not come back. They are taken back, and count as broken off. */
 static void take_back(struct urb *list)
 {
     for (int i = 0; i < URBS; i++)
@@ -197,8 +197,8 @@ void stream(const char *what, unsigned urbs_out, int with_in, int with_requests)
     result(done == urbs_out && seen.out_errors == 0 && under_way == 0, "%s: packets %u to %u, %u errors, %u URBs left",
            what, from, sent - 1, seen.out_errors, under_way);
     if (with_in)
-        result(seen.in_full > 0 && seen.in_errors == 0, "%s: %u packets IN, %u with numbers, %u errors; %u recorded, %u "
-               "lost", what, seen.in, seen.in_full, seen.in_errors, seen.recorded, seen.lost);
+        result(seen.in_full > 0 && seen.in_errors == 0, "%s: %u packets IN, %u with numbers, %u errors; %u recorded, "
+               "%u lost", what, seen.in, seen.in_full, seen.in_errors, seen.recorded, seen.lost);
     if (with_requests)
         result(asked > 0 && answered == asked, "%s: %u of %u requests in the midst answered", what, answered, asked);
     if (under_way == 0) {

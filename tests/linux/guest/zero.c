@@ -150,7 +150,8 @@ static void halted(unsigned endpoint, unsigned halted)
 {
     int n = control(0x82, 0, 0, endpoint, 2);
 
-    result(n == 2 && bytes[0] == halted, "GET_STATUS of endpoint %02X: %s (due: %u)", endpoint, answer_words(n), halted);
+    result(n == 2 && bytes[0] == halted, "GET_STATUS of endpoint %02X: %s (due: %u)", endpoint, answer_words(n),
+           halted);
 }
 
 static void halts(void)
