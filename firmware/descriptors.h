@@ -14,7 +14,9 @@
 
 /* An isochronous OUT takes 16 buffers, an isochronous IN 2, EP0 one. */
 #define USB_BUFFER 64u
+#ifndef USB_BUFFERS
 #define USB_BUFFERS (16u + 2u + 1u)
+#endif
 
 extern const uint8_t descriptor_device[DESCRIPTOR_DEVICE_LEN];
 extern const uint8_t descriptor_configuration[DESCRIPTOR_CONFIGURATION_LEN];

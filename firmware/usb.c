@@ -47,18 +47,17 @@ uint64_t usb_to_end(uint64_t word)
     return word;
 }
 
-/* With the readings that follow each other brought by one call. */
+/* What the chip shows is overwritten by the next token, so all five registers are read first, in the order in which the
+ * driver asks for them; the calls then bring those that it wants. */
 void usb_interrupt(void)
 {
-    uint32_t frame = register_read(USBHS_FRAME_NO, 0), flags = register_read(USBHS_INT_FG, 0), mis, status;
+    uint32_t frame = register_read(USBHS_FRAME_NO, 0), flags = register_read(USBHS_INT_FG, 0);
+    uint32_t mis = register_read(USBHS_MIS_ST, 0), status = register_read(USBHS_INT_ST, 0);
+    uint32_t length = register_read(USBHS_RX_LEN, 0);
     uint64_t word = usbhs_interrupt(usb_state, usb_slots, sizeof usb_slots, usb_time, 0, frame, flags);
 
-    if (USBHS_ASKS(word, USBHS_MIS_ST)) {
-        mis = register_read(USBHS_MIS_ST, 0);
-        status = register_read(USBHS_INT_ST, 0);
-        word = usbhs_continue_transfer(usb_state, usb_slots, sizeof usb_slots, usb_time, 0, mis, status,
-            register_read(USBHS_RX_LEN, 0));
-    }
+    if (USBHS_ASKS(word, USBHS_MIS_ST))
+        word = usbhs_continue_transfer(usb_state, usb_slots, sizeof usb_slots, usb_time, 0, mis, status, length);
     usb_to_end(word);
     look_after_interrupt();
 }

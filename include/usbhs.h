@@ -9,8 +9,8 @@
  * The accesses that they hand out of such bytes, with the addresses and lengths in them, are as
  * good as the bytes: only of a state that a start-up made and these calls alone have changed do
  * the addresses lie inside of the slots, each with its whole buffer. dir: 0 OUT, else IN. Flags:
- * 0 no, else yes. The chip wants the slots' start on a word boundary, and the library the
- * state's: it is compiled for a state that lies on one (C: __attribute__((aligned(4)))).
+ * 0 no, else yes. State and slots must begin on a word boundary (__attribute__((aligned(4)))): the
+ * chip wants it of the slots, and the library is compiled for it. Start-up checks both (row 24).
  *
  * Each call answers one word:
  *
@@ -76,6 +76,8 @@
  *   18  a descriptor: one address has two transfer types; after 17, before any allocation
  *   19  an enabling, after 5: with it the bus time in use would pass 6,000 byte-times
  *   22  EP0's start, before 6: the maximum is not 64
+ *   24  start-up, before all others, by this header: the state or the slots do not begin on a word
+ *       boundary
  *
  * Readings and values are packed as follows, bit 0 lowest; this is the driver's own packing and
  * not the chip's layout. ep_config, ep_type and int_en are kept by the driver and never read.
@@ -142,6 +144,34 @@ enum usbhs_kind {
     USBHS_SHOWN = 8
 };
 
+/* The rows by name: USBHS_ROW of a refusal. */
+enum usbhs_row {
+    USBHS_ROW_SLOTS_LENGTH = 1,
+    USBHS_ROW_GEOMETRY = 2,
+    USBHS_ROW_UNDER_WAY = 3,
+    USBHS_ROW_STAGE = 4,
+    USBHS_ROW_NO_ENDPOINT = 5,
+    USBHS_ROW_MAXIMUM = 6,
+    USBHS_ROW_ADDRESS = 7,
+    USBHS_ROW_BUFFERS = 8,
+    USBHS_ROW_DISABLED = 9,
+    USBHS_ROW_LENGTH = 10,
+    USBHS_ROW_NOT_ISOCHRONOUS = 11,
+    USBHS_ROW_NO_PACKET = 12,
+    USBHS_ROW_FULL = 13,
+    USBHS_ROW_NOT_OPEN = 14,
+    USBHS_ROW_NOT_BEGUN = 15,
+    USBHS_ROW_READING = 16,
+    USBHS_ROW_DESCRIPTOR = 17,
+    USBHS_ROW_TWO_TYPES = 18,
+    USBHS_ROW_BUS_TIME = 19,
+    USBHS_ROW_CHANNELS = 20,
+    USBHS_ROW_CARD = 21,
+    USBHS_ROW_EP0_MAXIMUM = 22,
+    USBHS_ROW_DISTANCES = 23,
+    USBHS_ROW_MISALIGNED = 24
+};
+
 /* The registers. The value of a buffer's register (12, 15, 16) is an offset into the slots. */
 enum usbhs_register {
     USBHS_INT_FG = 0,
@@ -164,6 +194,15 @@ enum usbhs_register {
     USBHS_EP_RX_CTRL = 17,
     USBHS_EP_TX_CTRL = 18
 };
+
+/* The bits that a reading of a register may have; a reading with others is refused with 16, and is
+ * still awaited then. An access layer that packs registers bit by bit needs no mask; one that reads
+ * a register whole does: bits that the chip has and the packing has not would stop the device. */
+#define USBHS_MASK(reg)                                                                              \
+    ((reg) == USBHS_INT_FG || (reg) == USBHS_CTRL ? 0x3Fu                                              \
+        : (reg) == USBHS_INT_ST                   ? 0x7Fu                                              \
+        : (reg) == USBHS_MIS_ST                   ? 0x3u                                               \
+        : (reg) == USBHS_EP_RX_CTRL || (reg) == USBHS_EP_TX_CTRL ? 0xFFu : 0xFFFFu)
 
 #define USBHS_OUT 0u
 #define USBHS_IN 1u
@@ -200,6 +239,15 @@ enum usbhs_transfer {
  * or 1 is served in every microframe, of more by its own tokens or by usbhs_begin_advance. */
 uint64_t usbhs_start_up(uint8_t state[USBHS_STATE_LEN], const uint8_t *slots, usbhs_length slots_length,
     uint16_t time[USBHS_TIME_LEN], uint32_t driver, uint32_t size, uint32_t count, uint32_t callback);
+static inline uint64_t usbhs_start_up_aligned(uint8_t state[USBHS_STATE_LEN], const uint8_t *slots,
+    usbhs_length slots_length, uint16_t time[USBHS_TIME_LEN], uint32_t driver, uint32_t size, uint32_t count,
+    uint32_t callback)
+{
+    if (((uintptr_t)state | (uintptr_t)slots) % 4 != 0)
+        return (uint64_t)USBHS_ROW_MISALIGNED << 8; /* refused: nothing is touched */
+    return usbhs_start_up(state, slots, slots_length, time, driver, size, count, callback);
+}
+#define usbhs_start_up usbhs_start_up_aligned
 uint64_t usbhs_allocate(uint8_t state[USBHS_STATE_LEN], uint32_t kind, uint32_t address, uint32_t maximum,
     uint32_t interval, uint32_t dir);
 uint64_t usbhs_start(uint8_t state[USBHS_STATE_LEN], uint32_t maximum);

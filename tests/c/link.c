@@ -7,8 +7,8 @@
 #define DRIVERS 4
 #define SLOTS_LENGTH (4u * 1024)
 
-static uint8_t states[DRIVERS][USBHS_STATE_LEN];
-static uint8_t buffers[DRIVERS][SLOTS_LENGTH];
+static uint8_t states[DRIVERS][(USBHS_STATE_LEN + 3) / 4 * 4] __attribute__((aligned(4)));
+static uint8_t buffers[DRIVERS][SLOTS_LENGTH] __attribute__((aligned(4)));
 static uint16_t shared[USBHS_TIME_LEN];
 
 /* Goes on to the operation's end. */
@@ -128,7 +128,8 @@ static void previewed(const char *what, const uint8_t *state, unsigned count, un
 /* A board's endpoints on `count` buffers of 512 bytes: the first takes two, the others one each. */
 static void listed(unsigned count)
 {
-    static uint8_t state[USBHS_STATE_LEN], before[USBHS_STATE_LEN], slots[4 * 512];
+    static uint8_t state[USBHS_STATE_LEN] __attribute__((aligned(4))), before[USBHS_STATE_LEN];
+    static uint8_t slots[4 * 512] __attribute__((aligned(4))) __attribute__((aligned(4)));
     static uint16_t time[USBHS_TIME_LEN];
     uint8_t clash[sizeof board];
     uint8_t numbers[USBHS_NUMBERS_LEN] = {7};
@@ -175,7 +176,7 @@ static void listed(unsigned count)
    leaves the interrupt where it is asked for. */
 static void together(uint8_t *state, uint8_t *slots, uint16_t *time)
 {
-    static uint8_t copy[USBHS_STATE_LEN];
+    static uint8_t copy[USBHS_STATE_LEN] __attribute__((aligned(4)));
     uint64_t word;
     unsigned wide;
 
@@ -218,10 +219,25 @@ static void together(uint8_t *state, uint8_t *slots, uint16_t *time)
     expect("together: nothing else", USBHS_KIND(usbhs_continue_transfer(state, slots, 64, time, 0, 0, 0, 0)), USBHS_END);
 }
 
+/* A state or slots on no word boundary: start-up is refused with 24 and touches nothing. */
+static void misaligned(void)
+{
+    static uint8_t room[USBHS_STATE_LEN + 4] __attribute__((aligned(4)));
+    static uint8_t buffers[64 + 4] __attribute__((aligned(4)));
+    static uint16_t time[USBHS_TIME_LEN];
+
+    for (unsigned odd = 1; odd < 4; odd++) {
+        expect("odd state", USBHS_ROW(usbhs_start_up(room + odd, buffers, 64, time, 0, 64, 1, 0)), USBHS_ROW_MISALIGNED);
+        expect("odd slots", USBHS_ROW(usbhs_start_up(room, buffers + odd, 64, time, 0, 64, 1, 0)), USBHS_ROW_MISALIGNED);
+    }
+    for (unsigned i = 0; i < sizeof room; i++)
+        expect("untouched", room[i], 0);
+}
+
 int main(void)
 {
-    static uint8_t state[USBHS_STATE_LEN];
-    static uint8_t slots[64];
+    static uint8_t state[USBHS_STATE_LEN] __attribute__((aligned(4)));
+    static uint8_t slots[64] __attribute__((aligned(4)));
     static uint8_t room[USBHS_MOST_WAKES];
     static uint16_t time[USBHS_TIME_LEN];
     uint16_t stamp = 7;
@@ -259,6 +275,7 @@ int main(void)
     expect("write: endpoint", USBHS_ENDPOINT(word), 3);
     expect("write: value", USBHS_VALUE(word), 0xFFFFFFFFu);
 
+    misaligned();
     wake_ups(state, slots, time);
     together(state, slots, time);
     listed(4);

@@ -61,7 +61,8 @@ static void change(uint8_t *bytes, uint32_t length, uint32_t most)
 
 #define MOST_SLOTS (64u * 512u)
 
-static uint8_t state[USBHS_STATE_LEN], slots[MOST_SLOTS], board[512];
+static uint8_t state[USBHS_STATE_LEN] __attribute__((aligned(4)));
+static uint8_t slots[MOST_SLOTS] __attribute__((aligned(4))), board[512];
 static uint16_t bus_time[USBHS_TIME_LEN];
 static uint32_t slots_length, board_length;
 

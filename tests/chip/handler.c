@@ -100,6 +100,8 @@ static void on_time(void)
     shows(TRANSFER, OUT | SAMPLES_OUT | TOGGLE_OK, USB_BUFFER);
     out = interrupt("firmware-iso-out-64");
     tell("firmware-microframe", 3, sof + in + out, sof);
+    shows(TRANSFER, SOF, 0);
+    interrupt("firmware-sof-again");
 }
 
 /* One interrupt that comes late and stands for all three. */
@@ -111,6 +113,16 @@ static void late(void)
     interrupt("firmware-microframe-late");
 }
 
+/* The SIE is never free: the driver gives up after its looks. */
+static void stuck(void)
+{
+    BYTE(MIS_ST) = 0;
+    arrive();
+    shows(TRANSFER, OUT | SAMPLES_OUT | TOGGLE_OK, USB_BUFFER);
+    interrupt("firmware-iso-out-64-stuck");
+    BYTE(MIS_ST) = FREE;
+}
+
 int main(void)
 {
     if (!started())
@@ -119,5 +131,6 @@ int main(void)
     late();
     shows(SETUP, 0x30, 8);
     interrupt("firmware-setup");
+    stuck();
     return 0;
 }

@@ -86,10 +86,17 @@ static void counted(const char *name, uint32_t took, uint32_t stack)
 
 static const char continue_name[] = "usbhs_continue";
 
+/* So many looks at mis_st still find the SIE busy. */
+static uint32_t busy;
+
 static uint32_t make(uint64_t word)
 {
     uint32_t *r = &registers[USBHS_REGISTER(word)][USBHS_ENDPOINT(word)];
 
+    if (USBHS_ASKS(word, USBHS_MIS_ST) && busy > 0) {
+        busy--;
+        return 0;
+    }
     if (USBHS_KIND(word) == USBHS_READ)
         return *r;
     if (USBHS_KIND(word) == USBHS_WRITE && USBHS_REGISTER(word) != USBHS_INT_FG)
@@ -286,6 +293,28 @@ static void interrupts(void)
     OPERATE("interrupt-sof-callback", usbhs_begin_interrupt, (state));
 }
 
+/* The SIE is busy at the interrupt's first look and free at its second; or never free. */
+static void busy_interrupts(void)
+{
+    static const uint8_t packet[64] = {1, 2, 3};
+
+    prepare(64, 0);
+    PREPARE(usbhs_queue, (state, slots, slots_length, 2, packet, 64));
+    sof_handled();
+    busy = 1;
+    shows(TRANSFER, IN | 2, 0);
+    OPERATE("interrupt-iso-in-busy", usbhs_begin_interrupt, (state));
+    arrives();
+    busy = 1;
+    shows(TRANSFER, OUT | 1 | OK, 64);
+    OPERATE("interrupt-iso-out-64-busy", usbhs_begin_interrupt, (state));
+    arrives();
+    busy = 5000;
+    OPERATE("interrupt-iso-out-64-stuck", usbhs_begin_interrupt, (state));
+    busy = 0;
+    close_all();
+}
+
 #define TOGETHER(name) tell(name, at_once())
 
 /* The same, readings that follow each other brought by one call. */
@@ -424,6 +453,7 @@ int main(void)
     starting();
     bus();
     interrupts();
+    busy_interrupts();
     together();
     isochronous_out(64, "interrupt-iso-out-64", "interrupt-iso-out-64-late", "interrupt-iso-out-64-overrun");
     isochronous_out(512, "interrupt-iso-out-512", "interrupt-iso-out-512-late", "interrupt-iso-out-512-overrun");

@@ -20,7 +20,7 @@ use Rattle.script.specs.Machine as machine
 use Rattle.script.specs.Machine.{Buf, Machine, Ans, ended, handed, told, call, Call, halt}
 use Rattle.script_ops.specs.Rings.{St}
 use Rattle.script_ops.specs.Concrete.{concrete}
-use Rattle.endpoint.specs.Answers.{front}
+use Rattle.script_ops.specs.Answers.{front}
 use Rattle.answer.specs.declared.Step.{Step}
 use Rattle.answer.specs.declared.Step.the-variants as step
 use Rattle.answer.specs.Questions.{questionOf}

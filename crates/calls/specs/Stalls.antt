@@ -12,7 +12,7 @@ use Rattle.script.specs.Calls.{Other, other, otherCode, named-or-0}
 use Rattle.script.specs.Machine.{Buf, ended, begin}
 use Rattle.script_ops.specs.Rings.{St}
 use Rattle.script_ops.specs.Concrete.{concrete}
-use Rattle.endpoint.specs.Rows.{stallable}
+use Rattle.script_ops.specs.Rows.{stallable}
 use Rattle.machine.specs.declared.Suspended.{Suspended}
 use Rattle.machine.specs.Suspended.{machineAt, drive, halts}
 use Rattle.machine.specs.Rows.{isIdle, stopOf}

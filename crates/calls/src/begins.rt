@@ -1,11 +1,11 @@
 use answer::Step;
-use endpoint::rows::is_number;
-use endpoint::rows::low;
 use isochronous::advance;
 use machine::halts::suspend_or_end;
 use machine::halts::suspend_or_end_advance;
 use machine::halts::suspend_or_end_interrupt;
 use machine::stops::stop;
+use script_ops::rows::is_number;
+use script_ops::rows::low;
 use state::State;
 ghost use mathlib.Core.Path.{_≡_};
 ghost use mathlib.Core.List.{List, []};

@@ -1,12 +1,12 @@
 use answer::Step;
-use endpoint::rows::endpoint;
-use endpoint::rows::is_allocated;
-use endpoint::rows::is_stallable;
-use endpoint::rows::low;
 use machine::halts::suspend_or_end_bus;
 use machine::stops::slots_fit;
 use machine::stops::stop;
 use regs::Dir;
+use script_ops::rows::endpoint;
+use script_ops::rows::is_allocated;
+use script_ops::rows::is_stallable;
+use script_ops::rows::low;
 use state::State;
 ghost use Rattle.script.specs.Calls.{BusEnable, BusDisable, BusPoll, IsStalled, SetStalled, SetEnabled};
 ghost use Rattle.machine.specs.Contracts.{OtherCall, SlottedCall};

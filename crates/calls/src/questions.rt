@@ -1,7 +1,7 @@
-use endpoint::rows::is_number;
-use endpoint::rows::low;
 use regs::Dir;
 use script_ops::rings::is_on;
+use script_ops::rows::is_number;
+use script_ops::rows::low;
 use state::EpState;
 use state::State;
 ghost use mathlib.Core.Path.{_≡_};

@@ -27,7 +27,7 @@ use Rattle.script.specs.Control.{no-control, unlessSetup, statusIn, beginReject
 use Rattle.script_ops.specs.Rings.{St, filledEp0}
 use Rattle.script_ops.specs.Concrete.{go}
 use Rattle.endpoint.specs.Records.{modifiedOn}
-use Rattle.endpoint.specs.Answers.{finished}
+use Rattle.script_ops.specs.Answers.{finished}
 use Rattle.endpoint.specs.Brought.{Brought, untouched, neither, brings}
 use Rattle.control.specs.declared.Point.the-variants as point
 use Rattle.control.specs.declared.Begun.the-variants as begun

@@ -35,7 +35,7 @@ ghost use Rattle.state.specs.State.{view, saved};
 ghost use Rattle.script.specs.Answers.{resultless};
 ghost use Rattle.script.specs.Control.{statusIn, beginSetup, beginDataOut, beginDataIn, beginAccept, beginAcceptSetAddress, beginReject};
 ghost use Rattle.script_ops.specs.Concrete.{go};
-ghost use Rattle.endpoint.specs.Answers.{finished};
+ghost use Rattle.script_ops.specs.Answers.{finished};
 ghost use Rattle.control.specs.Points.{acked, loading, begunAs, LinkedBegun};
 
 // `setup`, control.rs 70-80.

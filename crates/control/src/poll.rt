@@ -36,7 +36,7 @@ ghost use Rattle.script.specs.Control.{pollSetup, pollDataOut, pollDataIn, poll
 ghost use Rattle.script.specs.Script.{ret};
 ghost use Rattle.script.specs.Answers.{NotYet};
 ghost use Rattle.script_ops.specs.Concrete.{go};
-ghost use Rattle.endpoint.specs.Answers.{lentAfter};
+ghost use Rattle.script_ops.specs.Answers.{lentAfter};
 ghost use Rattle.control.specs.Points.{polledAs, LinkedPolled};
 ghost use Rattle.control.specs.Rows.{Polls};
 

@@ -30,10 +30,10 @@ use Rattle.script_ops.specs.Records.{plainOf}
 use Rattle.script_ops.specs.Rings.{St, waitingOn, roomOn, oldestAt, nextLen, oldestOn, takeOn, enqueueOn, filledOn}
 use Rattle.script_ops.specs.Concrete.{go}
 use Rattle.endpoint.specs.Records.{modifiedOn}
-use Rattle.endpoint.specs.Answers.{lentAfter}
+use Rattle.script_ops.specs.Answers.{lentAfter}
 use Rattle.endpoint.specs.Brought.{Brought, lends, untouched, neither, brings}
-use Rattle.endpoint.specs.Rows.{refusalOf}
-use Rattle.endpoint.specs.RowsLaws.{started, allocated, by-row}
+use Rattle.script_ops.specs.Rows.{refusalOf}
+use Rattle.script_ops.specs.RowsLaws.{started, allocated, by-row}
 use Rattle.endpoint.specs.declared.Point.the-variants as point
 use Rattle.endpoint.specs.declared.Begun.the-variants as begun-as
 use Rattle.endpoint.specs.declared.Polled.{Polled}

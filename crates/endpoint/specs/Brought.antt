@@ -10,7 +10,7 @@ use Rattle.script.specs.Tree as tree
 use Rattle.script.specs.Tree.{ends}
 use Rattle.script.specs.Answers.{Answer, Done}
 use Rattle.script_ops.specs.Rings.{St}
-use Rattle.endpoint.specs.Answers.{front, lentAfter}
+use Rattle.script_ops.specs.Answers.{front, lentAfter}
 use Rattle.endpoint.specs.Front.{front-over}
 
 abbrev pub Brought : tree.Out St Answer → List ℕ → List ℕ → tree.Out St Answer → Type 0

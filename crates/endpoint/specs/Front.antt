@@ -6,7 +6,7 @@ use native.Mathlib.Omega.{arith}
 use lib.ListN.{length, take, drop, getD}
 use Rattle.ring.specs.Copies.{over}
 use Rattle.script.specs.Answers.{Answer, Refused, End, NotYet, Done, Shown}
-use Rattle.endpoint.specs.Answers.{front}
+use Rattle.script_ops.specs.Answers.{front}
 
 front-append : (xs ys : List ℕ) → front (length xs) (xs ++ ys) ≡ xs
 front-append [] ys = refl

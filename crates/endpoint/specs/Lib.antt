@@ -4,8 +4,5 @@ pub mod CodecLaws
 pub mod Records
 pub mod RecordsLaws
 pub mod Fetch
-pub mod Answers
 pub mod Front
 pub mod Brought
-pub mod Rows
-pub mod RowsLaws

@@ -19,7 +19,7 @@ use Rattle.script.specs.Answers.{Answer, Refused, End, NotYet, Done}
 use Rattle.script.specs.Endpoint.{pollRead}
 use Rattle.script_ops.specs.Rings.{St}
 use Rattle.script_ops.specs.Concrete.{concrete, go}
-use Rattle.endpoint.specs.Answers.{finished, front}
+use Rattle.script_ops.specs.Answers.{finished, front}
 use Rattle.script_ops.specs.Results.{resultless}
 use Rattle.endpoint.specs.declared.Point.{Point}
 use Rattle.endpoint.specs.declared.Point.the-variants as point

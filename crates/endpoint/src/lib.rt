@@ -5,7 +5,6 @@ mod codec;
 mod read;
 mod write;
 pub mod common; // common.rt: what reads, writes and the control pipe share
-pub mod rows; // rows.rt: rows 4 and 5: endpoints by the numbers that calls bring
 
 pub use codec::encode;
 pub use read::begin_read;

@@ -9,8 +9,6 @@ use crate::checks::wait_on;
 use crate::common::fetch;
 use crate::common::set_armed;
 use crate::common::unready;
-use crate::rows::low;
-use crate::rows::refusal;
 use regs::Access;
 use regs::Dir;
 use regs::Reg;
@@ -20,6 +18,8 @@ use script_ops::rings::next_len;
 use script_ops::rings::oldest_at;
 use script_ops::rings::take_oldest;
 use script_ops::rings::waiting;
+use script_ops::rows::low;
+use script_ops::rows::refusal;
 use state::EpState;
 use state::State;
 use state::clear_wakes;
@@ -36,8 +36,8 @@ ghost use Rattle.state.specs.State.{view, saved};
 ghost use Rattle.script.specs.Endpoint.{beginRead, tooLong, take-iso, take-ready};
 ghost use Rattle.script_ops.specs.Records.{plainOf};
 ghost use Rattle.script_ops.specs.Concrete.{go};
-ghost use Rattle.endpoint.specs.Answers.{lentAfter};
-ghost use Rattle.endpoint.specs.Rows.{refusalOf};
+ghost use Rattle.script_ops.specs.Answers.{lentAfter};
+ghost use Rattle.script_ops.specs.Rows.{refusalOf};
 ghost use Rattle.endpoint.specs.Points.{begunAs, polledAs, readOn, LinkedBegun};
 
 // 84-123, past rows 4 and 5: an isochronous OUT needs no arming, nor does one with a packet.

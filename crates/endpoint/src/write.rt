@@ -8,8 +8,6 @@ use crate::checks::set_request;
 use crate::checks::wait_on;
 use crate::common::length16;
 use crate::common::unready;
-use crate::rows::low;
-use crate::rows::refusal;
 use regs::Access;
 use regs::Dir;
 use regs::Reg;
@@ -18,6 +16,8 @@ use script_ops::rings::is_on;
 use script_ops::rings::is_on_word;
 use script_ops::rings::iso_in_enqueue;
 use script_ops::rings::room;
+use script_ops::rows::low;
+use script_ops::rows::refusal;
 use state::EpState;
 use state::State;
 use state::clear_wakes;
@@ -36,7 +36,7 @@ ghost use Rattle.script.specs.Endpoint.{beginWrite, pollWrite, put-iso, sent-re
 ghost use Rattle.script_ops.specs.Records.{plainOf};
 ghost use Rattle.script_ops.specs.Concrete.{go};
 ghost use Rattle.endpoint.specs.Records.{modifiedOn};
-ghost use Rattle.endpoint.specs.Rows.{refusalOf};
+ghost use Rattle.script_ops.specs.Rows.{refusalOf};
 ghost use Rattle.endpoint.specs.Points.{begunAs, polledAs, LinkedBegun};
 
 // A packet is loaded.

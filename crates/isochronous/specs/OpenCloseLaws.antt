@@ -13,8 +13,8 @@ use Rattle.script.specs.Tree.{ends}
 use Rattle.script.specs.Script.{Script}
 use Rattle.script.specs.Statics.{isOn}
 use Rattle.script.specs.Answers.{Answer, Refused, Shown, staged, named, isNumber}
-use Rattle.endpoint.specs.Rows.{refusalOf}
-use Rattle.endpoint.specs.RowsLaws.{numbered, by-row}
+use Rattle.script_ops.specs.Rows.{refusalOf}
+use Rattle.script_ops.specs.RowsLaws.{numbered, by-row}
 use Rattle.script_ops.specs.Rings.{waitingOn, openedOn, oldestOn, oldestAt, nextLen, nextStamp, openOn, closeOn}
 use Rattle.script_ops.specs.Concrete.{go}
 use Rattle.isochronous.specs.declared.open_close.Packet.the-variants as packet

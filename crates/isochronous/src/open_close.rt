@@ -1,7 +1,5 @@
 // An isochronous OUT's oldest packet opened and closed in place (mod.rs 253-271). No access is handed out; rows 1 and 3 are the caller's. Every function is
 // total: any number is safe.
-use endpoint::rows::low;
-use endpoint::rows::refusal;
 use regs::Dir;
 use script_ops::rings::close_oldest;
 use script_ops::rings::is_on;
@@ -11,6 +9,8 @@ use script_ops::rings::oldest_at;
 use script_ops::rings::open_oldest;
 use script_ops::rings::opened;
 use script_ops::rings::waiting;
+use script_ops::rows::low;
+use script_ops::rows::refusal;
 use state::State;
 use state::load_ep;
 ghost use mathlib.Core.Path.{_≡_};

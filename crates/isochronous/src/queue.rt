@@ -1,13 +1,13 @@
 // An isochronous IN's packet queued in place (mod.rs 342-395). No access is handed out; rows 1 and 3 are the caller's. Every function is total: any number is
 // safe.
 use crate::open_close::Packet;
-use endpoint::rows::low;
-use endpoint::rows::refusal;
 use regs::Dir;
 use regs::enables;
 use script_ops::rings::is_on;
 use script_ops::rings::iso_in_enqueue;
 use script_ops::rings::room;
+use script_ops::rows::low;
+use script_ops::rows::refusal;
 use state::State;
 use state::load_allocator;
 use state::load_ep;

@@ -7,7 +7,7 @@ use borrow.Author.Tests.{eq-eqb, ne-eqb}
 use Rattle.state.specs.declared.Saved.{Saved}
 use Rattle.state.specs.Driver.{Driver, noneGathered}
 use Rattle.state.specs.State.{view, saved}
-use Rattle.endpoint.specs.Answers.{lentAfter}
+use Rattle.script_ops.specs.Answers.{lentAfter}
 use Rattle.script.specs.Tree.{Out, bindOut}
 use Rattle.script.specs.Script.{Script, run}
 use Rattle.script.specs.Answers.{Answer, operation, staged}

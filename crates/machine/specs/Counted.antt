@@ -10,7 +10,7 @@ use Rattle.state.specs.Wakes.{listed}
 use Rattle.state.specs.Laws.{view-codes}
 use Rattle.script.specs.Answers.{Answer, Refused, End, NotYet, Done, Shown}
 use Rattle.script.specs.Machine.{Ans, ended, handed, told}
-use Rattle.endpoint.specs.Answers.{front}
+use Rattle.script_ops.specs.Answers.{front}
 use Rattle.endpoint.specs.Front.{front-length}
 use Rattle.answer.specs.declared.Step.the-variants as step
 use Rattle.machine.specs.Suspended.{answerOf}

@@ -4,7 +4,7 @@ use mathlib.Core.List.{List}
 use mathlib.Core.Path.{_≡_, refl, ap, sym, _∙_}
 use Prim.Native.Nat.{ℕ}
 use Rattle.state.specs.Driver.{Driver}
-use Rattle.endpoint.specs.Answers.{lentAfter}
+use Rattle.script_ops.specs.Answers.{lentAfter}
 use Rattle.script.specs.Script.{run}
 use Rattle.script.specs.Answers.{Answer, Refused}
 use Rattle.script.specs.Calls.{Slotted, slotted, slottedCode}

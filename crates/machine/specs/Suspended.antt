@@ -25,7 +25,7 @@ use Rattle.driver.specs.Points as driver
 use Rattle.driver.specs.Codec as codec
 use Rattle.bus.specs.Points as bus
 use Rattle.bus.specs.Codec as busCodec
-use Rattle.endpoint.specs.Answers.{front, broughtBy}
+use Rattle.script_ops.specs.Answers.{front, broughtBy}
 use Rattle.control.specs.Points as control
 use Rattle.control.specs.Codec as controlCodec
 use Rattle.endpoint.specs.Points as endpoint

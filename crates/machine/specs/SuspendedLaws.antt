@@ -20,7 +20,7 @@ use Rattle.driver.specs.CodecLaws as codec-laws
 use Rattle.bus.specs.Points as bus
 use Rattle.bus.specs.Codec as busCodec
 use Rattle.bus.specs.CodecLaws as busCodec-laws
-use Rattle.endpoint.specs.Answers.{lentAfter}
+use Rattle.script_ops.specs.Answers.{lentAfter}
 use Rattle.control.specs.Points as control
 use Rattle.control.specs.Codec as controlCodec
 use Rattle.control.specs.CodecLaws as controlCodec-laws

@@ -12,7 +12,7 @@ use Rattle.state.specs.State.{view, saved}
 use Rattle.script.specs.Answers.{Answer, End}
 use Rattle.script.specs.Calls.{Config, Op}
 use Rattle.script.specs.Machine.{Buf, Call, Ans, ended}
-use Rattle.endpoint.specs.Answers.{front}
+use Rattle.script_ops.specs.Answers.{front}
 use Rattle.endpoint.specs.Front.{front-length}
 use Rattle.machine.specs.declared.Suspended.{Suspended}
 use Rattle.answer.specs.declared.Step.the-variants as step

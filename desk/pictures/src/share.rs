@@ -1,5 +1,5 @@
 //! share DATA SVG: the share of a microframe that each operation takes, from a table of figures
-//! (docs/pictures/share.txt, share-chip.txt).
+//! (docs/pictures/share-chip.txt).
 
 use std::path::Path;
 use std::process::ExitCode;

@@ -11,7 +11,7 @@ use oracle::{After, Call};
 use crate::port::Port;
 
 /// The state's bytes in whole words; the last byte is none of its own and stays 0.
-const STATE: usize = 2840;
+const STATE: usize = 3000;
 
 #[derive(Default)]
 pub struct Lists {

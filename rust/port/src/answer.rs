@@ -92,11 +92,21 @@ pub enum Refusal {
     TwoTypes,
     /// 19: the bus time in use would pass 6,000 byte-times.
     BusTime,
-    /// 20 to 23 and what later headers add: the row.
+    /// 20: more than 16 channels, or a budget of 0.
+    Channels,
+    /// 21: blocks, packets or room of the card.
+    Card,
+    /// 22: EP0's maximum is not 64.
+    Ep0Maximum,
+    /// 23: distances between visits or arrivals.
+    Distances,
+    /// 24, of this layer alone: the slots do not begin on a word boundary.
+    Misaligned,
+    /// What later headers add: the row.
     Row(u8),
 }
 
-const REFUSALS: [Refusal; 19] = [
+const REFUSALS: [Refusal; 24] = [
     Refusal::SlotsLength,
     Refusal::Geometry,
     Refusal::UnderWay,
@@ -116,6 +126,11 @@ const REFUSALS: [Refusal; 19] = [
     Refusal::Descriptor,
     Refusal::TwoTypes,
     Refusal::BusTime,
+    Refusal::Channels,
+    Refusal::Card,
+    Refusal::Ep0Maximum,
+    Refusal::Distances,
+    Refusal::Misaligned,
 ];
 
 impl Refusal {

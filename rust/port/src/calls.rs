@@ -7,9 +7,29 @@ use crate::{Answer, Woken, MOST_WAKES};
 /// The longest buffer.
 pub const LONGEST: usize = 1024;
 
-/// The driver's state: bytes that only the driver understands.
+/// The driver's state: bytes that only the driver understands. The archive is compiled for a state on a word boundary.
 #[derive(Clone, PartialEq, Eq)]
+#[repr(C, align(4))]
 pub struct State([u8; STATE_LEN]);
+
+/// Room for the packets, on a word boundary: `N` bytes, as many buffers as start-up names of the size that it names.
+#[derive(Clone, PartialEq, Eq)]
+#[repr(C, align(4))]
+pub struct Slots<const N: usize>(pub [u8; N]);
+
+impl<const N: usize> Slots<N> {
+    /// All zero.
+    #[must_use]
+    pub const fn new() -> Self {
+        Self([0; N])
+    }
+}
+
+impl<const N: usize> Default for Slots<N> {
+    fn default() -> Self {
+        Self::new()
+    }
+}
 
 /// The record of bus time that up to four drivers share.
 #[derive(Clone, PartialEq, Eq)]
@@ -105,8 +125,8 @@ pub struct Port<'a> {
 }
 
 impl<'a> Port<'a> {
-    /// `slots`: as many buffers as start-up is told, of the size that it is told; the chip wants their start on a word
-    /// boundary. `driver`: this driver's number in the record of bus time, 0 to 3.
+    /// `slots`: as many buffers as start-up is told, of the size that it is told, from a word boundary on (as [`Slots`]
+    /// are; else start-up is refused). `driver`: this driver's number in the record of bus time, 0 to 3.
     pub fn lent(state: &'a mut State, slots: &'a mut [u8], time: &'a mut BusTime, driver: u32) -> Self {
         Self { state, slots, time, driver }
     }
@@ -194,6 +214,9 @@ on_numbers! {
 impl Port<'_> {
     /// Start-up, on slots of `count` times `size` bytes; `callback`: there is a start-of-frame callback.
     pub fn start_up(&mut self, size: u32, count: u32, callback: bool) -> Answer {
+        if !(self.slots.as_ptr() as usize).is_multiple_of(4) {
+            return Answer::Refused(crate::Refusal::Misaligned);
+        }
         let (s, b, n, t) =
             (self.state.0.as_mut_ptr(), self.slots.as_ptr(), length(self.slots), self.time.0.as_mut_ptr());
         // SAFETY: state and time of their lengths, the slots with theirs; lent apart, to nobody else

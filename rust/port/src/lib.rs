@@ -6,7 +6,7 @@
 //! [`Access`] until the operation is over, and then wakes the tasks.
 //!
 //! ```
-//! use usbhs_port::{Access, Answer, BusTime, Direction, Event, Port, Register, State, Task, Transfer};
+//! use usbhs_port::{Access, Answer, BusTime, Direction, Event, Port, Register, Slots, State, Task, Transfer};
 //!
 //! /// A chip on which nothing happens: its registers read zero, but that the interface is free.
 //! #[derive(Default)]
@@ -26,8 +26,9 @@
 //!     }
 //! }
 //!
-//! let (mut state, mut time, mut slots, mut chip) = (State::new(), BusTime::new(), [0; 24 * 64], Idle::default());
-//! let mut port = Port::lent(&mut state, &mut slots, &mut time, 0);
+//! let (mut state, mut time, mut slots) = (State::new(), BusTime::new(), Slots([0; 24 * 64]));
+//! let mut chip = Idle::default();
+//! let mut port = Port::lent(&mut state, &mut slots.0, &mut time, 0);
 //! port.run(&mut chip, |p| p.start_up(64, 24, false)).ended().unwrap();
 //! // an isochronous OUT of 64 bytes, under any number
 //! let ep = port.run(&mut chip, |p| p.allocate(Transfer::Isochronous, None, 64, 1, Direction::Out)).ended().unwrap();
@@ -55,6 +56,6 @@ mod run;
 pub mod survey;
 
 pub use answer::{Answer, Event, Refusal, Register, Task, Woken, MOST_WAKES};
-pub use calls::{BusTime, Direction, Packet, Port, Preview, State, Transfer, LONGEST};
+pub use calls::{BusTime, Direction, Packet, Port, Preview, Slots, State, Transfer, LONGEST};
 pub use exported::{NUMBERS_LEN, STATE_LEN, TIME_LEN};
 pub use run::{run, Access, Lend};

@@ -1,6 +1,6 @@
 //! A device without embassy: every call of the safe API against a chip that is a table of words.
 
-use usbhs_port::{Access, Answer, BusTime, Direction, Event, Port, Refusal, Register, State, Task, Transfer};
+use usbhs_port::{Access, Answer, BusTime, Direction, Event, Port, Refusal, Register, Slots, State, Task, Transfer};
 
 const SIZE: usize = 64;
 const COUNT: usize = 22;
@@ -91,10 +91,10 @@ impl Device<'_> {
 
 /// A bulk OUT 1 and IN 2, an isochronous OUT 3 and IN 4, enabled after a bus reset.
 fn device(test: impl FnOnce(Device<'_>)) {
-    let (mut state, mut time, mut slots) = (State::new(), BusTime::new(), [0; SIZE * COUNT]);
+    let (mut state, mut time, mut slots) = (State::new(), BusTime::new(), Slots([0; SIZE * COUNT]));
     let mut chip = Chip { written: [[0; 16]; 19], read: [[0; 16]; 19], woken: vec![], waits: 0, callbacks: 0 };
     chip.read[Register::MisSt as usize][0] = 1;
-    let mut d = Device { port: Port::lent(&mut state, &mut slots, &mut time, 0), chip };
+    let mut d = Device { port: Port::lent(&mut state, &mut slots.0, &mut time, 0), chip };
     assert_eq!(d.run(|p| p.begin_bus_poll()), Err(Refusal::Stage));
     assert_eq!(d.run(|p| p.start_up(65, 1, true)), Err(Refusal::SlotsLength));
     d.ok(|p| p.start_up(SIZE as u32, COUNT as u32, true));
@@ -105,7 +105,7 @@ fn device(test: impl FnOnce(Device<'_>)) {
     assert_eq!(d.ok(|p| p.allocate(iso, Some(0x03), 64, 1, Direction::Out)), 3);
     assert_eq!(d.ok(|p| p.allocate(iso, Some(0x84), 48, 1, Direction::In)), 4);
     assert_eq!(d.run(|p| p.allocate(bulk, Some(0x84), 48, 1, Direction::In)), Err(Refusal::Address));
-    assert_eq!(d.run(|p| p.start(32)), Err(Refusal::Row(22)));
+    assert_eq!(d.run(|p| p.start(32)), Err(Refusal::Ep0Maximum));
     d.ok(|p| p.start(64));
     assert_eq!(Event::of(d.ok(|p| p.begin_bus_poll())), Some(Event::Power));
     d.ok(|p| p.begin_bus_enable());
@@ -230,13 +230,25 @@ fn isochronous() {
 #[test]
 fn descriptor() {
     let bytes = [9, 2, 25, 0, 1, 1, 0, 0x80, 50, 9, 4, 0, 0, 1, 0xFF, 0, 0, 0, 7, 5, 0x81, 2, 64, 0, 0];
-    let (mut state, mut time, mut slots) = (State::new(), BusTime::new(), [0; 2 * SIZE]);
+    let (mut state, mut time, mut slots) = (State::new(), BusTime::new(), Slots([0; 2 * SIZE]));
     let chip = Chip { written: [[0; 16]; 19], read: [[0; 16]; 19], woken: vec![], waits: 0, callbacks: 0 };
-    let mut d = Device { port: Port::lent(&mut state, &mut slots, &mut time, 0), chip };
+    let mut d = Device { port: Port::lent(&mut state, &mut slots.0, &mut time, 0), chip };
     d.ok(|p| p.start_up(SIZE as u32, 2, false));
     let preview = d.port.preview(&bytes).unwrap();
     assert_eq!((preview.given, preview.numbers[0], preview.buffers, preview.refusal), (1, 1, 1, None));
     assert_eq!(d.port.preview(&bytes[..24]), Err(Refusal::Descriptor));
     assert_eq!(d.ok(|p| p.allocate_all(&bytes)), 1);
     assert_eq!(d.port.preview(&bytes).unwrap().refusal, Some(Refusal::Address));
+}
+
+/// State and slots lie on word boundaries: the state by its type, slots that do not are refused and stay as they are.
+#[test]
+fn misaligned() {
+    assert_eq!(std::mem::align_of::<State>() % 4, 0);
+    let (mut state, mut time, mut room) = (State::new(), BusTime::new(), Slots([7; 2 * SIZE + 4]));
+    for odd in 1..4 {
+        let mut port = Port::lent(&mut state, &mut room.0[odd..odd + 2 * SIZE], &mut time, 0);
+        assert_eq!(port.start_up(SIZE as u32, 2, false), Answer::Refused(Refusal::Misaligned));
+    }
+    assert!(room.0.iter().all(|b| *b == 7) && state == State::new());
 }

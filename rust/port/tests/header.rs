@@ -29,6 +29,9 @@ fn of_header(text: &str) -> Calls {
         else {
             continue;
         };
+        if statement.contains("static inline") || statement.contains("return usbhs_") {
+            continue;
+        }
         // what stands in a comment or an enum before is cut off
         let prototype = statement[at..].replace('\n', " ");
         let Some((front, rest)) = prototype.split_once('(') else { continue };

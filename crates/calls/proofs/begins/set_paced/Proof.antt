@@ -1,5 +1,5 @@
 use Rattle.machine.specs.RowsLaws.{back, numbered-call}
-use Rattle.endpoint.specs.RowsLaws.{number-lt}
+use Rattle.script_ops.specs.RowsLaws.{number-lt}
 use Rattle.calls.specs.DriverBegins.{pacing, set-paced-begins}
 use Rattle.script.specs.Calls as calls
 use Rattle.machine.specs.Suspended.{decode}
@@ -13,8 +13,8 @@ use Rattle.calls.proofs.begins.set_paced.Tie as tie
 use Rattle.calls.proofs.begins.set_paced.Reads as reads
 use Rattle.calls.proofs.begins.set_paced.Lts as lts
 use Rattle.driver.proofs.iso_in_set_paced.Reads as iso-in-set-paced-reads
-use Rattle.endpoint.proofs.rows.is_number.Reads as is-number-reads
-use Rattle.endpoint.proofs.rows.low.Reads as low-reads
+use Rattle.script_ops.proofs.rows.is_number.Reads as is-number-reads
+use Rattle.script_ops.proofs.rows.low.Reads as low-reads
 use Rattle.machine.proofs.stops.stop.Reads as stop-reads
 
 stop-requires : tie.Need-stop-requires

@@ -1,4 +1,4 @@
-use Rattle.endpoint.specs.RowsLaws.{allocated-number}
+use Rattle.script_ops.specs.RowsLaws.{allocated-number}
 use Rattle.machine.specs.RowsLaws.{back, named-call}
 use Rattle.script.specs.Calls as calls
 use Rattle.script.specs.Answers.{resultless}
@@ -17,8 +17,8 @@ use Rattle.calls.proofs.bus_begins.begin_set_enabled.Lts as lts
 use Rattle.bus.proofs.set_enabled.endpoint_set_enabled.Reads as endpoint-set-enabled-reads
 use Rattle.state.proofs.clear_wakes.Reads as clear-wakes-reads
 use Rattle.machine.proofs.stops.slots_fit.Reads as slots-fit-reads
-use Rattle.endpoint.proofs.rows.low.Reads as low-reads
-use Rattle.endpoint.proofs.rows.is_allocated.Reads as is-allocated-reads
+use Rattle.script_ops.proofs.rows.low.Reads as low-reads
+use Rattle.script_ops.proofs.rows.is_allocated.Reads as is-allocated-reads
 use Rattle.machine.proofs.stops.stop.Reads as stop-reads
 use Rattle.machine.proofs.halts.suspend_or_end_bus.Reads as suspend-or-end-bus-reads
 

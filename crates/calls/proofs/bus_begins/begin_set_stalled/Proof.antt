@@ -2,8 +2,8 @@ use Rattle.script.specs.Calls as calls
 use Rattle.script.specs.Answers.{operation}
 use Rattle.state.specs.State.{view}
 use Rattle.script.specs.Bus as script
-use Rattle.endpoint.specs.Rows.{stallable}
-use Rattle.endpoint.specs.RowsLaws.{stallable-lt}
+use Rattle.script_ops.specs.Rows.{stallable}
+use Rattle.script_ops.specs.RowsLaws.{stallable-lt}
 use Rattle.calls.specs.Stalls.{stall-call}
 use mathlib.Core.Path.{refl, sym, _∙_}
 use Rattle.bus.specs.Points.{resultless}

@@ -5,7 +5,7 @@ use Rattle.calls.proofs.shared_time.is_accepted.Statement.{statement}
 use Rattle.calls.proofs.shared_time.is_accepted.Tie as tie
 use Rattle.calls.proofs.shared_time.is_accepted.Reads as reads
 use Rattle.calls.proofs.shared_time.is_accepted.Lts as lts
-use Rattle.endpoint.proofs.rows.is_allocated.Reads as is-allocated-reads
+use Rattle.script_ops.proofs.rows.is_allocated.Reads as is-allocated-reads
 use Rattle.machine.proofs.stops.slots_fit.Reads as slots-fit-reads
 use Rattle.machine.proofs.stops.stop.Reads as stop-reads
 

@@ -5,7 +5,7 @@ use Rattle.driver.proofs.announce.starts_at.Statement.{statement}
 use Rattle.driver.proofs.announce.starts_at.Tie as tie
 use Rattle.driver.proofs.announce.starts_at.Reads as reads
 use Rattle.driver.proofs.announce.starts_at.Lts as lts
-use Rattle.endpoint.proofs.rows.is_allocated.Reads as is-allocated-reads
+use Rattle.script_ops.proofs.rows.is_allocated.Reads as is-allocated-reads
 use Rattle.state.proofs.load_ep.Reads as load-ep-reads
 
 is-allocated-requires : tie.Need-is-allocated-requires

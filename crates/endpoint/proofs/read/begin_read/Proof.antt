@@ -1,7 +1,7 @@
 use mathlib.Core.Path.{refl, sym, _∙_}
 use borrow.Author.Tests.{eq-eqb, ne-eqb}
 use Rattle.state.specs.State.{view}
-use Rattle.endpoint.specs.RowsLaws.{numbered}
+use Rattle.script_ops.specs.RowsLaws.{numbered}
 use Rattle.regs.specs.declared.Dir.the-variants.{Out}
 use Rattle.script.specs.Endpoint.{beginRead}
 use Rattle.endpoint.proofs.Laws.{refused, lowered}

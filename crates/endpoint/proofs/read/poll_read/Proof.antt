@@ -2,7 +2,7 @@ use mathlib.Core.Path.{refl, sym, _∙_}
 use lib.ListN.{length}
 use borrow.Author.Tests.{eq-eqb}
 use Rattle.state.specs.State.{view}
-use Rattle.endpoint.specs.RowsLaws.{numbered}
+use Rattle.script_ops.specs.RowsLaws.{numbered}
 use Rattle.regs.specs.declared.Dir.the-variants.{Out}
 use Rattle.script.specs.Endpoint.{pollRead}
 use Rattle.endpoint.specs.Brought.{lends}

@@ -1,11 +1,11 @@
-use Rattle.endpoint.specs.Rows.{stallable}
+use Rattle.script_ops.specs.Rows.{stallable}
 use borrow.Author.Tests.{eq-eqb, ne-eqb}
 use borrow.Author.Needs.{needs}
-use Rattle.endpoint.proofs.rows.is_stallable.Statement.{statement}
-use Rattle.endpoint.proofs.rows.is_stallable.Tie as tie
-use Rattle.endpoint.proofs.rows.is_stallable.Reads as reads
-use Rattle.endpoint.proofs.rows.is_stallable.Lts as lts
-use Rattle.endpoint.proofs.rows.is_allocated.Reads as is-allocated-reads
+use Rattle.script_ops.proofs.rows.is_stallable.Statement.{statement}
+use Rattle.script_ops.proofs.rows.is_stallable.Tie as tie
+use Rattle.script_ops.proofs.rows.is_stallable.Reads as reads
+use Rattle.script_ops.proofs.rows.is_stallable.Lts as lts
+use Rattle.script_ops.proofs.rows.is_allocated.Reads as is-allocated-reads
 
 returns : tie.Need-returns
 unfolding stallable

@@ -8,7 +8,7 @@ ghost use Prim.Native.Nat.{ℕ, _<_};
 ghost use Rattle.bits.specs.Bit.{isSet};
 ghost use Rattle.state.specs.State.{view};
 ghost use Rattle.script.specs.Answers.{isNumber, isAllocated};
-ghost use Rattle.endpoint.specs.Rows.{refusalOf, stallable};
+ghost use Rattle.script_ops.specs.Rows.{refusalOf, stallable};
 
 // 1 to 15: an endpoint's number other than EP0's.
 pub fn is_number(e: u32) -> bool

@@ -11,7 +11,7 @@ use Rattle.regs.specs.declared.Dir.the-variants.{Out, In}
 use Rattle.state.specs.declared.Allocator.{Allocator}
 use Rattle.state.specs.Driver.{Driver}
 use Rattle.script.specs.Answers.{isNumber, isAllocated}
-use Rattle.endpoint.specs.Rows.{refusalOf, stallable}
+use Rattle.script_ops.specs.Rows.{refusalOf, stallable}
 
 both : (x y : Bool) → (x && y) ≡ true → (x ≡ true) × (y ≡ true)
 both true y h = (refl, h)

@@ -1,7 +1,7 @@
 use Rattle.script.specs.Answers.{isAllocated}
 use borrow.Author.Needs.{needs}
-use Rattle.endpoint.proofs.rows.allocated.Statement.{statement}
-use Rattle.endpoint.proofs.rows.allocated.Tie as tie
+use Rattle.script_ops.proofs.rows.allocated.Statement.{statement}
+use Rattle.script_ops.proofs.rows.allocated.Tie as tie
 
 enum-told : tie.Need-enum-told
 enum-told c = search needs

@@ -1,8 +1,8 @@
 use borrow.Author.Tests.{eq-eqb, ne-eqb}
-use Rattle.endpoint.specs.Rows.{refusalOf}
+use Rattle.script_ops.specs.Rows.{refusalOf}
 use borrow.Author.Needs.{needs}
-use Rattle.endpoint.proofs.rows.refusal.Statement.{statement}
-use Rattle.endpoint.proofs.rows.refusal.Tie as tie
+use Rattle.script_ops.proofs.rows.refusal.Statement.{statement}
+use Rattle.script_ops.proofs.rows.refusal.Tie as tie
 
 load-globals-requires : tie.Need-load-globals-requires
 load-globals-requires c κs = search needs

@@ -1,9 +1,9 @@
 use mathlib.Core.Path.{_∙_, sym}
-use Rattle.endpoint.specs.RowsLaws.{no-number, number-lt}
+use Rattle.script_ops.specs.RowsLaws.{no-number, number-lt}
 use native.Mathlib.Nat.{mod-eq-of-lt}
 use borrow.Author.Needs.{needs}
-use Rattle.endpoint.proofs.rows.is_allocated.Statement.{statement}
-use Rattle.endpoint.proofs.rows.is_allocated.Tie as tie
+use Rattle.script_ops.proofs.rows.is_allocated.Statement.{statement}
+use Rattle.script_ops.proofs.rows.is_allocated.Tie as tie
 
 is-number-requires : tie.Need-is-number-requires
 is-number-requires c κs = search needs

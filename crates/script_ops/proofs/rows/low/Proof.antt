@@ -1,10 +1,10 @@
-use Rattle.endpoint.specs.RowsLaws.{number-lt}
+use Rattle.script_ops.specs.RowsLaws.{number-lt}
 use native.Mathlib.Omega.{arith}
 use borrow.Author.Needs.{needs}
-use Rattle.endpoint.proofs.rows.low.Statement.{statement}
-use Rattle.endpoint.proofs.rows.low.Tie as tie
-use Rattle.endpoint.proofs.rows.low.Reads as reads
-use Rattle.endpoint.proofs.rows.low.Lts as lts
+use Rattle.script_ops.proofs.rows.low.Statement.{statement}
+use Rattle.script_ops.proofs.rows.low.Tie as tie
+use Rattle.script_ops.proofs.rows.low.Reads as reads
+use Rattle.script_ops.proofs.rows.low.Lts as lts
 
 cast-result : tie.Need-cast-result
 cast-result c = omega (arith, number-lt (c .args .e) (c .pre))

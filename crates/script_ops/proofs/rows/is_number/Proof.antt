@@ -1,9 +1,9 @@
 use Rattle.script.specs.Answers.{isNumber}
 use borrow.Author.Tests.{lt-ltb, le-ltb}
-use Rattle.endpoint.proofs.rows.is_number.Statement.{statement}
-use Rattle.endpoint.proofs.rows.is_number.Tie as tie
-use Rattle.endpoint.proofs.rows.is_number.Reads as reads
-use Rattle.endpoint.proofs.rows.is_number.Lts as lts
+use Rattle.script_ops.proofs.rows.is_number.Statement.{statement}
+use Rattle.script_ops.proofs.rows.is_number.Tie as tie
+use Rattle.script_ops.proofs.rows.is_number.Reads as reads
+use Rattle.script_ops.proofs.rows.is_number.Lts as lts
 
 returns : tie.Need-returns
 unfolding isNumber
