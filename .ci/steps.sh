@@ -102,6 +102,7 @@ named_edits() { AS_PROVED=1 RT_JOBS=2 nice tests/edits --every-test; }
 # one after the other, as both ask rt whether all is proved
 wrong_drivers_and_scripts() {
     RT_JOBS=2 tests/wrong-drivers/run
+    tests/wrong-pairs/run
     tests/wrong-scripts/run --every-test
 }
 

@@ -61,8 +61,8 @@ static void run(unsigned task)
     }
 }
 
-/* The next task, or sleep, unless the watch waits for a microframe, which no interrupt may tell. Interrupts are off from
- * the look to the sleep, which a pending interrupt ends all the same. */
+/* The next task, or sleep, unless the watch waits for a microframe, which no interrupt may tell. Interrupts are off
+ * from the look to the sleep, which a pending interrupt ends all the same. */
 static void next(void)
 {
     int awake = watch_look();

@@ -27,17 +27,16 @@ static void decide(void)
         register_write(USBHS_INT_EN, 0, allowed());
 }
 
-void sof_write(unsigned number, unsigned endpoint, uint32_t value)
+void sof_write(unsigned number, uint32_t value)
 {
     if (number == USBHS_INT_EN) {
         wanted = value;
-        value = allowed();
+        register_write(USBHS_INT_EN, 0, allowed());
+        return;
     }
-    register_write(number, endpoint, value);
-    if (number == USBHS_EP_CONFIG) {
-        endpoints = value;
-        decide();
-    }
+    register_write(USBHS_EP_CONFIG, 0, value);
+    endpoints = value;
+    decide();
 }
 
 int sof_is_on(void)

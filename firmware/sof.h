@@ -10,8 +10,9 @@
 
 #include <stdint.h>
 
-/* Makes a write that the driver hands out, int_en's without that bit where it is kept out. With interrupts off. */
-void sof_write(unsigned number, unsigned endpoint, uint32_t value);
+/* Makes a write of int_en or ep_config that the driver hands out, int_en's without that bit where it is kept out. With
+ * interrupts off. */
+void sof_write(unsigned number, uint32_t value);
 
 /* A control transfer begins, or is over. */
 void sof_transfer(int under_way);

@@ -9,14 +9,42 @@ uint8_t usb_state[USBHS_STATE_LEN] __attribute__((aligned(4)));
 uint8_t usb_slots[USB_BUFFERS * USB_BUFFER] __attribute__((aligned(4)));
 uint16_t usb_time[USBHS_TIME_LEN];
 
-uint32_t usb_make(uint64_t word)
+/* look.c and sof.c know of a few registers; the others are written right away. Not in line: the loop below is shorter
+ * so, by 30 instructions an interrupt. */
+static void write(unsigned number, unsigned endpoint, uint32_t value)
+{
+    switch (number) {
+    case USBHS_INT_EN:
+        sof_write(number, value);
+        break;
+    case USBHS_EP_CONFIG:
+        look_written(number, endpoint, value);
+        sof_write(number, value);
+        break;
+    case USBHS_EP_TYPE:
+    case USBHS_EP_RX_DMA:
+        look_written(number, endpoint, value);
+        register_write(number, endpoint, value);
+        break;
+    default:
+        register_write(number, endpoint, value);
+    }
+}
+
+/* Made readings are brought (look.h). */
+static int looking;
+
+/* Makes what is handed out: the reading, 0 where there is none. */
+static uint32_t make(uint64_t word)
 {
     switch (USBHS_KIND(word)) {
     case USBHS_READ:
+        if (looking && USBHS_REGISTER(word) == USBHS_INT_ST)
+            return look_token();
         return register_read(USBHS_REGISTER(word), USBHS_ENDPOINT(word));
     case USBHS_WRITE:
-        look_written(USBHS_REGISTER(word), USBHS_ENDPOINT(word), USBHS_VALUE(word));
-        sof_write(USBHS_REGISTER(word), USBHS_ENDPOINT(word), USBHS_VALUE(word));
+        if (!looking || USBHS_REGISTER(word) != USBHS_INT_FG)
+            write(USBHS_REGISTER(word), USBHS_ENDPOINT(word), USBHS_VALUE(word));
         return 0;
     case USBHS_WAIT:
         board_wait(USBHS_MICROSECONDS(word));
@@ -42,24 +70,36 @@ void usb_wake_tasks(uint64_t word)
 uint64_t usb_to_end(uint64_t word)
 {
     while (USBHS_KIND(word) >= USBHS_READ && USBHS_KIND(word) <= USBHS_CALLBACK)
-        word = usbhs_continue(usb_state, usb_slots, sizeof usb_slots, usb_time, 0, usb_make(word));
+        word = usbhs_continue(usb_state, usb_slots, sizeof usb_slots, usb_time, 0, make(word));
     usb_wake_tasks(word);
     return word;
 }
 
-/* What the chip shows is overwritten by the next token, so all five registers are read first, in the order in which the
- * driver asks for them; the calls then bring those that it wants. */
-void usb_interrupt(void)
+/* Not in line, called twice: the calls of the driver are then in line here, once. */
+__attribute__((noinline)) static void serve(uint32_t frame, uint32_t flags, uint32_t mis, uint32_t status, uint32_t length)
 {
-    uint32_t frame = register_read(USBHS_FRAME_NO, 0), flags = register_read(USBHS_INT_FG, 0);
-    uint32_t mis = register_read(USBHS_MIS_ST, 0), status = register_read(USBHS_INT_ST, 0);
-    uint32_t length = register_read(USBHS_RX_LEN, 0);
     uint64_t word = usbhs_interrupt(usb_state, usb_slots, sizeof usb_slots, usb_time, 0, frame, flags);
 
     if (USBHS_ASKS(word, USBHS_MIS_ST))
         word = usbhs_continue_transfer(usb_state, usb_slots, sizeof usb_slots, usb_time, 0, mis, status, length);
     usb_to_end(word);
-    look_after_interrupt();
+}
+
+/* What the chip shows is overwritten by the next token, so all five registers are read first, in the order in which the
+ * driver asks for them; the calls then bring those that it wants. Then once more, of made readings, where a packet was
+ * left. */
+void usb_interrupt(void)
+{
+    uint32_t frame = register_read(USBHS_FRAME_NO, 0), flags = register_read(USBHS_INT_FG, 0);
+    uint32_t mis = register_read(USBHS_MIS_ST, 0), status = register_read(USBHS_INT_ST, 0);
+    uint32_t length = register_read(USBHS_RX_LEN, 0);
+
+    serve(frame, flags, mis, status, length);
+    if (!look_wanted())
+        return;
+    looking = 1;
+    serve(register_read(USBHS_FRAME_NO, 0), LOOK_TRANSFER, LOOK_FREE, LOOK_TOKEN, 0);
+    looking = 0;
 }
 
 /* 0, or the row of a refusal. */

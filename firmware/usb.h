@@ -10,9 +10,6 @@ extern uint8_t usb_state[USBHS_STATE_LEN];
 extern uint8_t usb_slots[USB_BUFFERS * USB_BUFFER];
 extern uint16_t usb_time[USBHS_TIME_LEN];
 
-/* Makes what is handed out: the reading, 0 where there is none. */
-uint32_t usb_make(uint64_t word);
-
 /* Wakes the tasks that an end names. */
 void usb_wake_tasks(uint64_t word);
 

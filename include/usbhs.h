@@ -6,6 +6,9 @@
  * is lent (state, slots, time, slice, data, packet, rooms) must not overlap. Any number and any
  * bytes are then safe: a call touches nothing outside of what it is lent, does not trap and
  * returns, also on a state or a record of time that no call made. That is a promise on the calls.
+ * It is none on the bus: every operation ends, yet the host's transfer may stall, or an isochronous
+ * packet be lost, where tokens follow each other faster than the interrupt reads them
+ * (docs/DIFFERENCES.md, k to q; firmware/sof.c, watch.c and look.c are what firmware does about it).
  * The accesses that they hand out of such bytes, with the addresses and lengths in them, are as
  * good as the bytes: only of a state that a start-up made and these calls alone have changed do
  * the addresses lie inside of the slots, each with its whole buffer. dir: 0 OUT, else IN. Flags:
@@ -232,7 +235,10 @@ enum usbhs_transfer {
 
 /* Start-up, endpoints, EP0's start. A buffer's size is 8, 16, 32, 64, 512 or 1024; EP0's maximum
  * is 64 (any other is refused with 22), so EP0 starts on buffers of 64 bytes or more. `callback`:
- * there is a start-of-frame callback.
+ * there is a start-of-frame callback. It brings SOF interrupts from the start on, which during
+ * enumeration can hide a stage of the control pipe from the driver (docs/DIFFERENCES.md, k and l):
+ * firmware with a callback should keep the SOF's bit out of int_en, which the driver never reads,
+ * until an endpoint is enabled and that transfer is over (firmware/sof.c).
  * usbhs_allocate takes an address as in an endpoint descriptor, bit 7 the direction, which must
  * be `dir`, or USBHS_ANY_ADDRESS; its end's result is the endpoint's number. An isochronous OUT
  * takes 16 buffers, an isochronous IN 2, any other endpoint 1. `interval`: an isochronous IN of 0

@@ -23,6 +23,7 @@ use Rattle.proof_book.specs.Pages.{Packet, OutPage, InPage, Pages, withO
 use Rattle.proof_book.specs.Book.{Bk, putB, actB, handB, some, receiving, arrived, packetB, passedIn, loadedIn, sentIn, placedIn, bookOps}
 use Rattle.proof_book.specs.FrameLaws.{out-same, in-same, at-elim}
 use Rattle.proof_book.specs.FrontPage.{givesTo, PassesOn, NoneLeft}
+pub use Rattle.proof_book.specs.Others.{sendsTo}
 use Rattle.proof_book.specs.FrontPage as page
 use borrow.Author.Tests.{eq-eqb, eqb-true}
 use lib.Dec.{eqb, ltb}
@@ -54,16 +55,6 @@ Arrives s q t = (e x : ℕ) → q ≡ Receive e x → receiving (s .0) e ≡ tru
 -- where the access is not a receive address of OUT e, or OUT e is not enabled as isochronous, its page stays
 abbrev pub OutStays : Bk → Access → Bk → Type 0
 OutStays s q t = (e : ℕ) → (givesTo q e && receiving (s .0) e) ≡ false → t .0 .outs e ≡ s .0 .outs e
-
--- a transmit address of IN e
-abbrev pub sendsTo : Access → ℕ → Bool
-sendsTo (Read r f) e = false
-sendsTo (Write r f v) e = false
-sendsTo (Receive f x) e = false
-sendsTo (Transmit f x) e = eqb (e % 16) (f % 16)
-sendsTo (Ep0Dma x) e = false
-sendsTo (Wait n) e = false
-sendsTo Callback e = false
 
 -- at a transmit address: one waits, and the first is being sent
 abbrev pub Loads : Access → Bk → Type 0
@@ -324,7 +315,7 @@ watch (p-bind h g) s = tracks-bind Any Still Moves still-then moves-then (watch 
 watch (p-test {b = true} h g) s = watch h s
 watch (p-test {b = false} h g) s = watch g s
 watch (p-read h) s = ask tt (unmoved refl (λ e. refl)) (λ v t _. watch (h v) t)
-watch (p-write h) s = ask tt (unmoved refl (λ e. refl)) (λ v t _. watch h t)
+watch (p-write l h) s = ask tt (unmoved refl (λ e. refl)) (λ v t _. watch h t)
 watch (p-wait h) s = ask tt (unmoved refl (λ e. refl)) (λ v t _. watch h t)
 watch (p-callback h) s = ask tt (unmoved refl (λ e. refl)) (λ v t _. watch h t)
 watch (p-get h) s = watch (h _) s

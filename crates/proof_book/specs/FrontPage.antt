@@ -1,18 +1,19 @@
 -- Demand 3, to be read alone: what a list of calls is, what each call is lent, what document 01 compares after each call, and demand 3's own
 -- sentences. Definitions only. `demand-3` (FrontPageLaws.antt) says that `AfterCall` holds after every call of every list that an accepted start-up
 -- begins. The calls are in script/specs/Calls.antt, the book in Book.antt over Pages.antt: what waits, was admitted, read, queued, sent
-use mathlib.Core.Bool.{Bool, true, false, cond, _&&_}
+use mathlib.Core.Bool.{Bool, true, false, not, cond, _&&_, _||_}
 use mathlib.Core.List.{List, [], _∷_, _++_, tail}
 use mathlib.Core.Logic.{_⊎_, _≢_}
 use mathlib.Core.Path.{_≡_}
 use Prim.Native.Nat.{ℕ, zero, _+_, _%_, _^_, _≤_, _<_}
 use lib.ListN.{length, getD}
-use lib.Dec.{eqb}
+use lib.Dec.{eqb, ltb}
 use Rattle.regs.specs.declared.Access.{Access}
 use Rattle.regs.specs.declared.Access.the-variants.{Read, Write, Receive, Transmit, Ep0Dma, Wait, Callback}
-use Rattle.regs.specs.declared.Reg.the-variants.{EpTLen}
+use Rattle.regs.specs.declared.Reg.the-variants.{EpTLen, EpConfig}
 use Rattle.regs.specs.declared.Dir.{Dir}
 use Rattle.regs.specs.declared.Dir.the-variants.{Out, In}
+use Rattle.regs.specs.Enables as enables
 use Rattle.state.specs.Driver.{Driver, epOn, lenOn, stampOn}
 use Rattle.alloc.specs.Alloc.{allocatedIn}
 use Rattle.bits.specs.Bit.{isSet}
@@ -21,18 +22,20 @@ use Rattle.state.specs.State.{view}
 use Rattle.ring.specs.Waiting.{waiting, Same}
 use Rattle.ring.specs.Copies.{bytesAt}
 use Rattle.script.specs.Every.{sameReg}
-use Rattle.script.specs.Answers.{Answer, Refused, End, NotYet, Done, Shown, ok, isNumber}
+use Rattle.script.specs.Answers.{Answer, Refused, End, NotYet, Done, Shown, ok, isNumber, isAllocated}
 use Rattle.script.specs.Calls.{Config, Op, interrupt, slotted, other, aside, SetEnabled, PollRead, BeginWrite, PollWrite}
 use Rattle.script.specs.Calls.{PollDataOut, BeginDataIn, Allocate, AllocateAll, Advance, Aside, Open}
 use Rattle.script.specs.Calls.{Close, Queue, calls, startRow}
 use Rattle.script.specs.Machine.{Buf, Call, start, begin, go, question, overruns, Event, Ans, ended, handed, told, Way}
-use Rattle.script.specs.Machine.{idle, busy, Machine, over, misfit, fed, call}
+use Rattle.script.specs.Machine.{idle, busy, Machine, over, misfit, fed, call, blankA}
 use Rattle.machine.specs.Suspended.{drive, machineOf}
 use Rattle.proof_book.specs.Pages.{Packet, bytesOf, stampsOf, OutPage, InPage, Pages}
-use Rattle.proof_book.specs.Book.{isoOf, receiving, front, slotTold, book}
+use Rattle.proof_book.specs.Book.{some, isoOf, receiving, front, slotTold, book}
 use Rattle.proof_book.specs.Stamps.{stamped}
 use Rattle.proof_book.specs.Lengths.{Known, learnt, lengthAt}
-use Rattle.proof_book.specs.Others.{handsOut, releasing, Names, underWay, callNames, Away, SamePage}
+pub use Rattle.proof_book.specs.Others.{givesTo, addressed}
+use Rattle.proof_book.specs.Others.{handsOut, releasing, sendsTo, Names, underWay, callNames, Away, SamePage}
+use Rattle.proof_book.specs.Arrivals.{Note, brings, checks, looks, after, above, Arrival}
 
 -- ---- a list of calls
 
@@ -143,6 +146,9 @@ pub record Compared (c : Call Config Op) (t : Pages) (a : Ans Answer) (d : Drive
       → (q : Packet) × (bytes ≡ q .bytes) × ReadsFirst (t .outs e) (t′ .outs e) q
   -- .. and is "not yet" done only where none waits
   pub poll-waits : (e n : ℕ) → c ≡ begin (slotted (PollRead e n)) → a ≡ ended NotYet → isoOf t Out e ≡ true → t .outs e .waiting ≡ []
+  -- and a write's poll on an isochronous IN only where 2 wait. Its begin took no more bytes than fit a slot (row 10)
+  pub write-waits : (e : ℕ) (bytes : List ℕ) → c ≡ begin (slotted (PollWrite e bytes)) → a ≡ ended NotYet
+      → isoOf t In e ≡ true → length bytes ≤ t .kept .allocator .size → length (t .ins e .waiting) ≡ 2
   -- "rows 12 and 14 go by the book": none waits; none is open. A close that is not refused reads the first
   pub row-12 : (e : ℕ) → c ≡ begin (aside (Open e)) → a ≡ ended (Refused 12) → t .outs e .waiting ≡ []
   pub row-14 : (e : ℕ) → c ≡ begin (aside (Close e)) → a ≡ ended (Refused 14) → t .outs e .opened ≡ false
@@ -208,19 +214,6 @@ abbrev pub Emptied : Dir → ℕ → Pages → Pages → Type 0
 Emptied Out e t t′ = EmptiedOut (t .outs e) (t′ .outs e)
 Emptied In e t t′ = EmptiedIn (t′ .ins e)
 
--- an answer that hands out a receive address of OUT e
-abbrev pub givesTo : Access → ℕ → Bool
-givesTo (Read r f) e = false
-givesTo (Write r f v) e = false
-givesTo (Receive f x) e = eqb (f % 16) (e % 16)
-givesTo (Transmit f x) e = false
-givesTo (Ep0Dma x) e = false
-givesTo (Wait n) e = false
-givesTo Callback e = false
-
-abbrev pub addressed : Ans Answer → ℕ → Bool
-addressed a e = handsOut (λ q. givesTo q e) a
-
 -- an OUT's page is as before but for its slot, that of the last receive address
 abbrev pub SamePackets : OutPage → OutPage → Type 0
 SamePackets p p′ = p′ ≡ slotTold p (p′ .slot)
@@ -283,6 +276,34 @@ stopped (start g) n b = cond (eqb (startRow g b) zero) false true
 stopped (begin o) n b = cond (cond (calls .slots o) (misfit calls (book .driver) (n .st) b) false) true (keepsOut (n .way) o)
 stopped (go v) n b = cond (misfit calls (book .driver) (n .st) b) true (notGoing (n .way) v)
 stopped (question q) n b = true
+
+-- the row by which a call is refused; 0: by none
+abbrev pub refusedBy : Answer → ℕ
+refusedBy (Refused r) = r
+refusedBy (End r w) = 0
+refusedBy NotYet = 0
+refusedBy (Done bytes) = 0
+refusedBy (Shown bytes s) = 0
+
+abbrev pub rowOf : Ans Answer → ℕ
+rowOf (ended z) = refusedBy z
+rowOf (handed q) = 0
+rowOf (told k) = 0
+
+-- the first row that an open, close or queue meets, of 4 (before EP0's start), 5 (no such endpoint), 9 (disabled), 10
+-- (longer
+-- than a slot), 11 (not isochronous), 12 (none waits), 13 (2 wait) and 14 (none is open); 0: none
+abbrev pub asideRow : Pages → Aside → ℕ
+asideRow t (Open e) = cond (eqb (t .kept .globals .stage) 2)
+    (cond (isAllocated (t .kept .allocator) Out e)
+    (cond (not (isoOf t Out e)) 11 (cond (some (bytesOf (t .outs e .waiting))) 0 12)) 5) 4
+asideRow t (Close e) = cond (eqb (t .kept .globals .stage) 2)
+    (cond (isAllocated (t .kept .allocator) Out e) (cond (t .outs e .opened) 0 14) 5) 4
+asideRow t (Queue e bytes) = cond (eqb (t .kept .globals .stage) 2)
+    (cond (isAllocated (t .kept .allocator) In e)
+    (cond (enables.isOn (t .kept .globals .«ep_config») In e)
+    (cond (ltb (t .kept .allocator .size) (length bytes)) 10
+    (cond (not (isoOf t In e)) 11 (cond (ltb (length (t .ins e .waiting)) 2) 0 13))) 9) 5) 4
 
 -- an allocation, at any time; and before EP0's start, from which on the stage is 2, all that is begun and continued
 pub data BeforeStart (t : Pages) : Call Config Op → Type 0 where
@@ -356,6 +377,9 @@ pub record Sentences (c : Call Config Op) (lent : Buf) (n : Machine Answer Pages
   -- is enabled is isochronous, so that overruns answers its count, and allocated, so that the chip may store in its slot
   pub disabled-leaves : (e v : ℕ) → c ≡ go v → inInterrupt (n .way) ≡ true → receiving (n .st) e ≡ false
       → SamePackets (n .st .outs e) (t′ .outs e)
+  -- and one that is isochronous and enabled receives
+  pub enabled-receives : (e : ℕ) → isoOf t′ Out e ≡ true
+      → enables.isOn (t′ .kept .globals .«ep_config») Out e ≡ true → receiving t′ e ≡ true
   pub enabled-is : (e : ℕ) → receiving t′ e ≡ true
       → (isoOf t′ Out e ≡ true) × (isSet (allocatedIn (t′ .kept .allocator) Out) (e % 16) ≡ true)
   -- "the armed slot is that of the endpoint's last receive address": the address itself; so EP0's buffer
@@ -371,6 +395,9 @@ pub record Sentences (c : Call Config Op) (lent : Buf) (n : Machine Answer Pages
   -- poll end at once, with an answer of which `Compared` speaks or that leaves the pages. An enabling that ends at once
   -- is refused, else it resets
   pub asides-end : (o : Aside) → c ≡ begin (aside o) → AtOnce (aside o) a
+  -- "rows 12, 13 and 14 go by the book", and 4, 5, 9 to 11 before them: which row refuses one that rows 1 and 3 do not
+  -- stop, and that none does
+  pub asides-rows : (o : Aside) → c ≡ begin (aside o) → stopped c n lent ≡ false → rowOf a ≡ asideRow (n .st) o
   pub polls-end : (e k : ℕ) → c ≡ begin (slotted (PollRead e k)) → AtOnce (slotted (PollRead e k)) a
   pub enabling-ends : (dir : Dir) (e : ℕ) (on : Bool) (z : Answer)
       → c ≡ begin (slotted (SetEnabled dir e on)) → a ≡ ended z → (r : ℕ) × (z ≡ Refused r)
@@ -446,6 +473,41 @@ LengthIs m n k = (e : ℕ) → Decides (m .event .call) n (m .answer) e → (q :
 abbrev pub OthersStay : Made → Machine Answer Pages → Names → Type 0
 OthersStay m n k = releasing (m .answer) ≡ false → (d : Dir) (e : ℕ) → Away (callNames (m .event .call) k) d e → SamePage d e (n .st) (noted m n .1 .st)
 
+-- "An arrival is ..": what is decided is one, found by an interrupt that checks, by what that interrupt was brought
+-- and its calls were lent, this call's number too (Arrivals.antt)
+abbrev pub ArrivalIs : Made → Machine Answer Pages → Note → Type 0
+ArrivalIs m n k = (e : ℕ) (d : Decides (m .event .call) n (m .answer) e)
+    → (checks (brings (d .brought) k) ≡ true) × Arrival (brings (d .brought) k) (n .st) (m .event .lent) e
+
+-- "Checks fall where the Rust's do": an interrupt that checks and ends has looked at every enabled isochronous OUT, and
+-- so has missed no arrival
+abbrev pub NoneMissed : Made → Machine Answer Pages → Note → Type 0
+NoneMissed m n k = (v r : ℕ) (ws : List ℕ) → m .event .call ≡ go v → inInterrupt (n .way) ≡ true
+    → m .answer ≡ ended (End r ws) → checks (brings v k) ≡ true → (e : ℕ) → e < 16 → receiving (n .st) e ≡ true
+    → (k .looked e || looks (brings v k) (n .st) (m .event .lent) (m .answer) e) ≡ true
+
+-- "Endpoint sets are walked lowest number first": what an interrupt decides is above all that it decided before, so
+-- each at most once; b: one more than the last of these
+abbrev pub InOrder : Made → Machine Answer Pages → ℕ → Type 0
+InOrder m n b = (e : ℕ) → Decides (m .event .call) n (m .answer) e → b ≤ e
+
+-- the length x that a continue writes for IN e; own: its own transmit address was handed out just before. Then, where
+-- that
+-- is a load's, it is the length of the packet, and the page stays; else it is 0, "the length 0 where none is left, then
+-- past all"
+abbrev pub LengthWritten : Bool → ℕ → InPage → InPage → Type 0
+LengthWritten true x p p′ =
+    (p′ ≡ p) × ((bytes : List ℕ) (rest : List (List ℕ)) → p .load ≡ true → p .waiting ≡ bytes ∷ rest → x ≡ length bytes)
+LengthWritten false x p p′ = (x ≡ 0) × NoneLeft p′
+
+abbrev pub LoadLength : Made → Machine Answer Pages → Known → Type 0
+LoadLength m n k = (e x v : ℕ) → 0 < e → m .event .call ≡ go v → m .answer ≡ handed (Write EpTLen e x)
+    → LengthWritten (sendsTo (k .asked) e) x (n .st .ins e) (noted m n .1 .st .ins e)
+
+-- which endpoints are enabled is what was last written to ep_config
+abbrev pub ConfigKept : Made → Machine Answer Pages → Type 0
+ConfigKept m n = (v : ℕ) → m .answer ≡ handed (Write EpConfig 0 v) → noted m n .1 .st .kept .globals .«ep_config» ≡ v
+
 -- ---- the statement
 
 -- of each call of a list that was made, with the book before it
@@ -463,12 +525,33 @@ abbrev pub OthersEach : Machine Answer Pages → Names → List Made → Type 0
 OthersEach n k [] = Unit {0}
 OthersEach n k (m ∷ ms) = OthersStay m n k × OthersEach (noted m n .1) (underWay (m .event .call) (m .answer) k) ms
 
+abbrev pub ArrivalsEach : Machine Answer Pages → Note → List Made → Type 0
+ArrivalsEach n k [] = Unit {0}
+ArrivalsEach n k (m ∷ ms) = ArrivalIs m n k × NoneMissed m n k
+    × ArrivalsEach (noted m n .1) (after (m .event .call) (m .answer) (n .st) (m .event .lent) k) ms
+
+abbrev pub OrderEach : Machine Answer Pages → ℕ → List Made → Type 0
+OrderEach n b [] = Unit {0}
+OrderEach n b (m ∷ ms) = InOrder m n b × OrderEach (noted m n .1) (above (m .event .call) (m .answer) b) ms
+
+abbrev pub WritesEach : Machine Answer Pages → Known → List Made → Type 0
+WritesEach n k [] = Unit {0}
+WritesEach n k (m ∷ ms) =
+    LoadLength m n k × ConfigKept m n × WritesEach (noted m n .1) (learnt (m .event .call) (m .answer) k) ms
+
+-- the book answers the same, questions too, but for the addresses of accesses
+abbrev pub AnswersEach : Machine Answer Pages → List Made → Type 0
+AnswersEach n [] = Unit {0}
+AnswersEach n (m ∷ ms) = (blankA (m .answer) ≡ blankA (noted m n .0)) × AnswersEach (noted m n .1) ms
+
 -- the state's bytes xs, the slot buffer a and the book n may be any. The first call is a start-up that rows 1 and 2 do not stop, and any calls
 -- follow: refused ones and start-ups too, ending anywhere, whatever the chip answers. Nor does it matter what was under way before
 abbrev pub Demand3 : Type 0
 Demand3 = (c : Config) (b : Buf) → startRow c b ≡ zero → (xs : List ℕ) (a : Buf) (n : Machine Answer Pages) (first : Made)
     → first .event ≡ record { call = start c; lent = b } → (ms : List Made) → Calls xs a n (first ∷ ms)
     → AfterEach n (first ∷ ms) × ((k : Known) → LengthsEach n k (first ∷ ms)) × ((k : Names) → OthersEach n k (first ∷ ms))
+    × ((k : Note) → ArrivalsEach n k (first ∷ ms)) × ((k : ℕ) → OrderEach n k (first ∷ ms))
+    × ((k : Known) → WritesEach n k (first ∷ ms)) × AnswersEach n (first ∷ ms)
 
 -- ---- no slot being sent is written, between two moments
 

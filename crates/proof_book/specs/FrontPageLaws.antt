@@ -18,7 +18,8 @@ use Rattle.script.specs.Statics.{flag}
 use Rattle.script.specs.Cells.{EpCore}
 use Rattle.script.specs.Answers.{Answer, Refused, NotYet, Shown, ok}
 use Rattle.script.specs.Calls.{Config, Op, slotted, PollWrite, aside, Aside, Open, Close, Queue, calls, startRow}
-use Rattle.script.specs.Machine.{Buf, Call, start, begin, Event, Ans, ended, handed, told, blankA, Machine, Way, fed, started}
+use Rattle.script.specs.Machine.{Buf, Call, start, begin, go, Event, Ans, ended, handed, told, blankA, Machine, Way}
+use Rattle.script.specs.Machine.{fed, started}
 use Rattle.script.specs.Agree.{After, Ways, GoodA, agrees, from-start}
 use Rattle.machine.specs.Suspended.{driverOf, drive, machineOf}
 use Rattle.proof_book.specs.Pages.{Packet, bytesOf, stampsOf, Pages}
@@ -30,12 +31,13 @@ use Rattle.proof_book.specs.AgreesLaws.{agree}
 use Rattle.proof_book.specs.LedgerLaws as ledger
 use Rattle.proof_book.specs.ReadRoomCallsLaws.{RoomKept, steps, start-kept}
 use Rattle.proof_book.specs.FrontPage.{Made, CallStep, noted, written, LentAsLeft, ringBytes, ringStamps, EmptiedIn, BeingSent, Sends, emptied, Compared}
-use Rattle.proof_book.specs.FrontPage.{done, Sentences, AfterCall, Counted, none, AfterEach, LengthsEach, OthersEach, Demand3}
+use Rattle.proof_book.specs.FrontPage.{done, Sentences, AfterCall, Counted, none, AfterEach, LengthsEach}
+use Rattle.proof_book.specs.FrontPage.{OthersEach, AnswersEach, Demand3}
 use Rattle.proof_book.specs.FrontPage as page
 use Rattle.proof_book.specs.MachineRuns.{Premise, AfterEvents}
 use Rattle.proof_book.specs.SlotsKeptLaws.{kept-unwritten, lies-inside, lent-is}
 use Rattle.proof_book.specs.AsidesLaws.{Opened, opened-by, Closed, closed-by, Queued, queued-by}
-use Rattle.proof_book.specs.WritePollsLaws.{Polled, write-polled}
+use Rattle.proof_book.specs.WritePollsLaws.{isNotYet, Polled, write-polled}
 use Rattle.proof_book.specs.PollsWholeLaws.{ended-same, one-call}
 use Rattle.proof_book.specs.PollsWaitLaws.{poll-waits}
 use Rattle.proof_book.specs.BookCallsLaws.{Fine, start-fine, start-lost, start-anew, call-fine}
@@ -48,12 +50,17 @@ use Rattle.proof_book.specs.SendingCallsLaws.{Sending, SendingAfter, aft
 use Rattle.proof_book.specs.ContinueCallsLaws.{GoesOn, start-onto, goes-on, continues-of}
 use Rattle.proof_book.specs.AdvanceBeginsLaws.{advance-begins}
 use Rattle.proof_book.specs.SlotsToldLaws.{begin-slot}
-use Rattle.proof_book.specs.ToldLaws.{disabled-leaves, enabled-is, slot-told, unmoved-slot, asides-end, polls-end, enabling-ends}
+use Rattle.proof_book.specs.ToldLaws.{disabled-leaves, enabled-is, enabled-receives, slot-told, unmoved-slot}
+use Rattle.proof_book.specs.ToldLaws.{asides-end, polls-end, enabling-ends}
 use Rattle.proof_book.specs.BeginSendsLaws.{begin-sends, enabling-places}
 use Rattle.proof_book.specs.EarlyCallsLaws.{Early, no-start, start-early, early-call}
 use Rattle.proof_book.specs.Lengths.{Known, learnt}
 use Rattle.proof_book.specs.LengthCallsLaws.{WayTold, regular, told-on, start-told, length-is}
 use Rattle.proof_book.specs.Others.{releasing, Names, underWay, callNames, Away, SamePage}
+use Rattle.proof_book.specs.ArrivalsLaws.{arrivals}
+use Rattle.proof_book.specs.ArrivalOrderLaws.{arrivals-in-order}
+use Rattle.proof_book.specs.WritesLaws.{writes}
+use Rattle.proof_book.specs.AsideRowsLaws.{asides-rows}
 use Rattle.proof_book.specs.OthersCallsLaws.{WaySpared, call-goes, start-spared, under-same}
 
 -- an access that releases no bus reset's flag empties none
@@ -130,6 +137,11 @@ told-same (ended a) k h = absurd (true≢false (sym (ap isTold h)))
 told-same (handed q) k h = absurd (true≢false (sym (ap isTold h)))
 told-same (told n) k h = h
 
+abbrev notYet : Ans Answer → Bool
+notYet (ended z) = isNotYet z
+notYet (handed q) = false
+notYet (told k) = false
+
 -- where the book agrees after it
 abbrev Agrees : Call Config Op → Buf → Machine Answer Driver → Machine Answer Pages → Type 0
 Agrees c l m n = let x = drive c m l in After driverOf book agree calls x (written (x .0) c n l)
@@ -187,6 +199,10 @@ module _ (c : Call Config Op) (l : Buf) (m : Machine Answer Driver)
     open-shows = λ e stamp bytes p q. of-open e (Shown bytes stamp) p q .shows stamp bytes refl;
     poll-waits = λ e len p q iso. poll-waits (x .0) e len n l (subst (λ (c : Call Config Op). blankA (x .0) ≡ blankA (written (x .0) c n l .0)) p (a .same)) q iso;
     poll-gives = λ e len bytes p q iso. let k = before (ap isStart p) in one-call c l m n (k .rest) (k .room .state) a e len bytes p q iso;
+    write-waits = λ e bytes p q iso fits.
+        let z : ended NotYet ≡ ended (of-write e bytes p .answer) = sym q ∙ same-poll e bytes p in
+        let two = of-write e bytes p .wrote .waits (sym (ap notYet z)) iso fits in
+        omega (arith, two, ledger.at-most-2 (before (ap isStart p) .rest) e);
     row-12 = λ e p q. of-open e (Refused 12) p q .none refl;
     row-14 = λ e p q. of-close e p (Refused 14) q .none refl;
     close-reads = λ e p q. of-close e p ok q .reads refl;
@@ -218,10 +234,12 @@ module _ (c : Call Config Op) (l : Buf) (m : Machine Answer Driver)
     begin-slot = λ o e p w g. begin-slot c (x .0) o e n (before (ap isStart p) .fine) l p w g;
     disabled-leaves = λ e v p i g. disabled-leaves c (x .0) e v n (before (ap isStart p) .fine) l p i g;
     enabled-is = enabled-is (a .rest);
+    enabled-receives = enabled-receives (a .rest);
     slot-told = slot-told c (x .0) n l (a .same);
     ep0-told = λ z q. subst (λ (w : Ans Answer). GoodA driverOf book agree calls w (x .1 .buf) (y .1 .st)) q (a .good) .0;
     asides-end = asides-end c (x .0) n l (a .same);
     polls-end = polls-end c (x .0) n l (a .same);
+    asides-rows = asides-rows c (x .0) n l (a .same);
     enabling-ends = enabling-ends c (x .0) n l (a .same);
     unmoved = λ e v p i g. let k = before (ap isStart p) in steps-of.unmoved c (x .0) e v n (k .fine) l (a .same) p i g;
     unmoved-out = λ e v p i g. let k = before (ap isStart p) in continues-of c (x .0) e v n (k .fine) (k .sending) (k .onto) l p .outs (a .same) i g;
@@ -414,6 +432,13 @@ others (m ∷ ms) xs a n f k w p =
           (subst (λ (g : Names). WaySpared g (noted m n .1 .way)) (under-same (m .event .call) (m .answer) (noted m n .0) f (z .0)) (y .way)) (p .2),
     )
 
+-- the book's answers
+answers : (ms : List Made) (xs : List ℕ) (a : Buf) (n : Machine Answer Pages) → Agreeing (machineOf xs a) n
+    → page.Calls xs a n ms → AnswersEach n ms
+answers [] xs a n k p = tt
+answers (m ∷ ms) xs a n k p =
+    let z = made xs a n m k (p .0) (p .1) in (z .0, answers ms (m .bytes) (m .slots) _ (z .1 .1) (p .2))
+
 pub demand-3 : Demand3
 demand-3 c b row xs a n first is ms p =
     let z = said xs a n first (p .0) (subst (λ (v : Event Config Op). let x = drive (v .call) (machineOf xs a) (v .lent) in
@@ -424,7 +449,7 @@ demand-3 c b row xs a n first is ms p =
           let f = learnt (first .event .call) (first .answer) k in
           let w = subst (λ (v : Event Config Op). let y = written (first .answer) (v .call) n (v .lent) in WayTold f (y .1 .way) (y .1 .st)) (sym is)
           (start-told (first .answer) c f n b row) in (
-            λ e d. absurd (true≢false (sym (ap (λ (v : Event Config Op). isStart (v .call)) is) ∙ ap isStart (d .continues))),
+            λ e d. absurd (starts (d .brought) (d .continues)),
             lengths ms (first .bytes) (first .slots) _ f (z .1) w (p .2),
           ),
       λ k.
@@ -435,4 +460,22 @@ demand-3 c b row xs a n first is ms p =
                 → SamePage d e (n .st) (noted first n .1 .st)) (sym is) (λ r d e h. absurd h),
             others ms (first .bytes) (first .slots) _ f (z .1) w (p .2),
           ),
+      λ k. (
+        λ e d. absurd (starts (d .brought) (d .continues)),
+        λ v r ws g. absurd (starts v g),
+        arrivals c b row xs a n first is ms p k,
+      ),
+      λ k. (λ e d. absurd (starts (d .brought) (d .continues)), arrivals-in-order c b row xs a n first is ms p k),
+      λ k. let w = writes c b row xs a n first is ms p k in (λ e x v l g. absurd (starts v g), w .0, w .1),
+      (first-same, answers ms (first .bytes) (first .slots) _ (z .1) (p .2)),
     )
+  where
+    first-same : blankA (first .answer) ≡ blankA (noted first n .0)
+    first-same = subst (λ (x : Ans Answer × Machine Answer Driver).
+        blankA (x .0) ≡ blankA (written (x .0) (first .event .call) n (first .event .lent) .0)) (sym (p .0))
+        (subst (λ (v : Event Config Op). let x = drive (v .call) (machineOf xs a) (v .lent) in
+        blankA (x .0) ≡ blankA (written (x .0) (v .call) n (v .lent) .0)) (sym is)
+        (start-agrees c b row (machineOf xs a) n .same))
+
+    starts : (v : ℕ) → first .event .call ≡ go v → ⊥
+    starts v g = true≢false (sym (ap (λ (e : Event Config Op). isStart (e .call)) is) ∙ ap isStart g)

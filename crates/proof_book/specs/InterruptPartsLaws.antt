@@ -1,15 +1,20 @@
--- The interrupt's script taken apart: the changes it makes are completions each with its load, wake-ups and arrivals, and it assigns no request
-use mathlib.Core.Bool.{Bool, true, false}
+-- The interrupt's script taken apart: the changes it makes are completions each with its load, wake-ups and arrivals,
+-- it
+-- assigns no request, and writes neither ep_config nor a length but a load's
+use mathlib.Core.Bool.{Bool, true, false, not, _&&_, _||_}
 use mathlib.Core.List.{List, [], _∷_}
 use mathlib.Core.Path.{_≡_}
 use Prim.Native.Nat.{ℕ, zero, suc}
+use lib.Dec.{ltb}
 use Rattle.regs.specs.declared.Reg.{Reg}
+use Rattle.regs.specs.declared.Reg.the-variants.{EpTLen, EpConfig}
 use Rattle.regs.specs.declared.Dir.{Dir}
 use Rattle.regs.specs.declared.Dir.the-variants.{Out, In}
 use Rattle.regs.specs.declared.Token.{Token}
 use Rattle.regs.specs.declared.Token.the-variants as tok
 use Rattle.script.specs.declared.Transfer.{Transfer}
 use Rattle.script.specs.Cells.{Cell, Val}
+use Rattle.script.specs.Every.{sameReg}
 use Rattle.script.specs.Script.{Script, ret, bind, test, read-then, write-then, wait-then, callback-then, get-then}
 use Rattle.script.specs.Script.{put-then, is-then, look-then, fetch-then, act-then, hand-then, Test, Look, Fetch}
 use Rattle.script.specs.Script.{no-wakes, waken, arrive}
@@ -20,13 +25,18 @@ use Rattle.script.specs.IsoOut.{checkOne, checkWalk}
 use Rattle.script.specs.Handler.{looks, toggled, settle, dispatch, movedOn, ep0MovedOn, served, onTransfer, onSetup, stampedInterrupt}
 use Rattle.proof_book.specs.LeavesLaws.{isRequest}
 
+-- a write of another register than ep_config and an endpoint's length; EP0's may be written
+abbrev pub ordinary : Reg → ℕ → Bool
+ordinary r e = not ((sameReg r EpTLen && ltb 0 e) || sameReg r EpConfig)
+
 -- a script made of such parts
 pub data Parts : (A : Type 0) → Script true A → Type 1 where
   p-ret : {A : Type 0} {a : A} → Parts A (ret a)
   p-bind : {A B : Type 0} {p : Script true B} {f : B → Script true A} → Parts B p → ((b : B) → Parts A (f b)) → Parts A (bind p f)
   p-test : {A : Type 0} {b : Bool} {p q : Script true A} → Parts A p → Parts A q → Parts A (test b p q)
   p-read : {A : Type 0} {r : Reg} {e : ℕ} {k : ℕ → Script true A} → ((v : ℕ) → Parts A (k v)) → Parts A (read-then r e k)
-  p-write : {A : Type 0} {r : Reg} {e v : ℕ} {p : Script true A} → Parts A p → Parts A (write-then r e v p)
+  p-write : {A : Type 0} {r : Reg} {e v : ℕ} {p : Script true A} → ordinary r e ≡ true → Parts A p
+      → Parts A (write-then r e v p)
   p-wait : {A : Type 0} {n : ℕ} {p : Script true A} → Parts A p → Parts A (wait-then n p)
   p-callback : {A : Type 0} {p : Script true A} → Parts A p → Parts A (callback-then p)
   p-get : {A : Type 0} {c : Cell} {k : Val c → Script true A} → ((v : Val c) → Parts A (k v)) → Parts A (get-then c k)
@@ -96,7 +106,8 @@ unfolding checkWalk
 of-check-walk y iso = of-walk (checkWalk y iso) (checkOne y iso) p-ret (λ e es x. x) (of-check-one y iso)
 
 of-toggled : (dir : Dir) (e : ℕ) → Parts Bool (toggled {i = true} dir e)
-of-toggled dir e = search (of-looks, apart) depth 30
+of-toggled Out e = search (of-looks, apart) depth 30
+of-toggled In e = search (of-looks, apart) depth 30
 
 of-settle : (y : Transfer) → Parts Transfer (settle {i = true} y)
 of-settle y = search (of-looks, apart) depth 40
@@ -108,7 +119,8 @@ of-dispatch tok.In y iso frame = search (of-toggled, apart) depth 30
 of-dispatch tok.Setup y iso frame = search apart
 
 of-moved : (dir : Dir) → Parts Unit (movedOn {i = true} dir)
-of-moved dir = search apart depth 30
+of-moved Out = search apart depth 30
+of-moved In = search apart depth 30
 
 of-ep0-moved : (t : Token) → Parts Unit (ep0MovedOn {i = true} t)
 of-ep0-moved tok.Out = of-moved In

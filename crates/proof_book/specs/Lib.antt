@@ -112,5 +112,7 @@ pub mod ArrivalCallsLaws
 pub mod ArrivalsLaws
 pub mod PollsWaitLaws
 pub mod ArrivalOrderLaws
+pub mod WritesLaws
+pub mod AsideRowsLaws
 pub mod Inputs
 pub mod Witness

@@ -39,6 +39,29 @@ handsOut f (told k) = false
 abbrev pub releasing : Ans Answer → Bool
 releasing a = handsOut releases a
 
+-- a transmit address of IN e
+abbrev pub sendsTo : Access → ℕ → Bool
+sendsTo (Read r f) e = false
+sendsTo (Write r f v) e = false
+sendsTo (Receive f x) e = false
+sendsTo (Transmit f x) e = eqb (e % 16) (f % 16)
+sendsTo (Ep0Dma x) e = false
+sendsTo (Wait n) e = false
+sendsTo Callback e = false
+
+-- an answer that hands out a receive address of OUT e
+abbrev pub givesTo : Access → ℕ → Bool
+givesTo (Read r f) e = false
+givesTo (Write r f v) e = false
+givesTo (Receive f x) e = eqb (f % 16) (e % 16)
+givesTo (Transmit f x) e = false
+givesTo (Ep0Dma x) e = false
+givesTo (Wait n) e = false
+givesTo Callback e = false
+
+abbrev pub addressed : Ans Answer → ℕ → Bool
+addressed a e = handsOut (λ q. givesTo q e) a
+
 -- the endpoints whose packets a call may change: one, none of them, any
 pub data Names : Type 0 where
   only : Dir → ℕ → Names

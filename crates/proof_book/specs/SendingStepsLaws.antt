@@ -340,7 +340,8 @@ follow-parts (p-bind h g) s i =
 follow-parts (p-test {b = true} h g) s i = follow-parts h s i
 follow-parts (p-test {b = false} h g) s i = follow-parts g s i
 follow-parts (p-read {r = r} {e = e} h) s i = ask i (asks-quietly false s i (Read r e)) (λ v t j. follow-parts (h v) t j)
-follow-parts (p-write {r = r} {e = e} {v = v} h) s i = ask i (asks-quietly false s i (Write r e v)) (λ _ t j. follow-parts h t j)
+follow-parts (p-write {r =
+    r} {e = e} {v = v} l h) s i = ask i (asks-quietly false s i (Write r e v)) (λ _ t j. follow-parts h t j)
 follow-parts (p-wait {n = n} h) s i = ask i (asks-quietly false s i (Wait n)) (λ _ t j. follow-parts h t j)
 follow-parts (p-callback h) s i = ask i (asks-quietly false s i Callback) (λ _ t j. follow-parts h t j)
 follow-parts (p-get h) s i = follow-parts (h _) s i

@@ -7,7 +7,7 @@ use Prim.Native.Nat.{ℕ, zero, suc, _%_}
 use native.Mathlib.Omega.{arith}
 use lib.Dec.{eqb, ltb}
 use lib.ListN.{length}
-use Rattle.bits.specs.Bit.{isSet}
+use Rattle.bits.specs.Bit.{isSet, both}
 use Rattle.regs.specs.declared.Access.the-variants.{Receive}
 use Rattle.regs.specs.declared.Dir.{Dir}
 use Rattle.regs.specs.declared.Dir.the-variants.{Out, In}
@@ -45,6 +45,7 @@ use Rattle.proof_book.specs.Others.{releasing}
 use Rattle.proof_book.specs.AnswersLaws.{isHanded, handed-same, releasing-same, fed-out}
 use Rattle.proof_book.specs.EnablingLaws.{Asks, Empty, first-access}
 use Rattle.proof_book.specs.PollsWholeLaws.{ended-same}
+use Rattle.proof_book.specs.HeldLaws.{receives-is}
 
 -- ---- an enabled isochronous OUT, by the relation of driver and book
 
@@ -66,6 +67,17 @@ module _ {φ : Phase} {b : Buf} {d : Driver} {t : Pages} (R : Coupling φ b d t)
     sym (ap (λ (a : Allocator). isSet (allocatedIn a Out) (e % 16)) (R .same .allocator))
         ∙ its-number (isSet (allocatedIn (d .allocator) Out) (e % 16)) (R .shape Out e),
   )
+
+-- and one that is isochronous and enabled is among them
+pub enabled-receives : {φ : Phase} {b : Buf} {d : Driver} {t : Pages} → Coupling φ b d t → (e : ℕ)
+    → isoOf t Out e ≡ true
+    → enables.isOn (t .kept .globals .«ep_config») Out e ≡ true → receiving t e ≡ true
+enabled-receives {d = d} {t = t} R e iso onn =
+    let set : isSet (d .globals .«iso_out_eps») (e % 16) ≡ true = R .isos e
+    ∙ ap (λ (p : EpCore). isOn (p .iso)) (R .same .plain Out e) ∙ iso in
+    sym (ap (λ (g : Globals). isSet (isoOuts g) (e % 16)) (R .same .globals)) ∙ receives-is (d .globals) e
+    ∙ ap (λ (u : Bool). both u (enables.isOn (d .globals .«ep_config») Out e)) set
+    ∙ ap (λ (g : Globals). enables.isOn (g .«ep_config») Out e) (R .same .globals) ∙ onn
 
 -- ---- the address that is told
 

@@ -2,25 +2,30 @@
 use mathlib.Core.Bool.{true, false, true≢false}
 use mathlib.Core.List.{List, [], _∷_, _++_}
 use mathlib.Core.Path.{_≡_, refl, subst, subst₂, sym}
-use Prim.Native.Nat.{ℕ}
+use Prim.Native.Nat.{ℕ, _<_}
 use native.Mathlib.Omega.{arith}
 use lib.ListN.{length}
+use Rattle.regs.specs.declared.Access.the-variants.{Write}
+use Rattle.regs.specs.declared.Reg.the-variants.{EpTLen, EpConfig}
 use Rattle.regs.specs.declared.Dir.{Dir}
 use Rattle.regs.specs.declared.Dir.the-variants.{Out, In}
 use Rattle.state.specs.State.{view}
 use Rattle.state.specs.Driver.{Driver}
 use Rattle.script.specs.Answers.{Answer, Refused}
 use Rattle.script.specs.Calls.{Config, Op, slotted, SetEnabled}
-use Rattle.script.specs.Machine.{Buf, Call, begin, question, pending, Machine, Ans, ended, told}
+use Rattle.script.specs.Machine.{Buf, Call, begin, go, question, pending, Machine, Ans, ended, handed, told}
 use Rattle.machine.specs.Suspended.{machineOf}
 use Rattle.proof_book.specs.Pages.{Packet, Pages}
 use Rattle.proof_book.specs.Lengths.{Known, learnt, lengthAt}
-use Rattle.proof_book.specs.Others.{releasing, Names, underWay, callNames, Away, SamePage}
-use Rattle.proof_book.specs.FrontPage.{Decides, Compared, Sentences, same, AfterCall}
+use Rattle.proof_book.specs.Others.{releasing, sendsTo, Names, underWay, callNames, Away, SamePage}
+use Rattle.proof_book.specs.Arrivals.{Note, after, above}
+use Rattle.proof_book.specs.FrontPage.{Decides, Compared, Sentences, same, AfterCall, LengthWritten}
 use Rattle.proof_book.specs.FrontPage as page
 use Rattle.proof_book.specs.FrontPageLaws.{demand-3}
 use Rattle.proof_contracts.specs.SharedPage.{MadeShared, outcomeOf, CallStep, Calls, noted, AfterEach}
-use Rattle.proof_contracts.specs.SharedPage.{LengthIs, LengthsEach, OthersStay, OthersEach, SharedDemand3}
+use Rattle.proof_contracts.specs.SharedPage.{LengthIs, LengthsEach, OthersStay, OthersEach, madeOf}
+use Rattle.proof_contracts.specs.SharedPage.{ArrivalsEach, OrderEach, LoadLength, ConfigKept, WritesEach}
+use Rattle.proof_contracts.specs.SharedPage.{SharedDemand3}
 use Rattle.proof_contracts.specs.SharedCall.{as-shared}
 use Rattle.proof_contracts.specs.SharedRuns.{AgreedAll, agreed-all}
 use Rattle.proof_contracts.specs.SharedAlone.{madeAlone, allAlone, NotedAll, start-alone, all-noted, code-alone}
@@ -34,6 +39,7 @@ module _ (dir : Dir) (e : ℕ) (lent b : Buf) (n : Machine Answer Pages) (d : Dr
     ring = x .ring;
     stamps = x .stamps;
     open-shows = λ e stamp bytes p q. let z : _≡_ {A = ℕ} 0 1 = cc in absurd (omega arith);
+    write-waits = λ e bytes p q iso fits. let z : _≡_ {A = ℕ} 0 1 = cc in absurd (omega arith);
     poll-waits = λ e len p q iso. let z : _≡_ {A = ℕ} 0 1 = cc in absurd (omega arith);
     poll-gives = λ e len bytes p q iso. let z : _≡_ {A = ℕ} 0 1 = cc in absurd (omega arith);
     row-12 = λ e p q. let z : _≡_ {A = ℕ} 0 1 = cc in absurd (omega arith);
@@ -60,9 +66,11 @@ module _ (dir : Dir) (e : ℕ) (lent b : Buf) (n : Machine Answer Pages) (d : Dr
     begin-slot = λ o e p w g. refl;
     disabled-leaves = λ e v p i g. let z : _≡_ {A = ℕ} 0 1 = cc in absurd (omega arith);
     enabled-is = x .enabled-is;
+    enabled-receives = x .enabled-receives;
     slot-told = λ e y q. let z : _≡_ {A = ℕ} 0 1 = cc in absurd (omega arith);
     ep0-told = λ y q. let z : _≡_ {A = ℕ} 0 1 = cc in absurd (omega arith);
     asides-end = λ o p. let z : _≡_ {A = ℕ} 0 1 = cc in absurd (omega arith);
+    asides-rows = λ o p. let z : _≡_ {A = ℕ} 0 1 = cc in absurd (omega arith);
     polls-end = λ e k p. let z : _≡_ {A = ℕ} 0 1 = cc in absurd (omega arith);
     enabling-ends = λ dir e on z p q. (19, cc);
     unmoved = λ e v p i g. let z : _≡_ {A = ℕ} 0 1 = cc in absurd (omega arith);
@@ -148,6 +156,40 @@ module _ (i : ℕ) (xs : List ℕ) (a : Buf) (m : MadeShared) (n : Machine Answe
       leaves Out e = refl
       leaves In e = refl
 
+  note-same : (k : Note) → after (alone .event .call) (alone .answer) (n .st) (m .event .lent) k
+      ≡ after (m .event .call) (m .answer) (n .st) (m .event .lent) k
+  note-same k = as-made (λ c x t. after (alone .event .call) (alone .answer) (n .st) (m .event .lent) k
+      ≡ after c x (n .st) (m .event .lent) k) (λ dir e j y. y) refl
+
+  above-same : (b : ℕ) → above (alone .event .call) (alone .answer) b ≡ above (m .event .call) (m .answer) b
+  above-same b = as-made (λ c x t. above (alone .event .call) (alone .answer) b ≡ above c x b) (λ dir e j y. y) refl
+
+  -- with another call and answer
+  abbrev likewise : Call Config Op → Ans Answer → page.Made
+  likewise c x =
+      record { event = record { call = c; lent = m .event .lent }; answer = x; bytes = m .bytes; slots = m .slots }
+
+  arrival-made : (k : Note) → page.ArrivalIs alone n k → page.ArrivalIs (madeOf m) n k
+  arrival-made k = as-made (λ c x t. page.ArrivalIs (likewise c x) n k)
+      (λ dir e j y f d. let p = d .continues in let z : _≡_ {A = ℕ} 0 1 = cc in absurd (omega arith))
+
+  missed-made : (k : Note) → page.NoneMissed alone n k → page.NoneMissed (madeOf m) n k
+  missed-made k = as-made (λ c x t. page.NoneMissed (likewise c x) n k)
+      (λ dir e j y v r ws p. let z : _≡_ {A = ℕ} 0 1 = cc in absurd (omega arith))
+
+  load-made : (k : Known) → page.LoadLength alone n k → LoadLength i m n k
+  load-made k = as-made (λ c x t. (e y v : ℕ) → 0 < e → c ≡ go v → x ≡ handed (Write EpTLen e y)
+      → LengthWritten (sendsTo (k .asked) e) y (n .st .ins e) (t .ins e))
+      (λ dir e j y f z v l p. let w : _≡_ {A = ℕ} 0 1 = cc in absurd (omega arith))
+
+  config-made : page.ConfigKept alone n → ConfigKept i m n
+  config-made = as-made (λ c x t. (v : ℕ) → x ≡ handed (Write EpConfig 0 v) → t .kept .globals .«ep_config» ≡ v)
+      (λ dir e j y v p. let w : _≡_ {A = ℕ} 0 1 = cc in absurd (omega arith))
+
+  order-made : (b : ℕ) → page.InOrder alone n b → page.InOrder (madeOf m) n b
+  order-made b = as-made (λ c x t. page.InOrder (likewise c x) n b)
+      (λ dir e j y f d. let p = d .continues in let z : _≡_ {A = ℕ} 0 1 = cc in absurd (omega arith))
+
 -- ---- every list of calls
 
 after-each : (i : ℕ) (ms : List MadeShared) (xs : List ℕ) (a : Buf) (n : Machine Answer Pages) → Calls i xs a n ms
@@ -182,13 +224,54 @@ known-each i (m ∷ ms) xs a n run goes =
       ),
     )
 
+-- the lengths that loads write, with what was handed out, and ep_config
+writes-each : (i : ℕ) (ms : List MadeShared) (xs : List ℕ) (a : Buf) (n : Machine Answer Pages)
+    → Calls i xs a n ms → NotedAll i xs a n ms
+    → (k : Known) → page.WritesEach n k (allAlone i xs a ms) → WritesEach i n k ms
+writes-each i [] xs a n run goes k y = tt
+writes-each i (m ∷ ms) xs a n run goes k y = (
+  load-made i xs a m n (run .0) (goes .0) k (y .0),
+  config-made i xs a m n (run .0) (goes .0) (y .1),
+  writes-each i ms (m .bytes) (m .slots) (noted i m n .1) (run .2) (goes .2) (learnt (m .event .call) (m .answer) k)
+      (subst₂ (λ (z : Machine Answer Pages) (l : Known). page.WritesEach z l (allAlone i (m .bytes) (m .slots) ms))
+      (sym (goes .0)) (learnt-same i xs a m n (run .0) (goes .0) k) (y .2)),
+)
+
+-- the arrivals with what was brought and lent, their order with what was decided
+arrivals-each : (i : ℕ) (ms : List MadeShared) (xs : List ℕ) (a : Buf) (n : Machine Answer Pages)
+    → Calls i xs a n ms → NotedAll i xs a n ms
+    → ((k : Note) → page.ArrivalsEach n k (allAlone i xs a ms) → ArrivalsEach i n k ms)
+    × ((b : ℕ) → page.OrderEach n b (allAlone i xs a ms) → OrderEach i n b ms)
+arrivals-each i [] xs a n run goes = (λ k y. tt, λ b y. tt)
+arrivals-each i (m ∷ ms) xs a n run goes =
+    let rest = arrivals-each i ms (m .bytes) (m .slots) (noted i m n .1) (run .2) (goes .2) in
+    let later = allAlone i (m .bytes) (m .slots) ms in (
+      λ k y. (
+        arrival-made i xs a m n (run .0) (goes .0) k (y .0),
+        missed-made i xs a m n (run .0) (goes .0) k (y .1),
+        rest .0 (after (m .event .call) (m .answer) (n .st) (m .event .lent) k)
+            (subst₂ (λ (z : Machine Answer Pages) (l : Note). page.ArrivalsEach z l later)
+            (sym (goes .0)) (note-same i xs a m n (run .0) (goes .0) k) (y .2)),
+      ),
+      λ b y. (
+        order-made i xs a m n (run .0) (goes .0) b (y .0),
+        rest .1 (above (m .event .call) (m .answer) b)
+            (subst₂ (λ (z : Machine Answer Pages) (l : ℕ). page.OrderEach z l later)
+            (sym (goes .0)) (above-same i xs a m n (run .0) (goes .0) b) (y .1)),
+      ),
+    )
+
 pub shared-demand-3 : SharedDemand3
 shared-demand-3 i c b row xs a n first is-start ms run =
     let goes = all-noted i c b row xs a n first is-start ms run in
     let alone = demand-3 c b row xs a n (madeAlone i xs a first) (start-alone i c b xs a first is-start)
     (allAlone i (first .bytes) (first .slots) ms) (code-alone i c b row xs a n first is-start ms run) in
-    let known = known-each i (first ∷ ms) xs a n run goes in (
+    let known = known-each i (first ∷ ms) xs a n run goes in
+    let arriving = arrivals-each i (first ∷ ms) xs a n run goes in (
       after-each i (first ∷ ms) xs a n run goes (agreed-all i c b row xs a n first is-start ms run) (alone .0),
       λ k. known .0 k (alone .1 k),
       λ k. known .1 k (alone .2 k),
+      λ k. arriving .0 k (alone .3 k),
+      λ b. arriving .1 b (alone .4 b),
+      λ k. writes-each i (first ∷ ms) xs a n run goes k (alone .5 k),
     )

@@ -4,19 +4,23 @@
 use mathlib.Core.Bool.{false}
 use mathlib.Core.List.{List, [], _∷_, _++_}
 use mathlib.Core.Path.{_≡_}
-use Prim.Native.Nat.{ℕ, zero}
+use Prim.Native.Nat.{ℕ, zero, _<_}
 use lib.ListN.{length}
+use Rattle.regs.specs.declared.Access.the-variants.{Write}
+use Rattle.regs.specs.declared.Reg.the-variants.{EpTLen, EpConfig}
 use Rattle.regs.specs.declared.Dir.{Dir}
 use Rattle.script.specs.Answers.{Answer}
 use Rattle.script.specs.Calls.{Config, Op, startRow}
-use Rattle.script.specs.Machine.{Buf, Event, start, Machine, Ans, blankA}
+use Rattle.script.specs.Machine.{Buf, Event, start, go, Machine, Ans, handed, blankA}
 use Rattle.machine.specs.Suspended.{machineOf}
 use Rattle.answer.specs.Goes.{Called}
 use Rattle.calls.specs.Sharing.{sortOf, sharedCall}
 use Rattle.proof_book.specs.Pages.{Packet, Pages}
 use Rattle.proof_book.specs.Lengths.{Known, learnt, lengthAt}
-use Rattle.proof_book.specs.Others.{releasing, Names, underWay, callNames, Away, SamePage}
-use Rattle.proof_book.specs.FrontPage.{LentAsLeft, Decides, AfterCall}
+use Rattle.proof_book.specs.Others.{releasing, sendsTo, Names, underWay, callNames, Away, SamePage}
+use Rattle.proof_book.specs.Arrivals.{Note, after, above}
+use Rattle.proof_book.specs.FrontPage.{Made, LentAsLeft, Decides, AfterCall, ArrivalIs, NoneMissed, InOrder}
+use Rattle.proof_book.specs.FrontPage.{LengthWritten}
 use Rattle.proof_contracts.specs.SharedBook.{sharedStep, timeIn}
 
 -- a call that was made: the call and the slot buffer it was lent; the record before it; its answer; the state's
@@ -89,6 +93,37 @@ OthersEach i n k [] = Unit {0}
 OthersEach i n k (m ∷ ms) =
     OthersStay i m n k × OthersEach i (noted i m n .1) (underWay (m .event .call) (m .answer) k) ms
 
+-- the call as one without the record
+abbrev pub madeOf : MadeShared → Made
+madeOf m = record { event = m .event; answer = m .answer; bytes = m .bytes; slots = m .slots }
+
+-- what an arrival is, that none is missed, and their order (ArrivalIs, NoneMissed and InOrder of FrontPage.antt). A
+-- call that row 19 stops leaves what the operation under way was brought and decided
+abbrev pub ArrivalsEach : ℕ → Machine Answer Pages → Note → List MadeShared → Type 0
+ArrivalsEach i n k [] = Unit {0}
+ArrivalsEach i n k (m ∷ ms) = ArrivalIs (madeOf m) n k × NoneMissed (madeOf m) n k
+    × ArrivalsEach i (noted i m n .1) (after (m .event .call) (m .answer) (n .st) (m .event .lent) k) ms
+
+abbrev pub OrderEach : ℕ → Machine Answer Pages → ℕ → List MadeShared → Type 0
+OrderEach i n b [] = Unit {0}
+OrderEach i n b (m ∷ ms) =
+    InOrder (madeOf m) n b × OrderEach i (noted i m n .1) (above (m .event .call) (m .answer) b) ms
+
+-- the lengths that loads write (LoadLength of FrontPage.antt). A call that row 19 stops leaves what was handed out last
+abbrev pub LoadLength : ℕ → MadeShared → Machine Answer Pages → Known → Type 0
+LoadLength i m n k = (e x v : ℕ) → 0 < e → m .event .call ≡ go v → m .answer ≡ handed (Write EpTLen e x)
+    → LengthWritten (sendsTo (k .asked) e) x (n .st .ins e) (noted i m n .1 .st .ins e)
+
+-- ep_config is kept as it is written (ConfigKept of FrontPage.antt)
+abbrev pub ConfigKept : ℕ → MadeShared → Machine Answer Pages → Type 0
+ConfigKept i m n =
+    (v : ℕ) → m .answer ≡ handed (Write EpConfig 0 v) → noted i m n .1 .st .kept .globals .«ep_config» ≡ v
+
+abbrev pub WritesEach : ℕ → Machine Answer Pages → Known → List MadeShared → Type 0
+WritesEach i n k [] = Unit {0}
+WritesEach i n k (m ∷ ms) =
+    LoadLength i m n k × ConfigKept i m n × WritesEach i (noted i m n .1) (learnt (m .event .call) (m .answer) k) ms
+
 -- as Demand3 of FrontPage.antt, for each of the four drivers
 abbrev pub SharedDemand3 : Type 0
 SharedDemand3 = (i : ℕ) (c : Config) (b : Buf) → startRow c b ≡ zero
@@ -96,3 +131,5 @@ SharedDemand3 = (i : ℕ) (c : Config) (b : Buf) → startRow c b ≡ zero
     → first .event ≡ record { call = start c; lent = b } → (ms : List MadeShared) → Calls i xs a n (first ∷ ms)
     → AfterEach i n (first ∷ ms) × ((k : Known) → LengthsEach i n k (first ∷ ms))
     × ((k : Names) → OthersEach i n k (first ∷ ms))
+    × ((k : Note) → ArrivalsEach i n k (first ∷ ms)) × ((k : ℕ) → OrderEach i n k (first ∷ ms))
+    × ((k : Known) → WritesEach i n k (first ∷ ms))

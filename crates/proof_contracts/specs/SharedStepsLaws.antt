@@ -35,8 +35,6 @@ use Rattle.proof_book.specs.Book.{book}
 use Rattle.proof_book.specs.FrontPage.{Made}
 use Rattle.proof_book.specs.FrontPage as page
 use Rattle.proof_book.specs.SlotsStayLaws.{slots-stay}
-use Rattle.proof_book.specs.Arrivals.{Note, after, ArrivalsEach}
-use Rattle.proof_book.specs.ArrivalsLaws.{arrivals}
 use Rattle.proof_stale.specs.Stale.{NoneStaleEach}
 use Rattle.proof_stale.specs.NothingStaleLaws.{nothing-stale}
 use Rattle.proof_book.specs.Stamping.{not-yet, StampsMade}
@@ -185,14 +183,6 @@ module _ (i : ℕ) (c : Config) (b : Buf) (row : startRow c b ≡ zero) (xs : Li
       → let one = madeAlone i xs a first in NoneStaleEach e (one .slots) (page.noted one n .1) [] (allAlone i (first .bytes) (first .slots) ms)
   shared-nothing-stale ms run e = nothing-stale c b row xs a n (madeAlone i xs a first) (start-alone i c b xs a first is-start)
       (allAlone i (first .bytes) (first .slots) ms) (code-alone i c b row xs a n first is-start ms run) e
-
-  -- what an arrival is (demand 3)
-  pub shared-arrivals : (ms : List MadeShared) → Calls i xs a n (first ∷ ms) → (f : Note)
-      → let one = madeAlone i xs a first in
-      ArrivalsEach (page.noted one n .1) (after (one .event .call) (one .answer) (n .st) (one .event .lent) f)
-      (allAlone i (first .bytes) (first .slots) ms)
-  shared-arrivals ms run f = arrivals c b row xs a n (madeAlone i xs a first) (start-alone i c b xs a first is-start)
-      (allAlone i (first .bytes) (first .slots) ms) (code-alone i c b row xs a n first is-start ms run) f
 
   -- "no slot being sent is written" (demand 3)
   pub shared-slots-stay : (before : List MadeShared) (hands : MadeShared) (further : List MadeShared)

@@ -18,7 +18,7 @@ use Rattle.ring.specs.MarksSlots.{only-armed, only-copied, over-low, over-high}
 abbrev pub At : ℕ → List ℕ → List ℕ → Type 0
 At k b c = (length c ≡ length b) × (getD c k 0 ≡ getD b k 0)
 
-set-like : (b c : List ℕ) (i v k : ℕ) → At k b c → At k (set b i v) (set c i v)
+pub set-like : (b c : List ℕ) (i v k : ℕ) → At k b c → At k (set b i v) (set c i v)
 set-like b c i v k (long, e) = (length-set c i v ∙ long ∙ sym (length-set b i v), by)
   where
     by : getD (set c i v) k 0 ≡ getD (set b i v) k 0

@@ -186,6 +186,6 @@ module _ (share : Bool) (n : ℕ) where
   AllBegun [] w = Unit {0}
   AllBegun (m ∷ ms) w = Begun m w × AllBegun ms (afterSteps (m .steps) (openedBy m w))
 
-  abbrev pub CodeUndisturbed : List SessionMade → Pair → Type 0
-  CodeUndisturbed [] w = Unit {0}
-  CodeUndisturbed (m ∷ ms) w = EveryStep (m .channel) (m .steps) (openedBy m w) × CodeUndisturbed ms (afterSteps (m .steps) (openedBy m w))
+  abbrev pub CodeTimely : List SessionMade → Pair → Type 0
+  CodeTimely [] w = Unit {0}
+  CodeTimely (m ∷ ms) w = EveryStep (m .channel) (m .steps) (openedBy m w) × CodeTimely ms (afterSteps (m .steps) (openedBy m w))

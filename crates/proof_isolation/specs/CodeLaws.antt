@@ -20,7 +20,7 @@ use Rattle.proof_isolation.specs.UndisturbedLaws.{step, opened-at}
 use Rattle.proof_isolation.specs.TimeLaws.{as-shared, as-driver}
 use Rattle.proof_isolation.specs.Code.{Left, Held, Pair, runOf, twoOf, CallStep, heard, heardOwn, TurnStep, nextBy, next, EarlyMade}
 use Rattle.proof_isolation.specs.Code.{early, afterEarly, SessionMade, sessionOf, startedBy, openedBy, afterSteps, DidBy, DidEarly}
-use Rattle.proof_isolation.specs.Code.{DidSteps, EveryStep, Begun, AllBegun, CodeUndisturbed, got, shared-by}
+use Rattle.proof_isolation.specs.Code.{DidSteps, EveryStep, Begun, AllBegun, CodeTimely, got, shared-by}
 
 -- ---- the bytes are the machine's
 
@@ -105,8 +105,8 @@ module _ (share : Bool) (n : ℕ) where
     begun-at e = subst (At (m .channel)) opened-is (opened-at share n _ (twoOf w) e opens)
 
   -- any bytes in each of two runs with one record of the bus time; start-ups, and calls whose contracts say what they are steps of
-  pub code-undisturbed : (ms : List SessionMade) (w : Pair) → w .first .time ≡ w .second .time → AllBegun share n ms w → CodeUndisturbed share n ms w
-  code-undisturbed [] w e o = tt
-  code-undisturbed (m ∷ ms) w e o =
+  pub code-timely : (ms : List SessionMade) (w : Pair) → w .first .time ≡ w .second .time → AllBegun share n ms w → CodeTimely share n ms w
+  code-timely [] w e o = tt
+  code-timely (m ∷ ms) w e o =
       let z = code-every (m .channel) (m .steps) (openedBy m w) (begun-at m w (o .0) e) (o .0 .steps) in
-      (z .0, code-undisturbed ms _ (at-time (z .1)) (o .1))
+      (z .0, code-timely ms _ (at-time (z .1)) (o .1))

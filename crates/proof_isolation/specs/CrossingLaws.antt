@@ -1,62 +1,43 @@
--- Of one run: an open, a close or a question of the others falls before the continue of an access or after it, at an access of the channel's own: the
--- run comes to the same, and the call is answered the same
+-- Of one run: what the others get falls before the continue of an access or after it, at an access of the channel's own:
+-- the run comes to the same, and the calls are answered the same
 use mathlib.Core.Bool.{Bool, true, false, not, cond, _&&_, true≢false}
 use mathlib.Core.List.{List, [], _∷_}
 use mathlib.Core.Path.{_≡_, refl, ap, subst, sym, _∙_}
 use Prim.Native.Nat.{ℕ}
-use lib.Dec.{eqb}
+use lib.Dec.{eqb, ltb}
+use lib.ListN.{length}
 use Rattle.regs.specs.declared.Access.{Access}
-use Rattle.regs.specs.declared.Dir.the-variants.{Out}
+use Rattle.regs.specs.declared.Dir.the-variants.{Out, In}
+use Rattle.regs.specs.Enables as enables
 use Rattle.state.specs.Driver.{Driver, epOn}
 use Rattle.state.specs.Laws.{Sized}
 use Rattle.script.specs.Tree as tree
 use Rattle.script.specs.Tree.{ends, asks}
-use Rattle.script.specs.Script.{run, open-oldest, close-oldest}
+use Rattle.script.specs.Script.{run}
 use Rattle.script.specs.Statics.{isOn}
 use Rattle.script.specs.Answers.{Answer, Refused, Shown, ok, isAllocated}
 use Rattle.script.specs.Simulates.{quiet}
-use Rattle.script.specs.Calls.{calls, Open, Close, asideCode}
-use Rattle.script.specs.Machine.{pending, Ans, ended, handed, told, awaited, busy, beside}
-use Rattle.script_ops.specs.Rings.{St, waitingOn, openedOn, oldestOn, nextStamp}
+use Rattle.script.specs.Calls.{calls, Open, Close, Queue, asideCode}
+use Rattle.script.specs.Machine.{Ans, ended, handed, told, awaited, busy, beside}
+use Rattle.script_ops.specs.Rings.{St, waitingOn, roomOn, openedOn, oldestOn, nextStamp, enqueueOn}
 use Rattle.script_ops.specs.Concrete.{concrete}
-use Rattle.machine.specs.Suspended.{driverOf, drive}
+use Rattle.machine.specs.Suspended.{driverOf}
 use Rattle.calls.specs.Sharing as sharing
 use Rattle.calls.specs.Sharing.{going, written, timeAfter}
 use Rattle.proof_isolation.specs.EqualExcept.{Lawful, Channel}
-use Rattle.proof_isolation.specs.ButsLaws.{lawful-act}
 use Rattle.proof_isolation.specs.Whose.{sof, madeFor, ownWay}
-use Rattle.proof_isolation.specs.Apart.{ownable}
+use Rattle.proof_isolation.specs.Apart.{Its, status, receive}
 use Rattle.proof_isolation.specs.Schedule.{Run, runBy, wide, atOwn}
-use Rattle.proof_isolation.specs.Standing.{machineOf, stops, runOf, never-made}
+use Rattle.proof_isolation.specs.Standing.{stops, runOf, another-made}
 use Rattle.proof_isolation.specs.Runs.{go-busy, aside-busy}
-use Rattle.proof_isolation.specs.Late.{Light, opens, closes, asks-of, callOf, Item, gets, goes-own, lightsOf, lit, gone, lits}
-use Rattle.proof_isolation.specs.Late.{litAnswers, itemAnswers, Other, AtOwn}
-use Rattle.proof_isolation.specs.Lights.{done-by, AnswerParts, seen}
-use Rattle.proof_isolation.specs.LightsLaws.{open-is, close-is, oldest-opening, stamp-opening}
-use Rattle.proof_isolation.specs.SlidesLaws.{Slid, slid-end, slid-ask, slid-lost, Free, FreeWay, halt-free}
+use Rattle.proof_isolation.specs.Late.{Light, opens, closes, queues, asks-of, stored, AnyStore, Other, answersBy, lit, gone, lits, litAnswers}
+use Rattle.proof_isolation.specs.Lights.{done-by, seen, openAnswer, closeAnswer, queuedAnswer, queueAnswer, answered, taken, done-at}
+use Rattle.proof_isolation.specs.LightsLaws.{open-is, close-is, oldest-opening, stamp-opening, lawful-done}
+use Rattle.proof_isolation.specs.Does.{Did, Does, did-none, did-more}
+use Rattle.proof_isolation.specs.DoesLaws.{does-before, does-after}
+use Rattle.proof_isolation.specs.SlidesLaws.{Made, made, Slid, slid-end, slid-ask, slid-lost, slid-seen, Free, FreeWay, halt-free}
 
 -- ---- what such a call is answered, and whether it changes anything
-
-abbrev pub openAnswer : ℕ → AnswerParts → Answer
-openAnswer e z = cond (eqb (z .stage) 2)
-    (cond (isAllocated (z .allocator) Out e) (cond (not (isOn (z .iso))) (Refused 11) (cond (z .any) (Shown (z .bytes) (z .number)) (Refused 12))) (Refused 5))
-    (Refused 4)
-
-abbrev pub closeAnswer : ℕ → AnswerParts → Answer
-closeAnswer e z = cond (eqb (z .stage) 2) (cond (isAllocated (z .allocator) Out e) (cond (z .any) ok (Refused 14)) (Refused 5)) (Refused 4)
-
-abbrev pub answered : Light → AnswerParts → Ans Answer
-answered (opens e) z = ended (openAnswer e z)
-answered (closes e) z = ended (closeAnswer e z)
-answered (asks-of q) z = told (z .number)
-
-abbrev taken : Light → AnswerParts → Bool
-taken (opens e) z = eqb (z .stage) 2 && (isAllocated (z .allocator) Out e && (not (not (isOn (z .iso))) && z .any))
-taken (closes e) z = eqb (z .stage) 2 && (isAllocated (z .allocator) Out e && z .any)
-taken (asks-of q) z = false
-
-abbrev pub done-at : Light → St → St
-done-at o s = cond (taken o (seen o s)) (done-by o s) s
 
 open-shape : (a b c d : Bool) (s : St) {t : St} {y : tree.Out St Answer} (x : Answer) → y ≡ ends x t
     → cond a (cond b (cond c (ends (Refused 11) s) (cond d y (ends (Refused 12) s))) (ends (Refused 5) s)) (ends (Refused 4) s)
@@ -86,6 +67,25 @@ pub close-run : (e : ℕ) (s : St) → run concrete (asideCode (Close e)) s ≡ 
 close-run e s = close-shape (eqb (s .0 .globals .stage) 2) (isAllocated (s .0 .allocator) Out e) (openedOn (s .0) e) s
     (ap (λ (d : Driver). ends ok (d, s .1)) (close-is (s .0) e))
 
+queue-shape : (a b c d e f : Bool) (s t : St) →
+    cond a (cond b (cond c (cond d (ends (Refused 10) s) (cond e (ends (Refused 11) s) (cond f (ends ok t) (ends (Refused 13) s))))
+    (ends (Refused 9) s)) (ends (Refused 5) s)) (ends (Refused 4) s)
+    ≡ ends (cond a (cond b (cond c (cond d (Refused 10) (cond e (Refused 11) (cond f ok (Refused 13)))) (Refused 9)) (Refused 5)) (Refused 4))
+    (cond (a && (b && (c && (not d && (not e && f))))) t s)
+queue-shape true true true false false true s t = refl
+queue-shape true true true false false false s t = refl
+queue-shape true true true false true f s t = refl
+queue-shape true true true true e f s t = refl
+queue-shape true true false d e f s t = refl
+queue-shape true false c d e f s t = refl
+queue-shape false b c d e f s t = refl
+
+pub queue-run : (e : ℕ) (bs : List ℕ) (s : St)
+    → run concrete (asideCode (Queue e bs)) s ≡ ends (queueAnswer e (length bs) (seen (queues e bs) s)) (done-at (queues e bs) s)
+queue-run e bs s = queue-shape (eqb (s .0 .globals .stage) 2) (isAllocated (s .0 .allocator) In e)
+    (enables.isOn (s .0 .globals .«ep_config») In e) (ltb (s .0 .allocator .size) (length bs)) (not (isOn (epOn (s .0) In e .iso)))
+    (roomOn (s .0) e (length bs)) s (enqueueOn e bs s)
+
 -- ---- runs, whatever they were answered last
 
 abbrev pub answering : Ans Answer → Run → Run
@@ -94,44 +94,56 @@ answering a r = record { machine = r .machine; access = r .access; answer = a; t
 abbrev pub mute : Run → Run
 mute r = answering (told 0) r
 
-module _ (c : Channel) where
-  lawful-done : (o : Light) (s : St) → Lawful (c .iso) quiet s → Lawful (c .iso) quiet (done-by o s)
-  lawful-done (opens e) s l = subst (λ (d : Driver). Lawful (c .iso) quiet (d, s .1)) (open-is (s .0) e) (lawful-act c (open-oldest e) refl l)
-  lawful-done (closes e) s l = subst (λ (d : Driver). Lawful (c .iso) quiet (d, s .1)) (close-is (s .0) e) (lawful-act c (close-oldest e) refl l)
-  lawful-done (asks-of q) s l = l
+-- what it was answered last: a store has no answer
+abbrev pub lastAnswer : Light → St → Ans Answer → Ans Answer
+lastAnswer (opens e) s a = answered (opens e) (seen (opens e) s)
+lastAnswer (closes e) s a = answered (closes e) (seen (closes e) s)
+lastAnswer (queues e bs) s a = answered (queues e bs) (seen (queues e bs) s)
+lastAnswer (asks-of q) s a = answered (asks-of q) (seen (asks-of q) s)
+lastAnswer (stored p) s a = a
 
-  pub lawful-at : (o : Light) (s : St) → Lawful (c .iso) quiet s → Lawful (c .iso) quiet (done-at o s)
-  lawful-at o s l = by (taken o (seen o s))
+pub same-answers : (o : Light) (s : St) (a : Ans Answer) (us : List (Ans Answer))
+    → answersBy o (lastAnswer o s a) us ≡ answersBy o (answered o (seen o s)) us
+same-answers (opens e) s a us = refl
+same-answers (closes e) s a us = refl
+same-answers (queues e bs) s a us = refl
+same-answers (asks-of q) s a us = refl
+same-answers (stored p) s a us = refl
+
+-- made for another it is not made for x
+pub made-other : (e x : ℕ) → eqb e x ≡ false → {A : Type 0} {q : Access} {o : tree.Out St A} → Its e q o → madeFor x q o ≡ false
+made-other e x n status = n
+made-other e x n receive = n
+
+module _ (c : Channel) where
+  pub lawful-at : (o : Light) (s : St) → Other c o (s .0) → Lawful (c .iso) quiet s → Lawful (c .iso) quiet (done-at o s)
+  lawful-at o s n l = by (taken o (seen o s))
     where
       by : (b : Bool) → Lawful (c .iso) quiet (cond b (done-by o s) s)
-      by true = lawful-done o s l
+      by true = lawful-done c o s n l
       by false = l
-
-  -- at an access of an interrupt
-  pub light-drive : (o : Light) (p : Access) (s : St) (g : ℕ → St → tree.Out St Answer) → Lawful (c .iso) quiet s
-      → drive (callOf o) (machineOf (busy true (awaited p) g) s) (s .1) ≡ (answered o (seen o s), machineOf (busy true (awaited p) g) (done-at o s))
-  light-drive (opens e) p s g l = aside-busy c s (s .1) l (Open e) true refl p g
-      ∙ ap (λ y. beside calls driverOf (machineOf (busy true (awaited p) g) s) y) (open-run e s (l .rest .sized))
-  light-drive (closes e) p s g l = aside-busy c s (s .1) l (Close e) true refl p g
-      ∙ ap (λ y. beside calls driverOf (machineOf (busy true (awaited p) g) s) y) (close-run e s)
-  light-drive (asks-of q) p s g l = refl
 
   module _ (share : Bool) (n : ℕ) where
     pub lit-is : (o : Light) (p : Access) (s : St) (g : ℕ → St → tree.Out St Answer) (q : Access) (a : Ans Answer) (τ : List ℕ) → Lawful (c .iso) quiet s
-        → lit share n o (runOf true (asks p s g) q a τ) ≡ runOf true (asks p (done-at o s) g) q (answered o (seen o s)) τ
-    lit-is (opens e) p s g q a τ l = ap (λ y. runBy p (y, timeAfter n sharing.apart (y .0) (s .0) τ)) (light-drive (opens e) p s g l)
-    lit-is (closes e) p s g q a τ l = ap (λ y. runBy p (y, timeAfter n sharing.apart (y .0) (s .0) τ)) (light-drive (closes e) p s g l)
+        → lit share n o (runOf true (asks p s g) q a τ) ≡ runOf true (asks p (done-at o s) g) q (lastAnswer o s a) τ
+    lit-is (opens e) p s g q a τ l = ap (λ y. runBy p (y, timeAfter n sharing.apart (y .0) (s .0) τ)) (aside-busy c s (s .1) l (Open e) true refl p g
+        ∙ ap (λ y. beside calls driverOf (record { way = busy true (awaited p) g; st = s .0; buf = s .1 }) y) (open-run e s (l .rest .sized)))
+    lit-is (closes e) p s g q a τ l = ap (λ y. runBy p (y, timeAfter n sharing.apart (y .0) (s .0) τ)) (aside-busy c s (s .1) l (Close e) true refl p g
+        ∙ ap (λ y. beside calls driverOf (record { way = busy true (awaited p) g; st = s .0; buf = s .1 }) y) (close-run e s))
+    lit-is (queues e bs) p s g q a τ l = ap (λ y. runBy p (y, timeAfter n sharing.apart (y .0) (s .0) τ)) (aside-busy c s (s .1) l (Queue e bs) true refl p g
+        ∙ ap (λ y. beside calls driverOf (record { way = busy true (awaited p) g; st = s .0; buf = s .1 }) y) (queue-run e bs s))
     lit-is (asks-of w) p s g q a τ l = refl
+    lit-is (stored w) p s g q a τ l = refl
 
-    gone-is : (v : ℕ) (p : Access) (s : St) (g : ℕ → St → tree.Out St Answer) (q : Access) (a : Ans Answer) (τ : List ℕ) → Lawful (c .iso) quiet s
+    pub gone-is : (v : ℕ) (p : Access) (s : St) (g : ℕ → St → tree.Out St Answer) (q : Access) (a : Ans Answer) (τ : List ℕ) → Lawful (c .iso) quiet s
         → wide (busy true (awaited p) g) v ≡ false
         → gone share n v (runOf true (asks p s g) q a τ) ≡ runOf true (g v s) p (stops true (g v s) .0) (timeAfter n going (stops true (g v s) .0) (s .0) τ)
     gone-is v p s g q a τ l w = ap (λ y. runBy p (y, timeAfter n going (y .0) (s .0) τ)) (go-busy c s (s .1) l true p g v w)
 
-    -- a run that stands so
-    pub data Busy : Run → Type 0 where
-      busy-at : (p : Access) (s : St) (g : ℕ → St → tree.Out St Answer) (q : Access) (a : Ans Answer) (τ : List ℕ) → Lawful (c .iso) quiet s
-          → FreeWay c (busy true (awaited p) g) → Busy (runOf true (asks p s g) q a τ)
+    -- a run at an access of an interrupt, that gets these
+    pub data Gets (os : List Light) (us : List (Ans Answer)) : Run → Type 0 where
+      gets-at : (p : Access) (g : ℕ → St → tree.Out St Answer) (q : Access) (a : Ans Answer) (τ : List ℕ) {s t : St} → Does c os us s t
+          → FreeWay c (busy true (awaited p) g) → Gets os us (runOf true (asks p s g) q a τ)
 
     -- at an access of the channel's own, whatever its state
     pub record OwnSome (r : Run) : Type 0 where
@@ -141,151 +153,76 @@ module _ (c : Channel) where
     pub own-some : (r : Run) → atOwn c r ≡ true → OwnSome r
     own-some r h = record { state = (r .machine .st, r .machine .buf); is = h }
 
-    pub lit-busy : {r : Run} → Busy r → (o : Light) → Busy (lit share n o r)
-    lit-busy (busy-at p s g q a τ l f) o = subst Busy (sym (lit-is o p s g q a τ l)) (busy-at p (done-at o s) g q (answered o (seen o s)) τ (lawful-at o s l) f)
+    -- ---- a run that gets them
 
-    pub lit-wide : {r : Run} → Busy r → (o : Light) (v : ℕ) → wide (r .machine .way) v ≡ false → wide (lit share n o r .machine .way) v ≡ false
-    lit-wide (busy-at p s g q a τ l f) o v w = subst (λ (r : Run). wide (r .machine .way) v ≡ false) (sym (lit-is o p s g q a τ l)) w
+    lits-mute : (os : List Light) (r r′ : Run) → mute r ≡ mute r′ → mute (lits share n os r) ≡ mute (lits share n os r′)
+    lits-mute [] r r′ h = h
+    lits-mute (opens e ∷ os) r r′ h = ap (λ z. mute (lits share n os (lit share n (opens e) z))) h
+    lits-mute (closes e ∷ os) r r′ h = ap (λ z. mute (lits share n os (lit share n (closes e) z))) h
+    lits-mute (queues e bs ∷ os) r r′ h = ap (λ z. mute (lits share n os (lit share n (queues e bs) z))) h
+    lits-mute (asks-of q ∷ os) r r′ h = ap (λ z. mute (lits share n os (lit share n (asks-of q) z))) h
+    lits-mute (stored p ∷ os) r r′ h = lits-mute os (lit share n (stored p) r) (lit share n (stored p) r′) (ap (λ z. lit share n (stored p) z) h)
 
-    pub lit-some : {r : Run} → Busy r → (o : Light) → OwnSome r → OwnSome (lit share n o r)
-    lit-some (busy-at p s g q a τ l f) o h = subst OwnSome (sym (lit-is o p s g q a τ l)) (record { state = h .state; is = h .is })
+    pub did-lit : (p : Access) (g : ℕ → St → tree.Out St Answer) (q : Access) (a : Ans Answer) (τ : List ℕ) {o : Light} {b : Ans Answer} {s t : St}
+        → Did c o b s t → lit share n o (runOf true (asks p s g) q a τ) ≡ runOf true (asks p t g) q (lastAnswer o s a) τ
+    did-lit p g q a τ {o} {s = s} d = lit-is o p s g q a τ (d .before) ∙ ap (λ t. runOf true (asks p t g) q (lastAnswer o s a) τ) (sym (d .is))
 
-    made-own : (x : ℕ) (q : Access) (o : tree.Out St Answer) → madeFor x q o ≡ true → ownable x q ≡ true
-    made-own x q o h = by (ownable x q) refl
-      where
-        by : (b : Bool) → ownable x q ≡ b → ownable x q ≡ true
-        by true e = e
-        by false e = absurd (true≢false (sym h ∙ never-made x q o e))
+    pub does-lits : (p : Access) (g : ℕ → St → tree.Out St Answer) (q : Access) (a : Ans Answer) (τ : List ℕ) {os : List Light} {us : List (Ans Answer)} {s t : St}
+        → Does c os us s t → mute (lits share n os (runOf true (asks p s g) q a τ)) ≡ mute (runOf true (asks p t g) q a τ)
+    does-lits p g q a τ (did-none l) = refl
+    does-lits p g q a τ (did-more {o = o} {os = os} {s = s} {t = t} d k e) =
+        ap (λ z. mute (lits share n os z)) (did-lit p g q a τ d) ∙ does-lits p g q (lastAnswer o s a) τ k
+
+    pub does-answers : (p : Access) (g : ℕ → St → tree.Out St Answer) (q : Access) (a : Ans Answer) (τ : List ℕ) {os : List Light} {us : List (Ans Answer)}
+        {s t : St} → Does c os us s t → litAnswers share n os (runOf true (asks p s g) q a τ) ≡ us
+    does-answers p g q a τ (did-none l) = refl
+    does-answers p g q a τ (did-more {o = o} {a = b} {os = os} {us = us} {s = s} {t = t} d k e) =
+        ap (λ (z : Run). answersBy o (z .answer) (litAnswers share n os z)) (did-lit p g q a τ d)
+        ∙ ap (answersBy o (lastAnswer o s a)) (does-answers p g q (lastAnswer o s a) τ k)
+        ∙ same-answers o s a us ∙ ap (λ y. answersBy o y us) (d .told) ∙ e
+
+    pub gets-answers : {os : List Light} {us : List (Ans Answer)} {r : Run} → Gets os us r → litAnswers share n os r ≡ us
+    gets-answers (gets-at p g q a τ d f) = does-answers p g q a τ d
+
+    pub lits-own : {os : List Light} {us : List (Ans Answer)} {r : Run} → Gets os us r → OwnSome r → OwnSome (lits share n os r)
+    lits-own {os} (gets-at p g q a τ {s = s} d f) h =
+        let y = subst OwnSome (sym (does-lits p g q a τ d)) (record { state = h .state; is = h .is }) in record { state = y .state; is = y .is }
 
     -- ---- the law
 
-    pub record Crosses (o : Light) (v : ℕ) (r : Run) : Type 0 where
-      pub muted : mute (lit share n o (gone share n v r)) ≡ mute (gone share n v (lit share n o r))
-      pub answer : lit share n o (gone share n v r) .answer ≡ lit share n o r .answer
-      pub stands : Busy (gone share n v r)
+    pub record Crosses (os : List Light) (us : List (Ans Answer)) (v : ℕ) (r : Run) : Type 0 where
+      pub muted : mute (lits share n os (gone share n v r)) ≡ mute (gone share n v (lits share n os r))
+      pub still : Gets os us (gone share n v r)
 
-    module _ (p : Access) (s : St) (g : ℕ → St → tree.Out St Answer) (q : Access) (a : Ans Answer) (τ : List ℕ) (l : Lawful (c .iso) quiet s)
-        (f : FreeWay c (busy true (awaited p) g)) (v : ℕ) (w : wide (busy true (awaited p) g) v ≡ false) (o : Light) where
+    module _ (p : Access) (g : ℕ → St → tree.Out St Answer) (q : Access) (a : Ans Answer) (τ : List ℕ) {os : List Light} {us : List (Ans Answer)} {s t : St}
+        (d : Does c os us s t) (f : FreeWay c (busy true (awaited p) g)) (v : ℕ) (w : wide (busy true (awaited p) g) v ≡ false) where
       abbrev r : Run
       r = runOf true (asks p s g) q a τ
 
-      abbrev outcome : tree.Out St Answer → Run
-      outcome y = runOf true y p (stops true y .0) (timeAfter n going (stops true y .0) (s .0) τ)
+      abbrev outcome : St → tree.Out St Answer → Run
+      outcome z y = runOf true y p (stops true y .0) (timeAfter n going (stops true y .0) (z .0) τ)
 
-      crosses-by : {y u : tree.Out St Answer} → Slid c o (seen o s) y u → g v s ≡ y → g v (done-by o s) ≡ u → OwnSome (outcome y) → Crosses o v r
-      crosses-by (slid-end t) ey eu h = absurd (true≢false (sym (h .is)))
-      crosses-by (slid-lost {q = q1} {k = k1} n1) ey eu h = absurd (true≢false (sym (made-own (c .number) q1 (k1 sof (h .state)) (h .is)) ∙ n1))
-      crosses-by (slid-ask {q = q1} {s = s1} {k = k1} t) ey eu h = record {
-        muted = ap mute left-way ∙ sym (ap mute right-way);
-        answer = ap (λ (r : Run). r .answer) left-way ∙ ap (answered o) (t .sees) ∙ sym (ap (λ (r : Run). r .answer) (lit-is o p s g q a τ l));
-        stands = subst Busy (sym went) (busy-at q1 s1 k1 p (handed q1) (written n q1 τ) (t .lawful) (halt-free c (subst (Free c) ey (f .0 v s l))));
+      early : gone share n v (lits share n os r) ≡ outcome t (g v t)
+      early = ap (λ z. gone share n v z) (does-lits p g q a τ d) ∙ gone-is v p t g q a τ (does-after c d) w
+
+      crosses-by : {y u : tree.Out St Answer} → Slid c os us y u → g v s ≡ y → g v t ≡ u → OwnSome (outcome s y)
+          → (AnyStore os → OwnSome (outcome t u)) → Crosses os us v r
+      crosses-by (slid-end k) ey eu h m = absurd (true≢false (sym (h .is)))
+      crosses-by (slid-lost k) ey eu h m = absurd (true≢false (sym (h .is) ∙ another-made (k (h .state))))
+      crosses-by (slid-seen e z b (made k)) ey eu h m = absurd (true≢false (sym (m b .is) ∙ made-other e (c .number) z (k (m b .state))))
+      crosses-by (slid-ask {q = q1} {s = s1} {t = t1} {k = k1} x) ey eu h m = record {
+        muted = ap (λ z. mute (lits share n os z)) went ∙ does-lits q1 k1 p (handed q1) (written n q1 τ) x
+            ∙ sym (ap mute (early ∙ ap (outcome t) eu));
+        still = subst (Gets os us) (sym went) (gets-at q1 k1 p (handed q1) (written n q1 τ) x (halt-free c (subst (Free c) ey (f .0 v s (does-before c d)))));
       }
         where
-          went : gone share n v r ≡ outcome (asks q1 s1 k1)
-          went = gone-is v p s g q a τ l w ∙ ap outcome ey
+          went : gone share n v r ≡ outcome s (asks q1 s1 k1)
+          went = gone-is v p s g q a τ (does-before c d) w ∙ ap (outcome s) ey
 
-          left-way : lit share n o (gone share n v r) ≡ runOf true (asks q1 (done-at o s1) k1) p (answered o (seen o s1)) (written n q1 τ)
-          left-way = ap (lit share n o) went ∙ lit-is o q1 s1 k1 p (handed q1) (written n q1 τ) (t .lawful)
+      crosses-at : OwnSome (gone share n v r) → (AnyStore os → OwnSome (gone share n v (lits share n os r))) → Crosses os us v r
+      crosses-at h m = crosses-by (f .1 os us v s t d) refl refl (subst OwnSome (gone-is v p s g q a τ (does-before c d) w) h)
+          (λ b. subst OwnSome early (m b))
 
-          either-way : (b : Bool) → g v (cond b (done-by o s) s) ≡ asks q1 (cond b (done-by o s1) s1) k1
-          either-way true = eu
-          either-way false = ey
-
-          leads : g v (done-at o s) ≡ asks q1 (done-at o s1) k1
-          leads = either-way (taken o (seen o s)) ∙ ap (λ z. asks q1 (cond (taken o z) (done-by o s1) s1) k1) (sym (t .sees))
-
-          right-way : gone share n v (lit share n o r) ≡ runOf true (asks q1 (done-at o s1) k1) p (handed q1) (written n q1 τ)
-          right-way = ap (gone share n v) (lit-is o p s g q a τ l) ∙ gone-is v p (done-at o s) g q (answered o (seen o s)) τ (lawful-at o s l) w
-              ∙ ap (λ y. runOf true y p (stops true y .0) (timeAfter n going (stops true y .0) (done-at o s .0) τ)) leads
-
-    pub crosses : {r : Run} → Busy r → (v : ℕ) → wide (r .machine .way) v ≡ false → OwnSome (gone share n v r) → (o : Light) → Other c o → Crosses o v r
-    crosses (busy-at p s g q a τ l f) v w h o m =
-        crosses-by p s g q a τ l f v w o (f .1 o (seen o s) v s m (record { lawful = l; sees = refl })) refl refl (subst OwnSome (gone-is v p s g q a τ l w) h)
-
-    pub gone-busy : {r : Run} → Busy r → (v : ℕ) → wide (r .machine .way) v ≡ false → OwnSome (gone share n v r) → Busy (gone share n v r)
-    gone-busy b v w h = crosses b v w h (asks-of (pending 0)) tt .stands
-
-    -- ---- lists of them
-
-    abbrev pub Others : List Light → Type 0
-    Others [] = Unit {0}
-    Others (o ∷ os) = Other c o × Others os
-
-    lits-mute : (os : List Light) (r : Run) → mute (lits share n os r) ≡ mute (lits share n os (mute r))
-    lits-mute [] r = refl
-    lits-mute (o ∷ os) r = refl
-
-    next-some : {r : Run} → Busy r → (v : ℕ) → wide (r .machine .way) v ≡ false → (h : OwnSome (gone share n v r)) (o : Light) → Other c o
-        → OwnSome (gone share n v (lit share n o r))
-    next-some b v w h o m =
-        let x = crosses b v w h o m in
-        let y = subst OwnSome (x .muted) (record { state = lit-some (x .stands) o h .state; is = lit-some (x .stands) o h .is }) in
-        record { state = y .state; is = y .is }
-
-    pub lits-cross : (os : List Light) → Others os → {r : Run} → Busy r → (v : ℕ) → wide (r .machine .way) v ≡ false → OwnSome (gone share n v r)
-        → mute (lits share n os (gone share n v r)) ≡ mute (gone share n v (lits share n os r))
-    lits-cross [] m b v w h = refl
-    lits-cross (o ∷ os) m {r} b v w h =
-        let x = crosses b v w h o (m .0) in
-        lits-mute os (lit share n o (gone share n v r)) ∙ ap (λ r. mute (lits share n os r)) (x .muted) ∙ sym (lits-mute os (gone share n v (lit share n o r)))
-        ∙ lits-cross os (m .1) (lit-busy b o) v (lit-wide b o v w) (next-some b v w h o (m .0))
-
-    lit-answers-mute : (os : List Light) (r : Run) → litAnswers share n os r ≡ litAnswers share n os (mute r)
-    lit-answers-mute [] r = refl
-    lit-answers-mute (o ∷ os) r = refl
-
-    lit-answers-cross : (os : List Light) → Others os → {r : Run} → Busy r → (v : ℕ) → wide (r .machine .way) v ≡ false → OwnSome (gone share n v r)
-        → litAnswers share n os (gone share n v r) ≡ litAnswers share n os r
-    lit-answers-cross [] m b v w h = refl
-    lit-answers-cross (o ∷ os) m {r} b v w h =
-        let x = crosses b v w h o (m .0) in
-        let y = lit-answers-mute os (lit share n o (gone share n v r)) ∙ ap (litAnswers share n os) (x .muted)
-        ∙ sym (lit-answers-mute os (gone share n v (lit share n o r)))
-        ∙ lit-answers-cross os (m .1) (lit-busy b o) v (lit-wide b o v w) (next-some b v w h o (m .0)) in
-        λ i. x .answer i ∷ y i
-
-    -- ---- what a late run gets
-
-    pub through-own : (is : List Item) (r : Run) → AtOwn c share n is r → atOwn c r ≡ true
-    through-own [] r h = h
-    through-own (gets o ∷ is) r h = h .0
-    through-own (goes-own v ∷ is) r h = h .0
-
-    pub through-others : (is : List Item) (r : Run) → AtOwn c share n is r → Others (lightsOf is)
-    through-others [] r h = tt
-    through-others (gets o ∷ is) r h = (h .1, through-others is (lit share n o r) (h .2))
-    through-others (goes-own v ∷ is) r h = through-others is (gone share n v r) (h .2)
-
-    through-mute : (is : List Item) (r : Run) → AtOwn c share n is r → AtOwn c share n is (mute r)
-    through-mute [] r h = h
-    through-mute (gets o ∷ is) r h = h
-    through-mute (goes-own v ∷ is) r h = h
-
-    through-unmute : (is : List Item) (r : Run) → AtOwn c share n is (mute r) → AtOwn c share n is r
-    through-unmute [] r h = h
-    through-unmute (gets o ∷ is) r h = h
-    through-unmute (goes-own v ∷ is) r h = h
-
-    pub through-cross : (is : List Item) {r : Run} {o : Light} {v : ℕ} → Crosses o v r → AtOwn c share n is (lit share n o (gone share n v r))
-        → AtOwn c share n is (gone share n v (lit share n o r))
-    through-cross is {r} {o} {v} x h = through-unmute is (gone share n v (lit share n o r))
-        (subst (AtOwn c share n is) (x .muted) (through-mute is (lit share n o (gone share n v r)) h))
-
-    item-answers-mute : (is : List Item) (r : Run) → itemAnswers share n is r ≡ itemAnswers share n is (mute r)
-    item-answers-mute [] r = refl
-    item-answers-mute (gets o ∷ is) r = refl
-    item-answers-mute (goes-own v ∷ is) r = refl
-
-    -- its calls are answered as if they had come before
-    pub item-answers : (is : List Item) {r : Run} → Busy r → (v : ℕ) → wide (r .machine .way) v ≡ false → AtOwn c share n is (gone share n v r)
-        → itemAnswers share n is (gone share n v r) ≡ litAnswers share n (lightsOf is) r
-    item-answers [] b v w h = refl
-    item-answers (gets o ∷ is) {r} b v w h =
-        let x = crosses b v w (own-some (gone share n v r) (h .0)) o (h .1) in
-        let y = item-answers-mute is (lit share n o (gone share n v r)) ∙ ap (itemAnswers share n is) (x .muted)
-        ∙ sym (item-answers-mute is (gone share n v (lit share n o r)))
-        ∙ item-answers is (lit-busy b o) v (lit-wide b o v w) (through-cross is x (h .2)) in
-        λ i. x .answer i ∷ y i
-    item-answers (goes-own u ∷ is) {r} b v w h =
-        item-answers is (gone-busy b v w (own-some (gone share n v r) (h .0))) u (h .1) (h .2)
-        ∙ lit-answers-cross (lightsOf is) (through-others is (gone share n u (gone share n v r)) (h .2)) b v w (own-some (gone share n v r) (h .0))
+    pub crosses : {os : List Light} {us : List (Ans Answer)} {r : Run} → Gets os us r → (v : ℕ) → wide (r .machine .way) v ≡ false
+        → OwnSome (gone share n v r) → (AnyStore os → OwnSome (gone share n v (lits share n os r))) → Crosses os us v r
+    crosses (gets-at p g q a τ d f) v w h m = crosses-at p g q a τ d f v w h m

@@ -1,52 +1,69 @@
--- Request Fourteen, where the others' opens, closes and questions fall before an access of the channel's own in one run and after it in the other:
--- "they line up by the accesses not made for it, between which the others get the same calls … in the same order". Definitions only; the theorem is
--- `undisturbed-late` (LateRunsLaws.antt)
+-- Request Fourteen, where what the others get falls before an access of the channel's own in one run and after it in the
+-- other: "they line up by the accesses not made for it, between which the others get the same calls and stores in the
+-- same order". Definitions only; the theorem is `undisturbed-late` (LateRunsLaws.antt)
 use mathlib.Core.Bool.{Bool, true, false}
 use mathlib.Core.List.{List, [], _∷_}
-use mathlib.Core.Logic.{_≢_}
+use mathlib.Core.Logic.{_≢_, _⊎_}
 use mathlib.Core.Path.{_≡_}
 use Prim.Native.Nat.{ℕ}
 use Rattle.regs.specs.declared.Dir.the-variants.{Out}
 use Rattle.state.specs.Driver.{Driver, key}
 use Rattle.script.specs.Answers.{Answer}
-use Rattle.script.specs.Calls.{Config, Op, aside, Open, Close}
-use Rattle.script.specs.Machine.{Question, Call, begin, go, question, Ans, Way, idle, busy}
+use Rattle.script.specs.Calls.{Config, Op, aside, Open, Close, Queue}
+use Rattle.script.specs.Machine.{Buf, Question, Call, start, begin, go, question, Event, Ans, Way, idle, busy}
 use Rattle.proof_isolation.specs.EqualExcept.{Channel}
-use Rattle.proof_isolation.specs.Schedule.{Run, Two, Turn, others-time, called, turn, after, wide, Asked, atOwn, BringsAt, May, SameAns, After, Every}
+use Rattle.proof_isolation.specs.Stores.{patched, Lands, OwnLent}
+use Rattle.proof_isolation.specs.Schedule.{Run, Two, Turn, others-time, called, alone, storedIn, turn, after, wide}
+use Rattle.proof_isolation.specs.Schedule.{stateOf, unfit, Asked, atOwn, BringsAt, Alone, May, SameAns, After, Every}
 use Rattle.proof_isolation.specs.Undisturbed.{Session, opened, Opens}
 
--- ---- the calls that may fall late
+-- ---- what may fall late
 
--- an open and a close, of OUT e, and a question: they end at once and leave the slot buffer
+-- of the others: an open and a close, of OUT e; a queue, of IN e; a question; stores of the chip, each byte at its place
 pub data Light : Type 0 where
   opens closes : ℕ → Light
+  queues : ℕ → List ℕ → Light
   asks-of : Question → Light
+  stored : List (ℕ × ℕ) → Light
 
-abbrev pub callOf : Light → Call Config Op
-callOf (opens e) = begin (aside (Open e))
-callOf (closes e) = begin (aside (Close e))
-callOf (asks-of q) = question q
-
--- what the late run gets at the channel's own accesses: such a call; a continue
+-- what the late run gets at the channel's own accesses: that of the others; the continue of such an access; stores in the
+-- channel's slots; another call of its own alone (`Alone`, Schedule.antt)
 pub data Item : Type 0 where
   gets : Light → Item
   goes-own : ℕ → Item
+  stores-own : Buf → Item
+  calls-own : Event Config Op → Item
 
 abbrev pub lightsOf : List Item → List Light
 lightsOf [] = []
 lightsOf (gets o ∷ is) = o ∷ lightsOf is
 lightsOf (goes-own v ∷ is) = lightsOf is
+lightsOf (stores-own b ∷ is) = lightsOf is
+lightsOf (calls-own e ∷ is) = lightsOf is
 
--- a turn (Schedule.antt); or both continue an access that is not made for the channel, and one of them is late: it gets the others' calls after that
--- continue, at the channel's own accesses, where the other got them, in the same order, before it. The numbers are what the two continues bring
+-- a turn (Schedule.antt); or both continue an access that is not made for the channel, and one of them is late: it gets
+-- what the others get after that continue, at the channel's own accesses, where the other got it, in the same order,
+-- before it. The numbers are what the two continues bring
 pub data Later : Type 0 where
   timely : Turn → Later
   first-late second-late : ℕ → ℕ → List Item → Later
 
+-- the answers of the calls among them: stores have none
+abbrev pub answersBy : Light → Ans Answer → List (Ans Answer) → List (Ans Answer)
+answersBy (opens e) a l = a ∷ l
+answersBy (closes e) a l = a ∷ l
+answersBy (queues e bs) a l = a ∷ l
+answersBy (asks-of q) a l = a ∷ l
+answersBy (stored p) a l = l
+
 module _ (share : Bool) (n : ℕ) where
-  -- each of these calls is lent the slot buffer as the last one left it
+  -- each call is lent the slot buffer as it was left
   abbrev pub lit : Light → Run → Run
-  lit o r = called share n (callOf o) (r .machine .buf) r
+  lit (opens e) r = called share n (begin (aside (Open e))) (r .machine .buf) r
+  lit (closes e) r = called share n (begin (aside (Close e))) (r .machine .buf) r
+  lit (queues e bs) r = called share n (begin (aside (Queue e bs))) (r .machine .buf) r
+  lit (asks-of q) r = called share n (question q) (r .machine .buf) r
+  lit (stored p) r = storedIn (patched p (r .machine .buf)) r
 
   abbrev pub gone : ℕ → Run → Run
   gone v r = called share n (go v) (r .machine .buf) r
@@ -55,20 +72,27 @@ module _ (share : Bool) (n : ℕ) where
   lits [] r = r
   lits (o ∷ os) r = lits os (lit o r)
 
+  abbrev pub item : Item → Run → Run
+  item (gets o) r = lit o r
+  item (goes-own v) r = gone v r
+  item (stores-own b) r = storedIn b r
+  item (calls-own e) r = alone share n (e .call) (e .lent) r
+
   abbrev pub items : List Item → Run → Run
   items [] r = r
-  items (gets o ∷ is) r = items is (lit o r)
-  items (goes-own v ∷ is) r = items is (gone v r)
+  items (i ∷ is) r = items is (item i r)
 
   -- what the others' calls were answered
   abbrev pub litAnswers : List Light → Run → List (Ans Answer)
   litAnswers [] r = []
-  litAnswers (o ∷ os) r = lit o r .answer ∷ litAnswers os (lit o r)
+  litAnswers (o ∷ os) r = answersBy o (lit o r .answer) (litAnswers os (lit o r))
 
   abbrev pub itemAnswers : List Item → Run → List (Ans Answer)
   itemAnswers [] r = []
-  itemAnswers (gets o ∷ is) r = lit o r .answer ∷ itemAnswers is (lit o r)
+  itemAnswers (gets o ∷ is) r = answersBy o (lit o r .answer) (itemAnswers is (lit o r))
   itemAnswers (goes-own v ∷ is) r = itemAnswers is (gone v r)
+  itemAnswers (stores-own b ∷ is) r = itemAnswers is (storedIn b r)
+  itemAnswers (calls-own e ∷ is) r = itemAnswers is (alone share n (e .call) (e .lent) r)
 
   abbrev pub later : Later → Two → Two
   later (timely t) w = turn share n t w
@@ -95,14 +119,29 @@ Serving idle = ⊥
 Serving (busy false a k) = ⊥
 Serving (busy true a k) = Unit {0}
 
-module _ (c : Channel) where
-  -- of another endpoint; a question that is not of the channel's overruns
-  abbrev pub Other : Light → Type 0
-  Other (opens e) = key Out e ≢ key Out (c .number)
-  Other (closes e) = key Out e ≢ key Out (c .number)
-  Other (asks-of q) = Asked c q
+abbrev pub isStore : Light → Bool
+isStore (opens e) = false
+isStore (closes e) = false
+isStore (queues e bs) = false
+isStore (asks-of q) = false
+isStore (stored p) = true
 
-  -- both stand at an access of an interrupt that is not made for the channel, and continue it, with the same readings but for the channel's lengths
+-- there are stores among them
+abbrev pub AnyStore : List Light → Type 0
+AnyStore [] = ⊥
+AnyStore (o ∷ os) = (isStore o ≡ true) ⊎ AnyStore os
+
+module _ (c : Channel) where
+  -- of another endpoint; a question that is not of the channel's overruns; stores as demand 3 has them
+  abbrev pub Other : Light → Driver → Type 0
+  Other (opens e) d = key Out e ≢ key Out (c .number)
+  Other (closes e) d = key Out e ≢ key Out (c .number)
+  Other (queues e bs) d = Unit {0}
+  Other (asks-of q) d = Asked c q
+  Other (stored p) d = Lands c d p
+
+  -- both stand at an access of an interrupt that is not made for the channel, and continue it, with the same readings but
+  -- for the channel's lengths
   pub record Continues (st v v′ : ℕ) (r r′ : Run) : Type 0 where
     pub serving : Serving (r .machine .way)
     pub shared : atOwn c r ≡ false
@@ -111,17 +150,44 @@ module _ (c : Channel) where
     pub within′ : wide (r′ .machine .way) v′ ≡ false
     pub brings : BringsAt c (r .machine .way) st (r .access) v v′
 
+  -- a call of the channel's own that is no continue, or one that is refused with 1 or 16
+  abbrev pub Stays : Call Config Op → Buf → Run → Type 0
+  Stays (go v) b r = (unfit (go v) r b ≡ true) ⊎ (wide (r .machine .way) v ≡ true)
+  Stays (begin o) b r = Unit {0}
+  Stays (start k) b r = Unit {0}
+  Stays (question q) b r = Unit {0}
+
   module _ (share : Bool) (n : ℕ) where
-    -- the late run stands at an access of the channel's own at each of these calls, and after them
+    -- what the others get, by the run that gets it before the continue
+    abbrev pub OfOthers : List Light → Run → Type 0
+    OfOthers [] r = Unit {0}
+    OfOthers (o ∷ os) r = Other o (r .machine .st) × OfOthers os (lit share n o r)
+
+    -- no store is seen by the continue: were they made before it, as in the other run, the run would come to an access of
+    -- the channel's own too. Where it would not, the two runs part (`seen-parts`, SeenLaws.antt)
+    abbrev pub Unseen : ℕ → List Light → Run → Type 0
+    Unseen v os r = AnyStore os → atOwn c (gone share n v (lits share n os r)) ≡ true
+
+    -- the late run stands at an access of the channel's own at each of these, and after them
     abbrev pub AtOwn : List Item → Run → Type 0
     AtOwn [] r = atOwn c r ≡ true
-    AtOwn (gets o ∷ is) r = (atOwn c r ≡ true) × Other o × AtOwn is (lit share n o r)
-    AtOwn (goes-own v ∷ is) r = (atOwn c r ≡ true) × (wide (r .machine .way) v ≡ false) × AtOwn is (gone share n v r)
+    AtOwn (gets o ∷ is) r = (atOwn c r ≡ true) × AtOwn is (lit share n o r)
+    AtOwn (goes-own v ∷ is) r = (atOwn c r ≡ true) × (wide (r .machine .way) v ≡ false) × Unseen v (lightsOf is) r
+        × AtOwn is (gone share n v r)
+    AtOwn (stores-own b ∷ is) r = (atOwn c r ≡ true) × OwnLent c (stateOf r) b × AtOwn is (storedIn b r)
+    AtOwn (calls-own e ∷ is) r = (atOwn c r ≡ true) × Alone c (e .call) (e .lent) r × Stays (e .call) (e .lent) r
+        × AtOwn is (alone share n (e .call) (e .lent) r)
+
+    -- r is the late one
+    pub record Late (v : ℕ) (is : List Item) (r r′ : Run) : Type 0 where
+      pub others : OfOthers (lightsOf is) r′
+      pub unseen : Unseen v (lightsOf is) r
+      pub own : AtOwn is (gone share n v r)
 
     abbrev pub MayLate : Later → Two → Type 0
     MayLate (timely t) w = May c t w
-    MayLate (first-late v v′ is) w = Continues (w .status) v v′ (w .first) (w .second) × AtOwn is (gone share n v (w .first))
-    MayLate (second-late v v′ is) w = Continues (w .status) v v′ (w .first) (w .second) × AtOwn is (gone share n v′ (w .second))
+    MayLate (first-late v v′ is) w = Continues (w .status) v v′ (w .first) (w .second) × Late v is (w .first) (w .second)
+    MayLate (second-late v v′ is) w = Continues (w .status) v v′ (w .first) (w .second) × Late v′ is (w .second) (w .first)
 
     abbrev pub AllowedLate : List Later → Two → Type 0
     AllowedLate [] w = Unit {0}
@@ -138,10 +204,13 @@ module _ (c : Channel) (share : Bool) (n : ℕ) where
   -- the others' calls are answered the same
   abbrev pub Heard : Later → Two → Type 0
   Heard (timely t) w = Unit {0}
-  Heard (first-late v v′ is) w = AllSame (c .number) (itemAnswers share n is (gone share n v (w .first))) (litAnswers share n (lightsOf is) (w .second))
-  Heard (second-late v v′ is) w = AllSame (c .number) (litAnswers share n (lightsOf is) (w .first)) (itemAnswers share n is (gone share n v′ (w .second)))
+  Heard (first-late v v′ is) w = AllSame (c .number) (itemAnswers share n is (gone share n v (w .first)))
+      (litAnswers share n (lightsOf is) (w .second))
+  Heard (second-late v v′ is) w = AllSame (c .number) (litAnswers share n (lightsOf is) (w .first))
+      (itemAnswers share n is (gone share n v′ (w .second)))
 
-  -- after a turn what Schedule.antt says; after a late one the same but for the last answers: `stands`, `lined`, `alike`, `time`
+  -- after a turn what Schedule.antt says; after a late one the same but for the last answers: `stands`, `lined`, `alike`,
+  -- `time`
   abbrev pub AfterLate : Later → Two → Type 0
   AfterLate (timely t) w = After c t w
   AfterLate (first-late v v′ is) w = After c (others-time (λ t. t)) w
@@ -170,4 +239,5 @@ module _ (share : Bool) (n : ℕ) where
   abbrev pub UndisturbedLate : List LateSession → Two → Type 0
   UndisturbedLate [] w = Unit {0}
   UndisturbedLate (s ∷ ss) w = Every (s .opening .channel) share n (s .opening .turns) (opened share n (s .opening) w)
-      × EveryLate (s .opening .channel) share n (s .turns) (openedLate s w) × UndisturbedLate ss (afterAll share n (s .turns) (openedLate s w))
+      × EveryLate (s .opening .channel) share n (s .turns) (openedLate s w)
+      × UndisturbedLate ss (afterAll share n (s .turns) (openedLate s w))

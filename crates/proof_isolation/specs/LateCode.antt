@@ -1,21 +1,24 @@
 -- The same of the Rattle code: what its calls make of the lent bytes in two runs (proof_isolation/specs/Code.antt),
--- where some of the others' calls fall late in one
+-- where some of what the others get falls late in one
 use mathlib.Core.Bool.{Bool}
 use mathlib.Core.List.{List, [], _∷_}
 use Prim.Native.Nat.{ℕ}
 use Rattle.script.specs.Answers.{Answer}
-use Rattle.script.specs.Machine.{go, Ans}
+use Rattle.script.specs.Calls.{aside, Open, Close, Queue}
+use Rattle.script.specs.Machine.{begin, go, question, Ans}
 use Rattle.proof_isolation.specs.EqualExcept.{Channel}
-use Rattle.proof_isolation.specs.Code.{Left, Held, Pair, twoOf, CallStep, heard, TurnStep, next, SessionMade, openedBy, afterSteps}
+use Rattle.proof_isolation.specs.Code.{Left, Held, Pair, twoOf, CallStep, heard, heardOwn, storedTo, TurnStep, next, SessionMade, openedBy, afterSteps}
 use Rattle.proof_isolation.specs.Code.{DidStep}
 use Rattle.proof_isolation.specs.Code.{EveryStep, Begun}
 use Rattle.proof_isolation.specs.Late as late
-use Rattle.proof_isolation.specs.Late.{callOf, Item, gets, goes-own, Later}
+use Rattle.proof_isolation.specs.Stores.{patched}
+use Rattle.proof_isolation.specs.Late.{Light, opens, closes, queues, asks-of, stored, Item, gets, goes-own, stores-own, calls-own, answersBy, Later}
 use Rattle.proof_isolation.specs.Late.{MayLate, AllSame, AfterLate}
 
 -- ---- the calls that were made
 
--- a call of the late run at the channel's own access, what it left, and what the same call of the others left in the other run
+-- what the late run gets at the channel's own access, what that left, and what the same call of the others left in the other
+-- run; stores leave nothing to be named
 pub record ItemMade : Type 0 where
   pub item : Item
   pub left : Left
@@ -35,19 +38,35 @@ laterOf (timely s) = late.timely (s .turn)
 laterOf (first-late v v′ l is l′) = late.first-late v v′ (itemsOf is)
 laterOf (second-late v v′ l is l′) = late.second-late v v′ (itemsOf is)
 
--- the late run after these calls
+-- a run after what the others get
+abbrev pub lightLeft : Light → Left → Held → Held
+lightLeft (opens e) l h = heard l h
+lightLeft (closes e) l h = heard l h
+lightLeft (queues e bs) l h = heard l h
+lightLeft (asks-of q) l h = heard l h
+lightLeft (stored p) l h = storedTo (patched p (h .slots)) h
+
+-- the late run
+abbrev pub itemLeft : Item → Left → Held → Held
+itemLeft (gets o) l h = lightLeft o l h
+itemLeft (goes-own v) l h = heard l h
+itemLeft (stores-own b) l h = storedTo b h
+itemLeft (calls-own e) l h = heardOwn (e .call) l h
+
 abbrev pub afterItems : List ItemMade → Held → Held
 afterItems [] h = h
-afterItems (i ∷ is) h = afterItems is (heard (i .left) h)
+afterItems (i ∷ is) h = afterItems is (itemLeft (i .item) (i .left) h)
 
--- the other after its own
-abbrev pub lightLeft : Item → Left → Held → Held
-lightLeft (gets o) l h = heard l h
-lightLeft (goes-own v) l h = h
+-- the other
+abbrev pub earlyLeft : Item → Left → Held → Held
+earlyLeft (gets o) l h = lightLeft o l h
+earlyLeft (goes-own v) l h = h
+earlyLeft (stores-own b) l h = h
+earlyLeft (calls-own e) l h = h
 
 abbrev pub afterLights : List ItemMade → Held → Held
 afterLights [] h = h
-afterLights (i ∷ is) h = afterLights is (lightLeft (i .item) (i .other) h)
+afterLights (i ∷ is) h = afterLights is (earlyLeft (i .item) (i .other) h)
 
 abbrev pub nextLate : LateStep → Pair → Pair
 nextLate (timely s) w = next s w
@@ -62,8 +81,10 @@ afterLateSteps (s ∷ ss) w = afterLateSteps ss (nextLate s w)
 
 -- what the others' calls were answered
 abbrev pub answerLeft : Item → Ans Answer → List (Ans Answer) → List (Ans Answer)
-answerLeft (gets o) a l = a ∷ l
+answerLeft (gets o) a l = answersBy o a l
 answerLeft (goes-own v) a l = l
+answerLeft (stores-own b) a l = l
+answerLeft (calls-own e) a l = l
 
 abbrev pub lateAnswers : List ItemMade → List (Ans Answer)
 lateAnswers [] = []
@@ -73,24 +94,35 @@ abbrev pub otherAnswers : List ItemMade → List (Ans Answer)
 otherAnswers [] = []
 otherAnswers (i ∷ is) = answerLeft (i .item) (i .other .answer) (otherAnswers is)
 
--- ---- each call is as its contract says, lent the slot buffer as the last one left it
+-- ---- each call is as its contract says; those of the others are lent the slot buffer as it was left
 
 module _ (share : Bool) (n : ℕ) where
-  abbrev pub DidItem : Item → Left → Held → Type 0
-  DidItem (gets o) l h = CallStep share n (callOf o) (h .slots) h l
-  DidItem (goes-own v) l h = CallStep share n (go v) (h .slots) h l
+  abbrev pub DidLight : Light → Left → Held → Type 0
+  DidLight (opens e) l h = CallStep share n (begin (aside (Open e))) (h .slots) h l
+  DidLight (closes e) l h = CallStep share n (begin (aside (Close e))) (h .slots) h l
+  DidLight (queues e bs) l h = CallStep share n (begin (aside (Queue e bs))) (h .slots) h l
+  DidLight (asks-of q) l h = CallStep share n (question q) (h .slots) h l
+  DidLight (stored p) l h = Unit {0}
 
-  abbrev pub DidLight : Item → Left → Held → Type 0
-  DidLight (gets o) l h = CallStep share n (callOf o) (h .slots) h l
-  DidLight (goes-own v) l h = Unit {0}
+  abbrev pub DidItem : Item → Left → Held → Type 0
+  DidItem (gets o) l h = DidLight o l h
+  DidItem (goes-own v) l h = CallStep share n (go v) (h .slots) h l
+  DidItem (stores-own b) l h = Unit {0}
+  DidItem (calls-own e) l h = CallStep share n (e .call) (e .lent) h l
+
+  abbrev pub DidEarlier : Item → Left → Held → Type 0
+  DidEarlier (gets o) l h = DidLight o l h
+  DidEarlier (goes-own v) l h = Unit {0}
+  DidEarlier (stores-own b) l h = Unit {0}
+  DidEarlier (calls-own e) l h = Unit {0}
 
   abbrev pub DidItems : List ItemMade → Held → Type 0
   DidItems [] h = Unit {0}
-  DidItems (i ∷ is) h = DidItem (i .item) (i .left) h × DidItems is (heard (i .left) h)
+  DidItems (i ∷ is) h = DidItem (i .item) (i .left) h × DidItems is (itemLeft (i .item) (i .left) h)
 
   abbrev pub DidLights : List ItemMade → Held → Type 0
   DidLights [] h = Unit {0}
-  DidLights (i ∷ is) h = DidLight (i .item) (i .other) h × DidLights is (lightLeft (i .item) (i .other) h)
+  DidLights (i ∷ is) h = DidEarlier (i .item) (i .other) h × DidLights is (earlyLeft (i .item) (i .other) h)
 
   -- of the late run h and of the other h′: what they bring, what the two continues left
   pub record DidLate (v v′ : ℕ) (l l′ : Left) (is : List ItemMade) (h h′ : Held) : Type 0 where
@@ -132,7 +164,7 @@ module _ (share : Bool) (n : ℕ) where
   AllBegunLate (m ∷ ms) w = Begun share n (m .opening) w × DidLateSteps share n (m .opening .channel) (m .steps) (openedMade m w)
       × AllBegunLate ms (afterLateSteps (m .steps) (openedMade m w))
 
-  abbrev pub CodeUndisturbedLate : List LateMade → Pair → Type 0
-  CodeUndisturbedLate [] w = Unit {0}
-  CodeUndisturbedLate (m ∷ ms) w = EveryStep share n (m .opening .channel) (m .opening .steps) (openedBy (m .opening) w)
-      × EveryLateStep share n (m .opening .channel) (m .steps) (openedMade m w) × CodeUndisturbedLate ms (afterLateSteps (m .steps) (openedMade m w))
+  abbrev pub CodeUndisturbed : List LateMade → Pair → Type 0
+  CodeUndisturbed [] w = Unit {0}
+  CodeUndisturbed (m ∷ ms) w = EveryStep share n (m .opening .channel) (m .opening .steps) (openedBy (m .opening) w)
+      × EveryLateStep share n (m .opening .channel) (m .steps) (openedMade m w) × CodeUndisturbed ms (afterLateSteps (m .steps) (openedMade m w))

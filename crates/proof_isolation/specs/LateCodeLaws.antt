@@ -3,70 +3,94 @@ use mathlib.Core.Bool.{Bool}
 use mathlib.Core.List.{List, [], _∷_}
 use mathlib.Core.Path.{_≡_, refl, ap, subst, sym, _∙_}
 use Prim.Native.Nat.{ℕ}
-use Rattle.script.specs.Machine.{go, idle}
-use Rattle.proof_isolation.specs.Schedule.{Two}
+use Rattle.script.specs.Answers.{Answer}
+use Rattle.script.specs.Calls.{aside, Open, Close, Queue}
+use Rattle.script.specs.Machine.{begin, go, question, Ans, idle}
+use Rattle.proof_isolation.specs.Schedule.{Run, Two}
 use Rattle.proof_isolation.specs.UndisturbedLaws.{step}
 use Rattle.proof_isolation.specs.EqualExcept.{Channel}
 use Rattle.proof_isolation.specs.Standing.{At}
 use Rattle.proof_isolation.specs.StandingLaws.{at-time}
 use Rattle.proof_isolation.specs.Code.{Left, Held, Pair, runOf, twoOf, heard, TurnStep, next, sessionOf, openedBy, afterSteps}
 use Rattle.proof_isolation.specs.Code.{DidSteps}
-use Rattle.proof_isolation.specs.CodeLaws.{heard-is, next-by, code-every, opened-is, begun-at}
+use Rattle.proof_isolation.specs.CodeLaws.{heard-is, own-is, next-by, code-every, opened-is, begun-at}
 use Rattle.proof_isolation.specs.Late as late
-use Rattle.proof_isolation.specs.Late.{callOf, Item, gets, goes-own, lightsOf, gone, lits, items, litAnswers}
+use Rattle.proof_isolation.specs.Late.{Light, opens, closes, queues, asks-of, stored, Item, gets, goes-own, stores-own, calls-own, lightsOf, answersBy, lit, gone, lits, item}
+use Rattle.proof_isolation.specs.Late.{items, litAnswers}
 use Rattle.proof_isolation.specs.Late.{itemAnswers, later, AllSame, AfterLate}
 use Rattle.proof_isolation.specs.LateRunsLaws.{FreeBoth, turn-free, later-free, opened-free, late-step}
-use Rattle.proof_isolation.specs.LateCode.{ItemMade, LateStep, itemsOf, laterOf, afterItems, lightLeft, afterLights, nextLate, afterLateSteps}
-use Rattle.proof_isolation.specs.LateCode.{answerLeft, lateAnswers, otherAnswers, DidItem, DidLight, DidItems, DidLights, DidLate, DidLateStep}
-use Rattle.proof_isolation.specs.LateCode.{DidLateSteps, HeardMade, EveryLateStep, LateMade, openedMade, AllBegunLate, CodeUndisturbedLate}
+use Rattle.proof_isolation.specs.LateCode.{ItemMade, LateStep, itemsOf, laterOf, lightLeft, itemLeft, afterItems, earlyLeft, afterLights, nextLate, afterLateSteps}
+use Rattle.proof_isolation.specs.LateCode.{answerLeft, lateAnswers, otherAnswers, DidLight, DidItem, DidEarlier, DidItems, DidLights, DidLate, DidLateStep}
+use Rattle.proof_isolation.specs.LateCode.{DidLateSteps, HeardMade, EveryLateStep, LateMade, openedMade, AllBegunLate, CodeUndisturbed}
 use Rattle.proof_isolation.specs.LateCode.{timely, first-late, second-late}
 
 -- ---- the bytes are the machine's
 
 module _ (share : Bool) (n : ℕ) where
+  light-is : (o : Light) (l : Left) (h : Held) → DidLight share n o l h → runOf (lightLeft o l h) ≡ lit share n o (runOf h)
+  light-is (opens e) l h d = heard-is share n (begin (aside (Open e))) (h .slots) h l d
+  light-is (closes e) l h d = heard-is share n (begin (aside (Close e))) (h .slots) h l d
+  light-is (queues e bs) l h d = heard-is share n (begin (aside (Queue e bs))) (h .slots) h l d
+  light-is (asks-of q) l h d = heard-is share n (question q) (h .slots) h l d
+  light-is (stored p) l h d = refl
+
+  item-is : (i : Item) (l : Left) (h : Held) → DidItem share n i l h → runOf (itemLeft i l h) ≡ item share n i (runOf h)
+  item-is (gets o) l h d = light-is o l h d
+  item-is (goes-own v) l h d = heard-is share n (go v) (h .slots) h l d
+  item-is (stores-own b) l h d = refl
+  item-is (calls-own e) l h d = own-is share n (e .call) (e .lent) h l d
+
+  -- a call's answer is what it left
+  light-answer : (o : Light) (l : Left) (h : Held) → DidLight share n o l h → (us : List (Ans Answer))
+      → answersBy o (l .answer) us ≡ answersBy o (lit share n o (runOf h) .answer) us
+  light-answer (opens e) l h d us = ap (λ (r : Run). r .answer ∷ us) (light-is (opens e) l h d)
+  light-answer (closes e) l h d us = ap (λ (r : Run). r .answer ∷ us) (light-is (closes e) l h d)
+  light-answer (queues e bs) l h d us = ap (λ (r : Run). r .answer ∷ us) (light-is (queues e bs) l h d)
+  light-answer (asks-of q) l h d us = ap (λ (r : Run). r .answer ∷ us) (light-is (asks-of q) l h d)
+  light-answer (stored p) l h d us = refl
+
   items-are : (is : List ItemMade) (h : Held) → DidItems share n is h → runOf (afterItems is h) ≡ items share n (itemsOf is) (runOf h)
   items-are [] h d = refl
-  items-are (i ∷ is) h d = by (i .item) (d .0) (items-are is (heard (i .left) h) (d .1))
-    where
-      by : (t : Item) → DidItem share n t (i .left) h → runOf (afterItems is (heard (i .left) h)) ≡ items share n (itemsOf is) (runOf (heard (i .left) h))
-          → runOf (afterItems is (heard (i .left) h)) ≡ items share n (t ∷ itemsOf is) (runOf h)
-      by (gets o) e r = r ∙ ap (items share n (itemsOf is)) (heard-is share n (callOf o) (h .slots) h (i .left) e)
-      by (goes-own v) e r = r ∙ ap (items share n (itemsOf is)) (heard-is share n (go v) (h .slots) h (i .left) e)
+  items-are (i ∷ is) h d = items-are is (itemLeft (i .item) (i .left) h) (d .1)
+      ∙ ap (items share n (itemsOf is)) (item-is (i .item) (i .left) h (d .0))
 
   item-told : (is : List ItemMade) (h : Held) → DidItems share n is h → lateAnswers is ≡ itemAnswers share n (itemsOf is) (runOf h)
   item-told [] h d = refl
-  item-told (i ∷ is) h d = by (i .item) (d .0) (item-told is (heard (i .left) h) (d .1))
+  item-told (i ∷ is) h d = by (i .item) (d .0) (item-told is (itemLeft (i .item) (i .left) h) (d .1))
     where
-      by : (t : Item) → DidItem share n t (i .left) h → lateAnswers is ≡ itemAnswers share n (itemsOf is) (runOf (heard (i .left) h))
+      by : (t : Item) → DidItem share n t (i .left) h → lateAnswers is ≡ itemAnswers share n (itemsOf is) (runOf (itemLeft t (i .left) h))
           → answerLeft t (i .left .answer) (lateAnswers is) ≡ itemAnswers share n (t ∷ itemsOf is) (runOf h)
-      by (gets o) e r =
-          let p = heard-is share n (callOf o) (h .slots) h (i .left) e in
-          let q = r ∙ ap (itemAnswers share n (itemsOf is)) p in
-          λ j. p j .answer ∷ q j
-      by (goes-own v) e r = r ∙ ap (itemAnswers share n (itemsOf is)) (heard-is share n (go v) (h .slots) h (i .left) e)
+      by (gets o) e r = light-answer o (i .left) h e (lateAnswers is)
+          ∙ ap (answersBy o (lit share n o (runOf h) .answer)) (r ∙ ap (itemAnswers share n (itemsOf is)) (light-is o (i .left) h e))
+      by (goes-own v) e r = r ∙ ap (itemAnswers share n (itemsOf is)) (item-is (goes-own v) (i .left) h e)
+      by (stores-own b) e r = r
+      by (calls-own c) e r = r ∙ ap (itemAnswers share n (itemsOf is)) (item-is (calls-own c) (i .left) h e)
 
   lights-are : (is : List ItemMade) (h : Held) → DidLights share n is h → runOf (afterLights is h) ≡ lits share n (lightsOf (itemsOf is)) (runOf h)
   lights-are [] h d = refl
   lights-are (i ∷ is) h d = by (λ k r. lights-are is k r) (i .item) (d .0) (d .1)
     where
       by : ((k : Held) → DidLights share n is k → runOf (afterLights is k) ≡ lits share n (lightsOf (itemsOf is)) (runOf k))
-          → (t : Item) → DidLight share n t (i .other) h → DidLights share n is (lightLeft t (i .other) h)
-          → runOf (afterLights is (lightLeft t (i .other) h)) ≡ lits share n (lightsOf (t ∷ itemsOf is)) (runOf h)
-      by f (gets o) e r = f (heard (i .other) h) r ∙ ap (lits share n (lightsOf (itemsOf is))) (heard-is share n (callOf o) (h .slots) h (i .other) e)
+          → (t : Item) → DidEarlier share n t (i .other) h → DidLights share n is (earlyLeft t (i .other) h)
+          → runOf (afterLights is (earlyLeft t (i .other) h)) ≡ lits share n (lightsOf (t ∷ itemsOf is)) (runOf h)
+      by f (gets o) e r = f (lightLeft o (i .other) h) r ∙ ap (lits share n (lightsOf (itemsOf is))) (light-is o (i .other) h e)
       by f (goes-own v) e r = f h r
+      by f (stores-own b) e r = f h r
+      by f (calls-own c) e r = f h r
 
   light-told : (is : List ItemMade) (h : Held) → DidLights share n is h → otherAnswers is ≡ litAnswers share n (lightsOf (itemsOf is)) (runOf h)
   light-told [] h d = refl
   light-told (i ∷ is) h d = by (λ k r. light-told is k r) (i .item) (d .0) (d .1)
     where
       by : ((k : Held) → DidLights share n is k → otherAnswers is ≡ litAnswers share n (lightsOf (itemsOf is)) (runOf k))
-          → (t : Item) → DidLight share n t (i .other) h → DidLights share n is (lightLeft t (i .other) h)
+          → (t : Item) → DidEarlier share n t (i .other) h → DidLights share n is (earlyLeft t (i .other) h)
           → answerLeft t (i .other .answer) (otherAnswers is) ≡ litAnswers share n (lightsOf (t ∷ itemsOf is)) (runOf h)
-      by f (gets o) e r =
-          let p = heard-is share n (callOf o) (h .slots) h (i .other) e in
-          let q = f (heard (i .other) h) r ∙ ap (litAnswers share n (lightsOf (itemsOf is))) p in
-          λ j. p j .answer ∷ q j
+      by f (gets o) e r = light-answer o (i .other) h e (otherAnswers is)
+          ∙ ap (answersBy o (lit share n o (runOf h) .answer)) (f (lightLeft o (i .other) h) r
+          ∙ ap (litAnswers share n (lightsOf (itemsOf is))) (light-is o (i .other) h e))
       by f (goes-own v) e r = f h r
+      by f (stores-own b) e r = f h r
+      by f (calls-own c) e r = f h r
 
   module _ {v v′ : ℕ} {l l′ : Left} {is : List ItemMade} {h h′ : Held} (d : DidLate share n v v′ l l′ is h h′) where
     late-is : runOf (afterItems is (heard l h)) ≡ items share n (itemsOf is) (gone share n v (runOf h))
@@ -114,9 +138,9 @@ module _ (share : Bool) (n : ℕ) where
       (subst (FreeBoth c share n) e (turn-free c share n (s .turn) (twoOf w) a (d .1) f)) (d .2)
 
   -- any bytes in each of two runs with one record of the bus time; start-ups, and calls whose contracts say what they are steps of
-  pub code-undisturbed-late : (ms : List LateMade) (w : Pair) → w .first .time ≡ w .second .time → AllBegunLate share n ms w → CodeUndisturbedLate share n ms w
-  code-undisturbed-late [] w e o = tt
-  code-undisturbed-late (m ∷ ms) w e o =
+  pub code-undisturbed : (ms : List LateMade) (w : Pair) → w .first .time ≡ w .second .time → AllBegunLate share n ms w → CodeUndisturbed share n ms w
+  code-undisturbed [] w e o = tt
+  code-undisturbed (m ∷ ms) w e o =
       let c = m .opening .channel in
       let x = code-every share n c (m .opening .steps) (openedBy (m .opening) w) (begun-at share n (m .opening) w (o .0) e) (o .0 .steps) in
       let k = opened-is share n (m .opening) w (o .0) in
@@ -124,4 +148,4 @@ module _ (share : Bool) (n : ℕ) where
       (subst (FreeBoth c share n) k (opened-free c share n (sessionOf (m .opening)) (twoOf w) (o .0 .accepted) e
       (subst (λ (z : Two). z .first .machine .way ≡ idle) (sym k) (o .0 .rests)))) (o .0 .steps) in
       let z = code-every-late c (m .steps) (openedMade share n m w) (x .1) f (o .1) in
-      (x .0, z .0, code-undisturbed-late ms (afterLateSteps (m .steps) (openedMade share n m w)) (at-time (z .1)) (o .2))
+      (x .0, z .0, code-undisturbed ms (afterLateSteps (m .steps) (openedMade share n m w)) (at-time (z .1)) (o .2))

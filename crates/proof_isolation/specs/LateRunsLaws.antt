@@ -3,7 +3,7 @@ use mathlib.Core.Bool.{Bool, true, false, cond, _&&_, true≢false}
 use mathlib.Core.List.{List, [], _∷_}
 use mathlib.Core.Logic.{_⊎_, inl, inr}
 use mathlib.Core.Path.{_≡_, refl, ap, subst, sym, _∙_}
-use Prim.Native.Nat.{ℕ, zero}
+use Prim.Native.Nat.{ℕ, zero, suc}
 use Rattle.regs.specs.declared.Access.{Access}
 use Rattle.state.specs.Driver.{Driver}
 use Rattle.script.specs.Tree as tree
@@ -11,48 +11,58 @@ use Rattle.script.specs.Tree.{ends, asks}
 use Rattle.script.specs.Script.{run}
 use Rattle.script.specs.Answers.{Answer, Refused}
 use Rattle.script.specs.Simulates.{quiet, mid}
-use Rattle.script.specs.Calls.{Config, Op, interrupt, irq, calls, startRow, Open, Close, asideCode}
-use Rattle.script.specs.Machine.{Buf, Call, start, begin, go, question, Ans, ended, told, awaited, Way, idle, busy, lentTo}
+use Rattle.script.specs.Calls.{Config, Op, interrupt, irq, aside, calls, startRow, Aside, Open, Close, Queue, asideCode}
+use Rattle.script.specs.Machine as machine
+use Rattle.script.specs.Machine.{Buf, pending, Call, start, begin, go, question, Ans, ended, told, awaited, Way, idle, busy, lentTo}
 use Rattle.script_ops.specs.Rings.{St}
 use Rattle.script_ops.specs.Concrete.{concrete}
 use Rattle.machine.specs.Suspended.{driverOf, drive}
 use Rattle.answer.specs.Goes.{Called}
-use Rattle.calls.specs.Sharing.{sortOf, timeAfter, turnedDown}
+use Rattle.calls.specs.Sharing as sharing
+use Rattle.calls.specs.Sharing.{going, sortOf, timeAfter, turnedDown}
 use Rattle.proof_wake_ups.specs.Rooms.{Few, Roomy, Rooms}
-use Rattle.proof_wake_ups.specs.RoomsLaws.{rooms}
-use Rattle.proof_isolation.specs.EqualExcept.{Lawful, Channel, LowEquiv}
+use Rattle.proof_wake_ups.specs.RoomsLaws.{rooms, room}
+use Rattle.state.specs.WakesLaws.{Room}
+use Rattle.proof_isolation.specs.EqualExcept.{Lawful, Channel, LowEquiv, Touched}
+use Rattle.proof_isolation.specs.LikesLaws.{like-refl, like-sym, touched-refl, touched-trans, touch}
 use Rattle.proof_isolation.specs.Operations.{OfChannel, polls, passes}
-use Rattle.proof_isolation.specs.Stores.{Stored}
+use Rattle.proof_isolation.specs.Asides.{Others}
+use Rattle.proof_isolation.specs.Stores.{Stored, OwnLent, patched}
 use Rattle.proof_isolation.specs.AloneLaws.{lawful-rests, lawful-busy}
-use Rattle.proof_isolation.specs.Apart.{Brings, gone, waits, Shared, ApartBy, end, both, left, right, owns}
+use Rattle.proof_isolation.specs.Apart.{gone, waits, ApartBy, end, both, left, right, owns}
 use Rattle.proof_isolation.specs.Answers.{SameAnswer}
 use Rattle.proof_isolation.specs.PairsLaws.{brings-sym}
-use Rattle.proof_isolation.specs.AsidesLaws.{p-aside}
-use Rattle.proof_isolation.specs.StoresLaws.{lent-back, own-lent-back, lawful-stored}
+use Rattle.proof_isolation.specs.Ending.{Finished, fin}
+use Rattle.proof_isolation.specs.AsidesLaws.{p-aside, own-finishes}
+use Rattle.proof_isolation.specs.StoresLaws.{lent-back, own-lent-back, lawful-stored, lent-like, own-like}
 use Rattle.proof_isolation.specs.OthersLaws.{same-answers}
 use Rattle.proof_isolation.specs.Schedule.{Run, Two, Turn, begins, goes, asked, stores, others-time, first, second, Early, gets, shares}
-use Rattle.proof_isolation.specs.Schedule.{called, alone, turn, given, after, sharing, wide, atOwn, go-on, own-lent, SameAns, same, After}
+use Rattle.proof_isolation.specs.Schedule.{called, alone, turn, given, after, runBy, ownBy, wide, atOwn, go-on, own-lent, SameAns, same, After, Timely}
 use Rattle.proof_isolation.specs.Schedule.{stateOf, unfit, BothCall, call-row1, call-lent, BothGo, go-row1, go-row16, OwnCall, own-row1, Alone, May, Allowed}
 use Rattle.proof_isolation.specs.Standing.{machineOf, runOf, own-yes, own-no, same-ans, ans-sym, Orderly, At, at}
 use Rattle.proof_isolation.specs.StandingLaws.{past-no}
 use Rattle.proof_isolation.specs.StandingLaws.{at-stands, at-lined, at-alike, at-time, at-swap}
-use Rattle.proof_isolation.specs.Runs.{goes-by, spares-put}
+use Rattle.proof_isolation.specs.Runs.{goes-by, spares-put, go-wide, go-unfit, begin-unfit, aside-busy}
 use Rattle.proof_isolation.specs.StartLaws.{anew, starts}
 use Rattle.proof_isolation.specs.Undisturbed.{Session, started-up, opened}
 use Rattle.proof_isolation.specs.UndisturbedLaws.{step, always, stands-after}
 use Rattle.proof_isolation.specs.UndisturbedLaws.{opened-at}
 use Rattle.proof_isolation.specs.Late as late
-use Rattle.proof_isolation.specs.Late.{Light, opens, closes, asks-of, callOf, Item, goes-own, lightsOf, Later, timely, first-late, second-late}
-use Rattle.proof_isolation.specs.Late.{lit, lits, items, litAnswers, later, afterAll, Other, Continues, AtOwn, MayLate}
-use Rattle.proof_isolation.specs.Late.{AllowedLate, Serving}
+use Rattle.proof_isolation.specs.Late.{Light, opens, closes, queues, asks-of, stored, Item, goes-own, stores-own, calls-own, lightsOf, answersBy}
+use Rattle.proof_isolation.specs.Late.{Later, timely, first-late, second-late, lit, lits, items, litAnswers, itemAnswers, later, afterAll}
+use Rattle.proof_isolation.specs.Late.{Other, Continues, Stays, OfOthers, AtOwn, Late, MayLate, AllowedLate, Serving}
 use Rattle.proof_isolation.specs.Late.{AllSame, none, more, Heard, AfterLate, EveryLate, LateSession, AllOpenLate, UndisturbedLate}
-use Rattle.proof_isolation.specs.Lights.{seen}
+use Rattle.proof_isolation.specs.Lights.{done-by, seen, answered, taken, done-at}
+use Rattle.proof_isolation.specs.QueuesLaws.{patch-like}
+use Rattle.proof_isolation.specs.LightsLaws.{seen-touched, wakes-same, still-other, but-reach, stored-patch}
+use Rattle.proof_isolation.specs.Does.{Does, did-none, did-more}
+use Rattle.proof_isolation.specs.DoesLaws.{does-before, does-after, does-wakes-same}
 use Rattle.proof_isolation.specs.SlidesLaws.{FreeWay, Needs, LentLawful, drive-free}
-use Rattle.proof_isolation.specs.CrossingLaws.{openAnswer, closeAnswer, answered, done-at, open-run, close-run, answering, mute}
-use Rattle.proof_isolation.specs.CrossingLaws.{light-drive, lit-is, Busy, busy-at, OwnSome, own-some, lit-busy, lit-wide, lit-some}
-use Rattle.proof_isolation.specs.CrossingLaws.{crosses, gone-busy, Others, lits-cross, through-own, through-others, through-cross, item-answers}
+use Rattle.proof_isolation.specs.CrossingLaws as crossing
+use Rattle.proof_isolation.specs.CrossingLaws.{open-run, close-run, queue-run, answering, mute, lastAnswer, lit-is, Gets, gets-at, OwnSome, own-some}
+use Rattle.proof_isolation.specs.CrossingLaws.{did-lit, does-lits, gets-answers, lits-own, crosses}
 
--- ---- a call of the others in both, at one access
+-- ---- what the others get in both, at one access
 
 ended-like : {c : Channel} {st : ℕ} {i m : Bool} {Q : Answer → Answer → Type 0} {a b : Answer} {s t : St} → ApartBy c st i Q m (ends a s) (ends b t)
     → Q a b × LowEquiv c quiet s t
@@ -65,25 +75,39 @@ record SameLate (c : Channel) (o : Light) (s t : St) : Type 0 where
   like : LowEquiv c quiet (done-at o s) (done-at o t)
   same-told : Few (answered o (seen o s)) → Few (answered o (seen o t)) → SameAns (c .number) (answered o (seen o s)) (answered o (seen o t))
 
-light-both : (c : Channel) (st : ℕ) (o : Light) → Other c o → {s t : St} → LowEquiv c quiet s t → SameLate c o s t
-light-both c st (opens e) n {s} {t} l =
-    let y = ended-like (subst (λ u. ApartBy c st false (SameAnswer (c .number)) false
-    (ends (openAnswer e (seen (opens e) s)) (done-at (opens e) s)) u) (open-run e t (l .right .rest .sized))
-    (subst (λ u. ApartBy c st false (SameAnswer (c .number)) false u (run concrete (asideCode (Open e)) t)) (open-run e s (l .left .rest .sized))
-    (p-aside c st (Open e) n .on s t l))) in
+-- by the call's script
+aside-both : (c : Channel) (st : ℕ) (o : Aside) → Others (c .number) o → {s t s′ t′ : St} {a b : Answer} → LowEquiv c quiet s t
+    → run concrete (asideCode o) s ≡ ends a s′ → run concrete (asideCode o) t ≡ ends b t′ → SameAnswer (c .number) a b × LowEquiv c quiet s′ t′
+aside-both c st o n {s} {t} {s′} {a = a} l e e′ = ended-like
+    (subst (λ u. ApartBy c st false (SameAnswer (c .number)) false (ends a s′) u) e′
+    (subst (λ u. ApartBy c st false (SameAnswer (c .number)) false u (run concrete (asideCode o) t)) e (p-aside c st o n .on s t l)))
+
+light-both : (c : Channel) (st : ℕ) (o : Light) {s t : St} → Other c o (s .0) → Other c o (t .0) → LowEquiv c quiet s t → SameLate c o s t
+light-both c st (opens e) {s} {t} n n′ l =
+    let y = aside-both c st (Open e) n l (open-run e s (l .left .rest .sized)) (open-run e t (l .right .rest .sized)) in
     record { like = y .1; same-told = λ f g. same-ans (y .0) f g }
-light-both c st (closes e) n {s} {t} l =
-    let y = ended-like (subst (λ u. ApartBy c st false (SameAnswer (c .number)) false
-    (ends (closeAnswer e (seen (closes e) s)) (done-at (closes e) s)) u) (close-run e t)
-    (subst (λ u. ApartBy c st false (SameAnswer (c .number)) false u (run concrete (asideCode (Close e)) t)) (close-run e s)
-    (p-aside c st (Close e) n .on s t l))) in
-    record { like = y .1; same-told = λ f g. same-ans (y .0) f g }
-light-both c st (asks-of q) n l = record { like = l; same-told = λ f g. told-alike (same-answers l q n) }
+light-both c st (closes e) {s} {t} n n′ l =
+    let y = aside-both c st (Close e) n l (close-run e s) (close-run e t) in record { like = y .1; same-told = λ f g. same-ans (y .0) f g }
+light-both c st (queues e bs) {s} {t} n n′ l =
+    let y = aside-both c st (Queue e bs) n l (queue-run e bs s) (queue-run e bs t) in record { like = y .1; same-told = λ f g. same-ans (y .0) f g }
+light-both c st (asks-of q) n n′ l = record { like = l; same-told = λ f g. told-alike (same-answers l q n) }
+light-both c st (stored p) {s} {t} n n′ l = record {
+  like = lent-like l (record {
+    left = stored-patch c s p n;
+    right = stored-patch c t p n′;
+    same = λ k o e. patch-like p (s .1) (t .1) k (l .bytes .long, e) .1;
+  });
+  same-told = λ f g. same (told 0);
+}
 
 -- ---- where a run stands at an access of the channel's own
 
+-- its state and what it was answered last
+abbrev restate : St → Ans Answer → Run → Run
+restate s a r = record { machine = record { way = r .machine .way; st = s .0; buf = s .1 }; access = r .access; answer = a; time = r .time }
+
 module _ {c : Channel} where
-  own-now : (share : Bool) (n : ℕ) {w : Two} → At c w → OwnSome c share n (w .first) → atOwn c (w .first) ≡ true
+  pub own-now : (share : Bool) (n : ℕ) {w : Two} → At c w → OwnSome c share n (w .first) → atOwn c (w .first) ≡ true
   own-now share n (at st i (end x l) q q′ h k k′ e) m = absurd (true≢false (sym (m .is)))
   own-now share n (at st i (both {s = s} {k = g} φ z p p′ l f) q q′ h k k′ e) m = absurd (true≢false (sym (m .is) ∙ own-no (c .number) g (m .state) p))
   own-now share n (at st i (left {s = s} {k = g} w p z f) q q′ h k k′ e) m = own-yes (c .number) g s w
@@ -92,125 +116,422 @@ module _ {c : Channel} where
       (true≢false (sym (m .is) ∙ own-no (c .number) g {i = i} (m .state) (λ _. y)))
   own-now share n (at st i (owns {s = s} {k = g} w w′ l f f′) q q′ h k k′ e) m = own-yes (c .number) g s w
 
-  -- what it was answered last does not matter
-  answers-anything : {w : Two} → At c w → atOwn c (w .first) ≡ true → (a : Ans Answer) → Few a
-      → At c (record { first = answering a (w .first); second = w .second; status = w .status })
-  answers-anything (at st i (end x l) q q′ h k k′ e) m a f = absurd (true≢false (sym m))
-  answers-anything (at st i (both {s = s} {k = g} φ z p p′ l y) q q′ h k k′ e) m a f = absurd (true≢false (sym m ∙ own-no (c .number) g s p))
-  answers-anything (at st i (left w p z y) q q′ h k k′ e) m a f = at st i (left w p z y) q q′ h (record { spares = k .spares; few = f; room = k .room }) k′ e
-  answers-anything (at st i (right w p z y) q q′ {a = b} {t = r} h k k′ e) m a f = absurd (true≢false (sym m ∙ past-no c i q b r p))
-  answers-anything (at st i (owns w w′ l y y′) q q′ h k k′ e) m a f = at st i (owns w w′ l y y′) q q′ tt
-      (record { spares = k .spares; few = f; room = k .room }) k′ e
+  -- what becomes of the channel's data and what it was answered last do not matter
+  touched-own : {w : Two} → At c w → atOwn c (w .first) ≡ true → {s : St} → Touched c quiet (stateOf (w .first)) s → (a : Ans Answer) → Few a
+      → Roomy (restate s a (w .first) .machine) → At c (record { first = restate s a (w .first); second = w .second; status = w .status })
+  touched-own (at st i (end x l) q q′ h k k′ e) m d a f r = absurd (true≢false (sym m))
+  touched-own (at st i (both {s = s} {k = g} φ z p p′ l y) q q′ h k k′ e) m d a f r = absurd (true≢false (sym m ∙ own-no (c .number) g s p))
+  touched-own (at st i (left w p z y) q q′ h k k′ e) m {s} d a f r = at st i (left w p (d .right) (λ v s u. y v s (touched-trans d u))) q q′ h
+      (record { spares = λ j. spares-put s (k .spares j); few = f; room = r }) k′ e
+  touched-own (at st i (right w p z y) q q′ {a = b} {t = τ} h k k′ e) m d a f r = absurd (true≢false (sym m ∙ past-no c i q b τ p))
+  touched-own (at st i (owns w w′ l y y′) q q′ h k k′ e) m {s} d a f r = at st i (owns w w′ (touch d l) y y′) q q′ tt
+      (record { spares = λ j. spares-put s (k .spares j); few = f; room = r }) k′ e
+
+  own-lawful : {w : Two} → At c w → atOwn c (w .first) ≡ true → Lawful (c .iso) quiet (stateOf (w .first)) × Roomy (w .first .machine)
+  own-lawful (at st i (end x l) q q′ h k k′ e) m = absurd (true≢false (sym m))
+  own-lawful (at st i (both {s = s} {k = g} φ z p p′ l y) q q′ h k k′ e) m = absurd (true≢false (sym m ∙ own-no (c .number) g s p))
+  own-lawful (at st i (left w p z y) q q′ h k k′ e) m = (z, k .room)
+  own-lawful (at st i (right w p z y) q q′ {a = b} {t = τ} h k k′ e) m = absurd (true≢false (sym m ∙ past-no c i q b τ p))
+  own-lawful (at st i (owns w w′ l y y′) q q′ h k k′ e) m = (l .left, k .room)
+
+module _ (c : Channel) where
+  -- ---- what the others get, where the channel's data alone is touched
+
+  touched-light : (o : Light) {s t : St} → Other c o (s .0) → Touched c quiet s t → Room (s .0 .wakes) → Touched c quiet (done-at o s) (done-at o t)
+  touched-light o {s} {t} n m r =
+      let l = like-sym (touch m (like-refl (m .left) r)) in
+      let y = light-both c 0 o n (still-other c (m .left) (but-reach c (m .but)) o n) l .like in
+      record {
+        left = y .left;
+        right = y .right;
+        but = record {
+          globals = y .but .globals;
+          allocator = y .but .allocator;
+          control = y .but .control;
+          paced = y .but .paced;
+          wakes = at-wakes s (m .left) ∙ m .but .wakes ∙ sym (at-wakes t (m .right));
+          requests = y .but .requests;
+          eps = y .but .eps;
+          lens = y .but .lens;
+          stamps = y .but .stamps;
+          own = y .but .own;
+        };
+        bytes = y .bytes;
+      }
+    where
+      at-wakes : (s : St) → Lawful (c .iso) quiet s → done-at o s .0 .wakes ≡ s .0 .wakes
+      at-wakes s l = by (taken o (seen o s))
+        where
+          by : (u : Bool) → cond u (done-by o s) s .0 .wakes ≡ s .0 .wakes
+          by true = wakes-same c o s l
+          by false = refl
+
+  record DoesTo (os : List Light) (us : List (Ans Answer)) (s t : St) : Type 0 where
+    after : St
+    does : Does c os us s after
+    touched : Touched c quiet t after
+
+  does-touched : {os : List Light} {us : List (Ans Answer)} {s t s′ : St} → Does c os us s t → Touched c quiet s s′ → Room (s .0 .wakes) → DoesTo os us s′ t
+  does-touched (did-none l) m r = record { after = _; does = did-none (m .right); touched = m }
+  does-touched {s′ = s′} (did-more {o = o} {s = s} {t = t} d k e) m r =
+      let n = still-other c (d .before) (but-reach c (m .but)) o (d .other) in
+      let x : Touched c quiet t (done-at o s′) = subst (λ t. Touched c quiet t (done-at o s′)) (sym (d .is)) (touched-light o (d .other) m r) in
+      let y = does-touched k x (subst Room (sym (does-wakes-same c (did-more d (did-none (d .after)) refl))) r) in
+      record {
+        after = y .after;
+        does = did-more (record {
+          before = m .right;
+          after = x .right;
+          other = n;
+          is = refl;
+          told = ap (answered o) (sym (seen-touched c m o (d .other))) ∙ d .told;
+        }) (y .does) e;
+        touched = y .touched;
+      }
 
 module _ (c : Channel) (share : Bool) (n : ℕ) where
   abbrev beside : ℕ → Run → Run → Two
   beside st r r′ = record { first = r; second = r′; status = st }
 
-  -- ---- the late run: as if the others' calls had come before
+  -- ---- room for wake-ups
 
-  light-few : {r : Run} → Busy c share n r → (o : Light) → Rooms (drive (callOf o) (r .machine) (r .machine .buf)) → Few (lit share n o r .answer)
-  light-few (busy-at p s g q a τ l f) o k =
-      subst (λ (r : Run). Few (r .answer)) (sym (lit-is c share n o p s g q a τ l)) (subst Rooms (light-drive c o p s g l) k .answer)
+  pub record Roomed (r : Run) : Type 0 where
+    pub machine : Roomy (r .machine)
+    pub few : Few (r .answer)
 
-  items-at : (is : List Item) (x y : Run) (st : ℕ) (r : Run) → mute y ≡ mute x → AtOwn c share n is x → Few (y .answer)
-      → At c (beside st (items share n is x) r) → At c (beside st (items share n is y) r)
-  items-at [] x y st r e h f k = subst (λ z. At c (beside st (answering (y .answer) z) r)) (sym e) (answers-anything k h (y .answer) f)
-  items-at (late.gets o ∷ is) x y st r e h f k = subst (λ z. At c (beside st (items share n is (lit share n o z)) r)) (sym e) k
-  items-at (goes-own v ∷ is) x y st r e h f k = subst (λ z. At c (beside st (items share n is (late.gone share n v z)) r)) (sym e) k
+  lit-roomed : (o : Light) (r : Run) → Roomed r → Roomed (lit share n o r)
+  lit-roomed (opens e) r k = let x = rooms (begin (aside (Open e))) (k .machine) (r .machine .buf) in record { machine = x .machine; few = x .answer }
+  lit-roomed (closes e) r k = let x = rooms (begin (aside (Close e))) (k .machine) (r .machine .buf) in record { machine = x .machine; few = x .answer }
+  lit-roomed (queues e bs) r k = let x = rooms (begin (aside (Queue e bs))) (k .machine) (r .machine .buf) in record { machine = x .machine; few = x .answer }
+  lit-roomed (asks-of q) r k = let x = rooms (question q) (k .machine) (r .machine .buf) in record { machine = x .machine; few = x .answer }
+  lit-roomed (stored p) r k = record { machine = rooms (question (pending 0)) (k .machine) (patched p (r .machine .buf)) .machine; few = k .few }
 
-  -- room for wake-ups, with the calls made later
-  abbrev Roomed : Run → Type 0
-  Roomed r = Roomy (r .machine)
+  lits-roomed : (os : List Light) (r : Run) → Roomed r → Roomed (lits share n os r)
+  lits-roomed [] r k = k
+  lits-roomed (o ∷ os) r k = lits-roomed os (lit share n o r) (lit-roomed o r k)
 
-  lit-room : {r : Run} → Busy c share n r → (o : Light) → Roomed r → Roomed (lit share n o r)
-  lit-room (busy-at p s g q a τ l f) o k =
-      subst Roomed (sym (lit-is c share n o p s g q a τ l)) (subst Rooms (light-drive c o p s g l) (rooms (callOf o) k (s .1)) .machine)
+  gone-roomed : (v : ℕ) (r : Run) → Roomed r → Roomed (late.gone share n v r)
+  gone-roomed v r k = let x = rooms (go v) (k .machine) (r .machine .buf) in record { machine = x .machine; few = x .answer }
 
-  late-at : (is : List Item) {r : Run} → Busy c share n r → (v : ℕ) → wide (r .machine .way) v ≡ false → AtOwn c share n is (late.gone share n v r)
-      → Roomed (late.gone share n v r)
-      → (st : ℕ) (z : Run) → At c (beside st (late.gone share n v (lits share n (lightsOf is) r)) z)
-      → At c (beside st (items share n is (late.gone share n v r)) z)
-  late-at [] b v w h m st z k = k
-  late-at (late.gets o ∷ is) {r} b v w h m st z k =
-      let x = crosses c share n b v w (own-some c share n (late.gone share n v r) (h .0)) o (h .1) in
-      let y = lit-room (x .stands) o m in
-      items-at is (late.gone share n v (lit share n o r)) (lit share n o (late.gone share n v r)) st z (x .muted)
-      (through-cross c share n is x (h .2)) (light-few (x .stands) o (rooms (callOf o) m (late.gone share n v r .machine .buf)))
-      (late-at is (lit-busy c share n b o) v (lit-wide c share n b o v w) (through-cross c share n is x (h .2)) (subst Roomed (x .muted) y) st z k)
-  late-at (goes-own u ∷ is) {r} b v w h m st z k =
-      let os = lightsOf is in
-      let s = own-some c share n (late.gone share n v r) (h .0) in
-      let g = gone-busy c share n b v w s in
-      let q = through-others c share n is (late.gone share n u (late.gone share n v r)) (h .2) in
-      let e = lits-cross c share n os q b v w s in
-      let x = subst (OwnSome c share n) e (lits-some os g s) in
-      let y = own-now share n k (record { state = x .state; is = x .is }) in
-      late-at is g u (h .1) (h .2) (rooms-gone u (late.gone share n v r) m) st z
-      (subst (λ x. At c (beside st (late.gone share n u x) z)) (sym e)
-      (step c share n (first (record { call = go u; lent = late.gone share n v (lits share n os r) .machine .buf })) k
-      (y, own-lent (own-lent-back c _)) .stand))
-    where
-      lits-some : (os : List Light) {x : Run} → Busy c share n x → OwnSome c share n x → OwnSome c share n (mute (lits share n os x))
-      lits-some [] b h = record { state = h .state; is = h .is }
-      lits-some (o ∷ os) b h = lits-some os (lit-busy c share n b o) (lit-some c share n b o h)
+  -- ---- the channel's own calls, at an access of its own
 
-      rooms-gone : (u : ℕ) (x : Run) → Roomed x → Roomed (late.gone share n u x)
-      rooms-gone u x k = rooms (go u) k (x .machine .buf) .machine
+  record Acts (p : Access) (g : ℕ → St → tree.Out St Answer) (q : Access) (a : Ans Answer) (τ : List ℕ) (s : St) (r : Run) : Type 0 where
+    after : St
+    answer : Ans Answer
+    is : r ≡ runOf true (asks p after g) q answer τ
+    touched : Touched c quiet s after
+    roomed : Roomed (runOf true (asks p s g) q a τ) → Roomed (runOf true (asks p after g) q answer τ)
+
+  module _ (p : Access) (g : ℕ → St → tree.Out St Answer) (q : Access) (a : Ans Answer) (τ : List ℕ) (s : St) (l : Lawful (c .iso) quiet s) where
+    abbrev here : Run
+    here = runOf true (asks p s g) q a τ
+
+    acts-aside : (o : Aside) (b : Buf) → OwnLent c s b → {y : tree.Out St Answer} → Finished (Touched c quiet (s .0, b)) y
+        → run concrete (asideCode o) (s .0, b) ≡ y → Acts p g q a τ s (alone share n (begin (aside o)) b here)
+    acts-aside o b h (fin x {s = t} m) e = record {
+      after = t;
+      answer = a;
+      is = ap (λ y. ownBy p a (y, timeAfter n sharing.apart (y .0) (s .0) τ)) goes;
+      touched = touched-trans (own-like l h) m;
+      roomed = λ k. record { machine = subst Rooms goes (rooms (begin (aside o)) (k .machine) b) .machine; few = k .few };
+    }
+      where
+        goes : drive (begin (aside o)) (machineOf (busy true (awaited p) g) s) b ≡ (ended x, machineOf (busy true (awaited p) g) t)
+        goes = aside-busy c s b (own-like l h .right) o true refl p g
+            ∙ ap (λ y. machine.beside calls driverOf (machineOf (busy true (awaited p) g) (s .0, b)) y) e
+
+    acts : (d : Call Config Op) (b : Buf) → Alone c d b here → Stays c d b here → Acts p g q a τ s (alone share n d b here)
+    acts (go v) b m (inl x) = record {
+      after = s;
+      answer = ended (Refused 1);
+      is = ap (λ y. runBy p (y, timeAfter n going (y .0) (s .0) τ)) (go-unfit here v b x);
+      touched = touched-refl l;
+      roomed = λ k. record { machine = k .machine; few = tt };
+    }
+    acts (go v) b m (inr x) = by (m .1)
+      where
+        by : OwnCall c (go v) here b → Acts p g q a τ s (alone share n (go v) b here)
+        by (own-row1 z) = record {
+          after = s;
+          answer = ended (Refused 1);
+          is = ap (λ y. runBy p (y, timeAfter n going (y .0) (s .0) τ)) (go-unfit here v b z);
+          touched = touched-refl l;
+          roomed = λ k. record { machine = k .machine; few = tt };
+        }
+        by (own-lent h) = record {
+          after = (s .0, b);
+          answer = ended (Refused 16);
+          is = ap (λ y. runBy p (y, timeAfter n going (y .0) (s .0) τ)) (go-wide c s b (own-like l h .right) true p g v x);
+          touched = own-like l h;
+          roomed = λ k. record { machine = rooms (question (pending 0)) (k .machine) b .machine; few = tt };
+        }
+    acts (begin o) b m x = by (m .0) (m .1) (m .2)
+      where
+        by : {o : Op} → OfChannel (c .number) o → Timely (busy true (awaited p) g) o → OwnCall c (begin o) here b
+            → Acts p g q a τ s (alone share n (begin o) b here)
+        by (polls e v k) y z = absurd y
+        by (passes o k) y (own-row1 z) = record {
+          after = s;
+          answer = a;
+          is = ap (λ y. ownBy p a (y, timeAfter n sharing.apart (y .0) (s .0) τ)) (begin-unfit here (aside o) b z);
+          touched = touched-refl l;
+          roomed = λ k. k;
+        }
+        by (passes o k) y (own-lent h) = acts-aside o b h (own-finishes c o k (s .0, b) (own-like l h .right)) refl
+    acts (start k) b m x = by (startRow k b) refl
+      where
+        by : (r : ℕ) → startRow k b ≡ r → Acts p g q a τ s (alone share n (start k) b here)
+        by zero z = absurd (m z)
+        by (suc r) z = record {
+          after = s;
+          answer = a;
+          is = ap (λ r. ownBy p a (
+            machine.started calls driverOf (λ s. s) k r (machineOf (busy true (awaited p) g) s) b,
+            timeAfter n sharing.starting (machine.started calls driverOf (λ s. s) k r (machineOf (busy true (awaited p) g) s) b .0) (s .0) τ,
+          )) z;
+          touched = touched-refl l;
+          roomed = λ k. k;
+        }
+    acts (question d) b m x = record {
+      after = s;
+      answer = a;
+      is = ap (λ b. alone share n (question d) b here) m;
+      touched = touched-refl l;
+      roomed = λ k. k;
+    }
+
+  -- ---- the late run: as if what the others get had come before
+
+  through-own : (is : List Item) (r : Run) → AtOwn c share n is r → atOwn c r ≡ true
+  through-own [] r h = h
+  through-own (late.gets o ∷ is) r h = h .0
+  through-own (goes-own v ∷ is) r h = h .0
+  through-own (stores-own b ∷ is) r h = h .0
+  through-own (calls-own e ∷ is) r h = h .0
+
+  record LateItems (is : List Item) (us : List (Ans Answer)) (r : Run) (st : ℕ) (z : Run) : Type 0 where
+    stand : At c (beside st (items share n is r) z)
+    told : itemAnswers share n is r ≡ us
+    free : FreeWay c (items share n is r .machine .way)
+
+  -- what it was answered last does not matter
+  at-muted : (x y : Run) (st : ℕ) (z : Run) → mute y ≡ mute x → OwnSome c share n x → Few (y .answer) → At c (beside st x z) → At c (beside st y z)
+  at-muted x y st z e h f k =
+      let m = own-now share n k h in
+      let l = own-lawful k m in
+      subst (λ r. At c (beside st (answering (y .answer) r) z)) (sym e) (touched-own k m (touched-refl (l .0)) (y .answer) f (l .1))
+
+  module _ (st : ℕ) (z : Run) where
+    -- where the channel's data alone is touched
+    touched-lits : (p : Access) (g : ℕ → St → tree.Out St Answer) (q : Access) (a b : Ans Answer) (τ : List ℕ) {os : List Light} {us : List (Ans Answer)}
+        {s s′ t t′ : St} → Does c os us s t → Does c os us s′ t′ → Touched c quiet t t′ → Roomed (runOf true (asks p s′ g) q b τ)
+        → OwnSome c share n (runOf true (asks p s g) q a τ) → FreeWay c (busy true (awaited p) g)
+        → At c (beside st (lits share n os (runOf true (asks p s g) q a τ)) z) → At c (beside st (lits share n os (runOf true (asks p s′ g) q b τ)) z)
+    touched-lits p g q a b τ {os} {us} {s} {s′} {t} {t′} d d′ m k h f w =
+        let x = lits share n os (runOf true (asks p s g) q a τ) in
+        let y = lits share n os (runOf true (asks p s′ g) q b τ) in
+        let e : mute x ≡ mute (runOf true (asks p t g) q a τ) = does-lits c share n p g q a τ d in
+        let e′ : mute y ≡ mute (runOf true (asks p t′ g) q b τ) = does-lits c share n p g q b τ d′ in
+        let o = own-now share n w (lits-own c share n (gets-at p g q a τ d f) h) in
+        let r = lits-roomed os (runOf true (asks p s′ g) q b τ) k in
+        subst (λ r. At c (beside st (answering (y .answer) r) z))
+        (ap (λ (r : Run). restate t′ (told 0) r) e ∙ sym e′)
+        (touched-own w o (subst (λ (r : Run). Touched c quiet (stateOf r) t′) (sym e) m) (y .answer) (r .few)
+        (subst (λ (r : Run). Roomy (r .machine)) (e′ ∙ sym (ap (λ (r : Run). restate t′ (told 0) r) e)) (r .machine)))
+
+    late-items : (is : List Item) {us : List (Ans Answer)} {r : Run} → Gets c share n (lightsOf is) us r → AtOwn c share n is r → Roomed r
+        → At c (beside st (lits share n (lightsOf is) r) z) → LateItems is us r st z
+    late-items [] (gets-at p g q a τ (did-none l) f) h k w = record { stand = w; told = refl; free = f }
+    late-items (late.gets o ∷ is) (gets-at p g q a τ {s = s} (did-more {a = b} {us = us} {t = t} d y e) f) h k w =
+        let r = runOf true (asks p s g) q a τ in
+        let x = did-lit c share n p g q a τ d in
+        let v = late-items is (subst (Gets c share n (lightsOf is) us) (sym x) (gets-at p g q (lastAnswer o s a) τ y f)) (h .1) (lit-roomed o r k) w in
+        record {
+          stand = v .stand;
+          told = ap (answersBy o (lit share n o r .answer)) (v .told) ∙ ap (λ (z : Run). answersBy o (z .answer) us) x
+              ∙ crossing.same-answers o s a us ∙ ap (λ y. answersBy o y us) (d .told) ∙ e;
+          free = v .free;
+        }
+    late-items (goes-own v ∷ is) {us} {r} y h k w =
+        let os = lightsOf is in
+        let u = own-some c share n (late.gone share n v r) (through-own is (late.gone share n v r) (h .3)) in
+        let x = crosses c share n y v (h .1) u (λ b. own-some c share n _ (h .2 b)) in
+        let m = own-now share n w (lits-own c share n y (own-some c share n r (h .0))) in
+        let s = step c share n (first (record { call = go v; lent = lits share n os r .machine .buf })) w (m, own-lent (own-lent-back c _)) .stand in
+        let o = subst (OwnSome c share n) (x .muted) (muted-own (lits-own c share n (x .still) u)) in
+        let q = late-items is (x .still) (h .3) (gone-roomed v r k)
+        (at-muted (late.gone share n v (lits share n os r)) (lits share n os (late.gone share n v r)) st z (x .muted) (record { state = o .state; is = o .is })
+        (lits-roomed os (late.gone share n v r) (gone-roomed v r k) .few) s) in
+        record { stand = q .stand; told = q .told; free = q .free }
+      where
+        muted-own : {x : Run} → OwnSome c share n x → OwnSome c share n (mute x)
+        muted-own h = record { state = h .state; is = h .is }
+    late-items (stores-own b ∷ is) (gets-at p g q a τ {s = s} d f) h k w =
+        let m = own-like (does-before c d) (h .1) in
+        let y = does-touched c d m (room (k .machine)) in
+        let x : Roomed (runOf true (asks p (s .0, b) g) q a τ) = record { machine = rooms (question (pending 0)) (k .machine) b .machine; few = k .few } in
+        let v = late-items is (gets-at p g q a τ (y .does) f) (h .2) x
+        (touched-lits p g q a a τ d (y .does) (y .touched) x (own-some c share n (runOf true (asks p s g) q a τ) (h .0)) f w) in
+        record { stand = v .stand; told = v .told; free = v .free }
+    late-items (calls-own e ∷ is) {us} (gets-at p g q a τ {s = s} d f) h k w =
+        let r = runOf true (asks p s g) q a τ in
+        let m = acts p g q a τ s (does-before c d) (e .call) (e .lent) (h .1) (h .2) in
+        let y = does-touched c d (m .touched) (room (k .machine)) in
+        let x : Roomed (runOf true (asks p (m .after) g) q (m .answer) τ) = m .roomed k in
+        let v = late-items is (gets-at p g q (m .answer) τ (y .does) f) (subst (AtOwn c share n is) (m .is) (h .3)) x
+        (touched-lits p g q a (m .answer) τ d (y .does) (y .touched) x (own-some c share n r (h .0)) f w) in
+        let y = subst (λ r. LateItems is us r st z) (sym (m .is)) v in
+        record { stand = y .stand; told = y .told; free = y .free }
 
   -- ---- both, up to the continue
 
-  abbrev Reached : ℕ → ℕ → ℕ → List Light → Run → Run → Type 0
-  Reached st v v′ os x y = At c (beside st (late.gone share n v (lits share n os x)) (late.gone share n v′ (lits share n os y)))
-      × AllSame (c .number) (litAnswers share n os x) (litAnswers share n os y)
+  module _ (st : ℕ) (p : Access) (g g′ : ℕ → St → tree.Out St Answer) where
+    record Twins (os : List Light) (s t : St) : Type 0 where
+      us : List (Ans Answer)
+      us′ : List (Ans Answer)
+      after : St
+      after′ : St
+      does : Does c os us s after
+      does′ : Does c os us′ t after′
+      like : LowEquiv c quiet after after′
+      same-told : AllSame (c .number) us us′
+      room : Roomy (machineOf (busy true (awaited p) g) after)
+      room′ : Roomy (machineOf (busy true (awaited p) g′) after′)
 
-  module _ (st : ℕ) (p : Access) (g g′ : ℕ → St → tree.Out St Answer) (w : Shared true (c .number) p g) (w′ : Shared true (c .number) p g′)
-      (f : (v v′ : ℕ) (s t : St) → Brings (c .number) st p v v′ → LowEquiv c quiet s t → ApartBy c st true (SameAnswer (c .number)) true (g v s) (g′ v′ t))
-      (v v′ : ℕ) (in-width : wide (busy true (awaited p) g) v ≡ false) (in-width′ : wide (busy true (awaited p) g′) v′ ≡ false)
-      (brings : Brings (c .number) st p v v′) where
-    lits-both : (os : List Light) → Others c share n os → {s t : St} → LowEquiv c quiet s t → (q q′ : Access) {a a′ : Ans Answer} {τ τ′ : List ℕ}
-        → Orderly true (asks p s g) a → Orderly true (asks p t g′) a′ → τ ≡ τ′ → Reached st v v′ os (runOf true (asks p s g) q a τ)
-        (runOf true (asks p t g′) q′ a′ τ′)
-    lits-both [] m {s} {t} l q q′ k k′ e = (
-      goes-by c share n st true (both quiet tt w w′ l f) q q′ k k′ e v v′ (s .1) (t .1)
-          (own-no (c .number) g s w, own-no (c .number) g′ t w′, go-on in-width in-width′ brings (lent-back c s t)) .stand,
-      none,
-    )
-    lits-both (o ∷ os) m {s} {t} l q q′ {a} {a′} {τ} {τ′} k k′ e =
-        let y = light-both c st o (m .0) l in
-        let r : Rooms (answered o (seen o s), machineOf (busy true (awaited p) g) (done-at o s)) = subst Rooms (light-drive c o p s g (l .left))
-        (rooms (callOf o) (k .room) (s .1)) in
-        let r′ : Rooms (answered o (seen o t), machineOf (busy true (awaited p) g′) (done-at o t)) = subst Rooms (light-drive c o p t g′ (l .right))
-        (rooms (callOf o) (k′ .room) (t .1)) in
-        let z = lits-both os (m .1) (y .like) q q′ {τ = τ} {τ′ = τ′}
-        (record { spares = λ j. spares-put (done-at o s) (k .spares j); few = r .answer; room = r .machine })
-        (record { spares = λ j. spares-put (done-at o t) (k′ .spares j); few = r′ .answer; room = r′ .machine }) e in
-        subst (λ x. Next x (lit share n o (runOf true (asks p t g′) q′ a′ τ′))) (sym (lit-is c share n o p s g q a τ (l .left)))
-        (subst (λ x. Next (runOf true (asks p (done-at o s) g) q (answered o (seen o s)) τ) x) (sym (lit-is c share n o p t g′ q′ a′ τ′ (l .right)))
-        (z .0, more (y .same-told (r .answer) (r′ .answer)) (z .1)))
-      where
-        Next : Run → Run → Type 0
-        Next x y = At c (beside st (late.gone share n v (lits share n os x)) (late.gone share n v′ (lits share n os y)))
-            × AllSame (c .number) (x .answer ∷ litAnswers share n os x) (y .answer ∷ litAnswers share n os y)
+    all-by : (o : Light) {a b : Ans Answer} {us vs : List (Ans Answer)} → SameAns (c .number) a b → AllSame (c .number) us vs
+        → AllSame (c .number) (answersBy o a us) (answersBy o b vs)
+    all-by (opens e) h k = more h k
+    all-by (closes e) h k = more h k
+    all-by (queues e bs) h k = more h k
+    all-by (asks-of q) h k = more h k
+    all-by (stored w) h k = k
+
+    -- of what it is answered, a store apart
+    few-of : (o : Light) (s : St) (a : Ans Answer) → Few (lastAnswer o s a) → Few (answered o (seen o s))
+    few-of (opens e) s a h = h
+    few-of (closes e) s a h = h
+    few-of (queues e bs) s a h = h
+    few-of (asks-of q) s a h = h
+    few-of (stored w) s a h = tt
+
+    lit-told : (k : ℕ → St → tree.Out St Answer) (o : Light) (s : St) → Lawful (c .iso) quiet s → Roomy (machineOf (busy true (awaited p) k) s)
+        → Few (answered o (seen o s)) × Roomy (machineOf (busy true (awaited p) k) (done-at o s))
+    lit-told k o s l r =
+        let x = lit-roomed o (runOf true (asks p s k) p (told 0) []) (record { machine = r; few = tt }) in
+        let y = subst Roomed (lit-is c share n o p s k p (told 0) [] l) x in
+        (few-of o s (told 0) (y .few), y .machine)
+
+    twins : (os : List Light) (q : Access) (a : Ans Answer) (τ : List ℕ) {s t : St} → OfOthers c share n os (runOf true (asks p t g′) q a τ)
+        → LowEquiv c quiet s t → Roomy (machineOf (busy true (awaited p) g) s) → Roomy (machineOf (busy true (awaited p) g′) t) → Twins os s t
+    twins [] q a τ {s} {t} m l r r′ = record {
+      us = [];
+      us′ = [];
+      after = s;
+      after′ = t;
+      does = did-none (l .left);
+      does′ = did-none (l .right);
+      like = l;
+      same-told = none;
+      room = r;
+      room′ = r′;
+    }
+    twins (o ∷ os) q a τ {s} {t} m l r r′ =
+        let i = still-other c (l .right) (but-reach c (like-sym l .but)) o (m .0) in
+        let y = light-both c st o i (m .0) l in
+        let x = lit-told g o s (l .left) r in
+        let x′ = lit-told g′ o t (l .right) r′ in
+        let z = twins os q (lastAnswer o t a) τ (subst (OfOthers c share n os) (lit-is c share n o p t g′ q a τ (l .right)) (m .1)) (y .like) (x .1) (x′ .1) in
+        record {
+          us = answersBy o (answered o (seen o s)) (z .us);
+          us′ = answersBy o (answered o (seen o t)) (z .us′);
+          after = z .after;
+          after′ = z .after′;
+          does = did-more (record { before = l .left; after = y .like .left; other = i; is = refl; told = refl }) (z .does) refl;
+          does′ = did-more (record { before = l .right; after = y .like .right; other = m .0; is = refl; told = refl }) (z .does′) refl;
+          like = z .like;
+          same-told = all-by o (y .same-told (x .0) (x′ .0)) (z .same-told);
+          room = z .room;
+          room′ = z .room′;
+        }
 
   -- ---- a late turn
 
-  first-by : {w : Two} → At c w → FreeWay c (w .first .machine .way) → (v v′ : ℕ) (is : List Item) → Continues c (w .status) v v′ (w .first) (w .second)
-      → AtOwn c share n is (late.gone share n v (w .first)) → At c (later share n (first-late v v′ is) w) × Heard c share n (first-late v v′ is) w
-  first-by (at st i (end x l) q q′ h k k′ e) fr v v′ is m o = absurd (m .serving)
-  first-by (at st true (both {q = p} {s = s} {t = t} {k = g} {k′ = g′} quiet z w w′ l f) q q′ {a = a} {a′ = a′} {t = τ} {t′ = τ′} h k k′ e) fr v v′ is m o =
-      let b : Busy c share n (runOf true (asks p s g) q a τ) = busy-at p s g q a τ (l .left) fr in
-      let y = lits-both st p g g′ w w′ f v v′ (m .within) (m .within′) (m .brings) (lightsOf is)
-      (through-others c share n is (late.gone share n v (runOf true (asks p s g) q a τ)) o) l q q′ k k′ e in (
-        late-at is b v (m .within) o (rooms (go v) (k .room) (s .1) .machine) st
-            (late.gone share n v′ (lits share n (lightsOf is) (runOf true (asks p t g′) q′ a′ τ′))) (y .0),
-        subst (λ x. AllSame (c .number) x (litAnswers share n (lightsOf is) (runOf true (asks p t g′) q′ a′ τ′)))
-            (sym (item-answers c share n is b v (m .within) o)) (y .1),
-      )
-  first-by (at st true (both (mid y j) z w w′ l f) q q′ h k k′ e) fr v v′ is m o = absurd z
-  first-by (at st false (both φ z w w′ l f) q q′ h k k′ e) fr v v′ is m o = absurd (m .serving)
-  first-by (at st i (left {s = s} {k = g} w p z f) q q′ h k k′ e) fr v v′ is m o = absurd (true≢false (sym (own-yes (c .number) g s w) ∙ m .shared))
-  first-by (at st i (right {t = t} {k = g} w p z f) q q′ h k k′ e) fr v v′ is m o = absurd (true≢false (sym (own-yes (c .number) g t w) ∙ m .shared′))
-  first-by (at st i (owns {s = s} {k = g} w w′ l f f′) q q′ h k k′ e) fr v v′ is m o = absurd (true≢false (sym (own-yes (c .number) g s w) ∙ m .shared))
+  -- what the others get, in both before the continue
+  pub record Reach (v v′ : ℕ) (os : List Light) (w : Two) : Type 0 where
+    pub us : List (Ans Answer)
+    pub us′ : List (Ans Answer)
+    pub gets : Gets c share n os us (w .first)
+    pub gets′ : Gets c share n os us′ (w .second)
+    pub same-told : AllSame (c .number) us us′
+    pub stand : At c (record {
+      first = late.gone share n v (lits share n os (w .first));
+      second = late.gone share n v′ (lits share n os (w .second));
+      status = w .status;
+    })
+    pub roomed : Roomed (w .first)
+    pub free′ : FreeWay c (late.gone share n v′ (lits share n os (w .second)) .machine .way)
+
+  pub reach : {w : Two} → At c w → FreeWay c (w .first .machine .way) → FreeWay c (w .second .machine .way) → (v v′ : ℕ) (os : List Light)
+      → Continues c (w .status) v v′ (w .first) (w .second) → OfOthers c share n os (w .second) → Reach v v′ os w
+  reach (at st i (end x l) q q′ h k k′ e) fr fr′ v v′ os m o = absurd (m .serving)
+  reach (at st true (both {q = p} {s = s} {t = t} {k = g} {k′ = g′} quiet z w w′ l f) q q′ {a = a} {a′ = a′} {t = τ} {t′ = τ′} h k k′ e) fr fr′ v v′ os m o =
+      let y = twins st p g g′ os q′ a′ τ′ o l (k .room) (k′ .room) in
+      let d : late.gone share n v (lits share n os (runOf true (asks p s g) q a τ)) ≡ late.gone share n v (runOf true (asks p (y .after) g) q a τ) =
+      ap (λ z. late.gone share n v z) (does-lits c share n p g q a τ (y .does)) in
+      let d′ : late.gone share n v′ (lits share n os (runOf true (asks p t g′) q′ a′ τ′))
+      ≡ late.gone share n v′ (runOf true (asks p (y .after′) g′) q′ a′ τ′) = ap (λ z. late.gone share n v′ z) (does-lits c share n p g′ q′ a′ τ′ (y .does′)) in
+      let b = goes-by c share n st true (both quiet tt w w′ (y .like) f) q q′ {a = a} {a′ = a′}
+      (record { spares = λ j. spares-put (y .after) (k .spares j); few = k .few; room = y .room })
+      (record { spares = λ j. spares-put (y .after′) (k′ .spares j); few = k′ .few; room = y .room′ }) e v v′ (y .after .1) (y .after′ .1)
+      (own-no (c .number) g (y .after) w, own-no (c .number) g′ (y .after′) w′, go-on (m .within) (m .within′) (m .brings) (lent-back c (y .after) (y .after′))) .stand in
+      record {
+        us = y .us;
+        us′ = y .us′;
+        gets = gets-at p g q a τ (y .does) fr;
+        gets′ = gets-at p g′ q′ a′ τ′ (y .does′) fr′;
+        same-told = y .same-told;
+        stand = subst (λ x. At c (beside st x (late.gone share n v′ (lits share n os (runOf true (asks p t g′) q′ a′ τ′))))) (sym d)
+            (subst (λ x. At c (beside st (late.gone share n v (runOf true (asks p (y .after) g) q a τ)) x)) (sym d′) b);
+        roomed = record { machine = k .room; few = k .few };
+        free′ = subst (λ (z : Run). FreeWay c (z .machine .way)) (sym d′) (drive-free c (go v′) (machineOf (busy true (awaited p) g′) (y .after′)) (y .after′ .1) fr′
+            (λ _. does-after c (y .does′)));
+      }
+  reach (at st true (both (mid y j) z w w′ l f) q q′ h k k′ e) fr fr′ v v′ os m o = absurd z
+  reach (at st false (both φ z w w′ l f) q q′ h k k′ e) fr fr′ v v′ os m o = absurd (m .serving)
+  reach (at st i (left {s = s} {k = g} w p z f) q q′ h k k′ e) fr fr′ v v′ os m o = absurd (true≢false (sym (own-yes (c .number) g s w) ∙ m .shared))
+  reach (at st i (right {t = t} {k = g} w p z f) q q′ h k k′ e) fr fr′ v v′ os m o = absurd (true≢false (sym (own-yes (c .number) g t w) ∙ m .shared′))
+  reach (at st i (owns {s = s} {k = g} w w′ l f f′) q q′ h k k′ e) fr fr′ v v′ os m o = absurd (true≢false (sym (own-yes (c .number) g s w) ∙ m .shared))
+
+  pub record LateDone (v v′ : ℕ) (is : List Item) (w : Two) : Type 0 where
+    pub stand : At c (later share n (first-late v v′ is) w)
+    pub heard : Heard c share n (first-late v v′ is) w
+    pub free : FreeWay c (items share n is (late.gone share n v (w .first)) .machine .way)
+    pub free′ : FreeWay c (late.gone share n v′ (lits share n (lightsOf is) (w .second)) .machine .way)
+
+  pub first-by : {w : Two} → At c w → FreeWay c (w .first .machine .way) → FreeWay c (w .second .machine .way) → (v v′ : ℕ) (is : List Item)
+      → Continues c (w .status) v v′ (w .first) (w .second) → Late c share n v is (w .first) (w .second) → LateDone v v′ is w
+  first-by {w} a fr fr′ v v′ is m o =
+      let os = lightsOf is in
+      let r = w .first in
+      let r′ = late.gone share n v′ (lits share n os (w .second)) in
+      let y = reach a fr fr′ v v′ os m (o .others) in
+      let u = own-some c share n (late.gone share n v r) (through-own is (late.gone share n v r) (o .own)) in
+      let x = crosses c share n (y .gets) v (m .within) u (λ b. own-some c share n (late.gone share n v (lits share n os r)) (o .unseen b)) in
+      let h = subst (OwnSome c share n) (x .muted) (muted-own (lits-own c share n (x .still) u)) in
+      let k = gone-roomed v r (y .roomed) in
+      let z = late-items (w .status) r′ is (x .still) (o .own) k
+      (at-muted (late.gone share n v (lits share n os r)) (lits share n os (late.gone share n v r)) (w .status) r′ (x .muted)
+      (record { state = h .state; is = h .is }) (lits-roomed os (late.gone share n v r) k .few) (y .stand)) in
+      record {
+        stand = z .stand;
+        heard = subst (λ us. AllSame (c .number) us (litAnswers share n os (w .second))) (sym (z .told))
+            (subst (λ us. AllSame (c .number) (y .us) us) (sym (gets-answers c share n (y .gets′))) (y .same-told));
+        free = z .free;
+        free′ = y .free′;
+      }
+    where
+      muted-own : {x : Run} → OwnSome c share n x → OwnSome c share n (mute x)
+      muted-own h = record { state = h .state; is = h .is }
 
   -- either run may be named first
   turned-round : {w : Two} → At c w → {v v′ : ℕ} → Continues c (w .status) v v′ (w .first) (w .second) → Continues c (w .status) v′ v (w .second) (w .first)
@@ -339,47 +660,12 @@ module _ (c : Channel) (share : Bool) (n : ℕ) where
     other = alone-free (e .call) (e .lent) (w .second) (f .other) (alone-lent (e .call) (w .second) (e .lent) (first-fine (at-swap a)) m);
   }
 
-  busy-of : {w : Two} → At c w → FreeWay c (w .first .machine .way) → Serving (w .first .machine .way) → Busy c share n (w .first)
-  busy-of (at st i {o = ends a s} l q q′ h k k′ e) f v = absurd v
-  busy-of (at st true {o = asks p s g} l q q′ {a = a} {t = τ} h k k′ e) f v = busy-at p s g q a τ (lawful-busy l) f
-  busy-of (at st false {o = asks p s g} l q q′ h k k′ e) f v = absurd v
-
-  busy-way : {r : Run} → Busy c share n r → FreeWay c (r .machine .way)
-  busy-way (busy-at p s g q a τ l f) = f
-
-  busy-fine : {r : Run} → Busy c share n r → Fine r
-  busy-fine (busy-at p s g q a τ l f) = l
-
-  lits-busy : (os : List Light) {r : Run} → Busy c share n r → Busy c share n (lits share n os r)
-  lits-busy [] b = b
-  lits-busy (o ∷ os) b = lits-busy os (lit-busy c share n b o)
-
-  items-busy : (is : List Item) {r : Run} → Busy c share n r → AtOwn c share n is r → Busy c share n (items share n is r)
-  items-busy [] b h = b
-  items-busy (late.gets o ∷ is) b h = items-busy is (lit-busy c share n b o) (h .2)
-  items-busy (goes-own v ∷ is) {r} b h = items-busy is
-      (gone-busy c share n b v (h .1) (own-some c share n (late.gone share n v r) (through-own c share n is (late.gone share n v r) (h .2)))) (h .2)
-
-  late-free : {r : Run} → Busy c share n r → (v : ℕ) → wide (r .machine .way) v ≡ false → (is : List Item) → AtOwn c share n is (late.gone share n v r)
-      → FreeWay c (items share n is (late.gone share n v r) .machine .way)
-  late-free {r} b v w is h = busy-way (items-busy is
-      (gone-busy c share n b v w (own-some c share n (late.gone share n v r) (through-own c share n is (late.gone share n v r) h))) h)
-
-  early-free : {r : Run} → Busy c share n r → (v : ℕ) (os : List Light) → FreeWay c (late.gone share n v (lits share n os r) .machine .way)
-  early-free {r} b v os =
-      let z = lits-busy os b in
-      called-free (go v) (lits share n os r .machine .buf) (lits share n os r) (busy-way z) (λ _. busy-fine z)
-
   pub later-free : (t : Later) (w : Two) → At c w → MayLate c share n t w → FreeBoth w → FreeBoth (later share n t w)
   later-free (timely t) w a m f = turn-free t w a m f
-  later-free (first-late v v′ is) w a m f = record {
-    one = late-free (busy-of a (f .one) (m .0 .serving)) v (m .0 .within) is (m .1);
-    other = early-free (busy-of (at-swap a) (f .other) (turned-round a (m .0) .serving)) v′ (lightsOf is);
-  }
-  later-free (second-late v v′ is) w a m f = record {
-    one = early-free (busy-of a (f .one) (m .0 .serving)) v (lightsOf is);
-    other = late-free (busy-of (at-swap a) (f .other) (turned-round a (m .0) .serving)) v′ (m .0 .within′) is (m .1);
-  }
+  later-free (first-late v v′ is) w a m f =
+      let y = first-by a (f .one) (f .other) v v′ is (m .0) (m .1) in record { one = y .free; other = y .free′ }
+  later-free (second-late v v′ is) w a m f =
+      let y = first-by (at-swap a) (f .other) (f .one) v′ v is (turned-round a (m .0)) (m .1) in record { one = y .free′; other = y .free }
 
   pub turns-free : (ts : List Turn) (w : Two) → At c w → Allowed c share n ts w → FreeBoth w → FreeBoth (after share n ts w)
   turns-free [] w a m f = f
@@ -408,12 +694,12 @@ module _ (c : Channel) (share : Bool) (n : ℕ) where
   pub late-step : (t : Later) {w : Two} → At c w → FreeBoth w → MayLate c share n t w → Stepped t w
   late-step (timely t) a f m = let y = step c share n t a m in record { stand = y .stand; heard = tt; after-it = y .after-it }
   late-step (first-late v v′ is) a f m =
-      let y = first-by a (f .one) v v′ is (m .0) (m .1) in
-      record { stand = y .0; heard = y .1; after-it = stood (y .0) }
+      let y = first-by a (f .one) (f .other) v v′ is (m .0) (m .1) in
+      record { stand = y .stand; heard = y .heard; after-it = stood (y .stand) }
   late-step (second-late v v′ is) {w} a f m =
-      let y = first-by (at-swap a) (f .other) v′ v is (turned-round a (m .0)) (m .1) in
-      let z = at-swap (y .0) in
-      record { stand = z; heard = all-round (y .1); after-it = stood z }
+      let y = first-by (at-swap a) (f .other) (f .one) v′ v is (turned-round a (m .0)) (m .1) in
+      let z = at-swap (y .stand) in
+      record { stand = z; heard = all-round (y .heard); after-it = stood z }
 
   every-late : (ts : List Later) {w : Two} → At c w → FreeBoth w → AllowedLate c share n ts w → EveryLate c share n ts w × At c (afterAll share n ts w)
   every-late [] a f m = (tt, a)

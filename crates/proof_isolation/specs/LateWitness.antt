@@ -4,22 +4,26 @@
 -- (`premise-late`), which says of them what it says (`holds-late`)
 use mathlib.Core.Bool.{Bool, true, false, not, true≢false}
 use mathlib.Core.List.{List, [], _∷_}
-use mathlib.Core.Logic.{_≢_}
+use mathlib.Core.Logic.{_≢_, inl, inr}
 use mathlib.Core.Path.{_≡_, refl, ap, subst, sym}
 use Prim.Native.Nat.{ℕ}
 use native.Mathlib.Omega.{arith}
-use lib.ListN.{getD, drop}
+use lib.ListN.{length, getD, drop}
 use Rattle.regs.specs.declared.Dir.the-variants.{Out}
 use Rattle.state.specs.Driver.{Driver, key}
 use Rattle.script.specs.Statics.{flag}
 use Rattle.script.specs.Answers.{Answer}
-use Rattle.script.specs.Machine.{go, overruns, Way, idle, busy}
+use Rattle.script.specs.Calls.{aside, Open, Close, Queue}
+use Rattle.script.specs.Machine.{begin, go, question, overruns, Way, idle, busy}
 use Rattle.proof_book.specs.Computing.{computing}
 use Rattle.proof_isolation.specs.EqualExcept.{Channel}
 use Rattle.proof_isolation.specs.Whose.{own}
-use Rattle.proof_isolation.specs.Schedule.{Run, Two, wide, atOwn}
+use Rattle.proof_isolation.specs.Schedule.{Run, Two, storedIn, wide, atOwn}
 use Rattle.proof_isolation.specs.Undisturbed.{Session}
-use Rattle.proof_isolation.specs.Late.{opens, closes, asks-of, callOf, Item, gets, goes-own, first-late, Serving, Other, AtOwn}
+use Rattle.proof_isolation.specs.Stores.{patched}
+use Rattle.proof_isolation.specs.Late.{Light, opens, closes, queues, asks-of, Item, gets, goes-own, stores-own, calls-own, lightsOf, lit, first-late}
+use Rattle.proof_isolation.specs.Late as late
+use Rattle.proof_isolation.specs.Late.{Serving, AnyStore, AtOwn}
 use Rattle.proof_isolation.specs.Late.{MayLate}
 use Rattle.proof_isolation.specs.Late.{LateSession, AllOpenLate, UndisturbedLate}
 use Rattle.proof_isolation.specs.LateRunsLaws.{undisturbed-late}
@@ -51,9 +55,26 @@ serving-is idle h = absurd (true≢false (sym h))
 serving-is (busy true a k) h = tt
 serving-is (busy false a k) h = absurd (true≢false (sym h))
 
+-- as it is computed
+abbrev quickLit : Light → Run → Run
+quickLit (opens e) r = quickly (begin (aside (Open e))) r
+quickLit (closes e) r = quickly (begin (aside (Close e))) r
+quickLit (queues e bs) r = quickly (begin (aside (Queue e bs))) r
+quickLit (asks-of q) r = quickly (question q) r
+quickLit (late.stored p) r = storedIn (patched p (r .machine .buf)) r
+
+lit-quick : (o : Light) (r : Run) → lit false 0 o r ≡ quickLit o r
+lit-quick (opens e) r = quickly-is (begin (aside (Open e))) r
+lit-quick (closes e) r = quickly-is (begin (aside (Close e))) r
+lit-quick (queues e bs) r = quickly-is (begin (aside (Queue e bs))) r
+lit-quick (asks-of q) r = quickly-is (question q) r
+lit-quick (late.stored p) r = refl
+
 abbrev ownFlags : List Item → Run → List ℕ
 ownFlags [] r = flag (own 1 (r .access) (r .machine)) ∷ []
-ownFlags (gets o ∷ is) r = flag (own 1 (r .access) (r .machine)) ∷ (let z = quickly (callOf o) r in ownFlags is z)
+ownFlags (gets o ∷ is) r = flag (own 1 (r .access) (r .machine)) ∷ (let z = quickLit o r in ownFlags is z)
+ownFlags (stores-own b ∷ is) r = []
+ownFlags (calls-own e ∷ is) r = []
 ownFlags (goes-own v ∷ is) r =
     flag (own 1 (r .access) (r .machine)) ∷ flag (not (wide (r .machine .way) v)) ∷ (let z = quickly (go v) r in ownFlags is z)
 
@@ -61,6 +82,8 @@ abbrev ownOnes : List Item → List ℕ
 ownOnes [] = 1 ∷ []
 ownOnes (gets o ∷ is) = 1 ∷ ownOnes is
 ownOnes (goes-own v ∷ is) = 1 ∷ 1 ∷ ownOnes is
+ownOnes (stores-own b ∷ is) = 0 ∷ []
+ownOnes (calls-own e ∷ is) = 0 ∷ []
 
 abbrev flags : Two → List ℕ
 flags w =
@@ -74,27 +97,23 @@ abbrev good : List ℕ
 good = 1 ∷ 1 ∷ 1 ∷ 1 ∷ 1 ∷ 1 ∷ ownOnes late-calls
 
 module _ (c : Channel) (e : c .number ≡ 1) where
-  abbrev Others : List Item → Type 0
-  Others [] = Unit {0}
-  Others (gets o ∷ is) = Other c o × Others is
-  Others (goes-own v ∷ is) = Others is
-
   own-so : (r : Run) → flag (own 1 (r .access) (r .machine)) ≡ 1 → own (c .number) (r .access) (r .machine) ≡ true
   own-so r h = subst (λ x. own x (r .access) (r .machine) ≡ true) (sym e) (flag-on (own 1 (r .access) (r .machine)) h)
 
-  own-sound : (is : List Item) (r : Run) → ownFlags is r ≡ ownOnes is → Others is → AtOwn c false 0 is r
+  own-sound : (is : List Item) (r : Run) → ownFlags is r ≡ ownOnes is → (AnyStore (lightsOf is) → ⊥) → AtOwn c false 0 is r
   own-sound [] r h m = own-so r (ap (λ k. getD k 0 0) h)
   own-sound (gets o ∷ is) r h m = (
     own-so r (ap (λ k. getD k 0 0) h),
-    m .0,
-    subst (AtOwn c false 0 is) (sym (quickly-is (callOf o) r))
-        (own-sound is (quickly (callOf o) r) (ap (drop 1) h) (m .1)),
+    subst (AtOwn c false 0 is) (sym (lit-quick o r)) (own-sound is (quickLit o r) (ap (drop 1) h) (λ z. m (inr z))),
   )
   own-sound (goes-own v ∷ is) r h m = (
     own-so r (ap (λ k. getD k 0 0) h),
     off (wide (r .machine .way) v) (flag-on (not (wide (r .machine .way) v)) (ap (λ k. getD k 1 0) h)),
+    (λ z. absurd (m z)),
     subst (AtOwn c false 0 is) (sym (quickly-is (go v) r)) (own-sound is (quickly (go v) r) (ap (drop 2) h) m),
   )
+  own-sound (stores-own b ∷ is) r h m = absurd (omega (arith, ap length h))
+  own-sound (calls-own e ∷ is) r h m = absurd (omega (arith, ap length h))
 
   not-own : (r : Run) → flag (not (own 1 (r .access) (r .machine))) ≡ 1 → atOwn c r ≡ false
   not-own r h = subst (λ x. own x (r .access) (r .machine) ≡ false) (sym e)
@@ -103,7 +122,7 @@ module _ (c : Channel) (e : c .number ≡ 1) where
   within-so : (w : Way Answer Driver) → flag (not (wide w 8)) ≡ 1 → wide w 8 ≡ false
   within-so w h = off (wide w 8) (flag-on (not (wide w 8)) h)
 
-  may-so : (w : Two) → flags w ≡ good → Others late-calls → MayLate c false 0 (first-late 8 8 late-calls) w
+  may-so : (w : Two) → flags w ≡ good → key Out 2 ≢ key Out (c .number) → MayLate c false 0 (first-late 8 8 late-calls) w
   may-so w h m = (
     record {
       serving = serving-is (w .first .machine .way)
@@ -116,9 +135,19 @@ module _ (c : Channel) (e : c .number ≡ 1) where
           (subst (λ x. bringsB x (w .status) (w .first .access) 8 8 ≡ true) (sym e)
           (flag-on (bringsB 1 (w .status) (w .first .access) 8 8) (ap (λ k. getD k 5 0) h)));
     },
-    subst (AtOwn c false 0 late-calls) (sym (quickly-is (go 8) (w .first)))
-        (own-sound late-calls (quickly (go 8) (w .first)) (ap (drop 6) h) m),
+    record {
+      others = (m, (m, (m, tt)));
+      unseen = λ z. absurd (no-store z);
+      own = subst (AtOwn c false 0 late-calls) (sym (quickly-is (go 8) (w .first)))
+          (own-sound late-calls (quickly (go 8) (w .first)) (ap (drop 6) h) no-store);
+    },
   )
+    where
+      no-store : AnyStore (lightsOf late-calls) → ⊥
+      no-store (inl z) = true≢false (sym z)
+      no-store (inr (inl z)) = true≢false (sym z)
+      no-store (inr (inr (inl z))) = true≢false (sym z)
+      no-store (inr (inr (inr z))) = z
 
 -- ---- the two meet the premise
 
@@ -149,7 +178,7 @@ premise-late = (
   (
     subst (λ (w : Two). MayLate (pair-before .channel) false 0 (first-late 8 8 late-calls) w)
         (sym (after-all config buffer setting before blank passes-before))
-        (may-so (pair-before .channel) refl reached flagged (other-two, (other-two, (other-two, tt)))),
+        (may-so (pair-before .channel) refl reached flagged other-two),
     tt,
   ),
   tt,

@@ -49,12 +49,17 @@ pub mod UndisturbedLaws
 pub mod TimeLaws
 pub mod Code
 pub mod CodeLaws
+pub mod ElsewhereLaws
 pub mod Late
+pub mod QueuesLaws
 pub mod Lights
 pub mod LightsLaws
+pub mod Does
+pub mod DoesLaws
 pub mod SlidesLaws
 pub mod CrossingLaws
 pub mod LateRunsLaws
+pub mod SeenLaws
 pub mod EarlyLaws
 pub mod LateCode
 pub mod LateCodeLaws

@@ -1,18 +1,19 @@
 -- Laws on the definitions of Lights.antt
-use mathlib.Core.Bool.{Bool, true, false, not, cond}
-use mathlib.Core.List.{List, []}
+use mathlib.Core.Bool.{Bool, true, false, not, cond, true≢false}
+use mathlib.Core.List.{List, [], _∷_}
 use mathlib.Core.Logic.{_≢_, inl, inr, ⊎-elim}
-use mathlib.Core.Path.{_≡_, refl, ap, sym, _∙_}
-use Prim.Native.Nat.{ℕ, _%_, _≤_}
+use mathlib.Core.Path.{_≡_, refl, ap, subst, sym, _∙_}
+use Prim.Native.Nat.{ℕ, _+_, _*_, _%_, _≤_}
 use native.Mathlib.Omega.{arith}
 use native.Mathlib.Decide.{ℕ-discrete}
-use lib.ListN.{getD, set}
-use lib.Seq.{set-comm}
+use lib.ListN.{length, getD, set}
+use lib.Seq.{set-comm, getD-set-other}
 use Rattle.bits.specs.Bit.{isSet}
 use Rattle.regs.specs.declared.Dir.{Dir}
 use Rattle.regs.specs.declared.Dir.the-variants.{Out, In}
 use Rattle.regs.specs.Enables as enables
 use Rattle.state.specs.declared.EpState.{EpState}
+use Rattle.state.specs.declared.Allocator.{Allocator}
 use Rattle.state.specs.declared.Globals.{Globals}
 use Rattle.state.specs.Wakes.{Wakes}
 use Rattle.state.specs.Driver.{Driver, key, lenKey, withEps, epOn, withOn, lenOn, withLenOn, stampOn, stampKey, withStampOn, pacedOn, requestOn}
@@ -23,27 +24,34 @@ use Rattle.ring.specs.Marks.{armed, isMarked, markedLen}
 use Rattle.ring.specs.Only.{Same}
 use Rattle.ring.specs.OnlyLaws.{only-apart}
 use Rattle.ring.specs.Slot.{slotOf, slotAddr, countOf, hasWaiting, passedOf}
+use Rattle.ring.specs.In.{hasRoomIn}
 use Rattle.ring.specs.Out.{hasRoomOut, cappedAt, arrivedOf, armedAt, openedOf, closedOf}
 use Rattle.script.specs.Cells.{Cell, Val, EpCore, globals-cell, control-cell, allocator-cell, ep-cell, request-cell, paced-cell}
-use Rattle.script.specs.Script.{changed, marked, setup-word, arrive}
+use Rattle.script.specs.Script.{changed, marked, arrive, open-oldest, close-oldest, enqueue}
 use Rattle.script.specs.Statics.{isOn, isoOuts, flag}
 use Rattle.script.specs.Answers.{isNumber}
 use Rattle.script.specs.Simulates.{quiet}
 use Rattle.script.specs.Machine.{Question, pending, overruns, enabled}
 use Rattle.answer.specs.Questions.{pendingOn, overrunsOf, overrunsOn, enabledAsked, questionOf}
 use Rattle.script_ops.specs.Records.{plainOf, merged}
-use Rattle.script_ops.specs.Rings.{St, changedOn, markedOn, waitingOn, openedOn, nextLen, nextStamp, oldestAt, oldestOn, openOn, closeOn}
+use Rattle.script_ops.specs.Rings.{St, changedOn, markedOn, waitingOn, roomIn, roomOn, openedOn, nextLen, nextStamp, oldestAt, oldestOn, openOn, closeOn}
 use Rattle.script_ops.specs.Rings.{writtenOn, recordedOn, admittedOn, armAt, armOn, arrivedAt, arriveOn}
 use Rattle.script_ops.specs.Concrete.{getOn, putOn, isOf, lookOf, handOn}
-use Rattle.proof_book.specs.Coupling.{endOf}
+use Rattle.alloc.specs.Alloc.{allocatedIn}
+use Rattle.proof_book.specs.Coupling.{endOf, Shape}
 use Rattle.proof_book.specs.LensLaws.{key-ep}
 use Rattle.proof_wake_ups.specs.Still.{put-leaves}
-use Rattle.proof_isolation.specs.EqualExcept.{Lawful, Channel, Touched}
-use Rattle.proof_isolation.specs.Late.{Light, opens, closes, asks-of, Other}
+use Rattle.proof_isolation.specs.EqualExcept.{ButBy, Lawful, Channel, Touched}
+use Rattle.proof_isolation.specs.Stores.{Away, Stored, Outside, Lands, patched}
+use Rattle.proof_isolation.specs.StoresLaws.{lawful-stored}
+use Rattle.proof_isolation.specs.ButsLaws.{lawful-act}
+use Rattle.proof_isolation.specs.Late.{Light, opens, closes, queues, asks-of, stored, isStore, Other}
 use Rattle.proof_isolation.specs.Schedule.{Asked}
 use Rattle.proof_isolation.specs.OwnStepsLaws.{own-arrives}
 use Rattle.proof_isolation.specs.AsidesLaws.{stamp-any, oldest-by}
 use Rattle.proof_isolation.specs.ValuesLaws.{in-other}
+use Rattle.proof_isolation.specs.QueuesLaws.{patch-long, changed-stored, marked-stored, arrive-stored, get-queue, put-queue, wakes-queue}
+use Rattle.proof_isolation.specs.QueuesLaws.{queue-wakes, changed-queue, marked-queue, arrive-queue}
 use Rattle.proof_isolation.specs.Lights.{opening, closing, changeOf, done-by, AnswerParts, seen}
 
 pub open-is : (d : Driver) (e : ℕ) → openOn d e ≡ changeOf opening e d
@@ -221,6 +229,7 @@ core r = merged r (record { ready = 0; len = 0; armed = 0; «last_frame» = 0; t
 
 -- two drivers with the same rings, lengths, stamps and places
 record Steadily (d d′ : Driver) : Type 0 where
+  ep0 : d .globals .«ep0_buf» ≡ d′ .globals .«ep0_buf»
   stage : d .globals .stage ≡ d′ .globals .stage
   config : d .globals .«ep_config» ≡ d′ .globals .«ep_config»
   allocator : d .allocator ≡ d′ .allocator
@@ -245,6 +254,10 @@ module _ {d d′ : Driver} (h : Steadily d d′) (b : List ℕ) where
   unfolding waitingOn hasWaiting countOf
   waiting-steady e = ap hasWaiting (h .records Out e)
 
+  room-steady : (e n : ℕ) → roomOn d e n ≡ roomOn d′ e n
+  unfolding roomOn roomIn hasRoomIn countOf
+  room-steady e n = ap (λ (r : EpState). roomIn r n) (h .records In e)
+
   open-steady : (e : ℕ) → openedOn d e ≡ openedOn d′ e
   unfolding openedOn
   open-steady e = ap (λ (r : EpState). isOn (r .«open»)) (h .records Out e)
@@ -267,7 +280,16 @@ module _ {d d′ : Driver} (h : Steadily d d′) (b : List ℕ) where
     number = stamp-steady e i;
   }
   seen-steady (closes e) = λ i. record { stage = h .stage i; allocator = h .allocator i; iso = 0; any = open-steady e i; bytes = []; number = 0 }
+  seen-steady (queues e bs) = λ i. record {
+    stage = h .stage i;
+    allocator = h .allocator i;
+    iso = ap (λ (r : EpState). r .iso) (h .records In e) i;
+    any = room-steady e (length bs) i;
+    bytes = [];
+    number = h .config i;
+  }
   seen-steady (asks-of q) = λ i. record { stage = h .stage i; allocator = h .allocator i; iso = 0; any = false; bytes = []; number = told-same q i }
+  seen-steady (stored p) = λ i. record { stage = h .stage i; allocator = h .allocator i; iso = 0; any = false; bytes = []; number = 0 }
 
 -- an open leaves the bytes and the stamp of the packet that it shows
 module _ (e : ℕ) (d : Driver) (z : Sized d) where
@@ -292,16 +314,16 @@ record-steady d z dir a v b e = elim (ℕ-discrete (key b e) (key dir a)) [
 
 put-steady : (c : Cell) (v : Val c) (s : St) → Sized (s .0) → Steadily (s .0) (putOn c v s .0)
 unfolding withOn withRequestOn withPacedOn epOn
-put-steady globals-cell v s z = record { stage = refl; config = refl; allocator = refl; records = λ dir e. refl; lens = refl; stamps = refl }
-put-steady control-cell v s z = record { stage = refl; config = refl; allocator = refl; records = λ dir e. refl; lens = refl; stamps = refl }
-put-steady allocator-cell v s z = record { stage = refl; config = refl; allocator = refl; records = λ dir e. refl; lens = refl; stamps = refl }
-put-steady (ep-cell a e) v s z = record { stage = refl; config = refl; allocator = refl; records = record-steady (s .0) z a e v; lens = refl; stamps = refl }
-put-steady (request-cell a e) v s z = record { stage = refl; config = refl; allocator = refl; records = λ dir e. refl; lens = refl; stamps = refl }
-put-steady (paced-cell e) v s z = record { stage = refl; config = refl; allocator = refl; records = λ dir e. refl; lens = refl; stamps = refl }
+put-steady globals-cell v s z = record { ep0 = refl; stage = refl; config = refl; allocator = refl; records = λ dir e. refl; lens = refl; stamps = refl }
+put-steady control-cell v s z = record { ep0 = refl; stage = refl; config = refl; allocator = refl; records = λ dir e. refl; lens = refl; stamps = refl }
+put-steady allocator-cell v s z = record { ep0 = refl; stage = refl; config = refl; allocator = refl; records = λ dir e. refl; lens = refl; stamps = refl }
+put-steady (ep-cell a e) v s z = record { ep0 = refl; stage = refl; config = refl; allocator = refl; records = record-steady (s .0) z a e v; lens = refl; stamps = refl }
+put-steady (request-cell a e) v s z = record { ep0 = refl; stage = refl; config = refl; allocator = refl; records = λ dir e. refl; lens = refl; stamps = refl }
+put-steady (paced-cell e) v s z = record { ep0 = refl; stage = refl; config = refl; allocator = refl; records = λ dir e. refl; lens = refl; stamps = refl }
 
 wakes-steady : (d : Driver) (w : Wakes) → Steadily d (withWakes d w)
 unfolding epOn
-wakes-steady d w = record { stage = refl; config = refl; allocator = refl; records = λ dir e. refl; lens = refl; stamps = refl }
+wakes-steady d w = record { ep0 = refl; stage = refl; config = refl; allocator = refl; records = λ dir e. refl; lens = refl; stamps = refl }
 
 pub seen-put : (o : Light) (c : Cell) (v : Val c) (s : St) → Sized (s .0) → seen o (putOn c v s) ≡ seen o s
 seen-put o c v s z =
@@ -336,8 +358,8 @@ module _ (c : Channel) where
     asked-stays (overruns e) n = ap (λ (r : EpState). cond (isNumber e) (overrunsOf r) 0) (m .but .eps Out e n)
     asked-stays (enabled dir e) n = ap (λ (g : Globals). flag (cond (isNumber e) (enables.isOn (g .«ep_config») dir e) false)) (m .but .globals)
 
-    seen-touched : (o : Light) → Other c o → seen o s ≡ seen o t
-    unfolding waitingOn openedOn
+    pub seen-touched : (o : Light) → Other c o (s .0) → seen o s ≡ seen o t
+    unfolding waitingOn openedOn roomOn
     seen-touched (opens e) n = λ i. record {
       stage = m .but .globals i .stage;
       allocator = m .but .allocator i;
@@ -354,6 +376,22 @@ module _ (c : Channel) where
       bytes = [];
       number = 0;
     }
+    seen-touched (queues e bs) n = λ i. record {
+      stage = m .but .globals i .stage;
+      allocator = m .but .allocator i;
+      iso = m .but .eps In e (in-other (c .number) e) i .iso;
+      any = roomIn (m .but .eps In e (in-other (c .number) e) i) (length bs);
+      bytes = [];
+      number = m .but .globals i .«ep_config»;
+    }
+    seen-touched (stored p) n = λ i. record {
+      stage = m .but .globals i .stage;
+      allocator = m .but .allocator i;
+      iso = 0;
+      any = false;
+      bytes = [];
+      number = 0;
+    }
     seen-touched (asks-of q) n = λ i. record {
       stage = m .but .globals i .stage;
       allocator = m .but .allocator i;
@@ -363,51 +401,74 @@ module _ (c : Channel) where
       number = asked-stays q n i;
     }
 
-  -- ---- a lawful state in which it sees z
-
-  pub record Shows (o : Light) (z : AnswerParts) (s : St) : Type 0 where
-    pub lawful : Lawful (c .iso) quiet s
-    pub sees : seen o s ≡ z
-
-  -- ---- one law for all three
+  -- ---- one law for all
 
   pub get-done : (o : Light) (s : St) → Lawful (c .iso) quiet s → (q : Cell) → getOn q (done-by o s) ≡ getOn q s
   get-done (opens e) s l q = get-change gentle-opening e s (l .rest .sized) q
   get-done (closes e) s l q = get-change gentle-closing e s (l .rest .sized) q
+  get-done (queues e bs) s l q = get-queue e bs s (l .rest .sized) q
   get-done (asks-of a) s l q = refl
+  get-done (stored p) s l globals-cell = refl
+  get-done (stored p) s l control-cell = refl
+  get-done (stored p) s l allocator-cell = refl
+  get-done (stored p) s l (ep-cell dir a) = refl
+  get-done (stored p) s l (request-cell dir a) = refl
+  get-done (stored p) s l (paced-cell a) = refl
 
   pub put-done : (o : Light) (s : St) → Lawful (c .iso) quiet s → (q : Cell) (v : Val q) → putOn q v (done-by o s) ≡ done-by o (putOn q v s)
   put-done (opens e) s l q v = put-change gentle-opening e s (l .rest .sized) q v
   put-done (closes e) s l q v = put-change gentle-closing e s (l .rest .sized) q v
+  put-done (queues e bs) s l q v = put-queue e bs s (l .rest .sized) q v
   put-done (asks-of a) s l q v = refl
+  put-done (stored p) s l globals-cell v = refl
+  put-done (stored p) s l control-cell v = refl
+  put-done (stored p) s l allocator-cell v = refl
+  put-done (stored p) s l (ep-cell dir a) v = refl
+  put-done (stored p) s l (request-cell dir a) v = refl
+  put-done (stored p) s l (paced-cell a) v = refl
 
-  pub changed-done : (o : Light) (s : St) → Lawful (c .iso) quiet s → (a : ℕ) → isOf (changed a) (done-by o s) ≡ isOf (changed a) s
-  changed-done (opens e) s l a = changed-change gentle-opening e s (l .rest .sized) a
-  changed-done (closes e) s l a = changed-change gentle-closing e s (l .rest .sized) a
-  changed-done (asks-of q) s l a = refl
+  -- of the channel's armed slot
+  pub changed-own : (o : Light) (s : St) → Lawful (c .iso) quiet s → Other c o (s .0)
+      → isOf (changed (c .number)) (done-by o s) ≡ isOf (changed (c .number)) s
+  changed-own (opens e) s l n = changed-change gentle-opening e s (l .rest .sized) (c .number)
+  changed-own (closes e) s l n = changed-change gentle-closing e s (l .rest .sized) (c .number)
+  changed-own (queues e bs) s l n = changed-queue c e bs s l (c .number) (c .receives)
+  changed-own (asks-of q) s l n = refl
+  changed-own (stored p) s l n = changed-stored c p s l n
 
-  pub marked-done : (o : Light) (s : St) → Lawful (c .iso) quiet s → (a : ℕ) → lookOf (marked a) (done-by o s) ≡ lookOf (marked a) s
-  marked-done (opens e) s l a = marked-change gentle-opening e s (l .rest .sized) a
-  marked-done (closes e) s l a = marked-change gentle-closing e s (l .rest .sized) a
-  marked-done (asks-of q) s l a = refl
+  pub marked-own : (o : Light) (s : St) → Lawful (c .iso) quiet s → Other c o (s .0)
+      → lookOf (marked (c .number)) (done-by o s) ≡ lookOf (marked (c .number)) s
+  marked-own (opens e) s l n = marked-change gentle-opening e s (l .rest .sized) (c .number)
+  marked-own (closes e) s l n = marked-change gentle-closing e s (l .rest .sized) (c .number)
+  marked-own (queues e bs) s l n = marked-queue c e bs s l (c .number) (c .receives)
+  marked-own (asks-of q) s l n = refl
+  marked-own (stored p) s l n = marked-stored c p s l n
 
-  pub setup-done : (o : Light) (s : St) (k : ℕ) → lookOf (setup-word k) (done-by o s) ≡ lookOf (setup-word k) s
+  -- of another's: stores may change it
+  pub changed-done : (o : Light) → isStore o ≡ false → (s : St) → Lawful (c .iso) quiet s → (a : ℕ) → c .iso Out a ≡ true
+      → isOf (changed a) (done-by o s) ≡ isOf (changed a) s
+  changed-done (opens e) z s l a i = changed-change gentle-opening e s (l .rest .sized) a
+  changed-done (closes e) z s l a i = changed-change gentle-closing e s (l .rest .sized) a
+  changed-done (queues e bs) z s l a i = changed-queue c e bs s l a i
+  changed-done (asks-of q) z s l a i = refl
+  changed-done (stored p) z s l a i = absurd (true≢false z)
+
+  pub wakes-same : (o : Light) (s : St) → Lawful (c .iso) quiet s → done-by o s .0 .wakes ≡ s .0 .wakes
   unfolding withOn
-  setup-done (opens e) s k = refl
-  setup-done (closes e) s k = refl
-  setup-done (asks-of q) s k = refl
+  wakes-same (opens e) s l = refl
+  wakes-same (closes e) s l = refl
+  wakes-same (queues e bs) s l = queue-wakes e bs s (l .rest .sized)
+  wakes-same (asks-of q) s l = refl
+  wakes-same (stored p) s l = refl
 
-  pub wakes-same : (o : Light) (s : St) → done-by o s .0 .wakes ≡ s .0 .wakes
-  unfolding withOn
-  wakes-same (opens e) s = refl
-  wakes-same (closes e) s = refl
-  wakes-same (asks-of q) s = refl
-
-  pub wakes-done : (o : Light) (s : St) (w : Wakes) → (withWakes (done-by o s .0) w, done-by o s .1) ≡ done-by o (withWakes (s .0) w, s .1)
+  pub wakes-done : (o : Light) (s : St) → Lawful (c .iso) quiet s
+      → (w : Wakes) → (withWakes (done-by o s .0) w, done-by o s .1) ≡ done-by o (withWakes (s .0) w, s .1)
   unfolding withOn epOn
-  wakes-done (opens e) s w = refl
-  wakes-done (closes e) s w = refl
-  wakes-done (asks-of q) s w = refl
+  wakes-done (opens e) s l w = refl
+  wakes-done (closes e) s l w = refl
+  wakes-done (queues e bs) s l w = wakes-queue e bs s (l .rest .sized) w
+  wakes-done (asks-of q) s l w = refl
+  wakes-done (stored p) s l w = refl
 
   arrive-change : (g : EpState → EpState) (e : ℕ) → key Out e ≢ key Out (c .number) → (s : St) → Lawful (c .iso) quiet s → (m : ℕ) →
       let w = handOn (arrive (c .number) m) s in
@@ -417,12 +478,105 @@ module _ (c : Channel) where
       arrive-on (c .number) e n (g (epOn (s .0) Out e)) (s .0) (s .1) m
       ∙ ap (λ (r : EpState). (w .0, (withOn (w .1 .0) Out e (g r), w .1 .1))) (own-arrives c m s l .but .eps Out e n)
 
-  pub arrive-done : (o : Light) → Other c o → (s : St) → Lawful (c .iso) quiet s → (m : ℕ) →
+  pub arrive-done : (o : Light) (s : St) → Other c o (s .0) → Lawful (c .iso) quiet s → (m : ℕ) →
       let w = handOn (arrive (c .number) m) s in
       handOn (arrive (c .number) m) (done-by o s) ≡ (w .0, done-by o (w .1))
-  arrive-done (opens e) n s l m = arrive-change opening e n s l m
-  arrive-done (closes e) n s l m = arrive-change closing e n s l m
-  arrive-done (asks-of q) n s l m = refl
+  arrive-done (opens e) s n l m = arrive-change opening e n s l m
+  arrive-done (closes e) s n l m = arrive-change closing e n s l m
+  arrive-done (queues e bs) s n l m = arrive-queue c e bs s l m
+  arrive-done (asks-of q) s n l m = refl
+  arrive-done (stored p) s n l m = arrive-stored c p s l n m
 
-  pub seen-arrive : (o : Light) → Other c o → (s : St) → Lawful (c .iso) quiet s → (m : ℕ) → seen o (handOn (arrive (c .number) m) s .1) ≡ seen o s
-  seen-arrive o n s l m = sym (seen-touched (own-arrives c m s l) o n)
+  -- ---- where the chip may store is left, but for the channel's armed slot
+
+  used-size : {s : St} → Lawful (c .iso) quiet s → (e : ℕ) → isSet (allocatedIn (s .0 .allocator) Out) (e % 16) ≡ true
+      → epOn (s .0) Out e .stride ≡ s .0 .allocator .size
+  used-size {s} l e u = subst (λ v. Shape v (s .0 .allocator) Out (epOn (s .0) Out e)) u (l .rest .shape Out e) .stride
+
+  pub record SameReach (d d′ : Driver) : Type 0 where
+    pub allocator : d′ .allocator ≡ d .allocator
+    pub ep0 : d′ .globals .«ep0_buf» ≡ d .globals .«ep0_buf»
+    pub base : epOn d′ Out (c .number) .base ≡ epOn d Out (c .number) .base
+    pub ends : endOf (epOn d′ Out (c .number)) ≡ endOf (epOn d Out (c .number))
+    pub slots : (e : ℕ) → key Out e ≢ key Out (c .number) → epOn d′ Out e .«armed_slot» ≡ epOn d Out e .«armed_slot»
+
+  module _ {s : St} (l : Lawful (c .iso) quiet s) {d : Driver} (r : SameReach (s .0) d) where
+    away-back : (k : ℕ) → Outside c (s .0) k → Away d k → Away (s .0) k
+    away-back k o w = record {
+      outs = λ e u. elim (ℕ-discrete (key Out e) (key Out (c .number))) [
+        | yes p ↦
+            let x = c .number in
+            let f = l .rest .outs e in
+            let b : epOn (s .0) Out e .base ≡ epOn (s .0) Out x .base = ap (λ (q : EpState). q .base) (key-ep (s .0) Out Out e x p) in
+            let g : endOf (epOn (s .0) Out e) ≡ endOf (epOn (s .0) Out x) = ap endOf (key-ep (s .0) Out Out e x p) in
+            let n = used-size l e u in
+            ⊎-elim (λ z. inl (omega (arith, b, f .slot, f .from))) (λ z. inr (omega (arith, g, f .slot, f .upto, n))) o
+        | no p ↦
+            let n = ap (λ (a : Allocator). a .size) (r .allocator) in
+            ⊎-elim (λ z. inl (omega (arith, r .slots e p))) (λ z. inr (omega (arith, r .slots e p, n)))
+            (w .outs e (ap (λ (a : Allocator). isSet (allocatedIn a Out) (e % 16)) (r .allocator) ∙ u))
+      ];
+      ep0 =
+          let n = ap (λ (a : Allocator). a .size) (r .allocator) in
+          ⊎-elim (λ z. inl (omega (arith, r .ep0))) (λ z. inr (omega (arith, r .ep0, n))) (w .ep0);
+    }
+
+    lands-on : (p : List (ℕ × ℕ)) → Lands c (s .0) p → Lands c d p
+    lands-on [] h = tt
+    lands-on (q ∷ p) h = (
+      ⊎-elim (λ z. inl (omega (arith, r .base))) (λ z. inr (omega (arith, r .ends))) (h .0),
+      (λ w. h .1 (away-back (q .0) (h .0) w)),
+      lands-on p (h .2),
+    )
+
+    pub still-other : (o : Light) → Other c o (s .0) → Other c o d
+    still-other (opens e) n = n
+    still-other (closes e) n = n
+    still-other (queues e bs) n = n
+    still-other (asks-of q) n = n
+    still-other (stored p) n = lands-on p n
+
+  steady-reach : {d d′ : Driver} → Steadily d d′ → SameReach d d′
+  steady-reach h = record {
+    allocator = sym (h .allocator);
+    ep0 = sym (h .ep0);
+    base = sym (ap (λ (r : EpState). r .base) (h .records Out (c .number)));
+    ends = sym (ap endOf (h .records Out (c .number)));
+    slots = λ e n. sym (ap (λ (r : EpState). r .«armed_slot») (h .records Out e));
+  }
+
+  pub but-reach : {W : Wakes → Wakes → Type 0} {d d′ : Driver} → ButBy W (c .number) d d′ → SameReach d d′
+  but-reach h = record {
+    allocator = sym (h .allocator);
+    ep0 = sym (ap (λ (g : Globals). g .«ep0_buf») (h .globals));
+    base = h .own .place .base;
+    ends = λ i. h .own .place .base i + h .own .place .slots i * h .own .place .stride i;
+    slots = λ e n. sym (ap (λ (r : EpState). r .«armed_slot») (h .eps Out e n));
+  }
+
+  pub put-reach : (q : Cell) (v : Val q) (s : St) → Sized (s .0) → SameReach (s .0) (putOn q v s .0)
+  put-reach q v s z = steady-reach (put-steady q v s z)
+
+  pub wakes-reach : (d : Driver) (w : Wakes) → SameReach d (withWakes d w)
+  wakes-reach d w = steady-reach (wakes-steady d w)
+
+  -- ---- stores leave a lawful state
+
+  module _ (s : St) where
+    patch-away : (p : List (ℕ × ℕ)) → Lands c (s .0) p → (b : List ℕ) (k : ℕ) → Away (s .0) k → getD (patched p b) k 0 ≡ getD b k 0
+    patch-away [] h b k w = refl
+    patch-away (q ∷ p) h b k w = patch-away p (h .2) (set b (q .0) (q .1)) k w
+        ∙ getD-set-other b (q .0) k (q .1) 0 (λ e. h .1 (subst (Away (s .0)) e w))
+
+    pub stored-patch : (p : List (ℕ × ℕ)) → Lands c (s .0) p → Stored (s .0) (s .1) (patched p (s .1))
+    stored-patch p h = record { long = patch-long p (s .1); others = λ k w. patch-away p h (s .1) k w }
+
+  pub lawful-done : (o : Light) (s : St) → Other c o (s .0) → Lawful (c .iso) quiet s → Lawful (c .iso) quiet (done-by o s)
+  lawful-done (opens e) s n l = subst (λ (d : Driver). Lawful (c .iso) quiet (d, s .1)) (open-is (s .0) e) (lawful-act c (open-oldest e) refl l)
+  lawful-done (closes e) s n l = subst (λ (d : Driver). Lawful (c .iso) quiet (d, s .1)) (close-is (s .0) e) (lawful-act c (close-oldest e) refl l)
+  lawful-done (queues e bs) s n l = lawful-act c (enqueue e bs) refl l
+  lawful-done (asks-of q) s n l = l
+  lawful-done (stored p) s n l = lawful-stored c l (stored-patch s p n)
+
+  pub seen-arrive : (o : Light) (s : St) → Other c o (s .0) → Lawful (c .iso) quiet s → (m : ℕ) → seen o (handOn (arrive (c .number) m) s .1) ≡ seen o s
+  seen-arrive o s n l m = sym (seen-touched (own-arrives c m s l) o n)

@@ -74,11 +74,11 @@ module _ {x : ℕ} {A B : Type 0} (f : A → St → Out St B) where
   next-bind : {o : Out St A} → Next x o → Next x (bindOut o f)
   next-bind (next h) = next h
 
-  another-bind : {q : Access} {o : Out St A} → Another x q o → Another x q (bindOut o f)
+  pub another-bind : {q : Access} {o : Out St A} → Another x q o → Another x q (bindOut o f)
   another-bind (never h) = never h
   another-bind (elsewhere h) = elsewhere (next-bind h)
 
-  its-bind : {q : Access} {o : Out St A} → Its x q o → Its x q (bindOut o f)
+  pub its-bind : {q : Access} {o : Out St A} → Its x q o → Its x q (bindOut o f)
   its-bind status = status
   its-bind receive = receive
 

@@ -1,6 +1,6 @@
--- A part of an interrupt that ends at an access of the channel's own: the others' opens and closes and the questions may fall before it or after it.
--- So too of all that precedes the next access that is not the channel's, but for an arrival on another endpoint and a completion
-use mathlib.Core.Bool.{Bool, true, false, cond}
+-- A part of an interrupt that ends at an access of the channel's own: what the others get may fall before it or after it,
+-- unless it is a store that the part sees
+use mathlib.Core.Bool.{Bool, true, false, cond, true≢false}
 use mathlib.Core.List.{List, [], _∷_}
 use mathlib.Core.Path.{_≡_, refl, ap, subst, sym, _∙_}
 use Prim.Native.Nat.{ℕ, zero, suc}
@@ -9,7 +9,7 @@ use borrow.Author.Tests.{eqb-true}
 use Rattle.bits.specs.Walk.{setBits}
 use Rattle.bits.specs.WalkLaws as walk-laws
 use Rattle.bits.specs.WalkLaws.{walked-set}
-use mathlib.Core.Logic.{inl, inr}
+use mathlib.Core.Logic.{_⊎_, inl, inr, ⊎-elim}
 use Rattle.script.specs.SortsWalks.{among-outs}
 use Rattle.proof_book.specs.TransferKindsLaws.{sorted}
 use Rattle.regs.specs.declared.Access.{Access}
@@ -21,7 +21,8 @@ use Rattle.regs.specs.declared.Dir.the-variants.{Out, In}
 use Rattle.regs.specs.declared.Token.{Token}
 use Rattle.regs.specs.declared.Token.the-variants as tok
 use Rattle.regs.specs.Registers.{ctrlOf}
-use Rattle.regs.specs.Status.{endpoint, token}
+use Rattle.regs.specs.Flags.{SETUP_ACT}
+use Rattle.regs.specs.Status.{endpoint, token, tokenNumbered, isOut}
 use Rattle.state.specs.declared.Globals.{Globals}
 use Rattle.state.specs.Driver.{Driver, withWakes}
 use Rattle.state.specs.Wakes.{Wakes, unwoken, listed, all-woken}
@@ -29,139 +30,132 @@ use Rattle.script.specs.declared.Transfer.{Transfer}
 use Rattle.script.specs.Tree as tree
 use Rattle.script.specs.Tree.{ends, asks, bindOut}
 use Rattle.script.specs.Cells.{Cell, Val, EpCore, globals-cell, ep-cell}
-use Rattle.script.specs.Script.{Script, Act, run, ret, bind, test, _>>=_, _>>_, when, read, write, callback, get, put, is, look, fetch, act, hand}
+use Rattle.script.specs.Script.{Script, Act, run, ret, done, bind, test, _>>=_, _>>_, when, read, write, callback, get, put, is, look, fetch, act, hand}
 use Rattle.script.specs.Script.{changed, waiting, marked, next-len, setup-word, gathered, complete, no-wakes, waken, arrive, send}
-use Rattle.script.specs.Statics.{isoInEvery, isoOuts, modify, modifyEp, modifyReg, modifyIntEn, wake}
+use Rattle.script.specs.Statics.{withReady, withArmed, withSetup, isoInEvery, isoOuts, modify, modifyEp, modifyReg, modifyIntEn, wake}
 use Rattle.script.specs.Answers.{Answer}
 use Rattle.script.specs.Simulates.{quiet}
 use Rattle.script.specs.TransferKinds.{allocates}
 use Rattle.script.specs.IsoIn.{firstInFrame, isoInLoad, isoInComplete, unseen, sofOne, sofWalk, onSof, lateWalk}
-use Rattle.script.specs.IsoOut.{arrives, checkOne, checkWalk, isoOutCheck}
+use Rattle.script.specs.IsoOut.{arriving, entry, arrives, checkOne, checkWalk, isoOutCheck}
 use Rattle.script.specs.Handler.{looks, nakNonIso, toggled, retake, settle, received, sent, outArm, isoInArm, inArm, entered, framed, isoFor}
-use Rattle.script.specs.Handler.{dispatch, movedOn, ep0MovedOn, served, onTransfer, onSetup, onInterrupt, stampedInterrupt}
+use Rattle.script.specs.Handler.{dispatch, movedOn, ep0MovedOn, served, onTransfer, takeSetup, onSetup, onInterrupt, stampedInterrupt}
 use Rattle.script.specs.Calls.{Config, Op, interrupt, slotted, other, aside, calls, code, startRow, interruptCode}
-use Rattle.script.specs.Machine.{Buf, Call, start, begin, go, question, Way, idle, busy, Machine, over, misfit, stay, lentTo}
+use Rattle.script.specs.Machine.{Ans, Buf, Call, start, begin, go, question, Way, idle, busy, Machine, over, misfit, stay, lentTo}
 use Rattle.script.specs.Machine.{beside, begun, continued, started}
 use Rattle.script_ops.specs.Rings.{St}
 use Rattle.script_ops.specs.Concrete.{concrete, getOn, putOn, isOf, lookOf, actOn, handOn}
 use Rattle.machine.specs.Suspended.{driverOf, drive}
 use Rattle.answer.specs.Goes.{Called}
 use Rattle.proof_isolation.specs.EqualExcept.{Lawful, Channel}
-use Rattle.proof_isolation.specs.Apart.{ownable}
+use Rattle.proof_isolation.specs.Whose.{sof}
+use Rattle.proof_isolation.specs.Apart.{next, Another, never, elsewhere, Its, status, receive}
+use Rattle.proof_isolation.specs.PairsLaws.{another-bind, its-bind}
 use Rattle.proof_isolation.specs.Settled.{isControl}
-use Rattle.proof_isolation.specs.ButsLaws.{lawful-put, lawful-act, lawful-hand}
-use Rattle.proof_isolation.specs.Late.{Light, Other}
+use Rattle.proof_isolation.specs.ButsLaws.{lawful-put, lawful-act}
+use Rattle.proof_isolation.specs.Late.{Light, isStore, AnyStore}
 use Rattle.proof_isolation.specs.Standing.{stops}
-use Rattle.proof_isolation.specs.Lights.{done-by, AnswerParts, seen}
-use Rattle.proof_isolation.specs.LightsLaws.{Shows, seen-arrive, get-done, put-done}
-use Rattle.proof_isolation.specs.LightsLaws.{seen-put, seen-wakes}
-use Rattle.proof_isolation.specs.LightsLaws.{changed-done, marked-done, setup-done, wakes-same, wakes-done, arrive-done}
+use Rattle.proof_isolation.specs.Does.{Does}
+use Rattle.proof_isolation.specs.DoesLaws.{does-before, does-get, does-own, does-marked, does-changed, does-wakes-same, does-put, does-wakes}
+use Rattle.proof_isolation.specs.DoesLaws.{does-address, does-arrive}
+
+-- there are stores among them or not
+any-store : (os : List Light) → AnyStore os ⊎ (AnyStore os → ⊥)
+any-store [] = inr (λ z. z)
+any-store (o ∷ os) = by (isStore o) refl (any-store os)
+  where
+    by : (u : Bool) → isStore o ≡ u → AnyStore os ⊎ (AnyStore os → ⊥) → AnyStore (o ∷ os) ⊎ (AnyStore (o ∷ os) → ⊥)
+    by true h w = inl (inl h)
+    by false h (inl w) = inl (inr w)
+    by false h (inr w) = inr (⊎-elim (λ z. true≢false (sym z ∙ h)) w)
+
+-- it hands out an access made for OUT e
+pub data Made (e : ℕ) {A : Type 0} : tree.Out St A → Type 0 where
+  made : {q : Access} {s : St} {k : ℕ → St → tree.Out St A} → ((t : St) → Its e q (k sof t)) → Made e (asks q s k)
+
+made-bind : {e : ℕ} {A B : Type 0} {y : tree.Out St A} (g : A → St → tree.Out St B) → Made e y → Made e (bindOut y g)
+made-bind g (made h) = made (λ t. its-bind g (h t))
 
 module _ (c : Channel) where
-  -- one script's outcomes from a state in which o sees z, and from that state with o done: both end or hand out the same access and go on alike, and
-  -- o may as well be done then; or the first hands out an access that is not made for the channel
-  pub data Slid (o : Light) (z : AnswerParts) {A : Type 0} : tree.Out St A → tree.Out St A → Type 0 where
-    slid-end : {a : A} {s : St} → Shows c o z s → Slid o z (ends a s) (ends a (done-by o s))
-    slid-ask : {q : Access} {s : St} {k : ℕ → St → tree.Out St A} → Shows c o z s → Slid o z (asks q s k) (asks q (done-by o s) k)
-    slid-lost : {q : Access} {s : St} {k : ℕ → St → tree.Out St A} {u : tree.Out St A} → ownable (c .number) q ≡ false → Slid o z (asks q s k) u
+  -- one script's outcomes from a state, and from that state with what the others get (`Does`): both end or hand out the
+  -- same access and go on alike, and the others may as well get it then; or the first hands out an access that is not made
+  -- for the channel; or a store is seen: the second hands out an access made for another isochronous OUT endpoint
+  pub data Slid (os : List Light) (us : List (Ans Answer)) {A : Type 0} : tree.Out St A → tree.Out St A → Type 0 where
+    slid-end : {a : A} {s t : St} → Does c os us s t → Slid os us (ends a s) (ends a t)
+    slid-ask : {q : Access} {s t : St} {k : ℕ → St → tree.Out St A} → Does c os us s t → Slid os us (asks q s k) (asks q t k)
+    slid-lost : {q : Access} {s : St} {k : ℕ → St → tree.Out St A} {u : tree.Out St A} → ((t : St) → Another (c .number) q (k sof t)) → Slid os us (asks q s k) u
+    slid-seen : {y u : tree.Out St A} (e : ℕ) → eqb e (c .number) ≡ false → AnyStore os → Made e u → Slid os us y u
 
   -- wherever it goes on, it goes on so
   pub data Free {A : Type 0} : tree.Out St A → Type 0 where
     free-end : {a : A} {s : St} → Lawful (c .iso) quiet s → Free (ends a s)
     free-ask : {q : Access} {s : St} {k : ℕ → St → tree.Out St A} → ((v : ℕ) (t : St) → Lawful (c .iso) quiet t → Free (k v t))
-        → ((o : Light) (z : AnswerParts) (v : ℕ) (t : St) → Other c o → Shows c o z t → Slid o z (k v t) (k v (done-by o t))) → Free (asks q s k)
+        → ((os : List Light) (us : List (Ans Answer)) (v : ℕ) (s t : St) → Does c os us s t → Slid os us (k v s) (k v t)) → Free (asks q s k)
 
-  slid-bind : {o : Light} {z : AnswerParts} {A B : Type 0} {y u : tree.Out St A} {g : A → St → tree.Out St B} → Slid o z y u
-      → ((a : A) (s : St) → Shows c o z s → Slid o z (g a s) (g a (done-by o s))) → Slid o z (bindOut y g) (bindOut u g)
-  slid-bind (slid-end p) h = h _ _ p
+  slid-bind : {os : List Light} {us : List (Ans Answer)} {A B : Type 0} {y u : tree.Out St A} {g : A → St → tree.Out St B} → Slid os us y u
+      → ((a : A) (s t : St) → Does c os us s t → Slid os us (g a s) (g a t)) → Slid os us (bindOut y g) (bindOut u g)
+  slid-bind (slid-end p) h = h _ _ _ p
   slid-bind (slid-ask p) h = slid-ask p
-  slid-bind (slid-lost n) h = slid-lost n
+  slid-bind {g = g} (slid-lost n) h = slid-lost (λ t. another-bind g (n t))
+  slid-bind {g = g} (slid-seen e n w m) h = slid-seen e n w (made-bind g m)
 
   free-bind : {A B : Type 0} {y : tree.Out St A} {g : A → St → tree.Out St B} → Free y → ((a : A) (s : St) → Lawful (c .iso) quiet s → Free (g a s))
-      → ((o : Light) (z : AnswerParts) (a : A) (s : St) → Other c o → Shows c o z s → Slid o z (g a s) (g a (done-by o s))) → Free (bindOut y g)
+      → ((os : List Light) (us : List (Ans Answer)) (a : A) (s t : St) → Does c os us s t → Slid os us (g a s) (g a t)) → Free (bindOut y g)
   free-bind (free-end l) h k = h _ _ l
-  free-bind (free-ask f l) h k = free-ask (λ v t m. free-bind (f v t m) h k) (λ o z v t n p. slid-bind (l o z v t n p) (λ a s q. k o z a s n q))
+  free-bind (free-ask f l) h k = free-ask (λ v t m. free-bind (f v t m) h k) (λ os us v s t p. slid-bind (l os us v s t p) (λ a s t q. k os us a s t q))
 
   -- ---- scripts
 
   pub record Slides {A : Type 0} (p : Script true A) : Type 0 where
     pub free : (s : St) → Lawful (c .iso) quiet s → Free (run concrete p s)
-    pub slid : (o : Light) (z : AnswerParts) (s : St) → Other c o → Shows c o z s → Slid o z (run concrete p s) (run concrete p (done-by o s))
+    pub slid : (os : List Light) (us : List (Ans Answer)) (s t : St) → Does c os us s t → Slid os us (run concrete p s) (run concrete p t)
 
   s-ret : {A : Type 0} {a : A} → Slides (ret a)
-  s-ret = record { free = λ s l. free-end l; slid = λ o z s n p. slid-end p }
+  s-ret = record { free = λ s l. free-end l; slid = λ os us s t p. slid-end p }
 
   s-bind : {A B : Type 0} {p : Script true A} {f : A → Script true B} → Slides p → ((a : A) → Slides (f a)) → Slides (bind p f)
   s-bind h k = record {
-    free = λ s l. free-bind (h .free s l) (λ a t m. k a .free t m) (λ o z a t n p. k a .slid o z t n p);
-    slid = λ o z s n p. slid-bind (h .slid o z s n p) (λ a t q. k a .slid o z t n q);
+    free = λ s l. free-bind (h .free s l) (λ a t m. k a .free t m) (λ os us a s t p. k a .slid os us s t p);
+    slid = λ os us s t p. slid-bind (h .slid os us s t p) (λ a s t q. k a .slid os us s t q);
   }
 
   s-then : {A B : Type 0} {p : Script true A} {q : Script true B} → Slides p → Slides q → Slides (p >> q)
   s-then h k = s-bind h (λ _. k)
 
   s-test : {A : Type 0} {p q : Script true A} (b : Bool) → Slides p → Slides q → Slides (test b p q)
-  s-test true h k = record { free = λ s l. h .free s l; slid = λ o z s n p. h .slid o z s n p }
-  s-test false h k = record { free = λ s l. k .free s l; slid = λ o z s n p. k .slid o z s n p }
+  s-test true h k = record { free = λ s l. h .free s l; slid = λ os us s t p. h .slid os us s t p }
+  s-test false h k = record { free = λ s l. k .free s l; slid = λ os us s t p. k .slid os us s t p }
 
   s-when : {p : Script true Unit} (b : Bool) → Slides p → Slides (when b p)
   s-when b h = s-test b h s-ret
 
   s-read : (r : Reg) (e : ℕ) → Slides (read r e)
-  s-read r e = record { free = λ s l. free-ask (λ v t m. free-end m) (λ o z v t n p. slid-end p); slid = λ o z s n p. slid-ask p }
+  s-read r e = record { free = λ s l. free-ask (λ v t m. free-end m) (λ os us v s t p. slid-end p); slid = λ os us s t p. slid-ask p }
 
   s-write : (r : Reg) (e v : ℕ) → Slides (write r e v)
-  s-write r e v = record { free = λ s l. free-ask (λ v t m. free-end m) (λ o z v t n p. slid-end p); slid = λ o z s n p. slid-ask p }
+  s-write r e v = record { free = λ s l. free-ask (λ v t m. free-end m) (λ os us v s t p. slid-end p); slid = λ os us s t p. slid-ask p }
 
   s-callback : Slides callback
-  s-callback = record { free = λ s l. free-ask (λ v t m. free-end m) (λ o z v t n p. slid-end p); slid = λ o z s n p. slid-ask p }
+  s-callback = record { free = λ s l. free-ask (λ v t m. free-end m) (λ os us v s t p. slid-end p); slid = λ os us s t p. slid-ask p }
 
   s-get : (q : Cell) → Slides (get q)
   s-get q = record {
     free = λ s l. free-end l;
-    slid = λ o z s n p. subst (λ v. Slid o z (ends (getOn q s) s) (ends v (done-by o s))) (sym (get-done c o s (p .lawful) q)) (slid-end p);
+    slid = λ os us s t p. subst (λ v. Slid os us (ends (getOn q s) s) (ends v t)) (sym (does-get c p q)) (slid-end p);
   }
 
   s-put : (q : Cell) (v : Val q) → isControl q ≡ false → Slides (put q v)
-  s-put q v h = record {
-    free = λ s l. free-end (lawful-put c q v l h);
-    slid = λ o z s n p. subst (λ t. Slid o z (ends tt (putOn q v s)) (ends tt t)) (sym (put-done c o s (p .lawful) q v))
-        (slid-end (record { lawful = lawful-put c q v (p .lawful) h; sees = seen-put o q v s (p .lawful .rest .sized) ∙ p .sees }));
-  }
-
-  s-changed : (e : ℕ) → c .iso Out e ≡ true → Slides (is (changed e))
-  s-changed e i = record {
-    free = λ s l. free-end l;
-    slid = λ o z s n p. subst (λ v. Slid o z (ends (isOf (changed e) s) s) (ends v (done-by o s))) (sym (changed-done c o s (p .lawful) e)) (slid-end p);
-  }
-
-  s-marked : (e : ℕ) → c .iso Out e ≡ true → Slides (look (marked e))
-  s-marked e i = record {
-    free = λ s l. free-end l;
-    slid = λ o z s n p. subst (λ v. Slid o z (ends (lookOf (marked e) s) s) (ends v (done-by o s))) (sym (marked-done c o s (p .lawful) e)) (slid-end p);
-  }
-
-  s-setup-word : (k : ℕ) → Slides (look (setup-word k))
-  s-setup-word k = record {
-    free = λ s l. free-end l;
-    slid = λ o z s n p. subst (λ v. Slid o z (ends (lookOf (setup-word k) s) s) (ends v (done-by o s))) (sym (setup-done c o s k)) (slid-end p);
-  }
+  s-put q v h = record { free = λ s l. free-end (lawful-put c q v l h); slid = λ os us s t p. slid-end (does-put c p q v h) }
 
   s-gathered : Slides (fetch gathered)
   s-gathered = record {
     free = λ s l. free-end l;
-    slid = λ o z s n p. subst (λ v. Slid o z (ends (listed (s .0 .wakes)) s) (ends v (done-by o s))) (sym (ap listed (wakes-same c o s))) (slid-end p);
+    slid = λ os us s t p. subst (λ v. Slid os us (ends (listed (s .0 .wakes)) s) (ends v t)) (sym (ap listed (does-wakes-same c p))) (slid-end p);
   }
 
   -- a change of the wake-ups alone
   s-wakes : (q : Act) (f : Wakes → Wakes) → allocates q ≡ false → ((s : St) → actOn q s ≡ (withWakes (s .0) (f (s .0 .wakes)), s .1)) → Slides (act q)
-  s-wakes q f a e = record {
-    free = λ s l. free-end (lawful-act c q a l);
-    slid = λ o z s n p. subst (λ t. Slid o z (ends tt (actOn q s)) (ends tt t))
-        (sym (e (done-by o s) ∙ ap (λ w. (withWakes (done-by o s .0) (f w), done-by o s .1)) (wakes-same c o s)
-        ∙ wakes-done c o s (f (s .0 .wakes)) ∙ ap (done-by o) (sym (e s))))
-        (slid-end (record { lawful = lawful-act c q a (p .lawful); sees = ap (seen o) (e s) ∙ seen-wakes o s (f (s .0 .wakes)) ∙ p .sees }));
-  }
+  s-wakes q f a e = record { free = λ s l. free-end (lawful-act c q a l); slid = λ os us s t p. slid-end (does-wakes c p q f a e) }
 
   s-waken : (codes : List ℕ) → Slides (act (waken codes))
   s-waken codes = s-wakes (waken codes) (all-woken codes) refl (λ s. refl)
@@ -169,34 +163,35 @@ module _ (c : Channel) where
   s-no-wakes : Slides (act no-wakes)
   s-no-wakes = s-wakes no-wakes unwoken refl (λ s. refl)
 
-  -- an arrival on the channel; on another
-  s-arrive : (e m : ℕ) → Slides (hand (arrive e m))
-  s-arrive e m = by (eqb e (c .number)) refl
-    where
-      own-arrive : Slides (hand (arrive (c .number) m))
-      own-arrive = record {
-        free = λ s l. free-ask (λ v t m. free-end m) (λ o z v t n p. slid-end p);
-        slid = λ o z s n p. let w = handOn (arrive (c .number) m) s in
-            subst (λ (y : ℕ × St). Slid o z (asks (Receive (c .number) (w .0)) (w .1) (λ _ t. ends tt t))
-            (asks (Receive (c .number) (y .0)) (y .1) (λ _ t. ends tt t)))
-            (sym (arrive-done c o n s (p .lawful) m))
-            (slid-ask (record { lawful = lawful-hand c (arrive (c .number) m) (p .lawful); sees = seen-arrive c o n s (p .lawful) m ∙ p .sees }));
-      }
+  s-wake : (dir : Dir) (e : ℕ) → Slides (wake dir e)
+  s-wake dir e = s-waken _
 
-      by : (b : Bool) → eqb e (c .number) ≡ b → Slides (hand (arrive e m))
-      by true h = subst (λ i. Slides (hand (arrive i m))) (sym (eqb-true e (c .number) h)) own-arrive
-      by false h = record { free = λ s l. free-ask (λ v t m. free-end m) (λ o z v t n p. slid-end p); slid = λ o z s n p. slid-lost h }
+  -- an arrival on the channel; on another
+  s-own-arrive : (m : ℕ) → Slides (hand (arrive (c .number) m))
+  s-own-arrive m = record {
+    free = λ s l. free-ask (λ v t m. free-end m) (λ os us v s t p. slid-end p);
+    slid = λ os us s t p. let w = handOn (arrive (c .number) m) s in
+        subst (λ y. Slid os us (asks (Receive (c .number) (w .0)) (w .1) (λ _ t. ends tt t))
+        (asks (Receive (c .number) y) (handOn (arrive (c .number) m) t .1) (λ _ t. ends tt t)))
+        (sym (does-address c p m)) (slid-ask (does-arrive c p m));
+  }
+
+  s-other-arrive : (e m : ℕ) → eqb e (c .number) ≡ false → Slides (hand (arrive e m))
+  s-other-arrive e m h = record {
+    free = λ s l. free-ask (λ v t m. free-end m) (λ os us v s t p. slid-end p);
+    slid = λ os us s t p. slid-lost (λ _. never h);
+  }
 
   -- ---- a completion: an access that is not the channel's comes before anything else
 
   data Lost {A : Type 0} : tree.Out St A → Type 0 where
-    lost : {q : Access} {s : St} {k : ℕ → St → tree.Out St A} → ownable (c .number) q ≡ false → Lost (asks q s k)
+    lost : {q : Access} {s : St} {k : ℕ → St → tree.Out St A} → ((t : St) → Another (c .number) q (k sof t)) → Lost (asks q s k)
 
-  lost-slid : {o : Light} {z : AnswerParts} {A : Type 0} {y u : tree.Out St A} → Lost y → Slid o z y u
+  lost-slid : {os : List Light} {us : List (Ans Answer)} {A : Type 0} {y u : tree.Out St A} → Lost y → Slid os us y u
   lost-slid (lost n) = slid-lost n
 
   lost-bind : {A B : Type 0} {y : tree.Out St A} (g : A → St → tree.Out St B) → Lost y → Lost (bindOut y g)
-  lost-bind g (lost n) = lost n
+  lost-bind g (lost n) = lost (λ t. another-bind g (n t))
 
   abbrev loads : ℕ → Bool → Script true Unit
   loads e b = test b (hand (send e) >> (look (next-len In e) >>= λ n. write EpTLen e n)) (write EpTLen e 0)
@@ -205,23 +200,20 @@ module _ (c : Channel) where
   load-lost e s = by (isOf (waiting In e) s)
     where
       by : (b : Bool) → Lost (run concrete (loads e b) s)
-      by true = lost refl
-      by false = lost refl
+      by true = lost (λ _. never refl)
+      by false = lost (λ _. never refl)
 
   load-free : (e : ℕ) (s : St) → Free (run concrete (isoInLoad {i = true} e) s)
   load-free e s = by (isOf (waiting In e) s)
     where
       by : (b : Bool) → Free (run concrete (loads e b) s)
-      by true = free-ask (λ v t m. free-ask (λ v t m. free-end m) (λ o z v t n p. slid-end p)) (λ o z v t n p. slid-lost refl)
-      by false = free-ask (λ v t m. free-end m) (λ o z v t n p. slid-end p)
-
-  s-wake : (dir : Dir) (e : ℕ) → Slides (wake dir e)
-  s-wake dir e = s-waken _
+      by true = free-ask (λ v t m. free-ask (λ v t m. free-end m) (λ os us v s t p. slid-end p)) (λ os us v s t p. slid-lost (λ _. never refl))
+      by false = free-ask (λ v t m. free-end m) (λ os us v s t p. slid-end p)
 
   s-complete : (e : ℕ) → Slides (isoInComplete e)
   s-complete e = record {
-    free = λ s l. free-bind (load-free e (actOn (complete e) s)) (λ a t m. s-wake In e .free t m) (λ o z a t n p. s-wake In e .slid o z t n p);
-    slid = λ o z s n p. lost-slid (lost-bind (λ _ t. run concrete (wake {i = true} In e) t) (load-lost e (actOn (complete e) s)));
+    free = λ s l. free-bind (load-free e (actOn (complete e) s)) (λ a t m. s-wake In e .free t m) (λ os us a s t p. s-wake In e .slid os us s t p);
+    slid = λ os us s t p. lost-slid (lost-bind (λ _ t. run concrete (wake {i = true} In e) t) (load-lost e (actOn (complete e) s)));
   }
 
   -- ---- the interrupt
@@ -284,12 +276,77 @@ module _ (c : Channel) where
   s-late-walk frame [] = s-ret
   s-late-walk frame (e ∷ es) = s-then (s-bind (s-first e frame) (λ b. s-when b (s-complete e))) (s-late-walk frame es)
 
-  s-arrives : (e n : ℕ) → Slides (arrives e n)
-  s-arrives e n = s-then (s-arrive e n) (s-wake Out e)
+  s-arrives : (e n : ℕ) → Slides (hand (arrive e n)) → Slides (arrives e n)
+  s-arrives e n h = s-then h (s-wake Out e)
+
+  -- its own
+  s-own-check : (x : Transfer) (iso : Bool) → Slides (checkOne x iso (c .number))
+  s-own-check x iso = s-bind changes (λ b. s-when b (s-test _ (s-arrives (c .number) (x .len) (s-own-arrive (x .len)))
+      (s-bind (s-read IntSt 0) (λ st. s-test _ s-ret (s-bind looks-len (λ len. s-arrives (c .number) len (s-own-arrive len)))))))
+    where
+      changes : Slides (is (changed (c .number)))
+      changes = record {
+        free = λ s l. free-end l;
+        slid = λ os us s t p. subst (λ v. Slid os us (ends (isOf (changed (c .number)) s) s) (ends v t)) (sym (does-own c p)) (slid-end p);
+      }
+
+      looks-len : Slides (look (marked (c .number)))
+      looks-len = record {
+        free = λ s l. free-end l;
+        slid = λ os us s t p. subst (λ v. Slid os us (ends (lookOf (marked (c .number)) s) s) (ends v t)) (sym (does-marked c p)) (slid-end p);
+      }
+
+  -- another's: with its first word changed an access made for it is next
+  module _ (x : Transfer) (iso : Bool) (e : ℕ) (n : eqb e (c .number) ≡ false) where
+    abbrev rest-of : ℕ → Script true Unit
+    rest-of v = test (arriving v e) done (look (marked e) >>= λ len. arrives e len)
+
+    abbrev body : Bool → Script true Unit
+    body u = test u (arrives e (x .len)) (read IntSt 0 >>= rest-of)
+
+    s-other-arrives : (m : ℕ) → Slides (arrives e m)
+    s-other-arrives m = s-arrives e m (s-other-arrive e m n)
+
+    s-rest : (v : ℕ) → Slides (rest-of v)
+    s-rest v = s-test (arriving v e) s-ret (record {
+      free = λ s l. s-other-arrives (lookOf (marked e) s) .free s l;
+      slid = λ os us s t p. slid-lost (λ _. never n);
+    })
+
+    s-body : (u : Bool) → Slides (body u)
+    s-body u = s-test u (s-other-arrives (x .len)) (s-bind (s-read IntSt 0) s-rest)
+
+    lost-body : (u : Bool) (s : St) → Lost (run concrete (body u) s)
+    unfolding arriving isOut token tokenNumbered
+    lost-body true s = lost (λ _. never n)
+    lost-body false s = lost (λ _. elsewhere (next n))
+
+    made-body : (u : Bool) (s : St) → Made e (run concrete (body u) s)
+    unfolding arriving isOut token tokenNumbered
+    made-body true s = made (λ _. receive)
+    made-body false s = made (λ _. status)
+
+    checks-by : (u v w : Bool) {os : List Light} {us : List (Ans Answer)} {s t : St} → Does c os us s t → (v ≡ w) ⊎ AnyStore os
+        → Slid os us (run {i = true} concrete (when v (body u)) s) (run {i = true} concrete (when w (body u)) t)
+    checks-by u true true p h = s-body u .slid _ _ _ _ p
+    checks-by u false false p h = slid-end p
+    checks-by u true false {s = s} p h = lost-slid (lost-body u s)
+    checks-by u false true p (inl h) = absurd (true≢false (sym h))
+    checks-by u false true {t = t} p (inr h) = slid-seen e n h (made-body u t)
+
+    s-other-check : c .iso Out e ≡ true → Slides (checkOne x iso e)
+    s-other-check i = record {
+      free = λ s l. s-when (isOf (changed e) s) (s-body (entry x iso e)) .free s l;
+      slid = λ os us s t p. checks-by (entry x iso e) (isOf (changed e) s) (isOf (changed e) t) p
+          (⊎-elim (λ w. inr w) (λ w. inl (sym (does-changed c p w e i))) (any-store os));
+    }
 
   s-check : (x : Transfer) (iso : Bool) (e : ℕ) → c .iso Out e ≡ true → Slides (checkOne x iso e)
-  s-check x iso e i = s-bind (s-changed e i) (λ b. s-when b (s-test _ (s-arrives e (x .len))
-      (s-bind (s-read IntSt 0) (λ st. s-test _ s-ret (s-bind (s-marked e i) (λ len. s-arrives e len))))))
+  s-check x iso e i = by (eqb e (c .number)) refl
+    where
+      by : (b : Bool) → eqb e (c .number) ≡ b → Slides (checkOne x iso e)
+      by true h = subst (λ a. Slides (checkOne x iso a)) (sym (eqb-true e (c .number) h)) (s-own-check x iso)
+      by false h = s-other-check x iso e h i
 
   s-check-walk : (x : Transfer) (iso : Bool) (es : List ℕ) → ((e : ℕ) → walk-laws.In e es → c .iso Out e ≡ true) → Slides (checkWalk x iso es)
   unfolding checkWalk
@@ -304,9 +361,9 @@ module _ (c : Channel) where
   s-iso-out : (x : Transfer) (iso : Bool) → Slides (isoOutCheck x iso)
   s-iso-out x iso = record {
     free = λ s l. s-check-walk x iso (setBits (isoOuts (s .0 .globals))) (walk-isos s l) .free s l;
-    slid = λ o z s n p. subst (λ (g : Globals). Slid o z (run {i = true} concrete (checkWalk x iso (setBits (isoOuts (s .0 .globals)))) s)
-        (run {i = true} concrete (checkWalk x iso (setBits (isoOuts g))) (done-by o s))) (sym (get-done c o s (p .lawful) globals-cell))
-        (s-check-walk x iso (setBits (isoOuts (s .0 .globals))) (walk-isos s (p .lawful)) .slid o z s n p);
+    slid = λ os us s t p. subst (λ (g : Globals). Slid os us (run {i = true} concrete (checkWalk x iso (setBits (isoOuts (s .0 .globals)))) s)
+        (run {i = true} concrete (checkWalk x iso (setBits (isoOuts g))) t)) (sym (does-get c p globals-cell))
+        (s-check-walk x iso (setBits (isoOuts (s .0 .globals))) (walk-isos s (does-before c p)) .slid os us s t p);
   }
 
   s-received : (e n : ℕ) → Slides (received e n)
@@ -358,9 +415,23 @@ module _ (c : Channel) where
       s-bind (s-read FrameNo 0) (λ frame. s-bind (s-get globals-cell) (λ g.
       s-served (framed x (isoFor (token (x .st)) o n) (g .«sof_frame») frame) (isoFor (token (x .st)) o n) frame))))))))))
 
+  -- the setup packet may be another; a write that is not the channel's comes next
+  abbrev setup-taken : ℕ → ℕ → Script true Unit
+  setup-taken low high = modifyEp Out 0 (λ s. withArmed 0 (withReady 0 s)) >> (modifyEp In 0 (λ s. withArmed 0 (withReady 0 s))
+      >> (modify (withSetup 1 low high) >> (write IntFg 0 SETUP_ACT >> (wake Out 0 >> wake In 0))))
+
+  s-setup-taken : (low high : ℕ) → Slides (setup-taken low high)
+  s-setup-taken low high = s-then (s-modify-ep Out 0 _) (s-then (s-modify-ep In 0 _) (s-then (s-modify _)
+      (s-then (s-write IntFg 0 _) (s-then (s-wake Out 0) (s-wake In 0)))))
+
+  s-take-setup : Slides takeSetup
+  s-take-setup = record {
+    free = λ s l. s-setup-taken (lookOf (setup-word 0) s) (lookOf (setup-word 1) s) .free s l;
+    slid = λ os us s t p. slid-lost (λ _. never refl);
+  }
+
   s-setup : Slides onSetup
-  s-setup = s-then (s-write EpRxCtrl 0 _) (s-then (s-write EpTxCtrl 0 _) (s-bind (s-setup-word 0) (λ low. s-bind (s-setup-word 1) (λ high.
-      s-then (s-modify-ep Out 0 _) (s-then (s-modify-ep In 0 _) (s-then (s-modify _) (s-then (s-write IntFg 0 _) (s-then (s-wake Out 0) (s-wake In 0)))))))))
+  s-setup = s-then (s-write EpRxCtrl 0 _) (s-then (s-write EpTxCtrl 0 _) s-take-setup)
 
   s-interrupt : Slides onInterrupt
   s-interrupt = s-bind (s-read IntFg 0) (λ flag.
@@ -384,7 +455,7 @@ module _ (c : Channel) where
   FreeWay idle = Unit {0}
   FreeWay (busy false a k) = Unit {0}
   FreeWay (busy true a k) = ((v : ℕ) (t : St) → Lawful (c .iso) quiet t → Free (k v t))
-      × ((o : Light) (z : AnswerParts) (v : ℕ) (t : St) → Other c o → Shows c o z t → Slid o z (k v t) (k v (done-by o t)))
+      × ((os : List Light) (us : List (Ans Answer)) (v : ℕ) (s t : St) → Does c os us s t → Slid os us (k v s) (k v t))
 
   abbrev FreeAfter : Called → Type 0
   FreeAfter x = FreeWay (x .1 .way)

@@ -54,11 +54,11 @@ module _ {A : Type 0} where
   never-made x (Wait n) o h = refl
   never-made x Callback o h = refl
 
-  another-made : {x : ℕ} {q : Access} {o : tree.Out St A} → Another x q o → madeFor x q o ≡ false
+  pub another-made : {x : ℕ} {q : Access} {o : tree.Out St A} → Another x q o → madeFor x q o ≡ false
   another-made {x} (never {q = q} {o = o} h) = never-made x q o h
   another-made (elsewhere {r = r} (next h)) = ap (λ b. sameReg r IntSt && b) h ∙ and-false (sameReg r IntSt)
 
-  its-made : {x : ℕ} {q : Access} {o : tree.Out St A} → Its x q o → madeFor x q o ≡ true
+  pub its-made : {x : ℕ} {q : Access} {o : tree.Out St A} → Its x q o → madeFor x q o ≡ true
   its-made {x} status = eq-eqb x x refl
   its-made {x} receive = eq-eqb x x refl
 

@@ -1,9 +1,10 @@
 -- The slot buffer that a call is lent: the one that the last call left, but for the chip's stores
 use mathlib.Core.Bool.{true}
+use mathlib.Core.List.{List, [], _∷_}
 use mathlib.Core.Logic.{_⊎_}
 use mathlib.Core.Path.{_≡_}
 use Prim.Native.Nat.{ℕ, _+_, _%_, _≤_, _<_}
-use lib.ListN.{length, getD}
+use lib.ListN.{length, getD, set}
 use Rattle.bits.specs.Bit.{isSet}
 use Rattle.regs.specs.declared.Dir.the-variants.{Out}
 use Rattle.state.specs.Driver.{Driver, epOn}
@@ -38,3 +39,14 @@ pub record StoredAlike (c : Channel) (s t : St) (b b′ : Buf) : Type 0 where
 pub record OwnLent (c : Channel) (s : St) (b : Buf) : Type 0 where
   pub stored : Stored (s .0) (s .1) b
   pub own : (k : ℕ) → Outside c (s .0) k → getD b k 0 ≡ getD (s .1) k 0
+
+-- ---- bytes that the chip stores, each at its place
+
+abbrev pub patched : List (ℕ × ℕ) → Buf → Buf
+patched [] b = b
+patched (p ∷ ps) b = patched ps (set b (p .0) (p .1))
+
+-- of others than the channel: each lies outside of its slots, and in an armed slot or in EP0's buffer
+abbrev pub Lands : Channel → Driver → List (ℕ × ℕ) → Type 0
+Lands c d [] = Unit {0}
+Lands c d (p ∷ ps) = Outside c d (p .0) × (Away d (p .0) → ⊥) × Lands c d ps

@@ -1,11 +1,11 @@
-//! What the drop-in has beside the Rust's names: descriptor allocation, stamped takes, bus time.
+//! What the drop-in has beside the Rust's names: descriptor allocation, stamped takes, bus time, a guarded bus.
 
 use core::task::{Context, Poll, Waker};
 use std::pin::pin;
 
 use embassy_usb_driver::{
-    Bus as _, Direction, Driver as _, Endpoint as _, EndpointAddress, EndpointIn as _, EndpointInfo, EndpointOut as _,
-    EndpointType,
+    Bus as _, ControlPipe as _, Direction, Driver as _, Endpoint as _, EndpointAddress, EndpointIn as _, EndpointInfo,
+    EndpointOut as _, EndpointType,
 };
 use seam::{reg, Mapping, ARENA};
 use usbhs_port::Refusal;
@@ -178,8 +178,66 @@ fn put_off() {
     }
 }
 
+/// With the bus guarded SOFs interrupt only while an endpoint is enabled, from the end of that control transfer.
+fn held_sofs() {
+    let interrupts = || seam::written(reg::INT_EN, 0) >> 6 & 1 != 0;
+    for guarded in [false, true] {
+        fresh(|mut driver| {
+            usbhs::guard_bus(guarded);
+            usbhs::set_sof_callback(|| ());
+            assert_eq!(interrupts(), !guarded);
+            driver.alloc_all(&DESCRIPTOR).unwrap();
+            let (mut bus, mut control) = driver.start(64);
+            assert!(once(control.setup()).is_none());
+            seam::set(reg::INT_FG, 0, 0x20);
+            // SAFETY: after EP0's start
+            unsafe { <InterruptHandler<USBHS> as Handler<Global>>::on_interrupt() };
+            assert!(once(control.setup()).is_some());
+            bus.endpoint_set_enabled(0x01.into(), true);
+            assert_eq!(interrupts(), !guarded, "within the transfer");
+            assert!(once(control.setup()).is_none());
+            assert!(interrupts(), "after it");
+            bus.endpoint_set_enabled(0x01.into(), false);
+            assert_eq!(interrupts(), !guarded, "no endpoint is enabled");
+        });
+    }
+}
+
+/// The chip clears a flag that is written.
+fn release() {
+    if seam::written(reg::INT_FG, 0) == 2 {
+        seam::set(reg::INT_FG, 0, 0);
+    }
+}
+
+/// A packet lands between a SOF's interrupt's reading of INT_ST and its release: nobody looks, unless the bus is
+/// guarded. The release is made once.
+fn looked_after() {
+    for guarded in [false, true] {
+        fresh(|mut driver| {
+            usbhs::guard_bus(guarded);
+            driver.alloc_all(&DESCRIPTOR).unwrap();
+            let (mut bus, _control) = driver.start(64);
+            bus.endpoint_set_enabled(0x01.into(), true);
+            let at = seam::written(reg::EP_RX_DMA, 1) as usize as *mut u8;
+            // SAFETY: an address that the driver handed out, of a buffer of SIZE bytes
+            unsafe { core::slice::from_raw_parts_mut(at, 12) }.fill(9);
+            seam::write(reg::INT_FG, 0, 0);
+            critical_section::at_exit(Some(release));
+            sof(8);
+            critical_section::at_exit(None);
+            let taken = usbhs::iso_out_take(1, |bytes| bytes.to_vec());
+            assert_eq!(taken, guarded.then(|| vec![9; 12]));
+            sof(9);
+            assert_eq!(usbhs::iso_out_take(1, |_| ()), None, "each packet once");
+        });
+    }
+}
+
 /// All of them; panics where one is not as it should be.
 pub fn all() {
+    held_sofs();
+    looked_after();
     descriptors();
     stamps();
     bus_time();

@@ -6,7 +6,7 @@ use embassy_usb_driver::EndpointError;
 use usbhs_port::{Answer, Port};
 
 use super::lent::call;
-use super::{length, operate, polled, request, Instance, EP_MAX_PACKET_SIZE, WAKERS};
+use super::{guard, length, operate, polled, request, Instance, EP_MAX_PACKET_SIZE, WAKERS};
 
 const IN0: usize = 0;
 const OUT0: usize = 16;
@@ -41,12 +41,15 @@ impl<'d, T: Instance, const SIZE: usize> embassy_usb_driver::ControlPipe for Con
 
     async fn setup(&mut self) -> [u8; 8] {
         let _ = operate::<T>(|p| p.begin_setup());
+        guard::transfer::<T>(false);
         let mut packet = [0; 8];
-        poll_fn(|cx| {
+        let packet = poll_fn(|cx| {
             WAKERS[OUT0].register(cx.waker());
             polled(call(|p| p.poll_setup(&mut packet)), cx).map(|_| packet)
         })
-        .await
+        .await;
+        guard::transfer::<T>(true);
+        packet
     }
 
     async fn data_out(&mut self, buf: &mut [u8], first: bool, _last: bool) -> Result<usize, EndpointError> {

@@ -2,6 +2,7 @@
 
 use core::cell::UnsafeCell;
 
+use super::guard::Guard;
 use crate::pac::usbhs::{Usb, Usbd, Usbh};
 use usbhs_port::{Answer, BusTime, Lend, Packet, Port, State};
 
@@ -31,6 +32,8 @@ pub(super) struct Lent {
     pub(super) callback: Option<fn()>,
     /// `free::<T>` of the driver's peripheral.
     pub(super) free: Option<fn(Free) -> Answer>,
+    /// Against a bus that does not wait.
+    pub(super) guard: Guard,
 }
 
 impl Lent {
@@ -42,6 +45,7 @@ impl Lent {
         size: 0,
         callback: None,
         free: None,
+        guard: Guard::NEW,
     };
 
     /// Buffers that the driver may use from now on.
@@ -107,6 +111,21 @@ pub(super) fn on_packet<R>(packet: Packet, f: impl FnOnce(&[u8]) -> R) -> R {
     // SAFETY: inside the lent buffers; until it is closed no call writes to an open packet's slot, and the chip was not
     // handed it (both proved)
     f(unsafe { core::slice::from_raw_parts(slots.add(begin), n) })
+}
+
+/// The first word of an armed slot of an isochronous OUT, until a packet lands there.
+const MARK: u32 = 0x5A3C_A5C3;
+
+/// Whether a packet lies in the armed slot of an isochronous OUT endpoint that is guarded.
+pub(super) fn left_in_a_slot() -> bool {
+    with(|l| {
+        let eps = l.guard.looked_at();
+        (1..16).filter(|ep| eps >> ep & 1 != 0).any(|ep| {
+            let at = l.guard.armed[ep] as usize;
+            // SAFETY: a word inside the lent buffers, which the chip may write meanwhile
+            at + 4 <= l.length && unsafe { core::ptr::read_volatile(l.slots.add(at).cast::<u32>()) } != MARK
+        })
+    })
 }
 
 /// The block's registers by their names in device mode.

@@ -17,6 +17,8 @@
 //! 7. **Errors.** Row 10 is a buffer overflow, every other refusal of a request "disabled", as in the Rust. An enabling
 //!    without bus time is counted ([`enablings_turned_down`]) and logged; the endpoint stays disabled.
 //! 8. **`iso_in_fill`** runs its closure only for an enabled isochronous IN with room.
+//! 9. **[`guard_bus`]**, off at first: SOF interrupts only while endpoints are enabled, a look at the slots after each
+//!    interrupt.
 
 use core::marker::PhantomData;
 use core::sync::atomic::{AtomicU32, Ordering};
@@ -37,10 +39,12 @@ use crate::{interrupt, Peri, PeripheralType};
 
 pub mod control;
 mod endpoint;
+mod guard;
 mod iso;
 mod lent;
 mod registers;
 
+pub use guard::guard_bus;
 pub use iso::{
     endpoint_enabled, iso_in_advance, iso_in_fill, iso_in_pending, iso_in_prime, iso_in_register_waker,
     iso_in_set_paced, iso_out_overruns, iso_out_take, iso_out_take_stamped, microframe, set_sof_callback,
@@ -109,7 +113,7 @@ fn free<T: Instance>(what: Free) -> Answer {
             Answer::End { result: (frame & 0x7FF) << 3 | frame >> 13, wakes: 0 }
         }
         Free::Sof => {
-            critical_section::with(|_| T::dregs().int_en().modify(|w| w.set_sof_act(true)));
+            guard::let_sofs::<T>();
             Answer::End { result: 0, wakes: 0 }
         }
     }
@@ -157,6 +161,7 @@ pub struct InterruptHandler<T: Instance> {
 impl<T: Instance> interrupt::typelevel::Handler<T::Interrupt> for InterruptHandler<T> {
     unsafe fn on_interrupt() {
         let _ = run::<T>(|p| p.begin_interrupt());
+        guard::look_after_interrupt::<T>();
         iso::deferred();
     }
 }

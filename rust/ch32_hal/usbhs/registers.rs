@@ -11,7 +11,7 @@ use ch32_metapac::usbhs::vals::{EndpointType as EpKind, EpRxResponse, EpTog, EpT
 
 use usbhs_port::{Access, Register, Task};
 
-use super::{lent, Instance, WAKERS};
+use super::{guard, lent, Instance, WAKERS};
 
 /// The access before this one of the operation, where it was a reading that a write may follow: the register, its word
 /// as the port has it.
@@ -211,7 +211,7 @@ impl<T: Instance> Access for Chip<T> {
                 set_bits!(w, on: set_dev_nak 0, set_fifo_ov 1, set_setup_act 2, set_suspend 3, set_bus_rst 4,
                     set_transfer 5);
                 // the port is told that there is a callback, as there may be one later
-                w.set_sof_act(on(6) && lent::with(|l| l.callback.is_some()));
+                w.set_sof_act(on(6) && lent::with(|l| l.callback.is_some() && l.guard.sofs()));
             }),
             Register::DevAd => r.dev_ad().write(|w| w.set_addr(word as u8)),
             Register::HostCtrl => h.ctrl().write(|w| w.set_phy_suspendm(on(0))),
@@ -242,6 +242,11 @@ impl<T: Instance> Access for Chip<T> {
             }
             // the port writes no other
             _ => {}
+        }
+        if matches!(register, Register::EpConfig | Register::EpType | Register::EpRxDma)
+            && lent::with(|l| l.guard.written(register, ep, word))
+        {
+            guard::let_sofs::<T>();
         }
     }
 }

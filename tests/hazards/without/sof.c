@@ -2,9 +2,9 @@
 #include "../../../firmware/sof.h"
 #include "../../../firmware/board.h"
 
-void sof_write(unsigned number, unsigned endpoint, uint32_t value)
+void sof_write(unsigned number, uint32_t value)
 {
-    register_write(number, endpoint, value);
+    register_write(number, 0, value);
 }
 
 int sof_is_on(void)
