@@ -1,7 +1,9 @@
 /* The card against what the guest says that it streamed. Each packet on the card is one that was sent, whole, in order
- * and once; and all that were on the bus are there, except empty ones, those counted as overruns, and those sent to
- * nobody. Packets of the recorder's own endpoint are passed over. Usage: check CARD LOG [FLOOR] [LATE]; LATE: packets
- * may lack last bytes that equal the mark's (docs/DIFFERENCES.md 3), as they come late. */
+ * and once; and all that were on the bus are there, except empty ones and short ones that equal the mark's beginning,
+ * which nobody can see (docs/DIFFERENCES.md 3), those counted as overruns, and those sent to nobody. Packets of the
+ * recorder's own endpoint are passed over.
+ *
+ * check CARD LOG [FLOOR] [LATE]; LATE: packets may lack last bytes that equal the mark's, as they come late. */
 #include <stdio.h>
 #include <stdlib.h>
 #include <string.h>
@@ -14,7 +16,7 @@
 /* What the log says. */
 static struct {
     unsigned sent, broken;
-    unsigned long on_bus, empty, unheard, recorded, overruns;
+    unsigned long on_bus, empty, marked, unheard, recorded, overruns;
 } log;
 
 static int read_log(const char *name)
@@ -30,7 +32,8 @@ static int read_log(const char *name)
             log.sent = b;
         if (sscanf(line, "guest: broken %u %u", &a, &b) == 2)
             log.broken += b - a, log.sent = b;
-        sscanf(line, "bridge: total %lu empty %lu unheard %lu", &log.on_bus, &log.empty, &log.unheard);
+        sscanf(line, "bridge: total %lu empty %lu marked %lu unheard %lu", &log.on_bus, &log.empty, &log.marked,
+               &log.unheard);
         sscanf(line, "device: %lu packets recorded, %lu overruns", &log.recorded, &log.overruns);
     }
     fclose(f);
@@ -60,6 +63,24 @@ static int is_packet(unsigned n, const uint8_t *bytes, unsigned length, int late
     unsigned m = make_packet(n, made);
 
     return (m == length || (late && m > length && m <= length + 4)) && memcmp(made, bytes, length) == 0;
+}
+
+/* Packets from one to another that are not on the card; the empty ones do not count. */
+static void tell_missing(unsigned from, unsigned to)
+{
+    static unsigned shown;
+    uint8_t made[PACKET_MOST];
+
+    for (; from < to; from++) {
+        unsigned length = make_packet(from, made);
+
+        if (length == 0 || shown++ >= SHOWN)
+            continue;
+        printf("check: packet %u, %u bytes, is not on the card:", from, length);
+        for (unsigned i = 0; i < length && i < 8; i++)
+            printf(" %02X", made[i]);
+        printf("\n");
+    }
 }
 
 /* The next packet from n on that was sent just so, or `sent`. */
@@ -109,15 +130,17 @@ int main(int argc, char **argv)
                        USBHS_LENGTH(word), n);
             continue;
         }
+        tell_missing(n, found);
         cut += make_packet(found, made) != USBHS_LENGTH(word);
         n = found + 1;
     }
-    printf("check: the guest sent %u packets (%u in URBs that were broken off), %lu were on the bus (%lu empty, %lu to "
-           "nobody); %u are on the card, %zu blocks (and %u of the recorder's own); %u wrong, %u cut, %lu overruns\n",
-           log.sent, log.broken, log.on_bus, log.empty, log.unheard, given, length / USBHS_BLOCK_LEN, own, wrong, cut,
-           log.overruns);
+    printf("check: the guest sent %u packets (%u in URBs that were broken off), %lu were on the bus (%lu empty, %lu as "
+           "the mark, %lu to nobody); %u are on the card, %zu blocks (and %u of the recorder's own); %u wrong, %u cut, "
+           "%lu overruns\n", log.sent, log.broken, log.on_bus, log.empty, log.marked, log.unheard, given,
+           length / USBHS_BLOCK_LEN, own, wrong, cut, log.overruns);
     if (given < floor || wrong > 0 || given != log.recorded || log.on_bus > log.sent ||
-        log.sent - log.on_bus > log.broken || given + log.overruns + log.unheard + log.empty != log.on_bus) {
+        log.sent - log.on_bus > log.broken ||
+        given + log.overruns + log.unheard + log.empty + log.marked != log.on_bus) {
         printf("check: FAILED\n");
         return 1;
     }

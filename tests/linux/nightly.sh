@@ -1,3 +1,4 @@
+# shellcheck shell=bash
 # The runs of tests/linux/run --nightly. To be sourced there.
 
 nightly() {
@@ -20,7 +21,7 @@ nightly() {
     # suspends, resets and unpluggings in mid-stream, ten of each; a million packets
     ROUNDS=10 LIMIT=300 right recorder xhci recorder-rounds
     ROUNDS=10 LIMIT=300 right zero xhci zero-rounds
-    URBS=5800 FLOOR=1000000 LIMIT=900 right recorder xhci recorder-million
+    URBS=5900 FLOOR=1000000 LIMIT=900 right recorder xhci recorder-million
 
     # the C of firmware, model and bridge under the address and undefined-behaviour sanitizers
     SANITIZE=1 right recorder xhci recorder-sanitized

@@ -8,7 +8,7 @@ unsigned next_address = 1, self_left;
 static unsigned self_failed;
 
 /* Which answer is awaited. */
-static enum { DONE, FIRST_LOOK, ADDRESSED, DEVICE, CONFIGURATION_HEAD, CONFIGURATION } at;
+static enum { DONE, FIRST_LOOK, ADDRESSED, DEVICE, CONFIGURATION_HEAD, CONFIGURATION, STATES } at;
 
 #define DEVICE_DESCRIPTOR 0x0100
 #define CONFIGURATION_DESCRIPTOR 0x0200
@@ -16,6 +16,46 @@ static enum { DONE, FIRST_LOOK, ADDRESSED, DEVICE, CONFIGURATION_HEAD, CONFIGURA
 static void get_descriptor(unsigned which, unsigned length)
 {
     push_standard(OWN, 0, 0x80, 6, which, 0, length);
+}
+
+/* Requests that Linux never sends: to a device that has an address and no configuration (USB 2.0, 9.4). */
+#define STALL (-1)
+static const struct {
+    unsigned type, request, value, index, length;
+    int answer;
+} states[] = {
+    {0x80, 8, 0, 0, 1, 1},               /* GET_CONFIGURATION: 0 */
+    {0x80, 0, 0, 0, 2, 2},               /* GET_STATUS of the device */
+    {0x82, 0, 0, 0x00, 2, 2},            /* of EP0 */
+    {0x82, 0, 0, 0x01, 2, STALL},        /* of an endpoint that is not there yet */
+    {0x81, 0, 0, 0, 2, STALL},           /* of an interface */
+    {0x81, 10, 0, 0, 1, STALL},          /* GET_INTERFACE */
+    {0x01, 11, 1, 0, 0, STALL},          /* SET_INTERFACE */
+    {0x02, 1, 0, 0x01, 0, STALL},        /* CLEAR_FEATURE of such an endpoint */
+    {0x02, 3, 0, 0x00, 0, STALL},        /* SET_FEATURE halt of EP0 */
+    {0x00, 3, 2, 0x0100, 0, STALL},      /* SET_FEATURE test mode */
+    {0x00, 5, 200, 0, 0, STALL},         /* SET_ADDRESS 200 */
+    {0x00, 9, 2, 0, 0, STALL},           /* SET_CONFIGURATION 2 */
+    {0x82, 12, 0, 0x01, 2, STALL},       /* SYNCH_FRAME */
+    {0x80, 6, 0x0100, 0, 18, 18},        /* and the device goes on */
+};
+#define STATE_COUNT (sizeof states / sizeof states[0])
+static unsigned state;
+
+static void ask_state(void)
+{
+    push_standard(OWN, 0, states[state].type, states[state].request, states[state].value, states[state].index,
+                  states[state].length);
+}
+
+/* Whether there is another one to ask. */
+static int next_state(int status)
+{
+    int due = states[state].answer;
+
+    if (due == STALL ? status != usb_redir_stall : status != usb_redir_success || (int)transfer.moved != due)
+        tell("request %u without a configuration: another answer was due", state);
+    return ++state < STATE_COUNT;
 }
 
 int attaching(void)
@@ -45,7 +85,7 @@ static void again(int failed)
 
 void attach_step(int status)
 {
-    if (status != usb_redir_success) {
+    if (status != usb_redir_success && at != STATES) {
         tell("own enumeration failed at %d with %d", at, status);
         if (self_left == 0)
             exit(1);
@@ -72,9 +112,18 @@ void attach_step(int status)
         get_descriptor(CONFIGURATION_DESCRIPTOR, transfer.data[2] | (unsigned)transfer.data[3] << 8);
         at = CONFIGURATION;
         break;
-    default:
+    case CONFIGURATION:
         attached.length = transfer.moved;
         memcpy(attached.configuration, transfer.data, transfer.moved);
+        state = 0;
+        ask_state();
+        at = STATES;
+        break;
+    default:
+        if (next_state(status)) {
+            ask_state();
+            break;
+        }
         at = DONE;
         if (self_left > 0)
             again(0);

@@ -53,9 +53,11 @@ void bridge_end(unsigned interrupts)
     tell("%lu SOFs, %lu resets, %lu suspends, %lu unpluggings, %lu setups, %lu IN, %lu OUT, %lu NAKs, %lu stalls, %lu "
          "wrong PIDs", counts.sofs, counts.resets, counts.suspends, counts.unplugged, counts.setups, counts.ins,
          counts.outs, counts.naks, counts.stalls, counts.wrong_pids);
-    tell("isochronous: %lu OUT (%lu empty, %lu to nobody, %lu slow), %lu IN with %lu bytes", counts.iso_out,
-         counts.iso_out_empty, counts.iso_out_unheard, counts.iso_out_slow, counts.iso_in, counts.iso_in_bytes);
+    tell("isochronous: %lu OUT (%lu empty, %lu as the mark, %lu to nobody, %lu slow), %lu IN with %lu bytes",
+         counts.iso_out, counts.iso_out_empty, counts.iso_out_marked, counts.iso_out_unheard, counts.iso_out_slow,
+         counts.iso_in, counts.iso_in_bytes);
     tell("firmware: %u interrupts; between its accesses %lu SOFs and %lu other steps of the bus", interrupts,
          counts.sofs_between, counts.nested);
-    tell("total %lu empty %lu unheard %lu", counts.iso_out, counts.iso_out_empty, counts.iso_out_unheard);
+    tell("total %lu empty %lu marked %lu unheard %lu", counts.iso_out, counts.iso_out_empty, counts.iso_out_marked,
+         counts.iso_out_unheard);
 }

@@ -8,8 +8,8 @@
  *   clock.c    microframes, time, suspend and resume
  *   sockets.c  the guest's two lines: usbredir, and a serial port for words
  *
- * usbredir keeps some things to itself, which are made here: SET_ADDRESS, after each reset; suspend, when the guest says
- * on its serial port that it has suspended the device (any traffic resumes it). */
+ * usbredir keeps some things to itself, which are made here: SET_ADDRESS, after each reset; suspend, when the guest
+ * says on its serial port that it has suspended the device (any traffic resumes it). */
 #ifndef BRIDGE_H
 #define BRIDGE_H
 
@@ -30,7 +30,7 @@ unsigned random_number(unsigned below);
 
 extern struct counts {
     unsigned long sofs, sofs_between, resets, suspends, unplugged, setups, ins, outs, naks, stalls, wrong_pids, nested;
-    unsigned long iso_in, iso_in_bytes, iso_out, iso_out_empty, iso_out_unheard, iso_out_slow;
+    unsigned long iso_in, iso_in_bytes, iso_out, iso_out_empty, iso_out_unheard, iso_out_slow, iso_out_marked;
 } counts;
 
 /* ---- queues.c */

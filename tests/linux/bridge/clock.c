@@ -2,8 +2,8 @@
  * for control and bulk.
  *
  * CLOCK=0: the bus waits until the firmware sleeps, so that it is always on time; only SOFs come between its accesses,
- * where it masks interrupts (BETWEEN=n: at each n-th such access; 0: none). CLOCK=n: the bus does not wait. A microframe
- * is n accesses of the firmware's; its tokens follow the SOF and each other after 1 to GAP accesses. */
+ * where it masks interrupts (BETWEEN=n: at each n-th such access; 0: none). CLOCK=n: the bus does not wait. A
+ * microframe is n accesses of the firmware's; its tokens follow the SOF and each other after 1 to GAP accesses. */
 #include "bridge.h"
 #include <time.h>
 #include "emulator/block.h"

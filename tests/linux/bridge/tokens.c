@@ -286,17 +286,31 @@ static int comes_slowly(unsigned i, const struct packet *p)
     return 1;
 }
 
+/* Whether a slot's first word is the mark with these bytes in it too: the driver cannot see such a packet
+ * (docs/DIFFERENCES.md 3). */
+static int is_as_mark(const struct packet *p)
+{
+    static const uint8_t mark[4] = {0xC3, 0xA5, 0x3C, 0x5A};
+
+    return p->length > 0 && memcmp(p->bytes, mark, p->length < 4 ? p->length : 4) == 0;
+}
+
 int iso_out_token(unsigned i)
 {
     struct packet *p = endpoints[i].first;
+    int heard;
 
     if (p == NULL)
         return 0;
     counts.iso_out++;
-    counts.iso_out_empty += p->length == 0;
     iso_gone++;
-    if (!comes_slowly(i, p) && block_out(address, i, 0, p->bytes, p->length) == NOBODY && p->length > 0)
+    heard = comes_slowly(i, p) || block_out(address, i, 0, p->bytes, p->length) != NOBODY;
+    if (p->length == 0)
+        counts.iso_out_empty++;
+    else if (!heard)
         counts.iso_out_unheard++;
+    else if (is_as_mark(p))
+        counts.iso_out_marked++;
     remove_packet(&endpoints[i], p);
     return 1;
 }

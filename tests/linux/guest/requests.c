@@ -18,7 +18,8 @@ static int expect(const char *what, unsigned type, unsigned request, unsigned va
 }
 
 /* The same, and the first byte of the answer. */
-static void expect_byte(const char *what, unsigned type, unsigned request, unsigned index, unsigned length, unsigned byte)
+static void expect_byte(const char *what, unsigned type, unsigned request, unsigned index, unsigned length,
+                        unsigned byte)
 {
     int n = control(type, request, 0, index, length);
 

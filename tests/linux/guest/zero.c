@@ -68,6 +68,8 @@ static void usbtests(int ehci)
     usbtest("halts", 13, 50, 512, 0, 0);
     usbtest("bulk OUT, odd addresses", 17, 50, 512, 0, 0);
     usbtest("bulk IN, odd addresses", 18, 50, 512, 0, 0);
+    usbtest("bulk OUT, odd, premapped", 19, 50, 512, 0, 0);
+    usbtest("bulk IN, odd, premapped", 20, 50, 512, 0, 0);
     usbtest("toggles", 29, 50, 512, 0, 0);
     load_usbtest("alt=1");
     usbtest("chapter 9, setting 1", 9, 20, 0, 0, 0);
@@ -148,7 +150,8 @@ static void halted(unsigned endpoint, unsigned halted)
 {
     int n = control(0x82, 0, 0, endpoint, 2);
 
-    result(n == 2 && bytes[0] == halted, "GET_STATUS of endpoint %02X: %s (due: %u)", endpoint, answer_words(n), halted);
+    result(n == 2 && bytes[0] == halted, "GET_STATUS of endpoint %02X: %s (due: %u)", endpoint, answer_words(n),
+           halted);
 }
 
 static void halts(void)
