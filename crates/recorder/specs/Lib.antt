@@ -1,2 +1,6 @@
 pub mod Ended
 pub mod EndedLaws
+pub mod Ring
+pub mod RingLaws
+pub mod Recording
+pub mod RecordingLaws
