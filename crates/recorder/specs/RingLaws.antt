@@ -101,3 +101,13 @@ pub end-is : (e : Packet) (g : Ring) (next : Writer) (room r : List ℕ) → nex
     → room ≡ pieceRing e g .room → r ≡ filledRoom next (g .writer .number) room → r ≡ endRoom e g
 unfolding endRoom pieceRing
 end-is e g next room r a b x = x ∙ rw (a, b)
+
+-- ---- zeros
+
+pub zeros-part : (n m : ℕ) → n ≤ m → take {A = ℕ} (n - 0) (drop 0 (replicate m 0)) ≡ replicate n 0
+zeros-part n m h = let e : n - 0 ≡ n = omega arith in rw e (zeros n m h)
+  where
+    zeros : (i j : ℕ) → i ≤ j → take {A = ℕ} i (replicate j 0) ≡ replicate i 0
+    zeros zero j l = refl
+    zeros (suc i) zero l = absurd (omega arith)
+    zeros (suc i) (suc j) l = ap (λ (x : List ℕ). 0 ∷ x) (zeros i j (omega arith))

@@ -1,3 +1,8 @@
+use mathlib.Core.Path.{ap, _∙_}
+use denote.Ref.{now}
+use Rattle.card.specs.declared.writer.Writer.{Writer}
+use Rattle.recorder.specs.Ring.{ringOf, packetRing, padding}
+use Rattle.recorder.specs.RecordingLaws.{busy-room, busy-left, not-busy, finish-refused, finish-is}
 use borrow.Author.Needs.{needs}
 use Rattle.recorder.proofs.recording.finish.Statement.{statement}
 use Rattle.recorder.proofs.recording.finish.Tie as tie
@@ -11,11 +16,18 @@ use Rattle.recorder.proofs.ring.put_padding.Reads as put-padding-reads
 
 -- src/recording.rt:124:9
 returns : tie.Need-returns
-returns c = ?
+returns c =
+    let s = c .before .before .args in
+    finish-refused (s .r) (s .overruns) (now (s .room)) (busy-room (s .r) (now (s .room)) (c .if1 .taken))
+
 
 -- src/recording.rt:127:9
 returns-2 : tie.Need-returns-2
-returns-2 c = ?
+returns-2 c =
+    let c3 = c .before .before .before in
+    let s = c3 .before .args in
+    finish-refused (s .r) (s .overruns) (now (s .room)) (busy-left (s .r) (now (s .room)) (c .before .before .if1 .left) (c .if2 .taken))
+
 
 -- src/recording.rt:129:25
 writer-of-requires : tie.Need-writer-of-requires
@@ -43,7 +55,17 @@ same-length c = search needs
 
 -- src/recording.rt:119:1
 returns-3 : tie.Need-returns-3
-returns-3 c = ?
+returns-3 c =
+    let c3 = c .before .before .before in
+    let c6 = c3 .before .before .before in
+    let c9 = c6 .before .before .before in
+    let c12 = c9 .before .before .before in
+    let s = c12 .before .before .before .args in
+    let free = not-busy (s .r) (now (s .room)) (c12 .before .if1 .left) (c9 .before .before .if2 .left) in
+    let padded = c6 .before .before .put-padding .ensures
+    ∙ ap (λ (w : Writer). packetRing 4 (padding (w .used)) (ringOf w (now (s .room)))) (c9 .before .writer-of .ensures) in
+    finish-is (s .r) _ (s .overruns) (now (s .room)) _ _ _ free padded (c3 .before .put-end .ensures) (c .before .left-of .ensures) (c .after .ensures)
+
 
 pub finish-spec : {M : Type 1} → statement M
 finish-spec =

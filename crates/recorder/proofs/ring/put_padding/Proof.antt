@@ -1,3 +1,11 @@
+use mathlib.Core.Path.{ap, _∙_}
+use mathlib.Core.List.{List}
+use Prim.Native.Nat.{ℕ}
+use denote.Ref.{now}
+use Rattle.card.specs.Packet.{packetOf}
+use Rattle.recorder.specs.Ring.{ringOf, packetRing}
+use Rattle.recorder.specs.RingLaws.{zeros-part}
+use lib.ListN.{replicate}
 use borrow.Author.Needs.{needs}
 use Rattle.recorder.proofs.ring.put_padding.Statement.{statement}
 use Rattle.recorder.proofs.ring.put_padding.Tie as tie
@@ -32,7 +40,16 @@ same-length c = search needs
 
 -- src/ring.rt:66:1
 returns : tie.Need-returns
-returns c = ?
+returns c =
+    let c3 = c .before .before .before in
+    let c6 = c3 .before .before .before in
+    let put = c .before .before .put-packet in
+    let n = c3 .before .before .before .padding-of in
+    let s = c6 .before .before .args in
+    let g = ringOf (s .w) (now (s .room)) in
+    put .ensures
+    ∙ ap (λ (l : List ℕ). packetRing 4 (packetOf 15 l) g) (zeros-part (n .result) 501 (n .ensures .1) ∙ ap (λ (x : ℕ). replicate x 0) (n .ensures .0))
+
 
 pub put-padding-spec : {M : Type 1} → statement M
 put-padding-spec =

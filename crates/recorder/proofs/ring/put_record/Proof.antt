@@ -1,3 +1,8 @@
+use native.Mathlib.Omega.{arith}
+use denote.Ref.{now}
+use Rattle.card.specs.Packet.{packetOf}
+use Rattle.recorder.specs.Ring.{ringOf}
+use Rattle.recorder.specs.RingLaws.{record-padded, record-plain}
 use borrow.Author.Needs.{needs}
 use Rattle.recorder.proofs.ring.put_record.Statement.{statement}
 use Rattle.recorder.proofs.ring.put_record.Tie as tie
@@ -20,7 +25,14 @@ same-length c = search needs
 
 -- src/ring.rt:83:9
 returns : tie.Need-returns
-returns c = ?
+returns c =
+    let c3 = c .before .before .before in
+    let c6 = c3 .before .before .before in
+    let c9 = c6 .before .before .before in
+    let s = c9 .before .before .before .args in
+    let p = packetOf (s .endpoint) (now (s .bytes)) in
+    record-padded p (ringOf (s .w) (now (s .room))) _ _ (c6 .before .before .put-packet .ensures) (c3 .before .if1 .taken) (c .before .before .put-padding .ensures)
+
 
 -- src/ring.rt:77:1
 same-length-2 : tie.Need-same-length-2
@@ -28,7 +40,13 @@ same-length-2 c = search needs
 
 -- src/ring.rt:77:1
 returns-2 : tie.Need-returns-2
-returns-2 c = ?
+returns-2 c =
+    let c3 = c .before .before .before in
+    let c6 = c3 .before .before .before in
+    let s = c6 .before .before .args in
+    let p = packetOf (s .endpoint) (now (s .bytes)) in
+    record-plain p (ringOf (s .w) (now (s .room))) _ (c3 .before .put-packet .ensures) (c .if1 .left)
+
 
 pub put-record-spec : {M : Type 1} → statement M
 put-record-spec =
