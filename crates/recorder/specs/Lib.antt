@@ -4,3 +4,5 @@ pub mod Ring
 pub mod RingLaws
 pub mod Recording
 pub mod RecordingLaws
+pub mod Flush
+pub mod FlushLaws
