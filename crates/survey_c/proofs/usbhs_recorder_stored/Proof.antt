@@ -1,3 +1,8 @@
+use mathlib.Core.Path.{ap, _∙_}
+use Rattle.recorder.specs.declared.recorder.Recorder.{Recorder}
+use Rattle.recorder.specs.Recording.{storedOf}
+use Rattle.survey_c.specs.Words.{endWord}
+use Rattle.survey_c.specs.Recorder.{recorderNumbers}
 use borrow.Author.Needs.{needs}
 use Rattle.survey_c.proofs.usbhs_recorder_stored.Statement.{statement}
 use Rattle.survey_c.proofs.usbhs_recorder_stored.Tie as tie
@@ -26,7 +31,13 @@ ended-requires c κs = search needs
 
 -- src/lib.rt:208:1
 returns : tie.Need-returns
-returns c = ?
+returns c =
+    let r = c .before .before .before .recorder-in .ensures in
+    let next = c .before .before .stored .ensures ∙ ap storedOf r in (
+      c .ended .ensures ∙ ap (λ (x : Recorder). endWord (x .left)) next,
+      c .before .recorder-numbers .ensures ∙ ap recorderNumbers next,
+    )
+
 
 pub usbhs-recorder-stored-spec : {M : Type 1} → statement M
 usbhs-recorder-stored-spec =

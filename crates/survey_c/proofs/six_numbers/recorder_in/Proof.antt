@@ -1,3 +1,5 @@
+use mathlib.Core.Path.{refl}
+use Rattle.survey_c.specs.Recorder.{recorderIn}
 use borrow.Author.Needs.{needs}
 use Rattle.survey_c.proofs.six_numbers.recorder_in.Statement.{statement}
 use Rattle.survey_c.proofs.six_numbers.recorder_in.Tie as tie
@@ -38,7 +40,8 @@ element-copy-out-t23 c = search needs
 
 -- src/six_numbers.rt:6:1
 returns : tie.Need-returns
-returns c = ?
+unfolding recorderIn
+returns c = refl
 
 pub recorder-in-spec : {M : Type 1} → statement M
 recorder-in-spec =

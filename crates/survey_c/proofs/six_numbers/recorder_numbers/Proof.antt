@@ -1,3 +1,5 @@
+use mathlib.Core.Path.{refl}
+use Rattle.survey_c.specs.Recorder.{recorderNumbers}
 use borrow.Author.Needs.{needs}
 use Rattle.survey_c.proofs.six_numbers.recorder_numbers.Statement.{statement}
 use Rattle.survey_c.proofs.six_numbers.recorder_numbers.Tie as tie
@@ -14,7 +16,8 @@ cast-t3 c = search needs
 
 -- src/six_numbers.rt:19:1
 returns : tie.Need-returns
-returns c = ?
+unfolding recorderNumbers
+returns c = refl
 
 pub recorder-numbers-spec : {M : Type 1} → statement M
 recorder-numbers-spec = tie.close (tie.spec cast-t2 cast-t3 returns)
