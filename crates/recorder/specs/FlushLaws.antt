@@ -27,7 +27,7 @@ use Rattle.recorder.specs.Flush.{putBlock, Store, afterStores, pending, 
 -- ---- blocks of a card
 
 -- 512 bytes put at a place, at that place and at another
-mid-same : (s b : List ℕ) (a : ℕ) → a ≤ length s → length b ≡ 512 → take 512 (drop a (take a s ++ (b ++ drop (a + 512) s))) ≡ b
+pub mid-same : (s b : List ℕ) (a : ℕ) → a ≤ length s → length b ≡ 512 → take 512 (drop a (take a s ++ (b ++ drop (a + 512) s))) ≡ b
 mid-same s b a l h =
     let n : length (take a s) ≡ a = length-take-le a s l in
     let e : a ≡ length (take a s) + 0 = omega arith in
@@ -50,13 +50,13 @@ mid-behind s b a i l h =
     ∙ getD-append-add b (drop (a + 512) s) i 0
     ∙ getD-drop (a + 512) s i 0
 
-mid-long : (s b : List ℕ) (a : ℕ) → a + 512 ≤ length s → length b ≡ 512 → length (take a s ++ (b ++ drop (a + 512) s)) ≡ length s
+pub mid-long : (s b : List ℕ) (a : ℕ) → a + 512 ≤ length s → length b ≡ 512 → length (take a s ++ (b ++ drop (a + 512) s)) ≡ length s
 mid-long s b a l h =
     omega (arith, length-append (take a s) (b ++ drop (a + 512) s), length-append b (drop (a + 512) s), length-take-le a s (omega arith),
     length-drop (a + 512) s)
 
 -- other 512 bytes from c on
-mid-other : (s b : List ℕ) (a c : ℕ) → a + 512 ≤ length s → c + 512 ≤ length s → length b ≡ 512 → (a < c + 512 → a + 512 ≤ c)
+pub mid-other : (s b : List ℕ) (a c : ℕ) → a + 512 ≤ length s → c + 512 ≤ length s → length b ≡ 512 → (a < c + 512 → a + 512 ≤ c)
     → take 512 (drop c (take a s ++ (b ++ drop (a + 512) s))) ≡ take 512 (drop c s)
 mid-other s b a c l m h o =
     let t = take a s ++ (b ++ drop (a + 512) s) in

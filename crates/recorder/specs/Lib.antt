@@ -6,3 +6,5 @@ pub mod Recording
 pub mod RecordingLaws
 pub mod Flush
 pub mod FlushLaws
+pub mod Filled
+pub mod FilledLaws
