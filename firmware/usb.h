@@ -3,6 +3,7 @@
 #define USB_H
 
 #include "interrupts.h"
+#include "trace.h"
 #include "usbhs.h"
 
 /* An isochronous OUT takes 16 buffers, an isochronous IN 2, EP0 one. */

@@ -394,6 +394,9 @@ pub fn timeline(steps: &[Step]) -> Timeline {
     let mut begun: Option<Call> = None;
     for step in steps {
         b.line = step.line;
+        if let Some(frame) = step.frame {
+            b.frame(frame.into());
+        }
         if let Some((FRAME_NO, value)) = awaited.feed(step) {
             b.frame(value);
         }
