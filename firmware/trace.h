@@ -1,5 +1,5 @@
-/* What the driver was asked and what it did, in a ring: compile with -DUSB_TRACE. `usbhs replay --trace` replays it at a
- * desk and draws it (docs/TOOL.md). Read the ring, usb_trace, with a debugger, or put it onto the card with
+/* What the driver was asked and what it did, in a ring: compile with -DUSB_TRACE. `usbhs replay --trace` replays it at
+ * a desk and draws it (docs/TOOL.md). Read the ring, usb_trace, with a debugger, or put it onto the card with
  * trace_record.
  *
  * An entry has 12 bytes, lowest first: a word of 8 and a reading of 4. The word is

@@ -1,6 +1,6 @@
-//! made_up FILE: a made-up survey, desk/samples/overrun.card. A pig goes at 2 metres a second through a pipe with a weld
-//! every 9.6 metres; every 16 ms a packet of four samples comes. Once the card is busy for 0.9 s: fifteen packets wait
-//! in the ring, the next 40 are turned away. The recorder writes its records; behind the survey lies an older one.
+//! made_up FILE: a made-up survey, desk/samples/overrun.card. A pig goes at 2 metres a second through a pipe with a
+//! weld every 9.6 metres; every 16 ms a packet of four samples comes. Once the card is busy for 0.9 s: fifteen packets
+//! wait in the ring, the next 40 are turned away. The recorder writes its records; behind the survey lies an older one.
 
 use std::collections::VecDeque;
 
@@ -40,15 +40,8 @@ struct Recorder {
 
 impl Recorder {
     fn new(survey: u32) -> Self {
-        let mut all = Self {
-            survey,
-            writer: Some(Writer::default()),
-            card: vec![],
-            overruns: None,
-            since: 0,
-            each: 0,
-            bytes: 0,
-        };
+        let mut all =
+            Self { survey, writer: Some(Writer::default()), card: vec![], overruns: None, since: 0, each: 0, bytes: 0 };
         all.record(Kind::Begin);
         all
     }

@@ -243,7 +243,11 @@ fn text(path: &Path, survey: &Survey<Losses>, outcome: &Outcome, only: Option<u8
     if all.behind != 0 {
         t += &match all.good_behind {
             0 => format!("{} behind it, none good\n", count(all.behind, "block")),
-            n => format!("{} behind it, {} good and not read (an older survey?)\n", count(all.behind, "block"), thousands(n)),
+            n => format!(
+                "{} behind it, {} good and not read (an older survey?)\n",
+                count(all.behind, "block"),
+                thousands(n)
+            ),
         };
     }
     t
@@ -404,8 +408,7 @@ impl Writing {
             }
             (Form::Csv, Some(n)) => {
                 let microframe = p.microframe.map(|m| m.to_string()).unwrap_or_default();
-                let _ =
-                    write!(out, "{n},{block},{offset},{endpoint},{microframe},{},{length},", gap_words(p.gap));
+                let _ = write!(out, "{n},{block},{offset},{endpoint},{microframe},{},{length},", gap_words(p.gap));
                 push_hex(bytes, out);
                 writeln!(out)
             }
@@ -641,4 +644,3 @@ pub fn run(mut args: Args, as_json: bool, out: &mut Output) -> Done<bool> {
         _ => usage(format!("card {what}: check, list, extract or picture")),
     }
 }
-

@@ -118,7 +118,15 @@ impl Listener for Collected {
             _ => {
                 let (turned_away, damage) = (p.gap.turned_away, p.gap.damage);
                 let packet = p.of_endpoint as f64;
-                self.parts.push(Part { packet, time: time as f64, ends: (first, last), least, greatest, turned_away, damage });
+                self.parts.push(Part {
+                    packet,
+                    time: time as f64,
+                    ends: (first, last),
+                    least,
+                    greatest,
+                    turned_away,
+                    damage,
+                });
                 self.last = 1;
             }
         }
@@ -191,7 +199,8 @@ impl Drawing {
         };
         let step = all.step.unwrap_or(1) as f64;
         let (unit, unit_name) = self.unit();
-        let (by_packet, by_time) = ((last.packet + all.each as f64) * step * unit, (last.time + all.each as f64 * step) * unit);
+        let (by_packet, by_time) =
+            ((last.packet + all.each as f64) * step * unit, (last.time + all.each as f64 * step) * unit);
         let end = by_packet.max(by_time).max(1e-9);
         let (low, high) = all.parts.iter().fold((0, 0), |(a, b), p| (a.min(p.least), b.max(p.greatest)));
         let height = TOP + 2.0 * LANE + BETWEEN + 74.0 + 17.0 * all.losses.len().min(8) as f64;
@@ -249,7 +258,15 @@ impl Drawing {
         Ok(svg.finish())
     }
 
-    fn lane(&self, svg: &mut Svg, lane: &Lane, parts: &[Part], (low, high): (i16, i16), end: f64, x: &dyn Fn(f64) -> f64) {
+    fn lane(
+        &self,
+        svg: &mut Svg,
+        lane: &Lane,
+        parts: &[Part],
+        (low, high): (i16, i16),
+        end: f64,
+        x: &dyn Fn(f64) -> f64,
+    ) {
         let (top, bottom) = (lane.top, lane.top + LANE);
         let range = (f64::from(high) - f64::from(low)).max(1.0);
         let y = |s: i16| bottom - 10.0 - (f64::from(s) - f64::from(low)) / range * (LANE - 20.0);
@@ -273,7 +290,11 @@ impl Drawing {
             }
             let run = &parts[from..to];
             let next = parts.get(to).map_or(lane.end, |p| (lane.at)(p));
-            let width = if run.len() > 1 { ((lane.at)(&run[run.len() - 1]) - (lane.at)(&run[0])) / (run.len() - 1) as f64 } else { 0.0 };
+            let width = if run.len() > 1 {
+                ((lane.at)(&run[run.len() - 1]) - (lane.at)(&run[0])) / (run.len() - 1) as f64
+            } else {
+                0.0
+            };
             let after = ((lane.at)(&run[run.len() - 1]) + width).min(next);
             let points = run.iter().flat_map(|p| {
                 let t = x((lane.at)(p));

@@ -3,9 +3,9 @@
 use std::path::Path;
 
 use crate::args::{usage, Args};
+use crate::image::Image;
 use crate::json::Json;
 use crate::output::{count, write_to, Output};
-use crate::image::Image;
 use crate::{bad, image, preview, rows, survey, Done};
 
 /// A descriptor has at most so many bytes.

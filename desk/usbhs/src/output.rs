@@ -173,7 +173,6 @@ pub fn write_to(path: Option<&Path>, inputs: &[Option<Identity>], bytes: &[u8]) 
     output.finish()
 }
 
-
 /// An error of the system without its number.
 pub fn words(e: &io::Error) -> String {
     let text = e.to_string();

@@ -84,7 +84,9 @@ impl Record {
         match self.kind {
             Kind::Begin => format!("survey {survey} begins"),
             Kind::Stamp { endpoint, microframe, overruns } => {
-                format!("survey {survey}: endpoint {endpoint} at microframe {microframe}, {overruns} turned away so far")
+                format!(
+                    "survey {survey}: endpoint {endpoint} at microframe {microframe}, {overruns} turned away so far"
+                )
             }
             Kind::End { overruns } => format!("survey {survey} ends, {overruns} turned away in all"),
             Kind::Trace => format!("survey {survey}: a trace"),

@@ -182,7 +182,10 @@ impl Blocks<'_> {
         bytes.truncate(n);
         self.read += n as u64;
         if self.image.length.is_some() && n < asked {
-            return Err(format!("cannot be read at byte {}: it was cut short meanwhile, or its device fails", self.read));
+            return Err(format!(
+                "cannot be read at byte {}: it was cut short meanwhile, or its device fails",
+                self.read
+            ));
         }
         if self.read == 0 {
             return Err("the image is empty".into());

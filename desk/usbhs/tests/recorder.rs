@@ -114,7 +114,10 @@ fn a_seam_is_seen_and_never_passed() {
         }
         let (own, others) = extracted(&card, 7);
         assert_eq!(others, 0, "round {round}");
-        assert!(own <= packets && (whole < 20 * BLOCK || own + 80 > whole / 63 - 70), "round {round}: {own} of {packets}");
+        assert!(
+            own <= packets && (whole < 20 * BLOCK || own + 80 > whole / 63 - 70),
+            "round {round}: {own} of {packets}"
+        );
         for command in ["check", "list", "extract"] {
             let ran = usbhs(&["card", command, "-"], &card);
             assert_eq!(ran.status, 1, "round {round}: {command}");
@@ -197,7 +200,8 @@ fn damage_is_marked_as_a_gap() {
     card[5 * BLOCK + 100] ^= 1;
     let ran = usbhs(&["card", "extract", "--csv", "-"], &card);
     assert_eq!(ran.status, 1);
-    let gaps: Vec<&str> = ran.text().lines().skip(1).filter_map(|l| l.split(',').nth(5)).filter(|g| !g.is_empty()).collect();
+    let gaps: Vec<&str> =
+        ran.text().lines().skip(1).filter_map(|l| l.split(',').nth(5)).filter(|g| !g.is_empty()).collect();
     assert_eq!(gaps, ["?", "40"]);
     // the last block with the end record is gone: the older survey is not given
     let mut card = std::fs::read(samples().join("overrun.card")).unwrap();

@@ -18,6 +18,8 @@ pub struct Step {
     pub recorded: Option<Answer>,
     /// The frame reading with which an interrupt begins, where it is known.
     pub frame: Option<u16>,
+    /// An open that found no packet, in a device's trace: its reader looks until there is none.
+    pub looks: bool,
     /// An open's stamp.
     pub stamp: Option<u16>,
     /// Packets turned away on OUT 1 to 15, and queued on IN 1 to 15, after the call.
@@ -110,8 +112,9 @@ impl Drive<'_> {
         }
         let recorded = recorded.cloned();
         let frame = self.brought.take().filter(|_| *call == Call::Interrupt);
+        let looks = self.frames.is_none() && matches!((call, &answer), (Call::Open(_), Answer::Refused(12)));
         let (call, answered) = (call.clone(), answer.clone());
-        self.steps.push(Step { line, call, answer: answered, recorded, frame, stamp, overruns, pending });
+        self.steps.push(Step { line, call, answer: answered, recorded, frame, looks, stamp, overruns, pending });
         Ok(answer)
     }
 

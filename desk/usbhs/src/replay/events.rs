@@ -402,6 +402,7 @@ pub fn timeline(steps: &[Step]) -> Timeline {
         }
         let begins = !matches!(step.call, Call::Continue(_) | Call::Open(_) | Call::Close(_) | Call::Queue { .. });
         match &step.answer {
+            Answer::Refused(_) if step.looks => {}
             Answer::Refused(row) => {
                 let (place, name) = named(&step.call);
                 b.event(place, What::Refused, format!("{name}: {}", rows::refused(*row)));

@@ -147,9 +147,11 @@ mod tests {
 
     #[test]
     fn tokens_of_usb_2() {
-        // known packets: SOF of frame 1, SETUP to address 0, IN to address 0x15 and endpoint 14
+        // known packets: SOF of frame 1, SETUP to address 0; and checks of addresses and endpoints
         assert_eq!(token(SOF, 1), [0xA5, 0x01, 0xE8]);
         assert_eq!(token(SETUP, 0), [0x2D, 0x00, 0x10]);
-        assert_eq!(crc5(0x15 | 0xE << 7), 0b10111);
+        assert_eq!(crc5(0x15 | 0xE << 7), 0b11101);
+        assert_eq!(crc5(0x3A | 0xA << 7), 0b00111);
+        assert_eq!(crc5(0x70 | 0x4 << 7), 0b01110);
     }
 }

@@ -193,7 +193,9 @@ pub fn setups(all: &[Entry]) -> Vec<Option<Vec<u8>>> {
                     last = Some(i);
                 }
             }
-            Entry::Answer { word, reading } if *word == 1 | u64::from(INT_FG) << 8 && reading & SETUP_FLAG != 0 => last = begun,
+            Entry::Answer { word, reading } if *word == 1 | u64::from(INT_FG) << 8 && reading & SETUP_FLAG != 0 => {
+                last = begun
+            }
             Entry::Bytes(bytes) if polled && bytes.len() == 8 => {
                 if let Some(at) = last {
                     found[at] = Some(bytes.clone());
@@ -308,8 +310,12 @@ impl Replay<'_> {
         let wakes = (word >> 24 & 0xFF) as usize;
         match (&mut recorded, &self.answer) {
             // the trace has how many are woken, and how many bytes came
-            (Answer::End { wakes: list, .. }, Answer::End { wakes: own, .. }) if own.len() == wakes => *list = own.clone(),
-            (Answer::Done { length, bytes }, Answer::Done { length: n, bytes: own }) if length == n => *bytes = own.clone(),
+            (Answer::End { wakes: list, .. }, Answer::End { wakes: own, .. }) if own.len() == wakes => {
+                *list = own.clone()
+            }
+            (Answer::Done { length, bytes }, Answer::Done { length: n, bytes: own }) if length == n => {
+                *bytes = own.clone()
+            }
             _ => {}
         }
         // all allocations end with their number
