@@ -562,7 +562,7 @@ fn form(list: bool, args: &mut Args, as_json: bool) -> Done<Form> {
     }
     match (args.flag("--csv"), args.flag("--samples")) {
         (true, true) => usage("--csv and --samples: one of them"),
-        (false, true) => Ok(Form::Samples(Box::new(Samples::new()))),
+        (false, true) => Ok(Form::Samples(Box::default())),
         (true, false) => Ok(Form::Csv),
         (false, false) => Ok(Form::Raw),
     }

@@ -105,7 +105,7 @@ impl Listener for Collected {
         self.packets += 1;
         self.turned_away += u64::from(p.gap.turned_away);
         let samples = bytes.chunks_exact(2).map(|s| i16::from_le_bytes([s[0], s[1]]));
-        let (Some(first), Some(last)) = (samples.clone().next(), samples.clone().last()) else { return Ok(()) };
+        let (Some(first), Some(last)) = (samples.clone().next(), samples.clone().next_back()) else { return Ok(()) };
         let (least, greatest) = samples.fold((i16::MAX, i16::MIN), |(a, b), s| (a.min(s), b.max(s)));
         let gap = p.gap.turned_away != 0 || p.gap.damage;
         match self.parts.last_mut() {

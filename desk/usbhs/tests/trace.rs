@@ -48,9 +48,17 @@ fn a_ring_that_went_round() {
         // as many places as the count is above a whole turn
         assert_eq!(told(&["replay", "--trace", "-"], &turned), (0, plain.clone()), "{turn}");
     }
-    // the start-up is gone
-    let cut = [&front(n - 1, n)[..], &entries[(n - 1) * ENTRY..], &entries[ENTRY..(n - 1) * ENTRY]].concat();
-    refused(&["replay", "--trace", "-"], &cut, "the trace has no start-up: its ring is too short");
+    // the start-up is gone: it is shown as it was noted
+    for kept in [n - 1, 1_000, 3] {
+        let cut = [&front(kept, kept)[..], &entries[(n - kept) * ENTRY..]].concat();
+        let ran = usbhs(&["replay", "--trace", "-"], &cut);
+        assert_eq!(ran.status, 1);
+        assert!(ran.err.contains("the trace has no start-up: shown as it was noted, and not compared"), "{}", ran.err);
+        if kept == n - 1 {
+            assert!(ran.text().contains("58 arrivals, 58 opens"), "{}", ran.text());
+            assert!(ran.text().contains("OUT 1   comes   ..1111"), "{}", ran.text());
+        }
+    }
 }
 
 #[test]
@@ -89,7 +97,7 @@ fn any_bytes() {
     refused(&["replay", "--trace", "-"], b"USTR\x01\0", "the ring's front is cut");
     refused(&["replay", "--trace", "-"], &front(0, 0), "a ring of 0 entries is none");
     refused(&["replay", "--trace", "-"], &all[..600], "only 49 are here");
-    refused(&["replay", "--trace", "-"], &front(4, 0), "the trace has no start-up");
+    assert_eq!(usbhs(&["replay", "--trace", "-"], &front(4, 0)).status, 1);
     refused(&["replay", "missed-visit.calls.txt", "--pcap", "x"], b"", "--pcap and --recorder are for a trace");
     let mut numbers = Numbers(41);
     let mut ran = [0; 3];
@@ -109,7 +117,7 @@ fn any_bytes() {
         let status = usbhs(&["replay", "--trace", "-", "--pcap", "/dev/null"], &bytes).status;
         ran[status as usize] += 1;
     }
-    assert!(ran[1] > 10 && ran[2] > 10, "{ran:?}");
+    assert!(ran.iter().all(|n| *n > 3), "well, not compared or otherwise, bad: {ran:?}");
 }
 
 /// Wireshark's own reader must open the capture. It is Debian's package tshark; without it the test says so, and fails

@@ -13,13 +13,13 @@ use crate::image::{self, Image};
 use crate::output::{count, write_to, Output};
 use crate::{bad, recorder, Done};
 
-pub use events::{timeline, Event, Lane, Place, Timeline, What};
+pub use events::{timeline, timeline_of, Event, Lane, Place, Timeline, What};
 pub use picture::svg;
 
 /// The longest list that is read.
 const MOST: usize = 256 << 20;
 
-/// `false` where a recorded answer is not the port's.
+/// `false` where a recorded answer is not the port's, or a trace cannot be compared.
 pub fn run(mut args: Args, as_json: bool, out: &mut Output) -> Done<bool> {
     let picture = args.file("--svg")?;
     let title = args.value("--title")?;
@@ -38,6 +38,8 @@ pub fn run(mut args: Args, as_json: bool, out: &mut Output) -> Done<bool> {
     let name = &image::name(&path);
     let image = Image::open(&path)?;
     let inputs = [image.identity.clone()];
+    let mut compared = true;
+    let mut isochronous = vec![];
     let steps = if traced {
         let entries = trace::read(image, recorder.map_or(recorder::ENDPOINT, |n| n as u8))?;
         if let Some(to) = &capture {
@@ -45,7 +47,14 @@ pub fn run(mut args: Args, as_json: bool, out: &mut Output) -> Done<bool> {
             write_to(Some(to), &inputs, capture.bytes())?;
             eprintln!("usbhs: {}: {}", image::name(to), count(capture.packets as u64, "packet"));
         }
-        trace::drive(&entries)
+        if trace::has_start_up(&entries) {
+            trace::drive(&entries)
+        } else {
+            eprintln!("usbhs: {name}: the trace has no start-up: shown as it was noted, and not compared");
+            let (steps, places) = trace::as_noted(&entries);
+            (compared, isochronous) = (false, places);
+            Ok(steps)
+        }
     } else {
         drive::drive(&image.text(MOST)?)
     };
@@ -53,14 +62,14 @@ pub fn run(mut args: Args, as_json: bool, out: &mut Output) -> Done<bool> {
         Ok(steps) => steps,
         Err(e) => return bad(format!("{name}: {}", shortened(&e))),
     };
-    let timeline = timeline(&steps);
+    let timeline = timeline_of(&steps, &isochronous);
     if let Some(to) = &picture {
         let drawn = svg(&timeline, title.as_deref().unwrap_or(name));
         write_to(Some(to), &inputs, drawn.as_bytes())?;
     }
     let answer = if as_json { format!("{}\n", strip::json(&timeline)) } else { strip::text(&timeline, name, all) };
     out.write(answer.as_bytes())?;
-    Ok(timeline.differing == 0)
+    Ok(compared && timeline.differing == 0)
 }
 
 /// The picture of a list.

@@ -5,6 +5,7 @@ use oracle::number::decode;
 use oracle::{Answer, Call, Dir, Kind};
 
 use super::drive::{Drive, Step, FRAME_NO};
+use super::events::Place;
 use crate::image::Image;
 use crate::recorder::{self, Listener, Record, Sampled, Survey, ENTRY};
 use crate::stream::{go_through, Dropped, Extent, Packet, Sink};
@@ -353,11 +354,62 @@ fn allocations(bytes: &[u8]) -> Result<Vec<Call>, String> {
     Ok(descriptor::listed(&written).iter().map(one).collect())
 }
 
+/// A trace without a start-up, as it was noted: nothing is made again, and nothing compared. The isochronous OUTs are
+/// those whose packets are opened, the isochronous INs those that are queued to.
+pub fn as_noted(all: &[Entry]) -> (Vec<Step>, Vec<Place>) {
+    let (mut steps, mut places): (Vec<Step>, Vec<Place>) = (vec![], vec![]);
+    let mut asked: Option<(Call, Option<u16>)> = None;
+    let (mut reading, mut received) = (0, vec![]);
+    let mut note = |line: usize, call: Call, frame: Option<u16>, answer: Answer| {
+        let looks = matches!((&call, &answer), (Call::Open(_), Answer::Refused(12)));
+        let (overruns, pending) = ([0; 16], [0; 16]);
+        steps.push(Step { line, call, answer, recorded: None, frame, looks, stamp: None, overruns, pending });
+    };
+    for (line, entry) in all.iter().enumerate() {
+        match entry {
+            Entry::Bytes(bytes) => received = bytes.clone(),
+            Entry::Call { number: CONTINUE_TRANSFER, .. } => {}
+            Entry::Answer { word, reading: read } => {
+                let mut answer = decode(*word, |_| vec![]);
+                if let Answer::Done { bytes, .. } = &mut answer {
+                    *bytes = std::mem::take(&mut received);
+                }
+                let (call, frame) = asked.take().unwrap_or((Call::Continue(reading), None));
+                note(line, call, frame, answer);
+                reading = *read;
+            }
+            Entry::Call { number, a, b, c } => {
+                let Some(call) = call(*number, *a, *b, *c) else { continue };
+                match call {
+                    Call::Open(e) => places.push(Place::Out(e & 15)),
+                    Call::Queue { ep, .. } => places.push(Place::In(ep & 15)),
+                    _ => {}
+                }
+                if matches!(call, Call::Queue { .. }) {
+                    // in the callback: its answer is not noted
+                    note(line, call, None, Answer::NotYet);
+                    continue;
+                }
+                let frame = (*number == INTERRUPT).then_some(*a as u16);
+                asked = Some((call, frame));
+            }
+        }
+    }
+    places.sort();
+    places.dedup();
+    (steps, places)
+}
+
+/// Is there a start-up, from which on it can be made again?
+pub fn has_start_up(all: &[Entry]) -> bool {
+    all.iter().any(|e| matches!(e, Entry::Call { number: 0, .. }))
+}
+
 /// Makes a trace again on the port, from its last start-up on; lines are the trace's entries.
 pub fn drive(all: &[Entry]) -> Result<Vec<Step>, String> {
     let start = all.iter().rposition(|e| matches!(e, Entry::Call { number: 0, .. }));
     let Some(start) = start else {
-        return Err("the trace has no start-up: its ring is too short for what came since".into());
+        return Err("the trace has no start-up".into());
     };
     let setups = setups(all);
     let answer = Answer::Stored;
