@@ -171,6 +171,12 @@ fn the_command_line() {
     let help = usbhs(&["card", "--help"], b"");
     assert_eq!((help.status, help.text().lines().next()), (0, usbhs(&["-h"], b"").text().lines().next()));
     for line in help.text().lines() {
-        assert!(line.len() <= 104, "{line}");
+        assert!(line.len() <= 112, "{line}");
     }
+    assert_eq!(usbhs(&["help"], b"").text(), help.text());
+    let version = usbhs(&["--version"], b"");
+    assert_eq!((version.status, version.text()), (0, concat!("usbhs ", env!("CARGO_PKG_VERSION"), "\n")));
+    assert!(usbhs(&["--version", "--json"], b"").text().starts_with("{\"version\":\""));
+    // alone it says what there is
+    assert!(usbhs(&[], b"").err.contains(help.text()));
 }
