@@ -163,6 +163,7 @@ static inline uint64_t traced_poll_setup(uint8_t *state, uint8_t packet[8])
     return word;
 }
 
+#undef usbhs_start_up
 #define usbhs_start_up traced_start_up
 #define usbhs_allocate traced_allocate
 #define usbhs_allocate_all traced_allocate_all
