@@ -69,7 +69,7 @@ abbrev pub toggles : Dir → ℕ → Observer
 toggles D E = record {
   Log = Bool × Track;
   before = (false, before);
-  opens = λ o x. (x .0, opens D E o (x .1));
+  opens = λ o _ x. (x .0, opens D E o (x .1));
   saw = λ x q v. (x .0, saw D E (x .1) q v);
   closes = λ o a x. (x .0 || madeIso D E o a, closes D E o a (x .1));
   Fair = λ o a x. x .0 ≡ false → Fair D E o a (x .1);
@@ -88,7 +88,7 @@ abbrev pub words : Dir → ℕ → Observer
 words D E = record {
   Log = Bool × Track × Writing;
   before = (false, before, unwritten-yet before);
-  opens = λ o x. (x .0, opens D E o (x .1), unwritten-yet (x .1));
+  opens = λ o _ x. (x .0, opens D E o (x .1), unwritten-yet (x .1));
   saw = λ x q v. (x .0, saw D E (x .1) q v, wrote D E (x .2) q v);
   closes = λ o a x. (x .0 || madeIso D E o a, closes D E o a (x .1), x .2);
   Fair = λ o a x. x .0 ≡ false → LeavesWord D E o a (x .2);

@@ -209,8 +209,8 @@ module _ (D : Dir) (E : ℕ) (z : (d : Dir) → Else D E d 0) where
       (λ y a t g. (inl (rw g refl), λ _ z. differ (sym z ∙ g))) x h out
 
   pub heard : (o : Op) (x : Bool × Track) (s : St) → Fitting x (view D E (s .0)) → Sorting (s .0)
-      → Sees (toggles D E) (λ _ _. Unit {0}) (Ended o) (toggles D E .opens o x) (run concrete (code o) s)
-  heard o x s (inl h) q = silent o (toggles D E .opens o x) h (run concrete (code o) s)
+      → Sees (toggles D E) (λ _ _. Unit {0}) (Ended o) (toggles D E .opens o (s .1) x) (run concrete (code o) s)
+  heard o x s (inl h) q = silent o (toggles D E .opens o (s .1) x) h (run concrete (code o) s)
   heard o x s (inr (i, f)) q = watch-more (beside (both-of (law-of o (x .1) s f i q) (iso-made D E o (x .1) s (q .places) i)))
       (λ y a t p. (after y a t (p .0) (p .1 .0 .0) (p .1 .1), λ few _. p .1 .0 .1 few))
     where
@@ -219,10 +219,10 @@ module _ (D : Dir) (E : ℕ) (z : (d : Dir) → Else D E d 0) where
       after y a t e g (inl m) = inl (rw m (or-true (y .0)))
       after y a t e g (inr n) = inr (n, g)
 
-  unlent-too : (o : Op) → calls .slots o ≡ true → (x : Bool × Track) (v : EpSeen) → Fitting x v
-      → Fitting (toggles D E .closes o (Refused 1) (toggles D E .opens o x)) v
-  unlent-too o h x v (inl e) = inl (rw e refl)
-  unlent-too o h x v (inr (i, f)) = inr (i, unlent o h (x .1) v f)
+  unlent-too : (o : Op) → calls .slots o ≡ true → (b : Buf) (x : Bool × Track) (v : EpSeen) → Fitting x v
+      → Fitting (toggles D E .closes o (Refused 1) (toggles D E .opens o b x)) v
+  unlent-too o h b x v (inl e) = inl (rw e refl)
+  unlent-too o h b x v (inr (i, f)) = inr (i, unlent o h (x .1) v f)
 
   pub laws : Laws (toggles D E) Fitting
   laws = record {
@@ -342,9 +342,9 @@ module _ (D : Dir) (E : ℕ) (h : E % 16 ≡ 0 → ⊥) where
   WordEnds o x a t = Fitting D E (not-ep0 D E h) (toggles D E .closes o a (x .0, x .1)) (view D E (t .0)) × (Few (ended a) → words D E .Fair o a x)
 
   word-call : (o : Op) (x : Bool × Track × Writing) (s : St) → Fitting D E (not-ep0 D E h) (x .0, x .1) (view D E (s .0)) → Sorting (s .0)
-      → Sees (words D E) (λ _ _. Unit {0}) (WordEnds o) (words D E .opens o x) (run concrete (code o) s)
+      → Sees (words D E) (λ _ _. Unit {0}) (WordEnds o) (words D E .opens o (s .1) x) (run concrete (code o) s)
   word-call o x s (inl e) q = watch-any (λ y. y .0 ≡ true) (λ _ _ _. tt) (λ _ _ _ g. g)
-      (λ y a t g. (inl (rw g refl), λ _ z. differ (sym z ∙ g))) (words D E .opens o x) e (run concrete (code o) s)
+      (λ y a t g. (inl (rw g refl), λ _ z. differ (sym z ∙ g))) (words D E .opens o (s .1) x) e (run concrete (code o) s)
   word-call o x s (inr (i, f)) q =
       watch-more (together (heard D E (not-ep0 D E h) o (x .0, x .1) s (inr (i, f)) q) (word-law o (x .1) s f i))
       (λ y a t p. (p .0 .0, λ _ _. p .1))
@@ -358,7 +358,7 @@ module _ (D : Dir) (E : ℕ) (h : E % 16 ≡ 0 → ⊥) where
         asks = L .asks;
         besides = L .besides;
         new = L .new;
-        unlent = λ o h x v r. L .unlent o h (x .0, x .1) v r;
+        unlent = λ o h b x v r. L .unlent o h b (x .0, x .1) v r;
         fair-1 = λ o _ x _. refused-leaves o (x .2);
       }
 

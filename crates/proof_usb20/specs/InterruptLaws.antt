@@ -51,15 +51,15 @@ pub r-token-out : (w : Log) (x : View) (y : ℕ) (m : Bool) → isOn (x .inn .ar
     → R (withTx (cond m (nakflipped y (w .tx)) (w .tx)) (happens (pipe.token Out) w)) (cond m (setIn (completed (x .inn .len)) x) x)
 r-token-out w x y m h (k, inl e) = (kept m k, inl (rw e refl))
   where
-    kept : (m : Bool) → Base (w .request) (w .started) x
-        → Base (w .request) (w .started) (cond m (setIn (completed (x .inn .len)) x) x)
-    kept true k = record { says = k .says; started = k .started; maximum = k .maximum }
+    kept : (m : Bool) → Base (w .request) (w .started) (w .slot) x
+        → Base (w .request) (w .started) (w .slot) (cond m (setIn (completed (x .inn .len)) x) x)
+    kept true k = record { says = k .says; started = k .started; maximum = k .maximum; slot = k .slot }
     kept false k = k
 r-token-out w x y m h (k, inr r) = (kept m k, inr (token-out y m h r))
   where
-    kept : (m : Bool) → Base (w .request) (w .started) x
-        → Base (w .request) (w .started) (cond m (setIn (completed (x .inn .len)) x) x)
-    kept true k = record { says = k .says; started = k .started; maximum = k .maximum }
+    kept : (m : Bool) → Base (w .request) (w .started) (w .slot) x
+        → Base (w .request) (w .started) (w .slot) (cond m (setIn (completed (x .inn .len)) x) x)
+    kept true k = record { says = k .says; started = k .started; maximum = k .maximum; slot = k .slot }
     kept false k = k
 
 -- the token IN alone
@@ -67,15 +67,15 @@ pub r-token-in : (w : Log) (x : View) (y : ℕ) (m : Bool) → isOn (x .out .arm
     → R (withRx (cond m (nakflipped y (w .rx)) (w .rx)) (happens (pipe.token In) w)) (cond m (setOut (completed (x .out .len)) x) x)
 r-token-in w x y m h (k, inl e) = (kept m k, inl (rw e refl))
   where
-    kept : (m : Bool) → Base (w .request) (w .started) x
-        → Base (w .request) (w .started) (cond m (setOut (completed (x .out .len)) x) x)
-    kept true k = record { says = k .says; started = k .started; maximum = k .maximum }
+    kept : (m : Bool) → Base (w .request) (w .started) (w .slot) x
+        → Base (w .request) (w .started) (w .slot) (cond m (setOut (completed (x .out .len)) x) x)
+    kept true k = record { says = k .says; started = k .started; maximum = k .maximum; slot = k .slot }
     kept false k = k
 r-token-in w x y m h (k, inr r) = (kept m k, inr (token-in y m h r))
   where
-    kept : (m : Bool) → Base (w .request) (w .started) x
-        → Base (w .request) (w .started) (cond m (setOut (completed (x .out .len)) x) x)
-    kept true k = record { says = k .says; started = k .started; maximum = k .maximum }
+    kept : (m : Bool) → Base (w .request) (w .started) (w .slot) x
+        → Base (w .request) (w .started) (w .slot) (cond m (setOut (completed (x .out .len)) x) x)
+    kept true k = record { says = k .says; started = k .started; maximum = k .maximum; slot = k .slot }
     kept false k = k
 
 -- a packet OUT of n bytes, put on NAK before it is seen and flipped after it
@@ -85,7 +85,7 @@ outSeen u n w = withGot n (happens (packet Out) (withRx (nakked u (w .rx)) w))
 r-packet-out : (w : Log) (x : View) (u v n : ℕ) → R w x
     → let z = outSeen u n w in R (withRx (flipped v (z .rx)) z) (setOut (completed n) x)
 r-packet-out w x u v n (k, f) = (
-  record { says = k .says; started = k .started; maximum = k .maximum },
+  record { says = k .says; started = k .started; maximum = k .maximum; slot = k .slot },
   packet-out (w .exempt) (w .request) u v n (k .says) f,
 )
 
@@ -104,7 +104,7 @@ inSeen u w = happens (packet In) (withTx (nakked u (w .tx)) w)
 r-packet-in : (w : Log) (x : View) (u v : ℕ) → R w x
     → let z = inSeen u w in R (withTx (flipped v (z .tx)) z) (setIn (completed (x .inn .len)) x)
 r-packet-in w x u v (k, f) = (
-  record { says = k .says; started = k .started; maximum = k .maximum },
+  record { says = k .says; started = k .started; maximum = k .maximum; slot = k .slot },
   packet-in (w .exempt) (w .request) u v (x .inn .len) (k .says) f,
 )
 

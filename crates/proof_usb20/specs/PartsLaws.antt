@@ -85,7 +85,7 @@ q-sent e o = q-bind (q-ep In e (withReady 1) o) (λ _. q-wake In e)
 pub q-complete : {i : Bool} (e : ℕ) → eqb e 0 ≡ false → Quiet (isoInComplete {i = i} e)
 q-complete e h = q-bind (q-act refl q-ret)
     (λ _. q-bind (q-bind (q-is (λ _. q-ret))
-    (λ b. q-test (q-bind (q-hand q-ret) (λ _. q-bind (q-look (λ _. q-ret)) (λ n. q-write (other-length e n h) q-ret)))
+    (λ b. q-test (q-bind (q-hand refl q-ret) (λ _. q-bind (q-look (λ _. q-ret)) (λ n. q-write (other-length e n h) q-ret)))
     (q-write (other-length e 0 h) q-ret))) (λ _. q-wake In e))
 
 q-first : {i : Bool} (e frame : ℕ) → Quiet (firstInFrame {i = i} e frame)
@@ -124,7 +124,7 @@ q-late frame (e ∷ es) h = q-bind (q-bind (q-first e frame) (λ b. q-when (q-co
 -- ---- isochronous OUT
 
 q-arrives : {i : Bool} (e n : ℕ) → Quiet (arrives {i = i} e n)
-q-arrives e n = q-bind (q-hand q-ret) (λ _. q-wake Out e)
+q-arrives e n = q-bind (q-hand refl q-ret) (λ _. q-wake Out e)
 
 q-walk : {i : Bool} (x : Transfer) (iso : Bool) (es : List ℕ) → Quiet (checkWalk {i = i} x iso es)
 unfolding checkWalk

@@ -12,6 +12,7 @@ use borrow.Author.Tests.{eqb-true}
 use Rattle.regs.specs.declared.Dir.the-variants.{Out, In}
 use Rattle.state.specs.declared.Control.{Control}
 use Rattle.state.specs.declared.Globals.{Globals}
+use Rattle.ring.specs.Copies.{bytesAt}
 use Rattle.script.specs.Tree as tree
 use Rattle.script.specs.Cells.{ep-cell, control-cell, globals-cell}
 use Rattle.script.specs.Script.{run, no-wakes}
@@ -50,15 +51,16 @@ pub record Kin (x y : View) : Type 0 where
   pub len : y .out .len ≡ x .out .len
   pub stage : y .stage ≡ x .stage
   pub maximum : y .maximum ≡ x .maximum
+  pub buffer : y .buffer ≡ x .buffer
   pub setup : y .setup-ready ≡ x .setup-ready
 
 refit : {c : Ep0Word} {h : Half} {r s : Rec} → s .armed ≡ r .armed → Fits c h r → Fits c h s
 refit e f = record { shows = f .shows; toggles = f .toggles; armed = ap isOn e ∙ f .armed }
 
-pub over-now : {q : Request} {b ex : Bool} {rx tx : Ep0Word} {l g : ℕ} {p : Pipe} {a : Awaited} {u : Bool} {x y : View} → Base q b x
-    → (ex ≡ true) ⊎ Rel rx tx l g p a u x → Kin x y → y .control ≡ no-control → Line no-request b ex rx tx l g p nothing u y
+pub over-now : {q : Request} {b ex : Bool} {m : ℕ} {rx tx : Ep0Word} {l g : ℕ} {p : Pipe} {a : Awaited} {u : Bool} {x y : View} → Base q b m x
+    → (ex ≡ true) ⊎ Rel rx tx l g p a u x → Kin x y → y .control ≡ no-control → Line no-request b m ex rx tx l g p nothing u y
 over-now {ex = ex} {rx = rx} {tx = tx} {l = l} {g = g} {p = p} {a = a} {u = u} {x = x} {y = y} k f i c =
-    (requested k (i .stage) (i .maximum) (ap (λ (z : Control). z .sort) c), by f)
+    (requested k (i .stage) (i .maximum) (i .buffer) (ap (λ (z : Control). z .sort) c), by f)
   where
     by : (ex ≡ true) ⊎ Rel rx tx l g p a u x → (ex ≡ true) ⊎ Rel rx tx l g p nothing u y
     by (inl e) = inl e
@@ -84,22 +86,22 @@ kin-by : (x : View) {y z : View} → y ≡ z → Kin x z → Kin x y
 kin-by x e k = subst (Kin x) (sym e) k
 
 kin-none : (s : St) → Kin (view (s .0)) (view (none s .0))
-kin-none s = kin-by (view (s .0)) (none-view s) (record { out = refl; inn = refl; len = refl; stage = refl; maximum = refl; setup = refl })
+kin-none s = kin-by (view (s .0)) (none-view s) (record { out = refl; inn = refl; len = refl; stage = refl; maximum = refl; buffer = refl; setup = refl })
 
 kin-out : (s : St) → Whole s → Kin (view (s .0)) (view (none (outWith (withReady 0) s) .0))
 kin-out s h = kin-by (view (s .0)) (none-view (outWith (withReady 0) s) ∙ ap (setControl no-control) (out-view (withReady 0) s h))
-    (record { out = refl; inn = refl; len = refl; stage = refl; maximum = refl; setup = refl })
+    (record { out = refl; inn = refl; len = refl; stage = refl; maximum = refl; buffer = refl; setup = refl })
 
 kin-in : (s : St) → Whole s → Kin (view (s .0)) (view (none (inWith (withReady 0) s) .0))
 kin-in s h = kin-by (view (s .0)) (none-view (inWith (withReady 0) s) ∙ ap (setControl no-control) (in-view (withReady 0) s h))
-    (record { out = refl; inn = refl; len = refl; stage = refl; maximum = refl; setup = refl })
+    (record { out = refl; inn = refl; len = refl; stage = refl; maximum = refl; buffer = refl; setup = refl })
 
 kin-both : (s : St) → Whole s → Kin (view (s .0)) (view (none (inWith (withReady 0) (outWith (withReady 0) s)) .0))
 kin-both s h = kin-by (view (s .0))
     (none-view (inWith (withReady 0) (outWith (withReady 0) s)) ∙ ap (setControl no-control)
     (in-view (withReady 0) (outWith (withReady 0) s) (out-whole (withReady 0) s h)
     ∙ ap (λ (y : View). setIn (record { ready = 0; armed = y .inn .armed; len = y .inn .len }) y) (out-view (withReady 0) s h)))
-    (record { out = refl; inn = refl; len = refl; stage = refl; maximum = refl; setup = refl })
+    (record { out = refl; inn = refl; len = refl; stage = refl; maximum = refl; buffer = refl; setup = refl })
 
 done-none : (s : St) → view (none s .0) .control ≡ no-control
 done-none s = ap (λ (x : View). x .control) (none-view s)
@@ -143,7 +145,7 @@ pub law-poll-setup : Law (other PollSetup)
 law-poll-setup w s (k, f) z =
     watch-cond (eqb (s .0 .globals .stage) 2)
     (λ _. watch-cond (eqb (s .0 .control .sort) SETUP) (λ q. watch-cond (isOn (s .0 .globals .«setup_ready»)) (λ o. at-end (
-      moved seen (requested k refl refl refl, taken-setup f (eqb-true (s .0 .control .sort) SETUP q)),
+      moved seen (requested k refl refl refl refl, taken-setup f (eqb-true (s .0 .control .sort) SETUP q)),
       (λ h. sym (fit-of f h .setup) ∙ o, eight (s .0 .globals)),
     )) (λ o. at-end ((k, f), λ h. sym (fit-of f h .setup) ∙ o)))
     (λ q. at-end ((k, f), unbegun (none-setup (w .request) (s .0 .control) (k .says) q))))
@@ -220,18 +222,29 @@ law-poll-data-out n w s (k, f) z =
     watch-cond (ltb n (concrete .get (ep-cell Out 0) s .len))
     (λ y. at-end (
       over-now k f (kin-out s (z .places)) (done-none (outWith (withReady 0) s)),
-      (misfits (inr (whole, λ h. ap (ltb n) (sym (received-out (w .awaits) (fit-of f h) two o)) ∙ y)), tt),
+      (misfits (inr (whole, λ h. ap (ltb n) (sym (received-out (w .awaits) (fit-of f h) two o)) ∙ y)), tt, tt),
     ))
-    (λ _. at-end (over-now k f (kin-out s (z .places)) (done-none (outWith (withReady 0) s)), (tt, whole))))
+    (λ _. at-end (over-now k f (kin-out s (z .places)) (done-none (outWith (withReady 0) s)), (tt, whole, λ h. kept ∙ packet two o h))))
     (λ o. watch-cond (isOn (s .0 .globals .«setup_ready»))
-    (λ g. at-end (over-now k f (kin-none s) (done-none s), (ended (untaken-by w (view (s .0)) f g), tt)))
-    (λ g. at-end ((k, f), ((λ h. ready-out (w .awaits) (fit-of f h) two o, λ h. sym (fit-of f h .setup) ∙ g), tt)))))
+    (λ g. at-end (over-now k f (kin-none s) (done-none s), (ended (untaken-by w (view (s .0)) f g), tt, tt)))
+    (λ g. at-end ((k, f), ((λ h. ready-out (w .awaits) (fit-of f h) two o, λ h. sym (fit-of f h .setup) ∙ g), tt, tt)))))
     (λ y. at-end (
       over-now k f (kin-out s (z .places)) (done-none (outWith (withReady 0) s)),
-      (misfits (inl (other-length (w .request) (s .0 .control) n (k .says) two y)), tt),
+      (misfits (inl (other-length (w .request) (s .0 .control) n (k .says) two y)), tt, tt),
     )))
-    (λ q. at-end ((k, f), (unbegun (none-out (w .request) (s .0 .control) (k .says) q), tt))))
-    (λ q. at-end ((k, f), (unstarted (not-started k q), tt)))
+    (λ q. at-end ((k, f), (unbegun (none-out (w .request) (s .0 .control) (k .says) q), tt, tt))))
+    (λ q. at-end ((k, f), (unstarted (not-started k q), tt, tt)))
+  where
+    kept : bytesAt (s .1) (outWith (withReady 0) s .0 .globals .«ep0_buf») (view (s .0) .out .len)
+        ≡ bytesAt (s .1) (view (s .0) .buffer) (view (s .0) .out .len)
+    kept = ap (λ (y : View). bytesAt (s .1) (y .buffer) (view (s .0) .out .len)) (out-view (withReady 0) s (z .places))
+
+    -- the slot's bytes, as many as were received
+    packet : s .0 .control .sort ≡ 2 → isOn (view (s .0) .out .ready) ≡ true → w .exempt ≡ false
+        → bytesAt (s .1) (view (s .0) .buffer) (view (s .0) .out .len) ≡ bytesAt (s .1) (w .slot) (w .got)
+    packet two o h = let r = fit-of f h in
+        ap (λ (a : ℕ). bytesAt (s .1) a (view (s .0) .out .len)) (k .slot (sym (k .started) ∙ ap (λ (n : ℕ). eqb n 2) (r .stage)))
+        ∙ ap (bytesAt (s .1) (w .slot)) (received-out (w .awaits) r two o)
 
 -- ---- accept
 
@@ -337,34 +350,34 @@ says-in for-data-in c d s t u = u
 says-in for-status c d s t u = absurd (omega (arith, s, t))
 says-in (for-data-out m) c d s t u = absurd (omega (arith, s .0, t))
 
-abbrev Polled : Log → tree.Out St Answer → Type 0
-Polled w o = Watch Between (Allowed (other PollDataIn)) (Ends (other PollDataIn)) (afresh w) o
+abbrev Polled : Log → St → tree.Out St Answer → Type 0
+Polled w s o = Watch Between (Allowed (other PollDataIn)) (Ends (other PollDataIn)) (afresh (s .1) w) o
 
-module _ (w : Log) (s : St) (k : Base (w .request) (w .started) (view (s .0))) (f : Fit w (view (s .0))) (z : Sorting (s .0)) where
+module _ (w : Log) (s : St) (k : Base (w .request) (w .started) (w .slot) (view (s .0))) (f : Fit w (view (s .0))) (z : Sorting (s .0)) where
   -- the closing OUT came, empty or with data
   closed : (n : ℕ) (t : St) → Kin (view (s .0)) (view (none t .0)) → Complete pollIn true w → (w .exempt ≡ false → n ≡ w .got)
-      → (e : Bool) → eqb n 0 ≡ e → Polled w (tree.ends (cond e (Done []) (Refused 10)) (none t))
+      → (e : Bool) → eqb n 0 ≡ e → Polled w s (tree.ends (cond e (Done []) (Refused 10)) (none t))
   closed n t i o g true q = at-end {a = Done []} (over-now k f i (done-none t), (tt, o))
   closed n t i o g false q = at-end {a = Refused 10} (
     over-now k f i (done-none t),
     (misfits (o, λ h. ap (λ (m : ℕ). eqb m 0) (sym (g h)) ∙ q), tt),
   )
 
-  refused : isOn (s .0 .globals .«setup_ready») ≡ true → Polled w (tree.ends (Refused 9) (none s))
+  refused : isOn (s .0 .globals .«setup_ready») ≡ true → Polled w s (tree.ends (Refused 9) (none s))
   refused g = at-end {a = Refused 9} (over-now k f (kin-none s) (done-none s), (ended (untaken-by w (view (s .0)) f g), tt))
 
   -- not yet: no setup packet has ended it
-  not-yet : {t : St} → isOn (s .0 .globals .«setup_ready») ≡ false → Complete pollIn false w → R (afresh w) (view (t .0))
-      → Polled w (tree.ends NotYet t)
+  not-yet : {t : St} → isOn (s .0 .globals .«setup_ready») ≡ false → Complete pollIn false w → R (afresh (s .1) w) (view (t .0))
+      → Polled w s (tree.ends NotYet t)
   not-yet g o r = at-end {a = NotYet} (r, ((o, λ h. sym (fit-of f h .setup) ∙ g), tt))
 
   -- the data packet went through, the closing OUT is awaited
   goes-on : s .0 .control .sort ≡ 3
       → (Rel (w .rx) (w .tx) (w .len) (w .got) (w .pipe) (w .awaits) (w .untaken) (view (s .0))
       → (w .awaits ≡ given true) × (isOn (s .0 .control .last) ≡ true) × (w .pipe .inn .through ≡ true) × Due (w .pipe .out) (view (s .0) .out))
-      → R (afresh w) (view (second s .0))
+      → R (afresh (s .1) w) (view (second s .0))
   goes-on t g = moved (second-view s (z .places))
-      (requested k refl refl (says-in (w .request) (s .0 .control) _ (k .says) t refl), by f)
+      (requested k refl refl refl (says-in (w .request) (s .0 .control) _ (k .says) t refl), by f)
     where
       y : View
       y = setControl (dataInOf (s .0 .control .length) (s .0 .control .last) 2)
@@ -383,13 +396,13 @@ module _ (w : Log) (s : St) (k : Base (w .request) (w .started) (view (s .0))) (
       })
 
   -- 15 and 4
-  unasked : eqb (s .0 .control .sort) DATA-IN ≡ false → Polled w (tree.ends (Refused 15) s)
+  unasked : eqb (s .0 .control .sort) DATA-IN ≡ false → Polled w s (tree.ends (Refused 15) s)
   unasked q = at-end {a = Refused 15} ((k, f), (unbegun (none-in (w .request) (s .0 .control) (k .says) q), tt))
 
-  early : eqb (s .0 .globals .stage) 2 ≡ false → Polled w (tree.ends (Refused 4) s)
+  early : eqb (s .0 .globals .stage) 2 ≡ false → Polled w s (tree.ends (Refused 4) s)
   early q = at-end {a = Refused 4} ((k, f), (unstarted (not-started k q), tt))
 
-  polled-exempt : w .exempt ≡ true → Polled w (run concrete (code (other PollDataIn)) s)
+  polled-exempt : w .exempt ≡ true → Polled w s (run concrete (code (other PollDataIn)) s)
   polled-exempt x =
       watch-cond (eqb (s .0 .globals .stage) 2)
       (λ _. watch-cond (eqb (s .0 .control .sort) DATA-IN)
@@ -409,12 +422,12 @@ module _ (w : Log) (s : St) (k : Base (w .request) (w .started) (view (s .0))) (
       (λ q. unasked q))
       (λ q. early q)
     where
-      goes-on-exempt : s .0 .control .sort ≡ 3 → R (afresh w) (view (second s .0))
+      goes-on-exempt : s .0 .control .sort ≡ 3 → R (afresh (s .1) w) (view (second s .0))
       goes-on-exempt t = moved (second-view s (z .places))
-          (requested k refl refl (says-in (w .request) (s .0 .control) _ (k .says) t refl), inl x)
+          (requested k refl refl refl (says-in (w .request) (s .0 .control) _ (k .says) t refl), inl x)
 
   module _ (r : Rel (w .rx) (w .tx) (w .len) (w .got) (w .pipe) (w .awaits) (w .untaken) (view (s .0))) where
-    polled-in : Waiting (w .awaits) (w .pipe) (view (s .0)) → Polled w (run concrete (code (other PollDataIn)) s)
+    polled-in : Waiting (w .awaits) (w .pipe) (view (s .0)) → Polled w s (run concrete (code (other PollDataIn)) s)
     polled-in (aborted e i j) =
         watch-cond (eqb (s .0 .globals .stage) 2)
         (λ _. watch-cond (eqb (s .0 .control .sort) DATA-IN)
@@ -467,7 +480,7 @@ pub law-poll-data-in : Law (other PollDataIn)
 law-poll-data-in w s (k, inl e) z = polled-exempt w s k (inl e) z e
 law-poll-data-in w s (k, inr r) z = by (eqb (s .0 .control .sort) DATA-IN) refl
   where
-    by : (t : Bool) → eqb (s .0 .control .sort) DATA-IN ≡ t → Polled w (run concrete (code (other PollDataIn)) s)
+    by : (t : Bool) → eqb (s .0 .control .sort) DATA-IN ≡ t → Polled w s (run concrete (code (other PollDataIn)) s)
     by true q = polled-in w s k (inr r) z r (waiting (w .awaits) r (eqb-true (s .0 .control .sort) DATA-IN q))
     by false q = watch-cond (eqb (s .0 .globals .stage) 2)
         (λ _. watch-cond (eqb (s .0 .control .sort) DATA-IN) (λ y. differ (sym q ∙ y)) (λ y. unasked w s k (inr r) z y))

@@ -25,6 +25,7 @@ use Rattle.script.specs.Cells.{EpCore, ep-cell, globals-cell}
 use Rattle.script.specs.Script.{when, run, waken, no-wakes, setup-word, _>>=_, _>>_}
 use Rattle.script.specs.Statics.{isOn, withReady, withArmed, withSetup, withEntered, modifyIntEn, wakeBus}
 use Rattle.script.specs.Calls.{interrupt}
+use Rattle.script.specs.Machine.{Buf}
 use Rattle.script.specs.Handler.{entered, nakNonIso, isoFor, ownIn, framed, released, onTransfer, onSetup, onInterrupt}
 use Rattle.script_ops.specs.Rings.{St}
 use Rattle.script_ops.specs.Concrete.{concrete}
@@ -183,7 +184,7 @@ nakWord c = writtenAs (wordOf word.NAK word.DATA0 false) c
 abbrev cleared : EpCore → EpCore
 cleared p = withArmed 0 (withReady 0 p)
 
-ready-setup : (x : Log) → x .setup-seen ≡ true → {v y : View} → y ≡ v → Base (x .request) (x .started) v
+ready-setup : (x : Log) → x .setup-seen ≡ true → {v y : View} → y ≡ v → Base (x .request) (x .started) (x .slot) v
     → Rel (anew true (x .rx)) (anew true (x .tx)) (x .len) (x .got) (pipe.after pipe.setup (x .pipe)) pipe.nothing true v
     → R (cond (x .setup-seen) (set-up x) x) y
 ready-setup x e {v = v} {y = y} h k r = subst (λ (b : Bool). R (cond b (set-up x) x) y) (sym e) (subst (R (set-up x)) (sym h) (k, inr r))
@@ -204,7 +205,7 @@ sets-up w s r two e ph = at-ask tt (λ _ a _ i. at-ask tt (λ _ b _ j. at-ask tt
     at-end (
       (ready-setup (withTx (nakWord (w .tx)) (withRx (nakWord (w .rx)) w)) e
           (act-view (waken (wakeCode In 0 ∷ [])) refl c′ ∙ (act-view (waken (wakeCode Out 0 ∷ [])) refl c ∙ (l .0 ∙ seen-p)))
-          (record { says = r .0 .says; started = r .0 .started; maximum = r .0 .maximum })
+          (record { says = r .0 .says; started = r .0 .started; maximum = r .0 .maximum; slot = r .0 .slot })
           (set-up-fits (nakWord (w .rx)) (nakWord (w .tx)) (w .len) (w .got) (w .pipe) (view (s .0)) two nak-word nak-word)),
       ph,
     ))))
@@ -236,10 +237,10 @@ is-flagged f w h = rw h refl
 is-off : (f : ℕ) (w : Log) → transfer f ≡ false → withFlags f w .phase ≡ off
 is-off f w h = rw h refl
 
-on-interrupt : (w : Log) (s : St) → R w (view (s .0)) → view (s .0) .stage ≡ 2
-    → Watch Between Any Over (opens interrupt w) (run concrete (onInterrupt {i = true}) s)
-on-interrupt w s r two = at-ask tt (λ f b _ j.
-    let u = withFlags f (opens interrupt w) in
+on-interrupt : (lent : Buf) (w : Log) (s : St) → R w (view (s .0)) → view (s .0) .stage ≡ 2
+    → Watch Between Any Over (opens interrupt lent w) (run concrete (onInterrupt {i = true}) s)
+on-interrupt lent w s r two = at-ask tt (λ f b _ j.
+    let u = withFlags f (opens interrupt lent w) in
     watch-bind {P = Exactly u (view (s .0))}
     (watch-cond (busRst f) (λ _. watch-more (masks (λ w. withBusRst w false) u b (plainly (j .1))) (λ _ _ _ m. (m .0, m .1 ∙ j .0, m .2)))
     (λ _. at-end (refl, j .0, plainly (j .1)))) (λ x _ c m. back (m .0) (
@@ -253,8 +254,8 @@ on-interrupt w s r two = at-ask tt (λ f b _ j.
     (watch-cond (hstSof f) (λ _. at-ask tt (λ _ t _ l. at-end (refl, l .0 ∙ o .1, plainly (l .1)))) (λ _. at-end (refl, o .1, o .2)))
     (λ x _ g p. back (p .0) (
     watch-bind {P = Served (setupAct f)}
-    (watch-cond (transfer f) (λ h. back (is-flagged f (opens interrupt w) h) (transfers u g (subst (R u) (sym (p .1)) r) (ap (λ (y : View). y .stage) (p .1) ∙ two) refl))
-    (λ h. at-end (subst (R u) (sym (p .1)) r, ap (λ (y : View). y .stage) (p .1) ∙ two, refl, is-off f (opens interrupt w) h))) (λ x _ t k.
+    (watch-cond (transfer f) (λ h. back (is-flagged f (opens interrupt lent w) h) (transfers u g (subst (R u) (sym (p .1)) r) (ap (λ (y : View). y .stage) (p .1) ∙ two) refl))
+    (λ h. at-end (subst (R u) (sym (p .1)) r, ap (λ (y : View). y .stage) (p .1) ∙ two, refl, is-off f (opens interrupt lent w) h))) (λ x _ t k.
     watch-cond (setupAct f) (λ h. sets-up x t (k .0) (k .1) (k .2 ∙ h) (k .3)) (λ h. at-end (none x (view (t .0)) (k .2 ∙ h) (k .0), k .3))))))))))))
 
 pub law-interrupt : Law interrupt
@@ -265,7 +266,7 @@ law-interrupt w s r z =
     watch-bind {P = Over} (watch-bind {P = Over} (at-ask tt (λ frame a _ i.
     let v : view (concrete .put globals-cell (withEntered (indexOf frame) (concrete .get globals-cell a)) a .0)
     ≡ view (s .0) = put-kept (withEntered (indexOf frame)) (λ _. refl) a ∙ (i .0 ∙ act-view no-wakes refl s) in
-    on-interrupt w (concrete .put globals-cell (withEntered (indexOf frame) (concrete .get globals-cell a)) a)
+    on-interrupt (s .1) w (concrete .put globals-cell (withEntered (indexOf frame) (concrete .get globals-cell a)) a)
     (subst (R w) (sym v) r) (ap (λ (y : View). y .stage) v ∙ two)))
     (λ y _ o l. at-end l)) (λ y n o l. at-end (l .0, l .1)))
     (λ _. at-end (r, tt))

@@ -72,10 +72,10 @@ noted-view c s = act-view no-wakes refl (concrete .put control-cell c s) ∙ put
 pub noted-whole : (c : Control) (s : St) → Whole s → Whole (noted c s)
 noted-whole c s h = act-steady no-wakes refl (concrete .put control-cell c s) .places ∙ (put-steady control-cell c s .places ∙ h)
 
-pub moved : {q : Request} {b ex : Bool} {rx tx : Ep0Word} {l g : ℕ} {p : Pipe} {a : Awaited} {u : Bool} {x y : View} → y ≡ x
-    → Line q b ex rx tx l g p a u x → Line q b ex rx tx l g p a u y
-moved {q = q} {b = b} {ex = ex} {rx = rx} {tx = tx} {l = l} {g = g} {p = p} {a = a} {u = u} e r =
-    subst (Line q b ex rx tx l g p a u) (sym e) r
+pub moved : {q : Request} {b ex : Bool} {m : ℕ} {rx tx : Ep0Word} {l g : ℕ} {p : Pipe} {a : Awaited} {u : Bool} {x y : View} → y ≡ x
+    → Line q b m ex rx tx l g p a u x → Line q b m ex rx tx l g p a u y
+moved {q = q} {b = b} {ex = ex} {m = m} {rx = rx} {tx = tx} {l = l} {g = g} {p = p} {a = a} {u = u} e r =
+    subst (Line q b m ex rx tx l g p a u) (sym e) r
 
 -- where the log is not exempt
 pub fit-of : {ex : Bool} {X : Type 0} → (ex ≡ true) ⊎ X → ex ≡ false → X
@@ -83,19 +83,24 @@ fit-of (inl e) h = differ (sym h ∙ e)
 fit-of (inr x) h = x
 
 -- another request
-pub requested : {q q′ : Request} {b : Bool} {x y : View} → Base q b x → y .stage ≡ x .stage → y .maximum ≡ x .maximum
-    → Says q′ (y .control) → Base q′ b y
-requested k s m c = record { says = c; started = ap (λ n. eqb n 2) s ∙ k .started; maximum = λ h. m ∙ k .maximum h }
+pub requested : {q q′ : Request} {b : Bool} {l : ℕ} {x y : View} → Base q b l x → y .stage ≡ x .stage → y .maximum ≡ x .maximum
+    → y .buffer ≡ x .buffer → Says q′ (y .control) → Base q′ b l y
+requested k s m g c = record {
+  says = c;
+  started = ap (λ n. eqb n 2) s ∙ k .started;
+  maximum = λ h. m ∙ k .maximum h;
+  slot = λ h. g ∙ k .slot h;
+}
 
 -- ---- the rows before a stage
 
-pub not-started : {q : Request} {b : Bool} {x : View} → Base q b x → eqb (x .stage) 2 ≡ false → b ≡ false
+pub not-started : {q : Request} {b : Bool} {l : ℕ} {x : View} → Base q b l x → eqb (x .stage) 2 ≡ false → b ≡ false
 not-started k h = sym (k .started) ∙ h
 
 pub untaken-by : (w : Log) (x : View) → Fit w x → isOn (x .setup-ready) ≡ true → Untaken true w
 untaken-by w x f g h = sym (fit-of f h .setup) ∙ g
 
-above : {q : Request} {b : Bool} {x : View} (n : ℕ) → Base q b x → eqb (x .stage) 2 ≡ true → ltb (x .maximum) n ≡ true
+above : {q : Request} {b : Bool} {l : ℕ} {x : View} (n : ℕ) → Base q b l x → eqb (x .stage) 2 ≡ true → ltb (x .maximum) n ≡ true
     → ltb 64 n ≡ true
 above n k t h = ap (λ m. ltb m n) (sym (k .maximum (sym (k .started) ∙ t))) ∙ h
 
@@ -136,7 +141,7 @@ law-data-out n true w s (b, f) z =
     (λ g. ((b, f), ended (untaken-by w (view (s .0)) f g)))
     (at-ask tt (λ v t _ k. at-end (
       moved (k .0 ∙ armed-out n s (z .places))
-          (requested b refl refl (refl, refl), fits-takes-first (afresh w) (view (s .0)) n (data1 (w .rx)) acked-ack acked-one f),
+          (requested b refl refl refl (refl, refl), fits-takes-first (afresh (s .1) w) (view (s .0)) n (data1 (w .rx)) acked-ack acked-one f),
       tt,
     )))
 law-data-out n false w s (b, f) z =
@@ -144,7 +149,7 @@ law-data-out n false w s (b, f) z =
     (λ g. ((b, f), ended (untaken-by w (view (s .0)) f g)))
     (at-ask tt (λ v t _ k. at-ask tt (λ _ u _ l. at-end (
       moved (l .0 ∙ (k .0 ∙ armed-out n s (z .places)))
-          (requested b refl refl (refl, refl), fits-takes-next (afresh w) (view (s .0)) n v f),
+          (requested b refl refl refl (refl, refl), fits-takes-next (afresh (s .1) w) (view (s .0)) n v f),
       tt,
     ))))
 
@@ -193,8 +198,8 @@ law-data-in bytes true true w s (b, f) z =
     (λ t l. ((b, f), misfits (above (length bytes) b t l))) (λ g. ((b, f), ended (untaken-by w (view (s .0)) f g)))
     (at-ask tt (λ _ t _ k. at-ask tt (λ _ t′ _ k′. at-ask tt (λ _ u _ l. at-end (
       moved (l .0 ∙ (k′ .0 ∙ armed-in t _ (k .1 .places) (k .0 ∙ closing (length bytes) bytes s (z .places)))) (
-        requested b refl refl refl,
-        fits-gives-last-first (afresh w) (view (s .0)) (length bytes)
+        requested b refl refl refl refl,
+        fits-gives-last-first (afresh (s .1) w) (view (s .0)) (length bytes)
             (data1 (w .rx)) acked-ack acked-one (data1 (w .tx)) acked-ack acked-one f,
       ),
       tt,
@@ -204,8 +209,8 @@ law-data-in bytes false true w s (b, f) z =
     (λ t l. ((b, f), misfits (above (length bytes) b t l))) (λ g. ((b, f), ended (untaken-by w (view (s .0)) f g)))
     (at-ask tt (λ _ t _ k. at-ask tt (λ _ t′ _ k′. at-ask tt (λ v t″ _ k″. at-ask tt (λ _ u _ l. at-end (
       moved (l .0 ∙ (k″ .0 ∙ (k′ .0 ∙ armed-in t _ (k .1 .places) (k .0 ∙ closing (length bytes) bytes s (z .places))))) (
-        requested b refl refl refl,
-        fits-gives-last-next (afresh w) (view (s .0)) (length bytes)
+        requested b refl refl refl refl,
+        fits-gives-last-next (afresh (s .1) w) (view (s .0)) (length bytes)
             (data1 (w .rx)) acked-ack acked-one v f,
       ),
       tt,
@@ -215,7 +220,7 @@ law-data-in bytes true false w s (b, f) z =
     (λ t l. ((b, f), misfits (above (length bytes) b t l))) (λ g. ((b, f), ended (untaken-by w (view (s .0)) f g)))
     (at-ask tt (λ _ t _ k. at-ask tt (λ _ u _ l. at-end (
       moved (l .0 ∙ (k .0 ∙ opening (length bytes) bytes s (z .places)))
-          (requested b refl refl refl, fits-gives-first (afresh w) (view (s .0)) (length bytes) (data1 (w .tx)) acked-ack acked-one f),
+          (requested b refl refl refl refl, fits-gives-first (afresh (s .1) w) (view (s .0)) (length bytes) (data1 (w .tx)) acked-ack acked-one f),
       tt,
     ))))
 law-data-in bytes false false w s (b, f) z =
@@ -223,7 +228,7 @@ law-data-in bytes false false w s (b, f) z =
     (λ t l. ((b, f), misfits (above (length bytes) b t l))) (λ g. ((b, f), ended (untaken-by w (view (s .0)) f g)))
     (at-ask tt (λ _ t _ k. at-ask tt (λ v t′ _ k′. at-ask tt (λ _ u _ l. at-end (
       moved (l .0 ∙ (k′ .0 ∙ (k .0 ∙ opening (length bytes) bytes s (z .places))))
-          (requested b refl refl refl, fits-gives-next (afresh w) (view (s .0)) (length bytes) v f),
+          (requested b refl refl refl refl, fits-gives-next (afresh (s .1) w) (view (s .0)) (length bytes) v f),
       tt,
     )))))
 
@@ -243,8 +248,8 @@ law-accept w s (b, f) z =
     past-setup s (λ q. ((b, f), unstarted (not-started b q))) (λ g. ((b, f), ended (untaken-by w (view (s .0)) f g)))
     (at-ask tt (λ _ t _ k. at-ask tt (λ v t′ _ k′. at-ask tt (λ _ u _ l. at-end (
       moved (l .0 ∙ (k′ .0 ∙ (k .0 ∙ cleared (requestOf ACCEPT 0) s (z .places)))) (
-        requested b refl refl refl,
-        fits-confirms keeps (afresh w) (view (s .0)) (statusWord v (w .tx)) (requestOf ACCEPT 0)
+        requested b refl refl refl refl,
+        fits-confirms keeps (afresh (s .1) w) (view (s .0)) (statusWord v (w .tx)) (requestOf ACCEPT 0)
             refl off (status-acks v) (status-one v) f,
       ),
       tt,
@@ -255,8 +260,8 @@ law-accept-address a w s (b, f) z =
     past-setup s (λ q. ((b, f), unstarted (not-started b q))) (λ g. ((b, f), ended (untaken-by w (view (s .0)) f g)))
     (at-ask tt (λ _ t _ k. at-ask tt (λ v t′ _ k′. at-ask tt (λ _ u _ l. at-end (
       moved (l .0 ∙ (k′ .0 ∙ (k .0 ∙ cleared (addressOf (a % 256)) s (z .places)))) (
-        requested b refl refl refl,
-        fits-confirms (sets (a % 128)) (afresh w) (view (s .0)) (statusWord v (w .tx))
+        requested b refl refl refl refl,
+        fits-confirms (sets (a % 128)) (afresh (s .1) w) (view (s .0)) (statusWord v (w .tx))
             (addressOf (a % 256)) refl (on, omega arith) (status-acks v) (status-one v) f,
       ),
       tt,
@@ -280,7 +285,7 @@ law-reject w s (b, f) z =
     watch-cond (eqb (s .0 .globals .stage) 2)
     (λ _. at-ask tt (λ v t _ k. at-ask tt (λ _ t′ _ k′. at-ask tt (λ u t″ _ k″. at-ask tt (λ _ t‴ _ l. at-end (
       moved (l .0 ∙ (k″ .0 ∙ (k′ .0 ∙ (k .0 ∙ disarmed s (z .places)))))
-          (requested b refl refl refl, fits-rejects (afresh w) (view (s .0)) u v f),
+          (requested b refl refl refl refl, fits-rejects (afresh (s .1) w) (view (s .0)) u v f),
       tt,
     ))))))
     (λ q. at-end ((b, f), unstarted (not-started b q)))
@@ -309,7 +314,7 @@ pub law-setup : Law (other BeginSetup)
 law-setup w s (b, f) z =
     watch-cond (eqb (s .0 .globals .stage) 2)
     (λ _. at-end (
-      moved (noted-view (requestOf SETUP 0) s) (requested b refl refl refl, waits-none w (view (s .0)) (requestOf SETUP 0) refl f),
+      moved (noted-view (requestOf SETUP 0) s) (requested b refl refl refl refl, waits-none w (view (s .0)) (requestOf SETUP 0) refl f),
       tt,
     ))
     (λ q. at-end ((b, f), unstarted (not-started b q)))

@@ -40,10 +40,10 @@ use Rattle.script_ops.specs.Concrete.{concrete}
 use Rattle.regs.specs.declared.Access.{Access}
 use Rattle.proof_usb20.specs.Log as log
 use Rattle.proof_usb20.specs.Log.{Log, before, exempted, afresh, opens, ends, closes, Poll, none, pollOf, settled, Fair, Allowed, AllowedTo}
-use Rattle.proof_usb20.specs.Log.{Ep0Word, readAs, compared, withRx, withTx, Shows}
+use Rattle.proof_usb20.specs.Log.{Ep0Word, readAs, compared, withRx, withTx, withSlots, Shows}
 use Rattle.proof_usb20.specs.Pipe.{Answers, naks, stalls, acks, Half}
 use Rattle.proof_usb20.specs.RequestLaws.{baseOf, Left, kept-base, given-64, given-start, started-base, started-stage}
-use Rattle.proof_usb20.specs.RequestLaws.{l-ret, l-bind, l-allocates, l-listed, l-start-ep0, l-stalled, l-reset, l-int-en}
+use Rattle.proof_usb20.specs.RequestLaws.{l-ret, l-bind, l-allocates, l-listed, l-start-rest, l-stalled, l-reset, l-int-en}
 use Rattle.alloc.specs.declared.Answer as alloc
 use Rattle.alloc.specs.declared.Answer.the-variants as variant
 use Rattle.alloc.specs.Alloc.{allocateEp0Of}
@@ -88,15 +88,15 @@ Task (slotted o) = Unit {0}
 Task (other o) = Unit {0}
 Task (aside o) = Unit {0}
 
-opened : (o : Op) → Task o → (w : Log) → opens o w ≡ afresh w
-opened (slotted o) t w = refl
-opened (other o) t w = refl
-opened (aside o) t w = refl
+opened : (o : Op) → Task o → (b : Buf) (w : Log) → opens o b w ≡ afresh b w
+opened (slotted o) t b w = refl
+opened (other o) t b w = refl
+opened (aside o) t b w = refl
 
 pub quiet-law : (o : Op) → Task o → pollOf o ≡ none → ((n : ℕ) (x : Log) → ends o n x ≡ x) → ((a : Answer) (x : Log) → Fair o a x)
     → Quiet (code o) → Law o
-quiet-law o t p e fair q w s r z = subst (λ (u : Log). Watch Between (Allowed o) (Ends o) u (run concrete (code o) s)) (sym (opened o t w))
-    (allows (λ x q. subst (λ (a : Poll). AllowedTo a x q) (sym p) tt) (watch-more (q .goes (afresh w) s refl (plainly z))
+quiet-law o t p e fair q w s r z = subst (λ (u : Log). Watch Between (Allowed o) (Ends o) u (run concrete (code o) s)) (sym (opened o t (s .1) w))
+    (allows (λ x q. subst (λ (a : Poll). AllowedTo a x q) (sym p) tt) (watch-more (q .goes (afresh (s .1) w) s refl (plainly z))
     (λ x a u m. (
       subst (λ (y : Log). R y (view (u .0))) (sym (closed o p e a x ∙ m .0)) (subst (R w) (sym (m .1)) r),
       fair a x,
@@ -192,10 +192,10 @@ unstarted n h q = absurd (omega (arith, h, eqb-true n 1 q))
 
 -- the log is exempt, and what is left of the request fits
 still : (w x : Log) (s t : St) → R w (view (s .0)) → w .exempt ≡ true → Left w s x t → R x (view (t .0))
-still w x s t r e l = (kept-base (r .0) (l .0 .request) (l .0 .started) (l .1), inl (l .0 .exempt e))
+still w x s t r e l = (kept-base (r .0) (l .0 .request) (l .0 .started) (l .0 .slot) (l .1), inl (l .0 .exempt e))
 
 exempts : (w x : Log) (s t : St) → R w (view (s .0)) → Left w s x t → R (exempted x) (view (t .0))
-exempts w x s t r l = (kept-base (r .0) (l .0 .request) (l .0 .started) (l .1), inl refl)
+exempts w x s t r l = (kept-base (r .0) (l .0 .request) (l .0 .started) (l .0 .slot) (l .1), inl refl)
 
 pub law-allocate : (d : Dir) (kind address maximum interval : ℕ)
     → Law (other (Allocate d kind address maximum interval))
@@ -203,9 +203,9 @@ law-allocate d kind address maximum interval w s (k, inr r) z =
     watch-cond (eqb (s .0 .globals .stage) 1) (λ q. unstarted (s .0 .globals .stage) (r .stage) q) (λ _. at-end ((k, inr r), tt))
 law-allocate d kind address maximum interval w s (k, inl e) z =
     watch-cond (eqb (s .0 .globals .stage) 1)
-    (λ _. watch-more (l-allocates {i = false} d kind address maximum interval .goes (afresh w) s) (λ x a t l. (
+    (λ _. watch-more (l-allocates {i = false} d kind address maximum interval .goes (afresh (s .1) w) s) (λ x a t l. (
       subst (λ (y : Log). R y (view (t .0))) (sym (closed (other (Allocate d kind address maximum interval)) refl (λ _ _. refl) a x))
-          (still (afresh w) x s t (k, inl e) e l),
+          (still (afresh (s .1) w) x s t (k, inl e) e l),
       tt,
     )))
     (λ _. at-end ((k, inl e), tt))
@@ -215,8 +215,8 @@ law-allocate-all bytes w s (k, inr r) z =
     watch-cond (eqb (s .0 .globals .stage) 1) (λ q. unstarted (s .0 .globals .stage) (r .stage) q) (λ _. at-end ((k, inr r), tt))
 law-allocate-all bytes w s (k, inl e) z =
     watch-cond (eqb (s .0 .globals .stage) 1)
-    (λ _. watch-more (l-listed {i = false} bytes (readingOf bytes .answer) .goes (afresh w) s) (λ x a t l. (
-      subst (λ (y : Log). R y (view (t .0))) (sym (closed (other (AllocateAll bytes)) refl (λ _ _. refl) a x)) (still (afresh w) x s t (k, inl e) e l),
+    (λ _. watch-more (l-listed {i = false} bytes (readingOf bytes .answer) .goes (afresh (s .1) w) s) (λ x a t l. (
+      subst (λ (y : Log). R y (view (t .0))) (sym (closed (other (AllocateAll bytes)) refl (λ _ _. refl) a x)) (still (afresh (s .1) w) x s t (k, inl e) e l),
       tt,
     )))
     (λ _. at-end ((k, inl e), tt))
@@ -234,23 +234,27 @@ law-start maximum w s (k, inl e) z =
     t = concrete .act (allocate0 maximum) s
 
     by : (a : alloc.Answer) → allocateEp0Of (s .0 .allocator) maximum .answer ≡ a
-        → Watch Between (Allowed (other (Start maximum))) (Ends (other (Start maximum))) (afresh w) (run {i = false} concrete (started-as maximum a) t)
+        → Watch Between (Allowed (other (Start maximum))) (Ends (other (Start maximum))) (afresh (s .1) w) (run {i = false} concrete (started-as maximum a) t)
     by (variant.Refused n) h = at-end (
-      subst (λ (y : Log). R y (view (t .0))) (sym (closed-refused n)) (kept-base k refl refl (started-base (s .0) maximum n h), inl e),
+      subst (λ (y : Log). R y (view (t .0))) (sym (closed-refused n)) (kept-base k refl refl refl (started-base (s .0) maximum n h), inl e),
       tt,
     )
       where
-        closed-refused : (n : ℕ) → closes (other (Start maximum)) (Refused n) (afresh w) ≡ afresh w
-        closed-refused n = same-log (eqb n 9 || eqb n 10) (afresh w)
-    by (variant.Given e base slots) h = watch-bind (l-bind {i = false} (l-start-ep0 maximum) (λ _. l-ret {a = 0}) .goes (afresh w) (concrete .act no-wakes t))
-        (λ x n u l. at-end {a = End n (concrete .fetch gathered u)} {s = u} (
+        closed-refused : (n : ℕ) → closes (other (Start maximum)) (Refused n) (afresh (s .1) w) ≡ afresh (s .1) w
+        closed-refused n = same-log (eqb n 9 || eqb n 10) (afresh (s .1) w)
+    by (variant.Given e base slots) h = at-ask tt (λ _ u _ g.
+        watch-bind (l-bind {i = false} (l-start-rest maximum) (λ _. l-ret {a = 0}) .goes
+        (withSlots (concrete .act no-wakes t .0 .globals .«ep0_buf») (s .1) (afresh (s .1) w)) u)
+        (λ x n v l. at-end {a = End n (concrete .fetch gathered v)} {s = v} (
           (
-            given-start k (l .0 .request) refl (l .1 ∙ (ap baseOf (act-view no-wakes refl t) ∙ started-stage (s .0) maximum e base slots h))
-                (given-64 (s .0 .allocator) maximum e base slots h),
+            given-start k (l .0 .request) refl
+                (l .1 ∙ (ap baseOf (g .0 ∙ act-view no-wakes refl t) ∙ started-stage (s .0) maximum e base slots h))
+                (given-64 (s .0 .allocator) maximum e base slots h)
+                (l .0 .slot ∙ ap (λ (y : View). y .buffer) (act-view no-wakes refl t)),
             inl refl,
           ),
           tt,
-        ))
+        )))
 
 -- ---- the bus
 
@@ -316,12 +320,12 @@ pub law-is-stalled : (d : Dir) (e : ℕ) → Law (other (IsStalled d e))
 law-is-stalled d e w s r z = by (eqb e 0) refl
   where
     by : (b : Bool) → eqb e 0 ≡ b
-        → Watch Between (Allowed (other (IsStalled d e))) (Ends (other (IsStalled d e))) (afresh w) (run concrete (code (other (IsStalled d e))) s)
+        → Watch Between (Allowed (other (IsStalled d e))) (Ends (other (IsStalled d e))) (afresh (s .1) w) (run concrete (code (other (IsStalled d e))) s)
     by false h = quiet-law (other (IsStalled d e)) tt refl (λ _ _. refl) (λ _ _. tt) (q-staged 2 (q-if (eqb e 0) (λ q. differ (sym h ∙ q))
         (λ _. q-named d e (λ m. q-operation (q-bind (q-read-of (other-read d e h) (λ _. q-ret)) (λ v. q-ret)))))) w s r z
     by true h = watch-cond (eqb (s .0 .globals .stage) 2)
         (λ _. watch-cond (eqb e 0) (λ _. at-ask {q = Read (ctrlOf d) e} tt (λ v t _ k. at-end (
-          subst (R (compared (ctrlOf d) e v (afresh w))) (sym (k .0 ∙ act-view no-wakes refl s)) (r-compared d e v (afresh w) (view (s .0)) r),
+          subst (R (compared (ctrlOf d) e v (afresh (s .1) w))) (sym (k .0 ∙ act-view no-wakes refl s)) (r-compared d e v (afresh (s .1) w) (view (s .0)) r),
           tt,
         ))) (λ q. differ (sym q ∙ h)))
         (λ _. at-end (r, tt))
@@ -395,17 +399,17 @@ pub law-set-stalled : (d : Dir) (e : ℕ) (on : Bool) → Law (other (SetStalled
 law-set-stalled d e on w s r z = by (eqb e 0) refl
   where
     by : (b : Bool) → eqb e 0 ≡ b
-        → Watch Between (Allowed (other (SetStalled d e on))) (Ends (other (SetStalled d e on))) (afresh w) (run concrete (code (other (SetStalled d e on))) s)
+        → Watch Between (Allowed (other (SetStalled d e on))) (Ends (other (SetStalled d e on))) (afresh (s .1) w) (run concrete (code (other (SetStalled d e on))) s)
     by false h = quiet-part
       where
         quiet-part : Watch Between (Allowed (other (SetStalled d e on)))
-            (Ends (other (SetStalled d e on))) (afresh w) (run concrete (code (other (SetStalled d e on))) s)
+            (Ends (other (SetStalled d e on))) (afresh (s .1) w) (run concrete (code (other (SetStalled d e on))) s)
         quiet-part = quiet-law (other (SetStalled d e on)) tt refl (λ _ x. ap (λ (b : Bool). cond b (exempted x) x) h) (λ _ _. tt)
             (q-staged 2 (q-if (eqb e 0) (λ q. differ (sym h ∙ q)) (λ _. q-named d e (λ m. q-resultless (q-stalled d e on m))))) w s r z
     by true h = watch-cond (eqb (s .0 .globals .stage) 2)
         (λ _. watch-cond (eqb e 0)
-        (λ _. watch-bind (l-bind {i = false} (l-stalled d e on) (λ _. l-ret {a = 0}) .goes (afresh w) (concrete .act no-wakes s))
-        (λ x n t l. at-end (exempt-if x (view (t .0)) (exempts (afresh w) x s t r (l .0, l .1 ∙ ap baseOf (act-view no-wakes refl s))), tt)))
+        (λ _. watch-bind (l-bind {i = false} (l-stalled d e on) (λ _. l-ret {a = 0}) .goes (afresh (s .1) w) (concrete .act no-wakes s))
+        (λ x n t l. at-end (exempt-if x (view (t .0)) (exempts (afresh (s .1) w) x s t r (l .0, l .1 ∙ ap baseOf (act-view no-wakes refl s))), tt)))
         (λ q. differ (sym q ∙ h)))
         (λ _. at-end (r, tt))
       where
@@ -415,9 +419,9 @@ law-set-stalled d e on w s r z = by (eqb e 0) refl
 -- a bus reset exempts; the rest of a poll is quiet
 pub law-bus-poll : Law (other BusPoll)
 law-bus-poll w s r z = watch-cond (eqb (s .0 .globals .stage) 2)
-    (λ _. watch-bind {P = λ x n t. ((n ≡ 2) × Left (afresh w) s x t) ⊎ Stays (afresh w) s x t} (watch-cond (isOn (s .0 .globals .power))
+    (λ _. watch-bind {P = λ x n t. ((n ≡ 2) × Left (afresh (s .1) w) s x t) ⊎ Stays (afresh (s .1) w) s x t} (watch-cond (isOn (s .0 .globals .power))
     (λ _. at-ask tt (λ f a _ i. watch-cond (busRst f)
-    (λ _. watch-bind (l-reset .goes (afresh w) a) (λ x _ t l. watch-bind (l-int-en {i = false} (λ v. withBusRst v true) .goes x t)
+    (λ _. watch-bind (l-reset .goes (afresh (s .1) w) a) (λ x _ t l. watch-bind (l-int-en {i = false} (λ v. withBusRst v true) .goes x t)
     (λ y _ u m. at-end {s = u} (inl (
       refl,
       (further (l .0) (m .0), m .1 ∙ (l .1 ∙ ap baseOf (i .0 ∙ act-view no-wakes refl s))),
@@ -442,7 +446,7 @@ law-bus-poll w s r z = watch-cond (eqb (s .0 .globals .stage) 2)
     same true x v q = (q .0, inl refl)
     same false x v q = q
 
-    after : (n : ℕ) (x : Log) (t : St) → ((n ≡ 2) × Left (afresh w) s x t) ⊎ Stays (afresh w) s x t
+    after : (n : ℕ) (x : Log) (t : St) → ((n ≡ 2) × Left (afresh (s .1) w) s x t) ⊎ Stays (afresh (s .1) w) s x t
         → R (cond (eqb n 2) (exempted x) x) (view (t .0))
-    after n x t (inl h) = subst (λ (m : ℕ). R (cond (eqb m 2) (exempted x) x) (view (t .0))) (sym (h .0)) (exempts (afresh w) x s t r (h .1))
+    after n x t (inl h) = subst (λ (m : ℕ). R (cond (eqb m 2) (exempted x) x) (view (t .0))) (sym (h .0)) (exempts (afresh (s .1) w) x s t r (h .1))
     after n x t (inr m) = same (eqb n 2) x (view (t .0)) (subst (λ (y : Log). R y (view (t .0))) (sym (m .0)) (subst (R w) (sym (m .1)) r))
