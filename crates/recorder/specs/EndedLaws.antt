@@ -210,7 +210,7 @@ module _ (v : View) (ps : List Packet) (m : ℕ) (w : EndsIn v ps m) where
             rw y (ia d r (λ j m. nm j (omega arith)) f (omega arith)))
         | no h ↦ (let none : firstIn k 0 ps ≡ 65535 = nm k (omega arith) ∙ first-behind (q ∷ qs) k d (omega arith) in
             let x : v .named k ≡ 65535 = w .names k u g ∙ none in
-            let other : k + 1 ≤ m = elim (ℕ-discrete k m) [ | yes z ↦ absurd (w .begun (rw z at none)) | no z ↦ omega arith ] in
+            let other : k + 1 ≤ m = elim (ℕ-discrete k m) [ yes z ↦ absurd (w .begun (rw z at none)) | no z ↦ omega arith ] in
             rw (seek-nameless n k g (omega arith)) (i other (omega arith)))
       ]
       go i false g =

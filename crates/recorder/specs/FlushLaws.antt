@@ -52,8 +52,13 @@ mid-behind s b a i l h =
 
 pub mid-long : (s b : List ℕ) (a : ℕ) → a + 512 ≤ length s → length b ≡ 512 → length (take a s ++ (b ++ drop (a + 512) s)) ≡ length s
 mid-long s b a l h =
-    omega (arith, length-append (take a s) (b ++ drop (a + 512) s), length-append b (drop (a + 512) s), length-take-le a s (omega arith),
-    length-drop (a + 512) s)
+    omega (
+      arith,
+      length-append (take a s) (b ++ drop (a + 512) s),
+      length-append b (drop (a + 512) s),
+      length-take-le a s (omega arith),
+      length-drop (a + 512) s,
+    )
 
 -- other 512 bytes from c on
 pub mid-other : (s b : List ℕ) (a c : ℕ) → a + 512 ≤ length s → c + 512 ≤ length s → length b ≡ 512 → (a < c + 512 → a + 512 ≤ c)

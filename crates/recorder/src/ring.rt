@@ -29,7 +29,11 @@ fn put_piece(w: Writer, room: &mut [u8], endpoint: u8, bytes: &[u8]) -> Put
             next: w,
             whole: true,
         },
-        Wrote::Piece { next, full: _, done } => Put { next, whole: done },
+        Wrote::Piece {
+            next,
+            full: _,
+            done,
+        } => Put { next, whole: done },
     }
 }
 

@@ -19,5 +19,12 @@ pub fn recorder_in(numbers: &[u32; 6]) -> Recorder
 pub fn recorder_numbers(r: Recorder) -> [u32; 6]
     ensures { λ s. ⌜ s ≡ recorderNumbers r ⌝ }
 {
-    [r.number, r.used as u32, r.first as u32, r.from, r.left, r.survey]
+    [
+        r.number,
+        r.used as u32,
+        r.first as u32,
+        r.from,
+        r.left,
+        r.survey,
+    ]
 }

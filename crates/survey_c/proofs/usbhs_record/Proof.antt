@@ -64,7 +64,6 @@ returns c =
     let room = answer .1 ∙ room-any _ (s .endpoint) (s .overruns) (now (s .bytes)) (now (s .room)) _ n in
     rw (← r) (rw e (c .refused .ensures), (rw e, room))
 
-
 -- src/lib.rt:164:1
 same-length-2 : tie.Need-same-length-2
 same-length-2 c = search needs
@@ -83,7 +82,6 @@ returns-2 c =
     let e = sym (record-any _ (s .endpoint) (now (s .bytes)) (now (s .room)) _ n) ∙ (sym (answer .0) ∙ c3 .next .given .1) in
     let room = answer .1 ∙ room-any _ (s .endpoint) (s .overruns) (now (s .bytes)) (now (s .room)) _ n in
     rw (← r) (rw e (c .ended .ensures), (rw e (c .before .recorder-numbers .ensures), room))
-
 
 pub usbhs-record-spec : {M : Type 1} → statement M
 usbhs-record-spec =

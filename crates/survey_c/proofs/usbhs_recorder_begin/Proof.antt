@@ -45,7 +45,6 @@ returns c =
     let e = sym (answer .0) ∙ c .before .before .row .given .1 in
     (rw e (c .refused .ensures), (rw e, answer .1))
 
-
 -- src/lib.rt:147:1
 same-length-2 : tie.Need-same-length-2
 same-length-2 c = search needs
@@ -58,7 +57,6 @@ returns-2 c =
     let answer = c6 .before .begin .ensures in
     let e = sym (answer .0) ∙ c3 .next .given .1 in
     (rw e (c .ended .ensures), (rw e (c .before .recorder-numbers .ensures), answer .1))
-
 
 pub usbhs-recorder-begin-spec : {M : Type 1} → statement M
 usbhs-recorder-begin-spec =

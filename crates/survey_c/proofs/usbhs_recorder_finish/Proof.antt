@@ -52,7 +52,6 @@ returns c =
     let e = sym (answer .0) ∙ c .before .before .row .given .1 in
     rw (← r) (rw e (c .refused .ensures), (rw e, answer .1))
 
-
 -- src/lib.rt:190:1
 same-length-2 : tie.Need-same-length-2
 same-length-2 c = search needs
@@ -66,7 +65,6 @@ returns-2 c =
     let answer = c6 .before .finish .ensures in
     let e = sym (answer .0) ∙ c3 .next .given .1 in
     rw (← r) (rw e (c .ended .ensures), (rw e (c .before .recorder-numbers .ensures), answer .1))
-
 
 pub usbhs-recorder-finish-spec : {M : Type 1} → statement M
 usbhs-recorder-finish-spec =

@@ -38,7 +38,6 @@ returns c =
       c .before .recorder-numbers .ensures ∙ ap recorderNumbers next,
     )
 
-
 pub usbhs-recorder-stored-spec : {M : Type 1} → statement M
 usbhs-recorder-stored-spec =
     tie.close

@@ -22,7 +22,6 @@ returns c =
     let s = c .before .before .args in
     begin-refused (s .survey) (now (s .room)) (c .if1 .taken)
 
-
 -- src/recording.rt:76:17
 begin-bytes-requires : tie.Need-begin-bytes-requires
 begin-bytes-requires c κs = search needs
@@ -60,7 +59,6 @@ returns-2 c =
     let first = c6 .put-packet .ensures
     ∙ ap₂ (λ (l : List ℕ) (w : Writer). packetRing 4 (packetOf 15 l) (ringOf w (now (s .room)))) packet writer in
     begin-is (s .survey) (now (s .room)) _ _ (c9 .before .before .if1 .left) first (c .before .before .put-end .ensures)
-
 
 pub begin-spec : {M : Type 1} → statement M
 begin-spec =

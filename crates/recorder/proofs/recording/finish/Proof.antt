@@ -20,14 +20,12 @@ returns c =
     let s = c .before .before .args in
     finish-refused (s .r) (s .overruns) (now (s .room)) (busy-room (s .r) (now (s .room)) (c .if1 .taken))
 
-
 -- src/recording.rt:127:9
 returns-2 : tie.Need-returns-2
 returns-2 c =
     let c3 = c .before .before .before in
     let s = c3 .before .args in
     finish-refused (s .r) (s .overruns) (now (s .room)) (busy-left (s .r) (now (s .room)) (c .before .before .if1 .left) (c .if2 .taken))
-
 
 -- src/recording.rt:129:25
 writer-of-requires : tie.Need-writer-of-requires
@@ -65,7 +63,6 @@ returns-3 c =
     let padded = c6 .before .before .put-padding .ensures
     ∙ ap (λ (w : Writer). packetRing 4 (padding (w .used)) (ringOf w (now (s .room)))) (c9 .before .writer-of .ensures) in
     finish-is (s .r) _ (s .overruns) (now (s .room)) _ _ _ free padded (c3 .before .put-end .ensures) (c .before .left-of .ensures) (c .after .ensures)
-
 
 pub finish-spec : {M : Type 1} → statement M
 finish-spec =

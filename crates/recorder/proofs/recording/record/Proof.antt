@@ -24,7 +24,6 @@ returns c =
     let p = packetOf (s .endpoint) (now (s .bytes)) in
     record-refused (s .r) p (s .overruns) (now (s .room)) (refuses-busy (s .r) p (now (s .room)) (busy-room (s .r) (now (s .room)) (c .if1 .taken)))
 
-
 -- src/recording.rt:98:9
 returns-2 : tie.Need-returns-2
 returns-2 c =
@@ -34,7 +33,6 @@ returns-2 c =
     let busy = busy-left (s .r) (now (s .room)) (c .before .before .if1 .left) (c .if2 .taken) in
     record-refused (s .r) p (s .overruns) (now (s .room)) (refuses-busy (s .r) p (now (s .room)) busy)
 
-
 -- src/recording.rt:101:9
 returns-3 : tie.Need-returns-3
 returns-3 c =
@@ -43,7 +41,6 @@ returns-3 c =
     let p = packetOf (s .endpoint) (now (s .bytes)) in
     let free = not-busy (s .r) (now (s .room)) (c3 .if1 .left) (c .before .if2 .left) in
     record-refused (s .r) p (s .overruns) (now (s .room)) (refuses-long (s .r) p (now (s .room)) free (omega arith))
-
 
 -- src/recording.rt:104:9
 returns-4 : tie.Need-returns-4
@@ -55,7 +52,6 @@ returns-4 c =
     let free = not-busy (s .r) (now (s .room)) (c3 .before .if1 .left) (c .before .before .if2 .left) in
     record-refused (s .r) p (s .overruns) (now (s .room)) (refuses-zero (s .r) p (now (s .room)) free (omega arith) (c .if4 .taken))
 
-
 -- src/recording.rt:107:9
 returns-5 : tie.Need-returns-5
 returns-5 c =
@@ -66,7 +62,6 @@ returns-5 c =
     let free = not-busy (s .r) (now (s .room)) (c3 .before .before .if1 .left) (c3 .if2 .left) in
     let high = refuses-high (s .r) p (now (s .room)) free (omega arith) (c .before .if4 .left) (omega arith) in
     record-refused (s .r) p (s .overruns) (now (s .room)) high
-
 
 -- src/recording.rt:109:24
 writer-of-requires : tie.Need-writer-of-requires
@@ -99,7 +94,6 @@ returns-6 c =
     let ring = c6 .put-record .ensures
     ∙ ap (λ (w : Writer). recordRing p (ringOf w (now (s .room)))) (c6 .before .before .writer-of .ensures) in
     record-kept (s .r) _ p (s .overruns) (now (s .room)) _ fits ring (c .before .if6 .taken) (c .after .ensures)
-
 
 -- src/recording.rt:113:5
 put-end-requires : tie.Need-put-end-requires
@@ -134,7 +128,6 @@ returns-7 c =
     let ring = c9 .before .before .put-record .ensures
     ∙ ap (λ (w : Writer). recordRing p (ringOf w (now (s .room)))) (c12 .before .writer-of .ensures) in
     record-flushed (s .r) _ p (s .overruns) (now (s .room)) _ _ _ fits ring (c6 .if6 .left) (c3 .before .put-end .ensures) (c .before .left-of .ensures) (c .after2 .ensures)
-
 
 pub record-spec : {M : Type 1} → statement M
 record-spec =

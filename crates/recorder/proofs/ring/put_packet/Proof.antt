@@ -54,9 +54,10 @@ loop-again c =
     let s = turn .before .before .before .args in
     let p = packetOf (s .endpoint) (s .bytes .now) in
     let g = ringOf (turn .loop .at) (turn .loop .room) in
-    let now = ring-piece p g _ _ (call .ensures .0) (call .ensures .1 .1) in
-    (search needs,
-    ap (packetRing _ p) now ∙ ring-part (turn .loop .turns) p g (omega arith) (sym (call .ensures .1 .0) ∙ c .if1 .left) ∙ turn .loop .inv .1)
+    let now = ring-piece p g _ _ (call .ensures .0) (call .ensures .1 .1) in (
+      search needs,
+      ap (packetRing _ p) now ∙ ring-part (turn .loop .turns) p g (omega arith) (sym (call .ensures .1 .0) ∙ c .if1 .left) ∙ turn .loop .inv .1,
+    )
 
 same-length-2 : tie.Need-same-length-2 Inv-loop μ-loop
 same-length-2 c = search needs

@@ -50,7 +50,6 @@ returns c =
     put .ensures
     ∙ ap (λ (l : List ℕ). packetRing 4 (packetOf 15 l) g) (zeros-part (n .result) 501 (n .ensures .1) ∙ ap (λ (x : ℕ). replicate x 0) (n .ensures .0))
 
-
 pub put-padding-spec : {M : Type 1} → statement M
 put-padding-spec =
     tie.close

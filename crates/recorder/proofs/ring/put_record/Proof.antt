@@ -33,7 +33,6 @@ returns c =
     let p = packetOf (s .endpoint) (now (s .bytes)) in
     record-padded p (ringOf (s .w) (now (s .room))) _ _ (c6 .before .before .put-packet .ensures) (c3 .before .if1 .taken) (c .before .before .put-padding .ensures)
 
-
 -- src/ring.rt:77:1
 same-length-2 : tie.Need-same-length-2
 same-length-2 c = search needs
@@ -46,7 +45,6 @@ returns-2 c =
     let s = c6 .before .before .args in
     let p = packetOf (s .endpoint) (now (s .bytes)) in
     record-plain p (ringOf (s .w) (now (s .room))) _ (c3 .before .put-packet .ensures) (c .if1 .left)
-
 
 pub put-record-spec : {M : Type 1} → statement M
 put-record-spec =
