@@ -46,12 +46,13 @@ use Rattle.proof_book.specs.StepsLaws.{none-enabled}
 use Rattle.proof_book.specs.AgreesLaws.{agree}
 use Rattle.proof_book.specs.Others.{handsOut}
 use Rattle.proof_book.specs.FrontPage.{Made, Chip, LentAsLeft, written, Decides, addressed, inInterrupt, AfterEach}
+use Rattle.proof_book.specs.FrontPage.{ArrivalIs, ArrivalsEach}
 use Rattle.proof_book.specs.FrontPage as page
 use Rattle.proof_book.specs.FrontPageLaws.{demand-3}
 use Rattle.proof_book.specs.SlotsKeptLaws.{lent-is}
 use Rattle.proof_book.specs.AnswersLaws.{tells-same, blank-access, isHanded, handed-same, fed-kept}
 use Rattle.proof_book.specs.Arrivals.{Note, changedIn, reads, brings, asking, unread, after, Arrival, with-length}
-use Rattle.proof_book.specs.Arrivals.{late, ArrivalIs, ArrivalsEach}
+use Rattle.proof_book.specs.Arrivals.{late}
 use Rattle.proof_book.specs.ArrivalScriptsLaws.{Told, t-end, t-ask}
 use Rattle.proof_book.specs.ArrivalInterruptLaws.{LookedAt}
 use Rattle.proof_book.specs.ArrivalCallsLaws.{Serving, WayTold, is-regular, told-on, start-told}

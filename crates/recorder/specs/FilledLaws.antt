@@ -1,6 +1,6 @@
 -- Laws on the definitions of Filled.antt: packets go into the ring as they stand in the stream, and so does an end record.
 use mathlib.Core.Path.{_≡_, refl, sym, ap, subst, _∙_}
-use mathlib.Core.Bool.{Bool, true, false}
+use mathlib.Core.Bool.{Bool, true, false, cond}
 use mathlib.Core.List.{List, [], _∷_, _++_, append-nil}
 use Prim.Native.Nat.{ℕ, zero, suc, _+_, _-_, _*_, _/_, _%_, _≤_, _<_, min}
 use native.Mathlib.Omega.{arith}
@@ -12,13 +12,13 @@ use Rattle.card.specs.Packet.{Packet, Writable, packetBytes, size, dataOf}
 use Rattle.card.specs.Kept.{firstIn}
 use Rattle.card.specs.Written.{blockOf, blocksFrom}
 use Rattle.card.specs.Places.{length-block, block-data}
-use Rattle.card.specs.Begins.{data-append, data-at}
+use Rattle.card.specs.Begins.{data-append, data-at, closed-is}
 use Rattle.card.specs.declared.writer.Writer.{Writer}
-use Rattle.card.specs.Writing.{writerOf, fullOf, wholeOf, pieceOf, doneAfter, firstOf, closed, pieceIn, blockOfPiece, lastOf}
-use Rattle.card.specs.Pieces.{block-full, done-whole, done-part}
+use Rattle.card.specs.Writing.{usedOf, writerOf, fullOf, wholeOf, pieceOf, doneAfter, firstOf, closed, pieceIn, blockOfPiece, lastOf}
+use Rattle.card.specs.Pieces.{block-full, done-whole, done-part, finish-last}
 use Rattle.card.specs.WriterRuns.{Desk, Lends, after}
-use Rattle.card.specs.Stream.{So, begun, piece-bounds, used-is, done-is, full-is, whole-is, closes, after-call, length-snoc}
-use Rattle.recorder.specs.Ring.{Ring, ringOf, slotIn, putIn, pieceRing, packetRing}
+use Rattle.card.specs.Stream.{So, begun, piece-bounds, used-is, done-is, full-is, whole-is, closes, after-call, length-snoc, filled-up, filled-long, filled-held}
+use Rattle.recorder.specs.Ring.{Ring, slotIn, putIn, pieceRing, packetRing, filledRoom, endRoom}
 use Rattle.recorder.specs.RingLaws.{slot-long, ring-whole, ring-part}
 use Rattle.recorder.specs.FlushLaws.{mid-same, mid-other, mid-long, block-settled}
 use Rattle.recorder.specs.Filled.{InRing}
@@ -291,3 +291,78 @@ packet-ring xs p g n fine r low high =
     in-ring-as (xs ++ (p ∷ [])) _ _ n _ _ 0 0 _ _ refl (length-snoc xs p) refl refl
     (packet-run (xs ++ (p ∷ [])) xs p fine (λ i l. data-at xs p [] i l) (λ k l. refl) n 4 g 0 start (omega arith)
     (omega (arith, fine .short)) (omega arith) high)
+
+-- ---- the end
+
+ring-one : (p : Packet) (g : Ring) → packetRing 1 p g ≡ pieceRing p g
+unfolding packetRing
+ring-one p g = go (wholeOf (g .writer) (length (p .bytes)))
+  where
+    go : (t : Bool) → cond t (pieceRing p g) (pieceRing p g) ≡ pieceRing p g
+    go true = refl
+    go false = refl
+
+-- the room with an end record behind the packets xs: its blocks are those of the stream of xs and the end
+module _ (xs : List Packet) (e : Packet) (g : Ring) (n : ℕ) (fine : Writable e) (short : length (e .bytes) ≡ 10)
+    (r : InRing xs g n (length (dataOf xs)) 0 xs) (fits : length (dataOf xs) % 504 ≤ 488) (low : n ≤ length (dataOf xs) / 504)
+    (high : length (dataOf xs) / 504 < n + 4) where
+  abbrev all : List Packet
+  all = xs ++ (e ∷ [])
+
+  abbrev last-block : ℕ
+  last-block = length (dataOf xs) / 504
+
+  start : InRing all g n (length (dataOf xs) + 0) 0 xs
+  start =
+      in-ring-as all g g n (length (dataOf xs)) (length (dataOf xs) + 0) 0 0 xs xs refl (omega arith) refl refl (more-ring xs (e ∷ []) g n r)
+
+  length-all : length (dataOf xs) + size e ≡ length (dataOf all)
+  length-all = length-snoc xs e
+
+  -- the end record takes one piece
+  placed-end : InRing all (pieceRing e g) n (length (dataOf all)) 0 all
+  placed-end =
+      in-ring-as all (packetRing 1 e g) (pieceRing e g) n _ _ 0 0 all all (ring-one e g) length-all refl refl
+      (packet-run all xs e fine (λ i l. data-at xs e [] i l) (λ k l. refl) n 1 g 0 start (omega arith) (omega (arith, short, fits))
+      (omega arith) (omega (arith, short, fits, high)))
+
+  abbrev desk-end : Desk
+  desk-end = deskOf all (pieceRing e g) (length (dataOf all))
+
+  abbrev lend-none : Lends
+  lend-none k = slotIn (g .room) 0
+
+  lends-none : (k : ℕ) → length (lend-none k) ≡ 512
+  lends-none k = slot-long (g .room) 0 (r .long)
+
+  so-end : So all desk-end (length (dataOf all)) 0 all
+  so-end = as-desk all (pieceRing e g) n (length (dataOf all)) 0 all placed-end
+
+  same-block : length (dataOf all) / 504 ≡ last-block
+  same-block = omega (arith, length-all, short, fits)
+
+  -- the block with the end record, filled with zeros
+  last-is-end : lastOf (pieceRing e g .writer) (slotIn (pieceRing e g .room) (length (dataOf all) / 504)) ≡ blockOf all (length (dataOf all) / 504)
+  last-is-end =
+      let d = desk-end in
+      let b = filled-up lend-none lends-none all d in
+      let u : length (dataOf all) % 504 ≡ usedOf (d .writer) = omega (arith, so-end .used) in
+      let z : length (dataOf all) % 504 ≡ 0 → ⊥ = λ x. omega (arith, length-all, short, fits) in
+      let f = finish-last (d .writer) (d .block) b (closed (d .writer .number) (d .writer .first) b) (length (dataOf all) % 504) (so-end .long) u z refl refl in
+      sym (f .1) ∙ ap (λ (x : ℕ). closed x (d .writer .first) b) (so-end .number)
+      ∙ closed-is all (length (dataOf all) / 504) (d .writer .first) b (filled-long lend-none lends-none all d so-end) (so-end .first)
+      (filled-held lend-none lends-none all d so-end)
+
+  end-room-is : endRoom e g ≡ putIn (pieceRing e g .room) last-block (blockOf all last-block)
+  unfolding endRoom filledRoom putIn
+  end-room-is =
+      let same : g .writer .number % 4 ≡ length (dataOf all) / 504 % 4 = omega (arith, r .number, same-block) in
+      rw (same, last-is-end, same-block)
+
+  -- every block from the first unfinished one to the end's is as it stands in the stream of the packets and the end
+  pub end-ring : (k : ℕ) → n ≤ k → k ≤ last-block → slotIn (endRoom e g) k ≡ blockOf all k
+  end-ring k x y = ap (λ (l : List ℕ). slotIn l k) end-room-is ∙ elim (ℕ-discrete k last-block) [
+    | yes z ↦ rw z (slot-same (pieceRing e g .room) last-block (blockOf all last-block) (placed-end .long) (length-block all last-block))
+    | no z ↦ slot-other (pieceRing e g .room) last-block k (blockOf all last-block) (placed-end .long) (length-block all last-block) (λ q. omega arith)
+        ∙ placed-end .full k x (omega (arith, same-block))
+  ]

@@ -173,7 +173,7 @@ slot-512 room k h = slot-long room k h
 length-pending : (from left : ℕ) (room : List ℕ) → length (pending from left room) ≡ left
 unfolding pending
 length-pending from zero room = refl
-length-pending from (suc left) room = ap suc (length-pending from left room)
+length-pending from (suc left) room = ap suc (length-pending _ left room)
 
 no-store : (made : List Store) (x : Store) (rest : List Store) → _≡_ {A = List Store} [] (made ++ (x ∷ rest)) → ⊥
 no-store [] x rest e = let z : _≡_ {A = ℕ} 0 1 = cc in omega arith
