@@ -46,8 +46,6 @@ static void bus_task(void)
         print("\n");
         if (USBHS_RESULT(word) == USBHS_RESET)
             control_restart();
-        if (USBHS_RESULT(word) == USBHS_SUSPEND) /* the host has gone, and the power may go too */
-            recorder_finish();
     }
 }
 

@@ -11,9 +11,10 @@
 #include "machine.h"
 
 #define MIE_SOFTWARE 8u
-#define CARD_BLOCKS 96u
+#define CARD_BLOCKS 64u
 
 static uint8_t card[CARD_BLOCKS * USBHS_BLOCK_LEN];
+static unsigned stored;
 
 void board_start(void)
 {
@@ -33,7 +34,7 @@ int board_usb_interrupt(uint32_t cause)
 static void finish(void)
 {
     recorder_finish();
-    emulator_end(host_check(card, sizeof card, usbhs_overruns(usb_state, SAMPLES_OUT)));
+    emulator_end(host_check(card, stored, usbhs_overruns(usb_state, SAMPLES_OUT)));
 }
 
 void board_sleep(void)
@@ -42,22 +43,17 @@ void board_sleep(void)
         finish();
 }
 
-uint32_t board_survey_number(void)
-{
-    return 1;
-}
-
-int board_card_store(uint32_t place, const uint8_t block[USBHS_BLOCK_LEN])
+void board_card_store(const uint8_t block[USBHS_BLOCK_LEN])
 {
     unsigned busy = host_card_busy();
 
     print("card: block ");
-    print_number(place);
+    print_number(stored / USBHS_BLOCK_LEN);
     print("\n");
-    if (place >= CARD_BLOCKS)
+    if (stored == sizeof card)
         emulator_end(1);
-    memcpy(card + place * USBHS_BLOCK_LEN, block, USBHS_BLOCK_LEN);
+    memcpy(card + stored, block, USBHS_BLOCK_LEN);
+    stored += USBHS_BLOCK_LEN;
     for (; busy > 0; busy--)
         host_step();
-    return 1;
 }
