@@ -4,10 +4,12 @@
 #include "descriptors.h"
 #include "usb.h"
 
-/* A stamp record goes before a packet at least as often. */
+/* A stamp record goes before a packet at least as often; and before each of so many packets after one was turned away:
+ * those that were lost came behind the fifteen that waited then, and the stamps show the desk where. */
 #define PACKETS_A_STAMP 64u
+#define PACKETS_AFTER_LOSS 16u
 
-static uint32_t recorder[USBHS_RECORDER_LEN], packets, overruns, since_stamp;
+static uint32_t recorder[USBHS_RECORDER_LEN], packets, overruns, since_stamp, after_loss;
 static uint8_t room[USBHS_ROOM_LEN];
 static int stopped;
 
@@ -84,10 +86,14 @@ void recorder_task(void)
             return;
         tell(stamp, USBHS_LENGTH(word));
         lost = usbhs_overruns(usb_state, SAMPLES_OUT);
-        if (packets == 0 || lost != overruns || since_stamp == PACKETS_A_STAMP) {
+        if (lost != overruns)
+            after_loss = PACKETS_AFTER_LOSS;
+        if (packets == 0 || after_loss > 0 || since_stamp == PACKETS_A_STAMP) {
             overruns = lost;
             write_stamp(stamp);
         }
+        if (after_loss > 0)
+            after_loss--;
         if (write(SAMPLES_OUT, usb_slots + USBHS_OFFSET(word), USBHS_LENGTH(word))) {
             packets++;
             since_stamp++;

@@ -151,11 +151,13 @@ uint64_t usbhs_card_finish(const uint32_t writer[USBHS_WRITER_LEN], uint8_t *blo
 /* Each ends with the number of blocks to be stored, 0 to 4.
  * Row 21: a room that is not USBHS_ROOM_LEN bytes, blocks of the call before not stored yet, a packet of
  * more than 1,024 bytes, endpoint 0 or above 15. */
-uint64_t usbhs_recorder_begin(uint32_t recorder[USBHS_RECORDER_LEN], uint8_t *room, usbhs_length room_length, uint32_t survey);
+uint64_t usbhs_recorder_begin(uint32_t recorder[USBHS_RECORDER_LEN], uint8_t *room, usbhs_length room_length,
+    uint32_t survey);
 uint64_t usbhs_record(uint32_t recorder[USBHS_RECORDER_LEN], uint8_t *room, usbhs_length room_length,
     uint32_t endpoint, const uint8_t *data, usbhs_length data_length, uint32_t overruns);
 /* Brings what is not stored yet to the card. You may record on behind it. */
-uint64_t usbhs_recorder_finish(uint32_t recorder[USBHS_RECORDER_LEN], uint8_t *room, usbhs_length room_length, uint32_t overruns);
+uint64_t usbhs_recorder_finish(uint32_t recorder[USBHS_RECORDER_LEN], uint8_t *room, usbhs_length room_length,
+    uint32_t overruns);
 /* The block that was to be stored is stored: ends with the number of those left. */
 uint64_t usbhs_recorder_stored(uint32_t recorder[USBHS_RECORDER_LEN]);
 

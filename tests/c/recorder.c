@@ -244,7 +244,10 @@ static void random_survey(void)
     until_cut = 1 + (long)any(100);
     begin();
     while (more) {
-        uint32_t length = kind == 0 ? any(1025) : kind == 1 ? any(70) : kind == 2 ? size : any(8) == 0 ? any(1025) : any(40);
+        uint32_t length = any(8) == 0 ? any(1025) : any(40);
+
+        if (kind < 3)
+            length = kind == 0 ? any(1025) : kind == 1 ? any(70) : size;
 
         for (uint32_t i = 0; i < length; i++)
             data[i] = (uint8_t)any(256);
@@ -284,7 +287,7 @@ int main(int count, char **words)
     used_card(45, 61, 1);
     while (cuts < all)
         random_survey();
-    printf("recorder: %lu cuts over older cards, %lu with a torn block, %lu packets: the new ones alone\n", cuts, torn_cuts,
-           packets_seen);
+    printf("recorder: %lu cuts over older cards, %lu with a torn block, %lu packets: the new ones alone\n", cuts,
+           torn_cuts, packets_seen);
     return 0;
 }

@@ -42,4 +42,5 @@ module _ (O : Observer) where
       = subst (λ (v : Event Config Op). (first .answer, left first) ≡ drive (v .call) (machineOf xs a) (v .lent)) e (h .0)
       ∙ ap (λ n. started calls driverOf (λ s. s) c n (machineOf xs a) b) row in
       to-code ms (first .bytes) (first .slots) (startedBy O (first .answer)) (h .1)
-      (subst (λ (z : Answered). All O (events ms) (z .1) (startedBy O (z .0))) (sym q) (from-start O L c b row (events ms) (machineOf xs a)))
+      (subst (λ (z : Answered). All O (events ms) (z .1) (startedBy O (z .0))) (sym q) (from-start O L c b row
+      (events ms) (machineOf xs a)))

@@ -124,7 +124,8 @@ abbrev pub Line : Request → Bool → ℕ → Bool → Ep0Word → Ep0Word → 
 Line q b slot exempt rx tx len got p a u x = Base q b slot x × ((exempt ≡ true) ⊎ Rel rx tx len got p a u x)
 
 abbrev pub R : Log → View → Type 0
-R w x = Line (w .request) (w .started) (w .slot) (w .exempt) (w .rx) (w .tx) (w .len) (w .got) (w .pipe) (w .awaits) (w .untaken) x
+R w x = Line (w .request) (w .started) (w .slot) (w .exempt) (w .rx) (w .tx) (w .len) (w .got) (w .pipe) (w .awaits)
+    (w .untaken) x
 
 -- ---- the law of a call
 
@@ -141,4 +142,5 @@ abbrev pub Ends : Op → Log → Answer → St → Type 0
 Ends o w a s = R (closes o a w) (view (s .0)) × Fair o a w
 
 abbrev pub Law : Op → Type 0
-Law o = (w : Log) (s : St) → R w (view (s .0)) → Sorting (s .0) → Watch Between (Allowed o) (Ends o) (opens o (s .1) w) (run concrete (code o) s)
+Law o = (w : Log) (s : St) → R w (view (s .0)) → Sorting (s .0)
+    → Watch Between (Allowed o) (Ends o) (opens o (s .1) w) (run concrete (code o) s)

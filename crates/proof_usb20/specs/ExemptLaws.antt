@@ -15,7 +15,8 @@ use Rattle.regs.specs.Status as status
 use Rattle.regs.specs.Status.{endpoint, togOk}
 use Rattle.script.specs.Every.{sameReg}
 use Rattle.proof_usb20.specs.Pipe.{Event, setup, packet, token}
-use Rattle.proof_usb20.specs.Log.{Phase, off, entered, flagged, again, timed, shows, Log, withPhase, withGot, happens}
+use Rattle.proof_usb20.specs.Log.{Phase, off, entered, flagged, again, timed, shows, Log, withPhase, withGot}
+use Rattle.proof_usb20.specs.Log.{happens}
 use Rattle.proof_usb20.specs.Log.{ofToken, seen, reads, compared, saw}
 
 -- a test, either way

@@ -33,7 +33,8 @@ use Rattle.script.specs.Kinds as kinds
 use Rattle.script.specs.Every.{sameReg}
 use Rattle.script.specs.AddressWrites.{Writes}
 use Rattle.script.specs.TogglesLaws.{number}
-use Rattle.proof_usb20.specs.Pipe.{Answers, naks, stalls, acks, Half, renewed, isReady, isStall, Pipe, half, Event}
+use Rattle.proof_usb20.specs.Pipe.{Answers, naks, stalls, acks, Half, renewed, isReady, isStall, Pipe, half}
+use Rattle.proof_usb20.specs.Pipe.{Event}
 use Rattle.proof_usb20.specs.Pipe.{setup, packet, token, after, Choice, takes, gives, confirms, rejects}
 use Rattle.proof_usb20.specs.Pipe.{chosen, orderly, Awaited, nothing, awaitedBy, over, taken, given, confirmed}
 use Rattle.proof_usb20.specs.Pipe.{Setting, keeps, sets}
@@ -62,7 +63,8 @@ pub data Request : Type 0 where
   for-data-out : ℕ → Request
 
 -- EP0's control words and its transmit length as they were last written; `got`: the length of the last packet OUT;
--- `slot`: the address of EP0's slot, as it was last handed out; `lent`: the slot buffer as it was lent to the last begin;
+-- `slot`: the address of EP0's slot, as it was last handed out; `lent`: the slot buffer as it was lent to the last
+-- begin;
 -- `untaken`: a setup packet came that no poll has given to the function yet; `exempt`: something has happened since the
 -- last setup packet of which USB 2.0 says nothing, or otherwise than the Rust (below)
 pub record Log : Type 0 where
@@ -83,7 +85,8 @@ pub record Log : Type 0 where
   pub wrote : Setting  -- the address that the call under way wrote to dev_ad, or none
 
 -- by its parts, in their order
-abbrev logOf : Ep0Word → Ep0Word → ℕ → ℕ → ℕ → Buf → Pipe → Awaited → Bool → Bool → Bool → Request → Phase → Bool → Setting → Log
+abbrev logOf : Ep0Word → Ep0Word → ℕ → ℕ → ℕ → Buf → Pipe → Awaited → Bool → Bool → Bool → Request → Phase → Bool
+    → Setting → Log
 logOf rx tx n got slot lent p a untaken exempt started request phase seen setting = record {
   rx = rx;
   tx = tx;
@@ -111,22 +114,26 @@ before = logOf unwritten unwritten 0 0 0 [] (record { out = renewed; inn = renew
 
 -- EP0's words, and its lengths
 abbrev pub withWords : Ep0Word → Ep0Word → ℕ → ℕ → Log → Log
-withWords rx tx n got w = logOf rx tx n got (w .slot) (w .lent) (w .pipe) (w .awaits) (w .untaken) (w .exempt) (w .started) (w .request)
+withWords rx tx n got w = logOf rx tx n got (w .slot) (w .lent) (w .pipe) (w .awaits) (w .untaken) (w .exempt)
+    (w .started) (w .request)
     (w .phase) (w .setup-seen) (w .wrote)
 
 -- the pipe, what is waited for, whether a setup packet is untaken, and whether the log is exempt
 abbrev pub withPipe : Pipe → Awaited → Bool → Bool → Log → Log
-withPipe p a untaken exempt w = logOf (w .rx) (w .tx) (w .len) (w .got) (w .slot) (w .lent) p a untaken exempt (w .started) (w .request)
+withPipe p a untaken exempt w = logOf (w .rx) (w .tx) (w .len) (w .got) (w .slot) (w .lent) p a untaken exempt
+    (w .started) (w .request)
     (w .phase) (w .setup-seen) (w .wrote)
 
 -- the calls: whether EP0 is started, and the request
 abbrev pub withCalls : Bool → Request → Log → Log
-withCalls started q w = logOf (w .rx) (w .tx) (w .len) (w .got) (w .slot) (w .lent) (w .pipe) (w .awaits) (w .untaken) (w .exempt) started q
+withCalls started q w = logOf (w .rx) (w .tx) (w .len) (w .got) (w .slot) (w .lent) (w .pipe) (w .awaits) (w .untaken)
+    (w .exempt) started q
     (w .phase) (w .setup-seen) (w .wrote)
 
 -- what was seen of the call under way
 abbrev pub withSight : Phase → Bool → Setting → Log → Log
-withSight p s a w = logOf (w .rx) (w .tx) (w .len) (w .got) (w .slot) (w .lent) (w .pipe) (w .awaits) (w .untaken) (w .exempt) (w .started)
+withSight p s a w = logOf (w .rx) (w .tx) (w .len) (w .got) (w .slot) (w .lent) (w .pipe) (w .awaits) (w .untaken)
+    (w .exempt) (w .started)
     (w .request) p s a
 
 -- EP0's slot, and the buffer
@@ -269,7 +276,8 @@ outright (confirms s) w = withTx (anew true (w .tx)) w
 outright rejects w = w
 
 abbrev pub choose : Choice → Log → Log
-choose c w = withPipe (chosen c (w .pipe)) (awaitedBy c) (w .untaken) (w .exempt || not (orderly c (w .pipe))) (outright c w)
+choose c w = withPipe (chosen c (w .pipe)) (awaitedBy c) (w .untaken) (w .exempt || not (orderly c (w .pipe)))
+    (outright c w)
 
 abbrev pub exempted : Log → Log
 exempted w = withPipe (w .pipe) (w .awaits) (w .untaken) true w
@@ -384,7 +392,8 @@ Shows c h (acks s) = (response (c .last) ≡ word.ACK)
 -- EP0 is armed as the pipe says; a packet IN that is ready has its length
 abbrev pub Armed : Log → Type 0
 Armed w = w .exempt ≡ false → Shows (w .rx) (w .pipe .out) (w .pipe .out .answers)
-    × Shows (w .tx) (w .pipe .inn) (w .pipe .inn .answers) × (isReady (w .pipe .inn .answers) ≡ true → w .len ≡ w .pipe .size)
+    × Shows (w .tx) (w .pipe .inn) (w .pipe .inn .answers) × (isReady (w .pipe .inn .answers) ≡ true
+    → w .len ≡ w .pipe .size)
 
 -- ---- what is claimed of an answer
 
@@ -485,7 +494,8 @@ otherLength n (for-data-out m) = not (eqb m n)
 
 -- a data_out's poll: another length than its begin's, or a packet that is longer; a data_in's: data in the closing OUT
 abbrev pub TooLong : ℕ → Log → Type 0
-TooLong n w = (otherLength n (w .request) ≡ true) ⊎ (Complete pollOut true w × (w .exempt ≡ false → ltb n (w .got) ≡ true))
+TooLong n w = (otherLength n (w .request) ≡ true) ⊎ (Complete pollOut true w × (w .exempt ≡ false
+    → ltb n (w .got) ≡ true))
 
 abbrev pub NotEmpty : Log → Type 0
 NotEmpty w = Complete pollIn true w × (w .exempt ≡ false → eqb (w .got) 0 ≡ false)

@@ -126,4 +126,5 @@ module _ (O : Observer) where
   All (e ∷ es) m x =
       let y = drive (e .call) m (e .lent) in
       let z = noted (e .call) (e .lent) (y .0) (serves (y .1 .way)) x in
-      Claim (e .call) (e .lent) (y .0) (serves (y .1 .way)) x × Standing (y .1 .st) (z .log) (z .under) × All es (y .1) z
+      Claim (e .call) (e .lent) (y .0) (serves (y .1 .way)) x × Standing (y .1 .st) (z .log) (z .under)
+      × All es (y .1) z

@@ -105,10 +105,12 @@ asked {s = s} {f = f} w e g = at-ask tt
     (sym (e v)) (watch-more (g v t (plainly (k .1))) (λ _ _ _ m. (m .0, m .1 ∙ k .0, m .2))))
 
 -- a reading, of no control word of EP0's
-pub q-read-of : {i : Bool} {A : Type 0} {r : Reg} {e : ℕ} {f : ℕ → Script i A} → ((v : ℕ) (w : Log) → compared r e v w ≡ w)
+pub q-read-of : {i : Bool} {A : Type 0} {r : Reg} {e : ℕ} {f : ℕ → Script i A} → ((v : ℕ) (w : Log)
+    → compared r e v w ≡ w)
     → ((v : ℕ) → Quiet (f v)) → Quiet (read-then r e f)
 q-read-of {r = r} {e = e} h x = record {
-  goes = λ w s z k. asked w (λ v. ap (reads (w .phase) r v) (h v w) ∙ ap (λ p. reads p r v w) z) (λ v t l. x v .goes w t z l);
+  goes = λ w s z k. asked w (λ v. ap (reads (w .phase) r v) (h v w)
+      ∙ ap (λ p. reads p r v w) z) (λ v t l. x v .goes w t z l);
 }
 
 -- a write, of no control word of EP0's
@@ -167,7 +169,8 @@ hand-silent (place Out e) h x w v = refl
 hand-silent (place In e) h x w v = refl
 hand-silent place0 h x w v = differ h
 
-pub q-hand : {i : Bool} {A : Type 0} {q : DmaStep} {p : Script i A} → elsewhere q ≡ true → Quiet p → Quiet (hand-then q p)
+pub q-hand : {i : Bool} {A : Type 0} {q : DmaStep} {p : Script i A} → elsewhere q ≡ true → Quiet p
+    → Quiet (hand-then q p)
 q-hand {q = q} h x = record {
   goes = λ w s z k. onward w s (concrete .hand q s .1)
       (hand-view q s) (asked w (hand-silent q h (concrete .hand q s .0) w) (λ _ t l. x .goes w t z l));

@@ -52,7 +52,8 @@ pub put-out : (v : EpCore) (s : St) → length (s .0 .eps) ≡ 32
     → view (concrete .put (ep-cell Out 0) v s .0) ≡ setOut (rec v) (view (s .0))
 unfolding withOn
 put-out v s h = made _ _ (ap recOf (ep-same (s .0) Out 0 (merged (epOn (s .0) Out 0) v) h))
-    (ap recOf (ep-other (s .0) Out 0 (merged (epOn (s .0) Out 0) v) In 0 (λ z. key-apart 0 0 (sym z)))) refl refl refl refl refl
+    (ap recOf (ep-other (s .0) Out 0 (merged (epOn (s .0) Out 0) v) In 0 (λ z. key-apart 0 0
+    (sym z)))) refl refl refl refl refl
 
 pub put-in : (v : EpCore) (s : St) → length (s .0 .eps) ≡ 32
     → view (concrete .put (ep-cell In 0) v s .0) ≡ setIn (rec v) (view (s .0))

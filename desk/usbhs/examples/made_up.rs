@@ -81,7 +81,7 @@ impl Recorder {
     }
 
     fn finish(mut self, overruns: u32) -> Vec<u8> {
-        self.record(Kind::End { overruns });
+        self.record(Kind::End { overruns, finished: true });
         let card = &mut self.card;
         let writer = self.writer.take().expect("not finished");
         writer.finish(|b| card.extend_from_slice(b)).expect("the last block");

@@ -3,11 +3,11 @@
 //!
 //! | byte | |
 //! |---|---|
-//! | 0 | kind: 1 begin of a survey, 2 stamp and losses, 3 end, 4 trace |
-//! | 1 | the endpoint that it speaks of, 0 where none |
+//! | 0 | kind: 0 padding, all zeros or no byte at all, 1 begin of a survey, 2 stamp and losses, 3 end, 4 trace |
+//! | 1 | of a stamp, the endpoint that it speaks of; of an end, 1 once the survey is finished |
 //! | 2-5 | the survey's number |
 //! | kind 2 | 6-7 the microframe index of the next packet on that endpoint, 8-11 its overruns so far |
-//! | kind 3 | 6-9 the overruns of all endpoints so far; three bytes of 0 may follow |
+//! | kind 3 | 6-9 the overruns of all endpoints so far; zeros may follow |
 //! | kind 4 | 6.. entries of a trace, 12 bytes each |
 
 use std::collections::BTreeMap;
@@ -26,9 +26,18 @@ pub const ENTRY: usize = 12;
 #[derive(Clone, Copy, PartialEq, Eq, Debug)]
 pub enum Kind {
     Begin,
-    Stamp { endpoint: u8, microframe: u16, overruns: u32 },
-    End { overruns: u32 },
+    Stamp {
+        endpoint: u8,
+        microframe: u16,
+        overruns: u32,
+    },
+    End {
+        overruns: u32,
+        finished: bool,
+    },
     Trace,
+    /// Of no survey.
+    Padding,
 }
 
 #[derive(Clone, Copy, PartialEq, Eq, Debug)]
@@ -40,6 +49,9 @@ pub struct Record {
 impl Record {
     /// What these bytes say, if they are a record.
     pub fn of(bytes: &[u8]) -> Option<Self> {
+        if bytes.iter().all(|b| *b == 0) {
+            return Some(Self { survey: 0, kind: Kind::Padding });
+        }
         let (head, rest) = bytes.split_at_checked(6)?;
         let survey = u32::from_le_bytes([head[2], head[3], head[4], head[5]]);
         let kind = match (head[0], head[1], rest) {
@@ -49,8 +61,8 @@ impl Record {
                 let overruns = u32::from_le_bytes(n.try_into().ok()?);
                 (u64::from(microframe) < INDEXES).then_some(Kind::Stamp { endpoint, microframe, overruns })?
             }
-            (3, 0, [a, b, c, d] | [a, b, c, d, 0, 0, 0]) => {
-                Kind::End { overruns: u32::from_le_bytes([*a, *b, *c, *d]) }
+            (3, finished @ 0..=1, [a, b, c, d, zeros @ ..]) if zeros.iter().all(|z| *z == 0) => {
+                Kind::End { overruns: u32::from_le_bytes([*a, *b, *c, *d]), finished: finished == 1 }
             }
             (4, 0, entries) if entries.len().is_multiple_of(ENTRY) => Kind::Trace,
             _ => return None,
@@ -63,8 +75,9 @@ impl Record {
         let (kind, endpoint) = match self.kind {
             Kind::Begin => (1, 0),
             Kind::Stamp { endpoint, .. } => (2, endpoint),
-            Kind::End { .. } => (3, 0),
+            Kind::End { finished, .. } => (3, finished.into()),
             Kind::Trace => (4, 0),
+            Kind::Padding => return vec![],
         };
         let mut bytes = vec![kind, endpoint];
         bytes.extend(self.survey.to_le_bytes());
@@ -73,8 +86,8 @@ impl Record {
                 bytes.extend(microframe.to_le_bytes());
                 bytes.extend(overruns.to_le_bytes());
             }
-            Kind::End { overruns } => bytes.extend(overruns.to_le_bytes()),
-            Kind::Begin | Kind::Trace => {}
+            Kind::End { overruns, .. } => bytes.extend(overruns.to_le_bytes()),
+            Kind::Begin | Kind::Trace | Kind::Padding => {}
         }
         bytes
     }
@@ -88,7 +101,11 @@ impl Record {
                     "survey {survey}: endpoint {endpoint} at microframe {microframe}, {overruns} turned away so far"
                 )
             }
-            Kind::End { overruns } => format!("survey {survey} ends, {overruns} turned away in all"),
+            Kind::End { overruns, finished } => {
+                let ends = if finished { "is finished" } else { "ends" };
+                format!("survey {survey} {ends}, {overruns} turned away in all")
+            }
+            Kind::Padding => "padding".into(),
             Kind::Trace => format!("survey {survey}: a trace"),
         }
     }
@@ -273,6 +290,7 @@ pub struct Survey<L: Listener> {
     /// There are packets without any record: no recorder wrote this.
     pub plain: bool,
     pub ended: Option<u32>,
+    pub finished: bool,
     pub seam: Option<Seam>,
     held: Vec<Held>,
     bytes: Vec<u8>,
@@ -292,6 +310,7 @@ impl<L: Listener> Survey<L> {
             number: None,
             plain: recorder == 0,
             ended: None,
+            finished: false,
             seam: None,
             held: vec![],
             bytes: vec![],
@@ -350,11 +369,11 @@ impl<L: Listener> Survey<L> {
             Kind::Stamp { endpoint, microframe, overruns } => {
                 self.tracks[endpoint as usize].stamp(endpoint, microframe, overruns)
             }
-            Kind::End { overruns } => {
-                self.ended = Some(overruns);
+            Kind::End { overruns, finished } => {
+                (self.ended, self.finished) = (Some(overruns), finished);
                 None
             }
-            Kind::Begin | Kind::Trace => None,
+            Kind::Begin | Kind::Trace | Kind::Padding => None,
         };
         self.confirm()?;
         self.listener.record(&record, begin, bytes)?;
@@ -372,8 +391,12 @@ impl<L: Listener> Survey<L> {
             self.tracks.iter_mut().for_each(|t| t.damage = true);
         }
         if Some(endpoint) == self.recorder {
-            if let Some(record) = Record::of(bytes) {
-                return self.record(record, begin, bytes);
+            match Record::of(bytes) {
+                // without a survey zeros are a packet as any other
+                Some(Record { kind: Kind::Padding, .. }) if self.number.is_none() => {}
+                Some(Record { kind: Kind::Padding, .. }) => return Ok(true),
+                Some(record) => return self.record(record, begin, bytes),
+                None => {}
             }
         }
         let sampled = self.tracks[endpoint as usize].packet(self.packets, endpoint, begin, bytes, damaged);
@@ -443,7 +466,7 @@ mod tests {
         for kind in [
             Kind::Begin,
             Kind::Stamp { endpoint: 3, microframe: 16_383, overruns: 70_000 },
-            Kind::End { overruns: u32::MAX },
+            Kind::End { overruns: u32::MAX, finished: true },
             Kind::Trace,
         ] {
             let record = Record { survey: 0x0102_0304, kind };

@@ -27,7 +27,7 @@ fn survey(number: u8, packets: usize, recorded: bool, end: bool) -> Vec<(u32, Ve
         all.push((2, vec![number; 60]));
     }
     if end {
-        all.push(record(number.into(), Kind::End { overruns: 0 }));
+        all.push(record(number.into(), Kind::End { overruns: 0, finished: true }));
     }
     all
 }
@@ -219,6 +219,20 @@ fn damage_is_marked_as_a_gap() {
 }
 
 #[test]
+fn padding_and_an_end_that_is_not_the_last_word() {
+    // the power went: the end record stands, and the survey is not finished; padding is no packet
+    let mut all = survey(7, 70, true, false);
+    all.insert(5, (15, vec![]));
+    all.insert(9, (15, vec![0; 17]));
+    all.push(record(7, Kind::End { overruns: 0, finished: false }));
+    let check = usbhs(&["card", "check", "-"], &over(&written(&all), &written(&survey(6, 1_000, true, true))));
+    assert_eq!(check.status, 0, "{}", check.text());
+    assert!(check.text().contains(": an end record, but the survey was not finished\n"), "{}", check.text());
+    assert!(check.text().contains("endpoint 2: 70 packets, 4,200 bytes\n"), "{}", check.text());
+    assert!(!check.text().contains("endpoint 15"), "{}", check.text());
+}
+
+#[test]
 fn any_records() {
     // records and packets in any order and with any numbers: an answer, and nothing behind another survey's record
     let mut numbers = Numbers(77);
@@ -230,7 +244,9 @@ fn any_records() {
         for _ in 0..numbers.below(60) {
             let survey = if numbers.below(12) == 0 { 8 } else { 7 };
             let kind = match numbers.below(8) {
-                0 if numbers.below(8) == 0 => Kind::End { overruns: numbers.below(9) as u32 },
+                0 if numbers.below(8) == 0 => {
+                    Kind::End { overruns: numbers.below(9) as u32, finished: numbers.below(2) == 0 }
+                }
                 0 | 1 => Kind::Stamp {
                     endpoint: 1 + numbers.below(3) as u8,
                     microframe: numbers.below(16_384) as u16,

@@ -70,7 +70,7 @@ fn from_a_card() {
         packets.push((1, vec![7; 33]));
         packets.push((15, [&[4, 0, 9, 0, 0, 0], entries].concat()));
     }
-    packets.push((15, vec![3, 0, 9, 0, 0, 0, 0, 0, 0, 0]));
+    packets.push((15, vec![3, 1, 9, 0, 0, 0, 0, 0, 0, 0]));
     let card = stream(packets.iter().map(|(e, p)| (*e, p.as_slice())));
     assert_eq!(told(&["replay", "--trace", "-"], &card), (0, plain));
     let check = usbhs(&["card", "check", "-"], &card);
