@@ -175,7 +175,7 @@ fn every_picture_has_a_title() {
         let ran = usbhs(words, b"");
         assert!(ran.text().contains("<title>a &lt; b"), "{words:?}");
     }
-    for file in ["incident", "replay", "share", "share-chip", "survey"] {
+    for file in ["incident", "replay", "share-chip", "survey"] {
         let svg = std::fs::read_to_string(samples().join(format!("../../docs/pictures/{file}.svg"))).unwrap();
         assert_eq!(svg.matches("<title>").count(), 1, "{file}");
     }
