@@ -219,6 +219,8 @@ impl Port<'_> {
         }
         let (s, b, n, t) =
             (self.state.0.as_mut_ptr(), self.slots.as_ptr(), length(self.slots), self.time.0.as_mut_ptr());
+        // SAFETY: a constant of the archive, read so that an archive of another version does not link
+        unsafe { core::ptr::read_volatile(core::ptr::addr_of!(ARCHIVE)) };
         // SAFETY: state and time of their lengths, the slots with theirs; lent apart, to nobody else
         Answer::of(unsafe { usbhs_start_up(s, b, n, t, self.driver, size, count, callback.into()) })
     }

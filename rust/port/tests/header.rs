@@ -100,4 +100,10 @@ fn numbers() {
     assert_eq!(number("USBHS_MOST_WAKES"), usbhs_port::MOST_WAKES);
     assert_eq!(number("USBHS_NUMBERS_LEN"), usbhs_port::NUMBERS_LEN);
     assert_eq!(number("USBHS_BUS"), usbhs_port::Task::Bus.number());
+    // the version, and the symbol by which an archive of another one does not link
+    assert!(header.contains(&format!("#define USBHS_VERSION \"{}\"\n", env!("CARGO_PKG_VERSION"))));
+    let version = env!("CARGO_PKG_VERSION").replace('.', "_");
+    let symbol = format!("usbhs_{version}_state_{}", usbhs_port::STATE_LEN);
+    assert!(header.contains(&format!("#define USBHS_ARCHIVE {symbol}\n")));
+    assert!(include_str!("../src/exported.rs").contains(&format!("#[link_name = \"{symbol}\"]")));
 }
