@@ -229,8 +229,8 @@ int main(int argc, char **argv)
         if (strcmp(answer, recorded)) {
             different++;
             packet = port.count - 1;
-            snprintf(differs, sizeof differs, "  the Rust  %.40s -> %.80s\n  the port  %.40s -> %.80s\n", line, recorded,
-                line, answer);
+            snprintf(differs, sizeof differs, "  the Rust  %.40s -> %.80s\n  the port  %.40s -> %.80s\n", line,
+                recorded, line, answer);
         }
     }
     fclose(list);

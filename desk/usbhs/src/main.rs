@@ -1,6 +1,7 @@
 //! usbhs: packets on the card, configuration descriptors, channels, visits and recorded lists of calls, over the
 //! proved archives.
 
+use std::io::Write;
 use std::process::ExitCode;
 
 use usbhs::args::Args;
@@ -28,7 +29,7 @@ usbhs: the readout's tool, over the proved calls of usbhs.h and usbhs_survey.h
   usbhs replay LIST                       a recorded list of calls as a timeline
       --svg FILE, --all                   as a picture too; every event in words
 
-A FILE, IMAGE or LIST that is - is standard input. --json: for programs. --help: this text.
+A FILE, IMAGE or LIST that is - is standard input. --json: for programs. --help: this text. --version: its version.
 A descriptor is bytes, or text with two hexadecimal digits a byte.
 A channel is a line: NAME MAXIMUM CHARGE.
 Exit status: 0 well; 1 the answer is no (blocks were dropped, a board or fifteen slots do not do, a
@@ -40,6 +41,10 @@ fn run(words: Vec<String>) -> Done<bool> {
     let mut out = output::create(None)?;
     if args.flag("--help") || args.flag("-h") {
         output::written(std::io::Write::write_all(&mut out, HELP.as_bytes()))?;
+        return output::written(std::io::Write::flush(&mut out)).map(|()| true);
+    }
+    if args.flag("--version") {
+        output::written(writeln!(out, "usbhs {}", env!("CARGO_PKG_VERSION")))?;
         return output::written(std::io::Write::flush(&mut out)).map(|()| true);
     }
     let json = args.flag("--json");
