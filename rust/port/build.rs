@@ -27,7 +27,11 @@ fn main() {
         (None, Some((made, kept))) => {
             let made = root.join("target").join(made);
             let all = archives.iter().all(|name| made.join(format!("lib{name}.a")).exists());
-            if all { made } else { root.join("prebuilt").join(kept) }
+            if all {
+                made
+            } else {
+                root.join("prebuilt").join(kept)
+            }
         }
         (None, None) => {
             println!("cargo::error=no archive for {target}: USBHS_ARCHIVES names the folder of one");

@@ -316,7 +316,8 @@ impl Port<'_> {
         Answer::of(unsafe { usbhs_begin_data_in(s, b, n, data.as_ptr(), length(data), first, last) })
     }
 
-    /// The oldest packet of an isochronous OUT, in place: it stays until [`Port::close`].
+    /// The oldest packet of an isochronous OUT, in place: it stays until [`Port::close`]. One reader per endpoint: a
+    /// second open before the close shows the same packet again.
     pub fn open(&mut self, endpoint: u8) -> Result<Packet, crate::Refusal> {
         let mut stamp = 0;
         let (s, b, n) = (self.state.0.as_mut_ptr(), self.slots.as_ptr(), length(self.slots));

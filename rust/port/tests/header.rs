@@ -87,6 +87,15 @@ fn survey() {
     compare(include_str!("../../../include/usbhs_survey.h"), source, 10);
 }
 
+/// Every refusal has words, and is an error.
+#[test]
+fn refusals() {
+    use usbhs_port::Refusal;
+    let error: &dyn core::error::Error = &Refusal::NoPacket;
+    assert_eq!(error.to_string(), "refused (12): no packet waits");
+    assert_eq!(Refusal::Row(40).to_string(), "refused (40): a row that this version has no name for");
+}
+
 /// The numbers that both have.
 #[test]
 fn numbers() {
