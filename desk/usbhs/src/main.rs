@@ -29,7 +29,8 @@ usbhs: the readout's tool, over the proved calls of usbhs.h and usbhs_survey.h
   usbhs replay LIST                       a recorded list of calls as a timeline
       --svg FILE, --all                   as a picture too; every event in words
 
-A FILE, IMAGE or LIST that is - is standard input. --json: for programs. --help: this text. --version: its version.
+A FILE, IMAGE or LIST that is - is standard input. --json: for programs. --help: this text.
+--version: the version of the tool and of the calls below it.
 A descriptor is bytes, or text with two hexadecimal digits a byte.
 A channel is a line: NAME MAXIMUM CHARGE.
 Exit status: 0 well; 1 the answer is no (blocks were dropped, a board or fifteen slots do not do, a
