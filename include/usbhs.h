@@ -127,7 +127,12 @@ typedef uint64_t usbhs_length;
  * not compile. */
 #define USBHS_LENGTH_AT(pointer) ((void)sizeof(char[sizeof *(pointer) == 8 ? 1 : -1]), (pointer))
 
+/* The version of header and archive, and the symbol that only the archive of this version and this
+ * length of the state has. Start-up reads it: header and archive of two versions do not link. */
+#define USBHS_VERSION "0.1.0"
 #define USBHS_STATE_LEN 2999
+#define USBHS_ARCHIVE usbhs_0_1_0_state_2999
+extern const uint8_t USBHS_ARCHIVE;
 
 /* The record of bus time that up to four drivers share: what each endpoint is charged. Zero at
  * first; each of their calls that brings it gets it as the last one left it, and no two calls at
@@ -251,6 +256,7 @@ static inline uint64_t usbhs_start_up_aligned(uint8_t state[USBHS_STATE_LEN], co
 {
     if (((uintptr_t)state | (uintptr_t)slots) % 4 != 0)
         return (uint64_t)USBHS_ROW_MISALIGNED << 8; /* refused: nothing is touched */
+    (void)*(const volatile uint8_t *)&USBHS_ARCHIVE;
     return usbhs_start_up(state, slots, slots_length, time, driver, size, count, callback);
 }
 #define usbhs_start_up usbhs_start_up_aligned

@@ -71,25 +71,30 @@ pub fn set_sof_callback(f: fn()) {
     let _ = by_driver(Free::Sof);
 }
 
-/// The current microframe number: 8 per frame, wrapping at 2^14.
+/// The current microframe number: 8 per frame, wrapping at 2^14. Read from the frame number register, so it also
+/// counts microframes whose SOF interrupt was missed.
 pub fn microframe() -> u16 {
     let index = |what| by_driver(what).map_or(Ok(0), Answer::ended);
     // refused from the callback, or before EP0's start
     index(Free::Microframe).or_else(|_| index(Free::Frame)).unwrap_or(0)
 }
 
-/// Whether the host enabled endpoint `ep` in `direction`.
+/// Whether the host enabled endpoint `ep` in `direction` (of an isochronous one: selected its interface's streaming
+/// alternate setting).
 pub fn endpoint_enabled(ep: usize, direction: Direction) -> bool {
     ep < MAX_NR_EP && call(|p| p.enabled(ep as u8, dir(direction)))
 }
 
-/// Take the oldest packet waiting on isochronous OUT endpoint `ep`, in place.
+/// Take the oldest packet waiting on isochronous OUT endpoint `ep`, in place: `f` reads it, then its slot goes back to
+/// the ring. `None`: no packet waits, or it is no isochronous OUT. Callable from interrupts.
+///
+/// **One reader per endpoint**: two that take at once get one packet twice. `f` runs unmasked.
 pub fn iso_out_take<R>(ep: usize, f: impl FnOnce(&[u8]) -> R) -> Option<R> {
     iso_out_take_stamped(ep, |packet, _| f(packet))
 }
 
 /// As `iso_out_take`, with the microframe index of the interrupt that admitted the packet (request One). The Rust has
-/// none.
+/// none. One reader per endpoint.
 pub fn iso_out_take_stamped<R>(ep: usize, f: impl FnOnce(&[u8], u16) -> R) -> Option<R> {
     let ep = number(ep)?;
     let packet = call(|p| p.open(ep)).ok()?;
@@ -99,24 +104,31 @@ pub fn iso_out_take_stamped<R>(ep: usize, f: impl FnOnce(&[u8], u16) -> R) -> Op
     Some(r)
 }
 
-/// Packets dropped because isochronous OUT endpoint `ep`'s ring was full, since the driver was created.
+/// Packets dropped because isochronous OUT endpoint `ep`'s ring was full (the newest packet is dropped), since the
+/// driver was created. 0 for an endpoint that is not isochronous OUT.
 pub fn iso_out_overruns(ep: usize) -> u32 {
     number(ep).map_or(0, |ep| call(|p| p.overruns(ep)))
 }
 
-/// Wake `waker` when isochronous IN endpoint `ep` sends a packet.
+/// Wake `waker` when isochronous IN endpoint `ep` sends a packet (a slot frees up), to refill it from a task. One
+/// waiter per endpoint, shared with the endpoint's `write`.
 pub fn iso_in_register_waker(ep: usize, waker: &Waker) {
     if let Some(ep) = number(ep) {
         WAKERS[ep as usize].register(waker);
     }
 }
 
-/// Packets queued on isochronous IN endpoint `ep` and not yet taken by the host.
+/// Packets queued on isochronous IN endpoint `ep` and not yet taken by the host, the loaded one among them.
 pub fn iso_in_pending(ep: usize) -> u8 {
     number(ep).map_or(0, |ep| call(|p| p.pending(ep)) as u8)
 }
 
-/// Pace isochronous IN endpoint `ep` (polled every microframe) from outside.
+/// Pace isochronous IN endpoint `ep` (polled every microframe) from outside: the interrupt no longer moves it on after
+/// an IN; [`iso_in_advance`] does, called once in each microframe after the host's IN to it and well before the next.
+///
+/// When: a host polls an isochronous IN early in the microframe (about 3 us after the SOF on Linux), and the interrupt
+/// mostly cannot tell that it went out until the next SOF. Loading the next packet there races the host, and now and
+/// then the loaded packet goes out again. A timer some way into the microframe has tens of microseconds on either side.
 pub fn iso_in_set_paced(ep: usize, paced: bool) {
     if let Some(ep) = number(ep) {
         critical_section::with(|_| {
@@ -128,7 +140,9 @@ pub fn iso_in_set_paced(ep: usize, paced: bool) {
     }
 }
 
-/// A paced iso IN endpoint (`iso_in_set_paced`): the host took a packet in each microframe since the last call.
+/// A paced iso IN endpoint (`iso_in_set_paced`): the host took a packet in each microframe since the last call; they
+/// move on and the next queued packet is loaded. Call it at the USB interrupt's priority or below, some way into the
+/// microframe: after the host's IN, before the next microframe's.
 pub fn iso_in_advance(ep: usize) {
     if let Some(ep) = number(ep) {
         if by_driver(Free::Advance(ep)) == Some(Answer::Refused(Refusal::UnderWay)) {
@@ -137,7 +151,8 @@ pub fn iso_in_advance(ep: usize) {
     }
 }
 
-/// Queue one packet on isochronous IN endpoint `ep`; callable from interrupts.
+/// Queue one packet on isochronous IN endpoint `ep`; callable from interrupts. `false`: not queued (ring full, endpoint
+/// not enabled or not isochronous, packet too long). One producer per endpoint.
 pub fn iso_in_prime(ep: usize, data: &[u8]) -> bool {
     number(ep).is_some_and(|ep| call(|p| p.queue(ep, data)).ended().is_ok())
 }

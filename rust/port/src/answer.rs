@@ -148,6 +148,41 @@ impl Refusal {
     }
 }
 
+impl core::fmt::Display for Refusal {
+    fn fmt(&self, f: &mut core::fmt::Formatter<'_>) -> core::fmt::Result {
+        let words = match self {
+            Self::SlotsLength => "the slots' length is not count times size",
+            Self::Geometry => "a size or a count that start-up does not take",
+            Self::UnderWay => "an operation is under way",
+            Self::Stage => "not at this stage",
+            Self::NoEndpoint => "no such endpoint",
+            Self::Maximum => "the maximum is above the buffer size",
+            Self::Address => "the address cannot be had",
+            Self::Buffers => "the buffers run out",
+            Self::Disabled => "the endpoint is disabled, or a setup packet waits",
+            Self::Length => "a length that does not fit",
+            Self::NotIsochronous => "the endpoint is not isochronous",
+            Self::NoPacket => "no packet waits",
+            Self::Full => "two packets wait",
+            Self::NotOpen => "no packet is open",
+            Self::NotBegun => "nothing is under way, or no such request was begun",
+            Self::Reading => "the reading has bits above its width",
+            Self::Descriptor => "the descriptor is not as it must be",
+            Self::TwoTypes => "one address has two transfer types",
+            Self::BusTime => "the bus time in use would pass 6,000 byte-times",
+            Self::Channels => "too many channels, or a budget of 0",
+            Self::Card => "a block, packet or room of the card that does not fit",
+            Self::Ep0Maximum => "EP0's maximum is not 64",
+            Self::Distances => "distances of visits or arrivals that cannot be",
+            Self::Misaligned => "state or slots do not begin on a word boundary",
+            Self::Row(_) => "a row that this version has no name for",
+        };
+        write!(f, "refused ({}): {words}", self.row())
+    }
+}
+
+impl core::error::Error for Refusal {}
+
 /// What a call answers.
 #[derive(Clone, Copy, Debug, PartialEq, Eq)]
 #[must_use]

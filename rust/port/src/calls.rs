@@ -219,6 +219,8 @@ impl Port<'_> {
         }
         let (s, b, n, t) =
             (self.state.0.as_mut_ptr(), self.slots.as_ptr(), length(self.slots), self.time.0.as_mut_ptr());
+        // SAFETY: a constant of the archive, read so that an archive of another version does not link
+        unsafe { core::ptr::read_volatile(core::ptr::addr_of!(ARCHIVE)) };
         // SAFETY: state and time of their lengths, the slots with theirs; lent apart, to nobody else
         Answer::of(unsafe { usbhs_start_up(s, b, n, t, self.driver, size, count, callback.into()) })
     }
@@ -314,7 +316,8 @@ impl Port<'_> {
         Answer::of(unsafe { usbhs_begin_data_in(s, b, n, data.as_ptr(), length(data), first, last) })
     }
 
-    /// The oldest packet of an isochronous OUT, in place: it stays until [`Port::close`].
+    /// The oldest packet of an isochronous OUT, in place: it stays until [`Port::close`]. One reader per endpoint: a
+    /// second open before the close shows the same packet again.
     pub fn open(&mut self, endpoint: u8) -> Result<Packet, crate::Refusal> {
         let mut stamp = 0;
         let (s, b, n) = (self.state.0.as_mut_ptr(), self.slots.as_ptr(), length(self.slots));

@@ -24,6 +24,12 @@ type Time = *mut u16;
 type U = u32;
 
 extern "C" {
+    /// `USBHS_ARCHIVE`: only the archive of this version, with a state of this length, has it.
+    #[link_name = "usbhs_0_1_0_state_2999"]
+    pub static ARCHIVE: u8;
+}
+
+extern "C" {
     pub fn usbhs_start_up(s: S, slots: Bytes, n: Length, t: Time, driver: U, size: U, count: U, callback: U) -> u64;
     pub fn usbhs_allocate(s: S, kind: U, address: U, maximum: U, interval: U, dir: U) -> u64;
     pub fn usbhs_start(s: S, maximum: U) -> u64;

@@ -87,6 +87,15 @@ fn survey() {
     compare(include_str!("../../../include/usbhs_survey.h"), source, 10);
 }
 
+/// Every refusal has words, and is an error.
+#[test]
+fn refusals() {
+    use usbhs_port::Refusal;
+    let error: &dyn core::error::Error = &Refusal::NoPacket;
+    assert_eq!(error.to_string(), "refused (12): no packet waits");
+    assert_eq!(Refusal::Row(40).to_string(), "refused (40): a row that this version has no name for");
+}
+
 /// The numbers that both have.
 #[test]
 fn numbers() {
@@ -100,4 +109,10 @@ fn numbers() {
     assert_eq!(number("USBHS_MOST_WAKES"), usbhs_port::MOST_WAKES);
     assert_eq!(number("USBHS_NUMBERS_LEN"), usbhs_port::NUMBERS_LEN);
     assert_eq!(number("USBHS_BUS"), usbhs_port::Task::Bus.number());
+    // the version, and the symbol by which an archive of another one does not link
+    assert!(header.contains(&format!("#define USBHS_VERSION \"{}\"\n", env!("CARGO_PKG_VERSION"))));
+    let version = env!("CARGO_PKG_VERSION").replace('.', "_");
+    let symbol = format!("usbhs_{version}_state_{}", usbhs_port::STATE_LEN);
+    assert!(header.contains(&format!("#define USBHS_ARCHIVE {symbol}\n")));
+    assert!(include_str!("../src/exported.rs").contains(&format!("#[link_name = \"{symbol}\"]")));
 }
