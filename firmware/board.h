@@ -29,7 +29,11 @@ void board_pause(void);
 /* Whether this mcause is the USBHS block's interrupt. */
 int board_usb_interrupt(uint32_t cause);
 
-/* Stores a block that is full. May take long: interrupts are taken meanwhile. */
-void board_card_store(const uint8_t block[USBHS_BLOCK_LEN]);
+/* Stores a block at a place of the card, and returns when it is stored: 1, or 0 where it failed or the card has no such
+ * place. May take long: interrupts are taken meanwhile. */
+int board_card_store(uint32_t place, const uint8_t block[USBHS_BLOCK_LEN]);
+
+/* The number of the survey that begins; the older survey on the card should have another. */
+uint32_t board_survey_number(void);
 
 #endif

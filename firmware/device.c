@@ -40,6 +40,12 @@ void device_reset(void)
 {
 }
 
+/* What is recorded so far lies on the card then. */
+void device_suspended(void)
+{
+    recorder_finish();
+}
+
 /* Isochronous endpoints have no halt. */
 void device_resumed(unsigned endpoint, unsigned dir)
 {

@@ -24,6 +24,9 @@ void device_resumed(unsigned endpoint, unsigned dir);
 /* A vendor's or class's request: makes one of the calls of control.h. */
 void device_request(const uint8_t setup[8]);
 
+/* The bus is suspended: the host may have gone, and the power may go too. */
+void device_suspended(void);
+
 /* Before the power goes: stores what is still in hand. */
 void device_finish(void);
 

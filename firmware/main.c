@@ -42,8 +42,10 @@ static void bus_task(void)
             device_reset();
             control_restart();
         }
-        if (USBHS_RESULT(word) == USBHS_SUSPEND)
+        if (USBHS_RESULT(word) == USBHS_SUSPEND) {
             watch_nothing(); /* no microframes pass */
+            device_suspended();
+        }
     }
 }
 

@@ -5,12 +5,31 @@
 #include "descriptors.h"
 #include "usb.h"
 
-static uint32_t writer[USBHS_WRITER_LEN], packets;
-static uint8_t block[USBHS_BLOCK_LEN];
+/* A stamp record goes before a packet at least as often; and before each of so many packets after one was turned away:
+ * those that were lost came behind the fifteen that waited then, and the stamps show the desk where. */
+#define PACKETS_A_STAMP 64u
+#define PACKETS_AFTER_LOSS 16u
+
+static uint32_t recorder[USBHS_RECORDER_LEN], packets, overruns, since_stamp, after_loss;
+static uint8_t room[USBHS_ROOM_LEN];
+static int stopped;
+
+/* Stores what the recorder asks for, in its order. A store that fails ends the recording: the card reads as if the
+ * power had gone there. */
+static void store_all(void)
+{
+    while (!stopped && recorder[USBHS_TO_STORE] != 0) {
+        if (board_card_store(USBHS_STORE_PLACE(recorder), USBHS_STORE_BLOCK(recorder, room)))
+            (void)usbhs_recorder_stored(recorder);
+        else
+            stopped = 1;
+    }
+}
 
 void recorder_start(void)
 {
-    usbhs_card_new(writer);
+    (void)usbhs_recorder_begin(recorder, room, sizeof room, board_survey_number());
+    store_all();
 }
 
 uint32_t recorder_packets(void)
@@ -18,19 +37,31 @@ uint32_t recorder_packets(void)
     return packets;
 }
 
-/* Straight from the slot: the chip does not write there until the packet is closed. */
-static void write(const uint8_t *packet, unsigned length)
+static int write(unsigned endpoint, const uint8_t *packet, unsigned length)
 {
     uint64_t word;
 
-    do {
-        word = usbhs_card_write(writer, block, sizeof block, SAMPLES_OUT, packet, length);
-        if (USBHS_KIND(word) == USBHS_REFUSED)
-            return;
-        if (USBHS_RESULT(word) & USBHS_BLOCK_FULL)
-            board_card_store(block);
-    } while (!(USBHS_RESULT(word) & USBHS_PACKET_WRITTEN));
-    packets++;
+    if (stopped)
+        return 0;
+    word = usbhs_record(recorder, room, sizeof room, endpoint, packet, length, overruns);
+    store_all();
+    return USBHS_KIND(word) != USBHS_REFUSED && !stopped;
+}
+
+/* The microframe of the packet that comes next, and what was lost so far: what the desk places samples by. */
+static void write_stamp(uint16_t stamp)
+{
+    uint32_t survey = recorder[USBHS_SURVEY];
+    uint8_t bytes[12] = {2, SAMPLES_OUT};
+
+    for (unsigned i = 0; i < 4; i++) {
+        bytes[2 + i] = (uint8_t)(survey >> 8 * i);
+        bytes[8 + i] = (uint8_t)(overruns >> 8 * i);
+    }
+    bytes[6] = (uint8_t)stamp;
+    bytes[7] = (uint8_t)(stamp >> 8);
+    (void)write(USBHS_RECORDER, bytes, sizeof bytes);
+    since_stamp = 0;
 }
 
 static void tell(uint16_t stamp, unsigned length)
@@ -42,10 +73,12 @@ static void tell(uint16_t stamp, unsigned length)
     print("\n");
 }
 
-/* The interrupt is masked for the open and for the close, not while the packet is read. */
+/* The packet goes to the card from its slot, where the chip does not write until it is closed. The interrupt is masked
+ * for the open and for the close, not while the packet is read. */
 void recorder_task(void)
 {
     uint16_t stamp = 0;
+    uint32_t lost;
     uint64_t word;
 
     for (;;) {
@@ -53,15 +86,28 @@ void recorder_task(void)
         if (USBHS_KIND(word) != USBHS_SHOWN)
             return;
         tell(stamp, USBHS_LENGTH(word));
-        write(usb_slots + USBHS_OFFSET(word), USBHS_LENGTH(word));
+        lost = usbhs_overruns(usb_state, SAMPLES_OUT);
+        if (lost != overruns)
+            after_loss = PACKETS_AFTER_LOSS;
+        if (packets == 0 || after_loss > 0 || since_stamp == PACKETS_A_STAMP) {
+            overruns = lost;
+            write_stamp(stamp);
+        }
+        if (after_loss > 0)
+            after_loss--;
+        if (write(SAMPLES_OUT, usb_slots + USBHS_OFFSET(word), USBHS_LENGTH(word))) {
+            packets++;
+            since_stamp++;
+        }
         USB_OPERATE(word, usbhs_close(usb_state, SAMPLES_OUT));
     }
 }
 
 void recorder_finish(void)
 {
-    uint64_t word = usbhs_card_finish(writer, block, sizeof block);
-
-    if (USBHS_RESULT(word) & USBHS_BLOCK_FULL)
-        board_card_store(block);
+    if (stopped)
+        return;
+    overruns = usbhs_overruns(usb_state, SAMPLES_OUT);
+    (void)usbhs_recorder_finish(recorder, room, sizeof room, overruns);
+    store_all();
 }

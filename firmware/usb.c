@@ -69,8 +69,13 @@ void usb_wake_tasks(uint64_t word)
 
 uint64_t usb_to_end(uint64_t word)
 {
-    while (USBHS_KIND(word) >= USBHS_READ && USBHS_KIND(word) <= USBHS_CALLBACK)
-        word = usbhs_continue(usb_state, usb_slots, sizeof usb_slots, usb_time, 0, make(word));
+    uint32_t *reading = trace_word(word);
+
+    while (USBHS_KIND(word) >= USBHS_READ && USBHS_KIND(word) <= USBHS_CALLBACK) {
+        *reading = make(word);
+        word = usbhs_continue(usb_state, usb_slots, sizeof usb_slots, usb_time, 0, *reading);
+        reading = trace_word(word);
+    }
     usb_wake_tasks(word);
     return word;
 }

@@ -5,6 +5,7 @@
 
 #include <descriptors.h> /* the device's: where the compiler's -I finds it */
 #include "interrupts.h"
+#include "trace.h"
 #include "usbhs.h"
 
 extern uint8_t usb_state[USBHS_STATE_LEN];

@@ -110,6 +110,58 @@ uint64_t usbhs_card_write(uint32_t writer[USBHS_WRITER_LEN], uint8_t *block, usb
  * Row 21: a block that is not 512 bytes. */
 uint64_t usbhs_card_finish(const uint32_t writer[USBHS_WRITER_LEN], uint8_t *block, usbhs_length block_length);
 
+/* A recorder, for a card that is written over and not erased. What it stores is a stream as above, and it
+ * says at every moment where it ends: behind the packets there is an end record of the recorder's own, and
+ * filler behind that in the same block. A reader of the whole card gives the packets recorded, then the end
+ * record, and nothing older, wherever the power goes: the block that is being stored may then hold anything
+ * that fails its check. (usbhs_card_write alone does not do this: a card that it writes over must be erased
+ * first, or a reader goes on in the older stream behind the new one's last block.)
+ *
+ * You lend it a room of four blocks and six numbers, which stay as they are between the calls. Block k lies
+ * at (k % 4) * 512 in the room. After each call you store what it asks for, in this order:
+ *
+ *     word = usbhs_recorder_begin(recorder, room, USBHS_ROOM_LEN, survey);    store_all();
+ *     for each packet {
+ *         word = usbhs_record(recorder, room, USBHS_ROOM_LEN, endpoint, data, length, overruns);
+ *         if (USBHS_KIND(word) == USBHS_REFUSED) ...
+ *         store_all();
+ *     }
+ *     word = usbhs_recorder_finish(recorder, room, USBHS_ROOM_LEN, overruns); store_all();
+ *
+ *     store_all: while (recorder[USBHS_TO_STORE] != 0) {
+ *         store 512 bytes from USBHS_STORE_BLOCK(recorder, room) at block USBHS_STORE_PLACE(recorder);
+ *         usbhs_recorder_stored(recorder);
+ *     }
+ *
+ * What you must keep: a store has ended before you call usbhs_recorder_stored; where it failed, or its place
+ * lies behind the card's end, you record no more (the card then reads as if the power had gone there).
+ * The survey has begun when its first block is stored.
+ *
+ * The recorder's records are packets on endpoint USBHS_RECORDER, which no stream may use. Byte 0 is the kind:
+ * 0 (or no byte at all) padding, all zeros; 1 the begin of a survey; 2 stamp and losses, which you record
+ * yourself; 3 the end. Bytes 2-5 are the survey's number, lowest first. Of an end, byte 1 is 1 once the
+ * survey is finished, and bytes 6-9 are the overruns that you brought. */
+#define USBHS_RECORDER 15u
+#define USBHS_RECORDER_LEN 6
+#define USBHS_ROOM_LEN (4 * USBHS_BLOCK_LEN)
+#define USBHS_TO_STORE 4 /* of the six numbers: how many blocks are still to be stored */
+#define USBHS_SURVEY 5   /* the survey's number */
+#define USBHS_STORE_PLACE(recorder) ((recorder)[3] + (recorder)[USBHS_TO_STORE] - 1u)
+#define USBHS_STORE_BLOCK(recorder, room) ((room) + USBHS_STORE_PLACE(recorder) % 4u * USBHS_BLOCK_LEN)
+
+/* Each ends with the number of blocks to be stored, 0 to 4.
+ * Row 21: a room that is not USBHS_ROOM_LEN bytes, blocks of the call before not stored yet, a packet of
+ * more than 1,024 bytes, endpoint 0 or above 15. */
+uint64_t usbhs_recorder_begin(uint32_t recorder[USBHS_RECORDER_LEN], uint8_t *room, usbhs_length room_length,
+    uint32_t survey);
+uint64_t usbhs_record(uint32_t recorder[USBHS_RECORDER_LEN], uint8_t *room, usbhs_length room_length,
+    uint32_t endpoint, const uint8_t *data, usbhs_length data_length, uint32_t overruns);
+/* Brings what is not stored yet to the card. You may record on behind it. */
+uint64_t usbhs_recorder_finish(uint32_t recorder[USBHS_RECORDER_LEN], uint8_t *room, usbhs_length room_length,
+    uint32_t overruns);
+/* The block that was to be stored is stored: ends with the number of those left. */
+uint64_t usbhs_recorder_stored(uint32_t recorder[USBHS_RECORDER_LEN]);
+
 /* The reader, over the whole stream. *place, a usbhs_length, is where it goes on;
  * usbhs_card_start sets it. A block whose check fails or whose number is not its place is dropped
  * with the packet that it cuts; every packet that lies wholly in blocks as they were written is

@@ -22,9 +22,16 @@ __attribute__((weak)) void console_put(char c)
     (void)c;
 }
 
-__attribute__((weak)) void board_card_store(const uint8_t block[USBHS_BLOCK_LEN])
+__attribute__((weak)) int board_card_store(uint32_t place, const uint8_t block[USBHS_BLOCK_LEN])
 {
+    (void)place;
     (void)block;
+    return 0;
+}
+
+__attribute__((weak)) uint32_t board_survey_number(void)
+{
+    return 0;
 }
 
 void board_start(void)

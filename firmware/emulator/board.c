@@ -15,7 +15,6 @@
 #define CARD_BLOCKS 8192u
 
 static uint8_t card[CARD_BLOCKS * USBHS_BLOCK_LEN];
-static unsigned stored;
 
 void board_start(void)
 {
@@ -40,7 +39,7 @@ int board_usb_interrupt(uint32_t cause)
 static void finish(void)
 {
     recorder_finish();
-    emulator_end(host_check(card, stored, usbhs_overruns(usb_state, SAMPLES_OUT)));
+    emulator_end(host_check(card, sizeof card, usbhs_overruns(usb_state, SAMPLES_OUT)));
 }
 
 void board_sleep(void)
@@ -55,17 +54,22 @@ void board_pause(void)
     board_sleep();
 }
 
-void board_card_store(const uint8_t block[USBHS_BLOCK_LEN])
+uint32_t board_survey_number(void)
+{
+    return 1;
+}
+
+int board_card_store(uint32_t place, const uint8_t block[USBHS_BLOCK_LEN])
 {
     unsigned busy = host_card_busy();
 
     print("card: block ");
-    print_number(stored / USBHS_BLOCK_LEN);
+    print_number(place);
     print("\n");
-    if (stored == sizeof card)
+    if (place >= CARD_BLOCKS)
         emulator_end(1);
-    memcpy(card + stored, block, USBHS_BLOCK_LEN);
-    stored += USBHS_BLOCK_LEN;
+    memcpy(card + place * USBHS_BLOCK_LEN, block, USBHS_BLOCK_LEN);
     for (; busy > 0; busy--)
         host_step();
+    return 1;
 }

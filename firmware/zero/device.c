@@ -156,6 +156,10 @@ void device_task(unsigned task)
 
 /* ---- what the host selects */
 
+void device_suspended(void)
+{
+}
+
 void device_reset(void)
 {
     for (unsigned endpoint = 1; endpoint <= INTERRUPT; endpoint++)

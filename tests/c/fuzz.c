@@ -127,6 +127,10 @@ F(data_crc, usbhs_data_crc(P(DATA), L(DATA)) * 16ull + 5)
 F(card_new, (usbhs_card_new(W32(FIRST)), 5u))
 F(card_write, usbhs_card_write(W32(FIRST), P(ROOM), L(ROOM), n[0], P(DATA), L(DATA)))
 F(card_finish, usbhs_card_finish(W32(FIRST), P(ROOM), L(ROOM)))
+F(recorder_begin, usbhs_recorder_begin(W32(FIRST), P(ROOM), L(ROOM), n[0]))
+F(record, usbhs_record(W32(FIRST), P(ROOM), L(ROOM), n[0], P(DATA), L(DATA), n[1]))
+F(recorder_finish, usbhs_recorder_finish(W32(FIRST), P(ROOM), L(ROOM), n[0]))
+F(recorder_stored, usbhs_recorder_stored(W32(FIRST)))
 F(card_start, usbhs_card_start(P(DATA), L(DATA), LENGTH(FIRST)))
 F(card_next, usbhs_card_next(P(DATA), L(DATA), LENGTH(FIRST), W32(SECOND), P(ROOM), L(ROOM)))
 F(card_read, usbhs_card_read(P(DATA), L(DATA), LENGTH(FIRST), P(ROOM), L(ROOM), LENGTH(SECOND), LENGTH(THIRD)))
@@ -192,6 +196,10 @@ static const struct function {
     {"usbhs_card_new", f_card_new, U(FIRST), 0, 16, 0, PLAIN},
     {"usbhs_card_write", f_card_write, U(FIRST) | U(ROOM) | U(DATA), U(DATA), 16, 0, CARD},
     {"usbhs_card_finish", f_card_finish, U(FIRST) | U(ROOM), U(FIRST), 16, 0, CARD},
+    {"usbhs_recorder_begin", f_recorder_begin, U(FIRST) | U(ROOM), 0, 24, 0, CARD},
+    {"usbhs_record", f_record, U(FIRST) | U(ROOM) | U(DATA), U(DATA), 24, 0, CARD},
+    {"usbhs_recorder_finish", f_recorder_finish, U(FIRST) | U(ROOM), 0, 24, 0, CARD},
+    {"usbhs_recorder_stored", f_recorder_stored, U(FIRST), 0, 24, 0, PLAIN},
     {"usbhs_card_start", f_card_start, U(DATA) | U(FIRST), U(DATA), 8, 0, STREAM},
     {"usbhs_card_next", f_card_next, U(DATA) | U(FIRST) | U(SECOND) | U(ROOM), U(DATA), 8, 0, STREAM},
     {"usbhs_card_read", f_card_read, U(DATA) | U(FIRST) | U(SECOND) | U(THIRD) | U(ROOM), U(DATA), 8, 0, STREAM},

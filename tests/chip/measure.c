@@ -10,6 +10,8 @@
 #include "../../firmware/console.h"
 #include "usbhs_survey.h"
 
+#undef usbhs_start_up /* the call itself, without the check of the header */
+
 #define MOST_BUFFERS 24u
 #define MOST_SIZE 1024u
 

@@ -92,18 +92,26 @@ void board_pause(void)
     board_sleep();
 }
 
-void board_card_store(const uint8_t block[USBHS_BLOCK_LEN])
+uint32_t board_survey_number(void)
+{
+    return 1;
+}
+
+int board_card_store(uint32_t place, const uint8_t block[USBHS_BLOCK_LEN])
 {
     unsigned busy = host_card_busy();
+    unsigned end = (place + 1) * USBHS_BLOCK_LEN;
 
-    if (stored == room) {
+    while (end > room) {
         room = room == 0 ? 1u << 20 : 2 * room;
         card = realloc(card, room);
         if (card == NULL)
             emulator_end(2);
     }
-    memcpy(card + stored, block, USBHS_BLOCK_LEN);
-    stored += USBHS_BLOCK_LEN;
+    memcpy(card + end - USBHS_BLOCK_LEN, block, USBHS_BLOCK_LEN);
+    if (end > stored)
+        stored = end;
     for (; busy > 0; busy--)
         host_step();
+    return 1;
 }

@@ -170,9 +170,16 @@ void board_pause(void)
 }
 
 /* A slow card (CARD_BUSY=n): up to n steps of the bus pass, with interrupts on. */
-void board_card_store(const uint8_t block[USBHS_BLOCK_LEN])
+int board_card_store(uint32_t place, const uint8_t block[USBHS_BLOCK_LEN])
 {
-    fwrite(block, 1, USBHS_BLOCK_LEN, card);
+    if (fseek(card, (long)place * USBHS_BLOCK_LEN, SEEK_SET) != 0 || fwrite(block, USBHS_BLOCK_LEN, 1, card) != 1)
+        return 0;
     for (unsigned busy = card_busy > 0 ? random_number(card_busy) : 0; busy > 0; busy--)
         bridge_step();
+    return 1;
+}
+
+uint32_t board_survey_number(void)
+{
+    return 1;
 }

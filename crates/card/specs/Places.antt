@@ -124,7 +124,7 @@ four-bytes x =
     wide : (y : ℕ) → y % 65536 + y / 65536 % 65536 * 65536 ≡ y % 4294967296
     wide y = omega arith
 
-number-written : (s : List ℕ) (ps : List Packet) (k : ℕ) → blockAt s k ≡ blockOf ps k → numberAt s k ≡ k % 4294967296
+pub number-written : (s : List ℕ) (ps : List Packet) (k : ℕ) → blockAt s k ≡ blockOf ps k → numberAt s k ≡ k % 4294967296
 unfolding body
 number-written s ps k e =
     let at : (i : ℕ) → i < 510 → byteIn s k i ≡ getD (bodyOf ps k) i 0 =
@@ -135,7 +135,7 @@ number-written s ps k e =
     let b3 : byteIn s k 3 ≡ k / 16777216 % 256 = at 3 (omega arith) in
     rw (b0, b1, b2, b3) (four-bytes k)
 
-check-written : (s : List ℕ) (ps : List Packet) (k : ℕ) → blockAt s k ≡ blockOf ps k → pairAt s k 510 ≡ dataCrc (take 510 (drop (k * 512) s))
+pub check-written : (s : List ℕ) (ps : List Packet) (k : ℕ) → blockAt s k ≡ blockOf ps k → pairAt s k 510 ≡ dataCrc (take 510 (drop (k * 512) s))
 unfolding blockOf sealed
 check-written s ps k e =
     let l = length-body-of ps k in

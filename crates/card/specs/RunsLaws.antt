@@ -52,7 +52,7 @@ tail-all p l (q ∷ m) e (more h t) = let x : l ≡ m = cc in rw x t
 
 -- ---- all calls
 
-run-in-turn : (s : List ℕ) → length s % 512 ≡ 0 → (n at : ℕ) (room : List ℕ) → 1024 ≤ length room → All (inTurn (view s) n at)
+pub run-in-turn : (s : List ℕ) → length s % 512 ≡ 0 → (n at : ℕ) (room : List ℕ) → 1024 ≤ length room → All (inTurn (view s) n at)
     → nextRun s room n at ≡ inTurn (view s) n at
 unfolding nextRun inTurn
 run-in-turn s w zero at room r a = refl
@@ -79,7 +79,7 @@ run-in-turn s w (suc n) at room r a = go (found-from s at) refl (λ d q l b. run
         (ih (b + 3 + len) (roomOf s at room) (omega arith) (tail-all (packetFrom (view s) b endpoint len) _ _ (sym t) a))
         ∙ sym t
 
-kept-all : (v : View) (ps : List Packet) (d : ℕ) → All ps → All (keptFrom v d ps)
+pub kept-all : (v : View) (ps : List Packet) (d : ℕ) → All ps → All (keptFrom v d ps)
 unfolding keptFrom
 kept-all v [] d none = none
 kept-all v (p ∷ ps) d (more h t) = go (wholly v d (d + size p)) (kept-all v ps (d + size p) t)

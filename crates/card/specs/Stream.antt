@@ -25,20 +25,20 @@ use Rattle.card.specs.Begins.{data-append, data-at, first-append, first-
 use Rattle.card.specs.Begins.{closed-is}
 
 -- m bytes of the packets ps are written, j of them of the packet under way; the packets of pre have begun
-record So (ps : List Packet) (d : Desk) (m j : ℕ) (pre : List Packet) : Type 0 where
-  long : length (d .block) ≡ 512
-  stored : d .stored ≡ blocksFrom ps 0 (m / 504)
-  number : d .writer .number ≡ m / 504 % 4294967296
-  used : d .writer .used ≡ m % 504
-  done : d .writer .done ≡ j
-  first : d .writer .first ≡ firstIn (m / 504) 0 pre
-  held : (i : ℕ) → i < m % 504 → getD (d .block) (6 + i) 0 ≡ getD (dataOf ps) (m / 504 * 504 + i) 0
+pub record So (ps : List Packet) (d : Desk) (m j : ℕ) (pre : List Packet) : Type 0 where
+  pub long : length (d .block) ≡ 512
+  pub stored : d .stored ≡ blocksFrom ps 0 (m / 504)
+  pub number : d .writer .number ≡ m / 504 % 4294967296
+  pub used : d .writer .used ≡ m % 504
+  pub done : d .writer .done ≡ j
+  pub first : d .writer .first ≡ firstIn (m / 504) 0 pre
+  pub held : (i : ℕ) → i < m % 504 → getD (d .block) (6 + i) 0 ≡ getD (dataOf ps) (m / 504 * 504 + i) 0
 
-abbrev begun : List Packet → Packet → ℕ → List Packet
+abbrev pub begun : List Packet → Packet → ℕ → List Packet
 begun xs p zero = xs
 begun xs p (suc j) = xs ++ (p ∷ [])
 
-so-as : (ps : List Packet) (d : Desk) (m m' j j' : ℕ) (pre pre' : List Packet) → m ≡ m' → j ≡ j' → pre ≡ pre' → So ps d m j pre → So ps d m' j' pre'
+pub so-as : (ps : List Packet) (d : Desk) (m m' j j' : ℕ) (pre pre' : List Packet) → m ≡ m' → j ≡ j' → pre ≡ pre' → So ps d m j pre → So ps d m' j' pre'
 so-as ps d m m' j j' pre pre' a b c s =
     subst (λ (x : List Packet). So ps d m' j' x) c (subst (λ (x : ℕ). So ps d m' x pre) b (subst (λ (x : ℕ). So ps d x j pre) a s))
 
@@ -63,7 +63,7 @@ first-next xs p k h =
 next-number : (k a : ℕ) → a ≡ k % 4294967296 → (a + 1) % 2 ^ 32 ≡ (k + 1) % 4294967296
 next-number k a e = omega arith
 
-piece-bounds : (u j z n : ℕ) → u < 504 → j < z → n ≡ min (504 - u) (z - j) → (0 < n) × (u + n ≤ 504) × (j + n ≤ z)
+pub piece-bounds : (u j z n : ℕ) → u < 504 → j < z → n ≡ min (504 - u) (z - j) → (0 < n) × (u + n ≤ 504) × (j + n ≤ z)
 piece-bounds u j z n h l e = (omega arith, omega arith, omega arith)
 
 module _ (lend : Lends) (lends : (k : ℕ) → length (lend k) ≡ 512) (ps xs : List Packet) (p : Packet) (fine : Writable p)
@@ -84,10 +84,10 @@ module _ (lend : Lends) (lends : (k : ℕ) → length (lend k) ≡ 512) (ps xs :
       ]
   first-is d (suc j) s l = sym (first-under-way (d .writer) (length (p .bytes)) (λ e. omega (arith, s .done))) ∙ s .first
 
-  used-is : (d : Desk) (j : ℕ) → So ps d (length (dataOf xs) + j) j (begun xs p j) → usedOf (d .writer) ≡ (length (dataOf xs) + j) % 504
+  pub used-is : (d : Desk) (j : ℕ) → So ps d (length (dataOf xs) + j) j (begun xs p j) → usedOf (d .writer) ≡ (length (dataOf xs) + j) % 504
   used-is d j s = omega (arith, s .used)
 
-  done-is : (d : Desk) (j : ℕ) → So ps d (length (dataOf xs) + j) j (begun xs p j) → j < size p → doneOf (d .writer) (length (p .bytes)) ≡ j
+  pub done-is : (d : Desk) (j : ℕ) → So ps d (length (dataOf xs) + j) j (begun xs p j) → j < size p → doneOf (d .writer) (length (p .bytes)) ≡ j
   done-is d j s l = omega (arith, s .done)
 
   -- a piece of n bytes, after j of the packet
@@ -140,7 +140,7 @@ module _ (lend : Lends) (lends : (k : ℕ) → length (lend k) ≡ 512) (ps xs :
 
     -- ---- the block is full
 
-    closes : m % 504 + n ≡ 504
+    pub closes : m % 504 + n ≡ 504
         → closed (d .writer .number) (firstOf (d .writer) (length (p .bytes))) (pieceIn (d .writer) p (d .block)) ≡ blockOf ps (m / 504)
     closes x =
         ap₂ (λ (a : ℕ) (b : List ℕ). closed a (firstOf (d .writer) (length (p .bytes))) b) (s .number) put-is
@@ -172,16 +172,16 @@ module _ (lend : Lends) (lends : (k : ℕ) → length (lend k) ≡ 512) (ps xs :
 
     -- ---- either
 
-    full-is : fullOf (d .writer) (length (p .bytes)) ≡ eqb (m % 504 + n) 504
+    pub full-is : fullOf (d .writer) (length (p .bytes)) ≡ eqb (m % 504 + n) 504
     full-is = ap₂ (λ (y z : ℕ). eqb (y + z) 504) (used-is d j s) piece
 
-    whole-is : wholeOf (d .writer) (length (p .bytes)) ≡ eqb (j + n) (size p)
+    pub whole-is : wholeOf (d .writer) (length (p .bytes)) ≡ eqb (j + n) (size p)
     whole-is = ap₂ (λ (y z : ℕ). eqb (y + z) (size p)) (done-is d j s l) piece
 
-    abbrev then : Desk
+    abbrev pub then : Desk
     then = after lend d (writerOf (d .writer) (length (p .bytes))) (fullOf (d .writer) (length (p .bytes))) (blockOfPiece (d .writer) p (d .block))
 
-    after-call : So ps then (m + n) (doneAfter (d .writer) (length (p .bytes))) (xs ++ (p ∷ []))
+    pub after-call : So ps then (m + n) (doneAfter (d .writer) (length (p .bytes))) (xs ++ (p ∷ []))
     after-call = elim (ℕ-discrete (m % 504 + n) 504) [
       | yes e ↦ (let f = full-is ∙ eq-eqb (m % 504 + n) 504 e in
           subst (λ (y : Desk). So ps y (m + n) (doneAfter (d .writer) (length (p .bytes))) (xs ++ (p ∷ [])))
@@ -198,12 +198,12 @@ module _ (lend : Lends) (lends : (k : ℕ) → length (lend k) ≡ 512) (ps xs :
     ]
 
     -- the packet is whole, or more of it is left
-    whole-then : j + n ≡ size p → So ps then (length (dataOf xs) + size p) 0 (xs ++ (p ∷ []))
+    pub whole-then : j + n ≡ size p → So ps then (length (dataOf xs) + size p) 0 (xs ++ (p ∷ []))
     whole-then e =
         so-as ps then (m + n) (length (dataOf xs) + size p) _ 0 (xs ++ (p ∷ [])) (xs ++ (p ∷ [])) (omega arith)
         (sym (done-whole (d .writer) (length (p .bytes)) (whole-is ∙ eq-eqb (j + n) (size p) e))) refl after-call
 
-    part-then : 0 < n → (j + n ≡ size p → ⊥) → So ps then (length (dataOf xs) + (j + n)) (j + n) (begun xs p (j + n))
+    pub part-then : 0 < n → (j + n ≡ size p → ⊥) → So ps then (length (dataOf xs) + (j + n)) (j + n) (begun xs p (j + n))
     part-then z e =
         so-as ps then (m + n) (length (dataOf xs) + (j + n)) _ (j + n) (xs ++ (p ∷ [])) (begun xs p (j + n)) (omega arith)
         (sym (done-part (d .writer) (length (p .bytes)) (whole-is ∙ ne-eqb (j + n) (size p) e))
@@ -270,7 +270,7 @@ module _ (lend : Lends) (lends : (k : ℕ) → length (lend k) ≡ 512) (ps xs :
 
 -- ---- all packets
 
-length-snoc : (xs : List Packet) (p : Packet) → length (dataOf xs) + size p ≡ length (dataOf (xs ++ (p ∷ [])))
+pub length-snoc : (xs : List Packet) (p : Packet) → length (dataOf xs) + size p ≡ length (dataOf (xs ++ (p ∷ [])))
 unfolding dataOf
 length-snoc xs p =
     omega (arith, ap length (data-append xs (p ∷ [])), length-append (dataOf xs) (packetBytes p ++ []), length-append (p .bytes) [])
@@ -306,17 +306,17 @@ module _ (lend : Lends) (lends : (k : ℕ) → length (lend k) ≡ 512) (ps : Li
 
   -- ---- the last block
 
-  abbrev filled-up : Desk → List ℕ
+  abbrev pub filled-up : Desk → List ℕ
   filled-up d =
       paste (d .block) (6 + length (dataOf ps) % 504) (replicate (504 - length (dataOf ps) % 504) 0) (504 - length (dataOf ps) % 504)
 
-  filled-long : (d : Desk) → So ps d (length (dataOf ps)) 0 ps → length (filled-up d) ≡ 512
+  pub filled-long : (d : Desk) → So ps d (length (dataOf ps)) 0 ps → length (filled-up d) ≡ 512
   filled-long d s =
       length-paste (d .block) (6 + length (dataOf ps) % 504) (replicate (504 - length (dataOf ps) % 504) 0) (504 - length (dataOf ps) % 504)
       (omega (arith, s .long)) (omega (arith, length-replicate {A = ℕ} (504 - length (dataOf ps) % 504) 0))
       ∙ s .long
 
-  filled-held : (d : Desk) → So ps d (length (dataOf ps)) 0 ps
+  pub filled-held : (d : Desk) → So ps d (length (dataOf ps)) 0 ps
       → (i : ℕ) → i < 504 → getD (filled-up d) (6 + i) 0 ≡ getD (dataOf ps) (length (dataOf ps) / 504 * 504 + i) 0
   filled-held d s i h = elim (decLt i (length (dataOf ps) % 504)) [
     | yes a ↦ paste-before (d .block) (6 + length (dataOf ps) % 504) _ (504 - length (dataOf ps) % 504) (6 + i) (omega arith) (omega (arith, s .long))

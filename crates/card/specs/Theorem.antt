@@ -35,7 +35,7 @@ first-later p ps k d h = rw (ne-eqb (d / 504) k h)
 
 -- ---- bytes
 
-bytes-are : (v : View) (s : List ℕ) (d : ℕ) → ((i : ℕ) → i < length s → v .byte (d + i) ≡ getD s i 0) → bytesFrom v d (length s) ≡ s
+pub bytes-are : (v : View) (s : List ℕ) (d : ℕ) → ((i : ℕ) → i < length s → v .byte (d + i) ≡ getD s i 0) → bytesFrom v d (length s) ≡ s
 unfolding bytesFrom
 bytes-are v [] d h = refl
 bytes-are v (x ∷ s) d h =
@@ -46,35 +46,35 @@ bytes-are v (x ∷ s) d h =
 -- ---- the packets that are left
 
 -- the packets qs stand from place d on
-record Rest (ps : List Packet) (d : ℕ) (qs : List Packet) : Type 0 where
-  bytes : (i : ℕ) → getD (dataOf ps) (d + i) 0 ≡ getD (dataOf qs) i 0
-  fine : All qs
+pub record Rest (ps : List Packet) (d : ℕ) (qs : List Packet) : Type 0 where
+  pub bytes : (i : ℕ) → getD (dataOf ps) (d + i) 0 ≡ getD (dataOf qs) i 0
+  pub fine : All qs
 
 -- the blocks from k on name the begins of packets from place d on
-abbrev Names : List Packet → ℕ → ℕ → List Packet → Type 0
+abbrev pub Names : List Packet → ℕ → ℕ → List Packet → Type 0
 Names ps k d qs = (j : ℕ) → k ≤ j → firstIn j 0 ps ≡ firstIn j d qs
 
 data-behind : (q : Packet) (qs : List Packet) (i : ℕ) → getD (dataOf (q ∷ qs)) (size q + i) 0 ≡ getD (dataOf qs) i 0
 unfolding dataOf
 data-behind q qs i = let e : size q + i ≡ length (packetBytes q) + i = omega arith in rw e (getD-append-add (packetBytes q) (dataOf qs) i 0)
 
-data-head : (q : Packet) (qs : List Packet) (i : ℕ) → i < size q → getD (dataOf (q ∷ qs)) i 0 ≡ getD (packetBytes q) i 0
+pub data-head : (q : Packet) (qs : List Packet) (i : ℕ) → i < size q → getD (dataOf (q ∷ qs)) i 0 ≡ getD (packetBytes q) i 0
 unfolding dataOf
 data-head q qs i h = List·getD-append (packetBytes q) (dataOf qs) 0 i (omega arith)
 
 tail-fine : {q : Packet} {qs : List Packet} → All (q ∷ qs) → All qs
 tail-fine (more h t) = t
 
-head-fine : {q : Packet} {qs : List Packet} → All (q ∷ qs) → Writable q
+pub head-fine : {q : Packet} {qs : List Packet} → All (q ∷ qs) → Writable q
 head-fine (more h t) = h
 
-rest-next : (ps : List Packet) (d : ℕ) (q : Packet) (qs : List Packet) → Rest ps d (q ∷ qs) → Rest ps (d + size q) qs
+pub rest-next : (ps : List Packet) (d : ℕ) (q : Packet) (qs : List Packet) → Rest ps d (q ∷ qs) → Rest ps (d + size q) qs
 rest-next ps d q qs r = record {
   bytes = λ i. let e : d + size q + i ≡ d + (size q + i) = omega arith in rw e (r .bytes (size q + i) ∙ data-behind q qs i);
   fine = tail-fine (r .fine);
 }
 
-kept-cut : (v : View) (d : ℕ) (q : Packet) (qs : List Packet) (b : ℕ) → d / 504 ≤ b → b * 504 < d + size q → v .good b ≡ false
+pub kept-cut : (v : View) (d : ℕ) (q : Packet) (qs : List Packet) (b : ℕ) → d / 504 ≤ b → b * 504 < d + size q → v .good b ≡ false
     → keptFrom v d (q ∷ qs) ≡ keptFrom v (d + size q) qs
 unfolding keptFrom
 kept-cut v d q qs b l h g =

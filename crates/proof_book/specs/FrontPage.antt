@@ -35,7 +35,7 @@ use Rattle.proof_book.specs.Stamps.{stamped}
 use Rattle.proof_book.specs.Lengths.{Known, learnt, lengthAt}
 pub use Rattle.proof_book.specs.Others.{givesTo, addressed}
 use Rattle.proof_book.specs.Others.{handsOut, releasing, sendsTo, Names, underWay, callNames, Away, SamePage}
-use Rattle.proof_book.specs.Arrivals.{Note, brings, checks, looks, after, above, Arrival}
+use Rattle.proof_book.specs.Arrivals.{Note, brings, checks, due, looks, after, above, Arrival}
 
 -- ---- a list of calls
 
@@ -479,11 +479,11 @@ abbrev pub ArrivalIs : Made → Machine Answer Pages → Note → Type 0
 ArrivalIs m n k = (e : ℕ) (d : Decides (m .event .call) n (m .answer) e)
     → (checks (brings (d .brought) k) ≡ true) × Arrival (brings (d .brought) k) (n .st) (m .event .lent) e
 
--- "Checks fall where the Rust's do": an interrupt that checks and ends has looked at every enabled isochronous OUT, and
--- so has missed no arrival
+-- "Checks fall where the Rust's do": an interrupt that has to check and ends has looked at every enabled isochronous
+-- OUT, and so has missed no arrival
 abbrev pub NoneMissed : Made → Machine Answer Pages → Note → Type 0
 NoneMissed m n k = (v r : ℕ) (ws : List ℕ) → m .event .call ≡ go v → inInterrupt (n .way) ≡ true
-    → m .answer ≡ ended (End r ws) → checks (brings v k) ≡ true → (e : ℕ) → e < 16 → receiving (n .st) e ≡ true
+    → m .answer ≡ ended (End r ws) → due (brings v k) ≡ true → (e : ℕ) → e < 16 → receiving (n .st) e ≡ true
     → (k .looked e || looks (brings v k) (n .st) (m .event .lent) (m .answer) e) ≡ true
 
 -- "Endpoint sets are walked lowest number first": what an interrupt decides is above all that it decided before, so

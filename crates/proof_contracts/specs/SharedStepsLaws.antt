@@ -180,7 +180,8 @@ module _ (i : ℕ) (c : Config) (b : Buf) (row : startRow c b ≡ zero) (xs : Li
 
   -- no old sample is read again
   pub shared-nothing-stale : (ms : List MadeShared) → Calls i xs a n (first ∷ ms) → (e : ℕ)
-      → let one = madeAlone i xs a first in NoneStaleEach e (one .slots) (page.noted one n .1) [] (allAlone i (first .bytes) (first .slots) ms)
+      → let one = madeAlone i xs a first in NoneStaleEach e false (one .slots) (page.noted one n .1) []
+      (allAlone i (first .bytes) (first .slots) ms)
   shared-nothing-stale ms run e = nothing-stale c b row xs a n (madeAlone i xs a first) (start-alone i c b xs a first is-start)
       (allAlone i (first .bytes) (first .slots) ms) (code-alone i c b row xs a n first is-start ms run) e
 
@@ -192,14 +193,14 @@ module _ (i : ℕ) (c : Config) (b : Buf) (row : startRow c b ≡ zero) (xs : Li
 
   pub shared-nothing-arrives : (ms : List MadeShared) → Calls i xs a n (first ∷ ms) → (e : ℕ)
       → let one = madeAlone i xs a first in
-      NoArrivalEach e (one .slots) (page.noted one n .1) [] (allAlone i (first .bytes) (first .slots) ms)
+      NoArrivalEach e false (one .slots) (page.noted one n .1) [] (allAlone i (first .bytes) (first .slots) ms)
   shared-nothing-arrives ms run e =
       nothing-arrives c b row xs a n (madeAlone i xs a first) (start-alone i c b xs a first is-start)
       (allAlone i (first .bytes) (first .slots) ms) (code-alone i c b row xs a n first is-start ms run) e
 
   pub shared-decided-stored : (ms : List MadeShared) → Calls i xs a n (first ∷ ms) → (e : ℕ)
       → let one = madeAlone i xs a first in
-      DecidedStoredEach e (one .slots) (page.noted one n .1) [] (allAlone i (first .bytes) (first .slots) ms)
+      DecidedStoredEach e false (one .slots) (page.noted one n .1) [] (allAlone i (first .bytes) (first .slots) ms)
   shared-decided-stored ms run e =
       decided-stored c b row xs a n (madeAlone i xs a first) (start-alone i c b xs a first is-start)
       (allAlone i (first .bytes) (first .slots) ms) (code-alone i c b row xs a n first is-start ms run) e

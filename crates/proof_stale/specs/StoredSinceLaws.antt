@@ -3,7 +3,7 @@
 -- it since the slot was armed (`Marked`). A packet whose length did not come with the interrupt was found in the call
 -- that asked for the status (`found`, Arrivals.antt): up to the call that decides it the slot stays, and the history
 -- grows
-use mathlib.Core.Bool.{Bool, true, false, not, cond, _&&_, true≢false}
+use mathlib.Core.Bool.{Bool, true, false, not, cond, _&&_, _||_, true≢false}
 use mathlib.Core.List.{List, [], _∷_, _++_}
 use mathlib.Core.Logic.{_⊎_, inl, inr, ⊎-elim, _≢_}
 use mathlib.Core.Path.{_≡_, refl, ap, subst, sym, _∙_}
@@ -46,18 +46,19 @@ use Rattle.proof_book.specs.StepsLaws.{none-enabled}
 use Rattle.proof_book.specs.AgreesLaws.{agree}
 use Rattle.proof_book.specs.Others.{handsOut}
 use Rattle.proof_book.specs.FrontPage.{Made, Chip, LentAsLeft, written, Decides, addressed, inInterrupt, AfterEach}
+use Rattle.proof_book.specs.FrontPage.{ArrivalIs, ArrivalsEach}
 use Rattle.proof_book.specs.FrontPage as page
 use Rattle.proof_book.specs.FrontPageLaws.{demand-3}
 use Rattle.proof_book.specs.SlotsKeptLaws.{lent-is}
 use Rattle.proof_book.specs.AnswersLaws.{tells-same, blank-access, isHanded, handed-same, fed-kept}
 use Rattle.proof_book.specs.Arrivals.{Note, changedIn, reads, brings, asking, unread, after, Arrival, with-length}
-use Rattle.proof_book.specs.Arrivals.{late, ArrivalIs, ArrivalsEach}
+use Rattle.proof_book.specs.Arrivals.{late}
 use Rattle.proof_book.specs.ArrivalScriptsLaws.{Told, t-end, t-ask}
 use Rattle.proof_book.specs.ArrivalInterruptLaws.{LookedAt}
 use Rattle.proof_book.specs.ArrivalCallsLaws.{Serving, WayTold, is-regular, told-on, start-told}
 use Rattle.proof_book.specs.ArrivalsLaws.{arrivals}
 use Rattle.proof_stale.specs.Stale.{Gap, StoredIn, gapOf, upTo, itsAddress, switches, armsNow, Fresh, Marked}
-use Rattle.proof_stale.specs.Stale.{NoneStaleEach}
+use Rattle.proof_stale.specs.Stale.{underWay, NoneStaleEach}
 use Rattle.proof_stale.specs.Stale.{FirstWordStored, DecidedStored, DecidedStoredEach, EachDecidedStored}
 use Rattle.proof_stale.specs.NothingStaleLaws.{Sub, behind, isStart, in-gap, nothing-stale}
 use Rattle.proof_stale.specs.OwnSlotLaws.{all-marked}
@@ -96,6 +97,9 @@ un-not false h = refl
 and-false : (u v : Bool) → v ≡ false → (u && v) ≡ false
 and-false true v h = h
 and-false false v h = refl
+
+or-false : {u v : Bool} → u ≡ false → v ≡ false → (u || v) ≡ false
+or-false {v = v} h g = ap (λ (w : Bool). w || v) h ∙ g
 
 -- a continue that hands out an access was lent a buffer of the right length
 pub handed-fits : (x : Ans Answer) (v : ℕ) (n : Machine Answer Pages) (a b : Buf) → isHanded x ≡ true
@@ -244,27 +248,34 @@ module _ (e : ℕ) where
       by (handed (Wait k)) h = (refl, refl)
       by (handed Callback) h = (refl, refl)
 
+  -- nor does an access that is no receive address of OUT e
+  not-its : (n : Machine Answer Pages) (r : Bool) (v : ℕ) (x : Ans Answer) → handsOut (λ q. itsAddress e q) x ≡ false
+      → armsNow e n r (go v) x ≡ false
+  not-its n r v x h = or-false (and-false (inInterrupt (n .way)) _ (and-false (receiving (n .st) e) _ h))
+      (and-false r _ (and-false (isoOf (n .st) Out e) _ h))
+
   -- what is not handed out arms nothing
-  ends-unarmed : (x : Ans Answer) (n : Machine Answer Pages) (c : Call Config Op) → isHanded x ≡ false → armsNow e n c
-      x ≡ false
-  ends-unarmed x n (start c) h = refl
-  ends-unarmed x n (begin o) h = and-false (switches e o) _ (and-false (isoOf (n .st) Out e) _ h)
-  ends-unarmed x n (go v) h = and-false (inInterrupt (n .way)) _ (and-false (receiving (n .st) e) _ (by x h))
+  ends-unarmed : (x : Ans Answer) (n : Machine Answer Pages) (r : Bool) (c : Call Config Op) → isHanded x ≡ false
+      → armsNow e n r c x ≡ false
+  ends-unarmed x n r (start c) h = refl
+  ends-unarmed x n r (begin o) h = and-false (switches e o) _ (and-false (isoOf (n .st) Out e) _ h)
+  ends-unarmed x n r (go v) h = not-its n r v x (by x h)
     where
       by : (x : Ans Answer) → isHanded x ≡ false → handsOut (λ q. itsAddress e q) x ≡ false
       by (ended z) h = refl
       by (told k) h = refl
       by (handed q) h = absurd (true≢false h)
-  ends-unarmed x n (question q) h = refl
+  ends-unarmed x n r (question q) h = refl
 
-  module _ (x : Ans Answer) (w : Way Answer Pages) (t : Pages) (a c b : Buf) (h : List Gap) (f : Note)
+  module _ (switching : Bool) (x : Ans Answer) (w : Way Answer Pages) (t : Pages) (a c b : Buf) (h : List Gap)
+      (f : Note)
       (even : (f : ℕ) → e % 16 ≡ f % 16 → t .outs f .slot ≡ t .outs e .slot) (marked : Marked e a t h)
       (p : Pending f (record { way = w; st = t; buf = c }) h) where
     abbrev n : Machine Answer Pages
     n = record { way = w; st = t; buf = c }
 
     abbrev after-it : Call Config Op → List Gap
-    after-it k = cond (armsNow e n k x) [] (gapOf k a b ++ h)
+    after-it k = cond (armsNow e n switching k x) [] (gapOf k a b ++ h)
 
     -- after call k, where the book came to y
     abbrev Next : Call Config Op → Ans Answer × Machine Answer Pages → Type 0
@@ -277,7 +288,7 @@ module _ (e : ℕ) where
         → reads IntSt (f .known .asked) ≡ true → receiving u e ≡ true → f .found e ≡ true → FirstWordStored e u
         (after-it k)
     goes-by k u i way l r on found =
-        subst (λ (z : Bool). FirstWordStored e u (cond z [] (gapOf k a b ++ h))) (sym (ends-unarmed x n k i))
+        subst (λ (z : Bool). FirstWordStored e u (cond z [] (gapOf k a b ++ h))) (sym (ends-unarmed x n switching k i))
         (stored-there (l .0) (stored-wider (behind (gapOf k a b) h) (p way r (sym (l .1) ∙ on) found)))
 
     not-handed : (z : Answer) → blankA x ≡ blankA (ended z) → isHanded x ≡ false
@@ -348,8 +359,7 @@ module _ (e : ℕ) where
           let same-sets : isoOuts (u .kept .globals) ≡ isoOuts (t .kept .globals) =
           ap (λ (k : Kept). isoOuts (k .globals)) (fed-kept x (s .0)) ∙ (fixed .sets ∙ sym sets) in
           let lives′ : receiving t e ≡ true = sym (ap (λ (k : ℕ). isSet k (e % 16)) same-sets) ∙ lives in
-          let unarmed : armsNow e n (go v) x ≡ false = and-false (inInterrupt w) _
-          (and-false (receiving t e) _ (both .1)) in
+          let unarmed : armsNow e n switching (go v) x ≡ false = not-its n switching v x (both .1) in
           subst (λ (z : Bool). FirstWordStored e u (cond z [] (gapOf (go v) a b ++ h))) (sym unarmed)
           (stored-there (ap (λ (o : OutPage). o .slot) (m v refl way (both .0)))
           (found-in (go v) refl a b t h chip marked lives′ found))
@@ -396,13 +406,13 @@ module _ (e : ℕ) where
 
   -- ---- every list of calls
 
-  each : (ms : List Made) (xs : List ℕ) (a : Buf) {φ : Phase} (n : Machine Answer Pages) (h : List Gap) (f : Note)
-      → Ways driverOf book agree calls φ (machineOf xs a .way) (n .way) → Coupling φ a (view xs) (n .st)
+  each : (ms : List Made) (r : Bool) (xs : List ℕ) (a : Buf) {φ : Phase} (n : Machine Answer Pages) (h : List Gap)
+      (f : Note) → Ways driverOf book agree calls φ (machineOf xs a .way) (n .way) → Coupling φ a (view xs) (n .st)
       → WayTold f (n .way) (n .st) → Pending f n h → Marked e a (n .st) h
-      → page.Calls xs a n ms → AfterEach n ms → NoneStaleEach e a n h ms → ArrivalsEach n f ms → DecidedStoredEach e a
-      n h ms
-  each [] xs a n h f w R t p g q s u z = tt
-  each (m ∷ ms) xs a n h f w R t p g q s u z =
+      → page.Calls xs a n ms → AfterEach n ms → NoneStaleEach e r a n h ms → ArrivalsEach n f ms
+      → DecidedStoredEach e r a n h ms
+  each [] r xs a n h f w R t p g q s u z = tt
+  each (m ∷ ms) r xs a n h f w R t p g q s u z =
       let c = m .event .call in
       let b = m .event .lent in
       let n′ = page.noted m n .1 in
@@ -411,16 +421,17 @@ module _ (e : ℕ) where
       (sym (q .0))
       (agrees driverOf book agree calls fresh-kept c b (machineOf xs a) n w R (lent-is (machineOf xs a) n R b c
       (q .1))) in
-      let h′ = cond (armsNow e n c (m .answer)) [] (upTo m a h) in
+      let h′ = cond (armsNow e n r c (m .answer)) [] (upTo m a h) in
       let serving = told-on (m .answer) c f n b (k .same) (is-regular R) t in
-      let next = next-pending (m .answer) (n .way) (n .st) a (n .buf) b h f (λ j i. slot-mod e h R j i) g p c (q .1) t
+      let next = next-pending r (m .answer) (n .way) (n .st) a (n .buf) b h f (λ j i. slot-mod e h R j i) g p c (q .1) t
       (k .same)
       (λ v is i o. s .0 .sentences .unmoved e v is i o) in (
         λ d. decided m n a h f p g (q .1) (k .same) (z .0) d,
-        each ms (m .bytes) (m .slots) n′ h′ (after c (m .answer) (n .st) b f) (k .ways) (k .rest) serving
+        each ms (underWay e n c (m .answer) r) (m .bytes) (m .slots) n′ h′ (after c (m .answer) (n .st) b f) (k .ways)
+            (k .rest) serving
             (subst (λ (l : Note). Pending l n′ h′) (after-same c f (n .st) b (page.noted m n .0) (m .answer)
             (sym (k .same))) next)
-            (u .1) (q .2) (s .1) (u .2) (z .2),
+            (u .1) (q .2) (s .1) (u .3) (z .2),
       )
     where
       -- an answer but for its address tells the same
@@ -458,7 +469,7 @@ module _ (e : ℕ) where
 -- any bytes, a start-up that rows 1 and 2 do not stop, and then any calls of demand 3's premise
 pub decided-stored : EachDecidedStored
 decided-stored c b row xs a n first is ms p e =
-    each e ms (first .bytes) (first .slots) (page.noted first n .1) [] f (begun .ways) (begun .rest) told-first
+    each e ms false (first .bytes) (first .slots) (page.noted first n .1) [] f (begun .ways) (begun .rest) told-first
     (λ way. absurd (true≢false (sym way ∙ quiet-first)))
     (λ on. absurd (true≢false (sym on ∙ off-first))) (p .2) (demand-3 c b row xs a n first is ms p .0 .1)
     (nothing-stale c b row xs a n first is ms p e)

@@ -18,7 +18,8 @@ use Rattle.alloc.specs.declared.Answer.the-variants as variant
 use Rattle.alloc.specs.declared.Found.{Found}
 use Rattle.alloc.specs.declared.Found.the-variants.{Number, Nothing}
 use Rattle.alloc.specs.Alloc as allocs
-use Rattle.alloc.specs.Alloc.{if, isIso, allocated, allocateOf, allocateEp0Of, numberOf, askedOf, lowestOf, isFree, dirBit}
+use Rattle.alloc.specs.Alloc.{if, isIso, allocated, allocateOf, allocateEp0Of, numberOf, askedOf, lowestOf, isFree}
+use Rattle.alloc.specs.Alloc.{dirBit}
 use Rattle.alloc.specs.Outcome.{Outcome, six, seven, eight, given, outcome}
 use Rattle.descriptor.specs.declared.Endpoint.{Endpoint}
 use Rattle.descriptor.specs.declared.Answer as listing
@@ -73,7 +74,8 @@ module _ (D : Dir) (E : ℕ) where
       by (variant.Refused n) y = refl
       by (variant.Given e base slots) y = refl
 
-  acts : (k : Kind) → is k giving ≡ false → (q : Act) → mayAct k q ≡ true → (s : St) → NotIso s → NotIso (concrete .act q s)
+  acts : (k : Kind) → is k giving ≡ false → (q : Act) → mayAct k q ≡ true → (s : St) → NotIso s
+      → NotIso (concrete .act q s)
   acts k g q m s h = by-act {K = λ q d. mayAct k q ≡ true → isOn (epOn d D E .iso) ≡ false} s
       (λ q d p _. ap isOn (rings-steady (turns q) p .flags D E) ∙ h)
       (λ dir kind address maximum interval n. differ (sym g ∙ n))
@@ -95,8 +97,10 @@ module _ (D : Dir) (E : ℕ) where
   abbrev pub Made : Op → Track → Answer → St → Type 0
   Made o w a t = (madeIso D E o a ≡ true) ⊎ NotIso t
 
-  others : (o : Op) → is (kindOf o) giving ≡ false → (w : Track) (s : St) → NotIso s → Follow D E (Made o) w (run concrete (code o) s)
-  others o g w s h = follow.follow-more D E (followed (holds-run (keeps (kindOf o) g) (code o) (call-steps o) s h)) (λ _ _ _ n. inr n)
+  others : (o : Op) → is (kindOf o) giving ≡ false → (w : Track) (s : St) → NotIso s
+      → Follow D E (Made o) w (run concrete (code o) s)
+  others o g w s h = follow.follow-more D E (followed (holds-run (keeps (kindOf o) g) (code o) (call-steps o) s h))
+      (λ _ _ _ n. inr n)
 
   -- ---- an allocation
 
@@ -105,11 +109,16 @@ module _ (D : Dir) (E : ℕ) where
   flag-says true = refl
   flag-says false = refl
 
-  given-iso : (d : Dir) (kind maximum interval e base slots : ℕ) (x : Driver) → length (x .eps) ≡ 32 → isOn (epOn x D E .iso) ≡ false
+  given-iso : (d : Dir) (kind maximum interval e base slots : ℕ) (x : Driver) → length (x .eps) ≡ 32
+      → isOn (epOn x D E .iso) ≡ false
       → let y = setsGiven d kind interval e (recordGiven d kind maximum e base slots x) in
       ((isIso kind && own D E d e ≡ true) ⊎ (isOn (epOn y D E .iso) ≡ false)) × (length (y .eps) ≡ 32)
   unfolding setsGiven recordGiven allocated withOn epOn
-  given-iso d kind maximum interval e base slots x l h = (by (ℕ-discrete (key d e) (key D E)) (isIso kind) refl, length-set (x .eps) (key d e) _ ∙ l)
+  given-iso d kind maximum interval e base slots x l h = (
+    by (ℕ-discrete (key d e) (key D E))
+        (isIso kind) refl,
+    length-set (x .eps) (key d e) _ ∙ l,
+  )
     where
       r : EpState
       r = allocated (epOn x d e) kind maximum base (x .allocator .size) slots
@@ -130,7 +139,8 @@ module _ (D : Dir) (E : ℕ) where
   numbered d kind maximum e P w s f = at-ask tt (λ _ t _ k.
       follow.follow-bind D E {P = λ _ n u. (n ≡ e) × (view D E (u .0) ≡ view D E (t .0))}
       (follow.follow-bind D E {P = λ _ _ u. view D E (u .0) ≡ view D E (t .0)}
-      (follow.follow-cond D E (not (eqb (kind % 4) 0)) (λ _. at-ask tt (λ _ u _ l. at-end (l .0 ∙ follow.hand-view D E (place d e) t)))
+      (follow.follow-cond D E (not (eqb (kind % 4) 0)) (λ _. at-ask tt (λ _ u _ l. at-end (l .0
+      ∙ follow.hand-view D E (place d e) t)))
       (λ _. at-end refl)) (λ _ _ u m. at-end (refl, m)))
       (λ _ n u m. at-end (subst (λ (x : ℕ). P (End x (concrete .fetch gathered u)) u) (sym (m .0))
       (f (concrete .fetch gathered u) u (m .1 ∙ (k .0 ∙ follow.act-view D E no-wakes refl s))))))
@@ -140,9 +150,11 @@ module _ (D : Dir) (E : ℕ) where
   After d kind (variant.Refused n) y = isOn (epOn y D E .iso) ≡ false
   After d kind (variant.Given e base slots) y = (isIso kind && own D E d e ≡ true) ⊎ (isOn (epOn y D E .iso) ≡ false)
 
-  alloc-iso : (x : Driver) (d : Dir) (kind address maximum interval : ℕ) → length (x .eps) ≡ 32 → isOn (epOn x D E .iso) ≡ false
+  alloc-iso : (x : Driver) (d : Dir) (kind address maximum interval : ℕ) → length (x .eps) ≡ 32
+      → isOn (epOn x D E .iso) ≡ false
       → (a : alloc.Answer) → allocateOf (x .allocator) kind address maximum d .answer ≡ a
-      → After d kind a (allocatedOn x d kind address maximum interval) × (length (allocatedOn x d kind address maximum interval .eps) ≡ 32)
+      → After d kind a (allocatedOn x d kind address maximum interval)
+      × (length (allocatedOn x d kind address maximum interval .eps) ≡ 32)
   unfolding allocatedOn givenTo epOn
   alloc-iso x d kind address maximum interval l h a q =
       let z = allocateOf (x .allocator) kind address maximum d in
@@ -151,12 +163,14 @@ module _ (D : Dir) (E : ℕ) where
       (subst (λ (b : alloc.Answer). After d kind b (givenTo d kind maximum interval (z .answer) y)) q (p .0), p .1)
     where
       by : (a : alloc.Answer) (y : Driver) → length (y .eps) ≡ 32 → isOn (epOn y D E .iso) ≡ false
-          → After d kind a (givenTo d kind maximum interval a y) × (length (givenTo d kind maximum interval a y .eps) ≡ 32)
+          → After d kind a (givenTo d kind maximum interval a y)
+          × (length (givenTo d kind maximum interval a y .eps) ≡ 32)
       by (variant.Refused n) y l h = (h, l)
       by (variant.Given e base slots) y l h = given-iso d kind maximum interval e base slots y l h
 
   law-allocate : (d : Dir) (kind address maximum interval : ℕ) (w : Track) (s : St) → Whole s → NotIso s
-      → Follow D E (Made (other (Allocate d kind address maximum interval))) w (run concrete (code (other (Allocate d kind address maximum interval))) s)
+      → Follow D E (Made (other (Allocate d kind address maximum interval))) w (run concrete (code (other
+      (Allocate d kind address maximum interval))) s)
   law-allocate d kind address maximum interval w s l h = follow.follow-cond D E (eqb (s .0 .globals .stage) 1)
       (λ _. by (allocateOf (s .0 .allocator) kind address maximum d .answer) refl) (λ _. at-end (inr h))
     where
@@ -164,13 +178,17 @@ module _ (D : Dir) (E : ℕ) where
       t = concrete .act (allocate d kind address maximum interval) s
 
       by : (a : alloc.Answer) → allocateOf (s .0 .allocator) kind address maximum d .answer ≡ a
-          → Follow D E (Made (other (Allocate d kind address maximum interval))) w (run {i = false} concrete (allocated-as d kind maximum a) t)
-      by (variant.Refused n) q = at-end (inr (alloc-iso (s .0) d kind address maximum interval l h (variant.Refused n) q .0))
+          → Follow D E (Made (other (Allocate d kind address maximum interval))) w (run {i = false} concrete
+          (allocated-as d kind maximum a) t)
+      by (variant.Refused n) q = at-end (inr (alloc-iso (s .0) d kind address maximum interval l h
+          (variant.Refused n) q .0))
       by (variant.Given e base slots) q =
           numbered d kind maximum e (λ a u. Made (other (Allocate d kind address maximum interval)) w a u) w t
-          (λ ws u v. made ws u v (alloc-iso (s .0) d kind address maximum interval l h (variant.Given e base slots) q .0))
+          (λ ws u v. made ws u v (alloc-iso (s .0) d kind address maximum interval l h
+          (variant.Given e base slots) q .0))
         where
-          made : (ws : List ℕ) (u : St) → view D E (u .0) ≡ view D E (t .0) → After d kind (variant.Given e base slots) (t .0)
+          made : (ws : List ℕ) (u : St) → view D E (u .0) ≡ view D E (t .0)
+              → After d kind (variant.Given e base slots) (t .0)
               → Made (other (Allocate d kind address maximum interval)) w (End e ws) u
           made ws u v (inl z) = inl z
           made ws u v (inr n) = inr (ap (λ (y : EpSeen). isOn (y .iso)) v ∙ n)
@@ -186,8 +204,10 @@ module _ (D : Dir) (E : ℕ) where
 
   -- the number that is given is the address's
   number-given : (a : Allocator) (kind address maximum : ℕ) (dir : Dir) (e base n : ℕ)
-      → allocateOf a kind address maximum dir .answer ≡ variant.Given e base n → numberOf a (isIso kind) address dir ≡ Number e
-  number-given a kind address maximum dir e base n h = by (allocateOf a kind address maximum dir) (outcome a kind address maximum dir) h
+      → allocateOf a kind address maximum dir .answer ≡ variant.Given e base n
+      → numberOf a (isIso kind) address dir ≡ Number e
+  number-given a kind address maximum dir e base n h = by (allocateOf a kind address maximum dir)
+      (outcome a kind address maximum dir) h
     where
       refusal : alloc.Answer → Type 0
       refusal (variant.Refused n) = Unit {0}
@@ -207,7 +227,8 @@ module _ (D : Dir) (E : ℕ) where
       by z (eight x m k l) q = never 8 q
       by z (given x b y c m k g) q = k ∙ ap (λ (r : alloc.Answer). Number (numberOn r)) q
 
-  number-if : (address e : ℕ) (d z l f : Bool) → if d (if z Nothing (if l Nothing (if f (Number (address % 128)) Nothing))) Nothing ≡ Number e
+  number-if : (address e : ℕ) (d z l f : Bool) → if d (if z Nothing (if l Nothing (if f (Number
+      (address % 128)) Nothing))) Nothing ≡ Number e
       → address % 128 ≡ e
   number-if address e d z l f h = by d z l f h
     where
@@ -222,7 +243,8 @@ module _ (D : Dir) (E : ℕ) where
       numberIn (Number n) = n
       numberIn Nothing = 0
 
-      by : (d z l f : Bool) → if d (if z Nothing (if l Nothing (if f (Number (address % 128)) Nothing))) Nothing ≡ Number e → address % 128 ≡ e
+      by : (d z l f : Bool) → if d (if z Nothing (if l Nothing (if f (Number
+          (address % 128)) Nothing))) Nothing ≡ Number e → address % 128 ≡ e
       by true false false true q = ap numberIn q
       by true false false false q = never q
       by true false true f q = never q
@@ -251,9 +273,11 @@ module _ (D : Dir) (E : ℕ) where
       → length (allocatedOn x d kind address maximum interval .eps) ≡ 32
   unfolding allocatedOn givenTo setsGiven recordGiven withOn
   whole-after x d kind address maximum interval l =
-      by (allocateOf (x .allocator) kind address maximum d .answer) (withAllocator x (allocateOf (x .allocator) kind address maximum d .after)) l
+      by (allocateOf (x .allocator) kind address maximum d .answer) (withAllocator x (allocateOf
+      (x .allocator) kind address maximum d .after)) l
     where
-      by : (a : alloc.Answer) (y : Driver) → length (y .eps) ≡ 32 → length (givenTo d kind maximum interval a y .eps) ≡ 32
+      by : (a : alloc.Answer) (y : Driver) → length (y .eps) ≡ 32
+          → length (givenTo d kind maximum interval a y .eps) ≡ 32
       by (variant.Refused n) y l = l
       by (variant.Given e base slots) y l = length-set (y .eps) (key d e) _ ∙ l
 
@@ -261,7 +285,8 @@ module _ (D : Dir) (E : ℕ) where
       → Follow D E (λ x _ t. (x ≡ w) × Whole t) w (run {i = false} concrete (allocateEach es) s)
   unfolding allocateEach
   wholes [] w s l = at-end (refl, l)
-  wholes (e ∷ es) w s l = wholes es w (concrete .act (allocate (directionOf (e .address)) (e .kind) (e .address) (e .maximum) (e .interval)) s)
+  wholes (e ∷ es) w s l = wholes es w (concrete .act (allocate (directionOf (e .address)) (e .kind) (e .address)
+      (e .maximum) (e .interval)) s)
       (whole-after (s .0) (directionOf (e .address)) (e .kind) (e .address) (e .maximum) (e .interval) l)
 
   each : (es : List Endpoint) (w : Track) (s : St) → Whole s → NotIso s
@@ -269,7 +294,8 @@ module _ (D : Dir) (E : ℕ) where
   unfolding allocateEach
   each [] w s l h = at-end (refl, l, inr h)
   each (e ∷ es) w s l h =
-      by (λ k n. each es w (concrete .act (allocate (directionOf (e .address)) (e .kind) (e .address) (e .maximum) (e .interval)) s) k n)
+      by (λ k n. each es w (concrete .act (allocate (directionOf (e .address)) (e .kind) (e .address) (e .maximum)
+      (e .interval)) s) k n)
       (allocateOf (s .0 .allocator) (e .kind) (e .address) (e .maximum) (directionOf (e .address)) .answer) refl
     where
       d : Dir
@@ -283,34 +309,47 @@ module _ (D : Dir) (E : ℕ) where
       further u (inr n) = inr n
 
       Rest : Type 0
-      Rest = Whole t → NotIso t → Follow D E (λ x _ u. (x ≡ w) × Whole u × Listed es u) w (run {i = false} concrete (allocateEach es) t)
+      Rest = Whole t → NotIso t → Follow D E (λ x _ u. (x ≡ w) × Whole u
+          × Listed es u) w (run {i = false} concrete (allocateEach es) t)
 
       on : Rest → Whole t → NotIso t
           → Follow D E (λ x _ u. (x ≡ w) × Whole u × Listed (e ∷ es) u) w (run {i = false} concrete (allocateEach es) t)
       on rest k n = follow.follow-more D E (rest k n) (λ _ _ u m. (m .0, m .1, further u (m .2)))
 
-      here : (n : ℕ) → numberOf (s .0 .allocator) (isIso (e .kind)) (e .address) d ≡ Number n → isIso (e .kind) && own D E d n ≡ true
+      here : (n : ℕ) → numberOf (s .0 .allocator) (isIso (e .kind)) (e .address) d ≡ Number n
+          → isIso (e .kind) && own D E d n ≡ true
           → listsIso D E (e ∷ es) ≡ true
       here n q z = let p = both (isIso (e .kind)) (own D E d n) z in
           rw (p .0, asked-for (s .0 .allocator) (e .kind) (e .address) d n q (p .1)) refl
 
-      split : Rest → (n base slots : ℕ) → numberOf (s .0 .allocator) (isIso (e .kind)) (e .address) d ≡ Number n → Whole t
+      split : Rest → (n base slots : ℕ) → numberOf (s .0 .allocator) (isIso (e .kind)) (e .address) d ≡ Number n
+          → Whole t
           → After d (e .kind) (variant.Given n base slots) (t .0)
           → Follow D E (λ x _ u. (x ≡ w) × Whole u × Listed (e ∷ es) u) w (run {i = false} concrete (allocateEach es) t)
-      split rest n base slots q k (inl z) = follow.follow-more D E (wholes es w t k) (λ _ _ u m. (m .0, m .1, inl (here n q z)))
+      split rest n base slots q k (inl z) = follow.follow-more D E (wholes es w t k) (λ _ _ u m. (
+        m .0,
+        m .1,
+        inl
+            (here n q z),
+      ))
       split rest n base slots q k (inr m) = on rest k m
 
       by : Rest → (a : alloc.Answer) → allocateOf (s .0 .allocator) (e .kind) (e .address) (e .maximum) d .answer ≡ a
           → Follow D E (λ x _ u. (x ≡ w) × Whole u × Listed (e ∷ es) u) w (run {i = false} concrete (allocateEach es) t)
       by rest (variant.Refused n) q =
-          let z = alloc-iso (s .0) d (e .kind) (e .address) (e .maximum) (e .interval) l h (variant.Refused n) q in on rest (z .1) (z .0)
+          let z = alloc-iso (s .0) d (e .kind) (e .address) (e .maximum) (e .interval) l h
+          (variant.Refused n) q in on rest (z .1) (z .0)
       by rest (variant.Given n base slots) q =
-          let z = alloc-iso (s .0) d (e .kind) (e .address) (e .maximum) (e .interval) l h (variant.Given n base slots) q in
-          split rest n base slots (number-given (s .0 .allocator) (e .kind) (e .address) (e .maximum) d n base slots q) (z .1) (z .0)
+          let z = alloc-iso (s .0) d (e .kind) (e .address) (e .maximum) (e .interval) l h
+          (variant.Given n base slots) q in
+          split rest n base slots (number-given (s .0 .allocator) (e .kind) (e .address)
+          (e .maximum) d n base slots q) (z .1) (z .0)
 
   law-allocate-all : (bytes : List ℕ) (w : Track) (s : St) → Whole s → NotIso s
-      → Follow D E (Made (other (AllocateAll bytes))) (withPhase off w) (run concrete (code (other (AllocateAll bytes))) s)
-  law-allocate-all bytes w s l h = follow.follow-cond D E (eqb (s .0 .globals .stage) 1) (λ _. by (readingOf bytes .answer)) (λ _. at-end (inr h))
+      → Follow D E (Made (other (AllocateAll bytes))) (withPhase off w) (run concrete (code (other
+      (AllocateAll bytes))) s)
+  law-allocate-all bytes w s l h = follow.follow-cond D E (eqb (s .0 .globals .stage) 1) (λ _. by
+      (readingOf bytes .answer)) (λ _. at-end (inr h))
     where
       es : List Endpoint
       es = listOf bytes
@@ -320,14 +359,17 @@ module _ (D : Dir) (E : ℕ) where
       made t u v (inr n) = inr (ap (λ (y : EpSeen). isOn (y .iso)) v ∙ n)
 
       announced : (t : St) → Whole t → Listed es t
-          → Follow D E (Made (other (AllocateAll bytes))) (withPhase off w) (run {i = false} concrete (operation (announceAll es)) t)
+          → Follow D E (Made (other (AllocateAll bytes))) (withPhase off w) (run {i = false} concrete (operation
+          (announceAll es)) t)
       announced t k z = follow.follow-bind D E
           (q-announces D E es .goes (withPhase off w) (concrete .act no-wakes t) (refl, λ _ _ _ _. refl)
           (loose D E (act-steady no-wakes refl t .places ∙ k)))
-          (λ _ n u m. at-end {a = End n (concrete .fetch gathered u)} (made t u (m .1 ∙ follow.act-view D E no-wakes refl t) z))
+          (λ _ n u m. at-end {a = End n (concrete .fetch gathered u)} (made t u (m .1
+          ∙ follow.act-view D E no-wakes refl t) z))
 
       by : (a : listing.Answer)
-          → Follow D E (Made (other (AllocateAll bytes))) (withPhase off w) (run {i = false} concrete (allocate-read bytes a) s)
+          → Follow D E (Made (other (AllocateAll bytes))) (withPhase off w) (run {i = false} concrete
+          (allocate-read bytes a) s)
       by (listed.Refused n) = at-end (inr h)
       by listed.Listed = follow.follow-cond D E (eqb (trialOf (s .0 .allocator) es .refusal) 0)
           (λ _. follow.follow-bind D E (each es (withPhase off w) s l h)
@@ -335,8 +377,10 @@ module _ (D : Dir) (E : ℕ) where
 
   -- ---- every call
 
-  of-other : (o : Other) (w : Track) (s : St) → Whole s → NotIso s → Follow D E (Made (other o)) (withPhase off w) (run concrete (code (other o)) s)
-  of-other (Allocate d kind address maximum interval) w s l h = law-allocate d kind address maximum interval (withPhase off w) s l h
+  of-other : (o : Other) (w : Track) (s : St) → Whole s → NotIso s
+      → Follow D E (Made (other o)) (withPhase off w) (run concrete (code (other o)) s)
+  of-other (Allocate d kind address maximum interval) w s l h = law-allocate d kind address maximum interval
+      (withPhase off w) s l h
   of-other (AllocateAll bytes) w s l h = law-allocate-all bytes w s l h
   of-other (Start maximum) w s l h = others (other (Start maximum)) refl (withPhase off w) s h
   of-other BusPoll w s l h = others (other BusPoll) refl (withPhase off w) s h
@@ -357,7 +401,8 @@ module _ (D : Dir) (E : ℕ) where
   of-other (BeginDataOut n first) w s l h = others (other (BeginDataOut n first)) refl (withPhase off w) s h
   of-other (BeginAcceptSetAddress a) w s l h = others (other (BeginAcceptSetAddress a)) refl (withPhase off w) s h
 
-  of-slotted : (o : Slotted) (w : Track) (s : St) → NotIso s → Follow D E (Made (slotted o)) w (run concrete (code (slotted o)) s)
+  of-slotted : (o : Slotted) (w : Track) (s : St) → NotIso s → Follow D E (Made (slotted o)) w (run concrete (code
+      (slotted o)) s)
   of-slotted (SetEnabled d e on) w s h = others (slotted (SetEnabled d e on)) refl w s h
   of-slotted (PollRead e n) w s h = others (slotted (PollRead e n)) refl w s h
   of-slotted (BeginWrite e bs) w s h = others (slotted (BeginWrite e bs)) refl w s h
@@ -365,7 +410,8 @@ module _ (D : Dir) (E : ℕ) where
   of-slotted (PollDataOut n) w s h = others (slotted (PollDataOut n)) refl w s h
   of-slotted (BeginDataIn bs first last) w s h = others (slotted (BeginDataIn bs first last)) refl w s h
 
-  pub iso-made : (o : Op) (w : Track) (s : St) → Whole s → NotIso s → Follow D E (Made o) (opens D E o w) (run concrete (code o) s)
+  pub iso-made : (o : Op) (w : Track) (s : St) → Whole s → NotIso s
+      → Follow D E (Made o) (opens D E o w) (run concrete (code o) s)
   iso-made interrupt w s l h = others interrupt refl (opens D E interrupt w) s h
   iso-made (slotted o) w s l h = of-slotted o (withPhase off w) s h
   iso-made (other o) w s l h = of-other o w s l h

@@ -22,5 +22,5 @@ module _ (O : Observer) where
   -- what is claimed of each call, and of the state where nothing is under way after it
   abbrev pub CodeAll : List Made → Watched O → Type 0
   CodeAll [] x = Unit {0}
-  CodeAll (m ∷ ms) x = Claim O (m .event .call) (m .answer) (serves (left m .way)) x
+  CodeAll (m ∷ ms) x = Claim O (m .event .call) (m .event .lent) (m .answer) (serves (left m .way)) x
       × Standing O (left m .st) (told m x .log) (told m x .under) × CodeAll ms (told m x)

@@ -25,11 +25,11 @@ module _ (O : Observer) where
       → All O (events ms) (machineOf xs a) x → CodeAll O ms x
   to-code [] xs a x h r = tt
   to-code (m ∷ ms) xs a x h r =
-      let p : Claim O (m .event .call) (m .answer) (serves (left m .way)) x
+      let p : Claim O (m .event .call) (m .event .lent) (m .answer) (serves (left m .way)) x
       × Standing O (left m .st) (told O m x .log) (told O m x .under) × All O (events ms) (left m) (told O m x)
       = subst
       (λ (z : Answered). let y = noted O (m .event .call) (m .event .lent) (z .0) (serves (z .1 .way)) x in
-      Claim O (m .event .call) (z .0) (serves (z .1 .way)) x
+      Claim O (m .event .call) (m .event .lent) (z .0) (serves (z .1 .way)) x
       × Standing O (z .1 .st) (y .log) (y .under) × All O (events ms) (z .1) y) (sym (h .0)) r in
       (p .0, p .1, to-code ms (m .bytes) (m .slots) (told O m x) (h .1) (p .2))
 
@@ -42,4 +42,5 @@ module _ (O : Observer) where
       = subst (λ (v : Event Config Op). (first .answer, left first) ≡ drive (v .call) (machineOf xs a) (v .lent)) e (h .0)
       ∙ ap (λ n. started calls driverOf (λ s. s) c n (machineOf xs a) b) row in
       to-code ms (first .bytes) (first .slots) (startedBy O (first .answer)) (h .1)
-      (subst (λ (z : Answered). All O (events ms) (z .1) (startedBy O (z .0))) (sym q) (from-start O L c b row (events ms) (machineOf xs a)))
+      (subst (λ (z : Answered). All O (events ms) (z .1) (startedBy O (z .0))) (sym q) (from-start O L c b row
+      (events ms) (machineOf xs a)))

@@ -97,22 +97,25 @@ stands w x (k, inr r) h = (r .out .shows, r .inn .shows, r .size)
 -- before the first setup packet: no request, and EP0 is not started
 fresh : (c : Config) → R before (view (driverOf .fresh c))
 unfolding freshDriver
-fresh c = (record { says = refl; started = refl; maximum = λ h. differ h }, inl refl)
+fresh c = (record { says = refl; started = refl; maximum = λ h. differ h; slot = λ h. differ h }, inl refl)
 
-new : (c : Config) (b : Buf) → Ups control (λ s. R before (view (s .0))) (run concrete (calls .starts c) (driverOf .fresh c, b))
+new : (c : Config) (b : Buf) → Ups control (λ s. R before (view (s .0))) (run concrete (calls .starts c)
+    (driverOf .fresh c, b))
 new c b = ups (law-new c .goes before (driverOf .fresh c, b))
   where
     ups : {w : Log} {o : tree.Out St Answer}
-        → Watch Between Any (λ x _ t. Left before (driverOf .fresh c, b) x t) w o → Ups control (λ s. R before (view (s .0))) o
-    ups (at-end l) = at-end (kept-base (fresh c .0) refl refl (l .1), inl refl)
+        → Watch Between Any (λ x _ t. Left before (driverOf .fresh c, b) x t) w o
+        → Ups control (λ s. R before (view (s .0))) o
+    ups (at-end l) = at-end (kept-base (fresh c .0) refl refl refl (l .1), inl refl)
     ups (at-ask _ k) = at-ask tt (λ v t _ h. ups (k v t tt h))
 
 -- row 1
-refused-1 : (o : Op) → calls .slots o ≡ true → (w : Log) (x : View) → R w x → R (closes o (Refused 1) (opens o w)) x
-refused-1 interrupt h w x r = r
-refused-1 (slotted o) h w x r = r
-refused-1 (other o) h w x r = r
-refused-1 (aside o) h w x r = r
+refused-1 : (o : Op) → calls .slots o ≡ true → (b : Buf) (w : Log) (x : View) → R w x
+    → R (closes o (Refused 1) (opens o b w)) x
+refused-1 interrupt h b w x r = r
+refused-1 (slotted o) h b w x r = r
+refused-1 (other o) h b w x r = r
+refused-1 (aside o) h b w x r = r
 
 fair-1 : (o : Op) → calls .slots o ≡ true → (w : Log) → Fair o (Refused 1) w
 fair-1 interrupt h w = tt
@@ -120,7 +123,7 @@ fair-1 (slotted (SetEnabled d e on)) h w = tt
 fair-1 (slotted (PollRead e n)) h w = tt
 fair-1 (slotted (BeginWrite e bs)) h w = tt
 fair-1 (slotted (PollWrite e bs)) h w = tt
-fair-1 (slotted (PollDataOut n)) h w = (unlent refl, tt)
+fair-1 (slotted (PollDataOut n)) h w = (unlent refl, tt, tt)
 fair-1 (slotted (BeginDataIn bs first last)) h w = unlent refl
 fair-1 (other o) h w = differ h
 fair-1 (aside o) h w = tt
@@ -238,7 +241,8 @@ steps control-read = setting
     (does (slotted (BeginDataIn (1 ∷ 2 ∷ []) true true)) ∷ serving 2 1 32 ∷ does
     (other PollDataIn) ∷ serving 2 1 64 ∷ does (other PollDataIn) ∷ [])
 -- while the function takes its time, interrupts of other endpoints show the host's IN 0, answered with NAK
-steps slow-read = serving 32 1 0 ∷ does (other BeginSetup) ∷ serving 2 1 32 ∷ does (other PollSetup) ∷ serving 2 1 32 ∷ does
+steps slow-read = serving 32 1 0 ∷ does (other BeginSetup) ∷ serving 2 1 32 ∷ does
+    (other PollSetup) ∷ serving 2 1 32 ∷ does
     (slotted (BeginDataIn (1 ∷ 2 ∷ []) true true)) ∷ serving 2 1 32 ∷ does
     (other PollDataIn) ∷ serving 2 1 64 ∷ does (other PollDataIn) ∷ []
 steps control-write = setting

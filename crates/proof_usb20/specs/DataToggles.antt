@@ -15,7 +15,8 @@ use Rattle.script.specs.Calls.{Op, interrupt, slotted, other, aside, Other, All
 use Rattle.script.specs.Calls.{BusEnable, BusDisable, Microframe, SetStalled, IsStalled, SetPaced, Advance, BeginRead}
 use Rattle.script.specs.Calls.{BeginSetup, PollSetup, PollDataIn, BeginAccept, PollAccept, BeginReject, BeginDataOut}
 use Rattle.script.specs.Calls.{BeginAcceptSetAddress}
-use Rattle.proof_usb20.specs.Sequence.{Track, own, before, opens, saw, closes, Fair, Writing, unwritten-yet, wrote}
+use Rattle.proof_usb20.specs.Sequence.{Track, own, before, opens, saw, closes, Fair, Writing, unwritten-yet}
+use Rattle.proof_usb20.specs.Sequence.{wrote}
 use Rattle.proof_usb20.specs.Sequence.{LeavesWord}
 use Rattle.proof_usb20.specs.Observer.{Observer}
 use Rattle.proof_usb20.specs.Follow.{EpSeen, Fits, view}
@@ -69,7 +70,7 @@ abbrev pub toggles : Dir → ℕ → Observer
 toggles D E = record {
   Log = Bool × Track;
   before = (false, before);
-  opens = λ o x. (x .0, opens D E o (x .1));
+  opens = λ o _ x. (x .0, opens D E o (x .1));
   saw = λ x q v. (x .0, saw D E (x .1) q v);
   closes = λ o a x. (x .0 || madeIso D E o a, closes D E o a (x .1));
   Fair = λ o a x. x .0 ≡ false → Fair D E o a (x .1);
@@ -88,7 +89,7 @@ abbrev pub words : Dir → ℕ → Observer
 words D E = record {
   Log = Bool × Track × Writing;
   before = (false, before, unwritten-yet before);
-  opens = λ o x. (x .0, opens D E o (x .1), unwritten-yet (x .1));
+  opens = λ o _ x. (x .0, opens D E o (x .1), unwritten-yet (x .1));
   saw = λ x q v. (x .0, saw D E (x .1) q v, wrote D E (x .2) q v);
   closes = λ o a x. (x .0 || madeIso D E o a, closes D E o a (x .1), x .2);
   Fair = λ o a x. x .0 ≡ false → LeavesWord D E o a (x .2);

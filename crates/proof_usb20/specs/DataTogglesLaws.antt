@@ -155,9 +155,14 @@ module _ (D : Dir) (E : ℕ) (z : (d : Dir) → Else D E d 0) where
   new-places c = refl
 
   new : (c : Config) (b : Buf)
-      → Follow D E (λ _ _ s. Fitting (false, before) (view D E (s .0))) before (run concrete (calls .starts c) (driverOf .fresh c, b))
+      → Follow D E (λ _ _ s. Fitting (false, before) (view D E (s .0))) before (run concrete (calls .starts c)
+      (driverOf .fresh c, b))
   new c b = follow.follow-more D E (law-new c .goes before (driverOf .fresh c, b) (refl, λ _ _ _ _. refl) (loose D E (new-places c)))
-      (λ _ _ s m. inr (ap (λ (y : EpSeen). isOn (y .iso)) (m .1) ∙ new-iso c, subst (Fits before) (sym (m .1)) (new-fits c)))
+      (λ _ _ s m. inr (
+        ap (λ (y : EpSeen). isOn (y .iso)) (m .1)
+            ∙ new-iso c,
+        subst (Fits before) (sym (m .1)) (new-fits c),
+      ))
 
   last : (b : Bool) (x y : Track) → cond (b && false) x y ≡ y
   last true x y = refl
@@ -196,7 +201,8 @@ module _ (D : Dir) (E : ℕ) (z : (d : Dir) → Else D E d 0) where
   beside (at-end p) = at-end (refl, p)
   beside (at-ask _ k) = at-ask tt (λ v t _ h. beside (k v t tt h))
 
-  both-of : {A : Type 0} {P Q : Track → A → St → Type 0} {w : Track} {o : tree.Out St A} → Follow D E P w o → Follow D E Q w o
+  both-of : {A : Type 0} {P Q : Track → A → St → Type 0} {w : Track} {o : tree.Out St A} → Follow D E P w o
+      → Follow D E Q w o
       → Follow D E (λ x a t. P x a t × Q x a t) w o
   both-of (at-end p) (at-end q) = at-end (p, q)
   both-of (at-ask _ f) (at-ask _ g) = at-ask tt (λ v t _ k. both-of (f v t tt k) (g v t tt k))
@@ -204,25 +210,28 @@ module _ (D : Dir) (E : ℕ) (z : (d : Dir) → Else D E d 0) where
   abbrev Ended : Op → Bool × Track → Answer → St → Type 0
   Ended o x a t = Fitting (toggles D E .closes o a x) (view D E (t .0)) × (Few (ended a) → toggles D E .Fair o a x)
 
-  silent : (o : Op) (x : Bool × Track) → x .0 ≡ true → (out : tree.Out St Answer) → Sees (toggles D E) (λ _ _. Unit {0}) (Ended o) x out
+  silent : (o : Op) (x : Bool × Track) → x .0 ≡ true → (out : tree.Out St Answer)
+      → Sees (toggles D E) (λ _ _. Unit {0}) (Ended o) x out
   silent o x h out = watch-any (λ y. y .0 ≡ true) (λ _ _ _. tt) (λ _ _ _ g. g)
       (λ y a t g. (inl (rw g refl), λ _ z. differ (sym z ∙ g))) x h out
 
   pub heard : (o : Op) (x : Bool × Track) (s : St) → Fitting x (view D E (s .0)) → Sorting (s .0)
-      → Sees (toggles D E) (λ _ _. Unit {0}) (Ended o) (toggles D E .opens o x) (run concrete (code o) s)
-  heard o x s (inl h) q = silent o (toggles D E .opens o x) h (run concrete (code o) s)
-  heard o x s (inr (i, f)) q = watch-more (beside (both-of (law-of o (x .1) s f i q) (iso-made D E o (x .1) s (q .places) i)))
+      → Sees (toggles D E) (λ _ _. Unit {0}) (Ended o) (toggles D E .opens o (s .1) x) (run concrete (code o) s)
+  heard o x s (inl h) q = silent o (toggles D E .opens o (s .1) x) h (run concrete (code o) s)
+  heard o x s (inr (i, f)) q = watch-more (beside (both-of (law-of o (x .1) s f i q) (iso-made D E o (x .1) s
+      (q .places) i)))
       (λ y a t p. (after y a t (p .0) (p .1 .0 .0) (p .1 .1), λ few _. p .1 .0 .1 few))
     where
-      after : (y : Bool × Track) (a : Answer) (t : St) → y .0 ≡ x .0 → Fits (log.closes D E o a (y .1)) (view D E (t .0))
+      after : (y : Bool × Track) (a : Answer) (t : St) → y .0 ≡ x .0
+          → Fits (log.closes D E o a (y .1)) (view D E (t .0))
           → isochronous.Made D E o (y .1) a t → Fitting (toggles D E .closes o a y) (view D E (t .0))
       after y a t e g (inl m) = inl (rw m (or-true (y .0)))
       after y a t e g (inr n) = inr (n, g)
 
-  unlent-too : (o : Op) → calls .slots o ≡ true → (x : Bool × Track) (v : EpSeen) → Fitting x v
-      → Fitting (toggles D E .closes o (Refused 1) (toggles D E .opens o x)) v
-  unlent-too o h x v (inl e) = inl (rw e refl)
-  unlent-too o h x v (inr (i, f)) = inr (i, unlent o h (x .1) v f)
+  unlent-too : (o : Op) → calls .slots o ≡ true → (b : Buf) (x : Bool × Track) (v : EpSeen) → Fitting x v
+      → Fitting (toggles D E .closes o (Refused 1) (toggles D E .opens o b x)) v
+  unlent-too o h b x v (inl e) = inl (rw e refl)
+  unlent-too o h b x v (inr (i, f)) = inr (i, unlent o h (x .1) v f)
 
   pub laws : Laws (toggles D E) Fitting
   laws = record {
@@ -240,7 +249,8 @@ module _ (D : Dir) (E : ℕ) (z : (d : Dir) → Else D E d 0) where
       fits-of (inr r) h = r .1
 
 -- after each call, of an endpoint that no call has allocated as an isochronous one: a poll is done exactly if a packet
--- with another sequence bit was served since (or a cleared halt finished its write); an interrupt that ends with a token
+-- with another sequence bit was served since (or a cleared halt finished its write); an interrupt that ends with a
+-- token
 -- of the endpoint has read its control word; where nothing is under way, the record has the bit with the last new
 -- packet, or DATA0 since it was enabled, its halt cleared, the bus reset; whether a completion is there; its length.
 -- Whatever the chip answers
@@ -297,7 +307,8 @@ module _ (D : Dir) (E : ℕ) (h : E % 16 ≡ 0 → ⊥) where
   word-law (aside o) = leaves-any D E (aside o) (λ _ _. tt)
 
   -- two logs of one outcome
-  together : {A : Type 0} {P : Bool × Track → A → St → Type 0} {Q : Writing → A → St → Type 0} {x : Bool × Track} {u : Writing}
+  together : {A : Type 0} {P : Bool × Track → A → St → Type 0} {Q : Writing → A → St
+      → Type 0} {x : Bool × Track} {u : Writing}
       {o : tree.Out St A} → Sees (toggles D E) (λ _ _. Unit {0}) P x o
       → Along (wrote D E) (λ _ _ _. Unit {0}) (following.Between D E) (λ _ _. Unit {0}) Q u o
       → Sees (words D E) (λ _ _. Unit {0}) (λ y a t. P (y .0, y .1) a t × Q (y .2) a t) (x .0, x .1, u) o
@@ -339,12 +350,15 @@ module _ (D : Dir) (E : ℕ) (h : E % 16 ≡ 0 → ⊥) where
   refused-leaves (aside o) u = tt
 
   abbrev WordEnds : Op → Bool × Track × Writing → Answer → St → Type 0
-  WordEnds o x a t = Fitting D E (not-ep0 D E h) (toggles D E .closes o a (x .0, x .1)) (view D E (t .0)) × (Few (ended a) → words D E .Fair o a x)
+  WordEnds o x a t = Fitting D E (not-ep0 D E h) (toggles D E .closes o a (x .0, x .1)) (view D E (t .0))
+      × (Few (ended a) → words D E .Fair o a x)
 
-  word-call : (o : Op) (x : Bool × Track × Writing) (s : St) → Fitting D E (not-ep0 D E h) (x .0, x .1) (view D E (s .0)) → Sorting (s .0)
-      → Sees (words D E) (λ _ _. Unit {0}) (WordEnds o) (words D E .opens o x) (run concrete (code o) s)
+  word-call : (o : Op) (x : Bool × Track × Writing) (s : St) → Fitting D E (not-ep0 D E h) (x .0, x .1) (view D E
+      (s .0)) → Sorting (s .0)
+      → Sees (words D E) (λ _ _. Unit {0}) (WordEnds o) (words D E .opens o (s .1) x) (run concrete (code o) s)
   word-call o x s (inl e) q = watch-any (λ y. y .0 ≡ true) (λ _ _ _. tt) (λ _ _ _ g. g)
-      (λ y a t g. (inl (rw g refl), λ _ z. differ (sym z ∙ g))) (words D E .opens o x) e (run concrete (code o) s)
+      (λ y a t g. (inl (rw g refl), λ _ z. differ (sym z ∙ g))) (words D E .opens o (s .1) x) e (run concrete
+      (code o) s)
   word-call o x s (inr (i, f)) q =
       watch-more (together (heard D E (not-ep0 D E h) o (x .0, x .1) s (inr (i, f)) q) (word-law o (x .1) s f i))
       (λ y a t p. (p .0 .0, λ _ _. p .1))
@@ -358,15 +372,17 @@ module _ (D : Dir) (E : ℕ) (h : E % 16 ≡ 0 → ⊥) where
         asks = L .asks;
         besides = L .besides;
         new = L .new;
-        unlent = λ o h x v r. L .unlent o h (x .0, x .1) v r;
+        unlent = λ o h b x v r. L .unlent o h b (x .0, x .1) v r;
         fair-1 = λ o _ x _. refused-leaves o (x .2);
       }
 
 -- DATA0 in the chip's control word (9.1.1.5, 9.4.5), of every endpoint but 0 that no call has allocated as an
--- isochronous one, over EVERY list of calls: a set_enabled, a cleared halt and a bus reset leave it with DATA0, on ACK where an OUT waits for a
+-- isochronous one, over EVERY list of calls: a set_enabled, a cleared halt and a bus reset leave it with DATA0, on ACK
+-- where an OUT waits for a
 -- packet, else on NAK; a begin_read that finds no packet there, and a begin_write, leave it on ACK. Whatever the chip
 -- answers
 pub code-control-words : (D : Dir) (E : ℕ) → (E % 16 ≡ 0 → ⊥) → (c : Config) (b : Buf) → startRow c b ≡ zero
     → (xs : List ℕ) (a : Buf) (first : Made) → first .event ≡ record { call = start c; lent = b } → (ms : List Made)
     → Steps xs a (first ∷ ms) → CodeAll (words D E) ms (startedBy (words D E) (first .answer))
-code-control-words D E h c b row xs a first e ms s = code-from-start (words D E) (word-laws D E h) c b row xs a first e ms s
+code-control-words D E h c b row xs a first e ms s = code-from-start (words D E)
+    (word-laws D E h) c b row xs a first e ms s

@@ -47,13 +47,16 @@ in-naks st n t e h = rw (e, h) (by (inToken t))
     by true = refl
     by false = refl
 
-own-rx : (e v : ℕ) → eqb e 0 ≡ true → (w : Log) → writes EpRxCtrl e (nak v) (compared EpRxCtrl e v w) ≡ withRx (nakked v (w .rx)) w
+own-rx : (e v : ℕ) → eqb e 0 ≡ true → (w : Log) → writes EpRxCtrl e (nak v) (compared EpRxCtrl e v w) ≡ withRx
+    (nakked v (w .rx)) w
 own-rx e v h w = rw h refl
 
-own-tx : (e v : ℕ) → eqb e 0 ≡ true → (w : Log) → writes EpTxCtrl e (nak v) (compared EpTxCtrl e v w) ≡ withTx (nakked v (w .tx)) w
+own-tx : (e v : ℕ) → eqb e 0 ≡ true → (w : Log) → writes EpTxCtrl e (nak v) (compared EpTxCtrl e v w) ≡ withTx
+    (nakked v (w .tx)) w
 own-tx e v h w = rw h refl
 
-others-ctrl : (d : Dir) (e v n : ℕ) → eqb e 0 ≡ false → (w : Log) → writes (ctrlOf d) e n (compared (ctrlOf d) e v w) ≡ w
+others-ctrl : (d : Dir) (e v n : ℕ) → eqb e 0 ≡ false → (w : Log)
+    → writes (ctrlOf d) e n (compared (ctrlOf d) e v w) ≡ w
 others-ctrl Out e v n h w = rw h refl
 others-ctrl In e v n h w = rw h refl
 
@@ -135,7 +138,8 @@ pub data Settled (w : Log) (v : View) (l : Log) (x : Transfer) (t : St) : Type 0
   others : eqb (endpoint (x .st)) 0 ≡ false → (b : Bool) (n : ℕ) → l ≡ withPhase (shows b (x .st) n) w → view (t .0) ≡ v
       → Plainly t → Settled w v l x t
   mine : eqb (endpoint (x .st)) 0 ≡ true → (u : ℕ)
-      → l ≡ withPhase (shows (x .busy) (x .st) (x .len)) (naked (token (x .st)) (x .busy) (togOk (x .st)) u w) → view (t .0) ≡ v
+      → l ≡ withPhase (shows (x .busy) (x .st) (x .len)) (naked (token (x .st)) (x .busy) (togOk (x .st)) u w)
+      → view (t .0) ≡ v
       → Plainly t → Settled w v l x t
 
 pub naked-busy : (t : Token) (ok : Bool) (u : ℕ) (w : Log) → naked t true ok u w ≡ w
@@ -145,7 +149,8 @@ naked-busy tok.Sof ok u w = refl
 naked-busy tok.Setup ok u w = refl
 
 looked : (w : Log) (b : Bool) (st m n : ℕ) (s : St) → Plainly s
-    → Watch Between Any (Exactly (withPhase (shows b st m) w) (view (s .0))) (withPhase (shows b st m) w) (run concrete (looks {i = true} n) s)
+    → Watch Between Any (Exactly (withPhase (shows b st m) w) (view (s .0))) (withPhase (shows b st m) w)
+    (run concrete (looks {i = true} n) s)
 unfolding looks
 looked w b st m zero s k = at-end (refl, refl, k)
 looked w b st m (suc n) s k = at-ask tt
@@ -157,7 +162,8 @@ stays : (w : Log) (s t : St) (x : Transfer) → x .busy ≡ true → view (t .0)
     → Settled w (view (s .0)) (withPhase (shows true (x .st) (x .len)) w) x t
 stays w s t x b e k = by (eqb (endpoint (x .st)) 0) refl
   where
-    by : (z : Bool) → eqb (endpoint (x .st)) 0 ≡ z → Settled w (view (s .0)) (withPhase (shows true (x .st) (x .len)) w) x t
+    by : (z : Bool) → eqb (endpoint (x .st)) 0 ≡ z → Settled w (view (s .0)) (withPhase (shows true (x .st)
+        (x .len)) w) x t
     by true h = mine h 0 (rw (b, naked-busy (token (x .st)) (togOk (x .st)) 0 w) refl) e k
     by false h = others h true (x .len) refl e k
 
@@ -170,17 +176,20 @@ flag-taken : (st n f : ℕ) (w : Log) → transfer f ≡ false
 flag-taken st n f w q = rw q refl
 
 retakes : (w : Log) (s : St) (x : Transfer) → x .busy ≡ true → Plainly s
-    → Watch Between Any (λ l y t. Settled w (view (s .0)) l y t) (withPhase (shows true (x .st) (x .len)) w) (run concrete (retake {i = true} x) s)
+    → Watch Between Any (λ l y t. Settled w (view (s .0)) l y t) (withPhase (shows true (x .st) (x .len)) w)
+    (run concrete (retake {i = true} x) s)
 retakes w s x b k = at-ask tt (λ m t _ i. watch-cond (sieFree m)
     (λ _. at-ask {q = Read IntFg 0} tt (λ f u _ j. watch-cond (transfer f)
     (λ q. back (flag-kept (x .st) (x .len) f w q) (at-end (stays w s u x b (j .0 ∙ i .0) (plainly (j .1)))))
     (λ q. back (flag-taken (x .st) (x .len) f w q)
-    (at-ask {w = withPhase (again (x .len)) w} {q = Read IntSt 0} tt (λ st o _ l. named st o (l .0 ∙ (j .0 ∙ i .0)) (plainly (l .1)))))))
+    (at-ask {w = withPhase (again (x .len)) w} {q = Read IntSt 0} tt (λ st o _ l. named st o (l .0 ∙ (j .0
+    ∙ i .0)) (plainly (l .1)))))))
     (λ _. at-end (stays w s t x b (i .0) (plainly (i .1)))))
   where
     named : (st : ℕ) (o : St) → view (o .0) ≡ view (s .0) → Plainly o
         → Watch Between Any (λ l y t. Settled w (view (s .0)) l y t)
-        (withPhase (shows false st (x .len)) w) (run {i = true} concrete (bind (nakNonIso st) (λ _. ret (retaken x st))) o)
+        (withPhase (shows false st (x .len)) w) (run {i = true} concrete (bind (nakNonIso st) (λ _. ret
+        (retaken x st))) o)
     named st o e n = by (eqb (endpoint st) 0) refl
       where
         by : (z : Bool) → eqb (endpoint st) 0 ≡ z
@@ -188,7 +197,8 @@ retakes w s x b k = at-ask tt (λ m t _ i. watch-cond (sieFree m)
             (run {i = true} concrete (bind (nakNonIso st) (λ _. ret (retaken x st))) o)
         by true h = watch-bind (nak-own w false st (x .len) o n st h (token st) refl (togOk st) refl)
             (λ y _ u m. at-end (mine h (m .read) (m .log) (m .shown ∙ e) (m .plain)))
-        by false h = watch-bind (nak-other w false st (x .len) o n st h) (λ y _ u m. at-end (others h false (x .len) (m .0) (m .1 ∙ e) (m .2)))
+        by false h = watch-bind (nak-other w false st (x .len) o n st h) (λ y _ u m. at-end (others h false (x .len)
+            (m .0) (m .1 ∙ e) (m .2)))
 
 -- ---- which waits there are
 
@@ -225,7 +235,8 @@ settles v w s x k = by (eqb (endpoint (x .st)) 0) refl (x .busy) refl
     plain-out h = ap (λ (e : ℕ). isOn (concrete .get (ep-cell Out e) s .iso)) (eqb-true (endpoint (x .st)) 0 h) ∙ k .plain Out
 
     by : (m : Bool) → eqb (endpoint (x .st)) 0 ≡ m → (b : Bool) → x .busy ≡ b
-        → Watch Between Any (λ l y t. Settled w (view (s .0)) l y t) (entry v w x) (run concrete (settle {i = true} x) s)
+        → Watch Between Any (λ l y t. Settled w (view (s .0)) l y t) (entry v w x) (run concrete
+        (settle {i = true} x) s)
     -- EP0, complete
     by true h false b =
         watch-cond (waitsForIso x O) (λ q. differ (sym b ∙ iso-waits x O q .0)) (λ _. watch-cond (waitsForBulk x N) (λ q. differ (sym b ∙ bulk-waits x N q .0))
@@ -234,12 +245,14 @@ settles v w s x k = by (eqb (endpoint (x .st)) 0) refl (x .busy) refl
     by true h true b =
         watch-cond (waitsForIso x O) (λ q. differ (sym (plain-out h) ∙ iso-waits x O q .1))
         (λ _. watch-cond (waitsForBulk x N) (λ q. differ (sym (bulk-waits x N q .1) ∙ h))
-        (λ _. watch-cond (x .busy) (λ _. back (rw (h, b, naked-busy (token (x .st)) (togOk (x .st)) v w) refl) (retakes w s x b k)) (λ q. differ (sym q ∙ b))))
+        (λ _. watch-cond (x .busy) (λ _. back (rw (h, b, naked-busy (token (x .st)) (togOk (x .st)) v w) refl)
+        (retakes w s x b k)) (λ q. differ (sym q ∙ b))))
     -- another
     by false h true b = back (rw (h, b) refl) (
         watch-cond (waitsForIso x O)
         (λ _. watch-bind (looked w true (x .st) (x .len) 2001 s k) (λ y _ t m. back (m .0)
-        (at-ask tt (λ now u _ i. at-ask tt (λ n o _ j. at-end (others h true n refl (j .0 ∙ (i .0 ∙ m .1)) (plainly (j .1))))))))
+        (at-ask tt (λ now u _ i. at-ask tt (λ n o _ j. at-end (others h true n refl (j .0 ∙ (i .0
+        ∙ m .1)) (plainly (j .1))))))))
         (λ _. watch-cond (waitsForBulk x N)
         (λ _. watch-bind (looked w true (x .st) (x .len) 2001 s k)
         (λ y _ t m. back (m .0) (at-ask tt (λ n o _ j. at-end (others h true n refl (j .0 ∙ m .1) (plainly (j .1)))))))

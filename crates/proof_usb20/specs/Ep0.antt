@@ -37,6 +37,7 @@ pub record View : Type 0 where
   pub setup-ready : ℕ
   pub stage : ℕ
   pub maximum : ℕ
+  pub buffer : ℕ
 
 abbrev pub recOf : EpState → Rec
 recOf r = record { ready = r .ready; armed = r .armed; len = r .len }
@@ -49,6 +50,7 @@ view d = record {
   setup-ready = d .globals .«setup_ready»;
   stage = d .globals .stage;
   maximum = d .globals .«ep0_max»;
+  buffer = d .globals .«ep0_buf»;
 }
 
 -- ---- it fits
@@ -111,17 +113,19 @@ Says for-status c = c .sort ≡ ACCEPT
 Says (for-data-out m) c = (c .sort ≡ DATA-OUT) × (c .length ≡ m)
 
 -- what is so whether the log is exempt or not
-pub record Base (q : Request) (b : Bool) (x : View) : Type 0 where
+pub record Base (q : Request) (b : Bool) (at : ℕ) (x : View) : Type 0 where
   pub says : Says q (x .control)
   pub started : eqb (x .stage) 2 ≡ b
   pub maximum : b ≡ true → x .maximum ≡ 64
+  pub slot : b ≡ true → x .buffer ≡ at
 
 -- the log says nothing, or the state fits it
-abbrev pub Line : Request → Bool → Bool → Ep0Word → Ep0Word → ℕ → ℕ → Pipe → Awaited → Bool → View → Type 0
-Line q b exempt rx tx len got p a u x = Base q b x × ((exempt ≡ true) ⊎ Rel rx tx len got p a u x)
+abbrev pub Line : Request → Bool → ℕ → Bool → Ep0Word → Ep0Word → ℕ → ℕ → Pipe → Awaited → Bool → View → Type 0
+Line q b slot exempt rx tx len got p a u x = Base q b slot x × ((exempt ≡ true) ⊎ Rel rx tx len got p a u x)
 
 abbrev pub R : Log → View → Type 0
-R w x = Line (w .request) (w .started) (w .exempt) (w .rx) (w .tx) (w .len) (w .got) (w .pipe) (w .awaits) (w .untaken) x
+R w x = Line (w .request) (w .started) (w .slot) (w .exempt) (w .rx) (w .tx) (w .len) (w .got) (w .pipe) (w .awaits)
+    (w .untaken) x
 
 -- ---- the law of a call
 
@@ -138,4 +142,5 @@ abbrev pub Ends : Op → Log → Answer → St → Type 0
 Ends o w a s = R (closes o a w) (view (s .0)) × Fair o a w
 
 abbrev pub Law : Op → Type 0
-Law o = (w : Log) (s : St) → R w (view (s .0)) → Sorting (s .0) → Watch Between (Allowed o) (Ends o) (opens o w) (run concrete (code o) s)
+Law o = (w : Log) (s : St) → R w (view (s .0)) → Sorting (s .0)
+    → Watch Between (Allowed o) (Ends o) (opens o (s .1) w) (run concrete (code o) s)

@@ -14,8 +14,8 @@ use Rattle.script_ops.specs.Concrete.{concrete}
 use Rattle.proof_book.specs.LeavesLaws.{Leaves, record-leaves, narrow, RingsOnly, turns, act-leaves, hand-leaves}
 use Rattle.proof_usb20.specs.Ep0.{recOf, view}
 
-abbrev seenOf : Driver → Control × ℕ × ℕ × ℕ
-seenOf d = (d .control, d .globals .«setup_ready», d .globals .stage, d .globals .«ep0_max»)
+abbrev seenOf : Driver → Control × ℕ × ℕ × ℕ × ℕ
+seenOf d = (d .control, d .globals .«setup_ready», d .globals .stage, d .globals .«ep0_max», d .globals .«ep0_buf»)
 
 leaves-view : {d d′ : Driver} → Leaves recOf seenOf d d′ → view d′ ≡ view d
 leaves-view p = λ i. record {
@@ -25,6 +25,7 @@ leaves-view p = λ i. record {
   setup-ready = p .rest i .1;
   stage = p .rest i .2;
   maximum = p .rest i .3;
+  buffer = p .rest i .4;
 }
 
 -- a change of one endpoint's record that keeps its flags
@@ -34,7 +35,7 @@ record-view d dir e r h = leaves-view (record-leaves d dir e r h refl)
 
 rings-view : (t : Bool) {d d′ : Driver} → RingsOnly t d d′ → view d′ ≡ view d
 rings-view t p = leaves-view (narrow (λ r. record { ready = r .ready; armed = r .armed; len = r .len })
-    (λ x. (x .3, x .0 .«setup_ready», x .0 .stage, x .0 .«ep0_max»)) p)
+    (λ x. (x .3, x .0 .«setup_ready», x .0 .stage, x .0 .«ep0_max», x .0 .«ep0_buf»)) p)
 
 pub act-view : (q : Act) → allocates q ≡ false → (s : St) → view (concrete .act q s .0) ≡ view (s .0)
 act-view q h s = rings-view (turns q) (act-leaves q h s)

@@ -17,7 +17,8 @@ use Rattle.script.specs.ControlLaws.{nak-keeps, flips}
 use Rattle.proof_usb20.specs.Pipe.{data-stage, status-stage, Answers, naks, stalls, acks, Half, gone, renewed}
 use Rattle.proof_usb20.specs.Pipe.{isReady, isStall, dataReady, Pipe, with, setup, token, after, Awaited, nothing}
 use Rattle.proof_usb20.specs.Pipe.{taken, given, confirmed}
-use Rattle.proof_usb20.specs.Log.{Ep0Word, writtenAs, readAs, shownAs, anew, Request, no-request, for-setup, for-data-in}
+use Rattle.proof_usb20.specs.Log.{Ep0Word, writtenAs, readAs, shownAs, anew, Request, no-request, for-setup}
+use Rattle.proof_usb20.specs.Log.{for-data-in}
 use Rattle.proof_usb20.specs.Log.{for-status, for-data-out, isStage, isNothing, Shows}
 use Rattle.proof_usb20.specs.Ep0.{Rec, View, Fits, Unstaged, Rests, unstaged, set-up, Due, Gives, first-wait}
 use Rattle.proof_usb20.specs.Ep0.{second-wait, Waits, Rel, Says}
@@ -54,7 +55,8 @@ nakflipped v c = writtenAs (nakflip v) (readAs v c)
 as-written : (a : Bool) (v n : ℕ) → a && eqb v n ≡ true → (a ≡ true) × (v ≡ n)
 as-written a v n h = let p = both a (eqb v n) h in (p .0, eqb-true v n (p .1))
 
-flipped-naks : (u v : ℕ) (c : Ep0Word) → (c .read-back && eqb u (c .last)) && eqb v (nak u) ≡ true → response (flip v) ≡ word.NAK
+flipped-naks : (u v : ℕ) (c : Ep0Word) → (c .read-back && eqb u (c .last)) && eqb v (nak u) ≡ true
+    → response (flip v) ≡ word.NAK
 flipped-naks u v c k = let p = as-written (c .read-back && eqb u (c .last)) v (nak u) k in
     flip-response v ∙ (ap response (p .1) ∙ nak-naks u)
 
@@ -147,8 +149,10 @@ waits-out (confirmed s) p x n h w = w
 
 stray-gives-out : (last : Bool) (p : Pipe) (x : View) (n : ℕ) → p .out .answers ≡ naks → Gives last p x
     → Gives last p (setOut (completed n) x)
-stray-gives-out last p x n h (first-wait k i o) = first-wait k i (λ l. due-stray (p .out) (x .out) (completed n) h (o l) on)
-stray-gives-out last p x n h (second-wait k l i o) = second-wait k l i (due-stray (p .out) (x .out) (completed n) h o on)
+stray-gives-out last p x n h (first-wait k i o) = first-wait k i (λ l. due-stray (p .out) (x .out) (completed n) h
+    (o l) on)
+stray-gives-out last p x n h (second-wait k l i o) = second-wait k l i (due-stray (p .out) (x .out)
+    (completed n) h o on)
 
 stray-waits-out : (a : Awaited) (q : Request) (p : Pipe) (x : View) (n : ℕ) → p .out .answers ≡ naks
     → isStage q && isNothing a ≡ false → Says q (x .control) → Waits a p x → Waits a p (setOut (completed n) x)
@@ -166,7 +170,8 @@ or-true true = refl
 or-true false = refl
 
 -- `exempt`, or not; a request of this sort
-pub packet-out : {rx tx : Ep0Word} {l g : ℕ} {p : Pipe} {a : Awaited} {w : Bool} {x : View} (exempt : Bool) (q : Request) (u v n : ℕ)
+pub packet-out : {rx tx : Ep0Word} {l g : ℕ} {p : Pipe} {a : Awaited} {w : Bool} {x : View} (exempt : Bool)
+    (q : Request) (u v n : ℕ)
     → Says q (x .control) → (exempt ≡ true) ⊎ Rel rx tx l g p a w x
     → (exempt || (not (isReady (p .out .answers)) && (isStall (p .out .answers) || (isStage q && isNothing a))) ≡ true)
     ⊎ Rel (flipped v (shownAs (isReady (p .out .answers)) (nakked u rx))) tx l n
@@ -235,7 +240,8 @@ stray-waits-in taken q p x n h e s w = w
 stray-waits-in (given last) q p x n h e s w = (w .0, w .1, stray-gives-in last p x n h (w .2))
 stray-waits-in (confirmed c) q p x n h e s w = (w .0, due-stray (p .inn) (x .inn) (completed n) h (w .1) on, w .2)
 
-pub packet-in : {rx tx : Ep0Word} {l g : ℕ} {p : Pipe} {a : Awaited} {w : Bool} {x : View} (exempt : Bool) (q : Request) (u v n : ℕ)
+pub packet-in : {rx tx : Ep0Word} {l g : ℕ} {p : Pipe} {a : Awaited} {w : Bool} {x : View} (exempt : Bool)
+    (q : Request) (u v n : ℕ)
     → Says q (x .control) → (exempt ≡ true) ⊎ Rel rx tx l g p a w x
     → (exempt || (not (isReady (p .inn .answers)) && (isStall (p .inn .answers) || (isStage q && isNothing a))) ≡ true)
     ⊎ Rel rx (flipped v (shownAs (isReady (p .inn .answers)) (nakked u tx))) l g
@@ -280,10 +286,12 @@ data-is-ready (acks status-stage) h = refl
 pub token-out : {rx tx : Ep0Word} {l g : ℕ} {p : Pipe} {a : Awaited} {u : Bool} {x : View} (v : ℕ) (m : Bool)
     → isOn (x .inn .armed) ≡ m → Rel rx tx l g p a u x
     → Rel rx (cond m (nakflipped v tx) tx) l g (after (token Out) p) a u (cond m (setIn (completed (x .inn .len)) x) x)
-token-out {rx = rx} {tx = tx} {l = l} {g = g} {p = p} {a = a} {u = u} {x = x} v m e r = by m (dataReady (p .inn .answers)) refl e
+token-out {rx = rx} {tx = tx} {l = l} {g = g} {p = p} {a = a} {u = u} {x = x} v m e r = by m (dataReady
+    (p .inn .answers)) refl e
   where
     by : (m d : Bool) → dataReady (p .inn .answers) ≡ d → isOn (x .inn .armed) ≡ m
-        → Rel rx (cond m (nakflipped v tx) tx) l g (with In (cond d (gone (p .inn)) (p .inn)) p) a u (cond m (setIn (completed (x .inn .len)) x) x)
+        → Rel rx (cond m (nakflipped v tx) tx) l g (with In (cond d (gone (p .inn)) (p .inn)) p) a u (cond m (setIn
+        (completed (x .inn .len)) x) x)
     by true true h e = record {
       stage = r .stage;
       out = r .out;
@@ -302,7 +310,8 @@ token-out {rx = rx} {tx = tx} {l = l} {g = g} {p = p} {a = a} {u = u} {x = x} v 
 pub token-in : {rx tx : Ep0Word} {l g : ℕ} {p : Pipe} {a : Awaited} {u : Bool} {x : View} (v : ℕ) (m : Bool)
     → isOn (x .out .armed) ≡ m → Rel rx tx l g p a u x
     → Rel (cond m (nakflipped v rx) rx) tx l g (after (token In) p) a u (cond m (setOut (completed (x .out .len)) x) x)
-token-in {rx = rx} {tx = tx} {l = l} {g = g} {p = p} {a = a} {u = u} {x = x} v m e r = by m (dataReady (p .out .answers)) refl e
+token-in {rx = rx} {tx = tx} {l = l} {g = g} {p = p} {a = a} {u = u} {x = x} v m e r = by m (dataReady
+    (p .out .answers)) refl e
   where
     by : (m d : Bool) → dataReady (p .out .answers) ≡ d → isOn (x .out .armed) ≡ m
         → Rel (cond m (nakflipped v rx) rx) tx l g (with Out (cond d (gone (p .out)) (p .out)) p) a u
@@ -330,7 +339,8 @@ fresh c r h = record { shows = λ _. h; toggles = λ _ b. differ b; armed = off 
 
 pub set-up-fits : (rx tx : Ep0Word) (l g : ℕ) (p : Pipe) (x : View) → x .stage ≡ 2
     → response (rx .last) ≡ word.NAK → response (tx .last) ≡ word.NAK
-    → Rel (anew true rx) (anew true tx) l g (after setup p) nothing true (setReady 1 (setIn (aborted (x .inn)) (setOut (aborted (x .out)) x)))
+    → Rel (anew true rx) (anew true tx) l g (after setup p) nothing true (setReady 1 (setIn (aborted (x .inn)) (setOut
+    (aborted (x .out)) x)))
 set-up-fits rx tx l g p x s h k = record {
   stage = s;
   out = fresh rx (x .out) h;

@@ -84,15 +84,18 @@ abbrev pub Fit : Log → View → Type 0
 Fit w x = (w .exempt ≡ true) ⊎ Rel (w .rx) (w .tx) (w .len) (w .got) (w .pipe) (w .awaits) (w .untaken) x
 
 -- exempt, or a choice in order
-chooses : (c : Choice) (w : Log) (x y : View) (u : Log) → (w .exempt ≡ true) ⊎ Rel (u .rx) (u .tx) (u .len) (u .got) (u .pipe) (u .awaits) (u .untaken) x
+chooses : (c : Choice) (w : Log) (x y : View) (u : Log) → (w .exempt ≡ true) ⊎ Rel (u .rx) (u .tx) (u .len) (u .got)
+    (u .pipe) (u .awaits) (u .untaken) x
     → (orderly c (w .pipe) ≡ true → Rel (u .rx) (u .tx) (u .len) (u .got) (u .pipe) (u .awaits) (u .untaken) x
-    → Rel (choose c w .rx) (choose c w .tx) (choose c w .len) (choose c w .got) (chosen c (w .pipe)) (choose c w .awaits) (w .untaken) y)
+    → Rel (choose c w .rx) (choose c w .tx) (choose c w .len) (choose c w .got) (chosen c (w .pipe))
+    (choose c w .awaits) (w .untaken) y)
     → Fit (choose c w) y
 chooses c w x y u (inl e) f = inl (rw e refl)
 chooses c w x y u (inr r) f = by (w .exempt) (orderly c (w .pipe)) refl
   where
     by : (e o : Bool) → orderly c (w .pipe) ≡ o
-        → (e || not o ≡ true) ⊎ Rel (choose c w .rx) (choose c w .tx) (choose c w .len) (choose c w .got) (chosen c (w .pipe)) (choose c w .awaits) (w .untaken) y
+        → (e || not o ≡ true) ⊎ Rel (choose c w .rx) (choose c w .tx) (choose c w .len) (choose c w .got) (chosen c
+        (w .pipe)) (choose c w .awaits) (w .untaken) y
     by true o h = inl refl
     by false false h = inl refl
     by false true h = inr (f h r)
@@ -117,7 +120,8 @@ readied-due : (s : Stage) (first : Bool) (h : Half) (r : Rec) → isOn (r .ready
 readied-due s first h r e = record { ready = e; pends = refl; begun = refl }
 
 -- data_out: its first packet
-pub fits-takes-first : (w : Log) (x : View) (n : ℕ) (c : Ep0Word) → response (c .last) ≡ word.ACK → toggle (c .last) ≡ 1 → Fit w x
+pub fits-takes-first : (w : Log) (x : View) (n : ℕ) (c : Ep0Word) → response (c .last) ≡ word.ACK
+    → toggle (c .last) ≡ 1 → Fit w x
     → Fit (choose (takes true) (withGot n (withRx c w)))
     (setOut (record { ready = 0; armed = 1; len = n }) (setControl (requestOf DATA-OUT n) x))
 fits-takes-first w x n c a t f = chooses (takes true) (withGot n (withRx c w)) x _ w f (λ o r. record {
@@ -133,28 +137,32 @@ fits-takes-first w x n c a t f = chooses (takes true) (withGot n (withRx c w)) x
 pub fits-takes-next : (w : Log) (x : View) (n v : ℕ) → Fit w x
     → Fit (choose (takes false) (withGot n (withRx (writtenAs (ack v) (readAs v (w .rx))) w)))
     (setOut (record { ready = 0; armed = 1; len = n }) (setControl (requestOf DATA-OUT n) x))
-fits-takes-next w x n v f = chooses (takes false) (withGot n (withRx (writtenAs (ack v) (readAs v (w .rx))) w)) x _ w f (λ o r. record {
-  stage = r .stage;
-  out = next-ready data-stage v (w .rx) (w .pipe .out) (x .out) _ (r .out) o on;
-  inn = r .inn;
-  waits = (refl, readied-due data-stage false (w .pipe .out) _ off);
-  size = r .size;
-  received = λ _. refl;
-  setup = r .setup;
-})
+fits-takes-next w x n v f = chooses (takes false) (withGot n (withRx (writtenAs (ack v) (readAs v
+    (w .rx))) w)) x _ w f (λ o r. record {
+      stage = r .stage;
+      out = next-ready data-stage v (w .rx) (w .pipe .out) (x .out) _ (r .out) o on;
+      inn = r .inn;
+      waits = (refl, readied-due data-stage false (w .pipe .out) _ off);
+      size = r .size;
+      received = λ _. refl;
+      setup = r .setup;
+    })
 
 -- the last packet of a data_in: the status stage OUT is made ready with it
-module _ (w : Log) (x : View) (n : ℕ) (u : Ep0Word) (ua : response (u .last) ≡ word.ACK) (ut : toggle (u .last) ≡ 1) where
+module _ (w : Log) (x : View) (n : ℕ) (u : Ep0Word) (ua : response (u .last) ≡ word.ACK) (ut : toggle
+    (u .last) ≡ 1) where
   abbrev closed : View
   closed = setIn (record { ready = 0; armed = 1; len = x .inn .len })
       (setOut (record { ready = 0; armed = x .out .armed; len = 0 }) (setControl (dataInOf n 1 1) x))
 
-  closing : dataReady (w .pipe .out .answers) ≡ false → Fits (w .rx) (w .pipe .out) (x .out) → isOn (x .out .armed) ≡ false
+  closing : dataReady (w .pipe .out .answers) ≡ false → Fits (w .rx) (w .pipe .out) (x .out)
+      → isOn (x .out .armed) ≡ false
   closing d f = f .armed ∙ d
 
   pub fits-gives-last-first : (c : Ep0Word) → response (c .last) ≡ word.ACK → toggle (c .last) ≡ 1 → Fit w x
       → Fit (choose (gives n true true) (withGot 0 (withTx c (withLen n (withRx u w))))) closed
-  fits-gives-last-first c a t f = chooses (gives n true true) (withGot 0 (withTx c (withLen n (withRx u w)))) x _ w f (λ o r.
+  fits-gives-last-first c a t f = chooses (gives n true true) (withGot 0 (withTx c (withLen n (withRx u w)))) x _ w f
+      (λ o r.
       let d = negated (dataReady (w .pipe .out .answers)) o in record {
         stage = r .stage;
         out = first-ready status-stage u (w .pipe .out) _ ua ut (closing d (r .out));
@@ -162,7 +170,8 @@ module _ (w : Log) (x : View) (n : ℕ) (u : Ep0Word) (ua : response (u .last) �
         waits = (
           refl,
           on,
-          first-wait refl (readied-due data-stage true (w .pipe .inn) _ off) (λ _. readied-due status-stage true (w .pipe .out) _ off),
+          first-wait refl (readied-due data-stage true (w .pipe .inn) _ off) (λ _. readied-due status-stage true
+              (w .pipe .out) _ off),
         );
         size = λ _. refl;
         received = λ _. refl;
@@ -170,9 +179,11 @@ module _ (w : Log) (x : View) (n : ℕ) (u : Ep0Word) (ua : response (u .last) �
       })
 
   pub fits-gives-last-next : (v : ℕ) → Fit w x
-      → Fit (choose (gives n false true) (withGot 0 (withTx (writtenAs (ack v) (readAs v (w .tx))) (withLen n (withRx u w))))) closed
+      → Fit (choose (gives n false true) (withGot 0 (withTx (writtenAs (ack v) (readAs v (w .tx))) (withLen n
+      (withRx u w))))) closed
   fits-gives-last-next v f =
-      chooses (gives n false true) (withGot 0 (withTx (writtenAs (ack v) (readAs v (w .tx))) (withLen n (withRx u w)))) x _ w f (λ o r.
+      chooses (gives n false true) (withGot 0 (withTx (writtenAs (ack v) (readAs v (w .tx))) (withLen n
+      (withRx u w)))) x _ w f (λ o r.
       let z = both (w .pipe .inn .begun) (not (dataReady (w .pipe .out .answers))) o in
       let d = negated (dataReady (w .pipe .out .answers)) (z .1) in record {
         stage = r .stage;
@@ -181,7 +192,8 @@ module _ (w : Log) (x : View) (n : ℕ) (u : Ep0Word) (ua : response (u .last) �
         waits = (
           refl,
           on,
-          first-wait refl (readied-due data-stage false (w .pipe .inn) _ off) (λ _. readied-due status-stage true (w .pipe .out) _ off),
+          first-wait refl (readied-due data-stage false (w .pipe .inn) _ off) (λ _. readied-due status-stage true
+              (w .pipe .out) _ off),
         );
         size = λ _. refl;
         received = λ _. refl;
@@ -189,7 +201,8 @@ module _ (w : Log) (x : View) (n : ℕ) (u : Ep0Word) (ua : response (u .last) �
       })
 
 -- another one
-pub fits-gives-first : (w : Log) (x : View) (n : ℕ) (c : Ep0Word) → response (c .last) ≡ word.ACK → toggle (c .last) ≡ 1 → Fit w x
+pub fits-gives-first : (w : Log) (x : View) (n : ℕ) (c : Ep0Word) → response (c .last) ≡ word.ACK
+    → toggle (c .last) ≡ 1 → Fit w x
     → Fit (choose (gives n true false) (withTx c (withLen n w)))
     (setIn (record { ready = 0; armed = 1; len = x .inn .len }) (setControl (dataInOf n 0 1) x))
 fits-gives-first w x n c a t f = chooses (gives n true false) (withTx c (withLen n w)) x _ w f (λ o r. record {
@@ -205,7 +218,8 @@ fits-gives-first w x n c a t f = chooses (gives n true false) (withTx c (withLen
 pub fits-gives-next : (w : Log) (x : View) (n v : ℕ) → Fit w x
     → Fit (choose (gives n false false) (withTx (writtenAs (ack v) (readAs v (w .tx))) (withLen n w)))
     (setIn (record { ready = 0; armed = 1; len = x .inn .len }) (setControl (dataInOf n 0 1) x))
-fits-gives-next w x n v f = chooses (gives n false false) (withTx (writtenAs (ack v) (readAs v (w .tx))) (withLen n w)) x _ w f (λ o r.
+fits-gives-next w x n v f = chooses (gives n false false) (withTx (writtenAs (ack v) (readAs v (w .tx)))
+    (withLen n w)) x _ w f (λ o r.
     let z = both (w .pipe .inn .begun) true o in record {
       stage = r .stage;
       out = kept-word (r .out);
@@ -247,11 +261,13 @@ none-staged = record {
 }
 
 pub fits-rejects : (w : Log) (x : View) (u v : ℕ) → Fit w x
-    → Fit (choose rejects (withRx (writtenAs (stall u) (readAs u (w .rx))) (withTx (writtenAs (stall v) (readAs v (w .tx))) w)))
+    → Fit (choose rejects (withRx (writtenAs (stall u) (readAs u (w .rx))) (withTx (writtenAs (stall v) (readAs v
+    (w .tx))) w)))
     (setIn (record { ready = x .inn .ready; armed = 0; len = x .inn .len })
     (setOut (record { ready = x .out .ready; armed = 0; len = x .out .len }) (setControl no-control x)))
 fits-rejects w x u v f =
-    chooses rejects (withRx (writtenAs (stall u) (readAs u (w .rx))) (withTx (writtenAs (stall v) (readAs v (w .tx))) w)) x _ w f (λ o r. record {
+    chooses rejects (withRx (writtenAs (stall u) (readAs u (w .rx))) (withTx (writtenAs (stall v) (readAs v
+    (w .tx))) w)) x _ w f (λ o r. record {
       stage = r .stage;
       out = halts u (w .rx) (w .pipe .out) (x .out) (r .out);
       inn = halts v (w .tx) (w .pipe .inn) (x .inn) (r .inn);

@@ -31,7 +31,8 @@ use Rattle.script_ops.specs.Concrete.{concrete}
 use Rattle.proof_book.specs.TransferKindsLaws.{put-steady, act-steady}
 use Rattle.proof_usb20.specs.Pipe as pipe
 use Rattle.proof_usb20.specs.Pipe.{isReady, packet}
-use Rattle.proof_usb20.specs.Log.{Ep0Word, writtenAs, readAs, shownAs, Log, off, reads, compared, writes, withRx, withTx}
+use Rattle.proof_usb20.specs.Log.{Ep0Word, writtenAs, readAs, shownAs, Log, off, reads, compared, writes, withRx}
+use Rattle.proof_usb20.specs.Log.{withTx}
 use Rattle.proof_usb20.specs.Log.{withGot, withPhase, happens, ofToken}
 use Rattle.proof_usb20.specs.Watch.{at-end, at-ask}
 use Rattle.proof_usb20.specs.WatchLaws.{watch-bind, watch-more, watch-cond}
@@ -42,40 +43,43 @@ use Rattle.proof_usb20.specs.Ep0Laws.{act-view}
 use Rattle.proof_usb20.specs.StagesLaws.{inWith, Whole, out-view, in-view, in-whole}
 use Rattle.proof_usb20.specs.QuietLaws.{Plainly, plainly, steadily, Any, Quiet, q-ret, q-bind, q-if, q-every}
 use Rattle.proof_usb20.specs.PartsLaws.{q-got, q-when, q-sof, q-late, q-check, q-sof-arm, q-dispatch}
-use Rattle.proof_usb20.specs.EventsLaws.{completed, nakked, flipped, nakflipped, packet-out, packet-in, token-out, token-in}
+use Rattle.proof_usb20.specs.EventsLaws.{completed, nakked, flipped, nakflipped, packet-out, packet-in, token-out}
+use Rattle.proof_usb20.specs.EventsLaws.{token-in}
 
 -- ---- the events, of a log that may be exempt; u, v, y: what was read of the words
 
 -- the token OUT alone
 pub r-token-out : (w : Log) (x : View) (y : ℕ) (m : Bool) → isOn (x .inn .armed) ≡ m → R w x
-    → R (withTx (cond m (nakflipped y (w .tx)) (w .tx)) (happens (pipe.token Out) w)) (cond m (setIn (completed (x .inn .len)) x) x)
+    → R (withTx (cond m (nakflipped y (w .tx)) (w .tx)) (happens (pipe.token Out) w)) (cond m (setIn (completed
+    (x .inn .len)) x) x)
 r-token-out w x y m h (k, inl e) = (kept m k, inl (rw e refl))
   where
-    kept : (m : Bool) → Base (w .request) (w .started) x
-        → Base (w .request) (w .started) (cond m (setIn (completed (x .inn .len)) x) x)
-    kept true k = record { says = k .says; started = k .started; maximum = k .maximum }
+    kept : (m : Bool) → Base (w .request) (w .started) (w .slot) x
+        → Base (w .request) (w .started) (w .slot) (cond m (setIn (completed (x .inn .len)) x) x)
+    kept true k = record { says = k .says; started = k .started; maximum = k .maximum; slot = k .slot }
     kept false k = k
 r-token-out w x y m h (k, inr r) = (kept m k, inr (token-out y m h r))
   where
-    kept : (m : Bool) → Base (w .request) (w .started) x
-        → Base (w .request) (w .started) (cond m (setIn (completed (x .inn .len)) x) x)
-    kept true k = record { says = k .says; started = k .started; maximum = k .maximum }
+    kept : (m : Bool) → Base (w .request) (w .started) (w .slot) x
+        → Base (w .request) (w .started) (w .slot) (cond m (setIn (completed (x .inn .len)) x) x)
+    kept true k = record { says = k .says; started = k .started; maximum = k .maximum; slot = k .slot }
     kept false k = k
 
 -- the token IN alone
 pub r-token-in : (w : Log) (x : View) (y : ℕ) (m : Bool) → isOn (x .out .armed) ≡ m → R w x
-    → R (withRx (cond m (nakflipped y (w .rx)) (w .rx)) (happens (pipe.token In) w)) (cond m (setOut (completed (x .out .len)) x) x)
+    → R (withRx (cond m (nakflipped y (w .rx)) (w .rx)) (happens (pipe.token In) w)) (cond m (setOut (completed
+    (x .out .len)) x) x)
 r-token-in w x y m h (k, inl e) = (kept m k, inl (rw e refl))
   where
-    kept : (m : Bool) → Base (w .request) (w .started) x
-        → Base (w .request) (w .started) (cond m (setOut (completed (x .out .len)) x) x)
-    kept true k = record { says = k .says; started = k .started; maximum = k .maximum }
+    kept : (m : Bool) → Base (w .request) (w .started) (w .slot) x
+        → Base (w .request) (w .started) (w .slot) (cond m (setOut (completed (x .out .len)) x) x)
+    kept true k = record { says = k .says; started = k .started; maximum = k .maximum; slot = k .slot }
     kept false k = k
 r-token-in w x y m h (k, inr r) = (kept m k, inr (token-in y m h r))
   where
-    kept : (m : Bool) → Base (w .request) (w .started) x
-        → Base (w .request) (w .started) (cond m (setOut (completed (x .out .len)) x) x)
-    kept true k = record { says = k .says; started = k .started; maximum = k .maximum }
+    kept : (m : Bool) → Base (w .request) (w .started) (w .slot) x
+        → Base (w .request) (w .started) (w .slot) (cond m (setOut (completed (x .out .len)) x) x)
+    kept true k = record { says = k .says; started = k .started; maximum = k .maximum; slot = k .slot }
     kept false k = k
 
 -- a packet OUT of n bytes, put on NAK before it is seen and flipped after it
@@ -85,7 +89,7 @@ outSeen u n w = withGot n (happens (packet Out) (withRx (nakked u (w .rx)) w))
 r-packet-out : (w : Log) (x : View) (u v n : ℕ) → R w x
     → let z = outSeen u n w in R (withRx (flipped v (z .rx)) z) (setOut (completed n) x)
 r-packet-out w x u v n (k, f) = (
-  record { says = k .says; started = k .started; maximum = k .maximum },
+  record { says = k .says; started = k .started; maximum = k .maximum; slot = k .slot },
   packet-out (w .exempt) (w .request) u v n (k .says) f,
 )
 
@@ -104,7 +108,7 @@ inSeen u w = happens (packet In) (withTx (nakked u (w .tx)) w)
 r-packet-in : (w : Log) (x : View) (u v : ℕ) → R w x
     → let z = inSeen u w in R (withTx (flipped v (z .tx)) z) (setIn (completed (x .inn .len)) x)
 r-packet-in w x u v (k, f) = (
-  record { says = k .says; started = k .started; maximum = k .maximum },
+  record { says = k .says; started = k .started; maximum = k .maximum; slot = k .slot },
   packet-in (w .exempt) (w .request) u v (x .inn .len) (k .says) f,
 )
 
@@ -207,7 +211,8 @@ rec-view In f s h = in-view f s h
 
 -- its word is read, changed and written; then its record completed, of the length that g leaves
 served-word : (d : Dir) (f : ℕ → ℕ) (g : EpCore → EpCore) (len : View → ℕ) (w : Log) (s : St)
-    → ((p : EpCore) → (g p .ready ≡ 1) × (g p .armed ≡ 0)) → ((t : St) → g (concrete .get (ep-cell d 0) t) .len ≡ len (view (t .0)))
+    → ((p : EpCore) → (g p .ready ≡ 1) × (g p .armed ≡ 0)) → ((t : St)
+    → g (concrete .get (ep-cell d 0) t) .len ≡ len (view (t .0)))
     → w .phase ≡ off
     → Watch Between Any (Exactly-by (λ v. withCtrl d (writtenAs (f v) (readAs v (ctrl d w))) w)
     (setRec d (completed (len (view (s .0)))) (view (s .0)))) w (run concrete (do
@@ -221,7 +226,12 @@ served-word d f g len w s c n z = at-ask {q = Read (ctrlOf d) 0} tt (λ v t _ k.
       read = v;
       log = changed d f v w z;
       shown = act-view (waken (wakeCode d 0 ∷ [])) refl o ∙ (rec-view d g u (l .1 .places)
-          ∙ (ap (λ (r : Rec). setRec d r (view (u .0))) (flags p (len (view (u .0))) (c (concrete .get (ep-cell d 0) u) .0, c (concrete .get (ep-cell d 0) u) .1, n u))
+          ∙ (ap (λ (r : Rec). setRec d r (view (u .0))) (flags p (len (view (u .0))) (
+            c (concrete .get
+                (ep-cell d 0) u) .0,
+            c (concrete .get (ep-cell d 0) u) .1,
+            n u,
+          ))
           ∙ ap (λ (y : View). setRec d (completed (len y)) y) (l .0 ∙ k .0)));
       plain = steadily (act-steady (waken (wakeCode d 0 ∷ [])) refl o)
           (steadily (put-steady (ep-cell d 0) p u) (plainly (l .1)));
@@ -229,7 +239,8 @@ served-word d f g len w s c n z = at-ask {q = Read (ctrlOf d) 0} tt (λ v t _ k.
 
 -- a packet IN
 sent-in : (w : Log) (s : St) → w .phase ≡ off
-    → Watch Between Any (Exactly-by (λ v. withTx (flipped v (w .tx)) w) (setIn (completed (view (s .0) .inn .len)) (view (s .0)))) w (run concrete (do
+    → Watch Between Any (Exactly-by (λ v. withTx (flipped v (w .tx)) w) (setIn (completed (view (s .0) .inn .len))
+    (view (s .0)))) w (run concrete (do
       modifyReg {i = true} EpTxCtrl 0 flip
       modifyEp In 0 (withArmed 0)
       sent 0) s)
@@ -241,7 +252,8 @@ sent-in w s z = at-ask {q = Read EpTxCtrl 0} tt (λ v t _ k. at-ask tt (λ _ u _
       read = v;
       log = changed In flip v w z;
       shown = act-view (waken (wakeCode In 0 ∷ [])) refl o ∙ (in-view (withReady 1) m (in-whole (withArmed 0) u h)
-          ∙ (ap (λ (y : View). setIn (record { ready = 1; armed = y .inn .armed; len = y .inn .len }) y) (in-view (withArmed 0) u h)
+          ∙ (ap (λ (y : View). setIn (record { ready = 1; armed = y .inn .armed; len = y .inn .len }) y) (in-view
+          (withArmed 0) u h)
           ∙ ap (λ (y : View). setIn (completed (y .inn .len)) y) (l .0 ∙ k .0)));
       plain = steadily (act-steady (waken (wakeCode In 0 ∷ [])) refl o)
           (steadily (put-steady (ep-cell In 0) (withReady 1 (concrete .get (ep-cell In 0) m)) m)
@@ -288,7 +300,8 @@ Served su x a t = R x (view (t .0)) × (view (t .0) .stage ≡ 2) × (x .setup-s
 -- of EP0: what comes before the token's own part, that part, the checks, the token's sign of a hidden stage
 module _ (x : Transfer) (frame : ℕ) (mine : eqb (endpoint (x .st)) 0 ≡ true) (w : Log) (z : w .phase ≡ off) (s : St) (k : Plainly s) {su : Bool} where
   framing : (tk : Token) (iso : Bool) (L : ℕ → Log) (v : View) → ((n : ℕ) → L n .phase ≡ off)
-      → ((t : St) → view (t .0) ≡ view (s .0) → Plainly t → Runs {i = true} (Exactly-by L v) (when (not (x .busy)) (dispatch tk x iso frame)) w t)
+      → ((t : St) → view (t .0) ≡ view (s .0) → Plainly t → Runs {i = true} (Exactly-by L v) (when (not (x .busy))
+      (dispatch tk x iso frame)) w t)
       → ((n : ℕ) (t : St) → view (t .0) ≡ v → Plainly t → Runs {i = true} (Served su) (ep0MovedOn tk) (L n) t)
       → Runs (Served su) (servedAs tk x iso frame) w s
   framing tk iso L v z′ own sign =
@@ -338,18 +351,30 @@ module _ (x : Transfer) (frame : ℕ) (mine : eqb (endpoint (x .st)) 0 ≡ true)
   armedOut = isOn (view (s .0) .out .armed)
 
   out-taken : (n : ℕ) → x .busy ≡ false → togOk (x .st) ≡ true
-      → Watch Between Any (Served su) (ofToken tok.Out false true (x .len) (withPhase off (withRx (nakked n (w .rx)) w)))
+      → Watch Between Any (Served su) (ofToken tok.Out false true (x .len) (withPhase off (withRx (nakked n
+      (w .rx)) w)))
       (run concrete (servedAs tok.Out x false frame) s)
   out-taken n b ok =
       let u = ofToken tok.Out false true (x .len) (withPhase off (withRx (nakked n (w .rx)) w)) in
-      (framing x frame mine u refl s k tok.Out false (λ v. withRx (flipped v (u .rx)) u) (setOut (completed (x .len)) (view (s .0))) (λ _. refl)
+      (framing x frame mine u refl s k tok.Out false (λ v. withRx (flipped v (u .rx)) u) (setOut (completed (x .len))
+      (view (s .0))) (λ _. refl)
       (λ t e l. made (watch-cond (not (x .busy)) (λ _. watch-cond (eqb (endpoint (x .st)) 0) (λ _. watch-cond (togOk (x .st))
-      (λ _. watch-more (served-word Out flip (λ p. statics.completed (withLen (x .len) p)) (λ _. x .len) u t (λ _. (refl, refl)) (λ _. refl) refl)
-      (λ _ _ _ m. record { read = m .read; log = m .log; shown = m .shown ∙ ap (setOut (completed (x .len))) e; plain = m .plain }))
+      (λ _. watch-more (served-word Out flip (λ p. statics.completed (withLen (x .len) p)) (λ _. x .len) u t (λ _.
+      (refl, refl)) (λ _. refl) refl)
+      (λ _ _ _ m. record {
+        read = m .read;
+        log = m .log;
+        shown = m .shown
+            ∙ ap (setOut (completed (x .len))) e;
+        plain = m .plain;
+      }))
       (λ q. differ (sym q ∙ ok))) (λ q. differ (sym q ∙ mine))) (λ q. differ (sym q ∙ ap not b))))
-      (λ v t e l. made (watch-more (moved-on In (withRx (flipped v (u .rx)) u) t refl l armedIn (ap (λ (y : View). isOn (y .inn .armed)) e))
-      (λ y _ o m. conclude y _ o _ (m .log) (m .shown ∙ ap (λ (q : View). cond armedIn (setIn (completed (q .inn .len)) q) q) e)
-      (r-out w (view (s .0)) n v (x .len) (m .read) armedIn refl r) (same-stage armedIn _ _ two two) seen-su refl)))) .ok
+      (λ v t e l. made (watch-more (moved-on In (withRx (flipped v (u .rx)) u) t refl l armedIn (ap (λ
+      (y : View). isOn (y .inn .armed)) e))
+      (λ y _ o m. conclude y _ o _ (m .log) (m .shown ∙ ap (λ (q : View). cond armedIn (setIn (completed
+      (q .inn .len)) q) q) e)
+      (r-out w (view (s .0)) n v (x .len) (m .read) armedIn refl r)
+      (same-stage armedIn _ _ two two) seen-su refl)))) .ok
 
   -- the token OUT alone: a repeat, or a transaction that is not complete
   out-token : (busy ok : Bool) → not busy && ok ≡ false → x .busy ≡ busy → togOk (x .st) ≡ ok
@@ -358,10 +383,12 @@ module _ (x : Transfer) (frame : ℕ) (mine : eqb (endpoint (x .st)) 0 ≡ true)
       let u = happens (pipe.token Out) (withPhase off w) in
       (framing x frame mine u refl s k tok.Out false (λ _. u) (view (s .0)) (λ _. refl)
       (λ t e l. made (watch-cond (not (x .busy)) (λ f. watch-cond (eqb (endpoint (x .st)) 0)
-      (λ _. watch-cond (togOk (x .st)) (λ g. differ (sym none ∙ both (sym b) (sym o) f g)) (λ _. at-end (unchanged t e l)))
+      (λ _. watch-cond (togOk (x .st)) (λ g. differ (sym none
+      ∙ both (sym b) (sym o) f g)) (λ _. at-end (unchanged t e l)))
       (λ q. differ (sym q ∙ mine))) (λ _. at-end (unchanged t e l))))
       (λ _ t e l. made (watch-more (moved-on In u t refl l armedIn (ap (λ (y : View). isOn (y .inn .armed)) e))
-      (λ y _ o m. conclude y _ o _ (m .log) (m .shown ∙ ap (λ (q : View). cond armedIn (setIn (completed (q .inn .len)) q) q) e)
+      (λ y _ o m. conclude y _ o _ (m .log) (m .shown ∙ ap (λ (q : View). cond armedIn (setIn (completed
+      (q .inn .len)) q) q) e)
       (r-token-out w (view (s .0)) (m .read) armedIn refl r) (same-stage armedIn _ _ two two) seen-su refl)))) .ok
     where
       both : busy ≡ x .busy → ok ≡ togOk (x .st) → not (x .busy) ≡ true → togOk (x .st) ≡ true → not busy && ok ≡ true
@@ -378,15 +405,18 @@ module _ (x : Transfer) (frame : ℕ) (mine : eqb (endpoint (x .st)) 0 ≡ true)
       let u = ofToken tok.In false true (x .len) (withPhase off (withTx (nakked n (w .tx)) w)) in
       (framing x frame mine u refl s k tok.In false (λ v. withTx (flipped v (u .tx)) u)
       (setIn (completed (view (s .0) .inn .len)) (view (s .0))) (λ _. refl)
-      (λ t e l. made (watch-cond (not (x .busy)) (λ _. watch-cond (eqb (endpoint (x .st)) 0) (λ _. watch-more (sent-in u t refl)
+      (λ t e l. made (watch-cond (not (x .busy)) (λ _. watch-cond (eqb (endpoint (x .st)) 0) (λ _. watch-more
+      (sent-in u t refl)
       (λ _ _ _ m. record {
         read = m .read;
         log = m .log;
         shown = m .shown ∙ ap (λ (y : View). setIn (completed (y .inn .len)) y) e;
         plain = m .plain;
       })) (λ q. differ (sym q ∙ mine))) (λ q. differ (sym q ∙ ap not b))))
-      (λ v t e l. made (watch-more (moved-on Out (withTx (flipped v (u .tx)) u) t refl l armedOut (ap (λ (y : View). isOn (y .out .armed)) e))
-      (λ y _ o m. conclude y _ o _ (m .log) (m .shown ∙ ap (λ (q : View). cond armedOut (setOut (completed (q .out .len)) q) q) e)
+      (λ v t e l. made (watch-more (moved-on Out (withTx (flipped v (u .tx)) u) t refl l armedOut (ap (λ
+      (y : View). isOn (y .out .armed)) e))
+      (λ y _ o m. conclude y _ o _ (m .log) (m .shown ∙ ap (λ (q : View). cond armedOut (setOut (completed
+      (q .out .len)) q) q) e)
       (r-in w (view (s .0)) n v (m .read) armedOut refl r) (same-stage armedOut _ _ two two) seen-su refl)))) .ok
 
   in-token : x .busy ≡ true
@@ -397,7 +427,8 @@ module _ (x : Transfer) (frame : ℕ) (mine : eqb (endpoint (x .st)) 0 ≡ true)
       (λ t e l. made (watch-cond (not (x .busy)) (λ f. differ (ap not (sym b) ∙ f))
       (λ _. at-end (record { read = 0; log = refl; shown = e; plain = l }))))
       (λ _ t e l. made (watch-more (moved-on Out u t refl l armedOut (ap (λ (y : View). isOn (y .out .armed)) e))
-      (λ y _ o m. conclude y _ o _ (m .log) (m .shown ∙ ap (λ (q : View). cond armedOut (setOut (completed (q .out .len)) q) q) e)
+      (λ y _ o m. conclude y _ o _ (m .log) (m .shown ∙ ap (λ (q : View). cond armedOut (setOut (completed
+      (q .out .len)) q) q) e)
       (r-token-in w (view (s .0)) (m .read) armedOut refl r) (same-stage armedOut _ _ two two) seen-su refl)))) .ok
 
   plain-token : (tk : Token) (iso : Bool) → Quiet {i = true} (dispatch tk x iso frame)
@@ -411,7 +442,8 @@ module _ (x : Transfer) (frame : ℕ) (mine : eqb (endpoint (x .st)) 0 ≡ true)
       (λ y _ o m. conclude y (withPhase off w) o (view (s .0)) (m .0) (m .1 ∙ e) r two seen-su refl)))) .ok
 
   pub served-ep0 : (tk : Token) (iso busy ok : Bool) (n : ℕ) → x .busy ≡ busy → togOk (x .st) ≡ ok → NotIso tk iso
-      → Watch Between Any (Served su) (ofToken tk busy ok (x .len) (withPhase off (naked tk busy ok n w))) (run concrete (servedAs tk x iso frame) s)
+      → Watch Between Any (Served su) (ofToken tk busy ok (x .len) (withPhase off (naked tk busy ok n w)))
+      (run concrete (servedAs tk x iso frame) s)
   served-ep0 tok.Out false false true n b o i = out-taken n b o
   served-ep0 tok.Out false false false n b o i = out-token false false refl b o
   served-ep0 tok.Out false true ok n b o i = out-token true ok refl b o

@@ -2,6 +2,7 @@
 -- brought for them. The function's choices are calls, the bus's events are what an interrupt's readings show of
 -- endpoint 0. It knows nothing of the driver's state.
 use mathlib.Core.Bool.{Bool, true, false, not, cond, _&&_, _||_}
+use mathlib.Core.List.{[]}
 use mathlib.Core.Logic.{_⊎_}
 use mathlib.Core.Path.{_≡_}
 use Prim.Native.Nat.{ℕ, _%_}
@@ -20,6 +21,8 @@ use Rattle.regs.specs.Flags.{transfer, setupAct}
 use Rattle.regs.specs.Status as status
 use Rattle.regs.specs.Status.{endpoint, togOk}
 use Rattle.regs.specs.MisStatus.{sieFree}
+use Rattle.ring.specs.Copies.{bytesAt}
+use Rattle.script.specs.Machine.{Buf}
 use Rattle.script.specs.Answers.{Answer, Refused, End, NotYet, Done, Shown}
 use Rattle.script.specs.Calls.{Op, interrupt, slotted, other, aside, Slotted, SetEnabled, PollRead, BeginWrite}
 use Rattle.script.specs.Calls.{PollWrite, PollDataOut, BeginDataIn, Other, Allocate, AllocateAll, Start, BusPoll}
@@ -30,7 +33,8 @@ use Rattle.script.specs.Kinds as kinds
 use Rattle.script.specs.Every.{sameReg}
 use Rattle.script.specs.AddressWrites.{Writes}
 use Rattle.script.specs.TogglesLaws.{number}
-use Rattle.proof_usb20.specs.Pipe.{Answers, naks, stalls, acks, Half, renewed, isReady, isStall, Pipe, half, Event}
+use Rattle.proof_usb20.specs.Pipe.{Answers, naks, stalls, acks, Half, renewed, isReady, isStall, Pipe, half}
+use Rattle.proof_usb20.specs.Pipe.{Event}
 use Rattle.proof_usb20.specs.Pipe.{setup, packet, token, after, Choice, takes, gives, confirms, rejects}
 use Rattle.proof_usb20.specs.Pipe.{chosen, orderly, Awaited, nothing, awaitedBy, over, taken, given, confirmed}
 use Rattle.proof_usb20.specs.Pipe.{Setting, keeps, sets}
@@ -59,6 +63,8 @@ pub data Request : Type 0 where
   for-data-out : ℕ → Request
 
 -- EP0's control words and its transmit length as they were last written; `got`: the length of the last packet OUT;
+-- `slot`: the address of EP0's slot, as it was last handed out; `lent`: the slot buffer as it was lent to the last
+-- begin;
 -- `untaken`: a setup packet came that no poll has given to the function yet; `exempt`: something has happened since the
 -- last setup packet of which USB 2.0 says nothing, or otherwise than the Rust (below)
 pub record Log : Type 0 where
@@ -66,6 +72,8 @@ pub record Log : Type 0 where
   pub tx : Ep0Word
   pub len : ℕ
   pub got : ℕ
+  pub slot : ℕ
+  pub lent : Buf
   pub pipe : Pipe
   pub awaits : Awaited
   pub untaken : Bool
@@ -77,12 +85,15 @@ pub record Log : Type 0 where
   pub wrote : Setting  -- the address that the call under way wrote to dev_ad, or none
 
 -- by its parts, in their order
-abbrev logOf : Ep0Word → Ep0Word → ℕ → ℕ → Pipe → Awaited → Bool → Bool → Bool → Request → Phase → Bool → Setting → Log
-logOf rx tx n got p a untaken exempt started request phase seen setting = record {
+abbrev logOf : Ep0Word → Ep0Word → ℕ → ℕ → ℕ → Buf → Pipe → Awaited → Bool → Bool → Bool → Request → Phase → Bool
+    → Setting → Log
+logOf rx tx n got slot lent p a untaken exempt started request phase seen setting = record {
   rx = rx;
   tx = tx;
   len = n;
   got = got;
+  slot = slot;
+  lent = lent;
   pipe = p;
   awaits = a;
   untaken = untaken;
@@ -98,28 +109,37 @@ abbrev unwritten : Ep0Word
 unwritten = record { last = 0; read-back = false; in-step = false }
 
 abbrev pub before : Log
-before = logOf unwritten unwritten 0 0 (record { out = renewed; inn = renewed; size = 0 }) nothing false true false no-request
+before = logOf unwritten unwritten 0 0 0 [] (record { out = renewed; inn = renewed; size = 0 }) nothing false true false no-request
     off false keeps
 
 -- EP0's words, and its lengths
 abbrev pub withWords : Ep0Word → Ep0Word → ℕ → ℕ → Log → Log
-withWords rx tx n got w = logOf rx tx n got (w .pipe) (w .awaits) (w .untaken) (w .exempt) (w .started) (w .request)
+withWords rx tx n got w = logOf rx tx n got (w .slot) (w .lent) (w .pipe) (w .awaits) (w .untaken) (w .exempt)
+    (w .started) (w .request)
     (w .phase) (w .setup-seen) (w .wrote)
 
 -- the pipe, what is waited for, whether a setup packet is untaken, and whether the log is exempt
 abbrev pub withPipe : Pipe → Awaited → Bool → Bool → Log → Log
-withPipe p a untaken exempt w = logOf (w .rx) (w .tx) (w .len) (w .got) p a untaken exempt (w .started) (w .request)
+withPipe p a untaken exempt w = logOf (w .rx) (w .tx) (w .len) (w .got) (w .slot) (w .lent) p a untaken exempt
+    (w .started) (w .request)
     (w .phase) (w .setup-seen) (w .wrote)
 
 -- the calls: whether EP0 is started, and the request
 abbrev pub withCalls : Bool → Request → Log → Log
-withCalls started q w = logOf (w .rx) (w .tx) (w .len) (w .got) (w .pipe) (w .awaits) (w .untaken) (w .exempt) started q
+withCalls started q w = logOf (w .rx) (w .tx) (w .len) (w .got) (w .slot) (w .lent) (w .pipe) (w .awaits) (w .untaken)
+    (w .exempt) started q
     (w .phase) (w .setup-seen) (w .wrote)
 
 -- what was seen of the call under way
 abbrev pub withSight : Phase → Bool → Setting → Log → Log
-withSight p s a w = logOf (w .rx) (w .tx) (w .len) (w .got) (w .pipe) (w .awaits) (w .untaken) (w .exempt) (w .started)
+withSight p s a w = logOf (w .rx) (w .tx) (w .len) (w .got) (w .slot) (w .lent) (w .pipe) (w .awaits) (w .untaken)
+    (w .exempt) (w .started)
     (w .request) p s a
+
+-- EP0's slot, and the buffer
+abbrev pub withSlots : ℕ → Buf → Log → Log
+withSlots slot lent w = logOf (w .rx) (w .tx) (w .len) (w .got) slot lent (w .pipe) (w .awaits) (w .untaken) (w .exempt)
+    (w .started) (w .request) (w .phase) (w .setup-seen) (w .wrote)
 
 abbrev pub withRx : Ep0Word → Log → Log
 withRx v w = withWords v (w .tx) (w .len) (w .got) w
@@ -242,7 +262,7 @@ saw w (Read r e) v = reads (w .phase) r v (compared r e v w)
 saw w (Write r e v) x = writes r e v w
 saw w (Receive e y) x = w
 saw w (Transmit e y) x = w
-saw w (Ep0Dma y) x = w
+saw w (Ep0Dma y) x = withSlots y (w .lent) w
 saw w (Wait n) x = w
 saw w Callback x = w
 
@@ -256,20 +276,21 @@ outright (confirms s) w = withTx (anew true (w .tx)) w
 outright rejects w = w
 
 abbrev pub choose : Choice → Log → Log
-choose c w = withPipe (chosen c (w .pipe)) (awaitedBy c) (w .untaken) (w .exempt || not (orderly c (w .pipe))) (outright c w)
+choose c w = withPipe (chosen c (w .pipe)) (awaitedBy c) (w .untaken) (w .exempt || not (orderly c (w .pipe)))
+    (outright c w)
 
 abbrev pub exempted : Log → Log
 exempted w = withPipe (w .pipe) (w .awaits) (w .untaken) true w
 
 -- an operation begins: it has written no address
-abbrev pub afresh : Log → Log
-afresh w = withPhase off (withWrote keeps w)
+abbrev pub afresh : Buf → Log → Log
+afresh b w = withPhase off (withWrote keeps (withSlots (w .slot) b w))
 
-abbrev pub opens : Op → Log → Log
-opens interrupt w = withSight entered false keeps w
-opens (slotted o) w = afresh w
-opens (other o) w = afresh w
-opens (aside o) w = afresh w
+abbrev pub opens : Op → Buf → Log → Log
+opens interrupt b w = withSight entered false keeps (withSlots (w .slot) b w)
+opens (slotted o) b w = afresh b w
+opens (other o) b w = afresh b w
+opens (aside o) b w = afresh b w
 
 -- it ends with a result: a begin is the function's choice, and notes a request; a bus reset (result 2) and a halt of
 -- EP0 set or cleared by a call exempt. A data_out of m bytes has m until its packet is seen, and the closing OUT none
@@ -371,7 +392,8 @@ Shows c h (acks s) = (response (c .last) ≡ word.ACK)
 -- EP0 is armed as the pipe says; a packet IN that is ready has its length
 abbrev pub Armed : Log → Type 0
 Armed w = w .exempt ≡ false → Shows (w .rx) (w .pipe .out) (w .pipe .out .answers)
-    × Shows (w .tx) (w .pipe .inn) (w .pipe .inn .answers) × (isReady (w .pipe .inn .answers) ≡ true → w .len ≡ w .pipe .size)
+    × Shows (w .tx) (w .pipe .inn) (w .pipe .inn .answers) × (isReady (w .pipe .inn .answers) ≡ true
+    → w .len ≡ w .pipe .size)
 
 -- ---- what is claimed of an answer
 
@@ -472,7 +494,8 @@ otherLength n (for-data-out m) = not (eqb m n)
 
 -- a data_out's poll: another length than its begin's, or a packet that is longer; a data_in's: data in the closing OUT
 abbrev pub TooLong : ℕ → Log → Type 0
-TooLong n w = (otherLength n (w .request) ≡ true) ⊎ (Complete pollOut true w × (w .exempt ≡ false → ltb n (w .got) ≡ true))
+TooLong n w = (otherLength n (w .request) ≡ true) ⊎ (Complete pollOut true w × (w .exempt ≡ false
+    → ltb n (w .got) ≡ true))
 
 abbrev pub NotEmpty : Log → Type 0
 NotEmpty w = Complete pollIn true w × (w .exempt ≡ false → eqb (w .got) 0 ≡ false)
@@ -493,12 +516,20 @@ GivesSetup NotYet w = Untaken false w
 GivesSetup (Done bytes) w = Untaken true w × (length bytes ≡ 8)
 GivesSetup (Shown bytes stamp) w = ⊥
 
+-- a data_out's poll that is done gives the packet: as many bytes of EP0's slot, as it is lent to that poll
+abbrev pub GivesPacket : Answer → Log → Type 0
+GivesPacket (Refused n) w = Unit {0}
+GivesPacket (End n ws) w = ⊥
+GivesPacket NotYet w = Unit {0}
+GivesPacket (Done bytes) w = w .exempt ≡ false → bytes ≡ bytesAt (w .lent) (w .slot) (w .got)
+GivesPacket (Shown bytes stamp) w = Unit {0}
+
 abbrev pub FairSlotted : Slotted → Answer → Log → Type 0
 FairSlotted (SetEnabled d e on) a w = Unit {0}
 FairSlotted (PollRead e n) a w = Unit {0}
 FairSlotted (BeginWrite e bs) a w = Unit {0}
 FairSlotted (PollWrite e bs) a w = Unit {0}
-FairSlotted (PollDataOut n) a w = Unfinished pollOut true (TooLong n w) a w × Completes pollOut a w
+FairSlotted (PollDataOut n) a w = Unfinished pollOut true (TooLong n w) a w × Completes pollOut a w × GivesPacket a w
 FairSlotted (BeginDataIn bs first last) a w = Begins true (Untaken true w) (Above64 (length bs)) a w
 
 abbrev pub FairOther : Other → Answer → Log → Type 0

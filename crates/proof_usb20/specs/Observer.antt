@@ -14,7 +14,7 @@ use Rattle.machine.specs.Suspended.{driverOf, drive}
 pub record Observer : Type 1 where
   pub Log : Type 0
   pub before : Log  -- at start-up
-  pub opens : Op → Log → Log  -- an operation begins
+  pub opens : Op → Buf → Log → Log  -- an operation begins; the slot buffer as it is lent to it
   pub saw : Log → Access → ℕ → Log  -- an access, and the number brought for it
   pub closes : Op → Answer → Log → Log  -- a call ends
   -- what is claimed of a call's answer, and of the accesses that it hands out
@@ -51,10 +51,10 @@ module _ (O : Observer) where
   startedBy (handed q) = watched (O .before) starting
   startedBy (told n) = watched (O .before) at-rest
 
-  abbrev pub begunBy : Op → Ans Answer → O .Log → Watched
-  begunBy o (ended a) w = watched (O .closes o a (O .opens o w)) at-rest
-  begunBy o (handed q) w = watched (O .opens o w) (doing o q)
-  begunBy o (told n) w = watched w at-rest
+  abbrev pub begunBy : Op → Buf → Ans Answer → O .Log → Watched
+  begunBy o b (ended a) w = watched (O .closes o a (O .opens o b w)) at-rest
+  begunBy o b (handed q) w = watched (O .opens o b w) (doing o q)
+  begunBy o b (told n) w = watched w at-rest
 
   abbrev pub goneBy : Op → Ans Answer → O .Log → Watched
   goneBy o (ended a) w = watched (O .closes o a w) at-rest
@@ -71,10 +71,10 @@ module _ (O : Observer) where
   wentOn v a true w starting = watched w starting
   wentOn v a false w starting = watched w at-rest
 
-  abbrev pub beginsBy : Op → Ans Answer → O .Log → Under → Watched
-  beginsBy o a w at-rest = begunBy o a w
-  beginsBy o a w (doing p q) = watched w (doing p q)
-  beginsBy o a w starting = watched w starting
+  abbrev pub beginsBy : Op → Buf → Ans Answer → O .Log → Under → Watched
+  beginsBy o b a w at-rest = begunBy o b a w
+  beginsBy o b a w (doing p q) = watched w (doing p q)
+  beginsBy o b a w starting = watched w starting
 
   abbrev pub startsBy : ℕ → Ans Answer → Watched → Watched
   startsBy zero a x = startedBy a
@@ -83,7 +83,7 @@ module _ (O : Observer) where
   -- a call, the slot buffer it brought (start-up's row 1), its answer, whether an operation is under way after it
   abbrev pub noted : Call Config Op → Buf → Ans Answer → Bool → Watched → Watched
   noted (start c) b a still x = startsBy (startRow c b) a x
-  noted (begin o) b a still x = beginsBy o a (x .log) (x .under)
+  noted (begin o) b a still x = beginsBy o b a (x .log) (x .under)
   noted (go v) b a still x = wentOn v a still (x .log) (x .under)
   noted (question q) b a still x = x
 
@@ -102,16 +102,16 @@ module _ (O : Observer) where
   ClaimGone v (told n) still w (doing o q) = Unit {0}
   ClaimGone v a still w starting = Unit {0}
 
-  abbrev pub ClaimBegun : Op → Ans Answer → O .Log → Under → Type 0
-  ClaimBegun o a w at-rest = ClaimAt o a (O .opens o w)
-  ClaimBegun o a w (doing p q) = Unit {0}
-  ClaimBegun o a w starting = Unit {0}
+  abbrev pub ClaimBegun : Op → Buf → Ans Answer → O .Log → Under → Type 0
+  ClaimBegun o b a w at-rest = ClaimAt o a (O .opens o b w)
+  ClaimBegun o b a w (doing p q) = Unit {0}
+  ClaimBegun o b a w starting = Unit {0}
 
-  abbrev pub Claim : Call Config Op → Ans Answer → Bool → Watched → Type 0
-  Claim (start c) a still x = Unit {0}
-  Claim (begin o) a still x = ClaimBegun o a (x .log) (x .under)
-  Claim (go v) a still x = ClaimGone v a still (x .log) (x .under)
-  Claim (question q) a still x = Unit {0}
+  abbrev pub Claim : Call Config Op → Buf → Ans Answer → Bool → Watched → Type 0
+  Claim (start c) b a still x = Unit {0}
+  Claim (begin o) b a still x = ClaimBegun o b a (x .log) (x .under)
+  Claim (go v) b a still x = ClaimGone v a still (x .log) (x .under)
+  Claim (question q) b a still x = Unit {0}
 
   -- where nothing is under way
   abbrev pub Standing : Driver → O .Log → Under → Type 0
@@ -126,4 +126,5 @@ module _ (O : Observer) where
   All (e ∷ es) m x =
       let y = drive (e .call) m (e .lent) in
       let z = noted (e .call) (e .lent) (y .0) (serves (y .1 .way)) x in
-      Claim (e .call) (y .0) (serves (y .1 .way)) x × Standing (y .1 .st) (z .log) (z .under) × All es (y .1) z
+      Claim (e .call) (e .lent) (y .0) (serves (y .1 .way)) x × Standing (y .1 .st) (z .log) (z .under)
+      × All es (y .1) z

@@ -29,7 +29,8 @@ use Rattle.proof_book.specs.TransferKindsLaws.{put-steady}
 use Rattle.frame.specs.Usb20.{indexOf, frameOf}
 use Rattle.frame.specs.Advance.{previous}
 use Rattle.proof_usb20.specs.Watch.{at-end}
-use Rattle.proof_usb20.specs.QuietLaws.{Quiet, steadily, q-ret, q-bind, q-test, q-if, q-read-of, q-write, q-callback, other-read}
+use Rattle.proof_usb20.specs.QuietLaws.{Quiet, steadily, q-ret, q-bind, q-test, q-if, q-read-of, q-write}
+use Rattle.proof_usb20.specs.QuietLaws.{q-callback, other-read}
 use Rattle.proof_usb20.specs.QuietLaws.{q-get, q-is, q-look, q-act, q-hand, q-modify, Other, put-other, put-frame}
 use Rattle.proof_usb20.specs.QuietLaws.{put-kept, other-word, other-length, q-every}
 use Rattle.proof_usb20.specs.WalksLaws.{Each}
@@ -70,7 +71,8 @@ q-looks (suc n) = q-bind (q-read-of (λ _ _. refl) (λ _. q-ret)) (λ _. q-test 
 -- ---- bulk and interrupt endpoints
 
 pub q-toggled : {i : Bool} (d : Dir) (e : ℕ) → eqb e 0 ≡ false → Other e → Quiet (toggled {i = i} d e)
-q-toggled d e h o = q-bind (q-looks 2001) (λ _. q-bind (q-read-of (other-read d e h) (λ _. q-ret)) (λ word. q-bind (q-got (ep-cell d e)) (λ s. q-test
+q-toggled d e h o = q-bind (q-looks 2001) (λ _. q-bind (q-read-of (other-read d e h) (λ _. q-ret)) (λ word. q-bind
+    (q-got (ep-cell d e)) (λ s. q-test
     (q-bind (q-when (q-reg d e _ h)) (λ _. q-ret))
     (q-bind (q-ep d e (λ s. withArmed 0 (withTog (flag (isData1 word)) s)) o) (λ _. q-ret)))))
 
@@ -85,7 +87,8 @@ q-sent e o = q-bind (q-ep In e (withReady 1) o) (λ _. q-wake In e)
 pub q-complete : {i : Bool} (e : ℕ) → eqb e 0 ≡ false → Quiet (isoInComplete {i = i} e)
 q-complete e h = q-bind (q-act refl q-ret)
     (λ _. q-bind (q-bind (q-is (λ _. q-ret))
-    (λ b. q-test (q-bind (q-hand q-ret) (λ _. q-bind (q-look (λ _. q-ret)) (λ n. q-write (other-length e n h) q-ret)))
+    (λ b. q-test (q-bind (q-hand refl q-ret) (λ _. q-bind (q-look (λ _. q-ret)) (λ n. q-write
+    (other-length e n h) q-ret)))
     (q-write (other-length e 0 h) q-ret))) (λ _. q-wake In e))
 
 q-first : {i : Bool} (e frame : ℕ) → Quiet (firstInFrame {i = i} e frame)
@@ -105,7 +108,8 @@ q-unseen frame e h = q-bind
 q-sof-one : {i : Bool} (frame e : ℕ) → eqb e 0 ≡ false → Quiet (sofOne {i = i} frame e)
 q-sof-one frame e h = q-bind (q-got (ep-cell In e))
     (λ s. q-test q-ret
-    (q-bind (q-read-of (λ _ _. refl) (λ _. q-ret)) (λ m. q-test (q-unseen frame e h) (q-bind (q-read-of (λ _ _. refl) (λ _. q-ret)) (λ st. q-test q-ret (q-unseen frame e h))))))
+    (q-bind (q-read-of (λ _ _. refl) (λ _. q-ret)) (λ m. q-test (q-unseen frame e h) (q-bind (q-read-of (λ _ _. refl)
+    (λ _. q-ret)) (λ st. q-test q-ret (q-unseen frame e h))))))
 
 q-sof-walk : {i : Bool} (frame : ℕ) (es : List ℕ) → Each (λ e. eqb e 0 ≡ false) es → Quiet (sofWalk {i = i} frame es)
 unfolding sofWalk
@@ -124,14 +128,15 @@ q-late frame (e ∷ es) h = q-bind (q-bind (q-first e frame) (λ b. q-when (q-co
 -- ---- isochronous OUT
 
 q-arrives : {i : Bool} (e n : ℕ) → Quiet (arrives {i = i} e n)
-q-arrives e n = q-bind (q-hand q-ret) (λ _. q-wake Out e)
+q-arrives e n = q-bind (q-hand refl q-ret) (λ _. q-wake Out e)
 
 q-walk : {i : Bool} (x : Transfer) (iso : Bool) (es : List ℕ) → Quiet (checkWalk {i = i} x iso es)
 unfolding checkWalk
 q-walk x iso [] = q-ret
 q-walk x iso (e ∷ es) = q-bind
     (q-bind (q-is (λ _. q-ret)) (λ b. q-when (q-test (q-arrives e (x .len))
-    (q-bind (q-read-of (λ _ _. refl) (λ _. q-ret)) (λ st. q-test q-ret (q-bind (q-look (λ _. q-ret)) (λ n. q-arrives e n))))))) (λ _. q-walk x iso es)
+    (q-bind (q-read-of (λ _ _. refl) (λ _. q-ret)) (λ st. q-test q-ret (q-bind (q-look (λ _. q-ret))
+    (λ n. q-arrives e n))))))) (λ _. q-walk x iso es)
 
 pub q-check : {i : Bool} (x : Transfer) (iso : Bool) → Quiet (isoOutCheck {i = i} x iso)
 q-check x iso = q-bind (q-got globals-cell) (λ g. q-walk x iso (setBits (isoOuts g)))

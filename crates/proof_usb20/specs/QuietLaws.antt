@@ -105,10 +105,12 @@ asked {s = s} {f = f} w e g = at-ask tt
     (sym (e v)) (watch-more (g v t (plainly (k .1))) (λ _ _ _ m. (m .0, m .1 ∙ k .0, m .2))))
 
 -- a reading, of no control word of EP0's
-pub q-read-of : {i : Bool} {A : Type 0} {r : Reg} {e : ℕ} {f : ℕ → Script i A} → ((v : ℕ) (w : Log) → compared r e v w ≡ w)
+pub q-read-of : {i : Bool} {A : Type 0} {r : Reg} {e : ℕ} {f : ℕ → Script i A} → ((v : ℕ) (w : Log)
+    → compared r e v w ≡ w)
     → ((v : ℕ) → Quiet (f v)) → Quiet (read-then r e f)
 q-read-of {r = r} {e = e} h x = record {
-  goes = λ w s z k. asked w (λ v. ap (reads (w .phase) r v) (h v w) ∙ ap (λ p. reads p r v w) z) (λ v t l. x v .goes w t z l);
+  goes = λ w s z k. asked w (λ v. ap (reads (w .phase) r v) (h v w)
+      ∙ ap (λ p. reads p r v w) z) (λ v t l. x v .goes w t z l);
 }
 
 -- a write, of no control word of EP0's
@@ -153,17 +155,25 @@ q-act {q = q} h x = record {
   goes = λ w s z k. onward w s (concrete .act q s) (act-view q h s) (x .goes w (concrete .act q s) z (steadily (act-steady q h s) k));
 }
 
-hand-silent : (q : DmaStep) (x : ℕ) (w : Log) (v : ℕ) → saw w (dmaStepAsk q x) v ≡ w
-hand-silent (arrive e n) x w v = refl
-hand-silent (send e) x w v = refl
-hand-silent (place Out e) x w v = refl
-hand-silent (place In e) x w v = refl
-hand-silent place0 x w v = refl
+-- an address of another endpoint's
+abbrev pub elsewhere : DmaStep → Bool
+elsewhere (arrive e n) = true
+elsewhere (send e) = true
+elsewhere (place d e) = true
+elsewhere place0 = false
 
-pub q-hand : {i : Bool} {A : Type 0} {q : DmaStep} {p : Script i A} → Quiet p → Quiet (hand-then q p)
-q-hand {q = q} x = record {
+hand-silent : (q : DmaStep) → elsewhere q ≡ true → (x : ℕ) (w : Log) (v : ℕ) → saw w (dmaStepAsk q x) v ≡ w
+hand-silent (arrive e n) h x w v = refl
+hand-silent (send e) h x w v = refl
+hand-silent (place Out e) h x w v = refl
+hand-silent (place In e) h x w v = refl
+hand-silent place0 h x w v = differ h
+
+pub q-hand : {i : Bool} {A : Type 0} {q : DmaStep} {p : Script i A} → elsewhere q ≡ true → Quiet p
+    → Quiet (hand-then q p)
+q-hand {q = q} h x = record {
   goes = λ w s z k. onward w s (concrete .hand q s .1)
-      (hand-view q s) (asked w (hand-silent q (concrete .hand q s .0) w) (λ _ t l. x .goes w t z l));
+      (hand-view q s) (asked w (hand-silent q h (concrete .hand q s .0) w) (λ _ t l. x .goes w t z l));
 }
 
 -- an assignment that shows the same
@@ -197,7 +207,7 @@ apart In Out e o q = key-apart 0 e q
 pub put-other : (d : Dir) (e : ℕ) → Other e → (v : EpCore) (s : St) → view (concrete .put (ep-cell d e) v s .0) ≡ view (s .0)
 unfolding withOn
 put-other d e o v s = made _ _ (ap recOf (ep-other (s .0) d e (merged (epOn (s .0) d e) v) Out 0 (apart d Out e o)))
-    (ap recOf (ep-other (s .0) d e (merged (epOn (s .0) d e) v) In 0 (apart d In e o))) refl refl refl refl
+    (ap recOf (ep-other (s .0) d e (merged (epOn (s .0) d e) v) In 0 (apart d In e o))) refl refl refl refl refl
 
 -- `last_frame` of any
 pub put-frame : (d : Dir) (e frame : ℕ) (s : St)
@@ -214,6 +224,7 @@ put-kept f h s = put-globals (f (s .0 .globals)) s ∙ ap (λ n. record {
   setup-ready = n;
   stage = view (s .0) .stage;
   maximum = view (s .0) .maximum;
+  buffer = view (s .0) .buffer;
 }) (h (s .0 .globals))
 
 -- a control word of another endpoint's

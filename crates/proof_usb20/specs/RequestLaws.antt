@@ -13,7 +13,8 @@ use Rattle.regs.specs.declared.Access.{Access}
 use Rattle.regs.specs.declared.Dir.{Dir}
 use Rattle.regs.specs.declared.Dir.the-variants.{Out, In}
 use Rattle.regs.specs.declared.Reg.{Reg}
-use Rattle.regs.specs.declared.Reg.the-variants.{Ctrl}
+use Rattle.regs.specs.declared.Reg.the-variants.{Ctrl, EpMaxLen, EpRxCtrl, EpTxCtrl}
+use Rattle.regs.specs.ControlWord.{NAK, DATA0, wordOf}
 use Rattle.state.specs.declared.Allocator.{Allocator}
 use Rattle.state.specs.declared.Control.{Control}
 use Rattle.state.specs.declared.Globals.{Globals}
@@ -30,16 +31,20 @@ use Rattle.descriptor.specs.Reading.{readingOf, listOf}
 use Rattle.descriptor.specs.Trial.{directionOf, trialOf}
 use Rattle.script.specs.Tree as tree
 use Rattle.script.specs.Cells.{EpCore, Cell, Val, ep-cell, globals-cell, allocator-cell}
-use Rattle.script.specs.Script.{Script, get, ret, bind, test, when, read-then, write-then, wait-then, get-then, put-then, act-then}
-use Rattle.script.specs.Script.{fetch-then, hand-then, Fetch, Act, DmaStep, run, row, rows, bus-reset, allocate, allocate0}
+use Rattle.script.specs.Script.{Script, get, ret, bind, test, when, read-then, write-then, wait-then, get-then}
+use Rattle.script.specs.Script.{put-then, act-then}
+use Rattle.script.specs.Script.{fetch-then, hand-then, write, Fetch, Act, DmaStep, arrive, send, place, place0}
+use Rattle.script.specs.Script.{dmaStepAsk}
+use Rattle.script.specs.Script.{burstAsk, run, rows, bus-reset, allocate}
 use Rattle.script.specs.TransferKinds.{allocates}
 use Rattle.script.specs.Statics.{withTog, completed, modifyReg, modifyEp, modifyIntEn, wake}
 use Rattle.script.specs.Answers.{Answer, Refused, operation, resultless}
 use Rattle.script.specs.Bus as bus
-use Rattle.script.specs.Driver.{newEndpoint, allocated-as, startEp0, started-as}
+use Rattle.script.specs.Driver.{newEndpoint, allocated-as}
 use Rattle.script.specs.AllocateAll.{allocateEach, announce, beginsAt, announceAfter, announceAll, allocate-read}
 use Rattle.script.specs.Calls.{Config, calls}
-use Rattle.script_ops.specs.Records.{withIsoSets, isoAdded, withSets, recordGiven, setsGiven, givenTo, allocatedOn, startedWith, allocatedEp0}
+use Rattle.script_ops.specs.Records.{withIsoSets, isoAdded, withSets, recordGiven, setsGiven, givenTo, allocatedOn}
+use Rattle.script_ops.specs.Records.{startedWith, allocatedEp0}
 use Rattle.script_ops.specs.Rings.{St, resetBelow, resetAll}
 use Rattle.script_ops.specs.Concrete.{concrete}
 use Rattle.proof_usb20.specs.Log.{Log, Request, saw, afresh}
@@ -48,12 +53,12 @@ use Rattle.proof_usb20.specs.WatchLaws.{watch-bind, watch-more, watch-co
 use Rattle.proof_usb20.specs.Ep0.{Watch, View, view, Between, Says, Base, R, Law}
 use Rattle.proof_usb20.specs.Ep0Laws.{act-view, hand-view}
 use Rattle.proof_usb20.specs.ViewsLaws.{put-globals}
-use Rattle.proof_usb20.specs.ExemptLaws.{Kept, same, further, saw-kept}
-use Rattle.proof_usb20.specs.QuietLaws.{Any}
+use Rattle.proof_usb20.specs.ExemptLaws.{differ, Kept, same, further, isEp0Dma, saw-kept}
+use Rattle.proof_usb20.specs.QuietLaws.{Any, elsewhere}
 
--- the request, the stage and EP0's maximum
-abbrev pub baseOf : View → Control × ℕ × ℕ
-baseOf x = (x .control, x .stage, x .maximum)
+-- the request, the stage, EP0's maximum and its slot
+abbrev pub baseOf : View → Control × ℕ × ℕ × ℕ
+baseOf x = (x .control, x .stage, x .maximum, x .buffer)
 
 abbrev pub Left : Log → St → Log → St → Type 0
 Left w s x t = Kept w x × (baseOf (view (t .0)) ≡ baseOf (view (s .0)))
@@ -61,11 +66,14 @@ Left w s x t = Kept w x × (baseOf (view (t .0)) ≡ baseOf (view (s .0)))
 pub record Leaves {i : Bool} {A : Type 0} (p : Script i A) : Type 0 where
   pub goes : (w : Log) (s : St) → Watch Between Any {A = A} (λ x _ t. Left w s x t) w (run concrete p s)
 
-pub kept-base : {q q′ : Request} {b b′ : Bool} {x y : View} → Base q b x → q′ ≡ q → b′ ≡ b → baseOf y ≡ baseOf x → Base q′ b′ y
-kept-base {q = q} {x = x} {y = y} k hq hb e = record {
+pub kept-base : {q q′ : Request} {b b′ : Bool} {l l′ : ℕ} {x y : View} → Base q b l x → q′ ≡ q → b′ ≡ b → l′ ≡ l
+    → baseOf y ≡ baseOf x
+    → Base q′ b′ l′ y
+kept-base {q = q} {x = x} {y = y} k hq hb hl e = record {
   says = subst (λ (z : Request). Says z (y .control)) (sym hq) (subst (Says q) (sym (ap (λ z. z .0) e)) (k .says));
   started = ap (λ z. eqb (z .1) 2) e ∙ (k .started ∙ sym hb);
   maximum = λ h. ap (λ z. z .2) e ∙ k .maximum (sym hb ∙ h);
+  slot = λ h. ap (λ z. z .3) e ∙ (k .slot (sym hb ∙ h) ∙ sym hl);
 }
 
 -- ---- how they are put together
@@ -73,7 +81,8 @@ kept-base {q = q} {x = x} {y = y} k hq hb e = record {
 pub l-ret : {i : Bool} {A : Type 0} {a : A} → Leaves (ret {i = i} a)
 l-ret = record { goes = λ w s. at-end (same, refl) }
 
-pub l-bind : {i : Bool} {A B : Type 0} {p : Script i A} {f : A → Script i B} → Leaves p → ((a : A) → Leaves (f a)) → Leaves (bind p f)
+pub l-bind : {i : Bool} {A B : Type 0} {p : Script i A} {f : A → Script i B} → Leaves p → ((a : A) → Leaves (f a))
+    → Leaves (bind p f)
 l-bind x y = record {
   goes = λ w s. watch-bind (x .goes w s)
       (λ v a t l. watch-more (y a .goes v t) (λ _ _ _ m. (further (l .0) (m .0), m .1 ∙ l .1)));
@@ -82,46 +91,65 @@ l-bind x y = record {
 pub l-test : {i : Bool} {A : Type 0} {b : Bool} {p q : Script i A} → Leaves p → Leaves q → Leaves (test b p q)
 l-test {b = b} x y = record { goes = λ w s. watch-cond b (λ _. x .goes w s) (λ _. y .goes w s) }
 
-asked : {A : Type 0} {q : Access} {s : St} {f : ℕ → St → tree.Out St A} (w : Log)
+asked : {A : Type 0} {q : Access} {s : St} {f : ℕ → St → tree.Out St A} (w : Log) → isEp0Dma q ≡ false
     → ((v : ℕ) (t : St) → Watch Between Any {A = A} (λ x _ u. Left (saw w q v) t x u) (saw w q v) (f v t))
     → Watch Between Any {A = A} (λ x _ u. Left w s x u) w (tree.asks q s f)
-asked {q = q} w g = at-ask tt
-    (λ v t _ k. watch-more (g v t) (λ _ _ _ m. (further (saw-kept w q v) (m .0), m .1 ∙ ap baseOf (k .0))))
+asked {q = q} w d g = at-ask tt
+    (λ v t _ k. watch-more (g v t) (λ _ _ _ m. (further (saw-kept w q d v) (m .0), m .1 ∙ ap baseOf (k .0))))
 
 onward : {A : Type 0} {o : tree.Out St A} (w : Log) (s t : St) → baseOf (view (t .0)) ≡ baseOf (view (s .0))
     → Watch Between Any {A = A} (λ x _ u. Left w t x u) w o → Watch Between Any {A = A} (λ x _ u. Left w s x u) w o
 onward w s t e x = watch-more x (λ _ _ _ m. (m .0, m .1 ∙ e))
 
-pub l-read : {i : Bool} {A : Type 0} {r : Reg} {e : ℕ} {f : ℕ → Script i A} → ((v : ℕ) → Leaves (f v)) → Leaves (read-then r e f)
-l-read x = record { goes = λ w s. asked w (λ v t. x v .goes _ t) }
+pub l-read : {i : Bool} {A : Type 0} {r : Reg} {e : ℕ} {f : ℕ → Script i A} → ((v : ℕ) → Leaves (f v))
+    → Leaves (read-then r e f)
+l-read x = record { goes = λ w s. asked w refl (λ v t. x v .goes _ t) }
 
 pub l-write : {i : Bool} {A : Type 0} {r : Reg} {e v : ℕ} {p : Script i A} → Leaves p → Leaves (write-then r e v p)
-l-write x = record { goes = λ w s. asked w (λ _ t. x .goes _ t) }
+l-write x = record { goes = λ w s. asked w refl (λ _ t. x .goes _ t) }
 
 l-wait : {i : Bool} {A : Type 0} {n : ℕ} {p : Script i A} → Leaves p → Leaves (wait-then n p)
-l-wait x = record { goes = λ w s. asked w (λ _ t. x .goes _ t) }
+l-wait x = record { goes = λ w s. asked w refl (λ _ t. x .goes _ t) }
 
-pub l-get : {i : Bool} {A : Type 0} {c : Cell} {f : Val c → Script i A} → ((v : Val c) → Leaves (f v)) → Leaves (get-then c f)
+pub l-get : {i : Bool} {A : Type 0} {c : Cell} {f : Val c → Script i A} → ((v : Val c) → Leaves (f v))
+    → Leaves (get-then c f)
 l-get {c = c} x = record { goes = λ w s. x (concrete .get c s) .goes w s }
 
-pub l-fetch : {i : Bool} {A : Type 0} {q : Fetch} {f : List ℕ → Script i A} → ((l : List ℕ) → Leaves (f l)) → Leaves (fetch-then q f)
+pub l-fetch : {i : Bool} {A : Type 0} {q : Fetch} {f : List ℕ → Script i A} → ((l : List ℕ) → Leaves (f l))
+    → Leaves (fetch-then q f)
 l-fetch {q = q} x = record { goes = λ w s. x (concrete .fetch q s) .goes w s }
 
 l-put : {i : Bool} {A : Type 0} {c : Cell} {v : Val c} {p : Script i A}
     → ((s : St) → baseOf (view (concrete .put c v s .0)) ≡ baseOf (view (s .0))) → Leaves p → Leaves (put-then c v p)
-l-put {c = c} {v = v} e x = record { goes = λ w s. onward w s (concrete .put c v s) (e s) (x .goes w (concrete .put c v s)) }
+l-put {c = c} {v = v} e x = record {
+  goes = λ w s. onward w s (concrete .put c v s) (e s) (x .goes w
+      (concrete .put c v s));
+}
 
 pub l-act : {i : Bool} {A : Type 0} {q : Act} {p : Script i A} → allocates q ≡ false → Leaves p → Leaves (act-then q p)
-l-act {q = q} h x = record { goes = λ w s. onward w s (concrete .act q s) (ap baseOf (act-view q h s)) (x .goes w (concrete .act q s)) }
+l-act {q = q} h x = record {
+  goes = λ w s. onward w s (concrete .act q s) (ap baseOf (act-view q h s)) (x .goes w
+      (concrete .act q s));
+}
 
-pub l-hand : {i : Bool} {A : Type 0} {q : DmaStep} {p : Script i A} → Leaves p → Leaves (hand-then q p)
-l-hand {q = q} x = record {
-  goes = λ w s. onward w s (concrete .hand q s .1) (ap baseOf (hand-view q s)) (asked w (λ _ t. x .goes _ t));
+not-ep0 : (q : DmaStep) (x : ℕ) → elsewhere q ≡ true → isEp0Dma (dmaStepAsk q x) ≡ false
+not-ep0 (arrive e n) x h = refl
+not-ep0 (send e) x h = refl
+not-ep0 (place Out e) x h = refl
+not-ep0 (place In e) x h = refl
+not-ep0 place0 x h = differ h
+
+pub l-hand : {i : Bool} {A : Type 0} {q : DmaStep} {p : Script i A} → elsewhere q ≡ true → Leaves p
+    → Leaves (hand-then q p)
+l-hand {q = q} h x = record {
+  goes = λ w s. onward w s (concrete .hand q s .1) (ap baseOf (hand-view q s)) (asked w (not-ep0 q
+      (concrete .hand q s .0) h) (λ _ t. x .goes _ t));
 }
 
 -- ---- assignments
 
-put-ep : (d : Dir) (e : ℕ) (v : EpCore) (s : St) → baseOf (view (concrete .put (ep-cell d e) v s .0)) ≡ baseOf (view (s .0))
+put-ep : (d : Dir) (e : ℕ) (v : EpCore) (s : St) → baseOf (view (concrete .put (ep-cell d e) v s .0)) ≡ baseOf (view
+    (s .0))
 unfolding withOn
 put-ep d e v s = refl
 
@@ -141,7 +169,8 @@ pub l-wake : {i : Bool} (d : Dir) (e : ℕ) → Leaves (wake {i = i} d e)
 l-wake d e = l-act refl l-ret
 
 pub l-int-en : {i : Bool} (f : ℕ → ℕ) → Leaves (modifyIntEn {i = i} f)
-l-int-en f = l-bind (l-got globals-cell) (λ g. l-bind (l-put (λ s. ap baseOf (put-globals (withIntEn (f (g .«int_en»)) g) s)) l-ret) (λ _. l-write l-ret))
+l-int-en f = l-bind (l-got globals-cell) (λ g. l-bind (l-put (λ s. ap baseOf (put-globals (withIntEn (f
+    (g .«int_en»)) g) s)) l-ret) (λ _. l-write l-ret))
 
 pub l-operation : {i : Bool} {p : Script i ℕ} → Leaves p → Leaves (operation p)
 l-operation x = l-bind (l-act refl l-ret) (λ _. l-bind x (λ n. l-bind (l-fetch (λ _. l-ret)) (λ w. l-ret)))
@@ -157,7 +186,8 @@ l-stalled In e true = l-bind (l-write l-ret) (λ _. l-bind (l-reg _ e _) (λ _. 
 l-stalled Out e false = l-bind (l-got (ep-cell Out e))
     (λ s. l-bind (l-put (put-ep Out e (withTog 0 s)) l-ret) (λ _. l-bind (l-write l-ret) (λ _. l-wake Out e)))
 l-stalled In e false = l-bind (l-got (ep-cell In e))
-    (λ s. l-bind (l-put (put-ep In e (withTog 0 s)) l-ret) (λ _. l-bind (l-write l-ret) (λ _. l-bind (l-when (l-ep In e completed)) (λ _. l-wake In e))))
+    (λ s. l-bind (l-put (put-ep In e (withTog 0 s)) l-ret) (λ _. l-bind (l-write l-ret) (λ _. l-bind (l-when
+    (l-ep In e completed)) (λ _. l-wake In e))))
 
 -- ---- a bus reset
 
@@ -167,10 +197,10 @@ l-naks zero e = l-ret
 l-naks (suc n) e = l-bind (l-write l-ret) (λ _. l-bind (l-write l-ret) (λ _. l-naks n (suc e)))
 
 abbrev Parts : Type 0
-Parts = Control × ℕ × ℕ
+Parts = Control × ℕ × ℕ × ℕ
 
 abbrev partsOf : Driver → Parts
-partsOf d = (d .control, d .globals .stage, d .globals .«ep0_max»)
+partsOf d = (d .control, d .globals .stage, d .globals .«ep0_max», d .globals .«ep0_buf»)
 
 reset-below : (n : ℕ) (d : Driver) → partsOf (resetBelow n d) ≡ partsOf d
 unfolding resetBelow withOn
@@ -187,9 +217,17 @@ resets-base (suc zero) s = refl
 resets-base (suc (suc zero)) s = refl
 resets-base (suc (suc (suc k))) s = refl
 
-in-row : (n : ℕ) (w : Log) (s : St) → Watch Between Any (λ x _ t. Left w s x t) w (rows concrete bus-reset n (λ t. tree.ends (tt {0}) t) s)
-in-row zero w s = onward w s (concrete .row bus-reset zero s .1) (resets-base zero s) (asked w (λ _ t. at-end (same, refl)))
-in-row (suc n) w s = onward w s (concrete .row bus-reset (suc n) s .1) (resets-base (suc n) s) (asked w (λ _ t. in-row n _ t))
+reset-asks : (n x : ℕ) → isEp0Dma (burstAsk bus-reset (suc n) x) ≡ false
+reset-asks zero x = refl
+reset-asks (suc zero) x = refl
+reset-asks (suc (suc n)) x = refl
+
+in-row : (n : ℕ) (w : Log) (s : St) → Watch Between Any (λ x _ t. Left w s x t) w (rows concrete bus-reset n
+    (λ t. tree.ends (tt {0}) t) s)
+in-row zero w s = onward w s (concrete .row bus-reset zero s .1) (resets-base zero s) (asked w refl (λ _ t. at-end
+    (same, refl)))
+in-row (suc n) w s = onward w s (concrete .row bus-reset (suc n) s .1) (resets-base (suc n) s) (asked w (reset-asks n
+    (concrete .row bus-reset (suc n) s .0)) (λ _ t. in-row n _ t))
 
 pub l-reset : Leaves bus.busReset
 l-reset = l-bind (l-write l-ret) (λ _. l-bind (l-write l-ret) (λ _. l-bind (l-write l-ret) (λ _. l-bind (l-naks 15 1)
@@ -199,18 +237,21 @@ l-reset = l-bind (l-write l-ret) (λ _. l-bind (l-write l-ret) (λ _. l-bind (l-
 
 sets-base : (dir : Dir) (kind interval e : ℕ) (g : Globals)
     → (withSets dir kind interval e g .stage ≡ g .stage) × (withSets dir kind interval e g .«ep0_max» ≡ g .«ep0_max»)
+    × (withSets dir kind interval e g .«ep0_buf» ≡ g .«ep0_buf»)
 unfolding withSets
 sets-base dir kind interval e g = by (isIso kind) dir
   where
     often : (b : Bool) (n : ℕ) → (cond b (withIsoSets (g .«iso_out_eps») n g) g .stage ≡ g .stage)
         × (cond b (withIsoSets (g .«iso_out_eps») n g) g .«ep0_max» ≡ g .«ep0_max»)
-    often true n = (refl, refl)
-    often false n = (refl, refl)
+        × (cond b (withIsoSets (g .«iso_out_eps») n g) g .«ep0_buf» ≡ g .«ep0_buf»)
+    often true n = (refl, refl, refl)
+    often false n = (refl, refl, refl)
 
     by : (i : Bool) (dir : Dir) → (cond i (isoAdded dir interval e g) g .stage ≡ g .stage)
         × (cond i (isoAdded dir interval e g) g .«ep0_max» ≡ g .«ep0_max»)
-    by false dir = (refl, refl)
-    by true Out = (refl, refl)
+        × (cond i (isoAdded dir interval e g) g .«ep0_buf» ≡ g .«ep0_buf»)
+    by false dir = (refl, refl, refl)
+    by true Out = (refl, refl, refl)
     by true In = often (ltb interval 2) _
 
 given-base : (dir : Dir) (kind maximum interval : ℕ) (a : alloc.Answer) (d : Driver)
@@ -218,7 +259,7 @@ given-base : (dir : Dir) (kind maximum interval : ℕ) (a : alloc.Answer) (d : D
 unfolding givenTo setsGiven recordGiven withOn
 given-base dir kind maximum interval (variant.Refused n) d = refl
 given-base dir kind maximum interval (variant.Given e base slots) d =
-    let z = sets-base dir kind interval e (d .globals) in λ i. (d .control, z .0 i, z .1 i)
+    let z = sets-base dir kind interval e (d .globals) in λ i. (d .control, z .0 i, z .1 i, z .2 i)
 
 allocated-base : (d : Driver) (dir : Dir) (kind address maximum interval : ℕ)
     → partsOf (allocatedOn d dir kind address maximum interval) ≡ partsOf d
@@ -233,26 +274,31 @@ l-allocate d kind address maximum interval x = record {
   goes = λ w s. onward w s (concrete .act (allocate d kind address maximum interval) s) (seen s) (x .goes w _);
 }
   where
-    seen : (s : St) → baseOf (view (concrete .act (allocate d kind address maximum interval) s .0)) ≡ baseOf (view (s .0))
+    seen : (s : St) → baseOf (view (concrete .act (allocate d kind address maximum interval) s .0)) ≡ baseOf (view
+        (s .0))
     seen s = allocated-base (s .0) d kind address maximum interval
 
 l-new : {i : Bool} (d : Dir) (kind maximum e : ℕ) → Leaves (newEndpoint {i = i} d kind maximum e)
-l-new d kind maximum e = l-bind (l-write l-ret) (λ _. l-bind (l-when (l-hand l-ret)) (λ _. l-ret))
+l-new d kind maximum e = l-bind (l-write l-ret) (λ _. l-bind (l-when (l-hand refl l-ret)) (λ _. l-ret))
 
-pub l-allocated : {i : Bool} (d : Dir) (kind maximum : ℕ) (a : alloc.Answer) → Leaves (allocated-as {i = i} d kind maximum a)
+pub l-allocated : {i : Bool} (d : Dir) (kind maximum : ℕ) (a : alloc.Answer)
+    → Leaves (allocated-as {i = i} d kind maximum a)
 l-allocated d kind maximum (variant.Refused n) = l-ret
 l-allocated d kind maximum (variant.Given e base slots) = l-operation (l-new d kind maximum e)
 
 pub l-allocates : {i : Bool} (d : Dir) (kind address maximum interval : ℕ)
-    → Leaves {i = i} (bind (get allocator-cell) (λ a. bind (act-then (allocate d kind address maximum interval) (ret (tt {0})))
+    → Leaves {i = i} (bind (get allocator-cell) (λ a. bind (act-then (allocate d kind address maximum interval) (ret
+    (tt {0})))
     (λ _. allocated-as d kind maximum (allocateOf a kind address maximum d .answer))))
 l-allocates d kind address maximum interval = l-bind (l-got allocator-cell)
-    (λ a. l-bind (l-allocate d kind address maximum interval l-ret) (λ _. l-allocated d kind maximum (allocateOf a kind address maximum d .answer)))
+    (λ a. l-bind (l-allocate d kind address maximum interval l-ret) (λ _. l-allocated d kind maximum
+    (allocateOf a kind address maximum d .answer)))
 
 l-each : {i : Bool} (es : List Endpoint) → Leaves (allocateEach {i = i} es)
 unfolding allocateEach
 l-each [] = l-ret
-l-each (e ∷ es) = l-bind (l-allocate (directionOf (e .address)) (e .kind) (e .address) (e .maximum) (e .interval) l-ret) (λ _. l-each es)
+l-each (e ∷ es) = l-bind (l-allocate (directionOf (e .address)) (e .kind) (e .address) (e .maximum)
+    (e .interval) l-ret) (λ _. l-each es)
 
 l-announce : {i : Bool} (d : Dir) (e : ℕ) → Leaves (announce {i = i} d e)
 l-announce d e = l-bind (l-got (ep-cell d e)) (λ s. l-new d (s .kind) (s .«max_len») e)
@@ -289,14 +335,20 @@ pub started-base : (d : Driver) (maximum n : ℕ) → allocateEp0Of (d .allocato
 unfolding allocatedEp0 startedWith
 started-base d maximum n h = rw h refl
 
-pub started-stage : (d : Driver) (maximum e base slots : ℕ) → allocateEp0Of (d .allocator) maximum .answer ≡ variant.Given e base slots
-    → baseOf (view (allocatedEp0 d maximum)) ≡ (d .control, 2, maximum)
+pub started-stage : (d : Driver) (maximum e base slots : ℕ) → allocateEp0Of
+    (d .allocator) maximum .answer ≡ variant.Given e base slots
+    → baseOf (view (allocatedEp0 d maximum)) ≡ (d .control, 2, maximum, allocatedEp0 d maximum .globals .«ep0_buf»)
 unfolding allocatedEp0 startedWith
 started-stage d maximum e base slots h = rw h refl
 
-pub l-start-ep0 : {i : Bool} (maximum : ℕ) → Leaves (startEp0 {i = i} maximum)
-l-start-ep0 maximum = l-bind (l-hand l-ret)
-    (λ _. l-bind (l-write l-ret) (λ _. l-bind (l-write l-ret) (λ _. l-bind (l-write l-ret) (λ _. l-write l-ret))))
+-- what comes after EP0's slot is handed out
+abbrev pub startRest : {i : Bool} → ℕ → Script i Unit
+startRest maximum = bind (write EpMaxLen 0 maximum) (λ _. bind (write EpRxCtrl 0 (wordOf NAK DATA0 false))
+    (λ _. bind (write EpTxCtrl 0 (wordOf NAK DATA0 false)) (λ _. write EpMaxLen 0 64)))
+
+pub l-start-rest : {i : Bool} (maximum : ℕ) → Leaves (startRest {i = i} maximum)
+l-start-rest maximum = l-bind (l-write l-ret) (λ _. l-bind (l-write l-ret) (λ _. l-bind (l-write l-ret)
+    (λ _. l-write l-ret)))
 
 pub given-64 : (a : Allocator) (maximum e base slots : ℕ) → allocateEp0Of a maximum .answer ≡ variant.Given e base slots
     → maximum ≡ 64
@@ -312,19 +364,22 @@ given-64 a maximum e base slots h = by (eqb maximum 64) refl h
 
     by : (b : Bool) → eqb maximum 64 ≡ b
         → (if b (if (ltb (a .size) maximum) (refused 6 a) (if (leb (a .count) (a .next)) (refused 8 a)
-        (record { answer = variant.Given 0 (a .next * a .size) 1; after = withNext a (a .next + 1) }))) (refused 22 a)) .answer
+        (record { answer = variant.Given 0 (a .next * a .size) 1; after = withNext a (a .next + 1) })))
+        (refused 22 a)) .answer
         ≡ variant.Given e base slots
         → maximum ≡ 64
     by true q h = eqb-true maximum 64 q
     by false q h = differs 22 h
 
 -- a start that is given
-pub given-start : {q q′ : Request} {b : Bool} {x y : View} {c : Control} {maximum : ℕ} → Base q b x → q′ ≡ q → x .control ≡ c
-    → baseOf y ≡ (c, 2, maximum) → maximum ≡ 64 → Base q′ true y
-given-start {q = q} {y = y} k hq hc e m = record {
+pub given-start : {q q′ : Request} {b : Bool} {l l′ : ℕ} {x y : View} {c : Control} {maximum slot : ℕ} → Base q b l x
+    → q′ ≡ q → x .control ≡ c
+    → baseOf y ≡ (c, 2, maximum, slot) → maximum ≡ 64 → l′ ≡ slot → Base q′ true l′ y
+given-start {q = q} {y = y} k hq hc e m hl = record {
   says = subst (λ (z : Request). Says z (y .control)) (sym hq) (subst (Says q) (hc ∙ sym (ap (λ z. z .0) e)) (k .says));
   started = ap (λ z. eqb (z .1) 2) e;
   maximum = λ _. ap (λ z. z .2) e ∙ m;
+  slot = λ _. ap (λ z. z .3) e ∙ sym hl;
 }
 
 -- ---- start-up's own script

@@ -50,14 +50,16 @@ module _ (O : Observer) where
   pub record Laws (R : O .Log → O .View → Type 0) : Type 0 where
     pub stands : (w : O .Log) (x : O .View) → R w x → O .Stands w x
     pub call : (o : Op) (w : O .Log) (s : St) → R w (O .view (s .0)) → Sorting (s .0)
-        → Sees (O .Allowed o) (λ x a t. R (O .closes o a x) (O .view (t .0)) × (Few (ended a) → O .Fair o a x)) (O .opens o w) (run concrete (code o) s)
+        → Sees (O .Allowed o) (λ x a t. R (O .closes o a x) (O .view (t .0)) × (Few (ended a)
+        → O .Fair o a x)) (O .opens o (s .1) w) (run concrete (code o) s)
     pub asks : (o : Op) (s : St) → Only (O .Asks o) (run concrete (code o) s)
     pub besides : (o : Aside) (d : Driver) (b : Buf) (a : Answer) (t : St) → Sorting d
         → run concrete (asideCode o) (d, b) ≡ tree.ends a t → (O .view (t .0) ≡ O .view d) × (t .0 .wakes ≡ d .wakes)
     pub new : (c : Config) (b : Buf)
         → Ups (λ s. R (O .before) (O .view (s .0))) (run concrete (calls .starts c) (driverOf .fresh c, b))
     -- row 1, of a call that brings the slots, leaves all as it was
-    pub unlent : (o : Op) → calls .slots o ≡ true → (w : O .Log) (x : O .View) → R w x → R (O .closes o (Refused 1) (O .opens o w)) x
+    pub unlent : (o : Op) → calls .slots o ≡ true → (b : Buf) (w : O .Log) (x : O .View) → R w x
+        → R (O .closes o (Refused 1) (O .opens o b w)) x
     pub fair-1 : (o : Op) → calls .slots o ≡ true → (w : O .Log) → O .Fair o (Refused 1) w
 
   module _ {R : O .Log → O .View → Type 0} (L : Laws R) where
@@ -83,7 +85,7 @@ module _ (O : Observer) where
     J (busy i a k) d w starting = (w ≡ O .before) × Up k d
 
     record ObserverStep (c : Call Config Op) (b : Buf) (y : Ans Answer × Machine Answer Driver) (x : Watched O) : Type 0 where
-      claim : Claim O c (y .0) (serves (y .1 .way)) x
+      claim : Claim O c b (y .0) (serves (y .1 .way)) x
       standing : let z = noted O c b (y .0) (serves (y .1 .way)) x in Standing O (y .1 .st) (z .log) (z .under)
       next : let z = noted O c b (y .0) (serves (y .1 .way)) x in J (y .1 .way) (y .1 .st) (z .log) (z .under)
 
@@ -98,7 +100,7 @@ module _ (O : Observer) where
 
     -- an operation begins, or goes on: where it stops
     begins : (o : Op) (i : Bool) (b : Buf) (w : O .Log) {out : tree.Out St Answer}
-        → Sees (O .Allowed o) (Ends o) (O .opens o w) out → Only (O .Asks o) out
+        → Sees (O .Allowed o) (Ends o) (O .opens o b w) out → Only (O .Asks o) out
         → Steps (begin o) b (haltsAs i out) (watched O w at-rest)
     begins o i b w (at-end {a = a} {s = s} p) m few = record { claim = p .1 few; standing = L .stands _ (O .view (s .0)) (p .0); next = p .0 }
     begins o i b w (at-ask ok k) (ways.at-ask a m) few = record { claim = (ok, a); standing = tt; next = (λ v t r h. k v t r h, λ v t. m v t tt tt) }
@@ -132,24 +134,27 @@ module _ (O : Observer) where
     still-J i a k d d′ w (doing o q) e j = (λ v t r h. j .0 v t r (h .0 ∙ e .0, h .1, h .2 ∙ e .1), j .1)
     still-J i a k d d′ w starting e j = (j .0, λ v t h. j .1 v t (h .0 ∙ e .0, h .1, h .2 ∙ e .1))
 
-    unclaimed : (o : Op) (a : Ans Answer) (w : O .Log) (u : Under) (i : Bool) (y : Awaits) (k : ℕ → St → tree.Out St Answer) (d : Driver)
-        → J (busy i y k) d w u → ClaimBegun O o a w u
-    unclaimed o a w (doing p q) i y k d j = tt
-    unclaimed o a w starting i y k d j = tt
+    unclaimed : (o : Op) (b : Buf) (a : Ans Answer) (w : O .Log) (u : Under) (i : Bool) (y : Awaits) (k : ℕ → St
+        → tree.Out St Answer) (d : Driver)
+        → J (busy i y k) d w u → ClaimBegun O o b a w u
+    unclaimed o b a w (doing p q) i y k d j = tt
+    unclaimed o b a w starting i y k d j = tt
 
     -- the log stays where an operation is under way
-    same-begun : (o : Op) (a : Ans Answer) (w : O .Log) (u : Under) (i : Bool) (y : Awaits) (k : ℕ → St → tree.Out St Answer) (d : Driver)
-        → J (busy i y k) d w u → beginsBy O o a w u ≡ watched O w u
-    same-begun o a w (doing p q) i y k d j = refl
-    same-begun o a w starting i y k d j = refl
+    same-begun : (o : Op) (b : Buf) (a : Ans Answer) (w : O .Log) (u : Under) (i : Bool) (y : Awaits) (k : ℕ → St
+        → tree.Out St Answer) (d : Driver)
+        → J (busy i y k) d w u → beginsBy O o b a w u ≡ watched O w u
+    same-begun o b a w (doing p q) i y k d j = refl
+    same-begun o b a w starting i y k d j = refl
 
     module _ (o : Op) (b : Buf) (i : Bool) (y : Awaits) (k : ℕ → St → tree.Out St Answer) (x : Watched O) where
       stepped : (a : Ans Answer) (d : Driver) (l : Buf) → J (busy i y k) d (x .log) (x .under)
           → ObserverStep (begin o) b (a, record { way = busy i y k; st = d; buf = l }) x
       stepped a d l j = record {
-        claim = unclaimed o a (x .log) (x .under) i y k d j;
-        standing = rw (same-begun o a (x .log) (x .under) i y k d j) (standing-of (busy i y k) d (x .log) (x .under) j);
-        next = rw (same-begun o a (x .log) (x .under) i y k d j) j;
+        claim = unclaimed o b a (x .log) (x .under) i y k d j;
+        standing = rw (same-begun o b a (x .log) (x .under) i y k d j) (standing-of (busy i y k) d (x .log)
+            (x .under) j);
+        next = rw (same-begun o b a (x .log) (x .under) i y k d j) j;
       }
 
       passing : (d : Driver) (l : Buf) (f : Aside) → Sorting d → J (busy i y k) d (x .log) (x .under)
@@ -175,13 +180,14 @@ module _ (O : Observer) where
     brought-so false m h = h
 
     -- at rest, with row 1
-    afresh : (o : Op) (b : Buf) (g : Bool) → (g ≡ true → calls .slots o ≡ true) → (d : Driver) (l : Buf) (w : O .Log) → R w (O .view d)
+    afresh : (o : Op) (b : Buf) (g : Bool) → (g ≡ true → calls .slots o ≡ true) → (d : Driver) (l : Buf) (w : O .Log)
+        → R w (O .view d)
         → Sorting d
         → Steps (begin o) b
         (cond g (stay calls driverOf 1 (record { way = idle; st = d; buf = l }))
         (begun calls driverOf (λ s. s) o (record { way = idle; st = d; buf = l }) idle b)) (watched O w at-rest)
-    afresh o b true h d l w r z few = let n = L .unlent o (h refl) w (O .view d) r in
-        record { claim = L .fair-1 o (h refl) (O .opens o w); standing = L .stands _ (O .view d) n; next = n }
+    afresh o b true h d l w r z few = let n = L .unlent o (h refl) b w (O .view d) r in
+        record { claim = L .fair-1 o (h refl) (O .opens o b w); standing = L .stands _ (O .view d) n; next = n }
     afresh o b false h d l w r z few = begins o (calls .irq o) b w (L .call o w (d, b) r z) (L .asks o (d, b)) few
 
     -- row 1 of a call in the midst of an operation
@@ -207,7 +213,8 @@ module _ (O : Observer) where
 
     row-16 : (v : ℕ) (b : Buf) (g : Bool) (i : Bool) (y : Awaits) (k : ℕ → St → tree.Out St Answer) (d : Driver) (w : O .Log) (u : Under)
         → J (busy i y k) d w u → Sorting d
-        → Steps (go v) b (cond g (stay calls driverOf 16 (record { way = busy i y k; st = d; buf = b })) (haltsAs i (k v (d, b)))) (watched O w u)
+        → Steps (go v) b (cond g (stay calls driverOf 16 (record { way = busy i y k; st = d; buf = b })) (haltsAs i
+        (k v (d, b)))) (watched O w u)
     row-16 v b true i y k d w u j z few = stays v b 16 i y k d b w u j
     row-16 v b false i y k d w u j z few = proceeds v b i y k d w u j z few
 
@@ -215,8 +222,18 @@ module _ (O : Observer) where
         → J y d w u → Sorting d
         → Steps (go v) b (cond g (stay calls driverOf 1 (record { way = y; st = d; buf = l }))
         (continued calls driverOf (λ s. s) v (record { way = y; st = d; buf = l }) y b)) (watched O w u)
-    continues v b true idle d l w at-rest j z few = record { claim = tt; standing = L .stands w (O .view d) j; next = j }
-    continues v b false idle d l w at-rest j z few = record { claim = tt; standing = L .stands w (O .view d) j; next = j }
+    continues v b true idle d l w at-rest j z few = record {
+      claim = tt;
+      standing = L .stands w
+          (O .view d) j;
+      next = j;
+    }
+    continues v b false idle d l w at-rest j z few = record {
+      claim = tt;
+      standing = L .stands w
+          (O .view d) j;
+      next = j;
+    }
     continues v b true (busy i y k) d l w u j z few = stays v b 1 i y k d l w u j
     continues v b false (busy i y k) d l w u j z few = row-16 v b (machine.over calls y v) i y k d w u j z few
 
@@ -234,10 +251,17 @@ module _ (O : Observer) where
             → Steps (begin o) b
             (cond g (stay calls driverOf 1 (record { way = y; st = m .st; buf = m .buf }))
             (begun calls driverOf (λ s. s) o (record { way = y; st = m .st; buf = m .buf }) y b)) (watched O (x .log) u)
-        by idle at-rest i few = afresh o b g (brought-so (calls .slots o) (misfit calls driverOf (m .st) b)) (m .st) (m .buf) (x .log) i z few
+        by idle at-rest i few = afresh o b g (brought-so (calls .slots o) (misfit calls driverOf (m .st) b)) (m .st)
+            (m .buf) (x .log) i z few
         by (busy h a k) u i few = row-1 o b g h a k (m .st) (m .buf) (watched O (x .log) u) z i
-    step (go v) b m x j z few = continues v b (misfit calls driverOf (m .st) b) (m .way) (m .st) (m .buf) (x .log) (x .under) j z few
-    step (question q) b m x j z few = record { claim = tt; standing = standing-of (m .way) (m .st) (x .log) (x .under) j; next = j }
+    step (go v) b m x j z few = continues v b (misfit calls driverOf (m .st) b) (m .way) (m .st) (m .buf) (x .log)
+        (x .under) j z few
+    step (question q) b m x j z few = record {
+      claim = tt;
+      standing = standing-of (m .way) (m .st) (x .log)
+          (x .under) j;
+      next = j;
+    }
 
     -- the endpoints keep their sorts after each call
     abbrev Sorted : List (Event Config Op) → Machine Answer Driver → Type 0
@@ -270,5 +294,6 @@ module _ (O : Observer) where
     from-start c b h es m =
         let y = started calls driverOf (λ s. s) c zero m b in
         each es (y .1) (startedBy O (y .0)) (fresh (L .new c b))
-        (λ ds fs e. subst (λ (n : ℕ). Sorting (after calls driverOf ds (started calls driverOf (λ s. s) c n m b .1) .st)) h (after-sorting c b h ds m))
+        (λ ds fs e. subst (λ (n : ℕ). Sorting (after calls driverOf ds (started calls driverOf
+        (λ s. s) c n m b .1) .st)) h (after-sorting c b h ds m))
         (subst (λ (n : ℕ). Roomy (started calls driverOf (λ s. s) c n m b .1)) h (start-rooms c b h m .machine))

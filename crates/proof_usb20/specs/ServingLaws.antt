@@ -25,6 +25,7 @@ use Rattle.script.specs.Cells.{EpCore, ep-cell, globals-cell}
 use Rattle.script.specs.Script.{when, run, waken, no-wakes, setup-word, _>>=_, _>>_}
 use Rattle.script.specs.Statics.{isOn, withReady, withArmed, withSetup, withEntered, modifyIntEn, wakeBus}
 use Rattle.script.specs.Calls.{interrupt}
+use Rattle.script.specs.Machine.{Buf}
 use Rattle.script.specs.Handler.{entered, nakNonIso, isoFor, ownIn, framed, released, onTransfer, onSetup, onInterrupt}
 use Rattle.script_ops.specs.Rings.{St}
 use Rattle.script_ops.specs.Concrete.{concrete}
@@ -43,7 +44,8 @@ use Rattle.proof_usb20.specs.Ep0Laws.{act-view}
 use Rattle.proof_usb20.specs.StagesLaws.{outWith, inWith, out-view, in-view, out-whole}
 use Rattle.proof_usb20.specs.QuietLaws.{Plainly, plainly, steadily, Any, put-kept}
 use Rattle.proof_usb20.specs.EventsLaws.{aborted, set-up-fits}
-use Rattle.proof_usb20.specs.InterruptLaws.{back, Exactly, Exactly-by, Served, naked, NotIso, servedAs, q-served, served-ep0}
+use Rattle.proof_usb20.specs.InterruptLaws.{back, Exactly, Exactly-by, Served, naked, NotIso, servedAs, q-served}
+use Rattle.proof_usb20.specs.InterruptLaws.{served-ep0}
 use Rattle.proof_usb20.specs.EntryLaws.{Settled, others, mine, entry, settles, nak-other, nak-own, naked-busy}
 
 -- ---- the NAK before the release
@@ -79,11 +81,18 @@ naks-first w s x k = by (eqb (endpoint (x .st)) 0) refl (x .busy) refl
     shut b h = rw (b, h) (last (not (isSof (x .st))))
 
     by : (m : Bool) → eqb (endpoint (x .st)) 0 ≡ m → (b : Bool) → x .busy ≡ b
-        → Watch Between Any (Exactly-by (λ u. entry u w x) (view (s .0))) (withPhase (shows (x .busy) (x .st) (x .len)) w)
+        → Watch Between Any (Exactly-by (λ u. entry u w x) (view (s .0))) (withPhase (shows (x .busy) (x .st)
+        (x .len)) w)
         (run {i = true} concrete (when C (nakNonIso (x .st))) s)
     by true h false b = watch-cond C
         (λ _. watch-more (nak-own w (x .busy) (x .st) (x .len) s k (x .st) h (token (x .st)) refl (togOk (x .st)) refl)
-        (λ y _ t m. record { read = m .read; log = m .log ∙ entry-free (m .read) w x h b; shown = m .shown; plain = m .plain }))
+        (λ y _ t m. record {
+          read = m .read;
+          log = m .log ∙ entry-free
+              (m .read) w x h b;
+          shown = m .shown;
+          plain = m .plain;
+        }))
         (λ q. differ (sym q ∙ free b))
     by true h true b = watch-cond C (λ q. differ (sym (shut b h) ∙ q))
         (λ _. at-end (record { read = 0; log = entry-busy 0 w x h b; shown = refl; plain = k }))
@@ -152,7 +161,8 @@ serves w v x l t {su = su} r two e (mine h v′ m q k) = back m (at-ask {q = Rea
     (not-own x (token (x .st)) iso (u .0 .globals .«sof_frame») frame refl not-iso) in
     back (here (x .busy) (x .st) (x .len) (naked (token (x .st)) (x .busy) (togOk (x .st)) v′ w) h)
     (subst (λ (y : Transfer). Watch Between Any (Served su)
-    (log.ofToken (token (x .st)) (x .busy) (togOk (x .st)) (x .len) (withPhase off (naked (token (x .st)) (x .busy) (togOk (x .st)) v′ w)))
+    (log.ofToken (token (x .st)) (x .busy) (togOk (x .st)) (x .len) (withPhase off (naked (token (x .st)) (x .busy)
+    (togOk (x .st)) v′ w)))
     (run concrete (servedAs (token (y .st)) y iso frame) u)) (sym same)
     (served-ep0 x frame h w u (plainly (i .1)) (subst (R w) (sym (i .0 ∙ q)) r) (ap (λ (a : View). a .stage) (i .0 ∙ q)
     ∙ two) e (token (x .st)) iso (x .busy) (togOk (x .st)) v′ refl refl not-iso))))
@@ -169,7 +179,8 @@ transfers w s r two e = at-ask tt (λ m a _ i. at-ask tt (λ st b _ j. at-ask tt
     let v = l .0 ∙ (j .0 ∙ i .0) in
     watch-bind (naks-first w c (entered m st n) (plainly (l .1))) (λ y _ o q. back (q .log) (at-ask tt (λ _ u _ p.
     watch-bind (settles (q .read) w u (entered m st n) (plainly (p .1)))
-    (λ z x t k. serves w (view (s .0)) x z t r two e (subst (λ (y : View). Settled w y z x t) (p .0 ∙ (q .shown ∙ v)) k))))))))
+    (λ z x t k. serves w (view (s .0)) x z t r two e (subst (λ (y : View). Settled w y z x t) (p .0 ∙ (q .shown
+    ∙ v)) k))))))))
 
 -- ---- the setup packet
 
@@ -183,10 +194,12 @@ nakWord c = writtenAs (wordOf word.NAK word.DATA0 false) c
 abbrev cleared : EpCore → EpCore
 cleared p = withArmed 0 (withReady 0 p)
 
-ready-setup : (x : Log) → x .setup-seen ≡ true → {v y : View} → y ≡ v → Base (x .request) (x .started) v
-    → Rel (anew true (x .rx)) (anew true (x .tx)) (x .len) (x .got) (pipe.after pipe.setup (x .pipe)) pipe.nothing true v
+ready-setup : (x : Log) → x .setup-seen ≡ true → {v y : View} → y ≡ v → Base (x .request) (x .started) (x .slot) v
+    → Rel (anew true (x .rx)) (anew true (x .tx)) (x .len) (x .got) (pipe.after pipe.setup
+    (x .pipe)) pipe.nothing true v
     → R (cond (x .setup-seen) (set-up x) x) y
-ready-setup x e {v = v} {y = y} h k r = subst (λ (b : Bool). R (cond b (set-up x) x) y) (sym e) (subst (R (set-up x)) (sym h) (k, inr r))
+ready-setup x e {v = v} {y = y} h k r = subst (λ (b : Bool). R (cond b (set-up x) x) y) (sym e) (subst (R (set-up x))
+    (sym h) (k, inr r))
 
 sets-up : (w : Log) (s : St) → R w (view (s .0)) → view (s .0) .stage ≡ 2 → w .setup-seen ≡ true → w .phase ≡ off
     → Watch Between Any (λ x _ t. R (cond (x .setup-seen) (set-up x) x) (view (t .0)) × (x .phase ≡ off)) w (run concrete (onSetup {i = true}) s)
@@ -196,16 +209,19 @@ sets-up w s r two e ph = at-ask tt (λ _ a _ i. at-ask tt (λ _ b _ j. at-ask tt
     let n = inWith cleared o in
     let g = withSetup 1 (concrete .look (setup-word 0) b) (concrete .look (setup-word 1) b) (concrete .get globals-cell n) in
     let p = concrete .put globals-cell g n in
-    let seen-p : view (p .0) ≡ setReady 1 (setIn (aborted (view (s .0) .inn)) (setOut (aborted (view (s .0) .out)) (view (s .0))))
+    let seen-p : view (p .0) ≡ setReady 1 (setIn (aborted (view (s .0) .inn)) (setOut (aborted (view (s .0) .out))
+    (view (s .0))))
     = put-globals g n ∙ ap (setReady 1) (in-view cleared o (out-whole cleared b h)
     ∙ ap (λ (y : View). setIn (aborted (y .inn)) y) (out-view cleared b h
     ∙ ap (λ (y : View). setOut (aborted (y .out)) y) (j .0 ∙ i .0))) in
     let c′ = concrete .act (waken (wakeCode Out 0 ∷ [])) c in
     at-end (
       (ready-setup (withTx (nakWord (w .tx)) (withRx (nakWord (w .rx)) w)) e
-          (act-view (waken (wakeCode In 0 ∷ [])) refl c′ ∙ (act-view (waken (wakeCode Out 0 ∷ [])) refl c ∙ (l .0 ∙ seen-p)))
-          (record { says = r .0 .says; started = r .0 .started; maximum = r .0 .maximum })
-          (set-up-fits (nakWord (w .rx)) (nakWord (w .tx)) (w .len) (w .got) (w .pipe) (view (s .0)) two nak-word nak-word)),
+          (act-view (waken (wakeCode In 0 ∷ [])) refl c′ ∙ (act-view (waken (wakeCode Out 0 ∷ [])) refl c ∙ (l .0
+          ∙ seen-p)))
+          (record { says = r .0 .says; started = r .0 .started; maximum = r .0 .maximum; slot = r .0 .slot })
+          (set-up-fits (nakWord (w .rx)) (nakWord (w .tx)) (w .len) (w .got) (w .pipe) (view
+          (s .0)) two nak-word nak-word)),
       ph,
     ))))
 
@@ -236,10 +252,10 @@ is-flagged f w h = rw h refl
 is-off : (f : ℕ) (w : Log) → transfer f ≡ false → withFlags f w .phase ≡ off
 is-off f w h = rw h refl
 
-on-interrupt : (w : Log) (s : St) → R w (view (s .0)) → view (s .0) .stage ≡ 2
-    → Watch Between Any Over (opens interrupt w) (run concrete (onInterrupt {i = true}) s)
-on-interrupt w s r two = at-ask tt (λ f b _ j.
-    let u = withFlags f (opens interrupt w) in
+on-interrupt : (lent : Buf) (w : Log) (s : St) → R w (view (s .0)) → view (s .0) .stage ≡ 2
+    → Watch Between Any Over (opens interrupt lent w) (run concrete (onInterrupt {i = true}) s)
+on-interrupt lent w s r two = at-ask tt (λ f b _ j.
+    let u = withFlags f (opens interrupt lent w) in
     watch-bind {P = Exactly u (view (s .0))}
     (watch-cond (busRst f) (λ _. watch-more (masks (λ w. withBusRst w false) u b (plainly (j .1))) (λ _ _ _ m. (m .0, m .1 ∙ j .0, m .2)))
     (λ _. at-end (refl, j .0, plainly (j .1)))) (λ x _ c m. back (m .0) (
@@ -253,9 +269,16 @@ on-interrupt w s r two = at-ask tt (λ f b _ j.
     (watch-cond (hstSof f) (λ _. at-ask tt (λ _ t _ l. at-end (refl, l .0 ∙ o .1, plainly (l .1)))) (λ _. at-end (refl, o .1, o .2)))
     (λ x _ g p. back (p .0) (
     watch-bind {P = Served (setupAct f)}
-    (watch-cond (transfer f) (λ h. back (is-flagged f (opens interrupt w) h) (transfers u g (subst (R u) (sym (p .1)) r) (ap (λ (y : View). y .stage) (p .1) ∙ two) refl))
-    (λ h. at-end (subst (R u) (sym (p .1)) r, ap (λ (y : View). y .stage) (p .1) ∙ two, refl, is-off f (opens interrupt w) h))) (λ x _ t k.
-    watch-cond (setupAct f) (λ h. sets-up x t (k .0) (k .1) (k .2 ∙ h) (k .3)) (λ h. at-end (none x (view (t .0)) (k .2 ∙ h) (k .0), k .3))))))))))))
+    (watch-cond (transfer f) (λ h. back (is-flagged f (opens interrupt lent w) h) (transfers u g (subst (R u) (sym (p .1)) r) (ap (λ (y : View). y .stage) (p .1) ∙ two) refl))
+    (λ h. at-end (
+      subst (R u) (sym (p .1)) r,
+      ap (λ (y : View). y .stage) (p .1)
+          ∙ two,
+      refl,
+      is-off f (opens interrupt lent w) h,
+    ))) (λ x _ t k.
+    watch-cond (setupAct f) (λ h. sets-up x t (k .0) (k .1) (k .2
+    ∙ h) (k .3)) (λ h. at-end (none x (view (t .0)) (k .2 ∙ h) (k .0), k .3))))))))))))
 
 pub law-interrupt : Law interrupt
 law-interrupt w s r z =
@@ -265,7 +288,7 @@ law-interrupt w s r z =
     watch-bind {P = Over} (watch-bind {P = Over} (at-ask tt (λ frame a _ i.
     let v : view (concrete .put globals-cell (withEntered (indexOf frame) (concrete .get globals-cell a)) a .0)
     ≡ view (s .0) = put-kept (withEntered (indexOf frame)) (λ _. refl) a ∙ (i .0 ∙ act-view no-wakes refl s) in
-    on-interrupt w (concrete .put globals-cell (withEntered (indexOf frame) (concrete .get globals-cell a)) a)
+    on-interrupt (s .1) w (concrete .put globals-cell (withEntered (indexOf frame) (concrete .get globals-cell a)) a)
     (subst (R w) (sym v) r) (ap (λ (y : View). y .stage) v ∙ two)))
     (λ y _ o l. at-end l)) (λ y n o l. at-end (l .0, l .1)))
     (λ _. at-end (r, tt))

@@ -23,7 +23,8 @@ use Rattle.script_ops.specs.Rings.{St}
 use Rattle.script_ops.specs.Concrete.{concrete}
 use Rattle.proof_book.specs.TransferKindsLaws.{put-steady, act-steady}
 use Rattle.proof_usb20.specs.Pipe.{Pipe, Awaited, nothing, keeps, sets}
-use Rattle.proof_usb20.specs.Log.{Ep0Word, writtenAs, readAs, Request, for-setup, no-request, Log, afresh, Untaken}
+use Rattle.proof_usb20.specs.Log.{Ep0Word, writtenAs, readAs, Request, for-setup, no-request, Log, afresh}
+use Rattle.proof_usb20.specs.Log.{Untaken}
 use Rattle.proof_usb20.specs.Log.{unstarted, ended, misfits}
 use Rattle.proof_usb20.specs.Watch.{at-end, at-ask}
 use Rattle.proof_usb20.specs.WatchLaws.{watch-cond}
@@ -72,10 +73,10 @@ noted-view c s = act-view no-wakes refl (concrete .put control-cell c s) ∙ put
 pub noted-whole : (c : Control) (s : St) → Whole s → Whole (noted c s)
 noted-whole c s h = act-steady no-wakes refl (concrete .put control-cell c s) .places ∙ (put-steady control-cell c s .places ∙ h)
 
-pub moved : {q : Request} {b ex : Bool} {rx tx : Ep0Word} {l g : ℕ} {p : Pipe} {a : Awaited} {u : Bool} {x y : View} → y ≡ x
-    → Line q b ex rx tx l g p a u x → Line q b ex rx tx l g p a u y
-moved {q = q} {b = b} {ex = ex} {rx = rx} {tx = tx} {l = l} {g = g} {p = p} {a = a} {u = u} e r =
-    subst (Line q b ex rx tx l g p a u) (sym e) r
+pub moved : {q : Request} {b ex : Bool} {m : ℕ} {rx tx : Ep0Word} {l g : ℕ} {p : Pipe} {a : Awaited} {u : Bool} {x y : View} → y ≡ x
+    → Line q b m ex rx tx l g p a u x → Line q b m ex rx tx l g p a u y
+moved {q = q} {b = b} {ex = ex} {m = m} {rx = rx} {tx = tx} {l = l} {g = g} {p = p} {a = a} {u = u} e r =
+    subst (Line q b m ex rx tx l g p a u) (sym e) r
 
 -- where the log is not exempt
 pub fit-of : {ex : Bool} {X : Type 0} → (ex ≡ true) ⊎ X → ex ≡ false → X
@@ -83,19 +84,26 @@ fit-of (inl e) h = differ (sym h ∙ e)
 fit-of (inr x) h = x
 
 -- another request
-pub requested : {q q′ : Request} {b : Bool} {x y : View} → Base q b x → y .stage ≡ x .stage → y .maximum ≡ x .maximum
-    → Says q′ (y .control) → Base q′ b y
-requested k s m c = record { says = c; started = ap (λ n. eqb n 2) s ∙ k .started; maximum = λ h. m ∙ k .maximum h }
+pub requested : {q q′ : Request} {b : Bool} {l : ℕ} {x y : View} → Base q b l x → y .stage ≡ x .stage
+    → y .maximum ≡ x .maximum
+    → y .buffer ≡ x .buffer → Says q′ (y .control) → Base q′ b l y
+requested k s m g c = record {
+  says = c;
+  started = ap (λ n. eqb n 2) s ∙ k .started;
+  maximum = λ h. m ∙ k .maximum h;
+  slot = λ h. g ∙ k .slot h;
+}
 
 -- ---- the rows before a stage
 
-pub not-started : {q : Request} {b : Bool} {x : View} → Base q b x → eqb (x .stage) 2 ≡ false → b ≡ false
+pub not-started : {q : Request} {b : Bool} {l : ℕ} {x : View} → Base q b l x → eqb (x .stage) 2 ≡ false → b ≡ false
 not-started k h = sym (k .started) ∙ h
 
 pub untaken-by : (w : Log) (x : View) → Fit w x → isOn (x .setup-ready) ≡ true → Untaken true w
 untaken-by w x f g h = sym (fit-of f h .setup) ∙ g
 
-above : {q : Request} {b : Bool} {x : View} (n : ℕ) → Base q b x → eqb (x .stage) 2 ≡ true → ltb (x .maximum) n ≡ true
+above : {q : Request} {b : Bool} {l : ℕ} {x : View} (n : ℕ) → Base q b l x → eqb (x .stage) 2 ≡ true
+    → ltb (x .maximum) n ≡ true
     → ltb 64 n ≡ true
 above n k t h = ap (λ m. ltb m n) (sym (k .maximum (sym (k .started) ∙ t))) ∙ h
 
@@ -135,8 +143,11 @@ law-data-out n true w s (b, f) z =
     past-rows s n (λ q. ((b, f), unstarted (not-started b q))) (λ t l. ((b, f), misfits (above n b t l)))
     (λ g. ((b, f), ended (untaken-by w (view (s .0)) f g)))
     (at-ask tt (λ v t _ k. at-end (
-      moved (k .0 ∙ armed-out n s (z .places))
-          (requested b refl refl (refl, refl), fits-takes-first (afresh w) (view (s .0)) n (data1 (w .rx)) acked-ack acked-one f),
+      moved (k .0 ∙ armed-out n s (z .places)) (
+        requested b refl refl refl (refl, refl),
+        fits-takes-first (afresh (s .1) w) (view (s .0)) n (data1
+            (w .rx)) acked-ack acked-one f,
+      ),
       tt,
     )))
 law-data-out n false w s (b, f) z =
@@ -144,7 +155,7 @@ law-data-out n false w s (b, f) z =
     (λ g. ((b, f), ended (untaken-by w (view (s .0)) f g)))
     (at-ask tt (λ v t _ k. at-ask tt (λ _ u _ l. at-end (
       moved (l .0 ∙ (k .0 ∙ armed-out n s (z .places)))
-          (requested b refl refl (refl, refl), fits-takes-next (afresh w) (view (s .0)) n v f),
+          (requested b refl refl refl (refl, refl), fits-takes-next (afresh (s .1) w) (view (s .0)) n v f),
       tt,
     ))))
 
@@ -155,7 +166,8 @@ closing : (n : ℕ) (bytes : List ℕ) (s : St) → Whole s
     → let x = concrete .act (fill0 bytes) (noted (dataInOf n 1 1) s) in
     view (outWith (λ p. withLen 0 (withReady 0 p)) (inWith (withReady 0) x) .0)
     ≡ setOut (record { ready = 0; armed = view (s .0) .out .armed; len = 0 })
-    (setIn (record { ready = 0; armed = view (s .0) .inn .armed; len = view (s .0) .inn .len }) (setControl (dataInOf n 1 1) (view (s .0))))
+    (setIn (record { ready = 0; armed = view (s .0) .inn .armed; len = view (s .0) .inn .len }) (setControl
+    (dataInOf n 1 1) (view (s .0))))
 closing n bytes s h =
     let c = dataInOf n 1 1 in
     let x = concrete .act (fill0 bytes) (noted c s) in
@@ -193,8 +205,8 @@ law-data-in bytes true true w s (b, f) z =
     (λ t l. ((b, f), misfits (above (length bytes) b t l))) (λ g. ((b, f), ended (untaken-by w (view (s .0)) f g)))
     (at-ask tt (λ _ t _ k. at-ask tt (λ _ t′ _ k′. at-ask tt (λ _ u _ l. at-end (
       moved (l .0 ∙ (k′ .0 ∙ armed-in t _ (k .1 .places) (k .0 ∙ closing (length bytes) bytes s (z .places)))) (
-        requested b refl refl refl,
-        fits-gives-last-first (afresh w) (view (s .0)) (length bytes)
+        requested b refl refl refl refl,
+        fits-gives-last-first (afresh (s .1) w) (view (s .0)) (length bytes)
             (data1 (w .rx)) acked-ack acked-one (data1 (w .tx)) acked-ack acked-one f,
       ),
       tt,
@@ -203,19 +215,23 @@ law-data-in bytes false true w s (b, f) z =
     past-rows s (length bytes) (λ q. ((b, f), unstarted (not-started b q)))
     (λ t l. ((b, f), misfits (above (length bytes) b t l))) (λ g. ((b, f), ended (untaken-by w (view (s .0)) f g)))
     (at-ask tt (λ _ t _ k. at-ask tt (λ _ t′ _ k′. at-ask tt (λ v t″ _ k″. at-ask tt (λ _ u _ l. at-end (
-      moved (l .0 ∙ (k″ .0 ∙ (k′ .0 ∙ armed-in t _ (k .1 .places) (k .0 ∙ closing (length bytes) bytes s (z .places))))) (
-        requested b refl refl refl,
-        fits-gives-last-next (afresh w) (view (s .0)) (length bytes)
-            (data1 (w .rx)) acked-ack acked-one v f,
-      ),
+      moved (l .0 ∙ (k″ .0 ∙ (k′ .0 ∙ armed-in t _ (k .1 .places) (k .0
+          ∙ closing (length bytes) bytes s (z .places))))) (
+            requested b refl refl refl refl,
+            fits-gives-last-next (afresh (s .1) w) (view (s .0)) (length bytes)
+                (data1 (w .rx)) acked-ack acked-one v f,
+          ),
       tt,
     ))))))
 law-data-in bytes true false w s (b, f) z =
     past-rows s (length bytes) (λ q. ((b, f), unstarted (not-started b q)))
     (λ t l. ((b, f), misfits (above (length bytes) b t l))) (λ g. ((b, f), ended (untaken-by w (view (s .0)) f g)))
     (at-ask tt (λ _ t _ k. at-ask tt (λ _ u _ l. at-end (
-      moved (l .0 ∙ (k .0 ∙ opening (length bytes) bytes s (z .places)))
-          (requested b refl refl refl, fits-gives-first (afresh w) (view (s .0)) (length bytes) (data1 (w .tx)) acked-ack acked-one f),
+      moved (l .0 ∙ (k .0 ∙ opening (length bytes) bytes s (z .places))) (
+        requested b refl refl refl refl,
+        fits-gives-first (afresh (s .1) w) (view (s .0)) (length bytes) (data1
+            (w .tx)) acked-ack acked-one f,
+      ),
       tt,
     ))))
 law-data-in bytes false false w s (b, f) z =
@@ -223,7 +239,7 @@ law-data-in bytes false false w s (b, f) z =
     (λ t l. ((b, f), misfits (above (length bytes) b t l))) (λ g. ((b, f), ended (untaken-by w (view (s .0)) f g)))
     (at-ask tt (λ _ t _ k. at-ask tt (λ v t′ _ k′. at-ask tt (λ _ u _ l. at-end (
       moved (l .0 ∙ (k′ .0 ∙ (k .0 ∙ opening (length bytes) bytes s (z .places))))
-          (requested b refl refl refl, fits-gives-next (afresh w) (view (s .0)) (length bytes) v f),
+          (requested b refl refl refl refl, fits-gives-next (afresh (s .1) w) (view (s .0)) (length bytes) v f),
       tt,
     )))))
 
@@ -231,7 +247,8 @@ law-data-in bytes false false w s (b, f) z =
 
 cleared : (c : Control) (s : St) → Whole s
     → view (inWith (withReady 0) (noted c s) .0)
-    ≡ setIn (record { ready = 0; armed = view (s .0) .inn .armed; len = view (s .0) .inn .len }) (setControl c (view (s .0)))
+    ≡ setIn (record { ready = 0; armed = view (s .0) .inn .armed; len = view (s .0) .inn .len }) (setControl c (view
+    (s .0)))
 cleared c s h = in-view (withReady 0) (noted c s) (noted-whole c s h)
     ∙ ap (λ (y : View). setIn (record { ready = 0; armed = y .inn .armed; len = y .inn .len }) y) (noted-view c s)
 
@@ -243,8 +260,8 @@ law-accept w s (b, f) z =
     past-setup s (λ q. ((b, f), unstarted (not-started b q))) (λ g. ((b, f), ended (untaken-by w (view (s .0)) f g)))
     (at-ask tt (λ _ t _ k. at-ask tt (λ v t′ _ k′. at-ask tt (λ _ u _ l. at-end (
       moved (l .0 ∙ (k′ .0 ∙ (k .0 ∙ cleared (requestOf ACCEPT 0) s (z .places)))) (
-        requested b refl refl refl,
-        fits-confirms keeps (afresh w) (view (s .0)) (statusWord v (w .tx)) (requestOf ACCEPT 0)
+        requested b refl refl refl refl,
+        fits-confirms keeps (afresh (s .1) w) (view (s .0)) (statusWord v (w .tx)) (requestOf ACCEPT 0)
             refl off (status-acks v) (status-one v) f,
       ),
       tt,
@@ -255,8 +272,8 @@ law-accept-address a w s (b, f) z =
     past-setup s (λ q. ((b, f), unstarted (not-started b q))) (λ g. ((b, f), ended (untaken-by w (view (s .0)) f g)))
     (at-ask tt (λ _ t _ k. at-ask tt (λ v t′ _ k′. at-ask tt (λ _ u _ l. at-end (
       moved (l .0 ∙ (k′ .0 ∙ (k .0 ∙ cleared (addressOf (a % 256)) s (z .places)))) (
-        requested b refl refl refl,
-        fits-confirms (sets (a % 128)) (afresh w) (view (s .0)) (statusWord v (w .tx))
+        requested b refl refl refl refl,
+        fits-confirms (sets (a % 128)) (afresh (s .1) w) (view (s .0)) (statusWord v (w .tx))
             (addressOf (a % 256)) refl (on, omega arith) (status-acks v) (status-one v) f,
       ),
       tt,
@@ -266,21 +283,23 @@ law-accept-address a w s (b, f) z =
 
 disarmed : (s : St) → Whole s → view (inWith (withArmed 0) (outWith (withArmed 0) (noted no-control s)) .0)
     ≡ setIn (record { ready = view (s .0) .inn .ready; armed = 0; len = view (s .0) .inn .len })
-    (setOut (record { ready = view (s .0) .out .ready; armed = 0; len = view (s .0) .out .len }) (setControl no-control (view (s .0))))
+    (setOut (record { ready = view (s .0) .out .ready; armed = 0; len = view (s .0) .out .len })
+    (setControl no-control (view (s .0))))
 disarmed s h =
     let x = noted no-control s in
     let hx = noted-whole no-control s h in
     in-view (withArmed 0) (outWith (withArmed 0) x) (out-whole (withArmed 0) x hx)
     ∙ ap (λ (y : View). setIn (record { ready = y .inn .ready; armed = 0; len = y .inn .len }) y)
     (out-view (withArmed 0) x hx
-    ∙ ap (λ (y : View). setOut (record { ready = y .out .ready; armed = 0; len = y .out .len }) y) (noted-view no-control s))
+    ∙ ap (λ (y : View). setOut (record { ready = y .out .ready; armed = 0; len = y .out .len }) y)
+    (noted-view no-control s))
 
 pub law-reject : Law (other BeginReject)
 law-reject w s (b, f) z =
     watch-cond (eqb (s .0 .globals .stage) 2)
     (λ _. at-ask tt (λ v t _ k. at-ask tt (λ _ t′ _ k′. at-ask tt (λ u t″ _ k″. at-ask tt (λ _ t‴ _ l. at-end (
       moved (l .0 ∙ (k″ .0 ∙ (k′ .0 ∙ (k .0 ∙ disarmed s (z .places)))))
-          (requested b refl refl refl, fits-rejects (afresh w) (view (s .0)) u v f),
+          (requested b refl refl refl refl, fits-rejects (afresh (s .1) w) (view (s .0)) u v f),
       tt,
     ))))))
     (λ q. at-end ((b, f), unstarted (not-started b q)))
@@ -309,7 +328,11 @@ pub law-setup : Law (other BeginSetup)
 law-setup w s (b, f) z =
     watch-cond (eqb (s .0 .globals .stage) 2)
     (λ _. at-end (
-      moved (noted-view (requestOf SETUP 0) s) (requested b refl refl refl, waits-none w (view (s .0)) (requestOf SETUP 0) refl f),
+      moved (noted-view (requestOf SETUP 0) s) (
+        requested b refl refl refl refl,
+        waits-none w (view (s .0))
+            (requestOf SETUP 0) refl f,
+      ),
       tt,
     ))
     (λ q. at-end ((b, f), unstarted (not-started b q)))

@@ -31,7 +31,8 @@ use Rattle.proof_usb20.specs.TasksLaws.{Numbered, quiet-law, q-staged, q
 -- another endpoint's record
 with-other : (d : Driver) (e : ℕ) (r : EpState) → Other e → view (withOn d Out e r) ≡ view d
 unfolding withOn
-with-other d e r o = made _ _ (ap recOf (ep-other d Out e r Out 0 (apart Out Out e o))) (ap recOf (ep-other d Out e r In 0 (apart Out In e o))) refl refl refl refl
+with-other d e r o = made _ _ (ap recOf (ep-other d Out e r Out 0 (apart Out Out e o))) (ap recOf
+    (ep-other d Out e r In 0 (apart Out In e o))) refl refl refl refl refl
 
 stamps-view : (d : Driver) (e : ℕ) → view (clearStamps d e) ≡ view d
 unfolding clearStamps epOn
@@ -88,12 +89,15 @@ q-kept d e iso on = q-bind (q-types _) (λ _. q-bind (q-act refl q-ret) (λ _. q
 q-enabling : (d : Dir) (e : ℕ) (on : Bool) → Numbered e → Quiet (bus.setEnabled d e on)
 q-enabling Out e on m = q-bind (q-got (ep-cell Out e)) (λ s. q-bind (q-test (q-row e on m)
     (q-bind (q-act refl q-ret) (λ _. q-bind (q-ep Out e (λ p. withArmed (flag on) (renewed p)) (m .apart))
-    (λ _. q-bind (q-hand q-ret) (λ _. q-bind (q-write (other-word Out e _ (m .zero-not)) q-ret) (λ _. q-kept Out e false on))))))
+    (λ _. q-bind (q-hand refl q-ret) (λ _. q-bind (q-write (other-word Out e _ (m .zero-not)) q-ret)
+    (λ _. q-kept Out e false on))))))
     (λ _. q-wake Out e))
 q-enabling In e on m = q-bind (q-got (ep-cell In e))
     (λ s. q-bind (q-bind (q-act refl q-ret) (λ _. q-bind (q-ep In e renewed (m .apart))
-    (λ _. q-bind (q-put (put-paced e NO_FRAME) q-ret) (λ _. q-bind (q-hand q-ret) (λ _. q-bind (q-write (other-length e 0 (m .zero-not)) q-ret)
+    (λ _. q-bind (q-put (put-paced e NO_FRAME) q-ret) (λ _. q-bind (q-hand refl q-ret) (λ _. q-bind (q-write
+    (other-length e 0 (m .zero-not)) q-ret)
     (λ _. q-bind (q-write (other-word In e _ (m .zero-not)) q-ret) (λ _. q-kept In e (isOn (s .iso)) on))))))) (λ _. q-wake In e))
 
 pub law-set-enabled : (d : Dir) (e : ℕ) (on : Bool) → Law (slotted (SetEnabled d e on))
-law-set-enabled d e on = quiet-law (slotted (SetEnabled d e on)) tt refl (λ _ _. refl) (λ _ _. tt) (q-staged 2 (q-named d e (λ m. q-resultless (q-enabling d e on m))))
+law-set-enabled d e on = quiet-law (slotted (SetEnabled d e on)) tt refl (λ _ _. refl) (λ _ _. tt) (q-staged 2
+    (q-named d e (λ m. q-resultless (q-enabling d e on m))))

@@ -32,18 +32,22 @@ use Rattle.script.specs.Answers.{Answer, Refused, End, NotYet, Done, Shown, ope
 use Rattle.script.specs.IsoIn.{isoInCompletions, isoInSetPaced}
 use Rattle.script.specs.Bus as bus
 use Rattle.script.specs.Endpoint.{enabled-else, ends-request, polled, no-request, begun}
-use Rattle.script.specs.Calls.{Op, interrupt, slotted, other, aside, PollRead, BeginWrite, PollWrite, Allocate, AllocateAll}
+use Rattle.script.specs.Calls.{Op, interrupt, slotted, other, aside, PollRead, BeginWrite, PollWrite, Allocate}
+use Rattle.script.specs.Calls.{AllocateAll}
 use Rattle.script.specs.Calls.{Start, BusPoll, BusEnable, BusDisable, Microframe, SetStalled, IsStalled, SetPaced}
 use Rattle.script.specs.Calls.{Advance, BeginRead, Aside, Open, Close, Queue, asideCode, code}
 use Rattle.script_ops.specs.Rings.{St}
 use Rattle.script_ops.specs.Concrete.{concrete}
 use Rattle.regs.specs.declared.Access.{Access}
 use Rattle.proof_usb20.specs.Log as log
-use Rattle.proof_usb20.specs.Log.{Log, before, exempted, afresh, opens, ends, closes, Poll, none, pollOf, settled, Fair, Allowed, AllowedTo}
-use Rattle.proof_usb20.specs.Log.{Ep0Word, readAs, compared, withRx, withTx, Shows}
+use Rattle.proof_usb20.specs.Log.{Log, before, exempted, afresh, opens, ends, closes, Poll, none, pollOf, settled}
+use Rattle.proof_usb20.specs.Log.{Fair, Allowed, AllowedTo}
+use Rattle.proof_usb20.specs.Log.{Ep0Word, readAs, compared, withRx, withTx, withSlots, Shows}
 use Rattle.proof_usb20.specs.Pipe.{Answers, naks, stalls, acks, Half}
-use Rattle.proof_usb20.specs.RequestLaws.{baseOf, Left, kept-base, given-64, given-start, started-base, started-stage}
-use Rattle.proof_usb20.specs.RequestLaws.{l-ret, l-bind, l-allocates, l-listed, l-start-ep0, l-stalled, l-reset, l-int-en}
+use Rattle.proof_usb20.specs.RequestLaws.{baseOf, Left, kept-base, given-64, given-start, started-base}
+use Rattle.proof_usb20.specs.RequestLaws.{started-stage}
+use Rattle.proof_usb20.specs.RequestLaws.{l-ret, l-bind, l-allocates, l-listed, l-start-rest, l-stalled, l-reset}
+use Rattle.proof_usb20.specs.RequestLaws.{l-int-en}
 use Rattle.alloc.specs.declared.Answer as alloc
 use Rattle.alloc.specs.declared.Answer.the-variants as variant
 use Rattle.alloc.specs.Alloc.{allocateEp0Of}
@@ -58,7 +62,8 @@ use Rattle.proof_usb20.specs.ExemptLaws.{differ, further}
 use Rattle.proof_usb20.specs.Ep0Laws.{act-view}
 use Rattle.proof_usb20.specs.FittingLaws.{both, and, Fit}
 use Rattle.proof_usb20.specs.QuietLaws as quiet
-use Rattle.proof_usb20.specs.QuietLaws.{plainly, steadily, Any, Quiet, Stays, q-ret, q-bind, q-test, q-if, q-read-of}
+use Rattle.proof_usb20.specs.QuietLaws.{plainly, steadily, Any, Quiet, Stays, q-ret, q-bind, q-test, q-if}
+use Rattle.proof_usb20.specs.QuietLaws.{q-read-of}
 use Rattle.proof_usb20.specs.QuietLaws.{q-write, q-is, q-look, q-fetch, q-act, q-put, put-other, put-kept, other-word}
 use Rattle.proof_usb20.specs.QuietLaws.{other-length, other-read}
 use Rattle.proof_usb20.specs.PartsLaws.{q-got, q-wake, q-when, q-reg, q-ep, q-complete}
@@ -88,15 +93,18 @@ Task (slotted o) = Unit {0}
 Task (other o) = Unit {0}
 Task (aside o) = Unit {0}
 
-opened : (o : Op) → Task o → (w : Log) → opens o w ≡ afresh w
-opened (slotted o) t w = refl
-opened (other o) t w = refl
-opened (aside o) t w = refl
+opened : (o : Op) → Task o → (b : Buf) (w : Log) → opens o b w ≡ afresh b w
+opened (slotted o) t b w = refl
+opened (other o) t b w = refl
+opened (aside o) t b w = refl
 
-pub quiet-law : (o : Op) → Task o → pollOf o ≡ none → ((n : ℕ) (x : Log) → ends o n x ≡ x) → ((a : Answer) (x : Log) → Fair o a x)
+pub quiet-law : (o : Op) → Task o → pollOf o ≡ none → ((n : ℕ) (x : Log) → ends o n x ≡ x) → ((a : Answer) (x : Log)
+    → Fair o a x)
     → Quiet (code o) → Law o
-quiet-law o t p e fair q w s r z = subst (λ (u : Log). Watch Between (Allowed o) (Ends o) u (run concrete (code o) s)) (sym (opened o t w))
-    (allows (λ x q. subst (λ (a : Poll). AllowedTo a x q) (sym p) tt) (watch-more (q .goes (afresh w) s refl (plainly z))
+quiet-law o t p e fair q w s r z = subst (λ (u : Log). Watch Between (Allowed o) (Ends o) u (run concrete (code o) s))
+    (sym (opened o t (s .1) w))
+    (allows (λ x q. subst (λ (a : Poll). AllowedTo a x q) (sym p) tt) (watch-more (q .goes (afresh (s .1) w) s refl
+    (plainly z))
     (λ x a u m. (
       subst (λ (y : Log). R y (view (u .0))) (sym (closed o p e a x ∙ m .0)) (subst (R w) (sym (m .1)) r),
       fair a x,
@@ -166,7 +174,8 @@ q-polled d e n m x = q-bind (q-got (request-cell d e))
     (q-test (q-bind (q-got (ep-cell d e)) (λ s. x s)) (q-bind (q-ep d e (withReady 0) (m .apart)) (λ _. q-ends d e (Refused 10)))))
 
 pub law-poll-read : (e n : ℕ) → Law (slotted (PollRead e n))
-law-poll-read e n = quiet-law (slotted (PollRead e n)) tt refl (λ _ _. refl) (λ _ _. tt) (q-staged 2 (q-named Out e (λ m. q-polled Out e n m (λ s. q-test
+law-poll-read e n = quiet-law (slotted (PollRead e n)) tt refl (λ _ _. refl) (λ _ _. tt) (q-staged 2 (q-named Out e
+    (λ m. q-polled Out e n m (λ s. q-test
     (q-enabled Out e (q-ends Out e (Refused 9)) (q-bind (q-is (λ _. q-ret))
     (λ b. q-test (q-bind (q-fetch (λ _. q-ret)) (λ bytes. q-bind (q-act refl q-ret) (λ _. q-ends Out e _))) q-ret)))
     (q-test (q-bind (q-ep Out e (withReady 0) (m .apart)) (λ _. q-test (q-ends Out e (Refused 10))
@@ -192,31 +201,35 @@ unstarted n h q = absurd (omega (arith, h, eqb-true n 1 q))
 
 -- the log is exempt, and what is left of the request fits
 still : (w x : Log) (s t : St) → R w (view (s .0)) → w .exempt ≡ true → Left w s x t → R x (view (t .0))
-still w x s t r e l = (kept-base (r .0) (l .0 .request) (l .0 .started) (l .1), inl (l .0 .exempt e))
+still w x s t r e l = (kept-base (r .0) (l .0 .request) (l .0 .started) (l .0 .slot) (l .1), inl (l .0 .exempt e))
 
 exempts : (w x : Log) (s t : St) → R w (view (s .0)) → Left w s x t → R (exempted x) (view (t .0))
-exempts w x s t r l = (kept-base (r .0) (l .0 .request) (l .0 .started) (l .1), inl refl)
+exempts w x s t r l = (kept-base (r .0) (l .0 .request) (l .0 .started) (l .0 .slot) (l .1), inl refl)
 
 pub law-allocate : (d : Dir) (kind address maximum interval : ℕ)
     → Law (other (Allocate d kind address maximum interval))
 law-allocate d kind address maximum interval w s (k, inr r) z =
-    watch-cond (eqb (s .0 .globals .stage) 1) (λ q. unstarted (s .0 .globals .stage) (r .stage) q) (λ _. at-end ((k, inr r), tt))
+    watch-cond (eqb (s .0 .globals .stage) 1) (λ q. unstarted (s .0 .globals .stage) (r .stage) q) (λ _. at-end
+    ((k, inr r), tt))
 law-allocate d kind address maximum interval w s (k, inl e) z =
     watch-cond (eqb (s .0 .globals .stage) 1)
-    (λ _. watch-more (l-allocates {i = false} d kind address maximum interval .goes (afresh w) s) (λ x a t l. (
-      subst (λ (y : Log). R y (view (t .0))) (sym (closed (other (Allocate d kind address maximum interval)) refl (λ _ _. refl) a x))
-          (still (afresh w) x s t (k, inl e) e l),
+    (λ _. watch-more (l-allocates {i = false} d kind address maximum interval .goes (afresh (s .1) w) s) (λ x a t l. (
+      subst (λ (y : Log). R y (view (t .0))) (sym (closed (other (Allocate d kind address maximum interval)) refl
+          (λ _ _. refl) a x))
+          (still (afresh (s .1) w) x s t (k, inl e) e l),
       tt,
     )))
     (λ _. at-end ((k, inl e), tt))
 
 pub law-allocate-all : (bytes : List ℕ) → Law (other (AllocateAll bytes))
 law-allocate-all bytes w s (k, inr r) z =
-    watch-cond (eqb (s .0 .globals .stage) 1) (λ q. unstarted (s .0 .globals .stage) (r .stage) q) (λ _. at-end ((k, inr r), tt))
+    watch-cond (eqb (s .0 .globals .stage) 1) (λ q. unstarted (s .0 .globals .stage) (r .stage) q) (λ _. at-end
+    ((k, inr r), tt))
 law-allocate-all bytes w s (k, inl e) z =
     watch-cond (eqb (s .0 .globals .stage) 1)
-    (λ _. watch-more (l-listed {i = false} bytes (readingOf bytes .answer) .goes (afresh w) s) (λ x a t l. (
-      subst (λ (y : Log). R y (view (t .0))) (sym (closed (other (AllocateAll bytes)) refl (λ _ _. refl) a x)) (still (afresh w) x s t (k, inl e) e l),
+    (λ _. watch-more (l-listed {i = false} bytes (readingOf bytes .answer) .goes (afresh (s .1) w) s) (λ x a t l. (
+      subst (λ (y : Log). R y (view (t .0))) (sym (closed (other (AllocateAll bytes)) refl (λ _ _. refl) a x)) (still
+          (afresh (s .1) w) x s t (k, inl e) e l),
       tt,
     )))
     (λ _. at-end ((k, inl e), tt))
@@ -224,7 +237,8 @@ law-allocate-all bytes w s (k, inl e) z =
 -- EP0's start: only a maximum of 64 is given
 pub law-start : (maximum : ℕ) → Law (other (Start maximum))
 law-start maximum w s (k, inr r) z =
-    watch-cond (eqb (s .0 .globals .stage) 1) (λ q. unstarted (s .0 .globals .stage) (r .stage) q) (λ _. at-end ((k, inr r), tt))
+    watch-cond (eqb (s .0 .globals .stage) 1) (λ q. unstarted (s .0 .globals .stage) (r .stage) q) (λ _. at-end
+    ((k, inr r), tt))
 law-start maximum w s (k, inl e) z =
     watch-cond (eqb (s .0 .globals .stage) 1)
     (λ _. by (allocateEp0Of (s .0 .allocator) maximum .answer) refl)
@@ -234,38 +248,54 @@ law-start maximum w s (k, inl e) z =
     t = concrete .act (allocate0 maximum) s
 
     by : (a : alloc.Answer) → allocateEp0Of (s .0 .allocator) maximum .answer ≡ a
-        → Watch Between (Allowed (other (Start maximum))) (Ends (other (Start maximum))) (afresh w) (run {i = false} concrete (started-as maximum a) t)
+        → Watch Between (Allowed (other (Start maximum))) (Ends (other (Start maximum))) (afresh (s .1) w)
+        (run {i = false} concrete (started-as maximum a) t)
     by (variant.Refused n) h = at-end (
-      subst (λ (y : Log). R y (view (t .0))) (sym (closed-refused n)) (kept-base k refl refl (started-base (s .0) maximum n h), inl e),
+      subst (λ (y : Log). R y (view (t .0))) (sym (closed-refused n)) (
+        kept-base k refl refl refl (started-base
+            (s .0) maximum n h),
+        inl e,
+      ),
       tt,
     )
       where
-        closed-refused : (n : ℕ) → closes (other (Start maximum)) (Refused n) (afresh w) ≡ afresh w
-        closed-refused n = same-log (eqb n 9 || eqb n 10) (afresh w)
-    by (variant.Given e base slots) h = watch-bind (l-bind {i = false} (l-start-ep0 maximum) (λ _. l-ret {a = 0}) .goes (afresh w) (concrete .act no-wakes t))
-        (λ x n u l. at-end {a = End n (concrete .fetch gathered u)} {s = u} (
+        closed-refused : (n : ℕ) → closes (other (Start maximum)) (Refused n) (afresh (s .1) w) ≡ afresh (s .1) w
+        closed-refused n = same-log (eqb n 9 || eqb n 10) (afresh (s .1) w)
+    by (variant.Given e base slots) h = at-ask tt (λ _ u _ g.
+        watch-bind (l-bind {i = false} (l-start-rest maximum) (λ _. l-ret {a = 0}) .goes
+        (withSlots (concrete .act no-wakes t .0 .globals .«ep0_buf») (s .1) (afresh (s .1) w)) u)
+        (λ x n v l. at-end {a = End n (concrete .fetch gathered v)} {s = v} (
           (
-            given-start k (l .0 .request) refl (l .1 ∙ (ap baseOf (act-view no-wakes refl t) ∙ started-stage (s .0) maximum e base slots h))
-                (given-64 (s .0 .allocator) maximum e base slots h),
+            given-start k (l .0 .request) refl
+                (l .1 ∙ (ap baseOf (g .0 ∙ act-view no-wakes refl t) ∙ started-stage (s .0) maximum e base slots h))
+                (given-64 (s .0 .allocator) maximum e base slots h)
+                (l .0 .slot ∙ ap (λ (y : View). y .buffer) (act-view no-wakes refl t)),
             inl refl,
           ),
           tt,
-        ))
+        )))
 
 -- ---- the bus
 
 pub law-bus-enable : Law (other BusEnable)
-law-bus-enable = quiet-law (other BusEnable) tt refl (λ _ _. refl) (λ _ _. tt) (q-staged 2 (q-resultless (q-bind (q-read-of (λ _ _. refl) (λ _. q-ret)) (λ v. q-write (λ _. refl) q-ret))))
+law-bus-enable = quiet-law (other BusEnable) tt refl (λ _ _. refl) (λ _ _. tt) (q-staged 2 (q-resultless (q-bind
+    (q-read-of (λ _ _. refl) (λ _. q-ret)) (λ v. q-write (λ _. refl) q-ret))))
 
 pub law-bus-disable : Law (other BusDisable)
 law-bus-disable = quiet-law (other BusDisable) tt refl (λ _ _. refl) (λ _ _. tt) (q-staged 2 (q-resultless q-ret))
 
 pub law-microframe : Law (other Microframe)
-law-microframe = quiet-law (other Microframe) tt refl (λ _ _. refl) (λ _ _. tt) (q-staged 2 (q-operation (q-bind (q-read-of (λ _ _. refl) (λ _. q-ret)) (λ v. q-ret))))
+law-microframe = quiet-law (other Microframe) tt refl (λ _ _. refl) (λ _ _. tt) (q-staged 2 (q-operation (q-bind
+    (q-read-of (λ _ _. refl) (λ _. q-ret)) (λ v. q-ret))))
 
 -- a reading of EP0's word, which it may show otherwise than it was written
 lowered : (v : ℕ) {c : Ep0Word} {h : Half} {r : Rec} → Fits c h r → Fits (readAs v c) h r
-lowered v {c = c} {h = h} f = record { shows = by (h .answers) (f .shows); toggles = λ k b. f .toggles (less k) b; armed = f .armed }
+lowered v {c = c} {h = h} f = record {
+  shows = by (h .answers) (f .shows);
+  toggles = λ k b. f .toggles
+      (less k) b;
+  armed = f .armed;
+}
   where
     less : (c .read-back && eqb v (c .last)) && c .in-step ≡ true → c .read-back && c .in-step ≡ true
     less k = let p = both (c .read-back && eqb v (c .last)) (c .in-step) k in
@@ -316,12 +346,16 @@ pub law-is-stalled : (d : Dir) (e : ℕ) → Law (other (IsStalled d e))
 law-is-stalled d e w s r z = by (eqb e 0) refl
   where
     by : (b : Bool) → eqb e 0 ≡ b
-        → Watch Between (Allowed (other (IsStalled d e))) (Ends (other (IsStalled d e))) (afresh w) (run concrete (code (other (IsStalled d e))) s)
-    by false h = quiet-law (other (IsStalled d e)) tt refl (λ _ _. refl) (λ _ _. tt) (q-staged 2 (q-if (eqb e 0) (λ q. differ (sym h ∙ q))
-        (λ _. q-named d e (λ m. q-operation (q-bind (q-read-of (other-read d e h) (λ _. q-ret)) (λ v. q-ret)))))) w s r z
+        → Watch Between (Allowed (other (IsStalled d e))) (Ends (other (IsStalled d e))) (afresh (s .1) w)
+        (run concrete (code (other (IsStalled d e))) s)
+    by false h = quiet-law (other (IsStalled d e)) tt refl (λ _ _. refl) (λ _ _. tt) (q-staged 2 (q-if (eqb e 0)
+        (λ q. differ (sym h ∙ q))
+        (λ _. q-named d e (λ m. q-operation (q-bind (q-read-of (other-read d e h) (λ _. q-ret))
+        (λ v. q-ret)))))) w s r z
     by true h = watch-cond (eqb (s .0 .globals .stage) 2)
         (λ _. watch-cond (eqb e 0) (λ _. at-ask {q = Read (ctrlOf d) e} tt (λ v t _ k. at-end (
-          subst (R (compared (ctrlOf d) e v (afresh w))) (sym (k .0 ∙ act-view no-wakes refl s)) (r-compared d e v (afresh w) (view (s .0)) r),
+          subst (R (compared (ctrlOf d) e v (afresh (s .1) w))) (sym (k .0
+              ∙ act-view no-wakes refl s)) (r-compared d e v (afresh (s .1) w) (view (s .0)) r),
           tt,
         ))) (λ q. differ (sym q ∙ h)))
         (λ _. at-end (r, tt))
@@ -339,7 +373,8 @@ q-paced e on = record {
 }
 
 pub law-set-paced : (e : ℕ) (on : Bool) → Law (other (SetPaced e on))
-law-set-paced e on = quiet-law (other (SetPaced e on)) tt refl (λ _ _. refl) (λ _ _. tt) (q-staged 2 (q-test (q-bind (q-paced e on) (λ _. q-ret)) q-ret))
+law-set-paced e on = quiet-law (other (SetPaced e on)) tt refl (λ _ _. refl) (λ _ _. tt) (q-staged 2 (q-test (q-bind
+    (q-paced e on) (λ _. q-ret)) q-ret))
 
 q-completions : {i : Bool} (n e : ℕ) → eqb e 0 ≡ false → Quiet (isoInCompletions {i = i} n e)
 unfolding isoInCompletions
@@ -348,7 +383,8 @@ q-completions (suc n) e h = q-bind (q-complete e h) (λ _. q-completions n e h)
 
 pub law-advance : (e : ℕ) → Law (other (Advance e))
 law-advance e = quiet-law (other (Advance e)) tt refl
-    (λ _ _. refl) (λ _ _. tt) (q-staged 2 (q-if (isNumber e) (λ h. q-resultless (q-bind (q-got globals-cell) (λ g. q-when (q-test
+    (λ _ _. refl) (λ _ _. tt) (q-staged 2 (q-if (isNumber e) (λ h. q-resultless (q-bind (q-got globals-cell)
+    (λ g. q-when (q-test
     (q-bind (q-read-of (λ _ _. refl) (λ _. q-ret)) (λ frame. q-bind (q-got (paced-cell e))
     (λ last. q-bind (q-completions (completions last (indexOf frame)) e (numbered e h .zero-not))
     (λ _. q-put (put-paced e (frameOf (indexOf frame))) q-ret))))
@@ -395,17 +431,27 @@ pub law-set-stalled : (d : Dir) (e : ℕ) (on : Bool) → Law (other (SetStalled
 law-set-stalled d e on w s r z = by (eqb e 0) refl
   where
     by : (b : Bool) → eqb e 0 ≡ b
-        → Watch Between (Allowed (other (SetStalled d e on))) (Ends (other (SetStalled d e on))) (afresh w) (run concrete (code (other (SetStalled d e on))) s)
+        → Watch Between (Allowed (other (SetStalled d e on))) (Ends (other (SetStalled d e on))) (afresh (s .1) w)
+        (run concrete (code (other (SetStalled d e on))) s)
     by false h = quiet-part
       where
         quiet-part : Watch Between (Allowed (other (SetStalled d e on)))
-            (Ends (other (SetStalled d e on))) (afresh w) (run concrete (code (other (SetStalled d e on))) s)
-        quiet-part = quiet-law (other (SetStalled d e on)) tt refl (λ _ x. ap (λ (b : Bool). cond b (exempted x) x) h) (λ _ _. tt)
+            (Ends (other (SetStalled d e on))) (afresh (s .1) w) (run concrete (code (other (SetStalled d e on))) s)
+        quiet-part = quiet-law (other (SetStalled d e on)) tt refl (λ _ x. ap (λ (b : Bool). cond b (exempted x) x) h)
+            (λ _ _. tt)
             (q-staged 2 (q-if (eqb e 0) (λ q. differ (sym h ∙ q)) (λ _. q-named d e (λ m. q-resultless (q-stalled d e on m))))) w s r z
     by true h = watch-cond (eqb (s .0 .globals .stage) 2)
         (λ _. watch-cond (eqb e 0)
-        (λ _. watch-bind (l-bind {i = false} (l-stalled d e on) (λ _. l-ret {a = 0}) .goes (afresh w) (concrete .act no-wakes s))
-        (λ x n t l. at-end (exempt-if x (view (t .0)) (exempts (afresh w) x s t r (l .0, l .1 ∙ ap baseOf (act-view no-wakes refl s))), tt)))
+        (λ _. watch-bind (l-bind {i = false} (l-stalled d e on) (λ _. l-ret {a = 0}) .goes (afresh (s .1) w)
+        (concrete .act no-wakes s))
+        (λ x n t l. at-end (
+          exempt-if x (view (t .0)) (exempts (afresh (s .1) w) x s t r (
+            l .0,
+            l .1
+                ∙ ap baseOf (act-view no-wakes refl s),
+          )),
+          tt,
+        )))
         (λ q. differ (sym q ∙ h)))
         (λ _. at-end (r, tt))
       where
@@ -415,9 +461,11 @@ law-set-stalled d e on w s r z = by (eqb e 0) refl
 -- a bus reset exempts; the rest of a poll is quiet
 pub law-bus-poll : Law (other BusPoll)
 law-bus-poll w s r z = watch-cond (eqb (s .0 .globals .stage) 2)
-    (λ _. watch-bind {P = λ x n t. ((n ≡ 2) × Left (afresh w) s x t) ⊎ Stays (afresh w) s x t} (watch-cond (isOn (s .0 .globals .power))
+    (λ _. watch-bind {P = λ x n t. ((n ≡ 2) × Left (afresh (s .1) w) s x t) ⊎ Stays (afresh (s .1) w) s x t}
+    (watch-cond (isOn (s .0 .globals .power))
     (λ _. at-ask tt (λ f a _ i. watch-cond (busRst f)
-    (λ _. watch-bind (l-reset .goes (afresh w) a) (λ x _ t l. watch-bind (l-int-en {i = false} (λ v. withBusRst v true) .goes x t)
+    (λ _. watch-bind (l-reset .goes (afresh (s .1) w) a) (λ x _ t l. watch-bind (l-int-en {i = false}
+    (λ v. withBusRst v true) .goes x t)
     (λ y _ u m. at-end {s = u} (inl (
       refl,
       (further (l .0) (m .0), m .1 ∙ (l .1 ∙ ap baseOf (i .0 ∙ act-view no-wakes refl s))),
@@ -442,7 +490,8 @@ law-bus-poll w s r z = watch-cond (eqb (s .0 .globals .stage) 2)
     same true x v q = (q .0, inl refl)
     same false x v q = q
 
-    after : (n : ℕ) (x : Log) (t : St) → ((n ≡ 2) × Left (afresh w) s x t) ⊎ Stays (afresh w) s x t
+    after : (n : ℕ) (x : Log) (t : St) → ((n ≡ 2) × Left (afresh (s .1) w) s x t) ⊎ Stays (afresh (s .1) w) s x t
         → R (cond (eqb n 2) (exempted x) x) (view (t .0))
-    after n x t (inl h) = subst (λ (m : ℕ). R (cond (eqb m 2) (exempted x) x) (view (t .0))) (sym (h .0)) (exempts (afresh w) x s t r (h .1))
+    after n x t (inl h) = subst (λ (m : ℕ). R (cond (eqb m 2) (exempted x) x) (view (t .0))) (sym (h .0)) (exempts
+        (afresh (s .1) w) x s t r (h .1))
     after n x t (inr m) = same (eqb n 2) x (view (t .0)) (subst (λ (y : Log). R y (view (t .0))) (sym (m .0)) (subst (R w) (sym (m .1)) r))

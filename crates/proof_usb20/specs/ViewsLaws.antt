@@ -22,16 +22,16 @@ abbrev pub rec : EpCore → Rec
 rec p = record { ready = p .ready; armed = p .armed; len = p .len }
 
 abbrev pub setOut : Rec → View → View
-setOut r x = record { out = r; inn = x .inn; control = x .control; setup-ready = x .setup-ready; stage = x .stage; maximum = x .maximum }
+setOut r x = record { out = r; inn = x .inn; control = x .control; setup-ready = x .setup-ready; stage = x .stage; maximum = x .maximum; buffer = x .buffer }
 
 abbrev pub setIn : Rec → View → View
-setIn r x = record { out = x .out; inn = r; control = x .control; setup-ready = x .setup-ready; stage = x .stage; maximum = x .maximum }
+setIn r x = record { out = x .out; inn = r; control = x .control; setup-ready = x .setup-ready; stage = x .stage; maximum = x .maximum; buffer = x .buffer }
 
 abbrev pub setControl : Control → View → View
-setControl c x = record { out = x .out; inn = x .inn; control = c; setup-ready = x .setup-ready; stage = x .stage; maximum = x .maximum }
+setControl c x = record { out = x .out; inn = x .inn; control = c; setup-ready = x .setup-ready; stage = x .stage; maximum = x .maximum; buffer = x .buffer }
 
 abbrev pub setReady : ℕ → View → View
-setReady n x = record { out = x .out; inn = x .inn; control = x .control; setup-ready = n; stage = x .stage; maximum = x .maximum }
+setReady n x = record { out = x .out; inn = x .inn; control = x .control; setup-ready = n; stage = x .stage; maximum = x .maximum; buffer = x .buffer }
 
 ep-same : (d : Driver) (dir : Dir) (e : ℕ) (r : EpState) → length (d .eps) ≡ 32 → epOn (withOn d dir e r) dir e ≡ r
 unfolding epOn withOn
@@ -44,21 +44,22 @@ ep-other d dir e r dir′ e′ h = getD-set-other (d .eps) (key dir e) (key dir�
 
 pub made : (d : Driver) (x : View) → recOf (epOn d Out 0) ≡ x .out → recOf (epOn d In 0) ≡ x .inn
     → d .control ≡ x .control → d .globals .«setup_ready» ≡ x .setup-ready → d .globals .stage ≡ x .stage
-    → d .globals .«ep0_max» ≡ x .maximum → view d ≡ x
-made d x p q c g t m = rw (p, q, c, g, t, m) refl
+    → d .globals .«ep0_max» ≡ x .maximum → d .globals .«ep0_buf» ≡ x .buffer → view d ≡ x
+made d x p q c g t m b = rw (p, q, c, g, t, m, b) refl
 
 -- EP0's own records
 pub put-out : (v : EpCore) (s : St) → length (s .0 .eps) ≡ 32
     → view (concrete .put (ep-cell Out 0) v s .0) ≡ setOut (rec v) (view (s .0))
 unfolding withOn
 put-out v s h = made _ _ (ap recOf (ep-same (s .0) Out 0 (merged (epOn (s .0) Out 0) v) h))
-    (ap recOf (ep-other (s .0) Out 0 (merged (epOn (s .0) Out 0) v) In 0 (λ z. key-apart 0 0 (sym z)))) refl refl refl refl
+    (ap recOf (ep-other (s .0) Out 0 (merged (epOn (s .0) Out 0) v) In 0 (λ z. key-apart 0 0
+    (sym z)))) refl refl refl refl refl
 
 pub put-in : (v : EpCore) (s : St) → length (s .0 .eps) ≡ 32
     → view (concrete .put (ep-cell In 0) v s .0) ≡ setIn (rec v) (view (s .0))
 unfolding withOn
 put-in v s h = made _ _ (ap recOf (ep-other (s .0) In 0 (merged (epOn (s .0) In 0) v) Out 0 (λ z. key-apart 0 0 z)))
-    (ap recOf (ep-same (s .0) In 0 (merged (epOn (s .0) In 0) v) h)) refl refl refl refl
+    (ap recOf (ep-same (s .0) In 0 (merged (epOn (s .0) In 0) v) h)) refl refl refl refl refl
 
 pub put-control : (c : Control) (s : St) → view (concrete .put control-cell c s .0) ≡ setControl c (view (s .0))
 unfolding epOn

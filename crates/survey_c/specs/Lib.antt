@@ -7,3 +7,5 @@ pub mod CardRuns
 pub mod CardRunsLaws
 pub mod Descriptor
 pub mod DescriptorLaws
+pub mod Recorder
+pub mod RecorderLaws

@@ -1,6 +1,7 @@
 // The calls that take no driver, for programs in other languages (include/usbhs_survey.h): the best set of channels, the arrivals between visits,
 // packets on the card, a configuration descriptor's endpoints. Any numbers are safe. Each call answers one word; where it is refused, nothing is written.
 mod rooms; // rooms.rt: an answer's numbers in the caller's rooms
+mod six_numbers; // six_numbers.rt: a recorder as six numbers
 mod words; // words.rt: an answer as one word
 mod writer; // writer.rt: a card's writer as four numbers
 
@@ -12,8 +13,11 @@ use card::reader::Started;
 use card::writer::Finished;
 use card::writer::Wrote;
 use channels::Channel;
+use recorder::recorder::Recorded;
 use rooms::best_into;
 use rooms::reached;
+use six_numbers::recorder_in;
+use six_numbers::recorder_numbers;
 use visits::Bounds;
 use words::done;
 use words::ended;
@@ -35,6 +39,9 @@ ghost use Rattle.card.specs.Calls.{startOf, nextOf, roomOf};
 ghost use Rattle.survey_c.specs.Numbers.{BestSet, boundsWord, leastBy, greatestBy};
 ghost use Rattle.card.specs.Batches.{batchOf, batchRoomOf};
 ghost use Rattle.survey_c.specs.Card.{batchWord, batchPlaceBy, countBy, usedBy};
+ghost use Rattle.recorder.specs.Recording.{beginOf, beginRoom, recordOf, recordRoom, finishOf as finishedBy, finishRoom, storedOf};
+ghost use Rattle.survey_c.specs.Words.{endWord};
+ghost use Rattle.survey_c.specs.Recorder.{recorderIn, recorderNumbers, recordedWord, recorderBy};
 ghost use Rattle.survey_c.specs.Card.{writerIn, numbersOf, wroteWord, writerBy, finishedWord, startedWord, startBy, nextWord, endpointBy, placeBy};
 
 // The best set of the channels in the list, with the bus time that is in use: its count is the end's result; beside it
@@ -134,6 +141,79 @@ pub extern "C" fn usbhs_card_finish(writer: &[u32; 4], block: &mut [u8]) -> u64
         Finished::Nothing => ended(0),
         Finished::Last => ended(1),
     }
+}
+
+// A survey begins on a card that is written over: block 0 of the room is to be stored.
+#[no_mangle]
+pub extern "C" fn usbhs_recorder_begin(state: &mut [u32; 6], room: &mut [u8], survey: u32) -> u64
+    ensures { λ r. ⌜ r ≡ recordedWord (beginOf survey (now (room .entry))) ⌝ }
+    ensures { λ _. ⌜ now (state .exit) ≡ recorderBy (beginOf survey (now (room .entry))) (now (state .entry)) ⌝ }
+    ensures { λ _. ⌜ now (room .exit) ≡ beginRoom survey (now (room .entry)) ⌝ }
+{
+    match recorder::recording::begin(survey, room) {
+        Recorded::Refused(row) => refused(row),
+        Recorded::Stores(next) => {
+            let numbers = recorder_numbers(next);
+            *state = numbers;
+            ended(next.left)
+        }
+    }
+}
+
+// Records a packet: ends with how many blocks are to be stored, the last of them first.
+#[no_mangle]
+pub extern "C" fn usbhs_record(
+    state: &mut [u32; 6],
+    room: &mut [u8],
+    endpoint: u32,
+    bytes: &[u8],
+    overruns: u32,
+) -> u64
+    ensures { λ r. ⌜ r ≡ recordedWord (recordOf (recorderIn (now (state .entry))) (packetOf endpoint (now (bytes .entry))) (now (room .entry))) ⌝ }
+    ensures { λ _. ⌜ now (state .exit) ≡ recorderBy
+        (recordOf (recorderIn (now (state .entry))) (packetOf endpoint (now (bytes .entry))) (now (room .entry))) (now (state .entry)) ⌝ }
+    ensures { λ _. ⌜ now (room .exit)
+        ≡ recordRoom (recorderIn (now (state .entry))) (packetOf endpoint (now (bytes .entry))) overruns (now (room .entry)) ⌝ }
+{
+    let r = recorder_in(state);
+    match recorder::recording::record(r, room, endpoint_of(endpoint), bytes, overruns) {
+        Recorded::Refused(row) => refused(row),
+        Recorded::Stores(next) => {
+            let numbers = recorder_numbers(next);
+            *state = numbers;
+            ended(next.left)
+        }
+    }
+}
+
+// Brings what is not stored yet to the card: ends with how many blocks are to be stored, the last of them first.
+#[no_mangle]
+pub extern "C" fn usbhs_recorder_finish(state: &mut [u32; 6], room: &mut [u8], overruns: u32) -> u64
+    ensures { λ r. ⌜ r ≡ recordedWord (finishedBy (recorderIn (now (state .entry))) (now (room .entry))) ⌝ }
+    ensures { λ _. ⌜ now (state .exit)
+        ≡ recorderBy (finishedBy (recorderIn (now (state .entry))) (now (room .entry))) (now (state .entry)) ⌝ }
+    ensures { λ _. ⌜ now (room .exit) ≡ finishRoom (recorderIn (now (state .entry))) overruns (now (room .entry)) ⌝ }
+{
+    match recorder::recording::finish(recorder_in(state), room, overruns) {
+        Recorded::Refused(row) => refused(row),
+        Recorded::Stores(next) => {
+            let numbers = recorder_numbers(next);
+            *state = numbers;
+            ended(next.left)
+        }
+    }
+}
+
+// The block that was to be stored first is stored: ends with how many are left.
+#[no_mangle]
+pub extern "C" fn usbhs_recorder_stored(state: &mut [u32; 6]) -> u64
+    ensures { λ r. ⌜ r ≡ endWord (storedOf (recorderIn (now (state .entry))) .left) ⌝ }
+    ensures { λ _. ⌜ now (state .exit) ≡ recorderNumbers (storedOf (recorderIn (now (state .entry)))) ⌝ }
+{
+    let next = recorder::recording::stored(recorder_in(state));
+    let numbers = recorder_numbers(next);
+    *state = numbers;
+    ended(next.left)
 }
 
 // The place at which a reader of this stream starts.

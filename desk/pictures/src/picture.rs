@@ -135,6 +135,7 @@ pub fn svg(run: &Incident) -> String {
         flat_topped(&rust),
         flat_topped(&port)
     );
+    svg.title(&head);
     svg.bold(16.0, 28.0, 18.0, INK, &head);
     let late = run.differences.iter().find_map(|d| d.packet).unwrap_or(0);
     let first = begins(&run.rust.packets)[late].1 + run.sent[late].len() / 2;

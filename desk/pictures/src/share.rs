@@ -93,6 +93,7 @@ fn svg(data: &Data) -> String {
     let (top, row) = if data.table.is_none() { (TOP, ROW) } else { (TOP - 24.0, ROW - 10.0) };
     let height = top + data.rows.len() as f64 * row + 46.0;
     let mut svg = Svg::new(WIDTH, height);
+    svg.title(&data.title);
     svg.bold(16.0, 28.0, 18.0, INK, &data.title);
     svg.words(16.0, 48.0, 12.0, GREY, Anchor::Start, &data.note);
     let two = data.rows.iter().any(|r| r.rust.is_some());

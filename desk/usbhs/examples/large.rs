@@ -1,8 +1,8 @@
 //! large [cold] [BYTES [LENGTH..]]: streams of at least so many bytes (a billion, if not said) with packets of these
-//! lengths (4, 64 and 1,024), every thousandth block damaged; each is read by `cat`, `sha256sum` and `usbhs card
-//! check`, three times in turn. Prints a table: the best time of each and, in brackets, the processors' time, and the
-//! most memory that it held. `cold`: the stream is put out of the page cache before each reading, so that it comes
-//! from the disk.
+//! lengths (4, 64 and 1,024), every thousandth block damaged; each is read by `cat`, `sha256sum`, `usbhs card check`
+//! and `usbhs card extract --samples`, three times in turn. Prints a table: the best time of each and, in brackets,
+//! the processors' time; millions of the stream's bytes by a second of the processors' time; and the most memory that
+//! it held. `cold`: the stream is put out of the page cache before each reading, so that it comes from the disk.
 
 use std::fs::File;
 use std::io::{BufWriter, Write};
@@ -95,17 +95,18 @@ fn main() {
     let image = path.to_str().expect("a plain path");
     // beside this program's folder, examples
     let tool = std::env::current_exe().unwrap().parent().unwrap().parent().unwrap().join("usbhs");
-    println!("| packets of | stream | `cat` | `sha256sum` | `usbhs card check` | MB/s | memory of `cat`, `sha256sum`, `usbhs` |");
-    println!("|---|---|---|---|---|---|---|");
+    println!("| packets of | stream | `cat` | `sha256sum` | `check` | MB/s | `extract --samples` | MB/s | memory |");
+    println!("|---|---|---|---|---|---|---|---|---|");
     for &length in lengths {
         let (packets, blocks) = make(&path, bytes, length);
-        let commands: [(PathBuf, Vec<&str>); 3] = [
+        let commands: [(PathBuf, Vec<&str>); 4] = [
             ("cat".into(), vec![image]),
             ("sha256sum".into(), vec![image]),
             (tool.clone(), vec!["card", "check", "--quiet", image]),
+            (tool.clone(), vec!["card", "extract", "--samples", "--quiet", image]),
         ];
-        let (mut best, mut least) = ([f64::MAX; 3], [f64::MAX; 3]);
-        let mut most = [0; 3];
+        let (mut best, mut least) = ([f64::MAX; 4], [f64::MAX; 4]);
+        let mut most = [0; 4];
         for _ in 0..3 {
             for (i, (program, words)) in commands.iter().enumerate() {
                 if cold {
@@ -113,20 +114,22 @@ fn main() {
                 }
                 let took = run(program, words);
                 // damaged blocks are told by status 1
-                assert_eq!(took.status, if i == 2 { 1 } else { 0 });
+                assert_eq!(took.status, if i >= 2 { 1 } else { 0 });
                 best[i] = best[i].min(took.seconds);
                 least[i] = least[i].min(took.processor);
                 most[i] = most[i].max(took.kilobytes);
             }
         }
         let size = blocks * BLOCK;
-        let [cat, sum, check] = std::array::from_fn(|i| format!("{:.2} s ({:.2})", best[i], least[i]));
-        let [of_cat, of_sum, of_check] = most.map(|kilobytes| kilobytes as f64 / 1e3);
+        let [cat, sum, check, samples] = std::array::from_fn(|i| format!("{:.2} s ({:.2})", best[i], least[i]));
+        let speed = |i: usize| format!("{:.0}", size as f64 / 1e6 / least[i]);
+        let memory = most.map(|kilobytes| format!("{:.1}", kilobytes as f64 / 1e3)).join(", ");
         println!(
-            "| {length} bytes | {} MB, {} packets | {cat} | {sum} | {check} | {:.0} | {of_cat:.1}, {of_sum:.1}, {of_check:.1} MB |",
+            "| {length} bytes | {} MB, {} packets | {cat} | {sum} | {check} | {} | {samples} | {} | {memory} MB |",
             thousands(size as u64 / 1_000_000),
             thousands(packets as u64),
-            size as f64 / 1e6 / best[2],
+            speed(2),
+            speed(3),
         );
         std::fs::remove_file(&path).expect("the file is removed");
     }

@@ -1,49 +1,30 @@
-//! `usbhs card check|list|extract IMAGE`: packets on the card.
+//! `usbhs card check|list|extract|picture IMAGE`: packets on the card.
 //!
-//! The image is gone through once, a stretch of blocks at a time: each block is checked, for the count of those
-//! that are good and why the others are not, while the reader gives the packets that begin in the stretch. Which
-//! packets are given is the reader's to say alone.
+//! The image is gone through once (stream.rs). Which packets are given is the archive's reader's to say; which of them
+//! are this survey's, the recorder's records (recorder.rs).
 
-use std::io::Write;
+use std::path::Path;
 
-use crate::args::Args;
+use crate::args::{usage, Args};
+use crate::card_picture;
+use crate::card_samples::Samples;
 use crate::image::{name, Image};
 use crate::json::Json;
-use crate::output::{count, create, thousands, written};
+use crate::output::{count, thousands, Output};
 use crate::progress::Progress;
-use crate::survey::{data_crc, Packet, Reader, BLOCK, DATA};
-use crate::{bad, Done};
+use crate::recorder::{self, Gap, Listener, Loss, Record, Sampled, Seam, Survey};
+use crate::stream::{go_through, Dropped, End, Extent, Packet, Sink, Stop};
+use crate::survey::DATA;
+use crate::Done;
 
-/// Bytes of a stretch.
-const STRETCH: usize = 4 << 20;
-/// So many runs of dropped blocks are named.
+/// So many runs of dropped blocks, and so many losses, are named.
 const NAMED: usize = 20;
-
-/// Why a block is dropped.
-#[derive(Clone, Copy, PartialEq, Eq, Debug)]
-pub enum Dropped {
-    Check,
-    Number(u32),
-}
-
-/// A block of the stream at its place.
-pub fn block(bytes: &[u8], place: usize) -> Result<(), Dropped> {
-    if data_crc(&bytes[..BLOCK - 2]) != u16::from_le_bytes([bytes[BLOCK - 2], bytes[BLOCK - 1]]) {
-        return Err(Dropped::Check);
-    }
-    let number = u32::from_le_bytes([bytes[0], bytes[1], bytes[2], bytes[3]]);
-    if number == place as u32 {
-        Ok(())
-    } else {
-        Err(Dropped::Number(number))
-    }
-}
 
 /// Blocks in a row that are dropped for the same reason.
 #[derive(Clone, Copy, PartialEq, Eq, Debug)]
 pub struct Run {
-    pub from: usize,
-    pub blocks: usize,
+    pub from: u64,
+    pub blocks: u64,
     pub why: Dropped,
 }
 
@@ -58,32 +39,29 @@ impl Run {
     }
 }
 
-/// What a check counts.
+/// What is counted of the blocks.
 #[derive(Default, Debug)]
 pub struct Summary {
-    pub blocks: usize,
-    pub failed: usize,
-    pub misplaced: usize,
+    pub blocks: u64,
+    pub failed: u64,
+    pub misplaced: u64,
     /// The first of the runs of dropped blocks, and how many runs there are.
     pub runs: Vec<Run>,
     pub run_count: usize,
     last: Option<Run>,
-    /// For each endpoint its packets and their bytes.
-    endpoints: Vec<(u64, u64)>,
+    /// Blocks behind the stream's end, and the good ones of them.
+    pub behind: u64,
+    pub good_behind: u64,
 }
 
 impl Summary {
-    /// The endpoints that have packets, with how many and how many bytes.
-    fn given(&self) -> impl Iterator<Item = (usize, (u64, u64))> + '_ {
-        self.endpoints.iter().copied().enumerate().filter(|(_, sums)| sums.0 != 0)
-    }
-
-    pub fn dropped(&self) -> usize {
+    pub fn dropped(&self) -> u64 {
         self.failed + self.misplaced
     }
 
-    /// The block at this place is dropped.
-    fn drop_block(&mut self, place: usize, why: Dropped) {
+    fn block(&mut self, place: u64, dropped: Option<Dropped>) {
+        self.blocks += 1;
+        let Some(why) = dropped else { return };
         match why {
             Dropped::Check => self.failed += 1,
             Dropped::Number(_) => self.misplaced += 1,
@@ -104,58 +82,71 @@ impl Summary {
     }
 }
 
-/// The dropped blocks of a stretch that begins at this place.
-fn dropped(stretch: &[u8], first: usize) -> Vec<(usize, Dropped)> {
-    let places = (first..).zip(stretch.chunks_exact(BLOCK));
-    places.filter_map(|(place, bytes)| block(bytes, place).err().map(|why| (place, why))).collect()
+/// An image on its way to a listener.
+struct Going<'a, L: Listener> {
+    survey: &'a mut Survey<L>,
+    summary: Summary,
+    progress: Progress,
+    /// Are blocks behind the end looked at?
+    behind: bool,
 }
 
-/// Goes through the image once; each packet goes to `give`.
-pub fn go_through(
-    image: &mut Image,
-    places: bool,
-    progress: &mut Progress,
-    mut give: impl FnMut(&Packet) -> Done<()>,
-) -> Done<Summary> {
-    // an endpoint is a byte on the card
-    let mut all = Summary { endpoints: vec![(0, 0); 256], ..Summary::default() };
-    let reader = if places { Reader::with_places(image.bytes()) } else { Reader::new(image.bytes()) };
-    let Ok(mut reader) = reader else {
-        let bytes = image.bytes().len();
-        return bad(format!(
-            "{} bytes are not whole blocks of 512: {} and {} more (21); --cut leaves these out",
-            thousands(bytes as u64),
-            count((bytes / BLOCK) as u64, "block"),
-            count((bytes % BLOCK) as u64, "byte")
-        ));
-    };
-    let mut over = false;
-    let mut from = 0;
-    while from < image.bytes().len() {
-        let stream = image.bytes();
-        let to = (from + STRETCH).min(stream.len());
-        // the blocks are checked beside the reading
-        let dropped = std::thread::scope(|scope| {
-            let checked = scope.spawn(|| dropped(&stream[from..to], from / BLOCK));
-            while !over && (reader.has_more() || reader.block() * BLOCK < to) {
-                match reader.next(stream) {
-                    Some(packet) => {
-                        let sums = &mut all.endpoints[packet.endpoint as usize & 255];
-                        *sums = (sums.0 + 1, sums.1 + packet.bytes.len() as u64);
-                        give(&packet)?;
-                    }
-                    None => over = true,
-                }
-            }
-            Ok(checked.join().expect("blocks are checked"))
-        })?;
-        all.blocks = to / BLOCK;
-        dropped.into_iter().for_each(|(place, why)| all.drop_block(place, why));
-        image.done_with(to.min(reader.block() * BLOCK));
-        from = to;
-        progress.at(from as u64);
+impl<L: Listener> Sink for Going<'_, L> {
+    fn packet(&mut self, p: &Packet) -> Done<bool> {
+        self.survey.next(p.endpoint, p.begin, p.behind_damage, p.bytes)
     }
-    Ok(all)
+
+    fn block(&mut self, place: u64, dropped: Option<Dropped>) {
+        self.summary.block(place, dropped);
+    }
+
+    fn behind(&mut self, dropped: Option<Dropped>) -> bool {
+        self.summary.behind += 1;
+        self.summary.good_behind += u64::from(dropped.is_none());
+        self.behind
+    }
+
+    fn progress(&mut self, bytes: u64) {
+        self.progress.at(bytes);
+    }
+}
+
+/// What came of an image.
+pub struct Outcome {
+    pub summary: Summary,
+    pub end: End,
+    /// Is it certain that the survey ends there?
+    pub certain: bool,
+    why: &'static str,
+}
+
+/// Goes through an image; its survey's packets go to the listener.
+fn heard<L: Listener>(image: &mut Image, with: &With, behind: bool, survey: &mut Survey<L>) -> Done<Outcome> {
+    let progress = Progress::new("card", image.length, with.quiet);
+    let mut going = Going { survey, summary: Summary::default(), progress, behind };
+    let end = go_through(image, with.extent, &mut going)?;
+    let summary = std::mem::take(&mut going.summary);
+    drop(going);
+    survey.finish()?;
+    let (certain, why) = certainty(survey, end.why, with.extent.blocks.is_some());
+    Ok(Outcome { summary, end, certain, why })
+}
+
+/// Is the end certain, and why?
+fn certainty<L: Listener>(survey: &Survey<L>, stop: Stop, asked: bool) -> (bool, &'static str) {
+    match (survey.seam, survey.ended, stop) {
+        (Some(Seam::Other(_)), _, _) => (false, "a record of another survey follows"),
+        (Some(Seam::Record(_)), _, _) => (false, "a recorder's record follows packets that have none"),
+        (Some(Seam::Without), _, _) => (false, "more packets follow than a recorder leaves without a record"),
+        (_, Some(_), _) if survey.finished => (true, "the end record"),
+        (_, Some(_), _) => (true, "an end record, but the survey was not finished"),
+        (_, None, Stop::Filler) if survey.number.is_none() => (true, "filler"),
+        (_, None, Stop::Filler) => (false, "filler, but the recorder wrote no end record"),
+        (_, None, Stop::RunsOut) if asked && survey.number.is_none() => (true, "as many blocks as --blocks says"),
+        (_, None, Stop::RunsOut) => (false, "the image ends there, without an end record or filler"),
+        (_, None, Stop::Cut) => (false, "the image ends in the midst of a packet"),
+        (_, None, _) => (false, "behind the dropped blocks no packet begins"),
+    }
 }
 
 fn why(run: &Run) -> String {
@@ -167,21 +158,53 @@ fn why(run: &Run) -> String {
     }
 }
 
-fn text(path: &str, all: &Summary) -> String {
-    let good = all.blocks - all.dropped();
+/// The losses of a survey.
+#[derive(Default)]
+struct Losses {
+    named: Vec<Loss>,
+    all: u64,
+}
+
+impl Listener for Losses {
+    fn packet(&mut self, _: &Sampled, _: &[u8]) -> Done<()> {
+        Ok(())
+    }
+
+    fn loss(&mut self, loss: &Loss) {
+        self.all += 1;
+        if self.named.len() < NAMED {
+            self.named.push(*loss);
+        }
+    }
+}
+
+fn lost(loss: &Loss) -> String {
+    let (packets, was) = (count(loss.packets.into(), "packet"), if loss.packets == 1 { "was" } else { "were" });
+    match loss.before {
+        Some(before) => {
+            let (a, b) = (thousands(loss.after), thousands(before));
+            format!("{packets} {was} turned away between packets {a} and {b}")
+        }
+        None => format!("{packets} {was} turned away, and no stamp shows where"),
+    }
+}
+
+/// Block and byte of a place.
+fn at(place: u64) -> (u64, u64) {
+    (place / DATA as u64, place % DATA as u64 + 6)
+}
+
+fn text(path: &Path, survey: &Survey<Losses>, outcome: &Outcome, only: Option<u8>) -> String {
+    let all = &outcome.summary;
     let mut t = format!(
         "{}: {}, {} good, {} dropped",
         name(path),
-        count(all.blocks as u64, "block"),
-        thousands(good as u64),
-        thousands(all.dropped() as u64)
+        count(all.blocks, "block"),
+        thousands(all.blocks - all.dropped()),
+        thousands(all.dropped())
     );
     if all.dropped() != 0 {
-        t += &format!(
-            " ({} by the check, {} by the number)",
-            thousands(all.failed as u64),
-            thousands(all.misplaced as u64)
-        );
+        t += &format!(" ({} by the check, {} by the number)", thousands(all.failed), thousands(all.misplaced));
     }
     t += "\n";
     for run in &all.runs {
@@ -193,16 +216,46 @@ fn text(path: &str, all: &Summary) -> String {
     if all.run_count > all.runs.len() {
         t += &format!("  and {} more places\n", thousands((all.run_count - all.runs.len()) as u64));
     }
-    for (endpoint, (packets, bytes)) in all.given() {
-        t += &format!("endpoint {endpoint}: {}, {}\n", count(packets, "packet"), count(bytes, "byte"));
+    if let Some(number) = survey.number {
+        t += &format!("survey {number}, {} of its recorder\n", count(survey.records, "record"));
     }
-    if all.given().next().is_none() {
+    let shown = |e: u8| only.is_none_or(|o| o == e);
+    for (endpoint, track) in survey.endpoints().filter(|(e, _)| shown(*e)) {
+        t += &format!("endpoint {endpoint}: {}, {}\n", count(track.packets, "packet"), count(track.bytes, "byte"));
+        for loss in survey.listener.named.iter().filter(|l| l.endpoint == endpoint) {
+            t += &format!("  {}\n", lost(loss));
+        }
+    }
+    if survey.endpoints().next().is_none() {
         t += "no packet\n";
+    }
+    let more = survey.listener.all - survey.listener.named.len() as u64;
+    if more != 0 {
+        t += &format!("  and {} more losses\n", thousands(more));
+    }
+    let (block, byte) = at(outcome.end.place);
+    t += &match outcome.certain {
+        true => format!("the stream ends in block {block} at byte {byte}: {}\n", outcome.why),
+        false => format!("the end, in block {block} at byte {byte}, is not certain: {}\n", outcome.why),
+    };
+    if survey.left_out != 0 {
+        t += &format!("{} behind the last record are not given\n", count(survey.left_out, "packet"));
+    }
+    if all.behind != 0 {
+        t += &match all.good_behind {
+            0 => format!("{} behind it, none good\n", count(all.behind, "block")),
+            n => format!(
+                "{} behind it, {} good and not read (an older survey?)\n",
+                count(all.behind, "block"),
+                thousands(n)
+            ),
+        };
     }
     t
 }
 
-fn json(all: &Summary) -> Json {
+fn json(survey: &Survey<Losses>, outcome: &Outcome, only: Option<u8>) -> Json {
+    let all = &outcome.summary;
     let run = |r: &Run| {
         let (why, number) = match r.why {
             Dropped::Check => ("check", None),
@@ -215,9 +268,33 @@ fn json(all: &Summary) -> Json {
             ("number", number.into()),
         ])
     };
-    let endpoint = |(e, (packets, bytes)): (usize, (u64, u64))| {
-        Json::Object(vec![("endpoint", e.into()), ("packets", packets.into()), ("bytes", bytes.into())])
+    let loss = |l: &Loss| {
+        Json::Object(vec![
+            ("endpoint", l.endpoint.into()),
+            ("packets", l.packets.into()),
+            ("after", l.after.into()),
+            ("before", l.before.into()),
+        ])
     };
+    let endpoint = |(e, t): (u8, &recorder::Track)| {
+        Json::Object(vec![
+            ("endpoint", e.into()),
+            ("packets", t.packets.into()),
+            ("bytes", t.bytes.into()),
+            ("turned_away", t.turned_away.into()),
+        ])
+    };
+    let (block, byte) = at(outcome.end.place);
+    let end = Json::Object(vec![
+        ("block", block.into()),
+        ("offset", byte.into()),
+        ("certain", outcome.certain.into()),
+        ("why", outcome.why.into()),
+        ("blocks_behind", all.behind.into()),
+        ("good_behind", all.good_behind.into()),
+        ("not_given", survey.left_out.into()),
+    ]);
+    let shown = survey.endpoints().filter(|(e, _)| only.is_none_or(|o| o == *e));
     Json::Object(vec![
         ("blocks", all.blocks.into()),
         ("good", (all.blocks - all.dropped()).into()),
@@ -225,7 +302,12 @@ fn json(all: &Summary) -> Json {
         ("dropped_by_number", all.misplaced.into()),
         ("dropped", all.runs.iter().map(run).collect::<Vec<_>>().into()),
         ("dropped_places", all.run_count.into()),
-        ("endpoints", all.given().map(endpoint).collect::<Vec<_>>().into()),
+        ("survey", survey.number.into()),
+        ("records", survey.records.into()),
+        ("endpoints", shown.map(endpoint).collect::<Vec<_>>().into()),
+        ("losses", survey.listener.named.iter().map(loss).collect::<Vec<_>>().into()),
+        ("loss_places", survey.listener.all.into()),
+        ("end", end),
     ])
 }
 
@@ -235,12 +317,22 @@ enum Form {
     ListJson,
     Raw,
     Csv,
-    Samples,
+    Samples(Box<Samples>),
 }
 
-fn hex(bytes: &[u8]) -> String {
+fn push_hex(bytes: &[u8], out: &mut Vec<u8>) {
     const DIGITS: &[u8; 16] = b"0123456789abcdef";
-    bytes.iter().flat_map(|b| [DIGITS[(b >> 4) as usize] as char, DIGITS[(b & 15) as usize] as char]).collect()
+    out.extend(bytes.iter().flat_map(|b| [DIGITS[(b >> 4) as usize], DIGITS[(b & 15) as usize]]));
+}
+
+/// What stands in the column of gaps.
+pub fn gap_words(gap: Gap) -> String {
+    match (gap.turned_away, gap.damage) {
+        (0, false) => String::new(),
+        (0, true) => "?".into(),
+        (n, false) => n.to_string(),
+        (n, true) => format!("{n}?"),
+    }
 }
 
 impl Form {
@@ -249,14 +341,9 @@ impl Form {
             Form::List => "  packet     block  offset  endpoint  length\n",
             Form::ListJson => "[",
             Form::Raw => "",
-            Form::Csv => "packet,block,offset,endpoint,length,bytes\n",
-            Form::Samples => "packet,endpoint,sample,value\n",
+            Form::Csv => "packet,block,offset,endpoint,microframe,gap,length,bytes\n",
+            Form::Samples(_) => "packet,endpoint,microframe,gap,sample,value\n",
         }
-    }
-
-    /// Does it tell where packets begin?
-    fn places(&self) -> bool {
-        !matches!(self, Form::Raw | Form::Samples)
     }
 
     fn foot(&self) -> &'static str {
@@ -266,88 +353,295 @@ impl Form {
         }
     }
 
-    fn packet(&self, out: &mut dyn Write, n: u64, p: &Packet) -> std::io::Result<()> {
-        let (block, offset) = (p.begin / DATA, p.begin % DATA + 6);
-        let (endpoint, length) = (p.endpoint, p.bytes.len());
-        match self {
-            Form::List => writeln!(out, "{n:8}  {block:8}  {offset:6}  {endpoint:8}  {length:6}"),
-            Form::ListJson => {
-                let comma = if n == 0 { "" } else { "," };
-                write!(
-                    out,
-                    "{comma}{{\"block\":{block},\"offset\":{offset},\"endpoint\":{endpoint},\"length\":{length}}}"
-                )
-            }
-            Form::Raw => out.write_all(p.bytes),
-            Form::Csv => writeln!(out, "{n},{block},{offset},{endpoint},{length},{}", hex(p.bytes)),
-            Form::Samples => {
-                for (i, s) in p.bytes.chunks_exact(2).enumerate() {
-                    writeln!(out, "{n},{endpoint},{i},{}", i16::from_le_bytes([s[0], s[1]]))?;
-                }
-                Ok(())
-            }
-        }
+    fn is_list(&self) -> bool {
+        matches!(self, Form::List | Form::ListJson)
     }
 }
 
-/// `false` where a block was dropped.
-pub fn run(mut args: Args, as_json: bool, out: &mut dyn Write) -> Done<bool> {
-    let what = args.word("check, list or extract")?;
-    let (quiet, cut) = (args.flag("--quiet"), args.flag("--cut"));
-    let mut to = None;
-    let form = match what.as_str() {
-        "check" => None,
-        "list" if as_json => Some(Form::ListJson),
-        "list" => Some(Form::List),
-        "extract" => {
-            to = args.value("--out")?;
-            let (csv, samples) = (args.flag("--csv"), args.flag("--samples"));
-            Some(match (csv, samples) {
-                (_, true) => Form::Samples,
-                (true, false) => Form::Csv,
-                (false, false) => Form::Raw,
-            })
+/// Packets on their way out.
+struct Writing {
+    form: Form,
+    out: Output,
+    room: Vec<u8>,
+    /// The first line is written.
+    headed: bool,
+    only: Option<u8>,
+    recorder: u8,
+    interpolate: bool,
+    /// Packets, and list entries, so far.
+    packets: u64,
+    entries: u64,
+    /// Those with an odd byte.
+    odd: u64,
+    /// The endpoints seen.
+    endpoints: u16,
+}
+
+impl Writing {
+    fn flush(&mut self) -> Done<()> {
+        if !std::mem::replace(&mut self.headed, true) {
+            self.out.write(self.form.head().as_bytes())?;
         }
-        _ => return Err(crate::Failure::Usage(format!("card {what}: check, list or extract"))),
-    };
-    let only = if form.is_some() { args.number("--endpoint")? } else { None };
-    let path = args.word("IMAGE")?;
-    args.end()?;
-    let mut image = Image::open(&path)?;
-    if cut {
-        image.cut_to(BLOCK);
+        if let Form::Samples(samples) = &mut self.form {
+            self.out.write(samples.lines())?;
+            samples.forget();
+        }
+        self.out.write(&self.room)?;
+        self.room.clear();
+        Ok(())
     }
-    let mut progress = Progress::new("card", image.bytes().len() as u64, quiet);
-    let named = |e| match e {
-        crate::Failure::Input(words) => crate::Failure::Input(format!("{}: {words}", name(&path))),
-        other => other,
-    };
-    let Some(form) = form else {
-        let all = go_through(&mut image, false, &mut progress, |_| Ok(())).map_err(named)?;
-        drop(progress);
-        let answer = if as_json { format!("{}\n", json(&all)) } else { text(&path, &all) };
-        written(out.write_all(answer.as_bytes()))?;
-        return Ok(all.dropped() == 0);
-    };
-    let mut file = to.as_deref().map(|to| create(Some(to))).transpose()?;
-    let out: &mut dyn Write = match &mut file {
-        Some(file) => file,
-        None => out,
-    };
-    written(out.write_all(form.head().as_bytes()))?;
-    let mut n = 0;
-    let all = go_through(&mut image, form.places(), &mut progress, |p| {
-        if only.is_none_or(|e| e == p.endpoint) {
-            written(form.packet(out, n, p))?;
-            n += 1;
+
+    fn entry(&mut self, n: Option<u64>, p: &Sampled, bytes: &[u8], record: Option<&Record>) {
+        use std::io::Write;
+        let ((block, offset), length) = (at(p.begin), bytes.len());
+        let endpoint = p.endpoint;
+        let comma = if self.entries == 0 { "" } else { "," };
+        self.entries += 1;
+        let out = &mut self.room;
+        let _ = match (&mut self.form, n) {
+            (Form::Samples(samples), Some(n)) => {
+                samples.packet(n, endpoint, p.microframe, p.gap, bytes);
+                Ok(())
+            }
+            (Form::Raw, _) => {
+                out.extend_from_slice(bytes);
+                Ok(())
+            }
+            (Form::Csv, Some(n)) => {
+                let microframe = p.microframe.map(|m| m.to_string()).unwrap_or_default();
+                let _ = write!(out, "{n},{block},{offset},{endpoint},{microframe},{},{length},", gap_words(p.gap));
+                push_hex(bytes, out);
+                writeln!(out)
+            }
+            (Form::ListJson, n) => {
+                let _ = write!(out, "{comma}{{\"packet\":{},\"block\":{block},\"offset\":{offset}", Json::from(n));
+                let _ = write!(out, ",\"endpoint\":{endpoint},\"length\":{length}");
+                if let Some(microframe) = p.microframe {
+                    let _ = write!(out, ",\"microframe\":{microframe}");
+                }
+                if p.gap != Gap::default() {
+                    let Gap { turned_away, damage } = p.gap;
+                    let _ = write!(out, ",\"turned_away_before\":{turned_away},\"damage_before\":{damage}");
+                }
+                if let Some(record) = record {
+                    let _ = write!(out, ",\"record\":{}", Json::from(record.words()));
+                }
+                write!(out, "}}")
+            }
+            (_, n) => {
+                let n = n.map_or("-".into(), |n| n.to_string());
+                let words = match (record, p.microframe, gap_words(p.gap)) {
+                    (Some(record), _, _) => format!("  {}", record.words()),
+                    (None, Some(m), gap) if gap.is_empty() => format!("  microframe {m}"),
+                    (None, Some(m), gap) => format!("  microframe {m}, gap {gap}"),
+                    (None, None, gap) if gap.is_empty() => String::new(),
+                    (None, None, gap) => format!("  gap {gap}"),
+                };
+                writeln!(out, "{n:>8}  {block:8}  {offset:6}  {endpoint:8}  {length:6}{words}")
+            }
+        };
+    }
+}
+
+impl Listener for Writing {
+    fn packet(&mut self, p: &Sampled, bytes: &[u8]) -> Done<()> {
+        if self.only.is_some_and(|e| e != p.endpoint) {
+            return Ok(());
+        }
+        self.odd += (bytes.len() % 2) as u64;
+        self.endpoints |= 1 << (p.endpoint & 15);
+        let n = self.packets;
+        self.packets += 1;
+        match (self.interpolate, p.microframe) {
+            (true, None) => self.entry(Some(n), &Sampled { microframe: p.by_step, ..*p }, bytes, None),
+            _ => self.entry(Some(n), p, bytes, None),
+        }
+        let waiting = match &self.form {
+            Form::Samples(samples) => samples.lines().len(),
+            _ => self.room.len(),
+        };
+        if waiting > 1 << 16 {
+            self.flush()?;
         }
         Ok(())
-    })
-    .map_err(named)?;
-    written(out.write_all(form.foot().as_bytes()).and_then(|()| out.flush()))?;
-    drop(progress);
-    if all.dropped() != 0 {
-        eprintln!("usbhs: {}: {} dropped", name(&path), count(all.dropped() as u64, "block"));
     }
-    Ok(all.dropped() == 0)
+
+    /// Records are listed; as packets they are given where their endpoint is asked for.
+    fn record(&mut self, record: &Record, begin: u64, bytes: &[u8]) -> Done<()> {
+        let endpoint = self.recorder;
+        let (number, of_endpoint) = (self.packets, self.packets);
+        let plain = Sampled {
+            number,
+            of_endpoint,
+            endpoint,
+            begin,
+            microframe: None,
+            time: None,
+            by_step: None,
+            gap: Gap::default(),
+        };
+        if self.only == Some(endpoint) {
+            self.packets += 1;
+            self.entry(Some(number), &plain, bytes, Some(record));
+        } else if self.only.is_none() && self.form.is_list() {
+            self.entry(None, &plain, bytes, Some(record));
+        }
+        Ok(())
+    }
+}
+
+/// What every command on a card takes.
+pub struct With {
+    pub quiet: bool,
+    pub extent: Extent,
+    pub recorder: u8,
+    pub only: Option<u8>,
+}
+
+fn endpoint(args: &mut Args, name: &str, least: u32) -> Done<Option<u8>> {
+    match args.number(name)? {
+        Some(n) if !(least..=15).contains(&n) => usage(format!("{name}: {n} is no endpoint from {least} to 15")),
+        n => Ok(n.map(|n| n as u8)),
+    }
+}
+
+fn with(args: &mut Args) -> Done<With> {
+    let blocks = args.number("--blocks")?;
+    if blocks == Some(0) {
+        return usage("--blocks: 0 are none");
+    }
+    let cut = args.flag("--cut");
+    if cut && blocks.is_some() {
+        return usage("--blocks and --cut: one of them says where the stream ends");
+    }
+    Ok(With {
+        quiet: args.flag("--quiet"),
+        extent: Extent { blocks: blocks.map(u64::from), cut },
+        recorder: endpoint(args, "--recorder", 0)?.unwrap_or(recorder::ENDPOINT),
+        only: endpoint(args, "--endpoint", 1)?,
+    })
+}
+
+/// What is to be said of an image that was listed or extracted, on standard error; `false` where something is wrong.
+fn told<L: Listener>(path: &Path, survey: &Survey<L>, outcome: &Outcome) -> bool {
+    let name = name(path);
+    let dropped = outcome.summary.dropped();
+    if dropped != 0 {
+        eprintln!("usbhs: {name}: {} dropped", count(dropped, "block"));
+    }
+    if !outcome.certain {
+        let (block, byte) = at(outcome.end.place);
+        eprintln!("usbhs: {name}: the end, in block {block} at byte {byte}, is not certain: {}", outcome.why);
+    }
+    if survey.left_out != 0 {
+        eprintln!("usbhs: {name}: {} behind the last record are not given", count(survey.left_out, "packet"));
+    }
+    dropped == 0 && outcome.certain
+}
+
+fn check(mut args: Args, as_json: bool, out: &mut Output) -> Done<bool> {
+    let with = with(&mut args)?;
+    let path = args.path("IMAGE")?;
+    args.end()?;
+    let mut image = Image::open(&path)?;
+    let mut survey = Survey::new(Losses::default(), with.recorder);
+    let outcome = heard(&mut image, &with, true, &mut survey)?;
+    let answer = match as_json {
+        true => format!("{}\n", json(&survey, &outcome, with.only)),
+        false => text(&path, &survey, &outcome, with.only),
+    };
+    out.write(answer.as_bytes())?;
+    Ok(outcome.summary.dropped() == 0 && outcome.certain)
+}
+
+fn form(list: bool, args: &mut Args, as_json: bool) -> Done<Form> {
+    if list {
+        return Ok(if as_json { Form::ListJson } else { Form::List });
+    }
+    if as_json {
+        return usage("card extract has no --json: --csv and --samples are for programs, and card list --json");
+    }
+    match (args.flag("--csv"), args.flag("--samples")) {
+        (true, true) => usage("--csv and --samples: one of them"),
+        (false, true) => Ok(Form::Samples(Box::default())),
+        (true, false) => Ok(Form::Csv),
+        (false, false) => Ok(Form::Raw),
+    }
+}
+
+fn write_out(list: bool, mut args: Args, as_json: bool) -> Done<bool> {
+    let form = form(list, &mut args, as_json)?;
+    let with = with(&mut args)?;
+    let interpolate = args.flag("--interpolate");
+    if interpolate && matches!(form, Form::Raw) {
+        return usage("--interpolate: the bytes alone have no microframes; with --csv or --samples");
+    }
+    let to = if list { None } else { args.file("--out")? };
+    let path = args.path("IMAGE")?;
+    args.end()?;
+    let mut image = Image::open(&path)?;
+    let out = Output::create(to.as_deref(), &[image.identity.clone()])?;
+    let (foot, raw, samples) = (form.foot(), matches!(form, Form::Raw), matches!(form, Form::Samples(_)));
+    let recorder = with.recorder;
+    let only = with.only;
+    let (packets, entries, odd, endpoints) = (0, 0, 0, 0);
+    let room = Vec::with_capacity(1 << 20);
+    let headed = false;
+    let writing = Writing { form, out, room, headed, only, recorder, interpolate, packets, entries, odd, endpoints };
+    let mut survey = Survey::new(writing, with.recorder);
+    let outcome = heard(&mut image, &with, false, &mut survey);
+    let outcome = match outcome {
+        Ok(outcome) => outcome,
+        Err(failure) => {
+            // what was read is written all the same
+            let mut writing = survey.listener;
+            if writing.entries != 0 {
+                let _ = writing.flush();
+            }
+            return Err(writing.out.abandon(failure));
+        }
+    };
+    let well = told(&path, &survey, &outcome);
+    let mut writing = survey.listener;
+    writing.flush()?;
+    writing.out.write(foot.as_bytes())?;
+    writing.out.finish()?;
+    if samples && writing.odd != 0 {
+        let packets = count(writing.odd, "packet");
+        eprintln!("usbhs: {}: {packets} of an odd length, whose last byte is no sample", name(&path));
+    }
+    if raw && writing.endpoints.count_ones() > 1 {
+        eprintln!("usbhs: {}: packets of several endpoints are mixed; --endpoint keeps one", name(&path));
+    }
+    Ok(well)
+}
+
+/// `false` where a block was dropped, or the end is not certain.
+pub fn run(mut args: Args, as_json: bool, out: &mut Output) -> Done<bool> {
+    let what = args.word("check, list, extract or picture")?;
+    match what.as_str() {
+        "check" => check(args, as_json, out),
+        "list" => write_out(true, args, as_json),
+        "extract" => write_out(false, args, as_json),
+        "picture" if as_json => usage("card picture has no --json"),
+        "picture" => {
+            let drawing = card_picture::Drawing::asked(&mut args)?;
+            let with = with(&mut args)?;
+            let to = args.file("--svg")?;
+            let path = args.path("IMAGE")?;
+            args.end()?;
+            let mut image = Image::open(&path)?;
+            let mut out = Output::create(to.as_deref(), &[image.identity.clone()])?;
+            let mut survey = Survey::new(card_picture::Collected::new(with.only), with.recorder);
+            let outcome = match heard(&mut image, &with, false, &mut survey) {
+                Ok(outcome) => outcome,
+                Err(failure) => return Err(out.abandon(failure)),
+            };
+            let well = told(&path, &survey, &outcome);
+            out.write(drawing.svg(&survey.listener, &name(&path))?.as_bytes())?;
+            out.finish()?;
+            Ok(well)
+        }
+        _ => usage(format!("card {what}: check, list, extract or picture")),
+    }
 }

@@ -1,11 +1,11 @@
 //! `usbhs channels FILE --in-use N --budget B`: the best set of optional channels that fits the bus time left.
 
-use std::io::Write;
+use std::path::Path;
 
 use crate::args::Args;
 use crate::descriptor::{INTERRUPT, ISOCHRONOUS};
 use crate::json::Json;
-use crate::output::{count, thousands, written};
+use crate::output::{count, thousands, Output};
 use crate::{bad, image, rows, survey, Done};
 
 /// What periodic transfers may use of a microframe, in byte-times.
@@ -36,7 +36,7 @@ fn channel(line: &str) -> Result<Channel, String> {
     Ok(Channel { name: name.into(), maximum, charge })
 }
 
-fn channels(path: &str) -> Done<Vec<Channel>> {
+fn channels(path: &Path) -> Done<Vec<Channel>> {
     let text = image::text(path, 1 << 20)?;
     let mut all = vec![];
     for (i, raw) in text.lines().enumerate() {
@@ -51,10 +51,10 @@ fn channels(path: &str) -> Done<Vec<Channel>> {
     Ok(all)
 }
 
-pub fn run(mut args: Args, json: bool, out: &mut dyn Write) -> Done<bool> {
+pub fn run(mut args: Args, json: bool, out: &mut Output) -> Done<bool> {
     let in_use = args.number("--in-use")?.unwrap_or(0);
     let budget = args.number("--budget")?.unwrap_or(65_536);
-    let path = args.word("FILE")?;
+    let path = args.path("FILE")?;
     args.end()?;
     if in_use > 8_388_480 {
         return bad("--in-use: the record of bus time holds at most 8,388,480");
@@ -88,7 +88,7 @@ pub fn run(mut args: Args, json: bool, out: &mut dyn Write) -> Done<bool> {
             ("looked", best.looked.into()),
             ("sets", every.into()),
         ]);
-        written(writeln!(out, "{answer}"))?;
+        out.write(format!("{answer}\n").as_bytes())?;
         return Ok(true);
     }
     let mut text = format!(
@@ -118,6 +118,6 @@ pub fn run(mut args: Args, json: bool, out: &mut dyn Write) -> Done<bool> {
             thousands(best.figure.into())
         )
     };
-    written(out.write_all(text.as_bytes()))?;
+    out.write(text.as_bytes())?;
     Ok(true)
 }

@@ -1,11 +1,12 @@
 //! `usbhs descriptor show|write FILE`: the endpoints of a configuration descriptor (USB 2.0, 9.6).
 
-use std::io::Write;
+use std::path::Path;
 
-use crate::args::Args;
+use crate::args::{usage, Args};
+use crate::image::Image;
 use crate::json::Json;
-use crate::output::{count, create, written};
-use crate::{bad, image, preview, rows, survey, Done, Failure};
+use crate::output::{count, write_to, Output};
+use crate::{bad, image, preview, rows, survey, Done};
 
 /// A descriptor has at most so many bytes.
 pub const MOST: usize = 4_096;
@@ -156,10 +157,14 @@ pub fn why(row: u8, bytes: &[u8]) -> String {
 }
 
 /// What the descriptor in this file holds: its bytes, and the list written out.
-pub fn read(path: &str) -> Done<(Vec<u8>, Vec<u8>)> {
-    let name = image::name(path);
+pub fn read(path: &Path) -> Done<(Vec<u8>, Vec<u8>)> {
+    read_from(Image::open(path)?)
+}
+
+fn read_from(image: Image) -> Done<(Vec<u8>, Vec<u8>)> {
+    let name = image::name(&image.path);
     // as text a byte may take some more
-    let bytes = match bytes_of(&image::small(path, 1 << 20)?) {
+    let bytes = match bytes_of(&image.small(1 << 20)?) {
         Ok(bytes) => bytes,
         Err(e) => return bad(format!("{name}: {e}")),
     };
@@ -169,7 +174,7 @@ pub fn read(path: &str) -> Done<(Vec<u8>, Vec<u8>)> {
     }
 }
 
-fn show(path: &str, bytes: &[u8], all: &[Endpoint]) -> String {
+fn show(path: &Path, bytes: &[u8], all: &[Endpoint]) -> String {
     let charge: u32 = all.iter().map(Endpoint::charge).sum();
     let mut t = format!(
         "{}: {}, {}\n\n  endpoint  address  kind         maximum  interval  byte-times\n",
@@ -191,11 +196,11 @@ fn show(path: &str, bytes: &[u8], all: &[Endpoint]) -> String {
     t + &format!("\nall enabled: {charge} of 6,000 byte-times a microframe\n")
 }
 
-pub fn run(mut args: Args, as_json: bool, out: &mut dyn Write) -> Done<bool> {
+pub fn run(mut args: Args, as_json: bool, out: &mut Output) -> Done<bool> {
     let what = args.word("show, preview or write")?;
     match what.as_str() {
         "show" => {
-            let path = args.word("FILE")?;
+            let path = args.path("FILE")?;
             args.end()?;
             let (bytes, list) = read(&path)?;
             let all = listed(&list);
@@ -206,15 +211,20 @@ pub fn run(mut args: Args, as_json: bool, out: &mut dyn Write) -> Done<bool> {
             } else {
                 show(&path, &bytes, &all)
             };
-            written(out.write_all(answer.as_bytes()))?;
+            out.write(answer.as_bytes())?;
             Ok(true)
         }
         "preview" => preview::run(args, as_json, out),
         "write" => {
-            let (hex, to) = (args.flag("--hex"), args.value("--out")?);
-            let path = args.word("FILE")?;
+            let (hex, to) = (args.flag("--hex"), args.file("--out")?);
+            if hex && as_json {
+                return usage("--hex and --json: one of them");
+            }
+            let path = args.path("FILE")?;
             args.end()?;
-            let (_, list) = read(&path)?;
+            let image = Image::open(&path)?;
+            let identity = image.identity.clone();
+            let (_, list) = read_from(image)?;
             let written_out = if as_json {
                 format!("{}\n", Json::Object(vec![("bytes", list.clone().into())])).into_bytes()
             } else if hex {
@@ -223,15 +233,12 @@ pub fn run(mut args: Args, as_json: bool, out: &mut dyn Write) -> Done<bool> {
                 list
             };
             match to {
-                Some(to) => written(create(Some(&to)).and_then(|mut f| {
-                    written(f.write_all(&written_out).and_then(|()| f.flush()))?;
-                    Ok(Ok(()))
-                })?)?,
-                None => written(out.write_all(&written_out))?,
+                Some(to) => write_to(Some(&to), &[identity], &written_out)?,
+                None => out.write(&written_out)?,
             }
             Ok(true)
         }
-        _ => Err(Failure::Usage(format!("descriptor {what}: show, preview or write"))),
+        _ => usage(format!("descriptor {what}: show, preview or write")),
     }
 }
 

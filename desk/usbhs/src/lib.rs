@@ -2,6 +2,8 @@
 
 pub mod args;
 pub mod card;
+mod card_picture;
+mod card_samples;
 pub mod channels;
 pub mod descriptor;
 #[allow(dead_code)]
@@ -18,9 +20,11 @@ pub mod output;
 pub mod port;
 pub mod preview;
 pub mod progress;
+pub mod recorder;
 pub mod replay;
 pub mod rows;
 mod stamps;
+pub mod stream;
 pub mod survey;
 pub mod svg;
 #[allow(dead_code)]

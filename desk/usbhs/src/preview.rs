@@ -1,14 +1,12 @@
 //! `usbhs descriptor preview FILE --size S --count N`: what allocating a descriptor's endpoints on a board would
 //! give, buffer by buffer.
 
-use std::io::Write;
-
 use oracle::{Answer, Call, Dir, Driver, Kind};
 
 use crate::args::Args;
 use crate::descriptor::{self, Endpoint};
 use crate::json::Json;
-use crate::output::{count, thousands, written};
+use crate::output::{count, thousands, Output};
 use crate::port::Port;
 use crate::{bad, image, rows, survey, Done};
 
@@ -196,10 +194,10 @@ impl Board {
 }
 
 /// `false` where something is refused.
-pub fn run(mut args: Args, as_json: bool, out: &mut dyn Write) -> Done<bool> {
+pub fn run(mut args: Args, as_json: bool, out: &mut Output) -> Done<bool> {
     let size = args.number("--size")?.unwrap_or(64);
     let count = args.number("--count")?.unwrap_or(24);
-    let path = args.word("FILE")?;
+    let path = args.path("FILE")?;
     args.end()?;
     // row 2 bounds the board; nothing above it is lent
     if u64::from(size) * u64::from(count) > 65_536 {
@@ -218,7 +216,7 @@ pub fn run(mut args: Args, as_json: bool, out: &mut dyn Write) -> Done<bool> {
     if (given, refusal) != (previewed.numbers, previewed.refusal) {
         return bad("the preview and the allocations differ");
     }
-    let answer = if as_json { format!("{}\n", board.json()) } else { board.text(image::name(&path)) };
-    written(out.write_all(answer.as_bytes()))?;
+    let answer = if as_json { format!("{}\n", board.json()) } else { board.text(&image::name(&path)) };
+    out.write(answer.as_bytes())?;
     Ok(board.works())
 }

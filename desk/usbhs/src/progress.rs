@@ -7,7 +7,7 @@ use crate::output::thousands;
 
 pub struct Progress {
     what: &'static str,
-    all: u64,
+    all: Option<u64>,
     began: Instant,
     next: Duration,
     terminal: bool,
@@ -16,8 +16,8 @@ pub struct Progress {
 }
 
 impl Progress {
-    /// Of so many bytes.
-    pub fn new(what: &'static str, all: u64, quiet: bool) -> Self {
+    /// Of so many bytes, where that is known.
+    pub fn new(what: &'static str, all: Option<u64>, quiet: bool) -> Self {
         let terminal = stderr().is_terminal();
         let next = Duration::from_millis(if terminal { 500 } else { 5_000 });
         Self { what, all, began: Instant::now(), next, terminal, quiet, shown: false }
@@ -30,11 +30,14 @@ impl Progress {
         }
         self.next = passed + Duration::from_millis(if self.terminal { 200 } else { 10_000 });
         let megabytes = |n: u64| thousands(n / 1_000_000);
-        let percent = bytes * 100 / self.all.max(1);
         let speed = (bytes as f64 / passed.as_secs_f64() / 1e6) as u64;
-        let (what, done, all) = (self.what, megabytes(bytes), megabytes(self.all));
+        let (what, done) = (self.what, megabytes(bytes));
+        let done = match self.all {
+            Some(all) => format!("{} %, {done} of {} MB", bytes * 100 / all.max(1), megabytes(all)),
+            None => format!("{done} MB"),
+        };
         let (front, end) = if self.terminal { ("\r", "  ") } else { ("", "\n") };
-        let _ = write!(stderr(), "{front}{what}: {percent} %, {done} of {all} MB, {} MB/s{end}", thousands(speed));
+        let _ = write!(stderr(), "{front}{what}: {done}, {} MB/s{end}", thousands(speed));
         self.shown = true;
     }
 }

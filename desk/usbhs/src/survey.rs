@@ -163,7 +163,8 @@ impl Writer {
 /// A packet as the reader gives it.
 pub struct Packet<'a> {
     pub endpoint: u32,
-    /// Where it begins, counted in packet data: block times 504 plus its place there. 0 where places are not asked for.
+    /// Where it begins, counted in packet data: block times 504 plus its place there. Right where packets are read one
+    /// at a time, or no block is dropped.
     pub begin: usize,
     pub bytes: &'a [u8],
 }
@@ -173,8 +174,26 @@ const HEAD: usize = 3;
 /// Room for some packets, and for the longest: a length has 16 bits.
 const ROOM: usize = 1 << 18;
 
-/// Reads a stream's packets, as many at a time as its room holds. This is the only place that asks the archive for
-/// packets.
+/// Where the first packet begins that a good block names; behind the stream where there is none.
+pub fn first_begin(stream: &[u8]) -> Length {
+    let mut place = 0;
+    // SAFETY: a slice with its own length
+    unsafe { usbhs_card_start(stream.as_ptr(), length(stream), &mut place) };
+    place
+}
+
+/// As many packets from this place on as the room holds, as they stand on the card, one behind the other with their
+/// headers: how many bytes they take. None where there is no more. The room holds every packet, and the stream is
+/// whole blocks: nothing is refused.
+pub fn read_batch(stream: &[u8], place: &mut Length, room: &mut [u8]) -> Option<usize> {
+    let (mut count, mut used) = (0, 0);
+    let (s, n, m) = (stream.as_ptr(), length(stream), length(room));
+    // SAFETY: slices with their own lengths
+    let word = unsafe { usbhs_card_read(s, n, place, room.as_mut_ptr(), m, &mut count, &mut used) };
+    (answered(word) == Ok(1)).then_some(used as usize)
+}
+
+/// Reads the packets of a stream that lies in memory, as many at a time as its room holds.
 pub struct Reader {
     place: Length,
     room: Vec<u8>,
@@ -183,10 +202,8 @@ pub struct Reader {
     to: usize,
     /// Where the first of them begins.
     begin: usize,
-    /// Are packets' places asked for?
-    places: bool,
-    /// So many packets are read one at a time.
-    singly: usize,
+    /// Packets are read one at a time, and tell where they begin.
+    singly: bool,
 }
 
 impl Reader {
@@ -194,22 +211,12 @@ impl Reader {
         let mut place = 0;
         // SAFETY: a slice with its own length
         answered(unsafe { usbhs_card_start(stream.as_ptr(), length(stream), &mut place) })?;
-        Ok(Self { place, room: vec![0; ROOM], from: 0, to: 0, begin: place as usize, places: false, singly: 0 })
-    }
-
-    /// A reader that tells where each packet begins.
-    pub fn with_places(stream: &[u8]) -> Result<Self, u8> {
-        Ok(Self { places: true, ..Self::new(stream)? })
+        Ok(Self { place, room: vec![0; ROOM], from: 0, to: 0, begin: place as usize, singly: false })
     }
 
     /// The same by usbhs_card_next alone.
     pub fn one_by_one(stream: &[u8]) -> Result<Self, u8> {
-        Ok(Self { singly: usize::MAX, ..Self::with_places(stream)? })
-    }
-
-    /// The block from which on nothing is read yet.
-    pub fn block(&self) -> usize {
-        self.place as usize / DATA
+        Ok(Self { singly: true, ..Self::new(stream)? })
     }
 
     /// Packets are read that are not yet given.
@@ -239,28 +246,17 @@ impl Reader {
 
     /// Reads as many packets as the room holds.
     fn fill(&mut self, stream: &[u8]) -> bool {
-        if self.singly != 0 {
+        if self.singly {
             return self.one(stream);
         }
         let before = self.place;
-        let (mut count, mut used) = (0, 0);
-        let (s, n, m) = (stream.as_ptr(), length(stream), length(&self.room));
-        // the room holds every packet, and the stream is whole blocks: nothing is refused
-        // SAFETY: slices with their own lengths
-        let word = unsafe { usbhs_card_read(s, n, &mut self.place, self.room.as_mut_ptr(), m, &mut count, &mut used) };
-        let more = answered(word) == Ok(1);
-        (self.from, self.to, self.begin) = (0, used as usize, before as usize);
-        if more && self.places && before + used != self.place {
-            // a dropped block stands among them: one at a time, they tell where they begin
-            (self.place, self.singly) = (before, count as usize);
-            return self.one(stream);
-        }
-        more
+        let used = read_batch(stream, &mut self.place, &mut self.room);
+        (self.from, self.to, self.begin) = (0, used.unwrap_or(0), before as usize);
+        used.is_some()
     }
 
     /// Reads one packet.
     fn one(&mut self, stream: &[u8]) -> bool {
-        self.singly -= 1;
         let mut endpoint = 0;
         let room = &mut self.room[HEAD..];
         let (s, n, m) = (stream.as_ptr(), length(stream), length(room));

@@ -15,6 +15,7 @@ pub const AMBER: &str = "#c77700";
 pub struct Svg {
     width: f64,
     height: f64,
+    title: String,
     body: String,
 }
 
@@ -32,7 +33,12 @@ fn escaped(text: &str) -> String {
 
 impl Svg {
     pub fn new(width: f64, height: f64) -> Self {
-        Self { width, height, body: String::new() }
+        Self { width, height, title: String::new(), body: String::new() }
+    }
+
+    /// What it shows, for those who do not see it.
+    pub fn title(&mut self, words: &str) {
+        self.title = words.into();
     }
 
     fn add(&mut self, element: String) {
@@ -105,10 +111,12 @@ impl Svg {
     }
 
     pub fn finish(self) -> String {
-        let Svg { width, height, body } = self;
+        let Svg { width, height, title, body } = self;
+        let title = escaped(&title);
         format!(
             "<svg xmlns=\"http://www.w3.org/2000/svg\" viewBox=\"0 0 {width} {height}\" width=\"{width}\" \
-             height=\"{height}\" font-family=\"DejaVu Sans, Verdana, sans-serif\">\n\
+             height=\"{height}\" font-family=\"DejaVu Sans, Verdana, sans-serif\" role=\"img\">\n\
+             <title>{title}</title>\n\
              <rect width=\"{width}\" height=\"{height}\" fill=\"#ffffff\"/>\n{body}</svg>\n"
         )
     }

@@ -1,16 +1,14 @@
 //! `usbhs visits A B C D`: how many packets arrive between a reader's visits, and whether fifteen slots do.
 
-use std::io::Write;
-
 use crate::args::{number, Args};
 use crate::json::Json;
-use crate::output::{count, thousands, written};
+use crate::output::{count, thousands, Output};
 use crate::{bad, rows, survey, Done};
 
 /// A ring of sixteen slots holds fifteen packets.
 const SLOTS: u32 = 15;
 
-pub fn run(mut args: Args, json: bool, out: &mut dyn Write) -> Done<bool> {
+pub fn run(mut args: Args, json: bool, out: &mut Output) -> Done<bool> {
     let mut next = |what: &str| args.word(what).and_then(|w| number(what, &w));
     let (a, b, c, d) = (next("A")?, next("B")?, next("C")?, next("D")?);
     args.end()?;
@@ -34,7 +32,7 @@ pub fn run(mut args: Args, json: bool, out: &mut dyn Write) -> Done<bool> {
             ("slots", SLOTS.into()),
             ("enough", does.into()),
         ]);
-        written(writeln!(out, "{all}"))?;
+        out.write(format!("{all}\n").as_bytes())?;
         return Ok(does);
     }
     let range = |lo: u32, hi: u32| {
@@ -68,6 +66,6 @@ greatest: {} between two visits: the first {} after the visit, then one every {}
             )
         }
     );
-    written(out.write_all(text.as_bytes()))?;
+    out.write(text.as_bytes())?;
     Ok(does)
 }

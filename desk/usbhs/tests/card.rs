@@ -6,8 +6,10 @@ use std::fs::File;
 use std::io::Read;
 use std::process::{Command, Stdio};
 
-use common::{refused, stream, usbhs, Numbers};
-use usbhs::survey::{Reader, BLOCK};
+use common::{image, refused, stream, usbhs, Numbers};
+use usbhs::stream::{block, go_through_by, Dropped, End, Extent, Packet, Sink, Stop};
+use usbhs::survey::{Reader, BLOCK, DATA};
+use usbhs::Done;
 
 fn packets(n: usize, numbers: &mut Numbers) -> Vec<(u32, Vec<u8>)> {
     (0..n).map(|_| (1 + numbers.below(15) as u32, numbers.below(200))).map(|(e, l)| (e, vec![e as u8; l])).collect()
@@ -34,7 +36,7 @@ fn what_is_written_comes_back() {
     let csv = usbhs(&["card", "extract", "--csv", "-"], &card);
     let row = csv.text().lines().nth(8).unwrap();
     let hex: String = all[7].1.iter().map(|b| format!("{b:02x}")).collect();
-    assert!(row.starts_with("7,") && row.ends_with(&format!(",{},{},{hex}", all[7].0, all[7].1.len())), "{row}");
+    assert!(row.starts_with("7,") && row.ends_with(&format!(",{},,,{},{hex}", all[7].0, all[7].1.len())), "{row}");
 }
 
 #[test]
@@ -48,7 +50,7 @@ fn an_image_of_some_stretches() {
     }
     let given = count(&card);
     let ran = usbhs(&["card", "check", "-"], &card);
-    assert_eq!(ran.status, 1);
+    assert_eq!((ran.status, ran.err.as_str()), (1, ""));
     assert!(ran.text().contains("6 dropped (6 by the check, 0 by the number)"), "{}", ran.text());
     assert!(ran.text().contains("blocks 8190 to 8193: their checks fail"), "{}", ran.text());
     let given = usbhs::output::thousands(given as u64);
@@ -86,14 +88,132 @@ fn any_damage() {
                 _ => card.truncate(a),
             }
         }
+        if card.is_empty() {
+            refused(&["card", "list", "-"], &card, "the image is empty");
+            continue;
+        }
         let ran = usbhs(&["card", "list", "--quiet", "-"], &card);
         assert_eq!(ran.text().lines().count(), 1 + count(&card), "round {round}");
-        // many at a time or one at a time: the same packets at the same places
-        let mut reader = Reader::with_places(&card).unwrap();
-        let many = std::iter::from_fn(|| reader.next(&card).map(|p| (p.begin, p.endpoint, p.bytes.to_vec())));
-        assert!(many.eq(one_by_one(&card)), "round {round}");
-        let dropped = card.chunks(BLOCK).enumerate().filter(|(i, b)| usbhs::card::block(b, *i).is_err()).count();
-        assert_eq!(ran.status, i32::from(dropped != 0), "round {round}");
+        let check = usbhs(&["card", "check", "--json", "-"], &card);
+        let says = |words: &str| check.text().contains(words);
+        let well = says("\"dropped\":[]") && says("\"certain\":true");
+        assert_eq!((ran.status, check.status), (i32::from(!well), i32::from(!well)), "round {round}");
+    }
+}
+
+/// All that a sink is told.
+#[derive(Default)]
+struct All {
+    packets: Vec<(usize, u32, Vec<u8>)>,
+    damage: Vec<bool>,
+    blocks: Vec<Option<Dropped>>,
+    behind: usize,
+    most: usize,
+}
+
+impl Sink for All {
+    fn packet(&mut self, p: &Packet) -> Done<bool> {
+        if self.packets.len() == self.most {
+            return Ok(false);
+        }
+        self.packets.push((p.begin as usize, p.endpoint.into(), p.bytes.to_vec()));
+        self.damage.push(p.behind_damage);
+        Ok(true)
+    }
+
+    fn block(&mut self, place: u64, dropped: Option<Dropped>) {
+        assert_eq!(place as usize, self.blocks.len());
+        self.blocks.push(dropped);
+    }
+
+    fn behind(&mut self, _: Option<Dropped>) -> bool {
+        self.behind += 1;
+        true
+    }
+}
+
+fn by_windows(card: &[u8], window: usize, most: usize) -> (All, End) {
+    let mut all = All { most, ..All::default() };
+    let end = go_through_by(&mut image(card), Extent::default(), window, &mut all).unwrap();
+    assert_eq!((all.blocks.len() + all.behind) * BLOCK, card.len());
+    (all, end)
+}
+
+#[test]
+fn windows_give_what_the_reader_gives_of_the_whole() {
+    let mut numbers = Numbers(23);
+    let mut stops = std::collections::BTreeMap::new();
+    for round in 0..300 {
+        // up to 20 windows of 132 blocks, the least that holds the longest packet
+        let n = numbers.below(4_000);
+        let all: Vec<(u32, Vec<u8>)> = (0..n)
+            .map(|_| {
+                let most = [3, 80, 1_025][numbers.below(3)];
+                let length = numbers.below(most);
+                (1 + numbers.below(14) as u32, numbers.bytes(length))
+            })
+            .collect();
+        let mut card = stream(borrowed(&all));
+        let blocks = card.len() / BLOCK;
+        for _ in 0..numbers.below(8) {
+            if blocks == 0 {
+                break;
+            }
+            let (a, b) = (numbers.below(blocks), numbers.below(blocks));
+            let most = [2, 400][numbers.below(2)];
+            let run = (1 + numbers.below(most)).min(blocks - a.max(b));
+            match numbers.below(5) {
+                0 => card[a * BLOCK + numbers.below(BLOCK)] ^= 1 << numbers.below(8),
+                1 => card.copy_within(b * BLOCK..(b + run) * BLOCK, a * BLOCK),
+                2 => card[a * BLOCK..(a + run) * BLOCK].fill(0),
+                3 if numbers.below(4) == 0 => card.truncate((a + 1) * BLOCK),
+                _ => {
+                    // a good block that says something else: a long packet, filler, another begin
+                    let at = a * BLOCK;
+                    let byte = at + 4 + numbers.below(506);
+                    card[byte] = [0, 255, 6, 16][numbers.below(4)];
+                    let check = usbhs::survey::data_crc(&card[at..at + BLOCK - 2]);
+                    card[at + BLOCK - 2..at + BLOCK].copy_from_slice(&check.to_le_bytes());
+                }
+            }
+            if card.len() < blocks * BLOCK {
+                break;
+            }
+        }
+        if card.is_empty() {
+            continue;
+        }
+        let whole = one_by_one(&card);
+        for window in [132, 150, 2_048] {
+            let (given, end) = by_windows(&card, window, usize::MAX);
+            assert!(given.packets == whole, "round {round}, windows of {window}");
+            let places = card.chunks_exact(BLOCK).zip(0u64..).map(|(b, i)| block(b, i).err());
+            assert!(given.blocks.iter().copied().eq(places.take(given.blocks.len())), "round {round}");
+            // the end is behind the last packet, in the last block that is told
+            let behind = whole.last().map_or(0, |p| p.0 + 3 + p.2.len());
+            assert!(end.place as usize >= behind, "round {round}");
+            if end.why == Stop::Filler {
+                assert_eq!(end.place as usize / DATA + 1, given.blocks.len(), "round {round}");
+            }
+            *stops.entry(format!("{:?}", end.why)).or_insert(0) += 1;
+            // a packet is behind damage where it does not begin at the end of the one before
+            let mut at = 0;
+            for ((begin, _, bytes), damage) in given.packets.iter().zip(&given.damage) {
+                assert_eq!(*damage, *begin != at, "round {round}, windows of {window}, packet at {begin}");
+                at = begin + 3 + bytes.len();
+            }
+            // as many as are wanted
+            let half = whole.len() / 2;
+            let (given, end) = by_windows(&card, window, half);
+            assert!(given.packets[..] == whole[..half], "round {round}");
+            if half < whole.len() {
+                assert_eq!((end.place as usize, end.why), (whole[half].0, Stop::Asked));
+                assert_eq!(given.blocks.len(), whole[half].0.div_ceil(DATA));
+            }
+        }
+    }
+    for stop in ["Filler", "RunsOut", "Cut", "Lost"] {
+        assert!(stops.contains_key(stop), "{stops:?}");
     }
 }
 
@@ -108,10 +228,18 @@ fn misplaced_blocks_are_told_together() {
 
 #[test]
 fn empty() {
-    let ran = usbhs(&["card", "check", "-"], b"");
-    assert_eq!((ran.status, ran.text()), (0, "standard input: 0 blocks, 0 good, 0 dropped\nno packet\n"));
-    let ran = usbhs(&["card", "list", "--json", "/dev/null"], b"");
-    assert_eq!((ran.status, ran.text()), (0, "[]\n"));
+    refused(&["card", "check", "-"], b"", "standard input: the image is empty");
+    refused(&["card", "list", "--json", "/dev/null"], b"", "/dev/null: the image is empty");
+    // blocks, but no packet
+    let card = stream(std::iter::empty());
+    assert!(card.is_empty());
+    let mut card = stream([(1, &[0u8; 0][..])].into_iter());
+    card[6..].fill(0);
+    let check = usbhs::survey::data_crc(&card[..BLOCK - 2]);
+    card[BLOCK - 2..].copy_from_slice(&check.to_le_bytes());
+    let ran = usbhs(&["card", "check", "-"], &card);
+    let says = "standard input: 1 block, 1 good, 0 dropped\nno packet\nthe stream ends in block 0 at byte 6: filler\n";
+    assert_eq!((ran.status, ran.text()), (0, says));
 }
 
 #[test]
@@ -120,7 +248,7 @@ fn no_image() {
     refused(&["card", "check", "."], b"", ".: is a directory");
     refused(&["card", "check", "-"], &[0; 700], "700 bytes are not whole blocks of 512");
     refused(&["card", "check"], b"", "IMAGE is missing");
-    refused(&["card", "mend", "survey.card"], b"", "card mend: check, list or extract");
+    refused(&["card", "mend", "survey.card"], b"", "card mend: check, list, extract or picture");
     refused(&["card", "check", "survey.card", "--csv"], b"", "--csv is no option here");
     refused(&["card", "extract", "survey.card", "--out", "no/such/folder"], b"", "no/such/folder: ");
     let cut = usbhs(&["card", "check", "--cut", "-"], &[0; 700]);

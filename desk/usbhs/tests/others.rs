@@ -169,13 +169,17 @@ fn the_command_line() {
     refused(&["wash"], b"", "wash is no command");
     refused(&["--fast"], b"", "--fast is no option here");
     // the header's version
-    let version = usbhs(&["--version"], b"");
     let header = include_str!("../../../include/usbhs.h");
-    let number = header.lines().find_map(|l| l.strip_prefix("#define USBHS_VERSION \"")).unwrap();
-    assert_eq!(version.text(), format!("usbhs {}\n", number.trim_end_matches('"')));
+    assert!(header.contains(concat!("#define USBHS_VERSION \"", env!("CARGO_PKG_VERSION"), "\"\n")));
     let help = usbhs(&["card", "--help"], b"");
     assert_eq!((help.status, help.text().lines().next()), (0, usbhs(&["-h"], b"").text().lines().next()));
     for line in help.text().lines() {
-        assert!(line.len() <= 104, "{line}");
+        assert!(line.len() <= 112, "{line}");
     }
+    assert_eq!(usbhs(&["help"], b"").text(), help.text());
+    let version = usbhs(&["--version"], b"");
+    assert_eq!((version.status, version.text()), (0, concat!("usbhs ", env!("CARGO_PKG_VERSION"), "\n")));
+    assert!(usbhs(&["--version", "--json"], b"").text().starts_with("{\"version\":\""));
+    // alone it says what there is
+    assert!(usbhs(&[], b"").err.contains(help.text()));
 }

@@ -61,12 +61,14 @@ fn every_command_has_an_example() {
         "card check",
         "card list",
         "card extract",
+        "card picture",
         "descriptor show",
         "descriptor preview",
         "descriptor write",
         "channels",
         "visits",
         "replay",
+        "replay --trace",
     ] {
         assert!(page.contains(&format!("$ usbhs {command}")), "{command} has no example");
     }

@@ -247,6 +247,23 @@ impl Answer {
         }
     }
 
+    /// The word that this answer is.
+    #[cfg(feature = "trace")]
+    pub(crate) fn word(self) -> u64 {
+        let register = |r: Register, e: u8| u64::from(r as u8) << 8 | u64::from(e) << 16;
+        match self {
+            Self::Refused(refusal) => u64::from(refusal.row()) << 8,
+            Self::Read { register: r, endpoint } => 1 | register(r, endpoint),
+            Self::Write { register: r, endpoint, value } => 2 | register(r, endpoint) | u64::from(value) << 32,
+            Self::Wait(microseconds) => 3 | u64::from(microseconds) << 8,
+            Self::Callback => 4,
+            Self::End { result, wakes } => 5 | u64::from(result) << 8 | u64::from(wakes) << 24,
+            Self::NotYet => 6,
+            Self::Done(length) => 7 | u64::from(length) << 8,
+            Self::Shown { offset, length } => 8 | u64::from(length) << 8 | u64::from(offset) << 32,
+        }
+    }
+
     /// The result of a call that is over at once.
     pub fn ended(self) -> Result<u16, Refusal> {
         match self {

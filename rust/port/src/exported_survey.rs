@@ -29,6 +29,10 @@ extern "C" {
     pub fn usbhs_card_new(writer: Numbers);
     pub fn usbhs_card_write(writer: Numbers, block: *mut u8, n: Length, ep: U, data: Bytes, m: Length) -> u64;
     pub fn usbhs_card_finish(writer: *const U, block: *mut u8, n: Length) -> u64;
+    pub fn usbhs_recorder_begin(recorder: Numbers, room: *mut u8, n: Length, survey: U) -> u64;
+    pub fn usbhs_record(r: Numbers, room: *mut u8, n: Length, ep: U, data: Bytes, m: Length, overruns: U) -> u64;
+    pub fn usbhs_recorder_finish(recorder: Numbers, room: *mut u8, n: Length, overruns: U) -> u64;
+    pub fn usbhs_recorder_stored(recorder: Numbers) -> u64;
     pub fn usbhs_card_start(stream: Bytes, n: Length, place: At) -> u64;
     pub fn usbhs_card_next(stream: Bytes, n: Length, place: At, ep: Numbers, room: *mut u8, m: Length) -> u64;
     pub fn usbhs_card_read(stream: Bytes, n: Length, at: At, room: *mut u8, m: Length, count: At, used: At) -> u64;

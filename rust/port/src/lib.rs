@@ -54,6 +54,8 @@ mod exported_survey;
 mod run;
 #[cfg(feature = "survey")]
 pub mod survey;
+#[cfg(feature = "trace")]
+pub mod trace;
 
 pub use answer::{Answer, Event, Refusal, Register, Task, Woken, MOST_WAKES};
 pub use calls::{BusTime, Direction, Packet, Port, Preview, Slots, State, Transfer, LONGEST};

@@ -148,6 +148,65 @@ impl Writer {
     }
 }
 
+/// The endpoint of the recorder's own records; no stream may use it.
+pub const RECORDER: u8 = 15;
+
+/// Records packets on a card that is written over and not erased: behind them there is an end record at every moment,
+/// so that a reader of the whole card gives what was recorded and nothing older, wherever the power goes.
+///
+/// After each call, store what [`Recorder::to_store`] gives until it gives nothing, and call [`Recorder::stored`] when a
+/// block is stored. Where a store fails, record no more.
+#[derive(Clone, Debug)]
+pub struct Recorder {
+    numbers: [u32; 6],
+    room: [u8; 4 * BLOCK_LEN],
+}
+
+impl Recorder {
+    /// A survey begins: its first block is to be stored.
+    pub fn begin(survey: u32) -> Result<Self, Refusal> {
+        let mut recorder = Self { numbers: [0; 6], room: [0; 4 * BLOCK_LEN] };
+        let (r, b, n) = recorder.lent();
+        // SAFETY: six numbers, the room with its length; lent apart
+        let word = unsafe { usbhs_recorder_begin(r, b, n, survey) };
+        Answer::of(word).ended().map(|_| recorder)
+    }
+
+    /// Records a packet, with the overruns of all endpoints so far; how many blocks are to be stored.
+    pub fn record(&mut self, endpoint: u8, data: &[u8], overruns: u32) -> Result<u16, Refusal> {
+        let (r, b, n) = self.lent();
+        // SAFETY: six numbers, room and data with their lengths; lent apart
+        let word = unsafe { usbhs_record(r, b, n, endpoint.into(), data.as_ptr(), length(data), overruns) };
+        Answer::of(word).ended()
+    }
+
+    /// Brings what is not stored yet to the card; how many blocks are to be stored. You may record on behind it.
+    pub fn finish(&mut self, overruns: u32) -> Result<u16, Refusal> {
+        let (r, b, n) = self.lent();
+        // SAFETY: six numbers, the room with its length; lent apart
+        let word = unsafe { usbhs_recorder_finish(r, b, n, overruns) };
+        Answer::of(word).ended()
+    }
+
+    /// The block that is to be stored next, and its place on the card.
+    #[must_use]
+    pub fn to_store(&self) -> Option<(u32, &[u8])> {
+        let place = self.numbers[3].wrapping_add(self.numbers[4]).wrapping_sub(1);
+        let at = (place % 4) as usize * BLOCK_LEN;
+        (self.numbers[4] != 0).then(|| (place, &self.room[at..at + BLOCK_LEN]))
+    }
+
+    /// That block is stored.
+    pub fn stored(&mut self) {
+        // SAFETY: six numbers
+        unsafe { usbhs_recorder_stored(self.numbers.as_mut_ptr()) };
+    }
+
+    fn lent(&mut self) -> (*mut u32, *mut u8, Length) {
+        (self.numbers.as_mut_ptr(), self.room.as_mut_ptr(), length(&self.room))
+    }
+}
+
 /// Reads the packets of a stream of blocks.
 #[derive(Clone, Debug)]
 pub struct Reader<'a> {

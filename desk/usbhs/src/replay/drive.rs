@@ -16,6 +16,10 @@ pub struct Step {
     pub answer: Answer,
     /// The answer that the list has.
     pub recorded: Option<Answer>,
+    /// The frame reading with which an interrupt begins, where it is known.
+    pub frame: Option<u16>,
+    /// An open that found no packet, in a device's trace: its reader looks until there is none.
+    pub looks: bool,
     /// An open's stamp.
     pub stamp: Option<u16>,
     /// Packets turned away on OUT 1 to 15, and queued on IN 1 to 15, after the call.
@@ -44,16 +48,27 @@ impl Awaited {
     }
 }
 
-struct Drive<'a> {
+pub struct Drive<'a> {
     port: Port,
-    steps: Vec<Step>,
-    /// For each interrupt the frame reading with which it begins.
-    frames: &'a [u16],
+    pub steps: Vec<Step>,
+    /// For each interrupt the frame reading with which it begins; none: it is brought before each.
+    frames: Option<&'a [u16]>,
+    brought: Option<u16>,
     interrupts: usize,
 }
 
 impl Drive<'_> {
-    fn call(&mut self, line: usize, call: &Call, recorded: Option<&Answer>) -> Result<Answer, String> {
+    /// One whose interrupts' frame readings are brought.
+    pub fn live() -> Self {
+        Self { port: Port::new(), steps: vec![], frames: None, brought: None, interrupts: 0 }
+    }
+
+    /// The frame reading with which the next interrupt begins.
+    pub fn bring(&mut self, frame: u16) {
+        self.brought = Some(frame);
+    }
+
+    pub fn call(&mut self, line: usize, call: &Call, recorded: Option<&Answer>) -> Result<Answer, String> {
         let answer = match call {
             Call::Store { offset, data } => {
                 let (at, all) = (*offset as usize, self.port.slots().len());
@@ -75,7 +90,8 @@ impl Drive<'_> {
             }
             _ => {
                 if *call == Call::Interrupt {
-                    stamps::bring(self.frames.get(self.interrupts).copied().unwrap_or(0));
+                    let listed = self.frames.and_then(|f| f.get(self.interrupts));
+                    stamps::bring(self.brought.or(listed.copied()).unwrap_or(0));
                     self.interrupts += 1;
                 }
                 self.port.call(call)
@@ -95,7 +111,10 @@ impl Drive<'_> {
             pending[e as usize] = ask(Call::Pending(e));
         }
         let recorded = recorded.cloned();
-        self.steps.push(Step { line, call: call.clone(), answer: answer.clone(), recorded, stamp, overruns, pending });
+        let frame = self.brought.take().filter(|_| *call == Call::Interrupt);
+        let looks = self.frames.is_none() && matches!((call, &answer), (Call::Open(_), Answer::Refused(12)));
+        let (call, answered) = (call.clone(), answer.clone());
+        self.steps.push(Step { line, call, answer: answered, recorded, frame, looks, stamp, overruns, pending });
         Ok(answer)
     }
 
@@ -128,7 +147,7 @@ impl Drive<'_> {
 }
 
 fn made(lines: &[(usize, Line)], frames: &[u16]) -> Result<Vec<Step>, String> {
-    let mut drive = Drive { port: Port::new(), steps: vec![], frames, interrupts: 0 };
+    let mut drive = Drive { frames: Some(frames), ..Drive::live() };
     for (number, line) in lines {
         drive.line(*number, line)?;
     }

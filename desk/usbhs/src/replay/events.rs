@@ -380,6 +380,11 @@ impl Builder {
 
 /// The events of a run, in their order.
 pub fn timeline(steps: &[Step]) -> Timeline {
+    timeline_of(steps, &[])
+}
+
+/// The same of a run whose allocations are not in it; these are isochronous.
+pub fn timeline_of(steps: &[Step], isochronous: &[Place]) -> Timeline {
     let t = Timeline {
         calls: steps.iter().filter(|s| s.answer != Answer::Stored).count(),
         columns: vec![None],
@@ -390,15 +395,24 @@ pub fn timeline(steps: &[Step]) -> Timeline {
     };
     let mut b = Builder { t, levels: vec![], receive: [None; 16], overruns: [0; 16], pending: [0; 16], line: 0 };
     b.lane(Place::Device);
+    for place in isochronous {
+        let i = b.lane(*place);
+        b.t.lanes[i].isochronous = true;
+        b.t.lanes[i].words = "isochronous".into();
+    }
     let mut awaited = Awaited::default();
     let mut begun: Option<Call> = None;
     for step in steps {
         b.line = step.line;
+        if let Some(frame) = step.frame {
+            b.frame(frame.into());
+        }
         if let Some((FRAME_NO, value)) = awaited.feed(step) {
             b.frame(value);
         }
         let begins = !matches!(step.call, Call::Continue(_) | Call::Open(_) | Call::Close(_) | Call::Queue { .. });
         match &step.answer {
+            Answer::Refused(_) if step.looks => {}
             Answer::Refused(row) => {
                 let (place, name) = named(&step.call);
                 b.event(place, What::Refused, format!("{name}: {}", rows::refused(*row)));

@@ -213,6 +213,7 @@ pub fn svg(t: &Timeline, title: &str) -> String {
     let mut d = Drawing { t, svg: Svg::new(width, total), step, notes };
     let microframes = t.columns.iter().filter(|c| c.is_some()).count() as u64;
     let head = format!("{title}: {}, {}", count(t.calls as u64, "call"), count(microframes, "microframe"));
+    d.svg.title(&head);
     d.svg.bold(16.0, 30.0, 18.0, INK, &head);
     legend(&mut d.svg, 18.0, 54.0);
     d.axis(y - GAP);

@@ -4,7 +4,9 @@
 use std::io::Write;
 use std::path::PathBuf;
 use std::process::{Command, Stdio};
+use std::sync::atomic::{AtomicUsize, Ordering};
 
+use usbhs::image::Image;
 use usbhs::survey::{Writer, BLOCK};
 
 pub struct Ran {
@@ -53,6 +55,43 @@ pub fn refused(words: &[&str], input: &[u8], says: &str) {
     let ran = usbhs(words, input);
     assert_eq!((ran.status, ran.text()), (2, ""), "{words:?}: {}", ran.err);
     assert!(ran.err.contains(says), "{words:?}: {}", ran.err);
+}
+
+/// A folder of the test's own, removed at its end.
+pub struct Folder(pub PathBuf);
+
+impl Folder {
+    pub fn new(name: &str) -> Self {
+        let path = std::env::temp_dir().join(format!("usbhs-{name}-{}", std::process::id()));
+        std::fs::create_dir_all(&path).unwrap();
+        Self(path)
+    }
+
+    pub fn file(&self, name: &str) -> String {
+        self.0.join(name).to_str().unwrap().into()
+    }
+
+    pub fn write(&self, name: &str, bytes: &[u8]) -> String {
+        std::fs::write(self.0.join(name), bytes).unwrap();
+        self.file(name)
+    }
+}
+
+impl Drop for Folder {
+    fn drop(&mut self) {
+        let _ = std::fs::remove_dir_all(&self.0);
+    }
+}
+
+/// These bytes as an input that may be opened.
+pub fn image(bytes: &[u8]) -> Image {
+    static NEXT: AtomicUsize = AtomicUsize::new(0);
+    let n = NEXT.fetch_add(1, Ordering::Relaxed);
+    let path = std::env::temp_dir().join(format!("usbhs-image-{}-{n}", std::process::id()));
+    std::fs::write(&path, bytes).unwrap();
+    let image = Image::open(&path).unwrap();
+    std::fs::remove_file(&path).unwrap();
+    image
 }
 
 /// A stream of these packets.

@@ -1,0 +1,52 @@
+use native.Mathlib.Omega.{arith}
+use denote.Ref.{now}
+use Rattle.card.specs.Packet.{packetOf}
+use Rattle.recorder.specs.Ring.{ringOf}
+use Rattle.recorder.specs.RingLaws.{record-padded, record-plain}
+use borrow.Author.Needs.{needs}
+use Rattle.recorder.proofs.ring.put_record.Statement.{statement}
+use Rattle.recorder.proofs.ring.put_record.Tie as tie
+use Rattle.recorder.proofs.ring.put_record.Reads as reads
+use Rattle.recorder.proofs.ring.put_record.Lts as lts
+use Rattle.recorder.proofs.ring.put_packet.Reads as put-packet-reads
+use Rattle.recorder.proofs.ring.put_padding.Reads as put-padding-reads
+
+-- src/ring.rt:81:9
+put-packet-requires : tie.Need-put-packet-requires
+put-packet-requires c κs = search needs
+
+-- src/ring.rt:83:9
+put-padding-requires : tie.Need-put-padding-requires
+put-padding-requires c κs = search needs
+
+-- src/ring.rt:83:9
+same-length : tie.Need-same-length
+same-length c = search needs
+
+-- src/ring.rt:83:9
+returns : tie.Need-returns
+returns c =
+    let c3 = c .before .before .before in
+    let c6 = c3 .before .before .before in
+    let c9 = c6 .before .before .before in
+    let s = c9 .before .before .before .args in
+    let p = packetOf (s .endpoint) (now (s .bytes)) in
+    record-padded p (ringOf (s .w) (now (s .room))) _ _ (c6 .before .before .put-packet .ensures) (c3 .before .if1 .taken) (c .before .before .put-padding .ensures)
+
+-- src/ring.rt:77:1
+same-length-2 : tie.Need-same-length-2
+same-length-2 c = search needs
+
+-- src/ring.rt:77:1
+returns-2 : tie.Need-returns-2
+returns-2 c =
+    let c3 = c .before .before .before in
+    let c6 = c3 .before .before .before in
+    let s = c6 .before .before .args in
+    let p = packetOf (s .endpoint) (now (s .bytes)) in
+    record-plain p (ringOf (s .w) (now (s .room))) _ (c3 .before .put-packet .ensures) (c .if1 .left)
+
+pub put-record-spec : {M : Type 1} → statement M
+put-record-spec =
+    tie.close
+    (tie.spec put-packet-requires put-padding-requires same-length returns same-length-2 returns-2)
