@@ -1,3 +1,4 @@
+# SPDX-License-Identifier: MIT OR Apache-2.0
 # What .ci/run is written with. To be sourced at the repository's root, under set -euo pipefail.
 
 exec </dev/null

@@ -61,8 +61,8 @@ unsigned usb_start(void)
     return 0;
 }
 
-/* A packet of the data stage. No answer here is whole packets long: one that is, and is shorter than what the host asked
- * for, needs an empty packet behind it (firmware/control.c). */
+/* A packet of the data stage. No answer here is whole packets long: one that is, and is shorter than what the host
+ * asked for, needs an empty packet behind it (firmware/control.c). */
 static void send(int first)
 {
     unsigned length = left < BUFFER ? left : BUFFER;

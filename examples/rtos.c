@@ -2,8 +2,8 @@
  *
  * With an RTOS's tasks: one for endpoint 0 and the bus, one for the stream. The driver says whom to wake; a task that
  * finds nothing to do waits for its wake-up. rtos_wait and rtos_wake are a binary semaphore (FreeRTOS: task
- * notifications), rtos_wake callable from the interrupt. Operations of tasks run with the block's interrupt masked; give
- * the tasks one mutex around USB_OPERATE and usb_poll if the scheduler may switch between them. */
+ * notifications), rtos_wake callable from the interrupt. Operations of tasks run with the block's interrupt masked;
+ * give the tasks one mutex around USB_OPERATE and usb_poll if the scheduler may switch between them. */
 #include "board.h"
 #include "driver.h"
 

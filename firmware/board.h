@@ -1,3 +1,4 @@
+/* SPDX-License-Identifier: MIT OR Apache-2.0 */
 /* What the firmware asks of the board. Two back ends: ch32v30x/ and emulator/. */
 #ifndef BOARD_H
 #define BOARD_H

@@ -1,3 +1,4 @@
+/* SPDX-License-Identifier: MIT OR Apache-2.0 */
 #include "chapter9.h"
 #include "control.h"
 #include "device.h"

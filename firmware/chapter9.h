@@ -1,3 +1,4 @@
+/* SPDX-License-Identifier: MIT OR Apache-2.0 */
 /* USB 2.0, chapter 9: the standard requests, answered by the device's descriptors (descriptors.h). Endpoints are
  * enabled and disabled as the host selects the configuration and alternate settings. */
 #ifndef CHAPTER9_H

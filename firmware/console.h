@@ -1,3 +1,4 @@
+/* SPDX-License-Identifier: MIT OR Apache-2.0 */
 /* Text out, for logs. Each back end has its own console_put. */
 #ifndef CONSOLE_H
 #define CONSOLE_H

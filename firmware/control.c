@@ -1,3 +1,4 @@
+/* SPDX-License-Identifier: MIT OR Apache-2.0 */
 #include "control.h"
 #include "chapter9.h"
 #include "console.h"

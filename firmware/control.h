@@ -1,3 +1,4 @@
+/* SPDX-License-Identifier: MIT OR Apache-2.0 */
 /* The control pipe's stages (USB 2.0, 8.5.3): a setup packet, a data stage, a status stage. Which answer a setup packet
  * gets is said in chapter9.c and by the device. */
 #ifndef CONTROL_H

@@ -1,3 +1,4 @@
+/* SPDX-License-Identifier: MIT OR Apache-2.0 */
 /* This firmware's device: samples that the host streams go to the card, and the host is told how many. */
 #include "device.h"
 #include "console.h"

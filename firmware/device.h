@@ -1,3 +1,4 @@
+/* SPDX-License-Identifier: MIT OR Apache-2.0 */
 /* What a device has of its own beside its descriptors: main.c and chapter9.c call these. */
 #ifndef DEVICE_H
 #define DEVICE_H

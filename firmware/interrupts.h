@@ -1,3 +1,4 @@
+/* SPDX-License-Identifier: MIT OR Apache-2.0 */
 /* The hart's interrupts off and on again: masking. What one call of the driver is lent no other call may touch, and
  * while an operation is continued the driver's interrupt is to wait (include/usbhs.h). */
 #ifndef INTERRUPTS_H

@@ -1,3 +1,4 @@
+/* SPDX-License-Identifier: MIT OR Apache-2.0 */
 /* A look after the interrupt for a packet that it left.
  *
  * An isochronous OUT that lands between an interrupt's reading of INT_ST and its release of the flag loses its own

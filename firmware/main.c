@@ -1,3 +1,4 @@
+/* SPDX-License-Identifier: MIT OR Apache-2.0 */
 /* The firmware of any device: the driver's interrupt wakes tasks; the main loop runs them in the order in which they
  * were woken. */
 #include "board.h"

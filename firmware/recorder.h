@@ -1,3 +1,4 @@
+/* SPDX-License-Identifier: MIT OR Apache-2.0 */
 /* Samples from the bus to the card. */
 #ifndef RECORDER_H
 #define RECORDER_H

@@ -1,3 +1,4 @@
+/* SPDX-License-Identifier: MIT OR Apache-2.0 */
 /* SOF interrupts only where they are needed: while streams are on.
  *
  * A SOF that comes between EP0's transaction and the reading of INT_ST hides that transaction, and one that raises the

@@ -1,3 +1,4 @@
+/* SPDX-License-Identifier: MIT OR Apache-2.0 */
 /* Reset and the entry of traps, the same on the emulator and on the chip: plain RISC-V machine mode. */
     .section .text.start, "ax"
     .globl _start

@@ -1,3 +1,4 @@
+/* SPDX-License-Identifier: MIT OR Apache-2.0 */
 /* Who is to run: the driver's wake-ups in the order in which they came. Numbers as in usbhs_woken: 0 to 15 IN 0 to 15,
  * 16 to 31 OUT 0 to 15, 32 the bus. */
 #ifndef TASKS_H

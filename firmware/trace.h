@@ -1,3 +1,4 @@
+/* SPDX-License-Identifier: MIT OR Apache-2.0 */
 /* What the driver was asked and what it did, in a ring: compile with -DUSB_TRACE. `usbhs replay --trace` replays it at
  * a desk and draws it (docs/TOOL.md). Read the ring, usb_trace, with a debugger, or put it onto the card with
  * trace_record.

@@ -1,3 +1,4 @@
+/* SPDX-License-Identifier: MIT OR Apache-2.0 */
 /* The driver: its state, its buffers, and operations made from begin to end. */
 #ifndef USB_H
 #define USB_H

@@ -1,3 +1,4 @@
+/* SPDX-License-Identifier: MIT OR Apache-2.0 */
 /* A watch over the control pipe: a stage in which the host does not come further is begun again.
  *
  * The driver may believe that a packet was sent that the chip NAKed, or not see one that was (docs/DIFFERENCES.md, k

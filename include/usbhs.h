@@ -1,3 +1,4 @@
+/* SPDX-License-Identifier: MIT OR Apache-2.0 */
 /* The USBHS device driver's calls. The driver's state lies in USBHS_STATE_LEN bytes of the
  * caller's, its packets in the caller's slots; the library has no state of its own. Before the
  * first start-up the state's bytes are to be zero.

@@ -1,3 +1,4 @@
+/* SPDX-License-Identifier: MIT OR Apache-2.0 */
 /* The survey's calls, which take no driver: the best set of channels, the arrivals between a
  * reader's visits, packets on the card, a configuration descriptor's endpoints. The library
  * (libsurvey_c.a) has no state of its own, and links with or without the driver's.

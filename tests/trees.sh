@@ -1,3 +1,4 @@
+# SPDX-License-Identifier: MIT OR Apache-2.0
 # Shared by tests/edits, tests/wrong-drivers/run, tests/wrong-scripts/run and .ci/run: trees over what the check left,
 # and the names of facts. To be sourced at the repository's root, under set -euo pipefail.
 

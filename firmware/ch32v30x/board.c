@@ -1,3 +1,4 @@
+/* SPDX-License-Identifier: MIT OR Apache-2.0 */
 /* A board with a CH32V30x. NOT TRIED ON SILICON, as layout.h says.
  *
  * Left to the board, as weak functions that do nothing: clocks (the system's and the USB PHY's PLL, for which the

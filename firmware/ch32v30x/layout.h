@@ -1,3 +1,4 @@
+/* SPDX-License-Identifier: MIT OR Apache-2.0 */
 /* The USBHS block of CH32V30x: where its registers lie and which bits they have.
  *
  * NOT TRIED ON SILICON. What is known: the names of registers and fields, and what they do, are those that the

@@ -1,3 +1,4 @@
+/* SPDX-License-Identifier: MIT OR Apache-2.0 */
 /* The one file that touches the USBHS block's registers: an access as include/usbhs.h packs it, made in the chip's
  * layout.
  *

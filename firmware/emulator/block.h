@@ -1,3 +1,4 @@
+/* SPDX-License-Identifier: MIT OR Apache-2.0 */
 /* A model of the USBHS block, as the Rust's comments and document 01 describe it: the side of the bus. The
  * firmware's side are register_read and register_write (board.h). */
 #ifndef BLOCK_H

@@ -1,3 +1,4 @@
+/* SPDX-License-Identifier: MIT OR Apache-2.0 */
 /* The emulator's board: the host goes on while the firmware sleeps or waits for the card, which is memory. */
 #include "../board.h"
 #include <string.h>

@@ -1,3 +1,4 @@
+/* SPDX-License-Identifier: MIT OR Apache-2.0 */
 /* A host, and what it does with the device: a script, a step each time the firmware sleeps or the card is busy. */
 #ifndef HOST_H
 #define HOST_H

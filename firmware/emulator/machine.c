@@ -1,3 +1,4 @@
+/* SPDX-License-Identifier: MIT OR Apache-2.0 */
 /* The emulator's machine: serial port, end, software interrupt. */
 #include "machine.h"
 #include "../console.h"

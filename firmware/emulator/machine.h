@@ -1,3 +1,4 @@
+/* SPDX-License-Identifier: MIT OR Apache-2.0 */
 /* What the emulator's machine (qemu, virt) gives beside RAM. */
 #ifndef MACHINE_H
 #define MACHINE_H

@@ -1,3 +1,4 @@
+/* SPDX-License-Identifier: MIT OR Apache-2.0 */
 #ifndef FREESTANDING_STDDEF_H
 #define FREESTANDING_STDDEF_H
 

@@ -1,3 +1,4 @@
+/* SPDX-License-Identifier: MIT OR Apache-2.0 */
 /* The kit's clang comes without headers: the few types that include/usbhs.h and the firmware name. */
 #ifndef FREESTANDING_STDINT_H
 #define FREESTANDING_STDINT_H

@@ -1,3 +1,4 @@
+/* SPDX-License-Identifier: MIT OR Apache-2.0 */
 /* What ../runtime/memory.c defines. */
 #ifndef FREESTANDING_STRING_H
 #define FREESTANDING_STRING_H

@@ -1,3 +1,4 @@
+/* SPDX-License-Identifier: MIT OR Apache-2.0 */
 /* 64-bit division, which libsurvey_c.a calls, for those who link no compiler runtime. Numbers of 32 bits are divided by
  * the machine; else bit by bit. By 0, which the library never asks, it answers as the machine does. */
 #include <stdint.h>

@@ -1,3 +1,4 @@
+/* SPDX-License-Identifier: MIT OR Apache-2.0 */
 /* memcpy and memset, which the archives for RV32 call, for those who link no C library; memcmp for programs of ours.
  * Copies go by words where both sides allow it: most are of records and packets that lie on word boundaries. To be
  * compiled with -fno-builtin, else the compiler may turn a loop into a call of the function that it stands in. */

@@ -1,3 +1,4 @@
+/* SPDX-License-Identifier: MIT OR Apache-2.0 */
 /* A device of all transfer types, to copy from: what the host sends is taken and looked at (sinks), what it fetches is
  * a pattern (sources); or each packet that it sends on bulk or interrupt OUT comes back on IN (a loop). On EP0 it
  * stores up to 4,096 bytes and gives them back. It is what Linux's gadget zero is, so that usbtest can try it. */

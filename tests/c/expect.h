@@ -1,3 +1,4 @@
+/* SPDX-License-Identifier: MIT OR Apache-2.0 */
 /* What the programs of this folder that check values have in common. */
 #ifndef EXPECT_H
 #define EXPECT_H

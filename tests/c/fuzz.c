@@ -1,3 +1,4 @@
+/* SPDX-License-Identifier: MIT OR Apache-2.0 */
 /* fuzz [CALLS [NAME..]]: CALLS (a million) calls of every exported function, or of those named, on random state bytes,
  * and as many on corrupted states.
  *

@@ -1,3 +1,4 @@
+/* SPDX-License-Identifier: MIT OR Apache-2.0 */
 /* For fuzz.c: random numbers and bytes, and states of runs. */
 #include <stdint.h>
 #include <string.h>

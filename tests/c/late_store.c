@@ -1,3 +1,4 @@
+/* SPDX-License-Identifier: MIT OR Apache-2.0 */
 /* Request Fourteen: a store that the late run's continue would have seen. OUT 1 and OUT 3 are others, OUT 2 is the channel.
  *
  * Run A has no packet for the channel, and gets the others' store at the last access before the checks. Run B has one, and

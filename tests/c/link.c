@@ -1,3 +1,4 @@
+/* SPDX-License-Identifier: MIT OR Apache-2.0 */
 /* The driver's exported calls from C, on the proved archive: a state before start-up; bus time that four drivers share;
    the parts of an answer's word; the tasks that an end wakes; a board's endpoints allocated as one operation; readings brought by one call. */
 #include <string.h>

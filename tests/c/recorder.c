@@ -1,3 +1,4 @@
+/* SPDX-License-Identifier: MIT OR Apache-2.0 */
 /* Random surveys over random older cards, cut at random stores: what the exported reader gives of the whole card, held
  * against a model of its own. `recorder [CUTS]`. */
 #include <stdio.h>

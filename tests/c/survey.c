@@ -1,3 +1,4 @@
+/* SPDX-License-Identifier: MIT OR Apache-2.0 */
 /* Links the proved archive of the calls that take no driver, and checks values worked out by hand. */
 #include <string.h>
 #include "usbhs_survey.h"

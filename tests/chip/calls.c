@@ -1,3 +1,4 @@
+/* SPDX-License-Identifier: MIT OR Apache-2.0 */
 /* The calls that the replayed lists do not have, on random inputs: a descriptor's endpoints allocated, tried and
  * written, the best set of channels, arrivals between visits, packets on the card. Prints digests of all that is
  * answered and written. It is compiled for x86-64 and for RV32, and both must print the same. */

@@ -1,3 +1,4 @@
+/* SPDX-License-Identifier: MIT OR Apache-2.0 */
 /* The firmware's whole interrupt as it is flashed, but for the entry in start.S: the access loop and the accesses
  * in the chip's layout, here over plain memory, with the driver's calls. Lines as those of measure.c. */
 #include <string.h>

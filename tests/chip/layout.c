@@ -1,3 +1,4 @@
+/* SPDX-License-Identifier: MIT OR Apache-2.0 */
 /* The chip's layout (firmware/ch32v30x) over plain memory: what is written is read back, and no two registers share
  * a bit. Whether the layout is the chip's own no test here can tell. */
 #include <string.h>

@@ -1,3 +1,4 @@
+/* SPDX-License-Identifier: MIT OR Apache-2.0 */
 /* What the calls cost on RV32, in instructions retired (the emulator's -icount makes minstret exact) and bytes of
  * stack. On x86-64 callgrind counts the same calls: a dump for each operation, with its name.
  *

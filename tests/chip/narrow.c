@@ -1,3 +1,4 @@
+/* SPDX-License-Identifier: MIT OR Apache-2.0 */
 /* Compiled with LENGTH=usbhs_length, and not with LENGTH=size_t, where that has 32 bits. */
 #include "usbhs_survey.h"
 

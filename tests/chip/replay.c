@@ -1,3 +1,4 @@
+/* SPDX-License-Identifier: MIT OR Apache-2.0 */
 /* Replays recorded calls (oracle/FORMAT.md, "The same as bytes") on the library, bare-metal, and holds every
  * answer, every byte received and every byte of the slots against the list's. A line for each list ends with a
  * digest of the state, the bus time and the stamps after each call; `compare --lists` prints the same lines of the

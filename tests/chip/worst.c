@@ -1,3 +1,4 @@
+/* SPDX-License-Identifier: MIT OR Apache-2.0 */
 /* The firmware's interrupt with as many isochronous endpoints as the driver takes, all due at once. Lines as those of
  * measure.c. Compiled with USB_BUFFERS for all of them. */
 #include <string.h>

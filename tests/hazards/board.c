@@ -1,3 +1,4 @@
+/* SPDX-License-Identifier: MIT OR Apache-2.0 */
 /* The emulator's board for a process on x86-64: the same firmware, block and host, in a fraction of the time. */
 #include "../../firmware/board.h"
 #include <stdio.h>

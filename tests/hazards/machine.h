@@ -1,3 +1,4 @@
+/* SPDX-License-Identifier: MIT OR Apache-2.0 */
 /* In place of firmware/emulator/machine.h, for a process: given with -include. */
 #ifndef MACHINE_H
 #define MACHINE_H

@@ -1,3 +1,4 @@
+/* SPDX-License-Identifier: MIT OR Apache-2.0 */
 /* The board as a process: the bus goes on while the firmware sleeps or waits for its card, which is a file. */
 #include "board.h"
 #include <stdio.h>

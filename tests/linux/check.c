@@ -1,3 +1,4 @@
+/* SPDX-License-Identifier: MIT OR Apache-2.0 */
 /* The card against what the guest says that it streamed. Each packet on the card is one that was sent, whole, in order
  * and once; and all that were on the bus are there, except empty ones and short ones that equal the mark's beginning,
  * which nobody can see (docs/DIFFERENCES.md 3), those counted as overruns, and those sent to nobody. Packets of the

@@ -1,3 +1,4 @@
+/* SPDX-License-Identifier: MIT OR Apache-2.0 */
 /* Packet n of the stream of samples: what the guest sends and the check on the card knows. Every length from 1 to 64,
  * now and then an empty one; random bytes, the number in front where it has room. */
 #ifndef PACKETS_H

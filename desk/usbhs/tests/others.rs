@@ -169,10 +169,8 @@ fn the_command_line() {
     refused(&["wash"], b"", "wash is no command");
     refused(&["--fast"], b"", "--fast is no option here");
     // the header's version
-    let version = usbhs(&["--version"], b"");
     let header = include_str!("../../../include/usbhs.h");
-    let number = header.lines().find_map(|l| l.strip_prefix("#define USBHS_VERSION \"")).unwrap();
-    assert_eq!(version.text(), format!("usbhs {}\n", number.trim_end_matches('"')));
+    assert!(header.contains(concat!("#define USBHS_VERSION \"", env!("CARGO_PKG_VERSION"), "\"\n")));
     let help = usbhs(&["card", "--help"], b"");
     assert_eq!((help.status, help.text().lines().next()), (0, usbhs(&["-h"], b"").text().lines().next()));
     for line in help.text().lines() {

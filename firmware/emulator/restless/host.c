@@ -1,3 +1,4 @@
+/* SPDX-License-Identifier: MIT OR Apache-2.0 */
 /* A host that does not wait: tokens come when they are due, wherever the firmware is. In place of ../host.c, whose
  * tokens come while the firmware sleeps.
  *

@@ -1,3 +1,4 @@
+/* SPDX-License-Identifier: MIT OR Apache-2.0 */
 /* Lets the programs of tests/c run on the emulator. */
 #include <stdint.h>
 #include "stdio.h"

@@ -1,3 +1,4 @@
+/* SPDX-License-Identifier: MIT OR Apache-2.0 */
 /* The interrupts of tests/chip/handler.c, by the unchanged Rust: the same endpoints, the same readings, the same names.
  *
  *   rust NAME INSTRUCTIONS

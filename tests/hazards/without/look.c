@@ -1,3 +1,4 @@
+/* SPDX-License-Identifier: MIT OR Apache-2.0 */
 /* In place of firmware/look.c: a packet that its interrupt left stays. */
 #include "../../../firmware/look.h"
 

@@ -1,3 +1,4 @@
+/* SPDX-License-Identifier: MIT OR Apache-2.0 */
 /* In place of firmware/sof.c: SOF interrupts from the start on. */
 #include "../../../firmware/sof.h"
 #include "../../../firmware/board.h"

@@ -1,3 +1,4 @@
+/* SPDX-License-Identifier: MIT OR Apache-2.0 */
 /* In place of firmware/watch.c: nothing is begun again. */
 #include "../../../firmware/watch.h"
 

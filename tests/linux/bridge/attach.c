@@ -1,3 +1,4 @@
+/* SPDX-License-Identifier: MIT OR Apache-2.0 */
 /* The device is enumerated here first, as by a host that redirects it; then the guest is told of it. */
 #include "bridge.h"
 #include <stdlib.h>

@@ -1,3 +1,4 @@
+/* SPDX-License-Identifier: MIT OR Apache-2.0 */
 /* The bridge's start, its log and its numbers. */
 #include "bridge.h"
 #include <stdarg.h>

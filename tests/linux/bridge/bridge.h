@@ -1,3 +1,4 @@
+/* SPDX-License-Identifier: MIT OR Apache-2.0 */
 /* A host that others wrote: what a guest's kernel asks of its host controller comes here as usbredir packets, and
  * becomes tokens on the model of the block.
  *

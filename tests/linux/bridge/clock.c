@@ -1,3 +1,4 @@
+/* SPDX-License-Identifier: MIT OR Apache-2.0 */
 /* Time on the bus. A microframe has places: the SOF; isochronous and interrupt transactions, one of each endpoint; some
  * for control and bulk.
  *

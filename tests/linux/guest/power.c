@@ -1,3 +1,4 @@
+/* SPDX-License-Identifier: MIT OR Apache-2.0 */
 /* Suspend, reset and the cable, also in the midst of streams. */
 #include "tester.h"
 #include <stdio.h>

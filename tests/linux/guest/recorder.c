@@ -1,3 +1,4 @@
+/* SPDX-License-Identifier: MIT OR Apache-2.0 */
 /* What is done with the recorder. */
 #include "tester.h"
 #include <stdio.h>

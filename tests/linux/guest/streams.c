@@ -1,3 +1,4 @@
+/* SPDX-License-Identifier: MIT OR Apache-2.0 */
 /* The recorder's streams: samples OUT, numbers IN, in URBs of 32 packets. */
 #include "tester.h"
 #include <poll.h>

@@ -1,3 +1,4 @@
+/* SPDX-License-Identifier: MIT OR Apache-2.0 */
 /* tester CONTROLLER URBS ROUNDS */
 #include "tester.h"
 #include <stdio.h>

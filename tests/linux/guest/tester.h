@@ -1,3 +1,4 @@
+/* SPDX-License-Identifier: MIT OR Apache-2.0 */
 /* Runs in the guest, over usbfs: what Linux's host stack does with the device. Results go to the console; what the
  * bridge and the check on the card must know goes, a line each, to the second serial port. */
 #ifndef TESTER_H

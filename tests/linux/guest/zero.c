@@ -1,3 +1,4 @@
+/* SPDX-License-Identifier: MIT OR Apache-2.0 */
 /* What is done with the second device: Linux's driver usbtest, case by case (the kernel's tools/usb/testusb.c has the
  * numbers), loops, halts, power. */
 #include "tester.h"
