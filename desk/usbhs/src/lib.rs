@@ -5,6 +5,7 @@ pub mod card;
 mod card_picture;
 mod card_samples;
 pub mod channels;
+pub mod coding;
 pub mod descriptor;
 #[allow(dead_code)]
 #[path = "../../../rust/port/src/exported.rs"]

@@ -7,7 +7,7 @@ use std::process::ExitCode;
 use usbhs::args::{usage, Args};
 use usbhs::json::Json;
 use usbhs::output::Output;
-use usbhs::{card, channels, descriptor, replay, visits, Done, Failure};
+use usbhs::{card, channels, coding, descriptor, replay, visits, Done, Failure};
 
 const HELP: &str = "\
 usbhs: the readout's tool, over the proved calls of usbhs.h and usbhs_survey.h
@@ -34,6 +34,9 @@ usbhs: the readout's tool, over the proved calls of usbhs.h and usbhs_survey.h
   usbhs channels FILE                     the best set of channels for the bus time left
       --in-use N, --budget B              byte-times in use, sets to look at: 0 and 65,536, if not said
   usbhs visits A B C D                    arrivals C to D microframes apart, visits A to B apart
+  usbhs coding BITS                       whether samples of so many bits can be mistaken for a slot's marks
+      --signed, --left, --offset          signed; left-justified in 16 bits; counted from 0x8000
+      --big-endian                        highest byte first
   usbhs replay LIST                       a recorded list of calls as a timeline
       --svg FILE, --all                   as a picture too; every event in words
   usbhs replay --trace TRACE              a device's trace: a ring read by a debugger, or a card that has it
@@ -43,7 +46,8 @@ A FILE, IMAGE or LIST that is - is standard input. --json: for programs. --versi
 A descriptor is bytes, or text with two hexadecimal digits a byte.
 A channel is a line: NAME MAXIMUM CHARGE.
 Exit status: 0 well; 1 the answer is no (blocks were dropped, a stream's end is not certain, a board or
-fifteen slots do not do, a recorded answer is not the port's); 2 a bad command line or input.
+fifteen slots do not do, a coding can be hit, a recorded answer is not the port's); 2 a bad command line
+or input.
 ";
 
 fn run(words: Vec<OsString>) -> Done<bool> {
@@ -76,6 +80,7 @@ fn run(words: Vec<OsString>) -> Done<bool> {
         "descriptor" => descriptor::run(args, json, &mut out),
         "channels" => channels::run(args, json, &mut out),
         "visits" => visits::run(args, json, &mut out),
+        "coding" => coding::run(args, json, &mut out),
         "replay" => replay::run(args, json, &mut out),
         "help" if json => usage("help has no --json"),
         "help" => {

@@ -94,6 +94,21 @@ fn channels() {
 }
 
 #[test]
+fn coding() {
+    for words in ["12", "12 --signed", "12 --offset", "10", "14", "15 --signed", "12 --left --big-endian"] {
+        let ran = usbhs(&["coding"].into_iter().chain(words.split(' ')).collect::<Vec<_>>(), b"");
+        assert!(ran.status == 0 && ran.text().contains("no packet of whole samples is short"), "{words}");
+    }
+    for words in ["16", "16 --signed", "12 --left", "12 --big-endian", "15"] {
+        assert_eq!(usbhs(&["coding"].into_iter().chain(words.split(' ')).collect::<Vec<_>>(), b"").status, 1, "{words}");
+    }
+    assert!(usbhs(&["coding", "16"], b"").text().contains("4n bytes loses its last byte, 5A, for 256 of 65,536 samples"));
+    refused(&["coding", "17"], b"", "17 is no number of bits");
+    refused(&["coding", "12", "--left", "--signed"], b"", "exclude each other");
+    refused(&["coding"], b"", "BITS is missing");
+}
+
+#[test]
 fn visits() {
     assert_eq!(usbhs(&["visits", "1", "15", "1", "1"], b"").status, 0);
     assert_eq!(usbhs(&["visits", "1", "16", "1", "1"], b"").status, 1);

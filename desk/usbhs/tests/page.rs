@@ -67,6 +67,7 @@ fn every_command_has_an_example() {
         "descriptor write",
         "channels",
         "visits",
+        "coding",
         "replay",
         "replay --trace",
     ] {
