@@ -151,8 +151,31 @@ static void crowded(void)
     interrupt("firmware-15-in-15-out");
 }
 
+#ifdef WINDOWS
+extern uint32_t WINDOWS_AT[2] __asm__("WINDOWS");
+
+/* When, after the interrupt's begin, the status is read and the flag released. */
+static void windows(void)
+{
+    uint32_t began;
+
+    next_microframe();
+    shows(TRANSFER, SOF, 0);
+    WINDOWS_AT[0] = WINDOWS_AT[1] = 0;
+    began = instructions();
+    rust_interrupt();
+    tell("firmware-status-read", WINDOWS_AT[0] - began);
+    tell("firmware-flag-released", WINDOWS_AT[1] - began);
+}
+#endif
+
 int main(void)
 {
+#ifdef WINDOWS
+    started(1, 1);
+    windows();
+    return 0;
+#endif
     started(1, 1);
     rust_callback(start_of_frame);
     on_time();

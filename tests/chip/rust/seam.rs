@@ -41,13 +41,17 @@ fn place(reg: u8, ep: u8) -> (usize, u8) {
 pub fn read(reg: u8, ep: u8) -> u32 {
     let (at, width) = place(reg, ep);
     // SAFETY: the emulator's memory at BASE is nobody else's
-    unsafe {
+    let value = unsafe {
         match width {
             1 => (at as *const u8).read_volatile() as u32,
             2 => (at as *const u16).read_volatile() as u32,
             _ => (at as *const u32).read_volatile(),
         }
+    };
+    if reg == reg::INT_ST {
+        note(0);
     }
+    value
 }
 
 #[inline(always)]
@@ -61,7 +65,30 @@ pub fn write(reg: u8, ep: u8, value: u32) {
             _ => (at as *mut u32).write_volatile(value),
         }
     }
+    if reg == reg::INT_FG {
+        note(1);
+    }
 }
+
+/// When the status was first read, and the flag first released: with `--cfg timed` alone.
+#[cfg(timed)]
+#[no_mangle]
+pub static mut WINDOWS: [u32; 2] = [0; 2];
+
+#[cfg(timed)]
+#[inline(always)]
+fn note(which: usize) {
+    // SAFETY: one hart, no interrupts
+    unsafe {
+        if WINDOWS[which] == 0 {
+            core::arch::asm!("csrr {0}, minstret", out(reg) WINDOWS[which]);
+        }
+    }
+}
+
+#[cfg(not(timed))]
+#[inline(always)]
+fn note(_which: usize) {}
 
 /// Wake-ups go to a list, as the port's do; embassy's critical section and executor are left out.
 #[no_mangle]
