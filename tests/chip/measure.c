@@ -262,6 +262,13 @@ static void bus(void)
     OPERATE("advance", usbhs_begin_advance, (state, 2));
 }
 
+/* The longest operations that a task makes: each of the sixteen slots is marked whole. */
+static void enabling(uint32_t of, const char *name)
+{
+    prepare(of, 0);
+    OPERATE(name, usbhs_begin_set_enabled, (state, slots, slots_length, bus_time, 0, 1, USBHS_OUT, 1));
+}
+
 static void interrupts(void)
 {
     static const uint8_t packet[64] = {1, 2, 3};
@@ -455,6 +462,8 @@ int main(void)
 {
     starting();
     bus();
+    enabling(512, "enable-iso-out-512");
+    enabling(1024, "enable-iso-out-1024");
     interrupts();
     busy_interrupts();
     together();
