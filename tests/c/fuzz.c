@@ -21,6 +21,8 @@
 #include "fuzz_runs.h"
 #include "usbhs_survey.h"
 
+#undef usbhs_start_up /* the exported call, wherever its bytes lie: the header would refuse odd ones */
+
 /* ---- what is lent */
 
 enum { STATE, SLOTS, TIME, SLICE, DATA, ROOM, FIRST, SECOND, THIRD, PIECES };
