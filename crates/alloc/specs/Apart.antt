@@ -1,4 +1,5 @@
--- The endpoint numbers that any list of calls was given: 1 to 15, no number twice in one direction, and no two sorts on one number.
+-- The endpoint numbers that any list of calls was given: 1 to 15, no number twice in one direction, and no two sorts on
+-- one number.
 -- Assumes nothing.
 use mathlib.Core.Path.{_≡_, refl, sym, ap, _∙_}
 use mathlib.Core.Bool.{Bool, true, false, not, true≢false}
@@ -12,7 +13,8 @@ use Rattle.regs.specs.declared.Dir.the-variants.{Out, In}
 use Rattle.alloc.specs.declared.Allocation.{Allocation}
 use Rattle.alloc.specs.Alloc.{takenIn, numsOf, isIso, isOut, withNext}
 use Rattle.alloc.specs.Outcome.{same, sameDir, inAdded, Takes, stays}
-use Rattle.alloc.specs.Run.{Call, endpoint, ep0, called, Step, kept, gave, gave-ep0, step, Region, noted, regions, All}
+use Rattle.alloc.specs.Run.{Call, endpoint, ep0, called, Step, kept, gave, gave-ep0, step, Region, noted, regions}
+use Rattle.alloc.specs.Run.{All}
 
 -- an endpoint's number is 1 to 15, EP0's 0
 abbrev pub Numbered : Call → ℕ → Type 0
@@ -31,7 +33,8 @@ AllApart (r ∷ rs) = All (λ q. Apart (r .call) (r .number) (q .call) (q .numbe
 
 -- ---- laws
 
-numbered-step : (a : Allocator) (c : Call) (r : Allocation) → Step a c r → (rs : List Region) → All (λ q. Numbered (q .call) (q .number)) rs
+numbered-step : (a : Allocator) (c : Call) (r : Allocation) → Step a c r → (rs : List Region)
+    → All (λ q. Numbered (q .call) (q .number)) rs
     → All (λ q. Numbered (q .call) (q .number)) (noted c (r .answer) rs)
 numbered-step a c r (kept d n w k) rs h = h
 numbered-step a c r (gave kind address maximum dir e base n b m g) rs h = ((g .number .low, g .number .high), h)
@@ -46,7 +49,8 @@ numbered a (c ∷ cs) = numbered-step a c (called a c) (step a c) _ (numbered (c
 abbrev Has : Allocator → Bool → Dir → ℕ → Type 0
 Has a iso d e = (isSet (takenIn a d) e ≡ true) × (isSet (numsOf a iso) e ≡ true)
 
-still : (a : Allocator) (iso : Bool) (dir : Dir) (e : ℕ) (b : Allocator) → Takes a iso dir e b → (s : Bool) (d : Dir) (j : ℕ) → Has a s d j → Has b s d j
+still : (a : Allocator) (iso : Bool) (dir : Dir) (e : ℕ) (b : Allocator) → Takes a iso dir e b
+    → (s : Bool) (d : Dir) (j : ℕ) → Has a s d j → Has b s d j
 still a iso dir e b t s d j h =
     (t .takes d j ∙ stays (sameDir dir d) _ e j (h .0), t .sorts s j ∙ stays (same iso s) _ e j (h .1))
 
@@ -64,7 +68,8 @@ had a iso dir e b t = (t .takes dir e ∙ go dir, t .sorts iso e ∙ so iso)
     so false = rw (eq-eqb e e refl)
 
 -- what is had is not given again in this direction, nor to the other sort
-not-again : (a : Allocator) (s : Bool) (d : Dir) (e : ℕ) → Has a s d e → (iso : Bool) (dir : Dir) → isSet (takenIn a dir) e ≡ false
+not-again : (a : Allocator) (s : Bool) (d : Dir) (e : ℕ) → Has a s d e → (iso : Bool) (dir : Dir)
+    → isSet (takenIn a dir) e ≡ false
     → isSet (numsOf a (not iso)) e ≡ false → (sameDir d dir ≡ false) × (s ≡ iso)
 unfolding isOut
 not-again a s d e h iso dir u v = (go d dir (h .0) u, so s iso (h .1) v)
@@ -90,7 +95,8 @@ module _ (k x m : ℕ) (d : Dir) (e : ℕ) where
   later-step a c r (kept f n w j) h rs ih = ih h
   later-step a c r (gave kind address maximum dir g base n b l o) h rs ih = (
     λ q. not-again a (isIso k) d e h (isIso kind) dir
-        (ap (isSet (takenIn a dir)) q ∙ o .number .untaken) (ap (isSet (numsOf a (not (isIso kind)))) q ∙ o .number .unmixed),
+        (ap (isSet (takenIn a dir)) q ∙ o .number .untaken) (ap (isSet (numsOf a (not (isIso kind)))) q
+        ∙ o .number .unmixed),
     ih (still a (isIso kind) dir g b (o .number) (isIso k) d e h),
   )
   later-step a c r (gave-ep0 maximum x l p) h rs ih = (tt, ih (dirs d (isIso k) h))
@@ -101,7 +107,8 @@ module _ (k x m : ℕ) (d : Dir) (e : ℕ) where
       dirs In true h = h
       dirs In false h = h
 
-  later : (a : Allocator) → Has a (isIso k) d e → (cs : List Call) → All (λ q. Apart (endpoint k x m d) e (q .call) (q .number)) (regions a cs)
+  later : (a : Allocator) → Has a (isIso k) d e → (cs : List Call)
+      → All (λ q. Apart (endpoint k x m d) e (q .call) (q .number)) (regions a cs)
   unfolding regions
   later a h [] = tt
   later a h (c ∷ cs) = later-step a c (called a c) (step a c) h _ (λ i. later (called a c .after) i cs)
@@ -110,7 +117,8 @@ any : (m e : ℕ) (rs : List Region) → All (λ q. Apart (ep0 m) e (q .call) (q
 any m e [] = tt
 any m e (r ∷ rs) = (tt, any m e rs)
 
-apart-step : (a : Allocator) (c : Call) (r : Allocation) → Step a c r → (cs : List Call) → AllApart (regions (r .after) cs)
+apart-step : (a : Allocator) (c : Call) (r : Allocation) → Step a c r → (cs : List Call)
+    → AllApart (regions (r .after) cs)
     → AllApart (noted c (r .answer) (regions (r .after) cs))
 apart-step a c r (kept f n w j) cs h = h
 apart-step a c r (gave kind address maximum dir e base n b l o) cs h =

@@ -4,10 +4,12 @@ use Prim.Native.Nat.{ℕ, _*_}
 use lib.Dec.{eqb, leb}
 use Rattle.alloc.specs.Alloc.{if}
 
--- usb/mod.rs, validate_buffer_size, and 1,024 (request Six): a high-speed isochronous packet may carry as much (USB 2.0, 5.6.3)
+-- usb/mod.rs, validate_buffer_size, and 1,024 (request Six): a high-speed isochronous packet may carry as much (USB
+-- 2.0, 5.6.3)
 unfoldable pub goodSize : ℕ → Bool
 goodSize size =
-    if (eqb size 8) true (if (eqb size 16) true (if (eqb size 32) true (if (eqb size 64) true (if (eqb size 512) true (eqb size 1024)))))
+    if (eqb size 8) true (if (eqb size 16) true (if (eqb size 32) true
+    (if (eqb size 64) true (if (eqb size 512) true (eqb size 1024)))))
 
 -- row 2 does not stop the start-up: a good size, buffers at all, and no more bytes than 65,536
 unfoldable pub goodBuffer : ℕ → ℕ → Bool

@@ -7,6 +7,5 @@ pub mod SoundLaws
 pub mod Apart
 pub mod Rows
 pub mod OneByOne
-pub mod Endpoint
 pub mod Buffer
 pub mod BufferLaws

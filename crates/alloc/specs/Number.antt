@@ -1,4 +1,5 @@
--- The number that an allocation finds: 1 to 15 and free; without an address, the lowest such, and none only where none is. Assumes nothing.
+-- The number that an allocation finds: 1 to 15 and free; without an address, the lowest such, and none only where none
+-- is. Assumes nothing.
 use mathlib.Core.Path.{_≡_, refl, subst}
 use mathlib.Core.Bool.{Bool, true, false}
 use mathlib.Core.Logic.{_⊎_, inl, inr, ⊎-elim}
@@ -31,15 +32,20 @@ module _ (a : Allocator) (iso : Bool) (dir : Dir) where
       go (eqb (address / 128) (dirBit dir)) (eqb (address % 128) 0) (leb 16 (address % 128))
       (isFree a iso dir (address % 128)) refl refl refl
     where
-      go : (d z l f : Bool) → eqb (address % 128) 0 ≡ z → leb 16 (address % 128) ≡ l → isFree a iso dir (address % 128) ≡ f
+      go : (d z l f : Bool) → eqb (address % 128) 0 ≡ z → leb 16 (address % 128) ≡ l → isFree a iso dir (address % 128)
+          ≡ f
           → Good a iso dir (if d (if z Nothing (if l Nothing (if f (Number (address % 128)) Nothing))) Nothing)
       go false z l f p q r = tt
       go true true l f p q r = tt
       go true false true f p q r = tt
       go true false false false p q r = tt
       go true false false true p q r =
-          let h = leb-false 16 (address % 128) q in
-          (⊎-elim (λ e. absurd (eqb-false (address % 128) 0 p e)) (λ n. n) (eq-zero-or-pos (address % 128)), omega arith, r)
+          let h = leb-false 16 (address % 128) q in (
+            ⊎-elim (λ e. absurd (eqb-false (address % 128) 0 p e)) (λ n. n) (eq-zero-or-pos (address % 128)),
+            omega
+                arith,
+            r,
+          )
 
   lowest-good : (left e : ℕ) → 1 ≤ e → left + e ≤ 16 → Good a iso dir (lowestOf a iso dir left e)
   unfolding lowestOf
@@ -51,10 +57,12 @@ module _ (a : Allocator) (iso : Bool) (dir : Dir) where
   pub found-good : (address : ℕ) → Good a iso dir (numberOf a iso address dir)
   unfolding numberOf
   found-good address =
-      either (Good a iso dir) (ltb address 256) _ _ (λ _. asked-good address) (λ _. lowest-good 15 1 (omega arith) (omega arith))
+      either (Good a iso dir) (ltb address 256) _ _ (λ _. asked-good address)
+      (λ _. lowest-good 15 1 (omega arith) (omega arith))
 
   -- a number found is 1 to 15 and free
-  pub number-good : (address e : ℕ) → numberOf a iso address dir ≡ Number e → (1 ≤ e) × (e ≤ 15) × (isFree a iso dir e ≡ true)
+  pub number-good : (address e : ℕ) → numberOf a iso address dir ≡ Number e → (1 ≤ e) × (e ≤ 15)
+      × (isFree a iso dir e ≡ true)
   number-good address e q = subst (Good a iso dir) q (found-good address)
 
 -- ---- and is the lowest
@@ -69,7 +77,8 @@ abbrev pub Lowest : Allocator → Bool → Dir → ℕ → ℕ → Found → Typ
 Lowest a iso dir from to f = (j : ℕ) → from ≤ j → j < reached to f → isFree a iso dir j ≡ false
 
 module _ (a : Allocator) (iso : Bool) (dir : Dir) where
-  earlier : (to e : ℕ) → isFree a iso dir e ≡ false → (f : Found) → Lowest a iso dir (suc e) to f → Lowest a iso dir e to f
+  earlier : (to e : ℕ) → isFree a iso dir e ≡ false → (f : Found) → Lowest a iso dir (suc e) to f
+      → Lowest a iso dir e to f
   earlier to e n f h = λ j p q. at j (eq-or-lt-of-le p) (λ r. h j r q)
     where
       at : (j : ℕ) → (e ≡ j) ⊎ (e < j) → (suc e ≤ j → isFree a iso dir j ≡ false) → isFree a iso dir j ≡ false

@@ -1,4 +1,5 @@
--- The Rust takes an endpoint's buffers one at a time (usb/mod.rs, alloc_endpoint, called n times): that is the test and the sum of
+-- The Rust takes an endpoint's buffers one at a time (usb/mod.rs, alloc_endpoint, called n times): that is the test and
+-- the sum of
 -- `bufferedOf`. Assumes nothing.
 use mathlib.Core.Path.{_≡_, refl, _∙_}
 use mathlib.Core.Bool.{Bool, true, false}
@@ -21,8 +22,10 @@ one-by-one count zero next h = rw (add-zero next, le-ltb count next h)
 one-by-one count (suc n) next h = go (leb count next) refl (λ k. one-by-one count n (suc next) k)
   where
     go : (t : Bool) → leb count next ≡ t
-        → (suc next ≤ count → oneByOne count n (suc next) ≡ if (ltb count (suc next + n)) (false, count) (true, suc next + n))
-        → if t (false, next) (oneByOne count n (suc next)) ≡ if (ltb count (next + suc n)) (false, count) (true, next + suc n)
+        → (suc next ≤ count → oneByOne count n (suc next)
+        ≡ if (ltb count (suc next + n)) (false, count) (true, suc next + n))
+        → if t (false, next) (oneByOne count n (suc next))
+        ≡ if (ltb count (next + suc n)) (false, count) (true, next + suc n)
     go true q ih =
         let e = leb-true count next q in
         let p : next ≡ count = omega arith in

@@ -1,4 +1,5 @@
--- What an allocation does, by its answer: which numbers its sets then have, which buffers are used, and that nothing else changes. Assumes nothing.
+-- What an allocation does, by its answer: which numbers its sets then have, which buffers are used, and that nothing
+-- else changes. Assumes nothing.
 use mathlib.Core.Path.{_≡_, refl, sym, ap, _∙_}
 use mathlib.Core.Bool.{Bool, true, false, not, true≢false}
 use Prim.Native.Nat.{ℕ, _+_, _*_, _≤_, _<_}
@@ -55,7 +56,8 @@ stays false w e j q = q
 
 -- ---- what each answer says of the allocator a before and b after it
 
--- the number e is 1 to 15, was not taken in this direction, nor by the other sort; it is taken, and every other number is as before
+-- the number e is 1 to 15, was not taken in this direction, nor by the other sort; it is taken, and every other number
+-- is as before
 pub record Takes (a : Allocator) (iso : Bool) (dir : Dir) (e : ℕ) (b : Allocator) : Type 0 where
   pub low : 1 ≤ e
   pub high : e ≤ 15
@@ -78,7 +80,8 @@ pub record Gives (a : Allocator) (iso : Bool) (dir : Dir) (e base n : ℕ) (b : 
 -- every allocation is one of these; a refusal changes nothing
 pub data Outcome (a : Allocator) (kind address maximum : ℕ) (dir : Dir) : Allocation → Type 0 where
   six : a .size < maximum → Outcome a kind address maximum dir (refused 6 a)
-  seven : maximum ≤ a .size → numberOf a (isIso kind) address dir ≡ Nothing → Outcome a kind address maximum dir (refused 7 a)
+  seven : maximum ≤ a .size → numberOf a (isIso kind) address dir ≡ Nothing
+      → Outcome a kind address maximum dir (refused 7 a)
   eight : (e : ℕ) → maximum ≤ a .size → numberOf a (isIso kind) address dir ≡ Number e
       → a .count < a .next + slotsOf (isIso kind) dir → Outcome a kind address maximum dir (refused 8 a)
   given : (e base n : ℕ) (b : Allocator) → maximum ≤ a .size → numberOf a (isIso kind) address dir ≡ Number e
@@ -108,7 +111,8 @@ module _ (a : Allocator) (iso : Bool) (dir : Dir) (e : ℕ) where
   taken-sorts false j = added (not iso) (a .«other_nums») e j
 
 -- whatever changes next and the allocated numbers alone, leaves a number taken
-takes-more : (a : Allocator) (iso : Bool) (dir : Dir) (e : ℕ) (b : Allocator) → (1 ≤ e) × (e ≤ 15) × (isFree a iso dir e ≡ true)
+takes-more : (a : Allocator) (iso : Bool) (dir : Dir) (e : ℕ) (b : Allocator) → (1 ≤ e) × (e ≤ 15)
+    × (isFree a iso dir e ≡ true)
     → b .size ≡ a .size → b .count ≡ a .count → ((d : Dir) → takenIn b d ≡ takenIn (taken a iso dir e) d)
     → ((s : Bool) → numsOf b s ≡ numsOf (taken a iso dir e) s) → Takes a iso dir e b
 takes-more a iso dir e b g p q t s =
@@ -140,12 +144,14 @@ module _ (a : Allocator) (iso : Bool) (dir : Dir) (e : ℕ) where
   }
     where
       in-dir : (d : Dir)
-          → takenIn (withAllocated (withNext (taken a iso dir e) (a .next + slotsOf iso dir)) dir e) d ≡ takenIn (taken a iso dir e) d
+          → takenIn (withAllocated (withNext (taken a iso dir e) (a .next + slotsOf iso dir)) dir e) d
+          ≡ takenIn (taken a iso dir e) d
       in-dir Out = refl
       in-dir In = refl
 
       in-sort : (s : Bool)
-          → numsOf (withAllocated (withNext (taken a iso dir e) (a .next + slotsOf iso dir)) dir e) s ≡ numsOf (taken a iso dir e) s
+          → numsOf (withAllocated (withNext (taken a iso dir e) (a .next + slotsOf iso dir)) dir e) s
+          ≡ numsOf (taken a iso dir e) s
       in-sort true = refl
       in-sort false = refl
 

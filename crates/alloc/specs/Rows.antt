@@ -17,7 +17,8 @@ maximumOf (ep0 maximum) = maximum
 module _ (a : Allocator) where
   rows-step : (c : Call) (r : Allocation) → Step a c r → (n : ℕ) → r .answer ≡ Refused n → Refuses c n
   rows-step c r (kept d k w u) n q = let e : k ≡ n = cc in subst (Refuses c) e w
-  rows-step c r (gave kind address maximum dir e base k b m g) n q = let z : _≡_ {A = ℕ} 0 1 = cc in absurd (omega arith)
+  rows-step c r (gave kind address maximum dir e base k b m g) n q = let z : _≡_ {A = ℕ} 0 1
+      = cc in absurd (omega arith)
   rows-step c r (gave-ep0 maximum f m l) n q = let z : _≡_ {A = ℕ} 0 1 = cc in absurd (omega arith)
 
   -- a refusal is 6, 7 or 8, of EP0's start 22, 6 or 8
@@ -26,7 +27,8 @@ module _ (a : Allocator) where
 
   keeps-step : (c : Call) (r : Allocation) → Step a c r → (n : ℕ) → r .answer ≡ Refused n → r .after ≡ a
   keeps-step c r (kept d k w u) n q = refl
-  keeps-step c r (gave kind address maximum dir e base k b m g) n q = let z : _≡_ {A = ℕ} 0 1 = cc in absurd (omega arith)
+  keeps-step c r (gave kind address maximum dir e base k b m g) n q = let z : _≡_ {A = ℕ} 0 1
+      = cc in absurd (omega arith)
   keeps-step c r (gave-ep0 maximum f m l) n q = let z : _≡_ {A = ℕ} 0 1 = cc in absurd (omega arith)
 
   -- a refusal changes nothing
@@ -42,7 +44,8 @@ module _ (a : Allocator) where
   pub eight-short : (c : Call) → called a c .answer ≡ Refused 8 → a .count < a .next + slotsNeeded c
   eight-short c q = eight-step c (called a c) (step a c) q
 
-  maximum-step : (c : Call) (r : Allocation) → Step a c r → (e base n : ℕ) → r .answer ≡ Given e base n → maximumOf c ≤ a .size
+  maximum-step : (c : Call) (r : Allocation) → Step a c r → (e base n : ℕ) → r .answer ≡ Given e base n → maximumOf c
+      ≤ a .size
   maximum-step c r (kept d k w u) e base n q = let z : _≡_ {A = ℕ} 0 1 = cc in absurd (omega arith)
   maximum-step c r (gave kind address maximum dir f base' k b m g) e base n q = m
   maximum-step c r (gave-ep0 maximum f m l) e base n q = m
@@ -51,14 +54,17 @@ module _ (a : Allocator) where
   pub given-maximum : (c : Call) (e base n : ℕ) → called a c .answer ≡ Given e base n → maximumOf c ≤ a .size
   given-maximum c e base n q = maximum-step c (called a c) (step a c) e base n q
 
-  ep0-step : (c : Call) (maximum : ℕ) (r : Allocation) → Step a c r → c ≡ ep0 maximum → (e base n : ℕ) → r .answer ≡ Given e base n → maximum ≡ 64
+  ep0-step : (c : Call) (maximum : ℕ) (r : Allocation) → Step a c r → c ≡ ep0 maximum → (e base n : ℕ) → r .answer
+      ≡ Given e base n → maximum ≡ 64
   ep0-step c maximum r (kept d k w u) p e base n q = let z : _≡_ {A = ℕ} 0 1 = cc in absurd (omega arith)
-  ep0-step c maximum r (gave kind address m dir f base' k b l g) p e base n q = let z : _≡_ {A = ℕ} 0 1 = cc in absurd (omega arith)
+  ep0-step c maximum r (gave kind address m dir f base' k b l g) p e base n q = let z : _≡_ {A = ℕ} 0 1
+      = cc in absurd (omega arith)
   ep0-step c maximum r (gave-ep0 m f l h) p e base n q = let z : m ≡ maximum = cc in sym z ∙ f
 
   -- EP0's is 64
   pub ep0-maximum : (maximum e base n : ℕ) → called a (ep0 maximum) .answer ≡ Given e base n → maximum ≡ 64
-  ep0-maximum maximum e base n q = ep0-step (ep0 maximum) maximum (called a (ep0 maximum)) (step a (ep0 maximum)) refl e base n q
+  ep0-maximum maximum e base n q = ep0-step (ep0 maximum) maximum (called a (ep0 maximum)) (step a (ep0 maximum)) refl e
+      base n q
 
   -- with 64, buffers of fewer bytes end at 6; any other maximum ends at 22
   pub ep0-six : a .size < 64 → called a (ep0 64) ≡ refused 6 a

@@ -1,4 +1,5 @@
--- Any list of allocations and EP0 starts: the buffers that were given lie one above the other inside the slot buffer. Assumes nothing.
+-- Any list of allocations and EP0 starts: the buffers that were given lie one above the other inside the slot buffer.
+-- Assumes nothing.
 use mathlib.Core.Path.{_≡_, refl, subst}
 use mathlib.Core.Logic.{_⊎_, inl, inr}
 use mathlib.Core.List.{List, [], _∷_}
@@ -40,7 +41,8 @@ Refuses (ep0 maximum) n = (n ≡ 22) ⊎ ((n ≡ 6) ⊎ (n ≡ 8))
 -- what a call does: it is refused and changes nothing, or is given buffers
 pub data Step (a : Allocator) : Call → Allocation → Type 0 where
   kept : (c : Call) (n : ℕ) → Refuses c n → (n ≡ 8 → a .count < a .next + slotsNeeded c) → Step a c (refused n a)
-  gave : (kind address maximum : ℕ) (dir : Dir) (e base n : ℕ) (b : Allocator) → maximum ≤ a .size → Gives a (isIso kind) dir e base n b
+  gave : (kind address maximum : ℕ) (dir : Dir) (e base n : ℕ) (b : Allocator) → maximum ≤ a .size
+      → Gives a (isIso kind) dir e base n b
       → Step a (endpoint kind address maximum dir) (record { answer = Given e base n; after = b })
   gave-ep0 : (maximum : ℕ) → maximum ≡ 64 → maximum ≤ a .size → a .next < a .count
       → Step a (ep0 maximum) (record { answer = Given 0 (a .next * a .size) 1; after = withNext a (a .next + 1) })
@@ -62,11 +64,6 @@ unfoldable pub regions : Allocator → List Call → List Region
 regions a [] = []
 regions a (c ∷ cs) = noted c (called a c .answer) (regions (called a c .after) cs)
 
--- the allocator after them
-unfoldable pub calledAll : Allocator → List Call → Allocator
-calledAll a [] = a
-calledAll a (c ∷ cs) = calledAll (called a c .after) cs
-
 -- the first byte after a region
 abbrev pub end : ℕ → Region → ℕ
 end size r = r .base + r .slots * size
@@ -87,11 +84,15 @@ Disjoint size (r ∷ rs) = All (λ q. end size r ≤ q .base) rs × Disjoint siz
 
 -- ---- laws
 
-numbered : (a : Allocator) (kind address maximum : ℕ) (dir : Dir) (r : Allocation) → Outcome a kind address maximum dir r
+numbered : (a : Allocator) (kind address maximum : ℕ) (dir : Dir) (r : Allocation)
+    → Outcome a kind address maximum dir r
     → Step a (endpoint kind address maximum dir) r
-numbered a kind address maximum dir r (six l) = kept (endpoint kind address maximum dir) 6 (omega arith, omega arith) (λ n. absurd (omega arith))
-numbered a kind address maximum dir r (seven m q) = kept (endpoint kind address maximum dir) 7 (omega arith, omega arith) (λ n. absurd (omega arith))
-numbered a kind address maximum dir r (eight e m q l) = kept (endpoint kind address maximum dir) 8 (omega arith, omega arith) (λ n. l)
+numbered a kind address maximum dir r (six l) = kept (endpoint kind address maximum dir) 6 (omega arith, omega arith)
+    (λ n. absurd (omega arith))
+numbered a kind address maximum dir r (seven m q) = kept (endpoint kind address maximum dir) 7
+    (omega arith, omega arith) (λ n. absurd (omega arith))
+numbered a kind address maximum dir r (eight e m q l) = kept (endpoint kind address maximum dir) 8
+    (omega arith, omega arith) (λ n. l)
 numbered a kind address maximum dir r (given e base n b m q g) = gave kind address maximum dir e base n b m g
 
 pub step : (a : Allocator) (c : Call) → Step a c (called a c)
@@ -99,7 +100,8 @@ unfolding allocateEp0Of
 step a (endpoint kind address maximum dir) = numbered a kind address maximum dir _ (outcome a kind address maximum dir)
 step a (ep0 maximum) =
     either (Step a (ep0 maximum)) (eqb maximum 64) _ _
-    (λ e. either (Step a (ep0 maximum)) (ltb (a .size) maximum) _ _ (λ t. kept (ep0 maximum) 6 (inr (inl refl)) (λ n. absurd (omega arith)))
+    (λ e. either (Step a (ep0 maximum)) (ltb (a .size) maximum) _ _
+    (λ t. kept (ep0 maximum) 6 (inr (inl refl)) (λ n. absurd (omega arith)))
     (λ m. either (Step a (ep0 maximum)) (leb (a .count) (a .next)) _ _
     (λ t. kept (ep0 maximum) 8 (inr (inr refl)) (λ n. let h : a .count ≤ a .next = leb-true _ _ t in omega arith))
     (λ f. gave-ep0 maximum (eqb-true _ _ e) (ltb-false _ _ m) (leb-false _ _ f))))
@@ -116,14 +118,16 @@ same-stack size from to size' from' to' rs p q r s =
     (subst (λ (x : ℕ). Stacked size' x to rs) q (subst (λ (x : ℕ). Stacked size' from' x rs) r s))
 
 stacked-step : (a : Allocator) (c : Call) (r : Allocation) → Step a c r → a .next ≤ a .count → (rs : List Region)
-    → (r .after .next ≤ r .after .count → Stacked (r .after .size) (r .after .next * r .after .size) (r .after .count * r .after .size) rs)
+    → (r .after .next ≤ r .after .count → Stacked (r .after .size) (r .after .next * r .after .size)
+    (r .after .count * r .after .size) rs)
     → Stacked (a .size) (a .next * a .size) (a .count * a .size) (noted c (r .answer) rs)
 unfolding withNext
 stacked-step a c r (kept d n w k) h rs ih = ih h
 stacked-step a c r (gave kind address maximum dir e base n b m g) h rs ih =
     let d = add-mul (a .next) n (a .size) in (
       omega (arith, g .starts),
-      same-stack _ _ _ _ _ _ rs (g .number .same-size) (cc) (cc) (ih (omega (arith, g .used, g .fits, g .number .same-count))),
+      same-stack _ _ _ _ _ _ rs (g .number .same-size) (cc) (cc)
+          (ih (omega (arith, g .used, g .fits, g .number .same-count))),
     )
 stacked-step a c r (gave-ep0 maximum e m l) h rs ih = (
   le-refl _,
@@ -137,15 +141,21 @@ unfolding regions
 stacked a h [] = mul-le-mul-right (a .size) h
 stacked a h (c ∷ cs) = stacked-step a c (called a c) (step a c) h _ (λ k. stacked (called a c .after) k cs)
 
-within : (size from to : ℕ) (rs : List Region) → Stacked size from to rs → All (λ r. (from ≤ r .base) × (end size r ≤ to)) rs
+within : (size from to : ℕ) (rs : List Region) → Stacked size from to rs
+    → All (λ r. (from ≤ r .base) × (end size r ≤ to)) rs
 within size from to [] s = tt
-within size from to (r ∷ rs) s = ((s .0, top size (end size r) to rs (s .1)), raised rs (within size (end size r) to rs (s .1)))
+within size from to (r ∷ rs) s = (
+  (s .0, top size (end size r) to rs (s .1)),
+  raised rs
+      (within size (end size r) to rs (s .1)),
+)
   where
     top : (size from to : ℕ) (rs : List Region) → Stacked size from to rs → from ≤ to
     top size from to [] s = s
     top size from to (q ∷ rs) s = let t = top size (end size q) to rs (s .1) in omega (arith, s .0)
 
-    raised : (rs : List Region) → All (λ q. (end size r ≤ q .base) × (end size q ≤ to)) rs → All (λ q. (from ≤ q .base) × (end size q ≤ to)) rs
+    raised : (rs : List Region) → All (λ q. (end size r ≤ q .base) × (end size q ≤ to)) rs
+        → All (λ q. (from ≤ q .base) × (end size q ≤ to)) rs
     raised [] a = tt
     raised (q ∷ rs) a = ((omega (arith, s .0, a .0 .0), a .0 .1), raised rs (a .1))
 

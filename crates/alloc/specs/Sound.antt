@@ -1,5 +1,5 @@
--- What holds of the allocator from an accepted start-up on: the buffers used are among those that there are, number 0 is never taken,
--- what is taken is what is allocated, and no number has both sorts. Assumes nothing.
+-- What holds of the allocator from an accepted start-up on: the buffers used are among those that there are, number 0
+-- is never taken, what is taken is what is allocated, and no number has both sorts. Assumes nothing.
 use mathlib.Core.Path.{_≡_}
 use mathlib.Core.Bool.{true, false}
 use Prim.Native.Nat.{ℕ, _*_, _≤_}

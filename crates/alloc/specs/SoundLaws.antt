@@ -15,7 +15,7 @@ use Rattle.alloc.specs.declared.Allocation.{Allocation}
 use Rattle.alloc.specs.Alloc.{if, fresh, takenIn, numsOf, allocatedIn, isIso, withNext}
 use Rattle.alloc.specs.Buffer.{goodSize, goodBuffer}
 use Rattle.alloc.specs.Outcome.{sameDir, inAdded, Takes}
-use Rattle.alloc.specs.Run.{Call, called, Step, kept, gave, gave-ep0, step, Region, regions, calledAll, All, end, inside}
+use Rattle.alloc.specs.Run.{Call, called, Step, kept, gave, gave-ep0, step, Region, regions, All, end, inside}
 use Rattle.alloc.specs.Sound.{Sound}
 
 -- ---- start-up
@@ -61,7 +61,8 @@ module _ (a : Allocator) (iso : Bool) (dir : Dir) (e : ℕ) (b : Allocator) (t :
   unmixed-kept : (j : ℕ) → isSet (numsOf b true) j ≡ true → isSet (numsOf b false) j ≡ false
   unmixed-kept j p = t .sorts false j ∙ go iso (t .unmixed) (sym (t .sorts true j) ∙ p) (eqb e j) refl
     where
-      go : (i : Bool) → isSet (numsOf a (not i)) e ≡ false → inAdded i (numsOf a true) e j ≡ true → (k : Bool) → eqb e j ≡ k
+      go : (i : Bool) → isSet (numsOf a (not i)) e ≡ false → inAdded i (numsOf a true) e j ≡ true → (k : Bool) → eqb e j
+          ≡ k
           → inAdded (not i) (numsOf a false) e j ≡ false
       go true u p true k = ap (isSet (numsOf a false)) (sym (eqb-true e j k)) ∙ u
       go true u p false k = s .unmixed j (rw k at p)
@@ -96,18 +97,14 @@ sound-step a c r (gave-ep0 maximum x m l) s = record {
     zero Out = s .not-zero Out
     zero In = s .not-zero In
 
-    more : (d : Dir) (e : ℕ) → isSet (takenIn (withNext a (a .next + 1)) d) e ≡ isSet (allocatedIn (withNext a (a .next + 1)) d) e
+    more : (d : Dir) (e : ℕ) → isSet (takenIn (withNext a (a .next + 1)) d) e
+        ≡ isSet (allocatedIn (withNext a (a .next + 1)) d) e
     more Out e = s .taken Out e
     more In e = s .taken In e
 
 -- every call, refused or not, keeps the allocator sound
 pub sound-call : (a : Allocator) (c : Call) → Sound a → Sound (called a c .after)
 sound-call a c s = sound-step a c (called a c) (step a c) s
-
-pub sound-calls : (a : Allocator) (cs : List Call) → Sound a → Sound (calledAll a cs)
-unfolding calledAll
-sound-calls a [] s = s
-sound-calls a (c ∷ cs) s = sound-calls (called a c .after) cs (sound-call a c s)
 
 -- every buffer given lies inside the slot buffer, and so below 65,536
 pub sound-inside : (a : Allocator) → Sound a → (cs : List Call)

@@ -1,6 +1,6 @@
 ghost use mathlib.Core.Path.{_≡_};
 ghost use Prim.Native.Nat.{_<_};
-ghost use Rattle.alloc.specs.Alloc.{fresh, refused, bufferedOf, allocateOf, allocateEp0Of, allocated};
+ghost use Rattle.alloc.specs.Alloc.{refused, bufferedOf, allocateOf, allocateEp0Of, allocated};
 use regs::Dir;
 use state::Allocator;
 use state::EpState;
@@ -15,7 +15,8 @@ pub enum Found {
     Nothing,
 }
 
-// What an allocation answers: document 01's number, or the endpoint number, the offset of its buffers and how many they are.
+// What an allocation answers: document 01's number, or the endpoint number, the offset of its buffers and how many they
+// are.
 pub enum Answer {
     Refused(u8),
     Given(u8, u32, u8),
@@ -55,7 +56,8 @@ fn buffered(a: Allocator, iso: bool, dir: Dir, e: u8) -> Allocation
     }
 }
 
-// An endpoint number and its buffers: rows 6, 7, 8. `address` is a descriptor's byte, or 256 or more where none is asked for.
+// An endpoint number and its buffers: rows 6, 7, 8. `address` is a descriptor's byte, or 256 or more where none is
+// asked for.
 pub fn alloc_endpoint(a: Allocator, kind: u8, address: u32, maximum: u32, dir: Dir) -> Allocation
     ensures { λ r. ⌜ r ≡ allocateOf a kind address maximum dir ⌝ }
 {

@@ -38,8 +38,8 @@ fn nums(a: Allocator, iso: bool) -> u16
     if iso { a.iso_nums } else { a.other_nums }
 }
 
-// Not taken in this direction, nor by the other sort in either: a PING to a bulk OUT whose number is isochronous on the IN
-// side hangs the SIE.
+// Not taken in this direction, nor by the other sort in either: a PING to a bulk OUT whose number is isochronous on the
+// IN side hangs the SIE.
 pub fn is_free(a: Allocator, iso: bool, dir: Dir, e: u8) -> bool
     requires { ⌜ e < 16 ⌝ }
     ensures { λ r. ⌜ r ≡ isFree a iso dir e ⌝ }

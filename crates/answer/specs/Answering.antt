@@ -1,12 +1,11 @@
 -- What a call comes to and what it answers, whatever is under way
-use mathlib.Core.Bool.{Bool, true, false, cond}
+use mathlib.Core.Bool.{Bool, false}
 use mathlib.Core.List.{List, [], _∷_, _++_}
 use mathlib.Core.Path.{_≡_, refl, ap}
 use Prim.Native.Nat.{ℕ, zero, suc, _*_, _≤_}
 use native.Mathlib.Omega.{arith}
 use lib.ListN.{length, take}
 use Rattle.ring.specs.Copies.{bytesAt}
-use Rattle.regs.specs.declared.Access.{Access}
 use Rattle.state.specs.declared.Saved.{Saved}
 use Rattle.state.specs.Driver.{Driver}
 use Rattle.state.specs.Fresh as fresh
@@ -17,7 +16,7 @@ use Rattle.script.specs.Answers.{Answer, Refused, End, NotYet, Done, Shown}
 use Rattle.script.specs.Control.{wordBytes}
 use Rattle.script.specs.Calls.{Config, Op, calls}
 use Rattle.script.specs.Machine as machine
-use Rattle.script.specs.Machine.{Buf, Machine, Ans, ended, handed, told, call, Call, halt}
+use Rattle.script.specs.Machine.{Buf, Machine, Ans, ended, handed, call, Call, halt}
 use Rattle.script_ops.specs.Rings.{St}
 use Rattle.script_ops.specs.Concrete.{concrete}
 use Rattle.script_ops.specs.Answers.{front}
@@ -72,8 +71,8 @@ haltsAs i o = halt calls driverOf (λ s. s) i o
 abbrev pub halts : Out St Answer → Ans Answer × Machine Answer Driver
 halts o = haltsAs false o
 
--- with the bytes that the call was lent: those of a poll's slice that it filled, or the slots in which a packet is shown; and with the state that it
--- left, which has the wake-ups: k of them, from the front of the state's room for 64
+-- with the bytes that the call was lent: those of a poll's slice that it filled, or the slots in which a packet is
+-- shown; and with the state that it left, which has the wake-ups: k of them, from the front of the state's room for 64
 abbrev pub answerOf : Step → List ℕ → Driver → Ans Answer
 answerOf (step.Refused n) out d = ended (Refused n)
 answerOf (step.Asks q) out d = handed q
@@ -92,7 +91,8 @@ NoneOf (suc n) k = NoneOf n k × (k ≡ suc n → ⊥)
 pub parts2 : {A B C : Type 0} (f : A → B → C) {a x : A} {b y : B} → a ≡ x → b ≡ y → f a b ≡ f x y
 parts2 f p q = λ i. f (p i) (q i)
 
-pub parts3 : {A B C D : Type 0} (f : A → B → C → D) {a x : A} {b y : B} {c z : C} → a ≡ x → b ≡ y → c ≡ z → f a b c ≡ f x y z
+pub parts3 : {A B C D : Type 0} (f : A → B → C → D) {a x : A} {b y : B} {c z : C} → a ≡ x → b ≡ y → c ≡ z → f a b c
+    ≡ f x y z
 parts3 f p q r = λ i. f (p i) (q i) (r i)
 
 pub parts4 : {A B C D E : Type 0} (f : A → B → C → D → E) {a x : A} {b y : B} {c z : C} {d w : D}

@@ -32,7 +32,8 @@ regOf n =
 
 -- a write by its register's number
 abbrev pub writeOf : ℕ → ℕ → ℕ → Access
-writeOf n e x = cond (eqb n 12) (Ep0Dma x) (cond (eqb n 15) (Receive e x) (cond (eqb n 16) (Transmit e x) (Write (regOf n) e x)))
+writeOf n e x = cond (eqb n 12) (Ep0Dma x) (cond (eqb n 15) (Receive e x)
+    (cond (eqb n 16) (Transmit e x) (Write (regOf n) e x)))
 
 -- the word's byte, and its half word, from a bit on
 abbrev pub byteAt : ℕ → ℕ → ℕ
@@ -56,8 +57,8 @@ ofKind k w =
 unfoldable pub stepOf : ℕ → Step
 stepOf w = ofKind (w % 2 ^ 4) w
 
--- what an answer's word says: of a setup packet, whose bytes are in the caller's packet, that 8 are brought; of a packet that is shown no stamp,
--- which is in the caller's room for it
+-- what an answer's word says: of a setup packet, whose bytes are in the caller's packet, that 8 are brought; of a
+-- packet that is shown no stamp, which is in the caller's room for it
 abbrev pub spoken : Step → Step
 spoken (Refused n) = Refused n
 spoken (Asks q) = Asks q

@@ -38,11 +38,13 @@ endWord n k = 5 + n * 2 ^ 8 + k * 2 ^ 24
 abbrev pub doneWord : ℕ → ℕ
 doneWord n = 7 + n * 2 ^ 8
 
--- kind 8: length 8-23, offset into the slots 32-63; both are as wide as the state has them, so the stamp has no room here
+-- kind 8: length 8-23, offset into the slots 32-63; both are as wide as the state has them, so the stamp has no room
+-- here
 abbrev pub shownWord : ℕ → ℕ → ℕ
 shownWord at n = 8 + n * 2 ^ 8 + at * 2 ^ 32
 
--- kind 0: the row's number 8-15; kind 6: not yet. A setup packet has no word of its own: its 8 bytes are in the caller's packet
+-- kind 0: the row's number 8-15; kind 6: not yet. A setup packet has no word of its own: its 8 bytes are in the
+-- caller's packet
 unfoldable pub wordOf : Step → ℕ
 wordOf (Refused n) = n * 2 ^ 8
 wordOf (Asks q) = accessWord q

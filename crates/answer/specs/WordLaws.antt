@@ -10,7 +10,8 @@ use Rattle.regs.specs.declared.Access.{Access}
 use Rattle.regs.specs.declared.Access.the-variants.{Read, Write, Receive, Transmit, Ep0Dma, Wait, Callback}
 use Rattle.answer.specs.declared.Step.{Step}
 use Rattle.answer.specs.declared.Step.the-variants.{Refused, Asks, Ends, NotYet, Done, Setup, Shown}
-use Rattle.answer.specs.Word.{readWord, writeWord, accessWord, IsAccessWord, endWord, doneWord, shownWord, wordOf, Encodes}
+use Rattle.answer.specs.Word.{readWord, writeWord, accessWord, IsAccessWord, endWord, doneWord, shownWord, wordOf}
+use Rattle.answer.specs.Word.{Encodes}
 use Rattle.answer.specs.Parts.{regOf, writeOf, byteAt, halfAt, ofKind, stepOf, spoken, AccessFits, Fits}
 
 number-lt : (r : Reg) → numberOf r < 2 ^ 8
@@ -74,7 +75,8 @@ read-parts : (n e : ℕ) → n < 2 ^ 8 → e < 2 ^ 8
 read-parts n e hn he = (omega arith, omega arith, omega arith)
 
 write-parts : (n e x : ℕ) → n < 2 ^ 8 → e < 2 ^ 8
-    → (writeWord n e x % 2 ^ 4 ≡ 2) × (byteAt (writeWord n e x) 8 ≡ n) × (byteAt (writeWord n e x) 16 ≡ e) × (writeWord n e x / 2 ^ 32 ≡ x)
+    → (writeWord n e x % 2 ^ 4 ≡ 2) × (byteAt (writeWord n e x) 8 ≡ n) × (byteAt (writeWord n e x) 16 ≡ e)
+    × (writeWord n e x / 2 ^ 32 ≡ x)
 write-parts n e x hn he = (omega arith, omega arith, omega arith, omega arith)
 
 -- a write's word says the write
@@ -88,7 +90,8 @@ read-word : (r : Reg) (e : ℕ) → e < 2 ^ 8 → stepOf (readWord (numberOf r) 
 unfolding stepOf
 read-word r e he =
     let p = read-parts (numberOf r) e (number-lt r) he in
-    ap (λ k. ofKind k (readWord (numberOf r) e)) (p .0) ∙ (λ i. Asks (Read (regOf (p .1 i)) (p .2 i))) ∙ ap (λ q. Asks (Read q e)) (register-back r)
+    ap (λ k. ofKind k (readWord (numberOf r) e)) (p .0) ∙ (λ i. Asks (Read (regOf (p .1 i)) (p .2 i)))
+    ∙ ap (λ q. Asks (Read q e)) (register-back r)
 
 wait-word : (n : ℕ) → n < 2 ^ 8 → stepOf (3 + n * 2 ^ 8) ≡ Asks (Wait n)
 unfolding stepOf
@@ -161,11 +164,13 @@ pub access-says : (r : ℕ) (q p : Access) → q ≡ p → AccessFits p → r �
 access-says r q p e h k = (k ∙ ap accessWord (sym e), subst AccessFits (sym e) h)
 
 -- that of a register's read, and of its write, made of the register's number
-pub read-says : (r n : ℕ) (q : Access) (g : Reg) (e : ℕ) → q ≡ Read g e → e < 2 ^ 8 → n ≡ numberOf g → r ≡ readWord n e → IsAccessWord r q
+pub read-says : (r n : ℕ) (q : Access) (g : Reg) (e : ℕ) → q ≡ Read g e → e < 2 ^ 8 → n ≡ numberOf g → r ≡ readWord n e
+    → IsAccessWord r q
 unfolding accessWord
 read-says r n q g e p h k w = access-says r q (Read g e) p h (w ∙ ap (λ (m : ℕ). readWord m e) k)
 
-pub write-says : (r n : ℕ) (q : Access) (g : Reg) (e x : ℕ) → q ≡ Write g e x → (e < 2 ^ 8) × (x < 2 ^ 32) → n ≡ numberOf g → r ≡ writeWord n e x
+pub write-says : (r n : ℕ) (q : Access) (g : Reg) (e x : ℕ) → q ≡ Write g e x → (e < 2 ^ 8) × (x < 2 ^ 32) → n
+    ≡ numberOf g → r ≡ writeWord n e x
     → IsAccessWord r q
 unfolding accessWord
 write-says r n q g e x p h k w = access-says r q (Write g e x) p h (w ∙ ap (λ (m : ℕ). writeWord m e x) k)

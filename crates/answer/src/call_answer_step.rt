@@ -1,4 +1,5 @@
-// The answer that a word says (crate `call_answer_word` turned round), for callers in Rattle. Every function is total: any word is safe.
+// The answer that a word says (crate `call_answer_word` turned round), for callers in Rattle. Every function is total:
+// any word is safe.
 use crate::Step;
 use regs::Access;
 use regs::Reg;

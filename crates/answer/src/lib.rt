@@ -1,4 +1,5 @@
-// What a call answers, as a value and as one word; the parts of the saved record and the count of wake-ups, each loaded alone.
+// What a call answers, as a value and as one word; the parts of the saved record and the count of wake-ups, each loaded
+// alone.
 pub mod loads; // loads.rt: its numbers, each loaded alone
 pub mod woken; // woken.rt: how many wake-ups an end gives
 pub mod word; // word.rt: a call's answer as one word

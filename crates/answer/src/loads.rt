@@ -1,4 +1,5 @@
-// What is saved, each number loaded alone from the record's bytes: what a point has (crates `irq_points`, `machine_points`). Any bytes are a point.
+// What is saved, each number loaded alone from the record's bytes: what a point has (crates `irq_points`,
+// `machine_points`). Any bytes are a point.
 use bits::le_bytes::get8;
 use bits::le_bytes::get16;
 use bits::le_bytes::get32;

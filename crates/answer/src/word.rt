@@ -85,8 +85,8 @@ fn shown_word(at: u32, n: u16) -> u64
     8 + n as u64 * 0x100 + at as u64 * 0x1_0000_0000
 }
 
-// The word of a call's answer. A setup packet's bytes lie in the caller's packet: 8 are brought. The stamp of a packet that is shown lies in the
-// caller's room for it.
+// The word of a call's answer. A setup packet's bytes lie in the caller's packet: 8 are brought. The stamp of a packet
+// that is shown lies in the caller's room for it.
 pub fn word_of(step: Step) -> u64
     ensures { λ r. ⌜ Encodes r step ⌝ }
 {

@@ -6,15 +6,16 @@ use Prim.Native.Nat.{ℕ, zero, suc, _+_, _-_, _*_, _/_, _%_, _^_, _≤_, _<_, m
 use native.Mathlib.Nat.{mod-lt, pow-suc, add-comm, mod-eq-of-lt, lt-of-le-of-lt}
 use native.Mathlib.Numerals.{add-one}
 use native.Mathlib.Omega.{arith}
-use lib.Bits.{bitAnd, bitOr, or-shr, and-shr, or-mod, and-mod, or-zero-r, and-step, or-step, and-mask, and-le-l, or-lt}
+use lib.Bits.{bitAnd, bitOr, and-shr, and-mod, or-zero-r, and-step, or-step, and-mask, and-le-l, or-lt}
 use borrow.Author.Tests.{eqb-true, eq-eqb}
 use lib.Dec.{eqb, eqb·zero-suc, eqb·suc-zero, eqb·suc-suc}
-use lib.Pow.{pow-pos, pow-lt, shr-shr, field, mod-mod-pow}
+use lib.Pow.{pow-pos, pow-lt, shr-shr}
 use Rattle.bits.specs.Pack.{one-shifted}
 use Rattle.bits.specs.Bit.{bit, isSet, digit, withBit, pick, both}
 
 pub bit-suc : (w j : ℕ) → bit w (suc j) ≡ bit (w / 2) j
-bit-suc w j = ap (λ (x : ℕ). w / 2 ^ x % 2) (sym (add-one j) ∙ add-comm j 1) ∙ ap (λ (x : ℕ). x % 2) (sym (shr-shr w 1 j))
+bit-suc w j = ap (λ (x : ℕ). w / 2 ^ x % 2) (sym (add-one j) ∙ add-comm j 1)
+    ∙ ap (λ (x : ℕ). x % 2) (sym (shr-shr w 1 j))
 
 -- a set bit is 1, a clear one 0
 pub bit-cases : (w j : ℕ) → (bit w j ≡ 0) ⊎ (bit w j ≡ 1)
@@ -29,9 +30,6 @@ bit-cases w j = go (bit w j) (mod-lt (w / 2 ^ j) (pow-pos 1))
 pub bit-le : (w j : ℕ) → bit w j ≡ 1 → 2 ^ j ≤ w
 bit-le w zero h = omega arith
 bit-le w (suc j) h = let e = pow-suc 2 j in let i = bit-le (w / 2) j (sym (bit-suc w j) ∙ h) in omega arith
-
-pub bit-or : (a b j : ℕ) → bit (bitOr a b) j ≡ bitOr (bit a j) (bit b j)
-bit-or a b j = ap (λ (x : ℕ). x % 2) (or-shr a b j) ∙ or-mod (a / 2 ^ j) (b / 2 ^ j) 1
 
 pub bit-and : (a b j : ℕ) → bit (bitAnd a b) j ≡ bitAnd (bit a j) (bit b j)
 bit-and a b j = ap (λ (x : ℕ). x % 2) (and-shr a b j) ∙ and-mod (a / 2 ^ j) (b / 2 ^ j) 1
@@ -53,7 +51,8 @@ pub with-suc : (w j : ℕ) (on : Bool) → withBit w (suc j) on ≡ withBit (w /
 unfolding withBit
 with-suc w j on = rw (bit-suc w j, pow-suc 2 j) (go (bit (w / 2) j) refl on)
   where
-    go : (b : ℕ) → bit (w / 2) j ≡ b → (on : Bool) → w - b * (2 ^ j * 2) + digit on * (2 ^ j * 2) ≡ (w / 2 - b * 2 ^ j + digit on * 2 ^ j) * 2 + w % 2
+    go : (b : ℕ) → bit (w / 2) j ≡ b → (on : Bool) → w - b * (2 ^ j * 2) + digit on * (2 ^ j * 2)
+        ≡ (w / 2 - b * 2 ^ j + digit on * 2 ^ j) * 2 + w % 2
     go zero e true = omega arith
     go zero e false = omega arith
     go (suc zero) e true = let h = bit-le (w / 2) j e in omega arith
@@ -77,7 +76,8 @@ bit-with w zero on (suc j) =
 bit-with w (suc k) on zero = let e = with-suc w k on in simp (eqb·suc-zero k) (omega arith)
 bit-with w (suc k) on (suc j) =
     bit-suc (withBit w (suc k) on) j ∙ ap (λ (x : ℕ). bit x j) (with-half w k on) ∙ bit-with (w / 2) k on j
-    ∙ ap (pick (eqb k j) (digit on)) (sym (bit-suc w j)) ∙ ap (λ (t : Bool). pick t (digit on) (bit w (suc j))) (sym (eqb·suc-suc k j))
+    ∙ ap (pick (eqb k j) (digit on)) (sym (bit-suc w j))
+    ∙ ap (λ (t : Bool). pick t (digit on) (bit w (suc j))) (sym (eqb·suc-suc k j))
 
 -- `w | 1 << k` sets bit k
 pub or-sets : (w k : ℕ) → bitOr w (2 ^ k) ≡ withBit w k true
@@ -161,7 +161,8 @@ set-with w k on j = ap (λ (x : ℕ). eqb x 1) (bit-with w k on j) ∙ go (eqb k
 -- `a & b` has the bits that both have
 pub set-and : (a b j : ℕ) → isSet (bitAnd a b) j ≡ both (isSet a j) (isSet b j)
 unfolding isSet
-set-and a b j = ap (λ (x : ℕ). eqb x 1) (bit-and a b j) ∙ go (bit a j) (bit b j) (mod-lt (a / 2 ^ j) (pow-pos 1)) (mod-lt (b / 2 ^ j) (pow-pos 1))
+set-and a b j = ap (λ (x : ℕ). eqb x 1) (bit-and a b j)
+    ∙ go (bit a j) (bit b j) (mod-lt (a / 2 ^ j) (pow-pos 1)) (mod-lt (b / 2 ^ j) (pow-pos 1))
   where
     go : (x y : ℕ) → x < 2 → y < 2 → eqb (bitAnd x y) 1 ≡ both (eqb x 1) (eqb y 1)
     go zero y h k = refl
@@ -169,15 +170,6 @@ set-and a b j = ap (λ (x : ℕ). eqb x 1) (bit-and a b j) ∙ go (bit a j) (bit
     go (suc zero) (suc zero) h k = refl
     go (suc zero) (suc (suc y)) h k = absurd (omega arith)
     go (suc (suc x)) y h k = absurd (omega arith)
-
--- the n low bits of a word, and those from n up
-pub set-low : (n w j : ℕ) → j < n → isSet (w % 2 ^ n) j ≡ isSet w j
-unfolding isSet
-set-low n w j h =
-    let d = n - suc j in
-    let e : n ≡ (d + 1) + j = omega arith in
-    ap (λ (x : ℕ). eqb (w % 2 ^ x / 2 ^ j % 2) 1) e ∙ ap (λ (x : ℕ). eqb (x % 2) 1) (field w (d + 1) j)
-    ∙ ap (λ (x : ℕ). eqb x 1) (mod-mod-pow (w / 2 ^ j) d 1)
 
 pub set-high : (n w j : ℕ) → isSet (w / 2 ^ n) j ≡ isSet w (n + j)
 unfolding isSet

@@ -1,7 +1,9 @@
--- A field of a word: j bits from bit k up. Reading it and writing it by shifts and masks, over the word's width. Assumes nothing.
+-- A field of a word: j bits from bit k up. Reading it and writing it by shifts and masks, over the word's width.
+-- Assumes nothing.
 use mathlib.Core.Path.{_≡_, ap, ap₂, _∙_, sym}
 use Prim.Native.Nat.{ℕ, zero, suc, _+_, _-_, _*_, _/_, _%_, _^_, _≤_, _<_, min, max}
-use native.Mathlib.Nat.{mod-le, div-one, pow-suc, add-zero, mul-assoc, mul-one, zero-mul, le-trans, lt-of-lt-of-le, mul-le-mul-right, div-mul-le-self}
+use native.Mathlib.Nat.{mod-le, div-one, pow-suc, add-zero, mul-assoc, mul-one, zero-mul, le-trans, lt-of-lt-of-le}
+use native.Mathlib.Nat.{mul-le-mul-right, div-mul-le-self}
 use native.Mathlib.Omega.{arith}
 use lib.Bits.{bitAnd, bitOr, and-mask, and-high, and-step, or-step, or-shifted}
 use lib.Pow.{pow-pos, pow-mono, ones-lt, shl-lt, shr-shr, shr-mod, split}
@@ -45,13 +47,15 @@ low-rest w j = let s = split w j in rw (div-one w) (omega arith)
 outside-half : (n k j : ℕ) → (2 ^ j - 1) * 2 ^ k < 2 ^ n → outside (suc n) (suc k) j / 2 ≡ outside n k j
 outside-half n k j l =
     let p = pow-suc 2 n in
-    let q : (2 ^ j - 1) * 2 ^ suc k ≡ (2 ^ j - 1) * 2 ^ k * 2 = ap (λ (x : ℕ). (2 ^ j - 1) * x) (pow-suc 2 k) ∙ sym (mul-assoc (2 ^ j - 1) (2 ^ k) 2) in
+    let q : (2 ^ j - 1) * 2 ^ suc k ≡ (2 ^ j - 1) * 2 ^ k * 2 = ap (λ (x : ℕ). (2 ^ j - 1) * x) (pow-suc 2 k)
+    ∙ sym (mul-assoc (2 ^ j - 1) (2 ^ k) 2) in
     omega arith
 
 outside-odd : (n k j : ℕ) → (2 ^ j - 1) * 2 ^ k < 2 ^ n → outside (suc n) (suc k) j % 2 ≡ 1
 outside-odd n k j l =
     let p = pow-suc 2 n in
-    let q : (2 ^ j - 1) * 2 ^ suc k ≡ (2 ^ j - 1) * 2 ^ k * 2 = ap (λ (x : ℕ). (2 ^ j - 1) * x) (pow-suc 2 k) ∙ sym (mul-assoc (2 ^ j - 1) (2 ^ k) 2) in
+    let q : (2 ^ j - 1) * 2 ^ suc k ≡ (2 ^ j - 1) * 2 ^ k * 2 = ap (λ (x : ℕ). (2 ^ j - 1) * x) (pow-suc 2 k)
+    ∙ sym (mul-assoc (2 ^ j - 1) (2 ^ k) 2) in
     omega arith
 
 fits : (i j k n : ℕ) → n ≡ i + j + k → (2 ^ j - 1) * 2 ^ k < 2 ^ n
@@ -68,7 +72,8 @@ clears-field (suc n) i j (suc k) w e l =
     let p = pow-suc 2 n in
     let x = field (w / 2) k j * 2 ^ k in
     let h : x ≤ w / 2 = field-le (w / 2) k j in
-    let f : field w (suc k) j * 2 ^ suc k ≡ x * 2 = ap₂ _*_ (field-suc w k j) (pow-suc 2 k) ∙ sym (mul-assoc (field (w / 2) k j) (2 ^ k) 2) in
+    let f : field w (suc k) j * 2 ^ suc k ≡ x * 2 = ap₂ _*_ (field-suc w k j) (pow-suc 2 k)
+    ∙ sym (mul-assoc (field (w / 2) k j) (2 ^ k) 2) in
     rw (outside-half n k j b, outside-odd n k j b) at (and-step w (outside (suc n) (suc k) j))
     ∙ ap (λ (y : ℕ). y * 2 + min (w % 2) 1) (clears-field n i j k (w / 2) (omega arith) (omega arith))
     ∙ last w x (field w (suc k) j * 2 ^ suc k) (0 * 2 ^ k) (0 * 2 ^ suc k) h f (zero-mul (2 ^ k)) (zero-mul (2 ^ suc k))
@@ -77,17 +82,20 @@ clears-field (suc n) i j (suc k) w e l =
     last w x y z u h f g o = omega arith
 
 -- `w & !(mask << k) | v << k`: the field made v
-pub puts-field : (n i j k w v : ℕ) → n ≡ i + j + k → w < 2 ^ n → v < 2 ^ j → bitOr (bitAnd w (outside n k j)) (v * 2 ^ k) ≡ withField w k j v
+pub puts-field : (n i j k w v : ℕ) → n ≡ i + j + k → w < 2 ^ n → v < 2 ^ j
+    → bitOr (bitAnd w (outside n k j)) (v * 2 ^ k) ≡ withField w k j v
 puts-field n i j zero w v e l b =
     let q : n ≡ i + j = e ∙ add-zero (i + j) in
-    rw (q, mul-one v) (ap (λ (x : ℕ). bitOr x v) (low-outside i j w (rw q at l)) ∙ or-shifted (w / 2 ^ j) j v b ∙ ap (λ (x : ℕ). x + v) (low-rest w j))
+    rw (q, mul-one v) (ap (λ (x : ℕ). bitOr x v) (low-outside i j w (rw q at l)) ∙ or-shifted (w / 2 ^ j) j v b
+    ∙ ap (λ (x : ℕ). x + v) (low-rest w j))
 puts-field zero i j (suc k) w v e l b = absurd (omega arith)
 puts-field (suc n) i j (suc k) w v e l b =
     let m = fits i j k n (omega arith) in
     let p = pow-suc 2 n in
     let x = field (w / 2) k j * 2 ^ k in
     let h : x ≤ w / 2 = field-le (w / 2) k j in
-    let f : field w (suc k) j * 2 ^ suc k ≡ x * 2 = ap₂ _*_ (field-suc w k j) (pow-suc 2 k) ∙ sym (mul-assoc (field (w / 2) k j) (2 ^ k) 2) in
+    let f : field w (suc k) j * 2 ^ suc k ≡ x * 2 = ap₂ _*_ (field-suc w k j) (pow-suc 2 k)
+    ∙ sym (mul-assoc (field (w / 2) k j) (2 ^ k) 2) in
     let g : v * 2 ^ suc k ≡ v * 2 ^ k * 2 = ap (λ (y : ℕ). v * y) (pow-suc 2 k) ∙ sym (mul-assoc v (2 ^ k) 2) in
     let a = bitAnd w (outside (suc n) (suc k) j) in
     let s : a ≡ bitAnd (w / 2) (outside n k j) * 2 + w % 2 =

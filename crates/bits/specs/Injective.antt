@@ -51,7 +51,8 @@ joined (suc w) (b ∷ bs) [] p q l = absurd (omega arith)
 joined (suc w) (b ∷ bs) (c ∷ cs) p q l =
     λ i. ap (λ (l : List ℕ). getD l 0 0) p i ∷ joined w bs cs (ap (drop 1) p) q (omega arith) i
 
-numbers-injective : (ws bs cs : List ℕ) → length bs ≡ total ws → length cs ≡ total ws → Small bs → Small cs → numbers ws bs ≡ numbers ws cs → bs ≡ cs
+numbers-injective : (ws bs cs : List ℕ) → length bs ≡ total ws → length cs ≡ total ws → Small bs → Small cs
+    → numbers ws bs ≡ numbers ws cs → bs ≡ cs
 numbers-injective [] [] [] l m p q e = refl
 numbers-injective [] [] (c ∷ cs) l m p q e = absurd (omega arith)
 numbers-injective [] (b ∷ bs) cs l m p q e = absurd (omega arith)
@@ -59,7 +60,8 @@ numbers-injective (w ∷ ws) bs cs l m p q e =
     let x = length-split w (total ws) bs l in
     let y = length-split w (total ws) cs m in
     joined w bs cs
-    (number-injective (take w bs) (take w cs) (x .0 ∙ sym (y .0)) (small-take w bs p) (small-take w cs q) (ap (λ (l : List ℕ). getD l 0 0) e))
+    (number-injective (take w bs) (take w cs) (x .0 ∙ sym (y .0)) (small-take w bs p) (small-take w cs q)
+    (ap (λ (l : List ℕ). getD l 0 0) e))
     (numbers-injective ws (drop w bs) (drop w cs) (x .1) (y .1) (small-drop w bs p) (small-drop w cs q) (ap (drop 1) e))
     (l ∙ sym m)
 
@@ -82,15 +84,18 @@ pub tells-numbers : (ws : List ℕ) → Tells (total ws) (numbers ws)
 tells-numbers ws bs cs l m p q e = numbers-injective ws bs cs l m p q e
 
 module _ (xs ys : List ℕ) (small-xs : (i : ℕ) → getD xs i 0 < 256) (small-ys : (i : ℕ) → getD ys i 0 < 256) where
-  pub one-tells : {A : Type 0} (f : List ℕ → A) (o n : ℕ) → Tells n f → f (gets ys o 0 n) ≡ f (gets xs o 0 n) → Same xs ys o (o + n)
+  pub one-tells : {A : Type 0} (f : List ℕ → A) (o n : ℕ) → Tells n f → f (gets ys o 0 n) ≡ f (gets xs o 0 n)
+      → Same xs ys o (o + n)
   one-tells f o n h e i p q =
       let g : gets ys o 0 n ≡ gets xs o 0 n = h (gets ys o 0 n) (gets xs o 0 n) (length-getsFrom ys o 0 0 n)
       (length-getsFrom xs o 0 0 n) (small-getsFrom ys small-ys o 0 0 n) (small-getsFrom xs small-xs o 0 0 n) e in
       let w : o + (i - o) ≡ i = omega arith in
-      ap (λ (j : ℕ). getD ys j 0) (sym w) ∙ sym (getD-gets ys o n (i - o) (omega arith)) ∙ ap (λ (l : List ℕ). getD l (i - o) 0) g
+      ap (λ (j : ℕ). getD ys j 0) (sym w) ∙ sym (getD-gets ys o n (i - o) (omega arith))
+      ∙ ap (λ (l : List ℕ). getD l (i - o) 0) g
       ∙ getD-gets xs o n (i - o) (omega arith) ∙ ap (λ (j : ℕ). getD xs j 0) w
 
-  pub table-tells : {A : Type 0} (f : List ℕ → A) (o n z : ℕ) (d : A) → 0 < z → Tells z f → table ys o n z f ≡ table xs o n z f → Same xs ys o (o + n * z)
+  pub table-tells : {A : Type 0} (f : List ℕ → A) (o n z : ℕ) (d : A) → 0 < z → Tells z f → table ys o n z f
+      ≡ table xs o n z f → Same xs ys o (o + n * z)
   table-tells f o n z d pos h e i p q =
       let k = (i - o) / z in
       let j = (i - o) % z in
@@ -98,5 +103,6 @@ module _ (xs ys : List ℕ) (small-xs : (i : ℕ) → getD xs i 0 < 256) (small-
       let m = mod-lt (i - o) pos in
       let l : k < n = div-lt-iff-lt-mul pos .1 (omega arith) in
       let g : f (gets ys (o + k * z) 0 z) ≡ f (gets xs (o + k * z) 0 z) =
-      sym (getD-tab (λ t. f (gets ys (o + t * z) 0 z)) n k d l) ∙ ap (λ (t : List _). getD t k d) e ∙ getD-tab (λ t. f (gets xs (o + t * z) 0 z)) n k d l in
+      sym (getD-tab (λ t. f (gets ys (o + t * z) 0 z)) n k d l) ∙ ap (λ (t : List _). getD t k d) e
+      ∙ getD-tab (λ t. f (gets xs (o + t * z) 0 z)) n k d l in
       one-tells f (o + k * z) z h g i (omega arith) (omega arith)

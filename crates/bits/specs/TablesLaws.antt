@@ -13,21 +13,25 @@ use Rattle.bits.specs.Tables.{tabFrom, tab, table}
 module _ {A : Type 0} (f g : ℕ → A) where
   tab-extFrom : (i n : ℕ) → ((j : ℕ) → i ≤ j → j < i + n → g j ≡ f j) → tabFrom i n g ≡ tabFrom i n f
   tab-extFrom i zero h = refl
-  tab-extFrom i (suc n) h = λ t. h i (omega arith) (omega arith) t ∷ tab-extFrom (i + 1) n (λ j a b. h j (omega arith) (omega arith)) t
+  tab-extFrom i (suc n) h = λ t. h i (omega arith) (omega arith) t
+      ∷ tab-extFrom (i + 1) n (λ j a b. h j (omega arith) (omega arith)) t
 
   pub tab-ext : (n : ℕ) → ((j : ℕ) → j < n → g j ≡ f j) → tab n g ≡ tab n f
   tab-ext n h = tab-extFrom 0 n (λ j a b. h j (omega arith))
 
-  tab-setFrom : (i n e : ℕ) (v : A) → e < n → g (i + e) ≡ v → ((j : ℕ) → j < i + n → j ≢ i + e → g j ≡ f j) → tabFrom i n g ≡ set (tabFrom i n f) e v
+  tab-setFrom : (i n e : ℕ) (v : A) → e < n → g (i + e) ≡ v → ((j : ℕ) → j < i + n → j ≢ i + e → g j ≡ f j)
+      → tabFrom i n g ≡ set (tabFrom i n f) e v
   tab-setFrom i zero e v l s h = absurd (omega arith)
   tab-setFrom i (suc n) zero v l s h =
       λ t. (rw (add-zero) at s) t ∷ tab-extFrom (i + 1) n (λ j a b. h j (omega arith) (λ e. omega arith)) t
   tab-setFrom i (suc n) (suc e) v l s h =
       let w : i + 1 + e ≡ i + suc e = omega arith in
-      λ t. h i (omega arith) (λ e. omega arith) t ∷ tab-setFrom (i + 1) n e v (omega arith) (ap g w ∙ s) (λ j b d. h j (omega arith) (λ q. d (q ∙ sym w))) t
+      λ t. h i (omega arith) (λ e. omega arith) t ∷ tab-setFrom (i + 1) n e v (omega arith) (ap g w ∙ s)
+      (λ j b d. h j (omega arith) (λ q. d (q ∙ sym w))) t
 
   -- a table of which one value changed
-  pub tab-set : (n e : ℕ) (v : A) → e < n → g e ≡ v → ((j : ℕ) → j < n → j ≢ e → g j ≡ f j) → tab n g ≡ set (tab n f) e v
+  pub tab-set : (n e : ℕ) (v : A) → e < n → g e ≡ v → ((j : ℕ) → j < n → j ≢ e → g j ≡ f j) → tab n g
+      ≡ set (tab n f) e v
   tab-set n e v l s h =
       let w : 0 + e ≡ e = omega arith in
       tab-setFrom 0 n e v l (ap g w ∙ s) (λ j b d. h j (omega arith) (λ q. d (q ∙ sym w)))
@@ -72,7 +76,8 @@ module _ {A : Type 0} (f : List ℕ → A) (o n z : ℕ) where
       let b = next k n z l in
       tab-set (λ j. f (gets xs (o + j * z) 0 z)) (λ j. f (gets ys (o + j * z) 0 z)) n k r l
       (ap f (subst (λ (m : ℕ). gets ys (o + k * z) 0 m ≡ bs) e (gets-puts xs (o + k * z) bs (omega arith))) ∙ p)
-      (λ j m d. ap f (gets-same xs ys (o + j * z) z (puts-same xs (o + k * z) bs (o + j * z) (o + j * z + z) (side j d))))
+      (λ j m d. ap f (gets-same xs ys (o + j * z) z (puts-same xs (o + k * z) bs (o + j * z) (o + j * z + z)
+      (side j d))))
     where
       side : (j : ℕ) → j ≢ k → (o + j * z + z ≤ o + k * z) ⊎ (o + k * z + length bs ≤ o + j * z)
       side j d = ⊎-elim (λ (h : j < k). inl (let b = next j k z h in omega arith))

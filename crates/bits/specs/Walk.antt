@@ -1,5 +1,5 @@
--- The walk over a 16-bit mask, lowest bit first: the list of the set bits, its first and the mask of the others. WalkLaws.antt proves: it has
--- exactly the set bits, each once, rising. Assumes nothing.
+-- The walk over a 16-bit mask, lowest bit first: the list of the set bits, its first and the mask of the others.
+-- WalkLaws.antt proves: it has exactly the set bits, each once, rising. Assumes nothing.
 use mathlib.Core.Bool.{false}
 use mathlib.Core.List.{List, [], _∷_}
 use Prim.Native.Nat.{ℕ, zero, suc, _/_, _%_}

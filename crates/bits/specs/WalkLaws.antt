@@ -7,7 +7,7 @@ use Prim.Native.Nat.{ℕ, zero, suc, _+_, _-_, _/_, _%_, _^_, _≤_, _<_}
 use native.Mathlib.Nat.{add-suc, suc-add, add-zero, zero-add, mod-lt, pow-suc, eq-zero-or-pos}
 use native.Mathlib.Omega.{arith}
 use lib.Bits.{bitAnd, and-step, and-self, and-le-r, and-zero-l}
-use lib.Count.{trailingZeros, trailing-of-zero}
+use lib.Count.{trailingZeros}
 use lib.ListN.{length}
 use lib.Pow.{pow-pos}
 use Rattle.bits.specs.Bit.{bit, isSet, withBit}
@@ -40,7 +40,8 @@ unfolding bitsFrom
 set-in zero i m e h b = absurd (omega arith)
 set-in (suc k) i m zero h b = let o : m % 2 ≡ 1 = omega arith in rw o (inl (add-zero i))
 set-in (suc k) i m (suc e) h b =
-    rw (add-suc i e, ← suc-add i e) (in-more (m % 2) i (suc i + e) _ (set-in k (suc i) (m / 2) e (omega arith) (sym (bit-suc m e) ∙ b)))
+    rw (add-suc i e, ← suc-add i e) (in-more (m % 2) i (suc i + e) _
+    (set-in k (suc i) (m / 2) e (omega arith) (sym (bit-suc m e) ∙ b)))
 
 in-set : (k i m x : ℕ) → In x (bitsFrom k i m) → (e : ℕ) × (e < k) × (x ≡ i + e) × (bit m e ≡ 1)
 unfolding bitsFrom
@@ -52,7 +53,13 @@ in-set (suc k) i m x p = go (m % 2) refl p (λ q. in-set k (suc i) (m / 2) x q)
         → (e : ℕ) × (e < suc k) × (x ≡ i + e) × (bit m e ≡ 1)
     go zero z p ih = let r = ih p in (suc (r .0), omega (arith, r .1), omega (arith, r .2), bit-suc m (r .0) ∙ r .3)
     go (suc d) z (inl q) ih = (zero, omega arith, omega arith, omega (arith, mod-lt m (pow-pos 1)))
-    go (suc d) z (inr q) ih = let r = ih q in (suc (r .0), omega (arith, r .1), omega (arith, r .2), bit-suc m (r .0) ∙ r .3)
+    go (suc d) z (inr q) ih = let r = ih q in (
+      suc (r .0),
+      omega (arith, r .1),
+      omega (arith, r .2),
+      bit-suc m (r .0)
+          ∙ r .3,
+    )
 
 later : (i : ℕ) (l : List ℕ) → Rising (suc i) l → Rising i l
 later i [] r = tt
@@ -73,7 +80,8 @@ walks-set m e h b = rw (zero-add e) at (set-in 16 0 m e h (set-one m e b))
 
 -- what is walked is a set bit
 pub walked-set : (m e : ℕ) → In e (setBits m) → (e < 16) × (isSet m e ≡ true)
-walked-set m e p = let r = in-set 16 0 m e p in let q : e ≡ r .0 = r .2 ∙ zero-add (r .0) in rw q (r .1, one-set m (r .0) (r .3))
+walked-set m e p = let r = in-set 16 0 m e p in let q : e ≡ r .0 = r .2
+    ∙ zero-add (r .0) in rw q (r .1, one-set m (r .0) (r .3))
 
 -- in rising order
 pub walk-rises : (m : ℕ) → Rising 0 (setBits m)
@@ -103,18 +111,9 @@ parity n = go (n % 2) (mod-lt n (pow-pos 1))
     go (suc zero) h = inr refl
     go (suc (suc b)) h = absurd (omega arith)
 
-trailing-lt : (k m : ℕ) → 0 < m → m < 2 ^ k → trailingZeros k m < k
-unfolding trailingZeros
-trailing-lt zero m p h = absurd (omega arith)
-trailing-lt (suc k) m p h =
-    let e = pow-suc 2 k in
-    ⊎-elim
-    (λ (z : m % 2 ≡ 0). let ih = trailing-lt k (m / 2) (omega arith) (omega arith) in rw z (omega arith))
-    (λ (o : m % 2 ≡ 1). rw o (omega arith))
-    (parity m)
-
 -- what `m & (m - 1)` is above its lowest bit, which is 0
-even-rest : (m : ℕ) → 0 < m → m % 2 ≡ 0 → (bitAnd m (m - 1) % 2 ≡ 0) × (bitAnd m (m - 1) / 2 ≡ bitAnd (m / 2) (m / 2 - 1))
+even-rest : (m : ℕ) → 0 < m → m % 2 ≡ 0 → (bitAnd m (m - 1) % 2 ≡ 0)
+    × (bitAnd m (m - 1) / 2 ≡ bitAnd (m / 2) (m / 2 - 1))
 even-rest m p z =
     let q : (m - 1) / 2 ≡ m / 2 - 1 = omega arith in
     let r : (m - 1) % 2 ≡ 1 = omega arith in
@@ -153,7 +152,8 @@ bits-step (suc k) i m p h =
     (λ (z : m % 2 ≡ 0).
     let c = even-rest m p z in
     rw (z, c .0, c .1) (bits-step k (suc i) (m / 2) (omega arith) (omega arith)
-    ∙ ap (λ (x : ℕ). x ∷ bitsFrom k (suc i) (bitAnd (m / 2) (m / 2 - 1))) (suc-add i (trailingZeros k (m / 2)) ∙ sym (add-suc i (trailingZeros k (m / 2))))))
+    ∙ ap (λ (x : ℕ). x ∷ bitsFrom k (suc i) (bitAnd (m / 2) (m / 2 - 1))) (suc-add i (trailingZeros k (m / 2))
+    ∙ sym (add-suc i (trailingZeros k (m / 2))))))
     (λ (o : m % 2 ≡ 1).
     let c = odd-rest m o in
     rw (o, c .0, c .1) (ap (λ (x : ℕ). x ∷ bitsFrom k (suc i) (m / 2)) (sym (add-zero i))))
@@ -175,15 +175,8 @@ rest-code m n h l e =
     (λ (p : 0 < m). let q : n ≡ m - 1 = omega arith in rw q (rest-and m p h))
     (eq-zero-or-pos m)
 
--- an empty mask has no next endpoint and no walk
-pub lowest-none : lowest 0 ≡ 16
-lowest-none = trailing-of-zero 16
-
 pub walk-none : setBits 0 ≡ []
 walk-none = bits-none 16 0
-
-pub lowest-lt : (m : ℕ) → 0 < m → m < 2 ^ 16 → lowest m < 16
-lowest-lt m p h = trailing-lt 16 m p h
 
 -- the rest is less, so the walk ends
 pub rest-lt : (m : ℕ) → 0 < m → m < 2 ^ 16 → rest m < m
@@ -205,6 +198,7 @@ pub each-none : {S : Type 0} (f : S → ℕ → S) (s : S) → each f s (setBits
 unfolding each
 each-none f s = ap (each f s) walk-none
 
-pub each-step : {S : Type 0} (f : S → ℕ → S) (s : S) (m : ℕ) → 0 < m → m < 2 ^ 16 → each f s (setBits m) ≡ each f (f s (lowest m)) (setBits (rest m))
+pub each-step : {S : Type 0} (f : S → ℕ → S) (s : S) (m : ℕ) → 0 < m → m < 2 ^ 16 → each f s (setBits m)
+    ≡ each f (f s (lowest m)) (setBits (rest m))
 unfolding each
 each-step f s m p h = ap (each f s) (walk-step m p h)

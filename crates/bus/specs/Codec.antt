@@ -1,4 +1,5 @@
--- A point as numbers, and back: which point, its direction, enabled, isochronous or suspended, a count or a result, its endpoint
+-- A point as numbers, and back: which point, its direction, enabled, isochronous or suspended, a count or a result, its
+-- endpoint
 use mathlib.Core.Bool.{cond}
 use Prim.Native.Nat.{ℕ}
 use lib.Dec.{eqb}

@@ -1,6 +1,6 @@
 -- The loop of a reset, step by step. Assumes nothing.
 use mathlib.Core.Path.{_≡_, refl, ap, _∙_}
-use mathlib.Core.Bool.{true, false}
+use mathlib.Core.Bool.{false}
 use Prim.Native.Nat.{ℕ, suc, _+_, _-_, _<_, _≤_}
 use native.Mathlib.Numerals.{add-one}
 use native.Mathlib.Omega.{arith}
@@ -36,5 +36,6 @@ nak-none e h t = ap (λ (n : ℕ). naks n (suc e) t) (over e h)
 
 pub nak-more : (e : ℕ) → e < 15 → (t : St)
     → run concrete (nakAll {i = false} (15 - e) (suc e)) t ≡ asks (Write EpTxCtrl (e + 1) (wordOf NAK DATA0 false)) t
-    (λ _ u. asks (Write EpRxCtrl (e + 1) (wordOf NAK DATA0 false)) u (λ _ x. run concrete (nakAll {i = false} (15 - (e + 1)) (suc (e + 1))) x))
+    (λ _ u. asks (Write EpRxCtrl (e + 1) (wordOf NAK DATA0 false)) u
+    (λ _ x. run concrete (nakAll {i = false} (15 - (e + 1)) (suc (e + 1))) x))
 nak-more e h t = rw (add-one e) (ap (λ (n : ℕ). naks n (suc e) t) (gap e h) ∙ step (15 - suc e) (suc e) t)

@@ -27,7 +27,8 @@ pub switch-type : (e : ℕ) (on : Bool) (t : St) → switching e on 2 t
 unfolding switching
 switch-type e on t = refl
 
-pub switch-word : (e : ℕ) (on : Bool) (t : St) → switching e on 3 t ≡ asks (Write EpRxCtrl e (cond on 1 2)) t (λ _ u. switching e on 2 u)
+pub switch-word : (e : ℕ) (on : Bool) (t : St) → switching e on 3 t
+    ≡ asks (Write EpRxCtrl e (cond on 1 2)) t (λ _ u. switching e on 2 u)
 unfolding switching
 switch-word e on t = refl
 

@@ -20,7 +20,8 @@ use Rattle.state.specs.State.{view}
 use Rattle.script.specs.Tree as tree
 use Rattle.script.specs.Tree.{asks, ends, bindOut}
 use Rattle.script.specs.Cells.{globals-cell}
-use Rattle.script.specs.Script.{Script, run, rows, ret, done, test, _>>=_, _>>_, read, write, get, act, row, when, set-enabled, switch, bus-reset}
+use Rattle.script.specs.Script.{Script, run, rows, ret, done, test, _>>=_, _>>_, read, write, get, act, row, when}
+use Rattle.script.specs.Script.{set-enabled, switch, bus-reset}
 use Rattle.script.specs.Statics.{flag, completed, renewed, withArmed, modifyEp, modifyIntEn, wake, wakeAll}
 use Rattle.script.specs.Machine.{Awaits, nothing, reading, awaited}
 use Rattle.script.specs.Bus.{nakAll, busReset, kept, setEnabledOut}
@@ -128,7 +129,8 @@ afterPlaced e iso on = do
 unfoldable pub switching : ℕ → Bool → ℕ → tree.Prog St ℕ
 switching e on zero t = run concrete (woken Out e) t
 switching e on (suc n) t = bindOut
-    (bindOut (rows concrete (switch e on) n (λ u. run concrete (done {i = false}) u) t) (λ _ u. run concrete (wake {i = false} Out e) u))
+    (bindOut (rows concrete (switch e on) n (λ u. run concrete (done {i = false}) u) t)
+    (λ _ u. run concrete (wake {i = false} Out e) u))
     (λ _ u. ends 0 u)
 
 -- ---- points

@@ -18,7 +18,8 @@ use Rattle.script_ops.specs.Records.{plainOf, merged, isoOut}
 use Rattle.script_ops.specs.Rings.{St, emptied, emptiedOn, placeOn}
 use Rattle.script_ops.specs.Concrete.{go}
 use Rattle.bus.specs.declared.Point.the-variants as point
-use Rattle.bus.specs.Points.{resultless, woken, resetAs, renewedAs, enabledOut, afterPlaced, afterWords, switching, denote}
+use Rattle.bus.specs.Points.{resultless, woken, resetAs, renewedAs, enabledOut, afterPlaced, afterWords}
+use Rattle.bus.specs.Points.{switching, denote}
 
 -- ---- a record reset, in the script's two changes
 
@@ -29,7 +30,8 @@ both : (x : EpState) (armed : ℕ) → change (emptied x) armed ≡ resetAs x ar
 unfolding emptied
 both x armed = refl
 
-ring-emptied : (d : Driver) (dir : Dir) (e : ℕ) → isoOut d dir e ≡ false → emptiedOn d dir e ≡ withOn d dir e (emptied (epOn d dir e))
+ring-emptied : (d : Driver) (dir : Dir) (e : ℕ) → isoOut d dir e ≡ false → emptiedOn d dir e
+    ≡ withOn d dir e (emptied (epOn d dir e))
 unfolding emptiedOn
 ring-emptied d dir e h = rw h refl
 
@@ -37,7 +39,8 @@ pub renew-both : (d : Driver) → Sized d → (dir : Dir) (e armed : ℕ)
     → isoOut d dir e ≡ false → renewedAs d dir e armed ≡ withOn d dir e (resetAs (epOn d dir e) armed)
 renew-both d s dir e armed h =
     ap (λ (x : Driver). withOn x dir e (change (epOn x dir e) armed)) (ring-emptied d dir e h)
-    ∙ (withOn-twice d dir e (emptied (epOn d dir e)) (change (epOn (withOn d dir e (emptied (epOn d dir e))) dir e) armed)
+    ∙ (withOn-twice d dir e (emptied (epOn d dir e)) (change (epOn (withOn d dir e (emptied (epOn d dir e))) dir e)
+    armed)
     ∙ (ap (λ (r : EpState). withOn d dir e (change r armed)) (epOn-same d dir e (emptied (epOn d dir e)) s)
     ∙ ap (withOn d dir e) (both (epOn d dir e) armed)))
 
@@ -48,7 +51,8 @@ chosen e on iso = resultless (do
   test iso (row (switch e on)) (setEnabledOut e on)
   wake Out e)
 
-asked : (e : ℕ) (on : Bool) (d : Driver) (b : List ℕ) (iso : Bool) → isoOut d Out e ≡ iso → go (resultless (setEnabled Out e on)) d b ≡ go (chosen e on iso) d b
+asked : (e : ℕ) (on : Bool) (d : Driver) (b : List ℕ) (iso : Bool) → isoOut d Out e ≡ iso
+    → go (resultless (setEnabled Out e on)) d b ≡ go (chosen e on iso) d b
 unfolding isoOut
 asked e on d b iso h = ap (λ (x : Bool). go (chosen e on x) d b) h
 
@@ -58,7 +62,8 @@ row-begun e on d b = refl
 
 pub enable-iso : (dir : Dir) (e : ℕ) (on : Bool) (d : Driver) (b : List ℕ)
     → dir ≡ Out → isoOut d Out e ≡ true → go (resultless (setEnabled dir e on)) d b ≡ switching e on 19 (d, b)
-enable-iso dir e on d b p h = ap (λ (x : Dir). go (resultless (setEnabled x e on)) d b) p ∙ (asked e on d b true h ∙ row-begun e on d b)
+enable-iso dir e on d b p h = ap (λ (x : Dir). go (resultless (setEnabled x e on)) d b) p
+    ∙ (asked e on d b true h ∙ row-begun e on d b)
 
 pub enable-out : (dir : Dir) (e : ℕ) (on : Bool) (d : Driver) (b : List ℕ)
     → dir ≡ Out → isoOut d Out e ≡ false → go (resultless (setEnabled dir e on)) d b ≡ go (enabledOut e on) d b

@@ -43,7 +43,8 @@ pub fn poll(s: &mut State) -> Next
 // The suspend interrupt is enabled again (mod.rs 1254); the event is by the status.
 pub fn after_released(s: &mut State) -> Access
     ensures { λ r. ⌜ ((down : Bool) (b : List ℕ) →
-        meaning (Next.Asks r (Point.Event (cond down 3 4))) (view (now (s .exit))) b ≡ go (afterReleased down) (view (now (s .entry))) b) ⌝ }
+        meaning (Next.Asks r (Point.Event (cond down 3 4))) (view (now (s .exit))) b
+        ≡ go (afterReleased down) (view (now (s .entry))) b) ⌝ }
     ensures { λ _. ⌜ saved (now (s .exit)) ≡ saved (now (s .entry)) ⌝ }
     ensures { λ r. ⌜ ((n : ℕ) → Linked (Next.Asks r (Point.Event n))) ⌝ }
 {
@@ -62,7 +63,8 @@ fn nak_word() -> u32
 
 // `bus_reset` (mod.rs 1187-1221): EP0's OUT answers ACK, all else NAK.
 pub fn after_address() -> Access
-    ensures { λ r. ⌜ ((v : ℕ) (d : Driver) (b : List ℕ) → meaning (Next.Asks r Point.Ep0Out) d b ≡ denote Point.Address v (d, b)) ⌝ }
+    ensures { λ r. ⌜ ((v : ℕ) (d : Driver) (b : List ℕ) → meaning (Next.Asks r Point.Ep0Out) d b
+        ≡ denote Point.Address v (d, b)) ⌝ }
     ensures { λ r. ⌜ Linked (Next.Asks r Point.Ep0Out) ⌝ }
 {
     let word = control_word::word_of(control_word::ACK, control_word::DATA0, false);
@@ -70,14 +72,16 @@ pub fn after_address() -> Access
 }
 
 pub fn after_ep0_out() -> Access
-    ensures { λ r. ⌜ ((v : ℕ) (d : Driver) (b : List ℕ) → meaning (Next.Asks r (Point.Naked 0)) d b ≡ denote Point.Ep0Out v (d, b)) ⌝ }
+    ensures { λ r. ⌜ ((v : ℕ) (d : Driver) (b : List ℕ) → meaning (Next.Asks r (Point.Naked 0)) d b
+        ≡ denote Point.Ep0Out v (d, b)) ⌝ }
     ensures { λ r. ⌜ Linked (Next.Asks r (Point.Naked 0)) ⌝ }
 {
     Access::Write(Reg::EpTxCtrl, 0, nak_word())
 }
 
 pub fn after_nak_in(e: u8) -> Access
-    ensures { λ r. ⌜ ((v : ℕ) (d : Driver) (b : List ℕ) → meaning (Next.Asks r (Point.Naked e)) d b ≡ denote (Point.NakIn e) v (d, b)) ⌝ }
+    ensures { λ r. ⌜ ((v : ℕ) (d : Driver) (b : List ℕ) → meaning (Next.Asks r (Point.Naked e)) d b
+        ≡ denote (Point.NakIn e) v (d, b)) ⌝ }
     ensures { λ r. ⌜ Linked (Next.Asks r (Point.Naked e)) ⌝ }
 {
     Access::Write(Reg::EpRxCtrl, e, nak_word())
@@ -86,7 +90,8 @@ pub fn after_nak_in(e: u8) -> Access
 // The next endpoint.
 pub fn after_naked(e: u8) -> Access
     requires { ⌜ e < 15 ⌝ }
-    ensures { λ r. ⌜ ((d : Driver) (b : List ℕ) → meaning (Next.Asks r (Point.NakIn (e + 1))) d b ≡ go (afterNaked e) d b) ⌝ }
+    ensures { λ r. ⌜ ((d : Driver) (b : List ℕ) → meaning (Next.Asks r (Point.NakIn (e + 1))) d b
+        ≡ go (afterNaked e) d b) ⌝ }
     ensures { λ r. ⌜ Linked (Next.Asks r (Point.NakIn (e + 1))) ⌝ }
 {
     Access::Write(Reg::EpTxCtrl, e + 1, nak_word())
@@ -113,7 +118,8 @@ pub fn after_disabled(s: &mut State) -> Access
 }
 
 pub fn after_untyped() -> Access
-    ensures { λ r. ⌜ ((v : ℕ) (d : Driver) (b : List ℕ) → meaning (Next.Asks r Point.Single) d b ≡ denote Point.Untyped v (d, b)) ⌝ }
+    ensures { λ r. ⌜ ((v : ℕ) (d : Driver) (b : List ℕ) → meaning (Next.Asks r Point.Single) d b
+        ≡ denote Point.Untyped v (d, b)) ⌝ }
     ensures { λ r. ⌜ Linked (Next.Asks r Point.Single) ⌝ }
 {
     Access::Write(Reg::EpBufMod, 0, 0)
@@ -131,7 +137,8 @@ pub fn after_single(s: &mut State) -> Access
 
 // All are woken, and the reset interrupt is enabled again (mod.rs 1218-1220, 1247).
 pub fn after_reset(s: &mut State) -> Access
-    ensures { λ r. ⌜ ((b : List ℕ) → meaning (Next.Asks r (Point.Event 2)) (view (now (s .exit))) b ≡ go afterReset (view (now (s .entry))) b) ⌝ }
+    ensures { λ r. ⌜ ((b : List ℕ) → meaning (Next.Asks r (Point.Event 2)) (view (now (s .exit))) b
+        ≡ go afterReset (view (now (s .entry))) b) ⌝ }
     ensures { λ _. ⌜ saved (now (s .exit)) ≡ saved (now (s .entry)) ⌝ }
     ensures { λ r. ⌜ Linked (Next.Asks r (Point.Event 2)) ⌝ }
 {

@@ -1,5 +1,5 @@
-// The bus goes on (mod.rs 1187-1266): enable, poll with reset, suspend and resume, one access at a time. Every function is total: any number is
-// safe.
+// The bus goes on (mod.rs 1187-1266): enable, poll with reset, suspend and resume, one access at a time. Every function
+// is total: any number is safe.
 use crate::Next;
 use crate::Point;
 use crate::event::poll;
@@ -23,7 +23,8 @@ pub fn enable() -> Next
 }
 
 pub fn after_enable(v: u32) -> Access
-    ensures { λ r. ⌜ ((d : Driver) (b : List ℕ) → meaning (Next.Asks r (Point.Event 0)) d b ≡ denote Point.Enable v (d, b)) ⌝ }
+    ensures { λ r. ⌜ ((d : Driver) (b : List ℕ) → meaning (Next.Asks r (Point.Event 0)) d b
+        ≡ denote Point.Enable v (d, b)) ⌝ }
     ensures { λ r. ⌜ Linked (Next.Asks r (Point.Event 0)) ⌝ }
 {
     Access::Write(Reg::Ctrl, 0, regs::ctrl::pulled_up(v))

@@ -24,7 +24,8 @@ fn switch_word(on: bool) -> u32
     2
 }
 
-// An isochronous OUT (mod.rs 1285-1311): every slot armed from the last, its control word, ep_type, ep_config. `n` of these are left.
+// An isochronous OUT (mod.rs 1285-1311): every slot armed from the last, its control word, ep_type, ep_config. `n` of
+// these are left.
 pub fn after_switch(s: &mut State, buf: &mut [u8], e: u8, on: bool, n: u8) -> Access
     requires { ⌜ 0 < n ⌝ }
     ensures { λ r. ⌜ meaning (Next.Asks r (Point.Switch e on (n - 1))) (view (now (s .exit))) (now (buf .exit))

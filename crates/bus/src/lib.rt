@@ -1,4 +1,5 @@
-// The bus (mod.rs 1053-1106, 1187-1330): the points of its operations, one access at a time. Every function is total: any number is safe.
+// The bus (mod.rs 1053-1106, 1187-1330): the points of its operations, one access at a time. Every function is total:
+// any number is safe.
 use regs::Access;
 use regs::Dir;
 

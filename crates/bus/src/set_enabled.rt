@@ -30,7 +30,8 @@ ghost use Rattle.script.specs.Bus as script;
 ghost use Rattle.script_ops.specs.Means.{MeansFrom, MeansWithSlots};
 ghost use Rattle.script_ops.specs.Concrete.{concrete, go};
 ghost use Rattle.script_ops.specs.Records.{isoOut};
-ghost use Rattle.bus.specs.Points.{resultless, renewedAs, enabledOut, afterType, afterWords, afterPlaced, denote, meaning, Linked};
+ghost use Rattle.bus.specs.Points.{resultless, renewedAs, enabledOut, afterType, afterWords, afterPlaced, denote};
+ghost use Rattle.bus.specs.Points.{meaning, Linked};
 
 // The record reset, and armed or not.
 fn renew(s: &mut State, dir: Dir, e: u8, armed: u8)
@@ -47,7 +48,8 @@ fn renew(s: &mut State, dir: Dir, e: u8, armed: u8)
 // Not isochronous: armed as soon as it is enabled (mod.rs 1279-1282, 1296).
 fn set_enabled_out(s: &mut State, e: u8, on: bool) -> Next
     requires { ⌜ isoOut (view (now s)) Dir.Out e ≡ false ⌝ }
-    ensures { λ r. ⌜ MeansFrom (meaning r) (Linked r) (run concrete (enabledOut e on)) (now (s .entry)) (now (s .exit)) ⌝ }
+    ensures { λ r. ⌜ MeansFrom (meaning r) (Linked r) (run concrete (enabledOut e on)) (now (s .entry))
+        (now (s .exit)) ⌝ }
 {
     renew(s, Dir::Out, e, flag_of(on));
     let at = place(s, Dir::Out, e);
@@ -55,7 +57,8 @@ fn set_enabled_out(s: &mut State, e: u8, on: bool) -> Next
 }
 
 fn set_enabled_in(s: &mut State, e: u8, on: bool) -> Next
-    ensures { λ r. ⌜ MeansFrom (meaning r) (Linked r) (run concrete (resultless (script.setEnabled Dir.In e on))) (now (s .entry)) (now (s .exit)) ⌝ }
+    ensures { λ r. ⌜ MeansFrom (meaning r) (Linked r) (run concrete (resultless (script.setEnabled Dir.In e on)))
+        (now (s .entry)) (now (s .exit)) ⌝ }
 {
     let r = load_ep(s, Dir::In, e);
     let iso = is_on(r.iso);
@@ -102,7 +105,8 @@ pub fn after_placed_out(e: u8, on: bool) -> Access
 }
 
 pub fn after_placed_in(e: u8) -> Access
-    ensures { λ r. ⌜ ((iso on : Bool) (v : ℕ) (d : Driver) (b : List ℕ) → meaning (Next.Asks r (Point.NoLength e iso on)) d b
+    ensures { λ r. ⌜ ((iso on : Bool) (v : ℕ) (d : Driver) (b : List ℕ)
+        → meaning (Next.Asks r (Point.NoLength e iso on)) d b
         ≡ denote (Point.PlacedIn e iso on) v (d, b)) ⌝ }
     ensures { λ r. ⌜ ((iso on : Bool) → Linked (Next.Asks r (Point.NoLength e iso on))) ⌝ }
 {
@@ -129,7 +133,8 @@ fn in_word(iso: bool, on: bool) -> u8
 }
 
 pub fn after_no_length(e: u8, iso: bool, on: bool) -> Access
-    ensures { λ r. ⌜ ((d : Driver) (b : List ℕ) → meaning (Next.Asks r (Point.Words Dir.In e iso on)) d b ≡ go (afterPlaced e iso on) d b) ⌝ }
+    ensures { λ r. ⌜ ((d : Driver) (b : List ℕ) → meaning (Next.Asks r (Point.Words Dir.In e iso on)) d b
+        ≡ go (afterPlaced e iso on) d b) ⌝ }
     ensures { λ r. ⌜ Linked (Next.Asks r (Point.Words Dir.In e iso on)) ⌝ }
 {
     let word = in_word(iso, on);

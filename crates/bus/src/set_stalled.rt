@@ -75,7 +75,8 @@ fn restarted_in(e: u8, r: EpState) -> u8
 
 // The toggle restarts, and the control word.
 fn restart(s: &mut State, dir: Dir, e: u8) -> Next
-    ensures { λ r. ⌜ MeansFrom (meaning r) (Linked r) (run concrete (resultless (script.setStalled dir e false))) (now (s .entry)) (now (s .exit)) ⌝ }
+    ensures { λ r. ⌜ MeansFrom (meaning r) (Linked r) (run concrete (resultless (script.setStalled dir e false)))
+        (now (s .entry)) (now (s .exit)) ⌝ }
 {
     let r = load_ep(s, dir, e);
     let mut t = r;
@@ -102,7 +103,8 @@ fn restart(s: &mut State, dir: Dir, e: u8) -> Next
 
 // `set_endpoint_stalled` (mod.rs 1053-1099).
 pub fn set_endpoint_stalled(s: &mut State, dir: Dir, e: u8, on: bool) -> Next
-    ensures { λ r. ⌜ MeansFrom (meaning r) (Linked r) (run concrete (resultless (script.setStalled dir e on))) (now (s .entry)) (now (s .exit)) ⌝ }
+    ensures { λ r. ⌜ MeansFrom (meaning r) (Linked r) (run concrete (resultless (script.setStalled dir e on)))
+        (now (s .entry)) (now (s .exit)) ⌝ }
 {
     if !on {
         return restart(s, dir, e);
@@ -117,7 +119,8 @@ pub fn set_endpoint_stalled(s: &mut State, dir: Dir, e: u8, on: bool) -> Next
 }
 
 pub fn after_stall_len(e: u8) -> Access
-    ensures { λ r. ⌜ ((v : ℕ) (d : Driver) (b : List ℕ) → meaning (Next.Asks r (Point.StallWord Dir.In e)) d b ≡ denote (Point.StallLen e) v (d, b)) ⌝ }
+    ensures { λ r. ⌜ ((v : ℕ) (d : Driver) (b : List ℕ) → meaning (Next.Asks r (Point.StallWord Dir.In e)) d b
+        ≡ denote (Point.StallLen e) v (d, b)) ⌝ }
     ensures { λ r. ⌜ Linked (Next.Asks r (Point.StallWord Dir.In e)) ⌝ }
 {
     Access::Read(Reg::EpTxCtrl, e)
@@ -125,7 +128,8 @@ pub fn after_stall_len(e: u8) -> Access
 
 pub fn after_stall_word(dir: Dir, e: u8, v: u32) -> Access
     requires { ⌜ fitsIn v 8 ≡ true ⌝ }
-    ensures { λ r. ⌜ ((d : Driver) (b : List ℕ) → meaning (Next.Asks r (Point.Woken dir e)) d b ≡ go (afterStallWord dir e v) d b) ⌝ }
+    ensures { λ r. ⌜ ((d : Driver) (b : List ℕ) → meaning (Next.Asks r (Point.Woken dir e)) d b
+        ≡ go (afterStallWord dir e v) d b) ⌝ }
     ensures { λ r. ⌜ Linked (Next.Asks r (Point.Woken dir e)) ⌝ }
 {
     let word = control_word::stall(byte(v));
@@ -134,7 +138,8 @@ pub fn after_stall_word(dir: Dir, e: u8, v: u32) -> Access
 
 // A write waiting on the stalled endpoint finishes; its data is dropped (mod.rs 1093-1098). The endpoint is woken.
 pub fn after_restart(s: &mut State, e: u8, iso: bool)
-    ensures { λ _. ⌜ ((b : List ℕ) → ends 0 (view (now (s .exit)), b) ≡ go (afterRestart e iso) (view (now (s .entry))) b) ⌝ }
+    ensures { λ _. ⌜ ((b : List ℕ) → ends 0 (view (now (s .exit)), b)
+        ≡ go (afterRestart e iso) (view (now (s .entry))) b) ⌝ }
     ensures { λ _. ⌜ saved (now (s .exit)) ≡ saved (now (s .entry)) ⌝ }
 {
     if iso {

@@ -1,4 +1,5 @@
--- Bus time as a shared limit (document 02, request Seven): the record that up to four drivers share, a list of 4 times 32 charges
+-- Bus time as a shared limit (document 02, request Seven): the record that up to four drivers share, a list of 4 times
+-- 32 charges
 use mathlib.Core.Bool.{Bool, cond}
 use mathlib.Core.List.{List}
 use Prim.Native.Nat.{ℕ, zero, suc, _+_, _*_, _%_}
@@ -12,8 +13,8 @@ use Rattle.regs.specs.Enables.{place}
 abbrev pub PERIODIC : ℕ
 PERIODIC = 6000
 
--- "every enabled isochronous endpoint its maximum plus 38 byte-times and every enabled interrupt endpoint its maximum plus 55, once a
--- microframe"; kinds 1 isochronous, 3 interrupt
+-- "every enabled isochronous endpoint its maximum plus 38 byte-times and every enabled interrupt endpoint its maximum
+-- plus 55, once a microframe"; kinds 1 isochronous, 3 interrupt
 unfoldable pub chargeOf : ℕ → ℕ → ℕ
 chargeOf kind maximum = cond (eqb kind 1) (maximum + 38) (cond (eqb kind 3) (maximum + 55) 0)
 
@@ -44,7 +45,8 @@ entryKept config bit charge = cond (isSet config bit) charge 0
 -- the first n of the charges from a place on
 unfoldable pub kept : ℕ → ℕ → ℕ → List ℕ → List ℕ
 kept config first zero t = t
-kept config first (suc n) t = set (kept config first n t) (first + n) (entryKept config n (getD (kept config first n t) (first + n) 0))
+kept config first (suc n) t = set (kept config first n t) (first + n)
+    (entryKept config n (getD (kept config first n t) (first + n) 0))
 
 -- a driver's charges
 unfoldable pub keepOf : ℕ → ℕ → List ℕ → List ℕ

@@ -43,11 +43,13 @@ length-keep driver config t = length-kept config (driver % 4 * 32) 32 t
 tested : (config bit : ℕ) (b : Bool) → bit < 32 → isSet config (bit % 32) ≡ b → isSet config bit ≡ b
 tested config bit b l h = ap (isSet config) (sym (mod-eq-of-lt l)) ∙ h
 
-pub stays-where : (config bit charge : ℕ) → bit < 32 → isSet config (bit % 32) ≡ true → charge ≡ entryKept config bit charge
+pub stays-where : (config bit charge : ℕ) → bit < 32 → isSet config (bit % 32) ≡ true → charge
+    ≡ entryKept config bit charge
 unfolding entryKept
 stays-where config bit charge l h = simp (tested config bit true l h)
 
-pub returns-where : (config bit charge : ℕ) → bit < 32 → isSet config (bit % 32) ≡ false → 0 ≡ entryKept config bit charge
+pub returns-where : (config bit charge : ℕ) → bit < 32 → isSet config (bit % 32) ≡ false → 0
+    ≡ entryKept config bit charge
 unfolding entryKept
 returns-where config bit charge l h = simp (tested config bit false l h)
 
@@ -55,12 +57,14 @@ either : (k n : ℕ) → k < suc n → (k < n) ⊎ (k ≡ n)
 either zero zero h = inr refl
 either zero (suc n) h = inl (omega arith)
 either (suc k) zero h = absurd (omega arith)
-either (suc k) (suc n) h = ⊎-elim (λ (e : k < n). inl (omega arith)) (λ (e : k ≡ n). inr (ap suc e)) (either k n (omega arith))
+either (suc k) (suc n) h = ⊎-elim (λ (e : k < n). inl (omega arith)) (λ (e : k ≡ n). inr (ap suc e))
+    (either k n (omega arith))
 
 -- a charge is part of the total
 pub part-of : (t : List ℕ) (k n : ℕ) → k < n → getD t k 0 ≤ total t n
 unfolding total
-part-of t k (suc n) h = ⊎-elim (λ (e : k < n). omega (arith, part-of t k n e)) (λ (e : k ≡ n). rw (← e) (omega arith)) (either k n h)
+part-of t k (suc n) h = ⊎-elim (λ (e : k < n). omega (arith, part-of t k n e)) (λ (e : k ≡ n). rw (← e) (omega arith))
+    (either k n h)
 
 -- a charge that does not pass the limit is at most the limit
 pub within : (t : List ℕ) (k charge : ℕ) → k < 128 → passes t k charge ≡ false → charge ≤ 6000
@@ -72,7 +76,12 @@ within t k charge h p = omega (arith, part-of t k 128 h, ltb-false (6000 + getD 
 total-past : (t : List ℕ) (k v n : ℕ) → n ≤ k → total (set t k v) n ≡ total t n
 unfolding total
 total-past t k v zero h = refl
-total-past t k v (suc n) h = omega (arith, total-past t k v n (omega arith), getD-set-other t k n v 0 (λ e. omega arith))
+total-past t k v (suc n) h = omega (
+  arith,
+  total-past t k v n (omega arith),
+  getD-set-other t k n v 0
+      (λ e. omega arith),
+)
 
 pub total-set : (t : List ℕ) (k v n : ℕ) → k < length t → k < n → total (set t k v) n + getD t k 0 ≡ total t n + v
 unfolding total
@@ -84,11 +93,13 @@ total-set t k v (suc n) l h =
 
 -- ---- those of a driver
 
-pub kept-out : (config first n : ℕ) (t : List ℕ) (k : ℕ) → (k < first) ⊎ (first + n ≤ k) → getD (kept config first n t) k 0 ≡ getD t k 0
+pub kept-out : (config first n : ℕ) (t : List ℕ) (k : ℕ) → (k < first) ⊎ (first + n ≤ k)
+    → getD (kept config first n t) k 0 ≡ getD t k 0
 unfolding kept
 kept-out config first zero t k h = refl
 kept-out config first (suc n) t k h =
-    getD-set-other (kept config first n t) (first + n) k _ 0 (λ e. ⊎-elim (λ (l : k < first). omega arith) (λ (l : first + suc n ≤ k). omega arith) h)
+    getD-set-other (kept config first n t) (first + n) k _ 0
+    (λ e. ⊎-elim (λ (l : k < first). omega arith) (λ (l : first + suc n ≤ k). omega arith) h)
     ∙ kept-out config first n t k (⊎-elim (λ (l : k < first). inl l) (λ (l : first + suc n ≤ k). inr (omega arith)) h)
 
 pub kept-in : (config first n : ℕ) (t : List ℕ) (p : ℕ) → first + n ≤ length t
@@ -96,8 +107,10 @@ pub kept-in : (config first n : ℕ) (t : List ℕ) (p : ℕ) → first + n ≤ 
 unfolding kept
 kept-in config first (suc n) t p l h =
     ⊎-elim
-    (λ (e : p < n). getD-set-other (kept config first n t) (first + n) (first + p) _ 0 (λ z. omega arith) ∙ kept-in config first n t p (omega arith) e)
-    (λ (e : p ≡ n). rw e (getD-set-same (kept config first n t) (first + n) _ 0 (omega (arith, length-kept config first n t))
+    (λ (e : p < n). getD-set-other (kept config first n t) (first + n) (first + p) _ 0 (λ z. omega arith)
+    ∙ kept-in config first n t p (omega arith) e)
+    (λ (e : p ≡ n). rw e (getD-set-same (kept config first n t) (first + n) _ 0
+    (omega (arith, length-kept config first n t))
     ∙ ap (entryKept config n) (kept-out config first n t (first + n) (inr (omega arith)))))
     (either p n h)
 
@@ -109,7 +122,8 @@ entry-le config bit charge = by (isSet config bit)
     by true = omega arith
     by false = omega arith
 
-kept-le : (config first n : ℕ) (t : List ℕ) (k : ℕ) → first + n ≤ length t → getD (kept config first n t) k 0 ≤ getD t k 0
+kept-le : (config first n : ℕ) (t : List ℕ) (k : ℕ) → first + n ≤ length t → getD (kept config first n t) k 0
+    ≤ getD t k 0
 kept-le config first n t k l =
     ⊎-elim
     (λ (a : k < first). omega (arith, kept-out config first n t k (inl a)))
@@ -122,7 +136,8 @@ kept-le config first n t k l =
     lt-or-le : (a b : ℕ) → (a < b) ⊎ (b ≤ a)
     lt-or-le a zero = inr (omega arith)
     lt-or-le zero (suc b) = inl (omega arith)
-    lt-or-le (suc a) (suc b) = ⊎-elim (λ (h : a < b). inl (omega arith)) (λ (h : b ≤ a). inr (omega arith)) (lt-or-le a b)
+    lt-or-le (suc a) (suc b) = ⊎-elim (λ (h : a < b). inl (omega arith)) (λ (h : b ≤ a). inr (omega arith))
+        (lt-or-le a b)
 
     inside : (p : ℕ) → k ≡ first + p → p < n → getD (kept config first n t) k 0 ≤ getD t k 0
     inside p e h = rw e (omega (arith, kept-in config first n t p l h, entry-le config p (getD t (first + p) 0)))

@@ -1,5 +1,6 @@
-// Bus time as a shared limit (document 02, request Seven): the record that up to four drivers share. It has a number for each driver, endpoint and
-// direction: the byte-times of a microframe that the endpoint is charged, 0 where it is not. All 0 is uncharged; any numbers are safe.
+// Bus time as a shared limit (document 02, request Seven): the record that up to four drivers share. It has a number
+// for each driver, endpoint and direction: the byte-times of a microframe that the endpoint is charged, 0 where it is
+// not. All 0 is uncharged; any numbers are safe.
 use regs::Dir;
 ghost use mathlib.Core.Path.{_≡_};
 ghost use Prim.Native.Nat.{_≤_, _<_};

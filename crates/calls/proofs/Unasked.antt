@@ -22,7 +22,8 @@ use Rattle.calls.specs.Charging.{chargedAt}
 abbrev others : List ℕ
 others = 0 ∷ 2 ∷ 3 ∷ 4 ∷ 5 ∷ 6 ∷ []
 
-pub unasked : (t : Step) (x : Driver) → OneOf others (tagOf declared-step.the-type t) → isHanded (answerOf t [] x) ≡ false
+pub unasked : (t : Step) (x : Driver) → OneOf others (tagOf declared-step.the-type t) → isHanded (answerOf t [] x)
+    ≡ false
 unasked (step.Refused n) x h = refl
 unasked (step.Asks q) x h = absurd (miss others 1 tt h)
 unasked (step.Ends n w) x h = refl

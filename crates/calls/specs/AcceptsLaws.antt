@@ -20,7 +20,7 @@ use Rattle.script_ops.specs.Rings.{St}
 use Rattle.script_ops.specs.Concrete.{concrete}
 use Rattle.machine.specs.declared.Suspended.{Suspended}
 use Rattle.machine.specs.Suspended.{machineAt, drive, halts, slotsFit}
-use Rattle.answer.specs.Goes.{Called}
+use Rattle.answer.specs.Goes.{StepResult}
 use Rattle.machine.specs.Rows.{isIdle, stopOf}
 use Rattle.machine.specs.RowsLaws.{named-call}
 use Rattle.calls.specs.Sharing.{isHanded}
@@ -46,18 +46,21 @@ first-out : (e : ℕ) (on iso : Bool) (s : St) → asksFirst (run concrete (outB
 first-out e on true s = refl
 first-out e on false s = refl
 
-first-access : (dir : Dir) (e : ℕ) (on : Bool) (d : Driver) (b : Buf) → asksFirst (run concrete (resultless (script.setEnabled dir e on)) (d, b)) ≡ true
+first-access : (dir : Dir) (e : ℕ) (on : Bool) (d : Driver) (b : Buf)
+    → asksFirst (run concrete (resultless (script.setEnabled dir e on)) (d, b)) ≡ true
 first-access Out e on d b = first-out e on (isOn (epOn (noneGathered d) Out e .iso)) (d, b)
 first-access In e on d b = refl
 
-abbrev answer : Called → Bool
+abbrev answer : StepResult → Bool
 answer x = isHanded (x .0)
 
-abbrev refused : ℕ → Suspended → Driver → Buf → Called
+abbrev refused : ℕ → Suspended → Driver → Buf → StepResult
 refused n u d b = (ended (Refused n), machineAt u d b)
 
-by-rows : (fits : Bool) (stop : ℕ) (named : Bool) (o : tree.Out St Answer) (u : Suspended) (d : Driver) (a b : Buf) → asksFirst o ≡ true
-    → answer (cond fits (cond (eqb stop 0) (cond named (halts o) (refused 5 u d b)) (refused stop u d b)) (refused 1 u d a))
+by-rows : (fits : Bool) (stop : ℕ) (named : Bool) (o : tree.Out St Answer) (u : Suspended) (d : Driver) (a b : Buf)
+    → asksFirst o ≡ true
+    → answer (cond fits (cond (eqb stop 0) (cond named (halts o) (refused 5 u d b)) (refused stop u d b))
+    (refused 1 u d a))
     ≡ cond fits (cond (eqb stop 0) named false) false
 by-rows false stop named o u d a b h = refl
 by-rows true stop named o u d a b h = go (eqb stop 0) named

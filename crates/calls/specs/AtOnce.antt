@@ -1,4 +1,5 @@
--- Answers of calls that end at once: a poll where nothing is under way, nor is after it, a packet in place also between two accesses of an interrupt
+-- Answers of calls that end at once: a poll where nothing is under way, nor is after it, a packet in place also between
+-- two accesses of an interrupt
 use mathlib.Core.Bool.{Bool, true, cond}
 use mathlib.Core.List.{List}
 use mathlib.Core.Path.{_≡_, ap, sym, _∙_}
@@ -17,13 +18,14 @@ use Rattle.isochronous.specs.Packets as packets
 use Rattle.machine.specs.declared.Suspended.{Suspended}
 use Rattle.answer.specs.declared.Step.{Step}
 use Rattle.machine.specs.Suspended.{decode, machineAt, machineOf, halts, answerOf}
-use Rattle.answer.specs.Goes.{Called}
+use Rattle.answer.specs.Goes.{StepResult}
 use Rattle.machine.specs.Rows.{isIdle, mayPass}
 use Rattle.machine.specs.RowsLaws.{besides, besides-ends}
 
--- the state's bytes before and after the call, the slots after it, what the script comes to, and what a call that is stopped comes to
-module _ (before after : List ℕ) (b : Buf) (o : Out St Answer) (r : Called) where
-  abbrev unless-busy : Bool → Called
+-- the state's bytes before and after the call, the slots after it, what the script comes to, and what a call that is
+-- stopped comes to
+module _ (before after : List ℕ) (b : Buf) (o : Out St Answer) (r : StepResult) where
+  abbrev unless-busy : Bool → StepResult
   unless-busy x = cond x (halts o) r
 
   still-idle : saved after ≡ saved before → isIdle (decode (saved before)) ≡ true → isIdle (decode (saved after)) ≡ true
@@ -39,11 +41,12 @@ module _ (before after : List ℕ) (b : Buf) (o : Out St Answer) (r : Called) wh
       ∙ (ap halts q ∙ ap unless-busy (sym i))
 
 -- a packet in place: d and c are the driver and the slots before it; what is under way stays so
-module _ (before after : List ℕ) (d : Driver) (c b : Buf) (o : Out St Answer) (r : Called) where
-  abbrev unless-stopped : Bool → Called
+module _ (before after : List ℕ) (d : Driver) (c b : Buf) (o : Out St Answer) (r : StepResult) where
+  abbrev unless-stopped : Bool → StepResult
   unless-stopped x = cond x (besides (decode (saved before)) d c o) r
 
-  pub told-beside : (step : Step) (p : Packet) → ((s : List ℕ) (x : Driver) → answerOf step s x ≡ ended (packets.answerOf p s))
+  pub told-beside : (step : Step) (p : Packet) → ((s : List ℕ) (x : Driver) → answerOf step s x
+      ≡ ended (packets.answerOf p s))
       → saved after ≡ saved before → mayPass (decode (saved before)) ≡ true → packets.answered p (view after) b ≡ o
       → (answerOf step b (view after), machineOf after b) ≡ unless-stopped (mayPass (decode (saved before)))
   told-beside step p h e i q =

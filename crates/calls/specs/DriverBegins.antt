@@ -14,7 +14,7 @@ use Rattle.script_ops.specs.Concrete.{go}
 use Rattle.driver.specs.Points.{setPaced}
 use Rattle.machine.specs.declared.Suspended.{Suspended}
 use Rattle.machine.specs.Suspended.{machineAt, drive, halts}
-use Rattle.answer.specs.Goes.{Called}
+use Rattle.answer.specs.Goes.{StepResult}
 use Rattle.machine.specs.RowsLaws.{back, numbered-call, accepted, Passes, answered-idle}
 
 abbrev pub pacing : ℕ → Bool → Script false Answer
@@ -23,7 +23,7 @@ pacing e on = do
   ret ok
 
 -- a change that the call answers with `ok`
-abbrev answered : Out St Unit → Called
+abbrev answered : Out St Unit → StepResult
 answered o = halts (bindOut o (λ _ t. ends ok t))
 
 pub set-paced-begins :
@@ -34,5 +34,6 @@ pub set-paced-begins :
     → ends tt (after, b) ≡ go (setPaced n on) d b
     → (ended ok, machineAt u after b) ≡ drive (begin (other (SetPaced e on))) (machineAt u d a) b
 set-paced-begins u d after a b e n on h number low change =
-    back (numbered-call (SetPaced e on) e (pacing e on) u d a b refl ∙ accepted (isNumber e) u d b (pacing e on) h number)
+    back (numbered-call (SetPaced e on) e (pacing e on) u d a b refl
+    ∙ accepted (isNumber e) u d b (pacing e on) h number)
     (answered-idle 2 u d after b ok h ∙ (ap answered change ∙ ap (λ (m : ℕ). answered (go (setPaced m on) d b)) low))

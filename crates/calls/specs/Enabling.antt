@@ -10,7 +10,7 @@ use Rattle.script.specs.Calls.{slotted, SetEnabled}
 use Rattle.script.specs.Machine.{Buf, Machine, begin, Ans, ended, handed, told}
 use Rattle.machine.specs.declared.Suspended.{Suspended}
 use Rattle.machine.specs.Suspended.{machineAt, drive, slotsFit, lentOr}
-use Rattle.answer.specs.Goes.{Called}
+use Rattle.answer.specs.Goes.{StepResult}
 use Rattle.bus_time.specs.Time.{entryOf, passes}
 use Rattle.calls.specs.Sharing.{Sort, enabling, apart, chargeOn, isHanded, timeAfter, sharedCall}
 use Rattle.calls.specs.SharingLaws.{settles, refuses}
@@ -28,7 +28,8 @@ and-false : (x : Bool) → (x && false) ≡ false
 and-false true = refl
 and-false false = refl
 
-accepts-fits : (d : Driver) (u : Suspended) (b : Buf) (dir : Dir) (e : ℕ) → accepts d u b dir e ≡ true → slotsFit d b ≡ true
+accepts-fits : (d : Driver) (u : Suspended) (b : Buf) (dir : Dir) (e : ℕ) → accepts d u b dir e ≡ true → slotsFit d b
+    ≡ true
 unfolding accepts
 accepts-fits d u b dir e h = by (slotsFit d b) _ h
   where
@@ -38,21 +39,28 @@ accepts-fits d u b dir e h = by (slotsFit d b) _ h
 
 module _ (i : ℕ) (dir : Dir) (e : ℕ) (u : Suspended) (d : Driver) (a b : Buf) (t : List ℕ) where
   pub turned : accepts d u b dir e ≡ true → passes t (entryOf i dir e) (chargeOn d dir e) ≡ true
-      → ((ended (Refused 19), machineAt u d (lentOr d b b a)), t) ≡ sharedCall i (begin (slotted (SetEnabled dir e true))) (machineAt u d a) t b
-  turned h p = rw (accepts-fits d u b dir e h) (refuses i dir e (machineAt u d a) t b (accepts-is dir e true u d a b ∙ h) p)
+      → ((ended (Refused 19), machineAt u d (lentOr d b b a)), t)
+      ≡ sharedCall i (begin (slotted (SetEnabled dir e true))) (machineAt u d a) t b
+  turned h p = rw (accepts-fits d u b dir e h) (refuses i dir e (machineAt u d a) t b (accepts-is dir e true u d a b
+      ∙ h) p)
 
-  pub stopped : (y : Called) → accepts d u b dir e ≡ false → y ≡ drive (begin (slotted (SetEnabled dir e true))) (machineAt u d a) b
+  pub stopped : (y : StepResult) → accepts d u b dir e ≡ false → y
+      ≡ drive (begin (slotted (SetEnabled dir e true))) (machineAt u d a) b
       → (y, t) ≡ sharedCall i (begin (slotted (SetEnabled dir e true))) (machineAt u d a) t b
   stopped y h k =
-      let n : isHanded (y .0) ≡ false = ap (λ (z : Called). isHanded (z .0)) k ∙ (accepts-is dir e true u d a b ∙ h) in
-      settles i (begin (slotted (SetEnabled dir e true))) (machineAt u d a) t b y t (rw n refl) k (unchanged i (enabling dir e) (y .0) d t n)
+      let n : isHanded (y .0) ≡ false = ap (λ (z : StepResult). isHanded (z .0)) k
+      ∙ (accepts-is dir e true u d a b ∙ h) in
+      settles i (begin (slotted (SetEnabled dir e true))) (machineAt u d a) t b y t (rw n refl) k
+      (unchanged i (enabling dir e) (y .0) d t n)
 
-  pub begun : (y : Called) (after : List ℕ) (k c : ℕ) → k ≡ entryOf i dir e → c ≡ chargeOn d dir e → passes t k c ≡ false
+  pub begun : (y : StepResult) (after : List ℕ) (k c : ℕ) → k ≡ entryOf i dir e → c ≡ chargeOn d dir e → passes t k c
+      ≡ false
       → y ≡ drive (begin (slotted (SetEnabled dir e true))) (machineAt u d a) b → after ≡ chargedAt (y .0) k c t
       → (y, after) ≡ sharedCall i (begin (slotted (SetEnabled dir e true))) (machineAt u d a) t b
   begun y after k c ek ec p q h =
       let z : passes t (entryOf i dir e) (chargeOn d dir e) ≡ false = sym (λ j. passes t (ek j) (ec j)) ∙ p in
-      settles i (begin (slotted (SetEnabled dir e true))) (machineAt u d a) t b y after (rw z (and-false (isHanded (y .0)))) q
+      settles i (begin (slotted (SetEnabled dir e true))) (machineAt u d a) t b y after
+      (rw z (and-false (isHanded (y .0)))) q
       (h ∙ ((λ j. chargedAt (y .0) (ek j) (ec j) t) ∙ charged-is i dir e (y .0) d t))
 
 apart-stays : (i : ℕ) (a : Ans Answer) (d : Driver) (t : List ℕ) → t ≡ timeAfter i apart a d t
@@ -60,6 +68,9 @@ apart-stays i (ended a) d t = refl
 apart-stays i (handed q) d t = refl
 apart-stays i (told n) d t = refl
 
-pub disables : (i : ℕ) (dir : Dir) (e : ℕ) (on : Bool) (m : Machine Answer Driver) (t : List ℕ) (b : Buf) (y : Called) → on ≡ false
-    → y ≡ drive (begin (slotted (SetEnabled dir e false))) m b → (y, t) ≡ sharedCall i (begin (slotted (SetEnabled dir e on))) m t b
-disables i dir e on m t b y h k = rw h (settles i (begin (slotted (SetEnabled dir e false))) m t b y t refl k (apart-stays i (y .0) (m .st) t))
+pub disables : (i : ℕ) (dir : Dir) (e : ℕ) (on : Bool) (m : Machine Answer Driver) (t : List ℕ) (b : Buf)
+    (y : StepResult) → on ≡ false
+    → y ≡ drive (begin (slotted (SetEnabled dir e false))) m b → (y, t)
+    ≡ sharedCall i (begin (slotted (SetEnabled dir e on))) m t b
+disables i dir e on m t b y h k = rw h (settles i (begin (slotted (SetEnabled dir e false))) m t b y t refl k
+    (apart-stays i (y .0) (m .st) t))

@@ -1,5 +1,5 @@
 -- A descriptor's endpoints after the rows and the reading
-use mathlib.Core.Bool.{Bool, false, cond}
+use mathlib.Core.Bool.{false, cond}
 use mathlib.Core.List.{List}
 use mathlib.Core.Path.{_≡_, _∙_}
 use Prim.Native.Nat.{ℕ}
@@ -14,23 +14,19 @@ use Rattle.state.specs.declared.Allocator.{Allocator}
 use Rattle.state.specs.Driver.{Driver}
 use Rattle.script.specs.Tree as tree
 use Rattle.script.specs.Script.{Script, run}
-use Rattle.script.specs.Answers.{Answer, Refused}
+use Rattle.script.specs.Answers.{Answer}
 use Rattle.script.specs.AllocateAll.{allocate-tried}
-use Rattle.script.specs.Calls.{AllocateAll}
-use Rattle.script.specs.Machine.{Buf, Way}
-use Rattle.script_ops.specs.Rings.{St}
+use Rattle.script.specs.Machine.{Buf}
 use Rattle.script_ops.specs.Concrete.{concrete}
-use Rattle.machine.specs.declared.Suspended.{Suspended}
 use Rattle.machine.specs.Suspended.{halts}
-use Rattle.answer.specs.Goes.{Called}
-use Rattle.machine.specs.RowsLaws.{Passes}
+use Rattle.answer.specs.Goes.{StepResult}
 
 -- ---- the list, where nothing is under way
 
 abbrev pub trying : List Endpoint → ℕ → Script false Answer
 trying es refusal = allocate-tried es refusal
 
-abbrev pub allocatedAll : List Endpoint → Driver → Buf → Called
+abbrev pub allocatedAll : List Endpoint → Driver → Buf → StepResult
 allocatedAll es d b = halts (run concrete (trying es (trialOf (d .allocator) es .refusal)) (d, b))
 
 -- ---- the preview: row 3 or 4 (n, 0 where neither stops it), else the trial on the state's allocator

@@ -14,10 +14,10 @@ use Rattle.script.specs.Every.{sameReg}
 use Rattle.script.specs.Answers.{Answer, Refused}
 use Rattle.script.specs.Calls.{Config, Op, interrupt, slotted, other, aside, Slotted, SetEnabled, PollRead, BeginWrite}
 use Rattle.script.specs.Calls.{PollWrite, PollDataOut, BeginDataIn, calls}
-use Rattle.script.specs.Machine.{Buf, Call, start, begin, go, question, Machine, Ans, ended, handed, told, lentTo}
+use Rattle.script.specs.Machine.{Buf, Call, start, begin, continue, question, Machine, Ans, ended, handed, told, lentTo}
 use Rattle.answer.specs.declared.Step.{Step}
 use Rattle.machine.specs.Suspended.{driverOf, drive, machineOf, answerOf, lentOr, BufferUnchangedOnRow1, SavedByAnswer}
-use Rattle.answer.specs.Goes.{Called}
+use Rattle.answer.specs.Goes.{StepResult}
 use Rattle.bus_time.specs.Time.{chargeOf, entryOf, passes, keepOf}
 
 -- what a call is to the bus time: an endpoint's enabling, a start-up, a continue, or none of these
@@ -42,7 +42,7 @@ opSort (aside o) = apart
 abbrev pub sortOf : Call Config Op → Sort
 sortOf (start c) = starting
 sortOf (begin o) = opSort o
-sortOf (go v) = going
+sortOf (continue v) = going
 sortOf (question q) = apart
 
 -- what an endpoint of the driver is charged
@@ -78,21 +78,24 @@ timeAfter i x (ended a) d t = t
 timeAfter i x (handed q) d t = afterAccess i x q d t
 timeAfter i x (told n) d t = t
 
--- row 19, after all others: an enabling that the driver alone would begin, and with which the time in use would pass 6,000
+-- row 19, after all others: an enabling that the driver alone would begin, and with which the time in use would pass
+-- 6,000
 abbrev pub turnedDown : ℕ → Sort → Ans Answer → Driver → List ℕ → Bool
 turnedDown i (enabling dir e) a d t = isHanded a && passes t (entryOf i dir e) (chargeOn d dir e)
 turnedDown i starting a d t = false
 turnedDown i going a d t = false
 turnedDown i apart a d t = false
 
-unfoldable pub settled : ℕ → Sort → Machine Answer Driver → List ℕ → Buf → Called → Called × List ℕ
-settled i x m t b y = cond (turnedDown i x (y .0) (m .st) t) ((ended (Refused 19), lentTo calls driverOf m b), t) (y, timeAfter i x (y .0) (m .st) t)
+unfoldable pub settled : ℕ → Sort → Machine Answer Driver → List ℕ → Buf → StepResult → StepResult × List ℕ
+settled i x m t b y = cond (turnedDown i x (y .0) (m .st) t) ((ended (Refused 19), lentTo calls driverOf m b), t)
+    (y, timeAfter i x (y .0) (m .st) t)
 
 -- a call of driver i: the driver's own (machine/specs/Suspended.antt), unless it is turned down, which changes nothing
-abbrev pub sharedCall : ℕ → Call Config Op → Machine Answer Driver → List ℕ → Buf → Called × List ℕ
+abbrev pub sharedCall : ℕ → Call Config Op → Machine Answer Driver → List ℕ → Buf → StepResult × List ℕ
 sharedCall i c m t b = settled i (sortOf c) m t b (drive c m b)
 
--- what a call that brings the slots and the record of bus time ensures of its answer: the state's bytes, the slots' and the record's, before and after
+-- what a call that brings the slots and the record of bus time ensures of its answer: the state's bytes, the slots' and
+-- the record's, before and after
 abbrev pub SharedStep : Step → ℕ → Call Config Op → List ℕ → List ℕ → Buf → Buf → List ℕ → List ℕ → Type 0
 SharedStep step i c before after slots slots′ time time′ =
     ((a : Buf) → (

@@ -10,7 +10,7 @@ use Rattle.script.specs.Tree.{asks}
 use Rattle.script.specs.Script.{Script, run}
 use Rattle.script.specs.Answers.{Answer}
 use Rattle.script.specs.Calls.{interrupt, interruptCode}
-use Rattle.script.specs.Every.{at-ask, Where, sameReg}
+use Rattle.script.specs.Every.{at-ask, Throughout, sameReg}
 use Rattle.script.specs.EveryLaws.{only-run}
 use Rattle.script.specs.Steps.{moving, mayAsk, Steps}
 use Rattle.script.specs.StepsCalls.{call-steps}
@@ -22,7 +22,7 @@ use Rattle.calls.specs.Spares.{Spares, Sparing}
 of-kind : (q : Access) → mayAsk moving q ≡ true → Spares q
 of-kind (Write r e v) h = by (sameReg r EpConfig) (writes-config moving r v h)
   where
-    by : (b : Bool) → (b ≡ true → false ≡ true) → Where b ⊥
+    by : (b : Bool) → (b ≡ true → false ≡ true) → Throughout b ⊥
     by true g = absurd (true≢false (sym (g refl)))
     by false g = tt
 of-kind (Read r e) h = tt
@@ -40,5 +40,6 @@ pub interrupt-spares : (s : St) → Sparing (run concrete interruptCode s)
 interrupt-spares s = runs interruptCode (call-steps interrupt) s
 
 -- what goes on after an access
-pub spares-on : {q : Access} {s : St} {k : ℕ → St → tree.Out St Answer} → Sparing (asks q s k) → (v : ℕ) (t : St) → Sparing (k v t)
+pub spares-on : {q : Access} {s : St} {k : ℕ → St → tree.Out St Answer} → Sparing (asks q s k) → (v : ℕ) (t : St)
+    → Sparing (k v t)
 spares-on (at-ask ok k) v t = k v t tt tt

@@ -1,5 +1,5 @@
--- An interrupt spares ep_config from each of its points on, whatever bytes the point was read from. A proof has the shape
--- of what is left to run: a pair for each bind and test, a function for each number brought, `tt` at each access
+-- An interrupt spares ep_config from each of its points on, whatever bytes the point was read from. A proof has the
+-- shape of what is left to run: a pair for each bind and test, a function for each number brought, `tt` at each access
 use mathlib.Core.Bool.{Bool, true}
 use Prim.Native.Nat.{ℕ}
 use Rattle.bits.specs.Walk.{setBits}
@@ -17,10 +17,11 @@ use Rattle.script.specs.Script.{Script, test, done, when, get, callback, _>>=_,
 use Rattle.script.specs.Statics.{isOn, isoInEvery, isoOuts, wake, wakeBus}
 use Rattle.script.specs.IsoIn.{sofWalk, lateWalk}
 use Rattle.script.specs.Handler.{looks}
-use Rattle.script.specs.Every.{at-end, at-ask, Where, sameReg}
+use Rattle.script.specs.Every.{at-end, at-ask, Throughout, sameReg}
 use Rattle.script.specs.EveryLaws.{every-bind}
 use Rattle.script.specs.Steps.{moving, Steps}
-use Rattle.script.specs.StepsInterrupt.{control, of-looks, of-nak, of-settle, of-complete, of-sof-walk, of-sof, of-late-walk}
+use Rattle.script.specs.StepsInterrupt.{control, of-looks, of-nak, of-settle, of-complete, of-sof-walk, of-sof}
+use Rattle.script.specs.StepsInterrupt.{of-late-walk}
 use Rattle.script.specs.StepsInterrupt.{of-check-walk, of-dispatch, of-moved-on, of-transfer, of-setup, of-interrupt}
 use Rattle.script_ops.specs.Rings.{St}
 use Rattle.interrupt.specs.declared.nak.Nak.{Nak}
@@ -46,9 +47,11 @@ use Rattle.isochronous.specs.declared.out.Check.the-variants as check-point
 use Rattle.isochronous.specs.Points as check
 use Rattle.interrupt.specs.declared.Point.{Point}
 use Rattle.interrupt.specs.declared.Point.the-variants as point
-use Rattle.interrupt.specs.Continuations.{resultless, afterSetupReleased, afterSetupTx, afterSetupRx, afterTransfer, finish, thenCheck}
+use Rattle.interrupt.specs.Continuations.{resultless, afterSetupReleased, afterSetupTx, afterSetupRx, afterTransfer}
+use Rattle.interrupt.specs.Continuations.{finish, thenCheck}
 use Rattle.interrupt.specs.Continuations.{afterMovedWrote, afterMovedRead, afterCheck, afterDispatch, flipDone, passed}
-use Rattle.interrupt.specs.Continuations.{afterFlip, afterToggled, afterLate, afterSof, serving, afterFrameNo, afterSettle}
+use Rattle.interrupt.specs.Continuations.{afterFlip, afterToggled, afterLate, afterSof, serving, afterFrameNo}
+use Rattle.interrupt.specs.Continuations.{afterSettle}
 use Rattle.interrupt.specs.Continuations.{afterRelease, afterNak, afterLen, afterSt, afterMis, afterHost, afterFifo}
 use Rattle.interrupt.specs.Continuations.{afterSuspend, afterBusRst, afterFlags, afterFrame}
 use Rattle.interrupt.specs.Points.{denote}
@@ -58,7 +61,7 @@ use Rattle.calls.specs.SparesLaws.{runs}
 abbrev N : {A : Type 0} → Script true A → Type 0
 N p = Steps moving p
 
-no-config : (d : Dir) → Where (sameReg (ctrlOf d) EpConfig) ⊥
+no-config : (d : Dir) → Throughout (sameReg (ctrlOf d) EpConfig) ⊥
 no-config Out = tt
 no-config In = tt
 
@@ -164,14 +167,22 @@ of-setup-tx = (
   λ _. tt,
   λ _. (
     λ _. tt,
-    λ _. ((λ _. tt, λ _. tt), λ _. ((λ _. tt, λ _. tt), λ _. ((λ _. tt, λ _. tt), λ _. ((tt, tt), λ _. (tt, λ _. tt))))),
+    λ _. (
+      (λ _. tt, λ _. tt),
+      λ _. (
+        (λ _. tt, λ _. tt),
+        λ _.
+            ((λ _. tt, λ _. tt), λ _. ((tt, tt), λ _. (tt, λ _. tt))),
+      ),
+    ),
   ),
 )
 
 finishing : (setup : Bool) {o : tree.Out St Unit} → Sparing o → Sparing (finish setup o)
 finishing setup x = then (then x (λ _ u. runs (afterTransfer setup) (of-after-transfer setup) u)) (λ _ _. at-end tt)
 
-checking : (setup : Bool) (x : Transfer) (iso : Bool) {o : tree.Out St Unit} → Sparing o → Sparing (thenCheck setup x iso o)
+checking : (setup : Bool) (x : Transfer) (iso : Bool) {o : tree.Out St Unit} → Sparing o
+    → Sparing (thenCheck setup x iso o)
 checking setup x iso y = finishing setup (then y (λ _ u. runs (afterDispatch x iso) (of-after-dispatch x iso) u))
 
 -- ---- at the points of its parts
@@ -269,8 +280,10 @@ at-check x iso (check-point.Armed e m) v t =
 pub point-spares : (p : Point) (v : ℕ) (t : St) → Sparing (denote p v t)
 point-spares point.Frame v t = runs (resultless (afterFrame v)) (of-after-frame v, λ _. tt) t
 point-spares point.Flags v t = runs (resultless (afterFlags v)) (of-after-flags v, λ _. tt) t
-point-spares (point.BusRst f) v t = runs (resultless (wakeBus >> afterBusRst f)) ((tt, λ _. of-after-bus-rst f), λ _. tt) t
-point-spares (point.Suspend f) v t = runs (resultless (wakeBus >> afterSuspend f)) ((tt, λ _. of-after-suspend f), λ _. tt) t
+point-spares (point.BusRst f) v t = runs (resultless (wakeBus >> afterBusRst f))
+    ((tt, λ _. of-after-bus-rst f), λ _. tt) t
+point-spares (point.Suspend f) v t = runs (resultless (wakeBus >> afterSuspend f))
+    ((tt, λ _. of-after-suspend f), λ _. tt) t
 point-spares (point.Fifo f) v t = runs (resultless (afterFifo f)) (of-after-fifo f, λ _. tt) t
 point-spares (point.Host f) v t = runs (resultless (afterHost f)) (of-after-host f, λ _. tt) t
 point-spares (point.Mis setup) v t = finishing setup (runs (afterMis v) (of-after-mis v) t)
@@ -281,14 +294,16 @@ point-spares (point.Nak setup x p) v t =
 point-spares (point.Released setup x) v t = finishing setup (runs (afterRelease x) (of-after-release x) t)
 point-spares (point.Settle setup x p) v t =
     finishing setup (then (at-settle x p v t) (λ y u. runs (afterSettle y) (of-after-settle y) u))
-point-spares (point.FrameNo setup x iso) v t = finishing setup (runs (afterFrameNo x iso v) (of-after-frame-no x iso v) t)
+point-spares (point.FrameNo setup x iso) v t = finishing setup
+    (runs (afterFrameNo x iso v) (of-after-frame-no x iso v) t)
 point-spares (point.Sof setup x iso frame p) v t =
     finishing setup (then (at-sof frame p v t) (λ _ u. runs (afterSof x iso frame) (of-after-sof x iso frame) u))
 point-spares (point.Late setup x iso frame p) v t =
     finishing setup (then (at-late frame p t) (λ _ u. runs (afterLate x iso frame) (of-after-late x iso frame) u))
 point-spares (point.SofArm setup x iso frame p) v t = checking setup x iso (at-sof frame p v t)
 point-spares (point.Flip d setup x iso) v t =
-    checking setup x iso (runs (afterFlip d (x .len) v) ((control moving d (flip v), tt), λ _. of-flip-done d (x .len)) t)
+    checking setup x iso (runs (afterFlip d (x .len) v) ((control moving d (flip v), tt), λ _. of-flip-done d (x .len))
+    t)
 point-spares (point.Flipped d setup x iso) v t =
     checking setup x iso (runs (flipDone d (x .len)) (of-flip-done d (x .len)) t)
 point-spares (point.Toggled d setup x iso p) v t =

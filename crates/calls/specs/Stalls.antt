@@ -22,10 +22,12 @@ pick : {A : Type 0} (x y : Bool) (p q : A) → cond x p (cond y p q) ≡ cond (c
 pick true y p q = refl
 pick false y p q = refl
 
-stall-row : (dir : Dir) (e : ℕ) (p : Script false Answer) (d : Driver) (b : Buf) → run concrete (named-or-0 dir e p) (d, b)
+stall-row : (dir : Dir) (e : ℕ) (p : Script false Answer) (d : Driver) (b : Buf)
+    → run concrete (named-or-0 dir e p) (d, b)
     ≡ cond (stallable (d .allocator) dir e) (run concrete p (d, b)) (ends (Refused 5) (d, b))
 unfolding stallable
-stall-row dir e p d b = pick (eqb e 0) (isAllocated (d .allocator) dir e) (run concrete p (d, b)) (ends (Refused 5) (d, b))
+stall-row dir e p d b = pick (eqb e 0) (isAllocated (d .allocator) dir e) (run concrete p (d, b))
+    (ends (Refused 5) (d, b))
 
 pub stall-call : (o : Other) (dir : Dir) (e : ℕ) (p : Script false Answer) (u : Suspended) (d : Driver) (a b : Buf)
     → run concrete (otherCode o) (d, b) ≡ run concrete (staged 2 (named-or-0 dir e p)) (d, b)

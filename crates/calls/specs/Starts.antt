@@ -16,7 +16,8 @@ Small size = (8 ≤ size) × (size ≤ 1024)
 small : (size : ℕ) → goodSize size ≡ true → Small size
 small = each-size Small (omega arith) (omega arith) (omega arith) (omega arith) (omega arith) (omega arith)
 
-within : (size count : ℕ) (t z : Bool) → goodSize size ≡ t → if t (if z false (leb (count * size) 65536)) false ≡ true → Small size × (count * size ≤ 65536)
+within : (size count : ℕ) (t z : Bool) → goodSize size ≡ t → if t (if z false (leb (count * size) 65536)) false ≡ true
+    → Small size × (count * size ≤ 65536)
 within size count true false g h = (small size g, leb-true _ _ h)
 within size count true true g h = absurd (true≢false (sym h))
 within size count false z g h = absurd (true≢false (sym h))

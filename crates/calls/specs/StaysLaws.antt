@@ -11,10 +11,10 @@ use Rattle.state.specs.Driver.{Driver}
 use Rattle.script.specs.Tree as tree
 use Rattle.script.specs.Tree.{ends, asks}
 use Rattle.script.specs.Answers.{Answer, Refused}
-use Rattle.script.specs.Every.{Where, sameReg, at-ask}
+use Rattle.script.specs.Every.{Throughout, sameReg, at-ask}
 use Rattle.script.specs.EveryLaws.{every-bind, only-run}
 use Rattle.script.specs.Calls.{calls}
-use Rattle.script.specs.Machine.{Buf, ended, over, go}
+use Rattle.script.specs.Machine.{Buf, ended, over, continue}
 use Rattle.script.specs.Script.{run}
 use Rattle.script_ops.specs.Rings.{St}
 use Rattle.script_ops.specs.Concrete.{concrete}
@@ -26,7 +26,7 @@ use Rattle.machine.specs.declared.Suspended.the-variants as under
 use Rattle.machine.specs.Suspended.{decode, finish, machineAt, drive, resumed, haltsAs, slotsFit}
 use Rattle.machine.specs.Tags.{at-interrupt}
 use Rattle.machine.specs.GoesLaws.{proceeds}
-use Rattle.answer.specs.Goes.{Called}
+use Rattle.answer.specs.Goes.{StepResult}
 use Rattle.bus_time.specs.Time.{keepOf}
 use Rattle.calls.specs.Sharing.{going, written, timeAfter}
 use Rattle.calls.specs.Spares.{Spares, Sparing}
@@ -36,7 +36,7 @@ module _ (i : ℕ) (t : List ℕ) where
   unwritten : (q : Access) → Spares q → t ≡ written i q t
   unwritten (Write r e w) x = by (sameReg r EpConfig) x
     where
-      by : (b : Bool) → Where b ⊥ → t ≡ cond b (keepOf i w t) t
+      by : (b : Bool) → Throughout b ⊥ → t ≡ cond b (keepOf i w t) t
       by true x = absurd x
       by false x = refl
   unwritten (Read r e) x = refl
@@ -50,12 +50,14 @@ module _ (i : ℕ) (t : List ℕ) where
   at-halt d (ends a s) x = refl
   at-halt d (asks q s k) (at-ask ok x) = unwritten q ok
 
-  by-row : (d : Driver) (b : Bool) (x y : Called) → t ≡ timeAfter i going (x .0) d t → t ≡ timeAfter i going (y .0) d t
+  by-row : (d : Driver) (b : Bool) (x y : StepResult) → t ≡ timeAfter i going (x .0) d t → t
+      ≡ timeAfter i going (y .0) d t
       → t ≡ timeAfter i going (cond b x y .0) d t
   by-row d true x y h k = h
   by-row d false x y h k = k
 
-  at-point : (v : ℕ) (p : Point) (d : Driver) (b : Buf) → t ≡ timeAfter i going (resumed v (under.Interrupt p) d b .0) d t
+  at-point : (v : ℕ) (p : Point) (d : Driver) (b : Buf) → t ≡ timeAfter i going (resumed v (under.Interrupt p) d b .0) d
+      t
   at-point v p d b =
       let o = tree.bindOut (handler.denote p v (d, b)) (λ n u. run concrete (finish n) u) in
       by-row d (over calls (handler.awaitsAt p) v) _ (haltsAs true o) refl (at-halt d o
@@ -63,10 +65,11 @@ module _ (i : ℕ) (t : List ℕ) where
 
   -- "time comes back with the write of a disabling or bus reset", so an interrupt's continue leaves the record
   pub interrupt-stays : (v : ℕ) (c : Saved) (d : Driver) (a b : Buf) → c .tag ≡ 6
-      → t ≡ timeAfter i going (drive (go v) (machineAt (decode c) d a) b .0) d t
+      → t ≡ timeAfter i going (drive (continue v) (machineAt (decode c) d a) b .0) d t
   interrupt-stays v c d a b h =
       let p = handlerCodec.decode c in
-      let refused : Called = (ended (Refused 1), machineAt (under.Interrupt p) d a) in
+      let refused : StepResult = (ended (Refused 1), machineAt (under.Interrupt p) d a) in
       by-row d (slotsFit d b) (resumed v (under.Interrupt p) d b) refused (at-point v p d b) refl
-      ∙ (ap (λ (z : Called). timeAfter i going (z .0) d t) (sym (proceeds v (under.Interrupt p) d a b))
-      ∙ ap (λ (u : Suspended). timeAfter i going (drive (go v) (machineAt u d a) b .0) d t) (sym (at-interrupt c p h refl)))
+      ∙ (ap (λ (z : StepResult). timeAfter i going (z .0) d t) (sym (proceeds v (under.Interrupt p) d a b))
+      ∙ ap (λ (u : Suspended). timeAfter i going (drive (continue v) (machineAt u d a) b .0) d t)
+      (sym (at-interrupt c p h refl)))

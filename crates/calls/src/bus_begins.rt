@@ -12,7 +12,8 @@ ghost use Rattle.script.specs.Calls.{BusEnable, BusDisable, BusPoll, IsStalled,
 ghost use Rattle.machine.specs.Contracts.{OtherCall, SlottedCall};
 ghost use Rattle.calls.specs.Enters.{Enters};
 
-// The row that stops a call after EP0's start, as `stop` says it; where none does, the call's wake-ups are gathered from none.
+// The row that stops a call after EP0's start, as `stop` says it; where none does, the call's wake-ups are gathered
+// from none.
 fn enter(s: &mut State) -> u8
     ensures { λ r. ⌜ Enters r (now (s .entry)) (now (s .exit)) ⌝ }
 {
@@ -92,7 +93,8 @@ pub fn begin_set_stalled(s: &mut State, dir: Dir, e: u32, on: bool) -> Step
 
 // `endpoint_set_enabled` (mod.rs 1268-1330).
 pub fn begin_set_enabled(s: &mut State, slots: &mut [u8], dir: Dir, e: u32, on: bool) -> Step
-    ensures { λ r. ⌜ SlottedCall (SetEnabled dir e on) r (now (s .entry)) (now (slots .entry)) (now (s .exit)) (now (slots .exit)) ⌝ }
+    ensures { λ r. ⌜ SlottedCall (SetEnabled dir e on) r (now (s .entry)) (now (slots .entry)) (now (s .exit))
+        (now (slots .exit)) ⌝ }
 {
     if slots_fit(s, slots) {
         let n = stop(s, 2);

@@ -9,9 +9,8 @@ use regs::Reg;
 use regs::registers::number;
 use state::State;
 ghost use mathlib.Core.Path.{_≡_};
-ghost use mathlib.Core.List.{List, []};
+ghost use mathlib.Core.List.{[]};
 ghost use Prim.Native.Nat.{ℕ, _≤_, _<_};
-ghost use lib.ListN.{set};
 ghost use Rattle.regs.specs.declared.Reg.the-variants.{EpConfig};
 ghost use Rattle.state.specs.Driver.{Driver};
 ghost use Rattle.state.specs.State.{view};
@@ -43,7 +42,8 @@ pub fn charged(time: &mut Time, at: usize, c: u32, step: Step)
 
 // A start-up: an accepted one gives all back.
 pub fn started(time: &mut Time, driver: u32, step: Step)
-    ensures { λ _. ⌜ ((x d : Driver) → now (time .exit) ≡ timeAfter driver starting (answerOf step [] x) d (now (time .entry))) ⌝ }
+    ensures { λ _. ⌜ ((x d : Driver) → now (time .exit)
+        ≡ timeAfter driver starting (answerOf step [] x) d (now (time .entry))) ⌝ }
 {
     match step {
         Step::Asks(_q) => keep(time, driver, 0),
@@ -76,7 +76,8 @@ fn after_access(time: &mut Time, driver: u32, q: Access)
 
 // A continue: the access that it hands out.
 pub fn gone_on(time: &mut Time, driver: u32, step: Step)
-    ensures { λ _. ⌜ ((x d : Driver) → now (time .exit) ≡ timeAfter driver going (answerOf step [] x) d (now (time .entry))) ⌝ }
+    ensures { λ _. ⌜ ((x d : Driver) → now (time .exit)
+        ≡ timeAfter driver going (answerOf step [] x) d (now (time .entry))) ⌝ }
 {
     match step {
         Step::Asks(q) => after_access(time, driver, q),

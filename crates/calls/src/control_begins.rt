@@ -4,7 +4,8 @@ use machine::halts::begun_control;
 use machine::saved::is_idle;
 use machine::stops::slots_fit;
 use state::State;
-ghost use Rattle.script.specs.Calls.{BeginSetup, BeginDataOut, BeginDataIn, BeginAccept, BeginAcceptSetAddress, BeginReject};
+ghost use Rattle.script.specs.Calls.{BeginSetup, BeginDataOut, BeginDataIn, BeginAccept, BeginAcceptSetAddress};
+ghost use Rattle.script.specs.Calls.{BeginReject};
 ghost use Rattle.machine.specs.Contracts.{OtherCall, SlottedCall};
 
 // `setup` (control.rs 70-80).
@@ -31,7 +32,8 @@ pub fn begin_data_out(s: &mut State, n: u32, first: bool) -> Step
 
 // `data_in` (117-161).
 pub fn begin_data_in(s: &mut State, slots: &mut [u8], bytes: &[u8], first: bool, last: bool) -> Step
-    ensures { λ r. ⌜ SlottedCall (BeginDataIn (now (bytes .entry)) first last) r (now (s .entry)) (now (slots .entry)) (now (s .exit)) (now (slots .exit)) ⌝ }
+    ensures { λ r. ⌜ SlottedCall (BeginDataIn (now (bytes .entry)) first last) r (now (s .entry)) (now (slots .entry))
+        (now (s .exit)) (now (slots .exit)) ⌝ }
 {
     if slots_fit(s, slots) {
         if is_idle(s) {

@@ -18,7 +18,8 @@ ghost use Rattle.machine.specs.Rows.{isIdle, stopOf};
 ghost use Rattle.machine.specs.Contracts.{OtherCall};
 ghost use Rattle.calls.specs.Listed.{allocatedAll, previewed};
 
-// All or none, where nothing is under way: the refusal of the first that would be refused, or all allocated and the first announced.
+// All or none, where nothing is under way: the refusal of the first that would be refused, or all allocated and the
+// first announced.
 fn allocate_listed(s: &mut State, list: Endpoints) -> Step
     requires { ⌜ isIdle (decode (saved (now s))) ≡ true ⌝ }
     ensures { λ r. ⌜ ((b : List ℕ) → (
@@ -37,7 +38,8 @@ fn allocate_listed(s: &mut State, list: Endpoints) -> Step
     Step::Refused(row)
 }
 
-// A descriptor's endpoints allocated in its order, or none: rows 3, 4, 17, 18, then 6, 7 or 8 of the first that would be refused.
+// A descriptor's endpoints allocated in its order, or none: rows 3, 4, 17, 18, then 6, 7 or 8 of the first that would
+// be refused.
 pub fn allocate_all(s: &mut State, bytes: &[u8]) -> Step
     ensures { λ r. ⌜ OtherCall (AllocateAll (now (bytes .entry))) r (now (s .entry)) (now (s .exit)) ⌝ }
 {
@@ -58,9 +60,11 @@ pub fn allocate_all(s: &mut State, bytes: &[u8]) -> Step
     Step::Refused(n)
 }
 
-// What allocating a descriptor's endpoints one by one would give, up to the first refusal: rows 3, 4, 17, 18 as above. The state is untouched.
+// What allocating a descriptor's endpoints one by one would give, up to the first refusal: rows 3, 4, 17, 18 as above.
+// The state is untouched.
 pub fn preview(s: &State, bytes: &[u8]) -> Shown
-    ensures { λ r. ⌜ r ≡ previewed (stopOf (isIdle (decode (saved (now (s .entry))))) 1 (view (now (s .entry)) .globals .stage))
+    ensures { λ r. ⌜ r ≡ previewed (stopOf (isIdle (decode (saved (now (s .entry))))) 1
+        (view (now (s .entry)) .globals .stage))
         (view (now (s .entry)) .allocator) (now (bytes .entry)) ⌝ }
 {
     let n = stop(s, 1);

@@ -5,7 +5,7 @@ use bus_time::Time;
 use machine::saved::tag;
 use state::State;
 ghost use mathlib.Core.Path.{_≡_};
-ghost use Rattle.script.specs.Machine.{go};
+ghost use Rattle.script.specs.Machine.{continue};
 ghost use Rattle.calls.specs.Sharing.{SharedStep};
 
 // The tag of an interrupt's point.
@@ -13,7 +13,7 @@ pub const INTERRUPT: u8 = 6;
 
 // Goes on with the operation under way. An interrupt writes no ep_config, so the record is not looked at.
 pub fn proceed(s: &mut State, slots: &mut [u8], time: &mut Time, driver: u32, v: u32) -> Step
-    ensures { λ r. ⌜ SharedStep r driver (go v) (now (s .entry)) (now (s .exit))
+    ensures { λ r. ⌜ SharedStep r driver (continue v) (now (s .entry)) (now (s .exit))
         (now (slots .entry)) (now (slots .exit)) (now (time .entry)) (now (time .exit)) ⌝ }
 {
     if tag(s) == INTERRUPT {

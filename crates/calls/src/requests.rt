@@ -6,7 +6,6 @@ use machine::saved::is_idle;
 use machine::stops::slots_fit;
 use state::State;
 ghost use lib.ListN.{length};
-ghost use Rattle.script.specs.Machine.{begin};
 ghost use Rattle.script.specs.Calls.{BeginRead, PollRead, BeginWrite, PollWrite};
 ghost use Rattle.machine.specs.Contracts.{OtherCall, SlottedCall, PolledCall};
 
@@ -38,7 +37,8 @@ pub fn poll_read(s: &mut State, slots: &[u8], e: u32, out: &mut [u8]) -> Step
 
 // `write` (146-194).
 pub fn begin_write(s: &mut State, slots: &mut [u8], e: u32, bytes: &[u8]) -> Step
-    ensures { λ r. ⌜ SlottedCall (BeginWrite e (now (bytes .entry))) r (now (s .entry)) (now (slots .entry)) (now (s .exit)) (now (slots .exit)) ⌝ }
+    ensures { λ r. ⌜ SlottedCall (BeginWrite e (now (bytes .entry))) r (now (s .entry)) (now (slots .entry))
+        (now (s .exit)) (now (slots .exit)) ⌝ }
 {
     if slots_fit(s, slots) {
         if is_idle(s) {
@@ -51,7 +51,8 @@ pub fn begin_write(s: &mut State, slots: &mut [u8], e: u32, bytes: &[u8]) -> Ste
 }
 
 pub fn poll_write(s: &mut State, slots: &mut [u8], e: u32, bytes: &[u8]) -> Step
-    ensures { λ r. ⌜ SlottedCall (PollWrite e (now (bytes .entry))) r (now (s .entry)) (now (slots .entry)) (now (s .exit)) (now (slots .exit)) ⌝ }
+    ensures { λ r. ⌜ SlottedCall (PollWrite e (now (bytes .entry))) r (now (s .entry)) (now (slots .entry))
+        (now (s .exit)) (now (slots .exit)) ⌝ }
 {
     if slots_fit(s, slots) {
         if is_idle(s) {

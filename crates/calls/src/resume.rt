@@ -40,15 +40,15 @@ ghost use mathlib.Core.Path.{_≡_};
 ghost use mathlib.Core.List.{List, []};
 ghost use Prim.Native.Nat.{ℕ};
 ghost use Rattle.state.specs.State.{view, saved};
-ghost use Rattle.script.specs.Machine.{go};
+ghost use Rattle.script.specs.Machine.{continue};
 ghost use Rattle.machine.specs.Suspended.{machineOf, drive, answerOf, lentOr, BufferUnchangedOnRow1, SavedByAnswer};
 ghost use Rattle.machine.specs.Stands.{Resumes};
 ghost use Rattle.answer.specs.Parts.{stepOf};
 ghost use Rattle.machine.specs.Lifts.{PinsFrom};
 ghost use Rattle.interrupt.specs.Stands.{ResumesByWord};
 
-// Goes on at an interrupt's point: the one dispatch on what is saved. Each arm is a call and nothing after it, and answers
-// its own word.
+// Goes on at an interrupt's point: the one dispatch on what is saved. Each arm is a call and nothing after it, and
+// answers its own word.
 fn resume_interrupt(s: &mut State, slots: &mut [u8], v: u32) -> u64
     requires { ⌜ saved (now s) .tag ≡ 6 ⌝ }
     ensures { λ r. ⌜ ResumesByWord r v (now (s .entry)) (now (slots .entry)) (now (s .exit)) (now (slots .exit)) ⌝ }
@@ -105,7 +105,7 @@ pub fn interrupt(s: &mut State, slots: &mut [u8], v: u32) -> u64
     ensures { λ r. ⌜ ((a : List ℕ) → (
       answerOf (stepOf r) [] (view (now (s .exit))),
       machineOf (now (s .exit)) (lentOr (view (now (s .entry))) (now (slots .entry)) (now (slots .exit)) a),
-    ) ≡ drive (go v) (machineOf (now (s .entry)) a) (now (slots .entry))) ⌝ }
+    ) ≡ drive (continue v) (machineOf (now (s .entry)) a) (now (slots .entry))) ⌝ }
     ensures { λ _. ⌜ BufferUnchangedOnRow1 (view (now (s .entry))) (now (slots .entry)) (now (slots .exit)) ⌝ }
     ensures { λ r. ⌜ PinsFrom r (now (s .entry)) (now (s .exit)) ⌝ }
 {
@@ -121,7 +121,7 @@ pub fn operation(s: &mut State, slots: &mut [u8], v: u32) -> Step
     ensures { λ r. ⌜ ((a : List ℕ) → (
       answerOf r [] (view (now (s .exit))),
       machineOf (now (s .exit)) (lentOr (view (now (s .entry))) (now (slots .entry)) (now (slots .exit)) a),
-    ) ≡ drive (go v) (machineOf (now (s .entry)) a) (now (slots .entry))) ⌝ }
+    ) ≡ drive (continue v) (machineOf (now (s .entry)) a) (now (slots .entry))) ⌝ }
     ensures { λ _. ⌜ BufferUnchangedOnRow1 (view (now (s .entry))) (now (slots .entry)) (now (slots .exit)) ⌝ }
     ensures { λ r. ⌜ SavedByAnswer r (now (s .entry)) (now (s .exit)) ⌝ }
 {

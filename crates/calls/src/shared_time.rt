@@ -1,5 +1,7 @@
-// The calls that a driver's bus time goes through: start-up and an endpoint's enabling, with the record that up to four drivers share
-// (crate `req_bus_time`); continue is in crate `usbhs`. `driver` is the caller's number in the record, modulo 4. Each call is the driver's own, but for row 19.
+// The calls that a driver's bus time goes through: start-up and an endpoint's enabling, with the record that up to four
+// drivers share
+// (crate `req_bus_time`); continue is in crate `usbhs`. `driver` is the caller's number in the record, modulo 4. Each
+// call is the driver's own, but for row 19.
 
 use crate::charges::charge_on;
 use crate::charges::charged;
@@ -38,10 +40,12 @@ pub fn start_up(
     ensures { λ r. ⌜ ((a : List ℕ) → (
       (
         answerOf r [] (view (now (s .exit))),
-        machineOf (now (s .exit)) (cond (eqb (startRow (configOf size count callback) (now (slots .entry))) 0) (now (slots .entry)) a),
+        machineOf (now (s .exit)) (cond (eqb (startRow (configOf size count callback) (now (slots .entry))) 0)
+            (now (slots .entry)) a),
       ),
       now (time .exit),
-    ) ≡ sharedCall driver (start (configOf size count callback)) (machineOf (now (s .entry)) a) (now (time .entry)) (now (slots .entry))) ⌝ }
+    ) ≡ sharedCall driver (start (configOf size count callback)) (machineOf (now (s .entry)) a) (now (time .entry))
+        (now (slots .entry))) ⌝ }
     ensures { λ r. ⌜ SavedByAnswer r (now (s .entry)) (now (s .exit)) ⌝ }
 {
     let step = crate::start::start_up(s, slots, size, count, callback);
@@ -51,7 +55,8 @@ pub fn start_up(
 
 // Rows 1, 3, 4 and 5 turned round.
 fn is_accepted(s: &State, slots: &[u8], dir: Dir, e: u32) -> bool
-    ensures { λ r. ⌜ r ≡ accepts (view (now (s .entry))) (decode (saved (now (s .entry)))) (now (slots .entry)) dir e ⌝ }
+    ensures { λ r. ⌜ r ≡ accepts (view (now (s .entry))) (decode (saved (now (s .entry)))) (now (slots .entry)) dir
+        e ⌝ }
 {
     if slots_fit(s, slots) {
         if stop(s, 2) == 0 {

@@ -77,7 +77,8 @@ fn flag_of(on: bool) -> u8
 pub fn start_up(s: &mut State, slots: &[u8], size: u32, count: u32, callback: bool) -> Step
     ensures { λ r. ⌜ ((a : List ℕ) → (
       answerOf r [] (view (now (s .exit))),
-      machineOf (now (s .exit)) (cond (eqb (startRow (configOf size count callback) (now (slots .entry))) 0) (now (slots .entry)) a),
+      machineOf (now (s .exit)) (cond (eqb (startRow (configOf size count callback) (now (slots .entry))) 0)
+          (now (slots .entry)) a),
     ) ≡ drive (start (configOf size count callback)) (machineOf (now (s .entry)) a) (now (slots .entry))) ⌝ }
     ensures { λ r. ⌜ SavedByAnswer r (now (s .entry)) (now (s .exit)) ⌝ }
 {

@@ -21,7 +21,8 @@ pub turns-none : (i r x : ℕ) → 8 ≤ i → turns (8 - i) r x ≡ r
 unfolding turns
 turns-none i r x h = let e : 8 - i ≡ 0 = omega arith in rw e
 
-pub over-more : (xs : List ℕ) (i r : ℕ) → i < length xs → over r (drop i xs) ≡ over (turns 8 r (getD xs i 0)) (drop (i + 1) xs)
+pub over-more : (xs : List ℕ) (i r : ℕ) → i < length xs → over r (drop i xs)
+    ≡ over (turns 8 r (getD xs i 0)) (drop (i + 1) xs)
 unfolding over
 over-more xs i r h = rw (add-one i, drop-cons xs i 0)
 
@@ -52,11 +53,13 @@ pub word-more : (xs : List ℕ) (i sum words w : ℕ) → i + 3 < length xs
     → w ≡ wordOf (getD xs i 0) (getD xs (i + 1) 0) (getD xs (i + 2) 0) (getD xs (i + 3) 0)
     → (getD xs i 0 < 256) × (getD xs (i + 1) 0 < 256) × (getD xs (i + 2) 0 < 256) × (getD xs (i + 3) 0 < 256)
     → sum < 2 ^ 17 → odd sum ≡ 0 → w < 2 ^ 32
-    → over (remainderOf (folded (bitXor sum w)) (bitXor words w)) (drop (i + 4) xs) ≡ over (remainderOf sum words) (drop i xs)
+    → over (remainderOf (folded (bitXor sum w)) (bitXor words w)) (drop (i + 4) xs)
+    ≡ over (remainderOf sum words) (drop i xs)
 word-more xs i sum words w h e b s even l =
     let r = remainderOf sum words in
     let folds = word-folds sum words w s even l in
-    let steps = word-step r (getD xs i 0) (getD xs (i + 1) 0) (getD xs (i + 2) 0) (getD xs (i + 3) 0) (b .0) (b .1) (b .2) (b .3) in
+    let steps = word-step r (getD xs i 0) (getD xs (i + 1) 0) (getD xs (i + 2) 0) (getD xs (i + 3) 0) (b .0) (b .1)
+    (b .2) (b .3) in
     sym
     (over-four xs i r h
     ∙ ap (λ (y : ℕ). over y (drop (i + 4) xs)) (steps ∙ ap (λ (y : ℕ). shifted 32 (bitXor r y)) (sym e) ∙ folds))

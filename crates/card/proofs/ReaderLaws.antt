@@ -11,7 +11,8 @@ use Rattle.card.specs.Streams.{placed, checked, goodBlock}
 use Rattle.card.specs.Reading.{View, blockEnd, cleanTo, cleanUpTo, seek, begins}
 use Rattle.card.specs.SeenLaws.{clean-behind}
 
-pub clean-more : (v : View) (k end : ℕ) → k < end → v .good k ≡ true → cleanTo v k (end - k) ≡ cleanTo v (k + 1) (end - (k + 1))
+pub clean-more : (v : View) (k end : ℕ) → k < end → v .good k ≡ true → cleanTo v k (end - k)
+    ≡ cleanTo v (k + 1) (end - (k + 1))
 unfolding cleanTo
 clean-more v k end h g = let e : end - k ≡ suc (end - (k + 1)) = omega arith in rw (e, g)
 
@@ -23,7 +24,8 @@ pub clean-stop : (v : View) (k end : ℕ) → end ≤ k → cleanTo v k (end - k
 unfolding cleanTo
 clean-stop v k end h = let e : end - k ≡ 0 = omega arith in rw e
 
-pub seek-more : (v : View) (k end : ℕ) → k < end → begins v k ≡ false → seek v k (end - k) ≡ seek v (k + 1) (end - (k + 1))
+pub seek-more : (v : View) (k end : ℕ) → k < end → begins v k ≡ false → seek v k (end - k)
+    ≡ seek v (k + 1) (end - (k + 1))
 unfolding seek
 seek-more v k end h b = let e : end - k ≡ suc (end - (k + 1)) = omega arith in rw (e, b)
 
@@ -68,7 +70,8 @@ begins-high v k n g e h = rw (g, ← e, le-leb 6 n h)
 pub begins-from : (v : View) (k : ℕ) → begins v k ≡ true → (6 ≤ v .named k) × (v .named k ≤ 509)
 begins-from v k h = go (v .good k) (leb 6 (v .named k)) (leb (v .named k) 509) refl refl h
   where
-    go : (a b c : Bool) → leb 6 (v .named k) ≡ b → leb (v .named k) 509 ≡ c → (a && (b && c)) ≡ true → (6 ≤ v .named k) × (v .named k ≤ 509)
+    go : (a b c : Bool) → leb 6 (v .named k) ≡ b → leb (v .named k) 509 ≡ c → (a && (b && c)) ≡ true → (6 ≤ v .named k)
+        × (v .named k ≤ 509)
     go true true true x y h = (leb-true 6 (v .named k) x, leb-true (v .named k) 509 y)
     go true true false x y h = absurd (false≢true h)
     go true false c x y h = absurd (false≢true h)

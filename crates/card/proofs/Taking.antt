@@ -66,7 +66,8 @@ goes-near v all lent room now count used d first c n far t w e =
     let more = bytesFrom v d n in
     let long-more : length more ≡ n = length-bytes v n d in
     let fits : n ≤ length lent - used = omega (arith, w .fits, t .same) in
-    let next = some-standing v c (t .fuel) d n (length lent - used) count (t .bytes) all (t .enough) (w .standing) fits (t .rest) in
+    let next = some-standing v c (t .fuel) d n (length lent - used) count (t .bytes) all (t .enough) (w .standing) fits
+    (t .rest) in
     let left : length lent - used - n ≡ length lent - (used + n) = omega arith in
     let holds : now ≡ front (t .bytes ++ more) lent =
     e ∙ front-more (t .bytes) more lent room used n (t .long) (sym long-more) (t .holds) in
@@ -116,7 +117,8 @@ goes-on v all lent room now count used d first at a n far t h l e =
     }
 
 -- what the loop answers where no more is taken
-pub ends : (v : View) (all : Some) (lent room : List ℕ) (count used d first : ℕ) (b : Bool) → (t : Taking v all lent room count used d first)
+pub ends : (v : View) (all : Some) (lent room : List ℕ) (count used d first : ℕ) (b : Bool)
+    → (t : Taking v all lent room count used d first)
     → someFrom v (t .fuel) d (length lent - used) ≡ none d b
     → Takes (record { count = count; used = used; at = d; short = b }) all × (room ≡ front (all .bytes) lent)
 ends v all lent room count used d first b t e =

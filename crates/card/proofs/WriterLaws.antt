@@ -28,12 +28,14 @@ byte-rest e s i h = let x : i ≡ suc (suc (suc (i - 3))) = omega arith in go (i
 
 pub head-stores : (l : List ℕ) (number first : ℕ) → 6 ≤ length l
     → set
-    (set (set (set (set (set l 0 (number % 256)) 1 (number / 256 % 256)) 2 (number / 65536 % 256)) 3 (number / 16777216 % 256)) 4
+    (set (set (set (set (set l 0 (number % 256)) 1 (number / 256 % 256)) 2 (number / 65536 % 256)) 3
+    (number / 16777216 % 256)) 4
     (first % 256)) 5 (first / 256)
     ≡ body number first (drop 6 l)
 unfolding body
 head-stores l number first h =
-    sets-eq (number % 256 ∷ number / 256 % 256 ∷ number / 65536 % 256 ∷ number / 16777216 % 256 ∷ first % 256 ∷ first / 256 ∷ []) l 0 h
+    sets-eq (number % 256 ∷ number / 256 % 256 ∷ number / 65536 % 256 ∷ number / 16777216 % 256 ∷ first % 256
+    ∷ first / 256 ∷ []) l 0 h
 
 pub check-stores : (l : List ℕ) (crc : ℕ) → length l ≡ 512 → crc ≡ dataCrc (take 510 l)
     → set (set l 510 (crc % 256)) 511 (crc / 256) ≡ sealed (take 510 l)
@@ -43,6 +45,7 @@ check-stores l crc h e =
     sets-eq (crc % 256 ∷ crc / 256 ∷ []) l 510 (omega arith)
     ∙ rw (drop-of-length-le l z, append-nil (take 510 l ++ (crc % 256 ∷ crc / 256 ∷ [])), e)
 
-pub closed-by : (b c r : List ℕ) (number first : ℕ) → c ≡ body number first (drop 6 b) → r ≡ sealed (take 510 c) → r ≡ closed number first b
+pub closed-by : (b c r : List ℕ) (number first : ℕ) → c ≡ body number first (drop 6 b) → r ≡ sealed (take 510 c) → r
+    ≡ closed number first b
 unfolding closed body
 closed-by b c r number first h e = e ∙ rw h

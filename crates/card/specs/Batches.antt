@@ -1,4 +1,5 @@
--- As many packets at once as a room holds, one behind the other as they stand on the card: two bytes of length, the endpoint, the bytes.
+-- As many packets at once as a room holds, one behind the other as they stand on the card: two bytes of length, the
+-- endpoint, the bytes.
 use mathlib.Core.Path.{_≡_}
 use mathlib.Core.Bool.{Bool, true, false, cond}
 use mathlib.Core.List.{List, [], _++_}
@@ -13,7 +14,8 @@ use Rattle.card.specs.declared.batches.Taken.{Taken}
 use Rattle.card.specs.declared.reader.Batch.{Batch}
 use Rattle.card.specs.declared.reader.Batch.the-variants as answer
 
--- some packets: how many, their bytes, the place behind them, and whether the next one is too long for the room that is left
+-- some packets: how many, their bytes, the place behind them, and whether the next one is too long for the room that is
+-- left
 pub record Some : Type 0 where
   pub count : ℕ
   pub bytes : List ℕ
@@ -32,7 +34,8 @@ unfoldable pub someFrom : View → ℕ → ℕ → ℕ → Some
 someFrom v zero d room = none d false
 someFrom v (suc n) d room = elim (find v (total v) d) [
   | found.Packet at endpoint len ↦
-      cond (ltb room (3 + len)) (none d true) (before (bytesFrom v at (3 + len)) (someFrom v n (at + (3 + len)) (room - (3 + len))))
+      cond (ltb room (3 + len)) (none d true) (before (bytesFrom v at (3 + len))
+      (someFrom v n (at + (3 + len)) (room - (3 + len))))
   | found.Nothing ↦ none d false
 ]
 

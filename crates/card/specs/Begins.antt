@@ -21,7 +21,8 @@ use Rattle.card.specs.Writing.{closed}
 pub data-append : (xs ys : List Packet) → dataOf (xs ++ ys) ≡ dataOf xs ++ dataOf ys
 unfolding dataOf
 data-append [] ys = refl
-data-append (x ∷ xs) ys = ap (λ (l : List ℕ). packetBytes x ++ l) (data-append xs ys) ∙ sym (append-assoc (packetBytes x) (dataOf xs) (dataOf ys))
+data-append (x ∷ xs) ys = ap (λ (l : List ℕ). packetBytes x ++ l) (data-append xs ys)
+    ∙ sym (append-assoc (packetBytes x) (dataOf xs) (dataOf ys))
 
 pub data-one : (p : Packet) (qs : List Packet) → length (dataOf (p ∷ qs)) ≡ size p + length (dataOf qs)
 unfolding dataOf
@@ -39,12 +40,14 @@ data-at xs p qs i h =
 -- ---- begins
 
 pub first-append : (xs ys : List Packet) (k d : ℕ)
-    → firstIn k d (xs ++ ys) ≡ cond (eqb (firstIn k d xs) 65535) (firstIn k (d + length (dataOf xs)) ys) (firstIn k d xs)
+    → firstIn k d (xs ++ ys) ≡ cond (eqb (firstIn k d xs) 65535) (firstIn k (d + length (dataOf xs)) ys)
+    (firstIn k d xs)
 unfolding firstIn dataOf
 first-append [] ys k d = let e : d + 0 ≡ d = omega arith in rw e
 first-append (x ∷ xs) ys k d = elim (ℕ-discrete (d / 504) k) [
   | yes h ↦ rw (eq-eqb (d / 504) k h, ne-eqb (6 + d % 504) 65535 (λ e. omega arith))
-  | no h ↦ (let n : d + length (packetBytes x ++ dataOf xs) ≡ d + size x + length (dataOf xs) = omega (arith, length-append (x .bytes) (dataOf xs)) in
+  | no h ↦ (let n : d + length (packetBytes x ++ dataOf xs) ≡ d + size x + length (dataOf xs)
+      = omega (arith, length-append (x .bytes) (dataOf xs)) in
       rw (ne-eqb (d / 504) k h, n) (first-append xs ys k (d + size x)))
 ]
 
@@ -63,23 +66,28 @@ none-or a = elim (ℕ-discrete a 65535) [
 ]
 
 -- no later packet begins in block k
-pub first-settled : (xs qs : List Packet) (k : ℕ) → (k + 1) * 504 ≤ length (dataOf xs) → firstIn k 0 (xs ++ qs) ≡ firstIn k 0 xs
+pub first-settled : (xs qs : List Packet) (k : ℕ) → (k + 1) * 504 ≤ length (dataOf xs) → firstIn k 0 (xs ++ qs)
+    ≡ firstIn k 0 xs
 first-settled xs qs k h =
     let z : firstIn k (0 + length (dataOf xs)) qs ≡ 65535 = first-behind qs k (0 + length (dataOf xs)) (omega arith) in
     first-append xs qs k 0 ∙ rw z (none-or (firstIn k 0 xs))
 
 -- ---- a copy
 
-pub paste-before : (d : List ℕ) (at : ℕ) (s : List ℕ) (n i : ℕ) → i < at → at ≤ length d → getD (paste d at s n) i 0 ≡ getD d i 0
+pub paste-before : (d : List ℕ) (at : ℕ) (s : List ℕ) (n i : ℕ) → i < at → at ≤ length d → getD (paste d at s n) i 0
+    ≡ getD d i 0
 paste-before d at s n i h l =
-    List·getD-append (take at d ++ take n s) (drop (at + n) d) 0 i (omega (arith, length-append (take at d) (take n s), length-take-le at d l))
+    List·getD-append (take at d ++ take n s) (drop (at + n) d) 0 i
+    (omega (arith, length-append (take at d) (take n s), length-take-le at d l))
     ∙ List·getD-append (take at d) (take n s) 0 i (omega (arith, length-take-le at d l)) ∙ getD-take at d i 0 h
 
-pub paste-inside : (d : List ℕ) (at : ℕ) (s : List ℕ) (n i : ℕ) → i < n → at ≤ length d → n ≤ length s → getD (paste d at s n) (at + i) 0 ≡ getD s i 0
+pub paste-inside : (d : List ℕ) (at : ℕ) (s : List ℕ) (n i : ℕ) → i < n → at ≤ length d → n ≤ length s
+    → getD (paste d at s n) (at + i) 0 ≡ getD s i 0
 paste-inside d at s n i h l m =
     let e : length (take at d) ≡ at = length-take-le at d l in
     let f : at + i ≡ length (take at d) + i = omega arith in
-    List·getD-append (take at d ++ take n s) (drop (at + n) d) 0 (at + i) (omega (arith, length-paste-head d at s n l m))
+    List·getD-append (take at d ++ take n s) (drop (at + n) d) 0 (at + i)
+    (omega (arith, length-paste-head d at s n l m))
     ∙ rw f (getD-append-add (take at d) (take n s) i 0) ∙ getD-take n s i 0 h
 
 -- ---- blocks
@@ -115,13 +123,16 @@ pub closed-is : (ps : List Packet) (k first : ℕ) (b : List ℕ) → length b �
     → closed (k % 4294967296) first b ≡ blockOf ps k
 unfolding closed blockOf
 closed-is ps k first b l f h =
-    ap sealed (number-modulo k _ (filled 504 (drop (k * 504) (dataOf ps))) first same ∙ ap (λ (x : ℕ). body k x (filled 504 (drop (k * 504) (dataOf ps)))) f)
+    ap sealed (number-modulo k _ (filled 504 (drop (k * 504) (dataOf ps))) first same
+    ∙ ap (λ (x : ℕ). body k x (filled 504 (drop (k * 504) (dataOf ps)))) f)
   where
     len : length (take 504 (drop 6 b)) ≡ 504
     len = length-take-le 504 (drop 6 b) (omega (arith, length-drop 6 b))
 
     same : take 504 (drop 6 b) ≡ filled 504 (drop (k * 504) (dataOf ps))
     same =
-        ext-getD 0 (take 504 (drop 6 b)) (filled 504 (drop (k * 504) (dataOf ps))) (len ∙ sym (length-filled 504 (drop (k * 504) (dataOf ps))))
+        ext-getD 0 (take 504 (drop 6 b)) (filled 504 (drop (k * 504) (dataOf ps)))
+        (len ∙ sym (length-filled 504 (drop (k * 504) (dataOf ps))))
         (λ i g. getD-take 504 (drop 6 b) i 0 (omega (arith, len)) ∙ getD-drop 6 b i 0 ∙ h i (omega (arith, len))
-        ∙ sym (getD-filled 504 (drop (k * 504) (dataOf ps)) i (omega (arith, len)) ∙ getD-drop (k * 504) (dataOf ps) i 0))
+        ∙ sym (getD-filled 504 (drop (k * 504) (dataOf ps)) i (omega (arith, len))
+        ∙ getD-drop (k * 504) (dataOf ps) i 0))

@@ -4,7 +4,7 @@ use mathlib.Core.Bool.{Bool, true, false, cond}
 use Prim.Native.Nat.{ℕ, zero, suc, _+_, _*_, _/_, _%_, _^_, _<_}
 use native.Mathlib.Nat.{pow-suc, mul-comm, div-div-eq-div-mul}
 use native.Mathlib.Omega.{arith}
-use lib.Bits.{bitXor, differ, xor-comm, xor-zero-r, shifted-half, shifted-even, block-half, block-odd}
+use lib.Bits.{bitXor, differ, xor-comm, xor-zero-r, block-half, block-odd}
 use lib.Dec.{eqb}
 use Rattle.card.specs.Register.{turned, turns}
 use Rattle.card.specs.Xor.{xor-half, xor-odd, xor-assoc, xor-swap}
@@ -42,8 +42,10 @@ of-bits P a b c d (suc (suc x)) y h k = absurd (omega arith)
 feedback-data : (x y : ℕ) → x < 2 → y < 2 → feedback (eqb x y) ≡ feedback (eqb (differ x y) 0)
 feedback-data = of-bits (λ x y. feedback (eqb x y) ≡ feedback (eqb (differ x y) 0)) refl refl refl refl
 
-feedback-sum : (x y : ℕ) → x < 2 → y < 2 → feedback (eqb (differ x y) 0) ≡ bitXor (feedback (eqb x 0)) (feedback (eqb y 0))
-feedback-sum = of-bits (λ x y. feedback (eqb (differ x y) 0) ≡ bitXor (feedback (eqb x 0)) (feedback (eqb y 0))) refl refl refl refl
+feedback-sum : (x y : ℕ) → x < 2 → y < 2 → feedback (eqb (differ x y) 0)
+    ≡ bitXor (feedback (eqb x 0)) (feedback (eqb y 0))
+feedback-sum = of-bits (λ x y. feedback (eqb (differ x y) 0) ≡ bitXor (feedback (eqb x 0)) (feedback (eqb y 0))) refl
+    refl refl refl
 
 -- a data bit may as well be added to the remainder first
 turned-data : (r x : ℕ) → bitXor (turned r x) (x / 2) ≡ turned (bitXor r x) 0
@@ -73,23 +75,14 @@ turns-data : (n r x : ℕ) → bitXor (turns n r x) (x / 2 ^ n) ≡ turns n (bit
 unfolding turns
 turns-data zero r x = let e : x / 1 ≡ x = omega arith in rw e
 turns-data (suc n) r x =
-    let e : x / 2 ^ suc n ≡ x / 2 / 2 ^ n = rw (pow-suc 2 n, mul-comm (2 ^ n) 2) (sym (div-div-eq-div-mul x 2 (2 ^ n))) in
+    let e : x / 2 ^ suc n ≡ x / 2 / 2 ^ n = rw (pow-suc 2 n, mul-comm (2 ^ n) 2)
+    (sym (div-div-eq-div-mul x 2 (2 ^ n))) in
     rw e (turns-data n (turned r x) (x / 2) ∙ rw (turned-data r x))
 
 pub shifted-sum : (n a b : ℕ) → shifted n (bitXor a b) ≡ bitXor (shifted n a) (shifted n b)
 unfolding shifted turns
 shifted-sum zero a b = refl
 shifted-sum (suc n) a b = rw (turned-sum a b) (shifted-sum n (turned a 0) (turned b 0))
-
-shifted-more : (m n r : ℕ) → shifted n (shifted m r) ≡ shifted (m + n) r
-unfolding shifted turns
-shifted-more zero n r = let e : 0 + n ≡ n = omega arith in rw e
-shifted-more (suc m) n r = let e : suc m + n ≡ suc (m + n) = omega arith in rw e (shifted-more m n (turned r 0))
-
-shifted-high : (n h : ℕ) → shifted n (h * 2 ^ n) ≡ h
-unfolding shifted turns turned
-shifted-high zero h = omega arith
-shifted-high (suc n) h = rw (shifted-even h n, shifted-half h n) (shifted-high n h)
 
 -- bits above the first m are not looked at
 turns-low : (m r h a : ℕ) → turns m r (h * 2 ^ m + a) ≡ turns m r a
@@ -105,7 +98,8 @@ turns-more zero n r x =
     rw (e, f)
 turns-more (suc m) n r x =
     let e : suc m + n ≡ suc (m + n) = omega arith in
-    let f : x / 2 ^ suc m ≡ x / 2 / 2 ^ m = rw (pow-suc 2 m, mul-comm (2 ^ m) 2) (sym (div-div-eq-div-mul x 2 (2 ^ m))) in
+    let f : x / 2 ^ suc m ≡ x / 2 / 2 ^ m = rw (pow-suc 2 m, mul-comm (2 ^ m) 2)
+    (sym (div-div-eq-div-mul x 2 (2 ^ m))) in
     rw (e, f) (turns-more m n (turned r x) (x / 2))
 
 -- a byte, then the n bits above it

@@ -25,11 +25,13 @@ found-from s at = find (view s) (total (view s)) at
 
 -- a packet into a room of so many bytes
 unfoldable pub given : Found → ℕ → Next
-given (found.Packet at endpoint len) room = cond (ltb room len) (next.Refused 21) (next.Packet endpoint len (record { at = at + 3 + len }))
+given (found.Packet at endpoint len) room = cond (ltb room len) (next.Refused 21)
+    (next.Packet endpoint len (record { at = at + 3 + len }))
 given found.Nothing room = next.End
 
 unfoldable pub put : View → Found → List ℕ → List ℕ
-put v (found.Packet at endpoint len) room = cond (ltb (length room) len) room (bytesFrom v (at + 3) len ++ drop len room)
+put v (found.Packet at endpoint len) room = cond (ltb (length room) len) room (bytesFrom v (at + 3) len
+    ++ drop len room)
 put v found.Nothing room = room
 
 -- what the reader at this place answers, and what the room holds then

@@ -16,22 +16,14 @@ clean-low v (suc n) k = go (clean-low v n (k + 1)) (v .good k)
     go i true = omega arith
     go i false = omega arith
 
-pub clean-high : (v : View) (n k : ℕ) → cleanTo v k n ≤ k + n
-unfolding cleanTo
-clean-high v zero k = omega arith
-clean-high v (suc n) k = go (clean-high v n (k + 1)) (v .good k)
-  where
-    go : cleanTo v (k + 1) n ≤ k + 1 + n → (b : Bool) → cond b (cleanTo v (k + 1) n) k ≤ k + suc n
-    go i true = omega arith
-    go i false = omega arith
-
 pub clean-bad : (v : View) (n k : ℕ) → cleanTo v k n < k + n → v .good (cleanTo v k n) ≡ false
 unfolding cleanTo
 clean-bad v zero k h = absurd (omega arith)
 clean-bad v (suc n) k h = go (clean-bad v n (k + 1)) (v .good k) refl h
   where
     go : (cleanTo v (k + 1) n < k + 1 + n → v .good (cleanTo v (k + 1) n) ≡ false)
-        → (b : Bool) → v .good k ≡ b → cond b (cleanTo v (k + 1) n) k < k + suc n → v .good (cond b (cleanTo v (k + 1) n) k) ≡ false
+        → (b : Bool) → v .good k ≡ b → cond b (cleanTo v (k + 1) n) k < k + suc n
+        → v .good (cond b (cleanTo v (k + 1) n) k) ≡ false
     go i true e l = i (omega arith)
     go i false e l = e
 
@@ -87,4 +79,8 @@ all-false v (suc n) k j l h e = elim (ℕ-discrete j k) [
 pub all-true : (v : View) (n k : ℕ) → ((j : ℕ) → k ≤ j → j < k + n → v .good j ≡ true) → allGood v k n ≡ true
 unfolding allGood
 all-true v zero k h = refl
-all-true v (suc n) k h = rw (h k (omega arith) (omega arith), all-true v n (k + 1) (λ j l m. h j (omega arith) (omega arith)))
+all-true v (suc n) k h = rw (
+  h k (omega arith) (omega arith),
+  all-true v n (k + 1)
+      (λ j l m. h j (omega arith) (omega arith)),
+)

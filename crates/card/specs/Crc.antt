@@ -33,18 +33,21 @@ numberOf (b ∷ bs) = digit b + numberOf bs * 2
 -- the generator polynomial, x^16 + x^15 + x^2 + 1, from x^15 on
 unfoldable pub generator : List Bool
 generator =
-    true ∷ false ∷ false ∷ false ∷ false ∷ false ∷ false ∷ false ∷ false ∷ false ∷ false ∷ false ∷ false ∷ true ∷ false ∷ true ∷ []
+    true ∷ false ∷ false ∷ false ∷ false ∷ false ∷ false ∷ false ∷ false ∷ false ∷ false ∷ false ∷ false ∷ true ∷ false
+    ∷ true ∷ []
 
 -- the seed is all ones
 unfoldable pub ones : List Bool
-ones = true ∷ true ∷ true ∷ true ∷ true ∷ true ∷ true ∷ true ∷ true ∷ true ∷ true ∷ true ∷ true ∷ true ∷ true ∷ true ∷ []
+ones = true ∷ true ∷ true ∷ true ∷ true ∷ true ∷ true ∷ true ∷ true ∷ true ∷ true ∷ true ∷ true ∷ true ∷ true ∷ true
+    ∷ []
 
 unfoldable pub added : List Bool → List Bool → List Bool
 added [] bs = []
 added (a ∷ l) [] = a ∷ l
 added (a ∷ l) (b ∷ bs) = xor a b ∷ added l bs
 
--- The high-order bit of the remainder is XORed with the data bit; the remainder is shifted left one bit, and the low-order bit set to 0.
+-- The high-order bit of the remainder is XORed with the data bit; the remainder is shifted left one bit, and the
+-- low-order bit set to 0.
 -- If the result of that XOR is 1, the remainder is XORed with the generator polynomial.
 unfoldable pub stepped : List Bool → Bool → List Bool
 stepped [] b = []

@@ -2,7 +2,8 @@
 use mathlib.Core.Path.{_≡_, refl}
 use mathlib.Core.List.{List, [], _∷_}
 use Prim.Native.Nat.{ℕ, _/_, _%_}
-use Rattle.card.specs.Crc.{bitsOf, bitsOfBytes, numberOf, generator, ones, added, stepped, remainder, crcBits, dataCrc}
+use Rattle.card.specs.Crc.{bitsOf, bitsOfBytes, numberOf, generator, ones, added, stepped, remainder, crcBits}
+use Rattle.card.specs.Crc.{dataCrc}
 
 -- "123456789"
 abbrev pub digits : List ℕ

@@ -1,4 +1,5 @@
--- The remainder without a table: what 32 zero bits make of a word is three runs of its bits, moved and added, and 0xC001 if its bits are odd in number.
+-- The remainder without a table: what 32 zero bits make of a word is three runs of its bits, moved and added, and
+-- 0xC001 if its bits are odd in number.
 -- For the generator is (x + 1)(x^15 + x + 1). Nothing here need be believed: FoldLaws has it from the definition.
 use mathlib.Core.Path.{_≡_}
 use Prim.Native.Nat.{ℕ, _*_, _/_, _%_, _^_, _<_}

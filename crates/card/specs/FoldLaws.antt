@@ -22,7 +22,10 @@ then : {f g : ℕ → ℕ} → Additive f → Additive g → Additive (λ x. g (
 then {f} {g} hf hg = record { apart = λ a b. ap g (hf .apart a b) ∙ hg .apart (f a) (f b) }
 
 both : {f g : ℕ → ℕ} → Additive f → Additive g → Additive (λ x. bitXor (f x) (g x))
-both {f} {g} hf hg = record { apart = λ a b. ap₂ bitXor (hf .apart a b) (hg .apart a b) ∙ xor-swap (f a) (f b) (g a) (g b) }
+both {f} {g} hf hg = record {
+  apart = λ a b. ap₂ bitXor (hf .apart a b) (hg .apart a b)
+      ∙ xor-swap (f a) (f b) (g a) (g b);
+}
 
 same : Additive (λ x. x)
 same = record { apart = λ a b. refl }
@@ -31,7 +34,8 @@ left : (k : ℕ) → Additive (λ x. x * 2 ^ k)
 left k = record {
   apart = λ a b.
       sym
-      (rw (add-zero (a * 2 ^ k), add-zero (b * 2 ^ k), add-zero (bitXor a b * 2 ^ k)) at (xor-block k a b 0 0 (pow-pos k) (pow-pos k)));
+      (rw (add-zero (a * 2 ^ k), add-zero (b * 2 ^ k), add-zero (bitXor a b * 2 ^ k)) at
+      (xor-block k a b 0 0 (pow-pos k) (pow-pos k)));
 }
 
 right : (k : ℕ) → Additive (λ x. x / 2 ^ k)
@@ -91,7 +95,8 @@ agree {f} {g} hf hg (suc n) t x h = elim (decLt x (2 ^ n)) [
       let parts = top n x (omega arith) h in
       ap f (sym (parts .0))
       ∙ hf .apart (2 ^ n) (x - 2 ^ n)
-      ∙ ap₂ bitXor (eqb→eq (f (2 ^ n)) (g (2 ^ n)) (and-left (eqb (f (2 ^ n)) (g (2 ^ n))) (at-bits f g n) t)) (agree hf hg n rest (x - 2 ^ n) (parts .1))
+      ∙ ap₂ bitXor (eqb→eq (f (2 ^ n)) (g (2 ^ n)) (and-left (eqb (f (2 ^ n)) (g (2 ^ n))) (at-bits f g n) t))
+      (agree hf hg n rest (x - 2 ^ n) (parts .1))
       ∙ sym (ap g (sym (parts .0)) ∙ hg .apart (2 ^ n) (x - 2 ^ n)))
 ]
   where
@@ -99,9 +104,6 @@ agree {f} {g} hf hg (suc n) t x h = elim (decLt x (2 ^ n)) [
     rest = and-right (eqb (f (2 ^ n)) (g (2 ^ n))) (at-bits f g n) t
 
 -- ---- the three functions
-
-times-two : Additive (λ x. x * 2)
-times-two = left 1
 
 spread : {f : ℕ → ℕ} → (k : ℕ) → Additive f → Additive (λ x. bitXor (f x) (f x * 2 ^ k))
 spread k hf = both hf (then hf (left k))
@@ -133,7 +135,8 @@ odd-lt x = omega arith
 
 weight-sum : Additive (λ x. odd x * 0xC001)
 weight-sum = record {
-  apart = λ a b. ap (λ (x : ℕ). x * 0xC001) (odd-sum .apart a b) ∙ bit-times 0xC001 (odd a) (odd b) (odd-lt a) (odd-lt b);
+  apart = λ a b. ap (λ (x : ℕ). x * 0xC001) (odd-sum .apart a b)
+      ∙ bit-times 0xC001 (odd a) (odd b) (odd-lt a) (odd-lt b);
 }
 
 shifted-additive : (n : ℕ) → Additive (shifted n)
@@ -177,7 +180,8 @@ fold-lt x h =
     let high = x / 2 ^ 18 in
     let middle = x / 2 ^ 4 % 2 ^ 14 in
     let high-lt : bitXor high (high * 2) < 2 ^ 17 = xor-lt 17 high (high * 2) (omega arith) (omega arith) in
-    let middle-lt : bitXor middle (middle * 2 ^ 2) < 2 ^ 17 = xor-lt 17 middle (middle * 2 ^ 2) (omega arith) (omega arith) in
+    let middle-lt : bitXor middle (middle * 2 ^ 2) < 2 ^ 17
+    = xor-lt 17 middle (middle * 2 ^ 2) (omega arith) (omega arith) in
     let upper-lt = xor-lt 17 (bitXor high (high * 2)) (bitXor middle (middle * 2 ^ 2)) high-lt middle-lt in
     let pair = bitXor (x % 2 ^ 4) (x % 2 ^ 4 * 2) % 2 ^ 5 in
     let low = bitXor pair (pair * 2 ^ 2) % 2 ^ 7 * 2 ^ 10 in
@@ -192,7 +196,8 @@ word-folds z words w hz even hw =
     let weight = odd words * 0xC001 in
     let x-lt : x < 2 ^ 32 = xor-lt 32 z w (omega arith) hw in
     let parity : odd x ≡ odd w = odd-sum .apart z w ∙ rw even in
-    let apart : shifted 32 (bitXor (bitXor (settled z) weight) w) ≡ bitXor (bitXor (shifted 32 z) weight) (shifted 32 w) =
+    let apart : shifted 32 (bitXor (bitXor (settled z) weight) w) ≡ bitXor (bitXor (shifted 32 z) weight) (shifted 32 w)
+    =
     shifted-sum 32 (bitXor (settled z) weight) w
     ∙ ap (λ (y : ℕ). bitXor y (shifted 32 w))
     (shifted-sum 32 (settled z) weight ∙ ap₂ bitXor (settled-shifts z hz) (weight-stays (odd words) (odd-lt words))) in

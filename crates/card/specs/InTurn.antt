@@ -26,7 +26,8 @@ placeAfter v (suc n) d = elim (find v (total v) d) [
 abbrev pub Bytes : View → Type 0
 Bytes v = (d : ℕ) → v .byte d < 256
 
-card-bytes : (v : View) → Bytes v → (f d at a n : ℕ) → find v f d ≡ found.Packet at a n → bytesFrom v at (3 + n) ≡ packetBytes (packetFrom v at a n)
+card-bytes : (v : View) → Bytes v → (f d at a n : ℕ) → find v f d ≡ found.Packet at a n → bytesFrom v at (3 + n)
+    ≡ packetBytes (packetFrom v at a n)
 unfolding bytesFrom
 card-bytes v small f d at a n h =
     let header = find-header v f d at a n h in
@@ -44,11 +45,13 @@ pub record AsCalls (v : View) (d : ℕ) (s : Some) : Type 0 where
   pub at : s .at ≡ placeAfter v (s .count) d
 
 in-turn : (v : View) (n d at a len : ℕ) → find v (total v) d ≡ found.Packet at a len
-    → (inTurn v (suc n) d ≡ packetFrom v at a len ∷ inTurn v n (at + 3 + len)) × (placeAfter v (suc n) d ≡ placeAfter v n (at + 3 + len))
+    → (inTurn v (suc n) d ≡ packetFrom v at a len ∷ inTurn v n (at + 3 + len))
+    × (placeAfter v (suc n) d ≡ placeAfter v n (at + 3 + len))
 unfolding inTurn placeAfter
 in-turn v n d at a len h = (rw (h, inTurn), rw (h, placeAfter))
 
-more : (v : View) → Bytes v → (d at a len : ℕ) (s : Some) → find v (total v) d ≡ found.Packet at a len → AsCalls v (at + (3 + len)) s
+more : (v : View) → Bytes v → (d at a len : ℕ) (s : Some) → find v (total v) d ≡ found.Packet at a len
+    → AsCalls v (at + (3 + len)) s
     → AsCalls v d (before (bytesFrom v at (3 + len)) s)
 unfolding dataOf
 more v small d at a len s h c =
@@ -57,7 +60,8 @@ more v small d at a len s h c =
     let bytes = rw e at (c .bytes) in
     let place = rw e at (c .at) in
     record {
-      bytes = ap₂ (λ (x y : List ℕ). x ++ y) (card-bytes v small (total v) d at a len h) bytes ∙ sym (ap dataOf (turn .0));
+      bytes = ap₂ (λ (x y : List ℕ). x ++ y) (card-bytes v small (total v) d at a len h) bytes
+          ∙ sym (ap dataOf (turn .0));
       at = place ∙ sym (turn .1);
     }
 
@@ -66,10 +70,12 @@ unfolding someFrom inTurn dataOf placeAfter
 as-calls v small zero d room = record { bytes = refl; at = refl }
 as-calls v small (suc n) d room = go (find v (total v) d) refl (λ e left. as-calls v small n e left)
   where
-    go : (f : Found) → find v (total v) d ≡ f → ((e left : ℕ) → AsCalls v e (someFrom v n e left)) → AsCalls v d (someFrom v (suc n) d room)
+    go : (f : Found) → find v (total v) d ≡ f → ((e left : ℕ) → AsCalls v e (someFrom v n e left))
+        → AsCalls v d (someFrom v (suc n) d room)
     go found.Nothing e i = rw (e, someFrom) (record { bytes = refl; at = refl })
     go (found.Packet at a len) e i = elim (decLt room (3 + len)) [
       | yes l ↦ rw (e, someFrom, lt-ltb room (3 + len) l) (record { bytes = refl; at = refl })
       | no l ↦ rw (e, someFrom, le-ltb room (3 + len) (omega arith))
-          (more v small d at a len (someFrom v n (at + (3 + len)) (room - (3 + len))) e (i (at + (3 + len)) (room - (3 + len))))
+          (more v small d at a len (someFrom v n (at + (3 + len)) (room - (3 + len))) e
+          (i (at + (3 + len)) (room - (3 + len))))
     ]

@@ -10,7 +10,8 @@ use lib.ListN.{length, drop, getD}
 use lib.Seq.{take-all, paste}
 use Rattle.card.specs.declared.stream.Found.the-variants as found
 use Rattle.card.specs.declared.stream.Step.the-variants.{Gives}
-use Rattle.card.specs.Reading.{View, total, blockEnd, cleanTo, cleanUpTo, lengthAt, endpointAt, packetAt, beginAt, stepAt, bytesFrom, find}
+use Rattle.card.specs.Reading.{View, total, blockEnd, cleanTo, cleanUpTo, lengthAt, endpointAt, packetAt, beginAt}
+use Rattle.card.specs.Reading.{stepAt, bytesFrom, find}
 use Rattle.card.specs.Streams.{view, pairAt, goodBlock, dataByte}
 use Rattle.card.specs.Places.{good-inside}
 use Rattle.card.specs.Steps.{intact-good, packet-in, begin-packet, step-begin}
@@ -24,10 +25,12 @@ pub standing-none : (v : View) (d : ℕ) → Standing v d 0 0
 unfolding Standing
 standing-none v d = refl
 
-pub standing-more : (v : View) (d count m a len : ℕ) → Standing v d count m → find v (total v) (d + m) ≡ found.Packet (d + m) a len
+pub standing-more : (v : View) (d count m a len : ℕ) → Standing v d count m → find v (total v) (d + m)
+    ≡ found.Packet (d + m) a len
     → Standing v d (count + 1) (m + (3 + len))
 unfolding Standing
-standing-more v d count m a len s h = rw (add-one count) (m, s, record { endpoint = a; len = len; next = h; ends = refl })
+standing-more v d count m a len s h = rw (add-one count)
+    (m, s, record { endpoint = a; len = len; next = h; ends = refl })
 
 pub standing-count : (v : View) (d count n : ℕ) → Standing v d count n → count ≤ n
 unfolding Standing
@@ -53,7 +56,8 @@ good-lies s k g = elim (decLt k (length s / 512)) [
 ]
 
 -- the places from d up to x of one good block
-one-clean : (v : View) (d x : ℕ) → v .good (d / 504) ≡ true → d < x → blockEnd x ≡ d / 504 + 1 → blockEnd x ≤ cleanUpTo v d x
+one-clean : (v : View) (d x : ℕ) → v .good (d / 504) ≡ true → d < x → blockEnd x ≡ d / 504 + 1 → blockEnd x
+    ≤ cleanUpTo v d x
 unfolding cleanTo
 one-clean v d x g l e =
     let one : blockEnd x - d / 504 ≡ 1 = omega arith in
@@ -65,9 +69,11 @@ inside-found v d a n g b l e nz m =
     let header = intact-good v d (d + 3) (beginAt v d) (one-clean v d (d + 3) g (omega arith) (omega arith)) in
     let begin = begin-packet v d (λ z. nz (sym e ∙ z)) in
     let packet = packet-in v d n (omega arith) in
-    let whole = intact-good v d (d + 3 + n) (Gives (endpointAt v d) n) (one-clean v d (d + 3 + n) g (omega arith) (omega arith)) in
+    let whole = intact-good v d (d + 3 + n) (Gives (endpointAt v d) n)
+    (one-clean v d (d + 3 + n) g (omega arith) (omega arith)) in
     let gives : stepAt v d ≡ Gives a n =
-    step-begin v d (omega arith) ∙ header ∙ begin ∙ ap (λ (k : ℕ). packetAt v d k) m ∙ packet ∙ whole ∙ ap (λ (x : ℕ). Gives x n) e in
+    step-begin v d (omega arith) ∙ header ∙ begin ∙ ap (λ (k : ℕ). packetAt v d k) m ∙ packet ∙ whole
+    ∙ ap (λ (x : ℕ). Gives x n) e in
     let some-places : total v ≡ suc (total v - 1) = omega arith in
     rw some-places (find-give v (total v - 1) d a n gives)
 
@@ -86,7 +92,8 @@ header-bytes s d m h =
     (rw (k2, i2), rw (k0, i0, k1, i1))
 
 -- a header in a good block, of a packet that ends in it
-pub walk-more : (s : List ℕ) (d count m a n : ℕ) → goodBlock s (d / 504) ≡ true → d % 504 + m + (3 + n) ≤ 504 → Standing (view s) d count m
+pub walk-more : (s : List ℕ) (d count m a n : ℕ) → goodBlock s (d / 504) ≡ true → d % 504 + m + (3 + n) ≤ 504
+    → Standing (view s) d count m
     → a ≡ getD s (d / 504 * 512 + (6 + d % 504 + m + 2)) 0 → (a ≡ 0 → ⊥) → n ≡ pairAt s (d / 504) (6 + d % 504 + m)
     → Standing (view s) d (count + 1) (m + (3 + n))
 walk-more s d count m a n g l st e nz p =
@@ -94,7 +101,8 @@ walk-more s d count m a n g l st e nz p =
     let k : (d + m) / 504 ≡ d / 504 = omega arith in
     let good : goodBlock s ((d + m) / 504) ≡ true = rw k g in
     let lies = good-lies s (d / 504) g in
-    let next = inside-found (view s) (d + m) a n good (omega arith) (omega arith) (sym (e ∙ header .0)) nz (sym (p ∙ header .1)) in
+    let next = inside-found (view s) (d + m) a n good (omega arith) (omega arith) (sym (e ∙ header .0)) nz
+    (sym (p ∙ header .1)) in
     standing-more (view s) d count m a n st next
 
 -- what was looked at serves at the place behind

@@ -1,4 +1,5 @@
--- The packets that lie wholly in good blocks, and the begins that blocks name, of a list of packets that stand one behind the other.
+-- The packets that lie wholly in good blocks, and the begins that blocks name, of a list of packets that stand one
+-- behind the other.
 use mathlib.Core.Path.{_≡_}
 use mathlib.Core.Bool.{Bool, true, false, cond, _&&_}
 use mathlib.Core.List.{List, [], _∷_}
@@ -27,7 +28,8 @@ unfoldable pub firstIn : ℕ → ℕ → List Packet → ℕ
 firstIn k d [] = 65535
 firstIn k d (p ∷ ps) = cond (eqb (d / 504) k) (6 + d % 504) (firstIn k (d + size p) ps)
 
--- each good block is one of the stream's and as it was written there: its packet data, which zeros follow, and the begin that it names
+-- each good block is one of the stream's and as it was written there: its packet data, which zeros follow, and the
+-- begin that it names
 pub record AsWritten (v : View) (ps : List Packet) : Type 0 where
   pub inside : (k : ℕ) → v .blocks ≤ k → v .good k ≡ false
   pub bytes : (d : ℕ) → d < total v → v .good (d / 504) ≡ true → v .byte d ≡ getD (dataOf ps) d 0

@@ -17,10 +17,16 @@ module _ (lent source : List ℕ) (at n : ℕ) where
   none-pasted = record { few = omega arith; long = refl; holds = paste-zero lent at source }
 
   -- one byte more
-  pub one-pasted : (now : List ℕ) (i v : ℕ) → Pasted lent source at n now i → getD source i 0 ≡ v → i < n → i < length source → at + i < length lent
+  pub one-pasted : (now : List ℕ) (i v : ℕ) → Pasted lent source at n now i → getD source i 0 ≡ v → i < n → i
+      < length source → at + i < length lent
       → Pasted lent source at n (set now (at + i) v) (i + 1)
   one-pasted now i v h e l s r =
-      record { few = omega arith; long = length-set now (at + i) v ∙ h .long; holds = rw (h .holds, ← e, add-one i) (paste-suc lent at source i 0 r s) }
+      record {
+        few = omega arith;
+        long = length-set now (at + i) v ∙ h .long;
+        holds
+            = rw (h .holds, ← e, add-one i) (paste-suc lent at source i 0 r s);
+      }
 
   -- all of them
   pub all-pasted : (now : List ℕ) (i : ℕ) → Pasted lent source at n now i → n ≤ i → now ≡ paste lent at source n

@@ -59,11 +59,13 @@ unfolding blockOf
 block-head ps k i h = sealed-head (bodyOf ps k) i (omega (arith, length-body-of ps k))
 
 -- the byte i of block k's packet data
-pub block-data : (ps : List Packet) (k i : ℕ) → i < 504 → getD (blockOf ps k) (6 + i) 0 ≡ getD (dataOf ps) (k * 504 + i) 0
+pub block-data : (ps : List Packet) (k i : ℕ) → i < 504 → getD (blockOf ps k) (6 + i) 0
+    ≡ getD (dataOf ps) (k * 504 + i) 0
 unfolding body
 block-data ps k i h =
     let e : 6 + i ≡ suc (suc (suc (suc (suc (suc i))))) = omega arith in
-    block-head ps k (6 + i) (omega arith) ∙ rw e (getD-filled 504 (drop (k * 504) (dataOf ps)) i h ∙ getD-drop (k * 504) (dataOf ps) i 0)
+    block-head ps k (6 + i) (omega arith) ∙ rw e (getD-filled 504 (drop (k * 504) (dataOf ps)) i h
+    ∙ getD-drop (k * 504) (dataOf ps) i 0)
 
 pub block-first : (ps : List Packet) (k : ℕ) → getD (blockOf ps k) 4 0 + getD (blockOf ps k) 5 0 * 256 ≡ firstIn k 0 ps
 unfolding body
@@ -90,7 +92,8 @@ length-blocks ps zero k = refl
 length-blocks ps (suc n) k =
     omega (arith, length-append (blockOf ps k) (blocksFrom ps (k + 1) n), length-block ps k, length-blocks ps n (k + 1))
 
-drop-blocks : (ps : List Packet) (j n k : ℕ) → j < n → take 512 (drop (j * 512) (blocksFrom ps k n)) ≡ blockOf ps (k + j)
+drop-blocks : (ps : List Packet) (j n k : ℕ) → j < n → take 512 (drop (j * 512) (blocksFrom ps k n))
+    ≡ blockOf ps (k + j)
 unfolding blocksFrom
 drop-blocks ps j zero k h = absurd (omega arith)
 drop-blocks ps zero (suc n) k h =
@@ -99,7 +102,8 @@ drop-blocks ps zero (suc n) k h =
 drop-blocks ps (suc j) (suc n) k h =
     let e : k + suc j ≡ k + 1 + j = omega arith in
     let f : suc j * 512 ≡ length (blockOf ps k) + j * 512 = omega (arith, length-block ps k) in
-    rw (e, f, drop-append-add (blockOf ps k) (blocksFrom ps (k + 1) n) (j * 512)) (drop-blocks ps j n (k + 1) (omega arith))
+    rw (e, f, drop-append-add (blockOf ps k) (blocksFrom ps (k + 1) n) (j * 512))
+    (drop-blocks ps j n (k + 1) (omega arith))
 
 pub block-written : (ps : List Packet) (k : ℕ) → k < blockCount ps → blockAt (stream ps) k ≡ blockOf ps k
 unfolding stream
@@ -113,7 +117,8 @@ length-stream ps = length-blocks ps (blockCount ps) 0
 two-bytes : (x : ℕ) → x % 256 + x / 256 % 256 * 256 ≡ x % 65536
 two-bytes x = omega arith
 
-four-bytes : (x : ℕ) → x % 256 + x / 256 % 256 * 256 + x / 65536 % 256 * 65536 + x / 16777216 % 256 * 16777216 ≡ x % 4294967296
+four-bytes : (x : ℕ) → x % 256 + x / 256 % 256 * 256 + x / 65536 % 256 * 65536 + x / 16777216 % 256 * 16777216
+    ≡ x % 4294967296
 four-bytes x =
     let h : x / 16777216 ≡ x / 65536 / 256 = omega arith in
     let a = two-bytes x in
@@ -124,7 +129,8 @@ four-bytes x =
     wide : (y : ℕ) → y % 65536 + y / 65536 % 65536 * 65536 ≡ y % 4294967296
     wide y = omega arith
 
-pub number-written : (s : List ℕ) (ps : List Packet) (k : ℕ) → blockAt s k ≡ blockOf ps k → numberAt s k ≡ k % 4294967296
+pub number-written : (s : List ℕ) (ps : List Packet) (k : ℕ) → blockAt s k ≡ blockOf ps k → numberAt s k
+    ≡ k % 4294967296
 unfolding body
 number-written s ps k e =
     let at : (i : ℕ) → i < 510 → byteIn s k i ≡ getD (bodyOf ps k) i 0 =
@@ -135,7 +141,8 @@ number-written s ps k e =
     let b3 : byteIn s k 3 ≡ k / 16777216 % 256 = at 3 (omega arith) in
     rw (b0, b1, b2, b3) (four-bytes k)
 
-pub check-written : (s : List ℕ) (ps : List Packet) (k : ℕ) → blockAt s k ≡ blockOf ps k → pairAt s k 510 ≡ dataCrc (take 510 (drop (k * 512) s))
+pub check-written : (s : List ℕ) (ps : List Packet) (k : ℕ) → blockAt s k ≡ blockOf ps k → pairAt s k 510
+    ≡ dataCrc (take 510 (drop (k * 512) s))
 unfolding blockOf sealed
 check-written s ps k e =
     let l = length-body-of ps k in
@@ -144,7 +151,8 @@ check-written s ps k e =
     let b1 : byteIn s k 511 ≡ dataCrc (bodyOf ps k) / 256 =
     byte-block s k 511 (omega arith) ∙ ap (λ (b : List ℕ). getD b 511 0) e ∙ behind 1 511 (omega arith) in
     let c : take 510 (drop (k * 512) s) ≡ bodyOf ps k =
-    sym (take-take 510 512 (drop (k * 512) s) (omega arith)) ∙ ap (take 510) e ∙ take-at (bodyOf ps k) (le16 (dataCrc (bodyOf ps k))) 510 l in
+    sym (take-take 510 512 (drop (k * 512) s) (omega arith)) ∙ ap (take 510) e
+    ∙ take-at (bodyOf ps k) (le16 (dataCrc (bodyOf ps k))) 510 l in
     rw (b0, b1, c) (omega arith)
   where
     behind : (i j : ℕ) → j ≡ length (bodyOf ps k) + i

@@ -9,8 +9,10 @@ use Rattle.card.specs.declared.stream.Step.{Step}
 use Rattle.card.specs.declared.stream.Step.the-variants.{Ends, Goes, Gives}
 use Rattle.card.specs.declared.stream.Found.{Found}
 use Rattle.card.specs.declared.stream.Found.the-variants as found
-use Rattle.card.specs.Reading.{View, total, begins, seek, seekFrom, blockEnd, cleanUpTo, intact, lengthAt, endpointAt, beginAt, stepAt, find}
-use Rattle.card.specs.Steps.{intact-good, intact-cut, packet-in, packet-past, begin-filler, begin-packet, step-short, step-begin}
+use Rattle.card.specs.Reading.{View, total, begins, seek, seekFrom, blockEnd, cleanUpTo, intact, lengthAt}
+use Rattle.card.specs.Reading.{endpointAt, beginAt, stepAt, find}
+use Rattle.card.specs.Steps.{intact-good, intact-cut, packet-in, packet-past, begin-filler, begin-packet}
+use Rattle.card.specs.Steps.{step-short, step-begin}
 use Rattle.card.specs.Clean.{clean-low}
 
 pub seek-low : (v : View) (n k : ℕ) → k * 504 ≤ seek v k n
@@ -18,7 +20,8 @@ unfolding seek
 seek-low v zero k = omega arith
 seek-low v (suc n) k = go (seek-low v n (k + 1)) (begins v k)
   where
-    go : (k + 1) * 504 ≤ seek v (k + 1) n → (b : Bool) → k * 504 ≤ cond b (k * 504 + (v .named k - 6)) (seek v (k + 1) n)
+    go : (k + 1) * 504 ≤ seek v (k + 1) n → (b : Bool) → k * 504
+        ≤ cond b (k * 504 + (v .named k - 6)) (seek v (k + 1) n)
     go i true = omega arith
     go i false = omega arith
 
@@ -27,7 +30,12 @@ intact-further : (v : View) (d x : ℕ) (s : Step) (e : ℕ) → (s ≡ Goes e �
 intact-further v d x s e h i = elim (decLt (cleanUpTo v d x) (blockEnd x)) [
   | yes c ↦ (let g : Goes (seekFrom v (cleanUpTo v d x + 1)) ≡ Goes e = sym (intact-cut v d x s c) ∙ i in
       let f : seekFrom v (cleanUpTo v d x + 1) ≡ e = cc in
-      omega (arith, seek-low v (v .blocks - (cleanUpTo v d x + 1)) (cleanUpTo v d x + 1), clean-low v (blockEnd x - d / 504) (d / 504)))
+      omega (
+        arith,
+        seek-low v (v .blocks - (cleanUpTo v d x + 1)) (cleanUpTo v d x + 1),
+        clean-low v
+            (blockEnd x - d / 504) (d / 504),
+      ))
   | no c ↦ h (sym (intact-good v d x s (omega arith)) ∙ i)
 ]
 
@@ -43,7 +51,8 @@ begin-further v d e h = elim (ℕ-discrete (endpointAt v d) 0) [
   | no z ↦ elim (decLt (total v) (d + 3 + lengthAt v d)) [
     | yes p ↦ intact-further v d (total v) Ends e (λ g. absurd (ends-nowhere e g))
         (sym (begin-packet v d z ∙ packet-past v d (lengthAt v d) p) ∙ h)
-    | no p ↦ intact-further v d (d + 3 + lengthAt v d) (Gives (endpointAt v d) (lengthAt v d)) e (λ g. absurd (gives-nowhere _ _ e g))
+    | no p ↦ intact-further v d (d + 3 + lengthAt v d) (Gives (endpointAt v d) (lengthAt v d)) e
+        (λ g. absurd (gives-nowhere _ _ e g))
         (sym (begin-packet v d z ∙ packet-in v d (lengthAt v d) (omega arith)) ∙ h)
   ]
 ]
@@ -51,7 +60,11 @@ begin-further v d e h = elim (ℕ-discrete (endpointAt v d) 0) [
 pub goes-further : (v : View) (d e : ℕ) → stepAt v d ≡ Goes e → (d + 3 ≤ total v) × (d < e)
 goes-further v d e h = elim (decLt (total v) (d + 3)) [
   | yes s ↦ absurd (ends-nowhere e (sym (step-short v d s) ∙ h))
-  | no s ↦ (omega arith, intact-further v d (d + 3) (beginAt v d) e (begin-further v d e) (sym (step-begin v d (omega arith)) ∙ h))
+  | no s ↦ (
+    omega arith,
+    intact-further v d (d + 3) (beginAt v d) e (begin-further v d e)
+        (sym (step-begin v d (omega arith)) ∙ h),
+  )
 ]
 
 -- a packet that is given lies in the stream
@@ -66,11 +79,13 @@ ends-gives a n h = let z : _≡_ {A = ℕ} 0 1 = cc in omega arith
 
 -- a packet that begins at d has the header there, and lies in the stream and in good blocks
 begin-gives : (v : View) (d a n : ℕ) → beginAt v d ≡ Gives a n
-    → (endpointAt v d ≡ a) × (lengthAt v d ≡ n) × (d + 3 + n ≤ total v) × (intact v d (d + 3 + n) (Gives a n) ≡ Gives a n)
+    → (endpointAt v d ≡ a) × (lengthAt v d ≡ n) × (d + 3 + n ≤ total v)
+    × (intact v d (d + 3 + n) (Gives a n) ≡ Gives a n)
 begin-gives v d a n h = elim (ℕ-discrete (endpointAt v d) 0) [
   | yes z ↦ absurd (ends-gives a n (sym (begin-filler v d z) ∙ h))
   | no z ↦ elim (decLt (total v) (d + 3 + lengthAt v d)) [
-    | yes p ↦ absurd (ends-gives a n (intact-gives v d (total v) Ends a n (sym (begin-packet v d z ∙ packet-past v d (lengthAt v d) p) ∙ h)))
+    | yes p ↦ absurd (ends-gives a n (intact-gives v d (total v) Ends a n
+        (sym (begin-packet v d z ∙ packet-past v d (lengthAt v d) p) ∙ h)))
     | no p ↦ (let i = sym (begin-packet v d z ∙ packet-in v d (lengthAt v d) (omega arith)) ∙ h in
         let g = intact-gives v d (d + 3 + lengthAt v d) (Gives (endpointAt v d) (lengthAt v d)) a n i in
         let x : endpointAt v d ≡ a = cc in
@@ -104,7 +119,8 @@ find-give v f d a n h = rw (h, find)
 pub find-ends : (v : View) (f d : ℕ) (t : Found) → find v f d ≡ t → stepAt v d ≡ Ends → found.Nothing ≡ t
 find-ends v f d t e h = sym (find-end v f d h) ∙ e
 
-pub find-gives : (v : View) (f d a n : ℕ) (t : Found) → total v ≤ d + f → find v f d ≡ t → stepAt v d ≡ Gives a n → found.Packet d a n ≡ t
+pub find-gives : (v : View) (f d a n : ℕ) (t : Found) → total v ≤ d + f → find v f d ≡ t → stepAt v d ≡ Gives a n
+    → found.Packet d a n ≡ t
 find-gives v zero d a n t l e h = absurd (omega (arith, gives-fits v d a n h))
 find-gives v (suc f) d a n t l e h = sym (find-give v f d a n h) ∙ e
 
@@ -136,7 +152,8 @@ gives-clean v d a n h = elim (decLt (total v) (d + 3)) [
 gives-header : (v : View) (d a n : ℕ) → stepAt v d ≡ Gives a n → (endpointAt v d ≡ a) × (lengthAt v d ≡ n)
 gives-header v d a n h = elim (decLt (total v) (d + 3)) [
   | yes s ↦ absurd (ends-gives a n (sym (step-short v d s) ∙ h))
-  | no s ↦ (let b = begin-gives v d a n (intact-gives v d (d + 3) (beginAt v d) a n (sym (step-begin v d (omega arith)) ∙ h)) in (b .0, b .1))
+  | no s ↦ (let b = begin-gives v d a n (intact-gives v d (d + 3) (beginAt v d) a n (sym (step-begin v d (omega arith))
+      ∙ h)) in (b .0, b .1))
 ]
 
 -- what holds of each packet that a step gives holds of the one that is found
@@ -160,8 +177,12 @@ find-of P v p (suc f) d at a n h = go (stepAt v d) refl (λ e. find-of P v p f e
 pub find-fits : (v : View) (f d at a n : ℕ) → find v f d ≡ found.Packet at a n → at + 3 + n ≤ total v
 find-fits v f d at a n h = find-of (λ d a n. d + 3 + n ≤ total v) v (gives-fits v) f d at a n h
 
-pub find-clean : (v : View) (f d at a n : ℕ) → find v f d ≡ found.Packet at a n → blockEnd (at + 3 + n) ≤ cleanUpTo v at (at + 3 + n)
-find-clean v f d at a n h = find-of (λ d a n. blockEnd (d + 3 + n) ≤ cleanUpTo v d (d + 3 + n)) v (gives-clean v) f d at a n h
+pub find-clean : (v : View) (f d at a n : ℕ) → find v f d ≡ found.Packet at a n → blockEnd (at + 3 + n)
+    ≤ cleanUpTo v at (at + 3 + n)
+find-clean v f d at a n h = find-of (λ d a n. blockEnd (d + 3 + n) ≤ cleanUpTo v d (d + 3 + n)) v (gives-clean v) f d at
+    a n h
 
-pub find-header : (v : View) (f d at a n : ℕ) → find v f d ≡ found.Packet at a n → (endpointAt v at ≡ a) × (lengthAt v at ≡ n)
-find-header v f d at a n h = find-of (λ d a n. (endpointAt v d ≡ a) × (lengthAt v d ≡ n)) v (gives-header v) f d at a n h
+pub find-header : (v : View) (f d at a n : ℕ) → find v f d ≡ found.Packet at a n → (endpointAt v at ≡ a)
+    × (lengthAt v at ≡ n)
+find-header v f d at a n h = find-of (λ d a n. (endpointAt v d ≡ a) × (lengthAt v d ≡ n)) v (gives-header v) f d at a n
+    h

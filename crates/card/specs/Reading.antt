@@ -1,4 +1,5 @@
--- What a reader gives, in the words of the request. Places of packet data are counted over all blocks, 504 bytes in each.
+-- What a reader gives, in the words of the request. Places of packet data are counted over all blocks, 504 bytes in
+-- each.
 use mathlib.Core.Bool.{Bool, cond, _&&_}
 use mathlib.Core.List.{List, [], _∷_}
 use Prim.Native.Nat.{ℕ, zero, suc, _+_, _-_, _*_, _/_, min}
@@ -44,7 +45,8 @@ blockEnd e = (e + 503) / 504
 abbrev pub cleanUpTo : View → ℕ → ℕ → ℕ
 cleanUpTo v d e = cleanTo v (d / 504) (blockEnd e - d / 504)
 
--- what the places from d up to e hold, if their blocks are good; else the packet is cut, and the reader goes on behind the first that is not
+-- what the places from d up to e hold, if their blocks are good; else the packet is cut, and the reader goes on behind
+-- the first that is not
 unfoldable pub intact : View → ℕ → ℕ → Step → Step
 intact v d e s = cond (ltb (cleanUpTo v d e) (blockEnd e)) (Goes (seekFrom v (cleanUpTo v d e + 1))) s
 
@@ -85,7 +87,8 @@ readFrom v (suc n) d = elim (stepAt v d) [
   | Gives endpoint len ↦ packetFrom v d endpoint len ∷ readFrom v n (d + 3 + len)
 ]
 
--- Each step leads further, so there are no more steps than places. The reader starts as it goes on, at the next named begin.
+-- Each step leads further, so there are no more steps than places. The reader starts as it goes on, at the next named
+-- begin.
 unfoldable pub readAll : View → List Packet
 readAll v = readFrom v (total v) (seekFrom v 0)
 

@@ -9,7 +9,8 @@ use borrow.Author.Tests.{eq-eqb, ne-eqb, eqb-true, eqb-false}
 use lib.Bits.{bitXor, differ, xor-step}
 use lib.Dec.{eqb}
 use lib.ListN.{length, length-append}
-use Rattle.card.specs.Crc.{xor, digit, bitsOf, bitsOfBytes, numberOf, generator, ones, added, stepped, remainder, crcBits, dataCrc}
+use Rattle.card.specs.Crc.{xor, digit, bitsOf, bitsOfBytes, numberOf, generator, ones, added, stepped, remainder}
+use Rattle.card.specs.Crc.{crcBits, dataCrc}
 use Rattle.card.specs.Register.{turned, turns, over}
 
 -- ---- numbers of lists of bits
@@ -41,7 +42,8 @@ number-added (a ∷ l) (b ∷ m) h =
     let u : (digit a + numberOf l * 2) % 2 ≡ digit a = omega (arith, digit-lt a) in
     let w : (digit b + numberOf m * 2) % 2 ≡ digit b = omega (arith, digit-lt b) in
     let s = xor-step (digit a + numberOf l * 2) (digit b + numberOf m * 2) in
-    let t : bitXor (digit a + numberOf l * 2) (digit b + numberOf m * 2) ≡ bitXor (numberOf l) (numberOf m) * 2 + digit (xor a b) =
+    let t : bitXor (digit a + numberOf l * 2) (digit b + numberOf m * 2) ≡ bitXor (numberOf l) (numberOf m) * 2
+    + digit (xor a b) =
     rw (x, y, u, w, differ-digits a b) at s in
     omega arith
 
@@ -84,7 +86,8 @@ same-test false false x e = eq-eqb 0 (x % 2) (zero-left (x % 2) (omega arith) (e
     zero-left : (y : ℕ) → y < 2 → (y ≡ 1 → ⊥) → 0 ≡ y
     zero-left y l n = omega arith
 
-number-stepped : (l : List Bool) (b : Bool) (x : ℕ) → length l ≡ 16 → eqb (x % 2) 1 ≡ b → numberOf (stepped l b) ≡ turned (numberOf l) x
+number-stepped : (l : List Bool) (b : Bool) (x : ℕ) → length l ≡ 16 → eqb (x % 2) 1 ≡ b → numberOf (stepped l b)
+    ≡ turned (numberOf l) x
 unfolding stepped turned numberOf generator
 number-stepped [] b x h e = absurd (omega arith)
 number-stepped (high ∷ low) b x h e =
@@ -117,7 +120,8 @@ number-bits (suc n) x l h =
     let b = eqb (x % 2) 1 in
     number-bits n (x / 2) (stepped l b) (length-stepped l b ∙ h) ∙ rw (number-stepped l b x h refl)
 
-number-bytes : (xs : List ℕ) (l : List Bool) → length l ≡ 16 → numberOf (remainder l (bitsOfBytes xs)) ≡ over (numberOf l) xs
+number-bytes : (xs : List ℕ) (l : List Bool) → length l ≡ 16 → numberOf (remainder l (bitsOfBytes xs))
+    ≡ over (numberOf l) xs
 unfolding remainder bitsOfBytes over
 number-bytes [] l h = refl
 number-bytes (x ∷ xs) l h =

@@ -54,7 +54,8 @@ run-bytes s (suc (suc k)) d h l =
 
 -- ---- copies
 
-pub paste-run : (r s x : List ℕ) (at i k : ℕ) → at + (i + k) ≤ length r → i + k ≤ length s → take k x ≡ take k (drop i s)
+pub paste-run : (r s x : List ℕ) (at i k : ℕ) → at + (i + k) ≤ length r → i + k ≤ length s → take k x
+    ≡ take k (drop i s)
     → paste (paste r at s i) (at + i) x k ≡ paste r at s (i + k)
 paste-run r s x at i k hr hs e =
     let head = take-paste r at s i (omega arith) (omega arith) in
@@ -71,14 +72,16 @@ paste-run r s x at i k hr hs e =
     ap₂ (λ (a b : List ℕ). a ++ b) (ap (λ (l : List ℕ). l ++ take k x) head ∙ middle) tail
 
 -- the run of places from d + i on, of n from d on
-pub paste-places : (s r : List ℕ) (d at i k n : ℕ) → at + n ≤ length r → i + k ≤ n → d + n ≤ total (view s) → (d + i) % 504 + k ≤ 504
+pub paste-places : (s r : List ℕ) (d at i k n : ℕ) → at + n ≤ length r → i + k ≤ n → d + n ≤ total (view s)
+    → (d + i) % 504 + k ≤ 504
     → paste (paste r at (bytesFrom (view s) d n) i) (at + i) (drop ((d + i) / 504 * 512 + (6 + (d + i) % 504)) s) k
     ≡ paste r at (bytesFrom (view s) d n) (i + k)
 paste-places s r d at i k n hr hk hd h =
     let v = view s in
     let e : i + (k + (n - (i + k))) ≡ n = omega arith in
     let part : take k (drop i (bytesFrom v d n)) ≡ bytesFrom v (d + i) k = rw e at (bytes-part v i k (n - (i + k)) d) in
-    paste-run r (bytesFrom v d n) _ at i k (omega arith) (omega (arith, length-bytes v n d)) (run-bytes s k (d + i) h (omega arith) ∙ sym part)
+    paste-run r (bytesFrom v d n) _ at i k (omega arith) (omega (arith, length-bytes v n d))
+    (run-bytes s k (d + i) h (omega arith) ∙ sym part)
 
 -- ---- a packet that was found, given into a room
 
@@ -86,7 +89,8 @@ pub given-short : (at a n room : ℕ) → room < n → next.Refused 21 ≡ given
 unfolding given
 given-short at a n room h = rw (lt-ltb room n h)
 
-pub given-fits : (at a n room : ℕ) → n ≤ room → next.Packet a n (record { at = at + 3 + n }) ≡ given (found.Packet at a n) room
+pub given-fits : (at a n room : ℕ) → n ≤ room → next.Packet a n (record { at = at + 3 + n })
+    ≡ given (found.Packet at a n) room
 unfolding given
 given-fits at a n room h = rw (le-ltb room n h)
 
@@ -100,7 +104,8 @@ unfolding put
 put-fits v at a n room r h e = rw (le-ltb (length room) n h) e
 
 -- places copied to the room's front
-pub paste-front : (v : View) (d n : ℕ) (room : List ℕ) → paste room 0 (bytesFrom v d n) n ≡ bytesFrom v d n ++ drop n room
+pub paste-front : (v : View) (d n : ℕ) (room : List ℕ) → paste room 0 (bytesFrom v d n) n ≡ bytesFrom v d n
+    ++ drop n room
 paste-front v d n room =
     let all : take n (bytesFrom v d n) ≡ bytesFrom v d n = take-all n _ (omega (arith, length-bytes v n d)) in
     ap₂ (λ (l : List ℕ) (k : ℕ). l ++ drop k room) all (zero-add n)
@@ -115,11 +120,13 @@ pub room-torn : (s : List ℕ) (at : ℕ) (room : List ℕ) → (length s % 512 
 unfolding roomOf
 room-torn s at room h = rw (ne-eqb (length s % 512) 0 h)
 
-pub next-found : (s : List ℕ) (at room : ℕ) (f : Found) (x : Next) → length s % 512 ≡ 0 → found-from s at ≡ f → x ≡ given f room → x ≡ nextOf s at room
+pub next-found : (s : List ℕ) (at room : ℕ) (f : Found) (x : Next) → length s % 512 ≡ 0 → found-from s at ≡ f → x
+    ≡ given f room → x ≡ nextOf s at room
 unfolding nextOf
 next-found s at room f x h e g = rw (eq-eqb (length s % 512) 0 h, e) g
 
-pub room-found : (s : List ℕ) (at : ℕ) (room : List ℕ) (f : Found) (r : List ℕ) → length s % 512 ≡ 0 → found-from s at ≡ f
+pub room-found : (s : List ℕ) (at : ℕ) (room : List ℕ) (f : Found) (r : List ℕ) → length s % 512 ≡ 0 → found-from s at
+    ≡ f
     → r ≡ put (view s) f room → r ≡ roomOf s at room
 unfolding roomOf
 room-found s at room f r h e g = rw (eq-eqb (length s % 512) 0 h, e) g

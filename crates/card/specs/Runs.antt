@@ -17,7 +17,8 @@ use Rattle.card.specs.Calls.{startOf, nextOf, roomOf}
 unfoldable pub nextRun : List ℕ → List ℕ → ℕ → ℕ → List Packet
 nextRun s room zero at = []
 nextRun s room (suc n) at = elim (nextOf s at (length room)) [
-  | next.Packet endpoint len then ↦ packetOf endpoint (take len (roomOf s at room)) ∷ nextRun s (roomOf s at room) n (then .at)
+  | next.Packet endpoint len then ↦ packetOf endpoint (take len (roomOf s at room))
+      ∷ nextRun s (roomOf s at room) n (then .at)
   | next.End ↦ []
   | next.Refused e ↦ []
 ]

@@ -28,8 +28,10 @@ next-end : (s room : List ℕ) (n at : ℕ) → nextOf s at (length room) ≡ ne
 unfolding nextRun
 next-end s room n at h = rw (h, nextRun)
 
-next-more : (s room : List ℕ) (n at endpoint len : ℕ) (then : Reader) → nextOf s at (length room) ≡ next.Packet endpoint len then
-    → nextRun s room (suc n) at ≡ packetOf endpoint (take len (roomOf s at room)) ∷ nextRun s (roomOf s at room) n (then .at)
+next-more : (s room : List ℕ) (n at endpoint len : ℕ) (then : Reader) → nextOf s at (length room)
+    ≡ next.Packet endpoint len then
+    → nextRun s room (suc n) at ≡ packetOf endpoint (take len (roomOf s at room))
+    ∷ nextRun s (roomOf s at room) n (then .at)
 unfolding nextRun
 next-more s room n at endpoint len then h = rw (h, nextRun)
 
@@ -52,7 +54,8 @@ tail-all p l (q ∷ m) e (more h t) = let x : l ≡ m = cc in rw x t
 
 -- ---- all calls
 
-pub run-in-turn : (s : List ℕ) → length s % 512 ≡ 0 → (n at : ℕ) (room : List ℕ) → 1024 ≤ length room → All (inTurn (view s) n at)
+pub run-in-turn : (s : List ℕ) → length s % 512 ≡ 0 → (n at : ℕ) (room : List ℕ) → 1024 ≤ length room
+    → All (inTurn (view s) n at)
     → nextRun s room n at ≡ inTurn (view s) n at
 unfolding nextRun inTurn
 run-in-turn s w zero at room r a = refl
@@ -62,21 +65,36 @@ run-in-turn s w (suc n) at room r a = go (found-from s at) refl (λ d q l b. run
         → ((d : ℕ) (q : List ℕ) → 1024 ≤ length q → All (inTurn (view s) n d) → nextRun s q n d ≡ inTurn (view s) n d)
         → nextRun s room (suc n) at ≡ inTurn (view s) (suc n) at
     go found.Nothing e ih =
-        next-end s room n at (sym (next-found s at (length room) found.Nothing next.End w e (given-nothing (length room))))
+        next-end s room n at (sym (next-found s at (length room) found.Nothing next.End w e
+        (given-nothing (length room))))
         ∙ sym (in-turn-end (view s) n at e)
     go (found.Packet b endpoint len) e ih =
         let t = in-turn-more (view s) n at b endpoint len e in
-        let h : len ≤ 1024 = omega (arith, length-bytes (view s) len (b + 3), head-short (packetFrom (view s) b endpoint len) _ _ (sym t) a) in
-        let x = next-found s at (length room) (found.Packet b endpoint len) _ w e (given-fits b endpoint len (length room) (omega arith)) in
+        let h : len ≤ 1024 = omega (
+          arith,
+          length-bytes (view s) len (b + 3),
+          head-short
+              (packetFrom (view s) b endpoint len) _ _ (sym t) a,
+        ) in
+        let x = next-found s at (length room) (found.Packet b endpoint len) _ w e
+        (given-fits b endpoint len (length room) (omega arith)) in
         let y : roomOf s at room ≡ bytesFrom (view s) (b + 3) len ++ drop len room =
-        sym (room-found s at room (found.Packet b endpoint len) _ w e (put-fits (view s) b endpoint len room _ (omega arith) refl)) in
+        sym (room-found s at room (found.Packet b endpoint len) _ w e
+        (put-fits (view s) b endpoint len room _ (omega arith) refl)) in
         let k : take len (roomOf s at room) ≡ bytesFrom (view s) (b + 3) len =
         rw y (take-at (bytesFrom (view s) (b + 3) len) (drop len room) len (length-bytes (view s) len (b + 3))) in
         let z : length (roomOf s at room) ≡ length room =
-        ap length y ∙ omega (arith, length-append (bytesFrom (view s) (b + 3) len) (drop len room), length-bytes (view s) len (b + 3), length-drop len room) in
+        ap length y ∙ omega (
+          arith,
+          length-append (bytesFrom (view s) (b + 3) len) (drop len room),
+          length-bytes
+              (view s) len (b + 3),
+          length-drop len room,
+        ) in
         next-more s room n at endpoint len _ (sym x)
         ∙ ap₂ (λ (a : List ℕ) (b : List Packet). packetOf endpoint a ∷ b) k
-        (ih (b + 3 + len) (roomOf s at room) (omega arith) (tail-all (packetFrom (view s) b endpoint len) _ _ (sym t) a))
+        (ih (b + 3 + len) (roomOf s at room) (omega arith)
+        (tail-all (packetFrom (view s) b endpoint len) _ _ (sym t) a))
         ∙ sym t
 
 pub kept-all : (v : View) (ps : List Packet) (d : ℕ) → All ps → All (keptFrom v d ps)
@@ -84,12 +102,14 @@ unfolding keptFrom
 kept-all v [] d none = none
 kept-all v (p ∷ ps) d (more h t) = go (wholly v d (d + size p)) (kept-all v ps (d + size p) t)
   where
-    go : (b : Bool) → All (keptFrom v (d + size p) ps) → All (cond b (p ∷ keptFrom v (d + size p) ps) (keptFrom v (d + size p) ps))
+    go : (b : Bool) → All (keptFrom v (d + size p) ps)
+        → All (cond b (p ∷ keptFrom v (d + size p) ps) (keptFrom v (d + size p) ps))
     go true a = more h a
     go false a = a
 
 -- A room of 1,024 bytes is never too short; the stream may be cut short, and blocks that are not good may follow.
-pub run-gives : (ps : List Packet) → All ps → (s room : List ℕ) → length s % 512 ≡ 0 → AsInStream s ps → 1024 ≤ length room
+pub run-gives : (ps : List Packet) → All ps → (s room : List ℕ) → length s % 512 ≡ 0 → AsInStream s ps → 1024
+    ≤ length room
     → readRun s room ≡ keptFrom (view s) 0 ps
 unfolding readRun startOf
 run-gives ps fine s room w h r =

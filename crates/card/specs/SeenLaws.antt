@@ -13,7 +13,8 @@ seen-none v d =
     record { low = omega arith; high = omega arith; good = rw e (omega arith) }
 
 -- the blocks behind some that are good
-pub clean-behind : (v : View) (a b e : ℕ) → a ≤ b → b ≤ e → b ≤ cleanTo v a (b - a) → cleanTo v b (e - b) ≡ cleanTo v a (e - a)
+pub clean-behind : (v : View) (a b e : ℕ) → a ≤ b → b ≤ e → b ≤ cleanTo v a (b - a) → cleanTo v b (e - b)
+    ≡ cleanTo v a (e - a)
 clean-behind v a b e l h c =
     let x : a + (b - a) ≡ b = omega arith in
     let y : (b - a) + (e - b) ≡ e - a = omega arith in

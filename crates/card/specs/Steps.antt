@@ -6,24 +6,29 @@ use native.Mathlib.Omega.{arith}
 use borrow.Author.Tests.{lt-ltb, le-ltb, eq-eqb, ne-eqb}
 use Rattle.card.specs.declared.stream.Step.{Step}
 use Rattle.card.specs.declared.stream.Step.the-variants.{Ends, Goes, Gives}
-use Rattle.card.specs.Reading.{View, total, seekFrom, blockEnd, cleanUpTo, intact, lengthAt, endpointAt, packetFrom, packetAt, beginAt, stepAt}
+use Rattle.card.specs.Reading.{View, total, seekFrom, blockEnd, cleanUpTo, intact, lengthAt, endpointAt}
+use Rattle.card.specs.Reading.{packetFrom, packetAt, beginAt, stepAt}
 use Rattle.card.specs.Reading.{readFrom}
 
 pub intact-good : (v : View) (d e : ℕ) (s : Step) → blockEnd e ≤ cleanUpTo v d e → intact v d e s ≡ s
 unfolding intact
 intact-good v d e s h = rw (le-ltb (cleanUpTo v d e) (blockEnd e) h)
 
-pub intact-cut : (v : View) (d e : ℕ) (s : Step) → cleanUpTo v d e < blockEnd e → intact v d e s ≡ Goes (seekFrom v (cleanUpTo v d e + 1))
+pub intact-cut : (v : View) (d e : ℕ) (s : Step) → cleanUpTo v d e < blockEnd e → intact v d e s
+    ≡ Goes (seekFrom v (cleanUpTo v d e + 1))
 unfolding intact
 intact-cut v d e s h = rw (lt-ltb (cleanUpTo v d e) (blockEnd e) h)
 
-pub packet-in : (v : View) (d n : ℕ) → d + 3 + n ≤ total v → packetAt v d n ≡ intact v d (d + 3 + n) (Gives (endpointAt v d) n)
+pub packet-in : (v : View) (d n : ℕ) → d + 3 + n ≤ total v → packetAt v d n
+    ≡ intact v d (d + 3 + n) (Gives (endpointAt v d) n)
 unfolding packetAt
-packet-in v d n h = let e : min (d + 3 + n) (total v) ≡ d + 3 + n = omega arith in rw (e, le-ltb (total v) (d + 3 + n) h)
+packet-in v d n h = let e : min (d + 3 + n) (total v) ≡ d + 3 + n
+    = omega arith in rw (e, le-ltb (total v) (d + 3 + n) h)
 
 pub packet-past : (v : View) (d n : ℕ) → total v < d + 3 + n → packetAt v d n ≡ intact v d (total v) Ends
 unfolding packetAt
-packet-past v d n h = let e : min (d + 3 + n) (total v) ≡ total v = omega arith in rw (e, lt-ltb (total v) (d + 3 + n) h)
+packet-past v d n h = let e : min (d + 3 + n) (total v) ≡ total v
+    = omega arith in rw (e, lt-ltb (total v) (d + 3 + n) h)
 
 pub begin-filler : (v : View) (d : ℕ) → endpointAt v d ≡ 0 → beginAt v d ≡ Ends
 unfolding beginAt

@@ -37,7 +37,8 @@ read-enough v (suc f) (suc g) d l m = go (stepAt v d) refl (λ e. read-enough v 
         let h = goes-further v d x e in
         read-goes v f d x e ∙ i x (omega arith) (omega arith) ∙ sym (read-goes v g d x e)
     go (Gives a n) e i =
-        read-gives v f d a n e ∙ ap (λ (l : List Packet). packetFrom v d a n ∷ l) (i (d + 3 + n) (omega arith) (omega arith))
+        read-gives v f d a n e ∙ ap (λ (l : List Packet). packetFrom v d a n ∷ l)
+        (i (d + 3 + n) (omega arith) (omega arith))
         ∙ sym (read-gives v g d a n e)
 
 -- the packet found, and what is read behind it
@@ -58,7 +59,8 @@ find-behind v (suc f) d h = go (stepAt v d) refl (λ e. find-behind v f e)
         read-goes v f d x e ∙ i x (omega arith) ∙ ap (behind v) (sym (find-go v f d x e))
     go (Gives a n) e i =
         read-gives v f d a n e
-        ∙ ap (λ (l : List Packet). packetFrom v d a n ∷ l) (read-enough v f (total v) (d + 3 + n) (omega arith) (omega arith))
+        ∙ ap (λ (l : List Packet). packetFrom v d a n ∷ l)
+        (read-enough v f (total v) (d + 3 + n) (omega arith) (omega arith))
         ∙ ap (behind v) (sym (find-give v f d a n e))
 
 find-further : (v : View) (f d at a n : ℕ) → find v f d ≡ found.Packet at a n → d ≤ at
@@ -80,7 +82,8 @@ find-further v (suc f) d at a n h = go (stepAt v d) refl (λ e. find-further v f
 in-turn : (v : View) (n d : ℕ) → total v ≤ d + n → inTurn v n d ≡ readFrom v (total v) d
 unfolding inTurn behind
 in-turn v zero d h = sym (read-behind v (total v) d (omega arith))
-in-turn v (suc n) d h = go (find v (total v) d) refl (λ e. in-turn v n e) ∙ sym (find-behind v (total v) d (omega arith))
+in-turn v (suc n) d h = go (find v (total v) d) refl (λ e. in-turn v n e)
+    ∙ sym (find-behind v (total v) d (omega arith))
   where
     go : (f : Found) → find v (total v) d ≡ f → ((e : ℕ) → total v ≤ e + n → inTurn v n e ≡ readFrom v (total v) e)
         → inTurn v (suc n) d ≡ behind v (find v (total v) d)
@@ -97,8 +100,8 @@ pub calls-read : (s : List ℕ) → byCalls s ≡ readAll (view s)
 unfolding readAll
 calls-read s = in-turn (view s) (total (view s)) (seekFrom (view s) 0) (omega arith)
 
--- The calls give exactly the written packets that lie wholly in good blocks, in order, provided that each good block is as written there;
--- the stream may be cut short, and blocks that are not good may follow.
+-- The calls give exactly the written packets that lie wholly in good blocks, in order, provided that each good block is
+-- as written there; the stream may be cut short, and blocks that are not good may follow.
 pub calls-give : (ps : List Packet) → All ps → (s : List ℕ) → AsInStream s ps → byCalls s ≡ keptFrom (view s) 0 ps
 calls-give ps fine s h = calls-read s ∙ reads-written ps fine s (as-in-stream ps s h)
 

@@ -12,7 +12,8 @@ use Rattle.card.specs.Reading.{readAll, blockEnd}
 use Rattle.card.specs.Kept.{keptFrom, AsWritten}
 use Rattle.card.specs.Written.{blockOf, blockCount, stream}
 use Rattle.card.specs.Streams.{blockAt, goodBlock, dataByte, view}
-use Rattle.card.specs.Places.{block-data, block-first, byte-block, good-inside, block-written, length-stream, written-good}
+use Rattle.card.specs.Places.{block-data, block-first, byte-block, good-inside, block-written, length-stream}
+use Rattle.card.specs.Places.{written-good}
 use Rattle.card.specs.Theorem.{reads-kept, kept-whole}
 use Rattle.card.specs.Whole.{AsInStream}
 
@@ -37,12 +38,14 @@ as-written s ps h = record {
       ∙ block-first ps k;
 }
 
-pub reads-written : (ps : List Packet) → All ps → (s : List ℕ) → GoodAsWritten s ps → readAll (view s) ≡ keptFrom (view s) 0 ps
+pub reads-written : (ps : List Packet) → All ps → (s : List ℕ) → GoodAsWritten s ps → readAll (view s)
+    ≡ keptFrom (view s) 0 ps
 reads-written ps fine s h = reads-kept (view s) ps (as-written s ps h) fine
 
 -- ---- the stream as written
 
-all-kept : (ps : List Packet) (s : List ℕ) (d n : ℕ) → ((k : ℕ) → k < blockEnd n → goodBlock s k ≡ true) → d + length (dataOf ps) ≤ n
+all-kept : (ps : List Packet) (s : List ℕ) (d n : ℕ) → ((k : ℕ) → k < blockEnd n → goodBlock s k ≡ true) → d
+    + length (dataOf ps) ≤ n
     → keptFrom (view s) d ps ≡ ps
 unfolding keptFrom dataOf
 all-kept [] s d n g h = refl
@@ -59,8 +62,10 @@ good-written ps s h k g = go (decLt k (blockCount ps)) (decLt k (length s / 512)
     go (yes l) i = l
     go (no l) (no i) = absurd (false≢true (sym (good-inside s k (omega arith)) ∙ g))
     go (no l) (yes i) =
-        let a : length (blockAt s k) ≡ 512 = length-take-le 512 (drop (k * 512) s) (omega (arith, length-drop (k * 512) s)) in
-        let b : drop (k * 512) (stream ps) ≡ [] = drop-of-length-le (stream ps) {i = k * 512} (omega (arith, length-stream ps)) in
+        let a : length (blockAt s k) ≡ 512 = length-take-le 512 (drop (k * 512) s)
+        (omega (arith, length-drop (k * 512) s)) in
+        let b : drop (k * 512) (stream ps) ≡ [] = drop-of-length-le (stream ps) {i = k * 512}
+        (omega (arith, length-stream ps)) in
         let c : length (blockAt s k) ≡ 0 = ap length (h k g ∙ ap (take 512) b) in
         absurd (omega arith)
 

@@ -21,7 +21,13 @@ Lends = ℕ → List ℕ
 
 -- after a call that left the block so: a full block is stored and the next one lent
 abbrev pub after : Lends → Desk → Writer → Bool → List ℕ → Desk
-after lend d w true b = record { writer = w; block = lend (d .count + 1); count = d .count + 1; stored = d .stored ++ b }
+after lend d w true b = record {
+  writer = w;
+  block = lend (d .count + 1);
+  count = d .count + 1;
+  stored = d .stored
+      ++ b;
+}
 after lend d w false b = record { writer = w; block = b; count = d .count; stored = d .stored }
 
 -- a packet, in at most n calls

@@ -57,14 +57,17 @@ closed number first b = sealed (body number first (take 504 (drop 6 b)))
 
 -- the block with the piece in it
 abbrev pub pieceIn : Writer → Packet → List ℕ → List ℕ
-pieceIn w p b = paste b (6 + usedOf w) (drop (doneOf w (length (p .bytes))) (packetBytes p)) (pieceOf w (length (p .bytes)))
+pieceIn w p b = paste b (6 + usedOf w) (drop (doneOf w (length (p .bytes))) (packetBytes p))
+    (pieceOf w (length (p .bytes)))
 
 unfoldable pub blockOfPiece : Writer → Packet → List ℕ → List ℕ
 blockOfPiece w p b =
-    cond (fullOf w (length (p .bytes))) (closed (w .number) (firstOf w (length (p .bytes))) (pieceIn w p b)) (pieceIn w p b)
+    cond (fullOf w (length (p .bytes))) (closed (w .number) (firstOf w (length (p .bytes))) (pieceIn w p b))
+    (pieceIn w p b)
 
 abbrev pub pieceWrote : Writer → Packet → Wrote
-pieceWrote w p = wrote.Piece (writerOf w (length (p .bytes))) (fullOf w (length (p .bytes))) (wholeOf w (length (p .bytes)))
+pieceWrote w p = wrote.Piece (writerOf w (length (p .bytes))) (fullOf w (length (p .bytes)))
+    (wholeOf w (length (p .bytes)))
 
 -- a packet and a block that are not taken
 abbrev pub unfit : Packet → List ℕ → Bool
@@ -84,5 +87,6 @@ finishOf w b = cond (eqb (length b) 512) (cond (eqb (usedOf w) 0) finished.Nothi
 unfoldable pub lastOf : Writer → List ℕ → List ℕ
 lastOf w b =
     cond (eqb (length b) 512)
-    (cond (eqb (usedOf w) 0) b (closed (w .number) (w .first) (paste b (6 + usedOf w) (replicate (504 - usedOf w) 0) (504 - usedOf w))))
+    (cond (eqb (usedOf w) 0) b (closed (w .number) (w .first)
+    (paste b (6 + usedOf w) (replicate (504 - usedOf w) 0) (504 - usedOf w))))
     b

@@ -30,9 +30,11 @@ xor-odd a b = omega (arith, xor-step a b, differ-lt (a % 2) (b % 2) (omega arith
 assoc-step : (n b c : ℕ) → bitXor (bitXor (n / 2) (b / 2)) (c / 2) ≡ bitXor (n / 2) (bitXor (b / 2) (c / 2))
     → bitXor (bitXor n b) c ≡ bitXor n (bitXor b c)
 assoc-step n b c ih =
-    let left : bitXor (bitXor n b) c ≡ bitXor (bitXor (n / 2) (b / 2)) (c / 2) * 2 + differ (differ (n % 2) (b % 2)) (c % 2) =
+    let left : bitXor (bitXor n b) c ≡ bitXor (bitXor (n / 2) (b / 2)) (c / 2) * 2
+    + differ (differ (n % 2) (b % 2)) (c % 2) =
     rw (xor-half n b, xor-odd n b) at (xor-step (bitXor n b) c) in
-    let right : bitXor n (bitXor b c) ≡ bitXor (n / 2) (bitXor (b / 2) (c / 2)) * 2 + differ (n % 2) (differ (b % 2) (c % 2)) =
+    let right : bitXor n (bitXor b c) ≡ bitXor (n / 2) (bitXor (b / 2) (c / 2)) * 2
+    + differ (n % 2) (differ (b % 2) (c % 2)) =
     rw (xor-half b c, xor-odd b c) at (xor-step n (bitXor b c)) in
     let low = differ-assoc (n % 2) (b % 2) (c % 2) (omega arith) (omega arith) (omega arith) in
     left ∙ ap₂ (λ (x y : ℕ). x * 2 + y) ih low ∙ sym right

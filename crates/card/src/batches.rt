@@ -18,7 +18,8 @@ ghost use Rattle.card.specs.Seen.{Seen};
 ghost use Rattle.card.specs.Inside.{Walked, Near};
 ghost use Rattle.card.specs.Batches.{Takes, some, front, answerBy, batchOf, batchRoomOf};
 
-// Some packets: how many, how many bytes of the room they take, the place behind them, and whether the next one is too long for the rest.
+// Some packets: how many, how many bytes of the room they take, the place behind them, and whether the next one is too
+// long for the rest.
 pub struct Taken {
     pub count: usize,
     pub used: usize,
@@ -41,7 +42,8 @@ fn least(a: usize, b: usize) -> usize
     b
 }
 
-// The packets from d on that lie whole in the block of d, a good one, and in so many bytes: what most packets are. Only their headers are looked at.
+// The packets from d on that lie whole in the block of d, a good one, and in so many bytes: what most packets are. Only
+// their headers are looked at.
 fn walk(stream: &[u8], d: usize, room: usize) -> Stretch
     requires { ⌜ goodBlock (now stream) (d / 504) ≡ true ⌝ }
     ensures { λ r. ⌜ Walked (view (now (stream .entry))) d room (r .count) (r .bytes) ⌝ }
@@ -69,8 +71,10 @@ fn walk(stream: &[u8], d: usize, room: usize) -> Stretch
 // The same, if the block of d has been looked at, and copied into the room by one copy.
 fn take_near(stream: &[u8], d: usize, first: usize, room: &mut [u8], used: usize) -> Stretch
     requires { ⌜ Seen (view (now stream)) d first × (used ≤ length (now room)) ⌝ }
-    ensures { λ r. ⌜ Near (view (now (stream .entry))) d first (length (now (room .entry)) - used) (r .count) (r .bytes) ⌝ }
-    ensures { λ r. ⌜ now (room .exit) ≡ paste (now (room .entry)) used (bytesFrom (view (now (stream .entry))) d (r .bytes)) (r .bytes) ⌝ }
+    ensures { λ r. ⌜ Near (view (now (stream .entry))) d first (length (now (room .entry)) - used) (r .count)
+        (r .bytes) ⌝ }
+    ensures { λ r. ⌜ now (room .exit) ≡ paste (now (room .entry)) used
+        (bytesFrom (view (now (stream .entry))) d (r .bytes)) (r .bytes) ⌝ }
 {
     if first != d / 504 + 1 {
         return Stretch { count: 0, bytes: 0 };
@@ -88,7 +92,8 @@ fn take_near(stream: &[u8], d: usize, first: usize, room: &mut [u8], used: usize
 
 fn take(stream: &[u8], place: usize, room: &mut [u8]) -> Taken
     ensures { λ r. ⌜ Takes r (some (now (stream .entry)) place (length (now (room .entry)))) ⌝ }
-    ensures { λ r. ⌜ now (room .exit) ≡ front (some (now (stream .entry)) place (length (now (room .entry))) .bytes) (now (room .entry)) ⌝ }
+    ensures { λ r. ⌜ now (room .exit) ≡ front (some (now (stream .entry)) place (length (now (room .entry))) .bytes)
+        (now (room .entry)) ⌝ }
 {
     let mut count = 0;
     let mut used = 0;

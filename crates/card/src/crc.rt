@@ -1,5 +1,7 @@
-// The data CRC of USB 2.0, 8.3.5. The remainder is kept with its high-order bit as bit 0, so that bits come and go in the order of the bus.
-// Four bytes go in at a step. There is no table: the generator is (x + 1)(x^15 + x + 1), so a word's remainder is a few of its bits moved, and its parity.
+// The data CRC of USB 2.0, 8.3.5. The remainder is kept with its high-order bit as bit 0, so that bits come and go in
+// the order of the bus.
+// Four bytes go in at a step. There is no table: the generator is (x + 1)(x^15 + x + 1), so a word's remainder is a few
+// of its bits moved, and its parity.
 ghost use mathlib.Core.Path.{_≡_};
 ghost use Rattle.card.specs.Crc.{dataCrc};
 ghost use Rattle.card.specs.Register.{turned, turns, over};
@@ -91,9 +93,11 @@ fn with_word(s: Sums, bytes: &[u8], i: usize) -> Sums
     }
 }
 
-// What the whole words of these bytes make of the remainder, from the seed on; four words at a turn while there are as many.
+// What the whole words of these bytes make of the remainder, from the seed on; four words at a turn while there are as
+// many.
 fn whole_words(bytes: &[u8]) -> u16
-    ensures { λ r. ⌜ over r (drop (length (now (bytes .entry)) / 4 * 4) (now (bytes .entry))) ≡ over 65535 (now (bytes .entry)) ⌝ }
+    ensures { λ r. ⌜ over r (drop (length (now (bytes .entry)) / 4 * 4) (now (bytes .entry)))
+        ≡ over 65535 (now (bytes .entry)) ⌝ }
 {
     let fours = bytes.len() / 16 * 16;
     let end = bytes.len() / 4 * 4;

@@ -11,7 +11,8 @@ ghost use mathlib.Core.Path.{_≡_};
 ghost use Prim.Native.Nat.{_+_, _-_, _/_, _%_, _<_, _≤_};
 ghost use lib.ListN.{length, drop};
 ghost use lib.Seq.{paste};
-ghost use Rattle.card.specs.Reading.{total, begins, blockEnd, cleanTo, cleanUpTo, seekFrom, intact, packetAt, beginAt, stepAt, bytesFrom, find};
+ghost use Rattle.card.specs.Reading.{total, begins, blockEnd, cleanTo, cleanUpTo, seekFrom, intact, packetAt};
+ghost use Rattle.card.specs.Reading.{beginAt, stepAt, bytesFrom, find};
 ghost use Rattle.card.specs.Calls.{startOf, given, put, nextOf, roomOf};
 ghost use Rattle.card.specs.Seen.{Seen};
 ghost use Rattle.card.specs.declared.stream.Found.the-variants as Found;
@@ -62,10 +63,12 @@ fn seek(stream: &[u8], from: usize) -> usize
     k * 504
 }
 
-// This step, if the blocks with the places from d up to e are good; else the reader goes on behind the first that is not.
+// This step, if the blocks with the places from d up to e are good; else the reader goes on behind the first that is
+// not.
 // Those of the three bytes at d are.
 fn if_intact(stream: &[u8], d: usize, e: usize, s: Step) -> Step
-    requires { ⌜ (d + 3 ≤ e) × (e ≤ total (view (now stream))) × (blockEnd (d + 3) ≤ cleanUpTo (view (now stream)) d (d + 3)) ⌝ }
+    requires { ⌜ (d + 3 ≤ e) × (e ≤ total (view (now stream)))
+        × (blockEnd (d + 3) ≤ cleanUpTo (view (now stream)) d (d + 3)) ⌝ }
     ensures { λ r. ⌜ r ≡ intact (view (now (stream .entry))) d e s ⌝ }
 {
     let end = (e + 503) / 504;
@@ -188,7 +191,8 @@ pub fn copy_data(stream: &[u8], d: usize, room: &mut [u8], at: usize, n: usize)
 fn give(stream: &[u8], at: usize, endpoint: u8, len: u16, room: &mut [u8]) -> Next
     requires { ⌜ at + 3 + len ≤ total (view (now stream)) ⌝ }
     ensures { λ r. ⌜ r ≡ given (Found.Packet at endpoint len) (length (now (room .entry))) ⌝ }
-    ensures { λ r. ⌜ now (room .exit) ≡ put (view (now (stream .entry))) (Found.Packet at endpoint len) (now (room .entry)) ⌝ }
+    ensures { λ r. ⌜ now (room .exit) ≡ put (view (now (stream .entry))) (Found.Packet at endpoint len)
+        (now (room .entry)) ⌝ }
 {
     let n = len as usize;
     if room.len() < n {

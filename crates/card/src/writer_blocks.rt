@@ -27,7 +27,8 @@ fn packet_byte(endpoint: u8, bytes: &[u8], i: usize) -> u8
 // Copies n bytes of a packet, from its byte `from` on, into the block.
 pub fn put_piece(block: &mut [u8], at: usize, endpoint: u8, bytes: &[u8], from: usize, n: usize)
     requires { ⌜ (at + n ≤ length (now block)) × (from + n ≤ 3 + length (now bytes)) × (length (now bytes) ≤ 1024) ⌝ }
-    ensures { λ r. ⌜ now (block .exit) ≡ paste (now (block .entry)) at (drop from (packetBytes (packetOf endpoint (now (bytes .entry))))) n ⌝ }
+    ensures { λ r. ⌜ now (block .exit) ≡ paste (now (block .entry)) at
+        (drop from (packetBytes (packetOf endpoint (now (bytes .entry))))) n ⌝ }
 {
     let mut i = 0;
     while i < n {

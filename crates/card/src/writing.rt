@@ -132,7 +132,8 @@ fn writer_of(w: Writer, n: u16) -> Writer
 // The piece into the block, which is closed when it is full.
 fn put(w: Writer, block: &mut [u8], endpoint: u8, bytes: &[u8])
     requires { ⌜ (length (now block) ≡ 512) × (length (now bytes) ≤ 1024) ⌝ }
-    ensures { λ r. ⌜ now (block .exit) ≡ blockOfPiece w (packetOf endpoint (now (bytes .entry))) (now (block .entry)) ⌝ }
+    ensures { λ r. ⌜ now (block .exit) ≡ blockOfPiece w (packetOf endpoint (now (bytes .entry)))
+        (now (block .entry)) ⌝ }
 {
     let n = bytes.len() as u16;
     let used = used_of(w);
@@ -152,7 +153,8 @@ fn put(w: Writer, block: &mut [u8], endpoint: u8, bytes: &[u8])
     }
 }
 
-// Writes a piece of a packet into the lent block. Where the packet is not whole yet, the same packet is brought again with the next block.
+// Writes a piece of a packet into the lent block. Where the packet is not whole yet, the same packet is brought again
+// with the next block.
 pub fn write(w: Writer, block: &mut [u8], endpoint: u8, bytes: &[u8]) -> Wrote
     ensures { λ r. ⌜ r ≡ writeOf w (packetOf endpoint (now (bytes .entry))) (now (block .entry)) ⌝ }
     ensures { λ r. ⌜ now (block .exit) ≡ writtenOf w (packetOf endpoint (now (bytes .entry))) (now (block .entry)) ⌝ }

@@ -44,7 +44,8 @@ module _ (R : RattleType) (κ κ′ : Lft) (q : Share) (γ : GName) (b o : ℕ) 
     abbrev pub shared : GName → SProp 𝓤
     shared δ = sep 𝓤 (sem 𝓤 H A (ShrSlice ℓ′ κ′ R .own (at-list δ ys) vals)) (sem 𝓤 H A Shown)
 
-    pub lends-shared : ent 𝓤 (sep 𝓤 (sem 𝓤 H A (MutSlice ℓ κ R .own (at-list γ ys) vals)) (A .lft κ q)) (H .⇛ (ex 𝓤 shared))
+    pub lends-shared : ent 𝓤 (sep 𝓤 (sem 𝓤 H A (MutSlice ℓ κ R .own (at-list γ ys) vals)) (A .lft κ q))
+        (H .⇛ (ex 𝓤 shared))
     lends-shared =
         qed W (‵ (MutSlice ℓ κ R .own (at-list γ ys) vals) ∷ ‵ (flft κ q) ∷ []) ∵
         updating ! $ fsplit ! $ pureL ! (at-slice R (at-list γ ys) vals) (λ p. fsplit ! $ opens-slice ! tt R ys b o $
@@ -55,7 +56,8 @@ module _ (R : RattleType) (κ κ′ : Lft) (q : Share) (γ : GName) (b o : ℕ) 
         move ! (2 ∷ 3 ∷ []) $ fjoin ! $ move ! (2 ∷ 0 ∷ []) $ fjoin ! $ move ! (1 ∷ 0 ∷ []) $ fjoin ! $ done !))
 
     pub comes-back : Room R (length ys)
-        → ent 𝓤 (sep 𝓤 (A .dead κ′) (sem 𝓤 H A Shown)) (H .⇛ (sep 𝓤 (sem 𝓤 H A (MutSlice ℓ κ R .own (at-list γ ys) vals)) (A .lft κ q)))
+        → ent 𝓤 (sep 𝓤 (A .dead κ′) (sem 𝓤 H A Shown))
+        (H .⇛ (sep 𝓤 (sem 𝓤 H A (MutSlice ℓ κ R .own (at-list γ ys) vals)) (A .lft κ q)))
     comes-back room =
         qed W (‵ (fdead κ′) ∷ ‵ Shown ∷ []) ∵
         updating ! $ move ! (1 ∷ []) $ fsplit ! $ move ! (2 ∷ 0 ∷ []) $ lent-back ! tt $ fsplit ! $ drop ! $
@@ -67,5 +69,6 @@ module _ (R : RattleType) (κ κ′ : Lft) (q : Share) (γ : GName) (b o : ℕ) 
     pub ends-as : ent 𝓤 (sem 𝓤 H A (MutSlice ℓ κ R .own (at-list γ ys) vals)) (sem 𝓤 H A (finally R γ ys))
     ends-as =
         qed W (‵ (MutSlice ℓ κ R .own (at-list γ ys) vals) ∷ []) ∵ fsplit ! $ move ! (1 ∷ []) $ fsplit ! $
-        use1 W (‵ (fres γ (codedHoleys R .code (heres R ys)))) (W .names .obs-res γ (codedHoleys R .code (heres R ys))) $
+        use1 W (‵ (fres γ (codedHoleys R .code (heres R ys)))) (W .names .obs-res γ (codedHoleys R .code (heres R ys)))
+        $
         use1 W (‵ (finally R γ ys)) (res-finally 𝓤 H A W ℓ κ R γ ys) $ keep ! (0 ∷ []) $ done !

@@ -32,4 +32,5 @@ answerOf cs inUse budget = cond (isRefused (length cs) budget) refusal (Best (ch
 
 -- a refusal writes no flag; else all are written
 unfoldable pub listAfter : List Channel → ℕ → ℕ → List Channel
-listAfter cs inUse budget = cond (isRefused (length cs) budget) cs (flagged cs (choiceIn cs inUse budget .set) (length cs))
+listAfter cs inUse budget = cond (isRefused (length cs) budget) cs
+    (flagged cs (choiceIn cs inUse budget .set) (length cs))

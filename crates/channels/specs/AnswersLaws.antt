@@ -18,7 +18,8 @@ module _ (ys : List Channel) (u g : ℕ) where
   turned-down h = (rw h, rw h)
 
   pub chosen-is : isRefused (length ys) g ≡ false → length ys ≤ 16 → (r : Answer)
-      → r ≡ Best (choiceOf (listed (listsOf ys (length ys) .maxima)) (listed (listsOf ys (length ys) .charges)) (length ys) u g)
+      → r ≡ Best (choiceOf (listed (listsOf ys (length ys) .maxima)) (listed (listsOf ys (length ys) .charges))
+      (length ys) u g)
       → (zs : List Channel) → zs ≡ flagged ys (setIn r) (length ys) → (r ≡ answerOf ys u g) × (zs ≡ listAfter ys u g)
   unfolding answerOf listAfter
   chosen-is h few r e zs l =

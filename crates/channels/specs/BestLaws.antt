@@ -1,4 +1,5 @@
--- The best among the first k sets: it fits, no fitting one among them has a greater total, and no fitting one before it an equal one.
+-- The best among the first k sets: it fits, no fitting one among them has a greater total, and no fitting one before it
+-- an equal one.
 -- Assumes nothing.
 use mathlib.Core.Path.{_≡_, refl, sym}
 use mathlib.Core.Bool.{Bool, true, false, cond}
@@ -95,7 +96,8 @@ module _ (m c : ℕ → ℕ) (n left : ℕ) where
             within = omega arith;
             worth = refl;
             fit = p;
-            most = upTo (λ (v : ℕ). fits c n left v ≡ true → total m v n ≤ total m w n) w (λ v l f. omega (arith, h .most v l f)) (λ _. omega arith);
+            most = upTo (λ (v : ℕ). fits c n left v ≡ true → total m v n ≤ total m w n) w
+                (λ v l f. omega (arith, h .most v l f)) (λ _. omega arith);
             first = λ v l f. omega (arith, h .most v l f);
           }
 

@@ -1,5 +1,4 @@
 -- The lent list of channels, and the two arrays that it is read into.
-use mathlib.Core.Bool.{cond}
 use mathlib.Core.List.{List}
 use Prim.Native.Nat.{ℕ, zero, suc}
 use lib.ListN.{getD, set, replicate}

@@ -8,8 +8,7 @@ use native.Mathlib.Decide.{decLt}
 use lib.ListN.{length, getD, set, replicate, length-set, length-replicate, getD-replicate}
 use lib.Seq.{getD-set-same, getD-set-other}
 use Rattle.channels.specs.declared.Channel.{Channel}
-use Rattle.channels.specs.declared.list.Lists.{Lists}
-use Rattle.channels.specs.Channels.{none, maximum, charge, flag, withFlag, flagged, listed, zeros, putAt, listsOf}
+use Rattle.channels.specs.Channels.{none, maximum, charge, flag, withFlag, flagged, listed, listsOf}
 
 -- ---- past the end of a list
 
@@ -50,18 +49,11 @@ flagged-each cs w zero h i l = absurd (omega arith)
 flagged-each cs w (suc n) h i l = elim (decLt i n) [
   | yes g ↦ getD-set-other (flagged cs w n) n i _ none (λ e. omega arith) ∙ flagged-each cs w n (omega arith) i g
   | no g ↦ (let e : i ≡ n = omega arith in
-      rw e (getD-set-same (flagged cs w n) n _ none (omega (arith, length-flagged cs w n)) ∙ ap (withFlag (flag w n)) (flagged-behind cs w n n (omega arith))))
+      rw e (getD-set-same (flagged cs w n) n _ none (omega (arith, length-flagged cs w n))
+      ∙ ap (withFlag (flag w n)) (flagged-behind cs w n n (omega arith))))
 ]
 
 -- ---- reading
-
-pub lists-none : (cs : List Channel) → listsOf cs 0 ≡ zeros
-unfolding listsOf
-lists-none cs = refl
-
-pub lists-more : (cs : List Channel) (i : ℕ) → listsOf cs (i + 1) ≡ putAt (listsOf cs i) i (maximum cs i) (charge cs i)
-unfolding listsOf
-lists-more cs i = rw add-one
 
 -- one of the two arrays, filled with the first n of f
 unfoldable filled : (ℕ → ℕ) → ℕ → List ℕ
@@ -79,14 +71,16 @@ filled-behind f zero i h = elim (decLt i 16) [
   | yes g ↦ getD-replicate 16 i 0 0 g
   | no g ↦ getD-past 0 (replicate 16 0) i (omega (arith, length-replicate {A = ℕ} 16 0))
 ]
-filled-behind f (suc n) i h = getD-set-other (filled f n) n i (f n) 0 (λ e. omega arith) ∙ filled-behind f n i (omega arith)
+filled-behind f (suc n) i h = getD-set-other (filled f n) n i (f n) 0 (λ e. omega arith)
+    ∙ filled-behind f n i (omega arith)
 
 filled-each : (f : ℕ → ℕ) (n : ℕ) → n ≤ 16 → (i : ℕ) → i < n → listed (filled f n) i ≡ f i
 unfolding filled
 filled-each f zero h i l = absurd (omega arith)
 filled-each f (suc n) h i l = elim (decLt i n) [
   | yes g ↦ getD-set-other (filled f n) n i (f n) 0 (λ e. omega arith) ∙ filled-each f n (omega arith) i g
-  | no g ↦ (let e : i ≡ n = omega arith in rw e (getD-set-same (filled f n) n (f n) 0 (omega (arith, length-filled f n))))
+  | no g ↦ (let e : i ≡ n = omega arith in rw e (getD-set-same (filled f n) n (f n) 0
+      (omega (arith, length-filled f n))))
 ]
 
 maxima-filled : (cs : List Channel) (n : ℕ) → listsOf cs n .maxima ≡ filled (maximum cs) n
@@ -101,14 +95,18 @@ charges-filled cs (suc i) = rw (charges-filled cs i)
 
 module _ (cs : List Channel) (few : length cs ≤ 16) where
   -- an array filled with a field of each channel has it, and 0 behind the last
-  field-read : (f : Channel → ℕ) (l : List ℕ) → f none ≡ 0 → l ≡ filled (λ i. f (getD cs i none)) (length cs) → (i : ℕ) → listed l i ≡ f (getD cs i none)
+  field-read : (f : Channel → ℕ) (l : List ℕ) → f none ≡ 0 → l ≡ filled (λ i. f (getD cs i none)) (length cs) → (i : ℕ)
+      → listed l i ≡ f (getD cs i none)
   field-read f l z e i = elim (decLt i (length cs)) [
     | yes g ↦ rw e (filled-each (λ j. f (getD cs j none)) (length cs) few i g)
-    | no g ↦ rw e (filled-behind (λ j. f (getD cs j none)) (length cs) i (omega arith) ∙ sym z ∙ ap f (sym (getD-past none cs i (omega arith))))
+    | no g ↦ rw e (filled-behind (λ j. f (getD cs j none)) (length cs) i (omega arith) ∙ sym z
+        ∙ ap f (sym (getD-past none cs i (omega arith))))
   ]
 
   pub maxima-read : listed (listsOf cs (length cs) .maxima) ≡ maximum cs
-  maxima-read = λ x i. field-read (λ c. c .maximum) (listsOf cs (length cs) .maxima) refl (maxima-filled cs (length cs)) i x
+  maxima-read = λ x i. field-read (λ c. c .maximum) (listsOf cs (length cs) .maxima) refl (maxima-filled cs (length cs))
+      i x
 
   pub charges-read : listed (listsOf cs (length cs) .charges) ≡ charge cs
-  charges-read = λ x i. field-read (λ c. c .charge) (listsOf cs (length cs) .charges) refl (charges-filled cs (length cs)) i x
+  charges-read = λ x i. field-read (λ c. c .charge) (listsOf cs (length cs) .charges) refl
+      (charges-filled cs (length cs)) i x

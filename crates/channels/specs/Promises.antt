@@ -72,7 +72,8 @@ few-of n budget h = elim (decLt 16 n) [
 ]
 
 module _ (cs : List Channel) (inUse budget : ℕ) where
-  pub refused : isRefused (length cs) budget ≡ true → (answerOf cs inUse budget ≡ Refused 20) × (listAfter cs inUse budget ≡ cs)
+  pub refused : isRefused (length cs) budget ≡ true → (answerOf cs inUse budget ≡ Refused 20)
+      × (listAfter cs inUse budget ≡ cs)
   unfolding answerOf listAfter
   refused h = (rw h, rw h)
 

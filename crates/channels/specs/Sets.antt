@@ -1,5 +1,5 @@
--- Sets of channels. A set is a count: its bit i says whether channel i is in. n channels have the 2 ^ n sets from 0 on. m and c say each channel's
--- maximum and charge.
+-- Sets of channels. A set is a count: its bit i says whether channel i is in. n channels have the 2 ^ n sets from 0 on.
+-- m and c say each channel's maximum and charge.
 use mathlib.Core.Bool.{Bool, cond}
 use Prim.Native.Nat.{ℕ, zero, suc, _+_, _-_, _^_, min}
 use lib.Dec.{leb, ltb}

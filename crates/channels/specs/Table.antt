@@ -14,7 +14,8 @@ three a b c =
     record { maximum = 100; charge = 3000; chosen = a } ∷ record { maximum = 100; charge = 3000; chosen = b }
     ∷ record { maximum = 150; charge = 5000; chosen = c } ∷ []
 
--- all sets: the first two fill 6,000 exactly. Three sets: of two equal ones the earlier. One byte-time less, or none left, or no channel.
+-- all sets: the first two fill 6,000 exactly. Three sets: of two equal ones the earlier. One byte-time less, or none
+-- left, or no channel.
 pub table :
     (answerOf (three 7 8 9) 0 8 ≡ Best (record { set = 3; total = 200; figure = 200; looked = 8 }))
     × (listAfter (three 7 8 9) 0 8 ≡ three 1 1 0)

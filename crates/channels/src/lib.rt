@@ -1,7 +1,6 @@
 // Request Ten: the set of optional channels that fits the bus time left and whose maxima total the most.
 ghost use mathlib.Core.Path.{_≡_};
 ghost use Prim.Native.Nat.{_≤_};
-ghost use lib.ListN.{length};
 ghost use Rattle.channels.specs.Sets.{choiceOf};
 ghost use Rattle.channels.specs.Channels.{listed};
 ghost use Rattle.channels.specs.declared.Answer.the-variants.{Best};
@@ -22,8 +21,8 @@ pub struct Channel {
     pub chosen: u8,
 }
 
-// The chosen set as a count, whose bit i says whether channel i is in; the total of its maxima; a figure that no fitting set exceeds; how many
-// sets were looked at.
+// The chosen set as a count, whose bit i says whether channel i is in; the total of its maxima; a figure that no
+// fitting set exceeds; how many sets were looked at.
 pub struct Choice {
     pub set: u32,
     pub total: u32,
@@ -69,10 +68,11 @@ fn set_in(answer: Answer) -> u32
     }
 }
 
-// Chooses among the channels of the lent list, and marks it: a channel's flag becomes 1 if it is in the chosen set, and 0 if not. 20, and the list
-// as it was: more than 16 channels, or a budget of 0 sets.
+// Chooses among the channels of the lent list, and marks it: a channel's flag becomes 1 if it is in the chosen set, and
+// 0 if not. 20, and the list as it was: more than 16 channels, or a budget of 0 sets.
 pub fn best_set(list: &mut [Channel], in_use: u32, budget: u32) -> Answer
-    ensures { λ r. ⌜ (r ≡ answerOf (now (list .entry)) in_use budget) × (now (list .exit) ≡ listAfter (now (list .entry)) in_use budget) ⌝ }
+    ensures { λ r. ⌜ (r ≡ answerOf (now (list .entry)) in_use budget)
+        × (now (list .exit) ≡ listAfter (now (list .entry)) in_use budget) ⌝ }
 {
     if is_refused(list.len(), budget) {
         return refusal();

@@ -26,21 +26,23 @@ use state::State;
 use state::clear_wakes;
 use state::load_globals;
 ghost use mathlib.Core.Path.{_≡_};
-ghost use mathlib.Core.Bool.{true, false};
+ghost use mathlib.Core.Bool.{false};
 ghost use mathlib.Core.List.{List};
 ghost use Prim.Native.Nat.{ℕ};
 ghost use Rattle.regs.specs.declared.Dir.the-variants.{Out};
 ghost use Rattle.state.specs.Driver.{Driver};
 ghost use Rattle.state.specs.State.{view, saved};
 ghost use Rattle.script.specs.Answers.{resultless};
-ghost use Rattle.script.specs.Control.{statusIn, beginSetup, beginDataOut, beginDataIn, beginAccept, beginAcceptSetAddress, beginReject};
+ghost use Rattle.script.specs.Control.{statusIn, beginSetup, beginDataOut, beginDataIn, beginAccept};
+ghost use Rattle.script.specs.Control.{beginAcceptSetAddress, beginReject};
 ghost use Rattle.script_ops.specs.Concrete.{go};
 ghost use Rattle.script_ops.specs.Answers.{finished};
 ghost use Rattle.control.specs.Points.{acked, loading, begunAs, LinkedBegun};
 
 // `setup`, control.rs 70-80.
 pub fn setup(s: &mut State) -> Begun
-    ensures { λ r. ⌜ ((b : List ℕ) → begunAs r (view (now (s .exit))) b ≡ go {i = false} beginSetup (view (now (s .entry))) b) ⌝ }
+    ensures { λ r. ⌜ ((b : List ℕ) → begunAs r (view (now (s .exit))) b
+        ≡ go {i = false} beginSetup (view (now (s .entry))) b) ⌝ }
     ensures { λ _. ⌜ saved (now (s .exit)) ≡ saved (now (s .entry)) ⌝ }
     ensures { λ r. ⌜ LinkedBegun r ⌝ }
 {
@@ -67,7 +69,8 @@ fn ack_out(first: bool) -> Begun
 
 // `data_out`, 82-115, into a slice of n bytes.
 pub fn data_out(s: &mut State, n: u32, first: bool) -> Begun
-    ensures { λ r. ⌜ ((b : List ℕ) → begunAs r (view (now (s .exit))) b ≡ go {i = false} (beginDataOut n first) (view (now (s .entry))) b) ⌝ }
+    ensures { λ r. ⌜ ((b : List ℕ) → begunAs r (view (now (s .exit))) b
+        ≡ go {i = false} (beginDataOut n first) (view (now (s .entry))) b) ⌝ }
     ensures { λ _. ⌜ saved (now (s .exit)) ≡ saved (now (s .entry)) ⌝ }
     ensures { λ r. ⌜ LinkedBegun r ⌝ }
 {
@@ -85,7 +88,8 @@ pub fn data_out(s: &mut State, n: u32, first: bool) -> Begun
 
 // EP0's packet of n bytes goes out; with the last one the status stage's OUT right away.
 fn load_in(s: &mut State, n: u16, first: bool, last: bool) -> Begun
-    ensures { λ r. ⌜ ((b : List ℕ) → begunAs r (view (now (s .exit))) b ≡ go (finished (loading n first last)) (view (now (s .entry))) b) ⌝ }
+    ensures { λ r. ⌜ ((b : List ℕ) → begunAs r (view (now (s .exit))) b
+        ≡ go (finished (loading n first last)) (view (now (s .entry))) b) ⌝ }
     ensures { λ _. ⌜ saved (now (s .exit)) ≡ saved (now (s .entry)) ⌝ }
     ensures { λ r. ⌜ LinkedBegun r ⌝ }
 {
@@ -126,7 +130,8 @@ pub fn data_in(s: &mut State, buf: &mut [u8], bytes: &[u8], first: bool, last: b
 
 // The status stage's IN, of no bytes.
 fn status_in(s: &mut State) -> Begun
-    ensures { λ r. ⌜ ((b : List ℕ) → begunAs r (view (now (s .exit))) b ≡ go {i = false} (resultless statusIn) (view (now (s .entry))) b) ⌝ }
+    ensures { λ r. ⌜ ((b : List ℕ) → begunAs r (view (now (s .exit))) b
+        ≡ go {i = false} (resultless statusIn) (view (now (s .entry))) b) ⌝ }
     ensures { λ _. ⌜ saved (now (s .exit)) ≡ saved (now (s .entry)) ⌝ }
     ensures { λ r. ⌜ LinkedBegun r ⌝ }
 {
@@ -137,7 +142,8 @@ fn status_in(s: &mut State) -> Begun
 
 // `accept`, 26-46, 163-166.
 pub fn accept(s: &mut State) -> Begun
-    ensures { λ r. ⌜ ((b : List ℕ) → begunAs r (view (now (s .exit))) b ≡ go {i = false} beginAccept (view (now (s .entry))) b) ⌝ }
+    ensures { λ r. ⌜ ((b : List ℕ) → begunAs r (view (now (s .exit))) b
+        ≡ go {i = false} beginAccept (view (now (s .entry))) b) ⌝ }
     ensures { λ _. ⌜ saved (now (s .exit)) ≡ saved (now (s .entry)) ⌝ }
     ensures { λ r. ⌜ LinkedBegun r ⌝ }
 {
@@ -151,7 +157,8 @@ pub fn accept(s: &mut State) -> Begun
 
 // `accept_set_address`, 179-186.
 pub fn accept_set_address(s: &mut State, address: u32) -> Begun
-    ensures { λ r. ⌜ ((b : List ℕ) → begunAs r (view (now (s .exit))) b ≡ go {i = false} (beginAcceptSetAddress address) (view (now (s .entry))) b) ⌝ }
+    ensures { λ r. ⌜ ((b : List ℕ) → begunAs r (view (now (s .exit))) b
+        ≡ go {i = false} (beginAcceptSetAddress address) (view (now (s .entry))) b) ⌝ }
     ensures { λ _. ⌜ saved (now (s .exit)) ≡ saved (now (s .entry)) ⌝ }
     ensures { λ r. ⌜ LinkedBegun r ⌝ }
 {
@@ -165,7 +172,8 @@ pub fn accept_set_address(s: &mut State, address: u32) -> Begun
 
 // `reject`, 168-177.
 pub fn reject(s: &mut State) -> Begun
-    ensures { λ r. ⌜ ((b : List ℕ) → begunAs r (view (now (s .exit))) b ≡ go {i = false} beginReject (view (now (s .entry))) b) ⌝ }
+    ensures { λ r. ⌜ ((b : List ℕ) → begunAs r (view (now (s .exit))) b
+        ≡ go {i = false} beginReject (view (now (s .entry))) b) ⌝ }
     ensures { λ _. ⌜ saved (now (s .exit)) ≡ saved (now (s .entry)) ⌝ }
     ensures { λ r. ⌜ LinkedBegun r ⌝ }
 {

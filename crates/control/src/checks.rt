@@ -9,7 +9,7 @@ use state::store_control;
 use state::store_ep;
 ghost use mathlib.Core.Path.{_≡_};
 ghost use lib.Dec.{eqb};
-ghost use Rattle.regs.specs.declared.Dir.the-variants.{Out, In};
+ghost use Rattle.regs.specs.declared.Dir.the-variants.{Out};
 ghost use Rattle.state.specs.Driver.{withControl};
 ghost use Rattle.state.specs.State.{view, saved};
 ghost use Rattle.script.specs.Statics.{withReady, withLen, withArmed};
@@ -115,7 +115,8 @@ pub fn set_address(s: &mut State, address: u8)
 
 // OUT 0 awaits a packet of at most n bytes.
 pub fn arm_out(s: &mut State, n: u16)
-    ensures { λ _. ⌜ view (now (s .exit)) ≡ modifiedOn Out 0 (λ p. withArmed 1 (withLen n (withReady 0 p))) (view (now (s .entry))) ⌝ }
+    ensures { λ _. ⌜ view (now (s .exit)) ≡ modifiedOn Out 0 (λ p. withArmed 1 (withLen n (withReady 0 p)))
+        (view (now (s .entry))) ⌝ }
     ensures { λ _. ⌜ saved (now (s .exit)) ≡ saved (now (s .entry)) ⌝ }
 {
     let mut r = load_ep(s, Dir::Out, 0);
@@ -127,7 +128,8 @@ pub fn arm_out(s: &mut State, n: u16)
 
 // OUT 0 awaits the status stage's empty packet.
 pub fn close_out(s: &mut State)
-    ensures { λ _. ⌜ view (now (s .exit)) ≡ modifiedOn Out 0 (λ p. withLen 0 (withReady 0 p)) (view (now (s .entry))) ⌝ }
+    ensures { λ _. ⌜ view (now (s .exit)) ≡ modifiedOn Out 0 (λ p. withLen 0 (withReady 0 p))
+        (view (now (s .entry))) ⌝ }
     ensures { λ _. ⌜ saved (now (s .exit)) ≡ saved (now (s .entry)) ⌝ }
 {
     let mut r = load_ep(s, Dir::Out, 0);

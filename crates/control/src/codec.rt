@@ -1,5 +1,5 @@
-// A point as the fixed record of the state: the point's number in `sub`, a direction in `site`, whether the packet is the stage's
-// first in `flag`, a length in `len`.
+// A point as the fixed record of the state: the point's number in `sub`, a direction in `site`, whether the packet is
+// the stage's first in `flag`, a length in `len`.
 use crate::Point;
 use script_ops::points::dir_as;
 use script_ops::points::flag_of;

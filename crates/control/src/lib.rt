@@ -1,5 +1,5 @@
-// The control pipe (control.rs 26-186): one request, each stage a begin and a poll. Rows 4, 15, 10 and 9 are checked here, 1 and 3 by
-// the caller.
+// The control pipe (control.rs 26-186): one request, each stage a begin and a poll. Rows 4, 15, 10 and 9 are checked
+// here, 1 and 3 by the caller.
 mod begin;
 mod checks;
 mod codec;

@@ -26,13 +26,14 @@ ghost use mathlib.Core.Path.{_≡_};
 ghost use mathlib.Core.Bool.{true, false, cond};
 ghost use mathlib.Core.List.{List, []};
 ghost use Prim.Native.Nat.{ℕ};
-ghost use lib.Dec.{eqb, ltb};
+ghost use lib.Dec.{eqb};
 ghost use lib.ListN.{length};
 ghost use Rattle.state.specs.Driver.{Driver};
 ghost use Rattle.state.specs.State.{view, saved};
 ghost use Rattle.script.specs.Tree.{ends};
 ghost use Rattle.script.specs.Answers.{Refused, Done};
-ghost use Rattle.script.specs.Control.{pollSetup, pollDataOut, pollDataIn, pollAccept, aborted-else, take-out, take-closing, take-in};
+ghost use Rattle.script.specs.Control.{pollSetup, pollDataOut, pollDataIn, pollAccept, aborted-else, take-out};
+ghost use Rattle.script.specs.Control.{take-closing, take-in};
 ghost use Rattle.script.specs.Script.{ret};
 ghost use Rattle.script.specs.Answers.{NotYet};
 ghost use Rattle.script_ops.specs.Concrete.{go};
@@ -42,7 +43,8 @@ ghost use Rattle.control.specs.Rows.{Polls};
 
 // Not ready yet, or a setup packet ends the stage (`complete`, control.rs 48-61).
 fn wait_on(s: &mut State) -> Polled
-    ensures { λ r. ⌜ ((out b : List ℕ) → polledAs r out (view (now (s .exit))) b ≡ go {i = false} (aborted-else (ret NotYet)) (view (now (s .entry))) b) ⌝ }
+    ensures { λ r. ⌜ ((out b : List ℕ) → polledAs r out (view (now (s .exit))) b
+        ≡ go {i = false} (aborted-else (ret NotYet)) (view (now (s .entry))) b) ⌝ }
     ensures { λ _. ⌜ saved (now (s .exit)) ≡ saved (now (s .entry)) ⌝ }
     ensures { λ r. ⌜ LinkedPolled r ⌝ }
 {
@@ -57,7 +59,8 @@ fn wait_on(s: &mut State) -> Polled
 // The setup packet, once it is there.
 fn take_setup(s: &mut State, g: Globals) -> Polled
     requires { ⌜ (g ≡ view (now s) .globals) × Polls (view (now s)) (view (now s) .control) 1 ⌝ }
-    ensures { λ r. ⌜ ((b : List ℕ) → polledAs r [] (view (now (s .exit))) b ≡ go {i = false} pollSetup (view (now (s .entry))) b) ⌝ }
+    ensures { λ r. ⌜ ((b : List ℕ) → polledAs r [] (view (now (s .exit))) b
+        ≡ go {i = false} pollSetup (view (now (s .entry))) b) ⌝ }
     ensures { λ _. ⌜ saved (now (s .exit)) ≡ saved (now (s .entry)) ⌝ }
     ensures { λ r. ⌜ LinkedPolled r ⌝ }
 {
@@ -73,7 +76,8 @@ fn take_setup(s: &mut State, g: Globals) -> Polled
 
 // `setup`, 70-80.
 pub fn poll_setup(s: &mut State) -> Polled
-    ensures { λ r. ⌜ ((b : List ℕ) → polledAs r [] (view (now (s .exit))) b ≡ go {i = false} pollSetup (view (now (s .entry))) b) ⌝ }
+    ensures { λ r. ⌜ ((b : List ℕ) → polledAs r [] (view (now (s .exit))) b
+        ≡ go {i = false} pollSetup (view (now (s .entry))) b) ⌝ }
     ensures { λ _. ⌜ saved (now (s .exit)) ≡ saved (now (s .entry)) ⌝ }
     ensures { λ r. ⌜ LinkedPolled r ⌝ }
 {
@@ -88,7 +92,8 @@ pub fn poll_setup(s: &mut State) -> Polled
 // The status stage's end: the address changes only then.
 fn take_accept(s: &mut State, c: Control) -> Polled
     requires { ⌜ Polls (view (now s)) c 4 ⌝ }
-    ensures { λ r. ⌜ ((b : List ℕ) → polledAs r [] (view (now (s .exit))) b ≡ go {i = false} pollAccept (view (now (s .entry))) b) ⌝ }
+    ensures { λ r. ⌜ ((b : List ℕ) → polledAs r [] (view (now (s .exit))) b
+        ≡ go {i = false} pollAccept (view (now (s .entry))) b) ⌝ }
     ensures { λ _. ⌜ saved (now (s .exit)) ≡ saved (now (s .entry)) ⌝ }
     ensures { λ r. ⌜ LinkedPolled r ⌝ }
 {
@@ -108,7 +113,8 @@ fn take_accept(s: &mut State, c: Control) -> Polled
 
 // `accept` and `accept_set_address`, 26-46.
 pub fn poll_accept(s: &mut State) -> Polled
-    ensures { λ r. ⌜ ((b : List ℕ) → polledAs r [] (view (now (s .exit))) b ≡ go {i = false} pollAccept (view (now (s .entry))) b) ⌝ }
+    ensures { λ r. ⌜ ((b : List ℕ) → polledAs r [] (view (now (s .exit))) b
+        ≡ go {i = false} pollAccept (view (now (s .entry))) b) ⌝ }
     ensures { λ _. ⌜ saved (now (s .exit)) ≡ saved (now (s .entry)) ⌝ }
     ensures { λ r. ⌜ LinkedPolled r ⌝ }
 {
@@ -122,7 +128,8 @@ pub fn poll_accept(s: &mut State) -> Polled
 
 // The closing OUT must be empty.
 fn closed(n: u16) -> Polled
-    ensures { λ r. ⌜ ((d : Driver) (b : List ℕ) → polledAs r [] d b ≡ ends (cond (eqb n 0) (Done []) (Refused 10)) (d, b)) ⌝ }
+    ensures { λ r. ⌜ ((d : Driver) (b : List ℕ) → polledAs r [] d b
+        ≡ ends (cond (eqb n 0) (Done []) (Refused 10)) (d, b)) ⌝ }
     ensures { λ r. ⌜ LinkedPolled r ⌝ }
 {
     if n == 0 {
@@ -133,7 +140,8 @@ fn closed(n: u16) -> Polled
 
 // The second wait of the last data_in, for the closing OUT; `both`: together with the data packet's completion.
 fn take_closing(s: &mut State, both: bool, c: Control) -> Polled
-    ensures { λ r. ⌜ ((b : List ℕ) → polledAs r [] (view (now (s .exit))) b ≡ go {i = false} (take-closing both c) (view (now (s .entry))) b) ⌝ }
+    ensures { λ r. ⌜ ((b : List ℕ) → polledAs r [] (view (now (s .exit))) b
+        ≡ go {i = false} (take-closing both c) (view (now (s .entry))) b) ⌝ }
     ensures { λ _. ⌜ saved (now (s .exit)) ≡ saved (now (s .entry)) ⌝ }
     ensures { λ r. ⌜ LinkedPolled r ⌝ }
 {
@@ -163,7 +171,8 @@ fn take_closing(s: &mut State, both: bool, c: Control) -> Polled
 
 // The first wait, for the data packet.
 fn take_in(s: &mut State, c: Control) -> Polled
-    ensures { λ r. ⌜ ((b : List ℕ) → polledAs r [] (view (now (s .exit))) b ≡ go {i = false} (take-in c) (view (now (s .entry))) b) ⌝ }
+    ensures { λ r. ⌜ ((b : List ℕ) → polledAs r [] (view (now (s .exit))) b
+        ≡ go {i = false} (take-in c) (view (now (s .entry))) b) ⌝ }
     ensures { λ _. ⌜ saved (now (s .exit)) ≡ saved (now (s .entry)) ⌝ }
     ensures { λ r. ⌜ LinkedPolled r ⌝ }
 {
@@ -181,7 +190,8 @@ fn take_in(s: &mut State, c: Control) -> Polled
 
 // `data_in`, 117-161.
 pub fn poll_data_in(s: &mut State) -> Polled
-    ensures { λ r. ⌜ ((b : List ℕ) → polledAs r [] (view (now (s .exit))) b ≡ go {i = false} pollDataIn (view (now (s .entry))) b) ⌝ }
+    ensures { λ r. ⌜ ((b : List ℕ) → polledAs r [] (view (now (s .exit))) b
+        ≡ go {i = false} pollDataIn (view (now (s .entry))) b) ⌝ }
     ensures { λ _. ⌜ saved (now (s .exit)) ≡ saved (now (s .entry)) ⌝ }
     ensures { λ r. ⌜ LinkedPolled r ⌝ }
 {
@@ -201,7 +211,8 @@ fn take_out(s: &mut State, buf: &[u8], out: &mut [u8]) -> Polled
     ensures { λ r. ⌜ polledAs r (now (out .exit)) (view (now (s .exit))) (now (buf .entry))
         ≡ go {i = false} (take-out (length (now (out .entry)))) (view (now (s .entry))) (now (buf .entry)) ⌝ }
     ensures { λ _. ⌜ now (out .exit)
-        ≡ lentAfter (go {i = false} (take-out (length (now (out .entry)))) (view (now (s .entry))) (now (buf .entry))) (now (out .entry)) ⌝ }
+        ≡ lentAfter (go {i = false} (take-out (length (now (out .entry)))) (view (now (s .entry))) (now (buf .entry)))
+        (now (out .entry)) ⌝ }
     ensures { λ _. ⌜ saved (now (s .exit)) ≡ saved (now (s .entry)) ⌝ }
     ensures { λ r. ⌜ LinkedPolled r ⌝ }
 {
@@ -225,7 +236,8 @@ pub fn poll_data_out(s: &mut State, buf: &[u8], out: &mut [u8]) -> Polled
     ensures { λ r. ⌜ polledAs r (now (out .exit)) (view (now (s .exit))) (now (buf .entry))
         ≡ go {i = false} (pollDataOut (length (now (out .entry)))) (view (now (s .entry))) (now (buf .entry)) ⌝ }
     ensures { λ _. ⌜ now (out .exit) ≡ lentAfter
-        (go {i = false} (pollDataOut (length (now (out .entry)))) (view (now (s .entry))) (now (buf .entry))) (now (out .entry)) ⌝ }
+        (go {i = false} (pollDataOut (length (now (out .entry)))) (view (now (s .entry))) (now (buf .entry)))
+        (now (out .entry)) ⌝ }
     ensures { λ _. ⌜ saved (now (s .exit)) ≡ saved (now (s .entry)) ⌝ }
     ensures { λ r. ⌜ LinkedPolled r ⌝ }
 {

@@ -25,11 +25,13 @@ few-slots false dir = omega arith
 few-slots true Out = omega arith
 few-slots true In = omega arith
 
-fair : (a : Allocator) (kind address maximum : ℕ) (dir : Dir) (z : Allocation) → Outcome a kind address maximum dir z → Fair a (z .after) (z .answer)
+fair : (a : Allocator) (kind address maximum : ℕ) (dir : Dir) (z : Allocation) → Outcome a kind address maximum dir z
+    → Fair a (z .after) (z .answer)
 fair a kind address maximum dir z (six h) = (omega arith, omega arith, refl)
 fair a kind address maximum dir z (seven h q) = (omega arith, omega arith, refl)
 fair a kind address maximum dir z (eight e h q l) = (omega arith, omega arith, refl)
-fair a kind address maximum dir z (given e base n b h q g) = (omega (arith, g .slots, few-slots (isIso kind) dir), g .used)
+fair a kind address maximum dir z (given e base n b h q g)
+    = (omega (arith, g .slots, few-slots (isIso kind) dir), g .used)
 
 pub fair-asked : (a : Allocator) (e : Endpoint) → Fair a (asked a e .after) (asked a e .answer)
 unfolding asked

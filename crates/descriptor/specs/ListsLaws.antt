@@ -30,7 +30,8 @@ good-none = tt
 
 -- ---- the place of an address
 
-pub place-found : (a : ℕ) (es : List Endpoint) (i : ℕ) → i < length es → getD es i none .address ≡ a → placeOf a (drop i es) ≡ 0
+pub place-found : (a : ℕ) (es : List Endpoint) (i : ℕ) → i < length es → getD es i none .address ≡ a
+    → placeOf a (drop i es) ≡ 0
 unfolding placeOf
 place-found a es i h e = rw (drop-cons es i none h, eq-eqb _ _ e)
 
@@ -61,10 +62,12 @@ module _ (e : Endpoint) where
   noted-found [] h = absurd (omega arith)
   noted-found (x ∷ xs) h = go (λ l. noted-found xs l) (eqb (x .address) (e .address)) h
     where
-      go : (placeOf (e .address) xs < length xs → noted e xs ≡ set xs (placeOf (e .address) xs) (merged (getD xs (placeOf (e .address) xs) none) e))
+      go : (placeOf (e .address) xs < length xs → noted e xs
+          ≡ set xs (placeOf (e .address) xs) (merged (getD xs (placeOf (e .address) xs) none) e))
           → (t : Bool) → cond t 0 (suc (placeOf (e .address) xs)) < suc (length xs)
           → cond t (merged x e ∷ xs) (x ∷ noted e xs)
-          ≡ set (x ∷ xs) (cond t 0 (suc (placeOf (e .address) xs))) (merged (getD (x ∷ xs) (cond t 0 (suc (placeOf (e .address) xs))) none) e)
+          ≡ set (x ∷ xs) (cond t 0 (suc (placeOf (e .address) xs)))
+          (merged (getD (x ∷ xs) (cond t 0 (suc (placeOf (e .address) xs))) none) e)
       go i true h = refl
       go i false h = ap (λ (r : List Endpoint). x ∷ r) (i (omega arith))
 
@@ -85,7 +88,8 @@ module _ (e : Endpoint) where
   agrees-found [] h = absurd (omega arith)
   agrees-found (x ∷ xs) h = go (λ l. agrees-found xs l) (eqb (x .address) (e .address)) h
     where
-      go : (placeOf (e .address) xs < length xs → agrees e xs ≡ eqb (getD xs (placeOf (e .address) xs) none .kind) (e .kind))
+      go : (placeOf (e .address) xs < length xs → agrees e xs
+          ≡ eqb (getD xs (placeOf (e .address) xs) none .kind) (e .kind))
           → (t : Bool) → cond t 0 (suc (placeOf (e .address) xs)) < suc (length xs)
           → cond t (eqb (x .kind) (e .kind)) (agrees e xs)
           ≡ eqb (getD (x ∷ xs) (cond t 0 (suc (placeOf (e .address) xs))) none .kind) (e .kind)
@@ -98,22 +102,34 @@ module _ (e : Endpoint) where
   agrees-new (x ∷ xs) h = go (λ l. agrees-new xs l) (eqb (x .address) (e .address)) h
     where
       go : (length xs ≤ placeOf (e .address) xs → agrees e xs ≡ true)
-          → (t : Bool) → suc (length xs) ≤ cond t 0 (suc (placeOf (e .address) xs)) → cond t (eqb (x .kind) (e .kind)) (agrees e xs) ≡ true
+          → (t : Bool) → suc (length xs) ≤ cond t 0 (suc (placeOf (e .address) xs))
+          → cond t (eqb (x .kind) (e .kind)) (agrees e xs) ≡ true
       go i true h = absurd (omega arith)
       go i false h = i (omega arith)
 
 -- ---- stores in the struct
 
 pub set-of : (es : List Endpoint) (i : ℕ) (x : Endpoint) → i < length es
-    → _≡_ {A = Endpoints} (record { entries = set (es ++ replicate (32 - length es) none) i x; count = length es }) (ofList (set es i x))
+    → _≡_ {A = Endpoints} (record { entries = set (es ++ replicate (32 - length es) none) i x; count = length es })
+    (ofList (set es i x))
 set-of es i x h = rw (set-append-left es (replicate (32 - length es) none) i x h, length-set es i x)
 
 pub push-of : (es : List Endpoint) (x : Endpoint) → length es < 32
-    → _≡_ {A = Endpoints} (record { entries = set (es ++ replicate (32 - length es) none) (length es) x; count = length es + 1 }) (ofList (es ++ (x ∷ [])))
+    → _≡_ {A = Endpoints} (record {
+      entries = set (es ++ replicate (32 - length es) none) (length es) x;
+      count
+          = length es + 1;
+    }) (ofList (es ++ (x ∷ [])))
 push-of es x h = rw (length-append es (x ∷ [])) (
     let a : 32 - length es ≡ suc (31 - length es) = omega arith in
     let b : 32 - (length es + 1) ≡ 31 - length es = omega arith in
-    rw (a, b, set-append-seam es none (replicate (31 - length es) none) x, append-snoc es x (replicate (31 - length es) none)))
+    rw (
+      a,
+      b,
+      set-append-seam es none (replicate (31 - length es) none) x,
+      append-snoc es x
+          (replicate (31 - length es) none),
+    ))
 
 -- ---- good lists stay good
 
@@ -140,7 +156,8 @@ unfolding seen noted merged
 seen-other a e [] h = rw (ne-eqb (e .address) a (λ q. h (sym q)))
 seen-other a e (x ∷ xs) h = go (seen-other a e xs h) (eqb (x .address) (e .address))
   where
-    go : seen a (noted e xs) ≡ seen a xs → (t : Bool) → seen a (cond t (merged x e ∷ xs) (x ∷ noted e xs)) ≡ one (eqb (x .address) a) + seen a xs
+    go : seen a (noted e xs) ≡ seen a xs → (t : Bool) → seen a (cond t (merged x e ∷ xs) (x ∷ noted e xs))
+        ≡ one (eqb (x .address) a) + seen a xs
     go i true = refl
     go i false = rw i
 
@@ -149,7 +166,8 @@ unfolding Good noted seen merged
 good-noted e [] f g = (f, refl, tt)
 good-noted e (x ∷ xs) f g = go (good-noted e xs f (g .2)) (eqb (x .address) (e .address)) refl
   where
-    go : Good (noted e xs) → (t : Bool) → eqb (x .address) (e .address) ≡ t → Good (cond t (merged x e ∷ xs) (x ∷ noted e xs))
+    go : Good (noted e xs) → (t : Bool) → eqb (x .address) (e .address) ≡ t
+        → Good (cond t (merged x e ∷ xs) (x ∷ noted e xs))
     go i true q = (fine-merged x e (g .0) f, g .1, g .2)
     go i false q = (g .0, seen-other (x .address) e xs (eqb-false _ _ q) ∙ g .1, i)
 
@@ -166,11 +184,6 @@ among (suc k) es = among k es + seen (addressOf k) es
 hits : ℕ → ℕ → ℕ
 hits zero a = 0
 hits (suc k) a = hits k a + one (eqb a (addressOf k))
-
-among-none : (k : ℕ) → among k [] ≡ 0
-unfolding seen among
-among-none zero = refl
-among-none (suc k) = rw (among-none k)
 
 among-cons : (k : ℕ) (x : Endpoint) (xs : List Endpoint) → among k (x ∷ xs) ≡ hits k (x .address) + among k xs
 unfolding seen among hits
@@ -232,19 +245,30 @@ tidy-count l t =
 
 -- in its address's place
 pub noted-there : (l : Endpoints) (e : Endpoint) (p : ℕ) → Tidy l → p ≡ placeOf (e .address) (listed l) → p < l .count
-    → _≡_ {A = Endpoints} (record { entries = set (l .entries) p (merged (getD (l .entries) p none) e); count = l .count }) (ofList (noted e (listed l)))
+    → _≡_ {A = Endpoints} (record {
+      entries = set (l .entries) p (merged (getD (l .entries) p none) e);
+      count
+          = l .count;
+    }) (ofList (noted e (listed l)))
 noted-there l e p t q h =
     let es = listed l in
     let n = tidy-count l t .0 in
-    ap (λ (x : Endpoints). record { entries = set (x .entries) p (merged (getD (x .entries) p none) e); count = x .count }) (t .same)
-    ∙ rw (List·getD-append es (replicate (32 - length es) none) none p (omega arith)) (set-of es p (merged (getD es p none) e) (omega arith))
+    ap (λ (x : Endpoints). record {
+      entries = set (x .entries) p (merged (getD (x .entries) p none) e);
+      count
+          = x .count;
+    }) (t .same)
+    ∙ rw (List·getD-append es (replicate (32 - length es) none) none p (omega arith))
+    (set-of es p (merged (getD es p none) e) (omega arith))
     ∙ sym (ap (λ (x : List Endpoint). ofList x) (found p q (omega arith)))
   where
-    found : (p : ℕ) → p ≡ placeOf (e .address) (listed l) → p < length (listed l) → noted e (listed l) ≡ set (listed l) p (merged (getD (listed l) p none) e)
+    found : (p : ℕ) → p ≡ placeOf (e .address) (listed l) → p < length (listed l) → noted e (listed l)
+        ≡ set (listed l) p (merged (getD (listed l) p none) e)
     found p q h = rw q (noted-found e (listed l) (omega arith))
 
 -- at the end
-pub noted-last : (l : Endpoints) (e : Endpoint) (p : ℕ) → Tidy l → p ≡ placeOf (e .address) (listed l) → p < 32 → l .count ≤ p
+pub noted-last : (l : Endpoints) (e : Endpoint) (p : ℕ) → Tidy l → p ≡ placeOf (e .address) (listed l) → p < 32
+    → l .count ≤ p
     → _≡_ {A = Endpoints} (record { entries = set (l .entries) p e; count = p + 1 }) (ofList (noted e (listed l)))
 noted-last l e p t q h g =
     let es = listed l in

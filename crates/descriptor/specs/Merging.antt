@@ -21,7 +21,8 @@ module _ (op : ℕ → ℕ → ℕ) (f : Endpoint → ℕ) (a : ℕ) where
   over u (e ∷ es) = over (cond (eqb (e .address) a) (op u (f e)) u) es
 
 module _ (op : ℕ → ℕ → ℕ) (f : Endpoint → ℕ) (a : ℕ) (swap : (x y z : ℕ) → op (op x y) z ≡ op (op x z) y)
-    (assoc : (x y z : ℕ) → op x (op y z) ≡ op (op x y) z) (join : (x e : Endpoint) → f (merged x e) ≡ op (f x) (f e)) where
+    (assoc : (x y z : ℕ) → op x (op y z) ≡ op (op x y) z) (join : (x e : Endpoint) → f (merged x e)
+    ≡ op (f x) (f e)) where
   over-op : (u y : ℕ) (es : List Endpoint) → over op f a (op u y) es ≡ op (over op f a u es) y
   unfolding over
   over-op u y [] = refl
@@ -43,20 +44,24 @@ module _ (op : ℕ → ℕ → ℕ) (f : Endpoint → ℕ) (a : ℕ) (swap : (x 
       same true = rw (join x e, assoc u (f x) (f e)) (over-op (op u (f x)) (f e) xs)
       same false = refl
 
-      go : ((v : ℕ) → over op f a v (noted e xs) ≡ cond (eqb (e .address) a) (op (over op f a v xs) (f e)) (over op f a v xs)) → (t : Bool)
+      go : ((v : ℕ) → over op f a v (noted e xs) ≡ cond (eqb (e .address) a) (op (over op f a v xs) (f e))
+          (over op f a v xs)) → (t : Bool)
           → eqb (x .address) (e .address) ≡ t
           → over op f a u (cond t (merged x e ∷ xs) (x ∷ noted e xs))
           ≡ cond (eqb (e .address) a) (op (over op f a (cond (eqb (x .address) a) (op u (f x)) u) xs) (f e))
           (over op f a (cond (eqb (x .address) a) (op u (f x)) u) xs)
       go i true q =
           let w = over op f a (cond (eqb (x .address) a) (op u (f x)) u) xs in
-          same (eqb (x .address) a) ∙ ap (λ (b : ℕ). cond (eqb b a) (op w (f e)) w) (eqb-true (x .address) (e .address) q)
+          same (eqb (x .address) a) ∙ ap (λ (b : ℕ). cond (eqb b a) (op w (f e)) w)
+          (eqb-true (x .address) (e .address) q)
       go i false q = i (cond (eqb (x .address) a) (op u (f x)) u)
 
-  pub over-gathered : (u : ℕ) (list es : List Endpoint) → over op f a u (gathered list es) ≡ over op f a (over op f a u list) es
+  pub over-gathered : (u : ℕ) (list es : List Endpoint) → over op f a u (gathered list es)
+      ≡ over op f a (over op f a u list) es
   unfolding over gathered
   over-gathered u list [] = refl
-  over-gathered u list (e ∷ es) = over-gathered u (noted e list) es ∙ ap (λ (v : ℕ). over op f a v es) (over-noted u e list)
+  over-gathered u list (e ∷ es) = over-gathered u (noted e list) es
+      ∙ ap (λ (v : ℕ). over op f a v es) (over-noted u e list)
 
 -- ---- larger and lesser
 
@@ -105,11 +110,13 @@ least a es = over (λ x y. lesser x y) (λ e. e .interval) a 255 es
 -- in the list they are as in the descriptor
 pub largest-listed : (a : ℕ) (s : List ℕ) → largest a (listOf s) ≡ largest a (inOrder s)
 unfolding over
-largest-listed a s = over-gathered (λ x y. larger x y) (λ e. e .maximum) a larger-swap larger-assoc larger-joined 0 [] (inOrder s)
+largest-listed a s = over-gathered (λ x y. larger x y) (λ e. e .maximum) a larger-swap larger-assoc larger-joined 0 []
+    (inOrder s)
 
 pub least-listed : (a : ℕ) (s : List ℕ) → least a (listOf s) ≡ least a (inOrder s)
 unfolding over
-least-listed a s = over-gathered (λ x y. lesser x y) (λ e. e .interval) a lesser-swap lesser-assoc lesser-joined 255 [] (inOrder s)
+least-listed a s = over-gathered (λ x y. lesser x y) (λ e. e .interval) a lesser-swap lesser-assoc lesser-joined 255 []
+    (inOrder s)
 
 -- ---- and in a good list they are those of the one that has the address
 
@@ -118,26 +125,32 @@ unfolding over seen
 over-unseen op f a u [] h = refl
 over-unseen op f a u (x ∷ xs) h = go (λ q. over-unseen op f a u xs q) (eqb (x .address) a) h
   where
-    go : (seen a xs ≡ 0 → over op f a u xs ≡ u) → (t : Bool) → one t + seen a xs ≡ 0 → over op f a (cond t (op u (f x)) u) xs ≡ u
+    go : (seen a xs ≡ 0 → over op f a u xs ≡ u) → (t : Bool) → one t + seen a xs ≡ 0
+        → over op f a (cond t (op u (f x)) u) xs ≡ u
     go i true q = absurd (omega arith)
     go i false q = i (omega arith)
 
 apart : (a : ℕ) (es : List Endpoint) (i : ℕ) → i < length es → seen a es ≡ 0 → a ≡ getD es i none .address → ⊥
 unfolding seen
 apart a [] i h s q = absurd (omega arith)
-apart a (x ∷ xs) zero h s q = let z = eq-eqb (x .address) a (sym q) in let y : one true + seen a xs ≡ 0 = rw z at s in omega arith
+apart a (x ∷ xs) zero h s q = let z = eq-eqb (x .address) a (sym q) in let y : one true + seen a xs ≡ 0
+    = rw z at s in omega arith
 apart a (x ∷ xs) (suc i) h s q = apart a xs i (omega arith) (omega arith) q
 
 over-one : (op : ℕ → ℕ → ℕ) (f : Endpoint → ℕ) (u : ℕ) (es : List Endpoint) (i : ℕ) → Good es → i < length es
     → over op f (getD es i none .address) u es ≡ op u (f (getD es i none))
 unfolding over Good
 over-one op f u [] i g h = absurd (omega arith)
-over-one op f u (x ∷ xs) zero g h = rw (eq-eqb (x .address) (x .address) refl) (over-unseen op f (x .address) (op u (f x)) xs (g .1))
+over-one op f u (x ∷ xs) zero g h = rw (eq-eqb (x .address) (x .address) refl)
+    (over-unseen op f (x .address) (op u (f x)) xs (g .1))
 over-one op f u (x ∷ xs) (suc i) g h =
-    rw (ne-eqb (x .address) (getD xs i none .address) (apart (x .address) xs i (omega arith) (g .1))) (over-one op f u xs i (g .2) (omega arith))
+    rw (ne-eqb (x .address) (getD xs i none .address) (apart (x .address) xs i (omega arith) (g .1)))
+    (over-one op f u xs i (g .2) (omega arith))
 
-pub largest-one : (es : List Endpoint) (i : ℕ) → Good es → i < length es → largest (getD es i none .address) es ≡ getD es i none .maximum
-largest-one es i g h = over-one (λ x y. larger x y) (λ e. e .maximum) 0 es i g h ∙ (let z = larger-is 0 (getD es i none .maximum) in omega arith)
+pub largest-one : (es : List Endpoint) (i : ℕ) → Good es → i < length es → largest (getD es i none .address) es
+    ≡ getD es i none .maximum
+largest-one es i g h = over-one (λ x y. larger x y) (λ e. e .maximum) 0 es i g h
+    ∙ (let z = larger-is 0 (getD es i none .maximum) in omega arith)
 
 interval-byte : (es : List Endpoint) (i : ℕ) → Good es → i < length es → getD es i none .interval < 256
 unfolding Good
@@ -145,7 +158,8 @@ interval-byte [] i g h = absurd (omega arith)
 interval-byte (x ∷ xs) zero g h = g .0 .interval
 interval-byte (x ∷ xs) (suc i) g h = interval-byte xs i (g .2) (omega arith)
 
-pub least-one : (es : List Endpoint) (i : ℕ) → Good es → i < length es → least (getD es i none .address) es ≡ getD es i none .interval
+pub least-one : (es : List Endpoint) (i : ℕ) → Good es → i < length es → least (getD es i none .address) es
+    ≡ getD es i none .interval
 least-one es i g h =
     over-one (λ x y. lesser x y) (λ e. e .interval) 255 es i g h
     ∙ (let z = lesser-is 255 (getD es i none .interval) in let b = interval-byte es i g h in omega arith)

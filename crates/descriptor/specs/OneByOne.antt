@@ -19,15 +19,19 @@ use Rattle.descriptor.specs.ReadBackLaws.{accepted}
 use Rattle.descriptor.specs.Asked.{Fair, fair-asked}
 use Rattle.descriptor.specs.TrialLaws.{tried-stopped}
 
--- from the allocator a, for a list: the numbers given, the buffers that they take, the refusal that ended it or 0, the allocator afterwards
+-- from the allocator a, for a list: the numbers given, the buffers that they take, the refusal that ended it or 0, the
+-- allocator afterwards
 pub data Run : Allocator → List Endpoint → List ℕ → ℕ → ℕ → Allocator → Type 0 where
   all : (a : Allocator) → Run a [] [] 0 0 a
-  stopped : (a : Allocator) (e : Endpoint) (es : List Endpoint) (n : ℕ) → asked a e .answer ≡ Refused n → 6 ≤ n → n ≤ 8 → Run a (e ∷ es) [] 0 n a
+  stopped : (a : Allocator) (e : Endpoint) (es : List Endpoint) (n : ℕ) → asked a e .answer ≡ Refused n → 6 ≤ n → n ≤ 8
+      → Run a (e ∷ es) [] 0 n a
   goes : (a : Allocator) (e : Endpoint) (es : List Endpoint) (k base slots : ℕ) → asked a e .answer ≡ Given k base slots
-      → (ns : List ℕ) (buffers n : ℕ) (b : Allocator) → Run (asked a e .after) es ns buffers n b → Run a (e ∷ es) (k ∷ ns) (slots + buffers) n b
+      → (ns : List ℕ) (buffers n : ℕ) (b : Allocator) → Run (asked a e .after) es ns buffers n b
+      → Run a (e ∷ es) (k ∷ ns) (slots + buffers) n b
 
 -- the buffers that are counted are those that are used
-pub buffers-used : {a b : Allocator} {es : List Endpoint} {ns : List ℕ} {buffers n : ℕ} → Run a es ns buffers n b → b .next ≡ a .next + buffers
+pub buffers-used : {a b : Allocator} {es : List Endpoint} {ns : List ℕ} {buffers n : ℕ} → Run a es ns buffers n b
+    → b .next ≡ a .next + buffers
 buffers-used (all a) = omega arith
 buffers-used (stopped a e es n q l m) = omega arith
 buffers-used (goes a e es k base slots q ns buffers n b r) =
@@ -56,14 +60,29 @@ step-refused : (a : Allocator) (ns : List ℕ) (buffers : ℕ) (e : Endpoint) (n
 unfolding step answered
 step-refused a ns buffers e n q = rw q
 
-step-given : (a : Allocator) (ns : List ℕ) (buffers : ℕ) (e : Endpoint) (k base slots : ℕ) → asked a e .answer ≡ Given k base slots → length ns < 32
+step-given : (a : Allocator) (ns : List ℕ) (buffers : ℕ) (e : Endpoint) (k base slots : ℕ) → asked a e .answer
+    ≡ Given k base slots → length ns < 32
     → step (under a ns buffers 0) e ≡ under (asked a e .after) (ns ++ (k ∷ [])) (buffers + slots) 0
 unfolding step answered given
 step-given a ns buffers e k base slots q h =
     let c : length ns + 1 ≡ length (ns ++ (k ∷ [])) = omega (arith, length-append ns (k ∷ [])) in
     rw q
-    (ap (λ (x : List ℕ). record { after = asked a e .after; numbers = x; count = length ns + 1; buffers = buffers + slots; refusal = 0 }) (padded-more ns k h)
-    ∙ ap (λ (x : ℕ). record { after = asked a e .after; numbers = padded (ns ++ (k ∷ [])); count = x; buffers = buffers + slots; refusal = 0 }) c)
+    (ap (λ (x : List ℕ). record {
+      after = asked a e .after;
+      numbers = x;
+      count = length ns + 1;
+      buffers = buffers
+          + slots;
+      refusal = 0;
+    }) (padded-more ns k h)
+    ∙ ap (λ (x : ℕ). record {
+      after = asked a e .after;
+      numbers = padded (ns ++ (k ∷ []));
+      count = x;
+      buffers = buffers
+          + slots;
+      refusal = 0;
+    }) c)
 
 record Rest (a : Allocator) (ns : List ℕ) (buffers : ℕ) (es : List Endpoint) : Type 0 where
   more : List ℕ
@@ -77,7 +96,8 @@ record Rest (a : Allocator) (ns : List ℕ) (buffers : ℕ) (es : List Endpoint)
 ended : (a : Allocator) (ns : List ℕ) (buffers n : ℕ) → under a ns buffers n ≡ under a (ns ++ []) (buffers + 0) n
 ended a ns buffers n = rw (append-nil ns, add-zero buffers)
 
-rest-refused : (a : Allocator) (ns : List ℕ) (buffers : ℕ) (e : Endpoint) (es : List Endpoint) (n : ℕ) → asked a e .answer ≡ Refused n → 6 ≤ n → n ≤ 8
+rest-refused : (a : Allocator) (ns : List ℕ) (buffers : ℕ) (e : Endpoint) (es : List Endpoint) (n : ℕ)
+    → asked a e .answer ≡ Refused n → 6 ≤ n → n ≤ 8
     → Rest a ns buffers (e ∷ es)
 unfolding tried
 rest-refused a ns buffers e es n q l m = record {
@@ -92,7 +112,8 @@ rest-refused a ns buffers e es n q l m = record {
       ∙ ended a ns buffers n;
 }
 
-rest-given : (a : Allocator) (ns : List ℕ) (buffers : ℕ) (e : Endpoint) (es : List Endpoint) (k base slots : ℕ) → asked a e .answer ≡ Given k base slots
+rest-given : (a : Allocator) (ns : List ℕ) (buffers : ℕ) (e : Endpoint) (es : List Endpoint) (k base slots : ℕ)
+    → asked a e .answer ≡ Given k base slots
     → length ns < 32 → Rest (asked a e .after) (ns ++ (k ∷ [])) (buffers + slots) es → Rest a ns buffers (e ∷ es)
 unfolding tried
 rest-given a ns buffers e es k base slots q h j = record {
@@ -109,14 +130,25 @@ rest-given a ns buffers e es k base slots q h j = record {
       (let z : buffers + slots + j .slots ≡ buffers + (slots + j .slots) = omega arith in z);
 }
 
-rest : (es : List Endpoint) (a : Allocator) (ns : List ℕ) (buffers : ℕ) → length ns + length es ≤ 32 → Rest a ns buffers es
+rest : (es : List Endpoint) (a : Allocator) (ns : List ℕ) (buffers : ℕ) → length ns + length es ≤ 32
+    → Rest a ns buffers es
 unfolding tried
-rest [] a ns buffers h = record { more = []; slots = 0; refusal = 0; after = a; run = all a; same = ended a ns buffers 0 }
+rest [] a ns buffers h = record {
+  more = [];
+  slots = 0;
+  refusal = 0;
+  after = a;
+  run = all a;
+  same
+      = ended a ns buffers 0;
+}
 rest (e ∷ es) a ns buffers h =
     go (asked a e .answer) refl (fair-asked a e)
-    (λ k slots. rest es (asked a e .after) (ns ++ (k ∷ [])) (buffers + slots) (omega (arith, length-append ns (k ∷ []))))
+    (λ k slots. rest es (asked a e .after) (ns ++ (k ∷ [])) (buffers + slots)
+    (omega (arith, length-append ns (k ∷ []))))
   where
-    go : (x : Answer) → asked a e .answer ≡ x → Fair a (asked a e .after) x → ((k slots : ℕ) → Rest (asked a e .after) (ns ++ (k ∷ [])) (buffers + slots) es)
+    go : (x : Answer) → asked a e .answer ≡ x → Fair a (asked a e .after) x
+        → ((k slots : ℕ) → Rest (asked a e .after) (ns ++ (k ∷ [])) (buffers + slots) es)
         → Rest a ns buffers (e ∷ es)
     go (Refused n) q r i = rest-refused a ns buffers e es n q (r .0) (r .1)
     go (Given k base slots) q r i = rest-given a ns buffers e es k base slots q (omega arith) (i k slots)
@@ -145,5 +177,6 @@ one-by-one a es h =
     }
 
 -- of every descriptor that has neither error
-pub previewed : (a : Allocator) (s : List ℕ) → ((j : ℕ) → getD s j 0 < 256) → readingOf s .answer ≡ Listed → OneByOne a (listOf s)
+pub previewed : (a : Allocator) (s : List ℕ) → ((j : ℕ) → getD s j 0 < 256) → readingOf s .answer ≡ Listed
+    → OneByOne a (listOf s)
 previewed a s b h = one-by-one a (listOf s) (few (listOf s) (accepted s b h .good))

@@ -16,7 +16,14 @@ abbrev pub refusedBy : ℕ → Shown
 refusedBy n = record { said = said.Refused n; numbers = replicate 32 0; count = 0; buffers = 0; refusal = 0 }
 
 abbrev pub shown : Trial → Shown
-shown t = record { said = said.Tried; numbers = t .numbers; count = t .count; buffers = t .buffers; refusal = t .refusal }
+shown t = record {
+  said = said.Tried;
+  numbers = t .numbers;
+  count = t .count;
+  buffers = t .buffers;
+  refusal
+      = t .refusal;
+}
 
 -- by what the reading answered
 unfoldable pub shownOf : Allocator → List ℕ → Answer → Shown

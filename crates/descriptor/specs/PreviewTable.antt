@@ -25,7 +25,8 @@ pub table :
     (says (trialOf (fresh 512 4) (three 64)) ≡ (1 ∷ 2 ∷ 3 ∷ [], 4, 0))
     × (says (trialOf (fresh 512 3) (three 64)) ≡ (1 ∷ 2 ∷ [], 3, 8))
     × (says (trialOf (fresh 512 4) (three 513)) ≡ (1 ∷ [], 2, 6))
-    × (says (trialOf (fresh 512 4) (record { address = 0x80; kind = 2; maximum = 64; interval = 0 } ∷ three 64)) ≡ ([], 0, 7))
+    × (says (trialOf (fresh 512 4) (record { address = 0x80; kind = 2; maximum = 64; interval = 0 } ∷ three 64))
+    ≡ ([], 0, 7))
 unfolding isSet withBit fresh takenIn numsOf addTo isOut taken withAllocated
     withNext isIso isFree askedOf numberOf slotsOf bufferedOf numberedOf allocateOf asked given answered step tried
 table = (refl, refl, refl, refl)

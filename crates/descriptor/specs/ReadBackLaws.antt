@@ -14,7 +14,8 @@ use Rattle.descriptor.specs.Row.{lengthOf, kindOf, next, least, whole, a
 use Rattle.descriptor.specs.Row.{isConfiguration, endpointOf, settingOf, isMeant, endpointsOf}
 use Rattle.descriptor.specs.Endpoints.{none, ofList, merged, noted, gathered}
 use Rattle.descriptor.specs.Reading.{inOrder, listOf, clashes, twoTypes, refusedBy, readingOf}
-use Rattle.descriptor.specs.Writing.{low, high, totalFor, interface, endpoint, endpoints, written, upTo, stored, roomAfter}
+use Rattle.descriptor.specs.Writing.{low, high, totalFor, interface, endpoint, endpoints, written, upTo, stored}
+use Rattle.descriptor.specs.Writing.{roomAfter}
 use Rattle.descriptor.specs.RowLaws.{clear-endpoint, step, row-none, endpoints-none, configuration-is}
 use Rattle.descriptor.specs.Lists.{one, seen, Fine, Good}
 use Rattle.descriptor.specs.ListsLaws.{good-none, good-noted, few}
@@ -48,13 +49,15 @@ fines (suc n) inside z t (c ∷ d) b h =
     let r = c ∷ d in
     let x = step (suc n) inside r (omega arith) h in
     let y : x .left ≡ n = omega (arith, x .one) in
-    go (fines n (entered inside r) z (settingOf t r) (next r) (λ j. rw (getD-drop (lengthOf r) r j 0) (b (lengthOf r + j))) (rw y at (x .rest)))
+    go (fines n (entered inside r) z (settingOf t r) (next r)
+    (λ j. rw (getD-drop (lengthOf r) r j 0) (b (lengthOf r + j))) (rw y at (x .rest)))
     (λ e. fine-endpoint inside r b (x .may) (eqb-true _ _ e))
     (eqb (kindOf r) 5)
     (cond z (eqb (settingOf t r) 0) (not (eqb (settingOf t r) 0)))
     refl
   where
-    go : Fines (endpointsOf n z (settingOf t (c ∷ d)) (next (c ∷ d))) → (eqb (kindOf (c ∷ d)) 5 ≡ true → Fine (endpointOf (c ∷ d))) → (u v : Bool)
+    go : Fines (endpointsOf n z (settingOf t (c ∷ d)) (next (c ∷ d)))
+        → (eqb (kindOf (c ∷ d)) 5 ≡ true → Fine (endpointOf (c ∷ d))) → (u v : Bool)
         → eqb (kindOf (c ∷ d)) 5 ≡ u
         → Fines
         (cond (u && v) (endpointOf (c ∷ d) ∷ endpointsOf n z (settingOf t (c ∷ d)) (next (c ∷ d)))
@@ -85,7 +88,8 @@ unfolding readingOf
 accepted s b h = go (isConfiguration s) (twoTypes (inOrder s)) refl refl h
   where
     go : (t u : Bool) → isConfiguration s ≡ t → twoTypes (inOrder s) ≡ u
-        → cond (not t) (refusedBy 17) (cond u (refusedBy 18) (record { answer = Listed; list = ofList (listOf s) })) .answer ≡ Listed → Accepted s
+        → cond (not t) (refusedBy 17) (cond u (refusedBy 18)
+        (record { answer = Listed; list = ofList (listOf s) })) .answer ≡ Listed → Accepted s
     go false u p q k = absurd (let z : _≡_ {A = ℕ} 0 1 = cc in omega arith)
     go true true p q k = absurd (let z : _≡_ {A = ℕ} 0 1 = cc in omega arith)
     go true false p q k = record { no-17 = p; no-18 = q; list = rw (p, q); good = read-good s b p }
@@ -114,7 +118,8 @@ unseen [] e es g = refl
 unseen (x ∷ xs) e es g = rw (unseen xs e es (g .2), ne-eqb (x .address) (e .address) (λ q. apart xs q (g .1)))
   where
     apart : (xs : List Endpoint) → x .address ≡ e .address → seen (x .address) (xs ++ e ∷ es) ≡ 0 → ⊥
-    apart [] q h = let z = eq-eqb (e .address) (x .address) (sym q) in let y : one true + seen (x .address) es ≡ 0 = rw z at h in omega arith
+    apart [] q h = let z = eq-eqb (e .address) (x .address) (sym q) in let y : one true + seen (x .address) es ≡ 0
+        = rw z at h in omega arith
     apart (y ∷ ys) q h = apart ys q (omega arith)
 
 gathered-self : (xs es : List Endpoint) → Good (xs ++ es) → gathered xs es ≡ xs ++ es
@@ -130,7 +135,8 @@ unfolding clashes seen
 no-clash e [] h = refl
 no-clash e (x ∷ xs) h = go (λ q. no-clash e xs q) (eqb (x .address) (e .address)) refl h
   where
-    go : (seen (e .address) xs ≡ 0 → clashes e xs ≡ false) → (t : Bool) → eqb (x .address) (e .address) ≡ t → one t + seen (e .address) xs ≡ 0
+    go : (seen (e .address) xs ≡ 0 → clashes e xs ≡ false) → (t : Bool) → eqb (x .address) (e .address) ≡ t → one t
+        + seen (e .address) xs ≡ 0
         → (eqb (e .address) (x .address) && not (eqb (e .kind) (x .kind)) || clashes e xs) ≡ false
     go i true p q = absurd (omega arith)
     go i false p q = rw (ne-eqb (e .address) (x .address) (λ z. eqb-false _ _ p (sym z)), i (omega arith))
@@ -182,13 +188,15 @@ unfolding endpoints Fines
 listed-endpoints [] n f h = endpoints-none n true 0 [] refl
 listed-endpoints (e ∷ es) zero f h = absurd (omega arith)
 listed-endpoints (e ∷ es) (suc n) f h =
-    listed-endpoint e (endpoints es) (f .0) n ∙ ap (λ (x : List Endpoint). e ∷ x) (listed-endpoints es n (f .1) (omega arith))
+    listed-endpoint e (endpoints es) (f .0) n ∙ ap (λ (x : List Endpoint). e ∷ x)
+    (listed-endpoints es n (f .1) (omega arith))
 
 other-endpoints : (es : List Endpoint) (n : ℕ) → Fines es → length es ≤ n → endpointsOf n false 0 (endpoints es) ≡ []
 unfolding endpoints Fines
 other-endpoints [] n f h = endpoints-none n false 0 [] refl
 other-endpoints (e ∷ es) zero f h = absurd (omega arith)
-other-endpoints (e ∷ es) (suc n) f h = other-endpoint e (endpoints es) (f .0) n ∙ other-endpoints es n (f .1) (omega arith)
+other-endpoints (e ∷ es) (suc n) f h = other-endpoint e (endpoints es) (f .0) n
+    ∙ other-endpoints es n (f .1) (omega arith)
 
 -- after the interface
 module _ (k : ℕ) (d : List ℕ) (n : ℕ) where
@@ -234,7 +242,8 @@ module _ (es : List Endpoint) (g : Good es) where
   in-order-back : inOrder (written es) ≡ es
   in-order-back =
       let f = good-fines es g in
-      rw (found-back true es (λ n h. listed-endpoints es n f h), found-back false [] (λ n h. other-endpoints es n f h)) (append-nil es)
+      rw (found-back true es (λ n h. listed-endpoints es n f h), found-back false [] (λ n h. other-endpoints es n f h))
+      (append-nil es)
 
   whole-back : whole (written es) ≡ true
   unfolding written least
@@ -249,7 +258,14 @@ module _ (es : List Endpoint) (g : Good es) where
   no-error-17 =
       let l = length-written es in
       let f = few es g in
-      rw (le-leb (length (written es)) 4096 (omega arith), whole-back, eq-eqb (kindOf (written es)) 2 kind-back, eq-eqb _ _ total-back, rows-back)
+      rw (
+        le-leb (length (written es)) 4096 (omega arith),
+        whole-back,
+        eq-eqb (kindOf (written es)) 2 kind-back,
+        eq-eqb
+            _ _ total-back,
+        rows-back,
+      )
 
   -- what is written reads back as the same list
   pub reads-back : readingOf (written es) ≡ record { answer = Listed; list = ofList es }
@@ -269,13 +285,16 @@ stored-of es g =
     let f = few es g in
     let m : min (length es) 32 ≡ length es = omega arith in
     let r = replicate (32 - length es) none in
-    ap (λ (k : ℕ). upTo k (es ++ r)) m ∙ upTo-take (length es) (es ++ r) (omega (arith, length-append es r)) ∙ take-append-seam es r
+    ap (λ (k : ℕ). upTo k (es ++ r)) m ∙ upTo-take (length es) (es ++ r) (omega (arith, length-append es r))
+    ∙ take-append-seam es r
 
 pub room-reads-back : (es : List Endpoint) (room : List ℕ) → Good es → totalFor (length es) ≤ length room
-    → readingOf (take (totalFor (length es)) (roomAfter (ofList es) room)) ≡ record { answer = Listed; list = ofList es }
+    → readingOf (take (totalFor (length es)) (roomAfter (ofList es) room))
+    ≡ record { answer = Listed; list = ofList es }
 unfolding roomAfter
 room-reads-back es room g h =
     let f = few es g in
     let m : min (length es) 32 ≡ length es = omega arith in
     rw (stored-of es g, m, le-ltb (length room) (totalFor (length es)) h)
-    (rw (take-at (written es) (drop (totalFor (length es)) room) (totalFor (length es)) (length-written es)) (reads-back es g))
+    (rw (take-at (written es) (drop (totalFor (length es)) room) (totalFor (length es)) (length-written es))
+    (reads-back es g))

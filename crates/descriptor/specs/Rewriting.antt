@@ -1,5 +1,6 @@
--- A configuration descriptor read, and its list written out: "Both come ... 17 first". A room too short for the list answers 17 also where one
--- address has two transfer types: how many endpoints the list has does not hang on their types.
+-- A configuration descriptor read, and its list written out: "Both come ... 17 first". A room too short for the list
+-- answers 17 also where one address has two transfer types: how many endpoints the list has does not hang on their
+-- types.
 use mathlib.Core.Bool.{Bool, cond, not, _||_}
 use mathlib.Core.List.{List}
 use Prim.Native.Nat.{ℕ}
@@ -19,7 +20,8 @@ abbrev pub seventeen : List ℕ → List ℕ → Bool
 seventeen s room = not (isConfiguration s) || isShort (listIn s) room
 
 unfoldable pub rewrittenOf : List ℕ → List ℕ → Written
-rewrittenOf s room = cond (seventeen s room) (Refused 17) (cond (twoTypes (inOrder s)) (Refused 18) (writtenOf (listIn s) room))
+rewrittenOf s room = cond (seventeen s room) (Refused 17)
+    (cond (twoTypes (inOrder s)) (Refused 18) (writtenOf (listIn s) room))
 
 -- a refusal leaves the room
 unfoldable pub roomRewritten : List ℕ → List ℕ → List ℕ

@@ -27,7 +27,8 @@ module _ (s room : List ℕ) where
   short-room h = (rw (h, or-true (not (isConfiguration s))), rw (h, or-true (not (isConfiguration s))))
 
   module _ (conf : isConfiguration s ≡ true) (long : isShort (listIn s) room ≡ false) where
-    pub refused-by : (row : ℕ) → readingOf s .answer ≡ answer.Refused row → (Refused row ≡ rewrittenOf s room) × (room ≡ roomRewritten s room)
+    pub refused-by : (row : ℕ) → readingOf s .answer ≡ answer.Refused row → (Refused row ≡ rewrittenOf s room)
+        × (room ≡ roomRewritten s room)
     unfolding readingOf rewrittenOf roomRewritten
     refused-by row h = go (isConfiguration s) (twoTypes (inOrder s)) (isShort (listIn s) room) conf long h
       where
@@ -40,13 +41,15 @@ module _ (s room : List ℕ) where
         go true false false e l h = let z : _≡_ {A = ℕ} 0 1 = cc in absurd (omega arith)
 
     pub written-by : readingOf s .answer ≡ answer.Listed
-        → (readingOf s .list ≡ listIn s) × (writtenOf (listIn s) room ≡ rewrittenOf s room) × (roomAfter (listIn s) room ≡ roomRewritten s room)
+        → (readingOf s .list ≡ listIn s) × (writtenOf (listIn s) room ≡ rewrittenOf s room)
+        × (roomAfter (listIn s) room ≡ roomRewritten s room)
     unfolding readingOf rewrittenOf roomRewritten
     written-by h = go (isConfiguration s) (twoTypes (inOrder s)) (isShort (listIn s) room) conf long h
       where
         go : (k t z : Bool) → k ≡ true → z ≡ false → reads k t (listIn s) .answer ≡ answer.Listed
             → (reads k t (listIn s) .list ≡ listIn s)
-            × (writtenOf (listIn s) room ≡ cond (not k || z) (Refused 17) (cond t (Refused 18) (writtenOf (listIn s) room)))
+            × (writtenOf (listIn s) room ≡ cond (not k || z) (Refused 17)
+            (cond t (Refused 18) (writtenOf (listIn s) room)))
             × (roomAfter (listIn s) room ≡ cond (not k || z) room (cond t room (roomAfter (listIn s) room)))
         go false t z e l h = absurd (true≢false (sym e))
         go true t true e l h = absurd (true≢false l)

@@ -1,5 +1,5 @@
--- A configuration descriptor (USB 2.0, 9.6.3): descriptors one after the other. Byte 0 of each is its length, byte 1 its kind. A row is the bytes from
--- one of them on to the end.
+-- A configuration descriptor (USB 2.0, 9.6.3): descriptors one after the other. Byte 0 of each is its length, byte 1
+-- its kind. A row is the bytes from one of them on to the end.
 use mathlib.Core.Bool.{Bool, true, false, cond, not, _&&_, _||_}
 use mathlib.Core.List.{List, [], _∷_}
 use Prim.Native.Nat.{ℕ, zero, suc, _+_, _*_, _/_, _%_}
@@ -53,7 +53,8 @@ isRow (suc n) inside (b ∷ d) =
 unfoldable pub totalOf : List ℕ → ℕ
 totalOf s = getD s 2 0 + getD s 3 0 * 256
 
--- no error 17: at most 4,096 bytes that begin with a configuration descriptor, are as many as its total length, and go on as a row
+-- no error 17: at most 4,096 bytes that begin with a configuration descriptor, are as many as its total length, and go
+-- on as a row
 unfoldable pub isConfiguration : List ℕ → Bool
 isConfiguration s =
     leb (length s) 4096 && whole s && eqb (kindOf s) 2 && eqb (totalOf s) (length s) && isRow (length s) false (next s)

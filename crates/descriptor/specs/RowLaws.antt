@@ -30,11 +30,13 @@ unfolding whole
 whole-at s at = rw (length-drop at s, first-at s at, getD-drop at s 1 0)
 
 pub allowed-at : (s : List ℕ) (at : ℕ) (inside : Bool)
-    → allowed inside (drop at s) ≡ cond (eqb (getD s (at + 1) 0) 2) false (cond (eqb (getD s (at + 1) 0) 5) (inside && isClear (getD s (at + 2) 0)) true)
+    → allowed inside (drop at s) ≡ cond (eqb (getD s (at + 1) 0) 2) false
+    (cond (eqb (getD s (at + 1) 0) 5) (inside && isClear (getD s (at + 2) 0)) true)
 unfolding allowed
 allowed-at s at inside = rw (getD-drop at s 1 0, getD-drop at s 2 0)
 
-pub entered-at : (s : List ℕ) (at : ℕ) (inside : Bool) → entered inside (drop at s) ≡ (inside || eqb (getD s (at + 1) 0) 4)
+pub entered-at : (s : List ℕ) (at : ℕ) (inside : Bool) → entered inside (drop at s)
+    ≡ (inside || eqb (getD s (at + 1) 0) 4)
 unfolding entered
 entered-at s at inside = rw (getD-drop at s 1 0)
 
@@ -142,7 +144,8 @@ endpoints-none (suc n) z t (b ∷ d) l = absurd (omega arith)
 
 pub endpoints-more : (n : ℕ) (z : Bool) (t : ℕ) (d : List ℕ) → 0 < length d
     → endpointsOf (suc n) z t d
-    ≡ cond (isMeant z (settingOf t d) d) (endpointOf d ∷ endpointsOf n z (settingOf t d) (next d)) (endpointsOf n z (settingOf t d) (next d))
+    ≡ cond (isMeant z (settingOf t d) d) (endpointOf d ∷ endpointsOf n z (settingOf t d) (next d))
+    (endpointsOf n z (settingOf t d) (next d))
 unfolding endpointsOf
 endpoints-more n z t [] l = absurd (omega arith)
 endpoints-more n z t (b ∷ d) l = refl
@@ -151,7 +154,8 @@ endpoints-more n z t (b ∷ d) l = refl
 
 module _ (n : ℕ) (inside : Bool) (s : List ℕ) (at : ℕ) (l : at < length s) (enough : length s ≤ at + n) where
   here-more : (m : ℕ) → n ≡ suc m
-      → isRow n inside (drop at s) ≡ (whole (drop at s) && allowed inside (drop at s) && isRow m (entered inside (drop at s)) (next (drop at s)))
+      → isRow n inside (drop at s) ≡ (whole (drop at s) && allowed inside (drop at s)
+      && isRow m (entered inside (drop at s)) (next (drop at s)))
   here-more m e = rw e (row-more m inside (drop at s) (omega (arith, length-drop at s)))
 
   pub row-broken : whole (drop at s) ≡ false → isRow n inside (drop at s) ≡ false
@@ -180,4 +184,11 @@ configuration-is s h =
     let b = both-true _ _ (a .0) in
     let c = both-true _ _ (b .0) in
     let d = both-true _ _ (c .0) in
-    record { few = leb-true _ _ (d .0); first = d .1; kind = eqb-true _ _ (c .1); total = eqb-true _ _ (b .1); row = a .1 }
+    record {
+      few = leb-true _ _ (d .0);
+      first = d .1;
+      kind = eqb-true _ _ (c .1);
+      total = eqb-true _ _ (b .1);
+      row
+          = a .1;
+    }

@@ -3,14 +3,13 @@ use mathlib.Core.Path.{_≡_, refl}
 use mathlib.Core.List.{List, [], _∷_, _++_}
 use Prim.Native.Nat.{ℕ}
 use Rattle.descriptor.specs.declared.Answer.the-variants.{Refused, Listed}
-use Rattle.descriptor.specs.Row.{least, whole, isClear, allowed, entered, isRow, totalOf, isConfiguration, endpointOf, settingOf, isMeant}
+use Rattle.descriptor.specs.Row.{least, whole, isClear, allowed, entered, isRow, totalOf, isConfiguration}
+use Rattle.descriptor.specs.Row.{endpointOf, settingOf, isMeant}
 use Rattle.descriptor.specs.Row.{endpointsOf}
 use Rattle.descriptor.specs.Endpoints.{merged, noted, gathered}
 use Rattle.descriptor.specs.Reading.{listOf, clashes, twoTypes, readingOf}
 use Rattle.descriptor.specs.declared.Written.the-variants as written′
 use Rattle.descriptor.specs.Writing.{endpoints, written}
-use Rattle.descriptor.specs.Rewriting.{rewrittenOf, roomRewritten}
-use lib.ListN.{replicate}
 
 -- a configuration of so many bytes, an interface's alternate setting, an endpoint, a descriptor of a class
 abbrev conf : ℕ → List ℕ
@@ -25,9 +24,11 @@ end address attributes lo hi interval = 7 ∷ 5 ∷ address ∷ attributes ∷ l
 abbrev class : List ℕ
 class = 3 ∷ 0x24 ∷ 7 ∷ []
 
--- Setting 1 stands before setting 0, and 0x82 in both. Bits 11-12 of a maximum and bits 2-7 of the attributes are dropped.
+-- Setting 1 stands before setting 0, and 0x82 in both. Bits 11-12 of a maximum and bits 2-7 of the attributes are
+-- dropped.
 abbrev two : List ℕ
-two = conf 58 ++ face 1 ++ end 0x82 2 0 2 9 ++ end 0x03 3 8 0 1 ++ class ++ face 0 ++ end 0x81 0x25 0 0x1A 4 ++ end 0x82 2 64 0 2
+two = conf 58 ++ face 1 ++ end 0x82 2 0 2 9 ++ end 0x03 3 8 0 1 ++ class ++ face 0 ++ end 0x81 0x25 0 0x1A 4
+    ++ end 0x82 2 64 0 2
 
 pub listed :
     (listOf two
@@ -42,8 +43,9 @@ unfolding least whole isClear allowed entered isRow totalOf isConfiguration
     endpointOf settingOf isMeant endpointsOf merged noted gathered clashes twoTypes readingOf endpoints written
 listed = (refl, refl, refl)
 
--- No bytes; a total length that is not theirs; a length byte of 1, below its kind's, past the end; a second configuration; an endpoint before every
--- interface; address bits 4-6; two types, alone and before a broken descriptor. Number 0 is no error here.
+-- No bytes; a total length that is not theirs; a length byte of 1, below its kind's, past the end; a second
+-- configuration; an endpoint before every interface; address bits 4-6; two types, alone and before a broken descriptor.
+-- Number 0 is no error here.
 pub errors :
     (readingOf [] .answer ≡ Refused 17)
     × (readingOf (conf 10) .answer ≡ Refused 17)
@@ -59,15 +61,3 @@ pub errors :
 unfolding least whole isClear allowed entered isRow
     totalOf isConfiguration endpointOf settingOf isMeant endpointsOf merged noted gathered clashes twoTypes readingOf
 errors = (refl, refl, refl, refl, refl, refl, refl, refl, refl, refl, refl)
-
--- Two types, rewritten: 17 in a room too short for the one address, 18 in one that is long enough. Neither writes.
-abbrev clashing : List ℕ
-clashing = conf 32 ++ face 0 ++ end 0x81 2 64 0 0 ++ end 0x81 3 64 0 0
-
-pub rewritten :
-    (rewrittenOf clashing (replicate 24 7) ≡ written′.Refused 17)
-    × (rewrittenOf clashing (replicate 25 7) ≡ written′.Refused 18)
-    × (roomRewritten clashing (replicate 25 7) ≡ replicate 25 7)
-unfolding least whole isClear allowed entered isRow totalOf isConfiguration
-    endpointOf settingOf isMeant endpointsOf merged noted gathered clashes twoTypes rewrittenOf roomRewritten
-rewritten = (refl, refl, refl)

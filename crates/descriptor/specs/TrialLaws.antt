@@ -45,7 +45,8 @@ unfolding upTo tried
 tried-none t es = refl
 
 -- once stopped, the rest changes nothing
-pub tried-on : (t : Trial) (es : List Endpoint) (i n : ℕ) → (tried t (upTo i es) .refusal ≡ 0 → ⊥) → tried t (upTo (i + n) es) ≡ tried t (upTo i es)
+pub tried-on : (t : Trial) (es : List Endpoint) (i n : ℕ) → (tried t (upTo i es) .refusal ≡ 0 → ⊥)
+    → tried t (upTo (i + n) es) ≡ tried t (upTo i es)
 unfolding upTo
 tried-on t es i zero h = rw add-zero
 tried-on t es i (suc n) h =

@@ -1,4 +1,5 @@
--- Error 18 as the code finds it: each endpoint's kind is held against that of its address in the list that is read. Assumes nothing.
+-- Error 18 as the code finds it: each endpoint's kind is held against that of its address in the list that is read.
+-- Assumes nothing.
 use mathlib.Core.Path.{_≡_, refl, sym, ap, _∙_}
 use mathlib.Core.Bool.{Bool, true, false, cond, not, _&&_, _||_, and-false, and-assoc}
 use mathlib.Core.List.{List, [], _∷_, _++_, append-nil}
@@ -12,10 +13,12 @@ use Rattle.descriptor.specs.Reading.{endpoints, inOrder, listOf, clashes
 
 -- ---- the list has the kind that an address has first
 
-skip : (f e : Endpoint) (xs es : List Endpoint) → eqb (e .address) (f .address) ≡ false → agrees f (xs ++ e ∷ es) ≡ agrees f (xs ++ es)
+skip : (f e : Endpoint) (xs es : List Endpoint) → eqb (e .address) (f .address) ≡ false → agrees f (xs ++ e ∷ es)
+    ≡ agrees f (xs ++ es)
 unfolding agrees
 skip f e [] es h = rw h
-skip f e (x ∷ xs) es h = ap (λ (b : Bool). cond (eqb (x .address) (f .address)) (eqb (x .kind) (f .kind)) b) (skip f e xs es h)
+skip f e (x ∷ xs) es h = ap (λ (b : Bool). cond (eqb (x .address) (f .address)) (eqb (x .kind) (f .kind)) b)
+    (skip f e xs es h)
 
 agrees-noted : (f e : Endpoint) (xs es : List Endpoint) → agrees f (noted e xs ++ es) ≡ agrees f (xs ++ e ∷ es)
 unfolding agrees noted merged
@@ -23,11 +26,13 @@ agrees-noted f e [] es = refl
 agrees-noted f e (x ∷ xs) es = go (agrees-noted f e xs es) (eqb (x .address) (e .address)) refl
   where
     go : agrees f (noted e xs ++ es) ≡ agrees f (xs ++ e ∷ es) → (t : Bool) → eqb (x .address) (e .address) ≡ t
-        → agrees f (cond t (merged x e ∷ xs) (x ∷ noted e xs) ++ es) ≡ cond (eqb (x .address) (f .address)) (eqb (x .kind) (f .kind)) (agrees f (xs ++ e ∷ es))
+        → agrees f (cond t (merged x e ∷ xs) (x ∷ noted e xs) ++ es)
+        ≡ cond (eqb (x .address) (f .address)) (eqb (x .kind) (f .kind)) (agrees f (xs ++ e ∷ es))
     go i true q = split (eqb (x .address) (f .address)) refl
       where
         split : (u : Bool) → eqb (x .address) (f .address) ≡ u
-            → cond u (eqb (x .kind) (f .kind)) (agrees f (xs ++ es)) ≡ cond u (eqb (x .kind) (f .kind)) (agrees f (xs ++ e ∷ es))
+            → cond u (eqb (x .kind) (f .kind)) (agrees f (xs ++ es))
+            ≡ cond u (eqb (x .kind) (f .kind)) (agrees f (xs ++ e ∷ es))
         split true r = refl
         split false r = sym (skip f e xs es (rw (eqb-true (x .address) (e .address) q) at r))
     go i false q = ap (λ (b : Bool). cond (eqb (x .address) (f .address)) (eqb (x .kind) (f .kind)) b) i
@@ -56,24 +61,36 @@ module _ (e : Endpoint) where
       go i true false q = refl
       go i false u q = rw (i q) (and-false (agrees f es))
 
-  agreed : (f : Endpoint) (es : List Endpoint) → e .address ≡ f .address → e .kind ≡ f .kind → clashes e es ≡ false → agrees f es ≡ true
+  agreed : (f : Endpoint) (es : List Endpoint) → e .address ≡ f .address → e .kind ≡ f .kind → clashes e es ≡ false
+      → agrees f es ≡ true
   unfolding agrees clashes
   agreed f [] a k h = refl
-  agreed f (x ∷ xs) a k h = go (λ q. agreed f xs a k q) (eqb (e .address) (x .address)) (eqb (e .kind) (x .kind)) refl refl h
+  agreed f (x ∷ xs) a k h = go (λ q. agreed f xs a k q) (eqb (e .address) (x .address)) (eqb (e .kind) (x .kind)) refl
+      refl h
     where
-      go : (clashes e xs ≡ false → agrees f xs ≡ true) → (t u : Bool) → eqb (e .address) (x .address) ≡ t → eqb (e .kind) (x .kind) ≡ u
-          → (t && not u || clashes e xs) ≡ false → cond (eqb (x .address) (f .address)) (eqb (x .kind) (f .kind)) (agrees f xs) ≡ true
-      go i true true p r q = rw (eq-eqb (x .address) (f .address) (sym (eqb-true _ _ p) ∙ a), eq-eqb (x .kind) (f .kind) (sym (eqb-true _ _ r) ∙ k))
+      go : (clashes e xs ≡ false → agrees f xs ≡ true) → (t u : Bool) → eqb (e .address) (x .address) ≡ t
+          → eqb (e .kind) (x .kind) ≡ u
+          → (t && not u || clashes e xs) ≡ false → cond (eqb (x .address) (f .address)) (eqb (x .kind) (f .kind))
+          (agrees f xs) ≡ true
+      go i true true p r q = rw (
+        eq-eqb (x .address) (f .address) (sym (eqb-true _ _ p) ∙ a),
+        eq-eqb (x .kind) (f .kind)
+            (sym (eqb-true _ _ r) ∙ k),
+      )
       go i true false p r q = absurd (let z : _≡_ {A = ℕ} 0 1 = cc in omega arith)
       go i false u p r q = rw (ne-eqb (x .address) (f .address) (λ z. eqb-false _ _ p (a ∙ sym z))) (i q)
 
-  agree-past : (es : List Endpoint) → clashes e es ≡ false → (fs : List Endpoint) → clashes e fs ≡ false → agree (e ∷ es) fs ≡ agree es fs
+  agree-past : (es : List Endpoint) → clashes e es ≡ false → (fs : List Endpoint) → clashes e fs ≡ false
+      → agree (e ∷ es) fs ≡ agree es fs
   unfolding agree agrees clashes
   agree-past es h [] q = refl
-  agree-past es h (f ∷ fs) q = go (λ r. agree-past es h fs r) (eqb (e .address) (f .address)) (eqb (e .kind) (f .kind)) refl refl q
+  agree-past es h (f ∷ fs) q = go (λ r. agree-past es h fs r) (eqb (e .address) (f .address)) (eqb (e .kind) (f .kind))
+      refl refl q
     where
-      go : (clashes e fs ≡ false → agree (e ∷ es) fs ≡ agree es fs) → (t u : Bool) → eqb (e .address) (f .address) ≡ t → eqb (e .kind) (f .kind) ≡ u
-          → (t && not u || clashes e fs) ≡ false → (cond t u (agrees f es) && agree (e ∷ es) fs) ≡ (agrees f es && agree es fs)
+      go : (clashes e fs ≡ false → agree (e ∷ es) fs ≡ agree es fs) → (t u : Bool) → eqb (e .address) (f .address) ≡ t
+          → eqb (e .kind) (f .kind) ≡ u
+          → (t && not u || clashes e fs) ≡ false → (cond t u (agrees f es) && agree (e ∷ es) fs)
+          ≡ (agrees f es && agree es fs)
       go i true true p r q = rw (i q, agreed f es (eqb-true _ _ p) (eqb-true _ _ r) h)
       go i true false p r q = absurd (let z : _≡_ {A = ℕ} 0 1 = cc in omega arith)
       go i false u p r q = rw (i q)
@@ -100,7 +117,8 @@ types es = agree-gathered es es ∙ agree-self es
 pub agree-append : (list es fs : List Endpoint) → agree list (es ++ fs) ≡ (agree list es && agree list fs)
 unfolding agree
 agree-append list [] fs = refl
-agree-append list (e ∷ es) fs = rw (agree-append list es fs) (sym (and-assoc (agrees e list) (agree list es) (agree list fs)))
+agree-append list (e ∷ es) fs = rw (agree-append list es fs)
+    (sym (and-assoc (agrees e list) (agree list es) (agree list fs)))
 
 pub gathered-append : (list es fs : List Endpoint) → gathered list (es ++ fs) ≡ gathered (gathered list es) fs
 unfolding gathered
@@ -116,8 +134,10 @@ module _ (s : List ℕ) where
   pub two-in-first : agree (listOf s) (endpoints true s) ≡ false → twoTypes (inOrder s) ≡ true
   two-in-first h = not-false (twoTypes (inOrder s)) (sym (rw h at both))
 
-  pub two-in-others : agree (listOf s) (endpoints true s) ≡ true → agree (listOf s) (endpoints false s) ≡ false → twoTypes (inOrder s) ≡ true
+  pub two-in-others : agree (listOf s) (endpoints true s) ≡ true → agree (listOf s) (endpoints false s) ≡ false
+      → twoTypes (inOrder s) ≡ true
   two-in-others g h = not-false (twoTypes (inOrder s)) (sym (rw (g, h) at both))
 
-  pub one-each : agree (listOf s) (endpoints true s) ≡ true → agree (listOf s) (endpoints false s) ≡ true → twoTypes (inOrder s) ≡ false
+  pub one-each : agree (listOf s) (endpoints true s) ≡ true → agree (listOf s) (endpoints false s) ≡ true
+      → twoTypes (inOrder s) ≡ false
   one-each g h = not-true (twoTypes (inOrder s)) (sym (rw (g, h) at both))

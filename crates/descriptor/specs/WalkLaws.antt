@@ -10,7 +10,8 @@ use lib.Seq.{getD-drop}
 use borrow.Author.Tests.{eqb-true}
 use Rattle.descriptor.specs.declared.Endpoint.{Endpoint}
 use Rattle.descriptor.specs.declared.Endpoints.{Endpoints}
-use Rattle.descriptor.specs.Row.{kindOf, entered, isRow, isConfiguration, endpointOf, settingOf, isMeant, endpointsOf}
+use Rattle.descriptor.specs.Row.{kindOf, entered, isRow, isConfiguration, endpointOf, settingOf, isMeant}
+use Rattle.descriptor.specs.Row.{endpointsOf}
 use Rattle.descriptor.specs.Endpoints.{ofList, listed, noted, gathered, agrees, agree}
 use Rattle.descriptor.specs.RowLaws.{whole-is, both-true, clear-endpoint, next-at, here, step}
 use Rattle.descriptor.specs.RowLaws.{endpoints-none, endpoints-more, configuration-is, least-configuration}
@@ -20,7 +21,8 @@ use Rattle.descriptor.specs.Walk.{Sound}
 
 -- ---- what is read there
 
-pub setting-at : (s : List ℕ) (at t : ℕ) → settingOf t (drop at s) ≡ cond (eqb (getD s (at + 1) 0) 4) (getD s (at + 3) 0) t
+pub setting-at : (s : List ℕ) (at t : ℕ) → settingOf t (drop at s)
+    ≡ cond (eqb (getD s (at + 1) 0) 4) (getD s (at + 3) 0) t
 unfolding settingOf
 setting-at s at t = rw (getD-drop at s 1 0, getD-drop at s 3 0)
 
@@ -36,7 +38,14 @@ pub endpoint-at : (s : List ℕ) (at : ℕ) → endpointOf (drop at s) ≡ recor
   interval = getD s (at + 6) 0;
 }
 unfolding endpointOf
-endpoint-at s at = rw (getD-drop at s 2 0, getD-drop at s 3 0, getD-drop at s 4 0, getD-drop at s 5 0, getD-drop at s 6 0)
+endpoint-at s at = rw (
+  getD-drop at s 2 0,
+  getD-drop at s 3 0,
+  getD-drop at s 4 0,
+  getD-drop at s 5 0,
+  getD-drop at s 6
+      0,
+)
 
 -- what is meant is an endpoint
 pub meant-endpoint : (s : List ℕ) (at : ℕ) (z : Bool) (t : ℕ) → isMeant z t (drop at s) ≡ true → getD s (at + 1) 0 ≡ 5
@@ -110,7 +119,8 @@ pub gather-none : (list : List Endpoint) → gathered list [] ≡ list
 unfolding gathered
 gather-none list = refl
 
-pub tidy-on : (list : Endpoints) (z : Bool) (e : Endpoint) → Tidy list → (z ≡ true → Fine e) → Tidy (cond z (ofList (noted e (listed list))) list)
+pub tidy-on : (list : Endpoints) (z : Bool) (e : Endpoint) → Tidy list → (z ≡ true → Fine e)
+    → Tidy (cond z (ofList (noted e (listed list))) list)
 tidy-on list true e t f = tidy-of (noted e (listed list)) (good-noted e (listed list) (f refl) (t .good))
 tidy-on list false e t f = t
 
@@ -135,14 +145,19 @@ module _ (n : ℕ) (s : List ℕ) (at : ℕ) (z : Bool) (t : ℕ) (o : On n s at
       → gathered (listed list) (endpointsOf n z t (drop at s))
       ≡ gathered (listed (cond meant (ofList (noted (endpointOf (drop at s)) (listed list))) list)) rest
   gather-at list =
-      ap (λ (es : List Endpoint). gathered (listed list) es) (o .found) ∙ gather-on list meant (endpointOf (drop at s)) rest
+      ap (λ (es : List Endpoint). gathered (listed list) es) (o .found)
+      ∙ gather-on list meant (endpointOf (drop at s)) rest
 
   pub agree-at : (list : List Endpoint)
-      → agree list (endpointsOf n z t (drop at s)) ≡ (cond meant (agrees (endpointOf (drop at s)) list) true && agree list rest)
-  agree-at list = ap (λ (es : List Endpoint). agree list es) (o .found) ∙ agree-on list meant (endpointOf (drop at s)) rest
+      → agree list (endpointsOf n z t (drop at s)) ≡ (cond meant (agrees (endpointOf (drop at s)) list) true
+      && agree list rest)
+  agree-at list = ap (λ (es : List Endpoint). agree list es) (o .found)
+      ∙ agree-on list meant (endpointOf (drop at s)) rest
 
-  pub tidy-at : (list : Endpoints) → Tidy list → Tidy (cond meant (ofList (noted (endpointOf (drop at s)) (listed list))) list)
-  tidy-at list d = tidy-on list meant (endpointOf (drop at s)) d (λ q. fine-at s at (o .sound) (meant-endpoint s at z (settingOf t (drop at s)) q))
+  pub tidy-at : (list : Endpoints) → Tidy list → Tidy (cond meant
+      (ofList (noted (endpointOf (drop at s)) (listed list))) list)
+  tidy-at list d = tidy-on list meant (endpointOf (drop at s)) d
+      (λ q. fine-at s at (o .sound) (meant-endpoint s at z (settingOf t (drop at s)) q))
 
 -- after the last one
 module _ (n : ℕ) (s : List ℕ) (at : ℕ) (z : Bool) (t : ℕ) (over : length s ≤ at) where

@@ -1,4 +1,5 @@
--- A list written as a configuration descriptor: one interface, alternate setting 0, and its endpoints. Every byte that this leaves open is 0.
+-- A list written as a configuration descriptor: one interface, alternate setting 0, and its endpoints. Every byte that
+-- this leaves open is 0.
 use mathlib.Core.Bool.{Bool, cond}
 use mathlib.Core.List.{List, [], _∷_, _++_}
 use Prim.Native.Nat.{ℕ, zero, suc, _+_, _*_, _/_, _%_, min}

@@ -1,4 +1,5 @@
-// The endpoints of a configuration descriptor, taken up in a list. `zeroth`: those of alternate setting 0, or else the others.
+// The endpoints of a configuration descriptor, taken up in a list. `zeroth`: those of alternate setting 0, or else the
+// others.
 ghost use mathlib.Core.Path.{_≡_};
 ghost use mathlib.Core.Bool.{true, cond};
 ghost use Prim.Native.Nat.{_+_, _*_, _≤_};

@@ -15,7 +15,8 @@ mod gather; // gather.rt: the endpoints of a row in a list
 mod put; // put.rt: descriptors in lent room
 pub mod preview; // preview.rt: request Four: a configuration descriptor's endpoints tried on a copy of the allocator
 
-// An endpoint as its descriptor has it: bEndpointAddress, bits 0-1 of bmAttributes, bits 0-10 of wMaxPacketSize, bInterval.
+// An endpoint as its descriptor has it: bEndpointAddress, bits 0-1 of bmAttributes, bits 0-10 of wMaxPacketSize,
+// bInterval.
 pub struct Endpoint {
     pub address: u8,
     pub kind: u8,
@@ -83,7 +84,8 @@ pub fn read(bytes: &[u8]) -> Reading
     }
 }
 
-// Writes the list as a configuration descriptor of one interface, alternate setting 0. 17, and the room as it was: the room is too short.
+// Writes the list as a configuration descriptor of one interface, alternate setting 0. 17, and the room as it was: the
+// room is too short.
 pub fn write(list: Endpoints, room: &mut [u8]) -> Written
     ensures { λ r. ⌜ r ≡ writtenOf list (now (room .entry)) ⌝ }
     ensures { λ _. ⌜ now (room .exit) ≡ roomAfter list (now (room .entry)) ⌝ }
@@ -107,8 +109,8 @@ fn is_short(list: Endpoints, length: usize) -> bool
     length < 18 + n * 7
 }
 
-// Reads a configuration descriptor and writes its list as `write` does. 17 first, and the room as it was: the bytes are none, or the room is too
-// short for the list; then 18: one address has two transfer types.
+// Reads a configuration descriptor and writes its list as `write` does. 17 first, and the room as it was: the bytes are
+// none, or the room is too short for the list; then 18: one address has two transfer types.
 pub fn rewrite(bytes: &[u8], room: &mut [u8]) -> Written
     ensures { λ r. ⌜ r ≡ rewrittenOf (now (bytes .entry)) (now (room .entry)) ⌝ }
     ensures { λ _. ⌜ now (room .exit) ≡ roomRewritten (now (bytes .entry)) (now (room .entry)) ⌝ }

@@ -1,4 +1,5 @@
-// Request Four: what allocating a configuration descriptor's endpoints one by one would give, tried on a copy of the allocator.
+// Request Four: what allocating a configuration descriptor's endpoints one by one would give, tried on a copy of the
+// allocator.
 ghost use mathlib.Core.Path.{_≡_};
 ghost use Prim.Native.Nat.{_≤_, _<_};
 ghost use Rattle.descriptor.specs.Trial.{directionOf, asked, given, answered, step, start, trialOf};
@@ -11,7 +12,8 @@ use alloc::Answer;
 use regs::Dir;
 use state::Allocator;
 
-// The copy so far: the numbers given, in the list's order, the buffers that they take, and the refusal that ended it, or 0.
+// The copy so far: the numbers given, in the list's order, the buffers that they take, and the refusal that ended it,
+// or 0.
 pub struct Trial {
     pub after: Allocator,
     pub numbers: [u8; 32],

@@ -2,7 +2,8 @@
 ghost use mathlib.Core.Path.{_≡_};
 ghost use Prim.Native.Nat.{_+_, _*_, _≤_};
 ghost use lib.ListN.{length};
-ghost use Rattle.descriptor.specs.Writing.{low, high, laid, totalFor, configuration, interface, endpoint, endpoints, upTo};
+ghost use Rattle.descriptor.specs.Writing.{low, high, laid, totalFor, configuration, interface, endpoint};
+ghost use Rattle.descriptor.specs.Writing.{endpoints, upTo};
 use crate::Endpoint;
 use crate::Endpoints;
 

@@ -15,12 +15,13 @@ use Rattle.script.specs.Tree as tree
 use Rattle.script.specs.Tree.{ends, bindOut}
 use Rattle.script.specs.Script.{run}
 use Rattle.script.specs.Answers.{isAllocated}
-use Rattle.script.specs.AllocateAll.{announce, beginsAt, announceAfter}
+use Rattle.script.specs.AllocateAll.{beginsAt, announceAfter}
 use Rattle.script_ops.specs.Rings.{St}
 use Rattle.script_ops.specs.Concrete.{concrete, go}
 use Rattle.driver.specs.Announce.{endOn, startsAt, foundAt, following, announcing}
 
-pub found-step : (d : Driver) (dir : Dir) (x left e : ℕ) → 0 < left → foundAt d dir x left e ≡ cond (startsAt d dir x e) e (foundAt d dir x (left - 1) (e + 1))
+pub found-step : (d : Driver) (dir : Dir) (x left e : ℕ) → 0 < left → foundAt d dir x left e
+    ≡ cond (startsAt d dir x e) e (foundAt d dir x (left - 1) (e + 1))
 unfolding foundAt
 found-step d dir x zero e h = absurd (omega arith)
 found-step d dir x (suc left) e h =
@@ -32,13 +33,16 @@ unfolding foundAt
 found-none d dir x e = refl
 
 -- the script's search finds it, and changes nothing
-pub begins-at : (d : Driver) (b : List ℕ) (dir : Dir) (x left e : ℕ) → go (beginsAt {i = false} dir x left e) d b ≡ ends (foundAt d dir x left e) (d, b)
+pub begins-at : (d : Driver) (b : List ℕ) (dir : Dir) (x left e : ℕ) → go (beginsAt {i = false} dir x left e) d b
+    ≡ ends (foundAt d dir x left e) (d, b)
 unfolding beginsAt foundAt startsAt
 begins-at d b dir x zero e = refl
-begins-at d b dir x (suc left) e = by (begins-at d b dir x left (suc e)) (isAllocated (d .allocator) dir e && eqb (epOn d dir e .base) x)
+begins-at d b dir x (suc left) e = by (begins-at d b dir x left (suc e)) (isAllocated (d .allocator) dir e
+    && eqb (epOn d dir e .base) x)
   where
     by : go (beginsAt {i = false} dir x left (suc e)) d b ≡ ends (foundAt d dir x left (suc e)) (d, b)
-        → (t : Bool) → cond t (ends e (d, b)) (go (beginsAt {i = false} dir x left (suc e)) d b) ≡ ends (cond t e (foundAt d dir x left (suc e))) (d, b)
+        → (t : Bool) → cond t (ends e (d, b)) (go (beginsAt {i = false} dir x left (suc e)) d b)
+        ≡ ends (cond t e (foundAt d dir x left (suc e))) (d, b)
     by i true = refl
     by i false = i
 
@@ -47,7 +51,8 @@ begins-at d b dir x (suc left) e = by (begins-at d b dir x left (suc e)) (isAllo
 abbrev On : ℕ → ℕ → Driver → List ℕ → Dir → ℕ → tree.Out St ℕ
 On left total d b dir n = go (announcing left total dir n) d b
 
-pub after-none : (total : ℕ) (d : Driver) (b : List ℕ) (dir : Dir) (e : ℕ) → go (following 0 total dir e) d b ≡ ends total (d, b)
+pub after-none : (total : ℕ) (d : Driver) (b : List ℕ) (dir : Dir) (e : ℕ) → go (following 0 total dir e) d b
+    ≡ ends total (d, b)
 unfolding announceAfter
 after-none total d b dir e = refl
 
@@ -56,14 +61,17 @@ abbrev next-found : ℕ → ℕ → Driver → List ℕ → ℕ → ℕ → tree
 next-found left total d b x o = cond (eqb o 0) (On left total d b In (foundAt d In x 15 1)) (On left total d b Out o)
 
 pub after-more : (left total : ℕ) (d : Driver) (b : List ℕ) (dir : Dir) (e : ℕ)
-    → go (following (suc left) total dir e) d b ≡ next-found left total d b (endOn d dir e) (foundAt d Out (endOn d dir e) 15 1)
+    → go (following (suc left) total dir e) d b ≡ next-found left total d b (endOn d dir e)
+    (foundAt d Out (endOn d dir e) 15 1)
 unfolding announceAfter endOn
 after-more left total d b dir e =
     let x = epOn d dir e .base + slotsOf (isIso (epOn d dir e .kind)) dir * d .allocator .size in
     ap (λ (z : tree.Out St ℕ). bindOut z
-    (λ o t. cond (eqb o 0) (bindOut (run concrete (beginsAt {i = false} In x 15 1) t) (λ n u. run concrete (announcing left total In n) u))
+    (λ o t. cond (eqb o 0) (bindOut (run concrete (beginsAt {i = false} In x 15 1) t)
+    (λ n u. run concrete (announcing left total In n) u))
     (run concrete (announcing left total Out o) t))) (begins-at d b Out x 15 1)
-    ∙ ap (λ (z : tree.Out St ℕ). cond (eqb (foundAt d Out x 15 1) 0) (bindOut z (λ n u. run concrete (announcing left total In n) u))
+    ∙ ap (λ (z : tree.Out St ℕ). cond (eqb (foundAt d Out x 15 1) 0)
+    (bindOut z (λ n u. run concrete (announcing left total In n) u))
     (On left total d b Out (foundAt d Out x 15 1))) (begins-at d b In x 15 1)
 
 -- ---- by what the code found
@@ -81,5 +89,6 @@ module _ (left total : ℕ) (d : Driver) (b : List ℕ)
   pub after-out : (o ≡ 0 → ⊥) → go (announcing (left - 1) total Out o) d b ≡ go (following left total dir e) d b
   after-out h = sym (more ∙ rw (ne-eqb o 0 h))
 
-  pub after-in : (n : ℕ) → o ≡ 0 → n ≡ foundAt d In x 15 1 → go (announcing (left - 1) total In n) d b ≡ go (following left total dir e) d b
+  pub after-in : (n : ℕ) → o ≡ 0 → n ≡ foundAt d In x 15 1 → go (announcing (left - 1) total In n) d b
+      ≡ go (following left total dir e) d b
   after-in n h q = ap (λ (j : ℕ). go (announcing (left - 1) total In j) d b) q ∙ sym (more ∙ rw (eq-eqb o 0 h))

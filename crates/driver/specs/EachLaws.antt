@@ -12,7 +12,6 @@ use Rattle.descriptor.specs.Writing.{upTo}
 use Rattle.descriptor.specs.Trial.{directionOf}
 use Rattle.state.specs.Driver.{Driver}
 use Rattle.script.specs.Tree.{ends}
-use Rattle.script.specs.Script.{Script}
 use Rattle.script.specs.AllocateAll as script
 use Rattle.script.specs.AllocateAll.{allocateEach}
 use Rattle.script_ops.specs.Concrete.{go}
@@ -20,7 +19,8 @@ use Rattle.driver.specs.Announce.{announcing}
 use Rattle.driver.specs.Each.{oneOn, eachOn, announceAll}
 
 -- that is the script's
-pub each-run : (es : List Endpoint) (d : Driver) (b : List ℕ) → go (allocateEach {i = false} es) d b ≡ ends tt (eachOn d es, b)
+pub each-run : (es : List Endpoint) (d : Driver) (b : List ℕ) → go (allocateEach {i = false} es) d b
+    ≡ ends tt (eachOn d es, b)
 unfolding allocateEach eachOn oneOn
 each-run [] d b = refl
 each-run (e ∷ es) d b = each-run es (oneOn d e) b
@@ -34,7 +34,8 @@ pub each-none : (d : Driver) (es : List Endpoint) → eachOn d (upTo 0 es) ≡ d
 unfolding upTo eachOn
 each-none d es = refl
 
-pub each-more : (d : Driver) (es : List Endpoint) (i : ℕ) → eachOn d (upTo (i + 1) es) ≡ oneOn (eachOn d (upTo i es)) (getD es i none)
+pub each-more : (d : Driver) (es : List Endpoint) (i : ℕ) → eachOn d (upTo (i + 1) es)
+    ≡ oneOn (eachOn d (upTo i es)) (getD es i none)
 unfolding upTo
 each-more d es i = rw add-one (each-snoc (upTo i es) d (getD es i none))
 
@@ -61,11 +62,14 @@ announce-none es d b = refl
 
 -- the first, then as many as are left
 pub announce-first : (n : ℕ) (es : List Endpoint) (d : Driver) (b : List ℕ) → (n ≡ 0 → ⊥)
-    → go (announcing (n - 1) n (directionOf (getD es 0 none .address)) (getD es 0 none .address % 128)) d b ≡ go (announceAll (upTo n es)) d b
+    → go (announcing (n - 1) n (directionOf (getD es 0 none .address)) (getD es 0 none .address % 128)) d b
+    ≡ go (announceAll (upTo n es)) d b
 announce-first n es d b h =
     let m : n ≡ suc (n - 1) = omega arith in
     let z = headed (n - 1) es in
     sym (ap (λ (k : ℕ). go (announceAll (upTo k es)) d b) m
     ∙ ap (λ (l : List Endpoint). go (announceAll l) d b) (z .same)
-    ∙ ap (λ (k : ℕ). go (announcing k (suc k) (directionOf (getD es 0 none .address)) (getD es 0 none .address % 128)) d b) (z .many)
-    ∙ ap (λ (k : ℕ). go (announcing (n - 1) k (directionOf (getD es 0 none .address)) (getD es 0 none .address % 128)) d b) (sym m))
+    ∙ ap (λ (k : ℕ). go (announcing k (suc k) (directionOf (getD es 0 none .address)) (getD es 0 none .address % 128)) d
+    b) (z .many)
+    ∙ ap (λ (k : ℕ). go (announcing (n - 1) k (directionOf (getD es 0 none .address)) (getD es 0 none .address % 128)) d
+    b) (sym m))

@@ -52,7 +52,8 @@ pub fn allocate_each(s: &mut State, list: Endpoints)
 
 // The first of the list, after which come the others; none of an empty one.
 pub fn announce_all(s: &State, list: Endpoints) -> Next
-    ensures { λ r. ⌜ ((b : List ℕ) → meaning r (view (now (s .entry))) b ≡ go (announceAll (stored list)) (view (now (s .entry))) b) ⌝ }
+    ensures { λ r. ⌜ ((b : List ℕ) → meaning r (view (now (s .entry))) b
+        ≡ go (announceAll (stored list)) (view (now (s .entry))) b) ⌝ }
     ensures { λ r. ⌜ Linked r ⌝ }
 {
     let n = descriptor::list::count(list);

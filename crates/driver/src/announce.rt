@@ -62,7 +62,8 @@ pub fn found_at(s: &State, dir: Dir, x: u64) -> u8
 
 // An endpoint's maximum, as its record has it; its buffer, and those left, come after it.
 pub fn first(s: &State, left: u8, total: u8, dir: Dir, e: u8) -> Next
-    ensures { λ r. ⌜ ((b : List ℕ) → meaning r (view (now (s .entry))) b ≡ go (announcing left total dir e) (view (now (s .entry))) b) ⌝ }
+    ensures { λ r. ⌜ ((b : List ℕ) → meaning r (view (now (s .entry))) b
+        ≡ go (announcing left total dir e) (view (now (s .entry))) b) ⌝ }
     ensures { λ r. ⌜ Linked r ⌝ }
 {
     let r = load_ep(s, dir, e);

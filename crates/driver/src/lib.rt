@@ -1,4 +1,5 @@
-// Start-up (mod.rs 886-951), new endpoints (endpoint.rs 18-36), EP0's start (mod.rs 1144-1178), the microframe and paced endpoints (mod.rs 236-238,
+// Start-up (mod.rs 886-951), new endpoints (endpoint.rs 18-36), EP0's start (mod.rs 1144-1178), the microframe and
+// paced endpoints (mod.rs 236-238,
 // 308-317): their points, and the first access of each.
 use bits::mask_with;
 use regs::Access;
@@ -44,7 +45,8 @@ pub enum Point {
     Ep0Packet,
     // the microframe
     FrameNo,
-    // a list's endpoints: direction, kind and number of the one that is announced; how many are left, how many there are
+    // a list's endpoints: direction, kind and number of the one that is announced; how many are left, how many there
+    // are
     ListMaxLen(Dir, u8, u8, u8, u8),
     ListPlace(Dir, u8, u8, u8),
 }
@@ -92,7 +94,8 @@ pub fn microframe() -> Next
 // `iso_in_set_paced`, without an access.
 pub fn iso_in_set_paced(s: &mut State, e: u8, on: bool)
     requires { ⌜ e < 16 ⌝ }
-    ensures { λ _. ⌜ ((b : List ℕ) → ends tt (view (now (s .exit)), b) ≡ go (setPaced e on) (view (now (s .entry))) b) ⌝ }
+    ensures { λ _. ⌜ ((b : List ℕ) → ends tt (view (now (s .exit)), b)
+        ≡ go (setPaced e on) (view (now (s .entry))) b) ⌝ }
     ensures { λ _. ⌜ saved (now (s .exit)) ≡ saved (now (s .entry)) ⌝ }
 {
     let mut g = load_globals(s);

@@ -1,5 +1,5 @@
 -- Bytes of a slot that are there, and their copy
-use mathlib.Core.Path.{_≡_, refl, sym, _∙_}
+use mathlib.Core.Path.{_≡_, sym, _∙_}
 use mathlib.Core.List.{List, [], _++_}
 use Prim.Native.Nat.{ℕ, _+_, _-_, _≤_, _<_, min}
 use native.Mathlib.Omega.{arith}
@@ -21,10 +21,16 @@ take-there n xs = elim (decLt (length xs) n) [
   cong-take : min n (length xs) ≡ n → take (min n (length xs)) xs ≡ take n xs
   cong-take e = rw e
 
-pub fetched : (b out : List ℕ) (at n k : ℕ) → k ≡ min n (length b - at) → n ≤ length out → copiedOut b at out k ≡ over (bytesAt b at n) out
+pub fetched : (b out : List ℕ) (at n k : ℕ) → k ≡ min n (length b - at) → n ≤ length out → copiedOut b at out k
+    ≡ over (bytesAt b at n) out
 unfolding copiedOut
 fetched b out at n k e h = elim (decLt (length b) at) [
-  | yes g ↦ rw (lt-ltb (length b) (at + k) (omega arith), drop-of-length-le b {i = at} (omega arith), take-all {A = ℕ} n [] (omega arith))
+  | yes g ↦ rw (
+    lt-ltb (length b) (at + k) (omega arith),
+    drop-of-length-le b {i = at} (omega arith),
+    take-all {A = ℕ} n
+        [] (omega arith),
+  )
   | no g ↦ rw (le-ltb (length b) (at + k) (omega arith), le-ltb (length out) k (omega arith), there g)
 ] where
   there : (length b < at → ⊥) → take k (drop at b) ≡ take n (drop at b)

@@ -33,10 +33,6 @@ pub done-length : (n : ℕ) (out bytes : List ℕ) → Done (front n out) ≡ Do
 unfolding bytesOf
 done-length n out bytes e = sym (front-length n out) ∙ ap (λ (a : Answer). length (bytesOf a)) e
 
--- so two answers alike have one length
-pub one-length : (m n : ℕ) (out out1 : List ℕ) → Done (front m out) ≡ Done (front n out1) → m ≡ n
-one-length m n out out1 e = done-length m out (front n out1) e ∙ front-length n out1
-
 -- and bytes that are bytes lie in the slice
 front-there : (n : ℕ) (out : List ℕ) → ((i : ℕ) → getD (front n out) i 0 < 256) → take n out ≡ front n out
 front-there zero out h = refl
@@ -45,6 +41,8 @@ front-there (suc n) [] h = none (h 0) where
   none k = absurd (omega arith)
 front-there (suc n) (x ∷ out) h = ap (λ (zs : List ℕ). x ∷ zs) (front-there n out (λ i. h (suc i)))
 
-pub done-there : (n : ℕ) (out bytes : List ℕ) → Done (front n out) ≡ Done bytes → ((i : ℕ) → getD bytes i 0 < 256) → take n out ≡ bytes
+pub done-there : (n : ℕ) (out bytes : List ℕ) → Done (front n out) ≡ Done bytes → ((i : ℕ) → getD bytes i 0 < 256)
+    → take n out ≡ bytes
 unfolding bytesOf
-done-there n out bytes e h = let k : front n out ≡ bytes = ap bytesOf e in front-there n out (λ i. subst (λ (zs : List ℕ). getD zs i 0 < 256) (sym k) (h i)) ∙ k
+done-there n out bytes e h = let k : front n out ≡ bytes
+    = ap bytesOf e in front-there n out (λ i. subst (λ (zs : List ℕ). getD zs i 0 < 256) (sym k) (h i)) ∙ k

@@ -1,10 +1,6 @@
 -- Laws on the definitions of Records.antt
 use mathlib.Core.Path.{_≡_}
 use mathlib.Core.Bool.{Bool}
-use Prim.Native.Nat.{ℕ}
-use Rattle.regs.specs.declared.Dir.{Dir}
-use Rattle.state.specs.Driver.{Driver}
-use Rattle.script.specs.Cells.{EpCore}
 
 -- a test of what was loaded is a test of the driver
 pub on-driver : {A : Type 0} {x y : A} (f : A → Bool) {r t : Bool} → x ≡ y → r ≡ f x → r ≡ t → f y ≡ t

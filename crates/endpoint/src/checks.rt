@@ -60,7 +60,8 @@ pub fn end_request(s: &mut State, dir: Dir, e: u8)
 // Not ready yet, or the endpoint's disabling ends the request (endpoint.rs 135-139, 187-191).
 pub fn wait_on(s: &mut State, dir: Dir, e: u8) -> Polled
     ensures { λ r. ⌜ ((out b : List ℕ) → polledAs r out (view (now (s .exit))) b
-        ≡ go {i = false} (enabled-else dir e (ends-request dir e (Refused 9)) (ret NotYet)) (view (now (s .entry))) b) ⌝ }
+        ≡ go {i = false} (enabled-else dir e (ends-request dir e (Refused 9)) (ret NotYet)) (view (now (s .entry)))
+        b) ⌝ }
     ensures { λ _. ⌜ saved (now (s .exit)) ≡ saved (now (s .entry)) ⌝ }
 {
     if is_enabled(s, dir, e) {

@@ -1,4 +1,5 @@
-// What reads, writes and the control pipe share: an endpoint's flags, a reading as a byte, bytes of a slot for the caller's slice.
+// What reads, writes and the control pipe share: an endpoint's flags, a reading as a byte, bytes of a slot for the
+// caller's slice.
 use regs::Dir;
 use ring::marks::copy_out;
 use state::State;

@@ -1,5 +1,5 @@
-// Reads and writes (endpoint.rs 82-195), each a begin and a poll. Rows 4, 5, 9, 10 and 15 are checked here, 1 and 3 by the caller. Any
-// number is safe as an endpoint's.
+// Reads and writes (endpoint.rs 82-195), each a begin and a poll. Rows 4, 5, 9, 10 and 15 are checked here, 1 and 3 by
+// the caller. Any number is safe as an endpoint's.
 mod checks;
 mod codec;
 mod read;

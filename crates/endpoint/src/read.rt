@@ -43,7 +43,8 @@ ghost use Rattle.endpoint.specs.Points.{begunAs, polledAs, readOn, Linke
 // 84-123, past rows 4 and 5: an isochronous OUT needs no arming, nor does one with a packet.
 fn start_read(s: &mut State, e: u8, n: u32) -> Begun
     requires { ⌜ eqb (refusalOf (view (now s)) Out e) 0 ≡ true ⌝ }
-    ensures { λ r. ⌜ ((b : List ℕ) → begunAs r (view (now (s .exit))) b ≡ go {i = false} (beginRead e n) (view (now (s .entry))) b) ⌝ }
+    ensures { λ r. ⌜ ((b : List ℕ) → begunAs r (view (now (s .exit))) b
+        ≡ go {i = false} (beginRead e n) (view (now (s .entry))) b) ⌝ }
     ensures { λ _. ⌜ saved (now (s .exit)) ≡ saved (now (s .entry)) ⌝ }
     ensures { λ r. ⌜ LinkedBegun r ⌝ }
 {
@@ -68,7 +69,8 @@ fn start_read(s: &mut State, e: u8, n: u32) -> Begun
 
 // Into a slice of n bytes.
 pub fn begin_read(s: &mut State, e: u32, n: u32) -> Begun
-    ensures { λ r. ⌜ ((b : List ℕ) → begunAs r (view (now (s .exit))) b ≡ go {i = false} (beginRead e n) (view (now (s .entry))) b) ⌝ }
+    ensures { λ r. ⌜ ((b : List ℕ) → begunAs r (view (now (s .exit))) b
+        ≡ go {i = false} (beginRead e n) (view (now (s .entry))) b) ⌝ }
     ensures { λ _. ⌜ saved (now (s .exit)) ≡ saved (now (s .entry)) ⌝ }
     ensures { λ r. ⌜ LinkedBegun r ⌝ }
 {
@@ -94,7 +96,8 @@ fn take_iso(s: &mut State, buf: &[u8], e: u8, out: &mut [u8]) -> Polled
     ensures { λ r. ⌜ polledAs r (now (out .exit)) (view (now (s .exit))) (now (buf .entry))
         ≡ go {i = false} (take-iso e (length (now (out .entry)))) (view (now (s .entry))) (now (buf .entry)) ⌝ }
     ensures { λ _. ⌜ now (out .exit)
-        ≡ lentAfter (go {i = false} (take-iso e (length (now (out .entry)))) (view (now (s .entry))) (now (buf .entry))) (now (out .entry)) ⌝ }
+        ≡ lentAfter (go {i = false} (take-iso e (length (now (out .entry)))) (view (now (s .entry))) (now (buf .entry)))
+        (now (out .entry)) ⌝ }
     ensures { λ _. ⌜ saved (now (s .exit)) ≡ saved (now (s .entry)) ⌝ }
 {
     if !is_enabled(s, Dir::Out, e) {
@@ -126,9 +129,11 @@ fn too_long(n: usize, r: EpState) -> bool
 // 125-141.
 fn take_ready(s: &mut State, buf: &[u8], e: u8, out: &mut [u8], r: EpState) -> Polled
     ensures { λ x. ⌜ polledAs x (now (out .exit)) (view (now (s .exit))) (now (buf .entry))
-        ≡ go {i = false} (take-ready e (length (now (out .entry))) (plainOf r)) (view (now (s .entry))) (now (buf .entry)) ⌝ }
+        ≡ go {i = false} (take-ready e (length (now (out .entry))) (plainOf r)) (view (now (s .entry)))
+        (now (buf .entry)) ⌝ }
     ensures { λ _. ⌜ now (out .exit) ≡ lentAfter
-        (go {i = false} (take-ready e (length (now (out .entry))) (plainOf r)) (view (now (s .entry))) (now (buf .entry))) (now (out .entry)) ⌝ }
+        (go {i = false} (take-ready e (length (now (out .entry))) (plainOf r)) (view (now (s .entry)))
+        (now (buf .entry))) (now (out .entry)) ⌝ }
     ensures { λ _. ⌜ saved (now (s .exit)) ≡ saved (now (s .entry)) ⌝ }
 {
     if is_on(r.ready) {
@@ -150,7 +155,8 @@ fn take_read(s: &mut State, buf: &[u8], e: u8, out: &mut [u8]) -> Polled
     requires { ⌜ eqb (refusalOf (view (now s)) Out e) 0 ≡ true ⌝ }
     ensures { λ r. ⌜ polledAs r (now (out .exit)) (view (now (s .exit))) (now (buf .entry))
         ≡ readOn e (now (out .entry)) (now (s .entry)) (now (buf .entry)) ⌝ }
-    ensures { λ _. ⌜ now (out .exit) ≡ lentAfter (readOn e (now (out .entry)) (now (s .entry)) (now (buf .entry))) (now (out .entry)) ⌝ }
+    ensures { λ _. ⌜ now (out .exit) ≡ lentAfter (readOn e (now (out .entry)) (now (s .entry)) (now (buf .entry)))
+        (now (out .entry)) ⌝ }
     ensures { λ _. ⌜ saved (now (s .exit)) ≡ saved (now (s .entry)) ⌝ }
 {
     let q = load_request(s, Dir::Out, e);
@@ -172,7 +178,8 @@ fn take_read(s: &mut State, buf: &[u8], e: u8, out: &mut [u8]) -> Polled
 pub fn poll_read(s: &mut State, buf: &[u8], e: u32, out: &mut [u8]) -> Polled
     ensures { λ r. ⌜ polledAs r (now (out .exit)) (view (now (s .exit))) (now (buf .entry))
         ≡ readOn e (now (out .entry)) (now (s .entry)) (now (buf .entry)) ⌝ }
-    ensures { λ _. ⌜ now (out .exit) ≡ lentAfter (readOn e (now (out .entry)) (now (s .entry)) (now (buf .entry))) (now (out .entry)) ⌝ }
+    ensures { λ _. ⌜ now (out .exit) ≡ lentAfter (readOn e (now (out .entry)) (now (s .entry)) (now (buf .entry)))
+        (now (out .entry)) ⌝ }
     ensures { λ _. ⌜ saved (now (s .exit)) ≡ saved (now (s .entry)) ⌝ }
 {
     let row = refusal(s, Dir::Out, e);

@@ -41,7 +41,8 @@ ghost use Rattle.endpoint.specs.Points.{begunAs, polledAs, LinkedBegun};
 
 // A packet is loaded.
 fn arm_in(s: &mut State, e: u8)
-    ensures { λ _. ⌜ view (now (s .exit)) ≡ modifiedOn In e (λ p. withArmed 1 (withReady 0 p)) (view (now (s .entry))) ⌝ }
+    ensures { λ _. ⌜ view (now (s .exit)) ≡ modifiedOn In e (λ p. withArmed 1 (withReady 0 p))
+        (view (now (s .entry))) ⌝ }
     ensures { λ _. ⌜ saved (now (s .exit)) ≡ saved (now (s .entry)) ⌝ }
 {
     let mut r = load_ep(s, Dir::In, e);
@@ -109,7 +110,8 @@ fn put_iso(s: &mut State, buf: &mut [u8], e: u8, bytes: &[u8]) -> Polled
 
 // 182-193.
 fn sent_ready(s: &mut State, e: u8, r: EpState) -> Polled
-    ensures { λ x. ⌜ ((b : List ℕ) → polledAs x [] (view (now (s .exit))) b ≡ go {i = false} (sent-ready e (plainOf r)) (view (now (s .entry))) b) ⌝ }
+    ensures { λ x. ⌜ ((b : List ℕ) → polledAs x [] (view (now (s .exit))) b
+        ≡ go {i = false} (sent-ready e (plainOf r)) (view (now (s .entry))) b) ⌝ }
     ensures { λ _. ⌜ saved (now (s .exit)) ≡ saved (now (s .entry)) ⌝ }
 {
     if is_on(r.ready) {

@@ -18,4 +18,5 @@ index-packed r h =
 pub frame-packed : (i : ℕ) → bitOr (bitAnd (i / 8) 2047) (bitAnd i 7 * 8192 % 65536) ≡ frameOf i
 unfolding frameOf
 frame-packed i =
-    rw (and-mask (i / 8) 11) (packed-r 16 3 13 i (i / 8 % 2048) (omega arith) (omega arith)) ∙ add-comm (i % 8 * 8192) (i / 8 % 2048)
+    rw (and-mask (i / 8) 11) (packed-r 16 3 13 i (i / 8 % 2048) (omega arith) (omega arith))
+    ∙ add-comm (i % 8 * 8192) (i / 8 % 2048)

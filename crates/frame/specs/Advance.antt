@@ -1,4 +1,5 @@
--- Steps from one microframe index to another, going round at 16,384, and what a paced advance completes. Assumes nothing.
+-- Steps from one microframe index to another, going round at 16,384, and what a paced advance completes. Assumes
+-- nothing.
 use mathlib.Core.Bool.{Bool, not, _&&_}
 use Prim.Native.Nat.{ℕ, _+_, _-_, _%_, min}
 use lib.Dec.{eqb}
@@ -20,7 +21,8 @@ distance a b = (b + 16384 - a % 16384) % 16384
 unfoldable pub previous : ℕ → ℕ
 previous i = (i + 16383) % 16384
 
--- "completes the distance since the last, at most 3, and once if there was none"; `last` is a frame number, `now` an index
+-- "completes the distance since the last, at most 3, and once if there was none"; `last` is a frame number, `now` an
+-- index
 unfoldable pub completions : ℕ → ℕ → ℕ
 completions last now = pick (isNone last) 1 (min (distance (indexOf last) now) 3)
 

@@ -1,6 +1,6 @@
--- Frame numbers by USB 2.0, 8.4.3: a start-of-frame token carries an 11-bit frame number, and at high speed the same number stands in each of the 8
--- microframes of a frame. The register has the frame number in bits 0-10 and the microframe in bits 13-15; bits 11 and 12 of a reading may be set and
--- say nothing. Assumes nothing.
+-- Frame numbers by USB 2.0, 8.4.3: a start-of-frame token carries an 11-bit frame number, and at high speed the same
+-- number stands in each of the 8 microframes of a frame. The register has the frame number in bits 0-10 and the
+-- microframe in bits 13-15; bits 11 and 12 of a reading may be set and say nothing. Assumes nothing.
 use Prim.Native.Nat.{ℕ, _+_, _*_, _/_, _%_, _^_}
 
 -- the register's two fields

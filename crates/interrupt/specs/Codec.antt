@@ -1,5 +1,6 @@
--- A point of the interrupt as numbers, and back: `site` says which, `flag` the setup flag; the transfer's fields have their names; `now` is its
--- isochronous flag, or a status; `sub`, `ep`, `eps`, `n` are the inner point's, `ep` a direction where there is none
+-- A point of the interrupt as numbers, and back: `site` says which, `flag` the setup flag; the transfer's fields have
+-- their names; `now` is its isochronous flag, or a status; `sub`, `ep`, `eps`, `n` are the inner point's, `ep` a
+-- direction where there is none
 use mathlib.Core.Path.{_≡_}
 use mathlib.Core.Bool.{Bool, false, cond}
 use Prim.Native.Nat.{ℕ}
@@ -85,7 +86,8 @@ toggledAs d iso toggled.AckRead = looking 2 d iso 0
 toggledAs d iso toggled.Acked = looking 3 d iso 0
 
 abbrev pub toggledOf : ℕ → ℕ → Toggled
-toggledOf sub n = cond (eqb sub 0) (toggled.Look n) (cond (eqb sub 1) toggled.Word (cond (eqb sub 2) toggled.AckRead toggled.Acked))
+toggledOf sub n = cond (eqb sub 0) (toggled.Look n) (cond (eqb sub 1) toggled.Word
+    (cond (eqb sub 2) toggled.AckRead toggled.Acked))
 
 abbrev pub completeAs : Bool → ℕ → Complete → Numbers
 completeAs iso m (complete.Sent e) = walked 0 iso e m
@@ -183,7 +185,14 @@ unfoldable pub encode : Point → Saved
 encode p = asNumbers p
 
 abbrev pub transferOf : Saved → Transfer
-transferOf c = record { busy = isOn (c .busy); st = c .st; len = c .len; late = isOn (c .late); «len_ok» = isOn (c .«len_ok») }
+transferOf c = record {
+  busy = isOn (c .busy);
+  st = c .st;
+  len = c .len;
+  late = isOn (c .late);
+  «len_ok»
+      = isOn (c .«len_ok»);
+}
 
 -- what an entry of the interrupt has found out
 abbrev pub entryOf : Saved → Entry
@@ -204,12 +213,16 @@ byNumber k c =
     cond (eqb k 10) (point.Released (isOn (c .flag)) (transferOf c)) (
     cond (eqb k 11) (point.Settle (isOn (c .flag)) (transferOf c) (settleOf (c .sub) (c .now) (c .n))) (
     cond (eqb k 12) (point.FrameNo (isOn (c .flag)) (transferOf c) (isOn (c .now))) (
-    cond (eqb k 13) (point.Sof (isOn (c .flag)) (transferOf c) (isOn (c .now)) (c .frame) (sofOf (c .sub) (c .ep) (c .eps))) (
-    cond (eqb k 14) (point.Late (isOn (c .flag)) (transferOf c) (isOn (c .now)) (c .frame) (lateOf (c .sub) (c .ep) (c .eps))) (
-    cond (eqb k 15) (point.SofArm (isOn (c .flag)) (transferOf c) (isOn (c .now)) (c .frame) (sofOf (c .sub) (c .ep) (c .eps))) (
+    cond (eqb k 13) (point.Sof (isOn (c .flag)) (transferOf c) (isOn (c .now)) (c .frame)
+    (sofOf (c .sub) (c .ep) (c .eps))) (
+    cond (eqb k 14) (point.Late (isOn (c .flag)) (transferOf c) (isOn (c .now)) (c .frame)
+    (lateOf (c .sub) (c .ep) (c .eps))) (
+    cond (eqb k 15) (point.SofArm (isOn (c .flag)) (transferOf c) (isOn (c .now)) (c .frame)
+    (sofOf (c .sub) (c .ep) (c .eps))) (
     cond (eqb k 16) (point.Flip (dirOf (c .ep)) (isOn (c .flag)) (transferOf c) (isOn (c .now))) (
     cond (eqb k 17) (point.Flipped (dirOf (c .ep)) (isOn (c .flag)) (transferOf c) (isOn (c .now))) (
-    cond (eqb k 18) (point.Toggled (dirOf (c .ep)) (isOn (c .flag)) (transferOf c) (isOn (c .now)) (toggledOf (c .sub) (c .n))) (
+    cond (eqb k 18) (point.Toggled (dirOf (c .ep)) (isOn (c .flag)) (transferOf c) (isOn (c .now))
+    (toggledOf (c .sub) (c .n))) (
     cond (eqb k 19) (point.Completing (isOn (c .flag)) (transferOf c) (isOn (c .now)) (completeOf (c .sub) (c .ep))) (
     cond (eqb k 20) (point.Check (isOn (c .flag)) (transferOf c) (isOn (c .now)) (checkOf (c .sub) (c .ep) (c .eps))) (
     cond (eqb k 21) (point.MovedRead (dirOf (c .ep)) (isOn (c .flag))) (

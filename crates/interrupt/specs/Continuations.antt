@@ -20,7 +20,8 @@ use Rattle.script.specs.Script.{Script, run, ret, _>>=_, _>>_, read, write, get
 use Rattle.script.specs.Statics.{withArmed, completed, withEntered, modify, modifyEp, modifyIntEn, wake, wakeBus}
 use Rattle.script.specs.IsoIn.{onSof}
 use Rattle.script.specs.IsoOut.{isoOutCheck}
-use Rattle.script.specs.Handler.{nakNonIso, settle, isoFor, received, sent, dispatch, ep0MovedOn, framed, onTransfer, takeSetup, onSetup}
+use Rattle.script.specs.Handler.{nakNonIso, settle, isoFor, received, sent, dispatch, ep0MovedOn, framed, onTransfer}
+use Rattle.script.specs.Handler.{takeSetup, onSetup}
 use Rattle.script.specs.Handler.{onInterrupt}
 use Rattle.isochronous.specs.Late.{lateAll}
 use Rattle.interrupt.specs.declared.Entry.{Entry}

@@ -55,9 +55,11 @@ use Rattle.script_ops.specs.Rings.{St, wordAt}
 use Rattle.script_ops.specs.Concrete.{concrete}
 use Rattle.interrupt.specs.declared.Point.{Point}
 use Rattle.interrupt.specs.Continuations.{resultless, afterSetupReleased, afterSetupTx, finish, afterTransfer}
-use Rattle.interrupt.specs.Continuations.{afterCheck, afterDispatch, flipDone, passed, afterLate, afterSof, sofDue}
+use Rattle.interrupt.specs.Continuations.{afterCheck, afterDispatch, flipDone, passed, afterLate, afterSof}
+use Rattle.interrupt.specs.Continuations.{sofDue}
 use Rattle.interrupt.specs.Continuations.{serving, afterFrameNo, afterSettle, afterRelease, afterNak, naksFirst}
-use Rattle.interrupt.specs.Continuations.{enteredAs, afterLen, afterSt, afterMis, afterHost, afterFifo, afterSuspend}
+use Rattle.interrupt.specs.Continuations.{enteredAs, afterLen, afterSt, afterMis, afterHost, afterFifo}
+use Rattle.interrupt.specs.Continuations.{afterSuspend}
 use Rattle.interrupt.specs.Continuations.{afterBusRst, afterFlags, afterFrame}
 use Rattle.interrupt.specs.Points.{denote, fitsAt}
 
@@ -75,7 +77,8 @@ pub tells-of : {A : Type 0} (F : A → Bool) (g g' : A) (r a : Bool) → r ≡ F
 tells-of F g g' r a h k l = ap F (sym k) ∙ (sym h ∙ l)
 
 module _ (setup : Bool) (p : Script true Unit) (f : Unit {0} → tree.Prog St Unit) (t : St) where
-  pub when-yes : (c : Bool) → c ≡ true → finish setup (bindOut (run concrete p t) f) ≡ finish setup (bindOut (run concrete (when c p) t) f)
+  pub when-yes : (c : Bool) → c ≡ true → finish setup (bindOut (run concrete p t) f)
+      ≡ finish setup (bindOut (run concrete (when c p) t) f)
   when-yes c h = ap (λ (x : Bool). finish setup (bindOut (run concrete (when x p) t) f)) (sym h)
 
   pub when-no : (c : Bool) → c ≡ false → finish setup (f tt t) ≡ finish setup (bindOut (run concrete (when c p) t) f)
@@ -93,7 +96,8 @@ module _ (F : tree.Out St Unit → tree.Out St ℕ) (c : Bool) (y z : tree.Out S
 at-zero : (e x : ℕ) (a : Bool) → e ≡ x → eqb e 0 ≡ a → eqb x 0 ≡ a
 at-zero e x a h k = ap (λ (z : ℕ). eqb z 0) (sym h) ∙ k
 
-module _ (F : tree.Out St Unit → tree.Out St ℕ) (iso : Bool) {e x : ℕ} (w y z : tree.Out St Unit) (h : e ≡ x) (l : iso ≡ false) where
+module _ (F : tree.Out St Unit → tree.Out St ℕ) (iso : Bool) {e x : ℕ} (w y z : tree.Out St Unit) (h : e ≡ x)
+    (l : iso ≡ false) where
   pub of-ep0 : eqb e 0 ≡ true → F y ≡ F (cond iso w (cond (eqb x 0) y z))
   of-ep0 k = test-yes F (eqb x 0) y z (at-zero e x true h k) ∙ test-no F iso w (cond (eqb x 0) y z) l
 
@@ -101,7 +105,8 @@ module _ (F : tree.Out St Unit → tree.Out St ℕ) (iso : Bool) {e x : ℕ} (w 
   of-other k = test-no F (eqb x 0) y z (at-zero e x false h k) ∙ test-no F iso w (cond (eqb x 0) y z) l
 
 -- the microframe's SOF was handled
-pub sof-handled : (g g' : Globals) (frame : ℕ) (a : Bool) → g ≡ g' → eqb (g .«sof_frame») frame ≡ a → not (eqb (g' .«sof_frame») frame) ≡ not a
+pub sof-handled : (g g' : Globals) (frame : ℕ) (a : Bool) → g ≡ g' → eqb (g .«sof_frame») frame ≡ a
+    → not (eqb (g' .«sof_frame») frame) ≡ not a
 sof-handled g g' frame a h k = ap (λ (z : Globals). not (eqb (z .«sof_frame») frame)) (sym h) ∙ ap not k
 
 -- ---- the rest f after an operation's outcome o
@@ -109,7 +114,8 @@ sof-handled g g' frame a h k = ap (λ (z : Globals). not (eqb (z .«sof_frame»)
 abbrev pub onward : {A : Type 0} → Bool → (A → tree.Prog St Unit) → tree.Out St A → tree.Out St ℕ
 onward setup f o = finish setup (bindOut o f)
 
-pub after : {A : Type 0} (setup : Bool) (f : A → tree.Prog St Unit) (o o' : tree.Out St A) → o ≡ o' → finish setup (bindOut o f) ≡ finish setup (bindOut o' f)
+pub after : {A : Type 0} (setup : Bool) (f : A → tree.Prog St Unit) (o o' : tree.Out St A) → o ≡ o'
+    → finish setup (bindOut o f) ≡ finish setup (bindOut o' f)
 after setup f o o' h = ap (onward setup f) h
 
 module _ (setup : Bool) (f : Unit {0} → tree.Prog St Unit) (q : Access) (d : Driver) (b : List ℕ) where
@@ -125,30 +131,36 @@ module _ (setup : Bool) (f : Unit {0} → tree.Prog St Unit) (q : Access) (d : D
       → asks q (d, b) (λ _ t. onward setup f (complete.denote p t)) ≡ onward setup f (complete.meaning n d b)
   complete-asks n p h = ap (λ (m : complete-next.CompleteNext). onward setup f (complete.meaning m d b)) (sym h)
 
-  pub check-asks : (x : Transfer) (iso : Bool) (n : check-next.CheckNext) (p : check-point.Check) → n ≡ check-to.Asks q p
+  pub check-asks : (x : Transfer) (iso : Bool) (n : check-next.CheckNext) (p : check-point.Check) → n
+      ≡ check-to.Asks q p
       → asks q (d, b) (λ v t. onward setup f (check.denote x iso p v t)) ≡ onward setup f (check.meaning x iso n d b)
   check-asks x iso n p h = ap (λ (m : check-next.CheckNext). onward setup f (check.meaning x iso m d b)) (sym h)
 
 module _ (setup : Bool) (f : Unit {0} → tree.Prog St Unit) (d : Driver) (b : List ℕ) where
-  pub nak-ends : (st : ℕ) (n : nak-next.NakNext) → n ≡ nak-to.Ends → finish setup (f tt (d, b)) ≡ onward setup f (nak.meaning st n d b)
+  pub nak-ends : (st : ℕ) (n : nak-next.NakNext) → n ≡ nak-to.Ends → finish setup (f tt (d, b))
+      ≡ onward setup f (nak.meaning st n d b)
   nak-ends st n h = ap (λ (m : nak-next.NakNext). onward setup f (nak.meaning st m d b)) (sym h)
 
-  pub sof-ends : (frame : ℕ) (n : sof-next.SofNext) → n ≡ sof-to.Ends → finish setup (f tt (d, b)) ≡ onward setup f (sof.meaning frame n d b)
+  pub sof-ends : (frame : ℕ) (n : sof-next.SofNext) → n ≡ sof-to.Ends → finish setup (f tt (d, b))
+      ≡ onward setup f (sof.meaning frame n d b)
   sof-ends frame n h = ap (λ (m : sof-next.SofNext). onward setup f (sof.meaning frame m d b)) (sym h)
 
-  pub complete-ends : (n : complete-next.CompleteNext) → n ≡ complete-to.Ends → finish setup (f tt (d, b)) ≡ onward setup f (complete.meaning n d b)
+  pub complete-ends : (n : complete-next.CompleteNext) → n ≡ complete-to.Ends → finish setup (f tt (d, b))
+      ≡ onward setup f (complete.meaning n d b)
   complete-ends n h = ap (λ (m : complete-next.CompleteNext). onward setup f (complete.meaning m d b)) (sym h)
 
   pub check-ends : (x : Transfer) (iso : Bool) (n : check-next.CheckNext)
       → n ≡ check-to.Ends → finish setup (f tt (d, b)) ≡ onward setup f (check.meaning x iso n d b)
   check-ends x iso n h = ap (λ (m : check-next.CheckNext). onward setup f (check.meaning x iso m d b)) (sym h)
 
-module _ (setup : Bool) (f : Transfer → tree.Prog St Unit) (d : Driver) (b : List ℕ) (x : Transfer) (n : settle-next.SettleNext) where
+module _ (setup : Bool) (f : Transfer → tree.Prog St Unit) (d : Driver) (b : List ℕ) (x : Transfer)
+    (n : settle-next.SettleNext) where
   pub settle-asks : (q : Access) (p : settle-point.Settle) → n ≡ settle-to.Asks q p
       → asks q (d, b) (λ v t. onward setup f (settle.denote x p v t)) ≡ onward setup f (settle.meaning x n d b)
   settle-asks q p h = ap (λ (m : settle-next.SettleNext). onward setup f (settle.meaning x m d b)) (sym h)
 
-  pub settle-ends : (y : Transfer) → n ≡ settle-to.Ends y → finish setup (f y (d, b)) ≡ onward setup f (settle.meaning x n d b)
+  pub settle-ends : (y : Transfer) → n ≡ settle-to.Ends y → finish setup (f y (d, b))
+      ≡ onward setup f (settle.meaning x n d b)
   settle-ends y h = ap (λ (m : settle-next.SettleNext). onward setup f (settle.meaning x m d b)) (sym h)
 
 -- `toggled` in an arm: its own rest g, then f
@@ -157,17 +169,21 @@ module _ (setup : Bool) (f : Unit {0} → tree.Prog St Unit)
   pub toggled-asks : (q : Access) (p : toggled-point.Toggled)
       → n ≡ toggled-to.Asks q p → asks q (d, b) (λ v t. onward setup f (bindOut (toggled.denote dir ep p v t) g))
       ≡ onward setup f (bindOut (toggled.meaning dir ep n d b) g)
-  toggled-asks q p h = ap (λ (m : toggled-next.ToggledNext). onward setup f (bindOut (toggled.meaning dir ep m d b) g)) (sym h)
+  toggled-asks q p h = ap (λ (m : toggled-next.ToggledNext). onward setup f (bindOut (toggled.meaning dir ep m d b) g))
+      (sym h)
 
-  pub toggled-ends : (y : Bool) → n ≡ toggled-to.Ends y → onward setup f (g y (d, b)) ≡ onward setup f (bindOut (toggled.meaning dir ep n d b) g)
-  toggled-ends y h = ap (λ (m : toggled-next.ToggledNext). onward setup f (bindOut (toggled.meaning dir ep m d b) g)) (sym h)
+  pub toggled-ends : (y : Bool) → n ≡ toggled-to.Ends y → onward setup f (g y (d, b))
+      ≡ onward setup f (bindOut (toggled.meaning dir ep n d b) g)
+  toggled-ends y h = ap (λ (m : toggled-next.ToggledNext). onward setup f (bindOut (toggled.meaning dir ep m d b) g))
+      (sym h)
 
 -- of the endpoint x that the status shows
 module _ (setup : Bool) (f : Unit {0} → tree.Prog St Unit) (g : Bool → tree.Prog St Unit)
     (dir : Dir) (e x : ℕ) (n : toggled-next.ToggledNext) (d : Driver) (b : List ℕ) (h : e ≡ x) where
   pub toggled-as : (o : ℕ → tree.Out St Bool) → toggled.meaning dir e n d b ≡ o e
       → onward setup f (bindOut (toggled.meaning dir x n d b) g) ≡ onward setup f (bindOut (o x) g)
-  toggled-as o k = subst (λ (z : ℕ). onward setup f (bindOut (toggled.meaning dir z n d b) g) ≡ onward setup f (bindOut (o z) g)) h
+  toggled-as o k = subst (λ (z : ℕ). onward setup f (bindOut (toggled.meaning dir z n d b) g)
+      ≡ onward setup f (bindOut (o z) g)) h
       (ap (λ (o : tree.Out St Bool). onward setup f (bindOut o g)) k)
 
 pub passed-at : (F : tree.Out St Unit → tree.Out St ℕ) (dir : Dir) (e x len : ℕ) (t : St)
@@ -184,23 +200,27 @@ pub flipped-known : (o : tree.Out St Unit) (dir known : Dir) (len : ℕ) (t : St
     → dir ≡ known → o ≡ run concrete (flipDone known len) t → o ≡ run concrete (flipDone dir len) t
 flipped-known o dir known len t h k = k ∙ ap (λ (z : Dir). run concrete (flipDone z len) t) (sym h)
 
-pub stands : (o : tree.Out St ℕ) (p known : Point) (v : ℕ) (t : St) → p ≡ known → o ≡ denote known v t → o ≡ denote p v t
+pub stands : (o : tree.Out St ℕ) (p known : Point) (v : ℕ) (t : St) → p ≡ known → o ≡ denote known v t → o
+    ≡ denote p v t
 stands o p known v t h k = k ∙ ap (λ (z : Point). denote z v t) (sym h)
 
 -- ---- the script, in the tails' nesting
 
 transfer-is : onTransfer {i = true} ≡ (read MisSt 0 >>= (λ m. afterMis m))
-unfolding afterMis afterSt afterLen naksFirst afterNak afterRelease afterSettle afterFrameNo serving sofDue afterSof afterLate afterDispatch afterCheck
+unfolding afterMis afterSt afterLen naksFirst afterNak afterRelease afterSettle afterFrameNo serving sofDue afterSof
+    afterLate afterDispatch afterCheck
 transfer-is = refl
 
-transfer-begun : (t : St) → run concrete (onTransfer {i = true}) t ≡ asks (Read MisSt 0) t (λ v u. run concrete (afterMis v) u)
+transfer-begun : (t : St) → run concrete (onTransfer {i = true}) t
+    ≡ asks (Read MisSt 0) t (λ v u. run concrete (afterMis v) u)
 transfer-begun t = ap (λ (p : Script true Unit). run concrete p t) transfer-is
 
 flags-is : onInterrupt {i = true} ≡ (read IntFg 0 >>= (λ f. afterFlags f))
 unfolding afterFlags afterBusRst afterSuspend afterFifo afterHost afterTransfer
 flags-is = refl
 
-flags-begun : (t : St) → asks (Read IntFg 0) t (λ v u. run concrete (resultless (afterFlags v)) u) ≡ run concrete (resultless onInterrupt) t
+flags-begun : (t : St) → asks (Read IntFg 0) t (λ v u. run concrete (resultless (afterFlags v)) u)
+    ≡ run concrete (resultless onInterrupt) t
 flags-begun t = ap (λ (p : Script true Unit). run concrete (resultless p) t) (sym flags-is)
 
 -- the microframe is kept
@@ -212,7 +232,8 @@ pub microframe-kept : (v n i : ℕ) (g : Globals) (d x : Driver) (b : List ℕ)
     → i ≡ indexOf n
     → g ≡ d .globals
     → x ≡ entering i g d
-    → asks (Read IntFg 0) (x, b) (λ f u. run concrete (resultless (afterFlags f)) u) ≡ run concrete (resultless (afterFrame v)) (d, b)
+    → asks (Read IntFg 0) (x, b) (λ f u. run concrete (resultless (afterFlags f)) u)
+    ≡ run concrete (resultless (afterFrame v)) (d, b)
 unfolding afterFrame
 microframe-kept v n i g d x b hn hi hg hx =
     flags-begun (x, b)
@@ -224,7 +245,8 @@ microframe-kept v n i g d x b hn hi hg hx =
     from : Driver → tree.Out St ℕ
     from z = run concrete (resultless onInterrupt) (z, b)
 
-pub interrupt-begun : (t : St) → asks (Read FrameNo 0) t (λ v u. run concrete (resultless (afterFrame v)) u) ≡ run concrete (resultless stampedInterrupt) t
+pub interrupt-begun : (t : St) → asks (Read FrameNo 0) t (λ v u. run concrete (resultless (afterFrame v)) u)
+    ≡ run concrete (resultless stampedInterrupt) t
 unfolding afterFrame
 interrupt-begun t = refl
 
@@ -238,7 +260,8 @@ module _ (f : ℕ) (setup : Bool) (d : Driver) (b : List ℕ) (h : setup ≡ set
       ∙ (ap (finish (setupAct f)) (sym (transfer-begun (d, b)))
       ∙ ap (λ (z : Bool). finish (setupAct f) (run concrete (when {i = true} z onTransfer) (d, b))) (sym k))
 
-  pub host-other : transfer f ≡ false → run concrete (resultless (afterTransfer setup)) (d, b) ≡ run concrete (resultless (afterHost f)) (d, b)
+  pub host-other : transfer f ≡ false → run concrete (resultless (afterTransfer setup)) (d, b)
+      ≡ run concrete (resultless (afterHost f)) (d, b)
   unfolding afterHost
   host-other k =
       ap (λ (z : Bool). run concrete (resultless (afterTransfer z)) (d, b)) h
@@ -253,13 +276,16 @@ module _ (setup busy : Bool) (st v : ℕ) (y : Transfer) (d : Driver) (b : List 
   entered-nak n k l =
       ap (λ (z : Transfer). onward setup (λ _ u. run concrete (afterNak z) u) (nak.meaning (z .st) n d b)) h
       ∙ (ap (onward setup (λ _ u. run concrete (afterNak (enteredAs busy st v)) u)) k
-      ∙ when-yes setup (nakNonIso st) (λ _ u. run concrete (afterNak (enteredAs busy st v)) u) (d, b) (naksFirst busy st) l)
+      ∙ when-yes setup (nakNonIso st) (λ _ u. run concrete (afterNak (enteredAs busy st v)) u) (d, b)
+      (naksFirst busy st) l)
 
-  pub entered-free : naksFirst busy st ≡ false → finish setup (run concrete (afterNak y) (d, b)) ≡ finish setup (run concrete (afterLen busy st v) (d, b))
+  pub entered-free : naksFirst busy st ≡ false → finish setup (run concrete (afterNak y) (d, b))
+      ≡ finish setup (run concrete (afterLen busy st v) (d, b))
   unfolding afterLen
   entered-free l =
       ap (λ (z : Transfer). finish setup (run concrete (afterNak z) (d, b))) h
-      ∙ when-no setup (nakNonIso st) (λ _ u. run concrete (afterNak (enteredAs busy st v)) u) (d, b) (naksFirst busy st) l
+      ∙ when-no setup (nakNonIso st) (λ _ u. run concrete (afterNak (enteredAs busy st v)) u) (d, b) (naksFirst busy st)
+      l
 
 -- the arm of an isochronous IN
 endpoint-small : (st : ℕ) → endpoint st % 16 ≡ endpoint st
@@ -279,12 +305,14 @@ module _ (F : tree.Out St Unit → tree.Out St ℕ) (d y : Driver) (b : List ℕ
   counted e first z = F (cond first (run concrete (isoInComplete {i = true} e) (z, b)) (ends tt (z, b)))
 
   reached : (e : ℕ) (first : Bool) → y ≡ framedOn d e frame → isFirst d e frame ≡ first
-      → isSet (d .globals .«iso_in_paced») e ≡ false → counted e first y ≡ F (run concrete (isoInArm {i = true} e frame) (d, b))
+      → isSet (d .globals .«iso_in_paced») e ≡ false → counted e first y
+      ≡ F (run concrete (isoInArm {i = true} e frame) (d, b))
   unfolding framedOn isFirst
   reached e first h k l =
       ap (counted e first) h
       ∙ (ap (λ (z : Bool). counted e z (framedOn d e frame)) (sym k)
-      ∙ ap (λ (z : Bool). F (cond z (ends tt (d, b)) (run concrete (firstInFrame {i = true} e frame >>= (λ x. when x (isoInComplete e))) (d, b)))) (sym l))
+      ∙ ap (λ (z : Bool). F (cond z (ends tt (d, b)) (run concrete
+      (firstInFrame {i = true} e frame >>= (λ x. when x (isoInComplete e))) (d, b)))) (sym l))
 
   pub in-frame : (e st : ℕ) (first : Bool) → e ≡ endpoint st
       → y ≡ framedOn d e frame → isFirst d e frame ≡ first → isSet (d .globals .«iso_in_paced») (endpoint st) ≡ false
@@ -299,7 +327,8 @@ pub flip-in : (d y : Driver) (b : List ℕ) (r : EpState) (len : ℕ) (dir : Dir
     → dir ≡ In → run concrete (script.sent {i = true} 0) (y, b) ≡ run concrete (flipDone dir len) (d, b)
 flip-in d y b r len dir h k l =
     ap (λ (z : Driver). run concrete (script.sent {i = true} 0) (z, b)) k
-    ∙ (ap (λ (z : EpState). run concrete (script.sent {i = true} 0) (withOn d In 0 (merged z (withArmed 0 (plainOf z))), b)) h
+    ∙ (ap (λ (z : EpState). run concrete (script.sent {i = true} 0)
+    (withOn d In 0 (merged z (withArmed 0 (plainOf z))), b)) h
     ∙ ap (λ (z : Dir). run concrete (flipDone z len) (d, b)) (sym l))
 
 -- the setup packet is taken
@@ -315,7 +344,8 @@ pub setup-taken : (d x y z : Driver) (b : List ℕ) (low high : ℕ)
     → x ≡ cleared Out d
     → y ≡ cleared In x
     → z ≡ kept low high y
-    → asks (Write IntFg 0 SETUP_ACT) (z, b) (λ _ t. run concrete (resultless afterSetupReleased) t) ≡ run concrete (resultless afterSetupTx) (d, b)
+    → asks (Write IntFg 0 SETUP_ACT) (z, b) (λ _ t. run concrete (resultless afterSetupReleased) t)
+    ≡ run concrete (resultless afterSetupTx) (d, b)
 unfolding afterSetupTx
 setup-taken d x y z b low high h k l m n =
     ap at n
@@ -332,11 +362,13 @@ pub frame-read : (setup : Bool) (x y : Transfer) (iso : Bool) (g : Globals) (d :
     → y ≡ framed x iso (g .«sof_frame») frame
     → g ≡ d .globals
     → frame ≡ v
-    → finish setup (run concrete (serving y iso frame) (d, b)) ≡ finish setup (run concrete (afterFrameNo x iso v) (d, b))
+    → finish setup (run concrete (serving y iso frame) (d, b))
+    ≡ finish setup (run concrete (afterFrameNo x iso v) (d, b))
 unfolding afterFrameNo
 frame-read setup x y iso g d b frame v h k l =
     ap (λ (z : Transfer). finish setup (run concrete (serving z iso frame) (d, b))) h
-    ∙ (ap (λ (z : Globals). finish setup (run concrete (serving (framed x iso (z .«sof_frame») frame) iso frame) (d, b))) k
+    ∙ (ap (λ (z : Globals). finish setup (run concrete (serving (framed x iso (z .«sof_frame») frame) iso frame)
+    (d, b))) k
     ∙ ap (λ (z : ℕ). finish setup (run concrete (serving (framed x iso (d .globals .«sof_frame») z) iso z) (d, b))) l)
 
 -- what a match told of the point

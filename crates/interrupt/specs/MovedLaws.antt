@@ -18,4 +18,5 @@ pub moved-as : (setup : Bool) (x : Transfer) (t : St) {e : ℕ} {k known : Token
     → finish setup (run concrete (ep0MovedOn {i = true} known) t) ≡ finish setup (run concrete (afterCheck x) t)
 unfolding afterCheck
 moved-as setup x t h z k l =
-    ap₂ (λ (b : Bool) (k : Token). finish setup (run concrete (when b (ep0MovedOn {i = true} k)) t)) (ap (λ (n : ℕ). eqb n 0) (sym z ∙ h)) (sym l ∙ k)
+    ap₂ (λ (b : Bool) (k : Token). finish setup (run concrete (when b (ep0MovedOn {i = true} k)) t))
+    (ap (λ (n : ℕ). eqb n 0) (sym z ∙ h)) (sym l ∙ k)

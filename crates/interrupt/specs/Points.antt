@@ -26,10 +26,12 @@ use Rattle.interrupt.specs.declared.Point.{Point}
 use Rattle.interrupt.specs.declared.Point.the-variants as point
 use Rattle.interrupt.specs.declared.Next.{Next}
 use Rattle.interrupt.specs.declared.Next.the-variants as next
-use Rattle.interrupt.specs.Continuations.{resultless, afterSetupReleased, afterSetupTx, afterSetupRx, finish, thenCheck}
+use Rattle.interrupt.specs.Continuations.{resultless, afterSetupReleased, afterSetupTx, afterSetupRx, finish}
+use Rattle.interrupt.specs.Continuations.{thenCheck}
 use Rattle.interrupt.specs.Continuations.{afterMovedWrote, afterMovedRead, afterCheck, flipDone}
 use Rattle.interrupt.specs.Continuations.{afterFlip, afterToggled, afterLate, afterSof, afterFrameNo, afterSettle}
-use Rattle.interrupt.specs.Continuations.{afterRelease, afterNak, afterLen, afterSt, afterMis, afterHost, afterFifo}
+use Rattle.interrupt.specs.Continuations.{afterRelease, afterNak, afterLen, afterSt, afterMis, afterHost}
+use Rattle.interrupt.specs.Continuations.{afterFifo}
 use Rattle.interrupt.specs.Continuations.{afterSuspend, afterBusRst, afterFlags, afterFrame}
 
 -- the operation: `on_interrupt`, 634-819, with the frame reading before it
@@ -46,19 +48,25 @@ denote (point.Host f) v t = run concrete (resultless (afterHost f)) t
 denote (point.Mis setup) v t = finish setup (run concrete (afterMis v) t)
 denote (point.St setup busy) v t = finish setup (run concrete (afterSt busy v) t)
 denote (point.Len setup busy st) v t = finish setup (run concrete (afterLen busy st v) t)
-denote (point.Nak setup x p) v t = finish setup (bindOut (nak.denote (x .st) p v t) (λ _ u. run concrete (afterNak x) u))
+denote (point.Nak setup x p) v t = finish setup (bindOut (nak.denote (x .st) p v t)
+    (λ _ u. run concrete (afterNak x) u))
 denote (point.Released setup x) v t = finish setup (run concrete (afterRelease x) t)
-denote (point.Settle setup x p) v t = finish setup (bindOut (settle.denote x p v t) (λ y u. run concrete (afterSettle y) u))
+denote (point.Settle setup x p) v t = finish setup (bindOut (settle.denote x p v t)
+    (λ y u. run concrete (afterSettle y) u))
 denote (point.FrameNo setup x iso) v t = finish setup (run concrete (afterFrameNo x iso v) t)
-denote (point.Sof setup x iso frame p) v t = finish setup (bindOut (sof.denote frame p v t) (λ _ u. run concrete (afterSof x iso frame) u))
-denote (point.Late setup x iso frame p) v t = finish setup (bindOut (late.denote frame p t) (λ _ u. run concrete (afterLate x iso frame) u))
+denote (point.Sof setup x iso frame p) v t = finish setup
+    (bindOut (sof.denote frame p v t) (λ _ u. run concrete (afterSof x iso frame) u))
+denote (point.Late setup x iso frame p) v t = finish setup
+    (bindOut (late.denote frame p t) (λ _ u. run concrete (afterLate x iso frame) u))
 denote (point.SofArm setup x iso frame p) v t = thenCheck setup x iso (sof.denote frame p v t)
 denote (point.Flip d setup x iso) v t = thenCheck setup x iso (run concrete (afterFlip d (x .len) v) t)
 denote (point.Flipped d setup x iso) v t = thenCheck setup x iso (run concrete (flipDone d (x .len)) t)
 denote (point.Toggled d setup x iso p) v t =
-    thenCheck setup x iso (bindOut (toggled.denote d (endpoint (x .st)) p v t) (λ b u. run concrete (afterToggled d x b) u))
+    thenCheck setup x iso (bindOut (toggled.denote d (endpoint (x .st)) p v t)
+    (λ b u. run concrete (afterToggled d x b) u))
 denote (point.Completing setup x iso p) v t = thenCheck setup x iso (complete.denote p t)
-denote (point.Check setup x iso p) v t = finish setup (bindOut (check.denote x iso p v t) (λ _ u. run concrete (afterCheck x) u))
+denote (point.Check setup x iso p) v t = finish setup (bindOut (check.denote x iso p v t)
+    (λ _ u. run concrete (afterCheck x) u))
 denote (point.MovedRead d setup) v t = finish setup (run concrete (afterMovedRead d v) t)
 denote (point.MovedWrote d setup) v t = finish setup (run concrete (afterMovedWrote d) t)
 denote point.SetupRx v t = run concrete (resultless afterSetupRx) t

@@ -13,7 +13,7 @@ use Rattle.interrupt.specs.Points.{denote, fitsAt}
 use Rattle.interrupt.specs.Stands.{halted, Stops, Pins, ResumesByWord}
 use Rattle.interrupt.specs.Suspended as under
 use Rattle.interrupt.specs.Suspended.{decode, machineOf, resumed, answerOf}
-use Rattle.answer.specs.Goes.{Called}
+use Rattle.answer.specs.Goes.{StepResult}
 use Rattle.interrupt.specs.SuspendedLaws.{gone-interrupt, stay-interrupt}
 use Rattle.interrupt.specs.SuspendedLaws.{going, staying}
 use Rattle.answer.specs.Parts.{stepOf}
@@ -22,11 +22,12 @@ use Rattle.answer.specs.WordLaws.{refused-sound}
 -- what was brought fits: the rest stops where the call leaves it
 pub went-on : (c : Saved) (p : Point) (v : ℕ) (d : Driver) (b : Buf) → decode c ≡ under.Interrupt p
     → {r : ℕ} {ys : List ℕ} {b' : Buf} → fitsAt p v ≡ true → Stops r ys b' (denote p v (d, b))
-    → _≡_ {A = Called} (answerOf (stepOf r) [] (view ys), machineOf ys b') (resumed v (decode c) d b)
+    → _≡_ {A = StepResult} (answerOf (stepOf r) [] (view ys), machineOf ys b') (resumed v (decode c) d b)
 unfolding halted
 went-on c p v d b e f k = going c (under.Interrupt p) v d b e (gone-interrupt p v d b f) (k .there)
 
-pub goes-on : {r v : ℕ} {p : Point} {xs ys : List ℕ} {b after : Buf} → decode (saved xs) ≡ under.Interrupt p → fitsAt p v ≡ true
+pub goes-on : {r v : ℕ} {p : Point} {xs ys : List ℕ} {b after : Buf} → decode (saved xs) ≡ under.Interrupt p
+    → fitsAt p v ≡ true
     → Stops r ys after (denote p v (view xs, b)) → Pins r ys → ResumesByWord r v xs b ys after
 goes-on {v = v} {p = p} {xs = xs} {b = b} e f k h = record {
   worded = h .0;
@@ -34,10 +35,14 @@ goes-on {v = v} {p = p} {xs = xs} {b = b} e f k h = record {
 }
 
 -- row 16, by its word: it stays awaited
-pub refuses-16 : {v : ℕ} {p : Point} {xs : List ℕ} {b : Buf} → decode (saved xs) ≡ under.Interrupt p → fitsAt p v ≡ false
+pub refuses-16 : {v : ℕ} {p : Point} {xs : List ℕ} {b : Buf} → decode (saved xs) ≡ under.Interrupt p → fitsAt p v
+    ≡ false
     → ResumesByWord 4096 v xs b xs b
 unfolding stepOf
 refuses-16 {v} {p} {xs} {b} e f = record {
   worded = refused-sound 16 (omega arith);
-  resumes = record { called = staying (saved xs) (under.Interrupt p) v (view xs) b e (stay-interrupt p v (view xs) b f); kept = refl };
+  resumes = record {
+    called = staying (saved xs) (under.Interrupt p) v (view xs) b e (stay-interrupt p v (view xs) b f);
+    kept = refl;
+  };
 }

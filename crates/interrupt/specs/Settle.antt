@@ -1,4 +1,5 @@
--- What is left to run at each point of a transfer that is settled (mod.rs 668-715); the transfer as it was entered is the environment
+-- What is left to run at each point of a transfer that is settled (mod.rs 668-715); the transfer as it was entered is
+-- the environment
 use mathlib.Core.Path.{_≡_}
 use mathlib.Core.Bool.{Bool, true}
 use mathlib.Core.List.{List}

@@ -1,4 +1,5 @@
--- After a SOF's arm nothing of the transfer is left: neither isochronous OUTs nor EP0's stage are looked at. Assumes nothing.
+-- After a SOF's arm nothing of the transfer is left: neither isochronous OUTs nor EP0's stage are looked at. Assumes
+-- nothing.
 use mathlib.Core.Bool.{Bool, true, false, not, true≢false}
 use mathlib.Core.Path.{_≡_, refl, ap, sym}
 use lib.Dec.{eqb}

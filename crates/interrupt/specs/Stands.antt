@@ -1,4 +1,5 @@
--- Where an interrupt's call leaves it: at a point, whose bytes are saved and whose access is the answer; or at its end. An answer is its word
+-- Where an interrupt's call leaves it: at a point, whose bytes are saved and whose access is the answer; or at its end.
+-- An answer is its word
 use mathlib.Core.Bool.{true}
 use mathlib.Core.List.{List, []}
 use mathlib.Core.Path.{_≡_}
@@ -15,7 +16,7 @@ use Rattle.interrupt.specs.Points.{denote}
 use Rattle.interrupt.specs.Suspended as under
 use Rattle.interrupt.specs.Suspended.{finish, haltsAs, machineOf, answerOf, SavedByAnswer, Stored}
 use Rattle.interrupt.specs.Suspended.{StandsAt, Resumes}
-use Rattle.answer.specs.Goes.{Called}
+use Rattle.answer.specs.Goes.{StepResult}
 use Rattle.answer.specs.Parts.{stepOf}
 use Rattle.answer.specs.Word.{Encodes}
 
@@ -24,12 +25,12 @@ abbrev pub Stands : ℕ → Access → Point → List ℕ → List ℕ → Type 
 Stands r q p xs ys = StandsAt ℕ Encodes r q (under.Interrupt p) xs ys
 
 -- where the rest o of an interrupt stops: at its next access, or at its end
-unfoldable pub halted : Out St ℕ → Called
+unfoldable pub halted : Out St ℕ → StepResult
 halted o = haltsAs true (bindOut o (λ n t. run concrete (finish n) t))
 
 -- the answer that the call's word says and the bytes that it leaves are where the rest o stops
 pub record Stops (r : ℕ) (ys : List ℕ) (b : Buf) (o : Out St ℕ) : Type 0 where
-  pub there : _≡_ {A = Called} (answerOf (stepOf r) [] (view ys), machineOf ys b) (halted o)
+  pub there : _≡_ {A = StepResult} (answerOf (stepOf r) [] (view ys), machineOf ys b) (halted o)
 
 -- the word is its answer's, and by that answer all 22 bytes are pinned; from those before, where a refusal keeps them
 abbrev pub Pins : ℕ → List ℕ → Type 0
@@ -38,7 +39,8 @@ Pins r ys = Encodes r (stepOf r) × Stored (stepOf r) ys
 abbrev pub PinsFrom : ℕ → List ℕ → List ℕ → Type 0
 PinsFrom r xs ys = Encodes r (stepOf r) × SavedByAnswer (stepOf r) xs ys
 
--- what each call of the interrupt ensures that runs f from the bytes xs: its word and the bytes ys are where f stops, and pinned. Any slots stay
+-- what each call of the interrupt ensures that runs f from the bytes xs: its word and the bytes ys are where f stops,
+-- and pinned. Any slots stay
 abbrev pub RunsOn : ℕ → Prog St ℕ → List ℕ → List ℕ → Type 0
 RunsOn r f xs ys = ((b : Buf) → Stops r ys b (f (view xs, b))) × Pins r ys
 

@@ -25,7 +25,8 @@ use Rattle.interrupt.specs.Stands.{Stands, halted, Stops, Pins}
 
 -- the bytes of the point are stored
 pub stands-at : {r : ℕ} {q : Access} {p : Point} {c : Saved} {xs ys : List ℕ}
-    → Encodes r (step.Asks q) × ((view ys ≡ view xs) × (saved ys ≡ c)) → c ≡ encode (under.Interrupt p) → Stands r q p xs ys
+    → Encodes r (step.Asks q) × ((view ys ≡ view xs) × (saved ys ≡ c)) → c ≡ encode (under.Interrupt p)
+    → Stands r q p xs ys
 stands-at h e = record { answered = h .0; viewed = h .1 .0; stored = h .1 .1 ∙ e }
 
 -- the step that the word says
@@ -51,7 +52,10 @@ stood q p d b h = simp h
 -- at a point: its access is the first of what is left
 pub stops-at : {r : ℕ} {q : Access} {p : Point} {xs ys : List ℕ} → Stands r q p xs ys → awaited q ≡ awaitsAt p
     → (b : Buf) {o : Out St ℕ} → meaning (next.Asks q p) (view xs) b ≡ o → Stops r ys b o
-stops-at {r} {q} {p} {xs} h l b m = record { there = handed-out h (stepOf r) (says h) [] b ∙ (stood q p (view xs) b l ∙ ap halted m) }
+stops-at {r} {q} {p} {xs} h l b m = record {
+  there = handed-out h (stepOf r) (says h) [] b
+      ∙ (stood q p (view xs) b l ∙ ap halted m);
+}
 
 -- the same rest, said another way
 pub then-on : {r : ℕ} {ys : List ℕ} {b : Buf} {o o' : Out St ℕ} → Stops r ys b o → o ≡ o' → Stops r ys b o'

@@ -1,4 +1,5 @@
--- What each function of the interrupt ensures of its answer: where the rest stops, and that all 22 bytes are pinned. Assumes nothing.
+-- What each function of the interrupt ensures of its answer: where the rest stops, and that all 22 bytes are pinned.
+-- Assumes nothing.
 use mathlib.Core.List.{List}
 use mathlib.Core.Path.{_≡_}
 use Prim.Native.Nat.{ℕ}
@@ -19,7 +20,8 @@ module _ {r : ℕ} {q : Access} {p : Point} {xs ys : List ℕ} (h : Stands r q p
   pauses-at {b} m = (stops-at h l b m, stored-at h)
 
   -- in any buffer
-  pub pauses-in : {o : Buf → Out St ℕ} → ((b : Buf) → meaning (next.Asks q p) (view xs) b ≡ o b) → ((b : Buf) → Stops r ys b (o b)) × Pins r ys
+  pub pauses-in : {o : Buf → Out St ℕ} → ((b : Buf) → meaning (next.Asks q p) (view xs) b ≡ o b)
+      → ((b : Buf) → Stops r ys b (o b)) × Pins r ys
   pauses-in m = (λ b. stops-at h l b (m b), stored-at h)
 
 -- by another function, whose rest is the same said another way

@@ -1,6 +1,6 @@
 -- Laws on the definitions of Suspended.antt
 use mathlib.Core.Bool.{Bool, true, false, not, cond}
-use mathlib.Core.List.{List, []}
+use mathlib.Core.List.{List}
 use mathlib.Core.Path.{_≡_, refl, ap, sym, subst, _∙_}
 use Prim.Native.Nat.{ℕ}
 use Rattle.regs.specs.declared.Access.{Access}
@@ -41,9 +41,10 @@ use Rattle.interrupt.specs.Codec as handlerCodec
 use Rattle.interrupt.specs.CodecLaws as handlerCodec-laws
 use Rattle.answer.specs.declared.Step.{Step}
 use Rattle.answer.specs.declared.Step.the-variants as step
-use Rattle.answer.specs.Goes.{Called}
+use Rattle.answer.specs.Goes.{StepResult}
 use Rattle.interrupt.specs.Suspended as under
-use Rattle.interrupt.specs.Suspended.{Suspended, encode, decode, finish, driverOf, haltsAs, answerOf, machineAt, machineOf, resumed, handedOut, Canonical, SavedByAnswer, Stored, StandsAt}
+use Rattle.interrupt.specs.Suspended.{Suspended, encode, decode, finish, driverOf, haltsAs, answerOf, machineAt}
+use Rattle.interrupt.specs.Suspended.{machineOf, resumed, handedOut, Canonical, SavedByAnswer, Stored, StandsAt}
 
 pub decode-encode : (u : Suspended) → decode (encode u) ≡ u
 unfolding encode decode handlerCodec.decode
@@ -66,24 +67,26 @@ pub stored-by : {A : Type 0} {Says : A → Step → Type 0} {r : A} {q : Access}
     → StandsAt A Says r q u xs ys → (z : Step) → z ≡ step.Asks q → Stored z ys
 stored-by {u = u} {ys = ys} h z e zs = subst (λ (w : Step). SavedByAnswer w zs ys) (sym e) (canonical u ys (h .stored))
 
-given : (z : Step) (q : Access) (u : Suspended) (xs ys out : List ℕ) (b : Buf) → z ≡ step.Asks q → view ys ≡ view xs → decode (saved ys) ≡ u
-    → _≡_ {A = Called} (answerOf z out (view ys), machineOf ys b) (handedOut q u (view xs) b)
+given : (z : Step) (q : Access) (u : Suspended) (xs ys out : List ℕ) (b : Buf) → z ≡ step.Asks q → view ys ≡ view xs
+    → decode (saved ys) ≡ u
+    → _≡_ {A = StepResult} (answerOf z out (view ys), machineOf ys b) (handedOut q u (view xs) b)
 given z q u xs ys out b e v k = simp (e, v, k)
 
 -- the access is handed out at u
 pub handed-out : {A : Type 0} {Says : A → Step → Type 0} {r : A} {q : Access} {u : Suspended} {xs ys : List ℕ}
     → StandsAt A Says r q u xs ys → (z : Step) → z ≡ step.Asks q → (out : List ℕ) (b : Buf)
-    → _≡_ {A = Called} (answerOf z out (view ys), machineOf ys b) (handedOut q u (view xs) b)
-handed-out {q = q} {u = u} {xs = xs} {ys = ys} h z e out b = given z q u xs ys out b e (h .viewed) (ap decode (h .stored) ∙ decode-encode u)
+    → _≡_ {A = StepResult} (answerOf z out (view ys), machineOf ys b) (handedOut q u (view xs) b)
+handed-out {q = q} {u = u} {xs = xs} {ys = ys} h z e out b
+    = given z q u xs ys out b e (h .viewed) (ap decode (h .stored) ∙ decode-encode u)
 
 -- row 16: it stays awaited
-abbrev pub stayed : Suspended → Driver → Buf → Called
+abbrev pub stayed : Suspended → Driver → Buf → StepResult
 stayed u d b = (ended (Refused 16), machineAt u d b)
 
 abbrev waiting : Bool → Awaits → (ℕ → St → Out St Answer) → Driver → Buf → Machine Answer Driver
-waiting i q k d b = record { way = ways.busy i q k; st = d; buf = b }
+waiting i q k d b = record { under-way = ways.busy i q k; st = d; buf = b }
 
-abbrev goes : Bool → Awaits → (ℕ → St → Out St Answer) → ℕ → Driver → Buf → Bool → Called
+abbrev goes : Bool → Awaits → (ℕ → St → Out St Answer) → ℕ → Driver → Buf → Bool → StepResult
 goes i q k v d b x = cond x (ended (Refused 16), waiting i q k d b) (haltsAs i (k v (d, b)))
 
 gone : (i : Bool) (q : Awaits) (k : ℕ → St → Out St Answer) (v : ℕ) (d : Driver) (b : Buf) → over calls q v ≡ false
@@ -91,10 +94,12 @@ gone : (i : Bool) (q : Awaits) (k : ℕ → St → Out St Answer) (v : ℕ) (d :
 gone i q k v d b h = ap (goes i q k v d b) h
 
 stays : (i : Bool) (q : Awaits) (k : ℕ → St → Out St Answer) (v : ℕ) (d : Driver) (b : Buf) → over calls q v ≡ true
-    → continued calls driverOf (λ s. s) v (waiting i q k d b) (ways.busy i q k) b ≡ (ended (Refused 16), waiting i q k d b)
+    → continued calls driverOf (λ s. s) v (waiting i q k d b) (ways.busy i q k) b
+    ≡ (ended (Refused 16), waiting i q k d b)
 stays i q k v d b h = ap (goes i q k v d b) h
 
-pub linked-interrupt : (n : Next) (q : Access) (p : Point) → n ≡ next.Asks q p → handler.Linked n → awaited q ≡ handler.awaitsAt p
+pub linked-interrupt : (n : Next) (q : Access) (p : Point) → n ≡ next.Asks q p → handler.Linked n → awaited q
+    ≡ handler.awaitsAt p
 linked-interrupt n q p e l = subst handler.Linked e l
 
 over-fits-nak : (p : Nak) (v : ℕ) → over calls (nak.awaitsAt p) v ≡ not (nak.fitsAt p v)
@@ -165,20 +170,23 @@ over-fits-interrupt point.SetupReleased v = refl
 -- ---- a continue at them
 
 pub gone-interrupt : (p : Point) (v : ℕ) (d : Driver) (b : Buf) → handler.fitsAt p v ≡ true
-    → resumed v (under.Interrupt p) d b ≡ haltsAs true (bindOut (handler.denote p v (d, b)) (λ n u. run concrete (finish n) u))
+    → resumed v (under.Interrupt p) d b ≡ haltsAs true
+    (bindOut (handler.denote p v (d, b)) (λ n u. run concrete (finish n) u))
 gone-interrupt p v d b h = gone true (handler.awaitsAt p)
-    (λ x t. bindOut (handler.denote p x t) (λ n u. run concrete (finish n) u)) v d b (over-fits-interrupt p v ∙ ap not h)
+    (λ x t. bindOut (handler.denote p x t) (λ n u. run concrete (finish n) u)) v d b (over-fits-interrupt p v
+    ∙ ap not h)
 
 pub stay-interrupt : (p : Point) (v : ℕ) (d : Driver) (b : Buf)
     → handler.fitsAt p v ≡ false → resumed v (under.Interrupt p) d b ≡ stayed (under.Interrupt p) d b
 stay-interrupt p v d b h = stays true (handler.awaitsAt p)
-    (λ x t. bindOut (handler.denote p x t) (λ n u. run concrete (finish n) u)) v d b (over-fits-interrupt p v ∙ ap not h)
+    (λ x t. bindOut (handler.denote p x t) (λ n u. run concrete (finish n) u)) v d b (over-fits-interrupt p v
+    ∙ ap not h)
 
 -- ---- a continue at the point that the saved record is
 
 module _ (c : Saved) (u : Suspended) (v : ℕ) (d : Driver) (b : Buf) (e : decode c ≡ u) where
   -- what the operation comes to
-  pub going : {x y : Called} → resumed v u d b ≡ x → y ≡ x → y ≡ resumed v (decode c) d b
+  pub going : {x y : StepResult} → resumed v u d b ≡ x → y ≡ x → y ≡ resumed v (decode c) d b
   going h k = k ∙ (sym h ∙ ap (λ (w : Suspended). resumed v w d b) (sym e))
 
   -- it stays where it is

@@ -56,27 +56,34 @@ busy-next x true = settle-next.Asks (Read MisSt 0) settle-point.Mis
 busy-next x false = settle-next.Ends x
 
 pub settle-busy : (x : Transfer) (d : Driver) (e : ℕ) (o n : EpState) (u y a : Bool) → e ≡ endpoint (x .st)
-    → o ≡ epOn d Out e → u ≡ waitsForIso x (plainOf o) → u ≡ false → n ≡ epOn d In e → y ≡ waitsForBulk x (plainOf n) → y ≡ false → x .busy ≡ a
-    → ((b : List ℕ) → settle.meaning x (busy-next x a) d b ≡ run concrete (script.settle {i = true} x) (d, b)) × settle.Linked (busy-next x a)
+    → o ≡ epOn d Out e → u ≡ waitsForIso x (plainOf o) → u ≡ false → n ≡ epOn d In e → y ≡ waitsForBulk x (plainOf n)
+    → y ≡ false → x .busy ≡ a
+    → ((b : List ℕ) → settle.meaning x (busy-next x a) d b ≡ run concrete (script.settle {i = true} x) (d, b))
+    × settle.Linked (busy-next x a)
 unfolding settle.afterMis settle.afterFlags settle.afterSt
 settle-busy x d e o n u y true he ho hu lu hn hy ly lb = (λ b. simp (← he, ← ho, ← hu, lu, ← hn, ← hy, ly, lb), refl)
 settle-busy x d e o n u y false he ho hu lu hn hy ly lb = (λ b. simp (← he, ← ho, ← hu, lu, ← hn, ← hy, ly, lb), tt)
 
 -- ---- the rest f after `nak_non_iso`
 
-pub nak-asks : {A : Type 0} (f : Unit {0} → tree.Prog St A) (st : ℕ) (n : NakNext) (q : Access) (p : Nak) (d : Driver) (b : List ℕ) (o : tree.Out St Unit)
+pub nak-asks : {A : Type 0} (f : Unit {0} → tree.Prog St A) (st : ℕ) (n : NakNext) (q : Access) (p : Nak) (d : Driver)
+    (b : List ℕ) (o : tree.Out St Unit)
     → n ≡ nak-next.Asks q p
     → nak.meaning st n d b ≡ o
     → asks q (d, b) (λ v t. bindOut (nak.denote st p v t) f) ≡ bindOut o f
-nak-asks f st n q p d b o h k = ap (λ (m : NakNext). bindOut (nak.meaning st m d b) f) (sym h) ∙ ap (λ (x : tree.Out St Unit). bindOut x f) k
+nak-asks f st n q p d b o h k = ap (λ (m : NakNext). bindOut (nak.meaning st m d b) f) (sym h)
+    ∙ ap (λ (x : tree.Out St Unit). bindOut x f) k
 
-pub nak-ends : {A : Type 0} (f : Unit {0} → tree.Prog St A) (st : ℕ) (n : NakNext) (d : Driver) (b : List ℕ) (o : tree.Out St Unit)
+pub nak-ends : {A : Type 0} (f : Unit {0} → tree.Prog St A) (st : ℕ) (n : NakNext) (d : Driver) (b : List ℕ)
+    (o : tree.Out St Unit)
     → n ≡ nak-next.Ends
     → nak.meaning st n d b ≡ o
     → f tt (d, b) ≡ bindOut o f
-nak-ends f st n d b o h k = ap (λ (m : NakNext). bindOut (nak.meaning st m d b) f) (sym h) ∙ ap (λ (x : tree.Out St Unit). bindOut x f) k
+nak-ends f st n d b o h k = ap (λ (m : NakNext). bindOut (nak.meaning st m d b) f) (sym h)
+    ∙ ap (λ (x : tree.Out St Unit). bindOut x f) k
 
-pub nak-linked : (n : NakNext) (q : Access) (p : Nak) → n ≡ nak-next.Asks q p → nak.Linked n → awaited q ≡ nak.awaitsAt p
+pub nak-linked : (n : NakNext) (q : Access) (p : Nak) → n ≡ nak-next.Asks q p → nak.Linked n → awaited q
+    ≡ nak.awaitsAt p
 nak-linked n q p h k = subst nak.Linked h k
 
 -- ---- int_st is read again: what follows `nak_non_iso`
@@ -94,9 +101,11 @@ module _ (x : Transfer) (st v : ℕ) (n : NakNext) (d : Driver)
   unfolding settle.afterSt
   st-asks q p l = nak-asks taken st n q p d b (run concrete (nakNonIso {i = true} st) (d, b)) l k ∙ read-as
 
-  pub st-ends : (y : Transfer) → y ≡ retaken x st → n ≡ nak-next.Ends → ends y (d, b) ≡ run concrete (settle.afterSt x v) (d, b)
+  pub st-ends : (y : Transfer) → y ≡ retaken x st → n ≡ nak-next.Ends → ends y (d, b)
+      ≡ run concrete (settle.afterSt x v) (d, b)
   unfolding settle.afterSt
-  st-ends y j l = ap (λ (z : Transfer). ends z (d, b)) j ∙ (nak-ends taken st n d b (run concrete (nakNonIso {i = true} st) (d, b)) l k ∙ read-as)
+  st-ends y j l = ap (λ (z : Transfer). ends z (d, b)) j
+      ∙ (nak-ends taken st n d b (run concrete (nakNonIso {i = true} st) (d, b)) l k ∙ read-as)
 
 -- ---- readings
 

@@ -32,7 +32,8 @@ none : (n : ℕ) → suc n ≢ 0
 none n h = omega (arith, h)
 
 -- free, or no look is left
-ended : (a : Bool) (n : ℕ) → (a || eqb n 0) ≡ true → (t : St) → run concrete (test {i = true} a done (looks n)) t ≡ ends tt t
+ended : (a : Bool) (n : ℕ) → (a || eqb n 0) ≡ true → (t : St) → run concrete (test {i = true} a done (looks n)) t
+    ≡ ends tt t
 ended true n h t = refl
 ended false zero h t = none-left t
 ended false (suc n) h t = absurd (none n (eqb-true (suc n) 0 h))
@@ -52,7 +53,8 @@ pub wait-begun : {A : Type 0} (f : Unit {0} → tree.Prog St A) (t : St)
     → bindOut (run concrete (sieWait {i = true}) t) f ≡ asks (Read MisSt 0) t (λ v u. bindOut (looked v 2000 u) f)
 wait-begun f t = ap (λ (o : tree.Out St Unit). bindOut o f) (one-look 2000 t)
 
-pub wait-over : (v n : ℕ) → over v n ≡ true → {A : Type 0} (f : Unit {0} → tree.Prog St A) (t : St) → bindOut (looked v n t) f ≡ f tt t
+pub wait-over : (v n : ℕ) → over v n ≡ true → {A : Type 0} (f : Unit {0} → tree.Prog St A) (t : St)
+    → bindOut (looked v n t) f ≡ f tt t
 unfolding looked over
 wait-over v n h f t = ap (λ (o : tree.Out St Unit). bindOut o f) (ended (sieFree v) n h t)
 

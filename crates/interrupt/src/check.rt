@@ -52,7 +52,8 @@ pub fn after_moved_read(s: &mut State, d: Dir, setup: bool, v: u32) -> u64
 }
 
 fn moved_on(s: &mut State, d: Dir, setup: bool) -> u64
-    ensures { λ r. ⌜ RunsOn r (λ t. finish setup (run concrete (movedOn {i = true} d) t)) (now (s .entry)) (now (s .exit)) ⌝ }
+    ensures { λ r. ⌜ RunsOn r (λ t. finish setup (run concrete (movedOn {i = true} d) t)) (now (s .entry))
+        (now (s .exit)) ⌝ }
 {
     let r = load_ep(s, d, 0);
     if is_on(r.armed) {

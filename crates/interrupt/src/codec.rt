@@ -13,7 +13,8 @@ use script_ops::points::dir_as;
 use script_ops::points::flag_of;
 use state::Saved;
 ghost use mathlib.Core.Path.{_≡_};
-ghost use Rattle.interrupt.specs.Codec.{dirOf, inner, walked, looking, none, onDir, nakAs, nakOf, settleAs, settleOf};
+ghost use Rattle.interrupt.specs.Codec.{dirOf, inner, walked, looking, none, onDir, nakAs, nakOf, settleAs};
+ghost use Rattle.interrupt.specs.Codec.{settleOf};
 ghost use Rattle.interrupt.specs.Codec.{toggledAs, toggledOf, completeAs, completeOf, sofAs, sofOf, lateAs};
 ghost use Rattle.interrupt.specs.Codec.{lateOf, checkAs, checkOf, code, early, entered, bare, encode};
 

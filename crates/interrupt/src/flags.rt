@@ -24,7 +24,8 @@ ghost use mathlib.Core.Bool.{true, false};
 ghost use Rattle.regs.specs.Registers.{fitsIn};
 ghost use Rattle.script.specs.Script.{run};
 ghost use Rattle.script_ops.specs.Concrete.{concrete};
-ghost use Rattle.interrupt.specs.Continuations.{resultless, afterFrame, afterFlags, afterBusRst, afterSuspend, afterFifo, afterHost};
+ghost use Rattle.interrupt.specs.Continuations.{resultless, afterFrame, afterFlags, afterBusRst, afterSuspend};
+ghost use Rattle.interrupt.specs.Continuations.{afterFifo, afterHost};
 ghost use Rattle.interrupt.specs.declared.Point.the-variants as Point;
 ghost use Rattle.interrupt.specs.Stands.{RunsOn, RunsOnFrom};
 

@@ -37,7 +37,8 @@ ghost use Rattle.interrupt.specs.Nak as naks;
 ghost use Rattle.interrupt.specs.Settle as settles;
 ghost use Rattle.script_ops.specs.Concrete.{concrete};
 ghost use Rattle.script_ops.specs.Records.{plainOf};
-ghost use Rattle.interrupt.specs.Continuations.{finish, naksFirst, enteredAs, afterNak, afterRelease, afterSettle};
+ghost use Rattle.interrupt.specs.Continuations.{finish, naksFirst, enteredAs, afterNak, afterRelease};
+ghost use Rattle.interrupt.specs.Continuations.{afterSettle};
 ghost use Rattle.interrupt.specs.Points.{denote};
 ghost use Rattle.interrupt.specs.declared.Point.the-variants as Point;
 ghost use Rattle.interrupt.specs.Stands.{RunsOn};
@@ -72,7 +73,8 @@ fn after_settle(s: &mut State, setup: bool, x: Transfer) -> u64
 
 fn then_settle(s: &mut State, setup: bool, x: Transfer, n: SettleNext) -> u64
     requires { ⌜ settles.Linked n ⌝ }
-    ensures { λ r. ⌜ RunsOn r (λ t. finish setup (bindOut (settles.meaning x n (t .0) (t .1)) (λ y u. run concrete (afterSettle y) u)))
+    ensures { λ r. ⌜ RunsOn r (λ t. finish setup (bindOut (settles.meaning x n (t .0) (t .1))
+        (λ y u. run concrete (afterSettle y) u)))
         (now (s .entry)) (now (s .exit)) ⌝ }
 {
     match n {
@@ -108,7 +110,8 @@ fn release(s: &mut State, setup: bool, x: Transfer) -> u64
 
 fn then_nak(s: &mut State, setup: bool, x: Transfer, n: NakNext) -> u64
     requires { ⌜ naks.Linked n ⌝ }
-    ensures { λ r. ⌜ RunsOn r (λ t. finish setup (bindOut (naks.meaning (x .st) n (t .0) (t .1)) (λ _ u. run concrete (afterNak x) u)))
+    ensures { λ r. ⌜ RunsOn r (λ t. finish setup (bindOut (naks.meaning (x .st) n (t .0) (t .1))
+        (λ _ u. run concrete (afterNak x) u)))
         (now (s .entry)) (now (s .exit)) ⌝ }
 {
     match n {

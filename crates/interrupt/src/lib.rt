@@ -35,8 +35,8 @@ ghost use Rattle.state.specs.Driver.{Driver};
 ghost use Rattle.script_ops.specs.Concrete.{go};
 ghost use Rattle.interrupt.specs.Points.{interrupt, meaning, Linked};
 
-// What an entry of the interrupt has found out: whether the setup flag is set, the transfer, whether its endpoint is isochronous, the frame (0
-// until it is read).
+// What an entry of the interrupt has found out: whether the setup flag is set, the transfer, whether its endpoint is
+// isochronous, the frame (0 until it is read).
 pub struct Entry {
     pub setup: bool,
     pub x: Transfer,
@@ -44,8 +44,8 @@ pub struct Entry {
     pub frame: u16,
 }
 
-// Where the interrupt stands: what it handed out last, with what the rest of it needs. First, of a transfer, comes whether the setup flag is
-// set, then the transfer, whether its endpoint is isochronous, the frame.
+// Where the interrupt stands: what it handed out last, with what the rest of it needs. First, of a transfer, comes
+// whether the setup flag is set, then the transfer, whether its endpoint is isochronous, the frame.
 pub enum Point {
     Frame, // frame_no is read, whose microframe index what the interrupt admits carries
     Flags, // int_fg is read

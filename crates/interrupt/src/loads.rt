@@ -34,7 +34,8 @@ use state::State;
 ghost use mathlib.Core.Path.{_≡_};
 ghost use Rattle.state.specs.State.{saved};
 ghost use Rattle.script.specs.Statics.{isOn};
-ghost use Rattle.interrupt.specs.Codec.{dirOf, transferOf, entryOf, nakOf, settleOf, toggledOf, completeOf, sofOf, lateOf, checkOf};
+ghost use Rattle.interrupt.specs.Codec.{dirOf, transferOf, entryOf, nakOf, settleOf, toggledOf, completeOf};
+ghost use Rattle.interrupt.specs.Codec.{sofOf, lateOf, checkOf};
 
 // Is the setup flag set?
 pub fn setup_at(s: &State) -> bool
@@ -87,7 +88,8 @@ pub fn nak_at(s: &State) -> Nak
 }
 
 pub fn settle_at(s: &State) -> Settle
-    ensures { λ r. ⌜ r ≡ settleOf (saved (now (s .entry)) .sub) (saved (now (s .entry)) .now) (saved (now (s .entry)) .n) ⌝ }
+    ensures { λ r. ⌜ r ≡ settleOf (saved (now (s .entry)) .sub) (saved (now (s .entry)) .now)
+        (saved (now (s .entry)) .n) ⌝ }
 {
     settle_of(sub_byte(s), now_byte(s), n_word(s))
 }
@@ -105,19 +107,22 @@ pub fn complete_at(s: &State) -> Complete
 }
 
 pub fn sof_at(s: &State) -> Sof
-    ensures { λ r. ⌜ r ≡ sofOf (saved (now (s .entry)) .sub) (saved (now (s .entry)) .ep) (saved (now (s .entry)) .eps) ⌝ }
+    ensures { λ r. ⌜ r ≡ sofOf (saved (now (s .entry)) .sub) (saved (now (s .entry)) .ep)
+        (saved (now (s .entry)) .eps) ⌝ }
 {
     sof_of(sub_byte(s), ep_byte(s), eps_word(s))
 }
 
 pub fn late_at(s: &State) -> Late
-    ensures { λ r. ⌜ r ≡ lateOf (saved (now (s .entry)) .sub) (saved (now (s .entry)) .ep) (saved (now (s .entry)) .eps) ⌝ }
+    ensures { λ r. ⌜ r ≡ lateOf (saved (now (s .entry)) .sub) (saved (now (s .entry)) .ep)
+        (saved (now (s .entry)) .eps) ⌝ }
 {
     late_of(sub_byte(s), ep_byte(s), eps_word(s))
 }
 
 pub fn check_at(s: &State) -> Check
-    ensures { λ r. ⌜ r ≡ checkOf (saved (now (s .entry)) .sub) (saved (now (s .entry)) .ep) (saved (now (s .entry)) .eps) ⌝ }
+    ensures { λ r. ⌜ r ≡ checkOf (saved (now (s .entry)) .sub) (saved (now (s .entry)) .ep)
+        (saved (now (s .entry)) .eps) ⌝ }
 {
     check_of(sub_byte(s), ep_byte(s), eps_word(s))
 }

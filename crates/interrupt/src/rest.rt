@@ -63,7 +63,8 @@ pub fn resume_setup_rx(s: &mut State) -> u64
 // and its IN.
 pub fn resume_setup_tx(s: &mut State, slots: &mut [u8]) -> u64
     requires { ⌜ AtSite 24 (now s) ⌝ }
-    ensures { λ r. ⌜ ((v : ℕ) → ResumesByWord r v (now (s .entry)) (now (slots .entry)) (now (s .exit)) (now (slots .exit))) ⌝ }
+    ensures { λ r. ⌜ ((v : ℕ) → ResumesByWord r v (now (s .entry)) (now (slots .entry)) (now (s .exit))
+        (now (slots .exit))) ⌝ }
 {
     after_setup_tx(s, slots)
 }

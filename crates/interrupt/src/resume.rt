@@ -1,5 +1,5 @@
-// The interrupt (`on_interrupt`, mod.rs 634-852) goes on: one function for each point, in the Rust's order. Each tests its own
-// reading's width (row 16) and loads its own point's parts.
+// The interrupt (`on_interrupt`, mod.rs 634-852) goes on: one function for each point, in the Rust's order. Each tests
+// its own reading's width (row 16) and loads its own point's parts.
 use crate::flags::after_bus_rst;
 use crate::flags::after_fifo;
 use crate::flags::after_flags;
@@ -217,7 +217,8 @@ pub fn resume_sof(s: &mut State, slots: &mut [u8], v: u32) -> u64
 // a late entry's completions (mod.rs 735-747).
 pub fn resume_late(s: &mut State, slots: &mut [u8]) -> u64
     requires { ⌜ AtSite 14 (now s) ⌝ }
-    ensures { λ r. ⌜ ((v : ℕ) → ResumesByWord r v (now (s .entry)) (now (slots .entry)) (now (s .exit)) (now (slots .exit))) ⌝ }
+    ensures { λ r. ⌜ ((v : ℕ) → ResumesByWord r v (now (s .entry)) (now (slots .entry)) (now (s .exit))
+        (now (slots .exit))) ⌝ }
 {
     let e = entry_at(s);
     let q = late_at(s);
@@ -255,7 +256,8 @@ pub fn resume_flip(s: &mut State, v: u32) -> u64
 // its toggle is flipped.
 pub fn resume_flipped(s: &mut State, slots: &mut [u8]) -> u64
     requires { ⌜ AtSite 17 (now s) ⌝ }
-    ensures { λ r. ⌜ ((v : ℕ) → ResumesByWord r v (now (s .entry)) (now (slots .entry)) (now (s .exit)) (now (slots .exit))) ⌝ }
+    ensures { λ r. ⌜ ((v : ℕ) → ResumesByWord r v (now (s .entry)) (now (slots .entry)) (now (s .exit))
+        (now (slots .exit))) ⌝ }
 {
     let d = dir_at(s);
     let e = entry_at(s);
@@ -279,7 +281,8 @@ pub fn resume_toggled(s: &mut State, slots: &mut [u8], v: u32) -> u64
 // an isochronous IN completes (mod.rs 772-777).
 pub fn resume_completing(s: &mut State, slots: &mut [u8]) -> u64
     requires { ⌜ AtSite 19 (now s) ⌝ }
-    ensures { λ r. ⌜ ((v : ℕ) → ResumesByWord r v (now (s .entry)) (now (slots .entry)) (now (s .exit)) (now (slots .exit))) ⌝ }
+    ensures { λ r. ⌜ ((v : ℕ) → ResumesByWord r v (now (s .entry)) (now (slots .entry)) (now (s .exit))
+        (now (slots .exit))) ⌝ }
 {
     let e = entry_at(s);
     let q = complete_at(s);

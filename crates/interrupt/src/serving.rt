@@ -40,7 +40,8 @@ fn after_late(s: &mut State, buf: &mut [u8], e: Entry) -> u64
 fn then_late(s: &mut State, buf: &mut [u8], e: Entry, n: LateNext) -> u64
     requires { ⌜ lates.Linked n ⌝ }
     ensures { λ r. ⌜ RunsOnWith r (λ t. finish (e .setup)
-        (bindOut (lates.meaning (e .frame) n (t .0) (t .1)) (λ _ u. run concrete (afterLate (e .x) (e .iso) (e .frame)) u)))
+        (bindOut (lates.meaning (e .frame) n (t .0) (t .1))
+        (λ _ u. run concrete (afterLate (e .x) (e .iso) (e .frame)) u)))
         (now (s .entry)) (now (buf .entry)) (now (s .exit)) (now (buf .exit)) ⌝ }
 {
     match n {
@@ -72,7 +73,8 @@ fn after_sof(s: &mut State, buf: &mut [u8], e: Entry) -> u64
 fn then_sof(s: &mut State, buf: &mut [u8], e: Entry, n: SofNext) -> u64
     requires { ⌜ sofs.Linked n ⌝ }
     ensures { λ r. ⌜ RunsOnWith r (λ t. finish (e .setup)
-        (bindOut (sofs.meaning (e .frame) n (t .0) (t .1)) (λ _ u. run concrete (afterSof (e .x) (e .iso) (e .frame)) u)))
+        (bindOut (sofs.meaning (e .frame) n (t .0) (t .1))
+        (λ _ u. run concrete (afterSof (e .x) (e .iso) (e .frame)) u)))
         (now (s .entry)) (now (buf .entry)) (now (s .exit)) (now (buf .exit)) ⌝ }
 {
     match n {

@@ -25,7 +25,8 @@ ghost use Rattle.script.specs.Script.{run};
 ghost use Rattle.script.specs.Statics.{withReady, withArmed, withSetup};
 ghost use Rattle.script_ops.specs.Concrete.{concrete};
 ghost use Rattle.script_ops.specs.Records.{plainOf, merged, mergedGlobals};
-ghost use Rattle.interrupt.specs.Continuations.{resultless, nakWord, afterSetupReleased, afterSetupTx, afterTransfer};
+ghost use Rattle.interrupt.specs.Continuations.{resultless, nakWord, afterSetupReleased, afterSetupTx};
+ghost use Rattle.interrupt.specs.Continuations.{afterTransfer};
 ghost use Rattle.interrupt.specs.declared.Point.the-variants as Point;
 ghost use Rattle.interrupt.specs.Stands.{RunsOn, RunsOnFrom, RunsOnFromWith};
 
@@ -55,7 +56,8 @@ pub fn after_setup_rx(s: &mut State) -> u64
 // EP0 in a direction: not ready, not armed.
 fn clear(s: &mut State, d: Dir)
     ensures { λ _. ⌜ view (now (s .exit)) ≡ withOn (view (now (s .entry))) d 0
-        (merged (epOn (view (now (s .entry))) d 0) (withArmed 0 (withReady 0 (plainOf (epOn (view (now (s .entry))) d 0))))) ⌝ }
+        (merged (epOn (view (now (s .entry))) d 0) (withArmed 0
+        (withReady 0 (plainOf (epOn (view (now (s .entry))) d 0))))) ⌝ }
     ensures { λ _. ⌜ saved (now (s .exit)) ≡ saved (now (s .entry)) ⌝ }
 {
     let mut r = load_ep(s, d, 0);
@@ -81,7 +83,8 @@ fn take(s: &mut State, buf: &[u8])
     ensures { λ _. ⌜ asks (Access.Write Reg.IntFg 0 SETUP_ACT) (
       view (now (s .exit)),
       now (buf .entry),
-    ) (λ _ t. run concrete (resultless afterSetupReleased) t) ≡ run concrete (resultless afterSetupTx) (view (now (s .entry)), now (buf .entry)) ⌝ }
+    ) (λ _ t. run concrete (resultless afterSetupReleased) t)
+        ≡ run concrete (resultless afterSetupTx) (view (now (s .entry)), now (buf .entry)) ⌝ }
     ensures { λ _. ⌜ saved (now (s .exit)) ≡ saved (now (s .entry)) ⌝ }
 {
     let low = setup_word(s, buf, 0);
@@ -93,7 +96,8 @@ fn take(s: &mut State, buf: &[u8])
 
 // The packet is taken in the call that clears the flag.
 pub fn after_setup_tx(s: &mut State, buf: &[u8]) -> u64
-    ensures { λ r. ⌜ RunsOnFromWith r Point.SetupTx (now (s .entry)) (now (buf .entry)) (now (s .exit)) (now (buf .entry)) ⌝ }
+    ensures { λ r. ⌜ RunsOnFromWith r Point.SetupTx (now (s .entry)) (now (buf .entry)) (now (s .exit))
+        (now (buf .entry)) ⌝ }
 {
     take(s, buf);
     stand_setup_released(s, flags::SETUP_ACT)

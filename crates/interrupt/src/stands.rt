@@ -1,5 +1,5 @@
-// The interrupt stands at a point, or ends: the saved record's 22 bytes are stored where the point is made, and its access is the
-// answer.
+// The interrupt stands at a point, or ends: the saved record's 22 bytes are stored where the point is made, and its
+// access is the answer.
 use crate::Entry;
 use crate::codec::check_as;
 use crate::codec::code;
@@ -56,7 +56,8 @@ fn store(s: &mut State, p: Saved)
 
 // The word of an access is made where the point is: of a register it is a number that the compiler knows.
 fn stand(s: &mut State, q: Access, p: Saved) -> u64
-    ensures { λ r. ⌜ Encodes r (Step.Asks q) × ((view (now (s .exit)) ≡ view (now (s .entry))) × (saved (now (s .exit)) ≡ withTag 6 p)) ⌝ }
+    ensures { λ r. ⌜ Encodes r (Step.Asks q) × ((view (now (s .exit)) ≡ view (now (s .entry)))
+        × (saved (now (s .exit)) ≡ withTag 6 p)) ⌝ }
 {
     store(s, p);
     asks(q)
@@ -150,7 +151,8 @@ pub fn stand_nak(s: &mut State, q: Access, setup: bool, x: Transfer, p: Nak) -> 
 
 // The transfer flag is cleared.
 pub fn stand_released(s: &mut State, value: u32, setup: bool, x: Transfer) -> u64
-    ensures { λ r. ⌜ Stands r (Access.Write Reg.IntFg 0 value) (Point.Released setup x) (now (s .entry)) (now (s .exit)) ⌝ }
+    ensures { λ r. ⌜ Stands r (Access.Write Reg.IntFg 0 value) (Point.Released setup x) (now (s .entry))
+        (now (s .exit)) ⌝ }
 {
     stand_write(s, Reg::IntFg, value, code(10, setup, x, 0, none(false)))
 }
@@ -164,7 +166,8 @@ pub fn stand_settle(s: &mut State, q: Access, setup: bool, x: Transfer, p: Settl
 
 // Frame_no is read.
 pub fn stand_frame_no(s: &mut State, e: Entry) -> u64
-    ensures { λ r. ⌜ Stands r (Access.Read Reg.FrameNo 0) (Point.FrameNo (e .setup) (e .x) (e .iso)) (now (s .entry)) (now (s .exit)) ⌝ }
+    ensures { λ r. ⌜ Stands r (Access.Read Reg.FrameNo 0) (Point.FrameNo (e .setup) (e .x) (e .iso)) (now (s .entry))
+        (now (s .exit)) ⌝ }
 {
     stand_read(s, Reg::FrameNo, code(12, e.setup, e.x, 0, none(e.iso)))
 }
@@ -178,14 +181,16 @@ pub fn stand_sof(s: &mut State, q: Access, e: Entry, p: Sof) -> u64
 
 // A late entry's completions.
 pub fn stand_late(s: &mut State, q: Access, e: Entry, p: Late) -> u64
-    ensures { λ r. ⌜ Stands r q (Point.Late (e .setup) (e .x) (e .iso) (e .frame) p) (now (s .entry)) (now (s .exit)) ⌝ }
+    ensures { λ r. ⌜ Stands r q (Point.Late (e .setup) (e .x) (e .iso) (e .frame) p) (now (s .entry))
+        (now (s .exit)) ⌝ }
 {
     stand(s, q, code(14, e.setup, e.x, e.frame, late_as(e.iso, p)))
 }
 
 // The arm of SOF.
 pub fn stand_sof_arm(s: &mut State, q: Access, e: Entry, p: Sof) -> u64
-    ensures { λ r. ⌜ Stands r q (Point.SofArm (e .setup) (e .x) (e .iso) (e .frame) p) (now (s .entry)) (now (s .exit)) ⌝ }
+    ensures { λ r. ⌜ Stands r q (Point.SofArm (e .setup) (e .x) (e .iso) (e .frame) p) (now (s .entry))
+        (now (s .exit)) ⌝ }
 {
     stand(s, q, code(15, e.setup, e.x, e.frame, sof_as(e.iso, p)))
 }

@@ -22,7 +22,7 @@ ghost use Rattle.script.specs.Statics.{flag};
 ghost use Rattle.script_ops.specs.Means.{Means, MeansFrom};
 ghost use Rattle.script_ops.specs.Concrete.{concrete};
 ghost use Rattle.script_ops.specs.Records.{plainOf};
-ghost use Rattle.interrupt.specs.Toggled.{afterWait, afterWord, denote, meaning, Linked, fitsAt};
+ghost use Rattle.interrupt.specs.Toggled.{afterWord, denote, meaning, Linked, fitsAt};
 
 // Where it stands.
 pub enum Toggled {
@@ -75,7 +75,8 @@ fn repeated(r: EpState, word: u8) -> bool
 // No new packet: a request still waiting gets its endpoint back. Or the packet's toggle is recorded.
 fn after_word(s: &mut State, dir: Dir, ep: u8, v: u32) -> ToggledNext
     requires { ⌜ fitsIn v 8 ≡ true ⌝ }
-    ensures { λ r. ⌜ MeansFrom (meaning dir ep r) (Linked r) (run concrete (afterWord dir ep v)) (now (s .entry)) (now (s .exit)) ⌝ }
+    ensures { λ r. ⌜ MeansFrom (meaning dir ep r) (Linked r) (run concrete (afterWord dir ep v)) (now (s .entry))
+        (now (s .exit)) ⌝ }
 {
     let word = byte(v);
     let mut r = load_ep(s, dir, ep);

@@ -52,7 +52,8 @@ ghost use Rattle.interrupt.specs.Stands.{RunsOn, RunsOnWith, RunsOnFromW
 
 // A packet arrived (mod.rs 767-770).
 fn received(s: &mut State, ep: u8, len: u16)
-    ensures { λ _. ⌜ ((b : List ℕ) → ends tt (view (now (s .exit)), b) ≡ go {i = true} (script.received ep len) (view (now (s .entry))) b) ⌝ }
+    ensures { λ _. ⌜ ((b : List ℕ) → ends tt (view (now (s .exit)), b)
+        ≡ go {i = true} (script.received ep len) (view (now (s .entry))) b) ⌝ }
     ensures { λ _. ⌜ saved (now (s .exit)) ≡ saved (now (s .entry)) ⌝ }
 {
     let mut r = load_ep(s, Dir::Out, ep);
@@ -65,7 +66,8 @@ fn received(s: &mut State, ep: u8, len: u16)
 
 // A packet went out (mod.rs 786-787).
 fn sent(s: &mut State, ep: u8)
-    ensures { λ _. ⌜ ((b : List ℕ) → ends tt (view (now (s .exit)), b) ≡ go {i = true} (script.sent ep) (view (now (s .entry))) b) ⌝ }
+    ensures { λ _. ⌜ ((b : List ℕ) → ends tt (view (now (s .exit)), b)
+        ≡ go {i = true} (script.sent ep) (view (now (s .entry))) b) ⌝ }
     ensures { λ _. ⌜ saved (now (s .exit)) ≡ saved (now (s .entry)) ⌝ }
 {
     let mut r = load_ep(s, Dir::In, ep);
@@ -75,7 +77,8 @@ fn sent(s: &mut State, ep: u8)
 }
 
 fn passed(s: &mut State, d: Dir, ep: u8, len: u16)
-    ensures { λ _. ⌜ ((b : List ℕ) → ends tt (view (now (s .exit)), b) ≡ go (passed d ep len) (view (now (s .entry))) b) ⌝ }
+    ensures { λ _. ⌜ ((b : List ℕ) → ends tt (view (now (s .exit)), b)
+        ≡ go (passed d ep len) (view (now (s .entry))) b) ⌝ }
     ensures { λ _. ⌜ saved (now (s .exit)) ≡ saved (now (s .entry)) ⌝ }
 {
     match d {
@@ -85,7 +88,8 @@ fn passed(s: &mut State, d: Dir, ep: u8, len: u16)
 }
 
 fn flip_done(s: &mut State, d: Dir, len: u16)
-    ensures { λ _. ⌜ ((b : List ℕ) → ends tt (view (now (s .exit)), b) ≡ go (flipDone d len) (view (now (s .entry))) b) ⌝ }
+    ensures { λ _. ⌜ ((b : List ℕ) → ends tt (view (now (s .exit)), b)
+        ≡ go (flipDone d len) (view (now (s .entry))) b) ⌝ }
     ensures { λ _. ⌜ saved (now (s .exit)) ≡ saved (now (s .entry)) ⌝ }
 {
     match d {
@@ -100,7 +104,8 @@ fn flip_done(s: &mut State, d: Dir, len: u16)
 }
 
 pub fn after_flipped(s: &mut State, buf: &mut [u8], d: Dir, e: Entry) -> u64
-    ensures { λ r. ⌜ RunsOnFromWith r (Point.Flipped d (e .setup) (e .x) (e .iso)) (now (s .entry)) (now (buf .entry)) (now (s .exit)) (now (buf .exit)) ⌝ }
+    ensures { λ r. ⌜ RunsOnFromWith r (Point.Flipped d (e .setup) (e .x) (e .iso)) (now (s .entry)) (now (buf .entry))
+        (now (s .exit)) (now (buf .exit)) ⌝ }
 {
     flip_done(s, d, e.x.len);
     after_dispatch(s, buf, e)
@@ -130,7 +135,8 @@ fn after_passing(s: &mut State, buf: &mut [u8], d: Dir, e: Entry, b: bool) -> u6
 fn then_toggled(s: &mut State, buf: &mut [u8], d: Dir, e: Entry, n: ToggledNext) -> u64
     requires { ⌜ toggles.Linked n ⌝ }
     ensures { λ r. ⌜ RunsOnWith r (λ t. afterArm e
-        (bindOut (toggles.meaning d (endpoint (e .x .st)) n (t .0) (t .1)) (λ b u. run concrete (afterToggled d (e .x) b) u)))
+        (bindOut (toggles.meaning d (endpoint (e .x .st)) n (t .0) (t .1))
+        (λ b u. run concrete (afterToggled d (e .x) b) u)))
         (now (s .entry)) (now (buf .entry)) (now (s .exit)) (now (buf .exit)) ⌝ }
 {
     match n {
@@ -151,7 +157,8 @@ pub fn after_toggled(s: &mut State, buf: &mut [u8], d: Dir, e: Entry, p: Toggled
 // Bulk and interrupt (mod.rs 759, 778).
 fn toggled_arm(s: &mut State, buf: &mut [u8], d: Dir, e: Entry) -> u64
     ensures { λ r. ⌜ RunsOnWith r (λ t. afterArm e
-        (bindOut (run concrete (script.toggled {i = true} d (endpoint (e .x .st))) t) (λ b u. run concrete (afterToggled d (e .x) b) u)))
+        (bindOut (run concrete (script.toggled {i = true} d (endpoint (e .x .st))) t)
+        (λ b u. run concrete (afterToggled d (e .x) b) u)))
         (now (s .entry)) (now (buf .entry)) (now (s .exit)) (now (buf .exit)) ⌝ }
 {
     let n = toggled::begin(d, status::endpoint(e.x.st));
@@ -199,7 +206,8 @@ pub fn after_completing(s: &mut State, buf: &mut [u8], e: Entry, p: Complete) ->
 
 // One isochronous IN per microframe, where it is not paced (mod.rs 772-777).
 fn iso_in_arm(s: &mut State, buf: &mut [u8], e: Entry) -> u64
-    ensures { λ r. ⌜ RunsOnWith r (λ t. afterArm e (run concrete (script.isoInArm {i = true} (endpoint (e .x .st)) (e .frame)) t))
+    ensures { λ r. ⌜ RunsOnWith r (λ t. afterArm e (run concrete
+        (script.isoInArm {i = true} (endpoint (e .x .st)) (e .frame)) t))
         (now (s .entry)) (now (buf .entry)) (now (s .exit)) (now (buf .exit)) ⌝ }
 {
     let ep = status::endpoint(e.x.st);
@@ -220,7 +228,8 @@ fn iso_in_arm(s: &mut State, buf: &mut [u8], e: Entry) -> u64
 
 // The arms of IN (mod.rs 772-788).
 fn in_arm(s: &mut State, buf: &mut [u8], e: Entry) -> u64
-    ensures { λ r. ⌜ RunsOnWith r (λ t. afterArm e (run concrete (script.inArm {i = true} (e .x) (e .iso) (e .frame)) t))
+    ensures { λ r. ⌜ RunsOnWith r (λ t. afterArm e (run concrete (script.inArm {i = true} (e .x) (e .iso) (e .frame))
+        t))
         (now (s .entry)) (now (buf .entry)) (now (s .exit)) (now (buf .exit)) ⌝ }
 {
     if e.iso {
@@ -260,7 +269,8 @@ pub fn after_sof_arm(s: &mut State, buf: &mut [u8], e: Entry, p: Sof, v: u32) ->
 // SOF's own (mod.rs 750-754), after which nothing of the transfer is left.
 fn sof_arm(s: &mut State, e: Entry) -> u64
     requires { ⌜ isSof (e .x .st) ≡ true ⌝ }
-    ensures { λ r. ⌜ RunsOn r (λ t. afterArm e (run concrete (script.sofArm {i = true} (e .frame)) t)) (now (s .entry)) (now (s .exit)) ⌝ }
+    ensures { λ r. ⌜ RunsOn r (λ t. afterArm e (run concrete (script.sofArm {i = true} (e .frame)) t)) (now (s .entry))
+        (now (s .exit)) ⌝ }
 {
     let g = load_globals(s);
     if g.sof_frame == e.frame {
@@ -274,7 +284,8 @@ fn sof_arm(s: &mut State, e: Entry) -> u64
 }
 
 pub fn dispatch(s: &mut State, buf: &mut [u8], e: Entry) -> u64
-    ensures { λ r. ⌜ RunsOnWith r (λ t. afterArm e (run concrete (script.dispatch {i = true} (token (e .x .st)) (e .x) (e .iso) (e .frame)) t))
+    ensures { λ r. ⌜ RunsOnWith r (λ t. afterArm e (run concrete
+        (script.dispatch {i = true} (token (e .x .st)) (e .x) (e .iso) (e .frame)) t))
         (now (s .entry)) (now (buf .entry)) (now (s .exit)) (now (buf .exit)) ⌝ }
 {
     let t = status::token(e.x.st);

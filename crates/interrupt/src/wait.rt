@@ -1,6 +1,6 @@
 use regs::mis_status;
 ghost use mathlib.Core.Path.{_≡_};
-ghost use mathlib.Core.Bool.{true, false};
+ghost use mathlib.Core.Bool.{true};
 ghost use Rattle.regs.specs.Registers.{fitsIn};
 ghost use Rattle.interrupt.specs.Wait.{over};
 

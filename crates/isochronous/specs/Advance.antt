@@ -30,7 +30,8 @@ advance e = do
 
 -- the completions, then their microframe is kept
 abbrev pub thenKept : ℕ → ℕ → tree.Out St Unit → tree.Out St ℕ
-thenKept e frame o = bindOut (bindOut o (λ _ u. run concrete (put {i = false} (paced-cell e) frame) u)) (λ _ u. ends 0 u)
+thenKept e frame o = bindOut (bindOut o (λ _ u. run concrete (put {i = false} (paced-cell e) frame) u))
+    (λ _ u. ends 0 u)
 
 -- n completions are left
 unfoldable pub completing : ℕ → ℕ → ℕ → tree.Prog St ℕ

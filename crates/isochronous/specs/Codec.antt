@@ -1,4 +1,5 @@
--- A paced advance's point as numbers, and back: which point, its endpoint, the completions left, their microframe, and the completion's endpoint
+-- A paced advance's point as numbers, and back: which point, its endpoint, the completions left, their microframe, and
+-- the completion's endpoint
 use mathlib.Core.Bool.{cond}
 use Prim.Native.Nat.{ℕ}
 use lib.Dec.{eqb}

@@ -53,7 +53,8 @@ unfolding isSet
 set-above w e h k =
     ⊎-elim
     (λ (z : bit w e ≡ 0). rw z refl)
-    (λ (o : bit w e ≡ 1). let l = bit-le w e o in let m : 2 ^ 16 ≤ 2 ^ e = pow-mono {i = 16} {j = e} k in absurd (omega arith))
+    (λ (o : bit w e ≡ 1). let l = bit-le w e o in let m : 2 ^ 16 ≤ 2 ^ e
+    = pow-mono {i = 16} {j = e} k in absurd (omega arith))
     (bit-cases w e)
 
 -- a reading of 8 bits or less is a byte
@@ -85,14 +86,16 @@ fits-st p v e m h fits = wider v 7 (omega arith) (ap (λ (q : Sof). sof.fitsAt q
 abbrev asked : Access → Complete → Driver → List ℕ → tree.Out St Unit
 asked q p d b = asks q (d, b) (λ _ t. complete.denote p t)
 
-pub next-linked : (n : CompleteNext) (q : Access) (p : Complete) → n ≡ next.Asks q p → complete.Linked n → awaited q ≡ nothing
+pub next-linked : (n : CompleteNext) (q : Access) (p : Complete) → n ≡ next.Asks q p → complete.Linked n → awaited q
+    ≡ nothing
 next-linked n q p h l = subst complete.Linked h l
 
 next-asked : (n : CompleteNext) (q : Access) (p : Complete) (d : Driver) (b : List ℕ) (o : tree.Out St Unit)
     → n ≡ next.Asks q p → complete.meaning n d b ≡ o → asked q p d b ≡ o
 next-asked n q p d b o h k = ap (λ (x : CompleteNext). complete.meaning x d b) (sym h) ∙ k
 
-next-ended : (n : CompleteNext) (d : Driver) (b : List ℕ) (o : tree.Out St Unit) → n ≡ next.Ends → complete.meaning n d b ≡ o → ends tt (d, b) ≡ o
+next-ended : (n : CompleteNext) (d : Driver) (b : List ℕ) (o : tree.Out St Unit) → n ≡ next.Ends
+    → complete.meaning n d b ≡ o → ends tt (d, b) ≡ o
 next-ended n d b o h k = ap (λ (x : CompleteNext). complete.meaning x d b) (sym h) ∙ k
 
 -- ---- the SOF's walk
@@ -116,7 +119,8 @@ abbrev pub sofAt : ℕ → ℕ → ℕ → Bool → tree.Prog St Unit
 sofAt frame e m passed t = cond passed (sof.walking frame m t) (sof.looked frame (found.At e m) t)
 
 abbrev sofWith : ℕ → ℕ → ℕ → Bool → tree.Prog St Unit
-sofWith frame e m passed t = sof.thenWalk frame m (cond passed (ends tt t) (asks (Read MisSt 0) t (λ v u. run concrete (sof.afterMis frame e v) u)))
+sofWith frame e m passed t = sof.thenWalk frame m (cond passed (ends tt t)
+    (asks (Read MisSt 0) t (λ v u. run concrete (sof.afterMis frame e v) u)))
 
 sof-told : (frame e m : ℕ) (t : St) (passed : Bool) → sofWith frame e m passed t ≡ sofAt frame e m passed t
 unfolding sof.walking
@@ -144,7 +148,8 @@ sof-step frame m e k t r x passed p l he hk hr hx hp =
     ∙ sof-cons frame e k t passed (ap (λ (z : EpState). inPrevious (z .«last_frame») frame) (sym hr) ∙ (sym hx ∙ hp))))
 
 entered : (frame : ℕ) (d : Driver) (b : List ℕ)
-    → sof.walking frame (isoInEvery (withSofFrame frame (d .globals))) (withGlobals d (withSofFrame frame (d .globals)), b)
+    → sof.walking frame (isoInEvery (withSofFrame frame (d .globals)))
+    (withGlobals d (withSofFrame frame (d .globals)), b)
     ≡ go {i = true} (onSof frame) d b
 unfolding sof.walking
 entered frame d b = refl
@@ -157,11 +162,13 @@ pub sof-entered : (frame m : ℕ) (d x : Driver) (g : Globals) (b : List ℕ)
 sof-entered frame m d x g b hg hx hm =
     ap (λ (z : ℕ). sof.walking frame z (x, b)) hm
     ∙ (ap (λ (z : Driver). sof.walking frame (isoInEvery (withSofFrame frame g)) (z, b)) hx
-    ∙ (ap (λ (z : Globals). sof.walking frame (isoInEvery (withSofFrame frame z)) (withGlobals d (withSofFrame frame z), b)) hg
+    ∙ (ap (λ (z : Globals). sof.walking frame (isoInEvery (withSofFrame frame z))
+    (withGlobals d (withSofFrame frame z), b)) hg
     ∙ entered frame d b))
 
 unseen-framed : (frame e : ℕ) (d : Driver) (b : List ℕ)
-    → go {i = true} (isoInComplete e) (framedOn d e (frameOf (previous (indexOf frame)))) b ≡ go {i = true} (unseen frame e) d b
+    → go {i = true} (isoInComplete e) (framedOn d e (frameOf (previous (indexOf frame)))) b
+    ≡ go {i = true} (unseen frame e) d b
 unfolding framedOn
 unseen-framed frame e d b = refl
 
@@ -169,13 +176,15 @@ pub sof-begun : (frame e m k : ℕ) (q : Access) (p : Complete) (d x y : Driver)
     → asked q p y b ≡ go {i = true} (isoInComplete e) x b
     → x ≡ framedOn d e k
     → k ≡ frameOf (previous (indexOf frame))
-    → asks q (y, b) (λ _ t. sof.thenWalk frame m (complete.denote p t)) ≡ sof.thenWalk frame m (go {i = true} (unseen frame e) d b)
+    → asks q (y, b) (λ _ t. sof.thenWalk frame m (complete.denote p t))
+    ≡ sof.thenWalk frame m (go {i = true} (unseen frame e) d b)
 sof-begun frame e m k q p d x y b h hx hk =
     ap (sof.thenWalk frame m) (h
     ∙ (ap (λ (z : Driver). go {i = true} (isoInComplete e) z b) (hx ∙ ap (framedOn d e) hk)
     ∙ unseen-framed frame e d b))
 
-pub sof-more : (frame m : ℕ) (n : CompleteNext) (q : Access) (p : Complete) (d : Driver) (b : List ℕ) (o : tree.Out St Unit)
+pub sof-more : (frame m : ℕ) (n : CompleteNext) (q : Access) (p : Complete) (d : Driver) (b : List ℕ)
+    (o : tree.Out St Unit)
     → n ≡ next.Asks q p
     → complete.meaning n d b ≡ o
     → asks q (d, b) (λ _ t. sof.thenWalk frame m (complete.denote p t)) ≡ sof.thenWalk frame m o
@@ -212,7 +221,8 @@ abbrev pub lateAt : ℕ → ℕ → ℕ → Bool → tree.Prog St Unit
 lateAt frame e m first t = cond first (late.looked frame (found.At e m) t) (late.walking frame m t)
 
 abbrev lateWith : ℕ → ℕ → ℕ → Bool → tree.Prog St Unit
-lateWith frame e m first t = bindOut (cond first (run concrete (isoInComplete {i = true} e) t) (ends tt t)) (λ _ u. lateOver frame (setBits m) u)
+lateWith frame e m first t = bindOut (cond first (run concrete (isoInComplete {i = true} e) t) (ends tt t))
+    (λ _ u. lateOver frame (setBits m) u)
 
 late-told : (frame e m : ℕ) (t : St) (first : Bool) → lateWith frame e m first t ≡ lateAt frame e m first t
 unfolding late.walking
@@ -222,7 +232,8 @@ late-told frame e m t false = refl
 late-cons : (frame e m : ℕ) (d : Driver) (b : List ℕ) (first : Bool)
     → isFirst d e frame ≡ first → lateOver frame (e ∷ setBits m) (d, b) ≡ lateAt frame e m first (framedOn d e frame, b)
 unfolding lateWalk isFirst framedOn
-late-cons frame e m d b first h = ap (λ (x : Bool). lateWith frame e m x (framedOn d e frame, b)) h ∙ late-told frame e m (framedOn d e frame, b) first
+late-cons frame e m d b first h = ap (λ (x : Bool). lateWith frame e m x (framedOn d e frame, b)) h
+    ∙ late-told frame e m (framedOn d e frame, b) first
 
 pub late-step : (frame m e k : ℕ) (d y : Driver) (b : List ℕ) (x first : Bool)
     → 0 < m
@@ -245,9 +256,11 @@ pub late-at : (frame e m : ℕ) (f : Found) (q : Access) (p : Complete) (d y : D
     → late.looked frame f (d, b) ≡ o
     → asked q p y b ≡ go {i = true} (isoInComplete e) d b
     → asks q (y, b) (λ _ t. late.thenWalk frame m (complete.denote p t)) ≡ o
-late-at frame e m f q p d y b o hf ho h = ap (late.thenWalk frame m) h ∙ (ap (λ (x : Found). late.looked frame x (d, b)) (sym hf) ∙ ho)
+late-at frame e m f q p d y b o hf ho h = ap (late.thenWalk frame m) h
+    ∙ (ap (λ (x : Found). late.looked frame x (d, b)) (sym hf) ∙ ho)
 
-pub late-more : (frame m : ℕ) (n : CompleteNext) (q : Access) (p : Complete) (d : Driver) (b : List ℕ) (o : tree.Out St Unit)
+pub late-more : (frame m : ℕ) (n : CompleteNext) (q : Access) (p : Complete) (d : Driver) (b : List ℕ)
+    (o : tree.Out St Unit)
     → n ≡ next.Asks q p
     → complete.meaning n d b ≡ o
     → asks q (d, b) (λ _ t. late.thenWalk frame m (complete.denote p t)) ≡ late.thenWalk frame m o
@@ -265,28 +278,34 @@ none : (e frame : ℕ) (d : Driver) (b : List ℕ) → advance.completing e 0 fr
 unfolding advance.completing isoInCompletions
 none e frame d b = refl
 
-pub paced-none : (e n frame : ℕ) (d : Driver) (b : List ℕ) → n ≡ 0 → advance.completing e n frame (d, b) ≡ ends 0 (withPacedOn d e frame, b)
+pub paced-none : (e n frame : ℕ) (d : Driver) (b : List ℕ) → n ≡ 0 → advance.completing e n frame (d, b)
+    ≡ ends 0 (withPacedOn d e frame, b)
 paced-none e n frame d b h = ap (λ (x : ℕ). advance.completing e x frame (d, b)) h ∙ none e frame d b
 
-more : (e n frame : ℕ) (t : St) → advance.completing e (suc n) frame t ≡ advance.thenMore e n frame (run concrete (isoInComplete {i = true} e) t)
+more : (e n frame : ℕ) (t : St) → advance.completing e (suc n) frame t
+    ≡ advance.thenMore e n frame (run concrete (isoInComplete {i = true} e) t)
 unfolding advance.completing isoInCompletions
 more e n frame t = refl
 
 less : (n : ℕ) → suc n - 1 ≡ n
 less n = omega arith
 
-some : (e n frame : ℕ) (t : St) → n ≢ 0 → advance.completing e n frame t ≡ advance.thenMore e (n - 1) frame (run concrete (isoInComplete {i = true} e) t)
+some : (e n frame : ℕ) (t : St) → n ≢ 0 → advance.completing e n frame t
+    ≡ advance.thenMore e (n - 1) frame (run concrete (isoInComplete {i = true} e) t)
 some e zero frame t h = absurd (h refl)
-some e (suc n) frame t h = more e n frame t ∙ ap (λ (k : ℕ). advance.thenMore e k frame (run concrete (isoInComplete {i = true} e) t)) (sym (less n))
+some e (suc n) frame t h = more e n frame t ∙ ap (λ (k : ℕ). advance.thenMore e k frame
+    (run concrete (isoInComplete {i = true} e) t)) (sym (less n))
 
 -- by the point at which the completion stands
 pub paced-begun : (e n frame : ℕ) (x : Begun) (p : Complete) (d y : Driver) (b : List ℕ)
     → n ≢ 0
     → x .point ≡ p
     → complete.begun x y b ≡ go {i = true} (isoInComplete e) d b
-    → asks (x .access) (y, b) (λ _ t. advance.thenMore e (n - 1) frame (complete.denote p t)) ≡ advance.completing e n frame (d, b)
+    → asks (x .access) (y, b) (λ _ t. advance.thenMore e (n - 1) frame (complete.denote p t))
+    ≡ advance.completing e n frame (d, b)
 paced-begun e n frame x p d y b z k h =
-    ap (advance.thenMore e (n - 1) frame) (ap (λ (r : Complete). asked (x .access) r y b) (sym k) ∙ h) ∙ sym (some e n frame (d, b) z)
+    ap (advance.thenMore e (n - 1) frame) (ap (λ (r : Complete). asked (x .access) r y b) (sym k) ∙ h)
+    ∙ sym (some e n frame (d, b) z)
 
 -- one is done
 pub paced-on : (e m frame : ℕ) (t : St) → advance.completing e m frame t ≡ advance.thenMore e m frame (ends tt t)
@@ -317,7 +336,8 @@ sorted e d b paced on = bindOut (first e d b paced on) (λ _ u. ends 0 u)
 module _ (e : ℕ) (d : Driver) (b : List ℕ) where
   of-sort : (paced on : Bool) → isSet (d .globals .«iso_in_paced») e ≡ paced
       → enables.isOn (d .globals .«ep_config») In e ≡ on → go (advance.advance e) d b ≡ sorted e d b paced on
-  of-sort paced on h k = ap (λ (x : Bool). sorted e d b x (enables.isOn (d .globals .«ep_config») In e)) h ∙ ap (λ (x : Bool). sorted e d b paced x) k
+  of-sort paced on h k = ap (λ (x : Bool). sorted e d b x (enables.isOn (d .globals .«ep_config») In e)) h
+      ∙ ap (λ (x : Bool). sorted e d b paced x) k
 
   reads : sorted e d b true true ≡ asks (Read FrameNo 0) (d, b) (λ v t. advance.afterFrameNo e v t)
   unfolding advance.completing
@@ -327,7 +347,8 @@ module _ (e : ℕ) (d : Driver) (b : List ℕ) where
       → go (advance.advance e) d b ≡ asks (Read FrameNo 0) (d, b) (λ v t. advance.afterFrameNo e v t)
   advance-reads h k = of-sort true true h k ∙ reads
 
-  pub advance-forgets : isSet (d .globals .«iso_in_paced») e ≡ true → enables.isOn (d .globals .«ep_config») In e ≡ false
+  pub advance-forgets : isSet (d .globals .«iso_in_paced») e ≡ true → enables.isOn (d .globals .«ep_config») In e
+      ≡ false
       → go (advance.advance e) d b ≡ ends 0 (withPacedOn d e NO_FRAME, b)
   advance-forgets h k = of-sort true false h k
 

@@ -23,7 +23,8 @@ abbrev queued-as : ℕ → List ℕ → Driver → List ℕ → Bool → Bool �
 queued-as e bytes d b on long iso free =
     cond on
     (cond long (ends (Refused 10) (d, b))
-    (cond (not iso) (ends (Refused 11) (d, b)) (cond free (ends ok (enqueueOn e bytes (d, b))) (ends (Refused 13) (d, b)))))
+    (cond (not iso) (ends (Refused 11) (d, b)) (cond free (ends ok (enqueueOn e bytes (d, b)))
+    (ends (Refused 13) (d, b)))))
     (ends (Refused 9) (d, b))
 
 pub queue-by : (e : ℕ) (bytes : List ℕ) (d : Driver) (b : List ℕ) (on long iso free : Bool)
@@ -32,7 +33,8 @@ pub queue-by : (e : ℕ) (bytes : List ℕ) (d : Driver) (b : List ℕ) (on long
     → queued-as e bytes d b on long iso free ≡ go (queueing e bytes) d b
 queue-by e bytes d b on long iso free h k m n = rw (← h, ← k, ← m, ← n) refl
 
-pub queue-ok : (e : ℕ) (bytes : List ℕ) (d x : Driver) (b y : List ℕ) → enables.isOn (d .globals .«ep_config») In e ≡ true
+pub queue-ok : (e : ℕ) (bytes : List ℕ) (d x : Driver) (b y : List ℕ) → enables.isOn (d .globals .«ep_config») In e
+    ≡ true
     → ltb (d .allocator .size) (length bytes) ≡ false → isOn (epOn d In e .iso) ≡ true
     → roomOn d e (length bytes) ≡ true → x ≡ enqueueOn e bytes (d, b) .0 → y ≡ enqueueOn e bytes (d, b) .1
     → answered packet.Ok x y ≡ go (queueing e bytes) d b

@@ -36,7 +36,8 @@ walking frame m t = bindOut (run concrete (sofWalk {i = true} frame (setBits m))
 
 -- one endpoint's outcome, then those of a mask
 abbrev pub thenWalk : ℕ → ℕ → tree.Out St Unit → tree.Out St Unit
-thenWalk frame m o = bindOut (bindOut o (λ _ u. run concrete (sofWalk {i = true} frame (setBits m)) u)) (λ _ u. called u)
+thenWalk frame m o = bindOut (bindOut o (λ _ u. run concrete (sofWalk {i = true} frame (setBits m)) u))
+    (λ _ u. called u)
 
 abbrev pub afterSt : ℕ → ℕ → ℕ → Script true Unit
 afterSt frame e st = test (leaving st e) done (unseen frame e)

@@ -1,4 +1,5 @@
-// `iso_in_advance` (mod.rs 323-340): a paced endpoint completes once for each microframe since the last advance, three times at most.
+// `iso_in_advance` (mod.rs 323-340): a paced endpoint completes once for each microframe since the last advance, three
+// times at most.
 use crate::complete::Complete;
 use bits::mask_has;
 use regs::Access;

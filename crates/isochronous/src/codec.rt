@@ -5,7 +5,8 @@ use state::Saved;
 ghost use mathlib.Core.Path.{_≡_};
 ghost use Rattle.isochronous.specs.Codec.{code, completingAs, encode};
 
-// Which point it is, its endpoint, the completions left, their microframe, and the completion's endpoint. All else is zero.
+// Which point it is, its endpoint, the completions left, their microframe, and the completion's endpoint. All else is
+// zero.
 pub fn code(sub: u8, e: u8, left: u8, frame: u16, of: u8) -> Saved
     ensures { λ r. ⌜ r ≡ code sub e left frame of ⌝ }
 {

@@ -50,14 +50,16 @@ fn iso_in_load(s: &mut State, e: u8) -> Begun
 
 // What went out is counted, the next is loaded.
 pub fn start(s: &mut State, e: u8) -> Begun
-    ensures { λ r. ⌜ MeansFrom (begun r) (Bound r) (run concrete (isoInComplete {i = true} e)) (now (s .entry)) (now (s .exit)) ⌝ }
+    ensures { λ r. ⌜ MeansFrom (begun r) (Bound r) (run concrete (isoInComplete {i = true} e)) (now (s .entry))
+        (now (s .exit)) ⌝ }
 {
     script_ops::rings::complete(s, e);
     iso_in_load(s, e)
 }
 
 pub fn iso_in_complete(s: &mut State, e: u8) -> CompleteNext
-    ensures { λ r. ⌜ MeansFrom (meaning r) (Linked r) (run concrete (isoInComplete {i = true} e)) (now (s .entry)) (now (s .exit)) ⌝ }
+    ensures { λ r. ⌜ MeansFrom (meaning r) (Linked r) (run concrete (isoInComplete {i = true} e)) (now (s .entry))
+        (now (s .exit)) ⌝ }
 {
     let x = start(s, e);
     let q = x.access;

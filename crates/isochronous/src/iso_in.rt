@@ -1,4 +1,5 @@
-// Isochronous IN (mod.rs 323-340, 397-414, 558-608, 736-746), one access at a time. Every function is total: any number is safe.
+// Isochronous IN (mod.rs 323-340, 397-414, 558-608, 736-746), one access at a time. Every function is total: any number
+// is safe.
 
 use bits::mask_except;
 use regs::Dir;

@@ -33,7 +33,8 @@ pub enum LateNext {
 
 // Passes over those that completed in this microframe; it is recorded of each that is reached.
 fn find(s: &mut State, frame: u16, m: u16) -> Found
-    ensures { λ r. ⌜ ((b : List ℕ) → looked frame r (view (now (s .exit)), b) ≡ walking frame m (view (now (s .entry)), b)) ⌝ }
+    ensures { λ r. ⌜ ((b : List ℕ) → looked frame r (view (now (s .exit)), b)
+        ≡ walking frame m (view (now (s .entry)), b)) ⌝ }
     ensures { λ _. ⌜ saved (now (s .exit)) ≡ saved (now (s .entry)) ⌝ }
 {
     let mut eps = m;
@@ -64,7 +65,8 @@ fn walk(s: &mut State, frame: u16, m: u16) -> LateNext
 }
 
 pub fn begin(s: &mut State, frame: u16) -> LateNext
-    ensures { λ r. ⌜ MeansFrom (meaning frame r) (Linked r) (run concrete (lateAll frame)) (now (s .entry)) (now (s .exit)) ⌝ }
+    ensures { λ r. ⌜ MeansFrom (meaning frame r) (Linked r) (run concrete (lateAll frame)) (now (s .entry))
+        (now (s .exit)) ⌝ }
 {
     let g = load_globals(s);
     walk(s, frame, iso_in_every(g))

@@ -1,4 +1,5 @@
-// isochronous IN: completions, the SOF, late entries, paced advance; isochronous OUT: arrivals; packets opened and closed in place; packets queued in place.
+// isochronous IN: completions, the SOF, late entries, paced advance; isochronous OUT: arrivals; packets opened and
+// closed in place; packets queued in place.
 pub mod iso_in; // iso_in.rt: isochronous IN: completions, the SOF, late entries, paced advance
 pub mod advance; // advance.rt: a paced endpoint's completions
 pub mod codec; // codec.rt: an advance's point as numbers

@@ -1,5 +1,5 @@
-// An isochronous OUT's oldest packet opened and closed in place (mod.rs 253-271). No access is handed out; rows 1 and 3 are the caller's. Every function is
-// total: any number is safe.
+// An isochronous OUT's oldest packet opened and closed in place (mod.rs 253-271). No access is handed out; rows 1 and 3
+// are the caller's. Every function is total: any number is safe.
 use regs::Dir;
 use script_ops::rings::close_oldest;
 use script_ops::rings::is_on;
@@ -51,7 +51,8 @@ fn open_at(s: &mut State, e: u8) -> Packet
 
 // `iso_out_take`, its first part.
 pub fn iso_out_take(s: &mut State, buf: &[u8], e: u32) -> Packet
-    ensures { λ r. ⌜ answered r (view (now (s .exit))) (now (buf .entry)) ≡ go (openPacket {i = false} e) (view (now (s .entry))) (now (buf .entry)) ⌝ }
+    ensures { λ r. ⌜ answered r (view (now (s .exit))) (now (buf .entry))
+        ≡ go (openPacket {i = false} e) (view (now (s .entry))) (now (buf .entry)) ⌝ }
     ensures { λ _. ⌜ saved (now (s .exit)) ≡ saved (now (s .entry)) ⌝ }
     ensures { λ r. ⌜ ShownAt r (view (now (s .exit))) e ⌝ }
 {
@@ -76,7 +77,8 @@ fn close_at(s: &mut State, e: u8) -> Packet
 
 // And its last.
 pub fn iso_out_take_close(s: &mut State, e: u32) -> Packet
-    ensures { λ r. ⌜ ((b : List ℕ) → answered r (view (now (s .exit))) b ≡ go (closePacket {i = false} e) (view (now (s .entry))) b) ⌝ }
+    ensures { λ r. ⌜ ((b : List ℕ) → answered r (view (now (s .exit))) b
+        ≡ go (closePacket {i = false} e) (view (now (s .entry))) b) ⌝ }
     ensures { λ _. ⌜ saved (now (s .exit)) ≡ saved (now (s .entry)) ⌝ }
 {
     let row = refusal(s, Dir::Out, e);

@@ -1,4 +1,5 @@
-// Isochronous OUT arrivals (`iso_out_check`, mod.rs 461-512) one access at a time. Every function is total: any number is safe.
+// Isochronous OUT arrivals (`iso_out_check`, mod.rs 461-512) one access at a time. Every function is total: any number
+// is safe.
 use bits::next_endpoint;
 use bits::rest_of;
 use regs::Access;
@@ -77,10 +78,11 @@ fn entry(x: Transfer, iso: bool, e: u8) -> bool
 
 // The endpoints whose slot is as it was armed are passed over (mod.rs 474-476).
 fn find(s: &State, buf: &[u8], mask: u16) -> Found
-    ensures { λ r. ⌜ ((x : Transfer) (iso : Bool) → go (walk x iso mask) (view (now (s .entry))) (now (buf .entry)) ≡ foundAs x iso r (
-      view (now (s .entry)),
-      now (buf .entry),
-    )) ⌝ }
+    ensures { λ r. ⌜ ((x : Transfer) (iso : Bool) → go (walk x iso mask) (view (now (s .entry))) (now (buf .entry))
+        ≡ foundAs x iso r (
+          view (now (s .entry)),
+          now (buf .entry),
+        )) ⌝ }
 {
     let mut m = mask;
     while m != 0 {
@@ -95,7 +97,8 @@ fn find(s: &State, buf: &[u8], mask: u16) -> Found
 
 // The packet is admitted or turned away, and the head's slot armed (mod.rs 491-508).
 fn arm(s: &mut State, buf: &mut [u8], e: u8, m: u16, len: u16) -> CheckNext
-    ensures { λ r. ⌜ ((x : Transfer) (iso : Bool) → MeansWithSlots (meaning x iso r) (Linked r) (run concrete (arrival x iso e len m))
+    ensures { λ r. ⌜ ((x : Transfer) (iso : Bool) → MeansWithSlots (meaning x iso r) (Linked r)
+        (run concrete (arrival x iso e len m))
         (now (s .entry)) (now (buf .entry)) (now (s .exit)) (now (buf .exit))) ⌝ }
 {
     let at = arrive(s, buf, e, len);

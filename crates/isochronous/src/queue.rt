@@ -1,5 +1,5 @@
-// An isochronous IN's packet queued in place (mod.rs 342-395). No access is handed out; rows 1 and 3 are the caller's. Every function is total: any number is
-// safe.
+// An isochronous IN's packet queued in place (mod.rs 342-395). No access is handed out; rows 1 and 3 are the caller's.
+// Every function is total: any number is safe.
 use crate::open_close::Packet;
 use regs::Dir;
 use regs::enables;
@@ -22,7 +22,8 @@ ghost use Rattle.isochronous.specs.Queue.{queueing};
 
 // The packet is copied into the head's slot, where there is room (mod.rs 366-395).
 fn queue_at(s: &mut State, buf: &mut [u8], e: u8, bytes: &[u8]) -> Packet
-    ensures { λ r. ⌜ answered r (view (now (s .exit))) (now (buf .exit)) ≡ go (queueing e (now (bytes .entry))) (view (now (s .entry))) (now (buf .entry)) ⌝ }
+    ensures { λ r. ⌜ answered r (view (now (s .exit))) (now (buf .exit))
+        ≡ go (queueing e (now (bytes .entry))) (view (now (s .entry))) (now (buf .entry)) ⌝ }
     ensures { λ _. ⌜ saved (now (s .exit)) ≡ saved (now (s .entry)) ⌝ }
 {
     let g = load_globals(s);

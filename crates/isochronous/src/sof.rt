@@ -54,7 +54,8 @@ pub enum SofNext {
 
 // Passes over those that completed in the microframe before.
 fn find(s: &State, frame: u16, m: u16) -> Found
-    ensures { λ r. ⌜ ((b : List ℕ) → looked frame r (view (now (s .entry)), b) ≡ walking frame m (view (now (s .entry)), b)) ⌝ }
+    ensures { λ r. ⌜ ((b : List ℕ) → looked frame r (view (now (s .entry)), b)
+        ≡ walking frame m (view (now (s .entry)), b)) ⌝ }
 {
     let mut eps = m;
     while eps != 0 {
@@ -87,7 +88,8 @@ fn walk(s: &State, frame: u16, m: u16) -> SofNext
 }
 
 pub fn on_sof(s: &mut State, frame: u16) -> SofNext
-    ensures { λ r. ⌜ MeansFrom (meaning frame r) (Linked r) (run concrete (script.onSof {i = true} frame)) (now (s .entry)) (now (s .exit)) ⌝ }
+    ensures { λ r. ⌜ MeansFrom (meaning frame r) (Linked r) (run concrete (script.onSof {i = true} frame))
+        (now (s .entry)) (now (s .exit)) ⌝ }
 {
     let mut g = load_globals(s);
     g.sof_frame = frame;
@@ -105,7 +107,8 @@ fn frame_before(frame: u16) -> u16
 
 // It completed in the microframe before.
 fn unseen(s: &mut State, frame: u16, e: u8, m: u16) -> SofNext
-    ensures { λ r. ⌜ MeansFrom (meaning frame r) (Linked r) (λ t. thenWalk frame m (run concrete (script.unseen {i = true} frame e) t))
+    ensures { λ r. ⌜ MeansFrom (meaning frame r) (Linked r)
+        (λ t. thenWalk frame m (run concrete (script.unseen {i = true} frame e) t))
         (now (s .entry)) (now (s .exit)) ⌝ }
 {
     record_frame(s, e, frame_before(frame));
@@ -117,7 +120,8 @@ fn unseen(s: &mut State, frame: u16, e: u8, m: u16) -> SofNext
 
 fn after_mis(s: &mut State, frame: u16, e: u8, m: u16, v: u32) -> SofNext
     requires { ⌜ fitsIn v 8 ≡ true ⌝ }
-    ensures { λ r. ⌜ MeansFrom (meaning frame r) (Linked r) (denote frame (Sof.Mis e m) v) (now (s .entry)) (now (s .exit)) ⌝ }
+    ensures { λ r. ⌜ MeansFrom (meaning frame r) (Linked r) (denote frame (Sof.Mis e m) v) (now (s .entry))
+        (now (s .exit)) ⌝ }
 {
     if sie_free(byte(v)) {
         return unseen(s, frame, e, m);
@@ -137,7 +141,8 @@ fn leaving(st: u8, e: u8) -> bool
 
 fn after_st(s: &mut State, frame: u16, e: u8, m: u16, v: u32) -> SofNext
     requires { ⌜ fitsIn v 8 ≡ true ⌝ }
-    ensures { λ r. ⌜ MeansFrom (meaning frame r) (Linked r) (denote frame (Sof.St e m) v) (now (s .entry)) (now (s .exit)) ⌝ }
+    ensures { λ r. ⌜ MeansFrom (meaning frame r) (Linked r) (denote frame (Sof.St e m) v) (now (s .entry))
+        (now (s .exit)) ⌝ }
 {
     if leaving(byte(v), e) {
         return walk(s, frame, m);
@@ -146,7 +151,8 @@ fn after_st(s: &mut State, frame: u16, e: u8, m: u16, v: u32) -> SofNext
 }
 
 fn after_completing(s: &mut State, frame: u16, m: u16, p: Complete) -> SofNext
-    ensures { λ r. ⌜ ((v : ℕ) → MeansFrom (meaning frame r) (Linked r) (denote frame (Sof.Completing m p) v) (now (s .entry)) (now (s .exit))) ⌝ }
+    ensures { λ r. ⌜ ((v : ℕ) → MeansFrom (meaning frame r) (Linked r) (denote frame (Sof.Completing m p) v)
+        (now (s .entry)) (now (s .exit))) ⌝ }
 {
     let n = complete::iso_in_complete_resume(s, p);
     match n {

@@ -18,4 +18,4 @@ first c k ((z, a), b) = simp (ne-eqb k 1 a, ne-eqb k 2 b)
 
 pub advance : Family under.Advance awaitsAt denote 5 byNumber
 unfolding decode codec.decode
-advance = record { way = λ p. refl; read = λ c t. simp t }
+advance = record { under-way = λ p. refl; read = λ c t. simp t }

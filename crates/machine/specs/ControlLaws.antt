@@ -17,8 +17,18 @@ use Rattle.machine.specs.Family.{Family}
 -- any other number
 pub first : (c : Saved) (k : ℕ) → NoneOf 8 k → point.Wrote ≡ byNumber k c
 first c k ((((((((z, a), b), d), e), f), g), h), i) =
-    simp (ne-eqb k 1 a, ne-eqb k 2 b, ne-eqb k 3 d, ne-eqb k 4 e, ne-eqb k 5 f, ne-eqb k 6 g, ne-eqb k 7 h, ne-eqb k 8 i)
+    simp (
+      ne-eqb k 1 a,
+      ne-eqb k 2 b,
+      ne-eqb k 3 d,
+      ne-eqb k 4 e,
+      ne-eqb k 5 f,
+      ne-eqb k 6 g,
+      ne-eqb k 7 h,
+      ne-eqb k 8
+          i,
+    )
 
 pub control : Family under.Control awaitsAt (λ p v t. run concrete (denote p v) t) 3 byNumber
 unfolding decode codec.decode
-control = record { way = λ p. refl; read = λ c t. simp t }
+control = record { under-way = λ p. refl; read = λ c t. simp t }

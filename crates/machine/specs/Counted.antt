@@ -1,5 +1,6 @@
--- "The end of an operation now gives the wake-ups as a list": an end's count is the list's length, whatever bytes the state has. Assumes nothing.
-use mathlib.Core.Path.{_≡_, refl, sym, ap, _∙_}
+-- "The end of an operation now gives the wake-ups as a list": an end's count is the list's length, whatever bytes the
+-- state has. Assumes nothing.
+use mathlib.Core.Path.{_≡_, sym, ap, _∙_}
 use mathlib.Core.List.{List, [], _∷_}
 use Prim.Native.Nat.{ℕ, zero, suc, _≤_}
 use native.Mathlib.Omega.{arith}
@@ -10,7 +11,6 @@ use Rattle.state.specs.Wakes.{listed}
 use Rattle.state.specs.Laws.{view-codes}
 use Rattle.script.specs.Answers.{Answer, Refused, End, NotYet, Done, Shown}
 use Rattle.script.specs.Machine.{Ans, ended, handed, told}
-use Rattle.script_ops.specs.Answers.{front}
 use Rattle.endpoint.specs.Front.{front-length}
 use Rattle.answer.specs.declared.Step.the-variants as step
 use Rattle.machine.specs.Suspended.{answerOf}
@@ -36,10 +36,7 @@ wakesIn (handed q) = []
 wakesIn (told n) = []
 
 -- an end that is the machine's: its count is the length of the machine's list
-pub count-is : (n k m : ℕ) (out ws : List ℕ) (d : Driver) → answerOf (step.Ends n k) out d ≡ ended (End m ws) → k ≡ length ws
+pub count-is : (n k m : ℕ) (out ws : List ℕ) (d : Driver) → answerOf (step.Ends n k) out d ≡ ended (End m ws) → k
+    ≡ length ws
 unfolding wakesIn
 count-is n k m out ws d e = sym (front-length k (d .wakes .codes)) ∙ ap (λ (a : Ans Answer). length (wakesIn a)) e
-
--- so it is at most 64 where that is the list of the state that was left
-pub count-few : (n k m : ℕ) (out xs : List ℕ) → answerOf (step.Ends n k) out (view xs) ≡ ended (End m (listed (view xs .wakes))) → k ≤ 64
-count-few n k m out xs e = omega (arith, count-is n k m out (listed (view xs .wakes)) (view xs) e, listed-few xs)

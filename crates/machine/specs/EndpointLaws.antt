@@ -21,4 +21,4 @@ first c k ((z, a), b) =
 
 pub endpoint : Family under.Endpoint awaitsAt (λ p v t. run concrete (denote p v) t) 4 byNumber
 unfolding decode codec.decode
-endpoint = record { way = λ p. refl; read = λ c t. simp t }
+endpoint = record { under-way = λ p. refl; read = λ c t. simp t }

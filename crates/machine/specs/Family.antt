@@ -1,5 +1,5 @@
--- A family's points: what one awaits, what is left to run there, the family's tag and the numbers in the saved record. Said once for the driver's own, the
--- bus's, the control pipe's, those of reads and writes, and a paced advance's
+-- A family's points: what one awaits, what is left to run there, the family's tag and the numbers in the saved record.
+-- Said once for the driver's own, the bus's, the control pipe's, those of reads and writes, and a paced advance's
 use mathlib.Core.Bool.{false}
 use mathlib.Core.Path.{_≡_}
 use Prim.Native.Nat.{ℕ}
@@ -14,5 +14,6 @@ use Rattle.machine.specs.Suspended.{decode, wayOf, finish}
 
 pub record Family {P : Type 0} (under : P → Suspended) (awaits : P → Awaits) (rest : P → ℕ → St → Out St ℕ)
     (mark : ℕ) (byNumber : ℕ → Saved → P) : Type 0 where
-  pub way : (p : P) → wayOf (under p) ≡ busy false (awaits p) (λ v t. bindOut (rest p v t) (λ n u. run concrete (finish n) u))
+  pub under-way : (p : P) → wayOf (under p) ≡ busy false (awaits p)
+      (λ v t. bindOut (rest p v t) (λ n u. run concrete (finish n) u))
   pub read : (c : Saved) → c .tag ≡ mark → decode c ≡ under (byNumber (c .sub) c)

@@ -6,12 +6,12 @@ use Rattle.state.specs.Driver.{Driver}
 use Rattle.script.specs.Machine.{Buf}
 use Rattle.machine.specs.declared.Suspended.{Suspended}
 use Rattle.machine.specs.Suspended.{decode, resumed}
-use Rattle.answer.specs.Goes.{Called}
+use Rattle.answer.specs.Goes.{StepResult}
 use Rattle.machine.specs.GoesLaws.{stayed}
 
 module _ (c : Saved) (u : Suspended) (v : ℕ) (d : Driver) (b : Buf) (e : decode c ≡ u) where
   -- what the operation comes to
-  pub going : {x y : Called} → resumed v u d b ≡ x → y ≡ x → y ≡ resumed v (decode c) d b
+  pub going : {x y : StepResult} → resumed v u d b ≡ x → y ≡ x → y ≡ resumed v (decode c) d b
   going h k = k ∙ (sym h ∙ ap (λ (w : Suspended). resumed v w d b) (sym e))
 
   -- it stays where it is

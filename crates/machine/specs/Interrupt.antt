@@ -17,11 +17,14 @@ use Rattle.machine.specs.GoesLaws.{stayed, gone, stays}
 -- ---- a continue at them
 
 pub gone-interrupt : (p : Point) (v : ℕ) (d : Driver) (b : Buf) → handler.fitsAt p v ≡ true
-    → resumed v (under.Interrupt p) d b ≡ haltsAs true (bindOut (handler.denote p v (d, b)) (λ n u. run concrete (finish n) u))
+    → resumed v (under.Interrupt p) d b ≡ haltsAs true
+    (bindOut (handler.denote p v (d, b)) (λ n u. run concrete (finish n) u))
 gone-interrupt p v d b h = gone true (handler.awaitsAt p)
-    (λ x t. bindOut (handler.denote p x t) (λ n u. run concrete (finish n) u)) v d b (over-fits-interrupt p v ∙ ap not h)
+    (λ x t. bindOut (handler.denote p x t) (λ n u. run concrete (finish n) u)) v d b (over-fits-interrupt p v
+    ∙ ap not h)
 
 pub stay-interrupt : (p : Point) (v : ℕ) (d : Driver) (b : Buf)
     → handler.fitsAt p v ≡ false → resumed v (under.Interrupt p) d b ≡ stayed (under.Interrupt p) d b
 stay-interrupt p v d b h = stays true (handler.awaitsAt p)
-    (λ x t. bindOut (handler.denote p x t) (λ n u. run concrete (finish n) u)) v d b (over-fits-interrupt p v ∙ ap not h)
+    (λ x t. bindOut (handler.denote p x t) (λ n u. run concrete (finish n) u)) v d b (over-fits-interrupt p v
+    ∙ ap not h)

@@ -2,16 +2,12 @@
 use mathlib.Core.List.{List}
 use mathlib.Core.Path.{_≡_, _∙_}
 use Prim.Native.Nat.{ℕ}
-use Rattle.state.specs.declared.Saved.{Saved}
-use Rattle.state.specs.Driver.{Driver}
 use Rattle.state.specs.State.{saved}
 use Rattle.state.specs.Fresh.{nothing}
 use Rattle.script.specs.Answers.{Answer, Refused, End, NotYet, Done, Shown}
 use Rattle.script.specs.Machine.{Ans, ended, handed, told}
-use Rattle.answer.specs.declared.Step.{Step}
 use Rattle.answer.specs.declared.Step.the-variants as step
-use Rattle.machine.specs.declared.Suspended.{Suspended}
-use Rattle.machine.specs.Suspended.{Canonical, SavedByAnswer}
+use Rattle.machine.specs.Suspended.{Canonical}
 
 -- ---- the same by an answer of the machine of calls: after a question they stay
 

@@ -5,7 +5,7 @@ use Prim.Native.Nat.{ℕ}
 use Rattle.state.specs.declared.Saved.{Saved}
 use Rattle.state.specs.Driver.{Driver}
 use Rattle.state.specs.State.{saved}
-use Rattle.script.specs.Answers.{Answer, Refused, End, NotYet, Done, Shown}
+use Rattle.script.specs.Answers.{Answer, Refused, NotYet, Done, Shown}
 use Rattle.script.specs.Machine.{Ans}
 use Rattle.answer.specs.declared.Step.{Step}
 use Rattle.answer.specs.declared.Step.the-variants as step
@@ -33,7 +33,8 @@ kept-from (step.Shown at n stamp) xs ys zs e h = h ∙ e
 
 -- by the answer of the machine of calls it is the same
 kept-alike : (r : Step) (out : List ℕ) (d : Driver) (xs ys : List ℕ)
-    → (SavedByAnswer r xs ys → KeptBy (answerOf r out d) xs ys) × (KeptBy (answerOf r out d) xs ys → SavedByAnswer r xs ys)
+    → (SavedByAnswer r xs ys → KeptBy (answerOf r out d) xs ys)
+    × (KeptBy (answerOf r out d) xs ys → SavedByAnswer r xs ys)
 kept-alike (step.Refused n) out d xs ys = (λ h. h, λ h. h)
 kept-alike (step.Asks q) out d xs ys = (λ h. h, λ h. h)
 kept-alike (step.Ends n k) out d xs ys = (λ h. h, λ h. h)
@@ -42,7 +43,8 @@ kept-alike (step.Done n) out d xs ys = (λ h. h, λ h. h)
 kept-alike (step.Setup low high) out d xs ys = (λ h. h, λ h. h)
 kept-alike (step.Shown at n stamp) out d xs ys = (λ h. h, λ h. h)
 
-pub kept-by : (r : Step) (out : List ℕ) (d : Driver) (xs ys : List ℕ) → SavedByAnswer r xs ys → KeptBy (answerOf r out d) xs ys
+pub kept-by : (r : Step) (out : List ℕ) (d : Driver) (xs ys : List ℕ) → SavedByAnswer r xs ys
+    → KeptBy (answerOf r out d) xs ys
 kept-by r out d xs ys h = kept-alike r out d xs ys .0 h
 
 -- two answers that the machine of calls does not tell apart

@@ -1,4 +1,5 @@
--- An interrupt's machine of its own points (crate `interrupt`) is the machine of calls where the tag is an interrupt's, and after its end. Assumes nothing.
+-- An interrupt's machine of its own points (crate `interrupt`) is the machine of calls where the tag is an interrupt's,
+-- and after its end. Assumes nothing.
 use mathlib.Core.List.{List, []}
 use mathlib.Core.Path.{_≡_, refl, ap, sym, subst, _∙_}
 use Prim.Native.Nat.{ℕ}
@@ -7,11 +8,10 @@ use Rattle.state.specs.Driver.{Driver}
 use Rattle.state.specs.State.{view, saved}
 use Rattle.state.specs.Fresh as fresh
 use Rattle.script.specs.Answers.{Answer}
-use Rattle.script.specs.Machine.{Buf, Machine, Ans}
+use Rattle.script.specs.Machine.{Buf, Machine}
 use Rattle.interrupt.specs.Codec as handlerCodec
 use Rattle.answer.specs.declared.Step.{Step}
 use Rattle.answer.specs.declared.Step.the-variants as step
-use Rattle.answer.specs.Goes.{Called}
 use Rattle.answer.specs.Parts.{stepOf}
 use Rattle.answer.specs.Word.{Encodes}
 use Rattle.interrupt.specs.Suspended as alone
@@ -52,13 +52,15 @@ unfolding alone.encode
 nothing-alike = encoded-alike alone.Idle
 
 tagged-alike : (c : Saved) → c .tag ≡ 6 → Alike c
-tagged-alike c t = at-interrupt c (handlerCodec.decode c) t refl ∙ ap up (sym (alone-laws.at-interrupt c (handlerCodec.decode c) t refl))
+tagged-alike c t = at-interrupt c (handlerCodec.decode c) t refl
+    ∙ ap up (sym (alone-laws.at-interrupt c (handlerCodec.decode c) t refl))
 
 moved : (c e : Saved) → c ≡ e → Alike e → Alike c
 moved c e h a = subst Alike (sym h) a
 
 canonical-alike : (ys : List ℕ) → alone.Canonical ys → Alike (saved ys)
-canonical-alike ys h = moved (saved ys) (alone.encode (alone.decode (saved ys))) h (encoded-alike (alone.decode (saved ys)))
+canonical-alike ys h = moved (saved ys) (alone.encode (alone.decode (saved ys))) h
+    (encoded-alike (alone.decode (saved ys)))
 
 kept-alike : (r : Step) (xs ys : List ℕ) → saved xs .tag ≡ 6 → alone.SavedByAnswer r xs ys → Alike (saved ys)
 kept-alike (step.Refused n) xs ys t h = moved (saved ys) (saved xs) h (tagged-alike (saved xs) t)
@@ -72,7 +74,8 @@ kept-alike (step.Shown at n stamp) xs ys t h = moved (saved ys) (saved xs) h (ta
 -- the 22 bytes by an answer
 pub saved-up : (r : Step) (xs ys : List ℕ) → alone.SavedByAnswer r xs ys → SavedByAnswer r xs ys
 saved-up (step.Refused n) xs ys h = h
-saved-up (step.Asks q) xs ys h = h ∙ (sym (encode-up (alone.decode (saved ys))) ∙ ap encode (sym (canonical-alike ys h)))
+saved-up (step.Asks q) xs ys h = h ∙ (sym (encode-up (alone.decode (saved ys)))
+    ∙ ap encode (sym (canonical-alike ys h)))
 saved-up (step.Ends n k) xs ys h = h
 saved-up step.NotYet xs ys h = h
 saved-up (step.Done n) xs ys h = h
@@ -87,9 +90,11 @@ pub machine-lifts : (ys : List ℕ) (b : Buf) → alone.Canonical ys → machine
 machine-lifts ys b h = machine-by ys b (canonical-alike ys h)
 
 -- a continue
-pub lifts : {r : Step} {v : ℕ} {xs ys : List ℕ} {b after : Buf} → saved xs .tag ≡ 6 → alone.Resumes r v xs b ys after → Resumes r v xs b ys after
+pub lifts : {r : Step} {v : ℕ} {xs ys : List ℕ} {b after : Buf} → saved xs .tag ≡ 6 → alone.Resumes r v xs b ys after
+    → Resumes r v xs b ys after
 lifts {r} {v} {xs} {ys} {b} {after} t h = record {
-  called = ap (λ (m : Machine Answer Driver). (answerOf r [] (view ys), m)) (machine-by ys after (kept-alike r xs ys t (h .kept)))
+  called = ap (λ (m : Machine Answer Driver). (answerOf r [] (view ys), m))
+      (machine-by ys after (kept-alike r xs ys t (h .kept)))
       ∙ (h .called
       ∙ (sym (resumed-up v (alone.decode (saved xs)) (view xs) b)
       ∙ ap (λ (u : Suspended). resumed v u (view xs) b) (sym (tagged-alike (saved xs) t))));

@@ -5,27 +5,23 @@ use mathlib.Core.Path.{_≡_}
 use Prim.Native.Nat.{ℕ, _*_}
 use lib.Dec.{eqb}
 use lib.ListN.{length}
-use Rattle.ring.specs.Copies.{bytesAt}
 use Rattle.regs.specs.declared.Access.{Access}
 use Rattle.state.specs.declared.Saved.{Saved}
 use Rattle.state.specs.Driver.{Driver}
 use Rattle.state.specs.State.{view, saved}
 use Rattle.state.specs.Fresh as fresh
-use Rattle.script.specs.Tree.{Out, bindOut}
-use Rattle.script.specs.Script.{Script, ret, _>>=_, fetch, gathered, run}
-use Rattle.script.specs.Statics.{flag}
-use Rattle.script.specs.Answers.{Answer, Refused, End, NotYet, Done, Shown}
-use Rattle.script.specs.Control.{wordBytes}
-use Rattle.script.specs.Calls.{Config, Op, calls}
+use Rattle.script.specs.Tree.{bindOut}
+use Rattle.script.specs.Script.{_>>=_, run}
+use Rattle.script.specs.Answers.{Answer, Refused, NotYet, Done, Shown}
+use Rattle.script.specs.Calls.{calls}
 use Rattle.script.specs.Machine as machine
-use Rattle.script.specs.Machine.{Buf, Way, idle, busy, Machine, Ans, ended, handed, told, call, Call, halt, continued}
-use Rattle.script_ops.specs.Rings.{St}
+use Rattle.script.specs.Machine.{Buf, Pending, idle, busy, Machine, Ans, ended, handed, told, continued}
 use Rattle.script_ops.specs.Concrete.{concrete}
 use Rattle.driver.specs.Points as driver
 use Rattle.driver.specs.Codec as codec
 use Rattle.bus.specs.Points as bus
 use Rattle.bus.specs.Codec as busCodec
-use Rattle.script_ops.specs.Answers.{front, broughtBy}
+use Rattle.script_ops.specs.Answers.{broughtBy}
 use Rattle.control.specs.Points as control
 use Rattle.control.specs.Codec as controlCodec
 use Rattle.endpoint.specs.Points as endpoint
@@ -38,7 +34,6 @@ use Rattle.machine.specs.declared.Suspended.{Suspended}
 use Rattle.machine.specs.declared.Suspended.the-variants as under
 use Rattle.answer.specs.declared.Step.{Step}
 use Rattle.answer.specs.declared.Step.the-variants as step
-use Rattle.answer.specs.Questions.{questionOf}
 pub use Rattle.answer.specs.Answering.{withTag, finish, driverOf, configOf, drive, haltsAs, halts, answerOf}
 
 -- ---- the saved record: its tag says whose point it is, 0 or an unknown one that nothing is under way
@@ -64,17 +59,19 @@ decode c =
 
 -- ---- what is left of the call
 
-abbrev pub wayOf : Suspended → Way Answer Driver
+abbrev pub wayOf : Suspended → Pending Answer Driver
 wayOf under.Idle = idle
 wayOf (under.Driver p) = busy false (driver.awaitsAt p) (λ v t. run concrete (driver.denote p v >>= finish) t)
 wayOf (under.Bus p) = busy false (bus.awaitsAt p) (λ v t. bindOut (bus.denote p v t) (λ n u. run concrete (finish n) u))
 wayOf (under.Control p) = busy false (control.awaitsAt p) (λ v t. run concrete (control.denote p v >>= finish) t)
 wayOf (under.Endpoint p) = busy false (endpoint.awaitsAt p) (λ v t. run concrete (endpoint.denote p v >>= finish) t)
-wayOf (under.Advance p) = busy false (advance.awaitsAt p) (λ v t. bindOut (advance.denote p v t) (λ n u. run concrete (finish n) u))
-wayOf (under.Interrupt p) = busy true (handler.awaitsAt p) (λ v t. bindOut (handler.denote p v t) (λ n u. run concrete (finish n) u))
+wayOf (under.Advance p) = busy false (advance.awaitsAt p)
+    (λ v t. bindOut (advance.denote p v t) (λ n u. run concrete (finish n) u))
+wayOf (under.Interrupt p) = busy true (handler.awaitsAt p)
+    (λ v t. bindOut (handler.denote p v t) (λ n u. run concrete (finish n) u))
 
 abbrev pub machineAt : Suspended → Driver → Buf → Machine Answer Driver
-machineAt u d b = record { way = wayOf u; st = d; buf = b }
+machineAt u d b = record { under-way = wayOf u; st = d; buf = b }
 
 -- the lent state's bytes and the slot buffer, as a machine of calls
 abbrev pub machineOf : List ℕ → Buf → Machine Answer Driver

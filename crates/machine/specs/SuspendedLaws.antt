@@ -1,18 +1,13 @@
 -- Laws on the definitions of Suspended.antt
-use mathlib.Core.Bool.{Bool}
 use mathlib.Core.List.{List, _++_}
 use mathlib.Core.Path.{_≡_, refl, ap}
 use Prim.Native.Nat.{ℕ, _*_}
-use Rattle.regs.specs.declared.Access.{Access}
-use Rattle.state.specs.declared.Saved.{Saved}
 use Rattle.state.specs.Driver.{Driver}
 use Rattle.state.specs.Fresh as fresh
 use Rattle.script.specs.Tree.{Out, ends, asks}
-use Rattle.script.specs.Script.{Script, _>>=_}
-use Rattle.script.specs.Answers.{Answer, Refused, End, NotYet, Done, Shown}
-use Rattle.script.specs.Calls.{Config, Op}
+use Rattle.script.specs.Script.{_>>=_}
+use Rattle.script.specs.Answers.{Answer}
 use Rattle.script.specs.Machine as machine
-use Rattle.script.specs.Machine.{Buf, Way, Machine, Ans, Call}
 use Rattle.script_ops.specs.Rings.{St}
 use Rattle.driver.specs.Points as driver
 use Rattle.driver.specs.Codec as codec
@@ -35,12 +30,12 @@ use Rattle.interrupt.specs.Codec as handlerCodec
 use Rattle.interrupt.specs.CodecLaws as handlerCodec-laws
 use Rattle.machine.specs.declared.Suspended.{Suspended}
 use Rattle.machine.specs.declared.Suspended.the-variants as under
-use Rattle.answer.specs.declared.Step.{Step}
 use Rattle.answer.specs.declared.Step.the-variants as step
 use Rattle.machine.specs.Suspended.{encode, decode, halts, lentBy}
 
 pub decode-encode : (u : Suspended) → decode (encode u) ≡ u
-unfolding encode decode codec.decode busCodec.decode controlCodec.decode endpointCodec.decode advanceCodec.decode handlerCodec.decode
+unfolding encode decode codec.decode busCodec.decode controlCodec.decode endpointCodec.decode advanceCodec.decode
+    handlerCodec.decode
 decode-encode under.Idle = refl
 decode-encode (under.Driver p) = ap under.Driver (codec-laws.decode-encode p)
 decode-encode (under.Bus p) = ap under.Bus (busCodec-laws.decode-encode p)

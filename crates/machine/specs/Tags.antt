@@ -50,18 +50,29 @@ encoded-as (under.Advance p) = refl
 encoded-as (under.Interrupt p) = refl
 
 -- the point that a record with an interrupt's tag is
-pub at-interrupt : (c : Saved) (p : handlerPoint.Point) → c .tag ≡ 6 → p ≡ handlerCodec.decode c → decode c ≡ under.Interrupt p
+pub at-interrupt : (c : Saved) (p : handlerPoint.Point) → c .tag ≡ 6 → p ≡ handlerCodec.decode c → decode c
+    ≡ under.Interrupt p
 unfolding decode
 at-interrupt c p t h = simp (t, h)
 
 -- ---- nothing is under way, or an interrupt
 
-pub at-none : (c : Saved) (t : ℕ) → t ≡ c .tag → (t ≡ 1 → ⊥) → (t ≡ 2 → ⊥) → (t ≡ 3 → ⊥) → (t ≡ 4 → ⊥) → (t ≡ 5 → ⊥) → (t ≡ 6 → ⊥) → decode c ≡ under.Idle
+pub at-none : (c : Saved) (t : ℕ) → t ≡ c .tag → (t ≡ 1 → ⊥) → (t ≡ 2 → ⊥) → (t ≡ 3 → ⊥) → (t ≡ 4 → ⊥) → (t ≡ 5 → ⊥)
+    → (t ≡ 6 → ⊥) → decode c ≡ under.Idle
 unfolding decode
-at-none c t h n1 n2 n3 n4 n5 n6 = simp (← h, ne-eqb t 1 n1, ne-eqb t 2 n2, ne-eqb t 3 n3, ne-eqb t 4 n4, ne-eqb t 5 n5, ne-eqb t 6 n6)
+at-none c t h n1 n2 n3 n4 n5 n6 = simp (
+  ← h,
+  ne-eqb t 1 n1,
+  ne-eqb t 2 n2,
+  ne-eqb t 3 n3,
+  ne-eqb t 4 n4,
+  ne-eqb t 5 n5,
+  ne-eqb t 6 n6,
+)
 
 above : (c : Saved) (t : ℕ) → t ≡ c .tag → 6 < t → decode c ≡ under.Idle
-above c t h l = at-none c t h (λ e. omega arith) (λ e. omega arith) (λ e. omega arith) (λ e. omega arith) (λ e. omega arith) (λ e. omega arith)
+above c t h l = at-none c t h (λ e. omega arith) (λ e. omega arith) (λ e. omega arith) (λ e. omega arith)
+    (λ e. omega arith) (λ e. omega arith)
 
 -- by the tag: is nothing under way; or nothing but an interrupt
 abbrev ByTag : Saved → ℕ → Type 0

@@ -1,4 +1,5 @@
-// A paced advance goes on (mod.rs 323-340, 405-414): one function for each of its points, which loads its own parts and stores the next point's bytes.
+// A paced advance goes on (mod.rs 323-340, 405-414): one function for each of its points, which loads its own parts and
+// stores the next point's bytes.
 use crate::advance_stands::stand_loaded;
 use crate::advance_stands::stand_sent;
 use crate::points_loads::completion_at;
@@ -29,11 +30,11 @@ ghost use Rattle.isochronous.specs.declared.advance.Advance.the-variants as Poi
 ghost use Rattle.isochronous.specs.Advance.{completing};
 ghost use Rattle.machine.specs.declared.Suspended.the-variants as Under;
 ghost use Rattle.machine.specs.Suspended.{decode, Stored};
-ghost use Rattle.machine.specs.Stands.{AtNumber, Resumes, Leads, halted};
+ghost use Rattle.machine.specs.Stands.{AtNumber, Resumes, StepsTo, halted};
 
 // The next completion; after the last, the microframe is kept.
 fn iso_in_advance_resume(s: &mut State, e: u8, left: u8, frame: u16) -> Step
-    ensures { λ r. ⌜ Leads r (now (s .exit)) (λ b. halted (completing e left frame (view (now (s .entry)), b))) ⌝ }
+    ensures { λ r. ⌜ StepsTo r (now (s .exit)) (λ b. halted (completing e left frame (view (now (s .entry)), b))) ⌝ }
     ensures { λ r. ⌜ Stored r (now (s .exit)) ⌝ }
 {
     if left == 0 {

@@ -1,5 +1,5 @@
-// A paced advance stands at a point of a completion, whose bytes are stored where it is made: with its endpoint, how many completions come after this
-// one, the microframe to keep then, and the endpoint that completes.
+// A paced advance stands at a point of a completion, whose bytes are stored where it is made: with its endpoint, how
+// many completions come after this one, the microframe to keep then, and the endpoint that completes.
 use crate::stands::stand;
 use answer::Step;
 use isochronous::codec::code;
@@ -27,14 +27,16 @@ fn tagged(sub: u8, e: u8, left: u8, frame: u16, of: u8) -> Saved
 
 // The transmit address is written.
 pub fn stand_sent(s: &mut State, q: Access, e: u8, left: u8, frame: u16, of: u8) -> Step
-    ensures { λ r. ⌜ Stands r q (Under.Advance (Point.Completing e left frame (Complete.Sent of))) (now (s .entry)) (now (s .exit)) ⌝ }
+    ensures { λ r. ⌜ Stands r q (Under.Advance (Point.Completing e left frame (Complete.Sent of))) (now (s .entry))
+        (now (s .exit)) ⌝ }
 {
     stand(s, q, tagged(1, e, left, frame, of))
 }
 
 // Ep_t_len is.
 pub fn stand_loaded(s: &mut State, q: Access, e: u8, left: u8, frame: u16, of: u8) -> Step
-    ensures { λ r. ⌜ Stands r q (Under.Advance (Point.Completing e left frame (Complete.Loaded of))) (now (s .entry)) (now (s .exit)) ⌝ }
+    ensures { λ r. ⌜ Stands r q (Under.Advance (Point.Completing e left frame (Complete.Loaded of))) (now (s .entry))
+        (now (s .exit)) ⌝ }
 {
     stand(s, q, tagged(2, e, left, frame, of))
 }

@@ -1,4 +1,5 @@
-// The bus goes on (mod.rs 1053-1106, 1187-1330): one function for each of its points, which loads its own parts and stores the next point's bytes.
+// The bus goes on (mod.rs 1053-1106, 1187-1330): one function for each of its points, which loads its own parts and
+// stores the next point's bytes.
 use crate::bus_stands::stand_address;
 use crate::bus_stands::stand_disabled;
 use crate::bus_stands::stand_ep0_out;
@@ -325,7 +326,8 @@ pub fn resume_typed(s: &mut State) -> Step
 // In the row of an isochronous OUT.
 pub fn resume_switch(s: &mut State, slots: &mut [u8]) -> Step
     requires { ⌜ AtNumber 2 23 (now s) ⌝ }
-    ensures { λ r. ⌜ ((v : ℕ) → Resumes r v (now (s .entry)) (now (slots .entry)) (now (s .exit)) (now (slots .exit))) ⌝ }
+    ensures { λ r. ⌜ ((v : ℕ) → Resumes r v (now (s .entry)) (now (slots .entry)) (now (s .exit))
+        (now (slots .exit))) ⌝ }
 {
     let e = ep_byte(s);
     let on = on_at(s);

@@ -1,4 +1,5 @@
-// The control pipe goes on (control.rs 26-186): one function for each of its points, which loads its own parts and stores the next point's bytes.
+// The control pipe goes on (control.rs 26-186): one function for each of its points, which loads its own parts and
+// stores the next point's bytes.
 use crate::control_stands::stand_ack_in;
 use crate::control_stands::stand_loaded;
 use crate::control_stands::stand_stall_out;

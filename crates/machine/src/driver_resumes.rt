@@ -1,5 +1,5 @@
-// Start-up (mod.rs 886-951), new endpoints (endpoint.rs 18-36), EP0's start (mod.rs 1144-1178) and the microframe go on: one function for each of
-// their points, which loads its own parts and stores the next point's bytes.
+// Start-up (mod.rs 886-951), new endpoints (endpoint.rs 18-36), EP0's start (mod.rs 1144-1178) and the microframe go
+// on: one function for each of their points, which loads its own parts and stores the next point's bytes.
 use crate::driver_stands::stand_ep0_max_len;
 use crate::driver_stands::stand_ep0_packet;
 use crate::driver_stands::stand_ep0_rx;
@@ -55,7 +55,7 @@ ghost use Rattle.driver.specs.declared.Point.the-variants as Point;
 ghost use Rattle.driver.specs.Announce.{announcing, following};
 ghost use Rattle.machine.specs.declared.Suspended.the-variants as Under;
 ghost use Rattle.machine.specs.Suspended.{decode, Stored};
-ghost use Rattle.machine.specs.Stands.{AtNumber, Resumes, Leads, halted};
+ghost use Rattle.machine.specs.Stands.{AtNumber, Resumes, StepsTo, halted};
 
 // EP0 answers NAK, from DATA0 on.
 fn ep0_word() -> u32
@@ -86,7 +86,8 @@ fn place_access(s: &mut State, dir: Dir, ep: u8) -> Access
 
 // A list's endpoint is announced: its maximum, as its record has it; its buffer, and those left, come after it.
 fn announce(s: &mut State, left: u8, total: u8, dir: Dir, e: u8) -> Step
-    ensures { λ r. ⌜ Leads r (now (s .exit)) (λ b. halted (go (announcing left total dir e) (view (now (s .entry))) b)) ⌝ }
+    ensures { λ r. ⌜ StepsTo r (now (s .exit)) (λ b. halted
+        (go (announcing left total dir e) (view (now (s .entry))) b)) ⌝ }
     ensures { λ r. ⌜ Stored r (now (s .exit)) ⌝ }
 {
     let r = load_ep(s, dir, e);
@@ -96,7 +97,8 @@ fn announce(s: &mut State, left: u8, total: u8, dir: Dir, e: u8) -> Step
 
 // The one whose buffers begin where those of the last end, as long as any is left.
 fn announce_after(s: &mut State, left: u8, total: u8, dir: Dir, e: u8) -> Step
-    ensures { λ r. ⌜ Leads r (now (s .exit)) (λ b. halted (go (following left total dir e) (view (now (s .entry))) b)) ⌝ }
+    ensures { λ r. ⌜ StepsTo r (now (s .exit)) (λ b. halted
+        (go (following left total dir e) (view (now (s .entry))) b)) ⌝ }
     ensures { λ r. ⌜ Stored r (now (s .exit)) ⌝ }
 {
     if left == 0 {

@@ -114,7 +114,8 @@ pub fn stand_list_max_len(
     left: u8,
     total: u8,
 ) -> Step
-    ensures { λ r. ⌜ Stands r q (Under.Driver (Point.ListMaxLen dir kind ep left total)) (now (s .entry)) (now (s .exit)) ⌝ }
+    ensures { λ r. ⌜ Stands r q (Under.Driver (Point.ListMaxLen dir kind ep left total)) (now (s .entry))
+        (now (s .exit)) ⌝ }
 {
     stand(s, q, list_code(15, dir, kind, ep, left, total))
 }

@@ -1,4 +1,5 @@
-// A read or write goes on (endpoint.rs 82-195): one function for each of its points, which loads its own parts and stores the next point's bytes.
+// A read or write goes on (endpoint.rs 82-195): one function for each of its points, which loads its own parts and
+// stores the next point's bytes.
 use crate::endpoint_stands::stand_ack_in;
 use crate::endpoint_stands::stand_wrote;
 use crate::points_loads::dir_at;

@@ -23,13 +23,14 @@ ghost use Rattle.isochronous.specs.Advance as advance;
 ghost use Rattle.interrupt.specs.Points as handler;
 ghost use Rattle.machine.specs.Suspended.{decode, finish, machineAt, machineOf, haltsAs, halts};
 ghost use Rattle.machine.specs.Suspended.{answerOf, SavedByAnswer, Stored, KeepsSaved};
-ghost use Rattle.machine.specs.Stands.{Stands, halted, Leads, Ends};
+ghost use Rattle.machine.specs.Stands.{Stands, halted, StepsTo, Ends};
 ghost use Rattle.machine.specs.Rows.{isIdle};
 ghost use Rattle.machine.specs.Tags.{tagOf, codeOf};
 
 // The operation is under way: it stands where it handed out the access, at a point that is saved with its tag.
 fn asks(s: &mut State, q: Access, p: Saved, tag: u8) -> Step
-    ensures { λ r. ⌜ ((u : Suspended) → tagOf u ≡ tag → p ≡ codeOf u → Stands r q u (now (s .entry)) (now (s .exit))) ⌝ }
+    ensures { λ r. ⌜ ((u : Suspended) → tagOf u ≡ tag → p ≡ codeOf u
+        → Stands r q u (now (s .entry)) (now (s .exit))) ⌝ }
 {
     let mut c = p;
     c.tag = tag;
@@ -49,7 +50,7 @@ fn ended(s: &mut State, n: u16) -> Step
 // It goes on, or has ended.
 pub fn suspend_or_end(s: &mut State, n: driver::Next) -> Step
     requires { ⌜ driver.Linked n ⌝ }
-    ensures { λ r. ⌜ Leads r (now (s .exit)) (λ b. halted (driver.meaning n (view (now (s .entry))) b)) ⌝ }
+    ensures { λ r. ⌜ StepsTo r (now (s .exit)) (λ b. halted (driver.meaning n (view (now (s .entry))) b)) ⌝ }
     ensures { λ r. ⌜ Stored r (now (s .exit)) ⌝ }
 {
     match n {
@@ -61,7 +62,7 @@ pub fn suspend_or_end(s: &mut State, n: driver::Next) -> Step
 // The same of the bus's operations.
 pub fn suspend_or_end_bus(s: &mut State, n: bus::Next) -> Step
     requires { ⌜ bus.Linked n ⌝ }
-    ensures { λ r. ⌜ Leads r (now (s .exit)) (λ b. halted (bus.meaning n (view (now (s .entry))) b)) ⌝ }
+    ensures { λ r. ⌜ StepsTo r (now (s .exit)) (λ b. halted (bus.meaning n (view (now (s .entry))) b)) ⌝ }
     ensures { λ r. ⌜ Stored r (now (s .exit)) ⌝ }
 {
     match n {
@@ -73,7 +74,7 @@ pub fn suspend_or_end_bus(s: &mut State, n: bus::Next) -> Step
 // A begin of the control pipe's, with nothing under way.
 pub fn begun_control(s: &mut State, n: control::Begun) -> Step
     requires { ⌜ control.LinkedBegun n × (isIdle (decode (saved (now s))) ≡ true) ⌝ }
-    ensures { λ r. ⌜ Leads r (now (s .exit)) (λ b. halts (control.begunAs n (view (now (s .entry))) b)) ⌝ }
+    ensures { λ r. ⌜ StepsTo r (now (s .exit)) (λ b. halts (control.begunAs n (view (now (s .entry))) b)) ⌝ }
     ensures { λ r. ⌜ SavedByAnswer r (now (s .entry)) (now (s .exit)) ⌝ }
 {
     match n {
@@ -104,7 +105,7 @@ pub fn polled_control(s: &mut State, n: control::Polled) -> Step
 // Of a paced advance.
 pub fn suspend_or_end_advance(s: &mut State, n: AdvanceNext) -> Step
     requires { ⌜ advance.Linked n ⌝ }
-    ensures { λ r. ⌜ Leads r (now (s .exit)) (λ b. halted (advance.meaning n (view (now (s .entry))) b)) ⌝ }
+    ensures { λ r. ⌜ StepsTo r (now (s .exit)) (λ b. halted (advance.meaning n (view (now (s .entry))) b)) ⌝ }
     ensures { λ r. ⌜ Stored r (now (s .exit)) ⌝ }
 {
     match n {
@@ -116,7 +117,8 @@ pub fn suspend_or_end_advance(s: &mut State, n: AdvanceNext) -> Step
 // Of an interrupt.
 pub fn suspend_or_end_interrupt(s: &mut State, n: interrupt::Next) -> Step
     requires { ⌜ handler.Linked n ⌝ }
-    ensures { λ r. ⌜ Leads r (now (s .exit)) (λ b. haltsAs true (bindOut (handler.meaning n (view (now (s .entry))) b) (λ k t. run concrete (finish k) t))) ⌝ }
+    ensures { λ r. ⌜ StepsTo r (now (s .exit)) (λ b. haltsAs true
+        (bindOut (handler.meaning n (view (now (s .entry))) b) (λ k t. run concrete (finish k) t))) ⌝ }
     ensures { λ r. ⌜ Stored r (now (s .exit)) ⌝ }
 {
     match n {
@@ -128,7 +130,7 @@ pub fn suspend_or_end_interrupt(s: &mut State, n: interrupt::Next) -> Step
 // A begin of a read or write, with nothing under way.
 pub fn begun_endpoint(s: &mut State, n: endpoint::Begun) -> Step
     requires { ⌜ endpoint.LinkedBegun n × (isIdle (decode (saved (now s))) ≡ true) ⌝ }
-    ensures { λ r. ⌜ Leads r (now (s .exit)) (λ b. halts (endpoint.begunAs n (view (now (s .entry))) b)) ⌝ }
+    ensures { λ r. ⌜ StepsTo r (now (s .exit)) (λ b. halts (endpoint.begunAs n (view (now (s .entry))) b)) ⌝ }
     ensures { λ r. ⌜ SavedByAnswer r (now (s .entry)) (now (s .exit)) ⌝ }
 {
     match n {

@@ -1,4 +1,5 @@
-// What is under way, which rows stop a call, how one ends: the machine of calls (specs/Suspended.antt) that the lent bytes are.
+// What is under way, which rows stop a call, how one ends: the machine of calls (specs/Suspended.antt) that the lent
+// bytes are.
 pub mod saved; // saved.rt: what is under way
 pub mod halts; // halts.rt: how a call ends
 pub mod stops; // stops.rt: what stops a call: rows 1, 3 and 4

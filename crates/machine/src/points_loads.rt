@@ -65,8 +65,8 @@ pub fn list_endpoint_at(s: &State) -> ListEndpoint
     }
 }
 
-// A completion of a paced advance: the advance's endpoint, how many completions come after this one, the microframe to keep then, the endpoint that
-// completes.
+// A completion of a paced advance: the advance's endpoint, how many completions come after this one, the microframe to
+// keep then, the endpoint that completes.
 pub struct Completion {
     pub e: u8,
     pub left: u8,

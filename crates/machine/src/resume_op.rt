@@ -1,4 +1,5 @@
-// An operation under way goes on at its point, with the number brought: the driver's, the bus's, the control pipe's, a read's or write's, a paced advance's.
+// An operation under way goes on at its point, with the number brought: the driver's, the bus's, the control pipe's, a
+// read's or write's, a paced advance's.
 // One dispatch on the point's number reaches its function.
 use crate::advance_resumes;
 use crate::bus_resumes;

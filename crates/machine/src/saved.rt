@@ -6,8 +6,8 @@ ghost use Rattle.state.specs.State.{saved};
 ghost use Rattle.machine.specs.Suspended.{decode};
 ghost use Rattle.machine.specs.Rows.{isIdle, mayPass};
 
-// Whose point is saved: the driver's (1), the bus's (2), the control pipe's (3), a read's or write's (4), a paced advance's (5), an interrupt's (6). At
-// any other number nothing is under way.
+// Whose point is saved: the driver's (1), the bus's (2), the control pipe's (3), a read's or write's (4), a paced
+// advance's (5), an interrupt's (6). At any other number nothing is under way.
 pub fn tag(s: &State) -> u8
     ensures { λ r. ⌜ r ≡ saved (now (s .entry)) .tag ⌝ }
 {
@@ -32,7 +32,8 @@ pub fn is_idle(s: &State) -> bool
     is_none(tag(s), 6)
 }
 
-// May a packet be opened, closed or queued? Nothing is under way, or an interrupt is: the call falls between two of its accesses.
+// May a packet be opened, closed or queued? Nothing is under way, or an interrupt is: the call falls between two of its
+// accesses.
 pub fn may_pass(s: &State) -> bool
     ensures { λ r. ⌜ r ≡ mayPass (decode (saved (now (s .entry)))) ⌝ }
 {

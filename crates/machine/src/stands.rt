@@ -1,5 +1,5 @@
-// An operation stands at a point, or ends: the saved record's 22 bytes are stored where the point is made, and its access is the
-// answer.
+// An operation stands at a point, or ends: the saved record's 22 bytes are stored where the point is made, and its
+// access is the answer.
 use answer::Step;
 use answer::woken::how_many;
 use regs::Access;
@@ -9,8 +9,6 @@ use state::State;
 use state::nothing;
 use state::store_saved;
 ghost use mathlib.Core.Path.{_≡_};
-ghost use mathlib.Core.List.{List};
-ghost use Prim.Native.Nat.{ℕ};
 ghost use Rattle.state.specs.State.{view, saved};
 ghost use Rattle.bus.specs.Codec.{code, dirAs};
 ghost use Rattle.answer.specs.declared.Step.the-variants as Step;
@@ -52,7 +50,8 @@ pub fn code(tag: u8, sub: u8, site: u8, flag: u8, busy: u8, st: u8, ep: u8) -> S
 
 // What is saved of a point, with its tag.
 pub fn stand(s: &mut State, q: Access, c: Saved) -> Step
-    ensures { λ r. ⌜ (r ≡ Step.Asks q) × ((view (now (s .exit)) ≡ view (now (s .entry))) × (saved (now (s .exit)) ≡ c)) ⌝ }
+    ensures { λ r. ⌜ (r ≡ Step.Asks q) × ((view (now (s .exit)) ≡ view (now (s .entry)))
+        × (saved (now (s .exit)) ≡ c)) ⌝ }
 {
     store_saved(s, c);
     Step::Asks(q)

@@ -13,10 +13,11 @@ pub fn slots_fit(s: &State, slots: &[u8]) -> bool
     alloc::buffer::fits(slots.len() as u64, a.size as u32, a.count as u32)
 }
 
-// The row that stops a call which wants the driver at a stage (1 after start-up, 2 after EP0's start): 3, an operation is under way; 4, it is at
-// another stage; 0, neither.
+// The row that stops a call which wants the driver at a stage (1 after start-up, 2 after EP0's start): 3, an operation
+// is under way; 4, it is at another stage; 0, neither.
 pub fn stop(s: &State, stage: u8) -> u8
-    ensures { λ r. ⌜ r ≡ stopOf (isIdle (decode (saved (now (s .entry))))) stage (view (now (s .entry)) .globals .stage) ⌝ }
+    ensures { λ r. ⌜ r ≡ stopOf (isIdle (decode (saved (now (s .entry))))) stage
+        (view (now (s .entry)) .globals .stage) ⌝ }
 {
     if is_idle(s) {
         let g = state::load_globals(s);

@@ -1,6 +1,7 @@
 // What a call answers, one line for each, written to standard output.
-// No function here has an `ensures`: what is written has no place in a contract. Proved is that none traps or runs on, for any argument; what is
-// written is compared with a file (`crates/app_readout/stdout`). Where one answers a bool, it only says which words come next.
+// No function here has an `ensures`: what is written has no place in a contract. Proved is that none traps or runs on,
+// for any argument; what is written is compared with a file (`crates/app_readout/stdout`). Where one answers a bool, it
+// only says which words come next.
 use crate::accesses::access;
 use crate::text::hex;
 use crate::text::number;

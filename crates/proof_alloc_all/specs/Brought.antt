@@ -1,4 +1,5 @@
--- What an operation hands out, whatever each continue brings: a number, and the slot buffer as the chip's stores and others have left it
+-- What an operation hands out, whatever each continue brings: a number, and the slot buffer as the chip's stores and
+-- others have left it
 use mathlib.Core.List.{List, [], _∷_, _++_}
 use Prim.Native.Nat.{ℕ, suc}
 use Rattle.regs.specs.declared.Access.{Access}
@@ -25,7 +26,8 @@ abbrev pub endsAs : {A : Type 0} → Brings → ℕ → tree.Out St A → A × D
 endsAs f i (ends a s) = (a, s .0)
 endsAs f i (asks q s k) = endsAs f (suc i) (k (f i .0) (s .0, f i .1))
 
--- endpoints allocated one after the other, the j-th with the slots bs j and with what g j brings: all that they hand out, and the driver at the end
+-- endpoints allocated one after the other, the j-th with the slots bs j and with what g j brings: all that they hand
+-- out, and the driver at the end
 unfoldable pub oneByOneAs : (ℕ → Brings) → (ℕ → List ℕ) → ℕ → List Endpoint → Driver → List Access × Driver
 oneByOneAs g bs j [] d = ([], d)
 oneByOneAs g bs j (e ∷ es) d =

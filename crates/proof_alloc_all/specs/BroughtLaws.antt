@@ -1,5 +1,5 @@
--- A list allocated as one operation is its endpoints allocated one by one, whatever numbers the continues bring and whatever is stored in the slots
--- between: allocations neither read nor look at a slot. Assumes nothing.
+-- A list allocated as one operation is its endpoints allocated one by one, whatever numbers the continues bring and
+-- whatever is stored in the slots between: allocations neither read nor look at a slot. Assumes nothing.
 use mathlib.Core.Bool.{Bool, true, false, not, _&&_}
 use mathlib.Core.List.{List, [], _∷_, _++_}
 use mathlib.Core.Path.{_≡_, refl, sym, ap, ap₂, subst, _∙_}
@@ -37,20 +37,24 @@ use Rattle.proof_alloc_all.specs.OrderLaws.{in-order}
 
 abbrev pub Same : {A : Type 0} → tree.Out St A → tree.Out St A → Type 0
 Same (ends a s) (ends c t) = (a ≡ c) × (s .0 ≡ t .0)
-Same (asks q s k) (asks r t l) = (q ≡ r) × (s .0 ≡ t .0) × ((v w : ℕ) (b c : List ℕ) → Same (k v (s .0, b)) (l w (t .0, c)))
+Same (asks q s k) (asks r t l) = (q ≡ r) × (s .0 ≡ t .0)
+    × ((v w : ℕ) (b c : List ℕ) → Same (k v (s .0, b)) (l w (t .0, c)))
 Same (ends a s) (asks r t l) = ⊥
 Same (asks q s k) (ends c t) = ⊥
 
 to-hands : {A : Type 0} (f : Brings) (i : ℕ) (o u : tree.Out St A) → Same o u → handsAs f i o ≡ handsOut u
 to-hands f i (ends a s) (ends c t) h = refl
 to-hands f i (asks q s k) (asks r t l) h =
-    ap₂ (λ (x : Access) (y : List Access). x ∷ y) (h .0) (to-hands f (suc i) (k (f i .0) (s .0, f i .1)) (l 0 t) (h .2 (f i .0) 0 (f i .1) (t .1)))
+    ap₂ (λ (x : Access) (y : List Access). x ∷ y) (h .0)
+    (to-hands f (suc i) (k (f i .0) (s .0, f i .1)) (l 0 t) (h .2 (f i .0) 0 (f i .1) (t .1)))
 to-hands f i (ends a s) (asks r t l) h = absurd h
 to-hands f i (asks q s k) (ends c t) h = absurd h
 
-to-ends : {A : Type 0} (f : Brings) (i : ℕ) (o u : tree.Out St A) → Same o u → endsAs f i o ≡ (endsWith u .0, endsWith u .1 .0)
+to-ends : {A : Type 0} (f : Brings) (i : ℕ) (o u : tree.Out St A) → Same o u → endsAs f i o
+    ≡ (endsWith u .0, endsWith u .1 .0)
 to-ends f i (ends a s) (ends c t) h = λ x. (h .0 x, h .1 x)
-to-ends f i (asks q s k) (asks r t l) h = to-ends f (suc i) (k (f i .0) (s .0, f i .1)) (l 0 t) (h .2 (f i .0) 0 (f i .1) (t .1))
+to-ends f i (asks q s k) (asks r t l) h = to-ends f (suc i) (k (f i .0) (s .0, f i .1)) (l 0 t)
+    (h .2 (f i .0) 0 (f i .1) (t .1))
 to-ends f i (ends a s) (asks r t l) h = absurd h
 to-ends f i (asks q s k) (ends c t) h = absurd h
 
@@ -59,84 +63,98 @@ bind-same : {A B : Type 0} (o u : tree.Out St A) (f : A → St → tree.Out St B
     → Same (bindOut o f) (bindOut u f)
 bind-same {A} (ends a s) (ends c t) f h g =
     subst (λ (z : A × Driver). Same (f a s) (f (z .0) (z .1, t .1))) (λ x. (h .0 x, h .1 x)) (g a (s .0) (s .1) (t .1))
-bind-same (asks q s k) (asks r t l) f h g = (h .0, h .1, λ v w b c. bind-same (k v (s .0, b)) (l w (t .0, c)) f (h .2 v w b c) g)
+bind-same (asks q s k) (asks r t l) f h g = (
+  h .0,
+  h .1,
+  λ v w b c. bind-same (k v (s .0, b)) (l w (t .0, c)) f
+      (h .2 v w b c) g,
+)
 bind-same (ends a s) (asks r t l) f h g = absurd h
 bind-same (asks q s k) (ends c t) f h g = absurd h
 
 -- ---- scripts that are so
 
-pub record Deaf {A : Type 0} (p : Script false A) : Type 0 where
+pub record IgnoresBuffer {A : Type 0} (p : Script false A) : Type 0 where
   pub same : (d : Driver) (b c : List ℕ) → Same (run concrete p (d, b)) (run concrete p (d, c))
 
-returns : {A : Type 0} (a : A) → Deaf (ret a)
+returns : {A : Type 0} (a : A) → IgnoresBuffer (ret a)
 returns a = record { same = λ d b c. (refl, refl) }
 
-then : {A B : Type 0} {p : Script false A} {k : A → Script false B} → Deaf p → ((a : A) → Deaf (k a)) → Deaf (bind p k)
+then : {A B : Type 0} {p : Script false A} {k : A → Script false B} → IgnoresBuffer p → ((a : A) → IgnoresBuffer (k a))
+    → IgnoresBuffer (bind p k)
 then {p = p} {k = k} h g = record {
-  same = λ d b c. bind-same (run concrete p (d, b)) (run concrete p (d, c)) (λ a s. run concrete (k a) s) (h .same d b c) (λ a d b c. g a .same d b c);
+  same = λ d b c. bind-same (run concrete p (d, b)) (run concrete p (d, c)) (λ a s. run concrete (k a) s)
+      (h .same d b c) (λ a d b c. g a .same d b c);
 }
 
-tests : {A : Type 0} (t : Bool) {p q : Script false A} → Deaf p → Deaf q → Deaf (test t p q)
+tests : {A : Type 0} (t : Bool) {p q : Script false A} → IgnoresBuffer p → IgnoresBuffer q → IgnoresBuffer (test t p q)
 tests true h g = record { same = λ d b c. h .same d b c }
 tests false h g = record { same = λ d b c. g .same d b c }
 
-new : (dir : Dir) (kind maximum n : ℕ) → Deaf (newEndpoint dir kind maximum n)
+new : (dir : Dir) (kind maximum n : ℕ) → IgnoresBuffer (newEndpoint dir kind maximum n)
 new dir kind maximum n =
     then (record { same = λ d b c. (refl, refl, λ v w b c. (refl, refl)) }) (λ _.
-    then (tests (not (eqb (kind % 4) 0)) (record { same = λ d b c. (refl, refl, λ v w b c. (refl, refl)) }) (returns tt)) (λ _. returns n))
+    then (tests (not (eqb (kind % 4) 0)) (record { same = λ d b c. (refl, refl, λ v w b c. (refl, refl)) })
+    (returns tt)) (λ _. returns n))
 
-operates : {p : Script false ℕ} → Deaf p → Deaf (operation p)
+operates : {p : Script false ℕ} → IgnoresBuffer p → IgnoresBuffer (operation p)
 operates h =
-    then (record { same = λ d b c. (refl, refl) }) (λ _. then h (λ n. then (record { same = λ d b c. (refl, refl) }) (λ w. returns (End n w))))
+    then (record { same = λ d b c. (refl, refl) }) (λ _. then h
+    (λ n. then (record { same = λ d b c. (refl, refl) }) (λ w. returns (End n w))))
 
-announces : (dir : Dir) (n : ℕ) → Deaf (announce dir n)
+announces : (dir : Dir) (n : ℕ) → IgnoresBuffer (announce dir n)
 announces dir n = then (record { same = λ d b c. (refl, refl) }) (λ s. new dir (s .kind) (s .«max_len») n)
 
-finds : (dir : Dir) (x left n : ℕ) → Deaf (beginsAt dir x left n)
+finds : (dir : Dir) (x left n : ℕ) → IgnoresBuffer (beginsAt dir x left n)
 unfolding beginsAt
 finds dir x zero n = returns 0
 finds dir x (suc left) n =
     then (record { same = λ d b c. (refl, refl) }) (λ a. then (record { same = λ d b c. (refl, refl) }) (λ s.
     tests (isAllocated a dir n && eqb (s .base) x) (returns n) (finds dir x left (suc n))))
 
-after : (left total : ℕ) (dir : Dir) (n : ℕ) → Deaf (announceAfter left total dir n)
+after : (left total : ℕ) (dir : Dir) (n : ℕ) → IgnoresBuffer (announceAfter left total dir n)
 unfolding announceAfter
 after zero total dir n = returns total
 after (suc left) total dir n =
-    then (then (record { same = λ d b c. (refl, refl) }) (λ a. then (record { same = λ d b c. (refl, refl) }) (λ s. returns _))) (λ x.
+    then (then (record { same = λ d b c. (refl, refl) })
+    (λ a. then (record { same = λ d b c. (refl, refl) }) (λ s. returns _))) (λ x.
     then (finds Out x 15 1) (λ o.
     tests (eqb o 0) (then (finds In x 15 1) (λ n. then (announces In n) (λ _. after left total In n)))
     (then (announces Out o) (λ _. after left total Out o))))
 
-all-announced : (es : List Endpoint) → Deaf (announceAll es)
+all-announced : (es : List Endpoint) → IgnoresBuffer (announceAll es)
 all-announced [] = returns 0
 all-announced (e ∷ es) =
-    then (announces (directionOf (e .address)) (e .address % 128)) (λ _. after (length es) (suc (length es)) (directionOf (e .address)) (e .address % 128))
+    then (announces (directionOf (e .address)) (e .address % 128))
+    (λ _. after (length es) (suc (length es)) (directionOf (e .address)) (e .address % 128))
 
-all-allocated : (es : List Endpoint) → Deaf (allocateEach es)
+all-allocated : (es : List Endpoint) → IgnoresBuffer (allocateEach es)
 unfolding allocateEach
 all-allocated [] = returns tt
 all-allocated (e ∷ es) = then (record { same = λ d b c. (refl, refl) }) (λ _. all-allocated es)
 
-all-read : (bytes : List ℕ) (x : reading-answer.Answer) → Deaf (allocate-read bytes x)
+all-read : (bytes : List ℕ) (x : reading-answer.Answer) → IgnoresBuffer (allocate-read bytes x)
 all-read bytes (reading.Refused n) = returns (answers.Refused n)
 all-read bytes reading.Listed = then (record { same = λ d b c. (refl, refl) }) (λ a.
-    tests (eqb (trialOf a (listOf bytes) .refusal) 0) (then (all-allocated (listOf bytes)) (λ _. operates (all-announced (listOf bytes)))) (returns _))
+    tests (eqb (trialOf a (listOf bytes) .refusal) 0) (then (all-allocated (listOf bytes))
+    (λ _. operates (all-announced (listOf bytes)))) (returns _))
 
-staged-deaf : (n : ℕ) {p : Script false answers.Answer} → Deaf p → Deaf (staged n p)
-staged-deaf n h = then (record { same = λ d b c. (refl, refl) }) (λ g. tests (eqb (g .stage) n) h (returns (answers.Refused 4)))
+staged-deaf : (n : ℕ) {p : Script false answers.Answer} → IgnoresBuffer p → IgnoresBuffer (staged n p)
+staged-deaf n h = then (record { same = λ d b c. (refl, refl) })
+    (λ g. tests (eqb (g .stage) n) h (returns (answers.Refused 4)))
 
-pub whole : (bytes : List ℕ) → Deaf (otherCode (AllocateAll bytes))
+pub whole : (bytes : List ℕ) → IgnoresBuffer (otherCode (AllocateAll bytes))
 whole bytes = staged-deaf 1 (all-read bytes (readingOf bytes .answer))
 
-as-answered : (dir : Dir) (kind maximum : ℕ) (x : alloc-answer.Answer) → Deaf (allocated-as dir kind maximum x)
+as-answered : (dir : Dir) (kind maximum : ℕ) (x : alloc-answer.Answer) → IgnoresBuffer (allocated-as dir kind maximum x)
 as-answered dir kind maximum (alloc.Refused n) = returns (answers.Refused n)
 as-answered dir kind maximum (alloc.Given n base slots) = operates (new dir kind maximum n)
 
-pub single : (e : Endpoint) → Deaf (allocation e)
+pub single : (e : Endpoint) → IgnoresBuffer (allocation e)
 single e =
     let dir = directionOf (e .address) in
-    staged-deaf 1 (then (record { same = λ d b c. (refl, refl) }) (λ a. then (record { same = λ d b c. (refl, refl) }) (λ _.
+    staged-deaf 1 (then (record { same = λ d b c. (refl, refl) })
+    (λ a. then (record { same = λ d b c. (refl, refl) }) (λ _.
     as-answered dir (e .kind) (e .maximum) (allocateOf a (e .kind) (e .address) (e .maximum) dir .answer))))
 
 -- ---- one by one
@@ -157,7 +175,8 @@ singly g bs j (e ∷ es) d b =
 
 -- ---- the operation
 
--- as `in-order`, for any numbers and slots brought to the operation's continues, f, and to those of each allocation, g and bs
+-- as `in-order`, for any numbers and slots brought to the operation's continues, f, and to those of each allocation, g
+-- and bs
 pub record InOrderAs (d : Driver) (b bytes : List ℕ) (f : Brings) (g : ℕ → Brings) (bs : ℕ → List ℕ) : Type 0 where
   pub hands : handsAs f 0 (run concrete (otherCode (AllocateAll bytes)) (d, b)) ≡ oneByOneAs g bs 0 (listOf bytes) d .0
   pub ends-so : endsAs f 0 (run concrete (otherCode (AllocateAll bytes)) (d, b))
@@ -165,7 +184,8 @@ pub record InOrderAs (d : Driver) (b bytes : List ℕ) (f : Brings) (g : ℕ →
 
 pub in-order-as : (d : Driver) (b bytes : List ℕ)
     → Settled d → d .globals .stage ≡ 1 → ((j : ℕ) → getD bytes j 0 < 256) → readingOf bytes .answer ≡ reading.Listed
-    → trialOf (d .allocator) (listOf bytes) .refusal ≡ 0 → (f : Brings) (g : ℕ → Brings) (bs : ℕ → List ℕ) → InOrderAs d b bytes f g bs
+    → trialOf (d .allocator) (listOf bytes) .refusal ≡ 0 → (f : Brings) (g : ℕ → Brings) (bs : ℕ → List ℕ)
+    → InOrderAs d b bytes f g bs
 in-order-as d b bytes s stage small reads given f g bs =
     let o = run concrete (otherCode (AllocateAll bytes)) (d, b) in
     let r = in-order d b bytes s stage small reads given in

@@ -31,7 +31,8 @@ use Rattle.driver.specs.Each.{oneOn}
 never : {A : Type 0} → _≡_ {A = ℕ} 0 1 → A
 never h = absurd (omega arith)
 
-number-asked : (k n : ℕ) (d z l f : Bool) → if d (if z Nothing (if l Nothing (if f (Number k) Nothing))) Nothing ≡ Number n → n ≡ k
+number-asked : (k n : ℕ) (d z l f : Bool) → if d (if z Nothing (if l Nothing (if f (Number k) Nothing))) Nothing
+    ≡ Number n → n ≡ k
 number-asked k n true false false true h = cc
 number-asked k n true false false false h = never (cc)
 number-asked k n true false true f h = never (cc)
@@ -39,10 +40,12 @@ number-asked k n true true l f h = never (cc)
 number-asked k n false z l f h = never (cc)
 
 -- an address that is asked for gives its own number
-number-is : (a : Allocator) (iso : Bool) (address : ℕ) (dir : Dir) (n : ℕ) → address < 256 → numberOf a iso address dir ≡ Number n → n ≡ address % 128
+number-is : (a : Allocator) (iso : Bool) (address : ℕ) (dir : Dir) (n : ℕ) → address < 256 → numberOf a iso address dir
+    ≡ Number n → n ≡ address % 128
 unfolding numberOf askedOf
 number-is a iso address dir n h q =
-    number-asked (address % 128) n (eqb (address / 128) (dirBit dir)) (eqb (address % 128) 0) (leb 16 (address % 128)) (isFree a iso dir (address % 128))
+    number-asked (address % 128) n (eqb (address / 128) (dirBit dir)) (eqb (address % 128) 0) (leb 16 (address % 128))
+    (isFree a iso dir (address % 128))
     (rw (lt-ltb address 256 h) at q)
 
 module _ (a : Allocator) (kind address maximum : ℕ) (dir : Dir) (n x slots : ℕ) where
@@ -56,7 +59,8 @@ module _ (a : Allocator) (kind address maximum : ℕ) (dir : Dir) (n x slots : �
       let px : base ≡ x = cc in
       let pk : k ≡ slots = cc in (
         subst (λ (s : ℕ). Gives a (isIso kind) dir n x s b) pk
-            (subst (λ (y : ℕ). Gives a (isIso kind) dir n y k b) px (subst (λ (i : ℕ). Gives a (isIso kind) dir i base k b) pe g)),
+            (subst (λ (y : ℕ). Gives a (isIso kind) dir n y k b) px
+            (subst (λ (i : ℕ). Gives a (isIso kind) dir i base k b) pe g)),
         m ∙ ap Number pe,
       )
 
@@ -79,7 +83,8 @@ sets-stage : (dir : Dir) (kind interval n : ℕ) (g : Globals) → withSets dir 
 unfolding withSets
 sets-stage dir kind interval n g = by (isIso kind) dir (ltb interval 2)
   where
-    every : (l : Bool) → cond l (withIsoSets (g .«iso_out_eps») (withBit (g .«iso_in_every») (n % 16) true) g) g .stage ≡ g .stage
+    every : (l : Bool) → cond l (withIsoSets (g .«iso_out_eps») (withBit (g .«iso_in_every») (n % 16) true) g) g .stage
+        ≡ g .stage
     every true = refl
     every false = refl
 
@@ -88,7 +93,8 @@ sets-stage dir kind interval n g = by (isIso kind) dir (ltb interval 2)
     by true In l = every (ltb interval 2)
     by false dir l = refl
 
-sets-records : (dir : Dir) (kind interval n : ℕ) (d : Driver) (dir′ : Dir) (m : ℕ) → epOn (setsGiven dir kind interval n d) dir′ m ≡ epOn d dir′ m
+sets-records : (dir : Dir) (kind interval n : ℕ) (d : Driver) (dir′ : Dir) (m : ℕ)
+    → epOn (setsGiven dir kind interval n d) dir′ m ≡ epOn d dir′ m
 unfolding setsGiven epOn
 sets-records dir kind interval n d dir′ m = refl
 
@@ -97,13 +103,22 @@ unfolding epOn
 between-records d a dir m = refl
 
 between-sized : (d : Driver) (a : Allocator) → Sized d → Sized (withAllocator d a)
-between-sized d a s = record { eps = s .eps; lens = s .lens; stamps = s .stamps; paced = s .paced; requests = s .requests }
+between-sized d a s = record {
+  eps = s .eps;
+  lens = s .lens;
+  stamps = s .stamps;
+  paced = s .paced;
+  requests
+      = s .requests;
+}
 
 module _ (d : Driver) (e : Endpoint) (n x slots : ℕ) (q : asked (d .allocator) e .answer ≡ Given n x slots) where
   one-is : oneOn d e ≡ setsGiven (directionOf (e .address)) (e .kind) (e .interval) n
-      (recordGiven (directionOf (e .address)) (e .kind) (e .maximum) n x slots (withAllocator d (asked (d .allocator) e .after)))
+      (recordGiven (directionOf (e .address)) (e .kind) (e .maximum) n x slots
+      (withAllocator d (asked (d .allocator) e .after)))
   unfolding oneOn allocatedOn asked givenTo
-  one-is = ap (λ (z : Answer). givenTo (directionOf (e .address)) (e .kind) (e .maximum) (e .interval) z (withAllocator d (asked (d .allocator) e .after))) q
+  one-is = ap (λ (z : Answer). givenTo (directionOf (e .address)) (e .kind) (e .maximum) (e .interval) z
+      (withAllocator d (asked (d .allocator) e .after))) q
 
   pub one-allocator : oneOn d e .allocator ≡ asked (d .allocator) e .after
   unfolding setsGiven recordGiven withOn
@@ -111,7 +126,8 @@ module _ (d : Driver) (e : Endpoint) (n x slots : ℕ) (q : asked (d .allocator)
 
   pub one-stage : oneOn d e .globals .stage ≡ d .globals .stage
   unfolding setsGiven recordGiven withOn
-  one-stage = ap (λ (z : Driver). z .globals .stage) one-is ∙ sets-stage (directionOf (e .address)) (e .kind) (e .interval) n (d .globals)
+  one-stage = ap (λ (z : Driver). z .globals .stage) one-is
+      ∙ sets-stage (directionOf (e .address)) (e .kind) (e .interval) n (d .globals)
 
   pub one-sized : Sized d → Sized (oneOn d e)
   unfolding setsGiven recordGiven withOn
@@ -124,7 +140,8 @@ module _ (d : Driver) (e : Endpoint) (n x slots : ℕ) (q : asked (d .allocator)
   })
 
   pub one-here : Sized d → epOn (oneOn d e) (directionOf (e .address)) n
-      ≡ allocated (epOn d (directionOf (e .address)) n) (e .kind) (e .maximum) x (asked (d .allocator) e .after .size) slots
+      ≡ allocated (epOn d (directionOf (e .address)) n) (e .kind) (e .maximum) x (asked (d .allocator) e .after .size)
+      slots
   unfolding recordGiven
   one-here s =
       let b = withAllocator d (asked (d .allocator) e .after) in
@@ -135,11 +152,13 @@ module _ (d : Driver) (e : Endpoint) (n x slots : ℕ) (q : asked (d .allocator)
       ∙ ap (λ (r : EpState). allocated r (e .kind) (e .maximum) x (asked (d .allocator) e .after .size) slots)
       (between-records d (asked (d .allocator) e .after) (directionOf (e .address)) n)
 
-  pub one-other : (dir : Dir) (m : ℕ) → key dir m ≢ key (directionOf (e .address)) n → epOn (oneOn d e) dir m ≡ epOn d dir m
+  pub one-other : (dir : Dir) (m : ℕ) → key dir m ≢ key (directionOf (e .address)) n → epOn (oneOn d e) dir m
+      ≡ epOn d dir m
   unfolding recordGiven
   one-other dir m h =
       let b = withAllocator d (asked (d .allocator) e .after) in
       ap (λ (z : Driver). epOn z dir m) one-is
-      ∙ sets-records (directionOf (e .address)) (e .kind) (e .interval) n (recordGiven (directionOf (e .address)) (e .kind) (e .maximum) n x slots b) dir m
+      ∙ sets-records (directionOf (e .address)) (e .kind) (e .interval) n
+      (recordGiven (directionOf (e .address)) (e .kind) (e .maximum) n x slots b) dir m
       ∙ epOn-other b (directionOf (e .address)) n _ dir m h
       ∙ between-records d (asked (d .allocator) e .after) dir m

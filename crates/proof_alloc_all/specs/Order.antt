@@ -22,8 +22,8 @@ pub record Stepwise (es : List Endpoint) (d : Driver) (b : List ℕ) : Type 0 wh
   pub state : noneGathered (oneByOne es (d, b) .1 .0) ≡ noneGathered (eachOn d es)
   pub bytes : oneByOne es (d, b) .1 .1 ≡ b
 
--- a descriptor without error, none of whose endpoints would be refused: all that the operation hands out is what their own allocations hand out, one
--- after the other; it ends with how many were given, and with the state that these leave
+-- a descriptor without error, none of whose endpoints would be refused: all that the operation hands out is what their
+-- own allocations hand out, one after the other; it ends with how many were given, and with the state that these leave
 pub record InOrder (d : Driver) (b bytes : List ℕ) : Type 0 where
   pub hands : handsOut (run concrete (otherCode (AllocateAll bytes)) (d, b)) ≡ oneByOne (listOf bytes) (d, b) .0
   pub ends-so : endsWith (run concrete (otherCode (AllocateAll bytes)) (d, b))

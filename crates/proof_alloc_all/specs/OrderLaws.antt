@@ -56,18 +56,16 @@ data Accepts : Allocator → List Endpoint → Type 0 where
   goes-on : (a : Allocator) (e : Endpoint) (es : List Endpoint) (n x slots : ℕ)
       → asked a e .answer ≡ Given n x slots → Accepts (asked a e .after) es → Accepts a (e ∷ es)
 
-accepts : {a b : Allocator} {es : List Endpoint} {ns : List ℕ} {buffers n : ℕ} → Run a es ns buffers n b → n ≡ 0 → Accepts a es
+accepts : {a b : Allocator} {es : List Endpoint} {ns : List ℕ} {buffers n : ℕ} → Run a es ns buffers n b → n ≡ 0
+    → Accepts a es
 accepts (all a) h = done a
 accepts (stopped a e es n q l m) h = absurd (omega arith)
 accepts (goes a e es k base slots q ns buffers n b r) h = goes-on a e es k base slots q (accepts r h)
 
 -- ---- wake-ups stand apart
 
-records-wakes : (d : Driver) (w : Wakes) (dir : Dir) (m : ℕ) → epOn (withWakes d w) dir m ≡ epOn d dir m
-unfolding epOn
-records-wakes d w dir m = refl
-
-owns-wakes : (d : Driver) (w : Wakes) (dir : Dir) (n kind maximum x : ℕ) → Owns d dir n kind maximum x → Owns (withWakes d w) dir n kind maximum x
+owns-wakes : (d : Driver) (w : Wakes) (dir : Dir) (n kind maximum x : ℕ) → Owns d dir n kind maximum x
+    → Owns (withWakes d w) dir n kind maximum x
 unfolding epOn
 owns-wakes d w dir n kind maximum x o = record {
   low = o .low;
@@ -104,10 +102,12 @@ unfolding oneOn allocatedOn givenTo setsGiven recordGiven withOn epOn
 one-wakes d w e = go (allocateOf (d .allocator) (e .kind) (e .address) (e .maximum) (directionOf (e .address)) .answer)
   where
     go : (z : Answer) → givenTo (directionOf (e .address)) (e .kind) (e .maximum) (e .interval) z
-        (withAllocator (withWakes d w) (allocateOf (d .allocator) (e .kind) (e .address) (e .maximum) (directionOf (e .address)) .after))
+        (withAllocator (withWakes d w) (allocateOf (d .allocator) (e .kind) (e .address) (e .maximum)
+        (directionOf (e .address)) .after))
         ≡ withWakes
         (givenTo (directionOf (e .address)) (e .kind) (e .maximum) (e .interval) z
-        (withAllocator d (allocateOf (d .allocator) (e .kind) (e .address) (e .maximum) (directionOf (e .address)) .after))) w
+        (withAllocator d (allocateOf (d .allocator) (e .kind) (e .address) (e .maximum)
+        (directionOf (e .address)) .after))) w
     go (Refused n) = refl
     go (Given n x slots) = refl
 
@@ -127,16 +127,19 @@ unfolding eachOn
 stays [] d dir m kind maximum y s a o = o
 stays (e ∷ es) d dir m kind maximum y s (goes-on _ _ _ n x slots q r) o =
     stays es (oneOn d e) dir m kind maximum y (settled d e n x slots q s)
-    (subst (λ (z : Allocator). Accepts z es) (sym (one-allocator d e n x slots q)) r) (still d e n x slots q s dir m kind maximum y o)
+    (subst (λ (z : Allocator). Accepts z es) (sym (one-allocator d e n x slots q)) r)
+    (still d e n x slots q s dir m kind maximum y o)
 
-all-size : (es : List Endpoint) (d : Driver) → Settled d → Accepts (d .allocator) es → eachOn d es .allocator .size ≡ d .allocator .size
+all-size : (es : List Endpoint) (d : Driver) → Settled d → Accepts (d .allocator) es → eachOn d es .allocator .size
+    ≡ d .allocator .size
 unfolding eachOn
 all-size [] d s a = refl
 all-size (e ∷ es) d s (goes-on _ _ _ n x slots q r) =
     all-size es (oneOn d e) (settled d e n x slots q s)
     (subst (λ (z : Allocator). Accepts z es) (sym (one-allocator d e n x slots q)) r) ∙ same-size d e n x slots q s
 
-chain : (es : List Endpoint) (d : Driver) → Settled d → Accepts (d .allocator) es → Good es → Chain (eachOn d es) (d .allocator .next * d .allocator .size) es
+chain : (es : List Endpoint) (d : Driver) → Settled d → Accepts (d .allocator) es → Good es
+    → Chain (eachOn d es) (d .allocator .next * d .allocator .size) es
 unfolding eachOn Good
 chain [] d s a g = tt
 chain (e ∷ es) d s (goes-on _ _ _ n x slots q r) g =
@@ -148,7 +151,8 @@ chain (e ∷ es) d s (goes-on _ _ _ n x slots q r) g =
     let z : d1 .allocator .next * d1 .allocator .size ≡ d .allocator .next
     * d .allocator .size + slotsOf (isIso (e .kind)) (directionOf (e .address)) * eachOn d1 es .allocator .size =
     sym (more d e n x slots q s) ∙ rw (all-size es d1 t r1, same-size d e n x slots q s, v .starts, v .slots) in (
-      subst (λ (m : ℕ). Owns (eachOn d1 es) (directionOf (e .address)) m (e .kind) (e .maximum) (d .allocator .next * d .allocator .size))
+      subst (λ (m : ℕ). Owns (eachOn d1 es) (directionOf (e .address)) m (e .kind) (e .maximum)
+          (d .allocator .next * d .allocator .size))
           (given-number (d .allocator) e n x slots q (g .0 .address))
           (subst (λ (y : ℕ). Owns (eachOn d1 es) (directionOf (e .address)) n (e .kind) (e .maximum) y) (v .starts) o),
       subst (λ (y : ℕ). Chain (eachOn d1 es) y es) z (chain es d1 t r1 (g .2)),
@@ -162,36 +166,43 @@ module _ (d : Driver) (b : List ℕ) (e : Endpoint) (n x slots : ℕ)
   lastly k u = ends (End k (listed (u .0 .wakes))) u
 
   abbrev buffer : Bool → ℕ × Driver → tree.Out St Unit
-  buffer c p = cond c (asks (dma (directionOf (e .address)) n (p .0)) (p .1, b) (λ _ u. ends tt u)) (ends tt (noneGathered (oneOn d e), b))
+  buffer c p = cond c (asks (dma (directionOf (e .address)) n (p .0)) (p .1, b) (λ _ u. ends tt u))
+      (ends tt (noneGathered (oneOn d e), b))
 
   abbrev tail : Bool → ℕ × Driver → tree.Out St answers.Answer
   tail c p = bindOut (bindOut (buffer c p) (λ _ u. ends n u)) lastly
 
   abbrev as-answered : Answer → tree.Out St answers.Answer
-  as-answered z = run {i = false} concrete (allocated-as (directionOf (e .address)) (e .kind) (e .maximum) z) (oneOn d e, b)
+  as-answered z = run {i = false} concrete (allocated-as (directionOf (e .address)) (e .kind) (e .maximum) z)
+      (oneOn d e, b)
 
   runs : run concrete (allocation e) (d, b) ≡ as-answered (Given n x slots)
   unfolding oneOn asked
   runs =
-      ap (λ (t : Bool). cond t (as-answered (allocateOf (d .allocator) (e .kind) (e .address) (e .maximum) (directionOf (e .address)) .answer))
+      ap (λ (t : Bool). cond t (as-answered (allocateOf (d .allocator) (e .kind) (e .address) (e .maximum)
+      (directionOf (e .address)) .answer))
       (ends (answers.Refused 4) (d, b))) (eq-eqb (d .globals .stage) 1 stage)
       ∙ ap as-answered q
 
   place-is : placeOn (directionOf (e .address)) n (noneGathered (oneOn d e)) ≡ pair x (noneGathered (oneOn d e))
   place-is =
-      let o = owns-wakes (oneOn d e) (unwoken (oneOn d e .wakes)) (directionOf (e .address)) n (e .kind) (e .maximum) x (owns d e n x slots q s) in
+      let o = owns-wakes (oneOn d e) (unwoken (oneOn d e .wakes)) (directionOf (e .address)) n (e .kind) (e .maximum) x
+      (owns d e n x slots q s) in
       placed (noneGathered (oneOn d e)) (directionOf (e .address)) n x (o .base) (o .armed)
 
-  tail-hands : (c : Bool) → handsOut (tail c (pair x (noneGathered (oneOn d e)))) ≡ cond c (dma (directionOf (e .address)) n x ∷ []) []
+  tail-hands : (c : Bool) → handsOut (tail c (pair x (noneGathered (oneOn d e))))
+      ≡ cond c (dma (directionOf (e .address)) n x ∷ []) []
   tail-hands true = refl
   tail-hands false = refl
 
-  tail-ends : (c : Bool) → endsWith (tail c (pair x (noneGathered (oneOn d e)))) ≡ (End n [], (noneGathered (oneOn d e), b))
+  tail-ends : (c : Bool) → endsWith (tail c (pair x (noneGathered (oneOn d e))))
+      ≡ (End n [], (noneGathered (oneOn d e), b))
   unfolding listed
   tail-ends true = refl
   tail-ends false = refl
 
-  one-hands : handsOut (run concrete (allocation e) (d, b)) ≡ accesses (directionOf (e .address)) n (e .kind) (e .maximum) x
+  one-hands : handsOut (run concrete (allocation e) (d, b))
+      ≡ accesses (directionOf (e .address)) n (e .kind) (e .maximum) x
   one-hands =
       ap handsOut runs
       ∙ ap (λ (p : ℕ × Driver). Write EpMaxLen n (e .maximum) ∷ handsOut (tail (not (eqb (e .kind % 4) 0)) p)) place-is
@@ -203,7 +214,8 @@ module _ (d : Driver) (b : List ℕ) (e : Endpoint) (n x slots : ℕ)
       ∙ ap (λ (p : ℕ × Driver). endsWith (tail (not (eqb (e .kind % 4) 0)) p)) place-is
       ∙ tail-ends (not (eqb (e .kind % 4) 0))
 
-stepwise : (es : List Endpoint) (d : Driver) (b : List ℕ) → Settled d → d .globals .stage ≡ 1 → Accepts (d .allocator) es → Good es → Stepwise es d b
+stepwise : (es : List Endpoint) (d : Driver) (b : List ℕ) → Settled d → d .globals .stage ≡ 1
+    → Accepts (d .allocator) es → Good es → Stepwise es d b
 unfolding oneByOne eachOn Good
 stepwise [] d b s stage a g = record { hands = refl; state = refl; bytes = refl }
 stepwise (e ∷ es) d b s stage (goes-on _ _ _ n x slots q r) g =
@@ -222,11 +234,14 @@ stepwise (e ∷ es) d b s stage (goes-on _ _ _ n x slots q r) g =
           ap (λ (z : St). handsOut (run concrete (allocation e) (d, b)) ++ oneByOne es z .0) w
           ∙ ap (λ (l : List Access). l ++ oneByOne es (d2, b) .0) (one-hands d b e n x slots q s stage)
           ∙ ap (λ (l : List Access). accesses (directionOf (e .address)) n (e .kind) (e .maximum) x ++ l)
-          (i .hands ∙ ap (λ (z : ℕ). handed z (d2 .allocator .next * d2 .allocator .size) es) (same-size d e n x slots q s)
+          (i .hands ∙ ap (λ (z : ℕ). handed z (d2 .allocator .next * d2 .allocator .size) es)
+          (same-size d e n x slots q s)
           ∙ ap (λ (z : ℕ). handed (d .allocator .size) z es) y)
           ∙ ap (λ (z : ℕ). accesses (directionOf (e .address)) z (e .kind) (e .maximum) x ++ handed (d .allocator .size)
-          (d .allocator .next * d .allocator .size + slotsOf (isIso (e .kind)) (directionOf (e .address)) * d .allocator .size) es) m
-          ∙ ap (λ (z : ℕ). accesses (directionOf (e .address)) (e .address % 128) (e .kind) (e .maximum) z ++ handed (d .allocator .size)
+          (d .allocator .next * d .allocator .size + slotsOf (isIso (e .kind)) (directionOf (e .address))
+          * d .allocator .size) es) m
+          ∙ ap (λ (z : ℕ). accesses (directionOf (e .address)) (e .address % 128) (e .kind) (e .maximum) z
+          ++ handed (d .allocator .size)
           (d .allocator .next * d .allocator .size + slotsOf (isIso (e .kind)) (directionOf (e .address))
           * d .allocator .size) es) (v .starts);
       state = ap (λ (z : St). noneGathered (oneByOne es z .1 .0)) w ∙ i .state
@@ -244,12 +259,14 @@ finish-hands : (o : tree.Out St ℕ) → handsOut (bindOut o finishing) ≡ hand
 finish-hands (ends n s) = refl
 finish-hands (asks q s k) = ap (λ (l : List Access). q ∷ l) (finish-hands (k 0 s))
 
-finish-ends : (o : tree.Out St ℕ) → endsWith (bindOut o finishing) ≡ (End (endsWith o .0) (listed (endsWith o .1 .0 .wakes)), endsWith o .1)
+finish-ends : (o : tree.Out St ℕ) → endsWith (bindOut o finishing)
+    ≡ (End (endsWith o .0) (listed (endsWith o .1 .0 .wakes)), endsWith o .1)
 finish-ends (ends n s) = refl
 finish-ends (asks q s k) = finish-ends (k 0 s)
 
 all-hands : (es : List Endpoint) (d : Driver) (b : List ℕ) (x : ℕ) → Chain d x es
-    → (handsOut (go (announceAll es) d b) ≡ handed (d .allocator .size) x es) × (endsWith (go (announceAll es) d b) ≡ (length es, (d, b)))
+    → (handsOut (go (announceAll es) d b) ≡ handed (d .allocator .size) x es)
+    × (endsWith (go (announceAll es) d b) ≡ (length es, (d, b)))
 all-hands [] d b x c = (refl, refl)
 all-hands (e ∷ es) d b x c =
     let dir = directionOf (e .address) in
@@ -261,7 +278,8 @@ all-hands (e ∷ es) d b x c =
       announce-ends (length es) (suc (length es)) d b dir m (e .kind) (e .maximum) x (c .0) ∙ r .1,
     )
 
-pub in-order : (d : Driver) (b bytes : List ℕ) → Settled d → d .globals .stage ≡ 1 → ((j : ℕ) → getD bytes j 0 < 256) → readingOf bytes .answer ≡ reading.Listed
+pub in-order : (d : Driver) (b bytes : List ℕ) → Settled d → d .globals .stage ≡ 1 → ((j : ℕ) → getD bytes j 0 < 256)
+    → readingOf bytes .answer ≡ reading.Listed
     → trialOf (d .allocator) (listOf bytes) .refusal ≡ 0 → InOrder d b bytes
 unfolding listed
 in-order d b bytes s stage small reads given =
@@ -270,17 +288,22 @@ in-order d b bytes s stage small reads given =
     let o = one-by-one (d .allocator) es (few es g) in
     let a = accepts (o .run) (sym (ap (λ (t : Trial). t .refusal) (o .trial)) ∙ given) in
     let D = noneGathered (eachOn d es) in
-    let c = chain-wakes es (eachOn d es) (unwoken (eachOn d es .wakes)) (d .allocator .next * d .allocator .size) (chain es d s a g) in
+    let c = chain-wakes es (eachOn d es) (unwoken (eachOn d es .wakes)) (d .allocator .next * d .allocator .size)
+    (chain es d s a g) in
     let h = all-hands es D b (d .allocator .next * d .allocator .size) c in
     let z = stepwise es d b s stage a g in
     let r : run concrete (otherCode (AllocateAll bytes)) (d, b) ≡ bindOut (go (announceAll es) D b) finishing =
-    ap (λ (t : Bool). cond t (run {i = false} concrete (allocate-read bytes (readingOf bytes .answer)) (d, b)) (ends (answers.Refused 4) (d, b)))
+    ap (λ (t : Bool). cond t (run {i = false} concrete (allocate-read bytes (readingOf bytes .answer)) (d, b))
+    (ends (answers.Refused 4) (d, b)))
     (eq-eqb (d .globals .stage) 1 stage)
     ∙ ap (λ (y : reading-answer.Answer). run {i = false} concrete (allocate-read bytes y) (d, b)) reads
     ∙ ap (λ (t : Bool). cond t
-    (bindOut (go (script.allocateEach {i = false} es) d b) (λ _ u. run {i = false} concrete (operation (announceAll es)) u))
-    (ends (answers.Refused (trialOf (d .allocator) es .refusal)) (d, b))) (eq-eqb (trialOf (d .allocator) es .refusal) 0 given)
-    ∙ ap (λ (y : tree.Out St Unit). bindOut y (λ _ u. run {i = false} concrete (operation (announceAll es)) u)) (each-run es d b) in
+    (bindOut (go (script.allocateEach {i = false} es) d b)
+    (λ _ u. run {i = false} concrete (operation (announceAll es)) u))
+    (ends (answers.Refused (trialOf (d .allocator) es .refusal)) (d, b)))
+    (eq-eqb (trialOf (d .allocator) es .refusal) 0 given)
+    ∙ ap (λ (y : tree.Out St Unit). bindOut y (λ _ u. run {i = false} concrete (operation (announceAll es)) u))
+    (each-run es d b) in
     record {
       hands = ap handsOut r ∙ finish-hands (go (announceAll es) D b) ∙ h .0
           ∙ ap (λ (y : ℕ). handed y (d .allocator .next * d .allocator .size) es) (all-size es d s a) ∙ sym (z .hands);
@@ -292,11 +315,14 @@ in-order d b bytes s stage small reads given =
 -- ---- refused
 
 -- by the refusal of the first endpoint that would be refused: nothing is handed out, nothing changes
-pub none-given : (d : Driver) (b bytes : List ℕ) (n : ℕ) → d .globals .stage ≡ 1 → readingOf bytes .answer ≡ reading.Listed
-    → trialOf (d .allocator) (listOf bytes) .refusal ≡ n → (n ≡ 0 → ⊥) → run concrete (otherCode (AllocateAll bytes)) (d, b) ≡ ends (answers.Refused n) (d, b)
+pub none-given : (d : Driver) (b bytes : List ℕ) (n : ℕ) → d .globals .stage ≡ 1 → readingOf bytes .answer
+    ≡ reading.Listed
+    → trialOf (d .allocator) (listOf bytes) .refusal ≡ n → (n ≡ 0 → ⊥)
+    → run concrete (otherCode (AllocateAll bytes)) (d, b) ≡ ends (answers.Refused n) (d, b)
 none-given d b bytes n stage listed refused some =
     let es = listOf bytes in
-    ap (λ (t : Bool). cond t (run {i = false} concrete (allocate-read bytes (readingOf bytes .answer)) (d, b)) (ends (answers.Refused 4) (d, b)))
+    ap (λ (t : Bool). cond t (run {i = false} concrete (allocate-read bytes (readingOf bytes .answer)) (d, b))
+    (ends (answers.Refused 4) (d, b)))
     (eq-eqb (d .globals .stage) 1 stage)
     ∙ ap (λ (y : reading-answer.Answer). run {i = false} concrete (allocate-read bytes y) (d, b)) listed
     ∙ ap (λ (k : ℕ). cond (eqb k 0) (bindOut (go (script.allocateEach {i = false} es) d b)
@@ -304,9 +330,11 @@ none-given d b bytes n stage listed refused some =
     ∙ rw (ne-eqb n 0 some)
 
 -- by 17 or 18
-pub unread : (d : Driver) (b bytes : List ℕ) (n : ℕ) → d .globals .stage ≡ 1 → readingOf bytes .answer ≡ reading.Refused n
+pub unread : (d : Driver) (b bytes : List ℕ) (n : ℕ) → d .globals .stage ≡ 1 → readingOf bytes .answer
+    ≡ reading.Refused n
     → run concrete (otherCode (AllocateAll bytes)) (d, b) ≡ ends (answers.Refused n) (d, b)
 unread d b bytes n stage refused =
-    ap (λ (t : Bool). cond t (run {i = false} concrete (allocate-read bytes (readingOf bytes .answer)) (d, b)) (ends (answers.Refused 4) (d, b)))
+    ap (λ (t : Bool). cond t (run {i = false} concrete (allocate-read bytes (readingOf bytes .answer)) (d, b))
+    (ends (answers.Refused 4) (d, b)))
     (eq-eqb (d .globals .stage) 1 stage)
     ∙ ap (λ (y : reading-answer.Answer). run {i = false} concrete (allocate-read bytes y) (d, b)) refused

@@ -1,4 +1,5 @@
--- A preview is what the calls of its own give each endpoint, one after the other on a copy of the state, up to the first refusal (request Four)
+-- A preview is what the calls of its own give each endpoint, one after the other on a copy of the state, up to the
+-- first refusal (request Four)
 use mathlib.Core.Bool.{Bool, false, cond}
 use mathlib.Core.List.{List, [], _∷_}
 use mathlib.Core.Path.{_≡_, refl, ap, subst, _∙_}
@@ -40,8 +41,10 @@ use Rattle.proof_alloc_all.specs.OrderLaws.{settled-wakes, one-ends}
 -- from a state, for a list: the numbers that the calls end with, the refusal that ended it or 0, and the state then
 pub data Calls : St → List Endpoint → List ℕ → ℕ → St → Type 0 where
   all-given : (s : St) → Calls s [] [] 0 s
-  refused : (s : St) (e : Endpoint) (es : List Endpoint) (n : ℕ) → run concrete (allocation e) s ≡ ends (answers.Refused n) s → Calls s (e ∷ es) [] n s
-  ended : (s t u : St) (e : Endpoint) (es : List Endpoint) (k : ℕ) → endsWith (run concrete (allocation e) s) ≡ (End k [], t) → (ns : List ℕ) (n : ℕ)
+  refused : (s : St) (e : Endpoint) (es : List Endpoint) (n : ℕ) → run concrete (allocation e) s
+      ≡ ends (answers.Refused n) s → Calls s (e ∷ es) [] n s
+  ended : (s t u : St) (e : Endpoint) (es : List Endpoint) (k : ℕ) → endsWith (run concrete (allocation e) s)
+      ≡ (End k [], t) → (ns : List ℕ) (n : ℕ)
       → Calls t es ns n u → Calls s (e ∷ es) (k ∷ ns) n u
 
 -- ---- a refused call changes nothing
@@ -51,7 +54,8 @@ unfolding oneOn allocatedOn givenTo asked
 refused-on d e n q =
     let f : Fair (d .allocator) (asked (d .allocator) e .after) (Refused n) =
     subst (Fair (d .allocator) (asked (d .allocator) e .after)) q (fair-asked (d .allocator) e) in
-    ap (λ (z : Answer). givenTo (directionOf (e .address)) (e .kind) (e .maximum) (e .interval) z (withAllocator d (asked (d .allocator) e .after))) q
+    ap (λ (z : Answer). givenTo (directionOf (e .address)) (e .kind) (e .maximum) (e .interval) z
+    (withAllocator d (asked (d .allocator) e .after))) q
     ∙ ap (withAllocator d) (f .2)
 
 refused-run : (d : Driver) (b : List ℕ) (e : Endpoint) (n : ℕ) → d .globals .stage ≡ 1
@@ -61,7 +65,8 @@ refused-run d b e n stage q =
     ap (λ (t : Bool). cond t (run {i = false} concrete (allocated-as (directionOf (e .address)) (e .kind) (e .maximum)
     (allocateOf (d .allocator) (e .kind) (e .address) (e .maximum) (directionOf (e .address)) .answer)) (oneOn d e, b))
     (ends (answers.Refused 4) (d, b))) (eq-eqb (d .globals .stage) 1 stage)
-    ∙ ap (λ (z : Answer). run {i = false} concrete (allocated-as (directionOf (e .address)) (e .kind) (e .maximum) z) (oneOn d e, b)) q
+    ∙ ap (λ (z : Answer). run {i = false} concrete (allocated-as (directionOf (e .address)) (e .kind) (e .maximum) z)
+    (oneOn d e, b)) q
     ∙ ap (λ (z : Driver). ends (answers.Refused n) (z, b)) (refused-on d e n q)
 
 -- ---- the allocator's run is the calls'
@@ -71,7 +76,8 @@ record Ran (d : Driver) (b : List ℕ) (es : List Endpoint) (ns : List ℕ) (n :
   calls : Calls (d, b) es ns n (after, b)
   leaves : after .allocator ≡ c
 
-by-calls : {a c : Allocator} {es : List Endpoint} {ns : List ℕ} {buffers n : ℕ} → Run a es ns buffers n c → (d : Driver) (b : List ℕ)
+by-calls : {a c : Allocator} {es : List Endpoint} {ns : List ℕ} {buffers n : ℕ} → Run a es ns buffers n c
+    → (d : Driver) (b : List ℕ)
     → d .allocator ≡ a → Settled d → d .globals .stage ≡ 1 → Ran d b es ns n c
 by-calls (all a) d b h s stage = record { after = d; calls = all-given (d, b); leaves = h }
 by-calls (stopped a e es n q l m) d b h s stage = record {
@@ -83,14 +89,16 @@ by-calls (goes a e es k base slots q ns buffers n c r) d b h s stage =
     let p = ap (λ (z : Allocator). asked z e .answer) h ∙ q in
     let d2 = noneGathered (oneOn d e) in
     let i = by-calls r d2 b (one-allocator d e k base slots p ∙ ap (λ (z : Allocator). asked z e .after) h)
-    (settled-wakes (oneOn d e) (unwoken (oneOn d e .wakes)) (settled d e k base slots p s)) (one-stage d e k base slots p ∙ stage) in
+    (settled-wakes (oneOn d e) (unwoken (oneOn d e .wakes)) (settled d e k base slots p s))
+    (one-stage d e k base slots p ∙ stage) in
     record {
       after = i .after;
       calls = ended (d, b) (d2, b) (i .after, b) e es k (one-ends d b e k base slots p s stage) ns n (i .calls);
       leaves = i .leaves;
     }
 
--- a descriptor without error: the preview's numbers and its refusal are those of the calls, and its buffers those that the calls took
+-- a descriptor without error: the preview's numbers and its refusal are those of the calls, and its buffers those that
+-- the calls took
 pub record ByCalls (d : Driver) (b bytes : List ℕ) : Type 0 where
   pub numbers : List ℕ
   pub buffers : ℕ
@@ -99,9 +107,17 @@ pub record ByCalls (d : Driver) (b bytes : List ℕ) : Type 0 where
   pub calls : Calls (d, b) (listOf bytes) numbers refusal after
   pub taken : after .0 .allocator .next ≡ d .allocator .next + buffers
   pub same : previewOf (d .allocator) bytes
-      ≡ record { said = said.Tried; numbers = padded numbers; count = length numbers; buffers = buffers; refusal = refusal }
+      ≡ record {
+        said = said.Tried;
+        numbers = padded numbers;
+        count = length numbers;
+        buffers = buffers;
+        refusal
+            = refusal;
+      }
 
-pub previewed-by-calls : (d : Driver) (b bytes : List ℕ) → Settled d → d .globals .stage ≡ 1 → ((j : ℕ) → getD bytes j 0 < 256)
+pub previewed-by-calls : (d : Driver) (b bytes : List ℕ) → Settled d → d .globals .stage ≡ 1
+    → ((j : ℕ) → getD bytes j 0 < 256)
     → readingOf bytes .answer ≡ reading.Listed → ByCalls d b bytes
 unfolding shownOf
 previewed-by-calls d b bytes s stage small listed =

@@ -1,4 +1,5 @@
--- A list is refused with the row that its preview tells, and not where this tells none (requests Three and Four). Rows 3 and 4 come before, of both:
+-- A list is refused with the row that its preview tells, and not where this tells none (requests Three and Four). Rows
+-- 3 and 4 come before, of both:
 -- `previewed` (calls/specs/Listed.antt) and `staged`. Assumes nothing.
 use mathlib.Core.Bool.{Bool, true, false, cond}
 use mathlib.Core.List.{List}
@@ -50,25 +51,30 @@ begun-row : (o : tree.Out St ℕ) → rowOf (bindOut o (λ k u. ends (End k (lis
 begun-row (ends n s) = refl
 begun-row (asks q s k) = refl
 
-tried-row : (es : List Endpoint) (d : Driver) (b : List ℕ) (n : ℕ) → rowOf (run {i = false} concrete (allocate-tried es n) (d, b)) ≡ n
+tried-row : (es : List Endpoint) (d : Driver) (b : List ℕ) (n : ℕ)
+    → rowOf (run {i = false} concrete (allocate-tried es n) (d, b)) ≡ n
 tried-row es d b n = by (eqb n 0) refl
   where
     by : (t : Bool) → eqb n 0 ≡ t
         → rowOf
-        (cond t (bindOut (go (allocateEach {i = false} es) d b) (λ _ u. run {i = false} concrete (operation (announceAll es)) u))
+        (cond t (bindOut (go (allocateEach {i = false} es) d b)
+        (λ _ u. run {i = false} concrete (operation (announceAll es)) u))
         (ends (answers.Refused n) (d, b))) ≡ n
     by false e = refl
     by true e =
-        ap (λ (o : tree.Out St Unit). rowOf (bindOut o (λ _ u. run {i = false} concrete (operation (announceAll es)) u))) (each-run es d b)
+        ap (λ (o : tree.Out St Unit). rowOf (bindOut o
+        (λ _ u. run {i = false} concrete (operation (announceAll es)) u))) (each-run es d b)
         ∙ begun-row (go (announceAll es) (noneGathered (eachOn d es)) b) ∙ sym (eqb-true n 0 e)
 
 pub same-row : (d : Driver) (b bytes : List ℕ) → d .globals .stage ≡ 1
     → rowOf (run concrete (otherCode (AllocateAll bytes)) (d, b)) ≡ rowIn (previewOf (d .allocator) bytes)
 unfolding shownOf
 same-row d b bytes stage =
-    ap (λ (t : Bool). rowOf (cond t (run {i = false} concrete (allocate-read bytes (readingOf bytes .answer)) (d, b)) (ends (answers.Refused 4) (d, b))))
+    ap (λ (t : Bool). rowOf (cond t (run {i = false} concrete (allocate-read bytes (readingOf bytes .answer)) (d, b))
+    (ends (answers.Refused 4) (d, b))))
     (eq-eqb (d .globals .stage) 1 stage) ∙ by (readingOf bytes .answer)
   where
-    by : (x : reading-answer.Answer) → rowOf (run {i = false} concrete (allocate-read bytes x) (d, b)) ≡ rowIn (shownOf (d .allocator) bytes x)
+    by : (x : reading-answer.Answer) → rowOf (run {i = false} concrete (allocate-read bytes x) (d, b))
+        ≡ rowIn (shownOf (d .allocator) bytes x)
     by (reading.Refused n) = refl
     by reading.Listed = tried-row (listOf bytes) d b (trialOf (d .allocator) (listOf bytes) .refusal)

@@ -10,8 +10,8 @@ use Rattle.state.specs.Laws.{Sized}
 use Rattle.alloc.specs.Alloc.{allocatedIn}
 use Rattle.alloc.specs.Sound.{Sound}
 
--- the allocator is sound, and the buffers of every endpoint that is allocated begin below the next free one, as after every start-up and every
--- allocation
+-- the allocator is sound, and the buffers of every endpoint that is allocated begin below the next free one, as after
+-- every start-up and every allocation
 pub record Settled (d : Driver) : Type 0 where
   pub sized : Sized d
   pub sound : Sound (d .allocator)

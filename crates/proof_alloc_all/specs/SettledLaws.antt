@@ -35,7 +35,8 @@ pub record Owns (d : Driver) (dir : Dir) (n kind maximum x : ℕ) : Type 0 where
   pub has-maximum : epOn d dir n .«max_len» ≡ maximum
   pub base : epOn d dir n .base ≡ x
   pub armed : epOn d dir n .«armed_slot» ≡ x
-  pub only : (dir′ : Dir) (m : ℕ) → m ≤ 15 → isSet (allocatedIn (d .allocator) dir′) m ≡ true → epOn d dir′ m .base ≡ x → key dir′ m ≡ key dir n
+  pub only : (dir′ : Dir) (m : ℕ) → m ≤ 15 → isSet (allocatedIn (d .allocator) dir′) m ≡ true → epOn d dir′ m .base ≡ x
+      → key dir′ m ≡ key dir n
 
 -- ---- keys and sets
 
@@ -65,8 +66,10 @@ added-here In w n = rw (eq-eqb n n refl)
 
 apart-key : (a : Allocator) (dir dir′ : Dir) (n m : ℕ) → n ≤ 15
     → m ≤ 15 → isSet (allocatedIn a dir) n ≡ false → isSet (allocatedIn a dir′) m ≡ true → key dir′ m ≢ key dir n
-apart-key a Out Out n m h l f t k = let e : m ≡ n = omega (arith, key-same Out m n k) in true≢false (sym t ∙ ap (λ (j : ℕ). isSet (allocatedIn a Out) j) e ∙ f)
-apart-key a In In n m h l f t k = let e : m ≡ n = omega (arith, key-same In m n k) in true≢false (sym t ∙ ap (λ (j : ℕ). isSet (allocatedIn a In) j) e ∙ f)
+apart-key a Out Out n m h l f t k = let e : m ≡ n = omega (arith, key-same Out m n k) in true≢false
+    (sym t ∙ ap (λ (j : ℕ). isSet (allocatedIn a Out) j) e ∙ f)
+apart-key a In In n m h l f t k = let e : m ≡ n = omega (arith, key-same In m n k) in true≢false
+    (sym t ∙ ap (λ (j : ℕ). isSet (allocatedIn a In) j) e ∙ f)
 apart-key a Out In n m h l f t k = key-apart n m (sym k)
 apart-key a In Out n m h l f t k = key-apart m n k
 
@@ -78,7 +81,8 @@ slots-some true In = omega arith
 
 -- ---- an accepted allocation
 
-module _ (d : Driver) (e : Endpoint) (n x slots : ℕ) (q : asked (d .allocator) e .answer ≡ Given n x slots) (s : Settled d) where
+module _ (d : Driver) (e : Endpoint) (n x slots : ℕ) (q : asked (d .allocator) e .answer ≡ Given n x slots)
+    (s : Settled d) where
   g : Gives (d .allocator) (isIso (e .kind)) (directionOf (e .address)) n x slots (asked (d .allocator) e .after)
   g = gives (d .allocator) e n x slots q
 
@@ -94,14 +98,17 @@ module _ (d : Driver) (e : Endpoint) (n x slots : ℕ) (q : asked (d .allocator)
 
   before : (dir : Dir) (m : ℕ) → key dir m ≢ key (directionOf (e .address)) n
       → isSet (allocatedIn (oneOn d e .allocator) dir) m ≡ true → isSet (allocatedIn (d .allocator) dir) m ≡ true
-  before dir m h t = sym (added-other (directionOf (e .address)) dir (allocatedIn (d .allocator) dir) n m h) ∙ sym (sets dir m) ∙ t
+  before dir m h t = sym (added-other (directionOf (e .address)) dir (allocatedIn (d .allocator) dir) n m h)
+      ∙ sym (sets dir m) ∙ t
 
-  new-key : (dir : Dir) (m : ℕ) → m ≤ 15 → isSet (allocatedIn (d .allocator) dir) m ≡ true → key dir m ≢ key (directionOf (e .address)) n
+  new-key : (dir : Dir) (m : ℕ) → m ≤ 15 → isSet (allocatedIn (d .allocator) dir) m ≡ true
+      → key dir m ≢ key (directionOf (e .address)) n
   new-key dir m h t = apart-key (d .allocator) (directionOf (e .address)) dir n m
       (g .number .high) h (sym (s .sound .taken (directionOf (e .address)) n) ∙ g .number .untaken) t
 
   here : epOn (oneOn d e) (directionOf (e .address)) n
-      ≡ allocated (epOn d (directionOf (e .address)) n) (e .kind) (e .maximum) x (asked (d .allocator) e .after .size) slots
+      ≡ allocated (epOn d (directionOf (e .address)) n) (e .kind) (e .maximum) x (asked (d .allocator) e .after .size)
+      slots
   here = one-here d e n x slots q (s .sized)
 
   base-here : epOn (oneOn d e) (directionOf (e .address)) n .base ≡ x
@@ -124,12 +131,15 @@ module _ (d : Driver) (e : Endpoint) (n x slots : ℕ) (q : asked (d .allocator)
     where
       go : (t : Bool) → eqb (key dir m) (key (directionOf (e .address)) n) ≡ t → P (epOn (oneOn d e) dir m .base)
       go true t = let k = eqb-true _ _ t in
-          subst P (sym (ap (λ (r : EpState). r .base) (epOn-key (oneOn d e) (directionOf (e .address)) dir n m k) ∙ base-here)) (f k)
-      go false t = let k = eqb-false _ _ t in subst P (sym (ap (λ (r : EpState). r .base) (one-other d e n x slots q dir m k))) (h k)
+          subst P (sym (ap (λ (r : EpState). r .base) (epOn-key (oneOn d e) (directionOf (e .address)) dir n m k)
+          ∙ base-here)) (f k)
+      go false t = let k = eqb-false _ _ t in subst P (sym
+          (ap (λ (r : EpState). r .base) (one-other d e n x slots q dir m k))) (h k)
 
   sound-after : Sound (asked (d .allocator) e .after)
   unfolding asked
-  sound-after = sound-call (d .allocator) (endpoint (e .kind) (e .address) (e .maximum) (directionOf (e .address))) (s .sound)
+  sound-after = sound-call (d .allocator) (endpoint (e .kind) (e .address) (e .maximum) (directionOf (e .address)))
+      (s .sound)
 
   pub settled : Settled (oneOn d e)
   settled = record {

@@ -49,9 +49,11 @@ module _ (d : Driver) (dir : Dir) (n kind maximum x : ℕ) (o : Owns d dir n kin
 
   starts-not : (dir′ : Dir) (m : ℕ) → 1 ≤ m → m ≤ 15 → key dir′ m ≢ key dir n → startsAt d dir′ x m ≡ false
   unfolding startsAt
-  starts-not dir′ m l h k = rw (alloc-is (d .allocator) dir′ m l h) (go (isSet (allocatedIn (d .allocator) dir′) m) refl (eqb (epOn d dir′ m .base) x) refl)
+  starts-not dir′ m l h k = rw (alloc-is (d .allocator) dir′ m l h)
+      (go (isSet (allocatedIn (d .allocator) dir′) m) refl (eqb (epOn d dir′ m .base) x) refl)
     where
-      go : (t : Bool) → isSet (allocatedIn (d .allocator) dir′) m ≡ t → (u : Bool) → eqb (epOn d dir′ m .base) x ≡ u → (t && u) ≡ false
+      go : (t : Bool) → isSet (allocatedIn (d .allocator) dir′) m ≡ t → (u : Bool) → eqb (epOn d dir′ m .base) x ≡ u
+          → (t && u) ≡ false
       go true t true u = absurd (k (o .only dir′ m h t (eqb-true _ _ u)))
       go true t false u = refl
       go false t true u = refl
@@ -61,15 +63,19 @@ none-found : (d : Driver) (dir : Dir) (x : ℕ) → ((m : ℕ) → 1 ≤ m → m
     → (left e : ℕ) → 1 ≤ e → e + left ≤ 16 → foundAt d dir x left e ≡ 0
 unfolding foundAt
 none-found d dir x h zero e l z = refl
-none-found d dir x h (suc left) e l z = rw (h e l (omega arith)) (none-found d dir x h left (suc e) (omega arith) (omega arith))
+none-found d dir x h (suc left) e l z = rw (h e l (omega arith))
+    (none-found d dir x h left (suc e) (omega arith) (omega arith))
 
-one-found : (d : Driver) (dir : Dir) (x n : ℕ) → startsAt d dir x n ≡ true → ((m : ℕ) → 1 ≤ m → m ≤ 15 → (m ≡ n → ⊥) → startsAt d dir x m ≡ false)
+one-found : (d : Driver) (dir : Dir) (x n : ℕ) → startsAt d dir x n ≡ true
+    → ((m : ℕ) → 1 ≤ m → m ≤ 15 → (m ≡ n → ⊥) → startsAt d dir x m ≡ false)
     → (left e : ℕ) → 1 ≤ e → e ≤ n → n < e + left → e + left ≤ 16 → foundAt d dir x left e ≡ n
 unfolding foundAt
 one-found d dir x n t h zero e l a b z = absurd (omega arith)
-one-found d dir x n t h (suc left) e l a b z = go (λ k. one-found d dir x n t h left (suc e) (omega arith) k (omega arith) (omega arith)) (eqb e n) refl
+one-found d dir x n t h (suc left) e l a b z = go (λ k. one-found d dir x n t h left (suc e) (omega arith) k
+    (omega arith) (omega arith)) (eqb e n) refl
   where
-    go : (suc e ≤ n → foundAt d dir x left (suc e) ≡ n) → (u : Bool) → eqb e n ≡ u → cond (startsAt d dir x e) e (foundAt d dir x left (suc e)) ≡ n
+    go : (suc e ≤ n → foundAt d dir x left (suc e) ≡ n) → (u : Bool) → eqb e n ≡ u
+        → cond (startsAt d dir x e) e (foundAt d dir x left (suc e)) ≡ n
     go i true u = let k = eqb-true e n u in rw (ap (startsAt d dir x) k ∙ t) k
     go i false u = let k = eqb-false e n u in rw (h e l (omega arith) k) (i (omega arith))
 
@@ -79,7 +85,8 @@ apart-same Out m n a b h k = h (omega arith)
 apart-same In m n a b h k = h (omega arith)
 
 -- the next endpoint is the one whose buffers begin where the last one's end
-next-is : (left total : ℕ) (d : Driver) (b : List ℕ) (dir : Dir) (e : ℕ) (dir′ : Dir) (n kind maximum x : ℕ) → endOn d dir e ≡ x → Owns d dir′ n kind maximum x
+next-is : (left total : ℕ) (d : Driver) (b : List ℕ) (dir : Dir) (e : ℕ) (dir′ : Dir) (n kind maximum x : ℕ)
+    → endOn d dir e ≡ x → Owns d dir′ n kind maximum x
     → go (following (suc left) total dir e) d b ≡ go (announcing left total dir′ n) d b
 next-is left total d b dir e Out n kind maximum x h o =
     let l : suc left - 1 ≡ left = omega arith in
@@ -90,11 +97,13 @@ next-is left total d b dir e Out n kind maximum x h o =
     ∙ after-out (suc left) total d b dir e x n (λ z. omega arith) (sym h) (sym f) (λ z. omega (arith, o .low)))
 next-is left total d b dir e In n kind maximum x h o =
     let l : suc left - 1 ≡ left = omega arith in
-    let f = none-found d Out x (λ m p q. starts-not d In n kind maximum x o Out m p q (λ k. key-apart m n k)) 15 1 (omega arith) (omega arith) in
+    let f = none-found d Out x (λ m p q. starts-not d In n kind maximum x o Out m p q (λ k. key-apart m n k)) 15 1
+    (omega arith) (omega arith) in
     let g = one-found d In x n (starts-here d In n kind maximum x o)
     (λ m p q z. starts-not d In n kind maximum x o In m p q (apart-same In m n q (o .high) z)) 15 1
     (omega arith) (o .low) (omega (arith, o .high)) (omega arith) in
-    sym (ap (λ (k : ℕ). go (announcing k total In n) d b) (sym l) ∙ after-in (suc left) total d b dir e x 0 (λ z. omega arith) (sym h) (sym f) n refl (sym g))
+    sym (ap (λ (k : ℕ). go (announcing k total In n) d b) (sym l)
+    ∙ after-in (suc left) total d b dir e x 0 (λ z. omega arith) (sym h) (sym f) n refl (sym g))
 
 -- ---- one announcement
 
@@ -105,7 +114,8 @@ armed-back r x p q = ap (armedAt r) (p ∙ sym q)
 abbrev pub pair : ℕ → Driver → ℕ × Driver
 pair x d = (x, d)
 
-pub placed : (d : Driver) (dir : Dir) (n x : ℕ) → epOn d dir n .base ≡ x → epOn d dir n .«armed_slot» ≡ x → placeOn dir n d ≡ pair x d
+pub placed : (d : Driver) (dir : Dir) (n x : ℕ) → epOn d dir n .base ≡ x → epOn d dir n .«armed_slot» ≡ x
+    → placeOn dir n d ≡ pair x d
 unfolding placeOn
 placed d In n x p q = rw p
 placed d Out n x p q = go (isSet (isoOuts (d .globals)) (n % 16))
@@ -116,7 +126,8 @@ placed d Out n x p q = go (isSet (isoOuts (d .globals)) (n % 16))
     go false = ap (λ (z : ℕ). pair z (withOn d Out n (armedAt (epOn d Out n) (epOn d Out n .base)))) p
         ∙ ap (pair x) (ap (withOn d Out n) (armed-back (epOn d Out n) x p q) ∙ withOn-back d Out n)
 
-module _ (left total : ℕ) (d : Driver) (b : List ℕ) (dir : Dir) (n kind maximum x : ℕ) (o : Owns d dir n kind maximum x) where
+module _ (left total : ℕ) (d : Driver) (b : List ℕ) (dir : Dir) (n kind maximum x : ℕ)
+    (o : Owns d dir n kind maximum x) where
   abbrev buffer : Bool → ℕ × Driver → tree.Out St Unit
   buffer c p = cond c (asks (dma dir n (p .0)) (p .1, b) (λ _ u. ends tt u)) (ends tt (d, b))
 
@@ -126,7 +137,8 @@ module _ (left total : ℕ) (d : Driver) (b : List ℕ) (dir : Dir) (n kind maxi
   kinds : not (eqb (epOn d dir n .kind % 4) 0) ≡ not (eqb (kind % 4) 0)
   kinds = let z : kind % 4 % 4 ≡ kind % 4 = omega arith in rw (o .has-kind, z)
 
-  tail-hands : (c : Bool) → handsOut (tail c (pair x d)) ≡ cond c (dma dir n x ∷ []) [] ++ handsOut (go (following left total dir n) d b)
+  tail-hands : (c : Bool) → handsOut (tail c (pair x d)) ≡ cond c (dma dir n x ∷ []) []
+      ++ handsOut (go (following left total dir n) d b)
   tail-hands true = refl
   tail-hands false = refl
 
@@ -134,16 +146,20 @@ module _ (left total : ℕ) (d : Driver) (b : List ℕ) (dir : Dir) (n kind maxi
   tail-ends true = refl
   tail-ends false = refl
 
-  pub announce-hands : handsOut (go (announcing left total dir n) d b) ≡ accesses dir n kind maximum x ++ handsOut (go (following left total dir n) d b)
+  pub announce-hands : handsOut (go (announcing left total dir n) d b) ≡ accesses dir n kind maximum x
+      ++ handsOut (go (following left total dir n) d b)
   announce-hands =
-      ap (λ (m : ℕ). Write EpMaxLen n m ∷ handsOut (tail (not (eqb (epOn d dir n .kind % 4) 0)) (placeOn dir n d))) (o .has-maximum)
-      ∙ ap (λ (p : ℕ × Driver). Write EpMaxLen n maximum ∷ handsOut (tail (not (eqb (epOn d dir n .kind % 4) 0)) p)) (placed d dir n x (o .base) (o .armed))
+      ap (λ (m : ℕ). Write EpMaxLen n m ∷ handsOut (tail (not (eqb (epOn d dir n .kind % 4) 0)) (placeOn dir n d)))
+      (o .has-maximum)
+      ∙ ap (λ (p : ℕ × Driver). Write EpMaxLen n maximum ∷ handsOut (tail (not (eqb (epOn d dir n .kind % 4) 0)) p))
+      (placed d dir n x (o .base) (o .armed))
       ∙ ap (λ (c : Bool). Write EpMaxLen n maximum ∷ handsOut (tail c (pair x d))) kinds
       ∙ ap (λ (q : List Access). Write EpMaxLen n maximum ∷ q) (tail-hands (not (eqb (kind % 4) 0)))
 
   pub announce-ends : endsWith (go (announcing left total dir n) d b) ≡ endsWith (go (following left total dir n) d b)
   announce-ends =
-      ap (λ (p : ℕ × Driver). endsWith (tail (not (eqb (epOn d dir n .kind % 4) 0)) p)) (placed d dir n x (o .base) (o .armed))
+      ap (λ (p : ℕ × Driver). endsWith (tail (not (eqb (epOn d dir n .kind % 4) 0)) p))
+      (placed d dir n x (o .base) (o .armed))
       ∙ tail-ends (not (eqb (epOn d dir n .kind % 4) 0))
 
   pub end-is : endOn d dir n ≡ x + slotsOf (isIso kind) dir * d .allocator .size
@@ -158,10 +174,15 @@ Chain d x [] = Unit {0}
 Chain d x (e ∷ es) = Owns d (directionOf (e .address)) (e .address % 128) (e .kind) (e .maximum) x
     × Chain d (x + slotsOf (isIso (e .kind)) (directionOf (e .address)) * d .allocator .size) es
 
-pub walk-hands : (es : List Endpoint) (total : ℕ) (d : Driver) (b : List ℕ) (dir : Dir) (n x : ℕ) → endOn d dir n ≡ x → Chain d x es
+pub walk-hands : (es : List Endpoint) (total : ℕ) (d : Driver) (b : List ℕ) (dir : Dir) (n x : ℕ) → endOn d dir n ≡ x
+    → Chain d x es
     → (handsOut (go (following (length es) total dir n) d b) ≡ handed (d .allocator .size) x es)
     × (endsWith (go (following (length es) total dir n) d b) ≡ (total, (d, b)))
-walk-hands [] total d b dir n x h c = (ap handsOut (after-none total d b dir n), ap endsWith (after-none total d b dir n))
+walk-hands [] total d b dir n x h c = (
+  ap handsOut (after-none total d b dir n),
+  ap endsWith
+      (after-none total d b dir n),
+)
 walk-hands (e ∷ es) total d b dir n x h c =
     let dir′ = directionOf (e .address) in
     let m = e .address % 128 in

@@ -1,4 +1,5 @@
--- The interrupt hands out at most 4,154 accesses, whatever is read and whatever becomes of the state between two of them
+-- The interrupt hands out at most 4,154 accesses, whatever is read and whatever becomes of the state between two of
+-- them
 use mathlib.Core.Bool.{Bool, true, false}
 use mathlib.Core.List.{List, [], _∷_}
 use mathlib.Core.Path.{_≡_, refl}
@@ -22,7 +23,8 @@ use Rattle.script.specs.Cells.{Cell, Val, globals-cell, ep-cell}
 use Rattle.script.specs.Script.{Script, Ops, run, Test, Look, Fetch, Act, DmaStep, ret, bind, test}
 use Rattle.script.specs.Script.{_>>_, done, when, read, write, callback, get, put, is, look, fetch, act, hand}
 use Rattle.script.specs.Statics.{modifyReg}
-use Rattle.script.specs.IsoIn.{firstInFrame, isoInLoad, isoInComplete, unseen, sofOne, sofWalk, onSof, lateOne, lateWalk}
+use Rattle.script.specs.IsoIn.{firstInFrame, isoInLoad, isoInComplete, unseen, sofOne, sofWalk, onSof, lateOne}
+use Rattle.script.specs.IsoIn.{lateWalk}
 use Rattle.script.specs.IsoOut.{arrives, checkOne, checkWalk, isoOutCheck}
 use Rattle.script.specs.Handler.{looks, sieWait, nakNonIso, toggled, retake, settle, received, sent, sofArm, outArm}
 use Rattle.script.specs.Handler.{isoInArm, inArm, dispatch, movedOn, ep0MovedOn, isoFor, framed, served, onTransfer}
@@ -33,14 +35,16 @@ use Rattle.proof_book.specs.AccessesLaws.{accesses, Within, Asks≤}
 
 -- ---- composed scripts
 
-bind-path : {S A B : Type 0} (m n : ℕ) (o : tree.Out S A) (f : A → Prog S B) → Within m o → ((a : A) (s : S) → Within n (f a s)) → Within (m + n) (bindOut o f)
+bind-path : {S A B : Type 0} (m n : ℕ) (o : tree.Out S A) (f : A → Prog S B) → Within m o
+    → ((a : A) (s : S) → Within n (f a s)) → Within (m + n) (bindOut o f)
 unfolding accesses
 bind-path m n (ends a s) f x y w = omega (arith, y a s w)
 bind-path m n (asks q s k) f x y [] = omega (arith, x [])
 bind-path m n (asks q s k) f x y (c ∷ w) =
     omega (arith, x [], bind-path (m - 1) n (k (c .0) (c .1)) f (λ w. omega (arith, x (c ∷ w))) y w)
 
-ask-path : {S A : Type 0} (n : ℕ) (q : Access) (s : S) (k : ℕ → S → tree.Out S A) → ((v : ℕ) (t : S) → Within n (k v t)) → Within (suc n) (asks q s k)
+ask-path : {S A : Type 0} (n : ℕ) (q : Access) (s : S) (k : ℕ → S → tree.Out S A) → ((v : ℕ) (t : S) → Within n (k v t))
+    → Within (suc n) (asks q s k)
 unfolding accesses
 ask-path n q s k x [] = omega arith
 ask-path n q s k x (c ∷ w) = omega (arith, x (c .0) (c .1) w)
@@ -62,14 +66,17 @@ module _ {i : Bool} {A : Type 0} where
   unfolding accesses
   end = record { on = λ S O s w. omega arith }
 
-  seq : {B : Type 0} (m n : ℕ) {p : Script i B} {f : B → Script i A} → Asks≤ m p → ((b : B) → Asks≤ n (f b)) → Asks≤ (m + n) (bind p f)
+  seq : {B : Type 0} (m n : ℕ) {p : Script i B} {f : B → Script i A} → Asks≤ m p → ((b : B) → Asks≤ n (f b))
+      → Asks≤ (m + n) (bind p f)
   seq m n x y = record { on = λ S O s. bind-path m n _ _ (x .on S O s) (λ a t. y a .on S O t) }
 
   -- a first part that hands out none, or one
-  free : {B : Type 0} {n : ℕ} {p : Script i B} {f : B → Script i A} → Asks≤ 0 p → ((b : B) → Asks≤ n (f b)) → Asks≤ n (bind p f)
+  free : {B : Type 0} {n : ℕ} {p : Script i B} {f : B → Script i A} → Asks≤ 0 p → ((b : B) → Asks≤ n (f b))
+      → Asks≤ n (bind p f)
   free {n = n} x y = more (seq 0 n x y) (omega arith)
 
-  once : {B : Type 0} {n : ℕ} {p : Script i B} {f : B → Script i A} → Asks≤ 1 p → ((b : B) → Asks≤ n (f b)) → Asks≤ (suc n) (bind p f)
+  once : {B : Type 0} {n : ℕ} {p : Script i B} {f : B → Script i A} → Asks≤ 1 p → ((b : B) → Asks≤ n (f b))
+      → Asks≤ (suc n) (bind p f)
   once {n = n} x y = more (seq 1 n x y) (omega arith)
 
   either : {n : ℕ} {b : Bool} {p q : Script i A} → Asks≤ n p → Asks≤ n q → Asks≤ n (test b p q)
@@ -94,7 +101,8 @@ module _ {i : Bool} where
   a-callback = record { on = λ S O s. ask-path 0 _ s _ (λ v t w. omega arith) }
 
   -- it ends at once, whatever the state
-  at-once : {A : Type 0} {n : ℕ} {p : Script i A} → ((S : Type 0) (O : Ops S) (s : S) → Ends (run O p s)) → Asks≤ {i = i} n p
+  at-once : {A : Type 0} {n : ℕ} {p : Script i A} → ((S : Type 0) (O : Ops S) (s : S) → Ends (run O p s))
+      → Asks≤ {i = i} n p
   at-once {p = p} h = record { on = λ S O s. ends-path (run O p s) (h S O s) }
 
   no-get : {n : ℕ} (c : Cell) → Asks≤ {i = i} n (get c)
@@ -154,7 +162,8 @@ module _ {i : Bool} where
 
   of-sofOne : (frame e : ℕ) → Asks≤ {i = i} 4 (sofOne frame e)
   of-sofOne frame e = free (no-get (ep-cell _ _))
-      (λ _. either end (once a-read (λ _. either (more (of-unseen frame e) (omega arith)) (once a-read (λ _. either end (of-unseen frame e))))))
+      (λ _. either end (once a-read (λ _. either (more (of-unseen frame e) (omega arith))
+      (once a-read (λ _. either end (of-unseen frame e))))))
 
   of-sofWalk : (frame m : ℕ) → Asks≤ {i = i} 64 (sofWalk frame (setBits m))
   unfolding sofWalk
@@ -179,7 +188,8 @@ module _ {i : Bool} where
   of-arrives e n = once a-hand (λ _. no-act)
 
   of-checkOne : (x : Transfer) (iso : Bool) (e : ℕ) → Asks≤ {i = i} 2 (checkOne x iso e)
-  of-checkOne x iso e = free no-is (λ _. if (either (more (of-arrives e _) (omega arith)) (once a-read (λ _. either end (free no-look (λ _. of-arrives e _))))))
+  of-checkOne x iso e = free no-is (λ _. if (either (more (of-arrives e _) (omega arith))
+      (once a-read (λ _. either end (free no-look (λ _. of-arrives e _))))))
 
   of-checkWalk : (x : Transfer) (iso : Bool) (m : ℕ) → Asks≤ {i = i} 32 (checkWalk x iso (setBits m))
   unfolding checkWalk
@@ -197,7 +207,8 @@ module _ {i : Bool} where
   of-sieWait = of-looks 2001
 
   of-nak : (st : ℕ) → Asks≤ {i = i} 2 (nakNonIso st)
-  of-nak st = free (no-get (ep-cell _ _)) (λ _. free (no-get (ep-cell _ _)) (λ _. either of-modifyReg (if of-modifyReg)))
+  of-nak st = free (no-get (ep-cell _ _)) (λ _. free (no-get (ep-cell _ _))
+      (λ _. either of-modifyReg (if of-modifyReg)))
 
   of-toggled : (d : Dir) (e : ℕ) → Asks≤ {i = i} 2004 (toggled d e)
   of-toggled d e = more (seq 2001 3 of-sieWait (λ _. once a-read (λ _. free (no-get (ep-cell _ _)) (λ _. either
@@ -244,7 +255,8 @@ module _ {i : Bool} where
   of-dispatch tok.Setup x iso frame = end
 
   of-movedOn : (d : Dir) → Asks≤ {i = i} 2 (movedOn d)
-  of-movedOn d = free (no-get (ep-cell _ _)) (λ _. if (more (seq 2 0 of-modifyReg (λ _. free (assign (ep-cell _ _)) (λ _. no-act))) (omega arith)))
+  of-movedOn d = free (no-get (ep-cell _ _)) (λ _. if (more
+      (seq 2 0 of-modifyReg (λ _. free (assign (ep-cell _ _)) (λ _. no-act))) (omega arith)))
 
   of-ep0MovedOn : (t : Token) → Asks≤ {i = i} 2 (ep0MovedOn t)
   of-ep0MovedOn tok.Out = of-movedOn In
@@ -256,21 +268,26 @@ module _ {i : Bool} where
   of-served x iso frame = free (no-get globals-cell) (λ _. more (seq 65 2070 (if (of-onSof frame)) (λ _.
       more (seq 32 2038 (if (free (no-get globals-cell) (λ _. of-lateWalk frame _))) (λ _.
       more (seq 2004 34 (if (of-dispatch (token (x .st)) x iso frame)) (λ _.
-      more (seq 32 2 (if (of-check x iso)) (λ _. if (of-ep0MovedOn (token (x .st))))) (omega arith))) (omega arith))) (omega arith))) (omega arith))
+      more (seq 32 2 (if (of-check x iso)) (λ _. if (of-ep0MovedOn (token (x .st))))) (omega arith))) (omega arith)))
+      (omega arith))) (omega arith))
 
   of-onTransfer : Asks≤ {i = i} 4145 onTransfer
   of-onTransfer = once a-read (λ _. once a-read (λ st. once a-read (λ _.
       more (seq 2 4140 (if (of-nak st)) (λ _. once a-write (λ _. more (seq 2003 2136 (of-settle _) (λ x.
-      free (no-get (ep-cell _ _)) (λ o. free (no-get (ep-cell _ _)) (λ n. once a-read (λ frame. free (no-get globals-cell) (λ g.
+      free (no-get (ep-cell _ _)) (λ o. free (no-get (ep-cell _ _))
+      (λ n. once a-read (λ frame. free (no-get globals-cell) (λ g.
       let iso = isoFor (token (x .st)) o n in
       of-served (framed x iso (g .«sof_frame») frame) iso frame)))))) (omega arith)))) (omega arith))))
 
   of-onSetup : Asks≤ {i = i} 3 onSetup
-  of-onSetup = once a-write (λ _. once a-write (λ _. free no-look (λ _. free no-look (λ _. free (assign (ep-cell _ _)) (λ _.
-      free (assign (ep-cell _ _)) (λ _. free (assign globals-cell) (λ _. once a-write (λ _. free no-act (λ _. no-act)))))))))
+  of-onSetup = once a-write (λ _. once a-write (λ _. free no-look
+      (λ _. free no-look (λ _. free (assign (ep-cell _ _)) (λ _.
+      free (assign (ep-cell _ _)) (λ _. free (assign globals-cell)
+      (λ _. once a-write (λ _. free no-act (λ _. no-act)))))))))
 
   of-onInterrupt : Asks≤ {i = i} 4153 onInterrupt
-  of-onInterrupt = once a-read (λ _. once (if (more (seq 1 0 (assign-write globals-cell) (λ _. no-act)) (omega arith))) (λ _.
+  of-onInterrupt = once a-read (λ _. once (if (more (seq 1 0 (assign-write globals-cell) (λ _. no-act)) (omega arith)))
+      (λ _.
       once (if (more (seq 1 0 (assign-write globals-cell) (λ _. no-act)) (omega arith))) (λ _. once (if a-write) (λ _.
       once (if a-write) (λ _. more (seq 4145 3 (if of-onTransfer) (λ _. if of-onSetup)) (omega arith))))))
 

@@ -31,21 +31,25 @@ use Rattle.proof_book.specs.OutsLaws.{is-changed, is-waiting-out, is-ope
 use Rattle.proof_book.specs.OutsLaws.{look-next-stamp, fetch-oldest, fetch-received, act-open, act-close}
 use Rattle.proof_book.specs.OutsLaws.{act-take, act-reset-out}
 use Rattle.proof_book.specs.ArrivesLaws.{hand-arrive, hand-place-out}
-use Rattle.proof_book.specs.InsLaws.{is-waiting-in, look-next-in, is-room, act-complete, act-reset-in, act-enqueue, hand-place-in, hand-send}
+use Rattle.proof_book.specs.InsLaws.{is-waiting-in, look-next-in, is-room, act-complete, act-reset-in}
+use Rattle.proof_book.specs.InsLaws.{act-enqueue, hand-place-in, hand-send}
 use Rattle.proof_book.specs.BytesLaws.{act-fill, act-fill0, look-setup-word, fetch-received0, hand-place0}
 use Rattle.proof_book.specs.RowsLaws.{rows-first, rows-next, rows-finish}
 
 -- ---- the questions
 
-pub answers : (q : Question) (φ : Phase) (b : Buf) (d : Driver) (t : Pages) → Coupling φ b d t → questionOf q d ≡ questionB q t
+pub answers : (q : Question) (φ : Phase) (b : Buf) (d : Driver) (t : Pages) → Coupling φ b d t → questionOf q d
+    ≡ questionB q t
 unfolding pendingOn overrunsOn overrunsOf enabledAsked
 answers (pending e) φ b d t r = ap (λ (n : ℕ). cond (isNumber e) n 0) (held-length (r .ins e .held))
 answers (overruns e) φ b d t r = ap (λ (n : ℕ). cond (isNumber e) n 0)
-    (lost (isOn (epOn d Out e .iso)) (isOn (t .kept .plain Out e .iso)) (ap (λ (p : EpCore). isOn (p .iso)) (r .same .plain Out e)))
+    (lost (isOn (epOn d Out e .iso)) (isOn (t .kept .plain Out e .iso))
+    (ap (λ (p : EpCore). isOn (p .iso)) (r .same .plain Out e)))
   where
     lost : (x y : Bool) → x ≡ y → cond x (epOn d Out e .overruns) 0 ≡ cond y (t .outs e .lost % 2 ^ 32) 0
     lost x y h = rw (h, r .outs e .lost) refl
-answers (enabled dir e) φ b d t r = ap (λ (g : Globals). flag (cond (isNumber e) (enables.isOn (g .«ep_config») dir e) false)) (r .same .globals)
+answers (enabled dir e) φ b d t r = ap (λ (g : Globals). flag
+    (cond (isNumber e) (enables.isOn (g .«ep_config») dir e) false)) (r .same .globals)
 
 -- ---- each operation
 

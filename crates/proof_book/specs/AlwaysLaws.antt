@@ -6,7 +6,8 @@ use Prim.Native.Nat.{ℕ, zero}
 use Rattle.script.specs.Cells.{Cell, Val}
 use Rattle.script.specs.Script.{Test, Look, Fetch, Act, DmaStep, Burst, lastOf, burstAsk}
 use Rattle.script.specs.Simulates.{Phase}
-use Rattle.script.specs.Machine.{Buf, Question, Call, start, begin, go, question, Event, Machine, Calls, Instance, Book, fed, blank, misfit, started, call}
+use Rattle.script.specs.Machine.{Buf, Question, Call, start, begin, continue, question, Event, Machine, Calls, Instance}
+use Rattle.script.specs.Machine.{Book, fed, blank, misfit, started, call}
 use Rattle.script.specs.Agree.{Agree, Ways, LentAlike, unless, write-up, agrees, from-start}
 use Rattle.proof_book.specs.Always.{after}
 
@@ -37,7 +38,8 @@ module _ {C S : Type 0} (D : Instance C S) {P : S → Type 0} (K : Invariant D P
   gets : (c : Cell) (b : Buf) {s t : S} → Both P s t → D .ops .get c (s, b) ≡ D .ops .get c (t, b)
   gets c b (both p) = refl
 
-  puts : (c : Cell) (v : Val c) (b : Buf) {s t : S} → Both P s t → (D .ops .put c v (s, b) .1 ≡ D .ops .put c v (t, b) .1)
+  puts : (c : Cell) (v : Val c) (b : Buf) {s t : S} → Both P s t
+      → (D .ops .put c v (s, b) .1 ≡ D .ops .put c v (t, b) .1)
       × Both P (D .ops .put c v (s, b) .0) (D .ops .put c v (t, b) .0)
   puts c v b {s = s} (both p) = (refl, both (K .put c v (s, b) p))
 
@@ -54,7 +56,8 @@ module _ {C S : Type 0} (D : Instance C S) {P : S → Type 0} (K : Invariant D P
       → (D .ops .act q (s, b) .1 ≡ D .ops .act q (t, b) .1) × Both P (D .ops .act q (s, b) .0) (D .ops .act q (t, b) .0)
   acts q b {s = s} (both p) = (refl, both (K .act q (s, b) p))
 
-  hands : (q : DmaStep) (b : Buf) {s t : S} → Both P s t → Both P (D .ops .hand q (s, b) .1 .0) (D .ops .hand q (t, b) .1 .0)
+  hands : (q : DmaStep) (b : Buf) {s t : S} → Both P s t
+      → Both P (D .ops .hand q (s, b) .1 .0) (D .ops .hand q (t, b) .1 .0)
   hands q b {s = s} (both p) = both (K .hand q (s, b) p)
 
   row-steps : (g : Burst) (n : ℕ) (b : Buf) {s t : S} → Both P s t
@@ -92,16 +95,17 @@ module _ {C S : Type 0} (D : Instance C S) {P : S → Type 0} (K : Invariant D P
     lent : (c : Call C Op) (m n : Machine A S) (b : Buf) → LentAlike D itself agree-itself L c m n b
     lent (start c) m n b = tt
     lent (begin o) m n b = any (cond (L .slots o) (misfit L D (m .st) b) false)
-    lent (go v) m n b = any (misfit L D (m .st) b)
+    lent (continue v) m n b = any (misfit L D (m .st) b)
     lent (question q) m n b = tt
 
     always : (es : List (Event C Op)) {φ : Phase} (m n : Machine A S)
-        → Ways D itself agree-itself L φ (m .way) (n .way) → Both P (m .st) (n .st) → P (after L D es m .st)
+        → Ways D itself agree-itself L φ (m .under-way) (n .under-way) → Both P (m .st) (n .st) → P (after L D es m .st)
     always [] m n w r = holds r
     always (e ∷ es) m n w r =
         let x = call L D (λ s. s) (e .call) m (e .lent) in
         let y = write-up D itself agree-itself L (x .0) (e .call) n (e .lent) in
-        let a = agrees D itself agree-itself L (λ c b h. both (fresh c b h)) (e .call) (e .lent) m n w r (lent (e .call) m n (e .lent)) in
+        let a = agrees D itself agree-itself L (λ c b h. both (fresh c b h)) (e .call) (e .lent) m n w r
+        (lent (e .call) m n (e .lent)) in
         always es (x .1) (y .1) (a .ways) (a .rest)
 
     -- every list of calls that follows an accepted start-up, from whatever was before
@@ -111,4 +115,5 @@ module _ {C S : Type 0} (D : Instance C S) {P : S → Type 0} (K : Invariant D P
         let x = started L D (λ s. s) c zero m b in
         let y = started L D (fed itself (x .0)) c zero m b in
         let a = from-start D itself agree-itself L (λ c b h. both (fresh c b h)) c b h [] m m tt .0 in
-        subst (λ n. P (after L D es (started L D (λ s. s) c n m b .1) .st)) (sym h) (always es (x .1) (y .1) (a .ways) (a .rest))
+        subst (λ n. P (after L D es (started L D (λ s. s) c n m b .1) .st)) (sym h)
+        (always es (x .1) (y .1) (a .ways) (a .rest))

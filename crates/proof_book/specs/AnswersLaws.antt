@@ -1,5 +1,5 @@
--- Laws on answers and on what the book is told. But for its address an answer says the same (`tells-same`); an access that is told changes the slot of
--- one OUT page or the source of one IN page (`fed-elim`)
+-- Laws on answers and on what the book is told. But for its address an answer says the same (`tells-same`); an access
+-- that is told changes the slot of one OUT page or the source of one IN page (`fed-elim`)
 use mathlib.Core.Bool.{Bool, true, false, true≢false}
 use mathlib.Core.Path.{_≡_, refl, ap, sym, _∙_}
 use Prim.Native.Nat.{ℕ, _%_}
@@ -19,12 +19,12 @@ use Rattle.proof_book.specs.BookDecidesLaws.{sendsTo}
 -- ---- but for its address
 
 -- f looks at no address
-abbrev pub Blind : {X : Type 0} → (Access → X) → Type 0
-Blind f =
+abbrev pub IgnoresAddresses : {X : Type 0} → (Access → X) → Type 0
+IgnoresAddresses f =
     ((e x : ℕ) → f (Receive e 0) ≡ f (Receive e x))
     × ((e x : ℕ) → f (Transmit e 0) ≡ f (Transmit e x)) × ((x : ℕ) → f (Ep0Dma 0) ≡ f (Ep0Dma x))
 
-pub blank-access : {X : Type 0} (f : Access → X) → Blind f → (q : Access) → f (blank q) ≡ f q
+pub blank-access : {X : Type 0} (f : Access → X) → IgnoresAddresses f → (q : Access) → f (blank q) ≡ f q
 blank-access f h (Read r e) = refl
 blank-access f h (Write r e v) = refl
 blank-access f h (Receive e x) = h .0 e x
@@ -33,13 +33,15 @@ blank-access f h (Ep0Dma x) = h .2 x
 blank-access f h (Wait n) = refl
 blank-access f h Callback = refl
 
-blank-answer : {X : Type 0} (f : Ans Answer → X) → Blind (λ q. f (handed q)) → (a : Ans Answer) → f (blankA a) ≡ f a
+blank-answer : {X : Type 0} (f : Ans Answer → X) → IgnoresAddresses (λ q. f (handed q)) → (a : Ans Answer)
+    → f (blankA a) ≡ f a
 blank-answer f h (ended z) = refl
 blank-answer f h (handed q) = blank-access (λ q. f (handed q)) h q
 blank-answer f h (told n) = refl
 
 -- what is read off an answer without its address is the same of two answers that are the same but for it
-pub tells-same : {X : Type 0} (f : Ans Answer → X) → Blind (λ q. f (handed q)) → (a b : Ans Answer) → blankA a ≡ blankA b → f a ≡ f b
+pub tells-same : {X : Type 0} (f : Ans Answer → X) → IgnoresAddresses (λ q. f (handed q)) → (a b : Ans Answer)
+    → blankA a ≡ blankA b → f a ≡ f b
 tells-same f h a b s = sym (blank-answer f h a) ∙ ap f s ∙ blank-answer f h b
 
 -- whether an access is handed out
@@ -91,11 +93,13 @@ same-number e f h = ap (λ (n : ℕ). eqb (f % 16) n) h ∙ eq-eqb (f % 16) (f %
 pub fed-out : (a : Ans Answer) (t : Pages) (e : ℕ) → addressed a e ≡ false → fed book a t .outs e ≡ t .outs e
 fed-out a t e g = fed-elim (λ u. u .outs e ≡ t .outs e) a t refl
     (λ f x q. at-elim (λ (p : OutPage). p ≡ t .outs e) f e (slotTold (t .outs f) x) (t .outs)
-    (λ k. absurd (true≢false (sym (same-number e f k) ∙ sym (ap (λ (z : Ans Answer). addressed z e) q) ∙ g))) (λ _. refl))
+    (λ k. absurd (true≢false (sym (same-number e f k) ∙ sym (ap (λ (z : Ans Answer). addressed z e) q) ∙ g)))
+    (λ _. refl))
     (λ f x _. refl)
 
 pub fed-in : (a : Ans Answer) (t : Pages) (e : ℕ) → sending a e ≡ false → fed book a t .ins e ≡ t .ins e
 fed-in a t e g = fed-elim (λ u. u .ins e ≡ t .ins e) a t refl
     (λ f x _. refl)
     (λ f x q. at-elim (λ (p : InPage). p ≡ t .ins e) f e (sourceTold (t .ins f) x) (t .ins)
-    (λ k. absurd (true≢false (sym (same-number f e (sym k)) ∙ sym (ap (λ (z : Ans Answer). sending z e) q) ∙ g))) (λ _. refl))
+    (λ k. absurd (true≢false (sym (same-number f e (sym k)) ∙ sym (ap (λ (z : Ans Answer). sending z e) q) ∙ g)))
+    (λ _. refl))

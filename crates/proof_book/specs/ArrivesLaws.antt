@@ -20,7 +20,8 @@ use Rattle.ring.specs.Waiting.{window, waiting, join, Only, SamePlace, Placed}
 use Rattle.ring.specs.Window.{only-wider, window-length}
 use Rattle.ring.specs.Slots.{slot-in, slot-from, slot-upto}
 use Rattle.ring.specs.Laws.{place-placed, place-addr, alike-count, alike-waits, alike-out, slot-shows, slot-region}
-use Rattle.ring.specs.OutLaws.{armed-alike, arrived-place, capped-is, turned-counts, waiting-armed, room-out, arrive-waits, arrive-ring, arrive-shows}
+use Rattle.ring.specs.OutLaws.{armed-alike, arrived-place, capped-is, turned-counts, waiting-armed, room-out}
+use Rattle.ring.specs.OutLaws.{arrive-waits, arrive-ring, arrive-shows}
 use Rattle.ring.specs.Marks.{armed}
 use Rattle.ring.specs.Copies.{bytesAt}
 use Rattle.ring.specs.MarksSlots.{armed-slot}
@@ -35,11 +36,14 @@ use Rattle.script_ops.specs.Rings.{writtenOn, recordedOn, admittedOn, arrivedAt
 use Rattle.proof_book.specs.Pages.{Packet, bytesOf, stampsOf, OutPage, Pages, withOut}
 use Rattle.proof_book.specs.Book.{joined, overrun, arrived, slotTold, receiving, packetB, feedB}
 use Rattle.proof_book.specs.Coupling.{Short, lensOf, slotStamps, OutFits, Armed, Coupling}
-use Rattle.proof_book.specs.LensLaws.{lens-set, lens-on, ep-len, stamps-length, stamps-set, stamps-on, stamps-len, ep-stamp, lens-stamp}
+use Rattle.proof_book.specs.LensLaws.{lens-set, lens-on, ep-len, stamps-length, stamps-set, stamps-on, stamps-len}
+use Rattle.proof_book.specs.LensLaws.{ep-stamp, lens-stamp}
 use Rattle.proof_book.specs.Stamps.{stamped}
 use Rattle.proof_book.specs.StampsLaws.{alike-stamps, arrive-stamps}
-use Rattle.proof_book.specs.FrameLaws.{Changed, changed-not, changed-on, changed-len, changed-stamp, changed-trans}
-use Rattle.proof_book.specs.FrameLaws.{kept-same, end-kept, out-changed, out-moved, out-same, out-twice, only-bytes}
+use Rattle.proof_book.specs.FrameLaws.{Changed, changed-not, changed-on, changed-len, changed-stamp}
+use Rattle.proof_book.specs.FrameLaws.{changed-trans}
+use Rattle.proof_book.specs.FrameLaws.{kept-same, end-kept, out-changed, out-moved, out-same, out-twice}
+use Rattle.proof_book.specs.FrameLaws.{only-bytes}
 use Rattle.proof_book.specs.HeldLaws.{HandAgrees, receives, receives-used, receives-slots, good-words}
 use Rattle.proof_book.specs.LiesLaws.{received-lies}
 use Rattle.proof_book.specs.OutsLaws.{Inner, out-on, out-page, fits-alike}
@@ -126,7 +130,8 @@ module _ {b : Buf} {r : EpState} {ls ss : List ℕ} {p : OutPage} (f : OutFits b
     (sixteen : r .slots ≡ 16) (full : length ss ≡ 16) (len : ℕ) (small : len ≤ r .stride) where
   room-same : hasRoomOut r ≡ ltb (length (p .waiting)) 15
   room-same = room-out (f .held .placed) (f .held .ring) b
-      ∙ ap (λ w. ltb (length w) (r .slots - 1)) (f .held .waits) ∙ ap (λ (n : ℕ). ltb n (r .slots - 1)) (length-map (p .waiting) (λ (z : Packet). z .bytes))
+      ∙ ap (λ w. ltb (length w) (r .slots - 1)) (f .held .waits)
+      ∙ ap (λ (n : ℕ). ltb n (r .slots - 1)) (length-map (p .waiting) (λ (z : Packet). z .bytes))
       ∙ ap (λ (n : ℕ). ltb (length (p .waiting)) (n - 1)) sixteen
 
   lost-by : (q : Packet) (u : Bool)
@@ -155,7 +160,8 @@ module _ {b : Buf} {r : EpState} {ls ss : List ℕ} {p : OutPage} (f : OutFits b
         ∙ ap (λ (l : List ℕ). cond (ltb (length (p .waiting)) 15) (l ++ (q .stamp ∷ [])) l) (f .stamps)
         ∙ sym (page-joined p q (λ (z : Packet). z .stamp))
 
-    arrived-fits : len ≤ r .«max_len» → OutFits b (arrivedOf r) (arrivedLens r ls len) (arrivedLens r ss (q .stamp)) (arrived p q)
+    arrived-fits : len ≤ r .«max_len» → OutFits b (arrivedOf r) (arrivedLens r ls len) (arrivedLens r ss (q .stamp))
+        (arrived p q)
     arrived-fits most =
         let k = arrived-place r in
         let s : arrived p q .slot ≡ p .slot = page-keeps p q (λ z. z .slot) (λ w a n. refl) in
@@ -168,7 +174,8 @@ module _ {b : Buf} {r : EpState} {ls ss : List ℕ} {p : OutPage} (f : OutFits b
             waits = arrived-waits;
           };
           stamps = arrived-stamps;
-          opened = arrived-open r ∙ f .opened ∙ ap (λ u. flag u) (sym (page-keeps p q (λ z. z .opened) (λ w a n. refl)));
+          opened = arrived-open r ∙ f .opened ∙ ap (λ u. flag u)
+              (sym (page-keeps p q (λ z. z .opened) (λ w a n. refl)));
           shows = arrive-shows (f .held .placed) (f .held .ring) (f .shows);
           lost = arrived-lost q;
           slot = arrived-slot r ∙ f .slot ∙ sym s;
@@ -176,12 +183,14 @@ module _ {b : Buf} {r : EpState} {ls ss : List ℕ} {p : OutPage} (f : OutFits b
           upto = omega (arith, s, k .stride, end-kept k, f .upto);
           ledger = page-ledger p q (f .ledger);
           short = subst (λ (n : ℕ). Short n (arrived p q .waiting)) (sym m)
-              (page-short p q (r .«max_len») (f .short) (omega (arith, most, ap length shown, window-length b (slotAddr r (r .head)) len)));
+              (page-short p q (r .«max_len») (f .short)
+              (omega (arith, most, ap length shown, window-length b (slotAddr r (r .head)) len)));
         }
 
 -- ---- the head's slot armed
 
-module _ {b b′ : Buf} {r : EpState} {ls ss : List ℕ} {p : OutPage} (f : OutFits b r ls ss p) (long : length b′ ≡ length b)
+module _ {b b′ : Buf} {r : EpState} {ls ss : List ℕ} {p : OutPage} (f : OutFits b r ls ss p)
+    (long : length b′ ≡ length b)
     (o : Only (slotAddr r (r .head)) (slotAddr r (r .head) + r .stride) b b′) where
   pub armed-fits : OutFits b′ (armedAt r (slotAddr r (r .head))) ls ss (slotTold p (slotAddr r (r .head)))
   unfolding armedAt
@@ -192,7 +201,8 @@ module _ {b b′ : Buf} {r : EpState} {ls ss : List ℕ} {p : OutPage} (f : OutF
           placed = place-placed (k .place) (subst (λ n. Placed n r) (sym long) (f .held .placed));
           ring = alike-out k (f .held .ring);
           least = f .held .least;
-          waits = alike-waits k b′ ls (f .held .ring .tail8) ∙ waiting-armed (f .held .placed) (f .held .ring) b b′ o ∙ f .held .waits;
+          waits = alike-waits k b′ ls (f .held .ring .tail8) ∙ waiting-armed (f .held .placed) (f .held .ring) b b′ o
+              ∙ f .held .waits;
         };
         stamps = alike-stamps k ss (f .held .ring .tail8) ∙ f .stamps;
         opened = f .opened;
@@ -214,10 +224,12 @@ unfolding armedAt
 armed-head r x = refl
 
 -- after the record, the lengths and the stamps of OUT e changed
-arm-rest : {b b′ : Buf} {d : Driver} {t : Pages} → Coupling quiet b d t → (e : ℕ) (d1 : Driver) (p : OutPage) → Changed Out e d d1
+arm-rest : {b b′ : Buf} {d : Driver} {t : Pages} → Coupling quiet b d t → (e : ℕ) (d1 : Driver) (p : OutPage)
+    → Changed Out e d d1
     → plainOf (epOn d1 Out e) ≡ plainOf (epOn d Out e)
     → OutFits b (epOn d1 Out e) (lensOf d1 Out e) (slotStamps d1 e) p → receives d e ≡ true → length b′ ≡ length b
-    → Only (slotAddr (epOn d1 Out e) (epOn d1 Out e .head)) (slotAddr (epOn d1 Out e) (epOn d1 Out e .head) + epOn d1 Out e .stride) b b′
+    → Only (slotAddr (epOn d1 Out e) (epOn d1 Out e .head)) (slotAddr (epOn d1 Out e) (epOn d1 Out e .head)
+    + epOn d1 Out e .stride) b b′
     → Coupling quiet b′ (withOn d1 Out e (armedAt (epOn d1 Out e) (slotAddr (epOn d1 Out e) (epOn d1 Out e .head))))
     (withOut t e (slotTold p (slotAddr (epOn d1 Out e) (epOn d1 Out e .head))))
 arm-rest {b} {b′} {d} {t} R e d1 p c same f u long o =
@@ -225,14 +237,17 @@ arm-rest {b} {b′} {d} {t} R e d1 p c same f u long o =
     let a = slotAddr r (r .head) in
     let k = armed-alike r a in
     let s = c .sized in
-    let c2 = changed-trans (R .sized) Out e c (changed-on s Out e (armedAt r a) (k .place) (ap (λ (q : EpCore). q .iso) (armed-plain r a))) in
+    let c2 = changed-trans (R .sized) Out e c (changed-on s Out e (armedAt r a) (k .place)
+    (ap (λ (q : EpCore). q .iso) (armed-plain r a))) in
     let z : epOn (withOn d1 Out e (armedAt r a)) Out e ≡ armedAt r a = epOn-same d1 Out e (armedAt r a) s in
     out-changed R e (slotTold p a) c2 (kept-same c2 (ap plainOf z ∙ armed-plain r a ∙ same) (R .same)) long
     (only-wider _ _ _ _ b b′ (omega (arith, c .place .base))
     (omega (arith, end-kept (c .place))) (slot-region (f .held .placed) (f .held .ring) (r .head) b b′ o))
-    (out-moved z (lens-on d1 Out e (armedAt r a) Out e) (stamps-on d1 Out e (armedAt r a) e) (armed-fits f long o)) tt (λ x v n y. y)
+    (out-moved z (lens-on d1 Out e (armedAt r a) Out e) (stamps-on d1 Out e (armedAt r a) e) (armed-fits f long o)) tt
+    (λ x v n y. y)
     (record {
-      armed = λ h. subst (λ y. Armed y (slotTold p a)) (sym z) (ap (slotAddr r) (sym (armed-head r a)) ∙ sym (place-addr (k .place) (armedAt r a .head)));
+      armed = λ h. subst (λ y. Armed y (slotTold p a)) (sym z) (ap (slotAddr r) (sym (armed-head r a))
+          ∙ sym (place-addr (k .place) (armedAt r a .head)));
       none = λ h. absurd (true≢false (sym u ∙ h));
     })
 
@@ -249,7 +264,8 @@ module _ (d : Driver) (s : Sized d) (e len : ℕ) where
   lengthened-changed = changed-len s Out e head-slot len
 
   recorded-by : (u : Bool) → Changed Out e d (cond u (writtenOn d e head-slot len) d)
-  recorded-by true = changed-trans s Out e lengthened-changed (changed-stamp (lengthened-changed .sized) e head-slot (d .globals .entered))
+  recorded-by true = changed-trans s Out e lengthened-changed
+      (changed-stamp (lengthened-changed .sized) e head-slot (d .globals .entered))
   recorded-by false = changed-not s Out e
 
   recorded-changed : Changed Out e d (recordedOn d e len)
@@ -265,8 +281,10 @@ module _ (d : Driver) (s : Sized d) (e len : ℕ) where
   recorded-ep = recorded-ep-by (hasRoomOut (epOn d Out e))
 
   module _ (i : head-slot < 16) where
-    recorded-lens-by : (u : Bool) → lensOf (cond u (writtenOn d e head-slot len) d) Out e ≡ cond u (set (lensOf d Out e) head-slot len) (lensOf d Out e)
-    recorded-lens-by true = lens-stamp lengthened e head-slot (d .globals .entered) Out e ∙ lens-set d Out e s head-slot len i
+    recorded-lens-by : (u : Bool) → lensOf (cond u (writtenOn d e head-slot len) d) Out e
+        ≡ cond u (set (lensOf d Out e) head-slot len) (lensOf d Out e)
+    recorded-lens-by true = lens-stamp lengthened e head-slot (d .globals .entered) Out e
+        ∙ lens-set d Out e s head-slot len i
     recorded-lens-by false = refl
 
     recorded-lens : lensOf (recordedOn d e len) Out e ≡ arrivedLens (epOn d Out e) (lensOf d Out e) len
@@ -279,7 +297,8 @@ module _ (d : Driver) (s : Sized d) (e len : ℕ) where
         ∙ ap (λ (l : List ℕ). set l head-slot (d .globals .entered)) (stamps-len d Out e head-slot len e)
     recorded-stamps-by false = refl
 
-    recorded-stamps : slotStamps (recordedOn d e len) e ≡ arrivedLens (epOn d Out e) (slotStamps d e) (d .globals .entered)
+    recorded-stamps : slotStamps (recordedOn d e len) e
+        ≡ arrivedLens (epOn d Out e) (slotStamps d e) (d .globals .entered)
     unfolding recordedOn arrivedLens
     recorded-stamps = recorded-stamps-by (hasRoomOut (epOn d Out e))
 
@@ -287,11 +306,13 @@ module _ (d : Driver) (s : Sized d) (e len : ℕ) where
   unfolding admittedOn
   admitted-ep = epOn-same (recordedOn d e len) Out e (arrivedOf (epOn d Out e)) (recorded-changed .sized)
 
-  pub admitted-lens : head-slot < 16 → lensOf (admittedOn d e len) Out e ≡ arrivedLens (epOn d Out e) (lensOf d Out e) len
+  pub admitted-lens : head-slot < 16 → lensOf (admittedOn d e len) Out e
+      ≡ arrivedLens (epOn d Out e) (lensOf d Out e) len
   unfolding admittedOn
   admitted-lens i = lens-on (recordedOn d e len) Out e (arrivedOf (epOn d Out e)) Out e ∙ recorded-lens i
 
-  pub admitted-stamps : head-slot < 16 → slotStamps (admittedOn d e len) e ≡ arrivedLens (epOn d Out e) (slotStamps d e) (d .globals .entered)
+  pub admitted-stamps : head-slot < 16 → slotStamps (admittedOn d e len) e
+      ≡ arrivedLens (epOn d Out e) (slotStamps d e) (d .globals .entered)
   unfolding admittedOn
   admitted-stamps i = stamps-on (recordedOn d e len) Out e (arrivedOf (epOn d Out e)) e ∙ recorded-stamps i
 
@@ -340,10 +361,13 @@ module _ {b : Buf} {d : Driver} {t : Pages} (R : Coupling quiet b d t) (e : ℕ)
         let f = R .outs e in
         let len = cappedAt (epOn d Out e) n in
         let sixteen = receives-slots R e u in
-        let i : slotOf (epOn d Out e) (epOn d Out e .head) < 16 = omega (arith, slot-in (f .held .placed) (epOn d Out e .head), sixteen) in
+        let i : slotOf (epOn d Out e) (epOn d Out e .head) < 16
+        = omega (arith, slot-in (f .held .placed) (epOn d Out e .head), sixteen) in
         out-moved (admitted-ep d (R .sized) e len) (admitted-lens d (R .sized) e len i)
-        (admitted-stamps d (R .sized) e len i ∙ ap (λ (g : Globals). arrivedLens (epOn d Out e) (slotStamps d e) (g .entered)) (R .same .globals))
-        (arrived-fits f sixteen (stamps-length d e) len capped-small (packetB e n (t, b)) shown (omega (arith, capped-is (epOn d Out e) n)))
+        (admitted-stamps d (R .sized) e len i ∙ ap (λ (g : Globals). arrivedLens (epOn d Out e) (slotStamps d e)
+        (g .entered)) (R .same .globals))
+        (arrived-fits f sixteen (stamps-length d e) len capped-small (packetB e n (t, b)) shown
+        (omega (arith, capped-is (epOn d Out e) n)))
 
     pub arrived-words : let r = epOn (admits d e n) Out e in
         marks.Only (headAddr r) (headAddr r + r .stride) b (armed b (headAddr r) (r .«max_len»))
@@ -356,17 +380,21 @@ module _ {b : Buf} {d : Driver} {t : Pages} (R : Coupling quiet b d t) (e : ℕ)
         (omega (arith, z, w .0)) (ap (λ (x : ℕ). x / 4 * 4) z ∙ w .1 ∙ sym z) (admitted-fits .held .least)
 
     arrive-rest : let x = arrivedAt e (cappedAt (epOn d Out e) n) (d, b) in
-        Coupling quiet (x .1 .1) (x .1 .0) (feedB (Receive e (x .0)) (withOut t e (arrived (t .outs e) (packetB e n (t, b)))))
+        Coupling quiet (x .1 .1) (x .1 .0) (feedB (Receive e (x .0))
+        (withOut t e (arrived (t .outs e) (packetB e n (t, b)))))
     arrive-rest =
         let len = cappedAt (epOn d Out e) n in
         let d1 = admittedOn d e len in
         let r = epOn d1 Out e in
         let o = arrived-words in
-        subst (Coupling quiet (arrivedAt e len (d, b) .1 .1) (arrivedAt e len (d, b) .1 .0)) (sym (told t e (slotAddr r (r .head)) _))
+        subst (Coupling quiet (arrivedAt e len (d, b) .1 .1) (arrivedAt e len (d, b) .1 .0))
+        (sym (told t e (slotAddr r (r .head)) _))
         (arm-rest R e d1 _ (admitted-changed d (R .sized) e len)
-        (ap plainOf (admitted-ep d (R .sized) e len) ∙ arrived-plain (epOn d Out e)) admitted-fits u (o .long) (only-bytes o))
+        (ap plainOf (admitted-ep d (R .sized) e len) ∙ arrived-plain (epOn d Out e)) admitted-fits u (o .long)
+        (only-bytes o))
 
-  arrive-by : (n : ℕ) (v : Bool) → receives d e ≡ v → let x = cond v (arrivedAt e (cappedAt (epOn d Out e) n) (d, b)) (epOn d Out e .«armed_slot», (d, b)) in
+  arrive-by : (n : ℕ) (v : Bool) → receives d e ≡ v → let x
+      = cond v (arrivedAt e (cappedAt (epOn d Out e) n) (d, b)) (epOn d Out e .«armed_slot», (d, b)) in
       Coupling quiet (x .1 .1) (x .1 .0) (feedB (Receive e (x .0))
       (cond v (withOut t e (arrived (t .outs e) (packetB e n (t, b)))) t))
   arrive-by n true h = arrive-rest n h
@@ -386,23 +414,33 @@ hand-arrive e n b d t R =
 
 -- ---- an endpoint's buffer handed out
 
-placed-fits : {b : Buf} {r : EpState} {ls ss : List ℕ} {p : OutPage} → OutFits b r ls ss p → OutFits b (armedAt r (r .base)) ls ss (slotTold p (r .base))
+placed-fits : {b : Buf} {r : EpState} {ls ss : List ℕ} {p : OutPage} → OutFits b r ls ss p
+    → OutFits b (armedAt r (r .base)) ls ss (slotTold p (r .base))
 unfolding armedAt
 placed-fits {r = r} {p = p} f =
     let k = armed-alike r (r .base) in
-    fits-alike k f refl (p .opened) (r .base) (record { opened = f .opened; shows = λ h. omega (arith, f .shows h, alike-count k) })
+    fits-alike k f refl (p .opened) (r .base) (record {
+      opened = f .opened;
+      shows
+          = λ h. omega (arith, f .shows h, alike-count k);
+    })
     (record { lost = f .lost; slot = refl; from = omega arith; upto = omega (arith, f .from, f .upto) })
 
 module _ {b : Buf} {d : Driver} {t : Pages} (R : Coupling quiet b d t) (e : ℕ) where
   place-by : (v : Bool) → receives d e ≡ v
-      → let x = cond {A = ℕ × Driver} v (epOn d Out e .«armed_slot», d) (epOn d Out e .base, withOn d Out e (armedAt (epOn d Out e) (epOn d Out e .base))) in
+      → let x = cond {A = ℕ × Driver} v (epOn d Out e .«armed_slot», d)
+      (epOn d Out e .base, withOn d Out e (armedAt (epOn d Out e) (epOn d Out e .base))) in
       Coupling quiet b (x .1) (feedB (Receive e (x .0)) t)
   place-by true h = same-told R e
   place-by false h =
       let r = epOn d Out e in
       out-on R e (armedAt r (r .base)) (slotTold (t .outs e) (r .base))
       (record { place = armed-alike r (r .base) .place; plain = armed-plain r (r .base) }) (placed-fits (R .outs e))
-      (record { armed = λ z. absurd (true≢false (sym z ∙ h)); none = λ z. alike-count (armed-alike r (r .base)) ∙ R .arming e .none h })
+      (record {
+        armed = λ z. absurd (true≢false (sym z ∙ h));
+        none = λ z. alike-count (armed-alike r (r .base))
+            ∙ R .arming e .none h;
+      })
 
 pub hand-place-out : (e : ℕ) → HandAgrees (script.place Out e)
 unfolding placeOn

@@ -1,7 +1,6 @@
 -- Which row refuses an open, close or queue that rows 1 and 3 do not stop, by the book (asideRow of FrontPage.antt)
 use mathlib.Core.Bool.{Bool, true, false, not, cond, _&&_, true≢false}
-use mathlib.Core.List.{List}
-use mathlib.Core.Path.{_≡_, refl, ap, subst, sym, _∙_}
+use mathlib.Core.Path.{_≡_, refl, subst, sym, _∙_}
 use Prim.Native.Nat.{ℕ}
 use lib.Dec.{eqb, ltb}
 use lib.ListN.{length}
@@ -12,11 +11,11 @@ use Rattle.script.specs.Tree.{ends, asks}
 use Rattle.script.specs.Script.{run}
 use Rattle.script.specs.Answers.{Answer, isAllocated}
 use Rattle.script.specs.Calls.{Config, Op, aside, Aside, Open, Close, Queue, asideCode, calls}
-use Rattle.script.specs.Machine.{Buf, Call, begin, Ans, ended, handed, told, blankA, Way, idle, busy, Machine, misfit}
-use Rattle.script.specs.Machine.{stay, lentTo, beside, halt, begun, fed}
+use Rattle.script.specs.Machine.{Buf, Call, begin, Ans, blankA, Pending, idle, busy, Machine, misfit}
+use Rattle.script.specs.Machine.{stay, lentTo, duringInterrupt, halt, begun, fed}
 use Rattle.proof_book.specs.Pages.{bytesOf, Pages}
 use Rattle.proof_book.specs.Book.{Bk, some, isoOf, roomB, bookOps, book}
-use Rattle.proof_book.specs.FrontPage.{written, refusedBy, rowOf, asideRow, keepsOut, stopped}
+use Rattle.proof_book.specs.FrontPage.{bookStep, refusedBy, rowOf, asideRow, keepsOut, stopped}
 use Rattle.proof_book.specs.AnswersLaws.{tells-same}
 
 -- ---- the script
@@ -75,31 +74,31 @@ module _ (a : Ans Answer) (o : Aside) (n : Machine Answer Pages) (b : Buf) where
   alone r (asks q s k) h = absurd h
 
   passing : (r : ℕ) (x : tree.Out Bk Answer) → RowIs r x
-      → rowOf (beside calls (book .driver) (lentTo calls (book .driver) n b) x .0) ≡ r
+      → rowOf (duringInterrupt calls (book .driver) (lentTo calls (book .driver) n b) x .0) ≡ r
   passing r (ends z s) h = h
   passing r (asks q s k) h = absurd h
 
-  begins : (w : Way Answer Pages) → keepsOut w (aside o) ≡ false
+  begins : (w : Pending Answer Pages) → keepsOut w (aside o) ≡ false
       → rowOf (begun calls (book .driver) (fed book a) (aside o) n w b .0) ≡ asideRow (n .st) o
   begins idle h = alone (asideRow (n .st) o) (run bookOps (asideCode o) (n .st, b)) (script-row o (n .st) b)
   begins (busy true q k) h =
       passing (asideRow (n .st) o) (run bookOps (asideCode o) (n .st, b)) (script-row o (n .st) b)
   begins (busy false q k) h = absurd (true≢false h)
 
-  fits : (u : Bool) → cond u true (keepsOut (n .way) (aside o)) ≡ false
+  fits : (u : Bool) → cond u true (keepsOut (n .under-way) (aside o)) ≡ false
       → rowOf (cond u (stay calls (book .driver) 1 n)
-      (begun calls (book .driver) (fed book a) (aside o) n (n .way) b) .0)
+      (begun calls (book .driver) (fed book a) (aside o) n (n .under-way) b) .0)
       ≡ asideRow (n .st) o
   fits true h = absurd (true≢false h)
-  fits false h = begins (n .way) h
+  fits false h = begins (n .under-way) h
 
 row-same : (a z : Ans Answer) → blankA a ≡ blankA z → rowOf a ≡ rowOf z
 row-same = tells-same rowOf (λ _ _. refl, λ _ _. refl, λ _. refl)
 
 pub asides-rows : (c : Call Config Op) (a : Ans Answer) (n : Machine Answer Pages) (b : Buf)
-    → blankA a ≡ blankA (written a c n b .0) → (o : Aside) → c ≡ begin (aside o) → stopped c n b ≡ false
+    → blankA a ≡ blankA (bookStep a c n b .0) → (o : Aside) → c ≡ begin (aside o) → stopped c n b ≡ false
     → rowOf a ≡ asideRow (n .st) o
 asides-rows c a n b same o is on =
-    row-same a (written a c n b .0) same
-    ∙ subst (λ (c : Call Config Op). stopped c n b ≡ false → rowOf (written a c n b .0) ≡ asideRow (n .st) o) (sym is)
+    row-same a (bookStep a c n b .0) same
+    ∙ subst (λ (c : Call Config Op). stopped c n b ≡ false → rowOf (bookStep a c n b .0) ≡ asideRow (n .st) o) (sym is)
     (fits a o n b (cond (calls .slots (aside o)) (misfit calls (book .driver) (n .st) b) false)) on

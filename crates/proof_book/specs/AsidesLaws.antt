@@ -17,11 +17,13 @@ use Rattle.script.specs.Statics.{isOn}
 use Rattle.script.specs.Answers.{Answer, Refused, NotYet, Shown, ok, isAllocated}
 use Rattle.script.specs.Driver.{openPacket, closePacket, queuePacket}
 use Rattle.script.specs.Calls.{aside, Aside, Open, Close, Queue, asideCode, calls}
-use Rattle.script.specs.Machine.{Buf, begin, Ans, ended, handed, told, Way, idle, busy, Machine, misfit, stay, lentTo, beside, halt, begun, fed}
+use Rattle.script.specs.Machine.{Buf, begin, Ans, ended, handed, told, Pending, idle, busy, Machine, misfit, stay}
+use Rattle.script.specs.Machine.{lentTo, duringInterrupt, halt, begun, fed}
 use Rattle.proof_book.specs.Pages.{Packet, bytesOf, OutPage, InPage, Pages, withOut, withIn}
-use Rattle.proof_book.specs.Book.{Bk, some, first, firstStamp, front, isoOf, roomB, waitsOn, openOut, readOut, queuedIn, bookOps, book}
+use Rattle.proof_book.specs.Book.{Bk, some, first, firstStamp, front, isoOf, roomB, waitsOn, openOut, readOut}
+use Rattle.proof_book.specs.Book.{queuedIn, bookOps, book}
 use Rattle.proof_book.specs.FrameLaws.{out-same, in-same}
-use Rattle.proof_book.specs.FrontPage.{ReadsFirst, Joins, written}
+use Rattle.proof_book.specs.FrontPage.{ReadsFirst, Joins, bookStep}
 use Rattle.proof_book.specs.RefusingLaws.{onAnswer}
 
 -- ---- answers told apart
@@ -50,7 +52,8 @@ abbrev pub Ends : (Answer → Pages → Type 0) → tree.Out Bk Answer → Type 
 Ends Q (ends a s) = Q a (s .0)
 Ends Q (asks q s k) = Unit {0}
 
-pub by-test : (Q : Answer → Pages → Type 0) (u : Bool) (x y : tree.Out Bk Answer) → (u ≡ true → Ends Q x) → (u ≡ false → Ends Q y) → Ends Q (cond u x y)
+pub by-test : (Q : Answer → Pages → Type 0) (u : Bool) (x y : tree.Out Bk Answer) → (u ≡ true → Ends Q x)
+    → (u ≡ false → Ends Q y) → Ends Q (cond u x y)
 by-test Q true x y f g = f refl
 by-test Q false x y f g = g refl
 
@@ -71,20 +74,22 @@ module _ (Q : Answer → Pages → Type 0) (a : Ans Answer) (o : Aside) (n : Mac
       asked (handed q) = true
       asked (told n) = true
 
-  passing : (x : tree.Out Bk Answer) → Ends Q x → Says Q (beside calls (book .driver) (lentTo calls (book .driver) n b) x)
+  passing : (x : tree.Out Bk Answer) → Ends Q x → Says Q
+      (duringInterrupt calls (book .driver) (lentTo calls (book .driver) n b) x)
   passing (ends z s) q y e = subst (λ (z : Answer). Q z (s .0)) (ap answered e) q
   passing (asks q s k) u y e = refused 3 (lentTo calls (book .driver) n b) r3 y e
 
-  begins : (w : Way Answer Pages) → Says Q (begun calls (book .driver) (fed book a) (aside o) n w b)
+  begins : (w : Pending Answer Pages) → Says Q (begun calls (book .driver) (fed book a) (aside o) n w b)
   begins idle = alone (run bookOps (asideCode o) (n .st, b)) h
   begins (busy true q k) = passing (run bookOps (asideCode o) (n .st, b)) h
   begins (busy false q k) = refused 3 (lentTo calls (book .driver) n b) r3
 
-  fits : (u : Bool) → Says Q (cond u (stay calls (book .driver) 1 n) (begun calls (book .driver) (fed book a) (aside o) n (n .way) b))
+  fits : (u : Bool) → Says Q (cond u (stay calls (book .driver) 1 n)
+      (begun calls (book .driver) (fed book a) (aside o) n (n .under-way) b))
   fits true = refused 1 n r1
-  fits false = begins (n .way)
+  fits false = begins (n .under-way)
 
-  says : Says Q (written a (begin (aside o)) n b)
+  says : Says Q (bookStep a (begin (aside o)) n b)
   says = fits (cond (calls .slots (aside o)) (misfit calls (book .driver) (n .st) b) false)
 
 -- ---- open
@@ -99,15 +104,22 @@ module _ (t : Pages) (e : ℕ) where
         × (t′ .outs e .admitted ≡ t .outs e .admitted) × (t′ .outs e .read ≡ t .outs e .read)
 
   not-opened : (k : ℕ) → (k ≡ 12 → ⊥) → Opened (Refused k) t
-  not-opened k h = record { leaves = λ r q. refl; none = λ q. absurd (h (ap row q)); shows = λ stamp bytes q. absurd (true≢false (ap isRefused q)) }
+  not-opened k h = record {
+    leaves = λ r q. refl;
+    none = λ q. absurd (h (ap row q));
+    shows
+        = λ stamp bytes q. absurd (true≢false (ap isRefused q));
+  }
 
   none-waits : (w : List Packet) → some (bytesOf w) ≡ false → w ≡ []
   none-waits [] h = refl
   none-waits (q ∷ w) h = absurd (true≢false h)
 
   opens : (w : List Packet) → t .outs e .waiting ≡ w → (u : Bool) → some (bytesOf (t .outs e .waiting)) ≡ u → u ≡ true
-      → let t′ = cond u (withOut t e (openOut (t .outs e))) t in Opened (Shown (first (waitsOn t′ Out e)) (firstStamp (t′ .outs e .waiting))) t′
-  opens [] h u g k = let z : false ≡ true = sym (ap (λ (w : List Packet). some (bytesOf w)) h) ∙ g ∙ k in absurd (true≢false (sym z))
+      → let t′ = cond u (withOut t e (openOut (t .outs e))) t in Opened
+      (Shown (first (waitsOn t′ Out e)) (firstStamp (t′ .outs e .waiting))) t′
+  opens [] h u g k = let z : false ≡ true = sym (ap (λ (w : List Packet). some (bytesOf w)) h) ∙ g
+      ∙ k in absurd (true≢false (sym z))
   opens (q ∷ w) h true g k = record {
     leaves = λ r z. absurd (true≢false (sym (ap isRefused z)));
     none = λ z. absurd (true≢false (sym (ap isRefused z)));
@@ -117,7 +129,8 @@ module _ (t : Pages) (e : ℕ) where
       h,
       sym (ap shown z) ∙ ap (λ (p : OutPage). first (bytesOf (p .waiting))) (out-same t e (openOut (t .outs e)))
           ∙ ap (λ (w : List Packet). first (bytesOf w)) h,
-      sym (ap stampShown z) ∙ ap (λ (p : OutPage). firstStamp (p .waiting)) (out-same t e (openOut (t .outs e))) ∙ ap firstStamp h,
+      sym (ap stampShown z) ∙ ap (λ (p : OutPage). firstStamp (p .waiting)) (out-same t e (openOut (t .outs e)))
+          ∙ ap firstStamp h,
       ap (λ (p : OutPage). p .opened) (out-same t e (openOut (t .outs e))),
       ap (λ (p : OutPage). p .waiting) (out-same t e (openOut (t .outs e))),
       ap (λ (p : OutPage). p .admitted) (out-same t e (openOut (t .outs e))),
@@ -127,7 +140,12 @@ module _ (t : Pages) (e : ℕ) where
   opens (q ∷ w) h false g k = absurd (true≢false (sym k))
 
   row-12 : some (bytesOf (t .outs e .waiting)) ≡ false → Opened (Refused 12) t
-  row-12 h = record { leaves = λ r z. refl; none = λ _. none-waits (t .outs e .waiting) h; shows = λ stamp bytes q. absurd (true≢false (ap isRefused q)) }
+  row-12 h = record {
+    leaves = λ r z. refl;
+    none = λ _. none-waits (t .outs e .waiting) h;
+    shows
+        = λ stamp bytes q. absurd (true≢false (ap isRefused q));
+  }
 
   open-ends : (b : Buf) → Ends Opened (run bookOps (openPacket {i = false} e) (t, b))
   open-ends b =
@@ -141,30 +159,39 @@ module _ (t : Pages) (e : ℕ) where
       (λ _. not-opened 5 (λ z. omega (arith, z))))
       (λ _. not-opened 4 (λ z. omega (arith, z)))
 
-pub opened-by : (a : Ans Answer) (e : ℕ) (n : Machine Answer Pages) (b : Buf) (z : Answer) → written a (begin (aside (Open e))) n b .0 ≡ ended z
-    → Opened (n .st) e z (written a (begin (aside (Open e))) n b .1 .st)
+pub opened-by : (a : Ans Answer) (e : ℕ) (n : Machine Answer Pages) (b : Buf) (z : Answer)
+    → bookStep a (begin (aside (Open e))) n b .0 ≡ ended z
+    → Opened (n .st) e z (bookStep a (begin (aside (Open e))) n b .1 .st)
 opened-by a e n b = says (Opened (n .st) e) a (Open e) n b (not-opened (n .st) e 1 (λ z. omega (arith, z)))
     (not-opened (n .st) e 3 (λ z. omega (arith, z))) (open-ends (n .st) e b)
 
 -- ---- close
 
 -- a page with the first read
-pub reads-first : {p p′ : OutPage} {q : Packet} {w : List Packet} → p .waiting ≡ q ∷ w → p′ ≡ readOut p → ReadsFirst p p′ q
+pub reads-first : {p p′ : OutPage} {q : Packet} {w : List Packet} → p .waiting ≡ q ∷ w → p′ ≡ readOut p
+    → ReadsFirst p p′ q
 reads-first {p} {p′} {q} {w} h k = record {
-  first = h ∙ ap (λ (w : List Packet). q ∷ w) (sym (ap (λ (p : OutPage). p .waiting) k ∙ ap (λ (w : List Packet). tail w) h));
+  first = h ∙ ap (λ (w : List Packet). q ∷ w) (sym (ap (λ (p : OutPage). p .waiting) k
+      ∙ ap (λ (w : List Packet). tail w) h));
   read = ap (λ (p : OutPage). p .read) k ∙ ap (λ (w : List Packet). p .read ++ front w) h;
   admitted = ap (λ (p : OutPage). p .admitted) k;
   closed = ap (λ (p : OutPage). p .opened) k;
 }
 
-module _ (t : Pages) (e : ℕ) (some-open : t .outs e .opened ≡ true → (q : Packet) × (w : List Packet) × (t .outs e .waiting ≡ q ∷ w)) where
+module _ (t : Pages) (e : ℕ) (some-open : t .outs e .opened ≡ true → (q : Packet) × (w : List Packet)
+    × (t .outs e .waiting ≡ q ∷ w)) where
   pub record Closed (z : Answer) (t′ : Pages) : Type 0 where
     pub leaves : (r : ℕ) → z ≡ Refused r → t′ ≡ t
     pub none : z ≡ Refused 14 → t .outs e .opened ≡ false
     pub reads : z ≡ ok → (t .outs e .opened ≡ true) × (q : Packet) × ReadsFirst (t .outs e) (t′ .outs e) q
 
   not-closed : (k : ℕ) → (k ≡ 14 → ⊥) → Closed (Refused k) t
-  not-closed k h = record { leaves = λ r q. refl; none = λ q. absurd (h (ap row q)); reads = λ q. absurd (true≢false (ap isRefused q)) }
+  not-closed k h = record {
+    leaves = λ r q. refl;
+    none = λ q. absurd (h (ap row q));
+    reads
+        = λ q. absurd (true≢false (ap isRefused q));
+  }
 
   closes : (u : Bool) → t .outs e .opened ≡ u → u ≡ true → Closed ok (cond u (withOut t e (readOut (t .outs e))) t)
   closes true h k = record {
@@ -188,8 +215,10 @@ module _ (t : Pages) (e : ℕ) (some-open : t .outs e .opened ≡ true → (q : 
       (λ _. not-closed 4 (λ z. omega (arith, z)))
 
 pub closed-by : (a : Ans Answer) (e : ℕ) (n : Machine Answer Pages) (b : Buf)
-    (o : n .st .outs e .opened ≡ true → (q : Packet) × (w : List Packet) × (n .st .outs e .waiting ≡ q ∷ w)) (z : Answer)
-    → written a (begin (aside (Close e))) n b .0 ≡ ended z → Closed (n .st) e o z (written a (begin (aside (Close e))) n b .1 .st)
+    (o : n .st .outs e .opened ≡ true → (q : Packet) × (w : List Packet) × (n .st .outs e .waiting ≡ q ∷ w))
+    (z : Answer)
+    → bookStep a (begin (aside (Close e))) n b .0 ≡ ended z
+    → Closed (n .st) e o z (bookStep a (begin (aside (Close e))) n b .1 .st)
 closed-by a e n b o = says (Closed (n .st) e o) a (Close e) n b (not-closed (n .st) e o 1 (λ z. omega (arith, z)))
     (not-closed (n .st) e o 3 (λ z. omega (arith, z))) (close-ends (n .st) e o b)
 
@@ -208,7 +237,8 @@ module _ (t : Pages) (e : ℕ) (bytes : List ℕ) where
       ) (t, b) .0 .ins e) bytes
   room-joins true h k b = (
     ltb-true (length (t .ins e .waiting)) 2
-        (left (isoOf t In e) (ltb (length (t .ins e .waiting)) 2) (not (ltb (t .kept .allocator .size) (length bytes))) h),
+        (left (isoOf t In e) (ltb (length (t .ins e .waiting)) 2) (not (ltb (t .kept .allocator .size) (length bytes)))
+        h),
     ap (λ (p : InPage). p .waiting) (in-same t e (queuedIn (t .ins e) bytes)),
     ap (λ (p : InPage). p .queued) (in-same t e (queuedIn (t .ins e) bytes)),
     ap (λ (p : InPage). p .sending) (in-same t e (queuedIn (t .ins e) bytes)),
@@ -222,7 +252,12 @@ module _ (t : Pages) (e : ℕ) (bytes : List ℕ) (most : length (t .ins e .wait
     pub joins : z ≡ ok → Joins (t .ins e) (t′ .ins e) bytes
 
   not-queued : (k : ℕ) → (k ≡ 13 → ⊥) → Queued (Refused k) t
-  not-queued k h = record { leaves = λ r q. refl; full = λ q. absurd (h (ap row q)); joins = λ q. absurd (true≢false (ap isRefused q)) }
+  not-queued k h = record {
+    leaves = λ r q. refl;
+    full = λ q. absurd (h (ap row q));
+    joins
+        = λ q. absurd (true≢false (ap isRefused q));
+  }
 
   room-by : (x y z : Bool) → x ≡ true → z ≡ false → (x && (y && not z)) ≡ false → y ≡ false
   room-by true true false h k l = absurd (true≢false l)
@@ -274,8 +309,10 @@ module _ (t : Pages) (e : ℕ) (bytes : List ℕ) (most : length (t .ins e .wait
       (λ _. not-queued 5 (λ z. omega (arith, z))))
       (λ _. not-queued 4 (λ z. omega (arith, z)))
 
-pub queued-by : (a : Ans Answer) (e : ℕ) (bytes : List ℕ) (n : Machine Answer Pages) (b : Buf) (m : length (n .st .ins e .waiting) ≤ 2) (z : Answer)
-    → written a (begin (aside (Queue e bytes))) n b .0 ≡ ended z → Queued (n .st) e bytes m z (written a (begin (aside (Queue e bytes))) n b .1 .st)
+pub queued-by : (a : Ans Answer) (e : ℕ) (bytes : List ℕ) (n : Machine Answer Pages) (b : Buf)
+    (m : length (n .st .ins e .waiting) ≤ 2) (z : Answer)
+    → bookStep a (begin (aside (Queue e bytes))) n b .0 ≡ ended z
+    → Queued (n .st) e bytes m z (bookStep a (begin (aside (Queue e bytes))) n b .1 .st)
 queued-by a e bytes n b m =
     says (Queued (n .st) e bytes m) a (Queue e bytes) n b (not-queued (n .st) e bytes m 1 (λ z. omega (arith, z)))
     (not-queued (n .st) e bytes m 3 (λ z. omega (arith, z))) (queue-ends (n .st) e bytes m b)

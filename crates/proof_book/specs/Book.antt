@@ -1,5 +1,5 @@
--- The book of document 01 ("The book of demand 3"): fed the calls, the readings and bytes they bring and the accesses they hand out; it sees no
--- driver state. Each operation of a script as the book has it
+-- The book of document 01 ("The book of demand 3"): fed the calls, the readings and bytes they bring and the accesses
+-- they hand out; it sees no driver state. Each operation of a script as the book has it
 use mathlib.Core.Bool.{Bool, true, false, not, cond, _&&_}
 use mathlib.Core.List.{List, [], _∷_, _++_, tail}
 use Prim.Native.Nat.{ℕ, zero, suc, _+_, _*_, _%_, _^_, min}
@@ -22,13 +22,15 @@ use Rattle.alloc.specs.declared.Answer.the-variants.{Refused, Given}
 use Rattle.alloc.specs.Alloc.{allocateOf, allocateEp0Of, isIso}
 use Rattle.ring.specs.Marks.{isMarked, markedLen}
 use Rattle.ring.specs.Copies.{copied, bytesAt}
-use Rattle.script.specs.Cells.{EpCore, Cell, Val, globals-cell, control-cell, allocator-cell, ep-cell, request-cell, paced-cell}
+use Rattle.script.specs.Cells.{EpCore, Cell, Val, globals-cell, control-cell, allocator-cell, ep-cell, request-cell}
+use Rattle.script.specs.Cells.{paced-cell}
 use Rattle.script.specs.Script.{Ops, Test, changed, waiting, room, opened, Look, marked, next-len, next-stamp}
 use Rattle.script.specs.Script.{setup-word, Fetch, oldest, received, received0, gathered, Act, complete, reset-ring}
 use Rattle.script.specs.Script.{set-enabled, fill, fill0, open-oldest, close-oldest, take-oldest, enqueue, allocate}
 use Rattle.script.specs.Script.{allocate0, no-wakes, waken, DmaStep, arrive, send, place, place0, Burst, switch}
 use Rattle.script.specs.Script.{bus-reset}
-use Rattle.script.specs.Statics.{isOn, flag, isoOuts, renewed, withSetup, withReady, withLen, withArmed, withLastFrame, withTog}
+use Rattle.script.specs.Statics.{isOn, flag, isoOuts, renewed, withSetup, withReady, withLen, withArmed, withLastFrame}
+use Rattle.script.specs.Statics.{withTog}
 use Rattle.script.specs.Answers.{isNumber}
 use Rattle.script.specs.Calls.{Config}
 use Rattle.script.specs.Machine as machine
@@ -65,10 +67,26 @@ front (x ∷ xs) = x ∷ []
 -- ---- pages
 
 abbrev pub withWaiting : OutPage → List Packet → Bool → OutPage
-withWaiting p w o = record { waiting = w; opened = o; lost = p .lost; slot = p .slot; admitted = p .admitted; read = p .read }
+withWaiting p w o = record {
+  waiting = w;
+  opened = o;
+  lost = p .lost;
+  slot = p .slot;
+  admitted = p .admitted;
+  read
+      = p .read;
+}
 
 abbrev pub withLedger : OutPage → List Packet → List Packet → OutPage
-withLedger p a r = record { waiting = p .waiting; opened = p .opened; lost = p .lost; slot = p .slot; admitted = a; read = r }
+withLedger p a r = record {
+  waiting = p .waiting;
+  opened = p .opened;
+  lost = p .lost;
+  slot = p .slot;
+  admitted = a;
+  read
+      = r;
+}
 
 -- admitted
 abbrev pub joined : OutPage → Packet → OutPage
@@ -97,10 +115,29 @@ emptyOut p = withLedger (withWaiting p [] false) [] []
 
 -- "the armed slot is that of the endpoint's last receive address"
 abbrev pub slotTold : OutPage → ℕ → OutPage
-slotTold p x = record { waiting = p .waiting; opened = p .opened; lost = p .lost; slot = x; admitted = p .admitted; read = p .read }
+slotTold p x = record {
+  waiting = p .waiting;
+  opened = p .opened;
+  lost = p .lost;
+  slot = x;
+  admitted = p .admitted;
+  read
+      = p .read;
+}
 
 abbrev pub inPage : List (List ℕ) → Bool → Bool → ℕ → List (List ℕ) → List (List ℕ) → List (List ℕ) → ℕ → Buf → InPage
-inPage w g l n q s p x b = record { waiting = w; sending = g; load = l; turn = n; queued = q; sent = s; passed = p; source = x; shown = b }
+inPage w g l n q s p x b = record {
+  waiting = w;
+  sending = g;
+  load = l;
+  turn = n;
+  queued = q;
+  sent = s;
+  passed
+      = p;
+  source = x;
+  shown = b;
+}
 
 abbrev pub emptyIn : InPage
 emptyIn = inPage [] false false 0 [] [] [] 0 []
@@ -145,7 +182,8 @@ queuedIn p bytes = withPackets p (p .waiting ++ (bytes ∷ [])) ((p .turn + 1) %
 
 -- of an endpoint's record `ready`, `len`, `armed`, `last_frame` and `tog` are assigned
 abbrev pub mergedPlain : EpCore → EpCore → EpCore
-mergedPlain p v = withTog (v .tog) (withLastFrame (v .«last_frame») (withArmed (v .armed) (withLen (v .len) (withReady (v .ready) p))))
+mergedPlain p v = withTog (v .tog) (withLastFrame (v .«last_frame»)
+    (withArmed (v .armed) (withLen (v .len) (withReady (v .ready) p))))
 
 -- an endpoint's record after its allocation
 abbrev pub shapedPlain : EpCore → ℕ → ℕ → ℕ → EpCore
@@ -251,8 +289,11 @@ takeB t e = cond (some (waitsOn t Out e)) (withOut t e (readOut (t .outs e))) t
 
 abbrev pub enqueueB : ℕ → List ℕ → Bk → Bk
 enqueueB e bytes s =
-    cond (roomB (s .0) e (length bytes))
-    (withIn (s .0) e (queuedIn (s .0 .ins e) bytes), copied (s .1) (s .0 .kept .plain In e .base + s .0 .ins e .turn * s .0 .kept .allocator .size) bytes)
+    cond (roomB (s .0) e (length bytes)) (
+      withIn (s .0) e (queuedIn (s .0 .ins e) bytes),
+      copied (s .1) (s .0 .kept .plain In e .base + s .0 .ins e .turn
+          * s .0 .kept .allocator .size) bytes,
+    )
     s
 
 -- an endpoint's page after its allocation: none wait, and its buffer stands for the last receive address
@@ -263,7 +304,8 @@ pagesGiven In e base t = withIn t e emptyIn
 abbrev pub givenB : Dir → ℕ → ℕ → ℕ → Answer → Pages → Pages
 givenB d kind maximum interval (Refused n) t = t
 givenB d kind maximum interval (Given e base slots) t =
-    globalsBy (pagesGiven d e base (withKept t (keptPlain (t .kept) d e (shapedPlain (t .kept .plain d e) kind maximum base)))) (withSets d kind interval e)
+    globalsBy (pagesGiven d e base (withKept t (keptPlain (t .kept) d e
+    (shapedPlain (t .kept .plain d e) kind maximum base)))) (withSets d kind interval e)
 
 abbrev pub allocateB : Dir → ℕ → ℕ → ℕ → ℕ → Pages → Pages
 allocateB d kind address maximum interval t =
@@ -296,7 +338,8 @@ actB (waken codes) s = (withKept (s .0) (keptWakes (s .0 .kept) (all-woken codes
 
 -- ---- changes with an access: the book is told the driver's addresses
 
--- "with its slot's bytes in that call up to its length", a length is capped at the maximum; and with the microframe with which the interrupt began
+-- "with its slot's bytes in that call up to its length", a length is capped at the maximum; and with the microframe
+-- with which the interrupt began
 abbrev pub packetB : ℕ → ℕ → Bk → Packet
 packetB e n s = record {
   bytes = bytesAt (s .1) (s .0 .outs e .slot) (min n (s .0 .kept .plain Out e .«max_len»));
@@ -319,10 +362,12 @@ handB place0 s = (0, s)
 -- an isochronous OUT switched: none wait from its first access on; ep_type and ep_config at the last two
 abbrev pub switchB : ℕ → Bool → ℕ → Pages → ℕ × Pages
 switchB e onn zero t =
-    let v = cond (isoOf t Out e) (enables.withOn (t .kept .globals .«ep_config») Out e onn) (t .kept .globals .«ep_config») in
+    let v = cond (isoOf t Out e) (enables.withOn (t .kept .globals .«ep_config») Out e onn)
+    (t .kept .globals .«ep_config») in
     (v, globalsBy t (withEpConfig v))
 switchB e onn (suc zero) t =
-    let v = cond (isoOf t Out e) (enables.withOn (t .kept .globals .«ep_type») Out e onn) (t .kept .globals .«ep_type») in
+    let v = cond (isoOf t Out e) (enables.withOn (t .kept .globals .«ep_type») Out e onn)
+    (t .kept .globals .«ep_type») in
     (v, globalsBy t (withEpType v))
 switchB e onn (suc (suc zero)) t = (0, t)
 switchB e onn (suc (suc (suc k))) t = (
@@ -358,7 +403,17 @@ rowB (switch e onn) n s = (switchB e onn n (s .0) .0, (switchB e onn n (s .0) .1
 rowB bus-reset n s = (0, (busResetB n (s .0), s .1))
 
 abbrev pub bookOps : Ops Bk
-bookOps = record { get = getB; put = putB; is = isB; look = lookB; fetch = fetchB; act = actB; hand = handB; row = rowB }
+bookOps = record {
+  get = getB;
+  put = putB;
+  is = isB;
+  look = lookB;
+  fetch = fetchB;
+  act = actB;
+  hand = handB;
+  row
+      = rowB;
+}
 
 -- ---- start-up, questions, what it is told
 
@@ -395,6 +450,12 @@ feedB Callback t = t
 
 abbrev pub book : machine.Book Config Pages
 book = record {
-  driver = record { ops = bookOps; fresh = freshPages; size = λ t. t .kept .allocator .count * t .kept .allocator .size; question = questionB };
+  driver = record {
+    ops = bookOps;
+    fresh = freshPages;
+    size = λ t. t .kept .allocator .count
+        * t .kept .allocator .size;
+    question = questionB;
+  };
   feed = feedB;
 }

@@ -53,7 +53,14 @@ uncounted-then s t u h k e = k e ∙ h e
 pub counts-then : (s t u : Bk) (q : Access) → Uncounted s t → Counts t q u → Counts s q u
 counts-then s t u q h k e = elim (k e) [
   | inl x ↦ inl (x ∙ h e)
-  | inr x ↦ inr (record { number = x .number; same = x .same; access = x .access; full = x .full; more = x .more ∙ ap (λ (n : ℕ). n + 1) (h e) })
+  | inr x ↦ inr (record {
+    number = x .number;
+    same = x .same;
+    access = x .access;
+    full = x .full;
+    more = x .more
+        ∙ ap (λ (n : ℕ). n + 1) (h e);
+  })
 ]
 
 -- ---- operations
@@ -79,7 +86,8 @@ periodic-with t e p i x y h = ap₂ (λ (k : ℕ) (q : OutPage). cond (eqb k (e 
 with-page : (t : Pages) (e : ℕ) (p : OutPage) → p .lost ≡ t .outs e .lost → Periodic t → LostStays t (withOut t e p)
 with-page t e p h i = record {
   periodic = periodic-with t e p i;
-  lost = λ x. at-elim (λ (q : OutPage). q .lost ≡ t .outs x .lost) e x p (t .outs) (λ m. h ∙ ap (λ (q : OutPage). q .lost) (i e x (sym m))) (λ _. refl);
+  lost = λ x. at-elim (λ (q : OutPage). q .lost ≡ t .outs x .lost) e x p (t .outs)
+      (λ m. h ∙ ap (λ (q : OutPage). q .lost) (i e x (sym m))) (λ _. refl);
 }
 
 puts : (c : Cell) (v : Val c) (s : Bk) → Periodic (s .0) → LostStays (s .0) (putB c v s .0)
@@ -90,7 +98,8 @@ puts (ep-cell d e) v s i = record { periodic = i; lost = λ e. refl }
 puts (request-cell d e) v s i = record { periodic = i; lost = λ e. refl }
 puts (paced-cell e) v s i = record { periodic = i; lost = λ e. refl }
 
-given : (d : Dir) (kind maximum interval : ℕ) (a : alloc-answer.Answer) (t : Pages) → Periodic t → LostStays t (givenB d kind maximum interval a t)
+given : (d : Dir) (kind maximum interval : ℕ) (a : alloc-answer.Answer) (t : Pages) → Periodic t
+    → LostStays t (givenB d kind maximum interval a t)
 given d kind maximum interval (alloc.Refused n) t i = stays i
 given Out kind maximum interval (alloc.Given e base slots) t i =
     let k = with-page t e (slotTold (emptyOut (t .outs e)) base) refl i in
@@ -103,25 +112,32 @@ started maximum (alloc.Given e base slots) t i = record { periodic = i; lost = �
 
 acts : (q : Act) (s : Bk) → Periodic (s .0) → LostStays (s .0) (actB q s .0)
 acts (complete e) s i = record { periodic = i; lost = λ e. refl }
-acts (reset-ring Out e) s i = either (isoOf (s .0) Out e) (stays i) (with-page (s .0) e (emptyOut (s .0 .outs e)) refl i)
+acts (reset-ring Out e) s i = either (isoOf (s .0) Out e) (stays i)
+    (with-page (s .0) e (emptyOut (s .0 .outs e)) refl i)
 acts (reset-ring In e) s i = record { periodic = i; lost = λ e. refl }
 acts (set-enabled d e onn) s i = either (isoOut (s .0) d e) (stays i) (record { periodic = i; lost = λ e. refl })
 acts (fill e bytes) s i = stays i
 acts (fill0 bytes) s i = stays i
-acts (open-oldest e) s i = either (some (waitsOn (s .0) Out e)) (with-page (s .0) e (openOut (s .0 .outs e)) refl i) (stays i)
+acts (open-oldest e) s i = either (some (waitsOn (s .0) Out e)) (with-page (s .0) e (openOut (s .0 .outs e)) refl i)
+    (stays i)
 acts (close-oldest e) s i = either (s .0 .outs e .opened) (with-page (s .0) e (readOut (s .0 .outs e)) refl i) (stays i)
-acts (take-oldest e) s i = either (some (waitsOn (s .0) Out e)) (with-page (s .0) e (readOut (s .0 .outs e)) refl i) (stays i)
-acts (enqueue e bytes) s i = either-of (roomB (s .0) e (length bytes)) _ s (record { periodic = i; lost = λ e. refl }) (stays i)
+acts (take-oldest e) s i = either (some (waitsOn (s .0) Out e)) (with-page (s .0) e (readOut (s .0 .outs e)) refl i)
+    (stays i)
+acts (enqueue e bytes) s i = either-of (roomB (s .0) e (length bytes)) _ s (record { periodic = i; lost = λ e. refl })
+    (stays i)
 acts (allocate d kind address maximum interval) s i =
     let k = given d kind maximum interval (allocateOf (s .0 .kept .allocator) kind address maximum d .answer) _ i in
     record { periodic = k .periodic; lost = k .lost }
 acts (allocate0 maximum) s i =
-    let k = started maximum (allocateEp0Of (s .0 .kept .allocator) maximum .answer) _ i in record { periodic = k .periodic; lost = k .lost }
+    let k = started maximum (allocateEp0Of (s .0 .kept .allocator) maximum .answer) _ i in record
+    { periodic = k .periodic; lost = k .lost }
 acts no-wakes s i = record { periodic = i; lost = λ e. refl }
 acts (waken codes) s i = record { periodic = i; lost = λ e. refl }
 
-arrives-at : (t : Pages) (e : ℕ) (q : Packet) (x : ℕ) → x % 16 ≡ e % 16 → (u : Bool) → ltb (length (t .outs e .waiting)) 15 ≡ u → Periodic t → (b : List ℕ)
-    → let p = cond u (joined (t .outs e) q) (overrun (t .outs e)) in (y : Bk) → y .0 .outs x ≡ p → (p .lost ≡ t .outs x .lost) ⊎ Turned x (t, b) (Receive e 0) y
+arrives-at : (t : Pages) (e : ℕ) (q : Packet) (x : ℕ) → x % 16 ≡ e % 16 → (u : Bool)
+    → ltb (length (t .outs e .waiting)) 15 ≡ u → Periodic t → (b : List ℕ)
+    → let p = cond u (joined (t .outs e) q) (overrun (t .outs e)) in (y : Bk) → y .0 .outs x ≡ p
+    → (p .lost ≡ t .outs x .lost) ⊎ Turned x (t, b) (Receive e 0) y
 arrives-at t e q x h true m i b y z = inl (ap (λ (p : OutPage). p .lost) (i e x (sym h)))
 arrives-at t e q x h false m i b y z = inr (record {
   number = e;
@@ -135,7 +151,8 @@ arrives-at t e q x h false m i b y z = inr (record {
 quietly : {s : Bk} {t : Bk} (q : Access) → LostStays (s .0) (t .0) → Counts s q t
 quietly q k e = inl (k .lost e)
 
-hands : (q : DmaStep) (s : Bk) → Periodic (s .0) → Periodic (handB q s .1 .0) × Counts s (dmaStepAsk q (handB q s .0)) (handB q s .1)
+hands : (q : DmaStep) (s : Bk) → Periodic (s .0) → Periodic (handB q s .1 .0)
+    × Counts s (dmaStepAsk q (handB q s .0)) (handB q s .1)
 hands (arrive e n) s i = by (receiving (s .0) e)
   where
     page : OutPage
@@ -152,7 +169,8 @@ hands (arrive e n) s i = by (receiving (s .0) e)
           | inr z ↦ inl (ap (λ (p : OutPage). p .lost) z)
         ]
 
-    by : (u : Bool) → Periodic (cond u (withOut (s .0) e page) (s .0)) × Counts s (Receive e 0) (cond u (withOut (s .0) e page) (s .0), s .1)
+    by : (u : Bool) → Periodic (cond u (withOut (s .0) e page) (s .0))
+        × Counts s (Receive e 0) (cond u (withOut (s .0) e page) (s .0), s .1)
     by true = (periodic-with (s .0) e page i, counts)
     by false = (i, λ x. inl refl)
 hands (send e) s i = (i, λ x. inl refl)
@@ -185,13 +203,15 @@ Followed s o = Tracks Periodic Uncounted Counts s o
 
 follow-rows : {A : Type 0} (g : Burst) (n : ℕ) {k : Bk → tree.Out Bk A}
     → ((t : Bk) → Periodic (t .0) → Followed t (k t)) → (s : Bk) → Periodic (s .0) → Followed s (rows bookOps g n k s)
-follow-rows g zero h s i = let m = row-steps g zero s i in ask (m .periodic) (quietly (burstAsk g zero (rowB g zero s .0)) m) (λ v t j. h t j)
+follow-rows g zero h s i = let m = row-steps g zero s i in ask (m .periodic)
+    (quietly (burstAsk g zero (rowB g zero s .0)) m) (λ v t j. h t j)
 follow-rows g (suc n) h s i = let m = row-steps g (suc n) s i in
     ask (m .periodic) (quietly (burstAsk g (suc n) (rowB g (suc n) s .0)) m) (λ v t j. follow-rows g n h t j)
 
 pub follow : {i : Bool} {A : Type 0} (p : Script i A) (s : Bk) → Periodic (s .0) → Followed s (run bookOps p s)
 follow (ret a) s i = end i (λ e. refl)
-follow (bind p f) s i = tracks-bind Periodic Uncounted Counts uncounted-then counts-then (follow p s i) (λ a t j. follow (f a) t j)
+follow (bind p f) s i = tracks-bind Periodic Uncounted Counts uncounted-then counts-then (follow p s i)
+    (λ a t j. follow (f a) t j)
 follow (test true p q) s i = follow p s i
 follow (test false p q) s i = follow q s i
 follow (read-then r e k) s i = ask i (λ x. inl refl) (λ v t j. follow (k v) t j)
@@ -204,6 +224,7 @@ follow (put-then c v p) s i = let m = puts c v s i in
 follow (is-then q k) s i = follow (k _) s i
 follow (look-then q k) s i = follow (k _) s i
 follow (fetch-then q k) s i = follow (k _) s i
-follow (act-then q p) s i = let m = acts q s i in earlier Periodic Uncounted Counts uncounted-then counts-then (m .lost) (follow p (actB q s) (m .periodic))
+follow (act-then q p) s i = let m = acts q s i in earlier Periodic Uncounted Counts uncounted-then counts-then (m .lost)
+    (follow p (actB q s) (m .periodic))
 follow (hand-then q p) s i = let m = hands q s i in ask (m .0) (m .1) (λ _ t j. follow p t j)
 follow (row-then g p) s i = follow-rows g (lastOf g) (λ t j. follow p t j) s i

@@ -43,14 +43,15 @@ pub record Idle (s t : Bk) : Type 0 where
   pub bytes : t .1 ≡ s .1
 
 -- and so do the IN pages
-pub record Still (s t : Bk) : Type 0 where
+pub record NoPageMoved (s t : Bk) : Type 0 where
   pub rest : Idle s t
   pub ins : (e : ℕ) → t .0 .ins e ≡ s .0 .ins e
 
 -- at a receive address: the endpoint's page with a packet that has arrived, with its slot's bytes
 abbrev pub Arrives : Bk → Access → Bk → Type 0
 Arrives s q t = (e x : ℕ) → q ≡ Receive e x → receiving (s .0) e ≡ true
-    → (n : ℕ) × (k : Packet) × (k .bytes ≡ bytesAt (s .1) (s .0 .outs e .slot) n) × (t .0 .outs e ≡ arrived (s .0 .outs e) k)
+    → (n : ℕ) × (k : Packet) × (k .bytes ≡ bytesAt (s .1) (s .0 .outs e .slot) n)
+    × (t .0 .outs e ≡ arrived (s .0 .outs e) k)
 
 -- where the access is not a receive address of OUT e, or OUT e is not enabled as isochronous, its page stays
 abbrev pub OutStays : Bk → Access → Bk → Type 0
@@ -58,7 +59,8 @@ OutStays s q t = (e : ℕ) → (givesTo q e && receiving (s .0) e) ≡ false →
 
 -- at a transmit address: one waits, and the first is being sent
 abbrev pub Loads : Access → Bk → Type 0
-Loads q t = (e : ℕ) → sendsTo q e ≡ true → (0 < length (t .0 .ins e .waiting)) × (t .0 .ins e .sending ≡ true) × (t .0 .ins e .load ≡ true)
+Loads q t = (e : ℕ) → sendsTo q e ≡ true → (0 < length (t .0 .ins e .waiting)) × (t .0 .ins e .sending ≡ true)
+    × (t .0 .ins e .load ≡ true)
 
 -- numbers count modulo 16
 abbrev pub InPeriodic : Pages → Type 0
@@ -75,7 +77,8 @@ pub record Passing (s : Bk) (q : Access) (t : Bk) : Type 0 where
   -- with no transmit address none is left there
   pub empties : (e : ℕ) → sendsTo q e ≡ false → (t .0 .ins e ≡ s .0 .ins e) ⊎ NoneLeft (t .0 .ins e)
   -- at a load's transmit address the one that was being sent has passed
-  pub exact : InPeriodic (s .0) → (e : ℕ) → sendsTo q e ≡ true → t .0 .ins e .load ≡ true → PassedBy (s .0 .ins e) (t .0 .ins e)
+  pub exact : InPeriodic (s .0) → (e : ℕ) → sendsTo q e ≡ true → t .0 .ins e .load ≡ true
+      → PassedBy (s .0 .ins e) (t .0 .ins e)
 
 pub record Moves (s : Bk) (q : Access) (t : Bk) : Type 0 where
   pub arrives : Arrives s q t
@@ -91,22 +94,24 @@ arrives-then s t u q h k e x a r =
     let z = k e x a (ap (λ (n : ℕ). isSet n (e % 16)) (h .sets) ∙ r) in (
       z .0,
       z .1,
-      z .2 ∙ ap (λ (b : List ℕ). bytesAt b (t .0 .outs e .slot) (z .0)) (h .bytes) ∙ ap (λ (p : OutPage). bytesAt (s .1) (p .slot) (z .0)) (h .outs e),
+      z .2 ∙ ap (λ (b : List ℕ). bytesAt b (t .0 .outs e .slot) (z .0)) (h .bytes)
+          ∙ ap (λ (p : OutPage). bytesAt (s .1) (p .slot) (z .0)) (h .outs e),
       z .3 ∙ ap (λ (p : OutPage). arrived p (z .1)) (h .outs e),
     )
 
-still-then : (s t u : Bk) → Still s t → Still t u → Still s u
+still-then : (s t u : Bk) → NoPageMoved s t → NoPageMoved t u → NoPageMoved s u
 still-then s t u h k = record { rest = idle-then s t u (h .rest) (k .rest); ins = λ e. k .ins e ∙ h .ins e }
 
 pub passing-then : (s t u : Bk) (q : Access) → ((e : ℕ) → t .0 .ins e ≡ s .0 .ins e) → Passing t q u → Passing s q u
 passing-then s t u q h k = record {
   spares = λ e g. k .spares e g ∙ h e;
-  passes = λ i e. subst (λ (p : InPage). PassesOn p (u .0 .ins e)) (h e) (k .passes (λ x y m. h x ∙ i x y m ∙ sym (h y)) e);
+  passes = λ i e. subst (λ (p : InPage). PassesOn p (u .0 .ins e)) (h e)
+      (k .passes (λ x y m. h x ∙ i x y m ∙ sym (h y)) e);
   empties = λ e g. subst (λ (p : InPage). (u .0 .ins e ≡ p) ⊎ NoneLeft (u .0 .ins e)) (h e) (k .empties e g);
   exact = λ i e g l. subst (λ (p : InPage). PassedBy p (u .0 .ins e)) (h e) (k .exact (λ x y m. h x ∙ i x y m ∙ sym (h y)) e g l);
 }
 
-moves-then : (s t u : Bk) (q : Access) → Still s t → Moves t q u → Moves s q u
+moves-then : (s t u : Bk) (q : Access) → NoPageMoved s t → Moves t q u → Moves s q u
 moves-then s t u q h k = record {
   arrives = arrives-then s t u q (h .rest) (k .arrives);
   leaves = λ e g. k .leaves e (ap (λ (n : ℕ). givesTo q e && isSet n (e % 16)) (h .rest .sets) ∙ g) ∙ h .rest .outs e;
@@ -149,9 +154,11 @@ arrives : (f n : ℕ) (s : Bk) → Arrives s (Receive f 0) (handB (arrive f n) s
 arrives f n s e x a r = subst
     (λ (e : ℕ). receiving (s .0) e ≡ true → (m : ℕ) × (k : Packet) × (k .bytes ≡ bytesAt (s .1) (s .0 .outs e .slot) m)
     × (handB (arrive f n) s .1 .0 .outs e ≡ arrived (s .0 .outs e) k))
-    (ap numberIn a) (λ r. (min n (s .0 .kept .plain Out f .«max_len»), packetB f n s, refl, by (receiving (s .0) f) r)) r
+    (ap numberIn a) (λ r. (min n (s .0 .kept .plain Out f .«max_len»), packetB f n s, refl, by (receiving (s .0) f) r))
+    r
   where
-    by : (u : Bool) → u ≡ true → cond u (withOut (s .0) f (arrived (s .0 .outs f) (packetB f n s))) (s .0) .outs f ≡ arrived (s .0 .outs f) (packetB f n s)
+    by : (u : Bool) → u ≡ true → cond u (withOut (s .0) f (arrived (s .0 .outs f) (packetB f n s))) (s .0) .outs f
+        ≡ arrived (s .0 .outs f) (packetB f n s)
     by true h = out-same (s .0) f (arrived (s .0 .outs f) (packetB f n s))
     by false h = absurd (true≢false (sym h))
 
@@ -185,7 +192,8 @@ still-in {s} q n h = record {
 arrive-still : (f n : ℕ) (s : Bk) → Passing s (Receive f 0) (handB (arrive f n) s .1)
 arrive-still f n s = still-in (Receive f 0) (λ e. refl) (λ e. by e (receiving (s .0) f))
   where
-    by : (e : ℕ) (u : Bool) → cond u (withOut (s .0) f (arrived (s .0 .outs f) (packetB f n s))) (s .0) .ins e ≡ s .0 .ins e
+    by : (e : ℕ) (u : Bool) → cond u (withOut (s .0) f (arrived (s .0 .outs f) (packetB f n s))) (s .0) .ins e
+        ≡ s .0 .ins e
     by e true = refl
     by e false = refl
 
@@ -238,7 +246,8 @@ module _ (f : ℕ) (s : Bk) where
   passed = actB (complete f) s
 
   -- the page of IN f is one to which its tail has passed on
-  at-page : (i : InPeriodic (s .0)) (e : ℕ) → e % 16 ≡ f % 16 → (p : InPage) → PassesOn (s .0 .ins f) p → PassesOn (s .0 .ins e) p
+  at-page : (i : InPeriodic (s .0)) (e : ℕ) → e % 16 ≡ f % 16 → (p : InPage) → PassesOn (s .0 .ins f) p
+      → PassesOn (s .0 .ins e) p
   at-page i e h p k = subst (λ (q : InPage). PassesOn q p) (i f e (sym h)) k
 
   -- where none waits
@@ -288,13 +297,13 @@ module _ (f : ℕ) (s : Bk) where
           (loaded-on (s .0 .ins f) (s .1))
 
 abbrev pub Watched : {A : Type 0} → Bk → tree.Out Bk A → Type 0
-Watched s o = Tracks Any Still Moves s o
+Watched s o = Tracks Any NoPageMoved Moves s o
 
-after : {A : Type 0} {s t : Bk} {o : tree.Out Bk A} → Still s t → Watched t o → Watched s o
-after h w = earlier Any Still Moves still-then moves-then h w
+after : {A : Type 0} {s t : Bk} {o : tree.Out Bk A} → NoPageMoved s t → Watched t o → Watched s o
+after h w = earlier Any NoPageMoved Moves still-then moves-then h w
 
 -- wake-ups alone changed
-woken : (codes : List ℕ) (s : Bk) → Still s (actB (waken codes) s)
+woken : (codes : List ℕ) (s : Bk) → NoPageMoved s (actB (waken codes) s)
 woken codes s = record { rest = record { outs = λ e. refl; sets = refl; bytes = refl }; ins = λ e. refl }
 
 -- `iso_in_complete`, by whether one waits then
@@ -311,7 +320,7 @@ load-watched e s false none = ask tt
 
 pub watch : {A : Type 0} {p : Script true A} → Parts A p → (s : Bk) → Watched s (run bookOps p s)
 watch p-ret s = end tt (record { rest = idle; ins = λ e. refl })
-watch (p-bind h g) s = tracks-bind Any Still Moves still-then moves-then (watch h s) (λ a t _. watch (g a) t)
+watch (p-bind h g) s = tracks-bind Any NoPageMoved Moves still-then moves-then (watch h s) (λ a t _. watch (g a) t)
 watch (p-test {b = true} h g) s = watch h s
 watch (p-test {b = false} h g) s = watch g s
 watch (p-read h) s = ask tt (unmoved refl (λ e. refl)) (λ v t _. watch (h v) t)

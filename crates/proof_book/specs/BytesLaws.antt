@@ -41,11 +41,13 @@ narrow l (inr a) = inr a
 module _ {b : Buf} {d : Driver} {t : Pages} (R : Coupling quiet b d t) (e : ℕ) (bytes : List ℕ) where
   -- the region of another endpoint is apart, and in its own ring none wait
   fill-away : isOn (epOn d In e .iso) ≡ false → length bytes ≤ epOn d In e .«max_len» → (dir : Dir) (x : ℕ)
-      → Apart (epOn d In e .base) (epOn d In e .base + length bytes) (epOn d dir x .base) (endOf (epOn d dir x)) ⊎ (countOf (epOn d dir x) ≡ 0)
+      → Apart (epOn d In e .base) (epOn d In e .base + length bytes) (epOn d dir x .base) (endOf (epOn d dir x))
+      ⊎ (countOf (epOn d dir x) ≡ 0)
   fill-away i m dir x = elim (ℕ-discrete (key dir x) (key In e)) [
     | yes h ↦ inr (ap countOf (key-ep d dir In x e h) ∙ R .ins e .ringless i)
     | no n ↦ (let g = R .ins e .held .placed in
-        inl (narrow (omega (arith, R .ins e .held .least, slot-from g 0, slot-upto g 0)) (R .apart In dir e x (λ q. n (sym q)))))
+        inl (narrow (omega (arith, R .ins e .held .least, slot-from g 0, slot-upto g 0))
+        (R .apart In dir e x (λ q. n (sym q)))))
   ]
 
   abbrev Filled : Bool → Bool → Type 0
@@ -62,14 +64,16 @@ module _ {b : Buf} {d : Driver} {t : Pages} (R : Coupling quiet b d t) (e : ℕ)
 pub act-fill : (e : ℕ) (bytes : List ℕ) → ActAgrees (script.fill e bytes)
 unfolding filledOn
 act-fill e bytes b d t R = (
-  ap (λ (p : EpCore). cond (isOn (p .iso)) b (cond (ltb (p .«max_len») (length bytes)) b (copied b (p .base) bytes))) (R .same .plain In e),
+  ap (λ (p : EpCore). cond (isOn (p .iso)) b (cond (ltb (p .«max_len») (length bytes)) b (copied b (p .base) bytes)))
+      (R .same .plain In e),
   filled-by R e bytes (isOn (epOn d In e .iso)) (ltb (epOn d In e .«max_len») (length bytes)) refl refl,
 )
 
 -- ---- EP0's
 
 module _ {b : Buf} {d : Driver} {t : Pages} (R : Coupling quiet b d t) (bytes : List ℕ) where
-  filled0-by : (m : Bool) → ltb (d .globals .«ep0_max») (length bytes) ≡ m → Coupling quiet (cond m b (copied b (d .globals .«ep0_buf») bytes)) d t
+  filled0-by : (m : Bool) → ltb (d .globals .«ep0_max») (length bytes) ≡ m
+      → Coupling quiet (cond m b (copied b (d .globals .«ep0_buf») bytes)) d t
   filled0-by true q = R
   filled0-by false q =
       let o = only-copied b (d .globals .«ep0_buf») bytes in

@@ -15,15 +15,18 @@ use Rattle.regs.specs.declared.Dir.the-variants.{Out, In}
 use Rattle.state.specs.declared.EpState.{EpState}
 use Rattle.state.specs.declared.Globals.{Globals}
 use Rattle.state.specs.declared.Allocator.{Allocator}
-use Rattle.state.specs.Driver.{Driver, key, epOn, withOn, lenOn, stampOn, pacedOn, withPacedOn, requestOn, withRequestOn, withGlobals, withControl, withWakes}
+use Rattle.state.specs.Driver.{Driver, key, epOn, withOn, lenOn, stampOn, pacedOn, withPacedOn, requestOn}
+use Rattle.state.specs.Driver.{withRequestOn, withGlobals, withControl, withWakes}
 use Rattle.state.specs.Wakes.{Wakes}
-use Rattle.state.specs.Laws.{Sized, epOn-same, epOn-other, pacedOn-same, pacedOn-other, requestOn-same, requestOn-other, key-same, key-apart}
+use Rattle.state.specs.Laws.{Sized, epOn-same, epOn-other, pacedOn-same, pacedOn-other, requestOn-same, requestOn-other}
+use Rattle.state.specs.Laws.{key-same, key-apart}
 use Rattle.alloc.specs.Alloc.{allocatedIn}
 use Rattle.ring.specs.Slot.{slotAddr}
 use Rattle.ring.specs.Waiting.{waiting, Alike}
 use Rattle.ring.specs.Laws.{place-placed, place-addr, alike-count, alike-waits, alike-ring}
 use Rattle.script.specs.Simulates.{quiet, Bare}
-use Rattle.script.specs.Cells.{EpCore, Cell, Val, globals-cell, control-cell, allocator-cell, ep-cell, request-cell, paced-cell}
+use Rattle.script.specs.Cells.{EpCore, Cell, Val, globals-cell, control-cell, allocator-cell, ep-cell, request-cell}
+use Rattle.script.specs.Cells.{paced-cell}
 use Rattle.script.specs.Statics.{isoOuts}
 use Rattle.script.specs.Machine.{Buf}
 use Rattle.script_ops.specs.Records.{plainOf, merged, mergedGlobals}
@@ -79,7 +82,12 @@ pub record Kin (r r′ : EpState) : Type 0 where
 
 pub merged-kin : (r : EpState) (v : EpCore) → Kin r (merged r v)
 merged-kin r v =
-    let a : Alike r (merged r v) = record { place = record { base = refl; stride = refl; slots = refl }; head = refl; tail = refl } in
+    let a : Alike r (merged r v) = record {
+      place = record { base = refl; stride = refl; slots = refl };
+      head
+          = refl;
+      tail = refl;
+    } in
     record { alike = a; iso = refl; least = refl; opened = refl; overruns = refl; slot = refl; loaded = refl }
 
 pub kin-refl : (r : EpState) → Kin r r
@@ -145,7 +153,7 @@ module _ {r r′ : EpState} (k : Kin r r′) where
 -- ---- the relation where no ring moves
 
 -- driver and book with the same rings, sets and buffers; the kept values agree
-pub record Still (d d′ : Driver) : Type 0 where
+pub record SameRings (d d′ : Driver) : Type 0 where
   pub sized : Sized d′
   pub allocator : d′ .allocator ≡ d .allocator
   pub config : d′ .globals .«ep_config» ≡ d .globals .«ep_config»
@@ -157,11 +165,12 @@ pub record Still (d d′ : Driver) : Type 0 where
   pub lens : (dir : Dir) (e : ℕ) → lensOf d′ dir e ≡ lensOf d dir e
   pub stamps : (e : ℕ) → slotStamps d′ e ≡ slotStamps d e
 
-isoOuts-by : (g g′ : Globals) → g′ .«ep_config» ≡ g .«ep_config» → g′ .«iso_out_eps» ≡ g .«iso_out_eps» → isoOuts g′ ≡ isoOuts g
+isoOuts-by : (g g′ : Globals) → g′ .«ep_config» ≡ g .«ep_config» → g′ .«iso_out_eps» ≡ g .«iso_out_eps» → isoOuts g′
+    ≡ isoOuts g
 unfolding isoOuts
 isoOuts-by g g′ c i = rw (c, i) refl
 
-module _ {b : Buf} {d d′ : Driver} {t t′ : Pages} (r : Coupling quiet b d t) (s : Still d d′) where
+module _ {b : Buf} {d d′ : Driver} {t t′ : Pages} (r : Coupling quiet b d t) (s : SameRings d d′) where
   pub still : SameKept d′ (t′ .kept) → t′ .outs ≡ t .outs → t′ .ins ≡ t .ins → Coupling quiet b d′ t′
   unfolding epOn
   still k o i = record {
@@ -171,10 +180,12 @@ module _ {b : Buf} {d d′ : Driver} {t t′ : Pages} (r : Coupling quiet b d t)
     good = rw (s .allocator) (r .good);
     long = rw (s .allocator) (r .long);
     same = k;
-    shape = λ dir e. rw (s .allocator) (kin-shape (s .kin dir e) (isSet (allocatedIn (d .allocator) dir) (e % 16)) (d .allocator) dir (r .shape dir e));
+    shape = λ dir e. rw (s .allocator) (kin-shape (s .kin dir e) (isSet (allocatedIn (d .allocator) dir) (e % 16))
+        (d .allocator) dir (r .shape dir e));
     outs = λ e. rw (s .lens Out e, s .stamps e, o) (kin-out (s .kin Out e) (r .outs e));
     ins = λ e. rw (s .lens In e, i) (kin-in (s .kin In e) (r .ins e));
-    arming = λ e. rw (isoOuts-by (d .globals) (d′ .globals) (s .config) (s .isos), o) (kin-rest (s .kin Out e) (r .arming e));
+    arming = λ e. rw (isoOuts-by (d .globals) (d′ .globals) (s .config) (s .isos), o)
+        (kin-rest (s .kin Out e) (r .arming e));
     apart = λ dir dir′ e e′ h. rw (
       s .kin dir e .alike .place .base,
       s .kin dir e .alike .place .slots,
@@ -199,7 +210,8 @@ module _ {b : Buf} {d d′ : Driver} {t t′ : Pages} (r : Coupling quiet b d t)
 
 -- ---- get
 
-pub gets : (c : Cell) (b : Buf) (d : Driver) (t : Pages) → Coupling quiet b d t → concrete .get c (d, b) ≡ bookOps .get c (t, b)
+pub gets : (c : Cell) (b : Buf) (d : Driver) (t : Pages) → Coupling quiet b d t → concrete .get c (d, b)
+    ≡ bookOps .get c (t, b)
 gets globals-cell b d t r = r .same .globals
 gets control-cell b d t r = r .same .control
 gets allocator-cell b d t r = r .same .allocator
@@ -211,7 +223,7 @@ gets (paced-cell e) b d t r = r .same .paced e
 
 -- a change of other records than the endpoints' and of globals that scripts assign
 others-still : (d d′ : Driver) → d′ .eps ≡ d .eps → d′ .lens ≡ d .lens → d′ .stamps ≡ d .stamps
-    → d′ .allocator ≡ d .allocator → d′ .globals ≡ mergedGlobals (d .globals) (d′ .globals) → Sized d′ → Still d d′
+    → d′ .allocator ≡ d .allocator → d′ .globals ≡ mergedGlobals (d .globals) (d′ .globals) → Sized d′ → SameRings d d′
 unfolding epOn lenOn stampOn
 others-still d d′ p q w a g z = record {
   sized = z;
@@ -226,19 +238,19 @@ others-still d d′ p q w a g z = record {
   stamps = λ e. rw w refl;
 }
 
-globals-still : (d : Driver) (v : Globals) → Sized d → Still d (withGlobals d (mergedGlobals (d .globals) v))
+globals-still : (d : Driver) (v : Globals) → Sized d → SameRings d (withGlobals d (mergedGlobals (d .globals) v))
 globals-still d v z = others-still d _ refl refl refl refl refl
     (record { eps = z .eps; lens = z .lens; stamps = z .stamps; paced = z .paced; requests = z .requests })
 
-wakes-still : (d : Driver) (v : _) → Sized d → Still d (withWakes d v)
+wakes-still : (d : Driver) (v : _) → Sized d → SameRings d (withWakes d v)
 wakes-still d v z = others-still d _ refl refl refl refl refl
     (record { eps = z .eps; lens = z .lens; stamps = z .stamps; paced = z .paced; requests = z .requests })
 
-control-still : (d : Driver) (v : _) → Sized d → Still d (withControl d v)
+control-still : (d : Driver) (v : _) → Sized d → SameRings d (withControl d v)
 control-still d v z = others-still d _ refl refl refl refl refl
     (record { eps = z .eps; lens = z .lens; stamps = z .stamps; paced = z .paced; requests = z .requests })
 
-paced-still : (d : Driver) (e v : ℕ) → Sized d → Still d (withPacedOn d e v)
+paced-still : (d : Driver) (e v : ℕ) → Sized d → SameRings d (withPacedOn d e v)
 unfolding withPacedOn
 paced-still d e v z = others-still d _ refl refl refl refl refl (record {
   eps = z .eps;
@@ -248,7 +260,7 @@ paced-still d e v z = others-still d _ refl refl refl refl refl (record {
   requests = z .requests;
 })
 
-request-still : (d : Driver) (dir : Dir) (e : ℕ) (v : _) → Sized d → Still d (withRequestOn d dir e v)
+request-still : (d : Driver) (dir : Dir) (e : ℕ) (v : _) → Sized d → SameRings d (withRequestOn d dir e v)
 unfolding withRequestOn
 request-still d dir e v z = others-still d _ refl refl refl refl refl (record {
   eps = z .eps;
@@ -278,10 +290,18 @@ record-kin d dir e r z k dir′ x = elim (ℕ-discrete (key dir′ x) (key dir e
   | no h ↦ kin-by (kin-refl (epOn d dir′ x)) (epOn-other d dir e r dir′ x h)
 ]
 
-pub record-still : (d : Driver) (dir : Dir) (e : ℕ) (r : EpState) → Sized d → Kin (epOn d dir e) r → Still d (withOn d dir e r)
+pub record-still : (d : Driver) (dir : Dir) (e : ℕ) (r : EpState) → Sized d → Kin (epOn d dir e) r
+    → SameRings d (withOn d dir e r)
 unfolding lenOn stampOn withOn
 record-still d dir e r z k = record {
-  sized = record { eps = length-set (d .eps) (key dir e) r ∙ z .eps; lens = z .lens; stamps = z .stamps; paced = z .paced; requests = z .requests };
+  sized = record {
+    eps = length-set (d .eps) (key dir e) r ∙ z .eps;
+    lens = z .lens;
+    stamps = z .stamps;
+    paced
+        = z .paced;
+    requests = z .requests;
+  };
   allocator = refl;
   config = refl;
   isos = refl;
@@ -311,9 +331,12 @@ module _ {A : Type 0} (old new m : Dir → ℕ → A) (dir : Dir) (e : ℕ) (v :
       by In In y n (no q) = n In x (other-key In x e q) ∙ (h In x ∙ sym (at-other e x v (m In) q))
 
 -- of a record replaced
-pub plain-put : (d : Driver) (k : Kept) (dir : Dir) (e : ℕ) (r : EpState) → Sized d → ((dir : Dir) (e : ℕ) → plainOf (epOn d dir e) ≡ k .plain dir e)
-    → (v : EpCore) → plainOf r ≡ v → (dir′ : Dir) (x : ℕ) → plainOf (epOn (withOn d dir e r) dir′ x) ≡ on dir e v (k .plain) dir′ x
-plain-put d k dir e r z h v q = on-put (λ dir e. plainOf (epOn d dir e)) (λ dir′ x. plainOf (epOn (withOn d dir e r) dir′ x)) (k .plain) dir e v h
+pub plain-put : (d : Driver) (k : Kept) (dir : Dir) (e : ℕ) (r : EpState) → Sized d
+    → ((dir : Dir) (e : ℕ) → plainOf (epOn d dir e) ≡ k .plain dir e)
+    → (v : EpCore) → plainOf r ≡ v → (dir′ : Dir) (x : ℕ) → plainOf (epOn (withOn d dir e r) dir′ x)
+    ≡ on dir e v (k .plain) dir′ x
+plain-put d k dir e r z h v q = on-put (λ dir e. plainOf (epOn d dir e))
+    (λ dir′ x. plainOf (epOn (withOn d dir e r) dir′ x)) (k .plain) dir e v h
     (λ x p. ap plainOf (epOn-by (withOn d dir e r) dir x e p ∙ epOn-same d dir e r z) ∙ q)
     (λ dir′ x p. ap plainOf (epOn-other d dir e r dir′ x p))
 
@@ -325,7 +348,8 @@ pacedOn-by : (d : Driver) (x e : ℕ) → x % 16 ≡ e % 16 → pacedOn d x ≡ 
 unfolding pacedOn
 pacedOn-by d x e h = rw h refl
 
-paced-put : (d : Driver) (k : Kept) (e v : ℕ) → Sized d → ((e : ℕ) → pacedOn d e ≡ k .paced e) → (x : ℕ) → pacedOn (withPacedOn d e v) x ≡ at e v (k .paced) x
+paced-put : (d : Driver) (k : Kept) (e v : ℕ) → Sized d → ((e : ℕ) → pacedOn d e ≡ k .paced e) → (x : ℕ)
+    → pacedOn (withPacedOn d e v) x ≡ at e v (k .paced) x
 paced-put d k e v z h x = elim (ℕ-discrete (x % 16) (e % 16)) [
   | yes q ↦ pacedOn-by (withPacedOn d e v) x e q ∙ (pacedOn-same d e v z ∙ sym (at-same e x v (k .paced) q))
   | no q ↦ pacedOn-other d e v x q ∙ (h x ∙ sym (at-other e x v (k .paced) q))
@@ -338,7 +362,8 @@ unfolding epOn withOn requestOn withRequestOn pacedOn withPacedOn
 puts globals-cell v b d t r = (
   refl,
   still r (globals-still d v (r .sized)) (same-values (r .same) (λ e. refl, λ dir e. refl, λ dir e. refl)
-      (ap (λ (g : Globals). mergedGlobals g v) (r .same .globals)) (r .same .wakes) (r .same .control) (r .same .allocator)) refl refl,
+      (ap (λ (g : Globals). mergedGlobals g v) (r .same .globals)) (r .same .wakes) (r .same .control)
+      (r .same .allocator)) refl refl,
 )
 puts control-cell v b d t r = (
   refl,
@@ -358,13 +383,15 @@ puts (request-cell dir e) v b d t r = (
   still r (request-still d dir e v (r .sized))
       (same-tables (r .same) refl (r .same .paced)
       (on-put (requestOn d) (requestOn (withRequestOn d dir e v)) (t .kept .requests) dir e v (r .same .requests)
-      (λ x p. requestOn-by (withRequestOn d dir e v) dir x e p ∙ requestOn-same d dir e v (r .sized)) (λ dir′ x p. requestOn-other d dir e v dir′ x p))
+      (λ x p. requestOn-by (withRequestOn d dir e v) dir x e p ∙ requestOn-same d dir e v (r .sized))
+      (λ dir′ x p. requestOn-other d dir e v dir′ x p))
       (r .same .plain)) refl refl,
 )
 puts (paced-cell e) v b d t r = (
   refl,
   still r (paced-still d e v (r .sized))
-      (same-tables (r .same) refl (paced-put d (t .kept) e v (r .sized) (r .same .paced)) (r .same .requests) (r .same .plain)) refl refl,
+      (same-tables (r .same) refl (paced-put d (t .kept) e v (r .sized) (r .same .paced)) (r .same .requests)
+      (r .same .plain)) refl refl,
 )
 
 -- ---- wake-ups
@@ -373,7 +400,8 @@ pub wakes-kept : {b : Buf} {d : Driver} {t : Pages} → Coupling quiet b d t
     → (v w : Wakes) → v ≡ w → Coupling quiet b (withWakes d v) (withKept t (keptWakes (t .kept) w))
 unfolding pacedOn requestOn epOn
 wakes-kept {d = d} r v w e = still r (wakes-still d v (r .sized))
-    (same-values (r .same) (λ e. refl, λ dir e. refl, λ dir e. refl) (r .same .globals) e (r .same .control) (r .same .allocator)) refl refl
+    (same-values (r .same) (λ e. refl, λ dir e. refl, λ dir e. refl) (r .same .globals) e (r .same .control)
+    (r .same .allocator)) refl refl
 
 -- ---- accesses without an address
 

@@ -25,7 +25,8 @@ use Rattle.script.specs.Simulates.{Phase, quiet, mid}
 use Rattle.script.specs.Statics.{isOn, isoOuts}
 use Rattle.script.specs.Machine.{Buf}
 use Rattle.proof_book.specs.Pages.{OutPage, Pages}
-use Rattle.proof_book.specs.Coupling.{endOf, Used, Shape, Apart, ep0Room, lensOf, Armed, AtRest, InRow, Arming, Coupling, Elsewhere, Chip}
+use Rattle.proof_book.specs.Coupling.{endOf, Used, Shape, Apart, ep0Room, lensOf, Armed, AtRest, InRow, Arming}
+use Rattle.proof_book.specs.Coupling.{Coupling, Elsewhere, Chip}
 use Rattle.proof_book.specs.LensLaws.{ep-mod}
 use Rattle.proof_book.specs.FrameBytesLaws.{TailsStay, bytes-changed}
 
@@ -39,14 +40,16 @@ row-armed : (here u : Bool) (n : ℕ) (r : EpState) (p : OutPage) → InRow here
 row-armed true u n r p a = inr (a .none)
 row-armed false u n r p a = rest-armed u a
 
-pub armed-or : (φ : Phase) (e : ℕ) (u : Bool) (r : EpState) (p : OutPage) → Arming φ e u r p → Armed r p ⊎ (countOf r ≡ 0)
+pub armed-or : (φ : Phase) (e : ℕ) (u : Bool) (r : EpState) (p : OutPage) → Arming φ e u r p → Armed r p
+    ⊎ (countOf r ≡ 0)
 armed-or quiet e u r p a = rest-armed u a
 armed-or (mid (switch f onn) n) e u r p a = row-armed (eqb (e % 16) (f % 16) && isOn (r .iso)) u n r p a
 armed-or (mid bus-reset zero) e u r p a = rest-armed u a
 armed-or (mid bus-reset (suc n)) e u r p a = a .1
 
 module _ {φ : Phase} {b : Buf} {d : Driver} {t : Pages} (R : Coupling φ b d t) where
-  used-size : (e : ℕ) → isSet (allocatedIn (t .kept .allocator) Out) (e % 16) ≡ true → epOn d Out e .stride ≡ t .kept .allocator .size
+  used-size : (e : ℕ) → isSet (allocatedIn (t .kept .allocator) Out) (e % 16) ≡ true → epOn d Out e .stride
+      ≡ t .kept .allocator .size
   used-size e h =
       let u : Used (d .allocator) Out (epOn d Out e) = subst (λ z. Shape z (d .allocator) Out (epOn d Out e))
       (ap (λ (a : Allocator). isSet (allocatedIn a Out) (e % 16)) (R .same .allocator) ∙ h) (R .shape Out e) in
@@ -54,7 +57,8 @@ module _ {φ : Phase} {b : Buf} {d : Driver} {t : Pages} (R : Coupling φ b d t)
 
   -- a byte in a region apart from endpoint e's
   apart-slot : (e k lo hi : ℕ) → isSet (allocatedIn (t .kept .allocator) Out) (e % 16) ≡ true → lo ≤ k → k < hi
-      → Apart lo hi (epOn d Out e .base) (endOf (epOn d Out e)) → (k < t .outs e .slot) ⊎ (t .outs e .slot + t .kept .allocator .size ≤ k)
+      → Apart lo hi (epOn d Out e .base) (endOf (epOn d Out e)) → (k < t .outs e .slot)
+      ⊎ (t .outs e .slot + t .kept .allocator .size ≤ k)
   apart-slot e k lo hi h p q (inl a) = inl (omega (arith, R .outs e .from))
   apart-slot e k lo hi h p q (inr a) = inr (omega (arith, R .outs e .upto, used-size e h))
 
@@ -64,10 +68,13 @@ module _ {φ : Phase} {b : Buf} {d : Driver} {t : Pages} (R : Coupling φ b d t)
       rw (s, R .same .allocator) refl
 
   -- and from EP0's buffer
-  apart-ep0 : (k lo hi : ℕ) → lo ≤ k → k < hi → Apart (d .globals .«ep0_buf») (d .globals .«ep0_buf» + ep0Room (d .globals) (d .allocator)) lo hi
-      → t .kept .globals .stage ≡ 2 → (k < t .kept .globals .«ep0_buf») ⊎ (t .kept .globals .«ep0_buf» + t .kept .allocator .size ≤ k)
+  apart-ep0 : (k lo hi : ℕ) → lo ≤ k → k < hi → Apart (d .globals .«ep0_buf») (d .globals .«ep0_buf»
+      + ep0Room (d .globals) (d .allocator)) lo hi
+      → t .kept .globals .stage ≡ 2 → (k < t .kept .globals .«ep0_buf»)
+      ⊎ (t .kept .globals .«ep0_buf» + t .kept .allocator .size ≤ k)
   apart-ep0 k lo hi p q a h =
-      let g : d .globals .«ep0_buf» ≡ t .kept .globals .«ep0_buf» = ap (λ (g : Globals). g .«ep0_buf») (R .same .globals) in
+      let g : d .globals .«ep0_buf» ≡ t .kept .globals .«ep0_buf»
+      = ap (λ (g : Globals). g .«ep0_buf») (R .same .globals) in
       ⊎-elim (λ z. inr (omega (arith, g, ep0-room h))) (λ z. inl (omega (arith, g))) a
 
   -- a byte of an IN endpoint's buffers
@@ -79,15 +86,19 @@ module _ {φ : Phase} {b : Buf} {d : Driver} {t : Pages} (R : Coupling φ b d t)
 
   -- a byte of a waiting packet's slot of OUT x
   out-own : (x j k : ℕ) → j < countOf (epOn d Out x)
-      → slotAddr (epOn d Out x) (after (epOn d Out x .tail) j) ≤ k → k < slotAddr (epOn d Out x) (after (epOn d Out x .tail) j) + epOn d Out x .stride
+      → slotAddr (epOn d Out x) (after (epOn d Out x .tail) j) ≤ k → k
+      < slotAddr (epOn d Out x) (after (epOn d Out x .tail) j) + epOn d Out x .stride
       → (k < t .outs x .slot) ⊎ (t .outs x .slot + epOn d Out x .stride ≤ k)
-  out-own x j k l p q = by (armed-or φ x (isSet (isoOuts (d .globals)) (x % 16)) (epOn d Out x) (t .outs x) (R .arming x))
+  out-own x j k l p q = by (armed-or φ x (isSet (isoOuts (d .globals)) (x % 16)) (epOn d Out x) (t .outs x)
+      (R .arming x))
     where
-      by : Armed (epOn d Out x) (t .outs x) ⊎ (countOf (epOn d Out x) ≡ 0) → (k < t .outs x .slot) ⊎ (t .outs x .slot + epOn d Out x .stride ≤ k)
+      by : Armed (epOn d Out x) (t .outs x) ⊎ (countOf (epOn d Out x) ≡ 0) → (k < t .outs x .slot)
+          ⊎ (t .outs x .slot + epOn d Out x .stride ≤ k)
       by (inl a) =
           let f = R .outs x .held in
           ⊎-elim (λ z. inl (omega (arith, a))) (λ z. inr (omega (arith, a)))
-          (slots-apart (f .placed) (after (epOn d Out x .tail) j) (epOn d Out x .head) (armed-away (f .placed) (f .ring) j l))
+          (slots-apart (f .placed) (after (epOn d Out x .tail) j) (epOn d Out x .head)
+          (armed-away (f .placed) (f .ring) j l))
       by (inr z) = absurd (omega (arith, z))
 
   out-elsewhere : (x j k : ℕ) → j < countOf (epOn d Out x)
@@ -108,7 +119,8 @@ module _ {φ : Phase} {b : Buf} {d : Driver} {t : Pages} (R : Coupling φ b d t)
       same : (e : ℕ) → isSet (allocatedIn (t .kept .allocator) Out) (e % 16) ≡ true → epOn d Out x ≡ epOn d Out e
           → (k < t .outs e .slot) ⊎ (t .outs e .slot + t .kept .allocator .size ≤ k)
       same e h z =
-          let s : t .outs x .slot ≡ t .outs e .slot = sym (R .outs x .slot) ∙ ap (λ (r : EpState). r .«armed_slot») z ∙ R .outs e .slot in
+          let s : t .outs x .slot ≡ t .outs e .slot = sym (R .outs x .slot) ∙ ap (λ (r : EpState). r .«armed_slot») z
+          ∙ R .outs e .slot in
           let w : epOn d Out x .stride ≡ t .kept .allocator .size = ap (λ (r : EpState). r .stride) z ∙ used-size e h in
           ⊎-elim (λ y. inl (omega (arith, s))) (λ y. inr (omega (arith, s, w))) (out-own x j k l p q)
 
@@ -117,7 +129,8 @@ pub chip : (b b′ : Buf) (φ : Phase) (d : Driver) (t : Pages) → Coupling φ 
 chip b b′ φ d t R c = bytes-changed R (c .long) kept tails
   where
     kept : (dir : Dir) (x : ℕ) → waiting b′ (epOn d dir x) (lensOf d dir x) ≡ waiting b (epOn d dir x) (lensOf d dir x)
-    kept Out x = let f = R .outs x .held in waiting-kept (f .placed) (f .ring) b b′ (λ j l k p q. c .others k (out-elsewhere R x j k l p q))
+    kept Out x = let f = R .outs x .held in waiting-kept (f .placed) (f .ring) b b′
+        (λ j l k p q. c .others k (out-elsewhere R x j k l p q))
     kept In x = let f = R .ins x .held in waiting-kept (f .placed) (f .ring) b b′ (λ j l k p q.
         c .others k (in-elsewhere R x k
         (omega (arith, slot-from (f .placed) (after (epOn d In x .tail) j)))

@@ -100,7 +100,8 @@ pub record OutFits (b : Buf) (r : EpState) (ls ss : List ℕ) (p : OutPage) : Ty
   pub ledger : p .read ++ p .waiting ≡ p .admitted
   pub short : Short (r .«max_len») (p .waiting)
 
--- "no slot being sent is written": the slot of the one being sent is the tail's, and all its bytes stand as they stood when its address was handed out
+-- "no slot being sent is written": the slot of the one being sent is the tail's, and all its bytes stand as they stood
+-- when its address was handed out
 pub record Stands (b : Buf) (r : EpState) (p : InPage) : Type 0 where
   pub slot : p .sending ≡ true → p .source ≡ slotAddr r (r .tail)
   pub bytes : p .sending ≡ true → Same (p .source) (p .source + r .stride) (p .shown) b
@@ -111,7 +112,8 @@ pub record InFits (b : Buf) (r : EpState) (ls : List ℕ) (p : InPage) : Type 0 
   pub loaded : r .loaded ≡ flag (p .sending)
   pub sends : Sends r
   pub turn : r .head % 2 ≡ p .turn
-  -- of those queued in the stretch, in order, the tail passed the first and the others wait; each reached the chip at most once, and in order
+  -- of those queued in the stretch, in order, the tail passed the first and the others wait; each reached the chip at
+  -- most once, and in order
   pub ledger : p .passed ++ p .waiting ≡ p .queued
   pub reached : p .sent ≡ p .passed ++ cond (p .sending) (front (p .waiting)) []
   pub stands : Stands b r p
@@ -157,7 +159,8 @@ pub record Coupling (φ : Phase) (b : Buf) (d : Driver) (t : Pages) : Type 0 whe
   pub good : goodSize (d .allocator .size) ≡ true
   pub long : length b ≡ d .allocator .count * d .allocator .size
   pub same : SameKept d (t .kept)
-  pub shape : (dir : Dir) (e : ℕ) → Shape (isSet (allocatedIn (d .allocator) dir) (e % 16)) (d .allocator) dir (epOn d dir e)
+  pub shape : (dir : Dir) (e : ℕ) → Shape (isSet (allocatedIn (d .allocator) dir) (e % 16)) (d .allocator) dir
+      (epOn d dir e)
   pub outs : (e : ℕ) → OutFits b (epOn d Out e) (lensOf d Out e) (slotStamps d e) (t .outs e)
   pub ins : (e : ℕ) → InFits b (epOn d In e) (lensOf d In e) (t .ins e)
   pub arming : (e : ℕ) → Arming φ e (isSet (isoOuts (d .globals)) (e % 16)) (epOn d Out e) (t .outs e)

@@ -1,5 +1,5 @@
--- Before EP0's start no packet waits: the scripts of allocations, EP0's start and start-up taken apart, and their runs from blank pages; row 4 stops all
--- others. After it no script takes the stage back
+-- Before EP0's start no packet waits: the scripts of allocations, EP0's start and start-up taken apart, and their runs
+-- from blank pages; row 4 stops all others. After it no script takes the stage back
 use mathlib.Core.Bool.{Bool, true, false, cond, _&&_, true≢false}
 use mathlib.Core.List.{List, [], _∷_}
 use mathlib.Core.Logic.{_≢_}
@@ -23,7 +23,8 @@ use Rattle.script.specs.Cells.{Cell, Val, globals-cell, control-cell, allocator
 use Rattle.script.specs.Script.{Script, run, rows, ret, bind, test, read-then, write-then, wait-then, callback-then}
 use Rattle.script.specs.Script.{get-then, put-then, is-then, look-then, fetch-then, act-then, hand-then, row-then}
 use Rattle.script.specs.Script.{Act, complete, reset-ring, set-enabled, fill, fill0, open-oldest, close-oldest}
-use Rattle.script.specs.Script.{take-oldest, enqueue, allocate, allocate0, no-wakes, waken, DmaStep, arrive, send, place}
+use Rattle.script.specs.Script.{take-oldest, enqueue, allocate, allocate0, no-wakes, waken, DmaStep, arrive, send}
+use Rattle.script.specs.Script.{place}
 use Rattle.script.specs.Script.{place0, Burst, switch, bus-reset, lastOf}
 use Rattle.script.specs.Driver.{allocated-as, started-as}
 use Rattle.script.specs.AllocateAll.{allocateEach, announce, announceAll, allocate-read}
@@ -45,7 +46,7 @@ use Rattle.proof_book.specs.GivenPartsLaws.{sets-stage}
 use Rattle.proof_book.specs.FrontPage.{SamePackets}
 use Rattle.proof_book.specs.BookTracksLaws.{Tracks, end, ask, earlier, tracks-bind}
 use Rattle.proof_book.specs.AnswersLaws.{fed-elim}
-use Rattle.proof_book.specs.RefusingLaws.{Same, leavesPages, Silent, c-ret, c-get, silently, silent-ends}
+use Rattle.proof_book.specs.RefusingLaws.{Same, leavesPages, HandsOutNothing, c-ret, c-get, silently, silent-ends}
 use Rattle.proof_book.specs.AnnouncingLaws.{announced}
 
 -- ---- what holds of the pages all along
@@ -79,7 +80,8 @@ pub record Blank (t : Pages) : Type 0 where
   pub outs : (e : ℕ) → BlankOut (t .outs e)
   pub ins : (e : ℕ) → t .ins e ≡ emptyIn
 
-pub blank-packets : {t t′ : Pages} → Blank t → Blank t′ → (e : ℕ) → SamePackets (t .outs e) (t′ .outs e) × (t′ .ins e ≡ t .ins e)
+pub blank-packets : {t t′ : Pages} → Blank t → Blank t′ → (e : ℕ) → SamePackets (t .outs e) (t′ .outs e)
+    × (t′ .ins e ≡ t .ins e)
 blank-packets {t} {t′} h k e =
     (k .outs e ∙ ap (λ (p : OutPage). slotTold p (t′ .outs e .slot)) (sym (h .outs e)), k .ins e ∙ sym (h .ins e))
 
@@ -94,18 +96,25 @@ blank-out t e x i = record {
 }
 
 blank-in : (t : Pages) (e : ℕ) (p : InPage) → p ≡ emptyIn → Blank t → Blank (withIn t e p)
-blank-in t e p h i = record { outs = i .outs; ins = λ y. at-elim (λ (q : InPage). q ≡ emptyIn) e y p (t .ins) (λ _. h) (λ _. i .ins y) }
+blank-in t e p h i = record {
+  outs = i .outs;
+  ins = λ y. at-elim (λ (q : InPage). q ≡ emptyIn) e y p (t .ins) (λ _. h)
+      (λ _. i .ins y);
+}
 
-blank-given : (d : Dir) (kind maximum interval : ℕ) (z : alloc-answer.Answer) (t : Pages) → Blank t → Blank (givenB d kind maximum interval z t)
+blank-given : (d : Dir) (kind maximum interval : ℕ) (z : alloc-answer.Answer) (t : Pages) → Blank t
+    → Blank (givenB d kind maximum interval z t)
 blank-given d kind maximum interval (alloc.Refused n) t i = i
 blank-given Out kind maximum interval (alloc.Given e base slots) t i =
     let k = blank-out t e base i in record { outs = k .outs; ins = k .ins }
 blank-given In kind maximum interval (alloc.Given e base slots) t i =
     let k = blank-in t e emptyIn refl i in record { outs = k .outs; ins = k .ins }
 
-blank-allocate : (d : Dir) (kind address maximum interval : ℕ) (s : Bk) → Blank (s .0) → Blank (actB (allocate d kind address maximum interval) s .0)
+blank-allocate : (d : Dir) (kind address maximum interval : ℕ) (s : Bk) → Blank (s .0)
+    → Blank (actB (allocate d kind address maximum interval) s .0)
 blank-allocate d kind address maximum interval s i =
-    blank-given d kind maximum interval (allocateOf (s .0 .kept .allocator) kind address maximum d .answer) _ (record { outs = i .outs; ins = i .ins })
+    blank-given d kind maximum interval (allocateOf (s .0 .kept .allocator) kind address maximum d .answer) _
+    (record { outs = i .outs; ins = i .ins })
 
 blank-place : (d : Dir) (e : ℕ) (s : Bk) → Blank (s .0) → Blank (handB (place d e) s .1 .0)
 blank-place Out e s i = i
@@ -115,7 +124,8 @@ blank-place In e s i = blank-in (s .0) e (placedIn (s .0 .ins e)) (ap placedIn (
 pub blank-fed : (a : Ans Answer) (t : Pages) → Blank t → Blank (fed book a t)
 blank-fed a t i = fed-elim Blank a t i
     (λ e x _. record {
-      outs = λ y. at-elim BlankOut e y (slotTold (t .outs e) x) (t .outs) (λ _. ap (λ (p : OutPage). slotTold p x) (i .outs e)) (λ _. i .outs y);
+      outs = λ y. at-elim BlankOut e y (slotTold (t .outs e) x) (t .outs)
+          (λ _. ap (λ (p : OutPage). slotTold p x) (i .outs e)) (λ _. i .outs y);
       ins = i .ins;
     })
     (λ e x _. blank-in t e (sourceTold (t .ins e) x) (ap (λ (p : InPage). sourceTold p x) (i .ins e)) i)
@@ -124,8 +134,9 @@ blank-fed a t i = fed-elim Blank a t i
 
 pub data Lays : (A : Type 0) → Script false A → Type 1 where
   -- it hands out nothing, and leaves the pages
-  l-calm : {A : Type 0} {p : Script false A} → Silent leavesPages A p → Lays A p
-  l-bind : {A B : Type 0} {p : Script false B} {f : B → Script false A} → Lays B p → ((b : B) → Lays A (f b)) → Lays A (bind p f)
+  l-calm : {A : Type 0} {p : Script false A} → HandsOutNothing leavesPages A p → Lays A p
+  l-bind : {A B : Type 0} {p : Script false B} {f : B → Script false A} → Lays B p → ((b : B) → Lays A (f b))
+      → Lays A (bind p f)
   l-test : {A : Type 0} {b : Bool} {p q : Script false A} → Lays A p → Lays A q → Lays A (test b p q)
   l-read : {A : Type 0} {r : Reg} {e : ℕ} {k : ℕ → Script false A} → ((v : ℕ) → Lays A (k v)) → Lays A (read-then r e k)
   l-write : {A : Type 0} {r : Reg} {e v : ℕ} {p : Script false A} → Lays A p → Lays A (write-then r e v p)
@@ -139,7 +150,8 @@ ruleset laying = (l-bind, l-test, l-read, l-write, l-wait, l-allocate, l-place, 
 
 pub blank-run : {A : Type 0} {p : Script false A} → Lays A p → (s : Bk) → Blank (s .0) → Along Blank s (run bookOps p s)
 blank-run (l-calm h) s i =
-    let z = silent-ends h s in subst (λ (o : tree.Out Bk _). Along Blank s o) (sym (z .2)) (end (blank-same (z .3 (λ q l. l)) i) tt)
+    let z = silent-ends h s in subst (λ (o : tree.Out Bk _). Along Blank s o) (sym (z .2))
+    (end (blank-same (z .3 (λ q l. l)) i) tt)
 blank-run (l-bind h g) s i = along-bind (blank-run h s i) (λ a t j. blank-run (g a) t j)
 blank-run (l-test {b = true} h g) s i = blank-run h s i
 blank-run (l-test {b = false} h g) s i = blank-run g s i
@@ -147,7 +159,8 @@ blank-run (l-read h) s i = ask i tt (λ v t j. blank-run (h v) t j)
 blank-run (l-write h) s i = ask i tt (λ v t j. blank-run h t j)
 blank-run (l-wait h) s i = ask i tt (λ v t j. blank-run h t j)
 blank-run (l-allocate {d = d} {kind = kind} {address = address} {maximum = maximum} {interval = interval} h) s i =
-    after (blank-run h (actB (allocate d kind address maximum interval) s) (blank-allocate d kind address maximum interval s i))
+    after (blank-run h (actB (allocate d kind address maximum interval) s)
+    (blank-allocate d kind address maximum interval s i))
 blank-run (l-place {d = d} {e = e} h) s i = ask (blank-place d e s i) tt (λ v t j. blank-run h t j)
 blank-run (l-place0 h) s i = ask i tt (λ v t j. blank-run h t j)
 
@@ -160,7 +173,13 @@ of-announce : (dir : Dir) (e : ℕ) → Lays ℕ (announce dir e)
 of-announce dir e = search laying depth 20
 
 of-announce-all : (es : List Endpoint) → Lays ℕ (announceAll es)
-of-announce-all = announced Lays (record { end = l-calm c-ret; then = l-bind; either = l-test; got = λ c. l-calm (c-get (λ _. c-ret)) }) of-announce
+of-announce-all = announced Lays (record {
+  end = l-calm c-ret;
+  then = l-bind;
+  either = l-test;
+  got
+      = λ c. l-calm (c-get (λ _. c-ret));
+}) of-announce
 
 of-allocate-read : (bytes : List ℕ) (a : reading-answer.Answer) → Lays Answer (allocate-read bytes a)
 of-allocate-read bytes (reading.Refused n) = search laying
@@ -200,7 +219,8 @@ begins-slotted (PollDataOut n) = later _ (λ s h. row-4 (eqb (stage (s .0)) 2) _
 begins-slotted (BeginDataIn bytes first last) = later _ (λ s h. row-4 (eqb (stage (s .0)) 2) _ _ h)
 
 begins-other : (o : Other) → Begins (other o)
-begins-other (Allocate d kind address maximum interval) = lays (Allocate d kind address maximum interval) (search (of-allocated, laying) depth 20)
+begins-other (Allocate d kind address maximum interval)
+    = lays (Allocate d kind address maximum interval) (search (of-allocated, laying) depth 20)
 begins-other (AllocateAll bytes) = lays (AllocateAll bytes) (search (of-allocate-read, laying) depth 20)
 begins-other (Start maximum) = lays (Start maximum) (search (of-started, laying) depth 20)
 begins-other BusPoll = later _ (λ s h. row-4 (eqb (stage (s .0)) 2) _ _ h)
@@ -255,10 +275,13 @@ module _ (P : ℕ → Type 0) where
   puts (request-cell d e) v s i = i
   puts (paced-cell e) v s i = i
 
-  given : (d : Dir) (kind maximum interval : ℕ) (z : alloc-answer.Answer) (t : Pages) → Stands t → Stands (givenB d kind maximum interval z t)
+  given : (d : Dir) (kind maximum interval : ℕ) (z : alloc-answer.Answer) (t : Pages) → Stands t
+      → Stands (givenB d kind maximum interval z t)
   given d kind maximum interval (alloc.Refused n) t i = i
-  given Out kind maximum interval (alloc.Given e base slots) t i = subst P (sym (sets-stage Out kind interval e (t .kept .globals))) i
-  given In kind maximum interval (alloc.Given e base slots) t i = subst P (sym (sets-stage In kind interval e (t .kept .globals))) i
+  given Out kind maximum interval (alloc.Given e base slots) t i
+      = subst P (sym (sets-stage Out kind interval e (t .kept .globals))) i
+  given In kind maximum interval (alloc.Given e base slots) t i
+      = subst P (sym (sets-stage In kind interval e (t .kept .globals))) i
 
   begun : (maximum : ℕ) (z : alloc-answer.Answer) (t : Pages) → P 2 → Stands t → Stands (startedB maximum z t)
   begun maximum (alloc.Refused n) t p i = i
@@ -277,7 +300,8 @@ module _ (P : ℕ → Type 0) where
   acts (enqueue e bytes) p s i = either-of (roomB (s .0) e (length bytes)) _ _ i i
   acts (allocate d kind address maximum interval) p s i =
       given d kind maximum interval (allocateOf (s .0 .kept .allocator) kind address maximum d .answer) _ i
-  acts (allocate0 maximum) p s i = begun maximum (allocateEp0Of (s .0 .kept .allocator) maximum .answer) _ (p maximum refl) i
+  acts (allocate0 maximum) p s i = begun maximum (allocateEp0Of (s .0 .kept .allocator) maximum .answer) _
+      (p maximum refl) i
   acts no-wakes p s i = i
   acts (waken codes) p s i = i
 
@@ -316,12 +340,14 @@ giving-keeps = record {
 abbrev pub Started : Pages → Type 0
 Started t = stage t ≡ 2
 
-follow-rows : {A : Type 0} (g : Burst) (n : ℕ) {k : Bk → tree.Out Bk A} → ((t : Bk) → Started (t .0) → Along Started t (k t)) → (s : Bk) → Started (s .0)
+follow-rows : {A : Type 0} (g : Burst) (n : ℕ) {k : Bk → tree.Out Bk A}
+    → ((t : Bk) → Started (t .0) → Along Started t (k t)) → (s : Bk) → Started (s .0)
     → Along Started s (rows bookOps g n k s)
 follow-rows g zero h s i = ask (row-steps (λ n. n ≡ 2) g zero s i) tt (λ v t j. h t j)
 follow-rows g (suc n) h s i = ask (row-steps (λ n. n ≡ 2) g (suc n) s i) tt (λ v t j. follow-rows g n h t j)
 
-pub stays-started : {i : Bool} {A : Type 0} (p : Script i A) (s : Bk) → Started (s .0) → Along Started s (run bookOps p s)
+pub stays-started : {i : Bool} {A : Type 0} (p : Script i A) (s : Bk) → Started (s .0)
+    → Along Started s (run bookOps p s)
 stays-started (ret a) s i = end i tt
 stays-started (bind p f) s i = along-bind (stays-started p s i) (λ a t j. stays-started (f a) t j)
 stays-started (test true p q) s i = stays-started p s i

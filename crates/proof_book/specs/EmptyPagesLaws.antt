@@ -28,7 +28,8 @@ pub record Shown (r : EpState) (o : Bool) : Type 0 where
   pub shows : Shows r
 
 module _ {b : Buf} {r : EpState} {ls : List ℕ} (h : r .head ≡ 0) (l : r .tail ≡ 0) where
-  pub empty-out : r .«open» ≡ 0 → Held (r .slots - 1) b r ls [] → (p : OutPage) → Seat r p → (ss : List ℕ) → OutFits b r ls ss (emptyOut p)
+  pub empty-out : r .«open» ≡ 0 → Held (r .slots - 1) b r ls [] → (p : OutPage) → Seat r p → (ss : List ℕ)
+      → OutFits b r ls ss (emptyOut p)
   empty-out o held p z ss = record {
     held = held;
     stamps = none-stamps r ss (reset-count r h l);

@@ -1,4 +1,5 @@
--- From its first reading on an interrupt keeps that reading's microframe index (request One): its script does, and so do those of the calls that pass
+-- From its first reading on an interrupt keeps that reading's microframe index (request One): its script does, and so
+-- do those of the calls that pass
 use mathlib.Core.Bool.{Bool, true}
 use mathlib.Core.List.{List, [], _∷_}
 use mathlib.Core.Path.{refl}
@@ -34,7 +35,16 @@ module _ (x : ℕ) where
   of-toggled : (d : Dir) (e : ℕ) → ChangesOnly calm x (toggled {i = true} d e)
   of-toggled d e = (
     of-looks 2001,
-    λ _ _. (λ _. tt, λ _ _. (λ _ _. tt, λ _ _. ((((λ _. tt, λ _ _. tt), tt), λ _ _. tt), ((λ _ _. tt, λ _ _. (tt, tt)), λ _ _. tt)))),
+    λ _ _. (
+      λ _. tt,
+      λ _ _. (
+        λ _ _. tt,
+        λ _ _. (
+          (((λ _. tt, λ _ _. tt), tt), λ _ _. tt),
+          ((λ _ _. tt, λ _ _. (tt, tt)), λ _ _. tt),
+        ),
+      ),
+    ),
   )
 
   of-retake : (t : Transfer) → ChangesOnly calm x (retake {i = true} t)
@@ -59,7 +69,17 @@ module _ (x : ℕ) where
   of-unseen frame e = ((λ _ _. tt, λ _ _. (tt, tt)), λ _ _. of-complete e)
 
   of-sof-one : (frame e : ℕ) → ChangesOnly calm x (sofOne {i = true} frame e)
-  of-sof-one frame e = (λ _ _. tt, λ _ _. (tt, (λ _. tt, λ _ _. (of-unseen frame e, (λ _. tt, λ _ _. (tt, of-unseen frame e))))))
+  of-sof-one frame e = (
+    λ _ _. tt,
+    λ _ _. (
+      tt,
+      (
+        λ _. tt,
+        λ _ _.
+            (of-unseen frame e, (λ _. tt, λ _ _. (tt, of-unseen frame e))),
+      ),
+    ),
+  )
 
   of-sof-walk : (frame : ℕ) (es : List ℕ) → ChangesOnly calm x (sofWalk {i = true} frame es)
   unfolding sofWalk
@@ -107,19 +127,39 @@ module _ (x : ℕ) where
   of-in t iso frame = (
     (λ _ _. tt, λ _ _. (tt, of-late frame (endpoint (t .st)))),
     (
-      ((λ _. tt, λ _ _. tt), λ _ _. ((λ _ _. tt, λ _ _. (tt, tt)), λ _ _. ((λ _ _. tt, λ _ _. (tt, tt)), λ _ _. of-wake In 0))),
-      (of-toggled In (endpoint (t .st)), λ _ _. (((λ _ _. tt, λ _ _. (tt, tt)), λ _ _. of-wake In (endpoint (t .st))), tt)),
+      (
+        (λ _. tt, λ _ _. tt),
+        λ _ _. (
+          (λ _ _. tt, λ _ _. (tt, tt)),
+          λ _ _.
+              ((λ _ _. tt, λ _ _. (tt, tt)), λ _ _. of-wake In 0),
+        ),
+      ),
+      (
+        of-toggled In (endpoint (t .st)),
+        λ _ _. (
+          ((λ _ _. tt, λ _ _. (tt, tt)), λ _ _. of-wake In (endpoint (t .st))),
+          tt,
+        ),
+      ),
     ),
   )
 
-  of-dispatch : (k : Token) (t : Transfer) (iso : Bool) (frame : ℕ) → ChangesOnly calm x (dispatch {i = true} k t iso frame)
+  of-dispatch : (k : Token) (t : Transfer) (iso : Bool) (frame : ℕ)
+      → ChangesOnly calm x (dispatch {i = true} k t iso frame)
   of-dispatch tok.Sof t iso frame = (λ _ _. tt, λ _ _. (of-sof frame, tt))
   of-dispatch tok.Out t iso frame = of-out t iso
   of-dispatch tok.In t iso frame = of-in t iso frame
   of-dispatch tok.Setup t iso frame = tt
 
   of-moved : (d : Dir) → ChangesOnly calm x (movedOn {i = true} d)
-  of-moved d = (λ _ _. tt, λ _ _. (((λ _. tt, λ _ _. tt), λ _ _. ((λ _ _. tt, λ _ _. (tt, tt)), λ _ _. of-wake d 0)), tt))
+  of-moved d = (
+    λ _ _. tt,
+    λ _ _. (
+      ((λ _. tt, λ _ _. tt), λ _ _. ((λ _ _. tt, λ _ _. (tt, tt)), λ _ _. of-wake d 0)),
+      tt,
+    ),
+  )
 
   of-moved-on : (k : Token) → ChangesOnly calm x (ep0MovedOn {i = true} k)
   of-moved-on tok.Out = of-moved In
@@ -136,7 +176,11 @@ module _ (x : ℕ) where
         ((λ _ _. tt, λ g _. of-late-walk frame (setBits (isoInEvery g))), tt),
         λ _ _. (
           (of-dispatch (token (t .st)) t iso frame, tt),
-          λ _ _. (((λ _ _. tt, λ g _. of-check-walk t iso (setBits (isoOuts g))), tt), λ _ _. (of-moved-on (token (t .st)), tt)),
+          λ _ _. (
+            ((λ _ _. tt, λ g _. of-check-walk t iso (setBits (isoOuts g))), tt),
+            λ _ _.
+                (of-moved-on (token (t .st)), tt),
+          ),
         ),
       ),
     ),
@@ -163,7 +207,8 @@ module _ (x : ℕ) where
                     λ _. tt,
                     λ frame _. (
                       λ _ _. tt,
-                      λ g _. of-served (framed t (isoFor (token (t .st)) o n) (g .«sof_frame») frame) (isoFor (token (t .st)) o n) frame,
+                      λ g _. of-served (framed t (isoFor (token (t .st)) o n) (g .«sof_frame») frame)
+                          (isoFor (token (t .st)) o n) frame,
                     ),
                   ),
                 ),
@@ -214,18 +259,56 @@ pub of-aside : (x : ℕ) (o : Aside) → ChangesOnly passing x (asideCode o)
 of-aside x (Open e) = (
   λ _ _. tt,
   λ _ _. (
-    (λ _ _. tt, λ _ _. ((λ _ _. tt, λ _ _. (tt, (λ _. tt, λ _ _. (((refl, tt), λ _ _. (λ _. tt, λ _ _. (λ _. tt, λ _ _. tt))), tt)))), tt)),
+    (
+      λ _ _. tt,
+      λ _ _. (
+        (
+          λ _ _. tt,
+          λ _ _. (
+            tt,
+            (
+              λ _. tt,
+              λ _ _.
+                  (((refl, tt), λ _ _. (λ _. tt, λ _ _. (λ _. tt, λ _ _. tt))), tt),
+            ),
+          ),
+        ),
+        tt,
+      ),
+    ),
     tt,
   ),
 )
-of-aside x (Close e) = (λ _ _. tt, λ _ _. ((λ _ _. tt, λ _ _. ((λ _. tt, λ _ _. (((refl, tt), λ _ _. tt), tt)), tt)), tt))
+of-aside x (Close e) = (
+  λ _ _. tt,
+  λ _ _. (
+    (λ _ _. tt, λ _ _. ((λ _. tt, λ _ _. (((refl, tt), λ _ _. tt), tt)), tt)),
+    tt,
+  ),
+)
 of-aside x (Queue e bytes) = (
   λ _ _. tt,
   λ _ _. (
     (
       λ _ _. tt,
       λ _ _. (
-        (λ _ _. tt, λ _ _. ((λ _ _. tt, λ _ _. (tt, (λ _ _. tt, λ _ _. (tt, (λ _. tt, λ _ _. (((refl, tt), λ _ _. tt), tt)))))), tt)),
+        (
+          λ _ _. tt,
+          λ _ _. (
+            (
+              λ _ _. tt,
+              λ _ _. (
+                tt,
+                (
+                  λ _ _. tt,
+                  λ _ _.
+                      (tt, (λ _. tt, λ _ _. (((refl, tt), λ _ _. tt), tt))),
+                ),
+              ),
+            ),
+            tt,
+          ),
+        ),
         tt,
       ),
     ),

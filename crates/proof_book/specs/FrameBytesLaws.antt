@@ -24,10 +24,12 @@ use Rattle.proof_book.specs.FrameLaws.{changed-not, out-bytes, in-bytes,
 -- the tail's slot of every IN ring in which some wait is as it was, whole
 abbrev pub TailsStay : Driver → Buf → Buf → Type 0
 TailsStay d b b′ = (x : ℕ) → 0 < countOf (epOn d In x)
-    → Same (slotAddr (epOn d In x) (epOn d In x .tail)) (slotAddr (epOn d In x) (epOn d In x .tail) + epOn d In x .stride) b b′
+    → Same (slotAddr (epOn d In x) (epOn d In x .tail)) (slotAddr (epOn d In x) (epOn d In x .tail)
+    + epOn d In x .stride) b b′
 
 module _ {φ : Phase} {b b′ : Buf} {d : Driver} {t : Pages} (R : Coupling φ b d t) (long : length b′ ≡ length b) where
-  pub bytes-changed : ((dir : Dir) (x : ℕ) → waiting b′ (epOn d dir x) (lensOf d dir x) ≡ waiting b (epOn d dir x) (lensOf d dir x))
+  pub bytes-changed : ((dir : Dir) (x : ℕ) → waiting b′ (epOn d dir x) (lensOf d dir x)
+      ≡ waiting b (epOn d dir x) (lensOf d dir x))
       → TailsStay d b b′ → Coupling φ b′ d t
   bytes-changed w s = rebuilt R (keeps-changed (changed-not (R .sized) Out 0)) long (record {
     step = R .step;
@@ -39,19 +41,22 @@ module _ {φ : Phase} {b b′ : Buf} {d : Driver} {t : Pages} (R : Coupling φ b
 
   -- in a region apart from every ring in which some wait
   pub bytes-region : (lo hi : ℕ) → Only lo hi b b′
-      → ((dir : Dir) (x : ℕ) → Apart lo hi (epOn d dir x .base) (endOf (epOn d dir x)) ⊎ (countOf (epOn d dir x) ≡ 0)) → Coupling φ b′ d t
+      → ((dir : Dir) (x : ℕ) → Apart lo hi (epOn d dir x .base) (endOf (epOn d dir x)) ⊎ (countOf (epOn d dir x) ≡ 0))
+      → Coupling φ b′ d t
   bytes-region lo hi o away = bytes-changed kept tails
     where
       swap : {x y : ℕ} → Apart lo hi x y → (y ≤ lo) ⊎ (hi ≤ x)
       swap (inl h) = inr h
       swap (inr h) = inl h
 
-      by : {most : ℕ} {r : EpState} {ls : List ℕ} {ws : List (List ℕ)} → Held most b r ls ws → Apart lo hi (r .base) (endOf r) ⊎ (countOf r ≡ 0)
+      by : {most : ℕ} {r : EpState} {ls : List ℕ} {ws : List (List ℕ)} → Held most b r ls ws
+          → Apart lo hi (r .base) (endOf r) ⊎ (countOf r ≡ 0)
           → waiting b′ r ls ≡ waiting b r ls
       by h (inl a) = waiting-foreign (h .placed) (h .ring) lo hi b b′ o (swap a)
       by {r = r} {ls = ls} h (inr z) = waiting-none b′ r ls z ∙ sym (waiting-none b r ls z)
 
-      kept : (dir : Dir) (x : ℕ) → waiting b′ (epOn d dir x) (lensOf d dir x) ≡ waiting b (epOn d dir x) (lensOf d dir x)
+      kept : (dir : Dir) (x : ℕ) → waiting b′ (epOn d dir x) (lensOf d dir x)
+          ≡ waiting b (epOn d dir x) (lensOf d dir x)
       kept Out x = by (R .outs x .held) (away Out x)
       kept In x = by (R .ins x .held) (away In x)
 

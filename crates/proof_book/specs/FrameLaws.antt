@@ -17,7 +17,8 @@ use Rattle.state.specs.declared.Allocator.{Allocator}
 use Rattle.state.specs.declared.Globals.{Globals}
 use Rattle.state.specs.declared.Request.{Request}
 use Rattle.state.specs.Fresh.{clearStamps}
-use Rattle.state.specs.Driver.{Driver, key, lenKey, stampKey, noRequest, epOn, withOn, withLenOn, withStampOn, pacedOn, requestOn}
+use Rattle.state.specs.Driver.{Driver, key, lenKey, stampKey, noRequest, epOn, withOn, withLenOn, withStampOn, pacedOn}
+use Rattle.state.specs.Driver.{requestOn}
 use Rattle.state.specs.Laws.{Sized, key-apart, epOn-same, epOn-other}
 use Rattle.alloc.specs.Alloc.{allocatedIn, slotsOf}
 use Rattle.ring.specs.Slot.{slotAddr, countOf}
@@ -33,7 +34,8 @@ use Rattle.script.specs.Machine.{Buf}
 use Rattle.script_ops.specs.Records.{plainOf}
 use Rattle.script_ops.specs.Stamps.{length-filled}
 use Rattle.proof_book.specs.Pages.{OutPage, InPage, Kept, Pages, at, on, withKept, withOut, withIn, keptPlain}
-use Rattle.proof_book.specs.LensLaws.{key-mod, key-other, ep-mod, lens-mod, key-ep, lens-on, ep-len, lens-set-other}
+use Rattle.proof_book.specs.LensLaws.{key-mod, key-other, ep-mod, lens-mod, key-ep, lens-on, ep-len}
+use Rattle.proof_book.specs.LensLaws.{lens-set-other}
 use Rattle.proof_book.specs.LensLaws.{stamps-mod, stamps-on, stamps-len, ep-stamp, lens-stamp, stamps-set-other}
 use Rattle.proof_book.specs.LensLaws.{ep-clear, lens-clear, stamps-clear-other}
 use Rattle.proof_book.specs.KeptLaws.{Values, valuesOf, same-tables}
@@ -101,12 +103,21 @@ module _ {d : Driver} (s : Sized d) (dir : Dir) (e : ℕ) where
 
   on-sized : (r : EpState) → Sized (withOn d dir e r)
   unfolding withOn
-  on-sized r = record { eps = length-set (d .eps) (key dir e) r ∙ s .eps; lens = s .lens; stamps = s .stamps; paced = s .paced; requests = s .requests }
+  on-sized r = record {
+    eps = length-set (d .eps) (key dir e) r ∙ s .eps;
+    lens = s .lens;
+    stamps = s .stamps;
+    paced
+        = s .paced;
+    requests = s .requests;
+  }
 
   -- its record
-  pub changed-on : (r : EpState) → SamePlace (epOn d dir e) r → r .iso ≡ epOn d dir e .iso → Changed dir e d (withOn d dir e r)
+  pub changed-on : (r : EpState) → SamePlace (epOn d dir e) r → r .iso ≡ epOn d dir e .iso
+      → Changed dir e d (withOn d dir e r)
   unfolding withOn
-  changed-on r k i = changed-by (on-sized r) refl (λ dir′ x n. epOn-other d dir e r dir′ x n) (λ dir′ x n. lens-on d dir e r dir′ x)
+  changed-on r k i = changed-by (on-sized r) refl (λ dir′ x n. epOn-other d dir e r dir′ x n)
+      (λ dir′ x n. lens-on d dir e r dir′ x)
       (λ x n. stamps-on d dir e r x) (rw (epOn-same d dir e r s) k) (rw (epOn-same d dir e r s) i)
 
   len-sized : (i v : ℕ) → Sized (withLenOn d dir e i v)
@@ -122,7 +133,8 @@ module _ {d : Driver} (s : Sized d) (dir : Dir) (e : ℕ) where
   -- one of its lengths
   pub changed-len : (i v : ℕ) → Changed dir e d (withLenOn d dir e i v)
   unfolding withLenOn
-  changed-len i v = records-stay (len-sized i v) refl (ep-len d dir e i v) (lens-set-other d dir e i v) (λ x n. stamps-len d dir e i v x)
+  changed-len i v = records-stay (len-sized i v) refl (ep-len d dir e i v) (lens-set-other d dir e i v)
+      (λ x n. stamps-len d dir e i v x)
 
   pub changed-trans : {d′ d″ : Driver} → Changed dir e d d′ → Changed dir e d′ d″ → Changed dir e d d″
   changed-trans a c = record {
@@ -144,19 +156,34 @@ module _ {d : Driver} (s : Sized d) (dir : Dir) (e : ℕ) where
 pub changed-stamp : {d : Driver} → Sized d → (e i v : ℕ) → Changed Out e d (withStampOn d e i v)
 unfolding withStampOn
 changed-stamp {d} s e i v = records-stay
-    (record { eps = s .eps; lens = s .lens; stamps = length-set (d .stamps) (stampKey e i) v ∙ s .stamps; paced = s .paced; requests = s .requests })
+    (record {
+      eps = s .eps;
+      lens = s .lens;
+      stamps = length-set (d .stamps) (stampKey e i) v ∙ s .stamps;
+      paced
+          = s .paced;
+      requests = s .requests;
+    })
     refl (ep-stamp d e i v) (λ dir′ x n. lens-stamp d e i v dir′ x) (stamps-set-other d e i v)
 
 -- all its stamps
 pub changed-clear : {d : Driver} → Sized d → (e : ℕ) → Changed Out e d (clearStamps d e)
 unfolding clearStamps
 changed-clear {d} s e = records-stay
-    (record { eps = s .eps; lens = s .lens; stamps = length-filled (d .stamps) (e % 16 * 16) 16 0 ∙ s .stamps; paced = s .paced; requests = s .requests })
+    (record {
+      eps = s .eps;
+      lens = s .lens;
+      stamps = length-filled (d .stamps) (e % 16 * 16) 16 0 ∙ s .stamps;
+      paced
+          = s .paced;
+      requests = s .requests;
+    })
     refl (ep-clear d e) (λ dir′ x n. lens-clear d e dir′ x) (stamps-clear-other d e)
 
 -- ---- pages and kept values of one endpoint changed
 
-pub at-elim : {A : Type 0} (P : A → Type 0) (e x : ℕ) (v : A) (f : ℕ → A) → (x % 16 ≡ e % 16 → P v) → (x % 16 ≢ e % 16 → P (f x)) → P (at e v f x)
+pub at-elim : {A : Type 0} (P : A → Type 0) (e x : ℕ) (v : A) (f : ℕ → A) → (x % 16 ≡ e % 16 → P v)
+    → (x % 16 ≢ e % 16 → P (f x)) → P (at e v f x)
 at-elim P e x v f p q = go (eqb (x % 16) (e % 16)) refl
   where
     go : (t : Bool) → eqb (x % 16) (e % 16) ≡ t → P (cond t v (f x))
@@ -206,15 +233,19 @@ module _ {dir : Dir} {e : ℕ} {d d′ : Driver} (c : Changed dir e d d′) wher
 
   -- the kept values, where what scripts read of the record stays
   pub kept-same : {k : Kept} → plainOf (epOn d′ dir e) ≡ plainOf (epOn d dir e) → SameKept d k → SameKept d′ k
-  kept-same {k} p s = same-tables s values-same (λ x. paced-same x ∙ s .paced x) (λ dir′ x. requests-same dir′ x ∙ s .requests dir′ x)
+  kept-same {k} p s = same-tables s values-same (λ x. paced-same x ∙ s .paced x) (λ dir′ x. requests-same dir′ x
+      ∙ s .requests dir′ x)
       (λ dir′ x. elim (ℕ-discrete (key dir′ x) (key dir e)) [
-        | yes h ↦ ap plainOf (key-ep d′ dir′ dir x e h) ∙ p ∙ ap plainOf (sym (key-ep d dir′ dir x e h)) ∙ s .plain dir′ x
+        | yes h ↦ ap plainOf (key-ep d′ dir′ dir x e h) ∙ p ∙ ap plainOf (sym (key-ep d dir′ dir x e h))
+            ∙ s .plain dir′ x
         | no n ↦ ap plainOf (c .eps dir′ x n) ∙ s .plain dir′ x
       ])
 
   -- and where it changes
-  pub kept-plain : {k : Kept} {v : EpCore} → plainOf (epOn d′ dir e) ≡ v → SameKept d k → SameKept d′ (keptPlain k dir e v)
-  kept-plain {k} {v} p s = same-tables s values-same (λ x. paced-same x ∙ s .paced x) (λ dir′ x. requests-same dir′ x ∙ s .requests dir′ x)
+  pub kept-plain : {k : Kept} {v : EpCore} → plainOf (epOn d′ dir e) ≡ v → SameKept d k
+      → SameKept d′ (keptPlain k dir e v)
+  kept-plain {k} {v} p s = same-tables s values-same (λ x. paced-same x ∙ s .paced x) (λ dir′ x. requests-same dir′ x
+      ∙ s .requests dir′ x)
       (λ dir′ x. on-elim (λ y. plainOf (epOn d′ dir′ x) ≡ y) dir dir′ e x v (k .plain)
       (λ h. ap plainOf (key-ep d′ dir′ dir x e h) ∙ p)
       (λ n. ap plainOf (c .eps dir′ x n) ∙ s .plain dir′ x))
@@ -236,11 +267,13 @@ flag-some : (s : Bool) (l : ℕ) → l ≡ flag s → s ≡ true → eqb l 0 ≡
 flag-some true l h q = rw h refl
 flag-some false l h q = absurd (true≢false (sym q))
 
-pub sending-count : {b : Buf} {r : EpState} {ls : List ℕ} {p : InPage} → InFits b r ls p → p .sending ≡ true → 0 < countOf r
+pub sending-count : {b : Buf} {r : EpState} {ls : List ℕ} {p : InPage} → InFits b r ls p → p .sending ≡ true → 0
+    < countOf r
 sending-count {r = r} {p = p} f s = f .sends (flag-some (p .sending) (r .loaded) (f .loaded) s)
 
 -- the same packets, in a buffer where they stand; whether the last address is a load's is free
-pub in-again : {b b′ : Buf} {r : EpState} {ls : List ℕ} {p : InPage} → InFits b r ls p → (l : Bool) → Held (r .slots) b′ r ls (p .waiting)
+pub in-again : {b b′ : Buf} {r : EpState} {ls : List ℕ} {p : InPage} → InFits b r ls p → (l : Bool)
+    → Held (r .slots) b′ r ls (p .waiting)
     → let p′ = withSending p (p .sending) l (p .source) (p .shown) in Stands b′ r p′ → InFits b′ r ls p′
 in-again f l held stands = record {
   held = held;
@@ -255,9 +288,16 @@ in-again f l held stands = record {
 
 -- ---- the buffer changed, away from those that wait
 
-module _ {b b′ : Buf} {r : EpState} {ls : List ℕ} (long : length b′ ≡ length b) (w : waiting b′ r ls ≡ waiting b r ls) where
+module _ {b b′ : Buf} {r : EpState} {ls : List ℕ} (long : length b′ ≡ length b) (w : waiting b′ r ls
+    ≡ waiting b r ls) where
   pub held-bytes : {most : ℕ} {ws : List (List ℕ)} → Held most b r ls ws → Held most b′ r ls ws
-  held-bytes h = record { placed = subst (λ n. Placed n r) (sym long) (h .placed); ring = h .ring; least = h .least; waits = w ∙ h .waits }
+  held-bytes h = record {
+    placed = subst (λ n. Placed n r) (sym long) (h .placed);
+    ring = h .ring;
+    least
+        = h .least;
+    waits = w ∙ h .waits;
+  }
 
   pub out-bytes : {ss : List ℕ} {p : OutPage} → OutFits b r ls ss p → OutFits b′ r ls ss p
   out-bytes h = record {
@@ -273,18 +313,24 @@ module _ {b b′ : Buf} {r : EpState} {ls : List ℕ} (long : length b′ ≡ le
     short = h .short;
   }
 
-  pub in-bytes : {p : InPage} → (0 < countOf r → Same (slotAddr r (r .tail)) (slotAddr r (r .tail) + r .stride) b b′) → InFits b r ls p → InFits b′ r ls p
+  pub in-bytes : {p : InPage} → (0 < countOf r → Same (slotAddr r (r .tail)) (slotAddr r (r .tail) + r .stride) b b′)
+      → InFits b r ls p → InFits b′ r ls p
   in-bytes {p} s h = in-again h (p .load) (held-bytes (h .held)) (record {
     slot = h .stands .slot;
-    bytes = λ q k l u. s (sending-count h q) k (omega (arith, h .stands .slot q)) (omega (arith, h .stands .slot q)) ∙ h .stands .bytes q k l u;
+    bytes = λ q k l u. s (sending-count h q) k (omega (arith, h .stands .slot q)) (omega (arith, h .stands .slot q))
+        ∙ h .stands .bytes q k l u;
   })
 
-pub out-moved : {b : Buf} {r r′ : EpState} {ls ls′ ss ss′ : List ℕ} {p : OutPage} → r′ ≡ r → ls′ ≡ ls → ss′ ≡ ss → OutFits b r ls ss p → OutFits b r′ ls′ ss′ p
+pub out-moved : {b : Buf} {r r′ : EpState} {ls ls′ ss ss′ : List ℕ} {p : OutPage} → r′ ≡ r → ls′ ≡ ls → ss′ ≡ ss
+    → OutFits b r ls ss p → OutFits b r′ ls′ ss′ p
 out-moved {b} {r} {r′} {ls} {ls′} {ss} {ss′} {p} h k l f =
-    subst (λ x. OutFits b x ls′ ss′ p) (sym h) (subst (λ x. OutFits b r x ss′ p) (sym k) (subst (λ x. OutFits b r ls x p) (sym l) f))
+    subst (λ x. OutFits b x ls′ ss′ p) (sym h) (subst (λ x. OutFits b r x ss′ p) (sym k)
+    (subst (λ x. OutFits b r ls x p) (sym l) f))
 
-pub in-moved : {b : Buf} {r r′ : EpState} {ls ls′ : List ℕ} {p : InPage} → r′ ≡ r → ls′ ≡ ls → InFits b r ls p → InFits b r′ ls′ p
-in-moved {b} {r} {r′} {ls} {ls′} {p} h k f = subst (λ x. InFits b x ls′ p) (sym h) (subst (λ x. InFits b r x p) (sym k) f)
+pub in-moved : {b : Buf} {r r′ : EpState} {ls ls′ : List ℕ} {p : InPage} → r′ ≡ r → ls′ ≡ ls → InFits b r ls p
+    → InFits b r′ ls′ p
+in-moved {b} {r} {r′} {ls} {ls′} {p} h k f = subst (λ x. InFits b x ls′ p) (sym h)
+    (subst (λ x. InFits b r x p) (sym k) f)
 
 -- ---- allocation, the buffers' places and the sets of endpoints as they were
 
@@ -309,21 +355,30 @@ pub record Parts (ψ : Phase) (b : Buf) (d : Driver) (t : Pages) : Type 0 where
 pub end-kept : {r r′ : EpState} → SamePlace r r′ → endOf r′ ≡ endOf r
 end-kept k = rw (k .base, k .stride, k .slots) refl
 
-shape-kept : (a : Bool) (l : Allocator) (dir : Dir) {r r′ : EpState} → SamePlace r r′ → r′ .iso ≡ r .iso → Shape a l dir r → Shape a l dir r′
+shape-kept : (a : Bool) (l : Allocator) (dir : Dir) {r r′ : EpState} → SamePlace r r′ → r′ .iso ≡ r .iso
+    → Shape a l dir r → Shape a l dir r′
 shape-kept true l dir k i u = record {
   stride = k .stride ∙ u .stride;
   slots = k .slots ∙ u .slots ∙ ap (λ (n : ℕ). slotsOf (isOn n) dir) (sym i);
   below = rw (k .base, k .stride, k .slots) (u .below);
 }
-shape-kept false l dir k i u = record { iso = i ∙ u .iso; base = k .base ∙ u .base; stride = k .stride ∙ u .stride; slots = k .slots ∙ u .slots }
+shape-kept false l dir k i u = record {
+  iso = i ∙ u .iso;
+  base = k .base ∙ u .base;
+  stride = k .stride
+      ∙ u .stride;
+  slots = k .slots ∙ u .slots;
+}
 
-apart-kept : {lo lo′ hi hi′ x x′ y y′ : ℕ} → lo′ ≡ lo → hi′ ≡ hi → x′ ≡ x → y′ ≡ y → Apart lo hi x y → Apart lo′ hi′ x′ y′
+apart-kept : {lo lo′ hi hi′ x x′ y y′ : ℕ} → lo′ ≡ lo → hi′ ≡ hi → x′ ≡ x → y′ ≡ y → Apart lo hi x y
+    → Apart lo′ hi′ x′ y′
 apart-kept a b c d h = rw (a, b, c, d) h
 
 pub rebuilt : {φ ψ : Phase} {b b′ : Buf} {d d′ : Driver} {t t′ : Pages}
     → Coupling φ b d t → SamePlaces d d′ → length b′ ≡ length b → Parts ψ b′ d′ t′ → Coupling ψ b′ d′ t′
 rebuilt {d = d} {d′ = d′} R k l p =
-    let room : ep0Room (d′ .globals) (d′ .allocator) ≡ ep0Room (d .globals) (d .allocator) = rw (k .stage, k .allocator) refl in
+    let room : ep0Room (d′ .globals) (d′ .allocator) ≡ ep0Room (d .globals) (d .allocator)
+    = rw (k .stage, k .allocator) refl in
     record {
       step = p .step;
       sized = k .sized;
@@ -331,15 +386,18 @@ rebuilt {d = d} {d′ = d′} R k l p =
       good = rw (k .allocator) (R .good);
       long = rw (k .allocator) (l ∙ R .long);
       same = p .same;
-      shape = λ dir x. subst (λ a. Shape (isSet (allocatedIn a dir) (x % 16)) a dir (epOn d′ dir x)) (sym (k .allocator))
-          (shape-kept (isSet (allocatedIn (d .allocator) dir) (x % 16)) (d .allocator) dir (k .place dir x) (k .iso dir x) (R .shape dir x));
+      shape = λ dir x. subst (λ a. Shape (isSet (allocatedIn a dir) (x % 16)) a dir (epOn d′ dir x))
+          (sym (k .allocator))
+          (shape-kept (isSet (allocatedIn (d .allocator) dir) (x % 16)) (d .allocator) dir (k .place dir x)
+          (k .iso dir x) (R .shape dir x));
       outs = p .outs;
       ins = p .ins;
       arming = p .arming;
       apart = λ dir dir′ x y n. apart-kept (k .place dir x .base)
           (end-kept (k .place dir x)) (k .place dir′ y .base) (end-kept (k .place dir′ y)) (R .apart dir dir′ x y n);
       ep0-below = rw (room, k .ep0-buf, k .allocator) (R .ep0-below);
-      ep0-apart = λ dir x. apart-kept (k .ep0-buf) (rw (room, k .ep0-buf) refl) (k .place dir x .base) (end-kept (k .place dir x)) (R .ep0-apart dir x);
+      ep0-apart = λ dir x. apart-kept (k .ep0-buf) (rw (room, k .ep0-buf) refl) (k .place dir x .base)
+          (end-kept (k .place dir x)) (R .ep0-apart dir x);
       ep0-lies = rw (k .ep0-buf, k .allocator, l) (R .ep0-lies);
       ep0-least = rw (room, k .ep0-max) (R .ep0-least);
       isos = λ x. ap (λ (n : ℕ). isSet n (x % 16)) (k .iso-outs) ∙ R .isos x ∙ ap isOn (sym (k .iso Out x));
@@ -360,7 +418,8 @@ keeps-changed {dir} {e} {d} {d′} c = record {
     | no n ↦ place-by refl (c .eps dir′ x n) (same-place (epOn d dir′ x))
   ];
   iso = λ dir′ x. elim (ℕ-discrete (key dir′ x) (key dir e)) [
-    | yes h ↦ ap (λ (r : EpState). r .iso) (key-ep d′ dir′ dir x e h) ∙ c .iso ∙ ap (λ (r : EpState). r .iso) (sym (key-ep d dir′ dir x e h))
+    | yes h ↦ ap (λ (r : EpState). r .iso) (key-ep d′ dir′ dir x e h) ∙ c .iso
+        ∙ ap (λ (r : EpState). r .iso) (sym (key-ep d dir′ dir x e h))
     | no n ↦ ap (λ (r : EpState). r .iso) (c .eps dir′ x n)
   ];
 }
@@ -374,15 +433,18 @@ pub slot-foreign : {n lo hi : ℕ} {r : EpState} (i : ℕ) (b b′ : Buf) → Pl
 slot-foreign i b b′ g o (inl a) = λ k l h. o k (inl (omega (arith, slot-upto g i)))
 slot-foreign i b b′ g o (inr a) = λ k l h. o k (inr (omega (arith, slot-from g i)))
 
-pub arming-mod : (φ : Phase) (x e : ℕ) (u : Bool) (r : EpState) (p : OutPage) → x % 16 ≡ e % 16 → Arming φ e u r p → Arming φ x u r p
+pub arming-mod : (φ : Phase) (x e : ℕ) (u : Bool) (r : EpState) (p : OutPage) → x % 16 ≡ e % 16 → Arming φ e u r p
+    → Arming φ x u r p
 arming-mod quiet x e u r p h a = a
 arming-mod (mid (switch f onn) n) x e u r p h a = subst (λ k. InRow (eqb k (f % 16) && isOn (r .iso)) n u r p) (sym h) a
 arming-mod (mid bus-reset zero) x e u r p h a = a
 arming-mod (mid bus-reset (suc n)) x e u r p h a = a
 
 module _ {φ : Phase} {b b′ : Buf} {d d′ : Driver} {t : Pages} (R : Coupling φ b d t) where
-  module _ {dir : Dir} {e : ℕ} (c : Changed dir e d d′) (long : length b′ ≡ length b) (o : Only (epOn d dir e .base) (endOf (epOn d dir e)) b b′) where
-    pub other-out : (x : ℕ) → key Out x ≢ key dir e → OutFits b′ (epOn d′ Out x) (lensOf d′ Out x) (slotStamps d′ x) (t .outs x)
+  module _ {dir : Dir} {e : ℕ} (c : Changed dir e d d′) (long : length b′ ≡ length b)
+      (o : Only (epOn d dir e .base) (endOf (epOn d dir e)) b b′) where
+    pub other-out : (x : ℕ) → key Out x ≢ key dir e → OutFits b′ (epOn d′ Out x) (lensOf d′ Out x) (slotStamps d′ x)
+        (t .outs x)
     other-out x n =
         let f = R .outs x in
         out-moved (c .eps Out x n) (c .lens Out x n) (c .stamps x n)
@@ -396,10 +458,14 @@ module _ {φ : Phase} {b b′ : Buf} {d d′ : Driver} {t : Pages} (R : Coupling
         (λ _. slot-foreign (epOn d In x .tail) b b′ (f .held .placed) o (R .apart In dir x e n)) f)
 
   -- OUT e
-  pub out-changed : {ψ : Phase} {k : Kept} (e : ℕ) (p : OutPage) → Changed Out e d d′ → SameKept d′ k → length b′ ≡ length b
-      → Only (epOn d Out e .base) (endOf (epOn d Out e)) b b′ → OutFits b′ (epOn d′ Out e) (lensOf d′ Out e) (slotStamps d′ e) p → PhaseStep ψ
-      → ((x : ℕ) (u : Bool) → x % 16 ≢ e % 16 → Arming φ x u (epOn d Out x) (t .outs x) → Arming ψ x u (epOn d Out x) (t .outs x))
-      → Arming ψ e (isSet (isoOuts (d .globals)) (e % 16)) (epOn d′ Out e) p → Coupling ψ b′ d′ (withOut (withKept t k) e p)
+  pub out-changed : {ψ : Phase} {k : Kept} (e : ℕ) (p : OutPage) → Changed Out e d d′ → SameKept d′ k → length b′
+      ≡ length b
+      → Only (epOn d Out e .base) (endOf (epOn d Out e)) b b′
+      → OutFits b′ (epOn d′ Out e) (lensOf d′ Out e) (slotStamps d′ e) p → PhaseStep ψ
+      → ((x : ℕ) (u : Bool) → x % 16 ≢ e % 16 → Arming φ x u (epOn d Out x) (t .outs x)
+      → Arming ψ x u (epOn d Out x) (t .outs x))
+      → Arming ψ e (isSet (isoOuts (d .globals)) (e % 16)) (epOn d′ Out e) p
+      → Coupling ψ b′ d′ (withOut (withKept t k) e p)
   out-changed {ψ} {k} e p c s long o f step others a = rebuilt R (keeps-changed c) long (record {
     step = step;
     same = s;
@@ -407,18 +473,21 @@ module _ {φ : Phase} {b b′ : Buf} {d d′ : Driver} {t : Pages} (R : Coupling
         (λ h. out-moved (ep-mod d′ Out x e h) (lens-mod d′ Out x e h) (stamps-mod d′ x e h) f)
         (λ n. other-out c long o x (key-other Out x e n));
     ins = λ x. other-in c long o x (λ h. key-apart e x (sym h));
-    arming = λ x. subst (λ g. Arming ψ x (isSet (isoOuts g) (x % 16)) (epOn d′ Out x) (at e p (t .outs) x)) (sym (c .globals))
+    arming = λ x. subst (λ g. Arming ψ x (isSet (isoOuts g) (x % 16)) (epOn d′ Out x) (at e p (t .outs) x))
+        (sym (c .globals))
         (at-elim (λ q. Arming ψ x (isSet (isoOuts (d .globals)) (x % 16)) (epOn d′ Out x) q) e x p (t .outs)
         (λ h. subst (λ r. Arming ψ x (isSet (isoOuts (d .globals)) (x % 16)) r p) (sym (ep-mod d′ Out x e h))
         (subst (λ j. Arming ψ x (isSet (isoOuts (d .globals)) j) (epOn d′ Out e) p)
         (sym h) (arming-mod ψ x e (isSet (isoOuts (d .globals)) (e % 16)) (epOn d′ Out e) p h a)))
-        (λ n. subst (λ r. Arming ψ x (isSet (isoOuts (d .globals)) (x % 16)) r (t .outs x)) (sym (c .eps Out x (key-other Out x e n)))
+        (λ n. subst (λ r. Arming ψ x (isSet (isoOuts (d .globals)) (x % 16)) r (t .outs x))
+        (sym (c .eps Out x (key-other Out x e n)))
         (others x (isSet (isoOuts (d .globals)) (x % 16)) n (R .arming x))));
   })
 
   -- IN e
   pub in-changed : {k : Kept} (e : ℕ) (p : InPage) → Changed In e d d′ → SameKept d′ k → length b′ ≡ length b
-      → Only (epOn d In e .base) (endOf (epOn d In e)) b b′ → InFits b′ (epOn d′ In e) (lensOf d′ In e) p → Coupling φ b′ d′ (withIn (withKept t k) e p)
+      → Only (epOn d In e .base) (endOf (epOn d In e)) b b′ → InFits b′ (epOn d′ In e) (lensOf d′ In e) p
+      → Coupling φ b′ d′ (withIn (withKept t k) e p)
   in-changed {k} e p c s long o f = rebuilt R (keeps-changed c) long (record {
     step = R .step;
     same = s;
@@ -427,7 +496,8 @@ module _ {φ : Phase} {b b′ : Buf} {d d′ : Driver} {t : Pages} (R : Coupling
         (λ h. in-moved (ep-mod d′ In x e h) (lens-mod d′ In x e h) f)
         (λ n. other-in c long o x (key-other In x e n));
     arming = λ x. subst (λ g. Arming φ x (isSet (isoOuts g) (x % 16)) (epOn d′ Out x) (t .outs x)) (sym (c .globals))
-        (subst (λ r. Arming φ x (isSet (isoOuts (d .globals)) (x % 16)) r (t .outs x)) (sym (c .eps Out x (key-apart x e))) (R .arming x));
+        (subst (λ r. Arming φ x (isSet (isoOuts (d .globals)) (x % 16)) r (t .outs x))
+        (sym (c .eps Out x (key-apart x e))) (R .arming x));
   })
 
 -- a change of marks or of a copy

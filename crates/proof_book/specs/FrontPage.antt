@@ -1,6 +1,7 @@
--- Demand 3, to be read alone: what a list of calls is, what each call is lent, what document 01 compares after each call, and demand 3's own
--- sentences. Definitions only. `demand-3` (FrontPageLaws.antt) says that `AfterCall` holds after every call of every list that an accepted start-up
--- begins. The calls are in script/specs/Calls.antt, the book in Book.antt over Pages.antt: what waits, was admitted, read, queued, sent
+-- Demand 3, to be read alone: what a list of calls is, what each call is lent, what document 01 compares after each
+-- call, and demand 3's own sentences. Definitions only. `demand-3` (FrontPageLaws.antt) says that `AfterCall` holds
+-- after every call of every list that an accepted start-up begins. The calls are in script/specs/Calls.antt, the book
+-- in Book.antt over Pages.antt: what waits, was admitted, read, queued, sent
 use mathlib.Core.Bool.{Bool, true, false, not, cond, _&&_, _||_}
 use mathlib.Core.List.{List, [], _∷_, _++_, tail}
 use mathlib.Core.Logic.{_⊎_, _≢_}
@@ -23,10 +24,12 @@ use Rattle.ring.specs.Waiting.{waiting, Same}
 use Rattle.ring.specs.Copies.{bytesAt}
 use Rattle.script.specs.Every.{sameReg}
 use Rattle.script.specs.Answers.{Answer, Refused, End, NotYet, Done, Shown, ok, isNumber, isAllocated}
-use Rattle.script.specs.Calls.{Config, Op, interrupt, slotted, other, aside, SetEnabled, PollRead, BeginWrite, PollWrite}
+use Rattle.script.specs.Calls.{Config, Op, interrupt, slotted, other, aside, SetEnabled, PollRead, BeginWrite}
+use Rattle.script.specs.Calls.{PollWrite}
 use Rattle.script.specs.Calls.{PollDataOut, BeginDataIn, Allocate, AllocateAll, Advance, Aside, Open}
 use Rattle.script.specs.Calls.{Close, Queue, calls, startRow}
-use Rattle.script.specs.Machine.{Buf, Call, start, begin, go, question, overruns, Event, Ans, ended, handed, told, Way}
+use Rattle.script.specs.Machine.{Buf, Call, start, begin, continue, question, overruns, Event, Ans, ended, handed, told}
+use Rattle.script.specs.Machine.{Pending}
 use Rattle.script.specs.Machine.{idle, busy, Machine, over, misfit, fed, call, blankA}
 use Rattle.machine.specs.Suspended.{drive, machineOf}
 use Rattle.proof_book.specs.Pages.{Packet, bytesOf, stampsOf, OutPage, InPage, Pages}
@@ -39,51 +42,58 @@ use Rattle.proof_book.specs.Arrivals.{Note, brings, checks, due, looks, 
 
 -- ---- a list of calls
 
--- a call that was made: the call and the slot buffer it was lent; its answer; the state's bytes and the slot buffer as it left them
-pub record Made : Type 0 where
+-- a call that was made: the call and the slot buffer it was lent; its answer; the state's bytes and the slot buffer as
+-- it left them
+pub record CallRecord : Type 0 where
   pub event : Event Config Op
   pub answer : Ans Answer
   pub bytes : List ℕ
   pub slots : Buf
 
--- its contract, where the state's bytes were xs and the slot buffer a: it is one step of the machine of calls that the bytes are
-abbrev pub CallStep : List ℕ → Buf → Made → Type 0
-CallStep xs a m = (m .answer, machineOf (m .bytes) (m .slots)) ≡ drive (m .event .call) (machineOf xs a) (m .event .lent)
+-- its contract, where the state's bytes were xs and the slot buffer a: it is one step of the machine of calls that the
+-- bytes are
+abbrev pub CallStep : List ℕ → Buf → CallRecord → Type 0
+CallStep xs a m = (m .answer, machineOf (m .bytes) (m .slots))
+    ≡ drive (m .event .call) (machineOf xs a) (m .event .lent)
 
 -- the book's step: "fed the calls alone, with the readings and lent bytes they bring and the accesses they hand out"
-abbrev pub written : Ans Answer → Call Config Op → Machine Answer Pages → Buf → Ans Answer × Machine Answer Pages
-written a c n b = call calls (book .driver) (fed book a) c n b
+abbrev pub bookStep : Ans Answer → Call Config Op → Machine Answer Pages → Buf → Ans Answer × Machine Answer Pages
+bookStep a c n b = call calls (book .driver) (fed book a) c n b
 
-abbrev pub noted : Made → Machine Answer Pages → Ans Answer × Machine Answer Pages
-noted m n = written (m .answer) (m .event .call) n (m .event .lent)
+abbrev pub bookAfter : CallRecord → Machine Answer Pages → Ans Answer × Machine Answer Pages
+bookAfter m n = bookStep (m .answer) (m .event .call) n (m .event .lent)
 
 -- "A receive address counts from the call that hands it out": byte k lies outside of the slot of every allocated OUT
 -- endpoint's last receive address in this run, and outside of EP0's buffer
 pub record Elsewhere (t : Pages) (k : ℕ) : Type 0 where
-  pub outs : (e : ℕ) → isSet (allocatedIn (t .kept .allocator) Out) (e % 16) ≡ true → (k < t .outs e .slot) ⊎ (t .outs e .slot + t .kept .allocator .size ≤ k)
-  pub ep0 : t .kept .globals .stage ≡ 2 → (k < t .kept .globals .«ep0_buf») ⊎ (t .kept .globals .«ep0_buf» + t .kept .allocator .size ≤ k)
+  pub outs : (e : ℕ) → isSet (allocatedIn (t .kept .allocator) Out) (e % 16) ≡ true → (k < t .outs e .slot)
+      ⊎ (t .outs e .slot + t .kept .allocator .size ≤ k)
+  pub ep0 : t .kept .globals .stage ≡ 2 → (k < t .kept .globals .«ep0_buf»)
+      ⊎ (t .kept .globals .«ep0_buf» + t .kept .allocator .size ≤ k)
 
 -- the chip's stores, from b to b′: all other bytes stay
 pub record Chip (t : Pages) (b b′ : Buf) : Type 0 where
   pub long : length b′ ≡ length b
   pub others : (k : ℕ) → Elsewhere t k → getD b′ k 0 ≡ getD b k 0
 
--- "Each call gets … the slot buffer too, but for the chip's stores; a new run may bring another buffer, a call refused with 1 any other". Call c is lent
--- b, where the last call left a
-abbrev pub unless : Bool → Type 0 → Type 0
-unless true X = Unit {0}
-unless false X = X
+-- "Each call gets … the slot buffer too, but for the chip's stores; a new run may bring another buffer, a call refused
+-- with 1 any other". Call c is lent b, where the last call left a
+abbrev pub whenNot : Bool → Type 0 → Type 0
+whenNot true X = Unit {0}
+whenNot false X = X
 
-abbrev pub LentAsLeft : Call Config Op → Machine Answer Pages → Buf → Buf → Type 0
-LentAsLeft (start c) n a b = Unit {0}
-LentAsLeft (begin o) n a b = unless (cond (calls .slots o) (misfit calls (book .driver) (n .st) b) false) (Chip (n .st) a b)
-LentAsLeft (go v) n a b = unless (misfit calls (book .driver) (n .st) b) (Chip (n .st) a b)
-LentAsLeft (question q) n a b = Chip (n .st) a b
+abbrev pub BufferPreserved : Call Config Op → Machine Answer Pages → Buf → Buf → Type 0
+BufferPreserved (start c) n a b = Unit {0}
+BufferPreserved (begin o) n a b = whenNot (cond (calls .slots o) (misfit calls (book .driver) (n .st) b) false)
+    (Chip (n .st) a b)
+BufferPreserved (continue v) n a b = whenNot (misfit calls (book .driver) (n .st) b) (Chip (n .st) a b)
+BufferPreserved (question q) n a b = Chip (n .st) a b
 
 -- calls one after the other, from the state's bytes xs, the slot buffer a and the book n
-abbrev pub Calls : List ℕ → Buf → Machine Answer Pages → List Made → Type 0
+abbrev pub Calls : List ℕ → Buf → Machine Answer Pages → List CallRecord → Type 0
 Calls xs a n [] = Unit {0}
-Calls xs a n (m ∷ ms) = CallStep xs a m × LentAsLeft (m .event .call) n a (m .event .lent) × Calls (m .bytes) (m .slots) (noted m n .1) ms
+Calls xs a n (m ∷ ms) = CallStep xs a m × BufferPreserved (m .event .call) n a (m .event .lent)
+    × Calls (m .bytes) (m .slots) (bookAfter m n .1) ms
 
 -- ---- what is compared
 
@@ -111,7 +121,8 @@ pub record ReadsFirst (p p′ : OutPage) (q : Packet) : Type 0 where
 
 -- where the transmit address x is a load's: the slot there holds the bytes of the first waiting
 abbrev pub Holds : InPage → Buf → ℕ → Type 0
-Holds p b x = (bytes : List ℕ) (rest : List (List ℕ)) → p .load ≡ true → p .waiting ≡ bytes ∷ rest → bytesAt b x (length bytes) ≡ bytes
+Holds p b x = (bytes : List ℕ) (rest : List (List ℕ)) → p .load ≡ true → p .waiting ≡ bytes ∷ rest
+    → bytesAt b x (length bytes) ≡ bytes
 
 -- a poll that is done
 abbrev pub isDone : Answer → Bool
@@ -128,12 +139,15 @@ done (told k) = false
 
 -- "Queue: its bytes wait, last", where fewer than 2 wait; none comes to be sent
 abbrev pub Joins : InPage → InPage → List ℕ → Type 0
-Joins p p′ bytes = (length (p .waiting) < 2) × (p′ .waiting ≡ p .waiting ++ (bytes ∷ [])) × (p′ .queued ≡ p .queued ++ (bytes ∷ []))
+Joins p p′ bytes = (length (p .waiting) < 2) × (p′ .waiting ≡ p .waiting ++ (bytes ∷ []))
+    × (p′ .queued ≡ p .queued ++ (bytes ∷ []))
     × (p′ .sending ≡ p .sending)
 
--- document 01, "Compared after each call". A call c, the book before it, its answer, the driver's state and the slot buffer after it, the book after it
+-- document 01, "Compared after each call". A call c, the book before it, its answer, the driver's state and the slot
+-- buffer after it, the book after it
 pub record Compared (c : Call Config Op) (t : Pages) (a : Ans Answer) (d : Driver) (b : Buf) (t′ : Pages) : Type 0 where
-  -- "the bytes of the OUT ring's slots, tail to head, each up to its recorded length, equal those waiting, in order", with their stamps
+  -- "the bytes of the OUT ring's slots, tail to head, each up to its recorded length, equal those waiting, in order",
+  -- with their stamps
   pub ring : (e : ℕ) → ringBytes d b e ≡ bytesOf (t′ .outs e .waiting)
   pub stamps : (e : ℕ) → ringStamps d e ≡ stampsOf (t′ .outs e .waiting)
   -- "open shows … the first", which is open then
@@ -142,49 +156,56 @@ pub record Compared (c : Call Config Op) (t : Pages) (a : Ans Answer) (d : Drive
       × (stamp ≡ q .stamp) × (t′ .outs e .opened ≡ true) × (t′ .outs e .waiting ≡ t .outs e .waiting)
       × (t′ .outs e .admitted ≡ t .outs e .admitted) × (t′ .outs e .read ≡ t .outs e .read)
   -- "… and a read's poll gives the first", whole; it is read
-  pub poll-gives : (e n : ℕ) (bytes : List ℕ) → c ≡ begin (slotted (PollRead e n)) → a ≡ ended (Done bytes) → isoOf t Out e ≡ true
+  pub poll-gives : (e n : ℕ) (bytes : List ℕ) → c ≡ begin (slotted (PollRead e n)) → a ≡ ended (Done bytes)
+      → isoOf t Out e ≡ true
       → (q : Packet) × (bytes ≡ q .bytes) × ReadsFirst (t .outs e) (t′ .outs e) q
   -- .. and is "not yet" done only where none waits
   pub poll-waits : (e n : ℕ) → c ≡ begin (slotted (PollRead e n)) → a ≡ ended NotYet → isoOf t Out e ≡ true → t .outs e .waiting ≡ []
   -- and a write's poll on an isochronous IN only where 2 wait. Its begin took no more bytes than fit a slot (row 10)
   pub write-waits : (e : ℕ) (bytes : List ℕ) → c ≡ begin (slotted (PollWrite e bytes)) → a ≡ ended NotYet
       → isoOf t In e ≡ true → length bytes ≤ t .kept .allocator .size → length (t .ins e .waiting) ≡ 2
-  -- "rows 12 and 14 go by the book": none waits; none is open. A close that is not refused reads the first
+  -- "rows 12 and 14 continue by the book": none waits; none is open. A close that is not refused reads the first
   pub row-12 : (e : ℕ) → c ≡ begin (aside (Open e)) → a ≡ ended (Refused 12) → t .outs e .waiting ≡ []
   pub row-14 : (e : ℕ) → c ≡ begin (aside (Close e)) → a ≡ ended (Refused 14) → t .outs e .opened ≡ false
-  pub close-reads : (e : ℕ) → c ≡ begin (aside (Close e)) → a ≡ ended ok → (t .outs e .opened ≡ true) × (q : Packet) × ReadsFirst (t .outs e) (t′ .outs e) q
+  pub close-reads : (e : ℕ) → c ≡ begin (aside (Close e)) → a ≡ ended ok → (t .outs e .opened ≡ true) × (q : Packet)
+      × ReadsFirst (t .outs e) (t′ .outs e) q
   -- "overruns answers the count modulo 2^32", 0 where the Rust does
   pub overruns-answers : (e : ℕ) → c ≡ question (overruns e) → a ≡ told (cond (isNumber e) (cond (isoOf t Out e) (t .outs e .lost % 2 ^ 32) 0) 0)
   -- "row 13 goes by the book": 2 wait. A queue that is not refused finds fewer, and its bytes wait, last
   pub row-13 : (e : ℕ) (bytes : List ℕ) → c ≡ begin (aside (Queue e bytes)) → a ≡ ended (Refused 13) → length (t .ins e .waiting) ≡ 2
   pub queue-joins : (e : ℕ) (bytes : List ℕ) → c ≡ begin (aside (Queue e bytes)) → a ≡ ended ok
       → Joins (t .ins e) (t′ .ins e) bytes
-  -- so do those of a write's poll that is done on an isochronous IN; with any other answer, and on any other endpoint, it leaves the page
+  -- so do those of a write's poll that is done on an isochronous IN; with any other answer, and on any other endpoint,
+  -- it leaves the page
   pub write-joins : (e : ℕ) (bytes : List ℕ) → c ≡ begin (slotted (PollWrite e bytes)) → done a ≡ true → isoOf t In e ≡ true
       → Joins (t .ins e) (t′ .ins e) bytes
-  pub write-leaves : (e : ℕ) (bytes : List ℕ) → c ≡ begin (slotted (PollWrite e bytes)) → (done a && isoOf t In e) ≡ false → t′ .ins e ≡ t .ins e
+  pub write-leaves : (e : ℕ) (bytes : List ℕ) → c ≡ begin (slotted (PollWrite e bytes)) → (done a && isoOf t In e)
+      ≡ false → t′ .ins e ≡ t .ins e
   -- "the slot whose address a load hands out holds the bytes of the first then waiting"
   pub load-holds : (e x : ℕ) → a ≡ handed (Transmit e x) → Holds (t′ .ins e) b x
 
 -- ---- demand 3's own sentences
 
--- "An arrival is decided in the call that hands out the receive address": one that goes on with an interrupt, of an enabled isochronous OUT
-abbrev pub inInterrupt : Way Answer Pages → Bool
+-- "An arrival is decided in the call that hands out the receive address": one that goes on with an interrupt, of an
+-- enabled isochronous OUT
+abbrev pub inInterrupt : Pending Answer Pages → Bool
 inInterrupt idle = false
 inInterrupt (busy i a k) = i
 
 pub record Decides (c : Call Config Op) (n : Machine Answer Pages) (a : Ans Answer) (e : ℕ) : Type 0 where
   pub brought : ℕ
   pub address : ℕ
-  pub continues : c ≡ go brought
-  pub interrupt : inInterrupt (n .way) ≡ true
+  pub continues : c ≡ continue brought
+  pub interrupt : inInterrupt (n .under-way) ≡ true
   pub enabled : receiving (n .st) e ≡ true
   pub hands : a ≡ handed (Receive e address)
 
--- "it joins those waiting, last, with its slot's bytes in that call up to its length; with 15 waiting it is turned away and the endpoint's count
--- rises": the one or the other, by whether 15 wait. An open packet stays open: "until it is read or a reset"
+-- "it joins those waiting, last, with its slot's bytes in that call up to its length; with 15 waiting it is turned away
+-- and the endpoint's count rises": the one or the other, by whether 15 wait. An open packet stays open: "until it is
+-- read or a reset"
 pub data Decided (lent : Buf) (p p′ : OutPage) : Type 0 where
-  admitted : (q : Packet) → length (p .waiting) < 15 → q .bytes ≡ bytesAt lent (p .slot) (length (q .bytes)) → p′ .waiting ≡ p .waiting ++ (q ∷ [])
+  admitted : (q : Packet) → length (p .waiting) < 15 → q .bytes ≡ bytesAt lent (p .slot) (length (q .bytes))
+      → p′ .waiting ≡ p .waiting ++ (q ∷ [])
       → p′ .admitted ≡ p .admitted ++ (q ∷ []) → p′ .read ≡ p .read → p′ .lost ≡ p .lost → p′ .opened ≡ p .opened → Decided lent p p′
   turned-away : length (p .waiting) ≡ 15 → p′ .waiting ≡ p .waiting → p′ .admitted ≡ p .admitted → p′ .read ≡ p .read → p′ .lost ≡ p .lost + 1
       → p′ .opened ≡ p .opened → Decided lent p p′
@@ -192,7 +213,8 @@ pub data Decided (lent : Buf) (p p′ : OutPage) : Type 0 where
 -- the count of those turned away rises in no other call, and an accepted start-up alone takes it back, to 0
 pub data Counted (c : Call Config Op) (lent : Buf) (a : Ans Answer) (e : ℕ) (p p′ : OutPage) : Type 0 where
   same : p′ .lost ≡ p .lost → Counted c lent a e p p′
-  one-more : (f x : ℕ) → f % 16 ≡ e % 16 → a ≡ handed (Receive f x) → length (p′ .waiting) ≡ 15 → p′ .lost ≡ p .lost + 1 → Counted c lent a e p p′
+  one-more : (f x : ℕ) → f % 16 ≡ e % 16 → a ≡ handed (Receive f x) → length (p′ .waiting) ≡ 15 → p′ .lost ≡ p .lost + 1
+      → Counted c lent a e p p′
   none : (g : Config) → c ≡ start g → startRow g lent ≡ zero → p′ .lost ≡ 0 → Counted c lent a e p p′
 
 -- "Reset: none wait on that endpoint", and its stretch begins anew; the count of those turned away stays
@@ -219,11 +241,11 @@ abbrev pub SamePackets : OutPage → OutPage → Type 0
 SamePackets p p′ = p′ ≡ slotTold p (p′ .slot)
 
 -- one that releases a bus reset's flag, which empties all; no interrupt's does
-abbrev pub emptying : Way Answer Pages → Ans Answer → Bool
+abbrev pub emptying : Pending Answer Pages → Ans Answer → Bool
 emptying w a = cond (inInterrupt w) false (releasing a)
 
--- one with which IN e may be loaded: its transmit address, or a length 0 for it. Not every length 0 is a load's: after an empty packet's address its own
--- length is 0 too
+-- one with which IN e may be loaded: its transmit address, or a length 0 for it. Not every length 0 is a load's: after
+-- an empty packet's address its own length is 0 too
 abbrev pub loads : Access → ℕ → Bool
 loads (Read r f) e = false
 loads (Write r f v) e = sameReg r EpTLen && (eqb v 0 && eqb (e % 16) (f % 16))
@@ -236,7 +258,8 @@ loads Callback e = false
 abbrev pub loading : Ans Answer → ℕ → Bool
 loading a e = handsOut (λ q. loads q e) a
 
--- "Load: what the Rust's tail passes waits no more": the one being sent may pass; all others wait on, and none is queued
+-- "Load: what the Rust's tail passes waits no more": the one being sent may pass; all others wait on, and none is
+-- queued
 pub record PassesOn (p p′ : InPage) : Type 0 where
   pub waiting : (p′ .waiting ≡ p .waiting) ⊎ ((p .sending ≡ true) × (p′ .waiting ≡ tail (p .waiting)))
   pub queued : p′ .queued ≡ p .queued
@@ -263,18 +286,19 @@ abbrev pub NoneLeft : InPage → Type 0
 NoneLeft p = (p .waiting ≡ []) × (p .sending ≡ false)
 
 -- a call that rows 1, 2, 3, 15 or 16 stop, or a question
-abbrev pub keepsOut : Way Answer Pages → Op → Bool
+abbrev pub keepsOut : Pending Answer Pages → Op → Bool
 keepsOut idle o = false
 keepsOut (busy i w k) o = cond (cond i (calls .aside o) false) false true
 
-abbrev pub notGoing : Way Answer Pages → ℕ → Bool
+abbrev pub notGoing : Pending Answer Pages → ℕ → Bool
 notGoing idle v = true
 notGoing (busy i w k) v = over calls w v
 
 abbrev pub stopped : Call Config Op → Machine Answer Pages → Buf → Bool
 stopped (start g) n b = cond (eqb (startRow g b) zero) false true
-stopped (begin o) n b = cond (cond (calls .slots o) (misfit calls (book .driver) (n .st) b) false) true (keepsOut (n .way) o)
-stopped (go v) n b = cond (misfit calls (book .driver) (n .st) b) true (notGoing (n .way) v)
+stopped (begin o) n b = cond (cond (calls .slots o) (misfit calls (book .driver) (n .st) b) false) true
+    (keepsOut (n .under-way) o)
+stopped (continue v) n b = cond (misfit calls (book .driver) (n .st) b) true (notGoing (n .under-way) v)
 stopped (question q) n b = true
 
 -- the row by which a call is refused; 0: by none
@@ -307,24 +331,28 @@ asideRow t (Queue e bytes) = cond (eqb (t .kept .globals .stage) 2)
 
 -- an allocation, at any time; and before EP0's start, from which on the stage is 2, all that is begun and continued
 pub data BeforeStart (t : Pages) : Call Config Op → Type 0 where
-  allocation : (d : Dir) (kind address maximum interval : ℕ) → BeforeStart t (begin (other (Allocate d kind address maximum interval)))
+  allocation : (d : Dir) (kind address maximum interval : ℕ)
+      → BeforeStart t (begin (other (Allocate d kind address maximum interval)))
   allocations : (bytes : List ℕ) → BeforeStart t (begin (other (AllocateAll bytes)))
   begun : (o : Op) → t .kept .globals .stage ≢ 2 → BeforeStart t (begin o)
-  continued : (v : ℕ) → t .kept .globals .stage ≢ 2 → BeforeStart t (go v)
+  continued : (v : ℕ) → t .kept .globals .stage ≢ 2 → BeforeStart t (continue v)
 
 -- the length of a slot
 abbrev pub slotSize : Pages → ℕ
 slotSize t = t .kept .allocator .size
 
--- the first of those waiting on IN e is being sent: from the call that hands out its slot's transmit address on, up to the one in which the tail
--- passes it, its endpoint is reset or given by an allocation, or a start-up is accepted (Book: sentIn; passedIn, emptyIn, freshPages)
+-- the first of those waiting on IN e is being sent: from the call that hands out its slot's transmit address on, up to
+-- the one in which the tail passes it, its endpoint is reset or given by an allocation, or a start-up is accepted
+-- (Book: sentIn; passedIn, emptyIn, freshPages)
 abbrev pub BeingSent : Pages → ℕ → Type 0
 BeingSent t e = t .ins e .sending ≡ true
 
--- what one call makes of the packet being sent on IN e: it is being sent still, from the same slot, and what was shown of it stands; or the tail has
--- passed it; or its endpoint was reset or given by an allocation, or a start-up was accepted
+-- what one call makes of the packet being sent on IN e: it is being sent still, from the same slot, and what was shown
+-- of it stands; or the tail has passed it; or its endpoint was reset or given by an allocation, or a start-up was
+-- accepted
 pub data Sends (e : ℕ) (t t′ : Pages) : Type 0 where
-  still : BeingSent t′ e → t′ .ins e .source ≡ t .ins e .source → t′ .ins e .shown ≡ t .ins e .shown → slotSize t′ ≡ slotSize t → Sends e t t′
+  still : BeingSent t′ e → t′ .ins e .source ≡ t .ins e .source → t′ .ins e .shown ≡ t .ins e .shown → slotSize t′
+      ≡ slotSize t → Sends e t t′
   passed-by : (bytes : List ℕ) → t′ .ins e .passed ≡ t .ins e .passed ++ (bytes ∷ []) → Sends e t t′
   emptied : EmptiedIn (t′ .ins e) → Sends e t t′
 
@@ -359,9 +387,12 @@ pub data EndsWith : Op → Answer → Type 0 where
 abbrev pub AtOnce : Op → Ans Answer → Type 0
 AtOnce o a = (z : Answer) × (a ≡ ended z) × EndsWith o z
 
--- a call c, lent a slot buffer; the book before it; its answer, the driver's state, the slot buffer and the book after it
-pub record Sentences (c : Call Config Op) (lent : Buf) (n : Machine Answer Pages) (a : Ans Answer) (d : Driver) (b : Buf) (t′ : Pages) : Type 0 where
-  -- "the packets read in its stretch, then those queued, are exactly that stretch's admitted arrivals, in order": bytes and stamps as at admission
+-- a call c, lent a slot buffer; the book before it; its answer, the driver's state, the slot buffer and the book after
+-- it
+pub record Sentences (c : Call Config Op) (lent : Buf) (n : Machine Answer Pages) (a : Ans Answer) (d : Driver)
+    (b : Buf) (t′ : Pages) : Type 0 where
+  -- "the packets read in its stretch, then those queued, are exactly that stretch's admitted arrivals, in order": bytes
+  -- and stamps as at admission
   pub read-then-waiting : (e : ℕ) → bytesOf (t′ .outs e .read) ++ ringBytes d b e ≡ bytesOf (t′ .outs e .admitted)
   pub read-then-stamps : (e : ℕ) → stampsOf (t′ .outs e .read) ++ ringStamps d e ≡ stampsOf (t′ .outs e .admitted)
   -- "At most 15 wait"
@@ -374,8 +405,9 @@ pub record Sentences (c : Call Config Op) (lent : Buf) (n : Machine Answer Pages
   -- "an arrival is turned away exactly when 15 do"
   pub decided : (e : ℕ) → Decides c n a e → Decided lent (n .st .outs e) (t′ .outs e)
   -- "An arrival is an enabled isochronous OUT endpoint": at a receive address of any other no packet changes. One that
-  -- is enabled is isochronous, so that overruns answers its count, and allocated, so that the chip may store in its slot
-  pub disabled-leaves : (e v : ℕ) → c ≡ go v → inInterrupt (n .way) ≡ true → receiving (n .st) e ≡ false
+  -- is enabled is isochronous, so that overruns answers its count, and allocated, so that the chip may store in its
+  -- slot
+  pub disabled-leaves : (e v : ℕ) → c ≡ continue v → inInterrupt (n .under-way) ≡ true → receiving (n .st) e ≡ false
       → SamePackets (n .st .outs e) (t′ .outs e)
   -- and one that is isochronous and enabled receives
   pub enabled-receives : (e : ℕ) → isoOf t′ Out e ≡ true
@@ -387,7 +419,8 @@ pub record Sentences (c : Call Config Op) (lent : Buf) (n : Machine Answer Pages
   pub ep0-told : (x : ℕ) → a ≡ handed (Ep0Dma x) → x ≡ t′ .kept .globals .«ep0_buf»
   -- and it changes at such an address alone: of an interrupt's continue `unmoved` says so; of another's, but for the
   -- release of a bus reset's flag; of a begin, but for those before EP0's start
-  pub unmoved-slot : (e v : ℕ) → c ≡ go v → inInterrupt (n .way) ≡ false → releasing a ≡ false → addressed a e ≡ false
+  pub unmoved-slot : (e v : ℕ) → c ≡ continue v → inInterrupt (n .under-way) ≡ false → releasing a ≡ false
+      → addressed a e ≡ false
       → t′ .outs e ≡ n .st .outs e
   pub begin-slot : (o : Op) (e : ℕ) → c ≡ begin o → (BeforeStart (n .st) (begin o) → ⊥) → addressed a e ≡ false
       → t′ .outs e .slot ≡ n .st .outs e .slot
@@ -395,29 +428,36 @@ pub record Sentences (c : Call Config Op) (lent : Buf) (n : Machine Answer Pages
   -- poll end at once, with an answer of which `Compared` speaks or that leaves the pages. An enabling that ends at once
   -- is refused, else it resets
   pub asides-end : (o : Aside) → c ≡ begin (aside o) → AtOnce (aside o) a
-  -- "rows 12, 13 and 14 go by the book", and 4, 5, 9 to 11 before them: which row refuses one that rows 1 and 3 do not
-  -- stop, and that none does
+  -- "rows 12, 13 and 14 continue by the book", and 4, 5, 9 to 11 before them: which row refuses one that rows 1 and 3
+  -- do not stop, and that none does
   pub asides-rows : (o : Aside) → c ≡ begin (aside o) → stopped c n lent ≡ false → rowOf a ≡ asideRow (n .st) o
   pub polls-end : (e k : ℕ) → c ≡ begin (slotted (PollRead e k)) → AtOnce (slotted (PollRead e k)) a
   pub enabling-ends : (dir : Dir) (e : ℕ) (on : Bool) (z : Answer)
       → c ≡ begin (slotted (SetEnabled dir e on)) → a ≡ ended z → (r : ℕ) × (z ≡ Refused r)
-  -- "All else, refusals too: no change": a continue of an interrupt changes the page of an OUT at its receive address alone, one of another operation
-  -- no packet of an OUT
-  pub unmoved : (e v : ℕ) → c ≡ go v → inInterrupt (n .way) ≡ true → addressed a e ≡ false → t′ .outs e ≡ n .st .outs e
-  pub unmoved-out : (e v : ℕ) → c ≡ go v → inInterrupt (n .way) ≡ false → releasing a ≡ false → SamePackets (n .st .outs e) (t′ .outs e)
+  -- "All else, refusals too: no change": a continue of an interrupt changes the page of an OUT at its receive address
+  -- alone, one of another operation no packet of an OUT
+  pub unmoved : (e v : ℕ) → c ≡ continue v → inInterrupt (n .under-way) ≡ true → addressed a e ≡ false → t′ .outs e
+      ≡ n .st .outs e
+  pub unmoved-out : (e v : ℕ) → c ≡ continue v → inInterrupt (n .under-way) ≡ false → releasing a ≡ false
+      → SamePackets (n .st .outs e) (t′ .outs e)
   -- a continue changes the page of an IN at a load alone, where no packet but the one being sent ceases to wait
-  pub unmoved-in : (e v : ℕ) → c ≡ go v → emptying (n .way) a ≡ false → loading a e ≡ false → t′ .ins e ≡ n .st .ins e
-  pub load-passes : (e v : ℕ) → c ≡ go v → emptying (n .way) a ≡ false → PassesOn (n .st .ins e) (t′ .ins e)
-  -- "or the length 0 where none is left": with a length 0 the page stays, as with an empty packet's own, or none is left
-  pub length-0 : (e v : ℕ) → c ≡ go v → emptying (n .way) a ≡ false → a ≡ handed (Write EpTLen e 0) → (t′ .ins e ≡ n .st .ins e) ⊎ NoneLeft (t′ .ins e)
+  pub unmoved-in : (e v : ℕ) → c ≡ continue v → emptying (n .under-way) a ≡ false → loading a e ≡ false → t′ .ins e
+      ≡ n .st .ins e
+  pub load-passes : (e v : ℕ) → c ≡ continue v → emptying (n .under-way) a ≡ false → PassesOn (n .st .ins e) (t′ .ins e)
+  -- "or the length 0 where none is left": with a length 0 the page stays, as with an empty packet's own, or none is
+  -- left
+  pub length-0 : (e v : ℕ) → c ≡ continue v → emptying (n .under-way) a ≡ false → a ≡ handed (Write EpTLen e 0)
+      → (t′ .ins e ≡ n .st .ins e) ⊎ NoneLeft (t′ .ins e)
   -- the begin of an advance changes none
   pub advance-begins : (e f : ℕ) → c ≡ begin (other (Advance e)) → t′ .ins f ≡ n .st .ins f
   -- an allocation changes no packet of any endpoint, nor does any call but a start-up before EP0's start
-  pub early-leaves : BeforeStart (n .st) c → (e : ℕ) → SamePackets (n .st .outs e) (t′ .outs e) × (t′ .ins e ≡ n .st .ins e)
+  pub early-leaves : BeforeStart (n .st) c → (e : ℕ) → SamePackets (n .st .outs e) (t′ .outs e)
+      × (t′ .ins e ≡ n .st .ins e)
   -- a call that any row refuses leaves the pages of all endpoints; so does a poll that is not done yet
   pub refusal-leaves : (r : ℕ) → a ≡ ended (Refused r) → (e : ℕ) → (t′ .outs e ≡ n .st .outs e) × (t′ .ins e ≡ n .st .ins e)
   pub not-yet-leaves : a ≡ ended NotYet → (e : ℕ) → (t′ .outs e ≡ n .st .outs e) × (t′ .ins e ≡ n .st .ins e)
-  -- a question and a call that rows 1, 2, 3, 15 or 16 stop leave the book; so does an open, close or queue that any row refuses
+  -- a question and a call that rows 1, 2, 3, 15 or 16 stop leave the book; so does an open, close or queue that any row
+  -- refuses
   pub stopped-leaves : stopped c n lent ≡ true → t′ ≡ n .st
   pub refused-leaves : (o : Aside) (r : ℕ) → c ≡ begin (aside o) → a ≡ ended (Refused r) → t′ ≡ n .st
   -- "overruns": the count of Compared is that of the arrivals turned away since the start-up
@@ -426,10 +466,12 @@ pub record Sentences (c : Call Config Op) (lent : Buf) (n : Machine Answer Pages
   pub starts-anew : (g : Config) → c ≡ start g → startRow g lent ≡ zero → (e : ℕ)
       → (t′ .outs e .lost ≡ 0) × (t′ .outs e .waiting ≡ []) × (t′ .outs e .opened ≡ false)
       × (t′ .outs e .admitted ≡ []) × (t′ .outs e .read ≡ []) × EmptiedIn (t′ .ins e)
-  -- "Reset: none wait on that endpoint": an endpoint that is enabled or disabled, in the call that hands out the first access
-  pub enabling-resets : (dir : Dir) (e : ℕ) (on : Bool) (q : Access) → c ≡ begin (slotted (SetEnabled dir e on)) → a ≡ handed q → Emptied dir e (n .st) t′
+  -- "Reset: none wait on that endpoint": an endpoint that is enabled or disabled, in the call that hands out the first
+  -- access
+  pub enabling-resets : (dir : Dir) (e : ℕ) (on : Bool) (q : Access) → c ≡ begin (slotted (SetEnabled dir e on)) → a
+      ≡ handed q → Emptied dir e (n .st) t′
   -- every endpoint, in the call in which a bus reset releases its flag; so would a begin that did
-  pub bus-reset-empties : (v : ℕ) → c ≡ go v → inInterrupt (n .way) ≡ false → releasing a ≡ true
+  pub bus-reset-empties : (v : ℕ) → c ≡ continue v → inInterrupt (n .under-way) ≡ false → releasing a ≡ true
       → (dir : Dir) (e : ℕ) → Emptied dir e (n .st) t′
   pub begin-empties : (o : Op) → c ≡ begin o → releasing a ≡ true → (dir : Dir) (e : ℕ) → Emptied dir e (n .st) t′
   -- IN: "at most 2 wait"
@@ -437,58 +479,67 @@ pub record Sentences (c : Call Config Op) (lent : Buf) (n : Machine Answer Pages
   -- "each reaches the chip at most once and in order": those handed to the chip are a beginning of those queued
   pub sent-in-order : (e : ℕ) → (later : List (List ℕ)) × (t′ .ins e .sent ++ later ≡ t′ .ins e .queued)
   pub passed-then-waiting : (e : ℕ) → t′ .ins e .passed ++ t′ .ins e .waiting ≡ t′ .ins e .queued
-  pub sent-is : (e : ℕ) → t′ .ins e .sent ≡ t′ .ins e .passed ++ cond (t′ .ins e .sending) (front (t′ .ins e .waiting)) []
-  -- "a slot is being sent from the call of iso_in_load that hands out its address": where an interrupt goes on and hands out a transmit address, or
-  -- any other operation does after EP0's start, one waits, and the first is being sent, from that address; a begin's likewise, but of an
+  pub sent-is : (e : ℕ) → t′ .ins e .sent ≡ t′ .ins e .passed
+      ++ cond (t′ .ins e .sending) (front (t′ .ins e .waiting)) []
+  -- "a slot is being sent from the call of iso_in_load that hands out its address": where an interrupt goes on and
+  -- hands out a transmit address, or any other operation does after EP0's start, one waits, and the first is being
+  -- sent, from that address; a begin's likewise, but of an
   -- IN that is enabled or disabled: its own, and its page is empty then
-  pub load-sends : (e x v : ℕ) → c ≡ go v → (inInterrupt (n .way) ≡ false → n .st .kept .globals .stage ≡ 2) → a ≡ handed (Transmit e x)
+  pub load-sends : (e x v : ℕ) → c ≡ continue v → (inInterrupt (n .under-way) ≡ false → n .st .kept .globals .stage ≡ 2) → a ≡ handed (Transmit e x)
       → SentFrom x (t′ .ins e)
-  -- "On IN the tail moves in the same call that hands out the next transmit address, then past the packets before that one": the one that was being
-  -- sent waits no more, all others do
-  pub load-moves : (e x v : ℕ) → c ≡ go v → (inInterrupt (n .way) ≡ false → n .st .kept .globals .stage ≡ 2) → a ≡ handed (Transmit e x)
+  -- "On IN the tail moves in the same call that hands out the next transmit address, then past the packets before that
+  -- one": the one that was being sent waits no more, all others do
+  pub load-moves : (e x v : ℕ) → c ≡ continue v → (inInterrupt (n .under-way) ≡ false → n .st .kept .globals .stage ≡ 2)
+      → a ≡ handed (Transmit e x)
       → t′ .ins e .waiting ≡ cond (n .st .ins e .sending) (tail (n .st .ins e .waiting)) (n .st .ins e .waiting)
-  pub begin-sends : (o : Op) (e x : ℕ) → c ≡ begin o → enabling o ≡ false → n .st .kept .globals .stage ≡ 2 → a ≡ handed (Transmit e x)
+  pub begin-sends : (o : Op) (e x : ℕ) → c ≡ begin o → enabling o ≡ false → n .st .kept .globals .stage ≡ 2 → a
+      ≡ handed (Transmit e x)
       → SentFrom x (t′ .ins e)
   pub enabling-places : (e f x : ℕ) (on : Bool) → c ≡ begin (slotted (SetEnabled In f on)) → a ≡ handed (Transmit e x) → e % 16 ≡ f % 16
-  -- "until the tail passes it, a reset or a start-up": nothing else ends a sending. A transmit address that is a load's is that of the slot being sent
+  -- "until the tail passes it, a reset or a start-up": nothing else ends a sending. A transmit address that is a load's
+  -- is that of the slot being sent
   pub sending-ends : (e : ℕ) → BeingSent (n .st) e → Sends e (n .st) t′
-  pub load-tells : (e x : ℕ) → a ≡ handed (Transmit e x) → t′ .ins e .load ≡ true → BeingSent t′ e × (t′ .ins e .source ≡ x)
-  -- "no slot being sent is written", whatever the chip stores, where it may, before the next call
+  pub load-tells : (e x : ℕ) → a ≡ handed (Transmit e x) → t′ .ins e .load ≡ true → BeingSent t′ e
+      × (t′ .ins e .source ≡ x)
+  -- "no slot being sent is bookStep", whatever the chip stores, where it may, before the next call
   pub unwritten : (b′ : Buf) → Chip t′ b b′ → Unwritten t′ b′
   -- demand 1: no address that is handed out reaches outside the lent buffer
   pub inside : Inside a b t′
 
-pub record AfterCall (c : Call Config Op) (lent : Buf) (n : Machine Answer Pages) (a : Ans Answer) (d : Driver) (b : Buf) (t′ : Pages) : Type 0 where
+pub record AfterCall (c : Call Config Op) (lent : Buf) (n : Machine Answer Pages) (a : Ans Answer) (d : Driver)
+    (b : Buf) (t′ : Pages) : Type 0 where
   pub compared : Compared c (n .st) a d b t′
   pub sentences : Sentences c lent n a d b t′
 
--- "Length: the one of this interrupt, else by the marks": of an arrival that joins those waiting in call m, by what the operation under way was
--- brought, this call's number too (Lengths.antt)
-abbrev pub LengthIs : Made → Machine Answer Pages → Known → Type 0
-LengthIs m n k = (e : ℕ) → Decides (m .event .call) n (m .answer) e → (q : Packet) → noted m n .1 .st .outs e .waiting ≡ n .st .outs e .waiting ++ (q ∷ [])
+-- "Length: the one of this interrupt, else by the marks": of an arrival that joins those waiting in call m, by what the
+-- operation under way was brought, this call's number too (Lengths.antt)
+abbrev pub LengthIs : CallRecord → Machine Answer Pages → Known → Type 0
+LengthIs m n k = (e : ℕ) → Decides (m .event .call) n (m .answer) e → (q : Packet)
+    → bookAfter m n .1 .st .outs e .waiting ≡ n .st .outs e .waiting ++ (q ∷ [])
     → length (q .bytes) ≡ lengthAt (k .readings) (m .event .lent) (n .st) e
 
--- "All else, refusals too: no change": call m leaves the pages of every endpoint that it does not name; k: what the operation under way names. The
--- release of a bus reset's flag empties all (`bus-reset-empties`)
-abbrev pub OthersStay : Made → Machine Answer Pages → Names → Type 0
-OthersStay m n k = releasing (m .answer) ≡ false → (d : Dir) (e : ℕ) → Away (callNames (m .event .call) k) d e → SamePage d e (n .st) (noted m n .1 .st)
+-- "All else, refusals too: no change": call m leaves the pages of every endpoint that it does not name; k: what the
+-- operation under way names. The release of a bus reset's flag empties all (`bus-reset-empties`)
+abbrev pub OthersStay : CallRecord → Machine Answer Pages → Names → Type 0
+OthersStay m n k = releasing (m .answer) ≡ false → (d : Dir) (e : ℕ) → Away (callNames (m .event .call) k) d e
+    → SamePage d e (n .st) (bookAfter m n .1 .st)
 
 -- "An arrival is ..": what is decided is one, found by an interrupt that checks, by what that interrupt was brought
 -- and its calls were lent, this call's number too (Arrivals.antt)
-abbrev pub ArrivalIs : Made → Machine Answer Pages → Note → Type 0
+abbrev pub ArrivalIs : CallRecord → Machine Answer Pages → Note → Type 0
 ArrivalIs m n k = (e : ℕ) (d : Decides (m .event .call) n (m .answer) e)
     → (checks (brings (d .brought) k) ≡ true) × Arrival (brings (d .brought) k) (n .st) (m .event .lent) e
 
 -- "Checks fall where the Rust's do": an interrupt that has to check and ends has looked at every enabled isochronous
 -- OUT, and so has missed no arrival
-abbrev pub NoneMissed : Made → Machine Answer Pages → Note → Type 0
-NoneMissed m n k = (v r : ℕ) (ws : List ℕ) → m .event .call ≡ go v → inInterrupt (n .way) ≡ true
+abbrev pub NoneMissed : CallRecord → Machine Answer Pages → Note → Type 0
+NoneMissed m n k = (v r : ℕ) (ws : List ℕ) → m .event .call ≡ continue v → inInterrupt (n .under-way) ≡ true
     → m .answer ≡ ended (End r ws) → due (brings v k) ≡ true → (e : ℕ) → e < 16 → receiving (n .st) e ≡ true
     → (k .looked e || looks (brings v k) (n .st) (m .event .lent) (m .answer) e) ≡ true
 
 -- "Endpoint sets are walked lowest number first": what an interrupt decides is above all that it decided before, so
 -- each at most once; b: one more than the last of these
-abbrev pub InOrder : Made → Machine Answer Pages → ℕ → Type 0
+abbrev pub InOrder : CallRecord → Machine Answer Pages → ℕ → Type 0
 InOrder m n b = (e : ℕ) → Decides (m .event .call) n (m .answer) e → b ≤ e
 
 -- the length x that a continue writes for IN e; own: its own transmit address was handed out just before. Then, where
@@ -500,84 +551,94 @@ LengthWritten true x p p′ =
     (p′ ≡ p) × ((bytes : List ℕ) (rest : List (List ℕ)) → p .load ≡ true → p .waiting ≡ bytes ∷ rest → x ≡ length bytes)
 LengthWritten false x p p′ = (x ≡ 0) × NoneLeft p′
 
-abbrev pub LoadLength : Made → Machine Answer Pages → Known → Type 0
-LoadLength m n k = (e x v : ℕ) → 0 < e → m .event .call ≡ go v → m .answer ≡ handed (Write EpTLen e x)
-    → LengthWritten (sendsTo (k .asked) e) x (n .st .ins e) (noted m n .1 .st .ins e)
+abbrev pub LoadLength : CallRecord → Machine Answer Pages → Known → Type 0
+LoadLength m n k = (e x v : ℕ) → 0 < e → m .event .call ≡ continue v → m .answer ≡ handed (Write EpTLen e x)
+    → LengthWritten (sendsTo (k .asked) e) x (n .st .ins e) (bookAfter m n .1 .st .ins e)
 
--- which endpoints are enabled is what was last written to ep_config
-abbrev pub ConfigKept : Made → Machine Answer Pages → Type 0
-ConfigKept m n = (v : ℕ) → m .answer ≡ handed (Write EpConfig 0 v) → noted m n .1 .st .kept .globals .«ep_config» ≡ v
+-- which endpoints are enabled is what was last bookStep to ep_config
+abbrev pub ConfigKept : CallRecord → Machine Answer Pages → Type 0
+ConfigKept m n = (v : ℕ) → m .answer ≡ handed (Write EpConfig 0 v) → bookAfter m n .1 .st .kept .globals .«ep_config» ≡ v
 
 -- ---- the statement
 
 -- of each call of a list that was made, with the book before it
-abbrev pub AfterEach : Machine Answer Pages → List Made → Type 0
+abbrev pub AfterEach : Machine Answer Pages → List CallRecord → Type 0
 AfterEach n [] = Unit {0}
 AfterEach n (m ∷ ms) =
-    AfterCall (m .event .call) (m .event .lent) n (m .answer) (view (m .bytes)) (m .slots) (noted m n .1 .st) × AfterEach (noted m n .1) ms
+    AfterCall (m .event .call) (m .event .lent) n (m .answer) (view (m .bytes)) (m .slots) (bookAfter m n .1 .st)
+    × AfterEach (bookAfter m n .1) ms
 
 -- and the lengths, with what was brought before it
-abbrev pub LengthsEach : Machine Answer Pages → Known → List Made → Type 0
+abbrev pub LengthsEach : Machine Answer Pages → Known → List CallRecord → Type 0
 LengthsEach n k [] = Unit {0}
-LengthsEach n k (m ∷ ms) = let l = learnt (m .event .call) (m .answer) k in LengthIs m n l × LengthsEach (noted m n .1) l ms
+LengthsEach n k (m ∷ ms) = let l = learnt (m .event .call) (m .answer) k in LengthIs m n l
+    × LengthsEach (bookAfter m n .1) l ms
 
-abbrev pub OthersEach : Machine Answer Pages → Names → List Made → Type 0
+abbrev pub OthersEach : Machine Answer Pages → Names → List CallRecord → Type 0
 OthersEach n k [] = Unit {0}
-OthersEach n k (m ∷ ms) = OthersStay m n k × OthersEach (noted m n .1) (underWay (m .event .call) (m .answer) k) ms
+OthersEach n k (m ∷ ms) = OthersStay m n k × OthersEach (bookAfter m n .1) (underWay (m .event .call) (m .answer) k) ms
 
-abbrev pub ArrivalsEach : Machine Answer Pages → Note → List Made → Type 0
+abbrev pub ArrivalsEach : Machine Answer Pages → Note → List CallRecord → Type 0
 ArrivalsEach n k [] = Unit {0}
 ArrivalsEach n k (m ∷ ms) = ArrivalIs m n k × NoneMissed m n k
-    × ArrivalsEach (noted m n .1) (after (m .event .call) (m .answer) (n .st) (m .event .lent) k) ms
+    × ArrivalsEach (bookAfter m n .1) (after (m .event .call) (m .answer) (n .st) (m .event .lent) k) ms
 
-abbrev pub OrderEach : Machine Answer Pages → ℕ → List Made → Type 0
+abbrev pub OrderEach : Machine Answer Pages → ℕ → List CallRecord → Type 0
 OrderEach n b [] = Unit {0}
-OrderEach n b (m ∷ ms) = InOrder m n b × OrderEach (noted m n .1) (above (m .event .call) (m .answer) b) ms
+OrderEach n b (m ∷ ms) = InOrder m n b × OrderEach (bookAfter m n .1) (above (m .event .call) (m .answer) b) ms
 
-abbrev pub WritesEach : Machine Answer Pages → Known → List Made → Type 0
+abbrev pub WritesEach : Machine Answer Pages → Known → List CallRecord → Type 0
 WritesEach n k [] = Unit {0}
 WritesEach n k (m ∷ ms) =
-    LoadLength m n k × ConfigKept m n × WritesEach (noted m n .1) (learnt (m .event .call) (m .answer) k) ms
+    LoadLength m n k × ConfigKept m n × WritesEach (bookAfter m n .1) (learnt (m .event .call) (m .answer) k) ms
 
 -- the book answers the same, questions too, but for the addresses of accesses
-abbrev pub AnswersEach : Machine Answer Pages → List Made → Type 0
+abbrev pub AnswersEach : Machine Answer Pages → List CallRecord → Type 0
 AnswersEach n [] = Unit {0}
-AnswersEach n (m ∷ ms) = (blankA (m .answer) ≡ blankA (noted m n .0)) × AnswersEach (noted m n .1) ms
+AnswersEach n (m ∷ ms) = (blankA (m .answer) ≡ blankA (bookAfter m n .0)) × AnswersEach (bookAfter m n .1) ms
 
--- the state's bytes xs, the slot buffer a and the book n may be any. The first call is a start-up that rows 1 and 2 do not stop, and any calls
--- follow: refused ones and start-ups too, ending anywhere, whatever the chip answers. Nor does it matter what was under way before
+-- the state's bytes xs, the slot buffer a and the book n may be any. The first call is a start-up that rows 1 and 2 do
+-- not stop, and any calls follow: refused ones and start-ups too, ending anywhere, whatever the chip answers. Nor does
+-- it matter what was under way before
 abbrev pub Demand3 : Type 0
-Demand3 = (c : Config) (b : Buf) → startRow c b ≡ zero → (xs : List ℕ) (a : Buf) (n : Machine Answer Pages) (first : Made)
-    → first .event ≡ record { call = start c; lent = b } → (ms : List Made) → Calls xs a n (first ∷ ms)
-    → AfterEach n (first ∷ ms) × ((k : Known) → LengthsEach n k (first ∷ ms)) × ((k : Names) → OthersEach n k (first ∷ ms))
+Demand3 = (c : Config) (b : Buf) → startRow c b ≡ zero
+    → (xs : List ℕ) (a : Buf) (n : Machine Answer Pages) (first : CallRecord)
+    → first .event ≡ record { call = start c; lent = b } → (ms : List CallRecord) → Calls xs a n (first ∷ ms)
+    → AfterEach n (first ∷ ms) × ((k : Known) → LengthsEach n k (first ∷ ms))
+    × ((k : Names) → OthersEach n k (first ∷ ms))
     × ((k : Note) → ArrivalsEach n k (first ∷ ms)) × ((k : ℕ) → OrderEach n k (first ∷ ms))
     × ((k : Known) → WritesEach n k (first ∷ ms)) × AnswersEach n (first ∷ ms)
 
--- ---- no slot being sent is written, between two moments
+-- ---- no slot being sent is bookStep, between two moments
 
 -- the slot buffer and the book after calls
-abbrev pub slotsAfter : Buf → List Made → Buf
+abbrev pub slotsAfter : Buf → List CallRecord → Buf
 slotsAfter b [] = b
 slotsAfter b (m ∷ ms) = slotsAfter (m .slots) ms
 
-abbrev pub bookAfter : Machine Answer Pages → List Made → Machine Answer Pages
-bookAfter n [] = n
-bookAfter n (m ∷ ms) = bookAfter (noted m n .1) ms
+abbrev pub bookAfterAll : Machine Answer Pages → List CallRecord → Machine Answer Pages
+bookAfterAll n [] = n
+bookAfterAll n (m ∷ ms) = bookAfterAll (bookAfter m n .1) ms
 
--- calls in which the tail does not pass the packet that is being sent on IN e, and no reset, allocation or start-up empties its page
-abbrev pub NotEnded : ℕ → Machine Answer Pages → List Made → Type 0
+-- calls in which the tail does not pass the packet that is being sent on IN e, and no reset, allocation or start-up
+-- empties its page
+abbrev pub NotEnded : ℕ → Machine Answer Pages → List CallRecord → Type 0
 NotEnded e n [] = Unit {0}
 NotEnded e n (m ∷ ms) =
-    let p = noted m n .1 .st .ins e in
-    (p .passed ≡ n .st .ins e .passed) × (EmptiedIn p → ⊥) × NotEnded e (noted m n .1) ms
+    let p = bookAfter m n .1 .st .ins e in
+    (p .passed ≡ n .st .ins e .passed) × (EmptiedIn p → ⊥) × NotEnded e (bookAfter m n .1) ms
 
--- "from the call that hands out its address until the tail passes it, a reset or a start-up, all of its `size` bytes stay". A list of calls cut in three:
--- those before; the one that hands out the address x of the slot of a packet on IN e; and further ones that do not end its sending. All bytes of
--- the slot are in the buffer as the last call left it, and after what the chip then stores where it may, as the one that handed out x left them
+-- "from the call that hands out its address until the tail passes it, a reset or a start-up, all of its `size` bytes
+-- stay". A list of calls cut in three: those before; the one that hands out the address x of the slot of a packet on IN
+-- e; and further ones that do not end its sending. All bytes of the slot are in the buffer as the last call left it,
+-- and after what the chip then stores where it may, as the one that handed out x left them
 abbrev pub SlotsStay : Type 0
-SlotsStay = (c : Config) (b : Buf) → startRow c b ≡ zero → (xs : List ℕ) (a : Buf) (n : Machine Answer Pages) (first : Made)
-    → first .event ≡ record { call = start c; lent = b } → (before : List Made) (hands : Made) (further : List Made)
+SlotsStay = (c : Config) (b : Buf) → startRow c b ≡ zero
+    → (xs : List ℕ) (a : Buf) (n : Machine Answer Pages) (first : CallRecord)
+    → first .event ≡ record { call = start c; lent = b }
+    → (before : List CallRecord) (hands : CallRecord) (further : List CallRecord)
     → Calls xs a n (first ∷ (before ++ (hands ∷ further)))
-    → let n′ = noted hands (bookAfter n (first ∷ before)) .1 in (e x : ℕ) → hands .answer ≡ handed (Transmit e x) → n′ .st .ins e .load ≡ true
-    → NotEnded e n′ further → (b′ : Buf) → Chip (bookAfter n′ further .st) (slotsAfter (hands .slots) further) b′
+    → let n′ = bookAfter hands (bookAfterAll n (first ∷ before)) .1 in (e x : ℕ) → hands .answer ≡ handed (Transmit e x)
+    → n′ .st .ins e .load ≡ true
+    → NotEnded e n′ further → (b′ : Buf) → Chip (bookAfterAll n′ further .st) (slotsAfter (hands .slots) further) b′
     → Same x (x + slotSize (n′ .st)) (hands .slots) b′

@@ -29,7 +29,8 @@ use Rattle.script.specs.Machine.{Buf}
 use Rattle.script_ops.specs.Records.{plainOf, withSets, recordGiven, setsGiven, givenTo}
 use Rattle.proof_book.specs.Pages.{Kept, Pages, at, withKept, keptGlobals, keptAllocator, keptPlain}
 use Rattle.proof_book.specs.Book.{shapedPlain, pagesGiven, givenB}
-use Rattle.proof_book.specs.Coupling.{SameKept, Unused, Shape, Apart, Held, Coupling, lensOf, slotStamps, endOf, ep0Room}
+use Rattle.proof_book.specs.Coupling.{SameKept, Unused, Shape, Apart, Held, Coupling, lensOf, slotStamps, endOf}
+use Rattle.proof_book.specs.Coupling.{ep0Room}
 use Rattle.proof_book.specs.CellsLaws.{key-by, epOn-by, on-key, plain-put}
 use Rattle.proof_book.specs.GivenPartsLaws.{slots-divide, flag-on, flags-same, new-held, receives-by, SetsOnly}
 use Rattle.proof_book.specs.GivenPartsLaws.{outsAfter, sets-only, outs-here, outs-there, Fits, SamePage, fits-as}
@@ -37,10 +38,6 @@ use Rattle.proof_book.specs.GivenPartsLaws.{given-page, pages-kept, Lost
 use Rattle.proof_book.specs.GivenPartsLaws.{ends-as}
 
 -- ---- an accepted allocation
-
-bool-false : (x y : Bool) → (x ≡ true → y ≡ true) → y ≡ false → x ≡ false
-bool-false true y f h = absurd (true≢false (sym (f refl) ∙ h))
-bool-false false y f h = refl
 
 pub low-16 : (e : ℕ) → e ≤ 15 → e % 16 ≡ e
 low-16 e h = omega arith
@@ -51,14 +48,16 @@ unfolding isOut
 added-here e a b dir iso base n g x q = ap (isSet (allocatedIn b dir)) (q ∙ low-16 e (g .number .high))
     ∙ (g .allocates dir e ∙ by dir (eqb e e) (eq-eqb e e refl))
   where
-    by : (dir : Dir) (k : Bool) → k ≡ true → if (sameDir dir dir) (if k true (isSet (allocatedIn a dir) e)) (isSet (allocatedIn a dir) e) ≡ true
+    by : (dir : Dir) (k : Bool) → k ≡ true → if (sameDir dir dir) (if k true (isSet (allocatedIn a dir) e))
+        (isSet (allocatedIn a dir) e) ≡ true
     by Out true h = refl
     by In true h = refl
     by Out false h = absurd (true≢false (sym h))
     by In false h = absurd (true≢false (sym h))
 
 added-there : (e : ℕ) (a b : Allocator) (dir : Dir) (iso : Bool) (base n : ℕ) → Gives a iso dir e base n b
-    → (dir′ : Dir) (x : ℕ) → key dir′ x ≢ key dir e → isSet (allocatedIn b dir′) (x % 16) ≡ isSet (allocatedIn a dir′) (x % 16)
+    → (dir′ : Dir) (x : ℕ) → key dir′ x ≢ key dir e → isSet (allocatedIn b dir′) (x % 16)
+    ≡ isSet (allocatedIn a dir′) (x % 16)
 unfolding key isOut
 added-there e a b dir iso base n g dir′ x q = g .allocates dir′ (x % 16) ∙ by dir dir′ q
   where
@@ -67,13 +66,15 @@ added-there e a b dir iso base n g dir′ x q = g .allocates dir′ (x % 16) ∙
     other dir h true k = absurd (h (sym (eqb-true e (x % 16) k) ∙ sym (low-16 e (g .number .high))))
     other dir h false k = refl
 
-    by : (dir dir′ : Dir) → key dir′ x ≢ key dir e → inAdded (sameDir dir dir′) (allocatedIn a dir′) e (x % 16) ≡ isSet (allocatedIn a dir′) (x % 16)
+    by : (dir dir′ : Dir) → key dir′ x ≢ key dir e → inAdded (sameDir dir dir′) (allocatedIn a dir′) e (x % 16)
+        ≡ isSet (allocatedIn a dir′) (x % 16)
     by Out Out q = other Out q (eqb e (x % 16)) refl
     by Out In q = refl
     by In Out q = refl
     by In In q = other In (λ h. q (ap (16 +_) h)) (eqb e (x % 16)) refl
 
-module _ {b : Buf} {d : Driver} {t : Pages} (r : Coupling quiet b d t) (dir : Dir) (kind maximum interval e base n : ℕ) (a : Allocator)
+module _ {b : Buf} {d : Driver} {t : Pages} (r : Coupling quiet b d t) (dir : Dir) (kind maximum interval e base n : ℕ)
+    (a : Allocator)
     (small : maximum ≤ d .allocator .size) (g : Gives (d .allocator) (isIso kind) dir e base n a) (snd : Sound a) where
   abbrev R : EpState
   R = allocated (epOn d dir e) kind maximum base (a .size) n
@@ -90,7 +91,8 @@ module _ {b : Buf} {d : Driver} {t : Pages} (r : Coupling quiet b d t) (dir : Di
   unused : Unused (epOn d dir e)
   unused = subst (λ (u : Bool). Shape u (d .allocator) dir (epOn d dir e)) fresh-number (r .shape dir e)
 
-  next-mul : (d .allocator .next + n) * d .allocator .size ≡ d .allocator .next * d .allocator .size + n * d .allocator .size
+  next-mul : (d .allocator .next + n) * d .allocator .size ≡ d .allocator .next * d .allocator .size + n
+      * d .allocator .size
   next-mul = add-mul (d .allocator .next) n (d .allocator .size)
 
   below-next : (dir′ : Dir) (x : ℕ) → endOf (epOn d dir′ x) ≤ base
@@ -104,11 +106,20 @@ module _ {b : Buf} {d : Driver} {t : Pages} (r : Coupling quiet b d t) (dir : Di
   low = omega (arith, r .long, r .sound .small)
 
   inside : base + n * a .size ≤ length b
-  inside = rw (g .number .same-size) (omega (arith, g .starts, next-mul, r .long, mul-le-mul-right (d .allocator .size) (g .fits)))
+  inside = rw (g .number .same-size) (omega (
+    arith,
+    g .starts,
+    next-mul,
+    r .long,
+    mul-le-mul-right (d .allocator .size)
+        (g .fits),
+  ))
 
   held : (most : ℕ) (ls : List ℕ) → length ls ≡ 16 → ((i : ℕ) → getD ls i 0 ≤ 0) → Held most b R ls []
-  held most ls l z = subst (λ (k : ℕ). Held most b (allocated (epOn d dir e) kind maximum base (a .size) k) ls []) (sym (g .slots))
-      (new-held most b (epOn d dir e) ls kind maximum base (a .size) dir l z (rw (g .number .same-size) small) (rw (g .slots) at inside) low)
+  held most ls l z = subst (λ (k : ℕ). Held most b (allocated (epOn d dir e) kind maximum base (a .size) k) ls [])
+      (sym (g .slots))
+      (new-held most b (epOn d dir e) ls kind maximum base (a .size) dir l z (rw (g .number .same-size) small)
+      (rw (g .slots) at inside) low)
 
   here : (x : ℕ) → x % 16 ≡ e % 16 → epOn D dir x ≡ R
   unfolding epOn withOn givenTo setsGiven recordGiven
@@ -158,9 +169,11 @@ module _ {b : Buf} {d : Driver} {t : Pages} (r : Coupling quiet b d t) (dir : Di
   fits-after : (dir′ : Dir) (x : ℕ) → Fits dir′ b (epOn D dir′ x) (lensOf D dir′ x) (slotStamps D x) T x
   fits-after = on-key (λ dir′ x. Fits dir′ b (epOn D dir′ x) (lensOf D dir′ x) (slotStamps D x) T x) dir e
       (λ x q. rw (lens-as dir x, stamps-as x)
-      (fits-as dir b R (epOn D dir x) (lensOf d dir x) (slotStamps d x) (pagesGiven dir e base T0) T x (here x q) (page-as dir x)
+      (fits-as dir b R (epOn D dir x) (lensOf d dir x) (slotStamps d x) (pagesGiven dir e base T0) T x (here x q)
+      (page-as dir x)
       (new-fits dir b (epOn d dir e) (lensOf d dir x) (slotStamps d x) T0 kind maximum base (a .size) n e x q
-      (λ most. held most (lensOf d dir x) (length-tab (λ i. lenOn d dir x i) 16) (capped-0 dir x (rw (epOn-by d dir x e q) (unused .stride))))
+      (λ most. held most (lensOf d dir x) (length-tab (λ i. lenOn d dir x i) 16)
+      (capped-0 dir x (rw (epOn-by d dir x e q) (unused .stride))))
       (rw (g .slots) (slots-divide (isIso kind) dir .0)) (lost-as dir e))))
       (λ dir′ x q. rw (lens-as dir′ x, stamps-as x) (fits-as dir′ b (epOn d dir′ x) (epOn D dir′ x)
       (lensOf d dir′ x) (slotStamps d x) t T x (there dir′ x q) (page-there dir′ x q) (fits dir′ x)))
@@ -212,13 +225,16 @@ module _ {b : Buf} {d : Driver} {t : Pages} (r : Coupling quiet b d t) (dir : Di
 
   arming-after : (dir′ : Dir) (x : ℕ) → Rests dir′ (isSet (isoOuts (D .globals)) (x % 16)) (epOn D dir′ x) (T .outs x)
   arming-after = on-key (λ dir′ x. Rests dir′ (isSet (isoOuts (D .globals)) (x % 16)) (epOn D dir′ x) (T .outs x)) dir e
-      (λ x q. rw (here x q) (new-rests dir (epOn d dir e) kind maximum base (a .size) n e x T0 (isSet (isoOuts (D .globals)) (x % 16)) base-low q))
+      (λ x q. rw (here x q) (new-rests dir (epOn d dir e) kind maximum base (a .size) n e x T0
+      (isSet (isoOuts (D .globals)) (x % 16)) base-low q))
       old
     where
-      old : (dir′ : Dir) (x : ℕ) → key dir′ x ≢ key dir e → Rests dir′ (isSet (isoOuts (D .globals)) (x % 16)) (epOn D dir′ x) (T .outs x)
+      old : (dir′ : Dir) (x : ℕ) → key dir′ x ≢ key dir e
+          → Rests dir′ (isSet (isoOuts (D .globals)) (x % 16)) (epOn D dir′ x) (T .outs x)
       old Out x q = rw (
         receives-by (d .globals) (D .globals) x (outs-as .config)
-            (ap (λ (w : ℕ). isSet w (x % 16)) (outs-as .isos) ∙ outs-there (isIso kind) dir e x (d .globals .«iso_out_eps») q),
+            (ap (λ (w : ℕ). isSet w (x % 16)) (outs-as .isos)
+            ∙ outs-there (isIso kind) dir e x (d .globals .«iso_out_eps») q),
         there Out x q,
         page-there Out x q,
       ) (r .arming x)
@@ -258,12 +274,14 @@ module _ {b : Buf} {d : Driver} {t : Pages} (r : Coupling quiet b d t) (dir : Di
       ∙ (subst (λ (z : Dir). isSet (outsAfter (isIso kind) z e (d .globals .«iso_out_eps»)) (x % 16) ≡ isIso kind) p
       (outs-here (isIso kind) e x (d .globals .«iso_out_eps») q
       (r .isos e ∙ subst (λ (z : Dir). isOn (epOn d z e .iso) ≡ false) (sym p) (ap isOn (unused .iso) ∙ flag-on false)))
-      ∙ (sym iso-as ∙ sym (ap (λ (y : EpState). isOn (y .iso)) (subst (λ (z : Dir). epOn D z x ≡ R) (sym p) (here x q)))))
+      ∙ (sym iso-as ∙ sym (ap (λ (y : EpState). isOn (y .iso))
+      (subst (λ (z : Dir). epOn D z x ≡ R) (sym p) (here x q)))))
   isos-here In p x q = tt
 
   isos-there : (dir′ : Dir) (x : ℕ) → key dir′ x ≢ key dir e → IsosAs dir′ x
   isos-there Out x q = ap (λ (w : ℕ). isSet w (x % 16)) (outs-as .isos)
-      ∙ (outs-there (isIso kind) dir e x (d .globals .«iso_out_eps») q ∙ (r .isos x ∙ sym (ap (λ (y : EpState). isOn (y .iso)) (there Out x q))))
+      ∙ (outs-there (isIso kind) dir e x (d .globals .«iso_out_eps») q
+      ∙ (r .isos x ∙ sym (ap (λ (y : EpState). isOn (y .iso)) (there Out x q))))
   isos-there In x q = tt
 
   same-after : SameKept D (keptGlobals (T0 .kept) (withSets dir kind interval e (T0 .kept .globals)))
@@ -299,7 +317,8 @@ module _ {b : Buf} {d : Driver} {t : Pages} (r : Coupling quiet b d t) (dir : Di
   allocator-after = refl
 
   ep0-end : D .globals .«ep0_buf» + ep0Room (D .globals) a ≡ d .globals .«ep0_buf» + ep0Room (d .globals) (d .allocator)
-  ep0-end = ends-as _ _ (d .globals .stage) (D .globals .stage) (d .allocator .size) (a .size) (outs-as .ep0-buf) (outs-as .stage) (g .number .same-size)
+  ep0-end = ends-as _ _ (d .globals .stage) (D .globals .stage) (d .allocator .size) (a .size) (outs-as .ep0-buf)
+      (outs-as .stage) (g .number .same-size)
 
   pub gives : Coupling quiet b D T
   gives = record {
@@ -308,19 +327,23 @@ module _ {b : Buf} {d : Driver} {t : Pages} (r : Coupling quiet b d t) (dir : Di
     sound = rw allocator-after snd;
     good = rw (allocator-after, g .number .same-size) (r .good);
     long = rw (allocator-after, g .number .same-size, g .number .same-count) (r .long);
-    same = subst (λ (k : Kept). SameKept D (keptGlobals k (withSets dir kind interval e (k .globals)))) (sym (pages-kept dir e base T0)) same-after;
-    shape = λ dir′ x. subst (λ (y : Allocator). Shape (isSet (allocatedIn y dir′) (x % 16)) y dir′ (epOn D dir′ x)) (sym allocator-after) (shape-after dir′ x);
+    same = subst (λ (k : Kept). SameKept D (keptGlobals k (withSets dir kind interval e (k .globals))))
+        (sym (pages-kept dir e base T0)) same-after;
+    shape = λ dir′ x. subst (λ (y : Allocator). Shape (isSet (allocatedIn y dir′) (x % 16)) y dir′ (epOn D dir′ x))
+        (sym allocator-after) (shape-after dir′ x);
     outs = fits-after Out;
     ins = fits-after In;
     arming = arming-after Out;
     apart = apart-after;
-    ep0-below = subst (λ (y : Allocator). D .globals .«ep0_buf» + ep0Room (D .globals) y ≤ y .next * y .size) (sym allocator-after)
+    ep0-below = subst (λ (y : Allocator). D .globals .«ep0_buf» + ep0Room (D .globals) y ≤ y .next * y .size)
+        (sym allocator-after)
         (subst (λ (k : ℕ). k ≤ a .next * a .size) (sym ep0-end) (omega (arith, ep0-top, end-below)));
     ep0-apart = λ dir′ x. subst
         (λ (y : Allocator). Apart (D .globals .«ep0_buf») (D .globals .«ep0_buf» + ep0Room (D .globals) y)
         (epOn D dir′ x .base) (endOf (epOn D dir′ x))) (sym allocator-after)
         (subst (λ (k : ℕ). Apart (D .globals .«ep0_buf») k (epOn D dir′ x .base) (endOf (epOn D dir′ x))) (sym ep0-end)
-        (subst (λ (k : ℕ). Apart k (d .globals .«ep0_buf» + ep0Room (d .globals) (d .allocator)) (epOn D dir′ x .base) (endOf (epOn D dir′ x)))
+        (subst (λ (k : ℕ). Apart k (d .globals .«ep0_buf» + ep0Room (d .globals) (d .allocator)) (epOn D dir′ x .base)
+        (endOf (epOn D dir′ x)))
         (sym (outs-as .ep0-buf)) (ep0-apart-after dir′ x)));
     ep0-lies = subst (λ (y : Allocator). D .globals .«ep0_buf» + y .size ≤ length b)
         (sym allocator-after) (rw (outs-as .ep0-buf, g .number .same-size) (r .ep0-lies));

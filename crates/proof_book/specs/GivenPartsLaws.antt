@@ -1,4 +1,5 @@
--- What an accepted allocation changes, part by part: the allocator, the endpoint's record, the sets of endpoints, its page
+-- What an accepted allocation changes, part by part: the allocator, the endpoint's record, the sets of endpoints, its
+-- page
 use mathlib.Core.Bool.{Bool, true, false, cond}
 use mathlib.Core.List.{List, []}
 use mathlib.Core.Logic.{_≢_}
@@ -48,8 +49,14 @@ pub record Further (a b : Allocator) : Type 0 where
 below-further : (a b : Allocator) → Further a b → (n : ℕ) → n ≤ a .next * a .size → n ≤ b .next * b .size
 below-further a b f n h = rw (f .size) (le-trans h (mul-le-mul-right (a .size) (f .next)))
 
-shape-further : (used : Bool) (a b : Allocator) → Further a b → (dir : Dir) (r : EpState) → Shape used a dir r → Shape used b dir r
-shape-further true a b f dir r s = record { stride = s .stride ∙ sym (f .size); slots = s .slots; below = below-further a b f (endOf r) (s .below) }
+shape-further : (used : Bool) (a b : Allocator) → Further a b → (dir : Dir) (r : EpState) → Shape used a dir r
+    → Shape used b dir r
+shape-further true a b f dir r s = record {
+  stride = s .stride ∙ sym (f .size);
+  slots = s .slots;
+  below
+      = below-further a b f (endOf r) (s .below);
+}
 shape-further false a b f dir r s = s
 
 -- the relation with the allocator further on
@@ -58,13 +65,22 @@ pub further : {b : Buf} {d : Driver} {t : Pages} → Coupling quiet b d t → (a
 unfolding epOn lenOn stampOn pacedOn requestOn
 further {b = b} {d = d} {t = t} r a f = record {
   step = tt;
-  sized = record { eps = r .sized .eps; lens = r .sized .lens; stamps = r .sized .stamps; paced = r .sized .paced; requests = r .sized .requests };
+  sized = record {
+    eps = r .sized .eps;
+    lens = r .sized .lens;
+    stamps = r .sized .stamps;
+    paced
+        = r .sized .paced;
+    requests = r .sized .requests;
+  };
   sound = f .sound;
   good = rw (f .size) (r .good);
   long = rw (f .size, f .count) (r .long);
-  same = same-values (r .same) (λ e. refl, λ dir e. refl, λ dir e. refl) (r .same .globals) (r .same .wakes) (r .same .control) refl;
+  same = same-values (r .same) (λ e. refl, λ dir e. refl, λ dir e. refl) (r .same .globals) (r .same .wakes)
+      (r .same .control) refl;
   shape = λ dir e. rw (f .allocated dir (e % 16))
-      (shape-further (isSet (allocatedIn (d .allocator) dir) (e % 16)) (d .allocator) a f dir (epOn d dir e) (r .shape dir e));
+      (shape-further (isSet (allocatedIn (d .allocator) dir) (e % 16)) (d .allocator) a f dir (epOn d dir e)
+      (r .shape dir e));
   outs = r .outs;
   ins = r .ins;
   arming = r .arming;
@@ -119,7 +135,8 @@ unfolding slotAddr
 zero-addr r h = rw (zero-slot r) (omega (arith, h))
 
 -- in an endpoint's buffers after its allocation none wait
-pub new-held : (most : ℕ) (b : Buf) (r : EpState) (ls : List ℕ) (kind maximum base size : ℕ) (dir : Dir) → length ls ≡ 16 → ((i : ℕ) → getD ls i 0 ≤ 0)
+pub new-held : (most : ℕ) (b : Buf) (r : EpState) (ls : List ℕ) (kind maximum base size : ℕ) (dir : Dir) → length ls
+    ≡ 16 → ((i : ℕ) → getD ls i 0 ≤ 0)
     → maximum ≤ size → base + slotsOf (isIso kind) dir * size ≤ length b → length b ≤ 65536
     → Held most b (allocated r kind maximum base size (slotsOf (isIso kind) dir)) ls []
 unfolding allocated
@@ -140,7 +157,8 @@ new-held most b r ls kind maximum base size dir long none small inside low =
 
 -- ---- the set of isochronous OUT endpoints
 
-pub receives : (g : Globals) (j : ℕ) → isSet (isoOuts g) (j % 16) ≡ both (isSet (g .«iso_out_eps») (j % 16)) (enables.isOn (g .«ep_config») Out (j % 16))
+pub receives : (g : Globals) (j : ℕ) → isSet (isoOuts g) (j % 16)
+    ≡ both (isSet (g .«iso_out_eps») (j % 16)) (enables.isOn (g .«ep_config») Out (j % 16))
 unfolding isoOuts
 receives g j = out-enabled-set (g .«ep_config») (g .«iso_out_eps») (j % 16) (mod-lt j (omega arith))
 
@@ -161,15 +179,18 @@ outsAfter true Out e w = withBit w (e % 16) true
 outsAfter true In e w = w
 outsAfter false dir e w = w
 
-pub sets-only : (dir : Dir) (kind interval e : ℕ) (g : Globals) → SetsOnly (outsAfter (isIso kind) dir e (g .«iso_out_eps»)) g (withSets dir kind interval e g)
+pub sets-only : (dir : Dir) (kind interval e : ℕ) (g : Globals)
+    → SetsOnly (outsAfter (isIso kind) dir e (g .«iso_out_eps»)) g (withSets dir kind interval e g)
 unfolding withSets outsAfter
 sets-only dir kind interval e g = by-sort (isIso kind) dir
   where
-    by-every : (l : Bool) → SetsOnly (g .«iso_out_eps») g (cond l (withIsoSets (g .«iso_out_eps») (withBit (g .«iso_in_every») (e % 16) true) g) g)
+    by-every : (l : Bool) → SetsOnly (g .«iso_out_eps») g
+        (cond l (withIsoSets (g .«iso_out_eps») (withBit (g .«iso_in_every») (e % 16) true) g) g)
     by-every true = record { config = refl; stage = refl; ep0-buf = refl; ep0-max = refl; isos = refl }
     by-every false = record { config = refl; stage = refl; ep0-buf = refl; ep0-max = refl; isos = refl }
 
-    by-sort : (i : Bool) (dir : Dir) → SetsOnly (outsAfter i dir e (g .«iso_out_eps»)) g (cond i (isoAdded dir interval e g) g)
+    by-sort : (i : Bool) (dir : Dir) → SetsOnly (outsAfter i dir e (g .«iso_out_eps»)) g
+        (cond i (isoAdded dir interval e g) g)
     by-sort true Out = record { config = refl; stage = refl; ep0-buf = refl; ep0-max = refl; isos = refl }
     by-sort true In = by-every (ltb interval 2)
     by-sort false dir = record { config = refl; stage = refl; ep0-buf = refl; ep0-max = refl; isos = refl }
@@ -178,12 +199,14 @@ pub sets-stage : (dir : Dir) (kind interval e : ℕ) (g : Globals) → withSets 
 sets-stage dir kind interval e g = sets-only dir kind interval e g .stage
 
 -- the number's own bit, and the others
-pub outs-here : (i : Bool) (e x w : ℕ) → x % 16 ≡ e % 16 → isSet w (e % 16) ≡ false → isSet (outsAfter i Out e w) (x % 16) ≡ i
+pub outs-here : (i : Bool) (e x w : ℕ) → x % 16 ≡ e % 16 → isSet w (e % 16) ≡ false
+    → isSet (outsAfter i Out e w) (x % 16) ≡ i
 unfolding outsAfter
 outs-here true e x w q u = rw q (set-with w (e % 16) true (e % 16) ∙ rw (eq-eqb (e % 16) (e % 16) refl) refl)
 outs-here false e x w q u = rw q u
 
-pub outs-there : (i : Bool) (dir : Dir) (e x w : ℕ) → key Out x ≢ key dir e → isSet (outsAfter i dir e w) (x % 16) ≡ isSet w (x % 16)
+pub outs-there : (i : Bool) (dir : Dir) (e x w : ℕ) → key Out x ≢ key dir e → isSet (outsAfter i dir e w) (x % 16)
+    ≡ isSet w (x % 16)
 unfolding outsAfter key
 outs-there true Out e x w q = set-with w (e % 16) true (x % 16) ∙ rw (ne-eqb (e % 16) (x % 16) (λ z. q (sym z))) refl
 outs-there true In e x w q = refl
@@ -204,8 +227,10 @@ pub fits-as : (dir : Dir) (b : Buf) (r r′ : EpState) (ls ss : List ℕ) (t t�
 fits-as Out b r r′ ls ss t t′ x q o f = rw (q, o) f
 fits-as In b r r′ ls ss t t′ x q i f = rw (q, i) f
 
-pub given-page : (dir′ dir : Dir) (e base x : ℕ) (t : Pages) → key dir′ x ≢ key dir e → SamePage dir′ t (pagesGiven dir e base t) x
-given-page Out Out e base x t q = at-other e x (slotTold (emptyOut (t .outs e)) base) (t .outs) (λ h. q (key-by Out x e h))
+pub given-page : (dir′ dir : Dir) (e base x : ℕ) (t : Pages) → key dir′ x ≢ key dir e
+    → SamePage dir′ t (pagesGiven dir e base t) x
+given-page Out Out e base x t q = at-other e x (slotTold (emptyOut (t .outs e)) base) (t .outs)
+    (λ h. q (key-by Out x e h))
 given-page Out In e base x t q = refl
 given-page In Out e base x t q = refl
 given-page In In e base x t q = at-other e x emptyIn (t .ins) (λ h. q (key-by In x e h))
@@ -218,7 +243,8 @@ abbrev pub Lost : Dir → EpState → Pages → ℕ → Type 0
 Lost Out r t e = r .overruns ≡ t .outs e .lost % 2 ^ 32
 Lost In r t e = Unit {0}
 
-pub new-fits : (dir : Dir) (b : Buf) (r : EpState) (ls ss : List ℕ) (t : Pages) (kind maximum base size n e x : ℕ) → x % 16 ≡ e % 16
+pub new-fits : (dir : Dir) (b : Buf) (r : EpState) (ls ss : List ℕ) (t : Pages) (kind maximum base size n e x : ℕ)
+    → x % 16 ≡ e % 16
     → ((most : ℕ) → Held most b (allocated r kind maximum base size n) ls []) → 1 ≤ n → Lost dir r t e
     → Fits dir b (allocated r kind maximum base size n) ls ss (pagesGiven dir e base t) x
 unfolding allocated
@@ -247,8 +273,14 @@ new-rests Out r kind maximum base size n e x t on low q = new-rest r kind maximu
     (ap (λ (p : OutPage). p .slot) (at-same e x (slotTold (emptyOut (t .outs e)) base) (t .outs) q))
 new-rests In r kind maximum base size n e x t on low q = tt
 
-pub shape-wider : (used : Bool) (a b : Allocator) (dir : Dir) (r : EpState) → b .size ≡ a .size → a .next ≤ b .next → Shape used a dir r → Shape used b dir r
-shape-wider true a b dir r z m s = record { stride = s .stride ∙ sym z; slots = s .slots; below = rw z (le-trans (s .below) (mul-le-mul-right (a .size) m)) }
+pub shape-wider : (used : Bool) (a b : Allocator) (dir : Dir) (r : EpState) → b .size ≡ a .size → a .next ≤ b .next
+    → Shape used a dir r → Shape used b dir r
+shape-wider true a b dir r z m s = record {
+  stride = s .stride ∙ sym z;
+  slots = s .slots;
+  below
+      = rw z (le-trans (s .below) (mul-le-mul-right (a .size) m));
+}
 shape-wider false a b dir r z m s = s
 
 pub ends-as : (x x′ s s′ z z′ : ℕ) → x′ ≡ x → s′ ≡ s → z′ ≡ z → x′ + cond (eqb s′ 2) z′ 0 ≡ x + cond (eqb s 2) z 0

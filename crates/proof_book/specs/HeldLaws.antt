@@ -61,10 +61,13 @@ some-length : (w : List (List ℕ)) → ltb 0 (length w) ≡ some w
 some-length [] = refl
 some-length (p ∷ ps) = lt-ltb 0 (length (p ∷ ps)) (omega arith)
 
-pub held-some : {most : ℕ} {b : Buf} {r : EpState} {ls : List ℕ} {w : List (List ℕ)} → Held most b r ls w → hasWaiting r ≡ some w
-held-some {b = b} {r = r} {ls = ls} {w = w} h = waiting-some b r ls ∙ ap (λ x. ltb 0 (length x)) (h .waits) ∙ some-length w
+pub held-some : {most : ℕ} {b : Buf} {r : EpState} {ls : List ℕ} {w : List (List ℕ)} → Held most b r ls w → hasWaiting r
+    ≡ some w
+held-some {b = b} {r = r} {ls = ls} {w = w} h = waiting-some b r ls ∙ ap (λ x. ltb 0 (length x)) (h .waits)
+    ∙ some-length w
 
-pub held-length : {most : ℕ} {b : Buf} {r : EpState} {ls : List ℕ} {w : List (List ℕ)} → Held most b r ls w → countOf r ≡ length w
+pub held-length : {most : ℕ} {b : Buf} {r : EpState} {ls : List ℕ} {w : List (List ℕ)} → Held most b r ls w → countOf r
+    ≡ length w
 held-length {b = b} {r = r} {ls = ls} h = sym (waiting-length b r ls) ∙ ap (λ x. length x) (h .waits)
 
 pub waits-count : (r : EpState) → hasWaiting r ≡ true → 0 < countOf r
@@ -72,7 +75,8 @@ unfolding hasWaiting
 waits-count r h = ltb-true 0 (countOf r) h
 
 -- the length of the first and its bytes
-module _ (d : Driver) (dir : Dir) (e : ℕ) {most : ℕ} {b : Buf} {w : List (List ℕ)} (h : Held most b (epOn d dir e) (lensOf d dir e) w) where
+module _ (d : Driver) (dir : Dir) (e : ℕ) {most : ℕ} {b : Buf} {w : List (List ℕ)}
+    (h : Held most b (epOn d dir e) (lensOf d dir e) w) where
   tail-in : slotOf (epOn d dir e) (epOn d dir e .tail) < 16
   tail-in = omega (arith, slot-in (h .placed) (epOn d dir e .tail), h .ring .whole, lens-length d dir e)
 
@@ -83,7 +87,8 @@ module _ (d : Driver) (dir : Dir) (e : ℕ) {most : ℕ} {b : Buf} {w : List (Li
 
   pub held-next : nextLen d dir e ≡ length (first w)
   unfolding nextLen
-  held-next = ap (λ u. cond u (lenOn d dir e (slotOf (epOn d dir e) (epOn d dir e .tail))) 0) (held-some h) ∙ next-by w (h .waits)
+  held-next = ap (λ u. cond u (lenOn d dir e (slotOf (epOn d dir e) (epOn d dir e .tail))) 0) (held-some h)
+      ∙ next-by w (h .waits)
 
   first-by : (w : List (List ℕ)) → waiting b (epOn d dir e) (lensOf d dir e) ≡ w
       → bytesAt b (slotAddr (epOn d dir e) (epOn d dir e .tail)) (length (first w)) ≡ first w
@@ -94,18 +99,26 @@ module _ (d : Driver) (dir : Dir) (e : ℕ) {most : ℕ} {b : Buf} {w : List (Li
   held-first = ap (λ n. bytesAt b (slotAddr (epOn d dir e) (epOn d dir e .tail)) n) held-next ∙ first-by w (h .waits)
 
 -- the stamp of the first
-module _ (d : Driver) (e : ℕ) {b : Buf} {p : OutPage} (f : OutFits b (epOn d Out e) (lensOf d Out e) (slotStamps d e) p) where
-  stamp-by : (w : List Packet) → p .waiting ≡ w → cond (some (bytesOf w)) (stampOn d e (slotOf (epOn d Out e) (epOn d Out e .tail))) 0 ≡ firstStamp w
+module _ (d : Driver) (e : ℕ) {b : Buf} {p : OutPage} (f : OutFits b (epOn d Out e) (lensOf d Out e) (slotStamps d e)
+    p) where
+  stamp-by : (w : List Packet) → p .waiting ≡ w → cond (some (bytesOf w))
+      (stampOn d e (slotOf (epOn d Out e) (epOn d Out e .tail))) 0 ≡ firstStamp w
   stamp-by [] h = refl
   stamp-by (q ∷ qs) h =
-      let n : 0 < countOf (epOn d Out e) = omega (arith, held-length (f .held) ∙ ap (λ (w : List Packet). length (bytesOf w)) h) in
+      let n : 0 < countOf (epOn d Out e) = omega (
+        arith,
+        held-length (f .held)
+            ∙ ap (λ (w : List Packet). length (bytesOf w)) h,
+      ) in
       sym (stamps-at d e _ (tail-in d Out e (f .held)))
       ∙ ap (λ (l : List ℕ). getD l 0 0)
-      (sym (split-stamps (f .held .placed) (f .held .ring) (slotStamps d e) n) ∙ f .stamps ∙ ap (λ (w : List Packet). stampsOf w) h)
+      (sym (split-stamps (f .held .placed) (f .held .ring) (slotStamps d e) n) ∙ f .stamps
+      ∙ ap (λ (w : List Packet). stampsOf w) h)
 
   pub held-stamp : nextStamp d e ≡ firstStamp (p .waiting)
   unfolding nextStamp
-  held-stamp = ap (λ u. cond u (stampOn d e (slotOf (epOn d Out e) (epOn d Out e .tail))) 0) (held-some (f .held)) ∙ stamp-by (p .waiting) refl
+  held-stamp = ap (λ u. cond u (stampOn d e (slotOf (epOn d Out e) (epOn d Out e .tail))) 0) (held-some (f .held))
+      ∙ stamp-by (p .waiting) refl
 
 -- ---- an enabled isochronous OUT
 
@@ -116,7 +129,8 @@ both-left : (a c : Bool) → both a c ≡ true → a ≡ true
 both-left true c h = refl
 both-left false c h = absurd (true≢false (sym h))
 
-pub receives-is : (g : Globals) (e : ℕ) → isSet (isoOuts g) (e % 16) ≡ both (isSet (g .«iso_out_eps») (e % 16)) (enables.isOn (g .«ep_config») Out e)
+pub receives-is : (g : Globals) (e : ℕ) → isSet (isoOuts g) (e % 16)
+    ≡ both (isSet (g .«iso_out_eps») (e % 16)) (enables.isOn (g .«ep_config») Out e)
 unfolding isoOuts enables.isOn
 receives-is g e =
     let m : 16 + e % 16 % 16 ≡ 16 + e % 16 = omega arith in
@@ -153,4 +167,5 @@ abbrev pub Words : ℕ → Type 0
 Words size = (4 ≤ size) × (size / 4 * 4 ≡ size)
 
 pub good-words : (size : ℕ) → goodSize size ≡ true → Words size
-good-words = each-size Words (omega arith, refl) (omega arith, refl) (omega arith, refl) (omega arith, refl) (omega arith, refl) (omega arith, refl)
+good-words = each-size Words (omega arith, refl) (omega arith, refl) (omega arith, refl) (omega arith, refl)
+    (omega arith, refl) (omega arith, refl)

@@ -1,5 +1,5 @@
--- Lists of calls made from what is done, each lent the slot buffer as the last one left it, but for the chip's stores into the slot of OUT 1's last
--- receive address: every such list meets the premise of demand 3
+-- Lists of calls made from what is done, each lent the slot buffer as the last one left it, but for the chip's stores
+-- into the slot of OUT 1's last receive address: every such list meets the premise of demand 3
 use mathlib.Core.Bool.{Bool, true, false, cond, _&&_}
 use mathlib.Core.List.{List, [], _∷_}
 use mathlib.Core.Logic.{inl, inr}
@@ -17,11 +17,11 @@ use Rattle.regs.specs.declared.Dir.the-variants.{Out}
 use Rattle.state.specs.Driver.{Driver}
 use Rattle.script.specs.Answers.{Answer}
 use Rattle.script.specs.Calls.{Config, Op, calls}
-use Rattle.script.specs.Machine.{Buf, Call, start, begin, go, question, Event, Machine, misfit}
+use Rattle.script.specs.Machine.{Buf, Call, start, begin, continue, question, Event, Machine, misfit}
 use Rattle.machine.specs.Suspended.{drive}
 use Rattle.proof_book.specs.Pages.{Pages}
 use Rattle.proof_book.specs.Book.{book}
-use Rattle.proof_book.specs.FrontPage.{written, Chip, unless, LentAsLeft}
+use Rattle.proof_book.specs.FrontPage.{bookStep, Chip, whenNot, BufferPreserved}
 use Rattle.proof_book.specs.MachineRuns.{Premise}
 pub use Rattle.proof_book.specs.InsLaws.{left, right}
 
@@ -33,7 +33,8 @@ pub record Input : Type 0 where
 
 -- an endpoint that is allocated, bytes that fit a slot
 abbrev pub mayStore : Pages → List ℕ → Bool
-mayStore t bytes = isSet (allocatedIn (t .kept .allocator) Out) (1 % 16) && leb (length bytes) (t .kept .allocator .size)
+mayStore t bytes = isSet (allocatedIn (t .kept .allocator) Out) (1 % 16)
+    && leb (length bytes) (t .kept .allocator .size)
 
 abbrev pub storedIn : Pages → Buf → List ℕ → Buf
 storedIn t b [] = b
@@ -47,7 +48,7 @@ eventsOf [] m n = []
 eventsOf (i ∷ is) m n =
     let e = eventOf i m n in
     let x = drive (e .call) m (e .lent) in
-    e ∷ eventsOf is (x .1) (written (x .0) (e .call) n (e .lent) .1)
+    e ∷ eventsOf is (x .1) (bookStep (x .0) (e .call) n (e .lent) .1)
 
 -- ---- the premise
 
@@ -70,14 +71,17 @@ chip-stores t b (x ∷ xs) = by (mayStore t (x ∷ xs)) refl
         }
     by false m = record { long = refl; others = λ k h. refl }
 
-given : (u : Bool) {X : Type 0} → X → unless u X
+given : (u : Bool) {X : Type 0} → X → whenNot u X
 given true x = tt
 given false x = x
 
-pub lent : (c : Call Config Op) (n : Machine Answer Pages) (a : Buf) (bytes : List ℕ) → LentAsLeft c n a (storedIn (n .st) a bytes)
+pub lent : (c : Call Config Op) (n : Machine Answer Pages) (a : Buf) (bytes : List ℕ)
+    → BufferPreserved c n a (storedIn (n .st) a bytes)
 lent (start c) n a bytes = tt
-lent (begin o) n a bytes = given (cond (calls .slots o) (misfit calls (book .driver) (n .st) (storedIn (n .st) a bytes)) false) (chip-stores (n .st) a bytes)
-lent (go v) n a bytes = given (misfit calls (book .driver) (n .st) (storedIn (n .st) a bytes)) (chip-stores (n .st) a bytes)
+lent (begin o) n a bytes = given (cond (calls .slots o) (misfit calls (book .driver) (n .st) (storedIn (n .st) a bytes))
+    false) (chip-stores (n .st) a bytes)
+lent (continue v) n a bytes = given (misfit calls (book .driver) (n .st) (storedIn (n .st) a bytes))
+    (chip-stores (n .st) a bytes)
 lent (question q) n a bytes = chip-stores (n .st) a bytes
 
 pub lawful : (is : List Input) (m : Machine Answer Driver) (n : Machine Answer Pages) → Premise (eventsOf is m n) m n

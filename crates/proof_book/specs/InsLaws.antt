@@ -107,7 +107,8 @@ module _ {r r′ : EpState} (k : Alike r r′) (m : r′ .«max_len» ≡ r .«m
 
 module _ {b : Buf} {d : Driver} {t : Pages} (R : Coupling quiet b d t) (e : ℕ) where
   -- IN e's record changed, and its page; no byte
-  record-changed : (r : EpState) (p : InPage) → SamePlace (epOn d In e) r → plainOf r ≡ plainOf (epOn d In e) → InFits b r (lensOf d In e) p
+  record-changed : (r : EpState) (p : InPage) → SamePlace (epOn d In e) r → plainOf r ≡ plainOf (epOn d In e)
+      → InFits b r (lensOf d In e) p
       → Coupling quiet b (withOn d In e r) (withIn t e p)
   record-changed r p k q f =
       let c = changed-on (R .sized) In e r k (ap (λ (x : EpCore). x .iso) q) in
@@ -160,7 +161,8 @@ sent-front : (s : Bool) (r w : List (List ℕ)) → (r ++ cond s (front w) []) +
 sent-front true r w = append-nil (r ++ front w)
 sent-front false r w = append-assoc r [] (front w)
 
-queued-front : (s : Bool) (w : List (List ℕ)) (bytes : List ℕ) → (s ≡ true → 0 < length w) → cond s (front w) [] ≡ cond s (front (w ++ (bytes ∷ []))) []
+queued-front : (s : Bool) (w : List (List ℕ)) (bytes : List ℕ) → (s ≡ true → 0 < length w) → cond s (front w) []
+    ≡ cond s (front (w ++ (bytes ∷ []))) []
 queued-front true [] bytes h = absurd (omega (arith, h refl))
 queued-front true (q ∷ qs) bytes h = refl
 queued-front false w bytes h = refl
@@ -191,7 +193,8 @@ complete-fits {b} {r} {ls} {p} f =
           sym (waiting-length b (unloadedOf (completedOf r)) ls)
           ∙ ap (λ x. length x) w
           ∙ passed-none (p .sending) (p .waiting)
-          (sym (held-length (f .held)) ∙ f .ringless (ap isOn (sym (ap (λ (x : EpCore). x .iso) (completed-plain r))) ∙ h));
+          (sym (held-length (f .held)) ∙ f .ringless (ap isOn (sym (ap (λ (x : EpCore). x .iso) (completed-plain r)))
+          ∙ h));
       loaded = refl;
       sends = ring-in.unloaded-sends (completedOf r);
       turn = ap (λ (n : ℕ). n % 2) (completed-head r) ∙ f .turn;
@@ -237,14 +240,16 @@ module _ {b : Buf} {r : EpState} {ls : List ℕ} {p : InPage}
   queued-in = omega (arith, slot-upto (f .held .placed) (r .head), f .held .placed .inside)
 
   queued-only : Only (slotAddr r (r .head)) (slotAddr r (r .head) + r .stride) b queued
-  queued-only = only-bytes (marks-laws.only-wider _ _ (omega arith) (omega arith) (only-copied b (slotAddr r (r .head)) bytes))
+  queued-only = only-bytes (marks-laws.only-wider _ _ (omega arith) (omega arith)
+      (only-copied b (slotAddr r (r .head)) bytes))
 
   queued-waits : waiting queued (joinedOf r) (set ls (slotOf r (r .head)) (length bytes)) ≡ p .waiting ++ (bytes ∷ [])
   queued-waits =
       join-waits (f .held .placed) (f .held .ring) (length bytes) few queued
       ∙ ap₂ (λ x y. x ++ (y ∷ []))
       (waiting-head (f .held .placed) (f .held .ring) b queued few queued-only ∙ f .held .waits)
-      (window-is queued (slotAddr r (r .head)) (length bytes) (omega (arith, queued-in, only-copied b (slotAddr r (r .head)) bytes .long))
+      (window-is queued (slotAddr r (r .head)) (length bytes)
+      (omega (arith, queued-in, only-copied b (slotAddr r (r .head)) bytes .long))
       ∙ copied-bytes b (slotAddr r (r .head)) bytes queued-in)
 
   -- the head's slot is not the one being sent, the tail's
@@ -254,13 +259,16 @@ module _ {b : Buf} {r : EpState} {ls : List ℕ} {p : InPage}
       head-away (f .held .placed) (f .held .ring) few 0 w (ap (slotOf r) z ∙ q)
 
   queued-spares : 0 < countOf r → Same (slotAddr r (r .tail)) (slotAddr r (r .tail) + r .stride) b queued
-  queued-spares w = only-apart _ _ _ _ b queued queued-only (slots-apart (f .held .placed) (r .tail) (r .head) (queued-away w))
+  queued-spares w = only-apart _ _ _ _ b queued queued-only
+      (slots-apart (f .held .placed) (r .tail) (r .head) (queued-away w))
 
-  queued-fits : isOn (r .iso) ≡ true → InFits queued (joinedOf r) (set ls (slotOf r (r .head)) (length bytes)) (queuedIn p bytes)
+  queued-fits : isOn (r .iso) ≡ true → InFits queued (joinedOf r) (set ls (slotOf r (r .head)) (length bytes))
+      (queuedIn p bytes)
   unfolding joinedOf
   queued-fits i = record {
     held = record {
-      placed = subst (λ n. Placed n (joinedOf r)) (sym (only-copied b (slotAddr r (r .head)) bytes .long)) (place-placed (join-place r) (f .held .placed));
+      placed = subst (λ n. Placed n (joinedOf r)) (sym (only-copied b (slotAddr r (r .head)) bytes .long))
+          (place-placed (join-place r) (f .held .placed));
       ring = join-ring (f .held .placed) (f .held .ring) (length bytes) few small few;
       least = f .held .least;
       waits = queued-waits;
@@ -269,11 +277,14 @@ module _ {b : Buf} {r : EpState} {ls : List ℕ} {p : InPage}
     loaded = f .loaded;
     sends = λ h. omega (arith, join-count (f .held .placed) (f .held .ring) few);
     turn = omega (arith, f .turn);
-    ledger = sym (append-assoc (p .passed) (p .waiting) (bytes ∷ [])) ∙ ap (λ (l : List (List ℕ)). l ++ (bytes ∷ [])) (f .ledger);
-    reached = f .reached ∙ ap (λ (l : List (List ℕ)). p .passed ++ l) (queued-front (p .sending) (p .waiting) bytes (λ s. sending-some f s));
+    ledger = sym (append-assoc (p .passed) (p .waiting) (bytes ∷ []))
+        ∙ ap (λ (l : List (List ℕ)). l ++ (bytes ∷ [])) (f .ledger);
+    reached = f .reached ∙ ap (λ (l : List (List ℕ)). p .passed ++ l)
+        (queued-front (p .sending) (p .waiting) bytes (λ s. sending-some f s));
     stands = record {
       slot = λ s. f .stands .slot s ∙ sym (place-addr (join-place r) (r .tail));
-      bytes = λ s k l u. queued-spares (sending-count f s) k (omega (arith, f .stands .slot s)) (omega (arith, f .stands .slot s)) ∙ f .stands .bytes s k l u;
+      bytes = λ s k l u. queued-spares (sending-count f s) k (omega (arith, f .stands .slot s))
+          (omega (arith, f .stands .slot s)) ∙ f .stands .bytes s k l u;
     };
   }
 
@@ -309,13 +320,15 @@ module _ {b : Buf} {d : Driver} {t : Pages} (R : Coupling quiet b d t) (e : ℕ)
     head-at =
         slot-lies (R .ins e .held .placed) (epOn d In e .head)
         ∙ ap₂ _+_ (ap (λ (p : EpCore). p .base) (R .same .plain In e))
-        (ap₂ _*_ (slot-is (R .ins e .held .placed) (epOn d In e .head) ∙ ap (λ (n : ℕ). epOn d In e .head % n) (two R e (z .iso)) ∙ R .ins e .turn)
+        (ap₂ _*_ (slot-is (R .ins e .held .placed) (epOn d In e .head)
+        ∙ ap (λ (n : ℕ). epOn d In e .head % n) (two R e (z .iso)) ∙ R .ins e .turn)
         (used R e (z .iso) .stride ∙ size-same R e))
 
     head-slot : slotOf (epOn d In e) (epOn d In e .head) < 16
     head-slot = omega (arith, slot-in (R .ins e .held .placed) (epOn d In e .head), two R e (z .iso))
 
-    queued-rest : Coupling quiet (copied b headAt bytes) (queuedOn d e (length bytes)) (withIn t e (queuedIn (t .ins e) bytes))
+    queued-rest : Coupling quiet (copied b headAt bytes) (queuedOn d e (length bytes))
+        (withIn t e (queuedIn (t .ins e) bytes))
     unfolding queuedOn
     queued-rest =
         let i = slotOf (epOn d In e) (epOn d In e .head) in
@@ -332,7 +345,8 @@ module _ {b : Buf} {d : Driver} {t : Pages} (R : Coupling quiet b d t) (e : ℕ)
         (only-copied b headAt bytes .long)
         (slot-region (R .ins e .held .placed) (R .ins e .held .ring)
         (epOn d In e .head) b (copied b headAt bytes) (queued-only (R .ins e) (z .few) bytes (z .small)))
-        (in-moved s (lens-on m In e (joinedOf (epOn d In e)) In e ∙ lens-set d In e (R .sized) i (length bytes) head-slot)
+        (in-moved s (lens-on m In e (joinedOf (epOn d In e)) In e
+        ∙ lens-set d In e (R .sized) i (length bytes) head-slot)
         (queued-fits (R .ins e) (z .few) bytes (z .small) (z .iso)))
 
   abbrev Queued : Bool → Type 0
@@ -353,7 +367,8 @@ module _ {b : Buf} {d : Driver} {t : Pages} (R : Coupling quiet b d t) (e : ℕ)
 
 pub act-enqueue : (e : ℕ) (bytes : List ℕ) → ActAgrees (script.enqueue e bytes)
 unfolding enqueueOn
-act-enqueue e bytes b d t R = rw (← room-same R e (length bytes)) (enqueue-by R e bytes (roomOn d e (length bytes)) refl)
+act-enqueue e bytes b d t R = rw (← room-same R e (length bytes))
+    (enqueue-by R e bytes (roomOn d e (length bytes)) refl)
 
 -- ---- a load
 
@@ -395,7 +410,11 @@ hand-place-in e b d t R =
     let x = epOn d In e .base in
     subst (λ u. Coupling quiet b d u × Good (Transmit e x) b u) (sym (told-in t e x (placedIn (t .ins e)))) (
       page-changed R e (placedIn (t .ins e)) (place-fits (R .ins e)),
-      (subst (λ p. Holds p b x) (sym (in-same t e (placedIn (t .ins e)))) (λ bytes rest h q. absurd (true≢false (sym h))), in-buffer.base-lies R In e),
+      (
+        subst (λ p. Holds p b x) (sym (in-same t e (placedIn (t .ins e))))
+            (λ bytes rest h q. absurd (true≢false (sym h))),
+        in-buffer.base-lies R In e,
+      ),
     )
 
 module _ {b : Buf} {d : Driver} {t : Pages} (R : Coupling quiet b d t) (e : ℕ) where
@@ -409,12 +428,14 @@ module _ {b : Buf} {d : Driver} {t : Pages} (R : Coupling quiet b d t) (e : ℕ)
   send-by true h =
       let x = slotAddr (epOn d In e) (epOn d In e .tail) in
       let p = sentIn (t .ins e) b in
-      subst (λ u. Coupling quiet b (withOn d In e (loadedOf (epOn d In e))) u × Good (Transmit e x) b u) (sym (told-in t e x p)) (
+      subst (λ u. Coupling quiet b (withOn d In e (loadedOf (epOn d In e))) u × Good (Transmit e x) b u)
+      (sym (told-in t e x p)) (
         record-changed R e (loadedOf (epOn d In e)) (sourceTold p x) (ring-in.loaded-alike (epOn d In e) .place)
             (loaded-plain (epOn d In e)) (load-fits (R .ins e) (waits-count (epOn d In e) h)),
         (
           subst (λ q. Holds q b x) (sym (in-same t e (sourceTold p x)))
-              (λ bytes rest l q. first-part (R .ins e .held .placed) (R .ins e .held .ring) b bytes rest (R .ins e .held .waits ∙ q) (omega arith)),
+              (λ bytes rest l q. first-part (R .ins e .held .placed) (R .ins e .held .ring) b bytes rest
+              (R .ins e .held .waits ∙ q) (omega arith)),
           in-buffer.slot-lies R In e (epOn d In e .tail),
         ),
       )
@@ -423,7 +444,8 @@ module _ {b : Buf} {d : Driver} {t : Pages} (R : Coupling quiet b d t) (e : ℕ)
       subst (λ u. Coupling quiet b d u × Good (Transmit e x) b u) (sym (told-in t e x (placedIn (t .ins e)))) (
         page-changed R e (placedIn (t .ins e)) (place-fits (R .ins e)),
         (
-          subst (λ q. Holds q b x) (sym (in-same t e (placedIn (t .ins e)))) (λ bytes rest l q. absurd (true≢false (sym l))),
+          subst (λ q. Holds q b x) (sym (in-same t e (placedIn (t .ins e))))
+              (λ bytes rest l q. absurd (true≢false (sym l))),
           in-buffer.slot-lies R In e (epOn d In e .tail),
         ),
       )

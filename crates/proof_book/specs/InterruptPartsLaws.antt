@@ -22,7 +22,8 @@ use Rattle.script.specs.Answers.{Answer}
 use Rattle.script.specs.Calls.{interruptCode}
 use Rattle.script.specs.IsoIn.{isoInComplete, sofOne, sofWalk, lateOne, lateWalk, onSof}
 use Rattle.script.specs.IsoOut.{checkOne, checkWalk}
-use Rattle.script.specs.Handler.{looks, toggled, settle, dispatch, movedOn, ep0MovedOn, served, onTransfer, onSetup, stampedInterrupt}
+use Rattle.script.specs.Handler.{looks, toggled, settle, dispatch, movedOn, ep0MovedOn, served, onTransfer, onSetup}
+use Rattle.script.specs.Handler.{stampedInterrupt}
 use Rattle.proof_book.specs.LeavesLaws.{isRequest}
 
 -- a write of another register than ep_config and an endpoint's length; EP0's may be written
@@ -32,18 +33,22 @@ ordinary r e = not ((sameReg r EpTLen && ltb 0 e) || sameReg r EpConfig)
 -- a script made of such parts
 pub data Parts : (A : Type 0) → Script true A → Type 1 where
   p-ret : {A : Type 0} {a : A} → Parts A (ret a)
-  p-bind : {A B : Type 0} {p : Script true B} {f : B → Script true A} → Parts B p → ((b : B) → Parts A (f b)) → Parts A (bind p f)
+  p-bind : {A B : Type 0} {p : Script true B} {f : B → Script true A} → Parts B p → ((b : B) → Parts A (f b))
+      → Parts A (bind p f)
   p-test : {A : Type 0} {b : Bool} {p q : Script true A} → Parts A p → Parts A q → Parts A (test b p q)
-  p-read : {A : Type 0} {r : Reg} {e : ℕ} {k : ℕ → Script true A} → ((v : ℕ) → Parts A (k v)) → Parts A (read-then r e k)
+  p-read : {A : Type 0} {r : Reg} {e : ℕ} {k : ℕ → Script true A} → ((v : ℕ) → Parts A (k v))
+      → Parts A (read-then r e k)
   p-write : {A : Type 0} {r : Reg} {e v : ℕ} {p : Script true A} → ordinary r e ≡ true → Parts A p
       → Parts A (write-then r e v p)
   p-wait : {A : Type 0} {n : ℕ} {p : Script true A} → Parts A p → Parts A (wait-then n p)
   p-callback : {A : Type 0} {p : Script true A} → Parts A p → Parts A (callback-then p)
   p-get : {A : Type 0} {c : Cell} {k : Val c → Script true A} → ((v : Val c) → Parts A (k v)) → Parts A (get-then c k)
-  p-put : {A : Type 0} {c : Cell} {v : Val c} {p : Script true A} → isRequest c ≡ false → Parts A p → Parts A (put-then c v p)
+  p-put : {A : Type 0} {c : Cell} {v : Val c} {p : Script true A} → isRequest c ≡ false → Parts A p
+      → Parts A (put-then c v p)
   p-is : {A : Type 0} {q : Test} {k : Bool → Script true A} → ((b : Bool) → Parts A (k b)) → Parts A (is-then q k)
   p-look : {A : Type 0} {q : Look} {k : ℕ → Script true A} → ((n : ℕ) → Parts A (k n)) → Parts A (look-then q k)
-  p-fetch : {A : Type 0} {q : Fetch} {k : List ℕ → Script true A} → ((l : List ℕ) → Parts A (k l)) → Parts A (fetch-then q k)
+  p-fetch : {A : Type 0} {q : Fetch} {k : List ℕ → Script true A} → ((l : List ℕ) → Parts A (k l))
+      → Parts A (fetch-then q k)
   -- the tail passes, and IN e is loaded at the next access
   p-load : {e : ℕ} → Parts Unit (isoInComplete e)
   p-no-wakes : {A : Type 0} {p : Script true A} → Parts A p → Parts A (act-then no-wakes p)

@@ -1,5 +1,6 @@
--- A script that leaves `entered`, the microframe index with which the interrupt under way began (request One): each assignment of the globals has
--- the one that was read. Then it is the same at every access and at the end, whatever is read
+-- A script that leaves `entered`, the microframe index with which the interrupt under way began (request One): each
+-- assignment of the globals has the one that was read. Then it is the same at every access and at the end, whatever is
+-- read
 use mathlib.Core.Bool.{Bool, true, false, not, cond, _||_, true≢false}
 use mathlib.Core.List.{List}
 use mathlib.Core.Path.{_≡_, refl, sym, ap, _∙_}
@@ -26,10 +27,12 @@ use Rattle.proof_book.specs.LeavesLaws.{act-leaves, hand-leaves}
 -- K at each access and at the end, P of the answer; between two accesses K stays
 pub data Throughout {S A : Type 0} (K : S → Type 0) (P : A → Type 0) : tree.Out S A → Type 0 where
   at-end : {a : A} {s : S} → K s → P a → Throughout K P (ends a s)
-  at-ask : {q : Access} {s : S} {k : ℕ → S → tree.Out S A} → K s → ((v : ℕ) (t : S) → K t → Throughout K P (k v t)) → Throughout K P (asks q s k)
+  at-ask : {q : Access} {s : S} {k : ℕ → S → tree.Out S A} → K s → ((v : ℕ) (t : S) → K t → Throughout K P (k v t))
+      → Throughout K P (asks q s k)
 
 module _ {S : Type 0} {K : S → Type 0} where
-  pub through-more : {A : Type 0} {P Q : A → Type 0} {o : tree.Out S A} → Throughout K P o → ((a : A) → P a → Q a) → Throughout K Q o
+  pub through-more : {A : Type 0} {P Q : A → Type 0} {o : tree.Out S A} → Throughout K P o → ((a : A) → P a → Q a)
+      → Throughout K Q o
   through-more (at-end k p) f = at-end k (f _ p)
   through-more (at-ask k x) f = at-ask k (λ v t h. through-more (x v t h) f)
 
@@ -38,7 +41,8 @@ module _ {S : Type 0} {K : S → Type 0} where
   through-bind (at-end k p) f = f _ _ k p
   through-bind (at-ask k x) f = at-ask k (λ v t h. through-bind (x v t h) f)
 
-  through-cond : {A : Type 0} {P : A → Type 0} (b : Bool) {o u : tree.Out S A} → Throughout K P o → Throughout K P u → Throughout K P (cond b o u)
+  through-cond : {A : Type 0} {P : A → Type 0} (b : Bool) {o u : tree.Out S A} → Throughout K P o → Throughout K P u
+      → Throughout K P (cond b o u)
   through-cond true x y = x
   through-cond false x y = y
 
@@ -126,7 +130,8 @@ put-at x (ep-cell d e) v s h k = k
 put-at x (request-cell d e) v s h k = k
 put-at x (paced-cell e) v s h k = k
 
-pub act-at : (q : Act) → allocates q ≡ false → (s : St) → concrete .act q s .0 .globals .entered ≡ s .0 .globals .entered
+pub act-at : (q : Act) → allocates q ≡ false → (s : St) → concrete .act q s .0 .globals .entered
+    ≡ s .0 .globals .entered
 act-at q h s = λ i. act-leaves q h s .rest i .0 .entered
 
 pub hand-at : (q : DmaStep) (s : St) → concrete .hand q s .1 .0 .globals .entered ≡ s .0 .globals .entered
@@ -141,8 +146,10 @@ not-allocates false h = refl
 pub keeps-run : {i : Bool} {A : Type 0} (x : ℕ) (p : Script i A) → ChangesOnly passing x p → (s : St) → At x s
     → Throughout (At x) (Gives x p) (run concrete p s)
 keeps-run x (ret a) h s k = at-end k refl
-keeps-run x (bind p f) h s k = through-bind (keeps-run x p (h .0) s k) (λ a t l g. through-more (keeps-run x (f a) (h .1 a g) t l) (λ b w. tt))
-keeps-run x (test b p q) h s k = through-cond b (through-more (keeps-run x p (h .0) s k) (λ a w. tt)) (through-more (keeps-run x q (h .1) s k) (λ a w. tt))
+keeps-run x (bind p f) h s k = through-bind (keeps-run x p (h .0) s k)
+    (λ a t l g. through-more (keeps-run x (f a) (h .1 a g) t l) (λ b w. tt))
+keeps-run x (test b p q) h s k = through-cond b (through-more (keeps-run x p (h .0) s k) (λ a w. tt))
+    (through-more (keeps-run x q (h .1) s k) (λ a w. tt))
 keeps-run x (read-then r e f) h s k = at-ask k (λ v t l. through-more (keeps-run x (f v) (h v) t l) (λ a w. tt))
 keeps-run x (write-then r e v p) h s k = at-ask k (λ _ t l. through-more (keeps-run x p h t l) (λ a w. tt))
 keeps-run x (wait-then n p) h s k = at-ask k (λ _ t l. through-more (keeps-run x p h t l) (λ a w. tt))
@@ -150,10 +157,15 @@ keeps-run x (callback-then p) h s k = at-ask k (λ _ t l. through-more (keeps-ru
 keeps-run x (get-then c f) h s k =
     let g = get-says x c s k in
     through-more (keeps-run x (f (concrete .get c s)) (h (concrete .get c s) g) s k) (λ a w. (concrete .get c s, g, w))
-keeps-run x (put-then c v p) h s k = through-more (keeps-run x p (h .1) (concrete .put c v s) (put-at x c v s (h .0) k)) (λ a w. tt)
-keeps-run x (is-then q f) h s k = through-more (keeps-run x (f (concrete .is q s)) (h (concrete .is q s)) s k) (λ a w. tt)
-keeps-run x (look-then q f) h s k = through-more (keeps-run x (f (concrete .look q s)) (h (concrete .look q s)) s k) (λ a w. tt)
-keeps-run x (fetch-then q f) h s k = through-more (keeps-run x (f (concrete .fetch q s)) (h (concrete .fetch q s)) s k) (λ a w. tt)
-keeps-run x (act-then q p) h s k = through-more (keeps-run x p (h .1) (concrete .act q s) (act-at q (not-allocates (allocates q) (h .0)) s ∙ k)) (λ a w. tt)
+keeps-run x (put-then c v p) h s k = through-more (keeps-run x p (h .1) (concrete .put c v s) (put-at x c v s (h .0) k))
+    (λ a w. tt)
+keeps-run x (is-then q f) h s k = through-more (keeps-run x (f (concrete .is q s)) (h (concrete .is q s)) s k)
+    (λ a w. tt)
+keeps-run x (look-then q f) h s k = through-more (keeps-run x (f (concrete .look q s)) (h (concrete .look q s)) s k)
+    (λ a w. tt)
+keeps-run x (fetch-then q f) h s k = through-more (keeps-run x (f (concrete .fetch q s)) (h (concrete .fetch q s)) s k)
+    (λ a w. tt)
+keeps-run x (act-then q p) h s k = through-more (keeps-run x p (h .1) (concrete .act q s)
+    (act-at q (not-allocates (allocates q) (h .0)) s ∙ k)) (λ a w. tt)
 keeps-run x (hand-then q p) h s k = at-ask (hand-at q s ∙ k) (λ _ t l. through-more (keeps-run x p h t l) (λ a w. tt))
 keeps-run x (row-then g p) h s k = absurd h

@@ -1,4 +1,5 @@
--- Laws on the kept values that driver and book have alike (`SameKept`, Coupling.antt): those of all endpoints set anew, or those of each
+-- Laws on the kept values that driver and book have alike (`SameKept`, Coupling.antt): those of all endpoints set anew,
+-- or those of each
 use mathlib.Core.Path.{_≡_, ap, _∙_}
 use Prim.Native.Nat.{ℕ}
 use Rattle.regs.specs.declared.Dir.{Dir}
@@ -20,7 +21,8 @@ TablesStay d d′ =
     × ((dir : Dir) (e : ℕ) → requestOn d′ dir e ≡ requestOn d dir e)
     × ((dir : Dir) (e : ℕ) → plainOf (epOn d′ dir e) ≡ plainOf (epOn d dir e))
 
-pub same-values : {d d′ : Driver} {k : Kept} {g : Globals} {w : Wakes} {c : Control} {a : Allocator} → SameKept d k → TablesStay d d′
+pub same-values : {d d′ : Driver} {k : Kept} {g : Globals} {w : Wakes} {c : Control} {a : Allocator} → SameKept d k
+    → TablesStay d d′
     → d′ .globals ≡ g → d′ .wakes ≡ w → d′ .control ≡ c → d′ .allocator ≡ a → SameKept d′ (keptValues k g w c a)
 same-values s z g w c a = record {
   globals = g;
@@ -39,7 +41,8 @@ Values = Globals × Wakes × Control × Allocator
 abbrev pub valuesOf : Driver → Values
 valuesOf d = (d .globals, d .wakes, d .control, d .allocator)
 
-pub same-tables : {d d′ : Driver} {k : Kept} {p : ℕ → ℕ} {r : Dir → ℕ → Request} {x : Dir → ℕ → EpCore} → SameKept d k → valuesOf d′ ≡ valuesOf d
+pub same-tables : {d d′ : Driver} {k : Kept} {p : ℕ → ℕ} {r : Dir → ℕ → Request} {x : Dir → ℕ → EpCore} → SameKept d k
+    → valuesOf d′ ≡ valuesOf d
     → ((e : ℕ) → pacedOn d′ e ≡ p e) → ((dir : Dir) (e : ℕ) → requestOn d′ dir e ≡ r dir e)
     → ((dir : Dir) (e : ℕ) → plainOf (epOn d′ dir e) ≡ x dir e) → SameKept d′ (keptTables k p r x)
 same-tables s v p r x = record {

@@ -12,7 +12,7 @@ use Rattle.script.specs.Answers.{Answer}
 use Rattle.script.specs.Machine.{Buf, Machine}
 use Rattle.proof_book.specs.Pages.{Packet, Pages}
 use Rattle.proof_book.specs.Lengths.{Readings, Known, learnt, lengthOf}
-use Rattle.proof_book.specs.FrontPage.{Made, Decides}
+use Rattle.proof_book.specs.FrontPage.{CallRecord, Decides}
 use Rattle.proof_book.specs.FrontPage as page
 use Rattle.proof_book.specs.Watched.{Watch, WatchedBook, most, Whole}
 use Rattle.proof_book.specs.Watched as watched
@@ -31,15 +31,18 @@ pub record StoredWhole (e k : ℕ) (packet : List ℕ) (w : Watch) (t : Pages) (
   pub last : LastDiffers (length packet) packet
 
 -- call m, the book n before it, what the operation under way was brought, and the count of armings
-abbrev pub JoinsAsReceived : ℕ → ℕ → List ℕ → Made → Machine Answer Pages → Known → Machine Answer WatchedBook → Type 0
+abbrev pub JoinsAsReceived : ℕ → ℕ → List ℕ → CallRecord → Machine Answer Pages → Known → Machine Answer WatchedBook
+    → Type 0
 JoinsAsReceived e k packet m n f y = Decides (m .event .call) n (m .answer) e → ByMarks (f .readings) e
     → StoredWhole e k packet (y .st .watch) (n .st) (m .event .lent) → (q : Packet)
-    → page.noted m n .1 .st .outs e .waiting ≡ n .st .outs e .waiting ++ (q ∷ []) → q .bytes ≡ packet
+    → page.bookAfter m n .1 .st .outs e .waiting ≡ n .st .outs e .waiting ++ (q ∷ []) → q .bytes ≡ packet
 
 -- of each call of a list
-abbrev pub JoinEach : ℕ → ℕ → List ℕ → Machine Answer Pages → Known → Machine Answer WatchedBook → List Made → Type 0
+abbrev pub JoinEach : ℕ → ℕ → List ℕ → Machine Answer Pages → Known → Machine Answer WatchedBook → List CallRecord
+    → Type 0
 JoinEach e k packet n f y [] = Unit {0}
 JoinEach e k packet n f y (m ∷ ms) =
     let l = learnt (m .event .call) (m .answer) f in
     JoinsAsReceived e k packet m n l y
-    × JoinEach e k packet (page.noted m n .1) l (watched.noted e (m .answer) (m .event .call) y (m .event .lent) .1) ms
+    × JoinEach e k packet (page.bookAfter m n .1) l (watched.noted e (m .answer) (m .event .call) y (m .event .lent) .1)
+    ms

@@ -1,4 +1,5 @@
--- A late packet (request Eight) at any time of a run between two rows: its length is found, and it joins those that wait with its own bytes
+-- A late packet (request Eight) at any time of a run between two rows: its length is found, and it joins those that
+-- wait with its own bytes
 use mathlib.Core.Bool.{true}
 use mathlib.Core.List.{List}
 use mathlib.Core.Path.{_≡_, ap, subst, sym, _∙_}
@@ -24,14 +25,15 @@ use Rattle.proof_book.specs.Coupling.{Coupling}
 use Rattle.proof_book.specs.HeldLaws.{Words, receives, receives-used, good-words}
 use Rattle.proof_book.specs.OutsLaws.{look-marked}
 
--- The packet was stored alone in the slot of OUT e's last receive address since this was handed out, b then being the buffer; it lies within the
--- maximum, and its last byte, if it has one, differs from the mark's byte at its place.
+-- The packet was stored alone in the slot of OUT e's last receive address since this was handed out, b then being the
+-- buffer; it lies within the maximum, and its last byte, if it has one, differs from the mark's byte at its place.
 pub record LateB (e : ℕ) (t : Pages) (b packet c : List ℕ) : Type 0 where
   pub small : length packet ≤ t .kept .plain Out e .«max_len»
   pub alone : StoredAlone b (t .outs e .slot) (t .kept .plain Out e .«max_len») packet c
   pub last : LastDiffers (length packet) packet
 
-module _ {c : Buf} {d : Driver} {t : Pages} (R : Coupling quiet c d t) (e : ℕ) (u : receives d e ≡ true) {b packet : List ℕ} (p : LateB e t b packet c) where
+module _ {c : Buf} {d : Driver} {t : Pages} (R : Coupling quiet c d t) (e : ℕ) (u : receives d e ≡ true)
+    {b packet : List ℕ} (p : LateB e t b packet c) where
   max-same : epOn d Out e .«max_len» ≡ t .kept .plain Out e .«max_len»
   max-same = ap (λ (q : EpCore). q .«max_len») (R .same .plain Out e)
 
@@ -63,5 +65,6 @@ module _ {c : Buf} {d : Driver} {t : Pages} (R : Coupling quiet c d t) (e : ℕ)
   pub late-joins : packetB e (bookOps .look (marked e) (t, c)) (t, c) .bytes ≡ packet
   late-joins =
       ap (λ (n : ℕ). bytesAt c (t .outs e .slot) n)
-      (let m : min (bookOps .look (marked e) (t, c)) (t .kept .plain Out e .«max_len») ≡ length packet = omega (arith, late-booked, p .small) in m)
+      (let m : min (bookOps .look (marked e) (t, c)) (t .kept .plain Out e .«max_len») ≡ length packet
+      = omega (arith, late-booked, p .small) in m)
       ∙ true-bytes b (t .outs e .slot) (t .kept .plain Out e .«max_len») packet slot-fits (p .small) c (p .alone)

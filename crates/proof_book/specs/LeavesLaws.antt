@@ -1,5 +1,5 @@
--- What each operation of a script leaves of the driver's state, said once: of the endpoints' records any part f, of the rest any part h. What a
--- theorem needs of it is narrower, and follows in a line
+-- What each operation of a script leaves of the driver's state, said once: of the endpoints' records any part f, of the
+-- rest any part h. What a theorem needs of it is narrower, and follows in a line
 use mathlib.Core.Bool.{Bool, true, false, cond, true≢false}
 use mathlib.Core.List.{List}
 use mathlib.Core.Path.{_≡_, refl, ap, sym, _∙_}
@@ -26,9 +26,11 @@ use Rattle.ring.specs.Slot.{slotAddr, joinedOf, passedOf, hasWaiting}
 use Rattle.ring.specs.Out.{hasRoomOut, cappedAt, overrunOf, arrivedOf, armedAt, openedOf, closedOf}
 use Rattle.ring.specs.In.{completedOf, loadedOf, unloadedOf}
 use Rattle.ring.specs.Copies.{copied}
-use Rattle.script.specs.Cells.{sameSort, Cell, Val, globals-cell, control-cell, allocator-cell, ep-cell, request-cell, paced-cell}
+use Rattle.script.specs.Cells.{sameSort, Cell, Val, globals-cell, control-cell, allocator-cell, ep-cell, request-cell}
+use Rattle.script.specs.Cells.{paced-cell}
 use Rattle.script.specs.Script.{Act, complete, reset-ring, set-enabled, fill, fill0, open-oldest, close-oldest}
-use Rattle.script.specs.Script.{take-oldest, enqueue, allocate, allocate0, no-wakes, waken, DmaStep, arrive, send, place}
+use Rattle.script.specs.Script.{take-oldest, enqueue, allocate, allocate0, no-wakes, waken, DmaStep, arrive, send}
+use Rattle.script.specs.Script.{place}
 use Rattle.script.specs.Script.{place0, Burst, switch, bus-reset}
 use Rattle.script.specs.Statics.{isOn, isoOuts}
 use Rattle.script.specs.TransferKinds.{allocates}
@@ -48,7 +50,8 @@ pub record Leaves {X Y : Type 0} (f : EpState → X) (h : Driver → Y) (d d′ 
   pub rest : h d′ ≡ h d
 
 -- the record at one place of a list, and at the others
-part-set : {X : Type 0} (f : EpState → X) (l : List EpState) (k j : ℕ) (r : EpState) → f r ≡ f (getD l k noEp) → f (getD (set l k r) j noEp) ≡ f (getD l j noEp)
+part-set : {X : Type 0} (f : EpState → X) (l : List EpState) (k j : ℕ) (r : EpState) → f r ≡ f (getD l k noEp)
+    → f (getD (set l k r) j noEp) ≡ f (getD l j noEp)
 part-set f l k j r m = elim (ℕ-discrete j k) [
   | yes p ↦ rw p (elim (decLt k (length l)) [
     | yes q ↦ ap f (getD-set-same l k r noEp q) ∙ m
@@ -61,7 +64,12 @@ part-set f l k j r m = elim (ℕ-discrete j k) [
 
 module _ {X Y : Type 0} {f : EpState → X} {h : Driver → Y} where
   then : {d x y : Driver} → Leaves f h d x → Leaves f h x y → Leaves f h d y
-  then p q = record { places = q .places ∙ p .places; each = λ dir e. q .each dir e ∙ p .each dir e; rest = q .rest ∙ p .rest }
+  then p q = record {
+    places = q .places ∙ p .places;
+    each = λ dir e. q .each dir e ∙ p .each dir e;
+    rest = q .rest
+        ∙ p .rest;
+  }
 
   -- either answer of a test
   either : {d x y : Driver} (b : Bool) → Leaves f h d x → Leaves f h d y → Leaves f h d (cond b x y)
@@ -71,7 +79,12 @@ module _ {X Y : Type 0} {f : EpState → X} {h : Driver → Y} where
   -- a change of other records than the endpoints'
   pub others : (d d′ : Driver) → d′ .eps ≡ d .eps → h d′ ≡ h d → Leaves f h d d′
   unfolding epOn
-  others d d′ p r = record { places = ap length p; each = λ dir e. ap (λ (l : List EpState). f (getD l (key dir e) noEp)) p; rest = r }
+  others d d′ p r = record {
+    places = ap length p;
+    each
+        = λ dir e. ap (λ (l : List EpState). f (getD l (key dir e) noEp)) p;
+    rest = r;
+  }
 
   unchanged : (d : Driver) → Leaves f h d d
   unchanged d = others d d refl refl
@@ -86,20 +99,28 @@ module _ {X Y : Type 0} {f : EpState → X} {h : Driver → Y} where
   }
 
   -- a part of the part
-  pub narrow : {X′ Y′ : Type 0} (g : X → X′) (k : Y → Y′) {d d′ : Driver} → Leaves f h d d′ → Leaves (λ r. g (f r)) (λ x. k (h x)) d d′
+  pub narrow : {X′ Y′ : Type 0} (g : X → X′) (k : Y → Y′) {d d′ : Driver} → Leaves f h d d′
+      → Leaves (λ r. g (f r)) (λ x. k (h x)) d d′
   narrow g k p = record { places = p .places; each = λ dir e. ap g (p .each dir e); rest = ap k (p .rest) }
 
 -- ---- rings, slots and wake-ups: all else stays, but at an allocation
 
--- all but rings, lengths, stamps, paced microframes and wake-ups, of which the room stays; where an endpoint is turned on or off (`t`), but the kept
--- ep_config too
+-- all but rings, lengths, stamps, paced microframes and wake-ups, of which the room stays; where an endpoint is turned
+-- on or off (`t`), but the kept ep_config too
 abbrev pub restOf : Bool → Driver → Globals × Allocator × List Request × Control × ℕ
-restOf t d = (withEpConfig (cond t 0 (d .globals .«ep_config»)) (d .globals), d .allocator, d .requests, d .control, length (d .wakes .codes))
+restOf t d = (
+  withEpConfig (cond t 0 (d .globals .«ep_config»)) (d .globals),
+  d .allocator,
+  d .requests,
+  d .control,
+  length (d .wakes .codes),
+)
 
 abbrev pub RingsOnly : Bool → Driver → Driver → Type 0
 RingsOnly t = Leaves plainOf (restOf t)
 
-ring-only : (t : Bool) (d : Driver) (dir : Dir) (e : ℕ) (r : EpState) → plainOf r ≡ plainOf (epOn d dir e) → RingsOnly t d (withOn d dir e r)
+ring-only : (t : Bool) (d : Driver) (dir : Dir) (e : ℕ) (r : EpState) → plainOf r ≡ plainOf (epOn d dir e)
+    → RingsOnly t d (withOn d dir e r)
 unfolding withOn
 ring-only t d dir e r m = record-leaves d dir e r m refl
 
@@ -121,7 +142,8 @@ arrived-plain r = by (hasRoomOut r)
 
 queued-leaves : (d : Driver) (e n : ℕ) → RingsOnly false d (queuedOn d e n)
 unfolding queuedOn withLenOn joinedOf epOn
-queued-leaves d e n = then (others d (withLenOn d In e _ n) refl refl) (ring-only false (withLenOn d In e _ n) In e (joinedOf (epOn d In e)) refl)
+queued-leaves d e n = then (others d (withLenOn d In e _ n) refl refl)
+    (ring-only false (withLenOn d In e _ n) In e (joinedOf (epOn d In e)) refl)
 
 -- the change that sets the kept ep_config
 abbrev pub turns : Act → Bool
@@ -134,13 +156,20 @@ act-leaves (reset-ring d e) m s = either (isoOut (s .0) d e) (unchanged (s .0)) 
 act-leaves (set-enabled d e on) m s = either (isoOut (s .0) d e) (unchanged (s .0)) (others (s .0) _ refl refl)
 act-leaves (fill e bytes) m s = unchanged (s .0)
 act-leaves (fill0 bytes) m s = unchanged (s .0)
-act-leaves (open-oldest e) m s = either (hasWaiting (epOn (s .0) Out e)) (ring-only false (s .0) Out e _ refl) (unchanged (s .0))
-act-leaves (close-oldest e) m s = either (isOn (epOn (s .0) Out e .«open»)) (ring-only false (s .0) Out e _ refl) (unchanged (s .0))
-act-leaves (take-oldest e) m s = either (hasWaiting (epOn (s .0) Out e)) (ring-only false (s .0) Out e _ refl) (unchanged (s .0))
+act-leaves (open-oldest e) m s = either (hasWaiting (epOn (s .0) Out e)) (ring-only false (s .0) Out e _ refl)
+    (unchanged (s .0))
+act-leaves (close-oldest e) m s = either (isOn (epOn (s .0) Out e .«open»)) (ring-only false (s .0) Out e _ refl)
+    (unchanged (s .0))
+act-leaves (take-oldest e) m s = either (hasWaiting (epOn (s .0) Out e)) (ring-only false (s .0) Out e _ refl)
+    (unchanged (s .0))
 act-leaves (enqueue e bytes) m s = by (roomOn (s .0) e (length bytes))
   where
     by : (b : Bool)
-        → RingsOnly false (s .0) (cond b (queuedOn (s .0) e (length bytes), copied (s .1) (slotAddr (epOn (s .0) In e) (epOn (s .0) In e .head)) bytes) s .0)
+        → RingsOnly false (s .0) (cond b (
+          queuedOn (s .0) e (length bytes),
+          copied (s .1)
+              (slotAddr (epOn (s .0) In e) (epOn (s .0) In e .head)) bytes,
+        ) s .0)
     by true = queued-leaves (s .0) e (length bytes)
     by false = unchanged (s .0)
 act-leaves (allocate d kind address maximum interval) m s = absurd (true≢false m)
@@ -154,7 +183,8 @@ act-leaves (waken codes) m s =
 pub by-act : {K : Act → Driver → Type 0} (s : St) → ((q : Act) (d : Driver) → RingsOnly (turns q) (s .0) d → K q d)
     → ((dir : Dir) (kind address maximum interval : ℕ)
     → K (allocate dir kind address maximum interval) (concrete .act (allocate dir kind address maximum interval) s .0))
-    → ((maximum : ℕ) → K (allocate0 maximum) (concrete .act (allocate0 maximum) s .0)) → (q : Act) → K q (concrete .act q s .0)
+    → ((maximum : ℕ) → K (allocate0 maximum) (concrete .act (allocate0 maximum) s .0)) → (q : Act)
+    → K q (concrete .act q s .0)
 by-act s k g z (complete e) = k _ _ (act-leaves (complete e) refl s)
 by-act s k g z (reset-ring d e) = k _ _ (act-leaves (reset-ring d e) refl s)
 by-act s k g z (set-enabled d e on) = k _ _ (act-leaves (set-enabled d e on) refl s)
@@ -186,8 +216,10 @@ pub hand-leaves : (q : DmaStep) (s : St) → RingsOnly false (s .0) (concrete .h
 unfolding arriveOn sendOn loadedOf placeOn
 hand-leaves (arrive e n) s = by (isSet (isoOuts (s .0 .globals)) (e % 16))
   where
-    by : (b : Bool) → RingsOnly false (s .0) (cond b (arrivedAt e (cappedAt (epOn (s .0) Out e) n) s) (epOn (s .0) Out e .«armed_slot», s) .1 .0)
-    by true = let len = cappedAt (epOn (s .0) Out e) n in then (admitted-leaves (s .0) e len) (armed-leaves (admittedOn (s .0) e len) e _)
+    by : (b : Bool) → RingsOnly false (s .0) (cond b (arrivedAt e (cappedAt (epOn (s .0) Out e) n) s)
+        (epOn (s .0) Out e .«armed_slot», s) .1 .0)
+    by true = let len = cappedAt (epOn (s .0) Out e) n in then (admitted-leaves (s .0) e len)
+        (armed-leaves (admittedOn (s .0) e len) e _)
     by false = unchanged (s .0)
 hand-leaves (send e) s = either (hasWaiting (epOn (s .0) In e)) (ring-only false (s .0) In e _ refl) (unchanged (s .0))
 hand-leaves (place Out e) s = by (isSet (isoOuts (s .0 .globals)) (e % 16))
@@ -237,7 +269,8 @@ rings-stay t p =
     narrow (λ r. (r .iso, r .kind, r .«max_len»))
     (λ x. ((x .0 .stage, x .0 .«iso_out_eps», x .0 .«iso_in_every», x .0 .«ep_config», x .1, x .4), x .2)) p
 
-record-stays : (t : Bool) (d : Driver) (dir : Dir) (e : ℕ) (r : EpState) → givenOf r ≡ givenOf (epOn d dir e) → RequestsStay t d (withOn d dir e r)
+record-stays : (t : Bool) (d : Driver) (dir : Dir) (e : ℕ) (r : EpState) → givenOf r ≡ givenOf (epOn d dir e)
+    → RequestsStay t d (withOn d dir e r)
 unfolding withOn
 record-stays t d dir e r m = record-leaves d dir e r m refl
 
@@ -253,7 +286,8 @@ put-given (paced-cell e) v s = others (s .0) _ refl refl
 abbrev pub isRequest : Cell → Bool
 isRequest c = sameSort c (request-cell Out 0)
 
-put-requests : (c : Cell) → isRequest c ≡ false → (v : Val c) (s : St) → concrete .put c v s .0 .requests ≡ s .0 .requests
+put-requests : (c : Cell) → isRequest c ≡ false → (v : Val c) (s : St) → concrete .put c v s .0 .requests
+    ≡ s .0 .requests
 unfolding withOn withPacedOn
 put-requests globals-cell m v s = refl
 put-requests control-cell m v s = refl
@@ -262,8 +296,14 @@ put-requests (ep-cell d e) m v s = refl
 put-requests (request-cell d e) m v s = absurd (true≢false m)
 put-requests (paced-cell e) m v s = refl
 
-pub put-stays : (c : Cell) → isRequest c ≡ false → (v : Val c) (s : St) → RequestsStay false (s .0) (concrete .put c v s .0)
-put-stays c m v s = let p = put-given c v s in record { places = p .places; each = p .each; rest = λ i. (p .rest i, put-requests c m v s i) }
+pub put-stays : (c : Cell) → isRequest c ≡ false → (v : Val c) (s : St)
+    → RequestsStay false (s .0) (concrete .put c v s .0)
+put-stays c m v s = let p = put-given c v s in record {
+  places = p .places;
+  each = p .each;
+  rest
+      = λ i. (p .rest i, put-requests c m v s i);
+}
 
 renewed-stays : (d : Driver) (e : ℕ) → RequestsStay false d (renewedOn d e)
 unfolding renewedOn clearStamps epOn
@@ -273,8 +313,10 @@ slot-stays : (e k : ℕ) (s : St) → RequestsStay false (s .0) (slotStep e k s 
 unfolding slotStep
 slot-stays e k s = by (isOn (epOn (s .0) Out e .iso)) (eqb k 15)
   where
-    by : (b c : Bool) → RequestsStay false (s .0) (cond b (armAt e k (cond c (renewedOn (s .0) e) (s .0), s .1)) (epOn (s .0) Out e .«armed_slot», s) .1 .0)
-    by true c = then (either c (renewed-stays (s .0) e) (unchanged (s .0))) (rings-stay false (armed-leaves (cond c (renewedOn (s .0) e) (s .0)) e _))
+    by : (b c : Bool) → RequestsStay false (s .0) (cond b (armAt e k (cond c (renewedOn (s .0) e) (s .0), s .1))
+        (epOn (s .0) Out e .«armed_slot», s) .1 .0)
+    by true c = then (either c (renewed-stays (s .0) e) (unchanged (s .0)))
+        (rings-stay false (armed-leaves (cond c (renewedOn (s .0) e) (s .0)) e _))
     by false c = unchanged (s .0)
 
 below-stays : (n : ℕ) (d : Driver) → RequestsStay false d (resetBelow n d)
@@ -283,7 +325,8 @@ below-stays zero d = unchanged d
 below-stays (suc n) d =
     let x = resetBelow n d in
     let y = withOn x Out n (resetOf (epOn x Out n)) in
-    then (below-stays n d) (then (record-stays false x Out n (resetOf (epOn x Out n)) refl) (record-stays false y In n (resetOf (epOn y In n)) refl))
+    then (below-stays n d) (then (record-stays false x Out n (resetOf (epOn x Out n)) refl)
+    (record-stays false y In n (resetOf (epOn y In n)) refl))
 
 all-stays : (d : Driver) → RequestsStay false d (resetAll d)
 unfolding resetAll noStamps

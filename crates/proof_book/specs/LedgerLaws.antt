@@ -1,4 +1,5 @@
--- Demand 3's sentences on packets, of the driver's rings and the book's history of the stretch, as they hold after each call
+-- Demand 3's sentences on packets, of the driver's rings and the book's history of the stretch, as they hold after each
+-- call
 use mathlib.Core.Bool.{Bool, true, false, cond}
 use mathlib.Core.List.{List, [], _∷_, _++_, map-append, append-assoc}
 use mathlib.Core.Path.{_≡_, refl, ap, sym, _∙_}
@@ -44,7 +45,8 @@ module _ {φ : Phase} {b : Buf} {d : Driver} {t : Pages} (R : Coupling φ b d t)
   few-in = few In 2 (omega arith) slots-in
 
   -- "the packets read in its stretch, then those queued, are exactly that stretch's admitted arrivals, in order"
-  pub read-then-queued : bytesOf (t .outs e .read) ++ waiting b (epOn d Out e) (lensOf d Out e) ≡ bytesOf (t .outs e .admitted)
+  pub read-then-queued : bytesOf (t .outs e .read) ++ waiting b (epOn d Out e) (lensOf d Out e)
+      ≡ bytesOf (t .outs e .admitted)
   read-then-queued =
       let p = t .outs e in
       ap (λ (w : List (List ℕ)). bytesOf (p .read) ++ w) (R .outs e .held .waits)
@@ -52,7 +54,13 @@ module _ {φ : Phase} {b : Buf} {d : Driver} {t : Pages} (R : Coupling φ b d t)
 
   -- "At most 15 wait"
   pub at-most-15 : length (t .outs e .waiting) ≤ 15
-  at-most-15 = omega (arith, held-length (R .outs e .held), length-map (t .outs e .waiting) (λ (q : Packet). q .bytes), R .outs e .held .ring .few, few-out)
+  at-most-15 = omega (
+    arith,
+    held-length (R .outs e .held),
+    length-map (t .outs e .waiting) (λ (q : Packet). q .bytes),
+    R .outs e .held .ring .few,
+    few-out,
+  )
 
   -- "at most 2 wait"
   pub at-most-2 : length (t .ins e .waiting) ≤ 2
@@ -62,7 +70,8 @@ module _ {φ : Phase} {b : Buf} {d : Driver} {t : Pages} (R : Coupling φ b d t)
   pub once-in-order : (rest : List (List ℕ)) × (t .ins e .sent ++ rest ≡ t .ins e .queued)
   once-in-order = by (t .ins e .sending) (t .ins e .waiting) refl (R .ins e .reached)
     where
-      by : (s : Bool) (w : List (List ℕ)) → t .ins e .waiting ≡ w → t .ins e .sent ≡ t .ins e .passed ++ cond s (front w) []
+      by : (s : Bool) (w : List (List ℕ)) → t .ins e .waiting ≡ w → t .ins e .sent ≡ t .ins e .passed
+          ++ cond s (front w) []
           → (rest : List (List ℕ)) × (t .ins e .sent ++ rest ≡ t .ins e .queued)
       by true [] h k = (
         [],

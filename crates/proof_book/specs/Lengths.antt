@@ -1,5 +1,6 @@
--- Document 01: "Length: the one of this interrupt, else by the marks, probing words by halving up to the maximum". What the interrupt under way was
--- brought, by the calls and their answers alone, and which length that tells. Definitions; FrontPage.antt says it of every call
+-- Document 01: "Length: the one of this interrupt, else by the marks, probing words by halving up to the maximum". What
+-- the interrupt under way was brought, by the calls and their answers alone, and which length that tells. Definitions;
+-- FrontPage.antt says it of every call
 use mathlib.Core.Bool.{Bool, true, false, not, cond, _&&_}
 use mathlib.Core.List.{List, [], _∷_, _++_}
 use Prim.Native.Nat.{ℕ, min}
@@ -15,7 +16,7 @@ use Rattle.script.specs.Every.{sameReg}
 use Rattle.script.specs.IsoOut.{arriving}
 use Rattle.script.specs.Answers.{Answer}
 use Rattle.script.specs.Calls.{Config, Op}
-use Rattle.script.specs.Machine.{Buf, Call, start, begin, go, question, Ans, ended, handed, told, blank}
+use Rattle.script.specs.Machine.{Buf, Call, start, begin, continue, question, Ans, ended, handed, told, blank}
 use Rattle.proof_book.specs.Pages.{Pages}
 
 -- ---- what the operation under way was brought
@@ -52,7 +53,8 @@ bringing (Ep0Dma x) v h = h
 bringing (Wait n) v h = h
 bringing Callback v h = h
 
--- after a call, by what it was answered: a begin or a start-up that is handed an access begins an operation; a continue that is handed one went on.
+-- after a call, by what it was answered: a begin or a start-up that is handed an access begins an operation; a continue
+-- that is handed one went on.
 -- A refusal and a call that ends at once leave it
 abbrev pub learnt : Call Config Op → Ans Answer → Known → Known
 learnt (start c) (handed q) k = record { asked = blank q; readings = nothing-read }
@@ -61,9 +63,9 @@ learnt (start c) (told n) k = k
 learnt (begin o) (handed q) k = record { asked = blank q; readings = nothing-read }
 learnt (begin o) (ended a) k = k
 learnt (begin o) (told n) k = k
-learnt (go v) (handed q) k = record { asked = blank q; readings = bringing (k .asked) v (k .readings) }
-learnt (go v) (ended a) k = k
-learnt (go v) (told n) k = k
+learnt (continue v) (handed q) k = record { asked = blank q; readings = bringing (k .asked) v (k .readings) }
+learnt (continue v) (ended a) k = k
+learnt (continue v) (told n) k = k
 learnt (question q) a k = k
 
 -- ---- the length of an arrival
@@ -80,13 +82,16 @@ second (x ∷ xs) = first xs
 abbrev pub itsOwn : Readings → ℕ → Bool
 itsOwn h e = togOk (first (h .status)) && arriving (first (h .status)) e
 
--- "the one of this interrupt, else by the marks" (m). With the engine free at its beginning the length read there is the packet's. With the engine
--- busy the packet was still on the bus: its length is the one read after it, where the status then still is OUT for e and that length is not 0
+-- "the one of this interrupt, else by the marks" (m). With the engine free at its beginning the length read there is
+-- the packet's. With the engine busy the packet was still on the bus: its length is the one read after it, where the
+-- status then still is OUT for e and that length is not 0
 abbrev pub lengthOf : Readings → ℕ → ℕ → ℕ
 lengthOf h e m = cond (sieFree (first (h .engine)))
     (cond (itsOwn h e) (first (h .lengths)) m)
     (cond (itsOwn h e && (not (eqb (second (h .lengths)) 0) && arriving (second (h .status)) e)) (second (h .lengths)) m)
 
--- of OUT e, where the call that decides it is lent b and finds the book t: "an isochronous length is capped at the maximum"
+-- of OUT e, where the call that decides it is lent b and finds the book t: "an isochronous length is capped at the
+-- maximum"
 abbrev pub lengthAt : Readings → Buf → Pages → ℕ → ℕ
-lengthAt h b t e = let most = t .kept .plain Out e .«max_len» in min (lengthOf h e (markedLen b (t .outs e .slot) most)) most
+lengthAt h b t e = let most = t .kept .plain Out e .«max_len» in min (lengthOf h e (markedLen b (t .outs e .slot) most))
+    most

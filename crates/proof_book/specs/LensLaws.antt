@@ -10,7 +10,8 @@ use Rattle.regs.specs.declared.Dir.{Dir}
 use Rattle.regs.specs.declared.Dir.the-variants.{Out, In}
 use Rattle.state.specs.declared.EpState.{EpState}
 use Rattle.state.specs.Fresh.{clearStamps}
-use Rattle.state.specs.Driver.{Driver, key, lenKey, noEp, stampKey, epOn, withOn, lenOn, withLenOn, stampOn, withStampOn}
+use Rattle.state.specs.Driver.{Driver, key, lenKey, noEp, stampKey, epOn, withOn, lenOn, withLenOn, stampOn}
+use Rattle.state.specs.Driver.{withStampOn}
 use Rattle.state.specs.Laws.{Sized, key-same, stampKey-same, lenOn-same, lenOn-other, stampOn-same, stampOn-other}
 use Rattle.script_ops.specs.Stamps.{cleared-other}
 use Rattle.proof_book.specs.Coupling.{lensOf, slotStamps}
@@ -59,7 +60,8 @@ module _ (d : Driver) (dir : Dir) (e : ℕ) where
       tab-set (λ j. lenOn d dir e j) (λ j. lenOn (withLenOn d dir e i v) dir e j) 16 i v h (lenOn-same d dir e i v s)
       (λ j l n. lenOn-other d dir e i v dir e j (lenKey-slot dir e i j h l n))
 
-  pub lens-set-other : (i v : ℕ) (dir′ : Dir) (e′ : ℕ) → key dir′ e′ ≢ key dir e → lensOf (withLenOn d dir e i v) dir′ e′ ≡ lensOf d dir′ e′
+  pub lens-set-other : (i v : ℕ) (dir′ : Dir) (e′ : ℕ) → key dir′ e′ ≢ key dir e
+      → lensOf (withLenOn d dir e i v) dir′ e′ ≡ lensOf d dir′ e′
   lens-set-other i v dir′ e′ n =
       tab-ext (λ j. lenOn d dir′ e′ j) (λ j. lenOn (withLenOn d dir e i v) dir′ e′ j) 16
       (λ j l. lenOn-other d dir e i v dir′ e′ j (lenKey-key dir dir′ e e′ i j n))
@@ -85,7 +87,8 @@ pub stamps-at : (d : Driver) (e i : ℕ) → i < 16 → getD (slotStamps d e) i 
 stamps-at d e i h = getD-tab (λ j. stampOn d e j) 16 i 0 h
 
 -- records and lengths have none
-pub stamps-on : (d : Driver) (dir : Dir) (e : ℕ) (r : EpState) (x : ℕ) → slotStamps (withOn d dir e r) x ≡ slotStamps d x
+pub stamps-on : (d : Driver) (dir : Dir) (e : ℕ) (r : EpState) (x : ℕ) → slotStamps (withOn d dir e r) x
+    ≡ slotStamps d x
 unfolding withOn stampOn
 stamps-on d dir e r x = refl
 
@@ -114,7 +117,8 @@ module _ (d : Driver) (e : ℕ) where
 
   pub stamps-clear-other : (x : ℕ) → key Out x ≢ key Out e → slotStamps (clearStamps d e) x ≡ slotStamps d x
   unfolding key
-  stamps-clear-other x n = tab-ext (λ j. stampOn d x j) (λ j. stampOn (clearStamps d e) x j) 16 (λ j l. cleared-other d e x j n)
+  stamps-clear-other x n = tab-ext (λ j. stampOn d x j) (λ j. stampOn (clearStamps d e) x j) 16
+      (λ j l. cleared-other d e x j n)
 
   pub ep-clear : (dir : Dir) (x : ℕ) → epOn (clearStamps d e) dir x ≡ epOn d dir x
   unfolding clearStamps epOn

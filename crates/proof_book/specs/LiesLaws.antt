@@ -30,7 +30,8 @@ module _ {φ : Phase} {b : Buf} {d : Driver} {t : Pages} (R : Coupling φ b d t)
   placed-on Out e = R .outs e .held .placed
   placed-on In e = R .ins e .held .placed
 
-  pub lies : (dir : Dir) (e x : ℕ) → epOn d dir e .base ≤ x → x + epOn d dir e .stride ≤ endOf (epOn d dir e) → Lies b t x
+  pub lies : (dir : Dir) (e x : ℕ) → epOn d dir e .base ≤ x → x + epOn d dir e .stride ≤ endOf (epOn d dir e)
+      → Lies b t x
   lies dir e x l h = by (isSet (allocatedIn (d .allocator) dir) (e % 16)) (R .shape dir e)
     where
       none : (r : EpState) → r .base ≡ 0 → r .stride ≡ 0 → r .slots ≡ 1 → endOf r ≡ 0
@@ -42,16 +43,19 @@ module _ {φ : Phase} {b : Buf} {d : Driver} {t : Pages} (R : Coupling φ b d t)
       by false s = omega (arith, none (epOn d dir e) (s .base) (s .stride) (s .slots), R .ep0-lies, size-same)
 
   pub slot-lies : (dir : Dir) (e i : ℕ) → Lies b t (slotAddr (epOn d dir e) i)
-  slot-lies dir e i = lies dir e (slotAddr (epOn d dir e) i) (slot-from (placed-on dir e) i) (slot-upto (placed-on dir e) i)
+  slot-lies dir e i = lies dir e (slotAddr (epOn d dir e) i) (slot-from (placed-on dir e) i)
+      (slot-upto (placed-on dir e) i)
 
   pub base-lies : (dir : Dir) (e : ℕ) → Lies b t (epOn d dir e .base)
-  base-lies dir e = lies dir e (epOn d dir e .base) (omega arith) (omega (arith, slot-from (placed-on dir e) 0, slot-upto (placed-on dir e) 0))
+  base-lies dir e = lies dir e (epOn d dir e .base) (omega arith)
+      (omega (arith, slot-from (placed-on dir e) 0, slot-upto (placed-on dir e) 0))
 
   pub ep0-lies : Lies b t (d .globals .«ep0_buf»)
   ep0-lies = omega (arith, R .ep0-lies, size-same)
 
 -- the last receive address
-pub received-lies : {φ : Phase} {b : Buf} {d : Driver} (t : Pages) (e x : ℕ) → Coupling φ b d (feedB (Receive e x) t) → Lies b (feedB (Receive e x) t) x
+pub received-lies : {φ : Phase} {b : Buf} {d : Driver} (t : Pages) (e x : ℕ) → Coupling φ b d (feedB (Receive e x) t)
+    → Lies b (feedB (Receive e x) t) x
 received-lies {d = d} t e x R =
     let q = ap (λ (p : OutPage). p .slot) (out-same t e (slotTold (t .outs e) x)) in
     lies R Out e x (omega (arith, R .outs e .from, q)) (omega (arith, R .outs e .upto, q))

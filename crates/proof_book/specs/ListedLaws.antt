@@ -1,5 +1,5 @@
--- Request Three in a run: where driver and book agree at rest, as after every call of every list from an accepted start-up, a descriptor's endpoints
--- allocated as one operation are allocated one by one
+-- Request Three in a run: where driver and book agree at rest, as after every call of every list from an accepted
+-- start-up, a descriptor's endpoints allocated as one operation are allocated one by one
 use mathlib.Core.Bool.{Bool, true}
 use mathlib.Core.List.{List}
 use mathlib.Core.Path.{_≡_, ap, subst, _∙_}
@@ -29,7 +29,8 @@ use Rattle.proof_book.specs.Pages.{Pages}
 use Rattle.proof_book.specs.Coupling.{Used, Shape, Coupling}
 
 size-some : (size : ℕ) → goodSize size ≡ true → 1 ≤ size
-size-some size h = each-size (λ (z : ℕ). 1 ≤ z) (omega arith) (omega arith) (omega arith) (omega arith) (omega arith) (omega arith) size h
+size-some size h = each-size (λ (z : ℕ). 1 ≤ z) (omega arith) (omega arith) (omega arith) (omega arith) (omega arith)
+    (omega arith) size h
 
 used-below : (a : Allocator) (dir : Dir) (r : EpState) → 1 ≤ a .size → Used a dir r → r .base < a .next * a .size
 used-below a dir r l u =
@@ -45,9 +46,12 @@ rest-settled {d = d} r = record {
   below = λ dir m h t.
       let e : m % 16 ≡ m = omega arith in
       used-below (d .allocator) dir (epOn d dir m) (size-some (d .allocator .size) (r .good))
-      (subst (λ (x : Bool). Shape x (d .allocator) dir (epOn d dir m)) (ap (λ (z : ℕ). isSet (allocatedIn (d .allocator) dir) z) e ∙ t) (r .shape dir m));
+      (subst (λ (x : Bool). Shape x (d .allocator) dir (epOn d dir m))
+      (ap (λ (z : ℕ). isSet (allocatedIn (d .allocator) dir) z) e ∙ t) (r .shape dir m));
 }
 
-pub listed-in-order : {b : Buf} {d : Driver} {t : Pages} → Coupling quiet b d t → (bytes : List ℕ) → d .globals .stage ≡ 1 → ((j : ℕ) → getD bytes j 0 < 256)
+pub listed-in-order : {b : Buf} {d : Driver} {t : Pages} → Coupling quiet b d t → (bytes : List ℕ) → d .globals .stage
+    ≡ 1 → ((j : ℕ) → getD bytes j 0 < 256)
     → readingOf bytes .answer ≡ reading.Listed → trialOf (d .allocator) (listOf bytes) .refusal ≡ 0 → InOrder d b bytes
-listed-in-order {b = b} {d = d} r bytes stage small listed given = in-order d b bytes (rest-settled r) stage small listed given
+listed-in-order {b = b} {d = d} r bytes stage small listed given
+    = in-order d b bytes (rest-settled r) stage small listed given

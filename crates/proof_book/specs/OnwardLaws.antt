@@ -1,5 +1,5 @@
--- From its first access on, no script of a call but the interrupt changes a packet, but for loads and the release of a bus reset's flag: the scripts taken
--- apart, and their runs
+-- From its first access on, no script of a call but the interrupt changes a packet, but for loads and the release of a
+-- bus reset's flag: the scripts taken apart, and their runs
 use mathlib.Core.Bool.{Bool, true, false, cond, _&&_, true≢false}
 use mathlib.Core.List.{List, [], _∷_}
 use mathlib.Core.Logic.{inl}
@@ -44,18 +44,21 @@ use Rattle.proof_book.specs.FrameLaws.{at-elim}
 use Rattle.proof_book.specs.FrontPage.{PassesOn, enabling}
 use Rattle.proof_book.specs.Others.{releases, Names, none, otherNames}
 use Rattle.proof_book.specs.OthersStayLaws as stay
-use Rattle.proof_book.specs.OthersStayLaws.{Minds, m-ret, m-bind, m-write, m-get, minding, Spared, spare}
+use Rattle.proof_book.specs.OthersStayLaws.{ChangesOnlyNamed, m-ret, m-bind, m-write, m-get, minding, Spared}
+use Rattle.proof_book.specs.OthersStayLaws.{spare}
 use Rattle.proof_book.specs.BookTracksLaws.{Tracks, end, ask, tracks-bind}
-use Rattle.proof_book.specs.BookDecidesLaws.{Any, Passing, Loads, sendsTo, passing-then, waits-on, still-in, sends, passed}
+use Rattle.proof_book.specs.BookDecidesLaws.{Any, Passing, Loads, sendsTo, passing-then, waits-on, still-in}
+use Rattle.proof_book.specs.BookDecidesLaws.{sends, passed}
 use Rattle.proof_book.specs.BookDecidesLaws.{empty-load, packet-load}
 use Rattle.proof_book.specs.EarlyScriptsLaws.{stage, row-4}
 use Rattle.proof_book.specs.RefusingLaws.{Same, act-same, silent-ends, silently}
-use Rattle.proof_book.specs.RefusingLaws.{Silent, c-ret, c-bind, c-get, c-put, c-act}
+use Rattle.proof_book.specs.RefusingLaws.{HandsOutNothing, c-ret, c-bind, c-get, c-put, c-act}
 use Rattle.proof_book.specs.AnnouncingLaws.{announced}
 
 -- ---- from an access on
 
--- at an access: the OUT pages stay, and the IN pages but for a load's. z: of an allocation, whose transmit addresses send nothing; all others are loads
+-- at an access: the OUT pages stay, and the IN pages but for a load's. z: of an allocation, whose transmit addresses
+-- send nothing; all others are loads
 pub record Comes (z : Bool) (s : Bk) (q : Access) (t : Bk) : Type 0 where
   pub outs : (e : ℕ) → t .0 .outs e ≡ s .0 .outs e
   pub passing : Passing s q t
@@ -75,14 +78,24 @@ kept-then s t u h k = record { outs = λ e. k .outs e ∙ h .outs e; ins = λ e.
 
 at-then : {z : Bool} (s t u : Bk) (q : Access) → SentKept s t → KeptAt z t q u → KeptAt z s q u
 at-then s t u q h k r =
-    let x = k r in record { outs = λ e. x .outs e ∙ h .outs e; passing = passing-then s t u q (h .ins) (x .passing); loads = x .loads }
+    let x = k r in record {
+      outs = λ e. x .outs e ∙ h .outs e;
+      passing
+          = passing-then s t u q (h .ins) (x .passing);
+      loads = x .loads;
+    }
 
 still : (s : Bk) → SentKept s s
 still s = record { outs = λ e. refl; ins = λ e. refl }
 
 -- an access with which no page changes, no transmit address
 kept-at : {z : Bool} {s t : Bk} (q : Access) → ((e : ℕ) → sendsTo q e ≡ false) → SentKept s t → KeptAt z s q t
-kept-at q l h r = record { outs = h .outs; passing = still-in q l (h .ins); loads = λ _ e k. absurd (true≢false (sym k ∙ l e)) }
+kept-at q l h r = record {
+  outs = h .outs;
+  passing = still-in q l (h .ins);
+  loads
+      = λ _ e k. absurd (true≢false (sym k ∙ l e));
+}
 
 -- ---- a script that does so all along
 
@@ -94,25 +107,31 @@ mayPlace false In = false
 
 pub data Later (z : Bool) : (A : Type 0) → Script false A → Type 1 where
   -- it changes no page
-  k-none : {A : Type 0} {p : Script false A} → Minds none A p → Later z A p
+  k-none : {A : Type 0} {p : Script false A} → ChangesOnlyNamed none A p → Later z A p
   k-load : {e : ℕ} → Later z Unit (isoInComplete e)
-  k-bind : {A B : Type 0} {p : Script false B} {f : B → Script false A} → Later z B p → ((b : B) → Later z A (f b)) → Later z A (bind p f)
+  k-bind : {A B : Type 0} {p : Script false B} {f : B → Script false A} → Later z B p → ((b : B) → Later z A (f b))
+      → Later z A (bind p f)
   k-test : {A : Type 0} {b : Bool} {p q : Script false A} → Later z A p → Later z A q → Later z A (test b p q)
-  k-place : {A : Type 0} {d : Dir} {e : ℕ} {p : Script false A} → mayPlace z d ≡ true → Later z A p → Later z A (hand-then (place d e) p)
+  k-place : {A : Type 0} {d : Dir} {e : ℕ} {p : Script false A} → mayPlace z d ≡ true → Later z A p
+      → Later z A (hand-then (place d e) p)
 
 -- one that hands out no access
 abbrev pub Free : (A : Type 0) → Script false A → Type 1
-Free A p = Silent (λ q. true) A p
+Free A p = HandsOutNothing (λ q. true) A p
 
 -- one that does so from its first access on; y: which may be an address that sends nothing
 pub data Heads (y z : Bool) : (A : Type 0) → Script false A → Type 1 where
   h-later : {A : Type 0} {p : Script false A} → Later z A p → Heads y z A p
   h-free : {A : Type 0} {p : Script false A} → Free A p → Heads y z A p
-  h-then : {A B : Type 0} {p : Script false B} {f : B → Script false A} → Free B p → ((b : B) → Heads y z A (f b)) → Heads y z A (bind p f)
-  h-bind : {A B : Type 0} {p : Script false B} {f : B → Script false A} → Heads y z B p → ((b : B) → Later z A (f b)) → Heads y z A (bind p f)
+  h-then : {A B : Type 0} {p : Script false B} {f : B → Script false A} → Free B p → ((b : B) → Heads y z A (f b))
+      → Heads y z A (bind p f)
+  h-bind : {A B : Type 0} {p : Script false B} {f : B → Script false A} → Heads y z B p → ((b : B) → Later z A (f b))
+      → Heads y z A (bind p f)
   h-test : {A : Type 0} {b : Bool} {p q : Script false A} → Heads y z A p → Heads y z A q → Heads y z A (test b p q)
-  h-switch : {A : Type 0} {e : ℕ} {on : Bool} {p : Script false A} → Later z A p → Heads y z A (row-then (switch e on) p)
-  h-place : {A : Type 0} {d : Dir} {e : ℕ} {p : Script false A} → y ≡ true → Later z A p → Heads y z A (hand-then (place d e) p)
+  h-switch : {A : Type 0} {e : ℕ} {on : Bool} {p : Script false A} → Later z A p
+      → Heads y z A (row-then (switch e on) p)
+  h-place : {A : Type 0} {d : Dir} {e : ℕ} {p : Script false A} → y ≡ true → Later z A p
+      → Heads y z A (hand-then (place d e) p)
 
 ruleset later = (k-load, k-bind, k-test, k-place, k-none, minding)
 
@@ -124,10 +143,12 @@ places : (f : ℕ) (s : Bk) → Passing s (Transmit f 0) (handB (place In f) s .
 places f s = record {
   spares = apart;
   passes = λ i e. at-elim (λ (p : InPage). PassesOn (s .0 .ins e) p) f e (placedIn (s .0 .ins f)) (s .0 .ins)
-      (λ m. subst (λ (p : InPage). PassesOn p (placedIn (s .0 .ins f))) (i f e (sym m)) (record { waiting = inl refl; queued = refl }))
+      (λ m. subst (λ (p : InPage). PassesOn p (placedIn (s .0 .ins f))) (i f e (sym m))
+      (record { waiting = inl refl; queued = refl }))
       (λ _. waits-on);
   empties = λ e g. inl (apart e g);
-  exact = λ i e g l. absurd (true≢false (sym l ∙ ap (λ (u : Bool). cond u (placedIn (s .0 .ins f)) (s .0 .ins e) .load) g));
+  exact = λ i e g l. absurd (true≢false (sym l ∙ ap (λ (u : Bool). cond u (placedIn (s .0 .ins f)) (s .0 .ins e) .load)
+      g));
 }
   where
     apart : (e : ℕ) → eqb (e % 16) (f % 16) ≡ false → handB (place In f) s .1 .0 .ins e ≡ s .0 .ins e
@@ -137,8 +158,14 @@ load-onto : {z : Bool} (e : ℕ) (s : Bk) (u : Bool) → some (passed e s .0 .in
     → let next : Script false Unit = bind (look (next-len In e)) (λ n. write EpTLen e n) in Onto z s
     (bindOut (cond u (asks (Transmit e 0) (handB (send e) (passed e s) .1) (λ _ t. run bookOps next t))
     (asks (Write EpTLen e 0) (passed e s) (λ _ t. ends tt t))) (λ _ t. run bookOps (wake {i = false} In e) t))
-load-onto e s true one = ask tt (λ _. record { outs = λ e. refl; passing = packet-load e s; loads = λ _. sends e (passed e s) one })
-    (λ v t _. ask tt (kept-at (Write EpTLen e _) (λ _. refl) (still t)) (λ v t _. end tt (act-same (waken (wakeCode In e ∷ [])) refl t)))
+load-onto e s true one = ask tt (λ _. record {
+  outs = λ e. refl;
+  passing = packet-load e s;
+  loads
+      = λ _. sends e (passed e s) one;
+})
+    (λ v t _. ask tt (kept-at (Write EpTLen e _) (λ _. refl) (still t))
+    (λ v t _. end tt (act-same (waken (wakeCode In e ∷ [])) refl t)))
 load-onto e s false empty = ask tt
     (λ _. record { outs = λ e. refl; passing = empty-load e s empty; loads = λ _ e k. absurd (true≢false (sym k)) })
     (λ v t _. end tt (act-same (waken (wakeCode In e ∷ [])) refl t))
@@ -147,7 +174,8 @@ load-onto e s false empty = ask tt
 onto-none : {z : Bool} {A : Type 0} {s : Bk} {o : tree.Out Bk A} → Spared none s o → Onto z s o
 onto-none (end i q) = end i (record { outs = λ e. q .outs e tt; ins = λ e. q .ins e tt })
 onto-none (ask {q = q} i m k) =
-    ask i (λ r. let x = m .pages r in kept-at q (λ e. m .transmits e tt) (record { outs = λ e. x .outs e tt; ins = λ e. x .ins e tt }) r)
+    ask i (λ r. let x = m .pages r in kept-at q (λ e. m .transmits e tt)
+    (record { outs = λ e. x .outs e tt; ins = λ e. x .ins e tt }) r)
     (λ v t j. onto-none (k v t j))
 
 pub onward : {z : Bool} {A : Type 0} {p : Script false A} → Later z A p → (s : Bk) → Onto z s (run bookOps p s)
@@ -172,10 +200,15 @@ pub of-onto : (y : Bool) {z : Bool} {A : Type 0} {s : Bk} {o : tree.Out Bk A} �
 of-onto y (end i q) = tt
 of-onto y (ask i m k) = (λ _ h r. m r .loads h, λ v u. k v u tt)
 
-head-bind : (y : Bool) {z : Bool} {A B : Type 0} (o : tree.Out Bk B) {f : B → Bk → tree.Out Bk A} → Head y z o → ((b : B) (t : Bk) → Onto z t (f b t))
+head-bind : (y : Bool) {z : Bool} {A B : Type 0} (o : tree.Out Bk B) {f : B → Bk → tree.Out Bk A} → Head y z o
+    → ((b : B) (t : Bk) → Onto z t (f b t))
     → Head y z (bindOut o f)
 head-bind y (ends a t) h g = of-onto y (g a t)
-head-bind y {z} (asks q t k) h g = (h .0, λ v u. tracks-bind Any SentKept (KeptAt z) kept-then at-then (h .1 v u) (λ a t _. g a t))
+head-bind y {z} (asks q t k) h g = (
+  h .0,
+  λ v u. tracks-bind Any SentKept (KeptAt z) kept-then at-then (h .1 v u)
+      (λ a t _. g a t),
+)
 
 -- the row of a switch after its first access
 module _ (f : ℕ) (on : Bool) where
@@ -198,11 +231,13 @@ module _ (f : ℕ) (on : Bool) where
   switch-quiet (suc (suc zero)) x e = refl
   switch-quiet (suc (suc (suc n))) x e = refl
 
-  switch-at : {z : Bool} (n : ℕ) (s : Bk) → n < 18 → let y = rowB (switch f on) n s in KeptAt z s (burstAsk (switch f on) n (y .0)) (y .1)
+  switch-at : {z : Bool} (n : ℕ) (s : Bk) → n < 18 → let y
+      = rowB (switch f on) n s in KeptAt z s (burstAsk (switch f on) n (y .0)) (y .1)
   switch-at n s l =
       let x = rowB (switch f on) n s .0 in kept-at (burstAsk (switch f on) n x) (switch-quiet n x) (switch-step n s l)
 
-  switch-rows : {z : Bool} {A : Type 0} (n : ℕ) → n < 18 → {k : Bk → tree.Out Bk A} → ((t : Bk) → Onto z t (k t)) → (s : Bk)
+  switch-rows : {z : Bool} {A : Type 0} (n : ℕ) → n < 18 → {k : Bk → tree.Out Bk A} → ((t : Bk) → Onto z t (k t))
+      → (s : Bk)
       → Onto z s (rows bookOps (switch f on) n k s)
   switch-rows zero l h s = ask tt (switch-at zero s l) (λ v t _. h t)
   switch-rows (suc n) l h s = ask tt (switch-at (suc n) s l) (λ v t _. switch-rows n (omega (arith, l)) h t)
@@ -212,7 +247,8 @@ heads-run {y} (h-later h) s = of-onto y (onward h s)
 heads-run {y} {z} (h-free h) s = let x = silent-ends h s in subst (Head y z) (sym (x .2)) tt
 heads-run {y} {z} (h-then {f = f} h g) s =
     let x = silent-ends h s in
-    subst (λ (o : tree.Out Bk _). Head y z (bindOut o (λ a t. run bookOps (f a) t))) (sym (x .2)) (heads-run (g (x .0)) (x .1))
+    subst (λ (o : tree.Out Bk _). Head y z (bindOut o (λ a t. run bookOps (f a) t))) (sym (x .2))
+    (heads-run (g (x .0)) (x .1))
 heads-run {y} (h-bind {p = p} h g) s = head-bind y (run bookOps p s) (heads-run h s) (λ b t. onward (g b) t)
 heads-run (h-test {b = true} h g) s = heads-run h s
 heads-run (h-test {b = false} h g) s = heads-run g s
@@ -229,7 +265,8 @@ unfolding isoInCompletions
 of-completions zero e = k-none m-ret
 of-completions (suc n) e = k-bind k-load (λ _. of-completions n e)
 
-of-allocated : (d : Dir) (kind maximum : ℕ) (a : alloc-answer.Answer) → Later true Answer (allocated-as d kind maximum a)
+of-allocated : (d : Dir) (kind maximum : ℕ) (a : alloc-answer.Answer)
+    → Later true Answer (allocated-as d kind maximum a)
 of-allocated d kind maximum (alloc.Refused n) = search later
 of-allocated d kind maximum (alloc.Given e base slots) = search later depth 20
 
@@ -249,20 +286,25 @@ of-allocate-read : (bytes : List ℕ) (a : reading-answer.Answer) → Heads fals
 of-allocate-read bytes (reading.Refused n) = h-free c-ret
 of-allocate-read bytes reading.Listed = search (of-each, of-announce-all, heading, later, silently) depth 30 fits 100000
 
-of-kept : (dir : Dir) (e : ℕ) (iso onn : Bool) → Minds none Unit (bus.kept dir e iso onn)
+of-kept : (dir : Dir) (e : ℕ) (iso onn : Bool) → ChangesOnlyNamed none Unit (bus.kept dir e iso onn)
 of-kept dir e iso onn = search minding depth 20
 
-of-wake : (dir : Dir) (e : ℕ) → Minds none Unit (wake dir e)
+of-wake : (dir : Dir) (e : ℕ) → ChangesOnlyNamed none Unit (wake dir e)
 of-wake dir e = search minding
 
-of-enabling : (dir : Dir) (e : ℕ) (onn : Bool) → Heads (enabling (slotted (SetEnabled dir e onn))) false Unit (bus.setEnabled dir e onn)
+of-enabling : (dir : Dir) (e : ℕ) (onn : Bool) → Heads (enabling (slotted (SetEnabled dir e onn))) false Unit
+    (bus.setEnabled dir e onn)
 of-enabling Out e onn = h-then (c-get (λ _. c-ret)) (λ _. h-bind
-    (h-test (h-switch (k-none m-ret)) (h-then (c-act refl c-ret) (λ _. h-then (c-bind (c-get (λ _. c-ret)) (λ _. c-put c-ret)) (λ _.
-    h-later (k-bind (k-place refl (k-none m-ret)) (λ _. k-none (m-bind (m-write m-ret) (λ _. of-kept Out e false onn))))))))
+    (h-test (h-switch (k-none m-ret)) (h-then (c-act refl c-ret)
+    (λ _. h-then (c-bind (c-get (λ _. c-ret)) (λ _. c-put c-ret)) (λ _.
+    h-later (k-bind (k-place refl (k-none m-ret)) (λ _. k-none
+    (m-bind (m-write m-ret) (λ _. of-kept Out e false onn))))))))
     (λ _. k-none (of-wake Out e)))
 of-enabling In e onn = h-then (c-get (λ _. c-ret)) (λ (s : EpCore). h-bind
-    (h-then (c-act refl c-ret) (λ _. h-then (c-bind (c-get (λ _. c-ret)) (λ _. c-put c-ret)) (λ _. h-then (c-put c-ret) (λ _.
-    h-bind (h-place refl (k-none m-ret)) (λ _. k-none (m-bind (m-write m-ret) (λ _. m-bind (m-write m-ret) (λ _. of-kept In e (isOn (s .iso)) onn))))))))
+    (h-then (c-act refl c-ret) (λ _. h-then (c-bind (c-get (λ _. c-ret)) (λ _. c-put c-ret))
+    (λ _. h-then (c-put c-ret) (λ _.
+    h-bind (h-place refl (k-none m-ret)) (λ _. k-none (m-bind (m-write m-ret)
+    (λ _. m-bind (m-write m-ret) (λ _. of-kept In e (isOn (s .iso)) onn))))))))
     (λ _. k-none (of-wake In e)))
 
 of-advance : (e : ℕ) → Later false Answer (otherCode (Advance e))
@@ -296,13 +338,16 @@ pub data Goes (o : Other) : Type 1 where
 
 -- one that names no endpoint
 quietly : (o : Other) → otherNames o ≡ none → Goes o
-quietly o h = plainly (h-later (k-none (subst (λ (m : Names). Minds m Answer (otherCode o)) h (stay.of-other o))))
+quietly o h = plainly (h-later (k-none (subst (λ (m : Names). ChangesOnlyNamed m Answer (otherCode o)) h
+    (stay.of-other o))))
 
 pub of-other : (o : Other) → Goes o
-of-other (Allocate dir kind address maximum interval) = gives (search (of-allocated, heading, later, silently) depth 30 fits 100000)
+of-other (Allocate dir kind address maximum interval) = gives
+    (search (of-allocated, heading, later, silently) depth 30 fits 100000)
     (call-steps (other (Allocate dir kind address maximum interval)))
     (λ s h. row-4 (eqb (stage (s .0)) 1) _ _ (ap (λ (n : ℕ). eqb n 1) h))
-of-other (AllocateAll bytes) = gives (search (of-allocate-read, heading, silently) depth 20) (call-steps (other (AllocateAll bytes)))
+of-other (AllocateAll bytes) = gives (search (of-allocate-read, heading, silently) depth 20)
+    (call-steps (other (AllocateAll bytes)))
     (λ s h. row-4 (eqb (stage (s .0)) 1) _ _ (ap (λ (n : ℕ). eqb n 1) h))
 of-other (Start maximum) = quietly (Start maximum) refl
 of-other BusPoll = quietly BusPoll refl

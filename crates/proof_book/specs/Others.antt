@@ -1,5 +1,5 @@
--- Document 01: "All else, refusals too: no change". Which endpoint each call names; the pages of all others stay. Definitions; FrontPage.antt says it of
--- every call
+-- Document 01: "All else, refusals too: no change". Which endpoint each call names; the pages of all others stay.
+-- Definitions; FrontPage.antt says it of every call
 use mathlib.Core.Bool.{Bool, false, _&&_}
 use mathlib.Core.Logic.{_≢_}
 use mathlib.Core.Path.{_≡_}
@@ -17,7 +17,7 @@ use Rattle.script.specs.Calls.{PollWrite, PollDataOut, BeginDataIn, Other, Allo
 use Rattle.script.specs.Calls.{BusEnable, BusDisable, Microframe, SetStalled, IsStalled, SetPaced, Advance, BeginRead}
 use Rattle.script.specs.Calls.{BeginSetup, PollSetup, PollDataIn, BeginAccept, PollAccept, BeginReject, BeginDataOut}
 use Rattle.script.specs.Calls.{BeginAcceptSetAddress, Aside, Open, Close, Queue}
-use Rattle.script.specs.Machine.{Call, start, begin, go, question, Ans, ended, handed, told}
+use Rattle.script.specs.Machine.{Call, start, begin, continue, question, Ans, ended, handed, told}
 use Rattle.proof_book.specs.Pages.{Pages}
 
 -- the release of a bus reset's flag, in which no endpoint keeps its packets
@@ -110,14 +110,15 @@ opNames (slotted o) = slottedNames o
 opNames (other o) = otherNames o
 opNames (aside o) = asideNames o
 
--- and in its continues; those of an interrupt go by their accesses (`unmoved`, `unmoved-in`)
+-- and in its continues; those of an interrupt continue by their accesses (`unmoved`, `unmoved-in`)
 abbrev pub onNames : Op → Names
 onNames interrupt = any
 onNames (slotted o) = slottedNames o
 onNames (other o) = otherNames o
 onNames (aside o) = asideNames o
 
--- the operation under way, after a call, by what it was answered: that of a begin that is handed an access. A start-up names none
+-- the operation under way, after a call, by what it was answered: that of a begin that is handed an access. A start-up
+-- names none
 abbrev pub underWay : Call Config Op → Ans Answer → Names → Names
 underWay (start c) (handed q) m = none
 underWay (start c) (ended a) m = m
@@ -125,14 +126,14 @@ underWay (start c) (told n) m = m
 underWay (begin o) (handed q) m = onNames o
 underWay (begin o) (ended a) m = m
 underWay (begin o) (told n) m = m
-underWay (go v) a m = m
+underWay (continue v) a m = m
 underWay (question q) a m = m
 
 -- what a call names, where the operation under way names m. An accepted start-up makes all afresh
 abbrev pub callNames : Call Config Op → Names → Names
 callNames (start c) m = any
 callNames (begin o) m = opNames o
-callNames (go v) m = m
+callNames (continue v) m = m
 callNames (question q) m = none
 
 -- another endpoint than those named; numbers count modulo 16

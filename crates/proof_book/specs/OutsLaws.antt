@@ -13,7 +13,8 @@ use Rattle.state.specs.Laws.{epOn-same}
 use Rattle.ring.specs.Slot.{countOf, hasWaiting, passedOf}
 use Rattle.ring.specs.Out.{openedOf, closedOf}
 use Rattle.ring.specs.Waiting.{waiting, SamePlace, Alike, Shows}
-use Rattle.ring.specs.Laws.{place-placed, place-addr, alike-count, alike-waits, alike-out, reset-count, reset-waits, reset-ring}
+use Rattle.ring.specs.Laws.{place-placed, place-addr, alike-count, alike-waits, alike-out, reset-count, reset-waits}
+use Rattle.ring.specs.Laws.{reset-ring}
 use Rattle.ring.specs.OutLaws.{opened-alike, opened-shows, closed-place, closed-shows, close-waits, close-ring}
 use Rattle.ring.specs.Marks.{isMarked, markedLen}
 use Rattle.ring.specs.Copies.{bytesAt}
@@ -23,14 +24,16 @@ use Rattle.script.specs.Simulates.{quiet}
 use Rattle.script.specs.Statics.{isOn, flag}
 use Rattle.script.specs.Machine.{Buf}
 use Rattle.script_ops.specs.Records.{plainOf, isoOut}
-use Rattle.script_ops.specs.Rings.{changedOn, markedOn, waitingOn, openedOn, oldestAt, oldestOn, emptied, emptiedOn, openOn, closeOn, takeOn}
+use Rattle.script_ops.specs.Rings.{changedOn, markedOn, waitingOn, openedOn, oldestAt, oldestOn, emptied, emptiedOn}
+use Rattle.script_ops.specs.Rings.{openOn, closeOn, takeOn}
 use Rattle.proof_book.specs.Pages.{Packet, bytesOf, OutPage, Pages, withOut}
 use Rattle.proof_book.specs.Book.{some, front, isoOf, openOut, readOut, emptyOut}
 use Rattle.proof_book.specs.Coupling.{Short, lensOf, slotStamps, OutFits, AtRest, Coupling}
 use Rattle.proof_book.specs.LensLaws.{lens-on, stamps-on}
 use Rattle.proof_book.specs.StampsLaws.{alike-stamps, close-stamps}
 use Rattle.proof_book.specs.FrameLaws.{changed-not, changed-on, kept-same, out-changed, out-moved}
-use Rattle.proof_book.specs.HeldLaws.{IsAgrees, LookAgrees, FetchAgrees, ActAgrees, held-some, waits-count, held-next}
+use Rattle.proof_book.specs.HeldLaws.{IsAgrees, LookAgrees, FetchAgrees, ActAgrees, held-some, waits-count}
+use Rattle.proof_book.specs.HeldLaws.{held-next}
 use Rattle.proof_book.specs.HeldLaws.{held-first, held-stamp, receives, plain-receives}
 use Rattle.proof_book.specs.EmptyPagesLaws.{Seat, Shown, empty-out}
 
@@ -81,8 +84,10 @@ fetch-oldest e b d t R = held-first d Out e (R .outs e .held)
 pub fetch-received : (e n : ℕ) → FetchAgrees (script.received e n)
 fetch-received e n b d t R = ap (λ (p : EpCore). bytesAt b (p .base) n) (R .same .plain Out e)
 
-pub out-on : {b : Buf} {d : Driver} {t : Pages} → Coupling quiet b d t → (e : ℕ) (r : EpState) (p : OutPage) → Inner (epOn d Out e) r
-    → OutFits b r (lensOf d Out e) (slotStamps d e) p → AtRest (receives d e) r p → Coupling quiet b (withOn d Out e r) (withOut t e p)
+pub out-on : {b : Buf} {d : Driver} {t : Pages} → Coupling quiet b d t → (e : ℕ) (r : EpState) (p : OutPage)
+    → Inner (epOn d Out e) r
+    → OutFits b r (lensOf d Out e) (slotStamps d e) p → AtRest (receives d e) r p
+    → Coupling quiet b (withOn d Out e r) (withOut t e p)
 out-on {b} {d} {t} R e r p k f a =
     let s = R .sized in
     let c = changed-on s Out e r (k .place) (ap (λ (q : EpCore). q .iso) (k .plain)) in
@@ -92,7 +97,8 @@ out-on {b} {d} {t} R e r p k f a =
     (subst (λ y. AtRest (receives d e) y p) (sym z) a)
 
 -- nothing but a page that is read as it was
-pub out-page : {b : Buf} {d : Driver} {t : Pages} → Coupling quiet b d t → (e : ℕ) (p : OutPage) → OutFits b (epOn d Out e) (lensOf d Out e) (slotStamps d e) p
+pub out-page : {b : Buf} {d : Driver} {t : Pages} → Coupling quiet b d t → (e : ℕ) (p : OutPage)
+    → OutFits b (epOn d Out e) (lensOf d Out e) (slotStamps d e) p
     → AtRest (receives d e) (epOn d Out e) p → Coupling quiet b d (withOut t e p)
 out-page {b} {d} {t} R e p f a =
     let c = changed-not (R .sized) Out e in
@@ -100,9 +106,18 @@ out-page {b} {d} {t} R e p f a =
 
 -- another record with the same ring; packets and count as they were
 abbrev pub shownAs : OutPage → Bool → ℕ → OutPage
-shownAs p o x = record { waiting = p .waiting; opened = o; lost = p .lost; slot = x; admitted = p .admitted; read = p .read }
+shownAs p o x = record {
+  waiting = p .waiting;
+  opened = o;
+  lost = p .lost;
+  slot = x;
+  admitted = p .admitted;
+  read
+      = p .read;
+}
 
-pub fits-alike : {b : Buf} {r r′ : EpState} {ls ss : List ℕ} {p : OutPage} → Alike r r′ → OutFits b r ls ss p → r′ .«max_len» ≡ r .«max_len»
+pub fits-alike : {b : Buf} {r r′ : EpState} {ls ss : List ℕ} {p : OutPage} → Alike r r′ → OutFits b r ls ss p
+    → r′ .«max_len» ≡ r .«max_len»
     → (o : Bool) (x : ℕ) → Shown r′ o → Seat r′ (shownAs p o x) → OutFits b r′ ls ss (shownAs p o x)
 fits-alike {b} {ls = ls} {ss = ss} {p = p} k f m o x s z = record {
   held = record {
@@ -128,10 +143,12 @@ open-inner : (r : EpState) → Inner r (openedOf r)
 unfolding openedOf
 open-inner r = record { place = record { base = refl; stride = refl; slots = refl }; plain = refl }
 
-module _ {b : Buf} {r : EpState} {ls ss : List ℕ} {p : OutPage} (f : OutFits b r ls ss p) (w : hasWaiting r ≡ true) where
+module _ {b : Buf} {r : EpState} {ls ss : List ℕ} {p : OutPage} (f : OutFits b r ls ss p)
+    (w : hasWaiting r ≡ true) where
   open-fits : OutFits b (openedOf r) ls ss (openOut p)
   unfolding openedOf
-  open-fits = fits-alike (opened-alike r) f refl true (p .slot) (record { opened = refl; shows = opened-shows r (waits-count r w) })
+  open-fits = fits-alike (opened-alike r) f refl true (p .slot)
+      (record { opened = refl; shows = opened-shows r (waits-count r w) })
       (record { lost = f .lost; slot = f .slot; from = f .from; upto = f .upto })
 
   open-rest : {u : Bool} → AtRest u r p → AtRest u (openedOf r) (openOut p)
@@ -142,7 +159,8 @@ module _ {b : Buf} {r : EpState} {ls ss : List ℕ} {p : OutPage} (f : OutFits b
   }
 
 -- both changed, or both as they were
-cond-rest : {b : Buf} {d d′ : Driver} {t t′ : Pages} (u v : Bool) → u ≡ v → (u ≡ true → Coupling quiet b d′ t′) → (u ≡ false → Coupling quiet b d t)
+cond-rest : {b : Buf} {d d′ : Driver} {t t′ : Pages} (u v : Bool) → u ≡ v → (u ≡ true → Coupling quiet b d′ t′)
+    → (u ≡ false → Coupling quiet b d t)
     → Coupling quiet b (cond u d′ d) (cond v t′ t)
 cond-rest {b} {d} {d′} {t} {t′} u v z p q = subst (λ y. Coupling quiet b (cond u d′ d) (cond y t′ t)) z (go u refl)
   where
@@ -156,7 +174,8 @@ act-open e b d t R =
     let f = R .outs e in (
       refl,
       cond-rest (hasWaiting (epOn d Out e)) (some (bytesOf (t .outs e .waiting))) (held-some (f .held))
-          (λ h. out-on R e (openedOf (epOn d Out e)) (openOut (t .outs e)) (open-inner (epOn d Out e)) (open-fits f h) (open-rest f h (R .arming e)))
+          (λ h. out-on R e (openedOf (epOn d Out e)) (openOut (t .outs e)) (open-inner (epOn d Out e)) (open-fits f h)
+          (open-rest f h (R .arming e)))
           (λ h. R),
     )
 
@@ -171,7 +190,8 @@ read-ledger r [] = append-assoc r [] []
 read-ledger r (q ∷ qs) = append-assoc r (q ∷ []) qs
 
 -- the front page's clause of that name, of a page whose first is read
-read-then-waiting : (p : OutPage) → p .read ++ p .waiting ≡ p .admitted → readOut p .read ++ readOut p .waiting ≡ readOut p .admitted
+read-then-waiting : (p : OutPage) → p .read ++ p .waiting ≡ p .admitted → readOut p .read ++ readOut p .waiting
+    ≡ readOut p .admitted
 read-then-waiting p h = read-ledger (p .read) (p .waiting) ∙ h
 
 short-tail : (n : ℕ) (w : List Packet) → Short n w → Short n (tail w)
@@ -190,9 +210,11 @@ module _ {b : Buf} {r : EpState} {ls ss : List ℕ} {p : OutPage} (f : OutFits b
       placed = place-placed (closed-place r) (f .held .placed);
       ring = close-ring (f .held .placed) (f .held .ring) w;
       least = f .held .least;
-      waits = close-waits (f .held .placed) (f .held .ring) w b ∙ ap (λ x. tail x) (f .held .waits) ∙ sym (map-tail (λ (q : Packet). q .bytes) (p .waiting));
+      waits = close-waits (f .held .placed) (f .held .ring) w b ∙ ap (λ x. tail x) (f .held .waits)
+          ∙ sym (map-tail (λ (q : Packet). q .bytes) (p .waiting));
     };
-    stamps = close-stamps (f .held .placed) (f .held .ring) ss w ∙ ap (λ x. tail x) (f .stamps) ∙ sym (map-tail (λ (q : Packet). q .stamp) (p .waiting));
+    stamps = close-stamps (f .held .placed) (f .held .ring) ss w ∙ ap (λ x. tail x) (f .stamps)
+        ∙ sym (map-tail (λ (q : Packet). q .stamp) (p .waiting));
     opened = refl;
     shows = closed-shows r;
     lost = f .lost;
@@ -214,7 +236,8 @@ read-out : {b : Buf} {d : Driver} {t : Pages} → Coupling quiet b d t → (e : 
     → Coupling quiet b (withOn d Out e (closedOf (epOn d Out e))) (withOut t e (readOut (t .outs e)))
 read-out {d = d} {t = t} R e w =
     let f = R .outs e in
-    out-on R e (closedOf (epOn d Out e)) (readOut (t .outs e)) (close-inner (epOn d Out e)) (close-fits f w) (close-rest f w (R .arming e))
+    out-on R e (closedOf (epOn d Out e)) (readOut (t .outs e)) (close-inner (epOn d Out e)) (close-fits f w)
+    (close-rest f w (R .arming e))
 
 -- a packet that is open waits
 open-count : (r : EpState) → Shows r → isOn (r .«open») ≡ true → 0 < countOf r
@@ -225,7 +248,8 @@ pub act-close : (e : ℕ) → ActAgrees (script.close-oldest e)
 unfolding closeOn
 act-close e b d t R = (
   refl,
-  cond-rest (isOn (epOn d Out e .«open»)) (t .outs e .opened) (ap isOn (R .outs e .opened) ∙ flag-on (t .outs e .opened))
+  cond-rest (isOn (epOn d Out e .«open»)) (t .outs e .opened) (ap isOn (R .outs e .opened)
+      ∙ flag-on (t .outs e .opened))
       (λ h. read-out R e (open-count (epOn d Out e) (R .outs e .shows) h))
       (λ h. R),
 )
@@ -245,7 +269,8 @@ empty-inner : (r : EpState) → Inner r (emptied r)
 unfolding emptied
 empty-inner r = record { place = record { base = refl; stride = refl; slots = refl }; plain = refl }
 
-empty-fits : {b : Buf} {r : EpState} {ls ss : List ℕ} {p : OutPage} → OutFits b r ls ss p → OutFits b (emptied r) ls ss (emptyOut p)
+empty-fits : {b : Buf} {r : EpState} {ls ss : List ℕ} {p : OutPage} → OutFits b r ls ss p
+    → OutFits b (emptied r) ls ss (emptyOut p)
 unfolding emptied
 empty-fits {b} {r} {ls} {ss} {p} f = empty-out refl refl refl
     (record {
@@ -266,6 +291,11 @@ act-reset-out e b d t R = (
   refl,
   cond-rest (isOn (epOn d Out e .iso)) (isoOf t Out e) (ap (λ (p : EpCore). isOn (p .iso)) (R .same .plain Out e))
       (λ h. R)
-      (λ h. out-on R e (emptied (epOn d Out e)) (emptyOut (t .outs e)) (empty-inner (epOn d Out e)) (empty-fits (R .outs e))
-      (record { armed = λ u. absurd (true≢false (sym u ∙ plain-receives R e h)); none = λ u. empty-count (epOn d Out e) })),
+      (λ h. out-on R e (emptied (epOn d Out e)) (emptyOut (t .outs e)) (empty-inner (epOn d Out e))
+      (empty-fits (R .outs e))
+      (record {
+        armed = λ u. absurd (true≢false (sym u ∙ plain-receives R e h));
+        none
+            = λ u. empty-count (epOn d Out e);
+      })),
 )

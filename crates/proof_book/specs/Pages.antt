@@ -12,7 +12,8 @@ use Rattle.state.specs.declared.Control.{Control}
 use Rattle.state.specs.Wakes.{Wakes}
 use Rattle.script.specs.Cells.{EpCore}
 
--- a packet that waits on an OUT endpoint: its bytes, and the microframe index of the interrupt that admitted it (request One)
+-- a packet that waits on an OUT endpoint: its bytes, and the microframe index of the interrupt that admitted it
+-- (request One)
 pub record Packet : Type 0 where
   pub bytes : List ℕ
   pub stamp : ℕ
@@ -33,8 +34,8 @@ pub record OutPage : Type 0 where
   pub admitted : List Packet
   pub read : List Packet
 
--- IN e: those waiting, first to last; whether the first is being sent; whether the transmit address told last is a load's, for what the book
--- promises of it; which slot the next packet goes to
+-- IN e: those waiting, first to last; whether the first is being sent; whether the transmit address told last is a
+-- load's, for what the book promises of it; which slot the next packet goes to
 pub record InPage : Type 0 where
   pub waiting : List (List ℕ)
   pub sending : Bool

@@ -1,4 +1,5 @@
--- After every list of calls from an accepted start-up a read that is begun has room for a packet of its endpoint's maximum
+-- After every list of calls from an accepted start-up a read that is begun has room for a packet of its endpoint's
+-- maximum
 use mathlib.Core.Bool.{Bool, true, false, _&&_, true≢false}
 use mathlib.Core.Path.{_≡_, refl, ap, sym, _∙_}
 use Prim.Native.Nat.{ℕ, zero, _%_}
@@ -41,10 +42,18 @@ use Rattle.proof_book.specs.ReadRoomScriptsLaws.{room-keeps}
 
 -- what follows its request
 arms : (e : ℕ) (p : EpCore) → Steps plain (resultless {i = false} (arm-read e p))
-arms e p = (tt, λ _. (((tt, (tt, ((λ _. tt, λ _. tt), λ _. ((tt, λ _. tt), λ _. (tt, tt))))), λ _. tt), λ _. (λ _. tt, λ _. tt)))
+arms e p = (
+  tt,
+  λ _. (
+    ((tt, (tt, ((λ _. tt, λ _. tt), λ _. ((tt, λ _. tt), λ _. (tt, tt))))), λ _. tt),
+    λ _.
+        (λ _. tt, λ _. tt),
+  ),
+)
 
 -- a number that is allocated is taken
-named-taken : (e : ℕ) (d : Driver) → Sound (d .allocator) → isAllocated (d .allocator) Out e ≡ true → isSet (takenIn (d .allocator) Out) (e % 16) ≡ true
+named-taken : (e : ℕ) (d : Driver) → Sound (d .allocator) → isAllocated (d .allocator) Out e ≡ true
+    → isSet (takenIn (d .allocator) Out) (e % 16) ≡ true
 unfolding isAllocated isNumber allocatedIn
 named-taken e d s h =
     let x = left (ltb 0 e && ltb e 16) (isSet (d .allocator .«allocated_out») e) h in
@@ -53,36 +62,44 @@ named-taken e d s h =
     rw z (s .taken Out e ∙ right (ltb 0 e && ltb e 16) (isSet (d .allocator .«allocated_out») e) h)
 
 -- a read's begin (rows 4, 5, 9 and 10)
-begin-read : (e n : ℕ) (s : St) → ReadRoom (s .0) → Holds (LentKeeps ReadRoom) (run {i = false} concrete (beginRead e n) s)
+begin-read : (e n : ℕ) (s : St) → ReadRoom (s .0) → Holds (LentKeeps ReadRoom)
+    (run {i = false} concrete (beginRead e n) s)
 begin-read e n s b = staged-by s b (eqb (s .0 .globals .stage) 2)
   where
-    most-by : (s : St) → ReadRoom (s .0) → isSet (takenIn (s .0 .allocator) Out) (e % 16) ≡ true → (u : Bool) → ltb n (epOn (s .0) Out e .«max_len») ≡ u
+    most-by : (s : St) → ReadRoom (s .0) → isSet (takenIn (s .0 .allocator) Out) (e % 16) ≡ true → (u : Bool)
+        → ltb n (epOn (s .0) Out e .«max_len») ≡ u
         → Holds (LentKeeps ReadRoom)
-        (run {i = false} concrete (unless u 10 (put (request-cell Out e) (begun n) >> resultless (arm-read e (plainOf (epOn (s .0) Out e))))) s)
+        (run {i = false} concrete (unless u 10 (put (request-cell Out e) (begun n) >> resultless
+        (arm-read e (plainOf (epOn (s .0) Out e))))) s)
     most-by s b t true h = end b
     most-by s b t false h =
         let p = plainOf (epOn (s .0) Out e) in
-        holds-run (room-keeps plain refl) (resultless {i = false} (arm-read e p)) (arms e p) (putOn (request-cell Out e) (begun n) s)
+        holds-run (room-keeps plain refl) (resultless {i = false} (arm-read e p)) (arms e p)
+        (putOn (request-cell Out e) (begun n) s)
         (put-out e (begun n) (λ _. (t, ltb-false n (epOn (s .0) Out e .«max_len») h)) b)
 
     enabled-by : (s : St) → ReadRoom (s .0) → isSet (takenIn (s .0 .allocator) Out) (e % 16) ≡ true → (u : Bool)
         → Holds (LentKeeps ReadRoom)
         (run {i = false} concrete (test u (bind (get (ep-cell Out e))
-        (λ p. unless (ltb n (p .«max_len»)) 10 (put (request-cell Out e) (begun n) >> resultless (arm-read e p)))) (ret (Refused 9))) s)
+        (λ p. unless (ltb n (p .«max_len»)) 10 (put (request-cell Out e) (begun n) >> resultless (arm-read e p))))
+        (ret (Refused 9))) s)
     enabled-by s b t true = most-by s b t (ltb n (epOn (s .0) Out e .«max_len»)) refl
     enabled-by s b t false = end b
 
     named-by : (s : St) → ReadRoom (s .0) → (u : Bool) → isAllocated (s .0 .allocator) Out e ≡ u
         → Holds (LentKeeps ReadRoom)
         (run {i = false} concrete (test u (enabled-else Out e (ret (Refused 9)) (bind (get (ep-cell Out e))
-        (λ p. unless (ltb n (p .«max_len»)) 10 (put (request-cell Out e) (begun n) >> resultless (arm-read e p))))) (ret (Refused 5))) s)
-    named-by s b true h = enabled-by s b (named-taken e (s .0) (b .sound) h) (enables.isOn (s .0 .globals .«ep_config») Out e)
+        (λ p. unless (ltb n (p .«max_len»)) 10 (put (request-cell Out e) (begun n) >> resultless (arm-read e p)))))
+        (ret (Refused 5))) s)
+    named-by s b true h = enabled-by s b (named-taken e (s .0) (b .sound) h)
+        (enables.isOn (s .0 .globals .«ep_config») Out e)
     named-by s b false h = end b
 
     staged-by : (s : St) → ReadRoom (s .0) → (u : Bool)
         → Holds (LentKeeps ReadRoom)
         (run {i = false} concrete (test u (named Out e (enabled-else Out e (ret (Refused 9)) (bind (get (ep-cell Out e))
-        (λ p. unless (ltb n (p .«max_len»)) 10 (put (request-cell Out e) (begun n) >> resultless (arm-read e p)))))) (ret (Refused 4))) s)
+        (λ p. unless (ltb n (p .«max_len»)) 10 (put (request-cell Out e) (begun n) >> resultless (arm-read e p))))))
+        (ret (Refused 4))) s)
     staged-by s b true = named-by s b (isAllocated (s .0 .allocator) Out e) refl
     staged-by s b false = end b
 
@@ -91,15 +108,21 @@ begin-read e n s b = staged-by s b (eqb (s .0 .globals .stage) 2)
 keeps-room : {o : Op} → Begins o → (s : St) → ReadRoom (s .0) → Holds (LentKeeps ReadRoom) (run concrete (code o) s)
 keeps-room (a-read e n) s b = begin-read e n s b
 keeps-room (a-data-out n first) s b =
-    holds-run (room-keeps receiving refl) (code (other (BeginDataOut n first))) (call-steps (other (BeginDataOut n first))) s b
-keeps-room (ep0 maximum) s b = holds-run (room-keeps starting refl) (code (other (Start maximum))) (call-steps (other (Start maximum))) s b
+    holds-run (room-keeps receiving refl) (code (other (BeginDataOut n first)))
+    (call-steps (other (BeginDataOut n first))) s b
+keeps-room (ep0 maximum) s b = holds-run (room-keeps starting refl) (code (other (Start maximum)))
+    (call-steps (other (Start maximum))) s b
 keeps-room (none o h) s b = holds-run (room-keeps (kindOf o) (h .no-read)) (code o) (call-steps o) s b
 
 -- a start-up that no row stops: no read is begun
 fresh-room : (c : Config) (b : Buf) → startRow c b ≡ zero → ReadRoom (driverOf .fresh c)
 fresh-room c b row =
     let r = fresh-kept c b row in
-    record { sound = r .sound; reads = λ e h. absurd (true≢false (sym h ∙ ap (λ (q : Request). isOn (q .begun)) (r .same .requests Out e) ∙ off)) }
+    record {
+      sound = r .sound;
+      reads = λ e h. absurd (true≢false
+          (sym h ∙ ap (λ (q : Request). isOn (q .begun)) (r .same .requests Out e) ∙ off));
+    }
 
 preserved : Preserves ReadRoom calls driverOf
 preserved = record {
@@ -112,7 +135,8 @@ preserved = record {
 abbrev pub RoomKept : Machine Answer Driver → Type 0
 RoomKept m = machine.MachineKeeps ReadRoom m
 
-pub start-kept : (c : Config) (m : Machine Answer Driver) (b : Buf) → startRow c b ≡ zero → RoomKept (started calls driverOf (λ s. s) c zero m b .1)
+pub start-kept : (c : Config) (m : Machine Answer Driver) (b : Buf) → startRow c b ≡ zero
+    → RoomKept (started calls driverOf (λ s. s) c zero m b .1)
 start-kept c m b row = machine-laws.start-kept preserved c m b row
 
 pub steps : (c : Call Config Op) (m : Machine Answer Driver) → RoomKept m → (b : Buf) → RoomKept (drive c m b .1)

@@ -1,4 +1,5 @@
--- A read that is begun has room for a packet of its endpoint's maximum: each operation of a script but the assignment of its request keeps it
+-- A read that is begun has room for a packet of its endpoint's maximum: each operation of a script but the assignment
+-- of its request keeps it
 use mathlib.Core.Bool.{Bool, true, false, true≢false}
 use mathlib.Core.List.{List}
 use mathlib.Core.Logic.{_≢_}
@@ -42,7 +43,8 @@ same-request t p e = λ i. getD (p .rest i .1) (key Out e) noRequest
 same-allocator : (t : Bool) {d d′ : Driver} → RequestsStay t d d′ → d′ .allocator ≡ d .allocator
 same-allocator t p = λ i. p .rest i .0 .4
 
-same-maximum : (t : Bool) {d d′ : Driver} → RequestsStay t d d′ → (e : ℕ) → epOn d′ Out e .«max_len» ≡ epOn d Out e .«max_len»
+same-maximum : (t : Bool) {d d′ : Driver} → RequestsStay t d d′ → (e : ℕ) → epOn d′ Out e .«max_len»
+    ≡ epOn d Out e .«max_len»
 same-maximum t p e = λ i. p .each Out e i .2
 
 pub room-stays : (t : Bool) {d d′ : Driver} → RequestsStay t d d′ → ReadRoom d → ReadRoom d′
@@ -55,7 +57,8 @@ room-stays t p k = record {
 -- ---- a request assigned
 
 -- at its own place, if there is such a place
-request-here : (l : List Request) (k : ℕ) (v : Request) (P : Request → Type 0) → P noRequest → P v → P (getD (set l k v) k noRequest)
+request-here : (l : List Request) (k : ℕ) (v : Request) (P : Request → Type 0) → P noRequest → P v
+    → P (getD (set l k v) k noRequest)
 request-here l k v P a b = elim (decLt k (length l)) [
   | yes q ↦ subst P (sym (getD-set-same l k v noRequest q)) b
   | no q ↦ subst P (sym (List·getD-eq-default (set l k v) noRequest {n = k} (omega (arith, length-set l k v)))) a
@@ -66,7 +69,8 @@ unfolding isOn
 off = refl
 
 pub put-out : {d : Driver} (e : ℕ) (v : Request)
-    → (isOn (v .begun) ≡ true → (isSet (takenIn (d .allocator) Out) (e % 16) ≡ true) × (epOn d Out e .«max_len» ≤ v .length))
+    → (isOn (v .begun) ≡ true → (isSet (takenIn (d .allocator) Out) (e % 16) ≡ true)
+    × (epOn d Out e .«max_len» ≤ v .length))
     → ReadRoom d → ReadRoom (withRequestOn d Out e v)
 unfolding withRequestOn requestOn epOn
 put-out {d} e v f k = record {
@@ -81,20 +85,23 @@ put-out {d} e v f k = record {
 }
   where
     Fits : ℕ → Request → Type 0
-    Fits x r = isOn (r .begun) ≡ true → (isSet (takenIn (d .allocator) Out) (x % 16) ≡ true) × (epOn d Out x .«max_len» ≤ r .length)
+    Fits x r = isOn (r .begun) ≡ true → (isSet (takenIn (d .allocator) Out) (x % 16) ≡ true)
+        × (epOn d Out x .«max_len» ≤ r .length)
 
 pub put-in : {d : Driver} (e : ℕ) (v : Request) → ReadRoom d → ReadRoom (withRequestOn d In e v)
 unfolding withRequestOn requestOn epOn
 put-in {d} e v k = record {
   sound = k .sound;
-  reads = λ x. subst (λ (r : Request). isOn (r .begun) ≡ true → (isSet (takenIn (d .allocator) Out) (x % 16) ≡ true) × (epOn d Out x .«max_len» ≤ r .length))
+  reads = λ x. subst (λ (r : Request). isOn (r .begun) ≡ true → (isSet (takenIn (d .allocator) Out) (x % 16) ≡ true)
+      × (epOn d Out x .«max_len» ≤ r .length))
       (sym (getD-set-other (d .requests) (key In e) (key Out x) v noRequest (key-apart x e))) (k .reads x);
 }
 
 -- ---- allocations
 
 further-room : {d : Driver} → ReadRoom d → (a : Allocator) → Sound a
-    → ((j : ℕ) → isSet (takenIn (d .allocator) Out) j ≡ true → isSet (takenIn a Out) j ≡ true) → ReadRoom (withAllocator d a)
+    → ((j : ℕ) → isSet (takenIn (d .allocator) Out) j ≡ true → isSet (takenIn a Out) j ≡ true)
+    → ReadRoom (withAllocator d a)
 unfolding epOn requestOn
 further-room k a s f = record { sound = s; reads = λ e h. (f (e % 16) (k .reads e h .0), k .reads e h .1) }
 
@@ -106,13 +113,16 @@ ep0-room {d = d} k maximum z s (gave-ep0 m x small l) =
     let q = further-room k (withNext (d .allocator) (d .allocator .next + 1)) s (λ j h. h) in
     record { sound = q .sound; reads = q .reads }
 
-module _ {d : Driver} (k : ReadRoom d) (dir : Dir) (kind maximum interval e base n : ℕ) (b : Allocator) (t : Takes (d .allocator) (isIso kind) dir e b) where
+module _ {d : Driver} (k : ReadRoom d) (dir : Dir) (kind maximum interval e base n : ℕ) (b : Allocator)
+    (t : Takes (d .allocator) (isIso kind) dir e b) where
   abbrev taker : Driver
   taker = setsGiven dir kind interval e (recordGiven dir kind maximum e base n (withAllocator d b))
 
   -- the number given was free
-  not-it : (dir : Dir) → isSet (takenIn (d .allocator) dir) e ≡ false → (x : ℕ) → isSet (takenIn (d .allocator) Out) (x % 16) ≡ true → key Out x ≢ key dir e
-  not-it Out u x h q = absurd (true≢false (sym h ∙ ap (λ (j : ℕ). isSet (takenIn (d .allocator) Out) j) (omega (arith, key-same Out x e q, t .high)) ∙ u))
+  not-it : (dir : Dir) → isSet (takenIn (d .allocator) dir) e ≡ false → (x : ℕ)
+      → isSet (takenIn (d .allocator) Out) (x % 16) ≡ true → key Out x ≢ key dir e
+  not-it Out u x h q = absurd (true≢false (sym h ∙ ap (λ (j : ℕ). isSet (takenIn (d .allocator) Out) j)
+      (omega (arith, key-same Out x e q, t .high)) ∙ u))
   not-it In u x h q = key-apart x e q
 
   given-room : Sound b → ReadRoom taker
@@ -132,8 +142,10 @@ allocated-room : {d : Driver} → ReadRoom d → (dir : Dir) (kind address maxim
 unfolding givenTo
 allocated-room {d = d} k dir kind address maximum interval z s (six l) = further-room k (d .allocator) s (λ j h. h)
 allocated-room {d = d} k dir kind address maximum interval z s (seven m q) = further-room k (d .allocator) s (λ j h. h)
-allocated-room {d = d} k dir kind address maximum interval z s (eight e m q l) = further-room k (d .allocator) s (λ j h. h)
-allocated-room {d = d} k dir kind address maximum interval z s (given e base n a m q g) = given-room k dir kind maximum interval e base n a (g .number) s
+allocated-room {d = d} k dir kind address maximum interval z s (eight e m q l)
+    = further-room k (d .allocator) s (λ j h. h)
+allocated-room {d = d} k dir kind address maximum interval z s (given e base n a m q g)
+    = given-room k dir kind maximum interval e base n a (g .number) s
 
 -- ---- each change
 
@@ -142,6 +154,8 @@ unfolding allocatedOn allocatedEp0
 act-room q s k =
     let a = s .0 .allocator in
     by-act {K = λ _ d. ReadRoom d} s (λ q _ p. room-stays (turns q) (rings-stay (turns q) p) k)
-    (λ dir kind address maximum interval. allocated-room k dir kind address maximum interval (allocateOf a kind address maximum dir)
+    (λ dir kind address maximum interval. allocated-room k dir kind address maximum interval
+    (allocateOf a kind address maximum dir)
     (sound-call a (endpoint kind address maximum dir) (k .sound)) (outcome a kind address maximum dir))
-    (λ maximum. ep0-room k maximum (allocateEp0Of a maximum) (sound-call a (ep0 maximum) (k .sound)) (step a (ep0 maximum))) q
+    (λ maximum. ep0-room k maximum (allocateEp0Of a maximum) (sound-call a (ep0 maximum) (k .sound))
+    (step a (ep0 maximum))) q

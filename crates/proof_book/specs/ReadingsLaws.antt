@@ -27,13 +27,16 @@ Stores s t = t .0 ≡ s .0
 pub sorting-4056 : (d : Driver) → Sorting d
     → (slots : Buf) (w : Continues St) → Along (Passes concrete Stores) (run concrete interruptCode (d, slots)) w
     → readings (run concrete interruptCode (d, slots)) w ≤ 4056
-sorting-4056 d k slots w l = passing-4056 (sorted (sortsOf d) (ep0-plain k)) (λ s t h. subst (Has (sortsOf d)) (sym h)) (d, slots) (k .has) w l
+sorting-4056 d k slots w l = passing-4056 (sorted (sortsOf d) (ep0-plain k)) (λ s t h. subst (Has (sortsOf d)) (sym h))
+    (d, slots) (k .has) w l
 
--- the first call is a start-up that rows 1 and 2 do not stop, on whatever was before; then any calls, refused ones included, each lent any slot
--- buffer; then an interrupt, whatever is read. Between two of its accesses packets may be opened, closed and queued, and the slots' bytes may
--- change
-pub driver-4056 : (c : Config) (b : Buf) → startRow c b ≡ zero → (es : List (Event Config Op)) (m : Machine Answer Driver)
+-- the first call is a start-up that rows 1 and 2 do not stop, on whatever was before; then any calls, refused ones
+-- included, each lent any slot buffer; then an interrupt, whatever is read. Between two of its accesses packets may be
+-- opened, closed and queued, and the slots' bytes may change
+pub driver-4056 : (c : Config) (b : Buf) → startRow c b ≡ zero
+    → (es : List (Event Config Op)) (m : Machine Answer Driver)
     → let d = after calls driverOf (record { call = start c; lent = b } ∷ es) m .st in
     (slots : Buf) (w : Continues St) → Along (Passes concrete Stores) (run concrete interruptCode (d, slots)) w
     → readings (run concrete interruptCode (d, slots)) w ≤ 4056
-driver-4056 c b row es m = sorting-4056 (after calls driverOf (record { call = start c; lent = b } ∷ es) m .st) (after-sorting c b row es m)
+driver-4056 c b row es m = sorting-4056 (after calls driverOf (record { call = start c; lent = b } ∷ es) m .st)
+    (after-sorting c b row es m)

@@ -1,4 +1,5 @@
--- Scripts that leave every page where they end with a refusal or a poll's "not yet", and the scripts of all calls: they are such
+-- Scripts that leave every page where they end with a refusal or a poll's "not yet", and the scripts of all calls: they
+-- are such
 use mathlib.Core.Bool.{Bool, true, false, cond, _||_, true≢false}
 use mathlib.Core.List.{List}
 use mathlib.Core.Path.{_≡_, refl, ap, subst, sym, _∙_}
@@ -59,12 +60,14 @@ same-then h k = record { outs = λ e. k .outs e ∙ h .outs e; ins = λ e. k .in
 
 pub data Tells {A : Type 0} (no : A → Bool) : Bk → tree.Out Bk A → Type 0 where
   t-end : {a : A} {s t : Bk} → (no a ≡ true → Same (s .0) (t .0)) → Tells no s (ends a t)
-  t-ask : {q : Access} {s t : Bk} {k : ℕ → Bk → tree.Out Bk A} → ((v : ℕ) (u : Bk) → Tells no u (k v u)) → Tells no s (asks q t k)
+  t-ask : {q : Access} {s t : Bk} {k : ℕ → Bk → tree.Out Bk A} → ((v : ℕ) (u : Bk) → Tells no u (k v u))
+      → Tells no s (asks q t k)
 
 abbrev any : {A : Type 0} → A → Bool
 any a = true
 
-tells-from : {A : Type 0} {no : A → Bool} {s t : Bk} {o : tree.Out Bk A} → Same (s .0) (t .0) → Tells no t o → Tells no s o
+tells-from : {A : Type 0} {no : A → Bool} {s t : Bk} {o : tree.Out Bk A} → Same (s .0) (t .0) → Tells no t o
+    → Tells no s o
 tells-from h (t-end k) = t-end (λ z. same-then h (k z))
 tells-from h (t-ask k) = t-ask k
 
@@ -78,7 +81,8 @@ never-bind : {A B : Type 0} {no : B → Bool} (o : tree.Out Bk A) {f : A → Bk 
 never-bind (ends a t) g s = g a s t
 never-bind (asks q t k) g s = t-ask (λ v u. never-bind (k v u) g u)
 
-tells-test : {A : Type 0} {no : A → Bool} {s : Bk} (u : Bool) {x y : tree.Out Bk A} → Tells no s x → Tells no s y → Tells no s (cond u x y)
+tells-test : {A : Type 0} {no : A → Bool} {s : Bk} (u : Bool) {x y : tree.Out Bk A} → Tells no s x → Tells no s y
+    → Tells no s (cond u x y)
 tells-test true h g = h
 tells-test false h g = g
 
@@ -87,7 +91,8 @@ tells-test false h g = g
 -- it ends with neither
 pub data Never : (i : Bool) → Script i Answer → Type 1 where
   n-ret : {i : Bool} {a : Answer} → isNo a ≡ false → Never i (ret a)
-  n-bind : {i : Bool} {A : Type 0} {p : Script i A} {f : A → Script i Answer} → ((a : A) → Never i (f a)) → Never i (bind p f)
+  n-bind : {i : Bool} {A : Type 0} {p : Script i A} {f : A → Script i Answer} → ((a : A) → Never i (f a))
+      → Never i (bind p f)
   n-test : {i : Bool} {b : Bool} {p q : Script i Answer} → Never i p → Never i q → Never i (test b p q)
 
 -- a change that leaves the pages
@@ -95,28 +100,39 @@ abbrev pub leavesPages : Act → Bool
 leavesPages q = let k = actKind q in is k turning || (is k receiving || (is k kinds.starting || is k plain))
 
 -- it hands out nothing, and its changes are such
-pub data Silent {i : Bool} (ok : Act → Bool) : (A : Type 0) → Script i A → Type 1 where
-  c-ret : {A : Type 0} {a : A} → Silent ok A (ret a)
-  c-bind : {A B : Type 0} {p : Script i B} {f : B → Script i A} → Silent ok B p → ((b : B) → Silent ok A (f b)) → Silent ok A (bind p f)
-  c-test : {A : Type 0} {b : Bool} {p q : Script i A} → Silent ok A p → Silent ok A q → Silent ok A (test b p q)
-  c-get : {A : Type 0} {c : Cell} {k : Val c → Script i A} → ((v : Val c) → Silent ok A (k v)) → Silent ok A (get-then c k)
-  c-put : {A : Type 0} {c : Cell} {v : Val c} {p : Script i A} → Silent ok A p → Silent ok A (put-then c v p)
-  c-is : {A : Type 0} {q : Test} {k : Bool → Script i A} → ((b : Bool) → Silent ok A (k b)) → Silent ok A (is-then q k)
-  c-look : {A : Type 0} {q : Look} {k : ℕ → Script i A} → ((n : ℕ) → Silent ok A (k n)) → Silent ok A (look-then q k)
-  c-fetch : {A : Type 0} {q : Fetch} {k : List ℕ → Script i A} → ((l : List ℕ) → Silent ok A (k l)) → Silent ok A (fetch-then q k)
-  c-act : {A : Type 0} {q : Act} {p : Script i A} → ok q ≡ true → Silent ok A p → Silent ok A (act-then q p)
+pub data HandsOutNothing {i : Bool} (ok : Act → Bool) : (A : Type 0) → Script i A → Type 1 where
+  c-ret : {A : Type 0} {a : A} → HandsOutNothing ok A (ret a)
+  c-bind : {A B : Type 0} {p : Script i B} {f : B → Script i A} → HandsOutNothing ok B p
+      → ((b : B) → HandsOutNothing ok A (f b)) → HandsOutNothing ok A (bind p f)
+  c-test : {A : Type 0} {b : Bool} {p q : Script i A} → HandsOutNothing ok A p → HandsOutNothing ok A q
+      → HandsOutNothing ok A (test b p q)
+  c-get : {A : Type 0} {c : Cell} {k : Val c → Script i A} → ((v : Val c) → HandsOutNothing ok A (k v))
+      → HandsOutNothing ok A (get-then c k)
+  c-put : {A : Type 0} {c : Cell} {v : Val c} {p : Script i A} → HandsOutNothing ok A p
+      → HandsOutNothing ok A (put-then c v p)
+  c-is : {A : Type 0} {q : Test} {k : Bool → Script i A} → ((b : Bool) → HandsOutNothing ok A (k b))
+      → HandsOutNothing ok A (is-then q k)
+  c-look : {A : Type 0} {q : Look} {k : ℕ → Script i A} → ((n : ℕ) → HandsOutNothing ok A (k n))
+      → HandsOutNothing ok A (look-then q k)
+  c-fetch : {A : Type 0} {q : Fetch} {k : List ℕ → Script i A} → ((l : List ℕ) → HandsOutNothing ok A (k l))
+      → HandsOutNothing ok A (fetch-then q k)
+  c-act : {A : Type 0} {q : Act} {p : Script i A} → ok q ≡ true → HandsOutNothing ok A p
+      → HandsOutNothing ok A (act-then q p)
 
 -- it leaves the pages too
-abbrev Calm : {i : Bool} (A : Type 0) → Script i A → Type 1
-Calm A p = Silent leavesPages A p
+abbrev NoPageChange : {i : Bool} (A : Type 0) → Script i A → Type 1
+NoPageChange A p = HandsOutNothing leavesPages A p
 
 -- it ends with neither from its first change of a page on
-pub data Fair : (i : Bool) → Script i Answer → Type 1 where
-  f-never : {i : Bool} {p : Script i Answer} → Never i p → Fair i p
-  f-ret : {i : Bool} {a : Answer} → Fair i (ret a)
-  f-bind : {i : Bool} {A : Type 0} {p : Script i A} {f : A → Script i Answer} → Calm A p → ((a : A) → Fair i (f a)) → Fair i (bind p f)
-  f-test : {i : Bool} {b : Bool} {p q : Script i Answer} → Fair i p → Fair i q → Fair i (test b p q)
-  f-allocate : (d : Dir) (kind address maximum interval : ℕ) → Fair false (allocEndpoint d kind address maximum interval)
+pub data RefusesBeforeChange : (i : Bool) → Script i Answer → Type 1 where
+  f-never : {i : Bool} {p : Script i Answer} → Never i p → RefusesBeforeChange i p
+  f-ret : {i : Bool} {a : Answer} → RefusesBeforeChange i (ret a)
+  f-bind : {i : Bool} {A : Type 0} {p : Script i A} {f : A → Script i Answer} → NoPageChange A p
+      → ((a : A) → RefusesBeforeChange i (f a)) → RefusesBeforeChange i (bind p f)
+  f-test : {i : Bool} {b : Bool} {p q : Script i Answer} → RefusesBeforeChange i p → RefusesBeforeChange i q
+      → RefusesBeforeChange i (test b p q)
+  f-allocate : (d : Dir) (kind address maximum interval : ℕ)
+      → RefusesBeforeChange false (allocEndpoint d kind address maximum interval)
 
 pub ruleset silently = (c-ret, c-bind, c-test, c-get, c-put, c-is, c-look, c-fetch, c-act)
 
@@ -136,7 +152,8 @@ either : (u : Bool) {t x y : Pages} → Same t x → Same t y → Same t (cond u
 either true h g = h
 either false h g = g
 
-started-same : (maximum : ℕ) (a : alloc-answer.Answer) {t : Pages} (x : Pages) → Same t x → Same t (startedB maximum a x)
+started-same : (maximum : ℕ) (a : alloc-answer.Answer) {t : Pages} (x : Pages) → Same t x
+    → Same t (startedB maximum a x)
 started-same maximum (alloc.Refused n) x h = h
 started-same maximum (alloc.Given e base slots) x h = record { outs = h .outs; ins = h .ins }
 
@@ -151,7 +168,8 @@ act-same (close-oldest e) h s = absurd (true≢false (sym h))
 act-same (take-oldest e) h s = absurd (true≢false (sym h))
 act-same (enqueue e bytes) h s = absurd (true≢false (sym h))
 act-same (allocate d kind address maximum interval) h s = absurd (true≢false (sym h))
-act-same (allocate0 maximum) h s = started-same maximum (allocateEp0Of (s .0 .kept .allocator) maximum .answer) _ (record { outs = λ e. refl; ins = λ e. refl })
+act-same (allocate0 maximum) h s = started-same maximum (allocateEp0Of (s .0 .kept .allocator) maximum .answer) _
+    (record { outs = λ e. refl; ins = λ e. refl })
 act-same no-wakes h s = record { outs = λ e. refl; ins = λ e. refl }
 act-same (waken codes) h s = record { outs = λ e. refl; ins = λ e. refl }
 
@@ -162,8 +180,9 @@ never-run (n-test {b = true} h g) s t = never-run h s t
 never-run (n-test {b = false} h g) s t = never-run g s t
 
 -- it ends at once; where its changes leave the pages, they are as they were
-pub silent-ends : {i : Bool} {ok : Act → Bool} {A : Type 0} {p : Script i A} → Silent ok A p → (s : Bk)
-    → (a : A) × (t : Bk) × (run bookOps p s ≡ ends a t) × (((q : Act) → ok q ≡ true → leavesPages q ≡ true) → Same (s .0) (t .0))
+pub silent-ends : {i : Bool} {ok : Act → Bool} {A : Type 0} {p : Script i A} → HandsOutNothing ok A p → (s : Bk)
+    → (a : A) × (t : Bk) × (run bookOps p s ≡ ends a t)
+    × (((q : Act) → ok q ≡ true → leavesPages q ≡ true) → Same (s .0) (t .0))
 silent-ends (c-ret {a = a}) s = (a, s, refl, λ _. same)
 silent-ends (c-bind {f = f} h g) s =
     let z = silent-ends h s in
@@ -176,14 +195,17 @@ silent-ends (c-bind {f = f} h g) s =
 silent-ends (c-test {b = true} h g) s = silent-ends h s
 silent-ends (c-test {b = false} h g) s = silent-ends g s
 silent-ends (c-get h) s = silent-ends (h _) s
-silent-ends (c-put {c = c} {v = v} h) s = let z = silent-ends h (putB c v s) in (z .0, z .1, z .2, λ l. same-then (put-same c v s) (z .3 l))
+silent-ends (c-put {c = c} {v = v} h) s = let z = silent-ends h (putB c v s) in
+    (z .0, z .1, z .2, λ l. same-then (put-same c v s) (z .3 l))
 silent-ends (c-is h) s = silent-ends (h _) s
 silent-ends (c-look h) s = silent-ends (h _) s
 silent-ends (c-fetch h) s = silent-ends (h _) s
-silent-ends (c-act {q = q} m h) s = let z = silent-ends h (actB q s) in (z .0, z .1, z .2, λ l. same-then (act-same q (l q m) s) (z .3 l))
+silent-ends (c-act {q = q} m h) s = let z = silent-ends h (actB q s) in
+    (z .0, z .1, z .2, λ l. same-then (act-same q (l q m) s) (z .3 l))
 
-calm-run : {i : Bool} {A : Type 0} {p : Script i A} → Calm A p → (s : Bk) → Tells any s (run bookOps p s)
-calm-run h s = let z = silent-ends h s in subst (λ (o : tree.Out Bk _). Tells any s o) (sym (z .2)) (t-end (λ _. z .3 (λ q l. l)))
+calm-run : {i : Bool} {A : Type 0} {p : Script i A} → NoPageChange A p → (s : Bk) → Tells any s (run bookOps p s)
+calm-run h s = let z = silent-ends h s in subst (λ (o : tree.Out Bk _). Tells any s o) (sym (z .2))
+    (t-end (λ _. z .3 (λ q l. l)))
 
 -- an allocation that is refused leaves the pages
 module _ (d : Dir) (kind address maximum interval : ℕ) (s : Bk) where
@@ -191,16 +213,19 @@ module _ (d : Dir) (kind address maximum interval : ℕ) (s : Bk) where
   given-never e base slots = search fairly depth 20
 
   by-answer : (z : alloc-answer.Answer) (x : Pages) → Same (s .0) x
-      → Tells isNo s (run bookOps (allocated-as {i = false} d kind maximum z) (givenB d kind maximum interval z x, s .1))
+      → Tells isNo s (run bookOps (allocated-as {i = false} d kind maximum z)
+      (givenB d kind maximum interval z x, s .1))
   by-answer (alloc.Refused n) x h = t-end (λ _. h)
-  by-answer (alloc.Given e base slots) x h = never-run (given-never e base slots) s (givenB d kind maximum interval (alloc.Given e base slots) x, s .1)
+  by-answer (alloc.Given e base slots) x h = never-run (given-never e base slots) s
+      (givenB d kind maximum interval (alloc.Given e base slots) x, s .1)
 
   allocate-tells : Tells isNo s (run bookOps (allocEndpoint {i = false} d kind address maximum interval) s)
   allocate-tells = tells-test (eqb (s .0 .kept .globals .stage) 1)
-      (by-answer (allocateOf (s .0 .kept .allocator) kind address maximum d .answer) _ (record { outs = λ e. refl; ins = λ e. refl }))
+      (by-answer (allocateOf (s .0 .kept .allocator) kind address maximum d .answer) _
+      (record { outs = λ e. refl; ins = λ e. refl }))
       (t-end (λ _. same))
 
-fair-run : {i : Bool} {p : Script i Answer} → Fair i p → (s : Bk) → Tells isNo s (run bookOps p s)
+fair-run : {i : Bool} {p : Script i Answer} → RefusesBeforeChange i p → (s : Bk) → Tells isNo s (run bookOps p s)
 fair-run (f-never h) s = never-run h s s
 fair-run f-ret s = t-end (λ _. same)
 fair-run (f-bind h g) s = tells-bind (calm-run h s) (λ a t. fair-run (g a) t)
@@ -210,7 +235,7 @@ fair-run (f-allocate d kind address maximum interval) s = allocate-tells d kind 
 
 -- ---- the calls
 
-fair-slotted : (o : Slotted) → Fair false (slottedCode o)
+fair-slotted : (o : Slotted) → RefusesBeforeChange false (slottedCode o)
 fair-slotted (SetEnabled dir e onn) = search fairly depth 20
 fair-slotted (PollRead e n) = search fairly depth 40 fits 100000
 fair-slotted (BeginWrite e bytes) = search fairly depth 40 fits 100000
@@ -218,20 +243,20 @@ fair-slotted (PollWrite e bytes) = search fairly depth 40 fits 100000
 fair-slotted (PollDataOut n) = search fairly depth 40 fits 100000
 fair-slotted (BeginDataIn bytes first last) = search fairly depth 40 fits 100000
 
-fair-aside : (o : Aside) → Fair false (asideCode o)
+fair-aside : (o : Aside) → RefusesBeforeChange false (asideCode o)
 fair-aside (Open e) = search fairly depth 40 fits 100000
 fair-aside (Close e) = search fairly depth 40 fits 100000
 fair-aside (Queue e bytes) = search fairly depth 40 fits 100000
 
-fair-started : (maximum : ℕ) (a : alloc-answer.Answer) → Fair false (started-as maximum a)
+fair-started : (maximum : ℕ) (a : alloc-answer.Answer) → RefusesBeforeChange false (started-as maximum a)
 fair-started maximum (alloc.Refused n) = search fairly
 fair-started maximum (alloc.Given e base slots) = search fairly depth 20
 
-fair-read : (bytes : List ℕ) (a : reading-answer.Answer) → Fair false (allocate-read bytes a)
+fair-read : (bytes : List ℕ) (a : reading-answer.Answer) → RefusesBeforeChange false (allocate-read bytes a)
 fair-read bytes (reading.Refused n) = search fairly
 fair-read bytes reading.Listed = search fairly depth 30 fits 100000
 
-fair-other : (o : Other) → Fair false (otherCode o)
+fair-other : (o : Other) → RefusesBeforeChange false (otherCode o)
 fair-other (Allocate dir kind address maximum interval) = f-allocate dir kind address maximum interval
 fair-other (AllocateAll bytes) = search (fair-read, fairly) depth 20
 fair-other (Start maximum) = search (fair-started, fairly) depth 20
@@ -253,7 +278,7 @@ fair-other BeginReject = search fairly depth 40 fits 100000
 fair-other (BeginDataOut n first) = search fairly depth 40 fits 100000
 fair-other (BeginAcceptSetAddress a) = search fairly depth 40 fits 100000
 
-fair-interrupt : Fair true interruptCode
+fair-interrupt : RefusesBeforeChange true interruptCode
 fair-interrupt = search fairly depth 20
 
 pub call-tells : (o : Op) (s : Bk) → Tells isNo s (run bookOps (code o) s)

@@ -1,5 +1,5 @@
--- The scripts of all calls but the interrupt: `Write IntFg 0 1`, the release of the bus reset's flag, is handed out in a bus reset's row alone,
--- with none waiting on any endpoint in the book
+-- The scripts of all calls but the interrupt: `Write IntFg 0 1`, the release of the bus reset's flag, is handed out in
+-- a bus reset's row alone, with none waiting on any endpoint in the book
 use mathlib.Core.Bool.{Bool, true, false, cond, not, _&&_, _||_, true≢false}
 use mathlib.Core.List.{List, []}
 use mathlib.Core.Path.{_≡_, refl, ap, sym, _∙_}
@@ -27,7 +27,8 @@ use Rattle.script.specs.Calls.{BeginAccept, PollAccept, BeginReject, BeginDataO
 use Rattle.script.specs.Calls.{slotted, other, aside, slottedCode, otherCode, asideCode}
 use Rattle.script.specs.Calls as the-calls
 use Rattle.script.specs.Every.{sameReg}
-use Rattle.script.specs.Steps.{Kind, plain, moving, turning, resetting, giving, queueing, kindOf, codeOf, is, mayAsk, mayPut, mayAct}
+use Rattle.script.specs.Steps.{Kind, plain, moving, turning, resetting, giving, queueing, kindOf, codeOf, is, mayAsk}
+use Rattle.script.specs.Steps.{mayPut, mayAct}
 use Rattle.script.specs.Steps.{mayRow, Asks, Steps}
 use Rattle.script.specs.StepsCalls.{call-steps, start-up-steps}
 use Rattle.script.specs.StepsRunsLaws.{if-true, if-so, Handed, kinds-apart, writes-flag}
@@ -40,23 +41,31 @@ pub use Rattle.proof_book.specs.Others.{releases}
 
 -- ---- a script that releases it in a row alone
 
--- u: a change of a script that may queue packets; else of one in which the tail may pass packets and endpoints may be emptied
+-- u: a change of a script that may queue packets; else of one in which the tail may pass packets and endpoints may be
+-- emptied
 abbrev pub suits : Bool → Act → Bool
-suits u q = let k = actKind q in cond (is k moving || (is k resetting || is k giving)) (not u) (cond (is k queueing) u true)
+suits u q = let k = actKind q in cond (is k moving || (is k resetting || is k giving)) (not u)
+    (cond (is k queueing) u true)
 
 pub data InRows (u : Bool) : (A : Type 0) → Script false A → Type 1 where
   r-ret : {A : Type 0} {a : A} → InRows u A (ret a)
-  r-bind : {A B : Type 0} {p : Script false B} {f : B → Script false A} → InRows u B p → ((b : B) → InRows u A (f b)) → InRows u A (bind p f)
+  r-bind : {A B : Type 0} {p : Script false B} {f : B → Script false A} → InRows u B p → ((b : B) → InRows u A (f b))
+      → InRows u A (bind p f)
   r-test : {A : Type 0} {b : Bool} {p q : Script false A} → InRows u A p → InRows u A q → InRows u A (test b p q)
-  r-read : {A : Type 0} {r : Reg} {e : ℕ} {k : ℕ → Script false A} → ((v : ℕ) → InRows u A (k v)) → InRows u A (read-then r e k)
-  r-write : {A : Type 0} {r : Reg} {e v : ℕ} {p : Script false A} → releases (Write r e v) ≡ false → InRows u A p → InRows u A (write-then r e v p)
+  r-read : {A : Type 0} {r : Reg} {e : ℕ} {k : ℕ → Script false A} → ((v : ℕ) → InRows u A (k v))
+      → InRows u A (read-then r e k)
+  r-write : {A : Type 0} {r : Reg} {e v : ℕ} {p : Script false A} → releases (Write r e v) ≡ false → InRows u A p
+      → InRows u A (write-then r e v p)
   r-wait : {A : Type 0} {n : ℕ} {p : Script false A} → InRows u A p → InRows u A (wait-then n p)
   r-callback : {A : Type 0} {p : Script false A} → InRows u A p → InRows u A (callback-then p)
-  r-get : {A : Type 0} {c : Cell} {k : Val c → Script false A} → ((v : Val c) → InRows u A (k v)) → InRows u A (get-then c k)
+  r-get : {A : Type 0} {c : Cell} {k : Val c → Script false A} → ((v : Val c) → InRows u A (k v))
+      → InRows u A (get-then c k)
   r-put : {A : Type 0} {c : Cell} {v : Val c} {p : Script false A} → InRows u A p → InRows u A (put-then c v p)
-  r-is : {A : Type 0} {q : Test} {k : Bool → Script false A} → ((b : Bool) → InRows u A (k b)) → InRows u A (is-then q k)
+  r-is : {A : Type 0} {q : Test} {k : Bool → Script false A} → ((b : Bool) → InRows u A (k b))
+      → InRows u A (is-then q k)
   r-look : {A : Type 0} {q : Look} {k : ℕ → Script false A} → ((n : ℕ) → InRows u A (k n)) → InRows u A (look-then q k)
-  r-fetch : {A : Type 0} {q : Fetch} {k : List ℕ → Script false A} → ((l : List ℕ) → InRows u A (k l)) → InRows u A (fetch-then q k)
+  r-fetch : {A : Type 0} {q : Fetch} {k : List ℕ → Script false A} → ((l : List ℕ) → InRows u A (k l))
+      → InRows u A (fetch-then q k)
   r-act : {A : Type 0} {q : Act} {p : Script false A} → suits u q ≡ true → InRows u A p → InRows u A (act-then q p)
   r-hand : {A : Type 0} {q : DmaStep} {p : Script false A} → not u ≡ true → InRows u A p → InRows u A (hand-then q p)
   r-row : {A : Type 0} {g : Burst} {p : Script false A} → not u ≡ true → InRows u A p → InRows u A (row-then g p)
@@ -64,7 +73,23 @@ pub data InRows (u : Bool) : (A : Type 0) → Script false A → Type 1 where
 abbrev pub Rows : {A : Type 0} → Script false A → Type 1
 Rows {A} p = InRows false A p
 
-ruleset inRows = (r-ret, r-bind, r-test, r-read, r-write, r-wait, r-callback, r-get, r-put, r-is, r-look, r-fetch, r-act, r-hand, r-row)
+ruleset inRows = (
+  r-ret,
+  r-bind,
+  r-test,
+  r-read,
+  r-write,
+  r-wait,
+  r-callback,
+  r-get,
+  r-put,
+  r-is,
+  r-look,
+  r-fetch,
+  r-act,
+  r-hand,
+  r-row,
+)
 
 -- ---- its run
 
@@ -105,12 +130,24 @@ row-cleared (switch e on) (suc zero) s h = not-released refl h
 row-cleared (switch e on) (suc (suc zero)) s h = not-released refl h
 row-cleared (switch e on) (suc (suc (suc n))) s h = not-released refl h
 row-cleared bus-reset zero s h = λ e.
-    record { waiting = refl; opened = refl; admitted = refl; read = refl; waiting-in = refl; sending = refl; queued = refl; sent = refl; passed = refl }
+    record {
+      waiting = refl;
+      opened = refl;
+      admitted = refl;
+      read = refl;
+      waiting-in = refl;
+      sending = refl;
+      queued
+          = refl;
+      sent = refl;
+      passed = refl;
+    }
 row-cleared bus-reset (suc zero) s h = not-released refl h
 row-cleared bus-reset (suc (suc zero)) s h = not-released refl h
 row-cleared bus-reset (suc (suc (suc n))) s h = not-released refl h
 
-clear-rows : {A : Type 0} (g : Burst) (n : ℕ) {k : Bk → tree.Out Bk A} → ((t : Bk) → Clears t (k t)) → (s : Bk) → Clears s (rows bookOps g n k s)
+clear-rows : {A : Type 0} (g : Burst) (n : ℕ) {k : Bk → tree.Out Bk A} → ((t : Bk) → Clears t (k t)) → (s : Bk)
+    → Clears s (rows bookOps g n k s)
 clear-rows g zero h s = ask tt (row-cleared g zero s) (λ v t _. h t)
 clear-rows g (suc n) h s = ask tt (row-cleared g (suc n) s) (λ v t _. clear-rows g n h t)
 
@@ -119,7 +156,8 @@ from w = earlier Any Whatever Cleared (λ s t u _ _. tt) (λ s t u q _ m. m) tt 
 
 pub clears : {u : Bool} {A : Type 0} {p : Script false A} → InRows u A p → (s : Bk) → Clears s (run bookOps p s)
 clears r-ret s = end tt tt
-clears (r-bind h g) s = tracks-bind Any Whatever Cleared (λ s t u _ _. tt) (λ s t u q _ m. m) (clears h s) (λ a t _. clears (g a) t)
+clears (r-bind h g) s = tracks-bind Any Whatever Cleared (λ s t u _ _. tt) (λ s t u q _ m. m) (clears h s)
+    (λ a t _. clears (g a) t)
 clears (r-test {b = true} h g) s = clears h s
 clears (r-test {b = false} h g) s = clears g s
 clears (r-read h) s = ask tt (λ k. not-released refl k) (λ v t _. clears (h v) t)
@@ -137,8 +175,10 @@ clears (r-row {g = g} m h) s = clear-rows g (lastOf g) (λ t. clears h t) s
 
 -- ---- the calls
 
-not-released-by : (k : Kind) → is k resetting ≡ false → (r : Reg) (e v : ℕ) → Asks k (Write r e v) → releases (Write r e v) ≡ false
-not-released-by k h r e v x = by (sameReg r IntFg) (eqb v 1) (λ g. writes-flag k r v (if-true (mayAsk k (Write r e v)) (Unit {0}) x) g)
+not-released-by : (k : Kind) → is k resetting ≡ false → (r : Reg) (e v : ℕ) → Asks k (Write r e v)
+    → releases (Write r e v) ≡ false
+not-released-by k h r e v x = by (sameReg r IntFg) (eqb v 1)
+    (λ g. writes-flag k r v (if-true (mayAsk k (Write r e v)) (Unit {0}) x) g)
   where
     by : (a b : Bool) → (a ≡ true → (not b || is k resetting) ≡ true) → (a && b) ≡ false
     by false b f = refl
@@ -182,11 +222,13 @@ module _ (k : Kind) (other : is k resetting ≡ false) where
   in-rows (is-then q f) x = r-is (λ b. in-rows (f b) (x b))
   in-rows (look-then q f) x = r-look (λ n. in-rows (f n) (x n))
   in-rows (fetch-then q f) x = r-fetch (λ l. in-rows (f l) (x l))
-  in-rows (act-then q p) x = r-act (kind-suits k q (if-true (mayAct k q) (Steps k p) x)) (in-rows p (if-so (mayAct k q) x))
+  in-rows (act-then q p) x = r-act (kind-suits k q (if-true (mayAct k q) (Steps k p) x))
+      (in-rows p (if-so (mayAct k q) x))
   in-rows (hand-then q p) x =
       let y : Handed k q p = if-so (not (is k queueing)) x in
       r-hand (if-true (not (is k queueing)) (Handed k q p) x) (in-rows p (y .1))
-  in-rows (row-then g p) x = r-row (kind-rows k g (if-true (mayRow k g) (Steps k p) x)) (in-rows p (if-so (mayRow k g) x))
+  in-rows (row-then g p) x = r-row (kind-rows k g (if-true (mayRow k g) (Steps k p) x))
+      (in-rows p (if-so (mayRow k g) x))
 
 -- the bus' poll releases it in its row
 of-nak-all : (n e : ℕ) → Rows (bus.nakAll {i = false} n e)
@@ -198,7 +240,8 @@ of-nak-all (suc n) e = r-bind (r-write refl r-ret) (λ _. r-bind (r-write refl r
 abbrev pub mayQueue : Slotted → Bool
 mayQueue o = is (kindOf (slotted o)) queueing
 
-of-kind : (o : Slotted) → is (kindOf (slotted o)) resetting ≡ false → InRows (is (kindOf (slotted o)) queueing) Answer (slottedCode o)
+of-kind : (o : Slotted) → is (kindOf (slotted o)) resetting ≡ false
+    → InRows (is (kindOf (slotted o)) queueing) Answer (slottedCode o)
 of-kind o h = in-rows (kindOf (slotted o)) h (slottedCode o) (call-steps (slotted o))
 
 pub of-slotted : (o : Slotted) → InRows (mayQueue o) Answer (slottedCode o)
@@ -212,7 +255,8 @@ of-slotted (BeginDataIn bytes first last) = of-kind (BeginDataIn bytes first las
 pub of-aside : (o : Aside) → InRows true Answer (asideCode o)
 of-aside o = in-rows queueing refl (asideCode o) (call-steps (aside o))
 
-of-kind-other : (o : Other) → is (kindOf (other o)) resetting ≡ false → InRows (is (kindOf (other o)) queueing) Answer (otherCode o)
+of-kind-other : (o : Other) → is (kindOf (other o)) resetting ≡ false
+    → InRows (is (kindOf (other o)) queueing) Answer (otherCode o)
 of-kind-other o h = in-rows (kindOf (other o)) h (otherCode o) (call-steps (other o))
 
 pub of-other : (o : Other) → Rows (otherCode o)

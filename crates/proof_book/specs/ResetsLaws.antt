@@ -44,7 +44,8 @@ pub reset-place : (r : EpState) → SamePlace r (resetOf r)
 reset-place r = record { base = refl; stride = refl; slots = refl }
 
 -- none of a reset record wait
-reset-held : {most : ℕ} {b : Buf} {r : EpState} {ls : List ℕ} {w : List (List ℕ)} → Held most b r ls w → Held most b (resetOf r) ls []
+reset-held : {most : ℕ} {b : Buf} {r : EpState} {ls : List ℕ} {w : List (List ℕ)} → Held most b r ls w
+    → Held most b (resetOf r) ls []
 reset-held {most = most} {b = b} {r = r} {ls = ls} h = record {
   placed = place-placed (reset-place r) (h .placed);
   ring = reset-ring (resetOf r) refl refl most ls (h .ring .whole) (h .ring .capped);
@@ -53,8 +54,10 @@ reset-held {most = most} {b = b} {r = r} {ls = ls} h = record {
 }
 
 -- nor any stamp, whatever its slots have
-pub reset-out : {b : Buf} {r : EpState} {ls ss : List ℕ} {p : OutPage} → OutFits b r ls ss p → (ss′ : List ℕ) → OutFits b (resetOf r) ls ss′ (emptyOut p)
-reset-out {p = p} f ss′ = empty-out refl refl refl (reset-held (f .held)) p (record { lost = f .lost; slot = f .slot; from = f .from; upto = f .upto }) ss′
+pub reset-out : {b : Buf} {r : EpState} {ls ss : List ℕ} {p : OutPage} → OutFits b r ls ss p → (ss′ : List ℕ)
+    → OutFits b (resetOf r) ls ss′ (emptyOut p)
+reset-out {p = p} f ss′ = empty-out refl refl refl (reset-held (f .held)) p
+    (record { lost = f .lost; slot = f .slot; from = f .from; upto = f .upto }) ss′
 
 reset-in : {b : Buf} {r : EpState} {ls : List ℕ} {p : InPage} → InFits b r ls p → InFits b (resetOf r) ls emptyIn
 reset-in f = empty-in refl refl refl (reset-held (f .held))
@@ -64,7 +67,8 @@ module _ (d : Driver) (z : Sized d) (dir : Dir) (e : ℕ) where
   renewed-sized = changed-on z dir e (resetOf (epOn d dir e)) (reset-place (epOn d dir e)) refl .sized
 
   renewed-same : (x : ℕ) → x % 16 ≡ e % 16 → epOn (renewed dir e d) dir x ≡ resetOf (epOn d dir x)
-  renewed-same x h = ep-mod (renewed dir e d) dir x e h ∙ epOn-same d dir e (resetOf (epOn d dir e)) z ∙ ap resetOf (sym (ep-mod d dir x e h))
+  renewed-same x h = ep-mod (renewed dir e d) dir x e h ∙ epOn-same d dir e (resetOf (epOn d dir e)) z
+      ∙ ap resetOf (sym (ep-mod d dir x e h))
 
   renewed-other : (dir′ : Dir) (x : ℕ) → key dir′ x ≢ key dir e → epOn (renewed dir e d) dir′ x ≡ epOn d dir′ x
   renewed-other dir′ x n = epOn-other d dir e (resetOf (epOn d dir e)) dir′ x n
@@ -78,8 +82,10 @@ module _ (d : Driver) (z : Sized d) (e : ℕ) where
   pair-sized = renewed-sized (renewed Out e d) (renewed-sized d z Out e) In e
 
   pair-same : (dir : Dir) (x : ℕ) → x % 16 ≡ e % 16 → epOn (both-renewed e d) dir x ≡ resetOf (epOn d dir x)
-  pair-same Out x h = renewed-other (renewed Out e d) (renewed-sized d z Out e) In e Out x (key-apart x e) ∙ renewed-same d z Out e x h
-  pair-same In x h = renewed-same (renewed Out e d) (renewed-sized d z Out e) In e x h ∙ ap resetOf (renewed-other d z Out e In x (λ q. key-apart e x (sym q)))
+  pair-same Out x h = renewed-other (renewed Out e d) (renewed-sized d z Out e) In e Out x (key-apart x e)
+      ∙ renewed-same d z Out e x h
+  pair-same In x h = renewed-same (renewed Out e d) (renewed-sized d z Out e) In e x h
+      ∙ ap resetOf (renewed-other d z Out e In x (λ q. key-apart e x (sym q)))
 
   pair-other : (dir : Dir) (x : ℕ) → x % 16 ≢ e % 16 → epOn (both-renewed e d) dir x ≡ epOn d dir x
   pair-other Out x n = renewed-other (renewed Out e d) (renewed-sized d z Out e) In e Out x (key-apart x e)
@@ -97,7 +103,14 @@ record Below (n : ℕ) (d d′ : Driver) : Type 0 where
 
 reset-below : (n : ℕ) (d : Driver) → n ≤ 16 → Sized d → Below n d (resetBelow n d)
 unfolding resetBelow withOn
-reset-below zero d l z = record { sized = z; rest = refl; lens = refl; these = λ dir x h. absurd (omega arith); others = λ dir x h. refl }
+reset-below zero d l z = record {
+  sized = z;
+  rest = refl;
+  lens = refl;
+  these = λ dir x h. absurd (omega arith);
+  others
+      = λ dir x h. refl;
+}
 reset-below (suc n) d l z = more (resetBelow n d) (reset-below n d (omega arith) z)
   where
     more : (x : Driver) → Below n d x → Below (suc n) d (both-renewed n x)
@@ -160,7 +173,8 @@ module _ {b : Buf} {d : Driver} {t : Pages} (R : Coupling (mid bus-reset 1) b d 
   all-same =
       let r = all-below .rest in
       record {
-        globals = all-globals ∙ ap (λ (g : Globals). withSetup 0 (g .«setup_low») (g .«setup_high») g) (R .same .globals);
+        globals = all-globals ∙ ap (λ (g : Globals). withSetup 0 (g .«setup_low») (g .«setup_high») g)
+            (R .same .globals);
         wakes = ap (λ (x : Rest). x .0 .1) r ∙ R .same .wakes;
         control = ap (λ (x : Rest). x .0 .2) r ∙ R .same .control;
         allocator = ap (λ (x : Rest). x .0 .3) r ∙ R .same .allocator;
@@ -190,12 +204,18 @@ module _ {b : Buf} {d : Driver} {t : Pages} (R : Coupling (mid bus-reset 1) b d 
 pub reset-first : (b : Buf) (d : Driver) (t : Pages) → Coupling quiet b d t → RowStep bus-reset 3 b d t
 reset-first b d t R = (
   refl,
-  globals-changed R (withEpConfig 0 (d .globals)) (withEpConfig 0 (t .kept .globals)) (ap (withEpConfig 0) (R .same .globals)) refl refl refl refl (omega arith)
-      (λ e. (none-enabled (d .globals) e, armed-or quiet e (isSet (isoOuts (d .globals)) (e % 16)) (epOn d Out e) (t .outs e) (R .arming e))),
+  globals-changed R (withEpConfig 0 (d .globals)) (withEpConfig 0 (t .kept .globals))
+      (ap (withEpConfig 0) (R .same .globals)) refl refl refl refl (omega arith)
+      (λ e. (
+        none-enabled (d .globals) e,
+        armed-or quiet e (isSet (isoOuts (d .globals)) (e % 16)) (epOn d Out e)
+            (t .outs e) (R .arming e),
+      )),
   tt,
 )
 
-pub reset-next : (n : ℕ) (b : Buf) (d : Driver) (t : Pages) → Coupling (mid bus-reset (suc n)) b d t → RowStep bus-reset n b d t
+pub reset-next : (n : ℕ) (b : Buf) (d : Driver) (t : Pages) → Coupling (mid bus-reset (suc n)) b d t
+    → RowStep bus-reset n b d t
 unfolding isoOuts
 reset-next zero b d t R = (refl, all-reset R, tt)
 reset-next (suc zero) b d t R = (refl, phase-changed R (omega arith) (R .arming), tt)

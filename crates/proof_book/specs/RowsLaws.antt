@@ -21,14 +21,16 @@ use Rattle.proof_book.specs.ResetsLaws.{reset-first, reset-next}
 use Rattle.proof_book.specs.SwitchesLaws.{slot-first, switch-next}
 
 pub rows-first : (g : Burst) (b : Buf) (d : Driver) (t : Pages) → Coupling quiet b d t
-    → let n = lastOf g in let x = concrete .row g n (d, b) in let t′ = book .feed (burstAsk g n (x .0)) (book .driver .ops .row g n (t, b) .1 .0) in
+    → let n = lastOf g in let x = concrete .row g n (d, b) in let t′
+    = book .feed (burstAsk g n (x .0)) (book .driver .ops .row g n (t, b) .1 .0) in
     (blank (burstAsk g n (x .0)) ≡ blank (burstAsk g n (book .driver .ops .row g n (t, b) .0)))
     × Coupling (mid g n) (x .1 .1) (x .1 .0) t′ × Good (burstAsk g n (x .0)) (x .1 .1) t′
 rows-first (switch e onn) b d t R = slot-first e onn b d t R
 rows-first bus-reset b d t R = reset-first b d t R
 
 pub rows-next : (g : Burst) (n : ℕ) (b : Buf) (d : Driver) (t : Pages) → Coupling (mid g (suc n)) b d t
-    → let x = concrete .row g n (d, b) in let t′ = book .feed (burstAsk g n (x .0)) (book .driver .ops .row g n (t, b) .1 .0) in
+    → let x = concrete .row g n (d, b) in let t′ = book .feed (burstAsk g n (x .0))
+    (book .driver .ops .row g n (t, b) .1 .0) in
     (blank (burstAsk g n (x .0)) ≡ blank (burstAsk g n (book .driver .ops .row g n (t, b) .0)))
     × Coupling (mid g n) (x .1 .1) (x .1 .0) t′ × Good (burstAsk g n (x .0)) (x .1 .1) t′
 rows-next (switch e onn) n b d t R = switch-next e onn n b d t R
@@ -41,5 +43,6 @@ switched-rest false u r p s = s
 
 pub rows-finish : (g : Burst) (b : Buf) (d : Driver) (t : Pages) → Coupling (mid g zero) b d t → Coupling quiet b d t
 rows-finish (switch e onn) b d t R = phase-changed R tt
-    (λ x. switched-rest (eqb (x % 16) (e % 16) && isOn (epOn d Out x .iso)) (isSet (isoOuts (d .globals)) (x % 16)) (epOn d Out x) (t .outs x) (R .arming x))
+    (λ x. switched-rest (eqb (x % 16) (e % 16) && isOn (epOn d Out x .iso)) (isSet (isoOuts (d .globals)) (x % 16))
+    (epOn d Out x) (t .outs x) (R .arming x))
 rows-finish bus-reset b d t R = phase-changed R tt (R .arming)

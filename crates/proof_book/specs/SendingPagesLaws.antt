@@ -1,5 +1,5 @@
--- What may become of the page of an IN on which a packet is being sent: it is being sent still, from the same slot, or the tail has passed it, or the page
--- is empty; of one page, and of all
+-- What may become of the page of an IN on which a packet is being sent: it is being sent still, from the same slot, or
+-- the tail has passed it, or the page is empty; of one page, and of all
 use mathlib.Core.Bool.{Bool, true, false, cond, true≢false}
 use mathlib.Core.List.{List, [], _++_, tail, append-nil}
 use mathlib.Core.Logic.{_⊎_, inl, inr}
@@ -159,7 +159,14 @@ loaded-turns p b = by (some (p .waiting)) refl
   where
     by : (u : Bool) → some (p .waiting) ≡ u → Turns Either p (cond u (sentIn p b) (placedIn p))
     by true h = record {
-      going = λ s. keeps (record { sending = refl; shown = ap (λ (u : Bool). cond u (p .shown) b) s; waiting = refl; turn = refl; passed = refl });
+      going = λ s. keeps (record {
+        sending = refl;
+        shown = ap (λ (u : Bool). cond u (p .shown) b) s;
+        waiting
+            = refl;
+        turn = refl;
+        passed = refl;
+      });
       resting = λ s. rests refl tt;
       empty = λ x. absurd (true≢false (sym h ∙ ap (λ (w : List (List ℕ)). some w) (x .waiting)));
     }
@@ -197,33 +204,40 @@ done-weaker h = record {
 }
 
 -- no page of an IN changed
-pub record Calm (t t′ : Pages) : Type 0 where
+pub record NoInPageChange (t t′ : Pages) : Type 0 where
   pub ins : (e : ℕ) → t′ .ins e ≡ t .ins e
   pub base : (e : ℕ) → t′ .kept .plain In e .base ≡ t .kept .plain In e .base
   pub size : slotSize t′ ≡ slotSize t
 
-pub calm : {t : Pages} → Calm t t
+pub calm : {t : Pages} → NoInPageChange t t
 calm = record { ins = λ e. refl; base = λ e. refl; size = refl }
 
-pub calm-or : (u : Bool) {t x y : Pages} → Calm t x → Calm t y → Calm t (cond u x y)
+pub calm-or : (u : Bool) {t x y : Pages} → NoInPageChange t x → NoInPageChange t y → NoInPageChange t (cond u x y)
 calm-or true h k = h
 calm-or false h k = k
 
-pub calm-orderly : {t t′ : Pages} → Orderly t → Calm t t′ → Orderly t′
+pub calm-orderly : {t t′ : Pages} → Orderly t → NoInPageChange t t′ → Orderly t′
 calm-orderly i c = record {
   periodic = λ x y m. c .ins x ∙ i .periodic x y m ∙ sym (c .ins y);
   bases = λ x y m. c .base x ∙ i .bases x y m ∙ sym (c .base y);
-  loads = λ e l. ap (λ (p : InPage). p .sending) (c .ins e) ∙ i .loads e (sym (ap (λ (p : InPage). p .load) (c .ins e)) ∙ l);
+  loads = λ e l. ap (λ (p : InPage). p .sending) (c .ins e)
+      ∙ i .loads e (sym (ap (λ (p : InPage). p .load) (c .ins e)) ∙ l);
 }
 
-pub calm-done : {t t′ : Pages} → Orderly t → Calm t t′ → Done Unsent t t′
+pub calm-done : {t t′ : Pages} → Orderly t → NoInPageChange t t′ → Done Unsent t t′
 calm-done {t} i c = record {
   orderly = calm-orderly i c;
-  follows = record { size = c .size; base = λ e. inl (c .base e); pages = λ e. subst (λ (p : InPage). Turns Unsent (t .ins e) p) (sym (c .ins e)) turns-refl };
+  follows = record {
+    size = c .size;
+    base = λ e. inl (c .base e);
+    pages
+        = λ e. subst (λ (p : InPage). Turns Unsent (t .ins e) p) (sym (c .ins e)) turns-refl;
+  };
 }
 
 -- one page
-pub orderly-with : (t : Pages) (f : ℕ) (p : InPage) → (p .load ≡ true → p .sending ≡ true) → Orderly t → Orderly (withIn t f p)
+pub orderly-with : (t : Pages) (f : ℕ) (p : InPage) → (p .load ≡ true → p .sending ≡ true) → Orderly t
+    → Orderly (withIn t f p)
 orderly-with t f p l i = record {
   periodic = λ x y m. ap₂ (λ (k : ℕ) (q : InPage). cond (eqb k (f % 16)) p q) m (i .periodic x y m);
   bases = i .bases;

@@ -4,11 +4,11 @@ use mathlib.Core.Bool.{Bool, false, cond}
 use Prim.Native.Nat.{ℕ, _+_}
 use Rattle.state.specs.Driver.{Driver}
 use Rattle.script.specs.Answers.{Answer}
-use Rattle.script.specs.Machine.{Ans, ended, handed, told, Way, idle, busy, Machine}
+use Rattle.script.specs.Machine.{Ans, ended, handed, told, Pending, idle, busy, Machine}
 use Rattle.script.specs.Readings.{reading}
 
 -- is an interrupt under way?
-abbrev pub serving : Way Answer Driver → Bool
+abbrev pub serving : Pending Answer Driver → Bool
 serving idle = false
 serving (busy i a k) = i
 
@@ -20,4 +20,4 @@ asked (told n) = 0
 
 -- with the n of the calls after it; none where it leaves no interrupt under way
 abbrev pub andThen : Ans Answer × Machine Answer Driver → ℕ → ℕ
-andThen x n = cond (serving (x .1 .way)) (asked (x .0) + n) 0
+andThen x n = cond (serving (x .1 .under-way)) (asked (x .0) + n) 0

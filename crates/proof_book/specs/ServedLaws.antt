@@ -11,9 +11,10 @@ use Rattle.script.specs.Tree as tree
 use Rattle.script.specs.Tree.{ends, asks}
 use Rattle.script.specs.Script.{run}
 use Rattle.script.specs.Answers.{Answer}
-use Rattle.script.specs.Calls.{Config, Op, interrupt, slotted, other, aside, Aside, asideCode, interruptCode, calls, starting, startRow}
-use Rattle.script.specs.Machine.{Buf, Call, start, begin, go, question, Event, Ans, Awaits, awaited, idle}
-use Rattle.script.specs.Machine.{busy, Machine, over, misfit, stay, beside, begun, continued, started}
+use Rattle.script.specs.Calls.{Config, Op, interrupt, slotted, other, aside, Aside, asideCode, interruptCode, calls}
+use Rattle.script.specs.Calls.{starting, startRow}
+use Rattle.script.specs.Machine.{Buf, Call, start, begin, continue, question, Event, Ans, Awaits, awaited, idle}
+use Rattle.script.specs.Machine.{busy, Machine, over, misfit, stay, duringInterrupt, begun, continued, started}
 use Rattle.script.specs.Readings.{Continues, reading, readings}
 use Rattle.script.specs.TransferKinds.{Along}
 use Rattle.script.specs.SortsAside.{Passes, nothing, stored, called}
@@ -36,7 +37,7 @@ counted es x = andThen x (served es (x .1))
 
 -- an interrupt under way
 abbrev serves : Awaits → (ℕ → St → tree.Out St Answer) → Driver → Buf → Machine Answer Driver
-serves a k d b = record { way = busy true a k; st = d; buf = b }
+serves a k d b = record { under-way = busy true a k; st = d; buf = b }
 
 -- a path of its run with so many readings or more
 record Path (o : tree.Out St Answer) (n : ℕ) : Type 0 where
@@ -57,7 +58,8 @@ abbrev Goes : List (Event Config Op) → Type 0
 Goes es = (q : Access) (s : St) (k : ℕ → St → tree.Out St Answer) (a : Awaits) (d : Driver) (b : Buf)
     → Passes concrete Stores s (d, b) → Path (asks q s k) (reading q + served es (serves a k d b))
 
-module _ (es : List (Event Config Op)) (goes : Goes es) (q : Access) (s : St) (k : ℕ → St → tree.Out St Answer) (a : Awaits) (d : Driver) where
+module _ (es : List (Event Config Op)) (goes : Goes es) (q : Access) (s : St) (k : ℕ → St → tree.Out St Answer)
+    (a : Awaits) (d : Driver) where
   -- the access stays: nothing is handed out
   waits : (b : Buf) → Passes concrete Stores s (d, b) → Path (asks q s k) (reading q + (0 + served es (serves a k d b)))
   waits b p = less (omega arith) (goes q s k a d b p)
@@ -75,7 +77,7 @@ module _ (es : List (Event Config Op)) (goes : Goes es) (q : Access) (s : St) (k
   -- a call that passes
   passes : (o : Aside) (l : Buf)
       → Passes concrete Stores s (d, l) → (x : tree.Out St Answer) → run concrete (asideCode o) (d, l) ≡ x
-      → Path (asks q s k) (reading q + counted es (beside calls driverOf (serves a k d l) x))
+      → Path (asks q s k) (reading q + counted es (duringInterrupt calls driverOf (serves a k d l) x))
   passes o l p (ends y t) h = less (omega arith) (goes q s k a (t .0) (t .1) (called o p h))
   passes o l p (asks y t j) h = waits l p
 
@@ -106,12 +108,15 @@ module _ (es : List (Event Config Op)) (goes : Goes es) (q : Access) (s : St) (k
   unless true n b p x r = waits b p
   unless false n b p x r = r
 
-  one : (c : Call Config Op) (b l : Buf) → Passes concrete Stores s (d, b) → Path (asks q s k) (reading q + counted es (drive c (serves a k d b) l))
+  one : (c : Call Config Op) (b l : Buf) → Passes concrete Stores s (d, b)
+      → Path (asks q s k) (reading q + counted es (drive c (serves a k d b) l))
   one (start c) b l p = starts c b l p (startRow c l)
   one (begin o) b l p = unless (cond (calls .slots o) (misfit calls driverOf d l) false) 1 b p
       (begun calls driverOf (λ s. s) o (serves a k d b) (busy true a k) l) (begins o l (stored p refl) b)
-  one (go v) b l p = unless (misfit calls driverOf d l) 1 b p (continued calls driverOf (λ s. s) v (serves a k d b) (busy true a k) l)
-      (unless (over calls a v) 16 l (stored p refl) (haltsAs true (k v (d, l))) (goes-on v l (stored p refl) (k v (d, l)) refl))
+  one (continue v) b l p = unless (misfit calls driverOf d l) 1 b p
+      (continued calls driverOf (λ s. s) v (serves a k d b) (busy true a k) l)
+      (unless (over calls a v) 16 l (stored p refl) (haltsAs true (k v (d, l)))
+      (goes-on v l (stored p refl) (k v (d, l)) refl))
   one (question x) b l p = waits l (stored p refl)
 
 every : (es : List (Event Config Op)) → Goes es
@@ -119,8 +124,9 @@ unfolding served
 every [] = λ q s k a d b p. here q s k
 every (e ∷ es) = λ q s k a d b p. one es (every es) q s k a d (e .call) b (e .lent) p
 
-pub sorting-served : (n : Machine Answer Driver) → Sorting (n .st) → n .way ≡ idle
-    → (slots : Buf) (fs : List (Event Config Op)) → served (record { call = begin interrupt; lent = slots } ∷ fs) n ≤ 4056
+pub sorting-served : (n : Machine Answer Driver) → Sorting (n .st) → n .under-way ≡ idle
+    → (slots : Buf) (fs : List (Event Config Op)) → served (record { call = begin interrupt; lent = slots } ∷ fs) n
+    ≤ 4056
 unfolding served
 sorting-served n k w slots fs = subst (λ y. counted fs (begun calls driverOf (λ s. s) interrupt n y slots) ≤ 4056)
     (sym w) (by (run concrete interruptCode (n .st, slots)) refl)
@@ -131,11 +137,16 @@ sorting-served n k w slots fs = subst (λ y. counted fs (begun calls driverOf (�
         let r = every fs y t j (awaited y) (t .0) (t .1) nothing in
         le-trans (r .most)
         (subst (λ o. readings o (r .path) ≤ 4056) h
-        (sorting-4056 (n .st) k slots (r .path) (subst (λ o. Along (Passes concrete Stores) o (r .path)) (sym h) (r .along))))
+        (sorting-4056 (n .st) k slots (r .path) (subst (λ o. Along (Passes concrete Stores) o (r .path)) (sym h)
+        (r .along))))
 
--- an interrupt that begins where nothing is under way, after any list of calls from an accepted start-up: whatever calls then follow, with whatever
--- numbers and slot buffers they bring, until it ends they hand out at most 4,056 readings
-pub served-4056 : (c : Config) (b : Buf) → startRow c b ≡ zero → (es : List (Event Config Op)) (m : Machine Answer Driver)
+-- an interrupt that begins where nothing is under way, after any list of calls from an accepted start-up: whatever
+-- calls then follow, with whatever numbers and slot buffers they bring, until it ends they hand out at most 4,056
+-- readings
+pub served-4056 : (c : Config) (b : Buf) → startRow c b ≡ zero
+    → (es : List (Event Config Op)) (m : Machine Answer Driver)
     → let n = after calls driverOf (record { call = start c; lent = b } ∷ es) m in
-    n .way ≡ idle → (slots : Buf) (fs : List (Event Config Op)) → served (record { call = begin interrupt; lent = slots } ∷ fs) n ≤ 4056
-served-4056 c b row es m = sorting-served (after calls driverOf (record { call = start c; lent = b } ∷ es) m) (after-sorting c b row es m)
+    n .under-way ≡ idle → (slots : Buf) (fs : List (Event Config Op))
+    → served (record { call = begin interrupt; lent = slots } ∷ fs) n ≤ 4056
+served-4056 c b row es m = sorting-served (after calls driverOf (record { call = start c; lent = b } ∷ es) m)
+    (after-sorting c b row es m)

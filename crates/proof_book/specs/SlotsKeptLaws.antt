@@ -1,5 +1,5 @@
--- "No slot being sent is written" (demand 3), and no address that is handed out reaches outside the lent buffer (demand 1), after one call; the premise
--- of FrontPage.antt is the one of Agree.antt
+-- "No slot being sent is written" (demand 3), and no address that is handed out reaches outside the lent buffer (demand
+-- 1), after one call; the premise of FrontPage.antt is the one of Agree.antt
 use mathlib.Core.Bool.{Bool, true, false, not, cond, true≢false}
 use mathlib.Core.Path.{_≡_, refl, ap, sym, _∙_}
 use Prim.Native.Nat.{ℕ, _%_}
@@ -17,7 +17,7 @@ use Rattle.script.specs.Simulates.{Phase}
 use Rattle.script.specs.Statics.{isOn}
 use Rattle.script.specs.Answers.{Answer}
 use Rattle.script.specs.Calls.{Config, Op, calls}
-use Rattle.script.specs.Machine.{Buf, Call, start, begin, go, question, misfit, Machine, Ans, ended, handed, told}
+use Rattle.script.specs.Machine.{Buf, Call, start, begin, continue, question, misfit, Machine, Ans, ended, handed, told}
 use Rattle.script.specs.Agree.{After, GoodA, LentAlike, unless}
 use Rattle.machine.specs.Suspended.{driverOf}
 use Rattle.proof_book.specs.Pages.{Pages}
@@ -26,12 +26,13 @@ use Rattle.proof_book.specs.Coupling.{Shape, Used, Coupling, Good, Chip}
 use Rattle.proof_book.specs.FrameLaws.{sending-count}
 use Rattle.proof_book.specs.ChipsLaws.{chip}
 use Rattle.proof_book.specs.AgreesLaws.{agree}
-use Rattle.proof_book.specs.FrontPage.{slotSize, Unwritten, LiesIn, Inside, LentAsLeft}
+use Rattle.proof_book.specs.FrontPage.{slotSize, Unwritten, LiesIn, Inside, BufferPreserved}
 use Rattle.proof_book.specs.FrontPage as page
 
 module _ {φ : Phase} {b : Buf} {d : Driver} {t : Pages} (R : Coupling φ b d t) where
   -- an endpoint on which some wait is isochronous, and so allocated: its slots are of the buffers' size
-  pub sent-used : (e : ℕ) → t .ins e .sending ≡ true → (isOn (epOn d In e .iso) ≡ true) × Used (d .allocator) In (epOn d In e)
+  pub sent-used : (e : ℕ) → t .ins e .sending ≡ true → (isOn (epOn d In e .iso) ≡ true)
+      × Used (d .allocator) In (epOn d In e)
   unfolding isOn
   sent-used e s = (iso, by (isSet (allocatedIn (d .allocator) In) (e % 16)) (R .shape In e))
     where
@@ -67,7 +68,8 @@ inside-after (handed q) b t g = inside-of q b t g
 inside-after (told n) b t g = tt
 
 -- after one call
-module _ {x : Ans Answer × Machine Answer Driver} {y : Ans Answer × Machine Answer Pages} (a : After driverOf book agree calls x y) where
+module _ {x : Ans Answer × Machine Answer Driver} {y : Ans Answer × Machine Answer Pages}
+    (a : After driverOf book agree calls x y) where
   pub kept-unwritten : (b′ : Buf) → Chip (y .1 .st) (x .1 .buf) b′ → Unwritten (y .1 .st) b′
   kept-unwritten b′ c = unwritten (chip (x .1 .buf) b′ (a .phase) (x .1 .st) (y .1 .st) (a .rest) c)
 
@@ -75,20 +77,22 @@ module _ {x : Ans Answer × Machine Answer Driver} {y : Ans Answer × Machine An
   lies-inside = inside-after (x .0) (x .1 .buf) (y .1 .st) (a .good)
 
 -- the premise is demand3's: row 1 goes by the same length
-module _ {φ : Phase} (m : Machine Answer Driver) (n : Machine Answer Pages) (R : Coupling φ (m .buf) (m .st) (n .st)) (b : Buf) where
-  lent-as : (f : Bool → Bool) → page.unless (f (misfit calls (book .driver) (n .st) b)) (Chip (n .st) (m .buf) b)
+module _ {φ : Phase} (m : Machine Answer Driver) (n : Machine Answer Pages) (R : Coupling φ (m .buf) (m .st) (n .st))
+    (b : Buf) where
+  lent-as : (f : Bool → Bool) → page.whenNot (f (misfit calls (book .driver) (n .st) b)) (Chip (n .st) (m .buf) b)
       → unless driverOf book agree calls (f (misfit calls driverOf (m .st) b)) (Chip (n .st) (m .buf) b)
   lent-as f p = by (f (misfit calls driverOf (m .st) b)) (rw (← same) at p)
     where
       same : misfit calls driverOf (m .st) b ≡ misfit calls (book .driver) (n .st) b
       same = ap (λ (k : ℕ). not (eqb (length b) k)) (agree .size φ (m .buf) (m .st) (n .st) R)
 
-      by : (u : Bool) → page.unless u (Chip (n .st) (m .buf) b) → unless driverOf book agree calls u (Chip (n .st) (m .buf) b)
+      by : (u : Bool) → page.whenNot u (Chip (n .st) (m .buf) b)
+          → unless driverOf book agree calls u (Chip (n .st) (m .buf) b)
       by true p = tt
       by false p = p
 
-  pub lent-is : (c : Call Config Op) → LentAsLeft c n (m .buf) b → LentAlike driverOf book agree calls c m n b
+  pub lent-is : (c : Call Config Op) → BufferPreserved c n (m .buf) b → LentAlike driverOf book agree calls c m n b
   lent-is (start c) p = tt
   lent-is (begin o) p = lent-as (λ u. cond (calls .slots o) u false) p
-  lent-is (go v) p = lent-as (λ u. u) p
+  lent-is (continue v) p = lent-as (λ u. u) p
   lent-is (question q) p = p

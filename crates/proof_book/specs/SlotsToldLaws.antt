@@ -12,7 +12,8 @@ use Rattle.script.specs.Tree as tree
 use Rattle.script.specs.Tree.{ends, asks}
 use Rattle.script.specs.Cells.{Cell, Val}
 use Rattle.script.specs.Script.{run, Act, complete, reset-ring, set-enabled, fill, fill0, open-oldest, close-oldest}
-use Rattle.script.specs.Script.{take-oldest, enqueue, allocate, allocate0, no-wakes, waken, DmaStep, arrive, send, place}
+use Rattle.script.specs.Script.{take-oldest, enqueue, allocate, allocate0, no-wakes, waken, DmaStep, arrive, send}
+use Rattle.script.specs.Script.{place}
 use Rattle.script.specs.Script.{place0, Burst, switch, bus-reset}
 use Rattle.script.specs.Steps.{Kind, giving, kindOf, is, mayAct}
 use Rattle.script.specs.StepsRuns.{Holds, end, ask, Keeps}
@@ -24,14 +25,14 @@ use Rattle.script.specs.Calls.{PollWrite, PollDataOut, BeginDataIn, Other, Allo
 use Rattle.script.specs.Calls.{BusEnable, BusDisable, Microframe, SetStalled, IsStalled, SetPaced, Advance, BeginRead}
 use Rattle.script.specs.Calls.{BeginSetup, PollSetup, PollDataIn, BeginAccept, PollAccept, BeginReject, BeginDataOut}
 use Rattle.script.specs.Calls.{BeginAcceptSetAddress, calls, code}
-use Rattle.script.specs.Machine.{Buf, Call, begin, Ans, Way, idle, busy, Machine, misfit, lentTo}
-use Rattle.script.specs.Machine.{beside, halt, begun, fed}
+use Rattle.script.specs.Machine.{Buf, Call, begin, Ans, Pending, idle, busy, Machine, misfit, lentTo}
+use Rattle.script.specs.Machine.{duringInterrupt, halt, begun, fed}
 use Rattle.proof_book.specs.Pages.{Packet, OutPage, Pages, withOut}
 use Rattle.proof_book.specs.Book.{Bk, putB, actB, handB, rowB, some, waitsOn, roomB, isoOf, isoOut, receiving}
 use Rattle.proof_book.specs.Book.{emptyOut, openOut, readOut, arrived, joined, overrun, packetB, startedB}
 use Rattle.proof_book.specs.Book.{bookOps, book}
 use Rattle.proof_book.specs.FrameLaws.{at-elim}
-use Rattle.proof_book.specs.FrontPage.{written, addressed, BeforeStart, allocation, allocations}
+use Rattle.proof_book.specs.FrontPage.{bookStep, addressed, BeforeStart, allocation, allocations}
 use Rattle.proof_book.specs.BookCallsLaws.{Fine}
 use Rattle.proof_book.specs.AnswersLaws.{fed-out}
 use Rattle.proof_book.specs.RefusingLaws.{put-same}
@@ -46,7 +47,8 @@ module _ (f : ℕ → ℕ) (periodic : (x y : ℕ) → x % 16 ≡ y % 16 → f x
   AreIn s = Are (s .0)
 
   with-page : (t : Pages) (e : ℕ) (p : OutPage) → p .slot ≡ f e → Are t → Are (withOut t e p)
-  with-page t e p h k x = at-elim (λ (q : OutPage). q .slot ≡ f x) e x p (t .outs) (λ m. h ∙ periodic e x (sym m)) (λ _. k x)
+  with-page t e p h k x = at-elim (λ (q : OutPage). q .slot ≡ f x) e x p (t .outs) (λ m. h ∙ periodic e x (sym m))
+      (λ _. k x)
 
   either : (u : Bool) (x y : Pages) → Are x → Are y → Are (cond u x y)
   either true x y h k = h
@@ -167,14 +169,16 @@ module _ (a : Ans Answer) (o : Op) (e : ℕ) (n : Machine Answer Pages) (fine : 
   Runs x = Holds (λ (s : Bk). (e : ℕ) → s .0 .outs e .slot ≡ slots e) x
 
   runs : Runs (run bookOps (code o) (n .st, b))
-  runs = let same : (x y : ℕ) → x % 16 ≡ y % 16 → slots x ≡ slots y = λ x y h. ap (λ (p : OutPage). p .slot) (fine .pages x y h) in
+  runs = let same : (x y : ℕ) → x % 16 ≡ y % 16 → slots x ≡ slots y
+      = λ x y h. ap (λ (p : OutPage). p .slot) (fine .pages x y h) in
       holds-run (keeps slots same (kindOf o) none) (code o) (call-steps o) (n .st, b) (λ _. refl)
 
   alone : (i : Bool) (x : tree.Out Bk Answer) → Runs x → Stays (halt calls (book .driver) (fed book a) i x)
   alone i (ends z t) (end h) = h e
   alone i (asks q t k) (ask h g) = ap (λ (p : OutPage). p .slot) (fed-out a (t .0) e away) ∙ h e
 
-  besides : (x : tree.Out Bk Answer) → Runs x → Stays (beside calls (book .driver) (lentTo calls (book .driver) n b) x)
+  besides : (x : tree.Out Bk Answer) → Runs x → Stays (duringInterrupt calls (book .driver)
+      (lentTo calls (book .driver) n b) x)
   besides (ends z t) (end h) = h e
   besides (asks q t k) (ask h g) = refl
 
@@ -182,16 +186,16 @@ module _ (a : Ans Answer) (o : Op) (e : ℕ) (n : Machine Answer Pages) (fine : 
   one-of true x y h k = h
   one-of false x y h k = k
 
-  begins : (w : Way Answer Pages) → Stays (begun calls (book .driver) (fed book a) o n w b)
+  begins : (w : Pending Answer Pages) → Stays (begun calls (book .driver) (fed book a) o n w b)
   begins idle = alone (calls .irq o) (run bookOps (code o) (n .st, b)) runs
   begins (busy i q k) = one-of (cond i (calls .aside o) false) _ _ (besides (run bookOps (code o) (n .st, b)) runs) refl
 
-  stays : Stays (written a (begin o) n b)
-  stays = one-of (cond (calls .slots o) (misfit calls (book .driver) (n .st) b) false) _ _ refl (begins (n .way))
+  stays : Stays (bookStep a (begin o) n b)
+  stays = one-of (cond (calls .slots o) (misfit calls (book .driver) (n .st) b) false) _ _ refl (begins (n .under-way))
 
 pub begin-slot : (c : Call Config Op) (a : Ans Answer) (o : Op) (e : ℕ) (n : Machine Answer Pages) → Fine n → (b : Buf)
     → c ≡ begin o → (BeforeStart (n .st) (begin o) → ⊥) → addressed a e ≡ false
-    → written a c n b .1 .st .outs e .slot ≡ n .st .outs e .slot
+    → bookStep a c n b .1 .st .outs e .slot ≡ n .st .outs e .slot
 begin-slot c a o e n h b p late-one away =
-    subst (λ (c : Call Config Op). written a c n b .1 .st .outs e .slot ≡ n .st .outs e .slot) (sym p)
+    subst (λ (c : Call Config Op). bookStep a c n b .1 .st .outs e .slot ≡ n .st .outs e .slot) (sym p)
     (stays a o e n h b (late (n .st) o late-one) away)

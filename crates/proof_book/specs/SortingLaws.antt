@@ -34,7 +34,8 @@ use Rattle.script.specs.Answers.{Answer}
 use Rattle.script.specs.Machine.{Buf, Event, Machine, start}
 use Rattle.script.specs.Calls.{Config, Op, calls, startRow}
 use Rattle.script.specs.TransferKinds.{Among}
-use Rattle.script_ops.specs.Records.{withIsoSets, isoAdded, withSets, recordGiven, setsGiven, givenTo, allocatedOn, startedWith, allocatedEp0}
+use Rattle.script_ops.specs.Records.{withIsoSets, isoAdded, withSets, recordGiven, setsGiven, givenTo, allocatedOn}
+use Rattle.script_ops.specs.Records.{startedWith, allocatedEp0}
 use Rattle.script_ops.specs.Rings.{St}
 use Rattle.script_ops.specs.Concrete.{concrete}
 use Rattle.machine.specs.Suspended.{driverOf}
@@ -98,7 +99,8 @@ ep0-sorting {d = d} k maximum z s (kept c n w full) = further-sorting k (d .allo
 ep0-sorting {d = d} k maximum z s (gave-ep0 m x small l) = steady-sorting
     (others _ _ refl refl refl refl refl) (further-sorting k (withNext (d .allocator) (d .allocator .next + 1)) s same)
   where
-    same : (dir : Dir) (j : ℕ) → isSet (takenIn (withNext (d .allocator) (d .allocator .next + 1)) dir) j ≡ false → isSet (takenIn (d .allocator) dir) j ≡ false
+    same : (dir : Dir) (j : ℕ) → isSet (takenIn (withNext (d .allocator) (d .allocator .next + 1)) dir) j ≡ false
+        → isSet (takenIn (d .allocator) dir) j ≡ false
     same Out j h = h
     same In j h = h
 
@@ -119,18 +121,21 @@ sets-there dir kind interval e g dir′ x l q = by (isIso kind) dir dir′ q
     not-it w q = set-with w (e % 16) true x ∙ rw (ne-eqb (e % 16) x (λ z. q (omega (arith, z)))) refl
 
     outs : (often : Bool)
-        → isSet (cond often (withIsoSets (g .«iso_out_eps») (withBit (g .«iso_in_every») (e % 16) true) g) g .«iso_out_eps») x
+        → isSet (cond often (withIsoSets (g .«iso_out_eps») (withBit (g .«iso_in_every») (e % 16) true) g)
+        g .«iso_out_eps») x
         ≡ isSet (g .«iso_out_eps») x
     outs true = refl
     outs false = refl
 
     every : (often : Bool) → x % 16 ≢ e % 16
-        → isSet (cond often (withIsoSets (g .«iso_out_eps») (withBit (g .«iso_in_every») (e % 16) true) g) g .«iso_in_every») x
+        → isSet (cond often (withIsoSets (g .«iso_out_eps») (withBit (g .«iso_in_every») (e % 16) true) g)
+        g .«iso_in_every») x
         ≡ isSet (g .«iso_in_every») x
     every true q = not-it (g .«iso_in_every») q
     every false q = refl
 
-    by : (i : Bool) (dir dir′ : Dir) → key dir′ x ≢ key dir e → isSet (isoSet (cond i (isoAdded dir interval e g) g) dir′) x ≡ isSet (isoSet g dir′) x
+    by : (i : Bool) (dir dir′ : Dir) → key dir′ x ≢ key dir e
+        → isSet (isoSet (cond i (isoAdded dir interval e g) g) dir′) x ≡ isSet (isoSet g dir′) x
     by false dir dir′ q = refl
     by true Out Out q = not-it (g .«iso_out_eps») q
     by true Out In q = refl
@@ -151,14 +156,16 @@ unfolding isOut
 own Out = refl
 own In = refl
 
-module _ {d : Driver} (k : Sorting d) (dir : Dir) (kind maximum interval e base n : ℕ) (b : Allocator) (t : Takes (d .allocator) (isIso kind) dir e b) where
+module _ {d : Driver} (k : Sorting d) (dir : Dir) (kind maximum interval e base n : ℕ) (b : Allocator)
+    (t : Takes (d .allocator) (isIso kind) dir e b) where
   abbrev taker : Driver
   taker = setsGiven dir kind interval e (recordGiven dir kind maximum e base n (withAllocator d b))
 
   flag-here : (x : ℕ) → x % 16 ≡ e % 16 → sortsOf taker dir x ≡ isIso kind
   unfolding setsGiven recordGiven epOn withOn allocated
   flag-here x q = rw (key-by dir x e q)
-      (ap (λ (r : EpState). isOn (r .iso)) (getD-set-same (d .eps) (key dir e) _ noEp (omega (arith, k .places, key-lt dir e)))
+      (ap (λ (r : EpState). isOn (r .iso)) (getD-set-same (d .eps) (key dir e) _ noEp
+      (omega (arith, k .places, key-lt dir e)))
       ∙ flag-says (isIso kind))
 
   flag-there : (dir′ : Dir) (x : ℕ) → key dir′ x ≢ key dir e → sortsOf taker dir′ x ≡ sortsOf d dir′ x
@@ -181,13 +188,15 @@ module _ {d : Driver} (k : Sorting d) (dir : Dir) (kind maximum interval e base 
   among-before In = k .has .every
 
   -- its own number had no sort, so it was in no set
-  among-here : (x : ℕ) → x % 16 ≡ e % 16 → x < 16 → isSet (isoSet (withSets dir kind interval e (d .globals)) dir) x ≡ true → sortsOf taker dir x ≡ true
+  among-here : (x : ℕ) → x % 16 ≡ e % 16 → x < 16 → isSet (isoSet (withSets dir kind interval e (d .globals)) dir) x
+      ≡ true → sortsOf taker dir x ≡ true
   among-here x q l h = by (isIso kind) refl
     where
       by : (i : Bool) → isIso kind ≡ i → sortsOf taker dir x ≡ true
       by true p = flag-here x q ∙ p
       by false p =
-          let was : sortsOf d dir x ≡ true = among-before dir x l (rw (sets-plain dir kind interval e (d .globals) p) at h) in
+          let was : sortsOf d dir x ≡ true = among-before dir x l
+          (rw (sets-plain dir kind interval e (d .globals) p) at h) in
           let none : sortsOf d dir x ≡ false = k .free dir x (rw (number x q) (t .untaken)) in
           absurd (true≢false (sym was ∙ none))
 
@@ -195,7 +204,8 @@ module _ {d : Driver} (k : Sorting d) (dir : Dir) (kind maximum interval e base 
   among-after = on-key
       (λ dir′ x. x < 16 → isSet (isoSet (withSets dir kind interval e (d .globals)) dir′) x ≡ true
       → sortsOf taker dir′ x ≡ true) dir e among-here
-      (λ dir′ x q l h. flag-there dir′ x q ∙ among-before dir′ x l (sym (sets-there dir kind interval e (d .globals) dir′ x l q) ∙ h))
+      (λ dir′ x q l h. flag-there dir′ x q ∙ among-before dir′ x l
+      (sym (sets-there dir kind interval e (d .globals) dir′ x l q) ∙ h))
 
   given-sorting : Sound b → Sorting taker
   unfolding setsGiven recordGiven withOn
@@ -211,10 +221,14 @@ allocated-sorting : {d : Driver} → Sorting d → (dir : Dir) (kind address max
     → Sound (z .after) → Outcome (d .allocator) kind address maximum dir z
     → Sorting (givenTo dir kind maximum interval (z .answer) (withAllocator d (z .after)))
 unfolding givenTo
-allocated-sorting {d = d} k dir kind address maximum interval z s (six l) = further-sorting k (d .allocator) s (λ dir j h. h)
-allocated-sorting {d = d} k dir kind address maximum interval z s (seven m q) = further-sorting k (d .allocator) s (λ dir j h. h)
-allocated-sorting {d = d} k dir kind address maximum interval z s (eight e m q l) = further-sorting k (d .allocator) s (λ dir j h. h)
-allocated-sorting {d = d} k dir kind address maximum interval z s (given e base n a m q g) = given-sorting k dir kind maximum interval e base n a (g .number) s
+allocated-sorting {d = d} k dir kind address maximum interval z s (six l)
+    = further-sorting k (d .allocator) s (λ dir j h. h)
+allocated-sorting {d = d} k dir kind address maximum interval z s (seven m q)
+    = further-sorting k (d .allocator) s (λ dir j h. h)
+allocated-sorting {d = d} k dir kind address maximum interval z s (eight e m q l)
+    = further-sorting k (d .allocator) s (λ dir j h. h)
+allocated-sorting {d = d} k dir kind address maximum interval z s (given e base n a m q g)
+    = given-sorting k dir kind maximum interval e base n a (g .number) s
 
 -- ---- each operation
 
@@ -223,9 +237,11 @@ unfolding allocatedOn allocatedEp0
 acts q s k =
     let a = s .0 .allocator in
     by-act {K = λ _ d. Sorting d} s (λ q _ p. steady-sorting (rings-steady (turns q) p) k)
-    (λ dir kind address maximum interval. allocated-sorting k dir kind address maximum interval (allocateOf a kind address maximum dir)
+    (λ dir kind address maximum interval. allocated-sorting k dir kind address maximum interval
+    (allocateOf a kind address maximum dir)
     (sound-call a (endpoint kind address maximum dir) (k .sound)) (outcome a kind address maximum dir))
-    (λ maximum. ep0-sorting k maximum (allocateEp0Of a maximum) (sound-call a (ep0 maximum) (k .sound)) (step a (ep0 maximum))) q
+    (λ maximum. ep0-sorting k maximum (allocateEp0Of a maximum) (sound-call a (ep0 maximum) (k .sound))
+    (step a (ep0 maximum))) q
 
 keeps : Invariant driverOf Sorting
 keeps = record {
@@ -242,7 +258,8 @@ unshaped : {φ : Phase} {b : Buf} {d : Driver} {t : Pages} → Coupling φ b d t
 unfolding isOn
 unshaped {d = d} r dir e h = by (isSet (allocatedIn (d .allocator) dir) (e % 16)) refl (r .shape dir e)
   where
-    by : (u : Bool) → isSet (allocatedIn (d .allocator) dir) (e % 16) ≡ u → Shape u (d .allocator) dir (epOn d dir e) → sortsOf d dir e ≡ false
+    by : (u : Bool) → isSet (allocatedIn (d .allocator) dir) (e % 16) ≡ u → Shape u (d .allocator) dir (epOn d dir e)
+        → sortsOf d dir e ≡ false
     by true q x = absurd (true≢false (sym q ∙ (sym (r .sound .taken dir (e % 16)) ∙ h)))
     by false q x = rw (x .iso) refl
 

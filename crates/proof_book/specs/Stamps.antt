@@ -1,4 +1,5 @@
--- The stamps of an OUT ring (request One): of its slots, tail to head, those of the packets that wait. `ss` has one for each slot. Assumes nothing.
+-- The stamps of an OUT ring (request One): of its slots, tail to head, those of the packets that wait. `ss` has one for
+-- each slot. Assumes nothing.
 use mathlib.Core.List.{List, [], _∷_, tail}
 use Prim.Native.Nat.{ℕ, zero, suc}
 use lib.ListN.{getD}

@@ -16,7 +16,8 @@ use Rattle.ring.specs.OutLaws.{turned-alike, closed-alike}
 use Rattle.proof_book.specs.Stamps.{stampsFrom, stamped}
 
 from-same : (s s′ : EpState) (ss ss′ : List ℕ) (i n : ℕ) → i < 256
-    → ((j : ℕ) → j < n → getD ss′ (slotOf s′ (after i j)) 0 ≡ getD ss (slotOf s (after i j)) 0) → stampsFrom s′ ss′ i n ≡ stampsFrom s ss i n
+    → ((j : ℕ) → j < n → getD ss′ (slotOf s′ (after i j)) 0 ≡ getD ss (slotOf s (after i j)) 0) → stampsFrom s′ ss′ i n
+    ≡ stampsFrom s ss i n
 unfolding stampsFrom
 from-same s s′ ss ss′ i zero l h = refl
 from-same s s′ ss ss′ i (suc n) l h =
@@ -25,7 +26,8 @@ from-same s s′ ss ss′ i (suc n) l h =
     (from-same s s′ ss ss′ (after i 1) n (omega arith) (λ j m.
     let f : after (after i 1) j ≡ after i (suc j) = omega arith in rw f (h (suc j) (omega arith))))
 
-from-more : (s : EpState) (ss : List ℕ) (i n : ℕ) → i < 256 → stampsFrom s ss i (suc n) ≡ stampsFrom s ss i n ++ (getD ss (slotOf s (after i n)) 0 ∷ [])
+from-more : (s : EpState) (ss : List ℕ) (i n : ℕ) → i < 256 → stampsFrom s ss i (suc n) ≡ stampsFrom s ss i n
+    ++ (getD ss (slotOf s (after i n)) 0 ∷ [])
 unfolding stampsFrom
 from-more s ss i zero l = let e : after i 0 ≡ i = omega arith in rw e refl
 from-more s ss i (suc n) l =
@@ -36,7 +38,8 @@ from-more s ss i (suc n) l =
 pub alike-stamps : {s t : EpState} → Alike s t → (ss : List ℕ) → s .tail < 256 → stamped t ss ≡ stamped s ss
 unfolding stamped
 alike-stamps {s} {t} k ss h = ap₂ (stampsFrom t ss) (k .tail) (alike-count k)
-    ∙ from-same s t ss ss (s .tail) (countOf s) h (λ j l. ap (λ (x : ℕ). getD ss x 0) (place-slot (k .place) (after (s .tail) j)))
+    ∙ from-same s t ss ss (s .tail) (countOf s) h (λ j l. ap (λ (x : ℕ). getD ss x 0)
+    (place-slot (k .place) (after (s .tail) j)))
 
 -- none wait, as after a reset
 pub none-stamps : (s : EpState) (ss : List ℕ) → countOf s ≡ 0 → stamped s ss ≡ []
@@ -53,7 +56,8 @@ module _ {n : ℕ} {s : EpState} {ls : List ℕ} (g : Placed n s) (a : OutRing s
     abbrev joined : List ℕ
     joined = set ss (slotOf s (s .head)) v
 
-    join-old : (j : ℕ) → j < countOf s → getD joined (slotOf (joinedOf s) (after (s .tail) j)) 0 ≡ getD ss (slotOf s (after (s .tail) j)) 0
+    join-old : (j : ℕ) → j < countOf s → getD joined (slotOf (joinedOf s) (after (s .tail) j)) 0
+        ≡ getD ss (slotOf s (after (s .tail) j)) 0
     unfolding slotOf joinedOf
     join-old j l = getD-set-other ss (slotOf s (s .head)) (slotOf s (after (s .tail) j)) v 0 (head-away g a few j l)
 
@@ -66,15 +70,18 @@ module _ {n : ℕ} {s : EpState} {ls : List ℕ} (g : Placed n s) (a : OutRing s
     unfolding stamped joinedOf
     join-stamps w = rw (join-count g a few)
         (from-more (joinedOf s) joined (s .tail) (countOf s) (a .tail8)
-        ∙ ap₂ _++_ (from-same s (joinedOf s) ss joined (s .tail) (countOf s) (a .tail8) join-old) (ap (λ (x : ℕ). x ∷ []) (join-new w)))
+        ∙ ap₂ _++_ (from-same s (joinedOf s) ss joined (s .tail) (countOf s) (a .tail8) join-old)
+        (ap (λ (x : ℕ). x ∷ []) (join-new w)))
 
     module _ (w : s .slots ≤ length ss) where
-      arrive-by : (t : Bool) → stamped (cond t (joinedOf s) (overrunOf s)) (cond t joined ss) ≡ cond t (stamped s ss ++ (v ∷ [])) (stamped s ss)
+      arrive-by : (t : Bool) → stamped (cond t (joinedOf s) (overrunOf s)) (cond t joined ss)
+          ≡ cond t (stamped s ss ++ (v ∷ [])) (stamped s ss)
       arrive-by true = join-stamps w
       arrive-by false = alike-stamps (turned-alike s) ss (a .tail8)
 
       -- recorded as its length is
-      pub arrive-stamps : stamped (arrivedOf s) (arrivedLens s ss v) ≡ cond (hasRoomOut s) (stamped s ss ++ (v ∷ [])) (stamped s ss)
+      pub arrive-stamps : stamped (arrivedOf s) (arrivedLens s ss v)
+          ≡ cond (hasRoomOut s) (stamped s ss ++ (v ∷ [])) (stamped s ss)
       unfolding arrivedOf arrivedLens
       arrive-stamps = arrive-by (hasRoomOut s)
 

@@ -53,7 +53,8 @@ size-good : (size count : ℕ) → goodBuffer size count ≡ true → goodSize s
 unfolding goodBuffer
 size-good size count h = by (goodSize size) refl h
   where
-    by : (x : Bool) → goodSize size ≡ x → if x (if (eqb count 0) false (leb (count * size) 65536)) false ≡ true → x ≡ true
+    by : (x : Bool) → goodSize size ≡ x → if x (if (eqb count 0) false (leb (count * size) 65536)) false ≡ true → x
+        ≡ true
     by true p h = refl
     by false p h = absurd (true≢false (sym h))
 
@@ -88,7 +89,8 @@ module _ (c : Config) (b : Buf) (row : startRow c b ≡ 0) where
   lens-new : (dir : Dir) (e i : ℕ) → getD (lensOf D dir e) i 0 ≤ 0
   lens-new dir e i = elim (decLt i 16) [
     | yes h ↦ rw (getD-tab (λ i. lenOn D dir e i) 16 i 0 h, len-new dir e i) (omega arith)
-    | no h ↦ rw (List·getD-eq-default (lensOf D dir e) 0 {n = i} (omega (arith, length-tab (λ i. lenOn D dir e i) 16))) (omega arith)
+    | no h ↦ rw (List·getD-eq-default (lensOf D dir e) 0 {n = i} (omega (arith, length-tab (λ i. lenOn D dir e i) 16)))
+        (omega arith)
   ]
 
   small-new : c .count * c .size ≤ 65536
@@ -97,14 +99,26 @@ module _ (c : Config) (b : Buf) (row : startRow c b ≡ 0) where
 
   held-new : (most : ℕ) (dir : Dir) (e : ℕ) → Held most b newEp (lensOf D dir e) []
   held-new most dir e = record {
-    placed = record { part = 256; divides = refl; byte = omega arith; inside = omega arith; low = omega (arith, rows .0, small-new) };
-    ring = reset-ring newEp refl refl most (lensOf D dir e) (omega (arith, length-tab (λ i. lenOn D dir e i) 16)) (λ i. lens-new dir e i);
+    placed = record {
+      part = 256;
+      divides = refl;
+      byte = omega arith;
+      inside = omega arith;
+      low
+          = omega (arith, rows .0, small-new);
+    };
+    ring = reset-ring newEp refl refl most (lensOf D dir e) (omega (arith, length-tab (λ i. lenOn D dir e i) 16))
+        (λ i. lens-new dir e i);
     least = omega arith;
     waits = reset-waits newEp refl refl b (lensOf D dir e);
   }
 
   rest-new : (on : Bool) (p : OutPage) → p .slot ≡ 0 → AtRest on newEp p
-  rest-new on p h = record { armed = λ _. h ∙ sym (zero-addr newEp (omega arith)); none = λ _. reset-count newEp refl refl }
+  rest-new on p h = record {
+    armed = λ _. h ∙ sym (zero-addr newEp (omega arith));
+    none
+        = λ _. reset-count newEp refl refl;
+  }
 
   no-bit : (e : ℕ) → isSet 0 e ≡ false
   unfolding isSet
@@ -149,8 +163,18 @@ module _ (c : Config) (b : Buf) (row : startRow c b ≡ 0) where
     sound = sound-new;
     good = size-good (c .size) (c .count) (rows .1);
     long = rows .0;
-    same = record { globals = refl; wakes = refl; control = refl; allocator = refl; paced = paced-new; requests = request-new; plain = plain-new };
-    shape = λ dir e. rw (unused-new dir e, record-new dir e) (record { iso = refl; base = refl; stride = refl; slots = refl });
+    same = record {
+      globals = refl;
+      wakes = refl;
+      control = refl;
+      allocator = refl;
+      paced = paced-new;
+      requests
+          = request-new;
+      plain = plain-new;
+    };
+    shape = λ dir e. rw (unused-new dir e, record-new dir e)
+        (record { iso = refl; base = refl; stride = refl; slots = refl });
     outs = λ e. rw (record-new Out e)
         (empty-out refl refl refl (held-new 0 Out e) (freshPages c .outs e)
         (record { lost = refl; slot = refl; from = omega arith; upto = omega arith }) (slotStamps D e));

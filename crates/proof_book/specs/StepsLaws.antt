@@ -37,18 +37,28 @@ RowStep g n b d t =
 
 module _ {φ : Phase} {b : Buf} {d : Driver} {t : Pages} (R : Coupling φ b d t) where
   -- nothing but the phase
-  pub phase-changed : {ψ : Phase} → PhaseStep ψ → ((e : ℕ) → Arming ψ e (isSet (isoOuts (d .globals)) (e % 16)) (epOn d Out e) (t .outs e)) → Coupling ψ b d t
+  pub phase-changed : {ψ : Phase} → PhaseStep ψ → ((e : ℕ)
+      → Arming ψ e (isSet (isoOuts (d .globals)) (e % 16)) (epOn d Out e) (t .outs e)) → Coupling ψ b d t
   phase-changed s a = rebuilt R (keeps-changed (changed-not (R .sized) Out 0)) refl
       (record { step = s; same = R .same; outs = R .outs; ins = R .ins; arming = a })
 
   -- the globals, but not the sets of endpoints nor EP0's buffer
-  pub globals-changed : {ψ : Phase} (g h : Globals) → g ≡ h → g .stage ≡ d .globals .stage → g .«ep0_buf» ≡ d .globals .«ep0_buf»
+  pub globals-changed : {ψ : Phase} (g h : Globals) → g ≡ h → g .stage ≡ d .globals .stage → g .«ep0_buf»
+      ≡ d .globals .«ep0_buf»
       → g .«ep0_max» ≡ d .globals .«ep0_max» → g .«iso_out_eps» ≡ d .globals .«iso_out_eps» → PhaseStep ψ
-      → ((e : ℕ) → Arming ψ e (isSet (isoOuts g) (e % 16)) (epOn d Out e) (t .outs e)) → Coupling ψ b (withGlobals d g) (withKept t (keptGlobals (t .kept) h))
+      → ((e : ℕ) → Arming ψ e (isSet (isoOuts g) (e % 16)) (epOn d Out e) (t .outs e))
+      → Coupling ψ b (withGlobals d g) (withKept t (keptGlobals (t .kept) h))
   unfolding epOn lenOn stampOn pacedOn requestOn
   globals-changed g h q stage buf most isos s a = rebuilt R
       (record {
-        sized = record { eps = R .sized .eps; lens = R .sized .lens; stamps = R .sized .stamps; paced = R .sized .paced; requests = R .sized .requests };
+        sized = record {
+          eps = R .sized .eps;
+          lens = R .sized .lens;
+          stamps = R .sized .stamps;
+          paced
+              = R .sized .paced;
+          requests = R .sized .requests;
+        };
         allocator = refl;
         stage = stage;
         ep0-buf = buf;
@@ -60,7 +70,8 @@ module _ {φ : Phase} {b : Buf} {d : Driver} {t : Pages} (R : Coupling φ b d t)
       refl
       (record {
         step = s;
-        same = same-values (R .same) (λ e. refl, λ dir e. refl, λ dir e. refl) q (R .same .wakes) (R .same .control) (R .same .allocator);
+        same = same-values (R .same) (λ e. refl, λ dir e. refl, λ dir e. refl) q (R .same .wakes) (R .same .control)
+            (R .same .allocator);
         outs = R .outs;
         ins = R .ins;
         arming = a;

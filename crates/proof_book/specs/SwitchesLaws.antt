@@ -1,4 +1,5 @@
--- The row that switches an isochronous OUT: none wait from its first step on; each slot armed; the kind, then the enable bit
+-- The row that switches an isochronous OUT: none wait from its first step on; each slot armed; the kind, then the
+-- enable bit
 use mathlib.Core.Bool.{Bool, true, false, cond, _&&_, true≢false, and-false}
 use mathlib.Core.List.{List}
 use mathlib.Core.Logic.{_≢_}
@@ -38,11 +39,13 @@ use Rattle.script_ops.specs.Records.{plainOf}
 use Rattle.script_ops.specs.Rings.{St, renewedOn, armAt, slotStep, typeStep, configStep}
 use Rattle.proof_book.specs.Pages.{OutPage, Kept, Pages, withKept, withOut, keptPlain}
 use Rattle.proof_book.specs.Book.{emptyOut, slotTold, isoOf, feedB}
-use Rattle.proof_book.specs.Coupling.{SameKept, endOf, lensOf, slotStamps, OutFits, AtRest, Switching, InRow, Arming, Coupling}
+use Rattle.proof_book.specs.Coupling.{SameKept, endOf, lensOf, slotStamps, OutFits, AtRest, Switching, InRow}
+use Rattle.proof_book.specs.Coupling.{Arming, Coupling}
 use Rattle.proof_book.specs.LensLaws.{ep-mod, lens-on, stamps-on, ep-clear, lens-clear}
 use Rattle.proof_book.specs.StampsLaws.{alike-stamps}
 use Rattle.proof_book.specs.FrameLaws.{Changed, changed-not, changed-on, changed-clear, changed-trans, kept-same}
-use Rattle.proof_book.specs.FrameLaws.{kept-plain, out-same, out-twice, out-moved, end-kept, out-changed, only-bytes}
+use Rattle.proof_book.specs.FrameLaws.{kept-plain, out-same, out-twice, out-moved, end-kept, out-changed}
+use Rattle.proof_book.specs.FrameLaws.{only-bytes}
 use Rattle.proof_book.specs.HeldLaws.{iso-used, Words, good-words}
 use Rattle.proof_book.specs.LiesLaws.{received-lies}
 use Rattle.proof_book.specs.StepsLaws.{RowStep, phase-changed, globals-changed, others-enabled}
@@ -96,31 +99,37 @@ module _ {φ : Phase} {b : Buf} {d : Driver} {t : Pages} (R : Coupling φ b d t)
   word-same : (f : Globals → ℕ) (onn : Bool)
       → cond (isOn (epOn d Out e .iso)) (enables.withOn (f (d .globals)) Out e onn) (f (d .globals))
       ≡ cond (isoOf t Out e) (enables.withOn (f (t .kept .globals)) Out e onn) (f (t .kept .globals))
-  word-same f onn i = cond (isOn (iso-same i)) (enables.withOn (f (R .same .globals i)) Out e onn) (f (R .same .globals i))
+  word-same f onn i = cond (isOn (iso-same i)) (enables.withOn (f (R .same .globals i)) Out e onn)
+      (f (R .same .globals i))
 
-type-step : (e : ℕ) (onn : Bool) (b : Buf) (d : Driver) (t : Pages) → Coupling (mid (switch e onn) 2) b d t → RowStep (switch e onn) 1 b d t
+type-step : (e : ℕ) (onn : Bool) (b : Buf) (d : Driver) (t : Pages) → Coupling (mid (switch e onn) 2) b d t
+    → RowStep (switch e onn) 1 b d t
 unfolding typeStep isoOuts
 type-step e onn b d t R =
     let v = word-same R e (λ g. g .«ep_type») onn in (
       ap (λ (w : ℕ). Write EpType 0 w) v,
       globals-changed R _ _ (λ i. withEpType (v i) (R .same .globals i)) refl refl refl refl (omega arith)
-          (λ x. later e onn 1 x (isSet (isoOuts (d .globals)) (x % 16)) (epOn d Out x) (t .outs x) (omega arith) (R .arming x)),
+          (λ x. later e onn 1 x (isSet (isoOuts (d .globals)) (x % 16)) (epOn d Out x) (t .outs x) (omega arith)
+          (R .arming x)),
       tt,
     )
 
 -- the enable bit of an endpoint that is not switched stays
 bit-kept : (g : Globals) (e x : ℕ) (onn iso : Bool) → (iso ≡ true → x % 16 ≢ e % 16)
-    → isSet (isoOuts (withEpConfig (cond iso (enables.withOn (g .«ep_config») Out e onn) (g .«ep_config»)) g)) (x % 16) ≡ isSet (isoOuts g) (x % 16)
+    → isSet (isoOuts (withEpConfig (cond iso (enables.withOn (g .«ep_config») Out e onn) (g .«ep_config»)) g)) (x % 16)
+    ≡ isSet (isoOuts g) (x % 16)
 bit-kept g e x onn true h = others-enabled g e x onn (h refl)
 bit-kept g e x onn false h = refl
 
-switched : (r : EpState) (p : OutPage) (u u′ same iso : Bool) → InRow (same && iso) 1 u r p → (same ≡ false → u′ ≡ u) → (iso ≡ false → same ≡ true → u′ ≡ u)
+switched : (r : EpState) (p : OutPage) (u u′ same iso : Bool) → InRow (same && iso) 1 u r p → (same ≡ false → u′ ≡ u)
+    → (iso ≡ false → same ≡ true → u′ ≡ u)
     → InRow (same && iso) 0 u′ r p
 switched r p u u′ true true s h k = record { none = s .none; head = s .head; armed = λ l. s .armed (omega arith) }
 switched r p u u′ true false s h k = subst (λ w. AtRest w r p) (sym (k refl refl)) s
 switched r p u u′ false iso s h k = subst (λ w. AtRest w r p) (sym (h refl)) s
 
-config-step : (e : ℕ) (onn : Bool) (b : Buf) (d : Driver) (t : Pages) → Coupling (mid (switch e onn) 1) b d t → RowStep (switch e onn) 0 b d t
+config-step : (e : ℕ) (onn : Bool) (b : Buf) (d : Driver) (t : Pages) → Coupling (mid (switch e onn) 1) b d t
+    → RowStep (switch e onn) 0 b d t
 unfolding configStep
 config-step e onn b d t R =
     let v = word-same R e (λ g. g .«ep_config») onn in (
@@ -129,30 +138,36 @@ config-step e onn b d t R =
           (λ x. switched (epOn d Out x) (t .outs x) _ _ (eqb (x % 16) (e % 16)) (isOn (epOn d Out x .iso)) (R .arming x)
           (λ h. bit-kept (d .globals) e x onn (isOn (epOn d Out e .iso)) (λ i. eqb-false (x % 16) (e % 16) h))
           (λ h k. bit-kept (d .globals) e x onn (isOn (epOn d Out e .iso))
-          (λ i. absurd (true≢false (sym i ∙ ap (λ (r : EpState). isOn (r .iso)) (sym (ep-mod d Out x e (eqb-true (x % 16) (e % 16) k))) ∙ h))))),
+          (λ i. absurd (true≢false (sym i ∙ ap (λ (r : EpState). isOn (r .iso))
+          (sym (ep-mod d Out x e (eqb-true (x % 16) (e % 16) k))) ∙ h))))),
       tt,
     )
 
 -- ep_rx_ctrl
-rx-step : (e : ℕ) (onn : Bool) (b : Buf) (d : Driver) (t : Pages) → Coupling (mid (switch e onn) 3) b d t → RowStep (switch e onn) 2 b d t
+rx-step : (e : ℕ) (onn : Bool) (b : Buf) (d : Driver) (t : Pages) → Coupling (mid (switch e onn) 3) b d t
+    → RowStep (switch e onn) 2 b d t
 rx-step e onn b d t R = (
   refl,
   phase-changed R (omega arith)
-      (λ x. later e onn 2 x (isSet (isoOuts (d .globals)) (x % 16)) (epOn d Out x) (t .outs x) (omega arith) (R .arming x)),
+      (λ x. later e onn 2 x (isSet (isoOuts (d .globals)) (x % 16)) (epOn d Out x) (t .outs x) (omega arith)
+      (R .arming x)),
   tt,
 )
 
 -- ---- a slot armed, while none wait
 
-module _ {b : Buf} {r : EpState} {ls ss : List ℕ} {p : OutPage} (f : OutFits b r ls ss p) (w : Words (r .stride)) (k : ℕ) where
+module _ {b : Buf} {r : EpState} {ls ss : List ℕ} {p : OutPage} (f : OutFits b r ls ss p) (w : Words (r .stride))
+    (k : ℕ) where
   -- its bytes alone change
   slot-only : marks.Only (slotAddr r k) (slotAddr r k + r .stride) b (armed b (slotAddr r k) (r .«max_len»))
   slot-only = armed-slot b (slotAddr r k) (r .«max_len») (r .stride) (w .0) (w .1) (f .held .least)
 
   slot-bytes : Only (r .base) (endOf r) b (armed b (slotAddr r k) (r .«max_len»))
-  slot-bytes = slot-region (f .held .placed) (f .held .ring) k b (armed b (slotAddr r k) (r .«max_len»)) (only-bytes slot-only)
+  slot-bytes = slot-region (f .held .placed) (f .held .ring) k b (armed b (slotAddr r k) (r .«max_len»))
+      (only-bytes slot-only)
 
-  slot-fits : countOf r ≡ 0 → OutFits (armed b (slotAddr r k) (r .«max_len»)) (armedAt r (slotAddr r k)) ls ss (slotTold p (slotAddr r k))
+  slot-fits : countOf r ≡ 0 → OutFits (armed b (slotAddr r k) (r .«max_len»)) (armedAt r (slotAddr r k)) ls ss
+      (slotTold p (slotAddr r k))
   unfolding armedAt
   slot-fits z =
       let l = armed-alike r (slotAddr r k) in
@@ -177,14 +192,16 @@ module _ {b : Buf} {r : EpState} {ls ss : List ℕ} {p : OutPage} (f : OutFits b
       }
 
   -- slot 0 is the head's
-  slot-switching : countOf r ≡ 0 → r .head ≡ 0 → Switching (suc (suc (suc k))) (armedAt r (slotAddr r k)) (slotTold p (slotAddr r k))
+  slot-switching : countOf r ≡ 0 → r .head ≡ 0 → Switching (suc (suc (suc k))) (armedAt r (slotAddr r k))
+      (slotTold p (slotAddr r k))
   unfolding armedAt
   slot-switching z h =
       let l = armed-alike r (slotAddr r k) in
       record {
         none = alike-count l ∙ z;
         head = h;
-        armed = λ q. ap (slotAddr r) (let c : k ≡ r .head = omega (arith, h) in c) ∙ sym (place-addr (l .place) (r .head));
+        armed = λ q. ap (slotAddr r) (let c : k ≡ r .head = omega (arith, h) in c)
+            ∙ sym (place-addr (l .place) (r .head));
       }
 
 -- the driver's record where slot k was armed
@@ -194,7 +211,8 @@ module _ (d : Driver) (z : Sized d) (e k : ℕ) where
 
   on-changed : Changed Out e d armed-on
   unfolding armedAt
-  on-changed = changed-on z Out e (armedAt (epOn d Out e) (slotAddr (epOn d Out e) k)) (armed-alike (epOn d Out e) (slotAddr (epOn d Out e) k) .place) refl
+  on-changed = changed-on z Out e (armedAt (epOn d Out e) (slotAddr (epOn d Out e) k))
+      (armed-alike (epOn d Out e) (slotAddr (epOn d Out e) k) .place) refl
 
   on-is : epOn armed-on Out e ≡ armedAt (epOn d Out e) (slotAddr (epOn d Out e) k)
   on-is = epOn-same d Out e (armedAt (epOn d Out e) (slotAddr (epOn d Out e) k)) z
@@ -214,12 +232,16 @@ module _ (d : Driver) (z : Sized d) (e k : ℕ) where
   on-iso = ap (λ (r : EpState). r .iso) on-is
 
 -- from where the record is reset, if it is to be, and its page with it
-module _ {φ : Phase} {b : Buf} {d d₁ : Driver} {t : Pages} (R : Coupling φ b d t) (e : ℕ) (onn : Bool) (k : ℕ) {kept : Kept} {p : OutPage}
-    (c : Changed Out e d d₁) (s : SameKept d₁ kept) (f : OutFits b (epOn d₁ Out e) (lensOf d₁ Out e) (slotStamps d₁ e) p) (w : Words (epOn d₁ Out e .stride))
-    (i : isOn (epOn d₁ Out e .iso) ≡ true) (none : countOf (epOn d₁ Out e) ≡ 0) (head : epOn d₁ Out e .head ≡ 0) (step : suc (suc (suc k)) ≤ 18)
+module _ {φ : Phase} {b : Buf} {d d₁ : Driver} {t : Pages} (R : Coupling φ b d t) (e : ℕ) (onn : Bool) (k : ℕ)
+    {kept : Kept} {p : OutPage}
+    (c : Changed Out e d d₁) (s : SameKept d₁ kept) (f : OutFits b (epOn d₁ Out e) (lensOf d₁ Out e) (slotStamps d₁ e)
+    p) (w : Words (epOn d₁ Out e .stride))
+    (i : isOn (epOn d₁ Out e .iso) ≡ true) (none : countOf (epOn d₁ Out e) ≡ 0) (head : epOn d₁ Out e .head ≡ 0)
+    (step : suc (suc (suc k)) ≤ 18)
     (others : (x : ℕ) (u : Bool) → x % 16 ≢ e % 16 → Arming φ x u (epOn d Out x) (t .outs x)
     → Arming (mid (switch e onn) (suc (suc (suc k)))) x u (epOn d Out x) (t .outs x)) where
-  slot-armed : Coupling (mid (switch e onn) (suc (suc (suc k)))) (armed b (slotAddr (epOn d₁ Out e) k) (epOn d₁ Out e .«max_len»)) (armed-on d₁ (c .sized) e k)
+  slot-armed : Coupling (mid (switch e onn) (suc (suc (suc k))))
+      (armed b (slotAddr (epOn d₁ Out e) k) (epOn d₁ Out e .«max_len»)) (armed-on d₁ (c .sized) e k)
       (withOut (withKept t kept) e (slotTold p (slotAddr (epOn d₁ Out e) k)))
   slot-armed =
       let r₁ = epOn d₁ Out e in
@@ -230,10 +252,13 @@ module _ {φ : Phase} {b : Buf} {d d₁ : Driver} {t : Pages} (R : Coupling φ b
       out-changed R e (slotTold p a) (changed-trans (R .sized) Out e c (on-changed d₁ (c .sized) e k))
       (kept-same (on-changed d₁ (c .sized) e k) (on-plain d₁ (c .sized) e k) s)
       (slot-only f w k .long)
-      (subst (λ y. Only y (endOf (epOn d Out e)) b b′) (c .place .base) (subst (λ y. Only (r₁ .base) y b b′) (end-kept (c .place)) (slot-bytes f w k)))
-      (out-moved (on-is d₁ (c .sized) e k) (on-lens d₁ (c .sized) e k) (on-stamps d₁ (c .sized) e k) (slot-fits f w k none))
+      (subst (λ y. Only y (endOf (epOn d Out e)) b b′) (c .place .base)
+      (subst (λ y. Only (r₁ .base) y b b′) (end-kept (c .place)) (slot-bytes f w k)))
+      (out-moved (on-is d₁ (c .sized) e k) (on-lens d₁ (c .sized) e k) (on-stamps d₁ (c .sized) e k)
+      (slot-fits f w k none))
       step others
-      (here-in e onn n e u (epOn (armed-on d₁ (c .sized) e k) Out e) (slotTold p a) refl (ap isOn (on-iso d₁ (c .sized) e k) ∙ i)
+      (here-in e onn n e u (epOn (armed-on d₁ (c .sized) e k) Out e) (slotTold p a) refl
+      (ap isOn (on-iso d₁ (c .sized) e k) ∙ i)
       (subst (λ y. Switching n y (slotTold p a)) (sym (on-is d₁ (c .sized) e k)) (slot-switching f w k none head)))
 
 -- one that is not isochronous: the address handed out again
@@ -248,10 +273,12 @@ module _ {φ : Phase} {b : Buf} {d : Driver} {t : Pages}
       let f = R .outs e in
       let u = isSet (isoOuts (d .globals)) (e % 16) in
       let a = rest u (R .arming e) in
-      out-changed R e (slotTold (t .outs e) (r .«armed_slot»)) (changed-not (R .sized) Out e) (R .same) refl (λ k h. refl)
+      out-changed R e (slotTold (t .outs e) (r .«armed_slot»)) (changed-not (R .sized) Out e) (R .same) refl
+      (λ k h. refl)
       (subst (λ y. OutFits b r (lensOf d Out e) (slotStamps d e) (slotTold (t .outs e) y)) (sym (f .slot)) f)
       step others
-      (plain-in e onn n e u r (slotTold (t .outs e) (r .«armed_slot»)) i (record { armed = λ q. f .slot ∙ a .armed q; none = a .none }))
+      (plain-in e onn n e u r (slotTold (t .outs e) (r .«armed_slot»)) i
+      (record { armed = λ q. f .slot ∙ a .armed q; none = a .none }))
 
 -- ---- the first step: the record reset, no stamp
 
@@ -282,7 +309,8 @@ module _ {φ : Phase} {b : Buf} {d : Driver} {t : Pages} (R : Coupling φ b d t)
   fresh-kept : SameKept (renewedOn d e) (keptPlain (t .kept) Out e (statics.renewed (t .kept .plain Out e)))
   fresh-kept = kept-plain fresh-changed (ap plainOf fresh-ep ∙ ap statics.renewed (R .same .plain Out e)) (R .same)
 
-  fresh-out : OutFits b (epOn (renewedOn d e) Out e) (lensOf (renewedOn d e) Out e) (slotStamps (renewedOn d e) e) (emptyOut (t .outs e))
+  fresh-out : OutFits b (epOn (renewedOn d e) Out e) (lensOf (renewedOn d e) Out e) (slotStamps (renewedOn d e) e)
+      (emptyOut (t .outs e))
   fresh-out = out-moved fresh-ep fresh-lens refl (reset-out (R .outs e) (slotStamps (renewedOn d e) e))
 
   -- its slots are of whole words
@@ -296,20 +324,25 @@ abbrev slotted : (iso last : Bool) → ℕ → ℕ → Driver → Buf → ℕ ×
 slotted iso last e k d b = cond iso (armAt e k (cond last (renewedOn d e) d, b)) (epOn d Out e .«armed_slot», (d, b))
 
 abbrev paged : (iso last : Bool) → ℕ → Pages → Pages
-paged iso last e t = cond (iso && last) (withOut (withKept t (keptPlain (t .kept) Out e (statics.renewed (t .kept .plain Out e)))) e (emptyOut (t .outs e))) t
+paged iso last e t = cond (iso && last) (withOut (withKept t
+    (keptPlain (t .kept) Out e (statics.renewed (t .kept .plain Out e)))) e (emptyOut (t .outs e))) t
 
 abbrev Slotted : (iso iso′ last : Bool) → ℕ → Bool → ℕ → Buf → Driver → Pages → Type 0
 Slotted iso iso′ last e onn k b d t =
     let x = slotted iso last e k d b in
-    Coupling (mid (switch e onn) (suc (suc (suc k)))) (x .1 .1) (x .1 .0) (feedB (Receive e (x .0)) (paged iso′ last e t))
+    Coupling (mid (switch e onn) (suc (suc (suc k)))) (x .1 .1) (x .1 .0)
+    (feedB (Receive e (x .0)) (paged iso′ last e t))
 
-pub slot-first : (e : ℕ) (onn : Bool) (b : Buf) (d : Driver) (t : Pages) → Coupling quiet b d t → RowStep (switch e onn) 18 b d t
+pub slot-first : (e : ℕ) (onn : Bool) (b : Buf) (d : Driver) (t : Pages) → Coupling quiet b d t
+    → RowStep (switch e onn) 18 b d t
 unfolding slotStep
 slot-first e onn b d t R =
-    let z = subst (λ w. Slotted (isOn (epOn d Out e .iso)) w true e onn 15 b d t) (ap isOn (iso-same R e)) (go (isOn (epOn d Out e .iso)) refl) in
+    let z = subst (λ w. Slotted (isOn (epOn d Out e .iso)) w true e onn 15 b d t) (ap isOn (iso-same R e))
+    (go (isOn (epOn d Out e .iso)) refl) in
     (refl, z, received-lies (paged (isoOf t Out e) true e t) e _ z)
   where
-    others : (x : ℕ) (u : Bool) → x % 16 ≢ e % 16 → Arming quiet x u (epOn d Out x) (t .outs x) → Arming (mid (switch e onn) 18) x u (epOn d Out x) (t .outs x)
+    others : (x : ℕ) (u : Bool) → x % 16 ≢ e % 16 → Arming quiet x u (epOn d Out x) (t .outs x)
+        → Arming (mid (switch e onn) 18) x u (epOn d Out x) (t .outs x)
     others x u n a = away-in e onn 18 x u (epOn d Out x) (t .outs x) n a
 
     go : (iso : Bool) → isOn (epOn d Out e .iso) ≡ iso → Slotted iso iso true e onn 15 b d t
@@ -320,7 +353,8 @@ slot-first e onn b d t R =
         subst
         (λ y. Coupling (mid (switch e onn) 18) (armed b a (epOn (renewedOn d e) Out e .«max_len»))
         (armed-on (renewedOn d e) (fresh-changed R e .sized) e 15) y)
-        (sym (ap (λ q. withOut (withOut (withKept t k) e p) e (slotTold q a)) (out-same (withKept t k) e p) ∙ out-twice (withKept t k) e (slotTold p a) p))
+        (sym (ap (λ q. withOut (withOut (withKept t k) e p) e (slotTold q a)) (out-same (withKept t k) e p)
+        ∙ out-twice (withKept t k) e (slotTold p a) p))
         (slot-armed R e onn 15 (fresh-changed R e) (fresh-kept R e) (fresh-out R e)
         (subst Words (sym (fresh-changed R e .place .stride)) (slot-words R e i))
         (ap isOn (fresh-changed R e .iso) ∙ i)
@@ -346,12 +380,15 @@ slot-next e onn k b d t R =
 
     go : (iso : Bool) → isOn (epOn d Out e .iso) ≡ iso → Slotted iso iso false e onn k b d t
     go true i =
-        let s = here-out e onn (suc (suc (suc (suc k)))) e (isSet (isoOuts (d .globals)) (e % 16)) (epOn d Out e) (t .outs e) refl i (R .arming e) in
-        slot-armed R e onn k (changed-not (R .sized) Out e) (R .same) (R .outs e) (slot-words R e i) i (s .none) (s .head) (omega (arith, R .step)) others
+        let s = here-out e onn (suc (suc (suc (suc k)))) e (isSet (isoOuts (d .globals)) (e % 16)) (epOn d Out e)
+        (t .outs e) refl i (R .arming e) in
+        slot-armed R e onn k (changed-not (R .sized) Out e) (R .same) (R .outs e) (slot-words R e i) i (s .none)
+        (s .head) (omega (arith, R .step)) others
     go false i = told-again R e onn (suc (suc (suc k))) i (omega (arith, R .step))
         (λ u a. plain-out e onn (suc (suc (suc (suc k)))) e u (epOn d Out e) (t .outs e) i a) others
 
-pub switch-next : (e : ℕ) (onn : Bool) (n : ℕ) (b : Buf) (d : Driver) (t : Pages) → Coupling (mid (switch e onn) (suc n)) b d t → RowStep (switch e onn) n b d t
+pub switch-next : (e : ℕ) (onn : Bool) (n : ℕ) (b : Buf) (d : Driver) (t : Pages)
+    → Coupling (mid (switch e onn) (suc n)) b d t → RowStep (switch e onn) n b d t
 switch-next e onn zero b d t R = config-step e onn b d t R
 switch-next e onn (suc zero) b d t R = type-step e onn b d t R
 switch-next e onn (suc (suc zero)) b d t R = rx-step e onn b d t R

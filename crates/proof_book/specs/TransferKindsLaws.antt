@@ -11,7 +11,8 @@ use Rattle.script.specs.Statics.{isOn}
 use Rattle.script.specs.TransferKinds.{TransferKinds, Shows, allocates, Sorted}
 use Rattle.script_ops.specs.Rings.{St}
 use Rattle.script_ops.specs.Concrete.{concrete}
-use Rattle.proof_book.specs.LeavesLaws.{RingsOnly, GivenStays, given-stays, rings-stay, put-given, turns, act-leaves, hand-leaves, turnsRow, row-stays}
+use Rattle.proof_book.specs.LeavesLaws.{RingsOnly, GivenStays, given-stays, rings-stay, put-given, turns}
+use Rattle.proof_book.specs.LeavesLaws.{act-leaves, hand-leaves, turnsRow, row-stays}
 use Rattle.proof_book.specs.TransferKinds.{Steady, Has}
 
 -- a change of other records than the endpoints'
@@ -19,7 +20,15 @@ pub others : (d d′ : Driver) → d′ .eps ≡ d .eps → d′ .globals .«iso
     → d′ .globals .«iso_in_every» ≡ d .globals .«iso_in_every» → d′ .allocator ≡ d .allocator
     → length (d′ .wakes .codes) ≡ length (d .wakes .codes) → Steady d d′
 unfolding epOn
-others d d′ p o i a c = record { places = rw p refl; flags = λ dir e. rw p refl; outs = o; every = i; allocator = a; codes = c }
+others d d′ p o i a c = record {
+  places = rw p refl;
+  flags = λ dir e. rw p refl;
+  outs = o;
+  every = i;
+  allocator
+      = a;
+  codes = c;
+}
 
 -- what an allocation gave has the flag
 sorts-stay : (t : Bool) {d d′ : Driver} → GivenStays t d d′ → Steady d d′
@@ -50,7 +59,12 @@ pub row-steady : (g : Burst) (n : ℕ) (s : St) → Steady (s .0) (concrete .row
 row-steady g n s = sorts-stay (turnsRow g n) (given-stays (turnsRow g n) (row-stays g n s))
 
 has-steady : {iso : TransferKinds} {d d′ : Driver} → Steady d d′ → Has iso d → Has iso d′
-has-steady p k = record { flags = λ dir e. ap isOn (p .flags dir e) ∙ k .flags dir e; outs = rw (p .outs) (k .outs); every = rw (p .every) (k .every) }
+has-steady p k = record {
+  flags = λ dir e. ap isOn (p .flags dir e) ∙ k .flags dir e;
+  outs
+      = rw (p .outs) (k .outs);
+  every = rw (p .every) (k .every);
+}
 
 has-shows : {iso : TransferKinds} (c : Cell) (s : St) → Has iso (s .0) → Shows iso c (concrete .get c s)
 has-shows globals-cell s k = (k .outs, k .every)

@@ -1,5 +1,5 @@
--- No operation of a script changes a byte of the slot of OUT e's last receive address but those that hand out its next one: what stands there is
--- what its arming left and the chip stored since
+-- No operation of a script changes a byte of the slot of OUT e's last receive address but those that hand out its next
+-- one: what stands there is what its arming left and the chip stored since
 use mathlib.Core.Bool.{Bool, true, false, cond}
 use mathlib.Core.Logic.{_≢_, inl, inr, ⊎-elim}
 use mathlib.Core.List.{List}
@@ -56,7 +56,8 @@ module _ {φ : Phase} {b : Buf} {d : Driver} {t : Pages} (R : Coupling φ b d t)
   slot-leaves : {b′ : Buf} (dir : Dir) (f at n : ℕ) → marks.Only at (at + n) b b′ → epOn d dir f .base ≤ at → at + n ≤ endOf (epOn d dir f)
       → Apart (epOn d dir f .base) (endOf (epOn d dir f)) (epOn d Out e .base) (endOf (epOn d Out e)) → Untouched b′
   slot-leaves dir f at n o l h a =
-      apart-leaves (epOn d dir f .base) (endOf (epOn d dir f)) (marks-laws.only-wider (epOn d dir f .base) (endOf (epOn d dir f)) l h o) a
+      apart-leaves (epOn d dir f .base) (endOf (epOn d dir f))
+      (marks-laws.only-wider (epOn d dir f .base) (endOf (epOn d dir f)) l h o) a
 
   -- ---- puts and acts
 
@@ -88,21 +89,31 @@ module _ {φ : Phase} {b : Buf} {d : Driver} {t : Pages} (R : Coupling φ b d t)
   filled f bytes false false h =
       let g = R .ins f .held .placed in
       slot-leaves In f (epOn d In f .base) (length bytes) (only-copied b (epOn d In f .base) bytes) (omega arith)
-      (omega (arith, slot-from g 0, slot-upto g 0, R .ins f .held .least, ltb-false (epOn d In f .«max_len») (length bytes) h)) (in-apart f)
+      (omega (
+        arith,
+        slot-from g 0,
+        slot-upto g 0,
+        R .ins f .held .least,
+        ltb-false (epOn d In f .«max_len»)
+            (length bytes) h,
+      )) (in-apart f)
 
-  filled0 : (bytes : List ℕ) (m : Bool) → ltb (d .globals .«ep0_max») (length bytes) ≡ m → Untouched (cond m b (copied b (d .globals .«ep0_buf») bytes))
+  filled0 : (bytes : List ℕ) (m : Bool) → ltb (d .globals .«ep0_max») (length bytes) ≡ m
+      → Untouched (cond m b (copied b (d .globals .«ep0_buf») bytes))
   filled0 bytes true h = λ k l g. refl
   filled0 bytes false h =
       let a = d .globals .«ep0_buf» in
       apart-leaves a (a + length bytes) (only-copied b a bytes)
-      (⊎-elim (λ z. inl (omega (arith, R .ep0-least, ltb-false (d .globals .«ep0_max») (length bytes) h))) (λ z. inr z) (R .ep0-apart Out e))
+      (⊎-elim (λ z. inl (omega (arith, R .ep0-least, ltb-false (d .globals .«ep0_max») (length bytes) h))) (λ z. inr z)
+      (R .ep0-apart Out e))
 
   pub act-leaves : (q : Act) → Untouched (concrete .act q (d, b) .1)
   unfolding enqueueOn filledOn filledEp0
   act-leaves (complete f) = λ k l h. refl
   act-leaves (reset-ring dir f) = λ k l h. refl
   act-leaves (set-enabled dir f on) = λ k l h. refl
-  act-leaves (fill f bytes) = filled f bytes (isOn (epOn d In f .iso)) (ltb (epOn d In f .«max_len») (length bytes)) refl
+  act-leaves (fill f bytes) = filled f bytes (isOn (epOn d In f .iso)) (ltb (epOn d In f .«max_len») (length bytes))
+      refl
   act-leaves (fill0 bytes) = filled0 bytes (ltb (d .globals .«ep0_max») (length bytes)) refl
   act-leaves (open-oldest f) = λ k l h. refl
   act-leaves (close-oldest f) = λ k l h. refl
@@ -115,7 +126,8 @@ module _ {φ : Phase} {b : Buf} {d : Driver} {t : Pages} (R : Coupling φ b d t)
 
   -- ---- rows that are not its own
 
-  out-apart : (f : ℕ) → f % 16 ≢ e % 16 → Apart (epOn d Out f .base) (endOf (epOn d Out f)) (epOn d Out e .base) (endOf (epOn d Out e))
+  out-apart : (f : ℕ) → f % 16 ≢ e % 16 → Apart (epOn d Out f .base) (endOf (epOn d Out f)) (epOn d Out e .base)
+      (endOf (epOn d Out e))
   out-apart f n = R .apart Out Out f e (key-other Out f e n)
 
   abbrev Armed : ℕ → ℕ → EpState → Type 0
@@ -126,7 +138,8 @@ module _ {φ : Phase} {b : Buf} {d : Driver} {t : Pages} (R : Coupling φ b d t)
       let r = epOn d Out f in
       let g = R .outs f .held .placed in
       let w : Words (r .stride) = slot-words R f i in
-      slot-leaves Out f (slotAddr r k) (r .stride) (armed-slot b (slotAddr r k) (r .«max_len») (r .stride) (w .0) (w .1) (R .outs f .held .least))
+      slot-leaves Out f (slotAddr r k) (r .stride) (armed-slot b (slotAddr r k) (r .«max_len») (r .stride) (w .0) (w .1)
+      (R .outs f .held .least))
       (slot-from g k) (slot-upto g k) (out-apart f n)
 
   slot-by : (f k : ℕ) → f % 16 ≢ e % 16 → (i last : Bool) → isOn (epOn d Out f .iso) ≡ i
@@ -141,7 +154,8 @@ module _ {φ : Phase} {b : Buf} {d : Driver} {t : Pages} (R : Coupling φ b d t)
   row-leaves (switch f onn) zero m = λ k l h. refl
   row-leaves (switch f onn) (suc zero) m = λ k l h. refl
   row-leaves (switch f onn) (suc (suc zero)) m = λ k l h. refl
-  row-leaves (switch f onn) (suc (suc (suc k))) m = slot-by f k (m f onn refl) (isOn (epOn d Out f .iso)) (eqb k 15) refl
+  row-leaves (switch f onn) (suc (suc (suc k))) m = slot-by f k (m f onn refl) (isOn (epOn d Out f .iso)) (eqb k 15)
+      refl
   row-leaves bus-reset zero m = λ k l h. refl
   row-leaves bus-reset (suc zero) m = λ k l h. refl
   row-leaves bus-reset (suc (suc zero)) m = λ k l h. refl
@@ -151,21 +165,24 @@ module _ {φ : Phase} {b : Buf} {d : Driver} {t : Pages} (R : Coupling φ b d t)
 
 module _ {b : Buf} {d : Driver} {t : Pages} (R : Coupling quiet b d t) (e : ℕ) where
   arrive-by : (f n : ℕ) → f % 16 ≢ e % 16 → (u : Bool) → receives d f ≡ u
-      → Untouched R e (cond u (arrivedAt f (cappedAt (epOn d Out f) n) (d, b)) (epOn d Out f .«armed_slot», (d, b)) .1 .1)
+      → Untouched R e (cond u (arrivedAt f (cappedAt (epOn d Out f) n) (d, b))
+      (epOn d Out f .«armed_slot», (d, b)) .1 .1)
   arrive-by f n m true u =
       let r = epOn (admits d f n) Out f in
       let c = admitted-changed d (R .sized) f (cappedAt (epOn d Out f) n) in
       let g = admitted-fits R f n u .held .placed in
       slot-leaves R e Out f (slotAddr r (r .head)) (r .stride) (arrived-words R f n u)
       (omega (arith, c .place .base, slot-from g (r .head)))
-      (let z : endOf r ≡ endOf (epOn d Out f) = end-same (c .place .base) (c .place .stride) (c .place .slots) in omega (arith, z, slot-upto g (r .head)))
+      (let z : endOf r ≡ endOf (epOn d Out f) = end-same (c .place .base) (c .place .stride) (c .place .slots) in omega
+      (arith, z, slot-upto g (r .head)))
       (out-apart R e f m)
     where
       end-same : {x y z x′ y′ z′ : ℕ} → x′ ≡ x → y′ ≡ y → z′ ≡ z → x′ + z′ * y′ ≡ x + z * y
       end-same p q s = λ i. p i + s i * q i
   arrive-by f n m false u = λ k l h. refl
 
-  pub hand-leaves : (q : DmaStep) → ((f n : ℕ) → q ≡ arrive f n → f % 16 ≢ e % 16) → Untouched R e (concrete .hand q (d, b) .1 .1)
+  pub hand-leaves : (q : DmaStep) → ((f n : ℕ) → q ≡ arrive f n → f % 16 ≢ e % 16)
+      → Untouched R e (concrete .hand q (d, b) .1 .1)
   unfolding arriveOn
   hand-leaves (arrive f n) m = arrive-by f n (m f n refl) (receives d f) refl
   hand-leaves (send f) m = λ k l h. refl
@@ -173,7 +190,8 @@ module _ {b : Buf} {d : Driver} {t : Pages} (R : Coupling quiet b d t) (e : ℕ)
   hand-leaves place0 m = λ k l h. refl
 
 -- a packet stored alone since its slot was armed still is, where that slot's bytes are untouched
-pub alone-kept : (b : List ℕ) (at maximum size : ℕ) (packet c c′ : List ℕ) → maximum ≤ size → StoredAlone b at maximum packet c
+pub alone-kept : (b : List ℕ) (at maximum size : ℕ) (packet c c′ : List ℕ) → maximum ≤ size
+    → StoredAlone b at maximum packet c
     → length c′ ≡ length c → marks.Same at (at + size) c c′ → StoredAlone b at maximum packet c′
 alone-kept b at maximum size packet c c′ h s l m = record {
   long = l ∙ s .long;

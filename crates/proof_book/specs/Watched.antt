@@ -1,5 +1,6 @@
--- Request Eight over a list of calls: "For an arrival within the maximum, stored alone since its slot was armed, this length is the received one whenever
--- the packet's last byte differs from the mark's byte at its place". Definitions; the theorem is in WatchedLaws
+-- Request Eight over a list of calls: "For an arrival within the maximum, stored alone since its slot was armed, this
+-- length is the received one whenever the packet's last byte differs from the mark's byte at its place". Definitions;
+-- the theorem is in WatchedLaws
 use mathlib.Core.Bool.{Bool, true, false, cond}
 use mathlib.Core.List.{List, [], _∷_}
 use mathlib.Core.Logic.{_⊎_}
@@ -19,16 +20,18 @@ use Rattle.script.specs.Script.{DmaStep, arrive, send, place}
 use Rattle.script.specs.Script.{place0, Burst, switch, bus-reset}
 use Rattle.script.specs.Calls.{Config, Op, calls}
 use Rattle.script.specs.Machine as machine
-use Rattle.script.specs.Machine.{Buf, Call, start, begin, go, question, Event, Ans, Machine, misfit, fed, call}
+use Rattle.script.specs.Machine.{Buf, Call, start, begin, continue, question, Event, Ans, Machine, misfit, fed, call}
 use Rattle.machine.specs.Suspended.{driverOf, drive, machineOf}
 use Rattle.proof_book.specs.Pages.{Pages}
-use Rattle.proof_book.specs.Book.{Bk, receiving, isoOf, getB, putB, isB, lookB, fetchB, actB, handB, rowB, freshPages, questionB, feedB, book}
-use Rattle.proof_book.specs.FrontPage.{Made, CallStep, Chip, unless}
+use Rattle.proof_book.specs.Book.{Bk, receiving, isoOf, getB, putB, isB, lookB, fetchB, actB, handB, rowB}
+use Rattle.proof_book.specs.Book.{freshPages, questionB, feedB, book}
+use Rattle.proof_book.specs.FrontPage.{CallRecord, CallStep, Chip, whenNot}
 use Rattle.script.specs.TransferKinds.{allocates}
 
 -- ---- how often a slot of OUT e was armed
 
--- so often since the start-up; whether its last receive address was handed out by an arming, and no allocation and no reset came after it
+-- so often since the start-up; whether its last receive address was handed out by an arming, and no allocation and no
+-- reset came after it
 pub record Watch : Type 0 where
   pub armings : ℕ
   pub armed : Bool
@@ -80,7 +83,11 @@ watched e = record {
       fetch = λ q s. fetchB q (bookOf s);
       act = λ q s. seenBy (watchAct q (s .0 .watch)) (actB q (bookOf s));
       hand = λ q s. (handB q (bookOf s) .0, seenBy (watchHand e q (s .0 .pages) (s .0 .watch)) (handB q (bookOf s) .1));
-      row = λ g n s. (rowB g n (bookOf s) .0, seenBy (watchRow e g n (s .0 .pages) (s .0 .watch)) (rowB g n (bookOf s) .1));
+      row = λ g n s. (
+        rowB g n (bookOf s) .0,
+        seenBy (watchRow e g n (s .0 .pages) (s .0 .watch))
+            (rowB g n (bookOf s) .1),
+      );
     };
     fresh = λ c. record { pages = freshPages c; watch = record { armings = 0; armed = false } };
     size = λ s. book .driver .size (s .pages);
@@ -103,7 +110,8 @@ abbrev pub Alone : ℕ → List ℕ → Pages → Buf → Buf → Type 0
 Alone e packet t b b′ = (k : ℕ) → k < most e t
     → (getD b′ (slotAt e t + k) 0 ≡ getD b (slotAt e t + k) 0) ⊎ ((k < length packet) × (getD b′ (slotAt e t + k) 0 ≡ getD packet k 0))
 
--- the chip's stores between two calls: those of demand 3's premise, and after arming n of OUT e, up to its next receive address, of this packet alone
+-- the chip's stores between two calls: those of demand 3's premise, and after arming n of OUT e, up to its next receive
+-- address, of this packet alone
 pub record Stored (e n : ℕ) (packet : List ℕ) (s : WatchedBook) (b b′ : Buf) : Type 0 where
   pub chip : Chip (s .pages) b b′
   pub alone : s .watch .armed ≡ true → s .watch .armings ≡ n → Alone e packet (s .pages) b b′
@@ -122,24 +130,28 @@ TrueLength e n packet d b s = (b′ : Buf) → Stored e n packet s b b′ → s 
 
 -- ---- runs
 
-abbrev pub noted : ℕ → Ans Answer → Call Config Op → Machine Answer WatchedBook → Buf → Ans Answer × Machine Answer WatchedBook
+abbrev pub noted : ℕ → Ans Answer → Call Config Op → Machine Answer WatchedBook → Buf → Ans Answer
+    × Machine Answer WatchedBook
 noted e a c n b = call calls (watched e .driver) (fed (watched e) a) c n b
 
--- the premise, of one call: to a start-up, or where the length is wrong (row 1), any buffer is lent; else the one that the last call left, but for
--- the chip's stores
+-- the premise, of one call: to a start-up, or where the length is wrong (row 1), any buffer is lent; else the one that
+-- the last call left, but for the chip's stores
 abbrev pub LentBy : ℕ → ℕ → List ℕ → Call Config Op → Machine Answer Driver → Machine Answer WatchedBook → Buf → Type 0
 LentBy e n packet (start c) m y b = Unit {0}
-LentBy e n packet (begin o) m y b = unless (cond (calls .slots o) (misfit calls driverOf (m .st) b) false) (Stored e n packet (y .st) (m .buf) b)
-LentBy e n packet (go v) m y b = unless (misfit calls driverOf (m .st) b) (Stored e n packet (y .st) (m .buf) b)
+LentBy e n packet (begin o) m y b = whenNot (cond (calls .slots o) (misfit calls driverOf (m .st) b) false)
+    (Stored e n packet (y .st) (m .buf) b)
+LentBy e n packet (continue v) m y b = whenNot (misfit calls driverOf (m .st) b) (Stored e n packet (y .st) (m .buf) b)
 LentBy e n packet (question q) m y b = Stored e n packet (y .st) (m .buf) b
 
-abbrev pub AllLent : ℕ → ℕ → List ℕ → List (Event Config Op) → Machine Answer Driver → Machine Answer WatchedBook → Type 0
+abbrev pub AllLent : ℕ → ℕ → List ℕ → List (Event Config Op) → Machine Answer Driver → Machine Answer WatchedBook
+    → Type 0
 AllLent e n packet [] m y = Unit {0}
 AllLent e n packet (v ∷ vs) m y =
     let x = drive (v .call) m (v .lent) in
     LentBy e n packet (v .call) m y (v .lent) × AllLent e n packet vs (x .1) (noted e (x .0) (v .call) y (v .lent) .1)
 
-abbrev pub TrueLengths : ℕ → ℕ → List ℕ → List (Event Config Op) → Machine Answer Driver → Machine Answer WatchedBook → Type 0
+abbrev pub TrueLengths : ℕ → ℕ → List ℕ → List (Event Config Op) → Machine Answer Driver → Machine Answer WatchedBook
+    → Type 0
 TrueLengths e n packet [] m y = Unit {0}
 TrueLengths e n packet (v ∷ vs) m y =
     let x = drive (v .call) m (v .lent) in
@@ -147,12 +159,13 @@ TrueLengths e n packet (v ∷ vs) m y =
     TrueLength e n packet (x .1 .st) (x .1 .buf) (z .1 .st) × TrueLengths e n packet vs (x .1) (z .1)
 
 -- calls of the code one after the other, each as its contract says and lent so
-abbrev pub RunLent : ℕ → ℕ → List ℕ → List ℕ → Buf → Machine Answer WatchedBook → List Made → Type 0
+abbrev pub RunLent : ℕ → ℕ → List ℕ → List ℕ → Buf → Machine Answer WatchedBook → List CallRecord → Type 0
 RunLent e n packet xs a y [] = Unit {0}
-RunLent e n packet xs a y (m ∷ ms) = CallStep xs a m × LentBy e n packet (m .event .call) (machineOf xs a) y (m .event .lent)
+RunLent e n packet xs a y (m ∷ ms) = CallStep xs a m × LentBy e n packet (m .event .call) (machineOf xs a) y
+    (m .event .lent)
     × RunLent e n packet (m .bytes) (m .slots) (noted e (m .answer) (m .event .call) y (m .event .lent) .1) ms
 
-abbrev pub TrueLengthsMade : ℕ → ℕ → List ℕ → Machine Answer WatchedBook → List Made → Type 0
+abbrev pub TrueLengthsMade : ℕ → ℕ → List ℕ → Machine Answer WatchedBook → List CallRecord → Type 0
 TrueLengthsMade e n packet y [] = Unit {0}
 TrueLengthsMade e n packet y (m ∷ ms) =
     let z = noted e (m .answer) (m .event .call) y (m .event .lent) .1 in

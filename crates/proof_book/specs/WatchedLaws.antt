@@ -1,5 +1,6 @@
--- Request Eight over every list of calls: nothing but its own arming and the chip changes an armed slot, so a packet stored alone since its slot was armed
--- is found with its length and its bytes. Driver and watched book agree (`Agree`) by a relation that says so of the slot
+-- Request Eight over every list of calls: nothing but its own arming and the chip changes an armed slot, so a packet
+-- stored alone since its slot was armed is found with its length and its bytes. Driver and watched book agree (`Agree`)
+-- by a relation that says so of the slot
 use mathlib.Core.Bool.{Bool, true, false, cond, true≢false}
 use mathlib.Core.List.{List}
 use mathlib.Core.Logic.{_⊎_, inl, inr, ⊎-elim}
@@ -17,7 +18,8 @@ use Rattle.ring.specs.Marks.{markByte, reach, armed, markedLen}
 use Rattle.ring.specs.Copies.{bytesAt}
 use Rattle.ring.specs.Finds.{LastDiffers}
 use Rattle.ring.specs.MarksSlots.{only-armed, armed-empties, len-is}
-use Rattle.script.specs.Cells.{EpCore, Cell, Val, globals-cell, control-cell, allocator-cell, ep-cell, request-cell, paced-cell}
+use Rattle.script.specs.Cells.{EpCore, Cell, Val, globals-cell, control-cell, allocator-cell, ep-cell, request-cell}
+use Rattle.script.specs.Cells.{paced-cell}
 use Rattle.script.specs.Script.{Act, complete, reset-ring, set-enabled, fill, fill0, open-oldest, close-oldest}
 use Rattle.script.specs.Script.{take-oldest, enqueue, allocate, allocate0, no-wakes, waken}
 use Rattle.script.specs.Simulates.{Phase}
@@ -49,10 +51,12 @@ module _ (e : ℕ) (packet : List ℕ) where
 
   module _ {φ : Phase} {b : Buf} {d : Driver} {t : Pages} (R : Coupling φ b d t) where
     slot-mod : (f : ℕ) → e % 16 ≡ f % 16 → t .outs f .slot ≡ slotAt e t
-    slot-mod f h = sym (R .outs f .slot) ∙ ap (λ (r : EpState). r .«armed_slot») (sym (ep-mod d Out e f h)) ∙ R .outs e .slot
+    slot-mod f h = sym (R .outs f .slot) ∙ ap (λ (r : EpState). r .«armed_slot») (sym (ep-mod d Out e f h))
+        ∙ R .outs e .slot
 
     most-mod : (f : ℕ) → e % 16 ≡ f % 16 → t .kept .plain Out f .«max_len» ≡ most e t
-    most-mod f h = ap (λ (p : EpCore). p .«max_len») (sym (R .same .plain Out f)) ∙ ap (λ (r : EpState). r .«max_len») (sym (ep-mod d Out e f h))
+    most-mod f h = ap (λ (p : EpCore). p .«max_len») (sym (R .same .plain Out f))
+        ∙ ap (λ (r : EpState). r .«max_len») (sym (ep-mod d Out e f h))
         ∙ ap (λ (p : EpCore). p .«max_len») (R .same .plain Out e)
 
     -- a page that keeps its slot
@@ -63,7 +67,8 @@ module _ (e : ℕ) (packet : List ℕ) where
         by true g = h ∙ slot-mod f (eqb-true (e % 16) (f % 16) g)
         by false g = refl
 
-    plain-stays : (f : ℕ) (p : EpCore) → p .«max_len» ≡ t .kept .plain Out f .«max_len» → at f p (t .kept .plain Out) e .«max_len» ≡ most e t
+    plain-stays : (f : ℕ) (p : EpCore) → p .«max_len» ≡ t .kept .plain Out f .«max_len»
+        → at f p (t .kept .plain Out) e .«max_len» ≡ most e t
     plain-stays f p h = by (eqb (e % 16) (f % 16)) refl
       where
         by : (z : Bool) → eqb (e % 16) (f % 16) ≡ z → cond z p (t .kept .plain Out e) .«max_len» ≡ most e t
@@ -117,7 +122,8 @@ module _ (e : ℕ) (packet : List ℕ) where
     act-stays (open-oldest f) w h = opens (some (waitsOn t Out f)) f
     act-stays (close-oldest f) w h = reads (t .outs f .opened) f
     act-stays (take-oldest f) w h = reads (some (waitsOn t Out f)) f
-    act-stays (enqueue f bytes) w h = queues (roomB t f (length bytes)) _ _ (record { slot = refl; size = refl }) (record { slot = refl; size = refl })
+    act-stays (enqueue f bytes) w h = queues (roomB t f (length bytes)) _ _ (record { slot = refl; size = refl })
+        (record { slot = refl; size = refl })
     act-stays (allocate dir kind address maximum interval) w h = absurd (true≢false (sym h))
     act-stays (allocate0 maximum) w h = absurd (true≢false (sym h))
     act-stays no-wakes w h = record { slot = refl; size = refl }
@@ -129,20 +135,33 @@ module _ (e : ℕ) (packet : List ℕ) where
     clean-armed f h i a s k l =
         let r = epOn d Out f in
         let x : slotAt e t ≡ r .«armed_slot» = sym (slot-mod f h) ∙ sym (R .outs f .slot) in
-        let m : most e t ≡ r .«max_len» = sym (most-mod f h) ∙ ap (λ (p : EpCore). p .«max_len») (sym (R .same .plain Out f)) in
+        let m : most e t ≡ r .«max_len» = sym (most-mod f h)
+        ∙ ap (λ (p : EpCore). p .«max_len») (sym (R .same .plain Out f)) in
         let w : Words (r .stride) = slot-words R f i in
         let n : length b ≡ length a = ap length s ∙ only-armed a (r .«armed_slot») (r .«max_len») .long in
         let z : r .«armed_slot» + reach (r .«max_len») ≤ length a =
-        omega (arith, w .0, w .1, R .outs f .held .least, R .outs f .slot, R .outs f .upto, R .outs f .held .placed .inside, n) in
+        omega (
+          arith,
+          w .0,
+          w .1,
+          R .outs f .held .least,
+          R .outs f .slot,
+          R .outs f .upto,
+          R .outs
+              f .held .placed .inside,
+          n,
+        ) in
         inl (ap (λ y. getD b (y + k) 0) x ∙ ap (λ (c : Buf). getD c (r .«armed_slot» + k) 0) s
         ∙ sym (getD-drop (r .«armed_slot») (armed a (r .«armed_slot») (r .«max_len»)) k 0)
         ∙ armed-empties a (r .«armed_slot») (r .«max_len») z k (omega (arith, m)))
 
   -- ---- what it says
 
-  pub true-length : {φ : Phase} {b : Buf} {d : Driver} {t : Pages} → Coupling φ b d t → Clean t b → length packet ≤ epOn d Out e .«max_len»
+  pub true-length : {φ : Phase} {b : Buf} {d : Driver} {t : Pages} → Coupling φ b d t → Clean t b → length packet
+      ≤ epOn d Out e .«max_len»
       → Whole e packet t b → LastDiffers (length packet) packet
-      → (markedLen b (epOn d Out e .«armed_slot») (epOn d Out e .«max_len») ≡ length packet) × (bytesAt b (epOn d Out e .«armed_slot») (length packet) ≡ packet)
+      → (markedLen b (epOn d Out e .«armed_slot») (epOn d Out e .«max_len») ≡ length packet)
+      × (bytesAt b (epOn d Out e .«armed_slot») (length packet) ≡ packet)
   true-length {b = b} {d = d} {t = t} R c small whole last =
       let r = epOn d Out e in
       let x : slotAt e t ≡ r .«armed_slot» = sym (R .outs e .slot) in

@@ -1,5 +1,6 @@
--- Runs in which things happen, computed by the check: arrivals and a reset; packets queued, one being sent, an arrival late by the marks; 15 waiting, one
--- turned away, the first opened and read. Each meets the premise of demand 3 (`meets`), and so what FrontPage.antt says holds after each of its calls (`holds`)
+-- Runs in which things happen, computed by the check: arrivals and a reset; packets queued, one being sent, an arrival
+-- late by the marks; 15 waiting, one turned away, the first opened and read. Each meets the premise of demand 3
+-- (`meets`), and so what FrontPage.antt says holds after each of its calls (`holds`)
 use mathlib.Core.Bool.{Bool, true, false}
 use mathlib.Core.List.{List, [], _∷_}
 use mathlib.Core.Path.{_≡_, refl}
@@ -9,12 +10,13 @@ use Rattle.regs.specs.declared.Dir.the-variants.{Out, In}
 use Rattle.state.specs.Driver.{Driver}
 use Rattle.script.specs.Statics.{flag}
 use Rattle.script.specs.Answers.{Answer}
-use Rattle.script.specs.Calls.{Config, Op, interrupt, slotted, other, aside, SetEnabled, Allocate, Start, Open, Close, Queue, startRow}
-use Rattle.script.specs.Machine.{Buf, Call, start, begin, go, question, overruns, Event, idle, Machine}
+use Rattle.script.specs.Calls.{Config, Op, interrupt, slotted, other, aside, SetEnabled, Allocate, Start, Open, Close}
+use Rattle.script.specs.Calls.{Queue, startRow}
+use Rattle.script.specs.Machine.{Buf, Call, start, begin, continue, question, overruns, Event, idle, Machine}
 use Rattle.machine.specs.Suspended.{driverOf, drive}
 use Rattle.proof_book.specs.Pages.{Pages}
 use Rattle.proof_book.specs.Book.{freshPages}
-use Rattle.proof_book.specs.FrontPage.{written}
+use Rattle.proof_book.specs.FrontPage.{bookStep}
 use Rattle.proof_book.specs.MachineRuns.{Premise, AfterEvents}
 use Rattle.proof_book.specs.FrontPageLaws.{machine-demand-3}
 use Rattle.proof_book.specs.Inputs.{Input, eventOf, eventsOf, lawful}
@@ -26,7 +28,7 @@ abbrev pub does : Call Config Op → Input
 does c = record { stored = []; call = c; tell = false }
 
 abbrev brings : ℕ → Input
-brings v = does (go v)
+brings v = does (continue v)
 
 abbrev stores : List ℕ → Call Config Op → Input
 stores bytes c = record { stored = bytes; call = c; tell = false }
@@ -56,9 +58,11 @@ abbrev setting : List Input → List Input
 setting is = allocated (does (begin (slotted (SetEnabled Out 1 true))) ∷
     continues 20 (does (begin (slotted (SetEnabled In 2 true))) ∷ continues 7 is))
 
--- an interrupt with a packet in OUT 1's slot: frame 8; a transfer; the SIE free; status OUT 1, tog_ok; its length; frame 8
+-- an interrupt with a packet in OUT 1's slot: frame 8; a transfer; the SIE free; status OUT 1, tog_ok; its length;
+-- frame 8
 abbrev arrival : List Input → List Input
-arrival is = stores (1 ∷ 2 ∷ 3 ∷ 4 ∷ []) (begin interrupt) ∷ brings 8 ∷ brings 2 ∷ brings 1 ∷ brings 65 ∷ brings 4 ∷ brings 0 ∷ brings 8 ∷ brings 0 ∷ is
+arrival is = stores (1 ∷ 2 ∷ 3 ∷ 4 ∷ []) (begin interrupt) ∷ brings 8 ∷ brings 2 ∷ brings 1 ∷ brings 65 ∷ brings 4
+    ∷ brings 0 ∷ brings 8 ∷ brings 0 ∷ is
 
 abbrev pub arrivals : ℕ → List Input → List Input
 arrivals zero is = is
@@ -67,7 +71,8 @@ arrivals (suc n) is = arrival (arrivals n is)
 -- one for IN 2, which loads its next packet, while a packet of 5 bytes is in OUT 1's slot: its length is by the marks
 abbrev pub lateArrival : List Input → List Input
 lateArrival is =
-    stores (1 ∷ 2 ∷ 3 ∷ 4 ∷ 5 ∷ []) (begin interrupt) ∷ brings 8 ∷ brings 2 ∷ brings 1 ∷ brings 34 ∷ brings 0 ∷ brings 0 ∷ brings 8 ∷
+    stores (1 ∷ 2 ∷ 3 ∷ 4 ∷ 5 ∷ []) (begin interrupt) ∷ brings 8 ∷ brings 2 ∷ brings 1 ∷ brings 34 ∷ brings 0 ∷ brings 0
+    ∷ brings 8 ∷
     brings 0 ∷ brings 0 ∷ brings 34 ∷ brings 0 ∷ is
 
 -- two arrivals, and OUT 1 enabled once more, which is a reset
@@ -76,7 +81,8 @@ arrivals-reset = setting (arrivals 2 (asks ∷ does (begin (slotted (SetEnabled 
 
 -- 15 arrivals, one more, the first opened and closed
 abbrev pub arrivals-read : List Input
-arrivals-read = setting (arrivals 15 (asks ∷ arrivals 1 (asks ∷ does (begin (aside (Open 1))) ∷ asks ∷ does (begin (aside (Close 1))) ∷ asks ∷ [])))
+arrivals-read = setting (arrivals 15 (asks ∷ arrivals 1 (asks ∷ does (begin (aside (Open 1))) ∷ asks
+    ∷ does (begin (aside (Close 1))) ∷ asks ∷ [])))
 
 -- three packets queued, of which row 13 refuses the last; a load, and a late arrival
 abbrev pub queued-late : List Input
@@ -91,7 +97,8 @@ abbrev pub told : Pages → List ℕ
 told t =
     let p = t .outs 1 in
     let q = t .ins 2 in
-    length (p .waiting) ∷ length (p .admitted) ∷ length (p .read) ∷ p .lost ∷ flag (p .opened) ∷ length (q .waiting) ∷ length (q .sent) ∷ flag (q .sending) ∷ []
+    length (p .waiting) ∷ length (p .admitted) ∷ length (p .read) ∷ p .lost ∷ flag (p .opened) ∷ length (q .waiting)
+    ∷ length (q .sent) ∷ flag (q .sending) ∷ []
 
 abbrev pub noting : Bool → List ℕ → List (List ℕ) → List (List ℕ)
 noting true x xs = x ∷ xs
@@ -102,7 +109,7 @@ tellings [] m n = []
 tellings (i ∷ is) m n =
     let e = eventOf i m n in
     let x = drive (e .call) m (e .lent) in
-    let y = written (x .0) (e .call) n (e .lent) in
+    let y = bookStep (x .0) (e .call) n (e .lent) in
     noting (i .tell) (told (y .1 .st)) (tellings is (x .1) (y .1))
 
 -- ---- before it
@@ -115,10 +122,10 @@ abbrev pub buffer : Buf
 buffer = zeros 1216
 
 abbrev pub driver : Machine Answer Driver
-driver = record { way = idle; st = driverOf .fresh config; buf = [] }
+driver = record { under-way = idle; st = driverOf .fresh config; buf = [] }
 
 abbrev pub pages : Machine Answer Pages
-pages = record { way = idle; st = freshPages config; buf = [] }
+pages = record { under-way = idle; st = freshPages config; buf = [] }
 
 abbrev pub first : Event Config Op
 first = record { call = start config; lent = buffer }
@@ -127,7 +134,7 @@ abbrev pub startedDriver : Machine Answer Driver
 startedDriver = drive (start config) driver buffer .1
 
 abbrev pub startedPages : Machine Answer Pages
-startedPages = written (drive (start config) driver buffer .0) (start config) pages buffer .1
+startedPages = bookStep (drive (start config) driver buffer .0) (start config) pages buffer .1
 
 pub accepted : startRow config buffer ≡ zero
 unfolding computing
@@ -157,7 +164,8 @@ tellingsOf reset = (2 ∷ 2 ∷ 0 ∷ 0 ∷ 0 ∷ 0 ∷ 0 ∷ 0 ∷ []) ∷ (0 �
 tellingsOf late = (0 ∷ 0 ∷ 0 ∷ 0 ∷ 0 ∷ 2 ∷ 0 ∷ 0 ∷ []) ∷ (1 ∷ 1 ∷ 0 ∷ 0 ∷ 0 ∷ 2 ∷ 1 ∷ 1 ∷ []) ∷ []
 -- 15 wait; one is turned away; the first is open; it is read
 tellingsOf overrun =
-    (15 ∷ 15 ∷ 0 ∷ 0 ∷ 0 ∷ 0 ∷ 0 ∷ 0 ∷ []) ∷ (15 ∷ 15 ∷ 0 ∷ 1 ∷ 0 ∷ 0 ∷ 0 ∷ 0 ∷ []) ∷ (15 ∷ 15 ∷ 0 ∷ 1 ∷ 1 ∷ 0 ∷ 0 ∷ 0 ∷ [])
+    (15 ∷ 15 ∷ 0 ∷ 0 ∷ 0 ∷ 0 ∷ 0 ∷ 0 ∷ []) ∷ (15 ∷ 15 ∷ 0 ∷ 1 ∷ 0 ∷ 0 ∷ 0 ∷ 0 ∷ [])
+    ∷ (15 ∷ 15 ∷ 0 ∷ 1 ∷ 1 ∷ 0 ∷ 0 ∷ 0 ∷ [])
     ∷ (14 ∷ 15 ∷ 1 ∷ 1 ∷ 0 ∷ 0 ∷ 0 ∷ 0 ∷ []) ∷ []
 
 pub happens : (r : Run) → tellings (inputsOf r) startedDriver startedPages ≡ tellingsOf r

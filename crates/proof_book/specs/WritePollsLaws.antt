@@ -16,10 +16,11 @@ use Rattle.script.specs.Statics.{isOn}
 use Rattle.script.specs.Answers.{Answer, Refused, NotYet, isAllocated}
 use Rattle.script.specs.Endpoint.{pollWrite}
 use Rattle.script.specs.Calls.{slotted, PollWrite, calls}
-use Rattle.script.specs.Machine.{Buf, begin, Ans, ended, Way, idle, busy, Machine, misfit, stay, lentTo, halt, begun, fed}
+use Rattle.script.specs.Machine.{Buf, begin, Ans, ended, Pending, idle, busy, Machine, misfit, stay, lentTo, halt}
+use Rattle.script.specs.Machine.{begun, fed}
 use Rattle.proof_book.specs.Pages.{Pages}
 use Rattle.proof_book.specs.Book.{Bk, isoOf, roomB, bookOps, book}
-use Rattle.proof_book.specs.FrontPage.{isDone, Joins, written}
+use Rattle.proof_book.specs.FrontPage.{isDone, Joins, bookStep}
 use Rattle.proof_book.specs.AsidesLaws.{Ends, by-test, room-joins}
 use Rattle.proof_book.specs.OnwardLaws.{of-write-poll}
 use Rattle.proof_book.specs.RefusingLaws.{onAnswer, silent-ends}
@@ -115,7 +116,8 @@ module _ (a : Ans Answer) (e : ℕ) (bytes : List ℕ) (n : Machine Answer Pages
     wrote = refused-write (n .st) e bytes k (ap (λ (t : Pages). t .ins e) h);
   }
 
-  begins : (w : Way Answer Pages) → Polled (begun calls (book .driver) (fed book a) (slotted (PollWrite e bytes)) n w b)
+  begins : (w : Pending Answer Pages) → Polled (begun calls (book .driver) (fed book a) (slotted (PollWrite e bytes)) n
+      w b)
   begins idle =
       let r = silent-ends (of-write-poll e bytes) (n .st, b) in
       subst (λ (o : tree.Out Bk Answer). Ends (Wrote (n .st) e bytes) o → Polled
@@ -126,9 +128,9 @@ module _ (a : Ans Answer) (e : ℕ) (bytes : List ℕ) (n : Machine Answer Pages
 
   fits : (u : Bool) → Polled
       (cond u (stay calls (book .driver) 1 n) (begun calls (book .driver) (fed book a)
-      (slotted (PollWrite e bytes)) n (n .way) b))
+      (slotted (PollWrite e bytes)) n (n .under-way) b))
   fits true = refused 1 n refl
-  fits false = begins (n .way)
+  fits false = begins (n .under-way)
 
-  pub write-polled : Polled (written a (begin (slotted (PollWrite e bytes))) n b)
+  pub write-polled : Polled (bookStep a (begin (slotted (PollWrite e bytes))) n b)
   write-polled = fits (misfit calls (book .driver) (n .st) b)

@@ -1,6 +1,6 @@
 -- "Load": the length that a continue writes for an IN is its packet's where its transmit address came just before,
 -- else 0
--- where none is left; and ep_config is written as it is kept. The scripts of all calls, and every list of calls of the
+-- where none is left; and ep_config is bookStep as it is kept. The scripts of all calls, and every list of calls of the
 -- code
 use mathlib.Core.Bool.{Bool, true, false, not, cond, _&&_, _||_, true≢false}
 use mathlib.Core.List.{List, [], _∷_}
@@ -46,8 +46,8 @@ use Rattle.script.specs.Calls.{BusEnable, BusDisable, Microframe, SetStalled, I
 use Rattle.script.specs.Calls.{BeginSetup, PollSetup, PollDataIn, BeginAccept, PollAccept, BeginReject, BeginDataOut}
 use Rattle.script.specs.Calls.{BeginAcceptSetAddress, Aside, Open, Close, Queue, slottedCode, otherCode, asideCode}
 use Rattle.script.specs.Calls.{interruptCode, calls, code, starting, startRow}
-use Rattle.script.specs.Machine.{Buf, Event, Call, start, begin, go, question, Ans, ended, handed, told, blank, blankA}
-use Rattle.script.specs.Machine.{Awaits, Way, idle, busy, Machine, over, misfit, stay, lentTo, beside, halt, begun}
+use Rattle.script.specs.Machine.{Buf, Event, Call, start, begin, continue, question, Ans, ended, handed, told, blank, blankA}
+use Rattle.script.specs.Machine.{Awaits, Pending, idle, busy, Machine, over, misfit, stay, lentTo, duringInterrupt, halt, begun}
 use Rattle.script.specs.Machine.{continued}
 use Rattle.script.specs.Machine.{started, fed}
 use Rattle.script.specs.Agree.{After, Ways, agrees, from-start}
@@ -62,12 +62,12 @@ use Rattle.proof_book.specs.AgreesLaws.{agree}
 use Rattle.proof_book.specs.FrameLaws.{in-same}
 use Rattle.proof_book.specs.Others.{sendsTo}
 use Rattle.proof_book.specs.Lengths.{Known, learnt}
-use Rattle.proof_book.specs.FrontPage.{Made, written, NoneLeft, LengthWritten, LoadLength, ConfigKept, WritesEach}
+use Rattle.proof_book.specs.FrontPage.{CallRecord, bookStep, LengthWritten, ConfigKept, WritesEach}
 use Rattle.proof_book.specs.FrontPage as page
 use Rattle.proof_book.specs.SlotsKeptLaws.{lent-is}
 use Rattle.proof_book.specs.AnswersLaws.{tells-same, fed-elim, fed-kept}
 use Rattle.proof_book.specs.AnnouncingLaws.{announced}
-use Rattle.proof_book.specs.RefusingLaws.{Silent, c-ret, c-bind, c-get, c-put, c-act, silently, silent-ends}
+use Rattle.proof_book.specs.RefusingLaws.{HandsOutNothing, c-ret, c-bind, c-get, c-put, c-act, silently, silent-ends}
 use Rattle.proof_book.specs.BookDecidesLaws.{passed}
 use Rattle.proof_book.specs.InterruptPartsLaws.{ordinary, Parts, p-ret, p-bind, p-test, p-read, p-write, p-wait}
 use Rattle.proof_book.specs.InterruptPartsLaws.{p-callback, p-get, p-put, p-is, p-look, p-fetch, p-load}
@@ -76,18 +76,18 @@ use Rattle.proof_book.specs.InterruptPartsLaws.{p-waken, p-arrive, of-in
 
 -- ---- a run, access by access; q₀: the access handed out last
 
--- ep_config is written as it is kept
+-- ep_config is bookStep as it is kept
 abbrev Configured : Access → Bk → Type 0
 Configured q t = (v : ℕ) → q ≡ Write EpConfig 0 v → t .0 .kept .globals .«ep_config» ≡ v
 
-record Fair (q₀ : Access) (s : Bk) (q : Access) (t : Bk) : Type 0 where
+record WritesAsClaimed (q₀ : Access) (s : Bk) (q : Access) (t : Bk) : Type 0 where
   length-is : (e x : ℕ) → 0 < e → q ≡ Write EpTLen e x → LengthWritten (sendsTo q₀ e) x (s .0 .ins e) (t .0 .ins e)
   config : Configured q t
 
 -- P: of the access handed out last, where it ends
 data Worded {A : Type 0} (P : Access → Type 0) : Access → Bk → tree.Out Bk A → Type 0 where
   w-end : {q₀ : Access} {s t : Bk} {a : A} → P q₀ → Worded P q₀ s (ends a t)
-  w-ask : {q₀ q : Access} {s t : Bk} {k : ℕ → Bk → tree.Out Bk A} → Fair q₀ s q t
+  w-ask : {q₀ q : Access} {s t : Bk} {k : ℕ → Bk → tree.Out Bk A} → WritesAsClaimed q₀ s q t
       → ((v : ℕ) (u : Bk) → Worded P (blank q) u (k v u)) → Worded P q₀ s (asks q t k)
 
 abbrev Any : Access → Type 0
@@ -97,7 +97,7 @@ Any q = Unit {0}
 abbrev Unsent : Access → Type 0
 Unsent q = (e : ℕ) → sendsTo q e ≡ false
 
-fair-from : {q₀ q : Access} {s t u : Bk} → Unsent q₀ → Fair q₀ t q u → Fair q₀ s q u
+fair-from : {q₀ q : Access} {s t u : Bk} → Unsent q₀ → WritesAsClaimed q₀ t q u → WritesAsClaimed q₀ s q u
 fair-from {s = s} {t = t} {u = u} n f = record {
   length-is = λ e x l a. subst (λ (b : Bool). LengthWritten b x (s .0 .ins e) (u .0 .ins e)) (sym (n e))
       (subst (λ (b : Bool). LengthWritten b x (t .0 .ins e) (u .0 .ins e)) (n e) (f .length-is e x l a));
@@ -155,28 +155,28 @@ tame {q} h = record {
   config = λ v a. absurd (true≢false (sym (ap writesConfig a) ∙ parted q h .1));
 }
 
-fair : {q₀ q : Access} {s t : Bk} → Tame q t → Fair q₀ s q t
+fair : {q₀ q : Access} {s t : Bk} → Tame q t → WritesAsClaimed q₀ s q t
 fair h = record {
   length-is = λ e x l a. absurd (true≢false (sym (ap writesLength a ∙ lt-ltb 0 e l) ∙ h .wordless));
   config = h .config;
 }
 
-data Calm {A : Type 0} : tree.Out Bk A → Type 0 where
-  c-end : {t : Bk} {a : A} → Calm (ends a t)
-  c-ask : {q : Access} {t : Bk} {k : ℕ → Bk → tree.Out Bk A} → Tame q t → ((v : ℕ) (u : Bk) → Calm (k v u))
-      → Calm (asks q t k)
+data TameAccesses {A : Type 0} : tree.Out Bk A → Type 0 where
+  c-end : {t : Bk} {a : A} → TameAccesses (ends a t)
+  c-ask : {q : Access} {t : Bk} {k : ℕ → Bk → tree.Out Bk A} → Tame q t → ((v : ℕ) (u : Bk) → TameAccesses (k v u))
+      → TameAccesses (asks q t k)
 
-calm-bind : {A B : Type 0} {o : tree.Out Bk A} {f : A → Bk → tree.Out Bk B} → Calm o → ((a : A) (t : Bk) → Calm (f a t))
-    → Calm (bindOut o f)
+calm-bind : {A B : Type 0} {o : tree.Out Bk A} {f : A → Bk → tree.Out Bk B} → TameAccesses o → ((a : A) (t : Bk) → TameAccesses (f a t))
+    → TameAccesses (bindOut o f)
 calm-bind c-end g = g _ _
 calm-bind (c-ask h k) g = c-ask h (λ v u. calm-bind (k v u) g)
 
-of-calm : {A : Type 0} {q₀ : Access} {s : Bk} {o : tree.Out Bk A} → Calm o → Worded Any q₀ s o
+of-calm : {A : Type 0} {q₀ : Access} {s : Bk} {o : tree.Out Bk A} → TameAccesses o → Worded Any q₀ s o
 of-calm c-end = w-end tt
 of-calm (c-ask h k) = w-ask (fair h) (λ v u. of-calm (k v u))
 
 w-then : {A B : Type 0} {q₀ : Access} {s : Bk} {o : tree.Out Bk A} {f : A → Bk → tree.Out Bk B}
-    → Worded Any q₀ s o → ((a : A) (t : Bk) → Calm (f a t)) → Worded Any q₀ s (bindOut o f)
+    → Worded Any q₀ s o → ((a : A) (t : Bk) → TameAccesses (f a t)) → Worded Any q₀ s (bindOut o f)
 w-then (w-end p) g = of-calm (g _ _)
 w-then (w-ask f k) g = w-ask f (λ v u. w-then (k v u) g)
 
@@ -195,7 +195,7 @@ abbrev valueOf : Access → ℕ
 valueOf q = onWrite (λ r e v. v) 0 q
 
 -- the length of the first, just after its address
-own-length : (e : ℕ) (t : Bk) → Fair (Transmit e 0) t (Write EpTLen e (length (first (t .0 .ins e .waiting)))) t
+own-length : (e : ℕ) (t : Bk) → WritesAsClaimed (Transmit e 0) t (Write EpTLen e (length (first (t .0 .ins e .waiting)))) t
 own-length e t = record {
   length-is = λ f x l a.
       subst (λ (f : ℕ). LengthWritten (eqb (f % 16) (e % 16)) x (t .0 .ins f) (t .0 .ins f)) (ap endpointOf a)
@@ -210,7 +210,7 @@ none-waits (b ∷ w) h = absurd (true≢false h)
 
 -- where none is left
 no-length : {q₀ : Access} (e : ℕ) (s : Bk) → Unsent q₀ → some (passed e s .0 .ins e .waiting) ≡ false
-    → Fair q₀ s (Write EpTLen e 0) (passed e s)
+    → WritesAsClaimed q₀ s (Write EpTLen e 0) (passed e s)
 no-length {q₀} e s n none = record {
   length-is = λ f x l a.
       subst (λ (f : ℕ). LengthWritten (sendsTo q₀ f) x (s .0 .ins f) (passed e s .0 .ins f)) (ap endpointOf a)
@@ -318,12 +318,12 @@ row-tame bus-reset (suc zero) s = tame refl
 row-tame bus-reset (suc (suc zero)) s = tame refl
 row-tame bus-reset (suc (suc (suc n))) s = record { wordless = refl; config = λ v a. ap valueOf a }
 
-calm-rows : {A : Type 0} (g : Burst) (n : ℕ) {k : Bk → tree.Out Bk A} → ((t : Bk) → Calm (k t)) → (s : Bk)
-    → Calm (rows bookOps g n k s)
+calm-rows : {A : Type 0} (g : Burst) (n : ℕ) {k : Bk → tree.Out Bk A} → ((t : Bk) → TameAccesses (k t)) → (s : Bk)
+    → TameAccesses (rows bookOps g n k s)
 calm-rows g zero h s = c-ask (row-tame g zero s) (λ v t. h t)
 calm-rows g (suc n) h s = c-ask (row-tame g (suc n) s) (λ v t. calm-rows g n h t)
 
-calm : {A : Type 0} {p : Script false A} → Unworded A p → (s : Bk) → Calm (run bookOps p s)
+calm : {A : Type 0} {p : Script false A} → Unworded A p → (s : Bk) → TameAccesses (run bookOps p s)
 calm u-ret s = c-end
 calm (u-bind h g) s = calm-bind (calm h s) (λ a t. calm (g a) t)
 calm (u-test {b = true} h g) s = calm h s
@@ -376,7 +376,7 @@ loads (l-load {e = e}) n s = load false e s n (some (passed e s .0 .ins e .waiti
 -- ---- from its first access on; x: the driver's answer, of which the book is told
 
 abbrev Free : (A : Type 0) → Script false A → Type 1
-Free A p = Silent (λ q. true) A p
+Free A p = HandsOutNothing (λ q. true) A p
 
 -- one whose first access may be a length, and that writes none after it
 data Heads : (A : Type 0) → Script false A → Type 1 where
@@ -405,7 +405,7 @@ module _ (x : Ans Answer) where
   headed (asks q t k) (w-ask f g) = (f .config, λ _ v b. w-weaker (g v _))
 
   headed-bind : {A B : Type 0} (o : tree.Out Bk A) {f : A → Bk → tree.Out Bk B} → Headed o
-      → ((a : A) (t : Bk) → Calm (f a t))
+      → ((a : A) (t : Bk) → TameAccesses (f a t))
       → Headed (bindOut o f)
   headed-bind (ends a t) {f} h g = headed (f a t) (of-calm {q₀ = Callback} {s = t} (g a t))
   headed-bind (asks q t k) h g = (h .0, λ same v b. w-then (h .1 same v b) g)
@@ -424,7 +424,7 @@ module _ (x : Ans Answer) where
       accessOf (handed q) = q
       accessOf (told n) = Callback
 
-  place-length : (e : ℕ) (u : Bk) → u .0 .ins e .load ≡ false → Fair (Transmit e 0) u (Write EpTLen e 0) u
+  place-length : (e : ℕ) (u : Bk) → u .0 .ins e .load ≡ false → WritesAsClaimed (Transmit e 0) u (Write EpTLen e 0) u
   place-length e u h = record {
     length-is = λ f y l a.
         subst (λ (f : ℕ). LengthWritten (eqb (f % 16) (e % 16)) y (u .0 .ins f) (u .0 .ins f)) (ap endpointOf a)
@@ -580,7 +580,7 @@ of-other (BeginAcceptSetAddress a) = calmly (BeginAcceptSetAddress a) (search un
 -- ---- one call
 
 -- what is left of the operation under way. Nothing changes the book while another than the interrupt is under way
-abbrev WayWorded : Known → Way Answer Pages → Pages → Type 0
+abbrev WayWorded : Known → Pending Answer Pages → Pages → Type 0
 WayWorded f idle t = Unit {0}
 WayWorded f (busy true a k) t = (v : ℕ) (u : Bk) → Worded Any (f .asked) u (k v u)
 WayWorded f (busy false a k) t = (v : ℕ) (b : Buf) → Worded Any (f .asked) (t, b) (k v (t, b))
@@ -590,7 +590,7 @@ module _ (x : Ans Answer) where
   halts i o = halt calls (book .driver) (fed book x) i o
 
   abbrev Stays : Call Config Op → Known → Ans Answer × Machine Answer Pages → Type 0
-  Stays c f y = blankA x ≡ blankA (y .0) → WayWorded (learnt c (y .0) f) (y .1 .way) (y .1 .st)
+  Stays c f y = blankA x ≡ blankA (y .0) → WayWorded (learnt c (y .0) f) (y .1 .under-way) (y .1 .st)
 
   -- a call that begins an operation or goes on with one
   abbrev Tells : Call Config Op → Known → Type 0
@@ -626,73 +626,77 @@ module _ (x : Ans Answer) where
       halted (begin (aside o)) f (λ q. refl) (run bookOps (asideCode o) s) (heads x (h-unworded (of-aside o)) s)
 
   passing : (f : Known) (o : Aside) (n : Machine Answer Pages) (a : Awaits) (k : ℕ → Bk → tree.Out Bk Answer)
-      → n .way ≡ busy true a k
+      → n .under-way ≡ busy true a k
       → (z : tree.Out Bk Answer) → WayWorded f (busy true a k) (n .st)
-      → Stays (begin (aside o)) f (beside calls (book .driver) n z)
-  passing f o n a k p (ends z u) h = λ _. subst (λ (w : Way Answer Pages). WayWorded f w (u .0)) (sym p) h
-  passing f o n a k p (asks q u g) h = λ _. subst (λ (w : Way Answer Pages). WayWorded f w (n .st)) (sym p) h
+      → Stays (begin (aside o)) f (duringInterrupt calls (book .driver) n z)
+  passing f o n a k p (ends z u) h = λ _. subst (λ (w : Pending Answer Pages). WayWorded f w (u .0)) (sym p) h
+  passing f o n a k p (asks q u g) h = λ _. subst (λ (w : Pending Answer Pages). WayWorded f w (n .st)) (sym p) h
 
-  begun-worded : (f : Known) (o : Op) (n : Machine Answer Pages) (w : Way Answer Pages) → n .way ≡ w → (l : Buf)
+  begun-worded : (f : Known) (o : Op) (n : Machine Answer Pages) (w : Pending Answer Pages) → n .under-way ≡ w
+      → (l : Buf)
       → WayWorded f w (n .st)
       → Stays (begin o) f (begun calls (book .driver) (fed book x) o n w l)
   begun-worded f o n idle p l h = begin-idle o f (n .st, l)
   begun-worded f interrupt n (busy true a k) p l h =
-      λ _. subst (λ (w : Way Answer Pages). WayWorded f w (n .st)) (sym p) h
+      λ _. subst (λ (w : Pending Answer Pages). WayWorded f w (n .st)) (sym p) h
   begun-worded f (slotted o) n (busy true a k) p l h =
-      λ _. subst (λ (w : Way Answer Pages). WayWorded f w (n .st)) (sym p) h
+      λ _. subst (λ (w : Pending Answer Pages). WayWorded f w (n .st)) (sym p) h
   begun-worded f (other o) n (busy true a k) p l h =
-      λ _. subst (λ (w : Way Answer Pages). WayWorded f w (n .st)) (sym p) h
+      λ _. subst (λ (w : Pending Answer Pages). WayWorded f w (n .st)) (sym p) h
   begun-worded f (aside o) n (busy true a k) p l h =
       passing f o (lentTo calls (book .driver) n l) a k p (run bookOps (asideCode o) (n .st, l)) h
-  begun-worded f o n (busy false a k) p l h = λ _. subst (λ (w : Way Answer Pages). WayWorded f w (n .st)) (sym p) h
+  begun-worded f o n (busy false a k) p l h = λ _. subst (λ (w : Pending Answer Pages). WayWorded f w (n .st)) (sym p) h
 
-  continued-worded : (f : Known) (v : ℕ) (n : Machine Answer Pages) (w : Way Answer Pages) → n .way ≡ w → (l : Buf)
+  continued-worded : (f : Known) (v : ℕ) (n : Machine Answer Pages) (w : Pending Answer Pages) → n .under-way ≡ w
+      → (l : Buf)
       → WayWorded f w (n .st)
-      → Stays (go v) f (continued calls (book .driver) (fed book x) v n w l)
-  continued-worded f v n idle p l h = λ _. subst (λ (w : Way Answer Pages). WayWorded f w (n .st)) (sym p) tt
+      → Stays (continue v) f (continued calls (book .driver) (fed book x) v n w l)
+  continued-worded f v n idle p l h = λ _. subst (λ (w : Pending Answer Pages). WayWorded f w (n .st)) (sym p) tt
   continued-worded f v n (busy true a k) p l h =
-      either (go v) f (over calls a v) (stay calls (book .driver) 16 (lentTo calls (book .driver) n l))
+      either (continue v) f (over calls a v) (stay calls (book .driver) 16 (lentTo calls (book .driver) n l))
       (halts true (k v (n .st, l)))
-      (λ _. subst (λ (w : Way Answer Pages). WayWorded f w (n .st)) (sym p) h)
-      (halted-interrupt (go v) f (λ q. refl) (k v (n .st, l)) (h v (n .st, l)))
+      (λ _. subst (λ (w : Pending Answer Pages). WayWorded f w (n .st)) (sym p) h)
+      (halted-interrupt (continue v) f (λ q. refl) (k v (n .st, l)) (h v (n .st, l)))
   continued-worded f v n (busy false a k) p l h =
-      either (go v) f (over calls a v) (stay calls (book .driver) 16 (lentTo calls (book .driver) n l))
+      either (continue v) f (over calls a v) (stay calls (book .driver) 16 (lentTo calls (book .driver) n l))
       (halts false (k v (n .st, l)))
-      (λ _. subst (λ (w : Way Answer Pages). WayWorded f w (n .st)) (sym p) h)
-      (halted (go v) f (λ q. refl) (k v (n .st, l)) (headed x (k v (n .st, l)) (h v l)))
+      (λ _. subst (λ (w : Pending Answer Pages). WayWorded f w (n .st)) (sym p) h)
+      (halted (continue v) f (λ q. refl) (k v (n .st, l)) (headed x (k v (n .st, l)) (h v l)))
 
-  started-worded : (f : Known) (g : Config) (r : ℕ) (n : Machine Answer Pages) (l : Buf) → WayWorded f (n .way) (n .st)
+  started-worded : (f : Known) (g : Config) (r : ℕ) (n : Machine Answer Pages) (l : Buf)
+      → WayWorded f (n .under-way) (n .st)
       → Stays (start g) f (started calls (book .driver) (fed book x) g r n l)
   started-worded f g zero n l h =
       halted (start g) f (λ q. refl) (run bookOps (starting g) (freshPages g, l))
       (heads x (h-unworded (of-starting g)) (freshPages g, l))
   started-worded f g (suc r) n l h = λ _. h
 
-  call-worded : (c : Call Config Op) (f : Known) (n : Machine Answer Pages) (l : Buf) → WayWorded f (n .way) (n .st)
-      → Stays c f (written x c n l)
+  call-worded : (c : Call Config Op) (f : Known) (n : Machine Answer Pages) (l : Buf)
+      → WayWorded f (n .under-way) (n .st)
+      → Stays c f (bookStep x c n l)
   call-worded (start g) f n l h = started-worded f g (startRow g l) n l h
   call-worded (begin o) f n l h =
       either (begin o) f (cond (calls .slots o) (misfit calls (book .driver) (n .st) l) false)
-      (stay calls (book .driver) 1 n) (begun calls (book .driver) (fed book x) o n (n .way) l) (λ _. h)
-      (begun-worded f o n (n .way) refl l h)
-  call-worded (go v) f n l h = either (go v) f (misfit calls (book .driver) (n .st) l)
-      (stay calls (book .driver) 1 n) (continued calls (book .driver) (fed book x) v n (n .way) l) (λ _. h)
-      (continued-worded f v n (n .way) refl l h)
+      (stay calls (book .driver) 1 n) (begun calls (book .driver) (fed book x) o n (n .under-way) l) (λ _. h)
+      (begun-worded f o n (n .under-way) refl l h)
+  call-worded (continue v) f n l h = either (continue v) f (misfit calls (book .driver) (n .st) l)
+      (stay calls (book .driver) 1 n) (continued calls (book .driver) (fed book x) v n (n .under-way) l) (λ _. h)
+      (continued-worded f v n (n .under-way) refl l h)
   call-worded (question q) f n l h = λ _. h
 
 -- an answer but for its address tells the same
 learnt-same : (c : Call Config Op) (f : Known) (a b : Ans Answer) → blankA a ≡ blankA b → learnt c a f ≡ learnt c b f
 learnt-same (start c) f = tells-same (λ z. learnt (start c) z f) (λ _ _. refl, λ _ _. refl, λ _. refl)
 learnt-same (begin o) f = tells-same (λ z. learnt (begin o) z f) (λ _ _. refl, λ _ _. refl, λ _. refl)
-learnt-same (go v) f = tells-same (λ z. learnt (go v) z f) (λ _ _. refl, λ _ _. refl, λ _. refl)
+learnt-same (continue v) f = tells-same (λ z. learnt (continue v) z f) (λ _ _. refl, λ _ _. refl, λ _. refl)
 learnt-same (question q) f = λ _ _ _. refl
 
 worded-on : (x : Ans Answer) (c : Call Config Op) (f : Known) (n : Machine Answer Pages) (l : Buf)
-    → blankA x ≡ blankA (written x c n l .0) → WayWorded f (n .way) (n .st)
-    → let y = written x c n l in WayWorded (learnt c x f) (y .1 .way) (y .1 .st)
+    → blankA x ≡ blankA (bookStep x c n l .0) → WayWorded f (n .under-way) (n .st)
+    → let y = bookStep x c n l in WayWorded (learnt c x f) (y .1 .under-way) (y .1 .st)
 worded-on x c f n l same h =
-    let y = written x c n l in
-    subst (λ (g : Known). WayWorded g (y .1 .way) (y .1 .st)) (learnt-same c f (y .0) x (sym same))
+    let y = bookStep x c n l in
+    subst (λ (g : Known). WayWorded g (y .1 .under-way) (y .1 .st)) (learnt-same c f (y .0) x (sym same))
     (call-worded x c f n l h same)
 
 -- the length that a continue writes
@@ -727,15 +731,17 @@ module _ (a : Ans Answer) (e x v : ℕ) (f : Known) (n : Machine Answer Pages) (
   wide true y h = no-end (Refused 16)
   wide false y h = h
 
-  by-way : (w : Way Answer Pages) → WayWorded f w (n .st) → Length (continued calls (book .driver) (fed book a) v n w l)
+  by-way : (w : Pending Answer Pages) → WayWorded f w (n .st)
+      → Length (continued calls (book .driver) (fed book a) v n w l)
   by-way idle h = no-end (Refused 15)
   by-way (busy true q k) h = wide (over calls q v) _ (length-of true (k v (n .st, l)) (h v (n .st, l)))
   by-way (busy false q k) h = wide (over calls q v) _ (length-of false (k v (n .st, l)) (h v l))
 
-  fits : WayWorded f (n .way) (n .st) → (u : Bool)
-      → Length (cond u (stay calls (book .driver) 1 n) (continued calls (book .driver) (fed book a) v n (n .way) l))
+  fits : WayWorded f (n .under-way) (n .st) → (u : Bool)
+      → Length (cond u (stay calls (book .driver) 1 n)
+      (continued calls (book .driver) (fed book a) v n (n .under-way) l))
   fits h true = no-end (Refused 1)
-  fits h false = by-way (n .way) h
+  fits h false = by-way (n .under-way) h
 
 -- an access with no address is the book's too
 same-write : (z a : Ans Answer) (r : Reg) (e x : ℕ) → blankA a ≡ blankA z → a ≡ handed (Write r e x)
@@ -769,16 +775,16 @@ same-write z a r e x same is = unblank z (sym same ∙ ap blankA is)
     unblank (handed Callback) g = g
 
 load-length : (c : Call Config Op) (a : Ans Answer) (f : Known) (n : Machine Answer Pages)
-    → WayWorded f (n .way) (n .st) → (l : Buf)
-    → blankA a ≡ blankA (written a c n l .0) → (e x v : ℕ) → 0 < e → c ≡ go v → a ≡ handed (Write EpTLen e x)
-    → LengthWritten (sendsTo (f .asked) e) x (n .st .ins e) (written a c n l .1 .st .ins e)
+    → WayWorded f (n .under-way) (n .st) → (l : Buf)
+    → blankA a ≡ blankA (bookStep a c n l .0) → (e x v : ℕ) → 0 < e → c ≡ continue v → a ≡ handed (Write EpTLen e x)
+    → LengthWritten (sendsTo (f .asked) e) x (n .st .ins e) (bookStep a c n l .1 .st .ins e)
 load-length c a f n h l same e x v one goes is =
-    subst (λ (c : Call Config Op). blankA a ≡ blankA (written a c n l .0)
-    → LengthWritten (sendsTo (f .asked) e) x (n .st .ins e) (written a c n l .1 .st .ins e)) (sym goes)
+    subst (λ (c : Call Config Op). blankA a ≡ blankA (bookStep a c n l .0)
+    → LengthWritten (sendsTo (f .asked) e) x (n .st .ins e) (bookStep a c n l .1 .st .ins e)) (sym goes)
     (λ same. fits a e x v f n l one h (misfit calls (book .driver) (n .st) l)
-    (same-write (written a (go v) n l .0) a EpTLen e x same is) is) same
+    (same-write (bookStep a (continue v) n l .0) a EpTLen e x same is) is) same
 
--- ep_config is kept as it is written
+-- ep_config is kept as it is bookStep
 module _ (x : Ans Answer) (v : ℕ) where
   abbrev Keeps : Ans Answer × Machine Answer Pages → Type 0
   Keeps y = y .0 ≡ handed (Write EpConfig 0 v) → y .1 .st .kept .globals .«ep_config» ≡ v
@@ -801,12 +807,12 @@ module _ (x : Ans Answer) (v : ℕ) where
   asked-keeps i q t k c h = ap (λ (k : Kept). k .globals .«ep_config») (fed-kept x (t .0)) ∙ c v (ap access h)
 
   headed-keeps : (o : tree.Out Bk Answer) → Headed x o → Keeps (halt calls (book .driver) (fed book x) false o)
-  headed-keeps (ends z t) h = ended-keeps z (record { way = idle; st = t .0; buf = t .1 })
+  headed-keeps (ends z t) h = ended-keeps z (record { under-way = idle; st = t .0; buf = t .1 })
   headed-keeps (asks q t k) h = asked-keeps false q t k (h .0)
 
   worded-keeps : {P : Access → Type 0} {q₀ : Access} {s : Bk} (i : Bool) (o : tree.Out Bk Answer) → Worded P q₀ s o
       → Keeps (halt calls (book .driver) (fed book x) i o)
-  worded-keeps i (ends z t) w = ended-keeps z (record { way = idle; st = t .0; buf = t .1 })
+  worded-keeps i (ends z t) w = ended-keeps z (record { under-way = idle; st = t .0; buf = t .1 })
   worded-keeps i (asks q t k) (w-ask f g) = asked-keeps i q t k (f .config)
 
   either-keeps : (u : Bool) (y z : Ans Answer × Machine Answer Pages) → Keeps y → Keeps z → Keeps (cond u y z)
@@ -824,18 +830,18 @@ module _ (x : Ans Answer) (v : ℕ) where
   begins-keep (other o) s = headed-keeps (run bookOps (otherCode o) s) (of-other o s x)
   begins-keep (aside o) s = headed-keeps (run bookOps (asideCode o) s) (heads x (h-unworded (of-aside o)) s)
 
-  beside-keeps : (m : Machine Answer Pages) (z : tree.Out Bk Answer) → Keeps (beside calls (book .driver) m z)
-  beside-keeps m (ends z u) = ended-keeps z (record { way = m .way; st = u .0; buf = u .1 })
+  beside-keeps : (m : Machine Answer Pages) (z : tree.Out Bk Answer) → Keeps (duringInterrupt calls (book .driver) m z)
+  beside-keeps m (ends z u) = ended-keeps z (record { under-way = m .under-way; st = u .0; buf = u .1 })
   beside-keeps m (asks q u g) = stays-keeps 3 m
 
-  begun-keeps : (o : Op) (n : Machine Answer Pages) (l : Buf) (w : Way Answer Pages)
+  begun-keeps : (o : Op) (n : Machine Answer Pages) (l : Buf) (w : Pending Answer Pages)
       → Keeps (begun calls (book .driver) (fed book x) o n w l)
   begun-keeps o n l idle = begins-keep o (n .st, l)
   begun-keeps o n l (busy i a k) = either-keeps (cond i (calls .aside o) false) _ _
       (beside-keeps (lentTo calls (book .driver) n l) (run bookOps (code o) (n .st, l)))
       (stays-keeps 3 (lentTo calls (book .driver) n l))
 
-  continued-keeps : (u : ℕ) (f : Known) (n : Machine Answer Pages) (l : Buf) (w : Way Answer Pages)
+  continued-keeps : (u : ℕ) (f : Known) (n : Machine Answer Pages) (l : Buf) (w : Pending Answer Pages)
       → WayWorded f w (n .st)
       → Keeps (continued calls (book .driver) (fed book x) u n w l)
   continued-keeps u f n l idle h = stays-keeps 15 (lentTo calls (book .driver) n l)
@@ -852,13 +858,14 @@ module _ (x : Ans Answer) (v : ℕ) where
       headed-keeps (run bookOps (starting g) (freshPages g, l)) (heads x (h-unworded (of-starting g)) (freshPages g, l))
   started-keeps g (suc r) n l = stays-keeps (suc r) n
 
-  call-keeps : (c : Call Config Op) (f : Known) (n : Machine Answer Pages) (l : Buf) → WayWorded f (n .way) (n .st)
-      → Keeps (written x c n l)
+  call-keeps : (c : Call Config Op) (f : Known) (n : Machine Answer Pages) (l : Buf)
+      → WayWorded f (n .under-way) (n .st)
+      → Keeps (bookStep x c n l)
   call-keeps (start g) f n l h = started-keeps g (startRow g l) n l
   call-keeps (begin o) f n l h = either-keeps (cond (calls .slots o) (misfit calls (book .driver) (n .st) l) false) _ _
-      (stays-keeps 1 n) (begun-keeps o n l (n .way))
-  call-keeps (go u) f n l h = either-keeps (misfit calls (book .driver) (n .st) l) _ _ (stays-keeps 1 n)
-      (continued-keeps u f n l (n .way) h)
+      (stays-keeps 1 n) (begun-keeps o n l (n .under-way))
+  call-keeps (continue u) f n l h = either-keeps (misfit calls (book .driver) (n .st) l) _ _ (stays-keeps 1 n)
+      (continued-keeps u f n l (n .under-way) h)
   call-keeps (question q) f n l h = λ k. absurd (true≢false (sym (ap isHanded k)))
     where
       isHanded : Ans Answer → Bool
@@ -867,71 +874,71 @@ module _ (x : Ans Answer) (v : ℕ) where
       isHanded (told n) = false
 
 config-kept : (c : Call Config Op) (a : Ans Answer) (f : Known) (n : Machine Answer Pages)
-    → WayWorded f (n .way) (n .st) → (l : Buf)
-    → blankA a ≡ blankA (written a c n l .0) → (v : ℕ) → a ≡ handed (Write EpConfig 0 v)
-    → written a c n l .1 .st .kept .globals .«ep_config» ≡ v
-config-kept c a f n h l same v is = call-keeps a v c f n l h (same-write (written a c n l .0) a EpConfig 0 v same is)
+    → WayWorded f (n .under-way) (n .st) → (l : Buf)
+    → blankA a ≡ blankA (bookStep a c n l .0) → (v : ℕ) → a ≡ handed (Write EpConfig 0 v)
+    → bookStep a c n l .1 .st .kept .globals .«ep_config» ≡ v
+config-kept c a f n h l same v is = call-keeps a v c f n l h (same-write (bookStep a c n l .0) a EpConfig 0 v same is)
 
 -- ---- every list of calls
 
-each : (ms : List Made) (xs : List ℕ) (a : Buf) {φ : Phase} (n : Machine Answer Pages) (f : Known)
-    → Ways driverOf book agree calls φ (machineOf xs a .way) (n .way) → Coupling φ a (view xs) (n .st)
-    → WayWorded f (n .way) (n .st)
+each : (ms : List CallRecord) (xs : List ℕ) (a : Buf) {φ : Phase} (n : Machine Answer Pages) (f : Known)
+    → Ways driverOf book agree calls φ (machineOf xs a .under-way) (n .under-way) → Coupling φ a (view xs) (n .st)
+    → WayWorded f (n .under-way) (n .st)
     → page.Calls xs a n ms → WritesEach n f ms
 each [] xs a n f w R t p = tt
 each (m ∷ ms) xs a n f w R t p =
     let c = m .event .call in
     let l = m .event .lent in
-    let k : After driverOf book agree calls (m .answer, machineOf (m .bytes) (m .slots)) (page.noted m n)
+    let k : After driverOf book agree calls (m .answer, machineOf (m .bytes) (m .slots)) (page.bookAfter m n)
     =
-    subst (λ (x : Ans Answer × Machine Answer Driver). After driverOf book agree calls x (written (x .0) c n l))
+    subst (λ (x : Ans Answer × Machine Answer Driver). After driverOf book agree calls x (bookStep (x .0) c n l))
     (sym (p .0))
     (agrees driverOf book agree calls fresh-kept c l (machineOf xs a) n w R
     (lent-is (machineOf xs a) n R l c (p .1))) in (
       load-length c (m .answer) f n t l (k .same),
       config-kept c (m .answer) f n t l (k .same),
-      each ms (m .bytes) (m .slots) (page.noted m n .1) (learnt c (m .answer) f) (k .ways) (k .rest)
+      each ms (m .bytes) (m .slots) (page.bookAfter m n .1) (learnt c (m .answer) f) (k .ways) (k .rest)
           (worded-on (m .answer) c f n l (k .same) t) (p .2),
     )
 
 pub writes : (c : Config) (b : Buf) → startRow c b ≡ zero
-    → (xs : List ℕ) (a : Buf) (n : Machine Answer Pages) (first : Made)
-    → first .event ≡ record { call = start c; lent = b } → (ms : List Made) → page.Calls xs a n (first ∷ ms)
+    → (xs : List ℕ) (a : Buf) (n : Machine Answer Pages) (first : CallRecord)
+    → first .event ≡ record { call = start c; lent = b } → (ms : List CallRecord) → page.Calls xs a n (first ∷ ms)
     → (f : Known)
-    → ConfigKept first n × WritesEach (page.noted first n .1) (learnt (first .event .call) (first .answer) f) ms
+    → ConfigKept first n × WritesEach (page.bookAfter first n .1) (learnt (first .event .call) (first .answer) f) ms
 writes c b row xs a n first is ms p f = (
-  subst (λ (e : Event Config Op). blankA (first .answer) ≡ blankA (written (first .answer) (e .call) n (e .lent) .0)
+  subst (λ (e : Event Config Op). blankA (first .answer) ≡ blankA (bookStep (first .answer) (e .call) n (e .lent) .0)
       → (v : ℕ) → first .answer ≡ handed (Write EpConfig 0 v)
-      → written (first .answer) (e .call) n (e .lent) .1 .st .kept .globals .«ep_config» ≡ v) (sym is)
+      → bookStep (first .answer) (e .call) n (e .lent) .1 .st .kept .globals .«ep_config» ≡ v) (sym is)
       (λ same v g. started-keeps (first .answer) v c (startRow c b) n b
-      (same-write (written (first .answer) (start c) n b .0) (first .answer) EpConfig 0 v same g)) (begun′ .same),
-  each ms (first .bytes) (first .slots) (page.noted first n .1) (learnt (first .event .call) (first .answer) f)
+      (same-write (bookStep (first .answer) (start c) n b .0) (first .answer) EpConfig 0 v same g)) (begun′ .same),
+  each ms (first .bytes) (first .slots) (page.bookAfter first n .1) (learnt (first .event .call) (first .answer) f)
       (begun′ .ways) (begun′ .rest) worded (p .2),
 )
   where
     begun′ : After driverOf book agree calls (first .answer, machineOf (first .bytes) (first .slots))
-        (page.noted first n)
+        (page.bookAfter first n)
     begun′ = subst (λ (x : Ans Answer × Machine Answer Driver).
-        After driverOf book agree calls x (written (x .0) (first .event .call) n (first .event .lent)))
+        After driverOf book agree calls x (bookStep (x .0) (first .event .call) n (first .event .lent)))
         (sym (p .0)) (subst (λ (v : Event Config Op). let x = drive (v .call) (machineOf xs a) (v .lent) in
-        After driverOf book agree calls x (written (x .0) (v .call) n (v .lent))) (sym is)
+        After driverOf book agree calls x (bookStep (x .0) (v .call) n (v .lent))) (sym is)
         (rw row (from-start driverOf book agree calls fresh-kept c b row [] (machineOf xs a) n tt .0)))
 
-    fresh : blankA (first .answer) ≡ blankA (written (first .answer) (start c) n b .0)
-        → WayWorded (learnt (start c) (first .answer) f) (written (first .answer) (start c) n b .1 .way)
-        (written (first .answer) (start c) n b .1 .st)
+    fresh : blankA (first .answer) ≡ blankA (bookStep (first .answer) (start c) n b .0)
+        → WayWorded (learnt (start c) (first .answer) f) (bookStep (first .answer) (start c) n b .1 .under-way)
+        (bookStep (first .answer) (start c) n b .1 .st)
     fresh same =
-        let y = written (first .answer) (start c) n b in
-        subst (λ (g : Known). WayWorded g (y .1 .way) (y .1 .st))
+        let y = bookStep (first .answer) (start c) n b in
+        subst (λ (g : Known). WayWorded g (y .1 .under-way) (y .1 .st))
         (learnt-same (start c) f (y .0) (first .answer) (sym same))
         (subst (λ (r : ℕ). Stays (first .answer) (start c) f
         (started calls (book .driver) (fed book (first .answer)) c r n b)) (sym row)
-        (started-worded (first .answer) f c zero (record { way = idle; st = n .st; buf = n .buf }) b tt) same)
+        (started-worded (first .answer) f c zero (record { under-way = idle; st = n .st; buf = n .buf }) b tt) same)
 
-    worded : WayWorded (learnt (first .event .call) (first .answer) f) (page.noted first n .1 .way)
-        (page.noted first n .1 .st)
+    worded : WayWorded (learnt (first .event .call) (first .answer) f) (page.bookAfter first n .1 .under-way)
+        (page.bookAfter first n .1 .st)
     worded =
         subst (λ (v : Event Config Op). blankA (first .answer) ≡ blankA
-        (written (first .answer) (v .call) n (v .lent) .0)
-        → WayWorded (learnt (v .call) (first .answer) f) (written (first .answer) (v .call) n (v .lent) .1 .way)
-        (written (first .answer) (v .call) n (v .lent) .1 .st)) (sym is) fresh (begun′ .same)
+        (bookStep (first .answer) (v .call) n (v .lent) .0)
+        → WayWorded (learnt (v .call) (first .answer) f) (bookStep (first .answer) (v .call) n (v .lent) .1 .under-way)
+        (bookStep (first .answer) (v .call) n (v .lent) .1 .st)) (sym is) fresh (begun′ .same)

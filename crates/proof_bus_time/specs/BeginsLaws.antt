@@ -35,9 +35,10 @@ use Rattle.proof_bus_time.specs.Enabled.{isEnabled, begins}
 use Rattle.proof_bus_time.specs.Charged.{Begun, enables, disables, polls-bus, neither, opBegun}
 use Rattle.proof_bus_time.specs.Charged.{givenBack}
 use Rattle.proof_bus_time.specs.StaysLaws.{configOf, Stays, act-stays}
-use Rattle.proof_bus_time.specs.Calm.{Quiet, Calm}
+use Rattle.proof_bus_time.specs.Calm.{NotEpConfigWrite, NoEpConfigWrite}
 use Rattle.proof_bus_time.specs.CalmCallsLaws.{Manner, calm, gives, turns, polls, manner, start-up-calm}
-use Rattle.proof_bus_time.specs.LeftLaws.{Left, at-end, at-ask, left-bind, left-more, First, none, some, first-bind}
+use Rattle.proof_bus_time.specs.LeftLaws.{Left, at-end, at-ask, left-bind, left-more, First, none, some}
+use Rattle.proof_bus_time.specs.LeftLaws.{first-bind}
 use Rattle.proof_bus_time.specs.LeftLaws.{first-cond, quiet, keeps, none-keeps, calm-run, calm-first}
 use Rattle.proof_bus_time.specs.SwitchingLaws.{Due, due-stays, Ended, mine, turnsBack, switched}
 use Rattle.proof_bus_time.specs.PollingLaws.{polled}
@@ -46,7 +47,7 @@ use Rattle.proof_bus_time.specs.PollingLaws.{polled}
 
 -- an access is handed out, and it is none
 pub data Hands {A : Type 0} : tree.Out St A → Type 0 where
-  hands : {q : Access} {s : St} {k : ℕ → St → tree.Out St A} → Quiet q → Hands (asks q s k)
+  hands : {q : Access} {s : St} {k : ℕ → St → tree.Out St A} → NotEpConfigWrite q → Hands (asks q s k)
 
 first-of : {A : Type 0} {o : tree.Out St A} → Hands o → First o
 first-of (hands x) = some x
@@ -62,7 +63,8 @@ turn-hands Out e on s = by (isOn (epOn (t .0) Out e .iso))
     turn b = cond b (run concrete (row (switch e on)) t) (run concrete (bus.setEnabledOut {i = false} e on) t)
 
     by : (b : Bool) → Hands
-        (bindOut (bindOut (bindOut (turn b) (λ _ u. run concrete (wake {i = false} Out e) u)) (λ _ u. run concrete (ret {i = false} {A = ℕ} 0) u))
+        (bindOut (bindOut (bindOut (turn b) (λ _ u. run concrete (wake {i = false} Out e) u))
+        (λ _ u. run concrete (ret {i = false} {A = ℕ} 0) u))
         (λ n u. run concrete (finish n) u))
     by true = hands tt
     by false = hands tt
@@ -82,7 +84,8 @@ code-first o s = by (manner o)
     by : {o : Op} → Manner o → First (run concrete (code o) s)
     by (calm o x y) = calm-first false (code o) y s
     by (gives o x y) = calm-first true (otherCode o) y s
-    by (turns d e on) = first-cond (eqb (s .0 .globals .stage) 2) (first-cond (isAllocated (s .0 .allocator) d e) (first-of (turn-hands d e on s)) none) none
+    by (turns d e on) = first-cond (eqb (s .0 .globals .stage) 2)
+        (first-cond (isAllocated (s .0 .allocator) d e) (first-of (turn-hands d e on s)) none) none
     by polls = first-cond (eqb (s .0 .globals .stage) 2) (poll-first s) none
 
 -- ---- an endpoint's charge
@@ -97,7 +100,11 @@ module _ (dir : Dir) (e : ℕ) where
     pub early : d .globals .stage ≡ 1 → configOf d ≡ 0
 
   pub rests-stays : (c : ℕ) (d d′ : Driver) → Stays d d′ → Rests c d → Rests c d′
-  rests-stays c d d′ x r = record { due = due-stays dir e false c x (r .due); early = λ h. x .config ∙ r .early (sym (x .stage) ∙ h) }
+  rests-stays c d d′ x r = record {
+    due = due-stays dir e false c x (r .due);
+    early = λ h. x .config
+        ∙ r .early (sym (x .stage) ∙ h);
+  }
 
   ended-rests : (c : ℕ) (d : Driver) → Ended dir e c d → Rests c d
   ended-rests c d x = record { due = x .0; early = λ h. absurd (omega (arith, h, x .1)) }
@@ -106,7 +113,8 @@ module _ (dir : Dir) (e : ℕ) where
   pub none-rests : (d : Driver) → configOf d ≡ 0 → Rests 0 d
   unfolding enables.isOn
   none-rests d h = record {
-    due = sym (ap (λ (w : ℕ). cond (isSet w bit || false) (chargeOn d dir e) 0) h ∙ ap (λ (b : Bool). cond (b || false) (chargeOn d dir e) 0) (none-set bit));
+    due = sym (ap (λ (w : ℕ). cond (isSet w bit || false) (chargeOn d dir e) 0) h
+        ∙ ap (λ (b : Bool). cond (b || false) (chargeOn d dir e) 0) (none-set bit));
     early = λ _. h;
   }
 
@@ -148,7 +156,8 @@ module _ (dir : Dir) (e : ℕ) where
   opens-cond false y z = z refl
 
   -- calm scripts
-  calm-rests : {i : Bool} (back : ℕ → ℕ) (c : ℕ) (p : Script i Answer) → Calm false p → (s : St) → Rests c (s .0)
+  calm-rests : {i : Bool} (back : ℕ → ℕ) (c : ℕ) (p : Script i Answer) → NoEpConfigWrite false p → (s : St)
+      → Rests c (s .0)
       → Left bit back (Due dir e false) Rests c (run concrete p s)
   calm-rests back c p x s r =
       left-more (calm-run (keeps (rests-stays c)) bit back c (Due dir e false) (λ d k. k .due) p x s r)
@@ -158,7 +167,7 @@ module _ (dir : Dir) (e : ℕ) where
   uncharged : (c : ℕ) (d : Driver) → configOf d ≡ 0 → Rests c d → c ≡ 0
   uncharged c d h r = r .due ∙ sym (none-rests d h .due)
 
-  gives-rests : (back : ℕ → ℕ) (c : ℕ) (p : Script false Answer) → Calm true p → (s : St) → Rests c (s .0)
+  gives-rests : (back : ℕ → ℕ) (c : ℕ) (p : Script false Answer) → NoEpConfigWrite true p → (s : St) → Rests c (s .0)
       → configOf (s .0) ≡ 0 → Left bit back (Due dir e false) Rests c (run concrete p s)
   gives-rests back c p x s r h =
       let zero-is = uncharged c (s .0) h r in
@@ -170,13 +179,15 @@ module _ (dir : Dir) (e : ℕ) where
   unfolding chargeOn
   same-charge d dir′ e′ h = by dir′ dir h
     where
-      by : (x y : Dir) → place x e′ ≡ place y e → chargeOf (epOn d x e′ .kind) (epOn d x e′ .«max_len») ≡ chargeOf (epOn d y e .kind) (epOn d y e .«max_len»)
+      by : (x y : Dir) → place x e′ ≡ place y e → chargeOf (epOn d x e′ .kind) (epOn d x e′ .«max_len»)
+          ≡ chargeOf (epOn d y e .kind) (epOn d y e .«max_len»)
       by Out Out h = ap (λ (r : EpState). chargeOf (r .kind) (r .«max_len»)) (epOn-by d Out e′ e (omega (arith, h)))
       by In In h = ap (λ (r : EpState). chargeOf (r .kind) (r .«max_len»)) (epOn-by d In e′ e h)
       by Out In h = absurd (omega (arith, h))
       by In Out h = absurd (omega (arith, h))
 
-  begun-due : (dir′ : Dir) (e′ c : ℕ) (d : Driver) → Rests c d → Due dir e (mine dir e dir′ e′ true) (cond (eqb (place dir′ e′) bit) (chargeOn d dir′ e′) c) d
+  begun-due : (dir′ : Dir) (e′ c : ℕ) (d : Driver) → Rests c d
+      → Due dir e (mine dir e dir′ e′ true) (cond (eqb (place dir′ e′) bit) (chargeOn d dir′ e′) c) d
   begun-due dir′ e′ c d r = by (eqb (place dir′ e′) bit) refl (isEnabled d dir e) refl
     where
       by : (own : Bool) → eqb (place dir′ e′) bit ≡ own → (b : Bool) → isEnabled d dir e ≡ b
@@ -185,13 +196,15 @@ module _ (dir : Dir) (e : ℕ) where
       by true h false k = rw k (same-charge d dir′ e′ (eqb-true (place dir′ e′) bit h))
       by false h b k = r .due
 
-  turn-left : (dir′ : Dir) (e′ : ℕ) (on : Bool) (c : ℕ) (s : St) → Due dir e (mine dir e dir′ e′ on) c (s .0) → s .0 .globals .stage ≡ 2
+  turn-left : (dir′ : Dir) (e′ : ℕ) (on : Bool) (c : ℕ) (s : St) → Due dir e (mine dir e dir′ e′ on) c (s .0)
+      → s .0 .globals .stage ≡ 2
       → Left bit (turnsBack dir e dir′ e′ on) (Due dir e (mine dir e dir′ e′ on)) Rests c
       (run concrete (resultless (bus.setEnabled dir′ e′ on)) s)
   turn-left dir′ e′ on c s due second =
       let x = act-stays no-wakes refl s in
       left-bind
-      (left-bind (switched dir e dir′ e′ on c (concrete .act no-wakes s) (due-stays dir e (mine dir e dir′ e′ on) c x due) (x .stage ∙ second))
+      (left-bind (switched dir e dir′ e′ on c (concrete .act no-wakes s)
+      (due-stays dir e (mine dir e dir′ e′ on) c x due) (x .stage ∙ second))
       (λ g _ t y. at-end y)) (λ g _ t y. at-end (ended-rests g (t .0) y))
 
   opens-turn : (dir′ : Dir) (e′ : ℕ) (on : Bool) (c : ℕ) (was : Bool) (s : St) → Rests c (s .0)

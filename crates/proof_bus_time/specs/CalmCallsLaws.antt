@@ -1,4 +1,5 @@
--- Which calls are calm: all but the enabling and disabling of an endpoint, the bus' poll and, in stage 1, allocations. Each by the steps of its kind
+-- Which calls are calm: all but the enabling and disabling of an endpoint, the bus' poll and, in stage 1, allocations.
+-- Each by the steps of its kind
 use mathlib.Core.Bool.{Bool, true, false, not, _&&_, _||_, true≢false}
 use mathlib.Core.Path.{_≡_, refl, sym, _∙_}
 use Prim.Native.Nat.{ℕ}
@@ -31,14 +32,14 @@ use Rattle.script_ops.specs.Rings.{St}
 use Rattle.script_ops.specs.Concrete.{concrete}
 use Rattle.calls.specs.Sharing.{opSort, apart}
 use Rattle.proof_bus_time.specs.StaysLaws.{allowed}
-use Rattle.proof_bus_time.specs.Calm.{If, Quiet, Calm}
+use Rattle.proof_bus_time.specs.Calm.{When, NotEpConfigWrite, NoEpConfigWrite}
 
 -- calm, or calm but for allocations
 abbrev C : {i : Bool} {A : Type 0} → Script i A → Type 0
-C p = Calm false p
+C p = NoEpConfigWrite false p
 
 abbrev G : {i : Bool} {A : Type 0} → Script i A → Type 0
-G p = Calm true p
+G p = NoEpConfigWrite true p
 
 -- ---- the kinds of calls that are calm, or calm but for allocations
 
@@ -80,15 +81,15 @@ module _ {gives : Bool} {k : Kind} (c : Calmly gives k) where
   unless-true true f = absurd (f refl)
   unless-true false f = refl
 
-  quiet-so : (b : Bool) → b ≡ false → If (not b) (Unit {0})
+  quiet-so : (b : Bool) → b ≡ false → When (not b) (Unit {0})
   quiet-so true h = absurd (true≢false h)
   quiet-so false h = tt
 
-  quiet : (q : Access) → mayAsk k q ≡ true → Quiet q
+  quiet : (q : Access) → mayAsk k q ≡ true → NotEpConfigWrite q
   quiet q h = quiet-so (writesConfig q) (of-write (λ r e v. mayWrite k (numberOf r) v) (λ r e v. sameReg r EpConfig)
       (λ r e v m. unless-true (sameReg r EpConfig) (λ g. still (writes-config k r v m g))) q h)
 
-  quietly : (q : Access) → Asks k q → Quiet q
+  quietly : (q : Access) → Asks k q → NotEpConfigWrite q
   quietly q x = quiet q (if-true (mayAsk k q) (Unit {0}) x)
 
   acts : (q : Act) → mayAct k q ≡ true → allowed gives q ≡ true
@@ -110,12 +111,12 @@ module _ {gives : Bool} {k : Kind} (c : Calmly gives k) where
   no-row (switch e on) h = never (c .turns) h
   no-row bus-reset h = never (c .resets) h
 
-  then-so : {X : Type 0} (b : Bool) → b ≡ true → X → If b X
+  then-so : {X : Type 0} (b : Bool) → b ≡ true → X → When b X
   then-so true h x = x
   then-so false h x = absurd (true≢false (sym h))
 
   -- a script like a call of such a kind
-  steps-calm : {i : Bool} {A : Type 0} (p : Script i A) → Steps k p → Calm gives p
+  steps-calm : {i : Bool} {A : Type 0} (p : Script i A) → Steps k p → NoEpConfigWrite gives p
   steps-calm (ret a) x = tt
   steps-calm (bind p f) x = (steps-calm p (x .0), λ a. steps-calm (f a) (x .1 a))
   steps-calm (test b p q) x = (steps-calm p (x .0), steps-calm q (x .1))
@@ -131,10 +132,11 @@ module _ {gives : Bool} {k : Kind} (c : Calmly gives k) where
   steps-calm (act-then q p) x =
       then-so (allowed gives q) (acts q (if-true (mayAct k q) (Steps k p) x)) (steps-calm p (if-so (mayAct k q) x))
   steps-calm (hand-then q p) x =
-      let y : Handed k q p = if-so (not (is k queueing)) x in (λ n. quietly (dmaStepAsk q n) (y .0 n), steps-calm p (y .1))
+      let y : Handed k q p = if-so (not (is k queueing)) x in
+      (λ n. quietly (dmaStepAsk q n) (y .0 n), steps-calm p (y .1))
   steps-calm (row-then g p) x = no-row g (if-true (mayRow k g) (Steps k p) x)
 
-call-calm : (gives : Bool) (o : Op) → calmly gives (kindOf o) ≡ true → Calm gives (code o)
+call-calm : (gives : Bool) (o : Op) → calmly gives (kindOf o) ≡ true → NoEpConfigWrite gives (code o)
 call-calm gives o h = steps-calm (calm-kind gives (kindOf o) h) (code o) (call-steps o)
 
 -- ---- the calls
@@ -164,7 +166,8 @@ of-slotted (PollDataOut n) = as-apart (slotted (PollDataOut n)) refl refl
 of-slotted (BeginDataIn bs first last) = as-apart (slotted (BeginDataIn bs first last)) refl refl
 
 of-other : (o : Other) → Manner (other o)
-of-other (Allocate d kind address maximum interval) = as-given (Allocate d kind address maximum interval) (λ s h. rw h refl) refl
+of-other (Allocate d kind address maximum interval) = as-given (Allocate d kind address maximum interval)
+    (λ s h. rw h refl) refl
 of-other (AllocateAll bytes) = as-given (AllocateAll bytes) (λ s h. rw h refl) refl
 of-other (Start maximum) = as-given (Start maximum) (λ s h. rw h refl) refl
 of-other BusPoll = polls

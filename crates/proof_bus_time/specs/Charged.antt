@@ -12,7 +12,7 @@ use Rattle.state.specs.Driver.{Driver}
 use Rattle.script.specs.Answers.{Answer}
 use Rattle.script.specs.Calls.{Config, Op, interrupt, slotted, other, aside}
 use Rattle.script.specs.Kinds.{resetting, is, kindOf, Part, apart, begins, polls, turns, partOf}
-use Rattle.script.specs.Machine.{Call, start, begin, go, question, Ans, ended, handed, told}
+use Rattle.script.specs.Machine.{Call, start, begin, continue, question, Ans, ended, handed, told}
 use Rattle.calls.specs.Sharing.{chargeOn}
 use Rattle.proof_bus_time.specs.History.{Line}
 use Rattle.proof_bus_time.specs.Enabled.{writesConfig, sumOf}
@@ -39,7 +39,7 @@ opBegun (aside o) = neither
 abbrev pub began : Call Config Op → Begun → Begun
 began (start c) last = neither
 began (begin o) last = opBegun o
-began (go v) last = last
+began (continue v) last = last
 began (question q) last = last
 
 -- by any call: one that hands out none begins nothing
@@ -70,7 +70,7 @@ givenBack dir e neither charge = charge
 abbrev pub chargedHanded : Dir → ℕ → Call Config Op → Access → Driver → Begun → ℕ → ℕ
 chargedHanded dir e (start c) q d last charge = 0
 chargedHanded dir e (begin o) q d last charge = counted dir e (opBegun o) d charge
-chargedHanded dir e (go v) q d last charge = cond (writesConfig q) (givenBack dir e last charge) charge
+chargedHanded dir e (continue v) q d last charge = cond (writesConfig q) (givenBack dir e last charge) charge
 chargedHanded dir e (question x) q d last charge = charge
 
 -- after a call with this answer; a call that is refused or hands out no access changes nothing

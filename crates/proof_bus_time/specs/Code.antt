@@ -1,5 +1,6 @@
--- The same of the Rattle code: what its calls make of four drivers' lent bytes and the lent record. The contract of each call says that it is one step of
--- the machine of calls that the bytes are; that of start-up, enabling and continue, with the record (calls/specs/Sharing.antt)
+-- The same of the Rattle code: what its calls make of four drivers' lent bytes and the lent record. The contract of
+-- each call says that it is one step of the machine of calls that the bytes are; that of start-up, enabling and
+-- continue, with the record (calls/specs/Sharing.antt)
 use mathlib.Core.Bool.{cond}
 use mathlib.Core.List.{List, [], _∷_}
 use mathlib.Core.Path.{_≡_}

@@ -11,7 +11,7 @@ use Rattle.script.specs.Answers.{Answer}
 use Rattle.script.specs.Calls.{Config, Op}
 use Rattle.script.specs.Machine.{Buf, Call, Machine, idle, Ans, ended, handed, told}
 use Rattle.machine.specs.Suspended.{decode, drive, machineOf}
-use Rattle.answer.specs.Goes.{Called}
+use Rattle.answer.specs.Goes.{StepResult}
 use Rattle.bus_time.specs.Time.{inUse, uncharged}
 use Rattle.calls.specs.Sharing.{Sort, apart, sortOf, timeAfter, settled, sharedCall}
 use Rattle.proof_bus_time.specs.Four.{Four, Turn, called, next, after}
@@ -42,15 +42,15 @@ pub did-without : (l : LentFour) (x : Turn) (answer : Ans Answer) (bytes : List 
     → (answer, machineOf bytes slots) ≡ drive (x .event .call) (fourOf l .driver (x .who % 4)) (x .event .lent)
     → CallStep l (record { turn = x; answer = answer; bytes = bytes; slots = slots; time = l .time })
 did-without l x answer bytes slots h did =
-    ap (λ (z : Called). (z, l .time)) did
+    ap (λ (z : StepResult). (z, l .time)) did
     ∙ sym (leaves-record (x .who) (x .event .call) (fourOf l .driver (x .who % 4)) (l .time) (x .event .lent) h)
 
 step : (l : LentFour) (m : TurnMade) → CallStep l m → fourOf (left l m) ≡ next (m .turn) (fourOf l)
-step l m h = λ i. record { driver = λ j. drivers j i; time = ap (λ (x : Called × List ℕ). x .1) h i }
+step l m h = λ i. record { driver = λ j. drivers j i; time = ap (λ (x : StepResult × List ℕ). x .1) h i }
   where
     by : (b : Bool) (j : ℕ) → machineOf (cond b (m .bytes) (l .bytes j)) (cond b (m .slots) (l .slots j))
         ≡ cond b (called (m .turn) (fourOf l) .0 .1) (machineOf (l .bytes j) (l .slots j))
-    by true j = ap (λ (x : Called × List ℕ). x .0 .1) h
+    by true j = ap (λ (x : StepResult × List ℕ). x .0 .1) h
     by false j = refl
 
     drivers : (j : ℕ) → fourOf (left l m) .driver j ≡ next (m .turn) (fourOf l) .driver j
@@ -81,15 +81,17 @@ module _ (ms : List TurnMade) (l : LentFour) (run : Run l ms) (first : FourAtFir
   made : fourOf (last l ms) ≡ after (turns ms) (fourOf l)
   made = made-after ms l run
 
-  pub code-in-use-now : inUse (last l ms .time) ≡ countedTime (fourOf (last l ms) .driver) (history (turns ms) (fourOf l))
+  pub code-in-use-now : inUse (last l ms .time) ≡ countedTime (fourOf (last l ms) .driver)
+      (history (turns ms) (fourOf l))
   code-in-use-now = subst (λ (f : Four). inUse (f .time) ≡ countedTime (f .driver) (history (turns ms) (fourOf l)))
       (sym made) (in-use-now (turns ms) (fourOf l) first)
 
   -- with nothing under way in the four states
-  pub code-in-use-at-rest : ((i : ℕ) → i < 4 → fourOf (last l ms) .driver i .way ≡ idle)
+  pub code-in-use-at-rest : ((i : ℕ) → i < 4 → fourOf (last l ms) .driver i .under-way ≡ idle)
       → inUse (last l ms .time) ≡ enabledTime (λ i. view (last l ms .bytes i))
   code-in-use-at-rest =
-      subst (λ (f : Four). ((i : ℕ) → i < 4 → f .driver i .way ≡ idle) → inUse (f .time) ≡ enabledTime (λ i. f .driver i .st))
+      subst (λ (f : Four). ((i : ℕ) → i < 4 → f .driver i .under-way ≡ idle) → inUse (f .time)
+      ≡ enabledTime (λ i. f .driver i .st))
       (sym made) (in-use-at-rest (turns ms) (fourOf l) first)
 
   -- by the calls alone

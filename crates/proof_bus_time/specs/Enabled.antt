@@ -16,7 +16,7 @@ use Rattle.state.specs.Driver.{Driver}
 use Rattle.alloc.specs.Alloc.{takenIn}
 use Rattle.script.specs.Every.{onWrite, sameReg}
 use Rattle.script.specs.Answers.{Answer}
-use Rattle.script.specs.Machine.{Way, idle, busy, Machine, Ans, ended, handed, told}
+use Rattle.script.specs.Machine.{Pending, idle, busy, Machine, Ans, ended, handed, told}
 use Rattle.bus_time.specs.Time.{uncharged}
 use Rattle.calls.specs.Sharing.{Sort, enabling, starting, going, apart, sortOf, chargeOn}
 use Rattle.proof_bus_time.specs.Four.{Four}
@@ -54,13 +54,13 @@ lastBegun i bit [] was = was
 lastBegun i bit (l ∷ ls) was =
     lastBegun i bit ls (cond (eqb (l .who % 4) i) (beginsBy bit (sortOf (l .call)) (l .answer) was) was)
 
-abbrev pub isBusy : {A S : Type 0} → Way A S → Bool
+abbrev pub isBusy : {A S : Type 0} → Pending A S → Bool
 isBusy idle = false
 isBusy (busy i q k) = true
 
 -- driver i, whose machine is m after the history, is enabling the endpoint
 abbrev pub isEnabling : ℕ → Machine Answer Driver → List Line → Dir → ℕ → Bool
-isEnabling i m ls dir e = isBusy (m .way) && lastBegun i (place dir e) ls false
+isEnabling i m ls dir e = isBusy (m .under-way) && lastBegun i (place dir e) ls false
 
 -- the charge of the endpoints now enabled or being enabled
 abbrev pub countedTime : (ℕ → Machine Answer Driver) → List Line → ℕ
@@ -78,7 +78,8 @@ handsConfig (ended a) = false
 handsConfig (handed q) = writesConfig q
 handsConfig (told n) = false
 
--- ---- how long an endpoint's kind and maximum stay: from when its number is taken in its direction to the driver's next accepted start-up
+-- ---- how long an endpoint's kind and maximum stay: from when its number is taken in its direction to the driver's
+-- next accepted start-up
 
 abbrev pub isTaken : Driver → Dir → ℕ → Bool
 isTaken d dir e = isSet (takenIn (d .allocator) dir) (e % 16)
@@ -104,7 +105,7 @@ restarted i (l ∷ ls) = restartsAt i l || restarted i ls
 
 -- nothing is under way and no endpoint enabled, as before a first start-up
 pub record AtFirst (m : Machine Answer Driver) : Type 0 where
-  pub idles : m .way ≡ idle
+  pub idles : m .under-way ≡ idle
   pub none : m .st .globals .«ep_config» ≡ 0
 
 -- four such drivers, and an uncharged record

@@ -7,7 +7,7 @@ use Rattle.state.specs.Driver.{Driver}
 use Rattle.script.specs.Answers.{Answer}
 use Rattle.script.specs.Calls.{Config, Op}
 use Rattle.script.specs.Machine.{Event, Machine}
-use Rattle.answer.specs.Goes.{Called}
+use Rattle.answer.specs.Goes.{StepResult}
 use Rattle.calls.specs.Sharing.{sharedCall}
 
 -- each driver's machine by its number, and the record
@@ -21,7 +21,7 @@ pub record Turn : Type 0 where
   pub event : Event Config Op
 
 -- what it comes to: it gets the record as the last call left it
-abbrev pub called : Turn → Four → Called × List ℕ
+abbrev pub called : Turn → Four → StepResult × List ℕ
 called x f = sharedCall (x .who) (x .event .call) (f .driver (x .who % 4)) (f .time) (x .event .lent)
 
 abbrev pub changed : (ℕ → Machine Answer Driver) → ℕ → Machine Answer Driver → ℕ → Machine Answer Driver

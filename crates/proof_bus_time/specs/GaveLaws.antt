@@ -26,7 +26,8 @@ use Rattle.script_ops.specs.Records.{recordGiven, setsGiven, givenTo, allocated
 use Rattle.script_ops.specs.Rings.{St}
 use Rattle.script_ops.specs.Concrete.{concrete}
 use Rattle.proof_book.specs.CellsLaws.{on-key}
-use Rattle.proof_book.specs.LeavesLaws.{RingsOnly, turns, by-act, hand-leaves, givenOf, GivenStays, given-stays, rings-stay, put-given, turnsRow, row-stays}
+use Rattle.proof_book.specs.LeavesLaws.{RingsOnly, turns, by-act, hand-leaves, givenOf, GivenStays, given-stays}
+use Rattle.proof_book.specs.LeavesLaws.{rings-stay, put-given, turnsRow, row-stays}
 use Rattle.proof_bus_time.specs.Enabled.{isTaken}
 
 pub record Gave (d d′ : Driver) : Type 0 where
@@ -34,7 +35,11 @@ pub record Gave (d d′ : Driver) : Type 0 where
   pub given : (dir : Dir) (e : ℕ) → isTaken d dir e ≡ true → givenOf (epOn d′ dir e) ≡ givenOf (epOn d dir e)
 
 pub gave-then : {d x y : Driver} → Gave d x → Gave x y → Gave d y
-gave-then p q = record { taken = λ dir e h. q .taken dir e (p .taken dir e h); given = λ dir e h. q .given dir e (p .taken dir e h) ∙ p .given dir e h }
+gave-then p q = record {
+  taken = λ dir e h. q .taken dir e (p .taken dir e h);
+  given
+      = λ dir e h. q .given dir e (p .taken dir e h) ∙ p .given dir e h;
+}
 
 pub gave-same : (d : Driver) → Gave d d
 gave-same d = record { taken = λ dir e h. h; given = λ dir e h. refl }
@@ -56,7 +61,8 @@ of-records d d′ p a = record { taken = λ dir e h. a dir e ∙ h; given = λ d
 
 -- ---- an allocation
 
-module _ (d : Driver) (dir : Dir) (kind maximum interval e base n : ℕ) (b : Allocator) (t : Takes (d .allocator) (isIso kind) dir e b) where
+module _ (d : Driver) (dir : Dir) (kind maximum interval e base n : ℕ) (b : Allocator)
+    (t : Takes (d .allocator) (isIso kind) dir e b) where
   abbrev taker : Driver
   taker = setsGiven dir kind interval e (recordGiven dir kind maximum e base n (withAllocator d b))
 
@@ -67,15 +73,18 @@ module _ (d : Driver) (dir : Dir) (kind maximum interval e base n : ℕ) (b : Al
       number : x % 16 ≡ e
       number = omega (arith, q, t .high)
 
-  there : (dir′ : Dir) (x : ℕ) → key dir′ x ≢ key dir e → isTaken d dir′ x ≡ true → givenOf (epOn taker dir′ x) ≡ givenOf (epOn d dir′ x)
+  there : (dir′ : Dir) (x : ℕ) → key dir′ x ≢ key dir e → isTaken d dir′ x ≡ true → givenOf (epOn taker dir′ x)
+      ≡ givenOf (epOn d dir′ x)
   unfolding setsGiven recordGiven epOn withOn
   there dir′ x q h = ap givenOf (getD-set-other (d .eps) (key dir e) (key dir′ x) _ noEp q)
 
   given-gave : Gave d taker
   unfolding setsGiven recordGiven withOn
   given-gave = record {
-    taken = λ dir′ x h. t .takes dir′ (x % 16) ∙ outcomes.stays (sameDir dir dir′) (takenIn (d .allocator) dir′) e (x % 16) h;
-    given = on-key (λ dir′ x. isTaken d dir′ x ≡ true → givenOf (epOn taker dir′ x) ≡ givenOf (epOn d dir′ x)) dir e own there;
+    taken = λ dir′ x h. t .takes dir′ (x % 16) ∙ outcomes.stays (sameDir dir dir′) (takenIn (d .allocator) dir′) e
+        (x % 16) h;
+    given = on-key (λ dir′ x. isTaken d dir′ x ≡ true → givenOf (epOn taker dir′ x) ≡ givenOf (epOn d dir′ x)) dir e own
+        there;
   }
 
 allocated-gave : (d : Driver) (dir : Dir) (kind address maximum interval : ℕ) (z : Allocation)
@@ -85,7 +94,8 @@ unfolding givenTo
 allocated-gave d dir kind address maximum interval z (six l) = gave-same d
 allocated-gave d dir kind address maximum interval z (seven m q) = gave-same d
 allocated-gave d dir kind address maximum interval z (eight e m q l) = gave-same d
-allocated-gave d dir kind address maximum interval z (given e base n a m q g) = given-gave d dir kind maximum interval e base n a (g .number)
+allocated-gave d dir kind address maximum interval z (given e base n a m q g)
+    = given-gave d dir kind maximum interval e base n a (g .number)
 
 ep0-gave : (d : Driver) (maximum : ℕ) (z : Allocation)
     → Step (d .allocator) (ep0 maximum) z → Gave d (startedWith maximum (z .answer) (withAllocator d (z .after)))
@@ -93,7 +103,8 @@ unfolding startedWith withNext takenIn
 ep0-gave d maximum z (kept c n w full) = gave-same d
 ep0-gave d maximum z (gave-ep0 m x small l) = of-records d _ refl same
   where
-    same : (dir : Dir) (x : ℕ) → isTaken (withAllocator d (withNext (d .allocator) (d .allocator .next + 1))) dir x ≡ isTaken d dir x
+    same : (dir : Dir) (x : ℕ) → isTaken (withAllocator d (withNext (d .allocator) (d .allocator .next + 1))) dir x
+        ≡ isTaken d dir x
     same Out x = refl
     same In x = refl
 
@@ -102,7 +113,8 @@ ep0-gave d maximum z (gave-ep0 m x small l) = of-records d _ refl same
 act-gave : (q : Act) (s : St) → Gave (s .0) (concrete .act q s .0)
 unfolding allocatedOn allocatedEp0
 act-gave q s = by-act {K = λ _ d. Gave (s .0) d} s (λ q _ p. of-rings (turns q) p)
-    (λ dir kind address maximum interval. allocated-gave (s .0) dir kind address maximum interval _ (outcome (s .0 .allocator) kind address maximum dir))
+    (λ dir kind address maximum interval. allocated-gave (s .0) dir kind address maximum interval _
+    (outcome (s .0 .allocator) kind address maximum dir))
     (λ maximum. ep0-gave (s .0) maximum _ (step (s .0 .allocator) (ep0 maximum))) q
 
 row-gave : (g : Burst) (n : ℕ) (s : St) → Gave (s .0) (concrete .row g n s .1 .0)
@@ -113,7 +125,8 @@ row-gave g n s = of-given (turnsRow g n) (given-stays (turnsRow g n) (row-stays 
 -- from a state to the next access or the end, and again from whatever the state is in the next call
 pub data Moves {A : Type 0} : Driver → tree.Out St A → Type 0 where
   to-end : {d : Driver} {a : A} {s : St} → Gave d (s .0) → Moves d (ends a s)
-  to-ask : {d : Driver} {q : Access} {s : St} {k : ℕ → St → tree.Out St A} → Gave d (s .0) → ((v : ℕ) (t : St) → Moves (t .0) (k v t)) → Moves d (asks q s k)
+  to-ask : {d : Driver} {q : Access} {s : St} {k : ℕ → St → tree.Out St A} → Gave d (s .0)
+      → ((v : ℕ) (t : St) → Moves (t .0) (k v t)) → Moves d (asks q s k)
 
 after : {A : Type 0} {d x : Driver} {o : tree.Out St A} → Gave d x → Moves x o → Moves d o
 after p (to-end q) = to-end (gave-then p q)
@@ -128,7 +141,8 @@ moves-cond : {A : Type 0} {d : Driver} (b : Bool) {o u : tree.Out St A} → Move
 moves-cond true x y = x
 moves-cond false x y = y
 
-rows-move : {A : Type 0} (g : Burst) (n : ℕ) {k : St → tree.Out St A} → ((t : St) → Moves (t .0) (k t)) → (s : St) → Moves (s .0) (rows concrete g n k s)
+rows-move : {A : Type 0} (g : Burst) (n : ℕ) {k : St → tree.Out St A} → ((t : St) → Moves (t .0) (k t)) → (s : St)
+    → Moves (s .0) (rows concrete g n k s)
 rows-move g zero x s = to-ask (row-gave g zero s) (λ _ t. x t)
 rows-move g (suc n) x s = to-ask (row-gave g (suc n) s) (λ _ t. rows-move g n x t)
 

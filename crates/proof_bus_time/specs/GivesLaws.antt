@@ -39,11 +39,13 @@ of-record : (d : Driver) (dir : Dir) (kind maximum interval e base n : ℕ) → 
     epOn (givenTo dir kind maximum interval (Given e base n) d) dir e in (r .kind ≡ kind % 4) × (r .«max_len» ≡ maximum)
 unfolding givenTo setsGiven recordGiven epOn withOn allocated
 of-record d dir kind maximum interval e base n l =
-    let p = getD-set-same (d .eps) (key dir e) (allocated (epOn d dir e) kind maximum base (d .allocator .size) n) noEp (omega (arith, l, key-lt dir e)) in
+    let p = getD-set-same (d .eps) (key dir e) (allocated (epOn d dir e) kind maximum base (d .allocator .size) n) noEp
+    (omega (arith, l, key-lt dir e)) in
     (ap (λ (r : EpState). r .kind) p, ap (λ (r : EpState). r .«max_len») p)
 
 module _ (a : Allocator) (dir : Dir) (kind address maximum e base n : ℕ) where
-  of-number : (z : Allocation) → Outcome a kind address maximum dir z → z .answer ≡ Given e base n → isSet (takenIn (z .after) dir) (e % 16) ≡ true
+  of-number : (z : Allocation) → Outcome a kind address maximum dir z → z .answer ≡ Given e base n
+      → isSet (takenIn (z .after) dir) (e % 16) ≡ true
   unfolding IsGiven numberIn
   of-number z (six l) h = absurd (subst IsGiven (sym h) tt)
   of-number z (seven m q) h = absurd (subst IsGiven (sym h) tt)
@@ -72,4 +74,5 @@ allocation-gives d dir kind address maximum interval e base n l h = (p .0, p .1,
 
     t : isTaken (after (z .answer)) dir e ≡ true
     t = subst (λ x. isTaken (after x) dir e ≡ true) (sym h)
-        (of-number (d .allocator) dir kind address maximum e base n z (outcome (d .allocator) kind address maximum dir) h)
+        (of-number (d .allocator) dir kind address maximum e base n z (outcome (d .allocator) kind address maximum dir)
+        h)

@@ -23,21 +23,23 @@ use Rattle.script.specs.Answers.{Answer, Refused}
 use Rattle.script.specs.Calls.{calls}
 use Rattle.script.specs.Machine.{Buf, Machine, Ans, ended, handed, told, lentTo}
 use Rattle.machine.specs.Suspended.{driverOf, drive}
-use Rattle.answer.specs.Goes.{Called}
+use Rattle.answer.specs.Goes.{StepResult}
 use Rattle.bus_time.specs.Time.{entryOf, total, inUse, entryKept, kept, keepOf, uncharged}
 use Rattle.bus_time.specs.TimeLaws.{total-none, kept-in, kept-out}
-use Rattle.calls.specs.Sharing.{Sort, enabling, starting, going, apart, sortOf, chargeOn, written, timeAfter, turnedDown, settled}
+use Rattle.calls.specs.Sharing.{Sort, enabling, starting, going, apart, sortOf, chargeOn, written, timeAfter}
+use Rattle.calls.specs.Sharing.{turnedDown, settled}
 use Rattle.proof_bus_time.specs.Four.{Four, Turn, called, next, after}
-use Rattle.proof_bus_time.specs.History.{lineOf, history, cleared, byAccess, byAnswer, chargeAfter, chargeBy, sum, timeBy}
+use Rattle.proof_bus_time.specs.History.{lineOf, history, cleared, byAccess, byAnswer, chargeAfter, chargeBy, sum}
+use Rattle.proof_bus_time.specs.History.{timeBy}
 use Rattle.proof_bus_time.specs.LimitLaws.{Within, always-within, uncharged-within}
 
 -- the answer that was given tells the record after the call: one that was turned down handed nothing out
-told-by : (i : ℕ) (x : Sort) (m : Machine Answer Driver) (t : List ℕ) (b : Buf) (y : Called)
+told-by : (i : ℕ) (x : Sort) (m : Machine Answer Driver) (t : List ℕ) (b : Buf) (y : StepResult)
     → settled i x m t b y .1 ≡ timeAfter i x (settled i x m t b y .0 .0) (m .st) t
 unfolding settled
 told-by i x m t b y = by (turnedDown i x (y .0) (m .st) t)
   where
-    outcome : Bool → Called × List ℕ
+    outcome : Bool → StepResult × List ℕ
     outcome z = cond z ((ended (Refused 19), lentTo calls driverOf m b), t) (y, timeAfter i x (y .0) (m .st) t)
 
     by : (z : Bool) → outcome z .1 ≡ timeAfter i x (outcome z .0 .0) (m .st) t
@@ -76,11 +78,13 @@ module _ (j i bit : ℕ) (li : i < 4) (lb : bit < 32) where
           above k n h = ⊎-elim (λ (x : k < i). omega arith) (λ (x : i ≤ k). absurd (n (omega arith))) (less k i)
 
   -- what a word of ep_config leaves
-  keeps : (w : ℕ) (t : List ℕ) → length t ≡ 128 → getD (keepOf j w t) at 0 ≡ cond (eqb (j % 4) i) (cond (isSet w bit) (getD t at 0) 0) (getD t at 0)
+  keeps : (w : ℕ) (t : List ℕ) → length t ≡ 128 → getD (keepOf j w t) at 0
+      ≡ cond (eqb (j % 4) i) (cond (isSet w bit) (getD t at 0) 0) (getD t at 0)
   unfolding keepOf entryKept
   keeps w t l = by (eqb (j % 4) i) refl
     where
-      by : (b : Bool) → eqb (j % 4) i ≡ b → getD (kept w (j % 4 * 32) 32 t) at 0 ≡ cond b (cond (isSet w bit) (getD t at 0) 0) (getD t at 0)
+      by : (b : Bool) → eqb (j % 4) i ≡ b → getD (kept w (j % 4 * 32) 32 t) at 0
+          ≡ cond b (cond (isSet w bit) (getD t at 0) 0) (getD t at 0)
       by true h = rw (← eqb-true (j % 4) i h) (kept-in w (j % 4 * 32) 32 t bit (omega arith) lb)
       by false h = kept-out w (j % 4 * 32) 32 t at (apart-from (eqb-false (j % 4) i h))
 
@@ -102,10 +106,12 @@ module _ (j i bit : ℕ) (li : i < 4) (lb : bit < 32) where
           (λ z. ⊎-elim (λ (x : at < j % 4 * 32). omega arith)
           (λ (x : j % 4 * 32 + 32 ≤ at). omega (arith, place-lt dir e)) (apart-from (eqb-false (j % 4) i h)))
 
-  writes : (q : Access) (t : List ℕ) → length t ≡ 128 → getD (written j q t) at 0 ≡ cond (eqb (j % 4) i) (cleared bit q (getD t at 0)) (getD t at 0)
+  writes : (q : Access) (t : List ℕ) → length t ≡ 128 → getD (written j q t) at 0
+      ≡ cond (eqb (j % 4) i) (cleared bit q (getD t at 0)) (getD t at 0)
   writes (Write r e w) t l = by (sameReg r EpConfig)
     where
-      by : (b : Bool) → getD (cond b (keepOf j w t) t) at 0 ≡ cond (eqb (j % 4) i) (cond b (cond (isSet w bit) (getD t at 0) 0) (getD t at 0)) (getD t at 0)
+      by : (b : Bool) → getD (cond b (keepOf j w t) t) at 0
+          ≡ cond (eqb (j % 4) i) (cond b (cond (isSet w bit) (getD t at 0) 0) (getD t at 0)) (getD t at 0)
       by true = keeps w t l
       by false = same (eqb (j % 4) i) (getD t at 0)
   writes (Read r e) t l = same (eqb (j % 4) i) (getD t at 0)
@@ -118,7 +124,8 @@ module _ (j i bit : ℕ) (li : i < 4) (lb : bit < 32) where
   by-access : (x : Sort) (q : Access) (d : Driver) (t : List ℕ) → length t ≡ 128
       → getD (timeAfter j x (handed q) d t) at 0 ≡ cond (eqb (j % 4) i) (byAccess bit x q d (getD t at 0)) (getD t at 0)
   by-access (enabling dir e) q d t l = charges dir e (chargeOn d dir e) t l
-  by-access starting q d t l = keeps 0 t l ∙ ap (λ (b : Bool). cond (eqb (j % 4) i) (cond b (getD t at 0) 0) (getD t at 0)) (none-set bit)
+  by-access starting q d t l = keeps 0 t l ∙ ap (λ (b : Bool). cond (eqb (j % 4) i) (cond b (getD t at 0) 0)
+      (getD t at 0)) (none-set bit)
   by-access going q d t l = writes q t l
   by-access apart q d t l = same (eqb (j % 4) i) (getD t at 0)
 
@@ -135,7 +142,8 @@ step-charge x f i bit li lb l =
     ap (λ (t : List ℕ). getD t (i * 32 + bit) 0)
     (told-by (x .who) (sortOf (x .event .call)) (f .driver (x .who % 4))
     (f .time) (x .event .lent) (drive (x .event .call) (f .driver (x .who % 4)) (x .event .lent)))
-    ∙ by-answer (x .who) i bit li lb (sortOf (x .event .call)) (called x f .0 .0) (f .driver (x .who % 4) .st) (f .time) l
+    ∙ by-answer (x .who) i bit li lb (sortOf (x .event .call)) (called x f .0 .0) (f .driver (x .who % 4) .st) (f .time)
+    l
 
 -- every list of calls: the charge of each endpoint
 pub each-charge : (xs : List Turn) (f : Four) → Within (f .time) → (i bit : ℕ) → i < 4 → bit < 32
@@ -194,7 +202,8 @@ zeros zero k = refl
 zeros (suc n) zero = refl
 zeros (suc n) (suc k) = zeros n k
 
--- "worked out from the history of enables, disables, resets and start-ups": every list of calls, from an uncharged record and whatever the drivers were
+-- "worked out from the history of enables, disables, resets and start-ups": every list of calls, from an uncharged
+-- record and whatever the drivers were
 pub in-use-is : (xs : List Turn) (f : Four) → f .time ≡ uncharged → inUse (after xs f .time) ≡ timeBy (history xs f)
 in-use-is xs f h =
     by-drivers (after xs f .time)

@@ -1,5 +1,5 @@
--- What each endpoint is charged, worked out from the history of calls and what they handed out, and the time in use by it. An endpoint is named by its
--- driver and its bit of ep_config
+-- What each endpoint is charged, worked out from the history of calls and what they handed out, and the time in use by
+-- it. An endpoint is named by its driver and its bit of ep_config
 use mathlib.Core.Bool.{cond}
 use mathlib.Core.List.{List, [], _∷_}
 use Prim.Native.Nat.{ℕ, zero, suc, _+_, _%_}

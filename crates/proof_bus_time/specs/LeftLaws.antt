@@ -1,4 +1,5 @@
--- What is left of an operation: a charge's way through its accesses, whatever is read, and what it is at the end. Calm scripts leave it
+-- What is left of an operation: a charge's way through its accesses, whatever is read, and what it is at the end.
+-- NoEpConfigWrite scripts leave it
 use mathlib.Core.Bool.{Bool, true, false, not, cond}
 use mathlib.Core.Path.{_≡_, refl, subst, sym, _∙_}
 use Prim.Native.Nat.{ℕ}
@@ -11,15 +12,17 @@ use Rattle.script.specs.Tree as tree
 use Rattle.script.specs.Tree.{ends, asks, bindOut}
 use Rattle.script.specs.Cells.{Cell, Val}
 use Rattle.script.specs.Script.{Script, ret, bind, test, read-then, write-then, wait-then, callback-then, get-then}
-use Rattle.script.specs.Script.{put-then, is-then, look-then, fetch-then, act-then, hand-then, row-then, Act, DmaStep, dmaStepAsk}
+use Rattle.script.specs.Script.{put-then, is-then, look-then, fetch-then, act-then, hand-then, row-then, Act, DmaStep}
+use Rattle.script.specs.Script.{dmaStepAsk}
 use Rattle.script.specs.Script.{run}
 use Rattle.script.specs.Every.{sameReg}
 use Rattle.script_ops.specs.Rings.{St}
 use Rattle.script_ops.specs.Concrete.{concrete}
 use Rattle.proof_bus_time.specs.History.{cleared}
 use Rattle.proof_bus_time.specs.Enabled.{writesConfig}
-use Rattle.proof_bus_time.specs.StaysLaws.{configOf, Stays, allowed, put-stays, act-stays, hand-stays, gives-config}
-use Rattle.proof_bus_time.specs.Calm.{If, Quiet, Calm}
+use Rattle.proof_bus_time.specs.StaysLaws.{configOf, Stays, allowed, put-stays, act-stays, hand-stays}
+use Rattle.proof_bus_time.specs.StaysLaws.{gives-config}
+use Rattle.proof_bus_time.specs.Calm.{When, NotEpConfigWrite, NoEpConfigWrite}
 
 -- from a charge of the endpoint with this bit: X of the charge and the state at each access, P at each end, and what
 -- a write of ep_config leaves of the charge is
@@ -57,9 +60,10 @@ pub record Goes (bit : ℕ) (back : ℕ → ℕ) (c : ℕ) (K : Driver → Type 
 -- the first access is no write of ep_config
 pub data First {A : Type 0} : tree.Out St A → Type 0 where
   none : {a : A} {s : St} → First (ends a s)
-  some : {q : Access} {s : St} {k : ℕ → St → tree.Out St A} → Quiet q → First (asks q s k)
+  some : {q : Access} {s : St} {k : ℕ → St → tree.Out St A} → NotEpConfigWrite q → First (asks q s k)
 
-pub first-bind : {A B : Type 0} {o : tree.Out St A} {f : A → St → tree.Out St B} → First o → ((a : A) (s : St) → First (f a s)) → First (bindOut o f)
+pub first-bind : {A B : Type 0} {o : tree.Out St A} {f : A → St → tree.Out St B} → First o
+    → ((a : A) (s : St) → First (f a s)) → First (bindOut o f)
 first-bind none y = y _ _
 first-bind (some x) y = some x
 
@@ -69,13 +73,13 @@ first-cond false x y = y
 
 -- ---- calm scripts
 
-opened : {X : Type 0} (b : Bool) → If b X → (b ≡ true) × X
+opened : {X : Type 0} (b : Bool) → When b X → (b ≡ true) × X
 opened true x = (refl, x)
 
-pub quiet : (bit : ℕ) (q : Access) (c : ℕ) → Quiet q → cleared bit q c ≡ c
+pub quiet : (bit : ℕ) (q : Access) (c : ℕ) → NotEpConfigWrite q → cleared bit q c ≡ c
 quiet bit (Write r e w) c x = by (sameReg r EpConfig) x
   where
-    by : (b : Bool) → If (not b) (Unit {0}) → cond b (cond (isSet w bit) c 0) c ≡ c
+    by : (b : Bool) → When (not b) (Unit {0}) → cond b (cond (isSet w bit) c 0) c ≡ c
     by false x = refl
 quiet bit (Read r e) c x = refl
 quiet bit (Receive e y) c x = refl
@@ -85,7 +89,7 @@ quiet bit (Wait n) c x = refl
 quiet bit Callback c x = refl
 
 -- no write of ep_config
-unwritten : (b : Bool) (x y : ℕ) → If (not b) (Unit {0}) → y ≡ cond b x y
+unwritten : (b : Bool) (x y : ℕ) → When (not b) (Unit {0}) → y ≡ cond b x y
 unwritten false x y h = refl
 
 -- what the operations that a calm script has keep
@@ -121,13 +125,15 @@ module _ {giving : Bool} {K : Driver → Type 0} (M : CalmKeeps giving K) (bit :
   abbrev Runs : {A : Type 0} → tree.Out St A → Type 0
   Runs o = Left bit back X Same c o
 
-  ask : {A : Type 0} (q : Access) (s : St) {k : ℕ → St → tree.Out St A} → Quiet q → K (s .0) → ((v : ℕ) (t : St) → K (t .0) → Runs (k v t)) → Runs (asks q s k)
+  ask : {A : Type 0} (q : Access) (s : St) {k : ℕ → St → tree.Out St A} → NotEpConfigWrite q → K (s .0)
+      → ((v : ℕ) (t : St) → K (t .0) → Runs (k v t)) → Runs (asks q s k)
   ask q s {k = k} x y z =
       at-ask (quiet bit q c x ∙ unwritten (writesConfig q) (back c) c x)
       (subst (λ g. X g (s .0)) (sym (quiet bit q c x)) (shows (s .0) y))
       (λ v t b. subst (λ g. Left bit back X Same g (k v t)) (sym (quiet bit q c x)) (z v t (M .later _ _ b y)))
 
-  pub calm-run : {i : Bool} {A : Type 0} (p : Script i A) → Calm giving p → (s : St) → K (s .0) → Runs (run concrete p s)
+  pub calm-run : {i : Bool} {A : Type 0} (p : Script i A) → NoEpConfigWrite giving p → (s : St) → K (s .0)
+      → Runs (run concrete p s)
   calm-run (ret a) x s k = at-end (refl, k)
   calm-run (bind p f) x s k =
       left-bind (calm-run p (x .0) s k) (λ g a t y. subst (λ h. Left bit back X Same h (run concrete (f a) t))
@@ -142,21 +148,23 @@ module _ {giving : Bool} {K : Driver → Type 0} (M : CalmKeeps giving K) (bit :
   calm-run (is-then q f) x s k = calm-run (f (concrete .is q s)) (x (concrete .is q s)) s k
   calm-run (look-then q f) x s k = calm-run (f (concrete .look q s)) (x (concrete .look q s)) s k
   calm-run (fetch-then q f) x s k = calm-run (f (concrete .fetch q s)) (x (concrete .fetch q s)) s k
-  calm-run (act-then q p) x s k = let y = opened (allowed giving q) x in calm-run p (y .1) (concrete .act q s) (M .act q (y .0) s k)
+  calm-run (act-then q p) x s k = let y = opened (allowed giving q) x in calm-run p (y .1) (concrete .act q s)
+      (M .act q (y .0) s k)
   calm-run (hand-then q p) x s k = ask (dmaStepAsk q (concrete .hand q s .0))
       (concrete .hand q s .1) (x .0 (concrete .hand q s .0)) (M .hand q s k) (λ _ t y. calm-run p (x .1) t y)
   calm-run (row-then g p) x s k = absurd (x .0)
 
   -- a calm part, and the rest
   pub calm-then : {i : Bool} {A B : Type 0} {P : ℕ → Driver → Type 0} {p : Script i A} {f : A → Script i B}
-      → Calm giving p → ((a : A) → Goes bit back c K X P (f a)) → Goes bit back c K X P (bind p f)
+      → NoEpConfigWrite giving p → ((a : A) → Goes bit back c K X P (f a)) → Goes bit back c K X P (bind p f)
   calm-then {P = P} {p = p} {f = f} x rest =
       record {
         on = λ s k. left-bind (calm-run p x s k) (λ g a t y. subst
             (λ h. Left bit back X P h (run concrete (f a) t)) (sym (y .0)) (rest a .on t (y .1)));
       }
 
-pub calm-first : (giving : Bool) {i : Bool} {A : Type 0} (p : Script i A) → Calm giving p → (s : St) → First (run concrete p s)
+pub calm-first : (giving : Bool) {i : Bool} {A : Type 0} (p : Script i A) → NoEpConfigWrite giving p → (s : St)
+    → First (run concrete p s)
 calm-first giving (ret a) x s = none
 calm-first giving (bind p f) x s = first-bind (calm-first giving p (x .0) s) (λ a t. calm-first giving (f a) (x .1 a) t)
 calm-first giving (test b p q) x s = first-cond b (calm-first giving p (x .0) s) (calm-first giving q (x .1) s)

@@ -32,13 +32,22 @@ entry-lt i Out e = omega arith
 entry-lt i In e = omega arith
 
 keep-within : (i w : ℕ) {t : List ℕ} → Within t → Within (keepOf i w t)
-keep-within i w {t = t} k = record { long = length-keep i w t ∙ k .long; least = omega (arith, keep-le i w t (k .long), k .least) }
+keep-within i w {t = t} k = record {
+  long = length-keep i w t ∙ k .long;
+  least
+      = omega (arith, keep-le i w t (k .long), k .least);
+}
 
 charge-within : (k c : ℕ) {t : List ℕ} → k < 128 → passes t k c ≡ false → Within t → Within (set t k c)
 unfolding inUse passes
 charge-within k c {t = t} l p w = record {
   long = length-set t k c ∙ w .long;
-  least = omega (arith, total-set t k c 128 (omega (arith, w .long)) l, ltb-false (6000 + getD t k 0) (total t 128 + c) p);
+  least = omega (
+    arith,
+    total-set t k c 128 (omega (arith, w .long)) l,
+    ltb-false (6000 + getD t k 0) (total t 128 + c)
+        p,
+  );
 }
 
 choose : {t u : List ℕ} (b : Bool) → Within t → Within u → Within (cond b t u)
@@ -54,14 +63,16 @@ written-within i (Ep0Dma x) k = k
 written-within i (Wait n) k = k
 written-within i Callback k = k
 
-settled-within : (i : ℕ) (x : Sort) (m : Machine Answer Driver) (t : List ℕ) (b : Buf) (a : Ans Answer) (n : Machine Answer Driver)
+settled-within : (i : ℕ) (x : Sort) (m : Machine Answer Driver) (t : List ℕ) (b : Buf) (a : Ans Answer)
+    (n : Machine Answer Driver)
     → Within t → Within (settled i x m t b (a, n) .1)
 unfolding settled
 settled-within i (enabling dir e) m t b (ended a) n k = k
 settled-within i (enabling dir e) m t b (told v) n k = k
 settled-within i (enabling dir e) m t b (handed q) n k = by (passes t (entryOf i dir e) (chargeOn (m .st) dir e)) refl
   where
-    by : (p : Bool) → passes t (entryOf i dir e) (chargeOn (m .st) dir e) ≡ p → Within (settled i (enabling dir e) m t b (handed q, n) .1)
+    by : (p : Bool) → passes t (entryOf i dir e) (chargeOn (m .st) dir e) ≡ p
+        → Within (settled i (enabling dir e) m t b (handed q, n) .1)
     by true p = rw p k
     by false p = rw p (charge-within (entryOf i dir e) (chargeOn (m .st) dir e) (entry-lt i dir e) p k)
 settled-within i starting m t b (ended a) n k = k
@@ -79,7 +90,8 @@ always-within [] f k = k
 always-within (x ∷ xs) f k =
     let m = f .driver (x .who % 4) in
     let y = drive (x .event .call) m (x .event .lent) in
-    always-within xs (next x f) (settled-within (x .who) (sortOf (x .event .call)) m (f .time) (x .event .lent) (y .0) (y .1) k)
+    always-within xs (next x f) (settled-within (x .who) (sortOf (x .event .call)) m (f .time) (x .event .lent) (y .0)
+    (y .1) k)
 
 pub uncharged-within : Within uncharged
 unfolding inUse total

@@ -1,4 +1,5 @@
--- "The charge is always that of the endpoints now enabled, each counted once": after every list of calls of four drivers, from an uncharged record
+-- "The charge is always that of the endpoints now enabled, each counted once": after every list of calls of four
+-- drivers, from an uncharged record
 use mathlib.Core.Bool.{Bool, true, false, cond, _&&_, _||_}
 use mathlib.Core.List.{List}
 use mathlib.Core.Path.{_≡_, refl, ap, subst, sym, _∙_}
@@ -11,35 +12,40 @@ use Rattle.regs.specs.declared.Dir.the-variants.{Out, In}
 use Rattle.regs.specs.Enables.{place}
 use Rattle.state.specs.Driver.{Driver}
 use Rattle.script.specs.Answers.{Answer}
-use Rattle.script.specs.Machine.{Way, idle}
+use Rattle.script.specs.Machine.{Pending, idle}
 use Rattle.bus_time.specs.Time.{inUse}
 use Rattle.calls.specs.Sharing.{chargeOn}
 use Rattle.proof_bus_time.specs.Four.{Four, Turn, after}
 use Rattle.proof_bus_time.specs.History.{history, sum, timeBy}
 use Rattle.proof_bus_time.specs.LimitLaws.{Within, uncharged-within}
 use Rattle.proof_bus_time.specs.HistoriesLaws.{sum-as, sum-from, by-drivers, zeros, in-use-is}
-use Rattle.proof_bus_time.specs.Enabled.{isEnabled, sumOf, enabledTime, lastBegun, isBusy, isEnabling, countedTime, FourAtFirst}
+use Rattle.proof_bus_time.specs.Enabled.{isEnabled, sumOf, enabledTime, lastBegun, isBusy, isEnabling}
+use Rattle.proof_bus_time.specs.Enabled.{countedTime, FourAtFirst}
 use Rattle.proof_bus_time.specs.Charged.{neither, chargedFrom, charged, chargedTime}
 use Rattle.proof_bus_time.specs.CourseLaws.{course-due, runs-all, charged-all, at-first}
 
 -- the charge of an endpoint: its own where it is enabled now or being enabled, else none
-pub charge-now : (xs : List Turn) (f : Four) → FourAtFirst f → (i : ℕ) → i < 4 → (dir : Dir) (e : ℕ) → let m = after xs f .driver i in
-    getD (after xs f .time) (i * 32 + place dir e) 0 ≡ cond (isEnabled (m .st) dir e || isEnabling i m (history xs f) dir e) (chargeOn (m .st) dir e) 0
+pub charge-now : (xs : List Turn) (f : Four) → FourAtFirst f → (i : ℕ) → i < 4 → (dir : Dir) (e : ℕ) → let m
+    = after xs f .driver i in
+    getD (after xs f .time) (i * 32 + place dir e) 0 ≡ cond (isEnabled (m .st) dir e
+    || isEnabling i m (history xs f) dir e) (chargeOn (m .st) dir e) 0
 charge-now xs f z i li dir e =
     let m = after xs f .driver i in
-    course-due dir e i li (m .way) (m .st) _ (lastBegun i (place dir e) (history xs f) false) _
+    course-due dir e i li (m .under-way) (m .st) _ (lastBegun i (place dir e) (history xs f) false) _
     (runs-all dir e i li xs f false neither (subst Within (sym (z .time)) uncharged-within) (at-first dir e i li f z))
 
 -- with nothing under way: of the endpoints now enabled, each by the kind and maximum that the state has now
 pub charge-at-rest : (xs : List Turn) (f : Four) → FourAtFirst f
-    → (i : ℕ) → i < 4 → after xs f .driver i .way ≡ idle → (dir : Dir) (e : ℕ) → let d = after xs f .driver i .st in
+    → (i : ℕ) → i < 4 → after xs f .driver i .under-way ≡ idle → (dir : Dir) (e : ℕ) → let d
+    = after xs f .driver i .st in
     getD (after xs f .time) (i * 32 + place dir e) 0 ≡ cond (isEnabled d dir e) (chargeOn d dir e) 0
 charge-at-rest xs f z i li h dir e = charge-now xs f z i li dir e
-    ∙ ap (λ (b : Bool). cond b (chargeOn (after xs f .driver i .st) dir e) 0) (rests (isEnabled (after xs f .driver i .st) dir e))
+    ∙ ap (λ (b : Bool). cond b (chargeOn (after xs f .driver i .st) dir e) 0)
+    (rests (isEnabled (after xs f .driver i .st) dir e))
   where
     rests : (b : Bool) → (b || isEnabling i (after xs f .driver i) (history xs f) dir e) ≡ b
     rests true = refl
-    rests false = ap (λ (w : Way Answer Driver). isBusy w && lastBegun i (place dir e) (history xs f) false) h
+    rests false = ap (λ (w : Pending Answer Driver). isBusy w && lastBegun i (place dir e) (history xs f) false) h
 
 -- ---- the time in use
 
@@ -61,16 +67,20 @@ sums-as : (f g : ℕ → Dir → ℕ → ℕ) → ((i : ℕ) → i < 4 → (dir 
 sums-as f g h = sum-as _ _ 4 (λ i li. sum-as _ _ 16 (λ e _. omega (arith, h i li In e, h i li Out e)))
 
 -- always: the charge of the endpoints now enabled or being enabled
-pub in-use-now : (xs : List Turn) (f : Four) → FourAtFirst f → inUse (after xs f .time) ≡ countedTime (after xs f .driver) (history xs f)
+pub in-use-now : (xs : List Turn) (f : Four) → FourAtFirst f → inUse (after xs f .time)
+    ≡ countedTime (after xs f .driver) (history xs f)
 in-use-now xs f z = by-endpoints (after xs f .time) ∙ sums-as _ _ (λ i li dir e. charge-now xs f z i li dir e)
 
 -- with nothing under way: of those now enabled
-pub in-use-at-rest : (xs : List Turn) (f : Four) → FourAtFirst f → ((i : ℕ) → i < 4 → after xs f .driver i .way ≡ idle)
+pub in-use-at-rest : (xs : List Turn) (f : Four) → FourAtFirst f
+    → ((i : ℕ) → i < 4 → after xs f .driver i .under-way ≡ idle)
     → inUse (after xs f .time) ≡ enabledTime (λ i. after xs f .driver i .st)
-in-use-at-rest xs f z h = by-endpoints (after xs f .time) ∙ sums-as _ _ (λ i li dir e. charge-at-rest xs f z i li (h i li) dir e)
+in-use-at-rest xs f z h = by-endpoints (after xs f .time)
+    ∙ sums-as _ _ (λ i li dir e. charge-at-rest xs f z i li (h i li) dir e)
 
 -- so what the history works out is the charge of the endpoints now enabled or being enabled
-pub history-is-now : (xs : List Turn) (f : Four) → FourAtFirst f → timeBy (history xs f) ≡ countedTime (after xs f .driver) (history xs f)
+pub history-is-now : (xs : List Turn) (f : Four) → FourAtFirst f → timeBy (history xs f)
+    ≡ countedTime (after xs f .driver) (history xs f)
 history-is-now xs f z = sym (in-use-is xs f (z .time)) ∙ in-use-now xs f z
 
 -- ---- "worked out from the history of enables, disables, resets and start-ups"

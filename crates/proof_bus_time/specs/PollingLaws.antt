@@ -21,11 +21,11 @@ use Rattle.calls.specs.Sharing.{chargeOn}
 use Rattle.proof_bus_time.specs.Charged.{polls-bus, givenBack}
 use Rattle.proof_bus_time.specs.HistoriesLaws.{none-set}
 use Rattle.proof_bus_time.specs.StaysLaws.{Turns, still, act-stays, reset-stays, reset-turns}
-use Rattle.proof_bus_time.specs.Calm.{Calm}
+use Rattle.proof_bus_time.specs.Calm.{NoEpConfigWrite}
 use Rattle.proof_bus_time.specs.LeftLaws.{Left, at-end, at-ask, left-bind, left-cond, Goes, keeps, calm-then}
 use Rattle.proof_bus_time.specs.SwitchingLaws.{Due, Ended, ended-stays, calm-ended}
 
-pub naks-calm : (n e : ℕ) → Calm false (nakAll {i = false} n e)
+pub naks-calm : (n e : ℕ) → NoEpConfigWrite false (nakAll {i = false} n e)
 unfolding nakAll
 naks-calm zero e = tt
 naks-calm (suc n) e = ((tt, tt), λ _. ((tt, tt), λ _. naks-calm n (suc e)))
@@ -63,7 +63,8 @@ module _ (dir : Dir) (e : ℕ) where
     abbrev Polling : {A : Type 0} → Script false A → Type 0
     Polling p = Goes bit allBack c (Ended dir e c) (Due dir e false) (Ended dir e) p
 
-    first : {A B : Type 0} {p : Script false A} {f : A → Script false B} → Calm false p → ((a : A) → Polling (f a)) → Polling (bind p f)
+    first : {A B : Type 0} {p : Script false A} {f : A → Script false B} → NoEpConfigWrite false p
+        → ((a : A) → Polling (f a)) → Polling (bind p f)
     first x rest = calm-then (keeps (ended-stays dir e c)) bit allBack c (Due dir e false) (λ d k. k .0) x rest
 
     of-reset : Polling bus.busReset
@@ -73,10 +74,11 @@ module _ (dir : Dir) (e : ℕ) where
           (λ g _ t y. at-end (ended-stays dir e g _ _ (act-stays (waken every-endpoint) refl t) y));
     }))))
 
-    calm-on : {A : Type 0} {p : Script false A} → Calm false p → Polling p
+    calm-on : {A : Type 0} {p : Script false A} → NoEpConfigWrite false p → Polling p
     calm-on {p = p} x = record { on = λ s k. calm-ended dir e allBack c p x s k }
 
-    then-calm : {A B : Type 0} {p : Script false A} {f : A → Script false B} → Polling p → ((a : A) → Calm false (f a)) → Polling (bind p f)
+    then-calm : {A B : Type 0} {p : Script false A} {f : A → Script false B} → Polling p
+        → ((a : A) → NoEpConfigWrite false (f a)) → Polling (bind p f)
     then-calm {f = f} x z =
         record { on = λ s k. left-bind (x .on s k) (λ g a t y. calm-ended dir e allBack g (f a) (z a) t y) }
 

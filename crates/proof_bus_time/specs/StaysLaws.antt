@@ -1,4 +1,5 @@
--- What an allocation gave each endpoint (its flag, its kind and its maximum), the stage and the kept ep_config: which operations of a script leave them
+-- What an allocation gave each endpoint (its flag, its kind and its maximum), the stage and the kept ep_config: which
+-- operations of a script leave them
 use mathlib.Core.Bool.{Bool, true, false, not, cond, _&&_, _||_, true≢false}
 use mathlib.Core.Path.{_≡_, refl, subst, sym, _∙_}
 use Prim.Native.Nat.{ℕ, suc}
@@ -18,11 +19,13 @@ use Rattle.script.specs.Script.{DmaStep}
 use Rattle.script.specs.Script.{switch, bus-reset}
 use Rattle.script.specs.TransferKinds.{allocates}
 use Rattle.script.specs.Statics.{isOn}
-use Rattle.script_ops.specs.Records.{isoOut, configured, enabledOn, isoAdded, withSets, recordGiven, setsGiven, givenTo, allocatedOn, startedWith, allocatedEp0}
+use Rattle.script_ops.specs.Records.{isoOut, configured, enabledOn, isoAdded, withSets, recordGiven, setsGiven, givenTo}
+use Rattle.script_ops.specs.Records.{allocatedOn, startedWith, allocatedEp0}
 use Rattle.script_ops.specs.Rings.{St}
 use Rattle.script_ops.specs.Rings.{configStep, switchStep, resetStep}
 use Rattle.script_ops.specs.Concrete.{concrete}
-use Rattle.proof_book.specs.LeavesLaws.{RingsOnly, turns, act-leaves, by-act, hand-leaves, givenOf, GivenStays, RequestsStay, given-stays, rings-stay}
+use Rattle.proof_book.specs.LeavesLaws.{RingsOnly, turns, act-leaves, by-act, hand-leaves, givenOf, GivenStays}
+use Rattle.proof_book.specs.LeavesLaws.{RequestsStay, given-stays, rings-stay}
 use Rattle.proof_book.specs.LeavesLaws.{put-given, turnsRow, row-stays}
 
 -- ---- what stays
@@ -41,10 +44,16 @@ abbrev pub Stays : Driver → Driver → Type 0
 Stays d d′ = Turns (configOf d) d d′
 
 pub still : {w : ℕ} {d x y : Driver} → Turns w d x → Stays x y → Turns w d y
-still p q = record { given = λ dir e. q .given dir e ∙ p .given dir e; stage = q .stage ∙ p .stage; config = q .config ∙ p .config }
+still p q = record {
+  given = λ dir e. q .given dir e ∙ p .given dir e;
+  stage = q .stage ∙ p .stage;
+  config = q .config
+      ∙ p .config;
+}
 
 -- a change of other records than the endpoints'
-others : {w : ℕ} (d d′ : Driver) → d′ .eps ≡ d .eps → d′ .globals .stage ≡ d .globals .stage → configOf d′ ≡ w → Turns w d d′
+others : {w : ℕ} (d d′ : Driver) → d′ .eps ≡ d .eps → d′ .globals .stage ≡ d .globals .stage → configOf d′ ≡ w
+    → Turns w d d′
 unfolding epOn
 others d d′ p s c = record { given = λ dir e. rw p refl; stage = s; config = c }
 
@@ -84,11 +93,13 @@ hand-stays q s = of-rings (hand-leaves q s)
 pub switch-stays : (e : ℕ) (on : Bool) (n : ℕ) (s : St) → Stays (s .0) (switchStep e on (suc n) s .1 .0)
 switch-stays e on n s = of-given (given-stays false (row-stays (switch e on) (suc n) s))
 
-pub reset-stays : (s : St) → Stays (s .0) (resetStep 0 s .1 .0) × Stays (s .0) (resetStep 1 s .1 .0) × Stays (s .0) (resetStep 2 s .1 .0)
+pub reset-stays : (s : St) → Stays (s .0) (resetStep 0 s .1 .0) × Stays (s .0) (resetStep 1 s .1 .0)
+    × Stays (s .0) (resetStep 2 s .1 .0)
 reset-stays s = (by 0 refl, by 1 refl, by 2 refl)
   where
     by : (n : ℕ) → turnsRow bus-reset n ≡ false → Stays (s .0) (resetStep n s .1 .0)
-    by n h = of-given (given-stays false (subst (λ (t : Bool). RequestsStay t (s .0) (resetStep n s .1 .0)) h (row-stays bus-reset n s)))
+    by n h = of-given (given-stays false (subst (λ (t : Bool). RequestsStay t (s .0) (resetStep n s .1 .0)) h
+        (row-stays bus-reset n s)))
 
 -- ---- what turns ep_config
 
@@ -99,17 +110,20 @@ reset-turns s = others (s .0) _ refl refl refl
 abbrev pub turned : Driver → Dir → ℕ → Bool → ℕ
 turned d dir e on = withBit (configOf d) (enables.place dir e) on
 
-pub enabled-turns : (d : Driver) (dir : Dir) (e : ℕ) (on : Bool) → isoOut d dir e ≡ false → Turns (turned d dir e on) d (enabledOn d dir e on)
+pub enabled-turns : (d : Driver) (dir : Dir) (e : ℕ) (on : Bool) → isoOut d dir e ≡ false
+    → Turns (turned d dir e on) d (enabledOn d dir e on)
 unfolding enabledOn configured enables.withOn
 enabled-turns d dir e on h = rw h (others d _ refl refl refl)
 
-pub row-turns : (d : Driver) (e : ℕ) (on : Bool) → isOn (epOn d Out e .iso) ≡ true → Turns (turned d Out e on) d (configStep e on d .1)
+pub row-turns : (d : Driver) (e : ℕ) (on : Bool) → isOn (epOn d Out e .iso) ≡ true
+    → Turns (turned d Out e on) d (configStep e on d .1)
 unfolding configStep enables.withOn
 row-turns d e on h = others d _ refl refl (rw h refl)
 
 -- ---- an allocation leaves the kept ep_config
 
-sets-config : (dir : Dir) (kind interval e : ℕ) (g : Globals) → withSets dir kind interval e g .«ep_config» ≡ g .«ep_config»
+sets-config : (dir : Dir) (kind interval e : ℕ) (g : Globals) → withSets dir kind interval e g .«ep_config»
+    ≡ g .«ep_config»
 unfolding withSets
 sets-config dir kind interval e g = by (isIso kind) dir
   where
@@ -122,7 +136,8 @@ sets-config dir kind interval e g = by (isIso kind) dir
     by true Out = refl
     by true In = often (ltb interval 2) _ g refl
 
-given-config : (dir : Dir) (kind maximum interval : ℕ) (a : Answer) (d : Driver) → configOf (givenTo dir kind maximum interval a d) ≡ configOf d
+given-config : (dir : Dir) (kind maximum interval : ℕ) (a : Answer) (d : Driver)
+    → configOf (givenTo dir kind maximum interval a d) ≡ configOf d
 unfolding givenTo setsGiven recordGiven withOn
 given-config dir kind maximum interval (Refused n) d = refl
 given-config dir kind maximum interval (Given e base slots) d = sets-config dir kind interval e (d .globals)
@@ -143,5 +158,6 @@ pub gives-config : (q : Act) → allowed true q ≡ true → (s : St) → config
 unfolding allocatedOn allocatedEp0
 gives-config q h s = by-act {K = λ q d. turns q ≡ false → configOf d ≡ configOf (s .0)} s
     (λ q d p z. config-of (subst (λ (t : Bool). RingsOnly t (s .0) d) z p))
-    (λ dir kind address maximum interval _. given-config dir kind maximum interval _ _) (λ maximum _. started-config maximum _ _) q
+    (λ dir kind address maximum interval _. given-config dir kind maximum interval _ _)
+    (λ maximum _. started-config maximum _ _) q
     (unturned (turns q) (not (allocates q) || true) h)

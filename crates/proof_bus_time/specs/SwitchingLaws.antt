@@ -25,9 +25,11 @@ use Rattle.bus_time.specs.Time.{chargeOf}
 use Rattle.calls.specs.Sharing.{chargeOn}
 use Rattle.proof_bus_time.specs.Enabled.{isEnabled}
 use Rattle.proof_bus_time.specs.Charged.{opBegun, givenBack}
-use Rattle.proof_bus_time.specs.StaysLaws.{configOf, Turns, Stays, still, stays, act-stays, switch-stays, turned, enabled-turns, row-turns}
-use Rattle.proof_bus_time.specs.Calm.{Calm}
-use Rattle.proof_bus_time.specs.LeftLaws.{Left, at-end, at-ask, left-bind, left-more, Goes, CalmKeeps, keeps, calm-run, calm-then}
+use Rattle.proof_bus_time.specs.StaysLaws.{configOf, Turns, Stays, still, stays, act-stays, switch-stays, turned}
+use Rattle.proof_bus_time.specs.StaysLaws.{enabled-turns, row-turns}
+use Rattle.proof_bus_time.specs.Calm.{NoEpConfigWrite}
+use Rattle.proof_bus_time.specs.LeftLaws.{Left, at-end, at-ask, left-bind, left-more, Goes, CalmKeeps, keeps}
+use Rattle.proof_bus_time.specs.LeftLaws.{calm-run, calm-then}
 
 -- ---- what is due
 
@@ -52,7 +54,8 @@ iso-stays In e x = refl
 
 -- one bit turned: of the endpoint itself (`own`) or of another
 by-bit : (own on b : Bool) (charge c : ℕ) → c ≡ cond (b || (on && own)) charge 0
-    → (cond (pick own on b) c 0 ≡ cond (pick own on b || (on && own)) charge 0) × (cond (pick own on b) c 0 ≡ cond (pick own on b || false) charge 0)
+    → (cond (pick own on b) c 0 ≡ cond (pick own on b || (on && own)) charge 0)
+    × (cond (pick own on b) c 0 ≡ cond (pick own on b || false) charge 0)
 by-bit true true true charge c h = (h, h)
 by-bit true true false charge c h = (h, h)
 by-bit true false b charge c h = (refl, refl)
@@ -89,7 +92,7 @@ module _ (dir : Dir) (e : ℕ) where
   ended-stays c d d′ x h = (due-stays dir e false c x (h .0), x .stage ∙ h .1)
 
   -- calm scripts then
-  pub calm-ended : {i : Bool} {A : Type 0} (back : ℕ → ℕ) (c : ℕ) (p : Script i A) → Calm false p → (s : St)
+  pub calm-ended : {i : Bool} {A : Type 0} (back : ℕ → ℕ) (c : ℕ) (p : Script i A) → NoEpConfigWrite false p → (s : St)
       → Ended c (s .0) → Left bit back (Due dir e false) Ended c (run concrete p s)
   calm-ended back c p x s h =
       left-more (calm-run (keeps (ended-stays c)) bit back c (Due dir e false) (λ d k. k .0) p x s h)
@@ -115,7 +118,8 @@ module _ (dir : Dir) (e : ℕ) where
     turning c d d′ x h =
         let word = ap (λ (w : ℕ). isSet w bit) (x .config) ∙ set-with (configOf d) (place dir′ e′) on bit in
         subst (λ (b : Bool). Both c b (chargeOn d′ dir e)) (sym word)
-        (subst (λ (n : ℕ). Both c (pick (eqb (place dir′ e′) bit) on (isSet (configOf d) bit)) n) (sym (charge-stays dir e x))
+        (subst (λ (n : ℕ). Both c (pick (eqb (place dir′ e′) bit) on (isSet (configOf d) bit)) n)
+        (sym (charge-stays dir e x))
         (by-bit (eqb (place dir′ e′) bit) on (isSet (configOf d) bit) (chargeOn d dir e) c h))
 
     turning-back : (c : ℕ) (d d′ : Driver) → Turns (turned d dir′ e′ on) d d′ → Due dir e mine c d
@@ -140,7 +144,8 @@ module _ (dir : Dir) (e : ℕ) where
       abbrev Turning : {A : Type 0} → Script false A → Type 0
       Turning p = Goes bit turnsBack c K (Due dir e mine) Ended p
 
-      first : {A B : Type 0} {p : Script false A} {f : A → Script false B} → Calm false p → ((a : A) → Turning (f a)) → Turning (bind p f)
+      first : {A B : Type 0} {p : Script false A} {f : A → Script false B} → NoEpConfigWrite false p
+          → ((a : A) → Turning (f a)) → Turning (bind p f)
       first x rest = calm-then M bit turnsBack c (Due dir e mine) shown x rest
 
       -- the write of ep_config
@@ -155,21 +160,22 @@ module _ (dir : Dir) (e : ℕ) where
 
 module _ (dir : Dir) (e e′ : ℕ) (on : Bool) (c : ℕ) (d : Driver) (second : d .globals .stage ≡ 2) where
   module _ (due : Due dir e (mine dir e In e′ on) c d) where
-    abbrev thenIn : {A B : Type 0} {p : Script false A} {f : A → Script false B} → Calm false p
+    abbrev thenIn : {A B : Type 0} {p : Script false A} {f : A → Script false B} → NoEpConfigWrite false p
         → ((a : A) → Turning dir e In e′ on c d due second (f a)) → Turning dir e In e′ on c d due second (bind p f)
     thenIn x rest = first dir e In e′ on c d due second x rest
 
     of-in : (iso : Bool) → Turning dir e In e′ on c d due second (bus.setEnabledIn {i = false} e′ iso on)
     unfolding isoOut
     of-in iso =
-        thenIn tt (λ _. thenIn (λ _. tt, λ _. tt) (λ _. thenIn tt (λ _. thenIn (λ _. tt, tt) (λ _. thenIn (tt, tt) (λ _. thenIn (tt, tt) (λ _.
+        thenIn tt (λ _. thenIn (λ _. tt, λ _. tt) (λ _. thenIn tt
+        (λ _. thenIn (λ _. tt, tt) (λ _. thenIn (tt, tt) (λ _. thenIn (tt, tt) (λ _.
         of-config dir e In e′ on c d due second iso refl))))))
 
   module _ (due : Due dir e (mine dir e Out e′ on) c d) where
     abbrev Runs : {A : Type 0} → tree.Out St A → Type 0
     Runs o = Left (place dir e) (turnsBack dir e Out e′ on) (Due dir e (mine dir e Out e′ on)) (Ended dir e) c o
 
-    abbrev thenOut : {A B : Type 0} {p : Script false A} {f : A → Script false B} → Calm false p
+    abbrev thenOut : {A B : Type 0} {p : Script false A} {f : A → Script false B} → NoEpConfigWrite false p
         → ((a : A) → Turning dir e Out e′ on c d due second (f a)) → Turning dir e Out e′ on c d due second (bind p f)
     thenOut x rest = first dir e Out e′ on c d due second x rest
 
@@ -182,7 +188,8 @@ module _ (dir : Dir) (e e′ : ℕ) (on : Bool) (c : ℕ) (d : Driver) (second :
     shows x k = shown dir e Out e′ on c d due second x k
 
     -- an isochronous OUT: its row
-    of-row : isOn (epOn d Out e′ .iso) ≡ true → (n : ℕ) (s : St) → Stays d (s .0) → Runs (rows concrete (switch e′ on) n (λ t. ends (tt {0}) t) s)
+    of-row : isOn (epOn d Out e′ .iso) ≡ true → (n : ℕ) (s : St) → Stays d (s .0)
+        → Runs (rows concrete (switch e′ on) n (λ t. ends (tt {0}) t) s)
     unfolding isoOut configStep
     of-row iso zero s k =
         let x = row-turns (s .0) e′ on (iso-stays Out e′ k ∙ iso) in
@@ -199,7 +206,8 @@ module _ (dir : Dir) (e e′ : ℕ) (on : Bool) (c : ℕ) (d : Driver) (second :
         (λ _ t w. of-row iso (suc (suc n)) t (still x w))
 
     of-out : (iso : Bool) → isOn (epOn d Out e′ .iso) ≡ iso → (s : St) → Stays d (s .0)
-        → Runs (cond iso (rows concrete (switch e′ on) 18 (λ t. ends (tt {0}) t) s) (run concrete (bus.setEnabledOut {i = false} e′ on) s))
+        → Runs (cond iso (rows concrete (switch e′ on) 18 (λ t. ends (tt {0}) t) s)
+        (run concrete (bus.setEnabledOut {i = false} e′ on) s))
     unfolding isoOut
     of-out true h s k = of-row h 18 s k
     of-out false h s k = of-plain h .on s k
@@ -210,10 +218,14 @@ module _ (dir : Dir) (e : ℕ) where
   woken : {back : ℕ → ℕ} {X : ℕ → Driver → Type 0} {A : Type 0} (dir′ : Dir) (e′ : ℕ) {c : ℕ} {o : tree.Out St A}
       → Left (place dir e) back X (Ended dir e) c o
       → Left (place dir e) back X (Ended dir e) c (tree.bindOut o (λ _ t. run concrete (wake {i = false} dir′ e′) t))
-  woken dir′ e′ x = left-bind x (λ g _ t y. at-end (ended-stays dir e g _ _ (act-stays (waken (wakeCode dir′ e′ ∷ [])) refl t) y))
+  woken dir′ e′ x = left-bind x (λ g _ t y. at-end (ended-stays dir e g _ _
+      (act-stays (waken (wakeCode dir′ e′ ∷ [])) refl t) y))
 
-  pub switched : (dir′ : Dir) (e′ : ℕ) (on : Bool) (c : ℕ) (s : St) → Due dir e (mine dir e dir′ e′ on) c (s .0) → s .0 .globals .stage ≡ 2
+  pub switched : (dir′ : Dir) (e′ : ℕ) (on : Bool) (c : ℕ) (s : St) → Due dir e (mine dir e dir′ e′ on) c (s .0)
+      → s .0 .globals .stage ≡ 2
       → Left (place dir e) (turnsBack dir e dir′ e′ on) (Due dir e (mine dir e dir′ e′ on)) (Ended dir e) c
       (run concrete (bus.setEnabled dir′ e′ on) s)
-  switched In e′ on c s due second = woken In e′ (of-in dir e e′ on c (s .0) second due (isOn (epOn (s .0) In e′ .iso)) .on s (stays (s .0)))
-  switched Out e′ on c s due second = woken Out e′ (of-out dir e e′ on c (s .0) second due (isOn (epOn (s .0) Out e′ .iso)) refl s (stays (s .0)))
+  switched In e′ on c s due second = woken In e′ (of-in dir e e′ on c (s .0) second due
+      (isOn (epOn (s .0) In e′ .iso)) .on s (stays (s .0)))
+  switched Out e′ on c s due second = woken Out e′ (of-out dir e e′ on c (s .0) second due
+      (isOn (epOn (s .0) Out e′ .iso)) refl s (stays (s .0)))

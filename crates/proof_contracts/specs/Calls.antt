@@ -9,7 +9,7 @@ use lib.ListN.{length}
 use denote.Ref.{now}
 use Rattle.state.specs.State.{view}
 use Rattle.script.specs.Statics.{flag}
-use Rattle.script.specs.Machine.{begin, go, pending, overruns, enabled}
+use Rattle.script.specs.Machine.{begin, continue, pending, overruns, enabled}
 use Rattle.script.specs.Calls.{other, slotted, aside, interrupt, Microframe, Allocate, AllocateAll, Start, SetPaced}
 use Rattle.script.specs.Calls.{BusEnable, BusDisable, BusPoll, IsStalled, SetStalled, SetEnabled, BeginSetup}
 use Rattle.script.specs.Calls.{PollSetup, BeginDataOut, PollDataOut, BeginDataIn, PollDataIn, BeginAccept}
@@ -225,7 +225,8 @@ begin-set-enabled-step κs s slots time driver dir e on r z h =
 
 pub proceed-step : (κs s slots time driver v r z : _)
     → proceed-contract.Learnt κs (s, (slots, (time, (driver, (v, tt))))) r z
-    → IsStepCharged driver (go v) (now s) (answerOf r [] (view (now (z .0)))) (now (z .0)) (now slots) (now (z .1 .0))
+    → IsStepCharged driver (continue v) (now s) (answerOf r [] (view (now (z .0)))) (now (z .0)) (now slots)
+    (now (z .1 .0))
     (now time) (now (z .1 .1 .0))
 proceed-step κs s slots time driver v r z h =
     record { did = h .0; saves = kept-by r _ _ _ _ (h .1 .1); kept = h .1 .0 }

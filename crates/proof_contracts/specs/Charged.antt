@@ -9,7 +9,7 @@ use lib.ListN.{take, drop}
 use Rattle.state.specs.Driver.{Driver}
 use Rattle.script.specs.Answers.{Answer}
 use Rattle.script.specs.Machine.{Machine}
-use Rattle.answer.specs.Goes.{Called}
+use Rattle.answer.specs.Goes.{StepResult}
 use Rattle.proof_book.specs.Pages.{Pages}
 use Rattle.proof_book.specs.Inputs.{Input, eventOf, lent}
 use Rattle.proof_contracts.specs.SharedPage.{AfterShared}
@@ -33,7 +33,7 @@ lentTime others time = take 32 time ++ (others ++ drop 64 time)
 abbrev pub turnOf : Charged → Standing → Turn
 turnOf c s = record { event = eventOf (c .input) (s .driver) (s .book); before = lentTime (c .others) (s .time) }
 
-abbrev pub outcomeOf : Charged → Standing → Called × List ℕ
+abbrev pub outcomeOf : Charged → Standing → StepResult × List ℕ
 outcomeOf c s = comesTo 0 (turnOf c s) (s .driver)
 
 abbrev pub next : Charged → Standing → Standing

@@ -12,7 +12,7 @@ use lib.ListN.{length}
 use denote.Ref.{now}
 use Rattle.state.specs.State.{view}
 use Rattle.script.specs.Answers.{Answer}
-use Rattle.script.specs.Machine.{begin, go, pending, overruns, enabled, Ans}
+use Rattle.script.specs.Machine.{begin, continue, pending, overruns, enabled, Ans}
 use Rattle.script.specs.Calls.{other, slotted, aside, interrupt, Microframe, Allocate, AllocateAll, Start, SetPaced}
 use Rattle.script.specs.Calls.{BusEnable, BusDisable, BusPoll, IsStalled, SetStalled, SetEnabled, BeginSetup}
 use Rattle.script.specs.Calls.{PollSetup, BeginDataOut, PollDataOut, BeginDataIn, PollDataIn, BeginAccept}
@@ -87,7 +87,8 @@ start-step κs s maximum r z h = worded r h (λ step k. unlent refl (k .0) (λ b
 
 pub continue-step : (κs s slots time driver value r z : _)
     → continue-contract.Learnt κs (s, (slots, (time, (driver, (value, tt))))) r z
-    → Worded r (λ step. IsStepCharged driver (go value) (now s) (answerOf step [] (view (now (z .0)))) (now (z .0))
+    → Worded r (λ step. IsStepCharged driver (continue value) (now s) (answerOf step [] (view (now (z .0))))
+    (now (z .0))
     (now slots) (now (z .1 .0)) (now time) (now (z .1 .1 .0)))
 continue-step κs s slots time driver value r z h =
     worded r h (λ step k. record { did = k .0; saves = kept-by step _ _ _ _ (k .1 .1); kept = k .1 .0 })

@@ -3,11 +3,9 @@
 -- question of the time in use answers that
 use mathlib.Core.List.{List}
 use mathlib.Core.Path.{_≡_, ap, _∙_}
-use Prim.Native.Nat.{ℕ, _%_}
+use Prim.Native.Nat.{_%_}
 use denote.Ref.{now}
-use Rattle.machine.specs.Suspended.{machineOf}
 use Rattle.bus_time.specs.Time.{inUse}
-use Rattle.calls.specs.Sharing.{sharedCall}
 use Rattle.proof_bus_time.specs.History.{history}
 use Rattle.proof_bus_time.specs.Enabled.{FourAtFirst}
 use Rattle.proof_bus_time.specs.Charged.{chargedTime}
@@ -15,25 +13,6 @@ use Rattle.proof_bus_time.specs.Code.{LentFour, fourOf, Run, turns, last}
 use Rattle.proof_bus_time.specs.CodeLaws.{code-in-use-charged}
 use Rattle.proof_bus_time.specs.Code as four
 use Rattle.usbhs_c.proofs.usbhs_time_in_use.Reads as time-in-use-contract
-use Rattle.proof_contracts.specs.SharedPage.{MadeShared, CallStep}
-
--- a call of driver i, as one of the four
-abbrev pub asTurn : ℕ → MadeShared → four.TurnMade
-asTurn i m = record {
-  turn = record { who = i; event = m .event };
-  answer = m .answer;
-  bytes = m .bytes;
-  slots = m
-      .slots;
-  time = m .time;
-}
-
--- it gets its own bytes, and the record as the last call of the four left it
-pub did-of-four : (l : LentFour) (i : ℕ) (m : MadeShared) → m .before ≡ l .time → CallStep i (l .bytes (i % 4)) (l .slots (i % 4)) m
-    → four.CallStep l (asTurn i m)
-did-of-four l i m h did = did
-    ∙ ap (λ (t : List ℕ). sharedCall i (m .event .call) (machineOf (l .bytes (i % 4)) (l .slots (i % 4))) t
-    (m .event .lent)) h
 
 -- "a question answers the time in use, always": after every list of calls of four drivers, by the history alone
 pub time-in-use-is : (κs time r z : _) → time-in-use-contract.Learnt κs (time, tt) r z

@@ -14,7 +14,6 @@ use Rattle.state.specs.Driver.{Driver, noneGathered}
 use Rattle.state.specs.State.{view, saved}
 use Rattle.descriptor.specs.declared.Endpoint.{Endpoint}
 use Rattle.descriptor.specs.declared.preview.Said.the-variants as said
-use Rattle.descriptor.specs.Reading.{listOf}
 use Rattle.descriptor.specs.OneByOne.{padded}
 use Rattle.script.specs.Tree as tree
 use Rattle.script.specs.Tree.{ends, asks}
@@ -22,16 +21,15 @@ use Rattle.script.specs.Script.{run}
 use Rattle.script.specs.Simulates.{Phase, quiet}
 use Rattle.script.specs.Answers.{Answer, Refused, End, NotYet, Done, Shown}
 use Rattle.script.specs.Calls.{Config, Op, other, Other, AllocateAll, otherCode, calls, code, starting, startRow}
-use Rattle.script.specs.Machine.{Buf, Event, Call, start, begin, go, question, Ans, ended, handed, told, Awaits}
+use Rattle.script.specs.Machine.{Buf, Event, Call, start, begin, continue, question, Ans, ended, handed, told, Awaits}
 use Rattle.script.specs.Machine.{awaited}
-use Rattle.script.specs.Machine.{Way, idle, busy, Machine, over, misfit, stay, lentTo, halt, begun, continued, started}
+use Rattle.script.specs.Machine.{Pending, idle, busy, Machine, over, misfit, halt, begun, continued, started}
 use Rattle.script.specs.Agree.{After, Ways, both-idle, both-busy, agrees, from-start}
 use Rattle.script_ops.specs.Rings.{St}
 use Rattle.script_ops.specs.Concrete.{concrete}
 use Rattle.machine.specs.Suspended.{driverOf, drive, machineOf, decode}
 use Rattle.machine.specs.Rows.{idleWay, isIdle, stopOf}
 use Rattle.calls.specs.Listed.{previewed}
-use Rattle.usbhs_c.specs.Preview.{shownBy}
 use Rattle.proof_alloc_all.specs.Hands.{handsOut, endsWith, allocation, oneByOne}
 use Rattle.proof_alloc_all.specs.Settled.{Settled}
 use Rattle.proof_alloc_all.specs.OrderLaws.{in-order, none-given}
@@ -44,7 +42,7 @@ use Rattle.proof_book.specs.Coupling.{Coupling}
 use Rattle.proof_book.specs.StartUpLaws.{fresh-kept}
 use Rattle.proof_book.specs.AgreesLaws.{agree}
 use Rattle.proof_book.specs.ListedLaws.{rest-settled}
-use Rattle.proof_book.specs.FrontPage.{Made, CallStep, written}
+use Rattle.proof_book.specs.FrontPage.{CallRecord, CallStep, bookStep}
 use Rattle.proof_book.specs.FrontPage as page
 use Rattle.proof_book.specs.SlotsKeptLaws.{lent-is}
 use Rattle.proof_book.specs.AnswersLaws.{isHanded}
@@ -105,7 +103,7 @@ record Handed (q : Access) (o : Out) (N : Machine Answer Driver) : Type 0 where
   state : St
   rest : ℕ → St → Out
   tree-is : o ≡ asks q state rest
-  way : N .way ≡ busy false (awaited q) rest
+  under-way : N .under-way ≡ busy false (awaited q) rest
   st : N .st ≡ state .0
 
 halt-handed : (o : Out) (q : Access) (N : Machine Answer Driver) → _≡_ {A = Came} (handed q, N) (halts false o)
@@ -117,14 +115,14 @@ halt-handed (asks r s k) q N h =
       state = s;
       rest = k;
       tree-is = refl;
-      way = ap (λ (x : Came). x .1 .way) h;
+      under-way = ap (λ (x : Came). x .1 .under-way) h;
       st = ap (λ (x : Came). x .1 .st) h;
     })
 
 record Ended (z : Answer) (o : Out) (N : Machine Answer Driver) : Type 0 where
   state : St
   tree-is : o ≡ ends z state
-  way : N .way ≡ idle
+  under-way : N .under-way ≡ idle
   st : N .st ≡ state .0
 
 halt-ended : (o : Out) (z : Answer) (N : Machine Answer Driver) → _≡_ {A = Came} (ended z, N) (halts false o)
@@ -135,21 +133,21 @@ halt-ended (ends y s) z N h =
     subst (λ (p : Answer). Ended p (ends y s) N) (sym same) (record {
       state = s;
       tree-is = refl;
-      way = ap (λ (x : Came). x .1 .way) h;
+      under-way = ap (λ (x : Came). x .1 .under-way) h;
       st = ap (λ (x : Came). x .1 .st) h;
     })
 
 -- a call that hands out nothing leaves an operation that is no interrupt where it was, or ends it
-abbrev Left : Way Answer Driver → Driver → Came → Type 0
-Left w d x = ((x .1 .way ≡ w) × (x .1 .st ≡ d)) ⊎ (x .1 .way ≡ idle)
+abbrev Left : Pending Answer Driver → Driver → Came → Type 0
+Left w d x = ((x .1 .under-way ≡ w) × (x .1 .st ≡ d)) ⊎ (x .1 .under-way ≡ idle)
 
-abbrev plain : Way Answer Driver → Bool
+abbrev plain : Pending Answer Driver → Bool
 plain idle = true
 plain (busy i q k) = not i
 
-module _ (w : Way Answer Driver) (d : Driver) (a b : Buf) where
+module _ (w : Pending Answer Driver) (d : Driver) (a b : Buf) where
   abbrev M : Machine Answer Driver
-  M = record { way = w; st = d; buf = a }
+  M = record { under-way = w; st = d; buf = a }
 
   abbrev Leaves : Came → Type 0
   Leaves x = isHanded (x .0) ≡ false → Left w d x
@@ -162,12 +160,14 @@ module _ (w : Way Answer Driver) (d : Driver) (a b : Buf) where
   either true x y p q = p
   either false x y p q = q
 
-  begins : (o : Op) (v : Way Answer Driver) → v ≡ w → plain v ≡ true → Leaves (begun calls driverOf (λ s. s) o M v b)
+  begins : (o : Op) (v : Pending Answer Driver) → v ≡ w → plain v ≡ true
+      → Leaves (begun calls driverOf (λ s. s) o M v b)
   begins o idle e p = halted (calls .irq o) (run concrete (code o) (d, b))
   begins o (busy false q k) e p = λ h. inl (refl, refl)
   begins o (busy true q k) e p = λ h. absurd (true≢false (sym p))
 
-  goes : (n : ℕ) (v : Way Answer Driver) → v ≡ w → plain v ≡ true → Leaves (continued calls driverOf (λ s. s) n M v b)
+  goes : (n : ℕ) (v : Pending Answer Driver) → v ≡ w → plain v ≡ true
+      → Leaves (continued calls driverOf (λ s. s) n M v b)
   goes n idle e p = λ h. inl (refl, refl)
   goes n (busy false q k) e p = either (over calls q n) _ _ (λ h. inl (refl, refl)) (halted false (k n (d, b)))
   goes n (busy true q k) e p = λ h. absurd (true≢false (sym p))
@@ -180,16 +180,16 @@ module _ (w : Way Answer Driver) (d : Driver) (a b : Buf) where
       by (suc r) = λ h. inl (refl, refl)
   quiet-call (begin o) p = either (cond (calls .slots o) (misfit calls driverOf d b) false) _ _
       (λ h. inl (refl, refl)) (begins o w refl p)
-  quiet-call (go v) p = either (misfit calls driverOf d b) _ _ (λ h. inl (refl, refl)) (goes v w refl p)
+  quiet-call (continue v) p = either (misfit calls driverOf d b) _ _ (λ h. inl (refl, refl)) (goes v w refl p)
   quiet-call (question q) p = λ h. inl (refl, refl)
 
 -- ---- a call that was made
 
-passes-unhanded : (m : Made) → Passes m → isHanded (m .answer) ≡ false
+passes-unhanded : (m : CallRecord) → Passes m → isHanded (m .answer) ≡ false
 passes-unhanded m (asked k h) = ap isHanded h
 passes-unhanded m (refused r h) = ap isHanded h
 
-module _ (xs : List ℕ) (a : Buf) (m : Made) (did : CallStep xs a m) where
+module _ (xs : List ℕ) (a : Buf) (m : CallRecord) (did : CallStep xs a m) where
   abbrev l : Buf
   l = m .event .lent
 
@@ -197,15 +197,15 @@ module _ (xs : List ℕ) (a : Buf) (m : Made) (did : CallStep xs a m) where
   N = machineOf (m .bytes) (m .slots)
 
   -- with what is under way, and the call
-  step-as : (w : Way Answer Driver) → machineOf xs a .way ≡ w → (c : Call Config Op) → m .event .call ≡ c
+  step-as : (w : Pending Answer Driver) → machineOf xs a .under-way ≡ w → (c : Call Config Op) → m .event .call ≡ c
       → (y : Ans Answer) → m .answer ≡ y
-      → _≡_ {A = Came} (y, N) (drive c (record { way = w; st = view xs; buf = a }) l)
+      → _≡_ {A = Came} (y, N) (drive c (record { under-way = w; st = view xs; buf = a }) l)
   step-as w h c g y k =
       ap (λ (z : Ans Answer). (z, N)) (sym k) ∙ (did
       ∙ (ap (λ (c : Call Config Op). drive c (machineOf xs a) l) g
-      ∙ ap (λ (w : Way Answer Driver). drive c (record { way = w; st = view xs; buf = a }) l) h))
+      ∙ ap (λ (w : Pending Answer Driver). drive c (record { under-way = w; st = view xs; buf = a }) l) h))
 
-  passed : (w : Way Answer Driver) → machineOf xs a .way ≡ w → plain w ≡ true → Passes m → Left w (view xs)
+  passed : (w : Pending Answer Driver) → machineOf xs a .under-way ≡ w → plain w ≡ true → Passes m → Left w (view xs)
       (m .answer, N)
   passed w h p q =
       let s = step-as w h (m .event .call) refl (m .answer) refl in
@@ -242,17 +242,19 @@ idle-answers : (u : Bool) (r s : Came) (P : Came → Type 0) → P r → P s →
 idle-answers true r s P p q = p
 idle-answers false r s P p q = q
 
-never-idle : {ms : List Made} {qs : List Access} {z : Answer} → ToItsEnd ms qs z → (xs : List ℕ) (a : Buf)
-    → machineOf xs a .way ≡ idle → Steps xs a ms → ⊥
+never-idle : {ms : List CallRecord} {qs : List Access} {z : Answer} → ToItsEnd ms qs z → (xs : List ℕ) (a : Buf)
+    → machineOf xs a .under-way ≡ idle → Steps xs a ms → ⊥
 never-idle (hands m v q ms qs z c k t) xs a w s =
-    let g = step-as xs a m (s .0) idle w (go v) c (handed q) k in
-    not-ended q (machineOf (m .bytes) (m .slots)) (drive (go v) (record { way = idle; st = view xs; buf = a })
+    let g = step-as xs a m (s .0) idle w (continue v) c (handed q) k in
+    not-ended q (machineOf (m .bytes) (m .slots)) (drive (continue v)
+    (record { under-way = idle; st = view xs; buf = a })
     (m .event .lent))
     (idle-answers (misfit calls driverOf (view xs) (m .event .lent)) _ _ (λ (x : Came). isHanded (x .0) ≡ false) refl
     refl) g
 never-idle (stops m v k ws c h) xs a w s =
-    let g = step-as xs a m (s .0) idle w (go v) c (ended (End k ws)) h in
-    not-refused k ws (machineOf (m .bytes) (m .slots)) (drive (go v) (record { way = idle; st = view xs; buf = a })
+    let g = step-as xs a m (s .0) idle w (continue v) c (ended (End k ws)) h in
+    not-refused k ws (machineOf (m .bytes) (m .slots))
+    (drive (continue v) (record { under-way = idle; st = view xs; buf = a })
     (m .event .lent))
     (idle-answers (misfit calls driverOf (view xs) (m .event .lent)) _ _ (λ (x : Came). isRefused (answerOf (x .0)) ≡
     true) refl refl) g
@@ -266,17 +268,19 @@ record Done-so (k : ℕ → St → Out) (xs : List ℕ) (a : Buf) (qs : List Acc
   brought : ℕ
   lent : Buf
   follows : Follows (k brought (view xs, lent)) qs z (view ys)
-  rests : machineOf ys b .way ≡ idle
+  rests : machineOf ys b .under-way ≡ idle
 
-follow : {ms : List Made} {qs : List Access} {z : Answer} → ToItsEnd ms qs z → (xs : List ℕ) (a : Buf) (q : Awaits)
+follow : {ms : List CallRecord} {qs : List Access} {z : Answer} → ToItsEnd ms qs z
+    → (xs : List ℕ) (a : Buf) (q : Awaits)
     (k : ℕ → St → Out)
-    → machineOf xs a .way ≡ busy false q k → Steps xs a ms → Done-so k xs a qs z (bytesAfter xs ms) (slotsAfter a ms)
+    → machineOf xs a .under-way ≡ busy false q k → Steps xs a ms
+    → Done-so k xs a qs z (bytesAfter xs ms) (slotsAfter a ms)
 follow (hands m v r ms qs z c h t) xs a q k w s =
     let b = m .event .lent in
     let g = goes-handed (misfit calls driverOf (view xs) b) (over calls q v) _ _ (k v (view xs, b)) r
     (machineOf (m .bytes) (m .slots)) refl refl
-    (step-as xs a m (s .0) (busy false q k) w (go v) c (handed r) h) in
-    let i = follow t (m .bytes) (m .slots) (awaited r) (g .rest) (g .way) (s .1) in
+    (step-as xs a m (s .0) (busy false q k) w (continue v) c (handed r) h) in
+    let i = follow t (m .bytes) (m .slots) (awaited r) (g .rest) (g .under-way) (s .1) in
     record {
       brought = v;
       lent = b;
@@ -290,14 +294,14 @@ follow (stops m v n ws c h) xs a q k w s =
     let b = m .event .lent in
     let g = goes-ended (misfit calls driverOf (view xs) b) (over calls q v) _ _ (k v (view xs, b)) n ws
     (machineOf (m .bytes) (m .slots)) refl refl
-    (step-as xs a m (s .0) (busy false q k) w (go v) c (ended (End n ws)) h) in
+    (step-as xs a m (s .0) (busy false q k) w (continue v) c (ended (End n ws)) h) in
     record {
       brought = v;
       lent = b;
       follows = subst (λ (o : Out). Follows o [] (End n ws) (view (m .bytes))) (sym (g .tree-is))
           (subst (λ (d : Driver). Follows (ends (End n ws) (g .state)) [] (End n ws) d) (sym (g .st))
           (f-end (End n ws) (g .state)));
-      rests = g .way;
+      rests = g .under-way;
     }
 follow (passes m ms qs z p t) xs a q k w s = ⊎-elim
     (λ h. let i = follow t (m .bytes) (m .slots) q k (h .0) (s .1) in
@@ -314,11 +318,11 @@ follow (passes m ms qs z p t) xs a q k w s = ⊎-elim
 record Followed (o : Other) (xs : List ℕ) (qs : List Access) (z : Answer) (ys : List ℕ) (b : Buf) : Type 0 where
   lent : Buf
   follows : Follows (run concrete (otherCode o) (view xs, lent)) qs z (view ys)
-  rests : machineOf ys b .way ≡ idle
+  rests : machineOf ys b .under-way ≡ idle
 
-operation-follows : (o : Other) {ms : List Made} {qs : List Access} {z : Answer} → Operation (other o) ms qs z
+operation-follows : (o : Other) {ms : List CallRecord} {qs : List Access} {z : Answer} → Operation (other o) ms qs z
     → (xs : List ℕ) (a : Buf)
-    → machineOf xs a .way ≡ idle → Steps xs a ms → Followed o xs qs z (bytesAfter xs ms) (slotsAfter a ms)
+    → machineOf xs a .under-way ≡ idle → Steps xs a ms → Followed o xs qs z (bytesAfter xs ms) (slotsAfter a ms)
 operation-follows o (at-once m z c h) xs a w s =
     let b = m .event .lent in
     let g = halt-ended (run concrete (otherCode o) (view xs, b)) z (machineOf (m .bytes) (m .slots))
@@ -327,13 +331,13 @@ operation-follows o (at-once m z c h) xs a w s =
       lent = b;
       follows = subst (λ (o : Out). Follows o [] z (view (m .bytes))) (sym (g .tree-is))
           (subst (λ (d : Driver). Follows (ends z (g .state)) [] z d) (sym (g .st)) (f-end z (g .state)));
-      rests = g .way;
+      rests = g .under-way;
     }
 operation-follows o (goes-on m r ms qs z c h t) xs a w s =
     let b = m .event .lent in
     let g = halt-handed (run concrete (otherCode o) (view xs, b)) r (machineOf (m .bytes) (m .slots))
     (step-as xs a m (s .0) idle w (begin (other o)) c (handed r) h) in
-    let i = follow t (m .bytes) (m .slots) (awaited r) (g .rest) (g .way) (s .1) in
+    let i = follow t (m .bytes) (m .slots) (awaited r) (g .rest) (g .under-way) (s .1) in
     record {
       lent = b;
       follows = subst (λ (o : Out). Follows o (r ∷ qs) z (view (bytesAfter (m .bytes) ms))) (sym (g .tree-is))
@@ -345,30 +349,31 @@ operation-follows o (goes-on m r ms qs z c h t) xs a w s =
 
 -- ---- one after the other
 
-steps-apart : (ms ns : List Made) (xs : List ℕ) (a : Buf) → Steps xs a (ms ++ ns) → Steps xs a ms × Steps
+steps-apart : (ms ns : List CallRecord) (xs : List ℕ) (a : Buf) → Steps xs a (ms ++ ns) → Steps xs a ms × Steps
     (bytesAfter xs ms) (slotsAfter a ms) ns
 steps-apart [] ns xs a s = (tt, s)
 steps-apart (m ∷ ms) ns xs a s = let i = steps-apart ms ns (m .bytes) (m .slots) (s .1) in ((s .0, i .0), i .1)
 
-bytes-apart : (ms ns : List Made) (xs : List ℕ) → bytesAfter xs (ms ++ ns) ≡ bytesAfter (bytesAfter xs ms) ns
+bytes-apart : (ms ns : List CallRecord) (xs : List ℕ) → bytesAfter xs (ms ++ ns) ≡ bytesAfter (bytesAfter xs ms) ns
 bytes-apart [] ns xs = refl
 bytes-apart (m ∷ ms) ns xs = bytes-apart ms ns (m .bytes)
 
 -- an endpoint's own call, as its script has it with any slots
-own-follows : (e : Endpoint) {ms : List Made} {qs : List Access} {z : Answer} → Operation (ownCall e) ms qs z
+own-follows : (e : Endpoint) {ms : List CallRecord} {qs : List Access} {z : Answer} → Operation (ownCall e) ms qs z
     → (xs : List ℕ) (a : Buf) (b : Buf)
-    → machineOf xs a .way ≡ idle → Steps xs a ms → let u = run concrete (allocation e) (view xs, b) in
+    → machineOf xs a .under-way ≡ idle → Steps xs a ms → let u = run concrete (allocation e) (view xs, b) in
     (qs ≡ handsOut u) × (z ≡ endsWith u .0) × (view (bytesAfter xs ms) ≡ endsWith u .1 .0)
-    × (machineOf (bytesAfter xs ms) (slotsAfter a ms) .way ≡ idle)
+    × (machineOf (bytesAfter xs ms) (slotsAfter a ms) .under-way ≡ idle)
 own-follows e o xs a b w s =
     let f = operation-follows _ o xs a w s in
     let g = follows-same (f .follows) (run concrete (allocation e) (view xs, b))
     (single e .same (view xs) (f .lent) b) in
     (g .0, g .1, g .2, f .rests)
 
-each-follows : {es : List Endpoint} {ms : List Made} {rs : List Access} → OneByOne es ms rs → (xs : List ℕ) (a : Buf)
+each-follows : {es : List Endpoint} {ms : List CallRecord} {rs : List Access} → OneByOne es ms rs
+    → (xs : List ℕ) (a : Buf)
     (d : Driver) (b : Buf)
-    → view xs ≡ d → machineOf xs a .way ≡ idle → Steps xs a ms
+    → view xs ≡ d → machineOf xs a .under-way ≡ idle → Steps xs a ms
     → (rs ≡ oneByOne es (d, b) .0) × (view (bytesAfter xs ms) ≡ oneByOne es (d, b) .1 .0)
 unfolding oneByOne
 each-follows none xs a d b h w s = (refl, h)
@@ -433,9 +438,10 @@ record Alike (ks js : List ℕ) (n m : ℕ) (d e : Driver) : Type 0 where
   row : n ≡ m
   driver : d ≡ e
 
-made-alike : {es : List Endpoint} {ms : List Made} {ks : List ℕ} {n : ℕ} → UpToRefusal es ms ks n
+made-alike : {es : List Endpoint} {ms : List CallRecord} {ks : List ℕ} {n : ℕ} → UpToRefusal es ms ks n
     → {s u : St} {js : List ℕ} {k : ℕ}
-    → preview.Calls s es js k u → (xs : List ℕ) (a : Buf) → view xs ≡ s .0 → machineOf xs a .way ≡ idle → Steps xs a ms
+    → preview.Calls s es js k u → (xs : List ℕ) (a : Buf) → view xs ≡ s .0 → machineOf xs a .under-way ≡ idle
+    → Steps xs a ms
     → Alike ks js n k (view (bytesAfter xs ms)) (u .0)
 made-alike all-given (preview.all-given s) xs a h w t = record { numbers = refl; row = refl; driver = h }
 made-alike (made.refused e es ms qs n o) (preview.refused s _ _ k same) xs a h w t =
@@ -473,7 +479,7 @@ made-alike (given e es ms ns qs j ws ks n o r) (preview.ended s v u _ _ k same j
     }
 
 -- at rest and at stage 1 no row before stops the preview
-unstopped : (xs : List ℕ) (a : Buf) → machineOf xs a .way ≡ idle → view xs .globals .stage ≡ 1
+unstopped : (xs : List ℕ) (a : Buf) → machineOf xs a .under-way ≡ idle → view xs .globals .stage ≡ 1
     → stopOf (isIdle (decode (saved xs))) 1 (view xs .globals .stage) ≡ 0
 unfolding isIdle stopOf
 unstopped xs a w h =
@@ -510,30 +516,33 @@ module _ (xs : List ℕ) (a : Buf) (bytes : List ℕ) (settled : Settled (view x
 
 record Coupled (xs : List ℕ) (a : Buf) (n : Machine Answer Pages) : Type 0 where
   phase : Phase
-  ways : Ways driverOf book agree calls phase (machineOf xs a .way) (n .way)
+  ways : Ways driverOf book agree calls phase (machineOf xs a .under-way) (n .under-way)
   rest : Coupling phase a (view xs) (n .st)
 
-coupled : (ms : List Made) (xs : List ℕ) (a : Buf) (n : Machine Answer Pages) → Coupled xs a n → page.Calls xs a n ms
-    → Coupled (bytesAfter xs ms) (slotsAfter a ms) (page.bookAfter n ms)
+coupled : (ms : List CallRecord) (xs : List ℕ) (a : Buf) (n : Machine Answer Pages) → Coupled xs a n
+    → page.Calls xs a n ms
+    → Coupled (bytesAfter xs ms) (slotsAfter a ms) (page.bookAfterAll n ms)
 coupled [] xs a n h p = h
 coupled (m ∷ ms) xs a n h p =
     let c = m .event .call in
     let b = m .event .lent in
-    let k : After driverOf book agree calls (m .answer, machineOf (m .bytes) (m .slots)) (page.noted m n)
-    = subst (λ (x : Came). After driverOf book agree calls x (written (x .0) c n b)) (sym (p .0))
+    let k : After driverOf book agree calls (m .answer, machineOf (m .bytes) (m .slots)) (page.bookAfter m n)
+    = subst (λ (x : Came). After driverOf book agree calls x (bookStep (x .0) c n b)) (sym (p .0))
     (agrees driverOf book agree calls fresh-kept c b (machineOf xs a) n (h .ways) (h .rest)
     (lent-is (machineOf xs a) n (h .rest) b c (p .1))) in
-    coupled ms (m .bytes) (m .slots) (page.noted m n .1) (record { phase = k .phase; ways = k .ways; rest = k .rest })
+    coupled ms (m .bytes) (m .slots) (page.bookAfter m n .1)
+    (record { phase = k .phase; ways = k .ways; rest = k .rest })
     (p .2)
 
-idle-quiet : {φ : Phase} {w : Way Answer Driver} {v : Way Answer Pages} → Ways driverOf book agree calls φ w v
+idle-quiet : {φ : Phase} {w : Pending Answer Driver} {v : Pending Answer Pages} → Ways driverOf book agree calls φ w v
     → idleWay w ≡ true → φ ≡ quiet
 idle-quiet both-idle h = refl
 idle-quiet (both-busy i a f k) h = absurd (true≢false (sym h))
 
 module _ (c : Config) (b : Buf) (row : startRow c b ≡ zero) (xs : List ℕ) (a : Buf) (n : Machine Answer Pages)
-    (first : Made)
-    (is : first .event ≡ record { call = start c; lent = b }) (ms : List Made) (p : page.Calls xs a n (first ∷ ms))
+    (first : CallRecord)
+    (is : first .event ≡ record { call = start c; lent = b }) (ms : List CallRecord)
+    (p : page.Calls xs a n (first ∷ ms))
     (bytes : List ℕ)
     (r : AtRest (bytesAfter xs (first ∷ ms)) (slotsAfter a (first ∷ ms)) bytes) where
   abbrev ys : List ℕ
@@ -543,18 +552,18 @@ module _ (c : Config) (b : Buf) (row : startRow c b ≡ zero) (xs : List ℕ) (a
   here = slotsAfter a (first ∷ ms)
 
   started-so : After driverOf book agree calls (first .answer, machineOf (first .bytes) (first .slots))
-      (page.noted first n)
-  started-so = subst (λ (x : Came). After driverOf book agree calls x (written (x .0) (first .event .call) n
+      (page.bookAfter first n)
+  started-so = subst (λ (x : Came). After driverOf book agree calls x (bookStep (x .0) (first .event .call) n
       (first .event .lent)))
       (sym (p .0)) (subst (λ (v : Event Config Op). let x = drive (v .call) (machineOf xs a) (v .lent) in
-      After driverOf book agree calls x (written (x .0) (v .call) n (v .lent))) (sym is)
+      After driverOf book agree calls x (bookStep (x .0) (v .call) n (v .lent))) (sym is)
       (rw row (from-start driverOf book agree calls fresh-kept c b row [] (machineOf xs a) n tt .0)))
 
   settled-here : Settled (view ys)
   settled-here =
-      let k = coupled ms (first .bytes) (first .slots) (page.noted first n .1)
+      let k = coupled ms (first .bytes) (first .slots) (page.bookAfter first n .1)
       (record { phase = started-so .phase; ways = started-so .ways; rest = started-so .rest }) (p .2) in
-      rest-settled (subst (λ (φ : Phase). Coupling φ here (view ys) (page.bookAfter n (first ∷ ms) .st))
+      rest-settled (subst (λ (φ : Phase). Coupling φ here (view ys) (page.bookAfterAll n (first ∷ ms) .st))
       (idle-quiet (k .ways) (ap idleWay (r .nothing))) (k .rest))
 
   pub code-in-order : InOrder ys here bytes

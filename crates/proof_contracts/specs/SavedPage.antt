@@ -13,7 +13,7 @@ use Rattle.script.specs.Calls.{Config, Op}
 use Rattle.script.specs.Calls.{startRow}
 use Rattle.script.specs.Calls as calls
 use Rattle.script.specs.Kinds.{pacing, is, kindOf}
-use Rattle.script.specs.Machine.{Buf, Call, start, begin, go, question, idle, Ans}
+use Rattle.script.specs.Machine.{Buf, Call, start, begin, continue, question, idle, Ans}
 use Rattle.machine.specs.Suspended.{encode, decode, machineOf}
 use Rattle.machine.specs.Keeps.{KeptBy}
 use Rattle.proof_contracts.specs.SharedPage.{MadeShared, CallStep}
@@ -22,12 +22,12 @@ use Rattle.proof_contracts.specs.SharedPage.{MadeShared, CallStep}
 abbrev pub passes : Call Config Op → Bool
 passes (start c) = false
 passes (begin o) = is (kindOf o) pacing || calls.passes o
-passes (go v) = false
+passes (continue v) = false
 passes (question q) = true
 
 -- what a call's contract says of the saved bytes, xs the state's bytes before it, ys those after it: one that passes
--- leaves them; of all others by the answer (`KeptBy`, machine/specs/Keeps.antt): canonical with an access, all zero at an
--- operation's end, else as they were
+-- leaves them; of all others by the answer (`KeptBy`, machine/specs/Keeps.antt): canonical with an access, all zero at
+-- an operation's end, else as they were
 abbrev pub SavesAs : Bool → Ans Answer → List ℕ → List ℕ → Type 0
 SavesAs true a xs ys = saved ys ≡ saved xs
 SavesAs false a xs ys = KeptBy a xs ys
@@ -46,7 +46,7 @@ pub record Pinned (m : MadeShared) : Type 0 where
   -- the 22 bytes are the encoding of what is under way
   pub encoded : saved (m .bytes) ≡ encode (decode (saved (m .bytes)))
   -- where nothing is under way all are zero
-  pub zeros : machineOf (m .bytes) (m .slots) .way ≡ idle → saved (m .bytes) ≡ nothing
+  pub zeros : machineOf (m .bytes) (m .slots) .under-way ≡ idle → saved (m .bytes) ≡ nothing
 
 abbrev pub AllPinned : List MadeShared → Type 0
 AllPinned [] = Unit {0}

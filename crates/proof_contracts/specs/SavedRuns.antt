@@ -17,7 +17,7 @@ use Rattle.machine.specs.Suspended.{encode, decode, wayOf, machineOf, driverOf,
 use Rattle.machine.specs.Rows.{idleWay}
 use Rattle.machine.specs.Keeps.{KeptBy}
 use Rattle.machine.specs.KeepsLaws.{canonical}
-use Rattle.answer.specs.Goes.{Called}
+use Rattle.answer.specs.Goes.{StepResult}
 use Rattle.calls.specs.Sharing.{sharedCall, settled, isHanded}
 use Rattle.proof_contracts.specs.SharedPage.{MadeShared}
 use Rattle.proof_contracts.specs.SavedPage.{passes, SavesAs, Saves, Saving, Pinned, AllPinned, CodeCanonical}
@@ -91,7 +91,7 @@ pub start-canonical : (i : ℕ) (c : Config) (b : Buf) → startRow c b ≡ zero
 start-canonical i c b row xs a m is-start run =
     let did =
     subst (λ (v : Event Config Op). m .answer ≡ sharedCall i (v .call) (machineOf xs a) (m .before) (v .lent) .0 .0)
-    is-start (ap (λ (z : Called × List ℕ). z .0 .0) (run .0)) in
+    is-start (ap (λ (z : StepResult × List ℕ). z .0 .0) (run .0)) in
     let saves = subst (λ (v : Event Config Op). Saves (v .call) (m .answer) xs (m .bytes)) is-start (run .1) in
     by-access (m .answer) xs (m .bytes) (ap isHanded did ∙ begins i c b row (machineOf xs a) (m .before)) saves
 

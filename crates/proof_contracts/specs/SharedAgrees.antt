@@ -14,11 +14,12 @@ use Rattle.script.specs.Simulates.{Phase}
 use Rattle.script.specs.Cells.{EpCore}
 use Rattle.script.specs.Answers.{Answer, Refused}
 use Rattle.script.specs.Calls.{Config, Op, calls, startRow}
-use Rattle.script.specs.Machine.{Buf, Call, start, begin, go, question, Way, idle, busy, Machine, Ans, ended, handed}
+use Rattle.script.specs.Machine.{Buf, Call, start, begin, continue, question, Pending, idle, busy, Machine, Ans, ended}
+use Rattle.script.specs.Machine.{handed}
 use Rattle.script.specs.Machine.{told, fed, halt, begun, continued, started, call, misfit, stay, lentTo, over, blankA}
 use Rattle.script.specs.Agree.{After, Ways, LentAlike, unless, agrees}
 use Rattle.machine.specs.Suspended.{driverOf, drive}
-use Rattle.answer.specs.Goes.{Called}
+use Rattle.answer.specs.Goes.{StepResult}
 use Rattle.bus_time.specs.Time.{chargeOf, entryOf, passes}
 use Rattle.calls.specs.Sharing.{Sort, enabling, starting, going, apart, opSort, sortOf, isHanded, chargeOn}
 use Rattle.calls.specs.Sharing.{turnedDown, timeAfter, settled, sharedCall}
@@ -27,12 +28,12 @@ use Rattle.proof_book.specs.Book.{book}
 use Rattle.proof_book.specs.Coupling.{Coupling, Chip}
 use Rattle.proof_book.specs.StartUpLaws.{fresh-kept}
 use Rattle.proof_book.specs.AgreesLaws.{agree}
-use Rattle.proof_book.specs.FrontPage.{written, LentAsLeft}
+use Rattle.proof_book.specs.FrontPage.{bookStep, BufferPreserved}
 use Rattle.proof_book.specs.SlotsKeptLaws.{lent-is}
 use Rattle.proof_contracts.specs.SharedBook.{chargeIn, wouldPass, sharedStep, timeIn}
 
 -- driver and book agree after a call (proof_book/specs/Coupling.antt), and the record is what the book works out
-pub record Agreed (i : ℕ) (c : Call Config Op) (x : Called) (before after : List ℕ) (b : Buf)
+pub record Agreed (i : ℕ) (c : Call Config Op) (x : StepResult) (before after : List ℕ) (b : Buf)
     (n : Machine Answer Pages) : Type 0 where
   pub both : After driverOf book agree calls x (sharedStep i (x .0) c n before b)
   pub time : after ≡ timeIn i (sortOf c) (x .0) (n .st) before
@@ -49,12 +50,12 @@ module _ (f g : Pages → Pages) where
   cond-same true z x y h = refl
   cond-same false z x y h = h
 
-  begun-same : (o : Op) (n : Machine Answer Pages) (w : Way Answer Pages) (b : Buf)
+  begun-same : (o : Op) (n : Machine Answer Pages) (w : Pending Answer Pages) (b : Buf)
       → begun calls (book .driver) f o n w b .0 ≡ begun calls (book .driver) g o n w b .0
   begun-same o n idle b = halt-same (calls .irq o) (run (book .driver .ops) (calls .code o) (n .st, b))
   begun-same o n (busy i q k) b = refl
 
-  continued-same : (v : ℕ) (n : Machine Answer Pages) (w : Way Answer Pages) (b : Buf)
+  continued-same : (v : ℕ) (n : Machine Answer Pages) (w : Pending Answer Pages) (b : Buf)
       → continued calls (book .driver) f v n w b .0 ≡ continued calls (book .driver) g v n w b .0
   continued-same v n idle b = refl
   continued-same v n (busy i q k) b =
@@ -72,12 +73,12 @@ module _ (f g : Pages → Pages) where
   answer-same (start c) n b = started-same c (startRow c b) n b
   answer-same (begin o) n b =
       cond-same (cond (calls .slots o) (misfit calls (book .driver) (n .st) b) false) (stay calls (book .driver) 1 n)
-      (begun calls (book .driver) f o n (n .way) b) (begun calls (book .driver) g o n (n .way) b)
-      (begun-same o n (n .way) b)
-  answer-same (go v) n b =
+      (begun calls (book .driver) f o n (n .under-way) b) (begun calls (book .driver) g o n (n .under-way) b)
+      (begun-same o n (n .under-way) b)
+  answer-same (continue v) n b =
       cond-same (misfit calls (book .driver) (n .st) b) (stay calls (book .driver) 1 n)
-      (continued calls (book .driver) f v n (n .way) b) (continued calls (book .driver) g v n (n .way) b)
-      (continued-same v n (n .way) b)
+      (continued calls (book .driver) f v n (n .under-way) b) (continued calls (book .driver) g v n (n .under-way) b)
+      (continued-same v n (n .under-way) b)
   answer-same (question q) n b = refl
 
 -- answers that are the same but for addresses: both hand out an access, or neither does
@@ -124,7 +125,7 @@ not-down i starting a d time = refl
 not-down i going a d time = refl
 not-down i apart a d time = refl
 
-down-fits : (i : ℕ) (x : Sort) (d : Driver) (m : Machine Answer Driver) (y : Called) (time : List ℕ) (u : Bool)
+down-fits : (i : ℕ) (x : Sort) (d : Driver) (m : Machine Answer Driver) (y : StepResult) (time : List ℕ) (u : Bool)
     {X : Type 0}
     → turnedDown i x (cond u (stay calls driverOf 1 m) y .0) d time ≡ true → unless driverOf book agree calls u X → X
 down-fits i x d m y time true h l = absurd (true≢false (sym h ∙ not-down i x (Refused 1) d time))
@@ -136,36 +137,36 @@ pub down-chip : (i : ℕ) (c : Call Config Op) (m : Machine Answer Driver) (n : 
     → Chip (n .st) (m .buf) b
 down-chip i (start c) m n time b h l = absurd (true≢false (sym h))
 down-chip i (begin o) m n time b h l =
-    down-fits i (opSort o) (m .st) m (begun calls driverOf (λ s. s) o m (m .way) b) time
+    down-fits i (opSort o) (m .st) m (begun calls driverOf (λ s. s) o m (m .under-way) b) time
     (cond (calls .slots o) (misfit calls driverOf (m .st) b) false) h l
-down-chip i (go v) m n time b h l = absurd (true≢false (sym h))
+down-chip i (continue v) m n time b h l = absurd (true≢false (sym h))
 down-chip i (question q) m n time b h l = absurd (true≢false (sym h))
 
 -- ---- one call
 
 module _ (i : ℕ) (c : Call Config Op) (b : Buf) (time : List ℕ) {φ : Phase} (m : Machine Answer Driver)
     (n : Machine Answer Pages)
-    (w : Ways driverOf book agree calls φ (m .way) (n .way)) (r : Coupling φ (m .buf) (m .st) (n .st))
-    (l : LentAsLeft c n (m .buf) b) where
+    (w : Ways driverOf book agree calls φ (m .under-way) (n .under-way)) (r : Coupling φ (m .buf) (m .st) (n .st))
+    (l : BufferPreserved c n (m .buf) b) where
   -- the driver's own call, without the record
-  own : After driverOf book agree calls (drive c m b) (written (drive c m b .0) c n b)
+  own : After driverOf book agree calls (drive c m b) (bookStep (drive c m b .0) c n b)
   own = agrees driverOf book agree calls fresh-kept c b m n w r (lent-is m n r b c l)
 
   abbrev pub isDown : Bool
   isDown = turnedDown i (sortOf c) (drive c m b .0) (m .st) time
 
-  abbrev outcome : Bool → Called × List ℕ
+  abbrev outcome : Bool → StepResult × List ℕ
   outcome u = cond u ((ended (Refused 19), lentTo calls driverOf m b), time)
       (drive c m b, timeAfter i (sortOf c) (drive c m b .0) (m .st) time)
 
   abbrev noted : Bool → Ans Answer → Ans Answer × Machine Answer Pages
-  noted u z = cond u (ended (Refused 19), lentTo calls (book .driver) n b) (written z c n b)
+  noted u z = cond u (ended (Refused 19), lentTo calls (book .driver) n b) (bookStep z c n b)
 
   -- the book stops just what the driver does, whatever it is told
-  pub down-same : (z : Ans Answer) → isDown ≡ wouldPass i (sortOf c) (written z c n b .0) (n .st) time
+  pub down-same : (z : Ans Answer) → isDown ≡ wouldPass i (sortOf c) (bookStep z c n b .0) (n .st) time
   down-same z =
-      pass-same r i (sortOf c) (drive c m b .0) (written z c n b .0) time
-      (handed-same (drive c m b .0) (written (drive c m b .0) c n b .0) (own .same)
+      pass-same r i (sortOf c) (drive c m b .0) (bookStep z c n b .0) time
+      (handed-same (drive c m b .0) (bookStep (drive c m b .0) c n b .0) (own .same)
       ∙ ap isHanded (answer-same (fed book (drive c m b .0)) (fed book z) c n b))
 
   by-outcome : (u : Bool) → isDown ≡ u → After driverOf book agree calls (outcome u .0) (noted u (outcome u .0 .0))

@@ -16,7 +16,7 @@ use Rattle.proof_book.specs.Pages.{Pages}
 use Rattle.proof_book.specs.Book.{book}
 use Rattle.proof_book.specs.Coupling.{Coupling}
 use Rattle.proof_book.specs.AgreesLaws.{agree}
-use Rattle.proof_book.specs.FrontPage.{LentAsLeft}
+use Rattle.proof_book.specs.FrontPage.{BufferPreserved}
 use Rattle.proof_book.specs.FrontPage as page
 use Rattle.proof_contracts.specs.Steps.{made}
 use Rattle.proof_contracts.specs.SharedPage.{MadeShared, outcomeOf, noted, Calls}
@@ -29,7 +29,7 @@ abbrev pub isDown : ℕ → List ℕ → Buf → MadeShared → Bool
 isDown i xs a m = isStopped i (m .event .call) (machineOf xs a) (m .before) (m .event .lent)
 
 -- the call as the driver alone gets it
-abbrev pub madeAlone : ℕ → List ℕ → Buf → MadeShared → page.Made
+abbrev pub madeAlone : ℕ → List ℕ → Buf → MadeShared → page.CallRecord
 madeAlone i xs a m = record {
   event = record { call = callAlone (isDown i xs a m) (m .event .call); lent = m .event .lent };
   answer = answerAlone (isDown i xs a m) (view xs) (m .answer);
@@ -37,7 +37,7 @@ madeAlone i xs a m = record {
   slots = m .slots;
 }
 
-abbrev pub allAlone : ℕ → List ℕ → Buf → List MadeShared → List page.Made
+abbrev pub allAlone : ℕ → List ℕ → Buf → List MadeShared → List page.CallRecord
 allAlone i xs a [] = []
 allAlone i xs a (m ∷ ms) = madeAlone i xs a m ∷ allAlone i (m .bytes) (m .slots) ms
 
@@ -46,12 +46,13 @@ allAlone i xs a (m ∷ ms) = madeAlone i xs a m ∷ allAlone i (m .bytes) (m .sl
 -- the book goes the same way, and is lent the same
 abbrev pub NotedAll : ℕ → List ℕ → Buf → Machine Answer Pages → List MadeShared → Type 0
 NotedAll i xs a n [] = Unit {0}
-NotedAll i xs a n (m ∷ ms) = (noted i m n .1 ≡ page.noted (madeAlone i xs a m) n .1)
-    × LentAsLeft (madeAlone i xs a m .event .call) n a (m .event .lent)
+NotedAll i xs a n (m ∷ ms) = (noted i m n .1 ≡ page.bookAfter (madeAlone i xs a m) n .1)
+    × BufferPreserved (madeAlone i xs a m .event .call) n a (m .event .lent)
     × NotedAll i (m .bytes) (m .slots) (noted i m n .1) ms
 
 noted-all : (i : ℕ) (ms : List MadeShared) {φ : Phase} (xs : List ℕ) (a : Buf) (n : Machine Answer Pages)
-    → Ways driverOf book agree calls φ (machineOf xs a .way) (n .way) → Coupling φ a (view xs) (n .st) → Calls i xs a n ms
+    → Ways driverOf book agree calls φ (machineOf xs a .under-way) (n .under-way) → Coupling φ a (view xs) (n .st)
+    → Calls i xs a n ms
     → AgreedAll i n ms → NotedAll i xs a n ms
 noted-all i [] xs a n w r h k = tt
 noted-all i (m ∷ ms) xs a n w r h k = (
@@ -77,15 +78,17 @@ with-event m v = made (v .call) (v .lent) (m .before) (m .time) (m .answer) (m .
 
 start-noted : (i : ℕ) (c : Config) (b : Buf) (xs : List ℕ) (a : Buf) (n : Machine Answer Pages) (m : MadeShared)
     → m .event ≡ record { call = start c; lent = b }
-    → noted i m n .1 ≡ page.noted (madeAlone i xs a m) n .1
+    → noted i m n .1 ≡ page.bookAfter (madeAlone i xs a m) n .1
 start-noted i c b xs a n m e =
-    subst (λ (v : Event Config Op). noted i (with-event m v) n .1 ≡ page.noted (madeAlone i xs a (with-event m v)) n
+    subst (λ (v : Event Config Op). noted i (with-event m v) n .1 ≡ page.bookAfter (madeAlone i xs a (with-event m v)) n
     .1) (sym e) refl
 
 start-lent : (i : ℕ) (c : Config) (b : Buf) (xs : List ℕ) (a : Buf) (n : Machine Answer Pages) (m : MadeShared)
-    → m .event ≡ record { call = start c; lent = b } → LentAsLeft (madeAlone i xs a m .event .call) n a (m .event .lent)
+    → m .event ≡ record { call = start c; lent = b } → BufferPreserved (madeAlone i xs a m .event .call) n a
+    (m .event .lent)
 start-lent i c b xs a n m e =
-    subst (λ (v : Event Config Op). LentAsLeft (madeAlone i xs a (with-event m v) .event .call) n a (v .lent)) (sym e) tt
+    subst (λ (v : Event Config Op). BufferPreserved (madeAlone i xs a (with-event m v) .event .call) n a (v .lent))
+    (sym e) tt
 
 pub start-alone : (i : ℕ) (c : Config) (b : Buf) (xs : List ℕ) (a : Buf) (m : MadeShared)
     → m .event ≡ record { call = start c; lent = b }

@@ -15,7 +15,7 @@ use Rattle.calls.specs.Sharing.{Sort, enabling, starting, going, apart, sortOf,
 use Rattle.calls.specs.Sharing as sharing
 use Rattle.proof_book.specs.Pages.{Pages}
 use Rattle.proof_book.specs.Book.{book}
-use Rattle.proof_book.specs.FrontPage.{written}
+use Rattle.proof_book.specs.FrontPage.{bookStep}
 
 -- what an endpoint is charged, by the kept kind and maximum
 abbrev pub chargeIn : Pages → Dir → ℕ → ℕ
@@ -32,7 +32,7 @@ wouldPass i apart a t time = false
 abbrev pub sharedStep : ℕ → Ans Answer → Call Config Op → Machine Answer Pages → List ℕ → Buf → Ans Answer
     × Machine Answer Pages
 sharedStep i x c n time b =
-    let y = written x c n b in
+    let y = bookStep x c n b in
     cond (wouldPass i (sortOf c) (y .0) (n .st) time) (ended (Refused 19), lentTo calls (book .driver) n b) y
 
 -- ---- the record after a call that answered so: "an enable counts from its beginning; time comes back with the write

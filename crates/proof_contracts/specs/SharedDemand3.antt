@@ -13,7 +13,7 @@ use Rattle.state.specs.State.{view}
 use Rattle.state.specs.Driver.{Driver}
 use Rattle.script.specs.Answers.{Answer, Refused}
 use Rattle.script.specs.Calls.{Config, Op, slotted, SetEnabled}
-use Rattle.script.specs.Machine.{Buf, Call, begin, go, question, pending, Machine, Ans, ended, handed, told}
+use Rattle.script.specs.Machine.{Buf, Call, begin, continue, question, pending, Machine, Ans, ended, handed, told}
 use Rattle.machine.specs.Suspended.{machineOf}
 use Rattle.proof_book.specs.Pages.{Packet, Pages}
 use Rattle.proof_book.specs.Lengths.{Known, learnt, lengthAt}
@@ -114,21 +114,21 @@ module _ (dir : Dir) (e : ℕ) (lent b : Buf) (n : Machine Answer Pages) (d : Dr
 -- ---- one call, by what the driver alone does
 
 module _ (i : ℕ) (xs : List ℕ) (a : Buf) (m : MadeShared) (n : Machine Answer Pages) (did : CallStep i xs a m)
-    (goes : noted i m n .1 ≡ page.noted (madeAlone i xs a m) n .1) where
-  abbrev alone : page.Made
+    (goes : noted i m n .1 ≡ page.bookAfter (madeAlone i xs a m) n .1) where
+  abbrev alone : page.CallRecord
   alone = madeAlone i xs a m
 
   -- what is said of the call, its answer and the pages after it
   as-made : (P : Call Config Op → Ans Answer → Pages → Type 0)
       → ((dir : Dir) (e k : ℕ) → P (question (pending 0)) (told k) (n .st)
       → P (begin (slotted (SetEnabled dir e true))) (ended (Refused 19)) (n .st))
-      → P (alone .event .call) (alone .answer) (page.noted alone n .1 .st)
+      → P (alone .event .call) (alone .answer) (page.bookAfter alone n .1 .st)
       → P (m .event .call) (m .answer) (noted i m n .1 .st)
   as-made P stopped y =
       as-shared i (m .event .call) (m .event .lent) (m .before) (machineOf xs a) (outcomeOf m) did n P stopped goes y
 
   after-made : AfterCall (alone .event .call) (m .event .lent) n (alone .answer) (view (m .bytes)) (m .slots)
-      (page.noted alone n .1 .st)
+      (page.bookAfter alone n .1 .st)
       → AfterCall (m .event .call) (m .event .lent) n (m .answer) (view (m .bytes)) (m .slots) (noted i m n .1 .st)
   after-made = as-made (λ c x t. AfterCall c (m .event .lent) n x (view (m .bytes)) (m .slots) t)
       (λ dir e k y. stopped-after dir e (m .event .lent) (m .slots) n (view (m .bytes)) k y)
@@ -165,7 +165,7 @@ module _ (i : ℕ) (xs : List ℕ) (a : Buf) (m : MadeShared) (n : Machine Answe
   above-same b = as-made (λ c x t. above (alone .event .call) (alone .answer) b ≡ above c x b) (λ dir e j y. y) refl
 
   -- with another call and answer
-  abbrev likewise : Call Config Op → Ans Answer → page.Made
+  abbrev likewise : Call Config Op → Ans Answer → page.CallRecord
   likewise c x =
       record { event = record { call = c; lent = m .event .lent }; answer = x; bytes = m .bytes; slots = m .slots }
 
@@ -178,7 +178,7 @@ module _ (i : ℕ) (xs : List ℕ) (a : Buf) (m : MadeShared) (n : Machine Answe
       (λ dir e j y v r ws p. let z : _≡_ {A = ℕ} 0 1 = cc in absurd (omega arith))
 
   load-made : (k : Known) → page.LoadLength alone n k → LoadLength i m n k
-  load-made k = as-made (λ c x t. (e y v : ℕ) → 0 < e → c ≡ go v → x ≡ handed (Write EpTLen e y)
+  load-made k = as-made (λ c x t. (e y v : ℕ) → 0 < e → c ≡ continue v → x ≡ handed (Write EpTLen e y)
       → LengthWritten (sendsTo (k .asked) e) y (n .st .ins e) (t .ins e))
       (λ dir e j y f z v l p. let w : _≡_ {A = ℕ} 0 1 = cc in absurd (omega arith))
 
@@ -204,7 +204,8 @@ after-each i (m ∷ ms) xs a n run goes k y = (
 )
 
 -- the lengths with what was brought, the others with what is named
-known-each : (i : ℕ) (ms : List MadeShared) (xs : List ℕ) (a : Buf) (n : Machine Answer Pages) → Calls i xs a n ms → NotedAll i xs a n ms
+known-each : (i : ℕ) (ms : List MadeShared) (xs : List ℕ) (a : Buf) (n : Machine Answer Pages) → Calls i xs a n ms
+    → NotedAll i xs a n ms
     → ((k : Known) → page.LengthsEach n k (allAlone i xs a ms) → LengthsEach i n k ms)
     × ((k : Names) → page.OthersEach n k (allAlone i xs a ms) → OthersEach i n k ms)
 known-each i [] xs a n run goes = (λ k y. tt, λ k y. tt)
@@ -213,13 +214,15 @@ known-each i (m ∷ ms) xs a n run goes =
       λ k y. (
         length-made i xs a m n (run .0) (goes .0) k (y .0),
         rest .0 (learnt (m .event .call) (m .answer) k)
-            (subst₂ (λ (z : Machine Answer Pages) (l : Known). page.LengthsEach z l (allAlone i (m .bytes) (m .slots) ms))
+            (subst₂ (λ (z : Machine Answer Pages) (l : Known). page.LengthsEach z l
+            (allAlone i (m .bytes) (m .slots) ms))
             (sym (goes .0)) (learnt-same i xs a m n (run .0) (goes .0) k) (y .1)),
       ),
       λ k y. (
         others-made i xs a m n (run .0) (goes .0) k (y .0),
         rest .1 (underWay (m .event .call) (m .answer) k)
-            (subst₂ (λ (z : Machine Answer Pages) (l : Names). page.OthersEach z l (allAlone i (m .bytes) (m .slots) ms))
+            (subst₂ (λ (z : Machine Answer Pages) (l : Names). page.OthersEach z l
+            (allAlone i (m .bytes) (m .slots) ms))
             (sym (goes .0)) (named-same i xs a m n (run .0) (goes .0) k) (y .1)),
       ),
     )

@@ -7,10 +7,10 @@ use Rattle.state.specs.Driver.{Driver}
 use Rattle.script.specs.Answers.{Answer}
 use Rattle.script.specs.Calls.{Config, Op}
 use Rattle.script.specs.Machine.{Buf, Event, start, Machine}
-use Rattle.answer.specs.Goes.{Called}
+use Rattle.answer.specs.Goes.{StepResult}
 use Rattle.calls.specs.Sharing.{sharedCall}
 use Rattle.proof_book.specs.Pages.{Pages}
-use Rattle.proof_book.specs.FrontPage.{LentAsLeft}
+use Rattle.proof_book.specs.FrontPage.{BufferPreserved}
 use Rattle.proof_contracts.specs.SharedBook.{sharedStep}
 use Rattle.proof_contracts.specs.SharedPage.{AfterShared}
 
@@ -23,7 +23,7 @@ abbrev pub starting : Config → Buf → List ℕ → Turn
 starting c b before = record { event = record { call = start c; lent = b }; before = before }
 
 -- what it comes to, as driver i's call, and the book after it
-abbrev pub comesTo : ℕ → Turn → Machine Answer Driver → Called × List ℕ
+abbrev pub comesTo : ℕ → Turn → Machine Answer Driver → StepResult × List ℕ
 comesTo i t m = sharedCall i (t .event .call) m (t .before) (t .event .lent)
 
 abbrev pub bookAfter : ℕ → Turn → Machine Answer Driver → Machine Answer Pages → Machine Answer Pages
@@ -31,7 +31,7 @@ bookAfter i t m n = sharedStep i (comesTo i t m .0 .0) (t .event .call) n (t .be
 
 abbrev pub Premise : ℕ → List Turn → Machine Answer Driver → Machine Answer Pages → Type 0
 Premise i [] m n = Unit {0}
-Premise i (t ∷ ts) m n = LentAsLeft (t .event .call) n (m .buf) (t .event .lent)
+Premise i (t ∷ ts) m n = BufferPreserved (t .event .call) n (m .buf) (t .event .lent)
     × Premise i ts (comesTo i t m .0 .1) (bookAfter i t m n)
 
 abbrev pub AfterTurns : ℕ → List Turn → Machine Answer Driver → Machine Answer Pages → Type 0

@@ -11,15 +11,15 @@ use Rattle.regs.specs.declared.Reg.the-variants.{EpTLen, EpConfig}
 use Rattle.regs.specs.declared.Dir.{Dir}
 use Rattle.script.specs.Answers.{Answer}
 use Rattle.script.specs.Calls.{Config, Op, startRow}
-use Rattle.script.specs.Machine.{Buf, Event, start, go, Machine, Ans, handed, blankA}
+use Rattle.script.specs.Machine.{Buf, Event, start, continue, Machine, Ans, handed, blankA}
 use Rattle.machine.specs.Suspended.{machineOf}
-use Rattle.answer.specs.Goes.{Called}
+use Rattle.answer.specs.Goes.{StepResult}
 use Rattle.calls.specs.Sharing.{sortOf, sharedCall}
 use Rattle.proof_book.specs.Pages.{Packet, Pages}
 use Rattle.proof_book.specs.Lengths.{Known, learnt, lengthAt}
 use Rattle.proof_book.specs.Others.{releasing, sendsTo, Names, underWay, callNames, Away, SamePage}
 use Rattle.proof_book.specs.Arrivals.{Note, after, above}
-use Rattle.proof_book.specs.FrontPage.{Made, LentAsLeft, Decides, AfterCall, ArrivalIs, NoneMissed, InOrder}
+use Rattle.proof_book.specs.FrontPage.{CallRecord, BufferPreserved, Decides, AfterCall, ArrivalIs, NoneMissed, InOrder}
 use Rattle.proof_book.specs.FrontPage.{LengthWritten}
 use Rattle.proof_contracts.specs.SharedBook.{sharedStep, timeIn}
 
@@ -35,7 +35,7 @@ pub record MadeShared : Type 0 where
   pub time : List ℕ
 
 -- what it came to
-abbrev pub outcomeOf : MadeShared → Called × List ℕ
+abbrev pub outcomeOf : MadeShared → StepResult × List ℕ
 outcomeOf m = ((m .answer, machineOf (m .bytes) (m .slots)), m .time)
 
 -- its contract, by driver i, where the state's bytes were xs and the slot buffer a (calls/specs/Sharing.antt)
@@ -51,12 +51,12 @@ noted i m n = sharedStep i (m .answer) (m .event .call) n (m .before) (m .event 
 abbrev pub Calls : ℕ → List ℕ → Buf → Machine Answer Pages → List MadeShared → Type 0
 Calls i xs a n [] = Unit {0}
 Calls i xs a n (m ∷ ms) =
-    CallStep i xs a m × LentAsLeft (m .event .call) n a (m .event .lent)
+    CallStep i xs a m × BufferPreserved (m .event .call) n a (m .event .lent)
     × Calls i (m .bytes) (m .slots) (noted i m n .1) ms
 
 -- after call v, with the record before it; x: its answer, the driver and the slot buffer after it, and the record; the
 -- book n before it
-pub record AfterShared (i : ℕ) (v : Event Config Op) (before : List ℕ) (x : Called × List ℕ)
+pub record AfterShared (i : ℕ) (v : Event Config Op) (before : List ℕ) (x : StepResult × List ℕ)
     (n : Machine Answer Pages) : Type 0 where
   -- all that demand 3 says after a call without the record
   pub call : AfterCall (v .call) (v .lent) n (x .0 .0) (x .0 .1 .st) (x .0 .1 .buf)
@@ -94,7 +94,7 @@ OthersEach i n k (m ∷ ms) =
     OthersStay i m n k × OthersEach i (noted i m n .1) (underWay (m .event .call) (m .answer) k) ms
 
 -- the call as one without the record
-abbrev pub madeOf : MadeShared → Made
+abbrev pub madeOf : MadeShared → CallRecord
 madeOf m = record { event = m .event; answer = m .answer; bytes = m .bytes; slots = m .slots }
 
 -- what an arrival is, that none is missed, and their order (ArrivalIs, NoneMissed and InOrder of FrontPage.antt). A
@@ -111,7 +111,7 @@ OrderEach i n b (m ∷ ms) =
 
 -- the lengths that loads write (LoadLength of FrontPage.antt). A call that row 19 stops leaves what was handed out last
 abbrev pub LoadLength : ℕ → MadeShared → Machine Answer Pages → Known → Type 0
-LoadLength i m n k = (e x v : ℕ) → 0 < e → m .event .call ≡ go v → m .answer ≡ handed (Write EpTLen e x)
+LoadLength i m n k = (e x v : ℕ) → 0 < e → m .event .call ≡ continue v → m .answer ≡ handed (Write EpTLen e x)
     → LengthWritten (sendsTo (k .asked) e) x (n .st .ins e) (noted i m n .1 .st .ins e)
 
 -- ep_config is kept as it is written (ConfigKept of FrontPage.antt)

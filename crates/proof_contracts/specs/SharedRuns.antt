@@ -10,7 +10,7 @@ use Rattle.script.specs.Calls.{Config, Op, calls, startRow}
 use Rattle.script.specs.Machine.{Buf, Event, start, Machine, Ans, ended, handed, told, fed, started}
 use Rattle.script.specs.Agree.{After, Ways, from-start}
 use Rattle.machine.specs.Suspended.{driverOf, drive, machineOf}
-use Rattle.answer.specs.Goes.{Called}
+use Rattle.answer.specs.Goes.{StepResult}
 use Rattle.calls.specs.Sharing.{sortOf, timeAfter, settled, sharedCall}
 use Rattle.proof_book.specs.Pages.{Pages}
 use Rattle.proof_book.specs.Book.{book}
@@ -34,10 +34,12 @@ of-made : (i : ℕ) (m : MadeShared) (xs : List ℕ) (a : Buf) (n : Machine Answ
     → let z = sharedCall i (m .event .call) (machineOf xs a) (m .before) (m .event .lent) in
     Agreed i (m .event .call) (z .0) (m .before) (z .1) (m .event .lent) n → AgreedOn i m n
 of-made i m xs a n did k =
-    subst (λ (z : Called × List ℕ). Agreed i (m .event .call) (z .0) (m .before) (z .1) (m .event .lent) n) (sym did) k
+    subst (λ (z : StepResult × List ℕ). Agreed i (m .event .call) (z .0) (m .before) (z .1) (m .event .lent) n)
+    (sym did) k
 
 always : (i : ℕ) (ms : List MadeShared) {φ : Phase} (xs : List ℕ) (a : Buf) (n : Machine Answer Pages)
-    → Ways driverOf book agree calls φ (machineOf xs a .way) (n .way) → Coupling φ a (view xs) (n .st) → Calls i xs a n ms
+    → Ways driverOf book agree calls φ (machineOf xs a .under-way) (n .under-way) → Coupling φ a (view xs) (n .st)
+    → Calls i xs a n ms
     → AgreedAll i n ms
 always i [] xs a n w r h = tt
 always i (m ∷ ms) xs a n w r h =

@@ -10,12 +10,12 @@ use Rattle.script.specs.Calls.{Config, Op, calls, startRow}
 use Rattle.script.specs.Machine.{Buf, Call, Event, Machine}
 use Rattle.script.specs.Agree.{Ways}
 use Rattle.machine.specs.Suspended.{driverOf, drive}
-use Rattle.answer.specs.Goes.{Called}
+use Rattle.answer.specs.Goes.{StepResult}
 use Rattle.proof_book.specs.Pages.{Pages}
 use Rattle.proof_book.specs.Book.{book}
 use Rattle.proof_book.specs.Coupling.{Coupling}
 use Rattle.proof_book.specs.AgreesLaws.{agree}
-use Rattle.proof_book.specs.FrontPage.{written, AfterCall}
+use Rattle.proof_book.specs.FrontPage.{bookStep, AfterCall}
 use Rattle.proof_book.specs.MachineRuns as alone
 use Rattle.proof_book.specs.FrontPageLaws.{machine-demand-3}
 use Rattle.proof_contracts.specs.SharedPage.{AfterShared}
@@ -50,36 +50,38 @@ module _ (i : ℕ) where
     abbrev b : Buf
     b = t .event .lent
 
-    abbrev x : Called
+    abbrev x : StepResult
     x = comesTo i t m .0
 
     abbrev own : Call Config Op
     own = eventAlone t m .call
 
     -- as the driver alone answers it
-    abbrev asAlone : Called
+    abbrev asAlone : StepResult
     asAlone = (answerAlone (isStopped i c m (t .before) b) (m .st) (x .0), x .1)
 
     abbrev Goes : Type 0
-    Goes = bookAfter i t m n ≡ written (asAlone .0) own n b .1
+    Goes = bookAfter i t m n ≡ bookStep (asAlone .0) own n b .1
 
     did : asAlone ≡ drive own m b
     did = did-alone i c b (t .before) m (comesTo i t m) refl
 
     module _ (goes : Goes) where
-      moved : _≡_ {A = Both} (x .1, bookAfter i t m n) (drive own m b .1, written (drive own m b .0) own n b .1)
-      moved = subst (λ (z : Called). _≡_ {A = Both} (x .1, bookAfter i t m n) (z .1, written (z .0) own n b .1)) did
+      moved : _≡_ {A = Both} (x .1, bookAfter i t m n) (drive own m b .1, bookStep (drive own m b .0) own n b .1)
+      moved = subst (λ (z : StepResult). _≡_ {A = Both} (x .1, bookAfter i t m n) (z .1, bookStep (z .0) own n b .1))
+          did
           (ap (λ (y : Machine Answer Pages). (x .1, y)) goes)
 
       after : Agreed i c x (t .before) (comesTo i t m .1) b n
           → AfterCall own b n (drive own m b .0) (drive own m b .1 .st) (drive own m b .1 .buf)
-          (written (drive own m b .0) own n b .1 .st)
+          (bookStep (drive own m b .0) own n b .1 .st)
           → AfterShared i (t .event) (t .before) (comesTo i t m) n
       after k y = record {
         call = as-shared i c b (t .before) m (comesTo i t m) refl n
             (λ c z u. AfterCall c b n z (x .1 .st) (x .1 .buf) u)
             (λ dir e k y. stopped-after dir e b (x .1 .buf) n (x .1 .st) k y) goes
-            (subst (λ (z : Called). AfterCall own b n (z .0) (z .1 .st) (z .1 .buf) (written (z .0) own n b .1 .st))
+            (subst (λ (z : StepResult). AfterCall own b n (z .0) (z .1 .st) (z .1 .buf)
+            (bookStep (z .0) own n b .1 .st))
             (sym did) y);
         answers = k .both .same;
         time = k .time;
@@ -88,7 +90,7 @@ module _ (i : ℕ) where
   -- ---- every list of calls
 
   module _ (t : Turn) {φ : Phase} (m : Machine Answer Driver) (n : Machine Answer Pages)
-      (w : Ways driverOf book agree calls φ (m .way) (n .way)) (r : Coupling φ (m .buf) (m .st) (n .st))
+      (w : Ways driverOf book agree calls φ (m .under-way) (n .under-way)) (r : Coupling φ (m .buf) (m .st) (n .st))
       (ts : List Turn) (p : Premise i (t ∷ ts) m n) where
     agreed : Agreed i (t .event .call) (comesTo i t m .0) (t .before) (comesTo i t m .1) (t .event .lent) n
     agreed = shared-agrees i (t .event .call) (t .event .lent) (t .before) m n w r (p .0)
@@ -97,7 +99,8 @@ module _ (i : ℕ) where
     goes-on = noted-alone i (t .event .call) (t .event .lent) (t .before) m n w r (p .0) (comesTo i t m .0 .0)
 
   premise-alone : (ts : List Turn) {φ : Phase} (m : Machine Answer Driver) (n : Machine Answer Pages)
-      → Ways driverOf book agree calls φ (m .way) (n .way) → Coupling φ (m .buf) (m .st) (n .st) → Premise i ts m n
+      → Ways driverOf book agree calls φ (m .under-way) (n .under-way) → Coupling φ (m .buf) (m .st) (n .st)
+      → Premise i ts m n
       → alone.Premise (allAlone ts m) m n
   premise-alone [] m n w r p = tt
   premise-alone (t ∷ ts) m n w r p =
@@ -109,7 +112,8 @@ module _ (i : ℕ) where
       )
 
   after-turns : (ts : List Turn) {φ : Phase} (m : Machine Answer Driver) (n : Machine Answer Pages)
-      → Ways driverOf book agree calls φ (m .way) (n .way) → Coupling φ (m .buf) (m .st) (n .st) → Premise i ts m n
+      → Ways driverOf book agree calls φ (m .under-way) (n .under-way) → Coupling φ (m .buf) (m .st) (n .st)
+      → Premise i ts m n
       → alone.AfterEvents (allAlone ts m) m n → AfterTurns i ts m n
   after-turns [] m n w r p y = tt
   after-turns (t ∷ ts) m n w r p y =

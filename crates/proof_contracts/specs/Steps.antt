@@ -1,5 +1,5 @@
--- A call is a step of demand 3 (`CallStep`, SharedPage.antt) and saves what account 1 says (`Saves`, SavedPage.antt), for
--- each way in which calls are lent their bytes: xs are the state's bytes before it, ys those after it, x is what it
+-- A call is a step of demand 3 (`CallStep`, SharedPage.antt) and saves what account 1 says (`Saves`, SavedPage.antt),
+-- for each way in which calls are lent their bytes: xs are the state's bytes before it, ys those after it, x is what it
 -- answered. It holds whatever slot buffer the run has (a), and for whichever of the four drivers (i). Definitions
 use mathlib.Core.Bool.{cond}
 use mathlib.Core.List.{List}
@@ -14,7 +14,8 @@ use Rattle.machine.specs.Suspended.{lentOr, lentBy, BufferUnchangedOnRow1}
 use Rattle.proof_contracts.specs.SharedPage.{MadeShared, CallStep}
 use Rattle.proof_contracts.specs.SavedPage.{Saves}
 
--- the call c, lent the slot buffer b: the record of bus time before and after it, its answer, the state's bytes and the run's slot buffer
+-- the call c, lent the slot buffer b: the record of bus time before and after it, its answer, the state's bytes and the
+-- run's slot buffer
 abbrev pub made : Call Config Op → Buf → List ℕ → List ℕ → Ans Answer → List ℕ → Buf → MadeShared
 made c b time time′ x ys slots =
     record { event = record { call = c; lent = b }; before = time; answer = x; bytes = ys; slots = slots; time = time′ }

@@ -10,7 +10,7 @@ use Rattle.script.specs.Machine.{Buf, Call, Question, Ans, told, Machine}
 use Rattle.answer.specs.declared.Step.{Step}
 use Rattle.answer.specs.Questions.{questionOf}
 use Rattle.machine.specs.Suspended.{machineOf, drive, answerOf, lentOr, lentBy, BufferUnchangedOnRow1}
-use Rattle.answer.specs.Goes.{Called}
+use Rattle.answer.specs.Goes.{StepResult}
 use Rattle.calls.specs.Sharing.{apart, sortOf}
 use Rattle.answer.specs.Parts.{stepOf, spoken}
 use Rattle.answer.specs.Word.{Encodes, Worded}
@@ -24,7 +24,7 @@ pub unlent : {c : Call Config Op} {xs ys : List ℕ} {x : Buf → Ans Answer} �
     → IsStep c xs x ys
 unlent {c = c} {xs = xs} p h k =
     record {
-      did = λ i a b time. ap (λ (z : Called). (z, time)) (h a b) ∙ sym
+      did = λ i a b time. ap (λ (z : StepResult). (z, time)) (h a b) ∙ sym
           (leaves-record i c (machineOf xs a) time b p);
       saves = k;
     }
@@ -35,16 +35,16 @@ pub lent : {c : Call Config Op} {xs ys : List ℕ} {x : Ans Answer} {b b′ : Bu
     → BufferUnchangedOnRow1 (view xs) b b′ → IsStepLent c xs x ys b b′
 lent {c = c} {xs = xs} {b = b} p h k l =
     record {
-      did = λ i a time. ap (λ (z : Called). (z, time)) (h a) ∙ sym
+      did = λ i a time. ap (λ (z : StepResult). (z, time)) (h a) ∙ sym
           (leaves-record i c (machineOf xs a) time b p);
       saves = k;
       kept = l;
     }
 
 -- what follows of the answer that the machine of calls gives, of the call's own
-pub answered : {A : Type 0} {x : Ans Answer} {n : Machine Answer Driver} {y : Called} {v : A} (f : Ans Answer → A)
+pub answered : {A : Type 0} {x : Ans Answer} {n : Machine Answer Driver} {y : StepResult} {v : A} (f : Ans Answer → A)
     → (x, n) ≡ y → v ≡ f (y .0) → v ≡ f x
-answered f e h = h ∙ ap (λ (z : Called). f (z .0)) (sym e)
+answered f e h = h ∙ ap (λ (z : StepResult). f (z .0)) (sym e)
 
 -- the slot buffer is brought, and a slice
 pub filled : {c : Call Config Op} {xs ys out out′ : List ℕ} {x : Ans Answer} {b : Buf} → sortOf c ≡ apart
@@ -61,8 +61,8 @@ asked {q = q} {xs = xs} h = unlent refl (λ a b. ap (λ (k : ℕ). (told k, mach
 pub worded : (r : ℕ) {P Q : Step → Type 0} → Worded r P → ((step : Step) → P step → Q step) → Worded r Q
 worded r w f = (w .0, w .1, f (w .0) (w .2))
 
--- the answer as the caller reads it back from the word, with the bytes and the state that the call left: every answer but
--- a setup packet and a packet that is shown, whose bytes and stamp are in the caller's room (`spoken`)
+-- the answer as the caller reads it back from the word, with the bytes and the state that the call left: every answer
+-- but a setup packet and a packet that is shown, whose bytes and stamp are in the caller's room (`spoken`)
 pub read-back : (r : ℕ) (step : Step) (out : List ℕ) (d : Driver) → Encodes r step → spoken step ≡ step
     → answerOf step out d ≡ answerOf (stepOf r) out d
 unfolding Encodes

@@ -13,7 +13,7 @@ use Rattle.script.specs.Calls.{Config, Op, slotted, aside, SetEnabled, Queue}
 use Rattle.script.specs.Machine.{Call, begin, Ans, ended, handed}
 use Rattle.script.specs.Machine as machine
 use Rattle.machine.specs.Suspended.{drive}
-use Rattle.answer.specs.Goes.{Called}
+use Rattle.answer.specs.Goes.{StepResult}
 use Rattle.bus_time.specs.Time as bus-time
 use Rattle.bus_time.specs.Time.{uncharged, inUse, entryOf, passes}
 use Rattle.calls.specs.Sharing as sharing
@@ -147,4 +147,4 @@ pub still-waits : (e : ℕ) → let t = at-it .book .st in let t′ = next refus
     (t′ .outs e ≡ t .outs e) × (t′ .ins e ≡ t .ins e)
 still-waits e =
     at-last before-it refused begun (holds (before-it ++ (refused ∷ [])) .1) .call .sentences .refusal-leaves 19
-    (ap (λ (x : Called × List ℕ). x .0 .0) nineteen) e
+    (ap (λ (x : StepResult × List ℕ). x .0 .0) nineteen) e

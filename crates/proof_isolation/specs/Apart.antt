@@ -18,8 +18,8 @@ use Rattle.script_ops.specs.Concrete.{concrete}
 use Rattle.proof_isolation.specs.EqualExcept.{Lawful, Channel, LowEquiv, Touched}
 use Rattle.proof_isolation.specs.Whose.{receives, sof}
 
--- "with the status word and the other readings the same throughout each interrupt", but for "the lengths reported for its packets": where the
--- status word `st` shows OUT for x
+-- "with the status word and the other readings the same throughout each interrupt", but for "the lengths reported for
+-- its packets": where the status word `st` shows OUT for x
 abbrev pub Reads : ℕ → ℕ → Reg → ℕ → ℕ → Type 0
 Reads x st IntSt v v′ = (v ≡ st) × (v′ ≡ st)
 Reads x st RxLen v v′ = arriving st x ≡ false → v ≡ v′
@@ -84,21 +84,26 @@ abbrev pub Own : Bool → ℕ → {A : Type 0} → Access → (ℕ → St → Ou
 Own i x q k = (i ≡ true) × ((s : St) → Its x q (k sof s))
 
 module _ (c : Channel) (st : ℕ) where
-  -- two outcomes: both end, or hand out the same access, in states that are the same but for x's data, and go on so whatever the same is read,
-  -- whatever becomes of the states so long as they stay so; or one of them hands out an access of x's own, not the other, and goes on so alone,
-  -- whatever is read then and whatever becomes of x's data; or both hand out one of x's own, and either goes on, whatever becomes of the states so
-  -- long as they stay so. An access may stand in a row of accesses (`Phase`), but in no interrupt's (`Fits`). `false`: no access of x's own comes
-  -- any more
+  -- two outcomes: both end, or hand out the same access, in states that are the same but for x's data, and go on so
+  -- whatever the same is read, whatever becomes of the states so long as they stay so; or one of them hands out an
+  -- access of x's own, not the other, and goes on so alone, whatever is read then and whatever becomes of x's data; or
+  -- both hand out one of x's own, and either goes on, whatever becomes of the states so long as they stay so. An access
+  -- may stand in a row of accesses (`Phase`), but in no interrupt's (`Fits`). `false`: no access of x's own comes any
+  -- more
   pub data ApartBy (i : Bool) {A B : Type 0} (Q : A → B → Type 0) : Bool → Out St A → Out St B → Type 0 where
     end : {m : Bool} {a : A} {b : B} {s t : St} → Q a b → LowEquiv c quiet s t → ApartBy i Q m (ends a s) (ends b t)
     both : {m : Bool} {q : Access} {s t : St} {k : ℕ → St → Out St A} {k′ : ℕ → St → Out St B} (φ : Phase)
         → Fits i φ → Shared i (c .number) q k → Shared i (c .number) q k′ → LowEquiv c φ s t
-        → ((v v′ : ℕ) (s t : St) → Brings (c .number) st q v v′ → LowEquiv c φ s t → ApartBy i Q m (k v s) (k′ v′ t)) → ApartBy i Q m (asks q s k) (asks q t k′)
-    left : {q : Access} {s : St} {k : ℕ → St → Out St A} {u : Out St B} → Own i (c .number) q k → Past (c .number) u → Lawful (c .iso) quiet s
+        → ((v v′ : ℕ) (s t : St) → Brings (c .number) st q v v′ → LowEquiv c φ s t → ApartBy i Q m (k v s) (k′ v′ t))
+        → ApartBy i Q m (asks q s k) (asks q t k′)
+    left : {q : Access} {s : St} {k : ℕ → St → Out St A} {u : Out St B} → Own i (c .number) q k → Past (c .number) u
+        → Lawful (c .iso) quiet s
         → ((v : ℕ) (s′ : St) → Touched c quiet s s′ → ApartBy i Q true (k v s′) u) → ApartBy i Q true (asks q s k) u
-    right : {q : Access} {t : St} {k : ℕ → St → Out St B} {o : Out St A} → Own i (c .number) q k → Past (c .number) o → Lawful (c .iso) quiet t
+    right : {q : Access} {t : St} {k : ℕ → St → Out St B} {o : Out St A} → Own i (c .number) q k → Past (c .number) o
+        → Lawful (c .iso) quiet t
         → ((v : ℕ) (t′ : St) → Touched c quiet t t′ → ApartBy i Q true o (k v t′)) → ApartBy i Q true o (asks q t k)
-    owns : {q q′ : Access} {s t : St} {k : ℕ → St → Out St A} {k′ : ℕ → St → Out St B} → Own i (c .number) q k → Own i (c .number) q′ k′ → LowEquiv c quiet s t
+    owns : {q q′ : Access} {s t : St} {k : ℕ → St → Out St A} {k′ : ℕ → St → Out St B} → Own i (c .number) q k
+        → Own i (c .number) q′ k′ → LowEquiv c quiet s t
         → ((v : ℕ) (s t : St) → LowEquiv c quiet s t → ApartBy i Q true (k v s) (asks q′ t k′))
         → ((v : ℕ) (s t : St) → LowEquiv c quiet s t → ApartBy i Q true (asks q s k) (k′ v t))
         → ApartBy i Q true (asks q s k) (asks q′ t k′)
@@ -107,7 +112,8 @@ module _ (c : Channel) (st : ℕ) where
   Apart i Q o u = ApartBy i Q false o u
 
   -- two scripts that run so from all such states
-  pub record PairBy (m : Bool) {i : Bool} {A B : Type 0} (Q : A → B → Type 0) (p : Script i A) (p′ : Script i B) : Type 0 where
+  pub record PairBy (m : Bool) {i : Bool} {A B : Type 0} (Q : A → B → Type 0) (p : Script i A) (p′ : Script i B) : Type
+      0 where
     pub on : (s t : St) → LowEquiv c quiet s t → ApartBy i Q m (run concrete p s) (run concrete p′ t)
 
   abbrev pub Pair : {i : Bool} {A B : Type 0} (Q : A → B → Type 0) → Script i A → Script i B → Type 0

@@ -1,4 +1,5 @@
--- The calls that pass during an interrupt: of other endpoints the same in both runs; the channel's own change nothing but its data
+-- The calls that pass during an interrupt: of other endpoints the same in both runs; the channel's own change nothing
+-- but its data
 use mathlib.Core.Bool.{Bool, true, false, cond}
 use mathlib.Core.List.{List}
 use mathlib.Core.Logic.{_≢_}
@@ -24,7 +25,8 @@ use Rattle.script.specs.Script.{run, Act, waiting, room, opened, oldest, next-s
 use Rattle.script.specs.Statics.{isOn}
 use Rattle.script.specs.Calls.{Aside, Open, Close, Queue, asideCode}
 use Rattle.script.specs.Simulates.{quiet}
-use Rattle.script_ops.specs.Rings.{St, waitingOn, roomOn, roomIn, openedOn, nextStamp, oldestAt, oldestOn, openOn, closeOn, queuedOn, enqueueOn, nextLen}
+use Rattle.script_ops.specs.Rings.{St, waitingOn, roomOn, roomIn, openedOn, nextStamp, oldestAt, oldestOn, openOn}
+use Rattle.script_ops.specs.Rings.{closeOn, queuedOn, enqueueOn, nextLen}
 use Rattle.script_ops.specs.Concrete.{concrete, isOf, lookOf, fetchOf, actOn}
 use Rattle.proof_book.specs.Coupling.{endOf, lensOf, slotStamps, Held}
 use Rattle.proof_book.specs.LensLaws.{stamps-at, lens-at, lens-length, lens-set, lens-mod, ep-len}
@@ -34,7 +36,8 @@ use Rattle.proof_book.specs.OutsLaws.{Inner}
 use Rattle.proof_isolation.specs.EqualExcept.{EqualExcept, Beside, Lawful, Channel, LowEquiv, Touched}
 use Rattle.proof_isolation.specs.Apart.{Pair}
 use Rattle.proof_isolation.specs.LikesLaws.{inner-stays, own-changed, but-refl, touched-refl, touched-trans}
-use Rattle.proof_isolation.specs.PairsLaws.{Eq, p-ret, p-same, p-then, p-test, p-get, p-is, p-look, p-fetch, p-act}
+use Rattle.proof_isolation.specs.PairsLaws.{Eq, p-ret, p-same, p-then, p-test, p-get, p-is, p-look, p-fetch}
+use Rattle.proof_isolation.specs.PairsLaws.{p-act}
 use Rattle.proof_isolation.specs.ButsLaws.{but-on, but-changed, like-made, lawful-act, others-same}
 use Rattle.proof_isolation.specs.ValuesLaws.{in-other, p-globals, p-plain, p-plain-in}
 use Rattle.proof_isolation.specs.Answers.{SameAnswer, same}
@@ -59,8 +62,10 @@ stamp-any d d′ e i h =
     stamp-mod d e i ∙ sym (stamps-at d e (i % 16) (omega arith))
     ∙ ap (λ l. getD l (i % 16) 0) h ∙ stamps-at d′ e (i % 16) (omega arith) ∙ sym (stamp-mod d′ e i)
 
-pub bytes-same : (b c : List ℕ) (at n : ℕ) → length c ≡ length b → at + n ≤ length b → Same at (at + n) b c → bytesAt b at n ≡ bytesAt c at n
-bytes-same b c at n long fits s = sym (window-is b at n fits) ∙ sym (window-same b c at n s) ∙ window-is c at n (omega (arith, long))
+pub bytes-same : (b c : List ℕ) (at n : ℕ) → length c ≡ length b → at + n ≤ length b → Same at (at + n) b c
+    → bytesAt b at n ≡ bytesAt c at n
+bytes-same b c at n long fits s = sym (window-is b at n fits) ∙ sym (window-same b c at n s)
+    ∙ window-is c at n (omega (arith, long))
 
 module _ (c : Channel) (e : ℕ) (n : key Out e ≢ key Out (c .number)) (s t : St) (l : LowEquiv c quiet s t) where
   abbrev h : epOn (s .0) Out e ≡ epOn (t .0) Out e
@@ -83,7 +88,8 @@ module _ (c : Channel) (e : ℕ) (n : key Out e ≢ key Out (c .number)) (s t : 
 
   opens : LowEquiv c quiet (actOn (open-oldest e) s) (actOn (open-oldest e) t)
   unfolding openOn
-  opens = out-changed c e n hasWaiting openedOf s t l (lawful-act c (open-oldest e) refl (l .left)) (lawful-act c (open-oldest e) refl (l .right))
+  opens = out-changed c e n hasWaiting openedOf s t l (lawful-act c (open-oldest e) refl (l .left))
+      (lawful-act c (open-oldest e) refl (l .right))
 
   closes : LowEquiv c quiet (actOn (close-oldest e) s) (actOn (close-oldest e) t)
   unfolding closeOn
@@ -91,10 +97,12 @@ module _ (c : Channel) (e : ℕ) (n : key Out e ≢ key Out (c .number)) (s t : 
       (lawful-act c (close-oldest e) refl (l .left)) (lawful-act c (close-oldest e) refl (l .right))
 
 -- the bytes of its oldest packet
-len-capped : (d : Driver) (dir : Dir) (e most : ℕ) (i : ℕ) → Ring most (epOn d dir e) (lensOf d dir e) → lenOn d dir e i ≤ epOn d dir e .stride
+len-capped : (d : Driver) (dir : Dir) (e most : ℕ) (i : ℕ) → Ring most (epOn d dir e) (lensOf d dir e) → lenOn d dir e i
+    ≤ epOn d dir e .stride
 len-capped d dir e most i g = rw (len-mod d dir e i ∙ sym (lens-at d dir e (i % 16) (omega arith))) (g .capped (i % 16))
 
-pub next-capped : (d : Driver) (dir : Dir) (e most : ℕ) → Ring most (epOn d dir e) (lensOf d dir e) → nextLen d dir e ≤ epOn d dir e .stride
+pub next-capped : (d : Driver) (dir : Dir) (e most : ℕ) → Ring most (epOn d dir e) (lensOf d dir e) → nextLen d dir e
+    ≤ epOn d dir e .stride
 unfolding nextLen
 next-capped d dir e most g = by (hasWaiting (epOn d dir e))
   where
@@ -103,10 +111,12 @@ next-capped d dir e most g = by (hasWaiting (epOn d dir e))
     by false = omega arith
 
 -- where its record, its lengths and the bytes of its slots are the same
-pub oldest-by : (s t : St) (e : ℕ) {most : ℕ} {w : List (List ℕ)} → Held most (s .1) (epOn (s .0) Out e) (lensOf (s .0) Out e) w
+pub oldest-by : (s t : St) (e : ℕ) {most : ℕ} {w : List (List ℕ)}
+    → Held most (s .1) (epOn (s .0) Out e) (lensOf (s .0) Out e) w
     → length (t .1) ≡ length (s .1)
     → ((lo hi : ℕ) → epOn (s .0) Out e .base ≤ lo → hi ≤ endOf (epOn (s .0) Out e) → Same lo hi (s .1) (t .1))
-    → epOn (s .0) Out e ≡ epOn (t .0) Out e → lensOf (s .0) Out e ≡ lensOf (t .0) Out e → oldestOn (s .0) e (s .1) ≡ oldestOn (t .0) e (t .1)
+    → epOn (s .0) Out e ≡ epOn (t .0) Out e → lensOf (s .0) Out e ≡ lensOf (t .0) Out e → oldestOn (s .0) e (s .1)
+    ≡ oldestOn (t .0) e (t .1)
 unfolding oldestOn oldestAt
 oldest-by s t e f long alike g ls =
     let r = epOn (s .0) Out e in
@@ -115,7 +125,8 @@ oldest-by s t e f long alike g ls =
     bytes-same (s .1) (t .1) (slotAddr r (r .tail)) (nextLen (s .0) Out e) long (omega (arith, k, u, f .placed .inside))
     (alike _ _ (slot-from (f .placed) (r .tail)) (omega (arith, k, u)))
     ∙ ap (λ (r : EpState). bytesAt (t .1) (slotAddr r (r .tail)) (nextLen (s .0) Out e)) g
-    ∙ ap (λ k. bytesAt (t .1) (slotAddr (epOn (t .0) Out e) (epOn (t .0) Out e .tail)) k) (next-same (s .0) (t .0) Out e g ls)
+    ∙ ap (λ k. bytesAt (t .1) (slotAddr (epOn (t .0) Out e) (epOn (t .0) Out e .tail)) k)
+    (next-same (s .0) (t .0) Out e g ls)
 
 module _ (c : Channel) (e : ℕ) (n : key Out e ≢ key Out (c .number)) (s t : St) (l : LowEquiv c quiet s t) where
   pub oldest-out : fetchOf (oldest e) s ≡ fetchOf (oldest e) t
@@ -136,9 +147,11 @@ module _ (c : Channel) (e : ℕ) (bytes : List ℕ) (s t : St) (l : LowEquiv c q
   same-r = l .but .eps In e (in-other (c .number) e)
 
   head-in : slotOf r (r .head) < 16
-  head-in = let f = l .left .rest .ins e .held in omega (arith, slot-in (f .placed) (r .head), f .ring .whole, lens-length (s .0) In e)
+  head-in = let f = l .left .rest .ins e .held in omega
+      (arith, slot-in (f .placed) (r .head), f .ring .whole, lens-length (s .0) In e)
 
-  longer : EqualExcept (c .number) (withLenOn (s .0) In e (slotOf r (r .head)) (length bytes)) (withLenOn (t .0) In e (slotOf r (r .head)) (length bytes))
+  longer : EqualExcept (c .number) (withLenOn (s .0) In e (slotOf r (r .head)) (length bytes))
+      (withLenOn (t .0) In e (slotOf r (r .head)) (length bytes))
   longer =
       let i = slotOf r (r .head) in
       let z = l .left .rest .sized in
@@ -146,12 +159,15 @@ module _ (c : Channel) (e : ℕ) (bytes : List ℕ) (s t : St) (l : LowEquiv c q
       let lens = lens-set (s .0) In e z i (length bytes) head-in
       ∙ ap (λ m. set m i (length bytes)) (l .but .lens In e (in-other (c .number) e))
       ∙ sym (lens-set (t .0) In e z′ i (length bytes) head-in) in
-      but-changed (l .but) In e (in-other (c .number) e) (changed-len z In e i (length bytes)) (changed-len z′ In e i (length bytes))
+      but-changed (l .but) In e (in-other (c .number) e) (changed-len z In e i (length bytes))
+      (changed-len z′ In e i (length bytes))
       (ep-len (s .0) In e i (length bytes) In e ∙ same-r ∙ sym (ep-len (t .0) In e i (length bytes) In e))
       (λ a f p. by lens a f p) (λ f p. absurd (key-apart f e p))
     where
-      by : lensOf (withLenOn (s .0) In e (slotOf r (r .head)) (length bytes)) In e ≡ lensOf (withLenOn (t .0) In e (slotOf r (r .head)) (length bytes)) In e
-          → (a : Dir) (f : ℕ) → key a f ≡ key In e → lensOf (withLenOn (s .0) In e (slotOf r (r .head)) (length bytes)) a f
+      by : lensOf (withLenOn (s .0) In e (slotOf r (r .head)) (length bytes)) In e
+          ≡ lensOf (withLenOn (t .0) In e (slotOf r (r .head)) (length bytes)) In e
+          → (a : Dir) (f : ℕ) → key a f ≡ key In e → lensOf (withLenOn (s .0) In e (slotOf r (r .head)) (length bytes))
+          a f
           ≡ lensOf (withLenOn (t .0) In e (slotOf r (r .head)) (length bytes)) a f
       by q In f p = lens-mod _ In f e (key-same In f e p) ∙ q ∙ sym (lens-mod _ In f e (key-same In f e p))
       by q Out f p = absurd (key-apart f e p)
@@ -172,13 +188,19 @@ module _ (c : Channel) (e : ℕ) (bytes : List ℕ) (s t : St) (l : LowEquiv c q
     seat : SamePlace (epOn (s .0) Out (c .number)) (epOn (a .0) Out (c .number))
     lent : Only (epOn (s .0) Out (c .number) .base) (endOf (epOn (s .0) Out (c .number))) (a .1) (b .1)
 
-  queued-by : (u : Bool) → Kept (cond u (queuedOn (s .0) e (length bytes), copied (s .1) (slotAddr r (r .head)) bytes) s)
-      (cond u (queuedOn (t .0) e (length bytes), copied (t .1) (slotAddr (epOn (t .0) In e) (epOn (t .0) In e .head)) bytes) t)
+  queued-by : (u : Bool) → Kept (cond u (queuedOn (s .0) e (length bytes), copied (s .1) (slotAddr r (r .head)) bytes)
+      s)
+      (cond u (
+        queuedOn (t .0) e (length bytes),
+        copied (t .1) (slotAddr (epOn (t .0) In e) (epOn (t .0) In e .head))
+            bytes,
+      ) t)
   unfolding queuedOn withOn withLenOn
   queued-by true = record {
     but = queued;
     seat = rw (
-      epOn-other (withLenOn (s .0) In e (slotOf r (r .head)) (length bytes)) In e (joinedOf r) Out (c .number) (key-apart (c .number) e),
+      epOn-other (withLenOn (s .0) In e (slotOf r (r .head)) (length bytes)) In e (joinedOf r) Out (c .number)
+          (key-apart (c .number) e),
       ep-len (s .0) In e (slotOf r (r .head)) (length bytes) Out (c .number),
     ) (same-place (epOn (s .0) Out (c .number)));
     lent = subst
@@ -206,7 +228,8 @@ module _ (c : Channel) (st : ℕ) where
   p-aside (Open e) n = p-staged 2 (p-named Out e (p-plain c Out e n (λ p _. p-test _ (λ _. p-ret (same _))
       (λ _. p-same (p-is (waiting Out e) (waiting-out c e n)) (λ b. p-test b
       (λ _. p-then (p-act (open-oldest e) (opens c e n))
-      (p-same (p-fetch (oldest e) (oldest-out c e n)) (λ w. p-same (p-look (next-stamp e) (stamp-out c e n)) (λ k. p-ret (same _)))))
+      (p-same (p-fetch (oldest e) (oldest-out c e n)) (λ w. p-same (p-look (next-stamp e) (stamp-out c e n))
+      (λ k. p-ret (same _)))))
       (λ _. p-ret (same _)))))))
   p-aside (Close e) n = p-staged 2 (p-named Out e (p-same (p-is (opened e) (opened-out c e n)) (λ b. p-test b
       (λ _. p-then (p-act (close-oldest e) (closes c e n)) (p-ret (same _)))
@@ -229,7 +252,8 @@ module _ (c : Channel) (s : St) (l : Lawful (c .iso) quiet s) where
   own-on r k = own-changed (changed-on (l .rest .sized) Out x r (k .place) (ap (λ (q : EpCore). q .iso) (k .plain)))
       (inner-stays (rw (epOn-same (s .0) Out x r (l .rest .sized)) k))
 
-  own-cond : (u : Bool) (r : EpState) → Inner (epOn (s .0) Out x) r → Beside x (s .0) (cond u (withOn (s .0) Out x r) (s .0))
+  own-cond : (u : Bool) (r : EpState) → Inner (epOn (s .0) Out x) r
+      → Beside x (s .0) (cond u (withOn (s .0) Out x r) (s .0))
   own-cond true r k = own-on r k
   own-cond false r k = but-refl x (s .0)
 
@@ -238,7 +262,8 @@ module _ (c : Channel) (s : St) (l : Lawful (c .iso) quiet s) where
   own-opens = record {
     left = l;
     right = lawful-act c (open-oldest x) refl l;
-    but = own-cond (hasWaiting (epOn (s .0) Out x)) _ (record { place = record { base = refl; stride = refl; slots = refl }; plain = refl });
+    but = own-cond (hasWaiting (epOn (s .0) Out x)) _ (record
+        { place = record { base = refl; stride = refl; slots = refl }; plain = refl });
     bytes = only-refl _ _ (s .1);
   }
 
@@ -247,7 +272,8 @@ module _ (c : Channel) (s : St) (l : Lawful (c .iso) quiet s) where
   own-closes = record {
     left = l;
     right = lawful-act c (close-oldest x) refl l;
-    but = own-cond (isOn (epOn (s .0) Out x .«open»)) _ (record { place = record { base = refl; stride = refl; slots = refl }; plain = refl });
+    but = own-cond (isOn (epOn (s .0) Out x .«open»)) _
+        (record { place = record { base = refl; stride = refl; slots = refl }; plain = refl });
     bytes = only-refl _ _ (s .1);
   }
 
@@ -261,32 +287,43 @@ actOf (Queue e bytes) = enqueue e bytes
 
 brief : (K : St → Type 0) (o : Aside) → ((s : St) → K s → K (actOn (actOf o) s)) → Brief K (asideCode o)
 brief K (Open e) h = b-bind (b-get globals-cell)
-    (λ g. b-test _ (b-bind (b-get allocator-cell) (λ a. b-test _ (b-bind (b-get (ep-cell Out e)) (λ p. b-test _ (b-ret _)
+    (λ g. b-test _ (b-bind (b-get allocator-cell) (λ a. b-test _
+    (b-bind (b-get (ep-cell Out e)) (λ p. b-test _ (b-ret _)
     (b-bind (b-is (waiting Out e)) (λ b. b-test b (b-bind (b-act (open-oldest e) h)
-    (λ _. b-bind (b-fetch (oldest e)) (λ w. b-bind (b-look (next-stamp e)) (λ k. b-ret _)))) (b-ret _))))) (b-ret _))) (b-ret _))
+    (λ _. b-bind (b-fetch (oldest e)) (λ w. b-bind (b-look (next-stamp e)) (λ k. b-ret _)))) (b-ret _))))) (b-ret _)))
+    (b-ret _))
 brief K (Close e) h = b-bind (b-get globals-cell)
     (λ g. b-test _ (b-bind (b-get allocator-cell)
-    (λ a. b-test _ (b-bind (b-is (opened e)) (λ b. b-test b (b-bind (b-act (close-oldest e) h) (λ _. b-ret _)) (b-ret _))) (b-ret _))) (b-ret _))
-brief K (Queue e bytes) h = b-bind (b-get globals-cell) (λ g. b-test _ (b-bind (b-get allocator-cell) (λ a. b-test _ (b-bind (b-get globals-cell) (λ g. b-test _
+    (λ a. b-test _ (b-bind (b-is (opened e)) (λ b. b-test b (b-bind (b-act (close-oldest e) h) (λ _. b-ret _))
+    (b-ret _))) (b-ret _))) (b-ret _))
+brief K (Queue e bytes) h = b-bind (b-get globals-cell)
+    (λ g. b-test _ (b-bind (b-get allocator-cell) (λ a. b-test _ (b-bind (b-get globals-cell) (λ g. b-test _
     (b-bind (b-get allocator-cell) (λ a. b-test _ (b-ret _) (b-bind (b-get (ep-cell In e)) (λ p. b-test _ (b-ret _)
-    (b-bind (b-is (room e (length bytes))) (λ b. b-test b (b-bind (b-act (enqueue e bytes) h) (λ _. b-ret _)) (b-ret _)))))))
+    (b-bind (b-is (room e (length bytes))) (λ b. b-test b (b-bind (b-act (enqueue e bytes) h) (λ _. b-ret _))
+    (b-ret _)))))))
     (b-ret _))) (b-ret _))) (b-ret _))
 
-pub finishes : (o : Aside) (K : St → Type 0) → ((s : St) → K s → K (actOn (actOf o) s)) → (s : St) → K s → Finished K (run concrete (asideCode o) s)
+pub finishes : (o : Aside) (K : St → Type 0) → ((s : St) → K s → K (actOn (actOf o) s)) → (s : St) → K s
+    → Finished K (run concrete (asideCode o) s)
 finishes o K h s k = brief K o h .on s k
 
 -- by its number, in whatever way it is brought (row 5 comes after)
 open-key : (e x : ℕ) (d : Driver) → key Out e ≡ key Out x → openOn d e ≡ openOn d x
 unfolding openOn epOn withOn
-open-key e x d m = ap (λ k. cond (hasWaiting (getD (d .eps) k noEp)) (withEps d (set (d .eps) k (openedOf (getD (d .eps) k noEp)))) d) m
+open-key e x d m = ap (λ k. cond (hasWaiting (getD (d .eps) k noEp))
+    (withEps d (set (d .eps) k (openedOf (getD (d .eps) k noEp)))) d) m
 
 close-key : (e x : ℕ) (d : Driver) → key Out e ≡ key Out x → closeOn d e ≡ closeOn d x
 unfolding closeOn epOn withOn
-close-key e x d m = ap (λ k. cond (isOn (getD (d .eps) k noEp .«open»)) (withEps d (set (d .eps) k (closedOf (getD (d .eps) k noEp)))) d) m
+close-key e x d m = ap (λ k. cond (isOn (getD (d .eps) k noEp .«open»))
+    (withEps d (set (d .eps) k (closedOf (getD (d .eps) k noEp)))) d) m
 
-own-act : (c : Channel) (o : Aside) → Mine (c .number) o → (s t : St) → Touched c quiet s t → Touched c quiet s (actOn (actOf o) t)
-own-act c (Open e) m s t l = subst (λ d. Touched c quiet s (d, t .1)) (sym (open-key e (c .number) (t .0) m)) (touched-trans l (own-opens c t (l .right)))
-own-act c (Close e) m s t l = subst (λ d. Touched c quiet s (d, t .1)) (sym (close-key e (c .number) (t .0) m)) (touched-trans l (own-closes c t (l .right)))
+own-act : (c : Channel) (o : Aside) → Mine (c .number) o → (s t : St) → Touched c quiet s t
+    → Touched c quiet s (actOn (actOf o) t)
+own-act c (Open e) m s t l = subst (λ d. Touched c quiet s (d, t .1)) (sym (open-key e (c .number) (t .0) m))
+    (touched-trans l (own-opens c t (l .right)))
+own-act c (Close e) m s t l = subst (λ d. Touched c quiet s (d, t .1)) (sym (close-key e (c .number) (t .0) m))
+    (touched-trans l (own-closes c t (l .right)))
 own-act c (Queue e bytes) m s t l = absurd m
 
 -- it leaves a state that is the same but for the channel's data

@@ -14,7 +14,8 @@ use Rattle.script.specs.MachineKept.{LentKeeps}
 use Rattle.script_ops.specs.Rings.{St}
 use Rattle.script_ops.specs.Concrete.{concrete}
 use Rattle.proof_isolation.specs.EqualExcept.{Bounded}
-use Rattle.proof_isolation.specs.SettledLaws.{settled-bounded, put-settled, starts, act-settled, hand-settled, row-settled}
+use Rattle.proof_isolation.specs.SettledLaws.{settled-bounded, put-settled, starts, act-settled, hand-settled}
+use Rattle.proof_isolation.specs.SettledLaws.{row-settled}
 
 not-true : (b : Bool) → not b ≡ true → b ≡ false
 not-true true h = absurd (true≢false (sym h))

@@ -47,25 +47,35 @@ ep0-control maximum (alloc.Given e base slots) d = refl
 
 ep0-steps : (maximum : ℕ) (a : alloc-answer.Answer) → Steps plain (started-as {i = false} maximum a)
 ep0-steps maximum (alloc.Refused n) = tt
-ep0-steps maximum (alloc.Given e base slots) =
-    (tt, λ _. ((((λ _. tt, tt), λ _. ((tt, tt), λ _. ((tt, tt), λ _. ((tt, tt), λ _. (tt, tt))))), λ _. tt), λ _. (λ _. tt, λ _. tt)))
+ep0-steps maximum (alloc.Given e base slots) = (
+  tt,
+  λ _. (
+    (((λ _. tt, tt), λ _. ((tt, tt), λ _. ((tt, tt), λ _. ((tt, tt), λ _. (tt, tt))))), λ _. tt),
+    λ _.
+        (λ _. tt, λ _. tt),
+  ),
+)
 
 -- EP0's start (row 4): before it no data_out is begun
-begin-ep0 : (maximum : ℕ) (s : St) → Bounded (s .0) → Holds (LentKeeps Bounded) (run {i = false} concrete (driver.start maximum) s)
+begin-ep0 : (maximum : ℕ) (s : St) → Bounded (s .0) → Holds (LentKeeps Bounded)
+    (run {i = false} concrete (driver.start maximum) s)
 unfolding allocatedEp0
 begin-ep0 maximum s b = by s b (eqb (s .0 .globals .stage) 1) refl
   where
     by : (s : St) → Bounded (s .0) → (u : Bool) → eqb (s .0 .globals .stage) 1 ≡ u
         → Holds (LentKeeps Bounded)
         (run {i = false} concrete
-        (test u (bind (get allocator-cell) (λ a. act (allocate0 maximum) >> started-as maximum (allocateEp0Of a maximum .answer)))
+        (test u (bind (get allocator-cell) (λ a. act (allocate0 maximum) >> started-as maximum
+        (allocateEp0Of a maximum .answer)))
         (ret (Refused 4))) s)
-    by s b true h = holds-run (bounds-keep plain refl refl) (started-as {i = false} maximum (allocateEp0Of (s .0 .allocator) maximum .answer))
+    by s b true h = holds-run (bounds-keep plain refl refl)
+        (started-as {i = false} maximum (allocateEp0Of (s .0 .allocator) maximum .answer))
         (ep0-steps maximum (allocateEp0Of (s .0 .allocator) maximum .answer)) (actOn (allocate0 maximum) s)
         (λ z. absurd (omega (
           arith,
           eqb-true (s .0 .globals .stage) 1 h,
-          b (sym (ap (λ (v : Control). v .sort) (ep0-control maximum (allocateEp0Of (s .0 .allocator) maximum .answer) _)) ∙ z) .0,
+          b (sym (ap (λ (v : Control). v .sort) (ep0-control maximum (allocateEp0Of (s .0 .allocator) maximum .answer)
+              _)) ∙ z) .0,
         )))
     by s b false h = end b
 
@@ -76,33 +86,41 @@ arms n first = resultless (modifyEp Out 0 (λ s. withArmed 1 (withLen n (withRea
 arm-steps : (n : ℕ) (first : Bool) → Steps plain (arms n first)
 arm-steps n first = (tt, λ _. ((((λ _. tt, λ _. tt), λ _. of-acks plain Out first), λ _. tt), λ _. (λ _. tt, λ _. tt)))
 
-begin-out : (n : ℕ) (first : Bool) (s : St) → Bounded (s .0) → Holds (LentKeeps Bounded) (run {i = false} concrete (beginDataOut n first) s)
+begin-out : (n : ℕ) (first : Bool) (s : St) → Bounded (s .0)
+    → Holds (LentKeeps Bounded) (run {i = false} concrete (beginDataOut n first) s)
 begin-out n first s b = staged-by s b (eqb (s .0 .globals .stage) 2) refl
   where
     setup-by : (s : St) → Bounded (s .0) → s .0 .globals .stage ≡ 2 → n ≤ s .0 .globals .«ep0_max» → (u : Bool)
-        → Holds (LentKeeps Bounded) (run {i = false} concrete (unless u 9 (put control-cell (requestOf DATA-OUT n) >> arms n first)) s)
+        → Holds (LentKeeps Bounded) (run {i = false} concrete
+        (unless u 9 (put control-cell (requestOf DATA-OUT n) >> arms n first)) s)
     setup-by s b h k true = end b
     setup-by s b h k false =
-        holds-run (bounds-keep plain refl refl) (arms n first) (arm-steps n first) (putOn control-cell (requestOf DATA-OUT n) s) (λ _. (h, k))
+        holds-run (bounds-keep plain refl refl) (arms n first) (arm-steps n first)
+        (putOn control-cell (requestOf DATA-OUT n) s) (λ _. (h, k))
 
     within-by : (s : St) → Bounded (s .0) → s .0 .globals .stage ≡ 2 → (u : Bool) → ltb (s .0 .globals .«ep0_max») n ≡ u
-        → Holds (LentKeeps Bounded) (run {i = false} concrete (unless u 10 (unlessSetup (put control-cell (requestOf DATA-OUT n) >> arms n first))) s)
+        → Holds (LentKeeps Bounded) (run {i = false} concrete
+        (unless u 10 (unlessSetup (put control-cell (requestOf DATA-OUT n) >> arms n first))) s)
     within-by s b h true w = end b
-    within-by s b h false w = setup-by s b h (ltb-false (s .0 .globals .«ep0_max») n w) (isOn (s .0 .globals .«setup_ready»))
+    within-by s b h false w = setup-by s b h (ltb-false (s .0 .globals .«ep0_max») n w)
+        (isOn (s .0 .globals .«setup_ready»))
 
     staged-by : (s : St) → Bounded (s .0) → (u : Bool) → eqb (s .0 .globals .stage) 2 ≡ u → Holds (LentKeeps Bounded)
         (run {i = false} concrete
-        (test u (withinMaximum n (unlessSetup (put control-cell (requestOf DATA-OUT n) >> arms n first))) (ret (Refused 4))) s)
+        (test u (withinMaximum n (unlessSetup (put control-cell (requestOf DATA-OUT n) >> arms n first)))
+        (ret (Refused 4))) s)
     staged-by s b true h = within-by s b (eqb-true (s .0 .globals .stage) 2 h) (ltb (s .0 .globals .«ep0_max») n) refl
     staged-by s b false h = end b
 
 -- ---- every call
 
 keeps-bounds : {o : Op} → Begins o → (s : St) → Bounded (s .0) → Holds (LentKeeps Bounded) (run concrete (code o) s)
-keeps-bounds (a-read e n) s b = holds-run (bounds-keep reading refl refl) (code (other (BeginRead e n))) (call-steps (other (BeginRead e n))) s b
+keeps-bounds (a-read e n) s b = holds-run (bounds-keep reading refl refl) (code (other (BeginRead e n)))
+    (call-steps (other (BeginRead e n))) s b
 keeps-bounds (a-data-out n first) s b = begin-out n first s b
 keeps-bounds (ep0 maximum) s b = begin-ep0 maximum s b
-keeps-bounds (none o h) s b = holds-run (bounds-keep (kindOf o) (h .no-data-out) (h .no-start)) (code o) (call-steps o) s b
+keeps-bounds (none o h) s b = holds-run (bounds-keep (kindOf o) (h .no-data-out) (h .no-start)) (code o) (call-steps o)
+    s b
 
 fresh-bounded : (c : Config) → Bounded (driverOf .fresh c)
 unfolding freshDriver
@@ -115,12 +133,14 @@ preserved = record {
   fresh = λ c b row. fresh-bounded c;
 }
 
-always : (es : List (Event Config Op)) (m : Machine Answer Driver) → MachineKeeps Bounded m → MachineKeeps Bounded (after calls driverOf es m)
+always : (es : List (Event Config Op)) (m : Machine Answer Driver) → MachineKeeps Bounded m
+    → MachineKeeps Bounded (after calls driverOf es m)
 always [] m k = k
 always (e ∷ es) m k = always es _ (call-kept preserved (e .call) m k (e .lent))
 
 -- after every list of calls from an accepted start-up, from whatever was before
-pub after-bounded : (c : Config) (b : Buf) → startRow c b ≡ zero → (es : List (Event Config Op)) (m : Machine Answer Driver)
+pub after-bounded : (c : Config) (b : Buf) → startRow c b ≡ zero
+    → (es : List (Event Config Op)) (m : Machine Answer Driver)
     → Bounded (after calls driverOf (record { call = start c; lent = b } ∷ es) m .st)
 after-bounded c b row es m = by (startRow c b) row
   where

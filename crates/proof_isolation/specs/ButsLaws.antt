@@ -36,7 +36,8 @@ use Rattle.proof_book.specs.TransferKinds.{Steady, Has}
 use Rattle.proof_book.specs.TransferKindsLaws.{sorted, row-steady}
 use Rattle.proof_isolation.specs.EqualExcept.{OtherWakes, Stays, ButBy, EqualExcept, Lawful, Channel, LowEquiv}
 use Rattle.proof_isolation.specs.Settled.{isControl}
-use Rattle.proof_isolation.specs.SettledLaws.{put-settled, no-start, act-settled, hand-settled, row-settled, settled-bounded}
+use Rattle.proof_isolation.specs.SettledLaws.{put-settled, no-start, act-settled, hand-settled, row-settled}
+use Rattle.proof_isolation.specs.SettledLaws.{settled-bounded}
 use Rattle.proof_isolation.specs.LikesLaws.{stays-refl}
 
 -- ---- drivers
@@ -48,7 +49,8 @@ with-parts d g c p w r t = withStamps (withRequests (withWakes (withPaced (withC
 pub but-parts : {W : Wakes → Wakes → Type 0} {x : ℕ} {d d′ : Driver} → ButBy W x d d′
     → {g g′ : Globals} {c c′ : Control} {p p′ : List ℕ} {w w′ : Wakes} {r r′ : List Request} {t t′ : List ℕ}
     → g ≡ g′ → c ≡ c′ → p ≡ p′ → W w w′
-    → ((dir : Dir) (e : ℕ) → key dir e ≢ key Out x → requestOn (withRequests d r) dir e ≡ requestOn (withRequests d′ r′) dir e)
+    → ((dir : Dir) (e : ℕ) → key dir e ≢ key Out x → requestOn (withRequests d r) dir e
+    ≡ requestOn (withRequests d′ r′) dir e)
     → ((e : ℕ) → key Out e ≢ key Out x → slotStamps (withStamps d t) e ≡ slotStamps (withStamps d′ t′) e)
     → ButBy W x (with-parts d g c p w r t) (with-parts d′ g′ c′ p′ w′ r′ t′)
 unfolding epOn lenOn stampOn requestOn
@@ -76,7 +78,8 @@ module _ {x : ℕ} {d d′ : Driver} (h : EqualExcept x d d′) where
 
   -- one endpoint's record: the same one, or x's with what stays of it
   module _ (z : Sized d) (z′ : Sized d′) (dir : Dir) (e : ℕ) (r r′ : EpState) where
-    pub but-on : (key dir e ≢ key Out x → r ≡ r′) → (key dir e ≡ key Out x → Stays r r′) → EqualExcept x (withOn d dir e r) (withOn d′ dir e r′)
+    pub but-on : (key dir e ≢ key Out x → r ≡ r′) → (key dir e ≡ key Out x → Stays r r′)
+        → EqualExcept x (withOn d dir e r) (withOn d′ dir e r′)
     unfolding withOn requestOn
     but-on f g = record {
       globals = h .globals;
@@ -102,7 +105,8 @@ module _ {x : ℕ} {d d′ : Driver} (h : EqualExcept x d d′) where
     }
 
   -- an endpoint but x
-  pub but-changed : {d1 d1′ : Driver} (dir : Dir) (e : ℕ) → key dir e ≢ key Out x → Changed dir e d d1 → Changed dir e d′ d1′
+  pub but-changed : {d1 d1′ : Driver} (dir : Dir) (e : ℕ) → key dir e ≢ key Out x → Changed dir e d d1
+      → Changed dir e d′ d1′
       → epOn d1 dir e ≡ epOn d1′ dir e → ((a : Dir) (c : ℕ) → key a c ≡ key dir e → lensOf d1 a c ≡ lensOf d1′ a c)
       → ((c : ℕ) → key Out c ≡ key dir e → slotStamps d1 c ≡ slotStamps d1′ c) → EqualExcept x d1 d1′
   unfolding requestOn
@@ -129,13 +133,15 @@ module _ {x : ℕ} {d d′ : Driver} (h : EqualExcept x d d′) where
   }
 
 -- what stays of any record, the channel's too
-pub stays-any : {x : ℕ} {d d′ : Driver} → EqualExcept x d d′ → (dir : Dir) (e : ℕ) → Stays (epOn d dir e) (epOn d′ dir e)
+pub stays-any : {x : ℕ} {d d′ : Driver} → EqualExcept x d d′ → (dir : Dir) (e : ℕ)
+    → Stays (epOn d dir e) (epOn d′ dir e)
 stays-any {x} {d} {d′} h dir e = elim (ℕ-discrete (key dir e) (key Out x)) [
   | yes p ↦ rw (key-ep d dir Out e x p, key-ep d′ dir Out e x p) (h .own)
   | no n ↦ subst (λ r. Stays (epOn d dir e) r) (h .eps dir e n) (stays-refl (epOn d dir e))
 ]
 
-pub but-cond : {x : ℕ} {a a′ b b′ : Driver} (u u′ : Bool) → u ≡ u′ → EqualExcept x a a′ → EqualExcept x b b′ → EqualExcept x (cond u a b) (cond u′ a′ b′)
+pub but-cond : {x : ℕ} {a a′ b b′ : Driver} (u u′ : Bool) → u ≡ u′ → EqualExcept x a a′ → EqualExcept x b b′
+    → EqualExcept x (cond u a b) (cond u′ a′ b′)
 but-cond {x} {a} {a′} {b} {b′} u u′ e p q = subst (λ v. EqualExcept x (cond u a b) (cond v a′ b′)) e (by u)
   where
     by : (u : Bool) → EqualExcept x (cond u a b) (cond u a′ b′)
@@ -143,7 +149,8 @@ but-cond {x} {a} {a′} {b} {b′} u u′ e p q = subst (λ v. EqualExcept x (co
     by false = q
 
 -- where x's slots lie stays
-pub changed-seat : (x : ℕ) {d d1 : Driver} {dir : Dir} {e : ℕ} → Changed dir e d d1 → SamePlace (epOn d Out x) (epOn d1 Out x)
+pub changed-seat : (x : ℕ) {d d1 : Driver} {dir : Dir} {e : ℕ} → Changed dir e d d1
+    → SamePlace (epOn d Out x) (epOn d1 Out x)
 changed-seat x {d} {d1} {dir} {e} c = elim (ℕ-discrete (key Out x) (key dir e)) [
   | yes p ↦ rw (key-ep d Out dir x e p, key-ep d1 Out dir x e p) (c .place)
   | no p ↦ rw (c .eps Out x p) (same-place (epOn d Out x))
@@ -152,27 +159,39 @@ changed-seat x {d} {d1} {dir} {e} c = elim (ℕ-discrete (key Out x) (key dir e)
 -- ---- states
 
 module _ {c : Channel} where
-  pub like-made : {φ ψ : Phase} {s t s1 t1 : St} → LowEquiv c φ s t → Lawful (c .iso) ψ s1 → Lawful (c .iso) ψ t1 → EqualExcept (c .number) (s1 .0) (t1 .0)
+  pub like-made : {φ ψ : Phase} {s t s1 t1 : St} → LowEquiv c φ s t → Lawful (c .iso) ψ s1 → Lawful (c .iso) ψ t1
+      → EqualExcept (c .number) (s1 .0) (t1 .0)
       → SamePlace (epOn (s .0) Out (c .number)) (epOn (s1 .0) Out (c .number))
-      → Only (epOn (s .0) Out (c .number) .base) (endOf (epOn (s .0) Out (c .number))) (s1 .1) (t1 .1) → LowEquiv c ψ s1 t1
-  like-made {s1 = s1} {t1 = t1} h l r b p o = record { left = l; right = r; but = b; bytes = rw (p .base, p .slots, p .stride) o }
+      → Only (epOn (s .0) Out (c .number) .base) (endOf (epOn (s .0) Out (c .number))) (s1 .1) (t1 .1)
+      → LowEquiv c ψ s1 t1
+  like-made {s1 = s1} {t1 = t1} h l r b p o = record {
+    left = l;
+    right = r;
+    but = b;
+    bytes
+        = rw (p .base, p .slots, p .stride) o;
+  }
 
   -- bytes of another endpoint's slots are the same
-  pub others-same : {φ : Phase} {s t : St} → LowEquiv c φ s t → (dir : Dir) (e lo hi : ℕ) → key dir e ≢ key Out (c .number)
+  pub others-same : {φ : Phase} {s t : St} → LowEquiv c φ s t → (dir : Dir) (e lo hi : ℕ)
+      → key dir e ≢ key Out (c .number)
       → epOn (s .0) dir e .base ≤ lo → hi ≤ endOf (epOn (s .0) dir e) → Same lo hi (s .1) (t .1)
   others-same {s = s} h dir e lo hi n p q =
-      only-apart lo hi (h .bytes) (⊎-elim (λ a. inr (omega arith)) (λ a. inl (omega arith)) (h .left .rest .apart Out dir (c .number) e (λ z. n (sym z))))
+      only-apart lo hi (h .bytes) (⊎-elim (λ a. inr (omega arith)) (λ a. inl (omega arith))
+      (h .left .rest .apart Out dir (c .number) e (λ z. n (sym z))))
 
   -- and EP0's
   pub ep0-same : {φ : Phase} {s t : St} → LowEquiv c φ s t → (lo hi : ℕ)
       → s .0 .globals .«ep0_buf» ≤ lo → hi ≤ s .0 .globals .«ep0_buf» + s .0 .allocator .size → Same lo hi (s .1) (t .1)
   ep0-same {s = s} h lo hi p q =
       let room : ep0Room (s .0 .globals) (s .0 .allocator) ≡ s .0 .allocator .size = rw (h .left .stage) refl in
-      only-apart lo hi (h .bytes) (⊎-elim (λ a. inl (omega (arith, room))) (λ a. inr (omega (arith, room))) (h .left .rest .ep0-apart Out (c .number)))
+      only-apart lo hi (h .bytes) (⊎-elim (λ a. inl (omega (arith, room))) (λ a. inr (omega (arith, room)))
+      (h .left .rest .ep0-apart Out (c .number)))
 
 -- every operation leaves a lawful state
 module _ (c : Channel) where
-  pub lawful-put : (n : Cell) (v : Val n) {s : St} → Lawful (c .iso) quiet s → isControl n ≡ false → Lawful (c .iso) quiet (putOn n v s)
+  pub lawful-put : (n : Cell) (v : Val n) {s : St} → Lawful (c .iso) quiet s → isControl n ≡ false
+      → Lawful (c .iso) quiet (putOn n v s)
   lawful-put n v {s} l h = let k = put-settled n h v s in record {
     pages = _;
     rest = agree .put n v (s .1) (s .0) (l .pages) (l .rest) .1;
@@ -192,7 +211,8 @@ module _ (c : Channel) where
     bounded = λ z. (l .stage, h z);
   }
 
-  pub lawful-act : (q : Act) → allocates q ≡ false → {s : St} → Lawful (c .iso) quiet s → Lawful (c .iso) quiet (actOn q s)
+  pub lawful-act : (q : Act) → allocates q ≡ false → {s : St} → Lawful (c .iso) quiet s
+      → Lawful (c .iso) quiet (actOn q s)
   lawful-act q a {s} l = let k = act-settled q (no-start q a) s in record {
     pages = _;
     rest = agree .act q (s .1) (s .0) (l .pages) (l .rest) .1;
@@ -212,7 +232,12 @@ module _ (c : Channel) where
 
   -- a row: its first step, each other one, its end
   has-by : {d d′ : Driver} → Steady d d′ → Has (c .iso) d → Has (c .iso) d′
-  has-by p k = record { flags = λ dir e. ap isOn (p .flags dir e) ∙ k .flags dir e; outs = rw (p .outs) (k .outs); every = rw (p .every) (k .every) }
+  has-by p k = record {
+    flags = λ dir e. ap isOn (p .flags dir e) ∙ k .flags dir e;
+    outs = rw (p .outs) (k .outs);
+    every
+        = rw (p .every) (k .every);
+  }
 
   module _ (g : Burst) where
     pub lawful-first : {s : St} → Lawful (c .iso) quiet s → Lawful (c .iso) (mid g (lastOf g)) (rowOn g (lastOf g) s .1)
@@ -243,4 +268,10 @@ module _ (c : Channel) where
     }
 
     pub row-over : (s t : St) → LowEquiv c (mid g zero) s t → LowEquiv c quiet s t
-    row-over s t l = record { left = lawful-over (l .left); right = lawful-over (l .right); but = l .but; bytes = l .bytes }
+    row-over s t l = record {
+      left = lawful-over (l .left);
+      right = lawful-over (l .right);
+      but = l .but;
+      bytes
+          = l .bytes;
+    }

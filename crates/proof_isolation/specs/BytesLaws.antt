@@ -53,16 +53,23 @@ back-like : (b c p q : List ℕ) (at k : ℕ) → at ≤ length b → At k b c
     → (at ≤ k → getD q (k - at) 0 ≡ getD p (k - at) 0) → getD (take at c ++ q) k 0 ≡ getD (take at b ++ p) k 0
 back-like b c p q at k l (long, e) h = elim (decLt k at) [
   | yes g ↦ back-low c q at k (omega (arith, long)) g ∙ e ∙ sym (back-low b p at k l g)
-  | no g ↦ back-high c q at k (omega (arith, long)) (omega arith) ∙ h (omega arith) ∙ sym (back-high b p at k l (omega arith))
+  | no g ↦ back-high c q at k (omega (arith, long)) (omega arith) ∙ h (omega arith)
+      ∙ sym (back-high b p at k l (omega arith))
 ]
 
 part-at : (b c : List ℕ) (at k : ℕ) → at ≤ k → At k b c → At (k - at) (drop at b) (drop at c)
-part-at b c at k l (long, e) = (simp (length-drop) (ap (λ n. n - at) long), part-byte c at k l ∙ e ∙ sym (part-byte b at k l))
+part-at b c at k l (long, e) = (
+  simp (length-drop) (ap (λ n. n - at) long),
+  part-byte c at k l ∙ e
+      ∙ sym (part-byte b at k l),
+)
 
 -- a part of n bytes changed by f where it fits
 changed-like : (b c : List ℕ) (at n k : ℕ) (f : List ℕ → List ℕ)
-    → (At (k - at) (drop at b) (drop at c) → getD (f (drop at c)) (k - at) 0 ≡ getD (f (drop at b)) (k - at) 0) → At k b c
-    → getD (cond (short c at n) c (take at c ++ f (drop at c))) k 0 ≡ getD (cond (short b at n) b (take at b ++ f (drop at b))) k 0
+    → (At (k - at) (drop at b) (drop at c) → getD (f (drop at c)) (k - at) 0 ≡ getD (f (drop at b)) (k - at) 0)
+    → At k b c
+    → getD (cond (short c at n) c (take at c ++ f (drop at c))) k 0
+    ≡ getD (cond (short b at n) b (take at b ++ f (drop at b))) k 0
 changed-like b c at n k f g h = elim (decLt (length b) (at + n)) [
   | yes l ↦ rw (lt-ltb (length b) (at + n) l, lt-ltb (length c) (at + n) (omega (arith, h .0))) (h .1)
   | no l ↦ rw (le-ltb (length b) (at + n) (omega arith), le-ltb (length c) (at + n) (omega (arith, h .0)))

@@ -1,5 +1,6 @@
--- Request Fourteen of the Rattle code: what its calls make of the lent bytes in two runs. The contract of each call says that it is one step of the
--- machine of calls that the bytes are (machine/specs/Suspended.antt), with the bus time calls/specs/Sharing.antt
+-- Request Fourteen of the Rattle code: what its calls make of the lent bytes in two runs. The contract of each call
+-- says that it is one step of the machine of calls that the bytes are (machine/specs/Suspended.antt), with the bus time
+-- calls/specs/Sharing.antt
 use mathlib.Core.Bool.{Bool, true, false}
 use mathlib.Core.List.{List, [], _∷_}
 use mathlib.Core.Path.{_≡_}
@@ -7,7 +8,7 @@ use Prim.Native.Nat.{ℕ, zero}
 use Rattle.regs.specs.declared.Access.{Access}
 use Rattle.script.specs.Answers.{Answer}
 use Rattle.script.specs.Calls.{Config, Op, startRow}
-use Rattle.script.specs.Machine.{Buf, Call, start, begin, go, question, Event, Ans, idle}
+use Rattle.script.specs.Machine.{Buf, Call, start, begin, continue, question, Event, Ans, idle}
 use Rattle.machine.specs.Suspended.{drive, machineOf}
 use Rattle.calls.specs.Sharing.{sharedCall}
 use Rattle.proof_book.specs.MachineRuns.{Premise}
@@ -28,7 +29,8 @@ pub record Left : Type 0 where
   pub slots : Buf
   pub time : List ℕ
 
--- one of the two runs: its bytes; the access handed out last, and what was answered last (to the channel's own opens, closes and polls apart)
+-- one of the two runs: its bytes; the access handed out last, and what was answered last (to the channel's own opens,
+-- closes and polls apart)
 pub record Held : Type 0 where
   pub bytes : List ℕ
   pub slots : Buf
@@ -49,22 +51,37 @@ runOf h = record { machine = machineOf (h .bytes) (h .slots); access = h .access
 abbrev pub twoOf : Pair → Two
 twoOf w = record { first = runOf (w .first); second = runOf (w .second); status = w .status }
 
--- the contract of call d of driver n, with the bus time that it shares, or of a driver that shares none (its record then is what its calls would be
--- charged, which no call reads)
+-- the contract of call d of driver n, with the bus time that it shares, or of a driver that shares none (its record
+-- then is what its calls would be charged, which no call reads)
 abbrev pub CallStep : Bool → ℕ → Call Config Op → Buf → Held → Left → Type 0
-CallStep true n d b h l = ((l .answer, machineOf (l .bytes) (l .slots)), l .time) ≡ sharedCall n d (machineOf (h .bytes) (h .slots)) (h .time) b
+CallStep true n d b h l = ((l .answer, machineOf (l .bytes) (l .slots)), l .time)
+    ≡ sharedCall n d (machineOf (h .bytes) (h .slots)) (h .time) b
 CallStep false n d b h l = ((l .answer, machineOf (l .bytes) (l .slots)) ≡ drive d (machineOf (h .bytes) (h .slots)) b)
     × (l .time ≡ shared false n d (machineOf (h .bytes) (h .slots)) (h .time) b .1)
 
 -- a run after a call whose answer is compared, and after one whose answer is not
 abbrev pub heard : Left → Held → Held
-heard l h = record { bytes = l .bytes; slots = l .slots; access = accessOf (l .answer) (h .access); answer = l .answer; time = l .time }
+heard l h = record {
+  bytes = l .bytes;
+  slots = l .slots;
+  access = accessOf (l .answer) (h .access);
+  answer
+      = l .answer;
+  time = l .time;
+}
 
 abbrev pub unheard : Left → Held → Held
-unheard l h = record { bytes = l .bytes; slots = l .slots; access = accessOf (l .answer) (h .access); answer = h .answer; time = l .time }
+unheard l h = record {
+  bytes = l .bytes;
+  slots = l .slots;
+  access = accessOf (l .answer) (h .access);
+  answer
+      = h .answer;
+  time = l .time;
+}
 
 abbrev pub heardOwn : Call Config Op → Left → Held → Held
-heardOwn (go v) l h = heard l h
+heardOwn (continue v) l h = heard l h
 heardOwn (begin o) l h = unheard l h
 heardOwn (start k) l h = unheard l h
 heardOwn (question q) l h = unheard l h
@@ -84,10 +101,25 @@ pub record TurnStep : Type 0 where
 
 abbrev pub nextBy : Turn → Left → Left → Pair → Pair
 nextBy (begins st o b b′) l l′ w =
-    record { first = heard l (w .first); second = heard l′ (w .second); status = statusOf (runOf (w .first) .machine .way) st (w .status) }
-nextBy (goes v v′ b b′) l l′ w = record { first = heard l (w .first); second = heard l′ (w .second); status = w .status }
+    record {
+      first = heard l (w .first);
+      second = heard l′ (w .second);
+      status
+          = statusOf (runOf (w .first) .machine .under-way) st (w .status);
+    }
+nextBy (goes v v′ b b′) l l′ w = record {
+  first = heard l (w .first);
+  second = heard l′ (w .second);
+  status
+      = w .status;
+}
 nextBy (asked q b b′) l l′ w = record { first = heard l (w .first); second = heard l′ (w .second); status = w .status }
-nextBy (stores b b′) l l′ w = record { first = storedTo b (w .first); second = storedTo b′ (w .second); status = w .status }
+nextBy (stores b b′) l l′ w = record {
+  first = storedTo b (w .first);
+  second = storedTo b′ (w .second);
+  status
+      = w .status;
+}
 nextBy (others-time f) l l′ w = record { first = timed f (w .first); second = timed f (w .second); status = w .status }
 nextBy (first e) l l′ w = record { first = heardOwn (e .call) l (w .first); second = w .second; status = w .status }
 nextBy (second e) l l′ w = record { first = w .first; second = heardOwn (e .call) l′ (w .second); status = w .status }
@@ -107,8 +139,18 @@ early (shared-by f ∷ ms) = shares f ∷ early ms
 
 abbrev pub afterEarly : List EarlyMade → Pair → Pair
 afterEarly [] w = w
-afterEarly (got e l l′ ∷ ms) w = afterEarly ms (record { first = heard l (w .first); second = heard l′ (w .second); status = w .status })
-afterEarly (shared-by f ∷ ms) w = afterEarly ms (record { first = timed f (w .first); second = timed f (w .second); status = w .status })
+afterEarly (got e l l′ ∷ ms) w = afterEarly ms (record {
+  first = heard l (w .first);
+  second
+      = heard l′ (w .second);
+  status = w .status;
+})
+afterEarly (shared-by f ∷ ms) w = afterEarly ms (record {
+  first = timed f (w .first);
+  second
+      = timed f (w .second);
+  status = w .status;
+})
 
 -- a session (`Session`): a start-up with what it left in both, the list that is one in both, and the steps
 pub record SessionMade : Type 0 where
@@ -125,7 +167,14 @@ turnsOf [] = []
 turnsOf (s ∷ ss) = s .turn ∷ turnsOf ss
 
 abbrev pub sessionOf : SessionMade → Session
-sessionOf m = record { config = m .config; lent = m .lent; before = early (m .before); channel = m .channel; turns = turnsOf (m .steps) }
+sessionOf m = record {
+  config = m .config;
+  lent = m .lent;
+  before = early (m .before);
+  channel = m .channel;
+  turns
+      = turnsOf (m .steps);
+}
 
 abbrev pub startedBy : SessionMade → Pair → Pair
 startedBy m w = record { first = heard (m .up) (w .first); second = heard (m .up′) (w .second); status = 0 }
@@ -141,9 +190,11 @@ afterSteps (s ∷ ss) w = afterSteps ss (next s w)
 
 module _ (share : Bool) (n : ℕ) where
   abbrev pub DidBy : Turn → Left → Left → Pair → Type 0
-  DidBy (begins st o b b′) l l′ w = CallStep share n (begin o) b (w .first) l × CallStep share n (begin o) b′ (w .second) l′
-  DidBy (goes v v′ b b′) l l′ w = CallStep share n (go v) b (w .first) l × CallStep share n (go v′) b′ (w .second) l′
-  DidBy (asked q b b′) l l′ w = CallStep share n (question q) b (w .first) l × CallStep share n (question q) b′ (w .second) l′
+  DidBy (begins st o b b′) l l′ w = CallStep share n (begin o) b (w .first) l
+      × CallStep share n (begin o) b′ (w .second) l′
+  DidBy (goes v v′ b b′) l l′ w = CallStep share n (continue v) b (w .first) l × CallStep share n (continue v′) b′ (w .second) l′
+  DidBy (asked q b b′) l l′ w = CallStep share n (question q) b (w .first) l
+      × CallStep share n (question q) b′ (w .second) l′
   DidBy (stores b b′) l l′ w = Unit {0}
   DidBy (others-time f) l l′ w = Unit {0}
   DidBy (first e) l l′ w = CallStep share n (e .call) (e .lent) (w .first) l
@@ -157,7 +208,12 @@ module _ (share : Bool) (n : ℕ) where
   DidEarly (got e l l′ ∷ ms) w =
       CallStep share n (e .call) (e .lent) (w .first) l × CallStep share n (e .call) (e .lent) (w .second) l′
       × DidEarly ms (record { first = heard l (w .first); second = heard l′ (w .second); status = w .status })
-  DidEarly (shared-by f ∷ ms) w = DidEarly ms (record { first = timed f (w .first); second = timed f (w .second); status = w .status })
+  DidEarly (shared-by f ∷ ms) w = DidEarly ms (record {
+    first = timed f (w .first);
+    second = timed f (w .second);
+    status
+        = w .status;
+  })
 
   abbrev pub DidSteps : Channel → List TurnStep → Pair → Type 0
   DidSteps c [] w = Unit {0}
@@ -168,8 +224,8 @@ module _ (share : Bool) (n : ℕ) where
   EveryStep c [] w = Unit {0}
   EveryStep c (s ∷ ss) w = After c (s .turn) (twoOf (next s w)) × EveryStep c ss (next s w)
 
-  -- the start-up is accepted; the list that is one in both is one of demand 3's premise and comes to a point after EP0's start with nothing under way;
-  -- the channel is an isochronous OUT endpoint of the run
+  -- the start-up is accepted; the list that is one in both is one of demand 3's premise and comes to a point after
+  -- EP0's start with nothing under way; the channel is an isochronous OUT endpoint of the run
   pub record Begun (m : SessionMade) (w : Pair) : Type 0 where
     pub accepted : startRow (m .config) (m .lent) ≡ zero
     pub up : CallStep share n (start (m .config)) (m .lent) (w .first) (m .up)
@@ -177,7 +233,7 @@ module _ (share : Bool) (n : ℕ) where
     pub early : DidEarly (m .before) (startedBy m w)
     pub lawful : let r = runOf (startedBy m w .first) in
         Premise (heeded share n (sessionOf m .before) r) (r .machine) (freshBook (m .config) (m .lent) (r .answer))
-    pub rests : runOf (openedBy m w .first) .machine .way ≡ idle
+    pub rests : runOf (openedBy m w .first) .machine .under-way ≡ idle
     pub stage : runOf (openedBy m w .first) .machine .st .globals .stage ≡ 2
     pub sorts : m .channel .iso ≡ sortsOf (runOf (openedBy m w .first) .machine .st)
     pub steps : DidSteps (m .channel) (m .steps) (openedBy m w)
@@ -188,4 +244,5 @@ module _ (share : Bool) (n : ℕ) where
 
   abbrev pub CodeTimely : List SessionMade → Pair → Type 0
   CodeTimely [] w = Unit {0}
-  CodeTimely (m ∷ ms) w = EveryStep (m .channel) (m .steps) (openedBy m w) × CodeTimely ms (afterSteps (m .steps) (openedBy m w))
+  CodeTimely (m ∷ ms) w = EveryStep (m .channel) (m .steps) (openedBy m w)
+      × CodeTimely ms (afterSteps (m .steps) (openedBy m w))

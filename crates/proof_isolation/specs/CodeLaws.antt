@@ -4,7 +4,7 @@ use mathlib.Core.List.{List, [], _∷_}
 use mathlib.Core.Path.{_≡_, refl, ap, subst, sym, _∙_}
 use Prim.Native.Nat.{ℕ}
 use Rattle.script.specs.Calls.{Config, Op}
-use Rattle.script.specs.Machine.{Buf, Call, start, begin, go, question, idle}
+use Rattle.script.specs.Machine.{Buf, Call, start, begin, continue, question, idle}
 use Rattle.machine.specs.Suspended.{machineOf}
 use Rattle.proof_book.specs.MachineRuns.{Premise}
 use Rattle.proof_book.specs.Sorting.{sortsOf}
@@ -18,26 +18,32 @@ use Rattle.proof_isolation.specs.FreshBook.{freshBook}
 use Rattle.proof_isolation.specs.Undisturbed.{started-up, opened, Opens}
 use Rattle.proof_isolation.specs.UndisturbedLaws.{step, opened-at}
 use Rattle.proof_isolation.specs.TimeLaws.{as-shared, as-driver}
-use Rattle.proof_isolation.specs.Code.{Left, Held, Pair, runOf, twoOf, CallStep, heard, heardOwn, TurnStep, nextBy, next, EarlyMade}
-use Rattle.proof_isolation.specs.Code.{early, afterEarly, SessionMade, sessionOf, startedBy, openedBy, afterSteps, DidBy, DidEarly}
+use Rattle.proof_isolation.specs.Code.{Left, Held, Pair, runOf, twoOf, CallStep, heard, heardOwn, TurnStep}
+use Rattle.proof_isolation.specs.Code.{nextBy, next, EarlyMade}
+use Rattle.proof_isolation.specs.Code.{early, afterEarly, SessionMade, sessionOf, startedBy, openedBy, afterSteps}
+use Rattle.proof_isolation.specs.Code.{DidBy, DidEarly}
 use Rattle.proof_isolation.specs.Code.{DidSteps, EveryStep, Begun, AllBegun, CodeTimely, got, shared-by}
 
 -- ---- the bytes are the machine's
 
 call-of : (share : Bool) (n : ℕ) (d : Call Config Op) (b : Buf) (h : Held) (l : Left) → CallStep share n d b h l
-    → ((l .answer, machineOf (l .bytes) (l .slots)), l .time) ≡ shared share n d (machineOf (h .bytes) (h .slots)) (h .time) b
+    → ((l .answer, machineOf (l .bytes) (l .slots)), l .time)
+    ≡ shared share n d (machineOf (h .bytes) (h .slots)) (h .time) b
 call-of true n d b h l e = e ∙ sym (as-shared n d (machineOf (h .bytes) (h .slots)) (h .time) b)
 call-of false n d b h l e =
-    let p : (l .answer, machineOf (l .bytes) (l .slots)) ≡ shared false n d (machineOf (h .bytes) (h .slots)) (h .time) b .0 =
+    let p : (l .answer, machineOf (l .bytes) (l .slots)) ≡ shared false n d (machineOf (h .bytes) (h .slots)) (h .time)
+    b .0 =
     e .0 ∙ sym (as-driver n d (machineOf (h .bytes) (h .slots)) (h .time) b) in
     λ i. (p i, e .1 i)
 
 module _ (share : Bool) (n : ℕ) where
-  pub heard-is : (d : Call Config Op) (b : Buf) (h : Held) (l : Left) → CallStep share n d b h l → runOf (heard l h) ≡ called share n d b (runOf h)
+  pub heard-is : (d : Call Config Op) (b : Buf) (h : Held) (l : Left) → CallStep share n d b h l → runOf (heard l h)
+      ≡ called share n d b (runOf h)
   heard-is d b h l e = ap (runBy (h .access)) (call-of share n d b h l e)
 
-  pub own-is : (d : Call Config Op) (b : Buf) (h : Held) (l : Left) → CallStep share n d b h l → runOf (heardOwn d l h) ≡ alone share n d b (runOf h)
-  own-is (go v) b h l e = heard-is (go v) b h l e
+  pub own-is : (d : Call Config Op) (b : Buf) (h : Held) (l : Left) → CallStep share n d b h l → runOf (heardOwn d l h)
+      ≡ alone share n d b (runOf h)
+  own-is (continue v) b h l e = heard-is (continue v) b h l e
   own-is (begin o) b h l e = ap (ownBy (h .access) (h .answer)) (call-of share n (begin o) b h l e)
   own-is (start k) b h l e = ap (ownBy (h .access) (h .answer)) (call-of share n (start k) b h l e)
   own-is (question q) b h l e = ap (ownBy (h .access) (h .answer)) (call-of share n (question q) b h l e)
@@ -46,10 +52,14 @@ module _ (share : Bool) (n : ℕ) where
       → _≡_ {A = Two} (record { first = r; second = r′; status = st }) (record { first = z; second = z′; status = st })
   pair-is p p′ st = λ i. record { first = p i; second = p′ i; status = st }
 
-  pub next-by : (t : Turn) (l l′ : Left) (w : Pair) → DidBy share n t l l′ w → twoOf (nextBy t l l′ w) ≡ turn share n t (twoOf w)
-  next-by (begins st o b b′) l l′ w e = pair-is (heard-is (begin o) b (w .first) l (e .0)) (heard-is (begin o) b′ (w .second) l′ (e .1)) _
-  next-by (goes v v′ b b′) l l′ w e = pair-is (heard-is (go v) b (w .first) l (e .0)) (heard-is (go v′) b′ (w .second) l′ (e .1)) _
-  next-by (asked q b b′) l l′ w e = pair-is (heard-is (question q) b (w .first) l (e .0)) (heard-is (question q) b′ (w .second) l′ (e .1)) _
+  pub next-by : (t : Turn) (l l′ : Left) (w : Pair) → DidBy share n t l l′ w → twoOf (nextBy t l l′ w)
+      ≡ turn share n t (twoOf w)
+  next-by (begins st o b b′) l l′ w e = pair-is (heard-is (begin o) b (w .first) l (e .0))
+      (heard-is (begin o) b′ (w .second) l′ (e .1)) _
+  next-by (goes v v′ b b′) l l′ w e = pair-is (heard-is (continue v) b (w .first) l (e .0))
+      (heard-is (continue v′) b′ (w .second) l′ (e .1)) _
+  next-by (asked q b b′) l l′ w e = pair-is (heard-is (question q) b (w .first) l (e .0))
+      (heard-is (question q) b′ (w .second) l′ (e .1)) _
   next-by (stores b b′) l l′ w e = refl
   next-by (others-time f) l l′ w e = refl
   next-by (first e) l l′ w d = pair-is (own-is (e .call) (e .lent) (w .first) l d) refl _
@@ -75,7 +85,8 @@ module _ (share : Bool) (n : ℕ) where
   code-every c [] w a d = (tt, a)
   code-every c (s ∷ ss) w a d =
       let y = step c share n (s .turn) a (d .1) in
-      let e : turn share n (s .turn) (twoOf w) ≡ twoOf (next s w) = sym (next-by (s .turn) (s .first) (s .second) w (d .0)) in
+      let e : turn share n (s .turn) (twoOf w) ≡ twoOf (next s w)
+      = sym (next-by (s .turn) (s .first) (s .second) w (d .0)) in
       let z = code-every c ss (next s w) (subst (At c) e (y .stand)) (d .2) in
       ((subst (After c (s .turn)) e (y .after-it), z .0), z .1)
 
@@ -86,16 +97,24 @@ module _ (share : Bool) (n : ℕ) where
     pub opened-is : opened share n (sessionOf m) (twoOf w) ≡ twoOf (openedBy m w)
     opened-is =
         pair-is (ap (given share n (early (m .before))) (sym up-is))
-        (ap (given share n (early (m .before))) (sym (heard-is (start (m .config)) (m .lent) (w .second) (m .up′) (o .up′)))) 0
+        (ap (given share n (early (m .before))) (sym (heard-is (start (m .config)) (m .lent) (w .second) (m .up′)
+        (o .up′)))) 0
         ∙ sym (early-is (m .before) (startedBy m w) (o .early))
 
     -- but for the turns
-    opens : Opens share n (record { config = m .config; lent = m .lent; before = early (m .before); channel = m .channel; turns = [] }) (twoOf w)
+    opens : Opens share n (record {
+      config = m .config;
+      lent = m .lent;
+      before = early (m .before);
+      channel
+          = m .channel;
+      turns = [];
+    }) (twoOf w)
     opens = record {
       accepted = o .accepted;
       lawful = subst (λ (r : Run). Premise (heeded share n (early (m .before)) r) (r .machine)
           (freshBook (m .config) (m .lent) (r .answer))) up-is (o .lawful);
-      rests = subst (λ (z : Two). z .first .machine .way ≡ idle) (sym opened-is) (o .rests);
+      rests = subst (λ (z : Two). z .first .machine .under-way ≡ idle) (sym opened-is) (o .rests);
       stage = subst (λ (z : Two). z .first .machine .st .globals .stage ≡ 2) (sym opened-is) (o .stage);
       sorts = subst (λ (z : Two). m .channel .iso ≡ sortsOf (z .first .machine .st)) (sym opened-is) (o .sorts);
       allowed = tt;
@@ -104,8 +123,10 @@ module _ (share : Bool) (n : ℕ) where
     pub begun-at : w .first .time ≡ w .second .time → At (m .channel) (twoOf (openedBy m w))
     begun-at e = subst (At (m .channel)) opened-is (opened-at share n _ (twoOf w) e opens)
 
-  -- any bytes in each of two runs with one record of the bus time; start-ups, and calls whose contracts say what they are steps of
-  pub code-timely : (ms : List SessionMade) (w : Pair) → w .first .time ≡ w .second .time → AllBegun share n ms w → CodeTimely share n ms w
+  -- any bytes in each of two runs with one record of the bus time; start-ups, and calls whose contracts say what they
+  -- are steps of
+  pub code-timely : (ms : List SessionMade) (w : Pair) → w .first .time ≡ w .second .time → AllBegun share n ms w
+      → CodeTimely share n ms w
   code-timely [] w e o = tt
   code-timely (m ∷ ms) w e o =
       let z = code-every (m .channel) (m .steps) (openedBy m w) (begun-at m w (o .0) e) (o .0 .steps) in

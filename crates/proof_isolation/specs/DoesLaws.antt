@@ -1,12 +1,13 @@
--- Laws on the definitions of Does.antt: what an interrupt reads, assigns and does for the channel may come before or after
+-- Laws on the definitions of Does.antt: what an interrupt reads, assigns and does for the channel may come before or
+-- after
 use mathlib.Core.Bool.{Bool, true, false, cond}
-use mathlib.Core.List.{List, [], _∷_}
+use mathlib.Core.List.{List, _∷_}
 use mathlib.Core.Logic.{inl, inr}
 use mathlib.Core.Path.{_≡_, refl, ap, subst, sym, _∙_}
 use Prim.Native.Nat.{ℕ}
 use Rattle.regs.specs.declared.Dir.the-variants.{Out}
 use Rattle.state.specs.Wakes.{Wakes}
-use Rattle.state.specs.Driver.{Driver, withWakes}
+use Rattle.state.specs.Driver.{withWakes}
 use Rattle.script.specs.Cells.{Cell, Val}
 use Rattle.script.specs.Script.{Act, changed, marked, arrive}
 use Rattle.script.specs.TransferKinds.{allocates}
@@ -21,8 +22,10 @@ use Rattle.proof_isolation.specs.ButsLaws.{lawful-put, lawful-act, lawfu
 use Rattle.proof_isolation.specs.OwnStepsLaws.{own-arrives}
 use Rattle.proof_isolation.specs.Late.{Light, isStore, AnyStore, Other}
 use Rattle.proof_isolation.specs.Lights.{done-by, seen, taken, answered, done-at}
-use Rattle.proof_isolation.specs.LightsLaws.{get-done, put-done, changed-own, marked-own, changed-done, wakes-same, wakes-done, arrive-done}
-use Rattle.proof_isolation.specs.LightsLaws.{seen-put, seen-wakes, seen-arrive, still-other, but-reach, put-reach, wakes-reach}
+use Rattle.proof_isolation.specs.LightsLaws.{get-done, put-done, changed-own, marked-own, changed-done}
+use Rattle.proof_isolation.specs.LightsLaws.{wakes-same, wakes-done, arrive-done}
+use Rattle.proof_isolation.specs.LightsLaws.{seen-put, seen-wakes, seen-arrive, still-other, but-reach, put-reach}
+use Rattle.proof_isolation.specs.LightsLaws.{wakes-reach}
 use Rattle.proof_isolation.specs.Does.{Did, Does, did-none, did-more}
 
 module _ (c : Channel) where
@@ -37,17 +40,20 @@ module _ (c : Channel) where
       by false = refl
 
   -- done before it and after it
-  moves-at : (f : St → St) (o : Light) (s : St) → f (done-by o s) ≡ done-by o (f s) → seen o (f s) ≡ seen o s → f (done-at o s) ≡ done-at o (f s)
+  moves-at : (f : St → St) (o : Light) (s : St) → f (done-by o s) ≡ done-by o (f s) → seen o (f s) ≡ seen o s
+      → f (done-at o s) ≡ done-at o (f s)
   moves-at f o s h e = by (taken o (seen o s)) ∙ ap (λ z. cond (taken o z) (done-by o (f s)) (f s)) (sym e)
     where
       by : (u : Bool) → f (cond u (done-by o s) s) ≡ cond u (done-by o (f s)) (f s)
       by true = h
       by false = refl
 
-  did-stays : {X : Type 0} (f : St → X) {o : Light} {a : Ans Answer} {s t : St} → Did c o a s t → f (done-by o s) ≡ f s → f t ≡ f s
+  did-stays : {X : Type 0} (f : St → X) {o : Light} {a : Ans Answer} {s t : St} → Did c o a s t → f (done-by o s) ≡ f s
+      → f t ≡ f s
   did-stays f {o} {s = s} d h = ap f (d .is) ∙ stays-at f o s h
 
-  did-put : {o : Light} {a : Ans Answer} {s t : St} → Did c o a s t → (q : Cell) (v : Val q) → isControl q ≡ false → Did c o a (putOn q v s) (putOn q v t)
+  did-put : {o : Light} {a : Ans Answer} {s t : St} → Did c o a s t → (q : Cell) (v : Val q) → isControl q ≡ false
+      → Did c o a (putOn q v s) (putOn q v t)
   did-put {o} {s = s} d q v h =
       let e = seen-put o q v s (d .before .rest .sized) in
       record {
@@ -58,7 +64,8 @@ module _ (c : Channel) where
         told = ap (answered o) e ∙ d .told;
       }
 
-  did-wakes : {o : Light} {a : Ans Answer} {s t : St} → Did c o a s t → (q : Act) (f : Wakes → Wakes) → allocates q ≡ false
+  did-wakes : {o : Light} {a : Ans Answer} {s t : St} → Did c o a s t → (q : Act) (f : Wakes → Wakes) → allocates q
+      ≡ false
       → ((s : St) → actOn q s ≡ (withWakes (s .0) (f (s .0 .wakes)), s .1)) → Did c o a (actOn q s) (actOn q t)
   did-wakes {o} {s = s} {t = t} d q f n e =
       let w = f (s .0 .wakes) in
@@ -66,7 +73,8 @@ module _ (c : Channel) where
       record {
         before = lawful-act c q n (d .before);
         after = lawful-act c q n (d .after);
-        other = subst (λ (x : St). late-other o x) (sym (e s)) (still-other c (d .before) (wakes-reach c (s .0) w) o (d .other));
+        other = subst (λ (x : St). late-other o x) (sym (e s))
+            (still-other c (d .before) (wakes-reach c (s .0) w) o (d .other));
         is = ap (actOn q) (d .is) ∙ moves-at (actOn q) o s (e (done-by o s)
             ∙ ap (λ v. (withWakes (done-by o s .0) (f v), done-by o s .1)) (wakes-same c o s (d .before))
             ∙ wakes-done c o s (d .before) w ∙ ap (done-by o) (sym (e s))) z;
@@ -106,40 +114,49 @@ module _ (c : Channel) where
   does-after (did-none l) = l
   does-after (did-more d k e) = does-after k
 
-  pub does-get : {os : List Light} {us : List (Ans Answer)} {s t : St} → Does c os us s t → (q : Cell) → getOn q t ≡ getOn q s
+  pub does-get : {os : List Light} {us : List (Ans Answer)} {s t : St} → Does c os us s t → (q : Cell) → getOn q t
+      ≡ getOn q s
   does-get (did-none l) q = refl
   does-get (did-more {o = o} {s = s} d k e) q = does-get k q ∙ did-stays (getOn q) d (get-done c o s (d .before) q)
 
-  pub does-own : {os : List Light} {us : List (Ans Answer)} {s t : St} → Does c os us s t → isOf (changed (c .number)) t ≡ isOf (changed (c .number)) s
+  pub does-own : {os : List Light} {us : List (Ans Answer)} {s t : St} → Does c os us s t → isOf (changed (c .number)) t
+      ≡ isOf (changed (c .number)) s
   does-own (did-none l) = refl
-  does-own (did-more {o = o} {s = s} d k e) = does-own k ∙ did-stays (isOf (changed (c .number))) d (changed-own c o s (d .before) (d .other))
+  does-own (did-more {o = o} {s = s} d k e) = does-own k
+      ∙ did-stays (isOf (changed (c .number))) d (changed-own c o s (d .before) (d .other))
 
   pub does-marked : {os : List Light} {us : List (Ans Answer)} {s t : St} → Does c os us s t
       → lookOf (marked (c .number)) t ≡ lookOf (marked (c .number)) s
   does-marked (did-none l) = refl
-  does-marked (did-more {o = o} {s = s} d k e) = does-marked k ∙ did-stays (lookOf (marked (c .number))) d (marked-own c o s (d .before) (d .other))
+  does-marked (did-more {o = o} {s = s} d k e) = does-marked k
+      ∙ did-stays (lookOf (marked (c .number))) d (marked-own c o s (d .before) (d .other))
 
   -- or there are stores among them
   pub does-changed : {os : List Light} {us : List (Ans Answer)} {s t : St} → Does c os us s t → (AnyStore os → ⊥)
       → (a : ℕ) → c .iso Out a ≡ true → isOf (changed a) t ≡ isOf (changed a) s
   does-changed (did-none l) n a i = refl
   does-changed (did-more {o = o} {s = s} d k e) n a i =
-      does-changed k (λ z. n (inr z)) a i ∙ did-stays (isOf (changed a)) d (changed-done c o (by (isStore o) refl) s (d .before) a i)
+      does-changed k (λ z. n (inr z)) a i ∙ did-stays (isOf (changed a)) d
+      (changed-done c o (by (isStore o) refl) s (d .before) a i)
     where
       by : (u : Bool) → isStore o ≡ u → isStore o ≡ false
       by true h = absurd (n (inl h))
       by false h = h
 
-  pub does-wakes-same : {os : List Light} {us : List (Ans Answer)} {s t : St} → Does c os us s t → t .0 .wakes ≡ s .0 .wakes
+  pub does-wakes-same : {os : List Light} {us : List (Ans Answer)} {s t : St} → Does c os us s t → t .0 .wakes
+      ≡ s .0 .wakes
   does-wakes-same (did-none l) = refl
-  does-wakes-same (did-more {o = o} {s = s} d k e) = does-wakes-same k ∙ did-stays (λ (x : St). x .0 .wakes) d (wakes-same c o s (d .before))
+  does-wakes-same (did-more {o = o} {s = s} d k e) = does-wakes-same k
+      ∙ did-stays (λ (x : St). x .0 .wakes) d (wakes-same c o s (d .before))
 
-  pub does-put : {os : List Light} {us : List (Ans Answer)} {s t : St} → Does c os us s t → (q : Cell) (v : Val q) → isControl q ≡ false
+  pub does-put : {os : List Light} {us : List (Ans Answer)} {s t : St} → Does c os us s t → (q : Cell) (v : Val q)
+      → isControl q ≡ false
       → Does c os us (putOn q v s) (putOn q v t)
   does-put (did-none l) q v h = did-none (lawful-put c q v l h)
   does-put (did-more d k e) q v h = did-more (did-put d q v h) (does-put k q v h) e
 
-  pub does-wakes : {os : List Light} {us : List (Ans Answer)} {s t : St} → Does c os us s t → (q : Act) (f : Wakes → Wakes) → allocates q ≡ false
+  pub does-wakes : {os : List Light} {us : List (Ans Answer)} {s t : St} → Does c os us s t
+      → (q : Act) (f : Wakes → Wakes) → allocates q ≡ false
       → ((s : St) → actOn q s ≡ (withWakes (s .0) (f (s .0 .wakes)), s .1)) → Does c os us (actOn q s) (actOn q t)
   does-wakes (did-none l) q f n h = did-none (lawful-act c q n l)
   does-wakes (did-more d k e) q f n h = did-more (did-wakes d q f n h) (does-wakes k q f n h) e

@@ -1,29 +1,27 @@
 -- A change elsewhere than in the channel's record and slots, and an arrival on the channel: either may come first
 use mathlib.Core.Bool.{Bool, true, false, cond}
-use mathlib.Core.List.{List, [], _∷_}
+use mathlib.Core.List.{_∷_}
 use mathlib.Core.Logic.{_≢_}
 use mathlib.Core.Path.{_≡_, refl, ap, sym, _∙_}
 use Prim.Native.Nat.{ℕ, _+_, _*_, _/_, _%_, _≤_, _<_}
 use native.Mathlib.Omega.{arith}
 use native.Mathlib.Decide.{decLt}
-use lib.ListN.{length, getD, set, length-set}
-use lib.Seq.{set-comm, getD-set-other, ext-getD}
+use lib.ListN.{length, getD}
+use lib.Seq.{set-comm, ext-getD}
 use Rattle.bits.specs.Bit.{isSet}
 use Rattle.regs.specs.declared.Dir.the-variants.{Out, In}
 use Rattle.state.specs.declared.EpState.{EpState}
-use Rattle.state.specs.declared.Globals.{Globals}
 use Rattle.state.specs.Driver.{Driver, key, lenKey, withEps, withLens, epOn, withOn, withLenOn, withStampOn}
 use Rattle.state.specs.Laws.{epOn-other, key-apart}
 use Rattle.ring.specs.Marks.{armed}
-use Rattle.ring.specs.MarksSlots.{armed-slot, only-copied}
-use Rattle.ring.specs.Copies.{copied}
+use Rattle.ring.specs.MarksSlots.{armed-slot}
 use Rattle.ring.specs.Only.{Only}
 use Rattle.ring.specs.Slot.{slotOf, slotAddr}
 use Rattle.ring.specs.Out.{hasRoomOut, cappedAt, arrivedOf, armedAt}
 use Rattle.script.specs.Statics.{isoOuts}
 use Rattle.script.specs.Machine.{Buf}
 use Rattle.script_ops.specs.Rings.{St, writtenOn, recordedOn, admittedOn, armAt, arrivedAt, arriveOn}
-use Rattle.proof_isolation.specs.BytesLaws.{At, set-like, armed-like, copied-like}
+use Rattle.proof_isolation.specs.BytesLaws.{At, armed-like}
 
 -- ---- the buffer
 
@@ -33,11 +31,9 @@ pub record Beyond (lo hi : ℕ) (f : Buf → Buf) : Type 0 where
   pub inside : (b : Buf) (k : ℕ) → lo ≤ k → k < hi → getD (f b) k 0 ≡ getD b k 0
   pub like : (b c : Buf) (k : ℕ) → At k b c → At k (f b) (f c)
 
-pub beyond-none : (lo hi : ℕ) → Beyond lo hi (λ b. b)
-beyond-none lo hi = record { long = λ b. refl; inside = λ b k p q. refl; like = λ b c k h. h }
-
 module _ {lo hi : ℕ} {f : Buf → Buf} (z : Beyond lo hi f) (b : Buf) (a maximum size : ℕ)
-    (four : 4 ≤ size) (words : size / 4 * 4 ≡ size) (least : maximum ≤ size) (from : lo ≤ a) (upto : a + size ≤ hi) where
+    (four : 4 ≤ size) (words : size / 4 * 4 ≡ size) (least : maximum ≤ size) (from : lo ≤ a)
+    (upto : a + size ≤ hi) where
   pub armed-beyond : armed (f b) a maximum ≡ f (armed b a maximum)
   armed-beyond =
       ext-getD 0 _ _ (there .long ∙ z .long b ∙ sym (here .long) ∙ sym (z .long (armed b a maximum))) (λ k _. by k)
@@ -86,7 +82,8 @@ unfolding withOn withLenOn withStampOn epOn
 spared-joined x e i m y = record {
   globals = λ d. refl;
   ep = λ d. epOn-other (withLenOn d In e i m) In e y Out x (key-apart x e);
-  on = λ d r. ap (λ l. withEps (withLenOn d In e i m) l) (set-comm (d .eps) (key In e) (key Out x) y r (λ p. key-apart x e (sym p)));
+  on = λ d r. ap (λ l. withEps (withLenOn d In e i m) l)
+      (set-comm (d .eps) (key In e) (key Out x) y r (λ p. key-apart x e (sym p)));
   writes = λ d j len. ap (λ l. withOn (withStampOn (withLens d l) x j (d .globals .entered)) In e y)
       (set-comm (d .lens) (lenKey In e i) (lenKey Out x j) m len (len-apart x e i j));
 }
@@ -120,7 +117,14 @@ module _ {x : ℕ} {g : Driver → Driver} (h : Spared x g) where
         → armAt x i (g d, f b) ≡ moved g f (armAt x i (d, b))
     arm-spared p =
         let r = epOn d Out x in
-        ap (λ (r : EpState). (slotAddr r i, (withOn (g d) Out x (armedAt r (slotAddr r i)), armed (f b) (slotAddr r i) (r .«max_len»)))) (h .ep d)
+        ap (λ (r : EpState). (
+          slotAddr r i,
+          (
+            withOn (g d) Out x (armedAt r (slotAddr r i)),
+            armed (f b) (slotAddr r i)
+                (r .«max_len»),
+          ),
+        )) (h .ep d)
         ∙ (λ j. (slotAddr r i, (h .on d (armedAt r (slotAddr r i)) j, p j)))
 
   pub arrive-spared : (f : Buf → Buf) (d : Driver) (b : Buf) (m : ℕ) → (isSet (isoOuts (d .globals)) (x % 16) ≡ true →
@@ -129,7 +133,8 @@ module _ {x : ℕ} {g : Driver → Driver} (h : Spared x g) where
       → arriveOn x m (g d, f b) ≡ moved g f (arriveOn x m (d, b))
   unfolding arriveOn
   arrive-spared f d b m p =
-      (λ i. cond (isSet (isoOuts (h .globals d i)) (x % 16)) (arrivedAt x (cappedAt (h .ep d i) m) (g d, f b)) (h .ep d i .«armed_slot», (g d, f b)))
+      (λ i. cond (isSet (isoOuts (h .globals d i)) (x % 16)) (arrivedAt x (cappedAt (h .ep d i) m) (g d, f b))
+      (h .ep d i .«armed_slot», (g d, f b)))
       ∙ by (isSet (isoOuts (d .globals)) (x % 16)) refl
     where
       by : (u : Bool) → isSet (isoOuts (d .globals)) (x % 16) ≡ u

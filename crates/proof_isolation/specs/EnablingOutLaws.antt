@@ -41,7 +41,8 @@ module _ (c : Channel) (e : ℕ) (plain : c .iso Out e ≡ false) where
   other-number : eqb e (c .number) ≡ false
   other-number = ne-eqb e (c .number) (λ z. true≢false (sym (c .receives) ∙ ap (λ a. c .iso Out a) (sym z) ∙ plain))
 
-  resets : (s t : St) → LowEquiv c quiet s t → LowEquiv c quiet (actOn (reset-ring Out e) s) (actOn (reset-ring Out e) t)
+  resets : (s t : St) → LowEquiv c quiet s t → LowEquiv c quiet (actOn (reset-ring Out e) s)
+      (actOn (reset-ring Out e) t)
   unfolding emptiedOn isoOut withOn
   resets s t l =
       let n = other (l .left) in
@@ -50,7 +51,8 @@ module _ (c : Channel) (e : ℕ) (plain : c .iso Out e ≡ false) where
       (lawful-act c (reset-ring Out e) refl (l .left))
       (lawful-act c (reset-ring Out e) refl (l .right))
       (but-cond _ _ (ap (λ (r : EpState). isOn (r .iso)) h) (l .but)
-      (but-on (l .but) (l .left .rest .sized) (l .right .rest .sized) Out e _ _ (λ _. ap emptied h) (λ p. absurd (n p))))
+      (but-on (l .but) (l .left .rest .sized) (l .right .rest .sized) Out e _ _ (λ _. ap emptied h)
+      (λ p. absurd (n p))))
       (cond-seat (c .number) (epOn (s .0) Out (c .number)) (isOn (epOn (s .0) Out e .iso)) _ _
       (same-place (epOn (s .0) Out (c .number))) (on-seat (c .number) (s .0) Out e _ n)) (l .bytes)
 
@@ -58,7 +60,8 @@ module _ (c : Channel) (e : ℕ) (plain : c .iso Out e ≡ false) where
   unfolding epOn
   config-seat d g = same-place (epOn d Out (c .number))
 
-  configures : (onn : Bool) (s t : St) → LowEquiv c quiet s t → LowEquiv c quiet (actOn (set-enabled Out e onn) s) (actOn (set-enabled Out e onn) t)
+  configures : (onn : Bool) (s t : St) → LowEquiv c quiet s t
+      → LowEquiv c quiet (actOn (set-enabled Out e onn) s) (actOn (set-enabled Out e onn) t)
   unfolding enabledOn isoOut configured
   configures onn s t l =
       let h = l .but .eps Out e (other (l .left)) in
@@ -66,7 +69,8 @@ module _ (c : Channel) (e : ℕ) (plain : c .iso Out e ≡ false) where
       (lawful-act c (set-enabled Out e onn) refl (l .left))
       (lawful-act c (set-enabled Out e onn) refl (l .right))
       (but-cond _ _ (ap (λ (r : EpState). isOn (r .iso)) h) (l .but)
-      (but-globals (l .but) _ _ (ap (λ (g : Globals). withEpConfig (enables.withOn (g .«ep_config») Out e onn) g) (l .but .globals))))
+      (but-globals (l .but) _ _ (ap (λ (g : Globals). withEpConfig (enables.withOn (g .«ep_config») Out e onn) g)
+      (l .but .globals))))
       (cond-seat (c .number) (epOn (s .0) Out (c .number)) (isOn (epOn (s .0) Out e .iso)) _ _
       (same-place (epOn (s .0) Out (c .number))) (config-seat (s .0) _)) (l .bytes)
 
@@ -95,23 +99,27 @@ module _ (c : Channel) (e : ℕ) (plain : c .iso Out e ≡ false) where
       let h = l .but .eps Out e n in
       record {
         address = ap (λ (r : EpState). r .base) h;
-        but = but-on (l .but) (l .left .rest .sized) (l .right .rest .sized) Out e _ _ (λ _. ap (λ (r : EpState). armedAt r (r .base)) h) (λ p. absurd (n p));
+        but = but-on (l .but) (l .left .rest .sized) (l .right .rest .sized) Out e _ _
+            (λ _. ap (λ (r : EpState). armedAt r (r .base)) h) (λ p. absurd (n p));
         seat = on-seat (c .number) (s .0) Out e _ n;
       }
 
   placed : (s t : St) → LowEquiv c quiet s t → Placed s t (placeOn Out e (s .0)) (placeOn Out e (t .0))
   unfolding placeOn
-  placed s t l = subst (λ u. Placed s t (placeOn Out e (s .0)) (cond {A = ℕ × Driver} u (epOn (t .0) Out e .«armed_slot», t .0) (
-    epOn (t .0) Out e .base,
-    withOn (t .0) Out e (armedAt (epOn (t .0) Out e) (epOn (t .0) Out e .base)),
-  )))
-      (ap (λ (g : Globals). isSet (isoOuts g) (e % 16)) (l .but .globals)) (placed-by (isSet (isoOuts (s .0 .globals)) (e % 16)) s t l)
+  placed s t l = subst (λ u. Placed s t (placeOn Out e (s .0))
+      (cond {A = ℕ × Driver} u (epOn (t .0) Out e .«armed_slot», t .0) (
+        epOn (t .0) Out e .base,
+        withOn (t .0) Out e (armedAt (epOn (t .0) Out e) (epOn (t .0) Out e .base)),
+      )))
+      (ap (λ (g : Globals). isSet (isoOuts g) (e % 16)) (l .but .globals))
+      (placed-by (isSet (isoOuts (s .0 .globals)) (e % 16)) s t l)
 
   places : (s t : St) → LowEquiv c quiet s t → (handOn (place Out e) s .0 ≡ handOn (place Out e) t .0)
       × LowEquiv c quiet (handOn (place Out e) s .1) (handOn (place Out e) t .1)
   places s t l = let b = placed s t l in (
     b .address,
-    like-made l (lawful-hand c (place Out e) (l .left)) (lawful-hand c (place Out e) (l .right)) (b .but) (b .seat) (l .bytes),
+    like-made l (lawful-hand c (place Out e) (l .left)) (lawful-hand c (place Out e) (l .right)) (b .but) (b .seat)
+        (l .bytes),
   )
 
   module _ {st : ℕ} {i : Bool} where
@@ -126,4 +134,5 @@ module _ (c : Channel) (e : ℕ) (plain : c .iso Out e ≡ false) where
 
   pub p-set-enabled : {st : ℕ} (onn : Bool) → Pair c st Any (bus.setEnabled Out e onn) (bus.setEnabled Out e onn)
   p-set-enabled onn = p-plain-any c Out e
-      (λ s r _ _ f. p-then (p-test _ (λ h. absurd (true≢false (sym h ∙ f ∙ plain))) (λ _. p-enabled-out onn)) (p-wake c Out e))
+      (λ s r _ _ f. p-then (p-test _ (λ h. absurd (true≢false (sym h ∙ f ∙ plain))) (λ _. p-enabled-out onn))
+      (p-wake c Out e))

@@ -19,7 +19,8 @@ module _ {K : St → Type 0} where
   pub b-ret : {A : Type 0} (a : A) → Brief K (ret a)
   b-ret a = record { on = λ s k. fin a k }
 
-  pub b-bind : {A B : Type 0} {p : Script false A} {f : A → Script false B} → Brief K p → ((a : A) → Brief K (f a)) → Brief K (bind p f)
+  pub b-bind : {A B : Type 0} {p : Script false A} {f : A → Script false B} → Brief K p → ((a : A) → Brief K (f a))
+      → Brief K (bind p f)
   b-bind h g = record { on = λ s k. fin-bind (h .on s k) (λ a t q. g a .on t q) }
 
   pub b-test : {A : Type 0} {p q : Script false A} (b : Bool) → Brief K p → Brief K q → Brief K (test b p q)

@@ -33,7 +33,8 @@ without o (a ∷ l) = cond (eqb a o) (without o l) (a ∷ without o l)
 abbrev pub others : ℕ → List ℕ → List ℕ
 others x l = without (wakeCode Out x) l
 
--- "the order of the others' wake-ups": the two lists without OUT x's are the same. A list of 64 has no room for more, to which none comes in a run
+-- "the order of the others' wake-ups": the two lists without OUT x's are the same. A list of 64 has no room for more,
+-- to which none comes in a run
 -- (`proof_wake_ups`: `rooms`)
 abbrev pub SameCodes : ℕ → List ℕ → List ℕ → Type 0
 SameCodes x l l′ = length l < 64 → length l′ < 64 → others x l ≡ others x l′
@@ -44,13 +45,14 @@ pub record OtherWakes (x : ℕ) (w w′ : Wakes) : Type 0 where
   pub room′ : Room w′
   pub same : SameCodes x (listed w) (listed w′)
 
--- what stays of OUT x's record: where its slots lie and what scripts read (`Plain`), but for `ready`, which a poll of its read makes 0
+-- what stays of OUT x's record: where its slots lie and what scripts read (`Plain`), but for `ready`, which a poll of
+-- its read makes 0
 pub record Stays (r r′ : EpState) : Type 0 where
   pub place : SamePlace r r′
   pub plain : withReady 0 (plainOf r′) ≡ withReady 0 (plainOf r)
 
--- two drivers are the same but for OUT x's queue, stamps, overruns, armed slot and open packet, its read's request, and the wake-ups, of which W
--- holds
+-- two drivers are the same but for OUT x's queue, stamps, overruns, armed slot and open packet, its read's request, and
+-- the wake-ups, of which W holds
 pub record ButBy (W : Wakes → Wakes → Type 0) (x : ℕ) (d d′ : Driver) : Type 0 where
   pub globals : d .globals ≡ d′ .globals
   pub allocator : d .allocator ≡ d′ .allocator
@@ -71,7 +73,8 @@ EqualExcept x d d′ = ButBy (OtherWakes x) x d d′
 abbrev pub Beside : ℕ → Driver → Driver → Type 0
 Beside x d d′ = ButBy (λ w w′. w ≡ w′) x d d′
 
--- a data_out's length is at most EP0's maximum, as its begin asks (row 10); it holds after every list of calls (`Bounds`: `after-bounded`)
+-- a data_out's length is at most EP0's maximum, as its begin asks (row 10); it holds after every list of calls
+-- (`Bounds`: `after-bounded`)
 abbrev pub Bounded : Driver → Type 0
 Bounded d = d .control .sort ≡ DATA-OUT → (d .globals .stage ≡ 2) × (d .control .length ≤ d .globals .«ep0_max»)
 
@@ -91,16 +94,16 @@ pub record Channel : Type 0 where
   pub receives : iso Out number ≡ true
   pub ep0 : (dir : Dir) → iso dir 0 ≡ false
 
--- two such states, with their slot buffers, that are the same but for its data: "every other endpoint has the same queue, stamps, bytes,
--- overruns and wake-ups"
+-- two such states, with their slot buffers, that are the same but for its data: "every other endpoint has the same
+-- queue, stamps, bytes, overruns and wake-ups"
 pub record LowEquiv (c : Channel) (φ : Phase) (s t : St) : Type 0 where
   pub left : Lawful (c .iso) φ s
   pub right : Lawful (c .iso) φ t
   pub but : EqualExcept (c .number) (s .0) (t .0)
   pub bytes : Only (epOn (s .0) Out (c .number) .base) (endOf (epOn (s .0) Out (c .number))) (s .1) (t .1)
 
--- one state before and after what is done to its data alone, between two accesses or operations: stores in its slots, its opens and closes, polls of its
--- read
+-- one state before and after what is done to its data alone, between two accesses or operations: stores in its slots,
+-- its opens and closes, polls of its read
 pub record Touched (c : Channel) (φ : Phase) (s t : St) : Type 0 where
   pub left : Lawful (c .iso) φ s
   pub right : Lawful (c .iso) φ t

@@ -8,4 +8,5 @@ use Rattle.proof_book.specs.Book.{book}
 
 -- the book after a start-up (demand 3), of whose access it is told
 abbrev pub freshBook : Config → Buf → Ans Answer → Machine Answer Pages
-freshBook k b a = started calls (book .driver) (fed book a) k zero (record { way = idle; st = book .driver .fresh k; buf = b }) b .1
+freshBook k b a = started calls (book .driver) (fed book a) k zero
+    (record { under-way = idle; st = book .driver .fresh k; buf = b }) b .1

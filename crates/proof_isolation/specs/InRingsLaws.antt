@@ -38,18 +38,22 @@ pub len-mod : (d : Driver) (dir : Dir) (e i : ℕ) → lenOn d dir e i ≡ lenOn
 unfolding lenOn lenKey
 len-mod d dir e i = ap (λ j. getD (d .lens) (key dir e * 16 + j) 0) (sym (mod-mod i))
 
-pub len-any : (d d′ : Driver) (dir : Dir) (e i : ℕ) → lensOf d dir e ≡ lensOf d′ dir e → lenOn d dir e i ≡ lenOn d′ dir e i
+pub len-any : (d d′ : Driver) (dir : Dir) (e i : ℕ) → lensOf d dir e ≡ lensOf d′ dir e → lenOn d dir e i
+    ≡ lenOn d′ dir e i
 len-any d d′ dir e i h =
     len-mod d dir e i ∙ sym (lens-at d dir e (i % 16) (omega arith))
     ∙ ap (λ l. getD l (i % 16) 0) h ∙ lens-at d′ dir e (i % 16) (omega arith) ∙ sym (len-mod d′ dir e i)
 
-pub next-same : (d d′ : Driver) (dir : Dir) (e : ℕ) → epOn d dir e ≡ epOn d′ dir e → lensOf d dir e ≡ lensOf d′ dir e → nextLen d dir e ≡ nextLen d′ dir e
+pub next-same : (d d′ : Driver) (dir : Dir) (e : ℕ) → epOn d dir e ≡ epOn d′ dir e → lensOf d dir e ≡ lensOf d′ dir e
+    → nextLen d dir e ≡ nextLen d′ dir e
 unfolding nextLen
 next-same d d′ dir e h l =
     ap (λ (r : EpState). cond (hasWaiting r) (lenOn d dir e (slotOf r (r .tail))) 0) h
-    ∙ ap (λ n. cond (hasWaiting (epOn d′ dir e)) n 0) (len-any d d′ dir e (slotOf (epOn d′ dir e) (epOn d′ dir e .tail)) l)
+    ∙ ap (λ n. cond (hasWaiting (epOn d′ dir e)) n 0) (len-any d d′ dir e (slotOf (epOn d′ dir e) (epOn d′ dir e .tail))
+    l)
 
-pub on-seat : (x : ℕ) (d : Driver) (dir : Dir) (e : ℕ) (r : EpState) → key dir e ≢ key Out x → SamePlace (epOn d Out x) (epOn (withOn d dir e r) Out x)
+pub on-seat : (x : ℕ) (d : Driver) (dir : Dir) (e : ℕ) (r : EpState) → key dir e ≢ key Out x
+    → SamePlace (epOn d Out x) (epOn (withOn d dir e r) Out x)
 on-seat x d dir e r n = rw (epOn-other d dir e r Out x (λ z. n (sym z))) (same-place (epOn d Out x))
 
 pub cond-seat : (x : ℕ) (r : EpState) (u : Bool) (a b : Driver)
@@ -62,11 +66,13 @@ module _ (c : Channel) (e : ℕ) (n : key Out e ≢ key Out (c .number)) (g : Ep
   abbrev where-so : St → St
   where-so s = (cond (g (epOn (s .0) Out e)) (withOn (s .0) Out e (f (epOn (s .0) Out e))) (s .0), s .1)
 
-  pub out-changed : (s t : St) → LowEquiv c quiet s t → Lawful (c .iso) quiet (where-so s) → Lawful (c .iso) quiet (where-so t)
+  pub out-changed : (s t : St) → LowEquiv c quiet s t → Lawful (c .iso) quiet (where-so s)
+      → Lawful (c .iso) quiet (where-so t)
       → LowEquiv c quiet (where-so s) (where-so t)
   out-changed s t l x y = let h = l .but .eps Out e n in like-made l x y
       (but-cond _ _ (ap g h)
-      (but-on (l .but) (l .left .rest .sized) (l .right .rest .sized) Out e _ _ (λ _. ap f h) (λ p. absurd (n p))) (l .but))
+      (but-on (l .but) (l .left .rest .sized) (l .right .rest .sized) Out e _ _ (λ _. ap f h) (λ p. absurd (n p)))
+      (l .but))
       (cond-seat (c .number) (epOn (s .0) Out (c .number)) (g (epOn (s .0) Out e)) _ _
       (on-seat (c .number) (s .0) Out e _ n) (same-place (epOn (s .0) Out (c .number)))) (l .bytes)
 
@@ -86,7 +92,8 @@ size-least : (n : ℕ) → goodSize n ≡ true → 8 ≤ n
 size-least = each-size (λ n. 8 ≤ n) (omega arith) (omega arith) (omega arith) (omega arith) (omega arith) (omega arith)
 
 module _ (c : Channel) where
-  pub setup-same : (k : ℕ) → k < 2 → (s t : St) → LowEquiv c quiet s t → lookOf (setup-word k) s ≡ lookOf (setup-word k) t
+  pub setup-same : (k : ℕ) → k < 2 → (s t : St) → LowEquiv c quiet s t → lookOf (setup-word k) s
+      ≡ lookOf (setup-word k) t
   setup-same k h s t l =
       let at = s .0 .globals .«ep0_buf» + k * 4 in
       let z = size-least (s .0 .allocator .size) (l .left .rest .good) in
@@ -100,9 +107,11 @@ module _ (c : Channel) where
   waiting-in e s t l = ap hasWaiting (l .but .eps In e (in-other (c .number) e))
 
   pub next-in : (e : ℕ) (s t : St) → LowEquiv c quiet s t → lookOf (next-len In e) s ≡ lookOf (next-len In e) t
-  next-in e s t l = let n = in-other (c .number) e in next-same (s .0) (t .0) In e (l .but .eps In e n) (l .but .lens In e n)
+  next-in e s t l = let n = in-other (c .number) e in next-same (s .0) (t .0) In e (l .but .eps In e n)
+      (l .but .lens In e n)
 
-  pub completes : (e : ℕ) (s t : St) → LowEquiv c quiet s t → LowEquiv c quiet (actOn (complete e) s) (actOn (complete e) t)
+  pub completes : (e : ℕ) (s t : St) → LowEquiv c quiet s t
+      → LowEquiv c quiet (actOn (complete e) s) (actOn (complete e) t)
   unfolding completeOn withOn
   completes e s t l =
       let n = in-other (c .number) e in
@@ -120,7 +129,8 @@ module _ (c : Channel) where
         ap (λ (r : EpState). slotAddr r (r .tail)) h,
         like-made l (lawful-hand c (send e) (l .left)) (lawful-hand c (send e) (l .right))
             (but-cond _ _ (ap hasWaiting h)
-            (but-on (l .but) (l .left .rest .sized) (l .right .rest .sized) In e _ _ (λ _. ap loadedOf h) (λ p. absurd (n p))) (l .but))
+            (but-on (l .but) (l .left .rest .sized) (l .right .rest .sized) In e _ _ (λ _. ap loadedOf h)
+            (λ p. absurd (n p))) (l .but))
             (cond-seat (c .number) (epOn (s .0) Out (c .number)) (hasWaiting (epOn (s .0) In e)) _ _
             (on-seat (c .number) (s .0) In e _ n) (same-place (epOn (s .0) Out (c .number)))) (l .bytes),
       )

@@ -22,7 +22,8 @@ use Rattle.regs.specs.MisStatus.{sieFree}
 use Rattle.state.specs.Driver.{key}
 use Rattle.script.specs.declared.Transfer.{Transfer}
 use Rattle.script.specs.Cells.{EpCore, globals-cell, ep-cell}
-use Rattle.script.specs.Script.{Script, run, ret, bind, test, done, _>>=_, _>>_, read, get, look, changed, marked, arrive, setup-word}
+use Rattle.script.specs.Script.{Script, run, ret, bind, test, done, _>>=_, _>>_, read, get, look, changed, marked}
+use Rattle.script.specs.Script.{arrive, setup-word}
 use Rattle.script.specs.Statics.{isOn, isoOuts, withReady}
 use Rattle.script.specs.IsoOut.{arriving, entry, arrives, checkOne, checkWalk, isoOutCheck}
 use Rattle.script.specs.Handler.{sieWait, nakNonIso, outNaks, inNaks, sameOut, lateTaken, waited, retaken, released}
@@ -40,14 +41,17 @@ use Rattle.proof_isolation.specs.PairsLaws.{Any, p-ret, p-bind, p-same, 
 use Rattle.proof_isolation.specs.PairsLaws.{p-bind-test, p-when, p-read, p-write, p-is, p-look, p-hand}
 use Rattle.proof_isolation.specs.Answers.{SameAnswer}
 use Rattle.proof_isolation.specs.AnswersLaws.{p-staged, p-resultless}
-use Rattle.proof_isolation.specs.ValuesLaws.{p-modify, p-modify-ep, p-wake, p-wake-bus, p-globals, p-plain-in, p-plain-any}
+use Rattle.proof_isolation.specs.ValuesLaws.{p-modify, p-modify-ep, p-wake, p-wake-bus, p-globals, p-plain-in}
+use Rattle.proof_isolation.specs.ValuesLaws.{p-plain-any}
 use Rattle.proof_isolation.specs.InRingsLaws.{setup-same}
 use Rattle.proof_isolation.specs.OutRingsLaws.{changed-same, marked-len-same, arrives-same}
 use Rattle.proof_isolation.specs.OwnStepsLaws.{p-own-check}
-use Rattle.proof_isolation.specs.WalksLaws.{p-reads, p-status, p-modify-reg, p-int-en, p-sof, p-late-walk, p-sie-wait}
+use Rattle.proof_isolation.specs.WalksLaws.{p-reads, p-status, p-modify-reg, p-int-en, p-sof, p-late-walk}
+use Rattle.proof_isolation.specs.WalksLaws.{p-sie-wait}
 use Rattle.proof_isolation.specs.WalksLaws.{p-nak, p-toggled, p-sof-arm, p-iso-in, p-sent, p-ep0-moved}
 
--- ---- the transfer that is served: its length, and whether it is the packet's, may differ where the status shows OUT for the channel
+-- ---- the transfer that is served: its length, and whether it is the packet's, may differ where the status shows OUT
+-- for the channel
 
 abbrev transferOf : Bool → ℕ → Bool → ℕ → Bool → Transfer
 transferOf busy st late n ok = record { busy = busy; st = st; len = n; late = late; «len_ok» = ok }
@@ -74,12 +78,14 @@ and-both false b h = absurd (true≢false (sym h))
 
 arriving-out : (st x : ℕ) → arriving st x ≡ true → (token st ≡ tok.Out) × (endpoint st ≡ x)
 unfolding arriving isOut
-arriving-out st x h = let p = and-both (outToken (token st)) (eqb (endpoint st) x) h in (out-token (token st) (p .0), eqb-true (endpoint st) x (p .1))
+arriving-out st x h = let p = and-both (outToken (token st)) (eqb (endpoint st) x) h in
+    (out-token (token st) (p .0), eqb-true (endpoint st) x (p .1))
 
 -- one status, one endpoint
 arriving-other : (st x e : ℕ) → e ≢ x → arriving st x ≡ true → arriving st e ≡ false
 unfolding arriving
-arriving-other st x e n h = ap (λ b. isOut st && b) (ne-eqb (endpoint st) e (λ z. n (sym z ∙ arriving-out st x h .1))) ∙ and-false (isOut st)
+arriving-other st x e n h = ap (λ b. isOut st && b) (ne-eqb (endpoint st) e (λ z. n (sym z ∙ arriving-out st x h .1)))
+    ∙ and-false (isOut st)
 
 no-entry : (y : Transfer) (iso : Bool) (e : ℕ) → arriving (y .st) e ≡ false → entry y iso e ≡ false
 unfolding entry
@@ -99,10 +105,13 @@ module _ (x st : ℕ) (busy late : Bool) (n n′ : ℕ) (o o′ : Bool) (h : Len
       → arriving st x ≡ u → entry (transferOf busy st late n o) iso e ≡ entry (transferOf busy st late n′ o′) iso e
   entry-same iso e m true w = no-entry (transferOf busy st late n o) iso e (arriving-other st x e m w)
       ∙ sym (no-entry (transferOf busy st late n′ o′) iso e (arriving-other st x e m w))
-  entry-same iso e m false w = ap (λ k. entry (transferOf busy st late k o) iso e) (h w .0) ∙ ap (λ k. entry (transferOf busy st late n′ k) iso e) (h w .1)
+  entry-same iso e m false w = ap (λ k. entry (transferOf busy st late k o) iso e) (h w .0)
+      ∙ ap (λ k. entry (transferOf busy st late n′ k) iso e) (h w .1)
 
-  len-used : (iso : Bool) (e : ℕ) → e ≢ x → (u : Bool) → arriving st x ≡ u → entry (transferOf busy st late n o) iso e ≡ true → n ≡ n′
-  len-used iso e m true w z = absurd (true≢false (sym z ∙ no-entry (transferOf busy st late n o) iso e (arriving-other st x e m w)))
+  len-used : (iso : Bool) (e : ℕ) → e ≢ x → (u : Bool) → arriving st x ≡ u → entry (transferOf busy st late n o) iso e
+      ≡ true → n ≡ n′
+  len-used iso e m true w z = absurd (true≢false (sym z
+      ∙ no-entry (transferOf busy st late n o) iso e (arriving-other st x e m w)))
   len-used iso e m false w z = h w .0
 
 other-key : (x e : ℕ) → x < 16 → e < 16 → e ≢ x → key Out e ≢ key Out x
@@ -110,7 +119,8 @@ unfolding key
 other-key x e p q n z = n (omega (arith, z))
 
 -- with its status, the channel is isochronous
-iso-sure : (c : Channel) (st : ℕ) (o n : EpCore) → isOn (o .iso) ≡ c .iso Out (endpoint st) → arriving st (c .number) ≡ true → isoFor (token st) o n ≡ true
+iso-sure : (c : Channel) (st : ℕ) (o n : EpCore) → isOn (o .iso) ≡ c .iso Out (endpoint st) → arriving st (c .number)
+    ≡ true → isoFor (token st) o n ≡ true
 unfolding isoFor
 iso-sure c st o n s w =
     let z = arriving-out st (c .number) w in
@@ -118,7 +128,8 @@ iso-sure c st o n s w =
 
 -- what follows the reading of the two records
 abbrev after-plain : Transfer → Bool → Script true Unit
-after-plain x iso = read FrameNo 0 >>= λ frame. get globals-cell >>= λ g. served (framed x iso (g .«sof_frame») frame) iso frame
+after-plain x iso = read FrameNo 0 >>= λ frame. get globals-cell >>= λ g. served (framed x iso (g .«sof_frame») frame)
+    iso frame
 
 -- whether it is isochronous is not told by `ready`
 iso-ready : (t : Token) (o n : EpCore) (r : ℕ) → isoFor t (withReady r o) n ≡ isoFor t o n
@@ -154,26 +165,32 @@ module _ {c : Channel} {st : ℕ} where
 
   module _ (busy late : Bool) (n n′ : ℕ) (o o′ : Bool) (h : Lengths (c .number) st n n′ o o′) (iso : Bool) where
     p-check-other : (e : ℕ) → e ≢ c .number → (e < 16) × (c .iso Out e ≡ true)
-        → Pair c st {i = true} Any (checkOne (transferOf busy st late n o) iso e) (checkOne (transferOf busy st late n′ o′) iso e)
+        → Pair c st {i = true} Any (checkOne (transferOf busy st late n o) iso e)
+        (checkOne (transferOf busy st late n′ o′) iso e)
     p-check-other e p z = p-check _ _ iso e (other-key (c .number) e (c .below) (z .0) p) (z .1)
         (entry-same (c .number) st busy late n n′ o o′ h iso e p (arriving st (c .number)) refl)
         (len-used (c .number) st busy late n n′ o o′ h iso e p (arriving st (c .number)) refl)
 
     -- past the channel's number
-    p-later-walk : (i : ℕ) → c .number < i → (es : List ℕ) → walk-laws.Rising i es → ((e : ℕ) → walk-laws.In e es → (e < 16) × (c .iso Out e ≡ true))
-        → Pair c st {i = true} Any (checkWalk (transferOf busy st late n o) iso es) (checkWalk (transferOf busy st late n′ o′) iso es)
+    p-later-walk : (i : ℕ) → c .number < i → (es : List ℕ) → walk-laws.Rising i es
+        → ((e : ℕ) → walk-laws.In e es → (e < 16) × (c .iso Out e ≡ true))
+        → Pair c st {i = true} Any (checkWalk (transferOf busy st late n o) iso es)
+        (checkWalk (transferOf busy st late n′ o′) iso es)
     unfolding checkWalk
     p-later-walk i l [] r f = p-ret tt
     p-later-walk i l (e ∷ es) r f = p-then (p-check-other e (λ z. absurd (omega (arith, l, r .0, z))) (f e (inl refl)))
         (p-later-walk (suc e) (omega (arith, l, r .0)) es (r .1) (λ a m. f a (inr m)))
 
-    p-check-walk : (i : ℕ) (es : List ℕ) → walk-laws.Rising i es → ((e : ℕ) → walk-laws.In e es → (e < 16) × (c .iso Out e ≡ true))
-        → PairBy c st true {i = true} Any (checkWalk (transferOf busy st late n o) iso es) (checkWalk (transferOf busy st late n′ o′) iso es)
+    p-check-walk : (i : ℕ) (es : List ℕ) → walk-laws.Rising i es
+        → ((e : ℕ) → walk-laws.In e es → (e < 16) × (c .iso Out e ≡ true))
+        → PairBy c st true {i = true} Any (checkWalk (transferOf busy st late n o) iso es)
+        (checkWalk (transferOf busy st late n′ o′) iso es)
     unfolding checkWalk
     p-check-walk i [] r f = p-ret tt
     p-check-walk i (e ∷ es) r f = elim (ℕ-discrete e (c .number)) [
       | yes p ↦ subst
-          (λ k. PairBy c st true {i = true} Any (checkOne (transferOf busy st late n o) iso k >> checkWalk (transferOf busy st late n o) iso es)
+          (λ k. PairBy c st true {i = true} Any (checkOne (transferOf busy st late n o) iso k >> checkWalk
+          (transferOf busy st late n o) iso es)
           (checkOne (transferOf busy st late n′ o′) iso k >> checkWalk (transferOf busy st late n′ o′) iso es)) (sym p)
           (p-own-check (transferOf busy st late n o) (transferOf busy st late n′ o′) iso
           (p-later-walk (suc e) (omega (arith, p)) es (r .1) (λ a m. f a (inr m))))
@@ -181,8 +198,10 @@ module _ {c : Channel} {st : ℕ} where
     ]
 
   p-iso-out : (busy late : Bool) (n n′ : ℕ) (o o′ : Bool) → Lengths (c .number) st n n′ o o′ → (iso : Bool)
-      → PairBy c st true {i = true} Any (isoOutCheck (transferOf busy st late n o) iso) (isoOutCheck (transferOf busy st late n′ o′) iso)
-  p-iso-out busy late n n′ o o′ h iso = p-globals c (λ g s. p-check-walk busy late n n′ o o′ h iso 0 (setBits (isoOuts g)) (walk-rises (isoOuts g))
+      → PairBy c st true {i = true} Any (isoOutCheck (transferOf busy st late n o) iso)
+      (isoOutCheck (transferOf busy st late n′ o′) iso)
+  p-iso-out busy late n n′ o o′ h iso = p-globals c (λ g s. p-check-walk busy late n n′ o o′ h iso 0
+      (setBits (isoOuts g)) (walk-rises (isoOuts g))
       (λ e m. let w = walked-set (isoOuts g) e m in (w .0, among-outs (c .iso Out) g (s .0) e (w .0) (w .1))))
 
   -- ---- the arms
@@ -205,23 +224,28 @@ module _ {c : Channel} {st : ℕ} where
       → (iso : Bool) → (u : Bool) → arriving st (c .number) ≡ u → (arriving st (c .number) ≡ true → iso ≡ true)
       → Pair c st {i = true} Any (outArm (transferOf busy st late n o) iso) (outArm (transferOf busy st late n′ o′) iso)
   p-out busy late n n′ o o′ h iso true w sure =
-      subst (λ z. Pair c st {i = true} Any (outArm (transferOf busy st late n o) z) (outArm (transferOf busy st late n′ o′) z))
+      subst (λ z. Pair c st {i = true} Any (outArm (transferOf busy st late n o) z)
+      (outArm (transferOf busy st late n′ o′) z))
       (sym (sure w)) (p-test true (λ _. p-ret tt) (λ z. absurd (true≢false z)))
   p-out busy late n n′ o o′ h iso false w sure =
-      subst (λ k. Pair c st {i = true} Any (outArm (transferOf busy st late n o) iso) (outArm (transferOf busy st late k o′) iso))
+      subst (λ k. Pair c st {i = true} Any (outArm (transferOf busy st late n o) iso)
+      (outArm (transferOf busy st late k o′) iso))
       (h w .0) (p-out-arm (transferOf busy st late n o) iso)
 
   p-dispatch : (t : Token) (busy late : Bool) (n n′ : ℕ) (o o′ : Bool)
       → Lengths (c .number) st n n′ o o′ → (iso : Bool) → (arriving st (c .number) ≡ true → iso ≡ true) → (frame : ℕ)
-      → Pair c st {i = true} Any (dispatch t (transferOf busy st late n o) iso frame) (dispatch t (transferOf busy st late n′ o′) iso frame)
+      → Pair c st {i = true} Any (dispatch t (transferOf busy st late n o) iso frame)
+      (dispatch t (transferOf busy st late n′ o′) iso frame)
   p-dispatch tok.Sof busy late n n′ o o′ h iso sure frame = p-sof-arm frame
-  p-dispatch tok.Out busy late n n′ o o′ h iso sure frame = p-out busy late n n′ o o′ h iso (arriving st (c .number)) refl sure
+  p-dispatch tok.Out busy late n n′ o o′ h iso sure frame
+      = p-out busy late n n′ o o′ h iso (arriving st (c .number)) refl sure
   p-dispatch tok.In busy late n n′ o o′ h iso sure frame = p-in-arm (transferOf busy st late n o) iso frame
   p-dispatch tok.Setup busy late n n′ o o′ h iso sure frame = p-ret tt
 
   p-served : (busy late : Bool) (n n′ : ℕ) (o o′ : Bool)
       → Lengths (c .number) st n n′ o o′ → (iso : Bool) → (arriving st (c .number) ≡ true → iso ≡ true) → (frame : ℕ)
-      → PairBy c st true {i = true} Any (served (transferOf busy st late n o) iso frame) (served (transferOf busy st late n′ o′) iso frame)
+      → PairBy c st true {i = true} Any (served (transferOf busy st late n o) iso frame)
+      (served (transferOf busy st late n′ o′) iso frame)
   p-served busy late n n′ o o′ h iso sure frame = p-globals c (λ g _.
       p-then (p-when _ (λ _. p-sof frame))
       (p-then (p-when late (λ _. p-globals c (λ g _. p-late-walk frame _)))
@@ -231,7 +255,8 @@ module _ {c : Channel} {st : ℕ} where
 
   p-framed : (u : Bool) (busy late : Bool) (n n′ : ℕ) (o o′ : Bool)
       → Lengths (c .number) st n n′ o o′ → (iso : Bool) → (arriving st (c .number) ≡ true → iso ≡ true) → (frame : ℕ)
-      → PairBy c st true {i = true} Any (served (cond u (released (transferOf busy st late n o)) (transferOf busy st late n o)) iso frame)
+      → PairBy c st true {i = true} Any (served (cond u (released (transferOf busy st late n o))
+      (transferOf busy st late n o)) iso frame)
       (served (cond u (released (transferOf busy st late n′ o′)) (transferOf busy st late n′ o′)) iso frame)
   p-framed true busy late n n′ o o′ h iso sure frame = p-served false late n n′ o o′ h iso sure frame
   p-framed false busy late n n′ o o′ h iso sure frame = p-served busy late n n′ o o′ h iso sure frame
@@ -239,7 +264,8 @@ module _ {c : Channel} {st : ℕ} where
   -- ---- the transfer, 656-801
 
   -- goes on with two such transfers
-  p-transfer : {m : Bool} {C D : Type 0} {Q : C → D → Type 0} {p p′ : Script true Transfer} {f : Transfer → Script true C} {g : Transfer → Script true D}
+  p-transfer : {m : Bool} {C D : Type 0} {Q : C → D → Type 0} {p p′ : Script true Transfer}
+      {f : Transfer → Script true C} {g : Transfer → Script true D}
       → Pair c st (SameTransfer (c .number) st) p p′
       → ((busy late : Bool) (n n′ : ℕ) (o o′ : Bool) → Lengths (c .number) st n n′ o o′
       → PairBy c st m Q (f (transferOf busy st late n o)) (g (transferOf busy st late n′ o′)))
@@ -254,10 +280,14 @@ module _ {c : Channel} {st : ℕ} where
       (g (transferOf (a .busy) st w (b .len) (b .«len_ok»)))) (e .late)
       (k (a .busy) (a .late) (a .len) (b .len) (a .«len_ok») (b .«len_ok») (e .others))))))
 
-  p-bind-plain-in : {m : Bool} {T C D : Type 0} {Q : C → D → Type 0} (e : ℕ) {h h′ : EpCore → Script true T} {f : T → Script true C} {g : T → Script true D}
+  p-bind-plain-in : {m : Bool} {T C D : Type 0} {Q : C → D → Type 0} (e : ℕ) {h h′ : EpCore → Script true T}
+      {f : T → Script true C} {g : T → Script true D}
       → ((p : EpCore) → PairBy c st m Q (bind (h p) f) (bind (h′ p) g))
       → PairBy c st m Q (bind (bind (get (ep-cell In e)) h) f) (bind (bind (get (ep-cell In e)) h′) g)
-  p-bind-plain-in e {h} {h′} {f} {g} k = record { on = λ s t l. p-plain-in c e {f = λ p. bind (h p) f} {g = λ p. bind (h′ p) g} (λ p _. k p) .on s t l }
+  p-bind-plain-in e {h} {h′} {f} {g} k = record {
+    on = λ s t l. p-plain-in c e {f = λ p. bind (h p) f}
+        {g = λ p. bind (h′ p) g} (λ p _. k p) .on s t l;
+  }
 
   p-bind-plain-any : {m : Bool} {T C D : Type 0} {Q : C → D → Type 0}
       (dir : Dir) (e : ℕ) {h h′ : EpCore → Script true T} {f : T → Script true C} {g : T → Script true D}
@@ -267,23 +297,35 @@ module _ {c : Channel} {st : ℕ} where
     on = λ s t l. p-plain-any c dir e {f = λ p. bind (h p) f} {g = λ p. bind (h′ p) g} (λ p r _ _ _. k p r) .on s t l;
   }
 
-  -- what goes on after it, f and g: with a status that shows no OUT it does not begin with the channel's receive address
+  -- what goes on after it, f and g: with a status that shows no OUT it does not begin with the channel's receive
+  -- address
   module _ {m : Bool} {C D : Type 0} {Q : C → D → Type 0} (f : Transfer → Script true C) (g : Transfer → Script true D)
-      (nf : (y : Transfer) (s : St) → Next (c .number) (run concrete (f y) s)) (ng : (y : Transfer) (s : St) → Next (c .number) (run concrete (g y) s))
+      (nf : (y : Transfer) (s : St) → Next (c .number) (run concrete (f y) s)) (ng : (y : Transfer) (s : St)
+      → Next (c .number) (run concrete (g y) s))
       (k : (busy late : Bool) (n n′ : ℕ) (o o′ : Bool) → Lengths (c .number) st n n′ o o′
       → PairBy c st m Q (f (transferOf busy st late n o)) (g (transferOf busy st late n′ o′))) where
     p-retake : (busy late : Bool) (n n′ : ℕ) (o o′ : Bool) → Lengths (c .number) st n n′ o o′
-        → PairBy c st m Q (bind (retake (transferOf busy st late n o)) f) (bind (retake (transferOf busy st late n′ o′)) g)
+        → PairBy c st m Q (bind (retake (transferOf busy st late n o)) f)
+        (bind (retake (transferOf busy st late n′ o′)) g)
     unfolding outNaks inNaks isOut isIn token tokenNumbered
     p-retake busy late n n′ o o′ h = record { on = λ s t l. free .on s t l }
       where
-        served-as : PairBy c st m Q (bind (ret (transferOf busy st late n o)) f) (bind (ret (transferOf busy st late n′ o′)) g)
+        served-as : PairBy c st m Q (bind (ret (transferOf busy st late n o)) f)
+            (bind (ret (transferOf busy st late n′ o′)) g)
         served-as = record { on = λ s t l. k busy late n n′ o o′ h .on s t l }
 
-        again : PairBy c st m Q (bind (read IntSt 0) (λ v. bind (nakNonIso v >> ret (retaken (transferOf busy st late n o) v)) f))
+        again : PairBy c st m Q (bind (read IntSt 0) (λ v. bind
+            (nakNonIso v >> ret (retaken (transferOf busy st late n o) v)) f))
             (bind (read IntSt 0) (λ v. bind (nakNonIso v >> ret (retaken (transferOf busy st late n′ o′) v)) g))
         again = p-status (λ s. nf _ s) (λ s. ng _ s)
-            (p-transfer (p-then (p-nak st) (p-ret (record { status = refl; status′ = refl; busy = refl; late = refl; others = λ w. (h w .0, refl) }))) k)
+            (p-transfer (p-then (p-nak st) (p-ret (record {
+              status = refl;
+              status′ = refl;
+              busy = refl;
+              late
+                  = refl;
+              others = λ w. (h w .0, refl);
+            }))) k)
 
         flagged : (v : ℕ) → PairBy c st m Q
             (bind (test (transfer v) (ret (transferOf busy st late n o))
@@ -295,30 +337,40 @@ module _ {c : Channel} {st : ℕ} where
         free : PairBy c st m Q
             (bind (read MisSt 0)
             (λ m. bind (test (sieFree m) (read IntFg 0 >>= λ v. test (transfer v) (ret (transferOf busy st late n o))
-            (read IntSt 0 >>= λ w. nakNonIso w >> ret (retaken (transferOf busy st late n o) w))) (ret (transferOf busy st late n o))) f))
+            (read IntSt 0 >>= λ w. nakNonIso w >> ret (retaken (transferOf busy st late n o) w)))
+            (ret (transferOf busy st late n o))) f))
             (bind (read MisSt 0)
-            (λ m. bind (test (sieFree m) (read IntFg 0 >>= λ v. test (transfer v) (ret (transferOf busy st late n′ o′)) (read IntSt 0
-            >>= λ w. nakNonIso w >> ret (retaken (transferOf busy st late n′ o′) w))) (ret (transferOf busy st late n′ o′))) g))
+            (λ m. bind (test (sieFree m) (read IntFg 0 >>= λ v. test (transfer v) (ret (transferOf busy st late n′ o′))
+            (read IntSt 0
+            >>= λ w. nakNonIso w >> ret (retaken (transferOf busy st late n′ o′) w)))
+            (ret (transferOf busy st late n′ o′))) g))
         free = p-reads MisSt 0 (λ v v′ e. e) (λ m. p-bind-test (sieFree m) (λ _. record {
           on = λ s t l. p-reads IntFg 0 (λ v v′ e. e) flagged .on s t l;
         }) (λ _. served-as))
 
     p-settle : (busy late : Bool) (n n′ : ℕ) (o o′ : Bool) → Lengths (c .number) st n n′ o o′
-        → PairBy c st m Q (bind (settle (transferOf busy st late n o)) f) (bind (settle (transferOf busy st late n′ o′)) g)
+        → PairBy c st m Q (bind (settle (transferOf busy st late n o)) f)
+        (bind (settle (transferOf busy st late n′ o′)) g)
     unfolding sameOut waitsForIso waitsForBulk
-    p-settle busy late n n′ o o′ h = p-bind-plain-any Out (endpoint st) (λ p r. p-bind-plain-in (endpoint st) (λ q. waits p q))
+    p-settle busy late n n′ o o′ h = p-bind-plain-any Out (endpoint st)
+        (λ p r. p-bind-plain-in (endpoint st) (λ q. waits p q))
       where
         waits : (p q : EpCore) → PairBy c st m Q
             (bind (test (waitsForIso (transferOf busy st late n o) p)
-            (sieWait >> (read IntSt 0 >>= λ now. read RxLen 0 >>= λ len. ret (lateTaken (transferOf busy st late n o) now len)))
-            (test (waitsForBulk (transferOf busy st late n o) q) (sieWait >> (read RxLen 0 >>= λ len. ret (waited (transferOf busy st late n o) len)))
+            (sieWait >> (read IntSt 0 >>= λ now. read RxLen 0 >>= λ len. ret
+            (lateTaken (transferOf busy st late n o) now len)))
+            (test (waitsForBulk (transferOf busy st late n o) q)
+            (sieWait >> (read RxLen 0 >>= λ len. ret (waited (transferOf busy st late n o) len)))
             (test busy (retake (transferOf busy st late n o)) (ret (transferOf busy st late n o))))) f)
             (bind (test (waitsForIso (transferOf busy st late n′ o′) p)
-            (sieWait >> (read IntSt 0 >>= λ now. read RxLen 0 >>= λ len. ret (lateTaken (transferOf busy st late n′ o′) now len)))
-            (test (waitsForBulk (transferOf busy st late n′ o′) q) (sieWait >> (read RxLen 0 >>= λ len. ret (waited (transferOf busy st late n′ o′) len)))
+            (sieWait >> (read IntSt 0 >>= λ now. read RxLen 0 >>= λ len. ret
+            (lateTaken (transferOf busy st late n′ o′) now len)))
+            (test (waitsForBulk (transferOf busy st late n′ o′) q)
+            (sieWait >> (read RxLen 0 >>= λ len. ret (waited (transferOf busy st late n′ o′) len)))
             (test busy (retake (transferOf busy st late n′ o′)) (ret (transferOf busy st late n′ o′))))) g)
         waits p q = p-bind-test _
-            (λ _. p-transfer (p-then p-sie-wait (p-status (λ s. next refl) (λ s. next refl) (p-bind (p-read RxLen 0 refl) (λ v v′ r. p-ret (record {
+            (λ _. p-transfer (p-then p-sie-wait (p-status (λ s. next refl) (λ s. next refl)
+            (p-bind (p-read RxLen 0 refl) (λ v v′ r. p-ret (record {
               status = refl;
               status′ = refl;
               busy = refl;
@@ -333,11 +385,13 @@ module _ {c : Channel} {st : ℕ} where
               late = refl;
               others = λ w. (ap (λ k. cond (eqb k 0) n k) (r w) ∙ ap (λ k. cond (eqb v′ 0) k v′) (h w .0), h w .1);
             })))) k)
-            (λ _. p-bind-test busy (λ _. p-retake busy late n n′ o o′ h) (λ _. record { on = λ s t l. k busy late n n′ o o′ h .on s t l })))
+            (λ _. p-bind-test busy (λ _. p-retake busy late n n′ o o′ h)
+            (λ _. record { on = λ s t l. k busy late n n′ o o′ h .on s t l })))
 
   p-on-transfer : PairBy c st true {i = true} Any onTransfer onTransfer
   unfolding ownIn
-  p-on-transfer = p-reads MisSt 0 (λ v v′ e. e) (λ m. p-status (λ s. next refl) (λ s. next refl) (p-bind (p-read RxLen 0 refl) (λ n n′ h.
+  p-on-transfer = p-reads MisSt 0 (λ v v′ e. e) (λ m. p-status (λ s. next refl) (λ s. next refl)
+      (p-bind (p-read RxLen 0 refl) (λ n n′ h.
       p-then (p-when _ (λ _. p-nak st))
       (p-then (p-write IntFg 0 _)
       (p-settle _ _ (λ y s. next refl) (λ y s. next refl) (λ busy late k k′ o o′ l.
@@ -346,13 +400,15 @@ module _ {c : Channel} {st : ℕ} where
       (λ u. PairBy c st true {i = true} Any (after-plain (transferOf busy st late k o) (isoFor (token st) p q))
       (after-plain (transferOf busy st late k′ o′) u)) (sym (iso-ready (token st) p q r))
       (p-reads FrameNo 0 (λ v v′ e. e) (λ frame. p-globals c (λ g _.
-      p-framed (ownIn (transferOf busy st late k o) (isoFor (token st) p q) (g .«sof_frame») frame) busy late k k′ o o′ l
+      p-framed (ownIn (transferOf busy st late k o) (isoFor (token st) p q) (g .«sof_frame») frame) busy late k k′ o o′
+      l
       (isoFor (token st) p q) (iso-sure c st p q s) frame))))))
       _ false n n′ true true (λ w. (h w, refl)))))))
 
   p-on-setup : Pair c st {i = true} Any onSetup onSetup
   p-on-setup = p-then (p-write EpRxCtrl 0 _) (p-then (p-write EpTxCtrl 0 _)
-      (p-same (p-look (setup-word 0) (setup-same c 0 (omega arith))) (λ low. p-same (p-look (setup-word 1) (setup-same c 1 (omega arith))) (λ high.
+      (p-same (p-look (setup-word 0) (setup-same c 0 (omega arith)))
+      (λ low. p-same (p-look (setup-word 1) (setup-same c 1 (omega arith))) (λ high.
       p-then (p-modify-ep c Out 0 _ (λ _. refl)) (p-then (p-modify-ep c In 0 _ (λ _. refl))
       (p-then (p-modify c _) (p-then (p-write IntFg 0 _) (p-then (p-wake c Out 0) (p-wake c In 0)))))))))
 
@@ -369,5 +425,6 @@ module _ {c : Channel} {st : ℕ} where
   p-stamped = p-then (p-reads FrameNo 0 (λ v v′ e. e) (λ frame. p-modify c _)) p-on-interrupt
 
 -- the whole call
-pub p-interrupt : (c : Channel) (st : ℕ) → PairBy c st true {i = true} (SameAnswer (c .number)) interruptCode interruptCode
+pub p-interrupt : (c : Channel) (st : ℕ) → PairBy c st true {i = true} (SameAnswer (c .number)) interruptCode
+    interruptCode
 p-interrupt c st = p-staged 2 (p-resultless p-stamped)

@@ -14,7 +14,8 @@ use Rattle.state.specs.declared.EpState.{EpState}
 use Rattle.state.specs.declared.Globals.{Globals}
 use Rattle.state.specs.declared.Request.{Request}
 use Rattle.state.specs.declared.Control.{Control}
-use Rattle.state.specs.Driver.{Driver, key, noRequest, epOn, stampOn, pacedOn, withPacedOn, requestOn, withRequestOn, withControl}
+use Rattle.state.specs.Driver.{Driver, key, noRequest, epOn, stampOn, pacedOn, withPacedOn, requestOn, withRequestOn}
+use Rattle.state.specs.Driver.{withControl}
 use Rattle.state.specs.Laws.{Sized, requestOn-same, requestOn-other}
 use Rattle.ring.specs.Only.{Only}
 use Rattle.ring.specs.Copies.{copied}
@@ -48,9 +49,11 @@ module _ {x : ℕ} {d d′ : Driver} (h : EqualExcept x d d′) where
 
   but-paced : (e v : ℕ) → EqualExcept x (withPacedOn d e v) (withPacedOn d′ e v)
   unfolding withPacedOn stampOn requestOn
-  but-paced e v = but-parts h (h .globals) (h .control) (ap (λ l. set l (e % 16) v) (h .paced)) (h .wakes) (h .requests) (h .stamps)
+  but-paced e v = but-parts h (h .globals) (h .control) (ap (λ l. set l (e % 16) v) (h .paced)) (h .wakes) (h .requests)
+      (h .stamps)
 
-  but-request : Sized d → Sized d′ → (dir : Dir) (e : ℕ) (v : Request) → EqualExcept x (withRequestOn d dir e v) (withRequestOn d′ dir e v)
+  but-request : Sized d → Sized d′ → (dir : Dir) (e : ℕ) (v : Request)
+      → EqualExcept x (withRequestOn d dir e v) (withRequestOn d′ dir e v)
   unfolding withRequestOn stampOn
   but-request z z′ dir e v = but-parts h (h .globals) (h .control) (h .paced) (h .wakes)
       (λ a f n. elim (ℕ-discrete (key a f) (key dir e)) [
@@ -70,16 +73,20 @@ module _ (c : Channel) where
       (lawful-control c v (λ z. subst (λ (g : Globals). v .length ≤ g .«ep0_max») (l .but .globals) (h z)) (l .right))
       (but-control (l .but) v) (same-place (epOn (s .0) Out (c .number))) (l .bytes)
 
-  paced-kept : (e v : ℕ) (s t : St) → LowEquiv c quiet s t → LowEquiv c quiet (putOn (paced-cell e) v s) (putOn (paced-cell e) v t)
+  paced-kept : (e v : ℕ) (s t : St) → LowEquiv c quiet s t
+      → LowEquiv c quiet (putOn (paced-cell e) v s) (putOn (paced-cell e) v t)
   unfolding epOn withPacedOn
-  paced-kept e v s t l = like-made l (lawful-put c (paced-cell e) v (l .left) refl) (lawful-put c (paced-cell e) v (l .right) refl)
+  paced-kept e v s t l = like-made l (lawful-put c (paced-cell e) v (l .left) refl)
+      (lawful-put c (paced-cell e) v (l .right) refl)
       (but-paced (l .but) e v) (same-place (epOn (s .0) Out (c .number))) (l .bytes)
 
   request-kept : (dir : Dir) (e : ℕ) (v : Request) (s t : St)
       → LowEquiv c quiet s t → LowEquiv c quiet (putOn (request-cell dir e) v s) (putOn (request-cell dir e) v t)
   unfolding epOn withRequestOn
-  request-kept dir e v s t l = like-made l (lawful-put c (request-cell dir e) v (l .left) refl) (lawful-put c (request-cell dir e) v (l .right) refl)
-      (but-request (l .but) (l .left .rest .sized) (l .right .rest .sized) dir e v) (same-place (epOn (s .0) Out (c .number))) (l .bytes)
+  request-kept dir e v s t l = like-made l (lawful-put c (request-cell dir e) v (l .left) refl)
+      (lawful-put c (request-cell dir e) v (l .right) refl)
+      (but-request (l .but) (l .left .rest .sized) (l .right .rest .sized) dir e v)
+      (same-place (epOn (s .0) Out (c .number))) (l .bytes)
 
   paced-same : (e : ℕ) (s t : St) → LowEquiv c quiet s t → getOn (paced-cell e) s ≡ getOn (paced-cell e) t
   unfolding pacedOn
@@ -92,31 +99,40 @@ module _ (c : Channel) where
   fill-by false true at bytes o = o
   fill-by false false at bytes {b = b} {b′ = b′} o = only-like o (λ k a. copied-like b b′ at bytes k a)
 
-  fills : (e : ℕ) (bytes : List ℕ) (s t : St) → LowEquiv c quiet s t → LowEquiv c quiet (actOn (fill e bytes) s) (actOn (fill e bytes) t)
+  fills : (e : ℕ) (bytes : List ℕ) (s t : St) → LowEquiv c quiet s t
+      → LowEquiv c quiet (actOn (fill e bytes) s) (actOn (fill e bytes) t)
   unfolding filledOn
   fills e bytes s t l =
       let r = epOn (s .0) In e in
-      like-made l (lawful-act c (fill e bytes) refl (l .left)) (lawful-act c (fill e bytes) refl (l .right)) (l .but) (same-place (epOn (s .0) Out (c .number)))
-      (subst (λ (q : EpState). Only (epOn (s .0) Out (c .number) .base) (endOf (epOn (s .0) Out (c .number))) (filledOn (s .0) e bytes (s .1))
+      like-made l (lawful-act c (fill e bytes) refl (l .left)) (lawful-act c (fill e bytes) refl (l .right)) (l .but)
+      (same-place (epOn (s .0) Out (c .number)))
+      (subst (λ (q : EpState). Only (epOn (s .0) Out (c .number) .base) (endOf (epOn (s .0) Out (c .number)))
+      (filledOn (s .0) e bytes (s .1))
       (cond (isOn (q .iso)) (t .1) (cond (ltb (q .«max_len») (length bytes)) (t .1) (copied (t .1) (q .base) bytes))))
-      (l .but .eps In e (in-other (c .number) e)) (fill-by (isOn (r .iso)) (ltb (r .«max_len») (length bytes)) (r .base) bytes (l .bytes)))
+      (l .but .eps In e (in-other (c .number) e)) (fill-by (isOn (r .iso)) (ltb (r .«max_len») (length bytes)) (r .base)
+      bytes (l .bytes)))
 
   -- into EP0's
-  fills0 : (bytes : List ℕ) (s t : St) → LowEquiv c quiet s t → LowEquiv c quiet (actOn (fill0 bytes) s) (actOn (fill0 bytes) t)
+  fills0 : (bytes : List ℕ) (s t : St) → LowEquiv c quiet s t
+      → LowEquiv c quiet (actOn (fill0 bytes) s) (actOn (fill0 bytes) t)
   unfolding filledEp0
   fills0 bytes s t l =
       let g = s .0 .globals in
-      like-made l (lawful-act c (fill0 bytes) refl (l .left)) (lawful-act c (fill0 bytes) refl (l .right)) (l .but) (same-place (epOn (s .0) Out (c .number)))
+      like-made l (lawful-act c (fill0 bytes) refl (l .left)) (lawful-act c (fill0 bytes) refl (l .right)) (l .but)
+      (same-place (epOn (s .0) Out (c .number)))
       (subst (λ (q : Globals). Only (epOn (s .0) Out (c .number) .base) (endOf (epOn (s .0) Out (c .number)))
-      (filledEp0 (s .0) bytes (s .1)) (cond (ltb (q .«ep0_max») (length bytes)) (t .1) (copied (t .1) (q .«ep0_buf») bytes)))
+      (filledEp0 (s .0) bytes (s .1)) (cond (ltb (q .«ep0_max») (length bytes)) (t .1)
+      (copied (t .1) (q .«ep0_buf») bytes)))
       (l .but .globals) (fill-by false (ltb (g .«ep0_max») (length bytes)) (g .«ep0_buf») bytes (l .bytes)))
 
   -- ---- in scripts
 
   module _ {st : ℕ} {i : Bool} where
     -- a request that is no data_out's
-    pub p-put-control : (v : Control) → eqb (v .sort) DATA-OUT ≡ false → Pair c st {i = i} Any (put control-cell v) (put control-cell v)
-    p-put-control v h = p-put control-cell v v (λ s t l. control-kept v s t (λ z. absurd (eqb-false (v .sort) DATA-OUT h z)) l)
+    pub p-put-control : (v : Control) → eqb (v .sort) DATA-OUT ≡ false
+        → Pair c st {i = i} Any (put control-cell v) (put control-cell v)
+    p-put-control v h = p-put control-cell v v (λ s t l. control-kept v s t
+        (λ z. absurd (eqb-false (v .sort) DATA-OUT h z)) l)
 
     pub p-control : Pair c st {i = i} Eq (get control-cell) (get control-cell)
     p-control = p-get control-cell Eq (λ s t l. l .but .control)
@@ -127,11 +143,13 @@ module _ (c : Channel) where
     pub p-paced : (e : ℕ) → Pair c st {i = i} Eq (get (paced-cell e)) (get (paced-cell e))
     p-paced e = p-get (paced-cell e) Eq (paced-same e)
 
-    pub p-put-request : (dir : Dir) (e : ℕ) (v : Request) → Pair c st {i = i} Any (put (request-cell dir e) v) (put (request-cell dir e) v)
+    pub p-put-request : (dir : Dir) (e : ℕ) (v : Request)
+        → Pair c st {i = i} Any (put (request-cell dir e) v) (put (request-cell dir e) v)
     p-put-request dir e v = p-put (request-cell dir e) v v (request-kept dir e v)
 
     -- but the channel's
-    pub p-request : (dir : Dir) (e : ℕ) → key dir e ≢ key Out (c .number) → Pair c st {i = i} Eq (get (request-cell dir e)) (get (request-cell dir e))
+    pub p-request : (dir : Dir) (e : ℕ) → key dir e ≢ key Out (c .number)
+        → Pair c st {i = i} Eq (get (request-cell dir e)) (get (request-cell dir e))
     p-request dir e n = p-get (request-cell dir e) Eq (λ s t l. l .but .requests dir e n)
 
     pub p-fill : (e : ℕ) (bytes : List ℕ) → Pair c st {i = i} Any (act (fill e bytes)) (act (fill e bytes))

@@ -1,6 +1,6 @@
--- Request Fourteen, where what the others get falls before an access of the channel's own in one run and after it in the
--- other: "they line up by the accesses not made for it, between which the others get the same calls and stores in the
--- same order". Definitions only; the theorem is `undisturbed-late` (LateRunsLaws.antt)
+-- Request Fourteen, where what the others get falls before an access of the channel's own in one run and after it in
+-- the other: "they line up by the accesses not made for it, between which the others get the same calls and stores in
+-- the same order". Definitions only; the theorem is `undisturbed-late` (LateRunsLaws.antt)
 use mathlib.Core.Bool.{Bool, true, false}
 use mathlib.Core.List.{List, [], _∷_}
 use mathlib.Core.Logic.{_≢_, _⊎_}
@@ -10,24 +10,27 @@ use Rattle.regs.specs.declared.Dir.the-variants.{Out}
 use Rattle.state.specs.Driver.{Driver, key}
 use Rattle.script.specs.Answers.{Answer}
 use Rattle.script.specs.Calls.{Config, Op, aside, Open, Close, Queue}
-use Rattle.script.specs.Machine.{Buf, Question, Call, start, begin, go, question, Event, Ans, Way, idle, busy}
+use Rattle.script.specs.Machine.{Buf, Question, Call, start, begin, continue, question, Event, Ans, Pending, idle, busy}
 use Rattle.proof_isolation.specs.EqualExcept.{Channel}
 use Rattle.proof_isolation.specs.Stores.{patched, Lands, OwnLent}
-use Rattle.proof_isolation.specs.Schedule.{Run, Two, Turn, others-time, called, alone, storedIn, turn, after, wide}
-use Rattle.proof_isolation.specs.Schedule.{stateOf, unfit, Asked, atOwn, BringsAt, Alone, May, SameAns, After, Every}
+use Rattle.proof_isolation.specs.Schedule.{Run, Two, Turn, others-time, called, alone, storedIn, turn, after}
+use Rattle.proof_isolation.specs.Schedule.{wide}
+use Rattle.proof_isolation.specs.Schedule.{stateOf, unfit, Asked, atOwn, BringsAt, Alone, May, SameAns, After}
+use Rattle.proof_isolation.specs.Schedule.{Every}
 use Rattle.proof_isolation.specs.Undisturbed.{Session, opened, Opens}
 
 -- ---- what may fall late
 
--- of the others: an open and a close, of OUT e; a queue, of IN e; a question; stores of the chip, each byte at its place
+-- of the others: an open and a close, of OUT e; a queue, of IN e; a question; stores of the chip, each byte at its
+-- place
 pub data Light : Type 0 where
   opens closes : ℕ → Light
   queues : ℕ → List ℕ → Light
   asks-of : Question → Light
   stored : List (ℕ × ℕ) → Light
 
--- what the late run gets at the channel's own accesses: that of the others; the continue of such an access; stores in the
--- channel's slots; another call of its own alone (`Alone`, Schedule.antt)
+-- what the late run gets at the channel's own accesses: that of the others; the continue of such an access; stores in
+-- the channel's slots; another call of its own alone (`Alone`, Schedule.antt)
 pub data Item : Type 0 where
   gets : Light → Item
   goes-own : ℕ → Item
@@ -66,7 +69,7 @@ module _ (share : Bool) (n : ℕ) where
   lit (stored p) r = storedIn (patched p (r .machine .buf)) r
 
   abbrev pub gone : ℕ → Run → Run
-  gone v r = called share n (go v) (r .machine .buf) r
+  gone v r = called share n (continue v) (r .machine .buf) r
 
   abbrev pub lits : List Light → Run → Run
   lits [] r = r
@@ -114,7 +117,7 @@ module _ (share : Bool) (n : ℕ) where
 -- ---- the premise
 
 -- an interrupt is under way
-abbrev pub Serving : Way Answer Driver → Type 0
+abbrev pub Serving : Pending Answer Driver → Type 0
 Serving idle = ⊥
 Serving (busy false a k) = ⊥
 Serving (busy true a k) = Unit {0}
@@ -140,19 +143,19 @@ module _ (c : Channel) where
   Other (asks-of q) d = Asked c q
   Other (stored p) d = Lands c d p
 
-  -- both stand at an access of an interrupt that is not made for the channel, and continue it, with the same readings but
-  -- for the channel's lengths
+  -- both stand at an access of an interrupt that is not made for the channel, and continue it, with the same readings
+  -- but for the channel's lengths
   pub record Continues (st v v′ : ℕ) (r r′ : Run) : Type 0 where
-    pub serving : Serving (r .machine .way)
+    pub serving : Serving (r .machine .under-way)
     pub shared : atOwn c r ≡ false
     pub shared′ : atOwn c r′ ≡ false
-    pub within : wide (r .machine .way) v ≡ false
-    pub within′ : wide (r′ .machine .way) v′ ≡ false
-    pub brings : BringsAt c (r .machine .way) st (r .access) v v′
+    pub within : wide (r .machine .under-way) v ≡ false
+    pub within′ : wide (r′ .machine .under-way) v′ ≡ false
+    pub brings : BringsAt c (r .machine .under-way) st (r .access) v v′
 
   -- a call of the channel's own that is no continue, or one that is refused with 1 or 16
   abbrev pub Stays : Call Config Op → Buf → Run → Type 0
-  Stays (go v) b r = (unfit (go v) r b ≡ true) ⊎ (wide (r .machine .way) v ≡ true)
+  Stays (continue v) b r = (unfit (continue v) r b ≡ true) ⊎ (wide (r .machine .under-way) v ≡ true)
   Stays (begin o) b r = Unit {0}
   Stays (start k) b r = Unit {0}
   Stays (question q) b r = Unit {0}
@@ -163,8 +166,8 @@ module _ (c : Channel) where
     OfOthers [] r = Unit {0}
     OfOthers (o ∷ os) r = Other o (r .machine .st) × OfOthers os (lit share n o r)
 
-    -- no store is seen by the continue: were they made before it, as in the other run, the run would come to an access of
-    -- the channel's own too. Where it would not, the two runs part (`seen-parts`, SeenLaws.antt)
+    -- no store is seen by the continue: were they made before it, as in the other run, the run would come to an access
+    -- of the channel's own too. Where it would not, the two runs part (`seen-parts`, SeenLaws.antt)
     abbrev pub Unseen : ℕ → List Light → Run → Type 0
     Unseen v os r = AnyStore os → atOwn c (gone share n v (lits share n os r)) ≡ true
 
@@ -172,7 +175,7 @@ module _ (c : Channel) where
     abbrev pub AtOwn : List Item → Run → Type 0
     AtOwn [] r = atOwn c r ≡ true
     AtOwn (gets o ∷ is) r = (atOwn c r ≡ true) × AtOwn is (lit share n o r)
-    AtOwn (goes-own v ∷ is) r = (atOwn c r ≡ true) × (wide (r .machine .way) v ≡ false) × Unseen v (lightsOf is) r
+    AtOwn (goes-own v ∷ is) r = (atOwn c r ≡ true) × (wide (r .machine .under-way) v ≡ false) × Unseen v (lightsOf is) r
         × AtOwn is (gone share n v r)
     AtOwn (stores-own b ∷ is) r = (atOwn c r ≡ true) × OwnLent c (stateOf r) b × AtOwn is (storedIn b r)
     AtOwn (calls-own e ∷ is) r = (atOwn c r ≡ true) × Alone c (e .call) (e .lent) r × Stays (e .call) (e .lent) r
@@ -186,8 +189,10 @@ module _ (c : Channel) where
 
     abbrev pub MayLate : Later → Two → Type 0
     MayLate (timely t) w = May c t w
-    MayLate (first-late v v′ is) w = Continues (w .status) v v′ (w .first) (w .second) × Late v is (w .first) (w .second)
-    MayLate (second-late v v′ is) w = Continues (w .status) v v′ (w .first) (w .second) × Late v′ is (w .second) (w .first)
+    MayLate (first-late v v′ is) w = Continues (w .status) v v′ (w .first) (w .second)
+        × Late v is (w .first) (w .second)
+    MayLate (second-late v v′ is) w = Continues (w .status) v v′ (w .first) (w .second)
+        × Late v′ is (w .second) (w .first)
 
     abbrev pub AllowedLate : List Later → Two → Type 0
     AllowedLate [] w = Unit {0}
@@ -209,7 +214,8 @@ module _ (c : Channel) (share : Bool) (n : ℕ) where
   Heard (second-late v v′ is) w = AllSame (c .number) (litAnswers share n (lightsOf is) (w .first))
       (itemAnswers share n is (gone share n v′ (w .second)))
 
-  -- after a turn what Schedule.antt says; after a late one the same but for the last answers: `stands`, `lined`, `alike`,
+  -- after a turn what Schedule.antt says; after a late one the same but for the last answers: `stands`, `lined`,
+  -- `alike`,
   -- `time`
   abbrev pub AfterLate : Later → Two → Type 0
   AfterLate (timely t) w = After c t w
@@ -233,7 +239,8 @@ module _ (share : Bool) (n : ℕ) where
 
   abbrev pub AllOpenLate : List LateSession → Two → Type 0
   AllOpenLate [] w = Unit {0}
-  AllOpenLate (s ∷ ss) w = Opens share n (s .opening) w × AllowedLate (s .opening .channel) share n (s .turns) (openedLate s w)
+  AllOpenLate (s ∷ ss) w = Opens share n (s .opening) w
+      × AllowedLate (s .opening .channel) share n (s .turns) (openedLate s w)
       × AllOpenLate ss (afterAll share n (s .turns) (openedLate s w))
 
   abbrev pub UndisturbedLate : List LateSession → Two → Type 0

@@ -5,26 +5,29 @@ use mathlib.Core.List.{List, [], _∷_}
 use Prim.Native.Nat.{ℕ}
 use Rattle.script.specs.Answers.{Answer}
 use Rattle.script.specs.Calls.{aside, Open, Close, Queue}
-use Rattle.script.specs.Machine.{begin, go, question, Ans}
+use Rattle.script.specs.Machine.{begin, continue, question, Ans}
 use Rattle.proof_isolation.specs.EqualExcept.{Channel}
-use Rattle.proof_isolation.specs.Code.{Left, Held, Pair, twoOf, CallStep, heard, heardOwn, storedTo, TurnStep, next, SessionMade, openedBy, afterSteps}
+use Rattle.proof_isolation.specs.Code.{Left, Held, Pair, twoOf, CallStep, heard, heardOwn, storedTo, TurnStep}
+use Rattle.proof_isolation.specs.Code.{next, SessionMade, openedBy, afterSteps}
 use Rattle.proof_isolation.specs.Code.{DidStep}
 use Rattle.proof_isolation.specs.Code.{EveryStep, Begun}
 use Rattle.proof_isolation.specs.Late as late
 use Rattle.proof_isolation.specs.Stores.{patched}
-use Rattle.proof_isolation.specs.Late.{Light, opens, closes, queues, asks-of, stored, Item, gets, goes-own, stores-own, calls-own, answersBy, Later}
+use Rattle.proof_isolation.specs.Late.{Light, opens, closes, queues, asks-of, stored, Item, gets, goes-own}
+use Rattle.proof_isolation.specs.Late.{stores-own, calls-own, answersBy, Later}
 use Rattle.proof_isolation.specs.Late.{MayLate, AllSame, AfterLate}
 
 -- ---- the calls that were made
 
--- what the late run gets at the channel's own access, what that left, and what the same call of the others left in the other
--- run; stores leave nothing to be named
+-- what the late run gets at the channel's own access, what that left, and what the same call of the others left in the
+-- other run; stores leave nothing to be named
 pub record ItemMade : Type 0 where
   pub item : Item
   pub left : Left
   pub other : Left
 
--- a step (Code.antt); or a late turn, with what the late run's continue, each of these calls and the other run's continue left
+-- a step (Code.antt); or a late turn, with what the late run's continue, each of these calls and the other run's
+-- continue left
 pub data LateStep : Type 0 where
   timely : TurnStep → LateStep
   first-late second-late : ℕ → ℕ → Left → List ItemMade → Left → LateStep
@@ -71,9 +74,19 @@ afterLights (i ∷ is) h = afterLights is (earlyLeft (i .item) (i .other) h)
 abbrev pub nextLate : LateStep → Pair → Pair
 nextLate (timely s) w = next s w
 nextLate (first-late v v′ l is l′) w =
-    record { first = afterItems is (heard l (w .first)); second = heard l′ (afterLights is (w .second)); status = w .status }
+    record {
+      first = afterItems is (heard l (w .first));
+      second = heard l′ (afterLights is (w .second));
+      status
+          = w .status;
+    }
 nextLate (second-late v v′ l is l′) w =
-    record { first = heard l′ (afterLights is (w .first)); second = afterItems is (heard l (w .second)); status = w .status }
+    record {
+      first = heard l′ (afterLights is (w .first));
+      second = afterItems is (heard l (w .second));
+      status
+          = w .status;
+    }
 
 abbrev pub afterLateSteps : List LateStep → Pair → Pair
 afterLateSteps [] w = w
@@ -106,7 +119,7 @@ module _ (share : Bool) (n : ℕ) where
 
   abbrev pub DidItem : Item → Left → Held → Type 0
   DidItem (gets o) l h = DidLight o l h
-  DidItem (goes-own v) l h = CallStep share n (go v) (h .slots) h l
+  DidItem (goes-own v) l h = CallStep share n (continue v) (h .slots) h l
   DidItem (stores-own b) l h = Unit {0}
   DidItem (calls-own e) l h = CallStep share n (e .call) (e .lent) h l
 
@@ -126,10 +139,10 @@ module _ (share : Bool) (n : ℕ) where
 
   -- of the late run h and of the other h′: what they bring, what the two continues left
   pub record DidLate (v v′ : ℕ) (l l′ : Left) (is : List ItemMade) (h h′ : Held) : Type 0 where
-    pub goes : CallStep share n (go v) (h .slots) h l
+    pub goes : CallStep share n (continue v) (h .slots) h l
     pub items : DidItems is (heard l h)
     pub lights : DidLights is h′
-    pub goes′ : CallStep share n (go v′) (afterLights is h′ .slots) (afterLights is h′) l′
+    pub goes′ : CallStep share n (continue v′) (afterLights is h′ .slots) (afterLights is h′) l′
 
   abbrev pub DidLateStep : LateStep → Pair → Type 0
   DidLateStep (timely s) w = DidStep share n s w
@@ -138,7 +151,8 @@ module _ (share : Bool) (n : ℕ) where
 
   abbrev pub DidLateSteps : Channel → List LateStep → Pair → Type 0
   DidLateSteps c [] w = Unit {0}
-  DidLateSteps c (s ∷ ss) w = DidLateStep s w × MayLate c share n (laterOf s) (twoOf w) × DidLateSteps c ss (nextLate s w)
+  DidLateSteps c (s ∷ ss) w = DidLateStep s w × MayLate c share n (laterOf s) (twoOf w)
+      × DidLateSteps c ss (nextLate s w)
 
   -- the promise: the others' calls are answered the same, and what `After` says
   abbrev pub HeardMade : Channel → LateStep → Type 0
@@ -148,7 +162,8 @@ module _ (share : Bool) (n : ℕ) where
 
   abbrev pub EveryLateStep : Channel → List LateStep → Pair → Type 0
   EveryLateStep c [] w = Unit {0}
-  EveryLateStep c (s ∷ ss) w = HeardMade c s × AfterLate c share n (laterOf s) (twoOf (nextLate s w)) × EveryLateStep c ss (nextLate s w)
+  EveryLateStep c (s ∷ ss) w = HeardMade c s × AfterLate c share n (laterOf s) (twoOf (nextLate s w))
+      × EveryLateStep c ss (nextLate s w)
 
 -- a session's calls (`SessionMade`, Code.antt), and then steps some of which are late
 pub record LateMade : Type 0 where
@@ -161,10 +176,12 @@ module _ (share : Bool) (n : ℕ) where
 
   abbrev pub AllBegunLate : List LateMade → Pair → Type 0
   AllBegunLate [] w = Unit {0}
-  AllBegunLate (m ∷ ms) w = Begun share n (m .opening) w × DidLateSteps share n (m .opening .channel) (m .steps) (openedMade m w)
+  AllBegunLate (m ∷ ms) w = Begun share n (m .opening) w
+      × DidLateSteps share n (m .opening .channel) (m .steps) (openedMade m w)
       × AllBegunLate ms (afterLateSteps (m .steps) (openedMade m w))
 
   abbrev pub CodeUndisturbed : List LateMade → Pair → Type 0
   CodeUndisturbed [] w = Unit {0}
   CodeUndisturbed (m ∷ ms) w = EveryStep share n (m .opening .channel) (m .opening .steps) (openedBy (m .opening) w)
-      × EveryLateStep share n (m .opening .channel) (m .steps) (openedMade m w) × CodeUndisturbed ms (afterLateSteps (m .steps) (openedMade m w))
+      × EveryLateStep share n (m .opening .channel) (m .steps) (openedMade m w)
+      × CodeUndisturbed ms (afterLateSteps (m .steps) (openedMade m w))

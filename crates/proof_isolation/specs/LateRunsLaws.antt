@@ -13,11 +13,12 @@ use Rattle.script.specs.Answers.{Answer, Refused}
 use Rattle.script.specs.Simulates.{quiet, mid}
 use Rattle.script.specs.Calls.{Config, Op, interrupt, irq, aside, calls, startRow, Aside, Open, Close, Queue, asideCode}
 use Rattle.script.specs.Machine as machine
-use Rattle.script.specs.Machine.{Buf, pending, Call, start, begin, go, question, Ans, ended, told, awaited, Way, idle, busy, lentTo}
+use Rattle.script.specs.Machine.{Buf, pending, Call, start, begin, continue, question, Ans, ended, told, awaited}
+use Rattle.script.specs.Machine.{Pending, idle, busy, lentTo}
 use Rattle.script_ops.specs.Rings.{St}
 use Rattle.script_ops.specs.Concrete.{concrete}
 use Rattle.machine.specs.Suspended.{driverOf, drive}
-use Rattle.answer.specs.Goes.{Called}
+use Rattle.answer.specs.Goes.{StepResult}
 use Rattle.calls.specs.Sharing as sharing
 use Rattle.calls.specs.Sharing.{going, sortOf, timeAfter, turnedDown}
 use Rattle.proof_wake_ups.specs.Rooms.{Few, Roomy, Rooms}
@@ -36,22 +37,28 @@ use Rattle.proof_isolation.specs.Ending.{Finished, fin}
 use Rattle.proof_isolation.specs.AsidesLaws.{p-aside, own-finishes}
 use Rattle.proof_isolation.specs.StoresLaws.{lent-back, own-lent-back, lawful-stored, lent-like, own-like}
 use Rattle.proof_isolation.specs.OthersLaws.{same-answers}
-use Rattle.proof_isolation.specs.Schedule.{Run, Two, Turn, begins, goes, asked, stores, others-time, first, second, Early, gets, shares}
-use Rattle.proof_isolation.specs.Schedule.{called, alone, turn, given, after, runBy, ownBy, wide, atOwn, go-on, own-lent, SameAns, same, After, Timely}
-use Rattle.proof_isolation.specs.Schedule.{stateOf, unfit, BothCall, call-row1, call-lent, BothGo, go-row1, go-row16, OwnCall, own-row1, Alone, May, Allowed}
-use Rattle.proof_isolation.specs.Standing.{machineOf, runOf, own-yes, own-no, same-ans, ans-sym, Orderly, At, at}
+use Rattle.proof_isolation.specs.Schedule.{Run, Two, Turn, begins, goes, asked, stores, others-time, first}
+use Rattle.proof_isolation.specs.Schedule.{second, gets}
+use Rattle.proof_isolation.specs.Schedule.{called, alone, turn, given, after, runBy, ownBy, atOwn, go-on}
+use Rattle.proof_isolation.specs.Schedule.{own-lent, SameAns, same, After, Timely}
+use Rattle.proof_isolation.specs.Schedule.{stateOf, unfit, BothCall, call-row1, call-lent, BothGo, go-row1}
+use Rattle.proof_isolation.specs.Schedule.{go-row16, OwnCall, own-row1, Alone, May, Allowed}
+use Rattle.proof_isolation.specs.Standing.{machineOf, runOf, own-yes, own-no, same-ans, ans-sym, At, at}
 use Rattle.proof_isolation.specs.StandingLaws.{past-no}
 use Rattle.proof_isolation.specs.StandingLaws.{at-stands, at-lined, at-alike, at-time, at-swap}
 use Rattle.proof_isolation.specs.Runs.{goes-by, spares-put, go-wide, go-unfit, begin-unfit, aside-busy}
 use Rattle.proof_isolation.specs.StartLaws.{anew, starts}
-use Rattle.proof_isolation.specs.Undisturbed.{Session, started-up, opened}
+use Rattle.proof_isolation.specs.Undisturbed.{Session, opened}
 use Rattle.proof_isolation.specs.UndisturbedLaws.{step, always, stands-after}
 use Rattle.proof_isolation.specs.UndisturbedLaws.{opened-at}
 use Rattle.proof_isolation.specs.Late as late
-use Rattle.proof_isolation.specs.Late.{Light, opens, closes, queues, asks-of, stored, Item, goes-own, stores-own, calls-own, lightsOf, answersBy}
-use Rattle.proof_isolation.specs.Late.{Later, timely, first-late, second-late, lit, lits, items, litAnswers, itemAnswers, later, afterAll}
-use Rattle.proof_isolation.specs.Late.{Other, Continues, Stays, OfOthers, AtOwn, Late, MayLate, AllowedLate, Serving}
-use Rattle.proof_isolation.specs.Late.{AllSame, none, more, Heard, AfterLate, EveryLate, LateSession, AllOpenLate, UndisturbedLate}
+use Rattle.proof_isolation.specs.Late.{Light, opens, closes, queues, asks-of, stored, Item, goes-own, stores-own}
+use Rattle.proof_isolation.specs.Late.{calls-own, lightsOf, answersBy}
+use Rattle.proof_isolation.specs.Late.{Later, timely, first-late, second-late, lit, lits, items, litAnswers}
+use Rattle.proof_isolation.specs.Late.{itemAnswers, later, afterAll}
+use Rattle.proof_isolation.specs.Late.{Other, Continues, Stays, OfOthers, AtOwn, Late, MayLate, AllowedLate}
+use Rattle.proof_isolation.specs.Late.{AllSame, none, more, Heard, AfterLate, EveryLate, LateSession, AllOpenLate}
+use Rattle.proof_isolation.specs.Late.{UndisturbedLate}
 use Rattle.proof_isolation.specs.Lights.{done-by, seen, answered, taken, done-at}
 use Rattle.proof_isolation.specs.QueuesLaws.{patch-like}
 use Rattle.proof_isolation.specs.LightsLaws.{seen-touched, wakes-same, still-other, but-reach, stored-patch}
@@ -59,12 +66,14 @@ use Rattle.proof_isolation.specs.Does.{Does, did-none, did-more}
 use Rattle.proof_isolation.specs.DoesLaws.{does-before, does-after, does-wakes-same}
 use Rattle.proof_isolation.specs.SlidesLaws.{FreeWay, Needs, LentLawful, drive-free}
 use Rattle.proof_isolation.specs.CrossingLaws as crossing
-use Rattle.proof_isolation.specs.CrossingLaws.{open-run, close-run, queue-run, answering, mute, lastAnswer, lit-is, Gets, gets-at, OwnSome, own-some}
+use Rattle.proof_isolation.specs.CrossingLaws.{open-run, close-run, queue-run, answering, mute, lastAnswer}
+use Rattle.proof_isolation.specs.CrossingLaws.{lit-is, Gets, gets-at, OwnSome, own-some}
 use Rattle.proof_isolation.specs.CrossingLaws.{did-lit, does-lits, gets-answers, lits-own, crosses}
 
 -- ---- what the others get in both, at one access
 
-ended-like : {c : Channel} {st : ℕ} {i m : Bool} {Q : Answer → Answer → Type 0} {a b : Answer} {s t : St} → ApartBy c st i Q m (ends a s) (ends b t)
+ended-like : {c : Channel} {st : ℕ} {i m : Bool} {Q : Answer → Answer → Type 0} {a b : Answer} {s t : St}
+    → ApartBy c st i Q m (ends a s) (ends b t)
     → Q a b × LowEquiv c quiet s t
 ended-like (end q l) = (q, l)
 
@@ -73,23 +82,36 @@ told-alike {x} {m} e = subst (λ k. SameAns x (told m) (told k)) e (same (told m
 
 record SameLate (c : Channel) (o : Light) (s t : St) : Type 0 where
   like : LowEquiv c quiet (done-at o s) (done-at o t)
-  same-told : Few (answered o (seen o s)) → Few (answered o (seen o t)) → SameAns (c .number) (answered o (seen o s)) (answered o (seen o t))
+  same-told : Few (answered o (seen o s)) → Few (answered o (seen o t))
+      → SameAns (c .number) (answered o (seen o s)) (answered o (seen o t))
 
 -- by the call's script
-aside-both : (c : Channel) (st : ℕ) (o : Aside) → Others (c .number) o → {s t s′ t′ : St} {a b : Answer} → LowEquiv c quiet s t
-    → run concrete (asideCode o) s ≡ ends a s′ → run concrete (asideCode o) t ≡ ends b t′ → SameAnswer (c .number) a b × LowEquiv c quiet s′ t′
+aside-both : (c : Channel) (st : ℕ) (o : Aside) → Others (c .number) o → {s t s′ t′ : St} {a b : Answer}
+    → LowEquiv c quiet s t
+    → run concrete (asideCode o) s ≡ ends a s′ → run concrete (asideCode o) t ≡ ends b t′ → SameAnswer (c .number) a b
+    × LowEquiv c quiet s′ t′
 aside-both c st o n {s} {t} {s′} {a = a} l e e′ = ended-like
     (subst (λ u. ApartBy c st false (SameAnswer (c .number)) false (ends a s′) u) e′
-    (subst (λ u. ApartBy c st false (SameAnswer (c .number)) false u (run concrete (asideCode o) t)) e (p-aside c st o n .on s t l)))
+    (subst (λ u. ApartBy c st false (SameAnswer (c .number)) false u (run concrete (asideCode o) t)) e
+    (p-aside c st o n .on s t l)))
 
-light-both : (c : Channel) (st : ℕ) (o : Light) {s t : St} → Other c o (s .0) → Other c o (t .0) → LowEquiv c quiet s t → SameLate c o s t
+light-both : (c : Channel) (st : ℕ) (o : Light) {s t : St} → Other c o (s .0) → Other c o (t .0) → LowEquiv c quiet s t
+    → SameLate c o s t
 light-both c st (opens e) {s} {t} n n′ l =
     let y = aside-both c st (Open e) n l (open-run e s (l .left .rest .sized)) (open-run e t (l .right .rest .sized)) in
     record { like = y .1; same-told = λ f g. same-ans (y .0) f g }
 light-both c st (closes e) {s} {t} n n′ l =
-    let y = aside-both c st (Close e) n l (close-run e s) (close-run e t) in record { like = y .1; same-told = λ f g. same-ans (y .0) f g }
+    let y = aside-both c st (Close e) n l (close-run e s) (close-run e t) in record {
+      like = y .1;
+      same-told
+          = λ f g. same-ans (y .0) f g;
+    }
 light-both c st (queues e bs) {s} {t} n n′ l =
-    let y = aside-both c st (Queue e bs) n l (queue-run e bs s) (queue-run e bs t) in record { like = y .1; same-told = λ f g. same-ans (y .0) f g }
+    let y = aside-both c st (Queue e bs) n l (queue-run e bs s) (queue-run e bs t) in record {
+      like = y .1;
+      same-told
+          = λ f g. same-ans (y .0) f g;
+    }
 light-both c st (asks-of q) n n′ l = record { like = l; same-told = λ f g. told-alike (same-answers l q n) }
 light-both c st (stored p) {s} {t} n n′ l = record {
   like = lent-like l (record {
@@ -104,12 +126,19 @@ light-both c st (stored p) {s} {t} n n′ l = record {
 
 -- its state and what it was answered last
 abbrev restate : St → Ans Answer → Run → Run
-restate s a r = record { machine = record { way = r .machine .way; st = s .0; buf = s .1 }; access = r .access; answer = a; time = r .time }
+restate s a r = record {
+  machine = record { under-way = r .machine .under-way; st = s .0; buf = s .1 };
+  access
+      = r .access;
+  answer = a;
+  time = r .time;
+}
 
 module _ {c : Channel} where
   pub own-now : (share : Bool) (n : ℕ) {w : Two} → At c w → OwnSome c share n (w .first) → atOwn c (w .first) ≡ true
   own-now share n (at st i (end x l) q q′ h k k′ e) m = absurd (true≢false (sym (m .is)))
-  own-now share n (at st i (both {s = s} {k = g} φ z p p′ l f) q q′ h k k′ e) m = absurd (true≢false (sym (m .is) ∙ own-no (c .number) g (m .state) p))
+  own-now share n (at st i (both {s = s} {k = g} φ z p p′ l f) q q′ h k k′ e) m
+      = absurd (true≢false (sym (m .is) ∙ own-no (c .number) g (m .state) p))
   own-now share n (at st i (left {s = s} {k = g} w p z f) q q′ h k k′ e) m = own-yes (c .number) g s w
   own-now share n (at st i (right w gone z f) q q′ h k k′ e) m = absurd (true≢false (sym (m .is)))
   own-now share n (at st i (right w (waits {k = g} y) z f) q q′ h k k′ e) m = absurd
@@ -117,27 +146,36 @@ module _ {c : Channel} where
   own-now share n (at st i (owns {s = s} {k = g} w w′ l f f′) q q′ h k k′ e) m = own-yes (c .number) g s w
 
   -- what becomes of the channel's data and what it was answered last do not matter
-  touched-own : {w : Two} → At c w → atOwn c (w .first) ≡ true → {s : St} → Touched c quiet (stateOf (w .first)) s → (a : Ans Answer) → Few a
-      → Roomy (restate s a (w .first) .machine) → At c (record { first = restate s a (w .first); second = w .second; status = w .status })
+  touched-own : {w : Two} → At c w → atOwn c (w .first) ≡ true → {s : St} → Touched c quiet (stateOf (w .first)) s
+      → (a : Ans Answer) → Few a
+      → Roomy (restate s a (w .first) .machine) → At c
+      (record { first = restate s a (w .first); second = w .second; status = w .status })
   touched-own (at st i (end x l) q q′ h k k′ e) m d a f r = absurd (true≢false (sym m))
-  touched-own (at st i (both {s = s} {k = g} φ z p p′ l y) q q′ h k k′ e) m d a f r = absurd (true≢false (sym m ∙ own-no (c .number) g s p))
-  touched-own (at st i (left w p z y) q q′ h k k′ e) m {s} d a f r = at st i (left w p (d .right) (λ v s u. y v s (touched-trans d u))) q q′ h
+  touched-own (at st i (both {s = s} {k = g} φ z p p′ l y) q q′ h k k′ e) m d a f r
+      = absurd (true≢false (sym m ∙ own-no (c .number) g s p))
+  touched-own (at st i (left w p z y) q q′ h k k′ e) m {s} d a f r
+      = at st i (left w p (d .right) (λ v s u. y v s (touched-trans d u))) q q′ h
       (record { spares = λ j. spares-put s (k .spares j); few = f; room = r }) k′ e
-  touched-own (at st i (right w p z y) q q′ {a = b} {t = τ} h k k′ e) m d a f r = absurd (true≢false (sym m ∙ past-no c i q b τ p))
+  touched-own (at st i (right w p z y) q q′ {a = b} {t = τ} h k k′ e) m d a f r
+      = absurd (true≢false (sym m ∙ past-no c i q b τ p))
   touched-own (at st i (owns w w′ l y y′) q q′ h k k′ e) m {s} d a f r = at st i (owns w w′ (touch d l) y y′) q q′ tt
       (record { spares = λ j. spares-put s (k .spares j); few = f; room = r }) k′ e
 
-  own-lawful : {w : Two} → At c w → atOwn c (w .first) ≡ true → Lawful (c .iso) quiet (stateOf (w .first)) × Roomy (w .first .machine)
+  own-lawful : {w : Two} → At c w → atOwn c (w .first) ≡ true → Lawful (c .iso) quiet (stateOf (w .first))
+      × Roomy (w .first .machine)
   own-lawful (at st i (end x l) q q′ h k k′ e) m = absurd (true≢false (sym m))
-  own-lawful (at st i (both {s = s} {k = g} φ z p p′ l y) q q′ h k k′ e) m = absurd (true≢false (sym m ∙ own-no (c .number) g s p))
+  own-lawful (at st i (both {s = s} {k = g} φ z p p′ l y) q q′ h k k′ e) m
+      = absurd (true≢false (sym m ∙ own-no (c .number) g s p))
   own-lawful (at st i (left w p z y) q q′ h k k′ e) m = (z, k .room)
-  own-lawful (at st i (right w p z y) q q′ {a = b} {t = τ} h k k′ e) m = absurd (true≢false (sym m ∙ past-no c i q b τ p))
+  own-lawful (at st i (right w p z y) q q′ {a = b} {t = τ} h k k′ e) m
+      = absurd (true≢false (sym m ∙ past-no c i q b τ p))
   own-lawful (at st i (owns w w′ l y y′) q q′ h k k′ e) m = (l .left, k .room)
 
 module _ (c : Channel) where
   -- ---- what the others get, where the channel's data alone is touched
 
-  touched-light : (o : Light) {s t : St} → Other c o (s .0) → Touched c quiet s t → Room (s .0 .wakes) → Touched c quiet (done-at o s) (done-at o t)
+  touched-light : (o : Light) {s t : St} → Other c o (s .0) → Touched c quiet s t → Room (s .0 .wakes)
+      → Touched c quiet (done-at o s) (done-at o t)
   touched-light o {s} {t} n m r =
       let l = like-sym (touch m (like-refl (m .left) r)) in
       let y = light-both c 0 o n (still-other c (m .left) (but-reach c (m .but)) o n) l .like in
@@ -171,11 +209,13 @@ module _ (c : Channel) where
     does : Does c os us s after
     touched : Touched c quiet t after
 
-  does-touched : {os : List Light} {us : List (Ans Answer)} {s t s′ : St} → Does c os us s t → Touched c quiet s s′ → Room (s .0 .wakes) → DoesTo os us s′ t
+  does-touched : {os : List Light} {us : List (Ans Answer)} {s t s′ : St} → Does c os us s t → Touched c quiet s s′
+      → Room (s .0 .wakes) → DoesTo os us s′ t
   does-touched (did-none l) m r = record { after = _; does = did-none (m .right); touched = m }
   does-touched {s′ = s′} (did-more {o = o} {s = s} {t = t} d k e) m r =
       let n = still-other c (d .before) (but-reach c (m .but)) o (d .other) in
-      let x : Touched c quiet t (done-at o s′) = subst (λ t. Touched c quiet t (done-at o s′)) (sym (d .is)) (touched-light o (d .other) m r) in
+      let x : Touched c quiet t (done-at o s′) = subst (λ t. Touched c quiet t (done-at o s′)) (sym (d .is))
+      (touched-light o (d .other) m r) in
       let y = does-touched k x (subst Room (sym (does-wakes-same c (did-more d (did-none (d .after)) refl))) r) in
       record {
         after = y .after;
@@ -200,57 +240,78 @@ module _ (c : Channel) (share : Bool) (n : ℕ) where
     pub few : Few (r .answer)
 
   lit-roomed : (o : Light) (r : Run) → Roomed r → Roomed (lit share n o r)
-  lit-roomed (opens e) r k = let x = rooms (begin (aside (Open e))) (k .machine) (r .machine .buf) in record { machine = x .machine; few = x .answer }
-  lit-roomed (closes e) r k = let x = rooms (begin (aside (Close e))) (k .machine) (r .machine .buf) in record { machine = x .machine; few = x .answer }
-  lit-roomed (queues e bs) r k = let x = rooms (begin (aside (Queue e bs))) (k .machine) (r .machine .buf) in record { machine = x .machine; few = x .answer }
-  lit-roomed (asks-of q) r k = let x = rooms (question q) (k .machine) (r .machine .buf) in record { machine = x .machine; few = x .answer }
-  lit-roomed (stored p) r k = record { machine = rooms (question (pending 0)) (k .machine) (patched p (r .machine .buf)) .machine; few = k .few }
+  lit-roomed (opens e) r k = let x = rooms (begin (aside (Open e))) (k .machine) (r .machine .buf) in record
+      { machine = x .machine; few = x .answer }
+  lit-roomed (closes e) r k = let x = rooms (begin (aside (Close e))) (k .machine) (r .machine .buf) in record
+      { machine = x .machine; few = x .answer }
+  lit-roomed (queues e bs) r k = let x = rooms (begin (aside (Queue e bs))) (k .machine) (r .machine .buf) in record
+      { machine = x .machine; few = x .answer }
+  lit-roomed (asks-of q) r k = let x = rooms (question q) (k .machine) (r .machine .buf) in record
+      { machine = x .machine; few = x .answer }
+  lit-roomed (stored p) r k = record {
+    machine = rooms (question (pending 0)) (k .machine)
+        (patched p (r .machine .buf)) .machine;
+    few = k .few;
+  }
 
   lits-roomed : (os : List Light) (r : Run) → Roomed r → Roomed (lits share n os r)
   lits-roomed [] r k = k
   lits-roomed (o ∷ os) r k = lits-roomed os (lit share n o r) (lit-roomed o r k)
 
   gone-roomed : (v : ℕ) (r : Run) → Roomed r → Roomed (late.gone share n v r)
-  gone-roomed v r k = let x = rooms (go v) (k .machine) (r .machine .buf) in record { machine = x .machine; few = x .answer }
+  gone-roomed v r k = let x = rooms (continue v) (k .machine) (r .machine .buf) in record {
+    machine = x .machine;
+    few
+        = x .answer;
+  }
 
   -- ---- the channel's own calls, at an access of its own
 
-  record Acts (p : Access) (g : ℕ → St → tree.Out St Answer) (q : Access) (a : Ans Answer) (τ : List ℕ) (s : St) (r : Run) : Type 0 where
+  record Acts (p : Access) (g : ℕ → St → tree.Out St Answer) (q : Access) (a : Ans Answer) (τ : List ℕ) (s : St)
+      (r : Run) : Type 0 where
     after : St
     answer : Ans Answer
     is : r ≡ runOf true (asks p after g) q answer τ
     touched : Touched c quiet s after
     roomed : Roomed (runOf true (asks p s g) q a τ) → Roomed (runOf true (asks p after g) q answer τ)
 
-  module _ (p : Access) (g : ℕ → St → tree.Out St Answer) (q : Access) (a : Ans Answer) (τ : List ℕ) (s : St) (l : Lawful (c .iso) quiet s) where
+  module _ (p : Access) (g : ℕ → St → tree.Out St Answer) (q : Access) (a : Ans Answer) (τ : List ℕ) (s : St)
+      (l : Lawful (c .iso) quiet s) where
     abbrev here : Run
     here = runOf true (asks p s g) q a τ
 
-    acts-aside : (o : Aside) (b : Buf) → OwnLent c s b → {y : tree.Out St Answer} → Finished (Touched c quiet (s .0, b)) y
+    acts-aside : (o : Aside) (b : Buf) → OwnLent c s b → {y : tree.Out St Answer}
+        → Finished (Touched c quiet (s .0, b)) y
         → run concrete (asideCode o) (s .0, b) ≡ y → Acts p g q a τ s (alone share n (begin (aside o)) b here)
     acts-aside o b h (fin x {s = t} m) e = record {
       after = t;
       answer = a;
       is = ap (λ y. ownBy p a (y, timeAfter n sharing.apart (y .0) (s .0) τ)) goes;
       touched = touched-trans (own-like l h) m;
-      roomed = λ k. record { machine = subst Rooms goes (rooms (begin (aside o)) (k .machine) b) .machine; few = k .few };
+      roomed = λ k. record {
+        machine = subst Rooms goes (rooms (begin (aside o)) (k .machine) b) .machine;
+        few
+            = k .few;
+      };
     }
       where
-        goes : drive (begin (aside o)) (machineOf (busy true (awaited p) g) s) b ≡ (ended x, machineOf (busy true (awaited p) g) t)
+        goes : drive (begin (aside o)) (machineOf (busy true (awaited p) g) s) b
+            ≡ (ended x, machineOf (busy true (awaited p) g) t)
         goes = aside-busy c s b (own-like l h .right) o true refl p g
-            ∙ ap (λ y. machine.beside calls driverOf (machineOf (busy true (awaited p) g) (s .0, b)) y) e
+            ∙ ap (λ y. machine.duringInterrupt calls driverOf (machineOf (busy true (awaited p) g) (s .0, b)) y) e
 
-    acts : (d : Call Config Op) (b : Buf) → Alone c d b here → Stays c d b here → Acts p g q a τ s (alone share n d b here)
-    acts (go v) b m (inl x) = record {
+    acts : (d : Call Config Op) (b : Buf) → Alone c d b here → Stays c d b here
+        → Acts p g q a τ s (alone share n d b here)
+    acts (continue v) b m (inl x) = record {
       after = s;
       answer = ended (Refused 1);
       is = ap (λ y. runBy p (y, timeAfter n going (y .0) (s .0) τ)) (go-unfit here v b x);
       touched = touched-refl l;
       roomed = λ k. record { machine = k .machine; few = tt };
     }
-    acts (go v) b m (inr x) = by (m .1)
+    acts (continue v) b m (inr x) = by (m .1)
       where
-        by : OwnCall c (go v) here b → Acts p g q a τ s (alone share n (go v) b here)
+        by : OwnCall c (continue v) here b → Acts p g q a τ s (alone share n (continue v) b here)
         by (own-row1 z) = record {
           after = s;
           answer = ended (Refused 1);
@@ -261,7 +322,8 @@ module _ (c : Channel) (share : Bool) (n : ℕ) where
         by (own-lent h) = record {
           after = (s .0, b);
           answer = ended (Refused 16);
-          is = ap (λ y. runBy p (y, timeAfter n going (y .0) (s .0) τ)) (go-wide c s b (own-like l h .right) true p g v x);
+          is = ap (λ y. runBy p (y, timeAfter n going (y .0) (s .0) τ))
+              (go-wide c s b (own-like l h .right) true p g v x);
           touched = own-like l h;
           roomed = λ k. record { machine = rooms (question (pending 0)) (k .machine) b .machine; few = tt };
         }
@@ -287,7 +349,8 @@ module _ (c : Channel) (share : Bool) (n : ℕ) where
           answer = a;
           is = ap (λ r. ownBy p a (
             machine.started calls driverOf (λ s. s) k r (machineOf (busy true (awaited p) g) s) b,
-            timeAfter n sharing.starting (machine.started calls driverOf (λ s. s) k r (machineOf (busy true (awaited p) g) s) b .0) (s .0) τ,
+            timeAfter n sharing.starting (machine.started calls driverOf (λ s. s) k r
+                (machineOf (busy true (awaited p) g) s) b .0) (s .0) τ,
           )) z;
           touched = touched-refl l;
           roomed = λ k. k;
@@ -312,21 +375,26 @@ module _ (c : Channel) (share : Bool) (n : ℕ) where
   record LateItems (is : List Item) (us : List (Ans Answer)) (r : Run) (st : ℕ) (z : Run) : Type 0 where
     stand : At c (beside st (items share n is r) z)
     told : itemAnswers share n is r ≡ us
-    free : FreeWay c (items share n is r .machine .way)
+    free : FreeWay c (items share n is r .machine .under-way)
 
   -- what it was answered last does not matter
-  at-muted : (x y : Run) (st : ℕ) (z : Run) → mute y ≡ mute x → OwnSome c share n x → Few (y .answer) → At c (beside st x z) → At c (beside st y z)
+  at-muted : (x y : Run) (st : ℕ) (z : Run) → mute y ≡ mute x → OwnSome c share n x → Few (y .answer)
+      → At c (beside st x z) → At c (beside st y z)
   at-muted x y st z e h f k =
       let m = own-now share n k h in
       let l = own-lawful k m in
-      subst (λ r. At c (beside st (answering (y .answer) r) z)) (sym e) (touched-own k m (touched-refl (l .0)) (y .answer) f (l .1))
+      subst (λ r. At c (beside st (answering (y .answer) r) z)) (sym e)
+      (touched-own k m (touched-refl (l .0)) (y .answer) f (l .1))
 
   module _ (st : ℕ) (z : Run) where
     -- where the channel's data alone is touched
-    touched-lits : (p : Access) (g : ℕ → St → tree.Out St Answer) (q : Access) (a b : Ans Answer) (τ : List ℕ) {os : List Light} {us : List (Ans Answer)}
-        {s s′ t t′ : St} → Does c os us s t → Does c os us s′ t′ → Touched c quiet t t′ → Roomed (runOf true (asks p s′ g) q b τ)
+    touched-lits : (p : Access) (g : ℕ → St → tree.Out St Answer) (q : Access) (a b : Ans Answer) (τ : List ℕ)
+        {os : List Light} {us : List (Ans Answer)}
+        {s s′ t t′ : St} → Does c os us s t → Does c os us s′ t′ → Touched c quiet t t′
+        → Roomed (runOf true (asks p s′ g) q b τ)
         → OwnSome c share n (runOf true (asks p s g) q a τ) → FreeWay c (busy true (awaited p) g)
-        → At c (beside st (lits share n os (runOf true (asks p s g) q a τ)) z) → At c (beside st (lits share n os (runOf true (asks p s′ g) q b τ)) z)
+        → At c (beside st (lits share n os (runOf true (asks p s g) q a τ)) z)
+        → At c (beside st (lits share n os (runOf true (asks p s′ g) q b τ)) z)
     touched-lits p g q a b τ {os} {us} {s} {s′} {t} {t′} d d′ m k h f w =
         let x = lits share n os (runOf true (asks p s g) q a τ) in
         let y = lits share n os (runOf true (asks p s′ g) q b τ) in
@@ -339,13 +407,15 @@ module _ (c : Channel) (share : Bool) (n : ℕ) where
         (touched-own w o (subst (λ (r : Run). Touched c quiet (stateOf r) t′) (sym e) m) (y .answer) (r .few)
         (subst (λ (r : Run). Roomy (r .machine)) (e′ ∙ sym (ap (λ (r : Run). restate t′ (told 0) r) e)) (r .machine)))
 
-    late-items : (is : List Item) {us : List (Ans Answer)} {r : Run} → Gets c share n (lightsOf is) us r → AtOwn c share n is r → Roomed r
+    late-items : (is : List Item) {us : List (Ans Answer)} {r : Run} → Gets c share n (lightsOf is) us r
+        → AtOwn c share n is r → Roomed r
         → At c (beside st (lits share n (lightsOf is) r) z) → LateItems is us r st z
     late-items [] (gets-at p g q a τ (did-none l) f) h k w = record { stand = w; told = refl; free = f }
     late-items (late.gets o ∷ is) (gets-at p g q a τ {s = s} (did-more {a = b} {us = us} {t = t} d y e) f) h k w =
         let r = runOf true (asks p s g) q a τ in
         let x = did-lit c share n p g q a τ d in
-        let v = late-items is (subst (Gets c share n (lightsOf is) us) (sym x) (gets-at p g q (lastAnswer o s a) τ y f)) (h .1) (lit-roomed o r k) w in
+        let v = late-items is (subst (Gets c share n (lightsOf is) us) (sym x) (gets-at p g q (lastAnswer o s a) τ y f))
+        (h .1) (lit-roomed o r k) w in
         record {
           stand = v .stand;
           told = ap (answersBy o (lit share n o r .answer)) (v .told) ∙ ap (λ (z : Run). answersBy o (z .answer) us) x
@@ -357,10 +427,12 @@ module _ (c : Channel) (share : Bool) (n : ℕ) where
         let u = own-some c share n (late.gone share n v r) (through-own is (late.gone share n v r) (h .3)) in
         let x = crosses c share n y v (h .1) u (λ b. own-some c share n _ (h .2 b)) in
         let m = own-now share n w (lits-own c share n y (own-some c share n r (h .0))) in
-        let s = step c share n (first (record { call = go v; lent = lits share n os r .machine .buf })) w (m, own-lent (own-lent-back c _)) .stand in
+        let s = step c share n (first (record { call = continue v; lent = lits share n os r .machine .buf })) w
+        (m, own-lent (own-lent-back c _)) .stand in
         let o = subst (OwnSome c share n) (x .muted) (muted-own (lits-own c share n (x .still) u)) in
         let q = late-items is (x .still) (h .3) (gone-roomed v r k)
-        (at-muted (late.gone share n v (lits share n os r)) (lits share n os (late.gone share n v r)) st z (x .muted) (record { state = o .state; is = o .is })
+        (at-muted (late.gone share n v (lits share n os r)) (lits share n os (late.gone share n v r)) st z (x .muted)
+        (record { state = o .state; is = o .is })
         (lits-roomed os (late.gone share n v r) (gone-roomed v r k) .few) s) in
         record { stand = q .stand; told = q .told; free = q .free }
       where
@@ -369,9 +441,11 @@ module _ (c : Channel) (share : Bool) (n : ℕ) where
     late-items (stores-own b ∷ is) (gets-at p g q a τ {s = s} d f) h k w =
         let m = own-like (does-before c d) (h .1) in
         let y = does-touched c d m (room (k .machine)) in
-        let x : Roomed (runOf true (asks p (s .0, b) g) q a τ) = record { machine = rooms (question (pending 0)) (k .machine) b .machine; few = k .few } in
+        let x : Roomed (runOf true (asks p (s .0, b) g) q a τ)
+        = record { machine = rooms (question (pending 0)) (k .machine) b .machine; few = k .few } in
         let v = late-items is (gets-at p g q a τ (y .does) f) (h .2) x
-        (touched-lits p g q a a τ d (y .does) (y .touched) x (own-some c share n (runOf true (asks p s g) q a τ) (h .0)) f w) in
+        (touched-lits p g q a a τ d (y .does) (y .touched) x (own-some c share n (runOf true (asks p s g) q a τ) (h .0))
+        f w) in
         record { stand = v .stand; told = v .told; free = v .free }
     late-items (calls-own e ∷ is) {us} (gets-at p g q a τ {s = s} d f) h k w =
         let r = runOf true (asks p s g) q a τ in
@@ -398,7 +472,8 @@ module _ (c : Channel) (share : Bool) (n : ℕ) where
       room : Roomy (machineOf (busy true (awaited p) g) after)
       room′ : Roomy (machineOf (busy true (awaited p) g′) after′)
 
-    all-by : (o : Light) {a b : Ans Answer} {us vs : List (Ans Answer)} → SameAns (c .number) a b → AllSame (c .number) us vs
+    all-by : (o : Light) {a b : Ans Answer} {us vs : List (Ans Answer)} → SameAns (c .number) a b
+        → AllSame (c .number) us vs
         → AllSame (c .number) (answersBy o a us) (answersBy o b vs)
     all-by (opens e) h k = more h k
     all-by (closes e) h k = more h k
@@ -414,15 +489,18 @@ module _ (c : Channel) (share : Bool) (n : ℕ) where
     few-of (asks-of q) s a h = h
     few-of (stored w) s a h = tt
 
-    lit-told : (k : ℕ → St → tree.Out St Answer) (o : Light) (s : St) → Lawful (c .iso) quiet s → Roomy (machineOf (busy true (awaited p) k) s)
+    lit-told : (k : ℕ → St → tree.Out St Answer) (o : Light) (s : St) → Lawful (c .iso) quiet s
+        → Roomy (machineOf (busy true (awaited p) k) s)
         → Few (answered o (seen o s)) × Roomy (machineOf (busy true (awaited p) k) (done-at o s))
     lit-told k o s l r =
         let x = lit-roomed o (runOf true (asks p s k) p (told 0) []) (record { machine = r; few = tt }) in
         let y = subst Roomed (lit-is c share n o p s k p (told 0) [] l) x in
         (few-of o s (told 0) (y .few), y .machine)
 
-    twins : (os : List Light) (q : Access) (a : Ans Answer) (τ : List ℕ) {s t : St} → OfOthers c share n os (runOf true (asks p t g′) q a τ)
-        → LowEquiv c quiet s t → Roomy (machineOf (busy true (awaited p) g) s) → Roomy (machineOf (busy true (awaited p) g′) t) → Twins os s t
+    twins : (os : List Light) (q : Access) (a : Ans Answer) (τ : List ℕ) {s t : St}
+        → OfOthers c share n os (runOf true (asks p t g′) q a τ)
+        → LowEquiv c quiet s t → Roomy (machineOf (busy true (awaited p) g) s)
+        → Roomy (machineOf (busy true (awaited p) g′) t) → Twins os s t
     twins [] q a τ {s} {t} m l r r′ = record {
       us = [];
       us′ = [];
@@ -440,14 +518,17 @@ module _ (c : Channel) (share : Bool) (n : ℕ) where
         let y = light-both c st o i (m .0) l in
         let x = lit-told g o s (l .left) r in
         let x′ = lit-told g′ o t (l .right) r′ in
-        let z = twins os q (lastAnswer o t a) τ (subst (OfOthers c share n os) (lit-is c share n o p t g′ q a τ (l .right)) (m .1)) (y .like) (x .1) (x′ .1) in
+        let z = twins os q (lastAnswer o t a) τ (subst (OfOthers c share n os)
+        (lit-is c share n o p t g′ q a τ (l .right)) (m .1)) (y .like) (x .1) (x′ .1) in
         record {
           us = answersBy o (answered o (seen o s)) (z .us);
           us′ = answersBy o (answered o (seen o t)) (z .us′);
           after = z .after;
           after′ = z .after′;
-          does = did-more (record { before = l .left; after = y .like .left; other = i; is = refl; told = refl }) (z .does) refl;
-          does′ = did-more (record { before = l .right; after = y .like .right; other = m .0; is = refl; told = refl }) (z .does′) refl;
+          does = did-more (record { before = l .left; after = y .like .left; other = i; is = refl; told = refl })
+              (z .does) refl;
+          does′ = did-more (record { before = l .right; after = y .like .right; other = m .0; is = refl; told = refl })
+              (z .does′) refl;
           like = z .like;
           same-told = all-by o (y .same-told (x .0) (x′ .0)) (z .same-told);
           room = z .room;
@@ -469,58 +550,76 @@ module _ (c : Channel) (share : Bool) (n : ℕ) where
       status = w .status;
     })
     pub roomed : Roomed (w .first)
-    pub free′ : FreeWay c (late.gone share n v′ (lits share n os (w .second)) .machine .way)
+    pub free′ : FreeWay c (late.gone share n v′ (lits share n os (w .second)) .machine .under-way)
 
-  pub reach : {w : Two} → At c w → FreeWay c (w .first .machine .way) → FreeWay c (w .second .machine .way) → (v v′ : ℕ) (os : List Light)
+  pub reach : {w : Two} → At c w → FreeWay c (w .first .machine .under-way) → FreeWay c (w .second .machine .under-way)
+      → (v v′ : ℕ) (os : List Light)
       → Continues c (w .status) v v′ (w .first) (w .second) → OfOthers c share n os (w .second) → Reach v v′ os w
   reach (at st i (end x l) q q′ h k k′ e) fr fr′ v v′ os m o = absurd (m .serving)
-  reach (at st true (both {q = p} {s = s} {t = t} {k = g} {k′ = g′} quiet z w w′ l f) q q′ {a = a} {a′ = a′} {t = τ} {t′ = τ′} h k k′ e) fr fr′ v v′ os m o =
+  reach (at st true (both {q = p} {s = s} {t = t} {k = g} {k′ = g′} quiet z w w′ l f) q q′ {a = a} {a′ = a′} {t = τ}
+      {t′ = τ′} h k k′ e) fr fr′ v v′ os m o =
       let y = twins st p g g′ os q′ a′ τ′ o l (k .room) (k′ .room) in
-      let d : late.gone share n v (lits share n os (runOf true (asks p s g) q a τ)) ≡ late.gone share n v (runOf true (asks p (y .after) g) q a τ) =
+      let d : late.gone share n v (lits share n os (runOf true (asks p s g) q a τ))
+      ≡ late.gone share n v (runOf true (asks p (y .after) g) q a τ) =
       ap (λ z. late.gone share n v z) (does-lits c share n p g q a τ (y .does)) in
       let d′ : late.gone share n v′ (lits share n os (runOf true (asks p t g′) q′ a′ τ′))
-      ≡ late.gone share n v′ (runOf true (asks p (y .after′) g′) q′ a′ τ′) = ap (λ z. late.gone share n v′ z) (does-lits c share n p g′ q′ a′ τ′ (y .does′)) in
+      ≡ late.gone share n v′ (runOf true (asks p (y .after′) g′) q′ a′ τ′)
+      = ap (λ z. late.gone share n v′ z) (does-lits c share n p g′ q′ a′ τ′ (y .does′)) in
       let b = goes-by c share n st true (both quiet tt w w′ (y .like) f) q q′ {a = a} {a′ = a′}
       (record { spares = λ j. spares-put (y .after) (k .spares j); few = k .few; room = y .room })
-      (record { spares = λ j. spares-put (y .after′) (k′ .spares j); few = k′ .few; room = y .room′ }) e v v′ (y .after .1) (y .after′ .1)
-      (own-no (c .number) g (y .after) w, own-no (c .number) g′ (y .after′) w′, go-on (m .within) (m .within′) (m .brings) (lent-back c (y .after) (y .after′))) .stand in
+      (record { spares = λ j. spares-put (y .after′) (k′ .spares j); few = k′ .few; room = y .room′ }) e v v′
+      (y .after .1) (y .after′ .1) (
+        own-no (c .number) g (y .after) w,
+        own-no (c .number) g′ (y .after′) w′,
+        go-on (m .within) (m .within′)
+            (m .brings) (lent-back c (y .after) (y .after′)),
+      ) .stand in
       record {
         us = y .us;
         us′ = y .us′;
         gets = gets-at p g q a τ (y .does) fr;
         gets′ = gets-at p g′ q′ a′ τ′ (y .does′) fr′;
         same-told = y .same-told;
-        stand = subst (λ x. At c (beside st x (late.gone share n v′ (lits share n os (runOf true (asks p t g′) q′ a′ τ′))))) (sym d)
+        stand = subst (λ x. At c (beside st x (late.gone share n v′
+            (lits share n os (runOf true (asks p t g′) q′ a′ τ′))))) (sym d)
             (subst (λ x. At c (beside st (late.gone share n v (runOf true (asks p (y .after) g) q a τ)) x)) (sym d′) b);
         roomed = record { machine = k .room; few = k .few };
-        free′ = subst (λ (z : Run). FreeWay c (z .machine .way)) (sym d′) (drive-free c (go v′) (machineOf (busy true (awaited p) g′) (y .after′)) (y .after′ .1) fr′
+        free′ = subst (λ (z : Run). FreeWay c (z .machine .under-way)) (sym d′)
+            (drive-free c (continue v′) (machineOf (busy true (awaited p) g′) (y .after′)) (y .after′ .1) fr′
             (λ _. does-after c (y .does′)));
       }
   reach (at st true (both (mid y j) z w w′ l f) q q′ h k k′ e) fr fr′ v v′ os m o = absurd z
   reach (at st false (both φ z w w′ l f) q q′ h k k′ e) fr fr′ v v′ os m o = absurd (m .serving)
-  reach (at st i (left {s = s} {k = g} w p z f) q q′ h k k′ e) fr fr′ v v′ os m o = absurd (true≢false (sym (own-yes (c .number) g s w) ∙ m .shared))
-  reach (at st i (right {t = t} {k = g} w p z f) q q′ h k k′ e) fr fr′ v v′ os m o = absurd (true≢false (sym (own-yes (c .number) g t w) ∙ m .shared′))
-  reach (at st i (owns {s = s} {k = g} w w′ l f f′) q q′ h k k′ e) fr fr′ v v′ os m o = absurd (true≢false (sym (own-yes (c .number) g s w) ∙ m .shared))
+  reach (at st i (left {s = s} {k = g} w p z f) q q′ h k k′ e) fr fr′ v v′ os m o
+      = absurd (true≢false (sym (own-yes (c .number) g s w) ∙ m .shared))
+  reach (at st i (right {t = t} {k = g} w p z f) q q′ h k k′ e) fr fr′ v v′ os m o
+      = absurd (true≢false (sym (own-yes (c .number) g t w) ∙ m .shared′))
+  reach (at st i (owns {s = s} {k = g} w w′ l f f′) q q′ h k k′ e) fr fr′ v v′ os m o
+      = absurd (true≢false (sym (own-yes (c .number) g s w) ∙ m .shared))
 
   pub record LateDone (v v′ : ℕ) (is : List Item) (w : Two) : Type 0 where
     pub stand : At c (later share n (first-late v v′ is) w)
     pub heard : Heard c share n (first-late v v′ is) w
-    pub free : FreeWay c (items share n is (late.gone share n v (w .first)) .machine .way)
-    pub free′ : FreeWay c (late.gone share n v′ (lits share n (lightsOf is) (w .second)) .machine .way)
+    pub free : FreeWay c (items share n is (late.gone share n v (w .first)) .machine .under-way)
+    pub free′ : FreeWay c (late.gone share n v′ (lits share n (lightsOf is) (w .second)) .machine .under-way)
 
-  pub first-by : {w : Two} → At c w → FreeWay c (w .first .machine .way) → FreeWay c (w .second .machine .way) → (v v′ : ℕ) (is : List Item)
-      → Continues c (w .status) v v′ (w .first) (w .second) → Late c share n v is (w .first) (w .second) → LateDone v v′ is w
+  pub first-by : {w : Two} → At c w → FreeWay c (w .first .machine .under-way)
+      → FreeWay c (w .second .machine .under-way) → (v v′ : ℕ) (is : List Item)
+      → Continues c (w .status) v v′ (w .first) (w .second) → Late c share n v is (w .first) (w .second)
+      → LateDone v v′ is w
   first-by {w} a fr fr′ v v′ is m o =
       let os = lightsOf is in
       let r = w .first in
       let r′ = late.gone share n v′ (lits share n os (w .second)) in
       let y = reach a fr fr′ v v′ os m (o .others) in
       let u = own-some c share n (late.gone share n v r) (through-own is (late.gone share n v r) (o .own)) in
-      let x = crosses c share n (y .gets) v (m .within) u (λ b. own-some c share n (late.gone share n v (lits share n os r)) (o .unseen b)) in
+      let x = crosses c share n (y .gets) v (m .within) u
+      (λ b. own-some c share n (late.gone share n v (lits share n os r)) (o .unseen b)) in
       let h = subst (OwnSome c share n) (x .muted) (muted-own (lits-own c share n (x .still) u)) in
       let k = gone-roomed v r (y .roomed) in
       let z = late-items (w .status) r′ is (x .still) (o .own) k
-      (at-muted (late.gone share n v (lits share n os r)) (lits share n os (late.gone share n v r)) (w .status) r′ (x .muted)
+      (at-muted (late.gone share n v (lits share n os r)) (lits share n os (late.gone share n v r)) (w .status) r′
+      (x .muted)
       (record { state = h .state; is = h .is }) (lits-roomed os (late.gone share n v r) k .few) (y .stand)) in
       record {
         stand = z .stand;
@@ -534,7 +633,8 @@ module _ (c : Channel) (share : Bool) (n : ℕ) where
       muted-own h = record { state = h .state; is = h .is }
 
   -- either run may be named first
-  turned-round : {w : Two} → At c w → {v v′ : ℕ} → Continues c (w .status) v v′ (w .first) (w .second) → Continues c (w .status) v′ v (w .second) (w .first)
+  turned-round : {w : Two} → At c w → {v v′ : ℕ} → Continues c (w .status) v v′ (w .first) (w .second)
+      → Continues c (w .status) v′ v (w .second) (w .first)
   turned-round (at st i (end x l) q q′ h k k′ e) m = absurd (m .serving)
   turned-round (at st true (both {q = p} φ z w w′ l f) q q′ h k k′ e) {v} {v′} m =
       record {
@@ -547,9 +647,12 @@ module _ (c : Channel) (share : Bool) (n : ℕ) where
             (c .number) st p v v′ (m .brings);
       }
   turned-round (at st false (both φ z w w′ l f) q q′ h k k′ e) m = absurd (m .serving)
-  turned-round (at st i (left {s = s} {k = g} w p z f) q q′ h k k′ e) m = absurd (true≢false (sym (own-yes (c .number) g s w) ∙ m .shared))
-  turned-round (at st i (right {t = t} {k = g} w p z f) q q′ h k k′ e) m = absurd (true≢false (sym (own-yes (c .number) g t w) ∙ m .shared′))
-  turned-round (at st i (owns {s = s} {k = g} w w′ l f f′) q q′ h k k′ e) m = absurd (true≢false (sym (own-yes (c .number) g s w) ∙ m .shared))
+  turned-round (at st i (left {s = s} {k = g} w p z f) q q′ h k k′ e) m
+      = absurd (true≢false (sym (own-yes (c .number) g s w) ∙ m .shared))
+  turned-round (at st i (right {t = t} {k = g} w p z f) q q′ h k k′ e) m
+      = absurd (true≢false (sym (own-yes (c .number) g t w) ∙ m .shared′))
+  turned-round (at st i (owns {s = s} {k = g} w w′ l f f′) q q′ h k k′ e) m
+      = absurd (true≢false (sym (own-yes (c .number) g s w) ∙ m .shared))
 
   all-round : {x : ℕ} {us vs : List (Ans Answer)} → AllSame x us vs → AllSame x vs us
   all-round none = none
@@ -558,69 +661,81 @@ module _ (c : Channel) (share : Bool) (n : ℕ) where
   -- ---- what is under way is free after every turn
 
   pub record FreeBoth (w : Two) : Type 0 where
-    pub one : FreeWay c (w .first .machine .way)
-    pub other : FreeWay c (w .second .machine .way)
+    pub one : FreeWay c (w .first .machine .under-way)
+    pub other : FreeWay c (w .second .machine .under-way)
 
-  called-free : (d : Call Config Op) (b : Buf) (r : Run) → FreeWay c (r .machine .way) → LentLawful c d (r .machine) b
-      → FreeWay c (called share n d b r .machine .way)
+  called-free : (d : Call Config Op) (b : Buf) (r : Run) → FreeWay c (r .machine .under-way)
+      → LentLawful c d (r .machine) b
+      → FreeWay c (called share n d b r .machine .under-way)
   called-free d b r f l = by (turnedDown n (sortOf d) (drive d (r .machine) b .0) (r .machine .st) (r .time) && share)
       (timeAfter n (sortOf d) (drive d (r .machine) b .0) (r .machine .st) (r .time))
     where
-      by : (u : Bool) (t : List ℕ) → FreeWay c (cond {A = Called × List ℕ} u ((ended (Refused 19), lentTo calls driverOf (r .machine) b), r .time)
-          (drive d (r .machine) b, t) .0 .1 .way)
+      by : (u : Bool) (t : List ℕ) → FreeWay c (cond {A = StepResult × List ℕ} u
+          ((ended (Refused 19), lentTo calls driverOf (r .machine) b), r .time)
+          (drive d (r .machine) b, t) .0 .1 .under-way)
       by true t = f
       by false t = drive-free c d (r .machine) b f l
 
-  alone-free : (d : Call Config Op) (b : Buf) (r : Run) → FreeWay c (r .machine .way) → LentLawful c d (r .machine) b
-      → FreeWay c (alone share n d b r .machine .way)
-  alone-free (go v) b r f l = called-free (go v) b r f l
+  alone-free : (d : Call Config Op) (b : Buf) (r : Run) → FreeWay c (r .machine .under-way)
+      → LentLawful c d (r .machine) b
+      → FreeWay c (alone share n d b r .machine .under-way)
+  alone-free (continue v) b r f l = called-free (continue v) b r f l
   alone-free (begin o) b r f l = called-free (begin o) b r f l
   alone-free (start k) b r f l = called-free (start k) b r f l
   alone-free (question q) b r f l = called-free (question q) b r f l
 
   -- what is lent is lawful
   abbrev Fine : Run → Type 0
-  Fine r = Needs c (r .machine .way) (Lawful (c .iso) quiet (stateOf r))
+  Fine r = Needs c (r .machine .under-way) (Lawful (c .iso) quiet (stateOf r))
 
   first-fine : {w : Two} → At c w → Fine (w .first)
   first-fine (at st i {o = ends a s} l q q′ h k k′ e) = lawful-rests l
   first-fine (at st true {o = asks p s g} l q q′ h k k′ e) = lawful-busy l
   first-fine (at st false {o = asks p s g} l q q′ h k k′ e) = tt
 
-  needs-lent : (way : Way Answer Driver) {s : St} {b : Buf} → Needs c way (Lawful (c .iso) quiet s) → Stored (s .0) (s .1) b
-      → Needs c way (Lawful (c .iso) quiet (s .0, b))
+  needs-lent : (under-way : Pending Answer Driver) {s : St} {b : Buf} → Needs c under-way (Lawful (c .iso) quiet s)
+      → Stored (s .0) (s .1) b
+      → Needs c under-way (Lawful (c .iso) quiet (s .0, b))
   needs-lent idle l h = lawful-stored c l h
   needs-lent (busy true a k) l h = lawful-stored c l h
   needs-lent (busy false a k) l h = tt
 
-  fine-lent : (r : Run) {b : Buf} → Fine r → Stored (r .machine .st) (r .machine .buf) b → Needs c (r .machine .way) (Lawful (c .iso) quiet (r .machine .st, b))
-  fine-lent r f h = needs-lent (r .machine .way) f h
+  fine-lent : (r : Run) {b : Buf} → Fine r → Stored (r .machine .st) (r .machine .buf) b
+      → Needs c (r .machine .under-way) (Lawful (c .iso) quiet (r .machine .st, b))
+  fine-lent r f h = needs-lent (r .machine .under-way) f h
 
   no-irq : {X : Type 0} {o : Op} → irq o ≡ false → o ≡ interrupt → X
   no-irq h i = absurd (true≢false (sym (ap irq i) ∙ h))
 
-  begin-lent : (o : Op) (r : Run) (b : Buf) → Fine r → (unfit (begin o) r b ≡ true) ⊎ Stored (r .machine .st) (r .machine .buf) b → LentLawful c (begin o) (r .machine) b
+  begin-lent : (o : Op) (r : Run) (b : Buf) → Fine r → (unfit (begin o) r b ≡ true)
+      ⊎ Stored (r .machine .st) (r .machine .buf) b → LentLawful c (begin o) (r .machine) b
   begin-lent o r b f (inl x) i e = absurd (true≢false (sym (subst (λ o. unfit (begin o) r b ≡ true) i x)))
-  begin-lent o r b f (inr h) i e = subst (λ w. Needs c w (Lawful (c .iso) quiet (r .machine .st, b))) e (fine-lent r f h)
+  begin-lent o r b f (inr h) i e = subst (λ w. Needs c w (Lawful (c .iso) quiet (r .machine .st, b))) e
+      (fine-lent r f h)
 
-  go-lent : (v : ℕ) (r : Run) (b : Buf) → Fine r → (unfit (go v) r b ≡ true) ⊎ Stored (r .machine .st) (r .machine .buf) b → LentLawful c (go v) (r .machine) b
+  go-lent : (v : ℕ) (r : Run) (b : Buf) → Fine r → (unfit (continue v) r b ≡ true)
+      ⊎ Stored (r .machine .st) (r .machine .buf) b → LentLawful c (continue v) (r .machine) b
   go-lent v r b f (inl x) m = absurd (true≢false (sym x ∙ m))
   go-lent v r b f (inr h) m = fine-lent r f h
 
-  call-left : {o : Op} {r r′ : Run} {b b′ : Buf} → BothCall c o r r′ b b′ → (unfit (begin o) r b ≡ true) ⊎ Stored (r .machine .st) (r .machine .buf) b
+  call-left : {o : Op} {r r′ : Run} {b b′ : Buf} → BothCall c o r r′ b b′ → (unfit (begin o) r b ≡ true)
+      ⊎ Stored (r .machine .st) (r .machine .buf) b
   call-left (call-row1 x y) = inl x
   call-left (call-lent h) = inr (h .left)
 
-  call-right : {o : Op} {r r′ : Run} {b b′ : Buf} → BothCall c o r r′ b b′ → (unfit (begin o) r′ b′ ≡ true) ⊎ Stored (r′ .machine .st) (r′ .machine .buf) b′
+  call-right : {o : Op} {r r′ : Run} {b b′ : Buf} → BothCall c o r r′ b b′ → (unfit (begin o) r′ b′ ≡ true)
+      ⊎ Stored (r′ .machine .st) (r′ .machine .buf) b′
   call-right (call-row1 x y) = inl y
   call-right (call-lent h) = inr (h .right)
 
-  go-left : {st v v′ : ℕ} {r r′ : Run} {b b′ : Buf} → BothGo c st v v′ r r′ b b′ → (unfit (go v) r b ≡ true) ⊎ Stored (r .machine .st) (r .machine .buf) b
+  go-left : {st v v′ : ℕ} {r r′ : Run} {b b′ : Buf} → BothGo c st v v′ r r′ b b′ → (unfit (continue v) r b ≡ true)
+      ⊎ Stored (r .machine .st) (r .machine .buf) b
   go-left (go-row1 x y) = inl x
   go-left (go-row16 x y h) = inr (h .left)
   go-left (go-on x y z h) = inr (h .left)
 
-  go-right : {st v v′ : ℕ} {r r′ : Run} {b b′ : Buf} → BothGo c st v v′ r r′ b b′ → (unfit (go v′) r′ b′ ≡ true) ⊎ Stored (r′ .machine .st) (r′ .machine .buf) b′
+  go-right : {st v v′ : ℕ} {r r′ : Run} {b b′ : Buf} → BothGo c st v v′ r r′ b b′ → (unfit (continue v′) r′ b′ ≡ true)
+      ⊎ Stored (r′ .machine .st) (r′ .machine .buf) b′
   go-right (go-row1 x y) = inl y
   go-right (go-row16 x y h) = inr (h .right)
   go-right (go-on x y z h) = inr (h .right)
@@ -630,9 +745,9 @@ module _ (c : Channel) (share : Bool) (n : ℕ) where
   of-channel (passes o p) = refl
 
   alone-lent : (d : Call Config Op) (r : Run) (b : Buf) → Fine r → Alone c d b r → LentLawful c d (r .machine) b
-  alone-lent (go v) r b f m = go-lent v r b f (by (m .1))
+  alone-lent (continue v) r b f m = go-lent v r b f (by (m .1))
     where
-      by : OwnCall c (go v) r b → (unfit (go v) r b ≡ true) ⊎ Stored (r .machine .st) (r .machine .buf) b
+      by : OwnCall c (continue v) r b → (unfit (continue v) r b ≡ true) ⊎ Stored (r .machine .st) (r .machine .buf) b
       by (own-row1 x) = inl x
       by (own-lent h) = inr (h .stored)
   alone-lent (begin o) r b f m = λ i e. no-irq (of-channel (m .0)) i
@@ -642,22 +757,26 @@ module _ (c : Channel) (share : Bool) (n : ℕ) where
   pub turn-free : (t : Turn) (w : Two) → At c w → May c t w → FreeBoth w → FreeBoth (turn share n t w)
   turn-free (begins st o b b′) w a m f = record {
     one = called-free (begin o) b (w .first) (f .one) (begin-lent o (w .first) b (first-fine a) (call-left (m .3)));
-    other = called-free (begin o) b′ (w .second) (f .other) (begin-lent o (w .second) b′ (first-fine (at-swap a)) (call-right (m .3)));
+    other = called-free (begin o) b′ (w .second) (f .other)
+        (begin-lent o (w .second) b′ (first-fine (at-swap a)) (call-right (m .3)));
   }
   turn-free (goes v v′ b b′) w a m f = record {
-    one = called-free (go v) b (w .first) (f .one) (go-lent v (w .first) b (first-fine a) (go-left (m .2)));
-    other = called-free (go v′) b′ (w .second) (f .other) (go-lent v′ (w .second) b′ (first-fine (at-swap a)) (go-right (m .2)));
+    one = called-free (continue v) b (w .first) (f .one) (go-lent v (w .first) b (first-fine a) (go-left (m .2)));
+    other = called-free (continue v′) b′ (w .second) (f .other)
+        (go-lent v′ (w .second) b′ (first-fine (at-swap a)) (go-right (m .2)));
   }
   turn-free (asked q b b′) w a m f = record { one = f .one; other = f .other }
   turn-free (stores b b′) w a m f = record { one = f .one; other = f .other }
   turn-free (others-time g) w a m f = record { one = f .one; other = f .other }
   turn-free (first e) w a m f = record {
-    one = alone-free (e .call) (e .lent) (w .first) (f .one) (alone-lent (e .call) (w .first) (e .lent) (first-fine a) m);
+    one = alone-free (e .call) (e .lent) (w .first) (f .one)
+        (alone-lent (e .call) (w .first) (e .lent) (first-fine a) m);
     other = f .other;
   }
   turn-free (second e) w a m f = record {
     one = f .one;
-    other = alone-free (e .call) (e .lent) (w .second) (f .other) (alone-lent (e .call) (w .second) (e .lent) (first-fine (at-swap a)) m);
+    other = alone-free (e .call) (e .lent) (w .second) (f .other)
+        (alone-lent (e .call) (w .second) (e .lent) (first-fine (at-swap a)) m);
   }
 
   pub later-free : (t : Later) (w : Two) → At c w → MayLate c share n t w → FreeBoth w → FreeBoth (later share n t w)
@@ -665,18 +784,21 @@ module _ (c : Channel) (share : Bool) (n : ℕ) where
   later-free (first-late v v′ is) w a m f =
       let y = first-by a (f .one) (f .other) v v′ is (m .0) (m .1) in record { one = y .free; other = y .free′ }
   later-free (second-late v v′ is) w a m f =
-      let y = first-by (at-swap a) (f .other) (f .one) v′ v is (turned-round a (m .0)) (m .1) in record { one = y .free′; other = y .free }
+      let y = first-by (at-swap a) (f .other) (f .one) v′ v is (turned-round a (m .0)) (m .1) in record
+      { one = y .free′; other = y .free }
 
-  pub turns-free : (ts : List Turn) (w : Two) → At c w → Allowed c share n ts w → FreeBoth w → FreeBoth (after share n ts w)
+  pub turns-free : (ts : List Turn) (w : Two) → At c w → Allowed c share n ts w → FreeBoth w
+      → FreeBoth (after share n ts w)
   turns-free [] w a m f = f
-  turns-free (t ∷ ts) w a m f = turns-free ts (turn share n t w) (step c share n t a (m .0) .stand) (m .1) (turn-free t w a (m .0) f)
+  turns-free (t ∷ ts) w a m f = turns-free ts (turn share n t w) (step c share n t a (m .0) .stand) (m .1)
+      (turn-free t w a (m .0) f)
 
   -- where the two part nothing is under way
   pub opened-free : (s : Session) (w : Two) → startRow (s .config) (s .lent) ≡ zero → w .first .time ≡ w .second .time
-      → opened share n s w .first .machine .way ≡ idle → FreeBoth (opened share n s w)
+      → opened share n s w .first .machine .under-way ≡ idle → FreeBoth (opened share n s w)
   opened-free s w row e rests = record {
     one = subst (FreeWay c) (sym rests) tt;
-    other = subst (FreeWay c) (sym (subst (λ (z : Run). given share n (s .before) z .machine .way ≡ idle)
+    other = subst (FreeWay c) (sym (subst (λ (z : Run). given share n (s .before) z .machine .under-way ≡ idle)
         (starts share n (s .config) (s .lent) row (w .first) ∙ (ap (λ t. anew share n (s .config) (s .lent) row t) e
         ∙ sym (starts share n (s .config) (s .lent) row (w .second)))) rests)) tt;
   }
@@ -692,7 +814,12 @@ module _ (c : Channel) (share : Bool) (n : ℕ) where
   stood y = record { answers = tt; stands = at-stands y; lined = at-lined y; alike = at-alike y; time = at-time y }
 
   pub late-step : (t : Later) {w : Two} → At c w → FreeBoth w → MayLate c share n t w → Stepped t w
-  late-step (timely t) a f m = let y = step c share n t a m in record { stand = y .stand; heard = tt; after-it = y .after-it }
+  late-step (timely t) a f m = let y = step c share n t a m in record {
+    stand = y .stand;
+    heard = tt;
+    after-it
+        = y .after-it;
+  }
   late-step (first-late v v′ is) a f m =
       let y = first-by a (f .one) (f .other) v v′ is (m .0) (m .1) in
       record { stand = y .stand; heard = y .heard; after-it = stood (y .stand) }
@@ -701,7 +828,8 @@ module _ (c : Channel) (share : Bool) (n : ℕ) where
       let z = at-swap (y .stand) in
       record { stand = z; heard = all-round (y .heard); after-it = stood z }
 
-  every-late : (ts : List Later) {w : Two} → At c w → FreeBoth w → AllowedLate c share n ts w → EveryLate c share n ts w × At c (afterAll share n ts w)
+  every-late : (ts : List Later) {w : Two} → At c w → FreeBoth w → AllowedLate c share n ts w → EveryLate c share n ts w
+      × At c (afterAll share n ts w)
   every-late [] a f m = (tt, a)
   every-late (t ∷ ts) {w} a f m =
       let y = late-step t a f (m .0) in
@@ -709,13 +837,19 @@ module _ (c : Channel) (share : Bool) (n : ℕ) where
       ((y .heard, y .after-it, z .0), z .1)
 
 -- two runs with one record of the bus time, whatever was before
-pub undisturbed-late : (share : Bool) (n : ℕ) (ss : List LateSession) (w : Two) → w .first .time ≡ w .second .time → AllOpenLate share n ss w
+pub undisturbed-late : (share : Bool) (n : ℕ) (ss : List LateSession) (w : Two) → w .first .time ≡ w .second .time
+    → AllOpenLate share n ss w
     → UndisturbedLate share n ss w
 undisturbed-late share n [] w e o = tt
 undisturbed-late share n (s ∷ ss) w e o =
     let c = s .opening .channel in
     let a = opened-at share n (s .opening) w e (o .0) in
     let b = stands-after c share n (s .opening .turns) a (o .0 .allowed) in
-    let f = turns-free c share n (s .opening .turns) _ a (o .0 .allowed) (opened-free c share n (s .opening) w (o .0 .accepted) e (o .0 .rests)) in
-    let z = every-late c share n (s .turns) b f (o .1) in
-    (always c share n (s .opening .turns) a (o .0 .allowed), z .0, undisturbed-late share n ss _ (at-time (z .1)) (o .2))
+    let f = turns-free c share n (s .opening .turns) _ a (o .0 .allowed)
+    (opened-free c share n (s .opening) w (o .0 .accepted) e (o .0 .rests)) in
+    let z = every-late c share n (s .turns) b f (o .1) in (
+      always c share n (s .opening .turns) a (o .0 .allowed),
+      z .0,
+      undisturbed-late share n ss _ (at-time (z .1))
+          (o .2),
+    )

@@ -14,14 +14,15 @@ use Rattle.state.specs.Driver.{Driver, key}
 use Rattle.script.specs.Statics.{flag}
 use Rattle.script.specs.Answers.{Answer}
 use Rattle.script.specs.Calls.{aside, Open, Close, Queue}
-use Rattle.script.specs.Machine.{begin, go, question, overruns, Way, idle, busy}
+use Rattle.script.specs.Machine.{begin, continue, question, overruns, Pending, idle, busy}
 use Rattle.proof_book.specs.Computing.{computing}
 use Rattle.proof_isolation.specs.EqualExcept.{Channel}
 use Rattle.proof_isolation.specs.Whose.{own}
 use Rattle.proof_isolation.specs.Schedule.{Run, Two, storedIn, wide, atOwn}
 use Rattle.proof_isolation.specs.Undisturbed.{Session}
 use Rattle.proof_isolation.specs.Stores.{patched}
-use Rattle.proof_isolation.specs.Late.{Light, opens, closes, queues, asks-of, Item, gets, goes-own, stores-own, calls-own, lightsOf, lit, first-late}
+use Rattle.proof_isolation.specs.Late.{Light, opens, closes, queues, asks-of, Item, gets, goes-own, stores-own}
+use Rattle.proof_isolation.specs.Late.{calls-own, lightsOf, lit, first-late}
 use Rattle.proof_isolation.specs.Late as late
 use Rattle.proof_isolation.specs.Late.{Serving, AnyStore, AtOwn}
 use Rattle.proof_isolation.specs.Late.{MayLate}
@@ -46,11 +47,11 @@ late-calls = gets (opens 2) ∷ goes-own 66 ∷ gets (closes 2) ∷ gets (asks-o
 
 -- ---- the test
 
-abbrev servingB : Way Answer Driver → Bool
+abbrev servingB : Pending Answer Driver → Bool
 servingB idle = false
 servingB (busy i a k) = i
 
-serving-is : (w : Way Answer Driver) → servingB w ≡ true → Serving w
+serving-is : (w : Pending Answer Driver) → servingB w ≡ true → Serving w
 serving-is idle h = absurd (true≢false (sym h))
 serving-is (busy true a k) h = tt
 serving-is (busy false a k) h = absurd (true≢false (sym h))
@@ -76,7 +77,8 @@ ownFlags (gets o ∷ is) r = flag (own 1 (r .access) (r .machine)) ∷ (let z = 
 ownFlags (stores-own b ∷ is) r = []
 ownFlags (calls-own e ∷ is) r = []
 ownFlags (goes-own v ∷ is) r =
-    flag (own 1 (r .access) (r .machine)) ∷ flag (not (wide (r .machine .way) v)) ∷ (let z = quickly (go v) r in ownFlags is z)
+    flag (own 1 (r .access) (r .machine)) ∷ flag (not (wide (r .machine .under-way) v))
+    ∷ (let z = quickly (continue v) r in ownFlags is z)
 
 abbrev ownOnes : List Item → List ℕ
 ownOnes [] = 1 ∷ []
@@ -87,10 +89,10 @@ ownOnes (calls-own e ∷ is) = 0 ∷ []
 
 abbrev flags : Two → List ℕ
 flags w =
-    flag (servingB (w .first .machine .way)) ∷ flag (not (own 1 (w .first .access) (w .first .machine))) ∷
-    flag (not (own 1 (w .second .access) (w .second .machine))) ∷ flag (not (wide (w .first .machine .way) 8)) ∷
-    flag (not (wide (w .second .machine .way) 8)) ∷ flag (bringsB 1 (w .status) (w .first .access) 8 8) ∷
-    (let z = quickly (go 8) (w .first) in ownFlags late-calls z)
+    flag (servingB (w .first .machine .under-way)) ∷ flag (not (own 1 (w .first .access) (w .first .machine))) ∷
+    flag (not (own 1 (w .second .access) (w .second .machine))) ∷ flag (not (wide (w .first .machine .under-way) 8)) ∷
+    flag (not (wide (w .second .machine .under-way) 8)) ∷ flag (bringsB 1 (w .status) (w .first .access) 8 8) ∷
+    (let z = quickly (continue 8) (w .first) in ownFlags late-calls z)
 
 -- all as it should be
 abbrev good : List ℕ
@@ -100,7 +102,8 @@ module _ (c : Channel) (e : c .number ≡ 1) where
   own-so : (r : Run) → flag (own 1 (r .access) (r .machine)) ≡ 1 → own (c .number) (r .access) (r .machine) ≡ true
   own-so r h = subst (λ x. own x (r .access) (r .machine) ≡ true) (sym e) (flag-on (own 1 (r .access) (r .machine)) h)
 
-  own-sound : (is : List Item) (r : Run) → ownFlags is r ≡ ownOnes is → (AnyStore (lightsOf is) → ⊥) → AtOwn c false 0 is r
+  own-sound : (is : List Item) (r : Run) → ownFlags is r ≡ ownOnes is → (AnyStore (lightsOf is) → ⊥)
+      → AtOwn c false 0 is r
   own-sound [] r h m = own-so r (ap (λ k. getD k 0 0) h)
   own-sound (gets o ∷ is) r h m = (
     own-so r (ap (λ k. getD k 0 0) h),
@@ -108,9 +111,10 @@ module _ (c : Channel) (e : c .number ≡ 1) where
   )
   own-sound (goes-own v ∷ is) r h m = (
     own-so r (ap (λ k. getD k 0 0) h),
-    off (wide (r .machine .way) v) (flag-on (not (wide (r .machine .way) v)) (ap (λ k. getD k 1 0) h)),
+    off (wide (r .machine .under-way) v) (flag-on (not (wide (r .machine .under-way) v)) (ap (λ k. getD k 1 0) h)),
     (λ z. absurd (m z)),
-    subst (AtOwn c false 0 is) (sym (quickly-is (go v) r)) (own-sound is (quickly (go v) r) (ap (drop 2) h) m),
+    subst (AtOwn c false 0 is) (sym (quickly-is (continue v) r))
+        (own-sound is (quickly (continue v) r) (ap (drop 2) h) m),
   )
   own-sound (stores-own b ∷ is) r h m = absurd (omega (arith, ap length h))
   own-sound (calls-own e ∷ is) r h m = absurd (omega (arith, ap length h))
@@ -119,27 +123,28 @@ module _ (c : Channel) (e : c .number ≡ 1) where
   not-own r h = subst (λ x. own x (r .access) (r .machine) ≡ false) (sym e)
       (off (own 1 (r .access) (r .machine)) (flag-on (not (own 1 (r .access) (r .machine))) h))
 
-  within-so : (w : Way Answer Driver) → flag (not (wide w 8)) ≡ 1 → wide w 8 ≡ false
+  within-so : (w : Pending Answer Driver) → flag (not (wide w 8)) ≡ 1 → wide w 8 ≡ false
   within-so w h = off (wide w 8) (flag-on (not (wide w 8)) h)
 
-  may-so : (w : Two) → flags w ≡ good → key Out 2 ≢ key Out (c .number) → MayLate c false 0 (first-late 8 8 late-calls) w
+  may-so : (w : Two) → flags w ≡ good → key Out 2 ≢ key Out (c .number)
+      → MayLate c false 0 (first-late 8 8 late-calls) w
   may-so w h m = (
     record {
-      serving = serving-is (w .first .machine .way)
-          (flag-on (servingB (w .first .machine .way)) (ap (λ k. getD k 0 0) h));
+      serving = serving-is (w .first .machine .under-way)
+          (flag-on (servingB (w .first .machine .under-way)) (ap (λ k. getD k 0 0) h));
       shared = not-own (w .first) (ap (λ k. getD k 1 0) h);
       shared′ = not-own (w .second) (ap (λ k. getD k 2 0) h);
-      within = within-so (w .first .machine .way) (ap (λ k. getD k 3 0) h);
-      within′ = within-so (w .second .machine .way) (ap (λ k. getD k 4 0) h);
-      brings = brings-at c (w .first .machine .way) (w .status) (w .first .access) 8 8
+      within = within-so (w .first .machine .under-way) (ap (λ k. getD k 3 0) h);
+      within′ = within-so (w .second .machine .under-way) (ap (λ k. getD k 4 0) h);
+      brings = brings-at c (w .first .machine .under-way) (w .status) (w .first .access) 8 8
           (subst (λ x. bringsB x (w .status) (w .first .access) 8 8 ≡ true) (sym e)
           (flag-on (bringsB 1 (w .status) (w .first .access) 8 8) (ap (λ k. getD k 5 0) h)));
     },
     record {
       others = (m, (m, (m, tt)));
       unseen = λ z. absurd (no-store z);
-      own = subst (AtOwn c false 0 late-calls) (sym (quickly-is (go 8) (w .first)))
-          (own-sound late-calls (quickly (go 8) (w .first)) (ap (drop 6) h) no-store);
+      own = subst (AtOwn c false 0 late-calls) (sym (quickly-is (continue 8) (w .first)))
+          (own-sound late-calls (quickly (continue 8) (w .first)) (ap (drop 6) h) no-store);
     },
   )
     where

@@ -1,5 +1,5 @@
--- The others' opens, closes and queues, the questions and the chip's stores: what each does to the state, and of what its
--- answer is made. An interrupt's operations leave both, except another endpoint's arrival or completion
+-- The others' opens, closes and queues, the questions and the chip's stores: what each does to the state, and of what
+-- its answer is made. An interrupt's operations leave both, except another endpoint's arrival or completion
 use mathlib.Core.Bool.{Bool, true, false, not, cond, _&&_}
 use mathlib.Core.List.{List, []}
 use Prim.Native.Nat.{ℕ}
@@ -96,11 +96,13 @@ seen (stored p) s = record {
 
 abbrev pub openAnswer : ℕ → AnswerParts → Answer
 openAnswer e z = cond (eqb (z .stage) 2)
-    (cond (isAllocated (z .allocator) Out e) (cond (not (isOn (z .iso))) (Refused 11) (cond (z .any) (Shown (z .bytes) (z .number)) (Refused 12))) (Refused 5))
+    (cond (isAllocated (z .allocator) Out e) (cond (not (isOn (z .iso))) (Refused 11)
+    (cond (z .any) (Shown (z .bytes) (z .number)) (Refused 12))) (Refused 5))
     (Refused 4)
 
 abbrev pub closeAnswer : ℕ → AnswerParts → Answer
-closeAnswer e z = cond (eqb (z .stage) 2) (cond (isAllocated (z .allocator) Out e) (cond (z .any) ok (Refused 14)) (Refused 5)) (Refused 4)
+closeAnswer e z = cond (eqb (z .stage) 2) (cond (isAllocated (z .allocator) Out e) (cond (z .any) ok (Refused 14))
+    (Refused 5)) (Refused 4)
 
 -- what a queue is answered past rows 4, 5, 9 and 10
 abbrev pub queuedAnswer : AnswerParts → Answer
@@ -109,7 +111,8 @@ queuedAnswer z = cond (not (isOn (z .iso))) (Refused 11) (cond (z .any) ok (Refu
 abbrev pub queueAnswer : ℕ → ℕ → AnswerParts → Answer
 queueAnswer e n z = cond (eqb (z .stage) 2)
     (cond (isAllocated (z .allocator) In e)
-    (cond (enables.isOn (z .number) In e) (cond (ltb (z .allocator .size) n) (Refused 10) (queuedAnswer z)) (Refused 9)) (Refused 5))
+    (cond (enables.isOn (z .number) In e) (cond (ltb (z .allocator .size) n) (Refused 10) (queuedAnswer z)) (Refused 9))
+    (Refused 5))
     (Refused 4)
 
 abbrev pub answered : Light → AnswerParts → Ans Answer

@@ -16,7 +16,8 @@ use Rattle.state.specs.declared.EpState.{EpState}
 use Rattle.state.specs.declared.Allocator.{Allocator}
 use Rattle.state.specs.declared.Globals.{Globals}
 use Rattle.state.specs.Wakes.{Wakes}
-use Rattle.state.specs.Driver.{Driver, key, lenKey, withEps, epOn, withOn, lenOn, withLenOn, stampOn, stampKey, withStampOn, pacedOn, requestOn}
+use Rattle.state.specs.Driver.{Driver, key, lenKey, withEps, epOn, withOn, lenOn, withLenOn, stampOn, stampKey}
+use Rattle.state.specs.Driver.{withStampOn, pacedOn, requestOn}
 use Rattle.state.specs.Driver.{withWakes, withPacedOn, withRequestOn}
 use Rattle.state.specs.Laws.{Sized, epOn-same, epOn-other, withOn-back, withOn-twice}
 use Rattle.ring.specs.Copies.{bytesAt}
@@ -26,7 +27,8 @@ use Rattle.ring.specs.OnlyLaws.{only-apart}
 use Rattle.ring.specs.Slot.{slotOf, slotAddr, countOf, hasWaiting, passedOf}
 use Rattle.ring.specs.In.{hasRoomIn}
 use Rattle.ring.specs.Out.{hasRoomOut, cappedAt, arrivedOf, armedAt, openedOf, closedOf}
-use Rattle.script.specs.Cells.{Cell, Val, EpCore, globals-cell, control-cell, allocator-cell, ep-cell, request-cell, paced-cell}
+use Rattle.script.specs.Cells.{Cell, Val, EpCore, globals-cell, control-cell, allocator-cell, ep-cell, request-cell}
+use Rattle.script.specs.Cells.{paced-cell}
 use Rattle.script.specs.Script.{changed, marked, arrive, open-oldest, close-oldest, enqueue}
 use Rattle.script.specs.Statics.{isOn, isoOuts, flag}
 use Rattle.script.specs.Answers.{isNumber}
@@ -34,7 +36,8 @@ use Rattle.script.specs.Simulates.{quiet}
 use Rattle.script.specs.Machine.{Question, pending, overruns, enabled}
 use Rattle.answer.specs.Questions.{pendingOn, overrunsOf, overrunsOn, enabledAsked, questionOf}
 use Rattle.script_ops.specs.Records.{plainOf, merged}
-use Rattle.script_ops.specs.Rings.{St, changedOn, markedOn, waitingOn, roomIn, roomOn, openedOn, nextLen, nextStamp, oldestAt, oldestOn, openOn, closeOn}
+use Rattle.script_ops.specs.Rings.{St, changedOn, markedOn, waitingOn, roomIn, roomOn, openedOn, nextLen, nextStamp}
+use Rattle.script_ops.specs.Rings.{oldestAt, oldestOn, openOn, closeOn}
 use Rattle.script_ops.specs.Rings.{writtenOn, recordedOn, admittedOn, armAt, armOn, arrivedAt, arriveOn}
 use Rattle.script_ops.specs.Concrete.{getOn, putOn, isOf, lookOf, handOn}
 use Rattle.alloc.specs.Alloc.{allocatedIn}
@@ -50,15 +53,17 @@ use Rattle.proof_isolation.specs.Schedule.{Asked}
 use Rattle.proof_isolation.specs.OwnStepsLaws.{own-arrives}
 use Rattle.proof_isolation.specs.AsidesLaws.{stamp-any, oldest-by}
 use Rattle.proof_isolation.specs.ValuesLaws.{in-other}
-use Rattle.proof_isolation.specs.QueuesLaws.{patch-long, changed-stored, marked-stored, arrive-stored, get-queue, put-queue, wakes-queue}
+use Rattle.proof_isolation.specs.QueuesLaws.{patch-long, changed-stored, marked-stored, arrive-stored, get-queue}
+use Rattle.proof_isolation.specs.QueuesLaws.{put-queue, wakes-queue}
 use Rattle.proof_isolation.specs.QueuesLaws.{queue-wakes, changed-queue, marked-queue, arrive-queue}
-use Rattle.proof_isolation.specs.Lights.{opening, closing, changeOf, done-by, AnswerParts, seen}
+use Rattle.proof_isolation.specs.Lights.{opening, closing, changeOf, done-by, seen}
 
 pub open-is : (d : Driver) (e : ℕ) → openOn d e ≡ changeOf opening e d
 unfolding openOn
 open-is d e = by (hasWaiting (epOn d Out e))
   where
-    by : (b : Bool) → cond b (withOn d Out e (openedOf (epOn d Out e))) d ≡ withOn d Out e (cond b (openedOf (epOn d Out e)) (epOn d Out e))
+    by : (b : Bool) → cond b (withOn d Out e (openedOf (epOn d Out e))) d
+        ≡ withOn d Out e (cond b (openedOf (epOn d Out e)) (epOn d Out e))
     by true = refl
     by false = sym (withOn-back d Out e)
 
@@ -66,7 +71,8 @@ pub close-is : (d : Driver) (e : ℕ) → closeOn d e ≡ changeOf closing e d
 unfolding closeOn
 close-is d e = by (isOn (epOn d Out e .«open»))
   where
-    by : (b : Bool) → cond b (withOn d Out e (closedOf (epOn d Out e))) d ≡ withOn d Out e (cond b (closedOf (epOn d Out e)) (epOn d Out e))
+    by : (b : Bool) → cond b (withOn d Out e (closedOf (epOn d Out e))) d
+        ≡ withOn d Out e (cond b (closedOf (epOn d Out e)) (epOn d Out e))
     by true = refl
     by false = sym (withOn-back d Out e)
 
@@ -102,7 +108,8 @@ gentle-closing = record {
 
 -- ---- records of two endpoints
 
-on-comm : (d : Driver) (a : Dir) (e : ℕ) (r : EpState) (b : Dir) (f : ℕ) (q : EpState) → key a e ≢ key b f → withOn (withOn d a e r) b f q
+on-comm : (d : Driver) (a : Dir) (e : ℕ) (r : EpState) (b : Dir) (f : ℕ) (q : EpState) → key a e ≢ key b f
+    → withOn (withOn d a e r) b f q
     ≡ withOn (withOn d b f q) a e r
 unfolding withOn
 on-comm d a e r b f q n = ap (withEps d) (set-comm (d .eps) (key a e) (key b f) r q n)
@@ -114,29 +121,36 @@ on-key d a b e f r h = ap (λ k. withEps d (set (d .eps) k r)) h
 -- ---- it and what scripts read and assign
 
 module _ {g : EpState → EpState} (k : Gentle g) (e : ℕ) (d : Driver) (z : Sized d) where
-  seen-in : {X : Type 0} (f : EpState → X) → ((r : EpState) → f (g r) ≡ f r) → (dir : Dir) (a : ℕ) → f (epOn (changeOf g e d) dir a) ≡ f (epOn d dir a)
+  seen-in : {X : Type 0} (f : EpState → X) → ((r : EpState) → f (g r) ≡ f r) → (dir : Dir) (a : ℕ)
+      → f (epOn (changeOf g e d) dir a) ≡ f (epOn d dir a)
   seen-in f h dir a = elim (ℕ-discrete (key dir a) (key Out e)) [
-    | yes p ↦ ap f (key-ep (changeOf g e d) dir Out a e p ∙ epOn-same d Out e _ z) ∙ h (epOn d Out e) ∙ ap f (sym (key-ep d dir Out a e p))
+    | yes p ↦ ap f (key-ep (changeOf g e d) dir Out a e p ∙ epOn-same d Out e _ z) ∙ h (epOn d Out e)
+        ∙ ap f (sym (key-ep d dir Out a e p))
     | no p ↦ ap f (epOn-other d Out e _ dir a p)
   ]
 
   record-assigned : (dir : Dir) (a : ℕ) (v : EpCore)
-      → withOn (changeOf g e d) dir a (merged (epOn (changeOf g e d) dir a) v) ≡ changeOf g e (withOn d dir a (merged (epOn d dir a) v))
+      → withOn (changeOf g e d) dir a (merged (epOn (changeOf g e d) dir a) v)
+      ≡ changeOf g e (withOn d dir a (merged (epOn d dir a) v))
   record-assigned dir a v = elim (ℕ-discrete (key dir a) (key Out e)) [
     | yes p ↦
         let r = epOn d Out e in
         on-key (changeOf g e d) dir Out a e _ p
-        ∙ ap (λ (q : EpState). withOn (changeOf g e d) Out e (merged q v)) (key-ep (changeOf g e d) dir Out a e p ∙ epOn-same d Out e _ z)
+        ∙ ap (λ (q : EpState). withOn (changeOf g e d) Out e (merged q v)) (key-ep (changeOf g e d) dir Out a e p
+        ∙ epOn-same d Out e _ z)
         ∙ withOn-twice d Out e (g r) (merged (g r) v)
         ∙ ap (λ (q : EpState). withOn d Out e q) (sym (k .merges r v))
         ∙ sym (withOn-twice d Out e (merged r v) (g (merged r v)))
-        ∙ ap (λ (q : EpState). withOn (withOn d Out e (merged r v)) Out e (g q)) (sym (epOn-same d Out e (merged r v) z))
-        ∙ ap (λ (x : Driver). withOn x Out e (g (epOn x Out e))) (ap (λ (q : EpState). withOn d Out e (merged q v)) (sym (key-ep d dir Out a e p))
+        ∙ ap (λ (q : EpState). withOn (withOn d Out e (merged r v)) Out e (g q))
+        (sym (epOn-same d Out e (merged r v) z))
+        ∙ ap (λ (x : Driver). withOn x Out e (g (epOn x Out e)))
+        (ap (λ (q : EpState). withOn d Out e (merged q v)) (sym (key-ep d dir Out a e p))
         ∙ sym (on-key d dir Out a e (merged (epOn d dir a) v) p))
     | no p ↦
         ap (λ (q : EpState). withOn (changeOf g e d) dir a (merged q v)) (epOn-other d Out e _ dir a p)
         ∙ on-comm d Out e _ dir a _ (λ q. p (sym q))
-        ∙ ap (λ (q : EpState). withOn (withOn d dir a (merged (epOn d dir a) v)) Out e (g q)) (sym (epOn-other d dir a _ Out e (λ q. p (sym q))))
+        ∙ ap (λ (q : EpState). withOn (withOn d dir a (merged (epOn d dir a) v)) Out e (g q))
+        (sym (epOn-other d dir a _ Out e (λ q. p (sym q))))
   ]
 
 module _ {g : EpState → EpState} (k : Gentle g) (e : ℕ) (s : St) (z : Sized (s .0)) where
@@ -163,12 +177,14 @@ module _ {g : EpState → EpState} (k : Gentle g) (e : ℕ) (s : St) (z : Sized 
 
   changed-change : (a : ℕ) → isOf (changed a) t ≡ isOf (changed a) s
   unfolding changedOn
-  changed-change a = ap (λ n. not (isMarked (s .1) n)) (seen-in k e (s .0) z (λ (r : EpState). r .«armed_slot») (k .slot) Out a)
+  changed-change a = ap (λ n. not (isMarked (s .1) n))
+      (seen-in k e (s .0) z (λ (r : EpState). r .«armed_slot») (k .slot) Out a)
 
   marked-change : (a : ℕ) → lookOf (marked a) t ≡ lookOf (marked a) s
   unfolding markedOn
   marked-change a =
-      ap (λ n. markedLen (s .1) n (epOn (t .0) Out a .«max_len»)) (seen-in k e (s .0) z (λ (r : EpState). r .«armed_slot») (k .slot) Out a)
+      ap (λ n. markedLen (s .1) n (epOn (t .0) Out a .«max_len»))
+      (seen-in k e (s .0) z (λ (r : EpState). r .«armed_slot») (k .slot) Out a)
       ∙ ap (λ n. markedLen (s .1) (epOn (s .0) Out a .«armed_slot») n)
       (seen-in k e (s .0) z (λ (r : EpState). r .«max_len») (λ r. ap (λ (p : EpCore). p .«max_len») (k .plain r)) Out a)
 
@@ -185,10 +201,12 @@ module _ (x e : ℕ) (n : key Out e ≢ key Out x) (y : EpState) where
   recorded-on : (d : Driver) (len : ℕ) → recordedOn (withOn d Out e y) x len ≡ withOn (recordedOn d x len) Out e y
   unfolding recordedOn withOn withLenOn withStampOn
   recorded-on d len =
-      ap (λ (r : EpState). cond (hasRoomOut r) (writtenOn (withOn d Out e y) x (slotOf r (r .head)) len) (withOn d Out e y)) (other-on d)
+      ap (λ (r : EpState). cond (hasRoomOut r) (writtenOn (withOn d Out e y) x (slotOf r (r .head)) len)
+      (withOn d Out e y)) (other-on d)
       ∙ by (hasRoomOut (epOn d Out x)) (slotOf (epOn d Out x) (epOn d Out x .head))
     where
-      by : (b : Bool) (i : ℕ) → cond b (writtenOn (withOn d Out e y) x i len) (withOn d Out e y) ≡ withOn (cond b (writtenOn d x i len) d) Out e y
+      by : (b : Bool) (i : ℕ) → cond b (writtenOn (withOn d Out e y) x i len) (withOn d Out e y)
+          ≡ withOn (cond b (writtenOn d x i len) d) Out e y
       by true i = refl
       by false i = refl
 
@@ -201,11 +219,22 @@ module _ (x e : ℕ) (n : key Out e ≢ key Out x) (y : EpState) where
 
   arm-on : (d : Driver) (b : List ℕ) (i : ℕ) → armAt x i (withOn d Out e y, b) ≡ put-in (armAt x i (d, b))
   arm-on d b i =
-      ap (λ (r : EpState). (slotAddr r i, (withOn (withOn d Out e y) Out x (armedAt r (slotAddr r i)), armed b (slotAddr r i) (r .«max_len»)))) (other-on d)
-      ∙ ap (λ (q : Driver). (slotAddr (epOn d Out x) i, (q, armed b (slotAddr (epOn d Out x) i) (epOn d Out x .«max_len»))))
+      ap (λ (r : EpState). (
+        slotAddr r i,
+        (
+          withOn (withOn d Out e y) Out x (armedAt r (slotAddr r i)),
+          armed b
+              (slotAddr r i) (r .«max_len»),
+        ),
+      )) (other-on d)
+      ∙ ap (λ (q : Driver). (
+        slotAddr (epOn d Out x) i,
+        (q, armed b (slotAddr (epOn d Out x) i) (epOn d Out x .«max_len»)),
+      ))
       (on-comm d Out e y Out x (armedAt (epOn d Out x) (slotAddr (epOn d Out x) i)) n)
 
-  arrived-on : (d : Driver) (b : List ℕ) (len : ℕ) → arrivedAt x len (withOn d Out e y, b) ≡ put-in (arrivedAt x len (d, b))
+  arrived-on : (d : Driver) (b : List ℕ) (len : ℕ) → arrivedAt x len (withOn d Out e y, b)
+      ≡ put-in (arrivedAt x len (d, b))
   arrived-on d b len =
       ap (λ (q : Driver). armOn x (q, b)) (admitted-on d len)
       ∙ ap (λ (r : EpState). armAt x (r .head) (withOn (admittedOn d x len) Out e y, b)) (other-on (admittedOn d x len))
@@ -214,18 +243,31 @@ module _ (x e : ℕ) (n : key Out e ≢ key Out x) (y : EpState) where
   arrive-on : (d : Driver) (b : List ℕ) (m : ℕ) → arriveOn x m (withOn d Out e y, b) ≡ put-in (arriveOn x m (d, b))
   unfolding arriveOn withOn
   arrive-on d b m =
-      ap (λ (r : EpState). cond (isSet (isoOuts (d .globals)) (x % 16)) (arrivedAt x (cappedAt r m) (withOn d Out e y, b))
+      ap (λ (r : EpState). cond (isSet (isoOuts (d .globals)) (x % 16))
+      (arrivedAt x (cappedAt r m) (withOn d Out e y, b))
       (r .«armed_slot», (withOn d Out e y, b))) (other-on d)
       ∙ by (isSet (isoOuts (d .globals)) (x % 16))
     where
-      by : (u : Bool) → cond u (arrivedAt x (cappedAt (epOn d Out x) m) (withOn d Out e y, b)) (epOn d Out x .«armed_slot», (withOn d Out e y, b))
+      by : (u : Bool) → cond u (arrivedAt x (cappedAt (epOn d Out x) m) (withOn d Out e y, b))
+          (epOn d Out x .«armed_slot», (withOn d Out e y, b))
           ≡ put-in (cond u (arrivedAt x (cappedAt (epOn d Out x) m) (d, b)) (epOn d Out x .«armed_slot», (d, b)))
       by true = arrived-on d b (cappedAt (epOn d Out x) m)
       by false = refl
 
 -- a record but for what scripts assign
 abbrev core : EpState → EpState
-core r = merged r (record { ready = 0; len = 0; armed = 0; «last_frame» = 0; tog = 0; iso = 0; kind = 0; base = 0; «max_len» = 0 })
+core r = merged r (record {
+  ready = 0;
+  len = 0;
+  armed = 0;
+  «last_frame» = 0;
+  tog = 0;
+  iso = 0;
+  kind = 0;
+  base
+      = 0;
+  «max_len» = 0;
+})
 
 -- two drivers with the same rings, lengths, stamps and places
 record Steadily (d d′ : Driver) : Type 0 where
@@ -238,7 +280,8 @@ record Steadily (d d′ : Driver) : Type 0 where
   stamps : d .stamps ≡ d′ .stamps
 
 abbrev oldestBy : ℕ → List ℕ → EpState → List ℕ → List ℕ
-oldestBy e b r l = bytesAt b (slotAddr r (r .tail)) (cond (hasWaiting r) (getD l (lenKey Out e (slotOf r (r .tail))) 0) 0)
+oldestBy e b r l = bytesAt b (slotAddr r (r .tail)) (cond (hasWaiting r) (getD l (lenKey Out e (slotOf r (r .tail))) 0)
+    0)
 
 abbrev stampBy : ℕ → EpState → List ℕ → ℕ
 stampBy e r l = cond (hasWaiting r) (getD l (stampKey e (slotOf r (r .tail))) 0) 0
@@ -279,7 +322,15 @@ module _ {d d′ : Driver} (h : Steadily d d′) (b : List ℕ) where
     bytes = oldest-steady e i;
     number = stamp-steady e i;
   }
-  seen-steady (closes e) = λ i. record { stage = h .stage i; allocator = h .allocator i; iso = 0; any = open-steady e i; bytes = []; number = 0 }
+  seen-steady (closes e) = λ i. record {
+    stage = h .stage i;
+    allocator = h .allocator i;
+    iso = 0;
+    any
+        = open-steady e i;
+    bytes = [];
+    number = 0;
+  }
   seen-steady (queues e bs) = λ i. record {
     stage = h .stage i;
     allocator = h .allocator i;
@@ -288,8 +339,24 @@ module _ {d d′ : Driver} (h : Steadily d d′) (b : List ℕ) where
     bytes = [];
     number = h .config i;
   }
-  seen-steady (asks-of q) = λ i. record { stage = h .stage i; allocator = h .allocator i; iso = 0; any = false; bytes = []; number = told-same q i }
-  seen-steady (stored p) = λ i. record { stage = h .stage i; allocator = h .allocator i; iso = 0; any = false; bytes = []; number = 0 }
+  seen-steady (asks-of q) = λ i. record {
+    stage = h .stage i;
+    allocator = h .allocator i;
+    iso = 0;
+    any = false;
+    bytes
+        = [];
+    number = told-same q i;
+  }
+  seen-steady (stored p) = λ i. record {
+    stage = h .stage i;
+    allocator = h .allocator i;
+    iso = 0;
+    any = false;
+    bytes
+        = [];
+    number = 0;
+  }
 
 -- an open leaves the bytes and the stamp of the packet that it shows
 module _ (e : ℕ) (d : Driver) (z : Sized d) where
@@ -297,33 +364,99 @@ module _ (e : ℕ) (d : Driver) (z : Sized d) where
   unfolding oldestOn oldestAt nextLen lenOn withOn slotAddr slotOf hasWaiting countOf openedOf
   oldest-opening b =
       ap (λ (r : EpState). oldestBy e b r (d .lens)) (epOn-same d Out e (opening (epOn d Out e)) z)
-      ∙ either (λ (r : EpState). oldestBy e b r (d .lens)) (hasWaiting (epOn d Out e)) (openedOf (epOn d Out e)) (epOn d Out e) refl
+      ∙ either (λ (r : EpState). oldestBy e b r (d .lens)) (hasWaiting (epOn d Out e)) (openedOf (epOn d Out e))
+      (epOn d Out e) refl
 
   pub stamp-opening : nextStamp (changeOf opening e d) e ≡ nextStamp d e
   unfolding nextStamp stampOn withOn slotOf hasWaiting countOf openedOf
   stamp-opening =
       ap (λ (r : EpState). stampBy e r (d .stamps)) (epOn-same d Out e (opening (epOn d Out e)) z)
-      ∙ either (λ (r : EpState). stampBy e r (d .stamps)) (hasWaiting (epOn d Out e)) (openedOf (epOn d Out e)) (epOn d Out e) refl
+      ∙ either (λ (r : EpState). stampBy e r (d .stamps)) (hasWaiting (epOn d Out e)) (openedOf (epOn d Out e))
+      (epOn d Out e) refl
 
 record-steady : (d : Driver) (z : Sized d) (dir : Dir) (a : ℕ) (v : EpCore) (b : Dir) (e : ℕ) → core (epOn d b e)
     ≡ core (epOn (withOn d dir a (merged (epOn d dir a) v)) b e)
 record-steady d z dir a v b e = elim (ℕ-discrete (key b e) (key dir a)) [
-  | yes p ↦ ap core (key-ep d b dir e a p) ∙ sym (ap core (key-ep (withOn d dir a (merged (epOn d dir a) v)) b dir e a p ∙ epOn-same d dir a _ z))
+  | yes p ↦ ap core (key-ep d b dir e a p) ∙ sym (ap core (key-ep (withOn d dir a (merged (epOn d dir a) v)) b dir e a p
+      ∙ epOn-same d dir a _ z))
   | no p ↦ ap core (sym (epOn-other d dir a _ b e p))
 ]
 
 put-steady : (c : Cell) (v : Val c) (s : St) → Sized (s .0) → Steadily (s .0) (putOn c v s .0)
 unfolding withOn withRequestOn withPacedOn epOn
-put-steady globals-cell v s z = record { ep0 = refl; stage = refl; config = refl; allocator = refl; records = λ dir e. refl; lens = refl; stamps = refl }
-put-steady control-cell v s z = record { ep0 = refl; stage = refl; config = refl; allocator = refl; records = λ dir e. refl; lens = refl; stamps = refl }
-put-steady allocator-cell v s z = record { ep0 = refl; stage = refl; config = refl; allocator = refl; records = λ dir e. refl; lens = refl; stamps = refl }
-put-steady (ep-cell a e) v s z = record { ep0 = refl; stage = refl; config = refl; allocator = refl; records = record-steady (s .0) z a e v; lens = refl; stamps = refl }
-put-steady (request-cell a e) v s z = record { ep0 = refl; stage = refl; config = refl; allocator = refl; records = λ dir e. refl; lens = refl; stamps = refl }
-put-steady (paced-cell e) v s z = record { ep0 = refl; stage = refl; config = refl; allocator = refl; records = λ dir e. refl; lens = refl; stamps = refl }
+put-steady globals-cell v s z = record {
+  ep0 = refl;
+  stage = refl;
+  config = refl;
+  allocator = refl;
+  records
+      = λ dir e. refl;
+  lens = refl;
+  stamps = refl;
+}
+put-steady control-cell v s z = record {
+  ep0 = refl;
+  stage = refl;
+  config = refl;
+  allocator = refl;
+  records
+      = λ dir e. refl;
+  lens = refl;
+  stamps = refl;
+}
+put-steady allocator-cell v s z = record {
+  ep0 = refl;
+  stage = refl;
+  config = refl;
+  allocator = refl;
+  records
+      = λ dir e. refl;
+  lens = refl;
+  stamps = refl;
+}
+put-steady (ep-cell a e) v s z = record {
+  ep0 = refl;
+  stage = refl;
+  config = refl;
+  allocator = refl;
+  records
+      = record-steady (s .0) z a e v;
+  lens = refl;
+  stamps = refl;
+}
+put-steady (request-cell a e) v s z = record {
+  ep0 = refl;
+  stage = refl;
+  config = refl;
+  allocator = refl;
+  records
+      = λ dir e. refl;
+  lens = refl;
+  stamps = refl;
+}
+put-steady (paced-cell e) v s z = record {
+  ep0 = refl;
+  stage = refl;
+  config = refl;
+  allocator = refl;
+  records
+      = λ dir e. refl;
+  lens = refl;
+  stamps = refl;
+}
 
 wakes-steady : (d : Driver) (w : Wakes) → Steadily d (withWakes d w)
 unfolding epOn
-wakes-steady d w = record { ep0 = refl; stage = refl; config = refl; allocator = refl; records = λ dir e. refl; lens = refl; stamps = refl }
+wakes-steady d w = record {
+  ep0 = refl;
+  stage = refl;
+  config = refl;
+  allocator = refl;
+  records = λ dir e. refl;
+  lens
+      = refl;
+  stamps = refl;
+}
 
 pub seen-put : (o : Light) (c : Cell) (v : Val c) (s : St) → Sized (s .0) → seen o (putOn c v s) ≡ seen o s
 seen-put o c v s z =
@@ -336,9 +469,11 @@ seen-wakes o s w = sym (seen-steady (wakes-steady (s .0) w) (s .1) o)
 
 module _ (c : Channel) where
   module _ {s t : St} (m : Touched c quiet s t) where
-    bytes-stay : (e lo hi : ℕ) → key Out e ≢ key Out (c .number) → epOn (s .0) Out e .base ≤ lo → hi ≤ endOf (epOn (s .0) Out e) → Same lo hi (s .1) (t .1)
+    bytes-stay : (e lo hi : ℕ) → key Out e ≢ key Out (c .number) → epOn (s .0) Out e .base ≤ lo → hi
+        ≤ endOf (epOn (s .0) Out e) → Same lo hi (s .1) (t .1)
     bytes-stay e lo hi n p q = only-apart lo hi (m .bytes)
-        (⊎-elim (λ a. inr (omega arith)) (λ a. inl (omega arith)) (m .left .rest .apart Out Out (c .number) e (λ z. n (sym z))))
+        (⊎-elim (λ a. inr (omega arith)) (λ a. inl (omega arith))
+        (m .left .rest .apart Out Out (c .number) e (λ z. n (sym z))))
 
     oldest-stays : (e : ℕ) → key Out e ≢ key Out (c .number) → oldestOn (s .0) e (s .1) ≡ oldestOn (t .0) e (t .1)
     oldest-stays e n = oldest-by s t e (m .left .rest .outs e .held) (m .bytes .long)
@@ -354,9 +489,11 @@ module _ (c : Channel) where
 
     asked-stays : (q : Question) → Asked c q → questionOf q (s .0) ≡ questionOf q (t .0)
     unfolding pendingOn overrunsOn enabledAsked
-    asked-stays (pending e) n = ap (λ (r : EpState). cond (isNumber e) (countOf r) 0) (m .but .eps In e (in-other (c .number) e))
+    asked-stays (pending e) n = ap (λ (r : EpState). cond (isNumber e) (countOf r) 0)
+        (m .but .eps In e (in-other (c .number) e))
     asked-stays (overruns e) n = ap (λ (r : EpState). cond (isNumber e) (overrunsOf r) 0) (m .but .eps Out e n)
-    asked-stays (enabled dir e) n = ap (λ (g : Globals). flag (cond (isNumber e) (enables.isOn (g .«ep_config») dir e) false)) (m .but .globals)
+    asked-stays (enabled dir e) n = ap (λ (g : Globals). flag
+        (cond (isNumber e) (enables.isOn (g .«ep_config») dir e) false)) (m .but .globals)
 
     pub seen-touched : (o : Light) → Other c o (s .0) → seen o s ≡ seen o t
     unfolding waitingOn openedOn roomOn
@@ -415,7 +552,8 @@ module _ (c : Channel) where
   get-done (stored p) s l (request-cell dir a) = refl
   get-done (stored p) s l (paced-cell a) = refl
 
-  pub put-done : (o : Light) (s : St) → Lawful (c .iso) quiet s → (q : Cell) (v : Val q) → putOn q v (done-by o s) ≡ done-by o (putOn q v s)
+  pub put-done : (o : Light) (s : St) → Lawful (c .iso) quiet s → (q : Cell) (v : Val q) → putOn q v (done-by o s)
+      ≡ done-by o (putOn q v s)
   put-done (opens e) s l q v = put-change gentle-opening e s (l .rest .sized) q v
   put-done (closes e) s l q v = put-change gentle-closing e s (l .rest .sized) q v
   put-done (queues e bs) s l q v = put-queue e bs s (l .rest .sized) q v
@@ -445,7 +583,8 @@ module _ (c : Channel) where
   marked-own (stored p) s l n = marked-stored c p s l n
 
   -- of another's: stores may change it
-  pub changed-done : (o : Light) → isStore o ≡ false → (s : St) → Lawful (c .iso) quiet s → (a : ℕ) → c .iso Out a ≡ true
+  pub changed-done : (o : Light) → isStore o ≡ false → (s : St) → Lawful (c .iso) quiet s → (a : ℕ) → c .iso Out a
+      ≡ true
       → isOf (changed a) (done-by o s) ≡ isOf (changed a) s
   changed-done (opens e) z s l a i = changed-change gentle-opening e s (l .rest .sized) a
   changed-done (closes e) z s l a i = changed-change gentle-closing e s (l .rest .sized) a
@@ -470,7 +609,8 @@ module _ (c : Channel) where
   wakes-done (asks-of q) s l w = refl
   wakes-done (stored p) s l w = refl
 
-  arrive-change : (g : EpState → EpState) (e : ℕ) → key Out e ≢ key Out (c .number) → (s : St) → Lawful (c .iso) quiet s → (m : ℕ) →
+  arrive-change : (g : EpState → EpState) (e : ℕ) → key Out e ≢ key Out (c .number) → (s : St) → Lawful (c .iso) quiet s
+      → (m : ℕ) →
       let w = handOn (arrive (c .number) m) s in
       handOn (arrive (c .number) m) (changeOf g e (s .0), s .1) ≡ (w .0, (changeOf g e (w .1 .0), w .1 .1))
   arrive-change g e n s l m =
@@ -507,7 +647,8 @@ module _ (c : Channel) where
         | yes p ↦
             let x = c .number in
             let f = l .rest .outs e in
-            let b : epOn (s .0) Out e .base ≡ epOn (s .0) Out x .base = ap (λ (q : EpState). q .base) (key-ep (s .0) Out Out e x p) in
+            let b : epOn (s .0) Out e .base ≡ epOn (s .0) Out x .base
+            = ap (λ (q : EpState). q .base) (key-ep (s .0) Out Out e x p) in
             let g : endOf (epOn (s .0) Out e) ≡ endOf (epOn (s .0) Out x) = ap endOf (key-ep (s .0) Out Out e x p) in
             let n = used-size l e u in
             ⊎-elim (λ z. inl (omega (arith, b, f .slot, f .from))) (λ z. inr (omega (arith, g, f .slot, f .upto, n))) o
@@ -563,7 +704,8 @@ module _ (c : Channel) where
   -- ---- stores leave a lawful state
 
   module _ (s : St) where
-    patch-away : (p : List (ℕ × ℕ)) → Lands c (s .0) p → (b : List ℕ) (k : ℕ) → Away (s .0) k → getD (patched p b) k 0 ≡ getD b k 0
+    patch-away : (p : List (ℕ × ℕ)) → Lands c (s .0) p → (b : List ℕ) (k : ℕ) → Away (s .0) k → getD (patched p b) k 0
+        ≡ getD b k 0
     patch-away [] h b k w = refl
     patch-away (q ∷ p) h b k w = patch-away p (h .2) (set b (q .0) (q .1)) k w
         ∙ getD-set-other b (q .0) k (q .1) 0 (λ e. h .1 (subst (Away (s .0)) e w))
@@ -571,12 +713,16 @@ module _ (c : Channel) where
     pub stored-patch : (p : List (ℕ × ℕ)) → Lands c (s .0) p → Stored (s .0) (s .1) (patched p (s .1))
     stored-patch p h = record { long = patch-long p (s .1); others = λ k w. patch-away p h (s .1) k w }
 
-  pub lawful-done : (o : Light) (s : St) → Other c o (s .0) → Lawful (c .iso) quiet s → Lawful (c .iso) quiet (done-by o s)
-  lawful-done (opens e) s n l = subst (λ (d : Driver). Lawful (c .iso) quiet (d, s .1)) (open-is (s .0) e) (lawful-act c (open-oldest e) refl l)
-  lawful-done (closes e) s n l = subst (λ (d : Driver). Lawful (c .iso) quiet (d, s .1)) (close-is (s .0) e) (lawful-act c (close-oldest e) refl l)
+  pub lawful-done : (o : Light) (s : St) → Other c o (s .0) → Lawful (c .iso) quiet s
+      → Lawful (c .iso) quiet (done-by o s)
+  lawful-done (opens e) s n l = subst (λ (d : Driver). Lawful (c .iso) quiet (d, s .1)) (open-is (s .0) e)
+      (lawful-act c (open-oldest e) refl l)
+  lawful-done (closes e) s n l = subst (λ (d : Driver). Lawful (c .iso) quiet (d, s .1)) (close-is (s .0) e)
+      (lawful-act c (close-oldest e) refl l)
   lawful-done (queues e bs) s n l = lawful-act c (enqueue e bs) refl l
   lawful-done (asks-of q) s n l = l
   lawful-done (stored p) s n l = lawful-stored c l (stored-patch s p n)
 
-  pub seen-arrive : (o : Light) (s : St) → Other c o (s .0) → Lawful (c .iso) quiet s → (m : ℕ) → seen o (handOn (arrive (c .number) m) s .1) ≡ seen o s
+  pub seen-arrive : (o : Light) (s : St) → Other c o (s .0) → Lawful (c .iso) quiet s → (m : ℕ)
+      → seen o (handOn (arrive (c .number) m) s .1) ≡ seen o s
   seen-arrive o s n l m = sym (seen-touched (own-arrives c m s l) o n)

@@ -18,7 +18,8 @@ use Rattle.script_ops.specs.Rings.{St}
 use Rattle.proof_book.specs.Coupling.{endOf}
 use Rattle.proof_book.specs.FrameLaws.{Changed, same-place, end-kept}
 use Rattle.proof_book.specs.OutsLaws.{Inner}
-use Rattle.proof_isolation.specs.EqualExcept.{OtherWakes, Stays, ButBy, Beside, Lawful, Channel, LowEquiv, Touched}
+use Rattle.proof_isolation.specs.EqualExcept.{OtherWakes, Stays, ButBy, Beside, Lawful, Channel, LowEquiv}
+use Rattle.proof_isolation.specs.EqualExcept.{Touched}
 
 pub and-false : (b : Bool) → (b && false) ≡ false
 and-false true = refl
@@ -38,11 +39,24 @@ pub stays-refl : (r : EpState) → Stays r r
 stays-refl r = record { place = same-place r; plain = refl }
 
 stays-sym : {r r′ : EpState} → Stays r r′ → Stays r′ r
-stays-sym h = record { place = record { base = sym (h .place .base); stride = sym (h .place .stride); slots = sym (h .place .slots) }; plain = sym (h .plain) }
+stays-sym h = record {
+  place = record {
+    base = sym (h .place .base);
+    stride = sym (h .place .stride);
+    slots
+        = sym (h .place .slots);
+  };
+  plain = sym (h .plain);
+}
 
 stays-trans : {r r′ r″ : EpState} → Stays r r′ → Stays r′ r″ → Stays r r″
 stays-trans h k = record {
-  place = record { base = k .place .base ∙ h .place .base; stride = k .place .stride ∙ h .place .stride; slots = k .place .slots ∙ h .place .slots };
+  place = record {
+    base = k .place .base ∙ h .place .base;
+    stride = k .place .stride ∙ h .place .stride;
+    slots
+        = k .place .slots ∙ h .place .slots;
+  };
   plain = k .plain ∙ h .plain;
 }
 
@@ -81,7 +95,8 @@ module _ {W U : Wakes → Wakes → Type 0} {x : ℕ} where
     own = stays-sym (h .own);
   }
 
-  but-trans : {Y : Wakes → Wakes → Type 0} {d d′ d″ : Driver} → ButBy W x d d′ → ButBy Y x d′ d″ → U (d .wakes) (d″ .wakes) → ButBy U x d d″
+  but-trans : {Y : Wakes → Wakes → Type 0} {d d′ d″ : Driver} → ButBy W x d d′ → ButBy Y x d′ d″
+      → U (d .wakes) (d″ .wakes) → ButBy U x d d″
   but-trans h k w = record {
     globals = h .globals ∙ k .globals;
     allocator = h .allocator ∙ k .allocator;
@@ -104,14 +119,16 @@ seat : {W : Wakes → Wakes → Type 0} {x : ℕ} {d d′ : Driver} (b c : Buf) 
     → Only (epOn d Out x .base) (endOf (epOn d Out x)) b c → Only (epOn d′ Out x .base) (endOf (epOn d′ Out x)) b c
 seat {x = x} {d = d} {d′ = d′} b c h o =
     let p = h .own .place in
-    subst (λ hi. Only (epOn d′ Out x .base) hi b c) (sym (end-kept p)) (subst (λ lo. Only lo (endOf (epOn d Out x)) b c) (sym (p .base)) o)
+    subst (λ hi. Only (epOn d′ Out x .base) hi b c) (sym (end-kept p))
+    (subst (λ lo. Only lo (endOf (epOn d Out x)) b c) (sym (p .base)) o)
 
 module _ {c : Channel} {φ : Phase} where
   pub like-refl : {s : St} → Lawful (c .iso) φ s → Room (s .0 .wakes) → LowEquiv c φ s s
   like-refl {s} l r = record {
     left = l;
     right = l;
-    but = but-trans {U = OtherWakes (c .number)} (but-refl (c .number) (s .0)) (but-refl (c .number) (s .0)) (wakes-refl (c .number) (s .0 .wakes) r);
+    but = but-trans {U = OtherWakes (c .number)} (but-refl (c .number) (s .0)) (but-refl (c .number) (s .0))
+        (wakes-refl (c .number) (s .0 .wakes) r);
     bytes = only-refl _ _ (s .1);
   }
 
@@ -142,7 +159,8 @@ module _ {c : Channel} {φ : Phase} where
   touch {s} {t} {u} h k = record {
     left = h .right;
     right = k .right;
-    but = but-trans {U = OtherWakes (c .number)} (before h) (k .but) (subst (λ w. OtherWakes (c .number) w (u .0 .wakes)) (h .but .wakes) (k .but .wakes));
+    but = but-trans {U = OtherWakes (c .number)} (before h) (k .but)
+        (subst (λ w. OtherWakes (c .number) w (u .0 .wakes)) (h .but .wakes) (k .but .wakes));
     bytes = seat (t .1) (u .1) (h .but) (only-trans (only-sym (h .bytes)) (k .bytes));
   }
 

@@ -25,7 +25,7 @@ use Rattle.ring.specs.MarksSlots.{only-copied, copied-part, over-low}
 use Rattle.script.specs.IsoOut.{arriving}
 use Rattle.script.specs.Answers.{Answer}
 use Rattle.script.specs.Calls.{interrupt, aside, Aside, Open, Close}
-use Rattle.script.specs.Machine.{Buf, begin, go, Way, idle, busy}
+use Rattle.script.specs.Machine.{Buf, begin, continue, Pending, idle, busy}
 use Rattle.proof_book.specs.Coupling.{endOf}
 use Rattle.proof_book.specs.Inputs.{left, right}
 use Rattle.proof_isolation.specs.EqualExcept.{Channel}
@@ -53,7 +53,7 @@ abbrev pub same : Bool → Bool → Bool
 same true b = b
 same false b = not b
 
-abbrev pub isIdle : Way Answer Driver → Bool
+abbrev pub isIdle : Pending Answer Driver → Bool
 isIdle idle = true
 isIdle (busy i a k) = false
 
@@ -111,8 +111,8 @@ module _ (x : ℕ) where
   turnOf (reads v v′) w = goes v v′ (w .first .machine .buf) (w .second .machine .buf)
   turnOf (stored e p e′ p′) w = stores (storedOn (w .first) e p) (storedOn (w .second) e′ p′)
   turnOf (stored-both e p) w = stores (storedOn (w .first) e p) (storedOn (w .second) e p)
-  turnOf (first-goes v) w = first (record { call = go v; lent = w .first .machine .buf })
-  turnOf (second-goes v) w = second (record { call = go v; lent = w .second .machine .buf })
+  turnOf (first-goes v) w = first (record { call = continue v; lent = w .first .machine .buf })
+  turnOf (second-goes v) w = second (record { call = continue v; lent = w .second .machine .buf })
   turnOf first-opens w = first (record { call = begin (aside (Open x)); lent = w .first .machine .buf })
   turnOf first-closes w = first (record { call = begin (aside (Close x)); lent = w .first .machine .buf })
 
@@ -120,10 +120,10 @@ module _ (x : ℕ) where
   alikeAt w = same (ownAt (w .first)) (ownAt (w .second))
 
   abbrev pub fine : Move → Two → Bool
-  fine (serves st) w = alikeAt w && isIdle (w .first .machine .way)
+  fine (serves st) w = alikeAt w && isIdle (w .first .machine .under-way)
   fine (reads v v′) w =
-      not (ownAt (w .first)) && (not (ownAt (w .second)) && (not (wide (w .first .machine .way) v) &&
-      (not (wide (w .second .machine .way) v′) && bringsB (w .status) (w .first .access) v v′)))
+      not (ownAt (w .first)) && (not (ownAt (w .second)) && (not (wide (w .first .machine .under-way) v) &&
+      (not (wide (w .second .machine .under-way) v′) && bringsB (w .status) (w .first .access) v v′)))
   fine (stored e p e′ p′) w =
       alikeAt w && (roomy (w .first) e p && (roomy (w .second) e′ p′ &&
       (region (w .first) (armedOf (w .first) e) p && region (w .first) (armedOf (w .second) e′) p′)))
@@ -185,11 +185,11 @@ copied-same b c at p k f g h = elim (decLt k at) [
         (sym (getD-drop at (copied b at p) (k - at) 0) ∙ ap (λ (x : List ℕ). getD x (k - at) 0) (copied-part b at p f)
         ∙ over-low p (drop at b) (k - at) (omega arith))
 
-timely : (w : Way Answer Driver) (o : Aside) → Timely w (aside o)
+timely : (w : Pending Answer Driver) (o : Aside) → Timely w (aside o)
 timely idle o = tt
 timely (busy i a k) o = tt
 
-timely-idle : (w : Way Answer Driver) → isIdle w ≡ true → Timely w interrupt
+timely-idle : (w : Pending Answer Driver) → isIdle w ≡ true → Timely w interrupt
 timely-idle idle h = tt
 timely-idle (busy i a k) h = absurd (true≢false (sym h))
 
@@ -222,13 +222,13 @@ module _ (c : Channel) where
   brings st (Wait n) v v′ h = tt
   brings st Callback v v′ h = tt
 
-  pub brings-at : (x : Way Answer Driver) (st : ℕ) (q : Access) (v v′ : ℕ) → bringsB (c .number) st q v v′ ≡ true
+  pub brings-at : (x : Pending Answer Driver) (st : ℕ) (q : Access) (v v′ : ℕ) → bringsB (c .number) st q v v′ ≡ true
       → BringsAt c x st q v v′
   brings-at idle st q v v′ h = tt
   brings-at (busy i a k) st q v v′ h = brings st q v v′ h
 
   mine : (o : Aside) → Mine (c .number) o → (r : Run) → Alone c (begin (aside o)) (r .machine .buf) r
-  mine o m r = (passes o m, timely (r .machine .way) o, own-lent (own-lent-back c (stateOf r)))
+  mine o m r = (passes o m, timely (r .machine .under-way) o, own-lent (own-lent-back c (stateOf r)))
 
   pub sound : (m : Move) (w : Two) → fine (c .number) m w ≡ true → May c (turnOf (c .number) m w) w
   sound (serves st) w h =
@@ -236,14 +236,14 @@ module _ (c : Channel) where
       let o′ = atOwn c (w .second) in (
         same-is o o′ (left (same o o′) _ h),
         tt,
-        timely-idle (w .first .machine .way) (right (same o o′) _ h),
+        timely-idle (w .first .machine .under-way) (right (same o o′) _ h),
         call-lent (lent-back c (stateOf (w .first)) (stateOf (w .second))),
       )
   sound (reads v v′) w h =
       let o = atOwn c (w .first) in
       let o′ = atOwn c (w .second) in
-      let z = wide (w .first .machine .way) v in
-      let z′ = wide (w .second .machine .way) v′ in
+      let z = wide (w .first .machine .under-way) v in
+      let z′ = wide (w .second .machine .under-way) v′ in
       let h1 = right (not o) _ h in
       let h2 = right (not o′) _ h1 in
       let h3 = right (not z) _ h2 in (
@@ -251,7 +251,7 @@ module _ (c : Channel) where
         off o′ (left (not o′) _ h1),
         go-on (off z (left (not z) _ h2))
             (off z′ (left (not z′) _ h3))
-            (brings-at (w .first .machine .way) (w .status) (w .first .access) v v′ (right (not z′) _ h3))
+            (brings-at (w .first .machine .under-way) (w .status) (w .first .access) v v′ (right (not z′) _ h3))
             (lent-back c (stateOf (w .first)) (stateOf (w .second))),
       )
   sound (stored e p e′ p′) w h =

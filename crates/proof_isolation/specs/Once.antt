@@ -12,14 +12,14 @@ use Rattle.state.specs.Driver.{Driver}
 use Rattle.script.specs.Statics.{flag}
 use Rattle.script.specs.Answers.{Answer, Refused}
 use Rattle.script.specs.Calls.{Config, Op, interrupt, aside, Open, Close, calls, startRow}
-use Rattle.script.specs.Machine.{Buf, Call, start, begin, go, question, pending, Event, ended}
-use Rattle.script.specs.Machine.{Way, idle, busy, Machine, misfit, lentTo}
+use Rattle.script.specs.Machine.{Buf, Call, start, begin, continue, question, pending, Event, ended}
+use Rattle.script.specs.Machine.{Pending, idle, busy, Machine, misfit, lentTo}
 use Rattle.machine.specs.Suspended.{driverOf, drive}
-use Rattle.answer.specs.Goes.{Called}
+use Rattle.answer.specs.Goes.{StepResult}
 use Rattle.calls.specs.Sharing.{sortOf, timeAfter, turnedDown}
 use Rattle.proof_book.specs.Pages.{Pages}
 use Rattle.proof_book.specs.Book.{book}
-use Rattle.proof_book.specs.FrontPage.{Chip, unless, LentAsLeft}
+use Rattle.proof_book.specs.FrontPage.{Chip, whenNot, BufferPreserved}
 use Rattle.proof_book.specs.MachineRuns.{Premise}
 use Rattle.proof_book.specs.Sorting.{sortsOf}
 use Rattle.proof_isolation.specs.EqualExcept.{Channel}
@@ -39,7 +39,7 @@ earlies (c ∷ cs) r =
     gets (record { call = c; lent = r .machine .buf }) ∷ earlies cs (called false 0 c (r .machine .buf) r)
 
 -- what a call is, by whether it is turned down
-abbrev byDown : Call Config Op → Buf → Run → Bool → Called × List ℕ
+abbrev byDown : Call Config Op → Buf → Run → Bool → StepResult × List ℕ
 byDown c b r d = cond d ((ended (Refused 19), lentTo calls driverOf (r .machine) b), r .time)
     (drive c (r .machine) b, timeAfter 0 (sortOf c) (drive c (r .machine) b .0) (r .machine .st) (r .time))
 
@@ -53,15 +53,15 @@ lentBack c r = record { call = c; lent = r .machine .buf }
 no-store : (t : Pages) (b : Buf) → Chip t b b
 no-store t b = record { long = refl; others = λ k e. refl }
 
-granted : (g : Bool) {X : Type 0} → X → unless g X
+granted : (g : Bool) {X : Type 0} → X → whenNot g X
 granted true x = tt
 granted false x = x
 
-as-left : (c : Call Config Op) (n : Machine Answer Pages) (b : Buf) → LentAsLeft c n b b
+as-left : (c : Call Config Op) (n : Machine Answer Pages) (b : Buf) → BufferPreserved c n b b
 as-left (start k) n b = tt
 as-left (begin o) n b =
     granted (cond (calls .slots o) (misfit calls (book .driver) (n .st) b) false) (no-store (n .st) b)
-as-left (go v) n b = granted (misfit calls (book .driver) (n .st) b) (no-store (n .st) b)
+as-left (continue v) n b = granted (misfit calls (book .driver) (n .st) b) (no-store (n .st) b)
 as-left (question q) n b = no-store (n .st) b
 
 abbrev Meets : List (Call Config Op) → Run → Machine Answer Pages → Type 0
@@ -142,7 +142,7 @@ flag-off : (b : Bool) → flag b ≡ 0 → b ≡ false
 flag-off true h = absurd (omega (arith, h))
 flag-off false h = refl
 
-idle-is : (x : Way Answer Driver) → isIdle x ≡ true → x ≡ idle
+idle-is : (x : Pending Answer Driver) → isIdle x ≡ true → x ≡ idle
 idle-is idle h = refl
 idle-is (busy i a k) h = absurd (true≢false (sym h))
 
@@ -156,14 +156,24 @@ module _ (x : ℕ) where
   quickTurn (serves st) w = record {
     first = quickly (begin interrupt) (w .first);
     second = quickly (begin interrupt) (w .second);
-    status = statusOf (w .first .machine .way) st (w .status);
+    status = statusOf (w .first .machine .under-way) st (w .status);
   }
   quickTurn (reads v v′) w =
-      record { first = quickly (go v) (w .first); second = quickly (go v′) (w .second); status = w .status }
+      record { first = quickly (continue v) (w .first); second = quickly (continue v′) (w .second); status = w .status }
   quickTurn (stored e p e′ p′) w = turn false 0 (turnOf x (stored e p e′ p′) w) w
   quickTurn (stored-both e p) w = turn false 0 (turnOf x (stored-both e p) w) w
-  quickTurn (first-goes v) w = record { first = quickly (go v) (w .first); second = w .second; status = w .status }
-  quickTurn (second-goes v) w = record { first = w .first; second = quickly (go v) (w .second); status = w .status }
+  quickTurn (first-goes v) w = record {
+    first = quickly (continue v) (w .first);
+    second = w .second;
+    status
+        = w .status;
+  }
+  quickTurn (second-goes v) w = record {
+    first = w .first;
+    second = quickly (continue v) (w .second);
+    status
+        = w .status;
+  }
   quickTurn first-opens w =
       record { first = quickOwn (begin (aside (Open x))) (w .first); second = w .second; status = w .status }
   quickTurn first-closes w =
@@ -171,11 +181,11 @@ module _ (x : ℕ) where
 
   turn-is : (m : Move) (w : Two) → turn false 0 (turnOf x m w) w ≡ quickTurn m w
   turn-is (serves st) w = two-is (quickly-is (begin interrupt) (w .first)) (quickly-is (begin interrupt) (w .second)) _
-  turn-is (reads v v′) w = two-is (quickly-is (go v) (w .first)) (quickly-is (go v′) (w .second)) _
+  turn-is (reads v v′) w = two-is (quickly-is (continue v) (w .first)) (quickly-is (continue v′) (w .second)) _
   turn-is (stored e p e′ p′) w = refl
   turn-is (stored-both e p) w = refl
-  turn-is (first-goes v) w = two-is (quickly-is (go v) (w .first)) refl _
-  turn-is (second-goes v) w = two-is refl (quickly-is (go v) (w .second)) _
+  turn-is (first-goes v) w = two-is (quickly-is (continue v) (w .first)) refl _
+  turn-is (second-goes v) w = two-is refl (quickly-is (continue v) (w .second)) _
   turn-is first-opens w = two-is (own-is (aside (Open x)) (w .first)) refl _
   turn-is first-closes w = two-is (own-is (aside (Close x)) (w .first)) refl _
 
@@ -237,7 +247,7 @@ module _ (k : Config) (b : Buf) (cs : List (Call Config Op)) (ms : List Move) (r
   summed r =
       let d = r .machine .st in
       startRow k b ∷ flag (sortsOf d Out 1) ∷ flag (sortsOf d Out 0) ∷ flag (sortsOf d In 0) ∷
-      flag (isIdle (r .machine .way)) ∷ d .globals .stage ∷ tested 1 ms (parting r)
+      flag (isIdle (r .machine .under-way)) ∷ d .globals .stage ∷ tested 1 ms (parting r)
 
   -- all as it should be: EP0's stage is 2 after its start
   abbrev pub passing : List ℕ

@@ -18,7 +18,7 @@ use Rattle.state.specs.declared.Globals.{Globals}
 use Rattle.script.specs.Answers.{Answer, isNumber}
 use Rattle.script.specs.Statics.{flag}
 use Rattle.script.specs.Simulates.{Phase}
-use Rattle.script.specs.Machine.{Question, pending, overruns, enabled, Way}
+use Rattle.script.specs.Machine.{Question, pending, overruns, enabled, Pending}
 use Rattle.proof_wake_ups.specs.Twins.{Short}
 use Rattle.answer.specs.Questions.{pendingOn, overrunsOf, overrunsOn, enabledAsked, questionOf}
 use Rattle.script_ops.specs.Rings.{St}
@@ -32,7 +32,8 @@ use Rattle.proof_isolation.specs.ValuesLaws.{in-other}
 module _ {c : Channel} {φ : Phase} {s t : St} (l : LowEquiv c φ s t) where
   -- the packets that wait, tail to head, each with its bytes
   pub same-queue : (dir : Dir) (e : ℕ) → key dir e ≢ key Out (c .number)
-      → waiting (s .1) (epOn (s .0) dir e) (lensOf (s .0) dir e) ≡ waiting (t .1) (epOn (t .0) dir e) (lensOf (t .0) dir e)
+      → waiting (s .1) (epOn (s .0) dir e) (lensOf (s .0) dir e)
+      ≡ waiting (t .1) (epOn (t .0) dir e) (lensOf (t .0) dir e)
   same-queue Out e n =
       let f = l .left .rest .outs e .held in
       sym (waiting-outside (f .placed) (f .ring) (s .1) (t .1) (others-same l Out e _ _ n (omega arith) (omega arith)))
@@ -41,12 +42,14 @@ module _ {c : Channel} {φ : Phase} {s t : St} (l : LowEquiv c φ s t) where
   same-queue In e n =
       let f = l .left .rest .ins e .held in
       sym (waiting-outside (f .placed) (f .ring) (s .1) (t .1) (others-same l In e _ _ n (omega arith) (omega arith)))
-      ∙ ap (λ (r : EpState). waiting (t .1) r (lensOf (s .0) In e)) (l .but .eps In e n) ∙ ap (λ m. waiting (t .1) (epOn (t .0) In e) m) (l .but .lens In e n)
+      ∙ ap (λ (r : EpState). waiting (t .1) r (lensOf (s .0) In e)) (l .but .eps In e n)
+      ∙ ap (λ m. waiting (t .1) (epOn (t .0) In e) m) (l .but .lens In e n)
 
   -- their stamps
   pub same-stamps : (e : ℕ) → key Out e ≢ key Out (c .number)
       → stamped (epOn (s .0) Out e) (slotStamps (s .0) e) ≡ stamped (epOn (t .0) Out e) (slotStamps (t .0) e)
-  same-stamps e n = ap (λ (r : EpState). stamped r (slotStamps (s .0) e)) (l .but .eps Out e n) ∙ ap (λ m. stamped (epOn (t .0) Out e) m) (l .but .stamps e n)
+  same-stamps e n = ap (λ (r : EpState). stamped r (slotStamps (s .0) e)) (l .but .eps Out e n)
+      ∙ ap (λ m. stamped (epOn (t .0) Out e) m) (l .but .stamps e n)
 
   -- the bytes of its slots
   pub same-bytes : (dir : Dir) (e k : ℕ) → key dir e ≢ key Out (c .number)
@@ -54,7 +57,8 @@ module _ {c : Channel} {φ : Phase} {s t : St} (l : LowEquiv c φ s t) where
   same-bytes dir e k n p q = sym (others-same l dir e _ _ n (omega arith) (omega arith) k p q)
 
   -- the packets turned away
-  pub same-overruns : (e : ℕ) → key Out e ≢ key Out (c .number) → epOn (s .0) Out e .overruns ≡ epOn (t .0) Out e .overruns
+  pub same-overruns : (e : ℕ) → key Out e ≢ key Out (c .number) → epOn (s .0) Out e .overruns
+      ≡ epOn (t .0) Out e .overruns
   same-overruns e n = ap (λ (r : EpState). r .overruns) (l .but .eps Out e n)
 
   -- the wake-ups gathered so far, of all others and of the bus, in their order
@@ -63,14 +67,16 @@ module _ {c : Channel} {φ : Phase} {s t : St} (l : LowEquiv c φ s t) where
 
   pub same-answers : (q : Question) → Asked c q → questionOf q (s .0) ≡ questionOf q (t .0)
   unfolding pendingOn overrunsOn enabledAsked
-  same-answers (pending e) n = ap (λ (r : EpState). cond (isNumber e) (countOf r) 0) (l .but .eps In e (in-other (c .number) e))
+  same-answers (pending e) n = ap (λ (r : EpState). cond (isNumber e) (countOf r) 0)
+      (l .but .eps In e (in-other (c .number) e))
   same-answers (overruns e) n = ap (λ (r : EpState). cond (isNumber e) (overrunsOf r) 0) (l .but .eps Out e n)
-  same-answers (enabled dir e) n = ap (λ (g : Globals). flag (cond (isNumber e) (enables.isOn (g .«ep_config») dir e) false)) (l .but .globals)
+  same-answers (enabled dir e) n = ap (λ (g : Globals). flag
+      (cond (isNumber e) (enables.isOn (g .«ep_config») dir e) false)) (l .but .globals)
 
 -- the wake-ups without a premise where there is room for more, which there is in every run (`proof_wake_ups`)
 pub same-others : {c : Channel} {φ : Phase} {s t : St}
-    → LowEquiv c φ s t → Short (listed (s .0 .wakes)) → Short (listed (t .0 .wakes)) → {w w′ : Way Answer Driver}
-    → SameOthers c (record { way = w; st = s .0; buf = s .1 }) (record { way = w′; st = t .0; buf = t .1 })
+    → LowEquiv c φ s t → Short (listed (s .0 .wakes)) → Short (listed (t .0 .wakes)) → {w w′ : Pending Answer Driver}
+    → SameOthers c (record { under-way = w; st = s .0; buf = s .1 }) (record { under-way = w′; st = t .0; buf = t .1 })
 same-others l p q = record {
   queue = same-queue l;
   stamps = same-stamps l;

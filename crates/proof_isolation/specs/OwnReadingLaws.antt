@@ -49,13 +49,15 @@ module _ (c : Channel) (e : ℕ) (p : key Out e ≡ key Out (c .number)) where
 
   module _ (s : St) (l : Lawful (c .iso) quiet s) where
     own-record : (r : EpState) → Stays (epOn (s .0) Out e) r → Beside (c .number) (s .0) (withOn (s .0) Out e r)
-    own-record r k = own-changed (changed-key p (changed-on (l .rest .sized) Out e r (k .place) (ap (λ (q : EpCore). q .iso) (k .plain))))
+    own-record r k = own-changed (changed-key p (changed-on (l .rest .sized) Out e r (k .place)
+        (ap (λ (q : EpCore). q .iso) (k .plain))))
         (rw (
           key-ep (s .0) Out Out (c .number) e (sym p),
           key-ep (withOn (s .0) Out e r) Out Out (c .number) e (sym p) ∙ epOn-same (s .0) Out e r (l .rest .sized),
         ) k)
 
-    own-cond : (u : Bool) (r : EpState) → Stays (epOn (s .0) Out e) r → Beside (c .number) (s .0) (cond u (withOn (s .0) Out e r) (s .0))
+    own-cond : (u : Bool) (r : EpState) → Stays (epOn (s .0) Out e) r
+        → Beside (c .number) (s .0) (cond u (withOn (s .0) Out e r) (s .0))
     own-cond true r k = own-record r k
     own-cond false r k = but-refl (c .number) (s .0)
 
@@ -73,7 +75,8 @@ module _ (c : Channel) (e : ℕ) (p : key Out e ≡ key Out (c .number)) where
     takes = record {
       left = l;
       right = lawful-act c (take-oldest e) refl l;
-      but = own-cond (hasWaiting (epOn (s .0) Out e)) _ (record { place = record { base = refl; stride = refl; slots = refl }; plain = refl });
+      but = own-cond (hasWaiting (epOn (s .0) Out e)) _
+          (record { place = record { base = refl; stride = refl; slots = refl }; plain = refl });
       bytes = only-refl _ _ (s .1);
     }
 
@@ -102,7 +105,8 @@ module _ (c : Channel) (e : ℕ) (p : key Out e ≡ key Out (c .number)) where
     b-take-iso : (n : ℕ) → Brief T (take-iso e n)
     b-take-iso n = b-bind (b-get globals-cell) (λ g. b-test _
         (b-bind (b-is (waiting Out e)) (λ b. b-test b
-        (b-bind (b-fetch (oldest e)) (λ w. b-bind (b-act (take-oldest e) (λ t k. touched-trans k (takes t (k .right)))) (λ _. b-ends _)))
+        (b-bind (b-fetch (oldest e)) (λ w. b-bind (b-act (take-oldest e) (λ t k. touched-trans k (takes t (k .right))))
+        (λ _. b-ends _)))
         (b-ret _)))
         (b-ends _))
 
@@ -120,5 +124,6 @@ module _ (c : Channel) (e : ℕ) (p : key Out e ≡ key Out (c .number)) where
         (b-ret _)))
         (b-ret _))
 
-  pub own-polls : (n : ℕ) (s : St) → Lawful (c .iso) quiet s → Finished (Touched c quiet s) (run {i = false} concrete (pollRead e n) s)
+  pub own-polls : (n : ℕ) (s : St) → Lawful (c .iso) quiet s
+      → Finished (Touched c quiet s) (run {i = false} concrete (pollRead e n) s)
   own-polls n s l = b-poll s n .on s (touched-refl l)

@@ -53,7 +53,8 @@ module _ (c : Channel) (n : ℕ) (s : St) (l : Lawful (c .iso) quiet s) where
       subst (λ q. Inner r q) (sym (after-ep (l .rest .sized) x n))
       (record { place = place-trans (k .place) (armed-alike _ _ .place); plain = armed-plain _ _ ∙ k .plain })
 
-  own-marks : receives d x ≡ true → Only (epOn d Out x .base) (endOf (epOn d Out x)) (s .1) (marks (epOn (admits d x n) Out x) (s .1))
+  own-marks : receives d x ≡ true → Only (epOn d Out x .base) (endOf (epOn d Out x)) (s .1)
+      (marks (epOn (admits d x n) Out x) (s .1))
   own-marks u =
       let r = epOn d Out x in
       let r1 = epOn (admits d x n) Out x in
@@ -89,7 +90,8 @@ rest-of e v = test (arriving v e) done (look (marked e) >>= λ n. arrives e n)
 
 -- the check, by whether the first word changed and the length came with the entry
 abbrev checks : {A : Type 0} → ℕ → Transfer → (St → tree.Out St A) → Bool → Bool → St → tree.Out St A
-checks x y f b e s = bindOut (run concrete (when b (test e (arrives x (y .len)) (read IntSt 0 >>= rest-of x))) s) (λ _ z. f z)
+checks x y f b e s = bindOut (run concrete (when b (test e (arrives x (y .len)) (read IntSt 0 >>= rest-of x))) s)
+    (λ _ z. f z)
 
 -- what goes on after its receive address, and after the status reading; `f`: what follows the check
 abbrev woken : {A : Type 0} → ℕ → (St → tree.Out St A) → ℕ → St → tree.Out St A
@@ -118,12 +120,15 @@ module _ {c : Channel} {st : ℕ} {A B : Type 0} (Q : A → B → Type 0) (f : S
   past-past : {s t : St} → LowEquiv c quiet s t → ApartBy c st true Q true (f s) (g t)
   past-past l = apart-later (h _ _ l)
 
-  receive-past : (y : ℕ) {s t : St} → LowEquiv c quiet s t → ApartBy c st true Q true (at-receive (c .number) f y s) (g t)
-  receive-past y l = left (refl, λ _. receive) (past-of refl (h _ _ l)) (l .left) (λ v s m. past-past (own-wake c (touch m l)))
+  receive-past : (y : ℕ) {s t : St} → LowEquiv c quiet s t
+      → ApartBy c st true Q true (at-receive (c .number) f y s) (g t)
+  receive-past y l = left (refl, λ _. receive) (past-of refl (h _ _ l)) (l .left)
+      (λ v s m. past-past (own-wake c (touch m l)))
 
   -- what the status says decides
   rest-past : (b : Bool) (n : ℕ) {s t : St} → LowEquiv c quiet s t
-      → ApartBy c st true Q true (bindOut (run {i = true} concrete (test b done (arrives (c .number) n)) s) (λ _ z. f z)) (g t)
+      → ApartBy c st true Q true (bindOut (run {i = true} concrete (test b done (arrives (c .number) n)) s)
+      (λ _ z. f z)) (g t)
   rest-past true n l = past-past l
   rest-past false n l = receive-past _ (arrived n l)
 
@@ -138,46 +143,55 @@ module _ {c : Channel} {st : ℕ} {A B : Type 0} {Q : A → B → Type 0} {f : S
 
 module _ {c : Channel} {st : ℕ} {A B : Type 0} (Q : A → B → Type 0) (f : St → tree.Out St A)
     (g : St → tree.Out St B) (h : (s t : St) → LowEquiv c quiet s t → Apart c st true Q (f s) (g t)) where
-  past-receive : (y : ℕ) {s t : St} → LowEquiv c quiet s t → ApartBy c st true Q true (f s) (at-receive (c .number) g y t)
+  past-receive : (y : ℕ) {s t : St} → LowEquiv c quiet s t
+      → ApartBy c st true Q true (f s) (at-receive (c .number) g y t)
   past-receive y l = apart-flip (receive-past (λ b a. Q a b) g f (flipped h) y (like-sym l))
 
   past-status : {s t : St} → LowEquiv c quiet s t → ApartBy c st true Q true (f s) (at-status (c .number) g t)
   past-status l = apart-flip (status-past (λ b a. Q a b) g f (flipped h) (like-sym l))
 
-  receive-receive : (y y′ : ℕ) {s t : St} → LowEquiv c quiet s t → ApartBy c st true Q true (at-receive (c .number) f y s) (at-receive (c .number) g y′ t)
+  receive-receive : (y y′ : ℕ) {s t : St} → LowEquiv c quiet s t
+      → ApartBy c st true Q true (at-receive (c .number) f y s) (at-receive (c .number) g y′ t)
   receive-receive y y′ l = owns (refl, λ _. receive) (refl, λ _. receive) l (λ v s t m. past-receive y′ (own-wake c m))
       (λ v s t m. receive-past Q f g h y (like-sym (own-wake c (like-sym m))))
 
   rest-receive : (b : Bool) (n y : ℕ) {s t : St} → LowEquiv c quiet s t → ApartBy c st true Q true
-      (bindOut (run {i = true} concrete (test b done (arrives (c .number) n)) s) (λ _ z. f z)) (at-receive (c .number) g y t)
+      (bindOut (run {i = true} concrete (test b done (arrives (c .number) n)) s) (λ _ z. f z))
+      (at-receive (c .number) g y t)
   rest-receive true n y l = past-receive y l
   rest-receive false n y l = receive-receive _ y (arrived Q f g h n l)
 
-  status-receive : (y : ℕ) {s t : St} → LowEquiv c quiet s t → ApartBy c st true Q true (at-status (c .number) f s) (at-receive (c .number) g y t)
+  status-receive : (y : ℕ) {s t : St} → LowEquiv c quiet s t
+      → ApartBy c st true Q true (at-status (c .number) f s) (at-receive (c .number) g y t)
   status-receive y l = owns (refl, λ s. rest-its (c .number) f s) (refl, λ _. receive) l
       (λ v s t m. rest-receive (arriving v (c .number)) (lookOf (marked (c .number)) s) y m)
       (λ v s t m. status-past Q f g h (like-sym (own-wake c (like-sym m))))
 
 module _ {c : Channel} {st : ℕ} {A B : Type 0} (Q : A → B → Type 0) (f : St → tree.Out St A)
     (g : St → tree.Out St B) (h : (s t : St) → LowEquiv c quiet s t → Apart c st true Q (f s) (g t)) where
-  receive-status : (y : ℕ) {s t : St} → LowEquiv c quiet s t → ApartBy c st true Q true (at-receive (c .number) f y s) (at-status (c .number) g t)
+  receive-status : (y : ℕ) {s t : St} → LowEquiv c quiet s t
+      → ApartBy c st true Q true (at-receive (c .number) f y s) (at-status (c .number) g t)
   receive-status y l = apart-flip (status-receive (λ b a. Q a b) g f (flipped h) y (like-sym l))
 
   rest-status : (b : Bool) (n : ℕ) {s t : St} → LowEquiv c quiet s t → ApartBy c st true Q true
-      (bindOut (run {i = true} concrete (test b done (arrives (c .number) n)) s) (λ _ z. f z)) (at-status (c .number) g t)
+      (bindOut (run {i = true} concrete (test b done (arrives (c .number) n)) s) (λ _ z. f z))
+      (at-status (c .number) g t)
   rest-status true n l = past-status Q f g h l
   rest-status false n l = receive-status _ (arrived Q f g h n l)
 
 module _ {c : Channel} {st : ℕ} {A B : Type 0} (Q : A → B → Type 0) (f : St → tree.Out St A)
     (g : St → tree.Out St B) (h : (s t : St) → LowEquiv c quiet s t → Apart c st true Q (f s) (g t)) where
-  status-status : {s t : St} → LowEquiv c quiet s t → ApartBy c st true Q true (at-status (c .number) f s) (at-status (c .number) g t)
+  status-status : {s t : St} → LowEquiv c quiet s t → ApartBy c st true Q true (at-status (c .number) f s)
+      (at-status (c .number) g t)
   status-status l = owns (refl, λ s. rest-its (c .number) f s) (refl, λ s. rest-its (c .number) g s) l
       (λ v s t m. rest-status Q f g h (arriving v (c .number)) (lookOf (marked (c .number)) s) m)
-      (λ v s t m. apart-flip (rest-status (λ b a. Q a b) g f (flipped h) (arriving v (c .number)) (lookOf (marked (c .number)) t) (like-sym m)))
+      (λ v s t m. apart-flip (rest-status (λ b a. Q a b) g f (flipped h) (arriving v (c .number))
+      (lookOf (marked (c .number)) t) (like-sym m)))
 
   -- the one at its check's begin, the other past, at its receive address, at its status reading
   module _ (y : Transfer) where
-    check-past : (b e : Bool) {s t : St} → LowEquiv c quiet s t → ApartBy c st true Q true (checks (c .number) y f b e s) (g t)
+    check-past : (b e : Bool) {s t : St} → LowEquiv c quiet s t
+        → ApartBy c st true Q true (checks (c .number) y f b e s) (g t)
     check-past false e l = past-past Q f g h l
     check-past true true l = receive-past Q f g h _ (arrived Q f g h (y .len) l)
     check-past true false l = status-past Q f g h l
@@ -188,7 +202,8 @@ module _ {c : Channel} {st : ℕ} {A B : Type 0} (Q : A → B → Type 0) (f : S
     check-receive z true true l = receive-receive Q f g h _ z (arrived Q f g h (y .len) l)
     check-receive z true false l = status-receive Q f g h z l
 
-    check-status : (b e : Bool) {s t : St} → LowEquiv c quiet s t → ApartBy c st true Q true (checks (c .number) y f b e s) (at-status (c .number) g t)
+    check-status : (b e : Bool) {s t : St} → LowEquiv c quiet s t
+        → ApartBy c st true Q true (checks (c .number) y f b e s) (at-status (c .number) g t)
     check-status false e l = past-status Q f g h l
     check-status true true l = receive-status Q f g h _ (arrived Q f g h (y .len) l)
     check-status true false l = status-status l
@@ -196,9 +211,11 @@ module _ {c : Channel} {st : ℕ} {A B : Type 0} (Q : A → B → Type 0) (f : S
 -- in both: the two checks need not go alike
 module _ {c : Channel} {st : ℕ} {A B : Type 0} (Q : A → B → Type 0) (f : St → tree.Out St A) (g : St → tree.Out St B)
     (h : (s t : St) → LowEquiv c quiet s t → Apart c st true Q (f s) (g t)) (y y′ : Transfer) where
-  check-check : (b b′ e e′ : Bool) {s t : St} → LowEquiv c quiet s t → ApartBy c st true Q true (checks (c .number) y f b e s) (checks (c .number) y′ g b′ e′ t)
+  check-check : (b b′ e e′ : Bool) {s t : St} → LowEquiv c quiet s t
+      → ApartBy c st true Q true (checks (c .number) y f b e s) (checks (c .number) y′ g b′ e′ t)
   check-check b false e e′ l = check-past Q f g h y b e l
-  check-check b true e true {s} {t} l = check-receive Q f g h y _ b e (like-sym (arrived (λ b a. Q a b) g f (flipped h) (y′ .len) (like-sym l)))
+  check-check b true e true {s} {t} l = check-receive Q f g h y _ b e
+      (like-sym (arrived (λ b a. Q a b) g f (flipped h) (y′ .len) (like-sym l)))
   check-check b true e false l = check-status Q f g h y b e l
 
 pub p-own-check : {c : Channel} {st : ℕ} {A B : Type 0} {Q : A → B → Type 0}
@@ -206,5 +223,6 @@ pub p-own-check : {c : Channel} {st : ℕ} {A B : Type 0} {Q : A → B → Type 
     → Pair c st Q p p′ → PairBy c st true Q (checkOne y iso (c .number) >> p) (checkOne y′ iso (c .number) >> p′)
 p-own-check {c} {Q = Q} y y′ iso {p} {p′} h = record {
   on = λ s t l. check-check Q (λ z. run concrete p z) (λ z. run concrete p′ z) (λ s t l. h .on s t l) y y′
-      (isOf (changed (c .number)) s) (isOf (changed (c .number)) t) (entry y iso (c .number)) (entry y′ iso (c .number)) l;
+      (isOf (changed (c .number)) s) (isOf (changed (c .number)) t) (entry y iso (c .number)) (entry y′ iso (c .number))
+      l;
 }

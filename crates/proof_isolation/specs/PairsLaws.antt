@@ -102,28 +102,34 @@ module _ {ch : Channel} {st : ℕ} where
   apart-more f (both φ w p p′ l k) = both φ w p p′ l (λ v v′ s t b r. apart-more f (k v v′ s t b r))
   apart-more f (left w p z k) = left w p z (λ v s l. apart-more f (k v s l))
   apart-more f (right w p z k) = right w p z (λ v t l. apart-more f (k v t l))
-  apart-more f (owns w w′ l k k′) = owns w w′ l (λ v s t r. apart-more f (k v s t r)) (λ v s t r. apart-more f (k′ v s t r))
+  apart-more f (owns w w′ l k k′) = owns w w′ l (λ v s t r. apart-more f (k v s t r))
+      (λ v s t r. apart-more f (k′ v s t r))
 
   -- either run may be named first
   unfoldable pub apart-flip : {m i : Bool} {A B : Type 0} {Q : A → B → Type 0} {o : Out St A} {u : Out St B}
       → ApartBy ch st i Q m o u → ApartBy ch st i (λ b a. Q a b) m u o
   apart-flip (end q l) = end q (like-sym l)
   apart-flip (both {q = q} φ f p p′ l k) =
-      both φ f p′ p (like-sym l) (λ v v′ s t b r. apart-flip (k v′ v t s (brings-sym (ch .number) st q v v′ b) (like-sym r)))
+      both φ f p′ p (like-sym l) (λ v v′ s t b r. apart-flip
+      (k v′ v t s (brings-sym (ch .number) st q v v′ b) (like-sym r)))
   apart-flip (left w p z k) = right w p z (λ v s l. apart-flip (k v s l))
   apart-flip (right w p z k) = left w p z (λ v t l. apart-flip (k v t l))
-  apart-flip (owns w w′ l k k′) = owns w′ w (like-sym l) (λ v t s r. apart-flip (k′ v s t (like-sym r))) (λ v t s r. apart-flip (k v s t (like-sym r)))
+  apart-flip (owns w w′ l k k′) = owns w′ w (like-sym l) (λ v t s r. apart-flip (k′ v s t (like-sym r)))
+      (λ v t s r. apart-flip (k v s t (like-sym r)))
 
-  pub apart-later : {m i : Bool} {A B : Type 0} {Q : A → B → Type 0} {o : Out St A} {u : Out St B} → Apart ch st i Q o u → ApartBy ch st i Q m o u
+  pub apart-later : {m i : Bool} {A B : Type 0} {Q : A → B → Type 0} {o : Out St A} {u : Out St B} → Apart ch st i Q o u
+      → ApartBy ch st i Q m o u
   apart-later (end q l) = end q l
   apart-later (both φ f p p′ l k) = both φ f p p′ l (λ v v′ s t b r. apart-later (k v v′ s t b r))
 
   -- where no access of x's own comes any more, none is handed out
-  pub past-of : {i : Bool} {A B : Type 0} {Q : A → B → Type 0} {o : Out St A} {u : Out St B} → i ≡ true → Apart ch st i Q o u → Past (ch .number) u
+  pub past-of : {i : Bool} {A B : Type 0} {Q : A → B → Type 0} {o : Out St A} {u : Out St B} → i ≡ true
+      → Apart ch st i Q o u → Past (ch .number) u
   past-of e (end q l) = gone
   past-of e (both φ f p p′ l k) = waits (p′ e)
 
-  met : {m i : Bool} {A B : Type 0} {P : A → B → Type 0} {o : Out St A} {b : B} {t : St} → ApartBy ch st i P m o (ends b t) → Met ch P b t
+  met : {m i : Bool} {A B : Type 0} {P : A → B → Type 0} {o : Out St A} {b : B} {t : St}
+      → ApartBy ch st i P m o (ends b t) → Met ch P b t
   met (end q l) = record { value = _; state = _; holds = q; like = l }
   met (left {s = s} w p z k) = met (k sof s (touched-refl z))
 
@@ -138,7 +144,8 @@ module _ {ch : Channel} {st : ℕ} where
   -- x's own accesses come after
   apart-bind : {m i : Bool} {A B C D : Type 0} {P : A
       → B → Type 0} {Q : C → D → Type 0} {o : Out St A} {u : Out St B} {f : A → St → Out St C} {g : B → St → Out St D}
-      → Apart ch st i P o u → ((a : A) (b : B) (s t : St) → P a b → LowEquiv ch quiet s t → ApartBy ch st i Q m (f a s) (g b t))
+      → Apart ch st i P o u → ((a : A) (b : B) (s t : St) → P a b → LowEquiv ch quiet s t
+      → ApartBy ch st i Q m (f a s) (g b t))
       → ApartBy ch st i Q m (bindOut o f) (bindOut u g)
   apart-bind (end q l) h = h _ _ _ _ q l
   apart-bind {f = f} {g = g} (both φ z p p′ l k) h = both φ z
@@ -147,7 +154,8 @@ module _ {ch : Channel} {st : ℕ} where
   -- or before
   apart-before : {m i : Bool} {A B C D : Type 0} {P : A
       → B → Type 0} {Q : C → D → Type 0} {o : Out St A} {u : Out St B} {f : A → St → Out St C} {g : B → St → Out St D}
-      → ApartBy ch st i P m o u → ((a : A) (b : B) (s t : St) → P a b → LowEquiv ch quiet s t → Apart ch st i Q (f a s) (g b t))
+      → ApartBy ch st i P m o u → ((a : A) (b : B) (s t : St) → P a b → LowEquiv ch quiet s t
+      → Apart ch st i Q (f a s) (g b t))
       → ApartBy ch st i Q m (bindOut o f) (bindOut u g)
   apart-before (end q l) h = apart-later (h _ _ _ _ q l)
   apart-before {f = f} {g = g} (both φ z p p′ l k) h = both φ z (λ e s. another-bind f (p e s))
@@ -155,22 +163,27 @@ module _ {ch : Channel} {st : ℕ} where
   apart-before {f = f} (left {s = s} w p z k) h = left (w .0, λ s. its-bind f (w .1 s))
       (past-after (w .0) (k sof s (touched-refl z)) p h) z (λ v s l. apart-before (k v s l) h)
   apart-before {g = g} (right {t = t} w p z k) h = right (w .0, λ s. its-bind g (w .1 s))
-      (past-after (w .0) (apart-flip (k sof t (touched-refl z))) p (λ b a t s q l. apart-flip (h a b s t q (like-sym l)))) z
+      (past-after (w .0) (apart-flip (k sof t (touched-refl z))) p
+      (λ b a t s q l. apart-flip (h a b s t q (like-sym l)))) z
       (λ v t l. apart-before (k v t l) h)
-  apart-before {f = f} {g = g} (owns w w′ l k k′) h = owns (w .0, λ s. its-bind f (w .1 s)) (w′ .0, λ s. its-bind g (w′ .1 s)) l
+  apart-before {f = f} {g = g} (owns w w′ l k k′) h = owns (w .0, λ s. its-bind f (w .1 s))
+      (w′ .0, λ s. its-bind g (w′ .1 s)) l
       (λ v s t r. apart-before (k v s t r) h) (λ v s t r. apart-before (k′ v s t r) h)
 
   -- ---- composed scripts
 
-  pub p-later : {m i : Bool} {A B : Type 0} {Q : A → B → Type 0} {p : Script i A} {p′ : Script i B} → Pair ch st Q p p′ → PairBy ch st m Q p p′
+  pub p-later : {m i : Bool} {A B : Type 0} {Q : A → B → Type 0} {p : Script i A} {p′ : Script i B} → Pair ch st Q p p′
+      → PairBy ch st m Q p p′
   p-later h = record { on = λ s t l. apart-later (h .on s t l) }
 
   module _ {m i : Bool} {A B : Type 0} {Q : A → B → Type 0} where
     pub p-ret : {a : A} {b : B} → Q a b → PairBy ch st m {i = i} Q (ret a) (ret b)
     p-ret q = record { on = λ s t r. end q r }
 
-    pub p-bind : {C D : Type 0} {P : C → D → Type 0} {p : Script i C} {p′ : Script i D} {f : C → Script i A} {g : D → Script i B}
-        → Pair ch st P p p′ → ((c : C) (d : D) → P c d → PairBy ch st m Q (f c) (g d)) → PairBy ch st m Q (bind p f) (bind p′ g)
+    pub p-bind : {C D : Type 0} {P : C → D → Type 0} {p : Script i C} {p′ : Script i D} {f : C → Script i A}
+        {g : D → Script i B}
+        → Pair ch st P p p′ → ((c : C) (d : D) → P c d → PairBy ch st m Q (f c) (g d))
+        → PairBy ch st m Q (bind p f) (bind p′ g)
     p-bind h k = record { on = λ s t r. apart-bind (h .on s t r) (λ c d s t q r. k c d q .on s t r) }
 
     -- the same value on both sides
@@ -183,8 +196,10 @@ module _ {ch : Channel} {st : ℕ} where
     p-then h k = p-bind h (λ _ _ _. k)
 
     -- the first of the two has x's own accesses
-    pub p-before : {C D : Type 0} {P : C → D → Type 0} {p : Script i C} {p′ : Script i D} {f : C → Script i A} {g : D → Script i B}
-        → PairBy ch st m P p p′ → ((c : C) (d : D) → P c d → Pair ch st Q (f c) (g d)) → PairBy ch st m Q (bind p f) (bind p′ g)
+    pub p-before : {C D : Type 0} {P : C → D → Type 0} {p : Script i C} {p′ : Script i D} {f : C → Script i A}
+        {g : D → Script i B}
+        → PairBy ch st m P p p′ → ((c : C) (d : D) → P c d → Pair ch st Q (f c) (g d))
+        → PairBy ch st m Q (bind p f) (bind p′ g)
     p-before h k = record { on = λ s t r. apart-before (h .on s t r) (λ c d s t q r. k c d q .on s t r) }
 
     pub p-before-then : {C D : Type 0} {p : Script i C} {p′ : Script i D} {q : Script i A} {q′ : Script i B}
@@ -198,56 +213,78 @@ module _ {ch : Channel} {st : ℕ} where
 
     pub p-tests : {p q : Script i A} {p′ q′ : Script i B} {b c : Bool} → b ≡ c → (b ≡ true → PairBy ch st m Q p p′)
         → (b ≡ false → PairBy ch st m Q q q′) → PairBy ch st m Q (test b p q) (test c p′ q′)
-    p-tests {p = p} {q = q} {p′ = p′} {q′ = q′} {b = b} e h k = subst (λ z. PairBy ch st m Q (test b p q) (test z p′ q′)) e (p-test b h k)
+    p-tests {p = p} {q = q} {p′ = p′} {q′ = q′} {b = b} e h k
+        = subst (λ z. PairBy ch st m Q (test b p q) (test z p′ q′)) e (p-test b h k)
 
     -- a bind's first part by its own parts
-    pub p-bind-test : {C D : Type 0} {p q : Script i C} {p′ q′ : Script i D} {f : C → Script i A} {g : D → Script i B} (b : Bool)
+    pub p-bind-test : {C D : Type 0} {p q : Script i C} {p′ q′ : Script i D} {f : C → Script i A} {g : D → Script i B}
+        (b : Bool)
         → (b ≡ true → PairBy ch st m Q (bind p f) (bind p′ g)) → (b ≡ false → PairBy ch st m Q (bind q f) (bind q′ g))
         → PairBy ch st m Q (bind (test b p q) f) (bind (test b p′ q′) g)
     p-bind-test true h k = record { on = λ s t r. h refl .on s t r }
     p-bind-test false h k = record { on = λ s t r. k refl .on s t r }
 
   module _ {i : Bool} where
-    pub p-when : {m : Bool} {p p′ : Script i Unit} (b : Bool) → (b ≡ true → PairBy ch st m Any p p′) → PairBy ch st m Any (when b p) (when b p′)
+    pub p-when : {m : Bool} {p p′ : Script i Unit} (b : Bool) → (b ≡ true → PairBy ch st m Any p p′)
+        → PairBy ch st m Any (when b p) (when b p′)
     p-when b h = p-test b h (λ _. p-ret tt)
 
     -- ---- single steps
 
     -- but for the status
-    pub p-read : (r : Reg) (e : ℕ) → sameReg r IntSt ≡ false → Pair ch st {i = i} (Reads (ch .number) st r) (read r e) (read r e)
-    p-read r e h = record { on = λ s t l. both quiet (rests i) (λ _ _. never h) (λ _ _. never h) l (λ v v′ s t b l. end b l) }
+    pub p-read : (r : Reg) (e : ℕ) → sameReg r IntSt ≡ false
+        → Pair ch st {i = i} (Reads (ch .number) st r) (read r e) (read r e)
+    p-read r e h = record {
+      on = λ s t l. both quiet (rests i) (λ _ _. never h) (λ _ _. never h) l
+          (λ v v′ s t b l. end b l);
+    }
 
     pub p-write : (r : Reg) (e v : ℕ) → Pair ch st {i = i} Any (write r e v) (write r e v)
-    p-write r e v = record { on = λ s t l. both quiet (rests i) (λ _ _. never refl) (λ _ _. never refl) l (λ v v′ s t b l. end tt l) }
+    p-write r e v = record {
+      on = λ s t l. both quiet (rests i) (λ _ _. never refl) (λ _ _. never refl) l
+          (λ v v′ s t b l. end tt l);
+    }
 
     pub p-wait : (n : ℕ) → Pair ch st {i = i} Any (wait n) (wait n)
-    p-wait n = record { on = λ s t l. both quiet (rests i) (λ _ _. never refl) (λ _ _. never refl) l (λ v v′ s t b l. end tt l) }
+    p-wait n = record {
+      on = λ s t l. both quiet (rests i) (λ _ _. never refl) (λ _ _. never refl) l
+          (λ v v′ s t b l. end tt l);
+    }
 
     pub p-callback : Pair ch st {i = i} Any callback callback
-    p-callback = record { on = λ s t l. both quiet (rests i) (λ _ _. never refl) (λ _ _. never refl) l (λ v v′ s t b l. end tt l) }
+    p-callback = record {
+      on = λ s t l. both quiet (rests i) (λ _ _. never refl) (λ _ _. never refl) l
+          (λ v v′ s t b l. end tt l);
+    }
 
     pub p-get : (c : Cell) (P : Val c → Val c → Type 0)
         → ((s t : St) → LowEquiv ch quiet s t → P (getOn c s) (getOn c t)) → Pair ch st {i = i} P (get c) (get c)
     p-get c P h = record { on = λ s t l. end (h s t l) l }
 
-    pub p-put : (c : Cell) (v v′ : Val c) → ((s t : St) → LowEquiv ch quiet s t → LowEquiv ch quiet (putOn c v s) (putOn c v′ t))
+    pub p-put : (c : Cell) (v v′ : Val c) → ((s t : St) → LowEquiv ch quiet s t
+        → LowEquiv ch quiet (putOn c v s) (putOn c v′ t))
         → Pair ch st {i = i} Any (put c v) (put c v′)
     p-put c v v′ h = record { on = λ s t l. end tt (h s t l) }
 
-    pub p-is : (q : Test) → ((s t : St) → LowEquiv ch quiet s t → isOf q s ≡ isOf q t) → Pair ch st {i = i} Eq (is q) (is q)
+    pub p-is : (q : Test) → ((s t : St) → LowEquiv ch quiet s t → isOf q s ≡ isOf q t)
+        → Pair ch st {i = i} Eq (is q) (is q)
     p-is q h = record { on = λ s t l. end (h s t l) l }
 
-    pub p-look : (q : Look) → ((s t : St) → LowEquiv ch quiet s t → lookOf q s ≡ lookOf q t) → Pair ch st {i = i} Eq (look q) (look q)
+    pub p-look : (q : Look) → ((s t : St) → LowEquiv ch quiet s t → lookOf q s ≡ lookOf q t)
+        → Pair ch st {i = i} Eq (look q) (look q)
     p-look q h = record { on = λ s t l. end (h s t l) l }
 
-    pub p-fetch : (q : Fetch) → ((s t : St) → LowEquiv ch quiet s t → fetchOf q s ≡ fetchOf q t) → Pair ch st {i = i} Eq (fetch q) (fetch q)
+    pub p-fetch : (q : Fetch) → ((s t : St) → LowEquiv ch quiet s t → fetchOf q s ≡ fetchOf q t)
+        → Pair ch st {i = i} Eq (fetch q) (fetch q)
     p-fetch q h = record { on = λ s t l. end (h s t l) l }
 
-    pub p-act : (q : Act) → ((s t : St) → LowEquiv ch quiet s t → LowEquiv ch quiet (actOn q s) (actOn q t)) → Pair ch st {i = i} Any (act q) (act q)
+    pub p-act : (q : Act) → ((s t : St) → LowEquiv ch quiet s t → LowEquiv ch quiet (actOn q s) (actOn q t))
+        → Pair ch st {i = i} Any (act q) (act q)
     p-act q h = record { on = λ s t l. end tt (h s t l) }
 
     pub p-hand : (q : DmaStep) → ((y : ℕ) → ownable (ch .number) (dmaStepAsk q y) ≡ false)
-        → ((s t : St) → LowEquiv ch quiet s t → (handOn q s .0 ≡ handOn q t .0) × LowEquiv ch quiet (handOn q s .1) (handOn q t .1))
+        → ((s t : St) → LowEquiv ch quiet s t → (handOn q s .0 ≡ handOn q t .0)
+        × LowEquiv ch quiet (handOn q s .1) (handOn q t .1))
         → Pair ch st {i = i} Any (hand q) (hand q)
     p-hand q n h = record {
       on = λ s t l. subst
@@ -260,8 +297,10 @@ module _ {ch : Channel} {st : ℕ} where
 
   module _ (g : Burst) (next : (n : ℕ) (s t : St) → LowEquiv ch (mid g (suc n)) s t → Steps ch g n s t)
       (over : (s t : St) → LowEquiv ch (mid g zero) s t → LowEquiv ch quiet s t) where
-    steps : (n : ℕ) (s t : St) → Steps ch g n s t → Apart ch st false Any (rows concrete g n stop s) (rows concrete g n stop t)
-    steps zero s t x = subst (λ y. Apart ch st false Any (rows concrete g zero stop s) (asks (burstAsk g zero y) (rowOn g zero t .1) (λ _ t. stop t))) (x .0)
+    steps : (n : ℕ) (s t : St) → Steps ch g n s t → Apart ch st false Any (rows concrete g n stop s)
+        (rows concrete g n stop t)
+    steps zero s t x = subst (λ y. Apart ch st false Any (rows concrete g zero stop s)
+        (asks (burstAsk g zero y) (rowOn g zero t .1) (λ _ t. stop t))) (x .0)
         (both (mid g zero) tt no-interrupt no-interrupt (x .1) (λ v v′ s t b l. end tt (over s t l)))
     steps (suc n) s t x = subst
         (λ y. Apart ch st false Any (rows concrete g (suc n) stop s)

@@ -25,7 +25,8 @@ use Rattle.proof_book.specs.ResetsLaws.{reset-place}
 use Rattle.proof_isolation.specs.EqualExcept.{Stays, EqualExcept, Channel, LowEquiv}
 use Rattle.proof_isolation.specs.Apart.{Pair}
 use Rattle.proof_isolation.specs.PairsLaws.{Eq, Any, Steps, p-ret, p-then, p-test, p-write, p-row}
-use Rattle.proof_isolation.specs.ButsLaws.{stays-any, but-parts, but-globals, but-on, changed-seat, like-made, lawful-first}
+use Rattle.proof_isolation.specs.ButsLaws.{stays-any, but-parts, but-globals, but-on, changed-seat, like-made}
+use Rattle.proof_isolation.specs.ButsLaws.{lawful-first}
 use Rattle.proof_isolation.specs.ButsLaws.{lawful-next, row-over}
 use Rattle.proof_isolation.specs.ValuesLaws.{p-assign, p-wake-all, p-globals}
 use Rattle.proof_isolation.specs.WalksLaws.{p-reads, p-int-en}
@@ -33,7 +34,10 @@ use Rattle.proof_isolation.specs.WalksLaws.{p-reads, p-int-en}
 -- ---- records reset
 
 pub reset-stays : {r r′ : EpState} → Stays r r′ → Stays (resetOf r) (resetOf r′)
-reset-stays h = record { place = record { base = h .place .base; stride = h .place .stride; slots = h .place .slots }; plain = ap renewed (h .plain) }
+reset-stays h = record {
+  place = record { base = h .place .base; stride = h .place .stride; slots = h .place .slots };
+  plain = ap renewed (h .plain);
+}
 
 -- one endpoint's
 abbrev renewedAt : Dir → ℕ → Driver → Driver
@@ -42,11 +46,15 @@ renewedAt dir e d = withOn d dir e (resetOf (epOn d dir e))
 renewed-sized : (dir : Dir) (e : ℕ) {d : Driver} → Sized d → Sized (renewedAt dir e d)
 renewed-sized dir e {d} z = changed-on z dir e (resetOf (epOn d dir e)) (reset-place (epOn d dir e)) refl .sized
 
-renewed-seat : (x : ℕ) (dir : Dir) (e : ℕ) {d : Driver} → Sized d → SamePlace (epOn d Out x) (epOn (renewedAt dir e d) Out x)
-renewed-seat x dir e {d} z = changed-seat x (changed-on z dir e (resetOf (epOn d dir e)) (reset-place (epOn d dir e)) refl)
+renewed-seat : (x : ℕ) (dir : Dir) (e : ℕ) {d : Driver} → Sized d
+    → SamePlace (epOn d Out x) (epOn (renewedAt dir e d) Out x)
+renewed-seat x dir e {d} z = changed-seat x (changed-on z dir e (resetOf (epOn d dir e)) (reset-place (epOn d dir e))
+    refl)
 
-renewed-but : {x : ℕ} (dir : Dir) (e : ℕ) {d d′ : Driver} → Sized d → Sized d′ → EqualExcept x d d′ → EqualExcept x (renewedAt dir e d) (renewedAt dir e d′)
-renewed-but dir e z z′ h = but-on h z z′ dir e _ _ (λ n. ap resetOf (h .eps dir e n)) (λ _. reset-stays (stays-any h dir e))
+renewed-but : {x : ℕ} (dir : Dir) (e : ℕ) {d d′ : Driver} → Sized d → Sized d′ → EqualExcept x d d′
+    → EqualExcept x (renewedAt dir e d) (renewedAt dir e d′)
+renewed-but dir e z z′ h = but-on h z z′ dir e _ _ (λ n. ap resetOf (h .eps dir e n))
+    (λ _. reset-stays (stays-any h dir e))
 
 -- those of the endpoints below n
 below-sized : (n : ℕ) {d : Driver} → Sized d → Sized (resetBelow n d)
@@ -60,7 +68,8 @@ below-seat x zero {d} z = same-place (epOn d Out x)
 below-seat x (suc n) z = let y = below-sized n z in
     place-trans (below-seat x n z) (place-trans (renewed-seat x Out n y) (renewed-seat x In n (renewed-sized Out n y)))
 
-below-but : {x : ℕ} (n : ℕ) {d d′ : Driver} → Sized d → Sized d′ → EqualExcept x d d′ → EqualExcept x (resetBelow n d) (resetBelow n d′)
+below-but : {x : ℕ} (n : ℕ) {d d′ : Driver} → Sized d → Sized d′ → EqualExcept x d d′
+    → EqualExcept x (resetBelow n d) (resetBelow n d′)
 unfolding resetBelow
 below-but zero z z′ h = h
 below-but (suc n) z z′ h =
@@ -75,7 +84,8 @@ none-but h = but-parts h (h .globals) (h .control) (h .paced) (h .wakes) (h .req
 
 -- all of them, and no setup packet
 module _ (c : Channel) where
-  all-but : {d d′ : Driver} → Sized d → Sized d′ → EqualExcept (c .number) d d′ → EqualExcept (c .number) (resetAll d) (resetAll d′)
+  all-but : {d d′ : Driver} → Sized d → Sized d′ → EqualExcept (c .number) d d′
+      → EqualExcept (c .number) (resetAll d) (resetAll d′)
   unfolding resetAll
   all-but z z′ h = let k = none-but (below-but 16 z z′ h) in
       but-globals k _ _ (ap (λ (g : Globals). withSetup 0 (g .«setup_low») (g .«setup_high») g) (k .globals))
@@ -91,7 +101,8 @@ module _ (c : Channel) where
   first s t l = (
     refl,
     like-made l (lawful-first c bus-reset (l .left)) (lawful-first c bus-reset (l .right))
-        (but-globals (l .but) _ _ (ap (withEpConfig 0) (l .but .globals))) (same-place (epOn (s .0) Out (c .number))) (l .bytes),
+        (but-globals (l .but) _ _ (ap (withEpConfig 0) (l .but .globals))) (same-place (epOn (s .0) Out (c .number)))
+        (l .bytes),
   )
 
   next : (n : ℕ) (s t : St) → LowEquiv c (mid bus-reset (suc n)) s t → Steps c bus-reset n s t
@@ -109,7 +120,8 @@ module _ (c : Channel) where
   next (suc (suc zero)) s t l = (
     refl,
     like-made l (lawful-next c bus-reset 2 (l .left)) (lawful-next c bus-reset 2 (l .right))
-        (but-globals (l .but) _ _ (ap (withEpType 0) (l .but .globals))) (same-place (epOn (s .0) Out (c .number))) (l .bytes),
+        (but-globals (l .but) _ _ (ap (withEpType 0) (l .but .globals))) (same-place (epOn (s .0) Out (c .number)))
+        (l .bytes),
   )
   next (suc (suc (suc n))) s t l = absurd (omega (arith, l .left .rest .step))
 

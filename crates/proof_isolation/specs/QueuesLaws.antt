@@ -3,7 +3,7 @@
 use mathlib.Core.Bool.{Bool, true, false, not, cond, _&&_, true≢false}
 use mathlib.Core.List.{List, [], _∷_}
 use mathlib.Core.Logic.{_≢_, inl, inr, ⊎-elim}
-use mathlib.Core.Path.{_≡_, refl, ap, subst, sym, _∙_}
+use mathlib.Core.Path.{_≡_, refl, ap, sym, _∙_}
 use Prim.Native.Nat.{ℕ, _+_, _*_, _/_, _%_, _≤_, _<_}
 use native.Mathlib.Omega.{arith}
 use native.Mathlib.Decide.{ℕ-discrete}
@@ -16,7 +16,8 @@ use Rattle.regs.specs.declared.Dir.{Dir}
 use Rattle.regs.specs.declared.Dir.the-variants.{Out, In}
 use Rattle.state.specs.declared.EpState.{EpState}
 use Rattle.state.specs.Wakes.{Wakes}
-use Rattle.state.specs.Driver.{Driver, key, withEps, epOn, withOn, withLenOn, requestOn, pacedOn, withWakes, withRequestOn, withPacedOn}
+use Rattle.state.specs.Driver.{Driver, key, withEps, epOn, withOn, withLenOn, requestOn, pacedOn, withWakes}
+use Rattle.state.specs.Driver.{withRequestOn, withPacedOn}
 use Rattle.state.specs.Laws.{Sized, epOn-same, epOn-other, withOn-twice, key-apart}
 use Rattle.ring.specs.Copies.{copied}
 use Rattle.ring.specs.Marks.{armed, isMarked, markedLen}
@@ -27,36 +28,39 @@ use Rattle.ring.specs.Slot.{slotOf, slotAddr, countOf, joinedOf}
 use Rattle.ring.specs.Slots.{slot-from, slot-upto}
 use Rattle.ring.specs.In.{hasRoomIn}
 use Rattle.ring.specs.Out.{cappedAt}
-use Rattle.ring.specs.Waiting.{SamePlace}
-use Rattle.script.specs.Cells.{Cell, Val, EpCore, globals-cell, control-cell, allocator-cell, ep-cell, request-cell, paced-cell}
+use Rattle.script.specs.Cells.{Cell, Val, EpCore, globals-cell, control-cell, allocator-cell, ep-cell, request-cell}
+use Rattle.script.specs.Cells.{paced-cell}
 use Rattle.script.specs.Script.{changed, marked, arrive}
 use Rattle.script.specs.Statics.{isOn, isoOuts}
 use Rattle.script.specs.Simulates.{quiet}
 use Rattle.script.specs.Machine.{Buf}
 use Rattle.script_ops.specs.Records.{plainOf, merged}
-use Rattle.script_ops.specs.Rings.{St, changedOn, markedOn, roomIn, roomOn, queuedOn, enqueueOn, admittedOn, arriveOn}
+use Rattle.script_ops.specs.Rings.{St, changedOn, markedOn, roomIn, roomOn, queuedOn, enqueueOn, admittedOn}
 use Rattle.script_ops.specs.Concrete.{getOn, putOn, isOf, lookOf, handOn}
-use Rattle.proof_book.specs.Coupling.{Coupling, endOf}
+use Rattle.proof_book.specs.Coupling.{endOf}
 use Rattle.proof_book.specs.LensLaws.{key-ep, ep-len}
 use Rattle.proof_book.specs.HeldLaws.{receives, iso-used, receives-used, good-words}
 use Rattle.proof_book.specs.ArrivesLaws.{admitted-fits}
 use Rattle.proof_book.specs.FrameLaws.{changed-len}
 use Rattle.proof_isolation.specs.EqualExcept.{Lawful, Channel}
 use Rattle.proof_isolation.specs.BytesLaws.{At, set-like, copied-like}
-use Rattle.proof_isolation.specs.Stores.{Outside, patched, Lands}
+use Rattle.proof_isolation.specs.Stores.{patched, Lands}
 use Rattle.proof_isolation.specs.OutRingsLaws.{given}
 use Rattle.proof_isolation.specs.OwnStepsLaws.{own-arrives}
 use Rattle.proof_isolation.specs.ValuesLaws.{in-other}
-use Rattle.proof_isolation.specs.ElsewhereLaws.{Beyond, armed-beyond, joinedBy, spared-none, spared-joined, moved, arrive-spared}
+use Rattle.proof_isolation.specs.ElsewhereLaws.{Beyond, armed-beyond, joinedBy, spared-none, spared-joined}
+use Rattle.proof_isolation.specs.ElsewhereLaws.{arrive-spared}
 
 -- ---- the bytes of an OUT endpoint's slots stay, so its armed slot is seen the same
 
 module _ (c : Channel) (s : St) (l : Lawful (c .iso) quiet s) (a : ℕ) (i : c .iso Out a ≡ true) (t : St)
     (long : length (t .1) ≡ length (s .1)) (record-same : epOn (t .0) Out a ≡ epOn (s .0) Out a)
-    (bytes : (k : ℕ) → epOn (s .0) Out a .base ≤ k → k < endOf (epOn (s .0) Out a) → getD (t .1) k 0 ≡ getD (s .1) k 0) where
+    (bytes : (k : ℕ) → epOn (s .0) Out a .base ≤ k → k < endOf (epOn (s .0) Out a) → getD (t .1) k 0
+    ≡ getD (s .1) k 0) where
   slot-same : (n : ℕ) → n ≤ epOn (s .0) Out a .stride
       → Same (epOn (s .0) Out a .«armed_slot») (epOn (s .0) Out a .«armed_slot» + n) (s .1) (t .1)
-  slot-same n h k p q = let f = l .rest .outs a in bytes k (omega (arith, f .slot, f .from)) (omega (arith, f .slot, f .upto))
+  slot-same n h k p q = let f = l .rest .outs a in bytes k (omega (arith, f .slot, f .from))
+      (omega (arith, f .slot, f .upto))
 
   four : 4 ≤ epOn (s .0) Out a .stride
   four =
@@ -74,7 +78,8 @@ module _ (c : Channel) (s : St) (l : Lawful (c .iso) quiet s) (a : ℕ) (i : c .
   sees-marked =
       let r = epOn (s .0) Out a in
       ap (λ (r : EpState). markedLen (t .1) (r .«armed_slot») (r .«max_len»)) record-same
-      ∙ len-same (s .1) (t .1) (r .«armed_slot») long (r .«max_len») (slot-same (r .«max_len») (l .rest .outs a .held .least))
+      ∙ len-same (s .1) (t .1) (r .«armed_slot») long (r .«max_len»)
+      (slot-same (r .«max_len») (l .rest .outs a .held .least))
 
 -- ---- an arrival on the channel, where bytes outside of its slots change
 
@@ -95,7 +100,8 @@ module _ (c : Channel) (s : St) (l : Lawful (c .iso) quiet s) {g : Buf → Buf}
       let n : r .slots * r .stride ≡ r0 .slots * r0 .stride = (λ i. p .slots i * p .stride i) in
       armed-beyond z (s .1) (slotAddr r (r .head)) (r .«max_len») (r .stride) (omega (arith, e, w .0))
       (ap (λ x. x / 4 * 4) e ∙ w .1 ∙ sym e) (f .least)
-      (omega (arith, slot-from (f .placed) (r .head), p .base)) (omega (arith, slot-upto (f .placed) (r .head), p .base, n))
+      (omega (arith, slot-from (f .placed) (r .head), p .base))
+      (omega (arith, slot-upto (f .placed) (r .head), p .base, n))
 
 -- ---- stores
 
@@ -114,7 +120,8 @@ module _ (c : Channel) where
     patch-inside [] h b k lo hi = refl
     patch-inside (q ∷ p) h b k lo hi =
         patch-inside p (h .2) (set b (q .0) (q .1)) k lo hi
-        ∙ getD-set-other b (q .0) k (q .1) 0 (λ e. ⊎-elim (λ z. absurd (omega (arith, e))) (λ z. absurd (omega (arith, e))) (h .0))
+        ∙ getD-set-other b (q .0) k (q .1) 0 (λ e. ⊎-elim (λ z. absurd (omega (arith, e)))
+        (λ z. absurd (omega (arith, e))) (h .0))
 
     pub patch-beyond : (p : List (ℕ × ℕ)) → Lands c d p
         → Beyond (epOn d Out (c .number) .base) (endOf (epOn d Out (c .number))) (patched p)
@@ -125,14 +132,17 @@ module _ (c : Channel) where
     t = (s .0, patched p (s .1))
 
     pub changed-stored : isOf (changed (c .number)) t ≡ isOf (changed (c .number)) s
-    changed-stored = sees-changed c s l (c .number) (c .receives) t (patch-long p (s .1)) refl (patch-inside (s .0) p h (s .1))
+    changed-stored = sees-changed c s l (c .number) (c .receives) t (patch-long p (s .1)) refl
+        (patch-inside (s .0) p h (s .1))
 
     pub marked-stored : lookOf (marked (c .number)) t ≡ lookOf (marked (c .number)) s
-    marked-stored = sees-marked c s l (c .number) (c .receives) t (patch-long p (s .1)) refl (patch-inside (s .0) p h (s .1))
+    marked-stored = sees-marked c s l (c .number) (c .receives) t (patch-long p (s .1)) refl
+        (patch-inside (s .0) p h (s .1))
 
     pub arrive-stored : (m : ℕ) → let w = handOn (arrive (c .number) m) s in
         handOn (arrive (c .number) m) t ≡ (w .0, (w .1 .0, patched p (w .1 .1)))
-    arrive-stored m = arrive-spared (spared-none (c .number)) (patched p) (s .0) (s .1) m (arms-beyond c s l (patch-beyond (s .0) p h) m)
+    arrive-stored m = arrive-spared (spared-none (c .number)) (patched p) (s .0) (s .1) m
+        (arms-beyond c s l (patch-beyond (s .0) p h) m)
 
 -- ---- a queue
 
@@ -190,7 +200,8 @@ module _ (e : ℕ) (bs : List ℕ) where
       | no p ↦
           let m = withLenOn d In e (slotOf r (r .head)) (length bs) in
           ap (λ (q : EpState). withOn (queueBy r d) dir a (merged q v)) (queue-other dir a p)
-          ∙ ap (withEps m) (set-comm (d .eps) (key In e) (key dir a) (joinedOf r) (merged (epOn d dir a) v) (λ q. p (sym q)))
+          ∙ ap (withEps m) (set-comm (d .eps) (key In e) (key dir a) (joinedOf r) (merged (epOn d dir a) v)
+          (λ q. p (sym q)))
           ∙ ap (λ (q : EpState). queueBy q (withOn d dir a (merged (epOn d dir a) v)))
           (sym (epOn-other d dir a (merged (epOn d dir a) v) In e (λ q. p (sym q))))
     ]
@@ -211,37 +222,44 @@ module _ (e : ℕ) (bs : List ℕ) where
         by q false = refl
 
     -- what an assignment leaves of IN e's record
-    left-of : {X : Type 0} (f : EpState → X) → ((r : EpState) (v : EpCore) → f (merged r v) ≡ f r) → (dir : Dir) (a : ℕ) (v : EpCore)
+    left-of : {X : Type 0} (f : EpState → X) → ((r : EpState) (v : EpCore) → f (merged r v) ≡ f r)
+        → (dir : Dir) (a : ℕ) (v : EpCore)
         → f (epOn (withOn (s .0) dir a (merged (epOn (s .0) dir a) v)) In e) ≡ f (epOn (s .0) In e)
     left-of f h dir a v = elim (ℕ-discrete (key In e) (key dir a)) [
-      | yes p ↦ ap f (key-ep (withOn (s .0) dir a (merged (epOn (s .0) dir a) v)) In dir e a p ∙ epOn-same (s .0) dir a _ z)
+      | yes p ↦ ap f (key-ep (withOn (s .0) dir a (merged (epOn (s .0) dir a) v)) In dir e a p
+          ∙ epOn-same (s .0) dir a _ z)
           ∙ h (epOn (s .0) dir a) v ∙ ap f (sym (key-ep (s .0) In dir e a p))
       | no p ↦ ap f (epOn-other (s .0) dir a _ In e p)
     ]
 
     room-left : (dir : Dir) (a : ℕ) (v : EpCore)
-        → roomIn (epOn (withOn (s .0) dir a (merged (epOn (s .0) dir a) v)) In e) (length bs) ≡ roomIn (epOn (s .0) In e) (length bs)
+        → roomIn (epOn (withOn (s .0) dir a (merged (epOn (s .0) dir a) v)) In e) (length bs)
+        ≡ roomIn (epOn (s .0) In e) (length bs)
     unfolding roomIn hasRoomIn countOf
     room-left dir a v = left-of (λ r. roomIn r (length bs)) (λ r v. refl) dir a v
 
-    head-left : (dir : Dir) (a : ℕ) (v : EpCore) → let r = epOn (withOn (s .0) dir a (merged (epOn (s .0) dir a) v)) In e in
+    head-left : (dir : Dir) (a : ℕ) (v : EpCore) → let r = epOn (withOn (s .0) dir a (merged (epOn (s .0) dir a) v)) In
+        e in
         slotAddr r (r .head) ≡ slotAddr (epOn (s .0) In e) (epOn (s .0) In e .head)
     unfolding slotAddr slotOf
     head-left dir a v = left-of (λ r. slotAddr r (r .head)) (λ r v. refl) dir a v
 
     pub put-queue : (q : Cell) (v : Val q) → putOn q v (enqueueOn e bs s) ≡ enqueueOn e bs (putOn q v s)
     unfolding withOn withLenOn withRequestOn withPacedOn epOn
-    put-queue q v = ap (putOn q v) (queue-is s) ∙ at q v (roomIn (epOn (s .0) In e) (length bs)) refl ∙ sym (queue-is (putOn q v s))
+    put-queue q v = ap (putOn q v) (queue-is s) ∙ at q v (roomIn (epOn (s .0) In e) (length bs)) refl
+        ∙ sym (queue-is (putOn q v s))
       where
         at : (q : Cell) (v : Val q) (u : Bool) → roomIn (epOn (s .0) In e) (length bs) ≡ u → let r = epOn (s .0) In e in
-            putOn q v (cond {A = St} u (queueBy r (s .0), copyBy r (s .1)) s) ≡ enqueuedBy (epOn (putOn q v s .0) In e) (putOn q v s)
+            putOn q v (cond {A = St} u (queueBy r (s .0), copyBy r (s .1)) s)
+            ≡ enqueuedBy (epOn (putOn q v s .0) In e) (putOn q v s)
         at globals-cell v true h = rw h refl
         at control-cell v true h = rw h refl
         at allocator-cell v true h = rw h refl
         at (ep-cell dir a) v true h =
             let d = putOn (ep-cell dir a) v s .0 in
             (λ i. (assigned (s .0) z dir a v i, copied (s .1) (sym (head-left dir a v) i) bs))
-            ∙ ap (λ u. cond {A = St} u (queueBy (epOn d In e) d, copyBy (epOn d In e) (s .1)) (d, s .1)) (sym (room-left dir a v ∙ h))
+            ∙ ap (λ u. cond {A = St} u (queueBy (epOn d In e) d, copyBy (epOn d In e) (s .1)) (d, s .1))
+            (sym (room-left dir a v ∙ h))
         at (request-cell dir a) v true h = rw h refl
         at (paced-cell a) v true h = rw h refl
         at globals-cell v false h = rw h refl
@@ -249,13 +267,16 @@ module _ (e : ℕ) (bs : List ℕ) where
         at allocator-cell v false h = rw h refl
         at (ep-cell dir a) v false h =
             let d = putOn (ep-cell dir a) v s .0 in
-            ap (λ u. cond {A = St} u (queueBy (epOn d In e) d, copyBy (epOn d In e) (s .1)) (d, s .1)) (sym (room-left dir a v ∙ h))
+            ap (λ u. cond {A = St} u (queueBy (epOn d In e) d, copyBy (epOn d In e) (s .1)) (d, s .1))
+            (sym (room-left dir a v ∙ h))
         at (request-cell dir a) v false h = rw h refl
         at (paced-cell a) v false h = rw h refl
 
-    pub wakes-queue : (w : Wakes) → (withWakes (enqueueOn e bs s .0) w, enqueueOn e bs s .1) ≡ enqueueOn e bs (withWakes (s .0) w, s .1)
+    pub wakes-queue : (w : Wakes) → (withWakes (enqueueOn e bs s .0) w, enqueueOn e bs s .1)
+        ≡ enqueueOn e bs (withWakes (s .0) w, s .1)
     unfolding withOn withLenOn epOn
-    wakes-queue w = ap (λ (t : St). (withWakes (t .0) w, t .1)) (queue-is s) ∙ by (roomIn (epOn (s .0) In e) (length bs)) refl
+    wakes-queue w = ap (λ (t : St). (withWakes (t .0) w, t .1)) (queue-is s)
+        ∙ by (roomIn (epOn (s .0) In e) (length bs)) refl
         ∙ sym (queue-is (withWakes (s .0) w, s .1))
       where
         by : (u : Bool) → roomIn (epOn (s .0) In e) (length bs) ≡ u → let r = epOn (s .0) In e in
@@ -268,7 +289,8 @@ module _ (e : ℕ) (bs : List ℕ) where
     unfolding withOn withLenOn
     queue-wakes = ap (λ (t : St). t .0 .wakes) (queue-is s) ∙ by (roomIn (epOn (s .0) In e) (length bs))
       where
-        by : (u : Bool) → let r = epOn (s .0) In e in cond {A = St} u (queueBy r (s .0), copyBy r (s .1)) s .0 .wakes ≡ s .0 .wakes
+        by : (u : Bool) → let r = epOn (s .0) In e in cond {A = St} u (queueBy r (s .0), copyBy r (s .1)) s .0 .wakes
+            ≡ s .0 .wakes
         by true = refl
         by false = refl
 
@@ -286,7 +308,8 @@ module _ (c : Channel) (e : ℕ) (bs : List ℕ) (s : St) (l : Lawful (c .iso) q
 
   small : roomIn rin (length bs) ≡ true → length bs ≤ rin .stride
   unfolding roomIn
-  small h = ltb-false (rin .stride) (length bs) (and-parts (isOn (rin .iso)) (hasRoomIn rin) (ltb (rin .stride) (length bs)) h)
+  small h = ltb-false (rin .stride) (length bs) (and-parts (isOn (rin .iso)) (hasRoomIn rin)
+      (ltb (rin .stride) (length bs)) h)
 
   copy-only : roomIn rin (length bs) ≡ true → (b : Buf) → Only (rin .base) (endOf rin) b (copyBy e bs rin b)
   copy-only h b =
@@ -313,7 +336,8 @@ module _ (c : Channel) (e : ℕ) (bs : List ℕ) (s : St) (l : Lawful (c .iso) q
     where
       by : (u : Bool) → roomIn rin (length bs) ≡ u
           → isOf (changed a) (cond {A = St} u (queueBy e bs rin (s .0), copyBy e bs rin (s .1)) s) ≡ isOf (changed a) s
-      by true h = sees-changed c s l a i (queueBy e bs rin (s .0), copyBy e bs rin (s .1)) (only-copied (s .1) (slotAddr rin (rin .head)) bs .long)
+      by true h = sees-changed c s l a i (queueBy e bs rin (s .0), copyBy e bs rin (s .1))
+          (only-copied (s .1) (slotAddr rin (rin .head)) bs .long)
           (queue-other e bs (s .0) (l .rest .sized) Out a (key-apart a e)) (copy-out h a (s .1))
       by false h = refl
 
@@ -321,8 +345,10 @@ module _ (c : Channel) (e : ℕ) (bs : List ℕ) (s : St) (l : Lawful (c .iso) q
   marked-queue a i = ap (lookOf (marked a)) (queue-is e bs s) ∙ by (roomIn rin (length bs)) refl
     where
       by : (u : Bool) → roomIn rin (length bs) ≡ u
-          → lookOf (marked a) (cond {A = St} u (queueBy e bs rin (s .0), copyBy e bs rin (s .1)) s) ≡ lookOf (marked a) s
-      by true h = sees-marked c s l a i (queueBy e bs rin (s .0), copyBy e bs rin (s .1)) (only-copied (s .1) (slotAddr rin (rin .head)) bs .long)
+          → lookOf (marked a) (cond {A = St} u (queueBy e bs rin (s .0), copyBy e bs rin (s .1)) s)
+          ≡ lookOf (marked a) s
+      by true h = sees-marked c s l a i (queueBy e bs rin (s .0), copyBy e bs rin (s .1))
+          (only-copied (s .1) (slotAddr rin (rin .head)) bs .long)
           (queue-other e bs (s .0) (l .rest .sized) Out a (key-apart a e)) (copy-out h a (s .1))
       by false h = refl
 
@@ -330,7 +356,8 @@ module _ (c : Channel) (e : ℕ) (bs : List ℕ) (s : St) (l : Lawful (c .iso) q
       handOn (arrive (c .number) m) (enqueueOn e bs s) ≡ (w .0, enqueueOn e bs (w .1))
   arrive-queue m =
       ap (handOn (arrive (c .number) m)) (queue-is e bs s) ∙ by (roomIn rin (length bs)) refl
-      ∙ ap (λ (r : EpState). (w .0, enqueuedBy e bs r (w .1))) stays ∙ ap (λ (t : St). (w .0, t)) (sym (queue-is e bs (w .1)))
+      ∙ ap (λ (r : EpState). (w .0, enqueuedBy e bs r (w .1))) stays
+      ∙ ap (λ (t : St). (w .0, t)) (sym (queue-is e bs (w .1)))
     where
       w : ℕ × St
       w = handOn (arrive (c .number) m) s
@@ -339,9 +366,12 @@ module _ (c : Channel) (e : ℕ) (bs : List ℕ) (s : St) (l : Lawful (c .iso) q
       stays = own-arrives c m s l .but .eps In e (in-other (c .number) e)
 
       by : (u : Bool) → roomIn rin (length bs) ≡ u
-          → handOn (arrive (c .number) m) (cond {A = St} u (queueBy e bs rin (s .0), copyBy e bs rin (s .1)) s) ≡ (w .0, enqueuedBy e bs rin (w .1))
+          → handOn (arrive (c .number) m) (cond {A = St} u (queueBy e bs rin (s .0), copyBy e bs rin (s .1)) s)
+          ≡ (w .0, enqueuedBy e bs rin (w .1))
       by true h =
-          arrive-spared (spared-joined (c .number) e (slotOf rin (rin .head)) (length bs) (joinedOf rin)) (copyBy e bs rin) (s .0) (s .1) m
+          arrive-spared (spared-joined (c .number) e (slotOf rin (rin .head)) (length bs) (joinedOf rin))
+          (copyBy e bs rin) (s .0) (s .1) m
           (arms-beyond c s l (copy-beyond h) m)
           ∙ ap (λ u. (w .0, cond {A = St} u (queueBy e bs rin (w .1 .0), copyBy e bs rin (w .1 .1)) (w .1))) (sym h)
-      by false h = ap (λ u. (w .0, cond {A = St} u (queueBy e bs rin (w .1 .0), copyBy e bs rin (w .1 .1)) (w .1))) (sym h)
+      by false h = ap (λ u. (w .0, cond {A = St} u (queueBy e bs rin (w .1 .0), copyBy e bs rin (w .1 .1)) (w .1)))
+          (sym h)

@@ -43,7 +43,8 @@ within k v h = ltb-false (v .«max_len») (v .len) (or-false (ltb k (v .len)) (l
 
 -- the parts of `take-ready` and of a read's poll
 abbrev taken : {i : Bool} → ℕ → ℕ → EpCore → Script i Answer
-taken e k v = test (tooLong k v) (ends-request Out e (Refused 10)) (bind (fetch (received e (v .len))) (λ w. ends-request Out e (Done w)))
+taken e k v = test (tooLong k v) (ends-request Out e (Refused 10))
+    (bind (fetch (received e (v .len))) (λ w. ends-request Out e (Done w)))
 
 abbrev readyOut : {i : Bool} → ℕ → ℕ → EpCore → Script i Answer
 readyOut e k v = modifyEp Out e (withReady 0) >> taken e k v
@@ -57,10 +58,12 @@ taking e k v = test (isOn (v .iso)) (take-iso e k) (take-ready e k v)
 module _ (c : Channel) (e : ℕ) (n : key Out e ≢ key Out (c .number)) where
   takes : (s t : St) → LowEquiv c quiet s t → LowEquiv c quiet (actOn (take-oldest e) s) (actOn (take-oldest e) t)
   unfolding takeOn
-  takes s t l = out-changed c e n hasWaiting closedOf s t l (lawful-act c (take-oldest e) refl (l .left)) (lawful-act c (take-oldest e) refl (l .right))
+  takes s t l = out-changed c e n hasWaiting closedOf s t l (lawful-act c (take-oldest e) refl (l .left))
+      (lawful-act c (take-oldest e) refl (l .right))
 
   -- what was received, within the maximum, lies in its own slot
-  received-same : (s t : St) → LowEquiv c quiet s t → (k : ℕ) → k ≤ epOn (s .0) Out e .«max_len» → fetchOf (received e k) s ≡ fetchOf (received e k) t
+  received-same : (s t : St) → LowEquiv c quiet s t → (k : ℕ) → k ≤ epOn (s .0) Out e .«max_len»
+      → fetchOf (received e k) s ≡ fetchOf (received e k) t
   received-same s t l k m =
       let r = epOn (s .0) Out e in
       let f = l .left .rest .outs e .held in
@@ -72,23 +75,30 @@ module _ (c : Channel) (e : ℕ) (n : key Out e ≢ key Out (c .number)) where
 
   module _ {st : ℕ} {i : Bool} where
     p-take-iso : (k : ℕ) → Pair c st {i = i} (SameAnswer (c .number)) (take-iso e k) (take-iso e k)
-    p-take-iso k = p-enabled Out e (p-ends-request Out e _) (p-same (p-is (waiting Out e) (waiting-out c e n)) (λ b. p-test b
-        (λ _. p-same (p-fetch (oldest e) (oldest-out c e n)) (λ w. p-then (p-act (take-oldest e) takes) (p-ends-request Out e _)))
+    p-take-iso k = p-enabled Out e (p-ends-request Out e _)
+        (p-same (p-is (waiting Out e) (waiting-out c e n)) (λ b. p-test b
+        (λ _. p-same (p-fetch (oldest e) (oldest-out c e n))
+        (λ w. p-then (p-act (take-oldest e) takes) (p-ends-request Out e _)))
         (λ _. p-ret (same _))))
 
   module _ (st : ℕ) (i : Bool) (k : ℕ) where
     -- the packet is taken, its record as it was but for `ready`
-    tail : (v : EpCore) (b : Bool) → tooLong k v ≡ b → (s t : St) → LowEquiv c quiet s t → epOn (s .0) Out e .«max_len» ≡ v .«max_len»
+    tail : (v : EpCore) (b : Bool) → tooLong k v ≡ b → (s t : St) → LowEquiv c quiet s t → epOn (s .0) Out e .«max_len»
+        ≡ v .«max_len»
         → Apart c st i (SameAnswer (c .number))
         (run {i = i} concrete
-        (test b (ends-request Out e (Refused 10)) (bind (fetch (received e (v .len))) (λ w. ends-request Out e (Done w)))) s)
-        (run {i = i} concrete (test b (ends-request Out e (Refused 10)) (bind (fetch (received e (v .len))) (λ w. ends-request Out e (Done w)))) t)
+        (test b (ends-request Out e (Refused 10)) (bind (fetch (received e (v .len)))
+        (λ w. ends-request Out e (Done w)))) s)
+        (run {i = i} concrete (test b (ends-request Out e (Refused 10))
+        (bind (fetch (received e (v .len))) (λ w. ends-request Out e (Done w)))) t)
     tail v true z s t l m = p-ends-request {i = i} Out e (Refused 10) .on s t l
     tail v false z s t l m =
         subst
-        (λ w. Apart c st i (SameAnswer (c .number)) (run {i = i} concrete (ends-request Out e (Done (fetchOf (received e (v .len)) s))) s)
+        (λ w. Apart c st i (SameAnswer (c .number)) (run {i = i} concrete
+        (ends-request Out e (Done (fetchOf (received e (v .len)) s))) s)
         (run {i = i} concrete (ends-request Out e (Done w)) t))
-        (received-same s t l (v .len) (omega (arith, m, within k v z))) (p-ends-request {i = i} Out e (Done _) .on s t l)
+        (received-same s t l (v .len) (omega (arith, m, within k v z)))
+        (p-ends-request {i = i} Out e (Done _) .on s t l)
 
     ready : (v : EpCore) (b : Bool) (s t : St) → LowEquiv c quiet s t → plainOf (epOn (s .0) Out e) ≡ v
         → Apart c st i (SameAnswer (c .number)) (run {i = i} concrete (test b (readyOut e k v) (notReady e)) s)
@@ -110,7 +120,8 @@ module _ (c : Channel) (e : ℕ) (n : key Out e ≢ key Out (c .number)) where
     chosen v true s t l p = p-take-iso {i = i} k .on s t l
     chosen v false s t l p = ready v (isOn (v .ready)) s t l p
 
-  pub p-poll-read : {st : ℕ} {i : Bool} (k : ℕ) → Pair c st {i = i} (SameAnswer (c .number)) (polled Out e k (taking e k)) (polled Out e k (taking e k))
+  pub p-poll-read : {st : ℕ} {i : Bool} (k : ℕ) → Pair c st {i = i} (SameAnswer (c .number))
+      (polled Out e k (taking e k)) (polled Out e k (taking e k))
   p-poll-read {st} {i} k = p-polled Out e k n (record {
     on = λ s t l. subst
         (λ q. Apart c st i (SameAnswer (c .number)) (run {i = i} concrete (taking e k (plainOf (epOn (s .0) Out e))) s)

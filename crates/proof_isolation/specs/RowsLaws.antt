@@ -38,11 +38,13 @@ module _ {c : Channel} {st : ℕ} {i : Bool} where
       → Pair c st (SameAnswer (c .number)) (enabled-else dir e q p) (enabled-else dir e q′ p′)
   p-enabled dir e q p = p-globals c (λ g _. p-test _ (λ _. p) (λ _. q))
 
-  pub p-ends-request : (dir : Dir) (e : ℕ) (a : Answer) → Pair c st {i = i} (SameAnswer (c .number)) (ends-request dir e a) (ends-request dir e a)
+  pub p-ends-request : (dir : Dir) (e : ℕ) (a : Answer)
+      → Pair c st {i = i} (SameAnswer (c .number)) (ends-request dir e a) (ends-request dir e a)
   p-ends-request dir e a = p-then (p-put-request c dir e _) (p-ret (same a))
 
   pub p-polled : (dir : Dir) (e n : ℕ) → key dir e ≢ key Out (c .number) → {p : EpCore → Script i Answer}
       → Pair c st (SameAnswer (c .number)) (bind (get (ep-cell dir e)) p) (bind (get (ep-cell dir e)) p)
       → Pair c st (SameAnswer (c .number)) (polled dir e n p) (polled dir e n p)
   p-polled dir e n k h = p-same (p-request c dir e k)
-      (λ r. p-unless _ 15 (p-test _ (λ _. h) (λ _. p-then (p-modify-ep c dir e (withReady 0) (λ _. refl)) (p-ends-request dir e _))))
+      (λ r. p-unless _ 15 (p-test _ (λ _. h) (λ _. p-then (p-modify-ep c dir e (withReady 0) (λ _. refl))
+      (p-ends-request dir e _))))

@@ -13,11 +13,12 @@ use Rattle.state.specs.Wakes.{listed}
 use Rattle.ring.specs.Waiting.{waiting}
 use Rattle.script.specs.Answers.{Answer, Refused, End}
 use Rattle.script.specs.Calls.{Config, Op, interrupt, slotted, other, aside, slots, calls, startRow}
-use Rattle.script.specs.Machine.{Buf, Question, pending, overruns, enabled, Call, start, begin, go, question, Event, Ans}
-use Rattle.script.specs.Machine.{ended, handed, told, Way, idle, busy, Machine, over, misfit, lentTo}
+use Rattle.script.specs.Machine.{Buf, Question, pending, overruns, enabled, Call, start, begin, continue, question}
+use Rattle.script.specs.Machine.{Event, Ans}
+use Rattle.script.specs.Machine.{ended, handed, told, Pending, idle, busy, Machine, over, misfit, lentTo}
 use Rattle.script_ops.specs.Rings.{St}
 use Rattle.machine.specs.Suspended.{driverOf, drive}
-use Rattle.answer.specs.Goes.{Called}
+use Rattle.answer.specs.Goes.{StepResult}
 use Rattle.answer.specs.Questions.{questionOf}
 use Rattle.proof_book.specs.Coupling.{endOf, lensOf, slotStamps}
 use Rattle.proof_book.specs.Stamps.{stamped}
@@ -30,8 +31,8 @@ use Rattle.proof_isolation.specs.Stores.{StoredAlike, OwnLent}
 
 -- ---- the runs
 
--- one of the two: its machine of calls, the access that it handed out last, what it was answered last (to the channel's own opens, closes and
--- polls apart), and the bus time in use
+-- one of the two: its machine of calls, the access that it handed out last, what it was answered last (to the channel's
+-- own opens, closes and polls apart), and the bus time in use
 pub record Run : Type 0 where
   pub machine : Machine Answer Driver
   pub access : Access
@@ -44,8 +45,9 @@ pub record Two : Type 0 where
   pub second : Run
   pub status : ℕ
 
--- what both get: an operation begun or a call that ends at once, with the status word of an interrupt; a continue with its two readings; a
--- question; the chip's stores; what other drivers do to the bus time. What one of them gets alone. Each with the slot buffers as they stand then
+-- what both get: an operation begun or a call that ends at once, with the status word of an interrupt; a continue with
+-- its two readings; a question; the chip's stores; what other drivers do to the bus time. What one of them gets alone.
+-- Each with the slot buffers as they stand then
 pub data Turn : Type 0 where
   begins : ℕ → Op → Buf → Buf → Turn
   goes : ℕ → ℕ → Buf → Buf → Turn
@@ -66,30 +68,37 @@ accessOf (handed q′) q = q′
 accessOf (told k) q = q
 
 -- a run after a call
-abbrev pub runBy : Access → Called × List ℕ → Run
+abbrev pub runBy : Access → StepResult × List ℕ → Run
 runBy q z = record { machine = z .0 .1; access = accessOf (z .0 .0) q; answer = z .0 .0; time = z .1 }
 
-abbrev pub ownBy : Access → Ans Answer → Called × List ℕ → Run
+abbrev pub ownBy : Access → Ans Answer → StepResult × List ℕ → Run
 ownBy q a z = record { machine = z .0 .1; access = accessOf (z .0 .0) q; answer = a; time = z .1 }
 
 -- after stores
 abbrev pub storedIn : Buf → Run → Run
-storedIn b r = record { machine = lentTo calls driverOf (r .machine) b; access = r .access; answer = r .answer; time = r .time }
+storedIn b r = record {
+  machine = lentTo calls driverOf (r .machine) b;
+  access = r .access;
+  answer = r .answer;
+  time
+      = r .time;
+}
 
 -- and after other drivers' calls
 abbrev pub sharing : (List ℕ → List ℕ) → Run → Run
 sharing f r = record { machine = r .machine; access = r .access; answer = r .answer; time = f (r .time) }
 
 -- the status word: that of the operation under way
-abbrev pub statusOf : Way Answer Driver → ℕ → ℕ → ℕ
+abbrev pub statusOf : Pending Answer Driver → ℕ → ℕ → ℕ
 statusOf idle st old = st
 statusOf (busy i a k) st old = old
 
 -- of driver n; `share`: it shares the bus time with others, and is turned down where that has no room (row 19)
 module _ (share : Bool) (n : ℕ) where
-  abbrev pub shared : Call Config Op → Machine Answer Driver → List ℕ → Buf → Called × List ℕ
+  abbrev pub shared : Call Config Op → Machine Answer Driver → List ℕ → Buf → StepResult × List ℕ
   shared c m t b =
-      cond (turnedDown n (sortOf c) (drive c m b .0) (m .st) t && share) ((ended (Refused 19), lentTo calls driverOf m b), t) (
+      cond (turnedDown n (sortOf c) (drive c m b .0) (m .st) t && share)
+      ((ended (Refused 19), lentTo calls driverOf m b), t) (
         drive c m b,
         timeAfter n (sortOf c) (drive c m b .0) (m .st) t,
       )
@@ -103,7 +112,7 @@ module _ (share : Bool) (n : ℕ) where
 
   -- alone: the continue of an access of the channel's own is compared
   abbrev pub alone : Call Config Op → Buf → Run → Run
-  alone (go v) b r = called (go v) b r
+  alone (continue v) b r = called (continue v) b r
   alone (begin o) b r = apart (begin o) b r
   alone (start c) b r = apart (start c) b r
   alone (question q) b r = apart (question q) b r
@@ -112,10 +121,20 @@ module _ (share : Bool) (n : ℕ) where
   turn (begins st o b b′) w = record {
     first = called (begin o) b (w .first);
     second = called (begin o) b′ (w .second);
-    status = statusOf (w .first .machine .way) st (w .status);
+    status = statusOf (w .first .machine .under-way) st (w .status);
   }
-  turn (goes v v′ b b′) w = record { first = called (go v) b (w .first); second = called (go v′) b′ (w .second); status = w .status }
-  turn (asked q b b′) w = record { first = called (question q) b (w .first); second = called (question q) b′ (w .second); status = w .status }
+  turn (goes v v′ b b′) w = record {
+    first = called (continue v) b (w .first);
+    second
+        = called (continue v′) b′ (w .second);
+    status = w .status;
+  }
+  turn (asked q b b′) w = record {
+    first = called (question q) b (w .first);
+    second
+        = called (question q) b′ (w .second);
+    status = w .status;
+  }
   turn (stores b b′) w = record { first = storedIn b (w .first); second = storedIn b′ (w .second); status = w .status }
   turn (others-time f) w = record { first = sharing f (w .first); second = sharing f (w .second); status = w .status }
   turn (first e) w = record { first = alone (e .call) (e .lent) (w .first); second = w .second; status = w .status }
@@ -130,7 +149,8 @@ module _ (share : Bool) (n : ℕ) where
   abbrev pub heeded : List Early → Run → List (Event Config Op)
   heeded [] r = []
   heeded (gets e ∷ es) r =
-      cond (turnedDown n (sortOf (e .call)) (drive (e .call) (r .machine) (e .lent) .0) (r .machine .st) (r .time) && share)
+      cond (turnedDown n (sortOf (e .call)) (drive (e .call) (r .machine) (e .lent) .0) (r .machine .st) (r .time)
+      && share)
       (record { call = question (pending 0); lent = e .lent }) e ∷ heeded es (called (e .call) (e .lent) r)
   heeded (shares f ∷ es) r = heeded es (sharing f r)
 
@@ -147,7 +167,7 @@ Passes interrupt = ⊥
 Passes (slotted o) = ⊥
 Passes (other o) = ⊥
 
-abbrev pub Timely : Way Answer Driver → Op → Type 0
+abbrev pub Timely : Pending Answer Driver → Op → Type 0
 Timely idle o = Unit {0}
 Timely (busy i a k) o = Passes o
 
@@ -155,11 +175,11 @@ Timely (busy i a k) o = Passes o
 abbrev pub unfit : Call Config Op → Run → Buf → Bool
 unfit (start k) r b = false
 unfit (begin o) r b = cond (slots o) (misfit calls driverOf (r .machine .st) b) false
-unfit (go v) r b = misfit calls driverOf (r .machine .st) b
+unfit (continue v) r b = misfit calls driverOf (r .machine .st) b
 unfit (question q) r b = false
 
 -- row 16: a reading with bits above its width
-abbrev pub wide : Way Answer Driver → ℕ → Bool
+abbrev pub wide : Pending Answer Driver → ℕ → Bool
 wide idle v = false
 wide (busy i a k) v = over calls a v
 
@@ -174,21 +194,24 @@ module _ (c : Channel) where
   Asked (overruns e) = key Out e ≢ key Out (c .number)
   Asked (enabled dir e) = Unit {0}
 
-  -- a call of both: refused with 1, which any buffer of a wrong length is; or lent the slot buffers as `StoredAlike` says
+  -- a call of both: refused with 1, which any buffer of a wrong length is; or lent the slot buffers as `StoredAlike`
+  -- says
   pub data BothCall (o : Op) (r r′ : Run) (b b′ : Buf) : Type 0 where
     call-row1 : unfit (begin o) r b ≡ true → unfit (begin o) r′ b′ ≡ true → BothCall o r r′ b b′
     call-lent : StoredAlike c (stateOf r) (stateOf r′) b b′ → BothCall o r r′ b b′
 
   -- after a reading its values; where nothing is under way any number (row 15)
-  abbrev pub BringsAt : Way Answer Driver → ℕ → Access → ℕ → ℕ → Type 0
+  abbrev pub BringsAt : Pending Answer Driver → ℕ → Access → ℕ → ℕ → Type 0
   BringsAt idle st q v v′ = Unit {0}
   BringsAt (busy i a k) st q v v′ = Brings (c .number) st q v v′
 
-  -- a continue of both: refused with 1; refused with 16, both readings being too wide; or with readings as `Brings` says
+  -- a continue of both: refused with 1; refused with 16, both readings being too wide; or with readings as `Brings`
+  -- says
   pub data BothGo (st v v′ : ℕ) (r r′ : Run) (b b′ : Buf) : Type 0 where
-    go-row1 : unfit (go v) r b ≡ true → unfit (go v′) r′ b′ ≡ true → BothGo st v v′ r r′ b b′
-    go-row16 : wide (r .machine .way) v ≡ true → wide (r′ .machine .way) v′ ≡ true → StoredAlike c (stateOf r) (stateOf r′) b b′ → BothGo st v v′ r r′ b b′
-    go-on : wide (r .machine .way) v ≡ false → wide (r′ .machine .way) v′ ≡ false → BringsAt (r .machine .way) st (r .access) v v′
+    go-row1 : unfit (continue v) r b ≡ true → unfit (continue v′) r′ b′ ≡ true → BothGo st v v′ r r′ b b′
+    go-row16 : wide (r .machine .under-way) v ≡ true → wide (r′ .machine .under-way) v′ ≡ true → StoredAlike c (stateOf r) (stateOf r′) b b′ → BothGo st v v′ r r′ b b′
+    go-on : wide (r .machine .under-way) v ≡ false → wide (r′ .machine .under-way) v′ ≡ false
+        → BringsAt (r .machine .under-way) st (r .access) v v′
         → StoredAlike c (stateOf r) (stateOf r′) b b′ → BothGo st v v′ r r′ b b′
 
   -- a call of one alone: refused with 1, or lent its slot buffer as `OwnLent` says
@@ -196,24 +219,29 @@ module _ (c : Channel) where
     own-row1 : unfit d r b ≡ true → OwnCall d r b
     own-lent : OwnLent c (stateOf r) b → OwnCall d r b
 
-  -- alone: the continues of an access of the channel's own, whatever they bring, refused ones too; its opens and closes; its read's polls
+  -- alone: the continues of an access of the channel's own, whatever they bring, refused ones too; its opens and
+  -- closes; its read's polls
   abbrev pub Alone : Call Config Op → Buf → Run → Type 0
-  Alone (go v) b r = (atOwn r ≡ true) × OwnCall (go v) r b
-  Alone (begin o) b r = OfChannel (c .number) o × Timely (r .machine .way) o × OwnCall (begin o) r b
+  Alone (continue v) b r = (atOwn r ≡ true) × OwnCall (continue v) r b
+  Alone (begin o) b r = OfChannel (c .number) o × Timely (r .machine .under-way) o × OwnCall (begin o) r b
   Alone (start k) b r = startRow k b ≢ zero
   Alone (question q) b r = b ≡ r .machine .buf
 
-  -- What is allowed. "They line up by the accesses not made for it, between which the others get the same calls and stores in the same order":
-  -- a call, a question or a store of both where both stand at an access of the channel's own or neither does; a continue of both where neither does, with
-  -- the same readings but for the channel's lengths. Both may be refused with 1 or 16. One alone: continues of an access of the channel's own, refused ones
-  -- too; the channel's opens, closes and read's polls; stores in the channel's slots. Not allowed: a call of the others where one stands at an access of
-  -- the channel's own and the other does not; a start-up (it begins a new session)
+  -- What is allowed. "They line up by the accesses not made for it, between which the others get the same calls and
+  -- stores in the same order": a call, a question or a store of both where both stand at an access of the channel's own
+  -- or neither does; a continue of both where neither does, with the same readings but for the channel's lengths. Both
+  -- may be refused with 1 or 16. One alone: continues of an access of the channel's own, refused ones too; the
+  -- channel's opens, closes and read's polls; stores in the channel's slots. Not allowed: a call of the others where
+  -- one stands at an access of the channel's own and the other does not; a start-up (it begins a new session)
   abbrev pub May : Turn → Two → Type 0
   May (begins st o b b′) w = (atOwn (w .first) ≡ atOwn (w .second)) × Common (c .number) o
-      × Timely (w .first .machine .way) o × BothCall o (w .first) (w .second) b b′
-  May (goes v v′ b b′) w = (atOwn (w .first) ≡ false) × (atOwn (w .second) ≡ false) × BothGo (w .status) v v′ (w .first) (w .second) b b′
-  May (asked q b b′) w = (atOwn (w .first) ≡ atOwn (w .second)) × Asked q × StoredAlike c (stateOf (w .first)) (stateOf (w .second)) b b′
-  May (stores b b′) w = (atOwn (w .first) ≡ atOwn (w .second)) × StoredAlike c (stateOf (w .first)) (stateOf (w .second)) b b′
+      × Timely (w .first .machine .under-way) o × BothCall o (w .first) (w .second) b b′
+  May (goes v v′ b b′) w = (atOwn (w .first) ≡ false) × (atOwn (w .second) ≡ false)
+      × BothGo (w .status) v v′ (w .first) (w .second) b b′
+  May (asked q b b′) w = (atOwn (w .first) ≡ atOwn (w .second)) × Asked q
+      × StoredAlike c (stateOf (w .first)) (stateOf (w .second)) b b′
+  May (stores b b′) w = (atOwn (w .first) ≡ atOwn (w .second))
+      × StoredAlike c (stateOf (w .first)) (stateOf (w .second)) b b′
   May (others-time f) w = Unit {0}
   May (first e) w = Alone (e .call) (e .lent) (w .first)
   May (second e) w = Alone (e .call) (e .lent) (w .second)
@@ -226,7 +254,7 @@ pub data SameAns (x : ℕ) : Ans Answer → Ans Answer → Type 0 where
   ended-same : (k : ℕ) {l l′ : List ℕ} → others x l ≡ others x l′ → SameAns x (ended (End k l)) (ended (End k l′))
 
 -- nothing is under way in both, or the same access
-abbrev pub SameStand : Way Answer Driver → Way Answer Driver → Access → Access → Type 0
+abbrev pub SameStand : Pending Answer Driver → Pending Answer Driver → Access → Access → Type 0
 SameStand idle idle q q′ = Unit {0}
 SameStand idle (busy i a k) q q′ = ⊥
 SameStand (busy i a k) idle q q′ = ⊥
@@ -243,7 +271,8 @@ module _ (c : Channel) where
     -- of its slots
     pub bytes : (dir : Dir) (e k : ℕ) → key dir e ≢ key Out (c .number)
         → epOn (m .st) dir e .base ≤ k → k < endOf (epOn (m .st) dir e) → getD (m .buf) k 0 ≡ getD (m′ .buf) k 0
-    pub overrun : (e : ℕ) → key Out e ≢ key Out (c .number) → epOn (m .st) Out e .overruns ≡ epOn (m′ .st) Out e .overruns
+    pub overrun : (e : ℕ) → key Out e ≢ key Out (c .number) → epOn (m .st) Out e .overruns
+        ≡ epOn (m′ .st) Out e .overruns
     -- gathered so far, "the order in which wake-ups of other endpoints stand to each other"
     pub wakes : others (c .number) (listed (m .st .wakes)) ≡ others (c .number) (listed (m′ .st .wakes))
     pub questions : (q : Question) → Asked c q → questionOf q (m .st) ≡ questionOf q (m′ .st)
@@ -266,10 +295,13 @@ module _ (c : Channel) where
   -- after a turn
   pub record After (t : Turn) (w : Two) : Type 0 where
     pub answers : Answered t w
-    -- where neither stands at an access of the channel's own, both stand at the same access or at rest, and were answered the same last
+    -- where neither stands at an access of the channel's own, both stand at the same access or at rest, and were
+    -- answered the same last
     pub stands : atOwn c (w .first) ≡ false → atOwn c (w .second) ≡ false
-        → SameStand (w .first .machine .way) (w .second .machine .way) (w .first .access) (w .second .access)
-    pub lined : atOwn c (w .first) ≡ false → atOwn c (w .second) ≡ false → SameAns (c .number) (w .first .answer) (w .second .answer)
+        → SameStand (w .first .machine .under-way) (w .second .machine .under-way) (w .first .access)
+        (w .second .access)
+    pub lined : atOwn c (w .first) ≡ false → atOwn c (w .second) ≡ false
+        → SameAns (c .number) (w .first .answer) (w .second .answer)
     -- there, and where both do
     pub alike : atOwn c (w .first) ≡ atOwn c (w .second) → SameOthers (w .first .machine) (w .second .machine)
     -- "the bus time in use agrees too"

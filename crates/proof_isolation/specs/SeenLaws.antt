@@ -1,6 +1,6 @@
--- Where a store is seen the two runs do not line up. The late run's continue came to an access of the channel's own; with
--- the stores before it, as the other run got them, it comes to an access made for another isochronous OUT endpoint, whose
--- first word they changed
+-- Where a store is seen the two runs do not line up. The late run's continue came to an access of the channel's own;
+-- with the stores before it, as the other run got them, it comes to an access made for another isochronous OUT
+-- endpoint, whose first word they changed
 use mathlib.Core.Bool.{Bool, true, false, true≢false}
 use mathlib.Core.List.{List}
 use mathlib.Core.Path.{_≡_, refl, ap, subst, sym, _∙_}
@@ -21,7 +21,7 @@ use Rattle.proof_isolation.specs.StandingLaws.{at-stands}
 use Rattle.proof_isolation.specs.Late.{Light, AnyStore, Continues, OfOthers, gone, lits}
 use Rattle.proof_isolation.specs.Does.{Does}
 use Rattle.proof_isolation.specs.DoesLaws.{does-before, does-after}
-use Rattle.proof_isolation.specs.SlidesLaws.{Made, made, Slid, slid-end, slid-ask, slid-lost, slid-seen, FreeWay}
+use Rattle.proof_isolation.specs.SlidesLaws.{made, Slid, slid-end, slid-ask, slid-lost, slid-seen, FreeWay}
 use Rattle.proof_isolation.specs.CrossingLaws.{gone-is, Gets, gets-at, OwnSome, own-some, does-lits}
 use Rattle.proof_isolation.specs.LateRunsLaws.{own-now, reach}
 
@@ -36,8 +36,10 @@ module _ (c : Channel) (share : Bool) (n : ℕ) where
     pub another : eqb endpoint (c .number) ≡ false
     pub stands : StandsFor endpoint (gone share n v (lits share n os r))
 
-  module _ (p : Access) (g : ℕ → St → tree.Out St Answer) (q : Access) (a : Ans Answer) (τ : List ℕ) {os : List Light} {us : List (Ans Answer)} {s t : St}
-      (d : Does c os us s t) (f : FreeWay c (busy true (awaited p) g)) (v : ℕ) (w : wide (busy true (awaited p) g) v ≡ false) where
+  module _ (p : Access) (g : ℕ → St → tree.Out St Answer) (q : Access) (a : Ans Answer) (τ : List ℕ) {os : List Light}
+      {us : List (Ans Answer)} {s t : St}
+      (d : Does c os us s t) (f : FreeWay c (busy true (awaited p) g)) (v : ℕ) (w : wide (busy true (awaited p) g) v
+      ≡ false) where
     abbrev r : Run
     r = runOf true (asks p s g) q a τ
 
@@ -45,7 +47,8 @@ module _ (c : Channel) (share : Bool) (n : ℕ) where
     outcome z y = runOf true y p (stops true y .0) (timeAfter n going (stops true y .0) (z .0) τ)
 
     early : gone share n v (lits share n os r) ≡ outcome t (g v t)
-    early = ap (λ z. gone share n v z) (does-lits c share n p g q a τ d) ∙ gone-is c share n v p t g q a τ (does-after c d) w
+    early = ap (λ z. gone share n v z) (does-lits c share n p g q a τ d)
+        ∙ gone-is c share n v p t g q a τ (does-after c d) w
 
     late : gone share n v r ≡ outcome s (g v s)
     late = gone-is c share n v p s g q a τ (does-before c d) w
@@ -55,34 +58,45 @@ module _ (c : Channel) (share : Bool) (n : ℕ) where
     seen-by (slid-end x) eu h m = absurd (true≢false (sym (h .is)))
     seen-by (slid-lost x) eu h m = absurd (true≢false (sym (h .is) ∙ another-made (x (h .state))))
     seen-by (slid-ask x) eu h m =
-        absurd (m (subst (OwnSome c share n) (sym (early ∙ ap (outcome t) eu)) (record { state = h .state; is = h .is })))
+        absurd (m (subst (OwnSome c share n) (sym (early ∙ ap (outcome t) eu))
+        (record { state = h .state; is = h .is })))
     seen-by (slid-seen e z b (made {s = s} x)) eu h m = record {
       stores = b;
       endpoint = e;
       another = z;
-      stands = record { is = subst (λ (r : Run). own e (r .access) (r .machine) ≡ true) (sym (early ∙ ap (outcome t) eu)) (its-made (x s)) };
+      stands = record {
+        is = subst (λ (r : Run). own e (r .access) (r .machine) ≡ true)
+            (sym (early ∙ ap (outcome t) eu)) (its-made (x s));
+      };
     }
 
-    seen-at : OwnSome c share n (gone share n v r) → (OwnSome c share n (gone share n v (lits share n os r)) → ⊥) → Seen v os r
+    seen-at : OwnSome c share n (gone share n v r) → (OwnSome c share n (gone share n v (lits share n os r)) → ⊥)
+        → Seen v os r
     seen-at h m = seen-by (f .1 os us v s t d) refl (subst (OwnSome c share n) late h) m
 
-  seen : {os : List Light} {us : List (Ans Answer)} {r : Run} → Gets c share n os us r → (v : ℕ) → wide (r .machine .way) v ≡ false
-      → OwnSome c share n (gone share n v r) → (OwnSome c share n (gone share n v (lits share n os r)) → ⊥) → Seen v os r
+  seen : {os : List Light} {us : List (Ans Answer)} {r : Run} → Gets c share n os us r → (v : ℕ)
+      → wide (r .machine .under-way) v ≡ false
+      → OwnSome c share n (gone share n v r) → (OwnSome c share n (gone share n v (lits share n os r)) → ⊥)
+      → Seen v os r
   seen (gets-at p g q a τ d f) v w h m = seen-at p g q a τ d f v w h m
 
-  -- Two runs at an access that is not made for the channel; the late one's continue comes to an access of the channel's own,
-  -- with the stores first it does not
+  -- Two runs at an access that is not made for the channel; the late one's continue comes to an access of the channel's
+  -- own, with the stores first it does not
   pub record Parts (v v′ : ℕ) (os : List Light) (w : Two) : Type 0 where
     -- with what the others get first, it comes to an access made for another isochronous OUT endpoint
     pub seen : Seen v os (w .first)
-    -- so does the other run, which gets it first: where it is not at an access of the channel's own it stands at the same
+    -- so does the other run, which gets it first: where it is not at an access of the channel's own it stands at the
+    -- same
     pub same : atOwn c (gone share n v′ (lits share n os (w .second))) ≡ false → SameStand
-        (gone share n v (lits share n os (w .first)) .machine .way) (gone share n v′ (lits share n os (w .second)) .machine .way)
+        (gone share n v (lits share n os (w .first)) .machine .under-way)
+        (gone share n v′ (lits share n os (w .second)) .machine .under-way)
         (gone share n v (lits share n os (w .first)) .access) (gone share n v′ (lits share n os (w .second)) .access)
 
-  pub seen-parts : {w : Two} → At c w → FreeWay c (w .first .machine .way) → FreeWay c (w .second .machine .way) → (v v′ : ℕ) (os : List Light)
+  pub seen-parts : {w : Two} → At c w → FreeWay c (w .first .machine .under-way)
+      → FreeWay c (w .second .machine .under-way) → (v v′ : ℕ) (os : List Light)
       → Continues c (w .status) v v′ (w .first) (w .second) → OfOthers c share n os (w .second)
-      → atOwn c (gone share n v (w .first)) ≡ true → atOwn c (gone share n v (lits share n os (w .first))) ≡ false → Parts v v′ os w
+      → atOwn c (gone share n v (w .first)) ≡ true → atOwn c (gone share n v (lits share n os (w .first))) ≡ false
+      → Parts v v′ os w
   seen-parts {w} a f f′ v v′ os m o h k =
       let y = reach c share n a f f′ v v′ os m o in
       record {

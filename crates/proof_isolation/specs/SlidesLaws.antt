@@ -1,5 +1,5 @@
--- A part of an interrupt that ends at an access of the channel's own: what the others get may fall before it or after it,
--- unless it is a store that the part sees
+-- A part of an interrupt that ends at an access of the channel's own: what the others get may fall before it or after
+-- it, unless it is a store that the part sees
 use mathlib.Core.Bool.{Bool, true, false, cond, true≢false}
 use mathlib.Core.List.{List, [], _∷_}
 use mathlib.Core.Path.{_≡_, refl, ap, subst, sym, _∙_}
@@ -30,23 +30,29 @@ use Rattle.script.specs.declared.Transfer.{Transfer}
 use Rattle.script.specs.Tree as tree
 use Rattle.script.specs.Tree.{ends, asks, bindOut}
 use Rattle.script.specs.Cells.{Cell, Val, EpCore, globals-cell, ep-cell}
-use Rattle.script.specs.Script.{Script, Act, run, ret, done, bind, test, _>>=_, _>>_, when, read, write, callback, get, put, is, look, fetch, act, hand}
-use Rattle.script.specs.Script.{changed, waiting, marked, next-len, setup-word, gathered, complete, no-wakes, waken, arrive, send}
-use Rattle.script.specs.Statics.{withReady, withArmed, withSetup, isoInEvery, isoOuts, modify, modifyEp, modifyReg, modifyIntEn, wake}
+use Rattle.script.specs.Script.{Script, Act, run, ret, done, bind, test, _>>=_, _>>_, when, read, write, callback, get}
+use Rattle.script.specs.Script.{put, is, look, fetch, act, hand}
+use Rattle.script.specs.Script.{changed, waiting, marked, next-len, setup-word, gathered, complete, no-wakes, waken}
+use Rattle.script.specs.Script.{arrive, send}
+use Rattle.script.specs.Statics.{withReady, withArmed, withSetup, isoInEvery, isoOuts, modify, modifyEp, modifyReg}
+use Rattle.script.specs.Statics.{modifyIntEn, wake}
 use Rattle.script.specs.Answers.{Answer}
 use Rattle.script.specs.Simulates.{quiet}
 use Rattle.script.specs.TransferKinds.{allocates}
 use Rattle.script.specs.IsoIn.{firstInFrame, isoInLoad, isoInComplete, unseen, sofOne, sofWalk, onSof, lateWalk}
 use Rattle.script.specs.IsoOut.{arriving, entry, arrives, checkOne, checkWalk, isoOutCheck}
-use Rattle.script.specs.Handler.{looks, nakNonIso, toggled, retake, settle, received, sent, outArm, isoInArm, inArm, entered, framed, isoFor}
-use Rattle.script.specs.Handler.{dispatch, movedOn, ep0MovedOn, served, onTransfer, takeSetup, onSetup, onInterrupt, stampedInterrupt}
+use Rattle.script.specs.Handler.{looks, nakNonIso, toggled, retake, settle, received, sent, outArm, isoInArm, inArm}
+use Rattle.script.specs.Handler.{entered, framed, isoFor}
+use Rattle.script.specs.Handler.{dispatch, movedOn, ep0MovedOn, served, onTransfer, takeSetup, onSetup, onInterrupt}
+use Rattle.script.specs.Handler.{stampedInterrupt}
 use Rattle.script.specs.Calls.{Config, Op, interrupt, slotted, other, aside, calls, code, startRow, interruptCode}
-use Rattle.script.specs.Machine.{Ans, Buf, Call, start, begin, go, question, Way, idle, busy, Machine, over, misfit, stay, lentTo}
-use Rattle.script.specs.Machine.{beside, begun, continued, started}
+use Rattle.script.specs.Machine.{Ans, Buf, Call, start, begin, continue, question, Pending, idle, busy, Machine, over}
+use Rattle.script.specs.Machine.{misfit, stay, lentTo}
+use Rattle.script.specs.Machine.{duringInterrupt, begun, continued, started}
 use Rattle.script_ops.specs.Rings.{St}
-use Rattle.script_ops.specs.Concrete.{concrete, getOn, putOn, isOf, lookOf, actOn, handOn}
+use Rattle.script_ops.specs.Concrete.{concrete, getOn, isOf, lookOf, actOn, handOn}
 use Rattle.machine.specs.Suspended.{driverOf, drive}
-use Rattle.answer.specs.Goes.{Called}
+use Rattle.answer.specs.Goes.{StepResult}
 use Rattle.proof_isolation.specs.EqualExcept.{Lawful, Channel}
 use Rattle.proof_isolation.specs.Whose.{sof}
 use Rattle.proof_isolation.specs.Apart.{next, Another, never, elsewhere, Its, status, receive}
@@ -56,7 +62,8 @@ use Rattle.proof_isolation.specs.ButsLaws.{lawful-put, lawful-act}
 use Rattle.proof_isolation.specs.Late.{Light, isStore, AnyStore}
 use Rattle.proof_isolation.specs.Standing.{stops}
 use Rattle.proof_isolation.specs.Does.{Does}
-use Rattle.proof_isolation.specs.DoesLaws.{does-before, does-get, does-own, does-marked, does-changed, does-wakes-same, does-put, does-wakes}
+use Rattle.proof_isolation.specs.DoesLaws.{does-before, does-get, does-own, does-marked, does-changed}
+use Rattle.proof_isolation.specs.DoesLaws.{does-wakes-same, does-put, does-wakes}
 use Rattle.proof_isolation.specs.DoesLaws.{does-address, does-arrive}
 
 -- there are stores among them or not
@@ -78,42 +85,53 @@ made-bind g (made h) = made (λ t. its-bind g (h t))
 
 module _ (c : Channel) where
   -- one script's outcomes from a state, and from that state with what the others get (`Does`): both end or hand out the
-  -- same access and go on alike, and the others may as well get it then; or the first hands out an access that is not made
-  -- for the channel; or a store is seen: the second hands out an access made for another isochronous OUT endpoint
+  -- same access and continue on alike, and the others may as well get it then; or the first hands out an access that is
+  -- not made for the channel; or a store is seen: the second hands out an access made for another isochronous OUT
+  -- endpoint
   pub data Slid (os : List Light) (us : List (Ans Answer)) {A : Type 0} : tree.Out St A → tree.Out St A → Type 0 where
     slid-end : {a : A} {s t : St} → Does c os us s t → Slid os us (ends a s) (ends a t)
-    slid-ask : {q : Access} {s t : St} {k : ℕ → St → tree.Out St A} → Does c os us s t → Slid os us (asks q s k) (asks q t k)
-    slid-lost : {q : Access} {s : St} {k : ℕ → St → tree.Out St A} {u : tree.Out St A} → ((t : St) → Another (c .number) q (k sof t)) → Slid os us (asks q s k) u
+    slid-ask : {q : Access} {s t : St} {k : ℕ → St → tree.Out St A} → Does c os us s t
+        → Slid os us (asks q s k) (asks q t k)
+    slid-lost : {q : Access} {s : St} {k : ℕ → St → tree.Out St A} {u : tree.Out St A}
+        → ((t : St) → Another (c .number) q (k sof t)) → Slid os us (asks q s k) u
     slid-seen : {y u : tree.Out St A} (e : ℕ) → eqb e (c .number) ≡ false → AnyStore os → Made e u → Slid os us y u
 
   -- wherever it goes on, it goes on so
   pub data Free {A : Type 0} : tree.Out St A → Type 0 where
     free-end : {a : A} {s : St} → Lawful (c .iso) quiet s → Free (ends a s)
-    free-ask : {q : Access} {s : St} {k : ℕ → St → tree.Out St A} → ((v : ℕ) (t : St) → Lawful (c .iso) quiet t → Free (k v t))
-        → ((os : List Light) (us : List (Ans Answer)) (v : ℕ) (s t : St) → Does c os us s t → Slid os us (k v s) (k v t)) → Free (asks q s k)
+    free-ask : {q : Access} {s : St} {k : ℕ → St → tree.Out St A}
+        → ((v : ℕ) (t : St) → Lawful (c .iso) quiet t → Free (k v t))
+        → ((os : List Light) (us : List (Ans Answer)) (v : ℕ) (s t : St) → Does c os us s t
+        → Slid os us (k v s) (k v t)) → Free (asks q s k)
 
-  slid-bind : {os : List Light} {us : List (Ans Answer)} {A B : Type 0} {y u : tree.Out St A} {g : A → St → tree.Out St B} → Slid os us y u
+  slid-bind : {os : List Light} {us : List (Ans Answer)} {A B : Type 0} {y u : tree.Out St A}
+      {g : A → St → tree.Out St B} → Slid os us y u
       → ((a : A) (s t : St) → Does c os us s t → Slid os us (g a s) (g a t)) → Slid os us (bindOut y g) (bindOut u g)
   slid-bind (slid-end p) h = h _ _ _ p
   slid-bind (slid-ask p) h = slid-ask p
   slid-bind {g = g} (slid-lost n) h = slid-lost (λ t. another-bind g (n t))
   slid-bind {g = g} (slid-seen e n w m) h = slid-seen e n w (made-bind g m)
 
-  free-bind : {A B : Type 0} {y : tree.Out St A} {g : A → St → tree.Out St B} → Free y → ((a : A) (s : St) → Lawful (c .iso) quiet s → Free (g a s))
-      → ((os : List Light) (us : List (Ans Answer)) (a : A) (s t : St) → Does c os us s t → Slid os us (g a s) (g a t)) → Free (bindOut y g)
+  free-bind : {A B : Type 0} {y : tree.Out St A} {g : A → St → tree.Out St B} → Free y
+      → ((a : A) (s : St) → Lawful (c .iso) quiet s → Free (g a s))
+      → ((os : List Light) (us : List (Ans Answer)) (a : A) (s t : St) → Does c os us s t → Slid os us (g a s) (g a t))
+      → Free (bindOut y g)
   free-bind (free-end l) h k = h _ _ l
-  free-bind (free-ask f l) h k = free-ask (λ v t m. free-bind (f v t m) h k) (λ os us v s t p. slid-bind (l os us v s t p) (λ a s t q. k os us a s t q))
+  free-bind (free-ask f l) h k = free-ask (λ v t m. free-bind (f v t m) h k)
+      (λ os us v s t p. slid-bind (l os us v s t p) (λ a s t q. k os us a s t q))
 
   -- ---- scripts
 
   pub record Slides {A : Type 0} (p : Script true A) : Type 0 where
     pub free : (s : St) → Lawful (c .iso) quiet s → Free (run concrete p s)
-    pub slid : (os : List Light) (us : List (Ans Answer)) (s t : St) → Does c os us s t → Slid os us (run concrete p s) (run concrete p t)
+    pub slid : (os : List Light) (us : List (Ans Answer)) (s t : St) → Does c os us s t
+        → Slid os us (run concrete p s) (run concrete p t)
 
   s-ret : {A : Type 0} {a : A} → Slides (ret a)
   s-ret = record { free = λ s l. free-end l; slid = λ os us s t p. slid-end p }
 
-  s-bind : {A B : Type 0} {p : Script true A} {f : A → Script true B} → Slides p → ((a : A) → Slides (f a)) → Slides (bind p f)
+  s-bind : {A B : Type 0} {p : Script true A} {f : A → Script true B} → Slides p → ((a : A) → Slides (f a))
+      → Slides (bind p f)
   s-bind h k = record {
     free = λ s l. free-bind (h .free s l) (λ a t m. k a .free t m) (λ os us a s t p. k a .slid os us s t p);
     slid = λ os us s t p. slid-bind (h .slid os us s t p) (λ a s t q. k a .slid os us s t q);
@@ -130,13 +148,25 @@ module _ (c : Channel) where
   s-when b h = s-test b h s-ret
 
   s-read : (r : Reg) (e : ℕ) → Slides (read r e)
-  s-read r e = record { free = λ s l. free-ask (λ v t m. free-end m) (λ os us v s t p. slid-end p); slid = λ os us s t p. slid-ask p }
+  s-read r e = record {
+    free = λ s l. free-ask (λ v t m. free-end m) (λ os us v s t p. slid-end p);
+    slid
+        = λ os us s t p. slid-ask p;
+  }
 
   s-write : (r : Reg) (e v : ℕ) → Slides (write r e v)
-  s-write r e v = record { free = λ s l. free-ask (λ v t m. free-end m) (λ os us v s t p. slid-end p); slid = λ os us s t p. slid-ask p }
+  s-write r e v = record {
+    free = λ s l. free-ask (λ v t m. free-end m) (λ os us v s t p. slid-end p);
+    slid
+        = λ os us s t p. slid-ask p;
+  }
 
   s-callback : Slides callback
-  s-callback = record { free = λ s l. free-ask (λ v t m. free-end m) (λ os us v s t p. slid-end p); slid = λ os us s t p. slid-ask p }
+  s-callback = record {
+    free = λ s l. free-ask (λ v t m. free-end m) (λ os us v s t p. slid-end p);
+    slid
+        = λ os us s t p. slid-ask p;
+  }
 
   s-get : (q : Cell) → Slides (get q)
   s-get q = record {
@@ -145,17 +175,27 @@ module _ (c : Channel) where
   }
 
   s-put : (q : Cell) (v : Val q) → isControl q ≡ false → Slides (put q v)
-  s-put q v h = record { free = λ s l. free-end (lawful-put c q v l h); slid = λ os us s t p. slid-end (does-put c p q v h) }
+  s-put q v h = record {
+    free = λ s l. free-end (lawful-put c q v l h);
+    slid
+        = λ os us s t p. slid-end (does-put c p q v h);
+  }
 
   s-gathered : Slides (fetch gathered)
   s-gathered = record {
     free = λ s l. free-end l;
-    slid = λ os us s t p. subst (λ v. Slid os us (ends (listed (s .0 .wakes)) s) (ends v t)) (sym (ap listed (does-wakes-same c p))) (slid-end p);
+    slid = λ os us s t p. subst (λ v. Slid os us (ends (listed (s .0 .wakes)) s) (ends v t))
+        (sym (ap listed (does-wakes-same c p))) (slid-end p);
   }
 
   -- a change of the wake-ups alone
-  s-wakes : (q : Act) (f : Wakes → Wakes) → allocates q ≡ false → ((s : St) → actOn q s ≡ (withWakes (s .0) (f (s .0 .wakes)), s .1)) → Slides (act q)
-  s-wakes q f a e = record { free = λ s l. free-end (lawful-act c q a l); slid = λ os us s t p. slid-end (does-wakes c p q f a e) }
+  s-wakes : (q : Act) (f : Wakes → Wakes) → allocates q ≡ false
+      → ((s : St) → actOn q s ≡ (withWakes (s .0) (f (s .0 .wakes)), s .1)) → Slides (act q)
+  s-wakes q f a e = record {
+    free = λ s l. free-end (lawful-act c q a l);
+    slid
+        = λ os us s t p. slid-end (does-wakes c p q f a e);
+  }
 
   s-waken : (codes : List ℕ) → Slides (act (waken codes))
   s-waken codes = s-wakes (waken codes) (all-woken codes) refl (λ s. refl)
@@ -185,7 +225,8 @@ module _ (c : Channel) where
   -- ---- a completion: an access that is not the channel's comes before anything else
 
   data Lost {A : Type 0} : tree.Out St A → Type 0 where
-    lost : {q : Access} {s : St} {k : ℕ → St → tree.Out St A} → ((t : St) → Another (c .number) q (k sof t)) → Lost (asks q s k)
+    lost : {q : Access} {s : St} {k : ℕ → St → tree.Out St A} → ((t : St) → Another (c .number) q (k sof t))
+        → Lost (asks q s k)
 
   lost-slid : {os : List Light} {us : List (Ans Answer)} {A : Type 0} {y u : tree.Out St A} → Lost y → Slid os us y u
   lost-slid (lost n) = slid-lost n
@@ -207,13 +248,16 @@ module _ (c : Channel) where
   load-free e s = by (isOf (waiting In e) s)
     where
       by : (b : Bool) → Free (run concrete (loads e b) s)
-      by true = free-ask (λ v t m. free-ask (λ v t m. free-end m) (λ os us v s t p. slid-end p)) (λ os us v s t p. slid-lost (λ _. never refl))
+      by true = free-ask (λ v t m. free-ask (λ v t m. free-end m) (λ os us v s t p. slid-end p))
+          (λ os us v s t p. slid-lost (λ _. never refl))
       by false = free-ask (λ v t m. free-end m) (λ os us v s t p. slid-end p)
 
   s-complete : (e : ℕ) → Slides (isoInComplete e)
   s-complete e = record {
-    free = λ s l. free-bind (load-free e (actOn (complete e) s)) (λ a t m. s-wake In e .free t m) (λ os us a s t p. s-wake In e .slid os us s t p);
-    slid = λ os us s t p. lost-slid (lost-bind (λ _ t. run concrete (wake {i = true} In e) t) (load-lost e (actOn (complete e) s)));
+    free = λ s l. free-bind (load-free e (actOn (complete e) s)) (λ a t m. s-wake In e .free t m)
+        (λ os us a s t p. s-wake In e .slid os us s t p);
+    slid = λ os us s t p. lost-slid (lost-bind (λ _ t. run concrete (wake {i = true} In e) t)
+        (load-lost e (actOn (complete e) s)));
   }
 
   -- ---- the interrupt
@@ -240,7 +284,8 @@ module _ (c : Channel) where
       s-test _ (s-modify-reg EpRxCtrl (endpoint st) _) (s-when _ (s-modify-reg EpTxCtrl (endpoint st) _))))
 
   s-toggled : (dir : Dir) (e : ℕ) → Slides (toggled dir e)
-  s-toggled dir e = s-then (s-looks 2001) (s-bind (s-read (ctrlOf dir) e) (λ w. s-bind (s-get (ep-cell dir e)) (λ p. s-test _
+  s-toggled dir e = s-then (s-looks 2001) (s-bind (s-read (ctrlOf dir) e)
+      (λ w. s-bind (s-get (ep-cell dir e)) (λ p. s-test _
       (s-then (s-when _ (s-modify-reg (ctrlOf dir) e _)) s-ret) (s-then (s-modify-ep dir e _) s-ret))))
 
   s-retake : (x : Transfer) → Slides (retake x)
@@ -248,9 +293,11 @@ module _ (c : Channel) where
       (s-bind (s-read IntFg 0) (λ f. s-test _ s-ret (s-bind (s-read IntSt 0) (λ st. s-then (s-nak st) s-ret)))) s-ret)
 
   s-settle : (x : Transfer) → Slides (settle x)
-  s-settle x = s-bind (s-get (ep-cell Out (endpoint (x .st)))) (λ o. s-bind (s-get (ep-cell In (endpoint (x .st)))) (λ n. s-test _
+  s-settle x = s-bind (s-get (ep-cell Out (endpoint (x .st))))
+      (λ o. s-bind (s-get (ep-cell In (endpoint (x .st)))) (λ n. s-test _
       (s-then (s-looks 2001) (s-bind (s-read IntSt 0) (λ now. s-bind (s-read RxLen 0) (λ len. s-ret))))
-      (s-test _ (s-then (s-looks 2001) (s-bind (s-read RxLen 0) (λ len. s-ret))) (s-test (x .busy) (s-retake x) s-ret))))
+      (s-test _ (s-then (s-looks 2001) (s-bind (s-read RxLen 0) (λ len. s-ret)))
+      (s-test (x .busy) (s-retake x) s-ret))))
 
   s-first : (e frame : ℕ) → Slides (firstInFrame e frame)
   s-first e frame = s-bind (s-get (ep-cell In e)) (λ p. s-then (s-put (ep-cell In e) _ refl) s-ret)
@@ -259,7 +306,8 @@ module _ (c : Channel) where
   s-unseen frame e = s-then (s-modify-ep In e _) (s-complete e)
 
   s-sof-one : (frame e : ℕ) → Slides (sofOne frame e)
-  s-sof-one frame e = s-bind (s-get (ep-cell In e)) (λ p. s-test _ s-ret (s-bind (s-read MisSt 0) (λ m. s-test _ (s-unseen frame e)
+  s-sof-one frame e = s-bind (s-get (ep-cell In e)) (λ p. s-test _ s-ret
+      (s-bind (s-read MisSt 0) (λ m. s-test _ (s-unseen frame e)
       (s-bind (s-read IntSt 0) (λ st. s-test _ s-ret (s-unseen frame e))))))
 
   s-sof-walk : (frame : ℕ) (es : List ℕ) → Slides (sofWalk frame es)
@@ -268,7 +316,8 @@ module _ (c : Channel) where
   s-sof-walk frame (e ∷ es) = s-then (s-sof-one frame e) (s-sof-walk frame es)
 
   s-on-sof : (frame : ℕ) → Slides (onSof frame)
-  s-on-sof frame = s-then (s-modify _) (s-bind (s-get globals-cell) (λ g. s-then (s-sof-walk frame (setBits (isoInEvery g)))
+  s-on-sof frame = s-then (s-modify _) (s-bind (s-get globals-cell)
+      (λ g. s-then (s-sof-walk frame (setBits (isoInEvery g)))
       (s-bind (s-get globals-cell) (λ g. s-when _ s-callback))))
 
   s-late-walk : (frame : ℕ) (es : List ℕ) → Slides (lateWalk frame es)
@@ -282,18 +331,21 @@ module _ (c : Channel) where
   -- its own
   s-own-check : (x : Transfer) (iso : Bool) → Slides (checkOne x iso (c .number))
   s-own-check x iso = s-bind changes (λ b. s-when b (s-test _ (s-arrives (c .number) (x .len) (s-own-arrive (x .len)))
-      (s-bind (s-read IntSt 0) (λ st. s-test _ s-ret (s-bind looks-len (λ len. s-arrives (c .number) len (s-own-arrive len)))))))
+      (s-bind (s-read IntSt 0) (λ st. s-test _ s-ret (s-bind looks-len
+      (λ len. s-arrives (c .number) len (s-own-arrive len)))))))
     where
       changes : Slides (is (changed (c .number)))
       changes = record {
         free = λ s l. free-end l;
-        slid = λ os us s t p. subst (λ v. Slid os us (ends (isOf (changed (c .number)) s) s) (ends v t)) (sym (does-own c p)) (slid-end p);
+        slid = λ os us s t p. subst (λ v. Slid os us (ends (isOf (changed (c .number)) s) s) (ends v t))
+            (sym (does-own c p)) (slid-end p);
       }
 
       looks-len : Slides (look (marked (c .number)))
       looks-len = record {
         free = λ s l. free-end l;
-        slid = λ os us s t p. subst (λ v. Slid os us (ends (lookOf (marked (c .number)) s) s) (ends v t)) (sym (does-marked c p)) (slid-end p);
+        slid = λ os us s t p. subst (λ v. Slid os us (ends (lookOf (marked (c .number)) s) s) (ends v t))
+            (sym (does-marked c p)) (slid-end p);
       }
 
   -- another's: with its first word changed an access made for it is next
@@ -326,7 +378,8 @@ module _ (c : Channel) where
     made-body true s = made (λ _. receive)
     made-body false s = made (λ _. status)
 
-    checks-by : (u v w : Bool) {os : List Light} {us : List (Ans Answer)} {s t : St} → Does c os us s t → (v ≡ w) ⊎ AnyStore os
+    checks-by : (u v w : Bool) {os : List Light} {us : List (Ans Answer)} {s t : St} → Does c os us s t → (v ≡ w)
+        ⊎ AnyStore os
         → Slid os us (run {i = true} concrete (when v (body u)) s) (run {i = true} concrete (when w (body u)) t)
     checks-by u true true p h = s-body u .slid _ _ _ _ p
     checks-by u false false p h = slid-end p
@@ -348,20 +401,24 @@ module _ (c : Channel) where
       by true h = subst (λ a. Slides (checkOne x iso a)) (sym (eqb-true e (c .number) h)) (s-own-check x iso)
       by false h = s-other-check x iso e h i
 
-  s-check-walk : (x : Transfer) (iso : Bool) (es : List ℕ) → ((e : ℕ) → walk-laws.In e es → c .iso Out e ≡ true) → Slides (checkWalk x iso es)
+  s-check-walk : (x : Transfer) (iso : Bool) (es : List ℕ) → ((e : ℕ) → walk-laws.In e es → c .iso Out e ≡ true)
+      → Slides (checkWalk x iso es)
   unfolding checkWalk
   s-check-walk x iso [] f = s-ret
   s-check-walk x iso (e ∷ es) f = s-then (s-check x iso e (f e (inl refl))) (s-check-walk x iso es (λ a m. f a (inr m)))
 
   -- of a lawful state: each of the walk is isochronous
-  walk-isos : (s : St) → Lawful (c .iso) quiet s → (e : ℕ) → walk-laws.In e (setBits (isoOuts (s .0 .globals))) → c .iso Out e ≡ true
+  walk-isos : (s : St) → Lawful (c .iso) quiet s → (e : ℕ) → walk-laws.In e (setBits (isoOuts (s .0 .globals)))
+      → c .iso Out e ≡ true
   walk-isos s l e m = let w = walked-set (isoOuts (s .0 .globals)) e m in
-      among-outs (c .iso Out) (s .0 .globals) (sorted (c .iso) (c .ep0) .shows globals-cell s (l .has) .0) e (w .0) (w .1)
+      among-outs (c .iso Out) (s .0 .globals) (sorted (c .iso) (c .ep0) .shows globals-cell s (l .has) .0) e (w .0)
+      (w .1)
 
   s-iso-out : (x : Transfer) (iso : Bool) → Slides (isoOutCheck x iso)
   s-iso-out x iso = record {
     free = λ s l. s-check-walk x iso (setBits (isoOuts (s .0 .globals))) (walk-isos s l) .free s l;
-    slid = λ os us s t p. subst (λ (g : Globals). Slid os us (run {i = true} concrete (checkWalk x iso (setBits (isoOuts (s .0 .globals)))) s)
+    slid = λ os us s t p. subst (λ (g : Globals). Slid os us
+        (run {i = true} concrete (checkWalk x iso (setBits (isoOuts (s .0 .globals)))) s)
         (run {i = true} concrete (checkWalk x iso (setBits (isoOuts g))) t)) (sym (does-get c p globals-cell))
         (s-check-walk x iso (setBits (isoOuts (s .0 .globals))) (walk-isos s (does-before c p)) .slid os us s t p);
   }
@@ -377,10 +434,12 @@ module _ (c : Channel) where
       (s-bind (s-toggled Out (endpoint (x .st))) (λ b. s-when b (s-received _ _))))
 
   s-iso-in : (e frame : ℕ) → Slides (isoInArm e frame)
-  s-iso-in e frame = s-bind (s-get globals-cell) (λ g. s-test _ s-ret (s-bind (s-first e frame) (λ b. s-when b (s-complete e))))
+  s-iso-in e frame = s-bind (s-get globals-cell) (λ g. s-test _ s-ret
+      (s-bind (s-first e frame) (λ b. s-when b (s-complete e))))
 
   s-in-arm : (x : Transfer) (iso : Bool) (frame : ℕ) → Slides (inArm x iso frame)
-  s-in-arm x iso frame = s-test iso (s-iso-in _ frame) (s-test _ (s-then (s-modify-reg EpTxCtrl 0 _) (s-then (s-modify-ep In 0 _) (s-sent 0)))
+  s-in-arm x iso frame = s-test iso (s-iso-in _ frame)
+      (s-test _ (s-then (s-modify-reg EpTxCtrl 0 _) (s-then (s-modify-ep In 0 _) (s-sent 0)))
       (s-bind (s-toggled In (endpoint (x .st))) (λ b. s-when b (s-sent _))))
 
   s-dispatch : (t : Token) (x : Transfer) (iso : Bool) (frame : ℕ) → Slides (dispatch t x iso frame)
@@ -390,7 +449,8 @@ module _ (c : Channel) where
   s-dispatch tok.Setup x iso frame = s-ret
 
   s-moved : (dir : Dir) → Slides (movedOn dir)
-  s-moved dir = s-bind (s-get (ep-cell dir 0)) (λ p. s-when _ (s-then (s-modify-reg (ctrlOf dir) 0 _) (s-then (s-modify-ep dir 0 _) (s-wake dir 0))))
+  s-moved dir = s-bind (s-get (ep-cell dir 0)) (λ p. s-when _
+      (s-then (s-modify-reg (ctrlOf dir) 0 _) (s-then (s-modify-ep dir 0 _) (s-wake dir 0))))
 
   s-moved-on : (t : Token) → Slides (ep0MovedOn t)
   s-moved-on tok.Out = s-moved In
@@ -413,11 +473,13 @@ module _ (c : Channel) where
       (s-bind (s-settle (entered m st n)) (λ x.
       s-bind (s-get (ep-cell Out (endpoint (x .st)))) (λ o. s-bind (s-get (ep-cell In (endpoint (x .st)))) (λ n.
       s-bind (s-read FrameNo 0) (λ frame. s-bind (s-get globals-cell) (λ g.
-      s-served (framed x (isoFor (token (x .st)) o n) (g .«sof_frame») frame) (isoFor (token (x .st)) o n) frame))))))))))
+      s-served (framed x (isoFor (token (x .st)) o n) (g .«sof_frame») frame) (isoFor (token (x .st)) o n)
+      frame))))))))))
 
   -- the setup packet may be another; a write that is not the channel's comes next
   abbrev setup-taken : ℕ → ℕ → Script true Unit
-  setup-taken low high = modifyEp Out 0 (λ s. withArmed 0 (withReady 0 s)) >> (modifyEp In 0 (λ s. withArmed 0 (withReady 0 s))
+  setup-taken low high = modifyEp Out 0 (λ s. withArmed 0 (withReady 0 s)) >>
+      (modifyEp In 0 (λ s. withArmed 0 (withReady 0 s))
       >> (modify (withSetup 1 low high) >> (write IntFg 0 SETUP_ACT >> (wake Out 0 >> wake In 0))))
 
   s-setup-taken : (low high : ℕ) → Slides (setup-taken low high)
@@ -451,14 +513,14 @@ module _ (c : Channel) where
 
   -- ---- the machine of calls: it holds of what is under way after every call
 
-  abbrev pub FreeWay : Way Answer Driver → Type 0
+  abbrev pub FreeWay : Pending Answer Driver → Type 0
   FreeWay idle = Unit {0}
   FreeWay (busy false a k) = Unit {0}
   FreeWay (busy true a k) = ((v : ℕ) (t : St) → Lawful (c .iso) quiet t → Free (k v t))
       × ((os : List Light) (us : List (Ans Answer)) (v : ℕ) (s t : St) → Does c os us s t → Slid os us (k v s) (k v t))
 
-  abbrev FreeAfter : Called → Type 0
-  FreeAfter x = FreeWay (x .1 .way)
+  abbrev FreeAfter : StepResult → Type 0
+  FreeAfter x = FreeWay (x .1 .under-way)
 
   pub halt-free : {o : tree.Out St Answer} → Free o → FreeAfter (stops true o)
   halt-free (free-end l) = tt
@@ -468,53 +530,63 @@ module _ (c : Channel) where
   halt-late (ends a s) = tt
   halt-late (asks q s k) = tt
 
-  either-free : (b : Bool) (x y : Called) → FreeAfter x → (b ≡ false → FreeAfter y) → FreeAfter (cond b x y)
+  either-free : (b : Bool) (x y : StepResult) → FreeAfter x → (b ≡ false → FreeAfter y) → FreeAfter (cond b x y)
   either-free true x y h k = h
   either-free false x y h k = k refl
 
-  beside-free : (m : Machine Answer Driver) → FreeWay (m .way) → (o : tree.Out St Answer) → FreeAfter (beside calls driverOf m o)
+  beside-free : (m : Machine Answer Driver) → FreeWay (m .under-way) → (o : tree.Out St Answer)
+      → FreeAfter (duringInterrupt calls driverOf m o)
   beside-free m f (ends a s) = f
   beside-free m f (asks q s k) = f
 
   -- the state with the buffer that is lent is lawful where an interrupt begins or goes on
-  abbrev pub Needs : Way Answer Driver → Type 0 → Type 0
+  abbrev pub Needs : Pending Answer Driver → Type 0 → Type 0
   Needs idle L = L
   Needs (busy true q k) L = L
   Needs (busy false q k) L = Unit {0}
 
-  begins-free : (o : Op) (m : Machine Answer Driver) → FreeWay (m .way) → (w : Way Answer Driver) (b : Buf)
-      → (o ≡ interrupt → w ≡ idle → Lawful (c .iso) quiet (m .st, b)) → FreeAfter (begun calls driverOf (λ s. s) o m w b)
+  begins-free : (o : Op) (m : Machine Answer Driver) → FreeWay (m .under-way) → (w : Pending Answer Driver) (b : Buf)
+      → (o ≡ interrupt → w ≡ idle → Lawful (c .iso) quiet (m .st, b))
+      → FreeAfter (begun calls driverOf (λ s. s) o m w b)
   begins-free interrupt m f idle b l = halt-free (s-call .free (m .st, b) (l refl refl))
   begins-free (slotted o) m f idle b l = halt-late (run concrete (code (slotted o)) (m .st, b))
   begins-free (other o) m f idle b l = halt-late (run concrete (code (other o)) (m .st, b))
   begins-free (aside o) m f idle b l = halt-late (run concrete (code (aside o)) (m .st, b))
   begins-free o m f (busy i q k) b l = either-free (cond i (calls .aside o) false)
-      (beside calls driverOf (lentTo calls driverOf m b) (run concrete (code o) (m .st, b)))
-      (stay calls driverOf 3 (lentTo calls driverOf m b)) (beside-free (lentTo calls driverOf m b) f (run concrete (code o) (m .st, b))) (λ _. f)
+      (duringInterrupt calls driverOf (lentTo calls driverOf m b) (run concrete (code o) (m .st, b)))
+      (stay calls driverOf 3 (lentTo calls driverOf m b))
+      (beside-free (lentTo calls driverOf m b) f (run concrete (code o) (m .st, b))) (λ _. f)
 
-  goes-free : (v : ℕ) (m : Machine Answer Driver) → FreeWay (m .way) → (w : Way Answer Driver) → FreeWay w → (b : Buf)
+  goes-free : (v : ℕ) (m : Machine Answer Driver) → FreeWay (m .under-way) → (w : Pending Answer Driver) → FreeWay w
+      → (b : Buf)
       → Needs w (Lawful (c .iso) quiet (m .st, b)) → FreeAfter (continued calls driverOf (λ s. s) v m w b)
   goes-free v m f idle h b l = f
-  goes-free v m f (busy true q k) h b l = either-free (over calls q v) (stay calls driverOf 16 (lentTo calls driverOf m b))
+  goes-free v m f (busy true q k) h b l = either-free (over calls q v)
+      (stay calls driverOf 16 (lentTo calls driverOf m b))
       (stops true (k v (m .st, b))) f (λ _. halt-free (h .0 v (m .st, b) l))
-  goes-free v m f (busy false q k) h b l = either-free (over calls q v) (stay calls driverOf 16 (lentTo calls driverOf m b))
+  goes-free v m f (busy false q k) h b l = either-free (over calls q v)
+      (stay calls driverOf 16 (lentTo calls driverOf m b))
       (stops false (k v (m .st, b))) f (λ _. halt-late (k v (m .st, b)))
 
-  starts-free : (k : Config) (n : ℕ) (m : Machine Answer Driver) → FreeWay (m .way) → (b : Buf) → FreeAfter (started calls driverOf (λ s. s) k n m b)
+  starts-free : (k : Config) (n : ℕ) (m : Machine Answer Driver) → FreeWay (m .under-way) → (b : Buf)
+      → FreeAfter (started calls driverOf (λ s. s) k n m b)
   starts-free k zero m f b = halt-late (run concrete (calls .starts k) (driverOf .fresh k, b))
   starts-free k (suc n) m f b = f
 
   abbrev pub LentLawful : Call Config Op → Machine Answer Driver → Buf → Type 0
   LentLawful (start k) m b = Unit {0}
-  LentLawful (begin o) m b = o ≡ interrupt → m .way ≡ idle → Lawful (c .iso) quiet (m .st, b)
-  LentLawful (go v) m b = misfit calls driverOf (m .st) b ≡ false → Needs (m .way) (Lawful (c .iso) quiet (m .st, b))
+  LentLawful (begin o) m b = o ≡ interrupt → m .under-way ≡ idle → Lawful (c .iso) quiet (m .st, b)
+  LentLawful (continue v) m b = misfit calls driverOf (m .st) b ≡ false
+      → Needs (m .under-way) (Lawful (c .iso) quiet (m .st, b))
   LentLawful (question q) m b = Unit {0}
 
-  pub drive-free : (d : Call Config Op) (m : Machine Answer Driver) (b : Buf) → FreeWay (m .way) → LentLawful d m b → FreeAfter (drive d m b)
+  pub drive-free : (d : Call Config Op) (m : Machine Answer Driver) (b : Buf) → FreeWay (m .under-way)
+      → LentLawful d m b → FreeAfter (drive d m b)
   drive-free (start k) m b f l = starts-free k (startRow k b) m f b
-  drive-free (begin o) m b f l = either-free (cond (calls .slots o) (misfit calls driverOf (m .st) b) false) (stay calls driverOf 1 m)
-      (begun calls driverOf (λ s. s) o m (m .way) b) f
-      (λ _. begins-free o m f (m .way) b l)
-  drive-free (go v) m b f l = either-free (misfit calls driverOf (m .st) b) (stay calls driverOf 1 m)
-      (continued calls driverOf (λ s. s) v m (m .way) b) f (λ x. goes-free v m f (m .way) f b (l x))
+  drive-free (begin o) m b f l = either-free (cond (calls .slots o) (misfit calls driverOf (m .st) b) false)
+      (stay calls driverOf 1 m)
+      (begun calls driverOf (λ s. s) o m (m .under-way) b) f
+      (λ _. begins-free o m f (m .under-way) b l)
+  drive-free (continue v) m b f l = either-free (misfit calls driverOf (m .st) b) (stay calls driverOf 1 m)
+      (continued calls driverOf (λ s. s) v m (m .under-way) b) f (λ x. goes-free v m f (m .under-way) f b (l x))
   drive-free (question q) m b f l = f

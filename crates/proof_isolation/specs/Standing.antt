@@ -13,10 +13,10 @@ use Rattle.script.specs.Tree.{asks}
 use Rattle.script.specs.Every.{sameReg}
 use Rattle.script.specs.Answers.{Answer}
 use Rattle.script.specs.Calls.{calls}
-use Rattle.script.specs.Machine.{Ans, ended, awaited, Way, busy, Machine, halt}
+use Rattle.script.specs.Machine.{Ans, ended, awaited, Pending, busy, Machine, halt}
 use Rattle.script_ops.specs.Rings.{St}
 use Rattle.machine.specs.Suspended.{driverOf}
-use Rattle.answer.specs.Goes.{Called}
+use Rattle.answer.specs.Goes.{StepResult}
 use Rattle.proof_wake_ups.specs.Rooms.{Few, Roomy}
 use Rattle.proof_isolation.specs.LikesLaws.{and-false}
 use Rattle.proof_isolation.specs.EqualExcept.{Channel}
@@ -32,11 +32,11 @@ use Rattle.proof_isolation.specs.Schedule.{Run, Two, accessOf, SameAns, 
 
 -- ---- machines
 
-abbrev pub machineOf : Way Answer Driver → St → Machine Answer Driver
-machineOf w s = record { way = w; st = s .0; buf = s .1 }
+abbrev pub machineOf : Pending Answer Driver → St → Machine Answer Driver
+machineOf w s = record { under-way = w; st = s .0; buf = s .1 }
 
 -- where an outcome stops
-abbrev pub stops : Bool → tree.Out St Answer → Called
+abbrev pub stops : Bool → tree.Out St Answer → StepResult
 stops i o = halt calls driverOf (λ s. s) i o
 
 abbrev pub runOf : Bool → tree.Out St Answer → Access → Ans Answer → List ℕ → Run
@@ -81,7 +81,8 @@ ans-sym (same a) = same a
 ans-sym (ended-same n h) = ended-same n (sym h)
 
 module _ {c : Channel} {st : ℕ} {i : Bool} where
-  abbrev pub Told : {o u : tree.Out St Answer} → ApartBy c st i (SameAnswer (c .number)) true o u → Ans Answer → Ans Answer → Type 0
+  abbrev pub Told : {o u : tree.Out St Answer} → ApartBy c st i (SameAnswer (c .number)) true o u → Ans Answer
+      → Ans Answer → Type 0
   Told (end q l) a a′ = SameAns (c .number) a a′
   Told (both φ z p p′ l k) a a′ = SameAns (c .number) a a′
   Told (left {u = u} w p z k) a a′ = a′ ≡ stops i u .0
@@ -100,16 +101,20 @@ module _ {c : Channel} {st : ℕ} {i : Bool} where
   pub telling-own : {o : tree.Out St Answer} {q : Access} {t : St} {k : ℕ → St → tree.Out St Answer}
       (l : ApartBy c st i (SameAnswer (c .number)) true o (asks q t k))
       → Own i (c .number) q k → (a : Ans Answer) → Told l (stops i o .0) a
-  telling-own {t = t} {k = g} (both φ z p p′ l k) w a = absurd (true≢false (sym (own-yes (c .number) g t w) ∙ own-no (c .number) g t p′))
-  telling-own {t = t} {k = g} (left v (waits n) z k) w a = absurd (true≢false (sym (own-yes (c .number) g t w) ∙ own-no (c .number) g {i = i} t (λ _. n)))
+  telling-own {t = t} {k = g} (both φ z p p′ l k) w a = absurd
+      (true≢false (sym (own-yes (c .number) g t w) ∙ own-no (c .number) g t p′))
+  telling-own {t = t} {k = g} (left v (waits n) z k) w a
+      = absurd (true≢false (sym (own-yes (c .number) g t w) ∙ own-no (c .number) g {i = i} t (λ _. n)))
   telling-own (right v p z k) w a = refl
   telling-own (owns v v′ l k k′) w a = tt
 
   -- either run may be named first
-  pub flips : {o u : tree.Out St Answer} → ApartBy c st i (SameAnswer (c .number)) true o u → ApartBy c st i (SameAnswer (c .number)) true u o
+  pub flips : {o u : tree.Out St Answer} → ApartBy c st i (SameAnswer (c .number)) true o u
+      → ApartBy c st i (SameAnswer (c .number)) true u o
   flips l = apart-more (λ b a q. answer-sym q) (apart-flip l)
 
-  pub told-flips : {o u : tree.Out St Answer} (l : ApartBy c st i (SameAnswer (c .number)) true o u) (a a′ : Ans Answer) → Told l a a′ → Told (flips l) a′ a
+  pub told-flips : {o u : tree.Out St Answer} (l : ApartBy c st i (SameAnswer (c .number)) true o u) (a a′ : Ans Answer)
+      → Told l a a′ → Told (flips l) a′ a
   unfolding flips apart-more apart-flip
   told-flips (end q l) a a′ h = ans-sym h
   told-flips (both φ z p p′ l k) a a′ h = ans-sym h
@@ -126,8 +131,10 @@ pub record Orderly (i : Bool) (o : tree.Out St Answer) (a : Ans Answer) : Type 0
   pub room : Roomy (stops i o .1)
 
 pub data At (c : Channel) : Two → Type 0 where
-  at : (st : ℕ) (i : Bool) {o u : tree.Out St Answer} (l : ApartBy c st i (SameAnswer (c .number)) true o u) (q q′ : Access) {a a′ : Ans Answer} {t t′ : List ℕ}
-      → Told l a a′ → Orderly i o a → Orderly i u a′ → t ≡ t′ → At c (record { first = runOf i o q a t; second = runOf i u q′ a′ t′; status = st })
+  at : (st : ℕ) (i : Bool) {o u : tree.Out St Answer} (l : ApartBy c st i (SameAnswer (c .number)) true o u)
+      (q q′ : Access) {a a′ : Ans Answer} {t t′ : List ℕ}
+      → Told l a a′ → Orderly i o a → Orderly i u a′ → t ≡ t′
+      → At c (record { first = runOf i o q a t; second = runOf i u q′ a′ t′; status = st })
 
 -- after a call of both
 pub record Both (c : Channel) (w : Two) : Type 0 where

@@ -10,7 +10,7 @@ use Rattle.regs.specs.declared.Access.the-variants.{Read, Write, Receive, Trans
 use Rattle.regs.specs.declared.Reg.the-variants.{EpConfig}
 use Rattle.state.specs.Driver.{Driver}
 use Rattle.script.specs.Tree as tree
-use Rattle.script.specs.Every.{at-end, at-ask, Where, sameReg}
+use Rattle.script.specs.Every.{at-end, at-ask, Throughout, sameReg}
 use Rattle.script.specs.Answers.{Answer}
 use Rattle.script.specs.Simulates.{Phase}
 use Rattle.script.specs.Calls.{calls}
@@ -25,9 +25,11 @@ use Rattle.proof_isolation.specs.Apart.{status, Past, gone, waits, Apart
 use Rattle.proof_isolation.specs.Answers.{SameAnswer}
 use Rattle.calls.specs.Spares.{Spares, Sparing}
 use Rattle.proof_isolation.specs.OthersLaws.{same-others}
-use Rattle.proof_isolation.specs.Schedule.{Two, atOwn, SameAns, same, SameStand, SameOthers, Answers, alike, own-first}
+use Rattle.proof_isolation.specs.Schedule.{Two, atOwn, SameAns, same, SameStand, SameOthers, Answers, alike}
+use Rattle.proof_isolation.specs.Schedule.{own-first}
 use Rattle.proof_isolation.specs.Schedule.{own-second}
-use Rattle.proof_isolation.specs.Standing.{stops, runOf, own-yes, own-no, same-ans, telling, flips, told-flips, At, at, Both}
+use Rattle.proof_isolation.specs.Standing.{stops, runOf, own-yes, own-no, same-ans, telling, flips, told-flips}
+use Rattle.proof_isolation.specs.Standing.{At, at, Both}
 
 -- row 1: the lent buffer is as long as the driver's
 pub fits : (c : Channel) {φ : Phase} {s : St} → Lawful (c .iso) φ s → misfit calls driverOf (s .0) (s .1) ≡ false
@@ -40,7 +42,7 @@ past-no c i q a t (waits {s = s} {k = k} n) = own-no (c .number) k {i = i} s (λ
 
 -- ---- bus time
 
-spared-write : (b : Bool) (t u : List ℕ) → Where b ⊥ → cond b u t ≡ t
+spared-write : (b : Bool) (t u : List ℕ) → Throughout b ⊥ → cond b u t ≡ t
 spared-write true t u h = absurd h
 spared-write false t u h = refl
 
@@ -53,25 +55,32 @@ spared n (Ep0Dma y) t h = refl
 spared n (Wait k) t h = refl
 spared n Callback t h = refl
 
-pub time-spared : (n : ℕ) (i : Bool) (d : Driver) (t : List ℕ) {o : tree.Out St Answer} → Sparing o → timeAfter n going (stops i o .0) d t ≡ t
+pub time-spared : (n : ℕ) (i : Bool) (d : Driver) (t : List ℕ) {o : tree.Out St Answer} → Sparing o
+    → timeAfter n going (stops i o .0) d t ≡ t
 time-spared n i d t (at-end x) = refl
 time-spared n i d t (at-ask {q = q} ok k) = spared n q t ok
 
 pub times-on : (n : ℕ) {c : Channel} {st : ℕ} {i : Bool} {o u : tree.Out St Answer}
     → ApartBy c st i (SameAnswer (c .number)) true o u → (i ≡ true → Sparing o) → (i ≡ true → Sparing u)
-    → (d d′ : Driver) {t t′ : List ℕ} → t ≡ t′ → timeAfter n going (stops i o .0) d t ≡ timeAfter n going (stops i u .0) d′ t′
+    → (d d′ : Driver) {t t′ : List ℕ} → t ≡ t′ → timeAfter n going (stops i o .0) d t
+    ≡ timeAfter n going (stops i u .0) d′ t′
 times-on n (end q l) s s′ d d′ e = e
 times-on n (both {q = q} φ z p p′ l k) s s′ d d′ e = ap (λ r. written n q r) e
-times-on n {i = i} (left w p z k) s s′ d d′ {t} {t′} e = time-spared n i d t (s (w .0)) ∙ e ∙ sym (time-spared n i d′ t′ (s′ (w .0)))
-times-on n {i = i} (right w p z k) s s′ d d′ {t} {t′} e = time-spared n i d t (s (w .0)) ∙ e ∙ sym (time-spared n i d′ t′ (s′ (w .0)))
-times-on n {i = i} (owns w w′ l k k′) s s′ d d′ {t} {t′} e = time-spared n i d t (s (w .0)) ∙ e ∙ sym (time-spared n i d′ t′ (s′ (w .0)))
+times-on n {i = i} (left w p z k) s s′ d d′ {t} {t′} e = time-spared n i d t (s (w .0)) ∙ e
+    ∙ sym (time-spared n i d′ t′ (s′ (w .0)))
+times-on n {i = i} (right w p z k) s s′ d d′ {t} {t′} e = time-spared n i d t (s (w .0)) ∙ e
+    ∙ sym (time-spared n i d′ t′ (s′ (w .0)))
+times-on n {i = i} (owns w w′ l k k′) s s′ d d′ {t} {t′} e = time-spared n i d t (s (w .0)) ∙ e
+    ∙ sym (time-spared n i d′ t′ (s′ (w .0)))
 
 -- a new outcome of both
-pub lands : {c : Channel} (st : ℕ) (i : Bool) {o u : tree.Out St Answer} (l : ApartBy c st i (SameAnswer (c .number)) true o u) (q q′ : Access) {t t′ : List ℕ}
+pub lands : {c : Channel} (st : ℕ) (i : Bool) {o u : tree.Out St Answer}
+    (l : ApartBy c st i (SameAnswer (c .number)) true o u) (q q′ : Access) {t t′ : List ℕ}
     → (i ≡ true → Sparing o) → (i ≡ true → Sparing u) → Rooms (stops i o) → Rooms (stops i u) → t ≡ t′
     → Both c (record { first = runOf i o q (stops i o .0) t; second = runOf i u q′ (stops i u .0) t′; status = st })
 lands {c} st i {o} {u} l q q′ {t} {t′} s s′ r r′ e = record {
-  stand = at st i l q q′ (telling l (r .answer) (r′ .answer)) (record { spares = s; few = r .answer; room = r .machine })
+  stand = at st i l q q′ (telling l (r .answer) (r′ .answer))
+      (record { spares = s; few = r .answer; room = r .machine })
       (record { spares = s′; few = r′ .answer; room = r′ .machine }) e;
   answers = by l (r .answer) (r′ .answer);
 }
@@ -91,22 +100,30 @@ swap w = record { first = w .second; second = w .first; status = w .status }
 -- ---- what it says
 
 module _ {c : Channel} where
-  pub at-lined : {w : Two} → At c w → atOwn c (w .first) ≡ false → atOwn c (w .second) ≡ false → SameAns (c .number) (w .first .answer) (w .second .answer)
+  pub at-lined : {w : Two} → At c w → atOwn c (w .first) ≡ false → atOwn c (w .second) ≡ false
+      → SameAns (c .number) (w .first .answer) (w .second .answer)
   at-lined (at st i (end x l) q q′ h k k′ e) m n = h
   at-lined (at st i (both φ z p p′ l f) q q′ h k k′ e) m n = h
-  at-lined (at st i (left {s = s} {k = g} w p z f) q q′ h k k′ e) m n = absurd (true≢false (sym (own-yes (c .number) g s w) ∙ m))
-  at-lined (at st i (right {t = t} {k = g} w p z f) q q′ h k k′ e) m n = absurd (true≢false (sym (own-yes (c .number) g t w) ∙ n))
-  at-lined (at st i (owns {s = s} {k = g} w w′ l f f′) q q′ h k k′ e) m n = absurd (true≢false (sym (own-yes (c .number) g s w) ∙ m))
+  at-lined (at st i (left {s = s} {k = g} w p z f) q q′ h k k′ e) m n
+      = absurd (true≢false (sym (own-yes (c .number) g s w) ∙ m))
+  at-lined (at st i (right {t = t} {k = g} w p z f) q q′ h k k′ e) m n
+      = absurd (true≢false (sym (own-yes (c .number) g t w) ∙ n))
+  at-lined (at st i (owns {s = s} {k = g} w w′ l f f′) q q′ h k k′ e) m n
+      = absurd (true≢false (sym (own-yes (c .number) g s w) ∙ m))
 
   pub at-stands : {w : Two} → At c w → atOwn c (w .first) ≡ false → atOwn c (w .second) ≡ false
-      → SameStand (w .first .machine .way) (w .second .machine .way) (w .first .access) (w .second .access)
+      → SameStand (w .first .machine .under-way) (w .second .machine .under-way) (w .first .access) (w .second .access)
   at-stands (at st i (end x l) q q′ h k k′ e) m n = tt
   at-stands (at st i (both φ z p p′ l f) q q′ h k k′ e) m n = refl
-  at-stands (at st i (left {s = s} {k = g} w p z f) q q′ h k k′ e) m n = absurd (true≢false (sym (own-yes (c .number) g s w) ∙ m))
-  at-stands (at st i (right {t = t} {k = g} w p z f) q q′ h k k′ e) m n = absurd (true≢false (sym (own-yes (c .number) g t w) ∙ n))
-  at-stands (at st i (owns {s = s} {k = g} w w′ l f f′) q q′ h k k′ e) m n = absurd (true≢false (sym (own-yes (c .number) g s w) ∙ m))
+  at-stands (at st i (left {s = s} {k = g} w p z f) q q′ h k k′ e) m n
+      = absurd (true≢false (sym (own-yes (c .number) g s w) ∙ m))
+  at-stands (at st i (right {t = t} {k = g} w p z f) q q′ h k k′ e) m n
+      = absurd (true≢false (sym (own-yes (c .number) g t w) ∙ n))
+  at-stands (at st i (owns {s = s} {k = g} w w′ l f f′) q q′ h k k′ e) m n
+      = absurd (true≢false (sym (own-yes (c .number) g s w) ∙ m))
 
-  pub at-alike : {w : Two} → At c w → atOwn c (w .first) ≡ atOwn c (w .second) → SameOthers c (w .first .machine) (w .second .machine)
+  pub at-alike : {w : Two} → At c w → atOwn c (w .first) ≡ atOwn c (w .second)
+      → SameOthers c (w .first .machine) (w .second .machine)
   at-alike (at st i (end x l) q q′ h k k′ e) m = same-others l (short (k .room)) (short (k′ .room))
   at-alike (at st i (both φ z p p′ l f) q q′ h k k′ e) m = same-others l (short (k .room)) (short (k′ .room))
   at-alike (at st i (left {s = s} {k = g} w p z f) q q′ {a′ = a′} {t′ = t′} h k k′ e) m =

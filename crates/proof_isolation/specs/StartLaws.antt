@@ -11,11 +11,12 @@ use Rattle.script.specs.Every.{at-end}
 use Rattle.script.specs.Answers.{Answer, Refused, NotYet}
 use Rattle.script.specs.Simulates.{Phase, quiet}
 use Rattle.script.specs.Calls.{Config, Op, calls, startRow}
-use Rattle.script.specs.Machine.{Buf, pending, start, question, Event, ended, Way, idle, busy, Machine, lentTo, started}
+use Rattle.script.specs.Machine.{Buf, pending, start, question, Event, ended, Pending, idle, busy, Machine, lentTo}
+use Rattle.script.specs.Machine.{started}
 use Rattle.script.specs.Agree.{Ways, both-idle, both-busy, agrees, from-start}
 use Rattle.script_ops.specs.Rings.{St}
 use Rattle.machine.specs.Suspended.{driverOf, drive}
-use Rattle.answer.specs.Goes.{Called}
+use Rattle.answer.specs.Goes.{StepResult}
 use Rattle.proof_book.specs.Pages.{Pages}
 use Rattle.proof_book.specs.Book.{book}
 use Rattle.proof_book.specs.Coupling.{Coupling}
@@ -36,7 +37,8 @@ use Rattle.proof_isolation.specs.BoundsLaws.{after-bounded}
 use Rattle.proof_isolation.specs.LikesLaws.{like-refl}
 use Rattle.proof_isolation.specs.Apart.{end}
 use Rattle.proof_isolation.specs.Answers as answer
-use Rattle.proof_isolation.specs.Schedule.{Run, Two, Early, gets, shares, runBy, sharing, called, given, heeded, same}
+use Rattle.proof_isolation.specs.Schedule.{Run, Two, Early, gets, shares, runBy, sharing, called, given, heeded}
+use Rattle.proof_isolation.specs.Schedule.{same}
 use Rattle.proof_isolation.specs.FreshBook.{freshBook}
 use Rattle.proof_isolation.specs.Standing.{At, at}
 use Rattle.proof_isolation.specs.Runs.{lent-room}
@@ -51,21 +53,25 @@ pub record Roomed (r : Run) : Type 0 where
 module _ (share : Bool) (n : ℕ) where
   -- a call that is turned down does to the machine what a question does
   turned : (d : Bool) (e : Event Config Op) (m : Machine Answer Driver) (t u : List ℕ)
-      → cond {A = Called × List ℕ} d ((ended (Refused 19), lentTo calls driverOf m (e .lent)), t) (drive (e .call) m (e .lent), u) .0 .1
+      → cond {A = StepResult × List ℕ} d ((ended (Refused 19), lentTo calls driverOf m (e .lent)), t)
+      (drive (e .call) m (e .lent), u) .0 .1
       ≡ drive (cond d (record { call = question (pending 0); lent = e .lent }) e .call) m
       (cond d (record { call = question (pending 0); lent = e .lent }) e .lent) .1
   turned true e m t u = refl
   turned false e m t u = refl
 
-  pub heeds : (es : List Early) (r : Run) → given share n es r .machine ≡ after calls driverOf (heeded share n es r) (r .machine)
+  pub heeds : (es : List Early) (r : Run) → given share n es r .machine
+      ≡ after calls driverOf (heeded share n es r) (r .machine)
   heeds [] r = refl
   heeds (shares f ∷ es) r = heeds es (sharing f r)
   heeds (gets e ∷ es) r = heeds es (called share n (e .call) (e .lent) r)
       ∙ ap (λ m. after calls driverOf (heeded share n es (called share n (e .call) (e .lent) r)) m)
-      (turned (turnedDown n (sortOf (e .call)) (drive (e .call) (r .machine) (e .lent) .0) (r .machine .st) (r .time) && share) e (r .machine) (r .time) _)
+      (turned (turnedDown n (sortOf (e .call)) (drive (e .call) (r .machine) (e .lent) .0) (r .machine .st) (r .time)
+      && share) e (r .machine) (r .time) _)
 
-  shared-rooms : (d : Bool) {m : Machine Answer Driver} → Roomy m → (b : Buf) {y : Called} → Rooms y → (t u : List ℕ)
-      → Rooms (cond {A = Called × List ℕ} d ((ended (Refused 19), lentTo calls driverOf m b), t) (y, u) .0)
+  shared-rooms : (d : Bool) {m : Machine Answer Driver} → Roomy m → (b : Buf) {y : StepResult} → Rooms y
+      → (t u : List ℕ)
+      → Rooms (cond {A = StepResult × List ℕ} d ((ended (Refused 19), lentTo calls driverOf m b), t) (y, u) .0)
   shared-rooms true k b r t u = record { answer = tt; machine = lent-room k b }
   shared-rooms false k b r t u = r
 
@@ -73,7 +79,8 @@ module _ (share : Bool) (n : ℕ) where
   given-rooms [] r k = k
   given-rooms (shares f ∷ es) r k = given-rooms es (sharing f r) (record { few = k .few; machine = k .machine })
   given-rooms (gets e ∷ es) r k =
-      let x = shared-rooms (turnedDown n (sortOf (e .call)) (drive (e .call) (r .machine) (e .lent) .0) (r .machine .st) (r .time) && share)
+      let x = shared-rooms (turnedDown n (sortOf (e .call)) (drive (e .call) (r .machine) (e .lent) .0) (r .machine .st)
+      (r .time) && share)
       (k .machine) (e .lent) (rooms (e .call) (k .machine) (e .lent)) (r .time) _ in
       given-rooms es (called share n (e .call) (e .lent) r) (record { few = x .answer; machine = x .machine })
 
@@ -82,25 +89,27 @@ module _ (share : Bool) (n : ℕ) where
 record Stood (m : Machine Answer Driver) : Type 0 where
   phase : Phase
   pages : Machine Answer Pages
-  ways : Ways driverOf book agree calls phase (m .way) (pages .way)
+  ways : Ways driverOf book agree calls phase (m .under-way) (pages .under-way)
   rest : Coupling phase (m .buf) (m .st) (pages .st)
 
 stood : (es : List (Event Config Op)) {φ : Phase} (m : Machine Answer Driver) (d : Machine Answer Pages)
-    → Ways driverOf book agree calls φ (m .way) (d .way) → Coupling φ (m .buf) (m .st) (d .st)
+    → Ways driverOf book agree calls φ (m .under-way) (d .under-way) → Coupling φ (m .buf) (m .st) (d .st)
     → Premise es m d → Stood (after calls driverOf es m)
 stood [] {φ} m d w r l = record { phase = φ; pages = d; ways = w; rest = r }
 stood (e ∷ es) m d w r l = let a = agrees driverOf book agree calls fresh-kept
     (e .call) (e .lent) m d w r (lent-is m d r (e .lent) (e .call) (l .0)) in stood es _ _ (a .ways) (a .rest) (l .1)
 
-abbrev isIdle : {A S : Type 0} → Way A S → Bool
+abbrev isIdle : {A S : Type 0} → Pending A S → Bool
 isIdle idle = true
 isIdle (busy i a k) = false
 
-at-rest : {φ : Phase} {w : Way Answer Driver} {w′ : Way Answer Pages} → Ways driverOf book agree calls φ w w′ → isIdle w ≡ true → φ ≡ quiet
+at-rest : {φ : Phase} {w : Pending Answer Driver} {w′ : Pending Answer Pages} → Ways driverOf book agree calls φ w w′
+    → isIdle w ≡ true → φ ≡ quiet
 at-rest both-idle e = refl
 at-rest (both-busy i a p k) e = absurd (true≢false (sym e))
 
-quiet-rest : {m : Machine Answer Driver} (s : Stood m) → m .way ≡ idle → Coupling quiet (m .buf) (m .st) (s .pages .st)
+quiet-rest : {m : Machine Answer Driver} (s : Stood m) → m .under-way ≡ idle
+    → Coupling quiet (m .buf) (m .st) (s .pages .st)
 quiet-rest {m} s e = subst (λ φ. Coupling φ (m .buf) (m .st) (s .pages .st)) (at-rest (s .ways) (ap isIdle e)) (s .rest)
 
 -- ---- the channel
@@ -112,10 +121,11 @@ channelOf {d} k x small iso = record { number = x; below = small; iso = sortsOf 
 -- ---- two runs that are one
 
 stands-idle : (c : Channel) (r : Run) → but.Lawful (c .iso) quiet (r .machine .st, r .machine .buf)
-    → Roomed r → r .machine .way ≡ idle → At c (record { first = r; second = r; status = 0 })
+    → Roomed r → r .machine .under-way ≡ idle → At c (record { first = r; second = r; status = 0 })
 stands-idle c r l k e =
-    subst (λ w. Roomy (record { way = w; st = r .machine .st; buf = r .machine .buf }) → At c (twice w)) (sym e)
-    (λ y. at 0 false {o = ends NotYet s} {u = ends NotYet s} (end (answer.same NotYet) (like-refl l (room (k .machine))))
+    subst (λ w. Roomy (record { under-way = w; st = r .machine .st; buf = r .machine .buf }) → At c (twice w)) (sym e)
+    (λ y. at 0 false {o = ends NotYet s} {u = ends NotYet s}
+    (end (answer.same NotYet) (like-refl l (room (k .machine))))
     (r .access) (r .access) (same (r .answer)) (record { spares = λ _. at-end tt; few = k .few; room = y })
     (record { spares = λ _. at-end tt; few = k .few; room = y }) refl)
     (k .machine)
@@ -123,10 +133,10 @@ stands-idle c r l k e =
     s : St
     s = (r .machine .st, r .machine .buf)
 
-    twice : Way Answer Driver → Two
+    twice : Pending Answer Driver → Two
     twice w =
         let x : Run = record {
-          machine = record { way = w; st = r .machine .st; buf = r .machine .buf };
+          machine = record { under-way = w; st = r .machine .st; buf = r .machine .buf };
           access = r .access;
           answer = r .answer;
           time = r .time;
@@ -136,7 +146,7 @@ stands-idle c r l k e =
 -- after a start-up that rows 1 and 2 do not stop, and a list of calls under demand 3's premise
 module _ (share : Bool) (n : ℕ) (k : Config) (b : Buf) (row : startRow k b ≡ zero) where
   abbrev new : Machine Answer Driver
-  new = record { way = idle; st = driverOf .fresh k; buf = b }
+  new = record { under-way = idle; st = driverOf .fresh k; buf = b }
 
   -- what was before is gone
   abbrev pub anew : List ℕ → Run
@@ -154,7 +164,8 @@ module _ (share : Bool) (n : ℕ) (k : Config) (b : Buf) (row : startRow k b ≡
 
   abbrev Claim : List Early → Run → Type 0
   Claim es x = let z = given share n es x in
-      Premise (heeded share n es x) (x .machine) (freshBook k b (x .answer)) → z .machine .way ≡ idle → z .machine .st .globals .stage ≡ 2
+      Premise (heeded share n es x) (x .machine) (freshBook k b (x .answer)) → z .machine .under-way ≡ idle
+      → z .machine .st .globals .stage ≡ 2
       → (c : Channel) → c .iso ≡ sortsOf (z .machine .st) → At c (record { first = z; second = z; status = 0 })
 
   module _ (es : List Early) (t : List ℕ) where
@@ -165,7 +176,8 @@ module _ (share : Bool) (n : ℕ) (k : Config) (b : Buf) (row : startRow k b ≡
     heard = heeded share n es (anew t)
 
     -- what holds after the start-up and the list that was heeded
-    met-by : (P : Driver → Type 0) → P (after calls driverOf heard (started calls driverOf (λ s. s) k (startRow k b) new b .1) .st) → P (met .machine .st)
+    met-by : (P : Driver → Type 0) → P (after calls driverOf heard
+        (started calls driverOf (λ s. s) k (startRow k b) new b .1) .st) → P (met .machine .st)
     met-by P h = subst (λ (m : Machine Answer Driver). P (m .st)) (sym (heeds share n es (anew t)))
         (subst (λ i. P (after calls driverOf heard (started calls driverOf (λ s. s) k i new b .1) .st)) row h)
 
@@ -176,12 +188,13 @@ module _ (share : Bool) (n : ℕ) (k : Config) (b : Buf) (row : startRow k b ≡
     met-bounded = met-by Bounded (after-bounded k b row heard new)
 
     stands-met : Premise heard (anew t .machine) (freshBook k b (anew t .answer))
-        → met .machine .way ≡ idle → met .machine .st .globals .stage ≡ 2 → (c : Channel)
+        → met .machine .under-way ≡ idle → met .machine .st .globals .stage ≡ 2 → (c : Channel)
         → c .iso ≡ sortsOf (met .machine .st) → At c (record { first = met; second = met; status = 0 })
     stands-met l e g c f =
         let a = from-start driverOf book agree calls fresh-kept k b row [] new
-        (record { way = idle; st = book .driver .fresh k; buf = b }) tt .0 in
-        let z : Stood (met .machine) = subst Stood (sym (heeds share n es (anew t))) (stood heard _ _ (a .ways) (a .rest) l) in
+        (record { under-way = idle; st = book .driver .fresh k; buf = b }) tt .0 in
+        let z : Stood (met .machine) = subst Stood (sym (heeds share n es (anew t)))
+        (stood heard _ _ (a .ways) (a .rest) l) in
         stands-idle c met (record {
           pages = z .pages .st;
           rest = quiet-rest z e;

@@ -14,7 +14,8 @@ use Rattle.script_ops.specs.Rings.{St}
 use Rattle.proof_book.specs.Coupling.{endOf}
 use Rattle.proof_isolation.specs.EqualExcept.{Channel}
 
--- demand 3's premise, by the driver: byte k lies outside of the armed slot of every OUT endpoint of this run, and outside of EP0's buffer
+-- demand 3's premise, by the driver: byte k lies outside of the armed slot of every OUT endpoint of this run, and
+-- outside of EP0's buffer
 pub record Away (d : Driver) (k : ℕ) : Type 0 where
   pub outs : (e : ℕ) → isSet (allocatedIn (d .allocator) Out) (e % 16) ≡ true
       → (k < epOn d Out e .«armed_slot») ⊎ (epOn d Out e .«armed_slot» + d .allocator .size ≤ k)
@@ -29,7 +30,8 @@ pub record Stored (d : Driver) (b b′ : Buf) : Type 0 where
 abbrev pub Outside : Channel → Driver → ℕ → Type 0
 Outside c d k = (k < epOn d Out (c .number) .base) ⊎ (endOf (epOn d Out (c .number)) ≤ k)
 
--- the two runs are lent the same but for "the bytes stored in the slots of one isochronous OUT endpoint": a byte elsewhere that was the same is
+-- the two runs are lent the same but for "the bytes stored in the slots of one isochronous OUT endpoint": a byte
+-- elsewhere that was the same is
 pub record StoredAlike (c : Channel) (s t : St) (b b′ : Buf) : Type 0 where
   pub left : Stored (s .0) (s .1) b
   pub right : Stored (t .0) (t .1) b′

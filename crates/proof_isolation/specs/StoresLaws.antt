@@ -32,7 +32,8 @@ own-lent-back c s = record { stored = stored-none (s .0) (s .1); own = λ k o. r
 
 -- ---- these leave two states the same but for the channel's data
 
-by-book : {φ : Phase} {d : Driver} {b b′ : Buf} {p : Pages} → Coupling φ b d p → d .globals .stage ≡ 2 → Stored d b b′ → Chip p b b′
+by-book : {φ : Phase} {d : Driver} {b b′ : Buf} {p : Pages} → Coupling φ b d p → d .globals .stage ≡ 2 → Stored d b b′
+    → Chip p b b′
 by-book {d = d} {p = p} R g h = record {
   long = h .long;
   others = λ k w. h .others k (record {
@@ -43,13 +44,15 @@ by-book {d = d} {p = p} R g h = record {
         ⊎-elim (λ y. inl (omega (arith, R .outs e .slot))) (λ y. inr (omega (arith, R .outs e .slot, s))) (w .outs e z);
     ep0 =
         let z : p .kept .globals .stage ≡ 2 = sym (ap (λ (g : Globals). g .stage) (R .same .globals)) ∙ g in
-        let a : d .globals .«ep0_buf» ≡ p .kept .globals .«ep0_buf» = ap (λ (g : Globals). g .«ep0_buf») (R .same .globals) in
+        let a : d .globals .«ep0_buf» ≡ p .kept .globals .«ep0_buf»
+        = ap (λ (g : Globals). g .«ep0_buf») (R .same .globals) in
         let s : d .allocator .size ≡ p .kept .allocator .size = ap (λ (a : Allocator). a .size) (R .same .allocator) in
         ⊎-elim (λ y. inl (omega (arith, a))) (λ y. inr (omega (arith, a, s))) (w .ep0 z);
   });
 }
 
-pub lawful-stored : (c : Channel) {φ : Phase} {s : St} {b : Buf} → Lawful (c .iso) φ s → Stored (s .0) (s .1) b → Lawful (c .iso) φ (s .0, b)
+pub lawful-stored : (c : Channel) {φ : Phase} {s : St} {b : Buf} → Lawful (c .iso) φ s → Stored (s .0) (s .1) b
+    → Lawful (c .iso) φ (s .0, b)
 lawful-stored c {φ} {s} {b} l h = record {
   pages = l .pages;
   rest = chip (s .1) b φ (s .0) (l .pages) (l .rest) (by-book (l .rest) (l .stage) h);
@@ -59,7 +62,8 @@ lawful-stored c {φ} {s} {b} l h = record {
 }
 
 module _ {c : Channel} {φ : Phase} where
-  pub lent-like : {s t : St} {b b′ : Buf} → LowEquiv c φ s t → StoredAlike c s t b b′ → LowEquiv c φ (s .0, b) (t .0, b′)
+  pub lent-like : {s t : St} {b b′ : Buf} → LowEquiv c φ s t → StoredAlike c s t b b′
+      → LowEquiv c φ (s .0, b) (t .0, b′)
   lent-like {s} {t} {b} {b′} l h = record {
     left = lawful-stored c (l .left) (h .left);
     right = lawful-stored c (l .right) (h .right);

@@ -1,5 +1,5 @@
--- An isochronous OUT endpoint enabled or disabled, the channel too: the row resets its record and arms each of its slots, whose addresses are the
--- same in both runs
+-- An isochronous OUT endpoint enabled or disabled, the channel too: the row resets its record and arms each of its
+-- slots, whose addresses are the same in both runs
 use mathlib.Core.Bool.{Bool, true, false, cond, true≢false}
 use mathlib.Core.Logic.{_≢_}
 use mathlib.Core.Path.{_≡_, refl, ap, subst, sym, _∙_}
@@ -38,7 +38,8 @@ use Rattle.proof_book.specs.ResetsLaws.{reset-place}
 use Rattle.proof_isolation.specs.EqualExcept.{Stays, EqualExcept, Channel, LowEquiv}
 use Rattle.proof_isolation.specs.Apart.{Pair}
 use Rattle.proof_isolation.specs.PairsLaws.{Any, Steps, p-then, p-test, p-row}
-use Rattle.proof_isolation.specs.ButsLaws.{stays-any, but-parts, but-globals, but-on, changed-seat, like-made, lawful-first}
+use Rattle.proof_isolation.specs.ButsLaws.{stays-any, but-parts, but-globals, but-on, changed-seat, like-made}
+use Rattle.proof_isolation.specs.ButsLaws.{lawful-first}
 use Rattle.proof_isolation.specs.ButsLaws.{lawful-next, row-over}
 use Rattle.proof_isolation.specs.BytesLaws.{armed-like, only-like}
 use Rattle.proof_isolation.specs.ValuesLaws.{p-wake, p-plain-any}
@@ -50,9 +51,11 @@ module _ {x : ℕ} {d d′ : Driver} (z : Sized d) (z′ : Sized d′) (h : Equa
   clear-stamps : (f : ℕ) → key Out f ≢ key Out x → slotStamps (clearStamps d e) f ≡ slotStamps (clearStamps d′ e) f
   clear-stamps f n = elim (ℕ-discrete (f % 16) (e % 16)) [
     | yes p ↦ stamps-mod (clearStamps d e) f e p
-        ∙ tab-ext (λ j. stampOn (clearStamps d′ e) e j) (λ j. stampOn (clearStamps d e) e j) 16 (λ j l. cleared-stamp d e z j ∙ sym (cleared-stamp d′ e z′ j))
+        ∙ tab-ext (λ j. stampOn (clearStamps d′ e) e j) (λ j. stampOn (clearStamps d e) e j) 16
+        (λ j l. cleared-stamp d e z j ∙ sym (cleared-stamp d′ e z′ j))
         ∙ sym (stamps-mod (clearStamps d′ e) f e p)
-    | no p ↦ stamps-clear-other d e f (key-other Out f e p) ∙ h .stamps f n ∙ sym (stamps-clear-other d′ e f (key-other Out f e p))
+    | no p ↦ stamps-clear-other d e f (key-other Out f e p) ∙ h .stamps f n
+        ∙ sym (stamps-clear-other d′ e f (key-other Out f e p))
   ]
 
   clear-but : EqualExcept x (clearStamps d e) (clearStamps d′ e)
@@ -73,7 +76,15 @@ renewed-changed {d} z e = changed-trans z Out e (changed-clear z e)
 
 armed-stays : {r r′ : EpState} (a a′ : ℕ) → Stays r r′ → Stays (armedAt r a) (armedAt r′ a′)
 unfolding armedAt
-armed-stays a a′ h = record { place = record { base = h .place .base; stride = h .place .stride; slots = h .place .slots }; plain = h .plain }
+armed-stays a a′ h = record {
+  place = record {
+    base = h .place .base;
+    stride = h .place .stride;
+    slots
+        = h .place .slots;
+  };
+  plain = h .plain;
+}
 
 armed-changed : {d : Driver} → Sized d → (e a : ℕ) → Changed Out e d (withOn d Out e (armedAt (epOn d Out e) a))
 unfolding armedAt
@@ -87,7 +98,8 @@ module _ (c : Channel) (e : ℕ) where
     seat : SamePlace (epOn d Out (c .number)) (epOn (x .1 .0) Out (c .number))
     bytes : Only lo hi (x .1 .1) (y .1 .1)
 
-  module _ {d d′ : Driver} (z : Sized d) (z′ : Sized d′) (h : EqualExcept (c .number) d d′) {lo hi : ℕ} {b b′ : Buf} (o : Only lo hi b b′) (k : ℕ) where
+  module _ {d d′ : Driver} (z : Sized d) (z′ : Sized d′) (h : EqualExcept (c .number) d d′) {lo hi : ℕ} {b b′ : Buf}
+      (o : Only lo hi b b′) (k : ℕ) where
     arms : Armed d lo hi (armAt e k (d, b)) (armAt e k (d′, b′))
     unfolding withOn
     arms =
@@ -107,8 +119,10 @@ module _ (c : Channel) (e : ℕ) where
         }
 
   -- from the reset record on
-  module _ {d d′ : Driver} (z : Sized d) (z′ : Sized d′) (h : EqualExcept (c .number) d d′) {lo hi : ℕ} {b b′ : Buf} (o : Only lo hi b b′) (k : ℕ) where
-    arms-by : (u : Bool) → Armed d lo hi (armAt e k (cond u (renewedOn d e) d, b)) (armAt e k (cond u (renewedOn d′ e) d′, b′))
+  module _ {d d′ : Driver} (z : Sized d) (z′ : Sized d′) (h : EqualExcept (c .number) d d′) {lo hi : ℕ} {b b′ : Buf}
+      (o : Only lo hi b b′) (k : ℕ) where
+    arms-by : (u : Bool) → Armed d lo hi (armAt e k (cond u (renewedOn d e) d, b))
+        (armAt e k (cond u (renewedOn d′ e) d′, b′))
     arms-by true =
         let y = renewed-changed z e in
         let y′ = renewed-changed z′ e in
@@ -123,15 +137,19 @@ module _ (c : Channel) (e : ℕ) where
 
   module _ (iso : c .iso Out e ≡ true) (onn : Bool) where
     slot-armed : {φ : Phase} (k : ℕ) (s t : St) → LowEquiv c φ s t
-        → Armed (s .0) (epOn (s .0) Out (c .number) .base) (endOf (epOn (s .0) Out (c .number))) (slotStep e k s) (slotStep e k t)
+        → Armed (s .0) (epOn (s .0) Out (c .number) .base) (endOf (epOn (s .0) Out (c .number))) (slotStep e k s)
+        (slotStep e k t)
     unfolding slotStep
     slot-armed k s t l = rw (l .left .has .flags Out e ∙ iso, l .right .has .flags Out e ∙ iso)
         (arms-by (l .left .rest .sized) (l .right .rest .sized) (l .but) (l .bytes) k (eqb k 15))
 
     first : (s t : St) → LowEquiv c quiet s t → Steps c (switch e onn) 18 s t
     first s t l =
-        let q = slot-armed 15 s t l in
-        (q .address, like-made l (lawful-first c (switch e onn) (l .left)) (lawful-first c (switch e onn) (l .right)) (q .but) (q .seat) (q .bytes))
+        let q = slot-armed 15 s t l in (
+          q .address,
+          like-made l (lawful-first c (switch e onn) (l .left)) (lawful-first c (switch e onn) (l .right))
+              (q .but) (q .seat) (q .bytes),
+        )
 
     -- ---- the kind and the enable bit
 
@@ -139,7 +157,8 @@ module _ (c : Channel) (e : ℕ) where
         → cond (isOn (epOn (s .0) Out e .iso)) (enables.withOn (f (s .0 .globals)) Out e onn) (f (s .0 .globals))
         ≡ cond (isOn (epOn (t .0) Out e .iso)) (enables.withOn (f (t .0 .globals)) Out e onn) (f (t .0 .globals))
     word-same s t l f =
-        let p : epOn (s .0) Out e .iso ≡ epOn (t .0) Out e .iso = sym (ap (λ (p : EpCore). p .iso) (stays-any (l .but) Out e .plain)) in
+        let p : epOn (s .0) Out e .iso ≡ epOn (t .0) Out e .iso
+        = sym (ap (λ (p : EpCore). p .iso) (stays-any (l .but) Out e .plain)) in
         λ i. cond (isOn (p i)) (enables.withOn (f (l .but .globals i)) Out e onn) (f (l .but .globals i))
 
     next : (n : ℕ) (s t : St) → LowEquiv c (mid (switch e onn) (suc n)) s t → Steps c (switch e onn) n s t
@@ -148,13 +167,15 @@ module _ (c : Channel) (e : ℕ) where
         let v = word-same s t l (λ g. g .«ep_config») in (
           v,
           like-made l (lawful-next c (switch e onn) 0 (l .left)) (lawful-next c (switch e onn) 0 (l .right))
-              (but-globals (l .but) _ _ (λ i. withEpConfig (v i) (l .but .globals i))) (same-place (epOn (s .0) Out (c .number))) (l .bytes),
+              (but-globals (l .but) _ _ (λ i. withEpConfig (v i) (l .but .globals i)))
+              (same-place (epOn (s .0) Out (c .number))) (l .bytes),
         )
     next (suc zero) s t l =
         let v = word-same s t l (λ g. g .«ep_type») in (
           v,
           like-made l (lawful-next c (switch e onn) 1 (l .left)) (lawful-next c (switch e onn) 1 (l .right))
-              (but-globals (l .but) _ _ (λ i. withEpType (v i) (l .but .globals i))) (same-place (epOn (s .0) Out (c .number))) (l .bytes),
+              (but-globals (l .but) _ _ (λ i. withEpType (v i) (l .but .globals i)))
+              (same-place (epOn (s .0) Out (c .number))) (l .bytes),
         )
     next (suc (suc zero)) s t l = (
       refl,

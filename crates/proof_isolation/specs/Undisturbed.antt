@@ -15,7 +15,8 @@ use Rattle.proof_isolation.specs.FreshBook.{freshBook}
 
 -- ---- the two runs
 
--- what both get from a start-up on: a list of calls that is one in both, and then turns, by which the channel's data may differ
+-- what both get from a start-up on: a list of calls that is one in both, and then turns, by which the channel's data
+-- may differ
 pub record Session : Type 0 where
   pub config : Config
   pub lent : Buf
@@ -30,15 +31,20 @@ module _ (share : Bool) (n : ℕ) where
 
   -- and the list that is one in both
   abbrev pub opened : Session → Two → Two
-  opened s w = record { first = given share n (s .before) (started-up s (w .first)); second = given share n (s .before) (started-up s (w .second)); status = 0 }
+  opened s w = record {
+    first = given share n (s .before) (started-up s (w .first));
+    second
+        = given share n (s .before) (started-up s (w .second));
+    status = 0;
+  }
 
-  -- rows 1 and 2 do not stop the start-up; the list is one of demand 3's premise, and comes to a point after EP0's start with nothing under way;
-  -- the channel is an isochronous OUT endpoint of the run; and the turns are allowed
+  -- rows 1 and 2 do not stop the start-up; the list is one of demand 3's premise, and comes to a point after EP0's
+  -- start with nothing under way; the channel is an isochronous OUT endpoint of the run; and the turns are allowed
   pub record Opens (s : Session) (w : Two) : Type 0 where
     pub accepted : startRow (s .config) (s .lent) ≡ zero
     pub lawful : Premise (heeded share n (s .before) (started-up s (w .first)))
         (started-up s (w .first) .machine) (freshBook (s .config) (s .lent) (started-up s (w .first) .answer))
-    pub rests : opened s w .first .machine .way ≡ idle
+    pub rests : opened s w .first .machine .under-way ≡ idle
     pub stage : opened s w .first .machine .st .globals .stage ≡ 2
     pub sorts : s .channel .iso ≡ sortsOf (opened s w .first .machine .st)
     pub allowed : Allowed (s .channel) share n (s .turns) (opened s w)
@@ -50,4 +56,5 @@ module _ (share : Bool) (n : ℕ) where
 
   abbrev pub Undisturbed : List Session → Two → Type 0
   Undisturbed [] w = Unit {0}
-  Undisturbed (s ∷ ss) w = Every (s .channel) share n (s .turns) (opened s w) × Undisturbed ss (after share n (s .turns) (opened s w))
+  Undisturbed (s ∷ ss) w = Every (s .channel) share n (s .turns) (opened s w)
+      × Undisturbed ss (after share n (s .turns) (opened s w))

@@ -3,7 +3,8 @@ use mathlib.Core.Bool.{Bool}
 use mathlib.Core.List.{List, [], _∷_}
 use mathlib.Core.Path.{_≡_, ap, subst, sym, _∙_}
 use Prim.Native.Nat.{ℕ}
-use Rattle.proof_isolation.specs.Schedule.{Run, Two, first, second, given, Turn, begins, goes, asked, stores, others-time, turn}
+use Rattle.proof_isolation.specs.Schedule.{Run, Two, first, second, given, Turn, begins, goes, asked, stores}
+use Rattle.proof_isolation.specs.Schedule.{others-time, turn}
 use Rattle.proof_isolation.specs.Schedule.{after, May, After, Answered, Allowed, Every}
 use Rattle.proof_isolation.specs.Standing.{At, at}
 use Rattle.proof_isolation.specs.StandingLaws.{at-time, at-stands, at-lined, at-alike, at-swap}
@@ -38,7 +39,8 @@ module _ (c : Channel) (share : Bool) (n : ℕ) where
       stepped (goes v v′ b b′) (y .stand) (y .answers)
   step (asked v b b′) (at st i l q q′ h k k′ e) m = let y = asked-by c share n st i l q q′ k k′ e v b b′ m in
       stepped (asked v b b′) (y .stand) (y .answers)
-  step (stores b b′) (at st i l q q′ h k k′ e) m = stepped (stores b b′) (stores-by c share n st i l q q′ h k k′ e b b′ m) tt
+  step (stores b b′) (at st i l q q′ h k k′ e) m = stepped (stores b b′)
+      (stores-by c share n st i l q q′ h k k′ e b b′ m) tt
   step (others-time f) (at st i l q q′ h k k′ e) m = stepped (others-time f) (at st i l q q′ h k k′ (ap f e)) tt
   step (first d) a m = stepped (first d) (first-stands a d m) tt
   step (second d) a m = stepped (second d) (at-swap (first-stands (at-swap a) d m)) tt
@@ -56,19 +58,23 @@ module _ (c : Channel) (share : Bool) (n : ℕ) where
 
 module _ (share : Bool) (n : ℕ) where
   -- a start-up on whatever was before in each run makes them one
-  pub opened-at : (s : Session) (w : Two) → w .first .time ≡ w .second .time → Opens share n s w → At (s .channel) (opened share n s w)
+  pub opened-at : (s : Session) (w : Two) → w .first .time ≡ w .second .time → Opens share n s w
+      → At (s .channel) (opened share n s w)
   opened-at s w e o =
       subst (λ (z : Run). At (s .channel) (record {
         first = given share n (s .before) (started-up share n s (w .first));
         second = given share n (s .before) z;
         status = 0;
       }))
-      (starts share n (s .config) (s .lent) (o .accepted) (w .first) ∙ (ap (λ t. anew share n (s .config) (s .lent) (o .accepted) t) e
+      (starts share n (s .config) (s .lent) (o .accepted) (w .first)
+      ∙ (ap (λ t. anew share n (s .config) (s .lent) (o .accepted) t) e
       ∙ sym (starts share n (s .config) (s .lent) (o .accepted) (w .second))))
-      (one-so-far share n (s .config) (s .lent) (o .accepted) (s .before) (w .first) (o .lawful) (o .rests) (o .stage) (s .channel) (o .sorts))
+      (one-so-far share n (s .config) (s .lent) (o .accepted) (s .before) (w .first) (o .lawful) (o .rests) (o .stage)
+      (s .channel) (o .sorts))
 
   -- two runs with one record of the bus time, whatever was before
-  pub undisturbed : (ss : List Session) (w : Two) → w .first .time ≡ w .second .time → AllOpen share n ss w → Undisturbed share n ss w
+  pub undisturbed : (ss : List Session) (w : Two) → w .first .time ≡ w .second .time → AllOpen share n ss w
+      → Undisturbed share n ss w
   undisturbed [] w e o = tt
   undisturbed (s ∷ ss) w e o =
       let a = opened-at s w e (o .0) in (

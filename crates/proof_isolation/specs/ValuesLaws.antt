@@ -28,9 +28,11 @@ use Rattle.proof_isolation.specs.EqualExcept.{SameCodes, Stays, Channel,
 use Rattle.proof_isolation.specs.Apart.{ApartBy, end, PairBy, Pair}
 use Rattle.proof_isolation.specs.PairsLaws.{Eq, Any, p-bind, p-same, p-get, p-put, p-act}
 use Rattle.proof_isolation.specs.WakesLaws.{none-same, all-same, own-woken}
-use Rattle.proof_isolation.specs.ButsLaws.{stays-any, but-globals, but-wakes, but-on, changed-seat, like-made, lawful-put, lawful-act}
+use Rattle.proof_isolation.specs.ButsLaws.{stays-any, but-globals, but-wakes, but-on, changed-seat, like-made}
+use Rattle.proof_isolation.specs.ButsLaws.{lawful-put, lawful-act}
 
-merged-stays : {r r′ : EpState} (v v′ : EpCore) → withReady 0 v′ ≡ withReady 0 v → Stays r r′ → Stays (merged r v) (merged r′ v′)
+merged-stays : {r r′ : EpState} (v v′ : EpCore) → withReady 0 v′ ≡ withReady 0 v → Stays r r′
+    → Stays (merged r v) (merged r′ v′)
 merged-stays v v′ q h = record {
   place = record { base = h .place .base; stride = h .place .stride; slots = h .place .slots };
   plain = λ i. mergedPlain (h .plain i) (q i);
@@ -42,16 +44,20 @@ in-other x e z = key-apart x e (sym z)
 
 pub ep0-other : (c : Channel) (dir : Dir) → key dir 0 ≢ key Out (c .number)
 unfolding key
-ep0-other c Out z = true≢false (sym (c .receives) ∙ ap (c .iso Out) (let h : c .number ≡ 0 = omega (arith, z, c .below) in h) ∙ c .ep0 Out)
+ep0-other c Out z = true≢false (sym (c .receives) ∙ ap (c .iso Out) (let h : c .number ≡ 0
+    = omega (arith, z, c .below) in h) ∙ c .ep0 Out)
 ep0-other c In z = in-other (c .number) 0 z
 
 module _ (c : Channel) where
   -- ---- the globals
 
-  pub globals-kept : (v : Globals) (s t : St) → LowEquiv c quiet s t → LowEquiv c quiet (putOn globals-cell v s) (putOn globals-cell v t)
+  pub globals-kept : (v : Globals) (s t : St) → LowEquiv c quiet s t
+      → LowEquiv c quiet (putOn globals-cell v s) (putOn globals-cell v t)
   unfolding epOn
-  globals-kept v s t l = like-made l (lawful-put c globals-cell v (l .left) refl) (lawful-put c globals-cell v (l .right) refl)
-      (but-globals (l .but) _ _ (ap (λ g. mergedGlobals g v) (l .but .globals))) (same-place (epOn (s .0) Out (c .number))) (l .bytes)
+  globals-kept v s t l = like-made l (lawful-put c globals-cell v (l .left) refl)
+      (lawful-put c globals-cell v (l .right) refl)
+      (but-globals (l .but) _ _ (ap (λ g. mergedGlobals g v) (l .but .globals)))
+      (same-place (epOn (s .0) Out (c .number))) (l .bytes)
 
   -- ---- a record
 
@@ -68,7 +74,8 @@ module _ (c : Channel) where
       (but-on (l .but) z z′ dir e (merged r v) (merged (epOn (t .0) dir e) v′)
       (λ n i. merged (l .but .eps dir e n i) (f n i))
       (λ _. merged-stays v v′ q (stays-any (l .but) dir e)))
-      (changed-seat (c .number) (changed-on z dir e (merged r v) (record { base = refl; stride = refl; slots = refl }) refl)) (l .bytes)
+      (changed-seat (c .number) (changed-on z dir e (merged r v) (record { base = refl; stride = refl; slots = refl })
+      refl)) (l .bytes)
 
   -- what scripts see of a record
   pub plain-other : (dir : Dir) (e : ℕ) → key dir e ≢ key Out (c .number)
@@ -76,7 +83,8 @@ module _ (c : Channel) where
   plain-other dir e n s t l = ap plainOf (l .but .eps dir e n)
 
   -- and of the channel's
-  pub plain-any : (dir : Dir) (e : ℕ) (s t : St) → LowEquiv c quiet s t → withReady 0 (plainOf (epOn (s .0) dir e)) ≡ withReady 0 (plainOf (epOn (t .0) dir e))
+  pub plain-any : (dir : Dir) (e : ℕ) (s t : St) → LowEquiv c quiet s t → withReady 0 (plainOf (epOn (s .0) dir e))
+      ≡ withReady 0 (plainOf (epOn (t .0) dir e))
   plain-any dir e s t l = sym (stays-any (l .but) dir e .plain)
 
   -- ---- wake-ups
@@ -86,16 +94,20 @@ module _ (c : Channel) where
   begins-none s t l = like-made l (lawful-act c no-wakes refl (l .left)) (lawful-act c no-wakes refl (l .right))
       (but-wakes (l .but) _ _ (none-same (l .but .wakes))) (same-place (epOn (s .0) Out (c .number))) (l .bytes)
 
-  wakens : (codes : List ℕ) (s t : St) → LowEquiv c quiet s t → LowEquiv c quiet (actOn (waken codes) s) (actOn (waken codes) t)
+  wakens : (codes : List ℕ) (s t : St) → LowEquiv c quiet s t
+      → LowEquiv c quiet (actOn (waken codes) s) (actOn (waken codes) t)
   unfolding epOn
-  wakens codes s t l = like-made l (lawful-act c (waken codes) refl (l .left)) (lawful-act c (waken codes) refl (l .right))
+  wakens codes s t l = like-made l (lawful-act c (waken codes) refl (l .left))
+      (lawful-act c (waken codes) refl (l .right))
       (but-wakes (l .but) _ _ (all-same codes (l .but .wakes))) (same-place (epOn (s .0) Out (c .number))) (l .bytes)
 
   -- the channel's own wake-up, in one run
-  pub own-wake : {s t : St} → LowEquiv c quiet s t → LowEquiv c quiet (actOn (waken (wakeCode Out (c .number) ∷ [])) s) t
+  pub own-wake : {s t : St} → LowEquiv c quiet s t → LowEquiv c quiet (actOn (waken (wakeCode Out (c .number) ∷ [])) s)
+      t
   unfolding epOn
   own-wake {s} {t} l = like-made l (lawful-act c (waken (wakeCode Out (c .number) ∷ [])) refl (l .left)) (l .right)
-      (but-wakes (l .but) _ (t .0 .wakes) (own-woken (l .but .wakes))) (same-place (epOn (s .0) Out (c .number))) (l .bytes)
+      (but-wakes (l .but) _ (t .0 .wakes) (own-woken (l .but .wakes))) (same-place (epOn (s .0) Out (c .number)))
+      (l .bytes)
 
   -- ---- in scripts
 
@@ -104,10 +116,12 @@ module _ (c : Channel) where
     p-assign v = p-put globals-cell v v (globals-kept v)
 
     pub p-records : (dir : Dir) (e : ℕ) (v v′ : EpCore) → withReady 0 v′ ≡ withReady 0 v
-        → (key dir e ≢ key Out (c .number) → v ≡ v′) → Pair c st {i = i} Any (put (ep-cell dir e) v) (put (ep-cell dir e) v′)
+        → (key dir e ≢ key Out (c .number) → v ≡ v′) → Pair c st {i = i} Any (put (ep-cell dir e) v)
+        (put (ep-cell dir e) v′)
     p-records dir e v v′ q f = p-put (ep-cell dir e) v v′ (record-kept dir e v v′ q f)
 
-    pub p-record : (dir : Dir) (e : ℕ) (v : EpCore) → Pair c st {i = i} Any (put (ep-cell dir e) v) (put (ep-cell dir e) v)
+    pub p-record : (dir : Dir) (e : ℕ) (v : EpCore) → Pair c st {i = i} Any (put (ep-cell dir e) v)
+        (put (ep-cell dir e) v)
     p-record dir e v = p-records dir e v v refl (λ _. refl)
 
     pub p-modify : (f : Globals → Globals) → Pair c st {i = i} Any (modify f) (modify f)
@@ -150,13 +164,15 @@ module _ (c : Channel) where
           (λ v v′ e. subst (λ z. PairBy c st m Q (f v) (g z)) (e .0) (h v (e .1)))
 
       -- of an endpoint but the channel
-      pub p-plain : (dir : Dir) (e : ℕ) → key dir e ≢ key Out (c .number) → {f : EpCore → Script i A} {g : EpCore → Script i B}
+      pub p-plain : (dir : Dir) (e : ℕ) → key dir e ≢ key Out (c .number)
+          → {f : EpCore → Script i A} {g : EpCore → Script i B}
           → ((v : EpCore) → Shows (c .iso) (ep-cell dir e) v → PairBy c st m Q (f v) (g v))
           → PairBy c st m Q (bind (get (ep-cell dir e)) f) (bind (get (ep-cell dir e)) g)
-      p-plain dir e n {f} {g} h = p-bind (p-get (ep-cell dir e) (λ v v′. (v ≡ v′) × Shows (c .iso) (ep-cell dir e) v) (λ s t l. (
-        plain-other dir e n s t l,
-        sorted (c .iso) (c .ep0) .shows (ep-cell dir e) s (l .left .has),
-      )))
+      p-plain dir e n {f} {g} h = p-bind (p-get (ep-cell dir e) (λ v v′. (v ≡ v′) × Shows (c .iso) (ep-cell dir e) v)
+          (λ s t l. (
+            plain-other dir e n s t l,
+            sorted (c .iso) (c .ep0) .shows (ep-cell dir e) s (l .left .has),
+          )))
           (λ v v′ e. subst (λ z. PairBy c st m Q (f v) (g z)) (e .0) (h v (e .1)))
 
       pub p-plain-in : (e : ℕ) {f : EpCore → Script i A} {g : EpCore → Script i B}
@@ -178,8 +194,10 @@ module _ (c : Channel) where
         on = λ s t l.
             let p = plainOf (epOn (s .0) dir e) in
             let q = plainOf (epOn (t .0) dir e) in
-            subst (λ z. ApartBy c st i Q m (run concrete (f p) s) (run concrete (g z) t)) (ap (withReady (q .ready)) (plain-any dir e s t l))
+            subst (λ z. ApartBy c st i Q m (run concrete (f p) s) (run concrete (g z) t))
+            (ap (withReady (q .ready)) (plain-any dir e s t l))
             (h p (q .ready) (λ n. ap (λ (v : EpCore). v .ready) (sym (plain-other dir e n s t l)))
-            (λ k. ap (λ (r : EpState). isOn (r .iso)) (key-ep (s .0) dir Out e (c .number) k) ∙ l .left .has .flags Out (c .number) ∙ c .receives)
+            (λ k. ap (λ (r : EpState). isOn (r .iso)) (key-ep (s .0) dir Out e (c .number) k)
+            ∙ l .left .has .flags Out (c .number) ∙ c .receives)
             (sorted (c .iso) (c .ep0) .shows (ep-cell dir e) s (l .left .has)) .on s t l);
       }

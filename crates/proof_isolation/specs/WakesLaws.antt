@@ -10,7 +10,8 @@ use lib.Dec.{eqb}
 use lib.ListN.{length}
 use Rattle.regs.specs.declared.Dir.the-variants.{Out}
 use Rattle.state.specs.Wakes.{Wakes, wakeCode, unwoken, listed, woken, all-woken}
-use Rattle.state.specs.WakesLaws.{Room, unwoken-room, unwoken-listed, woken-full, woken-keeps, woken-listed, listed-count}
+use Rattle.state.specs.WakesLaws.{Room, unwoken-room, unwoken-listed, woken-full, woken-keeps, woken-listed}
+use Rattle.state.specs.WakesLaws.{listed-count}
 use Rattle.proof_isolation.specs.EqualExcept.{without, others, OtherWakes}
 
 without-append : (o : ℕ) (l m : List ℕ) → without o (l ++ m) ≡ without o l ++ without o m
@@ -40,13 +41,20 @@ module _ (a : ℕ) (w : Wakes) (r : Room w) where
   room-before : length (listed (woken a w)) < 64 → w .count < 64
   room-before h = elim (decLt (w .count) 64) [
     | yes p ↦ p
-    | no p ↦ absurd (omega (arith, h, listed-count (woken a w) room-woken, ap (λ (v : Wakes). v .count) (woken-full a w (omega arith))))
+    | no p ↦ absurd (omega (
+      arith,
+      h,
+      listed-count (woken a w) room-woken,
+      ap (λ (v : Wakes). v .count)
+          (woken-full a w (omega arith)),
+    ))
   ]
 
   list-before : length (listed (woken a w)) < 64 → length (listed w) < 64
   list-before h = omega (arith, room-before h, listed-count w r)
 
-  others-woken : (x : ℕ) → length (listed (woken a w)) < 64 → others x (listed (woken a w)) ≡ others x (listed w) ++ others x (a ∷ [])
+  others-woken : (x : ℕ) → length (listed (woken a w)) < 64 → others x (listed (woken a w)) ≡ others x (listed w)
+      ++ others x (a ∷ [])
   others-woken x h = ap (λ l. others x l) (woken-listed a w r (room-before h)) ∙ without-append _ (listed w) (a ∷ [])
 
 module _ {x : ℕ} where

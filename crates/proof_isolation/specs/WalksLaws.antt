@@ -13,14 +13,17 @@ use Rattle.regs.specs.Registers.{ctrlOf}
 use Rattle.regs.specs.Status.{token, tokenNumbered, isIn}
 use Rattle.script.specs.Cells.{ep-cell}
 use Rattle.script.specs.Tree.{bindOut}
-use Rattle.script.specs.Script.{Script, run, bind, test, done, _>>=_, _>>_, read, write, look, hand, complete, send, waiting, next-len}
+use Rattle.script.specs.Script.{Script, run, bind, test, done, _>>=_, _>>_, read, write, look, hand, complete, send}
+use Rattle.script.specs.Script.{waiting, next-len}
 use Rattle.script.specs.Every.{sameReg}
 use Rattle.script.specs.Simulates.{quiet}
 use Rattle.frame.specs.Usb20.{indexOf, frameOf}
 use Rattle.frame.specs.Advance.{previous}
 use Rattle.script.specs.Statics.{withLastFrame, modifyReg, modifyIntEn, wake}
-use Rattle.script.specs.IsoIn.{firstInFrame, isoInLoad, isoInComplete, leaving, unseen, sofOne, sofWalk, onSof, lateWalk}
-use Rattle.script.specs.Handler.{looks, sieWait, outNaks, nakNonIso, repeated, toggled, sent, sofArm, isoInArm, movedOn, ep0MovedOn}
+use Rattle.script.specs.IsoIn.{firstInFrame, isoInLoad, isoInComplete, leaving, unseen, sofOne, sofWalk, onSof}
+use Rattle.script.specs.IsoIn.{lateWalk}
+use Rattle.script.specs.Handler.{looks, sieWait, outNaks, nakNonIso, repeated, toggled, sent, sofArm, isoInArm, movedOn}
+use Rattle.script.specs.Handler.{ep0MovedOn}
 use Rattle.regs.specs.declared.Token.{Token}
 use Rattle.regs.specs.declared.Token.the-variants as tok
 use Rattle.script_ops.specs.Rings.{St}
@@ -28,10 +31,12 @@ use Rattle.script_ops.specs.Concrete.{concrete, isOf, actOn, putOn, getOn}
 use Rattle.proof_isolation.specs.EqualExcept.{Channel}
 use Rattle.proof_isolation.specs.Whose.{sof}
 use Rattle.proof_isolation.specs.Apart.{Reads, Next, next, elsewhere, ApartBy, both, PairBy, Pair}
-use Rattle.proof_isolation.specs.PairsLaws.{rests, Eq, Any, p-ret, p-bind, p-same, p-then, p-test, p-when, p-read, p-write}
+use Rattle.proof_isolation.specs.PairsLaws.{rests, Eq, Any, p-ret, p-bind, p-same, p-then, p-test, p-when, p-read}
+use Rattle.proof_isolation.specs.PairsLaws.{p-write}
 use Rattle.proof_isolation.specs.PairsLaws.{p-callback, p-is, p-look, p-act}
 use Rattle.proof_isolation.specs.PairsLaws.{p-hand}
-use Rattle.proof_isolation.specs.ValuesLaws.{p-assign, p-record, p-modify, p-modify-ep, p-wake, p-globals, p-plain-in, p-plain-ep0, p-plain-any}
+use Rattle.proof_isolation.specs.ValuesLaws.{p-assign, p-record, p-modify, p-modify-ep, p-wake, p-globals}
+use Rattle.proof_isolation.specs.ValuesLaws.{p-plain-in, p-plain-ep0, p-plain-any}
 use Rattle.proof_isolation.specs.InRingsLaws.{waiting-in, next-in, completes, sends}
 
 -- the same value, of a register that is not the status
@@ -102,18 +107,21 @@ load-next : (x : ℕ) (i : Bool) (e : ℕ) (s : St) → Next x (run {i = i} conc
 load-next x i e s = by (isOf (waiting In e) s)
   where
     by : (b : Bool) → Next x
-        (bindOut (run {i = i} concrete (test b (hand (send e) >> (look (next-len In e) >>= λ n. write EpTLen e n)) (write EpTLen e 0)) s)
+        (bindOut (run {i = i} concrete (test b (hand (send e) >> (look (next-len In e) >>= λ n. write EpTLen e n))
+        (write EpTLen e 0)) s)
         (λ _ t. run {i = i} concrete (wake In e) t))
     by true = next refl
     by false = next refl
 
 -- so where the status shows no IN
-sof-next : (x : ℕ) (i : Bool) (frame e : ℕ) (s : St) → Next x (run {i = i} concrete (test (leaving sof e) done (unseen frame e)) s)
+sof-next : (x : ℕ) (i : Bool) (frame e : ℕ) (s : St) → Next x
+    (run {i = i} concrete (test (leaving sof e) done (unseen frame e)) s)
 unfolding leaving isIn token tokenNumbered
 sof-next x i frame e s = load-next x i e (run-of frame e s)
   where
     run-of : ℕ → ℕ → St → St
-    run-of frame e s = actOn (complete e) (putOn (ep-cell In e) (withLastFrame (frameOf (previous (indexOf frame))) (getOn (ep-cell In e) s)) s)
+    run-of frame e s = actOn (complete e) (putOn (ep-cell In e)
+        (withLastFrame (frameOf (previous (indexOf frame))) (getOn (ep-cell In e) s)) s)
 
 module _ {c : Channel} {st : ℕ} {i : Bool} where
   pub p-reads : {m : Bool} {A B : Type 0} {Q : A → B → Type 0} (r : Reg) (e : ℕ)
@@ -122,17 +130,20 @@ module _ {c : Channel} {st : ℕ} {i : Bool} where
   p-reads {m} {Q = Q} r e z {f} {g} h = p-bind (p-read r e (no-status c st r z))
       (λ v v′ b. subst (λ y. PairBy c st m Q (f v) (g y)) (steady-same c st r z v v′ b) (h v))
 
-  -- the status word is the same throughout the interrupt; one that shows no OUT does not lead to the channel's receive address
+  -- the status word is the same throughout the interrupt; one that shows no OUT does not lead to the channel's receive
+  -- address
   pub p-status : {m : Bool} {A B : Type 0} {Q : A → B → Type 0} {f : ℕ → Script i A} {g : ℕ → Script i B}
       → ((s : St) → Next (c .number) (run concrete (f sof) s)) → ((s : St) → Next (c .number) (run concrete (g sof) s))
       → PairBy c st m Q (f st) (g st) → PairBy c st m Q (bind (read IntSt 0) f) (bind (read IntSt 0) g)
   p-status {m} {Q = Q} {f} {g} n n′ h = record {
-    on = λ s t l. both {q = Read IntSt 0} quiet (rests i) (λ _ s. elsewhere (n s)) (λ _ s. elsewhere (n′ s)) l (λ v v′ s t b r.
+    on = λ s t l. both {q = Read IntSt 0} quiet (rests i) (λ _ s. elsewhere (n s)) (λ _ s. elsewhere (n′ s)) l
+        (λ v v′ s t b r.
         subst (λ y. ApartBy c st i Q m (run concrete (f v) s) (run concrete (g y) t)) (sym (b .1))
         (subst (λ y. ApartBy c st i Q m (run concrete (f y) s) (run concrete (g st) t)) (sym (b .0)) (h .on s t r)));
   }
 
-  pub p-modify-reg : (r : Reg) (e : ℕ) (f : ℕ → ℕ) → Steady c st r → Pair c st {i = i} Any (modifyReg r e f) (modifyReg r e f)
+  pub p-modify-reg : (r : Reg) (e : ℕ) (f : ℕ → ℕ) → Steady c st r
+      → Pair c st {i = i} Any (modifyReg r e f) (modifyReg r e f)
   p-modify-reg r e f z = p-reads r e z (λ v. p-write r e (f v))
 
   pub p-int-en : (f : ℕ → ℕ) → Pair c st {i = i} Any (modifyIntEn f) (modifyIntEn f)
@@ -142,7 +153,8 @@ module _ {c : Channel} {st : ℕ} {i : Bool} where
 
   pub p-load : (e : ℕ) → Pair c st {i = i} Any (isoInLoad e) (isoInLoad e)
   p-load e = p-same (p-is (waiting In e) (waiting-in c e)) (λ b. p-test b
-      (λ _. p-then (p-hand (send e) (λ _. refl) (sends c e)) (p-same (p-look (next-len In e) (next-in c e)) (λ n. p-write EpTLen e n)))
+      (λ _. p-then (p-hand (send e) (λ _. refl) (sends c e))
+      (p-same (p-look (next-len In e) (next-in c e)) (λ n. p-write EpTLen e n)))
       (λ _. p-write EpTLen e 0))
 
   pub p-complete : (e : ℕ) → Pair c st {i = i} Any (isoInComplete e) (isoInComplete e)
@@ -157,7 +169,8 @@ module _ {c : Channel} {st : ℕ} {i : Bool} where
   p-sof-one : (frame e : ℕ) → Pair c st {i = i} Any (sofOne frame e) (sofOne frame e)
   p-sof-one frame e = p-plain-in c e (λ p _. p-test _ (λ _. p-ret tt) (λ _. p-reads MisSt 0 (λ v v′ h. h) (λ m. p-test _
       (λ _. p-unseen frame e)
-      (λ _. p-status (sof-next (c .number) i frame e) (sof-next (c .number) i frame e) (p-test _ (λ _. p-ret tt) (λ _. p-unseen frame e))))))
+      (λ _. p-status (sof-next (c .number) i frame e) (sof-next (c .number) i frame e)
+      (p-test _ (λ _. p-ret tt) (λ _. p-unseen frame e))))))
 
   p-sof-walk : (frame : ℕ) (es : List ℕ) → Pair c st {i = i} Any (sofWalk frame es) (sofWalk frame es)
   unfolding sofWalk
@@ -165,12 +178,14 @@ module _ {c : Channel} {st : ℕ} {i : Bool} where
   p-sof-walk frame (e ∷ es) = p-then (p-sof-one frame e) (p-sof-walk frame es)
 
   pub p-sof : (frame : ℕ) → Pair c st {i = i} Any (onSof frame) (onSof frame)
-  p-sof frame = p-then (p-modify c _) (p-globals c (λ g _. p-then (p-sof-walk frame _) (p-globals c (λ g _. p-when _ (λ _. p-callback)))))
+  p-sof frame = p-then (p-modify c _) (p-globals c (λ g _. p-then (p-sof-walk frame _)
+      (p-globals c (λ g _. p-when _ (λ _. p-callback)))))
 
   pub p-late-walk : (frame : ℕ) (es : List ℕ) → Pair c st {i = i} Any (lateWalk frame es) (lateWalk frame es)
   unfolding lateWalk
   p-late-walk frame [] = p-ret tt
-  p-late-walk frame (e ∷ es) = p-then (p-same (p-first e frame) (λ b. p-when b (λ _. p-complete e))) (p-late-walk frame es)
+  p-late-walk frame (e ∷ es) = p-then (p-same (p-first e frame) (λ b. p-when b (λ _. p-complete e)))
+      (p-late-walk frame es)
 
   -- ---- waits, NAKs, toggles
 
@@ -186,11 +201,13 @@ module _ {c : Channel} {st : ℕ} {i : Bool} where
   unfolding outNaks
   p-nak w = p-plain-any c Out _
       (λ o r _ _ _. p-plain-in c _
-      (λ n _. p-test _ (λ _. p-modify-reg EpRxCtrl _ _ (λ v v′ h. h)) (λ _. p-when _ (λ _. p-modify-reg EpTxCtrl _ _ (λ v v′ h. h)))))
+      (λ n _. p-test _ (λ _. p-modify-reg EpRxCtrl _ _ (λ v v′ h. h))
+      (λ _. p-when _ (λ _. p-modify-reg EpTxCtrl _ _ (λ v v′ h. h)))))
 
   pub p-toggled : (dir : Dir) (e : ℕ) → Pair c st {i = i} Eq (toggled dir e) (toggled dir e)
   unfolding repeated
-  p-toggled dir e = p-then p-sie-wait (p-reads (ctrlOf dir) e (ctrl-steady c st dir) (λ w. p-plain-any c dir e (λ s r _ _ _. p-test _
+  p-toggled dir e = p-then p-sie-wait (p-reads (ctrlOf dir) e (ctrl-steady c st dir)
+      (λ w. p-plain-any c dir e (λ s r _ _ _. p-test _
       (λ _. p-then (p-when _ (λ _. p-modify-reg (ctrlOf dir) e _ (ctrl-steady c st dir))) (p-ret refl))
       (λ _. p-then (p-modify-ep c dir e _ (λ _. refl)) (p-ret refl)))))
 
@@ -203,12 +220,14 @@ module _ {c : Channel} {st : ℕ} {i : Bool} where
   p-sof-arm frame = p-globals c (λ g _. p-when _ (λ _. p-sof frame))
 
   pub p-iso-in : (e frame : ℕ) → Pair c st {i = i} Any (isoInArm e frame) (isoInArm e frame)
-  p-iso-in e frame = p-globals c (λ g _. p-test _ (λ _. p-ret tt) (λ _. p-same (p-first e frame) (λ b. p-when b (λ _. p-complete e))))
+  p-iso-in e frame = p-globals c (λ g _. p-test _ (λ _. p-ret tt)
+      (λ _. p-same (p-first e frame) (λ b. p-when b (λ _. p-complete e))))
 
   p-moved : (dir : Dir) → Pair c st {i = i} Any (movedOn dir) (movedOn dir)
   p-moved dir = p-plain-ep0 c dir
       (λ s _. p-when _
-      (λ _. p-then (p-modify-reg (ctrlOf dir) 0 _ (ctrl-steady c st dir)) (p-then (p-modify-ep c dir 0 _ (λ _. refl)) (p-wake c dir 0))))
+      (λ _. p-then (p-modify-reg (ctrlOf dir) 0 _ (ctrl-steady c st dir))
+      (p-then (p-modify-ep c dir 0 _ (λ _. refl)) (p-wake c dir 0))))
 
   pub p-ep0-moved : (t : Token) → Pair c st {i = i} Any (ep0MovedOn t) (ep0MovedOn t)
   p-ep0-moved tok.Out = p-moved In

@@ -10,7 +10,7 @@ use Rattle.script.specs.Tree as tree
 use Rattle.script.specs.Tree.{ends, asks}
 use Rattle.script.specs.Every.{sameReg}
 use Rattle.script.specs.Answers.{Answer}
-use Rattle.script.specs.Machine.{Way, idle, busy, Machine}
+use Rattle.script.specs.Machine.{Pending, idle, busy, Machine}
 use Rattle.script_ops.specs.Rings.{St}
 
 -- OUT x's receive address
@@ -32,8 +32,8 @@ receivesNext x (asks q s k) = receives x q
 abbrev pub sof : ℕ
 sof = 16
 
--- an interrupt's access `q` is made for x: its receive address; and the status read in its check (`checkOne`), upon which its receive address is
--- handed out where the status shows no OUT. `o`: what would go on with such a status
+-- an interrupt's access `q` is made for x: its receive address; and the status read in its check (`checkOne`), upon
+-- which its receive address is handed out where the status shows no OUT. `o`: what would go on with such a status
 abbrev pub madeFor : {A : Type 0} → ℕ → Access → tree.Out St A → Bool
 madeFor x (Receive e y) o = eqb e x
 madeFor x (Read r e) o = sameReg r IntSt && receivesNext x o
@@ -43,11 +43,11 @@ madeFor x (Ep0Dma y) o = false
 madeFor x (Wait n) o = false
 madeFor x Callback o = false
 
-abbrev pub ownWay : ℕ → Access → Way Answer Driver → St → Bool
+abbrev pub ownWay : ℕ → Access → Pending Answer Driver → St → Bool
 ownWay x q idle s = false
 ownWay x q (busy false a k) s = false
 ownWay x q (busy true a k) s = madeFor x q (k sof s)
 
 -- a machine that handed out `q` stands at an access of x's own
 abbrev pub own : ℕ → Access → Machine Answer Driver → Bool
-own x q m = ownWay x q (m .way) (m .st, m .buf)
+own x q m = ownWay x q (m .under-way) (m .st, m .buf)

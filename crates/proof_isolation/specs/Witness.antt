@@ -13,14 +13,14 @@ use mathlib.Core.Bool.{true, false}
 use mathlib.Core.List.{List, [], _∷_}
 use mathlib.Core.Path.{_≡_, refl, ap, _∙_}
 use Prim.Native.Nat.{ℕ, zero, suc}
-use lib.ListN.{length, take}
+use lib.ListN.{take}
 use Rattle.regs.specs.declared.Access.the-variants.{Wait}
 use Rattle.regs.specs.declared.Dir.the-variants.{Out}
 use Rattle.state.specs.Driver.{epOn}
 use Rattle.ring.specs.Waiting.{waiting}
 use Rattle.script.specs.Answers.{Answer, Refused, End, NotYet, Done, Shown}
 use Rattle.script.specs.Calls.{Config, Op, slotted, other, SetEnabled, Allocate, Start}
-use Rattle.script.specs.Machine.{Buf, Call, begin, go, Ans, ended, handed, told, idle}
+use Rattle.script.specs.Machine.{Buf, Call, begin, continue, Ans, ended, handed, told, idle}
 use Rattle.machine.specs.Suspended.{driverOf}
 use Rattle.proof_book.specs.FrontPage.{lensOf}
 use Rattle.proof_book.specs.Computing.{computing}
@@ -35,7 +35,7 @@ use Rattle.proof_isolation.specs.Once.{quickLast, parting, quickSetUp, P
 
 abbrev continues : ℕ → List (Call Config Op) → List (Call Config Op)
 continues zero cs = cs
-continues (suc n) cs = go 0 ∷ continues n cs
+continues (suc n) cs = continue 0 ∷ continues n cs
 
 abbrev zeros : ℕ → List ℕ
 zeros zero = []
@@ -81,7 +81,7 @@ moves = arrives (first-opens ∷ first-closes ∷ arrivesLate [])
 
 abbrev pub blank : Run
 blank = record {
-  machine = record { way = idle; st = driverOf .fresh config; buf = [] };
+  machine = record { under-way = idle; st = driverOf .fresh config; buf = [] };
   access = Wait 0;
   answer = ended NotYet;
   time = [];
@@ -157,9 +157,6 @@ seenBy last = (
   record { channel = (6 ∷ 6 ∷ 6 ∷ []) ∷ []; other = (5 ∷ 5 ∷ []) ∷ (7 ∷ 8 ∷ []) ∷ []; wakes = 17 ∷ 18 ∷ [] },
   record { channel = (9 ∷ 8 ∷ 7 ∷ []) ∷ []; other = (5 ∷ 5 ∷ []) ∷ (7 ∷ 8 ∷ []) ∷ []; wakes = 18 ∷ [] },
 )
-
-all-turns : length moves ≡ turnsBy last
-all-turns = refl
 
 computed : (p : Moment)
     → (let w = quickLast 1 (take (turnsBy p) moves) (parting (quickSetUp config buffer setting moves blank)) in

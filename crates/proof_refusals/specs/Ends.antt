@@ -1,5 +1,6 @@
--- "The end of an operation now gives the wake-ups as a list, in order, repeats included, at most 64 long": whatever the state's bytes are, an end's list
--- is that of the state which the call leaves, or none, and the count that the call answers is its length.
+-- "The end of an operation now gives the wake-ups as a list, in order, repeats included, at most 64 long": whatever the
+-- state's bytes are, an end's list is that of the state which the call leaves, or none, and the count that the call
+-- answers is its length.
 use mathlib.Core.Bool.{cond}
 use mathlib.Core.List.{List}
 use mathlib.Core.Logic.{inl, inr}
@@ -23,10 +24,12 @@ use Rattle.proof_refusals.specs.Outcomes.{Listed}
 use Rattle.proof_refusals.specs.Refusals.{Called, AnsIs, call-is}
 
 -- of every call, on a machine with any state
-pub end-lists : (c : Call Config Op) (u : Suspended) (d : Driver) (a b : Buf) (n : ℕ) (ws : List ℕ) → drive c (machineAt u d a) b .0 ≡ ended (End n ws)
+pub end-lists : (c : Call Config Op) (u : Suspended) (d : Driver) (a b : Buf) (n : ℕ) (ws : List ℕ)
+    → drive c (machineAt u d a) b .0 ≡ ended (End n ws)
     → Listed ws (drive c (machineAt u d a) b .1 .st)
 end-lists c u d a b n ws q =
-    subst (λ (x : Ans Answer). AnsIs (λ n. machineAt u (left c n d) (cond (buffersRow c d b) a b)) x (drive c (machineAt u d a) b .1)) q (call-is c u d a b)
+    subst (λ (x : Ans Answer). AnsIs (λ n. machineAt u (left c n d) (cond (buffersRow c d b) a b)) x
+    (drive c (machineAt u d a) b .1)) q (call-is c u d a b)
 
 few-listed : (ys ws : List ℕ) → Listed ws (view ys) → length ws ≤ 64
 few-listed ys ws (inl e) = omega (arith, ap length e)

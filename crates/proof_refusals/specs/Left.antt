@@ -12,11 +12,12 @@ use Rattle.script.specs.Endpoint.{no-request}
 use Rattle.script.specs.Control.{no-control}
 use Rattle.script.specs.Calls.{Config, Op, slots}
 use Rattle.script.specs.Kinds as kinds
-use Rattle.script.specs.Machine.{Buf, Call, start, begin, go, question}
+use Rattle.script.specs.Machine.{Buf, Call, start, begin, continue, question}
 use Rattle.script_ops.specs.Records.{plainOf, merged}
 use Rattle.machine.specs.Suspended.{slotsFit}
 
--- the polls that 9 or 10 may refuse: of a read or a write, of the control pipe's stages; a poll of setup is refused by neither
+-- the polls that 9 or 10 may refuse: of a read or a write, of the control pipe's stages; a poll of setup is refused by
+-- neither
 pub data Poll : Type 0 where
   none data-out data-in accept : Poll
   request : Dir → ℕ → Poll
@@ -49,7 +50,8 @@ requestEnded (request dir e) d = withRequestOn d dir e no-request
 abbrev pub unready : Dir → ℕ → Driver → Driver
 unready dir e d = withOn d dir e (merged (epOn d dir e) (withReady 0 (plainOf (epOn d dir e))))
 
--- the ready flag that the poll waits for; of data_in the closing OUT's, with the data packet's where no poll before took that. No 10 refuses a poll of accept
+-- the ready flag that the poll waits for; of data_in the closing OUT's, with the data packet's where no poll before
+-- took that. No 10 refuses a poll of accept
 abbrev pub flagCleared : Poll → Driver → Driver
 flagCleared none d = d
 flagCleared data-out d = unready Out 0 d
@@ -64,12 +66,13 @@ leftBy p n d = cond (eqb n 9) (requestEnded p d) (cond (eqb n 10) (requestEnded 
 abbrev pub left : Call Config Op → ℕ → Driver → Driver
 left (start c) n d = d
 left (begin o) n d = leftBy (pollOf o) n d
-left (go v) n d = d
+left (continue v) n d = d
 left (question q) n d = d
 
--- rows 1 and 2, which ask of the slot buffer: where one of them refuses, the run's own buffer stays, and else it is the one lent
+-- rows 1 and 2, which ask of the slot buffer: where one of them refuses, the run's own buffer stays, and else it is the
+-- one lent
 abbrev pub buffersRow : Call Config Op → Driver → Buf → Bool
 buffersRow (start c) d b = true
 buffersRow (begin o) d b = cond (slots o) (not (slotsFit d b)) false
-buffersRow (go v) d b = not (slotsFit d b)
+buffersRow (continue v) d b = not (slotsFit d b)
 buffersRow (question q) d b = false

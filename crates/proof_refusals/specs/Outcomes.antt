@@ -1,4 +1,5 @@
--- What a refusal leaves, and which wake-ups an end gives, of a call that is left to its script: a rule for each form that the scripts have
+-- What a refusal leaves, and which wake-ups an end gives, of a call that is left to its script: a rule for each form
+-- that the scripts have
 use mathlib.Core.Bool.{Bool, true, false, cond}
 use mathlib.Core.Path.{_≡_, refl, subst, sym}
 use mathlib.Core.Logic.{_⊎_, inr}
@@ -28,7 +29,8 @@ abbrev pub OutLeaves : Poll → St → Out St Answer → Type 0
 OutLeaves x s (ends a t) = AnswerLeaves x s a t
 OutLeaves x s (asks q t k) = Unit {0}
 
--- the script's run from t, where it ends at once with refusal n, leaves of the state s what `leftBy` says, and the buffer of s
+-- the script's run from t, where it ends at once with refusal n, leaves of the state s what `leftBy` says, and the
+-- buffer of s
 pub record LeavesByRow (x : Poll) (s t : St) {i : Bool} (p : Script i Answer) : Type 0 where
   pub leaves : OutLeaves x s (run concrete p t)
 
@@ -40,27 +42,35 @@ module _ {x : Poll} {s t : St} {i : Bool} where
   pub answers : {a : Answer} → AnswerLeaves x s a t → LeavesByRow x s t {i = i} (ret a)
   answers h = record { leaves = h }
 
-  pub tests : {b : Bool} {p q : Script i Answer} → (b ≡ true → LeavesByRow x s t p) → (b ≡ false → LeavesByRow x s t q) → LeavesByRow x s t (test b p q)
+  pub tests : {b : Bool} {p q : Script i Answer} → (b ≡ true → LeavesByRow x s t p) → (b ≡ false → LeavesByRow x s t q)
+      → LeavesByRow x s t (test b p q)
   tests {b} h g = by-cases b h g
     where
-      by-cases : (b : Bool) {p q : Script i Answer} → (b ≡ true → LeavesByRow x s t p) → (b ≡ false → LeavesByRow x s t q) → LeavesByRow x s t (test b p q)
+      by-cases : (b : Bool) {p q : Script i Answer} → (b ≡ true → LeavesByRow x s t p)
+          → (b ≡ false → LeavesByRow x s t q) → LeavesByRow x s t (test b p q)
       by-cases true h g = record { leaves = h refl .leaves }
       by-cases false h g = record { leaves = g refl .leaves }
 
-  pub each : {b : Bool} {p q : Script i Answer} → LeavesByRow x s t p → LeavesByRow x s t q → LeavesByRow x s t (test b p q)
+  pub each : {b : Bool} {p q : Script i Answer} → LeavesByRow x s t p → LeavesByRow x s t q
+      → LeavesByRow x s t (test b p q)
   each h g = tests (λ _. h) (λ _. g)
 
   -- steps without an access
   pub after : {A : Type 0} {p : Script i A} {k : A → Script i Answer} {a : A} {u : St}
       → run concrete p t ≡ ends a u → LeavesByRow x s u (k a) → LeavesByRow x s t (bind p k)
-  after {k = k} q h = record { leaves = subst (λ o. OutLeaves x s (bindOut o (λ a u. run concrete (k a) u))) (sym q) (h .leaves) }
+  after {k = k} q h = record {
+    leaves = subst (λ o. OutLeaves x s (bindOut o (λ a u. run concrete (k a) u))) (sym q)
+        (h .leaves);
+  }
 
-  pub picks : (b : Bool) {y z : Answer} → LeavesByRow x s t {i = i} (ret y) → LeavesByRow x s t {i = i} (ret z) → LeavesByRow x s t {i = i} (ret (cond b y z))
+  pub picks : (b : Bool) {y z : Answer} → LeavesByRow x s t {i = i} (ret y) → LeavesByRow x s t {i = i} (ret z)
+      → LeavesByRow x s t {i = i} (ret (cond b y z))
   picks true h g = h
   picks false h g = g
 
   -- steps, whatever they do, after which no way refuses
-  pub whatever : {A : Type 0} {p : Script i A} {k : A → Script i Answer} → ((a : A) (u : St) → LeavesByRow x s u (k a)) → LeavesByRow x s t (bind p k)
+  pub whatever : {A : Type 0} {p : Script i A} {k : A → Script i Answer} → ((a : A) (u : St) → LeavesByRow x s u (k a))
+      → LeavesByRow x s t (bind p k)
   whatever {A} {p} {k} h = record { leaves = gone (run concrete p t) }
     where
       gone : (o : Out St A) → OutLeaves x s (bindOut o (λ a u. run concrete (k a) u))

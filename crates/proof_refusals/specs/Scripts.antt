@@ -28,21 +28,28 @@ use Rattle.script.specs.Calls.{BeginDataOut, BeginAcceptSetAddress, otherCode, 
 use Rattle.script_ops.specs.Rings.{St}
 use Rattle.script_ops.specs.Records.{givenTo, allocatedOn, startedWith, allocatedEp0}
 use Rattle.proof_refusals.specs.Left.{none, data-in, pollOf, requestEnded, unready, leftBy}
-use Rattle.proof_refusals.specs.Outcomes.{LeavesByRow, tests, each, picks, after, whatever, refuses, answers, begins}
+use Rattle.proof_refusals.specs.Outcomes.{LeavesByRow, tests, each, picks, after, whatever, refuses, answers}
+use Rattle.proof_refusals.specs.Outcomes.{begins}
 
 -- ---- calls that bring the slots
 
 pub slotted-leaves : (o : Slotted) (s : St) → LeavesByRow (pollOf (slotted o)) s s (slottedCode o)
 slotted-leaves (SetEnabled d e on) s = after refl (each (after refl (each begins (refuses refl))) (refuses refl))
-slotted-leaves (PollRead e n) s = after refl (each (after refl (each (after refl (each (refuses refl) (each (after refl (each
-    (after refl (each (after refl (each (after refl (after refl (after refl (answers tt)))) (answers tt))) (after refl (refuses refl))))
-    (each (after refl (each (after refl (refuses refl)) (after refl (after refl (answers tt))))) (after refl (each (answers tt) (after refl (refuses refl)))))))
+slotted-leaves (PollRead e n) s = after refl (each (after refl
+    (each (after refl (each (refuses refl) (each (after refl (each
+    (after refl (each (after refl (each (after refl (after refl (after refl (answers tt)))) (answers tt)))
+    (after refl (refuses refl))))
+    (each (after refl (each (after refl (refuses refl)) (after refl (after refl (answers tt)))))
+    (after refl (each (answers tt) (after refl (refuses refl)))))))
     (after refl (after refl (refuses refl)))))) (refuses refl))) (refuses refl))
 slotted-leaves (BeginWrite e bs) s = after refl
-    (each (after refl (each (after refl (each (after refl (each (refuses refl) (after refl begins))) (refuses refl))) (refuses refl)))
+    (each (after refl (each (after refl (each (after refl (each (refuses refl) (after refl begins))) (refuses refl)))
+    (refuses refl)))
     (refuses refl))
-slotted-leaves (PollWrite e bs) s = after refl (each (after refl (each (after refl (each (refuses refl) (each (after refl (each
-    (after refl (each (after refl (each (after refl (after refl (answers tt))) (answers tt))) (after refl (refuses refl))))
+slotted-leaves (PollWrite e bs) s = after refl (each (after refl
+    (each (after refl (each (refuses refl) (each (after refl (each
+    (after refl (each (after refl (each (after refl (after refl (answers tt))) (answers tt)))
+    (after refl (refuses refl))))
     (each (after refl (after refl (answers tt))) (after refl (each (answers tt) (after refl (refuses refl)))))))
     (after refl (after refl (refuses refl)))))) (refuses refl))) (refuses refl))
 slotted-leaves (PollDataOut n) s = after refl (each (after refl (each (each (after refl (each
@@ -50,7 +57,8 @@ slotted-leaves (PollDataOut n) s = after refl (each (after refl (each (each (aft
     (after refl (each (after refl (refuses refl)) (answers tt)))))
     (after refl (after refl (refuses refl)))) (refuses refl))) (refuses refl))
 slotted-leaves (BeginDataIn bs first last) s =
-    after refl (each (after refl (each (refuses refl) (after refl (each (refuses refl) (after refl begins))))) (refuses refl))
+    after refl (each (after refl (each (refuses refl) (after refl (each (refuses refl) (after refl begins)))))
+    (refuses refl))
 
 -- ---- allocations
 
@@ -84,16 +92,20 @@ allocation-kept : (d : Driver) (dir : Dir) (kind address maximum interval n : �
     → allocatedOn d dir kind address maximum interval ≡ d
 unfolding allocatedOn givenTo
 allocation-kept d dir kind address maximum interval n q =
-    ap (λ (x : alloc-answer.Answer). givenTo dir kind maximum interval x (withAllocator d (allocateOf (d .allocator) kind address maximum dir .after))) q
+    ap (λ (x : alloc-answer.Answer). givenTo dir kind maximum interval x
+    (withAllocator d (allocateOf (d .allocator) kind address maximum dir .after))) q
     ∙ ap (withAllocator d) (keeps (d .allocator) (run.endpoint kind address maximum dir) n q)
 
-start-kept : (d : Driver) (maximum n : ℕ) → allocateEp0Of (d .allocator) maximum .answer ≡ alloc.Refused n → allocatedEp0 d maximum ≡ d
+start-kept : (d : Driver) (maximum n : ℕ) → allocateEp0Of (d .allocator) maximum .answer ≡ alloc.Refused n
+    → allocatedEp0 d maximum ≡ d
 unfolding allocatedEp0 startedWith
 start-kept d maximum n q =
-    ap (λ (x : alloc-answer.Answer). startedWith maximum x (withAllocator d (allocateEp0Of (d .allocator) maximum .after))) q
+    ap (λ (x : alloc-answer.Answer). startedWith maximum x
+    (withAllocator d (allocateEp0Of (d .allocator) maximum .after))) q
     ∙ ap (withAllocator d) (keeps (d .allocator) (run.ep0 maximum) n q)
 
-read-leaves : (s : St) (bytes : List ℕ) (x : reading-answer.Answer) → LeavesByRow none s s {i = false} (allocate-read bytes x)
+read-leaves : (s : St) (bytes : List ℕ) (x : reading-answer.Answer)
+    → LeavesByRow none s s {i = false} (allocate-read bytes x)
 read-leaves s bytes (reading.Refused n) = refuses-here
 read-leaves s bytes reading.Listed = after refl (each (whatever (λ _ _. begins)) refuses-here)
 
@@ -101,7 +113,8 @@ read-leaves s bytes reading.Listed = after refl (each (whatever (λ _ _. begins)
 
 pub other-leaves : (o : Other) (s : St) → LeavesByRow (pollOf (other o)) s s (otherCode o)
 other-leaves (Allocate d kind address maximum interval) s = after refl (each
-    (after refl (after refl (allocated-leaves d kind maximum (allocateOf (s .0 .allocator) kind address maximum d .answer)
+    (after refl (after refl (allocated-leaves d kind maximum
+    (allocateOf (s .0 .allocator) kind address maximum d .answer)
     (λ n q. ap (λ (x : Driver). (x, s .1)) (allocation-kept (s .0) d kind address maximum interval n q)))))
     (refuses refl))
 other-leaves (AllocateAll bytes) s = after refl (each (read-leaves s bytes (readingOf bytes .answer)) (refuses refl))
@@ -113,24 +126,31 @@ other-leaves BusPoll s = after refl (each begins (refuses refl))
 other-leaves BusEnable s = after refl (each begins (refuses refl))
 other-leaves BusDisable s = after refl (each begins (refuses refl))
 other-leaves Microframe s = after refl (each begins (refuses refl))
-other-leaves (SetStalled d e on) s = after refl (each (each begins (after refl (each begins (refuses refl)))) (refuses refl))
-other-leaves (IsStalled d e) s = after refl (each (each begins (after refl (each begins (refuses refl)))) (refuses refl))
-other-leaves (SetPaced e on) s = after refl (each (each (whatever (λ _ _. answers (inl refl))) (refuses refl)) (refuses refl))
+other-leaves (SetStalled d e on) s = after refl (each (each begins (after refl (each begins (refuses refl))))
+    (refuses refl))
+other-leaves (IsStalled d e) s = after refl (each (each begins (after refl (each begins (refuses refl))))
+    (refuses refl))
+other-leaves (SetPaced e on) s = after refl (each (each (whatever (λ _ _. answers (inl refl))) (refuses refl))
+    (refuses refl))
 other-leaves (Advance e) s = after refl (each (each begins (refuses refl)) (refuses refl))
 other-leaves (BeginRead e n) s = after refl
-    (each (after refl (each (after refl (each (after refl (each (refuses refl) (after refl begins))) (refuses refl))) (refuses refl)))
+    (each (after refl (each (after refl (each (after refl (each (refuses refl) (after refl begins))) (refuses refl)))
+    (refuses refl)))
     (refuses refl))
 other-leaves BeginSetup s = after refl (each (after refl begins) (refuses refl))
 other-leaves PollSetup s = after refl
-    (each (after refl (each (after refl (each (after refl (after refl (answers tt))) (answers tt))) (refuses refl))) (refuses refl))
+    (each (after refl (each (after refl (each (after refl (after refl (answers tt))) (answers tt))) (refuses refl)))
+    (refuses refl))
 other-leaves PollDataIn s = after refl (each (after refl (each (tests
     (λ w. after refl (each
-    (after refl (after refl (after refl (picks (eqb (epOn (s .0) Out 0 .len) 0) (answers tt) (refuses (ap cleared (sym w)))))))
+    (after refl (after refl (after refl (picks (eqb (epOn (s .0) Out 0 .len) 0) (answers tt)
+    (refuses (ap cleared (sym w)))))))
     (after refl (each (after refl (refuses refl)) (after refl (answers tt))))))
     (λ w. after refl (each
     (each
     (after refl (each
-    (after refl (after refl (after refl (picks (eqb (epOn (s .0) Out 0 .len) 0) (answers tt) (refuses (ap cleared (sym w)))))))
+    (after refl (after refl (after refl (picks (eqb (epOn (s .0) Out 0 .len) 0) (answers tt)
+    (refuses (ap cleared (sym w)))))))
     (after refl (each (after refl (refuses refl)) (after refl (answers tt))))))
     (after refl (after refl (answers tt))))
     (after refl (each (after refl (refuses refl)) (answers tt))))))
@@ -145,16 +165,21 @@ other-leaves PollAccept s = after refl (each (after refl (each (after refl (each
     (refuses refl))) (refuses refl))
 other-leaves BeginReject s = after refl (each (after refl begins) (refuses refl))
 other-leaves (BeginDataOut n first) s =
-    after refl (each (after refl (each (refuses refl) (after refl (each (refuses refl) (after refl begins))))) (refuses refl))
-other-leaves (BeginAcceptSetAddress a) s = after refl (each (after refl (each (refuses refl) (after refl begins))) (refuses refl))
+    after refl (each (after refl (each (refuses refl) (after refl (each (refuses refl) (after refl begins)))))
+    (refuses refl))
+other-leaves (BeginAcceptSetAddress a) s = after refl (each (after refl (each (refuses refl) (after refl begins)))
+    (refuses refl))
 
 pub aside-leaves : (o : Aside) (s : St) → LeavesByRow none s s (asideCode o)
 aside-leaves (Open e) s = after refl (each (after refl (each (after refl (each (refuses refl)
-    (after refl (each (after refl (after refl (after refl (answers tt)))) (refuses refl))))) (refuses refl))) (refuses refl))
+    (after refl (each (after refl (after refl (after refl (answers tt)))) (refuses refl))))) (refuses refl)))
+    (refuses refl))
 aside-leaves (Close e) s = after refl
-    (each (after refl (each (after refl (each (after refl (answers (inl refl))) (refuses refl))) (refuses refl))) (refuses refl))
+    (each (after refl (each (after refl (each (after refl (answers (inl refl))) (refuses refl))) (refuses refl)))
+    (refuses refl))
 aside-leaves (Queue e bs) s = after refl (each (after refl (each (after refl (each (after refl (each (refuses refl)
-    (after refl (each (refuses refl) (after refl (each (after refl (answers (inl refl))) (refuses refl))))))) (refuses refl))) (refuses refl))) (refuses refl))
+    (after refl (each (refuses refl) (after refl (each (after refl (answers (inl refl))) (refuses refl)))))))
+    (refuses refl))) (refuses refl))) (refuses refl))
 
 pub code-leaves : (o : Op) (s : St) → LeavesByRow (pollOf o) s s (code o)
 code-leaves interrupt s = after refl (each begins (refuses refl))

@@ -14,7 +14,7 @@ use Rattle.script.specs.Machine.{Buf, start, Machine, fed, started}
 use Rattle.proof_book.specs.Pages.{Packet, Pages}
 use Rattle.proof_book.specs.Book.{receiving}
 use Rattle.proof_book.specs.Lengths.{Readings, Known, learnt, lengthOf}
-use Rattle.proof_book.specs.FrontPage.{Made, Decides}
+use Rattle.proof_book.specs.FrontPage.{CallRecord, Decides}
 use Rattle.proof_book.specs.FrontPage as page
 use Rattle.proof_book.specs.Arrivals.{changedIn}
 use Rattle.proof_book.specs.Watched.{Watch, WatchedBook, watched, RunLent}
@@ -74,35 +74,36 @@ LateOrNot h e n = ByMarks h e ⊎ ((m : ℕ) → lengthOf h e m ≡ n)
 
 -- never short: where call m decides an arrival on OUT e, whose slot was armed for the k-th time and holds the samples,
 -- what joins those waiting is these samples, all of them
-abbrev pub NeverShort : ℕ → ℕ → List ℕ → Made → Machine Answer Pages → Known → Watch → Type 0
+abbrev pub NeverShort : ℕ → ℕ → List ℕ → CallRecord → Machine Answer Pages → Known → Watch → Type 0
 NeverShort e k vs m n f w = Decides (m .event .call) n (m .answer) e → LateOrNot (f .readings) e (length (packed vs))
     → w .armed ≡ true → w .armings ≡ k → SamplesIn e vs (n .st) (m .event .lent) → (q : Packet)
-    → page.noted m n .1 .st .outs e .waiting ≡ n .st .outs e .waiting ++ (q ∷ []) → q .bytes ≡ packed vs
+    → page.bookAfter m n .1 .st .outs e .waiting ≡ n .st .outs e .waiting ++ (q ∷ []) → q .bytes ≡ packed vs
 
 -- never lost to the mark: where call m, whose buffer is as long as the run's, finds the samples in the armed slot of an
 -- enabled isochronous OUT, its first word is not the mark, so that a packet has arrived (Arrivals.antt)
-abbrev pub NeverLost : ℕ → List ℕ → Buf → Made → Machine Answer Pages → Type 0
+abbrev pub NeverLost : ℕ → List ℕ → Buf → CallRecord → Machine Answer Pages → Type 0
 NeverLost e vs a m n = receiving (n .st) e ≡ true → 0 < length vs → length (m .event .lent) ≡ length a
     → SamplesIn e vs (n .st) (m .event .lent) → changedIn (n .st) (m .event .lent) e ≡ true
 
-abbrev pub SamplesEach : ℕ → ℕ → List ℕ → Buf → Machine Answer Pages → Known → Machine Answer WatchedBook → List Made
+abbrev pub SamplesEach : ℕ → ℕ → List ℕ → Buf → Machine Answer Pages → Known → Machine Answer WatchedBook
+    → List CallRecord
     → Type 0
 SamplesEach e k vs a n f y [] = Unit {0}
 SamplesEach e k vs a n f y (m ∷ ms) =
     let l = learnt (m .event .call) (m .answer) f in
     let y′ = watch.noted e (m .answer) (m .event .call) y (m .event .lent) .1 in
     NeverShort e k vs m n l (y .st .watch) × NeverLost e vs a m n
-    × SamplesEach e k vs (m .slots) (page.noted m n .1) l y′ ms
+    × SamplesEach e k vs (m .slots) (page.bookAfter m n .1) l y′ ms
 
 -- any bytes, a start-up that rows 1 and 2 do not stop, and then any calls of demand 3's premise and request Eight's:
 -- after arming k of OUT e, up to its next receive address, the chip stores bytes of this packet alone in the slot
 abbrev pub SamplesWhole : Type 0
 SamplesWhole = (e k : ℕ) (vs : List ℕ) → Each Unmarked vs
     → (c : Config) (b : Buf) → startRow c b ≡ zero → (xs : List ℕ) (a : Buf) (n : Machine Answer Pages)
-    (y : Machine Answer WatchedBook) (first : Made) → first .event ≡ record { call = start c; lent = b }
-    → (ms : List Made)
+    (y : Machine Answer WatchedBook) (first : CallRecord) → first .event ≡ record { call = start c; lent = b }
+    → (ms : List CallRecord)
     → page.Calls xs a n (first ∷ ms)
     → let z = started calls (watched e .driver) (fed (watched e) (first .answer)) c zero y b in
     RunLent e k (packed vs) (first .bytes) (first .slots) (z .1) ms → (f : Known)
-    → SamplesEach e k vs (first .slots) (page.noted first n .1) (learnt (first .event .call) (first .answer) f)
+    → SamplesEach e k vs (first .slots) (page.bookAfter first n .1) (learnt (first .event .call) (first .answer) f)
     (z .1) ms

@@ -1,6 +1,6 @@
 -- A late packet of real samples is whole (Samples.antt): `samples-whole`; 12-bit samples meet its premise:
 -- `twelve-bits`
-use mathlib.Core.Bool.{Bool, true, false, not, cond, _&&_, true≢false}
+use mathlib.Core.Bool.{Bool, true, false, not, cond, _&&_}
 use mathlib.Core.List.{List, [], _∷_, _++_}
 use mathlib.Core.Logic.{_⊎_, inl, inr, ⊎-elim, _≢_}
 use mathlib.Core.Path.{_≡_, refl, ap, subst, sym, _∙_}
@@ -8,21 +8,20 @@ use Prim.Native.Nat.{ℕ, zero, suc, _+_, _*_, _/_, _%_, _≤_, _<_, min}
 use native.Mathlib.Omega.{arith}
 use native.Mathlib.Decide.{ℕ-discrete}
 use borrow.Author.Tests.{ne-eqb, le-ltb}
-use lib.Dec.{eqb, ltb}
 use lib.ListN.{length, getD, drop, length-append, length-take, length-drop}
 use lib.Seq.{getD-drop, getD-take, ext-getD}
 use Rattle.regs.specs.declared.Dir.the-variants.{Out}
 use Rattle.state.specs.Driver.{Driver, epOn}
 use Rattle.state.specs.State.{view}
-use Rattle.ring.specs.Marks.{mark, markByte, isMark, isMarked, short}
+use Rattle.ring.specs.Marks.{mark, markByte, isMark, isMarked}
 use Rattle.ring.specs.Words.{one-differs}
 use Rattle.ring.specs.Finds.{LastDiffers}
 use Rattle.ring.specs.Copies.{bytesAt}
 use Rattle.script.specs.Simulates.{Phase}
 use Rattle.script.specs.Answers.{Answer}
-use Rattle.script.specs.Calls.{Config, Op, calls, startRow}
+use Rattle.script.specs.Calls.{Config, Op, calls}
 use Rattle.script.specs.Cells.{EpCore}
-use Rattle.script.specs.Machine.{Buf, Event, Call, start, Machine, Ans, blankA}
+use Rattle.script.specs.Machine.{Buf, Event, Call, Machine, Ans, blankA}
 use Rattle.script.specs.Agree.{After, Ways, agrees, from-start}
 use Rattle.machine.specs.Suspended.{driverOf, drive, machineOf}
 use Rattle.proof_book.specs.Pages.{Packet, Pages}
@@ -33,13 +32,13 @@ use Rattle.proof_book.specs.AgreesLaws.{agree}
 use Rattle.proof_book.specs.HeldLaws.{Words}
 use Rattle.proof_book.specs.SwitchesLaws.{slot-words}
 use Rattle.proof_book.specs.Lengths.{Known, learnt, lengthOf}
-use Rattle.proof_book.specs.FrontPage.{Made, written, Decides, Decided, admitted, turned-away, AfterEach, LengthIs}
-use Rattle.proof_book.specs.FrontPage.{LengthsEach, LentAsLeft}
+use Rattle.proof_book.specs.FrontPage.{CallRecord, bookStep, Decides, Decided, admitted, turned-away, AfterEach}
+use Rattle.proof_book.specs.FrontPage.{LengthIs}
+use Rattle.proof_book.specs.FrontPage.{LengthsEach, BufferPreserved}
 use Rattle.proof_book.specs.AnswersLaws.{isHanded}
 use Rattle.proof_book.specs.FrontPage as page
 use Rattle.proof_book.specs.FrontPageLaws.{demand-3}
 use Rattle.proof_book.specs.SlotsKeptLaws.{lent-is}
-use Rattle.proof_book.specs.Arrivals.{changedIn}
 use Rattle.proof_book.specs.Watched.{WatchedBook}
 use Rattle.proof_book.specs.Watched as watch
 use Rattle.proof_book.specs.LateArrival.{JoinsAsReceived, JoinEach}
@@ -48,8 +47,8 @@ use Rattle.proof_stale.specs.Stale.{maximum}
 use Rattle.proof_stale.specs.StaleLaws.{of-receiving}
 use Rattle.proof_stale.specs.NothingStaleLaws.{last-same}
 use Rattle.proof_stale.specs.StoredSinceLaws.{handed-fits}
-use Rattle.proof_stale.specs.Samples.{lowByte, highByte, packed, Each, Unmarked, unsigned, signed, offset, coded}
-use Rattle.proof_stale.specs.Samples.{SamplesIn, LateOrNot, NeverShort, NeverLost, SamplesEach, SamplesWhole}
+use Rattle.proof_stale.specs.Samples.{highByte, packed, Each, Unmarked, unsigned, signed, offset}
+use Rattle.proof_stale.specs.Samples.{SamplesIn, NeverShort, SamplesEach, SamplesWhole}
 
 -- ---- 12-bit samples
 
@@ -58,20 +57,6 @@ twelve-bits v l = (
   (λ h. omega (arith, l, h), λ h. omega (arith, l, h)),
   (λ h. omega (arith, l, h), λ h. omega (arith, l, h)),
   (λ h. omega (arith, l, h), λ h. omega (arith, l, h)),
-)
-
-each-coded : (f : ℕ → ℕ) → ((v : ℕ) → v < 4096 → Unmarked (f v)) → (vs : List ℕ) → Each (λ v. v < 4096) vs
-    → Each Unmarked (coded f vs)
-each-coded f h [] s = tt
-each-coded f h (v ∷ vs) s = (h v (s .0), each-coded f h vs (s .1))
-
--- of whole lists, in each of the three codings
-pub twelve-bit-samples : (vs : List ℕ) → Each (λ v. v < 4096) vs
-    → Each Unmarked (coded unsigned vs) × Each Unmarked (coded signed vs) × Each Unmarked (coded offset vs)
-twelve-bit-samples vs s = (
-  each-coded unsigned (λ v l. twelve-bits v l .0) vs s,
-  each-coded signed (λ v l. twelve-bits v l .1) vs s,
-  each-coded offset (λ v l. twelve-bits v l .2) vs s,
 )
 
 -- ---- bytes of a packet
@@ -133,9 +118,10 @@ module _ (e k : ℕ) (vs : List ℕ) (unmarked : Each Unmarked vs) where
   abbrev packet : List ℕ
   packet = packed vs
 
-  module _ (m : Made) (n : Machine Answer Pages) (f : Known) (y : Machine Answer WatchedBook) (lengths : LengthIs m n f)
+  module _ (m : CallRecord) (n : Machine Answer Pages) (f : Known) (y : Machine Answer WatchedBook)
+      (lengths : LengthIs m n f)
       (decided : (d : Decides (m .event .call) n (m .answer) e)
-      → Decided (m .event .lent) (n .st .outs e) (page.noted m n .1 .st .outs e)) where
+      → Decided (m .event .lent) (n .st .outs e) (page.bookAfter m n .1 .st .outs e)) where
     abbrev l : Buf
     l = m .event .lent
 
@@ -145,7 +131,7 @@ module _ (e k : ℕ) (vs : List ℕ) (unmarked : Each Unmarked vs) where
     -- the interrupt told the received length
     on-time : (room : at + length packet ≤ length l) (d : Decides (m .event .call) n (m .answer) e)
         → ((j : ℕ) → lengthOf (f .readings) e j ≡ length packet) → SamplesIn e vs (n .st) l → (q : Packet)
-        → page.noted m n .1 .st .outs e .waiting ≡ n .st .outs e .waiting ++ (q ∷ []) → q .bytes ≡ packet
+        → page.bookAfter m n .1 .st .outs e .waiting ≡ n .st .outs e .waiting ++ (q ∷ []) → q .bytes ≡ packet
     on-time room d told s q h = by (decided d)
       where
         recorded : length (q .bytes) ≡ length packet
@@ -159,7 +145,7 @@ module _ (e k : ℕ) (vs : List ℕ) (unmarked : Each Unmarked vs) where
             (λ j i. let g : j < length packet = omega (arith, i, length-take (length packet) (drop at l)) in
             getD-take (length packet) (drop at l) j 0 g ∙ (getD-drop at l j 0 ∙ s .whole j g))
 
-        by : Decided l (n .st .outs e) (page.noted m n .1 .st .outs e) → q .bytes ≡ packet
+        by : Decided l (n .st .outs e) (page.bookAfter m n .1 .st .outs e) → q .bytes ≡ packet
         by (admitted q′ few is w g i j k) =
             let same : q′ ≡ q = last-same (n .st .outs e .waiting) q′ q (sym w ∙ h) in
             subst (λ (x : Packet). x .bytes ≡ bytesAt l at (length (x .bytes))) same is
@@ -220,9 +206,9 @@ module _ (e k : ℕ) (vs : List ℕ) (unmarked : Each Unmarked vs) where
 
   -- ---- every list of calls
 
-  each : (ms : List Made) (xs : List ℕ) (a : Buf) {φ : Phase} (n : Machine Answer Pages) (f : Known)
+  each : (ms : List CallRecord) (xs : List ℕ) (a : Buf) {φ : Phase} (n : Machine Answer Pages) (f : Known)
       (y : Machine Answer WatchedBook)
-      → Ways driverOf book agree calls φ (machineOf xs a .way) (n .way) → Coupling φ a (view xs) (n .st)
+      → Ways driverOf book agree calls φ (machineOf xs a .under-way) (n .under-way) → Coupling φ a (view xs) (n .st)
       → page.Calls xs a n ms → AfterEach n ms → LengthsEach n f ms → JoinEach e k packet n f y ms → SamplesEach e k vs
       a n f y ms
   each [] xs a n f y w R p s z j = tt
@@ -230,17 +216,17 @@ module _ (e k : ℕ) (vs : List ℕ) (unmarked : Each Unmarked vs) where
       let c = m .event .call in
       let b = m .event .lent in
       let l = learnt c (m .answer) f in
-      let n′ = page.noted m n .1 in
-      let h : After driverOf book agree calls (m .answer, machineOf (m .bytes) (m .slots)) (page.noted m n)
-      = subst (λ (x : Ans Answer × Machine Answer Driver). After driverOf book agree calls x (written (x .0) c n b))
+      let n′ = page.bookAfter m n .1 in
+      let h : After driverOf book agree calls (m .answer, machineOf (m .bytes) (m .slots)) (page.bookAfter m n)
+      = subst (λ (x : Ans Answer × Machine Answer Driver). After driverOf book agree calls x (bookStep (x .0) c n b))
       (sym (p .0))
       (agrees driverOf book agree calls fresh-kept c b (machineOf xs a) n w R (lent-is (machineOf xs a) n R b c
       (p .1))) in
       let long : (d : Decides c n (m .answer) e) → length b ≡ length a =
       λ d. handed-fits (m .answer) (d .brought) n a b (ap isHanded (d .hands))
-      (subst (λ (g : Call Config Op). blankA (m .answer) ≡ blankA (written (m .answer) g n b .0)) (d .continues)
+      (subst (λ (g : Call Config Op). blankA (m .answer) ≡ blankA (bookStep (m .answer) g n b .0)) (d .continues)
       (h .same))
-      (subst (λ (g : Call Config Op). LentAsLeft g n a b) (d .continues) (p .1)) .long in (
+      (subst (λ (g : Call Config Op). BufferPreserved g n a b) (d .continues) (p .1)) .long in (
         never-short m n l y (z .0) (λ d. s .0 .sentences .decided e d)
             (λ d i. omega (arith, slot-room R (length packet) (i .small), long d)) (j .0),
         λ on some same i. ap not (samples-arrive vs unmarked some b (n .st .outs e .slot)
@@ -252,15 +238,15 @@ module _ (e k : ℕ) (vs : List ℕ) (unmarked : Each Unmarked vs) where
 pub samples-whole : SamplesWhole
 samples-whole e k vs unmarked c b row xs a n y first is ms p h f =
     let d = demand-3 c b row xs a n first is ms p in
-    each e k vs unmarked ms (first .bytes) (first .slots) (page.noted first n .1)
+    each e k vs unmarked ms (first .bytes) (first .slots) (page.bookAfter first n .1)
     (learnt (first .event .call) (first .answer) f) _
     (begun .ways) (begun .rest) (p .2) (d .0 .1) (d .1 f .1) (late-arrivals e k (packed vs) c b row xs a n y first is
     ms p h f)
   where
     begun : After driverOf book agree calls (first .answer, machineOf (first .bytes) (first .slots))
-        (page.noted first n)
+        (page.bookAfter first n)
     begun = subst (λ (x : Ans Answer × Machine Answer Driver). After driverOf book agree calls x
-        (written (x .0) (first .event .call) n (first .event .lent)))
+        (bookStep (x .0) (first .event .call) n (first .event .lent)))
         (sym (p .0)) (subst (λ (v : Event Config Op). let x = drive (v .call) (machineOf xs a) (v .lent) in
-        After driverOf book agree calls x (written (x .0) (v .call) n (v .lent))) (sym is)
+        After driverOf book agree calls x (bookStep (x .0) (v .call) n (v .lent))) (sym is)
         (rw row (from-start driverOf book agree calls fresh-kept c b row [] (machineOf xs a) n tt .0)))

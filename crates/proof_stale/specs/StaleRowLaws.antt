@@ -12,12 +12,14 @@ use Rattle.script.specs.Tree.{ends, asks, bindOut}
 use Rattle.script.specs.Script.{Script, run, rows, ret, bind, test, _>>=_, _>>_, row, switch, fetch, gathered, no-wakes}
 use Rattle.script.specs.Bus.{setEnabledOut}
 use Rattle.script.specs.Statics.{wake}
-use Rattle.script.specs.Answers.{Answer, Refused, End, isAllocated, resultless}
+use Rattle.script.specs.Answers.{Answer, End, isAllocated, resultless}
 use Rattle.script.specs.Calls.{Config, Op, interrupt, slotted, other, aside, SetEnabled, PollRead, BeginWrite}
 use Rattle.script.specs.Calls.{PollWrite}
 use Rattle.script.specs.Calls.{PollDataOut, BeginDataIn, calls, code, starting, startRow}
-use Rattle.script.specs.Machine.{Buf, Call, start, begin, go, question, Ans, ended, handed, told, Way, idle, busy}
-use Rattle.script.specs.Machine.{Machine, over, misfit, stay, lentTo, beside, halt, begun, continued, started, fed}
+use Rattle.script.specs.Machine.{Buf, Call, start, begin, continue, question, Ans, ended, handed, told, Pending, idle}
+use Rattle.script.specs.Machine.{busy}
+use Rattle.script.specs.Machine.{Machine, over, misfit, stay, lentTo, duringInterrupt, halt, begun, continued, started}
+use Rattle.script.specs.Machine.{fed}
 use Rattle.script.specs.Machine.{call}
 use Rattle.proof_book.specs.Pages.{Pages}
 use Rattle.proof_book.specs.Book.{isoOf}
@@ -120,13 +122,13 @@ module _ (e : ℕ) where
 
   -- ---- the machine
 
-  abbrev RowsWay : Way Answer Seen → Type 0
+  abbrev RowsWay : Pending Answer Seen → Type 0
   RowsWay idle = Unit {0}
   RowsWay (busy i q k) = (v : ℕ) (t : Seen × Buf) → Rows (t .0 .armings) (iso t) (k v t)
 
   -- s: it is being enabled or disabled
   abbrev pub Rowing : Bool → Machine Answer Seen → Type 0
-  Rowing s y = s ≡ true → RowsWay (y .way)
+  Rowing s y = s ≡ true → RowsWay (y .under-way)
 
   module _ (a : Ans Answer) where
     abbrev tells : Seen → Seen
@@ -147,7 +149,7 @@ module _ (e : ℕ) where
 
     halted : (i : Bool) (o : tree.Out (Seen × Buf) Answer) (m : ℕ) (r : Bool) → (isHanded (halts i o .0) ≡ true
         → Rows m r o)
-        → RowsWay (halts i o .1 .way)
+        → RowsWay (halts i o .1 .under-way)
     halted i (ends z s) m r h = tt
     halted i (asks q s k) m r h = of (h refl)
       where
@@ -164,12 +166,13 @@ module _ (e : ℕ) where
       either c true x z p q = p
       either c false x z p q = q
 
-      begin-stays : (o : Op) (k : ℕ) (m : Machine Answer Seen) → m .way ≡ y .way → Next (begin o)
+      begin-stays : (o : Op) (k : ℕ) (m : Machine Answer Seen) → m .under-way ≡ y .under-way → Next (begin o)
           (stay calls (seen e .driver) k m)
       begin-stays o k m w h p = subst RowsWay (sym w)
           (g (sym (ap (λ (u : Bool). cond u (switches e o && isoOf (n .st) Out e) s) h) ∙ p))
 
-      begins : (o : Op) (w : Way Answer Seen) → w ≡ y .way → Next (begin o) (begun calls (seen e .driver) tells o y w b)
+      begins : (o : Op) (w : Pending Answer Seen) → w ≡ y .under-way
+          → Next (begin o) (begun calls (seen e .driver) tells o y w b)
       begins o idle w = λ h p. halted (calls .irq o) (run (seen e .driver .ops) (code o) (y .st, b)) (y .st .armings)
           (iso (y .st, b))
           (λ hands. op-rows o (isoOf (n .st) Out e) (y .st, b) same
@@ -178,16 +181,17 @@ module _ (e : ℕ) where
           (beside-stays (run (seen e .driver .ops) (code o) (y .st, b)))
           (begin-stays o 3 (lentTo calls (seen e .driver) y b) refl)
         where
-          beside-stays : (z : tree.Out (Seen × Buf) Answer) → Next (begin o) (beside calls (seen e .driver)
+          beside-stays : (z : tree.Out (Seen × Buf) Answer) → Next (begin o) (duringInterrupt calls (seen e .driver)
               (lentTo calls (seen e .driver) y b) z)
           beside-stays (ends z t) h p = g (sym (ap (λ (u : Bool). cond u (switches e o && isoOf (n .st) Out e) s) h)
               ∙ p)
           beside-stays (asks r t f) h p = g (sym (ap (λ (u : Bool). cond u (switches e o && isoOf (n .st) Out e) s) h)
               ∙ p)
 
-      goes : (v : ℕ) (w : Way Answer Seen) → w ≡ y .way → Next (go v) (continued calls (seen e .driver) tells v y w b)
+      goes : (v : ℕ) (w : Pending Answer Seen) → w ≡ y .under-way
+          → Next (continue v) (continued calls (seen e .driver) tells v y w b)
       goes v idle w = λ h p. g p
-      goes v (busy i q k) w = either (go v) (over calls q v) _ _ (λ h p. g p)
+      goes v (busy i q k) w = either (continue v) (over calls q v) _ _ (λ h p. g p)
           (λ h p. halted i (k v (y .st, b)) (y .st .armings) (iso (y .st, b)) (λ _. subst RowsWay (sym w) (g p) v
           (y .st, b)))
 
@@ -199,8 +203,9 @@ module _ (e : ℕ) where
               (λ hands. none (sym (ap (λ (u : Bool). cond u false s) (h ∙ hands)) ∙ p))
           by (suc r) h p = g (sym (ap (λ (u : Bool). cond u false s) h) ∙ p)
       call-rows (begin o) = either (begin o) (cond (calls .slots o) (misfit calls (seen e .driver) (y .st) b) false) _ _
-          (begin-stays o 1 y refl) (begins o (y .way) refl)
-      call-rows (go v) = either (go v) (misfit calls (seen e .driver) (y .st) b) _ _ (λ h p. g p) (goes v (y .way) refl)
+          (begin-stays o 1 y refl) (begins o (y .under-way) refl)
+      call-rows (continue v) = either (continue v) (misfit calls (seen e .driver) (y .st) b) _ _ (λ h p. g p)
+          (goes v (y .under-way) refl)
       call-rows (question q) = λ h p. g p
 
     -- at its receive address
@@ -222,13 +227,13 @@ module _ (e : ℕ) where
       λ on. told-armed a (s .0) ∙ p .1 (ap (λ (u : Bool). u && isoOf (y .st .pages) Out e) g ∙ on),
     )
 
-    goes-counts : (v : ℕ) (y : Machine Answer Seen) (b : Buf) (w : Way Answer Seen) → RowsWay w
+    goes-counts : (v : ℕ) (y : Machine Answer Seen) (b : Buf) (w : Pending Answer Seen) → RowsWay w
         → Counts y (continued calls (seen e .driver) tells v y w b)
     goes-counts v y b idle h = λ g. none g
     goes-counts v y b (busy i q k) h = either-counts y (over calls q v) _ _ (λ g. none g)
         (halt-counts y i (k v (y .st, b)) (h v (y .st, b)))
 
-    pub row-counts : (v : ℕ) (y : Machine Answer Seen) (b : Buf) → RowsWay (y .way) → Counts y
-        (call calls (seen e .driver) tells (go v) y b)
+    pub row-counts : (v : ℕ) (y : Machine Answer Seen) (b : Buf) → RowsWay (y .under-way) → Counts y
+        (call calls (seen e .driver) tells (continue v) y b)
     row-counts v y b h = either-counts y (misfit calls (seen e .driver) (y .st) b) _ _ (λ g. none g)
-        (goes-counts v y b (y .way) h)
+        (goes-counts v y b (y .under-way) h)

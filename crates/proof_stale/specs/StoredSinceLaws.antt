@@ -30,10 +30,10 @@ use Rattle.script.specs.Statics.{isOn, isoOuts}
 use Rattle.script.specs.Answers.{Answer, Refused, isAllocated, resultless}
 use Rattle.script.specs.Handler.{stampedInterrupt}
 use Rattle.script.specs.Calls.{Config, Op, interrupt, slotted, other, aside, Aside, Open, Close, Queue, asideCode}
-use Rattle.script.specs.Calls.{interruptCode, calls, code, starting, startRow}
-use Rattle.script.specs.Machine.{Buf, Event, Call, start, begin, go, question, Ans, ended, handed, told, blank}
-use Rattle.script.specs.Machine.{blankA, Awaits, Way, idle, busy, Machine}
-use Rattle.script.specs.Machine.{over, misfit, stay, lentTo, beside, halt, begun, continued, started, fed}
+use Rattle.script.specs.Calls.{calls, code, starting, startRow}
+use Rattle.script.specs.Machine.{Buf, Event, Call, start, begin, continue, question, Ans, ended, handed, told, blank}
+use Rattle.script.specs.Machine.{blankA, Pending, idle, busy, Machine}
+use Rattle.script.specs.Machine.{over, misfit, stay, lentTo, duringInterrupt, halt, begun, continued, started, fed}
 use Rattle.script.specs.Agree.{After, Ways, agrees, from-start}
 use Rattle.machine.specs.Suspended.{driverOf, drive, machineOf}
 use Rattle.proof_book.specs.Pages.{Kept, OutPage, Pages, withOut, withIn}
@@ -45,17 +45,17 @@ use Rattle.proof_book.specs.StartUpLaws.{fresh-kept}
 use Rattle.proof_book.specs.StepsLaws.{none-enabled}
 use Rattle.proof_book.specs.AgreesLaws.{agree}
 use Rattle.proof_book.specs.Others.{handsOut}
-use Rattle.proof_book.specs.FrontPage.{Made, Chip, LentAsLeft, written, Decides, addressed, inInterrupt, AfterEach}
+use Rattle.proof_book.specs.FrontPage.{CallRecord, Chip, BufferPreserved, bookStep, addressed, inInterrupt, AfterEach}
 use Rattle.proof_book.specs.FrontPage.{ArrivalIs, ArrivalsEach}
 use Rattle.proof_book.specs.FrontPage as page
 use Rattle.proof_book.specs.FrontPageLaws.{demand-3}
 use Rattle.proof_book.specs.SlotsKeptLaws.{lent-is}
 use Rattle.proof_book.specs.AnswersLaws.{tells-same, blank-access, isHanded, handed-same, fed-kept}
-use Rattle.proof_book.specs.Arrivals.{Note, changedIn, reads, brings, asking, unread, after, Arrival, with-length}
+use Rattle.proof_book.specs.Arrivals.{Note, changedIn, reads, brings, unread, after, Arrival, with-length}
 use Rattle.proof_book.specs.Arrivals.{late}
-use Rattle.proof_book.specs.ArrivalScriptsLaws.{Told, t-end, t-ask}
+use Rattle.proof_book.specs.ArrivalScriptsLaws.{Told, t-ask}
 use Rattle.proof_book.specs.ArrivalInterruptLaws.{LookedAt}
-use Rattle.proof_book.specs.ArrivalCallsLaws.{Serving, WayTold, is-regular, told-on, start-told}
+use Rattle.proof_book.specs.ArrivalCallsLaws.{WayTold, is-regular, told-on, start-told}
 use Rattle.proof_book.specs.ArrivalsLaws.{arrivals}
 use Rattle.proof_stale.specs.Stale.{Gap, StoredIn, gapOf, upTo, itsAddress, switches, armsNow, Fresh, Marked}
 use Rattle.proof_stale.specs.Stale.{underWay, NoneStaleEach}
@@ -104,13 +104,13 @@ or-false {v = v} h g = ap (λ (w : Bool). w || v) h ∙ g
 -- a continue that hands out an access was lent a buffer of the right length
 pub handed-fits : (x : Ans Answer) (v : ℕ) (n : Machine Answer Pages) (a b : Buf) → isHanded x ≡ true
     → blankA x ≡ blankA
-    (written x (go v) n b .0)
-    → LentAsLeft (go v) n a b → Chip (n .st) a b
+    (bookStep x (continue v) n b .0)
+    → BufferPreserved (continue v) n a b → Chip (n .st) a b
 handed-fits x v n a b i s lent = by (misfit calls (book .driver) (n .st) b) s lent
   where
     by : (u : Bool) → blankA x ≡ blankA (cond u (stay calls (book .driver) 1 n) (continued calls (book .driver)
-        (fed book x) v n (n .way) b) .0)
-        → page.unless u (Chip (n .st) a b) → Chip (n .st) a b
+        (fed book x) v n (n .under-way) b) .0)
+        → page.whenNot u (Chip (n .st) a b) → Chip (n .st) a b
     by true s lent = absurd (true≢false (sym i ∙ handed-same x (ended (calls .refusal 1)) s))
     by false s lent = lent
 
@@ -224,8 +224,9 @@ module _ (e : ℕ) where
 
   -- ---- a packet that was found by the call that asked for the status
 
-  abbrev Pending : Note → Machine Answer Pages → List Gap → Type 0
-  Pending f n h = inInterrupt (n .way) ≡ true → reads IntSt (f .known .asked) ≡ true → receiving (n .st) e ≡ true
+  abbrev ArrivalPending : Note → Machine Answer Pages → List Gap → Type 0
+  ArrivalPending f n h = inInterrupt (n .under-way) ≡ true → reads IntSt (f .known .asked) ≡ true → receiving (n .st) e
+      ≡ true
       → f .found e ≡ true
       → FirstWordStored e (n .st) h
 
@@ -250,8 +251,8 @@ module _ (e : ℕ) where
 
   -- nor does an access that is no receive address of OUT e
   not-its : (n : Machine Answer Pages) (r : Bool) (v : ℕ) (x : Ans Answer) → handsOut (λ q. itsAddress e q) x ≡ false
-      → armsNow e n r (go v) x ≡ false
-  not-its n r v x h = or-false (and-false (inInterrupt (n .way)) _ (and-false (receiving (n .st) e) _ h))
+      → armsNow e n r (continue v) x ≡ false
+  not-its n r v x h = or-false (and-false (inInterrupt (n .under-way)) _ (and-false (receiving (n .st) e) _ h))
       (and-false r _ (and-false (isoOf (n .st) Out e) _ h))
 
   -- what is not handed out arms nothing
@@ -259,7 +260,7 @@ module _ (e : ℕ) where
       → armsNow e n r c x ≡ false
   ends-unarmed x n r (start c) h = refl
   ends-unarmed x n r (begin o) h = and-false (switches e o) _ (and-false (isoOf (n .st) Out e) _ h)
-  ends-unarmed x n r (go v) h = not-its n r v x (by x h)
+  ends-unarmed x n r (continue v) h = not-its n r v x (by x h)
     where
       by : (x : Ans Answer) → isHanded x ≡ false → handsOut (λ q. itsAddress e q) x ≡ false
       by (ended z) h = refl
@@ -267,12 +268,12 @@ module _ (e : ℕ) where
       by (handed q) h = absurd (true≢false h)
   ends-unarmed x n r (question q) h = refl
 
-  module _ (switching : Bool) (x : Ans Answer) (w : Way Answer Pages) (t : Pages) (a c b : Buf) (h : List Gap)
+  module _ (switching : Bool) (x : Ans Answer) (w : Pending Answer Pages) (t : Pages) (a c b : Buf) (h : List Gap)
       (f : Note)
       (even : (f : ℕ) → e % 16 ≡ f % 16 → t .outs f .slot ≡ t .outs e .slot) (marked : Marked e a t h)
-      (p : Pending f (record { way = w; st = t; buf = c }) h) where
+      (p : ArrivalPending f (record { under-way = w; st = t; buf = c }) h) where
     abbrev n : Machine Answer Pages
-    n = record { way = w; st = t; buf = c }
+    n = record { under-way = w; st = t; buf = c }
 
     abbrev after-it : Call Config Op → List Gap
     after-it k = cond (armsNow e n switching k x) [] (gapOf k a b ++ h)
@@ -280,16 +281,16 @@ module _ (e : ℕ) where
     -- after call k, where the book came to y
     abbrev Next : Call Config Op → Ans Answer × Machine Answer Pages → Type 0
     Next k y = blankA x ≡ blankA (y .0)
-        → ((v : ℕ) → k ≡ go v → inInterrupt w ≡ true → addressed x e ≡ false → y .1 .st .outs e ≡ t .outs e)
-        → Pending (after k (y .0) t b f) (y .1) (after-it k)
+        → ((v : ℕ) → k ≡ continue v → inInterrupt w ≡ true → addressed x e ≡ false → y .1 .st .outs e ≡ t .outs e)
+        → ArrivalPending (after k (y .0) t b f) (y .1) (after-it k)
 
     -- the call ends, and the interrupt stays where it was
     goes-by : (k : Call Config Op) (u : Pages) → isHanded x ≡ false → inInterrupt w ≡ true → Left t u
         → reads IntSt (f .known .asked) ≡ true → receiving u e ≡ true → f .found e ≡ true → FirstWordStored e u
         (after-it k)
-    goes-by k u i way l r on found =
+    goes-by k u i under-way l r on found =
         subst (λ (z : Bool). FirstWordStored e u (cond z [] (gapOf k a b ++ h))) (sym (ends-unarmed x n switching k i))
-        (stored-there (l .0) (stored-wider (behind (gapOf k a b) h) (p way r (sym (l .1) ∙ on) found)))
+        (stored-there (l .0) (stored-wider (behind (gapOf k a b) h) (p under-way r (sym (l .1) ∙ on) found)))
 
     not-handed : (z : Answer) → blankA x ≡ blankA (ended z) → isHanded x ≡ false
     not-handed z s = handed-same x (ended z) s
@@ -299,20 +300,21 @@ module _ (e : ℕ) where
 
     stays : (k : Call Config Op) (r : ℕ) → ((z : Answer) → after k (ended z) t b f ≡ f) → Next k
         (stay calls (book .driver) r n)
-    stays k r same s m way st on found =
+    stays k r same s m under-way st on found =
         let z = calls .refusal r in
-        goes-by k t (not-handed z s) way (refl, refl) (sym (ap (λ (l : Note). reads IntSt (l .known .asked)) (same z))
+        goes-by k t (not-handed z s) under-way (refl, refl)
+        (sym (ap (λ (l : Note). reads IntSt (l .known .asked)) (same z))
         ∙ st) on
         (sym (ap (λ (l : Note). l .found e) (same z)) ∙ found)
 
     stays-lent : (k : Call Config Op) (r : ℕ) → ((z : Answer) → after k (ended z) t b f ≡ f)
         → Next k (stay calls (book .driver) r (lentTo calls (book .driver) n b))
-    stays-lent k r same s m way st on found = stays k r same s m way st on found
+    stays-lent k r same s m under-way st on found = stays k r same s m under-way st on found
 
     -- an operation that is no interrupt
     plainly : (k : Call Config Op) (o : tree.Out Bk Answer) → Next k (halt calls (book .driver) (fed book x) false o)
-    plainly k (ends z s) i m way = never way
-    plainly k (asks q s g) i m way = never way
+    plainly k (ends z s) i m under-way = never under-way
+    plainly k (asks q s g) i m under-way = never under-way
 
     -- ---- begin
 
@@ -322,19 +324,21 @@ module _ (e : ℕ) where
       where
         by : (u : Bool) → Next (begin interrupt) (halt calls (book .driver) (fed book x) true
             (cond u (run {i = true} bookOps (resultless stampedInterrupt) (t, b)) (ends (Refused 4) (t, b))))
-        by true i m way st = never st
-        by false i m way st = never way
+        by true i m under-way st = never st
+        by false i m under-way st = never under-way
     begin-idle (slotted o) = plainly (begin (slotted o)) (run bookOps (code (slotted o)) (t, b))
     begin-idle (other o) = plainly (begin (other o)) (run bookOps (code (other o)) (t, b))
     begin-idle (aside o) = plainly (begin (aside o)) (run bookOps (code (aside o)) (t, b))
 
     passes : (o : Aside) (z : tree.Out Bk Answer) → LeftAt t z → Next (begin (aside o))
-        (beside calls (book .driver) (lentTo calls (book .driver) n b) z)
-    passes o (ends z u) l s m way st on found = goes-by (begin (aside o)) (u .0) (not-handed z s) way l st on found
-    passes o (asks q u g) l s m way st on found = stays-lent (begin (aside o)) 3 (λ z. refl) s m way st on found
+        (duringInterrupt calls (book .driver) (lentTo calls (book .driver) n b) z)
+    passes o (ends z u) l s m under-way st on found = goes-by (begin (aside o)) (u .0) (not-handed z s) under-way l st
+        on found
+    passes o (asks q u g) l s m under-way st on found = stays-lent (begin (aside o)) 3 (λ z. refl) s m under-way st on
+        found
 
     begin-busy : (i : Bool) (o : Op) → Next (begin o) (cond (cond i (calls .aside o) false)
-        (beside calls (book .driver) (lentTo calls (book .driver) n b) (run bookOps (code o) (t, b)))
+        (duringInterrupt calls (book .driver) (lentTo calls (book .driver) n b) (run bookOps (code o) (t, b)))
         (stay calls (book .driver) 3 (lentTo calls (book .driver) n b)))
     begin-busy false o = stays-lent (begin o) 3 (λ z. refl)
     begin-busy true interrupt = stays-lent (begin interrupt) 3 (λ z. refl)
@@ -342,7 +346,7 @@ module _ (e : ℕ) where
     begin-busy true (other o) = stays-lent (begin (other o)) 3 (λ z. refl)
     begin-busy true (aside o) = passes o (run bookOps (asideCode o) (t, b)) (aside-left t even b o)
 
-    begins : (v : Way Answer Pages) (o : Op) → Next (begin o) (begun calls (book .driver) (fed book x) o n v b)
+    begins : (v : Pending Answer Pages) (o : Op) → Next (begin o) (begun calls (book .driver) (fed book x) o n v b)
     begins idle o = begin-idle o
     begins (busy i q k) o = begin-busy i o
 
@@ -351,39 +355,40 @@ module _ (e : ℕ) where
     module _ (v : ℕ) (chip : Chip t a b) where
       asks-on : {I : ℕ → Bool} {W : ℕ} → isoOuts (t .kept .globals) ≡ W → inInterrupt w ≡ true
           → (o : tree.Out Bk Answer)
-          → Told I W (LookedAt W) (brings v f) (t, b) o → Next (go v) (halt calls (book .driver) (fed book x) true o)
-      asks-on sets way (ends z s) g i m on st lives found = never on
-      asks-on {W = W} sets way (asks q s k) (t-ask _ fixed _) i m on st lives found =
+          → Told I W (LookedAt W) (brings v f) (t, b) o
+          → Next (continue v) (halt calls (book .driver) (fed book x) true o)
+      asks-on sets under-way (ends z s) g i m on st lives found = never on
+      asks-on {W = W} sets under-way (asks q s k) (t-ask _ fixed _) i m on st lives found =
           let u = fed book x (s .0) in
           let both = asks-status x q i st in
           let same-sets : isoOuts (u .kept .globals) ≡ isoOuts (t .kept .globals) =
           ap (λ (k : Kept). isoOuts (k .globals)) (fed-kept x (s .0)) ∙ (fixed .sets ∙ sym sets) in
           let lives′ : receiving t e ≡ true = sym (ap (λ (k : ℕ). isSet k (e % 16)) same-sets) ∙ lives in
-          let unarmed : armsNow e n switching (go v) x ≡ false = not-its n switching v x (both .1) in
-          subst (λ (z : Bool). FirstWordStored e u (cond z [] (gapOf (go v) a b ++ h))) (sym unarmed)
-          (stored-there (ap (λ (o : OutPage). o .slot) (m v refl way (both .0)))
-          (found-in (go v) refl a b t h chip marked lives′ found))
+          let unarmed : armsNow e n switching (continue v) x ≡ false = not-its n switching v x (both .1) in
+          subst (λ (z : Bool). FirstWordStored e u (cond z [] (gapOf (continue v) a b ++ h))) (sym unarmed)
+          (stored-there (ap (λ (o : OutPage). o .slot) (m v refl under-way (both .0)))
+          (found-in (continue v) refl a b t h chip marked lives′ found))
 
-      goes-on : (z : Way Answer Pages) → z ≡ w → WayTold f z t → Next (go v) (continued calls (book .driver)
+      goes-on : (z : Pending Answer Pages) → z ≡ w → WayTold f z t → Next (continue v) (continued calls (book .driver)
           (fed book x) v n z b)
-      goes-on idle is serving = stays-lent (go v) 15 (λ z. refl)
+      goes-on idle is serving = stays-lent (continue v) 15 (λ z. refl)
       goes-on (busy true q k) is serving = by (over calls q v)
         where
-          by : (u : Bool) → Next (go v) (cond u (stay calls (book .driver) 16 (lentTo calls (book .driver) n b))
+          by : (u : Bool) → Next (continue v) (cond u (stay calls (book .driver) 16 (lentTo calls (book .driver) n b))
               (halt calls (book .driver) (fed book x) true (k v (t, b))))
-          by true = stays-lent (go v) 16 (λ z. refl)
+          by true = stays-lent (continue v) 16 (λ z. refl)
           by false = asks-on (serving .fixed .sets) (ap inInterrupt (sym is)) (k v (t, b))
               (serving .goes v (t, b) (serving .fixed))
       goes-on (busy false q k) is serving = by (over calls q v)
         where
-          by : (u : Bool) → Next (go v) (cond u (stay calls (book .driver) 16 (lentTo calls (book .driver) n b))
+          by : (u : Bool) → Next (continue v) (cond u (stay calls (book .driver) 16 (lentTo calls (book .driver) n b))
               (halt calls (book .driver) (fed book x) false (k v (t, b))))
-          by true = stays-lent (go v) 16 (λ z. refl)
-          by false = plainly (go v) (k v (t, b))
+          by true = stays-lent (continue v) 16 (λ z. refl)
+          by false = plainly (continue v) (k v (t, b))
 
     -- ---- any call
 
-    pub next-pending : (k : Call Config Op) → LentAsLeft k n a b → WayTold f w t → Next k (written x k n b)
+    pub next-pending : (k : Call Config Op) → BufferPreserved k n a b → WayTold f w t → Next k (bookStep x k n b)
     next-pending (start g) lent serving = by (startRow g b)
       where
         by : (r : ℕ) → Next (start g) (started calls (book .driver) (fed book x) g r n b)
@@ -395,41 +400,43 @@ module _ (e : ℕ) where
             (begun calls (book .driver) (fed book x) o n w b))
         by true = stays (begin o) 1 (λ z. refl)
         by false = begins w o
-    next-pending (go v) lent serving = by (misfit calls (book .driver) t b) lent
+    next-pending (continue v) lent serving = by (misfit calls (book .driver) t b) lent
       where
-        by : (u : Bool) → page.unless u (Chip t a b) → Next (go v) (cond u (stay calls (book .driver) 1 n)
+        by : (u : Bool) → page.whenNot u (Chip t a b) → Next (continue v) (cond u (stay calls (book .driver) 1 n)
             (continued calls (book .driver) (fed book x) v n w b))
-        by true chip = stays (go v) 1 (λ z. refl)
+        by true chip = stays (continue v) 1 (λ z. refl)
         by false chip = goes-on v chip w refl serving
-    next-pending (question q) lent serving = λ s m way st on found. goes-by (question q) t
-        (handed-same x (told (book .driver .question q t)) s) way (refl, refl) st on found
+    next-pending (question q) lent serving = λ s m under-way st on found. goes-by (question q) t
+        (handed-same x (told (book .driver .question q t)) s) under-way (refl, refl) st on found
 
   -- ---- every list of calls
 
-  each : (ms : List Made) (r : Bool) (xs : List ℕ) (a : Buf) {φ : Phase} (n : Machine Answer Pages) (h : List Gap)
-      (f : Note) → Ways driverOf book agree calls φ (machineOf xs a .way) (n .way) → Coupling φ a (view xs) (n .st)
-      → WayTold f (n .way) (n .st) → Pending f n h → Marked e a (n .st) h
+  each : (ms : List CallRecord) (r : Bool) (xs : List ℕ) (a : Buf) {φ : Phase} (n : Machine Answer Pages) (h : List Gap)
+      (f : Note) → Ways driverOf book agree calls φ (machineOf xs a .under-way) (n .under-way)
+      → Coupling φ a (view xs) (n .st)
+      → WayTold f (n .under-way) (n .st) → ArrivalPending f n h → Marked e a (n .st) h
       → page.Calls xs a n ms → AfterEach n ms → NoneStaleEach e r a n h ms → ArrivalsEach n f ms
       → DecidedStoredEach e r a n h ms
   each [] r xs a n h f w R t p g q s u z = tt
   each (m ∷ ms) r xs a n h f w R t p g q s u z =
       let c = m .event .call in
       let b = m .event .lent in
-      let n′ = page.noted m n .1 in
-      let k : After driverOf book agree calls (m .answer, machineOf (m .bytes) (m .slots)) (page.noted m n)
-      = subst (λ (x : Ans Answer × Machine Answer Driver). After driverOf book agree calls x (written (x .0) c n b))
+      let n′ = page.bookAfter m n .1 in
+      let k : After driverOf book agree calls (m .answer, machineOf (m .bytes) (m .slots)) (page.bookAfter m n)
+      = subst (λ (x : Ans Answer × Machine Answer Driver). After driverOf book agree calls x (bookStep (x .0) c n b))
       (sym (q .0))
       (agrees driverOf book agree calls fresh-kept c b (machineOf xs a) n w R (lent-is (machineOf xs a) n R b c
       (q .1))) in
       let h′ = cond (armsNow e n r c (m .answer)) [] (upTo m a h) in
       let serving = told-on (m .answer) c f n b (k .same) (is-regular R) t in
-      let next = next-pending r (m .answer) (n .way) (n .st) a (n .buf) b h f (λ j i. slot-mod e h R j i) g p c (q .1) t
+      let next = next-pending r (m .answer) (n .under-way) (n .st) a (n .buf) b h f (λ j i. slot-mod e h R j i) g p c
+      (q .1) t
       (k .same)
       (λ v is i o. s .0 .sentences .unmoved e v is i o) in (
         λ d. decided m n a h f p g (q .1) (k .same) (z .0) d,
         each ms (underWay e n c (m .answer) r) (m .bytes) (m .slots) n′ h′ (after c (m .answer) (n .st) b f) (k .ways)
             (k .rest) serving
-            (subst (λ (l : Note). Pending l n′ h′) (after-same c f (n .st) b (page.noted m n .0) (m .answer)
+            (subst (λ (l : Note). ArrivalPending l n′ h′) (after-same c f (n .st) b (page.bookAfter m n .0) (m .answer)
             (sym (k .same))) next)
             (u .1) (q .2) (s .1) (u .3) (z .2),
       )
@@ -439,12 +446,13 @@ module _ (e : ℕ) where
           → after c a t l f ≡ after c b t l f
       after-same (start c) f t l = tells-same (λ z. after (start c) z t l f) (λ _ _. refl, λ _ _. refl, λ _. refl)
       after-same (begin o) f t l = tells-same (λ z. after (begin o) z t l f) (λ _ _. refl, λ _ _. refl, λ _. refl)
-      after-same (go v) f t l = tells-same (λ z. after (go v) z t l f) (λ _ _. refl, λ _ _. refl, λ _. refl)
+      after-same (continue v) f t l = tells-same (λ z. after (continue v) z t l f) (λ _ _. refl, λ _ _. refl, λ _. refl)
       after-same (question q) f t l = λ _ _ _. refl
 
-      decided : (m : Made) (n : Machine Answer Pages) (a : Buf) (h : List Gap) (f : Note) → Pending f n h → Marked e a
+      decided : (m : CallRecord) (n : Machine Answer Pages) (a : Buf) (h : List Gap) (f : Note) → ArrivalPending f n h
+          → Marked e a
           (n .st) h
-          → LentAsLeft (m .event .call) n a (m .event .lent) → blankA (m .answer) ≡ blankA (page.noted m n .0)
+          → BufferPreserved (m .event .call) n a (m .event .lent) → blankA (m .answer) ≡ blankA (page.bookAfter m n .0)
           → ArrivalIs m n f → DecidedStored e m n (upTo m a h)
       decided m n a h f p g lent same arrival d = by (arrival e d .1)
         where
@@ -456,9 +464,9 @@ module _ (e : ℕ) where
 
           chip : Chip (n .st) a l
           chip = handed-fits (m .answer) v n a l (ap isHanded (d .hands))
-              (subst (λ (c : Call Config Op). blankA (m .answer) ≡ blankA (written (m .answer) c n l .0))
+              (subst (λ (c : Call Config Op). blankA (m .answer) ≡ blankA (bookStep (m .answer) c n l .0))
               (d .continues) same)
-              (subst (λ (c : Call Config Op). LentAsLeft c n a l) (d .continues) lent)
+              (subst (λ (c : Call Config Op). BufferPreserved c n a l) (d .continues) lent)
 
           by : Arrival (brings v f) (n .st) l e → FirstWordStored e (n .st) (upTo m a h)
           by (with-length c changed) =
@@ -469,8 +477,9 @@ module _ (e : ℕ) where
 -- any bytes, a start-up that rows 1 and 2 do not stop, and then any calls of demand 3's premise
 pub decided-stored : EachDecidedStored
 decided-stored c b row xs a n first is ms p e =
-    each e ms false (first .bytes) (first .slots) (page.noted first n .1) [] f (begun .ways) (begun .rest) told-first
-    (λ way. absurd (true≢false (sym way ∙ quiet-first)))
+    each e ms false (first .bytes) (first .slots) (page.bookAfter first n .1) [] f (begun .ways) (begun .rest)
+    told-first
+    (λ under-way. absurd (true≢false (sym under-way ∙ quiet-first)))
     (λ on. absurd (true≢false (sym on ∙ off-first))) (p .2) (demand-3 c b row xs a n first is ms p .0 .1)
     (nothing-stale c b row xs a n first is ms p e)
     (arrivals c b row xs a n first is ms p unread)
@@ -479,21 +488,21 @@ decided-stored c b row xs a n first is ms p e =
     f = after (first .event .call) (first .answer) (n .st) (first .event .lent) unread
 
     begun : After driverOf book agree calls (first .answer, machineOf (first .bytes) (first .slots))
-        (page.noted first n)
+        (page.bookAfter first n)
     begun = subst (λ (x : Ans Answer × Machine Answer Driver). After driverOf book agree calls x
-        (written (x .0) (first .event .call) n (first .event .lent)))
+        (bookStep (x .0) (first .event .call) n (first .event .lent)))
         (sym (p .0)) (subst (λ (v : Event Config Op). let x = drive (v .call) (machineOf xs a) (v .lent) in
-        After driverOf book agree calls x (written (x .0) (v .call) n (v .lent))) (sym is)
+        After driverOf book agree calls x (bookStep (x .0) (v .call) n (v .lent))) (sym is)
         (rw row (from-start driverOf book agree calls fresh-kept c b row [] (machineOf xs a) n tt .0)))
 
-    told-first : WayTold f (page.noted first n .1 .way) (page.noted first n .1 .st)
-    told-first = subst (λ (v : Event Config Op). let y = written (first .answer) (v .call) n (v .lent) in WayTold f
-        (y .1 .way) (y .1 .st)) (sym is)
+    told-first : WayTold f (page.bookAfter first n .1 .under-way) (page.bookAfter first n .1 .st)
+    told-first = subst (λ (v : Event Config Op). let y = bookStep (first .answer) (v .call) n (v .lent) in WayTold f
+        (y .1 .under-way) (y .1 .st)) (sym is)
         (start-told (first .answer) c f n b row)
 
     -- after the start-up no interrupt is under way, and none receives
     Resting : Ans Answer × Machine Answer Pages → Type 0
-    Resting y = (inInterrupt (y .1 .way) ≡ false) × (receiving (y .1 .st) e ≡ false)
+    Resting y = (inInterrupt (y .1 .under-way) ≡ false) × (receiving (y .1 .st) e ≡ false)
 
     rests : Resting (started calls (book .driver) (fed book (first .answer)) c zero n b)
     rests = (
@@ -502,12 +511,12 @@ decided-stored c b row xs a n first is ms p e =
           ∙ none-enabled (freshPages c .kept .globals) e,
     )
 
-    resting : Resting (page.noted first n)
-    resting = subst (λ (v : Event Config Op). Resting (written (first .answer) (v .call) n (v .lent))) (sym is)
+    resting : Resting (page.bookAfter first n)
+    resting = subst (λ (v : Event Config Op). Resting (bookStep (first .answer) (v .call) n (v .lent))) (sym is)
         (subst (λ (r : ℕ). Resting (started calls (book .driver) (fed book (first .answer)) c r n b)) (sym row) rests)
 
-    quiet-first : inInterrupt (page.noted first n .1 .way) ≡ false
+    quiet-first : inInterrupt (page.bookAfter first n .1 .under-way) ≡ false
     quiet-first = resting .0
 
-    off-first : receiving (page.noted first n .1 .st) e ≡ false
+    off-first : receiving (page.bookAfter first n .1 .st) e ≡ false
     off-first = resting .1

@@ -54,7 +54,8 @@ module _ (D : Dir) (E : ℕ) where
   module _ (x : Driver) (d : Dir) (e : ℕ) (r : EpState) (l : length (x .eps) ≡ 32)
       (n : r .len ≡ epOn x d e .len) (t : r .tog ≡ 0) (y : isOn (r .ready) ≡ false) (g : isOn (r .armed) ≡ false) where
     here : Own D E d e
-        → (epOn (withOn x d e r) D E .tog ≡ 0) × (isOn (epOn (withOn x d e r) D E .ready) ≡ false) × (isOn (epOn (withOn x d e r) D E .armed) ≡ false)
+        → (epOn (withOn x d e r) D E .tog ≡ 0) × (isOn (epOn (withOn x d e r) D E .ready) ≡ false)
+        × (isOn (epOn (withOn x d e r) D E .armed) ≡ false)
     here o = (
       ap (λ (q : EpState). q .tog) (own-with D E x d e r o l) ∙ t,
       ap (λ (q : EpState). isOn (q .ready)) (own-with D E x d e r o l) ∙ y,
@@ -67,7 +68,8 @@ module _ (D : Dir) (E : ℕ) where
       where
         by : Dec (key d e ≡ key D E) → Like x (withOn x d e r)
         by (yes o) = record {
-          len = ap (λ (q : EpState). q .len) (own-with D E x d e r o l) ∙ (n ∙ ap (λ (q : EpState). q .len) (own-ep D E x d e o));
+          len = ap (λ (q : EpState). q .len) (own-with D E x d e r o l)
+              ∙ (n ∙ ap (λ (q : EpState). q .len) (own-ep D E x d e o));
           tog = λ _. here o .0;
           ready = λ _. here o .1;
           armed = λ _. here o .2;
@@ -155,8 +157,10 @@ module _ (D : Dir) (E : ℕ) where
       at : (d : Dir) → D ≡ d → Dec (E % 16 ≡ n) → Like a (cleared a Out n)
           → Like (cleared a Out n) (cleared (cleared a Out n) In n) → E % 16 < suc n
           → Reset (cleared (cleared a Out n) In n)
-      at d g (no k) p q m = let z = r (omega (arith, m, k)) in (q .tog (p .tog (z .0)), q .ready (p .ready (z .1)), q .armed (p .armed (z .2)))
-      at Out g (yes k) p q m = let z = clears-here a Out n (h .places ∙ l) (own-key Out n g k) in (q .tog (z .0), q .ready (z .1), q .armed (z .2))
+      at d g (no k) p q m = let z = r (omega (arith, m, k)) in
+          (q .tog (p .tog (z .0)), q .ready (p .ready (z .1)), q .armed (p .armed (z .2)))
+      at Out g (yes k) p q m = let z = clears-here a Out n (h .places ∙ l) (own-key Out n g k) in
+          (q .tog (z .0), q .ready (z .1), q .armed (z .2))
       at In g (yes k) p q m = clears-here (cleared a Out n) In n (p .places ∙ (h .places ∙ l)) (own-key In n g k)
 
   below : (n : ℕ) (x : Driver) → length (x .eps) ≡ 32 → Like x (resetBelow n x) × (E % 16 < n → Reset (resetBelow n x))
@@ -168,13 +172,15 @@ module _ (D : Dir) (E : ℕ) where
       → eqb (x .globals .stage) 2 ≡ true → FitsAs initial false (w .len) false (view D E (resetAll x))
   unfolding resetAll noStamps epOn
   reset-fits w x l r two = let h = below 16 x l in let z = h .1 (omega arith) in
-      fits-2 D E (ap (λ (g : Globals). eqb (g .stage) 2) (below-globals 16 x) ∙ two) (z .0) (z .1) (h .0 .len ∙ r .len) (z .2)
+      fits-2 D E (ap (λ (g : Globals). eqb (g .stage) 2) (below-globals 16 x) ∙ two) (z .0) (z .1) (h .0 .len ∙ r .len)
+      (z .2)
 
   -- ---- an allocation, before EP0's start
 
   pub alloc-fits : (w : Track) (s : St) (d : Dir) (kind address maximum interval : ℕ) → Whole s
       → Fits w (view D E (s .0)) → eqb (s .0 .globals .stage) 2 ≡ false
-      → let t = concrete .act (allocate d kind address maximum interval) s in Fits w (view D E (t .0)) × Whole t × (t .0 .globals .stage ≡ s .0 .globals .stage)
+      → let t = concrete .act (allocate d kind address maximum interval) s in Fits w (view D E (t .0)) × Whole t
+      × (t .0 .globals .stage ≡ s .0 .globals .stage)
   unfolding allocatedOn givenTo setsGiven epOn
   alloc-fits w s d kind address maximum interval l r two =
       let z = allocateOf (s .0 .allocator) kind address maximum d in
@@ -182,6 +188,7 @@ module _ (D : Dir) (E : ℕ) where
     where
       by : (a : alloc.Answer) (x : Driver) → length (x .eps) ≡ 32 → Fits w (view D E x)
           → eqb (x .globals .stage) 2 ≡ false
-          → let y = givenTo d kind maximum interval a x in Fits w (view D E y) × (length (y .eps) ≡ 32) × (y .globals .stage ≡ x .globals .stage)
+          → let y = givenTo d kind maximum interval a x in Fits w (view D E y) × (length (y .eps) ≡ 32)
+          × (y .globals .stage ≡ x .globals .stage)
       by (variant.Refused n) x l r two = (r, l, refl)
       by (variant.Given e base slots) x l r two = given w d kind maximum interval e base slots x l r two

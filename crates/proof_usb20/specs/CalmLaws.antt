@@ -68,8 +68,8 @@ module _ (D : Dir) (E : ℕ) where
   Off w = w .phase ≡ off
 
   -- no write does
-  abbrev pub Hush : Track → Type 0
-  Hush w = (r : Reg) (e v x : ℕ) → saw D E w (Write r e v) x ≡ w
+  abbrev pub WritesTellNothing : Track → Type 0
+  WritesTellNothing w = (r : Reg) (e v x : ℕ) → saw D E w (Write r e v) x ≡ w
 
   pub off-all : (w : Track) → Off w → (r : Reg) (e v : ℕ) → saw D E w (Read r e) v ≡ w
   off-all w h r e v = ap (λ p. reads D E p r e v w) h
@@ -77,7 +77,7 @@ module _ (D : Dir) (E : ℕ) where
   pub off-idle : (w : Track) → Off w → Idle w
   off-idle w h r e v _ _ = off-all w h r e v
 
-  pub off-hush : (w : Track) → Off w → Hush w
+  pub off-hush : (w : Track) → Off w → WritesTellNothing w
   off-hush w h r e v x = ap (λ p. writes D E p r e v w) h
 
   -- ---- what stays of a state beside the endpoint's view. Of an interrupt (`m`): the sets of isochronous endpoints,
@@ -112,13 +112,18 @@ module _ (D : Dir) (E : ℕ) where
       le {x = x} {y = y} h = omega (arith, h)
 
   pub hears-then : {m : Bool} {s t u : St} → Hears m s t → Hears m t u → Hears m s u
-  hears-then {s = s} {t = t} {u = u} p q = record { same = λ h. q .same h ∙ p .same h; grows = λ h. le (p .grows h) (q .grows h) }
+  hears-then {s = s} {t = t} {u = u} p q = record {
+    same = λ h. q .same h ∙ p .same h;
+    grows
+        = λ h. le (p .grows h) (q .grows h);
+  }
     where
       le : {x y z : ℕ} → x ≤ y → y ≤ z → x ≤ z
       le {x = x} {y = y} {z = z} a b = omega (arith, a, b)
 
   -- by the driver's operations
-  pub kept-steady : {m : Bool} {s t : St} → Steady (s .0) (t .0) → t .0 .wakes ≡ s .0 .wakes → CalmKept m s → CalmKept m t
+  pub kept-steady : {m : Bool} {s t : St} → Steady (s .0) (t .0) → t .0 .wakes ≡ s .0 .wakes → CalmKept m s
+      → CalmKept m t
   kept-steady p e k = record {
     whole = p .places ∙ k .whole;
     sorts = λ h. record {
@@ -149,12 +154,12 @@ module _ (D : Dir) (E : ℕ) where
   abbrev pub Stays : Bool → Track → St → Track → St → Type 0
   Stays m w s x t = (x ≡ w) × (view D E (t .0) ≡ view D E (s .0)) × CalmKept m t × Hears m s t
 
-  pub record Quiet (m : Bool) (P : Track → Type 0) {i : Bool} {A : Type 0} (p : Script i A) : Type 0 where
-    pub goes : (w : Track) (s : St) → P w × Hush w → CalmKept m s
+  pub record LeavesTrack (m : Bool) (P : Track → Type 0) {i : Bool} {A : Type 0} (p : Script i A) : Type 0 where
+    pub goes : (w : Track) (s : St) → P w × WritesTellNothing w → CalmKept m s
         → Follow D E {A = A} (λ x _ t. Stays m w s x t) w (run concrete p s)
 
   pub only : {m : Bool} {P Q : Track → Type 0} {i : Bool} {A : Type 0} {p : Script i A} → ((w : Track) → P w → Q w)
-      → Quiet m Q p → Quiet m P p
+      → LeavesTrack m Q p → LeavesTrack m P p
   only f x = record { goes = λ w s z k. x .goes w s (f w (z .0), z .1) k }
 
   -- ---- how they are put together
@@ -166,7 +171,8 @@ module _ (D : Dir) (E : ℕ) where
       → Follow D E {A = A} (λ x _ u. Stays m w s x u) w (tree.asks q s f)
   asked {m = m} {s = s} {f = f} w l e g = at-ask tt
       (λ v t _ k. subst (λ (u : Track). Follow D E (λ x _ t. Stays m w s x t) u (f v t)) (sym (e v))
-      (follow.follow-more D E (g v t (kept-by k l)) (λ _ _ _ n. (n .0, n .1 ∙ k .0, n .2, hears-then (hears-same (k .2)) (n .3)))))
+      (follow.follow-more D E (g v t (kept-by k l)) (λ _ _ _ n.
+      (n .0, n .1 ∙ k .0, n .2, hears-then (hears-same (k .2)) (n .3)))))
 
   -- a state that shows the same
   pub onward : {m : Bool} {A : Type 0} {o : tree.Out St A} (w : Track) (s t : St) → view D E (t .0) ≡ view D E (s .0)
@@ -199,14 +205,14 @@ module _ (D : Dir) (E : ℕ) where
   LeavesWakes (allocate d kind address maximum interval) = Unit {0}
   LeavesWakes (allocate0 maximum) = Unit {0}
 
-  abbrev pub Silent : Bool → Act → Type 0
-  Silent m q = m ≡ true → LeavesWakes q
+  abbrev pub LeavesWakesIf : Bool → Act → Type 0
+  LeavesWakesIf m q = m ≡ true → LeavesWakes q
 
   still-kept : {m : Bool} (q : Act) → allocates q ≡ false → Other q → (s : St) → CalmKept m s
       → CalmKept m (concrete .act q s) × Hears m s (concrete .act q s)
   still-kept q h o s k = let e = act-still q o s in (kept-steady (act-steady q h s) e k, hears-same e)
 
-  pub act-kept : {m : Bool} (q : Act) → allocates q ≡ false → Silent m q → (s : St) → CalmKept m s
+  pub act-kept : {m : Bool} (q : Act) → allocates q ≡ false → LeavesWakesIf m q → (s : St) → CalmKept m s
       → CalmKept m (concrete .act q s) × Hears m s (concrete .act q s)
   unfolding epOn
   act-kept no-wakes h o s k = (
@@ -222,7 +228,12 @@ module _ (D : Dir) (E : ℕ) where
       let p = act-steady (waken codes) refl s in (
         record {
           whole = p .places ∙ k .whole;
-          sorts = λ h. record { flags = λ dir e. refl; outs = λ e l g. k .sorts h .outs e l g; every = λ e l g. k .sorts h .every e l g };
+          sorts = λ h. record {
+            flags = λ dir e. refl;
+            outs = λ e l g. k .sorts h .outs e l g;
+            every
+                = λ e l g. k .sorts h .every e l g;
+          };
           plain = λ h. k .plain h;
           room = λ h. all-others (wakeCode D E) codes (s .0 .wakes) (k .room h) (o h) .0;
         },
@@ -255,105 +266,121 @@ module _ (D : Dir) (E : ℕ) where
   iso-apart s d e p h q = differ (sym p ∙ subst (λ (n : ℕ). isOn (getD (s .0 .eps) n noEp .iso) ≡ true) (sym q) h)
 
   module _ {m : Bool} {P : Track → Type 0} where
-    pub q-ret : {i : Bool} {A : Type 0} {a : A} → Quiet m P (ret {i = i} a)
+    pub q-ret : {i : Bool} {A : Type 0} {a : A} → LeavesTrack m P (ret {i = i} a)
     q-ret = record { goes = λ w s z k. at-end (refl, refl, k, hears-same refl) }
 
-    pub q-bind : {i : Bool} {A B : Type 0} {p : Script i A} {f : A → Script i B} → Quiet m P p
-        → ((a : A) → Quiet m P (f a)) → Quiet m P (bind p f)
+    pub q-bind : {i : Bool} {A B : Type 0} {p : Script i A} {f : A → Script i B} → LeavesTrack m P p
+        → ((a : A) → LeavesTrack m P (f a)) → LeavesTrack m P (bind p f)
     q-bind {f = f} x y = record {
       goes = λ w s z k. follow.follow-bind D E (x .goes w s z k)
           (λ v a t l. subst (λ (u : Track). Follow D E (λ x _ t. Stays m w s x t) u (run concrete (f a) t)) (sym (l .0))
-          (follow.follow-more D E (y a .goes w t z (l .2)) (λ _ _ _ n. (n .0, n .1 ∙ l .1, n .2, hears-then (l .3) (n .3)))));
+          (follow.follow-more D E (y a .goes w t z (l .2))
+          (λ _ _ _ n. (n .0, n .1 ∙ l .1, n .2, hears-then (l .3) (n .3)))));
     }
 
-    pub q-test : {i : Bool} {A : Type 0} {b : Bool} {p q : Script i A} → Quiet m P p → Quiet m P q
-        → Quiet m P (test b p q)
-    q-test {b = b} x y = record { goes = λ w s z k. follow.follow-cond D E b (λ _. x .goes w s z k) (λ _. y .goes w s z k) }
+    pub q-test : {i : Bool} {A : Type 0} {b : Bool} {p q : Script i A} → LeavesTrack m P p → LeavesTrack m P q
+        → LeavesTrack m P (test b p q)
+    q-test {b = b} x y = record {
+      goes = λ w s z k. follow.follow-cond D E b (λ _. x .goes w s z k)
+          (λ _. y .goes w s z k);
+    }
 
-    pub q-if : {i : Bool} {A : Type 0} (b : Bool) {p q : Script i A} → (b ≡ true → Quiet m P p)
-        → (b ≡ false → Quiet m P q) → Quiet m P (test b p q)
+    pub q-if : {i : Bool} {A : Type 0} (b : Bool) {p q : Script i A} → (b ≡ true → LeavesTrack m P p)
+        → (b ≡ false → LeavesTrack m P q) → LeavesTrack m P (test b p q)
     q-if b x y = record { goes = λ w s z k. follow.follow-cond D E b (λ h. x h .goes w s z k) (λ h. y h .goes w s z k) }
 
     pub q-read : {i : Bool} {A : Type 0} {r : Reg} {e : ℕ} {f : ℕ → Script i A}
-        → ((w : Track) → P w → (v : ℕ) → saw D E w (Read r e) v ≡ w) → ((v : ℕ) → Quiet m P (f v))
-        → Quiet m P (read-then r e f)
+        → ((w : Track) → P w → (v : ℕ) → saw D E w (Read r e) v ≡ w) → ((v : ℕ) → LeavesTrack m P (f v))
+        → LeavesTrack m P (read-then r e f)
     q-read g x = record { goes = λ w s z k. asked w k (g w (z .0)) (λ v t l. x v .goes w t z l) }
 
-    pub q-write : {i : Bool} {A : Type 0} {r : Reg} {e v : ℕ} {p : Script i A} → Quiet m P p
-        → Quiet m P (write-then r e v p)
-    q-write {r = r} {e = e} {v = v} x = record { goes = λ w s z k. asked w k (λ n. z .1 r e v n) (λ _ t l. x .goes w t z l) }
+    pub q-write : {i : Bool} {A : Type 0} {r : Reg} {e v : ℕ} {p : Script i A} → LeavesTrack m P p
+        → LeavesTrack m P (write-then r e v p)
+    q-write {r = r} {e = e} {v = v} x = record {
+      goes = λ w s z k. asked w k (λ n. z .1 r e v n)
+          (λ _ t l. x .goes w t z l);
+    }
 
-    pub q-wait : {i : Bool} {A : Type 0} {n : ℕ} {p : Script i A} → Quiet m P p → Quiet m P (wait-then n p)
+    pub q-wait : {i : Bool} {A : Type 0} {n : ℕ} {p : Script i A} → LeavesTrack m P p → LeavesTrack m P (wait-then n p)
     q-wait x = record { goes = λ w s z k. asked w k (λ _. refl) (λ _ t l. x .goes w t z l) }
 
-    pub q-callback : {i : Bool} {A : Type 0} {p : Script i A} → Quiet m P p → Quiet m P (callback-then p)
+    pub q-callback : {i : Bool} {A : Type 0} {p : Script i A} → LeavesTrack m P p → LeavesTrack m P (callback-then p)
     q-callback x = record { goes = λ w s z k. asked w k (λ _. refl) (λ _ t l. x .goes w t z l) }
 
-    pub q-get : {i : Bool} {A : Type 0} {c : Cell} {f : Val c → Script i A} → ((v : Val c) → Quiet m P (f v))
-        → Quiet m P (get-then c f)
+    pub q-get : {i : Bool} {A : Type 0} {c : Cell} {f : Val c → Script i A} → ((v : Val c) → LeavesTrack m P (f v))
+        → LeavesTrack m P (get-then c f)
     q-get {c = c} x = record { goes = λ w s z k. x (concrete .get c s) .goes w s z k }
 
     -- the isochronous endpoints that an interrupt walks: others
     pub q-ins : {i : Bool} {A : Type 0} {f : Globals → Script i A}
-        → ((g : Globals) → Each (λ e. m ≡ true → Else In e) (setBits (isoInEvery g)) → Quiet m P (f g))
-        → Quiet m P (bind (get {i = i} globals-cell) f)
+        → ((g : Globals) → Each (λ e. m ≡ true → Else In e) (setBits (isoInEvery g)) → LeavesTrack m P (f g))
+        → LeavesTrack m P (bind (get {i = i} globals-cell) f)
     q-ins x = record {
       goes = λ w s z k. x (s .0 .globals)
           (each-set (isoInEvery (s .0 .globals))
-          (λ e l h t q. iso-apart s In e (k .plain t) (among-ins (sortsOf (s .0) In) (s .0 .globals) (k .sorts t .every) e l h) q)) .goes w s z k;
+          (λ e l h t q. iso-apart s In e (k .plain t) (among-ins (sortsOf (s .0) In) (s .0 .globals) (k .sorts t .every)
+          e l h) q)) .goes w s z k;
     }
 
     pub q-outs : {i : Bool} {A : Type 0} {f : Globals → Script i A}
-        → ((g : Globals) → Each (λ e. m ≡ true → Else Out e) (setBits (isoOuts g)) → Quiet m P (f g))
-        → Quiet m P (bind (get {i = i} globals-cell) f)
+        → ((g : Globals) → Each (λ e. m ≡ true → Else Out e) (setBits (isoOuts g)) → LeavesTrack m P (f g))
+        → LeavesTrack m P (bind (get {i = i} globals-cell) f)
     q-outs x = record {
       goes = λ w s z k. x (s .0 .globals)
           (each-set (isoOuts (s .0 .globals)) (λ e l h t q. iso-apart s Out e
           (k .plain t) (among-outs (sortsOf (s .0) Out) (s .0 .globals) (k .sorts t .outs) e l h) q)) .goes w s z k;
     }
 
-    pub q-is : {i : Bool} {A : Type 0} {q : Test} {f : Bool → Script i A} → ((b : Bool) → Quiet m P (f b))
-        → Quiet m P (is-then q f)
+    pub q-is : {i : Bool} {A : Type 0} {q : Test} {f : Bool → Script i A} → ((b : Bool) → LeavesTrack m P (f b))
+        → LeavesTrack m P (is-then q f)
     q-is {q = q} x = record { goes = λ w s z k. x (concrete .is q s) .goes w s z k }
 
-    pub q-look : {i : Bool} {A : Type 0} {q : Look} {f : ℕ → Script i A} → ((n : ℕ) → Quiet m P (f n))
-        → Quiet m P (look-then q f)
+    pub q-look : {i : Bool} {A : Type 0} {q : Look} {f : ℕ → Script i A} → ((n : ℕ) → LeavesTrack m P (f n))
+        → LeavesTrack m P (look-then q f)
     q-look {q = q} x = record { goes = λ w s z k. x (concrete .look q s) .goes w s z k }
 
-    pub q-fetch : {i : Bool} {A : Type 0} {q : Fetch} {f : List ℕ → Script i A} → ((l : List ℕ) → Quiet m P (f l))
-        → Quiet m P (fetch-then q f)
+    pub q-fetch : {i : Bool} {A : Type 0} {q : Fetch} {f : List ℕ → Script i A} → ((l : List ℕ) → LeavesTrack m P (f l))
+        → LeavesTrack m P (fetch-then q f)
     q-fetch {q = q} x = record { goes = λ w s z k. x (concrete .fetch q s) .goes w s z k }
 
-    pub q-act-as : {i : Bool} {A : Type 0} {q : Act} {p : Script i A} → allocates q ≡ false → Silent m q → Quiet m P p
-        → Quiet m P (act-then q p)
+    pub q-act-as : {i : Bool} {A : Type 0} {q : Act} {p : Script i A} → allocates q ≡ false → LeavesWakesIf m q
+        → LeavesTrack m P p
+        → LeavesTrack m P (act-then q p)
     q-act-as {q = q} h o x = record {
       goes = λ w s z k. let n = act-kept q h o s k in
           onward w s (concrete .act q s) (act-view D E q h s) (n .1) (x .goes w (concrete .act q s) z (n .0));
     }
 
-    pub q-hand : {i : Bool} {A : Type 0} {q : DmaStep} {p : Script i A} → Quiet m P p → Quiet m P (hand-then q p)
+    pub q-hand : {i : Bool} {A : Type 0} {q : DmaStep} {p : Script i A} → LeavesTrack m P p
+        → LeavesTrack m P (hand-then q p)
     q-hand {q = q} x = record {
       goes = λ w s z k. onward w s (concrete .hand q s .1) (hand-view D E q s) (hears-same (hand-still q s))
-          (asked w (kept-steady (hand-steady q s) (hand-still q s) k) (hand-silent q (concrete .hand q s .0) w) (λ _ t l. x .goes w t z l));
+          (asked w (kept-steady (hand-steady q s) (hand-still q s) k) (hand-silent q (concrete .hand q s .0) w)
+          (λ _ t l. x .goes w t z l));
     }
 
     -- an assignment that shows the same
     pub q-put : {i : Bool} {A : Type 0} {c : Cell} {v : Val c} {p : Script i A}
-        → ((s : St) → view D E (concrete .put c v s .0) ≡ view D E (s .0)) → Quiet m P p → Quiet m P (put-then c v p)
+        → ((s : St) → view D E (concrete .put c v s .0) ≡ view D E (s .0)) → LeavesTrack m P p
+        → LeavesTrack m P (put-then c v p)
     q-put {c = c} {v = v} e x = record {
-      goes = λ w s z k. onward w s (concrete .put c v s) (e s) (put-hears c v s) (x .goes w (concrete .put c v s) z (put-kept c v s k));
+      goes = λ w s z k. onward w s (concrete .put c v s) (e s) (put-hears c v s)
+          (x .goes w (concrete .put c v s) z (put-kept c v s k));
     }
 
     -- a record that is read and changed
     pub q-modify : {i : Bool} (c : Cell) (f : Val c → Val c)
         → ((s : St) → view D E (concrete .put c (f (concrete .get c s)) s .0) ≡ view D E (s .0))
-        → Quiet m P (bind {i = i} (get-then c ret) (λ p. put-then c (f p) (ret (tt {0}))))
-    q-modify c f e = record { goes = λ w s z k. at-end (refl, e s, put-kept c (f (concrete .get c s)) s k, put-hears c (f (concrete .get c s)) s) }
+        → LeavesTrack m P (bind {i = i} (get-then c ret) (λ p. put-then c (f p) (ret (tt {0}))))
+    q-modify c f e = record {
+      goes = λ w s z k. at-end
+          (refl, e s, put-kept c (f (concrete .get c s)) s k, put-hears c (f (concrete .get c s)) s);
+    }
 
   -- of a call that is no interrupt
   module _ {P : Track → Type 0} where
-    pub q-act : {i : Bool} {A : Type 0} {q : Act} {p : Script i A} → allocates q ≡ false → Quiet false P p
-        → Quiet false P (act-then q p)
+    pub q-act : {i : Bool} {A : Type 0} {q : Act} {p : Script i A} → allocates q ≡ false → LeavesTrack false P p
+        → LeavesTrack false P (act-then q p)
     q-act h x = q-act-as h (λ e. differ e) x
 
   -- ---- assignments
@@ -369,8 +396,10 @@ module _ (D : Dir) (E : ℕ) where
 
   -- `last_frame` of any
   pub put-frame : (d : Dir) (e frame : ℕ) (s : St)
-      → view D E (concrete .put (ep-cell d e) (withLastFrame frame (concrete .get (ep-cell d e) s)) s .0) ≡ view D E (s .0)
-  put-frame d e frame s = record-view D E (s .0) d e (merged (epOn (s .0) d e) (withLastFrame frame (concrete .get (ep-cell d e) s))) refl
+      → view D E (concrete .put (ep-cell d e) (withLastFrame frame (concrete .get (ep-cell d e) s)) s .0)
+      ≡ view D E (s .0)
+  put-frame d e frame s = record-view D E (s .0) d e (merged (epOn (s .0) d e)
+      (withLastFrame frame (concrete .get (ep-cell d e) s))) refl
 
   pub put-globals : (g : Globals) (s : St) → view D E (concrete .put globals-cell g s .0) ≡ view D E (s .0)
   unfolding epOn
@@ -396,13 +425,17 @@ module _ (D : Dir) (E : ℕ) where
   code-apart Out e o = ne-eqb _ _ (by D refl)
     where
       by : (d : Dir) → D ≡ d → wakeCode Out e ≡ wakeCode D E → ⊥
-      by Out g q = o (subst (λ (x : Dir). key x E ≡ key Out e) (sym g) (omega (arith, subst (λ (x : Dir). wakeCode Out e ≡ wakeCode x E) g q)))
-      by In g q = let z : 16 + e % 16 ≡ E % 16 = subst (λ (x : Dir). wakeCode Out e ≡ wakeCode x E) g q in absurd (omega (arith, z))
+      by Out g q = o (subst (λ (x : Dir). key x E ≡ key Out e) (sym g)
+          (omega (arith, subst (λ (x : Dir). wakeCode Out e ≡ wakeCode x E) g q)))
+      by In g q = let z : 16 + e % 16 ≡ E % 16 = subst (λ (x : Dir). wakeCode Out e ≡ wakeCode x E) g q in absurd
+          (omega (arith, z))
   code-apart In e o = ne-eqb _ _ (by D refl)
     where
       by : (d : Dir) → D ≡ d → wakeCode In e ≡ wakeCode D E → ⊥
-      by In g q = o (subst (λ (x : Dir). key x E ≡ key In e) (sym g) (omega (arith, subst (λ (x : Dir). wakeCode In e ≡ wakeCode x E) g q)))
-      by Out g q = let z : e % 16 ≡ 16 + E % 16 = subst (λ (x : Dir). wakeCode In e ≡ wakeCode x E) g q in absurd (omega (arith, z))
+      by In g q = o (subst (λ (x : Dir). key x E ≡ key In e) (sym g)
+          (omega (arith, subst (λ (x : Dir). wakeCode In e ≡ wakeCode x E) g q)))
+      by Out g q = let z : e % 16 ≡ 16 + E % 16 = subst (λ (x : Dir). wakeCode In e ≡ wakeCode x E) g q in absurd
+          (omega (arith, z))
 
   bus-apart : eqb busCode (wakeCode D E) ≡ false
   unfolding wakeCode
@@ -410,64 +443,66 @@ module _ (D : Dir) (E : ℕ) where
     where
       by : (d : Dir) → D ≡ d → busCode ≡ wakeCode D E → ⊥
       by In g q = let z : 32 ≡ E % 16 = subst (λ (x : Dir). busCode ≡ wakeCode x E) g q in absurd (omega (arith, z))
-      by Out g q = let z : 32 ≡ 16 + E % 16 = subst (λ (x : Dir). busCode ≡ wakeCode x E) g q in absurd (omega (arith, z))
+      by Out g q = let z : 32 ≡ 16 + E % 16 = subst (λ (x : Dir). busCode ≡ wakeCode x E) g q in absurd
+          (omega (arith, z))
 
   module _ {m : Bool} {P : Track → Type 0} where
-    pub q-got : {i : Bool} (c : Cell) → Quiet m P (get {i = i} c)
+    pub q-got : {i : Bool} (c : Cell) → LeavesTrack m P (get {i = i} c)
     q-got c = q-get (λ _. q-ret)
 
-    pub q-wakes : {i : Bool} (d : Dir) (e : ℕ) → (m ≡ true → Else d e) → Quiet m P (wake {i = i} d e)
+    pub q-wakes : {i : Bool} (d : Dir) (e : ℕ) → (m ≡ true → Else d e) → LeavesTrack m P (wake {i = i} d e)
     q-wakes d e o = q-act-as refl (λ h. (code-apart d e (o h), tt)) q-ret
 
-    pub q-wake-bus : {i : Bool} → Quiet m P (wakeBus {i = i})
+    pub q-wake-bus : {i : Bool} → LeavesTrack m P (wakeBus {i = i})
     q-wake-bus = q-act-as refl (λ _. (bus-apart, tt)) q-ret
 
-    pub q-when : {i : Bool} {b : Bool} {p : Script i Unit} → Quiet m P p → Quiet m P (when b p)
+    pub q-when : {i : Bool} {b : Bool} {p : Script i Unit} → LeavesTrack m P p → LeavesTrack m P (when b p)
     q-when x = q-test x q-ret
 
-    pub q-ep : {i : Bool} (d : Dir) (e : ℕ) (f : EpCore → EpCore) → Else d e → Quiet m P (modifyEp {i = i} d e f)
+    pub q-ep : {i : Bool} (d : Dir) (e : ℕ) (f : EpCore → EpCore) → Else d e → LeavesTrack m P (modifyEp {i = i} d e f)
     q-ep d e f o = q-modify (ep-cell d e) f (λ s. put-other d e o (f (concrete .get (ep-cell d e) s)) s)
 
-    pub q-globals : {i : Bool} (f : Globals → Globals) → Quiet m P (modify {i = i} f)
+    pub q-globals : {i : Bool} (f : Globals → Globals) → LeavesTrack m P (modify {i = i} f)
     q-globals f = q-modify globals-cell f (λ s. put-globals (f (concrete .get globals-cell s)) s)
 
-    pub q-staged : {i : Bool} (n : ℕ) {p : Script i Answer} → Quiet m P p → Quiet m P (staged n p)
+    pub q-staged : {i : Bool} (n : ℕ) {p : Script i Answer} → LeavesTrack m P p → LeavesTrack m P (staged n p)
     q-staged n x = q-bind (q-got globals-cell) (λ g. q-test x q-ret)
 
-    pub q-enabled : {i : Bool} (d : Dir) (e : ℕ) {p q : Script i Answer} → Quiet m P q → Quiet m P p
-        → Quiet m P (enabled-else d e q p)
+    pub q-enabled : {i : Bool} (d : Dir) (e : ℕ) {p q : Script i Answer} → LeavesTrack m P q → LeavesTrack m P p
+        → LeavesTrack m P (enabled-else d e q p)
     q-enabled d e x y = q-bind (q-got globals-cell) (λ g. q-test y x)
 
-    pub q-ends : {i : Bool} (d : Dir) (e : ℕ) (a : Answer) → Quiet m P (ends-request {i = i} d e a)
+    pub q-ends : {i : Bool} (d : Dir) (e : ℕ) (a : Answer) → LeavesTrack m P (ends-request {i = i} d e a)
     q-ends d e a = q-bind (q-put (put-request d e no-request) q-ret) (λ _. q-ret)
 
-    pub q-int-en : {i : Bool} (f : ℕ → ℕ) → Quiet m P (modifyIntEn {i = i} f)
-    q-int-en f = q-bind (q-got globals-cell) (λ g. q-bind (q-put (put-globals (withIntEn (f (g .«int_en»)) g)) q-ret) (λ _. q-write q-ret))
+    pub q-int-en : {i : Bool} (f : ℕ → ℕ) → LeavesTrack m P (modifyIntEn {i = i} f)
+    q-int-en f = q-bind (q-got globals-cell) (λ g. q-bind (q-put (put-globals (withIntEn (f (g .«int_en»)) g)) q-ret)
+        (λ _. q-write q-ret))
 
   module _ {P : Track → Type 0} where
-    pub q-wake : {i : Bool} (d : Dir) (e : ℕ) → Quiet false P (wake {i = i} d e)
+    pub q-wake : {i : Bool} (d : Dir) (e : ℕ) → LeavesTrack false P (wake {i = i} d e)
     q-wake d e = q-act refl q-ret
 
-    pub q-operation : {i : Bool} {p : Script i ℕ} → Quiet false P p → Quiet false P (operation p)
+    pub q-operation : {i : Bool} {p : Script i ℕ} → LeavesTrack false P p → LeavesTrack false P (operation p)
     q-operation x = q-bind (q-act refl q-ret) (λ _. q-bind x (λ n. q-bind (q-fetch (λ _. q-ret)) (λ w. q-ret)))
 
-    pub q-resultless : {i : Bool} {p : Script i Unit} → Quiet false P p → Quiet false P (resultless p)
+    pub q-resultless : {i : Bool} {p : Script i Unit} → LeavesTrack false P p → LeavesTrack false P (resultless p)
     q-resultless x = q-operation (q-bind x (λ _. q-ret))
 
   -- a reading of no control word
   abbrev pub idle-read : {m : Bool} {i : Bool} {A : Type 0} {r : Reg} {e : ℕ} {f : ℕ → Script i A}
-      → sameReg r EpRxCtrl ≡ false → sameReg r EpTxCtrl ≡ false → ((v : ℕ) → Quiet m Idle (f v))
-      → Quiet m Idle (read-then r e f)
+      → sameReg r EpRxCtrl ≡ false → sameReg r EpTxCtrl ≡ false → ((v : ℕ) → LeavesTrack m Idle (f v))
+      → LeavesTrack m Idle (read-then r e f)
   idle-read {r = r} {e = e} h k x = q-read (λ w z v. z r e v h k) x
 
   pub off-read : {m : Bool} {i : Bool} {A : Type 0} {r : Reg} {e : ℕ} {f : ℕ → Script i A}
-      → ((v : ℕ) → Quiet m Off (f v)) → Quiet m Off (read-then r e f)
+      → ((v : ℕ) → LeavesTrack m Off (f v)) → LeavesTrack m Off (read-then r e f)
   off-read {r = r} {e = e} x = q-read (λ w z v. off-all w z r e v) x
 
-  pub q-reg : {m : Bool} {i : Bool} (r : Reg) (e : ℕ) (f : ℕ → ℕ) → Quiet m Off (modifyReg {i = i} r e f)
+  pub q-reg : {m : Bool} {i : Bool} (r : Reg) (e : ℕ) (f : ℕ → ℕ) → LeavesTrack m Off (modifyReg {i = i} r e f)
   q-reg r e f = q-bind (off-read (λ _. q-ret)) (λ v. q-write q-ret)
 
-  pub q-looks : {m : Bool} {i : Bool} (n : ℕ) → Quiet m Idle (looks {i = i} n)
+  pub q-looks : {m : Bool} {i : Bool} (n : ℕ) → LeavesTrack m Idle (looks {i = i} n)
   unfolding looks
   q-looks zero = q-ret
   q-looks (suc n) = q-bind (idle-read refl refl (λ _. q-ret)) (λ _. q-test q-ret (q-looks n))

@@ -1,7 +1,8 @@
--- The observer of endpoint 0. ControlStagesLaws.antt proves: control stages equal USB 2.0's, over EVERY list of calls from an accepted start-up
+-- The observer of endpoint 0. ControlStagesLaws.antt proves: control stages equal USB 2.0's, over EVERY list of calls
+-- from an accepted start-up
 use Rattle.script.specs.AddressWrites.{Writes}
 use Rattle.script.specs.AddressCalls.{Addresses}
-use Rattle.proof_usb20.specs.Log.{Log, before, opens, saw, closes, Armed, Fair, Allowed}
+use Rattle.proof_usb20.specs.Log.{Log, before, opens, saw, closes, Armed, EndsByReason, Allowed}
 use Rattle.proof_usb20.specs.Observer.{Observer}
 use Rattle.proof_usb20.specs.Ep0.{View, view}
 
@@ -14,7 +15,7 @@ control = record {
   opens = opens;
   saw = saw;
   closes = closes;
-  Fair = Fair;
+  EndsByReason = EndsByReason;
   Allowed = Allowed;
   Asks = λ o q. Writes (Addresses o) q;
   View = View;

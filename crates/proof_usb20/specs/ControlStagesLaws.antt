@@ -18,7 +18,7 @@ use Rattle.script.specs.Machine.{Buf, Event, Machine, start, started}
 use Rattle.machine.specs.Suspended.{driverOf}
 use Rattle.script_ops.specs.Rings.{St}
 use Rattle.script_ops.specs.Concrete.{concrete}
-use Rattle.proof_usb20.specs.Log.{Log, before, opens, closes, Armed, Fair, unlent}
+use Rattle.proof_usb20.specs.Log.{Log, before, opens, closes, Armed, EndsByReason, unlent}
 use Rattle.proof_usb20.specs.Observer.{startedBy, All}
 use Rattle.proof_usb20.specs.ExemptLaws.{differ}
 use Rattle.proof_usb20.specs.Watch.{at-end, at-ask}
@@ -29,17 +29,20 @@ use Rattle.proof_usb20.specs.QuietLaws.{Any}
 use Rattle.proof_usb20.specs.RequestLaws.{Left, kept-base, law-new}
 use Rattle.proof_usb20.specs.RunsLaws.{Laws, Ups, from-start}
 use Rattle.proof_usb20.specs.BesidesLaws.{aside-wakes}
-use Rattle.proof_book.specs.Code.{Made}
+use Rattle.proof_book.specs.Code.{CallRecord}
 use Rattle.proof_book.specs.CodeReadings.{Steps}
 use Rattle.proof_book.specs.Computing.{computing}
 use Rattle.proof_usb20.specs.CodeRuns.{CodeAll}
 use Rattle.proof_usb20.specs.CodeRunsLaws.{code-from-start}
-use Rattle.proof_usb20.specs.StagesLaws.{law-data-out, law-data-in, law-accept, law-accept-address, law-reject, law-setup}
+use Rattle.proof_usb20.specs.StagesLaws.{law-data-out, law-data-in, law-accept, law-accept-address, law-reject}
+use Rattle.proof_usb20.specs.StagesLaws.{law-setup}
 use Rattle.proof_usb20.specs.PollsLaws.{law-poll-setup, law-poll-data-out, law-poll-data-in, law-poll-accept}
 use Rattle.proof_usb20.specs.ServingLaws.{law-interrupt}
 use Rattle.proof_usb20.specs.SwitchingLaws.{law-set-enabled}
-use Rattle.proof_usb20.specs.TasksLaws.{law-begin-read, law-poll-read, law-begin-write, law-poll-write, law-allocate}
-use Rattle.proof_usb20.specs.TasksLaws.{law-allocate-all, law-start, law-bus-enable, law-bus-disable, law-microframe}
+use Rattle.proof_usb20.specs.TasksLaws.{law-begin-read, law-poll-read, law-begin-write, law-poll-write}
+use Rattle.proof_usb20.specs.TasksLaws.{law-allocate}
+use Rattle.proof_usb20.specs.TasksLaws.{law-allocate-all, law-start, law-bus-enable, law-bus-disable}
+use Rattle.proof_usb20.specs.TasksLaws.{law-microframe}
 use Rattle.proof_usb20.specs.TasksLaws.{law-is-stalled, law-set-paced, law-advance, law-aside, law-set-stalled}
 use Rattle.proof_usb20.specs.TasksLaws.{law-bus-poll, aside-view}
 use mathlib.Core.Bool.{Bool, true, false, cond}
@@ -48,7 +51,7 @@ use Rattle.regs.specs.declared.Access.the-variants.{Read, Write, Receive, Trans
 use Rattle.regs.specs.declared.Reg.the-variants.{IntFg, IntSt, MisSt, FrameNo, EpRxCtrl, EpTxCtrl}
 use Rattle.script.specs.Every.{sameReg}
 use Rattle.script.specs.Answers.{End, Done}
-use Rattle.script.specs.Machine.{Call, begin, go, Ans, ended, idle}
+use Rattle.script.specs.Machine.{Call, begin, continue, Ans, ended, idle}
 use Rattle.machine.specs.Suspended.{drive}
 use Prim.Native.Nat.{suc}
 use Rattle.proof_usb20.specs.Observer.{Watched, Under, at-rest, doing, starting, serves, noted}
@@ -117,7 +120,7 @@ refused-1 (slotted o) h b w x r = r
 refused-1 (other o) h b w x r = r
 refused-1 (aside o) h b w x r = r
 
-fair-1 : (o : Op) → calls .slots o ≡ true → (w : Log) → Fair o (Refused 1) w
+fair-1 : (o : Op) → calls .slots o ≡ true → (w : Log) → EndsByReason o (Refused 1) w
 fair-1 interrupt h w = tt
 fair-1 (slotted (SetEnabled d e on)) h w = tt
 fair-1 (slotted (PollRead e n)) h w = tt
@@ -151,8 +154,8 @@ control-stages c b row es m = from-start control laws c b row es m
 
 -- of the Rattle code: any bytes, a start-up that rows 1 and 2 do not stop, and then any calls, each as its contract
 -- says
-pub code-control-stages : (c : Config) (b : Buf) → startRow c b ≡ zero → (xs : List ℕ) (a : Buf) (first : Made)
-    → first .event ≡ record { call = start c; lent = b } → (ms : List Made)
+pub code-control-stages : (c : Config) (b : Buf) → startRow c b ≡ zero → (xs : List ℕ) (a : Buf) (first : CallRecord)
+    → first .event ≡ record { call = start c; lent = b } → (ms : List CallRecord)
     → Steps xs a (first ∷ ms) → CodeAll control ms (startedBy control (first .answer))
 code-control-stages c b row xs a first e ms h = code-from-start control laws c b row xs a first e ms h
 
@@ -175,7 +178,8 @@ serving f b s = record { op = interrupt; flags = f; free = b; status = s }
 abbrev reading : Does → Log → Access → ℕ
 reading x w (Read r e) = cond (sameReg r EpRxCtrl) (w .rx .last)
     (cond (sameReg r EpTxCtrl) (w .tx .last)
-    (cond (sameReg r IntFg) (x .flags) (cond (sameReg r MisSt) (x .free) (cond (sameReg r IntSt) (x .status) (cond (sameReg r FrameNo) 8 0)))))
+    (cond (sameReg r IntFg) (x .flags) (cond (sameReg r MisSt) (x .free)
+    (cond (sameReg r IntSt) (x .status) (cond (sameReg r FrameNo) 8 0)))))
 reading x w (Write r e v) = 0
 reading x w (Receive e y) = 0
 reading x w (Transmit e y) = 0
@@ -191,14 +195,18 @@ pub record Play : Type 0 where
 abbrev called : Call Config Op → Play → Play
 called c p =
     let y = drive c (p .machine) (p .machine .buf) in
-    record { machine = y .1; seen = noted control c (p .machine .buf) (y .0) (serves (y .1 .way)) (p .seen); answer = y .0 }
+    record {
+      machine = y .1;
+      seen = noted control c (p .machine .buf) (y .0) (serves (y .1 .under-way)) (p .seen);
+      answer = y .0;
+    }
 
 -- so many continues at most
 abbrev on : ℕ → Does → Under → Play → Play
 on zero x u p = p
 on (suc n) x at-rest p = p
-on (suc n) x (doing o q) p = let r = called (go (reading x (p .seen .log) q)) p in on n x (r .seen .under) r
-on (suc n) x starting p = let r = called (go 0) p in on n x (r .seen .under) r
+on (suc n) x (doing o q) p = let r = called (continue (reading x (p .seen .log) q)) p in on n x (r .seen .under) r
+on (suc n) x starting p = let r = called (continue 0) p in on n x (r .seen .under) r
 
 abbrev done : Does → Play → Play
 done x p = let r = called (begin (x .op)) p in on 16 x (r .seen .under) r
@@ -222,7 +230,8 @@ config = record { size = 64; count = 1; callback = false }
 -- start-up, and EP0's start; eight bytes in EP0's slot
 abbrev pub up : Play
 up =
-    let y = drive (start config) (record { way = idle; st = driverOf .fresh config; buf = [] }) (1 ∷ 2 ∷ 3 ∷ 4 ∷ 5 ∷ 6 ∷ 7 ∷ 8 ∷ zeros 56) in
+    let y = drive (start config) (record { under-way = idle; st = driverOf .fresh config; buf = [] })
+    (1 ∷ 2 ∷ 3 ∷ 4 ∷ 5 ∷ 6 ∷ 7 ∷ 8 ∷ zeros 56) in
     let p : Play = record { machine = y .1; seen = startedBy control (y .0); answer = y .0 } in
     done (does (other (Start 64))) (on 16 (does (other (Start 64))) (p .seen .under) p)
 

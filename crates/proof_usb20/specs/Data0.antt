@@ -1,5 +1,5 @@
--- DATA0 after a cleared halt, a configuration and a bus reset (USB 2.0, 9.1.1.5, 9.4.5): the toggle of the endpoint's control word, as it was last
--- written, whatever it was before, whatever is read and whatever becomes of the state
+-- DATA0 after a cleared halt, a configuration and a bus reset (USB 2.0, 9.1.1.5, 9.4.5): the toggle of the endpoint's
+-- control word, as it was last written, whatever it was before, whatever is read and whatever becomes of the state
 use mathlib.Core.Bool.{Bool, true, false, not, cond, _&&_}
 use mathlib.Core.Logic.{_⊎_, inl, inr}
 use mathlib.Core.Path.{_≡_, refl}
@@ -20,7 +20,8 @@ use Rattle.script.specs.Tree.{ends}
 use Rattle.script.specs.Cells.{EpCore, ep-cell}
 use Rattle.script.specs.Script.{Ops, run, rows, switch, bus-reset}
 use Rattle.script.specs.Statics.{isOn, wakeAll}
-use Rattle.script.specs.Bus.{restarted, restartedOut, restartedIn, setStalled, setEnabled, setEnabledOut, nakAll, busReset}
+use Rattle.script.specs.Bus.{restarted, restartedOut, restartedIn, setStalled, setEnabled, setEnabledOut, nakAll}
+use Rattle.script.specs.Bus.{busReset}
 use Rattle.script.specs.Every.{Chip, Every, at-end, at-ask, sameReg}
 use Rattle.script.specs.EveryLaws.{every-bind, every-cond}
 use Rattle.script.specs.Usb20Toggles.{initial}
@@ -69,7 +70,8 @@ switched-data0 false = refl
 module _ {S : Type 0} (O : Ops S) where
   -- ---- a cleared halt
 
-  pub cleared : (i : Bool) (d : Dir) (e b : ℕ) (s : S) → ToggleAtEnd d e IsData0 b (run O (setStalled {i = i} d e false) s)
+  pub cleared : (i : Bool) (d : Dir) (e b : ℕ) (s : S)
+      → ToggleAtEnd d e IsData0 b (run O (setStalled {i = i} d e false) s)
   unfolding restartedOut restartedIn
   cleared i Out e b s = at-ask tt (λ _ t _ _. at-end (own e b _ (restarted-data0 _ e _)))
   cleared i In e b s = at-ask tt (λ _ t _ _. every-bind {P = λ c _ _. IsData0 c}
@@ -81,13 +83,18 @@ module _ {S : Type 0} (O : Ops S) where
 
   of-in : (e : ℕ) (on : Bool) (b : ℕ) (s : S) → ToggleAtEnd In e IsData0 b (run O (setEnabled In e on) s)
   of-in e on b s = at-ask tt
-      (λ _ _ _ _. at-ask tt (λ _ _ _ _. at-ask tt (λ _ _ _ _. at-ask tt (λ _ _ _ _. at-ask tt (λ _ _ _ _. at-end (own e b _ (word-data0 _ _)))))))
+      (λ _ _ _ _. at-ask tt (λ _ _ _ _. at-ask tt (λ _ _ _ _. at-ask tt
+      (λ _ _ _ _. at-ask tt (λ _ _ _ _. at-end (own e b _ (word-data0 _ _)))))))
 
-  of-plain : (e : ℕ) (on : Bool) (b : ℕ) (s : S) → ToggleAtEnd Out e IsData0 b (run O (setEnabledOut {i = false} e on) s)
-  of-plain e on b s = at-ask tt (λ _ _ _ _. at-ask tt (λ _ _ _ _. at-ask tt (λ _ _ _ _. at-ask tt (λ _ _ _ _. at-end (own e b _ (word-data0 _ _))))))
+  of-plain : (e : ℕ) (on : Bool) (b : ℕ) (s : S) → ToggleAtEnd Out e IsData0 b
+      (run O (setEnabledOut {i = false} e on) s)
+  of-plain e on b s = at-ask tt (λ _ _ _ _. at-ask tt (λ _ _ _ _. at-ask tt
+      (λ _ _ _ _. at-ask tt (λ _ _ _ _. at-end (own e b _ (word-data0 _ _))))))
 
-  of-row : (e : ℕ) (on : Bool) (n b : ℕ) (s : S) → ToggleAtEnd Out e IsData0 b (rows O (switch e on) (suc (suc n)) (λ t. ends (tt {0}) t) s)
-  of-row e on zero b s = at-ask tt (λ _ _ _ _. at-ask tt (λ _ _ _ _. at-ask tt (λ _ _ _ _. at-end (own e b _ (switched-data0 on)))))
+  of-row : (e : ℕ) (on : Bool) (n b : ℕ) (s : S) → ToggleAtEnd Out e IsData0 b
+      (rows O (switch e on) (suc (suc n)) (λ t. ends (tt {0}) t) s)
+  of-row e on zero b s = at-ask tt (λ _ _ _ _. at-ask tt
+      (λ _ _ _ _. at-ask tt (λ _ _ _ _. at-end (own e b _ (switched-data0 on)))))
   of-row e on (suc n) b s = at-ask tt (λ _ t _ _. of-row e on n b t)
 
   of-out : (e : ℕ) (on iso : Bool) (b : ℕ) (s : S) → ToggleAtEnd Out e IsData0 b
@@ -108,14 +115,18 @@ module _ {S : Type 0} (O : Ops S) where
   next e n f b (inr k) (yes q) = inl (rw (eq-eqb f e q) (word-data0 _ _))
   next e n f b (inr k) (no q) = inr (omega (arith, k .0, k .1), omega (arith, k .0, k .1))
 
-  naks : (d : Dir) (e n f b : ℕ) (s : S) → IsData0 b ⊎ ((f ≤ e) × (e < f + n)) → ToggleAtEnd d e IsData0 b (run O (nakAll {i = false} n f) s)
+  naks : (d : Dir) (e n f b : ℕ) (s : S) → IsData0 b ⊎ ((f ≤ e) × (e < f + n))
+      → ToggleAtEnd d e IsData0 b (run O (nakAll {i = false} n f) s)
   unfolding nakAll
   naks d e zero f b s (inl h) = at-end h
   naks d e zero f b s (inr h) = absurd (omega (arith, h .0, h .1))
-  naks Out e (suc n) f b s h = at-ask tt (λ _ _ _ _. at-ask tt (λ _ t _ _. naks Out e n (suc f) _ t (next e n f b h (ℕ-discrete f e))))
-  naks In e (suc n) f b s h = at-ask tt (λ _ _ _ _. at-ask tt (λ _ t _ _. naks In e n (suc f) _ t (next e n f b h (ℕ-discrete f e))))
+  naks Out e (suc n) f b s h = at-ask tt (λ _ _ _ _. at-ask tt
+      (λ _ t _ _. naks Out e n (suc f) _ t (next e n f b h (ℕ-discrete f e))))
+  naks In e (suc n) f b s h = at-ask tt (λ _ _ _ _. at-ask tt
+      (λ _ t _ _. naks In e n (suc f) _ t (next e n f b h (ℕ-discrete f e))))
 
-  first : (e b v : ℕ) → e ≤ 15 → toggle v ≡ number initial → IsData0 (cond (eqb 0 e) (toggle v) b) ⊎ ((1 ≤ e) × (e < 1 + 15))
+  first : (e b v : ℕ) → e ≤ 15 → toggle v ≡ number initial → IsData0 (cond (eqb 0 e) (toggle v) b)
+      ⊎ ((1 ≤ e) × (e < 1 + 15))
   first e b v l h = go (ℕ-discrete 0 e)
     where
       go : Dec (0 ≡ e) → IsData0 (cond (eqb 0 e) (toggle v) b) ⊎ ((1 ≤ e) × (e < 1 + 15))
@@ -123,14 +134,19 @@ module _ {S : Type 0} (O : Ops S) where
       go (no q) = inr (omega arith, omega arith)
 
   -- the row writes no control word
-  ends-row : (d : Dir) (e b : ℕ) (s : S) → IsData0 b → ToggleAtEnd d e IsData0 b (rows O bus-reset 3 (λ t. ends (tt {0}) t) s)
-  ends-row Out e b s h = at-ask tt (λ _ _ _ _. at-ask tt (λ _ _ _ _. at-ask tt (λ _ _ _ _. at-ask tt (λ _ _ _ _. at-end h))))
-  ends-row In e b s h = at-ask tt (λ _ _ _ _. at-ask tt (λ _ _ _ _. at-ask tt (λ _ _ _ _. at-ask tt (λ _ _ _ _. at-end h))))
+  ends-row : (d : Dir) (e b : ℕ) (s : S) → IsData0 b → ToggleAtEnd d e IsData0 b
+      (rows O bus-reset 3 (λ t. ends (tt {0}) t) s)
+  ends-row Out e b s h = at-ask tt (λ _ _ _ _. at-ask tt
+      (λ _ _ _ _. at-ask tt (λ _ _ _ _. at-ask tt (λ _ _ _ _. at-end h))))
+  ends-row In e b s h = at-ask tt (λ _ _ _ _. at-ask tt
+      (λ _ _ _ _. at-ask tt (λ _ _ _ _. at-ask tt (λ _ _ _ _. at-end h))))
 
   pub bus-reset-all : (d : Dir) (e : ℕ) → e ≤ 15 → (b : ℕ) (s : S) → ToggleAtEnd d e IsData0 b (run O busReset s)
   bus-reset-all Out e l b s = at-ask tt (λ _ _ _ _. at-ask tt (λ _ _ _ _. at-ask tt (λ _ t _ _.
       every-bind (naks Out e 15 1 _ t (first e b _ l (word-data0 _ _)))
-      (λ c _ u p. every-bind {f = λ (_ : Unit {0}) (v : S). run O (wakeAll {i = false}) v} (ends-row Out e c u p) (λ _ _ _ z. at-end z)))))
+      (λ c _ u p. every-bind {f = λ (_ : Unit {0}) (v : S). run O (wakeAll {i = false}) v} (ends-row Out e c u p)
+      (λ _ _ _ z. at-end z)))))
   bus-reset-all In e l b s = at-ask tt (λ _ _ _ _. at-ask tt (λ _ _ _ _. at-ask tt (λ _ t _ _.
       every-bind (naks In e 15 1 _ t (first e b _ l (word-data0 _ _)))
-      (λ c _ u p. every-bind {f = λ (_ : Unit {0}) (v : S). run O (wakeAll {i = false}) v} (ends-row In e c u p) (λ _ _ _ z. at-end z)))))
+      (λ c _ u p. every-bind {f = λ (_ : Unit {0}) (v : S). run O (wakeAll {i = false}) v} (ends-row In e c u p)
+      (λ _ _ _ z. at-end z)))))

@@ -1,6 +1,7 @@
--- The observers of an endpoint's toggle and control word. DataTogglesLaws.antt proves: data toggles equal USB 2.0's (8.6), over EVERY list of calls
--- from an accepted start-up, of every endpoint but 0 that no call has allocated as an isochronous one
-use mathlib.Core.Bool.{Bool, true, false, not, _&&_, _||_}
+-- The observers of an endpoint's toggle and control word. DataTogglesLaws.antt proves: data toggles equal USB 2.0's
+-- (8.6), over EVERY list of calls from an accepted start-up, of every endpoint but 0 that no call has allocated as an
+-- isochronous one
+use mathlib.Core.Bool.{Bool, false, not, _&&_, _||_}
 use mathlib.Core.List.{List, [], _∷_}
 use mathlib.Core.Path.{_≡_}
 use Prim.Native.Nat.{ℕ, _%_}

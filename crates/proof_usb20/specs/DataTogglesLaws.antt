@@ -1,5 +1,5 @@
 -- Laws on the definitions of DataToggles.antt
-use mathlib.Core.List.{List, [], _∷_}
+use mathlib.Core.List.{List, _∷_}
 use mathlib.Core.Logic.{_⊎_, inl, inr}
 use mathlib.Core.Path.{_≡_, refl, ap, subst, sym, _∙_}
 use Prim.Native.Nat.{ℕ, zero, _%_}
@@ -50,19 +50,23 @@ use Rattle.proof_usb20.specs.FollowLaws as follow
 use Rattle.proof_usb20.specs.Follow as following
 use Rattle.proof_usb20.specs.Follow.{seenOf, view, Follow}
 use Rattle.proof_usb20.specs.BesidesLaws.{aside-wakes}
-use Rattle.proof_book.specs.Code.{Made}
+use Rattle.proof_book.specs.Code.{CallRecord}
 use Rattle.proof_book.specs.CodeReadings.{Steps}
 use Rattle.proof_usb20.specs.CodeRuns.{CodeAll}
 use Rattle.proof_usb20.specs.CodeRunsLaws.{code-from-start}
-use Rattle.proof_usb20.specs.CalmLaws.{Off, Quiet, loose, q-resultless, q-bind, q-ret, q-write, q-wait, q-reg, q-int-en}
+use Rattle.proof_usb20.specs.CalmLaws.{Off, LeavesTrack, loose, q-resultless, q-bind, q-ret, q-write, q-wait}
+use Rattle.proof_usb20.specs.CalmLaws.{q-reg, q-int-en}
 use Rattle.proof_usb20.specs.ReadingLaws.{law-begin-read, law-poll-read, law-poll-write, law-begin-write}
 use Rattle.proof_usb20.specs.EnablingLaws.{law-set-enabled, WordLaw, leaves-any, leaves-enabled, leaves-stalled}
 use Rattle.proof_usb20.specs.EnablingLaws.{leaves-read, leaves-write, leaves-poll, among-all, never}
 use Rattle.proof_usb20.specs.OthersLaws.{law-bus-enable, law-bus-disable, law-microframe, law-is-stalled}
-use Rattle.proof_usb20.specs.OthersLaws.{law-set-paced, law-advance, law-aside, aside-view, law-setup, law-poll-setup}
-use Rattle.proof_usb20.specs.OthersLaws.{law-data-out, law-poll-data-out, law-data-in, law-poll-data-in, law-accept}
+use Rattle.proof_usb20.specs.OthersLaws.{law-set-paced, law-advance, law-aside, aside-view, law-setup}
+use Rattle.proof_usb20.specs.OthersLaws.{law-poll-setup}
+use Rattle.proof_usb20.specs.OthersLaws.{law-data-out, law-poll-data-out, law-data-in, law-poll-data-in}
+use Rattle.proof_usb20.specs.OthersLaws.{law-accept}
 use Rattle.proof_usb20.specs.OthersLaws.{law-accept-address, law-poll-accept, law-reject}
-use Rattle.proof_usb20.specs.RestartingLaws.{law-set-stalled, law-bus-poll, law-allocate, law-allocate-all, law-start}
+use Rattle.proof_usb20.specs.RestartingLaws.{law-set-stalled, law-bus-poll, law-allocate, law-allocate-all}
+use Rattle.proof_usb20.specs.RestartingLaws.{law-start}
 use Rattle.proof_usb20.specs.TokensLaws.{law-interrupt}
 use Rattle.proof_usb20.specs.AllocatedLaws as isochronous
 use Rattle.proof_usb20.specs.AllocatedLaws.{iso-made}
@@ -125,9 +129,10 @@ module _ (D : Dir) (E : ℕ) (z : (d : Dir) → Else D E d 0) where
   any (tree.ends a s) = ways.at-end tt
   any (tree.asks q s k) = ways.at-ask tt (λ v t _ _. any (k v t))
 
-  law-new : (c : Config) → Quiet D E false (Off D E) (calls .starts c)
+  law-new : (c : Config) → LeavesTrack D E false (Off D E) (calls .starts c)
   law-new c = q-resultless D E
-      (q-bind D E (q-write D E (q-ret D E)) (λ _. q-bind D E (q-wait D E (q-ret D E)) (λ _. q-bind D E (q-reg D E Ctrl 0 _)
+      (q-bind D E (q-write D E (q-ret D E)) (λ _. q-bind D E (q-wait D E (q-ret D E))
+      (λ _. q-bind D E (q-reg D E Ctrl 0 _)
       (λ _. q-bind D E (q-write D E (q-ret D E)) (λ _. q-bind D E (q-write D E (q-ret D E)) (λ _. q-int-en D E _))))))
 
   -- allocated as an isochronous one, or not, and then the record fits
@@ -157,7 +162,8 @@ module _ (D : Dir) (E : ℕ) (z : (d : Dir) → Else D E d 0) where
   new : (c : Config) (b : Buf)
       → Follow D E (λ _ _ s. Fitting (false, before) (view D E (s .0))) before (run concrete (calls .starts c)
       (driverOf .fresh c, b))
-  new c b = follow.follow-more D E (law-new c .goes before (driverOf .fresh c, b) (refl, λ _ _ _ _. refl) (loose D E (new-places c)))
+  new c b = follow.follow-more D E (law-new c .goes before (driverOf .fresh c, b) (refl, λ _ _ _ _. refl)
+      (loose D E (new-places c)))
       (λ _ _ s m. inr (
         ap (λ (y : EpSeen). isOn (y .iso)) (m .1)
             ∙ new-iso c,
@@ -168,13 +174,18 @@ module _ (D : Dir) (E : ℕ) (z : (d : Dir) → Else D E d 0) where
   last true x y = refl
   last false x y = refl
 
-  unlent : (o : Op) → calls .slots o ≡ true → (w : Track) (v : EpSeen) → Fits w v → Fits (log.closes D E o (Refused 1) (log.opens D E o w)) v
+  unlent : (o : Op) → calls .slots o ≡ true → (w : Track) (v : EpSeen) → Fits w v
+      → Fits (log.closes D E o (Refused 1) (log.opens D E o w)) v
   unlent interrupt h w v r = r
   unlent (slotted (SetEnabled d e on)) h w v r =
-      rw (last (log.own D E d e) (log.renewed D E (log.armsAt D E d on) (log.withPhase log.off w)) (log.withPhase log.off w)) r
-  unlent (slotted (PollRead e n)) h w v r = rw (last (log.own D E Out e) (log.taken D E (log.withPhase log.off w)) (log.withPhase log.off w)) r
-  unlent (slotted (BeginWrite e bs)) h w v r = rw (last (log.own D E In e) (log.loaded D E (log.withPhase log.off w)) (log.withPhase log.off w)) r
-  unlent (slotted (PollWrite e bs)) h w v r = rw (last (log.own D E In e) (log.taken D E (log.withPhase log.off w)) (log.withPhase log.off w)) r
+      rw (last (log.own D E d e) (log.renewed D E (log.armsAt D E d on) (log.withPhase log.off w))
+      (log.withPhase log.off w)) r
+  unlent (slotted (PollRead e n)) h w v r = rw (last (log.own D E Out e) (log.taken D E (log.withPhase log.off w))
+      (log.withPhase log.off w)) r
+  unlent (slotted (BeginWrite e bs)) h w v r = rw (last (log.own D E In e) (log.loaded D E (log.withPhase log.off w))
+      (log.withPhase log.off w)) r
+  unlent (slotted (PollWrite e bs)) h w v r = rw (last (log.own D E In e) (log.taken D E (log.withPhase log.off w))
+      (log.withPhase log.off w)) r
   unlent (slotted (PollDataOut n)) h w v r = r
   unlent (slotted (BeginDataIn bs first final)) h w v r = r
   unlent (other o) h w v r = differ h
@@ -262,7 +273,8 @@ data-toggles D E h c b row es m = from-start (toggles D E) (laws D E (not-ep0 D 
 -- of the Rattle code: any bytes, a start-up that rows 1 and 2 do not stop, and then any calls, each as its contract
 -- says
 pub code-data-toggles : (D : Dir) (E : ℕ) → (E % 16 ≡ 0 → ⊥) → (c : Config) (b : Buf) → startRow c b ≡ zero
-    → (xs : List ℕ) (a : Buf) (first : Made) → first .event ≡ record { call = start c; lent = b } → (ms : List Made)
+    → (xs : List ℕ) (a : Buf) (first : CallRecord) → first .event ≡ record { call = start c; lent = b }
+    → (ms : List CallRecord)
     → Steps xs a (first ∷ ms) → CodeAll (toggles D E) ms (startedBy (toggles D E) (first .answer))
 code-data-toggles D E h c b row xs a first e ms s =
     code-from-start (toggles D E) (laws D E (not-ep0 D E h)) c b row xs a first e ms s
@@ -284,7 +296,8 @@ module _ (D : Dir) (E : ℕ) (h : E % 16 ≡ 0 → ⊥) where
   word-law (slotted (PollWrite e bs)) = leaves-any D E (slotted (PollWrite e bs)) (λ _ _. tt)
   word-law (slotted (PollDataOut n)) = leaves-any D E (slotted (PollDataOut n)) (λ _ _. tt)
   word-law (slotted (BeginDataIn bs first last)) = leaves-any D E (slotted (BeginDataIn bs first last)) (λ _ _. tt)
-  word-law (other (Allocate d kind address maximum interval)) = leaves-any D E (other (Allocate d kind address maximum interval)) (λ _ _. tt)
+  word-law (other (Allocate d kind address maximum interval))
+      = leaves-any D E (other (Allocate d kind address maximum interval)) (λ _ _. tt)
   word-law (other (AllocateAll bytes)) = leaves-any D E (other (AllocateAll bytes)) (λ _ _. tt)
   word-law (other (Start maximum)) = leaves-any D E (other (Start maximum)) (λ _ _. tt)
   word-law (other BusPoll) = leaves-poll D E (among-all D E h)
@@ -382,7 +395,8 @@ module _ (D : Dir) (E : ℕ) (h : E % 16 ≡ 0 → ⊥) where
 -- packet, else on NAK; a begin_read that finds no packet there, and a begin_write, leave it on ACK. Whatever the chip
 -- answers
 pub code-control-words : (D : Dir) (E : ℕ) → (E % 16 ≡ 0 → ⊥) → (c : Config) (b : Buf) → startRow c b ≡ zero
-    → (xs : List ℕ) (a : Buf) (first : Made) → first .event ≡ record { call = start c; lent = b } → (ms : List Made)
+    → (xs : List ℕ) (a : Buf) (first : CallRecord) → first .event ≡ record { call = start c; lent = b }
+    → (ms : List CallRecord)
     → Steps xs a (first ∷ ms) → CodeAll (words D E) ms (startedBy (words D E) (first .answer))
 code-control-words D E h c b row xs a first e ms s = code-from-start (words D E)
     (word-laws D E h) c b row xs a first e ms s

@@ -94,7 +94,8 @@ module _ (w : Log) (b : Bool) (shown n : ℕ) (s : St) (k : Plainly s) where
       → Watch Between Any (Exactly-by (λ _. L w) (view (s .0))) (L w) (run concrete (nakNonIso {i = true} st) s)
   neither st h t e a c =
       watch-cond (outNaks st (concrete .get (ep-cell Out (endpoint st)) s))
-      (λ q. differ (sym (out-naks st (concrete .get (ep-cell Out (endpoint st)) s) t e h ∙ ap (λ (z : Bool). z && togOk st) a) ∙ q))
+      (λ q. differ (sym (out-naks st (concrete .get (ep-cell Out (endpoint st)) s) t e h
+      ∙ ap (λ (z : Bool). z && togOk st) a) ∙ q))
       (λ _. watch-cond (inNaks st (concrete .get (ep-cell In (endpoint st)) s))
       (λ q. differ (sym (in-naks st (concrete .get (ep-cell In (endpoint st)) s) t e (not-iso st h) ∙ c) ∙ q))
       (λ _. at-end unread))
@@ -204,7 +205,8 @@ retakes w s x b k = at-ask tt (λ m t _ i. watch-cond (sieFree m)
 
 iso-waits : (x : Transfer) (o : EpCore) → waitsForIso x o ≡ true → (x .busy ≡ true) × (isOn (o .iso) ≡ true)
 unfolding waitsForIso
-iso-waits x o h = let a = both (x .busy) (isOut (x .st) && isOn (o .iso)) h in (a .0, both (isOut (x .st)) (isOn (o .iso)) (a .1) .1)
+iso-waits x o h = let a = both (x .busy) (isOut (x .st) && isOn (o .iso)) h in
+    (a .0, both (isOut (x .st)) (isOn (o .iso)) (a .1) .1)
 
 bulk-waits : (x : Transfer) (n : EpCore) → waitsForBulk x n ≡ true
     → (x .busy ≡ true) × (eqb (endpoint (x .st)) 0 ≡ false)
@@ -232,14 +234,16 @@ settles v w s x k = by (eqb (endpoint (x .st)) 0) refl (x .busy) refl
     N = concrete .get (ep-cell In (endpoint (x .st))) s
 
     plain-out : eqb (endpoint (x .st)) 0 ≡ true → isOn (O .iso) ≡ false
-    plain-out h = ap (λ (e : ℕ). isOn (concrete .get (ep-cell Out e) s .iso)) (eqb-true (endpoint (x .st)) 0 h) ∙ k .plain Out
+    plain-out h = ap (λ (e : ℕ). isOn (concrete .get (ep-cell Out e) s .iso)) (eqb-true (endpoint (x .st)) 0 h)
+        ∙ k .plain Out
 
     by : (m : Bool) → eqb (endpoint (x .st)) 0 ≡ m → (b : Bool) → x .busy ≡ b
         → Watch Between Any (λ l y t. Settled w (view (s .0)) l y t) (entry v w x) (run concrete
         (settle {i = true} x) s)
     -- EP0, complete
     by true h false b =
-        watch-cond (waitsForIso x O) (λ q. differ (sym b ∙ iso-waits x O q .0)) (λ _. watch-cond (waitsForBulk x N) (λ q. differ (sym b ∙ bulk-waits x N q .0))
+        watch-cond (waitsForIso x O) (λ q. differ (sym b ∙ iso-waits x O q .0))
+        (λ _. watch-cond (waitsForBulk x N) (λ q. differ (sym b ∙ bulk-waits x N q .0))
         (λ _. watch-cond (x .busy) (λ q. differ (sym b ∙ q)) (λ _. at-end (mine h v (rw h refl) refl k))))
     -- EP0, busy
     by true h true b =
@@ -258,5 +262,6 @@ settles v w s x k = by (eqb (endpoint (x .st)) 0) refl (x .busy) refl
         (λ y _ t m. back (m .0) (at-ask tt (λ n o _ j. at-end (others h true n refl (j .0 ∙ m .1) (plainly (j .1)))))))
         (λ _. watch-cond (x .busy) (λ _. retakes w s x b k) (λ q. differ (sym q ∙ b)))))
     by false h false b = back (rw (h, b) refl) (
-        watch-cond (waitsForIso x O) (λ q. differ (sym b ∙ iso-waits x O q .0)) (λ _. watch-cond (waitsForBulk x N) (λ q. differ (sym b ∙ bulk-waits x N q .0))
+        watch-cond (waitsForIso x O) (λ q. differ (sym b ∙ iso-waits x O q .0))
+        (λ _. watch-cond (waitsForBulk x N) (λ q. differ (sym b ∙ bulk-waits x N q .0))
         (λ _. watch-cond (x .busy) (λ q. differ (sym b ∙ q)) (λ _. at-end (others h false (x .len) refl refl k)))))

@@ -20,9 +20,10 @@ use Rattle.script.specs.TogglesLaws.{number}
 use Rattle.script_ops.specs.Rings.{St}
 use Rattle.script_ops.specs.Concrete.{concrete}
 use Rattle.proof_book.specs.Sorting.{Sorting}
-use Rattle.proof_usb20.specs.Pipe.{Half, Pipe, dataReady, isReady, Awaited, nothing, taken, given, confirmed, Setting, keeps, sets}
+use Rattle.proof_usb20.specs.Pipe.{Half, Pipe, dataReady, isReady, Awaited, nothing, taken, given, confirmed}
+use Rattle.proof_usb20.specs.Pipe.{Setting, keeps, sets}
 use Rattle.proof_usb20.specs.Log.{Ep0Word, Request, no-request, for-setup, for-data-in, for-status, for-data-out}
-use Rattle.proof_usb20.specs.Log.{Log, Shows, saw, opens, closes, Fair, Allowed}
+use Rattle.proof_usb20.specs.Log.{Log, Shows, saw, opens, closes, EndsByReason, Allowed}
 use Rattle.proof_usb20.specs.Watch.{Along}
 
 pub record Rec : Type 0 where
@@ -130,7 +131,8 @@ R w x = Line (w .request) (w .started) (w .slot) (w .exempt) (w .rx) (w .tx) (w 
 -- ---- the law of a call
 
 -- every way through an outcome, as the log sees it
-abbrev pub Watch : (St → St → Type 0) → (Log → Access → Type 0) → {A : Type 0} → (Log → A → St → Type 0) → Log → tree.Out St A
+abbrev pub Watch : (St → St → Type 0) → (Log → Access → Type 0) → {A : Type 0} → (Log → A → St → Type 0) → Log
+    → tree.Out St A
     → Type 0
 Watch K Ok P w o = Along saw (λ _ _ _. Unit {0}) K Ok P w o
 
@@ -139,7 +141,7 @@ abbrev pub Between : St → St → Type 0
 Between s t = (view (t .0) ≡ view (s .0)) × Sorting (t .0) × (t .0 .wakes ≡ s .0 .wakes)
 
 abbrev pub Ends : Op → Log → Answer → St → Type 0
-Ends o w a s = R (closes o a w) (view (s .0)) × Fair o a w
+Ends o w a s = R (closes o a w) (view (s .0)) × EndsByReason o a w
 
 abbrev pub Law : Op → Type 0
 Law o = (w : Log) (s : St) → R w (view (s .0)) → Sorting (s .0)

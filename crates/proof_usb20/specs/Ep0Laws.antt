@@ -1,4 +1,5 @@
--- Laws on the definitions of Ep0.antt: no operation on rings, slots and wake-ups changes what the driver's state says of endpoint 0
+-- Laws on the definitions of Ep0.antt: no operation on rings, slots and wake-ups changes what the driver's state says
+-- of endpoint 0
 use mathlib.Core.Bool.{Bool, false}
 use mathlib.Core.Path.{_≡_, refl}
 use Prim.Native.Nat.{ℕ}
@@ -29,7 +30,8 @@ leaves-view p = λ i. record {
 }
 
 -- a change of one endpoint's record that keeps its flags
-pub record-view : (d : Driver) (dir : Dir) (e : ℕ) (r : EpState) → recOf r ≡ recOf (epOn d dir e) → view (withOn d dir e r) ≡ view d
+pub record-view : (d : Driver) (dir : Dir) (e : ℕ) (r : EpState) → recOf r ≡ recOf (epOn d dir e)
+    → view (withOn d dir e r) ≡ view d
 unfolding withOn
 record-view d dir e r h = leaves-view (record-leaves d dir e r h refl)
 

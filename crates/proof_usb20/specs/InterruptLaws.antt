@@ -7,7 +7,6 @@ use Prim.Native.Nat.{ℕ}
 use lib.Dec.{eqb}
 use Rattle.bits.specs.Walk.{setBits}
 use Rattle.regs.specs.declared.Access.the-variants.{Read}
-use Rattle.regs.specs.declared.Reg.{Reg}
 use Rattle.regs.specs.declared.Reg.the-variants.{EpRxCtrl, EpTxCtrl}
 use Rattle.regs.specs.declared.Dir.the-variants.{Out, In}
 use Rattle.regs.specs.declared.Dir.{Dir}
@@ -30,8 +29,8 @@ use Rattle.script_ops.specs.Rings.{St}
 use Rattle.script_ops.specs.Concrete.{concrete}
 use Rattle.proof_book.specs.TransferKindsLaws.{put-steady, act-steady}
 use Rattle.proof_usb20.specs.Pipe as pipe
-use Rattle.proof_usb20.specs.Pipe.{isReady, packet}
-use Rattle.proof_usb20.specs.Log.{Ep0Word, writtenAs, readAs, shownAs, Log, off, reads, compared, writes, withRx}
+use Rattle.proof_usb20.specs.Pipe.{packet}
+use Rattle.proof_usb20.specs.Log.{Ep0Word, writtenAs, readAs, Log, off, reads, compared, writes, withRx}
 use Rattle.proof_usb20.specs.Log.{withTx}
 use Rattle.proof_usb20.specs.Log.{withGot, withPhase, happens, ofToken}
 use Rattle.proof_usb20.specs.Watch.{at-end, at-ask}
@@ -41,7 +40,7 @@ use Rattle.proof_usb20.specs.ExemptLaws.{differ}
 use Rattle.proof_usb20.specs.ViewsLaws.{rec, setOut, setIn}
 use Rattle.proof_usb20.specs.Ep0Laws.{act-view}
 use Rattle.proof_usb20.specs.StagesLaws.{inWith, Whole, out-view, in-view, in-whole}
-use Rattle.proof_usb20.specs.QuietLaws.{Plainly, plainly, steadily, Any, Quiet, q-ret, q-bind, q-if, q-every}
+use Rattle.proof_usb20.specs.QuietLaws.{Plainly, plainly, steadily, Any, LeavesLog, q-ret, q-bind, q-if, q-every}
 use Rattle.proof_usb20.specs.PartsLaws.{q-got, q-when, q-sof, q-late, q-check, q-sof-arm, q-dispatch}
 use Rattle.proof_usb20.specs.EventsLaws.{completed, nakked, flipped, nakflipped, packet-out, packet-in, token-out}
 use Rattle.proof_usb20.specs.EventsLaws.{token-in}
@@ -131,12 +130,17 @@ back {P = P} {o = o} e x = subst (λ (y : Log). Watch Between Any P y o) (sym e)
 pub record Runs {i : Bool} {A : Type 0} (P : Log → A → St → Type 0) (p : Script i A) (w : Log) (s : St) : Type 0 where
   pub ok : Watch Between Any P w (run concrete p s)
 
-pub then-quiet : {i : Bool} {A B : Type 0} {p : Script i A} {f : A → Script i B} {P : Log → B → St → Type 0} {w : Log} {s : St}
-    → w .phase ≡ off → Plainly s → Quiet p
+pub then-quiet : {i : Bool} {A B : Type 0} {p : Script i A} {f : A → Script i B} {P : Log → B → St → Type 0} {w : Log}
+    {s : St}
+    → w .phase ≡ off → Plainly s → LeavesLog p
     → ((a : A) (t : St) → view (t .0) ≡ view (s .0) → Plainly t → Runs P (f a) w t) → Runs P (bind p f) w s
-then-quiet {w = w} {s = s} z k q g = record { ok = watch-bind (q .goes w s z k) (λ x a t l. back (l .0) (g a t (l .1) (l .2) .ok)) }
+then-quiet {w = w} {s = s} z k q g = record {
+  ok = watch-bind (q .goes w s z k)
+      (λ x a t l. back (l .0) (g a t (l .1) (l .2) .ok));
+}
 
-pub then : {i : Bool} {A B : Type 0} {p : Script i A} {f : A → Script i B} {Q : Log → A → St → Type 0} {P : Log → B → St → Type 0} {w : Log} {s : St}
+pub then : {i : Bool} {A B : Type 0} {p : Script i A} {f : A → Script i B} {Q : Log → A → St → Type 0}
+    {P : Log → B → St → Type 0} {w : Log} {s : St}
     → Runs Q p w s
     → ((x : Log) (a : A) (t : St) → Q x a t → Runs P (f a) x t) → Runs P (bind p f) w s
 then q g = record { ok = watch-bind (q .ok) (λ x a t l. g x a t l .ok) }
@@ -261,7 +265,8 @@ sent-in w s z = at-ask {q = Read EpTxCtrl 0} tt (λ v t _ k. at-ask tt (λ _ u _
     })))
 
 -- a hidden stage
-moved-on : (d : Dir) (w : Log) (s : St) → w .phase ≡ off → Plainly s → (m : Bool) → isOn (recOf d (view (s .0)) .armed) ≡ m
+moved-on : (d : Dir) (w : Log) (s : St) → w .phase ≡ off → Plainly s → (m : Bool) → isOn (recOf d (view (s .0)) .armed)
+    ≡ m
     → Watch Between Any (Exactly-by (λ v. withCtrl d (cond m (nakflipped v (ctrl d w)) (ctrl d w)) w)
     (cond m (setRec d (completed (recOf d (view (s .0)) .len)) (view (s .0))) (view (s .0)))) w
     (run concrete (movedOn {i = true} d) s)
@@ -287,18 +292,21 @@ servedAs tk x iso frame = do
 
 -- of another endpoint
 pub q-served : (tk : Token) (x : Transfer) (iso : Bool) (frame : ℕ) → eqb (endpoint (x .st)) 0 ≡ false
-    → Quiet (servedAs tk x iso frame)
+    → LeavesLog (servedAs tk x iso frame)
 q-served tk x iso frame h = q-bind (q-got globals-cell)
     (λ g. q-bind (q-when (q-sof frame))
-    (λ _. q-bind (q-when (q-every (λ g m. q-late frame (setBits (isoInEvery g)) m))) (λ _. q-bind (q-when (q-dispatch tk x iso frame h))
-    (λ _. q-bind (q-when (q-check x iso)) (λ _. q-if (eqb (endpoint (x .st)) 0) (λ z. differ (sym h ∙ z)) (λ _. q-ret))))))
+    (λ _. q-bind (q-when (q-every (λ g m. q-late frame (setBits (isoInEvery g)) m)))
+    (λ _. q-bind (q-when (q-dispatch tk x iso frame h))
+    (λ _. q-bind (q-when (q-check x iso)) (λ _. q-if (eqb (endpoint (x .st)) 0) (λ z. differ (sym h ∙ z))
+    (λ _. q-ret))))))
 
 -- what is known at its end
 abbrev pub Served : Bool → {A : Type 0} → Log → A → St → Type 0
 Served su x a t = R x (view (t .0)) × (view (t .0) .stage ≡ 2) × (x .setup-seen ≡ su) × (x .phase ≡ off)
 
 -- of EP0: what comes before the token's own part, that part, the checks, the token's sign of a hidden stage
-module _ (x : Transfer) (frame : ℕ) (mine : eqb (endpoint (x .st)) 0 ≡ true) (w : Log) (z : w .phase ≡ off) (s : St) (k : Plainly s) {su : Bool} where
+module _ (x : Transfer) (frame : ℕ) (mine : eqb (endpoint (x .st)) 0 ≡ true) (w : Log) (z : w .phase ≡ off) (s : St)
+    (k : Plainly s) {su : Bool} where
   framing : (tk : Token) (iso : Bool) (L : ℕ → Log) (v : View) → ((n : ℕ) → L n .phase ≡ off)
       → ((t : St) → view (t .0) ≡ view (s .0) → Plainly t → Runs {i = true} (Exactly-by L v) (when (not (x .busy))
       (dispatch tk x iso frame)) w t)
@@ -358,7 +366,8 @@ module _ (x : Transfer) (frame : ℕ) (mine : eqb (endpoint (x .st)) 0 ≡ true)
       let u = ofToken tok.Out false true (x .len) (withPhase off (withRx (nakked n (w .rx)) w)) in
       (framing x frame mine u refl s k tok.Out false (λ v. withRx (flipped v (u .rx)) u) (setOut (completed (x .len))
       (view (s .0))) (λ _. refl)
-      (λ t e l. made (watch-cond (not (x .busy)) (λ _. watch-cond (eqb (endpoint (x .st)) 0) (λ _. watch-cond (togOk (x .st))
+      (λ t e l. made (watch-cond (not (x .busy)) (λ _. watch-cond (eqb (endpoint (x .st)) 0)
+      (λ _. watch-cond (togOk (x .st))
       (λ _. watch-more (served-word Out flip (λ p. statics.completed (withLen (x .len) p)) (λ _. x .len) u t (λ _.
       (refl, refl)) (λ _. refl) refl)
       (λ _ _ _ m. record {
@@ -378,7 +387,8 @@ module _ (x : Transfer) (frame : ℕ) (mine : eqb (endpoint (x .st)) 0 ≡ true)
 
   -- the token OUT alone: a repeat, or a transaction that is not complete
   out-token : (busy ok : Bool) → not busy && ok ≡ false → x .busy ≡ busy → togOk (x .st) ≡ ok
-      → Watch Between Any (Served su) (happens (pipe.token Out) (withPhase off w)) (run concrete (servedAs tok.Out x false frame) s)
+      → Watch Between Any (Served su) (happens (pipe.token Out) (withPhase off w))
+      (run concrete (servedAs tok.Out x false frame) s)
   out-token busy ok none b o =
       let u = happens (pipe.token Out) (withPhase off w) in
       (framing x frame mine u refl s k tok.Out false (λ _. u) (view (s .0)) (λ _. refl)
@@ -420,7 +430,8 @@ module _ (x : Transfer) (frame : ℕ) (mine : eqb (endpoint (x .st)) 0 ≡ true)
       (r-in w (view (s .0)) n v (m .read) armedOut refl r) (same-stage armedOut _ _ two two) seen-su refl)))) .ok
 
   in-token : x .busy ≡ true
-      → Watch Between Any (Served su) (happens (pipe.token In) (withPhase off w)) (run concrete (servedAs tok.In x false frame) s)
+      → Watch Between Any (Served su) (happens (pipe.token In) (withPhase off w))
+      (run concrete (servedAs tok.In x false frame) s)
   in-token b =
       let u = happens (pipe.token In) (withPhase off w) in
       (framing x frame mine u refl s k tok.In false (λ _. u) (view (s .0)) (λ _. refl)
@@ -431,8 +442,8 @@ module _ (x : Transfer) (frame : ℕ) (mine : eqb (endpoint (x .st)) 0 ≡ true)
       (q .out .len)) q) q) e)
       (r-token-in w (view (s .0)) (m .read) armedOut refl r) (same-stage armedOut _ _ two two) seen-su refl)))) .ok
 
-  plain-token : (tk : Token) (iso : Bool) → Quiet {i = true} (dispatch tk x iso frame)
-      → Quiet {i = true} (ep0MovedOn tk)
+  plain-token : (tk : Token) (iso : Bool) → LeavesLog {i = true} (dispatch tk x iso frame)
+      → LeavesLog {i = true} (ep0MovedOn tk)
       → Watch Between Any (Served su) (withPhase off w) (run concrete (servedAs tk x iso frame) s)
   plain-token tk iso q p =
       (framing x frame mine (withPhase off w) refl s k tk iso (λ _. withPhase off w) (view (s .0)) (λ _. refl)

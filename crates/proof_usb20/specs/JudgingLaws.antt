@@ -21,7 +21,8 @@ use Rattle.script.specs.declared.Transfer.{Transfer}
 use Rattle.script.specs.Tree as tree
 use Rattle.script.specs.Cells.{EpCore, ep-cell}
 use Rattle.script.specs.Script.{run, when, waken, _>>=_, _>>_}
-use Rattle.script.specs.Statics.{modifyEp, wake, isOn, flag, withReady, withArmed, withTog, withLen, completed, modifyReg}
+use Rattle.script.specs.Statics.{modifyEp, wake, isOn, flag, withReady, withArmed, withTog, withLen, completed}
+use Rattle.script.specs.Statics.{modifyReg}
 use Rattle.script.specs.Every.{sameReg}
 use Rattle.script.specs.Handler.{repeated, toggled, outArm, inArm}
 use Rattle.script.specs.TogglesLaws.{number}
@@ -30,12 +31,14 @@ use Rattle.script_ops.specs.Rings.{St}
 use Rattle.script_ops.specs.Concrete.{concrete}
 use Rattle.proof_book.specs.TransferKindsLaws.{act-steady}
 use Rattle.proof_usb20.specs.ExemptLaws.{differ}
-use Rattle.proof_usb20.specs.Sequence.{Track, off, due, owes, withPhase, own, shown, lengthOf, judged, acksAs, howOften, reads, saw}
+use Rattle.proof_usb20.specs.Sequence.{Track, off, due, owes, withPhase, own, shown, lengthOf, judged, acksAs}
+use Rattle.proof_usb20.specs.Sequence.{howOften, reads, saw}
 use Rattle.proof_usb20.specs.FollowLaws as follow
 use Rattle.proof_usb20.specs.Follow.{EpSeen, Fits, view, Follow}
 use Rattle.proof_usb20.specs.Watch.{at-end, at-ask}
 use Rattle.proof_usb20.specs.FollowLaws.{act-view}
-use Rattle.proof_usb20.specs.CalmLaws.{Whole, Idle, CalmKept, Hears, kept-by, hears-same, hears-then, heard, put-kept, put-hears, q-looks}
+use Rattle.proof_usb20.specs.CalmLaws.{Whole, Idle, CalmKept, Hears, kept-by, hears-same, hears-then, heard}
+use Rattle.proof_usb20.specs.CalmLaws.{put-kept, put-hears, q-looks}
 use Rattle.proof_usb20.specs.WokenLaws.{woken-room, woken-own}
 use Rattle.proof_usb20.specs.ReadingLaws.{Own, own-true, got, changed, fits-2}
 
@@ -75,7 +78,15 @@ acks : (v : ℕ) → acksAs v (ack v) ≡ true
 acks v = rw (ack-acks v, ack-keeps v) (eq-eqb (toggle v) (toggle v) refl)
 
 abbrev pub newly : Dir → ℕ → ℕ → Track → Track
-newly D v k w = record { bit = shown v; through = true; len = lengthOf D k (w .len); armed = false; new = true; phase = off }
+newly D v k w = record {
+  bit = shown v;
+  through = true;
+  len = lengthOf D k (w .len);
+  armed = false;
+  new = true;
+  phase
+      = off;
+}
 
 module _ (D : Dir) (E : ℕ) where
   -- what `toggled` leaves: the same bit, or another and that recorded
@@ -114,7 +125,8 @@ module _ (D : Dir) (E : ℕ) where
     -- a repeat: acknowledged again where a packet is waited for
     again : (s t : St) (v : ℕ) (b : Bool) → isOn (concrete .get (ep-cell D e) t .armed) ≡ b
         → view D E (t .0) ≡ view D E (s .0) → CalmKept D E true t → Hears D E true s t
-        → Follow D E (λ y _ u. (y ≡ withPhase off w) × (view D E (u .0) ≡ view D E (s .0)) × CalmKept D E true u × Hears D E true s u)
+        → Follow D E (λ y _ u. (y ≡ withPhase off w) × (view D E (u .0) ≡ view D E (s .0)) × CalmKept D E true u
+        × Hears D E true s u)
         (withPhase (cond b (owes v) off) w)
         (run {i = true} concrete (when (isOn (concrete .get (ep-cell D e) t .armed)) (modifyReg (ctrlOf D) e ack)) t)
     again s t v true h z l f = follow.follow-cond D E (isOn (concrete .get (ep-cell D e) t .armed))
@@ -125,12 +137,14 @@ module _ (D : Dir) (E : ℕ) where
         let ha : Hears D E true u a = hears-same D E {s = u} {t = a} (q .2) in
         at-end (refl, q .0 ∙ (p .0 ∙ z), ka, hears-then D E f (hears-then D E hu ha)))))))
         (λ q. differ (sym q ∙ h))
-    again s t v false h z l f = follow.follow-cond D E (isOn (concrete .get (ep-cell D e) t .armed)) (λ q. differ (sym h ∙ q)) (λ _. at-end (refl, z, l, f))
+    again s t v false h z l f = follow.follow-cond D E (isOn (concrete .get (ep-cell D e) t .armed))
+        (λ q. differ (sym h ∙ q)) (λ _. at-end (refl, z, l, f))
 
     pub toggles-own : (s : St) → CalmKept D E true s → Fits w (view D E (s .0)) → eqb (s .0 .globals .stage) 2 ≡ true
         → Follow D E (Told s w k) (withPhase (due k) w) (run concrete (toggled {i = true} D e) s)
     unfolding repeated withOn isOn
-    toggles-own s l r two = follow.follow-bind D E ((q-looks D E) 2001 .goes (withPhase (due k) w) s (due-idle k w, λ _ _ _ _. refl) l)
+    toggles-own s l r two = follow.follow-bind D E ((q-looks D E) 2001 .goes (withPhase (due k) w) s
+        (due-idle k w, λ _ _ _ _. refl) l)
         (λ y _ a m. back D E (m .0) (at-ask tt (λ v t _ p.
         let z : view D E (t .0) ≡ view D E (s .0) = p .0 ∙ m .1 in
         let q : Own D E D e = own-true D E D e o in
@@ -139,19 +153,24 @@ module _ (D : Dir) (E : ℕ) where
         let hs : Hears D E true s t = hears-then D E (m .3) at in
         let g : repeated (concrete .get (ep-cell D e) t) v
         ≡ same (w .bit) (shown v) = ap (λ (x : EpCore). eqb (x .tog) (flag (isData1 v))) (got D E D e t q)
-        ∙ (ap (λ (x : EpSeen). eqb (x .tog) (flag (isData1 v))) z ∙ (ap (λ n. eqb n (flag (isData1 v))) (r .tog) ∙ agree (w .bit) v)) in
+        ∙ (ap (λ (x : EpSeen). eqb (x .tog) (flag (isData1 v))) z
+        ∙ (ap (λ n. eqb n (flag (isData1 v))) (r .tog) ∙ agree (w .bit) v)) in
         let st2 : eqb (t .0 .globals .stage) 2 ≡ true = ap (λ (x : EpSeen). eqb (x .stage) 2) z ∙ two in
         let ar : isOn (concrete .get (ep-cell D e) t .armed) ≡ w .armed =
         ap (λ (x : EpCore). isOn (x .armed)) (got D E D e t q) ∙ (ap (λ (x : EpSeen). isOn (x .armed)) z ∙ r .armed) in
         back D E (read-word v) (follow.follow-cond D E (repeated (concrete .get (ep-cell D e) t) v)
-        (λ h. back D E (same-bit v (w .armed) refl (sym g ∙ h)) (follow.follow-bind D E (again s t v (w .armed) ar z kt hs)
-        (λ y _ u x. at-end (repeat refl (x .0) (subst (Fits w) (sym (x .1)) r) (x .2) (ap (λ (x : EpSeen). eqb (x .stage) 2) (x .1) ∙ two) (x .3)))))
+        (λ h. back D E (same-bit v (w .armed) refl (sym g ∙ h))
+        (follow.follow-bind D E (again s t v (w .armed) ar z kt hs)
+        (λ y _ u x. at-end (repeat refl (x .0) (subst (Fits w) (sym (x .1)) r) (x .2)
+        (ap (λ (x : EpSeen). eqb (x .stage) 2) (x .1) ∙ two) (x .3)))))
         (λ h. back D E (other-bit v (sym g ∙ h))
         (let f : EpCore → EpCore = λ p. withArmed 0 (withTog (flag (isData1 v)) p) in
         let c = changed D E D e f t q (kt .whole) in
         at-end
-        (new v refl refl (ap (λ (x : EpSeen). x .tog) c ∙ numbers v) (ap (λ (x : EpSeen). x .len) (c) ∙ (ap (λ (x : EpSeen). x .len) z ∙ r .len))
-        (ap (λ (x : EpSeen). isOn (x .armed)) c) (put-kept D E (ep-cell D e) (f (concrete .get (ep-cell D e) t)) t kt) st2
+        (new v refl refl (ap (λ (x : EpSeen). x .tog) c ∙ numbers v) (ap (λ (x : EpSeen). x .len) (c)
+        ∙ (ap (λ (x : EpSeen). x .len) z ∙ r .len))
+        (ap (λ (x : EpSeen). isOn (x .armed)) c) (put-kept D E (ep-cell D e) (f (concrete .get (ep-cell D e) t)) t kt)
+        st2
         (hears-then D E hs (put-hears D E (ep-cell D e) (f (concrete .get (ep-cell D e) t)) t)))))))))
 
 -- ---- the arms
@@ -161,7 +180,8 @@ abbrev pub Heard : (D : Dir) (E : ℕ) → Track → St → Type 0
 Heard D E y t = (64 ≤ t .0 .wakes .count) ⊎ (heard D E t ≡ flag (y .new))
 
 abbrev pub Done : (D : Dir) (E : ℕ) → {A : Type 0} → Track → A → St → Type 0
-Done D E y _ t = (y .phase ≡ off) × Fits y (view D E (t .0)) × CalmKept D E true t × (eqb (t .0 .globals .stage) 2 ≡ true) × Heard D E y t
+Done D E y _ t = (y .phase ≡ off) × Fits y (view D E (t .0)) × CalmKept D E true t
+    × (eqb (t .0 .globals .stage) 2 ≡ true) × Heard D E y t
 
 pub done-as : (D : Dir) (E : ℕ) (y z : Track) (t : St) → y ≡ z → z .phase ≡ off → Fits z (view D E (t .0))
     → CalmKept D E true t → eqb (t .0 .globals .stage) 2 ≡ true → Heard D E z t → Done D E {A = Unit {0}} y tt t
@@ -189,21 +209,29 @@ module _ (D : Dir) (E e : ℕ) (o : Own D E D e) (u : St) (l : CalmKept D E true
   unfolding epOn
   woken-kept = record {
     whole = act-steady (waken (wakeCode D e ∷ [])) refl u .places ∙ l .whole;
-    sorts = λ h. record { flags = λ dir e. refl; outs = λ e n g. l .sorts h .outs e n g; every = λ e n g. l .sorts h .every e n g };
+    sorts = λ h. record {
+      flags = λ dir e. refl;
+      outs = λ e n g. l .sorts h .outs e n g;
+      every
+          = λ e n g. l .sorts h .every e n g;
+    };
     plain = λ h. l .plain h;
     room = λ h. woken-room (wakeCode D e) (u .0 .wakes) (l .room h);
   }
 
-  woken-heard : (y : Track) → y .new ≡ true → heard D E u ≡ 0 → Heard D E y (concrete .act (waken (wakeCode D e ∷ [])) u)
+  woken-heard : (y : Track) → y .new ≡ true → heard D E u ≡ 0
+      → Heard D E y (concrete .act (waken (wakeCode D e ∷ [])) u)
   woken-heard y n h = by (woken-own (wakeCode D E) (wakeCode D e) (u .0 .wakes) (l .room refl) (code-own D E e o))
     where
-      by : (64 ≤ woken (wakeCode D e) (u .0 .wakes) .count) ⊎ (howOften (wakeCode D E) (listed (woken (wakeCode D e) (u .0 .wakes))) ≡ heard D E u + 1)
+      by : (64 ≤ woken (wakeCode D e) (u .0 .wakes) .count)
+          ⊎ (howOften (wakeCode D E) (listed (woken (wakeCode D e) (u .0 .wakes))) ≡ heard D E u + 1)
           → Heard D E y (concrete .act (waken (wakeCode D e ∷ [])) u)
       by (inl f) = inl f
       by (inr f) = inr (f ∙ (ap (λ k. k + 1) h ∙ sym (ap flag n)))
 
 -- once the toggle has told: of a new packet the record is completed by f, and its task is woken
-module _ (D : Dir) (E e k : ℕ) (o : own D E D e ≡ true) (w : Track) (s : St) (quiet : w .new ≡ false) (none : heard D E s ≡ 0) where
+module _ (D : Dir) (E e k : ℕ) (o : own D E D e ≡ true) (w : Track) (s : St) (quiet : w .new ≡ false)
+    (none : heard D E s ≡ 0) where
   finishes : (f : EpCore → EpCore)
       → ((v : ℕ) (t : St) → Whole t → epOn (t .0) D E .tog ≡ number (shown v) → epOn (t .0) D E .len ≡ w .len
       → isOn (epOn (t .0) D E .armed) ≡ false → eqb (t .0 .globals .stage) 2 ≡ true
@@ -214,7 +242,8 @@ module _ (D : Dir) (E e k : ℕ) (o : own D E D e ≡ true) (w : Track) (s : St)
         wake D e)) t)
   unfolding withOn isOn
   finishes f fits y b t (repeat h p g l two m) = follow.follow-cond D E b (λ z. differ (sym h ∙ z))
-      (λ _. at-end (done-as D E y (withPhase off w) t p refl g l two (inr (m .same refl ∙ (none ∙ sym (ap flag quiet))))))
+      (λ _. at-end (done-as D E y (withPhase off w) t p refl g l two
+      (inr (m .same refl ∙ (none ∙ sym (ap flag quiet))))))
   finishes f fits y b t (new v h p g n a l two m) = follow.follow-cond D E b
       (λ _.
       let q = own-true D E D e o in
@@ -223,8 +252,10 @@ module _ (D : Dir) (E e k : ℕ) (o : own D E D e ≡ true) (w : Track) (s : St)
       let i = waken (wakeCode D e ∷ []) in
       let ku = put-kept D E (ep-cell D e) r t l in
       at-end (done-as D E y (newly D v k w) (concrete .act i u) p refl
-      (subst (Fits (newly D v k w)) (sym (act-view D E i refl u)) (fits v t (l .whole) g n a two)) (woken-kept D E e q u ku) two
-      (woken-heard D E e q u ku (newly D v k w) refl (put-hears D E {m = true} (ep-cell D e) r t .same refl ∙ (m .same refl ∙ none)))))
+      (subst (Fits (newly D v k w)) (sym (act-view D E i refl u)) (fits v t (l .whole) g n a two))
+      (woken-kept D E e q u ku) two
+      (woken-heard D E e q u ku (newly D v k w) refl (put-hears D E {m = true} (ep-cell D e) r t .same refl
+      ∙ (m .same refl ∙ none)))))
       (λ z. differ (sym z ∙ h))
 
 pub arm-out : (E : ℕ) (x : Transfer) (k : ℕ) (w : Track) (s : St) → w .new ≡ false → heard Out E s ≡ 0
@@ -232,11 +263,13 @@ pub arm-out : (E : ℕ) (x : Transfer) (k : ℕ) (w : Track) (s : St) → w .new
     → CalmKept Out E true s → Fits w (view Out E (s .0)) → eqb (s .0 .globals .stage) 2 ≡ true
     → Follow Out E (Done Out E) (withPhase (due k) w) (run concrete (outArm {i = true} x false) s)
 unfolding isOn
-arm-out E x k w s quiet none o nz e l r two = follow.follow-cond Out E (eqb (endpoint (x .st)) 0) (λ z. differ (sym nz ∙ z))
+arm-out E x k w s quiet none o nz e l r two = follow.follow-cond Out E (eqb (endpoint (x .st)) 0)
+    (λ z. differ (sym nz ∙ z))
     (λ _. follow.follow-bind Out E (toggles-own Out E (endpoint (x .st)) k w o s l r two)
     (finishes Out E (endpoint (x .st)) k o w s quiet none (λ p. completed (withLen (x .len) p)) (λ v t u g n a two.
     subst (Fits (newly Out v k w))
-    (sym (changed Out E Out (endpoint (x .st)) (λ p. completed (withLen (x .len) p)) t (own-true Out E Out (endpoint (x .st)) o) u))
+    (sym (changed Out E Out (endpoint (x .st)) (λ p. completed (withLen (x .len) p)) t
+    (own-true Out E Out (endpoint (x .st)) o) u))
     (fits-2 Out E two g refl e refl))))
 
 pub arm-in : (E : ℕ) (x : Transfer) (frame k : ℕ) (w : Track) (s : St) → w .new ≡ false → heard In E s ≡ 0
@@ -244,7 +277,9 @@ pub arm-in : (E : ℕ) (x : Transfer) (frame k : ℕ) (w : Track) (s : St) → w
     → Fits w (view In E (s .0)) → eqb (s .0 .globals .stage) 2 ≡ true
     → Follow In E (Done In E) (withPhase (due k) w) (run concrete (inArm {i = true} x false frame) s)
 unfolding isOn
-arm-in E x frame k w s quiet none o nz e l r two = follow.follow-cond In E (eqb (endpoint (x .st)) 0) (λ z. differ (sym nz ∙ z))
+arm-in E x frame k w s quiet none o nz e l r two = follow.follow-cond In E (eqb (endpoint (x .st)) 0)
+    (λ z. differ (sym nz ∙ z))
     (λ _. follow.follow-bind In E (toggles-own In E (endpoint (x .st)) k w o s l r two)
     (finishes In E (endpoint (x .st)) k o w s quiet none (withReady 1) (λ v t u g n a two. subst (Fits (newly In v k w))
-    (sym (changed In E In (endpoint (x .st)) (withReady 1) t (own-true In E In (endpoint (x .st)) o) u)) (fits-2 In E two g refl n a))))
+    (sym (changed In E In (endpoint (x .st)) (withReady 1) t (own-true In E In (endpoint (x .st)) o) u))
+    (fits-2 In E two g refl n a))))

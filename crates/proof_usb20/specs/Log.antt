@@ -109,7 +109,8 @@ abbrev unwritten : Ep0Word
 unwritten = record { last = 0; read-back = false; in-step = false }
 
 abbrev pub before : Log
-before = logOf unwritten unwritten 0 0 0 [] (record { out = renewed; inn = renewed; size = 0 }) nothing false true false no-request
+before = logOf unwritten unwritten 0 0 0 [] (record { out = renewed; inn = renewed; size = 0 }) nothing false true false
+    no-request
     off false keeps
 
 -- EP0's words, and its lengths
@@ -524,35 +525,36 @@ GivesPacket NotYet w = Unit {0}
 GivesPacket (Done bytes) w = w .exempt ≡ false → bytes ≡ bytesAt (w .lent) (w .slot) (w .got)
 GivesPacket (Shown bytes stamp) w = Unit {0}
 
-abbrev pub FairSlotted : Slotted → Answer → Log → Type 0
-FairSlotted (SetEnabled d e on) a w = Unit {0}
-FairSlotted (PollRead e n) a w = Unit {0}
-FairSlotted (BeginWrite e bs) a w = Unit {0}
-FairSlotted (PollWrite e bs) a w = Unit {0}
-FairSlotted (PollDataOut n) a w = Unfinished pollOut true (TooLong n w) a w × Completes pollOut a w × GivesPacket a w
-FairSlotted (BeginDataIn bs first last) a w = Begins true (Untaken true w) (Above64 (length bs)) a w
+abbrev pub SlottedEndsByReason : Slotted → Answer → Log → Type 0
+SlottedEndsByReason (SetEnabled d e on) a w = Unit {0}
+SlottedEndsByReason (PollRead e n) a w = Unit {0}
+SlottedEndsByReason (BeginWrite e bs) a w = Unit {0}
+SlottedEndsByReason (PollWrite e bs) a w = Unit {0}
+SlottedEndsByReason (PollDataOut n) a w = Unfinished pollOut true (TooLong n w) a w × Completes pollOut a w
+    × GivesPacket a w
+SlottedEndsByReason (BeginDataIn bs first last) a w = Begins true (Untaken true w) (Above64 (length bs)) a w
 
-abbrev pub FairOther : Other → Answer → Log → Type 0
-FairOther (Allocate d kind address maximum interval) a w = Unit {0}
-FairOther (AllocateAll bytes) a w = Unit {0}
-FairOther (Start maximum) a w = Unit {0}
-FairOther BusPoll a w = Unit {0}
-FairOther BusEnable a w = Unit {0}
-FairOther BusDisable a w = Unit {0}
-FairOther Microframe a w = Unit {0}
-FairOther (SetStalled d e on) a w = Unit {0}
-FairOther (IsStalled d e) a w = Unit {0}
-FairOther (SetPaced e on) a w = Unit {0}
-FairOther (Advance e) a w = Unit {0}
-FairOther (BeginRead e n) a w = Unit {0}
-FairOther BeginSetup a w = Begins false ⊥ ⊥ a w
-FairOther PollSetup a w = GivesSetup a w
-FairOther PollDataIn a w = Unfinished pollIn false (NotEmpty w) a w × Completes pollIn a w
-FairOther BeginAccept a w = Begins false (Untaken true w) ⊥ a w
-FairOther PollAccept a w = Unfinished pollStatus false ⊥ a w × Completes pollStatus a w × Wrote a w
-FairOther BeginReject a w = Begins false ⊥ ⊥ a w
-FairOther (BeginDataOut m first) a w = Begins false (Untaken true w) (Above64 m) a w
-FairOther (BeginAcceptSetAddress b) a w = Begins false (Untaken true w) ⊥ a w
+abbrev pub OtherEndsByReason : Other → Answer → Log → Type 0
+OtherEndsByReason (Allocate d kind address maximum interval) a w = Unit {0}
+OtherEndsByReason (AllocateAll bytes) a w = Unit {0}
+OtherEndsByReason (Start maximum) a w = Unit {0}
+OtherEndsByReason BusPoll a w = Unit {0}
+OtherEndsByReason BusEnable a w = Unit {0}
+OtherEndsByReason BusDisable a w = Unit {0}
+OtherEndsByReason Microframe a w = Unit {0}
+OtherEndsByReason (SetStalled d e on) a w = Unit {0}
+OtherEndsByReason (IsStalled d e) a w = Unit {0}
+OtherEndsByReason (SetPaced e on) a w = Unit {0}
+OtherEndsByReason (Advance e) a w = Unit {0}
+OtherEndsByReason (BeginRead e n) a w = Unit {0}
+OtherEndsByReason BeginSetup a w = Begins false ⊥ ⊥ a w
+OtherEndsByReason PollSetup a w = GivesSetup a w
+OtherEndsByReason PollDataIn a w = Unfinished pollIn false (NotEmpty w) a w × Completes pollIn a w
+OtherEndsByReason BeginAccept a w = Begins false (Untaken true w) ⊥ a w
+OtherEndsByReason PollAccept a w = Unfinished pollStatus false ⊥ a w × Completes pollStatus a w × Wrote a w
+OtherEndsByReason BeginReject a w = Begins false ⊥ ⊥ a w
+OtherEndsByReason (BeginDataOut m first) a w = Begins false (Untaken true w) (Above64 m) a w
+OtherEndsByReason (BeginAcceptSetAddress b) a w = Begins false (Untaken true w) ⊥ a w
 
 -- an interrupt that ends has read its flags; with the transfer flag, whether the bus is free, the status and the frame
 abbrev pub Looked : Answer → Log → Type 0
@@ -562,11 +564,11 @@ Looked NotYet w = Unit {0}
 Looked (Done bytes) w = Unit {0}
 Looked (Shown bytes stamp) w = Unit {0}
 
-abbrev pub Fair : Op → Answer → Log → Type 0
-Fair interrupt a w = Looked a w
-Fair (slotted o) a w = FairSlotted o a w
-Fair (other o) a w = FairOther o a w
-Fair (aside o) a w = Unit {0}
+abbrev pub EndsByReason : Op → Answer → Log → Type 0
+EndsByReason interrupt a w = Looked a w
+EndsByReason (slotted o) a w = SlottedEndsByReason o a w
+EndsByReason (other o) a w = OtherEndsByReason o a w
+EndsByReason (aside o) a w = Unit {0}
 
 -- the address of the Set Address that was accepted
 abbrev pub Accepted : Awaited → ℕ → Type 0

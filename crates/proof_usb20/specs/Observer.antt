@@ -8,8 +8,9 @@ use Rattle.regs.specs.declared.Access.{Access}
 use Rattle.state.specs.Driver.{Driver}
 use Rattle.script.specs.Answers.{Answer}
 use Rattle.script.specs.Calls.{Config, Op, startRow}
-use Rattle.script.specs.Machine.{Buf, Call, start, begin, go, question, Event, Ans, ended, handed, told, Way, idle, busy, Machine}
-use Rattle.machine.specs.Suspended.{driverOf, drive}
+use Rattle.script.specs.Machine.{Buf, Call, start, begin, continue, question, Event, Ans, ended, handed, told, Pending}
+use Rattle.script.specs.Machine.{idle, busy, Machine}
+use Rattle.machine.specs.Suspended.{drive}
 
 pub record Observer : Type 1 where
   pub Log : Type 0
@@ -32,7 +33,7 @@ pub data Under : Type 0 where
   doing : Op → Access → Under  -- an operation, at an access
   starting : Under
 
-abbrev pub serves : Way Answer Driver → Bool
+abbrev pub serves : Pending Answer Driver → Bool
 serves idle = false
 serves (busy i a k) = true
 
@@ -84,7 +85,7 @@ module _ (O : Observer) where
   abbrev pub noted : Call Config Op → Buf → Ans Answer → Bool → Watched → Watched
   noted (start c) b a still x = startsBy (startRow c b) a x
   noted (begin o) b a still x = beginsBy o b a (x .log) (x .under)
-  noted (go v) b a still x = wentOn v a still (x .log) (x .under)
+  noted (continue v) b a still x = wentOn v a still (x .log) (x .under)
   noted (question q) b a still x = x
 
   -- ---- what is claimed of a call
@@ -110,7 +111,7 @@ module _ (O : Observer) where
   abbrev pub Claim : Call Config Op → Buf → Ans Answer → Bool → Watched → Type 0
   Claim (start c) b a still x = Unit {0}
   Claim (begin o) b a still x = ClaimBegun o b a (x .log) (x .under)
-  Claim (go v) b a still x = ClaimGone v a still (x .log) (x .under)
+  Claim (continue v) b a still x = ClaimGone v a still (x .log) (x .under)
   Claim (question q) b a still x = Unit {0}
 
   -- where nothing is under way
@@ -125,6 +126,6 @@ module _ (O : Observer) where
   All [] m x = Unit {0}
   All (e ∷ es) m x =
       let y = drive (e .call) m (e .lent) in
-      let z = noted (e .call) (e .lent) (y .0) (serves (y .1 .way)) x in
-      Claim (e .call) (e .lent) (y .0) (serves (y .1 .way)) x × Standing (y .1 .st) (z .log) (z .under)
+      let z = noted (e .call) (e .lent) (y .0) (serves (y .1 .under-way)) x in
+      Claim (e .call) (e .lent) (y .0) (serves (y .1 .under-way)) x × Standing (y .1 .st) (z .log) (z .under)
       × All es (y .1) z

@@ -13,16 +13,14 @@ use Rattle.regs.specs.declared.Dir.the-variants.{Out, In}
 use Rattle.regs.specs.Registers.{ctrlOf}
 use Rattle.regs.specs.ControlWord.{toggle, ack, isData1}
 use Rattle.regs.specs.MisStatus.{sieFree}
-use Rattle.regs.specs.Status.{endpoint}
 use Rattle.state.specs.Wakes.{Wakes, wakeCode, all-woken}
 use Rattle.state.specs.Driver.{epOn, withOn}
-use Rattle.script.specs.declared.Transfer.{Transfer}
 use Rattle.state.specs.declared.EpState.{EpState}
 use Rattle.script.specs.Tree as tree
 use Rattle.script.specs.Cells.{EpCore, ep-cell}
 use Rattle.script.specs.Script.{when, run, waken, _>>=_, _>>_}
 use Rattle.script.specs.Statics.{modifyEp, wake, isOn, flag, withArmed, withTog, withLen, withReady, completed}
-use Rattle.script.specs.Handler.{looks, repeated, verdict, toggled, outArm, inArm}
+use Rattle.script.specs.Handler.{looks, repeated, verdict, toggled}
 use Rattle.script.specs.Every.{Every, at-end, at-ask}
 use Rattle.script.specs.EveryLaws.{every-bind, every-cond}
 use Rattle.script.specs.Usb20Toggles.{Pid, DATA0, DATA1, Transaction, bitAfterAll, passed}
@@ -42,8 +40,10 @@ delivered In p n r = withReady 1 (withArmed 0 (withTog (number p) r))
 
 -- what becomes of the endpoint's record r, with the wake-ups ws before; `true`: a new packet
 abbrev pub Passed : Dir → ℕ → EpCore → Wakes → Pid → ℕ → Bool → List Access → St → Type 0
-Passed d e r k p n true ws t = (concrete .get (ep-cell d e) t ≡ delivered d p n r) × (t .0 .wakes ≡ all-woken (wakeCode d e ∷ []) k) × (ws ≡ [])
-Passed d e r k p n false ws t = (concrete .get (ep-cell d e) t ≡ r) × (t .0 .wakes ≡ k) × Answered d e p (isOn (r .armed)) ws
+Passed d e r k p n true ws t = (concrete .get (ep-cell d e) t ≡ delivered d p n r)
+    × (t .0 .wakes ≡ all-woken (wakeCode d e ∷ []) k) × (ws ≡ [])
+Passed d e r k p n false ws t = (concrete .get (ep-cell d e) t ≡ r) × (t .0 .wakes ≡ k)
+    × Answered d e p (isOn (r .armed)) ws
 
 -- between two accesses the record, the wake-ups and the records' places stay: so do open, close and queue leave them
 abbrev pub Stay : Dir → ℕ → Wakes → St → St → Type 0
@@ -56,10 +56,12 @@ module _ (d : Dir) (e : ℕ) (r : EpCore) (k : Wakes) (p : Pid) where
   abbrev Same : St → Type 0
   Same t = (concrete .get (ep-cell d e) t ≡ r) × (Whole t × (t .0 .wakes ≡ k))
 
-  looked : (i : Bool) (n : ℕ) (s : St) → Same s → Runs (λ ws _ t. (ws ≡ []) × Same t) [] (run concrete (looks {i = i} n) s)
+  looked : (i : Bool) (n : ℕ) (s : St) → Same s → Runs (λ ws _ t. (ws ≡ []) × Same t) []
+      (run concrete (looks {i = i} n) s)
   unfolding looks
   looked i zero s h = at-end (refl, h)
-  looked i (suc n) s h = at-ask tt (λ v t _ q. every-cond (sieFree v) (λ _. at-end (refl, (q .0 ∙ h .0, q .1))) (λ _. looked i n t (q .0 ∙ h .0, q .1)))
+  looked i (suc n) s h = at-ask tt (λ v t _ q. every-cond (sieFree v) (λ _. at-end (refl, (q .0 ∙ h .0, q .1)))
+      (λ _. looked i n t (q .0 ∙ h .0, q .1)))
 
   put-get : (v : EpCore) (s : St) → Whole s → plainOf (merged (epOn (s .0) d e) v) ≡ v
       → concrete .get (ep-cell d e) (concrete .put (ep-cell d e) v s) ≡ v
@@ -67,8 +69,10 @@ module _ (d : Dir) (e : ℕ) (r : EpCore) (k : Wakes) (p : Pid) where
 
   -- what `toggled` leaves
   abbrev Judged : Bool → List Access → Bool → St → Type 0
-  Judged true ws b t = (b ≡ true) × (concrete .get (ep-cell d e) t ≡ withArmed 0 (withTog (number p) r)) × (ws ≡ []) × Whole t × (t .0 .wakes ≡ k)
-  Judged false ws b t = (b ≡ false) × (concrete .get (ep-cell d e) t ≡ r) × Answered d e p (isOn (r .armed)) ws × (t .0 .wakes ≡ k)
+  Judged true ws b t = (b ≡ true) × (concrete .get (ep-cell d e) t ≡ withArmed 0 (withTog (number p) r)) × (ws ≡ [])
+      × Whole t × (t .0 .wakes ≡ k)
+  Judged false ws b t = (b ≡ false) × (concrete .get (ep-cell d e) t ≡ r) × Answered d e p (isOn (r .armed)) ws
+      × (t .0 .wakes ≡ k)
 
   judged : (i new : Bool) (ws : List Access) → ws ≡ [] → (u : St) (word : ℕ) → Same u → toggle word ≡ number p
       → repeated r word ≡ not new → Runs (Judged new) ws (run concrete (verdict {i = i} d e word) u)
@@ -86,7 +90,8 @@ module _ (d : Dir) (e : ℕ) (r : EpCore) (k : Wakes) (p : Pid) where
         h .1 .1,
       ))
   judged i false ws n u word h b y = every-cond (repeated (concrete .get (ep-cell d e) u) word)
-      (λ _. every-bind {P = λ ws _ t. (concrete .get (ep-cell d e) t ≡ r) × Answered d e p (isOn (r .armed)) ws × (t .0 .wakes ≡ k)}
+      (λ _. every-bind {P = λ ws _ t. (concrete .get (ep-cell d e) t ≡ r) × Answered d e p (isOn (r .armed)) ws
+      × (t .0 .wakes ≡ k)}
       (every-cond (isOn (concrete .get (ep-cell d e) u .armed))
       (λ a. at-ask tt (λ w t c q. at-ask tt (λ _ t′ _ q′. at-end (
         q′ .0 ∙ (q .0 ∙ h .0),
@@ -105,7 +110,8 @@ module _ (d : Dir) (e : ℕ) (r : EpCore) (k : Wakes) (p : Pid) where
   pub told : (i new : Bool) (s : St) → Same s → ((word : ℕ) → toggle word ≡ number p → repeated r word ≡ not new)
       → Runs (Judged new) [] (run concrete (toggled {i = i} d e) s)
   told i new s h y = every-bind (looked i 2001 s h)
-      (λ g _ t x. at-ask tt (λ word u c q. judged i new g (x .0) u word (q .0 ∙ x .1 .0, q .1) (c refl) (y word (c refl))))
+      (λ g _ t x. at-ask tt (λ word u c q. judged i new g (x .0) u word (q .0 ∙ x .1 .0, q .1) (c refl)
+      (y word (c refl))))
 
 wake-leaves : (d : Dir) (e : ℕ) (cs : List ℕ) (s : St)
     → concrete .get (ep-cell d e) (concrete .act (waken cs) s) ≡ concrete .get (ep-cell d e) s
@@ -119,7 +125,8 @@ judges r p new h word b = ap (eqb (r .tog)) (shown p word b) ∙ h
 
 -- the record of a packet that passed is completed by f, and its task is woken
 completes : (d : Dir) (e : ℕ) (r : EpCore) (k : Wakes) (p : Pid) (n : ℕ) (f : EpCore → EpCore)
-    → ((x : EpState) → plainOf (merged x (f (plainOf x))) ≡ f (plainOf x)) → f (withArmed 0 (withTog (number p) r)) ≡ delivered d p n r
+    → ((x : EpState) → plainOf (merged x (f (plainOf x))) ≡ f (plainOf x)) → f (withArmed 0 (withTog (number p) r))
+    ≡ delivered d p n r
     → (new : Bool) (ws : List Access) (b : Bool) (t : St) → Judged d e r k p new ws b t
     → Runs d e r k p (λ ws _ t. Passed d e r k p n new ws t) ws (run {i = true} concrete (when b (do
       modifyEp d e f
@@ -135,31 +142,8 @@ completes d e r k p n f same done true ws b t j = every-cond b
       j .2,
     ))
     (λ z. differ (sym z ∙ j .0))
-completes d e r k p n f same done false ws b t j = every-cond b (λ z. differ (sym (j .0) ∙ z)) (λ _. at-end (j .1, j .3, j .2))
-
--- the sequence bit in the chip is p; `new`: the recorded one is another. OUT ..
-pub out-packet : (x : Transfer) (s : St) (p : Pid) (new : Bool) → eqb (endpoint (x .st)) 0 ≡ false → Whole s
-    → let e = endpoint (x .st) in let r = concrete .get (ep-cell Out e) s in
-    eqb (r .tog) (number p) ≡ not new
-    → Every (toggling Out e p) (Stay Out e (s .0 .wakes)) (λ _. Unit {0})
-    (λ ws _ t. Passed Out e r (s .0 .wakes) p (x .len) new ws t) [] (run concrete (outArm {i = true} x false) s)
-out-packet x s p new o h y =
-    let e = endpoint (x .st) in let r = concrete .get (ep-cell Out e) s in let k = s .0 .wakes in
-    every-cond (eqb e 0) (λ z. differ (sym o ∙ z))
-    (λ _. every-bind (told Out e r k p true new s (refl, (h, refl)) (judges r p new y))
-    (completes Out e r k p (x .len) (λ q. completed (withLen (x .len) q)) (λ _. refl) refl new))
-
--- .. and IN
-pub in-packet : (x : Transfer) (s : St) (frame : ℕ) (p : Pid) (new : Bool) → eqb (endpoint (x .st)) 0 ≡ false → Whole s
-    → let e = endpoint (x .st) in let r = concrete .get (ep-cell In e) s in
-    eqb (r .tog) (number p) ≡ not new
-    → Every (toggling In e p) (Stay In e (s .0 .wakes)) (λ _. Unit {0})
-    (λ ws _ t. Passed In e r (s .0 .wakes) p (x .len) new ws t) [] (run concrete (inArm {i = true} x false frame) s)
-in-packet x s frame p new o h y =
-    let e = endpoint (x .st) in let r = concrete .get (ep-cell In e) s in let k = s .0 .wakes in
-    every-cond (eqb e 0) (λ z. differ (sym o ∙ z))
-    (λ _. every-bind (told In e r k p true new s (refl, (h, refl)) (judges r p new y))
-    (completes In e r k p (x .len) (withReady 1) (λ _. refl) refl new))
+completes d e r k p n f same done false ws b t j = every-cond b (λ z. differ (sym (j .0) ∙ z))
+    (λ _. at-end (j .1, j .3, j .2))
 
 -- the record has the bit b as it was, `ts` are the transactions since, of which at most one passed: the chip's bit is
 -- another exactly if one did

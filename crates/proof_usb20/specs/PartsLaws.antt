@@ -29,7 +29,7 @@ use Rattle.proof_book.specs.TransferKindsLaws.{put-steady}
 use Rattle.frame.specs.Usb20.{indexOf, frameOf}
 use Rattle.frame.specs.Advance.{previous}
 use Rattle.proof_usb20.specs.Watch.{at-end}
-use Rattle.proof_usb20.specs.QuietLaws.{Quiet, steadily, q-ret, q-bind, q-test, q-if, q-read-of, q-write}
+use Rattle.proof_usb20.specs.QuietLaws.{LeavesLog, steadily, q-ret, q-bind, q-test, q-if, q-read-of, q-write}
 use Rattle.proof_usb20.specs.QuietLaws.{q-callback, other-read}
 use Rattle.proof_usb20.specs.QuietLaws.{q-get, q-is, q-look, q-act, q-hand, q-modify, Other, put-other, put-frame}
 use Rattle.proof_usb20.specs.QuietLaws.{put-kept, other-word, other-length, q-every}
@@ -37,61 +37,62 @@ use Rattle.proof_usb20.specs.WalksLaws.{Each}
 
 -- ---- small ones
 
-pub q-got : {i : Bool} (c : Cell) → Quiet (get {i = i} c)
+pub q-got : {i : Bool} (c : Cell) → LeavesLog (get {i = i} c)
 q-got c = q-get (λ _. q-ret)
 
-pub q-wake : {i : Bool} (d : Dir) (e : ℕ) → Quiet (wake {i = i} d e)
+pub q-wake : {i : Bool} (d : Dir) (e : ℕ) → LeavesLog (wake {i = i} d e)
 q-wake d e = q-act refl q-ret
 
-pub q-when : {i : Bool} {b : Bool} {p : Script i Unit} → Quiet p → Quiet (when b p)
+pub q-when : {i : Bool} {b : Bool} {p : Script i Unit} → LeavesLog p → LeavesLog (when b p)
 q-when x = q-test x q-ret
 
 -- an endpoint's number that is not 0
 pub not-0 : (st : ℕ) → eqb (endpoint st) 0 ≡ false → Other (endpoint st)
 unfolding endpoint
-not-0 st h q = let e : st % 16 ≡ 0 = omega (arith, q) in absurd (subst (λ (b : Bool). cond b ⊥ (Unit {0})) (sym h ∙ eq-eqb (st % 16) 0 e) tt)
+not-0 st h q = let e : st % 16 ≡ 0 = omega (arith, q) in absurd
+    (subst (λ (b : Bool). cond b ⊥ (Unit {0})) (sym h ∙ eq-eqb (st % 16) 0 e) tt)
 
-pub q-reg : {i : Bool} (d : Dir) (e : ℕ) (f : ℕ → ℕ) → eqb e 0 ≡ false → Quiet (modifyReg {i = i} (ctrlOf d) e f)
+pub q-reg : {i : Bool} (d : Dir) (e : ℕ) (f : ℕ → ℕ) → eqb e 0 ≡ false → LeavesLog (modifyReg {i = i} (ctrlOf d) e f)
 q-reg d e f h = q-bind (q-read-of (other-read d e h) (λ _. q-ret)) (λ v. q-write (other-word d e (f v) h) q-ret)
 
-pub q-ep : {i : Bool} (d : Dir) (e : ℕ) (f : EpCore → EpCore) → Other e → Quiet (modifyEp {i = i} d e f)
+pub q-ep : {i : Bool} (d : Dir) (e : ℕ) (f : EpCore → EpCore) → Other e → LeavesLog (modifyEp {i = i} d e f)
 q-ep d e f o = q-modify (ep-cell d e) f (λ s. put-other d e o (f (concrete .get (ep-cell d e) s)) s)
 
 pub q-globals : {i : Bool} (f : Globals → Globals) → ((g : Globals) → f g .«setup_ready» ≡ g .«setup_ready»)
-    → Quiet (modify {i = i} f)
+    → LeavesLog (modify {i = i} f)
 q-globals f h = q-modify globals-cell f (λ s. put-kept f h s)
 
 -- ---- the waits
 
-pub q-looks : {i : Bool} (n : ℕ) → Quiet (looks {i = i} n)
+pub q-looks : {i : Bool} (n : ℕ) → LeavesLog (looks {i = i} n)
 unfolding looks
 q-looks zero = q-ret
 q-looks (suc n) = q-bind (q-read-of (λ _ _. refl) (λ _. q-ret)) (λ _. q-test q-ret (q-looks n))
 
 -- ---- bulk and interrupt endpoints
 
-pub q-toggled : {i : Bool} (d : Dir) (e : ℕ) → eqb e 0 ≡ false → Other e → Quiet (toggled {i = i} d e)
+pub q-toggled : {i : Bool} (d : Dir) (e : ℕ) → eqb e 0 ≡ false → Other e → LeavesLog (toggled {i = i} d e)
 q-toggled d e h o = q-bind (q-looks 2001) (λ _. q-bind (q-read-of (other-read d e h) (λ _. q-ret)) (λ word. q-bind
     (q-got (ep-cell d e)) (λ s. q-test
     (q-bind (q-when (q-reg d e _ h)) (λ _. q-ret))
     (q-bind (q-ep d e (λ s. withArmed 0 (withTog (flag (isData1 word)) s)) o) (λ _. q-ret)))))
 
-pub q-received : {i : Bool} (e n : ℕ) → Other e → Quiet (received {i = i} e n)
+pub q-received : {i : Bool} (e n : ℕ) → Other e → LeavesLog (received {i = i} e n)
 q-received e n o = q-bind (q-ep Out e (λ s. completed (withLen n s)) o) (λ _. q-wake Out e)
 
-pub q-sent : {i : Bool} (e : ℕ) → Other e → Quiet (sent {i = i} e)
+pub q-sent : {i : Bool} (e : ℕ) → Other e → LeavesLog (sent {i = i} e)
 q-sent e o = q-bind (q-ep In e (withReady 1) o) (λ _. q-wake In e)
 
 -- ---- isochronous IN
 
-pub q-complete : {i : Bool} (e : ℕ) → eqb e 0 ≡ false → Quiet (isoInComplete {i = i} e)
+pub q-complete : {i : Bool} (e : ℕ) → eqb e 0 ≡ false → LeavesLog (isoInComplete {i = i} e)
 q-complete e h = q-bind (q-act refl q-ret)
     (λ _. q-bind (q-bind (q-is (λ _. q-ret))
     (λ b. q-test (q-bind (q-hand refl q-ret) (λ _. q-bind (q-look (λ _. q-ret)) (λ n. q-write
     (other-length e n h) q-ret)))
     (q-write (other-length e 0 h) q-ret))) (λ _. q-wake In e))
 
-q-first : {i : Bool} (e frame : ℕ) → Quiet (firstInFrame {i = i} e frame)
+q-first : {i : Bool} (e frame : ℕ) → LeavesLog (firstInFrame {i = i} e frame)
 q-first e frame = record {
   goes = λ w s z k. at-end (
     refl,
@@ -100,37 +101,41 @@ q-first e frame = record {
   );
 }
 
-q-unseen : {i : Bool} (frame e : ℕ) → eqb e 0 ≡ false → Quiet (unseen {i = i} frame e)
+q-unseen : {i : Bool} (frame e : ℕ) → eqb e 0 ≡ false → LeavesLog (unseen {i = i} frame e)
 q-unseen frame e h = q-bind
     (q-modify (ep-cell In e) (withLastFrame (frameOf (previous (indexOf frame))))
     (λ s. put-frame In e (frameOf (previous (indexOf frame))) s)) (λ _. q-complete e h)
 
-q-sof-one : {i : Bool} (frame e : ℕ) → eqb e 0 ≡ false → Quiet (sofOne {i = i} frame e)
+q-sof-one : {i : Bool} (frame e : ℕ) → eqb e 0 ≡ false → LeavesLog (sofOne {i = i} frame e)
 q-sof-one frame e h = q-bind (q-got (ep-cell In e))
     (λ s. q-test q-ret
     (q-bind (q-read-of (λ _ _. refl) (λ _. q-ret)) (λ m. q-test (q-unseen frame e h) (q-bind (q-read-of (λ _ _. refl)
     (λ _. q-ret)) (λ st. q-test q-ret (q-unseen frame e h))))))
 
-q-sof-walk : {i : Bool} (frame : ℕ) (es : List ℕ) → Each (λ e. eqb e 0 ≡ false) es → Quiet (sofWalk {i = i} frame es)
+q-sof-walk : {i : Bool} (frame : ℕ) (es : List ℕ) → Each (λ e. eqb e 0 ≡ false) es
+    → LeavesLog (sofWalk {i = i} frame es)
 unfolding sofWalk
 q-sof-walk frame [] h = q-ret
 q-sof-walk frame (e ∷ es) h = q-bind (q-sof-one frame e (h .0)) (λ _. q-sof-walk frame es (h .1))
 
-pub q-sof : {i : Bool} (frame : ℕ) → Quiet (onSof {i = i} frame)
+pub q-sof : {i : Bool} (frame : ℕ) → LeavesLog (onSof {i = i} frame)
 q-sof frame = q-bind (q-globals (withSofFrame frame) (λ _. refl))
-    (λ _. q-every (λ g m. q-bind (q-sof-walk frame (setBits (isoInEvery g)) m) (λ _. q-bind (q-got globals-cell) (λ g. q-when (q-callback q-ret)))))
+    (λ _. q-every (λ g m. q-bind (q-sof-walk frame (setBits (isoInEvery g)) m)
+    (λ _. q-bind (q-got globals-cell) (λ g. q-when (q-callback q-ret)))))
 
-pub q-late : {i : Bool} (frame : ℕ) (es : List ℕ) → Each (λ e. eqb e 0 ≡ false) es → Quiet (lateWalk {i = i} frame es)
+pub q-late : {i : Bool} (frame : ℕ) (es : List ℕ) → Each (λ e. eqb e 0 ≡ false) es
+    → LeavesLog (lateWalk {i = i} frame es)
 unfolding lateWalk
 q-late frame [] h = q-ret
-q-late frame (e ∷ es) h = q-bind (q-bind (q-first e frame) (λ b. q-when (q-complete e (h .0)))) (λ _. q-late frame es (h .1))
+q-late frame (e ∷ es) h = q-bind (q-bind (q-first e frame) (λ b. q-when (q-complete e (h .0))))
+    (λ _. q-late frame es (h .1))
 
 -- ---- isochronous OUT
 
-q-arrives : {i : Bool} (e n : ℕ) → Quiet (arrives {i = i} e n)
+q-arrives : {i : Bool} (e n : ℕ) → LeavesLog (arrives {i = i} e n)
 q-arrives e n = q-bind (q-hand refl q-ret) (λ _. q-wake Out e)
 
-q-walk : {i : Bool} (x : Transfer) (iso : Bool) (es : List ℕ) → Quiet (checkWalk {i = i} x iso es)
+q-walk : {i : Bool} (x : Transfer) (iso : Bool) (es : List ℕ) → LeavesLog (checkWalk {i = i} x iso es)
 unfolding checkWalk
 q-walk x iso [] = q-ret
 q-walk x iso (e ∷ es) = q-bind
@@ -138,22 +143,25 @@ q-walk x iso (e ∷ es) = q-bind
     (q-bind (q-read-of (λ _ _. refl) (λ _. q-ret)) (λ st. q-test q-ret (q-bind (q-look (λ _. q-ret))
     (λ n. q-arrives e n))))))) (λ _. q-walk x iso es)
 
-pub q-check : {i : Bool} (x : Transfer) (iso : Bool) → Quiet (isoOutCheck {i = i} x iso)
+pub q-check : {i : Bool} (x : Transfer) (iso : Bool) → LeavesLog (isoOutCheck {i = i} x iso)
 q-check x iso = q-bind (q-got globals-cell) (λ g. q-walk x iso (setBits (isoOuts g)))
 
 -- ---- what a token of another endpoint completes
 
-pub q-sof-arm : {i : Bool} (frame : ℕ) → Quiet (sofArm {i = i} frame)
+pub q-sof-arm : {i : Bool} (frame : ℕ) → LeavesLog (sofArm {i = i} frame)
 q-sof-arm frame = q-bind (q-got globals-cell) (λ g. q-when (q-sof frame))
 
 pub q-dispatch : {i : Bool} (t : Token) (x : Transfer) (iso : Bool) (frame : ℕ) → eqb (endpoint (x .st)) 0 ≡ false
-    → Quiet (dispatch {i = i} t x iso frame)
+    → LeavesLog (dispatch {i = i} t x iso frame)
 q-dispatch tok.Sof x iso frame h = q-sof-arm frame
 q-dispatch tok.Out x iso frame h = q-test q-ret
     (q-if (eqb (endpoint (x .st)) 0) (λ z. differ (sym h ∙ z))
-    (λ _. q-bind (q-toggled Out (endpoint (x .st)) h (not-0 (x .st) h)) (λ b. q-when (q-received (endpoint (x .st)) (x .len) (not-0 (x .st) h)))))
+    (λ _. q-bind (q-toggled Out (endpoint (x .st)) h (not-0 (x .st) h))
+    (λ b. q-when (q-received (endpoint (x .st)) (x .len) (not-0 (x .st) h)))))
 q-dispatch tok.In x iso frame h = q-test
-    (q-bind (q-got globals-cell) (λ g. q-test q-ret (q-bind (q-first (endpoint (x .st)) frame) (λ b. q-when (q-complete (endpoint (x .st)) h)))))
+    (q-bind (q-got globals-cell) (λ g. q-test q-ret (q-bind (q-first (endpoint (x .st)) frame)
+    (λ b. q-when (q-complete (endpoint (x .st)) h)))))
     (q-if (eqb (endpoint (x .st)) 0) (λ z. differ (sym h ∙ z))
-    (λ _. q-bind (q-toggled In (endpoint (x .st)) h (not-0 (x .st) h)) (λ b. q-when (q-sent (endpoint (x .st)) (not-0 (x .st) h)))))
+    (λ _. q-bind (q-toggled In (endpoint (x .st)) h (not-0 (x .st) h))
+    (λ b. q-when (q-sent (endpoint (x .st)) (not-0 (x .st) h)))))
 q-dispatch tok.Setup x iso frame h = q-ret

@@ -60,7 +60,8 @@ pub record Kin (x y : View) : Type 0 where
 refit : {c : Ep0Word} {h : Half} {r s : Rec} → s .armed ≡ r .armed → Fits c h r → Fits c h s
 refit e f = record { shows = f .shows; toggles = f .toggles; armed = ap isOn e ∙ f .armed }
 
-pub over-now : {q : Request} {b ex : Bool} {m : ℕ} {rx tx : Ep0Word} {l g : ℕ} {p : Pipe} {a : Awaited} {u : Bool} {x y : View} → Base q b m x
+pub over-now : {q : Request} {b ex : Bool} {m : ℕ} {rx tx : Ep0Word} {l g : ℕ} {p : Pipe} {a : Awaited} {u : Bool}
+    {x y : View} → Base q b m x
     → (ex ≡ true) ⊎ Rel rx tx l g p a u x → Kin x y → y .control ≡ no-control
     → Line no-request b m ex rx tx l g p nothing u y
 over-now {ex = ex} {rx = rx} {tx = tx} {l = l} {g = g} {p = p} {a = a} {u = u} {x = x} {y = y} k f i c =
@@ -90,14 +91,25 @@ kin-by : (x : View) {y z : View} → y ≡ z → Kin x z → Kin x y
 kin-by x e k = subst (Kin x) (sym e) k
 
 kin-none : (s : St) → Kin (view (s .0)) (view (none s .0))
-kin-none s = kin-by (view (s .0)) (none-view s) (record { out = refl; inn = refl; len = refl; stage = refl; maximum = refl; buffer = refl; setup = refl })
+kin-none s = kin-by (view (s .0)) (none-view s) (record {
+  out = refl;
+  inn = refl;
+  len = refl;
+  stage = refl;
+  maximum
+      = refl;
+  buffer = refl;
+  setup = refl;
+})
 
 kin-out : (s : St) → Whole s → Kin (view (s .0)) (view (none (outWith (withReady 0) s) .0))
-kin-out s h = kin-by (view (s .0)) (none-view (outWith (withReady 0) s) ∙ ap (setControl no-control) (out-view (withReady 0) s h))
+kin-out s h = kin-by (view (s .0)) (none-view (outWith (withReady 0) s)
+    ∙ ap (setControl no-control) (out-view (withReady 0) s h))
     (record { out = refl; inn = refl; len = refl; stage = refl; maximum = refl; buffer = refl; setup = refl })
 
 kin-in : (s : St) → Whole s → Kin (view (s .0)) (view (none (inWith (withReady 0) s) .0))
-kin-in s h = kin-by (view (s .0)) (none-view (inWith (withReady 0) s) ∙ ap (setControl no-control) (in-view (withReady 0) s h))
+kin-in s h = kin-by (view (s .0)) (none-view (inWith (withReady 0) s)
+    ∙ ap (setControl no-control) (in-view (withReady 0) s h))
     (record { out = refl; inn = refl; len = refl; stage = refl; maximum = refl; buffer = refl; setup = refl })
 
 kin-both : (s : St) → Whole s → Kin (view (s .0)) (view (none (inWith (withReady 0) (outWith (withReady 0) s)) .0))
@@ -149,7 +161,8 @@ none-status (for-data-out m) c s h = refl
 pub law-poll-setup : Law (other PollSetup)
 law-poll-setup w s (k, f) z =
     watch-cond (eqb (s .0 .globals .stage) 2)
-    (λ _. watch-cond (eqb (s .0 .control .sort) SETUP) (λ q. watch-cond (isOn (s .0 .globals .«setup_ready»)) (λ o. at-end (
+    (λ _. watch-cond (eqb (s .0 .control .sort) SETUP)
+    (λ q. watch-cond (isOn (s .0 .globals .«setup_ready»)) (λ o. at-end (
       moved seen (requested k refl refl refl refl, taken-setup f (eqb-true (s .0 .control .sort) SETUP q)),
       (λ h. sym (fit-of f h .setup) ∙ o, eight (s .0 .globals)),
     )) (λ o. at-end ((k, f), λ h. sym (fit-of f h .setup) ∙ o)))
@@ -157,10 +170,12 @@ law-poll-setup w s (k, f) z =
     (λ q. at-end ((k, f), unstarted (not-started k q)))
   where
     x : St
-    x = concrete .put globals-cell (withSetup 0 (s .0 .globals .«setup_low») (s .0 .globals .«setup_high») (s .0 .globals)) s
+    x = concrete .put globals-cell (withSetup 0 (s .0 .globals .«setup_low») (s .0 .globals .«setup_high»)
+        (s .0 .globals)) s
 
     seen : view (none x .0) ≡ setControl no-control (setReady 0 (view (s .0)))
-    seen = none-view x ∙ ap (setControl no-control) (put-globals (withSetup 0 (s .0 .globals .«setup_low») (s .0 .globals .«setup_high») (s .0 .globals)) s)
+    seen = none-view x ∙ ap (setControl no-control) (put-globals
+        (withSetup 0 (s .0 .globals .«setup_low») (s .0 .globals .«setup_high») (s .0 .globals)) s)
 
     by : (a : Awaited) → Rel (w .rx) (w .tx) (w .len) (w .got) (w .pipe) a (w .untaken) (view (s .0))
         → s .0 .control .sort ≡ 1
@@ -186,7 +201,8 @@ law-poll-setup w s (k, f) z =
 
 -- where nothing is waited for, nothing is ready
 nothing-ready : {p : Pipe} {x : View} {b : Bool} → Rests p x
-    → (x .control .sort ≡ 2 → isOn (x .out .ready) ≡ b → false ≡ b) × (x .control .sort ≡ 4 → isOn (x .inn .ready) ≡ b → false ≡ b)
+    → (x .control .sort ≡ 2 → isOn (x .out .ready) ≡ b → false ≡ b)
+    × (x .control .sort ≡ 4 → isOn (x .inn .ready) ≡ b → false ≡ b)
 nothing-ready (unstaged a) = (λ q _. absurd (a .not-out q), λ q _. absurd (a .not-status q))
 nothing-ready (set-up e f g h i) = (λ _ o. sym f ∙ o, λ _ o. sym g ∙ o)
 
@@ -293,7 +309,11 @@ address-written nothing r q o h = differ (ready-status nothing r q o)
 address-written taken r q o h = absurd (omega (arith, q, r .waits .0))
 address-written (given last) r q o h = absurd (omega (arith, q, r .waits .0))
 address-written (confirmed keeps) r q o h = differ (sym (r .waits .2) ∙ h)
-address-written (confirmed (sets a)) r q o h = (r .waits .2 .1, ap (λ (n : ℕ). confirmed (sets n)) (sym (r .waits .2 .1)))
+address-written (confirmed (sets a)) r q o h = (
+  r .waits .2 .1,
+  ap (λ (n : ℕ). confirmed (sets n))
+      (sym (r .waits .2 .1)),
+)
 
 none-written : (a : Awaited) {rx tx : Ep0Word} {l g : ℕ} {p : Pipe} {u : Bool} {x : View} → Rel rx tx l g p a u x
     → x .control .sort ≡ 4
@@ -377,7 +397,8 @@ not-sent false p h = h
 
 -- the first wait is over: the data packet's completion is taken
 abbrev second : St → St
-second s = concrete .put control-cell (dataInOf (s .0 .control .length) (s .0 .control .last) 2) (inWith (withReady 0) s)
+second s = concrete .put control-cell (dataInOf (s .0 .control .length) (s .0 .control .last) 2)
+    (inWith (withReady 0) s)
 
 second-view : (s : St) → Whole s
     → view (second s .0) ≡ setControl (dataInOf (s .0 .control .length) (s .0 .control .last) 2)

@@ -52,7 +52,12 @@ abbrev pub Plainly : St → Type 0
 Plainly s = Plain0 (s .0)
 
 pub plainly : {d : Driver} → Sorting d → Plain0 d
-plainly {d = d} z = record { whole = z .places; plain = λ dir. ep0-plain z dir; every = λ e l h. by e (eqb e 0) refl (z .has .every e l h) }
+plainly {d = d} z = record {
+  whole = z .places;
+  plain = λ dir. ep0-plain z dir;
+  every
+      = λ e l h. by e (eqb e 0) refl (z .has .every e l h);
+}
   where
     by : (e : ℕ) (b : Bool) → eqb e 0 ≡ b → isOn (epOn d In e .iso) ≡ true → not b ≡ true
     by e false q h = refl
@@ -71,29 +76,29 @@ Stays w s x t = (x ≡ w) × (view (t .0) ≡ view (s .0)) × Plainly t
 abbrev pub Any : Log → Access → Type 0
 Any x q = Unit {0}
 
-pub record Quiet {i : Bool} {A : Type 0} (p : Script i A) : Type 0 where
+pub record LeavesLog {i : Bool} {A : Type 0} (p : Script i A) : Type 0 where
   pub goes : (w : Log) (s : St) → w .phase ≡ off → Plainly s
       → Watch Between Any {A = A} (λ x _ t. Stays w s x t) w (run concrete p s)
 
 -- ---- how they are put together
 
-pub q-ret : {i : Bool} {A : Type 0} {a : A} → Quiet (ret {i = i} a)
+pub q-ret : {i : Bool} {A : Type 0} {a : A} → LeavesLog (ret {i = i} a)
 q-ret = record { goes = λ w s z k. at-end (refl, refl, k) }
 
-pub q-bind : {i : Bool} {A B : Type 0} {p : Script i A} {f : A → Script i B} → Quiet p → ((a : A) → Quiet (f a))
-    → Quiet (bind p f)
+pub q-bind : {i : Bool} {A B : Type 0} {p : Script i A} {f : A → Script i B} → LeavesLog p → ((a : A) → LeavesLog (f a))
+    → LeavesLog (bind p f)
 q-bind {f = f} x y = record {
   goes = λ w s z k. watch-bind (x .goes w s z k)
       (λ v a t l. subst (λ (u : Log). Watch Between Any (λ x _ t. Stays w s x t) u (run concrete (f a) t))
       (sym (l .0)) (watch-more (y a .goes w t z (l .2)) (λ _ _ _ m. (m .0, m .1 ∙ l .1, m .2))));
 }
 
-pub q-test : {i : Bool} {A : Type 0} {b : Bool} {p q : Script i A} → Quiet p → Quiet q → Quiet (test b p q)
+pub q-test : {i : Bool} {A : Type 0} {b : Bool} {p q : Script i A} → LeavesLog p → LeavesLog q → LeavesLog (test b p q)
 q-test {b = b} x y = record { goes = λ w s z k. watch-cond b (λ _. x .goes w s z k) (λ _. y .goes w s z k) }
 
 -- with the test's answer
-pub q-if : {i : Bool} {A : Type 0} (b : Bool) {p q : Script i A} → (b ≡ true → Quiet p) → (b ≡ false → Quiet q)
-    → Quiet (test b p q)
+pub q-if : {i : Bool} {A : Type 0} (b : Bool) {p q : Script i A} → (b ≡ true → LeavesLog p) → (b ≡ false → LeavesLog q)
+    → LeavesLog (test b p q)
 q-if b x y = record { goes = λ w s z k. watch-cond b (λ h. x h .goes w s z k) (λ h. y h .goes w s z k) }
 
 -- an access that leaves the log, the state as it was
@@ -107,42 +112,45 @@ asked {s = s} {f = f} w e g = at-ask tt
 -- a reading, of no control word of EP0's
 pub q-read-of : {i : Bool} {A : Type 0} {r : Reg} {e : ℕ} {f : ℕ → Script i A} → ((v : ℕ) (w : Log)
     → compared r e v w ≡ w)
-    → ((v : ℕ) → Quiet (f v)) → Quiet (read-then r e f)
+    → ((v : ℕ) → LeavesLog (f v)) → LeavesLog (read-then r e f)
 q-read-of {r = r} {e = e} h x = record {
   goes = λ w s z k. asked w (λ v. ap (reads (w .phase) r v) (h v w)
       ∙ ap (λ p. reads p r v w) z) (λ v t l. x v .goes w t z l);
 }
 
 -- a write, of no control word of EP0's
-pub q-write : {i : Bool} {A : Type 0} {r : Reg} {e v : ℕ} {p : Script i A} → ((w : Log) → writes r e v w ≡ w) → Quiet p
-    → Quiet (write-then r e v p)
+pub q-write : {i : Bool} {A : Type 0} {r : Reg} {e v : ℕ} {p : Script i A} → ((w : Log) → writes r e v w ≡ w)
+    → LeavesLog p
+    → LeavesLog (write-then r e v p)
 q-write h x = record { goes = λ w s z k. asked w (λ _. h w) (λ _ t l. x .goes w t z l) }
 
-pub q-callback : {i : Bool} {A : Type 0} {p : Script i A} → Quiet p → Quiet (callback-then p)
+pub q-callback : {i : Bool} {A : Type 0} {p : Script i A} → LeavesLog p → LeavesLog (callback-then p)
 q-callback x = record { goes = λ w s z k. asked w (λ _. refl) (λ _ t l. x .goes w t z l) }
 
-pub q-get : {i : Bool} {A : Type 0} {c : Cell} {f : Val c → Script i A} → ((v : Val c) → Quiet (f v))
-    → Quiet (get-then c f)
+pub q-get : {i : Bool} {A : Type 0} {c : Cell} {f : Val c → Script i A} → ((v : Val c) → LeavesLog (f v))
+    → LeavesLog (get-then c f)
 q-get {c = c} x = record { goes = λ w s z k. x (concrete .get c s) .goes w s z k }
 
 -- the isochronous IN endpoints that an interrupt walks: not EP0
 pub q-every : {i : Bool} {A : Type 0} {f : Globals → Script i A}
-    → ((g : Globals) → Each (λ e. eqb e 0 ≡ false) (setBits (isoInEvery g)) → Quiet (f g))
-    → Quiet (bind (get {i = i} globals-cell) f)
+    → ((g : Globals) → Each (λ e. eqb e 0 ≡ false) (setBits (isoInEvery g)) → LeavesLog (f g))
+    → LeavesLog (bind (get {i = i} globals-cell) f)
 q-every {f = f} x = record {
   goes = λ w s z k. x (s .0 .globals)
       (each-set (isoInEvery (s .0 .globals))
       (λ e l h. negated (eqb e 0) (among-ins (λ e. not (eqb e 0)) (s .0 .globals) (k .every) e l h))) .goes w s z k;
 }
 
-pub q-is : {i : Bool} {A : Type 0} {q : Test} {f : Bool → Script i A} → ((b : Bool) → Quiet (f b)) → Quiet (is-then q f)
+pub q-is : {i : Bool} {A : Type 0} {q : Test} {f : Bool → Script i A} → ((b : Bool) → LeavesLog (f b))
+    → LeavesLog (is-then q f)
 q-is {q = q} x = record { goes = λ w s z k. x (concrete .is q s) .goes w s z k }
 
-pub q-look : {i : Bool} {A : Type 0} {q : Look} {f : ℕ → Script i A} → ((n : ℕ) → Quiet (f n)) → Quiet (look-then q f)
+pub q-look : {i : Bool} {A : Type 0} {q : Look} {f : ℕ → Script i A} → ((n : ℕ) → LeavesLog (f n))
+    → LeavesLog (look-then q f)
 q-look {q = q} x = record { goes = λ w s z k. x (concrete .look q s) .goes w s z k }
 
-pub q-fetch : {i : Bool} {A : Type 0} {q : Fetch} {f : List ℕ → Script i A} → ((l : List ℕ) → Quiet (f l))
-    → Quiet (fetch-then q f)
+pub q-fetch : {i : Bool} {A : Type 0} {q : Fetch} {f : List ℕ → Script i A} → ((l : List ℕ) → LeavesLog (f l))
+    → LeavesLog (fetch-then q f)
 q-fetch {q = q} x = record { goes = λ w s z k. x (concrete .fetch q s) .goes w s z k }
 
 -- a state that shows the same
@@ -150,9 +158,11 @@ pub onward : {A : Type 0} {o : tree.Out St A} (w : Log) (s t : St) → view (t .
     → Watch Between Any {A = A} (λ x _ u. Stays w t x u) w o → Watch Between Any {A = A} (λ x _ u. Stays w s x u) w o
 onward w s t e x = watch-more x (λ _ _ _ m. (m .0, m .1 ∙ e, m .2))
 
-pub q-act : {i : Bool} {A : Type 0} {q : Act} {p : Script i A} → allocates q ≡ false → Quiet p → Quiet (act-then q p)
+pub q-act : {i : Bool} {A : Type 0} {q : Act} {p : Script i A} → allocates q ≡ false → LeavesLog p
+    → LeavesLog (act-then q p)
 q-act {q = q} h x = record {
-  goes = λ w s z k. onward w s (concrete .act q s) (act-view q h s) (x .goes w (concrete .act q s) z (steadily (act-steady q h s) k));
+  goes = λ w s z k. onward w s (concrete .act q s) (act-view q h s)
+      (x .goes w (concrete .act q s) z (steadily (act-steady q h s) k));
 }
 
 -- an address of another endpoint's
@@ -169,8 +179,8 @@ hand-silent (place Out e) h x w v = refl
 hand-silent (place In e) h x w v = refl
 hand-silent place0 h x w v = differ h
 
-pub q-hand : {i : Bool} {A : Type 0} {q : DmaStep} {p : Script i A} → elsewhere q ≡ true → Quiet p
-    → Quiet (hand-then q p)
+pub q-hand : {i : Bool} {A : Type 0} {q : DmaStep} {p : Script i A} → elsewhere q ≡ true → LeavesLog p
+    → LeavesLog (hand-then q p)
 q-hand {q = q} h x = record {
   goes = λ w s z k. onward w s (concrete .hand q s .1)
       (hand-view q s) (asked w (hand-silent q h (concrete .hand q s .0) w) (λ _ t l. x .goes w t z l));
@@ -178,15 +188,16 @@ q-hand {q = q} h x = record {
 
 -- an assignment that shows the same
 pub q-put : {i : Bool} {A : Type 0} {c : Cell} {v : Val c} {p : Script i A}
-    → ((s : St) → view (concrete .put c v s .0) ≡ view (s .0)) → Quiet p → Quiet (put-then c v p)
+    → ((s : St) → view (concrete .put c v s .0) ≡ view (s .0)) → LeavesLog p → LeavesLog (put-then c v p)
 q-put {c = c} {v = v} e x = record {
-  goes = λ w s z k. onward w s (concrete .put c v s) (e s) (x .goes w (concrete .put c v s) z (steadily (put-steady c v s) k));
+  goes = λ w s z k. onward w s (concrete .put c v s) (e s)
+      (x .goes w (concrete .put c v s) z (steadily (put-steady c v s) k));
 }
 
 -- a record that is read and changed
 pub q-modify : {i : Bool} (c : Cell) (f : Val c → Val c)
     → ((s : St) → view (concrete .put c (f (concrete .get c s)) s .0) ≡ view (s .0))
-    → Quiet (bind {i = i} (get-then c ret) (λ p. put-then c (f p) (ret (tt {0}))))
+    → LeavesLog (bind {i = i} (get-then c ret) (λ p. put-then c (f p) (ret (tt {0}))))
 q-modify c f e = record {
   goes = λ w s z k. onward w s (concrete .put c (f (concrete .get c s)) s)
       (e s) (at-end (refl, refl, steadily (put-steady c (f (concrete .get c s)) s) k));
@@ -204,7 +215,8 @@ apart Out In e o q = key-apart e 0 (sym q)
 apart In Out e o q = key-apart 0 e q
 
 -- another endpoint's record
-pub put-other : (d : Dir) (e : ℕ) → Other e → (v : EpCore) (s : St) → view (concrete .put (ep-cell d e) v s .0) ≡ view (s .0)
+pub put-other : (d : Dir) (e : ℕ) → Other e → (v : EpCore) (s : St) → view (concrete .put (ep-cell d e) v s .0)
+    ≡ view (s .0)
 unfolding withOn
 put-other d e o v s = made _ _ (ap recOf (ep-other (s .0) d e (merged (epOn (s .0) d e) v) Out 0 (apart d Out e o)))
     (ap recOf (ep-other (s .0) d e (merged (epOn (s .0) d e) v) In 0 (apart d In e o))) refl refl refl refl refl
@@ -212,7 +224,8 @@ put-other d e o v s = made _ _ (ap recOf (ep-other (s .0) d e (merged (epOn (s .
 -- `last_frame` of any
 pub put-frame : (d : Dir) (e frame : ℕ) (s : St)
     → view (concrete .put (ep-cell d e) (withLastFrame frame (concrete .get (ep-cell d e) s)) s .0) ≡ view (s .0)
-put-frame d e frame s = record-view (s .0) d e (merged (epOn (s .0) d e) (withLastFrame frame (concrete .get (ep-cell d e) s))) refl
+put-frame d e frame s = record-view (s .0) d e (merged (epOn (s .0) d e)
+    (withLastFrame frame (concrete .get (ep-cell d e) s))) refl
 
 -- the globals but for the setup packet
 pub put-kept : (f : Globals → Globals) → ((g : Globals) → f g .«setup_ready» ≡ g .«setup_ready») → (s : St)

@@ -2,10 +2,9 @@
 -- before EP0's start
 use mathlib.Core.Bool.{Bool, true, false, cond}
 use mathlib.Core.List.{List, [], _∷_}
-use mathlib.Core.Logic.{_⊎_, inl, inr}
+use mathlib.Core.Logic.{_⊎_}
 use mathlib.Core.Path.{_≡_, refl, ap, subst, sym, _∙_}
 use Prim.Native.Nat.{ℕ, zero, suc, _+_, _*_, _%_}
-use native.Mathlib.Omega.{arith}
 use lib.Dec.{eqb, ltb, leb}
 use lib.ListN.{length}
 use borrow.Author.Tests.{eqb-true}
@@ -27,8 +26,8 @@ use Rattle.alloc.specs.Alloc.{if, allocateOf, allocateEp0Of, isIso, refused, wi
 use Rattle.descriptor.specs.declared.Endpoint.{Endpoint}
 use Rattle.descriptor.specs.declared.Answer as listing
 use Rattle.descriptor.specs.declared.Answer.the-variants as listed
-use Rattle.descriptor.specs.Reading.{readingOf, listOf}
-use Rattle.descriptor.specs.Trial.{directionOf, trialOf}
+use Rattle.descriptor.specs.Reading.{listOf}
+use Rattle.descriptor.specs.Trial.{directionOf}
 use Rattle.script.specs.Tree as tree
 use Rattle.script.specs.Cells.{EpCore, Cell, Val, ep-cell, globals-cell, allocator-cell}
 use Rattle.script.specs.Script.{Script, get, ret, bind, test, when, read-then, write-then, wait-then, get-then}
@@ -47,10 +46,10 @@ use Rattle.script_ops.specs.Records.{withIsoSets, isoAdded, withSets, recordGiv
 use Rattle.script_ops.specs.Records.{startedWith, allocatedEp0}
 use Rattle.script_ops.specs.Rings.{St, resetBelow, resetAll}
 use Rattle.script_ops.specs.Concrete.{concrete}
-use Rattle.proof_usb20.specs.Log.{Log, Request, saw, afresh}
+use Rattle.proof_usb20.specs.Log.{Log, Request, saw}
 use Rattle.proof_usb20.specs.Watch.{at-end, at-ask}
 use Rattle.proof_usb20.specs.WatchLaws.{watch-bind, watch-more, watch-cond}
-use Rattle.proof_usb20.specs.Ep0.{Watch, View, view, Between, Says, Base, R, Law}
+use Rattle.proof_usb20.specs.Ep0.{Watch, View, view, Between, Says, Base}
 use Rattle.proof_usb20.specs.Ep0Laws.{act-view, hand-view}
 use Rattle.proof_usb20.specs.ViewsLaws.{put-globals}
 use Rattle.proof_usb20.specs.ExemptLaws.{differ, Kept, same, further, isEp0Dma, saw-kept}

@@ -46,16 +46,19 @@ use Rattle.proof_usb20.specs.FollowLaws as follow
 use Rattle.proof_usb20.specs.Follow.{EpSeen, FitsAs, Fits, view, Follow, Ends, Law}
 use Rattle.proof_usb20.specs.Watch.{at-end, at-ask}
 use Rattle.proof_usb20.specs.FollowLaws.{act-view}
-use Rattle.proof_usb20.specs.CalmLaws.{Whole, Off, Else, Quiet, loose, put-other, put-globals, q-bind, q-ep, q-got}
+use Rattle.proof_usb20.specs.CalmLaws.{Whole, Off, Else, LeavesTrack, loose, put-other, put-globals, q-bind, q-ep}
+use Rattle.proof_usb20.specs.CalmLaws.{q-got}
 use Rattle.proof_usb20.specs.CalmLaws.{q-hand, q-operation, q-put, q-reg, q-resultless, q-ret, q-staged, q-test}
 use Rattle.proof_usb20.specs.CalmLaws.{q-wake, q-when, q-write}
 use Rattle.proof_usb20.specs.ReadingLaws as reading
-use Rattle.proof_usb20.specs.ReadingLaws.{quiet-law, Own, written, changed, fits-2, own-true, own-false, not-and, iso-own}
+use Rattle.proof_usb20.specs.ReadingLaws.{quiet-law, Own, written, changed, fits-2, own-true, own-false, not-and}
+use Rattle.proof_usb20.specs.ReadingLaws.{iso-own}
 use Rattle.proof_usb20.specs.AnewLaws.{reset-fits, alloc-fits}
 
 started-places : (maximum : ℕ) (x : Driver) → length (x .eps) ≡ 32 → length (allocatedEp0 x maximum .eps) ≡ 32
 unfolding allocatedEp0 startedWith
-started-places maximum x l = by (allocateEp0Of (x .allocator) maximum .answer) (withAllocator x (allocateEp0Of (x .allocator) maximum .after)) l
+started-places maximum x l = by (allocateEp0Of (x .allocator) maximum .answer)
+    (withAllocator x (allocateEp0Of (x .allocator) maximum .after)) l
   where
     by : (a : alloc.Answer) (y : Driver) → length (y .eps) ≡ 32 → length (startedWith maximum a y .eps) ≡ 32
     by (variant.Refused n) y l = l
@@ -64,30 +67,41 @@ started-places maximum x l = by (allocateEp0Of (x .allocator) maximum .answer) (
 module _ (D : Dir) (E : ℕ) (w : Track) where
   started : (maximum : ℕ) (x : Driver) → Fits w (view D E x) → Fits w (view D E (allocatedEp0 x maximum))
   unfolding allocatedEp0 startedWith epOn
-  started maximum x r = by (allocateEp0Of (x .allocator) maximum .answer) (withAllocator x (allocateEp0Of (x .allocator) maximum .after)) r
+  started maximum x r = by (allocateEp0Of (x .allocator) maximum .answer)
+      (withAllocator x (allocateEp0Of (x .allocator) maximum .after)) r
     where
       by : (a : alloc.Answer) (y : Driver) → Fits w (view D E y) → Fits w (view D E (startedWith maximum a y))
       by (variant.Refused n) y r = r
-      by (variant.Given e base slots) y r = record { tog = r .tog; ready = r .ready; len = r .len; armed = r .armed; early = λ h. differ (sym h) }
+      by (variant.Given e base slots) y r = record {
+        tog = r .tog;
+        ready = r .ready;
+        len = r .len;
+        armed
+            = r .armed;
+        early = λ h. differ (sym h);
+      }
 
 module _ (D : Dir) (E : ℕ) where
   -- ---- halts
 
   q-stalled : {i : Bool} (d : Dir) (e : ℕ) (on : Bool) → Else D E d e
-      → Quiet D E false (Off D E) (bus.setStalled {i = i} d e on)
+      → LeavesTrack D E false (Off D E) (bus.setStalled {i = i} d e on)
   q-stalled Out e true m = (q-bind D E) ((q-reg D E) EpRxCtrl e _) (λ _. (q-wake D E) Out e)
-  q-stalled In e true m = (q-bind D E) ((q-write D E) (q-ret D E)) (λ _. (q-bind D E) ((q-reg D E) EpTxCtrl e _) (λ _. (q-wake D E) In e))
+  q-stalled In e true m = (q-bind D E) ((q-write D E) (q-ret D E))
+      (λ _. (q-bind D E) ((q-reg D E) EpTxCtrl e _) (λ _. (q-wake D E) In e))
   q-stalled Out e false m = (q-bind D E) ((q-got D E) (ep-cell Out e))
       (λ s. (q-bind D E) ((q-put D E) (put-other D E Out e m (withTog 0 s)) (q-ret D E))
       (λ _. (q-bind D E) ((q-write D E) (q-ret D E)) (λ _. (q-wake D E) Out e)))
   q-stalled In e false m = (q-bind D E) ((q-got D E) (ep-cell In e))
       (λ s. (q-bind D E) ((q-put D E) (put-other D E In e m (withTog 0 s)) (q-ret D E))
-      (λ _. (q-bind D E) ((q-write D E) (q-ret D E)) (λ _. (q-bind D E) ((q-when D E) ((q-ep D E) In e _ m)) (λ _. (q-wake D E) In e))))
+      (λ _. (q-bind D E) ((q-write D E) (q-ret D E)) (λ _. (q-bind D E) ((q-when D E) ((q-ep D E) In e _ m))
+      (λ _. (q-wake D E) In e))))
 
   -- a halt that is set changes no record
-  q-halted : {i : Bool} (d : Dir) (e : ℕ) → Quiet D E false (Off D E) (bus.setStalled {i = i} d e true)
+  q-halted : {i : Bool} (d : Dir) (e : ℕ) → LeavesTrack D E false (Off D E) (bus.setStalled {i = i} d e true)
   q-halted Out e = (q-bind D E) ((q-reg D E) EpRxCtrl e _) (λ _. (q-wake D E) Out e)
-  q-halted In e = (q-bind D E) ((q-write D E) (q-ret D E)) (λ _. (q-bind D E) ((q-reg D E) EpTxCtrl e _) (λ _. (q-wake D E) In e))
+  q-halted In e = (q-bind D E) ((q-write D E) (q-ret D E))
+      (λ _. (q-bind D E) ((q-reg D E) EpTxCtrl e _) (λ _. (q-wake D E) In e))
 
   own-out : (e : ℕ) → Own D E Out e → D ≡ Out
   own-out e o = by D refl
@@ -116,7 +130,8 @@ module _ (D : Dir) (E : ℕ) where
   ends-armed e b o = ap (λ (d : Dir). log.staysArmed D E d b) (own-in e o)
 
   Clears : Track → {A : Type 0} → Track → A → St → Type 0
-  Clears w y _ t = (y ≡ withPhase off w) × FitsAs initial (log.finishes D E D (w .through)) (w .len) (log.staysArmed D E D (w .armed)) (view D E (t .0))
+  Clears w y _ t = (y ≡ withPhase off w) × FitsAs initial (log.finishes D E D (w .through)) (w .len)
+      (log.staysArmed D E D (w .armed)) (view D E (t .0))
 
   clearing : (d : Dir) (e : ℕ) (w : Track) (s : St) → Own D E d e → Whole s → Fits w (view D E (s .0))
       → eqb (s .0 .globals .stage) 2 ≡ true → isOn (epOn (s .0) D E .iso) ≡ false
@@ -126,18 +141,22 @@ module _ (D : Dir) (E : ℕ) where
     refl,
     subst (FitsAs initial (log.finishes D E D (w .through)) (w .len) (log.staysArmed D E D (w .armed)))
         (sym (act-view D E (waken (wakeCode Out e ∷ [])) refl u ∙ (p .0 ∙ changed D E Out e (withTog 0) s o k)))
-        (fits-2 D E two refl (r .ready ∙ sym (keeps-out e (w .through) o)) (r .len) (r .armed ∙ sym (stays-out e (w .armed) o))),
+        (fits-2 D E two refl (r .ready ∙ sym (keeps-out e (w .through) o)) (r .len)
+        (r .armed ∙ sym (stays-out e (w .armed) o))),
   ))
   clearing In e w s o k r two i =
       let t = concrete .put (ep-cell In e) (withTog 0 (concrete .get (ep-cell In e) s)) s in
       let v = changed D E In e (withTog 0) s o k in
       at-ask tt (λ _ u _ p.
       let b = concrete .put (ep-cell In e) (completed (concrete .get (ep-cell In e) u)) u in
-      let x : view D E (b .0) ≡ written D E (completed (plainOf (epOn (u .0) D E))) (view D E (u .0)) = changed D E In e completed u o (p .1 .places) in
-      let y : FitsAs initial (log.finishes D E D (w .through)) (w .len) (log.staysArmed D E D (w .armed)) (view D E (b .0)) =
+      let x : view D E (b .0) ≡ written D E (completed (plainOf (epOn (u .0) D E))) (view D E (u .0))
+      = changed D E In e completed u o (p .1 .places) in
+      let y : FitsAs initial (log.finishes D E D (w .through)) (w .len) (log.staysArmed D E D (w .armed))
+      (view D E (b .0)) =
       subst (FitsAs initial (log.finishes D E D (w .through)) (w .len) (log.staysArmed D E D (w .armed))) (sym x)
       (fits-2 D E (ap (λ (q : EpSeen). eqb (q .stage) 2) (p .0 ∙ v) ∙ two) (ap (λ (q : EpSeen). q .tog) (p .0 ∙ v))
-      (sym (ends-in e (w .through) o)) (ap (λ (q : EpSeen). q .len) (p .0 ∙ v) ∙ r .len) (sym (ends-armed e (w .armed) o))) in
+      (sym (ends-in e (w .through) o)) (ap (λ (q : EpSeen). q .len) (p .0 ∙ v) ∙ r .len)
+      (sym (ends-armed e (w .armed) o))) in
       follow.follow-bind D E {P = Clears w} {f = λ (_ : Unit {0}) (u : St). run {i = false} concrete (wake In e) u}
       (follow.follow-cond D E (not (isOn (concrete .get (ep-cell In e) s .iso)))
       (λ _. at-end (refl, y)) (λ q. iso-own D E In e s o i (turned (isOn (concrete .get (ep-cell In e) s .iso)) q)))
@@ -155,7 +174,8 @@ module _ (D : Dir) (E : ℕ) where
   unfolding Clears
   law-set-stalled d e true w s r i z =
       quiet-law D E (other (SetStalled d e true)) refl (λ a x. last (own D E d e) (log.cleared D E x) x) (λ _ _. tt)
-      ((q-staged D E) 2 ((q-test D E) ((q-resultless D E) (q-halted d e)) (reading.q-named D E d e ((q-resultless D E) (q-halted d e)))))
+      ((q-staged D E) 2 ((q-test D E) ((q-resultless D E) (q-halted d e))
+      (reading.q-named D E d e ((q-resultless D E) (q-halted d e)))))
       w s r i z
     where
       last : (b : Bool) (x y : Track) → cond (b && false) x y ≡ y
@@ -163,21 +183,26 @@ module _ (D : Dir) (E : ℕ) where
       last false x y = refl
   law-set-stalled d e false w s r i z = by (own D E d e) refl
     where
-      nothing : Fits (cond (own D E d e && false) (log.cleared D E (withPhase off w)) (withPhase off w)) (view D E (s .0))
+      nothing : Fits (cond (own D E d e && false) (log.cleared D E (withPhase off w)) (withPhase off w))
+          (view D E (s .0))
       nothing = rw (and-false (own D E d e)) r
 
       by : (b : Bool) → own D E d e ≡ b
-          → Follow D E (Ends D E (other (SetStalled d e false))) (withPhase off w) (run concrete (code (other (SetStalled d e false))) s)
-      by false h = quiet-law D E (other (SetStalled d e false)) refl (λ a x. not-and D E (own D E d e) (log.ended D E a) (log.cleared D E x) x h) (λ _ _. tt)
+          → Follow D E (Ends D E (other (SetStalled d e false))) (withPhase off w)
+          (run concrete (code (other (SetStalled d e false))) s)
+      by false h = quiet-law D E (other (SetStalled d e false)) refl
+          (λ a x. not-and D E (own D E d e) (log.ended D E a) (log.cleared D E x) x h) (λ _ _. tt)
           (let q = q-stalled d e false (own-false D E d e h) in
-          (q-staged D E) 2 ((q-test D E) ((q-resultless D E) q) (reading.q-named D E d e ((q-resultless D E) q)))) w s r i z
+          (q-staged D E) 2 ((q-test D E) ((q-resultless D E) q) (reading.q-named D E d e ((q-resultless D E) q)))) w s r
+          i z
       by true h = follow.follow-cond D E (eqb (s .0 .globals .stage) 2)
           (λ two. follow.follow-cond D E (eqb e 0) (λ _. goes two)
           (λ _. follow.follow-cond D E (isAllocated (s .0 .allocator) d e) (λ _. goes two) (λ _. at-end (nothing, tt))))
           (λ _. at-end (nothing, tt))
         where
           goes : eqb (s .0 .globals .stage) 2 ≡ true
-              → Follow D E (Ends D E (other (SetStalled d e false))) (withPhase off w) (run {i = false} concrete (resultless (bus.setStalled d e false)) s)
+              → Follow D E (Ends D E (other (SetStalled d e false))) (withPhase off w)
+              (run {i = false} concrete (resultless (bus.setStalled d e false)) s)
           goes two =
               let a = concrete .act no-wakes s in
               let v = act-view D E no-wakes refl s in
@@ -189,10 +214,11 @@ module _ (D : Dir) (E : ℕ) where
 
   -- ---- a bus reset
 
-  q-naks : {i : Bool} (n e : ℕ) → Quiet D E false (Off D E) (bus.nakAll {i = i} n e)
+  q-naks : {i : Bool} (n e : ℕ) → LeavesTrack D E false (Off D E) (bus.nakAll {i = i} n e)
   unfolding bus.nakAll
   q-naks zero e = (q-ret D E)
-  q-naks (suc n) e = (q-bind D E) ((q-write D E) (q-ret D E)) (λ _. (q-bind D E) ((q-write D E) (q-ret D E)) (λ _. q-naks n (suc e)))
+  q-naks (suc n) e = (q-bind D E) ((q-write D E) (q-ret D E))
+      (λ _. (q-bind D E) ((q-write D E) (q-ret D E)) (λ _. q-naks n (suc e)))
 
   -- the result 2 with DATA0 and nothing to be taken, or another with all as it was
   data Polls (w : Track) (y : Track) (n : ℕ) (t : St) : Type 0 where
@@ -214,18 +240,21 @@ module _ (D : Dir) (E : ℕ) where
       → Follow D E (Restarted w) (withPhase off w) (rows concrete bus-reset 3 (λ t. tree.ends (tt {0}) t) s)
   rests w s k r two = at-ask tt (λ _ b _ p. at-ask tt (λ _ c _ q. at-ask tt (λ _ e _ f.
       let v : view D E (e .0) ≡ view D E (s .0) = f .0 ∙ (q .0 ∙ (types b ∙ (p .0 ∙ configs s))) in
-      let g = reset-fits D E w (e .0) (f .1 .places) (subst (Fits w) (sym v) r) (ap (λ (x : EpSeen). eqb (x .stage) 2) v ∙ two) in
+      let g = reset-fits D E w (e .0) (f .1 .places) (subst (Fits w) (sym v) r) (ap (λ (x : EpSeen). eqb (x .stage) 2) v
+      ∙ two) in
       at-ask tt (λ _ h _ l. at-end (refl, subst (FitsAs initial false (w .len) false) (sym (l .0)) g, l .1 .places)))))
 
   resets : (w : Track) (s : St) → Whole s → Fits w (view D E (s .0)) → eqb (s .0 .globals .stage) 2 ≡ true
       → Follow D E (Restarted w) (withPhase off w) (run concrete bus.busReset s)
   resets w s k r two = at-ask tt
-      (λ _ a1 _ p1. at-ask tt (λ _ a2 _ p2. at-ask tt (λ _ a3 _ p3. follow.follow-bind D E (q-naks 15 1 .goes (withPhase off w) a3 (
+      (λ _ a1 _ p1. at-ask tt (λ _ a2 _ p2. at-ask tt (λ _ a3 _ p3. follow.follow-bind D E
+      (q-naks 15 1 .goes (withPhase off w) a3 (
         refl,
         λ _ _ _ _. refl,
       ) (loose D E (p3 .1 .places))) (λ y _ a m.
       let v : view D E (a .0) ≡ view D E (s .0) = m .1 ∙ (p3 .0 ∙ (p2 .0 ∙ p1 .0)) in
-      subst (λ (u : Track). Follow D E (Restarted w) u (run concrete (bind (row bus-reset) (λ _. wakeAll)) a)) (sym (m .0))
+      subst (λ (u : Track). Follow D E (Restarted w) u (run concrete (bind (row bus-reset) (λ _. wakeAll)) a))
+      (sym (m .0))
       (follow.follow-bind D E {f = λ (_ : Unit {0}) (u : St). run {i = false} concrete wakeAll u}
       (rests w a (m .2 .whole) (subst (Fits w) (sym v) r) (ap (λ (x : EpSeen). eqb (x .stage) 2) v ∙ two))
       (λ y _ t x. at-end {s = concrete .act (waken every-endpoint) t} (
@@ -243,14 +272,18 @@ module _ (D : Dir) (E : ℕ) where
       (λ _. at-ask tt (λ f a _ p.
       let v : view D E (a .0) ≡ view D E (s .0) = p .0 ∙ v0 in
       follow.follow-cond D E (busRst f)
-      (λ _. follow.follow-bind D E (resets w a (p .1 .places) (subst (Fits w) (sym v) r) (ap (λ (x : EpSeen). eqb (x .stage) 2) v ∙ two)) (λ y _ t m.
+      (λ _. follow.follow-bind D E (resets w a (p .1 .places) (subst (Fits w) (sym v) r)
+      (ap (λ (x : EpSeen). eqb (x .stage) 2) v ∙ two)) (λ y _ t m.
       let g = withIntEn (withBusRst (t .0 .globals .«int_en») true) (t .0 .globals) in
       follow.follow-at D E (m .0)
-      (at-ask tt (λ _ u _ q. at-end (reset refl refl (subst (FitsAs initial false (w .len) false) (sym (q .0 ∙ put-globals D E g t)) (m .1)))))))
+      (at-ask tt (λ _ u _ q. at-end (reset refl refl (subst (FitsAs initial false (w .len) false)
+      (sym (q .0 ∙ put-globals D E g t)) (m .1)))))))
       (λ _. follow.follow-cond D E (suspend f)
       (λ _. at-ask tt
-      (λ m b _ q. at-ask tt (λ _ c _ l. at-ask tt (λ _ u _ n. at-end (kept (not-2 (suspended m)) refl (subst (Fits w) (sym (n .0
-      ∙ (put-globals D E (withIntEn (withSuspend (c .0 .globals .«int_en») true) (c .0 .globals)) c ∙ (l .0 ∙ (q .0 ∙ v))))) r))))))
+      (λ m b _ q. at-ask tt (λ _ c _ l. at-ask tt (λ _ u _ n. at-end
+      (kept (not-2 (suspended m)) refl (subst (Fits w) (sym (n .0
+      ∙ (put-globals D E (withIntEn (withSuspend (c .0 .globals .«int_en») true) (c .0 .globals)) c
+      ∙ (l .0 ∙ (q .0 ∙ v))))) r))))))
       (λ _. at-end (kept refl refl (subst (Fits w) (sym v) r))))))
       (λ _. at-end (kept refl refl (subst (Fits w) (sym (put-globals D E (withPower 1 (s .0 .globals)) a0 ∙ v0)) r))))
       (λ y n t p. at-end (after n y t p, tt)))
@@ -279,8 +312,9 @@ module _ (D : Dir) (E : ℕ) where
       early : (n : ℕ) → eqb n 1 ≡ true → eqb n 2 ≡ false
       early n h = ne-eqb n 2 (λ q. absurd (omega (arith, q, eqb-true n 1 h)))
 
-      q-new : {i : Bool} (e : ℕ) → Quiet D E false (Off D E) (newEndpoint {i = i} d kind maximum e)
-      q-new e = (q-bind D E) ((q-write D E) (q-ret D E)) (λ _. (q-bind D E) ((q-when D E) ((q-hand D E) (q-ret D E))) (λ _. (q-ret D E)))
+      q-new : {i : Bool} (e : ℕ) → LeavesTrack D E false (Off D E) (newEndpoint {i = i} d kind maximum e)
+      q-new e = (q-bind D E) ((q-write D E) (q-ret D E))
+          (λ _. (q-bind D E) ((q-when D E) ((q-hand D E) (q-ret D E))) (λ _. (q-ret D E)))
 
       by : (a : alloc.Answer) (t : St) → Fits w (view D E (t .0)) → Whole t
           → Follow D E (Ends D E (other (Allocate d kind address maximum interval)))
@@ -292,25 +326,29 @@ module _ (D : Dir) (E : ℕ) where
 
   each : (es : List Endpoint) (w : Track) (s : St) → Whole s → Fits w (view D E (s .0))
       → eqb (s .0 .globals .stage) 2 ≡ false
-      → Follow D E (λ y _ t. (y ≡ withPhase off w) × Fits w (view D E (t .0)) × Whole t) (withPhase off w) (run {i = false} concrete (allocateEach es) s)
+      → Follow D E (λ y _ t. (y ≡ withPhase off w) × Fits w (view D E (t .0)) × Whole t) (withPhase off w)
+      (run {i = false} concrete (allocateEach es) s)
   unfolding allocateEach
   each [] w s l r two = at-end (refl, r, l)
   each (e ∷ es) w s l r two =
       let f = alloc-fits D E w s (directionOf (e .address)) (e .kind) (e .address) (e .maximum) (e .interval) l r two in
-      each es w (concrete .act (allocate (directionOf (e .address)) (e .kind) (e .address) (e .maximum) (e .interval)) s)
+      each es w (concrete .act (allocate (directionOf (e .address)) (e .kind) (e .address) (e .maximum) (e .interval))
+      s)
       (f .1) (f .0) (ap (λ n. eqb n 2) (f .2) ∙ two)
 
-  q-announce : {i : Bool} (d : Dir) (e : ℕ) → Quiet D E false (Off D E) (announce {i = i} d e)
+  q-announce : {i : Bool} (d : Dir) (e : ℕ) → LeavesTrack D E false (Off D E) (announce {i = i} d e)
   q-announce d e = (q-bind D E) ((q-got D E) (ep-cell d e))
-      (λ s. (q-bind D E) ((q-write D E) (q-ret D E)) (λ _. (q-bind D E) ((q-when D E) ((q-hand D E) (q-ret D E))) (λ _. (q-ret D E))))
+      (λ s. (q-bind D E) ((q-write D E) (q-ret D E)) (λ _. (q-bind D E) ((q-when D E) ((q-hand D E) (q-ret D E)))
+      (λ _. (q-ret D E))))
 
-  q-begins-at : {i : Bool} (d : Dir) (x n e : ℕ) → Quiet D E false (Off D E) (beginsAt {i = i} d x n e)
+  q-begins-at : {i : Bool} (d : Dir) (x n e : ℕ) → LeavesTrack D E false (Off D E) (beginsAt {i = i} d x n e)
   unfolding beginsAt
   q-begins-at d x zero e = (q-ret D E)
   q-begins-at d x (suc n) e = (q-bind D E) ((q-got D E) allocator-cell)
       (λ a. (q-bind D E) ((q-got D E) (ep-cell d e)) (λ s. (q-test D E) (q-ret D E) (q-begins-at d x n (suc e))))
 
-  q-after : {i : Bool} (n total : ℕ) (d : Dir) (e : ℕ) → Quiet D E false (Off D E) (announceAfter {i = i} n total d e)
+  q-after : {i : Bool} (n total : ℕ) (d : Dir) (e : ℕ)
+      → LeavesTrack D E false (Off D E) (announceAfter {i = i} n total d e)
   unfolding announceAfter
   q-after zero total d e = (q-ret D E)
   q-after (suc n) total d e = (q-bind D E)
@@ -319,7 +357,7 @@ module _ (D : Dir) (E : ℕ) where
       ((q-bind D E) (q-begins-at In x 15 1) (λ m. (q-bind D E) (q-announce In m) (λ _. q-after n total In m)))
       ((q-bind D E) (q-announce Out o) (λ _. q-after n total Out o))))
 
-  pub q-announces : {i : Bool} (es : List Endpoint) → Quiet D E false (Off D E) (announceAll {i = i} es)
+  pub q-announces : {i : Bool} (es : List Endpoint) → LeavesTrack D E false (Off D E) (announceAll {i = i} es)
   q-announces [] = (q-ret D E)
   q-announces (e ∷ es) = (q-bind D E) (q-announce (directionOf (e .address)) (e .address % 128))
       (λ _. q-after (length es) (suc (length es)) (directionOf (e .address)) (e .address % 128))
@@ -333,7 +371,8 @@ module _ (D : Dir) (E : ℕ) where
       early n h = ne-eqb n 2 (λ q. absurd (omega (arith, q, eqb-true n 1 h)))
 
       by : (a : listing.Answer) → eqb (s .0 .globals .stage) 2 ≡ false
-          → Follow D E (Ends D E (other (AllocateAll bytes))) (withPhase off w) (run {i = false} concrete (allocate-read bytes a) s)
+          → Follow D E (Ends D E (other (AllocateAll bytes))) (withPhase off w)
+          (run {i = false} concrete (allocate-read bytes a) s)
       by (listed.Refused n) two = at-end (r, tt)
       by listed.Listed two = follow.follow-cond D E (eqb (trialOf (s .0 .allocator) (listOf bytes) .refusal) 0)
           (λ _. follow.follow-bind D E (each (listOf bytes) w s (z .places) r two)
@@ -351,13 +390,15 @@ module _ (D : Dir) (E : ℕ) where
       (started D E w maximum (s .0) r) (started-places maximum (s .0) (z .places)))
       (λ _. at-end (r, tt))
     where
-      q-start : {i : Bool} → Quiet D E false (Off D E) (startEp0 {i = i} maximum)
+      q-start : {i : Bool} → LeavesTrack D E false (Off D E) (startEp0 {i = i} maximum)
       q-start = (q-bind D E) ((q-hand D E) (q-ret D E))
           (λ _. (q-bind D E) ((q-write D E) (q-ret D E))
-          (λ _. (q-bind D E) ((q-write D E) (q-ret D E)) (λ _. (q-bind D E) ((q-write D E) (q-ret D E)) (λ _. (q-write D E) (q-ret D E)))))
+          (λ _. (q-bind D E) ((q-write D E) (q-ret D E))
+          (λ _. (q-bind D E) ((q-write D E) (q-ret D E)) (λ _. (q-write D E) (q-ret D E)))))
 
       by : (a : alloc.Answer) (t : St) → Fits w (view D E (t .0)) → Whole t
-          → Follow D E (Ends D E (other (Start maximum))) (withPhase off w) (run {i = false} concrete (started-as maximum a) t)
+          → Follow D E (Ends D E (other (Start maximum))) (withPhase off w)
+          (run {i = false} concrete (started-as maximum a) t)
       by (variant.Refused n) t f l = at-end (f, tt)
       by (variant.Given e base slots) t f l = follow.follow-more D E
           ((q-resultless D E) (q-start {i = false}) .goes (withPhase off w) t (refl, λ _ _ _ _. refl) (loose D E l))

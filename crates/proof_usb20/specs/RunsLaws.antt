@@ -11,8 +11,9 @@ use Rattle.script.specs.Every as ways
 use Rattle.script.specs.Answers.{Answer, Refused}
 use Rattle.script.specs.Calls.{Config, Op, interrupt, slotted, other, aside, Aside, asideCode, code, calls, startRow}
 use Rattle.script.specs.Machine as machine
-use Rattle.script.specs.Machine.{Buf, Call, start, begin, go, question, Event, Ans, ended, Awaits, Way, idle, busy}
-use Rattle.script.specs.Machine.{Machine, misfit, beside, begun, continued, started, stay}
+use Rattle.script.specs.Machine.{Buf, Call, start, begin, continue, question, Event, Ans, ended, Awaits, Pending, idle}
+use Rattle.script.specs.Machine.{busy}
+use Rattle.script.specs.Machine.{Machine, misfit, duringInterrupt, begun, continued, started, stay}
 use Rattle.script_ops.specs.Rings.{St}
 use Rattle.script_ops.specs.Concrete.{concrete}
 use Rattle.machine.specs.Suspended.{driverOf, drive, haltsAs}
@@ -39,7 +40,8 @@ module _ (O : Observer) where
   abbrev pub Between : St → St → Type 0
   Between s t = (O .view (t .0) ≡ O .view (s .0)) × Sorting (t .0) × (t .0 .wakes ≡ s .0 .wakes)
 
-  abbrev pub Sees : {A : Type 0} → (O .Log → Access → Type 0) → (O .Log → A → St → Type 0) → O .Log → tree.Out St A → Type 0
+  abbrev pub Sees : {A : Type 0} → (O .Log → Access → Type 0) → (O .Log → A → St → Type 0) → O .Log → tree.Out St A
+      → Type 0
   Sees Ok P w out = Along (O .saw) (λ _ _ _. Unit {0}) Between Ok P w out
 
   -- `P` at each end, whatever is read
@@ -76,7 +78,7 @@ module _ (O : Observer) where
     Up k d = (v : ℕ) (t : St) → BetweenFrom d t → Ups (λ s. R (O .before) (O .view (s .0))) (k v t)
 
     -- the state fits the log where nothing is under way; else what is left to run does
-    abbrev J : Way Answer Driver → Driver → O .Log → Under → Type 0
+    abbrev J : Pending Answer Driver → Driver → O .Log → Under → Type 0
     J idle d w at-rest = R w (O .view d)
     J idle d w (doing o q) = ⊥
     J idle d w starting = ⊥
@@ -84,16 +86,18 @@ module _ (O : Observer) where
     J (busy i a k) d w (doing o q) = Goes o q w k d × ((v : ℕ) (t : St) → Only (O .Asks o) (k v t))
     J (busy i a k) d w starting = (w ≡ O .before) × Up k d
 
-    record ObserverStep (c : Call Config Op) (b : Buf) (y : Ans Answer × Machine Answer Driver) (x : Watched O) : Type 0 where
-      claim : Claim O c b (y .0) (serves (y .1 .way)) x
-      standing : let z = noted O c b (y .0) (serves (y .1 .way)) x in Standing O (y .1 .st) (z .log) (z .under)
-      next : let z = noted O c b (y .0) (serves (y .1 .way)) x in J (y .1 .way) (y .1 .st) (z .log) (z .under)
+    record ObserverStep (c : Call Config Op) (b : Buf) (y : Ans Answer × Machine Answer Driver) (x : Watched O) : Type
+        0 where
+      claim : Claim O c b (y .0) (serves (y .1 .under-way)) x
+      standing : let z = noted O c b (y .0) (serves (y .1 .under-way)) x in Standing O (y .1 .st) (z .log) (z .under)
+      next : let z = noted O c b (y .0) (serves (y .1 .under-way)) x in J (y .1 .under-way) (y .1 .st) (z .log)
+          (z .under)
 
     -- of an answer that is not too long
     abbrev Steps : Call Config Op → Buf → Ans Answer × Machine Answer Driver → Watched O → Type 0
     Steps c b y x = Few (y .0) → ObserverStep c b y x
 
-    standing-of : (y : Way Answer Driver) (d : Driver) (w : O .Log) (u : Under) → J y d w u → Standing O d w u
+    standing-of : (y : Pending Answer Driver) (d : Driver) (w : O .Log) (u : Under) → J y d w u → Standing O d w u
     standing-of idle d w at-rest j = L .stands w (O .view d) j
     standing-of (busy i a k) d w (doing o q) j = tt
     standing-of (busy i a k) d w starting j = tt
@@ -102,31 +106,55 @@ module _ (O : Observer) where
     begins : (o : Op) (i : Bool) (b : Buf) (w : O .Log) {out : tree.Out St Answer}
         → Sees (O .Allowed o) (Ends o) (O .opens o b w) out → Only (O .Asks o) out
         → Steps (begin o) b (haltsAs i out) (watched O w at-rest)
-    begins o i b w (at-end {a = a} {s = s} p) m few = record { claim = p .1 few; standing = L .stands _ (O .view (s .0)) (p .0); next = p .0 }
-    begins o i b w (at-ask ok k) (ways.at-ask a m) few = record { claim = (ok, a); standing = tt; next = (λ v t r h. k v t r h, λ v t. m v t tt tt) }
+    begins o i b w (at-end {a = a} {s = s} p) m few = record {
+      claim = p .1 few;
+      standing
+          = L .stands _ (O .view (s .0)) (p .0);
+      next = p .0;
+    }
+    begins o i b w (at-ask ok k) (ways.at-ask a m) few
+        = record { claim = (ok, a); standing = tt; next = (λ v t r h. k v t r h, λ v t. m v t tt tt) }
 
     goes : (o : Op) (i : Bool) (v : ℕ) (b : Buf) (w : O .Log) (q : Access) {out : tree.Out St Answer}
         → Sees (O .Allowed o) (Ends o) (O .saw w q v) out → Only (O .Asks o) out
-        → Steps (go v) b (haltsAs i out) (watched O w (doing o q))
-    goes o i v b w q (at-end {a = a} {s = s} p) m few = record { claim = p .1 few; standing = L .stands _ (O .view (s .0)) (p .0); next = p .0 }
-    goes o i v b w q (at-ask ok k) (ways.at-ask a m) few = record { claim = (ok, a); standing = tt; next = (λ v t r h. k v t r h, λ v t. m v t tt tt) }
+        → Steps (continue v) b (haltsAs i out) (watched O w (doing o q))
+    goes o i v b w q (at-end {a = a} {s = s} p) m few = record {
+      claim = p .1 few;
+      standing
+          = L .stands _ (O .view (s .0)) (p .0);
+      next = p .0;
+    }
+    goes o i v b w q (at-ask ok k) (ways.at-ask a m) few
+        = record { claim = (ok, a); standing = tt; next = (λ v t r h. k v t r h, λ v t. m v t tt tt) }
 
     -- a start-up's own script
     starts : (i : Bool) (v : ℕ) (b : Buf) (w : O .Log) → w ≡ O .before → {out : tree.Out St Answer}
-        → Ups (λ s. R (O .before) (O .view (s .0))) out → ObserverStep (go v) b (haltsAs i out) (watched O w starting)
+        → Ups (λ s. R (O .before) (O .view (s .0))) out
+        → ObserverStep (continue v) b (haltsAs i out) (watched O w starting)
     starts i v b w e (at-end {s = s} f) = let r = subst (λ (x : O .Log). R x (O .view (s .0))) (sym e) f in
         record { claim = tt; standing = L .stands w (O .view (s .0)) r; next = r }
     starts i v b w e (at-ask _ k) = record { claim = tt; standing = tt; next = (e, λ v t h. k v t tt h) }
 
     started-up : (c : Config) (b : Buf) (n : ℕ) → startRow c b ≡ n → (m : Machine Answer Driver) (x : Watched O)
-        → J (m .way) (m .st) (x .log) (x .under) → ObserverStep (start c) b (started calls driverOf (λ s. s) c n m b) x
+        → J (m .under-way) (m .st) (x .log) (x .under)
+        → ObserverStep (start c) b (started calls driverOf (λ s. s) c n m b) x
     started-up c b zero h m x j = halted (L .new c b)
       where
         halted : {out : tree.Out St Answer} → Ups (λ s. R (O .before) (O .view (s .0))) out
             → ObserverStep (start c) b (haltsAs false out) x
-        halted (at-end {s = s} f) = record { claim = tt; standing = rw h (L .stands (O .before) (O .view (s .0)) f); next = rw h f }
+        halted (at-end {s = s} f) = record {
+          claim = tt;
+          standing
+              = rw h (L .stands (O .before) (O .view (s .0)) f);
+          next = rw h f;
+        }
         halted (at-ask _ k) = record { claim = tt; standing = rw h tt; next = rw h (refl, λ v t h. k v t tt h) }
-    started-up c b (suc n) h m x j = record { claim = tt; standing = rw h (standing-of (m .way) (m .st) (x .log) (x .under) j); next = rw h j }
+    started-up c b (suc n) h m x j = record {
+      claim = tt;
+      standing
+          = rw h (standing-of (m .under-way) (m .st) (x .log) (x .under) j);
+      next = rw h j;
+    }
 
     -- calls between two accesses of an operation: what is left to run fits still
     still-J : (i : Bool) (a : Awaits) (k : ℕ → St → tree.Out St Answer) (d d′ : Driver) (w : O .Log) (u : Under)
@@ -149,7 +177,7 @@ module _ (O : Observer) where
 
     module _ (o : Op) (b : Buf) (i : Bool) (y : Awaits) (k : ℕ → St → tree.Out St Answer) (x : Watched O) where
       stepped : (a : Ans Answer) (d : Driver) (l : Buf) → J (busy i y k) d (x .log) (x .under)
-          → ObserverStep (begin o) b (a, record { way = busy i y k; st = d; buf = l }) x
+          → ObserverStep (begin o) b (a, record { under-way = busy i y k; st = d; buf = l }) x
       stepped a d l j = record {
         claim = unclaimed o b a (x .log) (x .under) i y k d j;
         standing = rw (same-begun o b a (x .log) (x .under) i y k d j) (standing-of (busy i y k) d (x .log)
@@ -159,20 +187,25 @@ module _ (O : Observer) where
 
       passing : (d : Driver) (l : Buf) (f : Aside) → Sorting d → J (busy i y k) d (x .log) (x .under)
           → (out : tree.Out St Answer) → run concrete (asideCode f) (d, b) ≡ out
-          → ObserverStep (begin o) b (beside calls driverOf (record { way = busy i y k; st = d; buf = b }) out) x
-      passing d l f z j (tree.ends a t) h = stepped (ended a) (t .0) (t .1) (still-J i y k d (t .0) (x .log) (x .under) (L .besides f d b a t z h) j)
+          → ObserverStep (begin o) b (duringInterrupt calls driverOf
+          (record { under-way = busy i y k; st = d; buf = b }) out) x
+      passing d l f z j (tree.ends a t) h = stepped (ended a) (t .0) (t .1)
+          (still-J i y k d (t .0) (x .log) (x .under) (L .besides f d b a t z h) j)
       passing d l f z j (tree.asks q t g) h = stepped (ended (Refused 3)) d b j
 
-    during : (o : Op) (b : Buf) (i : Bool) (y : Awaits) (k : ℕ → St → tree.Out St Answer) (d : Driver) (l : Buf) (x : Watched O)
+    during : (o : Op) (b : Buf) (i : Bool) (y : Awaits) (k : ℕ → St → tree.Out St Answer) (d : Driver) (l : Buf)
+        (x : Watched O)
         → Sorting d → J (busy i y k) d (x .log) (x .under)
-        → ObserverStep (begin o) b (begun calls driverOf (λ s. s) o (record { way = busy i y k; st = d; buf = l }) (busy i y k) b) x
+        → ObserverStep (begin o) b (begun calls driverOf (λ s. s) o (record { under-way = busy i y k; st = d; buf = l })
+        (busy i y k) b) x
     during interrupt b true y k d l x z j = stepped interrupt b true y k x (ended (Refused 3)) d b j
     during interrupt b false y k d l x z j = stepped interrupt b false y k x (ended (Refused 3)) d b j
     during (slotted o) b true y k d l x z j = stepped (slotted o) b true y k x (ended (Refused 3)) d b j
     during (slotted o) b false y k d l x z j = stepped (slotted o) b false y k x (ended (Refused 3)) d b j
     during (other o) b true y k d l x z j = stepped (other o) b true y k x (ended (Refused 3)) d b j
     during (other o) b false y k d l x z j = stepped (other o) b false y k x (ended (Refused 3)) d b j
-    during (aside o) b true y k d l x z j = passing (aside o) b true y k x d l o z j (run concrete (asideCode o) (d, b)) refl
+    during (aside o) b true y k d l x z j = passing (aside o) b true y k x d l o z j (run concrete (asideCode o) (d, b))
+        refl
     during (aside o) b false y k d l x z j = stepped (aside o) b false y k x (ended (Refused 3)) d b j
 
     brought-so : (s m : Bool) → cond s m false ≡ true → s ≡ true
@@ -184,44 +217,50 @@ module _ (O : Observer) where
         → R w (O .view d)
         → Sorting d
         → Steps (begin o) b
-        (cond g (stay calls driverOf 1 (record { way = idle; st = d; buf = l }))
-        (begun calls driverOf (λ s. s) o (record { way = idle; st = d; buf = l }) idle b)) (watched O w at-rest)
+        (cond g (stay calls driverOf 1 (record { under-way = idle; st = d; buf = l }))
+        (begun calls driverOf (λ s. s) o (record { under-way = idle; st = d; buf = l }) idle b)) (watched O w at-rest)
     afresh o b true h d l w r z few = let n = L .unlent o (h refl) b w (O .view d) r in
         record { claim = L .fair-1 o (h refl) (O .opens o b w); standing = L .stands _ (O .view d) n; next = n }
     afresh o b false h d l w r z few = begins o (calls .irq o) b w (L .call o w (d, b) r z) (L .asks o (d, b)) few
 
     -- row 1 of a call in the midst of an operation
-    row-1 : (o : Op) (b : Buf) (g : Bool) (i : Bool) (y : Awaits) (k : ℕ → St → tree.Out St Answer) (d : Driver) (l : Buf) (x : Watched O)
+    row-1 : (o : Op) (b : Buf) (g : Bool) (i : Bool) (y : Awaits) (k : ℕ → St → tree.Out St Answer) (d : Driver)
+        (l : Buf) (x : Watched O)
         → Sorting d → J (busy i y k) d (x .log) (x .under)
         → ObserverStep (begin o) b
-        (cond g (stay calls driverOf 1 (record { way = busy i y k; st = d; buf = l }))
-        (begun calls driverOf (λ s. s) o (record { way = busy i y k; st = d; buf = l }) (busy i y k) b)) x
+        (cond g (stay calls driverOf 1 (record { under-way = busy i y k; st = d; buf = l }))
+        (begun calls driverOf (λ s. s) o (record { under-way = busy i y k; st = d; buf = l }) (busy i y k) b)) x
     row-1 o b true i y k d l x z j = stepped o b i y k x (ended (Refused 1)) d l j
     row-1 o b false i y k d l x z j = during o b i y k d l x z j
 
     -- a continue
-    stays : (v : ℕ) (b : Buf) (n : ℕ) (i : Bool) (y : Awaits) (k : ℕ → St → tree.Out St Answer) (d : Driver) (l : Buf) (w : O .Log) (u : Under)
+    stays : (v : ℕ) (b : Buf) (n : ℕ) (i : Bool) (y : Awaits) (k : ℕ → St → tree.Out St Answer) (d : Driver) (l : Buf)
+        (w : O .Log) (u : Under)
         → J (busy i y k) d w u
-        → ObserverStep (go v) b (ended (Refused n), record { way = busy i y k; st = d; buf = l }) (watched O w u)
+        → ObserverStep (continue v) b (ended (Refused n), record { under-way = busy i y k; st = d; buf = l })
+        (watched O w u)
     stays v b n i y k d l w (doing o q) j = record { claim = tt; standing = tt; next = j }
     stays v b n i y k d l w starting j = record { claim = tt; standing = tt; next = j }
 
-    proceeds : (v : ℕ) (b : Buf) (i : Bool) (y : Awaits) (k : ℕ → St → tree.Out St Answer) (d : Driver) (w : O .Log) (u : Under)
-        → J (busy i y k) d w u → Sorting d → Steps (go v) b (haltsAs i (k v (d, b))) (watched O w u)
+    proceeds : (v : ℕ) (b : Buf) (i : Bool) (y : Awaits) (k : ℕ → St → tree.Out St Answer) (d : Driver) (w : O .Log)
+        (u : Under)
+        → J (busy i y k) d w u → Sorting d → Steps (continue v) b (haltsAs i (k v (d, b))) (watched O w u)
     proceeds v b i y k d w (doing o q) j z few = goes o i v b w q (j .0 v (d, b) tt (refl, z, refl)) (j .1 v (d, b)) few
     proceeds v b i y k d w starting j z few = starts i v b w (j .0) (j .1 v (d, b) (refl, z, refl))
 
-    row-16 : (v : ℕ) (b : Buf) (g : Bool) (i : Bool) (y : Awaits) (k : ℕ → St → tree.Out St Answer) (d : Driver) (w : O .Log) (u : Under)
+    row-16 : (v : ℕ) (b : Buf) (g : Bool) (i : Bool) (y : Awaits) (k : ℕ → St → tree.Out St Answer) (d : Driver)
+        (w : O .Log) (u : Under)
         → J (busy i y k) d w u → Sorting d
-        → Steps (go v) b (cond g (stay calls driverOf 16 (record { way = busy i y k; st = d; buf = b })) (haltsAs i
+        → Steps (continue v) b (cond g (stay calls driverOf 16 (record { under-way = busy i y k; st = d; buf = b }))
+        (haltsAs i
         (k v (d, b)))) (watched O w u)
     row-16 v b true i y k d w u j z few = stays v b 16 i y k d b w u j
     row-16 v b false i y k d w u j z few = proceeds v b i y k d w u j z few
 
-    continues : (v : ℕ) (b : Buf) (g : Bool) (y : Way Answer Driver) (d : Driver) (l : Buf) (w : O .Log) (u : Under)
+    continues : (v : ℕ) (b : Buf) (g : Bool) (y : Pending Answer Driver) (d : Driver) (l : Buf) (w : O .Log) (u : Under)
         → J y d w u → Sorting d
-        → Steps (go v) b (cond g (stay calls driverOf 1 (record { way = y; st = d; buf = l }))
-        (continued calls driverOf (λ s. s) v (record { way = y; st = d; buf = l }) y b)) (watched O w u)
+        → Steps (continue v) b (cond g (stay calls driverOf 1 (record { under-way = y; st = d; buf = l }))
+        (continued calls driverOf (λ s. s) v (record { under-way = y; st = d; buf = l }) y b)) (watched O w u)
     continues v b true idle d l w at-rest j z few = record {
       claim = tt;
       standing = L .stands w
@@ -239,26 +278,28 @@ module _ (O : Observer) where
 
     -- one call
     step : (c : Call Config Op) (b : Buf) (m : Machine Answer Driver) (x : Watched O)
-        → J (m .way) (m .st) (x .log) (x .under) → Sorting (m .st)
+        → J (m .under-way) (m .st) (x .log) (x .under) → Sorting (m .st)
         → Steps c b (drive c m b) x
     step (start c) b m x j z few = started-up c b (startRow c b) refl m x j
-    step (begin o) b m x j z few = by (m .way) (x .under) j few
+    step (begin o) b m x j z few = by (m .under-way) (x .under) j few
       where
         g : Bool
         g = cond (calls .slots o) (misfit calls driverOf (m .st) b) false
 
-        by : (y : Way Answer Driver) (u : Under) → J y (m .st) (x .log) u
+        by : (y : Pending Answer Driver) (u : Under) → J y (m .st) (x .log) u
             → Steps (begin o) b
-            (cond g (stay calls driverOf 1 (record { way = y; st = m .st; buf = m .buf }))
-            (begun calls driverOf (λ s. s) o (record { way = y; st = m .st; buf = m .buf }) y b)) (watched O (x .log) u)
+            (cond g (stay calls driverOf 1 (record { under-way = y; st = m .st; buf = m .buf }))
+            (begun calls driverOf (λ s. s) o (record { under-way = y; st = m .st; buf = m .buf }) y b))
+            (watched O (x .log) u)
         by idle at-rest i few = afresh o b g (brought-so (calls .slots o) (misfit calls driverOf (m .st) b)) (m .st)
             (m .buf) (x .log) i z few
         by (busy h a k) u i few = row-1 o b g h a k (m .st) (m .buf) (watched O (x .log) u) z i
-    step (go v) b m x j z few = continues v b (misfit calls driverOf (m .st) b) (m .way) (m .st) (m .buf) (x .log)
+    step (continue v) b m x j z few = continues v b (misfit calls driverOf (m .st) b) (m .under-way) (m .st) (m .buf)
+        (x .log)
         (x .under) j z few
     step (question q) b m x j z few = record {
       claim = tt;
-      standing = standing-of (m .way) (m .st) (x .log)
+      standing = standing-of (m .under-way) (m .st) (x .log)
           (x .under) j;
       next = j;
     }
@@ -268,7 +309,7 @@ module _ (O : Observer) where
     Sorted es m = (ds fs : List (Event Config Op)) → es ≡ ds ++ fs → Sorting (after calls driverOf ds m .st)
 
     each : (es : List (Event Config Op)) (m : Machine Answer Driver) (x : Watched O)
-        → J (m .way) (m .st) (x .log) (x .under) → Sorted es m → Roomy m
+        → J (m .under-way) (m .st) (x .log) (x .under) → Sorted es m → Roomy m
         → All O es m x
     each [] m x j z k = tt
     each (e ∷ es) m x j z k =
@@ -277,12 +318,13 @@ module _ (O : Observer) where
         let a = step (e .call) (e .lent) m x j (z [] (e ∷ es) refl) (f .answer) in (
           a .claim,
           a .standing,
-          each es (y .1) (noted O (e .call) (e .lent) (y .0) (serves (y .1 .way)) x) (a .next)
+          each es (y .1) (noted O (e .call) (e .lent) (y .0) (serves (y .1 .under-way)) x) (a .next)
               (λ ds fs h. z (e ∷ ds) fs (ap (e ∷_) h)) (f .machine),
         )
 
     fresh : {out : tree.Out St Answer} → Ups (λ s. R (O .before) (O .view (s .0))) out
-        → let y = haltsAs false out in J (y .1 .way) (y .1 .st) (startedBy O (y .0) .log) (startedBy O (y .0) .under)
+        → let y = haltsAs false out in J (y .1 .under-way) (y .1 .st) (startedBy O (y .0) .log)
+        (startedBy O (y .0) .under)
     fresh (at-end f) = f
     fresh (at-ask _ k) = (refl, λ v t h. k v t tt h)
 

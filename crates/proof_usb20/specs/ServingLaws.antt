@@ -64,7 +64,8 @@ entry-other u w x h = rw h refl
 
 naks-first : (w : Log) (s : St) (x : Transfer) → Plainly s
     → Watch Between Any (Exactly-by (λ u. entry u w x) (view (s .0))) (withPhase (shows (x .busy) (x .st) (x .len)) w)
-    (run {i = true} concrete (when (not (x .busy) || (not (isSof (x .st)) && not (eqb (endpoint (x .st)) 0))) (nakNonIso (x .st))) s)
+    (run {i = true} concrete (when (not (x .busy) || (not (isSof (x .st)) && not (eqb (endpoint (x .st)) 0)))
+    (nakNonIso (x .st))) s)
 naks-first w s x k = by (eqb (endpoint (x .st)) 0) refl (x .busy) refl
   where
     C : Bool
@@ -134,11 +135,13 @@ not-own x t iso sof frame e i = by t e i
 serves : (w : Log) (v : View) (x : Transfer) (l : Log) (t : St) {su : Bool} → R w v → v .stage ≡ 2 → w .setup-seen ≡ su
     → Settled w v l x t → Watch Between Any (Served su) l (run concrete (frames x) t)
 serves w v x l t {su = su} r two e (others h b n m q k) = back m (at-ask {q = Read FrameNo 0} tt (λ frame u _ i.
-    let iso = isoFor (token (x .st)) (concrete .get (ep-cell Out (endpoint (x .st))) t) (concrete .get (ep-cell In (endpoint (x .st))) t) in
+    let iso = isoFor (token (x .st)) (concrete .get (ep-cell Out (endpoint (x .st))) t)
+    (concrete .get (ep-cell In (endpoint (x .st))) t) in
     let y = framed x iso (u .0 .globals .«sof_frame») frame in
     back (elsewhere b (x .st) n w h)
     (watch-more
-    (q-served (token (y .st)) y iso frame (ap (λ (n : ℕ). eqb (endpoint n) 0) (framed-st x iso (u .0 .globals .«sof_frame») frame)
+    (q-served (token (y .st)) y iso frame (ap (λ (n : ℕ). eqb (endpoint n) 0)
+    (framed-st x iso (u .0 .globals .«sof_frame») frame)
     ∙ h) .goes (withPhase off w) u refl (plainly (i .1)))
     (λ z _ o j. (
       subst (λ (z : Log). R z (view (o .0))) (sym (j .0)) (subst (R w) (sym (j .1 ∙ (i .0 ∙ q))) r),
@@ -155,7 +158,8 @@ serves w v x l t {su = su} r two e (mine h v′ m q k) = back m (at-ask {q = Rea
     let n = concrete .get (ep-cell In (endpoint (x .st))) t in
     let iso = isoFor (token (x .st)) o n in
     let zero-ep = eqb-true (endpoint (x .st)) 0 h in
-    let not-iso = not-iso-for (token (x .st)) o n (ap (λ (e : ℕ). isOn (concrete .get (ep-cell Out e) t .iso)) zero-ep ∙ k .plain Out)
+    let not-iso = not-iso-for (token (x .st)) o n (ap (λ (e : ℕ). isOn (concrete .get (ep-cell Out e) t .iso)) zero-ep
+    ∙ k .plain Out)
     (ap (λ (e : ℕ). isOn (concrete .get (ep-cell In e) t .iso)) zero-ep ∙ k .plain In) in
     let same : framed x iso (u .0 .globals .«sof_frame») frame ≡ x = ap (λ (b : Bool). cond b (released x) x)
     (not-own x (token (x .st)) iso (u .0 .globals .«sof_frame») frame refl not-iso) in
@@ -202,12 +206,14 @@ ready-setup x e {v = v} {y = y} h k r = subst (λ (b : Bool). R (cond b (set-up 
     (sym h) (k, inr r))
 
 sets-up : (w : Log) (s : St) → R w (view (s .0)) → view (s .0) .stage ≡ 2 → w .setup-seen ≡ true → w .phase ≡ off
-    → Watch Between Any (λ x _ t. R (cond (x .setup-seen) (set-up x) x) (view (t .0)) × (x .phase ≡ off)) w (run concrete (onSetup {i = true}) s)
+    → Watch Between Any (λ x _ t. R (cond (x .setup-seen) (set-up x) x) (view (t .0)) × (x .phase ≡ off)) w
+    (run concrete (onSetup {i = true}) s)
 sets-up w s r two e ph = at-ask tt (λ _ a _ i. at-ask tt (λ _ b _ j. at-ask tt (λ _ c _ l.
     let h = j .1 .places in
     let o = outWith cleared b in
     let n = inWith cleared o in
-    let g = withSetup 1 (concrete .look (setup-word 0) b) (concrete .look (setup-word 1) b) (concrete .get globals-cell n) in
+    let g = withSetup 1 (concrete .look (setup-word 0) b) (concrete .look (setup-word 1) b)
+    (concrete .get globals-cell n) in
     let p = concrete .put globals-cell g n in
     let seen-p : view (p .0) ≡ setReady 1 (setIn (aborted (view (s .0) .inn)) (setOut (aborted (view (s .0) .out))
     (view (s .0))))
@@ -257,19 +263,24 @@ on-interrupt : (lent : Buf) (w : Log) (s : St) → R w (view (s .0)) → view (s
 on-interrupt lent w s r two = at-ask tt (λ f b _ j.
     let u = withFlags f (opens interrupt lent w) in
     watch-bind {P = Exactly u (view (s .0))}
-    (watch-cond (busRst f) (λ _. watch-more (masks (λ w. withBusRst w false) u b (plainly (j .1))) (λ _ _ _ m. (m .0, m .1 ∙ j .0, m .2)))
+    (watch-cond (busRst f) (λ _. watch-more (masks (λ w. withBusRst w false) u b (plainly (j .1)))
+    (λ _ _ _ m. (m .0, m .1 ∙ j .0, m .2)))
     (λ _. at-end (refl, j .0, plainly (j .1)))) (λ x _ c m. back (m .0) (
     watch-bind {P = Exactly u (view (s .0))}
-    (watch-cond (suspend f) (λ _. watch-more (masks (λ w. withSuspend w false) u c (m .2)) (λ _ _ _ n. (n .0, n .1 ∙ m .1, n .2)))
+    (watch-cond (suspend f) (λ _. watch-more (masks (λ w. withSuspend w false) u c (m .2))
+    (λ _ _ _ n. (n .0, n .1 ∙ m .1, n .2)))
     (λ _. at-end (refl, m .1, m .2))) (λ x _ d n. back (n .0) (
     watch-bind {P = Exactly u (view (s .0))}
-    (watch-cond (fifoOv f) (λ _. at-ask tt (λ _ t _ l. at-end (refl, l .0 ∙ n .1, plainly (l .1)))) (λ _. at-end (refl, n .1, n .2)))
+    (watch-cond (fifoOv f) (λ _. at-ask tt (λ _ t _ l. at-end (refl, l .0 ∙ n .1, plainly (l .1))))
+    (λ _. at-end (refl, n .1, n .2)))
     (λ x _ e o. back (o .0) (
     watch-bind {P = Exactly u (view (s .0))}
-    (watch-cond (hstSof f) (λ _. at-ask tt (λ _ t _ l. at-end (refl, l .0 ∙ o .1, plainly (l .1)))) (λ _. at-end (refl, o .1, o .2)))
+    (watch-cond (hstSof f) (λ _. at-ask tt (λ _ t _ l. at-end (refl, l .0 ∙ o .1, plainly (l .1))))
+    (λ _. at-end (refl, o .1, o .2)))
     (λ x _ g p. back (p .0) (
     watch-bind {P = Served (setupAct f)}
-    (watch-cond (transfer f) (λ h. back (is-flagged f (opens interrupt lent w) h) (transfers u g (subst (R u) (sym (p .1)) r) (ap (λ (y : View). y .stage) (p .1) ∙ two) refl))
+    (watch-cond (transfer f) (λ h. back (is-flagged f (opens interrupt lent w) h)
+    (transfers u g (subst (R u) (sym (p .1)) r) (ap (λ (y : View). y .stage) (p .1) ∙ two) refl))
     (λ h. at-end (
       subst (R u) (sym (p .1)) r,
       ap (λ (y : View). y .stage) (p .1)

@@ -30,13 +30,15 @@ use Rattle.proof_usb20.specs.FollowLaws as follow
 use Rattle.proof_usb20.specs.Follow as following
 use Rattle.proof_usb20.specs.Follow.{EpSeen, view, Follow}
 use Rattle.proof_usb20.specs.Watch.{at-end, at-ask}
-use Rattle.proof_usb20.specs.CalmLaws.{Else, CalmKept, Hears, kept-by, hears-same, hears-then, Quiet, q-bind, q-got, q-read, q-ret, q-test, q-when}
+use Rattle.proof_usb20.specs.CalmLaws.{Else, CalmKept, Hears, kept-by, hears-same, hears-then, LeavesTrack}
+use Rattle.proof_usb20.specs.CalmLaws.{q-bind, q-got, q-read, q-ret, q-test, q-when}
 use Rattle.proof_usb20.specs.CalmLaws.{q-write}
 use Rattle.proof_usb20.specs.ReadingLaws.{Own, own-true, got}
 use Rattle.proof_usb20.specs.JudgingLaws.{back}
 
 -- a token of a direction's: one of two
-by-token : (d : Dir) (t : Token) → tokenFor d t ≡ true → (P : Dir → Token → Type 0) → (d ≡ Out → P Out tok.Out) → (d ≡ In → P In tok.In) → P d t
+by-token : (d : Dir) (t : Token) → tokenFor d t ≡ true → (P : Dir → Token → Type 0) → (d ≡ Out → P Out tok.Out)
+    → (d ≡ In → P In tok.In) → P d t
 by-token Out tok.Out h P o i = o refl
 by-token In tok.In h P o i = i refl
 by-token Out tok.In h P o i = differ h
@@ -48,26 +50,29 @@ by-token In tok.Setup h P o i = differ h
 
 module _ (D : Dir) (E : ℕ) where
   -- the phase in which the status is known: control words and the bus's state tell the log nothing
-  abbrev pub Deaf : Track → Type 0
-  Deaf w = (r : Reg) (e v : ℕ) → sameReg r RxLen ≡ false → sameReg r IntFg ≡ false → sameReg r FrameNo ≡ false → saw D E w (Read r e) v ≡ w
+  abbrev pub ReadingsTellNothing : Track → Type 0
+  ReadingsTellNothing w = (r : Reg) (e v : ℕ) → sameReg r RxLen ≡ false → sameReg r IntFg ≡ false → sameReg r FrameNo
+      ≡ false → saw D E w (Read r e) v ≡ w
 
-  pub deaf : (st n : ℕ) (w : Track) → Deaf (withPhase (shows st n) w)
+  pub deaf : (st n : ℕ) (w : Track) → ReadingsTellNothing (withPhase (shows st n) w)
   deaf st n w r e v p q f = rw (p, q, f) refl
 
   deaf-read : {i : Bool} {A : Type 0} {r : Reg} {e : ℕ} {f : ℕ → Script i A} → sameReg r RxLen ≡ false
-      → sameReg r IntFg ≡ false → sameReg r FrameNo ≡ false → ((v : ℕ) → Quiet D E true Deaf (f v))
-      → Quiet D E true Deaf (read-then r e f)
+      → sameReg r IntFg ≡ false → sameReg r FrameNo ≡ false → ((v : ℕ) → LeavesTrack D E true ReadingsTellNothing (f v))
+      → LeavesTrack D E true ReadingsTellNothing (read-then r e f)
   deaf-read {r = r} {e = e} p q g x = (q-read D E) (λ w z v. z r e v p q g) x
 
-  pub q-nak : {i : Bool} (st : ℕ) → Quiet D E true Deaf (nakNonIso {i = i} st)
-  q-nak st = (q-bind D E) ((q-got D E) (ep-cell Out (endpoint st))) (λ o. (q-bind D E) ((q-got D E) (ep-cell In (endpoint st))) (λ n. (q-test D E)
+  pub q-nak : {i : Bool} (st : ℕ) → LeavesTrack D E true ReadingsTellNothing (nakNonIso {i = i} st)
+  q-nak st = (q-bind D E) ((q-got D E) (ep-cell Out (endpoint st)))
+      (λ o. (q-bind D E) ((q-got D E) (ep-cell In (endpoint st))) (λ n. (q-test D E)
       ((q-bind D E) (deaf-read refl refl refl (λ _. (q-ret D E))) (λ v. (q-write D E) (q-ret D E)))
       ((q-when D E) ((q-bind D E) (deaf-read refl refl refl (λ _. (q-ret D E))) (λ v. (q-write D E) (q-ret D E))))))
 
-  q-waits : {i : Bool} (n : ℕ) → Quiet D E true Deaf (looks {i = i} n)
+  q-waits : {i : Bool} (n : ℕ) → LeavesTrack D E true ReadingsTellNothing (looks {i = i} n)
   unfolding looks
   q-waits zero = (q-ret D E)
-  q-waits (suc n) = (q-bind D E) (deaf-read refl refl refl (λ _. (q-ret D E))) (λ _. (q-test D E) (q-ret D E) (q-waits n))
+  q-waits (suc n) = (q-bind D E) (deaf-read refl refl refl (λ _. (q-ret D E)))
+      (λ _. (q-test D E) (q-ret D E) (q-waits n))
 
   -- ---- the transfer settles
 
@@ -81,7 +86,8 @@ module _ (D : Dir) (E : ℕ) where
     pub hears : Hears D E true s t
 
   -- a token of the endpoint: the endpoint's record says that it is not isochronous
-  module _ (s : St) (i : isOn (epOn (s .0) D E .iso) ≡ false) (z : (d : Dir) → Else D E d 0) (st : ℕ) (h : mine D E st ≡ true) where
+  module _ (s : St) (i : isOn (epOn (s .0) D E .iso) ≡ false) (z : (d : Dir) → Else D E d 0) (st : ℕ)
+      (h : mine D E st ≡ true) where
     abbrev pub O : EpCore
     O = concrete .get (ep-cell Out (endpoint st)) s
 
@@ -95,7 +101,8 @@ module _ (D : Dir) (E : ℕ) where
     its-token = both (tokenFor D (token st)) (own D E D (endpoint st)) h .0
 
     plain : (d : Dir) → D ≡ d → isOn (concrete .get (ep-cell d (endpoint st)) s .iso) ≡ false
-    plain d g = ap (λ (p : EpCore). isOn (p .iso)) (got D E d (endpoint st) s (subst (λ (x : Dir). key x (endpoint st) ≡ key D E) g its-own)) ∙ i
+    plain d g = ap (λ (p : EpCore). isOn (p .iso)) (got D E d (endpoint st) s
+        (subst (λ (x : Dir). key x (endpoint st) ≡ key D E) g its-own)) ∙ i
 
     pub not-zero : eqb (endpoint st) 0 ≡ false
     not-zero = by (eqb (endpoint st) 0) refl
@@ -117,7 +124,8 @@ module _ (D : Dir) (E : ℕ) where
     pub bulk-wait : (x : Transfer) → x .st ≡ st → waitsForBulk x N ≡ x .busy
     unfolding waitsForBulk isOut isIn
     bulk-wait x e = rw (e, not-zero)
-        (by-token D (token st) its-token (λ _ t. x .busy && (outToken t || (inToken t && not (isOn (N .iso)))) ≡ x .busy)
+        (by-token D (token st) its-token (λ _ t. x .busy && (outToken t || (inToken t && not (isOn (N .iso))))
+        ≡ x .busy)
         (λ g. and-true (x .busy)) (λ g. rw (plain In g) (and-true (x .busy))))
 
   module _ (z : (d : Dir) → Else D E d 0) where
@@ -139,9 +147,11 @@ module _ (D : Dir) (E : ℕ) where
     same s = hears-same D E {s = s} {t = s} refl
 
     pub settles : (w : Track) (s : St) (x : Transfer) → isOn (epOn (s .0) D E .iso) ≡ false → CalmKept D E true s
-        → Follow D E (λ l y t. Settled s w (view D E (s .0)) l y t) (withPhase (shows (x .st) (x .len)) w) (run concrete (settle {i = true} x) s)
+        → Follow D E (λ l y t. Settled s w (view D E (s .0)) l y t) (withPhase (shows (x .st) (x .len)) w)
+        (run concrete (settle {i = true} x) s)
     settles w s x i k = follow.follow-cond D E (waitsForIso x (concrete .get (ep-cell Out (endpoint (x .st))) s))
-        (λ q. follow.follow-bind D E (q-waits 2001 .goes (withPhase (shows (x .st) (x .len)) w) s (deaf (x .st) (x .len) w, λ _ _ _ _. refl) k)
+        (λ q. follow.follow-bind D E (q-waits 2001 .goes (withPhase (shows (x .st) (x .len)) w) s
+        (deaf (x .st) (x .len) w, λ _ _ _ _. refl) k)
         (λ y _ a m. back D E (m .0) (at-ask tt (λ now b _ p. at-ask tt (λ n c _ r.
         at-end (record {
           len = cond (eqb n 0) (x .len) n;
@@ -152,7 +162,8 @@ module _ (D : Dir) (E : ℕ) where
           hears = after s b c (after s a b (m .3) p) r;
         }))))))
         (λ _. follow.follow-cond D E (waitsForBulk x (concrete .get (ep-cell In (endpoint (x .st))) s))
-        (λ _. follow.follow-bind D E (q-waits 2001 .goes (withPhase (shows (x .st) (x .len)) w) s (deaf (x .st) (x .len) w, λ _ _ _ _. refl) k)
+        (λ _. follow.follow-bind D E (q-waits 2001 .goes (withPhase (shows (x .st) (x .len)) w) s
+        (deaf (x .st) (x .len) w, λ _ _ _ _. refl) k)
         (λ y _ a m. back D E (m .0) (at-ask tt (λ n c _ r.
         at-end (record {
           len = cond (eqb n 0) (x .len) n;
@@ -169,7 +180,15 @@ module _ (D : Dir) (E : ℕ) where
         let kc = kept-by D E {s = a} {t = c} r ka in
         let hc = after s a c (after s s a (same s) p) r in
         follow.follow-cond D E (transfer f)
-        (λ t. back D E (kept f w t) (at-end (record { len = x .len; log = refl; its = λ h. not-mine s i x q b h; view = r .0 ∙ p .0; kept = kc; hears = hc })))
+        (λ t. back D E (kept f w t) (at-end (record {
+          len = x .len;
+          log = refl;
+          its = λ h. not-mine s i x q b h;
+          view
+              = r .0 ∙ p .0;
+          kept = kc;
+          hears = hc;
+        })))
         (λ t. back D E (taken f w t)
         (at-ask tt (λ st e _ g. follow.follow-bind D E (q-nak {i = true} st .goes (withPhase (shows st (x .len)) w) e (
           deaf st (x .len) w,
@@ -191,7 +210,15 @@ module _ (D : Dir) (E : ℕ) where
           kept = kept-by D E {s = s} {t = a} p k;
           hears = after s s a (same s) p;
         }))))
-        (λ b. at-end (record { len = x .len; log = refl; its = λ _. (refl, b); view = refl; kept = k; hears = same s }))))
+        (λ b. at-end (record {
+          len = x .len;
+          log = refl;
+          its = λ _. (refl, b);
+          view = refl;
+          kept = k;
+          hears
+              = same s;
+        }))))
       where
         kept : (f : ℕ) (w : Track) → transfer f ≡ true
             → saw D E (withPhase (shows (x .st) (x .len)) w) (Read IntFg 0) f ≡ withPhase (shows (x .st) (x .len)) w

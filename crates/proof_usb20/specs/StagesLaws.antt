@@ -18,17 +18,18 @@ use Rattle.script.specs.Cells.{EpCore, ep-cell, control-cell}
 use Rattle.script.specs.Script.{no-wakes, fill0}
 use Rattle.script.specs.Statics.{isOn, withReady, withArmed, withLen}
 use Rattle.script.specs.Control.{SETUP, DATA-OUT, ACCEPT, requestOf, no-control, dataInOf, addressOf}
-use Rattle.script.specs.Calls.{slotted, other, BeginDataIn, BeginSetup, BeginAccept, BeginReject, BeginDataOut, BeginAcceptSetAddress}
+use Rattle.script.specs.Calls.{slotted, other, BeginDataIn, BeginSetup, BeginAccept, BeginReject, BeginDataOut}
+use Rattle.script.specs.Calls.{BeginAcceptSetAddress}
 use Rattle.script_ops.specs.Rings.{St}
 use Rattle.script_ops.specs.Concrete.{concrete}
 use Rattle.proof_book.specs.TransferKindsLaws.{put-steady, act-steady}
 use Rattle.proof_usb20.specs.Pipe.{Pipe, Awaited, nothing, keeps, sets}
-use Rattle.proof_usb20.specs.Log.{Ep0Word, writtenAs, readAs, Request, for-setup, no-request, Log, afresh}
+use Rattle.proof_usb20.specs.Log.{Ep0Word, writtenAs, readAs, Request, Log, afresh}
 use Rattle.proof_usb20.specs.Log.{Untaken}
 use Rattle.proof_usb20.specs.Log.{unstarted, ended, misfits}
 use Rattle.proof_usb20.specs.Watch.{at-end, at-ask}
 use Rattle.proof_usb20.specs.WatchLaws.{watch-cond}
-use Rattle.proof_usb20.specs.Ep0.{Watch, View, view, Between, unstaged, Rel, Says, Base, Line, R, Law}
+use Rattle.proof_usb20.specs.Ep0.{Watch, View, view, Between, unstaged, Rel, Says, Base, Line, Law}
 use Rattle.proof_usb20.specs.ExemptLaws.{differ}
 use Rattle.proof_usb20.specs.ViewsLaws.{rec, setOut, setIn, setControl, put-out, put-in, put-control}
 use Rattle.proof_usb20.specs.Ep0Laws.{act-view}
@@ -71,9 +72,11 @@ pub noted-view : (c : Control) (s : St) → view (noted c s .0) ≡ setControl c
 noted-view c s = act-view no-wakes refl (concrete .put control-cell c s) ∙ put-control c s
 
 pub noted-whole : (c : Control) (s : St) → Whole s → Whole (noted c s)
-noted-whole c s h = act-steady no-wakes refl (concrete .put control-cell c s) .places ∙ (put-steady control-cell c s .places ∙ h)
+noted-whole c s h = act-steady no-wakes refl (concrete .put control-cell c s) .places
+    ∙ (put-steady control-cell c s .places ∙ h)
 
-pub moved : {q : Request} {b ex : Bool} {m : ℕ} {rx tx : Ep0Word} {l g : ℕ} {p : Pipe} {a : Awaited} {u : Bool} {x y : View} → y ≡ x
+pub moved : {q : Request} {b ex : Bool} {m : ℕ} {rx tx : Ep0Word} {l g : ℕ} {p : Pipe} {a : Awaited} {u : Bool}
+    {x y : View} → y ≡ x
     → Line q b m ex rx tx l g p a u x → Line q b m ex rx tx l g p a u y
 moved {q = q} {b = b} {ex = ex} {m = m} {rx = rx} {tx = tx} {l = l} {g = g} {p = p} {a = a} {u = u} e r =
     subst (Line q b m ex rx tx l g p a u) (sym e) r
@@ -107,11 +110,13 @@ above : {q : Request} {b : Bool} {l : ℕ} {x : View} (n : ℕ) → Base q b l x
     → ltb 64 n ≡ true
 above n k t h = ap (λ m. ltb m n) (sym (k .maximum (sym (k .started) ∙ t))) ∙ h
 
-module _ {P : Log → Answer → St → Type 0} {May : Log → Access → Type 0} {w : Log} (s : St) {o : tree.Out St Answer} where
+module _ {P : Log → Answer → St → Type 0} {May : Log → Access → Type 0} {w : Log} (s : St)
+    {o : tree.Out St Answer} where
   -- 4 and 9
   past-setup : (eqb (s .0 .globals .stage) 2 ≡ false → P w (Refused 4) s)
       → (isOn (s .0 .globals .«setup_ready») ≡ true → P w (Refused 9) s) → Watch Between May P w o
-      → Watch Between May P w (cond (eqb (s .0 .globals .stage) 2) (cond (isOn (s .0 .globals .«setup_ready»)) (ends (Refused 9) s) o) (ends (Refused 4) s))
+      → Watch Between May P w (cond (eqb (s .0 .globals .stage) 2)
+      (cond (isOn (s .0 .globals .«setup_ready»)) (ends (Refused 9) s) o) (ends (Refused 4) s))
   past-setup a b x = watch-cond (eqb (s .0 .globals .stage) 2)
       (λ _. watch-cond (isOn (s .0 .globals .«setup_ready»)) (λ g. at-end (b g)) (λ _. x)) (λ q. at-end (a q))
 
@@ -119,7 +124,8 @@ module _ {P : Log → Answer → St → Type 0} {May : Log → Access → Type 0
   past-rows : (n : ℕ) → (eqb (s .0 .globals .stage) 2 ≡ false → P w (Refused 4) s)
       → (eqb (s .0 .globals .stage) 2 ≡ true → ltb (s .0 .globals .«ep0_max») n ≡ true → P w (Refused 10) s)
       → (isOn (s .0 .globals .«setup_ready») ≡ true → P w (Refused 9) s) → Watch Between May P w o
-      → Watch Between May P w (cond (eqb (s .0 .globals .stage) 2) (cond (ltb (s .0 .globals .«ep0_max») n) (ends (Refused 10) s)
+      → Watch Between May P w (cond (eqb (s .0 .globals .stage) 2)
+      (cond (ltb (s .0 .globals .«ep0_max») n) (ends (Refused 10) s)
       (cond (isOn (s .0 .globals .«setup_ready»)) (ends (Refused 9) s) o)) (ends (Refused 4) s))
   past-rows n a b c x = watch-cond (eqb (s .0 .globals .stage) 2)
       (λ t. watch-cond (ltb (s .0 .globals .«ep0_max») n) (λ l. at-end (b t l))

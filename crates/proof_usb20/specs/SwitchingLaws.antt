@@ -23,7 +23,8 @@ use Rattle.proof_usb20.specs.Log.{Log, saw}
 use Rattle.proof_usb20.specs.Watch.{at-end}
 use Rattle.proof_usb20.specs.Ep0.{Watch, view, recOf, Between, Law}
 use Rattle.proof_usb20.specs.ViewsLaws.{made, ep-other}
-use Rattle.proof_usb20.specs.QuietLaws.{Plainly, Stays, Any, Quiet, asked, onward, apart, q-ret, q-bind, q-test}
+use Rattle.proof_usb20.specs.QuietLaws.{Plainly, Stays, Any, LeavesLog, asked, onward, apart, q-ret, q-bind}
+use Rattle.proof_usb20.specs.QuietLaws.{q-test}
 use Rattle.proof_usb20.specs.QuietLaws.{q-write, q-act, q-hand, q-put, Other, put-kept, other-word, other-length}
 use Rattle.proof_usb20.specs.PartsLaws.{q-got, q-wake, q-ep}
 use Rattle.proof_usb20.specs.TasksLaws.{Numbered, quiet-law, q-staged, q-named, q-resultless, put-paced}
@@ -47,12 +48,14 @@ unfolding slotStep
 slot-view e k o s = by (isOn (epOn (s .0) Out e .iso)) (eqb k 15)
   where
     by : (b c : Bool)
-        → view (cond b (armAt e k (cond c (renewedOn (s .0) e) (s .0), s .1)) (epOn (s .0) Out e .«armed_slot», s) .1 .0) ≡ view (s .0)
+        → view (cond b (armAt e k (cond c (renewedOn (s .0) e) (s .0), s .1))
+        (epOn (s .0) Out e .«armed_slot», s) .1 .0) ≡ view (s .0)
     by true true = with-other (renewedOn (s .0) e) e _ o ∙ renewed-view (s .0) e o
     by true false = with-other (s .0) e _ o
     by false c = refl
 
-switch-view : (e : ℕ) (on : Bool) (n : ℕ) → Other e → (s : St) → view (concrete .row (switch e on) n s .1 .0) ≡ view (s .0)
+switch-view : (e : ℕ) (on : Bool) (n : ℕ) → Other e → (s : St) → view (concrete .row (switch e on) n s .1 .0)
+    ≡ view (s .0)
 unfolding configStep typeStep epOn
 switch-view e on zero o s = refl
 switch-view e on (suc zero) o s = refl
@@ -68,14 +71,17 @@ silent e on (suc (suc (suc n))) x h w v = refl
 in-row : (e : ℕ) (on : Bool) → Numbered e → (n : ℕ) (w : Log) (s : St) → Plainly s
     → Watch Between Any (λ x _ t. Stays w s x t) w (rows concrete (switch e on) n (λ t. tree.ends (tt {0}) t) s)
 in-row e on m zero w s k = onward w s (concrete .row (switch e on) zero s .1) (switch-view e on zero (m .apart) s)
-    (asked w (silent e on zero (concrete .row (switch e on) zero s .0) (m .zero-not) w) (λ _ t l. at-end (refl, refl, l)))
-in-row e on m (suc n) w s k = onward w s (concrete .row (switch e on) (suc n) s .1) (switch-view e on (suc n) (m .apart) s)
-    (asked w (silent e on (suc n) (concrete .row (switch e on) (suc n) s .0) (m .zero-not) w) (λ _ t l. in-row e on m n w t l))
+    (asked w (silent e on zero (concrete .row (switch e on) zero s .0) (m .zero-not) w)
+    (λ _ t l. at-end (refl, refl, l)))
+in-row e on m (suc n) w s k = onward w s (concrete .row (switch e on) (suc n) s .1)
+    (switch-view e on (suc n) (m .apart) s)
+    (asked w (silent e on (suc n) (concrete .row (switch e on) (suc n) s .0) (m .zero-not) w)
+    (λ _ t l. in-row e on m n w t l))
 
-q-row : (e : ℕ) (on : Bool) → Numbered e → Quiet (row (switch e on))
+q-row : (e : ℕ) (on : Bool) → Numbered e → LeavesLog (row (switch e on))
 q-row e on m = record { goes = λ w s z k. in-row e on m 18 w s k }
 
-q-types : (f : ℕ → ℕ) → Quiet (modifyEpType {i = false} f)
+q-types : (f : ℕ → ℕ) → LeavesLog (modifyEpType {i = false} f)
 q-types f = record {
   goes = λ w s z k.
       let h : Globals → Globals = λ g. withEpType (f (g .«ep_type»)) g in
@@ -83,10 +89,11 @@ q-types f = record {
       (put-kept h (λ _. refl) s) (asked w (λ _. refl) (λ _ t l. at-end (refl, refl, l)));
 }
 
-q-kept : (d : Dir) (e : ℕ) (iso on : Bool) → Quiet (bus.kept {i = false} d e iso on)
-q-kept d e iso on = q-bind (q-types _) (λ _. q-bind (q-act refl q-ret) (λ _. q-bind (q-got globals-cell) (λ g. q-write (λ _. refl) q-ret)))
+q-kept : (d : Dir) (e : ℕ) (iso on : Bool) → LeavesLog (bus.kept {i = false} d e iso on)
+q-kept d e iso on = q-bind (q-types _) (λ _. q-bind (q-act refl q-ret)
+    (λ _. q-bind (q-got globals-cell) (λ g. q-write (λ _. refl) q-ret)))
 
-q-enabling : (d : Dir) (e : ℕ) (on : Bool) → Numbered e → Quiet (bus.setEnabled d e on)
+q-enabling : (d : Dir) (e : ℕ) (on : Bool) → Numbered e → LeavesLog (bus.setEnabled d e on)
 q-enabling Out e on m = q-bind (q-got (ep-cell Out e)) (λ s. q-bind (q-test (q-row e on m)
     (q-bind (q-act refl q-ret) (λ _. q-bind (q-ep Out e (λ p. withArmed (flag on) (renewed p)) (m .apart))
     (λ _. q-bind (q-hand refl q-ret) (λ _. q-bind (q-write (other-word Out e _ (m .zero-not)) q-ret)
@@ -96,7 +103,8 @@ q-enabling In e on m = q-bind (q-got (ep-cell In e))
     (λ s. q-bind (q-bind (q-act refl q-ret) (λ _. q-bind (q-ep In e renewed (m .apart))
     (λ _. q-bind (q-put (put-paced e NO_FRAME) q-ret) (λ _. q-bind (q-hand refl q-ret) (λ _. q-bind (q-write
     (other-length e 0 (m .zero-not)) q-ret)
-    (λ _. q-bind (q-write (other-word In e _ (m .zero-not)) q-ret) (λ _. q-kept In e (isOn (s .iso)) on))))))) (λ _. q-wake In e))
+    (λ _. q-bind (q-write (other-word In e _ (m .zero-not)) q-ret) (λ _. q-kept In e (isOn (s .iso)) on)))))))
+    (λ _. q-wake In e))
 
 pub law-set-enabled : (d : Dir) (e : ℕ) (on : Bool) → Law (slotted (SetEnabled d e on))
 law-set-enabled d e on = quiet-law (slotted (SetEnabled d e on)) tt refl (λ _ _. refl) (λ _ _. tt) (q-staged 2

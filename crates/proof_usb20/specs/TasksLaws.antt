@@ -28,7 +28,8 @@ use Rattle.script.specs.Machine.{Buf}
 use Rattle.proof_book.specs.TransferKindsLaws.{put-steady, act-steady}
 use Rattle.proof_book.specs.Sorting.{Sorting}
 use Rattle.script.specs.Statics.{isOn, withReady, withArmed, withPaced, withTog, withPower}
-use Rattle.script.specs.Answers.{Answer, Refused, End, NotYet, Done, Shown, operation, resultless, staged, named, unless, isNumber, isAllocated}
+use Rattle.script.specs.Answers.{Answer, Refused, End, NotYet, Done, Shown, operation, resultless, staged, named}
+use Rattle.script.specs.Answers.{unless, isNumber, isAllocated}
 use Rattle.script.specs.IsoIn.{isoInCompletions, isoInSetPaced}
 use Rattle.script.specs.Bus as bus
 use Rattle.script.specs.Endpoint.{enabled-else, ends-request, polled, no-request, begun}
@@ -41,7 +42,7 @@ use Rattle.script_ops.specs.Concrete.{concrete}
 use Rattle.regs.specs.declared.Access.{Access}
 use Rattle.proof_usb20.specs.Log as log
 use Rattle.proof_usb20.specs.Log.{Log, before, exempted, afresh, opens, ends, closes, Poll, none, pollOf, settled}
-use Rattle.proof_usb20.specs.Log.{Fair, Allowed, AllowedTo}
+use Rattle.proof_usb20.specs.Log.{EndsByReason, Allowed, AllowedTo}
 use Rattle.proof_usb20.specs.Log.{Ep0Word, readAs, compared, withRx, withTx, withSlots, Shows}
 use Rattle.proof_usb20.specs.Pipe.{Answers, naks, stalls, acks, Half}
 use Rattle.proof_usb20.specs.RequestLaws.{baseOf, Left, kept-base, given-64, given-start, started-base}
@@ -62,15 +63,17 @@ use Rattle.proof_usb20.specs.ExemptLaws.{differ, further}
 use Rattle.proof_usb20.specs.Ep0Laws.{act-view}
 use Rattle.proof_usb20.specs.FittingLaws.{both, and, Fit}
 use Rattle.proof_usb20.specs.QuietLaws as quiet
-use Rattle.proof_usb20.specs.QuietLaws.{plainly, steadily, Any, Quiet, Stays, q-ret, q-bind, q-test, q-if}
+use Rattle.proof_usb20.specs.QuietLaws.{plainly, steadily, Any, LeavesLog, Stays, q-ret, q-bind, q-test, q-if}
 use Rattle.proof_usb20.specs.QuietLaws.{q-read-of}
-use Rattle.proof_usb20.specs.QuietLaws.{q-write, q-is, q-look, q-fetch, q-act, q-put, put-other, put-kept, other-word}
+use Rattle.proof_usb20.specs.QuietLaws.{q-write, q-is, q-look, q-fetch, q-act, q-put, put-other, put-kept}
+use Rattle.proof_usb20.specs.QuietLaws.{other-word}
 use Rattle.proof_usb20.specs.QuietLaws.{other-length, other-read}
 use Rattle.proof_usb20.specs.PartsLaws.{q-got, q-wake, q-when, q-reg, q-ep, q-complete}
 
 -- ---- a quiet call
 
-allows : {A : Type 0} {P : Log → A → St → Type 0} {Ok : Log → Access → Type 0} {w : Log} {o : tree.Out St A} → ((x : Log) (q : Access) → Ok x q)
+allows : {A : Type 0} {P : Log → A → St → Type 0} {Ok : Log → Access → Type 0} {w : Log} {o : tree.Out St A}
+    → ((x : Log) (q : Access) → Ok x q)
     → Watch Between Any P w o → Watch Between Ok P w o
 allows g (at-end x) = at-end x
 allows g (at-ask _ x) = at-ask (g _ _) (λ v t b k. allows g (x v t b k))
@@ -80,7 +83,8 @@ same-log true w = refl
 same-log false w = refl
 
 closed : (o : Op) → pollOf o ≡ none → ((n : ℕ) (x : Log) → ends o n x ≡ x) → (a : Answer) (x : Log) → closes o a x ≡ x
-closed o p e (Refused n) x = ap (λ (q : Poll). cond (eqb n 9 || eqb n 10) (settled q x) x) p ∙ same-log (eqb n 9 || eqb n 10) x
+closed o p e (Refused n) x = ap (λ (q : Poll). cond (eqb n 9 || eqb n 10) (settled q x) x) p
+    ∙ same-log (eqb n 9 || eqb n 10) x
 closed o p e (End n ws) x = e n x
 closed o p e NotYet x = refl
 closed o p e (Done bytes) x = ap (λ (q : Poll). log.done q x) p
@@ -99,8 +103,8 @@ opened (other o) t b w = refl
 opened (aside o) t b w = refl
 
 pub quiet-law : (o : Op) → Task o → pollOf o ≡ none → ((n : ℕ) (x : Log) → ends o n x ≡ x) → ((a : Answer) (x : Log)
-    → Fair o a x)
-    → Quiet (code o) → Law o
+    → EndsByReason o a x)
+    → LeavesLog (code o) → Law o
 quiet-law o t p e fair q w s r z = subst (λ (u : Log). Watch Between (Allowed o) (Ends o) u (run concrete (code o) s))
     (sym (opened o t (s .1) w))
     (allows (λ x q. subst (λ (a : Poll). AllowedTo a x q) (sym p) tt) (watch-more (q .goes (afresh (s .1) w) s refl
@@ -112,13 +116,13 @@ quiet-law o t p e fair q w s r z = subst (λ (u : Log). Watch Between (Allowed o
 
 -- ---- the rows
 
-pub q-staged : {i : Bool} (n : ℕ) {p : Script i Answer} → Quiet p → Quiet (staged n p)
+pub q-staged : {i : Bool} (n : ℕ) {p : Script i Answer} → LeavesLog p → LeavesLog (staged n p)
 q-staged n x = q-bind (q-got globals-cell) (λ g. q-test x q-ret)
 
-q-operation : {i : Bool} {p : Script i ℕ} → Quiet p → Quiet (operation p)
+q-operation : {i : Bool} {p : Script i ℕ} → LeavesLog p → LeavesLog (operation p)
 q-operation x = q-bind (q-act refl q-ret) (λ _. q-bind x (λ n. q-bind (q-fetch (λ _. q-ret)) (λ w. q-ret)))
 
-pub q-resultless : {i : Bool} {p : Script i Unit} → Quiet p → Quiet (resultless p)
+pub q-resultless : {i : Bool} {p : Script i Unit} → LeavesLog p → LeavesLog (resultless p)
 q-resultless x = q-operation (q-bind x (λ _. q-ret))
 
 -- an endpoint that is allocated has a number from 1 to 15
@@ -129,7 +133,11 @@ pub record Numbered (e : ℕ) : Type 0 where
 numbered : (e : ℕ) → isNumber e ≡ true → Numbered e
 unfolding isNumber
 numbered zero h = differ h
-numbered (suc n) h = record { zero-not = ne-eqb (suc n) 0 (λ q. absurd (omega (arith, q))); apart = λ q. absurd (below q) }
+numbered (suc n) h = record {
+  zero-not = ne-eqb (suc n) 0 (λ q. absurd (omega (arith, q)));
+  apart
+      = λ q. absurd (below q);
+}
   where
     below : suc n % 16 ≡ 0 → ⊥
     below q = absurd (omega (arith, q, ltb-true (suc n) 16 (both (ltb 0 (suc n)) (ltb (suc n) 16) h .1)))
@@ -139,10 +147,11 @@ unfolding isAllocated
 allocated-number a Out e h = numbered e (both (isNumber e) (isSet (a .«allocated_out») e) h .0)
 allocated-number a In e h = numbered e (both (isNumber e) (isSet (a .«allocated_in») e) h .0)
 
-pub q-named : {i : Bool} (d : Dir) (e : ℕ) {p : Script i Answer} → (Numbered e → Quiet p) → Quiet (named d e p)
-q-named d e x = q-bind (q-got allocator-cell) (λ a. q-if (isAllocated a d e) (λ h. x (allocated-number a d e h)) (λ _. q-ret))
+pub q-named : {i : Bool} (d : Dir) (e : ℕ) {p : Script i Answer} → (Numbered e → LeavesLog p) → LeavesLog (named d e p)
+q-named d e x = q-bind (q-got allocator-cell) (λ a. q-if (isAllocated a d e) (λ h. x (allocated-number a d e h))
+    (λ _. q-ret))
 
-q-unless : {i : Bool} (b : Bool) (n : ℕ) {p : Script i Answer} → Quiet p → Quiet (unless b n p)
+q-unless : {i : Bool} (b : Bool) (n : ℕ) {p : Script i Answer} → LeavesLog p → LeavesLog (unless b n p)
 q-unless b n x = q-test q-ret x
 
 put-request : (d : Dir) (e : ℕ) (v : Request) (s : St) → view (concrete .put (request-cell d e) v s .0) ≡ view (s .0)
@@ -153,10 +162,11 @@ pub put-paced : (e v : ℕ) (s : St) → view (concrete .put (paced-cell e) v s 
 unfolding withPacedOn epOn
 put-paced e v s = refl
 
-q-ends : {i : Bool} (d : Dir) (e : ℕ) (a : Answer) → Quiet (ends-request {i = i} d e a)
+q-ends : {i : Bool} (d : Dir) (e : ℕ) (a : Answer) → LeavesLog (ends-request {i = i} d e a)
 q-ends d e a = q-bind (q-put (put-request d e no-request) q-ret) (λ _. q-ret)
 
-q-enabled : {i : Bool} (d : Dir) (e : ℕ) {p q : Script i Answer} → Quiet q → Quiet p → Quiet (enabled-else d e q p)
+q-enabled : {i : Bool} (d : Dir) (e : ℕ) {p q : Script i Answer} → LeavesLog q → LeavesLog p
+    → LeavesLog (enabled-else d e q p)
 q-enabled d e x y = q-bind (q-got globals-cell) (λ g. q-test y x)
 
 -- ---- reads and writes
@@ -165,13 +175,16 @@ pub law-begin-read : (e n : ℕ) → Law (other (BeginRead e n))
 law-begin-read e n = quiet-law (other (BeginRead e n)) tt refl (λ _ _. refl) (λ _ _. tt)
     (q-staged 2 (q-named Out e (λ m. q-enabled Out e q-ret (q-bind (q-got (ep-cell Out e)) (λ s. q-unless _ 10
     (q-bind (q-put (put-request Out e (begun n)) q-ret)
-    (λ _. q-resultless (q-test q-ret (q-test q-ret (q-bind (q-ep Out e (withArmed 1) (m .apart)) (λ _. q-reg Out e _ (m .zero-not))))))))))))
+    (λ _. q-resultless (q-test q-ret (q-test q-ret (q-bind (q-ep Out e (withArmed 1) (m .apart))
+    (λ _. q-reg Out e _ (m .zero-not))))))))))))
 
-q-polled : {i : Bool} (d : Dir) (e n : ℕ) → Numbered e → {p : EpCore → Script i Answer} → ((s : EpCore) → Quiet (p s))
-    → Quiet (polled d e n p)
+q-polled : {i : Bool} (d : Dir) (e n : ℕ) → Numbered e → {p : EpCore → Script i Answer}
+    → ((s : EpCore) → LeavesLog (p s))
+    → LeavesLog (polled d e n p)
 q-polled d e n m x = q-bind (q-got (request-cell d e))
     (λ r. q-unless _ 15
-    (q-test (q-bind (q-got (ep-cell d e)) (λ s. x s)) (q-bind (q-ep d e (withReady 0) (m .apart)) (λ _. q-ends d e (Refused 10)))))
+    (q-test (q-bind (q-got (ep-cell d e)) (λ s. x s)) (q-bind (q-ep d e (withReady 0) (m .apart))
+    (λ _. q-ends d e (Refused 10)))))
 
 pub law-poll-read : (e n : ℕ) → Law (slotted (PollRead e n))
 law-poll-read e n = quiet-law (slotted (PollRead e n)) tt refl (λ _ _. refl) (λ _ _. tt) (q-staged 2 (q-named Out e
@@ -179,20 +192,24 @@ law-poll-read e n = quiet-law (slotted (PollRead e n)) tt refl (λ _ _. refl) (�
     (q-enabled Out e (q-ends Out e (Refused 9)) (q-bind (q-is (λ _. q-ret))
     (λ b. q-test (q-bind (q-fetch (λ _. q-ret)) (λ bytes. q-bind (q-act refl q-ret) (λ _. q-ends Out e _))) q-ret)))
     (q-test (q-bind (q-ep Out e (withReady 0) (m .apart)) (λ _. q-test (q-ends Out e (Refused 10))
-    (q-bind (q-fetch (λ _. q-ret)) (λ bytes. q-ends Out e (Done bytes))))) (q-enabled Out e (q-ends Out e (Refused 9)) q-ret))))))
+    (q-bind (q-fetch (λ _. q-ret)) (λ bytes. q-ends Out e (Done bytes)))))
+    (q-enabled Out e (q-ends Out e (Refused 9)) q-ret))))))
 
 pub law-begin-write : (e : ℕ) (bytes : List ℕ) → Law (slotted (BeginWrite e bytes))
 law-begin-write e bytes = quiet-law (slotted (BeginWrite e bytes)) tt refl (λ _ _. refl) (λ _ _. tt)
     (q-staged 2 (q-named In e (λ m. q-enabled In e q-ret (q-bind (q-got (ep-cell In e)) (λ s. q-unless _ 10
     (q-bind (q-put (put-request In e (begun (length bytes))) q-ret)
-    (λ _. q-resultless (q-test q-ret (q-bind (q-act refl q-ret) (λ _. q-bind (q-ep In e (λ s. withArmed 1 (withReady 0 s)) (m .apart))
+    (λ _. q-resultless (q-test q-ret (q-bind (q-act refl q-ret)
+    (λ _. q-bind (q-ep In e (λ s. withArmed 1 (withReady 0 s)) (m .apart))
     (λ _. q-bind (q-write (other-length e _ (m .zero-not)) q-ret) (λ _. q-reg In e _ (m .zero-not)))))))))))))
 
 pub law-poll-write : (e : ℕ) (bytes : List ℕ) → Law (slotted (PollWrite e bytes))
 law-poll-write e bytes = quiet-law (slotted (PollWrite e bytes)) tt refl
     (λ _ _. refl) (λ _ _. tt) (q-staged 2 (q-named In e (λ m. q-polled In e (length bytes) m (λ s. q-test
-    (q-enabled In e (q-ends In e (Refused 9)) (q-bind (q-is (λ _. q-ret)) (λ b. q-test (q-bind (q-act refl q-ret) (λ _. q-ends In e (Done []))) q-ret)))
-    (q-test (q-bind (q-ep In e (withReady 0) (m .apart)) (λ _. q-ends In e (Done []))) (q-enabled In e (q-ends In e (Refused 9)) q-ret))))))
+    (q-enabled In e (q-ends In e (Refused 9)) (q-bind (q-is (λ _. q-ret))
+    (λ b. q-test (q-bind (q-act refl q-ret) (λ _. q-ends In e (Done []))) q-ret)))
+    (q-test (q-bind (q-ep In e (withReady 0) (m .apart)) (λ _. q-ends In e (Done [])))
+    (q-enabled In e (q-ends In e (Refused 9)) q-ret))))))
 
 -- ---- before EP0's start alone
 
@@ -360,7 +377,7 @@ law-is-stalled d e w s r z = by (eqb e 0) refl
         ))) (λ q. differ (sym q ∙ h)))
         (λ _. at-end (r, tt))
 
-q-paced : {i : Bool} (e : ℕ) (on : Bool) → Quiet (isoInSetPaced {i = i} e on)
+q-paced : {i : Bool} (e : ℕ) (on : Bool) → LeavesLog (isoInSetPaced {i = i} e on)
 q-paced e on = record {
   goes = λ w s z k.
       let f : Globals → Globals = λ g. withPaced (withBit (g .«iso_in_paced») e on) g in
@@ -368,7 +385,8 @@ q-paced e on = record {
       at-end (
         refl,
         put-paced e NO_FRAME t ∙ put-kept f (λ _. refl) s,
-        steadily (put-steady (paced-cell e) NO_FRAME t) (steadily (put-steady globals-cell (f (concrete .get globals-cell s)) s) k),
+        steadily (put-steady (paced-cell e) NO_FRAME t)
+            (steadily (put-steady globals-cell (f (concrete .get globals-cell s)) s) k),
       );
 }
 
@@ -376,7 +394,7 @@ pub law-set-paced : (e : ℕ) (on : Bool) → Law (other (SetPaced e on))
 law-set-paced e on = quiet-law (other (SetPaced e on)) tt refl (λ _ _. refl) (λ _ _. tt) (q-staged 2 (q-test (q-bind
     (q-paced e on) (λ _. q-ret)) q-ret))
 
-q-completions : {i : Bool} (n e : ℕ) → eqb e 0 ≡ false → Quiet (isoInCompletions {i = i} n e)
+q-completions : {i : Bool} (n e : ℕ) → eqb e 0 ≡ false → LeavesLog (isoInCompletions {i = i} n e)
 unfolding isoInCompletions
 q-completions zero e h = q-ret
 q-completions (suc n) e h = q-bind (q-complete e h) (λ _. q-completions n e h)
@@ -392,13 +410,16 @@ law-advance e = quiet-law (other (Advance e)) tt refl
 
 -- ---- those that pass during an interrupt
 
-q-aside : (o : Aside) → Quiet (asideCode o)
+q-aside : (o : Aside) → LeavesLog (asideCode o)
 q-aside (Open e) = q-staged 2
     (q-named Out e (λ _. q-bind (q-got (ep-cell Out e)) (λ s. q-unless _ 11 (q-bind (q-is (λ _. q-ret))
-    (λ b. q-test (q-bind (q-act refl q-ret) (λ _. q-bind (q-fetch (λ _. q-ret)) (λ bytes. q-bind (q-look (λ _. q-ret)) (λ stamp. q-ret)))) q-ret)))))
-q-aside (Close e) = q-staged 2 (q-named Out e (λ _. q-bind (q-is (λ _. q-ret)) (λ b. q-test (q-bind (q-act refl q-ret) (λ _. q-ret)) q-ret)))
+    (λ b. q-test (q-bind (q-act refl q-ret) (λ _. q-bind (q-fetch (λ _. q-ret))
+    (λ bytes. q-bind (q-look (λ _. q-ret)) (λ stamp. q-ret)))) q-ret)))))
+q-aside (Close e) = q-staged 2 (q-named Out e (λ _. q-bind (q-is (λ _. q-ret))
+    (λ b. q-test (q-bind (q-act refl q-ret) (λ _. q-ret)) q-ret)))
 q-aside (Queue e bytes) = q-staged 2
-    (q-named In e (λ _. q-enabled In e q-ret (q-bind (q-got allocator-cell) (λ a. q-unless _ 10 (q-bind (q-got (ep-cell In e))
+    (q-named In e (λ _. q-enabled In e q-ret (q-bind (q-got allocator-cell)
+    (λ a. q-unless _ 10 (q-bind (q-got (ep-cell In e))
     (λ s. q-unless _ 11 (q-bind (q-is (λ _. q-ret)) (λ b. q-test (q-bind (q-act refl q-ret) (λ _. q-ret)) q-ret))))))))
 
 pub law-aside : (o : Aside) → Law (aside o)
@@ -416,15 +437,17 @@ aside-view o d b a t z h = ended-view
 
 -- ---- halts
 
-q-stalled : {i : Bool} (d : Dir) (e : ℕ) (on : Bool) → Numbered e → Quiet (bus.setStalled {i = i} d e on)
+q-stalled : {i : Bool} (d : Dir) (e : ℕ) (on : Bool) → Numbered e → LeavesLog (bus.setStalled {i = i} d e on)
 q-stalled Out e true m = q-bind (q-reg Out e _ (m .zero-not)) (λ _. q-wake Out e)
-q-stalled In e true m = q-bind (q-write (other-length e 0 (m .zero-not)) q-ret) (λ _. q-bind (q-reg In e _ (m .zero-not)) (λ _. q-wake In e))
+q-stalled In e true m = q-bind (q-write (other-length e 0 (m .zero-not)) q-ret)
+    (λ _. q-bind (q-reg In e _ (m .zero-not)) (λ _. q-wake In e))
 q-stalled Out e false m = q-bind (q-got (ep-cell Out e))
     (λ s. q-bind (q-put (put-other Out e (m .apart) (withTog 0 s)) q-ret)
     (λ _. q-bind (q-write (other-word Out e _ (m .zero-not)) q-ret) (λ _. q-wake Out e)))
 q-stalled In e false m = q-bind (q-got (ep-cell In e))
     (λ s. q-bind (q-put (put-other In e (m .apart) (withTog 0 s)) q-ret)
-    (λ _. q-bind (q-write (other-word In e _ (m .zero-not)) q-ret) (λ _. q-bind (q-when (q-ep In e _ (m .apart))) (λ _. q-wake In e))))
+    (λ _. q-bind (q-write (other-word In e _ (m .zero-not)) q-ret)
+    (λ _. q-bind (q-when (q-ep In e _ (m .apart))) (λ _. q-wake In e))))
 
 -- a halt of EP0's exempts; of another endpoint's it is quiet
 pub law-set-stalled : (d : Dir) (e : ℕ) (on : Bool) → Law (other (SetStalled d e on))
@@ -439,7 +462,8 @@ law-set-stalled d e on w s r z = by (eqb e 0) refl
             (Ends (other (SetStalled d e on))) (afresh (s .1) w) (run concrete (code (other (SetStalled d e on))) s)
         quiet-part = quiet-law (other (SetStalled d e on)) tt refl (λ _ x. ap (λ (b : Bool). cond b (exempted x) x) h)
             (λ _ _. tt)
-            (q-staged 2 (q-if (eqb e 0) (λ q. differ (sym h ∙ q)) (λ _. q-named d e (λ m. q-resultless (q-stalled d e on m))))) w s r z
+            (q-staged 2 (q-if (eqb e 0) (λ q. differ (sym h ∙ q))
+            (λ _. q-named d e (λ m. q-resultless (q-stalled d e on m))))) w s r z
     by true h = watch-cond (eqb (s .0 .globals .stage) 2)
         (λ _. watch-cond (eqb e 0)
         (λ _. watch-bind (l-bind {i = false} (l-stalled d e on) (λ _. l-ret {a = 0}) .goes (afresh (s .1) w)
@@ -473,7 +497,8 @@ law-bus-poll w s r z = watch-cond (eqb (s .0 .globals .stage) 2)
     (λ _. watch-cond (suspend f)
     (λ _. at-ask tt (λ m b _ j. at-ask tt (λ _ c _ l. at-ask tt (λ _ u _ n. at-end (inr (
       refl,
-      n .0 ∙ (put-kept (λ g. withIntEn (withSuspend (g .«int_en») true) g) (λ _. refl) c ∙ (l .0 ∙ (j .0 ∙ (i .0 ∙ act-view no-wakes refl s)))),
+      n .0 ∙ (put-kept (λ g. withIntEn (withSuspend (g .«int_en») true) g) (λ _. refl) c
+          ∙ (l .0 ∙ (j .0 ∙ (i .0 ∙ act-view no-wakes refl s)))),
       plainly (n .1),
     ))))))
     (λ _. at-end (inr (refl, i .0 ∙ act-view no-wakes refl s, plainly (i .1)))))))
@@ -494,4 +519,5 @@ law-bus-poll w s r z = watch-cond (eqb (s .0 .globals .stage) 2)
         → R (cond (eqb n 2) (exempted x) x) (view (t .0))
     after n x t (inl h) = subst (λ (m : ℕ). R (cond (eqb m 2) (exempted x) x) (view (t .0))) (sym (h .0)) (exempts
         (afresh (s .1) w) x s t r (h .1))
-    after n x t (inr m) = same (eqb n 2) x (view (t .0)) (subst (λ (y : Log). R y (view (t .0))) (sym (m .0)) (subst (R w) (sym (m .1)) r))
+    after n x t (inr m) = same (eqb n 2) x (view (t .0))
+        (subst (λ (y : Log). R y (view (t .0))) (sym (m .0)) (subst (R w) (sym (m .1)) r))

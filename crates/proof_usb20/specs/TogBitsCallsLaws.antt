@@ -14,7 +14,8 @@ use Rattle.descriptor.specs.declared.Answer.the-variants as reading
 use Rattle.script.specs.declared.Transfer.{Transfer}
 use Rattle.script.specs.IsoIn.{isoInComplete, sofOne, sofWalk, lateWalk, onSof, isoInCompletions}
 use Rattle.script.specs.IsoOut.{checkWalk}
-use Rattle.script.specs.Handler.{looks, toggled, retake, settle, dispatch, movedOn, ep0MovedOn, served, onTransfer, onSetup, stampedInterrupt}
+use Rattle.script.specs.Handler.{looks, toggled, retake, settle, dispatch, movedOn, ep0MovedOn, served, onTransfer}
+use Rattle.script.specs.Handler.{onSetup, stampedInterrupt}
 use Rattle.script.specs.Bus as bus
 use Rattle.script.specs.Control.{acks}
 use Rattle.script.specs.Driver.{allocated-as, started-as}

@@ -21,7 +21,8 @@ use Rattle.ring.specs.Out.{armedAt}
 use Rattle.alloc.specs.Alloc.{allocateOf, allocateEp0Of, allocated}
 use Rattle.alloc.specs.declared.Answer as alloc-answer
 use Rattle.alloc.specs.declared.Answer.the-variants as alloc
-use Rattle.script.specs.Cells.{sameSort, EpCore, Cell, Val, globals-cell, control-cell, allocator-cell, ep-cell, request-cell, paced-cell}
+use Rattle.script.specs.Cells.{sameSort, EpCore, Cell, Val, globals-cell, control-cell, allocator-cell, ep-cell}
+use Rattle.script.specs.Cells.{request-cell, paced-cell}
 use Rattle.script.specs.Script.{Script, run, ret, bind, test, read-then, write-then, wait-then, callback-then}
 use Rattle.script.specs.Script.{get-then, put-then, is-then, look-then, fetch-then, act-then, hand-then, row-then, Test}
 use Rattle.script.specs.Script.{Look, Fetch, Act}
@@ -40,7 +41,10 @@ use Rattle.proof_usb20.specs.TogBits.{IsBit, TogBits}
 -- ---- states
 
 rings-bits : (t : Bool) {d d′ : Driver} → RingsOnly t d d′ → TogBits d → TogBits d′
-rings-bits t p k = record { bits = λ dir e. subst IsBit (sym (ap (λ (x : EpCore). x .tog) (p .each dir e))) (k .bits dir e) }
+rings-bits t p k = record {
+  bits = λ dir e. subst IsBit (sym (ap (λ (x : EpCore). x .tog) (p .each dir e)))
+      (k .bits dir e);
+}
 
 else-bits : {d d′ : Driver} → d′ .eps ≡ d .eps → TogBits d → TogBits d′
 unfolding epOn
@@ -96,7 +100,8 @@ unfolding allocatedOn allocatedEp0
 act-bits q s k =
     let a = s .0 .allocator in
     by-act {K = λ _ d. TogBits d} s (λ q _ p. rings-bits (turns q) p k)
-    (λ dir kind address maximum interval. given-bits dir kind maximum interval (allocateOf a kind address maximum dir .answer) (else-bits refl k))
+    (λ dir kind address maximum interval. given-bits dir kind maximum interval
+    (allocateOf a kind address maximum dir .answer) (else-bits refl k))
     (λ maximum. started-bits maximum (allocateEp0Of a maximum .answer) (else-bits refl k)) q
 
 -- ---- rows
@@ -158,7 +163,8 @@ module _ {i : Bool} {A : Type 0} where
   pub k-ret : {a : A} → KeepsBits {i = i} (ret a)
   k-ret = record { on = λ s b. end b }
 
-  pub k-bind : {B : Type 0} {p : Script i B} {f : B → Script i A} → KeepsBits p → ((b : B) → KeepsBits (f b)) → KeepsBits (bind p f)
+  pub k-bind : {B : Type 0} {p : Script i B} {f : B → Script i A} → KeepsBits p → ((b : B) → KeepsBits (f b))
+      → KeepsBits (bind p f)
   k-bind h g = record { on = λ s b. holds-bind (h .on s b) (λ a t c. g a .on t c) }
 
   pub k-test : {b : Bool} {p q : Script i A} → KeepsBits p → KeepsBits q → KeepsBits (test b p q)

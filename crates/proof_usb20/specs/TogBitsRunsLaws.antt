@@ -15,7 +15,7 @@ use Rattle.script.specs.MachineKept.{MachineKeeps, Preserves}
 use Rattle.script.specs.MachineKeptLaws.{start-kept, call-kept}
 use Rattle.machine.specs.Suspended.{driverOf, drive, machineOf}
 use Rattle.proof_book.specs.Always.{after}
-use Rattle.proof_book.specs.Code.{Made, CallStep}
+use Rattle.proof_book.specs.Code.{CallRecord, CallStep}
 use Rattle.proof_book.specs.CodeReadings.{Steps, bytesAfter, slotsAfter}
 use Rattle.proof_usb20.specs.TogBits.{TogBits}
 use Rattle.proof_usb20.specs.TogBitsLaws.{bit-0}
@@ -26,14 +26,20 @@ unfolding freshDriver epOn
 fresh-bits c = record { bits = λ dir e. rw (getD-replicate 32 (key dir e) newEp noEp (key-lt dir e)) bit-0 }
 
 preserved : Preserves TogBits calls driverOf
-preserved = record { calls = λ o s b. k-call o .on s b; starts = λ c s b. k-starting c .on s b; fresh = λ c b row. fresh-bits c }
+preserved = record {
+  calls = λ o s b. k-call o .on s b;
+  starts = λ c s b. k-starting c .on s b;
+  fresh
+      = λ c b row. fresh-bits c;
+}
 
 abbrev Togs : Machine Answer Driver → Type 0
 Togs m = MachineKeeps TogBits m
 
 -- an accepted start-up, on whatever was before
 accepted : (c : Config) (m : Machine Answer Driver) (b : Buf) → startRow c b ≡ zero → Togs (drive (start c) m b .1)
-accepted c m b row = subst (λ n. Togs (started calls driverOf (λ s. s) c n m b .1)) (sym row) (start-kept preserved c m b row)
+accepted c m b row = subst (λ n. Togs (started calls driverOf (λ s. s) c n m b .1)) (sym row)
+    (start-kept preserved c m b row)
 
 always : (es : List (Event Config Op)) (m : Machine Answer Driver) → Togs m → Togs (after calls driverOf es m)
 always [] m k = k
@@ -45,11 +51,11 @@ pub tog-bits : (c : Config) (b : Buf) → startRow c b ≡ zero → (es : List (
 tog-bits c b row es m = always es _ (accepted c m b row) .state
 
 -- a call as its contract says
-made : (xs : List ℕ) (a : Buf) (m : Made) → CallStep xs a m
+made : (xs : List ℕ) (a : Buf) (m : CallRecord) → CallStep xs a m
     → Togs (drive (m .event .call) (machineOf xs a) (m .event .lent) .1) → Togs (machineOf (m .bytes) (m .slots))
 made xs a m h k = subst (λ (z : Ans Answer × Machine Answer Driver). Togs (z .1)) (sym h) k
 
-code-always : (ms : List Made) (xs : List ℕ) (a : Buf) → Togs (machineOf xs a) → Steps xs a ms
+code-always : (ms : List CallRecord) (xs : List ℕ) (a : Buf) → Togs (machineOf xs a) → Steps xs a ms
     → Togs (machineOf (bytesAfter xs ms) (slotsAfter a ms))
 code-always [] xs a k h = k
 code-always (m ∷ ms) xs a k h = code-always ms (m .bytes) (m .slots)
@@ -57,9 +63,10 @@ code-always (m ∷ ms) xs a k h = code-always ms (m .bytes) (m .slots)
 
 -- of the Rattle code: any bytes, a start-up that rows 1 and 2 do not stop, and then any calls, each as its contract
 -- says; `view` reads the records back from the lent bytes
-pub code-tog-bits : (c : Config) (b : Buf) → startRow c b ≡ zero → (xs : List ℕ) (a : Buf) (first : Made)
-    → first .event ≡ record { call = start c; lent = b } → (ms : List Made) → Steps xs a (first ∷ ms)
+pub code-tog-bits : (c : Config) (b : Buf) → startRow c b ≡ zero → (xs : List ℕ) (a : Buf) (first : CallRecord)
+    → first .event ≡ record { call = start c; lent = b } → (ms : List CallRecord) → Steps xs a (first ∷ ms)
     → TogBits (view (bytesAfter xs (first ∷ ms)))
 code-tog-bits c b row xs a first e ms h = code-always ms (first .bytes) (first .slots)
-    (made xs a first (h .0) (subst (λ (v : Event Config Op). Togs (drive (v .call) (machineOf xs a) (v .lent) .1)) (sym e)
+    (made xs a first (h .0) (subst (λ (v : Event Config Op). Togs (drive (v .call) (machineOf xs a) (v .lent) .1))
+    (sym e)
     (accepted c (machineOf xs a) b row))) (h .1) .state

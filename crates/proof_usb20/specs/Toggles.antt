@@ -1,12 +1,11 @@
--- The laws on data toggles (script/specs/ToggledLaws.antt, RestartLaws.antt) at the driver's own operations: a record's fields are assigned, and the
--- driver has all its records
+-- The laws on data toggles (script/specs/ToggledLaws.antt, RestartLaws.antt) at the driver's own operations: a record's
+-- fields are assigned, and the driver has all its records
 use mathlib.Core.Bool.{Bool, true, false, cond}
-use mathlib.Core.List.{List, []}
+use mathlib.Core.List.{List}
 use mathlib.Core.Path.{_≡_, refl, ap, _∙_}
 use Prim.Native.Nat.{ℕ, _%_, _≤_}
 use native.Mathlib.Omega.{arith}
 use native.Mathlib.Decide.{decLt}
-use lib.Dec.{eqb}
 use lib.ListN.{length, getD, length-set}
 use lib.Seq.{set-out, getD-set-same}
 use Rattle.bits.specs.Bit.{isSet}
@@ -14,18 +13,12 @@ use Rattle.regs.specs.declared.Dir.{Dir}
 use Rattle.regs.specs.declared.Dir.the-variants.{Out, In}
 use Rattle.state.specs.declared.EpState.{EpState}
 use Rattle.state.specs.Driver.{Driver, key, noEp, epOn, withOn, withPacedOn}
-use Rattle.state.specs.Laws.{Sized, key-lt}
+use Rattle.state.specs.Laws.{key-lt}
 use Rattle.ring.specs.Out.{armedAt}
-use Rattle.script.specs.Script.{run}
 use Rattle.script.specs.Statics.{isoOuts, withArmed, withTog}
-use Rattle.script.specs.Handler.{toggled}
-use Rattle.script.specs.Bus.{setStalled, setEnabledOut, setEnabledIn}
-use Rattle.script.specs.Every.{Every}
-use Rattle.script.specs.Usb20Toggles.{Pid, Transaction, bitAfterAll, passed}
-use Rattle.script.specs.TogglesLaws.{number}
-use Rattle.script.specs.ToggledLaws.{toggling, KeepsRecord, Assigns, Toggled, toggled-meets}
+use Rattle.script.specs.ToggledLaws.{Assigns}
 use Rattle.script.specs.RestartLaws as restart
-use Rattle.script.specs.RestartLaws.{Lawful, Restarts}
+use Rattle.script.specs.RestartLaws.{Lawful}
 use Rattle.script_ops.specs.Records.{plainOf, merged, isoOut, configured, enabledOn}
 use Rattle.script_ops.specs.Rings.{St, emptied, emptiedOn, placeOn}
 use Rattle.script_ops.specs.Concrete.{concrete}
@@ -41,19 +34,14 @@ same-ep d dir e r h = getD-set-same (d .eps) (key dir e) r noEp (omega (arith, h
 -- ---- `toggled`
 
 pub assigns : (dir : Dir) (e : ℕ) → Assigns Whole concrete dir e
-assigns dir e n s h = ap plainOf (same-ep (s .0) dir e (merged (epOn (s .0) dir e) (withArmed 0 (withTog n (plainOf (epOn (s .0) dir e))))) h)
-
--- of the driver: whether a new packet passed is answered, the bit recorded, a repeat acknowledged again
-pub driver-toggled : (i : Bool) (dir : Dir) (e : ℕ) (b : Pid) (ts : List (Transaction dir)) → passed b ts ≤ 1 → (s : St) → epOn (s .0) dir e .tog ≡ number b
-    → Every (toggling dir e (bitAfterAll b ts)) (KeepsRecord Whole concrete dir e) (λ _. Unit {0})
-    (Toggled concrete dir e (plainOf (epOn (s .0) dir e)) (bitAfterAll b ts) (eqb (passed b ts) 1)) []
-    (run concrete (toggled {i = i} dir e) s)
-driver-toggled i dir e b ts h s is = toggled-meets i Whole concrete dir e (assigns dir e) b ts h s is
+assigns dir e n s h = ap plainOf (same-ep (s .0) dir e
+    (merged (epOn (s .0) dir e) (withArmed 0 (withTog n (plainOf (epOn (s .0) dir e))))) h)
 
 -- ---- DATA0 in the record
 
 -- the record's place changed, its toggle not: whether there is such a place or not
-tog-kept : (d : Driver) (dir : Dir) (e : ℕ) (r : EpState) → r .tog ≡ epOn d dir e .tog → epOn (withOn d dir e r) dir e .tog ≡ epOn d dir e .tog
+tog-kept : (d : Driver) (dir : Dir) (e : ℕ) (r : EpState) → r .tog ≡ epOn d dir e .tog
+    → epOn (withOn d dir e r) dir e .tog ≡ epOn d dir e .tog
 unfolding epOn withOn
 tog-kept d dir e r h = elim (decLt (key dir e) (length (d .eps))) [
   | yes l ↦ ap (λ (q : EpState). q .tog) (getD-set-same (d .eps) (key dir e) r noEp l) ∙ h
@@ -99,13 +87,3 @@ lawful dir e = record {
   enabling = λ on s. enabled-tog (s .0) dir e on;
   placing = λ s. place-tog (s .0) dir e;
 }
-
-pub driver-cleared : (i : Bool) (dir : Dir) (e : ℕ) (s : St) → Sized (s .0) → Restarts Whole concrete dir e (run concrete (setStalled {i = i} dir e false) s)
-driver-cleared i dir e s z = restart.cleared-recorded Whole concrete i dir e (lawful dir e) s (z .eps)
-
-pub driver-enabled-out : (i : Bool) (e : ℕ) (on : Bool) (s : St) → Sized (s .0) → Restarts Whole concrete Out e (run concrete (setEnabledOut {i = i} e on) s)
-driver-enabled-out i e on s z = restart.enabled-out-recorded Whole concrete i e on (lawful Out e) s (z .eps)
-
-pub driver-enabled-in : (i : Bool) (e : ℕ) (iso on : Bool) (s : St)
-    → Sized (s .0) → Restarts Whole concrete In e (run concrete (setEnabledIn {i = i} e iso on) s)
-driver-enabled-in i e iso on s z = restart.enabled-in-recorded Whole concrete i e iso on (lawful In e) s (z .eps)

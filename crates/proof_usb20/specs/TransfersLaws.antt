@@ -36,11 +36,13 @@ module _ (p : Pipe) (n : ℕ) where
   last k = chosen (gives n false true) (after (packet In) (stage (reads n) In p k))
 
   pub read-status : (k : ℕ)
-      → (last k .out .answers ≡ acks status-stage) × (last k .out .bit ≡ statusPid) × (last k .inn .bit ≡ dataPid (suc k))
+      → (last k .out .answers ≡ acks status-stage) × (last k .out .bit ≡ statusPid)
+      × (last k .inn .bit ≡ dataPid (suc k))
   read-status k = (refl, refl, rw (read-ready k .0) (ap other (read-pid k)))
 
   pub read-over : (k : ℕ)
-      → (over (given true) (after (packet In) (last k)) ≡ false) × (over (given true) (after (packet Out) (after (packet In) (last k))) ≡ true)
+      → (over (given true) (after (packet In) (last k)) ≡ false)
+      × (over (given true) (after (packet Out) (after (packet In) (last k))) ≡ true)
   read-over k = (refl, refl)
 
   -- where the last ACK was lost, the status stage's token says that the data went through (8.5.3.3)
@@ -66,7 +68,8 @@ module _ (p : Pipe) (n : ℕ) where
 
   -- none
   pub none-status : (s : Setting)
-      → (chosen (confirms s) (after setup p) .inn .answers ≡ acks status-stage) × (chosen (confirms s) (after setup p) .inn .bit ≡ statusPid)
+      → (chosen (confirms s) (after setup p) .inn .answers ≡ acks status-stage)
+      × (chosen (confirms s) (after setup p) .inn .bit ≡ statusPid)
   none-status s = (refl, refl)
 
   -- all in order and ready: nothing of it is exempt

@@ -3,7 +3,7 @@ use mathlib.Core.Logic.{_≢_}
 use mathlib.Core.Path.{_≡_, refl, ap, sym}
 use Prim.Native.Nat.{ℕ}
 use native.Mathlib.Omega.{arith}
-use lib.ListN.{length, length-set}
+use lib.ListN.{length}
 use lib.Seq.{getD-set-same, getD-set-other}
 use Rattle.regs.specs.declared.Dir.{Dir}
 use Rattle.regs.specs.declared.Dir.the-variants.{Out, In}
@@ -22,16 +22,52 @@ abbrev pub rec : EpCore → Rec
 rec p = record { ready = p .ready; armed = p .armed; len = p .len }
 
 abbrev pub setOut : Rec → View → View
-setOut r x = record { out = r; inn = x .inn; control = x .control; setup-ready = x .setup-ready; stage = x .stage; maximum = x .maximum; buffer = x .buffer }
+setOut r x = record {
+  out = r;
+  inn = x .inn;
+  control = x .control;
+  setup-ready = x .setup-ready;
+  stage
+      = x .stage;
+  maximum = x .maximum;
+  buffer = x .buffer;
+}
 
 abbrev pub setIn : Rec → View → View
-setIn r x = record { out = x .out; inn = r; control = x .control; setup-ready = x .setup-ready; stage = x .stage; maximum = x .maximum; buffer = x .buffer }
+setIn r x = record {
+  out = x .out;
+  inn = r;
+  control = x .control;
+  setup-ready = x .setup-ready;
+  stage
+      = x .stage;
+  maximum = x .maximum;
+  buffer = x .buffer;
+}
 
 abbrev pub setControl : Control → View → View
-setControl c x = record { out = x .out; inn = x .inn; control = c; setup-ready = x .setup-ready; stage = x .stage; maximum = x .maximum; buffer = x .buffer }
+setControl c x = record {
+  out = x .out;
+  inn = x .inn;
+  control = c;
+  setup-ready = x .setup-ready;
+  stage
+      = x .stage;
+  maximum = x .maximum;
+  buffer = x .buffer;
+}
 
 abbrev pub setReady : ℕ → View → View
-setReady n x = record { out = x .out; inn = x .inn; control = x .control; setup-ready = n; stage = x .stage; maximum = x .maximum; buffer = x .buffer }
+setReady n x = record {
+  out = x .out;
+  inn = x .inn;
+  control = x .control;
+  setup-ready = n;
+  stage = x .stage;
+  maximum
+      = x .maximum;
+  buffer = x .buffer;
+}
 
 ep-same : (d : Driver) (dir : Dir) (e : ℕ) (r : EpState) → length (d .eps) ≡ 32 → epOn (withOn d dir e r) dir e ≡ r
 unfolding epOn withOn
@@ -69,9 +105,3 @@ pub put-globals : (g : Globals) (s : St)
     → view (concrete .put globals-cell g s .0) ≡ setReady (g .«setup_ready») (view (s .0))
 unfolding epOn
 put-globals g s = refl
-
--- the records keep their places
-pub places-out : (dir : Dir) (e : ℕ) (v : EpCore) (s : St)
-    → length (concrete .put (ep-cell dir e) v s .0 .eps) ≡ length (s .0 .eps)
-unfolding withOn
-places-out dir e v s = length-set (s .0 .eps) (key dir e) _

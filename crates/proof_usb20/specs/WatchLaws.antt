@@ -7,8 +7,10 @@ use Rattle.script.specs.Tree as tree
 use Rattle.script.specs.Tree.{ends, asks, bindOut}
 use Rattle.proof_usb20.specs.Watch.{Along, at-end, at-ask}
 
-module _ {L : Type 0} {saw : L → Access → ℕ → L} {Brings : L → Access → ℕ → Type 0} {S : Type 0} {Keeps : S → S → Type 0} {Ok : L → Access → Type 0} where
-  pub watch-bind : {A B : Type 0} {P : L → A → S → Type 0} {Q : L → B → S → Type 0} {w : L} {o : tree.Out S A} {f : A → S → tree.Out S B}
+module _ {L : Type 0} {saw : L → Access → ℕ → L} {Brings : L → Access → ℕ → Type 0} {S : Type 0}
+    {Keeps : S → S → Type 0} {Ok : L → Access → Type 0} where
+  pub watch-bind : {A B : Type 0} {P : L → A → S → Type 0} {Q : L → B → S → Type 0} {w : L} {o : tree.Out S A}
+      {f : A → S → tree.Out S B}
       → Along saw Brings Keeps Ok P w o → ((x : L) (a : A) (s : S) → P x a s → Along saw Brings Keeps Ok Q x (f a s))
       → Along saw Brings Keeps Ok Q w (bindOut o f)
   watch-bind (at-end x) k = k _ _ _ x
@@ -30,4 +32,5 @@ module _ {L : Type 0} {saw : L → Access → ℕ → L} {Brings : L → Access 
       → ((x : L) (q : Access) (v : ℕ) → G x → G (saw x q v)) → ((x : L) (a : A) (s : S) → G x → P x a s)
       → (w : L) → G w → (o : tree.Out S A) → Along saw Brings Keeps Ok P w o
   watch-any G ok go p w g (ends a s) = at-end (p w a s g)
-  watch-any G ok go p w g (asks q s k) = at-ask (ok w q g) (λ v t b i. watch-any G ok go p (saw w q v) (go w q v g) (k v t))
+  watch-any G ok go p w g (asks q s k) = at-ask (ok w q g)
+      (λ v t b i. watch-any G ok go p (saw w q v) (go w q v g) (k v t))

@@ -59,7 +59,8 @@ module _ (code : ℕ) where
       by (no l) = inl (omega (arith, l, ap (λ (v : Wakes). v .count) (woken-full c w (omega (arith, l)))))
 
   pub all-others : (cs : List ℕ) (w : Wakes) → Room w → Others cs
-      → Room (all-woken cs w) × (howOften code (listed (all-woken cs w)) ≡ howOften code (listed w)) × (w .count ≤ all-woken cs w .count)
+      → Room (all-woken cs w) × (howOften code (listed (all-woken cs w)) ≡ howOften code (listed w))
+      × (w .count ≤ all-woken cs w .count)
   all-others [] w r o = (r, refl, omega arith)
   all-others (c ∷ cs) w r o =
       let n = all-others cs (woken c w) (woken-room c w r) (o .1) in

@@ -36,7 +36,8 @@ use Rattle.proof_wake_ups.specs.Ends.{Lists, Ends, end, ask}
 pub record Gives {i : Bool} (p : Script i Answer) : Type 0 where
   pub on : (s : St) → Ends (run concrete p s)
 
-ends-bind : {B : Type 0} (o : tree.Out St B) (f : B → St → tree.Out St Answer) → ((b : B) (s : St) → Ends (f b s)) → Ends (bindOut o f)
+ends-bind : {B : Type 0} (o : tree.Out St B) (f : B → St → tree.Out St Answer) → ((b : B) (s : St) → Ends (f b s))
+    → Ends (bindOut o f)
 ends-bind (ends b s) f h = h b s
 ends-bind (asks q s k) f h = ask (λ v t. ends-bind (k v t) f h)
 
@@ -93,7 +94,8 @@ module _ {i : Bool} where
   g-polled d e n x = g-bind (λ _. g-unless (g-test (g-bind x) (g-bind (λ _. g-ends-request (λ w. tt)))))
 
   g-take-closing : (now : Bool) (c : Control) → Gives {i = i} (take-closing now c)
-  g-take-closing now c = g-bind (λ s. g-test (g-bind (λ _. g-bind (λ _. g-ends-control (by (eqb (s .len) 0))))) (g-aborted (g-bind (λ _. g-ret (λ w. tt)))))
+  g-take-closing now c = g-bind (λ s. g-test (g-bind (λ _. g-bind (λ _. g-ends-control (by (eqb (s .len) 0)))))
+      (g-aborted (g-bind (λ _. g-ret (λ w. tt)))))
     where
       by : (b : Bool) (w : List ℕ) → Lists (cond b (Done []) (Refused 10)) w
       by true w = tt
@@ -116,15 +118,20 @@ module _ {i : Bool} where
 g-slotted : (o : Slotted) → Gives (slottedCode o)
 g-slotted (SetEnabled d e on) = g-staged (g-named g-operation d e) 2
 g-slotted (PollRead e n) = g-staged (g-named (g-polled Out e n (λ s. g-test
-    (g-enabled (g-bind (λ _. g-test (g-bind (λ _. g-bind (λ _. g-ends-request (λ w. tt)))) (g-ret (λ w. tt)))) Out e (g-ends-request (λ w. tt)))
+    (g-enabled (g-bind (λ _. g-test (g-bind (λ _. g-bind (λ _. g-ends-request (λ w. tt)))) (g-ret (λ w. tt)))) Out e
+    (g-ends-request (λ w. tt)))
     (g-test (g-bind (λ _. g-test (g-ends-request (λ w. tt)) (g-bind (λ _. g-ends-request (λ w. tt)))))
     (g-enabled (g-ret (λ w. tt)) Out e (g-ends-request (λ w. tt)))))) Out e) 2
-g-slotted (BeginWrite e bs) = g-staged (g-named (g-enabled (g-bind (λ _. g-unless (g-bind (λ _. g-operation)))) In e g-refused) In e) 2
+g-slotted (BeginWrite e bs) = g-staged (g-named (g-enabled (g-bind (λ _. g-unless (g-bind (λ _. g-operation)))) In e
+    g-refused) In e) 2
 g-slotted (PollWrite e bs) = g-staged (g-named (g-polled In e _ (λ s. g-test
-    (g-enabled (g-bind (λ _. g-test (g-bind (λ _. g-ends-request (λ w. tt))) (g-ret (λ w. tt)))) In e (g-ends-request (λ w. tt)))
-    (g-test (g-bind (λ _. g-ends-request (λ w. tt))) (g-enabled (g-ret (λ w. tt)) In e (g-ends-request (λ w. tt)))))) In e) 2
+    (g-enabled (g-bind (λ _. g-test (g-bind (λ _. g-ends-request (λ w. tt))) (g-ret (λ w. tt)))) In e
+    (g-ends-request (λ w. tt)))
+    (g-test (g-bind (λ _. g-ends-request (λ w. tt))) (g-enabled (g-ret (λ w. tt)) In e (g-ends-request (λ w. tt)))))) In
+    e) 2
 g-slotted (PollDataOut n) = g-staged (g-requested _ (λ c. g-test
-    (g-bind (λ _. g-test (g-bind (λ _. g-test (g-ends-control (λ w. tt)) (g-bind (λ _. g-ends-control (λ w. tt))))) (g-aborted (g-ret (λ w. tt)))))
+    (g-bind (λ _. g-test (g-bind (λ _. g-test (g-ends-control (λ w. tt)) (g-bind (λ _. g-ends-control (λ w. tt)))))
+    (g-aborted (g-ret (λ w. tt)))))
     (g-bind (λ _. g-ends-control (λ w. tt))))) 2
 g-slotted (BeginDataIn bs first last) = g-staged (g-within (g-unless-setup (g-bind (λ _. g-operation))) _) 2
 
@@ -141,25 +148,31 @@ g-other (SetStalled d e on) = g-staged (g-test g-operation (g-named g-operation 
 g-other (IsStalled d e) = g-staged (g-test g-operation (g-named g-operation d e)) 2
 g-other (SetPaced e on) = g-staged (g-test (g-bind (λ _. g-ret (λ w. omega arith))) g-refused) 2
 g-other (Advance e) = g-staged (g-test g-operation g-refused) 2
-g-other (BeginRead e n) = g-staged (g-named (g-enabled (g-bind (λ _. g-unless (g-bind (λ _. g-operation)))) Out e g-refused) Out e) 2
+g-other (BeginRead e n) = g-staged (g-named (g-enabled (g-bind (λ _. g-unless (g-bind (λ _. g-operation)))) Out e
+    g-refused) Out e) 2
 g-other BeginSetup = g-staged (g-bind (λ _. g-operation)) 2
-g-other PollSetup = g-staged (g-requested _ (λ c. g-bind (λ _. g-test (g-bind (λ _. g-ends-control (λ w. tt))) (g-ret (λ w. tt))))) 2
+g-other PollSetup = g-staged (g-requested _ (λ c. g-bind
+    (λ _. g-test (g-bind (λ _. g-ends-control (λ w. tt))) (g-ret (λ w. tt))))) 2
 g-other PollDataIn = g-staged (g-requested _ (λ c. g-test (g-take-closing false c)
-    (g-bind (λ _. g-test (g-test (g-take-closing true c) (g-bind (λ _. g-ends-control (λ w. tt)))) (g-aborted (g-ret (λ w. tt))))))) 2
+    (g-bind (λ _. g-test (g-test (g-take-closing true c) (g-bind (λ _. g-ends-control (λ w. tt))))
+    (g-aborted (g-ret (λ w. tt))))))) 2
 g-other BeginAccept = g-staged (g-unless-setup (g-bind (λ _. g-operation))) 2
 g-other PollAccept = g-staged
-    (g-requested _ (λ c. g-bind (λ _. g-test (g-bind (λ _. g-bind (λ _. g-test g-operation (g-ret (λ w. tt))))) (g-aborted (g-ret (λ w. tt)))))) 2
+    (g-requested _ (λ c. g-bind (λ _. g-test (g-bind (λ _. g-bind (λ _. g-test g-operation (g-ret (λ w. tt)))))
+    (g-aborted (g-ret (λ w. tt)))))) 2
 g-other BeginReject = g-staged (g-bind (λ _. g-operation)) 2
 g-other (BeginDataOut n first) = g-staged (g-within (g-unless-setup (g-bind (λ _. g-operation))) n) 2
 g-other (BeginAcceptSetAddress a) = g-staged (g-unless-setup (g-bind (λ _. g-operation))) 2
 
 pub g-aside : (o : Aside) → Gives (asideCode o)
 g-aside (Open e) = g-staged
-    (g-named (g-bind (λ _. g-unless (g-bind (λ _. g-test (g-bind (λ _. g-bind (λ _. g-bind (λ _. g-ret (λ w. tt))))) g-refused)))) Out e) 2
+    (g-named (g-bind (λ _. g-unless (g-bind (λ _. g-test (g-bind (λ _. g-bind (λ _. g-bind (λ _. g-ret (λ w. tt)))))
+    g-refused)))) Out e) 2
 g-aside (Close e) = g-staged (g-named (g-bind (λ _. g-test (g-bind (λ _. g-ret (λ w. omega arith))) g-refused)) Out e) 2
 g-aside (Queue e bs) = g-staged
     (g-named
-    (g-enabled (g-bind (λ _. g-unless (g-bind (λ _. g-unless (g-bind (λ _. g-test (g-bind (λ _. g-ret (λ w. omega arith))) g-refused))))))
+    (g-enabled (g-bind (λ _. g-unless (g-bind (λ _. g-unless
+    (g-bind (λ _. g-test (g-bind (λ _. g-ret (λ w. omega arith))) g-refused))))))
     In e g-refused) In e) 2
 
 pub gives : (o : Op) → Gives (code o)

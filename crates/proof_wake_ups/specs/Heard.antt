@@ -1,5 +1,5 @@
--- The driver beside a record of its scripts' wake-ups since the operation's begin: all of them, in their order, however many. What its ends give is
--- what document 02 asks for; the driver itself has room for 64
+-- The driver beside a record of its scripts' wake-ups since the operation's begin: all of them, in their order, however
+-- many. What its ends give is what document 02 asks for; the driver itself has room for 64
 use mathlib.Core.List.{List, [], _++_}
 use Prim.Native.Nat.{ℕ}
 use Rattle.state.specs.Driver.{Driver}

@@ -9,7 +9,7 @@ use Rattle.script.specs.Tree as tree
 use Rattle.script.specs.Answers.{Answer}
 use Rattle.script.specs.Calls.{Config, Op, calls}
 use Rattle.script.specs.Machine as machine
-use Rattle.script.specs.Machine.{Buf, Call, question, Ans, Awaits, Way, idle, busy, Machine, call}
+use Rattle.script.specs.Machine.{Buf, Call, question, Ans, Awaits, Pending, idle, busy, Machine, call}
 use Rattle.script_ops.specs.Rings.{St}
 use Rattle.machine.specs.Suspended.{driverOf}
 use Rattle.proof_wake_ups.specs.Heard.{Heard, Hst, bare, heardOps}
@@ -35,10 +35,11 @@ abbrev pub hear : Call Config Op → Machine Answer Heard → Buf → ToldHeard
 hear c n b = call calls heard (λ s. s) c n b
 
 -- what is under way goes on alike, with the record as it stands
-pub data Ways (l : List ℕ) : Way Answer Driver → Way Answer Heard → Type 0 where
+pub data Ways (l : List ℕ) : Pending Answer Driver → Pending Answer Heard → Type 0 where
   rests : Ways l idle idle
   works : {i : Bool} {q : Awaits} {k : ℕ → St → tree.Out St Answer} {k′ : ℕ → Hst → tree.Out Hst Answer}
-      → ((v : ℕ) (u : Hst) → Fits (u .0) → u .0 .1 ≡ l → Twin Short (k v (bare u)) (k′ v u)) → Ways l (busy i q k) (busy i q k′)
+      → ((v : ℕ) (u : Hst) → Fits (u .0) → u .0 .1 ≡ l → Twin Short (k v (bare u)) (k′ v u))
+      → Ways l (busy i q k) (busy i q k′)
 
 -- the same driver and buffer; the driver lists what was recorded, and has room for one more
 pub record Pair (m : Machine Answer Driver) (n : Machine Answer Heard) : Type 0 where
@@ -46,4 +47,4 @@ pub record Pair (m : Machine Answer Driver) (n : Machine Answer Heard) : Type 0 
   pub buf : m .buf ≡ n .buf
   pub fits : Fits (n .st)
   pub short : Short (n .st .1)
-  pub ways : Ways (n .st .1) (m .way) (n .way)
+  pub ways : Ways (n .st .1) (m .under-way) (n .under-way)

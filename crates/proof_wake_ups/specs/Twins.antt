@@ -1,5 +1,7 @@
--- A script's run on the driver and beside the record, side by side: the same accesses and results, and what the driver lists is what was recorded.
--- How many wake-ups a script has at most, whatever is read and whatever becomes of the driver between two accesses but for its wake-ups
+-- A script's run on the driver and beside the record, side by side: the same accesses and results, and what the driver
+-- lists is what was recorded.
+-- How many wake-ups a script has at most, whatever is read and whatever becomes of the driver between two accesses but
+-- for its wake-ups
 use mathlib.Core.List.{List}
 use mathlib.Core.Path.{_≡_}
 use Prim.Native.Nat.{ℕ, _<_}
@@ -21,7 +23,8 @@ pub record Fits (h : Heard) : Type 0 where
 pub data Twin {A : Type 0} (P : List ℕ → Type 0) : tree.Out St A → tree.Out Hst A → Type 0 where
   end : {a : A} (t : Hst) → Fits (t .0) → P (t .0 .1) → Twin P (ends a (bare t)) (ends a t)
   ask : {q : Access} {k : ℕ → St → tree.Out St A} {k′ : ℕ → Hst → tree.Out Hst A} (t : Hst) → Fits (t .0) → P (t .0 .1)
-      → ((v : ℕ) (u : Hst) → Fits (u .0) → u .0 .1 ≡ t .0 .1 → Twin P (k v (bare u)) (k′ v u)) → Twin P (asks q (bare t) k) (asks q t k′)
+      → ((v : ℕ) (u : Hst) → Fits (u .0) → u .0 .1 ≡ t .0 .1 → Twin P (k v (bare u)) (k′ v u))
+      → Twin P (asks q (bare t) k) (asks q t k′)
 
 -- ---- calls
 

@@ -1,4 +1,5 @@
--- What the two functions of this crate come to: so many calls of one access each, each answered with the reading that the next one brings. Definitions only
+-- What the two functions of this crate come to: so many calls of one access each, each answered with the reading that
+-- the next one brings. Definitions only
 use mathlib.Core.Path.{_≡_}
 use Prim.Native.Nat.{ℕ}
 use Rattle.regs.specs.declared.Access.the-variants.{Read, Write}

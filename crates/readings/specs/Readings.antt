@@ -1,6 +1,6 @@
--- Readings that follow each other, brought by one call: what that is in calls of one access each. The calls are made in turn, as long as the answer hands
--- out a reading of the register that the next number was read from; the first other answer (a write, an end, a refusal) is the last, and the answer of
--- the whole. Definitions only
+-- Readings that follow each other, brought by one call: what that is in calls of one access each. The calls are made in
+-- turn, as long as the answer hands out a reading of the register that the next number was read from; the first other
+-- answer (a write, an end, a refusal) is the last, and the answer of the whole. Definitions only
 use mathlib.Core.Bool.{Bool, true, false, _&&_}
 use mathlib.Core.List.{List, [], _∷_}
 use mathlib.Core.Path.{_≡_}
@@ -12,7 +12,7 @@ use Rattle.regs.specs.declared.Reg.{Reg}
 use Rattle.state.specs.State.{view}
 use Rattle.script.specs.Every.{sameReg}
 use Rattle.script.specs.Calls.{interrupt}
-use Rattle.script.specs.Machine.{Buf, begin, go}
+use Rattle.script.specs.Machine.{Buf, begin, continue}
 use Rattle.answer.specs.declared.Step.{Step}
 use Rattle.answer.specs.declared.Step.the-variants as step
 use Rattle.machine.specs.Suspended.{machineOf, drive, answerOf, lentOr, BufferUnchangedOnRow1, SavedByAnswer}
@@ -56,7 +56,8 @@ asksFor r (step.Shown at n stamp) = false
 
 -- the interrupt's begin, as its contract has it: it brings neither the slot buffer nor the record
 pub record Begins (l : Lent) (r : Step) (l′ : Lent) : Type 0 where
-  pub did : (a b : Buf) → (answerOf r [] (view (l′ .bytes)), machineOf (l′ .bytes) b) ≡ drive (begin interrupt) (machineOf (l .bytes) a) b
+  pub did : (a b : Buf) → (answerOf r [] (view (l′ .bytes)), machineOf (l′ .bytes) b)
+      ≡ drive (begin interrupt) (machineOf (l .bytes) a) b
   pub saves : SavedByAnswer r (l .bytes) (l′ .bytes)
   pub slots : l′ .slots ≡ l .slots
   pub time : l′ .time ≡ l .time
@@ -66,13 +67,13 @@ pub record Continues (i v : ℕ) (l : Lent) (r : Step) (l′ : Lent) : Type 0 wh
   pub did : (a : Buf) → (
     (answerOf r [] (view (l′ .bytes)), machineOf (l′ .bytes) (lentOr (view (l .bytes)) (l .slots) (l′ .slots) a)),
     l′ .time,
-  ) ≡ sharedCall i (go v) (machineOf (l .bytes) a) (l .time) (l .slots)
+  ) ≡ sharedCall i (continue v) (machineOf (l .bytes) a) (l .time) (l .slots)
   pub kept : BufferUnchangedOnRow1 (view (l .bytes)) (l .slots) (l′ .slots)
   pub saves : SavedByAnswer r (l .bytes) (l′ .bytes)
 
-abbrev pub If : Bool → Type 0 → Type 0 → Type 0
-If true X Y = X
-If false X Y = Y
+abbrev pub When : Bool → Type 0 → Type 0 → Type 0
+When true X Y = X
+When false X Y = Y
 
 -- no further call: the answer r and what is lent stay
 abbrev pub Over : Step → Lent → Step → Lent → Type 0
@@ -82,7 +83,8 @@ Over r l r′ l′ = (r′ ≡ r) × (l′ ≡ l)
 abbrev pub Brings : ℕ → List Reading → Step → Lent → Step → Lent → Type 0
 Brings i [] r l r′ l′ = Over r l r′ l′
 Brings i (v ∷ vs) r l r′ l′ =
-    If (asksFor (v .register) r) ((x : Step) × (m : Lent) × Continues i (v .value) l x m × Brings i vs x m r′ l′) (Over r l r′ l′)
+    When (asksFor (v .register) r) ((x : Step) × (m : Lent) × Continues i (v .value) l x m × Brings i vs x m r′ l′)
+    (Over r l r′ l′)
 
 -- the interrupt's begin, then as many readings as are asked for
 abbrev pub BeginsWith : ℕ → List Reading → Lent → Step → Lent → Type 0

@@ -1,5 +1,5 @@
--- The bytes of a state that stands at a point of the interrupt: as they were but for the 22 saved ones. What a call of one access would have stored and one
--- that brings several readings passes over
+-- The bytes of a state that stands at a point of the interrupt: as they were but for the 22 saved ones. What a call of
+-- one access would have stored and one that brings several readings passes over
 use mathlib.Core.Path.{_≡_, ap, _∙_}
 use mathlib.Core.Logic.{inr}
 use mathlib.Core.List.{List}
@@ -58,10 +58,12 @@ module _ (xs : List ℕ) (c : Saved) where
   saved-is : length xs ≡ 2999 → saved ys ≡ c
   unfolding saved
   saved-is long =
-      ap savedIn (gets-puts xs 0 (savedBytes c) (omega (arith, long))) ∙ ap savedOf (numbers-bytes savedWidths (savedAs c) tt)
+      ap savedIn (gets-puts xs 0 (savedBytes c) (omega (arith, long)))
+      ∙ ap savedOf (numbers-bytes savedWidths (savedAs c) tt)
 
 -- it stands there: w, the word of its access, is the answer
-pub stands : (xs : List ℕ) → length xs ≡ 2999 → (w : ℕ) (q : Access) (p : Point) → Encodes w (step.Asks q) → Stands w q p xs (standing xs p)
+pub stands : (xs : List ℕ) → length xs ≡ 2999 → (w : ℕ) (q : Access) (p : Point) → Encodes w (step.Asks q)
+    → Stands w q p xs (standing xs p)
 unfolding standing
 stands xs long w q p says = record {
   answered = says;

@@ -1,5 +1,6 @@
-// Readings that follow each other, brought by one call: the points in between are neither stored nor loaded, row 1 is tested once and no answer is made
-// for them. Where another answer may come before the last reading nothing is changed, and the calls are made one by one (crate `usbhs_c`, readings.rt).
+// Readings that follow each other, brought by one call: the points in between are neither stored nor loaded, row 1 is
+// tested once and no answer is made for them. Where another answer may come before the last reading nothing is changed,
+// and the calls are made one by one (crate `usbhs_c`, readings.rt).
 use answer::loads::site_byte;
 use frame::Frame;
 use frame::microframe_index;
@@ -68,7 +69,8 @@ fn sized(_s: &[u8]) {}
 
 // Does the interrupt begin, and would frame_no be taken?
 fn may_enter(s: &State, slots: &[u8], frame: u32) -> bool
-    ensures { λ r. ⌜ (r ≡ true → (eqb (stopOf (isIdle (decode (saved (now (s .entry))))) 2 (view (now (s .entry)) .globals .stage)) 0 ≡ true)
+    ensures { λ r. ⌜ (r ≡ true → (eqb (stopOf (isIdle (decode (saved (now (s .entry))))) 2
+        (view (now (s .entry)) .globals .stage)) 0 ≡ true)
         × (slotsFit (view (now (s .entry))) (now (slots .entry)) ≡ true) × (fitsIn frame 16 ≡ true)) ⌝ }
 {
     let n = stop(s, 2);
@@ -140,7 +142,8 @@ pub fn enter(s: &mut State, slots: &[u8], frame: u32, word: u32) -> Entered
 
 // Would the three numbers be taken, and is no transaction on the bus?
 fn are_taken(mis: u32, st: u32, len: u32) -> bool
-    ensures { λ r. ⌜ (r ≡ true → (fitsIn mis 2 ≡ true) × (sieFree mis ≡ true) × (fitsIn st 7 ≡ true) × (fitsIn len 16 ≡ true)) ⌝ }
+    ensures { λ r. ⌜ (r ≡ true → (fitsIn mis 2 ≡ true) × (sieFree mis ≡ true) × (fitsIn st 7 ≡ true)
+        × (fitsIn len 16 ≡ true)) ⌝ }
 {
     if fits(mis, 2) {
         if mis_status::sie_free(byte(mis)) {
@@ -172,7 +175,8 @@ fn may_pass(s: &State, slots: &[u8], mis: u32, st: u32, len: u32) -> bool
     false
 }
 
-// A transfer's mis_st, int_st and rx_len, with no transaction on the bus: the flag is to be cleared, unless NAK comes first (mod.rs 656-667).
+// A transfer's mis_st, int_st and rx_len, with no transaction on the bus: the flag is to be cleared, unless NAK comes
+// first (mod.rs 656-667).
 pub fn pass(s: &mut State, slots: &[u8], mis: u32, st: u32, len: u32) -> Passed
     ensures { λ r. ⌜ ((i : ℕ) (time : List ℕ) → PassesAs r i mis st len
         (lent (now (s .entry)) (now (slots .entry)) time) (lent (now (s .exit)) (now (slots .entry)) time)) ⌝ }

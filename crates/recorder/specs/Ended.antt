@@ -1,4 +1,5 @@
--- A stream that says where it ends. EndedLaws.antt proves: a reader gives its packets that lie wholly in good blocks, whatever lies behind it.
+-- A stream that says where it ends. EndedLaws.antt proves: a reader gives its packets that lie wholly in good blocks,
+-- whatever lies behind it.
 use mathlib.Core.Path.{_≡_}
 use mathlib.Core.Bool.{true}
 use mathlib.Core.List.{List}
@@ -10,7 +11,8 @@ use Rattle.card.specs.Kept.{firstIn}
 use Rattle.card.specs.Written.{blockOf}
 use Rattle.card.specs.Streams.{blockAt, goodBlock}
 
--- in what a reader sees: the good blocks up to m are as written, m is good, a packet begins in it, and three bytes of filler or more end it
+-- in what a reader sees: the good blocks up to m are as written, m is good, a packet begins in it, and three bytes of
+-- filler or more end it
 pub record EndsIn (v : View) (ps : List Packet) (m : ℕ) : Type 0 where
   pub inside : m < v .blocks
   pub bytes : (d : ℕ) → d < (m + 1) * 504 → v .good (d / 504) ≡ true → v .byte d ≡ getD (dataOf ps) d 0

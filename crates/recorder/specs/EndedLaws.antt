@@ -1,22 +1,23 @@
 -- Laws on the definitions of Ended.antt: what lies behind a stream that says where it ends is not read.
 use mathlib.Core.Path.{_≡_, refl, sym, ap, ap₂, _∙_}
-use mathlib.Core.Bool.{Bool, true, false, cond, false≢true}
+use mathlib.Core.Bool.{Bool, true, false, false≢true}
 use mathlib.Core.List.{List, [], _∷_}
 use Prim.Native.Nat.{ℕ, zero, suc, _+_, _-_, _*_, _/_, _%_, _≤_, _<_}
 use native.Mathlib.Omega.{arith}
 use native.Mathlib.Decide.{ℕ-discrete, decLt}
 use borrow.Author.Tests.{le-leb, lt-leb, eq-eqb}
 use lib.ListN.{length, getD, length-append}
-use Rattle.card.specs.Packet.{Packet, Writable, All, packetBytes, size, dataOf}
-use Rattle.card.specs.Reading.{View, total, begins, seek, seekFrom, blockEnd, cleanUpTo, lengthAt, endpointAt}
-use Rattle.card.specs.Reading.{bytesFrom, packetFrom, packetAt, stepAt, readFrom, readAll, inTurn}
+use Rattle.card.specs.Packet.{Packet, All, packetBytes, size, dataOf}
+use Rattle.card.specs.Reading.{View, total, seek, seekFrom, blockEnd, cleanUpTo, lengthAt, endpointAt}
+use Rattle.card.specs.Reading.{bytesFrom, packetFrom, packetAt, stepAt, readFrom, readAll}
 use Rattle.card.specs.declared.stream.Step.the-variants.{Gives}
 use Rattle.card.specs.Kept.{keptFrom, firstIn}
 use Rattle.card.specs.Steps.{intact-good, intact-cut, packet-in, begin-filler, begin-packet}
 use Rattle.card.specs.Steps.{step-begin, read-ends, read-goes, read-gives}
 use Rattle.card.specs.Clean.{clean-low, clean-bad, clean-good}
-use Rattle.card.specs.Theorem.{first-behind, first-here, first-later, bytes-are, Rest, Names, data-head, head-fine, rest-next, kept-cut, kept-whole}
-use Rattle.card.specs.Streams.{blockAt, goodBlock, dataByte, view}
+use Rattle.card.specs.Theorem.{first-behind, first-here, first-later, bytes-are, Rest, Names, data-head, head-fine}
+use Rattle.card.specs.Theorem.{rest-next, kept-cut, kept-whole}
+use Rattle.card.specs.Streams.{dataByte, view}
 use Rattle.card.specs.Places.{block-data, block-first, byte-block}
 use Rattle.card.specs.Turns.{byCalls, calls-read}
 use Rattle.card.specs.Calls.{startOf}
@@ -56,16 +57,19 @@ module _ (v : View) (ps : List Packet) (m : ℕ) (w : EndsIn v ps m) where
 
   -- reading from the begin of a packet
   abbrev At : List Packet → Type 0
-  At qs = (d : ℕ) → Last d qs → Names ps (blockEnd d) d qs → (f : ℕ) → total v ≤ d + f → readFrom v f d ≡ keptFrom v d qs
+  At qs = (d : ℕ) → Last d qs → Names ps (blockEnd d) d qs → (f : ℕ) → total v ≤ d + f → readFrom v f d
+      ≡ keptFrom v d qs
 
-  -- reading from the next begin that is named by block k or a later one; a packet before block k begins in a block that is not good
+  -- reading from the next begin that is named by block k or a later one; a packet before block k begins in a block that
+  -- is not good
   abbrev Seeks : List Packet → Type 0
   Seeks qs = (d k n : ℕ) → k + n ≡ v .blocks → k ≤ m → Last d qs → Names ps k d qs
       → (d < k * 504 → (d / 504 + 1 ≡ k) × (v .good (d / 504) ≡ false))
       → (f : ℕ) → total v ≤ k * 504 + f → readFrom v f (seek v k n) ≡ keptFrom v d qs
 
   -- a packet that block b cuts
-  skip : (q : Packet) (qs : List Packet) → Seeks qs → (d : ℕ) → Last d (q ∷ qs) → Names ps (blockEnd d) d (q ∷ qs) → (b f : ℕ)
+  skip : (q : Packet) (qs : List Packet) → Seeks qs → (d : ℕ) → Last d (q ∷ qs) → Names ps (blockEnd d) d (q ∷ qs)
+      → (b f : ℕ)
       → d / 504 ≤ b → b * 504 < d + size q → v .good b ≡ false → total v ≤ d + suc f
       → readFrom v f (seekFrom v (b + 1)) ≡ keptFrom v d (q ∷ qs)
   skip q qs ih d r nm b f l h g t =
@@ -76,7 +80,8 @@ module _ (v : View) (ps : List Packet) (m : ℕ) (w : EndsIn v ps m) where
       ∙ sym (kept-cut v d q qs b l h g)
 
   -- a byte of a packet in a good block
-  byte-is : (q : Packet) (qs : List Packet) (d : ℕ) → Last d (q ∷ qs) → (i : ℕ) → i < size q → v .good ((d + i) / 504) ≡ true
+  byte-is : (q : Packet) (qs : List Packet) (d : ℕ) → Last d (q ∷ qs) → (i : ℕ) → i < size q → v .good ((d + i) / 504)
+      ≡ true
       → v .byte (d + i) ≡ getD (packetBytes q) i 0
   byte-is q qs d r i h g = w .bytes (d + i) (omega (arith, fits d q qs r)) g ∙ r .rest .bytes i ∙ data-head q qs i h
 
@@ -94,8 +99,10 @@ module _ (v : View) (ps : List Packet) (m : ℕ) (w : EndsIn v ps m) where
       byte-is q qs d r 1 (omega arith) (good-up-to d (d + 3) (d + 1) c (omega arith) (omega arith)) in
       (byte-is q qs d r 2 (omega arith) (good-up-to d (d + 3) (d + 2) c (omega arith) (omega arith)), omega arith)
 
-  gives-it : (q : Packet) (qs : List Packet) → At qs → (d : ℕ) → Last d (q ∷ qs) → Names ps (blockEnd d) d (q ∷ qs) → (f : ℕ)
-      → total v ≤ d + suc f → d + 3 + length (q .bytes) ≤ total v → (endpointAt v d ≡ q .endpoint) → stepAt v d ≡ packetAt v d (length (q .bytes))
+  gives-it : (q : Packet) (qs : List Packet) → At qs → (d : ℕ) → Last d (q ∷ qs) → Names ps (blockEnd d) d (q ∷ qs)
+      → (f : ℕ)
+      → total v ≤ d + suc f → d + 3 + length (q .bytes) ≤ total v → (endpointAt v d ≡ q .endpoint) → stepAt v d
+      ≡ packetAt v d (length (q .bytes))
       → blockEnd (d + 3 + length (q .bytes)) ≤ cleanUpTo v d (d + 3 + length (q .bytes))
       → readFrom v (suc f) d ≡ keptFrom v d (q ∷ qs)
   gives-it q qs ih d r nm f t u ep st c =
@@ -116,7 +123,8 @@ module _ (v : View) (ps : List Packet) (m : ℕ) (w : EndsIn v ps m) where
       ∙ sym (kept-whole v d q qs (λ j l m.
       clean-good v (blockEnd (d + 3 + length (q .bytes)) - d / 504) (d / 504) j l (omega arith)))
 
-  at-packet : (q : Packet) (qs : List Packet) → At qs → Seeks qs → (d : ℕ) → Last d (q ∷ qs) → Names ps (blockEnd d) d (q ∷ qs) → (f : ℕ)
+  at-packet : (q : Packet) (qs : List Packet) → At qs → Seeks qs → (d : ℕ) → Last d (q ∷ qs)
+      → Names ps (blockEnd d) d (q ∷ qs) → (f : ℕ)
       → total v ≤ d + suc f → (endpointAt v d ≡ q .endpoint) → stepAt v d ≡ packetAt v d (length (q .bytes))
       → readFrom v (suc f) d ≡ keptFrom v d (q ∷ qs)
   at-packet q qs ia is d r nm f t ep st =
@@ -137,12 +145,14 @@ module _ (v : View) (ps : List Packet) (m : ℕ) (w : EndsIn v ps m) where
       let three : d + 3 ≤ total v = omega (arith, fits d q qs r, many) in
       elim (decLt (cleanUpTo v d (d + 3)) (blockEnd (d + 3))) [
         | yes c ↦ read-goes v f d _ (step-begin v d three ∙ intact-cut v d (d + 3) _ c)
-            ∙ skip q qs is d r nm (cleanUpTo v d (d + 3)) f (clean-low v (blockEnd (d + 3) - d / 504) (d / 504)) (omega arith)
+            ∙ skip q qs is d r nm (cleanUpTo v d (d + 3)) f (clean-low v (blockEnd (d + 3) - d / 504) (d / 504))
+            (omega arith)
             (clean-bad v (blockEnd (d + 3) - d / 504) (d / 504) (omega arith)) t
         | no c ↦ (let hd = header-is q qs d r (omega arith) in
             at-packet q qs ia is d r nm f t (hd .0)
             (step-begin v d three ∙ intact-good v d (d + 3) _ (omega arith)
-            ∙ begin-packet v d (λ z. omega (arith, hd .0, head-fine (r .rest .fine) .numbered)) ∙ ap (packetAt v d) (hd .1)))
+            ∙ begin-packet v d (λ z. omega (arith, hd .0, head-fine (r .rest .fine) .numbered))
+            ∙ ap (packetAt v d) (hd .1)))
       ]
 
   -- ---- none left: the filler
@@ -173,7 +183,8 @@ module _ (v : View) (ps : List Packet) (m : ℕ) (w : EndsIn v ps m) where
             let bad = clean-bad v (blockEnd (d + 3) - d / 504) (d / 504) (omega arith) in
             absurd (let x = below b (omega (arith, w .ends)) bad in omega arith))
         | no c ↦ read-ends v f d (step-begin v d three ∙ intact-good v d (d + 3) _ (omega arith) ∙ begin-filler v d
-            (w .bytes (d + 2) (omega (arith, w .ends)) (good-up-to d (d + 3) (d + 2) (omega arith) (omega arith) (omega arith)) ∙ r .rest .bytes 2))
+            (w .bytes (d + 2) (omega (arith, w .ends))
+            (good-up-to d (d + 3) (d + 2) (omega arith) (omega arith) (omega arith)) ∙ r .rest .bytes 2))
       ]
 
   seeks-none : Seeks []
@@ -182,7 +193,8 @@ module _ (v : View) (ps : List Packet) (m : ℕ) (w : EndsIn v ps m) where
 
   -- ---- the next begin that is named
 
-  seek-named : (n k : ℕ) → v .good k ≡ true → 6 ≤ v .named k → v .named k ≤ 509 → seek v k (suc n) ≡ k * 504 + (v .named k - 6)
+  seek-named : (n k : ℕ) → v .good k ≡ true → 6 ≤ v .named k → v .named k ≤ 509 → seek v k (suc n) ≡ k * 504
+      + (v .named k - 6)
   unfolding seek
   seek-named n k g l h = rw (g, le-leb 6 (v .named k) l, le-leb (v .named k) 509 h)
 
@@ -195,12 +207,15 @@ module _ (v : View) (ps : List Packet) (m : ℕ) (w : EndsIn v ps m) where
   seek-nameless n k g h = rw (g, le-leb 6 (v .named k) (omega arith), lt-leb (v .named k) 509 h)
 
   -- no packet before block k is left
-  seeks-at : (q : Packet) (qs : List Packet) → At (q ∷ qs) → Seeks qs → (n d k : ℕ) → k + n ≡ v .blocks → k ≤ m → Last d (q ∷ qs)
-      → Names ps k d (q ∷ qs) → k * 504 ≤ d → (f : ℕ) → total v ≤ k * 504 + f → readFrom v f (seek v k n) ≡ keptFrom v d (q ∷ qs)
+  seeks-at : (q : Packet) (qs : List Packet) → At (q ∷ qs) → Seeks qs → (n d k : ℕ) → k + n ≡ v .blocks → k ≤ m
+      → Last d (q ∷ qs)
+      → Names ps k d (q ∷ qs) → k * 504 ≤ d → (f : ℕ) → total v ≤ k * 504 + f → readFrom v f (seek v k n)
+      ≡ keptFrom v d (q ∷ qs)
   unfolding seek
   seeks-at q qs ia is zero d k e u r nm l f t = absurd (omega (arith, w .inside))
   seeks-at q qs ia is (suc n) d k e u r nm l f t =
-      go (λ x m. seeks-at q qs ia is n d (k + 1) (omega arith) x r (λ j h. nm j (omega arith)) m f (omega arith)) (v .good k) refl
+      go (λ x m. seeks-at q qs ia is n d (k + 1) (omega arith) x r (λ j h. nm j (omega arith)) m f (omega arith))
+      (v .good k) refl
     where
       go : (k + 1 ≤ m → (k + 1) * 504 ≤ d → readFrom v f (seek v (k + 1) n) ≡ keptFrom v d (q ∷ qs))
           → (b : Bool) → v .good k ≡ b → readFrom v f (seek v k (suc n)) ≡ keptFrom v d (q ∷ qs)
@@ -210,7 +225,10 @@ module _ (v : View) (ps : List Packet) (m : ℕ) (w : EndsIn v ps m) where
             rw y (ia d r (λ j m. nm j (omega arith)) f (omega arith)))
         | no h ↦ (let none : firstIn k 0 ps ≡ 65535 = nm k (omega arith) ∙ first-behind (q ∷ qs) k d (omega arith) in
             let x : v .named k ≡ 65535 = w .names k u g ∙ none in
-            let other : k + 1 ≤ m = elim (ℕ-discrete k m) [ yes z ↦ absurd (w .begun (rw z at none)) | no z ↦ omega arith ] in
+            let other : k + 1 ≤ m = elim (ℕ-discrete k m) [
+              | yes z ↦ absurd (w .begun (rw z at none))
+              | no z ↦ omega arith
+            ] in
             rw (seek-nameless n k g (omega arith)) (i other (omega arith)))
       ]
       go i false g =
@@ -246,7 +264,11 @@ module _ (v : View) (ps : List Packet) (m : ℕ) (w : EndsIn v ps m) where
   unfolding readAll
   reads-ended fine =
       both ps .1 0 0 (v .blocks - 0) (omega arith) (omega arith)
-      (record { rest = record { bytes = λ i. let e : 0 + i ≡ i = omega arith in rw e; fine = fine }; sums = omega arith })
+      (record {
+        rest = record { bytes = λ i. let e : 0 + i ≡ i = omega arith in rw e; fine = fine };
+        sums
+            = omega arith;
+      })
       (λ j m. refl) (λ m. absurd (omega arith)) (total v) (omega arith)
 
 -- ---- a card's bytes
@@ -271,11 +293,14 @@ ends-in s ps m h = record {
   ends = h .ends;
 }
 
--- The reader's calls over a whole card give exactly the packets of the stream that lie wholly in good blocks, and nothing of what lies behind it.
-pub ended-gives : (ps : List Packet) → All ps → (s room : List ℕ) → length s % 512 ≡ 0 → (m : ℕ) → EndsInBlock s ps m → 1024 ≤ length room
+-- The reader's calls over a whole card give exactly the packets of the stream that lie wholly in good blocks, and
+-- nothing of what lies behind it.
+pub ended-gives : (ps : List Packet) → All ps → (s room : List ℕ) → length s % 512 ≡ 0 → (m : ℕ) → EndsInBlock s ps m
+    → 1024 ≤ length room
     → readRun s room ≡ keptFrom (view s) 0 ps
 unfolding readRun startOf
 ended-gives ps fine s room whole m h r =
     let g : byCalls s ≡ keptFrom (view s) 0 ps = calls-read s ∙ reads-ended (view s) ps m (ends-in s ps m h) fine in
     let a : All (byCalls s) = rw g (kept-all (view s) ps 0 fine) in
-    rw (eq-eqb (length s % 512) 0 whole, readRun) (run-in-turn s whole (total (view s)) (seekFrom (view s) 0) room r a ∙ g)
+    rw (eq-eqb (length s % 512) 0 whole, readRun) (run-in-turn s whole (total (view s)) (seekFrom (view s) 0) room r a
+    ∙ g)

@@ -1,23 +1,26 @@
--- Laws on the definitions of Filled.antt: packets go into the ring as they stand in the stream, and so does an end record.
+-- Laws on the definitions of Filled.antt: packets go into the ring as they stand in the stream, and so does an end
+-- record.
 use mathlib.Core.Path.{_≡_, refl, sym, ap, subst, _∙_}
 use mathlib.Core.Bool.{Bool, true, false, cond}
-use mathlib.Core.List.{List, [], _∷_, _++_, append-nil}
+use mathlib.Core.List.{List, [], _∷_, _++_}
 use Prim.Native.Nat.{ℕ, zero, suc, _+_, _-_, _*_, _/_, _%_, _≤_, _<_, min}
 use native.Mathlib.Omega.{arith}
 use native.Mathlib.Decide.{ℕ-discrete, decLt}
 use borrow.Author.Tests.{eq-eqb, ne-eqb}
-use lib.ListN.{length, take, drop, getD, length-drop, List·getD-append}
+use lib.ListN.{length, take, drop, getD, List·getD-append}
 use lib.Seq.{drop-drop}
 use Rattle.card.specs.Packet.{Packet, Writable, packetBytes, size, dataOf}
 use Rattle.card.specs.Kept.{firstIn}
 use Rattle.card.specs.Written.{blockOf, blocksFrom}
-use Rattle.card.specs.Places.{length-block, block-data}
+use Rattle.card.specs.Places.{length-block}
 use Rattle.card.specs.Begins.{data-append, data-at, closed-is}
 use Rattle.card.specs.declared.writer.Writer.{Writer}
-use Rattle.card.specs.Writing.{usedOf, writerOf, fullOf, wholeOf, pieceOf, doneAfter, firstOf, closed, pieceIn, blockOfPiece, lastOf}
+use Rattle.card.specs.Writing.{usedOf, writerOf, fullOf, wholeOf, pieceOf, doneAfter, firstOf, closed, pieceIn}
+use Rattle.card.specs.Writing.{blockOfPiece, lastOf}
 use Rattle.card.specs.Pieces.{block-full, done-whole, done-part, finish-last}
 use Rattle.card.specs.WriterRuns.{Desk, Lends, after}
-use Rattle.card.specs.Stream.{So, begun, piece-bounds, used-is, done-is, full-is, whole-is, closes, after-call, length-snoc, filled-up, filled-long, filled-held}
+use Rattle.card.specs.Stream.{So, begun, piece-bounds, used-is, done-is, full-is, whole-is, closes, after-call}
+use Rattle.card.specs.Stream.{length-snoc, filled-up, filled-long, filled-held}
 use Rattle.recorder.specs.Ring.{Ring, slotIn, putIn, pieceRing, packetRing, filledRoom, endRoom}
 use Rattle.recorder.specs.RingLaws.{slot-long, ring-whole, ring-part}
 use Rattle.recorder.specs.FlushLaws.{mid-same, mid-other, mid-long, block-settled}
@@ -28,7 +31,8 @@ use Rattle.recorder.specs.Filled.{InRing}
 drop-twice : (a : ℕ) (room : List ℕ) → drop 512 (drop a room) ≡ drop (a + 512) room
 drop-twice a room = drop-drop 512 a room
 
-put-is : (room : List ℕ) (k : ℕ) (b : List ℕ) → putIn room k b ≡ take (k % 4 * 512) room ++ (b ++ drop (k % 4 * 512 + 512) room)
+put-is : (room : List ℕ) (k : ℕ) (b : List ℕ) → putIn room k b ≡ take (k % 4 * 512) room
+    ++ (b ++ drop (k % 4 * 512 + 512) room)
 unfolding putIn
 put-is room k b = ap (λ (l : List ℕ). take (k % 4 * 512) room ++ (b ++ l)) (drop-twice (k % 4 * 512) room)
 
@@ -37,7 +41,8 @@ room-long room k b h l = ap length (put-is room k b) ∙ mid-long room b (k % 4 
 
 slot-same : (room : List ℕ) (k : ℕ) (b : List ℕ) → length room ≡ 2048 → length b ≡ 512 → slotIn (putIn room k b) k ≡ b
 slot-same room k b h l =
-    ap (λ (x : List ℕ). take 512 (drop (k % 4 * 512) x)) (put-is room k b) ∙ mid-same room b (k % 4 * 512) (omega arith) l
+    ap (λ (x : List ℕ). take 512 (drop (k % 4 * 512) x)) (put-is room k b)
+    ∙ mid-same room b (k % 4 * 512) (omega arith) l
 
 slot-other : (room : List ℕ) (k j : ℕ) (b : List ℕ) → length room ≡ 2048 → length b ≡ 512 → (k % 4 ≡ j % 4 → ⊥)
     → slotIn (putIn room k b) j ≡ slotIn room j
@@ -57,7 +62,8 @@ after-writer : (lend : Lends) (d : Desk) (w : Writer) (t : Bool) (b : List ℕ) 
 after-writer lend d w true b = refl
 after-writer lend d w false b = refl
 
-pub in-ring-as : (ps : List Packet) (g h : Ring) (n m m' j j' : ℕ) (pre pre' : List Packet) → g ≡ h → m ≡ m' → j ≡ j' → pre ≡ pre'
+pub in-ring-as : (ps : List Packet) (g h : Ring) (n m m' j j' : ℕ) (pre pre' : List Packet) → g ≡ h → m ≡ m' → j ≡ j'
+    → pre ≡ pre'
     → InRing ps g n m j pre → InRing ps h n m' j' pre'
 in-ring-as ps g h n m m' j j' pre pre' a b c d r =
     subst (λ (x : List Packet). InRing ps h n m' j' x) d
@@ -66,9 +72,16 @@ in-ring-as ps g h n m m' j j' pre pre' a b c d r =
     (subst (λ (x : Ring). InRing ps x n m j pre) a r)))
 
 abbrev deskOf : List Packet → Ring → ℕ → Desk
-deskOf ps g m = record { writer = g .writer; block = slotIn (g .room) (m / 504); count = 0; stored = blocksFrom ps 0 (m / 504) }
+deskOf ps g m = record {
+  writer = g .writer;
+  block = slotIn (g .room) (m / 504);
+  count = 0;
+  stored
+      = blocksFrom ps 0 (m / 504);
+}
 
-as-desk : (ps : List Packet) (g : Ring) (n m j : ℕ) (pre : List Packet) → InRing ps g n m j pre → So ps (deskOf ps g m) m j pre
+as-desk : (ps : List Packet) (g : Ring) (n m j : ℕ) (pre : List Packet) → InRing ps g n m j pre
+    → So ps (deskOf ps g m) m j pre
 as-desk ps g n m j pre r = record {
   long = slot-long (g .room) (m / 504) (r .long);
   stored = refl;
@@ -98,7 +111,8 @@ fills u q j s h e l w = omega arith
 aligned : (x q : ℕ) → q + x % 504 ≡ 504 → (x + q) % 504 ≡ 0
 aligned x q h = omega arith
 
-fuel-left : (d j q s f : ℕ) → q ≡ min (504 - (d + j) % 504) (s - j) → j < s → (j + q ≡ s → ⊥) → s + (d + j) % 504 ≤ j + suc f * 504
+fuel-left : (d j q s f : ℕ) → q ≡ min (504 - (d + j) % 504) (s - j) → j < s → (j + q ≡ s → ⊥) → s + (d + j) % 504 ≤ j
+    + suc f * 504
     → s + (d + (j + q)) % 504 ≤ j + q + f * 504
 fuel-left d j q s f e l w h =
     let full : q + (d + j) % 504 ≡ 504 = fills ((d + j) % 504) q j s (omega arith) e l w in
@@ -114,7 +128,8 @@ fuel-left d j q s f e l w h =
 
 module _ (ps xs : List Packet) (p : Packet) (fine : Writable p)
     (bytes : (i : ℕ) → i < size p → getD (packetBytes p) i 0 ≡ getD (dataOf ps) (length (dataOf xs) + i) 0)
-    (settled : (k : ℕ) → (k + 1) * 504 ≤ length (dataOf xs) + size p → firstIn k 0 ps ≡ firstIn k 0 (xs ++ (p ∷ []))) (n : ℕ) where
+    (settled : (k : ℕ) → (k + 1) * 504 ≤ length (dataOf xs) + size p → firstIn k 0 ps ≡ firstIn k 0 (xs ++ (p ∷ [])))
+    (n : ℕ) where
   module _ (g : Ring) (j q : ℕ) (r : InRing ps g n (length (dataOf xs) + j) j (begun xs p j)) (l : j < size p)
       (e : q ≡ min (504 - (length (dataOf xs) + j) % 504) (size p - j)) (low : n ≤ (length (dataOf xs) + j) / 504)
       (high : (length (dataOf xs) + j) / 504 < n + 4) where
@@ -148,7 +163,8 @@ module _ (ps xs : List Packet) (p : Packet) (fine : Writable p)
         let v = done-is lend lends ps xs p fine bytes settled (deskOf ps g m) j so l in
         rw (u, v) (sym e)
 
-    next : So ps (after lend (deskOf ps g m) (writerOf w size-of) (fullOf w size-of) b) (m + q) (doneAfter w size-of) (xs ++ (p ∷ []))
+    next : So ps (after lend (deskOf ps g m) (writerOf w size-of) (fullOf w size-of) b) (m + q) (doneAfter w size-of)
+        (xs ++ (p ∷ []))
     next = after-call lend lends ps xs p fine bytes settled (deskOf ps g m) j q so l piece (bounds .1) (bounds .2)
 
     writer-is : after lend (deskOf ps g m) (writerOf w size-of) (fullOf w size-of) b .writer ≡ writerOf w size-of
@@ -164,7 +180,8 @@ module _ (ps xs : List Packet) (p : Packet) (fine : Writable p)
         let f = full-is lend lends ps xs p fine bytes settled (deskOf ps g m) j q so l piece (bounds .1) (bounds .2)
         ∙ eq-eqb (m % 504 + q) 504 x in
         sym (block-full w p (slotIn (g .room) (m / 504)) (pieceIn w p (slotIn (g .room) (m / 504)))
-        (closed (w .number) (firstOf w size-of) (pieceIn w p (slotIn (g .room) (m / 504)))) (firstOf w size-of) f refl refl refl)
+        (closed (w .number) (firstOf w size-of) (pieceIn w p (slotIn (g .room) (m / 504)))) (firstOf w size-of) f refl
+        refl refl)
         ∙ closes lend lends ps xs p fine bytes settled (deskOf ps g m) j q so l piece (bounds .1) (bounds .2) x
 
     is-part : (m % 504 + q ≡ 504 → ⊥) → after lend (deskOf ps g m) (writerOf w size-of) (fullOf w size-of) b .block ≡ b
@@ -217,11 +234,13 @@ module _ (ps xs : List Packet) (p : Packet) (fine : Writable p)
   -- ---- a packet
 
   pub packet-run : (f : ℕ) (g : Ring) (j : ℕ) → InRing ps g n (length (dataOf xs) + j) j (begun xs p j) → j < size p
-      → size p + (length (dataOf xs) + j) % 504 ≤ j + f * 504 → n ≤ (length (dataOf xs) + j) / 504 → (length (dataOf xs) + size p) / 504 < n + 4
+      → size p + (length (dataOf xs) + j) % 504 ≤ j + f * 504 → n ≤ (length (dataOf xs) + j) / 504
+      → (length (dataOf xs) + size p) / 504 < n + 4
       → InRing ps (packetRing f p g) n (length (dataOf xs) + size p) 0 (xs ++ (p ∷ []))
   packet-run zero g j r l h low high = absurd (omega arith)
   packet-run (suc f) g j r l h low high =
-      go (min (504 - (length (dataOf xs) + j) % 504) (size p - j)) refl (λ i a c k x y. packet-run f (pieceRing p g) i a c k x high)
+      go (min (504 - (length (dataOf xs) + j) % 504) (size p - j)) refl
+      (λ i a c k x y. packet-run f (pieceRing p g) i a c k x high)
     where
       go : (q : ℕ) → q ≡ min (504 - (length (dataOf xs) + j) % 504) (size p - j)
           → ((i : ℕ) → InRing ps (pieceRing p g) n (length (dataOf xs) + i) i (begun xs p i) → i < size p
@@ -233,11 +252,13 @@ module _ (ps xs : List Packet) (p : Packet) (fine : Writable p)
           let k = bounds g j q r l e low most in
           let done = step g j q r l e low most in
           let is = whole-is (lend g j q r l e low most) (lends g j q r l e low most) ps xs p fine bytes settled
-          (deskOf ps g (length (dataOf xs) + j)) j q (so g j q r l e low most) l (piece g j q r l e low most) (k .1) (k .2) in
+          (deskOf ps g (length (dataOf xs) + j)) j q (so g j q r l e low most) l (piece g j q r l e low most) (k .1)
+          (k .2) in
           elim (ℕ-discrete (j + q) (size p)) [
             | yes w ↦ (let t = is ∙ eq-eqb (j + q) (size p) w in
                 in-ring-as ps (pieceRing p g) (packetRing (suc f) p g) n _ _ _ 0 (xs ++ (p ∷ [])) _
-                (ring-whole (suc f) p g (omega arith) t) (omega arith) (sym (done-whole (g .writer) (length (p .bytes)) t)) refl done)
+                (ring-whole (suc f) p g (omega arith) t) (omega arith)
+                (sym (done-whole (g .writer) (length (p .bytes)) t)) refl done)
             | no w ↦ (let t = is ∙ ne-eqb (j + q) (size p) w in
                 let one : suc f - 1 ≡ f = omega arith in
                 let begins : xs ++ (p ∷ []) ≡ begun xs p (j + q) = some (j + q) (omega (arith, k .0)) in
@@ -245,8 +266,10 @@ module _ (ps xs : List Packet) (p : Packet) (fine : Writable p)
                 sym (done-part (g .writer) (length (p .bytes)) t)
                 ∙ both (used-part g r) in
                 in-ring-as ps (packetRing f p (pieceRing p g)) (packetRing (suc f) p g) n _ _ 0 0 (xs ++ (p ∷ [])) _
-                (ap (λ (x : ℕ). packetRing x p (pieceRing p g)) (sym one) ∙ ring-part (suc f) p g (omega arith) t) refl refl refl
-                (ih (j + q) (in-ring-as ps (pieceRing p g) (pieceRing p g) n _ _ _ (j + q) (xs ++ (p ∷ [])) _ refl (omega arith) part begins done)
+                (ap (λ (x : ℕ). packetRing x p (pieceRing p g)) (sym one) ∙ ring-part (suc f) p g (omega arith) t) refl
+                refl refl
+                (ih (j + q) (in-ring-as ps (pieceRing p g) (pieceRing p g) n _ _ _ (j + q) (xs ++ (p ∷ [])) _ refl
+                (omega arith) part begins done)
                 (less-left j q (size p) (k .2) w) (fuel-left (length (dataOf xs)) j q (size p) f e l w h)
                 (low-left (length (dataOf xs)) j q n low) (some-left j q (k .0))))
           ]
@@ -255,7 +278,8 @@ module _ (ps xs : List Packet) (p : Packet) (fine : Writable p)
           some zero h = absurd (omega arith)
           some (suc i) h = refl
 
-          both : (g .writer .done ≡ j) → min (g .writer .done) (3 + length (p .bytes)) + pieceOf (g .writer) (length (p .bytes)) ≡ j + q
+          both : (g .writer .done ≡ j) → min (g .writer .done) (3 + length (p .bytes))
+              + pieceOf (g .writer) (length (p .bytes)) ≡ j + q
           both d = part-sum (g .writer .done) j q (size p) _ d l (piece g j q r l e low most)
             where
               most : (length (dataOf xs) + j) / 504 < n + 4
@@ -282,11 +306,13 @@ more-ring xs qs g n r = record {
 }
 
 -- a packet behind those that are there
-pub packet-ring : (xs : List Packet) (p : Packet) (g : Ring) (n : ℕ) → Writable p → InRing xs g n (length (dataOf xs)) 0 xs
+pub packet-ring : (xs : List Packet) (p : Packet) (g : Ring) (n : ℕ) → Writable p
+    → InRing xs g n (length (dataOf xs)) 0 xs
     → n ≤ length (dataOf xs) / 504 → (length (dataOf xs) + size p) / 504 < n + 4
     → InRing (xs ++ (p ∷ [])) (packetRing 4 p g) n (length (dataOf (xs ++ (p ∷ [])))) 0 (xs ++ (p ∷ []))
 packet-ring xs p g n fine r low high =
-    let start = in-ring-as (xs ++ (p ∷ [])) g g n (length (dataOf xs)) (length (dataOf xs) + 0) 0 0 xs xs refl (omega arith) refl refl
+    let start = in-ring-as (xs ++ (p ∷ [])) g g n (length (dataOf xs)) (length (dataOf xs) + 0) 0 0 xs xs refl
+    (omega arith) refl refl
     (more-ring xs (p ∷ []) g n r) in
     in-ring-as (xs ++ (p ∷ [])) _ _ n _ _ 0 0 _ _ refl (length-snoc xs p) refl refl
     (packet-run (xs ++ (p ∷ [])) xs p fine (λ i l. data-at xs p [] i l) (λ k l. refl) n 4 g 0 start (omega arith)
@@ -304,7 +330,8 @@ ring-one p g = go (wholeOf (g .writer) (length (p .bytes)))
 
 -- the room with an end record behind the packets xs: its blocks are those of the stream of xs and the end
 module _ (xs : List Packet) (e : Packet) (g : Ring) (n : ℕ) (fine : Writable e) (short : length (e .bytes) ≡ 10)
-    (r : InRing xs g n (length (dataOf xs)) 0 xs) (fits : length (dataOf xs) % 504 ≤ 488) (low : n ≤ length (dataOf xs) / 504)
+    (r : InRing xs g n (length (dataOf xs)) 0 xs) (fits : length (dataOf xs) % 504 ≤ 488)
+    (low : n ≤ length (dataOf xs) / 504)
     (high : length (dataOf xs) / 504 < n + 4) where
   abbrev all : List Packet
   all = xs ++ (e ∷ [])
@@ -314,7 +341,8 @@ module _ (xs : List Packet) (e : Packet) (g : Ring) (n : ℕ) (fine : Writable e
 
   start : InRing all g n (length (dataOf xs) + 0) 0 xs
   start =
-      in-ring-as all g g n (length (dataOf xs)) (length (dataOf xs) + 0) 0 0 xs xs refl (omega arith) refl refl (more-ring xs (e ∷ []) g n r)
+      in-ring-as all g g n (length (dataOf xs)) (length (dataOf xs) + 0) 0 0 xs xs refl (omega arith) refl refl
+      (more-ring xs (e ∷ []) g n r)
 
   length-all : length (dataOf xs) + size e ≡ length (dataOf all)
   length-all = length-snoc xs e
@@ -323,7 +351,8 @@ module _ (xs : List Packet) (e : Packet) (g : Ring) (n : ℕ) (fine : Writable e
   placed-end : InRing all (pieceRing e g) n (length (dataOf all)) 0 all
   placed-end =
       in-ring-as all (packetRing 1 e g) (pieceRing e g) n _ _ 0 0 all all (ring-one e g) length-all refl refl
-      (packet-run all xs e fine (λ i l. data-at xs e [] i l) (λ k l. refl) n 1 g 0 start (omega arith) (omega (arith, short, fits))
+      (packet-run all xs e fine (λ i l. data-at xs e [] i l) (λ k l. refl) n 1 g 0 start (omega arith)
+      (omega (arith, short, fits))
       (omega arith) (omega (arith, short, fits, high)))
 
   abbrev desk-end : Desk
@@ -342,15 +371,18 @@ module _ (xs : List Packet) (e : Packet) (g : Ring) (n : ℕ) (fine : Writable e
   same-block = omega (arith, length-all, short, fits)
 
   -- the block with the end record, filled with zeros
-  last-is-end : lastOf (pieceRing e g .writer) (slotIn (pieceRing e g .room) (length (dataOf all) / 504)) ≡ blockOf all (length (dataOf all) / 504)
+  last-is-end : lastOf (pieceRing e g .writer) (slotIn (pieceRing e g .room) (length (dataOf all) / 504))
+      ≡ blockOf all (length (dataOf all) / 504)
   last-is-end =
       let d = desk-end in
       let b = filled-up lend-none lends-none all d in
       let u : length (dataOf all) % 504 ≡ usedOf (d .writer) = omega (arith, so-end .used) in
       let z : length (dataOf all) % 504 ≡ 0 → ⊥ = λ x. omega (arith, length-all, short, fits) in
-      let f = finish-last (d .writer) (d .block) b (closed (d .writer .number) (d .writer .first) b) (length (dataOf all) % 504) (so-end .long) u z refl refl in
+      let f = finish-last (d .writer) (d .block) b (closed (d .writer .number) (d .writer .first) b)
+      (length (dataOf all) % 504) (so-end .long) u z refl refl in
       sym (f .1) ∙ ap (λ (x : ℕ). closed x (d .writer .first) b) (so-end .number)
-      ∙ closed-is all (length (dataOf all) / 504) (d .writer .first) b (filled-long lend-none lends-none all d so-end) (so-end .first)
+      ∙ closed-is all (length (dataOf all) / 504) (d .writer .first) b (filled-long lend-none lends-none all d so-end)
+      (so-end .first)
       (filled-held lend-none lends-none all d so-end)
 
   end-room-is : endRoom e g ≡ putIn (pieceRing e g .room) last-block (blockOf all last-block)
@@ -362,7 +394,9 @@ module _ (xs : List Packet) (e : Packet) (g : Ring) (n : ℕ) (fine : Writable e
   -- every block from the first unfinished one to the end's is as it stands in the stream of the packets and the end
   pub end-ring : (k : ℕ) → n ≤ k → k ≤ last-block → slotIn (endRoom e g) k ≡ blockOf all k
   end-ring k x y = ap (λ (l : List ℕ). slotIn l k) end-room-is ∙ elim (ℕ-discrete k last-block) [
-    | yes z ↦ rw z (slot-same (pieceRing e g .room) last-block (blockOf all last-block) (placed-end .long) (length-block all last-block))
-    | no z ↦ slot-other (pieceRing e g .room) last-block k (blockOf all last-block) (placed-end .long) (length-block all last-block) (λ q. omega arith)
+    | yes z ↦ rw z (slot-same (pieceRing e g .room) last-block (blockOf all last-block) (placed-end .long)
+        (length-block all last-block))
+    | no z ↦ slot-other (pieceRing e g .room) last-block k (blockOf all last-block) (placed-end .long)
+        (length-block all last-block) (λ q. omega arith)
         ∙ placed-end .full k x (omega (arith, same-block))
   ]

@@ -32,7 +32,8 @@ pub record Torn (s : List ℕ) (x : Store) (torn : List ℕ) : Type 0 where
   pub long : length torn ≡ 512
   pub either : (goodBlock (putBlock s (x .place) torn) (x .place) ≡ false → ⊥) → torn ≡ x .block
 
--- The packets xs are on the card with the end record e behind them: every block up to the one in which the end begins is as written there.
+-- The packets xs are on the card with the end record e behind them: every block up to the one in which the end begins
+-- is as written there.
 pub record OnCard (s : List ℕ) (xs : List Packet) (e : Packet) : Type 0 where
   pub whole : length s % 512 ≡ 0
   pub fine : All (xs ++ (e ∷ []))
@@ -41,7 +42,8 @@ pub record OnCard (s : List ℕ) (xs : List Packet) (e : Packet) : Type 0 where
   pub fits : length (dataOf xs) % 504 ≤ 488
   pub written : (k : ℕ) → k ≤ length (dataOf xs) / 504 → blockAt s k ≡ blockOf (xs ++ (e ∷ [])) k
 
--- what the stores tell of that were made, with the one at the cut: of the packets before the flush until its first block is stored, then of those after it
+-- what the stores tell of that were made, with the one at the cut: of the packets before the flush until its first
+-- block is stored, then of those after it
 abbrev pub told : List Store → List Packet → List Packet → List Packet
 told [] before after = after
 told (x ∷ rest) before after = before
@@ -59,4 +61,5 @@ pub record Flushes (s : List ℕ) (xs ys : List Packet) (end : Packet) (room : L
 
 -- those stores
 abbrev pub flushStores : List Packet → List Packet → List ℕ → List Store
-flushStores xs ys room = pending (length (dataOf xs) / 504) (suc (length (dataOf (xs ++ ys)) / 504 - length (dataOf xs) / 504)) room
+flushStores xs ys room = pending (length (dataOf xs) / 504)
+    (suc (length (dataOf (xs ++ ys)) / 504 - length (dataOf xs) / 504)) room

@@ -1,24 +1,22 @@
 -- Laws on the definitions of Flush.antt: what a reader gives of the whole card at any cut.
 use mathlib.Core.Path.{_≡_, refl, sym, ap, ap₂, subst, _∙_}
-use mathlib.Core.Bool.{Bool, true, false, cond, false≢true}
+use mathlib.Core.Bool.{true, false≢true}
 use mathlib.Core.List.{List, [], _∷_, _++_, append-assoc}
 use Prim.Native.Nat.{ℕ, zero, suc, _+_, _-_, _*_, _/_, _%_, _≤_, _<_}
 use native.Mathlib.Omega.{arith}
 use native.Mathlib.Decide.{ℕ-discrete, decLt}
 use borrow.Author.Tests.{lt-ltb, eq-eqb, ne-eqb}
-use lib.Dec.{eqb}
 use lib.ListN.{length, take, drop, getD, length-append, length-drop, List·getD-append}
 use lib.Seq.{getD-take, getD-drop, getD-append-add, length-take-le, ext-getD, take-at, drop-append-add}
-use Rattle.card.specs.Packet.{Packet, All, size, dataOf}
+use Rattle.card.specs.Packet.{Packet, All, dataOf}
 use Rattle.card.specs.Kept.{keptFrom, firstIn}
 use Rattle.card.specs.Written.{filled, body, sealed, blockOf}
 use Rattle.card.specs.Streams.{blockAt, goodBlock, placed, checked, view}
-use Rattle.card.specs.Places.{length-block, number-written, check-written, good-inside, length-filled, getD-filled}
+use Rattle.card.specs.Places.{number-written, check-written, length-filled, getD-filled}
 use Rattle.card.specs.Begins.{data-append, first-append, first-settled}
 use Rattle.card.specs.Theorem.{first-here}
 use Rattle.card.specs.Stream.{length-snoc}
 use Rattle.card.specs.Runs.{readRun}
-use Rattle.recorder.specs.Ended.{EndsInBlock}
 use Rattle.recorder.specs.EndedLaws.{ended-gives}
 use Rattle.recorder.specs.Ring.{slotIn}
 use Rattle.recorder.specs.RingLaws.{slot-long}
@@ -27,19 +25,23 @@ use Rattle.recorder.specs.Flush.{putBlock, Store, afterStores, pending, 
 -- ---- blocks of a card
 
 -- 512 bytes put at a place, at that place and at another
-pub mid-same : (s b : List ℕ) (a : ℕ) → a ≤ length s → length b ≡ 512 → take 512 (drop a (take a s ++ (b ++ drop (a + 512) s))) ≡ b
+pub mid-same : (s b : List ℕ) (a : ℕ) → a ≤ length s → length b ≡ 512
+    → take 512 (drop a (take a s ++ (b ++ drop (a + 512) s))) ≡ b
 mid-same s b a l h =
     let n : length (take a s) ≡ a = length-take-le a s l in
     let e : a ≡ length (take a s) + 0 = omega arith in
     let d : drop a (take a s ++ (b ++ drop (a + 512) s)) ≡ b ++ drop (a + 512) s =
-    ap (λ (x : ℕ). drop x (take a s ++ (b ++ drop (a + 512) s))) e ∙ drop-append-add (take a s) (b ++ drop (a + 512) s) 0 in
+    ap (λ (x : ℕ). drop x (take a s ++ (b ++ drop (a + 512) s))) e
+    ∙ drop-append-add (take a s) (b ++ drop (a + 512) s) 0 in
     ap (take 512) d ∙ take-at b (drop (a + 512) s) 512 h
 
-mid-before : (s b : List ℕ) (a i : ℕ) → a ≤ length s → i < a → getD (take a s ++ (b ++ drop (a + 512) s)) i 0 ≡ getD s i 0
+mid-before : (s b : List ℕ) (a i : ℕ) → a ≤ length s → i < a → getD (take a s ++ (b ++ drop (a + 512) s)) i 0
+    ≡ getD s i 0
 mid-before s b a i l h =
     List·getD-append (take a s) (b ++ drop (a + 512) s) 0 i (omega (arith, length-take-le a s l)) ∙ getD-take a s i 0 h
 
-mid-behind : (s b : List ℕ) (a i : ℕ) → a ≤ length s → length b ≡ 512 → getD (take a s ++ (b ++ drop (a + 512) s)) (a + (512 + i)) 0 ≡ getD s (a + 512 + i) 0
+mid-behind : (s b : List ℕ) (a i : ℕ) → a ≤ length s → length b ≡ 512
+    → getD (take a s ++ (b ++ drop (a + 512) s)) (a + (512 + i)) 0 ≡ getD s (a + 512 + i) 0
 mid-behind s b a i l h =
     let n : length (take a s) ≡ a = length-take-le a s l in
     let e : a + (512 + i) ≡ length (take a s) + (512 + i) = omega arith in
@@ -50,7 +52,8 @@ mid-behind s b a i l h =
     ∙ getD-append-add b (drop (a + 512) s) i 0
     ∙ getD-drop (a + 512) s i 0
 
-pub mid-long : (s b : List ℕ) (a : ℕ) → a + 512 ≤ length s → length b ≡ 512 → length (take a s ++ (b ++ drop (a + 512) s)) ≡ length s
+pub mid-long : (s b : List ℕ) (a : ℕ) → a + 512 ≤ length s → length b ≡ 512
+    → length (take a s ++ (b ++ drop (a + 512) s)) ≡ length s
 mid-long s b a l h =
     omega (
       arith,
@@ -61,7 +64,8 @@ mid-long s b a l h =
     )
 
 -- other 512 bytes from c on
-pub mid-other : (s b : List ℕ) (a c : ℕ) → a + 512 ≤ length s → c + 512 ≤ length s → length b ≡ 512 → (a < c + 512 → a + 512 ≤ c)
+pub mid-other : (s b : List ℕ) (a c : ℕ) → a + 512 ≤ length s → c + 512 ≤ length s → length b ≡ 512
+    → (a < c + 512 → a + 512 ≤ c)
     → take 512 (drop c (take a s ++ (b ++ drop (a + 512) s))) ≡ take 512 (drop c s)
 mid-other s b a c l m h o =
     let t = take a s ++ (b ++ drop (a + 512) s) in
@@ -82,7 +86,8 @@ mid-other s b a c l m h o =
       | no z ↦ mid-before s b a (c + i) (omega arith) (omega arith)
     ]
 
-pub put-long : (s : List ℕ) (k : ℕ) (b : List ℕ) → k < length s / 512 → length b ≡ 512 → length (putBlock s k b) ≡ length s
+pub put-long : (s : List ℕ) (k : ℕ) (b : List ℕ) → k < length s / 512 → length b ≡ 512 → length (putBlock s k b)
+    ≡ length s
 unfolding putBlock
 put-long s k b l h = mid-long s b (k * 512) (omega arith) h
 
@@ -90,7 +95,8 @@ pub put-same : (s : List ℕ) (k : ℕ) (b : List ℕ) → k < length s / 512 �
 unfolding putBlock
 put-same s k b l h = mid-same s b (k * 512) (omega arith) h
 
-pub put-other : (s : List ℕ) (k j : ℕ) (b : List ℕ) → k < length s / 512 → j < length s / 512 → length b ≡ 512 → (k ≡ j → ⊥)
+pub put-other : (s : List ℕ) (k j : ℕ) (b : List ℕ) → k < length s / 512 → j < length s / 512 → length b ≡ 512
+    → (k ≡ j → ⊥)
     → blockAt (putBlock s k b) j ≡ blockAt s j
 unfolding putBlock
 put-other s k j b l m h n = mid-other s b (k * 512) (j * 512) (omega arith) (omega arith) h (λ z. later n z)
@@ -104,13 +110,15 @@ put-other s k j b l m h n = mid-other s b (k * 512) (j * 512) (omega arith) (ome
 -- ---- a stream's blocks
 
 -- a block that is as written is good
-pub block-good : (s : List ℕ) (ps : List Packet) (k : ℕ) → k < length s / 512 → blockAt s k ≡ blockOf ps k → goodBlock s k ≡ true
+pub block-good : (s : List ℕ) (ps : List Packet) (k : ℕ) → k < length s / 512 → blockAt s k ≡ blockOf ps k
+    → goodBlock s k ≡ true
 unfolding goodBlock placed checked
 block-good s ps k l e =
     rw (lt-ltb k (length s / 512) l, eq-eqb _ _ (number-written s ps k e), eq-eqb _ _ (check-written s ps k e))
 
 -- a block that the first packets fill is the same whatever follows them
-pub block-settled : (xs ys : List Packet) (k : ℕ) → (k + 1) * 504 ≤ length (dataOf xs) → blockOf (xs ++ ys) k ≡ blockOf xs k
+pub block-settled : (xs ys : List Packet) (k : ℕ) → (k + 1) * 504 ≤ length (dataOf xs) → blockOf (xs ++ ys) k
+    ≡ blockOf xs k
 unfolding blockOf
 block-settled xs ys k h =
     ap₂ (λ (f : ℕ) (d : List ℕ). sealed (body k f d)) (first-settled xs ys k h) same
@@ -124,8 +132,10 @@ block-settled xs ys k h =
     same =
         let a = length-filled 504 (drop (k * 504) (dataOf (xs ++ ys))) in
         let b = length-filled 504 (drop (k * 504) (dataOf xs)) in
-        ext-getD 0 (filled 504 (drop (k * 504) (dataOf (xs ++ ys)))) (filled 504 (drop (k * 504) (dataOf xs))) (a ∙ sym b)
-        (λ i g. getD-filled 504 (drop (k * 504) (dataOf (xs ++ ys))) i (omega (arith, a)) ∙ getD-drop (k * 504) (dataOf (xs ++ ys)) i 0
+        ext-getD 0 (filled 504 (drop (k * 504) (dataOf (xs ++ ys)))) (filled 504 (drop (k * 504) (dataOf xs)))
+        (a ∙ sym b)
+        (λ i g. getD-filled 504 (drop (k * 504) (dataOf (xs ++ ys))) i (omega (arith, a))
+        ∙ getD-drop (k * 504) (dataOf (xs ++ ys)) i 0
         ∙ at i (omega (arith, a))
         ∙ sym (getD-filled 504 (drop (k * 504) (dataOf xs)) i (omega (arith, a)) ∙ getD-drop (k * 504) (dataOf xs) i 0))
 
@@ -136,18 +146,22 @@ end-named : (xs : List Packet) (e : Packet) → firstIn (length (dataOf xs) / 50
 end-named xs e h =
     let m = length (dataOf xs) / 504 in
     let z : 0 + length (dataOf xs) ≡ length (dataOf xs) = omega arith in
-    let here : firstIn m (0 + length (dataOf xs)) (e ∷ []) ≡ 6 + length (dataOf xs) % 504 = rw z (first-here e [] m (length (dataOf xs)) refl) in
+    let here : firstIn m (0 + length (dataOf xs)) (e ∷ []) ≡ 6 + length (dataOf xs) % 504
+    = rw z (first-here e [] m (length (dataOf xs)) refl) in
     let both = sym (first-append xs (e ∷ []) m 0) ∙ h in
     elim (ℕ-discrete (firstIn m 0 xs) 65535) [
-      | yes y ↦ (let x : firstIn m (0 + length (dataOf xs)) (e ∷ []) ≡ 65535 = rw (eq-eqb (firstIn m 0 xs) 65535 y) at both in omega (arith, here, x))
+      | yes y ↦ (let x : firstIn m (0 + length (dataOf xs)) (e ∷ []) ≡ 65535
+          = rw (eq-eqb (firstIn m 0 xs) 65535 y) at both in omega (arith, here, x))
       | no y ↦ y (rw (ne-eqb (firstIn m 0 xs) 65535 y) at both)
     ]
 
--- The packets and their end are read, and nothing behind them, where the good blocks up to the end's are as written and the end's is good.
+-- The packets and their end are read, and nothing behind them, where the good blocks up to the end's are as written and
+-- the end's is good.
 pub reads-end : (s room : List ℕ) (xs : List Packet) (e : Packet) → length s % 512 ≡ 0 → All (xs ++ (e ∷ []))
     → length (dataOf xs) / 504 < length s / 512 → length (e .bytes) ≡ 10 → length (dataOf xs) % 504 ≤ 488
     → ((k : ℕ) → k ≤ length (dataOf xs) / 504 → goodBlock s k ≡ true → blockAt s k ≡ blockOf (xs ++ (e ∷ [])) k)
-    → goodBlock s (length (dataOf xs) / 504) ≡ true → 1024 ≤ length room → readRun s room ≡ keptFrom (view s) 0 (xs ++ (e ∷ []))
+    → goodBlock s (length (dataOf xs) / 504) ≡ true → 1024 ≤ length room → readRun s room
+    ≡ keptFrom (view s) 0 (xs ++ (e ∷ []))
 reads-end s room xs e whole fine inside short fits written good r =
     ended-gives (xs ++ (e ∷ [])) fine s room whole (length (dataOf xs) / 504)
     (record {
@@ -180,7 +194,8 @@ no-store [] x rest e = let z : _≡_ {A = ℕ} 0 1 = cc in omega arith
 no-store (y ∷ made) x rest e = let z : _≡_ {A = ℕ} 0 1 = cc in omega arith
 
 -- at a cut the blocks behind that of the cut are stored, the others are as they were
-record AtCut (s : List ℕ) (from left : ℕ) (room : List ℕ) (made : List Store) (x : Store) (rest : List Store) : Type 0 where
+record AtCut (s : List ℕ) (from left : ℕ) (room : List ℕ) (made : List Store) (x : Store) (rest : List Store) : Type
+    0 where
   place : x .place ≡ from + length rest
   few : length rest < left
   block : x .block ≡ slotIn room (from + length rest)
@@ -219,7 +234,8 @@ at-cut from (suc left) s room (y ∷ made) x rest l i e =
     let other : (k : ℕ) → (from + left ≡ k → ⊥) → k < length s / 512 → blockAt t k ≡ blockAt s k =
     λ k n h. put-other s (from + left) k b (omega arith) h (slot-512 room (from + left) l) n in
     let go : afterStores s (y ∷ made) ≡ afterStores t made = ap (λ (q : List ℕ). afterStores q made) is in
-    let block-go : (k : ℕ) → blockAt (afterStores s (y ∷ made)) k ≡ blockAt (afterStores t made) k = λ k. ap (λ (q : List ℕ). blockAt q k) go in
+    let block-go : (k : ℕ) → blockAt (afterStores s (y ∷ made)) k ≡ blockAt (afterStores t made) k
+    = λ k. ap (λ (q : List ℕ). blockAt q k) go in
     record {
       place = ih .place;
       few = omega (arith, ih .few);
@@ -235,7 +251,8 @@ at-cut from (suc left) s room (y ∷ made) x rest l i e =
 
 -- ---- a cut in a flush
 
-module _ (s : List ℕ) (xs ys : List Packet) (e end : Packet) (room : List ℕ) (c : OnCard s xs e) (f : Flushes s xs ys end room)
+module _ (s : List ℕ) (xs ys : List Packet) (e end : Packet) (room : List ℕ) (c : OnCard s xs e)
+    (f : Flushes s xs ys end room)
     (made : List Store) (x : Store) (rest : List Store) (split : flushStores xs ys room ≡ made ++ (x ∷ rest))
     (torn : List ℕ) (t : Torn (afterStores s made) x torn) (reads : List ℕ) (r : 1024 ≤ length reads) where
   abbrev n : ℕ
@@ -260,7 +277,8 @@ module _ (s : List ℕ) (xs ys : List Packet) (e end : Packet) (room : List ℕ)
   other k d h = put-other (afterStores s made) (x .place) k torn place-in (omega (arith, cut .long)) (t .long) d
 
   before : (k : ℕ) → k < x .place → blockAt u k ≡ blockAt s k
-  before k h = other k (λ z. omega arith) (omega (arith, place-in, cut .long)) ∙ cut .before k (omega (arith, cut .place))
+  before k h = other k (λ z. omega arith) (omega (arith, place-in, cut .long))
+      ∙ cut .before k (omega (arith, cut .place))
 
   -- the block at the cut, where it is good
   at-place : (k : ℕ) → k ≡ x .place → goodBlock u k ≡ true → blockAt u k ≡ x .block
@@ -284,12 +302,15 @@ module _ (s : List ℕ) (xs ys : List Packet) (e end : Packet) (room : List ℕ)
   by [] a =
       let here : x .place ≡ n = omega (arith, a .place) in
       let behind : (k : ℕ) → n < k → k ≤ m → blockAt u k ≡ blockOf ((xs ++ ys) ++ (end ∷ [])) k =
-      λ k l h. other k (λ z. omega arith) (omega (arith, f .inside)) ∙ a .stored k (omega arith) (omega arith) ∙ f .ready k (omega arith) h in
+      λ k l h. other k (λ z. omega arith) (omega (arith, f .inside)) ∙ a .stored k (omega arith) (omega arith)
+      ∙ f .ready k (omega arith) h in
       let last = behind m (omega (arith, f .later)) (omega arith) in
-      reads-end u reads (xs ++ ys) end (omega (arith, long, c .whole)) (f .fine) (omega (arith, long, f .inside)) (f .short) (f .fits)
+      reads-end u reads (xs ++ ys) end (omega (arith, long, c .whole)) (f .fine) (omega (arith, long, f .inside))
+      (f .short) (f .fits)
       (λ k l g. elim (decLt k n) [
         | yes h ↦ before k (omega arith) ∙ c .written k (omega arith) ∙ block-settled xs (e ∷ []) k (omega arith)
-            ∙ sym (ap (λ (q : List Packet). blockOf q k) (append-assoc xs ys (end ∷ [])) ∙ block-settled xs (ys ++ (end ∷ [])) k (omega arith))
+            ∙ sym (ap (λ (q : List Packet). blockOf q k) (append-assoc xs ys (end ∷ []))
+            ∙ block-settled xs (ys ++ (end ∷ [])) k (omega arith))
         | no h ↦ elim (ℕ-discrete k n) [
           | yes z ↦ (let at : n + 0 ≡ k = omega arith in
               at-place k (omega arith) g ∙ a .block ∙ f .ready (n + 0) (omega arith) (omega (arith, f .later))
@@ -299,6 +320,7 @@ module _ (s : List ℕ) (xs ys : List Packet) (e end : Packet) (room : List ℕ)
       ])
       (block-good u ((xs ++ ys) ++ (end ∷ [])) m (omega (arith, long, f .inside)) last) r
 
-  -- At any cut in a flush the reader gives exactly the packets that the stores tell of and that lie wholly in good blocks, then the end record.
+  -- At any cut in a flush the reader gives exactly the packets that the stores tell of and that lie wholly in good
+  -- blocks, then the end record.
   pub flush-gives : readRun u reads ≡ keptFrom (view u) 0 (told rest (xs ++ (e ∷ [])) ((xs ++ ys) ++ (end ∷ [])))
   flush-gives = by rest cut

@@ -1,6 +1,6 @@
 -- What the recorder's calls do.
 use mathlib.Core.Bool.{Bool, cond, _||_, not}
-use mathlib.Core.List.{List, [], _∷_, _++_}
+use mathlib.Core.List.{List, _∷_, _++_}
 use Prim.Native.Nat.{ℕ, _+_, _-_, min}
 use lib.Dec.{ltb, eqb}
 use lib.ListN.{length}
@@ -64,7 +64,8 @@ recordOf r p room = cond (refuses r p room) (Refused 21) (Stores (flushed r (rec
 unfoldable pub recordRoom : Recorder → Packet → ℕ → List ℕ → List ℕ
 recordRoom r p overruns room =
     let g = recordRing p (ringIn r room) in
-    cond (refuses r p room) room (cond (eqb (g .writer .number) (r .from)) (g .room) (endRoom (endRecord 0 (r .survey) overruns) g))
+    cond (refuses r p room) room (cond (eqb (g .writer .number) (r .from)) (g .room)
+    (endRoom (endRecord 0 (r .survey) overruns) g))
 
 -- ---- the finish
 
@@ -85,4 +86,12 @@ storedOf r =
     cond (eqb (r .left) 0) r
     (cond (eqb (r .left) 1)
     (record { number = r .number; used = r .used; first = r .first; from = r .number; left = 0; survey = r .survey })
-    (record { number = r .number; used = r .used; first = r .first; from = r .from; left = r .left - 1; survey = r .survey }))
+    (record {
+      number = r .number;
+      used = r .used;
+      first = r .first;
+      from = r .from;
+      left = r .left - 1;
+      survey
+          = r .survey;
+    }))

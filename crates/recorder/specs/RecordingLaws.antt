@@ -10,7 +10,8 @@ use Rattle.recorder.specs.declared.recorder.Recorder.{Recorder}
 use Rattle.card.specs.Packet.{Packet}
 use Rattle.recorder.specs.declared.recorder.Recorded.the-variants.{Stores, Refused}
 use Rattle.recorder.specs.Ring.{Ring, recordRing, endRecord, endRoom}
-use Rattle.recorder.specs.Recording.{leftOf, after, begun, beginRing, beginOf, beginRoom, busy, refuses, ringIn, recordOf, recordRoom}
+use Rattle.recorder.specs.Recording.{leftOf, after, begun, beginRing, beginOf, beginRoom, busy, refuses, ringIn}
+use Rattle.recorder.specs.Recording.{recordOf, recordRoom}
 use Rattle.recorder.specs.Recording.{paddedRing, finishOf, finishRoom, storedOf}
 
 pub left-none : (number from : ℕ) → number ≡ from → 0 ≡ leftOf number from
@@ -23,7 +24,8 @@ left-low number from h =
     let m : min (number - from) 3 ≡ 0 = omega arith in
     rw (ne-eqb number from (λ e. omega arith), m)
 
-pub left-some : (number from r : ℕ) → from < number → (number - from < 3) × (r ≡ number - from + 1) → r ≡ leftOf number from
+pub left-some : (number from r : ℕ) → from < number → (number - from < 3) × (r ≡ number - from + 1) → r
+    ≡ leftOf number from
 unfolding leftOf
 left-some number from r h e =
     let m : min (number - from) 3 ≡ number - from = omega (arith, e .0) in
@@ -42,12 +44,21 @@ unfolding storedOf
 stored-none r h = rw (eq-eqb (r .left) 0 h)
 
 pub stored-last : (r : Recorder) → r .left ≡ 1
-    → record { number = r .number; used = r .used; first = r .first; from = r .number; left = 0; survey = r .survey } ≡ storedOf r
+    → record { number = r .number; used = r .used; first = r .first; from = r .number; left = 0; survey = r .survey }
+    ≡ storedOf r
 unfolding storedOf
 stored-last r h = rw (ne-eqb (r .left) 0 (λ e. omega arith), eq-eqb (r .left) 1 h)
 
 pub stored-one : (r : Recorder) → (r .left ≡ 0 → ⊥) → (r .left ≡ 1 → ⊥)
-    → record { number = r .number; used = r .used; first = r .first; from = r .from; left = r .left - 1; survey = r .survey } ≡ storedOf r
+    → record {
+      number = r .number;
+      used = r .used;
+      first = r .first;
+      from = r .from;
+      left = r .left - 1;
+      survey
+          = r .survey;
+    } ≡ storedOf r
 unfolding storedOf
 stored-one r h l = rw (ne-eqb (r .left) 0 h, ne-eqb (r .left) 1 l)
 
@@ -65,19 +76,23 @@ not-busy r room h l = rw (eq-eqb (length room) 2048 h, eq-eqb (r .left) 0 l)
 pub refuses-busy : (r : Recorder) (p : Packet) (room : List ℕ) → busy r room ≡ true → refuses r p room ≡ true
 refuses-busy r p room h = rw h
 
-pub refuses-long : (r : Recorder) (p : Packet) (room : List ℕ) → busy r room ≡ false → 1024 < length (p .bytes) → refuses r p room ≡ true
+pub refuses-long : (r : Recorder) (p : Packet) (room : List ℕ) → busy r room ≡ false → 1024 < length (p .bytes)
+    → refuses r p room ≡ true
 refuses-long r p room h l = rw (h, lt-ltb 1024 (length (p .bytes)) l)
 
-pub refuses-zero : (r : Recorder) (p : Packet) (room : List ℕ) → busy r room ≡ false → length (p .bytes) ≤ 1024 → p .endpoint ≡ 0
+pub refuses-zero : (r : Recorder) (p : Packet) (room : List ℕ) → busy r room ≡ false → length (p .bytes) ≤ 1024
+    → p .endpoint ≡ 0
     → refuses r p room ≡ true
 refuses-zero r p room h l z = rw (h, le-ltb 1024 (length (p .bytes)) l, eq-eqb (p .endpoint) 0 z)
 
-pub refuses-high : (r : Recorder) (p : Packet) (room : List ℕ) → busy r room ≡ false → length (p .bytes) ≤ 1024 → (p .endpoint ≡ 0 → ⊥)
+pub refuses-high : (r : Recorder) (p : Packet) (room : List ℕ) → busy r room ≡ false → length (p .bytes) ≤ 1024
+    → (p .endpoint ≡ 0 → ⊥)
     → 15 < p .endpoint → refuses r p room ≡ true
 refuses-high r p room h l z e =
     rw (h, le-ltb 1024 (length (p .bytes)) l, ne-eqb (p .endpoint) 0 z, lt-ltb 15 (p .endpoint) e)
 
-pub taken : (r : Recorder) (p : Packet) (room : List ℕ) → busy r room ≡ false → length (p .bytes) ≤ 1024 → (p .endpoint ≡ 0 → ⊥)
+pub taken : (r : Recorder) (p : Packet) (room : List ℕ) → busy r room ≡ false → length (p .bytes) ≤ 1024
+    → (p .endpoint ≡ 0 → ⊥)
     → p .endpoint ≤ 15 → refuses r p room ≡ false
 taken r p room h l z e =
     rw (h, le-ltb 1024 (length (p .bytes)) l, ne-eqb (p .endpoint) 0 z, le-ltb 15 (p .endpoint) e)
@@ -98,8 +113,10 @@ record-kept r s p overruns room g h e n x =
     let first = eq-eqb (g .writer .number) (r .from) n in
     (rw (h, same, x, first), rw (h, same, first))
 
-pub record-flushed : (r s : Recorder) (p : Packet) (overruns : ℕ) (room after-end : List ℕ) (g : Ring) (left : ℕ) → refuses r p room ≡ false
-    → g ≡ recordRing p (ringIn r room) → (g .writer .number ≡ r .from → ⊥) → after-end ≡ endRoom (endRecord 0 (r .survey) overruns) g
+pub record-flushed : (r s : Recorder) (p : Packet) (overruns : ℕ) (room after-end : List ℕ) (g : Ring) (left : ℕ)
+    → refuses r p room ≡ false
+    → g ≡ recordRing p (ringIn r room) → (g .writer .number ≡ r .from → ⊥) → after-end
+    ≡ endRoom (endRecord 0 (r .survey) overruns) g
     → left ≡ leftOf (g .writer .number) (r .from) → s ≡ after r (g .writer) left
     → (Stores s ≡ recordOf r p room) × (after-end ≡ recordRoom r p overruns room)
 unfolding recordOf recordRoom

@@ -1,19 +1,20 @@
 -- Laws on the definitions of Ring.antt, as the code meets them.
-use mathlib.Core.Path.{_≡_, refl, sym, ap, ap₂, _∙_}
-use mathlib.Core.Bool.{Bool, true, false, cond}
-use mathlib.Core.List.{List, [], _∷_, _++_}
+use mathlib.Core.Path.{_≡_, refl, sym, ap, _∙_}
+use mathlib.Core.Bool.{Bool, true, false}
+use mathlib.Core.List.{List, _∷_, _++_}
 use Prim.Native.Nat.{ℕ, zero, suc, _+_, _-_, _*_, _/_, _%_, _≤_, _<_}
 use native.Mathlib.Omega.{arith}
 use borrow.Author.Tests.{le-ltb, lt-ltb}
 use lib.ListN.{length, take, drop, replicate, length-drop}
 use lib.Seq.{length-take-le}
-use Rattle.card.specs.Packet.{Packet, packetOf, Writable}
+use Rattle.card.specs.Packet.{Packet, Writable}
 use Rattle.card.specs.declared.writer.Writer.{Writer}
 use Rattle.card.specs.declared.writer.Wrote.{Wrote}
 use Rattle.card.specs.declared.writer.Wrote.the-variants as wrote
-use Rattle.card.specs.Writing.{writerOf, wholeOf, fullOf, unfit, pieceWrote, writeOf, writtenOf, blockOfPiece, lastOf}
+use Rattle.card.specs.Writing.{writerOf, wholeOf, unfit, pieceWrote, writeOf, writtenOf, blockOfPiece, lastOf}
 use Rattle.card.specs.Pieces.{fit}
-use Rattle.recorder.specs.Ring.{Ring, ringOf, slotIn, putIn, pieceRing, packetRing, padding, recordRing, filledRoom, endRoom}
+use Rattle.recorder.specs.Ring.{Ring, ringOf, slotIn, putIn, pieceRing, packetRing, padding, recordRing}
+use Rattle.recorder.specs.Ring.{filledRoom, endRoom}
 
 pub slot-long : (room : List ℕ) (k : ℕ) → length room ≡ 2048 → length (slotIn room k) ≡ 512
 slot-long room k h = length-take-le 512 (drop (k % 4 * 512) room) (omega (arith, length-drop (k % 4 * 512) room))
@@ -31,7 +32,8 @@ pub piece-wrote : (w : Writer) (p : Packet) (room ys : List ℕ) (r : Wrote) →
     → r ≡ writeOf w p (take (slotSize (w .number)) (drop (w .number % 4 * 512) room))
     → ys ≡ writtenOf w p (take (slotSize (w .number)) (drop (w .number % 4 * 512) room))
     → (r ≡ pieceWrote w p)
-    × (take (w .number % 4 * 512) room ++ (ys ++ drop (slotSize (w .number)) (drop (w .number % 4 * 512) room)) ≡ pieceRing p (ringOf w room) .room)
+    × (take (w .number % 4 * 512) room ++ (ys ++ drop (slotSize (w .number)) (drop (w .number % 4 * 512) room))
+    ≡ pieceRing p (ringOf w room) .room)
 unfolding writeOf writtenOf pieceRing putIn
 piece-wrote w p room ys r long fine x y =
     let e : slotSize (w .number) ≡ 512 = slot-size (w .number) in
@@ -46,21 +48,24 @@ piece-wrote w p room ys r long fine x y =
 pub not-refused : (w : Writer) (p : Packet) (row : ℕ) → wrote.Refused row ≡ pieceWrote w p → ⊥
 not-refused w p row e = let z : _≡_ {A = ℕ} 0 1 = cc in omega arith
 
-pub piece-parts : (w : Writer) (p : Packet) (next : Writer) (full done : Bool) → wrote.Piece next full done ≡ pieceWrote w p
+pub piece-parts : (w : Writer) (p : Packet) (next : Writer) (full done : Bool) → wrote.Piece next full done
+    ≡ pieceWrote w p
     → (next ≡ writerOf w (length (p .bytes))) × (done ≡ wholeOf w (length (p .bytes)))
 piece-parts w p next full done e =
     let a : next ≡ writerOf w (length (p .bytes)) = cc in
     let b : done ≡ wholeOf w (length (p .bytes)) = cc in
     (a, b)
 
-pub ring-piece : (p : Packet) (g : Ring) (next : Writer) (room : List ℕ) → next ≡ writerOf (g .writer) (length (p .bytes))
+pub ring-piece : (p : Packet) (g : Ring) (next : Writer) (room : List ℕ) → next
+    ≡ writerOf (g .writer) (length (p .bytes))
     → room ≡ pieceRing p g .room → ringOf next room ≡ pieceRing p g
 unfolding pieceRing
 ring-piece p g next room a b = rw (a, b)
 
 -- ---- a packet
 
-pub ring-whole : (n : ℕ) (p : Packet) (g : Ring) → 0 < n → wholeOf (g .writer) (length (p .bytes)) ≡ true → pieceRing p g ≡ packetRing n p g
+pub ring-whole : (n : ℕ) (p : Packet) (g : Ring) → 0 < n → wholeOf (g .writer) (length (p .bytes)) ≡ true
+    → pieceRing p g ≡ packetRing n p g
 unfolding packetRing
 ring-whole zero p g h t = absurd (omega arith)
 ring-whole (suc n) p g h t = rw t
@@ -92,8 +97,10 @@ record-plain p g h a l =
 
 -- ---- the end
 
-pub fill-is : (w : Writer) (number : ℕ) (room ys : List ℕ) → ys ≡ lastOf w (take (slotSize number) (drop (number % 4 * 512) room))
-    → take (number % 4 * 512) room ++ (ys ++ drop (slotSize number) (drop (number % 4 * 512) room)) ≡ filledRoom w number room
+pub fill-is : (w : Writer) (number : ℕ) (room ys : List ℕ) → ys
+    ≡ lastOf w (take (slotSize number) (drop (number % 4 * 512) room))
+    → take (number % 4 * 512) room ++ (ys ++ drop (slotSize number) (drop (number % 4 * 512) room))
+    ≡ filledRoom w number room
 unfolding filledRoom putIn
 fill-is w number room ys x = let e : slotSize number ≡ 512 = slot-size number in rw (x, e)
 

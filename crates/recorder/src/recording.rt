@@ -1,4 +1,5 @@
-// The recorder's calls. After each, the blocks that are left are to be stored, the last first, with a call of `stored` behind each store.
+// The recorder's calls. After each, the blocks that are left are to be stored, the last first, with a call of `stored`
+// behind each store.
 use crate::recorder::Recorded;
 use crate::recorder::Recorder;
 use crate::ring::put_end;
@@ -7,9 +8,9 @@ use crate::ring::put_padding;
 use crate::ring::put_record;
 use card::writer::Writer;
 ghost use mathlib.Core.Path.{_≡_};
-ghost use lib.ListN.{length};
 ghost use Rattle.card.specs.Packet.{packetOf};
-ghost use Rattle.recorder.specs.Recording.{writerOf, leftOf, after, beginBytes, beginOf, beginRoom, recordOf, recordRoom, finishOf, finishRoom, storedOf};
+ghost use Rattle.recorder.specs.Recording.{writerOf, leftOf, after, beginBytes, beginOf, beginRoom, recordOf};
+ghost use Rattle.recorder.specs.Recording.{recordRoom, finishOf, finishRoom, storedOf};
 
 fn writer_of(r: Recorder) -> Writer
     ensures { λ w. ⌜ w ≡ writerOf r ⌝ }
@@ -89,7 +90,8 @@ pub fn begin(survey: u32, room: &mut [u8]) -> Recorded
 // Records a packet. Where a block is full with it, an end record goes behind it, and the blocks are to be stored.
 pub fn record(r: Recorder, room: &mut [u8], endpoint: u8, bytes: &[u8], overruns: u32) -> Recorded
     ensures { λ s. ⌜ s ≡ recordOf r (packetOf endpoint (now (bytes .entry))) (now (room .entry)) ⌝ }
-    ensures { λ _. ⌜ now (room .exit) ≡ recordRoom r (packetOf endpoint (now (bytes .entry))) overruns (now (room .entry)) ⌝ }
+    ensures { λ _. ⌜ now (room .exit) ≡ recordRoom r (packetOf endpoint (now (bytes .entry))) overruns
+        (now (room .entry)) ⌝ }
 {
     if room.len() != 2048 {
         return Recorded::Refused(21);

@@ -7,7 +7,8 @@ ghost use Prim.Native.Nat.{_≤_, _<_};
 ghost use lib.ListN.{length};
 ghost use Rattle.card.specs.Packet.{packetOf};
 ghost use Rattle.card.specs.Writing.{wholeOf, writerOf};
-ghost use Rattle.recorder.specs.Ring.{ringOf, pieceRing, packetRing, paddingOf, padding, recordRing, endBytes, endRecord, filledRoom, endRoom};
+ghost use Rattle.recorder.specs.Ring.{ringOf, pieceRing, packetRing, paddingOf, padding, recordRing, endBytes};
+ghost use Rattle.recorder.specs.Ring.{endRecord, filledRoom, endRoom};
 
 // A piece of a packet: the writer after it, and whether the packet is whole.
 struct Put {
@@ -20,7 +21,8 @@ fn put_piece(w: Writer, room: &mut [u8], endpoint: u8, bytes: &[u8]) -> Put
     requires { ⌜ (length (now room) ≡ 2048) × (length (now bytes) ≤ 1024) × (0 < endpoint) × (endpoint ≤ 15) ⌝ }
     ensures { λ r. ⌜ r .next ≡ writerOf w (length (now (bytes .entry))) ⌝ }
     ensures { λ r. ⌜ r .whole ≡ wholeOf w (length (now (bytes .entry))) ⌝ }
-    ensures { λ r. ⌜ now (room .exit) ≡ pieceRing (packetOf endpoint (now (bytes .entry))) (ringOf w (now (room .entry))) .room ⌝ }
+    ensures { λ r. ⌜ now (room .exit) ≡ pieceRing (packetOf endpoint (now (bytes .entry)))
+        (ringOf w (now (room .entry))) .room ⌝ }
 {
     let a = (w.number % 4) as usize * 512;
     let e = a + 512;
@@ -40,7 +42,8 @@ fn put_piece(w: Writer, room: &mut [u8], endpoint: u8, bytes: &[u8]) -> Put
 // Writes a packet: four blocks hold it, wherever it begins.
 pub fn put_packet(w: Writer, room: &mut [u8], endpoint: u8, bytes: &[u8]) -> Writer
     requires { ⌜ (length (now room) ≡ 2048) × (length (now bytes) ≤ 1024) × (0 < endpoint) × (endpoint ≤ 15) ⌝ }
-    ensures { λ r. ⌜ ringOf r (now (room .exit)) ≡ packetRing 4 (packetOf endpoint (now (bytes .entry))) (ringOf w (now (room .entry))) ⌝ }
+    ensures { λ r. ⌜ ringOf r (now (room .exit)) ≡ packetRing 4 (packetOf endpoint (now (bytes .entry)))
+        (ringOf w (now (room .entry))) ⌝ }
 {
     let mut at = w;
     let mut turns = 4u8;
@@ -80,7 +83,8 @@ pub fn put_padding(w: Writer, room: &mut [u8]) -> Writer
 // A packet, and padding behind it where the block has no place for an end record and its filler.
 pub fn put_record(w: Writer, room: &mut [u8], endpoint: u8, bytes: &[u8]) -> Writer
     requires { ⌜ (length (now room) ≡ 2048) × (length (now bytes) ≤ 1024) × (0 < endpoint) × (endpoint ≤ 15) ⌝ }
-    ensures { λ r. ⌜ ringOf r (now (room .exit)) ≡ recordRing (packetOf endpoint (now (bytes .entry))) (ringOf w (now (room .entry))) ⌝ }
+    ensures { λ r. ⌜ ringOf r (now (room .exit)) ≡ recordRing (packetOf endpoint (now (bytes .entry)))
+        (ringOf w (now (room .entry))) ⌝ }
 {
     let next = put_packet(w, room, endpoint, bytes);
     if 488 < next.used {
@@ -121,7 +125,8 @@ fn fill_block(w: Writer, number: u32, room: &mut [u8])
     }
 }
 
-// An end record behind the packets, and filler behind it. The writer stays before it, so that the next packet takes its place.
+// An end record behind the packets, and filler behind it. The writer stays before it, so that the next packet takes its
+// place.
 pub fn put_end(w: Writer, room: &mut [u8], finished: u8, survey: u32, overruns: u32)
     requires { ⌜ length (now room) ≡ 2048 ⌝ }
     ensures { λ _. ⌜ now (room .exit) ≡ endRoom (endRecord finished survey overruns) (ringOf w (now (room .entry))) ⌝ }

@@ -36,7 +36,8 @@ pub in-numbered : (n : ℕ) → inToken (tokenNumbered n) ≡ eqb n 2
 unfolding tokenNumbered
 in-numbered n = by (eqb n 0) (eqb n 1) (eqb n 2) (apart n 0 2 (λ e. omega arith)) (apart n 1 2 (λ e. omega arith))
   where
-    by : (a b c : Bool) → (a ≡ true → c ≡ false) → (b ≡ true → c ≡ false) → inToken (orToken a Out (orToken b Sof (orToken c In Setup))) ≡ c
+    by : (a b c : Bool) → (a ≡ true → c ≡ false) → (b ≡ true → c ≡ false)
+        → inToken (orToken a Out (orToken b Sof (orToken c In Setup))) ≡ c
     by true b c h k = sym (h refl)
     by false true c h k = sym (k refl)
     by false false true h k = refl

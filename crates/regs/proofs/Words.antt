@@ -46,4 +46,5 @@ word-of r t = fields r t ∙ omega arith
 
 pub word-of-automatic : (r t : ℕ) → bitOr (bitOr (bitAnd t 3 * 4 % 256) (bitAnd r 3)) 16 ≡ wordOf r t true
 unfolding wordOf
-word-of-automatic r t = ap (λ (x : ℕ). bitOr x 16) (fields r t) ∙ or-shifted-r 1 4 (t % 4 * 4 + r % 4) (omega arith) ∙ omega arith
+word-of-automatic r t = ap (λ (x : ℕ). bitOr x 16) (fields r t) ∙ or-shifted-r 1 4 (t % 4 * 4 + r % 4) (omega arith)
+    ∙ omega arith

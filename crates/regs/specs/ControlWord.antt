@@ -1,5 +1,5 @@
--- The control word of an endpoint's direction, 8 bits: 0-1 response, 2-3 toggle, 4 automatic. A change of a field leaves the other bits as they
--- were read (`modify`); a word made anew has all others 0 (`write`). Assumes nothing.
+-- The control word of an endpoint's direction, 8 bits: 0-1 response, 2-3 toggle, 4 automatic. A change of a field
+-- leaves the other bits as they were read (`modify`); a word made anew has all others 0 (`write`). Assumes nothing.
 use mathlib.Core.Bool.{Bool}
 use Prim.Native.Nat.{ℕ, _+_, _-_, _*_, _/_, _%_}
 use lib.Dec.{eqb}

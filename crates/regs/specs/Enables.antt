@@ -1,4 +1,5 @@
--- The enable and kind words (ep_config, ep_type), kept and never read: bit e for IN, bit 16 + e for OUT. An endpoint's number counts modulo 16.
+-- The enable and kind words (ep_config, ep_type), kept and never read: bit e for IN, bit 16 + e for OUT. An endpoint's
+-- number counts modulo 16.
 -- Assumes nothing.
 use mathlib.Core.Bool.{Bool}
 use Prim.Native.Nat.{ℕ, _+_, _/_, _%_}

@@ -1,5 +1,5 @@
--- The interrupt enables (int_en), kept and never read: 0 dev_nak, 1 fifo_ov, 2 setup_act, 3 suspend, 4 bus_rst, 5 transfer, 6 sof_act, in the order in
--- which `Driver::new` names them. Assumes nothing.
+-- The interrupt enables (int_en), kept and never read: 0 dev_nak, 1 fifo_ov, 2 setup_act, 3 suspend, 4 bus_rst, 5
+-- transfer, 6 sof_act, in the order in which `Driver::new` names them. Assumes nothing.
 use mathlib.Core.Bool.{Bool}
 use Prim.Native.Nat.{ℕ, _+_, _*_, _^_}
 use Rattle.bits.specs.Bit.{withBit, digit}

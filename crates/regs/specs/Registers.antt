@@ -1,4 +1,5 @@
--- The registers: their numbers in this port, how many bits a reading has, and which register a direction has. Assumes nothing.
+-- The registers: their numbers in this port, how many bits a reading has, and which register a direction has. Assumes
+-- nothing.
 use mathlib.Core.Bool.{Bool}
 use Prim.Native.Nat.{ℕ, _^_}
 use lib.Dec.{ltb}
@@ -9,7 +10,8 @@ use Rattle.regs.specs.declared.Reg.the-variants.{EpTxCtrl}
 use Rattle.regs.specs.declared.Dir.{Dir}
 use Rattle.regs.specs.declared.Dir.the-variants.{Out, In}
 
--- a register's number, and the bits of a reading, 0 for a register that is never read; 12, 15 and 16 are ep0_dma, ep_rx_dma and ep_tx_dma
+-- a register's number, and the bits of a reading, 0 for a register that is never read; 12, 15 and 16 are ep0_dma,
+-- ep_rx_dma and ep_tx_dma
 abbrev pub register : Reg → ℕ × ℕ
 register IntFg = (0, 6)
 register IntSt = (1, 7)

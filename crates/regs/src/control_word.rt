@@ -1,5 +1,6 @@
 ghost use mathlib.Core.Path.{_≡_};
-ghost use Rattle.regs.specs.ControlWord.{response, toggle, automatic, wordOf, ack, nak, stall, flip, nakflip, status, isData1, isStalled};
+ghost use Rattle.regs.specs.ControlWord.{response, toggle, automatic, wordOf, ack, nak, stall, flip, nakflip};
+ghost use Rattle.regs.specs.ControlWord.{status, isData1, isStalled};
 
 // Responses; NYET is also the source's TX_RES_ISO.
 pub const ACK: u8 = 0;

@@ -1,7 +1,8 @@
 ghost use mathlib.Core.Path.{_≡_};
 ghost use Rattle.regs.specs.IntEn.{atStart, withSuspend, withBusRst};
 
-// The enables that start-up writes: fifo_ov, setup_act, suspend, bus_rst, transfer, and sof_act where there is a callback.
+// The enables that start-up writes: fifo_ov, setup_act, suspend, bus_rst, transfer, and sof_act where there is a
+// callback.
 pub fn at_start(callback: bool) -> u8
     ensures { λ r. ⌜ r ≡ atStart callback ⌝ }
 {

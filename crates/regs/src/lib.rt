@@ -34,8 +34,8 @@ pub enum Dir {
     In,
 }
 
-// What one call hands out: a reading, a write of a value, the write of a receive, transmit or EP0 buffer address (ep_rx_dma,
-// ep_tx_dma, ep0_dma), a wait in microseconds, the start-of-frame callback.
+// What one call hands out: a reading, a write of a value, the write of a receive, transmit or EP0 buffer address
+// (ep_rx_dma, ep_tx_dma, ep0_dma), a wait in microseconds, the start-of-frame callback.
 // The number beside a register is the endpoint's, 0 where the register has none; then comes the value or the address.
 pub enum Access {
     Read(Reg, u8),

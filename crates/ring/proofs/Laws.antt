@@ -57,7 +57,8 @@ run-add (suc m) k p i =
     rw (suc-add m k) (rw e at (run-add m k (marked p i) (i + 1)))
 
 -- m words more
-pub run-step : (p : List ℕ) (i n m : ℕ) → i + m ≤ n → markedRun p i (n - i) ≡ markedRun (markedRun p i m) (i + m) (n - (i + m))
+pub run-step : (p : List ℕ) (i n m : ℕ) → i + m ≤ n → markedRun p i (n - i)
+    ≡ markedRun (markedRun p i m) (i + m) (n - (i + m))
 run-step p i n m h = let e : n - i ≡ m + (n - (i + m)) = omega arith in rw e (run-add m (n - (i + m)) p i)
 
 pub run-none : (p : List ℕ) (i n : ℕ) → n ≤ i → markedRun p i (n - i) ≡ p
@@ -65,14 +66,16 @@ unfolding markedRun
 run-none p i n h = let e : n - i ≡ 0 = omega arith in rw e
 
 -- the same from word w on
-pub run-more-at : (p : List ℕ) (w i n : ℕ) → i < n → markedRun p (w + i) (n - i) ≡ markedRun (marked p (w + i)) (w + (i + 1)) (n - (i + 1))
+pub run-more-at : (p : List ℕ) (w i n : ℕ) → i < n → markedRun p (w + i) (n - i)
+    ≡ markedRun (marked p (w + i)) (w + (i + 1)) (n - (i + 1))
 unfolding markedRun
 run-more-at p w i n h =
     let e : n - i ≡ suc (n - (i + 1)) = omega arith in
     let f : w + (i + 1) ≡ w + i + 1 = omega arith in
     rw (e, f)
 
-pub run-step-at : (p : List ℕ) (w i n m : ℕ) → i + m ≤ n → markedRun p (w + i) (n - i) ≡ markedRun (markedRun p (w + i) m) (w + (i + m)) (n - (i + m))
+pub run-step-at : (p : List ℕ) (w i n m : ℕ) → i + m ≤ n → markedRun p (w + i) (n - i)
+    ≡ markedRun (markedRun p (w + i) m) (w + (i + m)) (n - (i + m))
 run-step-at p w i n m h =
     let e : n - i ≡ m + (n - (i + m)) = omega arith in
     let f : w + (i + m) ≡ w + i + m = omega arith in
@@ -104,7 +107,8 @@ marked-behind xs ys w i h =
     let e : (w + i) * 4 ≡ length xs + i * 4 = omega (arith, h) in
     ap (λ (m : ℕ). sets (xs ++ ys) m mark) e ∙ sets-behind xs ys (i * 4) mark
 
-run-behind : (n : ℕ) (xs ys : List ℕ) (w i : ℕ) → length xs ≡ w * 4 → markedRun (xs ++ ys) (w + i) n ≡ xs ++ markedRun ys i n
+run-behind : (n : ℕ) (xs ys : List ℕ) (w i : ℕ) → length xs ≡ w * 4 → markedRun (xs ++ ys) (w + i) n ≡ xs
+    ++ markedRun ys i n
 unfolding markedRun
 run-behind zero xs ys w i h = refl
 run-behind (suc n) xs ys w i h =
@@ -113,10 +117,12 @@ run-behind (suc n) xs ys w i h =
     ∙ ap (λ (m : ℕ). markedRun (xs ++ marked ys i) m n) e ∙ run-behind n xs (marked ys i) w (i + 1) h
 
 -- words of the whole buffer are words of the part from w * 4 on
-pub run-part : (b : List ℕ) (at w n : ℕ) → at ≡ w * 4 → at ≤ length b → markedRun b w n ≡ take at b ++ markedRun (drop at b) 0 n
+pub run-part : (b : List ℕ) (at w n : ℕ) → at ≡ w * 4 → at ≤ length b → markedRun b w n ≡ take at b
+    ++ markedRun (drop at b) 0 n
 run-part b at w n e l =
     let f : w ≡ w + 0 = omega arith in
-    ap (λ (c : List ℕ). markedRun c w n) (sym (take-append-drop at b)) ∙ ap (λ (m : ℕ). markedRun (take at b ++ drop at b) m n) f
+    ap (λ (c : List ℕ). markedRun c w n) (sym (take-append-drop at b))
+    ∙ ap (λ (m : ℕ). markedRun (take at b ++ drop at b) m n) f
     ∙ run-behind n (take at b) (drop at b) w 0 (length-take-le at b l ∙ e)
 
 pub all-four : {a b c : Bool} (d : Bool) → a ≡ true → b ≡ true → c ≡ true → d ≡ (a && b && c && d)
@@ -155,7 +161,8 @@ copy-more d s j h g =
     let hd : j < length d = omega arith in
     let len : length (take j s) ≡ j = length-take-le j s (omega arith) in
     rw (add-one j, drop-cons d j 0, take-suc s j 0)
-    (set-at (take j s) (getD d j 0) (drop (suc j) d) (getD s j 0) j len ∙ sym (append-snoc (take j s) (getD s j 0) (drop (suc j) d)))
+    (set-at (take j s) (getD d j 0) (drop (suc j) d) (getD s j 0) j len
+    ∙ sym (append-snoc (take j s) (getD s j 0) (drop (suc j) d)))
 
 pub length-copy : (d s : List ℕ) (j : ℕ) → j ≤ length s → length s ≤ length d → length (take j s ++ drop j d) ≡ length d
 length-copy d s j h g = simp (length-append, length-take-le j s h, length-drop) (omega arith)
@@ -194,7 +201,8 @@ sixteen s p i =
     ∙ (rw e12 at (copied-add 4 4 s (copiedRun s (copiedRun s p i 4) (i + 4) 4) (i + 8))))
 
 -- m bytes more
-pub copied-step : (s p : List ℕ) (i n m : ℕ) → i + m ≤ n → copiedRun s p i (n - i) ≡ copiedRun s (copiedRun s p i m) (i + m) (n - (i + m))
+pub copied-step : (s p : List ℕ) (i n m : ℕ) → i + m ≤ n → copiedRun s p i (n - i)
+    ≡ copiedRun s (copiedRun s p i m) (i + m) (n - (i + m))
 copied-step s p i n m h = let e : n - i ≡ m + (n - (i + m)) = omega arith in rw e (copied-add m (n - (i + m)) s p i)
 
 pub copied-one : (s p : List ℕ) (i : ℕ) → set p i (getD s i 0) ≡ copiedRun s p i 1

@@ -25,7 +25,8 @@ pub marked-short : (b : List ℕ) (at : ℕ) → length b < at + 4 → true ≡ 
 unfolding isMarked
 marked-short b at h = rw (lt-ltb (length b) (at + 4) h)
 
-pub marked-fits : (b : List ℕ) (at : ℕ) → at + 4 ≤ length b → isMark (take (length b - at) (drop at b)) 0 ≡ isMarked b at
+pub marked-fits : (b : List ℕ) (at : ℕ) → at + 4 ≤ length b → isMark (take (length b - at) (drop at b)) 0
+    ≡ isMarked b at
 unfolding isMarked
 marked-fits b at h = rw (le-ltb (length b) (at + 4) h, part-is b at)
 
@@ -39,13 +40,21 @@ pub armed-fits : (b ys : List ℕ) (at maximum n : ℕ) → n ≡ armedWords max
     → ys ≡ markedRun (take (length b - at) (drop at b)) 0 n
     → take at b ++ (ys ++ drop (length b - at) (drop at b)) ≡ armed b at maximum
 unfolding armed arm
-armed-fits b ys at maximum n w h e = rw (le-ltb (length b) (at + reach maximum) h, part-back b ys at, e, part-is b at, w)
+armed-fits b ys at maximum n w h e = rw (
+  le-ltb (length b) (at + reach maximum) h,
+  part-back b ys at,
+  e,
+  part-is b at,
+  w,
+)
 
 -- by words of the whole buffer
-pub armed-words-fit : (b ys : List ℕ) (at w maximum n : ℕ) → at ≡ w * 4 → n ≡ armedWords maximum → at + reach maximum ≤ length b
+pub armed-words-fit : (b ys : List ℕ) (at w maximum n : ℕ) → at ≡ w * 4 → n ≡ armedWords maximum → at + reach maximum
+    ≤ length b
     → ys ≡ markedRun b w n → ys ≡ armed b at maximum
 unfolding armed arm
-armed-words-fit b ys at w maximum n a m h e = rw (le-ltb (length b) (at + reach maximum) h) (e ∙ run-part b at w n a (omega arith) ∙ rw m)
+armed-words-fit b ys at w maximum n a m h e = rw (le-ltb (length b) (at + reach maximum) h)
+    (e ∙ run-part b at w n a (omega arith) ∙ rw m)
 
 -- ---- the length
 
@@ -64,7 +73,8 @@ pub copied-short : (b : List ℕ) (at : ℕ) (s : List ℕ) → length b < at + 
 unfolding copied
 copied-short b at s h = rw (lt-ltb (length b) (at + length s) h)
 
-pub copied-fits : (b ys : List ℕ) (at : ℕ) (s : List ℕ) → at + length s ≤ length b → ys ≡ over s (take (length b - at) (drop at b))
+pub copied-fits : (b ys : List ℕ) (at : ℕ) (s : List ℕ) → at + length s ≤ length b → ys
+    ≡ over s (take (length b - at) (drop at b))
     → take at b ++ (ys ++ drop (length b - at) (drop at b)) ≡ copied b at s
 unfolding copied
 copied-fits b ys at s h e = rw (le-ltb (length b) (at + length s) h, part-back b ys at, e, part-is b at)
@@ -73,7 +83,8 @@ pub out-short : (b : List ℕ) (at : ℕ) (out : List ℕ) (n : ℕ) → length 
 unfolding copiedOut
 out-short b at out n h = rw (lt-ltb (length b) (at + n) h)
 
-pub out-small : (b : List ℕ) (at : ℕ) (out : List ℕ) (n : ℕ) → at + n ≤ length b → length out < n → out ≡ copiedOut b at out n
+pub out-small : (b : List ℕ) (at : ℕ) (out : List ℕ) (n : ℕ) → at + n ≤ length b → length out < n → out
+    ≡ copiedOut b at out n
 unfolding copiedOut
 out-small b at out n h g = rw (le-ltb (length b) (at + n) h, lt-ltb (length out) n g)
 

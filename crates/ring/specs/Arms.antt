@@ -28,7 +28,8 @@ only-run (suc n) p i =
     (only-wider (i * 4) ((i + suc n) * 4) (omega arith) (omega arith) (only-marked p i))
     (only-wider (i * 4) ((i + suc n) * 4) (omega arith) (omega arith) (only-run n (marked p i) (i + 1)))
 
-sets-get : (vs p : List ℕ) (i k : ℕ) → k < length vs → i + length vs ≤ length p → getD (sets p i vs) (i + k) 0 ≡ getD vs k 0
+sets-get : (vs p : List ℕ) (i k : ℕ) → k < length vs → i + length vs ≤ length p → getD (sets p i vs) (i + k) 0
+    ≡ getD vs k 0
 sets-get [] p i k h l = absurd (omega arith)
 sets-get (v ∷ vs) p i zero h l =
     let e : i + 0 ≡ i = omega arith in
@@ -44,9 +45,11 @@ marked-word p i h = all-agree (marked p i) i (λ k l. eq-eqb _ _ (sets-get mark 
 pub run-out : (n : ℕ) (p : List ℕ) (i j : ℕ) → (j < i) ⊎ (i + n ≤ j) → isMark (markedRun p i n) j ≡ isMark p j
 run-out n p i j h =
     same-mark p (markedRun p i n) j
-    (only-apart (j * 4) (j * 4 + 4) (only-run n p i) (⊎-elim (λ (l : j < i). inl (omega arith)) (λ (l : i + n ≤ j). inr (omega arith)) h))
+    (only-apart (j * 4) (j * 4 + 4) (only-run n p i) (⊎-elim (λ (l : j < i). inl (omega arith))
+    (λ (l : i + n ≤ j). inr (omega arith)) h))
 
-pub run-in : (n : ℕ) (p : List ℕ) (i j : ℕ) → i ≤ j → j < i + n → (i + n) * 4 ≤ length p → isMark (markedRun p i n) j ≡ true
+pub run-in : (n : ℕ) (p : List ℕ) (i j : ℕ) → i ≤ j → j < i + n → (i + n) * 4 ≤ length p → isMark (markedRun p i n) j
+    ≡ true
 unfolding markedRun
 run-in zero p i j l h f = absurd (omega arith)
 run-in (suc n) p i j l h f = elim (decLt i j) [
@@ -61,7 +64,8 @@ pub only-arm : (p : List ℕ) (maximum : ℕ) → Only 0 (reach maximum) p (arm 
 unfolding arm
 only-arm p maximum = only-wider 0 (reach maximum) (omega arith) (omega arith) (only-run (armedWords maximum) p 0)
 
-pub arm-word : (p : List ℕ) (maximum i : ℕ) → reach maximum ≤ length p → i < armedWords maximum → isMark (arm maximum p) i ≡ true
+pub arm-word : (p : List ℕ) (maximum i : ℕ) → reach maximum ≤ length p → i < armedWords maximum
+    → isMark (arm maximum p) i ≡ true
 unfolding arm
 arm-word p maximum i h l = run-in (armedWords maximum) p 0 i (omega arith) (omega arith) (omega arith)
 

@@ -6,13 +6,13 @@ use Prim.Native.Nat.{ℕ, zero, suc, _≤_}
 use native.Mathlib.Omega.{arith}
 use native.Mathlib.Decide.{decLt}
 use borrow.Author.Tests.{eq-eqb, ne-eqb}
-use lib.Dec.{eqb}
 use lib.ListN.{getD}
 use Rattle.ring.specs.Marks.{markByte, found}
 use Rattle.ring.specs.Only.{Same}
 use Rattle.ring.specs.Finds.{LastDiffers, MarkedAfter}
 
-pub found-is : (p : List ℕ) (n maximum : ℕ) → n ≤ maximum → LastDiffers n p → MarkedAfter n maximum p → found maximum p ≡ n
+pub found-is : (p : List ℕ) (n maximum : ℕ) → n ≤ maximum → LastDiffers n p → MarkedAfter n maximum p → found maximum p
+    ≡ n
 unfolding found
 found-is p n zero small last after = omega arith
 found-is p n (suc k) small last after = elim (decLt k n) [
@@ -25,11 +25,6 @@ found-is p n (suc k) small last after = elim (decLt k n) [
 either : (t : Bool) (n k : ℕ) → n ≤ k → cond t n (suc k) ≤ suc k
 either true n k h = omega arith
 either false n k h = omega arith
-
-pub found-most : (p : List ℕ) (maximum : ℕ) → found maximum p ≤ maximum
-unfolding found
-found-most p zero = omega arith
-found-most p (suc k) = either (eqb (getD p k 0) (markByte k)) (found k p) k (found-most p k)
 
 -- it follows from the bytes before the maximum alone
 pub found-same : (p q : List ℕ) (maximum : ℕ) → Same 0 maximum p q → found maximum q ≡ found maximum p

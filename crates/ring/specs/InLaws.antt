@@ -86,7 +86,8 @@ module _ {n : ℕ} {s : EpState} {ls : List ℕ} (g : Placed n s) (a : InRing s 
       queue-only b = only-wider _ _ _ _ b (sets b (slotAddr s (s .head)) packet) (omega arith) (omega arith)
           (only-sets packet b (slotAddr s (s .head)))
 
-      pub queue-region : (b : List ℕ) → Only (s .base) (s .base + s .slots * s .stride) b (sets b (slotAddr s (s .head)) packet)
+      pub queue-region : (b : List ℕ) → Only (s .base) (s .base + s .slots * s .stride) b
+          (sets b (slotAddr s (s .head)) packet)
       queue-region b = slot-region g a (s .head) b (sets b (slotAddr s (s .head)) packet) (queue-only b)
 
       -- no byte of the slot being sent
@@ -123,7 +124,8 @@ module _ {n : ℕ} {s : EpState} {ls : List ℕ} (g : Placed n s) (a : InRing s 
   complete-ring-by false h = pass-ring g a (h refl)
 
   module _ (sends : Sends s) where
-    pub complete-waits : (b : List ℕ) → waiting b (completedOf s) ls ≡ cond (eqb (s .loaded) 0) (waiting b s ls) (tail (waiting b s ls))
+    pub complete-waits : (b : List ℕ) → waiting b (completedOf s) ls
+        ≡ cond (eqb (s .loaded) 0) (waiting b s ls) (tail (waiting b s ls))
     unfolding completedOf
     complete-waits b = complete-by (eqb (s .loaded) 0) sends b
 
@@ -133,7 +135,8 @@ module _ {n : ℕ} {s : EpState} {ls : List ℕ} (g : Placed n s) (a : InRing s 
 
   -- ---- a load: the tail's slot where one waits, and it holds the first
 
-  pub next-first : (b p : List ℕ) (ps : List (List ℕ)) → waiting b s ls ≡ p ∷ ps → nextLoad s ≡ At (slotAddr s (s .tail))
+  pub next-first : (b p : List ℕ) (ps : List (List ℕ)) → waiting b s ls ≡ p ∷ ps → nextLoad s
+      ≡ At (slotAddr s (s .tail))
   unfolding nextLoad hasWaiting
   next-first b p ps e = simp (lt-ltb 0 (countOf s) (first-count g a b p ps e))
 

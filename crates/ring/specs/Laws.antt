@@ -6,13 +6,16 @@ use Prim.Native.Nat.{ℕ, zero, suc, _+_, _-_, _*_, _≤_, _<_}
 use native.Mathlib.Omega.{arith}
 use native.Mathlib.Decide.{ℕ-discrete, decLt}
 use lib.Dec.{ltb}
-use lib.ListN.{length, getD, set, take, drop, replicate, length-set, length-replicate, getD-replicate, List·getD-eq-default}
+use lib.ListN.{length, getD, set, take, drop, replicate, length-set, length-replicate, getD-replicate}
+use lib.ListN.{List·getD-eq-default}
 use lib.Seq.{getD-set-other, getD-set-same, set-out}
 use Rattle.state.specs.declared.EpState.{EpState}
 use Rattle.ring.specs.Slot.{after, slotOf, slotAddr, countOf, hasWaiting, joinedOf, passedOf}
-use Rattle.ring.specs.Waiting.{window, packet, packets, waiting, Away, Same, Only, Placed, Ring, OutRing, InRing, SamePlace, Alike}
+use Rattle.ring.specs.Waiting.{window, packet, packets, waiting, Away, Same, Only, Placed, Ring, OutRing, InRing}
+use Rattle.ring.specs.Waiting.{SamePlace, Alike}
 use Rattle.ring.specs.Window.{window-length, window-same, window-is, only-apart, only-wider}
-use Rattle.ring.specs.Slots.{slots-half, slot-in, slot-wraps, slot-other, slot-lies, slot-from, slot-upto, places-apart}
+use Rattle.ring.specs.Slots.{slots-half, slot-in, slot-wraps, slot-other, slot-lies, slot-from, slot-upto}
+use Rattle.ring.specs.Slots.{places-apart}
 
 -- ---- packets from a counter on
 
@@ -54,7 +57,14 @@ unfolding waiting packets
 waiting-none b s ls e = ap (packets b s ls (s .tail)) e
 
 pub ring-most : {m m′ : ℕ} {s : EpState} {ls : List ℕ} → m ≤ m′ → Ring m s ls → Ring m′ s ls
-ring-most h a = record { whole = a .whole; capped = a .capped; head8 = a .head8; tail8 = a .tail8; few = omega (arith, a .few) }
+ring-most h a = record {
+  whole = a .whole;
+  capped = a .capped;
+  head8 = a .head8;
+  tail8 = a .tail8;
+  few
+      = omega (arith, a .few);
+}
 
 set-capped : (ls : List ℕ) (i len most : ℕ) → ((k : ℕ) → getD ls k 0 ≤ most) → len ≤ most
     → (k : ℕ) → getD (set ls i len) k 0 ≤ most
@@ -147,8 +157,16 @@ module _ (t : EpState) (h : t .head ≡ 0) (l : t .tail ≡ 0) where
   pub reset-waits : (b ls : List ℕ) → waiting b t ls ≡ []
   reset-waits b ls = waiting-none b t ls reset-count
 
-  pub reset-ring : (most : ℕ) (ls : List ℕ) → t .slots ≤ length ls → ((i : ℕ) → getD ls i 0 ≤ t .stride) → Ring most t ls
-  reset-ring most ls w c = record { whole = w; capped = c; head8 = omega arith; tail8 = omega arith; few = omega (arith, reset-count) }
+  pub reset-ring : (most : ℕ) (ls : List ℕ) → t .slots ≤ length ls → ((i : ℕ) → getD ls i 0 ≤ t .stride)
+      → Ring most t ls
+  reset-ring most ls w c = record {
+    whole = w;
+    capped = c;
+    head8 = omega arith;
+    tail8 = omega arith;
+    few
+        = omega (arith, reset-count);
+  }
 
   pub reset-away : (x : ℕ) → Away t x
   reset-away x j m = absurd (omega (arith, reset-count))
@@ -178,27 +196,32 @@ module _ {n most : ℕ} {s : EpState} {ls : List ℕ} (g : Placed n s) (a : Ring
 
   -- the packets' slots stay, so they stay
   pub waiting-kept : (b b′ : List ℕ)
-      → ((j : ℕ) → j < countOf s → Same (slotAddr s (after (s .tail) j)) (slotAddr s (after (s .tail) j) + s .stride) b b′)
+      → ((j : ℕ) → j < countOf s → Same (slotAddr s (after (s .tail) j)) (slotAddr s (after (s .tail) j) + s .stride) b
+      b′)
       → waiting b′ s ls ≡ waiting b s ls
   unfolding waiting packet
   waiting-kept b b′ h = packets-same b b′ s s ls ls (s .tail) (countOf s) (a .tail8) (λ j l.
       window-same b b′ _ _ (λ x p t. h j l x (omega arith) (omega (arith, a .capped (slotOf s (after (s .tail) j))))))
 
   -- a change outside the ring's region
-  pub waiting-outside : (b b′ : List ℕ) → Same (s .base) (s .base + s .slots * s .stride) b b′ → waiting b′ s ls ≡ waiting b s ls
+  pub waiting-outside : (b b′ : List ℕ) → Same (s .base) (s .base + s .slots * s .stride) b b′ → waiting b′ s ls
+      ≡ waiting b s ls
   waiting-outside b b′ h = waiting-kept b b′ (λ j l x p t.
       h x (omega (arith, slot-from g (after (s .tail) j))) (omega (arith, slot-upto g (after (s .tail) j))))
 
   -- a change in another region
-  pub waiting-foreign : (lo hi : ℕ) (b b′ : List ℕ) → Only lo hi b b′ → (s .base + s .slots * s .stride ≤ lo) ⊎ (hi ≤ s .base)
+  pub waiting-foreign : (lo hi : ℕ) (b b′ : List ℕ) → Only lo hi b b′ → (s .base + s .slots * s .stride ≤ lo)
+      ⊎ (hi ≤ s .base)
       → waiting b′ s ls ≡ waiting b s ls
   waiting-foreign lo hi b b′ o d = waiting-outside b b′ (only-apart lo hi _ _ b b′ o d)
 
   -- a change inside a slot that is none of those that wait
-  pub waiting-away : (x : ℕ) (b b′ : List ℕ) → Away s x → Only (s .base + x * s .stride) (s .base + x * s .stride + s .stride) b b′
+  pub waiting-away : (x : ℕ) (b b′ : List ℕ) → Away s x
+      → Only (s .base + x * s .stride) (s .base + x * s .stride + s .stride) b b′
       → waiting b′ s ls ≡ waiting b s ls
   waiting-away x b b′ h o = waiting-kept b b′ (λ j l.
-      rw (slot-lies g (after (s .tail) j)) (only-apart _ _ _ _ b b′ o (places-apart g (slotOf s (after (s .tail) j)) x (h j l))))
+      rw (slot-lies g (after (s .tail) j)) (only-apart _ _ _ _ b b′ o
+      (places-apart g (slotOf s (after (s .tail) j)) x (h j l))))
 
   -- ---- the head's slot
 
@@ -212,10 +235,12 @@ module _ {n most : ℕ} {s : EpState} {ls : List ℕ} (g : Placed n s) (a : Ring
   head-away h j l e =
       let m : s .tail + j + (countOf s - j) ≡ s .tail + countOf s = omega arith in
       slot-other g (s .tail + j) (countOf s - j) (omega arith) (omega arith)
-      (ap (slotOf s) m ∙ sym (slot-wraps g (s .tail + countOf s)) ∙ ap (slotOf s) head-after ∙ sym e ∙ slot-wraps g (s .tail + j))
+      (ap (slotOf s) m ∙ sym (slot-wraps g (s .tail + countOf s)) ∙ ap (slotOf s) head-after ∙ sym e
+      ∙ slot-wraps g (s .tail + j))
 
   -- so a change in it leaves them
-  pub waiting-head : (b b′ : List ℕ) → countOf s < s .slots → Only (slotAddr s (s .head)) (slotAddr s (s .head) + s .stride) b b′
+  pub waiting-head : (b b′ : List ℕ) → countOf s < s .slots
+      → Only (slotAddr s (s .head)) (slotAddr s (s .head) + s .stride) b b′
       → waiting b′ s ls ≡ waiting b s ls
   waiting-head b b′ h o = waiting-away (slotOf s (s .head)) b b′ (head-away h) (rw (slot-lies g (s .head)) at o)
 
@@ -230,24 +255,28 @@ module _ {n most : ℕ} {s : EpState} {ls : List ℕ} (g : Placed n s) (a : Ring
 
   module _ (len : ℕ) (room : countOf s < s .slots) where
     join-old : (b : List ℕ) (j : ℕ) → j < countOf s
-        → packet b (joinedOf s) (set ls (slotOf s (s .head)) len) (after (s .tail) j) ≡ packet b s ls (after (s .tail) j)
+        → packet b (joinedOf s) (set ls (slotOf s (s .head)) len) (after (s .tail) j)
+        ≡ packet b s ls (after (s .tail) j)
     unfolding packet slotAddr slotOf joinedOf
     join-old b j l = ap (window b (slotAddr s (after (s .tail) j)))
         (getD-set-other ls (slotOf s (s .head)) (slotOf s (after (s .tail) j)) len 0 (head-away room j l))
 
     join-new : (b : List ℕ)
-        → packet b (joinedOf s) (set ls (slotOf s (s .head)) len) (after (s .tail) (countOf s)) ≡ window b (slotAddr s (s .head)) len
+        → packet b (joinedOf s) (set ls (slotOf s (s .head)) len) (after (s .tail) (countOf s))
+        ≡ window b (slotAddr s (s .head)) len
     unfolding packet slotAddr slotOf joinedOf
     join-new b = ap (packet b (joinedOf s) (set ls (slotOf s (s .head)) len)) head-after
         ∙ ap (window b (slotAddr s (s .head))) (getD-set-same ls (slotOf s (s .head)) len 0 head-in)
 
     -- the packet in the head's slot waits, last
     pub join-waits : (b : List ℕ)
-        → waiting b (joinedOf s) (set ls (slotOf s (s .head)) len) ≡ waiting b s ls ++ (window b (slotAddr s (s .head)) len ∷ [])
+        → waiting b (joinedOf s) (set ls (slotOf s (s .head)) len) ≡ waiting b s ls
+        ++ (window b (slotAddr s (s .head)) len ∷ [])
     unfolding waiting joinedOf
     join-waits b = rw (join-count room)
         (packets-more b (joinedOf s) (set ls (slotOf s (s .head)) len) (s .tail) (countOf s) (a .tail8)
-        ∙ ap₂ _++_ (packets-same b b s (joinedOf s) ls (set ls (slotOf s (s .head)) len) (s .tail) (countOf s) (a .tail8) (join-old b))
+        ∙ ap₂ _++_ (packets-same b b s (joinedOf s) ls (set ls (slotOf s (s .head)) len) (s .tail) (countOf s)
+        (a .tail8) (join-old b))
         (ap (λ (p : List ℕ). p ∷ []) (join-new b)))
 
     pub join-ring : len ≤ s .stride → countOf s < most → Ring most (joinedOf s) (set ls (slotOf s (s .head)) len)

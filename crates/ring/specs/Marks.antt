@@ -1,5 +1,5 @@
--- Marks in a slot. A part is the lent buffer from a slot's start on, in words of four bytes. A call that would reach past the
--- buffer's end touches nothing, and answers that the slot is marked, or the length 0.
+-- Marks in a slot. A part is the lent buffer from a slot's start on, in words of four bytes. A call that would reach
+-- past the buffer's end touches nothing, and answers that the slot is marked, or the length 0.
 use mathlib.Core.Bool.{Bool, true, cond, _&&_}
 use mathlib.Core.List.{List, [], _∷_, _++_}
 use Prim.Native.Nat.{ℕ, zero, suc, _+_, _*_, _/_, _%_, max}

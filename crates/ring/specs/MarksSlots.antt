@@ -15,7 +15,7 @@ use Rattle.ring.specs.OnlyLaws.{only-refl, only-wider, only-part}
 use Rattle.ring.specs.Words.{same-mark, one-differs}
 use Rattle.ring.specs.Arms.{MarkedEmpty, only-arm, arm-word, arm-empties}
 use Rattle.ring.specs.Finds.{LastDiffers, MarkedAfter}
-use Rattle.ring.specs.FindsLaws.{found-is, found-most, found-same}
+use Rattle.ring.specs.FindsLaws.{found-is, found-same}
 
 back : (b p : List ℕ) (at : ℕ) → at ≤ length b → drop at (take at b ++ p) ≡ p
 back b p at h = drop-at (take at b) p at (length-take-le at b h)
@@ -32,7 +32,8 @@ only-armed b at maximum = elim (decLt (length b) (at + reach maximum)) [
 ]
 
 -- a slot of whole words, that holds the maximum, holds what arming changes
-pub armed-slot : (b : List ℕ) (at maximum size : ℕ) → 4 ≤ size → size / 4 * 4 ≡ size → maximum ≤ size → Only at (at + size) b (armed b at maximum)
+pub armed-slot : (b : List ℕ) (at maximum size : ℕ) → 4 ≤ size → size / 4 * 4 ≡ size → maximum ≤ size
+    → Only at (at + size) b (armed b at maximum)
 armed-slot b at maximum size z w d = only-wider at (at + size) (omega arith) (omega arith) (only-armed b at maximum)
 
 module _ (b : List ℕ) (at maximum : ℕ) (fits : at + reach maximum ≤ length b) where
@@ -55,21 +56,16 @@ module _ (b : List ℕ) (at maximum : ℕ) (fits : at + reach maximum ≤ length
 
 -- ---- the length by the marks
 
-pub len-most : (b : List ℕ) (at maximum : ℕ) → markedLen b at maximum ≤ maximum
-unfolding markedLen
-len-most b at maximum = elim (decLt (length b) (at + maximum)) [
-  | yes g ↦ rw (lt-ltb (length b) (at + maximum) g) (omega arith)
-  | no g ↦ rw (le-ltb (length b) (at + maximum) (omega arith)) (found-most (drop at b) maximum)
-]
-
 -- a slot with n bytes, of which the last differs from the mark's there, and marks after them
 pub len-is : (b : List ℕ) (at n maximum : ℕ) → at + maximum ≤ length b → n ≤ maximum
     → LastDiffers n (drop at b) → MarkedAfter n maximum (drop at b) → markedLen b at maximum ≡ n
 unfolding markedLen
-len-is b at n maximum fits small t m = rw (le-ltb (length b) (at + maximum) fits) (found-is (drop at b) n maximum small t m)
+len-is b at n maximum fits small t m = rw (le-ltb (length b) (at + maximum) fits)
+    (found-is (drop at b) n maximum small t m)
 
 -- a slot with a byte of its first word that differs from the mark's there: a packet has arrived
-pub arrival : (b : List ℕ) (at k : ℕ) → at + 4 ≤ length b → k < 4 → agrees (drop at b) 0 k ≡ false → isMarked b at ≡ false
+pub arrival : (b : List ℕ) (at k : ℕ) → at + 4 ≤ length b → k < 4 → agrees (drop at b) 0 k ≡ false → isMarked b at
+    ≡ false
 unfolding isMarked
 arrival b at k fits l o = rw (le-ltb (length b) (at + 4) fits) (one-differs (drop at b) 0 k l o)
 
@@ -117,29 +113,21 @@ unfolding copied
 only-copied b at s = elim (decLt (length b) (at + length s)) [
   | yes g ↦ rw (lt-ltb (length b) (at + length s) g) (only-refl _ _ b)
   | no g ↦ rw (le-ltb (length b) (at + length s) (omega arith))
-      (only-part b (over s (drop at b)) at (length s) (omega arith) (only-over s (drop at b) (simp length-drop (omega arith))))
+      (only-part b (over s (drop at b)) at (length s) (omega arith)
+      (only-over s (drop at b) (simp length-drop (omega arith))))
 ]
 
-pub copied-part : (b : List ℕ) (at : ℕ) (s : List ℕ) → at + length s ≤ length b → drop at (copied b at s) ≡ over s (drop at b)
+pub copied-part : (b : List ℕ) (at : ℕ) (s : List ℕ) → at + length s ≤ length b → drop at (copied b at s)
+    ≡ over s (drop at b)
 unfolding copied
 copied-part b at s h = rw (le-ltb (length b) (at + length s) h) (back b (over s (drop at b)) at (omega arith))
 
-pub copied-bytes : (b : List ℕ) (at : ℕ) (s : List ℕ) → at + length s ≤ length b → bytesAt (copied b at s) at (length s) ≡ s
+pub copied-bytes : (b : List ℕ) (at : ℕ) (s : List ℕ) → at + length s ≤ length b → bytesAt (copied b at s) at (length s)
+    ≡ s
 copied-bytes b at s h = rw (copied-part b at s h) (take-append-seam s (drop (length s) (drop at b)))
 
--- what is copied out
-pub out-length : (b : List ℕ) (at : ℕ) (out : List ℕ) (n : ℕ) → length (copiedOut b at out n) ≡ length out
-unfolding copiedOut
-out-length b at out n = elim (decLt (length b) (at + n)) [
-  | yes g ↦ rw (lt-ltb (length b) (at + n) g)
-  | no g ↦ elim (decLt (length out) n) [
-    | yes d ↦ rw (le-ltb (length b) (at + n) (omega arith), lt-ltb (length out) n d)
-    | no d ↦ rw (le-ltb (length b) (at + n) (omega arith), le-ltb (length out) n (omega arith))
-        (simp (length-append, length-drop, length-take) (omega arith))
-  ]
-]
-
-pub out-bytes : (b : List ℕ) (at : ℕ) (out : List ℕ) (n : ℕ) → at + n ≤ length b → n ≤ length out → take n (copiedOut b at out n) ≡ bytesAt b at n
+pub out-bytes : (b : List ℕ) (at : ℕ) (out : List ℕ) (n : ℕ) → at + n ≤ length b → n ≤ length out
+    → take n (copiedOut b at out n) ≡ bytesAt b at n
 unfolding copiedOut
 out-bytes b at out n h g =
     let l : n ≤ length (drop at b) = simp length-drop (omega arith) in

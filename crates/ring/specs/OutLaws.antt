@@ -104,7 +104,8 @@ module _ {n : ℕ} {s : EpState} {ls : List ℕ} (g : Placed n s) (a : OutRing s
     room-count = ltb-true _ _ room
 
     pub admit-waits : (len : ℕ) (b : List ℕ)
-        → waiting b (joinedOf s) (set ls (slotOf s (s .head)) len) ≡ waiting b s ls ++ (window b (slotAddr s (s .head)) len ∷ [])
+        → waiting b (joinedOf s) (set ls (slotOf s (s .head)) len) ≡ waiting b s ls
+        ++ (window b (slotAddr s (s .head)) len ∷ [])
     admit-waits len b = join-waits g a len few b
 
     pub admit-ring : (len : ℕ) → len ≤ s .stride → OutRing (joinedOf s) (set ls (slotOf s (s .head)) len)
@@ -119,7 +120,8 @@ module _ {n : ℕ} {s : EpState} {ls : List ℕ} (g : Placed n s) (a : OutRing s
   arrive-by len false e b = alike-waits (turned-alike s) b ls (a .tail8)
 
   pub arrive-waits : (len : ℕ) (b : List ℕ)
-      → waiting b (arrivedOf s) (arrivedLens s ls len) ≡ join (s .slots - 1) (waiting b s ls) (window b (slotAddr s (s .head)) len)
+      → waiting b (arrivedOf s) (arrivedLens s ls len)
+      ≡ join (s .slots - 1) (waiting b s ls) (window b (slotAddr s (s .head)) len)
   unfolding arrivedOf arrivedLens
   arrive-waits len b = rw (← room-out b) (arrive-by len (hasRoomOut s) refl b)
 

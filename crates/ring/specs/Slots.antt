@@ -3,7 +3,8 @@ use mathlib.Core.Logic.{_≢_, _⊎_, inl, inr}
 use mathlib.Core.Path.{_≡_, ap, sym, _∙_}
 use Prim.Native.Nat.{ℕ, zero, suc, _+_, _-_, _*_, _%_, _/_, _^_, _≤_, _<_}
 use native.Mathlib.Omega.{arith}
-use native.Mathlib.Nat.{mod-lt, mod-add-mod, mod-eq-of-lt, mod-eq-sub-mod, mul-add-mod-self-left, mul-le-mul-right, mul-assoc}
+use native.Mathlib.Nat.{mod-lt, mod-add-mod, mod-eq-of-lt, mod-eq-sub-mod, mul-add-mod-self-left, mul-le-mul-right}
+use native.Mathlib.Nat.{mul-assoc}
 use native.Mathlib.Decide.{decLt}
 use borrow.Author.Tests.{ne-eqb}
 use Rattle.state.specs.declared.EpState.{EpState}
@@ -73,10 +74,12 @@ module _ {n : ℕ} {s : EpState} (g : Placed n s) where
   slot-upto i = omega (arith, slot-lies i, slot-end (slotOf s i) (slot-in i))
 
   pub places-apart : (x y : ℕ) → x ≢ y
-      → (s .base + x * s .stride + s .stride ≤ s .base + y * s .stride) ⊎ (s .base + y * s .stride + s .stride ≤ s .base + x * s .stride)
+      → (s .base + x * s .stride + s .stride ≤ s .base + y * s .stride)
+      ⊎ (s .base + y * s .stride + s .stride ≤ s .base + x * s .stride)
   places-apart x y h = elim (decLt x y) [
     | yes l ↦ inl (omega (arith, mul-le-mul-right {m = suc x} {n = y} (s .stride) l))
-    | no l ↦ inr (let l′ : suc y ≤ x = omega arith in omega (arith, mul-le-mul-right {m = suc y} {n = x} (s .stride) l′))
+    | no l ↦ inr (let l′ : suc y ≤ x = omega arith in omega
+        (arith, mul-le-mul-right {m = suc y} {n = x} (s .stride) l′))
   ]
 
   -- different slots lie apart

@@ -37,5 +37,6 @@ module _ (b : List ℕ) (at maximum : ℕ) (packet : List ℕ) (fits : at + reac
   -- and the bytes of that length are the packet
   pub true-bytes : (c : List ℕ) → StoredAlone b at maximum packet c → bytesAt c at (length packet) ≡ packet
   true-bytes c s =
-      bytes-same (copied (armed b at maximum) at packet) c at (same-length c s) (length packet) (λ k l h. s .slot k l (omega arith))
+      bytes-same (copied (armed b at maximum) at packet) c at (same-length c s) (length packet)
+      (λ k l h. s .slot k l (omega arith))
       ∙ copied-bytes (armed b at maximum) at packet (omega (arith, only-armed b at maximum .long))

@@ -44,4 +44,11 @@ sample-placed h t n = record { part = 16; divides = refl; byte = omega arith; in
 
 pub sample-ring : OutRing (sample 3 250 0) (replicate 16 64)
 unfolding countOf
-sample-ring = record { whole = omega arith; capped = replicate-capped 16 64; head8 = omega arith; tail8 = omega arith; few = omega arith }
+sample-ring = record {
+  whole = omega arith;
+  capped = replicate-capped 16 64;
+  head8 = omega arith;
+  tail8
+      = omega arith;
+  few = omega arith;
+}

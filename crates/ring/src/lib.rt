@@ -1,5 +1,5 @@
-// The rings of isochronous packets, on an endpoint's record by value. Head and tail are 8-bit counters that run free. Every function is
-// total: any number is safe.
+// The rings of isochronous packets, on an endpoint's record by value. Head and tail are 8-bit counters that run free.
+// Every function is total: any number is safe.
 use state::EpState;
 
 pub mod marks; // marks.rt: marks, length by marks and copies in the slots of the lent buffer

@@ -1,6 +1,6 @@
 // Marks in the slots of isochronous OUT endpoints, and copies into and out of slots (mod.rs 511-556).
-// The public functions take the whole lent buffer and a slot's offset, any number; the others the part of the buffer from the slot's
-// start. What would reach past the buffer's end touches nothing.
+// The public functions take the whole lent buffer and a slot's offset, any number; the others the part of the buffer
+// from the slot's start. What would reach past the buffer's end touches nothing.
 ghost use mathlib.Core.Path.{_≡_};
 ghost use Prim.Native.Nat.{_+_, _*_, _≤_};
 ghost use mathlib.Core.List.{[], _∷_};
@@ -122,8 +122,8 @@ fn mark_words(part: &mut [u8], n: u16)
     }
 }
 
-// Marks n words of a whole buffer from word w on, as mark_words does. Where the buffer lies on a word boundary each is one store: firmware/clang
-// says so of the buffer of this function, which stands alone.
+// Marks n words of a whole buffer from word w on, as mark_words does. Where the buffer lies on a word boundary each is
+// one store: firmware/clang says so of the buffer of this function, which stands alone.
 fn mark_aligned(buf: &mut [u8], w: u32, n: u16)
     requires { ⌜ w * 4 + n * 4 ≤ length (now buf) ⌝ }
     ensures { λ r. ⌜ now (buf .exit) ≡ markedRun (now (buf .entry)) w n ⌝ }

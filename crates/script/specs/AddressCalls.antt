@@ -11,7 +11,8 @@ use Rattle.script.specs.Calls.{BeginReject, BeginDataOut, BeginAcceptSet
 abbrev pub Zero : ℕ → Type 0
 Zero v = v ≡ 0
 
--- the addresses that a call may write: 0 at a bus reset, and the accepted one once its status stage is complete (AddressLaws)
+-- the addresses that a call may write: 0 at a bus reset, and the accepted one once its status stage is complete
+-- (AddressLaws)
 abbrev pub OfOther : Other → ℕ → Type 0
 OfOther (Allocate d kind address maximum interval) v = ⊥
 OfOther (AllocateAll bytes) v = ⊥

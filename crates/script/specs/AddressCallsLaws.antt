@@ -7,15 +7,17 @@ use Rattle.regs.specs.declared.Access.{Access}
 use Rattle.regs.specs.declared.Access.the-variants.{Read, Write, Receive, Transmit, Ep0Dma, Wait, Callback}
 use Rattle.regs.specs.declared.Reg.the-variants.{DevAd}
 use Rattle.script.specs.Script.{Script}
-use Rattle.script.specs.Calls.{Config, Op, interrupt, slotted, other, aside, SetEnabled, PollRead, BeginWrite}
-use Rattle.script.specs.Calls.{PollWrite, PollDataOut, BeginDataIn, Allocate, AllocateAll, Start, BusPoll, BusEnable}
+use Rattle.script.specs.Calls.{Op, interrupt, slotted, other, aside, SetEnabled, PollRead, BeginWrite}
+use Rattle.script.specs.Calls.{PollWrite, PollDataOut, BeginDataIn, Allocate, AllocateAll, Start, BusPoll}
+use Rattle.script.specs.Calls.{BusEnable}
 use Rattle.script.specs.Calls.{BusDisable, Microframe, SetStalled, IsStalled, SetPaced, Advance, BeginRead}
-use Rattle.script.specs.Calls.{BeginSetup, PollSetup, PollDataIn, BeginAccept, PollAccept, BeginReject, BeginDataOut}
-use Rattle.script.specs.Calls.{BeginAcceptSetAddress, code, starting}
-use Rattle.script.specs.Every.{Where, sameReg}
+use Rattle.script.specs.Calls.{BeginSetup, PollSetup, PollDataIn, BeginAccept, PollAccept, BeginReject}
+use Rattle.script.specs.Calls.{BeginDataOut}
+use Rattle.script.specs.Calls.{BeginAcceptSetAddress, code}
+use Rattle.script.specs.Every.{Throughout, sameReg}
 use Rattle.script.specs.EveryLaws.{Only}
-use Rattle.script.specs.Steps.{Kind, plain, kindOf, mayAddress, mayAsk}
-use Rattle.script.specs.StepsCalls.{call-steps, start-up-steps}
+use Rattle.script.specs.Steps.{Kind, kindOf, mayAddress, mayAsk}
+use Rattle.script.specs.StepsCalls.{call-steps}
 use Rattle.script.specs.StepsRunsLaws.{writes-address, accesses}
 use Rattle.script.specs.AddressWrites.{Writes}
 use Rattle.script.specs.AddressCalls.{Addresses}
@@ -26,7 +28,7 @@ None v = ⊥
 abbrev pub N : {i : Bool} {A : Type 0} → Script i A → Type 0
 N p = Only (Writes None) p
 
-where-so : {X : Type 0} (b : Bool) → (b ≡ true → X) → Where b X
+where-so : {X : Type 0} (b : Bool) → (b ≡ true → X) → Throughout b X
 where-so true x = x refl
 where-so false x = tt
 
@@ -75,6 +77,3 @@ allowed (aside o) v h = none h
 
 pub address-writes : (o : Op) → Only (Writes (Addresses o)) (code o)
 address-writes o = accesses (kindOf o) (of-kind (kindOf o) (allowed o)) (code o) (call-steps o)
-
-pub start-up-writes : (c : Config) → N (starting c)
-start-up-writes c = accesses plain (of-kind {Allowed = None} plain (λ v h. none h)) (starting c) (start-up-steps plain c)

@@ -25,8 +25,8 @@ allocateEach (e ∷ es) = do
   act (allocate (directionOf (e .address)) (e .kind) (e .address) (e .maximum) (e .interval))
   allocateEach es
 
--- ---- then each is announced, in that order. What is left of the operation does not keep the list: the records tell it, since each
--- endpoint's buffers begin where those of the one before it end
+-- ---- then each is announced, in that order. What is left of the operation does not keep the list: the records tell
+-- it, since each endpoint's buffers begin where those of the one before it end
 
 -- what an allocation hands out, as the endpoint's record has it
 abbrev pub announce : {i : Bool} → Dir → ℕ → Script i ℕ
@@ -41,7 +41,8 @@ endOf d e = do
   s ← get (ep-cell d e)
   ret (s .base + slotsOf (isIso (s .kind)) d * a .size)
 
--- of `left` numbers from e on, the one that is allocated in this direction and whose buffers begin at byte x; 0 where there is none
+-- of `left` numbers from e on, the one that is allocated in this direction and whose buffers begin at byte x; 0 where
+-- there is none
 unfoldable pub beginsAt : {i : Bool} → Dir → ℕ → ℕ → ℕ → Script i ℕ
 beginsAt d x zero e = ret {A = ℕ} 0
 beginsAt d x (suc left) e = do

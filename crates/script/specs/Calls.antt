@@ -162,4 +162,14 @@ abbrev pub tooWide : ℕ → ℕ → Bool
 tooWide width v = not (fitsIn v width)
 
 abbrev pub calls : Calls Config Op Answer
-calls = record { irq = irq; code = code; slots = slots; aside = passes; starts = starting; refuses = startRow; wide = tooWide; refusal = Refused }
+calls = record {
+  irq = irq;
+  code = code;
+  slots = slots;
+  aside = passes;
+  starts = starting;
+  refuses = startRow;
+  wide
+      = tooWide;
+  refusal = Refused;
+}

@@ -1,6 +1,6 @@
--- What a script reads and assigns: the Rust's statics, the requests and the allocator, record by record. What comes with start-up, an
--- allocation or enabling (the allocator, stage, callback, ep_config, the sets of isochronous endpoints, EP0's buffer and maximum) changes by
--- operations of its own: an assignment leaves it
+-- What a script reads and assigns: the Rust's statics, the requests and the allocator, record by record. What comes
+-- with start-up, an allocation or enabling (the allocator, stage, callback, ep_config, the sets of isochronous
+-- endpoints, EP0's buffer and maximum) changes by operations of its own: an assignment leaves it
 use mathlib.Core.Bool.{Bool}
 use Prim.Native.Nat.{ℕ}
 use lib.Dec.{eqb}
@@ -10,8 +10,8 @@ use Rattle.state.specs.declared.Allocator.{Allocator}
 use Rattle.state.specs.declared.Request.{Request}
 use Rattle.state.specs.declared.Control.{Control}
 
--- what the script sees of an endpoint's record: all but its ring. Of it `ready`, `len`, `armed`, `last_frame` and `tog` are assigned;
--- the others come with the allocation
+-- what the script sees of an endpoint's record: all but its ring. Of it `ready`, `len`, `armed`, `last_frame` and `tog`
+-- are assigned; the others come with the allocation
 pub record EpCore : Type 0 where
   pub ready : ℕ
   pub len : ℕ

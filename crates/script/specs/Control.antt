@@ -12,7 +12,8 @@ use Rattle.regs.specs.ControlWord.{ACK, DATA1, wordOf, ack, stall, status}
 use Rattle.state.specs.declared.Control.{Control}
 use Rattle.state.specs.declared.Globals.{Globals}
 use Rattle.script.specs.Cells.{globals-cell, ep-cell, control-cell}
-use Rattle.script.specs.Script.{Script, ret, done, test, _>>=_, _>>_, write, get, put, fetch, act, when, received0, fill0}
+use Rattle.script.specs.Script.{Script, ret, done, test, _>>=_, _>>_, write, get, put, fetch, act, when}
+use Rattle.script.specs.Script.{received0, fill0}
 use Rattle.script.specs.Statics.{isOn, flag, withReady, withArmed, withLen, withSetup, modifyEp, modifyReg}
 use Rattle.script.specs.Answers.{Answer, Refused, NotYet, Done, resultless, staged, unless}
 
@@ -143,8 +144,8 @@ beginDataIn bytes first last = staged 2 (withinMaximum (length bytes) (unlessSet
     write EpTLen 0 (length bytes)
     acks In first))))
 
--- the second wait; `true`: it is the first poll that comes to it, and the data packet's completion is taken with it. A refusal 9 takes
--- neither
+-- the second wait; `true`: it is the first poll that comes to it, and the data packet's completion is taken with it. A
+-- refusal 9 takes neither
 abbrev pub take-closing : {i : Bool} → Bool → Control → Script i Answer
 take-closing now c = do
   s ← get (ep-cell Out 0)

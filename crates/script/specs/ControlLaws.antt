@@ -1,4 +1,5 @@
--- The script's control transfers have the stages of USB 2.0, 8.5.3: the toggle of EP0's control words, which the chip leaves as it is written
+-- The script's control transfers have the stages of USB 2.0, 8.5.3: the toggle of EP0's control words, which the chip
+-- leaves as it is written
 use mathlib.Core.Bool.{Bool, true, false, cond, _&&_}
 use mathlib.Core.List.{List}
 use mathlib.Core.Path.{_≡_, refl, ap, subst, sym, _∙_}
@@ -24,9 +25,9 @@ use Rattle.script.specs.Script.{Ops, run, Script, when, _>>=_, _>>_}
 use Rattle.script.specs.Statics.{isOn, modifyReg, modifyEp, completed, wake}
 use Rattle.script.specs.Answers.{Answer, Refused, End, NotYet, Done, Shown}
 use Rattle.script.specs.Handler.{outNaks, inNaks, nakNonIso, outArm, inArm, received, movedOn}
-use Rattle.script.specs.Control.{acks, beginDataOut, beginDataIn, statusIn, beginAccept, beginAcceptSetAddress}
-use Rattle.script.specs.Every.{Chip, Every, at-end, at-ask, Where, sameReg, onWrite, OnWrite}
-use Rattle.script.specs.EveryLaws.{every-bind, every-cond, Only}
+use Rattle.script.specs.Control.{acks, beginDataOut, beginDataIn, beginAccept, beginAcceptSetAddress}
+use Rattle.script.specs.Every.{Chip, Every, at-end, at-ask, Throughout, sameReg, onWrite, OnWrite}
+use Rattle.script.specs.EveryLaws.{every-bind, every-cond}
 use Rattle.script.specs.Usb20Toggles.{Pid, DATA0, DATA1, other}
 use Rattle.script.specs.Usb20Control.{dataPid, statusPid, statusLength, statusDir}
 use Rattle.script.specs.TogglesLaws.{number}
@@ -41,8 +42,10 @@ toggle-with w t h = omega arith
 -- `flip` alternates
 pub flips : (p : Pid) (w : ℕ) → toggle w ≡ number p → toggle (flip w) ≡ number (other p)
 unfolding flip
-flips DATA0 w e = ap (λ (n : ℕ). toggle (withToggle w (pick (eqb n word.DATA0) word.DATA1 word.DATA0))) e ∙ toggle-with w 1 (omega arith)
-flips DATA1 w e = ap (λ (n : ℕ). toggle (withToggle w (pick (eqb n word.DATA0) word.DATA1 word.DATA0))) e ∙ toggle-with w 0 (omega arith)
+flips DATA0 w e = ap (λ (n : ℕ). toggle (withToggle w (pick (eqb n word.DATA0) word.DATA1 word.DATA0))) e
+    ∙ toggle-with w 1 (omega arith)
+flips DATA1 w e = ap (λ (n : ℕ). toggle (withToggle w (pick (eqb n word.DATA0) word.DATA1 word.DATA0))) e
+    ∙ toggle-with w 0 (omega arith)
 
 pub nak-keeps : (w : ℕ) → toggle (nak w) ≡ toggle w
 unfolding nak withResponse response toggle
@@ -74,11 +77,7 @@ ep0 d = record { Holds = ℕ; Brings = λ b q v. q ≡ Read (ctrlOf d) 0 → tog
 
 -- a packet's length, as it is written for an IN
 abbrev pub Empty : Access → Type 0
-Empty q = OnWrite (λ r e v. Where (sameReg r EpTLen) (v ≡ statusLength)) q
-
--- the status stage IN has no bytes
-pub status-empty : (i : Bool) → Only Empty (statusIn {i = i})
-status-empty i = ((λ _. tt, λ _. tt), λ _. ((refl, tt), λ _. ((tt, λ _. tt), λ _. (tt, tt))))
+Empty q = OnWrite (λ r e v. Throughout (sameReg r EpTLen) (v ≡ statusLength)) q
 
 -- from the toggle b, `P` of the toggle left and of the answer, whatever is read else and whatever becomes of the state
 abbrev pub Leads : {S : Type 0} (d : Dir) {A : Type 0} → (ℕ → A → Type 0) → ℕ → tree.Out S A → Type 0
@@ -96,7 +95,8 @@ module _ {S : Type 0} (O : Ops S) where
   -- past the rows 4, 10 and 9
   begins : (d : Dir) {b new : ℕ} (n : ℕ) (s : S) {o : tree.Out S Answer} → Leads d (Begun b new) b o
       → Leads d (Begun b new) b
-      (cond (eqb (O .get globals-cell s .stage) 2) (cond (ltb (O .get globals-cell s .«ep0_max») n) (ends (Refused 10) s)
+      (cond (eqb (O .get globals-cell s .stage) 2) (cond (ltb (O .get globals-cell s .«ep0_max») n)
+      (ends (Refused 10) s)
       (cond (isOn (O .get globals-cell s .«setup_ready»)) (ends (Refused 9) s) o)) (ends (Refused 4) s))
   begins d n s x = every-cond (eqb (O .get globals-cell s .stage) 2)
       (λ _. every-cond (ltb (O .get globals-cell s .«ep0_max») n) (λ _. at-end refl)
@@ -112,58 +112,73 @@ module _ {S : Type 0} (O : Ops S) where
   -- ---- the data stage
 
   -- its first packet
-  pub first-out : (i : Bool) (n b : ℕ) (s : S) → Leads Out (Begun b (number (dataPid 0))) b (run O (beginDataOut {i = i} n true) s)
+  pub first-out : (i : Bool) (n b : ℕ) (s : S) → Leads Out (Begun b (number (dataPid 0))) b
+      (run O (beginDataOut {i = i} n true) s)
   first-out i n b s = begins Out n s (at-ask tt (λ _ _ _ _. at-end acked-data1))
 
   pub first-in : (i : Bool) (bytes : List ℕ) (last : Bool) (b : ℕ) (s : S)
       → Leads In (Begun b (number (dataPid 0))) b (run O (beginDataIn {i = i} bytes true last) s)
-  first-in i bytes true b s = begins In (length bytes) s (at-ask tt (λ _ _ _ _. at-ask tt (λ _ _ _ _. at-ask tt (λ _ _ _ _. at-end acked-data1))))
-  first-in i bytes false b s = begins In (length bytes) s (at-ask tt (λ _ _ _ _. at-ask tt (λ _ _ _ _. at-end acked-data1)))
+  first-in i bytes true b s = begins In (length bytes) s
+      (at-ask tt (λ _ _ _ _. at-ask tt (λ _ _ _ _. at-ask tt (λ _ _ _ _. at-end acked-data1))))
+  first-in i bytes false b s = begins In (length bytes) s
+      (at-ask tt (λ _ _ _ _. at-ask tt (λ _ _ _ _. at-end acked-data1)))
 
   -- a later one goes out with the toggle as it stands
   pub next-out : (i : Bool) (n b : ℕ) (s : S) → Leads Out (Begun b b) b (run O (beginDataOut {i = i} n false) s)
   next-out i n b s = begins Out n s (at-ask tt (λ w _ r _. at-ask tt (λ _ _ _ _. at-end (ack-keeps w ∙ r refl))))
 
-  pub next-in : (i : Bool) (bytes : List ℕ) (last : Bool) (b : ℕ) (s : S) → Leads In (Begun b b) b (run O (beginDataIn {i = i} bytes false last) s)
+  pub next-in : (i : Bool) (bytes : List ℕ) (last : Bool) (b : ℕ) (s : S)
+      → Leads In (Begun b b) b (run O (beginDataIn {i = i} bytes false last) s)
   next-in i bytes true b s = begins In (length bytes) s
-      (at-ask tt (λ _ _ _ _. at-ask tt (λ _ _ _ _. at-ask tt (λ w _ r _. at-ask tt (λ _ _ _ _. at-end (ack-keeps w ∙ r refl))))))
-  next-in i bytes false b s = begins In (length bytes) s (at-ask tt (λ _ _ _ _. at-ask tt (λ w _ r _. at-ask tt (λ _ _ _ _. at-end (ack-keeps w ∙ r refl)))))
+      (at-ask tt (λ _ _ _ _. at-ask tt (λ _ _ _ _. at-ask tt
+      (λ w _ r _. at-ask tt (λ _ _ _ _. at-end (ack-keeps w ∙ r refl))))))
+  next-in i bytes false b s = begins In (length bytes) s
+      (at-ask tt (λ _ _ _ _. at-ask tt (λ w _ r _. at-ask tt (λ _ _ _ _. at-end (ack-keeps w ∙ r refl)))))
 
   -- the interrupt's NAK, of whichever endpoint, leaves it
   pub nak-leaves : (i : Bool) (d : Dir) (st b : ℕ) (s : S) → Leads d (λ c _. c ≡ b) b (run O (nakNonIso {i = i} st) s)
   nak-leaves i Out st b s = every-cond (outNaks st (O .get (ep-cell Out (endpoint st)) s))
-      (λ _. at-ask tt (λ w _ r _. at-ask tt (λ _ _ _ _. at-end (left-nak (endpoint st) b w (λ z. r (ap (Read EpRxCtrl) z))))))
-      (λ _. every-cond (inNaks st (O .get (ep-cell In (endpoint st)) s)) (λ _. at-ask tt (λ _ _ _ _. at-ask tt (λ _ _ _ _. at-end refl))) (λ _. at-end refl))
-  nak-leaves i In st b s = every-cond (outNaks st (O .get (ep-cell Out (endpoint st)) s)) (λ _. at-ask tt (λ _ _ _ _. at-ask tt (λ _ _ _ _. at-end refl)))
+      (λ _. at-ask tt (λ w _ r _. at-ask tt (λ _ _ _ _. at-end
+      (left-nak (endpoint st) b w (λ z. r (ap (Read EpRxCtrl) z))))))
       (λ _. every-cond (inNaks st (O .get (ep-cell In (endpoint st)) s))
-      (λ _. at-ask tt (λ w _ r _. at-ask tt (λ _ _ _ _. at-end (left-nak (endpoint st) b w (λ z. r (ap (Read EpTxCtrl) z))))))
+      (λ _. at-ask tt (λ _ _ _ _. at-ask tt (λ _ _ _ _. at-end refl))) (λ _. at-end refl))
+  nak-leaves i In st b s = every-cond (outNaks st (O .get (ep-cell Out (endpoint st)) s))
+      (λ _. at-ask tt (λ _ _ _ _. at-ask tt (λ _ _ _ _. at-end refl)))
+      (λ _. every-cond (inNaks st (O .get (ep-cell In (endpoint st)) s))
+      (λ _. at-ask tt (λ w _ r _. at-ask tt (λ _ _ _ _. at-end
+      (left-nak (endpoint st) b w (λ z. r (ap (Read EpTxCtrl) z))))))
       (λ _. at-end refl))
 
   -- the interrupt that saw packet k leaves the toggle of packet k + 1; an OUT packet that is no new one leaves it
   pub passed-out : (i : Bool) (x : Transfer) (k : ℕ) (s : S) → eqb (endpoint (x .st)) 0 ≡ true
-      → Leads Out (λ b _. b ≡ number (dataPid (cond (togOk (x .st)) (suc k) k))) (number (dataPid k)) (run O (outArm {i = i} x false) s)
+      → Leads Out (λ b _. b ≡ number (dataPid (cond (togOk (x .st)) (suc k) k))) (number (dataPid k))
+      (run O (outArm {i = i} x false) s)
   passed-out i x k s h = every-cond (eqb (endpoint (x .st)) 0) (λ _. step (togOk (x .st))) (λ z. apart (sym h ∙ z))
     where
-      step : (ok : Bool) → Leads Out (λ b _. b ≡ number (dataPid (cond ok (suc k) k))) (number (dataPid k)) (run O (when ok (do
-        modifyReg {i = i} EpRxCtrl 0 flip
-        received 0 (x .len))) s)
+      step : (ok : Bool) → Leads Out (λ b _. b ≡ number (dataPid (cond ok (suc k) k))) (number (dataPid k))
+          (run O (when ok (do
+            modifyReg {i = i} EpRxCtrl 0 flip
+            received 0 (x .len))) s)
       step true = at-ask tt (λ w _ r _. at-ask tt (λ _ _ _ _. at-end (flips (dataPid k) w (r refl))))
       step false = at-end refl
 
   pub passed-in : (i : Bool) (x : Transfer) (frame k : ℕ) (s : S) → eqb (endpoint (x .st)) 0 ≡ true
       → Leads In (λ b _. b ≡ number (dataPid (suc k))) (number (dataPid k)) (run O (inArm {i = i} x false frame) s)
   passed-in i x frame k s h = every-cond (eqb (endpoint (x .st)) 0)
-      (λ _. at-ask tt (λ w _ r _. at-ask tt (λ _ _ _ _. at-end (flips (dataPid k) w (r refl))))) (λ z. apart (sym h ∙ z))
+      (λ _. at-ask tt (λ w _ r _. at-ask tt (λ _ _ _ _. at-end (flips (dataPid k) w (r refl)))))
+      (λ z. apart (sym h ∙ z))
 
   -- so does the host's token for the other direction, where packet k was armed and no interrupt saw it go through
   pub moved-on : (i : Bool) (d : Dir) (k : ℕ) (s : S)
-      → Leads d (λ b _. b ≡ number (dataPid (cond (isOn (O .get (ep-cell d 0) s .armed)) (suc k) k))) (number (dataPid k)) (run O (movedOn {i = i} d) s)
+      → Leads d (λ b _. b ≡ number (dataPid (cond (isOn (O .get (ep-cell d 0) s .armed)) (suc k) k)))
+      (number (dataPid k)) (run O (movedOn {i = i} d) s)
   moved-on i d k s = step d (isOn (O .get (ep-cell d 0) s .armed))
     where
-      step : (d : Dir) (on : Bool) → Leads d (λ b _. b ≡ number (dataPid (cond on (suc k) k))) (number (dataPid k)) (run O (when on (do
-        modifyReg {i = i} (ctrlOf d) 0 nakflip
-        modifyEp d 0 completed
-        wake d 0)) s)
+      step : (d : Dir) (on : Bool) → Leads d (λ b _. b ≡ number (dataPid (cond on (suc k) k))) (number (dataPid k))
+          (run O (when on (do
+            modifyReg {i = i} (ctrlOf d) 0 nakflip
+            modifyEp d 0 completed
+            wake d 0)) s)
       step d false = at-end refl
       step Out true = at-ask tt (λ w _ r _. at-ask tt (λ _ _ _ _. at-end (nak-flips (dataPid k) w (r refl))))
       step In true = at-ask tt (λ w _ r _. at-ask tt (λ _ _ _ _. at-end (nak-flips (dataPid k) w (r refl))))
@@ -173,23 +188,28 @@ module _ {S : Type 0} (O : Ops S) where
   -- after a data stage IN: the closing OUT is armed with the last packet
   pub status-out : (i : Bool) (bytes : List ℕ) (first : Bool) (k b : ℕ) (s : S)
       → Leads (statusDir In (suc k)) (Begun b (number statusPid)) b (run O (beginDataIn {i = i} bytes first true) s)
-  status-out i bytes true k b s = begins Out (length bytes) s (at-ask tt (λ _ _ _ _. at-ask tt (λ _ _ _ _. at-ask tt (λ _ _ _ _. at-end acked-data1))))
+  status-out i bytes true k b s = begins Out (length bytes) s
+      (at-ask tt (λ _ _ _ _. at-ask tt (λ _ _ _ _. at-ask tt (λ _ _ _ _. at-end acked-data1))))
   status-out i bytes false k b s = begins Out (length bytes) s
       (at-ask tt (λ _ _ _ _. at-ask tt (λ _ _ _ _. at-ask tt (λ _ _ _ _. at-ask tt (λ _ _ _ _. at-end acked-data1)))))
 
   -- and not before
   pub no-status-out : (i : Bool) (bytes : List ℕ) (first : Bool) (k b : ℕ) (s : S)
       → Leads (statusDir In (suc k)) (Begun b b) b (run O (beginDataIn {i = i} bytes first false) s)
-  no-status-out i bytes true k b s = begins Out (length bytes) s (at-ask tt (λ _ _ _ _. at-ask tt (λ _ _ _ _. at-end refl)))
-  no-status-out i bytes false k b s = begins Out (length bytes) s (at-ask tt (λ _ _ _ _. at-ask tt (λ _ _ _ _. at-ask tt (λ _ _ _ _. at-end refl))))
+  no-status-out i bytes true k b s = begins Out (length bytes) s
+      (at-ask tt (λ _ _ _ _. at-ask tt (λ _ _ _ _. at-end refl)))
+  no-status-out i bytes false k b s = begins Out (length bytes) s
+      (at-ask tt (λ _ _ _ _. at-ask tt (λ _ _ _ _. at-ask tt (λ _ _ _ _. at-end refl))))
 
   -- after a data stage OUT or none
   in-status : (k : ℕ) → statusDir Out k ≡ In
   in-status zero = refl
   in-status (suc k) = refl
 
-  pub status-in : (i : Bool) (k b : ℕ) (s : S) → Leads (statusDir Out k) (Begun b (number statusPid)) b (run O (beginAccept {i = i}) s)
-  status-in i k b s = rw (in-status k) (accepts In s (at-ask tt (λ _ _ _ _. at-ask tt (λ w _ _ _. at-ask tt (λ _ _ _ _. at-end (status-data1 w))))))
+  pub status-in : (i : Bool) (k b : ℕ) (s : S) → Leads (statusDir Out k) (Begun b (number statusPid)) b
+      (run O (beginAccept {i = i}) s)
+  status-in i k b s = rw (in-status k) (accepts In s (at-ask tt
+      (λ _ _ _ _. at-ask tt (λ w _ _ _. at-ask tt (λ _ _ _ _. at-end (status-data1 w))))))
 
   pub status-in-address : (i : Bool) (address k b : ℕ) (s : S)
       → Leads (statusDir Out k) (Begun b (number statusPid)) b (run O (beginAcceptSetAddress {i = i} address) s)
@@ -212,18 +232,21 @@ module _ {S : Type 0} (O : Ops S) where
   armed-next i Out b s = at-ask tt (λ w _ r _. at-ask tt (λ _ _ _ _. at-end (ack-keeps w ∙ r refl)))
   armed-next i In b s = at-ask tt (λ w _ r _. at-ask tt (λ _ _ _ _. at-end (ack-keeps w ∙ r refl)))
 
-  armed-first : (i : Bool) (d : Dir) (b : ℕ) (s : S) → Leads d (λ c _. c ≡ number (dataPid 0)) b (run O (acks {i = i} d true) s)
+  armed-first : (i : Bool) (d : Dir) (b : ℕ) (s : S) → Leads d (λ c _. c ≡ number (dataPid 0)) b
+      (run O (acks {i = i} d true) s)
   armed-first i Out b s = at-ask tt (λ _ _ _ _. at-end acked-data1)
   armed-first i In b s = at-ask tt (λ _ _ _ _. at-end acked-data1)
 
-  gone-through : (i : Bool) (d : Dir) (x : Transfer) (frame k : ℕ) → eqb (endpoint (x .st)) 0 ≡ true → togOk (x .st) ≡ true → (s : S)
+  gone-through : (i : Bool) (d : Dir) (x : Transfer) (frame k : ℕ) → eqb (endpoint (x .st)) 0 ≡ true → togOk (x .st)
+      ≡ true → (s : S)
       → Leads d (λ b _. b ≡ number (dataPid (suc k))) (number (dataPid k)) (run O (goesThrough {i = i} d x frame) s)
   gone-through i Out x frame k h t s = subst
       (λ (ok : Bool). Leads Out (λ b _. b ≡ number (dataPid (cond ok (suc k) k)))
       (number (dataPid k)) (run O (goesThrough {i = i} Out x frame) s)) t (passed-out i x k s h)
   gone-through i In x frame k h t s = passed-in i x frame k s h
 
-  pub kth-packet : (i : Bool) (d : Dir) (x : Transfer) (frame k b : ℕ) → eqb (endpoint (x .st)) 0 ≡ true → togOk (x .st) ≡ true → (s : S)
+  pub kth-packet : (i : Bool) (d : Dir) (x : Transfer) (frame k b : ℕ) → eqb (endpoint (x .st)) 0 ≡ true → togOk (x .st)
+      ≡ true → (s : S)
       → Leads d (λ c _. c ≡ number (dataPid k)) b (run O (stage {i = i} d x frame k) s)
   kth-packet i d x frame zero b h t s = armed-first i d b s
   kth-packet i d x frame (suc k) b h t s = every-bind (kth-packet i d x frame k b h t s) (λ c _ u e. rw e

@@ -1,4 +1,5 @@
--- The driver: start-up (mod.rs 886-951), allocation (953-1043, endpoint.rs 19-37), EP0's start (1144-1178), packets taken and queued in place
+-- The driver: start-up (mod.rs 886-951), allocation (953-1043, endpoint.rs 19-37), EP0's start (1144-1178), packets
+-- taken and queued in place
 -- (253-271, 342-395)
 use mathlib.Core.Bool.{Bool, false, not}
 use mathlib.Core.List.{List}

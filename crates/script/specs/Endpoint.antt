@@ -85,7 +85,8 @@ take-ready ep n s = test (isOn (s .ready))
     (enabled-else Out ep (ends-request Out ep (Refused 9)) (ret NotYet))
 
 abbrev pub pollRead : {i : Bool} → ℕ → ℕ → Script i Answer
-pollRead ep n = staged 2 (named Out ep (polled Out ep n (λ s. test (isOn (s .iso)) (take-iso ep n) (take-ready ep n s))))
+pollRead ep n = staged 2 (named Out ep (polled Out ep n
+    (λ s. test (isOn (s .iso)) (take-iso ep n) (take-ready ep n s))))
 
 -- ---- `write`, 146-194
 
@@ -122,4 +123,5 @@ sent-ready ep s = test (isOn (s .ready))
     (enabled-else In ep (ends-request In ep (Refused 9)) (ret NotYet))
 
 abbrev pub pollWrite : {i : Bool} → ℕ → List ℕ → Script i Answer
-pollWrite ep bytes = staged 2 (named In ep (polled In ep (length bytes) (λ s. test (isOn (s .iso)) (put-iso ep bytes) (sent-ready ep s))))
+pollWrite ep bytes = staged 2 (named In ep (polled In ep (length bytes)
+    (λ s. test (isOn (s .iso)) (put-iso ep bytes) (sent-ready ep s))))

@@ -9,21 +9,22 @@ use Rattle.regs.specs.Registers.{numberOf}
 use Rattle.script.specs.Tree as tree
 use Rattle.script.specs.Tree.{ends, asks}
 
--- the chip as far as a law speaks of it: what it holds, which numbers it may bring for an access, what it holds after one
+-- the chip as far as a law speaks of it: what it holds, which numbers it may bring for an access, what it holds after
+-- one
 pub record Chip : Type 1 where
   pub Holds : Type 0
   pub Brings : Holds → Access → ℕ → Type 0
   pub after : Holds → Access → Holds
 
 -- what an access has to meet where a test holds
-abbrev pub Where : Bool → Type 0 → Type 0
-Where true X = X
-Where false X = Unit {0}
+abbrev pub Throughout : Bool → Type 0 → Type 0
+Throughout true X = X
+Throughout false X = Unit {0}
 
 -- a type where a test holds, else none
-abbrev pub If : Bool → Type 0 → Type 0
-If true X = X
-If false X = ⊥
+abbrev pub When : Bool → Type 0 → Type 0
+When true X = X
+When false X = ⊥
 
 abbrev pub sameReg : Reg → Reg → Bool
 sameReg r q = eqb (numberOf r) (numberOf q)
@@ -48,8 +49,8 @@ OnWrite Ok (Ep0Dma x) = Unit {0}
 OnWrite Ok (Wait n) = Unit {0}
 OnWrite Ok Callback = Unit {0}
 
--- `Ok` of each access that is handed out, and `P` of what the chip holds, the answer and the state at each end. `Keeps`: what becomes of the
--- state between an access and the next call
+-- `Ok` of each access that is handed out, and `P` of what the chip holds, the answer and the state at each end.
+-- `Keeps`: what becomes of the state between an access and the next call
 pub data Every {S : Type 0} (C : Chip) (Keeps : S → S → Type 0)
     (Ok : Access → Type 0) {A : Type 0} (P : C .Holds → A → S → Type 0) : C .Holds → tree.Out S A → Type 0 where
   at-end : {h : C .Holds} {a : A} {s : S} → P h a s → Every C Keeps Ok P h (ends a s)
@@ -58,5 +59,6 @@ pub data Every {S : Type 0} (C : Chip) (Keeps : S → S → Type 0)
       → Every C Keeps Ok P h (asks q s k)
 
 -- `Ok` of each access, and no more
-abbrev pub All : {S : Type 0} (C : Chip) → (S → S → Type 0) → (Access → Type 0) → {A : Type 0} → C .Holds → tree.Out S A → Type 0
+abbrev pub All : {S : Type 0} (C : Chip) → (S → S → Type 0) → (Access → Type 0) → {A : Type 0} → C .Holds → tree.Out S A
+    → Type 0
 All C Keeps Ok h o = Every C Keeps Ok (λ _ _ _. Unit {0}) h o

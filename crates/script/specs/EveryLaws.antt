@@ -7,14 +7,17 @@ use Rattle.regs.specs.declared.Access.the-variants.{Read, Write, Receive, Trans
 use Rattle.regs.specs.declared.Reg.{Reg}
 use Rattle.script.specs.Tree as tree
 use Rattle.script.specs.Tree.{bindOut}
-use Rattle.script.specs.Script.{Script, ret, bind, test, read-then, write-then, wait-then, callback-then, get-then}
+use Rattle.script.specs.Script.{Script, ret, bind, test, read-then, write-then, wait-then, callback-then}
+use Rattle.script.specs.Script.{get-then}
 use Rattle.script.specs.Script.{put-then, is-then, look-then, fetch-then, act-then, hand-then, row-then, Ops, run}
 use Rattle.script.specs.Script.{rows, Act, Burst, dmaStepAsk, burstAsk, lastOf}
-use Rattle.script.specs.Every.{If, onWrite, Chip, Every, at-end, at-ask, All}
+use Rattle.script.specs.Every.{When, onWrite, Chip, Every, at-end, at-ask, All}
 
 module _ {S : Type 0} {C : Chip} {Keeps : S → S → Type 0} {Ok : Access → Type 0} where
-  pub every-bind : {A B : Type 0} {P : C .Holds → A → S → Type 0} {Q : C .Holds → B → S → Type 0} {h : C .Holds} {o : tree.Out S A} {f : A → S → tree.Out S B}
-      → Every C Keeps Ok P h o → ((g : C .Holds) (a : A) (s : S) → P g a s → Every C Keeps Ok Q g (f a s)) → Every C Keeps Ok Q h (bindOut o f)
+  pub every-bind : {A B : Type 0} {P : C .Holds → A → S → Type 0} {Q : C .Holds → B → S → Type 0} {h : C .Holds}
+      {o : tree.Out S A} {f : A → S → tree.Out S B}
+      → Every C Keeps Ok P h o → ((g : C .Holds) (a : A) (s : S) → P g a s → Every C Keeps Ok Q g (f a s))
+      → Every C Keeps Ok Q h (bindOut o f)
   every-bind (at-end x) k = k _ _ _ x
   every-bind (at-ask ok x) k = at-ask ok (λ v t b i. every-bind (x v t b i) k)
 
@@ -53,7 +56,7 @@ OnlyBy Ok May Row (put-then c v p) = OnlyBy Ok May Row p
 OnlyBy Ok May Row (is-then q k) = (b : Bool) → OnlyBy Ok May Row (k b)
 OnlyBy Ok May Row (look-then q k) = (n : ℕ) → OnlyBy Ok May Row (k n)
 OnlyBy Ok May Row (fetch-then q k) = (l : _) → OnlyBy Ok May Row (k l)
-OnlyBy Ok May Row (act-then q p) = If (May q) (OnlyBy Ok May Row p)
+OnlyBy Ok May Row (act-then q p) = When (May q) (OnlyBy Ok May Row p)
 OnlyBy Ok May Row (hand-then q p) = ((x : ℕ) → Ok (dmaStepAsk q x)) × OnlyBy Ok May Row p
 OnlyBy Ok May Row (row-then g p) = Row g × OnlyBy Ok May Row p
 
@@ -67,7 +70,8 @@ module _ {S : Type 0} {C : Chip} {Keeps : S → S → Type 0} {Ok : Access → T
   only-rows g ok zero k r h s = at-ask (ok zero _) (λ v t b i. r _ t)
   only-rows g ok (suc n) k r h s = at-ask (ok (suc n) _) (λ v t b i. only-rows g ok n k r _ t)
 
-  pub only-run : {i : Bool} {A : Type 0} (p : Script i A) → Only Ok p → (h : C .Holds) (s : S) → All C Keeps Ok h (run O p s)
+  pub only-run : {i : Bool} {A : Type 0} (p : Script i A) → Only Ok p → (h : C .Holds) (s : S)
+      → All C Keeps Ok h (run O p s)
   only-run (ret a) x h s = at-end tt
   only-run (bind p f) x h s = every-bind (only-run p (x .0) h s) (λ g a t _. only-run (f a) (x .1 a) g t)
   only-run (test b p q) x h s = every-cond b (λ _. only-run p (x .0) h s) (λ _. only-run q (x .1) h s)

@@ -24,7 +24,8 @@ use Rattle.script.specs.Statics.{withEntered, modify, modifyEp, modifyRe
 use Rattle.script.specs.IsoIn.{firstInFrame, isoInComplete, onSof, lateWalk}
 use Rattle.script.specs.IsoOut.{isoOutCheck}
 
--- `while !r.mis_st().read().sie_free() && n < SIE_WAIT { n += 1 }`: at most 2,001 looks, after which it goes on as if free
+-- `while !r.mis_st().read().sie_free() && n < SIE_WAIT { n += 1 }`: at most 2,001 looks, after which it goes on as if
+-- free
 unfoldable pub looks : {i : Bool} → ℕ → Script i Unit
 looks zero = done
 looks (suc n) = do
@@ -80,7 +81,8 @@ toggled dir ep = do
 abbrev pub entered : ℕ → ℕ → ℕ → Transfer
 entered m st n = record { busy = not (sieFree m); st = st; len = n; late = false; «len_ok» = true }
 
--- 679-687: an isochronous OUT was on the bus. A length of 0: it completed before the release; another token: the next transaction
+-- 679-687: an isochronous OUT was on the bus. A length of 0: it completed before the release; another token: the next
+-- transaction
 unfoldable pub sameOut : Transfer → ℕ → ℕ → Bool
 sameOut x now n = not (eqb n 0) && (isOut now && eqb (endpoint now) (endpoint (x .st)))
 
@@ -89,7 +91,14 @@ lateTaken x now n = record { busy = false; st = x .st; len = n; late = true; «l
 
 -- 703-707: a bulk or interrupt transaction was on the bus
 abbrev pub waited : Transfer → ℕ → Transfer
-waited x n = record { busy = false; st = x .st; len = cond (eqb n 0) (x .len) n; late = x .late; «len_ok» = x .«len_ok» }
+waited x n = record {
+  busy = false;
+  st = x .st;
+  len = cond (eqb n 0) (x .len) n;
+  late = x .late;
+  «len_ok»
+      = x .«len_ok»;
+}
 
 -- 708-714: it completed before the release, which took its flag
 abbrev pub retaken : Transfer → ℕ → Transfer
@@ -102,7 +111,8 @@ unfoldable pub waitsForIso : Transfer → EpCore → Bool
 waitsForIso x o = x .busy && (isOut (x .st) && isOn (o .iso))
 
 unfoldable pub waitsForBulk : Transfer → EpCore → Bool
-waitsForBulk x n = x .busy && (not (eqb (endpoint (x .st)) 0) && (isOut (x .st) || (isIn (x .st) && not (isOn (n .iso)))))
+waitsForBulk x n = x .busy && (not (eqb (endpoint (x .st)) 0)
+    && (isOut (x .st) || (isIn (x .st) && not (isOn (n .iso)))))
 
 abbrev pub retake : {i : Bool} → Transfer → Script i Transfer
 retake x = do
@@ -277,7 +287,8 @@ onInterrupt = do
   when (transfer flag) onTransfer
   when (setupAct flag) onSetup
 
--- request One, which the Rust has not: an interrupt begins with a frame reading, and what it admits carries that reading's microframe index
+-- request One, which the Rust has not: an interrupt begins with a frame reading, and what it admits carries that
+-- reading's microframe index
 abbrev pub keepMicroframe : {i : Bool} → Script i Unit
 keepMicroframe = do
   frame ← read FrameNo 0

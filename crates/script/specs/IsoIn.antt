@@ -24,7 +24,8 @@ firstInFrame ep frame = do
   put (ep-cell In ep) (withLastFrame frame s)
   ret (not (eqb (s .«last_frame») frame))
 
--- `iso_in_load`, 593-608: the oldest packet, or a zero-length one. `send` marks the slot as loaded in the call that hands out its address
+-- `iso_in_load`, 593-608: the oldest packet, or a zero-length one. `send` marks the slot as loaded in the call that
+-- hands out its address
 abbrev pub isoInLoad : {i : Bool} → ℕ → Script i Unit
 isoInLoad ep = do
   b ← is (waiting In ep)

@@ -9,7 +9,8 @@ use Rattle.regs.specs.declared.Dir.the-variants.{Out}
 use Rattle.regs.specs.Status.{endpoint, isOut, togOk}
 use Rattle.script.specs.declared.Transfer.{Transfer}
 use Rattle.script.specs.Cells.{globals-cell}
-use Rattle.script.specs.Script.{Script, done, test, _>>=_, _>>_, read, get, is, look, hand, when, changed, marked, arrive}
+use Rattle.script.specs.Script.{Script, done, test, _>>=_, _>>_, read, get, is, look, hand, when, changed, marked}
+use Rattle.script.specs.Script.{arrive}
 use Rattle.script.specs.Statics.{wake, isoOuts}
 
 -- the status shows OUT for this endpoint: its packet may still be arriving
@@ -20,8 +21,8 @@ arriving st ep = isOut st && eqb (endpoint st) ep
 unfoldable pub entry : Transfer → Bool → ℕ → Bool
 entry x iso ep = not (x .busy) && (x .«len_ok» && (iso && (togOk (x .st) && arriving (x .st) ep)))
 
--- 491-509: the packet is admitted or turned away and the head's slot armed, all in the call that hands out its address; a length above the
--- maximum is capped there
+-- 491-509: the packet is admitted or turned away and the head's slot armed, all in the call that hands out its address;
+-- a length above the maximum is capped there
 abbrev pub arrives : {i : Bool} → ℕ → ℕ → Script i Unit
 arrives ep len = do
   hand (arrive ep len)

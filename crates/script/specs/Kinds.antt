@@ -1,5 +1,5 @@
--- What a call is: its kind, by what no other call does, and its part in a request. One table; what else is asked of calls by their sort is asked
--- of these two
+-- What a call is: its kind, by what no other call does, and its part in a request. One table; what else is asked of
+-- calls by their sort is asked of these two
 use mathlib.Core.Bool.{Bool}
 use Prim.Native.Nat.{ℕ}
 use lib.Dec.{eqb}
@@ -7,8 +7,10 @@ use Rattle.regs.specs.declared.Dir.{Dir}
 use Rattle.regs.specs.declared.Dir.the-variants.{Out, In}
 use Rattle.script.specs.Calls.{Op, interrupt, slotted, other, aside, Slotted, SetEnabled, PollRead, BeginWrite}
 use Rattle.script.specs.Calls.{PollWrite, PollDataOut, BeginDataIn, Other, Allocate, AllocateAll, Start, BusPoll}
-use Rattle.script.specs.Calls.{BusEnable, BusDisable, Microframe, SetStalled, IsStalled, SetPaced, Advance, BeginRead}
-use Rattle.script.specs.Calls.{BeginSetup, PollSetup, PollDataIn, BeginAccept, PollAccept, BeginReject, BeginDataOut}
+use Rattle.script.specs.Calls.{BusEnable, BusDisable, Microframe, SetStalled, IsStalled, SetPaced, Advance}
+use Rattle.script.specs.Calls.{BeginRead}
+use Rattle.script.specs.Calls.{BeginSetup, PollSetup, PollDataIn, BeginAccept, PollAccept, BeginReject}
+use Rattle.script.specs.Calls.{BeginDataOut}
 use Rattle.script.specs.Calls.{BeginAcceptSetAddress}
 
 pub data Kind : Type 0 where
@@ -46,7 +48,8 @@ pub data Poll : Type 0 where
   request : Dir → ℕ → Poll
   setup data-out data-in status : Poll
 
--- a call begins a stage of the control pipe after the setup packet, polls, enables or disables an endpoint, or does none of these
+-- a call begins a stage of the control pipe after the setup packet, polls, enables or disables an endpoint, or does
+-- none of these
 pub data Part : Type 0 where
   apart begins : Part
   polls : Poll → Part

@@ -49,7 +49,6 @@ pub mod AddressWrites
 pub mod AddressCalls
 pub mod AddressCallsLaws
 pub mod AddressLaws
-pub mod FrameLaws
 pub mod TransferKinds
 pub mod SortsWalks
 pub mod SortsLaws

@@ -20,11 +20,12 @@ pub data Question : Type 0 where
   pending overruns : ℕ → Question
   enabled : Dir → ℕ → Question
 
--- start-up with its inputs C, an operation's begin or a call that ends at once, continue with the number brought, a question
+-- start-up with its inputs C, an operation's begin or a call that ends at once, continue with the number brought, a
+-- question
 pub data Call (C Op : Type 0) : Type 0 where
   start : C → Call C Op
   begin : Op → Call C Op
-  go : ℕ → Call C Op
+  continue : ℕ → Call C Op
   question : Question → Call C Op
 
 -- a call, and the slot buffer as it stands then
@@ -52,17 +53,17 @@ awaited (Wait n) = nothing
 awaited Callback = nothing
 
 -- what is under way: nothing, or an operation that handed out an access; `true`: an interrupt
-pub data Way (A S : Type 0) : Type 0 where
-  idle : Way A S
-  busy : Bool → Awaits → (ℕ → S × Buf → tree.Out (S × Buf) A) → Way A S
+pub data Pending (A S : Type 0) : Type 0 where
+  idle : Pending A S
+  busy : Bool → Awaits → (ℕ → S × Buf → tree.Out (S × Buf) A) → Pending A S
 
 pub record Machine (A S : Type 0) : Type 0 where
-  pub way : Way A S
+  pub under-way : Pending A S
   pub st : S
   pub buf : Buf
 
--- the calls: their scripts; which bring the slot buffer; which pass during an interrupt; the rows of start-up (0: accepted); whether a
--- reading has bits above its width; the answer that a row gives
+-- the calls: their scripts; which bring the slot buffer; which pass during an interrupt; the rows of start-up (0:
+-- accepted); whether a reading has bits above its width; the answer that a row gives
 pub record Calls (C Op A : Type 0) : Type 1 where
   pub irq : Op → Bool
   pub code : (o : Op) → Script (irq o) A
@@ -73,7 +74,8 @@ pub record Calls (C Op A : Type 0) : Type 1 where
   pub wide : ℕ → ℕ → Bool
   pub refusal : ℕ → A
 
--- a driver: its operations over its state with the buffer, the state that a start-up makes, the buffer's length, the questions
+-- a driver: its operations over its state with the buffer, the state that a start-up makes, the buffer's length, the
+-- questions
 pub record Instance (C S : Type 0) : Type 0 where
   pub ops : Ops (S × Buf)
   pub fresh : C → S
@@ -94,24 +96,25 @@ module _ {C Op A : Type 0} (L : Calls C Op A) {S : Type 0} (D : Instance C S) wh
   stay n m = (ended (L .refusal n), m)
 
   abbrev pub lentTo : Machine A S → Buf → Machine A S
-  lentTo m b = record { way = m .way; st = m .st; buf = b }
+  lentTo m b = record { under-way = m .under-way; st = m .st; buf = b }
 
   -- a call that falls between two accesses of an interrupt: it ends at once
-  abbrev pub beside : Machine A S → tree.Out (S × Buf) A → Ans A × Machine A S
-  beside m (ends a s) = (ended a, record { way = m .way; st = s .0; buf = s .1 })
-  beside m (asks q s k) = stay 3 m
+  abbrev pub duringInterrupt : Machine A S → tree.Out (S × Buf) A → Ans A × Machine A S
+  duringInterrupt m (ends a s) = (ended a, record { under-way = m .under-way; st = s .0; buf = s .1 })
+  duringInterrupt m (asks q s k) = stay 3 m
 
   -- `told-of`: what becomes of the state where an access is handed out; of the driver's, nothing
   module _ (told-of : S → S) where
     abbrev pub halt : Bool → tree.Out (S × Buf) A → Ans A × Machine A S
-    halt i (ends a s) = (ended a, record { way = idle; st = s .0; buf = s .1 })
-    halt i (asks q s k) = (handed q, record { way = busy i (awaited q) k; st = told-of (s .0); buf = s .1 })
+    halt i (ends a s) = (ended a, record { under-way = idle; st = s .0; buf = s .1 })
+    halt i (asks q s k) = (handed q, record { under-way = busy i (awaited q) k; st = told-of (s .0); buf = s .1 })
 
-    abbrev pub begun : Op → Machine A S → Way A S → Buf → Ans A × Machine A S
+    abbrev pub begun : Op → Machine A S → Pending A S → Buf → Ans A × Machine A S
     begun o m idle b = halt (L .irq o) (run (D .ops) (L .code o) (m .st, b))
-    begun o m (busy i q k) b = cond (cond i (L .aside o) false) (beside (lentTo m b) (run (D .ops) (L .code o) (m .st, b))) (stay 3 (lentTo m b))
+    begun o m (busy i q k) b = cond (cond i (L .aside o) false)
+        (duringInterrupt (lentTo m b) (run (D .ops) (L .code o) (m .st, b))) (stay 3 (lentTo m b))
 
-    abbrev pub continued : ℕ → Machine A S → Way A S → Buf → Ans A × Machine A S
+    abbrev pub continued : ℕ → Machine A S → Pending A S → Buf → Ans A × Machine A S
     continued v m idle b = stay 15 (lentTo m b)
     continued v m (busy i q k) b = cond (over L q v) (stay 16 (lentTo m b)) (halt i (k v (m .st, b)))
 
@@ -122,8 +125,8 @@ module _ {C Op A : Type 0} (L : Calls C Op A) {S : Type 0} (D : Instance C S) wh
     -- one call, with the slot buffer as it stands then
     abbrev pub call : Call C Op → Machine A S → Buf → Ans A × Machine A S
     call (start c) m b = started c (L .refuses c b) m b
-    call (begin o) m b = cond (cond (L .slots o) (misfit (m .st) b) false) (stay 1 m) (begun o m (m .way) b)
-    call (go v) m b = cond (misfit (m .st) b) (stay 1 m) (continued v m (m .way) b)
+    call (begin o) m b = cond (cond (L .slots o) (misfit (m .st) b) false) (stay 1 m) (begun o m (m .under-way) b)
+    call (continue v) m b = cond (misfit (m .st) b) (stay 1 m) (continued v m (m .under-way) b)
     call (question q) m b = (told (D .question q (m .st)), lentTo m b)
 
 -- an access but for the address in it

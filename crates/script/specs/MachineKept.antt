@@ -2,7 +2,7 @@
 use mathlib.Core.Path.{_≡_}
 use Prim.Native.Nat.{ℕ, zero}
 use Rattle.script.specs.Script.{run}
-use Rattle.script.specs.Machine.{Buf, Way, idle, busy, Machine, Calls, Instance}
+use Rattle.script.specs.Machine.{Buf, Pending, idle, busy, Machine, Calls, Instance}
 use Rattle.script.specs.StepsRuns.{Holds}
 
 module _ {S : Type 0} (K : S → Type 0) where
@@ -11,13 +11,13 @@ module _ {S : Type 0} (K : S → Type 0) where
   LentKeeps s = K (s .0)
 
   -- what is under way goes on so
-  abbrev pub WayKeeps : {A : Type 0} → Way A S → Type 0
+  abbrev pub WayKeeps : {A : Type 0} → Pending A S → Type 0
   WayKeeps idle = Unit {0}
   WayKeeps (busy i q k) = (v : ℕ) (t : S × Buf) → K (t .0) → Holds LentKeeps (k v t)
 
   pub record MachineKeeps {A : Type 0} (m : Machine A S) : Type 0 where
     pub state : K (m .st)
-    pub way : WayKeeps (m .way)
+    pub under-way : WayKeeps (m .under-way)
 
   -- what a law over every list of calls is to be told: each script keeps K, and an accepted start-up begins with it
   pub record Preserves {C Op A : Type 0} (L : Calls C Op A) (D : Instance C S) : Type 0 where

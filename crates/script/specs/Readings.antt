@@ -1,5 +1,5 @@
--- How many readings a script hands out, on every path. A reading is an access that brings a register's value; writes, addresses,
--- waits and the callback are none
+-- How many readings a script hands out, on every path. A reading is an access that brings a register's value; writes,
+-- addresses, waits and the callback are none
 use mathlib.Core.List.{List, [], _∷_}
 use mathlib.Core.Bool.{Bool}
 use Prim.Native.Nat.{ℕ, _+_, _≤_}
@@ -17,8 +17,8 @@ reading (Ep0Dma x) = 0
 reading (Wait n) = 0
 reading Callback = 0
 
--- a path is given by the calls that continue: the number that each brings and the state as it is then. Any number and any state: nothing
--- is said of what other calls do between two accesses
+-- a path is given by the calls that continue: the number that each brings and the state as it is then. Any number and
+-- any state: nothing is said of what other calls do between two accesses
 abbrev pub Continues : Type 0 → Type 0
 Continues S = List (ℕ × S)
 

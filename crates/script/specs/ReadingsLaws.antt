@@ -21,7 +21,8 @@ end-path : {S A : Type 0} (n : ℕ) (a : A) (s : S) → AtMost n (ends a s)
 unfolding readings
 end-path n a s w = omega arith
 
-bind-path : {S A B : Type 0} (m n : ℕ) (o : tree.Out S A) (f : A → Prog S B) → AtMost m o → ((a : A) (s : S) → AtMost n (f a s)) → AtMost (m + n) (bindOut o f)
+bind-path : {S A B : Type 0} (m n : ℕ) (o : tree.Out S A) (f : A → Prog S B) → AtMost m o
+    → ((a : A) (s : S) → AtMost n (f a s)) → AtMost (m + n) (bindOut o f)
 unfolding readings
 bind-path m n (ends a s) f x y w = omega (arith, y a s w)
 bind-path m n (asks q s k) f x y [] = omega (arith, x [])
@@ -29,7 +30,8 @@ bind-path m n (asks q s k) f x y (c ∷ w) =
     omega (arith, x [], bind-path (m - reading q) n (k (c .0) (c .1)) f (λ w. omega (arith, x (c ∷ w))) y w)
 
 -- an access, and one that is no reading
-ask-path : {S A : Type 0} (n : ℕ) (q : Access) (s : S) (k : ℕ → S → tree.Out S A) → ((v : ℕ) (t : S) → AtMost n (k v t)) → AtMost (reading q + n) (asks q s k)
+ask-path : {S A : Type 0} (n : ℕ) (q : Access) (s : S) (k : ℕ → S → tree.Out S A) → ((v : ℕ) (t : S) → AtMost n (k v t))
+    → AtMost (reading q + n) (asks q s k)
 unfolding readings
 ask-path n q s k x [] = omega arith
 ask-path n q s k x (c ∷ w) = omega (arith, x (c .0) (c .1) w)
@@ -57,7 +59,8 @@ row-quiet bus-reset (suc zero) x = refl
 row-quiet bus-reset (suc (suc zero)) x = refl
 row-quiet bus-reset (suc (suc (suc n))) x = refl
 
-rows-path : {S A : Type 0} (O : Ops S) (g : Burst) (n m : ℕ) (k : S → tree.Out S A) → ((t : S) → AtMost m (k t)) → (s : S) → AtMost m (rows O g n k s)
+rows-path : {S A : Type 0} (O : Ops S) (g : Burst) (n m : ℕ) (k : S → tree.Out S A) → ((t : S) → AtMost m (k t))
+    → (s : S) → AtMost m (rows O g n k s)
 rows-path O g zero m k x s = quiet-path m _ _ _ (row-quiet g zero _) (λ v t. x t)
 rows-path O g (suc n) m k x s = quiet-path m _ _ _ (row-quiet g (suc n) _) (λ v t. rows-path O g n m k x t)
 
@@ -66,13 +69,22 @@ rows-path O g (suc n) m k x s = quiet-path m _ _ _ (row-quiet g (suc n) _) (λ v
 pub reads-of : {i c : Bool} {A : Type 0} {r w : ℕ} {p : Script i A} → Spends c r w p → Reads≤ r p
 reads-of (raised x h k) = record { on = λ S O s v. omega (arith, h, reads-of x .on S O s v) }
 reads-of {r = r} ret = record { on = λ S O s. end-path r _ s }
-reads-of (bind m n k l x y) = record { on = λ S O s. bind-path m n _ _ (reads-of x .on S O s) (λ a t. reads-of (y a) .on S O t) }
+reads-of (bind m n k l x y) = record {
+  on = λ S O s. bind-path m n _ _ (reads-of x .on S O s)
+      (λ a t. reads-of (y a) .on S O t);
+}
 reads-of (either {b = true} x y) = record { on = λ S O s. reads-of x .on S O s }
 reads-of (either {b = false} x y) = record { on = λ S O s. reads-of y .on S O s }
 reads-of (yes x) = record { on = λ S O s. reads-of x .on S O s }
 reads-of (no x) = record { on = λ S O s. reads-of x .on S O s }
 reads-of (read {r = r} {reg = reg} {e = e} {k = k} x) =
-    record { on = λ S O s v. omega (arith, ask-path r (Read reg e) s (λ u t. run O (k u) t) (λ u t. reads-of (x u) .on S O t) v) }
+    record {
+      on = λ S O s v. omega (
+        arith,
+        ask-path r (Read reg e) s (λ u t. run O (k u) t)
+            (λ u t. reads-of (x u) .on S O t) v,
+      );
+    }
 reads-of (write x) = record { on = λ S O s. quiet-path _ _ _ _ refl (λ v t. reads-of x .on S O t) }
 reads-of (wait x) = record { on = λ S O s. quiet-path _ _ _ _ refl (λ v t. reads-of x .on S O t) }
 reads-of (callback x) = record { on = λ S O s. quiet-path _ _ _ _ refl (λ v t. reads-of x .on S O t) }

@@ -30,7 +30,8 @@ abbrev pub Any : {A : Type 0} → A → Type 0
 Any a = Unit {0}
 
 -- from K, and while it stays: at most n readings, and at the end K and Q of the answer
-pub record Reads {S : Type 0} (O : Ops S) (K : S → Type 0) {i : Bool} {A : Type 0} (n : ℕ) (Q : A → Type 0) (p : Script i A) : Type 0 where
+pub record Reads {S : Type 0} (O : Ops S) (K : S → Type 0) {i : Bool} {A : Type 0} (n : ℕ) (Q : A → Type 0)
+    (p : Script i A) : Type 0 where
   pub on : (h : ℕ) (s : S) → K s → Every counted (Staying K) Any (λ m a t. (m ≤ h + n) × K t × Q a) h (run O p s)
 
 -- ---- on a path
@@ -47,7 +48,8 @@ module _ {S A : Type 0} {K : S → Type 0} {Q : A → Type 0} where
   along (at-ask {s = s} ok x) [] l = so-far (x 0 s tt (λ k. k))
   along (at-ask ok x) (c ∷ w) l = omega (arith, along (x (c .0) (c .1) tt (l .0)) w (l .1))
 
-pub reads-along : {S : Type 0} {O : Ops S} {K : S → Type 0} {i : Bool} {A : Type 0} {n : ℕ} {Q : A → Type 0} {p : Script i A} → Reads O K n Q p → (s : S) → K s
+pub reads-along : {S : Type 0} {O : Ops S} {K : S → Type 0} {i : Bool} {A : Type 0} {n : ℕ} {Q : A → Type 0}
+    {p : Script i A} → Reads O K n Q p → (s : S) → K s
     → (w : Continues S) → Along (Staying K) (run O p s) w → readings (run O p s) w ≤ n
 reads-along x s k w l = omega (arith, along (x .on 0 s k) w l)
 
@@ -68,7 +70,8 @@ module _ {S : Type 0} {O : Ops S} {K : S → Type 0} {i : Bool} {A : Type 0} {Q 
   }
 
   -- each way with what the test says
-  pub either : {n : ℕ} {b : Bool} {p q : Script i A} → (b ≡ true → Reads O K n Q p) → (b ≡ false → Reads O K n Q q) → Reads O K n Q (test b p q)
+  pub either : {n : ℕ} {b : Bool} {p q : Script i A} → (b ≡ true → Reads O K n Q p) → (b ≡ false → Reads O K n Q q)
+      → Reads O K n Q (test b p q)
   either {b = b} x y = record { on = λ h s k. every-cond b (λ e. x e .on h s k) (λ e. y e .on h s k) }
 
   pub free : {B : Type 0} {P : B → Type 0} {n : ℕ} {p : Script i B} {f : B → Script i A}
@@ -139,8 +142,10 @@ module _ {S : Type 0} {O : Ops S} {K : S → Type 0} {iso : TransferKinds} (M : 
 -- a walk over a list: one endpoint's for each
 module _ {S : Type 0} {O : Ops S} {K : S → Type 0} {i : Bool} (W : List ℕ → Script i Unit)
     (one : ℕ → Script i Unit) (none : W [] ≡ done) (step : (e : ℕ) (es : List ℕ) → W (e ∷ es) ≡ (one e >> W es)) where
-  pub reads-walk : {n : ℕ} → ((e : ℕ) → Reads O K n Any (one e)) → (k : ℕ) (es : List ℕ) → length es ≤ k → Reads O K (k * n) Any (W es)
+  pub reads-walk : {n : ℕ} → ((e : ℕ) → Reads O K n Any (one e)) → (k : ℕ) (es : List ℕ) → length es ≤ k
+      → Reads O K (k * n) Any (W es)
   reads-walk x k [] h = rw none (reads-ret tt)
   reads-walk x zero (e ∷ es) h = absurd (omega (arith, h))
   reads-walk {n = n} x (suc k) (e ∷ es) h =
-      rw (step e es) (reads-more (reads-bind n (k * n) (x e) (λ _ _. reads-walk x k es (omega (arith, h)))) (omega (arith, suc-mul k n)))
+      rw (step e es) (reads-more (reads-bind n (k * n) (x e) (λ _ _. reads-walk x k es (omega (arith, h))))
+      (omega (arith, suc-mul k n)))

@@ -51,12 +51,14 @@ clear-two (suc k) i m zero (suc b) g h x y =
 clear-two (suc zero) i m (suc a) (suc b) g h x y = absurd (omega (arith, g, h))
 clear-two (suc (suc zero)) i m (suc a) (suc b) g h x y = absurd (omega (arith, g, h))
 clear-two (suc (suc (suc k))) i m (suc a) (suc b) g h x y =
-    let r = clear-two (suc (suc k)) (suc i) (m / 2) a b (omega (arith, g)) (omega (arith, h)) (sym (bit-suc m a) ∙ x) (sym (bit-suc m b) ∙ y) in
+    let r = clear-two (suc (suc k)) (suc i) (m / 2) a b (omega (arith, g)) (omega (arith, h)) (sym (bit-suc m a) ∙ x)
+    (sym (bit-suc m b) ∙ y) in
     omega (arith, cons-le (m % 2) i k (bitsFrom (suc (suc k)) (suc i) (m / 2)) (omega (arith, r)))
 
 -- an endpoint that is not isochronous is in no such mask
 clear : (f : ℕ → Bool) (m e : ℕ) → e < 16 → Among f m → f e ≡ false → bit m e ≡ 0
-clear f m e h x z = ⊎-elim (λ (c : bit m e ≡ 0). c) (λ (o : bit m e ≡ 1). apart (sym (x e h (one-set m e o)) ∙ z)) (bit-cases m e)
+clear f m e h x z = ⊎-elim (λ (c : bit m e ≡ 0). c) (λ (o : bit m e ≡ 1). apart (sym (x e h (one-set m e o)) ∙ z))
+    (bit-cases m e)
 
 pub most-15 : (f : ℕ → Bool) → f 0 ≡ false → Most 15 f
 most-15 f z m x = omega (arith, clear-one 16 0 m 0 (omega arith) (clear f m 0 (omega arith) x z))

@@ -1,7 +1,7 @@
--- The interrupt spends at most 4,060 readings after its first, whatever is read and whatever becomes of the state between two accesses: on no path
--- are there more than two of its waits for sie_free, one in `settle` and one in `toggled`. And at most 54 wake-ups: the bus twice, an
--- isochronous IN for each start of frame and late entry, an OUT for each arrival, what the token completes, EP0's hidden stage, and EP0's two
--- directions at a setup
+-- The interrupt spends at most 4,060 readings after its first, whatever is read and whatever becomes of the state
+-- between two accesses: on no path are there more than two of its waits for sie_free, one in `settle` and one in
+-- `toggled`. And at most 54 wake-ups: the bus twice, an isochronous IN for each start of frame and late entry, an OUT
+-- for each arrival, what the token completes, EP0's hidden stage, and EP0's two directions at a setup
 use mathlib.Core.Bool.{Bool, true, false, cond, not, _&&_}
 use mathlib.Core.Path.{refl}
 use Prim.Native.Nat.{ℕ, zero, suc, _+_, _≤_}
@@ -16,13 +16,15 @@ use Rattle.regs.specs.Status.{endpoint, token, isSof, sofToken}
 use Rattle.script.specs.declared.Transfer.{Transfer}
 use Rattle.script.specs.Cells.{globals-cell, ep-cell}
 use Rattle.script.specs.Script.{Script, complete, when}
-use Rattle.script.specs.IsoIn.{firstInFrame, isoInLoad, isoInComplete, unseen, sofOne, sofWalk, onSof, lateOne, lateWalk}
+use Rattle.script.specs.IsoIn.{firstInFrame, isoInLoad, isoInComplete, unseen, sofOne, sofWalk, onSof, lateOne}
+use Rattle.script.specs.IsoIn.{lateWalk}
 use Rattle.script.specs.IsoOut.{arrives, checkOne, checkWalk, isoOutCheck}
 use Rattle.script.specs.Handler.{looks, sieWait, nakNonIso, toggled, retake, settle, received, sent, sofArm}
 use Rattle.script.specs.Handler.{outArm, isoInArm, inArm, dispatch, movedOn, ep0MovedOn, isoFor, framed, served}
 use Rattle.script.specs.Handler.{onTransfer, onSetup, onInterrupt, stampedInterrupt}
 use Rattle.script.specs.Spends.{Spends, ret, bind, either, no}
-use Rattle.script.specs.SpendsLaws.{more, reads-by, free, once, woken, reading, then-free, one-read, one-wake, no-write}
+use Rattle.script.specs.SpendsLaws.{more, reads-by, free, once, woken, reading, then-free, one-read, one-wake}
+use Rattle.script.specs.SpendsLaws.{no-write}
 use Rattle.script.specs.SpendsLaws.{no-get, no-put, no-is, no-look, no-act, no-hand, no-callback, when-spends}
 use Rattle.script.specs.SpendsLaws.{assign, assign-write, modifyReg-spends, spends-mask}
 
@@ -83,7 +85,8 @@ module _ {i : Bool} where
 
   onSof-spends : (frame : ℕ) → S 32 16 (onSof frame)
   onSof-spends frame = free (assign globals-cell)
-      (λ _. free (no-get globals-cell) (λ _. then-free (sofWalk-spends frame _) (λ _. free (no-get globals-cell) (λ _. when-spends no-callback))))
+      (λ _. free (no-get globals-cell) (λ _. then-free (sofWalk-spends frame _)
+      (λ _. free (no-get globals-cell) (λ _. when-spends no-callback))))
 
   firstInFrame-spends : {r w : ℕ} (e frame : ℕ) → S r w (firstInFrame e frame)
   firstInFrame-spends e frame = free (no-get (ep-cell _ _)) (λ _. free (no-put (ep-cell _ _)) (λ _. ret))
@@ -122,7 +125,8 @@ module _ {i : Bool} where
   sieWait-spends = looks-spends 2001
 
   nakNonIso-spends : {r w : ℕ} (st : ℕ) → S (suc r) w (nakNonIso st)
-  nakNonIso-spends st = free (no-get (ep-cell _ _)) (λ _. free (no-get (ep-cell _ _)) (λ _. either modifyReg-spends (when-spends modifyReg-spends)))
+  nakNonIso-spends st = free (no-get (ep-cell _ _)) (λ _. free (no-get (ep-cell _ _))
+      (λ _. either modifyReg-spends (when-spends modifyReg-spends)))
 
   -- the wait, the control word, and once more where a repeat is acknowledged
   toggled-spends : {w : ℕ} (d : Dir) (e : ℕ) → S 2003 w (toggled d e)
@@ -155,7 +159,8 @@ module _ {i : Bool} where
   sofArm-spends frame = free (no-get globals-cell) (λ _. when-spends (onSof-spends frame))
 
   isoInArm-spends : {r : ℕ} (e frame : ℕ) → S r 1 (isoInArm e frame)
-  isoInArm-spends e frame = free (no-get globals-cell) (λ _. either ret (free (firstInFrame-spends e frame) (λ _. when-spends (isoInComplete-spends e))))
+  isoInArm-spends e frame = free (no-get globals-cell)
+      (λ _. either ret (free (firstInFrame-spends e frame) (λ _. when-spends (isoInComplete-spends e))))
 
   outArm-spends : (x : Transfer) (iso : Bool) → S (armReads (eqb (endpoint (x .st)) 0)) 1 (outArm x iso)
   outArm-spends x iso = either ret (reads-by 1 2003 _
@@ -175,7 +180,8 @@ module _ {i : Bool} where
   dispatch-spends tok.Setup x iso frame = ret
 
   movedOn-spends : (d : Dir) → S 1 1 (movedOn d)
-  movedOn-spends d = free (no-get (ep-cell _ _)) (λ _. when-spends (once modifyReg-spends (λ _. free (assign (ep-cell _ _)) (λ _. one-wake))))
+  movedOn-spends d = free (no-get (ep-cell _ _)) (λ _. when-spends
+      (once modifyReg-spends (λ _. free (assign (ep-cell _ _)) (λ _. one-wake))))
 
   ep0MovedOn-spends : (t : Token) → S 1 1 (ep0MovedOn t)
   ep0MovedOn-spends tok.Out = movedOn-spends In
@@ -203,27 +209,34 @@ module _ {i : Bool} where
       let w : ℕ = walkWakes sof + 1 in
       more (free (no-get globals-cell) (λ _.
       bind 32 (0 + (tokenReads ep0 + r)) (walkWakes sof) (16 + (tokenWakes sof + w)) (missed-spends sof _ frame) (λ _.
-      bind 0 (tokenReads ep0 + r) 16 (tokenWakes sof + w) (when-spends (free (no-get globals-cell) (λ _. lateWalk-spends frame _))) (λ _.
+      bind 0 (tokenReads ep0 + r) 16 (tokenWakes sof + w)
+      (when-spends (free (no-get globals-cell) (λ _. lateWalk-spends frame _))) (λ _.
       bind (tokenReads ep0) r (tokenWakes sof) w (when-spends (dispatch-spends (token (x .st)) x iso frame)) (λ _.
-      bind 16 (cond ep0 1 0) (walkWakes sof) 1 (check-spends sof x iso) (λ _. reads-by 1 0 ep0 (ep0MovedOn-spends (token (x .st))) ret))))))
+      bind 16 (cond ep0 1 0) (walkWakes sof) 1 (check-spends sof x iso)
+      (λ _. reads-by 1 0 ep0 (ep0MovedOn-spends (token (x .st))) ret))))))
       (served-reads-le ep0) (served-wakes-le sof)
 
   onTransfer-spends : S 4059 50 onTransfer
   onTransfer-spends = once one-read (λ _. once one-read (λ st. once one-read (λ _.
-      reading 1 4055 (when-spends (nakNonIso-spends st)) (λ _. free no-write (λ _. reading 2003 2052 (settle-spends _) (λ x.
-      free (no-get (ep-cell _ _)) (λ o. free (no-get (ep-cell _ _)) (λ n. once one-read (λ frame. free (no-get globals-cell) (λ g.
+      reading 1 4055 (when-spends (nakNonIso-spends st))
+      (λ _. free no-write (λ _. reading 2003 2052 (settle-spends _) (λ x.
+      free (no-get (ep-cell _ _)) (λ o. free (no-get (ep-cell _ _))
+      (λ n. once one-read (λ frame. free (no-get globals-cell) (λ g.
       let iso = isoFor (token (x .st)) o n in
       served-spends (framed x iso (g .«sof_frame») frame) iso frame))))))))))
 
   onSetup-spends : {r : ℕ} → S r 2 onSetup
-  onSetup-spends = free no-write (λ _. free no-write (λ _. free no-look (λ _. free no-look (λ _. free (assign (ep-cell _ _)) (λ _.
-      free (assign (ep-cell _ _)) (λ _. free (assign globals-cell) (λ _. free no-write (λ _. woken one-wake (λ _. one-wake)))))))))
+  onSetup-spends = free no-write (λ _. free no-write (λ _. free no-look
+      (λ _. free no-look (λ _. free (assign (ep-cell _ _)) (λ _.
+      free (assign (ep-cell _ _)) (λ _. free (assign globals-cell)
+      (λ _. free no-write (λ _. woken one-wake (λ _. one-wake)))))))))
 
   -- `on_interrupt`
   onInterrupt-spends : S 4060 54 onInterrupt
   onInterrupt-spends = once one-read (λ _. woken (when-spends (free (assign-write globals-cell) (λ _. one-wake))) (λ _.
       woken (when-spends (free (assign-write globals-cell) (λ _. one-wake))) (λ _. free (when-spends no-write) (λ _.
-      free (when-spends no-write) (λ _. bind 4059 0 50 2 (when-spends onTransfer-spends) (λ _. when-spends onSetup-spends))))))
+      free (when-spends no-write) (λ _. bind 4059 0 50 2 (when-spends onTransfer-spends)
+      (λ _. when-spends onSetup-spends))))))
 
   -- and the reading before it
   pub stamped-spends : S 4061 54 stampedInterrupt

@@ -21,12 +21,13 @@ module _ {i c : Bool} {A : Type 0} where
   more x h k = raised x h k
 
   -- where the test is known, its way's readings, or its way's wake-ups
-  pub reads-by : (m n : ℕ) {w : ℕ} (b : Bool) {p q : Script i A} → Spends c m w p → Spends c n w q → Spends c (cond b m n) w (test b p q)
+  pub reads-by : (m n : ℕ) {w : ℕ} (b : Bool) {p q : Script i A} → Spends c m w p → Spends c n w q
+      → Spends c (cond b m n) w (test b p q)
   reads-by m n true x y = yes x
   reads-by m n false x y = no y
 
-  -- bind with the numbers that are most frequent: a first part that spends nothing, one reading, one wake-up, readings alone; a rest that
-  -- spends nothing
+  -- bind with the numbers that are most frequent: a first part that spends nothing, one reading, one wake-up, readings
+  -- alone; a rest that spends nothing
   pub free : {B : Type 0} {r w : ℕ} {p : Script i B} {f : B → Script i A}
       → Spends false 0 0 p → ((b : B) → Spends c r w (f b)) → Spends c r w (bind p f)
   free {r = r} {w = w} x y = more (spends.bind 0 r 0 w x y) (omega arith) (omega arith)
@@ -99,12 +100,15 @@ module _ {i c : Bool} {r w : ℕ} where
 -- a walk over a list: one endpoint's for each
 module _ {i : Bool} (W : List ℕ → Script i Unit)
     (one : ℕ → Script i Unit) (none : W [] ≡ done) (step : (e : ℕ) (es : List ℕ) → W (e ∷ es) ≡ (one e >> W es)) where
-  spends-walk : {r w : ℕ} → ((e : ℕ) → Spends false r w (one e)) → (k : ℕ) (es : List ℕ) → length es ≤ k → Spends false (k * r) (k * w) (W es)
+  spends-walk : {r w : ℕ} → ((e : ℕ) → Spends false r w (one e)) → (k : ℕ) (es : List ℕ) → length es ≤ k
+      → Spends false (k * r) (k * w) (W es)
   spends-walk x k [] h = rw none ret
   spends-walk x zero (e ∷ es) h = absurd (omega (arith, h))
   spends-walk {r = r} {w = w} x (suc k) (e ∷ es) h = rw (step e es)
-      (more (spends.bind r (k * r) w (k * w) (x e) (λ _. spends-walk x k es (omega (arith, h)))) (omega (arith, suc-mul k r)) (omega (arith, suc-mul k w)))
+      (more (spends.bind r (k * r) w (k * w) (x e) (λ _. spends-walk x k es (omega (arith, h))))
+      (omega (arith, suc-mul k r)) (omega (arith, suc-mul k w)))
 
   -- the walk over a mask
-  pub spends-mask : {r w : ℕ} → ((e : ℕ) → Spends false r w (one e)) → (m : ℕ) → Spends false (16 * r) (16 * w) (W (setBits m))
+  pub spends-mask : {r w : ℕ} → ((e : ℕ) → Spends false r w (one e)) → (m : ℕ)
+      → Spends false (16 * r) (16 * w) (W (setBits m))
   spends-mask x m = spends-walk x 16 (setBits m) (walk-length m)

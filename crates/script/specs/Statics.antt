@@ -72,7 +72,8 @@ withEvents power ready low high g =
 -- the paced endpoints and the frames
 abbrev pub withFrames : (paced frame entered : ℕ) → Globals → Globals
 withFrames paced frame entered g =
-    withAssigned g (g .power) (g .«setup_ready») (g .«setup_low») (g .«setup_high») (g .«int_en») (g .«ep_type») paced frame entered
+    withAssigned g (g .power) (g .«setup_ready») (g .«setup_low») (g .«setup_high») (g .«int_en») (g .«ep_type») paced
+    frame entered
 
 abbrev pub withPower : ℕ → Globals → Globals
 withPower v g = withEvents v (g .«setup_ready») (g .«setup_low») (g .«setup_high») g
@@ -132,7 +133,8 @@ modifyEpType f = do
   put globals-cell (withEpType (f (g .«ep_type»)) g)
   write EpType 0 (f (g .«ep_type»))
 
--- the iso IN endpoints the interrupt completes: polled every microframe, not paced, enabled (`iso_in_every`, mod.rs 80-92)
+-- the iso IN endpoints the interrupt completes: polled every microframe, not paced, enabled (`iso_in_every`, mod.rs
+-- 80-92)
 unfoldable pub isoInEvery : Globals → ℕ
 isoInEvery g = inEnabled (g .«ep_config») (bitAnd (g .«iso_in_every») (65535 - g .«iso_in_paced»))
 

@@ -27,7 +27,8 @@ use Rattle.script.specs.Calls.{slottedCode, otherCode, asideCode, code}
 use Rattle.script.specs.Calls as the-calls
 use Rattle.script.specs.Steps.{Kind, plain, turning, resetting, giving, starting, queueing, kindOf, Steps}
 use Rattle.script.specs.StepsInterrupt.{placed, of-stamped, of-advance}
-use Rattle.script.specs.StepsRequests.{of-poll-read, of-poll-write, of-begin-read, of-begin-write, of-begin-data-out}
+use Rattle.script.specs.StepsRequests.{of-poll-read, of-poll-write, of-begin-read, of-begin-write}
+use Rattle.script.specs.StepsRequests.{of-begin-data-out}
 use Rattle.script.specs.StepsRequests.{behind, unless, noted, asked, operated, resultless}
 use Rattle.script.specs.StepsRequests.{of-poll-data-out, of-begin-data-in, of-poll-data-in}
 
@@ -41,7 +42,17 @@ of-enabled Out e on = (
         tt,
         λ _. (
           (λ _. tt, λ _. tt),
-          λ _. ((λ _. tt, tt), λ _. ((tt, tt), λ _. ((λ _. tt, λ _. (tt, λ _. (tt, tt))), λ _. (tt, λ _. (λ _. tt, λ _. (tt, tt)))))),
+          λ _. (
+            (λ _. tt, tt),
+            λ _. (
+              (tt, tt),
+              λ _. (
+                (λ _. tt, λ _. (tt, λ _. (tt, tt))),
+                λ _.
+                    (tt, λ _. (λ _. tt, λ _. (tt, tt))),
+              ),
+            ),
+          ),
         ),
       ),
     ),
@@ -59,7 +70,17 @@ of-enabled In e on = (
           tt,
           λ _. (
             (λ _. tt, tt),
-            λ _. ((tt, tt), λ _. ((tt, tt), λ _. ((λ _. tt, λ _. (tt, λ _. (tt, tt))), λ _. (tt, λ _. (λ _. tt, λ _. (tt, tt)))))),
+            λ _. (
+              (tt, tt),
+              λ _. (
+                (tt, tt),
+                λ _. (
+                  (λ _. tt, λ _. (tt, λ _. (tt, tt))),
+                  λ _.
+                      (tt, λ _. (λ _. tt, λ _. (tt, tt))),
+                ),
+              ),
+            ),
           ),
         ),
       ),
@@ -74,9 +95,11 @@ of-stalled In e true = ((tt, tt), λ _. (((tt, λ _. tt), λ _. (tt, tt)), λ _.
 of-stalled Out e false = (λ _. tt, λ _. (tt, λ _. ((tt, tt), λ _. tt)))
 of-stalled In e false = (λ _. tt, λ _. (tt, λ _. ((tt, tt), λ _. (((λ _. tt, λ _. tt), tt), λ _. tt))))
 
-of-place : (d : Dir) (kind maximum : ℕ) (a : alloc-answer.Answer) → Steps giving (allocated-as {i = false} d kind maximum a)
+of-place : (d : Dir) (kind maximum : ℕ) (a : alloc-answer.Answer)
+    → Steps giving (allocated-as {i = false} d kind maximum a)
 of-place d kind maximum (alloc.Refused n) = tt
-of-place d kind maximum (alloc.Given ep base slots) = operated ((tt, tt), λ _. (((placed giving d ep, tt), tt), λ _. tt))
+of-place d kind maximum (alloc.Given ep base slots) = operated
+    ((tt, tt), λ _. (((placed giving d ep, tt), tt), λ _. tt))
 
 of-each : (es : List Endpoint) → Steps giving (allocateEach {i = false} es)
 unfolding allocateEach
@@ -114,11 +137,22 @@ of-announce-all (e ∷ es) = (
 
 of-all : (bytes : List ℕ) (a : reading-answer.Answer) → Steps giving (allocate-read {i = false} bytes a)
 of-all bytes (descriptor.Refused n) = tt
-of-all bytes descriptor.Listed = (λ _. tt, λ _. ((of-each (listOf bytes), λ _. operated (of-announce-all (listOf bytes))), tt))
+of-all bytes descriptor.Listed = (
+  λ _. tt,
+  λ _. (
+    (
+      of-each (listOf bytes),
+      λ _. operated
+          (of-announce-all (listOf bytes)),
+    ),
+    tt,
+  ),
+)
 
 of-started : (maximum : ℕ) (a : alloc-answer.Answer) → Steps starting (started-as {i = false} maximum a)
 of-started maximum (alloc.Refused n) = tt
-of-started maximum (alloc.Given ep base slots) = resultless ((λ _. tt, tt), λ _. ((tt, tt), λ _. ((tt, tt), λ _. ((tt, tt), λ _. (tt, tt)))))
+of-started maximum (alloc.Given ep base slots) = resultless
+    ((λ _. tt, tt), λ _. ((tt, tt), λ _. ((tt, tt), λ _. ((tt, tt), λ _. (tt, tt)))))
 
 of-nak-all : (n e : ℕ) → Steps resetting (nakAll {i = false} n e)
 unfolding nakAll
@@ -179,8 +213,14 @@ of-other PollAccept = behind (asked (λ c. (
     (λ _. tt, λ _. ((tt, λ _. tt), tt)),
   ),
 )))
-of-other BeginReject = behind (noted (resultless
-    ((λ _. tt, λ _. tt), λ _. ((λ _. tt, λ _. tt), λ _. (((tt, λ _. tt), λ _. (tt, tt)), λ _. ((tt, λ _. tt), λ _. (tt, tt)))))))
+of-other BeginReject = behind (noted (resultless (
+  (λ _. tt, λ _. tt),
+  λ _. (
+    (λ _. tt, λ _. tt),
+    λ _.
+        (((tt, λ _. tt), λ _. (tt, tt)), λ _. ((tt, λ _. tt), λ _. (tt, tt))),
+  ),
+)))
 of-other (BeginDataOut n first) = of-begin-data-out n first
 of-other (BeginAcceptSetAddress a) = behind (unless (noted (resultless of-status-in)))
 
@@ -199,5 +239,14 @@ call-steps (aside o) = of-aside o
 
 -- start-up does what any call may
 pub start-up-steps : (k : Kind) (c : Config) → Steps k (the-calls.starting c)
-start-up-steps k c = resultless
-    ((tt, tt), λ _. ((tt, tt), λ _. (((tt, λ _. tt), λ _. (tt, tt)), λ _. ((tt, tt), λ _. ((tt, tt), λ _. (λ _. tt, λ _. (tt, λ _. (tt, tt))))))))
+start-up-steps k c = resultless (
+  (tt, tt),
+  λ _. (
+    (tt, tt),
+    λ _. (
+      ((tt, λ _. tt), λ _. (tt, tt)),
+      λ _.
+          ((tt, tt), λ _. ((tt, tt), λ _. (λ _. tt, λ _. (tt, λ _. (tt, tt))))),
+    ),
+  ),
+)

@@ -1,5 +1,5 @@
--- The interrupt and advance do what Steps.antt says of their kind. A proof has the shape of its script: a pair for each bind and test, a function
--- for each number brought, `tt` at each access
+-- The interrupt and advance do what Steps.antt says of their kind. A proof has the shape of its script: a pair for each
+-- bind and test, a function for each number brought, `tt` at each access
 use mathlib.Core.Bool.{Bool}
 use mathlib.Core.List.{List, [], _∷_}
 use Prim.Native.Nat.{ℕ, zero, suc}
@@ -19,7 +19,8 @@ use Rattle.frame.specs.Advance.{completions}
 use Rattle.script.specs.Statics.{isoInEvery, isoOuts}
 use Rattle.script.specs.IsoIn.{isoInComplete, sofOne, sofWalk, onSof, lateWalk, isoInCompletions, isoInAdvance}
 use Rattle.script.specs.IsoOut.{checkWalk}
-use Rattle.script.specs.Handler.{looks, nakNonIso, toggled, retake, settle, outArm, inArm, entered, framed, isoFor}
+use Rattle.script.specs.Handler.{looks, nakNonIso, toggled, retake, settle, outArm, inArm, entered, framed}
+use Rattle.script.specs.Handler.{isoFor}
 use Rattle.script.specs.Handler.{dispatch, movedOn, ep0MovedOn, served, onTransfer, onSetup, onInterrupt}
 use Rattle.script.specs.Handler.{stampedInterrupt}
 use Rattle.script.specs.Steps.{Kind, moving, Asks, Steps}
@@ -48,7 +49,13 @@ of-toggled i d e = (
   of-looks i 2001,
   λ _. (
     (tt, λ _. tt),
-    λ _. (λ _. tt, λ _. (((((tt, λ _. tt), λ w. (control moving d (ack w), tt)), tt), λ _. tt), ((λ _. tt, λ _. tt), λ _. tt))),
+    λ _. (
+      λ _. tt,
+      λ _. (
+        ((((tt, λ _. tt), λ w. (control moving d (ack w), tt)), tt), λ _. tt),
+        ((λ _. tt, λ _. tt), λ _. tt),
+      ),
+    ),
   ),
 )
 
@@ -74,7 +81,10 @@ of-sof-one i frame e = (
     tt,
     (
       (tt, λ _. tt),
-      λ _. (((λ _. tt, λ _. tt), λ _. of-complete i e), ((tt, λ _. tt), λ _. (tt, ((λ _. tt, λ _. tt), λ _. of-complete i e)))),
+      λ _. (
+        ((λ _. tt, λ _. tt), λ _. of-complete i e),
+        ((tt, λ _. tt), λ _. (tt, ((λ _. tt, λ _. tt), λ _. of-complete i e))),
+      ),
     ),
   ),
 )
@@ -85,18 +95,35 @@ of-sof-walk i frame [] = tt
 of-sof-walk i frame (e ∷ es) = (of-sof-one i frame e, λ _. of-sof-walk i frame es)
 
 pub of-sof : (i : Bool) (frame : ℕ) → N (onSof {i = i} frame)
-of-sof i frame = ((λ _. tt, λ _. tt), λ _. (λ _. tt, λ g. (of-sof-walk i frame (setBits (isoInEvery g)), λ _. (λ _. tt, λ _. ((tt, tt), tt)))))
+of-sof i frame = (
+  (λ _. tt, λ _. tt),
+  λ _. (
+    λ _. tt,
+    λ g.
+        (of-sof-walk i frame (setBits (isoInEvery g)), λ _. (λ _. tt, λ _. ((tt, tt), tt))),
+  ),
+)
 
 pub of-late-walk : (i : Bool) (frame : ℕ) (es : List ℕ) → N (lateWalk {i = i} frame es)
 unfolding lateWalk
 of-late-walk i frame [] = tt
-of-late-walk i frame (e ∷ es) = (((λ _. tt, λ _. (tt, λ _. tt)), λ _. (of-complete i e, tt)), λ _. of-late-walk i frame es)
+of-late-walk i frame (e ∷ es) = (
+  ((λ _. tt, λ _. (tt, λ _. tt)), λ _. (of-complete i e, tt)),
+  λ _. of-late-walk i frame
+      es,
+)
 
 pub of-check-walk : (i : Bool) (x : Transfer) (iso : Bool) (es : List ℕ) → N (checkWalk {i = i} x iso es)
 unfolding checkWalk
 of-check-walk i x iso [] = tt
 of-check-walk i x iso (e ∷ es) = (
-  (λ _. tt, λ _. ((((λ _. tt, tt), λ _. tt), ((tt, λ _. tt), λ _. (tt, (λ _. tt, λ _. ((λ _. tt, tt), λ _. tt))))), tt)),
+  (
+    λ _. tt,
+    λ _. (
+      (((λ _. tt, tt), λ _. tt), ((tt, λ _. tt), λ _. (tt, (λ _. tt, λ _. ((λ _. tt, tt), λ _. tt))))),
+      tt,
+    ),
+  ),
   λ _. of-check-walk i x iso es,
 )
 
@@ -125,7 +152,17 @@ of-dispatch i tok.In x iso frame = of-in i x iso frame
 of-dispatch i tok.Setup x iso frame = tt
 
 of-moved : (i : Bool) (d : Dir) → N (movedOn {i = i} d)
-of-moved i d = (λ _. tt, λ _. ((((tt, λ _. tt), λ w. (control moving d (nakflip w), tt)), λ _. ((λ _. tt, λ _. tt), λ _. tt)), tt))
+of-moved i d = (
+  λ _. tt,
+  λ _. (
+    (
+      ((tt, λ _. tt), λ w. (control moving d (nakflip w), tt)),
+      λ _.
+          ((λ _. tt, λ _. tt), λ _. tt),
+    ),
+    tt,
+  ),
+)
 
 pub of-moved-on : (i : Bool) (t : Token) → N (ep0MovedOn {i = i} t)
 of-moved-on i tok.Out = of-moved i In
@@ -142,7 +179,11 @@ of-served i x iso frame = (
       ((λ _. tt, λ g. of-late-walk i frame (setBits (isoInEvery g))), tt),
       λ _. (
         (of-dispatch i (token (x .st)) x iso frame, tt),
-        λ _. (((λ _. tt, λ g. of-check-walk i x iso (setBits (isoOuts g))), tt), λ _. (of-moved-on i (token (x .st)), tt)),
+        λ _. (
+          ((λ _. tt, λ g. of-check-walk i x iso (setBits (isoOuts g))), tt),
+          λ _.
+              (of-moved-on i (token (x .st)), tt),
+        ),
       ),
     ),
   ),
@@ -169,7 +210,8 @@ of-transfer i = (
                   (tt, λ _. tt),
                   λ frame. (
                     λ _. tt,
-                    λ g. of-served i (framed x (isoFor (token (x .st)) o n) (g .«sof_frame») frame) (isoFor (token (x .st)) o n) frame,
+                    λ g. of-served i (framed x (isoFor (token (x .st)) o n) (g .«sof_frame») frame)
+                        (isoFor (token (x .st)) o n) frame,
                   ),
                 ),
               ),
@@ -188,7 +230,17 @@ of-setup i = (
     (tt, tt),
     λ _. (
       λ _. tt,
-      λ _. (λ _. tt, λ _. ((λ _. tt, λ _. tt), λ _. ((λ _. tt, λ _. tt), λ _. ((λ _. tt, λ _. tt), λ _. ((tt, tt), λ _. (tt, λ _. tt)))))),
+      λ _. (
+        λ _. tt,
+        λ _. (
+          (λ _. tt, λ _. tt),
+          λ _. (
+            (λ _. tt, λ _. tt),
+            λ _.
+                ((λ _. tt, λ _. tt), λ _. ((tt, tt), λ _. (tt, λ _. tt))),
+          ),
+        ),
+      ),
     ),
   ),
 )
@@ -214,4 +266,17 @@ of-completions i zero e = tt
 of-completions i (suc n) e = (of-complete i e, λ _. of-completions i n e)
 
 pub of-advance : (i : Bool) (e : ℕ) → N (isoInAdvance {i = i} e)
-of-advance i e = (λ _. tt, λ _. ((((tt, λ _. tt), λ frame. (λ _. tt, λ last. (of-completions i (completions last (indexOf frame)) e, λ _. tt))), tt), tt))
+of-advance i e = (
+  λ _. tt,
+  λ _. (
+    (
+      (
+        (tt, λ _. tt),
+        λ frame.
+            (λ _. tt, λ last. (of-completions i (completions last (indexOf frame)) e, λ _. tt)),
+      ),
+      tt,
+    ),
+    tt,
+  ),
+)

@@ -5,7 +5,8 @@ use Prim.Native.Nat.{ℕ}
 use Rattle.script.specs.Calls.{Op, interrupt, slotted, other, aside, SetEnabled, PollRead, BeginWrite, PollWrite}
 use Rattle.script.specs.Calls.{PollDataOut, BeginDataIn, Allocate, AllocateAll, Start, BusPoll, BusEnable}
 use Rattle.script.specs.Calls.{BusDisable, Microframe, SetStalled, IsStalled, SetPaced, Advance, BeginRead}
-use Rattle.script.specs.Calls.{BeginSetup, PollSetup, PollDataIn, BeginAccept, PollAccept, BeginReject, BeginDataOut}
+use Rattle.script.specs.Calls.{BeginSetup, PollSetup, PollDataIn, BeginAccept, PollAccept, BeginReject}
+use Rattle.script.specs.Calls.{BeginDataOut}
 use Rattle.script.specs.Calls.{BeginAcceptSetAddress}
 use Rattle.script.specs.Steps.{Kind, reading, receiving, starting, kindOf, is}
 
@@ -21,7 +22,8 @@ pub data Begins : Op → Type 0 where
   ep0 : (maximum : ℕ) → Begins (other (Start maximum))
   none : (o : Op) → Common (kindOf o) → Begins o
 
-common : (o : Op) → is (kindOf o) reading ≡ false → is (kindOf o) receiving ≡ false → is (kindOf o) starting ≡ false → Begins o
+common : (o : Op) → is (kindOf o) reading ≡ false → is (kindOf o) receiving ≡ false → is (kindOf o) starting ≡ false
+    → Begins o
 common o r d s = none o (record { no-read = r; no-data-out = d; no-start = s })
 
 pub begins : (o : Op) → Begins o
@@ -32,7 +34,8 @@ begins (slotted (BeginWrite e bs)) = common (slotted (BeginWrite e bs)) refl ref
 begins (slotted (PollWrite e bs)) = common (slotted (PollWrite e bs)) refl refl refl
 begins (slotted (PollDataOut n)) = common (slotted (PollDataOut n)) refl refl refl
 begins (slotted (BeginDataIn bs first last)) = common (slotted (BeginDataIn bs first last)) refl refl refl
-begins (other (Allocate d kind address maximum interval)) = common (other (Allocate d kind address maximum interval)) refl refl refl
+begins (other (Allocate d kind address maximum interval))
+    = common (other (Allocate d kind address maximum interval)) refl refl refl
 begins (other (AllocateAll bytes)) = common (other (AllocateAll bytes)) refl refl refl
 begins (other (Start maximum)) = ep0 maximum
 begins (other BusPoll) = common (other BusPoll) refl refl refl

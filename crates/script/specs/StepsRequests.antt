@@ -1,4 +1,5 @@
--- The begins and polls of reads, writes and control stages do what Steps.antt says of their kind. Proofs as in StepsInterrupt
+-- The begins and polls of reads, writes and control stages do what Steps.antt says of their kind. Proofs as in
+-- StepsInterrupt
 use mathlib.Core.Bool.{Bool, true, false}
 use mathlib.Core.List.{List}
 use Prim.Native.Nat.{ℕ}
@@ -85,14 +86,24 @@ of-begin-data-out n first =
 
 pub of-poll-data-out : (n : ℕ) → Steps plain (pollDataOut {i = false} n)
 of-poll-data-out n = behind (asked (λ c. (
-  (λ _. tt, λ _. (((λ _. tt, λ _. tt), λ _. ((tt, λ _. tt), (λ _. tt, λ _. (tt, λ _. tt)))), (λ _. tt, λ _. ((tt, λ _. tt), tt)))),
+  (
+    λ _. tt,
+    λ _. (
+      ((λ _. tt, λ _. tt), λ _. ((tt, λ _. tt), (λ _. tt, λ _. (tt, λ _. tt)))),
+      (λ _. tt, λ _. ((tt, λ _. tt), tt)),
+    ),
+  ),
   ((λ _. tt, λ _. tt), λ _. (tt, λ _. tt)),
 )))
 
 pub of-begin-data-in : (bs : List ℕ) (first last : Bool) → Steps plain (beginDataIn {i = false} bs first last)
 of-begin-data-in bs first last = behind (unless (unless (noted (resultless (noted (
   (λ _. tt, λ _. tt),
-  λ _. ((((λ _. tt, λ _. tt), λ _. (tt, tt)), tt), λ _. ((λ _. tt, λ _. tt), λ _. ((tt, tt), λ _. of-acks plain In first))),
+  λ _. (
+    (((λ _. tt, λ _. tt), λ _. (tt, tt)), tt),
+    λ _.
+        ((λ _. tt, λ _. tt), λ _. ((tt, tt), λ _. of-acks plain In first)),
+  ),
 ))))))
 
 of-closing : (now : Bool) (c : Control) → Steps plain (take-closing {i = false} now c)

@@ -12,7 +12,8 @@ use Rattle.script.specs.Steps.{Kind, queueing, is, mayPut, mayAct, mayRo
 -- K at each access and at each end, whatever is read and whatever state of K the next call finds
 pub data Holds {S : Type 0} (K : S → Type 0) {A : Type 0} : tree.Out S A → Type 0 where
   end : {a : A} {s : S} → K s → Holds K (ends a s)
-  ask : {q : Access} {s : S} {k : ℕ → S → tree.Out S A} → K s → ((v : ℕ) (t : S) → K t → Holds K (k v t)) → Holds K (asks q s k)
+  ask : {q : Access} {s : S} {k : ℕ → S → tree.Out S A} → K s → ((v : ℕ) (t : S) → K t → Holds K (k v t))
+      → Holds K (asks q s k)
 
 -- what a law over the states of a kind of calls is to be told: each step keeps K
 pub record Keeps {S : Type 0} (O : Ops S) (K : S → Type 0) (k : Kind) : Type 0 where

@@ -10,20 +10,21 @@ use Rattle.regs.specs.declared.Reg.the-variants.{IntFg, DevAd, EpConfig}
 use Rattle.regs.specs.Registers.{numberOf}
 use Rattle.script.specs.Tree as tree
 use Rattle.script.specs.Tree.{bindOut}
-use Rattle.script.specs.Script.{Script, ret, bind, test, read-then, write-then, wait-then, callback-then, get-then}
+use Rattle.script.specs.Script.{Script, ret, bind, test, read-then, write-then, wait-then, callback-then}
+use Rattle.script.specs.Script.{get-then}
 use Rattle.script.specs.Script.{put-then, is-then, look-then, fetch-then, act-then, hand-then, row-then, Ops, run}
 use Rattle.script.specs.Script.{rows, DmaStep, dmaStepAsk, Burst, burstAsk, switch, bus-reset, lastOf}
 use Rattle.script.specs.Every.{sameReg}
 use Rattle.script.specs.EveryLaws.{Only}
 use Rattle.script.specs.Steps.{Kind, turning, resetting, queueing, codeOf, is, mayAddress, mayWrite, mayAsk}
-use Rattle.script.specs.Steps.{mayPut, mayAct, mayRow, If, Asks, Steps}
+use Rattle.script.specs.Steps.{mayPut, mayAct, mayRow, When, Asks, Steps}
 use Rattle.script.specs.StepsRuns.{Holds, end, ask, Keeps}
 
-pub if-true : (b : Bool) (X : Type 0) → If b X → b ≡ true
+pub if-true : (b : Bool) (X : Type 0) → When b X → b ≡ true
 if-true true X x = refl
 if-true false X x = absurd x
 
-pub if-so : (b : Bool) {X : Type 0} → If b X → X
+pub if-so : (b : Bool) {X : Type 0} → When b X → X
 if-so true x = x
 if-so false x = absurd x
 
@@ -93,7 +94,8 @@ module _ {Ok : Access → Type 0} (k : Kind) (ok : (q : Access) → mayAsk k q �
   accesses (look-then q f) x = λ n. accesses (f n) (x n)
   accesses (fetch-then q f) x = λ l. accesses (f l) (x l)
   accesses (act-then q p) x = accesses p (if-so (mayAct k q) x)
-  accesses (hand-then q p) x = let y : Handed k q p = if-so (not (is k queueing)) x in (λ n. told _ (y .0 n), accesses p (y .1))
+  accesses (hand-then q p) x = let y : Handed k q p = if-so (not (is k queueing)) x in
+      (λ n. told _ (y .0 n), accesses p (y .1))
   accesses (row-then g p) x =
       (λ n y. ok _ (row-asks k g (if-true (mayRow k g) (Steps k p) x) n y), accesses p (if-so (mayRow k g) x))
 
@@ -105,7 +107,8 @@ module _ {S : Type 0} {K : S → Type 0} where
   holds-bind (end h) g = g _ _ h
   holds-bind (ask h x) g = ask h (λ v t j. holds-bind (x v t j) g)
 
-  pub holds-rows : {A : Type 0} (O : Ops S) (g : Burst) → ((n : ℕ) (s : S) → K s → K (O .row g n s .1)) → (n : ℕ) {f : S → tree.Out S A}
+  pub holds-rows : {A : Type 0} (O : Ops S) (g : Burst) → ((n : ℕ) (s : S) → K s → K (O .row g n s .1))
+      → (n : ℕ) {f : S → tree.Out S A}
       → ((t : S) → K t → Holds K (f t)) → (s : S) → K s → Holds K (rows O g n f s)
   holds-rows O g m zero x s j = ask (m zero s j) (λ v t l. x t l)
   holds-rows O g m (suc n) x s j = ask (m (suc n) s j) (λ v t l. holds-rows O g m n x t l)
@@ -122,13 +125,16 @@ module _ {S : Type 0} {O : Ops S} {K : S → Type 0} {k : Kind} (m : Keeps O K k
   holds-run (wait-then n p) x s j = ask j (λ _ t l. holds-run p (x .1) t l)
   holds-run (callback-then p) x s j = ask j (λ _ t l. holds-run p (x .1) t l)
   holds-run (get-then c f) x s j = holds-run (f (O .get c s)) (x (O .get c s)) s j
-  holds-run (put-then c v p) x s j = holds-run p (if-so (mayPut k c v) x) (O .put c v s) (m .put c v (if-true (mayPut k c v) (Steps k p) x) s j)
+  holds-run (put-then c v p) x s j = holds-run p (if-so (mayPut k c v) x) (O .put c v s)
+      (m .put c v (if-true (mayPut k c v) (Steps k p) x) s j)
   holds-run (is-then q f) x s j = holds-run (f (O .is q s)) (x (O .is q s)) s j
   holds-run (look-then q f) x s j = holds-run (f (O .look q s)) (x (O .look q s)) s j
   holds-run (fetch-then q f) x s j = holds-run (f (O .fetch q s)) (x (O .fetch q s)) s j
-  holds-run (act-then q p) x s j = holds-run p (if-so (mayAct k q) x) (O .act q s) (m .act q (if-true (mayAct k q) (Steps k p) x) s j)
+  holds-run (act-then q p) x s j = holds-run p (if-so (mayAct k q) x) (O .act q s)
+      (m .act q (if-true (mayAct k q) (Steps k p) x) s j)
   holds-run (hand-then q p) x s j =
       let y : Handed k q p = if-so (not (is k queueing)) x in
       ask (m .hand q (if-true (not (is k queueing)) (Handed k q p) x) s j) (λ _ t l. holds-run p (y .1) t l)
   holds-run (row-then g p) x s j =
-      holds-rows O g (m .row g (if-true (mayRow k g) (Steps k p) x)) (lastOf g) (λ t l. holds-run p (if-so (mayRow k g) x) t l) s j
+      holds-rows O g (m .row g (if-true (mayRow k g) (Steps k p) x)) (lastOf g)
+      (λ t l. holds-run p (if-so (mayRow k g) x) t l) s j

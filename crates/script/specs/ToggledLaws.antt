@@ -4,7 +4,6 @@ use mathlib.Core.List.{List, [], _∷_}
 use mathlib.Core.Path.{_≡_, refl, ap, sym, _∙_}
 use Prim.Native.Nat.{ℕ, zero, suc, _≤_}
 use native.Mathlib.Omega.{arith}
-use lib.Dec.{eqb}
 use Rattle.regs.specs.declared.Access.{Access}
 use Rattle.regs.specs.declared.Access.the-variants.{Read, Write}
 use Rattle.regs.specs.declared.Dir.{Dir}
@@ -15,11 +14,11 @@ use Rattle.script.specs.Tree as tree
 use Rattle.script.specs.Cells.{EpCore, ep-cell}
 use Rattle.script.specs.Script.{Ops, run}
 use Rattle.script.specs.Statics.{isOn, flag, withArmed, withTog}
-use Rattle.script.specs.Handler.{looks, repeated, verdict, toggled}
+use Rattle.script.specs.Handler.{looks, repeated, verdict}
 use Rattle.script.specs.Every.{onWrite, Chip, Every, at-end, at-ask}
 use Rattle.script.specs.EveryLaws.{every-bind, every-cond}
-use Rattle.script.specs.Usb20Toggles.{Pid, Transaction, bitAfterAll, passed}
-use Rattle.script.specs.TogglesLaws.{number, shown, repeated-not-passed}
+use Rattle.script.specs.Usb20Toggles.{Pid}
+use Rattle.script.specs.TogglesLaws.{number, shown}
 
 pub ack-keeps : (w : ℕ) → toggle (ack w) ≡ toggle w
 unfolding ack withResponse response toggle
@@ -35,7 +34,12 @@ written ws q = onWrite (λ r e v. Write r e v ∷ ws) ws q
 
 -- the chip's toggle of the endpoint's direction is the sequence bit p
 abbrev pub toggling : Dir → ℕ → Pid → Chip
-toggling d e p = record { Holds = List Access; Brings = λ ws q v. q ≡ Read (ctrlOf d) e → toggle v ≡ number p; after = written }
+toggling d e p = record {
+  Holds = List Access;
+  Brings = λ ws q v. q ≡ Read (ctrlOf d) e → toggle v ≡ number p;
+  after
+      = written;
+}
 
 -- the endpoint's record stays as it is between two accesses, and so does K of the state
 abbrev pub KeepsRecord : {S : Type 0} → (S → Type 0) → Ops S → Dir → ℕ → S → S → Type 0
@@ -62,7 +66,8 @@ recordAfter p true r = withArmed 0 (withTog (number p) r)
 recordAfter p false r = r
 
 -- of an endpoint whose record was r: whether a packet passed, the bit now
-pub record Toggled {S : Type 0} (O : Ops S) (d : Dir) (e : ℕ) (r : EpCore) (p : Pid) (new : Bool) (ws : List Access) (told : Bool) (t : S) : Type 0 where
+pub record Toggled {S : Type 0} (O : Ops S) (d : Dir) (e : ℕ) (r : EpCore) (p : Pid) (new : Bool) (ws : List Access)
+    (told : Bool) (t : S) : Type 0 where
   pub answer : told ≡ new
   pub recorded : O .get (ep-cell d e) t ≡ recordAfter p new r
   pub handshake : Answered d e p (not new && isOn (r .armed)) ws
@@ -70,14 +75,17 @@ pub record Toggled {S : Type 0} (O : Ops S) (d : Dir) (e : ℕ) (r : EpCore) (p 
 pub apart : {A : Type 0} → true ≡ false → A
 apart h = let z : _≡_ {A = ℕ} 0 1 = cc in absurd (omega arith)
 
-module _ {S : Type 0} (K : S → Type 0) (O : Ops S) (d : Dir) (e : ℕ) (assigns : Assigns K O d e) (r : EpCore) (p : Pid) where
+module _ {S : Type 0} (K : S → Type 0) (O : Ops S) (d : Dir) (e : ℕ) (assigns : Assigns K O d e) (r : EpCore)
+    (p : Pid) where
   abbrev Runs : {A : Type 0} → (List Access → A → S → Type 0) → List Access → tree.Out S A → Type 0
   Runs P ws o = Every (toggling d e p) (KeepsRecord K O d e) (λ _. Unit {0}) P ws o
 
-  looked : (i : Bool) (n : ℕ) (s : S) → O .get (ep-cell d e) s ≡ r → Runs (λ ws _ t. (ws ≡ []) × (O .get (ep-cell d e) t ≡ r)) [] (run O (looks {i = i} n) s)
+  looked : (i : Bool) (n : ℕ) (s : S) → O .get (ep-cell d e) s ≡ r
+      → Runs (λ ws _ t. (ws ≡ []) × (O .get (ep-cell d e) t ≡ r)) [] (run O (looks {i = i} n) s)
   unfolding looks
   looked i zero s h = at-end (refl, h)
-  looked i (suc n) s h = at-ask tt (λ v t _ k. every-cond (sieFree v) (λ _. at-end (refl, k .0 ∙ h)) (λ _. looked i n t (k .0 ∙ h)))
+  looked i (suc n) s h = at-ask tt (λ v t _ k. every-cond (sieFree v) (λ _. at-end (refl, k .0 ∙ h))
+      (λ _. looked i n t (k .0 ∙ h)))
 
   -- no packet passed
   repeats : (i : Bool) (ws : List Access) → ws ≡ [] → (u : S) (word : ℕ) → O .get (ep-cell d e) u ≡ r
@@ -111,18 +119,7 @@ module _ {S : Type 0} (K : S → Type 0) (O : Ops S) (d : Dir) (e : ℕ) (assign
       }))
 
   judged : (i : Bool) (new : Bool) (ws : List Access) → ws ≡ [] → (u : S) (word : ℕ) → K u → O .get (ep-cell d e) u ≡ r
-      → toggle word ≡ number p → repeated r word ≡ not new → Runs (Toggled O d e r p new) ws (run O (verdict {i = i} d e word) u)
+      → toggle word ≡ number p → repeated r word ≡ not new
+      → Runs (Toggled O d e r p new) ws (run O (verdict {i = i} d e word) u)
   judged i true ws n u word z h b y = renews i ws n u word z h b y
   judged i false ws n u word z h b y = repeats i ws n u word h y
-
--- the record has the bit b as it was, `ts` are the transactions since, of which at most one passed: the endpoint answers NAK after it
-pub toggled-meets : (i : Bool) {S : Type 0} (K : S → Type 0) (O : Ops S) (d : Dir) (e : ℕ) → Assigns K O d e
-    → (b : Pid) (ts : List (Transaction d)) → passed b ts ≤ 1 → (s : S) → O .get (ep-cell d e) s .tog ≡ number b
-    → Every (toggling d e (bitAfterAll b ts)) (KeepsRecord K O d e) (λ _. Unit {0})
-    (Toggled O d e (O .get (ep-cell d e) s) (bitAfterAll b ts) (eqb (passed b ts) 1)) [] (run O (toggled {i = i} d e) s)
-toggled-meets i K O d e assigns b ts h s is =
-    let r = O .get (ep-cell d e) s in
-    let p = bitAfterAll b ts in
-    every-bind (looked K O d e assigns r p i 2001 s refl)
-    (λ g _ t x. at-ask tt (λ word u y k. judged K O d e assigns r p i (eqb (passed b ts) 1) g
-    (x .0) u word (k .1) (k .0 ∙ x .1) (y refl) (repeated-not-passed r word b ts is (y refl) h)))

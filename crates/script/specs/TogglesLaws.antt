@@ -12,7 +12,7 @@ use Rattle.script.specs.Cells.{EpCore}
 use Rattle.script.specs.Statics.{flag}
 use Rattle.script.specs.Handler.{repeated}
 use Rattle.script.specs.Usb20Toggles.{Pid, DATA0, DATA1, other, Transaction, received, passes}
-use Rattle.script.specs.Usb20Toggles.{acknowledges, bitAfter, bitAfterAll, count, passed}
+use Rattle.script.specs.Usb20Toggles.{bitAfter, bitAfterAll, count, passed}
 
 -- a bit as the control word and the driver's record have it
 abbrev pub number : Pid → ℕ
@@ -33,11 +33,6 @@ one-more b false n = let e : n ≡ 0 + n = omega arith in ap (λ (m : ℕ). time
 pub bit-counts : {d : Dir} (b : Pid) (ts : List (Transaction d)) → bitAfterAll b ts ≡ times (passed b ts) b
 bit-counts b [] = refl
 bit-counts b (t ∷ ts) = bit-counts (bitAfter b t) ts ∙ one-more b (passes b t) (passed (bitAfter b t) ts)
-
--- a packet whose ID is not the bit: acknowledged and not delivered
-pub repeat-acknowledged : (p : Pid) → (acknowledges (received p) ≡ true) × (passes (other p) (received p) ≡ false)
-repeat-acknowledged DATA0 = (refl, refl)
-repeat-acknowledged DATA1 = (refl, refl)
 
 -- however often a packet comes again after lost ACKs, it passes once
 abbrev pub again : ℕ → Pid → List (Transaction Out)
@@ -67,7 +62,8 @@ kept DATA0 (suc zero) h = refl
 kept DATA1 (suc zero) h = refl
 kept b (suc (suc n)) h = absurd (omega arith)
 
--- the record has the bit as it was, the word the bit after the transactions since, of which at most one passed: a repeat is what did not pass
+-- the record has the bit as it was, the word the bit after the transactions since, of which at most one passed: a
+-- repeat is what did not pass
 pub repeated-not-passed : {d : Dir} (s : EpCore) (word : ℕ) (b : Pid) (ts : List (Transaction d))
     → s .tog ≡ number b → toggle word ≡ number (bitAfterAll b ts) → passed b ts ≤ 1
     → repeated s word ≡ not (eqb (passed b ts) 1)

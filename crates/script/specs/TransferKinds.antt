@@ -1,4 +1,5 @@
--- The endpoints' sorts: which are isochronous. They come with the allocation, and no call that passes during an interrupt changes them
+-- The endpoints' sorts: which are isochronous. They come with the allocation, and no call that passes during an
+-- interrupt changes them
 use mathlib.Core.Bool.{Bool, true, false, _||_}
 use mathlib.Core.List.{[], _∷_}
 use mathlib.Core.Path.{_≡_}
@@ -8,7 +9,8 @@ use Rattle.regs.specs.declared.Dir.{Dir}
 use Rattle.regs.specs.declared.Dir.the-variants.{Out, In}
 use Rattle.script.specs.Tree as tree
 use Rattle.script.specs.Tree.{ends, asks}
-use Rattle.script.specs.Cells.{Cell, Val, globals-cell, control-cell, allocator-cell, ep-cell, request-cell, paced-cell}
+use Rattle.script.specs.Cells.{Cell, Val, globals-cell, control-cell, allocator-cell, ep-cell, request-cell}
+use Rattle.script.specs.Cells.{paced-cell}
 use Rattle.script.specs.Script.{Ops, Act}
 use Rattle.script.specs.Script.{allocate, allocate0, DmaStep}
 use Rattle.script.specs.Acts.{sameAct}

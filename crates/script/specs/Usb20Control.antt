@@ -1,5 +1,5 @@
--- Control transfers by USB 2.0, 8.5.3: a setup stage, a data stage of any number of packets in one direction or none, a status stage. Assumes nothing.
-use mathlib.Core.Bool.{Bool, cond}
+-- Control transfers by USB 2.0, 8.5.3: a setup stage, a data stage of any number of packets in one direction or none, a
+-- status stage. Assumes nothing.
 use Prim.Native.Nat.{ℕ, zero, suc}
 use Rattle.regs.specs.declared.Dir.{Dir}
 use Rattle.regs.specs.declared.Dir.the-variants.{Out, In}
@@ -25,7 +25,3 @@ opposite In = Out
 abbrev pub statusDir : Dir → ℕ → Dir
 statusDir d zero = In
 statusDir d (suc packets) = opposite d
-
--- the device's address takes 7 bits (8.3.2.1). Set Address changes it once the status stage is complete, and not before (9.4.6)
-abbrev pub addressAfter : Bool → ℕ → ℕ → ℕ
-addressAfter completed new old = cond completed new old

@@ -1,4 +1,5 @@
--- Data toggle synchronization by USB 2.0, 8.6: two ends of a pipe, each with a sequence bit, and what a transaction does to the device's. Assumes nothing.
+-- Data toggle synchronization by USB 2.0, 8.6: two ends of a pipe, each with a sequence bit, and what a transaction
+-- does to the device's. Assumes nothing.
 use mathlib.Core.Bool.{Bool, true, false, cond}
 use mathlib.Core.List.{List, [], _∷_}
 use Prim.Native.Nat.{ℕ, _+_}
@@ -26,8 +27,9 @@ pub data Transaction : Dir → Type 0 where
   acknowledged : Transaction In  -- the host's ACK came
   unacknowledged : Transaction In  -- it did not, or no data was sent
 
--- a new packet goes through. The receiver takes a packet as new where its ID is the sequence bit (8.6.2), and as the last one again,
--- sent because the ACK was lost, where it is not (8.6.4); the transmitter's went through once it is acknowledged (8.6.2)
+-- a new packet goes through. The receiver takes a packet as new where its ID is the sequence bit (8.6.2), and as the
+-- last one again, sent because the ACK was lost, where it is not (8.6.4); the transmitter's went through once it is
+-- acknowledged (8.6.2)
 abbrev pub passes : {d : Dir} → Pid → Transaction d → Bool
 passes b (received p) = same b p
 passes b not-taken = false
@@ -37,11 +39,6 @@ passes b unacknowledged = false
 -- either end's bit changes with each new packet (8.6.2) and with nothing else (8.6.3, 8.6.4)
 abbrev pub bitAfter : {d : Dir} → Pid → Transaction d → Pid
 bitAfter b t = cond (passes b t) (other b) b
-
--- the receiver acknowledges what it received, the new and the repeated (8.6.2, 8.6.4)
-abbrev pub acknowledges : Transaction Out → Bool
-acknowledges (received p) = true
-acknowledges not-taken = false
 
 -- and over transactions, the first at the head: the bit, and how many new packets
 abbrev pub bitAfterAll : {d : Dir} → Pid → List (Transaction d) → Pid

@@ -1,4 +1,5 @@
--- What is told of an endpoint's oldest packet where one waits, its length or its stamp, and 0 where none does. Assumes nothing.
+-- What is told of an endpoint's oldest packet where one waits, its length or its stamp, and 0 where none does. Assumes
+-- nothing.
 use mathlib.Core.Bool.{Bool, true, false, cond}
 use mathlib.Core.Path.{_≡_, sym, ap, _∙_}
 use Prim.Native.Nat.{ℕ}

@@ -1,4 +1,5 @@
--- A kept word with the bit of an isochronous OUT is stored: a step of the row that enables or disables it. Assumes nothing.
+-- A kept word with the bit of an isochronous OUT is stored: a step of the row that enables or disables it. Assumes
+-- nothing.
 use mathlib.Core.Bool.{Bool}
 use mathlib.Core.List.{List}
 use mathlib.Core.Path.{_≡_, ap, _∙_}
@@ -8,7 +9,8 @@ use Rattle.state.specs.Driver.{withGlobals}
 use Rattle.state.specs.State.{view, saved}
 use Rattle.script_ops.specs.Rings.{switchedOn}
 
-pub stepped : (xs ys : List ℕ) (e : ℕ) (on : Bool) (word : Globals → ℕ) (anew : ℕ → Globals → Globals) (g : Globals) (v : ℕ)
+pub stepped : (xs ys : List ℕ) (e : ℕ) (on : Bool) (word : Globals → ℕ) (anew : ℕ → Globals → Globals) (g : Globals)
+    (v : ℕ)
     → g ≡ view xs .globals → v ≡ switchedOn (view xs) e on (word g)
     → (view ys ≡ withGlobals (view xs) (anew v (view xs .globals))) × (saved ys ≡ saved xs)
     → let w = switchedOn (view xs) e on (word (view xs .globals)) in

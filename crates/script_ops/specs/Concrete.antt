@@ -1,10 +1,10 @@
 -- The operations of scripts on the driver's own state and the lent buffer
-use mathlib.Core.Bool.{Bool, true, false}
+use mathlib.Core.Bool.{Bool}
 use mathlib.Core.List.{List}
 use Prim.Native.Nat.{ℕ, _+_, _*_}
-use Rattle.regs.specs.declared.Dir.{Dir}
-use Rattle.regs.specs.declared.Dir.the-variants.{Out, In}
-use Rattle.state.specs.Driver.{Driver, epOn, withOn, pacedOn, withPacedOn, requestOn, withRequestOn, withGlobals, withControl, withWakes, noneGathered}
+use Rattle.regs.specs.declared.Dir.the-variants.{Out}
+use Rattle.state.specs.Driver.{Driver, epOn, withOn, pacedOn, withPacedOn, requestOn, withRequestOn, withGlobals}
+use Rattle.state.specs.Driver.{withControl, withWakes, noneGathered}
 use Rattle.state.specs.Wakes.{listed, all-woken}
 use Rattle.ring.specs.Copies.{bytesAt}
 use Rattle.script.specs.Tree as tree
@@ -75,7 +75,17 @@ handOn (place d e) s = (placeOn d e (s .0) .0, (placeOn d e (s .0) .1, s .1))
 handOn place0 s = (s .0 .globals .«ep0_buf», s)
 
 abbrev pub concrete : Ops St
-concrete = record { get = getOn; put = putOn; is = isOf; look = lookOf; fetch = fetchOf; act = actOn; hand = handOn; row = rowOn }
+concrete = record {
+  get = getOn;
+  put = putOn;
+  is = isOf;
+  look = lookOf;
+  fetch = fetchOf;
+  act = actOn;
+  hand = handOn;
+  row
+      = rowOn;
+}
 
 -- a script's run from a driver and a buffer
 abbrev pub go : {i : Bool} {A : Type 0} → Script i A → Driver → List ℕ → tree.Out St A

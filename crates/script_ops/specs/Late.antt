@@ -33,13 +33,15 @@ module _ (e : ℕ) (s : St) {b packet : List ℕ} (p : LatePacket (epOn (s .0) O
   -- it is looked at with its length
   pub late-length : concrete .look (marked e) s ≡ length packet
   unfolding markedOn
-  late-length = true-length b (epOn (s .0) Out e .«armed_slot») (epOn (s .0) Out e .«max_len») packet (p .fits) (p .small) (s .1) (p .alone) (p .last)
+  late-length = true-length b (epOn (s .0) Out e .«armed_slot») (epOn (s .0) Out e .«max_len») packet (p .fits)
+      (p .small) (s .1) (p .alone) (p .last)
 
   -- and the bytes of that length are its own
   pub late-bytes : bytesAt (s .1) (epOn (s .0) Out e .«armed_slot») (concrete .look (marked e) s) ≡ packet
   late-bytes =
       ap (bytesAt (s .1) (epOn (s .0) Out e .«armed_slot»)) late-length
-      ∙ true-bytes b (epOn (s .0) Out e .«armed_slot») (epOn (s .0) Out e .«max_len») packet (p .fits) (p .small) (s .1) (p .alone)
+      ∙ true-bytes b (epOn (s .0) Out e .«armed_slot») (epOn (s .0) Out e .«max_len») packet (p .fits) (p .small) (s .1)
+      (p .alone)
 
 -- ---- where a slot is armed: its address is handed out, recorded, and the slot is left as arming leaves it
 

@@ -1,4 +1,5 @@
--- What the points of every operation have in common: a direction as a number, the record that a point is saved in, what fits a reading
+-- What the points of every operation have in common: a direction as a number, the record that a point is saved in, what
+-- fits a reading
 use mathlib.Core.Bool.{Bool, true, cond}
 use Prim.Native.Nat.{ℕ}
 use lib.Dec.{eqb}
@@ -15,7 +16,8 @@ dirAs In = 1
 abbrev pub dirOf : ℕ → Dir
 dirOf n = cond (eqb n 0) Out In
 
--- the fields that some operation's point has. `tag`, which says whose point it is, is the caller's; the rest are the interrupt's
+-- the fields that some operation's point has. `tag`, which says whose point it is, is the caller's; the rest are the
+-- interrupt's
 abbrev pub numbers : ℕ → ℕ → ℕ → ℕ → ℕ → ℕ → ℕ → ℕ → ℕ → Saved
 numbers sub site flag busy late st ep len value = record {
   tag = 0;

@@ -2,7 +2,7 @@
 use mathlib.Core.Path.{_≡_, refl, sym, ap, _∙_}
 use mathlib.Core.Bool.{Bool, true, false, not, cond, _&&_}
 use mathlib.Core.List.{List}
-use Prim.Native.Nat.{ℕ, suc, _+_, _≤_}
+use Prim.Native.Nat.{ℕ, _+_, _≤_}
 use native.Mathlib.Numerals.{add-one}
 use native.Mathlib.Omega.{arith}
 use lib.Dec.{ltb}
@@ -17,15 +17,9 @@ use Rattle.state.specs.Laws.{epOn-stored, withOn-twice}
 use Rattle.ring.specs.Slot.{slotOf, slotAddr}
 use Rattle.ring.specs.Out.{hasRoomOut, arrivedOf, armedAt}
 use Rattle.ring.specs.In.{hasRoomIn}
-use Rattle.ring.specs.Copies.{bytesAt}
 use Rattle.script.specs.Statics.{isOn}
-use Rattle.script_ops.specs.Rings.{roomIn, oldestOn, oldestAt, nextLen, resetBelow}
+use Rattle.script_ops.specs.Rings.{roomIn, resetBelow}
 use Rattle.script_ops.specs.Rings.{writtenOn, recordedOn, admittedOn, armBy, armAt, arrivedAt}
-
--- the oldest packet's bytes, by its place and its length
-pub oldest-bytes : (d : Driver) (e : ℕ) (b : List ℕ) → oldestOn d e b ≡ bytesAt b (oldestAt d e) (nextLen d Out e)
-unfolding oldestOn
-oldest-bytes d e b = refl
 
 third : (x y z : Bool) → (x && (y && not z)) ≡ true → z ≡ false
 third true true false h = refl
@@ -53,10 +47,12 @@ reset-next n d x h = ap (λ (y : Driver). renewed In n (renewed Out n y)) h ∙ 
 -- ---- a record loaded once and stored once
 
 -- a record that is stored, then loaded and armed
-arm-stored : (e i : ℕ) (d : Driver) (b : List ℕ) (r : EpState) → length (d .eps) ≡ 32 → armAt e i (withOn d Out e r, b) ≡ armBy e r i (d, b)
+arm-stored : (e i : ℕ) (d : Driver) (b : List ℕ) (r : EpState) → length (d .eps) ≡ 32 → armAt e i (withOn d Out e r, b)
+    ≡ armBy e r i (d, b)
 arm-stored e i d b r h =
     ap (λ (q : EpState). armBy e q i (withOn d Out e r, b)) (epOn-stored d Out e r h)
-    ∙ ap (λ (x : Driver). (armBy e r i (d, b) .0, (x, armBy e r i (d, b) .1 .1))) (withOn-twice d Out e r (armedAt r (slotAddr r i)))
+    ∙ ap (λ (x : Driver). (armBy e r i (d, b) .0, (x, armBy e r i (d, b) .1 .1)))
+    (withOn-twice d Out e r (armedAt r (slotAddr r i)))
 
 recorded-eps : (d : Driver) (e len : ℕ) → recordedOn d e len .eps ≡ d .eps
 unfolding recordedOn withLenOn withStampOn
@@ -68,10 +64,12 @@ recorded-eps d e len = by (hasRoomOut (epOn d Out e))
 
 -- an arrival: the packet recorded, then the record with the arrival and the head's slot armed
 pub arrived-once : (e len : ℕ) (d : Driver) (b : List ℕ) → length (d .eps) ≡ 32
-    → armBy e (arrivedOf (epOn d Out e)) (arrivedOf (epOn d Out e) .head) (recordedOn d e len, b) ≡ arrivedAt e len (d, b)
+    → armBy e (arrivedOf (epOn d Out e)) (arrivedOf (epOn d Out e) .head) (recordedOn d e len, b)
+    ≡ arrivedAt e len (d, b)
 unfolding admittedOn
 arrived-once e len d b h =
     let x = recordedOn d e len in
     let r = arrivedOf (epOn d Out e) in
     let w = ap length (recorded-eps d e len) ∙ h in
-    sym (ap (λ (q : EpState). armAt e (q .head) (withOn x Out e r, b)) (epOn-stored x Out e r w) ∙ arm-stored e (r .head) x b r w)
+    sym (ap (λ (q : EpState). armAt e (q .head) (withOn x Out e r, b)) (epOn-stored x Out e r w)
+    ∙ arm-stored e (r .head) x b r w)

@@ -63,7 +63,8 @@ oldestOn d e b = bytesAt b (oldestAt d e) (nextLen d Out e)
 
 -- a word of the buffer, lowest byte first; past its end 0
 unfoldable pub wordAt : List ℕ → ℕ → ℕ
-wordAt b at = cond (ltb (length b) (at + 4)) 0 (getD b at 0 + getD b (at + 1) 0 * 256 + getD b (at + 2) 0 * 65536 + getD b (at + 3) 0 * 16777216)
+wordAt b at = cond (ltb (length b) (at + 4)) 0 (getD b at 0 + getD b (at + 1) 0 * 256 + getD b (at + 2) 0 * 65536
+    + getD b (at + 3) 0 * 16777216)
 
 -- ---- changes
 
@@ -135,7 +136,8 @@ arrivedAt e len s = armOn e (admittedOn (s .0) e len, s .1)
 
 unfoldable pub arriveOn : ℕ → ℕ → St → ℕ × St
 arriveOn e n s =
-    cond (isSet (isoOuts (s .0 .globals)) (e % 16)) (arrivedAt e (cappedAt (epOn (s .0) Out e) n) s) (epOn (s .0) Out e .«armed_slot», s)
+    cond (isSet (isoOuts (s .0 .globals)) (e % 16)) (arrivedAt e (cappedAt (epOn (s .0) Out e) n) s)
+    (epOn (s .0) Out e .«armed_slot», s)
 
 -- the oldest packet is being sent
 unfoldable pub sendOn : Driver → ℕ → Driver
@@ -172,7 +174,8 @@ unfoldable pub typeStep : ℕ → Bool → Driver → ℕ × Driver
 typeStep e on d = let v = switchedOn d e on (d .globals .«ep_type») in (v, withGlobals d (withEpType v (d .globals)))
 
 unfoldable pub configStep : ℕ → Bool → Driver → ℕ × Driver
-configStep e on d = let v = switchedOn d e on (d .globals .«ep_config») in (v, withGlobals d (withEpConfig v (d .globals)))
+configStep e on d = let v = switchedOn d e on (d .globals .«ep_config») in
+    (v, withGlobals d (withEpConfig v (d .globals)))
 
 abbrev pub switchStep : ℕ → Bool → ℕ → St → ℕ × St
 switchStep e on zero s = (configStep e on (s .0) .0, (configStep e on (s .0) .1, s .1))
@@ -190,7 +193,8 @@ resetBelow (suc n) d =
 
 -- 1213-1216; no stamp stays
 unfoldable pub resetAll : Driver → Driver
-resetAll d = let x = noStamps (resetBelow 16 d) in withGlobals x (withSetup 0 (x .globals .«setup_low») (x .globals .«setup_high») (x .globals))
+resetAll d = let x = noStamps (resetBelow 16 d) in withGlobals x
+    (withSetup 0 (x .globals .«setup_low») (x .globals .«setup_high») (x .globals))
 
 abbrev pub resetStep : ℕ → St → ℕ × St
 resetStep zero s = (0, (resetAll (s .0), s .1))

@@ -40,7 +40,8 @@ zero-lt e h = omega arith
 
 pub stallable-lt : (a : Allocator) (d : Dir) (e : ℕ) → stallable a d e ≡ true → e < 16
 unfolding stallable
-stallable-lt a d e h = either (eqb e 0) (isAllocated a d e) e (λ z. zero-lt e (eqb-true e 0 z)) (λ z. number-lt e (allocated-number a d e z)) h
+stallable-lt a d e h = either (eqb e 0) (isAllocated a d e) e (λ z. zero-lt e (eqb-true e 0 z))
+    (λ z. number-lt e (allocated-number a d e z)) h
 
 -- ---- the two rows before a call
 
@@ -61,13 +62,15 @@ module _ (d : Driver) (dir : Dir) (e : ℕ) (h : eqb (refusalOf d dir e) 0 ≡ t
   pub numbered : isNumber e ≡ true
   numbered = allocated-number (d .allocator) dir e allocated
 
-by-tests : {A : Type 0} (f : ℕ → A) (z : A) (x y : Bool) → cond x (cond y z (f 5)) (f 4) ≡ cond (eqb (cond x (cond y 0 5) 4) 0) z (f (cond x (cond y 0 5) 4))
+by-tests : {A : Type 0} (f : ℕ → A) (z : A) (x y : Bool) → cond x (cond y z (f 5)) (f 4)
+    ≡ cond (eqb (cond x (cond y 0 5) 4) 0) z (f (cond x (cond y 0 5) 4))
 by-tests f z true true = refl
 by-tests f z true false = refl
 by-tests f z false y = refl
 
 -- what a call comes to behind them: f at the row that refuses it, else z
 pub by-row : {A : Type 0} (f : ℕ → A) (z : A) (d : Driver) (dir : Dir) (e : ℕ)
-    → cond (eqb (d .globals .stage) 2) (cond (isAllocated (d .allocator) dir e) z (f 5)) (f 4) ≡ cond (eqb (refusalOf d dir e) 0) z (f (refusalOf d dir e))
+    → cond (eqb (d .globals .stage) 2) (cond (isAllocated (d .allocator) dir e) z (f 5)) (f 4)
+    ≡ cond (eqb (refusalOf d dir e) 0) z (f (refusalOf d dir e))
 unfolding refusalOf
 by-row f z d dir e = by-tests f z (eqb (d .globals .stage) 2) (isAllocated (d .allocator) dir e)

@@ -1,5 +1,5 @@
--- The microframe with each packet (request One): that of the interrupt under way where the packet is admitted, left alone where it is turned
--- away, gone after a reset. Assumes nothing.
+-- The microframe with each packet (request One): that of the interrupt under way where the packet is admitted, left
+-- alone where it is turned away, gone after a reset. Assumes nothing.
 use mathlib.Core.Path.{_≡_, refl, ap, _∙_}
 use mathlib.Core.Logic.{_≢_, _⊎_, inl, inr, ⊎-elim}
 use mathlib.Core.Bool.{Bool, true, false, cond}
@@ -17,11 +17,13 @@ use Rattle.state.specs.Laws.{Sized, stampKey-lt}
 use Rattle.ring.specs.Slot.{slotOf}
 use Rattle.ring.specs.Out.{hasRoomOut, cappedAt}
 use Rattle.script.specs.Statics.{isoOuts}
-use Rattle.script_ops.specs.Rings.{St, writtenOn, recordedOn, admittedOn, arrivedAt, arriveOn, renewedOn, resetAll}
+use Rattle.script_ops.specs.Rings.{St, writtenOn, recordedOn, admittedOn, arrivedAt, arriveOn, renewedOn}
+use Rattle.script_ops.specs.Rings.{resetAll}
 
 -- ---- an arrival
 
-either : (l : List ℕ) (on : Bool) (x y : ℕ × St) → x .1 .0 .stamps ≡ l → y .1 .0 .stamps ≡ l → cond on x y .1 .0 .stamps ≡ l
+either : (l : List ℕ) (on : Bool) (x y : ℕ × St) → x .1 .0 .stamps ≡ l → y .1 .0 .stamps ≡ l → cond on x y .1 .0 .stamps
+    ≡ l
 either l true x y p q = p
 either l false x y p q = q
 
@@ -63,7 +65,8 @@ module _ (e n : ℕ) (s : St) where
   unfolding stampOn
   admitted-stamp z on h =
       ap (λ (l : List ℕ). getD l (stampKey e place) 0) (admitted on h)
-      ∙ getD-set-same (d .stamps) (stampKey e place) (d .globals .entered) 0 (omega (arith, z .stamps, stampKey-lt e place))
+      ∙ getD-set-same (d .stamps) (stampKey e place) (d .globals .entered) 0
+      (omega (arith, z .stamps, stampKey-lt e place))
 
   pub admitted-other : isSet (isoOuts (d .globals)) (e % 16) ≡ true → hasRoomOut (epOn d Out e) ≡ true
       → (f j : ℕ) → stampKey f j ≢ stampKey e place → stampOn (arriveOn e n s .1 .0) f j ≡ stampOn d f j
@@ -92,7 +95,8 @@ filled-in l a zero v j h w = absurd (omega arith)
 filled-in l a (suc n) v j h w = elim (ℕ-discrete j n) [
   | yes p ↦ ap (λ (k : ℕ). getD (set (filled l a n v) (a + n) v) (a + k) 0) p
       ∙ getD-set-same (filled l a n v) (a + n) v 0 (omega (arith, length-filled l a n v))
-  | no p ↦ getD-set-other (filled l a n v) (a + n) (a + j) v 0 (λ z. p (omega arith)) ∙ filled-in l a n v j (omega arith) (omega arith)
+  | no p ↦ getD-set-other (filled l a n v) (a + n) (a + j) v 0 (λ z. p (omega arith))
+      ∙ filled-in l a n v j (omega arith) (omega arith)
 ]
 
 getD-none : (n i : ℕ) → _≡_ {A = ℕ} (getD (replicate n 0) i 0) 0

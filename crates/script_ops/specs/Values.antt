@@ -11,8 +11,8 @@ use Rattle.ring.specs.Out.{overrunOf}
 use Rattle.ring.specs.Table.{sample}
 use Rattle.ring.specs.Table as rings
 
--- indexes and frames; paced advances from 16,383 to 1, 5 to 5, 5 to 4; the length by marks of a slot with maximum 8; a ring's count, slot and
--- overruns
+-- indexes and frames; paced advances from 16,383 to 1, 5 to 5, 5 to 4; the length by marks of a slot with maximum 8; a
+-- ring's count, slot and overruns
 pub table :
     ((indexOf 0x0000 ≡ 0)
     × (indexOf 0xE7FF ≡ 16383)

@@ -14,11 +14,13 @@ ghost use Rattle.state.specs.Wakes.{wakeCode, busCode, codesFrom, every-endpoin
 ghost use Prim.Native.Nat.{_≤_, _%_};
 ghost use Rattle.alloc.specs.Alloc.{allocateOf, allocateEp0Of};
 ghost use Rattle.script.specs.Statics.{isoOuts};
-ghost use Rattle.script_ops.specs.Records.{isoOut, enabledOn, withSets, recordGiven, setsGiven, givenTo, allocatedOn, startedWith, allocatedEp0};
+ghost use Rattle.script_ops.specs.Records.{isoOut, enabledOn, withSets, recordGiven, setsGiven, givenTo};
+ghost use Rattle.script_ops.specs.Records.{allocatedOn, startedWith, allocatedEp0};
 ghost use Rattle.script_ops.specs.Rings.{placeOn, switchedOn, typeStep, configStep};
 
 pub fn wake(s: &mut State, dir: Dir, e: u8)
-    ensures { λ _. ⌜ view (now (s .exit)) ≡ withWakes (view (now (s .entry))) (woken (wakeCode dir e) (view (now (s .entry)) .wakes)) ⌝ }
+    ensures { λ _. ⌜ view (now (s .exit)) ≡ withWakes (view (now (s .entry)))
+        (woken (wakeCode dir e) (view (now (s .entry)) .wakes)) ⌝ }
     ensures { λ _. ⌜ saved (now (s .exit)) ≡ saved (now (s .entry)) ⌝ }
 {
     let code = state::wake_code(dir, e);
@@ -26,7 +28,8 @@ pub fn wake(s: &mut State, dir: Dir, e: u8)
 }
 
 pub fn wake_bus(s: &mut State)
-    ensures { λ _. ⌜ view (now (s .exit)) ≡ withWakes (view (now (s .entry))) (woken busCode (view (now (s .entry)) .wakes)) ⌝ }
+    ensures { λ _. ⌜ view (now (s .exit)) ≡ withWakes (view (now (s .entry)))
+        (woken busCode (view (now (s .entry)) .wakes)) ⌝ }
     ensures { λ _. ⌜ saved (now (s .exit)) ≡ saved (now (s .entry)) ⌝ }
 {
     state::wake(s, 32);
@@ -35,7 +38,8 @@ pub fn wake_bus(s: &mut State)
 // The sixteen codes from a.
 fn wake_sixteen(s: &mut State, a: u8)
     requires { ⌜ a ≤ 16 ⌝ }
-    ensures { λ _. ⌜ view (now (s .exit)) ≡ withWakes (view (now (s .entry))) (all-woken (codesFrom a 16) (view (now (s .entry)) .wakes)) ⌝ }
+    ensures { λ _. ⌜ view (now (s .exit)) ≡ withWakes (view (now (s .entry)))
+        (all-woken (codesFrom a 16) (view (now (s .entry)) .wakes)) ⌝ }
     ensures { λ _. ⌜ saved (now (s .exit)) ≡ saved (now (s .entry)) ⌝ }
 {
     let mut k: u8 = 0;
@@ -47,7 +51,8 @@ fn wake_sixteen(s: &mut State, a: u8)
 
 // OUT 0 to 15, then IN 0 to 15.
 pub fn wake_all(s: &mut State)
-    ensures { λ _. ⌜ view (now (s .exit)) ≡ withWakes (view (now (s .entry))) (all-woken every-endpoint (view (now (s .entry)) .wakes)) ⌝ }
+    ensures { λ _. ⌜ view (now (s .exit)) ≡ withWakes (view (now (s .entry)))
+        (all-woken every-endpoint (view (now (s .entry)) .wakes)) ⌝ }
     ensures { λ _. ⌜ saved (now (s .exit)) ≡ saved (now (s .entry)) ⌝ }
 {
     wake_sixteen(s, 16);

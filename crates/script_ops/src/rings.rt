@@ -1,5 +1,5 @@
-// The rings' operations on the driver and the lent buffer: what is asked of a ring, IN rings, reads of OUT rings, buffers that are no
-// ring's. Every function is total: any number is safe.
+// The rings' operations on the driver and the lent buffer: what is asked of a ring, IN rings, reads of OUT rings,
+// buffers that are no ring's. Every function is total: any number is safe.
 use regs::Dir;
 use ring::closed;
 use ring::completed;
@@ -171,7 +171,8 @@ pub fn complete(s: &mut State, e: u8)
 
 // The record of OUT e, stored where the answer is yes.
 fn store_where(s: &mut State, e: u8, yes: bool, r: EpState)
-    ensures { λ _. ⌜ view (now (s .exit)) ≡ cond yes (withOn (view (now (s .entry))) Out e r) (view (now (s .entry))) ⌝ }
+    ensures { λ _. ⌜ view (now (s .exit)) ≡ cond yes (withOn (view (now (s .entry))) Out e r)
+        (view (now (s .entry))) ⌝ }
     ensures { λ _. ⌜ saved (now (s .exit)) ≡ saved (now (s .entry)) ⌝ }
 {
     if yes {
@@ -231,7 +232,8 @@ fn length16(n: usize, most: u16) -> u16
 
 // A packet into the head's slot of an isochronous IN, where it has room (mod.rs 382-395).
 pub fn iso_in_enqueue(s: &mut State, buf: &mut [u8], e: u8, bytes: &[u8])
-    ensures { λ _. ⌜ view (now (s .exit)) ≡ enqueueOn e (now (bytes .entry)) (view (now (s .entry)), now (buf .entry)) .0 ⌝ }
+    ensures { λ _. ⌜ view (now (s .exit)) ≡ enqueueOn e (now (bytes .entry))
+        (view (now (s .entry)), now (buf .entry)) .0 ⌝ }
     ensures { λ _. ⌜ now (buf .exit) ≡ enqueueOn e (now (bytes .entry)) (view (now (s .entry)), now (buf .entry)) .1 ⌝ }
     ensures { λ _. ⌜ saved (now (s .exit)) ≡ saved (now (s .entry)) ⌝ }
 {

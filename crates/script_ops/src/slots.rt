@@ -1,5 +1,5 @@
-// Arrivals of isochronous OUT rings, the slots that an enabled endpoint starts with, and the reset of every record. Every function is
-// total: any number is safe.
+// Arrivals of isochronous OUT rings, the slots that an enabled endpoint starts with, and the reset of every record.
+// Every function is total: any number is safe.
 use crate::records::receives;
 use crate::rings::is_on;
 use regs::Dir;
@@ -26,7 +26,8 @@ ghost use lib.Dec.{eqb};
 ghost use Rattle.state.specs.Driver.{epOn, withOn};
 ghost use Rattle.state.specs.Ep.{resetOf};
 ghost use Rattle.state.specs.State.{view, saved};
-ghost use Rattle.script_ops.specs.Rings.{writtenOn, recordedOn, armBy, arrivedAt, arriveOn, renewedOn, slotStep, resetBelow, resetAll};
+ghost use Rattle.script_ops.specs.Rings.{writtenOn, recordedOn, armBy, arrivedAt, arriveOn, renewedOn, slotStep};
+ghost use Rattle.script_ops.specs.Rings.{resetBelow, resetAll};
 
 // The length of the packet in slot i (mod.rs 499), and its microframe, that of the interrupt under way.
 fn write_packet(s: &mut State, e: u8, i: u8, len: u16, entered: u16)
@@ -65,8 +66,8 @@ fn arm(s: &mut State, buf: &mut [u8], e: u8, r: EpState, i: u8) -> u32
     at
 }
 
-// An arrival of `len` bytes, not above the maximum: the packet is admitted or turned away (mod.rs 491-507), the head's slot armed, and
-// the record stored once.
+// An arrival of `len` bytes, not above the maximum: the packet is admitted or turned away (mod.rs 491-507), the head's
+// slot armed, and the record stored once.
 fn arrived(s: &mut State, buf: &mut [u8], e: u8, r: EpState, len: u16, entered: u16) -> u32
     requires { ⌜ r ≡ epOn (view (now s)) Out e ⌝ }
     requires { ⌜ entered ≡ view (now s) .globals .entered ⌝ }
@@ -108,7 +109,8 @@ fn renew(s: &mut State, e: u8)
 
 // Before the first of the slots, the last.
 fn renew_first(s: &mut State, e: u8, k: u8)
-    ensures { λ _. ⌜ view (now (s .exit)) ≡ cond (eqb k 15) (renewedOn (view (now (s .entry))) e) (view (now (s .entry))) ⌝ }
+    ensures { λ _. ⌜ view (now (s .exit)) ≡ cond (eqb k 15) (renewedOn (view (now (s .entry))) e)
+        (view (now (s .entry))) ⌝ }
     ensures { λ _. ⌜ saved (now (s .exit)) ≡ saved (now (s .entry)) ⌝ }
 {
     if k == 15 {
@@ -135,7 +137,8 @@ pub fn slot_step(s: &mut State, buf: &mut [u8], e: u8, k: u8) -> u32
 
 // An endpoint's record reset, in one direction.
 fn reset_one(s: &mut State, dir: Dir, e: u8)
-    ensures { λ _. ⌜ view (now (s .exit)) ≡ withOn (view (now (s .entry))) dir e (resetOf (epOn (view (now (s .entry))) dir e)) ⌝ }
+    ensures { λ _. ⌜ view (now (s .exit)) ≡ withOn (view (now (s .entry))) dir e
+        (resetOf (epOn (view (now (s .entry))) dir e)) ⌝ }
     ensures { λ _. ⌜ saved (now (s .exit)) ≡ saved (now (s .entry)) ⌝ }
 {
     let r = load_ep(s, dir, e);

@@ -1,4 +1,5 @@
--- A record's fields, put together: facts on five of them in front of those on the rest, and the stores that are left from a field on.
+-- A record's fields, put together: facts on five of them in front of those on the rest, and the stores that are left
+-- from a field on.
 -- Assumes nothing.
 use mathlib.Core.List.{List}
 use Prim.Native.Nat.{ℕ}

@@ -70,10 +70,12 @@ length-replicate (suc n) v = ap suc (length-replicate n v)
 pub filled-all : {A : Type 0} (l : List A) (n : ℕ) (v : A) → length l ≡ n → filled l 0 n v ≡ replicate n v
 filled-all l n v e =
     ext-getD v (filled l 0 n v) (replicate n v) (length-filled l 0 n v ∙ e ∙ sym (length-replicate n v))
-    (λ i b. getD-filled l 0 n v i (omega arith) (omega (arith, length-filled l 0 n v)) (omega (arith, length-filled l 0 n v)) ∙ sym (getD-replicate n v i))
+    (λ i b. getD-filled l 0 n v i (omega arith) (omega (arith, length-filled l 0 n v))
+    (omega (arith, length-filled l 0 n v)) ∙ sym (getD-replicate n v i))
 
 -- filled twice
-pub filled-twice : {A : Type 0} (l : List A) (n : ℕ) (u v : A) → length l ≡ n → filled (filled l 0 n u) 0 n v ≡ filled l 0 n v
+pub filled-twice : {A : Type 0} (l : List A) (n : ℕ) (u v : A) → length l ≡ n → filled (filled l 0 n u) 0 n v
+    ≡ filled l 0 n v
 filled-twice l n u v e = filled-all (filled l 0 n u) n v (length-filled l 0 n u ∙ e) ∙ sym (filled-all l n v e)
 
 -- a table of the driver: its list, and the driver with another list in its place
@@ -91,13 +93,34 @@ abbrev pub lens-table : Table ℕ
 lens-table = record { of = λ d. d .lens; anew = withLens; kept = λ d. refl; got = λ d l. refl; again = λ d l m. refl }
 
 abbrev pub stamps-table : Table ℕ
-stamps-table = record { of = λ d. d .stamps; anew = withStamps; kept = λ d. refl; got = λ d l. refl; again = λ d l m. refl }
+stamps-table = record {
+  of = λ d. d .stamps;
+  anew = withStamps;
+  kept = λ d. refl;
+  got = λ d l. refl;
+  again
+      = λ d l m. refl;
+}
 
 abbrev pub paced-table : Table ℕ
-paced-table = record { of = λ d. d .paced; anew = withPaced; kept = λ d. refl; got = λ d l. refl; again = λ d l m. refl }
+paced-table = record {
+  of = λ d. d .paced;
+  anew = withPaced;
+  kept = λ d. refl;
+  got = λ d l. refl;
+  again
+      = λ d l m. refl;
+}
 
 abbrev pub requests-table : Table Request
-requests-table = record { of = λ d. d .requests; anew = withRequests; kept = λ d. refl; got = λ d l. refl; again = λ d l m. refl }
+requests-table = record {
+  of = λ d. d .requests;
+  anew = withRequests;
+  kept = λ d. refl;
+  got = λ d l. refl;
+  again
+      = λ d l m. refl;
+}
 
 -- of the bytes w the k places from a of a table are filled, and nothing else changed
 abbrev pub Filled : {A : Type 0} → Table A → List ℕ → A → ℕ → ℕ → List ℕ → Type 0
@@ -108,12 +131,15 @@ module _ {A : Type 0} (t : Table A) (w : List ℕ) (v : A) where
   none-filled a = (sym (t .kept (view w)) ∙ ap (t .anew (view w)) (sym (filled-none (t .of (view w)) a v)), refl)
 
   -- one place more, the one at j
-  pub one-filled : (a k j : ℕ) (xs ys : List ℕ) → j ≡ a + k → view ys ≡ t .anew (view xs) (set (t .of (view xs)) j v) → saved ys ≡ saved xs
+  pub one-filled : (a k j : ℕ) (xs ys : List ℕ) → j ≡ a + k → view ys ≡ t .anew (view xs) (set (t .of (view xs)) j v)
+      → saved ys ≡ saved xs
       → Filled t w v a k xs → Filled t w v a (k + 1) ys
   one-filled a k j xs ys p e s h =
       let l = filled (t .of (view w)) a k v in (
-        e ∙ ap (λ (d : Driver). t .anew d (set (t .of d) j v)) (h .0) ∙ t .again (view w) l (set (t .of (t .anew (view w) l)) j v)
-            ∙ ap (λ (m : List A). t .anew (view w) (set m j v)) (t .got (view w) l) ∙ ap (λ (n : ℕ). t .anew (view w) (set l n v)) p
+        e ∙ ap (λ (d : Driver). t .anew d (set (t .of d) j v)) (h .0)
+            ∙ t .again (view w) l (set (t .of (t .anew (view w) l)) j v)
+            ∙ ap (λ (m : List A). t .anew (view w) (set m j v)) (t .got (view w) l)
+            ∙ ap (λ (n : ℕ). t .anew (view w) (set l n v)) p
             ∙ ap (t .anew (view w)) (filled-next (t .of (view w)) a k v),
         s ∙ h .1,
       )
@@ -130,7 +156,8 @@ module _ {A : Type 0} (t : Table A) (v : A) (n : ℕ) where
   pub none-yet : (w : List ℕ) → Filling w 0 w 0
   none-yet w = (omega arith, none-filled t w v 0)
 
-  pub one-more : (w : List ℕ) (k : ℕ) (xs ys : List ℕ) → k < n → view ys ≡ t .anew (view xs) (set (t .of (view xs)) k v) → saved ys ≡ saved xs
+  pub one-more : (w : List ℕ) (k : ℕ) (xs ys : List ℕ) → k < n → view ys ≡ t .anew (view xs) (set (t .of (view xs)) k v)
+      → saved ys ≡ saved xs
       → Filling w 0 xs k → Filling w 0 ys (k + 1)
   one-more w k xs ys l e s h = (omega arith, one-filled t w v 0 k k xs ys (omega arith) e s (h .1))
 
@@ -141,7 +168,8 @@ abbrev pub Left : ℕ → List ℕ → ℕ → List ℕ → ℕ → ℕ
 Left n w k₀ xs k = n - k
 
 -- one endpoint's record more
-pub ep-more : (w xs ys : List ℕ) (k : ℕ) (v : EpState) → length xs ≡ 2999 → k < 32 → ys ≡ puts xs (40 + k * 32) 0 (bytes epWidths (epAs v))
+pub ep-more : (w xs ys : List ℕ) (k : ℕ) (v : EpState) → length xs ≡ 2999 → k < 32 → ys
+    ≡ puts xs (40 + k * 32) 0 (bytes epWidths (epAs v))
     → Filling eps-table v 32 w 0 xs k → Filling eps-table v 32 w 0 ys (k + 1)
 ep-more w xs ys k v sized l e h =
     one-more eps-table v 32 w k xs ys l (ap view e ∙ view-eps xs sized k v l)
@@ -158,7 +186,8 @@ cleared-at w xs k r z h e =
 abbrev pub madeNew : EpState → EpState
 madeNew r =
     withMoves (withPlace r (r .iso) (r .kind) (r .base) (r .stride) 1 (r .«max_len») (r .«armed_slot»))
-    (r .ready) (r .len) (r .armed) 0x1800 (r .tog) (r .head) (r .tail) (r .loaded) (r .overruns) (r .«armed_slot») (r .«open»)
+    (r .ready) (r .len) (r .armed) 0x1800 (r .tog) (r .head) (r .tail) (r .loaded) (r .overruns) (r .«armed_slot»)
+    (r .«open»)
 
 -- every record filled or stored
 pub made-afresh : (xs : List ℕ) (size count callback : ℕ) → _≡_ {A = Driver} (record {

@@ -1,4 +1,5 @@
--- One record stored: the view has it in place of the old one and is else as it was. What is loaded is the view's. Assumes nothing.
+-- One record stored: the view has it in place of the old one and is else as it was. What is loaded is the view's.
+-- Assumes nothing.
 use mathlib.Core.Path.{_≡_, refl, ap, _∙_}
 use mathlib.Core.Bool.{Bool, true, false, cond, _||_}
 use mathlib.Core.Logic.{_⊎_, inl, inr, ⊎-elim}
@@ -66,15 +67,19 @@ mixed lo hi d e = record {
 module _ (xs : List ℕ) (o : ℕ) (bs : List ℕ) (lo hi : ℕ) (from : lo ≤ o) (to : o + length bs ≤ hi) where
   same : (p q : ℕ) → outside lo hi p q ≡ true → Same xs (puts xs o 0 bs) p q
   same p q h =
-      puts-same xs o bs p q (⊎-elim (λ (l : q ≤ lo). inl (omega arith)) (λ (l : hi ≤ p). inr (omega arith)) (outside-off lo hi p q h))
+      puts-same xs o bs p q (⊎-elim (λ (l : q ≤ lo). inl (omega arith)) (λ (l : hi ≤ p). inr (omega arith))
+      (outside-off lo hi p q h))
 
   one : {A : Type 0} (f : List ℕ → A) (p n : ℕ)
-      → f (gets (puts xs o 0 bs) p 0 n) ≡ cond (outside lo hi p (p + n)) (f (gets xs p 0 n)) (f (gets (puts xs o 0 bs) p 0 n))
+      → f (gets (puts xs o 0 bs) p 0 n) ≡ cond (outside lo hi p (p + n)) (f (gets xs p 0 n))
+      (f (gets (puts xs o 0 bs) p 0 n))
   one f p n = chosen (outside lo hi p (p + n)) _ _ (λ h. ap f (gets-same xs (puts xs o 0 bs) p n (same p (p + n) h)))
 
   many : {A : Type 0} (f : List ℕ → A) (p n z : ℕ)
-      → table (puts xs o 0 bs) p n z f ≡ cond (outside lo hi p (p + n * z)) (table xs p n z f) (table (puts xs o 0 bs) p n z f)
-  many f p n z = chosen (outside lo hi p (p + n * z)) _ _ (λ h. table-same f p n z xs (puts xs o 0 bs) (same p (p + n * z) h))
+      → table (puts xs o 0 bs) p n z f ≡ cond (outside lo hi p (p + n * z)) (table xs p n z f)
+      (table (puts xs o 0 bs) p n z f)
+  many f p n z = chosen (outside lo hi p (p + n * z)) _ _
+      (λ h. table-same f p n z xs (puts xs o 0 bs) (same p (p + n * z) h))
 
   stored : view (puts xs o 0 bs) ≡ mixed lo hi (view xs) (view (puts xs o 0 bs))
   unfolding view
@@ -99,33 +104,42 @@ saved-off xs o bs h = ap savedIn (gets-same xs (puts xs o 0 bs) 0 22 (puts-same 
 abbrev pub Becomes : List ℕ → List ℕ → Driver → Type 0
 Becomes xs ys d = (view ys ≡ d) × (saved ys ≡ saved xs)
 
-pub becomes : (xs : List ℕ) (o : ℕ) (bs ys : List ℕ) (d : Driver) → 22 ≤ o → view (puts xs o 0 bs) ≡ d → ys ≡ puts xs o 0 bs → Becomes xs ys d
+pub becomes : (xs : List ℕ) (o : ℕ) (bs ys : List ℕ) (d : Driver) → 22 ≤ o → view (puts xs o 0 bs) ≡ d → ys
+    ≡ puts xs o 0 bs → Becomes xs ys d
 becomes xs o bs ys d l v e = (ap view e ∙ v, ap saved e ∙ saved-off xs o bs l)
 
 -- numbers of the widths ws on their own, read back
-back : {A : Type 0} (xs : List ℕ) (of : List ℕ → A) (ws vs : List ℕ) (o : ℕ) (r : A) → o + length (bytes ws vs) ≤ length xs
+back : {A : Type 0} (xs : List ℕ) (of : List ℕ → A) (ws vs : List ℕ) (o : ℕ) (r : A) → o + length (bytes ws vs)
+    ≤ length xs
     → Fit ws vs → of vs ≡ r → of (numbers ws (gets (puts xs o 0 (bytes ws vs)) o 0 (length (bytes ws vs)))) ≡ r
-back xs of ws vs o r h f q = ap (λ (b : List ℕ). of (numbers ws b)) (gets-puts xs o (bytes ws vs) h) ∙ ap of (numbers-bytes ws vs f) ∙ q
+back xs of ws vs o r h f q = ap (λ (b : List ℕ). of (numbers ws b)) (gets-puts xs o (bytes ws vs) h)
+    ∙ ap of (numbers-bytes ws vs f) ∙ q
 
 module _ (xs : List ℕ) (sized : length xs ≡ 2999) where
-  pub view-eps : (k : ℕ) (r : EpState) → k < 32 → view (puts xs (40 + k * 32) 0 (bytes epWidths (epAs r))) ≡ withEps (view xs) (set (view xs .eps) k r)
+  pub view-eps : (k : ℕ) (r : EpState) → k < 32 → view (puts xs (40 + k * 32) 0 (bytes epWidths (epAs r)))
+      ≡ withEps (view xs) (set (view xs .eps) k r)
   unfolding view
   view-eps k r l =
       let bs = bytes epWidths (epAs r) in
       stored xs (40 + k * 32) bs 40 1064 (omega arith) (omega arith)
-      ∙ ap (withEps (view xs)) (table-set epIn 40 32 32 xs k bs r l (omega arith) refl (ap epOf (numbers-bytes epWidths (epAs r) tt)))
+      ∙ ap (withEps (view xs)) (table-set epIn 40 32 32 xs k bs r l (omega arith) refl
+      (ap epOf (numbers-bytes epWidths (epAs r) tt)))
 
-  pub view-lens : (k v : ℕ) → k < 512 → view (puts xs (1966 + k * 2) 0 (digits 2 v)) ≡ withLens (view xs) (set (view xs .lens) k v)
+  pub view-lens : (k v : ℕ) → k < 512 → view (puts xs (1966 + k * 2) 0 (digits 2 v))
+      ≡ withLens (view xs) (set (view xs .lens) k v)
   unfolding view
   view-lens k v l =
       stored xs (1966 + k * 2) (digits 2 v) 1966 2990 (omega arith) (omega arith)
-      ∙ ap (withLens (view xs)) (table-set number 1966 512 2 xs k (digits 2 v) v l (omega arith) refl (number-digits 1 v))
+      ∙ ap (withLens (view xs)) (table-set number 1966 512 2 xs k (digits 2 v) v l (omega arith) refl
+      (number-digits 1 v))
 
-  pub view-stamps : (k v : ℕ) → k < 256 → view (puts xs (1454 + k * 2) 0 (digits 2 v)) ≡ withStamps (view xs) (set (view xs .stamps) k v)
+  pub view-stamps : (k v : ℕ) → k < 256 → view (puts xs (1454 + k * 2) 0 (digits 2 v))
+      ≡ withStamps (view xs) (set (view xs .stamps) k v)
   unfolding view
   view-stamps k v l =
       stored xs (1454 + k * 2) (digits 2 v) 1454 1966 (omega arith) (omega arith)
-      ∙ ap (withStamps (view xs)) (table-set number 1454 256 2 xs k (digits 2 v) v l (omega arith) refl (number-digits 1 v))
+      ∙ ap (withStamps (view xs)) (table-set number 1454 256 2 xs k (digits 2 v) v l (omega arith) refl
+      (number-digits 1 v))
 
   pub view-globals : (r : Globals) → view (puts xs 1320 0 (bytes globalsWidths (globalsAs r))) ≡ withGlobals (view xs) r
   unfolding view
@@ -133,26 +147,31 @@ module _ (xs : List ℕ) (sized : length xs ≡ 2999) where
       stored xs 1320 (bytes globalsWidths (globalsAs r)) 1320 1357 (omega arith) (omega arith)
       ∙ ap (withGlobals (view xs)) (back xs globalsOf globalsWidths (globalsAs r) 1320 r (omega arith) tt refl)
 
-  pub view-allocator : (r : Allocator) → view (puts xs 22 0 (bytes allocatorWidths (allocatorAs r))) ≡ withAllocator (view xs) r
+  pub view-allocator : (r : Allocator) → view (puts xs 22 0 (bytes allocatorWidths (allocatorAs r)))
+      ≡ withAllocator (view xs) r
   unfolding view
   view-allocator r =
       stored xs 22 (bytes allocatorWidths (allocatorAs r)) 22 40 (omega arith) (omega arith)
       ∙ ap (withAllocator (view xs)) (back xs allocatorOf allocatorWidths (allocatorAs r) 22 r (omega arith) tt refl)
 
-  pub view-paceds : (k v : ℕ) → k < 16 → view (puts xs (1422 + k * 2) 0 (digits 2 v)) ≡ withPaced (view xs) (set (view xs .paced) k v)
+  pub view-paceds : (k v : ℕ) → k < 16 → view (puts xs (1422 + k * 2) 0 (digits 2 v))
+      ≡ withPaced (view xs) (set (view xs .paced) k v)
   unfolding view
   view-paceds k v l =
       stored xs (1422 + k * 2) (digits 2 v) 1422 1454 (omega arith) (omega arith)
-      ∙ ap (withPaced (view xs)) (table-set number 1422 16 2 xs k (digits 2 v) v l (omega arith) refl (number-digits 1 v))
+      ∙ ap (withPaced (view xs)) (table-set number 1422 16 2 xs k (digits 2 v) v l (omega arith) refl
+      (number-digits 1 v))
 
-  pub view-requests : (k : ℕ) (r : Request) → k < 32 → view (puts xs (1064 + k * 8) 0 (bytes requestWidths (requestAs r)))
+  pub view-requests : (k : ℕ) (r : Request) → k < 32 → view
+      (puts xs (1064 + k * 8) 0 (bytes requestWidths (requestAs r)))
       ≡ withRequests (view xs) (set (view xs .requests) k r)
   unfolding view
   view-requests k r l =
       let bs = bytes requestWidths (requestAs r) in
       stored xs (1064 + k * 8) bs 1064 1320 (omega arith) (omega arith)
       ∙ ap (withRequests (view xs))
-      (table-set requestIn 1064 32 8 xs k bs r l (omega arith) refl (ap requestOf (numbers-bytes requestWidths (requestAs r) tt)))
+      (table-set requestIn 1064 32 8 xs k bs r l (omega arith) refl
+      (ap requestOf (numbers-bytes requestWidths (requestAs r) tt)))
 
   pub view-control : (r : Control) → view (puts xs 2990 0 (bytes controlWidths (controlAs r))) ≡ withControl (view xs) r
   unfolding view
@@ -164,7 +183,8 @@ module _ (xs : List ℕ) (sized : length xs ≡ 2999) where
   unfolding view
   view-count v =
       stored xs 1357 (digits 1 v) 1357 1358 (omega arith) (omega arith)
-      ∙ ap (λ (n : ℕ). withWakes (view xs) (withCount (view xs .wakes) n)) (ap number (gets-puts xs 1357 (digits 1 v) (omega arith)) ∙ number-digits 0 v)
+      ∙ ap (λ (n : ℕ). withWakes (view xs) (withCount (view xs .wakes) n))
+      (ap number (gets-puts xs 1357 (digits 1 v) (omega arith)) ∙ number-digits 0 v)
 
   pub view-codes : (k v : ℕ) → k < 64 → view (puts xs (1358 + k * 1) 0 (digits 1 v))
       ≡ withWakes (view xs) (withCodes (view xs .wakes) (set (view xs .wakes .codes) k v))
@@ -186,29 +206,36 @@ module _ (xs : List ℕ) (sized : length xs ≡ 2999) where
   pub ep-stored : (dir : Dir) (e k : ℕ) (r : EpState) (ys : List ℕ) → (k ≡ key dir e) × (k < 32)
       → ys ≡ puts xs (40 + k * 32) 0 (bytes epWidths (epAs r)) → Becomes xs ys (withOn (view xs) dir e r)
   unfolding withOn
-  ep-stored dir e k r ys p = becomes xs (40 + k * 32) (bytes epWidths (epAs r)) ys (withOn (view xs) dir e r) (omega (arith, p .1))
+  ep-stored dir e k r ys p = becomes xs (40 + k * 32) (bytes epWidths (epAs r)) ys (withOn (view xs) dir e r)
+      (omega (arith, p .1))
       (view-eps k r (p .1) ∙ ap (λ (j : ℕ). withEps (view xs) (set (view xs .eps) j r)) (p .0))
 
   pub len-stored : (dir : Dir) (e i k v : ℕ) (ys : List ℕ) → (k ≡ lenKey dir e i) × (k < 512)
       → ys ≡ puts xs (1966 + k * 2) 0 (digits 2 v) → Becomes xs ys (withLenOn (view xs) dir e i v)
   unfolding withLenOn
-  len-stored dir e i k v ys p = becomes xs (1966 + k * 2) (digits 2 v) ys (withLenOn (view xs) dir e i v) (omega (arith, p .1))
+  len-stored dir e i k v ys p = becomes xs (1966 + k * 2) (digits 2 v) ys (withLenOn (view xs) dir e i v)
+      (omega (arith, p .1))
       (view-lens k v (p .1) ∙ ap (λ (j : ℕ). withLens (view xs) (set (view xs .lens) j v)) (p .0))
 
   pub stamp-stored : (e i k v : ℕ) (ys : List ℕ) → (k ≡ stampKey e i) × (k < 256)
       → ys ≡ puts xs (1454 + k * 2) 0 (digits 2 v) → Becomes xs ys (withStampOn (view xs) e i v)
   unfolding withStampOn
-  stamp-stored e i k v ys p = becomes xs (1454 + k * 2) (digits 2 v) ys (withStampOn (view xs) e i v) (omega (arith, p .1))
+  stamp-stored e i k v ys p = becomes xs (1454 + k * 2) (digits 2 v) ys (withStampOn (view xs) e i v)
+      (omega (arith, p .1))
       (view-stamps k v (p .1) ∙ ap (λ (j : ℕ). withStamps (view xs) (set (view xs .stamps) j v)) (p .0))
 
-  pub paced-stored : (e v : ℕ) (ys : List ℕ) → ys ≡ puts xs (1422 + e % 16 * 2) 0 (digits 2 v) → Becomes xs ys (withPacedOn (view xs) e v)
+  pub paced-stored : (e v : ℕ) (ys : List ℕ) → ys ≡ puts xs (1422 + e % 16 * 2) 0 (digits 2 v)
+      → Becomes xs ys (withPacedOn (view xs) e v)
   unfolding withPacedOn
-  paced-stored e v ys = becomes xs (1422 + e % 16 * 2) (digits 2 v) ys (withPacedOn (view xs) e v) (omega arith) (view-paceds (e % 16) v (omega arith))
+  paced-stored e v ys = becomes xs (1422 + e % 16 * 2) (digits 2 v) ys (withPacedOn (view xs) e v) (omega arith)
+      (view-paceds (e % 16) v (omega arith))
 
   pub request-stored : (dir : Dir) (e k : ℕ) (r : Request) (ys : List ℕ) → (k ≡ key dir e) × (k < 32)
-      → ys ≡ puts xs (1064 + k * 8) 0 (bytes requestWidths (requestAs r)) → Becomes xs ys (withRequestOn (view xs) dir e r)
+      → ys ≡ puts xs (1064 + k * 8) 0 (bytes requestWidths (requestAs r))
+      → Becomes xs ys (withRequestOn (view xs) dir e r)
   unfolding withRequestOn
-  request-stored dir e k r ys p = becomes xs (1064 + k * 8) (bytes requestWidths (requestAs r)) ys (withRequestOn (view xs) dir e r) (omega (arith, p .1))
+  request-stored dir e k r ys p = becomes xs (1064 + k * 8) (bytes requestWidths (requestAs r)) ys
+      (withRequestOn (view xs) dir e r) (omega (arith, p .1))
       (view-requests k r (p .1) ∙ ap (λ (j : ℕ). withRequests (view xs) (set (view xs .requests) j r)) (p .0))
 
 -- what is loaded
@@ -216,14 +243,17 @@ module _ (xs : List ℕ) where
   pub ep-there : (k : ℕ) (r : EpState)
       → k < 32 → Each (epAs r) (numbers epWidths (gets xs (40 + k * 32) 0 32)) → r ≡ getD (view xs .eps) k noEp
   unfolding view
-  ep-there k r l h = ap epOf (each-eq (epAs r) (numbers epWidths (gets xs (40 + k * 32) 0 32)) h) ∙ table-at epIn 40 32 32 xs k noEp l
+  ep-there k r l h = ap epOf (each-eq (epAs r) (numbers epWidths (gets xs (40 + k * 32) 0 32)) h)
+      ∙ table-at epIn 40 32 32 xs k noEp l
 
   pub ep-at : (dir : Dir) (e k : ℕ) (r : EpState)
-      → k ≡ key dir e → k < 32 → Each (epAs r) (numbers epWidths (gets xs (40 + k * 32) 0 32)) → r ≡ epOn (view xs) dir e
+      → k ≡ key dir e → k < 32 → Each (epAs r) (numbers epWidths (gets xs (40 + k * 32) 0 32)) → r
+      ≡ epOn (view xs) dir e
   unfolding epOn
   ep-at dir e k r p l h = ep-there k r l h ∙ ap (λ (j : ℕ). getD (view xs .eps) j noEp) p
 
-  pub len-at : (dir : Dir) (e i k : ℕ) → k ≡ lenKey dir e i → k < 512 → number (gets xs (1966 + k * 2) 0 2) ≡ lenOn (view xs) dir e i
+  pub len-at : (dir : Dir) (e i k : ℕ) → k ≡ lenKey dir e i → k < 512 → number (gets xs (1966 + k * 2) 0 2)
+      ≡ lenOn (view xs) dir e i
   unfolding view lenOn
   len-at dir e i k p l = table-at number 1966 512 2 xs k 0 l ∙ ap (λ (j : ℕ). getD (view xs .lens) j 0) p
 
@@ -242,5 +272,6 @@ module _ (xs : List ℕ) where
   pub request-at : (dir : Dir) (e k : ℕ) (r : Request) → k ≡ key dir e
       → k < 32 → Each (requestAs r) (numbers requestWidths (gets xs (1064 + k * 8) 0 8)) → r ≡ requestOn (view xs) dir e
   unfolding view requestOn
-  request-at dir e k r p l h = ap requestOf (each-eq (requestAs r) (numbers requestWidths (gets xs (1064 + k * 8) 0 8)) h)
+  request-at dir e k r p l h = ap requestOf (each-eq (requestAs r) (numbers requestWidths (gets xs (1064 + k * 8) 0 8))
+      h)
       ∙ table-at requestIn 1064 32 8 xs k noRequest l ∙ ap (λ (j : ℕ). getD (view xs .requests) j noRequest) p

@@ -1,5 +1,5 @@
--- Each record as numbers of fixed widths: its 32-bit fields, then its 16-bit ones, then its bytes, each in the order of declaration; of the
--- control pipe's two bytes stand in front. A stored
+-- Each record as numbers of fixed widths: its 32-bit fields, then its 16-bit ones, then its bytes, each in the order of
+-- declaration; of the control pipe's two bytes stand in front. A stored
 -- record is the bytes of these numbers, one after the other.
 use mathlib.Core.List.{List, [], _∷_}
 use Prim.Native.Nat.{ℕ}
@@ -15,7 +15,8 @@ abbrev pub epWidths : List ℕ
 epWidths = 4 ∷ 4 ∷ 4 ∷ 2 ∷ 2 ∷ 2 ∷ 2 ∷ 2 ∷ 2 ∷ 1 ∷ 1 ∷ 1 ∷ 1 ∷ 1 ∷ 1 ∷ 1 ∷ 1 ∷ []
 
 abbrev pub epAs : EpState → List ℕ
-epAs r = r .base ∷ r .overruns ∷ r .«armed_slot» ∷ r .len ∷ r .stride ∷ r .«last_frame» ∷ r .«max_len» ∷ r .tog ∷ r .«open» ∷ r .ready ∷ r .armed ∷ r .iso ∷ r .kind ∷ r .slots ∷ r .head ∷ r .tail ∷ r .loaded ∷ []
+epAs r = r .base ∷ r .overruns ∷ r .«armed_slot» ∷ r .len ∷ r .stride ∷ r .«last_frame» ∷ r .«max_len» ∷ r .tog
+    ∷ r .«open» ∷ r .ready ∷ r .armed ∷ r .iso ∷ r .kind ∷ r .slots ∷ r .head ∷ r .tail ∷ r .loaded ∷ []
 
 abbrev pub epOf : List ℕ → EpState
 epOf ns = record {
@@ -42,7 +43,8 @@ abbrev pub allocatorWidths : List ℕ
 allocatorWidths = 2 ∷ 2 ∷ 2 ∷ 2 ∷ 2 ∷ 2 ∷ 2 ∷ 2 ∷ 2 ∷ []
 
 abbrev pub allocatorAs : Allocator → List ℕ
-allocatorAs r = r .size ∷ r .count ∷ r .next ∷ r .«taken_out» ∷ r .«taken_in» ∷ r .«iso_nums» ∷ r .«other_nums» ∷ r .«allocated_out» ∷ r .«allocated_in» ∷ []
+allocatorAs r = r .size ∷ r .count ∷ r .next ∷ r .«taken_out» ∷ r .«taken_in» ∷ r .«iso_nums» ∷ r .«other_nums»
+    ∷ r .«allocated_out» ∷ r .«allocated_in» ∷ []
 
 abbrev pub allocatorOf : List ℕ → Allocator
 allocatorOf ns = record {
@@ -61,7 +63,9 @@ abbrev pub globalsWidths : List ℕ
 globalsWidths = 4 ∷ 4 ∷ 4 ∷ 4 ∷ 4 ∷ 2 ∷ 2 ∷ 2 ∷ 2 ∷ 2 ∷ 2 ∷ 1 ∷ 1 ∷ 1 ∷ 1 ∷ 1 ∷ []
 
 abbrev pub globalsAs : Globals → List ℕ
-globalsAs r = r .«setup_low» ∷ r .«setup_high» ∷ r .«ep_config» ∷ r .«ep_type» ∷ r .«ep0_buf» ∷ r .«iso_out_eps» ∷ r .«iso_in_every» ∷ r .«iso_in_paced» ∷ r .«sof_frame» ∷ r .«ep0_max» ∷ r .entered ∷ r .stage ∷ r .callback ∷ r .power ∷ r .«setup_ready» ∷ r .«int_en» ∷ []
+globalsAs r = r .«setup_low» ∷ r .«setup_high» ∷ r .«ep_config» ∷ r .«ep_type» ∷ r .«ep0_buf» ∷ r .«iso_out_eps»
+    ∷ r .«iso_in_every» ∷ r .«iso_in_paced» ∷ r .«sof_frame» ∷ r .«ep0_max» ∷ r .entered ∷ r .stage ∷ r .callback
+    ∷ r .power ∷ r .«setup_ready» ∷ r .«int_en» ∷ []
 
 abbrev pub globalsOf : List ℕ → Globals
 globalsOf ns = record {
@@ -115,7 +119,8 @@ abbrev pub savedWidths : List ℕ
 savedWidths = 4 ∷ 2 ∷ 2 ∷ 2 ∷ 2 ∷ 1 ∷ 1 ∷ 1 ∷ 1 ∷ 1 ∷ 1 ∷ 1 ∷ 1 ∷ 1 ∷ 1 ∷ []
 
 abbrev pub savedAs : Saved → List ℕ
-savedAs r = r .value ∷ r .len ∷ r .frame ∷ r .eps ∷ r .n ∷ r .tag ∷ r .sub ∷ r .site ∷ r .flag ∷ r .busy ∷ r .late ∷ r .«len_ok» ∷ r .st ∷ r .now ∷ r .ep ∷ []
+savedAs r = r .value ∷ r .len ∷ r .frame ∷ r .eps ∷ r .n ∷ r .tag ∷ r .sub ∷ r .site ∷ r .flag ∷ r .busy ∷ r .late
+    ∷ r .«len_ok» ∷ r .st ∷ r .now ∷ r .ep ∷ []
 
 abbrev pub savedOf : List ℕ → Saved
 savedOf ns = record {

@@ -1,4 +1,5 @@
--- What the state says of the driver: all but the suspended operation. Which record an endpoint has, and one record changed.
+-- What the state says of the driver: all but the suspended operation. Which record an endpoint has, and one record
+-- changed.
 use mathlib.Core.List.{List, []}
 use Prim.Native.Nat.{ℕ, _+_, _*_, _%_}
 use lib.ListN.{getD, set}
@@ -12,8 +13,8 @@ use Rattle.state.specs.declared.Request.{Request}
 use Rattle.state.specs.declared.Control.{Control}
 use Rattle.state.specs.Wakes.{Wakes, unwoken}
 
--- `eps` and `requests`: OUT 0 to 15, then IN 0 to 15; `lens`: 16 for each of `eps`; `stamps`: 16 for each OUT endpoint, the microframe with
--- each packet; `paced`: a last microframe for each endpoint
+-- `eps` and `requests`: OUT 0 to 15, then IN 0 to 15; `lens`: 16 for each of `eps`; `stamps`: 16 for each OUT endpoint,
+-- the microframe with each packet; `paced`: a last microframe for each endpoint
 pub record Driver : Type 0 where
   pub eps : List EpState
   pub lens : List ℕ
@@ -46,7 +47,8 @@ abbrev pub noRequest : Request
 noRequest = requestOf []
 
 -- a driver of its parts, in their order; then one with a part set anew
-abbrev pub driverOf : List EpState → List ℕ → List ℕ → Globals → Allocator → List ℕ → List Request → Control → Wakes → Driver
+abbrev pub driverOf : List EpState → List ℕ → List ℕ → Globals → Allocator → List ℕ → List Request → Control → Wakes
+    → Driver
 driverOf eps lens stamps globals allocator paced requests control wakes = record {
   eps = eps;
   lens = lens;
@@ -60,31 +62,40 @@ driverOf eps lens stamps globals allocator paced requests control wakes = record
 }
 
 abbrev pub withEps : Driver → List EpState → Driver
-withEps d x = driverOf x (d .lens) (d .stamps) (d .globals) (d .allocator) (d .paced) (d .requests) (d .control) (d .wakes)
+withEps d x = driverOf x (d .lens) (d .stamps) (d .globals) (d .allocator) (d .paced) (d .requests) (d .control)
+    (d .wakes)
 
 abbrev pub withLens : Driver → List ℕ → Driver
-withLens d x = driverOf (d .eps) x (d .stamps) (d .globals) (d .allocator) (d .paced) (d .requests) (d .control) (d .wakes)
+withLens d x = driverOf (d .eps) x (d .stamps) (d .globals) (d .allocator) (d .paced) (d .requests) (d .control)
+    (d .wakes)
 
 abbrev pub withStamps : Driver → List ℕ → Driver
-withStamps d x = driverOf (d .eps) (d .lens) x (d .globals) (d .allocator) (d .paced) (d .requests) (d .control) (d .wakes)
+withStamps d x = driverOf (d .eps) (d .lens) x (d .globals) (d .allocator) (d .paced) (d .requests) (d .control)
+    (d .wakes)
 
 abbrev pub withGlobals : Driver → Globals → Driver
-withGlobals d x = driverOf (d .eps) (d .lens) (d .stamps) x (d .allocator) (d .paced) (d .requests) (d .control) (d .wakes)
+withGlobals d x = driverOf (d .eps) (d .lens) (d .stamps) x (d .allocator) (d .paced) (d .requests) (d .control)
+    (d .wakes)
 
 abbrev pub withAllocator : Driver → Allocator → Driver
-withAllocator d x = driverOf (d .eps) (d .lens) (d .stamps) (d .globals) x (d .paced) (d .requests) (d .control) (d .wakes)
+withAllocator d x = driverOf (d .eps) (d .lens) (d .stamps) (d .globals) x (d .paced) (d .requests) (d .control)
+    (d .wakes)
 
 abbrev pub withPaced : Driver → List ℕ → Driver
-withPaced d x = driverOf (d .eps) (d .lens) (d .stamps) (d .globals) (d .allocator) x (d .requests) (d .control) (d .wakes)
+withPaced d x = driverOf (d .eps) (d .lens) (d .stamps) (d .globals) (d .allocator) x (d .requests) (d .control)
+    (d .wakes)
 
 abbrev pub withRequests : Driver → List Request → Driver
-withRequests d x = driverOf (d .eps) (d .lens) (d .stamps) (d .globals) (d .allocator) (d .paced) x (d .control) (d .wakes)
+withRequests d x = driverOf (d .eps) (d .lens) (d .stamps) (d .globals) (d .allocator) (d .paced) x (d .control)
+    (d .wakes)
 
 abbrev pub withControl : Driver → Control → Driver
-withControl d x = driverOf (d .eps) (d .lens) (d .stamps) (d .globals) (d .allocator) (d .paced) (d .requests) x (d .wakes)
+withControl d x = driverOf (d .eps) (d .lens) (d .stamps) (d .globals) (d .allocator) (d .paced) (d .requests) x
+    (d .wakes)
 
 abbrev pub withWakes : Driver → Wakes → Driver
-withWakes d x = driverOf (d .eps) (d .lens) (d .stamps) (d .globals) (d .allocator) (d .paced) (d .requests) (d .control) x
+withWakes d x = driverOf (d .eps) (d .lens) (d .stamps) (d .globals) (d .allocator) (d .paced) (d .requests)
+    (d .control) x
 
 -- no wake-up is gathered yet
 abbrev pub noneGathered : Driver → Driver

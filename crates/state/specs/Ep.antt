@@ -1,4 +1,5 @@
--- An endpoint's record: a new one, one that was reset, one with some fields set anew, and how many packets wait in its ring.
+-- An endpoint's record: a new one, one that was reset, one with some fields set anew, and how many packets wait in its
+-- ring.
 use Prim.Native.Nat.{ℕ, _+_, _-_, _%_}
 use Rattle.state.specs.declared.EpState.{EpState}
 
@@ -25,7 +26,8 @@ newEp = record {
 }
 
 -- a record of its fields, in their order
-abbrev pub epFields : (ready len armed iso kind base stride slots head tail loaded overruns frame maximum slot tog opened : ℕ) → EpState
+abbrev pub epFields : (ready len armed iso kind base stride slots head tail loaded overruns frame maximum slot tog
+    opened : ℕ) → EpState
 epFields ready len armed iso kind base stride slots head tail loaded overruns frame maximum slot tog opened = record {
   ready = ready;
   len = len;

@@ -49,7 +49,8 @@ withEpConfig v g = withSettings g (g .stage) v (g .«iso_out_eps») (g .«iso_in
 
 abbrev pub withWritten : ℕ → ℕ → Globals → Globals
 withWritten intEn epType g =
-    withAssigned g (g .power) (g .«setup_ready») (g .«setup_low») (g .«setup_high») intEn epType (g .«iso_in_paced») (g .«sof_frame») (g .entered)
+    withAssigned g (g .power) (g .«setup_ready») (g .«setup_low») (g .«setup_high») intEn epType (g .«iso_in_paced»)
+    (g .«sof_frame») (g .entered)
 
 abbrev pub withEpType : ℕ → Globals → Globals
 withEpType v g = withWritten (g .«int_en») v g

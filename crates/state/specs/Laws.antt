@@ -1,10 +1,11 @@
--- Storing one record changes that record of the view and nothing else; storing what was there changes nothing. Assumes nothing.
+-- Storing one record changes that record of the view and nothing else; storing what was there changes nothing. Assumes
+-- nothing.
 use mathlib.Core.Path.{_≡_, refl, ap}
 use mathlib.Core.Logic.{_≢_}
 use mathlib.Core.List.{List}
 use Prim.Native.Nat.{ℕ, _+_, _*_, _%_, _<_}
 use native.Mathlib.Omega.{arith}
-use lib.ListN.{length, getD, set}
+use lib.ListN.{length}
 use lib.Seq.{getD-set-same, getD-set-other, set-getD, set-set}
 use Rattle.bits.specs.Bytes.{gets, number}
 use Rattle.bits.specs.TablesLaws.{length-tab}
@@ -15,7 +16,7 @@ use Rattle.state.specs.declared.Request.{Request}
 use Rattle.state.specs.Driver.{Driver, key, lenKey, stampKey, noEp, noRequest, withEps, withLens, withStamps}
 use Rattle.state.specs.Driver.{withPaced, withRequests, epOn, withOn, lenOn, withLenOn, stampOn, withStampOn}
 use Rattle.state.specs.Driver.{pacedOn, withPacedOn, requestOn, withRequestOn}
-use Rattle.state.specs.State.{view, saved, epIn, requestIn}
+use Rattle.state.specs.State.{view, epIn, requestIn}
 
 -- every endpoint has its place
 pub record Sized (d : Driver) : Type 0 where
@@ -82,7 +83,8 @@ module _ (d : Driver) (dir : Dir) (e : ℕ) where
   unfolding withOn
   withOn-twice r q = ap (withEps d) (set-set (d .eps) (key dir e) r q)
 
-  pub epOn-other : (r : EpState) (dir′ : Dir) (e′ : ℕ) → key dir′ e′ ≢ key dir e → epOn (withOn d dir e r) dir′ e′ ≡ epOn d dir′ e′
+  pub epOn-other : (r : EpState) (dir′ : Dir) (e′ : ℕ) → key dir′ e′ ≢ key dir e → epOn (withOn d dir e r) dir′ e′
+      ≡ epOn d dir′ e′
   unfolding epOn withOn
   epOn-other r dir′ e′ h = getD-set-other (d .eps) (key dir e) (key dir′ e′) r noEp h
 
@@ -94,7 +96,8 @@ module _ (d : Driver) (dir : Dir) (e : ℕ) where
   unfolding lenOn withLenOn
   lenOn-same i v s = getD-set-same (d .lens) (lenKey dir e i) v 0 (omega (arith, s .lens, lenKey-lt dir e i))
 
-  pub lenOn-other : (i v : ℕ) (dir′ : Dir) (e′ i′ : ℕ) → lenKey dir′ e′ i′ ≢ lenKey dir e i → lenOn (withLenOn d dir e i v) dir′ e′ i′ ≡ lenOn d dir′ e′ i′
+  pub lenOn-other : (i v : ℕ) (dir′ : Dir) (e′ i′ : ℕ) → lenKey dir′ e′ i′ ≢ lenKey dir e i
+      → lenOn (withLenOn d dir e i v) dir′ e′ i′ ≡ lenOn d dir′ e′ i′
   unfolding lenOn withLenOn
   lenOn-other i v dir′ e′ i′ h = getD-set-other (d .lens) (lenKey dir e i) (lenKey dir′ e′ i′) v 0 h
 
@@ -102,7 +105,8 @@ module _ (d : Driver) (dir : Dir) (e : ℕ) where
   unfolding requestOn withRequestOn
   requestOn-same r s = getD-set-same (d .requests) (key dir e) r noRequest (omega (arith, s .requests, key-lt dir e))
 
-  pub requestOn-other : (r : Request) (dir′ : Dir) (e′ : ℕ) → key dir′ e′ ≢ key dir e → requestOn (withRequestOn d dir e r) dir′ e′ ≡ requestOn d dir′ e′
+  pub requestOn-other : (r : Request) (dir′ : Dir) (e′ : ℕ) → key dir′ e′ ≢ key dir e
+      → requestOn (withRequestOn d dir e r) dir′ e′ ≡ requestOn d dir′ e′
   unfolding requestOn withRequestOn
   requestOn-other r dir′ e′ h = getD-set-other (d .requests) (key dir e) (key dir′ e′) r noRequest h
 
@@ -111,7 +115,8 @@ module _ (d : Driver) (e : ℕ) where
   unfolding stampOn withStampOn
   stampOn-same i v s = getD-set-same (d .stamps) (stampKey e i) v 0 (omega (arith, s .stamps, stampKey-lt e i))
 
-  pub stampOn-other : (i v e′ i′ : ℕ) → stampKey e′ i′ ≢ stampKey e i → stampOn (withStampOn d e i v) e′ i′ ≡ stampOn d e′ i′
+  pub stampOn-other : (i v e′ i′ : ℕ) → stampKey e′ i′ ≢ stampKey e i → stampOn (withStampOn d e i v) e′ i′
+      ≡ stampOn d e′ i′
   unfolding stampOn withStampOn
   stampOn-other i v e′ i′ h = getD-set-other (d .stamps) (stampKey e i) (stampKey e′ i′) v 0 h
 
@@ -123,20 +128,6 @@ module _ (d : Driver) (e : ℕ) where
   unfolding pacedOn withPacedOn
   pacedOn-other v e′ h = getD-set-other (d .paced) (e % 16) (e′ % 16) v 0 h
 
--- what is stored as it was loaded changes nothing
-pub put-back : (d : Driver) (dir : Dir) (e i : ℕ) →
-    (withLenOn d dir e i (lenOn d dir e i) ≡ d)
-    × (withStampOn d e i (stampOn d e i) ≡ d)
-    × (withPacedOn d e (pacedOn d e) ≡ d)
-    × (withRequestOn d dir e (requestOn d dir e) ≡ d)
-unfolding withLenOn lenOn withStampOn stampOn withPacedOn pacedOn withRequestOn requestOn
-put-back d dir e i = (
-  ap (withLens d) (set-getD (d .lens) (lenKey dir e i) 0),
-  ap (withStamps d) (set-getD (d .stamps) (stampKey e i) 0),
-  ap (withPaced d) (set-getD (d .paced) (e % 16) 0),
-  ap (withRequests d) (set-getD (d .requests) (key dir e) noRequest),
-)
-
 -- each store leaves all but its own table
 pub its-own : (d : Driver) (dir : Dir) (e i v : ℕ) (r : EpState) (q : Request) →
     (withOn d dir e r ≡ withEps d (withOn d dir e r .eps))
@@ -146,8 +137,3 @@ pub its-own : (d : Driver) (dir : Dir) (e i v : ℕ) (r : EpState) (q : Request)
     × (withRequestOn d dir e q ≡ withRequests d (withRequestOn d dir e q .requests))
 unfolding withOn withLenOn withStampOn withPacedOn withRequestOn
 its-own d dir e i v r q = (refl, refl, refl, refl, refl)
-
--- all bytes 0: before the first start-up, and nothing is under way
-pub before-start : (xs : List ℕ) → ((i : ℕ) → getD xs i 0 ≡ 0) → (view xs .globals .stage ≡ 0) × (saved xs .tag ≡ 0)
-unfolding view saved
-before-start xs h = (omega (arith, h 1352), omega (arith, h 12))

@@ -10,7 +10,8 @@ use borrow.Author.Tests.{lt-ltb, le-ltb}
 use lib.Dec.{ltb}
 use lib.ListN.{length, set, take, length-set}
 use lib.Seq.{take-suc-set, length-take-le, append-snoc}
-use Rattle.state.specs.Wakes.{Wakes, withCount, withCodes, codesFrom, none-woken, unwoken, listed, woken, all-woken}
+use Rattle.state.specs.Wakes.{Wakes, withCount, withCodes, codesFrom, none-woken, unwoken, listed, woken}
+use Rattle.state.specs.Wakes.{all-woken}
 
 -- room for 64, of which no more are taken
 pub record Room (w : Wakes) : Type 0 where
@@ -45,7 +46,11 @@ module _ (c : ℕ) (w : Wakes) where
   woken-count h = ap (λ (v : Wakes). v .count) (woken-room h)
 
   pub woken-keeps : Room w → w .count < 64 → Room (woken c w)
-  woken-keeps r h = rw (woken-room h) (record { long = length-set (w .codes) (w .count) c ∙ r .long; within = omega (arith, h) })
+  woken-keeps r h = rw (woken-room h) (record {
+    long = length-set (w .codes) (w .count) c ∙ r .long;
+    within
+        = omega (arith, h);
+  })
 
   -- "in order, repeats included"
   pub woken-listed : Room w → w .count < 64 → listed (woken c w) ≡ listed w ++ (c ∷ [])
@@ -59,7 +64,8 @@ module _ (c : ℕ) (w : Wakes) where
   unfolding woken
   woken-long = by (ltb (w .count) 64)
     where
-      by : (b : Bool) → length (cond b (withCount (withCodes w (set (w .codes) (w .count) c)) (w .count + 1)) w .codes) ≡ length (w .codes)
+      by : (b : Bool) → length (cond b (withCount (withCodes w (set (w .codes) (w .count) c)) (w .count + 1)) w .codes)
+          ≡ length (w .codes)
       by true = length-set (w .codes) (w .count) c
       by false = refl
 
@@ -74,7 +80,8 @@ all-room (c ∷ cs) w r h =
     let l : w .count < 64 = omega (arith, h) in
     all-room cs (woken c w) (woken-keeps c w r l) (omega (arith, h, woken-count c w l))
 
-pub all-listed : (cs : List ℕ) (w : Wakes) → Room w → w .count + length cs ≤ 64 → listed (all-woken cs w) ≡ listed w ++ cs
+pub all-listed : (cs : List ℕ) (w : Wakes) → Room w → w .count + length cs ≤ 64 → listed (all-woken cs w) ≡ listed w
+    ++ cs
 all-listed [] w r h = sym (append-nil (listed w))
 all-listed (c ∷ cs) w r h =
     let l : w .count < 64 = omega (arith, h) in

@@ -8,7 +8,8 @@ ghost use Rattle.state.specs.State.{view, saved};
 ghost use Rattle.state.specs.Kept.{withEpConfig, withEpType, withIntEn};
 
 pub fn set_ep_config(s: &mut State, v: u32)
-    ensures { λ _. ⌜ view (now (s .exit)) ≡ withGlobals (view (now (s .entry))) (withEpConfig v (view (now (s .entry)) .globals)) ⌝ }
+    ensures { λ _. ⌜ view (now (s .exit)) ≡ withGlobals (view (now (s .entry)))
+        (withEpConfig v (view (now (s .entry)) .globals)) ⌝ }
     ensures { λ _. ⌜ saved (now (s .exit)) ≡ saved (now (s .entry)) ⌝ }
 {
     let mut g = load_globals(s);
@@ -17,7 +18,8 @@ pub fn set_ep_config(s: &mut State, v: u32)
 }
 
 pub fn set_ep_type(s: &mut State, v: u32)
-    ensures { λ _. ⌜ view (now (s .exit)) ≡ withGlobals (view (now (s .entry))) (withEpType v (view (now (s .entry)) .globals)) ⌝ }
+    ensures { λ _. ⌜ view (now (s .exit)) ≡ withGlobals (view (now (s .entry)))
+        (withEpType v (view (now (s .entry)) .globals)) ⌝ }
     ensures { λ _. ⌜ saved (now (s .exit)) ≡ saved (now (s .entry)) ⌝ }
 {
     let mut g = load_globals(s);
@@ -26,7 +28,8 @@ pub fn set_ep_type(s: &mut State, v: u32)
 }
 
 pub fn set_int_en(s: &mut State, v: u8)
-    ensures { λ _. ⌜ view (now (s .exit)) ≡ withGlobals (view (now (s .entry))) (withIntEn v (view (now (s .entry)) .globals)) ⌝ }
+    ensures { λ _. ⌜ view (now (s .exit)) ≡ withGlobals (view (now (s .entry)))
+        (withIntEn v (view (now (s .entry)) .globals)) ⌝ }
     ensures { λ _. ⌜ saved (now (s .exit)) ≡ saved (now (s .entry)) ⌝ }
 {
     let mut g = load_globals(s);

@@ -1,5 +1,5 @@
-// The driver's one state, in lent bytes. Only this crate sees bytes: others load and store records by value, and their contracts speak
-// of `view` and `saved`. Any bytes are a state; all 0 is before the first start-up.
+// The driver's one state, in lent bytes. Only this crate sees bytes: others load and store records by value, and their
+// contracts speak of `view` and `saved`. Any bytes are a state; all 0 is before the first start-up.
 use bits::le_bytes::get16;
 use bits::le_bytes::put16;
 use codec::read_allocator;
@@ -45,8 +45,8 @@ ghost use Rattle.state.specs.Driver.{requestOn, withRequestOn, withGloba
 ghost use Rattle.state.specs.Ep.{newEp, resetOf, countOf};
 ghost use Rattle.state.specs.State.{view, saved};
 
-// Where each part starts. In a state that lies on a word boundary each 16-bit and 32-bit number lies on its own (its place is a multiple of its width), and none
-// of the bytes is unused.
+// Where each part starts. In a state that lies on a word boundary each 16-bit and 32-bit number lies on its own (its
+// place is a multiple of its width), and none of the bytes is unused.
 const EPS: usize = 40;
 
 const LENS: usize = 1966;
@@ -69,7 +69,8 @@ const CODES: usize = 1358;
 
 const SAVED: usize = 0;
 
-// Per endpoint and direction, as in the Rust without the waker and the shortest length: flags are 0 or 1, two of them in 16 bits so that a record is 32 bytes; `lens` stands apart.
+// Per endpoint and direction, as in the Rust without the waker and the shortest length: flags are 0 or 1, two of them
+// in 16 bits so that a record is 32 bytes; `lens` stands apart.
 pub struct EpState {
     pub ready: u8,
     pub len: u16,
@@ -174,8 +175,8 @@ pub struct Allocator {
     pub allocated_in: u16,
 }
 
-// What the Rust keeps in statics beside the endpoints, the three registers that are kept and never read, and the microframe index of
-// the frame reading with which the interrupt under way began.
+// What the Rust keeps in statics beside the endpoints, the three registers that are kept and never read, and the
+// microframe index of the frame reading with which the interrupt under way began.
 pub struct Globals {
     pub stage: u8,
     pub callback: u8,
@@ -201,8 +202,8 @@ pub struct Request {
     pub length: u32,
 }
 
-// The control pipe's one request: its sort (0 none, 1 setup, 2 data_out, 3 data_in, 4 accept), its begin's length, whether it is
-// the last data_in, which wait of it comes next, and the address of accept_set_address.
+// The control pipe's one request: its sort (0 none, 1 setup, 2 data_out, 3 data_in, 4 accept), its begin's length,
+// whether it is the last data_in, which wait of it comes next, and the address of accept_set_address.
 pub struct Control {
     pub sort: u8,
     pub length: u32,

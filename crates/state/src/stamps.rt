@@ -37,7 +37,8 @@ pub fn store_stamp(s: &mut State, e: u8, i: u8, v: u16)
 // The n stamps from a.
 fn clear_from(s: &mut State, a: usize, n: usize)
     requires { ⌜ a + n ≤ 256 ⌝ }
-    ensures { λ _. ⌜ view (now (s .exit)) ≡ withStamps (view (now (s .entry))) (filled (view (now (s .entry)) .stamps) a n 0) ⌝ }
+    ensures { λ _. ⌜ view (now (s .exit)) ≡ withStamps (view (now (s .entry)))
+        (filled (view (now (s .entry)) .stamps) a n 0) ⌝ }
     ensures { λ _. ⌜ saved (now (s .exit)) ≡ saved (now (s .entry)) ⌝ }
 {
     let mut k: usize = 0;

@@ -25,7 +25,8 @@ ghost use mathlib.Core.Path.{_≡_};
 ghost use Prim.Native.Nat.{_+_, _≤_};
 ghost use lib.ListN.{replicate};
 ghost use Rattle.state.specs.Ep.{newEp};
-ghost use Rattle.state.specs.Driver.{noEp, noRequest, withEps, withLens, withPaced, withRequests, withGlobals, withAllocator, withControl};
+ghost use Rattle.state.specs.Driver.{noEp, noRequest, withEps, withLens, withPaced, withRequests, withGlobals};
+ghost use Rattle.state.specs.Driver.{withAllocator, withControl};
 ghost use Rattle.state.specs.State.{view, saved};
 ghost use Rattle.state.specs.Fresh.{filled, freshDriver, freshGlobals, freshAllocator, noControl, nothing};
 
@@ -40,7 +41,8 @@ fn no_ep() -> EpState
 }
 
 fn clear_eps(s: &mut State)
-    ensures { λ _. ⌜ view (now (s .exit)) ≡ withEps (view (now (s .entry))) (filled (view (now (s .entry)) .eps) 0 32 noEp) ⌝ }
+    ensures { λ _. ⌜ view (now (s .exit)) ≡ withEps (view (now (s .entry)))
+        (filled (view (now (s .entry)) .eps) 0 32 noEp) ⌝ }
     ensures { λ _. ⌜ saved (now (s .exit)) ≡ saved (now (s .entry)) ⌝ }
 {
     let mut k: usize = 0;
@@ -54,7 +56,8 @@ fn clear_eps(s: &mut State)
 // Of each cleared record the two fields that are not 0 in a new one.
 fn new_eps(s: &mut State)
     requires { ⌜ view (now s) .eps ≡ replicate 32 noEp ⌝ }
-    ensures { λ _. ⌜ view (now (s .exit)) ≡ withEps (view (now (s .entry))) (filled (view (now (s .entry)) .eps) 0 32 newEp) ⌝ }
+    ensures { λ _. ⌜ view (now (s .exit)) ≡ withEps (view (now (s .entry)))
+        (filled (view (now (s .entry)) .eps) 0 32 newEp) ⌝ }
     ensures { λ _. ⌜ saved (now (s .exit)) ≡ saved (now (s .entry)) ⌝ }
 {
     let mut k: usize = 0;
@@ -70,7 +73,8 @@ fn new_eps(s: &mut State)
 
 // All records cleared at once, by a memset, then two fields of each: a third of what a whole new record for each takes.
 fn fill_eps(s: &mut State)
-    ensures { λ _. ⌜ view (now (s .exit)) ≡ withEps (view (now (s .entry))) (filled (view (now (s .entry)) .eps) 0 32 newEp) ⌝ }
+    ensures { λ _. ⌜ view (now (s .exit)) ≡ withEps (view (now (s .entry)))
+        (filled (view (now (s .entry)) .eps) 0 32 newEp) ⌝ }
     ensures { λ _. ⌜ saved (now (s .exit)) ≡ saved (now (s .entry)) ⌝ }
 {
     clear_eps(s);
@@ -80,7 +84,8 @@ fn fill_eps(s: &mut State)
 // The n lengths from a.
 fn fill_lengths(s: &mut State, a: usize, n: usize, v: u16)
     requires { ⌜ a + n ≤ 512 ⌝ }
-    ensures { λ _. ⌜ view (now (s .exit)) ≡ withLens (view (now (s .entry))) (filled (view (now (s .entry)) .lens) a n v) ⌝ }
+    ensures { λ _. ⌜ view (now (s .exit)) ≡ withLens (view (now (s .entry)))
+        (filled (view (now (s .entry)) .lens) a n v) ⌝ }
     ensures { λ _. ⌜ saved (now (s .exit)) ≡ saved (now (s .entry)) ⌝ }
 {
     let mut k: usize = 0;
@@ -92,7 +97,8 @@ fn fill_lengths(s: &mut State, a: usize, n: usize, v: u16)
 }
 
 fn fill_paced(s: &mut State)
-    ensures { λ _. ⌜ view (now (s .exit)) ≡ withPaced (view (now (s .entry))) (filled (view (now (s .entry)) .paced) 0 16 0x1800) ⌝ }
+    ensures { λ _. ⌜ view (now (s .exit)) ≡ withPaced (view (now (s .entry)))
+        (filled (view (now (s .entry)) .paced) 0 16 0x1800) ⌝ }
     ensures { λ _. ⌜ saved (now (s .exit)) ≡ saved (now (s .entry)) ⌝ }
 {
     let mut k: usize = 0;
@@ -104,7 +110,8 @@ fn fill_paced(s: &mut State)
 }
 
 fn fill_requests(s: &mut State)
-    ensures { λ _. ⌜ view (now (s .exit)) ≡ withRequests (view (now (s .entry))) (filled (view (now (s .entry)) .requests) 0 32 noRequest) ⌝ }
+    ensures { λ _. ⌜ view (now (s .exit)) ≡ withRequests (view (now (s .entry)))
+        (filled (view (now (s .entry)) .requests) 0 32 noRequest) ⌝ }
     ensures { λ _. ⌜ saved (now (s .exit)) ≡ saved (now (s .entry)) ⌝ }
 {
     let mut k: usize = 0;

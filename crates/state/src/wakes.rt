@@ -1,5 +1,5 @@
-// The wake-ups gathered by the operation under way, in their order: how many, and a code for each (0 to 15 IN, 16 to 31 OUT, 32 the
-// bus). Each wake-up goes through `wake`.
+// The wake-ups gathered by the operation under way, in their order: how many, and a code for each (0 to 15 IN, 16 to 31
+// OUT, 32 the bus). Each wake-up goes through `wake`.
 use crate::CODES;
 use crate::State;
 use crate::WAKES;
@@ -39,7 +39,8 @@ pub fn woken_at(s: &State, i: u8) -> u8
 }
 
 fn store_count(s: &mut State, n: u8)
-    ensures { λ _. ⌜ view (now (s .exit)) ≡ withWakes (view (now (s .entry))) (withCount (view (now (s .entry)) .wakes) n) ⌝ }
+    ensures { λ _. ⌜ view (now (s .exit)) ≡ withWakes (view (now (s .entry)))
+        (withCount (view (now (s .entry)) .wakes) n) ⌝ }
     ensures { λ _. ⌜ saved (now (s .exit)) ≡ saved (now (s .entry)) ⌝ }
 {
     sized(s);
@@ -58,7 +59,8 @@ fn store_code(s: &mut State, i: u8, code: u8)
 
 // One more, the last.
 pub fn wake(s: &mut State, code: u8)
-    ensures { λ _. ⌜ view (now (s .exit)) ≡ withWakes (view (now (s .entry))) (woken code (view (now (s .entry)) .wakes)) ⌝ }
+    ensures { λ _. ⌜ view (now (s .exit)) ≡ withWakes (view (now (s .entry)))
+        (woken code (view (now (s .entry)) .wakes)) ⌝ }
     ensures { λ _. ⌜ saved (now (s .exit)) ≡ saved (now (s .entry)) ⌝ }
 {
     let n = woken_count(s);

@@ -1,4 +1,5 @@
--- Packets on the card: a writer as four numbers, the calls' words, and what the caller's rooms hold then. A refusal leaves them.
+-- Packets on the card: a writer as four numbers, the calls' words, and what the caller's rooms hold then. A refusal
+-- leaves them.
 use mathlib.Core.Bool.{Bool, cond}
 use mathlib.Core.List.{List, [], _∷_}
 use Prim.Native.Nat.{ℕ, _+_, _%_}
@@ -20,7 +21,13 @@ use Rattle.survey_c.specs.Words.{refusedWord, endWord, doneWord}
 
 -- number, used, first, done; the last three count modulo 65,536
 unfoldable pub writerIn : List ℕ → Writer
-writerIn s = record { number = getD s 0 0; used = getD s 1 0 % 65536; first = getD s 2 0 % 65536; done = getD s 3 0 % 65536 }
+writerIn s = record {
+  number = getD s 0 0;
+  used = getD s 1 0 % 65536;
+  first = getD s 2 0 % 65536;
+  done
+      = getD s 3 0 % 65536;
+}
 
 unfoldable pub numbersOf : Writer → List ℕ
 numbersOf w = w .number ∷ w .used ∷ w .first ∷ w .done ∷ []

@@ -1,5 +1,5 @@
--- From the definitions of the card's calls: a writer's numbers are read back, so that calls from C go on as those of `req_card_writer` do, and any
--- number may be brought as an endpoint. Assumes nothing.
+-- From the definitions of the card's calls: a writer's numbers are read back, so that calls from C go on as those of
+-- `req_card_writer` do, and any number may be brought as an endpoint. Assumes nothing.
 use mathlib.Core.Path.{_≡_}
 use mathlib.Core.Bool.{Bool, true, false, cond, or-true}
 use mathlib.Core.List.{List}
@@ -9,7 +9,8 @@ use native.Mathlib.Decide.{decLt}
 use borrow.Author.Tests.{lt-ltb}
 use Rattle.card.specs.Packet.{Packet, packetOf}
 use Rattle.card.specs.declared.writer.Writer.{Writer}
-use Rattle.card.specs.Writing.{newWriter, usedOf, doneOf, pieceOf, beginsFirst, firstOf, fullOf, wholeOf, doneAfter, writerOf, unfit, writeOf}
+use Rattle.card.specs.Writing.{newWriter, usedOf, doneOf, pieceOf, beginsFirst, firstOf, fullOf, wholeOf, doneAfter}
+use Rattle.card.specs.Writing.{writerOf, unfit, writeOf}
 use Rattle.card.specs.Writing.{writtenOf}
 use Rattle.survey_c.specs.Card.{writerIn, numbersOf}
 
@@ -59,14 +60,16 @@ next-short w n l h = by (fullOf w n)
 unfit-high : (p : Packet) (b : List ℕ) → 15 < p .endpoint → unfit p b ≡ true
 unfit-high p b h = rw (lt-ltb 15 (p .endpoint) h, or-true, or-true, or-true)
 
-pub write-any : (w : Writer) (e : ℕ) (bytes b : List ℕ) (n : ℕ) → n ≡ min e 16 → writeOf w (packetOf n bytes) b ≡ writeOf w (packetOf e bytes) b
+pub write-any : (w : Writer) (e : ℕ) (bytes b : List ℕ) (n : ℕ) → n ≡ min e 16 → writeOf w (packetOf n bytes) b
+    ≡ writeOf w (packetOf e bytes) b
 unfolding writeOf
 write-any w e bytes b n h = elim (decLt e 16) [
   | yes l ↦ (let m : n ≡ e = omega arith in rw m)
   | no l ↦ rw (unfit-high (packetOf n bytes) b (omega arith), unfit-high (packetOf e bytes) b (omega arith))
 ]
 
-pub written-any : (w : Writer) (e : ℕ) (bytes b : List ℕ) (n : ℕ) → n ≡ min e 16 → writtenOf w (packetOf n bytes) b ≡ writtenOf w (packetOf e bytes) b
+pub written-any : (w : Writer) (e : ℕ) (bytes b : List ℕ) (n : ℕ) → n ≡ min e 16 → writtenOf w (packetOf n bytes) b
+    ≡ writtenOf w (packetOf e bytes) b
 unfolding writtenOf
 written-any w e bytes b n h = elim (decLt e 16) [
   | yes l ↦ (let m : n ≡ e = omega arith in rw m)

@@ -1,5 +1,5 @@
--- Packets written from C, as the header's loop does it: four numbers, a lent block, and of each call's word its bits. A full block is stored and the
--- next one lent; a packet is brought again until it is written whole.
+-- Packets written from C, as the header's loop does it: four numbers, a lent block, and of each call's word its bits. A
+-- full block is stored and the next one lent; a packet is brought again until it is written whole.
 use mathlib.Core.Bool.{Bool, true, false, cond}
 use mathlib.Core.List.{List, [], _∷_, _++_}
 use Prim.Native.Nat.{ℕ, zero, suc, _+_, _/_, _%_, _^_}
@@ -32,21 +32,29 @@ pub record Caller : Type 0 where
   pub stored : List ℕ
 
 abbrev pub storedIf : Lends → Caller → List ℕ → Bool → List ℕ → Caller
-storedIf lend d numbers true b = record { numbers = numbers; block = lend (d .count + 1); count = d .count + 1; stored = d .stored ++ b }
+storedIf lend d numbers true b = record {
+  numbers = numbers;
+  block = lend (d .count + 1);
+  count = d .count + 1;
+  stored
+      = d .stored ++ b;
+}
 storedIf lend d numbers false b = record { numbers = numbers; block = b; count = d .count; stored = d .stored }
 
 -- after a call of usbhs_card_write with this packet
 abbrev pub afterWrite : Lends → Packet → Caller → Caller
 afterWrite lend p d =
     storedIf lend d (writerBy (writeOf (writerIn (d .numbers)) p (d .block)) (d .numbers))
-    (blockFull (wroteWord (writeOf (writerIn (d .numbers)) p (d .block)))) (writtenOf (writerIn (d .numbers)) p (d .block))
+    (blockFull (wroteWord (writeOf (writerIn (d .numbers)) p (d .block))))
+    (writtenOf (writerIn (d .numbers)) p (d .block))
 
 -- a packet, in at most n calls
 unfoldable pub packetCalls : Lends → ℕ → Packet → Caller → Caller
 packetCalls lend zero p d = d
 packetCalls lend (suc n) p d =
     cond (isRefused (wroteWord (writeOf (writerIn (d .numbers)) p (d .block)))) d
-    (cond (packetWritten (wroteWord (writeOf (writerIn (d .numbers)) p (d .block)))) (afterWrite lend p d) (packetCalls lend n p (afterWrite lend p d)))
+    (cond (packetWritten (wroteWord (writeOf (writerIn (d .numbers)) p (d .block)))) (afterWrite lend p d)
+    (packetCalls lend n p (afterWrite lend p d)))
 
 unfoldable pub packetsCalls : Lends → List Packet → Caller → Caller
 packetsCalls lend [] d = d
@@ -56,8 +64,15 @@ packetsCalls lend (p ∷ ps) d = packetsCalls lend ps (packetCalls lend (size p)
 unfoldable pub lastCall : Caller → List ℕ
 lastCall d =
     cond (isRefused (finishedWord (finishOf (writerIn (d .numbers)) (d .block)))) (d .stored)
-    (cond (blockFull (finishedWord (finishOf (writerIn (d .numbers)) (d .block)))) (d .stored ++ lastOf (writerIn (d .numbers)) (d .block)) (d .stored))
+    (cond (blockFull (finishedWord (finishOf (writerIn (d .numbers)) (d .block))))
+    (d .stored ++ lastOf (writerIn (d .numbers)) (d .block)) (d .stored))
 
 -- the stream that the exported calls make of these packets
 unfoldable pub streamCalls : Lends → List Packet → List ℕ
-streamCalls lend ps = lastCall (packetsCalls lend ps (record { numbers = numbersOf newWriter; block = lend 0; count = 0; stored = [] }))
+streamCalls lend ps = lastCall (packetsCalls lend ps (record {
+  numbers = numbersOf newWriter;
+  block = lend 0;
+  count
+      = 0;
+  stored = [];
+}))

@@ -1,4 +1,5 @@
--- A descriptor's list written out: the word. What the caller's room holds then is `roomRewritten` (`descriptor/specs/Rewriting.antt`).
+-- A descriptor's list written out: the word. What the caller's room holds then is `roomRewritten`
+-- (`descriptor/specs/Rewriting.antt`).
 use Prim.Native.Nat.{ℕ}
 use Rattle.descriptor.specs.declared.Written.{Written}
 use Rattle.descriptor.specs.declared.Written.the-variants as written

@@ -1,4 +1,5 @@
--- The best set of channels and the arrivals between visits: the word, and what the caller's rooms hold then. A refusal leaves them.
+-- The best set of channels and the arrivals between visits: the word, and what the caller's rooms hold then. A refusal
+-- leaves them.
 use mathlib.Core.Path.{_≡_}
 use mathlib.Core.List.{List, [], _∷_}
 use Prim.Native.Nat.{ℕ}
@@ -28,8 +29,10 @@ abbrev pub lookedBy : Answer → ℕ → ℕ
 lookedBy (answer.Refused row) old = old
 lookedBy (answer.Best c) old = c .looked
 
--- the word, the list and the three rooms after a call, by the list, the time in use, the budget and what stood in the rooms
-pub record BestSet (list : List Channel) (inUse budget total figure looked word : ℕ) (list′ : List Channel) (total′ figure′ looked′ : ℕ) : Type 0 where
+-- the word, the list and the three rooms after a call, by the list, the time in use, the budget and what stood in the
+-- rooms
+pub record BestSet (list : List Channel) (inUse budget total figure looked word : ℕ) (list′ : List Channel)
+    (total′ figure′ looked′ : ℕ) : Type 0 where
   pub says : word ≡ bestWord (answerOf list inUse budget)
   pub marks : list′ ≡ listAfter list inUse budget
   pub totals : total′ ≡ totalBy (answerOf list inUse budget) total

@@ -20,5 +20,6 @@ module _ (cs : List Channel) (inUse budget : ℕ) (some : 0 < budget) (few : len
       let p = accepted cs inUse budget some few .promise in
       omega (arith, p .looked, p .best .among, pow-mono few)
 
-  pub best-read : (bestWord (answerOf cs inUse budget) % 2 ^ 4 ≡ 5) × (bestWord (answerOf cs inUse budget) / 2 ^ 8 ≡ choiceIn cs inUse budget .set)
+  pub best-read : (bestWord (answerOf cs inUse budget) % 2 ^ 4 ≡ 5)
+      × (bestWord (answerOf cs inUse budget) / 2 ^ 8 ≡ choiceIn cs inUse budget .set)
   best-read = rw (accepted cs inUse budget some few .answer) (end-parts (choiceIn cs inUse budget .set))

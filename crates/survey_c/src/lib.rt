@@ -1,5 +1,6 @@
-// The calls that take no driver, for programs in other languages (include/usbhs_survey.h): the best set of channels, the arrivals between visits,
-// packets on the card, a configuration descriptor's endpoints. Any numbers are safe. Each call answers one word; where it is refused, nothing is written.
+// The calls that take no driver, for programs in other languages (include/usbhs_survey.h): the best set of channels,
+// the arrivals between visits, packets on the card, a configuration descriptor's endpoints. Any numbers are safe. Each
+// call answers one word; where it is refused, nothing is written.
 mod rooms; // rooms.rt: an answer's numbers in the caller's rooms
 mod six_numbers; // six_numbers.rt: a recorder as six numbers
 mod words; // words.rt: an answer as one word
@@ -39,10 +40,12 @@ ghost use Rattle.card.specs.Calls.{startOf, nextOf, roomOf};
 ghost use Rattle.survey_c.specs.Numbers.{BestSet, boundsWord, leastBy, greatestBy};
 ghost use Rattle.card.specs.Batches.{batchOf, batchRoomOf};
 ghost use Rattle.survey_c.specs.Card.{batchWord, batchPlaceBy, countBy, usedBy};
-ghost use Rattle.recorder.specs.Recording.{beginOf, beginRoom, recordOf, recordRoom, finishOf as finishedBy, finishRoom, storedOf};
+ghost use Rattle.recorder.specs.Recording.{beginOf, beginRoom, recordOf, recordRoom, finishOf as finishedBy};
+ghost use Rattle.recorder.specs.Recording.{finishRoom, storedOf};
 ghost use Rattle.survey_c.specs.Words.{endWord};
 ghost use Rattle.survey_c.specs.Recorder.{recorderIn, recorderNumbers, recordedWord, recorderBy};
-ghost use Rattle.survey_c.specs.Card.{writerIn, numbersOf, wroteWord, writerBy, finishedWord, startedWord, startBy, nextWord, endpointBy, placeBy};
+ghost use Rattle.survey_c.specs.Card.{writerIn, numbersOf, wroteWord, writerBy, finishedWord, startedWord};
+ghost use Rattle.survey_c.specs.Card.{startBy, nextWord, endpointBy, placeBy};
 
 // The best set of the channels in the list, with the bus time that is in use: its count is the end's result; beside it
 // the total of its maxima, a figure that no fitting set exceeds and how many sets were looked at.
@@ -55,7 +58,8 @@ pub extern "C" fn usbhs_best_set(
     figure: &mut u32,
     looked: &mut u32,
 ) -> u64
-    ensures { λ r. ⌜ BestSet (now (list .entry)) (inUse (now (time .entry))) budget (now (total .entry)) (now (figure .entry))
+    ensures { λ r. ⌜ BestSet (now (list .entry)) (inUse (now (time .entry))) budget (now (total .entry))
+        (now (figure .entry))
         (now (looked .entry)) r (now (list .exit)) (now (total .exit)) (now (figure .exit)) (now (looked .exit)) ⌝ }
 {
     let in_use = bus_time::in_use(time);
@@ -63,7 +67,8 @@ pub extern "C" fn usbhs_best_set(
     best_into(answer, total, figure, looked)
 }
 
-// The least and the greatest number of arrivals between two visits, each with a first arrival and a distance that reach it.
+// The least and the greatest number of arrivals between two visits, each with a first arrival and a distance that reach
+// it.
 #[no_mangle]
 pub extern "C" fn usbhs_between_visits(
     a: u32,
@@ -114,10 +119,13 @@ pub extern "C" fn usbhs_card_write(
     endpoint: u32,
     bytes: &[u8],
 ) -> u64
-    ensures { λ r. ⌜ r ≡ wroteWord (writeOf (writerIn (now (writer .entry))) (packetOf endpoint (now (bytes .entry))) (now (block .entry))) ⌝ }
+    ensures { λ r. ⌜ r ≡ wroteWord (writeOf (writerIn (now (writer .entry))) (packetOf endpoint (now (bytes .entry)))
+        (now (block .entry))) ⌝ }
     ensures { λ _. ⌜ now (writer .exit) ≡ writerBy
-        (writeOf (writerIn (now (writer .entry))) (packetOf endpoint (now (bytes .entry))) (now (block .entry))) (now (writer .entry)) ⌝ }
-    ensures { λ _. ⌜ now (block .exit) ≡ writtenOf (writerIn (now (writer .entry))) (packetOf endpoint (now (bytes .entry))) (now (block .entry)) ⌝ }
+        (writeOf (writerIn (now (writer .entry))) (packetOf endpoint (now (bytes .entry))) (now (block .entry)))
+        (now (writer .entry)) ⌝ }
+    ensures { λ _. ⌜ now (block .exit) ≡ writtenOf (writerIn (now (writer .entry)))
+        (packetOf endpoint (now (bytes .entry))) (now (block .entry)) ⌝ }
 {
     let w = writer_in(writer);
     match card::writing::write(w, block, endpoint_of(endpoint), bytes) {
@@ -169,11 +177,14 @@ pub extern "C" fn usbhs_record(
     bytes: &[u8],
     overruns: u32,
 ) -> u64
-    ensures { λ r. ⌜ r ≡ recordedWord (recordOf (recorderIn (now (state .entry))) (packetOf endpoint (now (bytes .entry))) (now (room .entry))) ⌝ }
+    ensures { λ r. ⌜ r ≡ recordedWord (recordOf (recorderIn (now (state .entry)))
+        (packetOf endpoint (now (bytes .entry))) (now (room .entry))) ⌝ }
     ensures { λ _. ⌜ now (state .exit) ≡ recorderBy
-        (recordOf (recorderIn (now (state .entry))) (packetOf endpoint (now (bytes .entry))) (now (room .entry))) (now (state .entry)) ⌝ }
+        (recordOf (recorderIn (now (state .entry))) (packetOf endpoint (now (bytes .entry))) (now (room .entry)))
+        (now (state .entry)) ⌝ }
     ensures { λ _. ⌜ now (room .exit)
-        ≡ recordRoom (recorderIn (now (state .entry))) (packetOf endpoint (now (bytes .entry))) overruns (now (room .entry)) ⌝ }
+        ≡ recordRoom (recorderIn (now (state .entry))) (packetOf endpoint (now (bytes .entry))) overruns
+        (now (room .entry)) ⌝ }
 {
     let r = recorder_in(state);
     match recorder::recording::record(r, room, endpoint_of(endpoint), bytes, overruns) {
@@ -240,9 +251,11 @@ pub extern "C" fn usbhs_card_next(
     room: &mut [u8],
 ) -> u64
     ensures { λ r. ⌜ r ≡ nextWord (nextOf (now (stream .entry)) (now (place .entry)) (length (now (room .entry)))) ⌝ }
-    ensures { λ _. ⌜ now (place .exit) ≡ placeBy (nextOf (now (stream .entry)) (now (place .entry)) (length (now (room .entry)))) (now (place .entry)) ⌝ }
+    ensures { λ _. ⌜ now (place .exit) ≡ placeBy (nextOf (now (stream .entry)) (now (place .entry))
+        (length (now (room .entry)))) (now (place .entry)) ⌝ }
     ensures { λ _. ⌜ now (endpoint .exit)
-        ≡ endpointBy (nextOf (now (stream .entry)) (now (place .entry)) (length (now (room .entry)))) (now (endpoint .entry)) ⌝ }
+        ≡ endpointBy (nextOf (now (stream .entry)) (now (place .entry)) (length (now (room .entry))))
+        (now (endpoint .entry)) ⌝ }
     ensures { λ _. ⌜ now (room .exit) ≡ roomOf (now (stream .entry)) (now (place .entry)) (now (room .entry)) ⌝ }
 {
     let reader = Reader { at: *place };
@@ -261,7 +274,8 @@ pub extern "C" fn usbhs_card_next(
     }
 }
 
-// As many packets from the place on as the room holds, one behind the other as they stand on the card: what as many calls of usbhs_card_next give.
+// As many packets from the place on as the room holds, one behind the other as they stand on the card: what as many
+// calls of usbhs_card_next give.
 #[no_mangle]
 pub extern "C" fn usbhs_card_read(
     stream: &[u8],
@@ -271,9 +285,12 @@ pub extern "C" fn usbhs_card_read(
     used: &mut usize,
 ) -> u64
     ensures { λ r. ⌜ r ≡ batchWord (batchOf (now (stream .entry)) (now (place .entry)) (length (now (room .entry)))) ⌝ }
-    ensures { λ _. ⌜ now (place .exit) ≡ batchPlaceBy (batchOf (now (stream .entry)) (now (place .entry)) (length (now (room .entry)))) (now (place .entry)) ⌝ }
-    ensures { λ _. ⌜ now (count .exit) ≡ countBy (batchOf (now (stream .entry)) (now (place .entry)) (length (now (room .entry)))) (now (count .entry)) ⌝ }
-    ensures { λ _. ⌜ now (used .exit) ≡ usedBy (batchOf (now (stream .entry)) (now (place .entry)) (length (now (room .entry)))) (now (used .entry)) ⌝ }
+    ensures { λ _. ⌜ now (place .exit) ≡ batchPlaceBy (batchOf (now (stream .entry)) (now (place .entry))
+        (length (now (room .entry)))) (now (place .entry)) ⌝ }
+    ensures { λ _. ⌜ now (count .exit) ≡ countBy (batchOf (now (stream .entry)) (now (place .entry))
+        (length (now (room .entry)))) (now (count .entry)) ⌝ }
+    ensures { λ _. ⌜ now (used .exit) ≡ usedBy (batchOf (now (stream .entry)) (now (place .entry))
+        (length (now (room .entry)))) (now (used .entry)) ⌝ }
     ensures { λ _. ⌜ now (room .exit) ≡ batchRoomOf (now (stream .entry)) (now (place .entry)) (now (room .entry)) ⌝ }
 {
     let reader = Reader { at: *place };

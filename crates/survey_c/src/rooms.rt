@@ -9,7 +9,8 @@ ghost use Rattle.survey_c.specs.Numbers.{bestWord, totalBy, figureBy, lo
 // The best set of channels.
 pub fn best_into(answer: Answer, total: &mut u32, figure: &mut u32, looked: &mut u32) -> u64
     ensures { λ r. ⌜ (r ≡ bestWord answer) × (now (total .exit) ≡ totalBy answer (now (total .entry)))
-        × (now (figure .exit) ≡ figureBy answer (now (figure .entry))) × (now (looked .exit) ≡ lookedBy answer (now (looked .entry))) ⌝ }
+        × (now (figure .exit) ≡ figureBy answer (now (figure .entry)))
+        × (now (looked .exit) ≡ lookedBy answer (now (looked .entry))) ⌝ }
 {
     match answer {
         Answer::Refused(row) => refused(row),

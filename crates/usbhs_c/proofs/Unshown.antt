@@ -15,7 +15,8 @@ use Rattle.usbhs_c.specs.Stamp.{stampBy}
 abbrev others : List ℕ
 others = 0 ∷ 1 ∷ 2 ∷ 3 ∷ 4 ∷ 5 ∷ []
 
-pub unshown : (t : Step) → OneOf others (tagOf declared.the-type t) → (old : ℕ) (b : List ℕ) (d : Driver) → old ≡ stampBy (answerOf t b d) old
+pub unshown : (t : Step) → OneOf others (tagOf declared.the-type t) → (old : ℕ) (b : List ℕ) (d : Driver) → old
+    ≡ stampBy (answerOf t b d) old
 unshown (step.Refused n) h old b d = refl
 unshown (step.Asks q) h old b d = refl
 unshown (step.Ends n w) h old b d = refl

@@ -1,5 +1,5 @@
--- What an exported call says: its word is that of the answer which the machine of calls gives; the 22 bytes that are saved of an operation under way
--- are canonical, all zero or as they were, by the answer (`SavedByAnswer`)
+-- What an exported call says: its word is that of the answer which the machine of calls gives; the 22 bytes that are
+-- saved of an operation under way are canonical, all zero or as they were, by the answer (`SavedByAnswer`)
 use mathlib.Core.Bool.{Bool, not, cond}
 use mathlib.Core.List.{List, []}
 use mathlib.Core.Path.{_≡_}
@@ -57,7 +57,8 @@ AnswersInto r c before after out out′ =
 abbrev pub AnswersOutOf : ℕ → Call Config Op → List ℕ → List ℕ → Buf → List ℕ → List ℕ → Type 0
 AnswersOutOf r c before after slots out out′ =
     Worded r
-    (λ step. ((a : Buf) → (answerOf step out′ (view after), machineOf after (lentOr (view before) slots slots a)) ≡ drive c (machineOf before a) slots)
+    (λ step. ((a : Buf) → (answerOf step out′ (view after), machineOf after (lentOr (view before) slots slots a))
+    ≡ drive c (machineOf before a) slots)
     × SavedByAnswer step before after)
     × ((a : Buf) → out′ ≡ lentBy (drive c (machineOf before a) slots .0) out)
 
@@ -72,10 +73,12 @@ AnswersBeside r c before after =
 abbrev pub AnswersShown : ℕ → Call Config Op → List ℕ → List ℕ → Buf → Buf → Type 0
 AnswersShown r c before after slots slots′ =
     Worded r
-    (λ step. ((a : Buf) → (answerOf step slots′ (view after), machineOf after (lentOr (view before) slots slots′ a)) ≡ drive c (machineOf before a) slots)
+    (λ step. ((a : Buf) → (answerOf step slots′ (view after), machineOf after (lentOr (view before) slots slots′ a))
+    ≡ drive c (machineOf before a) slots)
     × (BufferUnchangedOnRow1 (view before) slots slots′ × (saved after ≡ saved before)))
 
--- open, with the slots, which stay: a packet that is shown is the endpoint's oldest; its stamp is in the caller's room, before and after the call
+-- open, with the slots, which stay: a packet that is shown is the endpoint's oldest; its stamp is in the caller's room,
+-- before and after the call
 abbrev pub AnswersOpen : ℕ → ℕ → List ℕ → List ℕ → Buf → ℕ → ℕ → Type 0
 AnswersOpen r e before after slots stamp stamp′ =
     Worded r
@@ -86,7 +89,8 @@ AnswersOpen r e before after slots stamp stamp′ =
     × (ShownAt step (view after) e × (saved after ≡ saved before)))
     × ((a : Buf) → stamp′ ≡ stampBy (drive (begin (aside (Open e))) (machineOf before a) slots .0) stamp)
 
--- start-up by driver i: the slots that it is brought are the run's from then on, unless it is refused; the record of bus time before and after
+-- start-up by driver i: the slots that it is brought are the run's from then on, unless it is refused; the record of
+-- bus time before and after
 abbrev pub AnswersStart : ℕ → ℕ → Config → List ℕ → List ℕ → Buf → List ℕ → List ℕ → Type 0
 AnswersStart r i c before after slots time time′ =
     Worded r
@@ -98,4 +102,5 @@ AnswersStart r i c before after slots time time′ =
 
 -- a call that brings the slots and the record of bus time
 abbrev pub AnswersCharged : ℕ → ℕ → Call Config Op → List ℕ → List ℕ → Buf → Buf → List ℕ → List ℕ → Type 0
-AnswersCharged r i c before after slots slots′ time time′ = Worded r (λ step. SharedStep step i c before after slots slots′ time time′)
+AnswersCharged r i c before after slots slots′ time time′
+    = Worded r (λ step. SharedStep step i c before after slots slots′ time time′)

@@ -1,4 +1,5 @@
--- A preview as an exported call gives it: the word, and what the caller's rooms hold then. A refusal by row 3, 4, 17 or 18 leaves them
+-- A preview as an exported call gives it: the word, and what the caller's rooms hold then. A refusal by row 3, 4, 17 or
+-- 18 leaves them
 use mathlib.Core.List.{List}
 use Prim.Native.Nat.{ℕ, _+_, _*_, _%_, _^_}
 use Rattle.state.specs.State.{view, saved}
@@ -11,7 +12,8 @@ use Rattle.calls.specs.Listed.{previewed}
 
 -- by the state's bytes and the descriptor's
 abbrev pub shownBy : List ℕ → List ℕ → Shown
-shownBy state bytes = previewed (stopOf (isIdle (decode (saved state))) 1 (view state .globals .stage)) (view state .allocator) bytes
+shownBy state bytes = previewed (stopOf (isIdle (decode (saved state))) 1 (view state .globals .stage))
+    (view state .allocator) bytes
 
 -- kind 0: the row's number 8-15; kind 5: how many numbers were given 8-23, of which there are at most 32
 abbrev pub wordBy : Said → Shown → ℕ

@@ -15,13 +15,13 @@ use Rattle.regs.specs.Flags.{TRANSFER}
 use Rattle.state.specs.State.{view}
 use Rattle.script.specs.Every.{sameReg}
 use Rattle.script.specs.Calls.{interrupt}
-use Rattle.script.specs.Machine.{Buf, begin, go}
+use Rattle.script.specs.Machine.{Buf, begin, continue}
 use Rattle.answer.specs.declared.Step.{Step}
 use Rattle.answer.specs.declared.Step.the-variants.{Refused, Asks, Ends, NotYet, Done, Setup, Shown}
 use Rattle.machine.specs.Suspended.{machineOf, drive, answerOf, SavedByAnswer}
 use Rattle.answer.specs.Word.{readWord, accessWord, wordOf, Encodes, Worded}
 use Rattle.answer.specs.Parts.{stepOf, spoken}
-use Rattle.readings.specs.Readings.{Reading, reading, Lent, lent, Continues, If, Over, Brings}
+use Rattle.readings.specs.Readings.{Reading, reading, Lent, lent, Continues, When, Over, Brings}
 use Rattle.readings.specs.Readings.{asksFor, readsOf}
 use Rattle.readings.specs.declared.Entered.{Entered}
 use Rattle.readings.specs.declared.Entered.the-variants as entered
@@ -113,16 +113,20 @@ Continued w i v l l′ = Worded w (λ y. Continues i v l y l′)
 
 -- as its contract has it
 pub continued : (w i v : ℕ) (l l′ : Lent)
-    → AnswersCharged w i (go v) (l .bytes) (l′ .bytes) (l .slots) (l′ .slots) (l .time) (l′ .time) → Continued w i v l l′
+    → AnswersCharged w i (continue v) (l .bytes) (l′ .bytes) (l .slots) (l′ .slots) (l .time) (l′ .time)
+    → Continued w i v l l′
 continued w i v l l′ h = (h .0, h .1, record { did = h .2 .0; kept = h .2 .1 .0; saves = h .2 .1 .1 })
 
 module _ (i : ℕ) (r : Reg) (v : ℕ) (vs : List Reading) (x : Step) (l : Lent) (y : Step) (l′ : Lent) where
-  more : asksFor r x ≡ true → (z : Step) (m : Lent) → Continues i v l z m → Brings i vs z m y l′ → Brings i (reading r v ∷ vs) x l y l′
+  more : asksFor r x ≡ true → (z : Step) (m : Lent) → Continues i v l z m → Brings i vs z m y l′
+      → Brings i (reading r v ∷ vs) x l y l′
   more h z m c k =
-      subst (λ (b : Bool). If b ((z : Step) × (m : Lent) × Continues i v l z m × Brings i vs z m y l′) (Over x l y l′)) (sym h) (z, m, c, k)
+      subst (λ (b : Bool). When b ((z : Step) × (m : Lent) × Continues i v l z m × Brings i vs z m y l′)
+      (Over x l y l′)) (sym h) (z, m, c, k)
 
   no-more : asksFor r x ≡ false → Over x l y l′ → Brings i (reading r v ∷ vs) x l y l′
-  no-more h k = subst (λ (b : Bool). If b ((z : Step) × (m : Lent) × Continues i v l z m × Brings i vs z m y l′) (Over x l y l′)) (sym h) k
+  no-more h k = subst (λ (b : Bool). When b ((z : Step) × (m : Lent) × Continues i v l z m × Brings i vs z m y l′)
+      (Over x l y l′)) (sym h) k
 
 -- two, after a word that says x
 module _ (i : ℕ) (r q : Reg) (v u : ℕ) (word : ℕ) (x : Step) (says : Encodes word x) where
@@ -185,15 +189,25 @@ module _ (w i frame flags : ℕ) (n : Entered) (l m : Lent) (h : EntersAs n i fr
   -- one by one
   pub begun : n ≡ entered.No → (word : ℕ) (ys : List ℕ) (l′ : Lent) → Answers word (begin interrupt) (m .bytes) ys
       → ((x : Step) → Encodes word x
-      → Worded w (λ y. Brings i (reading FrameNo frame ∷ reading IntFg flags ∷ []) x (lent ys (l .slots) (l .time)) y l′))
+      → Worded w (λ y. Brings i (reading FrameNo frame ∷ reading IntFg flags ∷ []) x (lent ys (l .slots) (l .time)) y
+      l′))
       → AnswersInterrupt w i frame flags l l′
   begun e word ys l′ b f =
       let same : m ≡ l = subst EnteredAs e h in
       let k = f (b .0) (b .1) in
-      let did = subst (λ (z : Lent). ((a c : Buf) → (answerOf (b .0) [] (view ys), machineOf ys c) ≡ drive (begin interrupt) (machineOf (z .bytes) a) c))
+      let did = subst (λ (z : Lent). ((a c : Buf) → (answerOf (b .0) [] (view ys), machineOf ys c)
+      ≡ drive (begin interrupt) (machineOf (z .bytes) a) c))
       same (b .2 .0) in
-      let saves = subst (λ (z : Lent). SavedByAnswer (b .0) (z .bytes) ys) same (b .2 .1) in
-      (k .0, k .1, (b .0, lent ys (l .slots) (l .time), record { did = did; saves = saves; slots = refl; time = refl }, k .2))
+      let saves = subst (λ (z : Lent). SavedByAnswer (b .0) (z .bytes) ys) same (b .2 .1) in (
+        k .0,
+        k .1,
+        (
+          b .0,
+          lent ys (l .slots) (l .time),
+          record { did = did; saves = saves; slots = refl; time = refl },
+          k .2,
+        ),
+      )
 
 module _ (w i mis st len : ℕ) (n : Passed) (l m : Lent) (h : PassesAs n i mis st len l m) where
   abbrev PassedAs : Passed → Type 0

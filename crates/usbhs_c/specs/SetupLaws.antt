@@ -19,7 +19,7 @@ use Rattle.machine.specs.declared.Suspended.{Suspended}
 use Rattle.answer.specs.declared.Step.{Step}
 use Rattle.answer.specs.declared.Step.the-variants as step
 use Rattle.machine.specs.Suspended.{machineAt, drive, halts, answerOf}
-use Rattle.answer.specs.Goes.{Called}
+use Rattle.answer.specs.Goes.{StepResult}
 use Rattle.machine.specs.Rows.{isIdle}
 use Rattle.machine.specs.RowsLaws.{other-idle}
 use Rattle.usbhs_c.specs.Setup.{NoSlice}
@@ -40,8 +40,10 @@ drop-all [] = refl
 drop-all (x ∷ xs) = drop-all xs
 
 -- the packet's 8 bytes are all of the caller's
-pub over-all : (low high : ℕ) (xs : List ℕ) → length xs ≡ 8 → wordBytes low ++ wordBytes high ≡ over (wordBytes low ++ wordBytes high) xs
-over-all low high xs h = ap (λ (t : List ℕ). (wordBytes low ++ wordBytes high) ++ t) (sym (ap (λ (n : ℕ). drop n xs) (sym h) ∙ drop-all xs))
+pub over-all : (low high : ℕ) (xs : List ℕ) → length xs ≡ 8 → wordBytes low ++ wordBytes high
+    ≡ over (wordBytes low ++ wordBytes high) xs
+over-all low high xs h = ap (λ (t : List ℕ). (wordBytes low ++ wordBytes high) ++ t)
+    (sym (ap (λ (n : ℕ). drop n xs) (sym h) ∙ drop-all xs))
 
 -- the first of a pair by another name
 pub told-by : {A B : Type 0} {x y : A} {z : B} {w : A × B} → x ≡ y → (y, z) ≡ w → (x, z) ≡ w
@@ -63,7 +65,8 @@ ByteFirst (told n) = Unit {0}
 -- where nothing is under way (x), EP0 is started (y), setup was begun (z) and a packet is there (w)
 by-rows : (x y z w : Bool) (g : Globals) (s1 s2 s3 s4 : Driver × Buf) (m : Machine Answer Driver)
     → ByteFirst
-    (cond x (halts (cond y (cond z (cond w (ends (Done (setupBytes g)) s1) (ends NotYet s2)) (ends (Refused 15) s3)) (ends (Refused 4) s4)))
+    (cond x (halts (cond y (cond z (cond w (ends (Done (setupBytes g)) s1) (ends NotYet s2)) (ends (Refused 15) s3))
+    (ends (Refused 4) s4)))
     (ended (Refused 3), m) .0)
 unfolding setupBytes
 by-rows true true true true g s1 s2 s3 s4 m = omega arith
@@ -72,10 +75,12 @@ by-rows true true false w g s1 s2 s3 s4 m = tt
 by-rows true false z w g s1 s2 s3 s4 m = tt
 by-rows false y z w g s1 s2 s3 s4 m = tt
 
-setup-first : (u : Suspended) (d : Driver) (a b : Buf) → ByteFirst (drive (begin (other PollSetup)) (machineAt u d a) b .0)
+setup-first : (u : Suspended) (d : Driver) (a b : Buf)
+    → ByteFirst (drive (begin (other PollSetup)) (machineAt u d a) b .0)
 setup-first u d a b =
-    subst (λ (c : Called). ByteFirst (c .0)) (sym (other-idle PollSetup u d a b))
-    (by-rows (isIdle u) (eqb (d .globals .stage) 2) (eqb (d .control .sort) SETUP) (isOn (d .globals .«setup_ready»)) (d .globals) _ _ _ _ _)
+    subst (λ (c : StepResult). ByteFirst (c .0)) (sym (other-idle PollSetup u d a b))
+    (by-rows (isIdle u) (eqb (d .globals .stage) 2) (eqb (d .control .sort) SETUP) (isOn (d .globals .«setup_ready»))
+    (d .globals) _ _ _ _ _)
 
 no-slice : (t : Step) (x : Driver) → ByteFirst (answerOf t [] x) → NoSlice t
 no-slice (step.Refused n) x h = tt

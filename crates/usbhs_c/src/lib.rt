@@ -1,6 +1,6 @@
-// The driver's calls for programs in other languages (include/usbhs.h): a direction is 0 for OUT, else IN, a flag 0 for no, else yes, and any
-// number is safe. Each call answers one word (crate `call_answer_word`), a question its number. `time` is the record of bus time that up to four drivers
-// share, `driver` the caller's number in it, modulo 4.
+// The driver's calls for programs in other languages (include/usbhs.h): a direction is 0 for OUT, else IN, a flag 0 for
+// no, else yes, and any number is safe. Each call answers one word (crate `call_answer_word`), a question its number.
+// `time` is the record of bus time that up to four drivers share, `driver` the caller's number in it, modulo 4.
 pub mod inputs; // inputs.rt: directions and flags as numbers
 pub mod listed; // listed.rt: endpoints from a configuration descriptor
 pub mod together; // together.rt: readings that come in a row, brought by one call
@@ -24,7 +24,7 @@ ghost use Rattle.ring.specs.Copies.{over};
 ghost use Rattle.state.specs.State.{view, saved};
 ghost use Rattle.state.specs.Wakes.{listed};
 ghost use Rattle.script.specs.Statics.{flag};
-ghost use Rattle.script.specs.Machine.{begin, go, start};
+ghost use Rattle.script.specs.Machine.{begin, continue, start};
 ghost use Rattle.script.specs.Calls.{other, slotted, aside, interrupt, Microframe, Allocate, Start, SetPaced, BusEnable};
 ghost use Rattle.script.specs.Calls.{BusDisable, BusPoll, IsStalled, SetStalled, SetEnabled, BeginSetup, PollSetup};
 ghost use Rattle.script.specs.Calls.{BeginDataOut, PollDataOut, BeginDataIn, PollDataIn, BeginAccept};
@@ -82,13 +82,14 @@ pub extern "C" fn usbhs_start(s: &mut State, maximum: u32) -> u64
 // Any operation but the interrupt goes on; apart from usbhs_continue, which so keeps nothing over a call.
 fn operation_word(s: &mut State, slots: &mut [u8], time: &mut Time, driver: u32, value: u32) -> u64
     requires { ⌜ (saved (now s) .tag ≡ 6 → ⊥) ⌝ }
-    ensures { λ r. ⌜ AnswersCharged r driver (go value) (now (s .entry))
+    ensures { λ r. ⌜ AnswersCharged r driver (continue value) (now (s .entry))
         (now (s .exit)) (now (slots .entry)) (now (slots .exit)) (now (time .entry)) (now (time .exit)) ⌝ }
 {
     continue_word(calls::operates::operate(s, slots, time, driver, value))
 }
 
-// Goes on with the operation under way, with the number brought. An interrupt answers its word by itself, and leaves the record of bus time.
+// Goes on with the operation under way, with the number brought. An interrupt answers its word by itself, and leaves
+// the record of bus time.
 #[no_mangle]
 pub extern "C" fn usbhs_continue(
     s: &mut State,
@@ -97,7 +98,7 @@ pub extern "C" fn usbhs_continue(
     driver: u32,
     value: u32,
 ) -> u64
-    ensures { λ r. ⌜ AnswersCharged r driver (go value) (now (s .entry))
+    ensures { λ r. ⌜ AnswersCharged r driver (continue value) (now (s .entry))
         (now (s .exit)) (now (slots .entry)) (now (slots .exit)) (now (time .entry)) (now (time .exit)) ⌝ }
 {
     if tag(s) == INTERRUPT {

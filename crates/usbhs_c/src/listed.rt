@@ -25,7 +25,8 @@ pub extern "C" fn usbhs_preview(
     buffers: &mut u32,
     refusal: &mut u32,
 ) -> u64
-    ensures { λ r. ⌜ r ≡ wordBy (shownBy (now (s .entry)) (now (bytes .entry)) .said) (shownBy (now (s .entry)) (now (bytes .entry))) ⌝ }
+    ensures { λ r. ⌜ r ≡ wordBy (shownBy (now (s .entry)) (now (bytes .entry)) .said)
+        (shownBy (now (s .entry)) (now (bytes .entry))) ⌝ }
     ensures { λ _. ⌜ now (numbers .exit) ≡ numbersBy (shownBy (now (s .entry)) (now (bytes .entry)) .said)
         (shownBy (now (s .entry)) (now (bytes .entry))) (now (numbers .entry)) ⌝ }
     ensures { λ _. ⌜ now (buffers .exit) ≡ buffersBy (shownBy (now (s .entry)) (now (bytes .entry)) .said)

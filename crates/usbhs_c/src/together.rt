@@ -1,4 +1,5 @@
-// Readings that follow each other, brought by one call: it comes to as many calls of one access each, as long as the answer asks for the next of them.
+// Readings that follow each other, brought by one call: it comes to as many calls of one access each, as long as the
+// answer asks for the next of them.
 use crate::usbhs_begin_interrupt;
 use crate::usbhs_continue;
 use answer::Step;
@@ -11,8 +12,7 @@ use regs::Reg;
 use regs::registers::number;
 use state::State;
 ghost use mathlib.Core.Path.{_≡_};
-ghost use mathlib.Core.List.{List, [], _∷_};
-ghost use Prim.Native.Nat.{ℕ};
+ghost use mathlib.Core.List.{[], _∷_};
 ghost use Rattle.regs.specs.declared.Access.the-variants as Access;
 ghost use Rattle.regs.specs.declared.Reg.the-variants as Reg;
 ghost use Rattle.regs.specs.Flags.{TRANSFER};
@@ -20,8 +20,7 @@ ghost use Rattle.regs.specs.Registers.{numberOf};
 ghost use Rattle.answer.specs.declared.Step.{Step};
 ghost use Rattle.answer.specs.declared.Step.the-variants as Step;
 ghost use Rattle.answer.specs.Word.{readWord, Encodes, Worded};
-ghost use Rattle.answer.specs.Parts.{AccessFits};
-ghost use Rattle.readings.specs.Readings.{reading, lent, Brings, asksFor};
+ghost use Rattle.readings.specs.Readings.{reading, lent, Brings};
 ghost use Rattle.usbhs_c.specs.Readings.{AnswersInterrupt, AnswersTransfer};
 
 // The word that asks for a register's reading.
@@ -43,8 +42,10 @@ fn bring(
     second: Reg,
     b: u32,
 ) -> u64
-    ensures { λ w. ⌜ ((x : Step) → Encodes word x → Worded w (λ y. Brings driver (reading first a ∷ reading second b ∷ []) x
-        (lent (now (s .entry)) (now (slots .entry)) (now (time .entry))) y (lent (now (s .exit)) (now (slots .exit)) (now (time .exit))))) ⌝ }
+    ensures { λ w. ⌜ ((x : Step) → Encodes word x → Worded w
+        (λ y. Brings driver (reading first a ∷ reading second b ∷ []) x
+        (lent (now (s .entry)) (now (slots .entry)) (now (time .entry))) y
+        (lent (now (s .exit)) (now (slots .exit)) (now (time .exit))))) ⌝ }
 {
     if word == read_word(first) {
         let next = usbhs_continue(s, slots, time, driver, a);
@@ -56,7 +57,8 @@ fn bring(
     word
 }
 
-// The words of the answers that most transfers get: mis_st is read; the transfer flag is cleared; a control word is read, to answer NAK.
+// The words of the answers that most transfers get: mis_st is read; the transfer flag is cleared; a control word is
+// read, to answer NAK.
 fn mis_word() -> u64
     ensures { λ w. ⌜ Encodes w (Step.Asks (Access.Read Reg.MisSt 0)) ⌝ }
 {
@@ -88,7 +90,8 @@ pub extern "C" fn usbhs_interrupt(
     frame: u32,
     flags: u32,
 ) -> u64
-    ensures { λ w. ⌜ AnswersInterrupt w driver frame flags (lent (now (s .entry)) (now (slots .entry)) (now (time .entry)))
+    ensures { λ w. ⌜ AnswersInterrupt w driver frame flags
+        (lent (now (s .entry)) (now (slots .entry)) (now (time .entry)))
         (lent (now (s .exit)) (now (slots .exit)) (now (time .exit))) ⌝ }
 {
     let n = readings::enter(s, slots, frame, flags);
@@ -123,7 +126,8 @@ pub extern "C" fn usbhs_continue_transfer(
     st: u32,
     len: u32,
 ) -> u64
-    ensures { λ w. ⌜ AnswersTransfer w driver mis st len (lent (now (s .entry)) (now (slots .entry)) (now (time .entry)))
+    ensures { λ w. ⌜ AnswersTransfer w driver mis st len
+        (lent (now (s .entry)) (now (slots .entry)) (now (time .entry)))
         (lent (now (s .exit)) (now (slots .exit)) (now (time .exit))) ⌝ }
 {
     let n = readings::pass(s, slots, mis, st, len);

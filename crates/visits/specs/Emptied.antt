@@ -1,4 +1,5 @@
--- An isochronous OUT ring of 16 slots at arrivals and visits, by the ring's own rules (`ring/specs/Out.antt`). Assumes nothing.
+-- An isochronous OUT ring of 16 slots at arrivals and visits, by the ring's own rules (`ring/specs/Out.antt`). Assumes
+-- nothing.
 use mathlib.Core.Path.{_≡_}
 use mathlib.Core.Bool.{cond}
 use Prim.Native.Nat.{ℕ, zero, suc, _+_, _≤_, _<_}

@@ -17,7 +17,12 @@ use Rattle.ring.specs.OutLaws.{turned-alike}
 use Rattle.visits.specs.Emptied.{Sixteen, closes, emptied}
 
 alike-sixteen : {s t : EpState} → Alike s t → Sixteen s → Sixteen t
-alike-sixteen k g = record { slots = k .place .slots ∙ g .slots; head8 = rw (k .head) (g .head8); tail8 = rw (k .tail) (g .tail8) }
+alike-sixteen k g = record {
+  slots = k .place .slots ∙ g .slots;
+  head8 = rw (k .head) (g .head8);
+  tail8
+      = rw (k .tail) (g .tail8);
+}
 
 module _ {s : EpState} (g : Sixteen s) where
   room : hasRoomOut s ≡ ltb (countOf s) 15

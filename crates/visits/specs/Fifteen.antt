@@ -1,4 +1,5 @@
--- "The greatest is at most 15 exactly when a ring emptied at each visit has no overrun after the first visit, however the times fall." Assumes nothing.
+-- "The greatest is at most 15 exactly when a ring emptied at each visit has no overrun after the first visit, however
+-- the times fall." Assumes nothing.
 use mathlib.Core.Logic.{_≢_, _↔_}
 use Prim.Native.Nat.{ℕ, suc, _+_, _≤_, _<_}
 use native.Mathlib.Decide.{decLt}
@@ -22,7 +23,8 @@ pub record Overrun (a b c d : ℕ) (s : EpState) : Type 0 where
   pub turned : after visit arrival s (suc event) .ring .overruns ≢ after visit arrival s event .ring .overruns
 
 module _ {a b c d : ℕ} (l : Limits a b c d) {s : EpState} (g : Sixteen s) where
-  pub suffices : greatestOf b c .arrivals ≤ 15 → (visit arrival : ℕ → ℕ) → Permitted a b c d visit arrival → NoOverrun visit arrival s
+  pub suffices : greatestOf b c .arrivals ≤ 15 → (visit arrival : ℕ → ℕ) → Permitted a b c d visit arrival
+      → NoOverrun visit arrival s
   unfolding greatestOf
   suffices h visit arrival p = no-overrun (l .least-arrivals) h (p .visits) (p .arrivals) s g
 
@@ -37,12 +39,14 @@ module _ {a b c d : ℕ} (l : Limits a b c d) {s : EpState} (g : Sixteen s) wher
     turned = sixteenth b c (l .least-arrivals) h s g;
   }
 
-  pub fifteen : (greatestOf b c .arrivals ≤ 15) ↔ ((visit arrival : ℕ → ℕ) → Permitted a b c d visit arrival → NoOverrun visit arrival s)
+  pub fifteen : (greatestOf b c .arrivals ≤ 15) ↔ ((visit arrival : ℕ → ℕ) → Permitted a b c d visit arrival
+      → NoOverrun visit arrival s)
   unfolding overruns
   fifteen = (
     suffices,
     λ none. elim (decLt 15 (greatestOf b c .arrivals)) [
-      | yes h ↦ (let o = overruns h in absurd (o .turned (none (o .visit) (o .arrival) (o .permitted) (o .event) 1 (o .later))))
+      | yes h ↦ (let o = overruns h in absurd (o .turned
+          (none (o .visit) (o .arrival) (o .permitted) (o .event) 1 (o .later))))
       | no h ↦ omega arith
     ],
   )

@@ -60,5 +60,9 @@ accepted a b c d = (
         arrivals = limits-order c d w;
         greatest-arrivals = limits-upto c d w;
       }),
-  λ l. simp (limits-fit a b (l .least-visits) (l .visits) (l .greatest-visits), limits-fit c d (l .least-arrivals) (l .arrivals) (l .greatest-arrivals)),
+  λ l. simp (
+    limits-fit a b (l .least-visits) (l .visits) (l .greatest-visits),
+    limits-fit c d (l .least-arrivals)
+        (l .arrivals) (l .greatest-arrivals),
+  ),
 )

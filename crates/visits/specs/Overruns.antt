@@ -1,4 +1,5 @@
--- With more than 15 arrivals in some span there are times at which one is turned away: those that reach the greatest number. Assumes nothing.
+-- With more than 15 arrivals in some span there are times at which one is turned away: those that reach the greatest
+-- number. Assumes nothing.
 use mathlib.Core.Logic.{_≢_}
 use mathlib.Core.Path.{_≡_, refl, ap, _∙_}
 use Prim.Native.Nat.{ℕ, zero, suc, _+_, _≤_, _<_}
@@ -49,7 +50,8 @@ module _ (b c : ℕ) (one : 1 ≤ c) (many : 15 < roundedUp b c) (s : EpState) (
       (record {
         arrivals = ap suc (f .arrivals);
         visits = f .visits;
-        count = admit-count (after-sixteen (steady 0 b) (steady (0 + 1) c) g (suc k)) (omega (arith, f .count)) ∙ ap suc (f .count);
+        count = admit-count (after-sixteen (steady 0 b) (steady (0 + 1) c) g (suc k)) (omega (arith, f .count))
+            ∙ ap suc (f .count);
       })
 
   pub first-visited : 1 ≤ run 16 .visits

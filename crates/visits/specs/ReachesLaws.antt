@@ -14,10 +14,16 @@ use Rattle.visits.specs.Reaches.{Reaches}
 -- ---- counting steady arrivals
 
 module _ (v span first distance q : ℕ) (h : 1 ≤ first) (k : 1 ≤ distance)
-    (inside : (i : ℕ) → i < q → first + i * distance ≤ span) (beyond : (i : ℕ) → q ≤ i → span < first + i * distance) where
+    (inside : (i : ℕ) → i < q → first + i * distance ≤ span) (beyond : (i : ℕ) → q ≤ i → span < first + i
+    * distance) where
   few : (n : ℕ) → ((i : ℕ) → i < n → first + i * distance ≤ span) → n ≤ suc (v + span)
   few zero f = omega arith
-  few (suc n) f = omega (arith, f n (omega arith), not-before (steady-spaced distance distance first distance (omega arith) (omega arith)) k n)
+  few (suc n) f = omega (
+    arith,
+    f n (omega arith),
+    not-before
+        (steady-spaced distance distance first distance (omega arith) (omega arith)) k n,
+  )
 
   steady-counted : arrivalsIn (steady (v + first) distance) (steady v span 0) (steady v span 1) ≡ q
   unfolding arrivalsIn
@@ -29,7 +35,8 @@ module _ (v span first distance q : ℕ) (h : 1 ≤ first) (k : 1 ≤ distance)
       (suc (steady v span 1)) in
       omega (arith, e, few q inside)
 
-steady-permitted : {a b c d : ℕ} (span first distance : ℕ) → a ≤ span → span ≤ b → c ≤ distance → distance ≤ d → 1 ≤ first → first ≤ distance
+steady-permitted : {a b c d : ℕ} (span first distance : ℕ) → a ≤ span → span ≤ b → c ≤ distance → distance ≤ d → 1
+    ≤ first → first ≤ distance
     → (v : ℕ) → Permitted a b c d (steady v span) (steady (v + first) distance)
 steady-permitted {a} {b} {c} {d} span first distance h k l m n o v = record {
   visits = steady-spaced a b v span h k;
@@ -39,20 +46,32 @@ steady-permitted {a} {b} {c} {d} span first distance h k l m n o v = record {
 
 module _ {a b c d : ℕ} (l : Limits a b c d) where
   least-in : (i : ℕ) → i < a / d → d + i * d ≤ a
-  least-in i h = omega (arith, suc-mul i d, le-div-iff-mul-le {k = d} {x = suc i} {y = a} (omega (arith, l .least-arrivals, l .arrivals)) .0 h)
+  least-in i h = omega (
+    arith,
+    suc-mul i d,
+    le-div-iff-mul-le {k = d} {x = suc i} {y = a}
+        (omega (arith, l .least-arrivals, l .arrivals)) .0 h,
+  )
 
   least-out : (i : ℕ) → a / d ≤ i → a < d + i * d
   least-out i h =
-      omega (arith, lt-div-mul-add {a = a} {b = d} (omega (arith, l .least-arrivals, l .arrivals)), mul-le-mul-right {m = a / d} {n = i} d h)
+      omega (
+        arith,
+        lt-div-mul-add {a = a} {b = d} (omega (arith, l .least-arrivals, l .arrivals)),
+        mul-le-mul-right
+            {m = a / d} {n = i} d h,
+      )
 
   -- "d and d in a span of a"
   pub least-reached : Reaches a b c d a (leastOf a d)
   unfolding leastOf
   least-reached = record {
     permitted = steady-permitted a d d
-        (omega arith) (l .visits) (l .arrivals) (omega arith) (omega (arith, l .least-arrivals, l .arrivals)) (omega arith);
+        (omega arith) (l .visits) (l .arrivals) (omega arith) (omega (arith, l .least-arrivals, l .arrivals))
+        (omega arith);
     reached = λ v. steady-counted v a d d (a / d)
-        (omega (arith, l .least-arrivals, l .arrivals)) (omega (arith, l .least-arrivals, l .arrivals)) least-in least-out;
+        (omega (arith, l .least-arrivals, l .arrivals)) (omega (arith, l .least-arrivals, l .arrivals)) least-in
+        least-out;
   }
 
   greatest-in : (i : ℕ) → i < roundedUp b c → 1 + i * c ≤ b

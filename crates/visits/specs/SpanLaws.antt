@@ -41,11 +41,13 @@ module _ (first second t : ℕ) where
       go false = refl
 
 module _ (arrival : ℕ → ℕ) (first second : ℕ) where
-  pub one-more : (n : ℕ) → inSpan first second (arrival n) ≡ true → amongFirst arrival first second (suc n) ≡ suc (amongFirst arrival first second n)
+  pub one-more : (n : ℕ) → inSpan first second (arrival n) ≡ true → amongFirst arrival first second (suc n)
+      ≡ suc (amongFirst arrival first second n)
   unfolding amongFirst
   one-more n e = rw e refl
 
-  pub no-more : (n : ℕ) → inSpan first second (arrival n) ≡ false → amongFirst arrival first second (suc n) ≡ amongFirst arrival first second n
+  pub no-more : (n : ℕ) → inSpan first second (arrival n) ≡ false → amongFirst arrival first second (suc n)
+      ≡ amongFirst arrival first second n
   unfolding amongFirst
   no-more n e = rw e refl
 
@@ -58,16 +60,32 @@ module _ (arrival : ℕ → ℕ) (first second : ℕ) where
   unfolding amongFirst
   counted k q before within beyond zero = omega arith
   counted k q before within beyond (suc n) = elim (decLt n k) [
-    | yes h ↦ omega (arith, no-more n (span-not-yet first second (arrival n) (before n h)), counted k q before within beyond n)
+    | yes h ↦ omega (
+      arith,
+      no-more n (span-not-yet first second (arrival n) (before n h)),
+      counted k q before within
+          beyond n,
+    )
     | no h ↦ (elim (decLt n (k + q)) [
       | yes l ↦ (let w = within n (omega arith) l in
-          omega (arith, one-more n (span-has first second (arrival n) (w .0) (w .1)), counted k q before within beyond n))
-      | no l ↦ omega (arith, no-more n (span-no-more first second (arrival n) (beyond n (omega arith))), counted k q before within beyond n)
+          omega (
+            arith,
+            one-more n (span-has first second (arrival n) (w .0) (w .1)),
+            counted k q before within beyond
+                n,
+          ))
+      | no l ↦ omega (
+        arith,
+        no-more n (span-no-more first second (arrival n) (beyond n (omega arith))),
+        counted k q
+            before within beyond n,
+      )
     ])
   ]
 
   -- no arrival of the span is left out
-  pub all-counted : {c d : ℕ} → Spaced c d arrival → 1 ≤ c → (n : ℕ) → second < n → amongFirst arrival first second n ≡ arrivalsIn arrival first second
+  pub all-counted : {c d : ℕ} → Spaced c d arrival → 1 ≤ c → (n : ℕ) → second < n → amongFirst arrival first second n
+      ≡ arrivalsIn arrival first second
   unfolding arrivalsIn
   all-counted s h zero l = absurd (omega arith)
   all-counted s h (suc n) l = elim (decLt second n) [

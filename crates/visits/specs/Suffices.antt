@@ -15,10 +15,12 @@ use Rattle.visits.specs.Times.{Spaced, arrivalsIn}
 use Rattle.visits.specs.SpacedLaws.{apart-by, not-before}
 use Rattle.visits.specs.SpanLaws.{counted}
 use Rattle.visits.specs.Emptied.{Sixteen, Moment, arrives, visited, next, after, NoOverrun}
-use Rattle.visits.specs.EmptiedLaws.{arrive-sixteen, admit-count, admit-overruns, empty-sixteen, empty-overruns, empty-count}
+use Rattle.visits.specs.EmptiedLaws.{arrive-sixteen, admit-count, admit-overruns, empty-sixteen, empty-overruns}
+use Rattle.visits.specs.EmptiedLaws.{empty-count}
 
 module _ (visit arrival : ℕ → ℕ) where
-  next-by : (m : Moment) → Sixteen (m .ring) → (t : Bool) → Sixteen (cond t (arrives visit arrival m) (visited visit arrival m) .ring)
+  next-by : (m : Moment) → Sixteen (m .ring) → (t : Bool)
+      → Sixteen (cond t (arrives visit arrival m) (visited visit arrival m) .ring)
   next-by m g true = arrive-sixteen g
   next-by m g false = empty-sixteen g
 
@@ -42,7 +44,8 @@ record Since (visit arrival : ℕ → ℕ) (m : Moment) : Type 0 where
   later : visit last < arrival first
   waits : m .arrivals ≡ first + countOf (m .ring)
 
-module _ {a b c d : ℕ} (one : 1 ≤ c) (most : roundedUp b c ≤ 15) {visit arrival : ℕ → ℕ} (v : Spaced a b visit) (w : Spaced c d arrival) where
+module _ {a b c d : ℕ} (one : 1 ≤ c) (most : roundedUp b c ≤ 15) {visit arrival : ℕ → ℕ} (v : Spaced a b visit)
+    (w : Spaced c d arrival) where
   few : (m : Moment) → Since visit arrival m → arrival (m .arrivals) ≤ visit (m .visits) → countOf (m .ring) < 15
   few m r h =
       let x = rw (sym (r .waits)) at (apart-by w (r .first) (countOf (m .ring))) in
@@ -105,7 +108,8 @@ module _ {a b c d : ℕ} (one : 1 ≤ c) (most : roundedUp b c ≤ 15) {visit ar
     since : (n : ℕ) → 1 ≤ run n .visits → Since visit arrival (run n)
     unfolding after next
     since zero h = absurd (omega arith)
-    since (suc n) h = step-by (run n) (after-sixteen visit arrival g n) (leb (arrival (run n .arrivals)) (visit (run n .visits))) refl h (came n) (since n)
+    since (suc n) h = step-by (run n) (after-sixteen visit arrival g n)
+        (leb (arrival (run n .arrivals)) (visit (run n .visits))) refl h (came n) (since n)
 
     more-by : (m : Moment) (t : Bool) → m .visits ≤ cond t (arrives visit arrival m) (visited visit arrival m) .visits
     more-by m true = omega arith
@@ -115,11 +119,17 @@ module _ {a b c d : ℕ} (one : 1 ≤ c) (most : roundedUp b c ≤ 15) {visit ar
     unfolding after next
     more n zero = rw (add-zero n) (omega arith)
     more n (suc k) = rw (add-suc n k)
-        (omega (arith, more n k, more-by (run (n + k)) (leb (arrival (run (n + k) .arrivals)) (visit (run (n + k) .visits)))))
+        (omega (
+          arith,
+          more n k,
+          more-by (run (n + k))
+              (leb (arrival (run (n + k) .arrivals)) (visit (run (n + k) .visits))),
+        ))
 
     keeps : (n : ℕ) → 1 ≤ run n .visits → run (suc n) .ring .overruns ≡ run n .ring .overruns
     unfolding after next
-    keeps n h = keeps-by (run n) (after-sixteen visit arrival g n) (leb (arrival (run n .arrivals)) (visit (run n .visits))) refl (since n h)
+    keeps n h = keeps-by (run n) (after-sixteen visit arrival g n)
+        (leb (arrival (run n .arrivals)) (visit (run n .visits))) refl (since n h)
 
     pub no-overrun : NoOverrun visit arrival s
     no-overrun n zero h = rw (add-zero n) refl

@@ -28,7 +28,8 @@ amongFirst arrival first second zero = 0
 amongFirst arrival first second (suc n) =
     cond (inSpan first second (arrival n)) (suc (amongFirst arrival first second n)) (amongFirst arrival first second n)
 
--- how many arrivals a span has. Arrival n is not before microframe n, so that all in the span are among these (`all-counted`)
+-- how many arrivals a span has. Arrival n is not before microframe n, so that all in the span are among these
+-- (`all-counted`)
 unfoldable pub arrivalsIn : (ℕ → ℕ) → ℕ → ℕ → ℕ
 arrivalsIn arrival first second = amongFirst arrival first second (suc second)
 

@@ -24,7 +24,8 @@ within l = record {
 }
 
 module _ {a b c d : ℕ} {least greatest : Reached} where
-  by : (t : Bool) → row23 a b c d ≡ t → cond t (Refused 23) (Between (leastOf a d) (greatestOf b c)) ≡ Between least greatest
+  by : (t : Bool) → row23 a b c d ≡ t → cond t (Refused 23) (Between (leastOf a d) (greatestOf b c))
+      ≡ Between least greatest
       → Told a b c d least greatest
   by true r e = absurd (let z : _≡_ {A = ℕ} 0 1 = cc in omega arith)
   by false r e =

@@ -1,11 +1,12 @@
-// How many packets may arrive between two visits of a reader, and so whether fifteen slots will do. In microframes: a and b are the least
-// and the greatest distance from a visit to the next, c and d those from an arrival to the next.
+// How many packets may arrive between two visits of a reader, and so whether fifteen slots will do. In microframes: a
+// and b are the least and the greatest distance from a visit to the next, c and d those from an arrival to the next.
 ghost use mathlib.Core.Path.{_≡_};
 ghost use Prim.Native.Nat.{_+_, _≤_, _<_};
 ghost use Rattle.visits.specs.Limits.{noDistance, noLimits};
 ghost use Rattle.visits.specs.Bounds.{leastOf, greatestOf, boundsOf};
 
-// A number of arrivals, and times that reach it: the first arrival after the visit, and the distance from each arrival to the next.
+// A number of arrivals, and times that reach it: the first arrival after the visit, and the distance from each arrival
+// to the next.
 pub struct Reached {
     pub arrivals: u32,
     pub first: u32,

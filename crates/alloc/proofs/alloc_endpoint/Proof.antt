@@ -15,7 +15,10 @@ refused-requires c κs = search needs
 
 returns : tie.Need-returns
 unfolding allocateOf
-returns c = simp (c .refused .ensures, lt-ltb _ _ (c .before .if1 .taken))
+returns c =
+    let if1 = c .before .if1 in
+    let refused = c .refused in
+    simp (refused .ensures, lt-ltb _ _ (if1 .taken))
 
 is-iso-requires : tie.Need-is-iso-requires
 is-iso-requires c κs = search needs
@@ -35,31 +38,47 @@ enum-known-found c = search needs
 buffered-requires : tie.Need-buffered-requires
 buffered-requires c κs =
     let a = c .before .before .before .before .before .before .before .args in
-    let h = number-good (a .a) (c .before .before .before .before .is-iso .result) (a .dir) (a .address) (c .before .found .given .0 .0)
-    (sym (c .before .before .before .find .ensures) ∙ c .before .found .given .1) in
+    let is-iso = c .before .before .before .before .is-iso in
+    let find = c .before .before .before .find in
+    let found = c .before .found in
+    let h = number-good (a .a) (is-iso .result) (a .dir) (a .address) (found .given .0 .0)
+    (sym (find .ensures) ∙ found .given .1) in
     omega arith
 
 returns-2 : tie.Need-returns-2
 unfolding allocateOf numberedOf
-returns-2 c = simp (
-  c .refused2 .ensures,
-  le-ltb _ _ (c .before .before .before .before .before .if1 .left),
-  ← c .before .before .before .before .is-iso .ensures,
-  ← c .before .before .before .find .ensures,
-  c .before .enum-told .given .1,
-)
+returns-2 c =
+    let if1 = c .before .before .before .before .before .if1 in
+    let is-iso = c .before .before .before .before .is-iso in
+    let find = c .before .before .before .find in
+    let enum-told-fact = c .before .enum-told in
+    let refused2 = c .refused2 in
+    simp (
+      refused2 .ensures,
+      le-ltb _ _ (if1 .left),
+      ← is-iso .ensures,
+      ← find .ensures,
+      enum-told-fact .given .1,
+    )
 
 returns-3 : tie.Need-returns-3
 unfolding allocateOf numberedOf
-returns-3 c = simp (
-  c .buffered .ensures,
-  le-ltb _ _ (c .before .before .before .before .before .before .if1 .left),
-  ← c .before .before .before .before .before .is-iso .ensures,
-  ← c .before .before .before .before .find .ensures,
-  c .before .before .found .given .1,
-)
+returns-3 c =
+    let if1 = c .before .before .before .before .before .before .if1 in
+    let is-iso = c .before .before .before .before .before .is-iso in
+    let find = c .before .before .before .before .find in
+    let found = c .before .before .found in
+    let buffered = c .buffered in
+    simp (
+      buffered .ensures,
+      le-ltb _ _ (if1 .left),
+      ← is-iso .ensures,
+      ← find .ensures,
+      found .given .1,
+    )
 
 pub alloc-endpoint-spec : {M : Type 1} → statement M
 alloc-endpoint-spec =
-    tie.close (tie.spec cast-if1 refused-requires returns is-iso-requires find-requires enum-told refused-requires-2 enum-known-found
+    tie.close (tie.spec cast-if1 refused-requires returns is-iso-requires find-requires enum-told refused-requires-2
+    enum-known-found
     buffered-requires returns-2 returns-3)

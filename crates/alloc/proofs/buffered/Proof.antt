@@ -20,11 +20,15 @@ refused-requires c κs = search needs
 returns : tie.Need-returns
 unfolding bufferedOf
 returns c =
+    let slots = c .before .before .before .before .slots in
+    let end = c .before .before .before .end in
+    let if1 = c .before .if1 in
+    let refused = c .refused in
     simp (
-      c .refused .ensures,
-      lt-ltb _ _ (c .before .if1 .taken),
-      ← c .before .before .before .end .ensures,
-      ← c .before .before .before .before .slots .ensures,
+      refused .ensures,
+      lt-ltb _ _ (if1 .taken),
+      ← end .ensures,
+      ← slots .ensures,
     )
 
 cast-base : tie.Need-cast-base
@@ -51,16 +55,23 @@ with-allocated-requires c κs = search needs
 returns-2 : tie.Need-returns-2
 unfolding bufferedOf
 returns-2 c =
+    let slots = c .before .before .before .before .before .before .before .before .slots in
+    let end = c .before .before .before .before .before .before .before .end in
+    let if1 = c .before .before .before .before .before .if1 in
+    let taken = c .before .before .taken in
+    let with-next = c .before .with-next in
+    let with-allocated = c .with-allocated in
     simp (
-      c .with-allocated .ensures,
-      ← c .before .with-next .ensures,
-      ← c .before .before .taken .ensures,
-      le-ltb _ _ (c .before .before .before .before .before .if1 .left),
-      ← c .before .before .before .before .before .before .before .end .ensures,
-      ← c .before .before .before .before .before .before .before .before .slots .ensures,
+      with-allocated .ensures,
+      ← with-next .ensures,
+      ← taken .ensures,
+      le-ltb _ _ (if1 .left),
+      ← end .ensures,
+      ← slots .ensures,
     )
 
 pub buffered-spec : {M : Type 1} → statement M
 buffered-spec =
-    tie.close (tie.spec slots-requires end-requires cast-if1 refused-requires returns cast-base cast-base-2 mul-base taken-requires cast-with-next
+    tie.close (tie.spec slots-requires end-requires cast-if1 refused-requires returns cast-base cast-base-2 mul-base
+    taken-requires cast-with-next
     with-next-requires with-allocated-requires returns-2)

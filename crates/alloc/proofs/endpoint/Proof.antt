@@ -14,7 +14,11 @@ by-loan-requires c κs = search needs
 
 returns : tie.Need-returns
 unfolding allocated
-returns c = simp (c .by-loan .ensures, c .before .flag .ensures, ← c .before .before .is-iso .ensures)
+returns c =
+    let is-iso = c .before .before .is-iso in
+    let flag = c .before .flag in
+    let by-loan = c .by-loan in
+    simp (by-loan .ensures, flag .ensures, ← is-iso .ensures)
 
 pub endpoint-spec : {M : Type 1} → statement M
 endpoint-spec = tie.close (tie.spec is-iso-requires flag-requires by-loan-requires returns)

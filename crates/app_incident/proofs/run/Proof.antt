@@ -21,21 +21,29 @@ use Rattle.survey_c.proofs.usbhs_card_new.Reads as usbhs-card-new-reads
 use Rattle.print.proofs.text.print.Reads as print-reads
 
 abbrev Inv-loop2 : tie.InvT-loop2
-Inv-loop2 list len s₀ time₀ slots₀ writer₀ block₀ card₀ rust-slots rust-writer₀ rust-block₀ rust-card₀ stores answers₀ differing₀ at left
-    e times₀ t22 t23 t24 t25 t26 s time slots writer block card rust-writer rust-block rust-card answers differing times = times ≡ times
+Inv-loop2 list len s₀ time₀ slots₀ writer₀ block₀ card₀ rust-slots rust-writer₀ rust-block₀ rust-card₀ stores answers₀
+    differing₀ at left
+    e times₀ t22 t23 t24 t25 t26 s time slots writer block card rust-writer rust-block rust-card answers differing times
+    = times ≡ times
 
 abbrev μ-loop2 : tie.MeasureT-loop2
-μ-loop2 list len s₀ time₀ slots₀ writer₀ block₀ card₀ rust-slots rust-writer₀ rust-block₀ rust-card₀ stores answers₀ differing₀
-    at left e times₀ t22 t23 t24 t25 t26 s time slots writer block card rust-writer rust-block rust-card answers differing times = times
+μ-loop2 list len s₀ time₀ slots₀ writer₀ block₀ card₀ rust-slots rust-writer₀ rust-block₀ rust-card₀ stores answers₀
+    differing₀
+    at left e times₀ t22 t23 t24 t25 t26 s time slots writer block card rust-writer rust-block rust-card answers
+    differing times = times
 
 abbrev Inv-loop : tie.InvT-loop
-Inv-loop list len s₀ time₀ slots₀ writer₀ block₀ card₀ rust-slots₀ rust-writer₀ rust-block₀ rust-card₀ stores₀ answers₀ differing₀ at₀ left₀
-    t22 t23 t24 t25 t26 s time slots writer block card rust-slots rust-writer rust-block rust-card stores answers differing at left =
+Inv-loop list len s₀ time₀ slots₀ writer₀ block₀ card₀ rust-slots₀ rust-writer₀ rust-block₀ rust-card₀ stores₀ answers₀
+    differing₀ at₀ left₀
+    t22 t23 t24 t25 t26 s time slots writer block card rust-slots rust-writer rust-block rust-card stores answers
+    differing at left =
     left ≤ 4096
 
 abbrev μ-loop : tie.MeasureT-loop
-μ-loop list len s₀ time₀ slots₀ writer₀ block₀ card₀ rust-slots₀ rust-writer₀ rust-block₀ rust-card₀ stores₀ answers₀ differing₀ at₀ left₀
-    t22 t23 t24 t25 t26 s time slots writer block card rust-slots rust-writer rust-block rust-card stores answers differing at left = left
+μ-loop list len s₀ time₀ slots₀ writer₀ block₀ card₀ rust-slots₀ rust-writer₀ rust-block₀ rust-card₀ stores₀ answers₀
+    differing₀ at₀ left₀
+    t22 t23 t24 t25 t26 s time slots writer block card rust-slots rust-writer rust-block rust-card stores answers
+    differing at left = left
 
 usbhs-card-new-requires : tie.Need-usbhs-card-new-requires Inv-loop2 μ-loop2 Inv-loop μ-loop
 usbhs-card-new-requires c κs = search needs
@@ -157,8 +165,13 @@ returns c = search needs
 
 pub run-spec : {M : Type 1} → statement M
 run-spec =
-    tie.close (tie.spec Inv-loop2 μ-loop2 Inv-loop μ-loop usbhs-card-new-requires usbhs-card-new-requires-2 loop-holds sub-left entry-at-requires
-    number-requires store-requires store-requires-2 sent-requires loop2-holds sub-times made-requires wrapping-add-u32-requires
-    wrapping-add-u32-requires-2 told-requires kept-requires kept-requires-2 loop2-less loop2-again loop2-less-2 loop2-again-2 changed-requires
-    loop-less loop-again loop-less-2 loop-again-2 say-requires slice-aggregate-print print-requires say-requires-2 slice-aggregate-print-2
-    print-requires-2 slice-aggregate-summed summed-requires slice-aggregate-export export-requires slice-aggregate-export-2 export-requires-2 returns)
+    tie.close (tie.spec Inv-loop2 μ-loop2 Inv-loop μ-loop usbhs-card-new-requires usbhs-card-new-requires-2 loop-holds
+    sub-left entry-at-requires
+    number-requires store-requires store-requires-2 sent-requires loop2-holds sub-times made-requires
+    wrapping-add-u32-requires
+    wrapping-add-u32-requires-2 told-requires kept-requires kept-requires-2 loop2-less loop2-again loop2-less-2
+    loop2-again-2 changed-requires
+    loop-less loop-again loop-less-2 loop-again-2 say-requires slice-aggregate-print print-requires say-requires-2
+    slice-aggregate-print-2
+    print-requires-2 slice-aggregate-summed summed-requires slice-aggregate-export export-requires
+    slice-aggregate-export-2 export-requires-2 returns)

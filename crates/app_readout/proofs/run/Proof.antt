@@ -54,5 +54,6 @@ returns-2 c = search needs
 
 pub run-spec : {M : Type 1} → statement M
 run-spec =
-    tie.close (tie.spec Inv-loop μ-loop show-requires loop-holds sub-left enum-known-step reading-requires proceed-requires show-requires-2 loop-less
+    tie.close (tie.spec Inv-loop μ-loop show-requires loop-holds sub-left enum-known-step reading-requires
+    proceed-requires show-requires-2 loop-less
     loop-again same-length returns same-length-2 returns-2)

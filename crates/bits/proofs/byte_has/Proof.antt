@@ -12,8 +12,9 @@ is-set-requires c κs = search needs
 returns : tie.Need-returns
 returns c =
     let x = c .before .args in
+    let is-set = c .is-set in
     let low : x .bit % 8 % 32 ≡ x .bit % 8 = omega arith in
-    c .is-set .ensures ∙ ap (isSet (x .byte)) low
+    is-set .ensures ∙ ap (isSet (x .byte)) low
 
 pub byte-has-spec : {M : Type 1} → statement M
 byte-has-spec = tie.close (tie.spec is-set-requires returns)

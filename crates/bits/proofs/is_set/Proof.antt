@@ -13,7 +13,9 @@ shr-result : tie.Need-shr-result
 shr-result c = search needs
 
 returns : tie.Need-returns
-returns c = tests (c .args .word) (c .args .bit % 32)
+returns c =
+    let start = c in
+    tests (start .args .word) (start .args .bit % 32)
 
 pub is-set-spec : {M : Type 1} → statement M
 is-set-spec = tie.close (tie.spec cast-result shr-result returns)

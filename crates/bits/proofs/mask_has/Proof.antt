@@ -12,8 +12,9 @@ is-set-requires c κs = search needs
 returns : tie.Need-returns
 returns c =
     let x = c .before .args in
+    let is-set = c .is-set in
     let low : x .endpoint % 16 % 32 ≡ x .endpoint % 16 = omega arith in
-    c .is-set .ensures ∙ ap (isSet (x .mask)) low
+    is-set .ensures ∙ ap (isSet (x .mask)) low
 
 pub mask-has-spec : {M : Type 1} → statement M
 mask-has-spec = tie.close (tie.spec is-set-requires returns)

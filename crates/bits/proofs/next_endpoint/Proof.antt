@@ -7,7 +7,9 @@ use Rattle.bits.proofs.next_endpoint.Reads as reads
 use Rattle.bits.proofs.next_endpoint.Lts as lts
 
 cast-result : tie.Need-cast-result
-cast-result c = omega (arith, trailing-le 16 (c .args .mask))
+cast-result c =
+    let start = c in
+    omega (arith, trailing-le 16 (start .args .mask))
 
 returns : tie.Need-returns
 returns c = search needs

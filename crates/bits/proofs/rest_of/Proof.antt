@@ -10,7 +10,11 @@ wrapping-sub-u16-requires : tie.Need-wrapping-sub-u16-requires
 wrapping-sub-u16-requires c κs = search needs
 
 returns : tie.Need-returns
-returns c = rest-code (c .before .args .mask) (c .wrapping-sub-u16 .result) (c .before .fits .mask .fits) (search needs) (c .wrapping-sub-u16 .ensures)
+returns c =
+    let start = c .before in
+    let wrapping-sub-u16 = c .wrapping-sub-u16 in
+    rest-code (start .args .mask) (wrapping-sub-u16 .result) (start .fits .mask .fits) (search needs)
+    (wrapping-sub-u16 .ensures)
 
 pub rest-of-spec : {M : Type 1} → statement M
 rest-of-spec = tie.close (tie.spec wrapping-sub-u16-requires returns)

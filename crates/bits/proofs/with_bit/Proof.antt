@@ -20,10 +20,16 @@ shl-result-2 : tie.Need-shl-result-2
 shl-result-2 c = search needs
 
 returns : tie.Need-returns
-returns c = rw (c .if1 .taken) (sets 32 (c .before .args .word) (c .before .args .bit % 32) (omega arith))
+returns c =
+    let start = c .before in
+    let if1 = c .if1 in
+    rw (if1 .taken) (sets 32 (start .args .word) (start .args .bit % 32) (omega arith))
 
 returns-2 : tie.Need-returns-2
-returns-2 c = rw (c .if1 .left) (clears 32 (c .before .args .word) (c .before .args .bit % 32) (c .before .fits .word .fits) (omega arith))
+returns-2 c =
+    let start = c .before in
+    let if1 = c .if1 in
+    rw (if1 .left) (clears 32 (start .args .word) (start .args .bit % 32) (start .fits .word .fits) (omega arith))
 
 pub with-bit-spec : {M : Type 1} → statement M
 with-bit-spec = tie.close (tie.spec cast-result shl-result cast-result-2 shl-result-2 returns returns-2)

@@ -12,18 +12,26 @@ add-result c = search needs
 
 returns : tie.Need-returns
 unfolding chargeOf
-returns c = (simp (eq-eqb _ _ (c .if1 .taken)), omega arith)
+returns c =
+    let if1 = c .if1 in
+    (simp (eq-eqb _ _ (if1 .taken)), omega arith)
 
 add-result-2 : tie.Need-add-result-2
 add-result-2 c = search needs
 
 returns-2 : tie.Need-returns-2
 unfolding chargeOf
-returns-2 c = (simp (ne-eqb _ _ (c .before .if1 .left), eq-eqb _ _ (c .if2 .taken)), omega arith)
+returns-2 c =
+    let if1 = c .before .if1 in
+    let if2 = c .if2 in
+    (simp (ne-eqb _ _ (if1 .left), eq-eqb _ _ (if2 .taken)), omega arith)
 
 returns-3 : tie.Need-returns-3
 unfolding chargeOf
-returns-3 c = (simp (ne-eqb _ _ (c .before .if1 .left), ne-eqb _ _ (c .if2 .left)), omega arith)
+returns-3 c =
+    let if1 = c .before .if1 in
+    let if2 = c .if2 in
+    (simp (ne-eqb _ _ (if1 .left), ne-eqb _ _ (if2 .left)), omega arith)
 
 pub charge-of-spec : {M : Type 1} → statement M
 charge-of-spec = tie.close (tie.spec add-result returns add-result-2 returns-2 returns-3)

@@ -42,13 +42,18 @@ add-result-3 c = search needs
 
 returns : tie.Need-returns
 unfolding entryOf
-returns c = (rw (c .enum-told .given .1) refl, omega arith)
+returns c =
+    let enum-told-fact = c .enum-told in
+    (rw (enum-told-fact .given .1) refl, omega arith)
 
 returns-2 : tie.Need-returns-2
 unfolding entryOf
-returns-2 c = (rw (c .enum-told2 .given .1) refl, omega arith)
+returns-2 c =
+    let enum-told2 = c .enum-told2 in
+    (rw (enum-told2 .given .1) refl, omega arith)
 
 pub entry-spec : {M : Type 1} → statement M
 entry-spec =
-    tie.close (tie.spec enum-told cast-result mul-result cast-result-2 add-result enum-told-2 cast-result-3 mul-result-2 cast-result-4 add-result-2
+    tie.close (tie.spec enum-told cast-result mul-result cast-result-2 add-result enum-told-2 cast-result-3 mul-result-2
+    cast-result-4 add-result-2
     add-result-3 returns returns-2)

@@ -11,10 +11,18 @@ is-set-requires : tie.Need-is-set-requires
 is-set-requires c κs = search needs
 
 returns : tie.Need-returns
-returns c = stays-where _ _ _ (c .before .before .pre) (sym (c .before .is-set .ensures) ∙ c .if1 .taken)
+returns c =
+    let start = c .before .before in
+    let is-set = c .before .is-set in
+    let if1 = c .if1 in
+    stays-where _ _ _ (start .pre) (sym (is-set .ensures) ∙ if1 .taken)
 
 returns-2 : tie.Need-returns-2
-returns-2 c = returns-where _ _ _ (c .before .before .pre) (sym (c .before .is-set .ensures) ∙ c .if1 .left)
+returns-2 c =
+    let start = c .before .before in
+    let is-set = c .before .is-set in
+    let if1 = c .if1 in
+    returns-where _ _ _ (start .pre) (sym (is-set .ensures) ∙ if1 .left)
 
 pub entry-kept-spec : {M : Type 1} → statement M
 entry-kept-spec = tie.close (tie.spec is-set-requires returns returns-2)

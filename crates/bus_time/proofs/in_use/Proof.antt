@@ -42,14 +42,18 @@ loop-less c = search needs
 
 loop-again : tie.Need-loop-again Inv-loop μ-loop
 loop-again c =
-    let v = c .before .before .before .loop .inv in
-    (omega arith, omega arith, rw (v .2, c .wide .ensures .0, total-more))
+    let looped = c .before .before .before .loop in
+    let wide = c .wide in
+    let v = looped .inv in
+    (omega arith, omega arith, rw (v .2, wide .ensures .0, total-more))
 
 returns : tie.Need-returns Inv-loop μ-loop
 unfolding inUse
 returns c =
-    let e : c .before .loop .k ≡ 128 = omega arith in
-    (rw e at (c .before .loop .inv .2), omega arith)
+    let looped = c .before .loop in
+    let e : looped .k ≡ 128 = omega arith in
+    (rw e at (looped .inv .2), omega arith)
 
 pub in-use-spec : {M : Type 1} → statement M
-in-use-spec = tie.close (tie.spec Inv-loop μ-loop loop-holds cast-at mul-wide element-copy-out-wide wide-requires add-sum add-k loop-less loop-again returns)
+in-use-spec = tie.close (tie.spec Inv-loop μ-loop loop-holds cast-at mul-wide element-copy-out-wide wide-requires
+    add-sum add-k loop-less loop-again returns)

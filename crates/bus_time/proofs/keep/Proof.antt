@@ -56,22 +56,26 @@ loop-less c = search needs
 
 loop-again : tie.Need-loop-again Inv-loop μ-loop
 loop-again c =
-    let at = c .before .before .before .loop in
     let a = c .before .before .before .before .args in
+    let at = c .before .before .before .loop in
+    let entry-kept = c .entry-kept in
     let first = a .driver % 4 * 32 in (
       omega arith,
-      ap (set (at .time) (first + at .bit)) (c .entry-kept .ensures)
-          ∙ (ap (λ (t : List ℕ). set t (first + at .bit) (entryKept (a .config) (at .bit) (getD t (first + at .bit) 0))) (at .inv .1)
+      ap (set (at .time) (first + at .bit)) (entry-kept .ensures)
+          ∙ (ap (λ (t : List ℕ). set t (first + at .bit) (entryKept (a .config) (at .bit) (getD t (first + at .bit) 0)))
+          (at .inv .1)
           ∙ sym (kept-more (a .config) first (at .bit) (a .time .now))),
     )
 
 returns : tie.Need-returns Inv-loop μ-loop
 unfolding keepOf
 returns c =
-    let e : c .before .loop .bit ≡ 32 = omega arith in
-    rw e at (c .before .loop .inv .1)
+    let looped = c .before .loop in
+    let e : looped .bit ≡ 32 = omega arith in
+    rw e at (looped .inv .1)
 
 pub keep-spec : {M : Type 1} → statement M
 keep-spec =
-    tie.close (tie.spec Inv-loop μ-loop cast-first mul-first loop-holds cast-at add-at mul-entry-kept element-copy-out-entry-kept entry-kept-requires
+    tie.close (tie.spec Inv-loop μ-loop cast-first mul-first loop-holds cast-at add-at mul-entry-kept
+    element-copy-out-entry-kept entry-kept-requires
     mul-time element-write-time add-bit loop-less loop-again returns)

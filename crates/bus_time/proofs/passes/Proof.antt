@@ -27,7 +27,11 @@ add-result-2 c = search needs
 
 returns : tie.Need-returns
 unfolding passes
-returns c = simp (← c .before .wide .ensures .0, ← c .in-use .ensures .0)
+returns c =
+    let wide = c .before .wide in
+    let in-use = c .in-use in
+    simp (← wide .ensures .0, ← in-use .ensures .0)
 
 pub passes-spec : {M : Type 1} → statement M
-passes-spec = tie.close (tie.spec mul-wide element-copy-out-wide wide-requires add-result in-use-requires add-result-2 returns)
+passes-spec = tie.close (tie.spec mul-wide element-copy-out-wide wide-requires add-result in-use-requires add-result-2
+    returns)

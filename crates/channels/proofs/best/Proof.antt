@@ -6,7 +6,9 @@ choose-requires : tie.Need-choose-requires
 choose-requires c κs = search needs
 
 returns : tie.Need-returns
-returns c = rw (c .choose .ensures)
+returns c =
+    let choose = c .choose in
+    rw (choose .ensures)
 
 pub best-spec : {M : Type 1} → statement M
 best-spec = tie.close (tie.spec choose-requires returns)

@@ -14,20 +14,27 @@ empty-requires : tie.Need-empty-requires
 empty-requires c κs = search needs
 
 gather-requires : tie.Need-gather-requires
-gather-requires c κs = (c .before .before .pre, rw (c .empty .ensures) (tidy-of [] good-none))
+gather-requires c κs =
+    let start = c .before .before in
+    let empty = c .empty in
+    (start .pre, rw (empty .ensures) (tidy-of [] good-none))
 
 gather-requires-2 : tie.Need-gather-requires-2
 gather-requires-2 c κs = search needs
 
 returns : tie.Need-returns
 returns c =
-    let s = c .before .before .before .before .args .bytes .now in
-    let e : c .before .gather .result ≡ ofList (gathered [] (endpoints true s)) = c .before .gather .ensures .0 ∙ rw (c .before .before .empty .ensures) in
-    let l : listed (c .before .gather .result) ≡ gathered [] (endpoints true s) = rw e (listed-of (gathered [] (endpoints true s))) in (
-      c .gather2 .ensures .0
-          ∙ ap (λ (x : List Endpoint). ofList (gathered x (endpoints false s))) l
+    let start = c .before .before .before .before in
+    let empty = c .before .before .empty in
+    let gather = c .before .gather in
+    let gather2 = c .gather2 in
+    let s = start .args .bytes .now in
+    let e : gather .result ≡ ofList (gathered [] (endpoints true s)) = gather .ensures .0 ∙ rw (empty .ensures) in
+    let l : listed (gather .result) ≡ gathered [] (endpoints true s)
+    = rw e (listed-of (gathered [] (endpoints true s))) in (
+      gather2 .ensures .0 ∙ ap (λ (x : List Endpoint). ofList (gathered x (endpoints false s))) l
           ∙ ap (λ (x : List Endpoint). ofList x) (sym (gathered-append [] (endpoints true s) (endpoints false s))),
-      c .gather2 .ensures .1,
+      gather2 .ensures .1,
     )
 
 pub gathered-spec : {M : Type 1} → statement M

@@ -12,7 +12,9 @@ add-result : tie.Need-add-result
 add-result c = search needs
 
 returns : tie.Need-returns
-returns c = rw (c .count .ensures)
+returns c =
+    let count = c .count in
+    rw (count .ensures)
 
 pub is-short-spec : {M : Type 1} → statement M
 is-short-spec = tie.close (tie.spec count-requires mul-result add-result returns)

@@ -20,14 +20,24 @@ refused-requires c κs = search needs
 returns : tie.Need-returns
 unfolding readingOf
 returns c =
-    let h = sym (c .before .before .is-configuration .ensures) ∙ not-true _ (c .before .if1 .taken) in
-    c .refused .ensures ∙ rw h
+    let is-configuration = c .before .before .is-configuration in
+    let if1 = c .before .if1 in
+    let refused = c .refused in
+    let h = sym (is-configuration .ensures) ∙ not-true _ (if1 .taken) in
+    refused .ensures ∙ rw h
 
 gathered-requires : tie.Need-gathered-requires
-gathered-requires c κs = sym (c .before .is-configuration .ensures) ∙ not-false _ (c .if1 .left)
+gathered-requires c κs =
+    let is-configuration = c .before .is-configuration in
+    let if1 = c .if1 in
+    sym (is-configuration .ensures) ∙ not-false _ (if1 .left)
 
 agree-requires : tie.Need-agree-requires
-agree-requires c κs = (sym (c .before .before .is-configuration .ensures) ∙ not-false _ (c .before .if1 .left), c .gathered .ensures .1)
+agree-requires c κs =
+    let is-configuration = c .before .before .is-configuration in
+    let if1 = c .before .if1 in
+    let gathered = c .gathered in
+    (sym (is-configuration .ensures) ∙ not-false _ (if1 .left), gathered .ensures .1)
 
 refused-requires-2 : tie.Need-refused-requires-2
 refused-requires-2 c κs = search needs
@@ -35,18 +45,29 @@ refused-requires-2 c κs = search needs
 returns-2 : tie.Need-returns-2
 unfolding readingOf
 returns-2 c =
-    let s = c .before .before .before .before .before .before .before .args .bytes .now in
-    let h = sym (c .before .before .before .before .before .is-configuration .ensures) ∙ not-false _ (c .before .before .before .before .if1 .left) in
-    let g = c .before .before .before .gathered .ensures .0 in
-    let l : listed (c .before .before .before .gathered .result) ≡ listOf s = rw g (listed-of (listOf s)) in
-    let a = ap (λ (x : List Endpoint). agree x (endpoints true s)) (sym l) ∙ sym (c .before .before .agree .ensures) ∙ not-true _ (c .before .if2 .taken) in
-    c .refused2 .ensures ∙ rw (h, two-in-first s a)
+    let start = c .before .before .before .before .before .before .before in
+    let is-configuration = c .before .before .before .before .before .is-configuration in
+    let if1 = c .before .before .before .before .if1 in
+    let gathered = c .before .before .before .gathered in
+    let agree-fact = c .before .before .agree in
+    let if2 = c .before .if2 in
+    let refused2 = c .refused2 in
+    let s = start .args .bytes .now in
+    let h = sym (is-configuration .ensures) ∙ not-false _ (if1 .left) in
+    let g = gathered .ensures .0 in
+    let l : listed (gathered .result) ≡ listOf s = rw g (listed-of (listOf s)) in
+    let a = ap (λ (x : List Endpoint). agree x (endpoints true s)) (sym l) ∙ sym (agree-fact .ensures)
+    ∙ not-true _ (if2 .taken) in
+    refused2 .ensures ∙ rw (h, two-in-first s a)
 
 agree-requires-2 : tie.Need-agree-requires-2
-agree-requires-2 c κs = (
-  sym (c .before .before .before .before .is-configuration .ensures) ∙ not-false _ (c .before .before .before .if1 .left),
-  c .before .before .gathered .ensures .1,
-)
+agree-requires-2 c κs =
+    let is-configuration = c .before .before .before .before .is-configuration in
+    let if1 = c .before .before .before .if1 in
+    let gathered = c .before .before .gathered in (
+      sym (is-configuration .ensures) ∙ not-false _ (if1 .left),
+      gathered .ensures .1,
+    )
 
 refused-requires-3 : tie.Need-refused-requires-3
 refused-requires-3 c κs = search needs
@@ -54,30 +75,48 @@ refused-requires-3 c κs = search needs
 returns-3 : tie.Need-returns-3
 unfolding readingOf
 returns-3 c =
-    let s = c .before .before .before .before .before .before .before .before .before .args .bytes .now in
-    let h = sym (c .before .before .before .before .before .before .before .is-configuration .ensures)
-    ∙ not-false _ (c .before .before .before .before .before .before .if1 .left) in
-    let g = c .before .before .before .before .before .gathered .ensures .0 in
-    let l : listed (c .before .before .before .before .before .gathered .result) ≡ listOf s = rw g (listed-of (listOf s)) in
+    let start = c .before .before .before .before .before .before .before .before .before in
+    let is-configuration = c .before .before .before .before .before .before .before .is-configuration in
+    let if1 = c .before .before .before .before .before .before .if1 in
+    let gathered = c .before .before .before .before .before .gathered in
+    let agree-fact = c .before .before .before .before .agree in
+    let if2 = c .before .before .before .if2 in
+    let agree2 = c .before .before .agree2 in
+    let if3 = c .before .if3 in
+    let refused3 = c .refused3 in
+    let s = start .args .bytes .now in
+    let h = sym (is-configuration .ensures) ∙ not-false _ (if1 .left) in
+    let g = gathered .ensures .0 in
+    let l : listed (gathered .result) ≡ listOf s = rw g (listed-of (listOf s)) in
     let a = ap (λ (x : List Endpoint). agree x (endpoints true s)) (sym l)
-    ∙ sym (c .before .before .before .before .agree .ensures) ∙ not-false _ (c .before .before .before .if2 .left) in
-    let b = ap (λ (x : List Endpoint). agree x (endpoints false s)) (sym l) ∙ sym (c .before .before .agree2 .ensures) ∙ not-true _ (c .before .if3 .taken) in
-    c .refused3 .ensures ∙ rw (h, two-in-others s a b)
+    ∙ sym (agree-fact .ensures) ∙ not-false _ (if2 .left) in
+    let b = ap (λ (x : List Endpoint). agree x (endpoints false s)) (sym l) ∙ sym (agree2 .ensures)
+    ∙ not-true _ (if3 .taken) in
+    refused3 .ensures ∙ rw (h, two-in-others s a b)
 
 returns-4 : tie.Need-returns-4
 unfolding readingOf
 returns-4 c =
-    let s = c .before .before .before .before .before .before .before .before .args .bytes .now in
-    let h = sym (c .before .before .before .before .before .before .is-configuration .ensures)
-    ∙ not-false _ (c .before .before .before .before .before .if1 .left) in
-    let g = c .before .before .before .before .gathered .ensures .0 in
-    let l : listed (c .before .before .before .before .gathered .result) ≡ listOf s = rw g (listed-of (listOf s)) in
+    let start = c .before .before .before .before .before .before .before .before in
+    let is-configuration = c .before .before .before .before .before .before .is-configuration in
+    let if1 = c .before .before .before .before .before .if1 in
+    let gathered = c .before .before .before .before .gathered in
+    let agree-fact = c .before .before .before .agree in
+    let if2 = c .before .before .if2 in
+    let agree2 = c .before .agree2 in
+    let if3 = c .if3 in
+    let s = start .args .bytes .now in
+    let h = sym (is-configuration .ensures) ∙ not-false _ (if1 .left) in
+    let g = gathered .ensures .0 in
+    let l : listed (gathered .result) ≡ listOf s = rw g (listed-of (listOf s)) in
     let a = ap (λ (x : List Endpoint). agree x (endpoints true s)) (sym l)
-    ∙ sym (c .before .before .before .agree .ensures) ∙ not-false _ (c .before .before .if2 .left) in
-    let b = ap (λ (x : List Endpoint). agree x (endpoints false s)) (sym l) ∙ sym (c .before .agree2 .ensures) ∙ not-false _ (c .if3 .left) in
+    ∙ sym (agree-fact .ensures) ∙ not-false _ (if2 .left) in
+    let b = ap (λ (x : List Endpoint). agree x (endpoints false s)) (sym l) ∙ sym (agree2 .ensures)
+    ∙ not-false _ (if3 .left) in
     rw (h, one-each s a b, g)
 
 pub read-spec : {M : Type 1} → statement M
 read-spec =
-    tie.close (tie.spec is-configuration-requires refused-requires returns gathered-requires agree-requires refused-requires-2 returns-2
+    tie.close (tie.spec is-configuration-requires refused-requires returns gathered-requires agree-requires
+    refused-requires-2 returns-2
     agree-requires-2 refused-requires-3 returns-3 returns-4)

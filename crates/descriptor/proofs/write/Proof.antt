@@ -19,8 +19,10 @@ add-total c = search needs
 returns : tie.Need-returns
 unfolding writtenOf roomAfter
 returns c =
-    let n = c .before .count .ensures in
-    let h = lt-ltb _ _ (c .if1 .taken) in
+    let count = c .before .count in
+    let if1 = c .if1 in
+    let n = count .ensures in
+    let h = lt-ltb _ _ (if1 .taken) in
     (rw (← n, h), rw (← n, h))
 
 configuration-requires : tie.Need-configuration-requires
@@ -38,17 +40,24 @@ same-length c = search needs
 returns-2 : tie.Need-returns-2
 unfolding writtenOf roomAfter
 returns-2 c =
-    let k = c .before .before .before .before .before .before .before .before .before .before .before .before .before in
-    let a = k .before .before .args in
-    let n = k .count .ensures in
-    let h = le-ltb _ _ (c .before .before .before .before .before .before .before .before .before .before .before .before .if1 .left) in
-    let l = laid-all (a .room .now) (k .count .result) (a .list .entries) (omega arith) in (
+    let at-count = c .before .before .before .before .before .before .before .before .before .before .before .before
+    .before in
+    let if1 = c .before .before .before .before .before .before .before .before .before .before .before .before .if1 in
+    let configuration = c .before .before .before .before .before .before .before .before .before .before
+    .configuration in
+    let interface = c .before .before .before .before .before .before .interface in
+    let endpoints = c .before .before .endpoints in
+    let a = at-count .before .before .args in
+    let n = at-count .count .ensures in
+    let h = le-ltb _ _ (if1 .left) in
+    let l = laid-all (a .room .now) (at-count .count .result) (a .list .entries) (omega arith) in (
       rw (← n, h),
-      rw (← n, h) (c .before .before .endpoints .ensures ∙ rw (
-        c .before .before .before .before .before .before .interface .ensures,
-        c .before .before .before .before .before .before .before .before .before .before .configuration .ensures,
+      rw (← n, h) (endpoints .ensures ∙ rw (
+        interface .ensures,
+        configuration .ensures,
       ) l),
     )
 
 pub write-spec : {M : Type 1} → statement M
-write-spec = tie.close (tie.spec count-requires mul-total add-total returns configuration-requires interface-requires endpoints-requires same-length returns-2)
+write-spec = tie.close (tie.spec count-requires mul-total add-total returns configuration-requires interface-requires
+    endpoints-requires same-length returns-2)

@@ -22,16 +22,22 @@ store-paced-requires : tie.Need-store-paced-requires
 store-paced-requires c κs = search needs
 
 returns : tie.Need-returns
-returns c = (
-  λ b. simp (
-    c .store-paced .ensures .0,
-    c .before .before .store-globals .ensures .0,
-    c .before .before .before .before .mask-with .ensures,
-    mod-eq-of-lt (c .before .before .before .before .before .before .before .pre),
-    c .before .before .before .before .before .load-globals .ensures,
-  ),
-  simp (c .store-paced .ensures .1, c .before .before .store-globals .ensures .1),
-)
+returns c =
+    let start = c .before .before .before .before .before .before .before in
+    let load-globals = c .before .before .before .before .before .load-globals in
+    let mask-with = c .before .before .before .before .mask-with in
+    let store-globals = c .before .before .store-globals in
+    let store-paced = c .store-paced in (
+      λ b. simp (
+        store-paced .ensures .0,
+        store-globals .ensures .0,
+        mask-with .ensures,
+        mod-eq-of-lt (start .pre),
+        load-globals .ensures,
+      ),
+      simp (store-paced .ensures .1, store-globals .ensures .1),
+    )
 
 pub iso-in-set-paced-spec : {M : Type 1} → statement M
-iso-in-set-paced-spec = tie.close (tie.spec load-globals-requires mask-with-requires store-globals-requires store-paced-requires returns)
+iso-in-set-paced-spec = tie.close (tie.spec load-globals-requires mask-with-requires store-globals-requires
+    store-paced-requires returns)

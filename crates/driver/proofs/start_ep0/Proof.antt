@@ -10,7 +10,9 @@ load-globals-requires : tie.Need-load-globals-requires
 load-globals-requires c κs = search needs
 
 returns : tie.Need-returns
-returns c = (λ b. simp (c .load-globals .ensures), refl)
+returns c =
+    let load-globals = c .load-globals in
+    (λ b. simp (load-globals .ensures), refl)
 
 pub start-ep0-spec : {M : Type 1} → statement M
 start-ep0-spec = tie.close (tie.spec load-globals-requires returns)

@@ -10,7 +10,9 @@ clear-requires : tie.Need-clear-requires
 clear-requires c κs = search needs
 
 returns : tie.Need-returns
-returns c = (λ d b. simp (c .clear .ensures), refl)
+returns c =
+    let clear = c .clear in
+    (λ d b. simp (clear .ensures), refl)
 
 pub start-up-spec : {M : Type 1} → statement M
 start-up-spec = tie.close (tie.spec clear-requires returns)

@@ -13,7 +13,10 @@ is-none-requires c κs = search needs
 
 returns : tie.Need-returns
 unfolding completions
-returns c = simp (← c .before .is-none .ensures, c .if1 .taken)
+returns c =
+    let is-none = c .before .is-none in
+    let if1 = c .if1 in
+    simp (← is-none .ensures, if1 .taken)
 
 microframe-index-requires : tie.Need-microframe-index-requires
 microframe-index-requires c κs = search needs
@@ -27,13 +30,19 @@ at-most-3-requires c κs = search needs
 returns-2 : tie.Need-returns-2
 unfolding completions
 returns-2 c =
+    let is-none = c .before .before .before .before .is-none in
+    let if1 = c .before .before .before .if1 in
+    let microframe-index = c .before .before .microframe-index in
+    let distance = c .before .distance in
+    let at-most-3 = c .at-most-3 in
     simp (
-      c .at-most-3 .ensures,
-      ← c .before .before .before .before .is-none .ensures,
-      c .before .before .before .if1 .left,
-      ← c .before .before .microframe-index .ensures,
-      ← c .before .distance .ensures,
+      at-most-3 .ensures,
+      ← is-none .ensures,
+      if1 .left,
+      ← microframe-index .ensures,
+      ← distance .ensures,
     )
 
 pub completions-spec : {M : Type 1} → statement M
-completions-spec = tie.close (tie.spec is-none-requires returns microframe-index-requires distance-requires at-most-3-requires returns-2)
+completions-spec = tie.close (tie.spec is-none-requires returns microframe-index-requires distance-requires
+    at-most-3-requires returns-2)

@@ -10,7 +10,10 @@ wrapping-sub-u16-requires : tie.Need-wrapping-sub-u16-requires
 wrapping-sub-u16-requires c κs = search needs
 
 returns : tie.Need-returns
-returns c = rounds (c .before .args .from .0) (c .before .args .to .0) (c .wrapping-sub-u16 .result) (c .wrapping-sub-u16 .ensures)
+returns c =
+    let start = c .before in
+    let wrapping-sub-u16 = c .wrapping-sub-u16 in
+    rounds (start .args .from .0) (start .args .to .0) (wrapping-sub-u16 .result) (wrapping-sub-u16 .ensures)
 
 pub distance-spec : {M : Type 1} → statement M
 distance-spec = tie.close (tie.spec wrapping-sub-u16-requires returns)

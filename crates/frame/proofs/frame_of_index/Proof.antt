@@ -5,7 +5,9 @@ use Rattle.frame.proofs.frame_of_index.Reads as reads
 use Rattle.frame.proofs.frame_of_index.Lts as lts
 
 returns : tie.Need-returns
-returns c = frame-packed (c .before .before .args .i .0)
+returns c =
+    let start = c .before .before in
+    frame-packed (start .args .i .0)
 
 pub frame-of-index-spec : {M : Type 1} → statement M
 frame-of-index-spec = tie.close (tie.spec returns)

@@ -13,7 +13,10 @@ is-none-requires c κs = search needs
 
 returns : tie.Need-returns
 unfolding inPrevious
-returns c = simp (← c .before .is-none .ensures, c .if1 .taken)
+returns c =
+    let is-none = c .before .is-none in
+    let if1 = c .if1 in
+    simp (← is-none .ensures, if1 .taken)
 
 microframe-index-requires : tie.Need-microframe-index-requires
 microframe-index-requires c κs = search needs
@@ -27,13 +30,19 @@ previous-requires c κs = search needs
 returns-2 : tie.Need-returns-2
 unfolding inPrevious
 returns-2 c =
+    let is-none = c .before .before .before .before .before .before .is-none in
+    let if1 = c .before .before .before .before .before .if1 in
+    let microframe-index = c .before .before .before .before .microframe-index in
+    let microframe-index2 = c .before .before .before .microframe-index2 in
+    let previous = c .before .before .previous in
     simp (
-      ← c .before .before .before .before .before .before .is-none .ensures,
-      c .before .before .before .before .before .if1 .left,
-      ← c .before .before .before .before .microframe-index .ensures,
-      ← c .before .before .before .microframe-index2 .ensures,
-      ← c .before .before .previous .ensures,
+      ← is-none .ensures,
+      if1 .left,
+      ← microframe-index .ensures,
+      ← microframe-index2 .ensures,
+      ← previous .ensures,
     )
 
 pub in-previous-spec : {M : Type 1} → statement M
-in-previous-spec = tie.close (tie.spec is-none-requires returns microframe-index-requires microframe-index-requires-2 previous-requires returns-2)
+in-previous-spec = tie.close (tie.spec is-none-requires returns microframe-index-requires microframe-index-requires-2
+    previous-requires returns-2)

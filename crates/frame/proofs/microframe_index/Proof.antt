@@ -6,7 +6,9 @@ use Rattle.frame.proofs.microframe_index.Reads as reads
 use Rattle.frame.proofs.microframe_index.Lts as lts
 
 returns : tie.Need-returns
-returns c = index-packed (c .before .before .args .frame .0) (omega arith)
+returns c =
+    let start = c .before .before in
+    index-packed (start .args .frame .0) (omega arith)
 
 pub microframe-index-spec : {M : Type 1} → statement M
 microframe-index-spec = tie.close (tie.spec returns)

@@ -13,7 +13,9 @@ wrapping-sub-u16-requires c κs = search needs
 
 returns : tie.Need-returns
 unfolding previous
-returns c = omega (arith, and-mask (c .wrapping-sub-u16 .result) 14)
+returns c =
+    let wrapping-sub-u16 = c .wrapping-sub-u16 in
+    omega (arith, and-mask (wrapping-sub-u16 .result) 14)
 
 pub previous-spec : {M : Type 1} → statement M
 previous-spec = tie.close (tie.spec wrapping-sub-u16-requires returns)

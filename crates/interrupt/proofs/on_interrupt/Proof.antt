@@ -1,6 +1,5 @@
 use Rattle.interrupt.specs.Laws.{interrupt-begun}
 use mathlib.Core.Path.{refl}
-use borrow.Author.Needs.{needs}
 use Rattle.interrupt.proofs.on_interrupt.Statement.{statement}
 use Rattle.interrupt.proofs.on_interrupt.Tie as tie
 

@@ -12,7 +12,10 @@ fits-requires : tie.Need-fits-requires
 fits-requires c κs = search needs
 
 byte-requires : tie.Need-byte-requires
-byte-requires c κs = wider _ 6 (omega arith) (sym (c .before .fits2 .ensures) ∙ c .if1 .taken)
+byte-requires c κs =
+    let fits2 = c .before .fits2 in
+    let if1 = c .if1 in
+    wider _ 6 (omega arith) (sym (fits2 .ensures) ∙ if1 .taken)
 
 bus-rst-requires : tie.Need-bus-rst-requires
 bus-rst-requires c κs = search needs
@@ -44,6 +47,10 @@ transfer-requires c κs = search needs
 returns-5 : tie.Need-returns-5
 returns-5 c h =
     let at-fifo-ov = c .before .before .before .before in
+    let if4 = c .before .before .before .if4 in
+    let hst-sof = c .before .before .hst-sof in
+    let if5 = c .before .if5 in
+    let transfer-fact = c .transfer in
     let at-if3 = at-fifo-ov .before in
     let at-suspend = at-if3 .before in
     let at-if2 = at-suspend .before in
@@ -55,9 +62,9 @@ returns-5 c h =
       sym (at-fits2 .fits2 .ensures) ∙ at-if1 .if1 .taken,
       subst (λ (w : ℕ). busRst w ≡ false) is (sym (at-bus-rst .bus-rst .ensures) ∙ at-if2 .if2 .left),
       subst (λ (w : ℕ). suspend w ≡ false) is (sym (at-suspend .suspend .ensures) ∙ at-if3 .if3 .left),
-      subst (λ (w : ℕ). fifoOv w ≡ false) is (sym (at-fifo-ov .fifo-ov .ensures) ∙ c .before .before .before .if4 .left),
-      subst (λ (w : ℕ). hstSof w ≡ false) is (sym (c .before .before .hst-sof .ensures) ∙ c .before .if5 .left),
-      subst (λ (w : ℕ). transfer w ≡ true) is (sym (c .transfer .ensures) ∙ h),
+      subst (λ (w : ℕ). fifoOv w ≡ false) is (sym (at-fifo-ov .fifo-ov .ensures) ∙ if4 .left),
+      subst (λ (w : ℕ). hstSof w ≡ false) is (sym (hst-sof .ensures) ∙ if5 .left),
+      subst (λ (w : ℕ). transfer w ≡ true) is (sym (transfer-fact .ensures) ∙ h),
     )
 
 returns-6 : tie.Need-returns-6
@@ -65,5 +72,6 @@ returns-6 c h = absurd (true≢false (sym h))
 
 pub is-transfer-spec : {M : Type 1} → statement M
 is-transfer-spec =
-    tie.close (tie.spec fits-requires byte-requires bus-rst-requires returns suspend-requires returns-2 fifo-ov-requires returns-3 hst-sof-requires
+    tie.close (tie.spec fits-requires byte-requires bus-rst-requires returns suspend-requires returns-2 fifo-ov-requires
+    returns-3 hst-sof-requires
     returns-4 transfer-requires returns-5 returns-6)

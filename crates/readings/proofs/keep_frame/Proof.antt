@@ -23,11 +23,13 @@ returns c =
     let the-short = c .before .before .before .before .before .short in
     let the-microframe-index = c .before .before .before .before .microframe-index in
     let the-load-globals = c .before .before .load-globals in
-    let stored = c .store-globals .ensures .0 in (
+    let store-globals = c .store-globals in
+    let stored = store-globals .ensures .0 in (
       λ b. microframe-kept (a .v) _ _ (the-load-globals .result) _ _ b (the-short .ensures)
           (the-microframe-index .ensures) (the-load-globals .ensures) stored,
       ap (λ (d : Driver). d .allocator) stored,
     )
 
 pub keep-frame-spec : {M : Type 1} → statement M
-keep-frame-spec = tie.close (tie.spec short-requires microframe-index-requires load-globals-requires store-globals-requires returns)
+keep-frame-spec = tie.close (tie.spec short-requires microframe-index-requires load-globals-requires
+    store-globals-requires returns)

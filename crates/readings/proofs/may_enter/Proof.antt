@@ -18,10 +18,14 @@ fits-requires c κs = search needs
 
 returns : tie.Need-returns
 returns c h =
-    let the-stop = c .before .before .before .before .stop in (
-      ap (λ (n : ℕ). eqb n 0) (sym (the-stop .ensures)) ∙ eq-eqb _ _ (c .before .before .before .if1 .taken),
-      sym (c .before .before .slots-fit .ensures) ∙ c .before .if2 .taken,
-      sym (c .fits2 .ensures) ∙ h,
+    let the-stop = c .before .before .before .before .stop in
+    let if1 = c .before .before .before .if1 in
+    let slots-fit = c .before .before .slots-fit in
+    let if2 = c .before .if2 in
+    let fits2 = c .fits2 in (
+      ap (λ (n : ℕ). eqb n 0) (sym (the-stop .ensures)) ∙ eq-eqb _ _ (if1 .taken),
+      sym (slots-fit .ensures) ∙ if2 .taken,
+      sym (fits2 .ensures) ∙ h,
     )
 
 returns-2 : tie.Need-returns-2

@@ -11,14 +11,22 @@ joined-requires c κs = search needs
 
 returns : tie.Need-returns
 unfolding arrivedOf
-returns c = simp (c .joined .ensures, c .before .if1 .taken, ← c .before .before .has-room-out .ensures)
+returns c =
+    let has-room-out = c .before .before .has-room-out in
+    let if1 = c .before .if1 in
+    let joined = c .joined in
+    simp (joined .ensures, if1 .taken, ← has-room-out .ensures)
 
 overrun-requires : tie.Need-overrun-requires
 overrun-requires c κs = search needs
 
 returns-2 : tie.Need-returns-2
 unfolding arrivedOf
-returns-2 c = simp (c .overrun .ensures, c .before .if1 .left, ← c .before .before .has-room-out .ensures)
+returns-2 c =
+    let has-room-out = c .before .before .has-room-out in
+    let if1 = c .before .if1 in
+    let overrun = c .overrun in
+    simp (overrun .ensures, if1 .left, ← has-room-out .ensures)
 
 pub arrived-spec : {M : Type 1} → statement M
 arrived-spec = tie.close (tie.spec has-room-out-requires joined-requires returns overrun-requires returns-2)

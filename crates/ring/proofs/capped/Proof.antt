@@ -5,11 +5,15 @@ use Rattle.ring.specs.Out.{cappedAt}
 
 returns : tie.Need-returns
 unfolding cappedAt
-returns c = simp (lt-ltb _ _ (c .if1 .taken))
+returns c =
+    let if1 = c .if1 in
+    simp (lt-ltb _ _ (if1 .taken))
 
 returns-2 : tie.Need-returns-2
 unfolding cappedAt
-returns-2 c = simp (le-ltb _ _ (c .if1 .left))
+returns-2 c =
+    let if1 = c .if1 in
+    simp (le-ltb _ _ (if1 .left))
 
 pub capped-spec : {M : Type 1} → statement M
 capped-spec = tie.close (tie.spec returns returns-2)

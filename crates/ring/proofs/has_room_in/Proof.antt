@@ -9,7 +9,9 @@ count-requires c κs = search needs
 
 returns : tie.Need-returns
 unfolding countOf hasRoomIn
-returns c = simp (← c .before .count .ensures)
+returns c =
+    let count = c .before .count in
+    simp (← count .ensures)
 
 pub has-room-in-spec : {M : Type 1} → statement M
 has-room-in-spec = tie.close (tie.spec count-requires returns)

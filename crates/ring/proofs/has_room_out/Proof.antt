@@ -10,7 +10,9 @@ use Rattle.ring.specs.Out.{hasRoomOut}
 
 returns : tie.Need-returns
 unfolding hasRoomOut
-returns c = sym (le-ltb (countOf (c .before .args .s)) (c .before .args .s .slots - 1) (omega arith))
+returns c =
+    let start = c .before in
+    sym (le-ltb (countOf (start .args .s)) (start .args .s .slots - 1) (omega arith))
 
 count-requires : tie.Need-count-requires
 count-requires c κs = search needs
@@ -20,7 +22,9 @@ sub-result c = search needs
 
 returns-2 : tie.Need-returns-2
 unfolding countOf hasRoomOut
-returns-2 c = simp (← c .count .ensures)
+returns-2 c =
+    let count = c .count in
+    simp (← count .ensures)
 
 pub has-room-out-spec : {M : Type 1} → statement M
 has-room-out-spec = tie.close (tie.spec returns count-requires sub-result returns-2)

@@ -8,7 +8,9 @@ count-requires c κs = search needs
 
 returns : tie.Need-returns
 unfolding countOf hasWaiting
-returns c = simp (← c .count .ensures)
+returns c =
+    let count = c .count in
+    simp (← count .ensures)
 
 pub has-waiting-spec : {M : Type 1} → statement M
 has-waiting-spec = tie.close (tie.spec count-requires returns)

@@ -8,7 +8,9 @@ wrapping-add-u32-requires c κs = search needs
 
 returns : tie.Need-returns
 unfolding overrunOf
-returns c = simp (c .wrapping-add-u32 .ensures)
+returns c =
+    let wrapping-add-u32 = c .wrapping-add-u32 in
+    simp (wrapping-add-u32 .ensures)
 
 pub overrun-spec : {M : Type 1} → statement M
 overrun-spec = tie.close (tie.spec wrapping-add-u32-requires returns)

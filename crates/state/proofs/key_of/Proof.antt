@@ -21,11 +21,15 @@ add-result c = search needs
 
 returns : tie.Need-returns
 unfolding key
-returns c = (simp (c .enum-told .given .1), omega arith)
+returns c =
+    let enum-told-fact = c .enum-told in
+    (simp (enum-told-fact .given .1), omega arith)
 
 returns-2 : tie.Need-returns-2
 unfolding key
-returns-2 c = (simp (c .enum-told2 .given .1), omega arith)
+returns-2 c =
+    let enum-told2 = c .enum-told2 in
+    (simp (enum-told2 .given .1), omega arith)
 
 pub key-of-spec : {M : Type 1} → statement M
 key-of-spec = tie.close (tie.spec enum-told cast-result enum-told-2 cast-result-2 add-result returns returns-2)

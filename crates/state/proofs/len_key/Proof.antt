@@ -21,7 +21,9 @@ add-result c = search needs
 returns : tie.Need-returns
 unfolding lenKey
 returns c =
-    (ap (λ (k : ℕ). k * 16 + c .before .args .i % 16) (c .key-of .ensures .0), omega arith)
+    let start = c .before in
+    let key-of = c .key-of in
+    (ap (λ (k : ℕ). k * 16 + start .args .i % 16) (key-of .ensures .0), omega arith)
 
 pub len-key-spec : {M : Type 1} → statement M
 len-key-spec = tie.close (tie.spec key-of-requires mul-result cast-result add-result returns)

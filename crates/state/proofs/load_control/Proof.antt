@@ -2,7 +2,7 @@ use mathlib.Core.Path.{ap}
 use denote.Ref.{now}
 use Rattle.bits.specs.Bytes.{gets, numbers}
 use Rattle.state.specs.Codec.{controlWidths, controlAs, controlOf}
-use Rattle.state.specs.State.{view, saved}
+use Rattle.state.specs.State.{view}
 use Rattle.bits.specs.Numbers.{each-eq}
 use borrow.Author.Needs.{needs}
 use Rattle.state.proofs.load_control.Statement.{statement}
@@ -14,8 +14,10 @@ read-control-requires c κs = search needs
 returns : tie.Need-returns
 unfolding view
 returns c =
-    let st = c .before in
-    ap controlOf (each-eq (controlAs (c .read-control .result)) (numbers controlWidths (gets (now (st .args .s)) 2990 0 9)) (c .read-control .ensures))
+    let start = c .before in
+    let read-control = c .read-control in
+    ap controlOf (each-eq (controlAs (read-control .result))
+    (numbers controlWidths (gets (now (start .args .s)) 2990 0 9)) (read-control .ensures))
 
 pub load-control-spec : {M : Type 1} → statement M
 load-control-spec = tie.close (tie.spec read-control-requires returns)

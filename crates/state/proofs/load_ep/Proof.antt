@@ -18,9 +18,11 @@ read-ep-requires c κs = search needs
 
 returns : tie.Need-returns
 returns c =
-    let st = c .before .before in
+    let start = c .before .before in
     let k = c .before .key-of in
-    ep-at (now (st .args .s)) (st .args .dir) (st .args .e) (k .result) (c .read-ep .result) (k .ensures .0) (k .ensures .1) (c .read-ep .ensures)
+    let read-ep = c .read-ep in
+    ep-at (now (start .args .s)) (start .args .dir) (start .args .e) (k .result) (read-ep .result) (k .ensures .0)
+    (k .ensures .1) (read-ep .ensures)
 
 pub load-ep-spec : {M : Type 1} → statement M
 load-ep-spec = tie.close (tie.spec key-of-requires mul-read-ep add-read-ep read-ep-requires returns)

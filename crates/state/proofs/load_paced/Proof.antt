@@ -18,7 +18,10 @@ get16-requires : tie.Need-get16-requires
 get16-requires c κs = search needs
 
 returns : tie.Need-returns
-returns c = c .get16 .ensures ∙ paced-at (now (c .before .args .s)) (c .before .args .e)
+returns c =
+    let start = c .before in
+    let get16 = c .get16 in
+    get16 .ensures ∙ paced-at (now (start .args .s)) (start .args .e)
 
 pub load-paced-spec : {M : Type 1} → statement M
 load-paced-spec = tie.close (tie.spec cast-get16 mul-get16 add-get16 get16-requires returns)

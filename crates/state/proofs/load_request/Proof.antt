@@ -18,10 +18,11 @@ read-request-requires c κs = search needs
 
 returns : tie.Need-returns
 returns c =
-    let st = c .before .before in
+    let start = c .before .before in
     let k = c .before .key-of in
-    request-at (now (st .args .s)) (st .args .dir)
-    (st .args .e) (k .result) (c .read-request .result) (k .ensures .0) (k .ensures .1) (c .read-request .ensures)
+    let read-request = c .read-request in
+    request-at (now (start .args .s)) (start .args .dir)
+    (start .args .e) (k .result) (read-request .result) (k .ensures .0) (k .ensures .1) (read-request .ensures)
 
 pub load-request-spec : {M : Type 1} → statement M
 load-request-spec = tie.close (tie.spec key-of-requires mul-read-request add-read-request read-request-requires returns)

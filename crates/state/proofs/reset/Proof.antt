@@ -61,7 +61,8 @@ module _ {M : Type 1} (𝓤 : URA M) (H : Heap 𝓤) (A : Atoms 𝓤) (at-mem : 
   ByValue = tripleOf 𝓤 H A by-value.signature (by-value.spec 𝓤 H A at-mem run)
 
   -- of its `ensured`, the clause alone
-  reset-of : (h r : EpState) → ent 𝓤 (ensured 𝓤 H A by-value.ended (by-value.clauses 𝓤 H A at-mem run) tt (h, tt) tt r) (fact 𝓤 (r ≡ resetOf h))
+  reset-of : (h r : EpState) → ent 𝓤 (ensured 𝓤 H A by-value.ended (by-value.clauses 𝓤 H A at-mem run) tt (h, tt) tt r)
+      (fact 𝓤 (r ≡ resetOf h))
   reset-of h r = exE 𝓤 _ (λ ws. snd∗ 𝓤 (sem 𝓤 H A (lasts by-value.ended tt (h, tt) ws)) (fact 𝓤 (r ≡ resetOf h)))
 
 module _ {M : Type 1} (𝓤 : URA M) (H : Heap 𝓤) (A : Atoms 𝓤) (W : Given 𝓤 H A)
@@ -76,59 +77,76 @@ module _ {M : Type 1} (𝓤 : URA M) (H : Heap 𝓤) (A : Atoms 𝓤) (W : Given
   Post = walkOf 𝓤 H A reset.ended stayed (reset.clauses 𝓤 H A at-mem run) .post (((κ, tt), (q, tt), tt, x, at), tt)
 
   exits : (r : EpState) → r ≡ resetOf h
-      → ent 𝓤 (sep 𝓤 (A .obs γ (T.the-row .coded .code r)) (sep 𝓤 (A .bor κ (Body (mem T.the-row) b o γ)) (A .lft κ q))) (Post vunit)
+      → ent 𝓤 (sep 𝓤 (A .obs γ (T.the-row .coded .code r)) (sep 𝓤 (A .bor κ (Body (mem T.the-row) b o γ)) (A .lft κ q)))
+      (Post vunit)
   exits r e =
       qed W (‵ (fobs γ (T.the-row .coded .code r)) ∷ ‵ (fbor κ (Body (mem T.the-row) b o γ)) ∷ ‵ (flft κ q) ∷ []) ∵
       suffices ! _
-      (ends-at 𝓤 H A reset.ended stayed (reset.clauses 𝓤 H A at-mem run) W (((κ, tt), (q, tt), tt, x, at), tt) vunit tt (r, tt) (tt, tt))
+      (ends-at 𝓤 H A reset.ended stayed (reset.clauses 𝓤 H A at-mem run) W (((κ, tt), (q, tt), tt, x, at), tt) vunit tt
+      (r, tt) (tt, tt))
       $ says ! e $ nothing ! $ move ! (3 ∷ 0 ∷ []) $ join ! $
-      frame ! $ feqI ! (List Val) (vptr b o ∷ []) (vptr b o ∷ []) refl $ fjoin3 ! $ nothing ! $ move ! (1 ∷ 0 ∷ []) $ fjoin ! $
+      frame ! $ feqI ! (List Val) (vptr b o ∷ []) (vptr b o ∷ []) refl $ fjoin3 ! $ nothing ! $ move ! (1 ∷ 0 ∷ [])
+      $ fjoin ! $
       feqI ! (List Val) (vunit ∷ []) (vunit ∷ []) refl $ move ! (1 ∷ 0 ∷ []) $ done !
 
   abbrev to-by-value : Val → ByValue 𝓤 H A at-mem run .Ghost
   to-by-value v = ((tt, tt, tt, (h, tt), (v ∷ [], tt)), tt)
 
-  goes-by-value : (v : Val) → ent 𝓤 (sem 𝓤 H A (T.the-row .own h (v ∷ []))) (ByValue 𝓤 H A at-mem run .pre (to-by-value v))
-  goes-by-value v = qed W (‵ (T.the-row .own h (v ∷ [])) ∷ []) ∵ nothing ! $ move ! (1 ∷ 0 ∷ []) $ join ! $ nothing ! $ join ! $ frame ! $ done !
+  goes-by-value : (v : Val) → ent 𝓤 (sem 𝓤 H A (T.the-row .own h (v ∷ [])))
+      (ByValue 𝓤 H A at-mem run .pre (to-by-value v))
+  goes-by-value v = qed W (‵ (T.the-row .own h (v ∷ [])) ∷ []) ∵ nothing ! $ move ! (1 ∷ 0 ∷ []) $ join ! $ nothing !
+      $ join ! $ frame ! $ done !
 
-  module _ (C : Calls 𝓤 H) (Λ : Loops 𝓤 H) (fm : FmC 𝓤 H (W .laws) C) (known : Triple 𝓤 (C #by-value) (ByValue 𝓤 H A at-mem run)) where
+  module _ (C : Calls 𝓤 H) (Λ : Loops 𝓤 H) (fm : FmC 𝓤 H (W .laws) C)
+      (known : Triple 𝓤 (C #by-value) (ByValue 𝓤 H A at-mem run)) where
     walk : ent 𝓤 (onEntry 𝓤 H A reset.signature (κ, tt) (q, tt) x at) (WpFn 𝓤 H C Λ code.function (vptr b o ∷ []) Post)
     walk =
         qed W ((‵ (flft κ q) ⊛ ‵ ftrue) ∷ ‵ (owns (MutRef (named 0) κ T.the-row ∷ []) x at) ∷ []) ∵ split !
         $ move ! (2 ∷ []) $ fsplit ! $ fsplit3 ! $ drop ! $ move ! (0 ∷ 1 ∷ 3 ∷ []) $
         -- [obs; the borrow; the token; true; true]
         enter ! C Λ code.function (vptr b o ∷ []) _ $
-        alloc1 ! (λ l₀. alloc1 ! (λ l₁. alloc1 ! (λ l₂. alloc1 ! (λ l₃. alloc0 ! $ params1 ! $ pass1 ! (init ! 4 refl (tt, tt)) $ pass0 ! $
+        alloc1 ! (λ l₀. alloc1 ! (λ l₁. alloc1 ! (λ l₂. alloc1 ! (λ l₃. alloc0 ! $ params1 !
+        $ pass1 ! (init ! 4 refl (tt, tt)) $ pass0 ! $
         move ! (8 ∷ 9 ∷ 10 ∷ []) $ opens ! tt T.the-row {h = h} b o
         (λ vs. spelt ! T.the-row (Is T.the-row) (shows 𝓤 H A T.the-row)
         (LL.vals T.the-type T′.the-laws) (LL.tells T.the-type T′.the-laws) fullShare h vs b o $
-        use1 W (‵ (fat fullShare T′.mir b o (LL.val T.the-type T′.the-laws h))) (W .laws .raw-at fullShare T′.mir b o (LL.val T.the-type T′.the-laws h)) $
-        move ! (1 ∷ []) $ peeks ! T.the-row (Is T.the-row) (shows 𝓤 H A T.the-row) h (LL.vals T.the-type T′.the-laws h) (λ was. move ! (1 ∷ 0 ∷ []) $
+        use1 W (‵ (fat fullShare T′.mir b o (LL.val T.the-type T′.the-laws h)))
+        (W .laws .raw-at fullShare T′.mir b o (LL.val T.the-type T′.the-laws h)) $
+        move ! (1 ∷ []) $ peeks ! T.the-row (Is T.the-row) (shows 𝓤 H A T.the-row) h (LL.vals T.the-type T′.the-laws h)
+        (λ was. move ! (1 ∷ 0 ∷ []) $
         -- [the struct's cell; what an EpState owns; the open borrow; obs; auth; _3; …; _2; …; _1; …; room for _0; …]
         assigns ! (of-opd ! (load ! (from ! (hop ! (look ! 9 refl) (stop !))) (look-in ! 0 (whole !))))
         (from ! (stop !)) (init ! 7 refl (LL.lawful T.the-type T′.the-laws 𝓤 H A W .typed h _ was .0)) $
         owned ! T.the-row (Is T.the-row) ((LL.makes T.the-type T′.the-plain) 𝓤 H A) h _ was $
-        use1 W (raw (ByValue 𝓤 H A at-mem run .pre (to-by-value (LL.val T.the-type T′.the-laws h)))) (goes-by-value (LL.val T.the-type T′.the-laws h)) $
+        use1 W (raw (ByValue 𝓤 H A at-mem run .pre (to-by-value (LL.val T.the-type T′.the-laws h))))
+        (goes-by-value (LL.val T.the-type T′.the-laws h)) $
         calls-at ! fm (ByValue 𝓤 H A at-mem run) known (to-by-value (LL.val T.the-type T′.the-laws h))
         (and-then ! (load ! (from ! (stop !)) (look ! 8 refl)) (no-more !)) (λ v′.
         use1 W
         (later (some (λ (r : EpState). (‵ ftrue ⊛ ‵ (T.the-row .own r (v′ ∷ []))) ⊛ raw
-        (ensured 𝓤 H A by-value.ended (by-value.clauses 𝓤 H A at-mem run) tt (h, tt) tt r)))) (id⊢ 𝓤 _) $ await ! tt $ pick ! (λ r.
-        split ! $ move ! (1 ∷ []) $ use1 W (raw (fact 𝓤 (r ≡ resetOf h))) (reset-of 𝓤 H A at-mem run h r) $ heard ! (r ≡ resetOf h) (λ e. split ! $ drop ! $
+        (ensured 𝓤 H A by-value.ended (by-value.clauses 𝓤 H A at-mem run) tt (h, tt) tt r)))) (id⊢ 𝓤 _) $ await ! tt
+        $ pick ! (λ r.
+        split ! $ move ! (1 ∷ []) $ use1 W (raw (fact 𝓤 (r ≡ resetOf h))) (reset-of 𝓤 H A at-mem run h r)
+        $ heard ! (r ≡ resetOf h) (λ e. split ! $ drop ! $
         peeks ! T.the-row (Is T.the-row) (shows 𝓤 H A T.the-row) r (v′ ∷ []) (λ is.
-        -- [what r owns; the struct's cell; what h owned; the open borrow; obs; auth; _3; …; _2; …; _1; …; room for _0; …]
+        -- [what r owns; the struct's cell; what h owned; the open borrow; obs; auth; _3; …; _2; …; _1; …; room for _0;
+        -- …]
         land ! (from ! (stop !)) (init ! 6 refl (LL.lawful T.the-type T′.the-laws 𝓤 H A W .typed r _ is .0)) $
         assigns ! (of-opd ! (load ! (from ! (stop !)) (look ! 6 refl))) (from ! (hop ! (look ! 10 refl) (stop !)))
         (store-in ! 1 (whole !) (LL.lawful T.the-type T′.the-laws 𝓤 H A W .typed r _ is .0)) $
         assigns ! (of-opd ! (unit-lit !)) (from ! (stop !)) (init ! 12 refl (tt, tt)) $
         move ! (2 ∷ []) $ drop ! $ move ! (1 ∷ []) $ use1 W (‵ (cellAt fullShare (T.the-row .mir) (v′ ∷ []) b o))
         (W .laws .at-raw fullShare T′.mir b o v′) $ closes ! tt T.the-row r (v′ ∷ []) b o $
-        returns ! (look ! 9 refl) $ forget ! 3 refl $ forget ! 5 refl $ forget ! 7 refl $ forget ! 9 refl $ move ! (9 ∷ 10 ∷ [])
-        $ free1 ! $ move ! (7 ∷ 8 ∷ []) $ free1 ! $ move ! (5 ∷ 6 ∷ []) $ free1 ! $ move ! (3 ∷ 4 ∷ []) $ free1 ! $ free0 ! $
+        returns ! (look ! 9 refl) $ forget ! 3 refl $ forget ! 5 refl $ forget ! 7 refl $ forget ! 9 refl
+        $ move ! (9 ∷ 10 ∷ [])
+        $ free1 ! $ move ! (7 ∷ 8 ∷ []) $ free1 ! $ move ! (5 ∷ 6 ∷ []) $ free1 ! $ move ! (3 ∷ 4 ∷ []) $ free1 !
+        $ free0 ! $
         keep ! (0 ∷ 1 ∷ 2 ∷ []) $ by ! (exits r e)))))))))))
 
-module _ {M : Type 1} (𝓤 : URA M) (H : Heap 𝓤) (A : Atoms 𝓤) (W : Given 𝓤 H A) (at-mem : Memory → SProp 𝓤) (run : Routine → Fun 𝓤) where
-  reset-walks : (C : Calls 𝓤 H) (Λ : Loops 𝓤 H) → FmC 𝓤 H (W .laws) C → Triple 𝓤 (C #by-value) (ByValue 𝓤 H A at-mem run)
+module _ {M : Type 1} (𝓤 : URA M) (H : Heap 𝓤) (A : Atoms 𝓤) (W : Given 𝓤 H A) (at-mem : Memory → SProp 𝓤)
+    (run : Routine → Fun 𝓤) where
+  reset-walks : (C : Calls 𝓤 H) (Λ : Loops 𝓤 H) → FmC 𝓤 H (W .laws) C
+      → Triple 𝓤 (C #by-value) (ByValue 𝓤 H A at-mem run)
       → Walks 𝓤 H A reset.ended stayed (WpFn 𝓤 H C Λ code.function) (reset.clauses 𝓤 H A at-mem run)
   reset-walks C Λ fm known = walked 𝓤 H A reset.ended stayed (reset.clauses 𝓤 H A at-mem run)
       (WpFn 𝓤 H C Λ code.function) (λ κs. (ptr-vals, tt)) (λ κs. (mut-tells (named 0) (κs .0) T.the-row, tt))
@@ -151,4 +169,5 @@ reset-spec 𝓤 H 𝓜 𝓖 𝓡 =
     entered 𝓤 H (tripleOf 𝓤 H (𝓖 .A) reset.signature (reset.spec 𝓤 H (𝓖 .A) (𝓜 .mem) (𝓡 .run)))
     (tables 𝓤 H 𝓜 𝓡 code.env .C) (tables 𝓤 H 𝓜 𝓡 code.env .Λ) #reset code.function (code.unfolded 𝓤 H 𝓜 𝓡)
     (reset-meets 𝓤 H (𝓖 .A) (givenOf 𝓤 H 𝓜 𝓖) (𝓜 .mem) (𝓡 .run) (tablesOf 𝓤 H 𝓜 (tables 𝓤 H 𝓜 𝓡 code.env))
-    (cited 𝓤 H (ByValue 𝓤 H (𝓖 .A) (𝓜 .mem) (𝓡 .run)) 𝓜 𝓡 code.env #by-value by-value-def.routine code.calls-state·EpState·reset (by-value-thm.met 𝓤 H 𝓜 𝓖 𝓡)))
+    (cited 𝓤 H (ByValue 𝓤 H (𝓖 .A) (𝓜 .mem) (𝓡 .run)) 𝓜 𝓡 code.env #by-value by-value-def.routine
+    code.calls-state·EpState·reset (by-value-thm.met 𝓤 H 𝓜 𝓖 𝓡)))

@@ -17,9 +17,13 @@ write-allocator-requires c κs = search needs
 
 returns : tie.Need-returns
 returns c =
-    let st = c .before .before .before .before .before in (
-      ap view (c .write-allocator .ensures) ∙ view-allocator (now (st .args .s)) (c .before .before .before .sized-arg2 .given .0) (st .args .r),
-      ap saved (c .write-allocator .ensures) ∙ saved-off (now (st .args .s)) 22 (bytes allocatorWidths (allocatorAs (st .args .r))) (omega arith),
+    let start = c .before .before .before .before .before in
+    let sized-arg2 = c .before .before .before .sized-arg2 in
+    let write-allocator = c .write-allocator in (
+      ap view (write-allocator .ensures) ∙ view-allocator (now (start .args .s)) (sized-arg2 .given .0)
+          (start .args .r),
+      ap saved (write-allocator .ensures) ∙ saved-off (now (start .args .s)) 22
+          (bytes allocatorWidths (allocatorAs (start .args .r))) (omega arith),
     )
 
 pub store-allocator-spec : {M : Type 1} → statement M

@@ -17,9 +17,12 @@ write-control-requires c κs = search needs
 
 returns : tie.Need-returns
 returns c =
-    let st = c .before .before .before .before .before in (
-      ap view (c .write-control .ensures) ∙ view-control (now (st .args .s)) (c .before .before .before .sized-arg2 .given .0) (st .args .r),
-      ap saved (c .write-control .ensures) ∙ saved-off (now (st .args .s)) 2990 (bytes controlWidths (controlAs (st .args .r))) (omega arith),
+    let start = c .before .before .before .before .before in
+    let sized-arg2 = c .before .before .before .sized-arg2 in
+    let write-control = c .write-control in (
+      ap view (write-control .ensures) ∙ view-control (now (start .args .s)) (sized-arg2 .given .0) (start .args .r),
+      ap saved (write-control .ensures) ∙ saved-off (now (start .args .s)) 2990
+          (bytes controlWidths (controlAs (start .args .r))) (omega arith),
     )
 
 pub store-control-spec : {M : Type 1} → statement M

@@ -22,8 +22,11 @@ write-ep-requires c κs = search needs
 returns : tie.Need-returns
 returns c =
     let x = c .before .before .before .before .before .before .args in
-    let long = c .before .before .before .before .sized-arg2 .given .0 in
-    ep-stored (now (x .s)) long (x .dir) (x .e) _ (x .r) _ (c .before .before .key-of .ensures) (c .write-ep .ensures)
+    let sized-arg2 = c .before .before .before .before .sized-arg2 in
+    let key-of = c .before .before .key-of in
+    let write-ep = c .write-ep in
+    let long = sized-arg2 .given .0 in
+    ep-stored (now (x .s)) long (x .dir) (x .e) _ (x .r) _ (key-of .ensures) (write-ep .ensures)
 
 pub store-ep-spec : {M : Type 1} → statement M
 store-ep-spec = tie.close (tie.spec sized-requires key-of-requires mul-write-ep add-write-ep write-ep-requires returns)

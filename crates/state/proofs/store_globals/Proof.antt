@@ -17,9 +17,12 @@ write-globals-requires c κs = search needs
 
 returns : tie.Need-returns
 returns c =
-    let st = c .before .before .before .before .before in (
-      ap view (c .write-globals .ensures) ∙ view-globals (now (st .args .s)) (c .before .before .before .sized-arg2 .given .0) (st .args .r),
-      ap saved (c .write-globals .ensures) ∙ saved-off (now (st .args .s)) 1320 (bytes globalsWidths (globalsAs (st .args .r))) (omega arith),
+    let start = c .before .before .before .before .before in
+    let sized-arg2 = c .before .before .before .sized-arg2 in
+    let write-globals = c .write-globals in (
+      ap view (write-globals .ensures) ∙ view-globals (now (start .args .s)) (sized-arg2 .given .0) (start .args .r),
+      ap saved (write-globals .ensures) ∙ saved-off (now (start .args .s)) 1320
+          (bytes globalsWidths (globalsAs (start .args .r))) (omega arith),
     )
 
 pub store-globals-spec : {M : Type 1} → statement M

@@ -22,8 +22,11 @@ put16-requires c κs = search needs
 returns : tie.Need-returns
 returns c =
     let x = c .before .before .before .before .before .before .args in
-    let long = c .before .before .before .before .sized-arg2 .given .0 in
-    len-stored (now (x .s)) long (x .dir) (x .e) (x .i) _ (x .v) _ (c .before .before .len-key .ensures) (c .put16 .ensures)
+    let sized-arg2 = c .before .before .before .before .sized-arg2 in
+    let len-key = c .before .before .len-key in
+    let put16 = c .put16 in
+    let long = sized-arg2 .given .0 in
+    len-stored (now (x .s)) long (x .dir) (x .e) (x .i) _ (x .v) _ (len-key .ensures) (put16 .ensures)
 
 pub store-len-spec : {M : Type 1} → statement M
 store-len-spec = tie.close (tie.spec sized-requires len-key-requires mul-put16 add-put16 put16-requires returns)

@@ -22,7 +22,9 @@ put16-requires c κs = search needs
 returns : tie.Need-returns
 returns c =
     let x = c .before .before .before .before .before .args in
-    paced-stored (now (x .s)) (c .before .before .before .sized-arg2 .given .0) (x .e) (x .v) _ (c .put16 .ensures)
+    let sized-arg2 = c .before .before .before .sized-arg2 in
+    let put16 = c .put16 in
+    paced-stored (now (x .s)) (sized-arg2 .given .0) (x .e) (x .v) _ (put16 .ensures)
 
 pub store-paced-spec : {M : Type 1} → statement M
 store-paced-spec = tie.close (tie.spec sized-requires cast-put16 mul-put16 add-put16 put16-requires returns)

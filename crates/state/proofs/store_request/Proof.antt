@@ -22,8 +22,12 @@ write-request-requires c κs = search needs
 returns : tie.Need-returns
 returns c =
     let x = c .before .before .before .before .before .before .args in
-    let long = c .before .before .before .before .sized-arg2 .given .0 in
-    request-stored (now (x .s)) long (x .dir) (x .e) _ (x .r) _ (c .before .before .key-of .ensures) (c .write-request .ensures)
+    let sized-arg2 = c .before .before .before .before .sized-arg2 in
+    let key-of = c .before .before .key-of in
+    let write-request = c .write-request in
+    let long = sized-arg2 .given .0 in
+    request-stored (now (x .s)) long (x .dir) (x .e) _ (x .r) _ (key-of .ensures) (write-request .ensures)
 
 pub store-request-spec : {M : Type 1} → statement M
-store-request-spec = tie.close (tie.spec sized-requires key-of-requires mul-write-request add-write-request write-request-requires returns)
+store-request-spec = tie.close (tie.spec sized-requires key-of-requires mul-write-request add-write-request
+    write-request-requires returns)

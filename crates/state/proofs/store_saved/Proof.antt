@@ -14,10 +14,12 @@ write-saved-requires c κs = search needs
 
 returns : tie.Need-returns
 returns c =
-    let st = c .before .before .before .before .before in
-    let long = c .before .before .before .sized-arg2 .given .0 in (
-      ap view (c .write-saved .ensures) ∙ view-saved (now (st .args .s)) long (st .args .r),
-      ap saved (c .write-saved .ensures) ∙ saved-saved (now (st .args .s)) long (st .args .r),
+    let start = c .before .before .before .before .before in
+    let sized-arg2 = c .before .before .before .sized-arg2 in
+    let write-saved = c .write-saved in
+    let long = sized-arg2 .given .0 in (
+      ap view (write-saved .ensures) ∙ view-saved (now (start .args .s)) long (start .args .r),
+      ap saved (write-saved .ensures) ∙ saved-saved (now (start .args .s)) long (start .args .r),
     )
 
 pub store-saved-spec : {M : Type 1} → statement M

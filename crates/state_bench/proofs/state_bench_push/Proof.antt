@@ -24,4 +24,5 @@ returns c =
     )
 
 pub state-bench-push-spec : {M : Type 1} → statement M
-state-bench-push-spec = tie.close (tie.spec load-ep-requires store-len-requires wrapping-add-u8-requires store-ep-requires returns)
+state-bench-push-spec = tie.close (tie.spec load-ep-requires store-len-requires wrapping-add-u8-requires
+    store-ep-requires returns)

@@ -1,6 +1,6 @@
--- `usbhs_best_set` meets its contract: a walk of its MIR, by hand. The time in use is asked, the list is given to `channels::best_set`, the three
--- rooms to `best_into`. Assumes nothing.
-use mathlib.Core.Path.{_≡_, refl, sym, ap, _∙_}
+-- `usbhs_best_set` meets its contract: a walk of its MIR, by hand. The time in use is asked, the list is given to
+-- `channels::best_set`, the three rooms to `best_into`. Assumes nothing.
+use mathlib.Core.Path.{_≡_, refl, ap, _∙_}
 use mathlib.Core.List.{List, [], _∷_}
 use Prim.Native.Nat.{ℕ, _≤_, _<_, _^_}
 use lib.ListN.{length}
@@ -18,7 +18,7 @@ use ghost.Atoms.{Atoms, sem}
 use contract.Monad.{Fun, fact}
 use contract.Running.{givenOf, tables, tablesOf}
 use sound.WpLaws.{WpFn-mono, FmC, fmOf}
-use types.Kit.{Given, Item, ‵, raw, _⊛_, some, later, ⋆, runs, atRet, Sq, _$_, _∵_, !, qed, by, move, keep, drop, use1}
+use types.Kit.{Given, Item, ‵, raw, _⊛_, some, later, ⋆, runs, atRet, Sq, _$_, _∵_, !, qed, by, move, drop, use1}
 use types.Kit.{use2, split, join, pick, rewrite, fsplit, fjoin, feqL, suffices, frame, await, done}
 use types.Part.{agg, whole, sub, look-in}
 use types.Run.{look, init, forget, stop, hop, fld, from, load, addr, and-then, no-more, assigns, land, returns, enter}
@@ -102,7 +102,13 @@ stayed = (
     stay-dropped time-slot yes,
     (
       stay-none (λ _. u32) yes,
-      (gave-ref (2 ∷ []) tt (plain (λ _. u32)), (gave-ref (3 ∷ []) tt (plain (λ _. u32)), (gave-ref (4 ∷ []) tt (plain (λ _. u32)), tt))),
+      (
+        gave-ref (2 ∷ []) tt (plain (λ _. u32)),
+        (
+          gave-ref (3 ∷ []) tt (plain (λ _. u32)),
+          (gave-ref (4 ∷ []) tt (plain (λ _. u32)), tt),
+        ),
+      ),
     ),
   ),
 )
@@ -119,8 +125,10 @@ module _ {M : Type 1} (𝓤 : URA M) (H : Heap 𝓤) (A : Atoms 𝓤) (at-mem : 
   abbrev Into : Contract 𝓤
   Into = tripleOf 𝓤 H A into.signature (into.spec 𝓤 H A at-mem run)
 
-module _ {M : Type 1} (𝓤 : URA M) (H : Heap 𝓤) (A : Atoms 𝓤) (W : Given 𝓤 H A) (at-mem : Memory → SProp 𝓤) (run : Routine → Fun 𝓤)
-    (κ₀ κ₁ κ₂ κ₃ κ₄ : Lft) (q₀ q₁ q₂ q₃ q₄ : Share) (b o : ℕ) (γ : GName) (ys : List Channel) (t : RefT (List ℕ)) (g : ℕ) (x₄ x₅ x₆ : RefT ℕ) where
+module _ {M : Type 1} (𝓤 : URA M) (H : Heap 𝓤) (A : Atoms 𝓤) (W : Given 𝓤 H A) (at-mem : Memory → SProp 𝓤)
+    (run : Routine → Fun 𝓤)
+    (κ₀ κ₁ κ₂ κ₃ κ₄ : Lft) (q₀ q₁ q₂ q₃ q₄ : Share) (b o : ℕ) (γ : GName) (ys : List Channel) (t : RefT (List ℕ))
+    (g : ℕ) (x₄ x₅ x₆ : RefT ℕ) where
   abbrev n : ℕ
   n = length ys
 
@@ -181,11 +189,14 @@ module _ {M : Type 1} (𝓤 : URA M) (H : Heap 𝓤) (A : Atoms 𝓤) (W : Given
   abbrev Whole : ℕ → List Channel → ℕ × (ℕ × (ℕ × Unit {0})) → Type 0
   Whole r zs ws = BestSet ys used g (now x₄) (now x₅) (now x₆) r zs (ws .0) (ws .1 .0) (ws .1 .1 .0)
 
-  exits : (r : ℕ) (v : Val) → Is u64 r (v ∷ []) → (zs : List Channel) (ws : ℕ × (ℕ × (ℕ × Unit {0}))) → Whole r zs ws → length zs ≡ n
-      → ent 𝓤 (⋆ 𝓤 H A (three ∷ ‵ (Lasts ws) ∷ (‵ (flft κ₀ q₀) ⊛ ‵ ftrue) ∷ ‵ (finally T.the-row γ zs) ∷ (‵ (flft κ₁ q₁) ⊛ ‵ ftrue) ∷ ‵ O₃ ∷ []))
+  exits : (r : ℕ) (v : Val) → Is u64 r (v ∷ []) → (zs : List Channel) (ws : ℕ × (ℕ × (ℕ × Unit {0}))) → Whole r zs ws
+      → length zs ≡ n
+      → ent 𝓤 (⋆ 𝓤 H A (three ∷ ‵ (Lasts ws) ∷ (‵ (flft κ₀ q₀) ⊛ ‵ ftrue) ∷ ‵ (finally T.the-row γ zs)
+      ∷ (‵ (flft κ₁ q₁) ⊛ ‵ ftrue) ∷ ‵ O₃ ∷ []))
       (Post v)
   exits r v is zs ws e l =
-      qed W (three ∷ ‵ (Lasts ws) ∷ (‵ (flft κ₀ q₀) ⊛ ‵ ftrue) ∷ ‵ (finally T.the-row γ zs) ∷ (‵ (flft κ₁ q₁) ⊛ ‵ ftrue) ∷ ‵ O₃ ∷ []) ∵
+      qed W (three ∷ ‵ (Lasts ws) ∷ (‵ (flft κ₀ q₀) ⊛ ‵ ftrue) ∷ ‵ (finally T.the-row γ zs) ∷ (‵ (flft κ₁ q₁) ⊛ ‵ ftrue)
+      ∷ ‵ O₃ ∷ []) ∵
       suffices ! _ (ends-at 𝓤 H A f.ended stayed (f.clauses 𝓤 H A at-mem run) W
       (((κ₀, (κ₁, (κ₂, (κ₃, (κ₄, tt))))), (q₀, (q₁, (q₂, (q₃, (q₄, tt))))), tt, x, at), tt) v r
       (zs, (tt, (tt, (ws .0, (ws .1 .0, (ws .1 .1 .0, tt)))))) (l, (tt, (tt, (tt, (tt, (tt, tt))))))) $
@@ -209,7 +220,8 @@ module _ {M : Type 1} (𝓤 : URA M) (H : Heap 𝓤) (A : Atoms 𝓤) (W : Given
       move ! (2 ∷ 0 ∷ []) $ fjoin ! $
       move ! (1 ∷ 0 ∷ []) $ join ! $ frame ! $ done !
 
-  said-time : (r : ℕ) → ent 𝓤 (ensured 𝓤 H A time.ended (time.clauses 𝓤 H A at-mem run) (κ₁, tt) (t, tt) tt r) (fact 𝓤 (r ≡ used))
+  said-time : (r : ℕ) → ent 𝓤 (ensured 𝓤 H A time.ended (time.clauses 𝓤 H A at-mem run) (κ₁, tt) (t, tt) tt r)
+      (fact 𝓤 (r ≡ used))
   said-time r =
       exE 𝓤 _ (λ ws. via 𝓤 (sep 𝓤 (fact 𝓤 (r ≡ used)) (fact 𝓤 (r ≤ 8388480)))
       (snd∗ 𝓤 (sem 𝓤 H A (lasts time.ended (κ₁, tt) (t, tt) ws)) (sep 𝓤 (fact 𝓤 (r ≡ used)) (fact 𝓤 (r ≤ 8388480))))
@@ -218,7 +230,8 @@ module _ {M : Type 1} (𝓤 : URA M) (H : Heap 𝓤) (A : Atoms 𝓤) (W : Given
   abbrev to-best : ℕ → Best 𝓤 H A at-mem run .Ghost
   to-best u = (((κ₀, tt), (q₀, tt), tt, (list, (u, (g, tt))), (s ∷ [], (vint w32 u ∷ [], (vint w32 g ∷ [], tt)))), tt)
 
-  goes-best : (u : ℕ) → u < 2 ^ 32 → g < 2 ^ 32 → ent 𝓤 (sep 𝓤 (A .lft κ₀ q₀) (sem 𝓤 H A O₁)) (Best 𝓤 H A at-mem run .pre (to-best u))
+  goes-best : (u : ℕ) → u < 2 ^ 32 → g < 2 ^ 32 → ent 𝓤 (sep 𝓤 (A .lft κ₀ q₀) (sem 𝓤 H A O₁))
+      (Best 𝓤 H A at-mem run .pre (to-best u))
   goes-best u gu gg =
       qed W (‵ (flft κ₀ q₀) ∷ ‵ O₁ ∷ []) ∵ nothing ! $ move ! (1 ∷ 0 ∷ []) $ join ! $
       nothing ! $ owned ! u32 (Is u32) (uint-makes 𝓤 H A W w32) g _ (refl, gg) $ fjoin ! $
@@ -229,13 +242,22 @@ module _ {M : Type 1} (𝓤 : URA M) (H : Heap 𝓤) (A : Atoms 𝓤) (W : Given
   into-args a = (a, (x₄, (x₅, (x₆, tt))))
 
   abbrev to-into : Answer → Val → Into 𝓤 H A at-mem run .Ghost
-  to-into a v =
-      (((κ₂, (κ₃, (κ₄, tt))), (q₂, (q₃, (q₄, tt))), tt, into-args a, (v ∷ [], (ptr-vals x₄, (ptr-vals x₅, (ptr-vals x₆, tt))))), tt)
+  to-into a v = (
+    (
+      (κ₂, (κ₃, (κ₄, tt))),
+      (q₂, (q₃, (q₄, tt))),
+      tt,
+      into-args a,
+      (v ∷ [], (ptr-vals x₄, (ptr-vals x₅, (ptr-vals x₆, tt)))),
+    ),
+    tt,
+  )
 
   abbrev lent-rooms : Item 𝓤
   lent-rooms = ‵ (flft κ₂ q₂) ⊛ ‵ (flft κ₃ q₃) ⊛ ‵ (flft κ₄ q₄) ⊛ ‵ O₄ ⊛ ‵ O₅ ⊛ ‵ O₆
 
-  goes-into : (a : Answer) (v : Val) → Is R.the-row a (v ∷ []) → ent 𝓤 (⋆ 𝓤 H A (lent-rooms ∷ [])) (Into 𝓤 H A at-mem run .pre (to-into a v))
+  goes-into : (a : Answer) (v : Val) → Is R.the-row a (v ∷ [])
+      → ent 𝓤 (⋆ 𝓤 H A (lent-rooms ∷ [])) (Into 𝓤 H A at-mem run .pre (to-into a v))
   goes-into a v is =
       qed W (lent-rooms ∷ []) ∵ split ! $ move ! (1 ∷ []) $ split ! $ move ! (1 ∷ []) $ split ! $ move ! (1 ∷ []) $
       split ! $ move ! (1 ∷ []) $ split ! $
@@ -248,9 +270,11 @@ module _ {M : Type 1} (𝓤 : URA M) (H : Heap 𝓤) (A : Atoms 𝓤) (W : Given
 
   abbrev Told : Answer → ℕ → ℕ × (ℕ × (ℕ × Unit {0})) → Type 0
   Told a r ws =
-      (r ≡ bestWord a) × (ws .0 ≡ totalBy a (now x₄)) × (ws .1 .0 ≡ figureBy a (now x₅)) × (ws .1 .1 .0 ≡ lookedBy a (now x₆))
+      (r ≡ bestWord a) × (ws .0 ≡ totalBy a (now x₄)) × (ws .1 .0 ≡ figureBy a (now x₅))
+      × (ws .1 .1 .0 ≡ lookedBy a (now x₆))
 
-  told : (a : Answer) (r : ℕ) (zs : List Channel) (ws : ℕ × (ℕ × (ℕ × Unit {0}))) → a ≡ answerOf ys used g → zs ≡ listAfter ys used g → Told a r ws
+  told : (a : Answer) (r : ℕ) (zs : List Channel) (ws : ℕ × (ℕ × (ℕ × Unit {0}))) → a ≡ answerOf ys used g → zs
+      ≡ listAfter ys used g → Told a r ws
       → Whole r zs ws
   told a r zs ws e l h = record {
     says = h .0 ∙ ap bestWord e;
@@ -262,14 +286,17 @@ module _ {M : Type 1} (𝓤 : URA M) (H : Heap 𝓤) (A : Atoms 𝓤) (W : Given
 
   -- ---- the walk
 
-  module _ (C : Calls 𝓤 H) (Λ : Loops 𝓤 H) (fm : FmC 𝓤 H (W .laws) C) (known-time : Triple 𝓤 (C #bus-time·in-use) (Asks 𝓤 H A at-mem run))
+  module _ (C : Calls 𝓤 H) (Λ : Loops 𝓤 H) (fm : FmC 𝓤 H (W .laws) C)
+      (known-time : Triple 𝓤 (C #bus-time·in-use) (Asks 𝓤 H A at-mem run))
       (known-best : Triple 𝓤 (C #channels·best-set) (Best 𝓤 H A at-mem run))
       (known-into : Triple 𝓤 (C #survey-c·rooms·best-into) (Into 𝓤 H A at-mem run)) where
     module _ (gn : Room T.the-row n) (gg : g < 2 ^ 32) (l₀ l₁ l₂ l₃ l₄ l₅ l₆ l₇ l₈ l₉ m₀ m₁ m₂ m₃ : ℕ) where
       abbrev En : Env 𝓤 H
       En =
-          (tyInt w64, l₀) ∷ (list-type, l₁) ∷ (time-type, l₂) ∷ (half, l₃) ∷ (tyRef (named 2) mut half, l₄) ∷ (tyRef (named 3) mut half, l₅)
-          ∷ (tyRef (named 4) mut half, l₆) ∷ (half, l₇) ∷ (R′.mir, l₈) ∷ (tyRef erased mut record-type, l₉) ∷ (again-type, m₀) ∷ (room-again, m₁)
+          (tyInt w64, l₀) ∷ (list-type, l₁) ∷ (time-type, l₂) ∷ (half, l₃) ∷ (tyRef (named 2) mut half, l₄)
+          ∷ (tyRef (named 3) mut half, l₅)
+          ∷ (tyRef (named 4) mut half, l₆) ∷ (half, l₇) ∷ (R′.mir, l₈) ∷ (tyRef erased mut record-type, l₉)
+          ∷ (again-type, m₀) ∷ (room-again, m₁)
           ∷ (room-again, m₂) ∷ (room-again, m₃) ∷ []
 
       -- the locals between the calls, by what stands in the answer and in the time in use
@@ -288,9 +315,12 @@ module _ {M : Type 1} (𝓤 : URA M) (H : Heap 𝓤) (A : Atoms 𝓤) (W : Given
           ∷ ‵ (froom (tyInt w64) l₀ 0) ∷ ‵ (fdies (tyInt w64) l₀) ∷ []
 
       -- the rooms are filled
-      tells : (a : Answer) (v : Val) → Is R.the-row a (v ∷ []) → (zs : List Channel) → a ≡ answerOf ys used g → zs ≡ listAfter ys used g → length zs ≡ n
-          → Sq W ((‵ (flft κ₀ q₀) ⊛ ‵ ftrue) ∷ ‵ (finally T.the-row γ zs) ∷ (‵ (flft κ₁ q₁) ⊛ ‵ ftrue) ∷ ‵ (flft κ₄ q₄) ∷ ‵ (flft κ₃ q₃) ∷ ‵ (flft κ₂ q₂)
-          ∷ ‵ O₆ ∷ ‵ O₅ ∷ ‵ O₄ ∷ ‵ O₃ ∷ At (‵ (fat fullShare R′.mir l₈ 0 v)) (‵ (froom half l₇ 0))) (runs C Λ En pieces.t-5 (atRet En Post))
+      tells : (a : Answer) (v : Val) → Is R.the-row a (v ∷ []) → (zs : List Channel) → a ≡ answerOf ys used g → zs
+          ≡ listAfter ys used g → length zs ≡ n
+          → Sq W ((‵ (flft κ₀ q₀) ⊛ ‵ ftrue) ∷ ‵ (finally T.the-row γ zs) ∷ (‵ (flft κ₁ q₁) ⊛ ‵ ftrue) ∷ ‵ (flft κ₄ q₄)
+          ∷ ‵ (flft κ₃ q₃) ∷ ‵ (flft κ₂ q₂)
+          ∷ ‵ O₆ ∷ ‵ O₅ ∷ ‵ O₄ ∷ ‵ O₃ ∷ At (‵ (fat fullShare R′.mir l₈ 0 v)) (‵ (froom half l₇ 0)))
+          (runs C Λ En pieces.t-5 (atRet En Post))
       tells a v₂ is₂ zs e d l =
           assigns ! (addr ! (from ! (hop ! (look ! 28 refl) (stop !)))) (from ! (stop !)) (init ! 14 refl (tt, tt)) $
           assigns ! (addr ! (from ! (hop ! (look ! 26 refl) (stop !)))) (from ! (stop !)) (init ! 12 refl (tt, tt)) $
@@ -302,11 +332,14 @@ module _ {M : Type 1} (𝓤 : URA M) (H : Heap 𝓤) (A : Atoms 𝓤) (W : Given
           -- [what the call takes; κ₀; the last list; κ₁; the budget; _13; …]
           calls-at ! fm (Into 𝓤 H A at-mem run) known-into (to-into a v₂)
           (and-then ! (load ! (from ! (stop !)) (look ! 15 refl)) (and-then ! (load ! (from ! (stop !)) (look ! 9 refl))
-          (and-then ! (load ! (from ! (stop !)) (look ! 7 refl)) (and-then ! (load ! (from ! (stop !)) (look ! 5 refl)) (no-more !))))) (λ v.
+          (and-then ! (load ! (from ! (stop !)) (look ! 7 refl))
+          (and-then ! (load ! (from ! (stop !)) (look ! 5 refl)) (no-more !))))) (λ v.
           use1 W (later (some (λ (r : ℕ). (three ⊛ ‵ (u64 .own r (v ∷ [])))
-          ⊛ raw (ensured 𝓤 H A into.ended (into.clauses 𝓤 H A at-mem run) (κ₂, (κ₃, (κ₄, tt))) (into-args a) tt r)))) (id⊢ 𝓤 _) $
+          ⊛ raw (ensured 𝓤 H A into.ended (into.clauses 𝓤 H A at-mem run) (κ₂, (κ₃, (κ₄, tt))) (into-args a) tt r))))
+          (id⊢ 𝓤 _) $
           await ! tt $ pick ! (λ r. split ! $ move ! (1 ∷ []) $
-          use1 W (some (λ (ws : Unit {0} × (ℕ × (ℕ × (ℕ × Unit {0})))). ‵ (lasts into.ended (κ₂, (κ₃, (κ₄, tt))) (into-args a) ws)
+          use1 W (some (λ (ws : Unit {0} × (ℕ × (ℕ × (ℕ × Unit {0})))). ‵
+          (lasts into.ended (κ₂, (κ₃, (κ₄, tt))) (into-args a) ws)
           ⊛ raw (fact 𝓤 (Told a r (ws .1))))) (id⊢ 𝓤 _) $
           pick ! (λ ws. split ! $ move ! (1 ∷ []) $ heard ! (Told a r (ws .1)) (λ h. fsplit ! $ drop ! $
           move ! (1 ∷ []) $ split ! $ move ! (1 ∷ []) $
@@ -326,20 +359,26 @@ module _ {M : Type 1} (𝓤 : URA M) (H : Heap 𝓤) (A : Atoms 𝓤) (W : Given
       -- the list is given to the search
       chooses : (u : ℕ) → u ≡ used → u < 2 ^ 32
           → Sq W ((‵ (flft κ₁ q₁) ⊛ ‵ ftrue) ∷ ‵ (flft κ₄ q₄) ∷ ‵ (flft κ₃ q₃) ∷ ‵ (flft κ₂ q₂) ∷ ‵ (flft κ₀ q₀)
-          ∷ ‵ O₆ ∷ ‵ O₅ ∷ ‵ O₄ ∷ ‵ O₃ ∷ ‵ O₁ ∷ At (‵ (froom R′.mir l₈ 0)) (‵ (fat fullShare half l₇ 0 (vint w32 u)))) (runs C Λ En pieces.t-2 (atRet En Post))
+          ∷ ‵ O₆ ∷ ‵ O₅ ∷ ‵ O₄ ∷ ‵ O₃ ∷ ‵ O₁ ∷ At (‵ (froom R′.mir l₈ 0)) (‵ (fat fullShare half l₇ 0 (vint w32 u))))
+          (runs C Λ En pieces.t-2 (atRet En Post))
       chooses u e gu =
-          assigns ! (addr ! (from ! (fld ! refl (hop ! (look-in ! 34 (sub ! 0 refl (whole !))) (stop !))))) (from ! (stop !)) (init ! 18 refl (tt, tt)) $
+          assigns ! (addr ! (from ! (fld ! refl (hop ! (look-in ! 34 (sub ! 0 refl (whole !))) (stop !)))))
+          (from ! (stop !)) (init ! 18 refl (tt, tt)) $
           assigns ! (agg ! (and-then ! (load ! (from ! (stop !)) (look ! 18 refl))
-          (and-then ! (load ! (from ! (fld ! refl (stop !))) (look-in ! 34 (sub ! 1 refl (whole !)))) (no-more !)))) (from ! (stop !))
+          (and-then ! (load ! (from ! (fld ! refl (stop !))) (look-in ! 34 (sub ! 1 refl (whole !)))) (no-more !))))
+          (from ! (stop !))
           (init ! 16 refl (tt, (tt, (record { fits = gn .0 }, tt)))) $
           move ! (4 ∷ 9 ∷ []) $ use2 W (raw (Best 𝓤 H A at-mem run .pre (to-best u))) (goes-best u gu gg) $
           calls-at ! fm (Best 𝓤 H A at-mem run) known-best (to-best u)
-          (and-then ! (load ! (from ! (stop !)) (look ! 15 refl)) (and-then ! (load ! (from ! (stop !)) (look ! 21 refl))
+          (and-then ! (load ! (from ! (stop !)) (look ! 15 refl))
+          (and-then ! (load ! (from ! (stop !)) (look ! 21 refl))
           (and-then ! (load ! (from ! (stop !)) (look ! 29 refl)) (no-more !)))) (λ v.
           use1 W (later (some (λ (r : Answer). ((‵ (flft κ₀ q₀) ⊛ ‵ ftrue) ⊛ ‵ (R.the-row .own r (v ∷ [])))
-          ⊛ raw (ensured 𝓤 H A best.ended (best.clauses 𝓤 H A at-mem run) (κ₀, tt) (list, (u, (g, tt))) tt r)))) (id⊢ 𝓤 _) $
+          ⊛ raw (ensured 𝓤 H A best.ended (best.clauses 𝓤 H A at-mem run) (κ₀, tt) (list, (u, (g, tt))) tt r))))
+          (id⊢ 𝓤 _) $
           await ! tt $ pick ! (λ r. split ! $ move ! (1 ∷ []) $
-          use1 W (some (λ (zs : List Channel × (Unit {0} × (Unit {0} × Unit {0}))). ‵ (lasts best.ended (κ₀, tt) (list, (u, (g, tt))) zs)
+          use1 W (some (λ (zs : List Channel × (Unit {0} × (Unit {0} × Unit {0}))). ‵
+          (lasts best.ended (κ₀, tt) (list, (u, (g, tt))) zs)
           ⊛ raw (fact 𝓤 ((r ≡ answerOf ys u g) × (zs .0 ≡ listAfter ys u g))))) (id⊢ 𝓤 _) $
           pick ! (λ zs. split ! $ move ! (1 ∷ []) $ heard ! ((r ≡ answerOf ys u g) × (zs .0 ≡ listAfter ys u g)) (λ h.
           fsplit ! $ fsplit ! $ move ! (1 ∷ []) $ feqL ! (λ l.
@@ -348,13 +387,16 @@ module _ {M : Type 1} (𝓤 : URA M) (H : Heap 𝓤) (A : Atoms 𝓤) (W : Given
           move ! (2 ∷ []) $ drop ! $
           land ! (from ! (stop !)) (init ! 20 refl (typed-answer r v is)) $
           forget ! 16 refl $ forget ! 18 refl $ forget ! 22 refl $
-          tells r v is (zs .0) (h .0 ∙ ap (λ (k : ℕ). answerOf ys k g) e) (h .1 ∙ ap (λ (k : ℕ). listAfter ys k g) e) l))))))
+          tells r v is (zs .0) (h .0 ∙ ap (λ (k : ℕ). answerOf ys k g) e) (h .1 ∙ ap (λ (k : ℕ). listAfter ys k g) e)
+          l))))))
 
       starts : Sq W (‵ (flft κ₄ q₄) ∷ ‵ (flft κ₃ q₃) ∷ ‵ (flft κ₂ q₂) ∷ ‵ (flft κ₁ q₁) ∷ ‵ (flft κ₀ q₀)
-          ∷ ‵ O₆ ∷ ‵ O₅ ∷ ‵ O₄ ∷ ‵ O₃ ∷ ‵ O₂ ∷ ‵ O₁ ∷ At (‵ (froom R′.mir l₈ 0)) (‵ (froom half l₇ 0))) (runs C Λ En (code.function .body) (atRet En Post))
+          ∷ ‵ O₆ ∷ ‵ O₅ ∷ ‵ O₄ ∷ ‵ O₃ ∷ ‵ O₂ ∷ ‵ O₁ ∷ At (‵ (froom R′.mir l₈ 0)) (‵ (froom half l₇ 0)))
+          (runs C Λ En (code.function .body) (atRet En Post))
       starts =
           move ! (3 ∷ 9 ∷ []) $ use2 W (raw (Asks 𝓤 H A at-mem run .pre to-time)) goes-time $
-          calls-at ! fm (Asks 𝓤 H A at-mem run) known-time to-time (and-then ! (load ! (from ! (stop !)) (look ! 32 refl)) (no-more !)) (λ v.
+          calls-at ! fm (Asks 𝓤 H A at-mem run) known-time to-time
+          (and-then ! (load ! (from ! (stop !)) (look ! 32 refl)) (no-more !)) (λ v.
           use1 W (later (some (λ (r : ℕ). ((‵ (flft κ₁ q₁) ⊛ ‵ ftrue) ⊛ ‵ (u32 .own r (v ∷ [])))
           ⊛ raw (ensured 𝓤 H A time.ended (time.clauses 𝓤 H A at-mem run) (κ₁, tt) (t, tt) tt r)))) (id⊢ 𝓤 _) $
           await ! tt $ pick ! (λ r. split ! $ move ! (1 ∷ []) $
@@ -366,7 +408,8 @@ module _ {M : Type 1} (𝓤 : URA M) (H : Heap 𝓤) (A : Atoms 𝓤) (W : Given
 
     abbrev rows : List RattleType
     rows =
-        MutSlice (named 0) κ₀ T.the-row ∷ ShrRef (named 1) κ₁ Times ∷ u32 ∷ MutRef (named 2) κ₂ u32 ∷ MutRef (named 3) κ₃ u32 ∷ MutRef (named 4) κ₄ u32 ∷ []
+        MutSlice (named 0) κ₀ T.the-row ∷ ShrRef (named 1) κ₁ Times ∷ u32 ∷ MutRef (named 2) κ₂ u32
+        ∷ MutRef (named 3) κ₃ u32 ∷ MutRef (named 4) κ₄ u32 ∷ []
 
     walk : Room T.the-row n → g < 2 ^ 32
         → ent 𝓤 (onEntry 𝓤 H A f.signature (κ₀, (κ₁, (κ₂, (κ₃, (κ₄, tt))))) (q₀, (q₁, (q₂, (q₃, (q₄, tt))))) x at)
@@ -375,7 +418,8 @@ module _ {M : Type 1} (𝓤 : URA M) (H : Heap 𝓤) (A : Atoms 𝓤) (W : Given
         qed W ((‵ (flft κ₀ q₀) ⊛ ‵ (flft κ₁ q₁) ⊛ three) ∷ ‵ (owns rows x at) ∷ []) ∵
         enter ! C Λ code.function flat-args _ $
         alloc1 ! (λ l₀. alloc1 ! (λ l₁. alloc1 ! (λ l₂. alloc1 ! (λ l₃. alloc1 ! (λ l₄. alloc1 ! (λ l₅. alloc1 ! (λ l₆.
-        alloc1 ! (λ l₇. alloc1 ! (λ l₈. alloc1 ! (λ l₉. alloc1 ! (λ m₀. alloc1 ! (λ m₁. alloc1 ! (λ m₂. alloc1 ! (λ m₃. alloc0 ! $
+        alloc1 ! (λ l₇. alloc1 ! (λ l₈. alloc1 ! (λ l₉. alloc1 !
+        (λ m₀. alloc1 ! (λ m₁. alloc1 ! (λ m₂. alloc1 ! (λ m₃. alloc0 ! $
         params1 ! $
         pass1 ! (init ! 24 refl (tt, (tt, (record { fits = gn .0 }, tt)))) $ pass1 ! (init ! 22 refl (tt, tt)) $
         pass1 ! (init ! 20 refl (tt, record { fits = gg })) $ pass1 ! (init ! 18 refl (tt, tt)) $
@@ -388,8 +432,10 @@ module _ {M : Type 1} (𝓤 : URA M) (H : Heap 𝓤) (A : Atoms 𝓤) (W : Given
         move ! (1 ∷ []) $ split ! $ move ! (1 ∷ []) $ drop ! $
         starts gn gg l₀ l₁ l₂ l₃ l₄ l₅ l₆ l₇ l₈ l₉ m₀ m₁ m₂ m₃))))))))))))))
 
-module _ {M : Type 1} (𝓤 : URA M) (H : Heap 𝓤) (A : Atoms 𝓤) (W : Given 𝓤 H A) (at-mem : Memory → SProp 𝓤) (run : Routine → Fun 𝓤) (𝓣 : Tables 𝓤 H)
-    (a : Triple 𝓤 (𝓣 .C #bus-time·in-use) (Asks 𝓤 H A at-mem run)) (b : Triple 𝓤 (𝓣 .C #channels·best-set) (Best 𝓤 H A at-mem run))
+module _ {M : Type 1} (𝓤 : URA M) (H : Heap 𝓤) (A : Atoms 𝓤) (W : Given 𝓤 H A) (at-mem : Memory → SProp 𝓤)
+    (run : Routine → Fun 𝓤) (𝓣 : Tables 𝓤 H)
+    (a : Triple 𝓤 (𝓣 .C #bus-time·in-use) (Asks 𝓤 H A at-mem run))
+    (b : Triple 𝓤 (𝓣 .C #channels·best-set) (Best 𝓤 H A at-mem run))
     (c : Triple 𝓤 (𝓣 .C #survey-c·rooms·best-into) (Into 𝓤 H A at-mem run)) where
   f-walks : Walks 𝓤 H A f.ended stayed (WpFn 𝓤 H (𝓣 .C) (𝓣 .Λ) code.function) (f.clauses 𝓤 H A at-mem run)
   f-walks =
@@ -401,14 +447,21 @@ module _ {M : Type 1} (𝓤 : URA M) (H : Heap 𝓤) (A : Atoms 𝓤) (W : Given
           shr-tells (named 1) (κs .1 .0) Times,
           (
             uint-tells w32,
-            (mut-tells (named 2) (κs .1 .1 .0) u32, (mut-tells (named 3) (κs .1 .1 .1 .0) u32, (mut-tells (named 4) (κs .1 .1 .1 .1 .0) u32, tt))),
+            (
+              mut-tells (named 2) (κs .1 .1 .0) u32,
+              (
+                mut-tells (named 3) (κs .1 .1 .1 .0) u32,
+                (mut-tells (named 4) (κs .1 .1 .1 .1 .0) u32, tt),
+              ),
+            ),
           ),
         ),
       ))
       (λ κs qs bounds y g′ are. via 𝓤 _ (fst∗ 𝓤 _ (emp 𝓤))
       (walk 𝓤 H A W at-mem run (κs .0) (κs .1 .0) (κs .1 .1 .0) (κs .1 .1 .1 .0) (κs .1 .1 .1 .1 .0)
       (qs .0) (qs .1 .0) (qs .1 .1 .0) (qs .1 .1 .1 .0) (qs .1 .1 .1 .1 .0)
-      (y .0 .ptr .0) (y .0 .ptr .1) (y .0 .name) (y .0 .now) (y .1 .0) (y .1 .1 .0) (y .1 .1 .1 .0) (y .1 .1 .1 .1 .0) (y .1 .1 .1 .1 .1 .0)
+      (y .0 .ptr .0) (y .0 .ptr .1) (y .0 .name) (y .0 .now) (y .1 .0) (y .1 .1 .0) (y .1 .1 .1 .0) (y .1 .1 .1 .1 .0)
+      (y .1 .1 .1 .1 .1 .0)
       (𝓣 .C) (𝓣 .Λ) (fmOf 𝓤 H (W .laws) 𝓣) a b c (are .0 .0 .1) (are .1 .1 .0 .1)))
 
   f-meets : Meets 𝓤 H A f.signature (WpFn 𝓤 H (𝓣 .C) (𝓣 .Λ) code.function) (f.spec 𝓤 H A at-mem run)
@@ -426,7 +479,8 @@ module _ {M : Type 1} (𝓤 : URA M) (H : Heap 𝓤) (A : Atoms 𝓤) (W : Given
           ),
         ),
       )
-      (f.clauses 𝓤 H A at-mem run) (WpFn 𝓤 H (𝓣 .C) (𝓣 .Λ) code.function) (WpFn-mono 𝓤 H (W .laws) 𝓣 code.function) f-walks
+      (f.clauses 𝓤 H A at-mem run) (WpFn 𝓤 H (𝓣 .C) (𝓣 .Λ) code.function) (WpFn-mono 𝓤 H (W .laws) 𝓣 code.function)
+      f-walks
 
 pub usbhs-best-set-spec : {M : Type 1} → stated.statement M
 unfolding code.routine tablesOf
@@ -434,8 +488,11 @@ usbhs-best-set-spec 𝓤 H 𝓜 𝓖 𝓡 =
     entered 𝓤 H (tripleOf 𝓤 H (𝓖 .A) f.signature (f.spec 𝓤 H (𝓖 .A) (𝓜 .mem) (𝓡 .run)))
     (tables 𝓤 H 𝓜 𝓡 code.env .C) (tables 𝓤 H 𝓜 𝓡 code.env .Λ) #f code.function (code.unfolded 𝓤 H 𝓜 𝓡)
     (f-meets 𝓤 H (𝓖 .A) (givenOf 𝓤 H 𝓜 𝓖) (𝓜 .mem) (𝓡 .run) (tablesOf 𝓤 H 𝓜 (tables 𝓤 H 𝓜 𝓡 code.env))
-    (cited 𝓤 H (Asks 𝓤 H (𝓖 .A) (𝓜 .mem) (𝓡 .run)) 𝓜 𝓡 code.env #bus-time·in-use time-def.routine code.calls-bus-time·in-use (time-thm.met 𝓤 H 𝓜 𝓖 𝓡))
-    (cited 𝓤 H (Best 𝓤 H (𝓖 .A) (𝓜 .mem) (𝓡 .run)) 𝓜 𝓡 code.env #channels·best-set best-def.routine code.calls-channels·best-set
+    (cited 𝓤 H (Asks 𝓤 H (𝓖 .A) (𝓜 .mem) (𝓡 .run)) 𝓜 𝓡 code.env #bus-time·in-use time-def.routine
+    code.calls-bus-time·in-use (time-thm.met 𝓤 H 𝓜 𝓖 𝓡))
+    (cited 𝓤 H (Best 𝓤 H (𝓖 .A) (𝓜 .mem) (𝓡 .run)) 𝓜 𝓡 code.env #channels·best-set best-def.routine
+    code.calls-channels·best-set
     (best-thm.met 𝓤 H 𝓜 𝓖 𝓡))
-    (cited 𝓤 H (Into 𝓤 H (𝓖 .A) (𝓜 .mem) (𝓡 .run)) 𝓜 𝓡 code.env #survey-c·rooms·best-into into-def.routine code.calls-survey-c·rooms·best-into
+    (cited 𝓤 H (Into 𝓤 H (𝓖 .A) (𝓜 .mem) (𝓡 .run)) 𝓜 𝓡 code.env #survey-c·rooms·best-into into-def.routine
+    code.calls-survey-c·rooms·best-into
     (into-thm.met 𝓤 H 𝓜 𝓖 𝓡)))

@@ -26,16 +26,23 @@ ended-requires c κs = search needs
 
 returns : tie.Need-returns
 returns c =
-    let e = sym (c .before .before .before .before .between-visits .ensures) ∙ c .before .before .row .given .1 in
-    (rw e (c .refused .ensures), (rw e, rw e))
+    let between-visits = c .before .before .before .before .between-visits in
+    let row = c .before .before .row in
+    let refused = c .refused in
+    let e = sym (between-visits .ensures) ∙ row .given .1 in
+    (rw e (refused .ensures), (rw e, rw e))
 
 returns-2 : tie.Need-returns-2
 returns-2 c =
-    let k = c .before .before .before .before in
-    let e = sym (k .before .before .between-visits .ensures) ∙ k .l .given .1 in
-    (rw e (c .ended .ensures), (rw e (c .before .before .reached .ensures), rw e (c .before .reached2 .ensures)))
+    let at-l = c .before .before .before .before in
+    let reached = c .before .before .reached in
+    let reached2 = c .before .reached2 in
+    let ended = c .ended in
+    let e = sym (at-l .before .before .between-visits .ensures) ∙ at-l .l .given .1 in
+    (rw e (ended .ensures), (rw e (reached .ensures), rw e (reached2 .ensures)))
 
 pub usbhs-between-visits-spec : {M : Type 1} → statement M
 usbhs-between-visits-spec =
-    tie.close (tie.spec between-visits-requires enum-known-row refused-requires enum-known-l reached-requires reached-requires-2 ended-requires
+    tie.close (tie.spec between-visits-requires enum-known-row refused-requires enum-known-l reached-requires
+    reached-requires-2 ended-requires
     returns returns-2)

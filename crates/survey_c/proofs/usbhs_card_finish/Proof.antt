@@ -32,32 +32,45 @@ same-length c = search needs
 
 returns : tie.Need-returns
 returns c =
-    let w = c .before .before .before .before .before .before .before .before .writer-in .ensures in
-    let a = c .before .before .before .before .before .before .finish .ensures in
-    let e = sym (a .0) ∙ c .before .before .row .given .1 in
-    rw (← w) (rw e (c .refused .ensures), a .1)
+    let writer-in = c .before .before .before .before .before .before .before .before .writer-in in
+    let finish = c .before .before .before .before .before .before .finish in
+    let row = c .before .before .row in
+    let refused = c .refused in
+    let w = writer-in .ensures in
+    let a = finish .ensures in
+    let e = sym (a .0) ∙ row .given .1 in
+    rw (← w) (rw e (refused .ensures), a .1)
 
 same-length-2 : tie.Need-same-length-2
 same-length-2 c = search needs
 
 returns-2 : tie.Need-returns-2
 returns-2 c =
-    let w = c .before .before .before .before .before .before .before .writer-in .ensures in
-    let a = c .before .before .before .before .before .finish .ensures in
-    let e = sym (a .0) ∙ c .before .enum-told .given .1 in
-    rw (← w) (rw e (c .ended .ensures), a .1)
+    let writer-in = c .before .before .before .before .before .before .before .writer-in in
+    let finish = c .before .before .before .before .before .finish in
+    let enum-told-fact = c .before .enum-told in
+    let ended = c .ended in
+    let w = writer-in .ensures in
+    let a = finish .ensures in
+    let e = sym (a .0) ∙ enum-told-fact .given .1 in
+    rw (← w) (rw e (ended .ensures), a .1)
 
 same-length-3 : tie.Need-same-length-3
 same-length-3 c = search needs
 
 returns-3 : tie.Need-returns-3
 returns-3 c =
-    let w = c .before .before .before .before .before .before .before .writer-in .ensures in
-    let a = c .before .before .before .before .before .finish .ensures in
-    let e = sym (a .0) ∙ c .before .enum-told2 .given .1 in
-    rw (← w) (rw e (c .ended2 .ensures), a .1)
+    let writer-in = c .before .before .before .before .before .before .before .writer-in in
+    let finish = c .before .before .before .before .before .finish in
+    let enum-told2 = c .before .enum-told2 in
+    let ended2 = c .ended2 in
+    let w = writer-in .ensures in
+    let a = finish .ensures in
+    let e = sym (a .0) ∙ enum-told2 .given .1 in
+    rw (← w) (rw e (ended2 .ensures), a .1)
 
 pub usbhs-card-finish-spec : {M : Type 1} → statement M
 usbhs-card-finish-spec =
-    tie.close (tie.spec writer-in-requires finish-requires enum-known-row refused-requires enum-told ended-requires enum-told-2 ended-requires-2
+    tie.close (tie.spec writer-in-requires finish-requires enum-known-row refused-requires enum-told ended-requires
+    enum-told-2 ended-requires-2
     same-length returns same-length-2 returns-2 same-length-3 returns-3)

@@ -9,7 +9,10 @@ numbers-of-requires : tie.Need-numbers-of-requires
 numbers-of-requires c κs = search needs
 
 returns : tie.Need-returns
-returns c = rw (← c .before .new .ensures) (c .numbers-of .ensures)
+returns c =
+    let new = c .before .new in
+    let numbers-of = c .numbers-of in
+    rw (← new .ensures) (numbers-of .ensures)
 
 pub usbhs-card-new-spec : {M : Type 1} → statement M
 usbhs-card-new-spec = tie.close (tie.spec new-requires numbers-of-requires returns)

@@ -32,29 +32,39 @@ same-length c = search needs
 
 returns : tie.Need-returns
 returns c =
-    let a = c .before .before .before .before .before .before .next-packet .ensures in
-    let e = sym (a .0) ∙ c .before .before .row .given .1 in
-    (rw e (c .refused .ensures), (rw e, (rw e, a .1)))
+    let next-packet = c .before .before .before .before .before .before .next-packet in
+    let row = c .before .before .row in
+    let refused = c .refused in
+    let a = next-packet .ensures in
+    let e = sym (a .0) ∙ row .given .1 in
+    (rw e (refused .ensures), (rw e, (rw e, a .1)))
 
 same-length-2 : tie.Need-same-length-2
 same-length-2 c = search needs
 
 returns-2 : tie.Need-returns-2
 returns-2 c =
-    let a = c .before .before .before .before .before .next-packet .ensures in
-    let e = sym (a .0) ∙ c .before .enum-told .given .1 in
-    (rw e (c .ended .ensures), (rw e, (rw e, a .1)))
+    let next-packet = c .before .before .before .before .before .next-packet in
+    let enum-told-fact = c .before .enum-told in
+    let ended = c .ended in
+    let a = next-packet .ensures in
+    let e = sym (a .0) ∙ enum-told-fact .given .1 in
+    (rw e (ended .ensures), (rw e, (rw e, a .1)))
 
 same-length-3 : tie.Need-same-length-3
 same-length-3 c = search needs
 
 returns-3 : tie.Need-returns-3
 returns-3 c =
-    let a = c .before .before .before .before .before .before .next-packet .ensures in
-    let e = sym (a .0) ∙ c .before .before .e .given .1 in
-    (rw e (c .done .ensures), (rw e, (rw e, a .1)))
+    let next-packet = c .before .before .before .before .before .before .next-packet in
+    let e-fact = c .before .before .e in
+    let done = c .done in
+    let a = next-packet .ensures in
+    let e = sym (a .0) ∙ e-fact .given .1 in
+    (rw e (done .ensures), (rw e, (rw e, a .1)))
 
 pub usbhs-card-next-spec : {M : Type 1} → statement M
 usbhs-card-next-spec =
-    tie.close (tie.spec next-packet-requires enum-known-row refused-requires enum-told ended-requires enum-known-e cast-endpoint done-requires
+    tie.close (tie.spec next-packet-requires enum-known-row refused-requires enum-told ended-requires enum-known-e
+    cast-endpoint done-requires
     same-length returns same-length-2 returns-2 same-length-3 returns-3)

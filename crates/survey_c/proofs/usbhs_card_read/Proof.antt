@@ -43,9 +43,12 @@ same-length c = search needs
 -- src/lib.rt:188:1
 returns : tie.Need-returns
 returns c =
-    let a = c .before .before .before .before .before .before .next-packets .ensures in
-    let e = sym (a .0) ∙ c .before .before .row .given .1 in
-    (rw e (c .refused .ensures), (rw e, (rw e, (rw e, a .1))))
+    let next-packets = c .before .before .before .before .before .before .next-packets in
+    let row = c .before .before .row in
+    let refused = c .refused in
+    let a = next-packets .ensures in
+    let e = sym (a .0) ∙ row .given .1 in
+    (rw e (refused .ensures), (rw e, (rw e, (rw e, a .1))))
 
 -- src/lib.rt:188:1
 same-length-2 : tie.Need-same-length-2
@@ -54,9 +57,12 @@ same-length-2 c = search needs
 -- src/lib.rt:188:1
 returns-2 : tie.Need-returns-2
 returns-2 c =
-    let a = c .before .before .before .before .before .next-packets .ensures in
-    let e = sym (a .0) ∙ c .before .enum-told .given .1 in
-    (rw e (c .ended .ensures), (rw e, (rw e, (rw e, a .1))))
+    let next-packets = c .before .before .before .before .before .next-packets in
+    let enum-told-fact = c .before .enum-told in
+    let ended = c .ended in
+    let a = next-packets .ensures in
+    let e = sym (a .0) ∙ enum-told-fact .given .1 in
+    (rw e (ended .ensures), (rw e, (rw e, (rw e, a .1))))
 
 -- src/lib.rt:188:1
 same-length-3 : tie.Need-same-length-3
@@ -65,11 +71,15 @@ same-length-3 c = search needs
 -- src/lib.rt:188:1
 returns-3 : tie.Need-returns-3
 returns-3 c =
-    let a = c .before .before .before .before .before .before .next-packets .ensures in
-    let e = sym (a .0) ∙ c .before .before .n .given .1 in
-    (rw e (c .ended2 .ensures), (rw e, (rw e, (rw e, a .1))))
+    let next-packets = c .before .before .before .before .before .before .next-packets in
+    let n = c .before .before .n in
+    let ended2 = c .ended2 in
+    let a = next-packets .ensures in
+    let e = sym (a .0) ∙ n .given .1 in
+    (rw e (ended2 .ensures), (rw e, (rw e, (rw e, a .1))))
 
 pub usbhs-card-read-spec : {M : Type 1} → statement M
 usbhs-card-read-spec =
-    tie.close (tie.spec next-packets-requires enum-known-row refused-requires enum-told ended-requires enum-known-n ended-requires-2 same-length
+    tie.close (tie.spec next-packets-requires enum-known-row refused-requires enum-told ended-requires enum-known-n
+    ended-requires-2 same-length
     returns same-length-2 returns-2 same-length-3 returns-3)

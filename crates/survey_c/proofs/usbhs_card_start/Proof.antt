@@ -20,13 +20,20 @@ ended-requires c κs = search needs
 
 returns : tie.Need-returns
 returns c =
-    let e = sym (c .before .before .before .before .start .ensures) ∙ c .before .before .row .given .1 in
-    (rw e (c .refused .ensures), rw e)
+    let start = c .before .before .before .before .start in
+    let row = c .before .before .row in
+    let refused = c .refused in
+    let e = sym (start .ensures) ∙ row .given .1 in
+    (rw e (refused .ensures), rw e)
 
 returns-2 : tie.Need-returns-2
 returns-2 c =
-    let e = sym (c .before .before .before .before .start .ensures) ∙ c .before .before .reader .given .1 in
-    (rw e (c .ended .ensures), rw e)
+    let start = c .before .before .before .before .start in
+    let reader = c .before .before .reader in
+    let ended = c .ended in
+    let e = sym (start .ensures) ∙ reader .given .1 in
+    (rw e (ended .ensures), rw e)
 
 pub usbhs-card-start-spec : {M : Type 1} → statement M
-usbhs-card-start-spec = tie.close (tie.spec start-requires enum-known-row refused-requires enum-known-reader ended-requires returns returns-2)
+usbhs-card-start-spec = tie.close (tie.spec start-requires enum-known-row refused-requires enum-known-reader
+    ended-requires returns returns-2)

@@ -37,29 +37,45 @@ same-length c = search needs
 
 returns : tie.Need-returns
 returns c =
-    let s = c .before .before .before .before .before .before .before .before .before .before .before .before .before .args in
-    let w = c .before .before .before .before .before .before .before .before .before .writer-in .ensures in
-    let n = c .before .before .before .before .before .before .before .endpoint-of .ensures in
-    let a = c .before .before .before .before .before .before .write .ensures in
-    let e = sym (write-any _ (s .endpoint) (now (s .bytes)) (now (s .block)) _ n) ∙ (sym (a .0) ∙ c .before .before .row .given .1) in
-    rw (← w) (rw e (c .refused .ensures), (rw e, a .1 ∙ written-any _ (s .endpoint) (now (s .bytes)) (now (s .block)) _ n))
+    let s = c .before .before .before .before .before .before .before .before .before .before .before .before .before
+    .args in
+    let writer-in = c .before .before .before .before .before .before .before .before .before .writer-in in
+    let endpoint-of = c .before .before .before .before .before .before .before .endpoint-of in
+    let write = c .before .before .before .before .before .before .write in
+    let row = c .before .before .row in
+    let refused = c .refused in
+    let w = writer-in .ensures in
+    let n = endpoint-of .ensures in
+    let a = write .ensures in
+    let e = sym (write-any _ (s .endpoint) (now (s .bytes)) (now (s .block)) _ n) ∙ (sym (a .0) ∙ row .given .1) in
+    rw (← w) (rw e (refused .ensures), (rw e, a .1 ∙ written-any _ (s .endpoint) (now (s .bytes)) (now (s .block)) _ n))
 
 same-length-2 : tie.Need-same-length-2
 same-length-2 c = search needs
 
 returns-2 : tie.Need-returns-2
 returns-2 c =
-    let s = c .before .before .before .before .before .before .before .before .before .before .before .before .before .before .before .args in
-    let w = c .before .before .before .before .before .before .before .before .before .before .before .writer-in .ensures in
-    let n = c .before .before .before .before .before .before .before .before .before .endpoint-of .ensures in
-    let a = c .before .before .before .before .before .before .before .before .write .ensures in
-    let e = sym (write-any _ (s .endpoint) (now (s .bytes)) (now (s .block)) _ n) ∙ (sym (a .0) ∙ c .before .before .before .before .next .given .1) in
+    let s = c .before .before .before .before .before .before .before .before .before .before .before .before .before
+    .before .before .args in
+    let writer-in = c .before .before .before .before .before .before .before .before .before .before .before
+    .writer-in in
+    let endpoint-of = c .before .before .before .before .before .before .before .before .before .endpoint-of in
+    let write = c .before .before .before .before .before .before .before .before .write in
+    let next = c .before .before .before .before .next in
+    let numbers-of = c .before .before .numbers-of in
+    let result-of = c .before .result-of in
+    let ended = c .ended in
+    let w = writer-in .ensures in
+    let n = endpoint-of .ensures in
+    let a = write .ensures in
+    let e = sym (write-any _ (s .endpoint) (now (s .bytes)) (now (s .block)) _ n) ∙ (sym (a .0) ∙ next .given .1) in
     rw (← w) (
-      rw e (c .ended .ensures ∙ rw (c .before .result-of .ensures)),
-      (rw e (c .before .before .numbers-of .ensures), a .1 ∙ written-any _ (s .endpoint) (now (s .bytes)) (now (s .block)) _ n),
+      rw e (ended .ensures ∙ rw (result-of .ensures)),
+      (rw e (numbers-of .ensures), a .1 ∙ written-any _ (s .endpoint) (now (s .bytes)) (now (s .block)) _ n),
     )
 
 pub usbhs-card-write-spec : {M : Type 1} → statement M
 usbhs-card-write-spec =
-    tie.close (tie.spec writer-in-requires endpoint-of-requires write-requires enum-known-row refused-requires enum-known-next numbers-of-requires
+    tie.close (tie.spec writer-in-requires endpoint-of-requires write-requires enum-known-row refused-requires
+    enum-known-next numbers-of-requires
     result-of-requires ended-requires same-length returns same-length-2 returns-2)

@@ -52,17 +52,19 @@ same-length c = search needs
 -- src/lib.rt:164:1
 returns : tie.Need-returns
 returns c =
-    let c3 = c .before .before .before in
-    let c6 = c3 .before .before .before in
+    let at-at-match-keys1 = c .before .before .before in
+    let row = c .before .before .row in
+    let refused = c .refused in
+    let c6 = at-at-match-keys1 .before .before .before in
     let c9 = c6 .before .before .before in
     let c12 = c9 .before .before .before in
     let s = c12 .before .args in
     let r = c9 .recorder-in .ensures in
     let n = c6 .before .endpoint-of .ensures in
     let answer = c6 .«record» .ensures in
-    let e = sym (record-any _ (s .endpoint) (now (s .bytes)) (now (s .room)) _ n) ∙ (sym (answer .0) ∙ c .before .before .row .given .1) in
+    let e = sym (record-any _ (s .endpoint) (now (s .bytes)) (now (s .room)) _ n) ∙ (sym (answer .0) ∙ row .given .1) in
     let room = answer .1 ∙ room-any _ (s .endpoint) (s .overruns) (now (s .bytes)) (now (s .room)) _ n in
-    rw (← r) (rw e (c .refused .ensures), (rw e, room))
+    rw (← r) (rw e (refused .ensures), (rw e, room))
 
 -- src/lib.rt:164:1
 same-length-2 : tie.Need-same-length-2
@@ -71,17 +73,20 @@ same-length-2 c = search needs
 -- src/lib.rt:164:1
 returns-2 : tie.Need-returns-2
 returns-2 c =
-    let c3 = c .before .before .before in
-    let c6 = c3 .before .before .before in
+    let at-next = c .before .before .before in
+    let recorder-numbers = c .before .recorder-numbers in
+    let ended = c .ended in
+    let c6 = at-next .before .before .before in
     let c9 = c6 .before .before .before in
     let c12 = c9 .before .before .before in
     let s = c12 .before .before .args in
     let r = c9 .before .recorder-in .ensures in
     let n = c6 .before .before .endpoint-of .ensures in
     let answer = c6 .before .«record» .ensures in
-    let e = sym (record-any _ (s .endpoint) (now (s .bytes)) (now (s .room)) _ n) ∙ (sym (answer .0) ∙ c3 .next .given .1) in
+    let e = sym (record-any _ (s .endpoint) (now (s .bytes)) (now (s .room)) _ n)
+    ∙ (sym (answer .0) ∙ at-next .next .given .1) in
     let room = answer .1 ∙ room-any _ (s .endpoint) (s .overruns) (now (s .bytes)) (now (s .room)) _ n in
-    rw (← r) (rw e (c .ended .ensures), (rw e (c .before .recorder-numbers .ensures), room))
+    rw (← r) (rw e (ended .ensures), (rw e (recorder-numbers .ensures), room))
 
 pub usbhs-record-spec : {M : Type 1} → statement M
 usbhs-record-spec =

@@ -40,10 +40,12 @@ same-length c = search needs
 -- src/lib.rt:147:1
 returns : tie.Need-returns
 returns c =
-    let c3 = c .before .before .before in
-    let answer = c3 .before .before .before .begin .ensures in
-    let e = sym (answer .0) ∙ c .before .before .row .given .1 in
-    (rw e (c .refused .ensures), (rw e, answer .1))
+    let at-at-match-keys1 = c .before .before .before in
+    let row = c .before .before .row in
+    let refused = c .refused in
+    let answer = at-at-match-keys1 .before .before .before .begin .ensures in
+    let e = sym (answer .0) ∙ row .given .1 in
+    (rw e (refused .ensures), (rw e, answer .1))
 
 -- src/lib.rt:147:1
 same-length-2 : tie.Need-same-length-2
@@ -52,11 +54,13 @@ same-length-2 c = search needs
 -- src/lib.rt:147:1
 returns-2 : tie.Need-returns-2
 returns-2 c =
-    let c3 = c .before .before .before in
-    let c6 = c3 .before .before .before in
+    let at-next = c .before .before .before in
+    let recorder-numbers = c .before .recorder-numbers in
+    let ended = c .ended in
+    let c6 = at-next .before .before .before in
     let answer = c6 .before .begin .ensures in
-    let e = sym (answer .0) ∙ c3 .next .given .1 in
-    (rw e (c .ended .ensures), (rw e (c .before .recorder-numbers .ensures), answer .1))
+    let e = sym (answer .0) ∙ at-next .next .given .1 in
+    (rw e (ended .ensures), (rw e (recorder-numbers .ensures), answer .1))
 
 pub usbhs-recorder-begin-spec : {M : Type 1} → statement M
 usbhs-recorder-begin-spec =

@@ -45,12 +45,14 @@ same-length c = search needs
 -- src/lib.rt:190:1
 returns : tie.Need-returns
 returns c =
-    let c3 = c .before .before .before in
-    let c6 = c3 .before .before .before in
+    let at-at-match-keys1 = c .before .before .before in
+    let row = c .before .before .row in
+    let refused = c .refused in
+    let c6 = at-at-match-keys1 .before .before .before in
     let r = c6 .before .before .recorder-in .ensures in
     let answer = c6 .finish .ensures in
-    let e = sym (answer .0) ∙ c .before .before .row .given .1 in
-    rw (← r) (rw e (c .refused .ensures), (rw e, answer .1))
+    let e = sym (answer .0) ∙ row .given .1 in
+    rw (← r) (rw e (refused .ensures), (rw e, answer .1))
 
 -- src/lib.rt:190:1
 same-length-2 : tie.Need-same-length-2
@@ -59,12 +61,14 @@ same-length-2 c = search needs
 -- src/lib.rt:190:1
 returns-2 : tie.Need-returns-2
 returns-2 c =
-    let c3 = c .before .before .before in
-    let c6 = c3 .before .before .before in
+    let at-next = c .before .before .before in
+    let recorder-numbers = c .before .recorder-numbers in
+    let ended = c .ended in
+    let c6 = at-next .before .before .before in
     let r = c6 .before .before .before .recorder-in .ensures in
     let answer = c6 .before .finish .ensures in
-    let e = sym (answer .0) ∙ c3 .next .given .1 in
-    rw (← r) (rw e (c .ended .ensures), (rw e (c .before .recorder-numbers .ensures), answer .1))
+    let e = sym (answer .0) ∙ at-next .next .given .1 in
+    rw (← r) (rw e (ended .ensures), (rw e (recorder-numbers .ensures), answer .1))
 
 pub usbhs-recorder-finish-spec : {M : Type 1} → statement M
 usbhs-recorder-finish-spec =

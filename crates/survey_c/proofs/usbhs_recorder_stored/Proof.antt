@@ -32,10 +32,14 @@ ended-requires c κs = search needs
 -- src/lib.rt:208:1
 returns : tie.Need-returns
 returns c =
-    let r = c .before .before .before .recorder-in .ensures in
-    let next = c .before .before .stored .ensures ∙ ap storedOf r in (
-      c .ended .ensures ∙ ap (λ (x : Recorder). endWord (x .left)) next,
-      c .before .recorder-numbers .ensures ∙ ap recorderNumbers next,
+    let recorder-in = c .before .before .before .recorder-in in
+    let stored = c .before .before .stored in
+    let recorder-numbers = c .before .recorder-numbers in
+    let ended = c .ended in
+    let r = recorder-in .ensures in
+    let next = stored .ensures ∙ ap storedOf r in (
+      ended .ensures ∙ ap (λ (x : Recorder). endWord (x .left)) next,
+      recorder-numbers .ensures ∙ ap recorderNumbers next,
     )
 
 pub usbhs-recorder-stored-spec : {M : Type 1} → statement M

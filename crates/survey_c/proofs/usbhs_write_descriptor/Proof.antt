@@ -18,7 +18,10 @@ enum-known-n : tie.Need-enum-known-n
 enum-known-n c = search needs
 
 cast-done : tie.Need-cast-done
-cast-done c = omega (arith, bytes-few _ _ _ (sym (c .before .before .before .before .before .rewrite .ensures .0) ∙ c .before .n .given .1))
+cast-done c =
+    let rewrite = c .before .before .before .before .before .rewrite in
+    let n = c .before .n in
+    omega (arith, bytes-few _ _ _ (sym (rewrite .ensures .0) ∙ n .given .1))
 
 done-requires : tie.Need-done-requires
 done-requires c κs = search needs
@@ -28,18 +31,23 @@ same-length c = search needs
 
 returns : tie.Need-returns
 returns c =
-    let w = c .before .before .before .before .before .before in
-    (c .refused .ensures ∙ rw (sym (w .rewrite .ensures .0) ∙ c .before .before .row .given .1), w .rewrite .ensures .1)
+    let at-rewrite = c .before .before .before .before .before .before in
+    let row = c .before .before .row in
+    let refused = c .refused in
+    (refused .ensures ∙ rw (sym (at-rewrite .rewrite .ensures .0) ∙ row .given .1), at-rewrite .rewrite .ensures .1)
 
 same-length-2 : tie.Need-same-length-2
 same-length-2 c = search needs
 
 returns-2 : tie.Need-returns-2
 returns-2 c =
-    let w = c .before .before .before .before .before .before in
-    (c .done .ensures ∙ rw (sym (w .rewrite .ensures .0) ∙ c .before .before .n .given .1), w .rewrite .ensures .1)
+    let at-rewrite = c .before .before .before .before .before .before in
+    let n = c .before .before .n in
+    let done = c .done in
+    (done .ensures ∙ rw (sym (at-rewrite .rewrite .ensures .0) ∙ n .given .1), at-rewrite .rewrite .ensures .1)
 
 pub usbhs-write-descriptor-spec : {M : Type 1} → statement M
 usbhs-write-descriptor-spec =
-    tie.close (tie.spec rewrite-requires enum-known-row refused-requires enum-known-n cast-done done-requires same-length returns same-length-2
+    tie.close (tie.spec rewrite-requires enum-known-row refused-requires enum-known-n cast-done done-requires
+    same-length returns same-length-2
     returns-2)

@@ -7,4 +7,5 @@ returns : tie.Need-returns
 returns c = search needs
 
 pub operation-word-spec : {M : Type 1} → statement M
-operation-word-spec = tie.close (tie.spec (λ c κs. c .before .before .before .before .pre) (λ c κs. search needs) (λ c. search needs) returns)
+operation-word-spec = tie.close (tie.spec (λ c κs. c .before .before .before .before .pre) (λ c κs. search needs)
+    (λ c. search needs) returns)

@@ -20,11 +20,14 @@ word-of-requires : tie.Need-word-of-requires
 word-of-requires c κs = search needs
 
 returns : tie.Need-returns
-returns c = (
-  _,
-  c .word-of .ensures,
-  (λ a b. simp (← c .before .before .dir-of .ensures) (c .before .allocate .ensures .0 a b), c .before .allocate .ensures .1),
-)
+returns c =
+    let dir-of = c .before .before .dir-of in
+    let allocate = c .before .allocate in
+    let word-of = c .word-of in (
+      _,
+      word-of .ensures,
+      (λ a b. simp (← dir-of .ensures) (allocate .ensures .0 a b), allocate .ensures .1),
+    )
 
 pub usbhs-allocate-spec : {M : Type 1} → statement M
 usbhs-allocate-spec = tie.close (tie.spec dir-of-requires cast-allocate allocate-requires word-of-requires returns)

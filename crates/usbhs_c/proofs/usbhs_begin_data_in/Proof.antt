@@ -24,8 +24,12 @@ same-length c = search needs
 
 returns : tie.Need-returns
 returns c =
-    simp (← c .before .before .before .before .flag-of2 .ensures, ← c .before .before .before .before .before .flag-of .ensures)
-    (_, c .word-of .ensures, c .before .before .before .begin-data-in .ensures)
+    let flag-of = c .before .before .before .before .before .flag-of in
+    let flag-of2 = c .before .before .before .before .flag-of2 in
+    let begin-data-in = c .before .before .before .begin-data-in in
+    let word-of = c .word-of in
+    simp (← flag-of2 .ensures, ← flag-of .ensures) (_, word-of .ensures, begin-data-in .ensures)
 
 pub usbhs-begin-data-in-spec : {M : Type 1} → statement M
-usbhs-begin-data-in-spec = tie.close (tie.spec flag-of-requires flag-of-requires-2 begin-data-in-requires word-of-requires same-length returns)
+usbhs-begin-data-in-spec = tie.close (tie.spec flag-of-requires flag-of-requires-2 begin-data-in-requires
+    word-of-requires same-length returns)

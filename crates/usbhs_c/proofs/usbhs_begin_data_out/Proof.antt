@@ -17,11 +17,14 @@ word-of-requires : tie.Need-word-of-requires
 word-of-requires c κs = search needs
 
 returns : tie.Need-returns
-returns c = (
-  _,
-  c .word-of .ensures,
-  (λ a b. simp (← c .before .before .flag-of .ensures) (c .before .begin-data-out .ensures .0 a b), c .before .begin-data-out .ensures .1),
-)
+returns c =
+    let flag-of = c .before .before .flag-of in
+    let begin-data-out = c .before .begin-data-out in
+    let word-of = c .word-of in (
+      _,
+      word-of .ensures,
+      (λ a b. simp (← flag-of .ensures) (begin-data-out .ensures .0 a b), begin-data-out .ensures .1),
+    )
 
 pub usbhs-begin-data-out-spec : {M : Type 1} → statement M
 usbhs-begin-data-out-spec = tie.close (tie.spec flag-of-requires begin-data-out-requires word-of-requires returns)

@@ -17,14 +17,17 @@ word-of-requires : tie.Need-word-of-requires
 word-of-requires c κs = search needs
 
 returns : tie.Need-returns
-returns c = (
-  _,
-  c .word-of .ensures,
-  (
-    λ a b. simp (← c .before .before .dir-of .ensures) (c .before .begin-is-stalled .ensures .0 a b),
-    c .before .begin-is-stalled .ensures .1,
-  ),
-)
+returns c =
+    let dir-of = c .before .before .dir-of in
+    let begin-is-stalled = c .before .begin-is-stalled in
+    let word-of = c .word-of in (
+      _,
+      word-of .ensures,
+      (
+        λ a b. simp (← dir-of .ensures) (begin-is-stalled .ensures .0 a b),
+        begin-is-stalled .ensures .1,
+      ),
+    )
 
 pub usbhs-begin-is-stalled-spec : {M : Type 1} → statement M
 usbhs-begin-is-stalled-spec = tie.close (tie.spec dir-of-requires begin-is-stalled-requires word-of-requires returns)

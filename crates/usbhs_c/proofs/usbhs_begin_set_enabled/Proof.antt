@@ -25,8 +25,12 @@ same-length c = search needs
 
 returns : tie.Need-returns
 returns c =
-    simp (← c .before .before .before .before .flag-of .ensures, ← c .before .before .before .before .before .dir-of .ensures)
-    (_, c .word-of .ensures, c .before .before .before .begin-set-enabled .ensures)
+    let dir-of = c .before .before .before .before .before .dir-of in
+    let flag-of = c .before .before .before .before .flag-of in
+    let begin-set-enabled = c .before .before .before .begin-set-enabled in
+    let word-of = c .word-of in
+    simp (← flag-of .ensures, ← dir-of .ensures) (_, word-of .ensures, begin-set-enabled .ensures)
 
 pub usbhs-begin-set-enabled-spec : {M : Type 1} → statement M
-usbhs-begin-set-enabled-spec = tie.close (tie.spec dir-of-requires flag-of-requires begin-set-enabled-requires word-of-requires same-length returns)
+usbhs-begin-set-enabled-spec = tie.close (tie.spec dir-of-requires flag-of-requires begin-set-enabled-requires
+    word-of-requires same-length returns)

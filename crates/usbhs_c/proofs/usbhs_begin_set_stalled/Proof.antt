@@ -21,17 +21,22 @@ word-of-requires : tie.Need-word-of-requires
 word-of-requires c κs = search needs
 
 returns : tie.Need-returns
-returns c = (
-  _,
-  c .word-of .ensures,
-  (
-    λ a b. simp (
-      ← c .before .before .flag-of .ensures,
-      ← c .before .before .before .dir-of .ensures,
-    ) (c .before .begin-set-stalled .ensures .0 a b),
-    c .before .begin-set-stalled .ensures .1,
-  ),
-)
+returns c =
+    let dir-of = c .before .before .before .dir-of in
+    let flag-of = c .before .before .flag-of in
+    let begin-set-stalled = c .before .begin-set-stalled in
+    let word-of = c .word-of in (
+      _,
+      word-of .ensures,
+      (
+        λ a b. simp (
+          ← flag-of .ensures,
+          ← dir-of .ensures,
+        ) (begin-set-stalled .ensures .0 a b),
+        begin-set-stalled .ensures .1,
+      ),
+    )
 
 pub usbhs-begin-set-stalled-spec : {M : Type 1} → statement M
-usbhs-begin-set-stalled-spec = tie.close (tie.spec dir-of-requires flag-of-requires begin-set-stalled-requires word-of-requires returns)
+usbhs-begin-set-stalled-spec = tie.close (tie.spec dir-of-requires flag-of-requires begin-set-stalled-requires
+    word-of-requires returns)

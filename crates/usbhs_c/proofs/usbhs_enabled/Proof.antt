@@ -13,10 +13,18 @@ enabled-requires : tie.Need-enabled-requires
 enabled-requires c κs = search needs
 
 returns : tie.Need-returns
-returns c = simp (← c .before .before .dir-of .ensures, ← c .before .enabled .ensures, c .if1 .taken)
+returns c =
+    let dir-of = c .before .before .dir-of in
+    let enabled = c .before .enabled in
+    let if1 = c .if1 in
+    simp (← dir-of .ensures, ← enabled .ensures, if1 .taken)
 
 returns-2 : tie.Need-returns-2
-returns-2 c = simp (← c .before .before .dir-of .ensures, ← c .before .enabled .ensures, c .if1 .left)
+returns-2 c =
+    let dir-of = c .before .before .dir-of in
+    let enabled = c .before .enabled in
+    let if1 = c .if1 in
+    simp (← dir-of .ensures, ← enabled .ensures, if1 .left)
 
 pub usbhs-enabled-spec : {M : Type 1} → statement M
 usbhs-enabled-spec = tie.close (tie.spec dir-of-requires enabled-requires returns returns-2)

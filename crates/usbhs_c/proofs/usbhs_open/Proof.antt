@@ -1,6 +1,6 @@
 use mathlib.Core.Path.{_∙_, ap}
 use denote.Ref.{now}
-use Rattle.answer.specs.Goes.{Called}
+use Rattle.answer.specs.Goes.{StepResult}
 use Rattle.usbhs_c.specs.Stamp.{stampBy}
 use borrow.Author.Needs.{needs}
 use Rattle.usbhs_c.proofs.usbhs_open.Statement.{statement}
@@ -23,9 +23,12 @@ word-of-requires c κs = search needs
 returns : tie.Need-returns
 returns c =
     let a = c .before .before .before .before .before .before .args in
-    let o = c .before .before .before .«open» in (
-      (_, c .word-of .ensures, (o .ensures .0, o .ensures .1)),
-      λ b. c .before .stamp-by .ensures (now (a .slots)) _ ∙ ap (λ (x : Called). stampBy (x .0) (now (a .stamp))) (o .ensures .0 b),
+    let o = c .before .before .before .«open» in
+    let stamp-by = c .before .stamp-by in
+    let word-of = c .word-of in (
+      (_, word-of .ensures, (o .ensures .0, o .ensures .1)),
+      λ b. stamp-by .ensures (now (a .slots)) _ ∙ ap (λ (x : StepResult). stampBy (x .0) (now (a .stamp)))
+          (o .ensures .0 b),
     )
 
 pub usbhs-open-spec : {M : Type 1} → statement M

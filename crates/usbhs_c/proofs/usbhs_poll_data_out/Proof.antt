@@ -16,10 +16,12 @@ same-length : tie.Need-same-length
 same-length c = search needs
 
 returns : tie.Need-returns
-returns c = (
-  (_, c .word-of .ensures, (c .before .before .before .poll-data-out .ensures .0, c .before .before .before .poll-data-out .ensures .1 .1)),
-  c .before .before .before .poll-data-out .ensures .1 .0,
-)
+returns c =
+    let poll-data-out = c .before .before .before .poll-data-out in
+    let word-of = c .word-of in (
+      (_, word-of .ensures, (poll-data-out .ensures .0, poll-data-out .ensures .1 .1)),
+      poll-data-out .ensures .1 .0,
+    )
 
 pub usbhs-poll-data-out-spec : {M : Type 1} → statement M
 usbhs-poll-data-out-spec = tie.close (tie.spec poll-data-out-requires word-of-requires same-length returns)

@@ -16,10 +16,12 @@ same-length : tie.Need-same-length
 same-length c = search needs
 
 returns : tie.Need-returns
-returns c = (
-  (_, c .word-of .ensures, (c .before .before .before .poll-read .ensures .0, c .before .before .before .poll-read .ensures .1 .1)),
-  c .before .before .before .poll-read .ensures .1 .0,
-)
+returns c =
+    let poll-read = c .before .before .before .poll-read in
+    let word-of = c .word-of in (
+      (_, word-of .ensures, (poll-read .ensures .0, poll-read .ensures .1 .1)),
+      poll-read .ensures .1 .0,
+    )
 
 pub usbhs-poll-read-spec : {M : Type 1} → statement M
 usbhs-poll-read-spec = tie.close (tie.spec poll-read-requires word-of-requires same-length returns)

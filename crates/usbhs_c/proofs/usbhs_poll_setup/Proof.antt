@@ -2,7 +2,7 @@ use mathlib.Core.List.{[]}
 use Rattle.state.specs.State.{view, saved}
 use Rattle.usbhs_c.specs.SetupLaws.{told-by, setup-no-slice}
 use Rattle.machine.specs.KeepsLaws.{kept-told}
-use Rattle.answer.specs.Goes.{Called}
+use Rattle.answer.specs.Goes.{StepResult}
 use Rattle.machine.specs.Suspended.{decode, lentBy}
 use denote.Ref.{now}
 use mathlib.Core.Path.{_∙_, ap}
@@ -19,24 +19,28 @@ poll-setup-requires c κs = search needs
 
 setup-word-requires : tie.Need-setup-word-requires
 setup-word-requires c κs =
-    setup-no-slice (c .poll-setup .result) _ (decode (saved (now (c .before .before .before .args .s)))) (view (now (c .before .before .before .args .s))) [] []
-    (ap (λ (x : Called). x .0) (c .poll-setup .ensures .0 [] []))
+    let start = c .before .before .before in
+    let poll-setup = c .poll-setup in
+    setup-no-slice (poll-setup .result) _ (decode (saved (now (start .args .s)))) (view (now (start .args .s))) [] []
+    (ap (λ (x : StepResult). x .0) (poll-setup .ensures .0 [] []))
 
 returns : tie.Need-returns
-returns c = (
-  (
-    c .setup-word .ensures .0 .0,
-    c .setup-word .ensures .0 .1,
-    (
-      λ a b. told-by (c .setup-word .ensures .0 .2 _) (c .before .poll-setup .ensures .0 a b),
-      kept-told (c .before .poll-setup .result)
-          (c .setup-word .ensures .0 .0) [] _ (view (now (c .before .before .before .before .args .s))) _ _
-          (c .setup-word .ensures .0 .2 _) (c .before .poll-setup .ensures .1),
-    ),
-  ),
-  λ a b. c .setup-word .ensures .1 _
-      ∙ ap (λ (x : Called). lentBy (x .0) (now (c .before .before .before .before .args .packet))) (c .before .poll-setup .ensures .0 a b),
-)
+returns c =
+    let start = c .before .before .before .before in
+    let poll-setup = c .before .poll-setup in
+    let setup-word = c .setup-word in (
+      (
+        setup-word .ensures .0 .0,
+        setup-word .ensures .0 .1,
+        (
+          λ a b. told-by (setup-word .ensures .0 .2 _) (poll-setup .ensures .0 a b),
+          kept-told (poll-setup .result) (setup-word .ensures .0 .0) [] _ (view (now (start .args .s))) _ _
+              (setup-word .ensures .0 .2 _) (poll-setup .ensures .1),
+        ),
+      ),
+      λ a b. setup-word .ensures .1 _
+          ∙ ap (λ (x : StepResult). lentBy (x .0) (now (start .args .packet))) (poll-setup .ensures .0 a b),
+    )
 
 pub usbhs-poll-setup-spec : {M : Type 1} → statement M
 usbhs-poll-setup-spec = tie.close (tie.spec poll-setup-requires setup-word-requires returns)

@@ -17,11 +17,14 @@ word-of-requires : tie.Need-word-of-requires
 word-of-requires c κs = search needs
 
 returns : tie.Need-returns
-returns c = (
-  _,
-  c .word-of .ensures,
-  (λ a b. simp (← c .before .before .flag-of .ensures) (c .before .set-paced .ensures .0 a b), c .before .set-paced .ensures .1),
-)
+returns c =
+    let flag-of = c .before .before .flag-of in
+    let set-paced = c .before .set-paced in
+    let word-of = c .word-of in (
+      _,
+      word-of .ensures,
+      (λ a b. simp (← flag-of .ensures) (set-paced .ensures .0 a b), set-paced .ensures .1),
+    )
 
 pub usbhs-set-paced-spec : {M : Type 1} → statement M
 usbhs-set-paced-spec = tie.close (tie.spec flag-of-requires set-paced-requires word-of-requires returns)

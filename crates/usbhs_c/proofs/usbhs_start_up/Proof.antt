@@ -17,7 +17,11 @@ word-of-requires : tie.Need-word-of-requires
 word-of-requires c κs = search needs
 
 returns : tie.Need-returns
-returns c = (_, c .word-of .ensures, (λ a. simp (← c .before .before .flag-of .ensures) (c .before .start-up .ensures .0 a), c .before .start-up .ensures .1))
+returns c =
+    let flag-of = c .before .before .flag-of in
+    let start-up = c .before .start-up in
+    let word-of = c .word-of in
+    (_, word-of .ensures, (λ a. simp (← flag-of .ensures) (start-up .ensures .0 a), start-up .ensures .1))
 
 pub usbhs-start-up-spec : {M : Type 1} → statement M
 usbhs-start-up-spec = tie.close (tie.spec flag-of-requires start-up-requires word-of-requires returns)

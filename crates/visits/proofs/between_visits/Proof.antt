@@ -12,7 +12,10 @@ no-limits-requires c κs = search needs
 
 returns : tie.Need-returns
 unfolding boundsOf row23
-returns c = simp (← c .before .no-limits .ensures, c .if1 .taken)
+returns c =
+    let no-limits = c .before .no-limits in
+    let if1 = c .if1 in
+    simp (← no-limits .ensures, if1 .taken)
 
 no-limits-requires-2 : tie.Need-no-limits-requires-2
 no-limits-requires-2 c κs = search needs
@@ -20,30 +23,47 @@ no-limits-requires-2 c κs = search needs
 returns-2 : tie.Need-returns-2
 unfolding boundsOf row23
 returns-2 c =
-    simp (← c .before .no-limits2 .ensures, c .if2 .taken, ← c .before .before .before .no-limits .ensures, c .before .before .if1 .left)
+    let no-limits = c .before .before .before .no-limits in
+    let if1 = c .before .before .if1 in
+    let no-limits2 = c .before .no-limits2 in
+    let if2 = c .if2 in
+    simp (← no-limits2 .ensures, if2 .taken, ← no-limits .ensures, if1 .left)
 
 least-requires : tie.Need-least-requires
 least-requires c κs =
-    let w = sym (c .before .no-limits2 .ensures) ∙ c .if2 .left in
+    let no-limits2 = c .before .no-limits2 in
+    let if2 = c .if2 in
+    let w = sym (no-limits2 .ensures) ∙ if2 .left in
     omega (arith, limits-from _ _ w, limits-order _ _ w)
 
 greatest-requires : tie.Need-greatest-requires
 greatest-requires c κs =
-    let v = sym (c .before .before .before .before .no-limits .ensures) ∙ c .before .before .before .if1 .left in
-    let w = sym (c .before .before .no-limits2 .ensures) ∙ c .before .if2 .left in
+    let no-limits = c .before .before .before .before .no-limits in
+    let if1 = c .before .before .before .if1 in
+    let no-limits2 = c .before .before .no-limits2 in
+    let if2 = c .before .if2 in
+    let v = sym (no-limits .ensures) ∙ if1 .left in
+    let w = sym (no-limits2 .ensures) ∙ if2 .left in
     omega (arith, limits-upto _ _ v, limits-from _ _ w, limits-order _ _ w, limits-upto _ _ w)
 
 returns-3 : tie.Need-returns-3
 unfolding boundsOf row23
 returns-3 c =
+    let no-limits = c .before .before .before .before .before .no-limits in
+    let if1 = c .before .before .before .before .if1 in
+    let no-limits2 = c .before .before .before .no-limits2 in
+    let if2 = c .before .before .if2 in
+    let least = c .before .least in
+    let greatest = c .greatest in
     simp (
-      ← c .before .before .before .no-limits2 .ensures,
-      c .before .before .if2 .left,
-      ← c .before .before .before .before .before .no-limits .ensures,
-      c .before .before .before .before .if1 .left,
-      c .before .least .ensures,
-      c .greatest .ensures,
+      ← no-limits2 .ensures,
+      if2 .left,
+      ← no-limits .ensures,
+      if1 .left,
+      least .ensures,
+      greatest .ensures,
     )
 
 pub between-visits-spec : {M : Type 1} → statement M
-between-visits-spec = tie.close (tie.spec no-limits-requires returns no-limits-requires-2 returns-2 least-requires greatest-requires returns-3)
+between-visits-spec = tie.close (tie.spec no-limits-requires returns no-limits-requires-2 returns-2 least-requires
+    greatest-requires returns-3)

@@ -8,7 +8,9 @@ product-requires c κs = search needs
 
 returns : tie.Need-returns
 unfolding fits
-returns c = simp (c .product .ensures)
+returns c =
+    let product = c .product in
+    simp (product .ensures)
 
 pub fits-spec : {M : Type 1} → statement M
 fits-spec = tie.close (tie.spec product-requires returns)

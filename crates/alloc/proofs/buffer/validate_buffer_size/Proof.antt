@@ -32,10 +32,16 @@ bad n h =
     )
 
 returns : tie.Need-returns
-returns c = good (c .before .args .size) (c .match .keys1)
+returns c =
+    let start = c .before in
+    let matched = c .match in
+    good (start .args .size) (matched .keys1)
 
 returns-2 : tie.Need-returns-2
-returns-2 c = bad (c .before .args .size) (c .match .rest .1)
+returns-2 c =
+    let start = c .before in
+    let matched = c .match in
+    bad (start .args .size) (matched .rest .1)
 
 pub validate-buffer-size-spec : {M : Type 1} → statement M
 validate-buffer-size-spec = tie.close (tie.spec returns returns-2)

@@ -8,11 +8,16 @@ with-requires c κs = search needs
 
 returns : tie.Need-returns
 unfolding addTo
-returns c = simp (c .with .ensures, c .before .if1 .taken)
+returns c =
+    let if1 = c .before .if1 in
+    let with = c .with in
+    simp (with .ensures, if1 .taken)
 
 returns-2 : tie.Need-returns-2
 unfolding addTo
-returns-2 c = simp (c .if1 .left)
+returns-2 c =
+    let if1 = c .if1 in
+    simp (if1 .left)
 
 pub add-to-spec : {M : Type 1} → statement M
 add-to-spec = tie.close (tie.spec with-requires returns returns-2)

@@ -11,7 +11,11 @@ has-requires c κs = search needs
 
 returns : tie.Need-returns
 unfolding isFree
-returns c = simp (c .if1 .taken, ← c .before .has .ensures, ← c .before .before .taken-in .ensures)
+returns c =
+    let taken-in = c .before .before .taken-in in
+    let has = c .before .has in
+    let if1 = c .if1 in
+    simp (if1 .taken, ← has .ensures, ← taken-in .ensures)
 
 nums-requires : tie.Need-nums-requires
 nums-requires c κs = search needs
@@ -21,13 +25,19 @@ has-requires-2 c κs = search needs
 
 returns-2 : tie.Need-returns-2
 unfolding isFree
-returns-2 c = simp (
-  c .has2 .ensures,
-  ← c .before .nums .ensures,
-  c .before .before .if1 .left,
-  ← c .before .before .before .has .ensures,
-  ← c .before .before .before .before .taken-in .ensures,
-)
+returns-2 c =
+    let taken-in = c .before .before .before .before .taken-in in
+    let has = c .before .before .before .has in
+    let if1 = c .before .before .if1 in
+    let nums = c .before .nums in
+    let has2 = c .has2 in
+    simp (
+      has2 .ensures,
+      ← nums .ensures,
+      if1 .left,
+      ← has .ensures,
+      ← taken-in .ensures,
+    )
 
 pub is-free-spec : {M : Type 1} → statement M
 is-free-spec = tie.close (tie.spec taken-in-requires has-requires returns nums-requires has-requires-2 returns-2)

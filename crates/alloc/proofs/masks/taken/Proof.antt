@@ -23,20 +23,27 @@ add-to-requires-4 c κs = search needs
 returns : tie.Need-returns
 unfolding taken
 returns c =
-    let a = c .before .before .before .before .before .args .a in
-    let e = c .before .before .before .before .before .args .e in
-    let out = c .before .before .before .before .is-out .ensures in
+    let start = c .before .before .before .before .before in
+    let is-out = c .before .before .before .before .is-out in
+    let add-to = c .before .before .before .add-to in
+    let add-to2 = c .before .before .add-to2 in
+    let add-to3 = c .before .add-to3 in
+    let add-to4 = c .add-to4 in
+    let a = start .args .a in
+    let e = start .args .e in
+    let out = is-out .ensures in
     λ i. record {
       size = a .size;
       count = a .count;
       next = a .next;
-      «taken_out» = (c .before .before .before .add-to .ensures ∙ ap (λ (t : Bool). addTo t (a .«taken_out») e) out) i;
-      «taken_in» = (c .before .before .add-to2 .ensures ∙ ap (λ (t : Bool). addTo (not t) (a .«taken_in») e) out) i;
-      «iso_nums» = c .before .add-to3 .ensures i;
-      «other_nums» = c .add-to4 .ensures i;
+      «taken_out» = (add-to .ensures ∙ ap (λ (t : Bool). addTo t (a .«taken_out») e) out) i;
+      «taken_in» = (add-to2 .ensures ∙ ap (λ (t : Bool). addTo (not t) (a .«taken_in») e) out) i;
+      «iso_nums» = add-to3 .ensures i;
+      «other_nums» = add-to4 .ensures i;
       «allocated_out» = a .«allocated_out»;
       «allocated_in» = a .«allocated_in»;
     }
 
 pub taken-spec : {M : Type 1} → statement M
-taken-spec = tie.close (tie.spec is-out-requires add-to-requires add-to-requires-2 add-to-requires-3 add-to-requires-4 returns)
+taken-spec = tie.close (tie.spec is-out-requires add-to-requires add-to-requires-2 add-to-requires-3 add-to-requires-4
+    returns)

@@ -7,7 +7,10 @@ mask-with-requires : tie.Need-mask-with-requires
 mask-with-requires c κs = search needs
 
 returns : tie.Need-returns
-returns c = rw (c .mask-with .ensures, mod-eq-of-lt (c .before .pre))
+returns c =
+    let start = c .before in
+    let mask-with = c .mask-with in
+    rw (mask-with .ensures, mod-eq-of-lt (start .pre))
 
 pub with-spec : {M : Type 1} → statement M
 with-spec = tie.close (tie.spec mask-with-requires returns)

@@ -14,7 +14,11 @@ add-to-requires-2 c κs = search needs
 
 returns : tie.Need-returns
 unfolding withAllocated
-returns c = simp (c .add-to2 .ensures, ← c .before .add-to .ensures, ← c .before .before .is-out .ensures)
+returns c =
+    let is-out = c .before .before .is-out in
+    let add-to = c .before .add-to in
+    let add-to2 = c .add-to2 in
+    simp (add-to2 .ensures, ← add-to .ensures, ← is-out .ensures)
 
 pub with-allocated-spec : {M : Type 1} → statement M
 with-allocated-spec = tie.close (tie.spec is-out-requires add-to-requires add-to-requires-2 returns)

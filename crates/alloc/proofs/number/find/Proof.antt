@@ -12,11 +12,17 @@ lowest-requires c κs = search needs
 
 returns : tie.Need-returns
 unfolding numberOf
-returns c = simp (c .asked .ensures, lt-ltb _ _ (c .before .if1 .taken))
+returns c =
+    let if1 = c .before .if1 in
+    let asked = c .asked in
+    simp (asked .ensures, lt-ltb _ _ (if1 .taken))
 
 returns-2 : tie.Need-returns-2
 unfolding numberOf
-returns-2 c = simp (c .lowest .ensures, le-ltb _ _ (c .before .if1 .left))
+returns-2 c =
+    let if1 = c .before .if1 in
+    let lowest = c .lowest in
+    simp (lowest .ensures, le-ltb _ _ (if1 .left))
 
 pub find-spec : {M : Type 1} → statement M
 find-spec = tie.close (tie.spec asked-requires lowest-requires returns returns-2)

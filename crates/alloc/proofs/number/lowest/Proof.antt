@@ -36,11 +36,14 @@ is-free-requires c κs = omega arith
 
 returns : tie.Need-returns Inv-loop μ-loop
 returns c =
-    let i = c .before .before .before .loop .inv .1 in
-    let e = c .before .before .before .loop .e in
-    let s = step (c .before .before .before .before .args .a) (c .before .before .before .before .args .iso)
-    (c .before .before .before .before .args .dir) (16 - e) e (omega arith) in
-    rw (i, s, ← c .before .is-free .ensures, c .if1 .taken)
+    let start = c .before .before .before .before in
+    let looped = c .before .before .before .loop in
+    let is-free = c .before .is-free in
+    let if1 = c .if1 in
+    let i = looped .inv .1 in
+    let e = looped .e in
+    let s = step (start .args .a) (start .args .iso) (start .args .dir) (16 - e) e (omega arith) in
+    rw (i, s, ← is-free .ensures, if1 .taken)
 
 add-e : tie.Need-add-e Inv-loop μ-loop
 add-e c = omega arith
@@ -50,18 +53,23 @@ loop-less c = omega arith
 
 loop-again : tie.Need-loop-again Inv-loop μ-loop
 loop-again c =
-    let i = c .before .before .before .loop .inv .1 in
-    let e = c .before .before .before .loop .e in
-    let s = step (c .before .before .before .before .args .a) (c .before .before .before .before .args .iso)
-    (c .before .before .before .before .args .dir) (16 - e) e (omega arith) in
+    let start = c .before .before .before .before in
+    let looped = c .before .before .before .loop in
+    let is-free = c .before .is-free in
+    let if1 = c .if1 in
+    let i = looped .inv .1 in
+    let e = looped .e in
+    let s = step (start .args .a) (start .args .iso) (start .args .dir) (16 - e) e (omega arith) in
     let l : 16 - (e + 1) ≡ 16 - e - 1 = omega arith in
-    (omega arith, rw (i, s, ← c .before .is-free .ensures, c .if1 .left, l))
+    (omega arith, rw (i, s, ← is-free .ensures, if1 .left, l))
 
 returns-2 : tie.Need-returns-2 Inv-loop μ-loop
 returns-2 c =
-    let i = c .before .loop .inv .1 in
-    let z : 16 - c .before .loop .e ≡ 0 = omega arith in
+    let looped = c .before .loop in
+    let i = looped .inv .1 in
+    let z : 16 - looped .e ≡ 0 = omega arith in
     rw (i, z, none)
 
 pub lowest-spec : {M : Type 1} → statement M
-lowest-spec = tie.close (tie.spec Inv-loop μ-loop loop-holds is-free-requires returns add-e loop-less loop-again returns-2)
+lowest-spec = tie.close (tie.spec Inv-loop μ-loop loop-holds is-free-requires returns add-e loop-less loop-again
+    returns-2)

@@ -28,20 +28,39 @@ low-byte-requires-5 : tie.Need-low-byte-requires-5
 low-byte-requires-5 c κs = search needs
 
 returns : tie.Need-returns
-returns c = simp (c .before .before .before .match .keys1, c .low-byte2 .ensures, c .before .register-of .ensures, c .before .before .low-byte .ensures)
+returns c =
+    let matched = c .before .before .before .match in
+    let low-byte = c .before .before .low-byte in
+    let register-of = c .before .register-of in
+    let low-byte2 = c .low-byte2 in
+    simp (matched .keys1, low-byte2 .ensures, register-of .ensures, low-byte .ensures)
 
 returns-2 : tie.Need-returns-2
 returns-2 c =
-    let at = c .before .before in
-    simp (at .before .before .match .keys2, c .write-of .ensures, c .before .high-word .ensures, at .low-byte4 .ensures, at .before .low-byte3 .ensures)
+    let at-low-byte4 = c .before .before in
+    let high-word = c .before .high-word in
+    let write-of = c .write-of in
+    simp (
+      at-low-byte4 .before .before .match .keys2,
+      write-of .ensures,
+      high-word .ensures,
+      at-low-byte4 .low-byte4 .ensures,
+      at-low-byte4 .before .low-byte3 .ensures,
+    )
 
 returns-3 : tie.Need-returns-3
-returns-3 c = simp (c .before .match .keys3, c .low-byte5 .ensures)
+returns-3 c =
+    let matched = c .before .match in
+    let low-byte5 = c .low-byte5 in
+    simp (matched .keys3, low-byte5 .ensures)
 
 returns-4 : tie.Need-returns-4
-returns-4 c = simp (ne-eqb _ _ (c .match .rest .1), ne-eqb _ _ (c .match .rest .0 .1), ne-eqb _ _ (c .match .rest .0 .0 .1))
+returns-4 c =
+    let matched = c .match in
+    simp (ne-eqb _ _ (matched .rest .1), ne-eqb _ _ (matched .rest .0 .1), ne-eqb _ _ (matched .rest .0 .0 .1))
 
 pub access-of-spec : {M : Type 1} → statement M
 access-of-spec =
-    tie.close (tie.spec low-byte-requires register-of-requires low-byte-requires-2 low-byte-requires-3 low-byte-requires-4 high-word-requires
+    tie.close (tie.spec low-byte-requires register-of-requires low-byte-requires-2 low-byte-requires-3
+    low-byte-requires-4 high-word-requires
     write-of-requires low-byte-requires-5 returns returns-2 returns-3 returns-4)

@@ -43,40 +43,61 @@ low-half-requires-3 c κs = search needs
 
 returns : tie.Need-returns
 unfolding stepOf
-returns c = simp (sym (c .before .before .kind-of .ensures) ∙ c .before .match .keys1, c .low-byte .ensures)
+returns c =
+    let kind-of = c .before .before .kind-of in
+    let matched = c .before .match in
+    let low-byte = c .low-byte in
+    simp (sym (kind-of .ensures) ∙ matched .keys1, low-byte .ensures)
 
 returns-2 : tie.Need-returns-2
 unfolding stepOf
-returns-2 c = simp (sym (c .before .before .before .kind-of .ensures) ∙ c .before .before .match .keys2, c .low-byte2 .ensures, c .before .low-half .ensures)
+returns-2 c =
+    let kind-of = c .before .before .before .kind-of in
+    let matched = c .before .before .match in
+    let low-half = c .before .low-half in
+    let low-byte2 = c .low-byte2 in
+    simp (sym (kind-of .ensures) ∙ matched .keys2, low-byte2 .ensures, low-half .ensures)
 
 returns-3 : tie.Need-returns-3
 unfolding stepOf
-returns-3 c = simp (sym (c .before .kind-of .ensures) ∙ c .match .keys3)
+returns-3 c =
+    let kind-of = c .before .kind-of in
+    let matched = c .match in
+    simp (sym (kind-of .ensures) ∙ matched .keys3)
 
 returns-4 : tie.Need-returns-4
 unfolding stepOf
-returns-4 c = simp (sym (c .before .before .kind-of .ensures) ∙ c .before .match .keys4, c .low-half2 .ensures)
+returns-4 c =
+    let kind-of = c .before .before .kind-of in
+    let matched = c .before .match in
+    let low-half2 = c .low-half2 in
+    simp (sym (kind-of .ensures) ∙ matched .keys4, low-half2 .ensures)
 
 returns-5 : tie.Need-returns-5
 unfolding stepOf
 returns-5 c =
-    let at = c .before .before in
-    let kind = at .before .kind-of in
-    let w = at .before .before .args .w in
-    ap Asks (c .access-of .ensures)
-    ∙ (asked (kind .result) w (c .before .if1 .taken) (at .match .rest .0 .0 .0 .1) ∙ ap (λ (k : ℕ). ofKind k w) (kind .ensures))
+    let at-at-match-rest = c .before .before in
+    let if1 = c .before .if1 in
+    let access-of = c .access-of in
+    let kind = at-at-match-rest .before .kind-of in
+    let w = at-at-match-rest .before .before .args .w in
+    ap Asks (access-of .ensures)
+    ∙ (asked (kind .result) w (if1 .taken) (at-at-match-rest .match .rest .0 .0 .0 .1)
+    ∙ ap (λ (k : ℕ). ofKind k w) (kind .ensures))
 
 returns-6 : tie.Need-returns-6
 unfolding stepOf
 returns-6 c =
-    let at = c .before .before in
-    let kind = at .before .before .kind-of .ensures in
-    let other = at .before .match .rest in
-    let above = at .if1 .left in
-    let k = at .before .before .before .args .w % 2 ^ 4 in
+    let at-else1 = c .before .before in
+    let high-word = c .before .high-word in
+    let low-half3 = c .low-half3 in
+    let kind = at-else1 .before .before .kind-of .ensures in
+    let other = at-else1 .before .match .rest in
+    let above = at-else1 .if1 .left in
+    let k = at-else1 .before .before .before .args .w % 2 ^ 4 in
     simp (
-      c .low-half3 .ensures,
-      c .before .high-word .ensures,
+      low-half3 .ensures,
+      high-word .ensures,
       ne-eqb _ _ (λ h. other .1 (kind ∙ h)),
       ne-eqb _ _ (λ h. other .0 .1 (kind ∙ h)),
       ne-eqb _ _ (λ h. other .0 .0 .1 (kind ∙ h)),
@@ -89,5 +110,6 @@ returns-6 c =
 
 pub step-of-spec : {M : Type 1} → statement M
 step-of-spec =
-    tie.close (tie.spec kind-of-requires low-byte-requires low-half-requires low-byte-requires-2 low-half-requires-2 access-of-requires
+    tie.close (tie.spec kind-of-requires low-byte-requires low-half-requires low-byte-requires-2 low-half-requires-2
+    access-of-requires
     high-word-requires low-half-requires-3 returns returns-2 returns-3 returns-4 returns-5 returns-6)

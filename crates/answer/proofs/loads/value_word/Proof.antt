@@ -8,7 +8,9 @@ get32-requires c κs = search needs
 
 returns : tie.Need-returns
 unfolding saved
-returns c = c .get32 .ensures
+returns c =
+    let get32 = c .get32 in
+    get32 .ensures
 
 pub value-word-spec : {M : Type 1} → statement M
 value-word-spec = tie.close (tie.spec get32-requires returns)

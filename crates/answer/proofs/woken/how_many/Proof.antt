@@ -16,24 +16,33 @@ woken-count-requires c κs = search needs
 returns : tie.Need-returns
 unfolding listed
 returns c =
-    let w = view (now (c .before .before .args .s)) .wakes in
-    let n = c .before .woken-count in (
+    let start = c .before .before in
+    let woken-count = c .before .woken-count in
+    let if1 = c .if1 in
+    let w = view (now (start .args .s)) .wakes in
+    let n = woken-count in (
       n .ensures ∙ sym (length-take-le (w .count) (w .codes) (omega (
         arith,
         sym (n .ensures),
-        c .if1 .taken,
-        view-codes (now (c .before .before .args .s)),
+        if1 .taken,
+        view-codes (now (start .args .s)),
       ))),
-      omega (arith, c .if1 .taken),
+      omega (arith, if1 .taken),
     )
 
 returns-2 : tie.Need-returns-2
 unfolding listed
 returns-2 c =
-    let xs = now (c .before .before .args .s) in
+    let start = c .before .before in
+    let woken-count = c .before .woken-count in
+    let if1 = c .if1 in
+    let xs = now (start .args .s) in
     let w = view xs .wakes in
-    let n = c .before .woken-count in
-    (sym (length-most (w .count) (w .codes) (omega (arith, sym (n .ensures), c .if1 .left, view-codes xs)) ∙ view-codes xs), omega arith)
+    let n = woken-count in (
+      sym (length-most (w .count) (w .codes) (omega (arith, sym (n .ensures), if1 .left, view-codes xs))
+          ∙ view-codes xs),
+      omega arith,
+    )
 
 pub how-many-spec : {M : Type 1} → statement M
 how-many-spec = tie.close (tie.spec woken-count-requires returns returns-2)

@@ -62,34 +62,56 @@ enum-told : tie.Need-enum-told
 enum-told c = search needs
 
 returns : tie.Need-returns
-returns c = read-says _ _ _ _ _ (c .before .before .before .q .given .1) (search needs) (c .before .number .ensures) (c .read-word .ensures)
+returns c =
+    let q = c .before .before .before .q in
+    let number = c .before .number in
+    let read-word = c .read-word in
+    read-says _ _ _ _ _ (q .given .1) (search needs) (number .ensures) (read-word .ensures)
 
 returns-2 : tie.Need-returns-2
-returns-2 c = write-says _ _ _ _ _ _ (c .before .before .before .q2 .given .1) (search needs, search needs) (c .before .number2 .ensures)
-    (c .write-word .ensures)
+returns-2 c =
+    let q2 = c .before .before .before .q2 in
+    let number2 = c .before .number2 in
+    let write-word = c .write-word in
+    write-says _ _ _ _ _ _ (q2 .given .1) (search needs, search needs) (number2 .ensures) (write-word .ensures)
 
 returns-3 : tie.Need-returns-3
 unfolding accessWord
-returns-3 c = access-says _ _ _ (c .before .before .q3 .given .1) (search needs, search needs) (simp (c .write-word2 .ensures))
+returns-3 c =
+    let q3 = c .before .before .q3 in
+    let write-word2 = c .write-word2 in
+    access-says _ _ _ (q3 .given .1) (search needs, search needs) (simp (write-word2 .ensures))
 
 returns-4 : tie.Need-returns-4
 unfolding accessWord
-returns-4 c = access-says _ _ _ (c .before .before .q4 .given .1) (search needs, search needs) (simp (c .write-word3 .ensures))
+returns-4 c =
+    let q4 = c .before .before .q4 in
+    let write-word3 = c .write-word3 in
+    access-says _ _ _ (q4 .given .1) (search needs, search needs) (simp (write-word3 .ensures))
 
 returns-5 : tie.Need-returns-5
 unfolding accessWord
-returns-5 c = access-says _ _ _ (c .before .before .q5 .given .1) (search needs) (simp (c .write-word4 .ensures))
+returns-5 c =
+    let q5 = c .before .before .q5 in
+    let write-word4 = c .write-word4 in
+    access-says _ _ _ (q5 .given .1) (search needs) (simp (write-word4 .ensures))
 
 returns-6 : tie.Need-returns-6
 unfolding accessWord
-returns-6 c = access-says _ _ _ (c .before .q6 .given .1) (search needs) refl
+returns-6 c =
+    let q6 = c .before .q6 in
+    access-says _ _ _ (q6 .given .1) (search needs) refl
 
 returns-7 : tie.Need-returns-7
 unfolding accessWord
-returns-7 c = access-says _ _ _ (c .enum-told .given .1) tt refl
+returns-7 c =
+    let enum-told-fact = c .enum-told in
+    access-says _ _ _ (enum-told-fact .given .1) tt refl
 
 pub access-word-spec : {M : Type 1} → statement M
 access-word-spec =
-    tie.close (tie.spec enum-known-q number-requires read-word-requires enum-known-q-2 number-requires-2 write-word-requires enum-known-q-3
-    write-word-requires-2 enum-known-q-4 write-word-requires-3 enum-known-q-5 write-word-requires-4 enum-known-q-6 cast-result mul-result add-result
+    tie.close (tie.spec enum-known-q number-requires read-word-requires enum-known-q-2 number-requires-2
+    write-word-requires enum-known-q-3
+    write-word-requires-2 enum-known-q-4 write-word-requires-3 enum-known-q-5 write-word-requires-4 enum-known-q-6
+    cast-result mul-result add-result
     enum-told returns returns-2 returns-3 returns-4 returns-5 returns-6 returns-7)

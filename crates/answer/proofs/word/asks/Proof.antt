@@ -10,7 +10,9 @@ access-word-requires c κs = search needs
 
 returns : tie.Need-returns
 unfolding wordOf
-returns c = says _ _ _ refl (c .access-word .ensures .1) (c .access-word .ensures .0)
+returns c =
+    let access-word = c .access-word in
+    says _ _ _ refl (access-word .ensures .1) (access-word .ensures .0)
 
 pub asks-spec : {M : Type 1} → statement M
 asks-spec = tie.close (tie.spec access-word-requires returns)

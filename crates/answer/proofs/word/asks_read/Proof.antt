@@ -15,7 +15,10 @@ read-word-requires c κs = search needs
 
 returns : tie.Need-returns
 unfolding wordOf accessWord
-returns c = says _ _ _ refl (omega arith) (c .read-word .ensures ∙ ap (λ (n : ℕ). readWord n 0) (c .before .number .ensures))
+returns c =
+    let number = c .before .number in
+    let read-word = c .read-word in
+    says _ _ _ refl (omega arith) (read-word .ensures ∙ ap (λ (n : ℕ). readWord n 0) (number .ensures))
 
 pub asks-read-spec : {M : Type 1} → statement M
 asks-read-spec = tie.close (tie.spec number-requires read-word-requires returns)

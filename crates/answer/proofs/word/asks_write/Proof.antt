@@ -16,8 +16,12 @@ write-word-requires c κs = search needs
 returns : tie.Need-returns
 unfolding wordOf accessWord
 returns c =
-    let x = c .before .before .args .value in
-    says _ _ _ refl (omega arith, search needs) (c .write-word .ensures ∙ ap (λ (n : ℕ). writeWord n 0 x) (c .before .number .ensures))
+    let start = c .before .before in
+    let number = c .before .number in
+    let write-word = c .write-word in
+    let x = start .args .value in
+    says _ _ _ refl (omega arith, search needs) (write-word .ensures
+    ∙ ap (λ (n : ℕ). writeWord n 0 x) (number .ensures))
 
 pub asks-write-spec : {M : Type 1} → statement M
 asks-write-spec = tie.close (tie.spec number-requires write-word-requires returns)

@@ -25,16 +25,26 @@ access-word-requires : tie.Need-access-word-requires
 access-word-requires c κs = search needs
 
 returns : tie.Need-returns
-returns c = read-says _ _ _ _ _ (c .before .before .before .q .given .1) (search needs) (c .before .number .ensures) (c .read-word .ensures)
+returns c =
+    let q = c .before .before .before .q in
+    let number = c .before .number in
+    let read-word = c .read-word in
+    read-says _ _ _ _ _ (q .given .1) (search needs) (number .ensures) (read-word .ensures)
 
 returns-2 : tie.Need-returns-2
-returns-2 c = write-says _ _ _ _ _ _ (c .before .before .before .q2 .given .1) (search needs, search needs) (c .before .number2 .ensures)
-    (c .write-word .ensures)
+returns-2 c =
+    let q2 = c .before .before .before .q2 in
+    let number2 = c .before .number2 in
+    let write-word = c .write-word in
+    write-says _ _ _ _ _ _ (q2 .given .1) (search needs, search needs) (number2 .ensures) (write-word .ensures)
 
 returns-3 : tie.Need-returns-3
-returns-3 c = c .access-word .ensures
+returns-3 c =
+    let access-word = c .access-word in
+    access-word .ensures
 
 pub continue-access-word-spec : {M : Type 1} → statement M
 continue-access-word-spec =
-    tie.close (tie.spec enum-known-q number-requires read-word-requires enum-known-q-2 number-requires-2 write-word-requires access-word-requires
+    tie.close (tie.spec enum-known-q number-requires read-word-requires enum-known-q-2 number-requires-2
+    write-word-requires access-word-requires
     returns returns-2 returns-3)

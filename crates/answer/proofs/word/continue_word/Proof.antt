@@ -21,15 +21,24 @@ word-of-requires c κs = search needs
 
 returns : tie.Need-returns
 unfolding wordOf
-returns c = says _ _ _ (c .before .before .step .given .1) (c .continue-access-word .ensures .1) (c .continue-access-word .ensures .0)
+returns c =
+    let step = c .before .before .step in
+    let continue-access-word = c .continue-access-word in
+    says _ _ _ (step .given .1) (continue-access-word .ensures .1) (continue-access-word .ensures .0)
 
 returns-2 : tie.Need-returns-2
 unfolding wordOf
-returns-2 c = says _ _ _ (c .before .before .step2 .given .1) (c .end-word .ensures .1) (c .end-word .ensures .0)
+returns-2 c =
+    let step2 = c .before .before .step2 in
+    let end-word = c .end-word in
+    says _ _ _ (step2 .given .1) (end-word .ensures .1) (end-word .ensures .0)
 
 returns-3 : tie.Need-returns-3
-returns-3 c = c .word-of .ensures
+returns-3 c =
+    let word-of = c .word-of in
+    word-of .ensures
 
 pub continue-word-spec : {M : Type 1} → statement M
 continue-word-spec =
-    tie.close (tie.spec enum-known-step continue-access-word-requires enum-known-step-2 end-word-requires word-of-requires returns returns-2 returns-3)
+    tie.close (tie.spec enum-known-step continue-access-word-requires enum-known-step-2 end-word-requires
+    word-of-requires returns returns-2 returns-3)

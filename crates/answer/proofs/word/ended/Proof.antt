@@ -10,7 +10,9 @@ end-word-requires c κs = search needs
 
 returns : tie.Need-returns
 unfolding wordOf
-returns c = says _ _ _ refl (c .end-word .ensures .1) (c .end-word .ensures .0)
+returns c =
+    let end-word = c .end-word in
+    says _ _ _ refl (end-word .ensures .1) (end-word .ensures .0)
 
 pub ended-spec : {M : Type 1} → statement M
 ended-spec = tie.close (tie.spec end-word-requires returns)

@@ -72,6 +72,8 @@ returns c = search needs
 
 pub counted-spec : {M : Type 1} → statement M
 counted-spec =
-    tie.close (tie.spec Inv-loop μ-loop loop-holds mul-low element-copy-out-low mul-high add-high element-copy-out-high add-k mul-if1
-    wrapping-add-u32-requires flat-requires wrapping-add-u32-requires-2 loop-less loop-again loop-less-2 loop-again-2 loop-less-3 loop-again-3
+    tie.close (tie.spec Inv-loop μ-loop loop-holds mul-low element-copy-out-low mul-high add-high element-copy-out-high
+    add-k mul-if1
+    wrapping-add-u32-requires flat-requires wrapping-add-u32-requires-2 loop-less loop-again loop-less-2 loop-again-2
+    loop-less-3 loop-again-3
     wrapping-add-u32-requires-3 returns)

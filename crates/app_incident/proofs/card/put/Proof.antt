@@ -45,5 +45,6 @@ returns c = search needs
 
 pub put-spec : {M : Type 1} → statement M
 put-spec =
-    tie.close (tie.spec Inv-loop μ-loop loop-holds sub-left element-copy-out-number usbhs-card-write-requires stored-requires loop-less loop-again
+    tie.close (tie.spec Inv-loop μ-loop loop-holds sub-left element-copy-out-number usbhs-card-write-requires
+    stored-requires loop-less loop-again
     loop-less-2 loop-again-2 returns)

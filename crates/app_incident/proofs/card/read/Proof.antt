@@ -49,5 +49,6 @@ returns c = search needs
 
 pub read-spec : {M : Type 1} → statement M
 read-spec =
-    tie.close (tie.spec Inv-loop μ-loop usbhs-card-start-requires loop-holds sub-left next-requires cast-counted counted-requires loop-less loop-again
+    tie.close (tie.spec Inv-loop μ-loop usbhs-card-start-requires loop-holds sub-left next-requires cast-counted
+    counted-requires loop-less loop-again
     loop-less-2 loop-again-2 returns)

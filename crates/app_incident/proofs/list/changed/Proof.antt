@@ -46,5 +46,6 @@ returns c = search needs
 
 pub changed-spec : {M : Type 1} → statement M
 changed-spec =
-    tie.close (tie.spec Inv-loop μ-loop loop-holds sub-left number-requires wrapping-add-u32-requires number-requires-2 store-requires
+    tie.close (tie.spec Inv-loop μ-loop loop-holds sub-left number-requires wrapping-add-u32-requires number-requires-2
+    store-requires
     wrapping-add-u32-requires-2 loop-less loop-again returns)

@@ -10,7 +10,9 @@ set-ep-config-requires c κs = search needs
 
 returns : tie.Need-returns
 unfolding afterNaked afterReset
-returns c = (λ e h b. simp (c .set-ep-config .ensures .0, nak-none e h), (c .set-ep-config .ensures .1, refl))
+returns c =
+    let set-ep-config = c .set-ep-config in
+    (λ e h b. simp (set-ep-config .ensures .0, nak-none e h), (set-ep-config .ensures .1, refl))
 
 pub after-last-spec : {M : Type 1} → statement M
 after-last-spec = tie.close (tie.spec set-ep-config-requires returns)

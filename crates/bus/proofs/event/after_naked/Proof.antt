@@ -13,7 +13,10 @@ nak-word-requires c κs = search needs
 
 returns : tie.Need-returns
 unfolding afterNaked
-returns c = (λ d b. simp (c .nak-word .ensures, nak-more _ (c .before .pre)), refl)
+returns c =
+    let start = c .before in
+    let nak-word = c .nak-word in
+    (λ d b. simp (nak-word .ensures, nak-more _ (start .pre)), refl)
 
 pub after-naked-spec : {M : Type 1} → statement M
 after-naked-spec = tie.close (tie.spec add-t3 nak-word-requires returns)

@@ -19,11 +19,13 @@ cast-t8 c = search needs
 returns : tie.Need-returns
 unfolding afterReleased
 returns c =
+    let the-load-globals = c .before .before .before .load-globals in
     let the-with-suspend = c .before .before .with-suspend in
-    let the-load-globals = c .before .before .before .load-globals in (
-      λ down b. simp (c .set-int-en .ensures .0, the-with-suspend .ensures, the-load-globals .ensures),
-      (c .set-int-en .ensures .1, λ n. refl),
+    let set-int-en = c .set-int-en in (
+      λ down b. simp (set-int-en .ensures .0, the-with-suspend .ensures, the-load-globals .ensures),
+      (set-int-en .ensures .1, λ n. refl),
     )
 
 pub after-released-spec : {M : Type 1} → statement M
-after-released-spec = tie.close (tie.spec load-globals-requires with-suspend-requires set-int-en-requires cast-t8 returns)
+after-released-spec = tie.close (tie.spec load-globals-requires with-suspend-requires set-int-en-requires cast-t8
+    returns)

@@ -21,15 +21,20 @@ cast-t9 c = search needs
 
 returns : tie.Need-returns
 unfolding afterReset
-returns c = (
-  λ b. simp (
-    c .set-int-en .ensures .0,
-    c .before .before .with-bus-rst .ensures,
-    c .before .before .before .load-globals .ensures,
-    c .before .before .before .before .before .wake-all .ensures .0,
-  ),
-  (c .set-int-en .ensures .1 ∙ c .before .before .before .before .before .wake-all .ensures .1, refl),
-)
+returns c =
+    let wake-all = c .before .before .before .before .before .wake-all in
+    let load-globals = c .before .before .before .load-globals in
+    let with-bus-rst = c .before .before .with-bus-rst in
+    let set-int-en = c .set-int-en in (
+      λ b. simp (
+        set-int-en .ensures .0,
+        with-bus-rst .ensures,
+        load-globals .ensures,
+        wake-all .ensures .0,
+      ),
+      (set-int-en .ensures .1 ∙ wake-all .ensures .1, refl),
+    )
 
 pub after-reset-spec : {M : Type 1} → statement M
-after-reset-spec = tie.close (tie.spec wake-all-requires load-globals-requires with-bus-rst-requires set-int-en-requires cast-t9 returns)
+after-reset-spec = tie.close (tie.spec wake-all-requires load-globals-requires with-bus-rst-requires set-int-en-requires
+    cast-t9 returns)

@@ -7,7 +7,9 @@ reset-all-requires : tie.Need-reset-all-requires
 reset-all-requires c κs = search needs
 
 returns : tie.Need-returns
-returns c = (λ v b. simp (c .reset-all .ensures .0), (c .reset-all .ensures .1, refl))
+returns c =
+    let reset-all = c .reset-all in
+    (λ v b. simp (reset-all .ensures .0), (reset-all .ensures .1, refl))
 
 pub after-single-spec : {M : Type 1} → statement M
 after-single-spec = tie.close (tie.spec reset-all-requires returns)

@@ -12,22 +12,30 @@ is-on-requires c κs = search needs
 
 returns : tie.Need-returns
 unfolding afterFlags afterStatus afterReleased
-returns c = (λ b. simp (← c .before .before .load-globals .ensures, ← c .before .is-on .ensures, c .if1 .taken), (refl, refl))
+returns c =
+    let load-globals = c .before .before .load-globals in
+    let is-on = c .before .is-on in
+    let if1 = c .if1 in
+    (λ b. simp (← load-globals .ensures, ← is-on .ensures, if1 .taken), (refl, refl))
 
 store-globals-requires : tie.Need-store-globals-requires
 store-globals-requires c κs = search needs
 
 returns-2 : tie.Need-returns-2
 unfolding afterFlags afterStatus afterReleased
-returns-2 c = (
-  λ b. simp (
-    c .store-globals .ensures .0,
-    ← c .before .before .before .is-on .ensures,
-    c .before .before .if1 .left,
-    ← c .before .before .before .before .load-globals .ensures,
-  ),
-  (c .store-globals .ensures .1, tt),
-)
+returns-2 c =
+    let load-globals = c .before .before .before .before .load-globals in
+    let is-on = c .before .before .before .is-on in
+    let if1 = c .before .before .if1 in
+    let store-globals = c .store-globals in (
+      λ b. simp (
+        store-globals .ensures .0,
+        ← is-on .ensures,
+        if1 .left,
+        ← load-globals .ensures,
+      ),
+      (store-globals .ensures .1, tt),
+    )
 
 pub poll-spec : {M : Type 1} → statement M
 poll-spec = tie.close (tie.spec load-globals-requires is-on-requires returns store-globals-requires returns-2)

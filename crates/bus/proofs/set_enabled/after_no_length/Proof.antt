@@ -12,7 +12,9 @@ cast-t6 c = search needs
 
 returns : tie.Need-returns
 unfolding afterPlaced
-returns c = (λ d b. simp (c .in-word .ensures), refl)
+returns c =
+    let in-word = c .in-word in
+    (λ d b. simp (in-word .ensures), refl)
 
 pub after-no-length-spec : {M : Type 1} → statement M
 after-no-length-spec = tie.close (tie.spec in-word-requires cast-t6 returns)

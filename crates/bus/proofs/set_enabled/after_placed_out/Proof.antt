@@ -10,7 +10,9 @@ cast-t5 : tie.Need-cast-t5
 cast-t5 c = search needs
 
 returns : tie.Need-returns
-returns c = (λ v d b. simp (c .out-word .ensures), refl)
+returns c =
+    let out-word = c .out-word in
+    (λ v d b. simp (out-word .ensures), refl)
 
 pub after-placed-out-spec : {M : Type 1} → statement M
 after-placed-out-spec = tie.close (tie.spec out-word-requires cast-t5 returns)

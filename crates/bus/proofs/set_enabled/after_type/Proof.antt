@@ -12,7 +12,10 @@ load-globals-requires c κs = search needs
 
 returns : tie.Need-returns
 unfolding afterType
-returns c = (λ b. simp (c .load-globals .ensures, c .before .before .set-enabled .ensures .0), (c .before .before .set-enabled .ensures .1, refl))
+returns c =
+    let set-enabled = c .before .before .set-enabled in
+    let load-globals = c .load-globals in
+    (λ b. simp (load-globals .ensures, set-enabled .ensures .0), (set-enabled .ensures .1, refl))
 
 pub after-type-spec : {M : Type 1} → statement M
 after-type-spec = tie.close (tie.spec set-enabled-requires load-globals-requires returns)

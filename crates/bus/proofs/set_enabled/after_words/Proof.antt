@@ -18,15 +18,20 @@ set-ep-type-requires c κs = search needs
 
 returns : tie.Need-returns
 unfolding afterWords afterType
-returns c = (
-  λ b. simp (
-    c .set-ep-type .ensures .0,
-    c .before .before .with-on .ensures,
-    c .before .before .before .both .ensures,
-    c .before .before .before .before .load-globals .ensures,
-  ),
-  (c .set-ep-type .ensures .1, refl),
-)
+returns c =
+    let load-globals = c .before .before .before .before .load-globals in
+    let both = c .before .before .before .both in
+    let with-on = c .before .before .with-on in
+    let set-ep-type = c .set-ep-type in (
+      λ b. simp (
+        set-ep-type .ensures .0,
+        with-on .ensures,
+        both .ensures,
+        load-globals .ensures,
+      ),
+      (set-ep-type .ensures .1, refl),
+    )
 
 pub after-words-spec : {M : Type 1} → statement M
-after-words-spec = tie.close (tie.spec load-globals-requires both-requires with-on-requires set-ep-type-requires returns)
+after-words-spec = tie.close (tie.spec load-globals-requires both-requires with-on-requires set-ep-type-requires
+    returns)

@@ -9,13 +9,21 @@ word-of-requires : tie.Need-word-of-requires
 word-of-requires c κs = search needs
 
 returns : tie.Need-returns
-returns c = simp (c .word-of .ensures, ← c .before .before .both .ensures, c .before .if1 .taken)
+returns c =
+    let both = c .before .before .both in
+    let if1 = c .before .if1 in
+    let word-of = c .word-of in
+    simp (word-of .ensures, ← both .ensures, if1 .taken)
 
 word-of-requires-2 : tie.Need-word-of-requires-2
 word-of-requires-2 c κs = search needs
 
 returns-2 : tie.Need-returns-2
-returns-2 c = simp (c .word-of2 .ensures, ← c .before .before .both .ensures, c .before .if1 .left)
+returns-2 c =
+    let both = c .before .before .both in
+    let if1 = c .before .if1 in
+    let word-of2 = c .word-of2 in
+    simp (word-of2 .ensures, ← both .ensures, if1 .left)
 
 pub in-word-spec : {M : Type 1} → statement M
 in-word-spec = tie.close (tie.spec both-requires word-of-requires returns word-of-requires-2 returns-2)

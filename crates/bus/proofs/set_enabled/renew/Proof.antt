@@ -14,16 +14,19 @@ store-ep-requires : tie.Need-store-ep-requires
 store-ep-requires c κs = search needs
 
 returns : tie.Need-returns
-returns c = (
-  simp (
-    c .store-ep .ensures .0,
-    c .before .before .by-loan .ensures,
-    c .before .before .before .load-ep .ensures,
-    renew-both _ (view-sized _) _ _
-        (c .before .before .before .before .before .args .armed) (c .before .before .before .before .before .pre),
-  ),
-  c .store-ep .ensures .1,
-)
+returns c =
+    let start = c .before .before .before .before .before in
+    let load-ep = c .before .before .before .load-ep in
+    let by-loan = c .before .before .by-loan in
+    let store-ep = c .store-ep in (
+      simp (
+        store-ep .ensures .0,
+        by-loan .ensures,
+        load-ep .ensures,
+        renew-both _ (view-sized _) _ _ (start .args .armed) (start .pre),
+      ),
+      store-ep .ensures .1,
+    )
 
 pub renew-spec : {M : Type 1} → statement M
 renew-spec = tie.close (tie.spec load-ep-requires by-loan-requires store-ep-requires returns)

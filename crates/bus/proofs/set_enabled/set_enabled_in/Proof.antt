@@ -27,17 +27,20 @@ place-requires : tie.Need-place-requires
 place-requires c κs = search needs
 
 returns : tie.Need-returns
-returns c = (
-  λ b. enable-in (c .before .before .before .before .before .before .before .before .before .args .e)
-      (c .before .before .before .before .before .before .before .before .before .args .on)
-      (view (now (c .before .before .before .before .before .before .before .before .before .args .s))) _ _ _ _ b
-      (c .before .before .before .before .before .before .is-on .ensures
-      ∙ ap (λ (r : EpState). isOn (r .iso)) (c .before .before .before .before .before .before .before .load-ep .ensures))
-      (c .before .before .store-paced .ensures .0
-      ∙ ap (λ (x : Driver). withPacedOn x (c .before .before .before .before .before .before .before .before .before .args .e) 0x1800)
-      (c .before .before .before .before .renew .ensures .0)) (c .place .ensures .0) (c .place .ensures .1 .0),
-  (c .place .ensures .1 .1 ∙ (c .before .before .store-paced .ensures .1 ∙ c .before .before .before .before .renew .ensures .1), refl),
-)
+returns c =
+    let start = c .before .before .before .before .before .before .before .before .before in
+    let load-ep = c .before .before .before .before .before .before .before .load-ep in
+    let is-on = c .before .before .before .before .before .before .is-on in
+    let renew = c .before .before .before .before .renew in
+    let store-paced = c .before .before .store-paced in
+    let place = c .place in (
+      λ b. enable-in (start .args .e) (start .args .on) (view (now (start .args .s))) _ _ _ _ b (is-on .ensures
+          ∙ ap (λ (r : EpState). isOn (r .iso)) (load-ep .ensures)) (store-paced .ensures .0
+          ∙ ap (λ (x : Driver). withPacedOn x (start .args .e) 0x1800)
+          (renew .ensures .0)) (place .ensures .0) (place .ensures .1 .0),
+      (place .ensures .1 .1 ∙ (store-paced .ensures .1 ∙ renew .ensures .1), refl),
+    )
 
 pub set-enabled-in-spec : {M : Type 1} → statement M
-set-enabled-in-spec = tie.close (tie.spec load-ep-requires is-on-requires renew-requires store-paced-requires place-requires returns)
+set-enabled-in-spec = tie.close (tie.spec load-ep-requires is-on-requires renew-requires store-paced-requires
+    place-requires returns)

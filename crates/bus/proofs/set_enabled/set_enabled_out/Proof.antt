@@ -15,15 +15,18 @@ place-requires c κs = search needs
 
 returns : tie.Need-returns
 unfolding afterWords woken
-returns c = (
-  λ b. simp (
-    c .place .ensures .0,
-    c .place .ensures .1 .0,
-    c .before .before .renew .ensures .0,
-    c .before .before .before .flag-of .ensures,
-  ),
-  (c .place .ensures .1 .1 ∙ c .before .before .renew .ensures .1, refl),
-)
+returns c =
+    let flag-of = c .before .before .before .flag-of in
+    let renew = c .before .before .renew in
+    let place = c .place in (
+      λ b. simp (
+        place .ensures .0,
+        place .ensures .1 .0,
+        renew .ensures .0,
+        flag-of .ensures,
+      ),
+      (place .ensures .1 .1 ∙ renew .ensures .1, refl),
+    )
 
 pub set-enabled-out-spec : {M : Type 1} → statement M
 set-enabled-out-spec = tie.close (tie.spec flag-of-requires renew-requires place-requires returns)

@@ -9,7 +9,10 @@ wake-requires c κs = search needs
 
 returns : tie.Need-returns
 unfolding afterRestart
-returns c = (λ b. simp (c .wake .ensures .0, c .before .before .if1 .taken), c .wake .ensures .1)
+returns c =
+    let if1 = c .before .before .if1 in
+    let wake = c .wake in
+    (λ b. simp (wake .ensures .0, if1 .taken), wake .ensures .1)
 
 load-ep-requires : tie.Need-load-ep-requires
 load-ep-requires c κs = search needs
@@ -22,15 +25,20 @@ wake-requires-2 c κs = search needs
 
 returns-2 : tie.Need-returns-2
 unfolding afterRestart
-returns-2 c = (
-  λ b. simp (
-    c .wake2 .ensures .0,
-    c .before .before .store-ep .ensures .0,
-    c .before .before .before .before .load-ep .ensures,
-    c .before .before .before .before .before .before .if1 .left,
-  ),
-  c .wake2 .ensures .1 ∙ c .before .before .store-ep .ensures .1,
-)
+returns-2 c =
+    let if1 = c .before .before .before .before .before .before .if1 in
+    let load-ep = c .before .before .before .before .load-ep in
+    let store-ep = c .before .before .store-ep in
+    let wake2 = c .wake2 in (
+      λ b. simp (
+        wake2 .ensures .0,
+        store-ep .ensures .0,
+        load-ep .ensures,
+        if1 .left,
+      ),
+      wake2 .ensures .1 ∙ store-ep .ensures .1,
+    )
 
 pub after-restart-spec : {M : Type 1} → statement M
-after-restart-spec = tie.close (tie.spec wake-requires returns load-ep-requires store-ep-requires wake-requires-2 returns-2)
+after-restart-spec = tie.close (tie.spec wake-requires returns load-ep-requires store-ep-requires wake-requires-2
+    returns-2)

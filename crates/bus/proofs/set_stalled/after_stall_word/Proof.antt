@@ -18,7 +18,11 @@ cast-t7 c = search needs
 
 returns : tie.Need-returns
 unfolding afterStallWord
-returns c = (λ d b. simp (c .ctrl-of .ensures, c .before .stall .ensures, c .before .before .byte .ensures), refl)
+returns c =
+    let byte = c .before .before .byte in
+    let stall = c .before .stall in
+    let ctrl-of = c .ctrl-of in
+    (λ d b. simp (ctrl-of .ensures, stall .ensures, byte .ensures), refl)
 
 pub after-stall-word-spec : {M : Type 1} → statement M
 after-stall-word-spec = tie.close (tie.spec byte-requires stall-requires ctrl-of-requires cast-t7 returns)

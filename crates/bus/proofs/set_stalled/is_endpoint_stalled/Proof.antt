@@ -7,7 +7,9 @@ ctrl-of-requires : tie.Need-ctrl-of-requires
 ctrl-of-requires c κs = search needs
 
 returns : tie.Need-returns
-returns c = (λ d b. simp (c .ctrl-of .ensures), simp (c .ctrl-of .ensures, word-width))
+returns c =
+    let ctrl-of = c .ctrl-of in
+    (λ d b. simp (ctrl-of .ensures), simp (ctrl-of .ensures, word-width))
 
 pub is-endpoint-stalled-spec : {M : Type 1} → statement M
 is-endpoint-stalled-spec = tie.close (tie.spec ctrl-of-requires returns)

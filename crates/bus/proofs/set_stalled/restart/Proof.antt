@@ -34,21 +34,38 @@ cast-t19 c = search needs
 returns : tie.Need-returns
 unfolding woken
 returns c =
-    let stored = c .before .before .before in (
-      λ b. rw (stored .store-ep .ensures .0, c .restarted-out .ensures, stored .before .before .load-ep .ensures, c .before .enum-told .given .1),
-      (stored .store-ep .ensures .1, refl),
+    let at-store-ep = c .before .before .before in
+    let enum-told-fact = c .before .enum-told in
+    let restarted-out = c .restarted-out in (
+      λ b. rw (
+        at-store-ep .store-ep .ensures .0,
+        restarted-out .ensures,
+        at-store-ep .before .before .load-ep .ensures,
+        enum-told-fact .given .1,
+      ),
+      (at-store-ep .store-ep .ensures .1, refl),
     )
 
 returns-2 : tie.Need-returns-2
 unfolding woken afterRestart
 returns-2 c =
-    let stored = c .before .before .before .before in
-    let told = c .before .before .enum-told2 .given .1 in (
-      λ b. rw (stored .store-ep .ensures .0, c .before .restarted-in .ensures, c .is-on .ensures, stored .before .before .load-ep .ensures, told),
-      (stored .store-ep .ensures .1, refl),
+    let at-store-ep = c .before .before .before .before in
+    let enum-told2 = c .before .before .enum-told2 in
+    let restarted-in = c .before .restarted-in in
+    let is-on = c .is-on in
+    let told = enum-told2 .given .1 in (
+      λ b. rw (
+        at-store-ep .store-ep .ensures .0,
+        restarted-in .ensures,
+        is-on .ensures,
+        at-store-ep .before .before .load-ep .ensures,
+        told,
+      ),
+      (at-store-ep .store-ep .ensures .1, refl),
     )
 
 pub restart-spec : {M : Type 1} → statement M
 restart-spec =
-    tie.close (tie.spec load-ep-requires store-ep-requires enum-told restarted-out-requires cast-t14 enum-told-2 restarted-in-requires is-on-requires
+    tie.close (tie.spec load-ep-requires store-ep-requires enum-told restarted-out-requires cast-t14 enum-told-2
+    restarted-in-requires is-on-requires
     cast-t19 returns returns-2)

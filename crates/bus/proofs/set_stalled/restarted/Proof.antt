@@ -12,14 +12,22 @@ word-of-requires c κs = search needs
 
 returns : tie.Need-returns
 unfolding restarted
-returns c = simp (c .word-of .ensures, ← c .before .before .is-on .ensures, c .before .if1 .taken, and-no)
+returns c =
+    let is-on = c .before .before .is-on in
+    let if1 = c .before .if1 in
+    let word-of = c .word-of in
+    simp (word-of .ensures, ← is-on .ensures, if1 .taken, and-no)
 
 word-of-requires-2 : tie.Need-word-of-requires-2
 word-of-requires-2 c κs = search needs
 
 returns-2 : tie.Need-returns-2
 unfolding restarted
-returns-2 c = simp (c .word-of2 .ensures, ← c .before .before .is-on .ensures, c .before .if1 .left, and-yes)
+returns-2 c =
+    let is-on = c .before .before .is-on in
+    let if1 = c .before .if1 in
+    let word-of2 = c .word-of2 in
+    simp (word-of2 .ensures, ← is-on .ensures, if1 .left, and-yes)
 
 pub restarted-spec : {M : Type 1} → statement M
 restarted-spec = tie.close (tie.spec is-on-requires word-of-requires returns word-of-requires-2 returns-2)

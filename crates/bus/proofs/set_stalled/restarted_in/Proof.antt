@@ -8,7 +8,9 @@ restarted-requires c κs = search needs
 
 returns : tie.Need-returns
 unfolding restartedIn
-returns c = c .restarted .ensures
+returns c =
+    let restarted = c .restarted in
+    restarted .ensures
 
 pub restarted-in-spec : {M : Type 1} → statement M
 restarted-in-spec = tie.close (tie.spec restarted-requires returns)

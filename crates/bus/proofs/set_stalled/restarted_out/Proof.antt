@@ -11,14 +11,22 @@ restarted-requires c κs = search needs
 
 returns : tie.Need-returns
 unfolding restartedOut
-returns c = simp (c .restarted .ensures, ← c .before .before .is-on .ensures, c .before .if1 .taken)
+returns c =
+    let is-on = c .before .before .is-on in
+    let if1 = c .before .if1 in
+    let restarted = c .restarted in
+    simp (restarted .ensures, ← is-on .ensures, if1 .taken)
 
 restarted-requires-2 : tie.Need-restarted-requires-2
 restarted-requires-2 c κs = search needs
 
 returns-2 : tie.Need-returns-2
 unfolding restartedOut
-returns-2 c = simp (c .restarted2 .ensures, ← c .before .before .is-on .ensures, c .before .if1 .left)
+returns-2 c =
+    let is-on = c .before .before .is-on in
+    let if1 = c .before .if1 in
+    let restarted2 = c .restarted2 in
+    simp (restarted2 .ensures, ← is-on .ensures, if1 .left)
 
 pub restarted-out-spec : {M : Type 1} → statement M
 restarted-out-spec = tie.close (tie.spec is-on-requires restarted-requires returns restarted-requires-2 returns-2)

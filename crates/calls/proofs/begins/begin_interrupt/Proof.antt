@@ -24,28 +24,38 @@ on-interrupt-requires : tie.Need-on-interrupt-requires
 on-interrupt-requires c κs = search needs
 
 suspend-or-end-interrupt-requires : tie.Need-suspend-or-end-interrupt-requires
-suspend-or-end-interrupt-requires c κs = c .on-interrupt .ensures .1
+suspend-or-end-interrupt-requires c κs =
+    let on-interrupt = c .on-interrupt in
+    on-interrupt .ensures .1
 
 returns : tie.Need-returns
-returns c = (
-  λ a b. back
-      (interrupt-call (decode (saved (now (c .before .before .before .before .before .before .before .before .args .s))))
-      (view (now (c .before .before .before .before .before .before .before .before .args .s))) a b)
-      (c .suspend-or-end-interrupt .ensures .0 b ∙ simp (
-        c .before .on-interrupt .ensures .0,
-        c .before .before .before .clear-wakes .ensures .0,
-        ← c .before .before .before .before .before .before .stop .ensures,
-        eq-eqb _ _ (c .before .before .before .before .before .if1 .taken),
-      )),
-  c .suspend-or-end-interrupt .ensures .1 _,
-)
+returns c =
+    let start = c .before .before .before .before .before .before .before .before in
+    let stop = c .before .before .before .before .before .before .stop in
+    let if1 = c .before .before .before .before .before .if1 in
+    let clear-wakes = c .before .before .before .clear-wakes in
+    let on-interrupt = c .before .on-interrupt in
+    let suspend-or-end-interrupt = c .suspend-or-end-interrupt in (
+      λ a b. back (interrupt-call (decode (saved (now (start .args .s)))) (view (now (start .args .s))) a b)
+          (suspend-or-end-interrupt .ensures .0 b ∙ simp (
+            on-interrupt .ensures .0,
+            clear-wakes .ensures .0,
+            ← stop .ensures,
+            eq-eqb _ _ (if1 .taken),
+          )),
+      suspend-or-end-interrupt .ensures .1 _,
+    )
 
 returns-2 : tie.Need-returns-2
-returns-2 c = (
-  λ a b. back (interrupt-call (decode (saved (now (c .before .before .before .args .s)))) (view (now (c .before .before .before .args .s))) a b)
-      (simp (← c .before .stop .ensures, ne-eqb _ _ (c .if1 .left))),
-  refl,
-)
+returns-2 c =
+    let start = c .before .before .before in
+    let stop = c .before .stop in
+    let if1 = c .if1 in (
+      λ a b. back (interrupt-call (decode (saved (now (start .args .s)))) (view (now (start .args .s))) a b)
+          (simp (← stop .ensures, ne-eqb _ _ (if1 .left))),
+      refl,
+    )
 
 pub begin-interrupt-spec : {M : Type 1} → statement M
-begin-interrupt-spec = tie.close (tie.spec stop-requires clear-wakes-requires on-interrupt-requires suspend-or-end-interrupt-requires returns returns-2)
+begin-interrupt-spec = tie.close (tie.spec stop-requires clear-wakes-requires on-interrupt-requires
+    suspend-or-end-interrupt-requires returns returns-2)

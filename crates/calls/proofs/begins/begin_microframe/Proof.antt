@@ -18,17 +18,30 @@ microframe-requires : tie.Need-microframe-requires
 microframe-requires c κs = search needs
 
 suspend-or-end-requires : tie.Need-suspend-or-end-requires
-suspend-or-end-requires c κs = c .microframe .ensures .1
+suspend-or-end-requires c κs =
+    let microframe = c .microframe in
+    microframe .ensures .1
 
 returns : tie.Need-returns
-returns c = other-passed calls.Microframe 2 (operation script.microframe) _ (c .before .before .before .before .before .before .stop .ensures) (λ b. refl)
-    (c .before .before .before .before .before .if1 .taken) (c .suspend-or-end .result) _
-    (begins script.microframe (view (c .before .before .before .before .before .before .before .before .args .s .now)) (c .suspend-or-end .result) _
-    (c .before .before .before .clear-wakes .ensures .0) (c .before .microframe .ensures .0 _) (c .suspend-or-end .ensures .0))
-    (c .suspend-or-end .ensures .1 _)
+returns c =
+    let start = c .before .before .before .before .before .before .before .before in
+    let stop = c .before .before .before .before .before .before .stop in
+    let if1 = c .before .before .before .before .before .if1 in
+    let clear-wakes = c .before .before .before .clear-wakes in
+    let microframe = c .before .microframe in
+    let suspend-or-end = c .suspend-or-end in
+    other-passed calls.Microframe 2 (operation script.microframe) _ (stop .ensures) (λ b. refl)
+    (if1 .taken) (suspend-or-end .result) _
+    (begins script.microframe (view (start .args .s .now)) (suspend-or-end .result) _
+    (clear-wakes .ensures .0) (microframe .ensures .0 _) (suspend-or-end .ensures .0))
+    (suspend-or-end .ensures .1 _)
 
 returns-2 : tie.Need-returns-2
-returns-2 c = other-stopped calls.Microframe 2 (operation script.microframe) _ (c .before .stop .ensures) (λ b. refl) (c .if1 .left)
+returns-2 c =
+    let stop = c .before .stop in
+    let if1 = c .if1 in
+    other-stopped calls.Microframe 2 (operation script.microframe) _ (stop .ensures) (λ b. refl) (if1 .left)
 
 pub begin-microframe-spec : {M : Type 1} → statement M
-begin-microframe-spec = tie.close (tie.spec stop-requires clear-wakes-requires microframe-requires suspend-or-end-requires returns returns-2)
+begin-microframe-spec = tie.close (tie.spec stop-requires clear-wakes-requires microframe-requires
+    suspend-or-end-requires returns returns-2)

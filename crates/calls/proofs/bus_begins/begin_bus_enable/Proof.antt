@@ -14,16 +14,26 @@ enable-requires : tie.Need-enable-requires
 enable-requires c κs = search needs
 
 suspend-or-end-bus-requires : tie.Need-suspend-or-end-bus-requires
-suspend-or-end-bus-requires c κs = c .enable .ensures .1
+suspend-or-end-bus-requires c κs =
+    let enable = c .enable in
+    enable .ensures .1
 
 returns : tie.Need-returns
 returns c =
-    let test = c .before .before .before in
-    entered calls.BusEnable (resultless script.enable) _ _ (test .before .enter .ensures) (λ b. refl) (test .if1 .taken)
-    (c .suspend-or-end-bus .result) _ (c .before .enable .ensures .0 _) (c .suspend-or-end-bus .ensures .0) (c .suspend-or-end-bus .ensures .1 _)
+    let at-then1 = c .before .before .before in
+    let enable = c .before .enable in
+    let suspend-or-end-bus = c .suspend-or-end-bus in
+    entered calls.BusEnable (resultless script.enable) _ _ (at-then1 .before .enter .ensures) (λ b. refl)
+    (at-then1 .if1 .taken)
+    (suspend-or-end-bus .result) _ (enable .ensures .0 _) (suspend-or-end-bus .ensures .0)
+    (suspend-or-end-bus .ensures .1 _)
 
 returns-2 : tie.Need-returns-2
-returns-2 c = stopped calls.BusEnable (resultless script.enable) _ _ (c .before .enter .ensures) (λ b. refl) (c .if1 .left)
+returns-2 c =
+    let enter = c .before .enter in
+    let if1 = c .if1 in
+    stopped calls.BusEnable (resultless script.enable) _ _ (enter .ensures) (λ b. refl) (if1 .left)
 
 pub begin-bus-enable-spec : {M : Type 1} → statement M
-begin-bus-enable-spec = tie.close (tie.spec enter-requires enable-requires suspend-or-end-bus-requires returns returns-2)
+begin-bus-enable-spec = tie.close (tie.spec enter-requires enable-requires suspend-or-end-bus-requires returns
+    returns-2)

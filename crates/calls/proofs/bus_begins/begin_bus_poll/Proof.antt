@@ -13,16 +13,24 @@ poll-requires : tie.Need-poll-requires
 poll-requires c κs = search needs
 
 suspend-or-end-bus-requires : tie.Need-suspend-or-end-bus-requires
-suspend-or-end-bus-requires c κs = c .before .poll .ensures .1 .1
+suspend-or-end-bus-requires c κs =
+    let poll = c .before .poll in
+    poll .ensures .1 .1
 
 returns : tie.Need-returns
 returns c =
-    let test = c .before .before .before .before in
-    entered calls.BusPoll script.poll _ _ (test .before .enter .ensures) (λ b. refl) (test .if1 .taken)
-    (c .suspend-or-end-bus .result) _ (c .before .before .poll .ensures .0) (c .suspend-or-end-bus .ensures .0) (c .suspend-or-end-bus .ensures .1 _)
+    let at-then1 = c .before .before .before .before in
+    let poll = c .before .before .poll in
+    let suspend-or-end-bus = c .suspend-or-end-bus in
+    entered calls.BusPoll script.poll _ _ (at-then1 .before .enter .ensures) (λ b. refl) (at-then1 .if1 .taken)
+    (suspend-or-end-bus .result) _ (poll .ensures .0) (suspend-or-end-bus .ensures .0)
+    (suspend-or-end-bus .ensures .1 _)
 
 returns-2 : tie.Need-returns-2
-returns-2 c = stopped calls.BusPoll script.poll _ _ (c .before .enter .ensures) (λ b. refl) (c .if1 .left)
+returns-2 c =
+    let enter = c .before .enter in
+    let if1 = c .if1 in
+    stopped calls.BusPoll script.poll _ _ (enter .ensures) (λ b. refl) (if1 .left)
 
 pub begin-bus-poll-spec : {M : Type 1} → statement M
 begin-bus-poll-spec = tie.close (tie.spec enter-requires poll-requires suspend-or-end-bus-requires returns returns-2)

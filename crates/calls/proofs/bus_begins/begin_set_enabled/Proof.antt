@@ -36,7 +36,8 @@ clear-wakes-requires c κs = search needs
 
 low-requires : tie.Need-low-requires
 low-requires c κs = allocated-number _ _ _
-    (sym (c .before .before .before .before .before .is-allocated .ensures) ∙ c .before .before .before .before .if3 .taken)
+    (sym (c .before .before .before .before .before .is-allocated .ensures)
+    ∙ c .before .before .before .before .if3 .taken)
 
 endpoint-set-enabled-requires : tie.Need-endpoint-set-enabled-requires
 endpoint-set-enabled-requires c κs = search needs
@@ -53,7 +54,8 @@ returns c = (
       (named-call (calls.SetEnabled (c .before .before .before .before .before .before .before .before .before
       .before .before .before .before .before .before .before .before .before .before .before .before .args .dir)
       (c .before .before .before .before .before .before .before .before .before .before .before .before .before .before
-      .before .before .before .before .before .before .before .args .e) (c .before .before .before .before .before .before
+      .before .before .before .before .before .before .before .args .e)
+      (c .before .before .before .before .before .before
       .before .before .before .before .before .before .before .before .before .before .before .before .before .before .before .args .on))
       (c .before .before .before .before .before .before .before .before .before
       .before .before .before .before .before .before .before .before .before .before .before .before .args .dir)
@@ -62,7 +64,8 @@ returns c = (
       (resultless (script.setEnabled (c .before .before .before .before .before .before .before .before .before
       .before .before .before .before .before .before .before .before .before .before .before .before .args .dir)
       (c .before .before .before .before .before .before .before .before .before .before .before .before .before .before
-      .before .before .before .before .before .before .before .args .e) (c .before .before .before .before .before .before .before .before
+      .before .before .before .before .before .before .before .args .e)
+      (c .before .before .before .before .before .before .before .before
       .before .before .before .before .before .before .before .before .before .before .before .before .before .args .on)))
       (decode (saved (now (c .before .before .before .before .before .before .before .before .before
       .before .before .before .before .before .before .before .before .before .before .before .before .args .s))))
@@ -78,7 +81,8 @@ returns c = (
         c .before .before .before .before .before .low .ensures,
         c .before .before .before .before .before .before .before .before .clear-wakes .ensures .0,
         ← c .before .before .before .before .before .before .before .before .before .before .before .before .before .before .stop .ensures,
-        eq-eqb _ _ (c .before .before .before .before .before .before .before .before .before .before .before .before .before .if2 .taken),
+        eq-eqb _ _
+            (c .before .before .before .before .before .before .before .before .before .before .before .before .before .if2 .taken),
         ← c .before .before .before .before .before .before .before .before .before .before .before .is-allocated .ensures,
         c .before .before .before .before .before .before .before .before .before .before .if3 .taken,
       ))),
@@ -97,17 +101,24 @@ same-length-2 c = search needs
 returns-2 : tie.Need-returns-2
 returns-2 c = (
   λ a. back
-      (named-call (calls.SetEnabled (c .before .before .before .before .before .before .before .before .before .before .before .args .dir)
+      (named-call
+      (calls.SetEnabled
+      (c .before .before .before .before .before .before .before .before .before .before .before .args .dir)
       (c .before .before .before .before .before .before .before .before .before .before .before .args .e)
       (c .before .before .before .before .before .before .before .before .before .before .before .args .on))
       (c .before .before .before .before .before .before .before .before .before .before .before .args .dir)
       (c .before .before .before .before .before .before .before .before .before .before .before .args .e)
-      (resultless (script.setEnabled (c .before .before .before .before .before .before .before .before .before .before .before .args .dir)
+      (resultless
+      (script.setEnabled
+      (c .before .before .before .before .before .before .before .before .before .before .before .args .dir)
       (c .before .before .before .before .before .before .before .before .before .before .before .args .e)
       (c .before .before .before .before .before .before .before .before .before .before .before .args .on)))
-      (decode (saved (now (c .before .before .before .before .before .before .before .before .before .before .before .args .s))))
-      (view (now (c .before .before .before .before .before .before .before .before .before .before .before .args .s))) a
-      (now (c .before .before .before .before .before .before .before .before .before .before .before .args .slots)) refl) (simp (
+      (decode (saved
+      (now (c .before .before .before .before .before .before .before .before .before .before .before .args .s))))
+      (view (now (c .before .before .before .before .before .before .before .before .before .before .before .args .s)))
+      a
+      (now (c .before .before .before .before .before .before .before .before .before .before .before .args .slots))
+      refl) (simp (
         ← c .before .before .before .before .before .before .before .slots-fit .ensures,
         c .before .before .before .before .before .before .if1 .taken,
         ← c .before .before .before .before .stop .ensures,
@@ -145,7 +156,10 @@ returns-3 c = (
         ← c .before .stop .ensures,
         ne-eqb _ _ (c .if2 .left),
       )),
-  (as-lent _ _ _ (sym (c .before .before .before .before .slots-fit .ensures) ∙ c .before .before .before .if1 .taken), refl),
+  (
+    as-lent _ _ _ (sym (c .before .before .before .before .slots-fit .ensures) ∙ c .before .before .before .if1 .taken),
+    refl,
+  ),
 )
 
 same-length-4 : tie.Need-same-length-4
@@ -156,14 +170,18 @@ returns-4 c = (
   λ a. back (named-call (calls.SetEnabled (c .before .before .before .before .before .args .dir)
       (c .before .before .before .before .before .args .e) (c .before .before .before .before .before .args .on))
       (c .before .before .before .before .before .args .dir) (c .before .before .before .before .before .args .e)
-      (resultless (script.setEnabled (c .before .before .before .before .before .args .dir) (c .before .before .before .before .before .args .e)
-      (c .before .before .before .before .before .args .on))) (decode (saved (now (c .before .before .before .before .before .args .s))))
-      (view (now (c .before .before .before .before .before .args .s))) a (now (c .before .before .before .before .before .args .slots)) refl)
+      (resultless (script.setEnabled (c .before .before .before .before .before .args .dir)
+      (c .before .before .before .before .before .args .e)
+      (c .before .before .before .before .before .args .on)))
+      (decode (saved (now (c .before .before .before .before .before .args .s))))
+      (view (now (c .before .before .before .before .before .args .s))) a
+      (now (c .before .before .before .before .before .args .slots)) refl)
       (simp (← c .before .slots-fit .ensures, c .if1 .left)),
   (λ h. refl, refl),
 )
 
 pub begin-set-enabled-spec : {M : Type 1} → statement M
 begin-set-enabled-spec =
-    tie.close (tie.spec slots-fit-requires stop-requires is-allocated-requires clear-wakes-requires low-requires endpoint-set-enabled-requires
+    tie.close (tie.spec slots-fit-requires stop-requires is-allocated-requires clear-wakes-requires low-requires
+    endpoint-set-enabled-requires
     suspend-or-end-bus-requires same-length returns same-length-2 returns-2 same-length-3 returns-3 same-length-4 returns-4)

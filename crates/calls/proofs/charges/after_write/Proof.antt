@@ -13,10 +13,17 @@ keep-requires : tie.Need-keep-requires
 keep-requires c κs = search needs
 
 returns : tie.Need-returns
-returns c e = simp (← c .before .before .before .is-config .ensures, c .before .before .if1 .taken) (c .keep .ensures)
+returns c e =
+    let is-config = c .before .before .before .is-config in
+    let if1 = c .before .before .if1 in
+    let keep = c .keep in
+    simp (← is-config .ensures, if1 .taken) (keep .ensures)
 
 returns-2 : tie.Need-returns-2
-returns-2 c e = simp (← c .before .is-config .ensures, c .if1 .left)
+returns-2 c e =
+    let is-config = c .before .is-config in
+    let if1 = c .if1 in
+    simp (← is-config .ensures, if1 .left)
 
 pub after-write-spec : {M : Type 1} → statement M
 after-write-spec = tie.close (tie.spec is-config-requires keep-requires returns returns-2)

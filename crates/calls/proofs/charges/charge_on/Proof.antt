@@ -20,7 +20,10 @@ charge-of-requires c κs = search needs
 
 returns : tie.Need-returns
 unfolding chargeOn
-returns c = (c .charge-of .ensures .0 ∙ simp (c .before .load-ep .ensures, epOn-low), c .charge-of .ensures .1)
+returns c =
+    let load-ep = c .before .load-ep in
+    let charge-of = c .charge-of in
+    (charge-of .ensures .0 ∙ simp (load-ep .ensures, epOn-low), charge-of .ensures .1)
 
 pub charge-on-spec : {M : Type 1} → statement M
 charge-on-spec = tie.close (tie.spec cast-load-ep load-ep-requires charge-of-requires returns)

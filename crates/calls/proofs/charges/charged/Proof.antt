@@ -12,10 +12,16 @@ charge-requires : tie.Need-charge-requires
 charge-requires c κs = search needs
 
 returns : tie.Need-returns
-returns c x = simp (c .before .before .before .step .given .1) (c .charge .ensures)
+returns c x =
+    let step = c .before .before .before .step in
+    let charge = c .charge in
+    simp (step .given .1) (charge .ensures)
 
 returns-2 : tie.Need-returns-2
-returns-2 c x = let a = c .before .args in uncharged _ (answerOf (a .step) [] x) (unasked (a .step) x (c .match .keys2)) (a .at) (a .c)
+returns-2 c x =
+    let a = c .before .args in
+    let matched = c .match in
+    uncharged _ (answerOf (a .step) [] x) (unasked (a .step) x (matched .keys2)) (a .at) (a .c)
 
 pub charged-spec : {M : Type 1} → statement M
 charged-spec = tie.close (tie.spec enum-known-step charge-requires returns returns-2)

@@ -13,10 +13,16 @@ after-access-requires : tie.Need-after-access-requires
 after-access-requires c κs = search needs
 
 returns : tie.Need-returns
-returns c x d = simp (c .before .before .before .step .given .1) (c .after-access .ensures)
+returns c x d =
+    let step = c .before .before .before .step in
+    let after-access = c .after-access in
+    simp (step .given .1) (after-access .ensures)
 
 returns-2 : tie.Need-returns-2
-returns-2 c x d = let a = c .before .args in unmoved _ (answerOf (a .step) [] x) (unasked (a .step) x (c .match .keys2)) (a .driver) going d
+returns-2 c x d =
+    let a = c .before .args in
+    let matched = c .match in
+    unmoved _ (answerOf (a .step) [] x) (unasked (a .step) x (matched .keys2)) (a .driver) going d
 
 pub gone-on-spec : {M : Type 1} → statement M
 gone-on-spec = tie.close (tie.spec enum-known-step after-access-requires returns returns-2)

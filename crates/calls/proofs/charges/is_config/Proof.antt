@@ -9,7 +9,9 @@ number-requires : tie.Need-number-requires
 number-requires c κs = search needs
 
 returns : tie.Need-returns
-returns c = simp (← c .number .ensures)
+returns c =
+    let number = c .number in
+    simp (← number .ensures)
 
 pub is-config-spec : {M : Type 1} → statement M
 is-config-spec = tie.close (tie.spec number-requires returns)

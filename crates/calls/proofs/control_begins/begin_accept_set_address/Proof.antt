@@ -11,16 +11,29 @@ accept-set-address-requires : tie.Need-accept-set-address-requires
 accept-set-address-requires c κs = search needs
 
 begun-control-requires : tie.Need-begun-control-requires
-begun-control-requires c κs = let at = c .before .before .before in idled _ _ (c .before .accept-set-address .ensures .1) (at .before .is-idle .ensures)
-    (at .if1 .taken)
+begun-control-requires c κs =
+    let at-then1 = c .before .before .before in
+    let accept-set-address = c .before .accept-set-address in
+    idled _ _ (accept-set-address .ensures .1) (at-then1 .before .is-idle .ensures) (at-then1 .if1 .taken)
 
 returns : tie.Need-returns
-returns c = other-begun (calls.BeginAcceptSetAddress (c .before .before .before .before .before .before .before .args .address)) _
-    (c .before .before .before .before .before .is-idle .ensures) (c .begun-control .result) _ _ (c .before .before .before .before .if1 .taken)
-    (c .before .before .accept-set-address .ensures) (c .begun-control .ensures)
+returns c =
+    let start = c .before .before .before .before .before .before .before in
+    let is-idle = c .before .before .before .before .before .is-idle in
+    let if1 = c .before .before .before .before .if1 in
+    let accept-set-address = c .before .before .accept-set-address in
+    let begun-control = c .begun-control in
+    other-begun (calls.BeginAcceptSetAddress (start .args .address)) _
+    (is-idle .ensures) (begun-control .result) _ _ (if1 .taken)
+    (accept-set-address .ensures) (begun-control .ensures)
 
 returns-2 : tie.Need-returns-2
-returns-2 c = other-busy (calls.BeginAcceptSetAddress (c .before .before .before .args .address)) _ (c .before .is-idle .ensures) (c .if1 .left)
+returns-2 c =
+    let start = c .before .before .before in
+    let is-idle = c .before .is-idle in
+    let if1 = c .if1 in
+    other-busy (calls.BeginAcceptSetAddress (start .args .address)) _ (is-idle .ensures) (if1 .left)
 
 pub begin-accept-set-address-spec : {M : Type 1} → statement M
-begin-accept-set-address-spec = tie.close (tie.spec is-idle-requires accept-set-address-requires begun-control-requires returns returns-2)
+begin-accept-set-address-spec = tie.close (tie.spec is-idle-requires accept-set-address-requires begun-control-requires
+    returns returns-2)

@@ -11,16 +11,27 @@ data-out-requires : tie.Need-data-out-requires
 data-out-requires c κs = search needs
 
 begun-control-requires : tie.Need-begun-control-requires
-begun-control-requires c κs = let at = c .before .before .before in idled _ _ (c .before .data-out .ensures .1) (at .before .is-idle .ensures) (at .if1 .taken)
+begun-control-requires c κs =
+    let at-then1 = c .before .before .before in
+    let data-out = c .before .data-out in
+    idled _ _ (data-out .ensures .1) (at-then1 .before .is-idle .ensures) (at-then1 .if1 .taken)
 
 returns : tie.Need-returns
-returns c = other-begun (calls.BeginDataOut (c .before .before .before .before .before .before .before .args .n)
-    (c .before .before .before .before .before .before .before .args .first)) _ (c .before .before .before .before .before .is-idle .ensures)
-    (c .begun-control .result) _ _ (c .before .before .before .before .if1 .taken) (c .before .before .data-out .ensures) (c .begun-control .ensures)
+returns c =
+    let start = c .before .before .before .before .before .before .before in
+    let is-idle = c .before .before .before .before .before .is-idle in
+    let if1 = c .before .before .before .before .if1 in
+    let data-out = c .before .before .data-out in
+    let begun-control = c .begun-control in
+    other-begun (calls.BeginDataOut (start .args .n) (start .args .first)) _ (is-idle .ensures)
+    (begun-control .result) _ _ (if1 .taken) (data-out .ensures) (begun-control .ensures)
 
 returns-2 : tie.Need-returns-2
-returns-2 c = other-busy (calls.BeginDataOut (c .before .before .before .args .n) (c .before .before .before .args .first)) _ (c .before .is-idle .ensures)
-    (c .if1 .left)
+returns-2 c =
+    let start = c .before .before .before in
+    let is-idle = c .before .is-idle in
+    let if1 = c .if1 in
+    other-busy (calls.BeginDataOut (start .args .n) (start .args .first)) _ (is-idle .ensures) (if1 .left)
 
 pub begin-data-out-spec : {M : Type 1} → statement M
 begin-data-out-spec = tie.close (tie.spec is-idle-requires data-out-requires begun-control-requires returns returns-2)

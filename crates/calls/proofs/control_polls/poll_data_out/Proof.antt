@@ -16,31 +16,46 @@ poll-data-out-requires : tie.Need-poll-data-out-requires
 poll-data-out-requires c κs = search needs
 
 polled-control-requires : tie.Need-polled-control-requires
-polled-control-requires c κs = idled _ _ (c .before .before .before .poll-data-out .ensures .1 .1)
-    (c .before .before .before .before .before .before .before .is-idle .ensures) (c .before .before .before .before .before .before .if2 .taken)
+polled-control-requires c κs =
+    let is-idle = c .before .before .before .before .before .before .before .is-idle in
+    let if2 = c .before .before .before .before .before .before .if2 in
+    let poll-data-out = c .before .before .before .poll-data-out in
+    idled _ _ (poll-data-out .ensures .1 .1) (is-idle .ensures) (if2 .taken)
 
 same-length : tie.Need-same-length
 same-length c = search needs
 
 returns : tie.Need-returns
 returns c =
-    let start = c .before .before .before .before .before .before .before .before .before .before .before .before .before .before .before .args in
+    let start = c .before .before .before .before .before .before .before .before .before .before .before .before
+    .before .before .before .args in
+    let slots-fit = c .before .before .before .before .before .before .before .before .before .before .before
+    .slots-fit in
+    let if1 = c .before .before .before .before .before .before .before .before .before .before .if1 in
+    let is-idle = c .before .before .before .before .before .before .before .before .is-idle in
+    let if2 = c .before .before .before .before .before .before .before .if2 in
     let polled = c .before .before .before .before .poll-data-out in
-    polled-done (calls.PollDataOut (length (start .out .now))) _ _
-    (c .before .before .before .before .before .before .before .before .before .before .before .slots-fit .ensures)
-    (c .before .before .before .before .before .before .before .before .before .before .if1 .taken)
-    (c .before .before .before .before .before .before .before .before .is-idle .ensures)
-    (c .before .before .before .before .before .before .before .if2 .taken) (c .polled-control .result) _ _ (polled .ensures .0)
-    (kept-from (c .polled-control .result) _ _ _ (polled .ensures .1 .1 .0) (c .polled-control .ensures .1)) _ _ (polled .ensures .1 .0)
-    (c .polled-control .ensures .0 _ _)
+    let polled-control = c .polled-control in
+    polled-done (calls.PollDataOut (length (start .out .now))) _ _ (slots-fit .ensures) (if1 .taken)
+    (is-idle .ensures) (if2 .taken) (polled-control .result) _ _ (polled .ensures .0)
+    (kept-from (polled-control .result) _ _ _ (polled .ensures .1 .1 .0) (polled-control .ensures .1)) _ _
+    (polled .ensures .1 .0)
+    (polled-control .ensures .0 _ _)
 
 returns-2 : tie.Need-returns-2
-returns-2 c = let fit = c .before .before .before in
-    polled-busy _ _ _ (fit .before .slots-fit .ensures) (fit .if1 .taken) (c .before .is-idle .ensures) (c .if2 .left) _
+returns-2 c =
+    let at-then1 = c .before .before .before in
+    let is-idle = c .before .is-idle in
+    let if2 = c .if2 in
+    polled-busy _ _ _ (at-then1 .before .slots-fit .ensures) (at-then1 .if1 .taken) (is-idle .ensures) (if2 .left) _
 
 returns-3 : tie.Need-returns-3
-returns-3 c = polled-misfit _ _ _ (c .before .slots-fit .ensures) (c .if1 .left) _
+returns-3 c =
+    let slots-fit = c .before .slots-fit in
+    let if1 = c .if1 in
+    polled-misfit _ _ _ (slots-fit .ensures) (if1 .left) _
 
 pub poll-data-out-spec : {M : Type 1} → statement M
 poll-data-out-spec =
-    tie.close (tie.spec slots-fit-requires is-idle-requires poll-data-out-requires polled-control-requires same-length returns returns-2 returns-3)
+    tie.close (tie.spec slots-fit-requires is-idle-requires poll-data-out-requires polled-control-requires same-length
+    returns returns-2 returns-3)

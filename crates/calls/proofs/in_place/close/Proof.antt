@@ -24,25 +24,28 @@ told-requires : tie.Need-told-requires
 told-requires c κs = search needs
 
 returns : tie.Need-returns
-returns c = (
-  λ a b. back
-      (aside-call (calls.Close (c .before .before .before .before .before .before .args .e))
-      (decode (saved (now (c .before .before .before .before .before .before .args .s))))
-      (view (now (c .before .before .before .before .before .before .args .s))) a b)
-      (told-beside _ _ (view (now (c .before .before .before .before .before .before .args .s))) b _ _ _ (c .told .result)
-      (c .before .iso-out-take-close .result) (c .told .ensures .0) (c .before .iso-out-take-close .ensures .1)
-      (sym (c .before .before .before .before .may-pass .ensures)
-      ∙ c .before .before .before .if1 .taken) (c .before .iso-out-take-close .ensures .0 b)),
-  c .before .iso-out-take-close .ensures .1,
-)
+returns c =
+    let start = c .before .before .before .before .before .before in
+    let may-pass = c .before .before .before .before .may-pass in
+    let if1 = c .before .before .before .if1 in
+    let iso-out-take-close = c .before .iso-out-take-close in
+    let told = c .told in (
+      λ a b. back (aside-call (calls.Close (start .args .e)) (decode (saved (now (start .args .s))))
+          (view (now (start .args .s))) a b) (told-beside _ _ (view (now (start .args .s))) b _ _ _ (told .result)
+          (iso-out-take-close .result) (told .ensures .0) (iso-out-take-close .ensures .1) (sym (may-pass .ensures)
+          ∙ if1 .taken) (iso-out-take-close .ensures .0 b)),
+      iso-out-take-close .ensures .1,
+    )
 
 returns-2 : tie.Need-returns-2
-returns-2 c = (
-  λ a b. back
-      (aside-call (calls.Close (c .before .before .before .args .e)) (decode (saved (now (c .before .before .before .args .s))))
-      (view (now (c .before .before .before .args .s))) a b) (simp (← c .before .may-pass .ensures, c .if1 .left)),
-  refl,
-)
+returns-2 c =
+    let start = c .before .before .before in
+    let may-pass = c .before .may-pass in
+    let if1 = c .if1 in (
+      λ a b. back (aside-call (calls.Close (start .args .e)) (decode (saved (now (start .args .s))))
+          (view (now (start .args .s))) a b) (simp (← may-pass .ensures, if1 .left)),
+      refl,
+    )
 
 pub close-spec : {M : Type 1} → statement M
 close-spec = tie.close (tie.spec may-pass-requires iso-out-take-close-requires told-requires returns returns-2)

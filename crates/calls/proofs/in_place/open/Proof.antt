@@ -28,45 +28,52 @@ told-requires : tie.Need-told-requires
 told-requires c κs = search needs
 
 returns : tie.Need-returns
-returns c = (
-  λ a. back
-      (aside-call (calls.Open (c .before .before .before .before .before .before .before .before .before .before .args .e))
-      (decode (saved (now (c .before .before .before .before .before .before .before .before .before .before .args .s))))
-      (view (now (c .before .before .before .before .before .before .before .before .before .before .args .s))) a
-      (now (c .before .before .before .before .before .before .before .before .before .before .args .slots))) (simp (
-        ← c .before .before .before .before .before .before .before .slots-fit .ensures,
-        c .before .before .before .before .before .before .if1 .taken,
-      ) (told-beside _ _ (view (now (c .before .before .before .before .before .before .before .before .before .before .args .s)))
-      (now (c .before .before .before .before .before .before .before .before .before .before .args .slots)) _ _ _
-      (c .told .result) (c .before .iso-out-take .result) (c .told .ensures .0) (c .before .iso-out-take .ensures .1 .0)
-      (sym (c .before .before .before .before .may-pass .ensures)
-      ∙ c .before .before .before .if2 .taken) (c .before .iso-out-take .ensures .0))),
-  (c .told .ensures .1 _ _ (c .before .iso-out-take .ensures .1 .1), c .before .iso-out-take .ensures .1 .0),
-)
+returns c =
+    let start = c .before .before .before .before .before .before .before .before .before .before in
+    let slots-fit = c .before .before .before .before .before .before .before .slots-fit in
+    let if1 = c .before .before .before .before .before .before .if1 in
+    let may-pass = c .before .before .before .before .may-pass in
+    let if2 = c .before .before .before .if2 in
+    let iso-out-take = c .before .iso-out-take in
+    let told = c .told in (
+      λ a. back (aside-call (calls.Open (start .args .e)) (decode (saved (now (start .args .s))))
+          (view (now (start .args .s))) a (now (start .args .slots))) (simp (
+            ← slots-fit .ensures,
+            if1 .taken,
+          ) (told-beside _ _ (view (now (start .args .s))) (now (start .args .slots)) _ _ _
+          (told .result) (iso-out-take .result) (told .ensures .0) (iso-out-take .ensures .1 .0)
+          (sym (may-pass .ensures) ∙ if2 .taken) (iso-out-take .ensures .0))),
+      (told .ensures .1 _ _ (iso-out-take .ensures .1 .1), iso-out-take .ensures .1 .0),
+    )
 
 returns-2 : tie.Need-returns-2
-returns-2 c = (
-  λ a. back
-      (aside-call (calls.Open (c .before .before .before .before .before .before .before .args .e))
-      (decode (saved (now (c .before .before .before .before .before .before .before .args .s))))
-      (view (now (c .before .before .before .before .before .before .before .args .s))) a
-      (now (c .before .before .before .before .before .before .before .args .slots))) (simp (
-        ← c .before .before .before .before .slots-fit .ensures,
-        c .before .before .before .if1 .taken,
-        ← c .before .may-pass .ensures,
-        c .if2 .left,
-      )),
-  (tt, refl),
-)
+returns-2 c =
+    let start = c .before .before .before .before .before .before .before in
+    let slots-fit = c .before .before .before .before .slots-fit in
+    let if1 = c .before .before .before .if1 in
+    let may-pass = c .before .may-pass in
+    let if2 = c .if2 in (
+      λ a. back (aside-call (calls.Open (start .args .e)) (decode (saved (now (start .args .s))))
+          (view (now (start .args .s))) a (now (start .args .slots))) (simp (
+            ← slots-fit .ensures,
+            if1 .taken,
+            ← may-pass .ensures,
+            if2 .left,
+          )),
+      (tt, refl),
+    )
 
 returns-3 : tie.Need-returns-3
-returns-3 c = (
-  λ a. back
-      (aside-call (calls.Open (c .before .before .before .before .args .e))
-      (decode (saved (now (c .before .before .before .before .args .s)))) (view (now (c .before .before .before .before .args .s))) a
-      (now (c .before .before .before .before .args .slots))) (simp (← c .before .slots-fit .ensures, c .if1 .left)),
-  (tt, refl),
-)
+returns-3 c =
+    let start = c .before .before .before .before in
+    let slots-fit = c .before .slots-fit in
+    let if1 = c .if1 in (
+      λ a. back (aside-call (calls.Open (start .args .e))
+          (decode (saved (now (start .args .s)))) (view (now (start .args .s))) a
+          (now (start .args .slots))) (simp (← slots-fit .ensures, if1 .left)),
+      (tt, refl),
+    )
 
 pub open-spec : {M : Type 1} → statement M
-open-spec = tie.close (tie.spec slots-fit-requires may-pass-requires iso-out-take-requires told-requires returns returns-2 returns-3)
+open-spec = tie.close (tie.spec slots-fit-requires may-pass-requires iso-out-take-requires told-requires returns
+    returns-2 returns-3)

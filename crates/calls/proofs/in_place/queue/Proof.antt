@@ -32,65 +32,65 @@ same-length : tie.Need-same-length
 same-length c = search needs
 
 returns : tie.Need-returns
-returns c = (
-  λ a. back
-      (aside-call (calls.Queue
-      (c .before .before .before .before .before .before .before .before .before .before .before .before .before .before .before .args .e)
-      (now (c .before .before .before .before .before .before .before .before .before .before .before .before .before .before .before .args .bytes)))
-      (decode
-      (saved (now (c .before .before .before .before .before .before .before .before .before .before .before .before .before .before .before .args .s))))
-      (view (now (c .before .before .before .before .before .before .before .before .before .before .before .before .before .before .before .args .s))) a
-      (now (c .before .before .before .before .before .before .before .before .before .before .before .before .before .before .before .args .slots))) (simp (
-        ← c .before .before .before .before .before .before .before .before .before .before .slots-fit .ensures,
-        c .before .before .before .before .before .before .before .before .before .if1 .taken,
-      ) (told-beside _ _
-      (view (now (c .before .before .before .before .before .before .before .before .before .before .before .before .before .before .before .args .s)))
-      (now (c .before .before .before .before .before .before .before .before .before .before .before .before .before .before .before .args .slots)) _ _ _
-      (c .told .result) (c .before .before .before .iso-in-prime .result) (c .told .ensures .0) (c .before .before .before .iso-in-prime .ensures .1)
-      (sym (c .before .before .before .before .before .before .before .may-pass .ensures)
-      ∙ c .before .before .before .before .before .before .if2 .taken) (c .before .before .before .iso-in-prime .ensures .0))),
-  (
-    as-lent _ _ _
-        (sym (c .before .before .before .before .before .before .before .before .before .before .slots-fit .ensures)
-        ∙ c .before .before .before .before .before .before .before .before .before .if1 .taken),
-    c .before .before .before .iso-in-prime .ensures .1,
-  ),
-)
+returns c =
+    let start = c .before .before .before .before .before .before .before .before .before .before .before .before
+    .before .before .before in
+    let slots-fit = c .before .before .before .before .before .before .before .before .before .before .slots-fit in
+    let if1 = c .before .before .before .before .before .before .before .before .before .if1 in
+    let may-pass = c .before .before .before .before .before .before .before .may-pass in
+    let if2 = c .before .before .before .before .before .before .if2 in
+    let iso-in-prime = c .before .before .before .iso-in-prime in
+    let told = c .told in (
+      λ a. back (aside-call (calls.Queue (start .args .e) (now (start .args .bytes))) (decode
+          (saved (now (start .args .s)))) (view (now (start .args .s))) a (now (start .args .slots))) (simp (
+            ← slots-fit .ensures,
+            if1 .taken,
+          ) (told-beside _ _ (view (now (start .args .s))) (now (start .args .slots)) _ _ _
+          (told .result) (iso-in-prime .result) (told .ensures .0) (iso-in-prime .ensures .1)
+          (sym (may-pass .ensures) ∙ if2 .taken) (iso-in-prime .ensures .0))),
+      (
+        as-lent _ _ _ (sym (slots-fit .ensures) ∙ if1 .taken),
+        iso-in-prime .ensures .1,
+      ),
+    )
 
 same-length-2 : tie.Need-same-length-2
 same-length-2 c = search needs
 
 returns-2 : tie.Need-returns-2
-returns-2 c = (
-  λ a. back
-      (aside-call (calls.Queue (c .before .before .before .before .before .before .before .before .before .args .e)
-      (now (c .before .before .before .before .before .before .before .before .before .args .bytes)))
-      (decode (saved (now (c .before .before .before .before .before .before .before .before .before .args .s))))
-      (view (now (c .before .before .before .before .before .before .before .before .before .args .s))) a
-      (now (c .before .before .before .before .before .before .before .before .before .args .slots))) (simp (
-        ← c .before .before .before .before .slots-fit .ensures,
-        c .before .before .before .if1 .taken,
-        ← c .before .may-pass .ensures,
-        c .if2 .left,
-      )),
-  (as-lent _ _ _ (sym (c .before .before .before .before .slots-fit .ensures) ∙ c .before .before .before .if1 .taken), refl),
-)
+returns-2 c =
+    let start = c .before .before .before .before .before .before .before .before .before in
+    let slots-fit = c .before .before .before .before .slots-fit in
+    let if1 = c .before .before .before .if1 in
+    let may-pass = c .before .may-pass in
+    let if2 = c .if2 in (
+      λ a. back (aside-call (calls.Queue (start .args .e) (now (start .args .bytes)))
+          (decode (saved (now (start .args .s)))) (view (now (start .args .s))) a
+          (now (start .args .slots))) (simp (
+            ← slots-fit .ensures,
+            if1 .taken,
+            ← may-pass .ensures,
+            if2 .left,
+          )),
+      (as-lent _ _ _ (sym (slots-fit .ensures) ∙ if1 .taken), refl),
+    )
 
 same-length-3 : tie.Need-same-length-3
 same-length-3 c = search needs
 
 returns-3 : tie.Need-returns-3
-returns-3 c = (
-  λ a. back
-      (aside-call
-      (calls.Queue (c .before .before .before .before .before .before .args .e) (now (c .before .before .before .before .before .before .args .bytes)))
-      (decode (saved (now (c .before .before .before .before .before .before .args .s))))
-      (view (now (c .before .before .before .before .before .before .args .s))) a
-      (now (c .before .before .before .before .before .before .args .slots))) (simp (← c .before .slots-fit .ensures, c .if1 .left)),
-  (λ h. refl, refl),
-)
+returns-3 c =
+    let start = c .before .before .before .before .before .before in
+    let slots-fit = c .before .slots-fit in
+    let if1 = c .if1 in (
+      λ a. back (aside-call (calls.Queue (start .args .e) (now (start .args .bytes)))
+          (decode (saved (now (start .args .s)))) (view (now (start .args .s))) a
+          (now (start .args .slots))) (simp (← slots-fit .ensures, if1 .left)),
+      (λ h. refl, refl),
+    )
 
 pub queue-spec : {M : Type 1} → statement M
 queue-spec =
-    tie.close (tie.spec slots-fit-requires may-pass-requires iso-in-prime-requires told-requires same-length returns same-length-2 returns-2
+    tie.close (tie.spec slots-fit-requires may-pass-requires iso-in-prime-requires told-requires same-length returns
+    same-length-2 returns-2
     same-length-3 returns-3)

@@ -35,29 +35,41 @@ announce-all-requires : tie.Need-announce-all-requires
 announce-all-requires c κs = search needs
 
 suspend-or-end-requires : tie.Need-suspend-or-end-requires
-suspend-or-end-requires c κs = c .announce-all .ensures .1
+suspend-or-end-requires c κs =
+    let announce-all = c .announce-all in
+    announce-all .ensures .1
 
 returns : tie.Need-returns
 returns c =
-    let k = c .before .before .before .before .before .before .before .before .before in
-    let a = k .before .before .before .args in
+    let at-try-all = c .before .before .before .before .before .before .before .before .before in
+    let if1 = c .before .before .before .before .before .before .before .before .if1 in
+    let allocate-each = c .before .before .before .before .before .before .allocate-each in
+    let clear-wakes = c .before .before .before .before .clear-wakes in
+    let announce-all = c .before .announce-all in
+    let suspend-or-end = c .suspend-or-end in
+    let a = at-try-all .before .before .before .args in
     let t = ap (λ (x : Trial). x .refusal)
-    (k .try-all .ensures ∙ ap (λ (x : Allocator). trialOf x (stored (a .list))) (k .before .load-allocator .ensures)) in (
-      λ b. c .suspend-or-end .ensures .0 b ∙ all-given (stored (a .list)) (view (now (a .s))) b _ t _ _ _
-          (c .before .before .before .before .before .before .before .before .if1 .taken)
-          (c .before .announce-all .ensures .0 b) (c .before .before .before .before .clear-wakes .ensures .0)
-          (c .before .before .before .before .before .before .allocate-each .ensures .0),
-      c .suspend-or-end .ensures .1 _,
+    (at-try-all .try-all .ensures ∙ ap (λ (x : Allocator). trialOf x (stored (a .list)))
+    (at-try-all .before .load-allocator .ensures)) in (
+      λ b. suspend-or-end .ensures .0 b ∙ all-given (stored (a .list)) (view (now (a .s))) b _ t _ _ _
+          (if1 .taken) (announce-all .ensures .0 b) (clear-wakes .ensures .0) (allocate-each .ensures .0),
+      suspend-or-end .ensures .1 _,
     )
 
 returns-2 : tie.Need-returns-2
 returns-2 c =
-    let k = c .before in
-    let a = k .before .before .before .args in
-    let t = ap (λ (x : Trial). x .refusal) (k .try-all .ensures ∙ ap (λ (x : Allocator). trialOf x (stored (a .list))) (k .before .load-allocator .ensures)) in
-    (λ b. all-refused (stored (a .list)) (view (now (a .s))) b _ t (decode (saved (now (a .s)))) (k .before .before .before .pre) (c .if1 .left), refl)
+    let at-try-all = c .before in
+    let if1 = c .if1 in
+    let a = at-try-all .before .before .before .args in
+    let t = ap (λ (x : Trial). x .refusal) (at-try-all .try-all .ensures
+    ∙ ap (λ (x : Allocator). trialOf x (stored (a .list))) (at-try-all .before .load-allocator .ensures)) in (
+      λ b. all-refused (stored (a .list)) (view (now (a .s))) b _ t (decode (saved (now (a .s))))
+          (at-try-all .before .before .before .pre) (if1 .left),
+      refl,
+    )
 
 pub allocate-listed-spec : {M : Type 1} → statement M
 allocate-listed-spec =
-    tie.close (tie.spec load-allocator-requires try-all-requires allocate-each-requires clear-wakes-requires announce-all-requires
+    tie.close (tie.spec load-allocator-requires try-all-requires allocate-each-requires clear-wakes-requires
+    announce-all-requires
     suspend-or-end-requires returns returns-2)

@@ -11,11 +11,17 @@ is-on-requires c κs = search needs
 
 returns : tie.Need-returns
 unfolding overrunsOf
-returns c = simp (← c .before .is-on .ensures, c .if1 .taken)
+returns c =
+    let is-on = c .before .is-on in
+    let if1 = c .if1 in
+    simp (← is-on .ensures, if1 .taken)
 
 returns-2 : tie.Need-returns-2
 unfolding overrunsOf
-returns-2 c = simp (← c .before .is-on .ensures, c .if1 .left)
+returns-2 c =
+    let is-on = c .before .is-on in
+    let if1 = c .if1 in
+    simp (← is-on .ensures, if1 .left)
 
 pub iso-out-overruns-spec : {M : Type 1} → statement M
 iso-out-overruns-spec = tie.close (tie.spec is-on-requires returns returns-2)

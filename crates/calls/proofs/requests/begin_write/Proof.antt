@@ -15,37 +15,50 @@ begin-write-requires : tie.Need-begin-write-requires
 begin-write-requires c κs = search needs
 
 begun-endpoint-requires : tie.Need-begun-endpoint-requires
-begun-endpoint-requires c κs = idled _ _ (c .before .before .before .begin-write .ensures .1)
-    (c .before .before .before .before .before .before .before .is-idle .ensures) (c .before .before .before .before .before .before .if2 .taken)
+begun-endpoint-requires c κs =
+    let is-idle = c .before .before .before .before .before .before .before .is-idle in
+    let if2 = c .before .before .before .before .before .before .if2 in
+    let begin-write = c .before .before .before .begin-write in
+    idled _ _ (begin-write .ensures .1) (is-idle .ensures) (if2 .taken)
 
 same-length : tie.Need-same-length
 same-length c = search needs
 
 returns : tie.Need-returns
 returns c =
-    let start = c .before .before .before .before .before .before .before .before .before .before .before .before .before .before .before .before .args in
+    let start = c .before .before .before .before .before .before .before .before .before .before .before .before
+    .before .before .before .before .args in
+    let at-then2 = c .before .before .before .before .before .before .before in
     let begun = c .before .before .before .before .begin-write in
-    let idle = c .before .before .before .before .before .before .before in
-    let fit = idle .before .before .before in
-    slotted-done (calls.BeginWrite (start .e) (start .bytes .now)) _ _ (fit .before .slots-fit .ensures) (fit .if1 .taken) (idle .before .is-idle .ensures)
-    (idle .if2 .taken)
-    (c .begun-endpoint .result) _ _ (begun .ensures .0)
-    (kept-from (c .begun-endpoint .result) _ _ _ (begun .ensures .1 .0) (c .begun-endpoint .ensures .1)) _ (c .begun-endpoint .ensures .0 _)
+    let begun-endpoint = c .begun-endpoint in
+    let fit = at-then2 .before .before .before in
+    slotted-done (calls.BeginWrite (start .e) (start .bytes .now)) _ _ (fit .before .slots-fit .ensures)
+    (fit .if1 .taken) (at-then2 .before .is-idle .ensures)
+    (at-then2 .if2 .taken) (begun-endpoint .result) _ _ (begun .ensures .0)
+    (kept-from (begun-endpoint .result) _ _ _ (begun .ensures .1 .0) (begun-endpoint .ensures .1)) _
+    (begun-endpoint .ensures .0 _)
 
 same-length-2 : tie.Need-same-length-2
 same-length-2 c = search needs
 
 returns-2 : tie.Need-returns-2
-returns-2 c = let fit = c .before .before .before in
-    slotted-busy _ _ _ (fit .before .slots-fit .ensures) (fit .if1 .taken) (c .before .is-idle .ensures) (c .if2 .left)
+returns-2 c =
+    let at-then1 = c .before .before .before in
+    let is-idle = c .before .is-idle in
+    let if2 = c .if2 in
+    slotted-busy _ _ _ (at-then1 .before .slots-fit .ensures) (at-then1 .if1 .taken) (is-idle .ensures) (if2 .left)
 
 same-length-3 : tie.Need-same-length-3
 same-length-3 c = search needs
 
 returns-3 : tie.Need-returns-3
-returns-3 c = slotted-misfit _ _ _ (c .before .slots-fit .ensures) (c .if1 .left)
+returns-3 c =
+    let slots-fit = c .before .slots-fit in
+    let if1 = c .if1 in
+    slotted-misfit _ _ _ (slots-fit .ensures) (if1 .left)
 
 pub begin-write-spec : {M : Type 1} → statement M
 begin-write-spec =
-    tie.close (tie.spec slots-fit-requires is-idle-requires begin-write-requires begun-endpoint-requires same-length returns same-length-2 returns-2
+    tie.close (tie.spec slots-fit-requires is-idle-requires begin-write-requires begun-endpoint-requires same-length
+    returns same-length-2 returns-2
     same-length-3 returns-3)

@@ -22,24 +22,33 @@ same-length c = search needs
 
 returns : tie.Need-returns
 returns c =
-    let start = c .before .before .before .before .before .before .before .before .before .before .before .before .before .before .args in
+    let start = c .before .before .before .before .before .before .before .before .before .before .before .before
+    .before .before .args in
+    let slots-fit = c .before .before .before .before .before .before .before .before .before .before .slots-fit in
+    let if1 = c .before .before .before .before .before .before .before .before .before .if1 in
+    let is-idle = c .before .before .before .before .before .before .before .is-idle in
+    let if2 = c .before .before .before .before .before .before .if2 in
     let polled = c .before .before .before .poll-read in
-    polled-done (calls.PollRead (start .e) (length (start .out .now))) _ _
-    (c .before .before .before .before .before .before .before .before .before .before .slots-fit .ensures)
-    (c .before .before .before .before .before .before .before .before .before .if1 .taken)
-    (c .before .before .before .before .before .before .before .is-idle .ensures) (c .before .before .before .before .before .before .if2 .taken)
-    (c .polled-endpoint .result) _ _ (polled .ensures .0)
-    (c .polled-endpoint .ensures .1 _ _ (polled .ensures .1 .1)) _ _ (polled .ensures .1 .0)
-    (c .polled-endpoint .ensures .0 _ _ _ _
-    (idled {L = Unit {0}} _ _ (polled .ensures .1 .1, tt) (c .before .before .before .before .before .before .before .is-idle .ensures)
-    (c .before .before .before .before .before .before .if2 .taken) .1))
+    let polled-endpoint = c .polled-endpoint in
+    polled-done (calls.PollRead (start .e) (length (start .out .now))) _ _ (slots-fit .ensures) (if1 .taken)
+    (is-idle .ensures) (if2 .taken) (polled-endpoint .result) _ _ (polled .ensures .0)
+    (polled-endpoint .ensures .1 _ _ (polled .ensures .1 .1)) _ _ (polled .ensures .1 .0)
+    (polled-endpoint .ensures .0 _ _ _ _
+    (idled {L = Unit {0}} _ _ (polled .ensures .1 .1, tt) (is-idle .ensures) (if2 .taken) .1))
 
 returns-2 : tie.Need-returns-2
-returns-2 c = let fit = c .before .before .before in
-    polled-busy _ _ _ (fit .before .slots-fit .ensures) (fit .if1 .taken) (c .before .is-idle .ensures) (c .if2 .left) _
+returns-2 c =
+    let at-then1 = c .before .before .before in
+    let is-idle = c .before .is-idle in
+    let if2 = c .if2 in
+    polled-busy _ _ _ (at-then1 .before .slots-fit .ensures) (at-then1 .if1 .taken) (is-idle .ensures) (if2 .left) _
 
 returns-3 : tie.Need-returns-3
-returns-3 c = polled-misfit _ _ _ (c .before .slots-fit .ensures) (c .if1 .left) _
+returns-3 c =
+    let slots-fit = c .before .slots-fit in
+    let if1 = c .if1 in
+    polled-misfit _ _ _ (slots-fit .ensures) (if1 .left) _
 
 pub poll-read-spec : {M : Type 1} → statement M
-poll-read-spec = tie.close (tie.spec slots-fit-requires is-idle-requires poll-read-requires polled-endpoint-requires same-length returns returns-2 returns-3)
+poll-read-spec = tie.close (tie.spec slots-fit-requires is-idle-requires poll-read-requires polled-endpoint-requires
+    same-length returns returns-2 returns-3)

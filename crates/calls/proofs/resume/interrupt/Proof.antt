@@ -29,9 +29,11 @@ same-length c = search needs
 
 returns : tie.Need-returns
 returns c =
-    let fit = sym (c .before .before .before .before .before .before .slots-fit .ensures) ∙ c .before .before .before .before .before .if1 .taken in
+    let fit = sym (c .before .before .before .before .before .before .slots-fit .ensures)
+    ∙ c .before .before .before .before .before .if1 .taken in
     let went = c .before .before .resume-interrupt .ensures in
-    let lifted = lifts (c .before .before .before .before .before .before .before .before .before .before .pre) (went .resumes) in
+    let lifted = lifts (c .before .before .before .before .before .before .before .before .before .before .pre)
+    (went .resumes) in
     (λ a. slots-fitted a lifted fit, (as-lent _ _ _ fit, (went .worded, lifted .kept)))
 
 same-length-2 : tie.Need-same-length-2
@@ -41,8 +43,10 @@ returns-2 : tie.Need-returns-2
 unfolding stepOf
 returns-2 c = (
   λ a. back
-      (proceeds (c .before .before .before .before .before .args .v) (decode (saved (now (c .before .before .before .before .before .args .s))))
-      (view (now (c .before .before .before .before .before .args .s))) a (now (c .before .before .before .before .before .args .slots)))
+      (proceeds (c .before .before .before .before .before .args .v)
+      (decode (saved (now (c .before .before .before .before .before .args .s))))
+      (view (now (c .before .before .before .before .before .args .s))) a
+      (now (c .before .before .before .before .before .args .slots)))
       (simp (← c .before .slots-fit .ensures, c .if1 .left)),
   (λ h. refl, (refused-sound 1 (omega arith), refl)),
 )

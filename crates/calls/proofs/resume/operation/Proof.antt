@@ -25,20 +25,24 @@ same-length c = search needs
 
 returns : tie.Need-returns
 returns c =
-    let fit = sym (c .before .before .before .before .before .before .slots-fit .ensures) ∙ c .before .before .before .before .before .if1 .taken in
-    (λ a. slots-fitted a (c .before .before .resume-at .ensures) fit, (as-lent _ _ _ fit, c .before .before .resume-at .ensures .kept))
+    let slots-fit = c .before .before .before .before .before .before .slots-fit in
+    let if1 = c .before .before .before .before .before .if1 in
+    let resume-at = c .before .before .resume-at in
+    let fit = sym (slots-fit .ensures) ∙ if1 .taken in
+    (λ a. slots-fitted a (resume-at .ensures) fit, (as-lent _ _ _ fit, resume-at .ensures .kept))
 
 same-length-2 : tie.Need-same-length-2
 same-length-2 c = search needs
 
 returns-2 : tie.Need-returns-2
-returns-2 c = (
-  λ a. back
-      (proceeds (c .before .before .before .before .before .args .v) (decode (saved (now (c .before .before .before .before .before .args .s))))
-      (view (now (c .before .before .before .before .before .args .s))) a (now (c .before .before .before .before .before .args .slots)))
-      (simp (← c .before .slots-fit .ensures, c .if1 .left)),
-  (λ h. refl, refl),
-)
+returns-2 c =
+    let start = c .before .before .before .before .before in
+    let slots-fit = c .before .slots-fit in
+    let if1 = c .if1 in (
+      λ a. back (proceeds (start .args .v) (decode (saved (now (start .args .s))))
+          (view (now (start .args .s))) a (now (start .args .slots))) (simp (← slots-fit .ensures, if1 .left)),
+      (λ h. refl, refl),
+    )
 
 pub operation-spec : {M : Type 1} → statement M
 operation-spec = tie.close (tie.spec slots-fit-requires resume-at-requires same-length returns same-length-2 returns-2)

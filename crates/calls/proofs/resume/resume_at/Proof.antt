@@ -33,7 +33,9 @@ resume-advance-requires : tie.Need-resume-advance-requires
 resume-advance-requires c κs = search needs
 
 returns : tie.Need-returns
-returns c = c .resume-driver .ensures _
+returns c =
+    let resume-driver = c .resume-driver in
+    resume-driver .ensures _
 
 same-length : tie.Need-same-length
 same-length c = search needs
@@ -42,23 +44,34 @@ returns-2 : tie.Need-returns-2
 returns-2 c = search needs
 
 returns-3 : tie.Need-returns-3
-returns-3 c = c .resume-control .ensures _
+returns-3 c =
+    let resume-control = c .resume-control in
+    resume-control .ensures _
 
 returns-4 : tie.Need-returns-4
-returns-4 c = c .resume-endpoint .ensures _
+returns-4 c =
+    let resume-endpoint = c .resume-endpoint in
+    resume-endpoint .ensures _
 
 returns-5 : tie.Need-returns-5
-returns-5 c = c .resume-advance .ensures _
+returns-5 c =
+    let resume-advance = c .resume-advance in
+    resume-advance .ensures _
 
 returns-6 : tie.Need-returns-6
-returns-6 c = record {
-  called = simp (at-none (saved (now (c .before .before .before .before .args .s))) _ (c .before .tag .ensures) (c .match .rest .0 .0 .0 .0 .1)
-      (c .match .rest .0 .0 .0 .1) (c .match .rest .0 .0 .1) (c .match .rest .0 .1) (c .match .rest .1)
-      (λ h. c .before .before .before .before .pre (sym (c .before .tag .ensures) ∙ h)));
-  kept = refl;
-}
+returns-6 c =
+    let start = c .before .before .before .before in
+    let tag = c .before .tag in
+    let matched = c .match in
+    record {
+      called = simp (at-none (saved (now (start .args .s))) _ (tag .ensures) (matched .rest .0 .0 .0 .0 .1)
+          (matched .rest .0 .0 .0 .1) (matched .rest .0 .0 .1) (matched .rest .0 .1) (matched .rest .1)
+          (λ h. start .pre (sym (tag .ensures) ∙ h)));
+      kept = refl;
+    }
 
 pub resume-at-spec : {M : Type 1} → statement M
 resume-at-spec =
-    tie.close (tie.spec tag-requires resume-driver-requires resume-bus-requires resume-control-requires resume-endpoint-requires
+    tie.close (tie.spec tag-requires resume-driver-requires resume-bus-requires resume-control-requires
+    resume-endpoint-requires
     resume-advance-requires returns same-length returns-2 returns-3 returns-4 returns-5 returns-6)

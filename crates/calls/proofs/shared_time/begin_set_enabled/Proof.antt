@@ -16,10 +16,12 @@ same-length : tie.Need-same-length
 same-length c = search needs
 
 returns : tie.Need-returns
-returns c = (
-  λ a. simp (c .before .before .before .before .before .before .if1 .taken) (c .before .before .enable .ensures .0 a),
-  c .before .before .enable .ensures .1,
-)
+returns c =
+    let if1 = c .before .before .before .before .before .before .if1 in
+    let enable = c .before .before .enable in (
+      λ a. simp (if1 .taken) (enable .ensures .0 a),
+      enable .ensures .1,
+    )
 
 begin-set-enabled-requires : tie.Need-begin-set-enabled-requires
 begin-set-enabled-requires c κs = search needs
@@ -29,11 +31,14 @@ same-length-2 c = search needs
 
 returns-2 : tie.Need-returns-2
 returns-2 c =
-    let x = c .before .before .before .before .before .before .before .args in (
+    let x = c .before .before .before .before .before .before .before .args in
+    let if1 = c .before .before .before .before .before .if1 in
+    let begin-set-enabled = c .before .before .begin-set-enabled in (
       λ a. disables (x .driver) (x .dir) (x .e) (x .on) (machineOf (now (x .s)) a) (now (x .time)) (now (x .slots)) _
-          (c .before .before .before .before .before .if1 .left) (c .before .before .begin-set-enabled .ensures .0 a),
-      c .before .before .begin-set-enabled .ensures .1,
+          (if1 .left) (begin-set-enabled .ensures .0 a),
+      begin-set-enabled .ensures .1,
     )
 
 pub begin-set-enabled-spec : {M : Type 1} → statement M
-begin-set-enabled-spec = tie.close (tie.spec enable-requires same-length returns begin-set-enabled-requires same-length-2 returns-2)
+begin-set-enabled-spec = tie.close (tie.spec enable-requires same-length returns begin-set-enabled-requires
+    same-length-2 returns-2)

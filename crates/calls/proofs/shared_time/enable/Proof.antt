@@ -34,12 +34,18 @@ same-length c = search needs
 
 returns : tie.Need-returns
 returns c =
-    let x = c .before .before .before .before .before .before .before .before .before .before .before .args in (
+    let x = c .before .before .before .before .before .before .before .before .before .before .before .args in
+    let entry = c .before .before .before .before .before .before .before .before .before .entry in
+    let charge-on = c .before .before .before .before .before .before .before .charge-on in
+    let passes = c .before .before .before .before .before .passes in
+    let if1 = c .before .before .before .before .if1 in
+    let is-accepted = c .before .is-accepted in
+    let if2 = c .if2 in (
       λ a. turned (x .driver) (x .dir) (x .e) (decode (saved (now (x .s)))) (view (now (x .s))) a
-          (now (x .slots)) (now (x .time)) (sym (c .before .is-accepted .ensures) ∙ c .if2 .taken) (rw (
-            ← c .before .before .before .before .before .before .before .before .before .entry .ensures .0,
-            ← c .before .before .before .before .before .before .before .charge-on .ensures .0,
-          ) (sym (c .before .before .before .before .before .passes .ensures) ∙ c .before .before .before .before .if1 .taken)),
+          (now (x .slots)) (now (x .time)) (sym (is-accepted .ensures) ∙ if2 .taken) (rw (
+            ← entry .ensures .0,
+            ← charge-on .ensures .0,
+          ) (sym (passes .ensures) ∙ if1 .taken)),
       (λ h. refl, refl),
     )
 
@@ -51,11 +57,15 @@ same-length-2 c = search needs
 
 returns-2 : tie.Need-returns-2
 returns-2 c =
-    let x = c .before .before .before .before .before .before .before .before .before .before .before .before .before .before .before .before .args in (
-      λ a. stopped (x .driver) (x .dir) (x .e) (decode (saved (now (x .s)))) (view (now (x .s))) a (now (x .slots)) (now (x .time)) _
-          (sym (c .before .before .before .before .before .before .is-accepted .ensures)
-          ∙ c .before .before .before .before .before .if2 .left) (c .before .before .begin-set-enabled .ensures .0 a),
-      c .before .before .begin-set-enabled .ensures .1,
+    let x = c .before .before .before .before .before .before .before .before .before .before .before .before .before
+    .before .before .before .args in
+    let is-accepted = c .before .before .before .before .before .before .is-accepted in
+    let if2 = c .before .before .before .before .before .if2 in
+    let begin-set-enabled = c .before .before .begin-set-enabled in (
+      λ a. stopped (x .driver) (x .dir) (x .e) (decode (saved (now (x .s)))) (view (now (x .s))) a (now (x .slots))
+          (now (x .time)) _
+          (sym (is-accepted .ensures) ∙ if2 .left) (begin-set-enabled .ensures .0 a),
+      begin-set-enabled .ensures .1,
     )
 
 begin-set-enabled-requires-2 : tie.Need-begin-set-enabled-requires-2
@@ -63,13 +73,14 @@ begin-set-enabled-requires-2 c κs = search needs
 
 charged-requires : tie.Need-charged-requires
 charged-requires c κs =
-    let l = c .before .before .before .before .before .before .before .before .before .before .before .entry .ensures .1 in (
+    let entry = c .before .before .before .before .before .before .before .before .before .before .before .entry in
+    let passes = c .before .before .before .before .before .before .before .passes in
+    let if1 = c .before .before .before .before .before .before .if1 in
+    let l = entry .ensures .1 in (
       l,
       omega (
         arith,
-        within _ _ _ l
-            (sym (c .before .before .before .before .before .before .before .passes .ensures)
-            ∙ c .before .before .before .before .before .before .if1 .left),
+        within _ _ _ l (sym (passes .ensures) ∙ if1 .left),
       ),
     )
 
@@ -78,17 +89,21 @@ same-length-3 c = search needs
 
 returns-3 : tie.Need-returns-3
 returns-3 c =
-    let k = c .before .before .before .before .before .before .before .before .before .before in
-    let x = k .before .before .before .before .args in (
+    let at-charge-on = c .before .before .before .before .before .before .before .before .before .before in
+    let passes = c .before .before .before .before .before .before .before .before .passes in
+    let if1 = c .before .before .before .before .before .before .before .if1 in
+    let begin-set-enabled2 = c .before .before .before .before .begin-set-enabled2 in
+    let charged = c .charged in
+    let x = at-charge-on .before .before .before .before .args in (
       λ a. begun (x .driver) (x .dir) (x .e) (decode (saved (now (x .s)))) (view (now (x .s))) a
-          (now (x .slots)) (now (x .time)) _ _ _ _ (k .before .before .entry .ensures .0) (k .charge-on .ensures .0)
-          (sym (c .before .before .before .before .before .before .before .before .passes .ensures)
-          ∙ c .before .before .before .before .before .before .before .if1 .left)
-          (c .before .before .before .before .begin-set-enabled2 .ensures .0 a) (c .charged .ensures _),
-      c .before .before .before .before .begin-set-enabled2 .ensures .1,
+          (now (x .slots)) (now (x .time)) _ _ _ _ (at-charge-on .before .before .entry .ensures .0)
+          (at-charge-on .charge-on .ensures .0)
+          (sym (passes .ensures) ∙ if1 .left) (begin-set-enabled2 .ensures .0 a) (charged .ensures _),
+      begin-set-enabled2 .ensures .1,
     )
 
 pub enable-spec : {M : Type 1} → statement M
 enable-spec =
-    tie.close (tie.spec entry-requires charge-on-requires passes-requires is-accepted-requires same-length returns begin-set-enabled-requires
+    tie.close (tie.spec entry-requires charge-on-requires passes-requires is-accepted-requires same-length returns
+    begin-set-enabled-requires
     same-length-2 returns-2 begin-set-enabled-requires-2 charged-requires same-length-3 returns-3)

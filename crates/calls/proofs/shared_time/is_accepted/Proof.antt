@@ -20,20 +20,34 @@ is-allocated-requires c κs = search needs
 
 returns : tie.Need-returns
 unfolding accepts
-returns c = simp (
-  ← c .before .before .before .before .slots-fit .ensures,
-  c .before .before .before .if1 .taken,
-  ← c .before .before .stop .ensures,
-  eq-eqb _ _ (c .before .if2 .taken),
-) (c .is-allocated .ensures)
+returns c =
+    let slots-fit = c .before .before .before .before .slots-fit in
+    let if1 = c .before .before .before .if1 in
+    let stop = c .before .before .stop in
+    let if2 = c .before .if2 in
+    simp (
+      ← slots-fit .ensures,
+      if1 .taken,
+      ← stop .ensures,
+      eq-eqb _ _ (if2 .taken),
+    ) (c .is-allocated .ensures)
 
 returns-2 : tie.Need-returns-2
 unfolding accepts
-returns-2 c = simp (← c .before .before .before .slots-fit .ensures, c .before .before .if1 .taken, ← c .before .stop .ensures, ne-eqb _ _ (c .if2 .left))
+returns-2 c =
+    let slots-fit = c .before .before .before .slots-fit in
+    let if1 = c .before .before .if1 in
+    let stop = c .before .stop in
+    let if2 = c .if2 in
+    simp (← slots-fit .ensures, if1 .taken, ← stop .ensures, ne-eqb _ _ (if2 .left))
 
 returns-3 : tie.Need-returns-3
 unfolding accepts
-returns-3 c = simp (← c .before .slots-fit .ensures, c .if1 .left)
+returns-3 c =
+    let slots-fit = c .before .slots-fit in
+    let if1 = c .if1 in
+    simp (← slots-fit .ensures, if1 .left)
 
 pub is-accepted-spec : {M : Type 1} → statement M
-is-accepted-spec = tie.close (tie.spec slots-fit-requires stop-requires is-allocated-requires returns returns-2 returns-3)
+is-accepted-spec = tie.close (tie.spec slots-fit-requires stop-requires is-allocated-requires returns returns-2
+    returns-3)

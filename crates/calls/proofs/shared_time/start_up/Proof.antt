@@ -19,10 +19,12 @@ started-requires c κs = search needs
 
 returns : tie.Need-returns
 returns c =
-    let x = c .before .before .before .before .before .args in (
+    let x = c .before .before .before .before .before .args in
+    let start-up = c .before .before .start-up in
+    let started = c .started in (
       λ a. settles (x .driver) (start (configOf (x .size) (x .count) (x .callback))) (machineOf (now (x .s)) a)
-          (now (x .time)) (now (x .slots)) _ _ refl (c .before .before .start-up .ensures .0 a) (c .started .ensures _ _),
-      c .before .before .start-up .ensures .1,
+          (now (x .time)) (now (x .slots)) _ _ refl (start-up .ensures .0 a) (started .ensures _ _),
+      start-up .ensures .1,
     )
 
 pub start-up-spec : {M : Type 1} → statement M

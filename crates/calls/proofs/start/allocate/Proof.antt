@@ -20,12 +20,15 @@ enum-known-z c = search needs
 
 returns : tie.Need-returns
 returns c =
-    let passed = c .before .before .before .before .before in
-    let start = passed .before .before .before .args in
-    let given = c .before .before .before .allocate .ensures in (
-      λ a b. simp (given .1 .0, given .1 .1) (allocate-refused (decode (saved (start .s .now))) (view (start .s .now)) a b (start .dir) (start .kind)
+    let at-then1 = c .before .before .before .before .before in
+    let allocate = c .before .before .before .allocate in
+    let z = c .before .z in
+    let start = at-then1 .before .before .before .args in
+    let given = allocate .ensures in (
+      λ a b. simp (given .1 .0, given .1 .1) (allocate-refused (decode (saved (start .s .now))) (view (start .s .now)) a
+          b (start .dir) (start .kind)
           (start .address) (start .maximum) (start .interval) _
-          (eq-eqb _ _ (sym (passed .before .stop .ensures) ∙ passed .if1 .taken)) (sym (given .0) ∙ c .before .z .given .1)),
+          (eq-eqb _ _ (sym (at-then1 .before .stop .ensures) ∙ at-then1 .if1 .taken)) (sym (given .0) ∙ z .given .1)),
       given .1 .1,
     )
 
@@ -39,27 +42,41 @@ new-endpoint-requires : tie.Need-new-endpoint-requires
 new-endpoint-requires c κs = search needs
 
 suspend-or-end-requires : tie.Need-suspend-or-end-requires
-suspend-or-end-requires c κs = c .new-endpoint .ensures .1
+suspend-or-end-requires c κs =
+    let new-endpoint = c .new-endpoint in
+    new-endpoint .ensures .1
 
 returns-2 : tie.Need-returns-2
 returns-2 c =
-    let passed = c .before .before .before .before .before .before .before .before .before .before in
-    let start = passed .before .before .before .args in
-    let given = c .before .before .before .before .before .before .before .before .allocate .ensures in (
-      λ a b. c .suspend-or-end .ensures .0 b ∙ simp (c .before .new-endpoint .ensures .0, c .before .before .before .clear-wakes .ensures .0, given .1 .0)
-          (allocate-begins (decode (saved (start .s .now))) (view (start .s .now)) a b (start .dir) (start .kind) (start .address) (start .maximum)
+    let at-then1 = c .before .before .before .before .before .before .before .before .before .before in
+    let allocate = c .before .before .before .before .before .before .before .before .allocate in
+    let z2 = c .before .before .before .before .before .before .z2 in
+    let clear-wakes = c .before .before .before .clear-wakes in
+    let new-endpoint = c .before .new-endpoint in
+    let suspend-or-end = c .suspend-or-end in
+    let start = at-then1 .before .before .before .args in
+    let given = allocate .ensures in (
+      λ a b. suspend-or-end .ensures .0 b ∙ simp (new-endpoint .ensures .0, clear-wakes .ensures .0, given .1 .0)
+          (allocate-begins (decode (saved (start .s .now))) (view (start .s .now)) a b (start .dir) (start .kind)
+          (start .address) (start .maximum)
           (start .interval) _ _ _
-          (eq-eqb _ _ (sym (passed .before .stop .ensures) ∙ passed .if1 .taken)) (sym (given .0)
-          ∙ c .before .before .before .before .before .before .z2 .given .1)),
-      c .suspend-or-end .ensures .1 _,
+          (eq-eqb _ _ (sym (at-then1 .before .stop .ensures) ∙ at-then1 .if1 .taken)) (sym (given .0)
+          ∙ z2 .given .1)),
+      suspend-or-end .ensures .1 _,
     )
 
 returns-3 : tie.Need-returns-3
-returns-3 c = let start = c .before .before .before .args in other-stopped (calls.Allocate (start .dir) (start .kind) (start .address) (start .maximum)
-    (start .interval)) 1 (allocating (start .dir) (start .kind) (start .address) (start .maximum) (start .interval)) _ (c .before .stop .ensures) (λ b. refl)
-    (c .if1 .left)
+returns-3 c =
+    let start = c .before .before .before .args in
+    let stop = c .before .stop in
+    let if1 = c .if1 in
+    other-stopped (calls.Allocate (start .dir) (start .kind) (start .address) (start .maximum)
+    (start .interval)) 1 (allocating (start .dir) (start .kind) (start .address) (start .maximum) (start .interval)) _
+    (stop .ensures) (λ b. refl)
+    (if1 .left)
 
 pub allocate-spec : {M : Type 1} → statement M
 allocate-spec =
-    tie.close (tie.spec stop-requires allocate-requires enum-known-z returns enum-known-z-2 clear-wakes-requires new-endpoint-requires
+    tie.close (tie.spec stop-requires allocate-requires enum-known-z returns enum-known-z-2 clear-wakes-requires
+    new-endpoint-requires
     suspend-or-end-requires returns-2 returns-3)

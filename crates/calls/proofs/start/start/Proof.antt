@@ -20,11 +20,14 @@ enum-known-z c = search needs
 
 returns : tie.Need-returns
 returns c =
-    let passed = c .before .before .before .before .before in
-    let start = passed .before .before .before .args in
-    let given = c .before .before .before .allocate0 .ensures in (
-      λ a b. simp (given .1 .0, given .1 .1) (start-refused (decode (saved (start .s .now))) (view (start .s .now)) a b (start .maximum) _
-          (eq-eqb _ _ (sym (passed .before .stop .ensures) ∙ passed .if1 .taken)) (sym (given .0) ∙ c .before .z .given .1)),
+    let at-then1 = c .before .before .before .before .before in
+    let allocate0 = c .before .before .before .allocate0 in
+    let z = c .before .z in
+    let start = at-then1 .before .before .before .args in
+    let given = allocate0 .ensures in (
+      λ a b. simp (given .1 .0, given .1 .1) (start-refused (decode (saved (start .s .now))) (view (start .s .now)) a b
+          (start .maximum) _
+          (eq-eqb _ _ (sym (at-then1 .before .stop .ensures) ∙ at-then1 .if1 .taken)) (sym (given .0) ∙ z .given .1)),
       given .1 .1,
     )
 
@@ -38,26 +41,38 @@ start-ep0-requires : tie.Need-start-ep0-requires
 start-ep0-requires c κs = search needs
 
 suspend-or-end-requires : tie.Need-suspend-or-end-requires
-suspend-or-end-requires c κs = c .start-ep0 .ensures .1
+suspend-or-end-requires c κs =
+    let start-ep0 = c .start-ep0 in
+    start-ep0 .ensures .1
 
 returns-2 : tie.Need-returns-2
 returns-2 c =
-    let passed = c .before .before .before .before .before .before .before .before .before .before .before in
-    let start = passed .before .before .before .args in
-    let given = c .before .before .before .before .before .before .before .before .before .allocate0 .ensures in (
-      λ a b. c .suspend-or-end .ensures .0 b ∙ simp (c .before .start-ep0 .ensures .0) (simp
-          (c .before .before .before .before .clear-wakes .ensures .0, given .1 .0)
+    let at-then1 = c .before .before .before .before .before .before .before .before .before .before .before in
+    let allocate0 = c .before .before .before .before .before .before .before .before .before .allocate0 in
+    let z2 = c .before .before .before .before .before .before .before .z2 in
+    let clear-wakes = c .before .before .before .before .clear-wakes in
+    let start-ep0 = c .before .start-ep0 in
+    let suspend-or-end = c .suspend-or-end in
+    let start = at-then1 .before .before .before .args in
+    let given = allocate0 .ensures in (
+      λ a b. suspend-or-end .ensures .0 b ∙ simp (start-ep0 .ensures .0) (simp
+          (clear-wakes .ensures .0, given .1 .0)
           (start-begins (decode (saved (start .s .now))) (view (start .s .now)) a b (start .maximum) _ _ _
-          (eq-eqb _ _ (sym (passed .before .stop .ensures) ∙ passed .if1 .taken)) (sym (given .0)
-          ∙ c .before .before .before .before .before .before .before .z2 .given .1))),
-      c .suspend-or-end .ensures .1 _,
+          (eq-eqb _ _ (sym (at-then1 .before .stop .ensures) ∙ at-then1 .if1 .taken)) (sym (given .0)
+          ∙ z2 .given .1))),
+      suspend-or-end .ensures .1 _,
     )
 
 returns-3 : tie.Need-returns-3
-returns-3 c = let start = c .before .before .before .args in other-stopped (calls.Start (start .maximum)) 1 (starting (start .maximum)) _
-    (c .before .stop .ensures) (λ b. refl) (c .if1 .left)
+returns-3 c =
+    let start = c .before .before .before .args in
+    let stop = c .before .stop in
+    let if1 = c .if1 in
+    other-stopped (calls.Start (start .maximum)) 1 (starting (start .maximum)) _
+    (stop .ensures) (λ b. refl) (if1 .left)
 
 pub start-spec : {M : Type 1} → statement M
 start-spec =
-    tie.close (tie.spec stop-requires allocate0-requires enum-known-z returns enum-known-z-2 clear-wakes-requires start-ep0-requires
+    tie.close (tie.spec stop-requires allocate0-requires enum-known-z returns enum-known-z-2 clear-wakes-requires
+    start-ep0-requires
     suspend-or-end-requires returns-2 returns-3)

@@ -21,10 +21,16 @@ good-buffer-requires : tie.Need-good-buffer-requires
 good-buffer-requires c κs = search needs
 
 cast-fresh : tie.Need-cast-fresh
-cast-fresh c = search (needs, good-16 _ _ (sym (c .before .before .good-buffer .ensures) ∙ c .before .if2 .taken) .0)
+cast-fresh c =
+    let good-buffer = c .before .before .good-buffer in
+    let if2 = c .before .if2 in
+    search (needs, good-16 _ _ (sym (good-buffer .ensures) ∙ if2 .taken) .0)
 
 cast-fresh-2 : tie.Need-cast-fresh-2
-cast-fresh-2 c = search (needs, good-16 _ _ (sym (c .before .before .good-buffer .ensures) ∙ c .before .if2 .taken) .1)
+cast-fresh-2 c =
+    let good-buffer = c .before .before .good-buffer in
+    let if2 = c .before .if2 in
+    search (needs, good-16 _ _ (sym (good-buffer .ensures) ∙ if2 .taken) .1)
 
 flag-of-requires : tie.Need-flag-of-requires
 flag-of-requires c κs = search needs
@@ -39,34 +45,54 @@ start-up-requires : tie.Need-start-up-requires
 start-up-requires c κs = search needs
 
 suspend-or-end-requires : tie.Need-suspend-or-end-requires
-suspend-or-end-requires c κs = c .start-up .ensures .1
+suspend-or-end-requires c κs =
+    let start-up = c .start-up in
+    start-up .ensures .1
 
 returns : tie.Need-returns
 unfolding startRow
-returns c = (
-  λ a. simp (
-    ← c .before .before .before .before .before .before .before .before .before .good-buffer .ensures,
-    c .before .before .before .before .before .before .before .before .if2 .taken,
-    ← c .before .before .before .before .before .before .before .before .before .before .before .fits2 .ensures,
-    c .before .before .before .before .before .before .before .before .before .before .if1 .taken,
-  ) (c .suspend-or-end .ensures .0 _ ∙ simp (
-    c .before .start-up .ensures .0,
-    c .before .before .before .clear-wakes .ensures .0,
-    c .before .before .before .before .before .fresh .ensures .0,
-    c .before .before .before .before .before .before .flag-of .ensures,
-  )),
-  c .suspend-or-end .ensures .1 _,
-)
+returns c =
+    let fits2 = c .before .before .before .before .before .before .before .before .before .before .before .fits2 in
+    let if1 = c .before .before .before .before .before .before .before .before .before .before .if1 in
+    let good-buffer = c .before .before .before .before .before .before .before .before .before .good-buffer in
+    let if2 = c .before .before .before .before .before .before .before .before .if2 in
+    let flag-of = c .before .before .before .before .before .before .flag-of in
+    let fresh = c .before .before .before .before .before .fresh in
+    let clear-wakes = c .before .before .before .clear-wakes in
+    let start-up = c .before .start-up in
+    let suspend-or-end = c .suspend-or-end in (
+      λ a. simp (
+        ← good-buffer .ensures,
+        if2 .taken,
+        ← fits2 .ensures,
+        if1 .taken,
+      ) (suspend-or-end .ensures .0 _ ∙ simp (
+        start-up .ensures .0,
+        clear-wakes .ensures .0,
+        fresh .ensures .0,
+        flag-of .ensures,
+      )),
+      suspend-or-end .ensures .1 _,
+    )
 
 returns-2 : tie.Need-returns-2
 unfolding startRow
-returns-2 c = (λ a. simp (← c .before .good-buffer .ensures, c .if2 .left, ← c .before .before .before .fits2 .ensures, c .before .before .if1 .taken), refl)
+returns-2 c =
+    let fits2 = c .before .before .before .fits2 in
+    let if1 = c .before .before .if1 in
+    let good-buffer = c .before .good-buffer in
+    let if2 = c .if2 in
+    (λ a. simp (← good-buffer .ensures, if2 .left, ← fits2 .ensures, if1 .taken), refl)
 
 returns-3 : tie.Need-returns-3
 unfolding startRow
-returns-3 c = (λ a. simp (← c .before .fits2 .ensures, c .if1 .left), refl)
+returns-3 c =
+    let fits2 = c .before .fits2 in
+    let if1 = c .if1 in
+    (λ a. simp (← fits2 .ensures, if1 .left), refl)
 
 pub start-up-spec : {M : Type 1} → statement M
 start-up-spec =
-    tie.close (tie.spec fits-requires good-buffer-requires cast-fresh cast-fresh-2 flag-of-requires fresh-requires clear-wakes-requires
+    tie.close (tie.spec fits-requires good-buffer-requires cast-fresh cast-fresh-2 flag-of-requires fresh-requires
+    clear-wakes-requires
     start-up-requires suspend-or-end-requires returns returns-2 returns-3)

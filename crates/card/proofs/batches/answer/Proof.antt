@@ -8,17 +8,25 @@ use Rattle.card.proofs.batches.answer.Lts as lts
 -- src/batches.rt:63:13
 returns : tie.Need-returns
 unfolding answerBy
-returns c = simp (eq-eqb _ _ (c .before .if1 .taken), c .if2 .taken)
+returns c =
+    let if1 = c .before .if1 in
+    let if2 = c .if2 in
+    simp (eq-eqb _ _ (if1 .taken), if2 .taken)
 
 -- src/batches.rt:65:9
 returns-2 : tie.Need-returns-2
 unfolding answerBy
-returns-2 c = simp (eq-eqb _ _ (c .before .if1 .taken), c .if2 .left)
+returns-2 c =
+    let if1 = c .before .if1 in
+    let if2 = c .if2 in
+    simp (eq-eqb _ _ (if1 .taken), if2 .left)
 
 -- src/batches.rt:58:1
 returns-3 : tie.Need-returns-3
 unfolding answerBy
-returns-3 c = simp (ne-eqb _ _ (c .if1 .left))
+returns-3 c =
+    let if1 = c .if1 in
+    simp (ne-eqb _ _ (if1 .left))
 
 pub answer-spec : {M : Type 1} → statement M
 answer-spec = tie.close (tie.spec returns returns-2 returns-3)

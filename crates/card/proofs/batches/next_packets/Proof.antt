@@ -15,7 +15,8 @@ use Rattle.card.proofs.batches.take.Reads as take-reads
 returns : tie.Need-returns
 returns c =
     let s = c .before .before .before .args in
-    (batch-torn (s .stream .now) _ _ (c .if1 .taken), batch-room-torn (s .stream .now) _ (s .room .now) (c .if1 .taken))
+    let if1 = c .if1 in
+    (batch-torn (s .stream .now) _ _ (if1 .taken), batch-room-torn (s .stream .now) _ (s .room .now) (if1 .taken))
 
 -- src/batches.rt:81:12
 take-requires : tie.Need-take-requires
@@ -33,9 +34,14 @@ same-length c = search needs
 returns-2 : tie.Need-returns-2
 returns-2 c =
     let s = c .before .before .before .before .before .before .before .before .args in
+    let take = c .before .before .before .take in
+    let answer = c .answer in
     let whole : length (s .stream .now) % 512 ≡ 0 = omega arith in
-    let taken = c .before .before .before .take .ensures in
-    (c .answer .ensures ∙ batch-taken (s .stream .now) _ _ _ whole (taken .0), taken .1 ∙ batch-room (s .stream .now) _ (s .room .now) whole)
+    let taken = take .ensures in (
+      answer .ensures ∙ batch-taken (s .stream .now) _ _ _ whole (taken .0),
+      taken .1
+          ∙ batch-room (s .stream .now) _ (s .room .now) whole,
+    )
 
 pub next-packets-spec : {M : Type 1} → statement M
 next-packets-spec = tie.close (tie.spec returns take-requires answer-requires same-length returns-2)

@@ -1,9 +1,9 @@
-use mathlib.Core.Path.{_≡_, refl, sym, ap, _∙_}
-use Prim.Native.Nat.{ℕ, _+_, _-_, _*_, _/_, _%_, _≤_}
+use mathlib.Core.Path.{_≡_, _∙_}
+use Prim.Native.Nat.{_+_, _-_, _*_, _/_, _%_, _≤_}
 use native.Mathlib.Omega.{arith}
 use borrow.Author.Needs.{needs}
 use Rattle.card.specs.Streams.{view}
-use Rattle.card.specs.Inside.{Standing, Walked}
+use Rattle.card.specs.Inside.{Standing}
 use Rattle.card.specs.InsideLaws.{standing-none, good-lies, walk-more}
 use Rattle.card.proofs.batches.walk.Statement.{statement}
 use Rattle.card.proofs.batches.walk.Tie as tie
@@ -14,7 +14,8 @@ use Rattle.card.proofs.blocks.byte_at.Reads as byte-at-reads
 use Rattle.card.proofs.blocks.pair_at.Reads as pair-at-reads
 
 abbrev Inv-loop : tie.InvT-loop
-Inv-loop stream d room k from most count₀ bytes₀ count bytes = (bytes ≤ most) × (count ≤ bytes) × Standing (view stream) d count bytes
+Inv-loop stream d room k from most count₀ bytes₀ count bytes = (bytes ≤ most) × (count ≤ bytes)
+    × Standing (view stream) d count bytes
 
 abbrev μ-loop : tie.MeasureT-loop
 μ-loop stream d room k from most count₀ bytes₀ count bytes = most - bytes
@@ -46,8 +47,8 @@ add-i c = omega arith
 -- src/batches.rt:56:28
 mul-byte-at : tie.Need-mul-byte-at Inv-loop μ-loop
 mul-byte-at c =
-    let st = c .before .before .before .before in
-    let lies = good-lies (st .args .stream .now) (st .args .d / 504) (st .pre) in
+    let start = c .before .before .before .before in
+    let lies = good-lies (start .args .stream .now) (start .args .d / 504) (start .pre) in
     omega arith
 
 -- src/batches.rt:56:39
@@ -57,27 +58,28 @@ add-byte-at c = omega arith
 -- src/batches.rt:56:28
 add-byte-at-2 : tie.Need-add-byte-at-2 Inv-loop μ-loop
 add-byte-at-2 c =
-    let st = c .before .before .before .before in
-    let lies = good-lies (st .args .stream .now) (st .args .d / 504) (st .pre) in
+    let start = c .before .before .before .before in
+    let lies = good-lies (start .args .stream .now) (start .args .d / 504) (start .pre) in
     omega arith
 
 -- src/batches.rt:56:12
 byte-at-requires : tie.Need-byte-at-requires Inv-loop μ-loop
 byte-at-requires c κs =
-    let st = c .before .before .before .before in
-    let lies = good-lies (st .args .stream .now) (st .args .d / 504) (st .pre) in
+    let start = c .before .before .before .before in
+    let lies = good-lies (start .args .stream .now) (start .args .d / 504) (start .pre) in
     omega arith
 
 -- src/batches.rt:57:13
 returns : tie.Need-returns Inv-loop μ-loop
 returns c =
-    record { standing = c .before .before .before .loop .inv .2; fits = omega arith; inside = omega arith }
+    let looped = c .before .before .before .loop in
+    record { standing = looped .inv .2; fits = omega arith; inside = omega arith }
 
 -- src/batches.rt:59:21
 pair-at-requires : tie.Need-pair-at-requires Inv-loop μ-loop
 pair-at-requires c κs =
-    let st = c .before .before .before .before .before .before in
-    let lies = good-lies (st .args .stream .now) (st .args .d / 504) (st .pre) in
+    let start = c .before .before .before .before .before .before in
+    let lies = good-lies (start .args .stream .now) (start .args .d / 504) (start .pre) in
     omega arith
 
 -- src/batches.rt:59:17
@@ -91,7 +93,8 @@ sub-if2 c = omega arith
 -- src/batches.rt:61:13
 returns-2 : tie.Need-returns-2 Inv-loop μ-loop
 returns-2 c =
-    record { standing = c .before .before .before .before .before .loop .inv .2; fits = omega arith; inside = omega arith }
+    let looped = c .before .before .before .before .before .loop in
+    record { standing = looped .inv .2; fits = omega arith; inside = omega arith }
 
 -- src/batches.rt:63:9
 add-count : tie.Need-add-count Inv-loop μ-loop
@@ -108,21 +111,26 @@ loop-less c = omega arith
 -- src/batches.rt:54:5
 loop-again : tie.Need-loop-again Inv-loop μ-loop
 loop-again c =
-    let st = c .before .before .before .before .before .before .before .before in
+    let start = c .before .before .before .before .before .before .before .before in
     let t = c .before .before .before .before .before .loop in
     let endpoint = c .before .before .before .byte-at in
+    let if1 = c .before .before .if1 in
     let len = c .before .pair-at in
     let more =
-    walk-more (st .args .stream .now) (st .args .d) (t .count) (t .bytes) (endpoint .result) (len .result) (st .pre) (omega arith) (t .inv .2)
-    (endpoint .ensures .0) (c .before .before .if1 .left) (len .ensures .0) in
+    walk-more (start .args .stream .now) (start .args .d) (t .count) (t .bytes) (endpoint .result) (len .result)
+    (start .pre) (omega arith) (t .inv .2)
+    (endpoint .ensures .0) (if1 .left) (len .ensures .0) in
     (omega arith, omega arith, more)
 
 -- src/batches.rt:45:1
 returns-3 : tie.Need-returns-3 Inv-loop μ-loop
 returns-3 c =
-    record { standing = c .before .loop .inv .2; fits = omega arith; inside = omega arith }
+    let looped = c .before .loop in
+    record { standing = looped .inv .2; fits = omega arith; inside = omega arith }
 
 pub walk-spec : {M : Type 1} → statement M
 walk-spec =
-    tie.close (tie.spec Inv-loop μ-loop add-from sub-least least-requires loop-holds add-loop add-i mul-byte-at add-byte-at add-byte-at-2
-    byte-at-requires returns pair-at-requires add-n sub-if2 returns-2 add-count add-bytes loop-less loop-again returns-3)
+    tie.close (tie.spec Inv-loop μ-loop add-from sub-least least-requires loop-holds add-loop add-i mul-byte-at
+    add-byte-at add-byte-at-2
+    byte-at-requires returns pair-at-requires add-n sub-if2 returns-2 add-count add-bytes loop-less loop-again
+    returns-3)

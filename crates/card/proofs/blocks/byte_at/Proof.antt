@@ -8,10 +8,16 @@ shared-slice-read-result : tie.Need-shared-slice-read-result
 shared-slice-read-result c = search needs
 
 cast-result : tie.Need-cast-result
-cast-result c = omega (arith, c .shared-slice-known .given (c .before .args .i))
+cast-result c =
+    let start = c .before in
+    let shared-slice-known = c .shared-slice-known in
+    omega (arith, shared-slice-known .given (start .args .i))
 
 returns : tie.Need-returns
-returns c = (refl, omega (arith, c .shared-slice-known .given (c .before .args .i)))
+returns c =
+    let start = c .before in
+    let shared-slice-known = c .shared-slice-known in
+    (refl, omega (arith, shared-slice-known .given (start .args .i)))
 
 pub byte-at-spec : {M : Type 1} → statement M
 byte-at-spec = tie.close (tie.spec shared-slice-read-result cast-result returns)

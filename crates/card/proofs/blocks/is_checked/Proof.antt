@@ -37,9 +37,12 @@ returns : tie.Need-returns
 unfolding checked
 returns c =
     let s = c .before .before .before .before .args in
+    let data-crc = c .before .data-crc in
+    let pair-at = c .pair-at in
     let n : s .k * 512 + 510 - s .k * 512 ≡ 510 = omega arith in
-    ap₂ eqb (c .pair-at .ensures .0)
-    (c .before .data-crc .ensures ∙ ap (λ (m : ℕ). dataCrc (take m (drop (s .k * 512) (s .stream .now)))) n)
+    ap₂ eqb (pair-at .ensures .0)
+    (data-crc .ensures ∙ ap (λ (m : ℕ). dataCrc (take m (drop (s .k * 512) (s .stream .now)))) n)
 
 pub is-checked-spec : {M : Type 1} → statement M
-is-checked-spec = tie.close (tie.spec mul-a add-e sub-data-crc part-data-crc-start part-data-crc-end data-crc-requires pair-at-requires cast-result returns)
+is-checked-spec = tie.close (tie.spec mul-a add-e sub-data-crc part-data-crc-start part-data-crc-end data-crc-requires
+    pair-at-requires cast-result returns)

@@ -23,8 +23,10 @@ returns : tie.Need-returns
 unfolding placed
 returns c =
     let s = c .before .before .before .args in
-    let e : c .before .pair-at .result + c .pair-at2 .result * 65536 ≡ numberAt (s .stream .now) (s .k) =
-    omega (arith, c .before .pair-at .ensures .0, c .pair-at2 .ensures .0) in
+    let pair-at = c .before .pair-at in
+    let pair-at2 = c .pair-at2 in
+    let e : pair-at .result + pair-at2 .result * 65536 ≡ numberAt (s .stream .now) (s .k) =
+    omega (arith, pair-at .ensures .0, pair-at2 .ensures .0) in
     ap (λ (n : ℕ). eqb n (s .k % 4294967296)) e
 
 pub is-placed-spec : {M : Type 1} → statement M

@@ -29,7 +29,9 @@ mul-i c = omega arith
 
 -- src/crc.rt:97:5
 loop-holds : tie.Need-loop-holds Inv-loop μ-loop
-loop-holds c = (omega arith, c .whole-words .ensures)
+loop-holds c =
+    let whole-words = c .whole-words in
+    (omega arith, whole-words .ensures)
 
 -- src/crc.rt:98:32
 shared-slice-read-turn-byte : tie.Need-shared-slice-read-turn-byte Inv-loop μ-loop
@@ -50,20 +52,22 @@ loop-less c = omega arith
 -- src/crc.rt:97:5
 loop-again : tie.Need-loop-again Inv-loop μ-loop
 loop-again c =
-    let v = c .before .before .before .loop in
     let s = c .before .before .before .before .before .before .args in
+    let v = c .before .before .before .loop in
+    let turn-byte = c .turn-byte in
     let more = over-more (s .bytes .now) (v .i) (v .kept) (omega arith) in
-    (omega arith, rw (c .turn-byte .ensures) (sym more ∙ v .inv .1))
+    (omega arith, rw (turn-byte .ensures) (sym more ∙ v .inv .1))
 
 -- src/crc.rt:92:1
 returns : tie.Need-returns Inv-loop μ-loop
 returns c =
-    let v = c .before .loop in
     let s = c .before .before .before .before .args in
+    let v = c .before .loop in
     ap (λ (r : ℕ). 65535 - r) (sym (over-none (s .bytes .now) (v .i) (v .kept) (omega arith)) ∙ v .inv .1)
     ∙ register-crc (s .bytes .now)
 
 pub data-crc-spec : {M : Type 1} → statement M
 data-crc-spec =
-    tie.close (tie.spec Inv-loop μ-loop whole-words-requires mul-i loop-holds shared-slice-read-turn-byte turn-byte-requires add-i loop-less
+    tie.close (tie.spec Inv-loop μ-loop whole-words-requires mul-i loop-holds shared-slice-read-turn-byte
+    turn-byte-requires add-i loop-less
     loop-again returns)

@@ -1,6 +1,6 @@
 use native.Mathlib.Nat.{mod-eq-of-lt}
 use native.Mathlib.Omega.{arith}
-use Rattle.card.specs.Fold.{settled, odd, remainderOf}
+use Rattle.card.specs.Fold.{settled, remainderOf}
 use Rattle.card.specs.FoldLaws.{odd-lt, remainder-lt}
 use borrow.Author.Needs.{needs}
 use Rattle.card.proofs.crc.settle.Statement.{statement}
@@ -19,7 +19,10 @@ parity-requires c κs = search needs
 
 -- src/crc.rt:70:13
 mul-result : tie.Need-mul-result
-mul-result c = omega (arith, c .parity .ensures, odd-lt (c .before .args .words))
+mul-result c =
+    let start = c .before in
+    let parity = c .parity in
+    omega (arith, parity .ensures, odd-lt (start .args .words))
 
 -- src/crc.rt:70:5
 cast-result : tie.Need-cast-result
@@ -30,7 +33,8 @@ returns : tie.Need-returns
 unfolding settled remainderOf
 returns c =
     let s = c .before .args in
-    rw (c .parity .ensures) (mod-eq-of-lt (remainder-lt (s .sum) (s .words)))
+    let parity = c .parity in
+    rw (parity .ensures) (mod-eq-of-lt (remainder-lt (s .sum) (s .words)))
 
 pub settle-spec : {M : Type 1} → statement M
 settle-spec = tie.close (tie.spec mul-low parity-requires mul-result cast-result returns)

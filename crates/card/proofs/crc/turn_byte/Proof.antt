@@ -28,7 +28,8 @@ loop-less c = omega arith
 loop-again : tie.Need-loop-again Inv-loop μ-loop
 loop-again c =
     let v = c .before .before .loop in
-    (omega arith, rw (c .turn .ensures) (sym (turns-more (v .i) (v .kept) (v .x) (omega arith)) ∙ v .inv .1))
+    let turn = c .turn in
+    (omega arith, rw (turn .ensures) (sym (turns-more (v .i) (v .kept) (v .x) (omega arith)) ∙ v .inv .1))
 
 returns : tie.Need-returns Inv-loop μ-loop
 returns c =

@@ -51,17 +51,20 @@ fold-requires c κs = search needs
 -- src/crc.rt:81:1
 returns : tie.Need-returns
 returns c =
-    let s = c .before .before .before .before .before .before .before .before .before .args in
     let pre = c .before .before .before .before .before .before .before .before .before .pre in
+    let s = c .before .before .before .before .before .before .before .before .before .args in
     let word = c .before .before .before .word in
+    let fold = c .before .fold in
     let x = bitXor (s .s .sum) (word .result) in
     let x-lt : x < 2 ^ 32 = xor-lt 32 (s .s .sum) (word .result) (omega (arith, pre .1 .short)) (omega arith) in
     let more =
-    word-more (s .bytes .now) (s .i) (s .s .sum) (s .s .words) (word .result) (pre .0) (word .ensures .0) (word .ensures .1) (pre .1 .short)
+    word-more (s .bytes .now) (s .i) (s .s .sum) (s .s .words) (word .result) (pre .0) (word .ensures .0)
+    (word .ensures .1) (pre .1 .short)
     (pre .1 .even) (omega arith) in
-    rw (c .before .fold .ensures) (record { short = fold-lt x x-lt; even = fold-even x x-lt }, more)
+    rw (fold .ensures) (record { short = fold-lt x x-lt; even = fold-even x x-lt }, more)
 
 pub with-word-spec : {M : Type 1} → statement M
 with-word-spec =
-    tie.close (tie.spec shared-slice-read-word add-word shared-slice-read-word-2 add-word-2 shared-slice-read-word-3 add-word-3
+    tie.close (tie.spec shared-slice-read-word add-word shared-slice-read-word-2 add-word-2 shared-slice-read-word-3
+    add-word-3
     shared-slice-read-word-4 word-requires fold-requires returns)

@@ -16,7 +16,9 @@ data-byte-requires c κs = search needs
 returns : tie.Need-returns
 returns c =
     let s = c .before .before .before .args in
-    sym (begin-filler (view (s .stream .now)) (s .d) (sym (c .before .data-byte .ensures) ∙ c .if1 .taken))
+    let data-byte = c .before .data-byte in
+    let if1 = c .if1 in
+    sym (begin-filler (view (s .stream .now)) (s .d) (sym (data-byte .ensures) ∙ if1 .taken))
 
 data-byte-requires-2 : tie.Need-data-byte-requires-2
 data-byte-requires-2 c κs = search needs
@@ -45,12 +47,17 @@ packet-at-requires c κs = search needs
 returns-2 : tie.Need-returns-2
 returns-2 c =
     let s = c .before .before .before .before .before .before .args in
-    c .packet-at .ensures
-    ∙ ap (packetAt (view (s .stream .now)) (s .d))
-    (ap₂ (λ (a b : ℕ). a + b * 256) (c .before .before .data-byte2 .ensures) (c .before .data-byte3 .ensures))
-    ∙ sym (begin-packet (view (s .stream .now)) (s .d) (λ z. c .before .before .before .if1 .left (c .before .before .before .before .data-byte .ensures ∙ z)))
+    let data-byte = c .before .before .before .before .data-byte in
+    let if1 = c .before .before .before .if1 in
+    let data-byte2 = c .before .before .data-byte2 in
+    let data-byte3 = c .before .data-byte3 in
+    let packet-at = c .packet-at in
+    packet-at .ensures ∙ ap (packetAt (view (s .stream .now)) (s .d))
+    (ap₂ (λ (a b : ℕ). a + b * 256) (data-byte2 .ensures) (data-byte3 .ensures))
+    ∙ sym (begin-packet (view (s .stream .now)) (s .d) (λ z. if1 .left (data-byte .ensures ∙ z)))
 
 pub begin-at-spec : {M : Type 1} → statement M
 begin-at-spec =
-    tie.close (tie.spec add-data-byte data-byte-requires returns data-byte-requires-2 cast-low add-data-byte-2 data-byte-requires-3 cast-high
+    tie.close (tie.spec add-data-byte data-byte-requires returns data-byte-requires-2 cast-low add-data-byte-2
+    data-byte-requires-3 cast-high
     mul-packet-at add-packet-at packet-at-requires returns-2)

@@ -23,9 +23,12 @@ is-good-requires c κs = search needs
 
 returns : tie.Need-returns Inv-loop μ-loop
 returns c =
-    let v = c .before .before .before .loop in
     let s = c .before .before .before .before .before .args in
-    sym (clean-bad (view (s .stream .now)) (v .k) _ (omega arith) (sym (c .before .is-good .ensures) ∙ not-true _ (c .if1 .taken))) ∙ v .inv
+    let v = c .before .before .before .loop in
+    let is-good = c .before .is-good in
+    let if1 = c .if1 in
+    sym (clean-bad (view (s .stream .now)) (v .k) _ (omega arith) (sym (is-good .ensures) ∙ not-true _ (if1 .taken)))
+    ∙ v .inv
 
 add-k : tie.Need-add-k Inv-loop μ-loop
 add-k c = omega arith
@@ -35,15 +38,19 @@ loop-less c = omega arith
 
 loop-again : tie.Need-loop-again Inv-loop μ-loop
 loop-again c =
-    let v = c .before .before .before .loop in
     let s = c .before .before .before .before .before .args in
-    sym (clean-more (view (s .stream .now)) (v .k) _ (omega arith) (sym (c .before .is-good .ensures) ∙ not-false _ (c .if1 .left))) ∙ v .inv
+    let v = c .before .before .before .loop in
+    let is-good = c .before .is-good in
+    let if1 = c .if1 in
+    sym (clean-more (view (s .stream .now)) (v .k) _ (omega arith) (sym (is-good .ensures) ∙ not-false _ (if1 .left)))
+    ∙ v .inv
 
 returns-2 : tie.Need-returns-2 Inv-loop μ-loop
 returns-2 c =
-    let v = c .before .loop in
     let s = c .before .before .before .args in
+    let v = c .before .loop in
     sym (clean-stop (view (s .stream .now)) (v .k) _ (omega arith)) ∙ v .inv
 
 pub clean-to-spec : {M : Type 1} → statement M
-clean-to-spec = tie.close (tie.spec Inv-loop μ-loop loop-holds is-good-requires returns add-k loop-less loop-again returns-2)
+clean-to-spec = tie.close (tie.spec Inv-loop μ-loop loop-holds is-good-requires returns add-k loop-less loop-again
+    returns-2)

@@ -59,7 +59,8 @@ add-copy-run-3 c = omega arith
 -- src/reading.rt:182:9
 copy-run-requires : tie.Need-copy-run-requires Inv-loop μ-loop
 copy-run-requires c κs =
-    let run = c .before .run-of .ensures .0 in
+    let run-of = c .before .run-of in
+    let run = run-of .ensures .0 in
     (omega (arith, run .0, run .1), omega (arith, run .0))
 
 -- src/reading.rt:183:9
@@ -69,7 +70,8 @@ add-i c = omega arith
 -- src/reading.rt:179:5
 loop-less : tie.Need-loop-less Inv-loop μ-loop
 loop-less c =
-    let run = c .before .before .before .before .run-of .ensures in
+    let run-of = c .before .before .before .before .run-of in
+    let run = run-of .ensures in
     omega (arith, run .0 .0, run .1 (omega arith))
 
 -- src/reading.rt:179:5
@@ -78,28 +80,37 @@ loop-again c =
     let s = c .before .before .before .before .before .before .before .before .before .args in
     let t = c .before .before .before .before .before .before .loop in
     let run = c .before .before .before .before .run-of in
+    let copy-run = c .before .before .copy-run in
     let places =
-    paste-places (s .stream .now) (s .room .now) (s .d) (s .at) (t .i) (run .result) (s .n) (omega arith) (omega (arith, run .ensures .0 .0))
+    paste-places (s .stream .now) (s .room .now) (s .d) (s .at) (t .i) (run .result) (s .n) (omega arith)
+    (omega (arith, run .ensures .0 .0))
     (omega arith) (run .ensures .0 .1) in
     let source = drop ((s .d + t .i) / 504 * 512 + (6 + (s .d + t .i) % 504)) (s .stream .now) in
-    let now = c .before .before .copy-run .ensures ∙ ap (λ (l : List ℕ). paste l (s .at + t .i) source (run .result)) (t .inv .holds) ∙ places in
+    let now = copy-run .ensures ∙ ap (λ (l : List ℕ). paste l (s .at + t .i) source (run .result)) (t .inv .holds)
+    ∙ places in
     let long = length-bytes (view (s .stream .now)) (s .n) (s .d) in
     record {
       few = omega (arith, run .ensures .0 .0);
       long = ap length now
-          ∙ length-paste (s .room .now) (s .at) _ (t .i + run .result) (omega (arith, run .ensures .0 .0)) (omega (arith, long, run .ensures .0 .0));
+          ∙ length-paste (s .room .now) (s .at) _ (t .i + run .result) (omega (arith, run .ensures .0 .0))
+          (omega (arith, long, run .ensures .0 .0));
       holds = now;
     }
 
 -- src/reading.rt:174:1
 same-length : tie.Need-same-length Inv-loop μ-loop
-same-length c = c .before .loop .inv .long
+same-length c =
+    let looped = c .before .loop in
+    looped .inv .long
 
 -- src/reading.rt:174:1
 returns : tie.Need-returns Inv-loop μ-loop
-returns c = all-pasted _ _ _ _ _ _ (c .before .loop .inv) (omega arith)
+returns c =
+    let looped = c .before .loop in
+    all-pasted _ _ _ _ _ _ (looped .inv) (omega arith)
 
 pub copy-data-spec : {M : Type 1} → statement M
 copy-data-spec =
-    tie.close (tie.spec Inv-loop μ-loop loop-holds add-e sub-run-of run-of-requires mul-copy-run add-copy-run add-copy-run-2 add-copy-run-3
+    tie.close (tie.spec Inv-loop μ-loop loop-holds add-e sub-run-of run-of-requires mul-copy-run add-copy-run
+    add-copy-run-2 add-copy-run-3
     copy-run-requires add-i loop-less loop-again same-length returns)

@@ -14,7 +14,10 @@ abbrev μ-loop : tie.MeasureT-loop
 
 -- src/reading.rt:155:5
 loop-holds : tie.Need-loop-holds Inv-loop μ-loop
-loop-holds c = none-pasted (c .args .room .now) (drop (c .args .from) (c .args .stream .now)) (c .args .at) (c .args .n)
+loop-holds c =
+    let start = c in
+    none-pasted (start .args .room .now) (drop (start .args .from) (start .args .stream .now)) (start .args .at)
+    (start .args .n)
 
 -- src/reading.rt:156:31
 add-room : tie.Need-add-room Inv-loop μ-loop
@@ -46,17 +49,23 @@ loop-again c =
     let s = c .before .before .before .args in
     let t = c .before .before .loop in
     let long = length-drop (s .from) (s .stream .now) in
-    one-pasted _ _ (s .at) (s .n) (t .room) (t .i) _ (t .inv) (getD-drop (s .from) (s .stream .now) (t .i) 0) (omega arith) (omega arith) (omega arith)
+    one-pasted _ _ (s .at) (s .n) (t .room) (t .i) _ (t .inv) (getD-drop (s .from) (s .stream .now) (t .i) 0)
+    (omega arith) (omega arith) (omega arith)
 
 -- src/reading.rt:150:1
 same-length : tie.Need-same-length Inv-loop μ-loop
-same-length c = c .before .loop .inv .long
+same-length c =
+    let looped = c .before .loop in
+    looped .inv .long
 
 -- src/reading.rt:150:1
 returns : tie.Need-returns Inv-loop μ-loop
-returns c = all-pasted _ _ _ _ _ _ (c .before .loop .inv) (omega arith)
+returns c =
+    let looped = c .before .loop in
+    all-pasted _ _ _ _ _ _ (looped .inv) (omega arith)
 
 pub copy-run-spec : {M : Type 1} → statement M
 copy-run-spec =
-    tie.close (tie.spec Inv-loop μ-loop loop-holds add-room shared-slice-read-room add-room-2 slice-write-room add-i loop-less loop-again same-length
+    tie.close (tie.spec Inv-loop μ-loop loop-holds add-room shared-slice-read-room add-room-2 slice-write-room add-i
+    loop-less loop-again same-length
     returns)

@@ -32,10 +32,11 @@ same-length c = search needs
 
 returns-2 : tie.Need-returns-2
 returns-2 c =
-    let s = c .before .before .before .before .before .before .before .args in (
+    let s = c .before .before .before .before .before .before .before .args in
+    let copy-data = c .before .before .copy-data in (
       given-fits (s .at) (s .endpoint) (s .len) (length (s .room .now)) (omega arith),
       put-fits (view (s .stream .now)) (s .at) (s .endpoint) (s .len) (s .room .now) _ (omega arith)
-          (c .before .before .copy-data .ensures ∙ paste-front (view (s .stream .now)) (s .at + 3) (s .len) (s .room .now)),
+          (copy-data .ensures ∙ paste-front (view (s .stream .now)) (s .at + 3) (s .len) (s .room .now)),
     )
 
 pub give-spec : {M : Type 1} → statement M

@@ -31,15 +31,21 @@ seek-requires c κs = search needs
 returns : tie.Need-returns
 returns c =
     let s = c .before .before .before .before .args in
-    let x = c .before .before .clean-to .ensures ∙ clean-rest (view (s .stream .now)) (s .d) (s .e) (omega arith) (c .before .before .before .before .pre .2) in
-    ap Goes (c .seek .ensures ∙ ap (λ (k : ℕ). seekFrom (view (s .stream .now)) (k + 1)) x)
+    let start = c .before .before .before .before in
+    let clean-to = c .before .before .clean-to in
+    let seek = c .seek in
+    let x = clean-to .ensures ∙ clean-rest (view (s .stream .now)) (s .d) (s .e) (omega arith) (start .pre .2) in
+    ap Goes (seek .ensures ∙ ap (λ (k : ℕ). seekFrom (view (s .stream .now)) (k + 1)) x)
     ∙ sym (intact-cut (view (s .stream .now)) (s .d) (s .e) (s .s) (omega (arith, x)))
 
 returns-2 : tie.Need-returns-2
 returns-2 c =
     let s = c .before .before .before .args in
-    let x = c .before .clean-to .ensures ∙ clean-rest (view (s .stream .now)) (s .d) (s .e) (omega arith) (c .before .before .before .pre .2) in
+    let start = c .before .before .before in
+    let clean-to = c .before .clean-to in
+    let x = clean-to .ensures ∙ clean-rest (view (s .stream .now)) (s .d) (s .e) (omega arith) (start .pre .2) in
     sym (intact-good (view (s .stream .now)) (s .d) (s .e) (s .s) (omega (arith, x)))
 
 pub if-intact-spec : {M : Type 1} → statement M
-if-intact-spec = tie.close (tie.spec add-end add-clean-to add-clean-to-2 clean-to-requires add-seek seek-requires returns returns-2)
+if-intact-spec = tie.close (tie.spec add-end add-clean-to add-clean-to-2 clean-to-requires add-seek seek-requires
+    returns returns-2)

@@ -12,9 +12,10 @@ use Rattle.card.proofs.reading.next_packet.Tie as tie
 
 returns : tie.Need-returns
 returns c =
-    let s = c .before .before .before .args in (
-      next-torn (s .stream .now) (s .reader .at) (length (s .room .now)) (c .if1 .taken),
-      room-torn (s .stream .now) (s .reader .at) (s .room .now) (c .if1 .taken),
+    let s = c .before .before .before .args in
+    let if1 = c .if1 in (
+      next-torn (s .stream .now) (s .reader .at) (length (s .room .now)) (if1 .taken),
+      room-torn (s .stream .now) (s .reader .at) (s .room .now) (if1 .taken),
     )
 
 find-from-requires : tie.Need-find-from-requires
@@ -29,15 +30,20 @@ enum-known-at c = search needs
 give-requires : tie.Need-give-requires
 give-requires c κs =
     let s = c .before .before .before .before .before .before .before .before .args in
-    find-fits (view (s .stream .now)) _ (s .reader .at) _ _ _ (sym (c .before .before .before .before .find-from .ensures) ∙ c .before .before .at .given .1)
+    let find-from = c .before .before .before .before .find-from in
+    let at = c .before .before .at in
+    find-fits (view (s .stream .now)) _ (s .reader .at) _ _ _ (sym (find-from .ensures) ∙ at .given .1)
 
 returns-2 : tie.Need-returns-2
 unfolding given put
 returns-2 c =
     let s = c .before .before .before .before .before .before .args in
-    let f = sym (c .before .before .find-from .ensures) ∙ c .enum-told .given .1 in (
-      next-found (s .stream .now) (s .reader .at) (length (s .room .now)) found.Nothing _ (c .before .before .before .if1 .left) f refl,
-      room-found (s .stream .now) (s .reader .at) (s .room .now) found.Nothing _ (c .before .before .before .if1 .left) f refl,
+    let if1 = c .before .before .before .if1 in
+    let find-from = c .before .before .find-from in
+    let enum-told-fact = c .enum-told in
+    let f = sym (find-from .ensures) ∙ enum-told-fact .given .1 in (
+      next-found (s .stream .now) (s .reader .at) (length (s .room .now)) found.Nothing _ (if1 .left) f refl,
+      room-found (s .stream .now) (s .reader .at) (s .room .now) found.Nothing _ (if1 .left) f refl,
     )
 
 same-length : tie.Need-same-length
@@ -46,11 +52,16 @@ same-length c = search needs
 returns-3 : tie.Need-returns-3
 returns-3 c =
     let s = c .before .before .before .before .before .before .before .before .before .before .before .args in
-    let f = sym (c .before .before .before .before .before .before .before .find-from .ensures) ∙ c .before .before .before .before .before .at .given .1 in
-    let l = c .before .before .before .before .before .before .before .before .if1 .left in (
-      next-found (s .stream .now) (s .reader .at) (length (s .room .now)) _ _ l f (c .before .before .give .ensures .0),
-      room-found (s .stream .now) (s .reader .at) (s .room .now) _ _ l f (c .before .before .give .ensures .1),
+    let if1 = c .before .before .before .before .before .before .before .before .if1 in
+    let find-from = c .before .before .before .before .before .before .before .find-from in
+    let at = c .before .before .before .before .before .at in
+    let give = c .before .before .give in
+    let f = sym (find-from .ensures) ∙ at .given .1 in
+    let l = if1 .left in (
+      next-found (s .stream .now) (s .reader .at) (length (s .room .now)) _ _ l f (give .ensures .0),
+      room-found (s .stream .now) (s .reader .at) (s .room .now) _ _ l f (give .ensures .1),
     )
 
 pub next-packet-spec : {M : Type 1} → statement M
-next-packet-spec = tie.close (tie.spec returns find-from-requires enum-told enum-known-at give-requires returns-2 same-length returns-3)
+next-packet-spec = tie.close (tie.spec returns find-from-requires enum-told enum-known-at give-requires returns-2
+    same-length returns-3)

@@ -24,7 +24,8 @@ if-intact-requires c κs = search needs
 returns : tie.Need-returns
 returns c =
     let s = c .before .before .before .args in
-    c .if-intact .ensures ∙ sym (packet-past (view (s .stream .now)) (s .d) (s .len) (omega arith))
+    let if-intact = c .if-intact in
+    if-intact .ensures ∙ sym (packet-past (view (s .stream .now)) (s .d) (s .len) (omega arith))
 
 add-data-byte : tie.Need-add-data-byte
 add-data-byte c = search needs
@@ -44,11 +45,14 @@ if-intact-requires-2 c κs = search needs
 returns-2 : tie.Need-returns-2
 returns-2 c =
     let s = c .before .before .before .before .args in
-    c .if-intact2 .ensures
-    ∙ ap (λ (a : ℕ). intact (view (s .stream .now)) (s .d) (s .d + 3 + s .len) (Gives a (s .len))) (c .before .data-byte .ensures)
+    let data-byte = c .before .data-byte in
+    let if-intact2 = c .if-intact2 in
+    if-intact2 .ensures
+    ∙ ap (λ (a : ℕ). intact (view (s .stream .now)) (s .d) (s .d + 3 + s .len) (Gives a (s .len))) (data-byte .ensures)
     ∙ sym (packet-in (view (s .stream .now)) (s .d) (s .len) (omega arith))
 
 pub packet-at-spec : {M : Type 1} → statement M
 packet-at-spec =
-    tie.close (tie.spec mul-all sub-if1 sub-if1-2 if-intact-requires returns add-data-byte data-byte-requires add-if-intact add-if-intact-2
+    tie.close (tie.spec mul-all sub-if1 sub-if1-2 if-intact-requires returns add-data-byte data-byte-requires
+    add-if-intact add-if-intact-2
     if-intact-requires-2 returns-2)

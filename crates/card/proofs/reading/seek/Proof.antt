@@ -10,7 +10,8 @@ use Rattle.card.proofs.reading.seek.Statement.{statement}
 use Rattle.card.proofs.reading.seek.Tie as tie
 
 abbrev Inv-loop : tie.InvT-loop
-Inv-loop stream from end k₀ k = (k ≤ length stream / 512) × (seek (view stream) k (length stream / 512 - k) ≡ seekFrom (view stream) from)
+Inv-loop stream from end k₀ k = (k ≤ length stream / 512)
+    × (seek (view stream) k (length stream / 512 - k) ≡ seekFrom (view stream) from)
 
 abbrev μ-loop : tie.MeasureT-loop
 μ-loop stream from end k₀ k = end - k
@@ -31,22 +32,31 @@ sub-result : tie.Need-sub-result Inv-loop μ-loop
 sub-result c =
     let s = c .before .before .before .before .before .before .args in
     let v = c .before .before .before .before .loop in
-    let t = sym (c .before .before .names-begin .ensures) ∙ c .before .if1 .taken in
-    omega (arith, c .pair-at .ensures .0, begins-from (view (s .stream .now)) (v .k) t)
+    let names-begin = c .before .before .names-begin in
+    let if1 = c .before .if1 in
+    let pair-at = c .pair-at in
+    let t = sym (names-begin .ensures) ∙ if1 .taken in
+    omega (arith, pair-at .ensures .0, begins-from (view (s .stream .now)) (v .k) t)
 
 add-result : tie.Need-add-result Inv-loop μ-loop
 add-result c =
     let s = c .before .before .before .before .before .before .args in
     let v = c .before .before .before .before .loop in
-    let t = sym (c .before .before .names-begin .ensures) ∙ c .before .if1 .taken in
-    omega (arith, c .pair-at .ensures .0, begins-from (view (s .stream .now)) (v .k) t)
+    let names-begin = c .before .before .names-begin in
+    let if1 = c .before .if1 in
+    let pair-at = c .pair-at in
+    let t = sym (names-begin .ensures) ∙ if1 .taken in
+    omega (arith, pair-at .ensures .0, begins-from (view (s .stream .now)) (v .k) t)
 
 returns : tie.Need-returns Inv-loop μ-loop
 returns c =
     let s = c .before .before .before .before .before .before .args in
     let v = c .before .before .before .before .loop in
-    let t = sym (c .before .before .names-begin .ensures) ∙ c .before .if1 .taken in
-    ap (λ (n : ℕ). v .k * 504 + (n - 6)) (c .pair-at .ensures .0)
+    let names-begin = c .before .before .names-begin in
+    let if1 = c .before .if1 in
+    let pair-at = c .pair-at in
+    let t = sym (names-begin .ensures) ∙ if1 .taken in
+    ap (λ (n : ℕ). v .k * 504 + (n - 6)) (pair-at .ensures .0)
     ∙ sym (seek-here (view (s .stream .now)) (v .k) _ (omega arith) t) ∙ v .inv .1
 
 add-k : tie.Need-add-k Inv-loop μ-loop
@@ -57,20 +67,26 @@ loop-less c = omega arith
 
 loop-again : tie.Need-loop-again Inv-loop μ-loop
 loop-again c =
-    let v = c .before .before .before .loop in
     let s = c .before .before .before .before .before .args in
-    (omega arith, sym (seek-more (view (s .stream .now)) (v .k) _ (omega arith) (sym (c .before .names-begin .ensures) ∙ c .if1 .left)) ∙ v .inv .1)
+    let v = c .before .before .before .loop in
+    let names-begin = c .before .names-begin in
+    let if1 = c .if1 in (
+      omega arith,
+      sym (seek-more (view (s .stream .now)) (v .k) _ (omega arith) (sym (names-begin .ensures)
+          ∙ if1 .left)) ∙ v .inv .1,
+    )
 
 mul-result-2 : tie.Need-mul-result-2 Inv-loop μ-loop
 mul-result-2 c = omega arith
 
 returns-2 : tie.Need-returns-2 Inv-loop μ-loop
 returns-2 c =
-    let v = c .before .loop in
     let s = c .before .before .before .args in
+    let v = c .before .loop in
     sym (seek-stop (view (s .stream .now)) (v .k) _ (omega arith)) ∙ v .inv .1
 
 pub seek-spec : {M : Type 1} → statement M
 seek-spec =
-    tie.close (tie.spec Inv-loop μ-loop loop-holds names-begin-requires mul-result pair-at-requires sub-result add-result returns add-k loop-less
+    tie.close (tie.spec Inv-loop μ-loop loop-holds names-begin-requires mul-result pair-at-requires sub-result
+    add-result returns add-k loop-less
     loop-again mul-result-2 returns-2)

@@ -15,8 +15,9 @@ same-length c = search needs
 returns : tie.Need-returns
 returns c =
     let s = c .before .before .before .before .before .before .before .before .before .args in
-    closed-by (s .block .now) _ _ (s .number) (s .first)
-    (c .before .before .before .before .before .before .put-head .ensures) (c .before .before .put-check .ensures)
+    let put-head = c .before .before .before .before .before .before .put-head in
+    let put-check = c .before .before .put-check in
+    closed-by (s .block .now) _ _ (s .number) (s .first) (put-head .ensures) (put-check .ensures)
 
 pub close-spec : {M : Type 1} → statement M
 close-spec = tie.close (tie.spec put-head-requires put-check-requires same-length returns)

@@ -10,7 +10,8 @@ cast-result c = search needs
 returns : tie.Need-returns
 returns c =
     let s = c .before .args in
-    byte-low (s .endpoint) (s .bytes .now) (s .i) (c .if1 .taken)
+    let if1 = c .if1 in
+    byte-low (s .endpoint) (s .bytes .now) (s .i) (if1 .taken)
 
 cast-result-2 : tie.Need-cast-result-2
 cast-result-2 c = search needs
@@ -18,7 +19,8 @@ cast-result-2 c = search needs
 returns-2 : tie.Need-returns-2
 returns-2 c =
     let s = c .before .before .args in
-    byte-high (s .endpoint) (s .bytes .now) (s .i) (c .if2 .taken)
+    let if2 = c .if2 in
+    byte-high (s .endpoint) (s .bytes .now) (s .i) (if2 .taken)
 
 returns-3 : tie.Need-returns-3
 returns-3 c = search needs
@@ -35,4 +37,5 @@ returns-4 c =
     byte-rest (s .endpoint) (s .bytes .now) (s .i) (omega arith)
 
 pub packet-byte-spec : {M : Type 1} → statement M
-packet-byte-spec = tie.close (tie.spec cast-result returns cast-result-2 returns-2 returns-3 sub-result shared-slice-read-result returns-4)
+packet-byte-spec = tie.close (tie.spec cast-result returns cast-result-2 returns-2 returns-3 sub-result
+    shared-slice-read-result returns-4)

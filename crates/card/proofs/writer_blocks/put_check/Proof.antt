@@ -35,9 +35,12 @@ same-length c = search needs
 returns : tie.Need-returns
 returns c =
     let s = c .before .before .before .before .args in
-    check-stores (s .block .now) (c .data-crc .result) (c .before .before .before .before .pre) (c .data-crc .ensures)
+    let start = c .before .before .before .before in
+    let data-crc = c .data-crc in
+    check-stores (s .block .now) (data-crc .result) (start .pre) (data-crc .ensures)
 
 pub put-check-spec : {M : Type 1} → statement M
 put-check-spec =
-    tie.close (tie.spec sub-data-crc part-data-crc-start part-data-crc-end data-crc-requires cast-block slice-write-block cast-block-2
+    tie.close (tie.spec sub-data-crc part-data-crc-start part-data-crc-end data-crc-requires cast-block
+    slice-write-block cast-block-2
     slice-write-block-2 same-length returns)

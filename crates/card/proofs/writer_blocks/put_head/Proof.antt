@@ -45,9 +45,12 @@ same-length : tie.Need-same-length
 same-length c = search needs
 
 returns : tie.Need-returns
-returns c = head-stores (c .args .block .now) (c .args .number) (c .args .first) (omega arith)
+returns c =
+    let start = c in
+    head-stores (start .args .block .now) (start .args .number) (start .args .first) (omega arith)
 
 pub put-head-spec : {M : Type 1} → statement M
 put-head-spec =
-    tie.close (tie.spec cast-block slice-write-block cast-block-2 slice-write-block-2 cast-block-3 slice-write-block-3 cast-block-4
+    tie.close (tie.spec cast-block slice-write-block cast-block-2 slice-write-block-2 cast-block-3 slice-write-block-3
+    cast-block-4
     slice-write-block-4 cast-block-5 slice-write-block-5 cast-block-6 slice-write-block-6 same-length returns)

@@ -9,7 +9,8 @@ use Rattle.card.proofs.writer_blocks.put_piece.Statement.{statement}
 use Rattle.card.proofs.writer_blocks.put_piece.Tie as tie
 
 abbrev Inv-loop : tie.InvT-loop
-Inv-loop block₀ at endpoint bytes from n i₀ block i = Pasted block₀ (drop from (packetBytes (packetOf endpoint bytes))) at n block i
+Inv-loop block₀ at endpoint bytes from n i₀ block i = Pasted block₀ (drop from (packetBytes (packetOf endpoint bytes)))
+    at n block i
 
 abbrev μ-loop : tie.MeasureT-loop
 μ-loop block₀ at endpoint bytes from n i₀ block i = n - i
@@ -41,18 +42,25 @@ loop-again : tie.Need-loop-again Inv-loop μ-loop
 loop-again c =
     let s = c .before .before .before .before .before .args in
     let v = c .before .before .loop in
+    let packet-byte = c .packet-byte in
     let l = packetBytes (packetOf (s .endpoint) (s .bytes .now)) in
     let long = length-drop (s .from) l in
-    one-pasted _ _ (s .at) (s .n) (v .block) (v .i) _ (v .inv) (getD-drop (s .from) l (v .i) 0 ∙ sym (c .packet-byte .ensures))
+    one-pasted _ _ (s .at) (s .n) (v .block) (v .i) _ (v .inv) (getD-drop (s .from) l (v .i) 0
+    ∙ sym (packet-byte .ensures))
     (omega arith) (omega arith) (omega arith)
 
 same-length : tie.Need-same-length Inv-loop μ-loop
-same-length c = c .before .loop .inv .long
+same-length c =
+    let looped = c .before .loop in
+    looped .inv .long
 
 returns : tie.Need-returns Inv-loop μ-loop
-returns c = all-pasted _ _ _ _ _ _ (c .before .loop .inv) (omega arith)
+returns c =
+    let looped = c .before .loop in
+    all-pasted _ _ _ _ _ _ (looped .inv) (omega arith)
 
 pub put-piece-spec : {M : Type 1} → statement M
 put-piece-spec =
-    tie.close (tie.spec Inv-loop μ-loop loop-holds add-packet-byte packet-byte-requires add-block slice-write-block add-i loop-less loop-again
+    tie.close (tie.spec Inv-loop μ-loop loop-holds add-packet-byte packet-byte-requires add-block slice-write-block
+    add-i loop-less loop-again
     same-length returns)

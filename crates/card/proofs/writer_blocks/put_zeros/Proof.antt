@@ -12,7 +12,9 @@ abbrev μ-loop : tie.MeasureT-loop
 μ-loop block₀ at n i₀ block i = n - i
 
 loop-holds : tie.Need-loop-holds Inv-loop μ-loop
-loop-holds c = none-pasted (c .args .block .now) (replicate (c .args .n) 0) (c .args .at) (c .args .n)
+loop-holds c =
+    let start = c in
+    none-pasted (start .args .block .now) (replicate (start .args .n) 0) (start .args .at) (start .args .n)
 
 add-block : tie.Need-add-block Inv-loop μ-loop
 add-block c = omega arith
@@ -28,16 +30,24 @@ loop-less c = omega arith
 
 loop-again : tie.Need-loop-again Inv-loop μ-loop
 loop-again c =
-    let n = c .before .before .args .n in
-    let v = c .before .loop in
+    let start = c .before .before in
+    let looped = c .before .loop in
+    let n = start .args .n in
+    let v = looped in
     let long = length-replicate {A = ℕ} n 0 in
-    one-pasted _ _ _ n (v .block) (v .i) 0 (v .inv) (getD-replicate n (v .i) 0 0 (omega arith)) (omega arith) (omega arith) (omega arith)
+    one-pasted _ _ _ n (v .block) (v .i) 0 (v .inv) (getD-replicate n (v .i) 0 0 (omega arith)) (omega arith)
+    (omega arith) (omega arith)
 
 same-length : tie.Need-same-length Inv-loop μ-loop
-same-length c = c .before .loop .inv .long
+same-length c =
+    let looped = c .before .loop in
+    looped .inv .long
 
 returns : tie.Need-returns Inv-loop μ-loop
-returns c = all-pasted _ _ _ _ _ _ (c .before .loop .inv) (omega arith)
+returns c =
+    let looped = c .before .loop in
+    all-pasted _ _ _ _ _ _ (looped .inv) (omega arith)
 
 pub put-zeros-spec : {M : Type 1} → statement M
-put-zeros-spec = tie.close (tie.spec Inv-loop μ-loop loop-holds add-block slice-write-block add-i loop-less loop-again same-length returns)
+put-zeros-spec = tie.close (tie.spec Inv-loop μ-loop loop-holds add-block slice-write-block add-i loop-less loop-again
+    same-length returns)

@@ -9,7 +9,11 @@ is-whole-requires : tie.Need-is-whole-requires
 is-whole-requires c κs = search needs
 
 returns : tie.Need-returns
-returns c = done-whole (c .before .before .args .w) (c .before .before .args .n) (sym (c .before .is-whole .ensures) ∙ c .if1 .taken)
+returns c =
+    let start = c .before .before in
+    let is-whole = c .before .is-whole in
+    let if1 = c .if1 in
+    done-whole (start .args .w) (start .args .n) (sym (is-whole .ensures) ∙ if1 .taken)
 
 done-of-requires : tie.Need-done-of-requires
 done-of-requires c κs = search needs
@@ -23,8 +27,12 @@ add-result c = search needs
 returns-2 : tie.Need-returns-2
 returns-2 c =
     let s = c .before .before .before .before .args in
-    ap₂ (λ (a b : ℕ). a + b) (c .before .done-of .ensures) (c .piece-of .ensures)
-    ∙ done-part (s .w) (s .n) (sym (c .before .before .before .is-whole .ensures) ∙ c .before .before .if1 .left)
+    let is-whole = c .before .before .before .is-whole in
+    let if1 = c .before .before .if1 in
+    let done-of = c .before .done-of in
+    let piece-of = c .piece-of in
+    ap₂ (λ (a b : ℕ). a + b) (done-of .ensures) (piece-of .ensures)
+    ∙ done-part (s .w) (s .n) (sym (is-whole .ensures) ∙ if1 .left)
 
 pub done-after-spec : {M : Type 1} → statement M
 done-after-spec = tie.close (tie.spec is-whole-requires returns done-of-requires piece-of-requires add-result returns-2)

@@ -5,7 +5,10 @@ use Rattle.card.proofs.writing.finish.Statement.{statement}
 use Rattle.card.proofs.writing.finish.Tie as tie
 
 returns : tie.Need-returns
-returns c = finish-refused (c .before .before .args .w) (c .before .before .args .block .now) (c .if1 .taken)
+returns c =
+    let start = c .before .before in
+    let if1 = c .if1 in
+    finish-refused (start .args .w) (start .args .block .now) (if1 .taken)
 
 used-of-requires : tie.Need-used-of-requires
 used-of-requires c κs = search needs
@@ -16,7 +19,10 @@ cast-used c = search needs
 returns-2 : tie.Need-returns-2
 returns-2 c =
     let s = c .before .before .before .before .args in
-    finish-nothing (s .w) (s .block .now) (c .before .before .if1 .left) (sym (c .before .used-of .ensures) ∙ c .if2 .taken)
+    let if1 = c .before .before .if1 in
+    let used-of = c .before .used-of in
+    let if2 = c .if2 in
+    finish-nothing (s .w) (s .block .now) (if1 .left) (sym (used-of .ensures) ∙ if2 .taken)
 
 add-put-zeros : tie.Need-add-put-zeros
 add-put-zeros c = search needs
@@ -36,12 +42,16 @@ same-length c = search needs
 returns-3 : tie.Need-returns-3
 returns-3 c =
     let s = c .before .before .before .before .before .before .before .before .before .before .before .before .args in
-    finish-last (s .w) (s .block .now) _ _ _ (c .before .before .before .before .before .before .before .before .before .before .if1 .left)
-    (c .before .before .before .before .before .before .before .before .before .used-of .ensures)
-    (c .before .before .before .before .before .before .before .before .if2 .left)
-    (c .before .before .before .before .before .before .put-zeros .ensures) (c .before .before .close .ensures)
+    let if1 = c .before .before .before .before .before .before .before .before .before .before .if1 in
+    let used-of = c .before .before .before .before .before .before .before .before .before .used-of in
+    let if2 = c .before .before .before .before .before .before .before .before .if2 in
+    let put-zeros = c .before .before .before .before .before .before .put-zeros in
+    let close = c .before .before .close in
+    finish-last (s .w) (s .block .now) _ _ _ (if1 .left) (used-of .ensures) (if2 .left)
+    (put-zeros .ensures) (close .ensures)
 
 pub finish-spec : {M : Type 1} → statement M
 finish-spec =
-    tie.close (tie.spec returns used-of-requires cast-used returns-2 add-put-zeros sub-put-zeros put-zeros-requires close-requires same-length
+    tie.close (tie.spec returns used-of-requires cast-used returns-2 add-put-zeros sub-put-zeros put-zeros-requires
+    close-requires same-length
     returns-3)

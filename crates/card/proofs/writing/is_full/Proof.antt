@@ -12,7 +12,10 @@ add-result : tie.Need-add-result
 add-result c = search needs
 
 returns : tie.Need-returns
-returns c = simp (c .piece-of .ensures, c .before .used-of .ensures)
+returns c =
+    let used-of = c .before .used-of in
+    let piece-of = c .piece-of in
+    simp (piece-of .ensures, used-of .ensures)
 
 pub is-full-spec : {M : Type 1} → statement M
 is-full-spec = tie.close (tie.spec used-of-requires piece-of-requires add-result returns)

@@ -15,7 +15,10 @@ add-result-2 : tie.Need-add-result-2
 add-result-2 c = search needs
 
 returns : tie.Need-returns
-returns c = simp (c .piece-of .ensures, c .before .done-of .ensures)
+returns c =
+    let done-of = c .before .done-of in
+    let piece-of = c .piece-of in
+    simp (piece-of .ensures, done-of .ensures)
 
 pub is-whole-spec : {M : Type 1} → statement M
 is-whole-spec = tie.close (tie.spec done-of-requires piece-of-requires add-result add-result-2 returns)

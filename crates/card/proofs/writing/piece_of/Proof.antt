@@ -21,7 +21,12 @@ least-requires : tie.Need-least-requires
 least-requires c κs = search needs
 
 returns : tie.Need-returns
-returns c = simp (c .least .ensures, c .before .done-of .ensures, c .before .before .used-of .ensures)
+returns c =
+    let used-of = c .before .before .used-of in
+    let done-of = c .before .done-of in
+    let least = c .least in
+    simp (least .ensures, done-of .ensures, used-of .ensures)
 
 pub piece-of-spec : {M : Type 1} → statement M
-piece-of-spec = tie.close (tie.spec used-of-requires done-of-requires sub-least add-least sub-least-2 least-requires returns)
+piece-of-spec = tie.close (tie.spec used-of-requires done-of-requires sub-least add-least sub-least-2 least-requires
+    returns)

@@ -46,16 +46,23 @@ same-length c = search needs
 
 returns : tie.Need-returns
 returns c =
-    let s = c .before .before .before .before .before .before .before .before .before .before .before .before .before .before .before .before .args in
+    let s = c .before .before .before .before .before .before .before .before .before .before .before .before .before
+    .before .before .before .args in
+    let used-of = c .before .before .before .before .before .before .before .before .before .before .before .before
+    .before .used-of in
+    let done-of = c .before .before .before .before .before .before .before .before .before .before .before .before
+    .done-of in
+    let piece-of
+    = c .before .before .before .before .before .before .before .before .before .before .before .piece-of in
+    let put-piece = c .before .before .before .before .before .before .before .before .before .put-piece in
+    let is-full = c .before .before .before .before .before .before .is-full in
+    let if1 = c .before .before .before .before .before .if1 in
+    let first-of = c .before .before .before .before .first-of in
+    let close = c .before .before .close in
     let p = packetOf (s .endpoint) (s .bytes .now) in
-    block-full (s .w) p (s .block .now) _ _ _
-    (sym (c .before .before .before .before .before .before .is-full .ensures) ∙ c .before .before .before .before .before .if1 .taken)
-    (piece-in (s .w) p (s .block .now) _ _ _ _
-    (c .before .before .before .before .before .before .before .before .before .before .before .before .before .used-of .ensures)
-    (c .before .before .before .before .before .before .before .before .before .before .before .before .done-of .ensures)
-    (c .before .before .before .before .before .before .before .before .before .before .before .piece-of .ensures)
-    (c .before .before .before .before .before .before .before .before .before .put-piece .ensures))
-    (c .before .before .before .before .first-of .ensures) (c .before .before .close .ensures)
+    block-full (s .w) p (s .block .now) _ _ _ (sym (is-full .ensures) ∙ if1 .taken)
+    (piece-in (s .w) p (s .block .now) _ _ _ _ (used-of .ensures) (done-of .ensures) (piece-of .ensures)
+    (put-piece .ensures)) (first-of .ensures) (close .ensures)
 
 same-length-2 : tie.Need-same-length-2
 same-length-2 c = search needs
@@ -63,14 +70,19 @@ same-length-2 c = search needs
 returns-2 : tie.Need-returns-2
 returns-2 c =
     let s = c .before .before .before .before .before .before .before .before .before .before .before .args in
+    let used-of = c .before .before .before .before .before .before .before .before .used-of in
+    let done-of = c .before .before .before .before .before .before .before .done-of in
+    let piece-of = c .before .before .before .before .before .before .piece-of in
+    let put-piece = c .before .before .before .before .put-piece in
+    let is-full = c .before .is-full in
+    let if1 = c .if1 in
     let p = packetOf (s .endpoint) (s .bytes .now) in
-    block-part (s .w) p (s .block .now) _ (sym (c .before .is-full .ensures) ∙ c .if1 .left)
-    (piece-in (s .w) p (s .block .now) _ _ _ _ (c .before .before .before .before .before .before .before .before .used-of .ensures)
-    (c .before .before .before .before .before .before .before .done-of .ensures)
-    (c .before .before .before .before .before .before .piece-of .ensures)
-    (c .before .before .before .before .put-piece .ensures))
+    block-part (s .w) p (s .block .now) _ (sym (is-full .ensures) ∙ if1 .left)
+    (piece-in (s .w) p (s .block .now) _ _ _ _ (used-of .ensures) (done-of .ensures) (piece-of .ensures)
+    (put-piece .ensures))
 
 pub put-spec : {M : Type 1} → statement M
 put-spec =
-    tie.close (tie.spec cast-n used-of-requires done-of-requires piece-of-requires cast-put-piece add-put-piece cast-put-piece-2 cast-put-piece-3
+    tie.close (tie.spec cast-n used-of-requires done-of-requires piece-of-requires cast-put-piece add-put-piece
+    cast-put-piece-2 cast-put-piece-3
     put-piece-requires is-full-requires first-of-requires close-requires same-length returns same-length-2 returns-2)

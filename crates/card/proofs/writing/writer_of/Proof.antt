@@ -17,8 +17,12 @@ wrapping-add-u32-requires c κs = search needs
 returns : tie.Need-returns
 returns c =
     let s = c .before .before .before .before .args in
-    writer-full (s .w) (s .n) _ _ (sym (c .before .before .is-full .ensures) ∙ c .before .if1 .taken)
-    (c .wrapping-add-u32 .ensures) (c .before .before .before .done-after .ensures)
+    let done-after = c .before .before .before .done-after in
+    let is-full = c .before .before .is-full in
+    let if1 = c .before .if1 in
+    let wrapping-add-u32 = c .wrapping-add-u32 in
+    writer-full (s .w) (s .n) _ _ (sym (is-full .ensures) ∙ if1 .taken)
+    (wrapping-add-u32 .ensures) (done-after .ensures)
 
 used-of-requires : tie.Need-used-of-requires
 used-of-requires c κs = search needs
@@ -35,11 +39,17 @@ add-t9 c = search needs
 returns-2 : tie.Need-returns-2
 returns-2 c =
     let s = c .before .before .before .before .before .before .args in
-    writer-part (s .w) (s .n) _ _ _ (sym (c .before .before .before .before .is-full .ensures) ∙ c .before .before .before .if1 .left)
-    (ap₂ (λ (a b : ℕ). a + b) (c .before .before .used-of .ensures) (c .before .piece-of .ensures))
-    (c .first-of .ensures) (c .before .before .before .before .before .done-after .ensures)
+    let done-after = c .before .before .before .before .before .done-after in
+    let is-full = c .before .before .before .before .is-full in
+    let if1 = c .before .before .before .if1 in
+    let used-of = c .before .before .used-of in
+    let piece-of = c .before .piece-of in
+    let first-of = c .first-of in
+    writer-part (s .w) (s .n) _ _ _ (sym (is-full .ensures) ∙ if1 .left)
+    (ap₂ (λ (a b : ℕ). a + b) (used-of .ensures) (piece-of .ensures)) (first-of .ensures) (done-after .ensures)
 
 pub writer-of-spec : {M : Type 1} → statement M
 writer-of-spec =
-    tie.close (tie.spec done-after-requires is-full-requires wrapping-add-u32-requires returns used-of-requires piece-of-requires first-of-requires
+    tie.close (tie.spec done-after-requires is-full-requires wrapping-add-u32-requires returns used-of-requires
+    piece-of-requires first-of-requires
     add-t9 returns-2)

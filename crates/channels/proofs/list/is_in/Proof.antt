@@ -14,8 +14,10 @@ is-set-requires c κs = search needs
 
 returns : tie.Need-returns
 returns c =
-    let e : c .before .args .i % 32 ≡ c .before .args .i = omega arith in
-    c .is-set .ensures ∙ ap (isSet (c .before .args .set)) e
+    let start = c .before in
+    let is-set = c .is-set in
+    let e : start .args .i % 32 ≡ start .args .i = omega arith in
+    is-set .ensures ∙ ap (isSet (start .args .set)) e
 
 pub is-in-spec : {M : Type 1} → statement M
 is-in-spec = tie.close (tie.spec cast-is-set is-set-requires returns)

@@ -11,7 +11,9 @@ shl-result : tie.Need-shl-result
 shl-result c = search needs
 
 returns : tie.Need-returns
-returns c = one-shifted 32 (c .args .n) (omega arith)
+returns c =
+    let start = c in
+    one-shifted 32 (start .args .n) (omega arith)
 
 pub all-sets-spec : {M : Type 1} → statement M
 all-sets-spec = tie.close (tie.spec cast-result shl-result returns)

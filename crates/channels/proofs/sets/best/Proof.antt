@@ -8,7 +8,8 @@ use Rattle.channels.proofs.sets.best.Statement.{statement}
 use Rattle.channels.proofs.sets.best.Tie as tie
 
 abbrev Inv-loop : tie.InvT-loop
-Inv-loop lists n room first found₀ set₀ found set = (set ≤ first) × (found ≡ bestOf (listed (lists .maxima)) (listed (lists .charges)) n room set)
+Inv-loop lists n room first found₀ set₀ found set = (set ≤ first)
+    × (found ≡ bestOf (listed (lists .maxima)) (listed (lists .charges)) n room set)
 
 abbrev μ-loop : tie.MeasureT-loop
 μ-loop lists n room first found₀ set₀ found set = first - set
@@ -27,13 +28,17 @@ loop-less c = omega arith
 
 loop-again : tie.Need-loop-again Inv-loop μ-loop
 loop-again c =
-    let v = c .before .before .loop .inv in
-    (omega arith, rw (c .look .ensures, v .1, best-more))
+    let looped = c .before .before .loop in
+    let look-fact = c .look in
+    let v = looped .inv in
+    (omega arith, rw (look-fact .ensures, v .1, best-more))
 
 returns : tie.Need-returns Inv-loop μ-loop
 returns c =
-    let e : c .before .loop .set ≡ c .before .before .args .first = omega arith in
-    rw (← e) (c .before .loop .inv .1)
+    let start = c .before .before in
+    let looped = c .before .loop in
+    let e : looped .set ≡ start .args .first = omega arith in
+    rw (← e) (looped .inv .1)
 
 pub best-spec : {M : Type 1} → statement M
 best-spec = tie.close (tie.spec Inv-loop μ-loop loop-holds look-requires add-set loop-less loop-again returns)

@@ -21,12 +21,17 @@ figure-requires c κs = search needs
 returns : tie.Need-returns
 unfolding choiceOf
 returns c =
+    let all-sets = c .before .before .before .before .before .all-sets in
+    let lesser = c .before .before .before .before .lesser in
+    let room = c .before .before .before .room in
+    let best = c .before .before .best in
+    let figure = c .figure in
     simp (
-      c .figure .ensures,
-      c .before .before .best .ensures,
-      c .before .before .before .room .ensures,
-      c .before .before .before .before .lesser .ensures,
-      c .before .before .before .before .before .all-sets .ensures,
+      figure .ensures,
+      best .ensures,
+      room .ensures,
+      lesser .ensures,
+      all-sets .ensures,
     )
 
 pub choose-spec : {M : Type 1} → statement M

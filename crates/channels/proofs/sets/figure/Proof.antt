@@ -12,11 +12,18 @@ sum-requires c κs = search needs
 
 returns : tie.Need-returns
 unfolding figure
-returns c = simp (← c .before .all-sets .ensures, le-leb _ _ (c .if1 .taken))
+returns c =
+    let all-sets = c .before .all-sets in
+    let if1 = c .if1 in
+    simp (← all-sets .ensures, le-leb _ _ (if1 .taken))
 
 returns-2 : tie.Need-returns-2
 unfolding figure
-returns-2 c = simp (← c .before .before .all-sets .ensures, lt-leb _ _ (c .before .if1 .left), c .sum .ensures)
+returns-2 c =
+    let all-sets = c .before .before .all-sets in
+    let if1 = c .before .if1 in
+    let sum = c .sum in
+    simp (← all-sets .ensures, lt-leb _ _ (if1 .left), sum .ensures)
 
 pub figure-spec : {M : Type 1} → statement M
 figure-spec = tie.close (tie.spec all-sets-requires sum-requires returns returns-2)

@@ -8,7 +8,9 @@ total-requires c κs = search needs
 
 returns : tie.Need-returns
 unfolding fits
-returns c = rw (c .total .ensures)
+returns c =
+    let total = c .total in
+    rw (total .ensures)
 
 pub fits-spec : {M : Type 1} → statement M
 fits-spec = tie.close (tie.spec total-requires returns)

@@ -16,24 +16,36 @@ total-requires : tie.Need-total-requires
 total-requires c κs = search needs
 
 -- a set w that fits, of the total t: taken where t is more than the best so far
-taken : (m c : ℕ → ℕ) (n left : ℕ) (b : Found) (w t : ℕ) (more : Bool) → true ≡ fits c n left w → t ≡ total m w n → ltb (b .total) t ≡ more
+taken : (m c : ℕ → ℕ) (n left : ℕ) (b : Found) (w t : ℕ) (more : Bool) → true ≡ fits c n left w → t ≡ total m w n
+    → ltb (b .total) t ≡ more
     → cond more (record { set = w; total = t }) b ≡ look m c n left b w
 unfolding look
 taken m c n left b w t more f e l = simp (← f, ← e, l)
 
 returns : tie.Need-returns
 returns c =
-    let fit = sym (c .before .before .before .before .if1 .taken) ∙ c .before .before .before .before .before .fits2 .ensures in
-    taken _ _ _ _ _ _ _ true fit (c .before .before .total .ensures) (lt-ltb _ _ (c .if2 .taken))
+    let fits2 = c .before .before .before .before .before .fits2 in
+    let if1 = c .before .before .before .before .if1 in
+    let total-fact = c .before .before .total in
+    let if2 = c .if2 in
+    let fit = sym (if1 .taken) ∙ fits2 .ensures in
+    taken _ _ _ _ _ _ _ true fit (total-fact .ensures) (lt-ltb _ _ (if2 .taken))
 
 returns-2 : tie.Need-returns-2
 returns-2 c =
-    let fit = sym (c .before .before .before .before .if1 .taken) ∙ c .before .before .before .before .before .fits2 .ensures in
-    taken _ _ _ _ _ _ _ false fit (c .before .before .total .ensures) (le-ltb _ _ (c .if2 .left))
+    let fits2 = c .before .before .before .before .before .fits2 in
+    let if1 = c .before .before .before .before .if1 in
+    let total-fact = c .before .before .total in
+    let if2 = c .if2 in
+    let fit = sym (if1 .taken) ∙ fits2 .ensures in
+    taken _ _ _ _ _ _ _ false fit (total-fact .ensures) (le-ltb _ _ (if2 .left))
 
 returns-3 : tie.Need-returns-3
 unfolding look
-returns-3 c = simp (← c .before .fits2 .ensures, c .if1 .left)
+returns-3 c =
+    let fits2 = c .before .fits2 in
+    let if1 = c .if1 in
+    simp (← fits2 .ensures, if1 .left)
 
 pub look-spec : {M : Type 1} → statement M
 look-spec = tie.close (tie.spec fits-requires total-requires returns returns-2 returns-3)

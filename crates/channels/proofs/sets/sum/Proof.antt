@@ -10,7 +10,10 @@ total-requires : tie.Need-total-requires
 total-requires c κs = search needs
 
 returns : tie.Need-returns
-returns c = c .total .ensures ∙ total-all (listed (c .before .args .numbers)) (c .before .args .n) (omega arith)
+returns c =
+    let start = c .before in
+    let total = c .total in
+    total .ensures ∙ total-all (listed (start .args .numbers)) (start .args .n) (omega arith)
 
 pub sum-spec : {M : Type 1} → statement M
 sum-spec = tie.close (tie.spec total-requires returns)

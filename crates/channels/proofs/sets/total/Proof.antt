@@ -39,13 +39,18 @@ loop-less c = omega arith
 
 loop-again : tie.Need-loop-again Inv-loop μ-loop
 loop-again c =
-    let v = c .before .before .loop .inv in
-    (omega arith, omega arith, rw (v .2, c .part .ensures, total-more))
+    let looped = c .before .before .loop in
+    let part = c .part in
+    let v = looped .inv in
+    (omega arith, omega arith, rw (v .2, part .ensures, total-more))
 
 returns : tie.Need-returns Inv-loop μ-loop
 returns c =
-    let e : c .before .loop .i ≡ c .before .before .args .n = omega arith in
-    rw (← e) (c .before .loop .inv .2)
+    let start = c .before .before in
+    let looped = c .before .loop in
+    let e : looped .i ≡ start .args .n = omega arith in
+    rw (← e) (looped .inv .2)
 
 pub total-spec : {M : Type 1} → statement M
-total-spec = tie.close (tie.spec Inv-loop μ-loop loop-holds mul-part array-read-part part-requires cast-sum add-sum add-i loop-less loop-again returns)
+total-spec = tie.close (tie.spec Inv-loop μ-loop loop-holds mul-part array-read-part part-requires cast-sum add-sum
+    add-i loop-less loop-again returns)

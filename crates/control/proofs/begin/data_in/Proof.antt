@@ -12,7 +12,10 @@ begin-row-requires : tie.Need-begin-row-requires
 begin-row-requires c κs = search needs
 
 length16-requires : tie.Need-length16-requires
-length16-requires c κs = within _ _ (c .before .begin-row .ensures) (c .if1 .taken)
+length16-requires c κs =
+    let begin-row = c .before .begin-row in
+    let if1 = c .if1 in
+    within _ _ (begin-row .ensures) (if1 .taken)
 
 cast-set-data-in : tie.Need-cast-set-data-in
 cast-set-data-in c = search needs
@@ -40,24 +43,34 @@ same-length c = search needs
 
 returns : tie.Need-returns
 returns c =
-    let asked = c .before .before .before .before .before .before .before .before .before .before .before in
-    let row = asked .before .before .before .before in
+    let at-set-data-in = c .before .before .before .before .before .before .before .before .before .before .before in
+    let clear-wakes = c .before .before .before .before .before .before .before .before .before .clear-wakes in
+    let fill0 = c .before .before .before .before .before .before .fill0 in
+    let unready = c .before .before .unready in
+    let load-in = c .load-in in
+    let row = at-set-data-in .before .before .before .before in
     let start = row .before .before .before .before .before .before .args in
-    let cleared = c .before .before .before .before .before .before .before .before .before .clear-wakes .ensures in (
-      c .load-in .ensures .0 _ ∙ in-loads (view (start .s .now)) _ _ _ _ _ (start .bytes .now) (start .first) (start .last)
+    let cleared = clear-wakes .ensures in (
+      load-in .ensures .0 _ ∙ in-loads (view (start .s .now)) _ _ _ _ _ (start .bytes .now) (start .first) (start .last)
           (row .before .before .load-globals .ensures) (row .before .begin-row .ensures) (row .if1 .taken)
-          (asked .before .before .before .length16 .ensures) (asked .before .flag-of .ensures) (asked .set-data-in .ensures .0)
-          (cleared .0) (c .before .before .before .before .before .before .fill0 .ensures) (c .before .before .unready .ensures .0),
+          (at-set-data-in .before .before .before .length16 .ensures) (at-set-data-in .before .flag-of .ensures)
+          (at-set-data-in .set-data-in .ensures .0)
+          (cleared .0) (fill0 .ensures) (unready .ensures .0),
       (
-        c .load-in .ensures .1 .0 ∙ c .before .before .unready .ensures .1 ∙ cleared .1 ∙ asked .set-data-in .ensures .1,
-        c .load-in .ensures .1 .1,
+        load-in .ensures .1 .0 ∙ unready .ensures .1 ∙ cleared .1 ∙ at-set-data-in .set-data-in .ensures .1,
+        load-in .ensures .1 .1,
       ),
     )
 
 returns-2 : tie.Need-returns-2
-returns-2 c = (begin-refused _ _ _ _ (c .before .before .load-globals .ensures) (c .before .begin-row .ensures) (c .if1 .left), (refl, tt))
+returns-2 c =
+    let load-globals = c .before .before .load-globals in
+    let begin-row = c .before .begin-row in
+    let if1 = c .if1 in
+    (begin-refused _ _ _ _ (load-globals .ensures) (begin-row .ensures) (if1 .left), (refl, tt))
 
 pub data-in-spec : {M : Type 1} → statement M
 data-in-spec =
-    tie.close (tie.spec load-globals-requires begin-row-requires length16-requires cast-set-data-in flag-of-requires set-data-in-requires
+    tie.close (tie.spec load-globals-requires begin-row-requires length16-requires cast-set-data-in flag-of-requires
+    set-data-in-requires
     clear-wakes-requires fill0-requires unready-requires load-in-requires same-length returns returns-2)

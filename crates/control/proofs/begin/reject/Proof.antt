@@ -1,6 +1,6 @@
 use Rattle.state.specs.State.{view}
 use denote.Ref.{now}
-use lib.Dec.{eqb, ltb}
+use lib.Dec.{eqb}
 use Rattle.endpoint.specs.RecordsLaws.{on-driver}
 use Rattle.control.proofs.Laws.{reject-asks, reject-refused}
 use mathlib.Core.Path.{_∙_, refl}
@@ -34,30 +34,38 @@ set-armed-requires-2 : tie.Need-set-armed-requires-2
 set-armed-requires-2 c κs = search needs
 
 returns : tie.Need-returns
-returns c = (
-  reject-asks (view (now (c .before .before .before .before .before .before .before .before .before .before .before .before .args .s)))
-      _ _ _ _ (c .before .before .before .before .before .before .set-request .ensures .0)
-      (c .before .before .before .before .clear-wakes .ensures .0) (c .before .before .set-armed .ensures .0) (c .set-armed2 .ensures .0)
-      (on-driver (λ x. eqb (x .stage) 2)
-      (c .before .before .before .before .before .before .before .before .before .before .load-globals .ensures)
-      (c .before .before .before .before .before .before .before .before .before .is-started .ensures)
-      (c .before .before .before .before .before .before .before .before .if1 .taken)),
-  (
-    c .set-armed2 .ensures .1
-        ∙ c .before .before .set-armed .ensures .1 ∙ c .before .before .before .before .clear-wakes .ensures .1
-        ∙ c .before .before .before .before .before .before .set-request .ensures .1,
-    refl,
-  ),
-)
+returns c =
+    let start = c .before .before .before .before .before .before .before .before .before .before .before .before in
+    let load-globals
+    = c .before .before .before .before .before .before .before .before .before .before .load-globals in
+    let is-started = c .before .before .before .before .before .before .before .before .before .is-started in
+    let if1 = c .before .before .before .before .before .before .before .before .if1 in
+    let set-request = c .before .before .before .before .before .before .set-request in
+    let clear-wakes = c .before .before .before .before .clear-wakes in
+    let set-armed = c .before .before .set-armed in
+    let set-armed2 = c .set-armed2 in (
+      reject-asks (view (now (start .args .s))) _ _ _ _ (set-request .ensures .0)
+          (clear-wakes .ensures .0) (set-armed .ensures .0) (set-armed2 .ensures .0)
+          (on-driver (λ x. eqb (x .stage) 2) (load-globals .ensures) (is-started .ensures) (if1 .taken)),
+      (
+        set-armed2 .ensures .1 ∙ set-armed .ensures .1 ∙ clear-wakes .ensures .1 ∙ set-request .ensures .1,
+        refl,
+      ),
+    )
 
 returns-2 : tie.Need-returns-2
-returns-2 c = (
-  reject-refused (view (now (c .before .before .before .before .args .s)))
-      (on-driver (λ x. eqb (x .stage) 2) (c .before .before .load-globals .ensures) (c .before .is-started .ensures) (c .if1 .left)),
-  (refl, tt),
-)
+returns-2 c =
+    let start = c .before .before .before .before in
+    let load-globals = c .before .before .load-globals in
+    let is-started = c .before .is-started in
+    let if1 = c .if1 in (
+      reject-refused (view (now (start .args .s)))
+          (on-driver (λ x. eqb (x .stage) 2) (load-globals .ensures) (is-started .ensures) (if1 .left)),
+      (refl, tt),
+    )
 
 pub reject-spec : {M : Type 1} → statement M
 reject-spec =
-    tie.close (tie.spec load-globals-requires is-started-requires set-request-requires clear-wakes-requires set-armed-requires set-armed-requires-2
+    tie.close (tie.spec load-globals-requires is-started-requires set-request-requires clear-wakes-requires
+    set-armed-requires set-armed-requires-2
     returns returns-2)

@@ -22,19 +22,29 @@ clear-wakes-requires : tie.Need-clear-wakes-requires
 clear-wakes-requires c κs = search needs
 
 returns : tie.Need-returns
-returns c = (
-  λ b. simp (
-    c .clear-wakes .ensures .0,
-    c .before .before .set-request .ensures .0,
-    c .before .before .before .before .if1 .taken,
-    ← c .before .before .before .before .before .is-started .ensures,
-    ← c .before .before .before .before .before .before .load-globals .ensures,
-  ),
-  (c .clear-wakes .ensures .1 ∙ c .before .before .set-request .ensures .1, tt),
-)
+returns c =
+    let load-globals = c .before .before .before .before .before .before .load-globals in
+    let is-started = c .before .before .before .before .before .is-started in
+    let if1 = c .before .before .before .before .if1 in
+    let set-request = c .before .before .set-request in
+    let clear-wakes = c .clear-wakes in (
+      λ b. simp (
+        clear-wakes .ensures .0,
+        set-request .ensures .0,
+        if1 .taken,
+        ← is-started .ensures,
+        ← load-globals .ensures,
+      ),
+      (clear-wakes .ensures .1 ∙ set-request .ensures .1, tt),
+    )
 
 returns-2 : tie.Need-returns-2
-returns-2 c = (λ b. simp (c .if1 .left, ← c .before .is-started .ensures, ← c .before .before .load-globals .ensures), (refl, tt))
+returns-2 c =
+    let load-globals = c .before .before .load-globals in
+    let is-started = c .before .is-started in
+    let if1 = c .if1 in
+    (λ b. simp (if1 .left, ← is-started .ensures, ← load-globals .ensures), (refl, tt))
 
 pub setup-spec : {M : Type 1} → statement M
-setup-spec = tie.close (tie.spec load-globals-requires is-started-requires set-request-requires clear-wakes-requires returns returns-2)
+setup-spec = tie.close (tie.spec load-globals-requires is-started-requires set-request-requires clear-wakes-requires
+    returns returns-2)

@@ -10,10 +10,12 @@ unready-requires : tie.Need-unready-requires
 unready-requires c κs = search needs
 
 returns : tie.Need-returns
-returns c = (
-  λ b. rw (c .unready .ensures .0, c .before .before .clear-wakes .ensures .0),
-  (c .unready .ensures .1 ∙ c .before .before .clear-wakes .ensures .1, refl),
-)
+returns c =
+    let clear-wakes = c .before .before .clear-wakes in
+    let unready = c .unready in (
+      λ b. rw (unready .ensures .0, clear-wakes .ensures .0),
+      (unready .ensures .1 ∙ clear-wakes .ensures .1, refl),
+    )
 
 pub status-in-spec : {M : Type 1} → statement M
 status-in-spec = tie.close (tie.spec clear-wakes-requires unready-requires returns)

@@ -9,15 +9,26 @@ is-started-requires c κs = search needs
 
 returns : tie.Need-returns
 unfolding pollRow
-returns c = simp (eq-eqb _ _ (c .if2 .taken), c .before .before .if1 .taken, ← c .before .before .before .is-started .ensures)
+returns c =
+    let is-started = c .before .before .before .is-started in
+    let if1 = c .before .before .if1 in
+    let if2 = c .if2 in
+    simp (eq-eqb _ _ (if2 .taken), if1 .taken, ← is-started .ensures)
 
 returns-2 : tie.Need-returns-2
 unfolding pollRow
-returns-2 c = simp (ne-eqb _ _ (c .if2 .left), c .before .before .if1 .taken, ← c .before .before .before .is-started .ensures)
+returns-2 c =
+    let is-started = c .before .before .before .is-started in
+    let if1 = c .before .before .if1 in
+    let if2 = c .if2 in
+    simp (ne-eqb _ _ (if2 .left), if1 .taken, ← is-started .ensures)
 
 returns-3 : tie.Need-returns-3
 unfolding pollRow
-returns-3 c = simp (c .if1 .left, ← c .before .is-started .ensures)
+returns-3 c =
+    let is-started = c .before .is-started in
+    let if1 = c .if1 in
+    simp (if1 .left, ← is-started .ensures)
 
 pub poll-row-spec : {M : Type 1} → statement M
 poll-row-spec = tie.close (tie.spec is-started-requires returns returns-2 returns-3)

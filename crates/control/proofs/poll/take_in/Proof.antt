@@ -30,15 +30,19 @@ take-closing-requires : tie.Need-take-closing-requires
 take-closing-requires c κs = search needs
 
 returns : tie.Need-returns
-returns c = (
-  λ b. c .take-closing .ensures .0 b
-      ∙ in-closes (view (now (c .before .before .before .before .before .before .before .before .args .s)))
-      (c .before .before .before .before .before .before .before .before .args .c)
-      (on-driver (λ x. isOn (x .ready)) (c .before .before .before .before .before .before .load-ep .ensures)
-      (c .before .before .before .before .before .is-on .ensures) (c .before .before .before .before .if1 .taken))
-      (sym (c .before .before .before .is-on2 .ensures) ∙ c .before .before .if2 .taken) b,
-  (c .take-closing .ensures .1 .0, c .take-closing .ensures .1 .1),
-)
+returns c =
+    let start = c .before .before .before .before .before .before .before .before in
+    let load-ep = c .before .before .before .before .before .before .load-ep in
+    let is-on = c .before .before .before .before .before .is-on in
+    let if1 = c .before .before .before .before .if1 in
+    let is-on2 = c .before .before .before .is-on2 in
+    let if2 = c .before .before .if2 in
+    let take-closing = c .take-closing in (
+      λ b. take-closing .ensures .0 b ∙ in-closes (view (now (start .args .s))) (start .args .c)
+          (on-driver (λ x. isOn (x .ready)) (load-ep .ensures) (is-on .ensures) (if1 .taken))
+          (sym (is-on2 .ensures) ∙ if2 .taken) b,
+      (take-closing .ensures .1 .0, take-closing .ensures .1 .1),
+    )
 
 unready-requires : tie.Need-unready-requires
 unready-requires c κs = search needs
@@ -47,30 +51,38 @@ set-request-requires : tie.Need-set-request-requires
 set-request-requires c κs = search needs
 
 returns-2 : tie.Need-returns-2
-returns-2 c = (
-  in-done (view (now (c .before .before .before .before .before .before .before .before .before .before .args .s)))
-      (c .before .before .before .before .before .before .before .before .before .before .args .c)
-      (on-driver (λ x. isOn (x .ready)) (c .before .before .before .before .before .before .before .before .load-ep .ensures)
-      (c .before .before .before .before .before .before .before .is-on .ensures)
-      (c .before .before .before .before .before .before .if1 .taken)) _ _
-      (c .before .before .unready .ensures .0) (c .set-request .ensures .0)
-      (sym (c .before .before .before .before .before .is-on2 .ensures) ∙ c .before .before .before .before .if2 .left),
-  (c .set-request .ensures .1 ∙ c .before .before .unready .ensures .1, tt),
-)
+returns-2 c =
+    let start = c .before .before .before .before .before .before .before .before .before .before in
+    let load-ep = c .before .before .before .before .before .before .before .before .load-ep in
+    let is-on = c .before .before .before .before .before .before .before .is-on in
+    let if1 = c .before .before .before .before .before .before .if1 in
+    let is-on2 = c .before .before .before .before .before .is-on2 in
+    let if2 = c .before .before .before .before .if2 in
+    let unready = c .before .before .unready in
+    let set-request = c .set-request in (
+      in-done (view (now (start .args .s))) (start .args .c) (on-driver (λ x. isOn (x .ready)) (load-ep .ensures)
+          (is-on .ensures) (if1 .taken)) _ _ (unready .ensures .0) (set-request .ensures .0)
+          (sym (is-on2 .ensures) ∙ if2 .left),
+      (set-request .ensures .1 ∙ unready .ensures .1, tt),
+    )
 
 wait-on-requires : tie.Need-wait-on-requires
 wait-on-requires c κs = search needs
 
 returns-3 : tie.Need-returns-3
-returns-3 c = (
-  λ b. c .wait-on .ensures .0 [] b ∙ in-waits (view (now (c .before .before .before .before .before .before .args .s)))
-      (c .before .before .before .before .before .before .args .c)
-      (on-driver (λ x. isOn (x .ready)) (c .before .before .before .before .load-ep .ensures)
-      (c .before .before .before .is-on .ensures) (c .before .before .if1 .left)) b,
-  (c .wait-on .ensures .1 .0, c .wait-on .ensures .1 .1),
-)
+returns-3 c =
+    let start = c .before .before .before .before .before .before in
+    let load-ep = c .before .before .before .before .load-ep in
+    let is-on = c .before .before .before .is-on in
+    let if1 = c .before .before .if1 in
+    let wait-on = c .wait-on in (
+      λ b. wait-on .ensures .0 [] b ∙ in-waits (view (now (start .args .s))) (start .args .c)
+          (on-driver (λ x. isOn (x .ready)) (load-ep .ensures) (is-on .ensures) (if1 .left)) b,
+      (wait-on .ensures .1 .0, wait-on .ensures .1 .1),
+    )
 
 pub take-in-spec : {M : Type 1} → statement M
 take-in-spec =
-    tie.close (tie.spec load-ep-requires is-on-requires is-on-requires-2 take-closing-requires returns unready-requires set-request-requires returns-2
+    tie.close (tie.spec load-ep-requires is-on-requires is-on-requires-2 take-closing-requires returns unready-requires
+    set-request-requires returns-2
     wait-on-requires returns-3)

@@ -17,20 +17,27 @@ set-request-requires : tie.Need-set-request-requires
 set-request-requires c κs = search needs
 
 returns : tie.Need-returns
-returns c = let start = c .before .before .before .before .before .before in (
-  λ b. setup-done (view (start .args .s .now)) _ _ b (start .pre .1) (start .pre .0) _ _ (c .before .before .store-globals .ensures .0)
-      (c .set-request .ensures .0)
-      (on-driver (λ x. isOn (x .«setup_ready»)) (start .pre .0) (c .before .before .before .before .before .is-on .ensures)
-      (c .before .before .before .before .if1 .taken)),
-  (c .set-request .ensures .1 ∙ c .before .before .store-globals .ensures .1, tt),
-)
+returns c =
+    let start = c .before .before .before .before .before .before in
+    let is-on = c .before .before .before .before .before .is-on in
+    let if1 = c .before .before .before .before .if1 in
+    let store-globals = c .before .before .store-globals in
+    let set-request = c .set-request in (
+      λ b. setup-done (view (start .args .s .now)) _ _ b (start .pre .1) (start .pre .0) _ _ (store-globals .ensures .0)
+          (set-request .ensures .0) (on-driver (λ x. isOn (x .«setup_ready»)) (start .pre .0) (is-on .ensures)
+          (if1 .taken)),
+      (set-request .ensures .1 ∙ store-globals .ensures .1, tt),
+    )
 
 returns-2 : tie.Need-returns-2
-returns-2 c = let start = c .before .before in (
-  λ b. setup-waits (view (start .args .s .now)) _ _ b (start .pre .1) (start .pre .0)
-      (on-driver (λ x. isOn (x .«setup_ready»)) (start .pre .0) (c .before .is-on .ensures) (c .if1 .left)),
-  (refl, tt),
-)
+returns-2 c =
+    let start = c .before .before in
+    let is-on = c .before .is-on in
+    let if1 = c .if1 in (
+      λ b. setup-waits (view (start .args .s .now)) _ _ b (start .pre .1) (start .pre .0)
+          (on-driver (λ x. isOn (x .«setup_ready»)) (start .pre .0) (is-on .ensures) (if1 .left)),
+      (refl, tt),
+    )
 
 pub take-setup-spec : {M : Type 1} → statement M
 take-setup-spec = tie.close (tie.spec is-on-requires store-globals-requires set-request-requires returns returns-2)

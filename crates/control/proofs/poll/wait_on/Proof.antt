@@ -18,18 +18,26 @@ set-request-requires : tie.Need-set-request-requires
 set-request-requires c κs = search needs
 
 returns : tie.Need-returns
-returns c = (
-  λ out b. simp (
-    c .set-request .ensures .0,
-    c .before .before .if1 .taken,
-    ← c .before .before .before .is-on .ensures,
-    ← c .before .before .before .before .load-globals .ensures,
-  ),
-  (c .set-request .ensures .1, tt),
-)
+returns c =
+    let load-globals = c .before .before .before .before .load-globals in
+    let is-on = c .before .before .before .is-on in
+    let if1 = c .before .before .if1 in
+    let set-request = c .set-request in (
+      λ out b. simp (
+        set-request .ensures .0,
+        if1 .taken,
+        ← is-on .ensures,
+        ← load-globals .ensures,
+      ),
+      (set-request .ensures .1, tt),
+    )
 
 returns-2 : tie.Need-returns-2
-returns-2 c = (λ out b. simp (c .if1 .left, ← c .before .is-on .ensures, ← c .before .before .load-globals .ensures), (refl, tt))
+returns-2 c =
+    let load-globals = c .before .before .load-globals in
+    let is-on = c .before .is-on in
+    let if1 = c .if1 in
+    (λ out b. simp (if1 .left, ← is-on .ensures, ← load-globals .ensures), (refl, tt))
 
 pub wait-on-spec : {M : Type 1} → statement M
 wait-on-spec = tie.close (tie.spec load-globals-requires is-on-requires set-request-requires returns returns-2)

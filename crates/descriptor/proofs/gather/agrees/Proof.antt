@@ -9,18 +9,29 @@ is-meant-requires c κs = search needs
 
 endpoint-requires : tie.Need-endpoint-requires
 endpoint-requires c κs =
-    let h = c .before .before .before .pre .0 .here in
-    let a = c .before .before .before .args in
-    h .endpoint (meant-endpoint (a .bytes .now) (a .at) (a .zeroth) (a .setting) (sym (c .before .is-meant .ensures) ∙ c .if1 .taken))
+    let start = c .before .before .before in
+    let is-meant = c .before .is-meant in
+    let if1 = c .if1 in
+    let h = start .pre .0 .here in
+    let a = start .args in
+    h .endpoint (meant-endpoint (a .bytes .now) (a .at) (a .zeroth) (a .setting) (sym (is-meant .ensures) ∙ if1 .taken))
 
 agrees-requires : tie.Need-agrees-requires
 agrees-requires c κs = search needs
 
 returns : tie.Need-returns
-returns c = rw (← c .before .before .before .is-meant .ensures, c .before .before .if1 .taken, c .agrees .ensures, c .before .endpoint .ensures)
+returns c =
+    let is-meant = c .before .before .before .is-meant in
+    let if1 = c .before .before .if1 in
+    let endpoint = c .before .endpoint in
+    let agrees = c .agrees in
+    rw (← is-meant .ensures, if1 .taken, agrees .ensures, endpoint .ensures)
 
 returns-2 : tie.Need-returns-2
-returns-2 c = rw (← c .before .is-meant .ensures, c .if1 .left)
+returns-2 c =
+    let is-meant = c .before .is-meant in
+    let if1 = c .if1 in
+    rw (← is-meant .ensures, if1 .left)
 
 pub agrees-spec : {M : Type 1} → statement M
 agrees-spec = tie.close (tie.spec is-meant-requires endpoint-requires agrees-requires returns returns-2)

@@ -37,9 +37,12 @@ shared-slice-read-t20 : tie.Need-shared-slice-read-t20
 shared-slice-read-t20 c = search needs
 
 returns : tie.Need-returns
-returns c = rw (endpoint-at, c .before .number .ensures)
+returns c =
+    let number = c .before .number in
+    rw (endpoint-at, number .ensures)
 
 pub endpoint-spec : {M : Type 1} → statement M
 endpoint-spec =
-    tie.close (tie.spec add-t3 shared-slice-read-t5 add-t6 shared-slice-read-t8 add-number shared-slice-read-number add-number-2
+    tie.close (tie.spec add-t3 shared-slice-read-t5 add-t6 shared-slice-read-t8 add-number shared-slice-read-number
+    add-number-2
     shared-slice-read-number-2 number-requires add-t18 shared-slice-read-t20 returns)

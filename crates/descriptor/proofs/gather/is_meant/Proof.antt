@@ -14,13 +14,25 @@ is-endpoint-requires : tie.Need-is-endpoint-requires
 is-endpoint-requires c κs = search needs
 
 returns : tie.Need-returns
-returns c = rw (meant-at, ← c .before .is-endpoint .ensures, not-true (c .before .is-endpoint .result) (c .if1 .taken))
+returns c =
+    let is-endpoint = c .before .is-endpoint in
+    let if1 = c .if1 in
+    rw (meant-at, ← is-endpoint .ensures, not-true (is-endpoint .result) (if1 .taken))
 
 returns-2 : tie.Need-returns-2
-returns-2 c = rw (meant-at, ← c .before .before .is-endpoint .ensures, not-false (c .before .before .is-endpoint .result) (c .before .if1 .left), c .if2 .taken)
+returns-2 c =
+    let is-endpoint = c .before .before .is-endpoint in
+    let if1 = c .before .if1 in
+    let if2 = c .if2 in
+    rw (meant-at, ← is-endpoint .ensures, not-false (is-endpoint .result) (if1 .left), if2 .taken)
 
 returns-3 : tie.Need-returns-3
-returns-3 c = rw (meant-at, ← c .before .before .is-endpoint .ensures, not-false (c .before .before .is-endpoint .result) (c .before .if1 .left), c .if2 .left)
+returns-3 c =
+    let is-endpoint = c .before .before .is-endpoint in
+    let if1 = c .before .if1 in
+    let if2 = c .if2 in
+    rw (meant-at, ← is-endpoint .ensures, not-false (is-endpoint .result) (if1 .left), if2 .left)
 
 pub is-meant-spec : {M : Type 1} → statement M
-is-meant-spec = tie.close (tie.spec add-is-endpoint shared-slice-read-is-endpoint is-endpoint-requires returns returns-2 returns-3)
+is-meant-spec = tie.close (tie.spec add-is-endpoint shared-slice-read-is-endpoint is-endpoint-requires returns returns-2
+    returns-3)

@@ -20,14 +20,24 @@ add-result c = search needs
 
 shared-slice-read-result : tie.Need-shared-slice-read-result
 shared-slice-read-result c =
-    let h = c .before .before .before .before .before .pre .here in
-    omega (arith, h .interface (eqb-true _ _ (sym (c .before .before .is-interface .ensures) ∙ c .before .if1 .taken)))
+    let start = c .before .before .before .before .before in
+    let is-interface = c .before .before .is-interface in
+    let if1 = c .before .if1 in
+    let h = start .pre .here in
+    omega (arith, h .interface (eqb-true _ _ (sym (is-interface .ensures) ∙ if1 .taken)))
 
 returns : tie.Need-returns
-returns c = rw (setting-at, ← c .before .before .is-interface .ensures, c .before .if1 .taken)
+returns c =
+    let is-interface = c .before .before .is-interface in
+    let if1 = c .before .if1 in
+    rw (setting-at, ← is-interface .ensures, if1 .taken)
 
 returns-2 : tie.Need-returns-2
-returns-2 c = rw (setting-at, ← c .before .is-interface .ensures, c .if1 .left)
+returns-2 c =
+    let is-interface = c .before .is-interface in
+    let if1 = c .if1 in
+    rw (setting-at, ← is-interface .ensures, if1 .left)
 
 pub setting-spec : {M : Type 1} → statement M
-setting-spec = tie.close (tie.spec add-is-interface shared-slice-read-is-interface is-interface-requires add-result shared-slice-read-result returns returns-2)
+setting-spec = tie.close (tie.spec add-is-interface shared-slice-read-is-interface is-interface-requires add-result
+    shared-slice-read-result returns returns-2)

@@ -11,7 +11,10 @@ lesser-requires c κs = search needs
 
 returns : tie.Need-returns
 unfolding merged
-returns c = rw (c .before .larger .ensures, c .lesser .ensures)
+returns c =
+    let larger = c .before .larger in
+    let lesser = c .lesser in
+    rw (larger .ensures, lesser .ensures)
 
 pub merged-spec : {M : Type 1} → statement M
 merged-spec = tie.close (tie.spec larger-requires lesser-requires returns)

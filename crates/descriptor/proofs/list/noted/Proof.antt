@@ -25,9 +25,11 @@ element-set-from-list c = search needs
 returns : tie.Need-returns
 returns c =
     let a = c .before .before .before .before .args in
-    rw (c .merged .ensures)
-    (noted-there (a .t1) (a .e) (c .before .before .before .place .result) (c .before .before .before .before .pre .0)
-    (c .before .before .before .place .ensures) (c .before .before .if1 .taken))
+    let start = c .before .before .before .before in
+    let place = c .before .before .before .place in
+    let if1 = c .before .before .if1 in
+    let merged = c .merged in
+    rw (merged .ensures) (noted-there (a .t1) (a .e) (place .result) (start .pre .0) (place .ensures) (if1 .taken))
 
 mul-e : tie.Need-mul-e
 mul-e c = search needs
@@ -41,9 +43,13 @@ add-list c = search needs
 returns-2 : tie.Need-returns-2
 returns-2 c =
     let a = c .before .before .args in
-    noted-last (a .t1) (a .e) (c .before .place .result) (c .before .before .pre .0) (c .before .place .ensures) (omega arith) (c .if1 .left)
+    let start = c .before .before in
+    let place = c .before .place in
+    let if1 = c .if1 in
+    noted-last (a .t1) (a .e) (place .result) (start .pre .0) (place .ensures) (omega arith) (if1 .left)
 
 pub noted-spec : {M : Type 1} → statement M
 noted-spec =
-    tie.close (tie.spec place-requires mul-x element-copy-out-x merged-requires mul-t9 element-set-from-list returns mul-e element-set-from-e add-list
+    tie.close (tie.spec place-requires mul-x element-copy-out-x merged-requires mul-t9 element-set-from-list returns
+    mul-e element-set-from-e add-list
     returns-2)

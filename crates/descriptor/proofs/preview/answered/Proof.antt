@@ -14,11 +14,16 @@ given-requires c κs = search needs
 
 returns : tie.Need-returns
 unfolding answered
-returns c = simp (c .before .answer .given .1)
+returns c =
+    let answer = c .before .answer in
+    simp (answer .given .1)
 
 returns-2 : tie.Need-returns-2
 unfolding answered
-returns-2 c = simp (c .given .ensures, c .before .before .answer2 .given .1)
+returns-2 c =
+    let answer2 = c .before .before .answer2 in
+    let given = c .given in
+    simp (given .ensures, answer2 .given .1)
 
 pub answered-spec : {M : Type 1} → statement M
 answered-spec = tie.close (tie.spec enum-known-answer enum-known-answer-2 given-requires returns returns-2)

@@ -18,7 +18,11 @@ alloc-endpoint-requires c κs = search needs
 
 returns : tie.Need-returns
 unfolding asked
-returns c = c .alloc-endpoint .ensures ∙ rw (c .before .direction .ensures)
+returns c =
+    let direction = c .before .direction in
+    let alloc-endpoint = c .alloc-endpoint in
+    alloc-endpoint .ensures ∙ rw (direction .ensures)
 
 pub asked-spec : {M : Type 1} → statement M
-asked-spec = tie.close (tie.spec cast-alloc-endpoint cast-alloc-endpoint-2 direction-requires alloc-endpoint-requires returns)
+asked-spec = tie.close (tie.spec cast-alloc-endpoint cast-alloc-endpoint-2 direction-requires alloc-endpoint-requires
+    returns)

@@ -34,23 +34,31 @@ try-all-requires c κs = search needs
 returns : tie.Need-returns
 unfolding shownOf
 returns c =
-    let e = ap (λ (x : Reading). x .answer) (sym (c .before .before .before .before .read .ensures)) ∙ c .before .before .answer .given .1 in
-    c .refused .ensures ∙ rw e
+    let read = c .before .before .before .before .read in
+    let answer = c .before .before .answer in
+    let refused = c .refused in
+    let e = ap (λ (x : Reading). x .answer) (sym (read .ensures)) ∙ answer .given .1 in
+    refused .ensures ∙ rw e
 
 returns-2 : tie.Need-returns-2
 unfolding shownOf
 returns-2 c =
-    let k = c .before .before .before .before .before in
-    let a = k .before .before .args in
+    let at-read = c .before .before .before .before .before in
+    let enum-told-fact = c .before .before .before .enum-told in
+    let try-all = c .before .try-all in
+    let a = at-read .before .before .args in
     let s = a .bytes .now in
-    let b : (j : ℕ) → getD s j 0 < 256 = λ j. omega (arith, k .before .shared-slice-known .given j) in
-    let r = k .read .ensures in
-    let e = ap (λ (x : Reading). x .answer) (sym r) ∙ c .before .before .before .enum-told .given .1 in
+    let b : (j : ℕ) → getD s j 0 < 256 = λ j. omega (arith, at-read .before .shared-slice-known .given j) in
+    let r = at-read .read .ensures in
+    let e = ap (λ (x : Reading). x .answer) (sym r) ∙ enum-told-fact .given .1 in
     let l = accepted s b e in
-    let w : stored (k .read .result .list) ≡ listOf s =
-    ap (λ (x : Reading). stored (x .list)) r ∙ ap (λ (x : Endpoints). stored x) (l .list) ∙ stored-of (listOf s) (l .good) in
-    let t : c .before .try-all .result ≡ trialOf (a .a) (listOf s) = c .before .try-all .ensures ∙ ap (λ (es : List Endpoint). trialOf (a .a) es) w in
+    let w : stored (at-read .read .result .list) ≡ listOf s =
+    ap (λ (x : Reading). stored (x .list)) r ∙ ap (λ (x : Endpoints). stored x) (l .list)
+    ∙ stored-of (listOf s) (l .good) in
+    let t : try-all .result ≡ trialOf (a .a) (listOf s) = try-all .ensures
+    ∙ ap (λ (es : List Endpoint). trialOf (a .a) es) w in
     rw e (ap (λ (x : Trial). shown x) t)
 
 pub preview-spec : {M : Type 1} → statement M
-preview-spec = tie.close (tie.spec read-requires enum-known-answer refused-requires enum-told try-all-requires returns returns-2)
+preview-spec = tie.close (tie.spec read-requires enum-known-answer refused-requires enum-told try-all-requires returns
+    returns-2)

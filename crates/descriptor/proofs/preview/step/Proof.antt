@@ -12,7 +12,10 @@ answered-requires c κs = search needs
 
 returns : tie.Need-returns
 unfolding step
-returns c = c .answered .ensures ∙ rw (c .before .before .asked .ensures)
+returns c =
+    let asked = c .before .before .asked in
+    let answered = c .answered in
+    answered .ensures ∙ rw (asked .ensures)
 
 pub step-spec : {M : Type 1} → statement M
 step-spec = tie.close (tie.spec asked-requires answered-requires returns)

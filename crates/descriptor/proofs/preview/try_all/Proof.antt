@@ -26,25 +26,31 @@ start-requires c κs = search needs
 
 loop-holds : tie.Need-loop-holds Inv-loop μ-loop
 loop-holds c =
-    let s = c .start .ensures in
-    let n = c .before .count .ensures in
+    let count = c .before .count in
+    let start = c .start in
+    let s = start .ensures in
+    let n = count .ensures in
     let x = ap (λ (t : Trial). t .count) s in
     let y = ap (λ (t : Trial). t .buffers) s in
     (omega arith, omega arith, omega arith, omega arith, sym (tried-none _ _))
 
 returns : tie.Need-returns Inv-loop μ-loop
 returns c =
-    let k = c .before .before .before in
-    let v = k .loop .inv in
-    let es = k .before .before .before .args .t2 .entries in
-    let n = k .before .before .count .ensures in
-    let i = k .loop .i in
-    let t = k .before .start .result in
-    let e : i + (k .before .before .count .result - i) ≡ countOf (k .before .before .before .args .t2) = omega arith in
+    let at-at-loop = c .before .before .before in
+    let if1 = c .if1 in
+    let v = at-at-loop .loop .inv in
+    let es = at-at-loop .before .before .before .args .t2 .entries in
+    let n = at-at-loop .before .before .count .ensures in
+    let i = at-at-loop .loop .i in
+    let t = at-at-loop .before .start .result in
+    let e : i + (at-at-loop .before .before .count .result - i) ≡ countOf (at-at-loop .before .before .before .args .t2)
+    = omega arith in
     v .4
-    ∙ sym (tried-on t es i (k .before .before .count .result - i) (λ q. c .if1 .taken (ap (λ (x : Trial). x .refusal) (v .4) ∙ q)))
+    ∙ sym (tried-on t es i (at-at-loop .before .before .count .result - i)
+    (λ q. if1 .taken (ap (λ (x : Trial). x .refusal) (v .4) ∙ q)))
     ∙ ap (λ (j : ℕ). tried t (upTo j es)) e
-    ∙ ap (λ (x : Trial). tried x (upTo (countOf (k .before .before .before .args .t2)) es)) (k .before .start .ensures)
+    ∙ ap (λ (x : Trial). tried x (upTo (countOf (at-at-loop .before .before .before .args .t2)) es))
+    (at-at-loop .before .start .ensures)
 
 mul-e : tie.Need-mul-e Inv-loop μ-loop
 mul-e c = omega arith
@@ -63,32 +69,35 @@ loop-less c = omega arith
 
 loop-again : tie.Need-loop-again Inv-loop μ-loop
 loop-again c =
-    let k = c .before .before .before .before .before in
-    let v = k .loop .inv in
-    let es = k .before .before .before .args .t2 .entries in
-    let e = getD es (k .loop .i) none in
-    let s = c .step .ensures in
+    let at-at-loop = c .before .before .before .before .before in
+    let if1 = c .before .before .if1 in
+    let step-fact = c .step in
+    let v = at-at-loop .loop .inv in
+    let es = at-at-loop .before .before .before .args .t2 .entries in
+    let e = getD es (at-at-loop .loop .i) none in
+    let s = step-fact .ensures in
     let x = ap (λ (t : Trial). t .count) s in
     let y = ap (λ (t : Trial). t .buffers) s in
-    let m = tried-more (k .before .start .result) es (k .loop .i) (sym (ap (λ (t : Trial). t .refusal) (v .4)) ∙ c .before .before .if1 .left) in (
+    let m = tried-more (at-at-loop .before .start .result) es (at-at-loop .loop .i)
+    (sym (ap (λ (t : Trial). t .refusal) (v .4)) ∙ if1 .left) in (
       omega arith,
       v .1,
-      omega (arith, count-step (k .loop .t) e),
-      omega (arith, buffers-step (k .loop .t) e),
+      omega (arith, count-step (at-at-loop .loop .t) e),
+      omega (arith, buffers-step (at-at-loop .loop .t) e),
       s ∙ ap (λ (t : Trial). step t e) (v .4) ∙ sym m,
     )
 
 returns-2 : tie.Need-returns-2 Inv-loop μ-loop
 returns-2 c =
-    let k = c .before in
-    let l = k .before .before .before .args .t2 in
-    let n = k .before .before .count .ensures in
-    let e : k .loop .i ≡ countOf l = omega arith in
-    k .loop .inv .4
-    ∙ ap (λ (j : ℕ). tried (k .before .start .result) (upTo j (l .entries))) e
-    ∙ ap (λ (x : Trial). tried x (upTo (countOf l) (l .entries))) (k .before .start .ensures)
+    let at-at-loop = c .before in
+    let l = at-at-loop .before .before .before .args .t2 in
+    let n = at-at-loop .before .before .count .ensures in
+    let e : at-at-loop .loop .i ≡ countOf l = omega arith in
+    at-at-loop .loop .inv .4 ∙ ap (λ (j : ℕ). tried (at-at-loop .before .start .result) (upTo j (l .entries))) e
+    ∙ ap (λ (x : Trial). tried x (upTo (countOf l) (l .entries))) (at-at-loop .before .start .ensures)
 
 pub try-all-spec : {M : Type 1} → statement M
 try-all-spec =
-    tie.close (tie.spec Inv-loop μ-loop count-requires start-requires loop-holds returns mul-e element-copy-out-e step-requires add-i loop-less
+    tie.close (tie.spec Inv-loop μ-loop count-requires start-requires loop-holds returns mul-e element-copy-out-e
+    step-requires add-i loop-less
     loop-again returns-2)

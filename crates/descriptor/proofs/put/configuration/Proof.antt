@@ -25,10 +25,15 @@ same-length : tie.Need-same-length
 same-length c = search needs
 
 returns : tie.Need-returns
-returns c = c .before .before .put .ensures ∙ rw (
-  c .before .before .before .before .before .before .low .ensures,
-  c .before .before .before .before .before .high .ensures,
-)
+returns c =
+    let low = c .before .before .before .before .before .before .low in
+    let high = c .before .before .before .before .before .high in
+    let put = c .before .before .put in
+    put .ensures ∙ rw (
+      low .ensures,
+      high .ensures,
+    )
 
 pub configuration-spec : {M : Type 1} → statement M
-configuration-spec = tie.close (tie.spec mul-total add-total low-requires high-requires slice-aggregate-put put-requires same-length returns)
+configuration-spec = tie.close (tie.spec mul-total add-total low-requires high-requires slice-aggregate-put put-requires
+    same-length returns)

@@ -22,10 +22,15 @@ same-length : tie.Need-same-length
 same-length c = search needs
 
 returns : tie.Need-returns
-returns c = c .before .before .put .ensures ∙ rw (
-  c .before .before .before .before .before .before .low .ensures,
-  c .before .before .before .before .before .high .ensures,
-)
+returns c =
+    let low = c .before .before .before .before .before .before .low in
+    let high = c .before .before .before .before .before .high in
+    let put = c .before .before .put in
+    put .ensures ∙ rw (
+      low .ensures,
+      high .ensures,
+    )
 
 pub endpoint-spec : {M : Type 1} → statement M
-endpoint-spec = tie.close (tie.spec cast-maximum low-requires high-requires slice-aggregate-put put-requires same-length returns)
+endpoint-spec = tie.close (tie.spec cast-maximum low-requires high-requires slice-aggregate-put put-requires same-length
+    returns)

@@ -15,7 +15,9 @@ abbrev μ-loop : tie.MeasureT-loop
 μ-loop room₀ n list i₀ room i = n - i
 
 loop-holds : tie.Need-loop-holds Inv-loop μ-loop
-loop-holds c = (omega arith, c .before .pre .0, c .before .pre .1, sym (laid-none _ _))
+loop-holds c =
+    let start = c .before in
+    (omega arith, start .pre .0, start .pre .1, sym (laid-none _ _))
 
 mul-e : tie.Need-mul-e Inv-loop μ-loop
 mul-e c = omega arith
@@ -31,10 +33,10 @@ add-endpoint c = omega arith
 
 endpoint-requires : tie.Need-endpoint-requires Inv-loop μ-loop
 endpoint-requires c κs =
-    let k = c .before .before .before in
-    let v = k .loop .inv in
-    let a = k .before .before .args in
-    let l = ap length (v .3) ∙ length-room (a .room .now) (a .t2 .entries) (k .loop .i) (omega arith) in
+    let at-at-loop = c .before .before .before in
+    let v = at-at-loop .loop .inv in
+    let a = at-at-loop .before .before .args in
+    let l = ap length (v .3) ∙ length-room (a .room .now) (a .t2 .entries) (at-at-loop .loop .i) (omega arith) in
     omega arith
 
 add-i : tie.Need-add-i Inv-loop μ-loop
@@ -45,29 +47,31 @@ loop-less c = omega arith
 
 loop-again : tie.Need-loop-again Inv-loop μ-loop
 loop-again c =
-    let k = c .before .before .before .before .before .before in
-    let v = k .loop .inv in
-    let a = k .before .before .args in (
+    let at-at-loop = c .before .before .before .before .before .before in
+    let endpoint = c .before .before .endpoint in
+    let v = at-at-loop .loop .inv in
+    let a = at-at-loop .before .before .args in (
       omega arith,
       v .1,
       v .2,
-      c .before .before .endpoint .ensures ∙ rw (v .3) (laid-more (a .room .now) (a .t2 .entries) (k .loop .i) (omega arith)),
+      endpoint .ensures ∙ rw (v .3) (laid-more (a .room .now) (a .t2 .entries) (at-at-loop .loop .i) (omega arith)),
     )
 
 same-length : tie.Need-same-length Inv-loop μ-loop
 same-length c =
-    let k = c .before in
-    let v = k .loop .inv in
-    let a = k .before .before .args in
-    ap length (v .3) ∙ length-room (a .room .now) (a .t2 .entries) (k .loop .i) (omega arith)
+    let at-at-loop = c .before in
+    let v = at-at-loop .loop .inv in
+    let a = at-at-loop .before .before .args in
+    ap length (v .3) ∙ length-room (a .room .now) (a .t2 .entries) (at-at-loop .loop .i) (omega arith)
 
 returns : tie.Need-returns Inv-loop μ-loop
 returns c =
-    let k = c .before in
-    let e : k .loop .i ≡ k .before .before .args .n = omega arith in
-    k .loop .inv .3 ∙ rw e
+    let at-at-loop = c .before in
+    let e : at-at-loop .loop .i ≡ at-at-loop .before .before .args .n = omega arith in
+    at-at-loop .loop .inv .3 ∙ rw e
 
 pub endpoints-spec : {M : Type 1} → statement M
 endpoints-spec =
-    tie.close (tie.spec Inv-loop μ-loop loop-holds mul-e element-copy-out-e mul-endpoint add-endpoint endpoint-requires add-i loop-less loop-again
+    tie.close (tie.spec Inv-loop μ-loop loop-holds mul-e element-copy-out-e mul-endpoint add-endpoint endpoint-requires
+    add-i loop-less loop-again
     same-length returns)

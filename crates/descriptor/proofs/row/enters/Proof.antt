@@ -4,7 +4,9 @@ use Rattle.descriptor.proofs.row.enters.Statement.{statement}
 use Rattle.descriptor.proofs.row.enters.Tie as tie
 
 returns : tie.Need-returns
-returns c = rw (entered-at, c .if1 .taken)
+returns c =
+    let if1 = c .if1 in
+    rw (entered-at, if1 .taken)
 
 add-is-interface : tie.Need-add-is-interface
 add-is-interface c = search needs
@@ -16,7 +18,11 @@ is-interface-requires : tie.Need-is-interface-requires
 is-interface-requires c κs = search needs
 
 returns-2 : tie.Need-returns-2
-returns-2 c = rw (entered-at, c .before .before .if1 .left, c .is-interface .ensures)
+returns-2 c =
+    let if1 = c .before .before .if1 in
+    let is-interface = c .is-interface in
+    rw (entered-at, if1 .left, is-interface .ensures)
 
 pub enters-spec : {M : Type 1} → statement M
-enters-spec = tie.close (tie.spec returns add-is-interface shared-slice-read-is-interface is-interface-requires returns-2)
+enters-spec = tie.close (tie.spec returns add-is-interface shared-slice-read-is-interface is-interface-requires
+    returns-2)

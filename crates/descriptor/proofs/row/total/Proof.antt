@@ -17,14 +17,22 @@ wide-requires-2 : tie.Need-wide-requires-2
 wide-requires-2 c κs = search needs
 
 mul-result : tie.Need-mul-result
-mul-result c = omega (arith, c .before .shared-slice-known3 .given 3)
+mul-result c =
+    let shared-slice-known3 = c .before .shared-slice-known3 in
+    omega (arith, shared-slice-known3 .given 3)
 
 add-result : tie.Need-add-result
-add-result c = omega (arith, c .before .shared-slice-known3 .given 3, c .before .shared-slice-known3 .given 2)
+add-result c =
+    let shared-slice-known3 = c .before .shared-slice-known3 in
+    omega (arith, shared-slice-known3 .given 3, shared-slice-known3 .given 2)
 
 returns : tie.Need-returns
 unfolding totalOf
-returns c = rw (c .wide2 .ensures, c .before .before .wide .ensures)
+returns c =
+    let wide = c .before .before .wide in
+    let wide2 = c .wide2 in
+    rw (wide2 .ensures, wide .ensures)
 
 pub total-spec : {M : Type 1} → statement M
-total-spec = tie.close (tie.spec shared-slice-read-wide wide-requires shared-slice-read-wide-2 wide-requires-2 mul-result add-result returns)
+total-spec = tie.close (tie.spec shared-slice-read-wide wide-requires shared-slice-read-wide-2 wide-requires-2
+    mul-result add-result returns)

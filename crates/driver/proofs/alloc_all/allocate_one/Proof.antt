@@ -25,7 +25,11 @@ allocate-requires c κs = search needs
 
 returns : tie.Need-returns
 unfolding oneOn
-returns c = (c .allocate .ensures .1 .0 ∙ simp (c .before .before .before .before .direction .ensures), c .allocate .ensures .1 .1)
+returns c =
+    let direction = c .before .before .before .before .direction in
+    let allocate = c .allocate in
+    (allocate .ensures .1 .0 ∙ simp (direction .ensures), allocate .ensures .1 .1)
 
 pub allocate-one-spec : {M : Type 1} → statement M
-allocate-one-spec = tie.close (tie.spec direction-requires cast-allocate cast-allocate-2 cast-allocate-3 allocate-requires returns)
+allocate-one-spec = tie.close (tie.spec direction-requires cast-allocate cast-allocate-2 cast-allocate-3
+    allocate-requires returns)

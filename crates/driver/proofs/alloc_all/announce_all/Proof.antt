@@ -20,10 +20,12 @@ count-requires c κs = search needs
 
 returns : tie.Need-returns
 returns c =
-    let a = c .before .before .args in (
+    let a = c .before .before .args in
+    let count = c .before .count in
+    let if1 = c .if1 in (
       λ b. sym (announce-none (a .t2 .entries) (view (now (a .s))) b)
           ∙ ap (λ (n : ℕ). go (announceAll (upTo n (a .t2 .entries))) (view (now (a .s))) b)
-          (sym (c .if1 .taken) ∙ c .before .count .ensures),
+          (sym (if1 .taken) ∙ count .ensures),
       tt,
     )
 
@@ -47,13 +49,17 @@ first-requires c κs = search needs
 
 returns-2 : tie.Need-returns-2
 returns-2 c =
-    let k = c .before .before .before .before in
-    let a = k .before .before .args in (
-      λ b. c .first .ensures .0 b ∙ simp (c .before .before .direction .ensures)
-          (announce-first _ (a .t2 .entries) (view (now (a .s))) b (k .if1 .left)
-          ∙ ap (λ (n : ℕ). go (announceAll (upTo n (a .t2 .entries))) (view (now (a .s))) b) (k .before .count .ensures)),
-      c .first .ensures .1,
+    let at-else1 = c .before .before .before .before in
+    let direction = c .before .before .direction in
+    let first = c .first in
+    let a = at-else1 .before .before .args in (
+      λ b. first .ensures .0 b ∙ simp (direction .ensures)
+          (announce-first _ (a .t2 .entries) (view (now (a .s))) b (at-else1 .if1 .left)
+          ∙ ap (λ (n : ℕ). go (announceAll (upTo n (a .t2 .entries))) (view (now (a .s))) b)
+          (at-else1 .before .count .ensures)),
+      first .ensures .1,
     )
 
 pub announce-all-spec : {M : Type 1} → statement M
-announce-all-spec = tie.close (tie.spec count-requires returns element-copy-out-e sub-first cast-first cast-first-2 direction-requires first-requires returns-2)
+announce-all-spec = tie.close (tie.spec count-requires returns element-copy-out-e sub-first cast-first cast-first-2
+    direction-requires first-requires returns-2)

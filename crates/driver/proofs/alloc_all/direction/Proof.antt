@@ -3,10 +3,14 @@ use Rattle.driver.proofs.alloc_all.direction.Statement.{statement}
 use Rattle.driver.proofs.alloc_all.direction.Tie as tie
 
 returns : tie.Need-returns
-returns c = rw (lt-ltb _ _ (c .if1 .taken))
+returns c =
+    let if1 = c .if1 in
+    rw (lt-ltb _ _ (if1 .taken))
 
 returns-2 : tie.Need-returns-2
-returns-2 c = rw (le-ltb _ _ (c .if1 .left))
+returns-2 c =
+    let if1 = c .if1 in
+    rw (le-ltb _ _ (if1 .left))
 
 pub direction-spec : {M : Type 1} → statement M
 direction-spec = tie.close (tie.spec returns returns-2)

@@ -36,15 +36,22 @@ add-result c = search needs
 
 returns : tie.Need-returns
 unfolding endOn
-returns c = simp (
-  c .room .ensures,
-  ← c .before .before .slots .ensures,
-  ← c .before .before .before .is-iso .ensures,
-  ← c .before .before .before .before .load-ep .ensures,
-  ← c .before .before .before .before .before .load-allocator .ensures,
-)
+returns c =
+    let load-allocator = c .before .before .before .before .before .load-allocator in
+    let load-ep = c .before .before .before .before .load-ep in
+    let is-iso = c .before .before .before .is-iso in
+    let slots = c .before .before .slots in
+    let room = c .room in
+    simp (
+      room .ensures,
+      ← slots .ensures,
+      ← is-iso .ensures,
+      ← load-ep .ensures,
+      ← load-allocator .ensures,
+    )
 
 pub end-of-spec : {M : Type 1} → statement M
 end-of-spec =
-    tie.close (tie.spec load-allocator-requires load-ep-requires is-iso-requires slots-requires cast-result room-requires cast-result-2 add-result
+    tie.close (tie.spec load-allocator-requires load-ep-requires is-iso-requires slots-requires cast-result
+    room-requires cast-result-2 add-result
     returns)

@@ -13,7 +13,9 @@ cast-t8 : tie.Need-cast-t8
 cast-t8 c = search needs
 
 returns : tie.Need-returns
-returns c = (λ b. simp (← c .before .load-ep .ensures), refl)
+returns c =
+    let load-ep = c .before .load-ep in
+    (λ b. simp (← load-ep .ensures), refl)
 
 pub first-spec : {M : Type 1} → statement M
 first-spec = tie.close (tie.spec load-ep-requires cast-t8 returns)

@@ -1,4 +1,4 @@
-use Prim.Native.Nat.{ℕ, _+_, _-_, _≤_, _<_}
+use Prim.Native.Nat.{_+_, _-_, _≤_, _<_}
 use mathlib.Core.Path.{_≡_, refl}
 use native.Mathlib.Omega.{arith}
 use denote.Ref.{now}
@@ -26,11 +26,13 @@ starts-at-requires c κs = search needs
 
 returns : tie.Need-returns Inv-loop μ-loop
 returns c =
-    let at = c .before .before .before in
-    let e = at .loop .e in
-    let a = at .before .args in
+    let at-at-loop = c .before .before .before in
+    let starts-at = c .before .starts-at in
+    let if1 = c .if1 in
+    let e = at-at-loop .loop .e in
+    let a = at-at-loop .before .args in
     let s = found-step (view (now (a .s))) (a .dir) (a .x) (16 - e) e (omega arith) in
-    rw (at .loop .inv .1, s, ← c .before .starts-at .ensures, c .if1 .taken)
+    rw (at-at-loop .loop .inv .1, s, ← starts-at .ensures, if1 .taken)
 
 add-e : tie.Need-add-e Inv-loop μ-loop
 add-e c = omega arith
@@ -40,18 +42,22 @@ loop-less c = omega arith
 
 loop-again : tie.Need-loop-again Inv-loop μ-loop
 loop-again c =
-    let at = c .before .before .before in
-    let e = at .loop .e in
-    let a = at .before .args in
+    let at-at-loop = c .before .before .before in
+    let starts-at = c .before .starts-at in
+    let if1 = c .if1 in
+    let e = at-at-loop .loop .e in
+    let a = at-at-loop .before .args in
     let s = found-step (view (now (a .s))) (a .dir) (a .x) (16 - e) e (omega arith) in
     let l : 16 - (e + 1) ≡ 16 - e - 1 = omega arith in
-    (omega arith, rw (at .loop .inv .1, s, ← c .before .starts-at .ensures, c .if1 .left, l))
+    (omega arith, rw (at-at-loop .loop .inv .1, s, ← starts-at .ensures, if1 .left, l))
 
 returns-2 : tie.Need-returns-2 Inv-loop μ-loop
 returns-2 c =
-    let i = c .before .loop .inv .1 in
-    let z : 16 - c .before .loop .e ≡ 0 = omega arith in
+    let looped = c .before .loop in
+    let i = looped .inv .1 in
+    let z : 16 - looped .e ≡ 0 = omega arith in
     rw (i, z, found-none)
 
 pub found-at-spec : {M : Type 1} → statement M
-found-at-spec = tie.close (tie.spec Inv-loop μ-loop loop-holds starts-at-requires returns add-e loop-less loop-again returns-2)
+found-at-spec = tie.close (tie.spec Inv-loop μ-loop loop-holds starts-at-requires returns add-e loop-less loop-again
+    returns-2)

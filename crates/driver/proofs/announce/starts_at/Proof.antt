@@ -1,4 +1,3 @@
-use borrow.Author.Tests.{eq-eqb, ne-eqb}
 use Rattle.driver.specs.Announce.{startsAt}
 use borrow.Author.Needs.{needs}
 use Rattle.driver.proofs.announce.starts_at.Statement.{statement}
@@ -19,11 +18,18 @@ cast-result c = search needs
 
 returns : tie.Need-returns
 unfolding startsAt
-returns c = simp (← c .before .load-ep .ensures, ← c .before .before .before .is-allocated .ensures, c .before .before .if1 .taken)
+returns c =
+    let is-allocated = c .before .before .before .is-allocated in
+    let if1 = c .before .before .if1 in
+    let load-ep = c .before .load-ep in
+    simp (← load-ep .ensures, ← is-allocated .ensures, if1 .taken)
 
 returns-2 : tie.Need-returns-2
 unfolding startsAt
-returns-2 c = simp (← c .before .is-allocated .ensures, c .if1 .left)
+returns-2 c =
+    let is-allocated = c .before .is-allocated in
+    let if1 = c .if1 in
+    simp (← is-allocated .ensures, if1 .left)
 
 pub starts-at-spec : {M : Type 1} → statement M
 starts-at-spec = tie.close (tie.spec is-allocated-requires load-ep-requires cast-result returns returns-2)

@@ -139,62 +139,128 @@ list-code-requires-2 : tie.Need-list-code-requires-2
 list-code-requires-2 c κs = search needs
 
 returns : tie.Need-returns
-returns c = simp (by-table, ← c .code .ensures, ← c .before .flag-of .ensures, c .before .before .before .p .given .1)
+returns c =
+    let p = c .before .before .before .p in
+    let flag-of = c .before .flag-of in
+    let code = c .code in
+    simp (by-table, ← code .ensures, ← flag-of .ensures, p .given .1)
 
 returns-2 : tie.Need-returns-2
-returns-2 c = simp (by-table, ← c .code2 .ensures, ← c .before .flag-of2 .ensures, c .before .before .before .p2 .given .1)
+returns-2 c =
+    let p2 = c .before .before .before .p2 in
+    let flag-of2 = c .before .flag-of2 in
+    let code2 = c .code2 in
+    simp (by-table, ← code2 .ensures, ← flag-of2 .ensures, p2 .given .1)
 
 returns-3 : tie.Need-returns-3
-returns-3 c = simp (by-table, ← c .code3 .ensures, ← c .before .flag-of3 .ensures, c .before .before .before .p3 .given .1)
+returns-3 c =
+    let p3 = c .before .before .before .p3 in
+    let flag-of3 = c .before .flag-of3 in
+    let code3 = c .code3 in
+    simp (by-table, ← code3 .ensures, ← flag-of3 .ensures, p3 .given .1)
 
 returns-4 : tie.Need-returns-4
-returns-4 c = simp (by-table, ← c .code4 .ensures, ← c .before .flag-of4 .ensures, c .before .before .before .p4 .given .1)
+returns-4 c =
+    let p4 = c .before .before .before .p4 in
+    let flag-of4 = c .before .flag-of4 in
+    let code4 = c .code4 in
+    simp (by-table, ← code4 .ensures, ← flag-of4 .ensures, p4 .given .1)
 
 returns-5 : tie.Need-returns-5
-returns-5 c = simp (by-table, ← c .code5 .ensures, ← c .before .flag-of5 .ensures, c .before .before .before .p5 .given .1)
+returns-5 c =
+    let p5 = c .before .before .before .p5 in
+    let flag-of5 = c .before .flag-of5 in
+    let code5 = c .code5 in
+    simp (by-table, ← code5 .ensures, ← flag-of5 .ensures, p5 .given .1)
 
 returns-6 : tie.Need-returns-6
-returns-6 c = simp (by-table, ← c .code6 .ensures, ← c .before .flag-of6 .ensures, c .before .before .before .p6 .given .1)
+returns-6 c =
+    let p6 = c .before .before .before .p6 in
+    let flag-of6 = c .before .flag-of6 in
+    let code6 = c .code6 in
+    simp (by-table, ← code6 .ensures, ← flag-of6 .ensures, p6 .given .1)
 
 returns-7 : tie.Need-returns-7
-returns-7 c = simp (by-table, ← c .code7 .ensures, c .before .enum-told .given .1)
+returns-7 c =
+    let enum-told-fact = c .before .enum-told in
+    let code7 = c .code7 in
+    simp (by-table, ← code7 .ensures, enum-told-fact .given .1)
 
 returns-8 : tie.Need-returns-8
-returns-8 c = simp (by-table, ← c .code8 .ensures, ← c .before .dir-as .ensures, c .before .before .before .p7 .given .1)
+returns-8 c =
+    let p7 = c .before .before .before .p7 in
+    let dir-as = c .before .dir-as in
+    let code8 = c .code8 in
+    simp (by-table, ← code8 .ensures, ← dir-as .ensures, p7 .given .1)
 
 returns-9 : tie.Need-returns-9
-returns-9 c = simp (by-table, ← c .code9 .ensures, c .before .before .p8 .given .1)
+returns-9 c =
+    let p8 = c .before .before .p8 in
+    let code9 = c .code9 in
+    simp (by-table, ← code9 .ensures, p8 .given .1)
 
 returns-10 : tie.Need-returns-10
-returns-10 c = simp (by-table, ← c .code10 .ensures, c .before .before .p9 .given .1)
+returns-10 c =
+    let p9 = c .before .before .p9 in
+    let code10 = c .code10 in
+    simp (by-table, ← code10 .ensures, p9 .given .1)
 
 returns-11 : tie.Need-returns-11
-returns-11 c = simp (by-table, ← c .code11 .ensures, c .before .enum-told2 .given .1)
+returns-11 c =
+    let enum-told2 = c .before .enum-told2 in
+    let code11 = c .code11 in
+    simp (by-table, ← code11 .ensures, enum-told2 .given .1)
 
 returns-12 : tie.Need-returns-12
-returns-12 c = simp (by-table, ← c .code12 .ensures, c .before .enum-told3 .given .1)
+returns-12 c =
+    let enum-told3 = c .before .enum-told3 in
+    let code12 = c .code12 in
+    simp (by-table, ← code12 .ensures, enum-told3 .given .1)
 
 returns-13 : tie.Need-returns-13
-returns-13 c = simp (by-table, ← c .code13 .ensures, c .before .enum-told4 .given .1)
+returns-13 c =
+    let enum-told4 = c .before .enum-told4 in
+    let code13 = c .code13 in
+    simp (by-table, ← code13 .ensures, enum-told4 .given .1)
 
 returns-14 : tie.Need-returns-14
-returns-14 c = simp (by-table, ← c .code14 .ensures, c .before .enum-told5 .given .1)
+returns-14 c =
+    let enum-told5 = c .before .enum-told5 in
+    let code14 = c .code14 in
+    simp (by-table, ← code14 .ensures, enum-told5 .given .1)
 
 returns-15 : tie.Need-returns-15
-returns-15 c = simp (by-table, ← c .code15 .ensures, c .before .enum-told6 .given .1)
+returns-15 c =
+    let enum-told6 = c .before .enum-told6 in
+    let code15 = c .code15 in
+    simp (by-table, ← code15 .ensures, enum-told6 .given .1)
 
 returns-16 : tie.Need-returns-16
-returns-16 c = simp (by-table, ← c .list-code .ensures, ← c .before .dir-as2 .ensures, c .before .before .before .p10 .given .1)
+returns-16 c =
+    let p10 = c .before .before .before .p10 in
+    let dir-as2 = c .before .dir-as2 in
+    let list-code = c .list-code in
+    simp (by-table, ← list-code .ensures, ← dir-as2 .ensures, p10 .given .1)
 
 returns-17 : tie.Need-returns-17
-returns-17 c = simp (by-table, ← c .list-code2 .ensures, ← c .before .dir-as3 .ensures, c .before .before .before .p11 .given .1)
+returns-17 c =
+    let p11 = c .before .before .before .p11 in
+    let dir-as3 = c .before .dir-as3 in
+    let list-code2 = c .list-code2 in
+    simp (by-table, ← list-code2 .ensures, ← dir-as3 .ensures, p11 .given .1)
 
 pub encode-spec : {M : Type 1} → statement M
 encode-spec =
-    tie.close (tie.spec enum-known-p flag-of-requires code-requires enum-known-p-2 flag-of-requires-2 code-requires-2 enum-known-p-3
-    flag-of-requires-3 code-requires-3 enum-known-p-4 flag-of-requires-4 code-requires-4 enum-known-p-5 flag-of-requires-5 code-requires-5
-    enum-known-p-6 flag-of-requires-6 code-requires-6 enum-told code-requires-7 enum-known-p-7 dir-as-requires code-requires-8 enum-known-p-8
-    code-requires-9 enum-known-p-9 code-requires-10 enum-told-2 code-requires-11 enum-told-3 code-requires-12 enum-told-4 code-requires-13 enum-told-5
-    code-requires-14 enum-told-6 code-requires-15 enum-known-p-10 dir-as-requires-2 list-code-requires enum-known-p-11 dir-as-requires-3
-    list-code-requires-2 returns returns-2 returns-3 returns-4 returns-5 returns-6 returns-7 returns-8 returns-9 returns-10 returns-11 returns-12
+    tie.close (tie.spec enum-known-p flag-of-requires code-requires enum-known-p-2 flag-of-requires-2 code-requires-2
+    enum-known-p-3
+    flag-of-requires-3 code-requires-3 enum-known-p-4 flag-of-requires-4 code-requires-4 enum-known-p-5
+    flag-of-requires-5 code-requires-5
+    enum-known-p-6 flag-of-requires-6 code-requires-6 enum-told code-requires-7 enum-known-p-7 dir-as-requires
+    code-requires-8 enum-known-p-8
+    code-requires-9 enum-known-p-9 code-requires-10 enum-told-2 code-requires-11 enum-told-3 code-requires-12
+    enum-told-4 code-requires-13 enum-told-5
+    code-requires-14 enum-told-6 code-requires-15 enum-known-p-10 dir-as-requires-2 list-code-requires enum-known-p-11
+    dir-as-requires-3
+    list-code-requires-2 returns returns-2 returns-3 returns-4 returns-5 returns-6 returns-7 returns-8 returns-9
+    returns-10 returns-11 returns-12
     returns-13 returns-14 returns-15 returns-16 returns-17)

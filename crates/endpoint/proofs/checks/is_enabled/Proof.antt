@@ -11,7 +11,10 @@ is-on-requires : tie.Need-is-on-requires
 is-on-requires c κs = search needs
 
 returns : tie.Need-returns
-returns c = simp (c .is-on .ensures, c .before .load-globals .ensures)
+returns c =
+    let load-globals = c .before .load-globals in
+    let is-on = c .is-on in
+    simp (is-on .ensures, load-globals .ensures)
 
 pub is-enabled-spec : {M : Type 1} → statement M
 is-enabled-spec = tie.close (tie.spec load-globals-requires is-on-requires returns)

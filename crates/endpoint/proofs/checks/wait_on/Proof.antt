@@ -9,16 +9,22 @@ is-enabled-requires : tie.Need-is-enabled-requires
 is-enabled-requires c κs = search needs
 
 returns : tie.Need-returns
-returns c = (λ out b. rw (sym (c .before .is-enabled .ensures) ∙ c .if1 .taken), refl)
+returns c =
+    let is-enabled = c .before .is-enabled in
+    let if1 = c .if1 in
+    (λ out b. rw (sym (is-enabled .ensures) ∙ if1 .taken), refl)
 
 end-request-requires : tie.Need-end-request-requires
 end-request-requires c κs = search needs
 
 returns-2 : tie.Need-returns-2
-returns-2 c = (
-  λ out b. rw (c .end-request .ensures .0, sym (c .before .before .before .is-enabled .ensures) ∙ c .before .before .if1 .left),
-  c .end-request .ensures .1,
-)
+returns-2 c =
+    let is-enabled = c .before .before .before .is-enabled in
+    let if1 = c .before .before .if1 in
+    let end-request = c .end-request in (
+      λ out b. rw (end-request .ensures .0, sym (is-enabled .ensures) ∙ if1 .left),
+      end-request .ensures .1,
+    )
 
 pub wait-on-spec : {M : Type 1} → statement M
 wait-on-spec = tie.close (tie.spec is-enabled-requires returns end-request-requires returns-2)

@@ -28,17 +28,28 @@ code-requires-3 c κs = search needs
 
 returns : tie.Need-returns
 unfolding encode
-returns c = simp (c .code .ensures, c .before .dir-as .ensures, c .before .before .before .p .given .1)
+returns c =
+    let p = c .before .before .before .p in
+    let dir-as = c .before .dir-as in
+    let code = c .code in
+    simp (code .ensures, dir-as .ensures, p .given .1)
 
 returns-2 : tie.Need-returns-2
 unfolding encode
-returns-2 c = simp (c .code2 .ensures, c .before .enum-told .given .1)
+returns-2 c =
+    let enum-told-fact = c .before .enum-told in
+    let code2 = c .code2 in
+    simp (code2 .ensures, enum-told-fact .given .1)
 
 returns-3 : tie.Need-returns-3
 unfolding encode
-returns-3 c = simp (c .code3 .ensures, c .before .before .p2 .given .1)
+returns-3 c =
+    let p2 = c .before .before .p2 in
+    let code3 = c .code3 in
+    simp (code3 .ensures, p2 .given .1)
 
 pub encode-spec : {M : Type 1} → statement M
 encode-spec =
-    tie.close (tie.spec enum-known-p dir-as-requires code-requires enum-told code-requires-2 enum-known-p-2 code-requires-3 returns returns-2
+    tie.close (tie.spec enum-known-p dir-as-requires code-requires enum-told code-requires-2 enum-known-p-2
+    code-requires-3 returns returns-2
     returns-3)

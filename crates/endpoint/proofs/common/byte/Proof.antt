@@ -8,7 +8,9 @@ use Rattle.endpoint.proofs.common.byte.Lts as lts
 
 cast-result : tie.Need-cast-result
 unfolding fitsIn
-cast-result c = record { fits = ltb-true (c .args .v) 256 (c .pre) }
+cast-result c =
+    let start = c in
+    record { fits = ltb-true (start .args .v) 256 (start .pre) }
 
 returns : tie.Need-returns
 returns c = search needs

@@ -20,10 +20,12 @@ same-length c = search needs
 returns : tie.Need-returns
 returns c =
     let s = c .before .before .before .before .before .before .before .args in
-    let k = c .before .before .before .before .available in (
+    let start = c .before .before .before .before .before .before .before in
+    let k = c .before .before .before .before .available in
+    let copy-out = c .before .before .copy-out in (
       k .ensures ∙ fetched-length (s .buf .now) (s .at) (s .n),
-      c .before .before .copy-out .ensures ∙ fetched (s .buf .now) (s .out .now)
-          (s .at) (s .n) (k .result) (k .ensures) (c .before .before .before .before .before .before .before .pre),
+      copy-out .ensures ∙ fetched (s .buf .now) (s .out .now)
+          (s .at) (s .n) (k .result) (k .ensures) (start .pre),
     )
 
 pub fetch-spec : {M : Type 1} → statement M

@@ -15,13 +15,18 @@ refusal-requires : tie.Need-refusal-requires
 refusal-requires c κs = search needs
 
 low-requires : tie.Need-low-requires
-low-requires c κs = numbered (view (c .before .before .before .before .before .before .args .s .now)) Out
-    (c .before .before .before .before .before .before .args .e)
-    (eq-eqb _ _ (sym (c .before .before .refusal .ensures) ∙ c .before .if1 .taken))
+low-requires c κs =
+    let entry = c .before .before .before .before .before .before in
+    let refusal = c .before .before .refusal in
+    let if1 = c .before .if1 in
+    numbered (view (entry .args .s .now)) Out (entry .args .e) (eq-eqb _ _ (sym (refusal .ensures) ∙ if1 .taken))
 
 take-read-requires : tie.Need-take-read-requires
-take-read-requires c κs = rw (c .before .low .ensures)
-    (eq-eqb _ _ (sym (c .before .before .before .before .refusal .ensures) ∙ c .before .before .before .if1 .taken))
+take-read-requires c κs =
+    let refusal = c .before .before .before .before .refusal in
+    let if1 = c .before .before .before .if1 in
+    let low = c .before .low in
+    rw (low .ensures) (eq-eqb _ _ (sym (refusal .ensures) ∙ if1 .taken))
 
 same-length : tie.Need-same-length
 same-length c = search needs
@@ -29,15 +34,20 @@ same-length c = search needs
 returns : tie.Need-returns
 returns c =
     let start = c .before .before .before .before .before .before .before .before .before .before .before .args in
+    let low = c .before .before .before .before .low in
+    let take-read = c .before .before .take-read in
     let is = lowered (λ x. pollRead x (length (start .out .now))) (view (start .s .now)) (start .buf .now)
-    (c .before .before .before .before .low .ensures) in
-    let taken = c .before .before .take-read .ensures in
+    (low .ensures) in
+    let taken = take-read .ensures in
     (taken .0 ∙ is, (taken .1 .0 ∙ lends (start .out .now) is, taken .1 .1))
 
 returns-2 : tie.Need-returns-2
 returns-2 c =
     let start = c .before .before .before .before .before .args in
-    let is = read-refused (view (start .s .now)) (start .buf .now) (start .e) (length (start .out .now)) (c .before .refusal .ensures) (c .if1 .left) in
+    let refusal = c .before .refusal in
+    let if1 = c .if1 in
+    let is = read-refused (view (start .s .now)) (start .buf .now) (start .e) (length (start .out .now))
+    (refusal .ensures) (if1 .left) in
     (is, (lends (start .out .now) is, refl))
 
 pub poll-read-spec : {M : Type 1} → statement M

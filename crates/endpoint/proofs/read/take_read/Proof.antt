@@ -16,14 +16,17 @@ use Rattle.endpoint.proofs.read.take_read.Tie as tie
 abbrev start : tie.After-load-ep → tie.Start
 start l = l .before .before .before .before .before .before .before .before .before .before
 
-takes : (l : tie.After-load-ep) → go {i = false} (reads (start l .args .e) (length (start l .args .out .now)) (plainOf (l .load-ep .result)))
+takes : (l : tie.After-load-ep) → go {i = false} (reads (start l .args .e) (length (start l .args .out .now))
+    (plainOf (l .load-ep .result)))
     (view (start l .args .s .now)) (start l .args .buf .now)
     ≡ readOn (start l .args .e) (start l .args .out .now) (start l .args .s .now) (start l .args .buf .now)
 takes l =
     let asked = l .before .before .before .before in
-    poll-takes Out (start l .args .e) (length (start l .args .out .now)) (reads (start l .args .e) (length (start l .args .out .now)))
+    poll-takes Out (start l .args .e) (length (start l .args .out .now))
+    (reads (start l .args .e) (length (start l .args .out .now)))
     (view (start l .args .s .now)) (start l .args .buf .now) (start l .pre)
-    (asked .before .before .load-request .ensures) (asked .before .is-on-word .ensures) (asked .if1 .left) (l .before .before .if2 .taken) _ (l .load-ep .ensures)
+    (asked .before .before .load-request .ensures) (asked .before .is-on-word .ensures) (asked .if1 .left)
+    (l .before .before .if2 .taken) _ (l .load-ep .ensures)
 
 load-request-requires : tie.Need-load-request-requires
 load-request-requires c κs = search needs
@@ -34,9 +37,13 @@ is-on-word-requires c κs = search needs
 returns : tie.Need-returns
 returns c =
     let start = c .before .before .before .before .before .before in
-    let is = poll-none Out (start .args .e) (length (start .args .out .now)) (reads (start .args .e) (length (start .args .out .now)))
+    let load-request = c .before .before .load-request in
+    let is-on-word = c .before .is-on-word in
+    let if1 = c .if1 in
+    let is = poll-none Out (start .args .e) (length (start .args .out .now))
+    (reads (start .args .e) (length (start .args .out .now)))
     (view (start .args .s .now)) (start .args .buf .now) (start .pre)
-    (c .before .before .load-request .ensures) (c .before .is-on-word .ensures) (c .if1 .taken) in
+    (load-request .ensures) (is-on-word .ensures) (if1 .taken) in
     (is, (lends (start .args .out .now) is, refl))
 
 cast-if2 : tie.Need-cast-if2
@@ -56,9 +63,12 @@ same-length c = search needs
 
 returns-2 : tie.Need-returns-2
 returns-2 c =
-    let l = c .before .before .before .before .before .before .before in
-    onward (start l .args .out .now) (picks _ _ (c .before .before .before .before .before .before .is-on .ensures)
-    (c .before .before .before .before .before .if3 .taken) ∙ takes l) (c .before .before .take-iso .ensures)
+    let at-load-ep = c .before .before .before .before .before .before .before in
+    let is-on = c .before .before .before .before .before .before .is-on in
+    let if3 = c .before .before .before .before .before .if3 in
+    let take-iso = c .before .before .take-iso in
+    onward (start at-load-ep .args .out .now) (picks _ _ (is-on .ensures)
+    (if3 .taken) ∙ takes at-load-ep) (take-iso .ensures)
 
 take-ready-requires : tie.Need-take-ready-requires
 take-ready-requires c κs = search needs
@@ -68,9 +78,12 @@ same-length-2 c = search needs
 
 returns-3 : tie.Need-returns-3
 returns-3 c =
-    let l = c .before .before .before .before .before .before .before in
-    onward (start l .args .out .now) (leaves _ _ (c .before .before .before .before .before .before .is-on .ensures)
-    (c .before .before .before .before .before .if3 .left) ∙ takes l) (c .before .before .take-ready .ensures)
+    let at-load-ep = c .before .before .before .before .before .before .before in
+    let is-on = c .before .before .before .before .before .before .is-on in
+    let if3 = c .before .before .before .before .before .if3 in
+    let take-ready = c .before .before .take-ready in
+    onward (start at-load-ep .args .out .now) (leaves _ _ (is-on .ensures)
+    (if3 .left) ∙ takes at-load-ep) (take-ready .ensures)
 
 unready-requires : tie.Need-unready-requires
 unready-requires c κs = search needs
@@ -80,15 +93,21 @@ end-request-requires c κs = search needs
 
 returns-4 : tie.Need-returns-4
 returns-4 c =
-    let asked = c .before .before .before .before .before .before in
-    let start = asked .before .before .before .before .before .before in
-    let is = poll-other Out (start .args .e) (length (start .args .out .now)) (reads (start .args .e) (length (start .args .out .now)))
+    let at-else1 = c .before .before .before .before .before .before in
+    let if2 = c .before .before .before .before .if2 in
+    let unready = c .before .before .unready in
+    let end-request = c .end-request in
+    let start = at-else1 .before .before .before .before .before .before in
+    let is = poll-other Out (start .args .e) (length (start .args .out .now))
+    (reads (start .args .e) (length (start .args .out .now)))
     (view (start .args .s .now)) (start .args .buf .now) (start .pre)
-    (asked .before .before .load-request .ensures) (asked .before .is-on-word .ensures) (asked .if1 .left) (c .before .before .before .before .if2 .left) _ _
-    (c .before .before .unready .ensures .0) (c .end-request .ensures .0) in
-    (is, (lends (start .args .out .now) is, c .end-request .ensures .1 ∙ c .before .before .unready .ensures .1))
+    (at-else1 .before .before .load-request .ensures) (at-else1 .before .is-on-word .ensures) (at-else1 .if1 .left)
+    (if2 .left) _ _
+    (unready .ensures .0) (end-request .ensures .0) in
+    (is, (lends (start .args .out .now) is, end-request .ensures .1 ∙ unready .ensures .1))
 
 pub take-read-spec : {M : Type 1} → statement M
 take-read-spec =
-    tie.close (tie.spec load-request-requires is-on-word-requires returns cast-if2 load-ep-requires is-on-requires take-iso-requires same-length
+    tie.close (tie.spec load-request-requires is-on-word-requires returns cast-if2 load-ep-requires is-on-requires
+    take-iso-requires same-length
     returns-2 take-ready-requires same-length-2 returns-3 unready-requires end-request-requires returns-4)

@@ -21,22 +21,27 @@ end-request-requires : tie.Need-end-request-requires
 end-request-requires c κs = search needs
 
 returns : tie.Need-returns
-returns c = let p = ready-long (view (c .before .before .before .before .before .before .before .before .before .before .args .s .now))
-    (c .before .before .before .before .before .before .before .before .before .before .args .buf .now)
-    (c .before .before .before .before .before .before .before .before .before .before .args .out .now)
-    (c .before .before .before .before .before .before .before .before .before .before .args .e)
-    (length (c .before .before .before .before .before .before .before .before .before .before .args .out .now))
-    (c .before .before .before .before .before .before .before .before .before .before .args .r)
-    (sym (c .before .before .before .before .before .before .before .is-on .ensures)
-    ∙ c .before .before .before .before .before .before .if1 .taken) _ _ (c .before .before .before .before .unready .ensures .0)
-    (c .end-request .ensures .0) (sym (c .before .before .before .too-long .ensures) ∙ c .before .before .if2 .taken) in
-    (p .0, (p .1, c .end-request .ensures .1 ∙ c .before .before .before .before .unready .ensures .1))
+returns c =
+    let start = c .before .before .before .before .before .before .before .before .before .before in
+    let is-on = c .before .before .before .before .before .before .before .is-on in
+    let if1 = c .before .before .before .before .before .before .if1 in
+    let unready = c .before .before .before .before .unready in
+    let too-long = c .before .before .before .too-long in
+    let if2 = c .before .before .if2 in
+    let end-request = c .end-request in
+    let p = ready-long (view (start .args .s .now)) (start .args .buf .now) (start .args .out .now) (start .args .e)
+    (length (start .args .out .now)) (start .args .r) (sym (is-on .ensures)
+    ∙ if1 .taken) _ _ (unready .ensures .0) (end-request .ensures .0) (sym (too-long .ensures) ∙ if2 .taken) in
+    (p .0, (p .1, end-request .ensures .1 ∙ unready .ensures .1))
 
 load-ep-requires : tie.Need-load-ep-requires
 load-ep-requires c κs = search needs
 
 fetch-requires : tie.Need-fetch-requires
-fetch-requires c κs = not-long _ _ (sym (c .before .before .before .before .too-long .ensures) ∙ c .before .before .before .if2 .left)
+fetch-requires c κs =
+    let too-long = c .before .before .before .before .too-long in
+    let if2 = c .before .before .before .if2 in
+    not-long _ _ (sym (too-long .ensures) ∙ if2 .left)
 
 end-request-requires-2 : tie.Need-end-request-requires-2
 end-request-requires-2 c κs = search needs
@@ -45,26 +50,26 @@ same-length : tie.Need-same-length
 same-length c = search needs
 
 returns-2 : tie.Need-returns-2
-returns-2 c = let p = ready-taken
-    (view (c .before .before .before .before .before .before .before .before .before .before .before .before .before .before .before .before .args .s .now))
-    (c .before .before .before .before .before .before .before .before .before .before .before .before .before .before .before .before .args .buf .now)
-    (c .before .before .before .before .before .before .before .before .before .before .before .before .before .before .before .before .args .out .now)
-    (c .before .before .before .before .before .before .before .before .before .before .before .before .before .before .before .before .args .e)
-    (length (c .before .before .before .before .before .before .before .before .before .before .before .before .before .before .before .before .args .out .now))
-    (c .before .before .before .before .before .before .before .before .before .before .before .before .before .before .before .before .args .r)
-    (sym (c .before .before .before .before .before .before .before .before .before .before .before .before .before .is-on .ensures)
-    ∙ c .before .before .before .before .before .before .before .before .before .before .before .before .if1 .taken) _ _
-    (c .before .before .before .before .before .before .before .before .before .before .unready .ensures .0) (c .end-request2 .ensures .0)
-    (sym (c .before .before .before .before .before .before .before .before .before .too-long .ensures)
-    ∙ c .before .before .before .before .before .before .before .before .if2 .left)
-    (c .before .before .before .before .before .before .load-ep .result) _ _
-    (c .before .before .before .before .before .before .load-ep .ensures)
-    (c .before .before .before .before .fetch .ensures .0) (c .before .before .before .before .fetch .ensures .1) in (
+returns-2 c =
+    let start = c .before .before .before .before .before .before .before .before .before .before .before .before
+    .before .before .before .before in
+    let is-on = c .before .before .before .before .before .before .before .before .before .before .before .before
+    .before .is-on in
+    let if1 = c .before .before .before .before .before .before .before .before .before .before .before .before .if1 in
+    let unready = c .before .before .before .before .before .before .before .before .before .before .unready in
+    let too-long = c .before .before .before .before .before .before .before .before .before .too-long in
+    let if2 = c .before .before .before .before .before .before .before .before .if2 in
+    let load-ep = c .before .before .before .before .before .before .load-ep in
+    let fetch = c .before .before .before .before .fetch in
+    let end-request2 = c .end-request2 in
+    let p = ready-taken (view (start .args .s .now)) (start .args .buf .now) (start .args .out .now)
+    (start .args .e) (length (start .args .out .now)) (start .args .r) (sym (is-on .ensures) ∙ if1 .taken) _ _
+    (unready .ensures .0) (end-request2 .ensures .0) (sym (too-long .ensures) ∙ if2 .left) (load-ep .result) _ _
+    (load-ep .ensures) (fetch .ensures .0) (fetch .ensures .1) in (
       p .0,
       (
         p .1,
-        c .end-request2 .ensures .1
-            ∙ c .before .before .before .before .before .before .before .before .before .before .unready .ensures .1,
+        end-request2 .ensures .1 ∙ unready .ensures .1,
       ),
     )
 
@@ -72,15 +77,18 @@ wait-on-requires : tie.Need-wait-on-requires
 wait-on-requires c κs = search needs
 
 returns-3 : tie.Need-returns-3
-returns-3 c = let p = ready-waits (view (c .before .before .before .before .before .before .args .s .now))
-    (c .before .before .before .before .before .before .args .buf .now)
-    (c .before .before .before .before .before .before .args .out .now) (c .before .before .before .before .before .before .args .e)
-    (length (c .before .before .before .before .before .before .args .out .now))
-    (c .before .before .before .before .before .before .args .r)
-    (sym (c .before .before .before .is-on .ensures) ∙ c .before .before .if1 .left)
-    (c .wait-on .result) _ (c .wait-on .ensures .0 _ _) in (p .0, (p .1, c .wait-on .ensures .1))
+returns-3 c =
+    let start = c .before .before .before .before .before .before in
+    let is-on = c .before .before .before .is-on in
+    let if1 = c .before .before .if1 in
+    let wait-on = c .wait-on in
+    let p = ready-waits (view (start .args .s .now)) (start .args .buf .now)
+    (start .args .out .now) (start .args .e) (length (start .args .out .now)) (start .args .r)
+    (sym (is-on .ensures) ∙ if1 .left)
+    (wait-on .result) _ (wait-on .ensures .0 _ _) in (p .0, (p .1, wait-on .ensures .1))
 
 pub take-ready-spec : {M : Type 1} → statement M
 take-ready-spec =
-    tie.close (tie.spec is-on-requires unready-requires too-long-requires end-request-requires returns load-ep-requires fetch-requires
+    tie.close (tie.spec is-on-requires unready-requires too-long-requires end-request-requires returns load-ep-requires
+    fetch-requires
     end-request-requires-2 same-length returns-2 wait-on-requires returns-3)

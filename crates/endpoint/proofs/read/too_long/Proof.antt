@@ -11,11 +11,15 @@ cast-if1 c = search needs
 
 returns : tie.Need-returns
 unfolding tooLong
-returns c = simp (lt-ltb _ _ (c .if1 .taken))
+returns c =
+    let if1 = c .if1 in
+    simp (lt-ltb _ _ (if1 .taken))
 
 returns-2 : tie.Need-returns-2
 unfolding tooLong
-returns-2 c = simp (le-ltb _ _ (c .before .if1 .left))
+returns-2 c =
+    let if1 = c .before .if1 in
+    simp (le-ltb _ _ (if1 .left))
 
 pub too-long-spec : {M : Type 1} → statement M
 too-long-spec = tie.close (tie.spec cast-if1 returns returns-2)

@@ -13,13 +13,18 @@ refusal-requires : tie.Need-refusal-requires
 refusal-requires c κs = search needs
 
 low-requires : tie.Need-low-requires
-low-requires c κs = numbered (view (c .before .before .before .before .before .before .before .args .s .now)) In
-    (c .before .before .before .before .before .before .before .args .e)
-    (eq-eqb _ _ (sym (c .before .before .before .refusal .ensures) ∙ c .before .before .if1 .taken))
+low-requires c κs =
+    let entry = c .before .before .before .before .before .before .before in
+    let refusal = c .before .before .before .refusal in
+    let if1 = c .before .before .if1 in
+    numbered (view (entry .args .s .now)) In (entry .args .e) (eq-eqb _ _ (sym (refusal .ensures) ∙ if1 .taken))
 
 take-write-requires : tie.Need-take-write-requires
-take-write-requires c κs = rw (c .low .ensures) (eq-eqb _ _ (sym (c .before .before .before .before .refusal .ensures)
-    ∙ c .before .before .before .if1 .taken))
+take-write-requires c κs =
+    let refusal = c .before .before .before .before .refusal in
+    let if1 = c .before .before .before .if1 in
+    let low = c .low in
+    rw (low .ensures) (eq-eqb _ _ (sym (refusal .ensures) ∙ if1 .taken))
 
 same-length : tie.Need-same-length
 same-length c = search needs
@@ -27,11 +32,18 @@ same-length c = search needs
 returns : tie.Need-returns
 returns c =
     let start = c .before .before .before .before .before .before .before .before .before .before .before .args in
-    let begun = c .before .before .take-write .ensures in
-    (begun .0 ∙ lowered (λ x. pollWrite x (start .bytes .now)) (view (start .s .now)) (start .buf .now) (c .before .before .before .low .ensures), begun .1)
+    let low = c .before .before .before .low in
+    let take-write = c .before .before .take-write in
+    let begun = take-write .ensures in (
+      begun .0 ∙ lowered (λ x. pollWrite x (start .bytes .now)) (view (start .s .now)) (start .buf .now) (low .ensures),
+      begun .1,
+    )
 
 returns-2 : tie.Need-returns-2
-returns-2 c = (refused _ In _ _ _ _ (c .before .refusal .ensures) (ne-eqb _ _ (c .if1 .left)), refl)
+returns-2 c =
+    let refusal = c .before .refusal in
+    let if1 = c .if1 in
+    (refused _ In _ _ _ _ (refusal .ensures) (ne-eqb _ _ (if1 .left)), refl)
 
 pub poll-write-spec : {M : Type 1} → statement M
 poll-write-spec = tie.close (tie.spec refusal-requires low-requires take-write-requires same-length returns returns-2)

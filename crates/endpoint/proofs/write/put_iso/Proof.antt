@@ -15,30 +15,31 @@ end-request-requires : tie.Need-end-request-requires
 end-request-requires c κs = search needs
 
 returns : tie.Need-returns
-returns c = (
-  put-disabled (view (c .before .before .before .before .before .before .before .args .s .now))
-      (c .before .before .before .before .before .before .before .args .buf .now)
-      (c .before .before .before .before .before .before .before .args .bytes .now)
-      (c .before .before .before .before .before .before .before .args .e)
-      (sym (c .before .before .before .is-enabled .ensures)
-      ∙ not-true (c .before .before .before .is-enabled .result) (c .before .before .if1 .taken)) _ (c .end-request .ensures .0),
-  c .end-request .ensures .1,
-)
+returns c =
+    let start = c .before .before .before .before .before .before .before in
+    let is-enabled = c .before .before .before .is-enabled in
+    let if1 = c .before .before .if1 in
+    let end-request = c .end-request in (
+      put-disabled (view (start .args .s .now)) (start .args .buf .now) (start .args .bytes .now) (start .args .e)
+          (sym (is-enabled .ensures) ∙ not-true (is-enabled .result) (if1 .taken)) _ (end-request .ensures .0),
+      end-request .ensures .1,
+    )
 
 room-requires : tie.Need-room-requires
 room-requires c κs = search needs
 
 returns-2 : tie.Need-returns-2
-returns-2 c = (
-  put-full (view (c .before .before .before .before .before .before .before .before .args .s .now))
-      (c .before .before .before .before .before .before .before .before .args .buf .now)
-      (c .before .before .before .before .before .before .before .before .args .bytes .now)
-      (c .before .before .before .before .before .before .before .before .args .e)
-      (sym (c .before .before .before .before .is-enabled .ensures)
-      ∙ not-false (c .before .before .before .before .is-enabled .result) (c .before .before .before .if1 .left))
-      (sym (c .before .room .ensures) ∙ not-true (c .before .room .result) (c .if2 .taken)),
-  refl,
-)
+returns-2 c =
+    let start = c .before .before .before .before .before .before .before .before in
+    let is-enabled = c .before .before .before .before .is-enabled in
+    let if1 = c .before .before .before .if1 in
+    let room = c .before .room in
+    let if2 = c .if2 in (
+      put-full (view (start .args .s .now)) (start .args .buf .now) (start .args .bytes .now) (start .args .e)
+          (sym (is-enabled .ensures) ∙ not-false (is-enabled .result) (if1 .left))
+          (sym (room .ensures) ∙ not-true (room .result) (if2 .taken)),
+      refl,
+    )
 
 iso-in-enqueue-requires : tie.Need-iso-in-enqueue-requires
 iso-in-enqueue-requires c κs = search needs
@@ -50,24 +51,25 @@ same-length : tie.Need-same-length
 same-length c = search needs
 
 returns-3 : tie.Need-returns-3
-returns-3 c = (
-  put-done
-      (view (c .before .before .before .before .before .before .before .before .before .before .before .before .before .before .before .args .s .now))
-      (c .before .before .before .before .before .before .before .before .before .before .before .before .before .before .before .args .buf .now)
-      (c .before .before .before .before .before .before .before .before .before .before .before .before .before .before .before .args .bytes .now)
-      (c .before .before .before .before .before .before .before .before .before .before .before .before .before .before .before .args .e)
-      (sym (c .before .before .before .before .before .before .before .before .before .before .before .is-enabled .ensures)
-      ∙ not-false (c .before .before .before .before .before .before .before .before .before .before .before .is-enabled .result)
-      (c .before .before .before .before .before .before .before .before .before .before .if1 .left))
-      (sym (c .before .before .before .before .before .before .before .before .room .ensures)
-      ∙ not-false (c .before .before .before .before .before .before .before .before .room .result)
-      (c .before .before .before .before .before .before .before .if2 .left)) _ _ _
-      (c .before .before .before .before .iso-in-enqueue .ensures .0)
-      (c .before .before .before .before .iso-in-enqueue .ensures .1 .0) (c .end-request2 .ensures .0),
-  c .end-request2 .ensures .1 ∙ c .before .before .before .before .iso-in-enqueue .ensures .1 .1,
-)
+returns-3 c =
+    let start = c .before .before .before .before .before .before .before .before .before .before .before .before
+    .before .before .before in
+    let is-enabled = c .before .before .before .before .before .before .before .before .before .before .before
+    .is-enabled in
+    let if1 = c .before .before .before .before .before .before .before .before .before .before .if1 in
+    let room = c .before .before .before .before .before .before .before .before .room in
+    let if2 = c .before .before .before .before .before .before .before .if2 in
+    let iso-in-enqueue = c .before .before .before .before .iso-in-enqueue in
+    let end-request2 = c .end-request2 in (
+      put-done (view (start .args .s .now)) (start .args .buf .now) (start .args .bytes .now) (start .args .e)
+          (sym (is-enabled .ensures) ∙ not-false (is-enabled .result) (if1 .left)) (sym (room .ensures)
+          ∙ not-false (room .result) (if2 .left)) _ _ _ (iso-in-enqueue .ensures .0)
+          (iso-in-enqueue .ensures .1 .0) (end-request2 .ensures .0),
+      end-request2 .ensures .1 ∙ iso-in-enqueue .ensures .1 .1,
+    )
 
 pub put-iso-spec : {M : Type 1} → statement M
 put-iso-spec =
-    tie.close (tie.spec is-enabled-requires end-request-requires returns room-requires returns-2 iso-in-enqueue-requires end-request-requires-2
+    tie.close (tie.spec is-enabled-requires end-request-requires returns room-requires returns-2 iso-in-enqueue-requires
+    end-request-requires-2
     same-length returns-3)

@@ -16,13 +16,14 @@ is-enabled-requires : tie.Need-is-enabled-requires
 is-enabled-requires c κs = search needs
 
 returns : tie.Need-returns
-returns c = (
-  write-disabled (view (c .before .before .before .before .before .args .s .now))
-      (c .before .before .before .before .before .args .buf .now) (c .before .before .before .before .before .args .bytes .now)
-      (c .before .before .before .before .before .args .e) (c .before .before .before .before .before .pre)
-      (sym (c .before .is-enabled .ensures) ∙ not-true (c .before .is-enabled .result) (c .if1 .taken)),
-  (refl, tt),
-)
+returns c =
+    let start = c .before .before .before .before .before in
+    let is-enabled = c .before .is-enabled in
+    let if1 = c .if1 in (
+      write-disabled (view (start .args .s .now)) (start .args .buf .now) (start .args .bytes .now)
+          (start .args .e) (start .pre) (sym (is-enabled .ensures) ∙ not-true (is-enabled .result) (if1 .taken)),
+      (refl, tt),
+    )
 
 load-ep-requires : tie.Need-load-ep-requires
 load-ep-requires c κs = search needs
@@ -31,21 +32,23 @@ cast-if2 : tie.Need-cast-if2
 cast-if2 c = search needs
 
 returns-2 : tie.Need-returns-2
-returns-2 c = (
-  write-long (view (c .before .before .before .before .before .before .before .before .before .args .s .now))
-      (c .before .before .before .before .before .before .before .before .before .args .buf .now)
-      (c .before .before .before .before .before .before .before .before .before .args .bytes .now)
-      (c .before .before .before .before .before .before .before .before .before .args .e)
-      (c .before .before .before .before .before .before .before .before .before .pre)
-      (sym (c .before .before .before .before .before .is-enabled .ensures)
-      ∙ not-false (c .before .before .before .before .before .is-enabled .result) (c .before .before .before .before .if1 .left))
-      (on-driver (λ y. ltb (y .«max_len») (length (c .before .before .before .before .before .before .before .before .before .args .bytes .now)))
-      (c .before .before .load-ep .ensures) refl (lt-ltb _ _ (c .if2 .taken))),
-  (refl, tt),
-)
+returns-2 c =
+    let start = c .before .before .before .before .before .before .before .before .before in
+    let is-enabled = c .before .before .before .before .before .is-enabled in
+    let if1 = c .before .before .before .before .if1 in
+    let load-ep = c .before .before .load-ep in
+    let if2 = c .if2 in (
+      write-long (view (start .args .s .now)) (start .args .buf .now) (start .args .bytes .now) (start .args .e)
+          (start .pre) (sym (is-enabled .ensures) ∙ not-false (is-enabled .result) (if1 .left))
+          (on-driver (λ y. ltb (y .«max_len») (length (start .args .bytes .now)))
+          (load-ep .ensures) refl (lt-ltb _ _ (if2 .taken))),
+      (refl, tt),
+    )
 
 length16-requires : tie.Need-length16-requires
-length16-requires c κs = c .if2 .left
+length16-requires c κs =
+    let if2 = c .if2 in
+    if2 .left
 
 cast-set-request : tie.Need-cast-set-request
 cast-set-request c = search needs
@@ -60,26 +63,26 @@ is-on-requires : tie.Need-is-on-requires
 is-on-requires c κs = search needs
 
 returns-3 : tie.Need-returns-3
-returns-3 c = (
-  write-iso
-      (view (c .before .before .before .before .before .before .before .before .before .before .before .before .before .before .before .before .args .s .now))
-      (c .before .before .before .before .before .before .before .before .before .before .before .before .before .before .before .before .args .buf .now)
-      (c .before .before .before .before .before .before .before .before .before .before .before .before .before .before .before .before .args .bytes .now)
-      (c .before .before .before .before .before .before .before .before .before .before .before .before .before .before .before .before .args .e)
-      (c .before .before .before .before .before .before .before .before .before .before .before .before .before .before .before .before .pre)
-      (sym (c .before .before .before .before .before .before .before .before .before .before .before .before .is-enabled .ensures)
-      ∙ not-false (c .before .before .before .before .before .before .before .before .before .before .before .before .is-enabled .result)
-      (c .before .before .before .before .before .before .before .before .before .before .before .if1 .left))
-      (on-driver (λ y. ltb (y .«max_len») (length
-      (c .before .before .before .before .before .before .before .before .before .before .before .before .before .before .before .before .args .bytes .now)))
-      (c .before .before .before .before .before .before .before .before .before .load-ep .ensures) refl
-      (le-ltb _ _ (c .before .before .before .before .before .before .before .if2 .left))) _
-      (c .before .before .before .before .before .before .length16 .ensures) _ _
-      (c .before .before .before .before .set-request .ensures .0) (c .before .before .clear-wakes .ensures .0)
-      (on-driver (λ y. isOn (y .iso)) (c .before .before .before .before .before .before .before .before .before .load-ep .ensures)
-      (c .before .is-on .ensures) (c .if3 .taken)),
-  (c .before .before .clear-wakes .ensures .1 ∙ c .before .before .before .before .set-request .ensures .1, tt),
-)
+returns-3 c =
+    let start = c .before .before .before .before .before .before .before .before .before .before .before .before
+    .before .before .before .before in
+    let is-enabled = c .before .before .before .before .before .before .before .before .before .before .before .before
+    .is-enabled in
+    let if1 = c .before .before .before .before .before .before .before .before .before .before .before .if1 in
+    let load-ep = c .before .before .before .before .before .before .before .before .before .load-ep in
+    let if2 = c .before .before .before .before .before .before .before .if2 in
+    let length16 = c .before .before .before .before .before .before .length16 in
+    let set-request = c .before .before .before .before .set-request in
+    let clear-wakes = c .before .before .clear-wakes in
+    let is-on = c .before .is-on in
+    let if3 = c .if3 in (
+      write-iso (view (start .args .s .now)) (start .args .buf .now) (start .args .bytes .now) (start .args .e)
+          (start .pre) (sym (is-enabled .ensures) ∙ not-false (is-enabled .result) (if1 .left))
+          (on-driver (λ y. ltb (y .«max_len») (length (start .args .bytes .now))) (load-ep .ensures) refl
+          (le-ltb _ _ (if2 .left))) _ (length16 .ensures) _ _ (set-request .ensures .0) (clear-wakes .ensures .0)
+          (on-driver (λ y. isOn (y .iso)) (load-ep .ensures) (is-on .ensures) (if3 .taken)),
+      (clear-wakes .ensures .1 ∙ set-request .ensures .1, tt),
+    )
 
 fill-requires : tie.Need-fill-requires
 fill-requires c κs = search needs
@@ -94,45 +97,40 @@ same-length : tie.Need-same-length
 same-length c = search needs
 
 returns-4 : tie.Need-returns-4
-returns-4 c = (
-  write-asks
-      (view (c .before .before .before .before .before .before .before .before .before .before .before
-      .before .before .before .before .before .before .before .before .before .before .before .before .args .s .now))
-      (c .before .before .before .before .before .before .before .before .before .before .before
-      .before .before .before .before .before .before .before .before .before .before .before .before .args .buf .now)
-      (c .before .before .before .before .before .before .before .before .before .before .before
-      .before .before .before .before .before .before .before .before .before .before .before .before .args .bytes .now)
-      (c .before .before .before .before .before .before .before .before .before .before
-      .before .before .before .before .before .before .before .before .before .before .before .before .before .args .e)
-      (c .before .before .before .before .before .before .before .before .before .before
-      .before .before .before .before .before .before .before .before .before .before .before .before .before .pre)
-      (sym
-      (c .before .before .before .before .before .before .before .before .before .before .before .before .before .before .before .before .before .before .before
-      .is-enabled .ensures) ∙ not-false
-      (c .before .before .before .before .before .before .before .before .before .before .before .before .before .before .before .before .before .before .before
-      .is-enabled .result)
-      (c .before .before .before .before .before .before .before .before .before .before .before .before .before .before .before .before .before .before
-      .if1 .left))
-      (on-driver (λ y. ltb (y .«max_len») (length (c .before .before .before .before .before .before .before .before .before
-      .before .before .before .before .before .before .before .before .before .before .before .before .before .before .args .bytes .now)))
-      (c .before .before .before .before .before .before .before .before .before .before .before .before .before .before .before .before .load-ep .ensures) refl
-      (le-ltb _ _ (c .before .before .before .before .before .before .before .before .before .before .before .before .before .before .if2 .left))) _
-      (c .before .before .before .before .before .before .before .before .before .before .before .before .before .length16 .ensures) _ _
-      (c .before .before .before .before .before .before .before .before .before .before .before .set-request .ensures .0)
-      (c .before .before .before .before .before .before .before .before .before .clear-wakes .ensures .0)
-      (on-driver (λ y. isOn (y .iso))
-      (c .before .before .before .before .before .before .before .before .before .before .before .before .before .before .before .before .load-ep .ensures)
-      (c .before .before .before .before .before .before .before .before .is-on .ensures)
-      (c .before .before .before .before .before .before .before .if3 .left)) _
-      (c .before .before .before .before .fill .ensures) _ (c .arm-in .ensures .0),
-  (
-    c .arm-in .ensures .1 ∙ c .before .before .before .before .before .before .before .before .before .clear-wakes .ensures .1
-        ∙ c .before .before .before .before .before .before .before .before .before .before .before .set-request .ensures .1,
-    refl,
-  ),
-)
+returns-4 c =
+    let start = c .before .before .before .before .before .before .before .before .before .before .before .before
+    .before .before .before .before .before .before .before .before .before .before .before in
+    let is-enabled = c .before .before .before .before .before .before .before .before .before .before .before .before
+    .before .before .before .before .before .before .before .is-enabled in
+    let if1 = c .before .before .before .before .before .before .before .before .before .before .before .before
+    .before .before .before .before .before .before .if1 in
+    let load-ep = c .before .before .before .before .before .before .before .before .before .before .before .before
+    .before .before .before .before .load-ep in
+    let if2 = c .before .before .before .before .before .before .before .before .before .before .before .before
+    .before .before .if2 in
+    let length16 = c .before .before .before .before .before .before .before .before .before .before .before .before
+    .before .length16 in
+    let set-request = c .before .before .before .before .before .before .before .before .before .before .before
+    .set-request in
+    let clear-wakes = c .before .before .before .before .before .before .before .before .before .clear-wakes in
+    let is-on = c .before .before .before .before .before .before .before .before .is-on in
+    let if3 = c .before .before .before .before .before .before .before .if3 in
+    let fill = c .before .before .before .before .fill in
+    let arm-in = c .arm-in in (
+      write-asks (view (start .args .s .now)) (start .args .buf .now) (start .args .bytes .now) (start .args .e)
+          (start .pre) (sym (is-enabled .ensures) ∙ not-false (is-enabled .result) (if1 .left))
+          (on-driver (λ y. ltb (y .«max_len») (length (start .args .bytes .now))) (load-ep .ensures) refl
+          (le-ltb _ _ (if2 .left))) _ (length16 .ensures) _ _ (set-request .ensures .0) (clear-wakes .ensures .0)
+          (on-driver (λ y. isOn (y .iso)) (load-ep .ensures) (is-on .ensures) (if3 .left)) _
+          (fill .ensures) _ (arm-in .ensures .0),
+      (
+        arm-in .ensures .1 ∙ clear-wakes .ensures .1 ∙ set-request .ensures .1,
+        refl,
+      ),
+    )
 
 pub start-write-spec : {M : Type 1} → statement M
 start-write-spec =
-    tie.close (tie.spec is-enabled-requires returns load-ep-requires cast-if2 returns-2 length16-requires cast-set-request set-request-requires
+    tie.close (tie.spec is-enabled-requires returns load-ep-requires cast-if2 returns-2 length16-requires
+    cast-set-request set-request-requires
     clear-wakes-requires is-on-requires returns-3 fill-requires arm-in-requires cast-t16 same-length returns-4)

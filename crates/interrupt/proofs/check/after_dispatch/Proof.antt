@@ -19,10 +19,12 @@ after-transfer-requires c κs = search needs
 
 returns : tie.Need-returns
 returns c =
-    let the-after-transfer = c .after-transfer in
     let a = c .before .before .before .before .before .args in
+    let is-sof = c .before .before .before .is-sof in
+    let if1 = c .before .before .if1 in
+    let the-after-transfer = c .after-transfer in
     goes-on (the-after-transfer .ensures .0 _, the-after-transfer .ensures .1)
-    (sof-over (a .e .setup) (a .e .x) (a .e .iso) _ (tells _ _ _ (c .before .before .before .is-sof .ensures) (c .before .before .if1 .taken)))
+    (sof-over (a .e .setup) (a .e .x) (a .e .iso) _ (tells _ _ _ (is-sof .ensures) (if1 .taken)))
 
 iso-out-check-requires : tie.Need-iso-out-check-requires
 iso-out-check-requires c κs = search needs
@@ -45,13 +47,17 @@ same-length c = search needs
 returns-2 : tie.Need-returns-2
 unfolding afterDispatch
 returns-2 c =
-    let the-n = c .before .before .before .n in
-    let a = c .before .before .before .before .before .before .before .before .before .before .before .before .before .args in
-    let the-begin = c .before .before .before .before .before .before .before .iso-out-check in
-    let the-is-sof = c .before .before .before .before .before .before .before .before .before .before .before .is-sof in
+    let a = c .before .before .before .before .before .before .before .before .before .before .before .before .before
+    .args in
+    let the-is-sof
+    = c .before .before .before .before .before .before .before .before .before .before .before .is-sof in
     let the-if1 = c .before .before .before .before .before .before .before .before .before .before .if1 in
-    pauses-at (c .stand-check .ensures) (subst check.Linked (the-n .given .1) (the-begin .ensures .1 .1))
-    (check-asks (a .e .setup) (λ _ u. run concrete (afterCheck (a .e .x)) u) _ _ _ (a .e .x) (a .e .iso) _ _ (the-n .given .1)
+    let the-begin = c .before .before .before .before .before .before .before .iso-out-check in
+    let the-n = c .before .before .before .n in
+    let stand-check = c .stand-check in
+    pauses-at (stand-check .ensures) (subst check.Linked (the-n .given .1) (the-begin .ensures .1 .1))
+    (check-asks (a .e .setup) (λ _ u. run concrete (afterCheck (a .e .x)) u) _ _ _ (a .e .x) (a .e .iso) _ _
+    (the-n .given .1)
     ∙ (after (a .e .setup) (λ _ u. run concrete (afterCheck (a .e .x)) u) _ _ (the-begin .ensures .0)
     ∙ when-yes (a .e .setup) (isoOutCheck (a .e .x) (a .e .iso)) (λ _ u. run concrete (afterCheck (a .e .x)) u) _ _
     (tells-not _ _ _ (the-is-sof .ensures) (the-if1 .left))))
@@ -62,19 +68,21 @@ same-length-2 c = search needs
 returns-3 : tie.Need-returns-3
 unfolding afterDispatch
 returns-3 c =
-    let the-after-check = c .ep0-moved-on in
-    let the-enum-told = c .before .before .enum-told in
     let a = c .before .before .before .before .before .before .before .before .before .before .before .before .args in
-    let the-begin = c .before .before .before .before .before .before .iso-out-check in
     let the-is-sof = c .before .before .before .before .before .before .before .before .before .before .is-sof in
     let the-if1 = c .before .before .before .before .before .before .before .before .before .if1 in
+    let the-begin = c .before .before .before .before .before .before .iso-out-check in
+    let the-enum-told = c .before .before .enum-told in
+    let the-after-check = c .ep0-moved-on in
     goes-on (the-after-check .ensures .0 _, the-after-check .ensures .1)
-    (check-ends (a .e .setup) (λ _ u. run concrete (afterCheck (a .e .x)) u) _ _ (a .e .x) (a .e .iso) _ (the-enum-told .given .1)
+    (check-ends (a .e .setup) (λ _ u. run concrete (afterCheck (a .e .x)) u) _ _ (a .e .x) (a .e .iso) _
+    (the-enum-told .given .1)
     ∙ (after (a .e .setup) (λ _ u. run concrete (afterCheck (a .e .x)) u) _ _ (the-begin .ensures .0)
     ∙ when-yes (a .e .setup) (isoOutCheck (a .e .x) (a .e .iso)) (λ _ u. run concrete (afterCheck (a .e .x)) u) _ _
     (tells-not _ _ _ (the-is-sof .ensures) (the-if1 .left))))
 
 pub after-dispatch-spec : {M : Type 1} → statement M
 after-dispatch-spec =
-    tie.close (tie.spec is-sof-requires after-transfer-requires returns iso-out-check-requires enum-known-n stand-check-requires enum-told
+    tie.close (tie.spec is-sof-requires after-transfer-requires returns iso-out-check-requires enum-known-n
+    stand-check-requires enum-told
     ep0-moved-on-requires same-length returns-2 same-length-2 returns-3)

@@ -21,8 +21,12 @@ stand-moved-wrote-requires c κs = search needs
 
 returns : tie.Need-returns
 returns c =
-    pauses-in (c .stand-moved-wrote .ensures) refl
-    (λ b. simp (c .before .ctrl-of .ensures, c .before .before .before .nakflip .ensures, c .before .before .before .before .byte .ensures))
+    let byte = c .before .before .before .before .byte in
+    let nakflip = c .before .before .before .nakflip in
+    let ctrl-of = c .before .ctrl-of in
+    let stand-moved-wrote = c .stand-moved-wrote in
+    pauses-in (stand-moved-wrote .ensures) refl (λ b. simp (ctrl-of .ensures, nakflip .ensures, byte .ensures))
 
 pub after-moved-read-spec : {M : Type 1} → statement M
-after-moved-read-spec = tie.close (tie.spec byte-requires nakflip-requires ctrl-of-requires cast-t9 stand-moved-wrote-requires returns)
+after-moved-read-spec = tie.close (tie.spec byte-requires nakflip-requires ctrl-of-requires cast-t9
+    stand-moved-wrote-requires returns)

@@ -17,13 +17,15 @@ after-transfer-requires c κs = search needs
 
 returns : tie.Need-returns
 returns c =
-    let the-after-transfer = c .after-transfer in
-    let the-wake = c .before .before .wake in
+    let the-load-ep = c .before .before .before .before .before .before .load-ep in
     let the-store-ep = c .before .before .before .before .store-ep in
-    let the-load-ep = c .before .before .before .before .before .before .load-ep in (
-      λ v b. then-on (the-after-transfer .ensures .0 b) (simp (the-wake .ensures .0, the-store-ep .ensures .0, the-load-ep .ensures)),
+    let the-wake = c .before .before .wake in
+    let the-after-transfer = c .after-transfer in (
+      λ v b. then-on (the-after-transfer .ensures .0 b)
+          (simp (the-wake .ensures .0, the-store-ep .ensures .0, the-load-ep .ensures)),
       the-after-transfer .ensures .1,
     )
 
 pub after-moved-wrote-spec : {M : Type 1} → statement M
-after-moved-wrote-spec = tie.close (tie.spec load-ep-requires store-ep-requires wake-requires after-transfer-requires returns)
+after-moved-wrote-spec = tie.close (tie.spec load-ep-requires store-ep-requires wake-requires after-transfer-requires
+    returns)

@@ -19,12 +19,16 @@ ep0-moved-on-requires c κs = search needs
 
 returns : tie.Need-returns
 returns c =
-    pauses-at (c .stand-check .ensures)
-    (subst check.Linked (c .before .before .before .n .given .1) (c .before .before .before .before .before .before .pre))
-    (simp (c .before .before .before .n .given .1))
+    let start = c .before .before .before .before .before .before in
+    let n = c .before .before .before .n in
+    let stand-check = c .stand-check in
+    pauses-at (stand-check .ensures) (subst check.Linked (n .given .1) (start .pre)) (simp (n .given .1))
 
 returns-2 : tie.Need-returns-2
-returns-2 c = goes-on (c .ep0-moved-on .ensures .0 _, c .ep0-moved-on .ensures .1) (simp (c .before .before .enum-told .given .1))
+returns-2 c =
+    let enum-told-fact = c .before .before .enum-told in
+    let ep0-moved-on = c .ep0-moved-on in
+    goes-on (ep0-moved-on .ensures .0 _, ep0-moved-on .ensures .1) (simp (enum-told-fact .given .1))
 
 pub checked-spec : {M : Type 1} → statement M
 checked-spec = tie.close (tie.spec enum-known-n stand-check-requires enum-told ep0-moved-on-requires returns returns-2)

@@ -24,7 +24,8 @@ use Rattle.interrupt.proofs.check.ep0_moved_on.Tie as tie
 abbrev others : List ℕ
 others = 1 ∷ 3 ∷ []
 
-quiet : (k : Token) → OneOf others (tagOf declared.the-type k) → (t : St) → ends tt t ≡ run concrete (ep0MovedOn {i = true} k) t
+quiet : (k : Token) → OneOf others (tagOf declared.the-type k) → (t : St) → ends tt t
+    ≡ run concrete (ep0MovedOn {i = true} k) t
 quiet tok.Out h t = absurd (miss others 0 tt h)
 quiet tok.Sof h t = refl
 quiet tok.In h t = absurd (miss others 2 tt h)
@@ -56,30 +57,41 @@ after-transfer-requires-2 c κs = search needs
 
 returns : tie.Need-returns
 returns c =
-    let told = c .before .before in
-    let at = told .before .before in
-    goes-in (c .moved-on .ensures)
-    (λ b. moved-as _ _ _ (at .before .before .endpoint .ensures) (at .before .if1 .taken) (at .token .ensures) (told .enum-told .given .1))
+    let at-enum-told = c .before .before in
+    let moved-on = c .moved-on in
+    let at = at-enum-told .before .before in
+    goes-in (moved-on .ensures)
+    (λ b. moved-as _ _ _ (at .before .before .endpoint .ensures) (at .before .if1 .taken) (at .token .ensures)
+    (at-enum-told .enum-told .given .1))
 
 returns-2 : tie.Need-returns-2
 returns-2 c =
-    let told = c .before .before in
-    let at = told .before .before in
-    goes-in (c .moved-on2 .ensures)
-    (λ b. moved-as _ _ _ (at .before .before .endpoint .ensures) (at .before .if1 .taken) (at .token .ensures) (told .enum-told2 .given .1))
+    let at-enum-told2 = c .before .before in
+    let moved-on2 = c .moved-on2 in
+    let at = at-enum-told2 .before .before in
+    goes-in (moved-on2 .ensures)
+    (λ b. moved-as _ _ _ (at .before .before .endpoint .ensures) (at .before .if1 .taken) (at .token .ensures)
+    (at-enum-told2 .enum-told2 .given .1))
 
 returns-3 : tie.Need-returns-3
 returns-3 c =
-    let at = c .before .before .before in
-    goes-in (c .after-transfer .ensures) (λ b. ap (finish _) (quiet (at .token .result) (c .before .before .match .keys3) _)
-    ∙ moved-as _ _ _ (at .before .before .endpoint .ensures) (at .before .if1 .taken) (at .token .ensures) refl)
+    let at-token = c .before .before .before in
+    let matched = c .before .before .match in
+    let after-transfer = c .after-transfer in
+    goes-in (after-transfer .ensures) (λ b. ap (finish _) (quiet (at-token .token .result) (matched .keys3) _)
+    ∙ moved-as _ _ _ (at-token .before .before .endpoint .ensures) (at-token .before .if1 .taken)
+    (at-token .token .ensures) refl)
 
 returns-4 : tie.Need-returns-4
 unfolding afterCheck
 returns-4 c =
-    goes-in (c .after-transfer2 .ensures) (λ b. simp (← c .before .before .before .endpoint .ensures, ne-eqb _ _ (c .before .before .if1 .left)))
+    let endpoint = c .before .before .before .endpoint in
+    let if1 = c .before .before .if1 in
+    let after-transfer2 = c .after-transfer2 in
+    goes-in (after-transfer2 .ensures) (λ b. simp (← endpoint .ensures, ne-eqb _ _ (if1 .left)))
 
 pub ep0-moved-on-spec : {M : Type 1} → statement M
 ep0-moved-on-spec =
-    tie.close (tie.spec endpoint-requires token-requires enum-told moved-on-requires enum-told-2 moved-on-requires-2 after-transfer-requires
+    tie.close (tie.spec endpoint-requires token-requires enum-told moved-on-requires enum-told-2 moved-on-requires-2
+    after-transfer-requires
     after-transfer-requires-2 returns returns-2 returns-3 returns-4)

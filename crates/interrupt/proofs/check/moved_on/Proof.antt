@@ -18,13 +18,16 @@ stand-moved-read-requires c κs = search needs
 
 returns : tie.Need-returns
 returns c =
+    let load-ep = c .before .before .before .before .before .load-ep in
+    let is-on = c .before .before .before .before .is-on in
+    let if1 = c .before .before .before .if1 in
     let the-ctrl-of = c .before .ctrl-of in
-    pauses-in (c .stand-moved-read .ensures) (simp (the-ctrl-of .ensures, word-width))
-    (λ b. simp (
+    let stand-moved-read = c .stand-moved-read in
+    pauses-in (stand-moved-read .ensures) (simp (the-ctrl-of .ensures, word-width)) (λ b. simp (
       the-ctrl-of .ensures,
-      ← c .before .before .before .before .before .load-ep .ensures,
-      ← c .before .before .before .before .is-on .ensures,
-      c .before .before .before .if1 .taken,
+      ← load-ep .ensures,
+      ← is-on .ensures,
+      if1 .taken,
     ))
 
 after-transfer-requires : tie.Need-after-transfer-requires
@@ -32,8 +35,12 @@ after-transfer-requires c κs = search needs
 
 returns-2 : tie.Need-returns-2
 returns-2 c =
-    goes-in (c .after-transfer .ensures)
-    (λ b. simp (← c .before .before .before .before .load-ep .ensures, ← c .before .before .before .is-on .ensures, c .before .before .if1 .left))
+    let load-ep = c .before .before .before .before .load-ep in
+    let is-on = c .before .before .before .is-on in
+    let if1 = c .before .before .if1 in
+    let after-transfer = c .after-transfer in
+    goes-in (after-transfer .ensures) (λ b. simp (← load-ep .ensures, ← is-on .ensures, if1 .left))
 
 pub moved-on-spec : {M : Type 1} → statement M
-moved-on-spec = tie.close (tie.spec load-ep-requires is-on-requires ctrl-of-requires stand-moved-read-requires returns after-transfer-requires returns-2)
+moved-on-spec = tie.close (tie.spec load-ep-requires is-on-requires ctrl-of-requires stand-moved-read-requires returns
+    after-transfer-requires returns-2)

@@ -6,7 +6,9 @@ complete-of-requires : tie.Need-complete-of-requires
 complete-of-requires c κs = search needs
 
 returns : tie.Need-returns
-returns c = simp (c .complete-of .ensures)
+returns c =
+    let complete-of = c .complete-of in
+    simp (complete-of .ensures)
 
 pub late-of-spec : {M : Type 1} → statement M
 late-of-spec = tie.close (tie.spec complete-of-requires returns)

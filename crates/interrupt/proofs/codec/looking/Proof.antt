@@ -12,7 +12,11 @@ inner-requires : tie.Need-inner-requires
 inner-requires c κs = search needs
 
 returns : tie.Need-returns
-returns c = simp (c .inner .ensures, c .before .dir-as .ensures, c .before .before .flag-of .ensures)
+returns c =
+    let flag-of = c .before .before .flag-of in
+    let dir-as = c .before .dir-as in
+    let inner = c .inner in
+    simp (inner .ensures, dir-as .ensures, flag-of .ensures)
 
 pub looking-spec : {M : Type 1} → statement M
 looking-spec = tie.close (tie.spec flag-of-requires dir-as-requires inner-requires returns)

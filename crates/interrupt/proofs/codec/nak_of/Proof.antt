@@ -4,10 +4,14 @@ use Rattle.interrupt.proofs.codec.nak_of.Statement.{statement}
 use Rattle.interrupt.proofs.codec.nak_of.Tie as tie
 
 returns : tie.Need-returns
-returns c = simp (c .match .keys1)
+returns c =
+    let matched = c .match in
+    simp (matched .keys1)
 
 returns-2 : tie.Need-returns-2
-returns-2 c = simp (c .match .keys2)
+returns-2 c =
+    let matched = c .match in
+    simp (matched .keys2)
 
 returns-3 : tie.Need-returns-3
 returns-3 c = search (needs, ne-eqb)

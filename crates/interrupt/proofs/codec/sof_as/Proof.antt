@@ -27,18 +27,31 @@ walked-requires-3 : tie.Need-walked-requires-3
 walked-requires-3 c κs = search needs
 
 returns : tie.Need-returns
-returns c = simp (c .walked .ensures, c .before .before .p .given .1)
+returns c =
+    let p = c .before .before .p in
+    let walked = c .walked in
+    simp (walked .ensures, p .given .1)
 
 returns-2 : tie.Need-returns-2
-returns-2 c = simp (c .walked2 .ensures, c .before .before .p2 .given .1)
+returns-2 c =
+    let p2 = c .before .before .p2 in
+    let walked2 = c .walked2 in
+    simp (walked2 .ensures, p2 .given .1)
 
 returns-3 : tie.Need-returns-3
-returns-3 c = simp (c .complete-as .ensures, c .before .before .p3 .given .1)
+returns-3 c =
+    let p3 = c .before .before .p3 in
+    let complete-as = c .complete-as in
+    simp (complete-as .ensures, p3 .given .1)
 
 returns-4 : tie.Need-returns-4
-returns-4 c = simp (c .walked3 .ensures, c .before .enum-told .given .1)
+returns-4 c =
+    let enum-told-fact = c .before .enum-told in
+    let walked3 = c .walked3 in
+    simp (walked3 .ensures, enum-told-fact .given .1)
 
 pub sof-as-spec : {M : Type 1} → statement M
 sof-as-spec =
-    tie.close (tie.spec enum-known-p walked-requires enum-known-p-2 walked-requires-2 enum-known-p-3 complete-as-requires enum-told walked-requires-3
+    tie.close (tie.spec enum-known-p walked-requires enum-known-p-2 walked-requires-2 enum-known-p-3
+    complete-as-requires enum-told walked-requires-3
     returns returns-2 returns-3 returns-4)

@@ -7,13 +7,19 @@ complete-of-requires : tie.Need-complete-of-requires
 complete-of-requires c κs = search needs
 
 returns : tie.Need-returns
-returns c = simp (c .match .keys1)
+returns c =
+    let matched = c .match in
+    simp (matched .keys1)
 
 returns-2 : tie.Need-returns-2
-returns-2 c = simp (c .match .keys2)
+returns-2 c =
+    let matched = c .match in
+    simp (matched .keys2)
 
 returns-3 : tie.Need-returns-3
-returns-3 c = simp (c .match .keys3)
+returns-3 c =
+    let matched = c .match in
+    simp (matched .keys3)
 
 returns-4 : tie.Need-returns-4
 returns-4 c = search (needs, ne-eqb)

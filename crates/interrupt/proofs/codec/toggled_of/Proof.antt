@@ -4,13 +4,19 @@ use Rattle.interrupt.proofs.codec.toggled_of.Statement.{statement}
 use Rattle.interrupt.proofs.codec.toggled_of.Tie as tie
 
 returns : tie.Need-returns
-returns c = simp (c .match .keys1)
+returns c =
+    let matched = c .match in
+    simp (matched .keys1)
 
 returns-2 : tie.Need-returns-2
-returns-2 c = simp (c .match .keys2)
+returns-2 c =
+    let matched = c .match in
+    simp (matched .keys2)
 
 returns-3 : tie.Need-returns-3
-returns-3 c = simp (c .match .keys3)
+returns-3 c =
+    let matched = c .match in
+    simp (matched .keys3)
 
 returns-4 : tie.Need-returns-4
 returns-4 c = search (needs, ne-eqb)

@@ -9,7 +9,10 @@ inner-requires : tie.Need-inner-requires
 inner-requires c κs = search needs
 
 returns : tie.Need-returns
-returns c = simp (c .inner .ensures, c .before .flag-of .ensures)
+returns c =
+    let flag-of = c .before .flag-of in
+    let inner = c .inner in
+    simp (inner .ensures, flag-of .ensures)
 
 pub walked-spec : {M : Type 1} → statement M
 walked-spec = tie.close (tie.spec flag-of-requires inner-requires returns)

@@ -11,8 +11,8 @@ suspend-requires c κs = search needs
 
 returns : tie.Need-returns
 returns c =
-    let the-suspend = c .suspend in
     let the-wake-bus = c .before .before .wake-bus in
+    let the-suspend = c .suspend in
     (λ v b. then-on (the-suspend .ensures .0 b) (simp (the-wake-bus .ensures .0)), the-suspend .ensures .1)
 
 pub after-bus-rst-spec : {M : Type 1} → statement M

@@ -13,14 +13,22 @@ stand-host-requires c κs = search needs
 
 returns : tie.Need-returns
 unfolding afterFifo
-returns c = pauses-in (c .stand-host .ensures) refl (λ b. simp (← c .before .before .before .hst-sof .ensures, c .before .before .if1 .taken))
+returns c =
+    let hst-sof = c .before .before .before .hst-sof in
+    let if1 = c .before .before .if1 in
+    let stand-host = c .stand-host in
+    pauses-in (stand-host .ensures) refl (λ b. simp (← hst-sof .ensures, if1 .taken))
 
 after-host-requires : tie.Need-after-host-requires
 after-host-requires c κs = search needs
 
 returns-2 : tie.Need-returns-2
 unfolding afterFifo
-returns-2 c = goes-in (c .after-host .ensures) (λ b. simp (← c .before .before .before .hst-sof .ensures, c .before .before .if1 .left))
+returns-2 c =
+    let hst-sof = c .before .before .before .hst-sof in
+    let if1 = c .before .before .if1 in
+    let after-host = c .after-host in
+    goes-in (after-host .ensures) (λ b. simp (← hst-sof .ensures, if1 .left))
 
 pub after-fifo-spec : {M : Type 1} → statement M
 after-fifo-spec = tie.close (tie.spec hst-sof-requires stand-host-requires returns after-host-requires returns-2)

@@ -29,14 +29,14 @@ stand-bus-rst-requires c κs = search needs
 returns : tie.Need-returns
 unfolding afterFlags
 returns c =
-    let the-set-int-en = c .before .before .set-int-en in
-    let the-with-bus-rst = c .before .before .before .before .with-bus-rst in
-    let the-load-globals = c .before .before .before .before .before .load-globals in
+    let the-byte = c .before .before .before .before .before .before .before .before .before .byte in
     let the-bus-rst = c .before .before .before .before .before .before .before .before .bus-rst in
     let the-if1 = c .before .before .before .before .before .before .before .if1 in
-    let the-byte = c .before .before .before .before .before .before .before .before .before .byte in
-    pauses-in (c .stand-bus-rst .ensures) refl
-    (λ b. simp (
+    let the-load-globals = c .before .before .before .before .before .load-globals in
+    let the-with-bus-rst = c .before .before .before .before .with-bus-rst in
+    let the-set-int-en = c .before .before .set-int-en in
+    let stand-bus-rst = c .stand-bus-rst in
+    pauses-in (stand-bus-rst .ensures) refl (λ b. simp (
       the-set-int-en .ensures .0,
       the-with-bus-rst .ensures,
       the-load-globals .ensures,
@@ -51,10 +51,14 @@ suspend-requires c κs = search needs
 returns-2 : tie.Need-returns-2
 unfolding afterFlags
 returns-2 c =
-    goes-in (c .suspend .ensures)
-    (λ b. simp (← c .before .before .before .bus-rst .ensures, c .before .before .if1 .left, ← c .before .before .before .before .byte .ensures))
+    let byte = c .before .before .before .before .byte in
+    let bus-rst = c .before .before .before .bus-rst in
+    let if1 = c .before .before .if1 in
+    let suspend = c .suspend in
+    goes-in (suspend .ensures) (λ b. simp (← bus-rst .ensures, if1 .left, ← byte .ensures))
 
 pub after-flags-spec : {M : Type 1} → statement M
 after-flags-spec =
-    tie.close (tie.spec byte-requires bus-rst-requires load-globals-requires with-bus-rst-requires set-int-en-requires cast-stand-bus-rst
+    tie.close (tie.spec byte-requires bus-rst-requires load-globals-requires with-bus-rst-requires set-int-en-requires
+    cast-stand-bus-rst
     stand-bus-rst-requires returns suspend-requires returns-2)

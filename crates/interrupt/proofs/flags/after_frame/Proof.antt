@@ -23,13 +23,16 @@ stand-flags-requires c κs = search needs
 returns : tie.Need-returns
 returns c =
     let a = c .before .before .before .before .before .before .before .before .args in
-    let the-load-globals = c .before .before .before .before .load-globals in
     let the-short = c .before .before .before .before .before .before .before .short in
     let the-microframe-index = c .before .before .before .before .before .before .microframe-index in
+    let the-load-globals = c .before .before .before .before .load-globals in
     let the-store-globals = c .before .before .store-globals in
-    pauses-in (c .stand-flags .ensures) refl
-    (λ b. microframe-kept (a .v) _ _ (the-load-globals .result) _ _ b (the-short .ensures) (the-microframe-index .ensures) (the-load-globals .ensures)
+    let stand-flags = c .stand-flags in
+    pauses-in (stand-flags .ensures) refl
+    (λ b. microframe-kept (a .v) _ _ (the-load-globals .result) _ _ b (the-short .ensures)
+    (the-microframe-index .ensures) (the-load-globals .ensures)
     (the-store-globals .ensures .0))
 
 pub after-frame-spec : {M : Type 1} → statement M
-after-frame-spec = tie.close (tie.spec short-requires microframe-index-requires load-globals-requires store-globals-requires stand-flags-requires returns)
+after-frame-spec = tie.close (tie.spec short-requires microframe-index-requires load-globals-requires
+    store-globals-requires stand-flags-requires returns)

@@ -16,18 +16,25 @@ stand-mis-requires c κs = search needs
 
 returns : tie.Need-returns
 returns c =
-    pauses-in (c .stand-mis .ensures) refl
-    (λ b. host-transfer _ _ _ b (c .before .before .before .before .setup-act .ensures)
-    (tells _ _ _ (c .before .before .before .transfer .ensures) (c .before .before .if1 .taken)))
+    let setup-act = c .before .before .before .before .setup-act in
+    let transfer = c .before .before .before .transfer in
+    let if1 = c .before .before .if1 in
+    let stand-mis = c .stand-mis in
+    pauses-in (stand-mis .ensures) refl (λ b. host-transfer _ _ _ b (setup-act .ensures)
+    (tells _ _ _ (transfer .ensures) (if1 .taken)))
 
 after-transfer-requires : tie.Need-after-transfer-requires
 after-transfer-requires c κs = search needs
 
 returns-2 : tie.Need-returns-2
 returns-2 c =
-    goes-in (c .after-transfer .ensures)
-    (λ b. host-other _ _ _ b (c .before .before .before .before .setup-act .ensures)
-    (tells _ _ _ (c .before .before .before .transfer .ensures) (c .before .before .if1 .left)))
+    let setup-act = c .before .before .before .before .setup-act in
+    let transfer = c .before .before .before .transfer in
+    let if1 = c .before .before .if1 in
+    let after-transfer = c .after-transfer in
+    goes-in (after-transfer .ensures) (λ b. host-other _ _ _ b (setup-act .ensures)
+    (tells _ _ _ (transfer .ensures) (if1 .left)))
 
 pub after-host-spec : {M : Type 1} → statement M
-after-host-spec = tie.close (tie.spec setup-act-requires transfer-requires stand-mis-requires returns after-transfer-requires returns-2)
+after-host-spec = tie.close (tie.spec setup-act-requires transfer-requires stand-mis-requires returns
+    after-transfer-requires returns-2)

@@ -11,8 +11,8 @@ fifo-requires c κs = search needs
 
 returns : tie.Need-returns
 returns c =
-    let the-fifo = c .fifo in
     let the-wake-bus = c .before .before .wake-bus in
+    let the-fifo = c .fifo in
     (λ v b. then-on (the-fifo .ensures .0 b) (simp (the-wake-bus .ensures .0)), the-fifo .ensures .1)
 
 pub after-suspend-spec : {M : Type 1} → statement M

@@ -26,22 +26,34 @@ stand-suspend-requires c κs = search needs
 returns : tie.Need-returns
 unfolding afterBusRst
 returns c =
-    let the-set-int-en = c .before .before .set-int-en in
-    let the-with-suspend = c .before .before .before .before .with-suspend in
-    let the-load-globals = c .before .before .before .before .before .load-globals in
     let the-suspend = c .before .before .before .before .before .before .before .before .suspend in
     let the-if1 = c .before .before .before .before .before .before .before .if1 in
-    pauses-in (c .stand-suspend .ensures) refl
-    (λ b. simp (the-set-int-en .ensures .0, the-with-suspend .ensures, the-load-globals .ensures, ← the-suspend .ensures, the-if1 .taken))
+    let the-load-globals = c .before .before .before .before .before .load-globals in
+    let the-with-suspend = c .before .before .before .before .with-suspend in
+    let the-set-int-en = c .before .before .set-int-en in
+    let stand-suspend = c .stand-suspend in
+    pauses-in (stand-suspend .ensures) refl
+    (λ b. simp (
+      the-set-int-en .ensures .0,
+      the-with-suspend .ensures,
+      the-load-globals .ensures,
+      ← the-suspend .ensures,
+      the-if1 .taken,
+    ))
 
 fifo-requires : tie.Need-fifo-requires
 fifo-requires c κs = search needs
 
 returns-2 : tie.Need-returns-2
 unfolding afterBusRst
-returns-2 c = goes-in (c .fifo .ensures) (λ b. simp (← c .before .before .before .suspend .ensures, c .before .before .if1 .left))
+returns-2 c =
+    let suspend = c .before .before .before .suspend in
+    let if1 = c .before .before .if1 in
+    let fifo = c .fifo in
+    goes-in (fifo .ensures) (λ b. simp (← suspend .ensures, if1 .left))
 
 pub suspend-spec : {M : Type 1} → statement M
 suspend-spec =
-    tie.close (tie.spec suspend-requires load-globals-requires with-suspend-requires set-int-en-requires cast-stand-suspend stand-suspend-requires
+    tie.close (tie.spec suspend-requires load-globals-requires with-suspend-requires set-int-en-requires
+    cast-stand-suspend stand-suspend-requires
     returns fifo-requires returns-2)

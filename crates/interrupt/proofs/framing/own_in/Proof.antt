@@ -8,19 +8,34 @@ is-in-requires c κs = search needs
 
 returns : tie.Need-returns
 unfolding ownIn
-returns c = simp (c .before .before .before .if1 .taken, c .before .before .if2 .taken, ← c .before .is-in .ensures, c .if3 .taken)
+returns c =
+    let if1 = c .before .before .before .if1 in
+    let if2 = c .before .before .if2 in
+    let is-in = c .before .is-in in
+    let if3 = c .if3 in
+    simp (if1 .taken, if2 .taken, ← is-in .ensures, if3 .taken)
 
 returns-2 : tie.Need-returns-2
 unfolding ownIn
-returns-2 c = simp (c .before .before .before .if1 .taken, c .before .before .if2 .taken, ← c .before .is-in .ensures, c .if3 .left)
+returns-2 c =
+    let if1 = c .before .before .before .if1 in
+    let if2 = c .before .before .if2 in
+    let is-in = c .before .is-in in
+    let if3 = c .if3 in
+    simp (if1 .taken, if2 .taken, ← is-in .ensures, if3 .left)
 
 returns-3 : tie.Need-returns-3
 unfolding ownIn
-returns-3 c = simp (c .before .if1 .taken, c .if2 .left)
+returns-3 c =
+    let if1 = c .before .if1 in
+    let if2 = c .if2 in
+    simp (if1 .taken, if2 .left)
 
 returns-4 : tie.Need-returns-4
 unfolding ownIn
-returns-4 c = simp (c .if1 .left)
+returns-4 c =
+    let if1 = c .if1 in
+    simp (if1 .left)
 
 pub own-in-spec : {M : Type 1} → statement M
 own-in-spec = tie.close (tie.spec is-in-requires returns returns-2 returns-3 returns-4)

@@ -16,7 +16,11 @@ stand-st-requires c κs = search needs
 
 returns : tie.Need-returns
 unfolding afterMis
-returns c = pauses-in (c .stand-st .ensures) refl (λ b. simp (c .before .before .sie-free .ensures, c .before .before .before .byte .ensures))
+returns c =
+    let byte = c .before .before .before .byte in
+    let sie-free = c .before .before .sie-free in
+    let stand-st = c .stand-st in
+    pauses-in (stand-st .ensures) refl (λ b. simp (sie-free .ensures, byte .ensures))
 
 pub after-mis-spec : {M : Type 1} → statement M
 after-mis-spec = tie.close (tie.spec byte-requires sie-free-requires stand-st-requires returns)

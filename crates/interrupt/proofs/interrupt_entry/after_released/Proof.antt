@@ -28,9 +28,10 @@ returns : tie.Need-returns
 unfolding afterRelease
 returns c =
     let a = c .before .before .before .before .before .before .before .args in
-    let the-n = c .before .before .before .n in
     let the-begin = c .before .before .before .before .before .begin in
-    pauses-in (c .stand-settle .ensures) (subst settle.Linked (the-n .given .1) (the-begin .ensures .1))
+    let the-n = c .before .before .before .n in
+    let stand-settle = c .stand-settle in
+    pauses-in (stand-settle .ensures) (subst settle.Linked (the-n .given .1) (the-begin .ensures .1))
     (λ b. settle-asks (a .setup) (λ y u. run concrete (afterSettle y) u) _ b (a .x) _ _ _ (the-n .given .1)
     ∙ after (a .setup) (λ y u. run concrete (afterSettle y) u) _ _ (the-begin .ensures .0 b))
 
@@ -38,9 +39,13 @@ returns-2 : tie.Need-returns-2
 unfolding afterRelease
 returns-2 c =
     let a = c .before .before .before .before .before .before .before .args in
-    goes-in (c .after-settle .ensures)
-    (λ b. settle-ends (a .setup) (λ y u. run concrete (afterSettle y) u) _ b (a .x) _ _ (c .before .before .before .n2 .given .1)
-    ∙ after (a .setup) (λ y u. run concrete (afterSettle y) u) _ _ (c .before .before .before .before .before .begin .ensures .0 b))
+    let begin = c .before .before .before .before .before .begin in
+    let n2 = c .before .before .before .n2 in
+    let after-settle = c .after-settle in
+    goes-in (after-settle .ensures)
+    (λ b. settle-ends (a .setup) (λ y u. run concrete (afterSettle y) u) _ b (a .x) _ _ (n2 .given .1)
+    ∙ after (a .setup) (λ y u. run concrete (afterSettle y) u) _ _ (begin .ensures .0 b))
 
 pub after-released-spec : {M : Type 1} → statement M
-after-released-spec = tie.close (tie.spec begin-requires enum-known-n stand-settle-requires enum-known-n-2 after-settle-requires returns returns-2)
+after-released-spec = tie.close (tie.spec begin-requires enum-known-n stand-settle-requires enum-known-n-2
+    after-settle-requires returns returns-2)

@@ -23,13 +23,18 @@ stand-frame-no-requires c κs = search needs
 returns : tie.Need-returns
 unfolding afterSettle
 returns c =
-    pauses-in (c .stand-frame-no .ensures) refl
-    (λ b. simp (
-      c .before .before .iso-for .ensures,
-      c .before .before .before .load-ep2 .ensures,
-      c .before .before .before .before .before .load-ep .ensures,
-      c .before .before .before .before .before .before .before .endpoint .ensures,
+    let endpoint = c .before .before .before .before .before .before .before .endpoint in
+    let load-ep = c .before .before .before .before .before .load-ep in
+    let load-ep2 = c .before .before .before .load-ep2 in
+    let iso-for = c .before .before .iso-for in
+    let stand-frame-no = c .stand-frame-no in
+    pauses-in (stand-frame-no .ensures) refl (λ b. simp (
+      iso-for .ensures,
+      load-ep2 .ensures,
+      load-ep .ensures,
+      endpoint .ensures,
     ))
 
 pub after-settle-spec : {M : Type 1} → statement M
-after-settle-spec = tie.close (tie.spec endpoint-requires load-ep-requires load-ep-requires-2 iso-for-requires stand-frame-no-requires returns)
+after-settle-spec = tie.close (tie.spec endpoint-requires load-ep-requires load-ep-requires-2 iso-for-requires
+    stand-frame-no-requires returns)

@@ -13,7 +13,10 @@ stand-len-requires c κs = search needs
 
 returns : tie.Need-returns
 unfolding afterSt
-returns c = pauses-in (c .stand-len .ensures) refl (λ b. simp (c .before .byte .ensures))
+returns c =
+    let byte = c .before .byte in
+    let stand-len = c .stand-len in
+    pauses-in (stand-len .ensures) refl (λ b. simp (byte .ensures))
 
 pub after-st-spec : {M : Type 1} → statement M
 after-st-spec = tie.close (tie.spec byte-requires stand-len-requires returns)

@@ -26,21 +26,36 @@ enum-told-4 c = search needs
 
 returns : tie.Need-returns
 unfolding isoFor
-returns c = simp (← c .before .before .before .token .ensures, c .before .enum-told .given .1, ← c .is-on .ensures)
+returns c =
+    let token = c .before .before .before .token in
+    let enum-told-fact = c .before .enum-told in
+    let is-on = c .is-on in
+    simp (← token .ensures, enum-told-fact .given .1, ← is-on .ensures)
 
 returns-2 : tie.Need-returns-2
 unfolding isoFor
-returns-2 c = simp (← c .before .before .token .ensures, c .enum-told2 .given .1)
+returns-2 c =
+    let token = c .before .before .token in
+    let enum-told2 = c .enum-told2 in
+    simp (← token .ensures, enum-told2 .given .1)
 
 returns-3 : tie.Need-returns-3
 unfolding isoFor
-returns-3 c = simp (← c .before .before .before .token .ensures, c .before .enum-told3 .given .1, ← c .is-on2 .ensures)
+returns-3 c =
+    let token = c .before .before .before .token in
+    let enum-told3 = c .before .enum-told3 in
+    let is-on2 = c .is-on2 in
+    simp (← token .ensures, enum-told3 .given .1, ← is-on2 .ensures)
 
 returns-4 : tie.Need-returns-4
 unfolding isoFor
-returns-4 c = simp (← c .before .before .token .ensures, c .enum-told4 .given .1)
+returns-4 c =
+    let token = c .before .before .token in
+    let enum-told4 = c .enum-told4 in
+    simp (← token .ensures, enum-told4 .given .1)
 
 pub iso-for-spec : {M : Type 1} → statement M
 iso-for-spec =
-    tie.close (tie.spec token-requires enum-told is-on-requires enum-told-2 enum-told-3 is-on-requires-2 enum-told-4 returns returns-2 returns-3
+    tie.close (tie.spec token-requires enum-told is-on-requires enum-told-2 enum-told-3 is-on-requires-2 enum-told-4
+    returns returns-2 returns-3
     returns-4)

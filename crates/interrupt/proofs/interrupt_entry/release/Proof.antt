@@ -10,7 +10,9 @@ stand-released-requires c κs = search needs
 
 returns : tie.Need-returns
 unfolding afterNak
-returns c = pauses-in (c .stand-released .ensures) refl (λ b. refl)
+returns c =
+    let stand-released = c .stand-released in
+    pauses-in (stand-released .ensures) refl (λ b. refl)
 
 pub release-spec : {M : Type 1} → statement M
 release-spec = tie.close (tie.spec stand-released-requires returns)

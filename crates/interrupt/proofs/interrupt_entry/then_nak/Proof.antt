@@ -19,11 +19,16 @@ release-requires c κs = search needs
 
 returns : tie.Need-returns
 returns c =
-    pauses-in (c .stand-nak .ensures) (subst nak.Linked (c .before .before .before .n .given .1) (c .before .before .before .before .before .pre))
-    (λ b. simp (c .before .before .before .n .given .1))
+    let start = c .before .before .before .before .before in
+    let n = c .before .before .before .n in
+    let stand-nak = c .stand-nak in
+    pauses-in (stand-nak .ensures) (subst nak.Linked (n .given .1) (start .pre)) (λ b. simp (n .given .1))
 
 returns-2 : tie.Need-returns-2
-returns-2 c = goes-in (c .release .ensures) (λ b. simp (c .before .before .enum-told .given .1))
+returns-2 c =
+    let enum-told-fact = c .before .before .enum-told in
+    let release = c .release in
+    goes-in (release .ensures) (λ b. simp (enum-told-fact .given .1))
 
 pub then-nak-spec : {M : Type 1} → statement M
 then-nak-spec = tie.close (tie.spec enum-known-n stand-nak-requires enum-told release-requires returns returns-2)

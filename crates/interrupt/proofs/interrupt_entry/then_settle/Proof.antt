@@ -19,11 +19,17 @@ after-settle-requires c κs = search needs
 
 returns : tie.Need-returns
 returns c =
-    pauses-in (c .stand-settle .ensures) (subst settle.Linked (c .before .before .before .n .given .1) (c .before .before .before .before .before .pre))
-    (λ b. simp (c .before .before .before .n .given .1))
+    let start = c .before .before .before .before .before in
+    let n = c .before .before .before .n in
+    let stand-settle = c .stand-settle in
+    pauses-in (stand-settle .ensures) (subst settle.Linked (n .given .1) (start .pre)) (λ b. simp (n .given .1))
 
 returns-2 : tie.Need-returns-2
-returns-2 c = goes-in (c .after-settle .ensures) (λ b. simp (c .before .before .before .n2 .given .1))
+returns-2 c =
+    let n2 = c .before .before .before .n2 in
+    let after-settle = c .after-settle in
+    goes-in (after-settle .ensures) (λ b. simp (n2 .given .1))
 
 pub then-settle-spec : {M : Type 1} → statement M
-then-settle-spec = tie.close (tie.spec enum-known-n stand-settle-requires enum-known-n-2 after-settle-requires returns returns-2)
+then-settle-spec = tie.close (tie.spec enum-known-n stand-settle-requires enum-known-n-2 after-settle-requires returns
+    returns-2)

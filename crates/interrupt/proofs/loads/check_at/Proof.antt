@@ -15,7 +15,12 @@ check-of-requires : tie.Need-check-of-requires
 check-of-requires c κs = search needs
 
 returns : tie.Need-returns
-returns c = simp (c .check-of .ensures, c .before .before .before .sub-byte .ensures, c .before .before .ep-byte .ensures, c .before .eps-word .ensures)
+returns c =
+    let sub-byte = c .before .before .before .sub-byte in
+    let ep-byte = c .before .before .ep-byte in
+    let eps-word = c .before .eps-word in
+    let check-of = c .check-of in
+    simp (check-of .ensures, sub-byte .ensures, ep-byte .ensures, eps-word .ensures)
 
 pub check-at-spec : {M : Type 1} → statement M
 check-at-spec = tie.close (tie.spec sub-byte-requires ep-byte-requires eps-word-requires check-of-requires returns)

@@ -12,7 +12,11 @@ complete-of-requires : tie.Need-complete-of-requires
 complete-of-requires c κs = search needs
 
 returns : tie.Need-returns
-returns c = simp (c .complete-of .ensures, c .before .before .sub-byte .ensures, c .before .ep-byte .ensures)
+returns c =
+    let sub-byte = c .before .before .sub-byte in
+    let ep-byte = c .before .ep-byte in
+    let complete-of = c .complete-of in
+    simp (complete-of .ensures, sub-byte .ensures, ep-byte .ensures)
 
 pub complete-at-spec : {M : Type 1} → statement M
 complete-at-spec = tie.close (tie.spec sub-byte-requires ep-byte-requires complete-of-requires returns)

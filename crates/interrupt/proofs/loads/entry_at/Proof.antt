@@ -19,13 +19,19 @@ frame-word-requires c κs = search needs
 
 returns : tie.Need-returns
 returns c =
+    let setup-at = c .before .before .before .before .setup-at in
+    let transfer-at = c .before .before .before .transfer-at in
+    let now-byte = c .before .before .now-byte in
+    let is-on = c .before .is-on in
+    let frame-word = c .frame-word in
     simp (
-      c .before .before .before .before .setup-at .ensures,
-      c .before .before .before .transfer-at .ensures,
-      c .before .is-on .ensures,
-      c .before .before .now-byte .ensures,
-      c .frame-word .ensures,
+      setup-at .ensures,
+      transfer-at .ensures,
+      is-on .ensures,
+      now-byte .ensures,
+      frame-word .ensures,
     )
 
 pub entry-at-spec : {M : Type 1} → statement M
-entry-at-spec = tie.close (tie.spec setup-at-requires transfer-at-requires now-byte-requires is-on-requires frame-word-requires returns)
+entry-at-spec = tie.close (tie.spec setup-at-requires transfer-at-requires now-byte-requires is-on-requires
+    frame-word-requires returns)

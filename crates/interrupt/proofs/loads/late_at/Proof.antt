@@ -15,7 +15,12 @@ late-of-requires : tie.Need-late-of-requires
 late-of-requires c κs = search needs
 
 returns : tie.Need-returns
-returns c = simp (c .late-of .ensures, c .before .before .before .sub-byte .ensures, c .before .before .ep-byte .ensures, c .before .eps-word .ensures)
+returns c =
+    let sub-byte = c .before .before .before .sub-byte in
+    let ep-byte = c .before .before .ep-byte in
+    let eps-word = c .before .eps-word in
+    let late-of = c .late-of in
+    simp (late-of .ensures, sub-byte .ensures, ep-byte .ensures, eps-word .ensures)
 
 pub late-at-spec : {M : Type 1} → statement M
 late-at-spec = tie.close (tie.spec sub-byte-requires ep-byte-requires eps-word-requires late-of-requires returns)

@@ -15,7 +15,12 @@ settle-of-requires : tie.Need-settle-of-requires
 settle-of-requires c κs = search needs
 
 returns : tie.Need-returns
-returns c = simp (c .settle-of .ensures, c .before .before .before .sub-byte .ensures, c .before .before .now-byte .ensures, c .before .n-word .ensures)
+returns c =
+    let sub-byte = c .before .before .before .sub-byte in
+    let now-byte = c .before .before .now-byte in
+    let n-word = c .before .n-word in
+    let settle-of = c .settle-of in
+    simp (settle-of .ensures, sub-byte .ensures, now-byte .ensures, n-word .ensures)
 
 pub settle-at-spec : {M : Type 1} → statement M
 settle-at-spec = tie.close (tie.spec sub-byte-requires now-byte-requires n-word-requires settle-of-requires returns)

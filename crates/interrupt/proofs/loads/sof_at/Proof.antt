@@ -15,7 +15,12 @@ sof-of-requires : tie.Need-sof-of-requires
 sof-of-requires c κs = search needs
 
 returns : tie.Need-returns
-returns c = simp (c .sof-of .ensures, c .before .before .before .sub-byte .ensures, c .before .before .ep-byte .ensures, c .before .eps-word .ensures)
+returns c =
+    let sub-byte = c .before .before .before .sub-byte in
+    let ep-byte = c .before .before .ep-byte in
+    let eps-word = c .before .eps-word in
+    let sof-of = c .sof-of in
+    simp (sof-of .ensures, sub-byte .ensures, ep-byte .ensures, eps-word .ensures)
 
 pub sof-at-spec : {M : Type 1} → statement M
 sof-at-spec = tie.close (tie.spec sub-byte-requires ep-byte-requires eps-word-requires sof-of-requires returns)

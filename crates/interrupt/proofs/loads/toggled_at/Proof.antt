@@ -12,7 +12,11 @@ toggled-of-requires : tie.Need-toggled-of-requires
 toggled-of-requires c κs = search needs
 
 returns : tie.Need-returns
-returns c = simp (c .toggled-of .ensures, c .before .before .sub-byte .ensures, c .before .n-word .ensures)
+returns c =
+    let sub-byte = c .before .before .sub-byte in
+    let n-word = c .before .n-word in
+    let toggled-of = c .toggled-of in
+    simp (toggled-of .ensures, sub-byte .ensures, n-word .ensures)
 
 pub toggled-at-spec : {M : Type 1} → statement M
 toggled-at-spec = tie.close (tie.spec sub-byte-requires n-word-requires toggled-of-requires returns)

@@ -28,12 +28,14 @@ is-on-requires-3 c κs = search needs
 
 returns : tie.Need-returns
 returns c =
-    let the-is-on = c .before .before .before .before .before .before .is-on in
     let the-busy-byte = c .before .before .before .before .before .before .before .busy-byte in
+    let the-is-on = c .before .before .before .before .before .before .is-on in
     let the-st-byte = c .before .before .before .before .before .st-byte in
     let the-len-word = c .before .before .before .before .len-word in
-    let the-is-on2 = c .before .before .is-on2 in
     let the-late-byte = c .before .before .before .late-byte in
+    let the-is-on2 = c .before .before .is-on2 in
+    let len-ok-byte = c .before .len-ok-byte in
+    let is-on3 = c .is-on3 in
     simp (
       the-is-on .ensures,
       the-busy-byte .ensures,
@@ -41,11 +43,12 @@ returns c =
       the-len-word .ensures,
       the-is-on2 .ensures,
       the-late-byte .ensures,
-      c .is-on3 .ensures,
-      c .before .len-ok-byte .ensures,
+      is-on3 .ensures,
+      len-ok-byte .ensures,
     )
 
 pub transfer-at-spec : {M : Type 1} → statement M
 transfer-at-spec =
-    tie.close (tie.spec busy-byte-requires is-on-requires st-byte-requires len-word-requires late-byte-requires is-on-requires-2 len-ok-byte-requires
+    tie.close (tie.spec busy-byte-requires is-on-requires st-byte-requires len-word-requires late-byte-requires
+    is-on-requires-2 len-ok-byte-requires
     is-on-requires-3 returns)

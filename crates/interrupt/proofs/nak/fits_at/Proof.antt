@@ -16,11 +16,16 @@ enum-told c = search needs
 
 returns : tie.Need-returns
 unfolding fitsAt
-returns c = simp (c .fits2 .ensures, c .before .before .p .given .1)
+returns c =
+    let p = c .before .before .p in
+    let fits2 = c .fits2 in
+    simp (fits2 .ensures, p .given .1)
 
 returns-2 : tie.Need-returns-2
 unfolding fitsAt
-returns-2 c = simp (c .enum-told .given .1)
+returns-2 c =
+    let enum-told-fact = c .enum-told in
+    simp (enum-told-fact .given .1)
 
 pub fits-at-spec : {M : Type 1} → statement M
 fits-at-spec = tie.close (tie.spec enum-known-p fits-requires enum-told returns returns-2)

@@ -11,14 +11,21 @@ is-in-requires c κs = search needs
 
 returns : tie.Need-returns
 unfolding inNaks
-returns c = simp (← c .before .is-in .ensures, not-true (c .before .is-in .result) (c .if1 .taken))
+returns c =
+    let is-in = c .before .is-in in
+    let if1 = c .if1 in
+    simp (← is-in .ensures, not-true (is-in .result) (if1 .taken))
 
 is-on-requires : tie.Need-is-on-requires
 is-on-requires c κs = search needs
 
 returns-2 : tie.Need-returns-2
 unfolding inNaks
-returns-2 c = simp (← c .is-on .ensures, ← c .before .before .is-in .ensures, not-false (c .before .before .is-in .result) (c .before .if1 .left))
+returns-2 c =
+    let is-in = c .before .before .is-in in
+    let if1 = c .before .if1 in
+    let is-on = c .is-on in
+    simp (← is-on .ensures, ← is-in .ensures, not-false (is-in .result) (if1 .left))
 
 pub in-naks-spec : {M : Type 1} → statement M
 in-naks-spec = tie.close (tie.spec is-in-requires returns is-on-requires returns-2)

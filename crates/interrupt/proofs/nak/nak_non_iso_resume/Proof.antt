@@ -12,7 +12,10 @@ enum-known-p c = search needs
 
 byte-requires : tie.Need-byte-requires
 unfolding fitsAt
-byte-requires c κs = nak-told _ _ (c .before .before .before .args .v) (c .before .p .given .1) (c .before .before .before .pre)
+byte-requires c κs =
+    let start = c .before .before .before in
+    let p = c .before .p in
+    nak-told _ _ (start .args .v) (p .given .1) (start .pre)
 
 nak-requires : tie.Need-nak-requires
 nak-requires c κs = search needs
@@ -30,19 +33,27 @@ enum-told : tie.Need-enum-told
 enum-told c = search needs
 
 returns : tie.Need-returns
-returns c = (
-  λ d b. simp (
-    c .endpoint .ensures,
-    c .before .ctrl-of .ensures,
-    c .before .before .nak .ensures,
-    c .before .before .before .byte .ensures,
-    c .before .before .before .before .before .p .given .1,
-  ),
-  refl,
-)
+returns c =
+    let p = c .before .before .before .before .before .p in
+    let byte = c .before .before .before .byte in
+    let nak = c .before .before .nak in
+    let ctrl-of = c .before .ctrl-of in
+    let endpoint = c .endpoint in (
+      λ d b. simp (
+        endpoint .ensures,
+        ctrl-of .ensures,
+        nak .ensures,
+        byte .ensures,
+        p .given .1,
+      ),
+      refl,
+    )
 
 returns-2 : tie.Need-returns-2
-returns-2 c = (λ d b. simp (c .enum-told .given .1), tt)
+returns-2 c =
+    let enum-told-fact = c .enum-told in
+    (λ d b. simp (enum-told-fact .given .1), tt)
 
 pub nak-non-iso-resume-spec : {M : Type 1} → statement M
-nak-non-iso-resume-spec = tie.close (tie.spec enum-known-p byte-requires nak-requires ctrl-of-requires endpoint-requires cast-t9 enum-told returns returns-2)
+nak-non-iso-resume-spec = tie.close (tie.spec enum-known-p byte-requires nak-requires ctrl-of-requires endpoint-requires
+    cast-t9 enum-told returns returns-2)

@@ -29,19 +29,25 @@ same-length c = search needs
 returns : tie.Need-returns
 unfolding fitsAt
 returns c =
-    let fitted = sym (c .before .before .before .before .before .before .before .before .fits-at .ensures)
-    ∙ c .before .before .before .before .before .before .before .if1 .taken in
-    let here = at-site 20
-    (c .before .before .before .before .before .before .before .before .before .before .before .before .pre)
-    (parts2 (ofInner point.Check) (c .before .before .before .before .before .entry-at .ensures)
-    (c .before .before .before .before .before .before .before .before .before .check-at .ensures)) in
-    goes-on here fitted (c .before .before .after-checking .ensures .0) (c .before .before .after-checking .ensures .1)
+    let start = c .before .before .before .before .before .before .before .before .before .before .before .before in
+    let check-at = c .before .before .before .before .before .before .before .before .before .check-at in
+    let fits-at = c .before .before .before .before .before .before .before .before .fits-at in
+    let if1 = c .before .before .before .before .before .before .before .if1 in
+    let entry-at = c .before .before .before .before .before .entry-at in
+    let after-checking = c .before .before .after-checking in
+    let fitted = sym (fits-at .ensures) ∙ if1 .taken in
+    let here = at-site 20 (start .pre) (parts2 (ofInner point.Check) (entry-at .ensures) (check-at .ensures)) in
+    goes-on here fitted (after-checking .ensures .0) (after-checking .ensures .1)
 
 returns-2 : tie.Need-returns-2
 unfolding fitsAt
 returns-2 c =
-    refuses-16 (at-site 20 (c .before .before .before .before .before .pre) (parts4 point.Check refl refl refl (c .before .before .check-at .ensures)))
-    (sym (c .before .fits-at .ensures) ∙ c .if1 .left)
+    let start = c .before .before .before .before .before in
+    let check-at = c .before .before .check-at in
+    let fits-at = c .before .fits-at in
+    let if1 = c .if1 in
+    refuses-16 (at-site 20 (start .pre) (parts4 point.Check refl refl refl (check-at .ensures)))
+    (sym (fits-at .ensures) ∙ if1 .left)
 
 pub resume-check-spec : {M : Type 1} → statement M
 resume-check-spec =

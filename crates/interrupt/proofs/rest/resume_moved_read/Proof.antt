@@ -26,15 +26,24 @@ after-moved-read-requires c κs =
 returns : tie.Need-returns
 unfolding fitsAt
 returns c =
-    let fitted = sym (c .before .before .before .before .before .before .before .fits2 .ensures)
-    ∙ c .before .before .before .before .before .before .if1 .taken in
-    let here = at-site 21 (c .before .before .before .before .before .before .before .before .pre)
-    (parts2 point.MovedRead (c .before .before .before .before .dir-at .ensures) (c .before .before .setup-at .ensures)) in
-    λ b. goes-on here fitted (c .after-moved-read .ensures .0 b) (c .after-moved-read .ensures .1)
+    let start = c .before .before .before .before .before .before .before .before in
+    let fits2 = c .before .before .before .before .before .before .before .fits2 in
+    let if1 = c .before .before .before .before .before .before .if1 in
+    let dir-at = c .before .before .before .before .dir-at in
+    let setup-at = c .before .before .setup-at in
+    let after-moved-read = c .after-moved-read in
+    let fitted = sym (fits2 .ensures) ∙ if1 .taken in
+    let here = at-site 21 (start .pre) (parts2 point.MovedRead (dir-at .ensures) (setup-at .ensures)) in
+    λ b. goes-on here fitted (after-moved-read .ensures .0 b) (after-moved-read .ensures .1)
 
 returns-2 : tie.Need-returns-2
 unfolding fitsAt
-returns-2 c = λ b. refuses-16 (at-site 21 (c .before .before .pre) refl) (sym (c .before .fits2 .ensures) ∙ c .if1 .left)
+returns-2 c =
+    let start = c .before .before in
+    let fits2 = c .before .fits2 in
+    let if1 = c .if1 in
+    λ b. refuses-16 (at-site 21 (start .pre) refl) (sym (fits2 .ensures) ∙ if1 .left)
 
 pub resume-moved-read-spec : {M : Type 1} → statement M
-resume-moved-read-spec = tie.close (tie.spec fits-requires dir-at-requires setup-at-requires after-moved-read-requires returns returns-2)
+resume-moved-read-spec = tie.close (tie.spec fits-requires dir-at-requires setup-at-requires after-moved-read-requires
+    returns returns-2)

@@ -20,9 +20,12 @@ after-moved-wrote-requires c κs = search needs
 returns : tie.Need-returns
 unfolding fitsAt
 returns c =
-    let here = at-site 22 (c .before .before .before .before .before .before .pre)
-    (parts2 point.MovedWrote (c .before .before .before .before .dir-at .ensures) (c .before .before .setup-at .ensures)) in
-    λ v b. goes-on here refl (c .after-moved-wrote .ensures .0 v b) (c .after-moved-wrote .ensures .1)
+    let start = c .before .before .before .before .before .before in
+    let dir-at = c .before .before .before .before .dir-at in
+    let setup-at = c .before .before .setup-at in
+    let after-moved-wrote = c .after-moved-wrote in
+    let here = at-site 22 (start .pre) (parts2 point.MovedWrote (dir-at .ensures) (setup-at .ensures)) in
+    λ v b. goes-on here refl (after-moved-wrote .ensures .0 v b) (after-moved-wrote .ensures .1)
 
 pub resume-moved-wrote-spec : {M : Type 1} → statement M
 resume-moved-wrote-spec = tie.close (tie.spec dir-at-requires setup-at-requires after-moved-wrote-requires returns)

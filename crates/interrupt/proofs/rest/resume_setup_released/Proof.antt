@@ -12,7 +12,10 @@ after-setup-released-requires c κs = search needs
 returns : tie.Need-returns
 unfolding fitsAt
 returns c =
-    λ v b. goes-on (at-site 25 (c .before .before .pre) refl) refl (c .after-setup-released .ensures .0 v b) (c .after-setup-released .ensures .1)
+    let start = c .before .before in
+    let after-setup-released = c .after-setup-released in
+    λ v b. goes-on (at-site 25 (start .pre) refl) refl (after-setup-released .ensures .0 v b)
+    (after-setup-released .ensures .1)
 
 pub resume-setup-released-spec : {M : Type 1} → statement M
 resume-setup-released-spec = tie.close (tie.spec after-setup-released-requires returns)

@@ -12,7 +12,9 @@ after-setup-rx-requires c κs = search needs
 returns : tie.Need-returns
 unfolding fitsAt
 returns c =
-    λ v b. goes-on (at-site 23 (c .before .before .pre) refl) refl (c .after-setup-rx .ensures .0 v b) (c .after-setup-rx .ensures .1)
+    let start = c .before .before in
+    let after-setup-rx = c .after-setup-rx in
+    λ v b. goes-on (at-site 23 (start .pre) refl) refl (after-setup-rx .ensures .0 v b) (after-setup-rx .ensures .1)
 
 pub resume-setup-rx-spec : {M : Type 1} → statement M
 resume-setup-rx-spec = tie.close (tie.spec after-setup-rx-requires returns)

@@ -15,7 +15,9 @@ same-length c = search needs
 returns : tie.Need-returns
 unfolding fitsAt
 returns c =
-    λ v. goes-on (at-site 24 (c .before .before .before .before .pre) refl) refl (c .after-setup-tx .ensures .0 v) (c .after-setup-tx .ensures .1)
+    let start = c .before .before .before .before in
+    let after-setup-tx = c .after-setup-tx in
+    λ v. goes-on (at-site 24 (start .pre) refl) refl (after-setup-tx .ensures .0 v) (after-setup-tx .ensures .1)
 
 pub resume-setup-tx-spec : {M : Type 1} → statement M
 resume-setup-tx-spec = tie.close (tie.spec after-setup-tx-requires same-length returns)

@@ -16,8 +16,11 @@ after-bus-rst-requires c κs = search needs
 returns : tie.Need-returns
 unfolding fitsAt
 returns c =
-    let here = at-site 2 (c .before .before .before .before .pre) (ap point.BusRst (c .before .before .st-byte .ensures)) in
-    λ v b. goes-on here refl (c .after-bus-rst .ensures .0 v b) (c .after-bus-rst .ensures .1)
+    let start = c .before .before .before .before in
+    let st-byte = c .before .before .st-byte in
+    let after-bus-rst = c .after-bus-rst in
+    let here = at-site 2 (start .pre) (ap point.BusRst (st-byte .ensures)) in
+    λ v b. goes-on here refl (after-bus-rst .ensures .0 v b) (after-bus-rst .ensures .1)
 
 pub resume-bus-rst-spec : {M : Type 1} → statement M
 resume-bus-rst-spec = tie.close (tie.spec st-byte-requires after-bus-rst-requires returns)

@@ -23,10 +23,13 @@ same-length c = search needs
 returns : tie.Need-returns
 unfolding fitsAt
 returns c =
-    let here = at-site 19 (c .before .before .before .before .before .before .before .before .before .before .pre)
-    (parts2 (ofInner point.Completing) (c .before .before .before .before .before .before .before .entry-at .ensures)
-    (c .before .before .before .before .before .complete-at .ensures)) in
-    λ v. goes-on here refl (c .before .before .after-completing .ensures .0 v) (c .before .before .after-completing .ensures .1)
+    let start = c .before .before .before .before .before .before .before .before .before .before in
+    let entry-at = c .before .before .before .before .before .before .before .entry-at in
+    let complete-at = c .before .before .before .before .before .complete-at in
+    let after-completing = c .before .before .after-completing in
+    let here = at-site 19 (start .pre) (parts2 (ofInner point.Completing) (entry-at .ensures)
+    (complete-at .ensures)) in
+    λ v. goes-on here refl (after-completing .ensures .0 v) (after-completing .ensures .1)
 
 pub resume-completing-spec : {M : Type 1} → statement M
 resume-completing-spec =

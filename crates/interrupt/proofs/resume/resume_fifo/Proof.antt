@@ -16,8 +16,11 @@ after-fifo-requires c κs = search needs
 returns : tie.Need-returns
 unfolding fitsAt
 returns c =
-    let here = at-site 4 (c .before .before .before .before .pre) (ap point.Fifo (c .before .before .st-byte .ensures)) in
-    λ v b. goes-on here refl (c .after-fifo .ensures .0 b) (c .after-fifo .ensures .1)
+    let start = c .before .before .before .before in
+    let st-byte = c .before .before .st-byte in
+    let after-fifo = c .after-fifo in
+    let here = at-site 4 (start .pre) (ap point.Fifo (st-byte .ensures)) in
+    λ v b. goes-on here refl (after-fifo .ensures .0 b) (after-fifo .ensures .1)
 
 pub resume-fifo-spec : {M : Type 1} → statement M
 resume-fifo-spec = tie.close (tie.spec st-byte-requires after-fifo-requires returns)

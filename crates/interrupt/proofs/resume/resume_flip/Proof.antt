@@ -26,16 +26,24 @@ after-flip-requires c κs =
 returns : tie.Need-returns
 unfolding fitsAt
 returns c =
-    let fitted = sym (c .before .before .before .before .before .before .before .fits2 .ensures)
-    ∙ c .before .before .before .before .before .before .if1 .taken in
-    let here = at-site 16 (c .before .before .before .before .before .before .before .before .pre)
-    (parts2 (λ d. ofEntry (point.Flip d)) (c .before .before .before .before .dir-at .ensures)
-    (c .before .before .entry-at .ensures)) in
-    λ b. goes-on here fitted (c .after-flip .ensures .0 b) (c .after-flip .ensures .1)
+    let start = c .before .before .before .before .before .before .before .before in
+    let fits2 = c .before .before .before .before .before .before .before .fits2 in
+    let if1 = c .before .before .before .before .before .before .if1 in
+    let dir-at = c .before .before .before .before .dir-at in
+    let entry-at = c .before .before .entry-at in
+    let after-flip = c .after-flip in
+    let fitted = sym (fits2 .ensures) ∙ if1 .taken in
+    let here = at-site 16 (start .pre) (parts2 (λ d. ofEntry (point.Flip d)) (dir-at .ensures)
+    (entry-at .ensures)) in
+    λ b. goes-on here fitted (after-flip .ensures .0 b) (after-flip .ensures .1)
 
 returns-2 : tie.Need-returns-2
 unfolding fitsAt
-returns-2 c = λ b. refuses-16 (at-site 16 (c .before .before .pre) refl) (sym (c .before .fits2 .ensures) ∙ c .if1 .left)
+returns-2 c =
+    let start = c .before .before in
+    let fits2 = c .before .fits2 in
+    let if1 = c .if1 in
+    λ b. refuses-16 (at-site 16 (start .pre) refl) (sym (fits2 .ensures) ∙ if1 .left)
 
 pub resume-flip-spec : {M : Type 1} → statement M
 resume-flip-spec =

@@ -23,10 +23,13 @@ same-length c = search needs
 returns : tie.Need-returns
 unfolding fitsAt
 returns c =
-    let here = at-site 17 (c .before .before .before .before .before .before .before .before .before .before .pre)
-    (parts2 (λ d. ofEntry (point.Flipped d)) (c .before .before .before .before .before .before .before .dir-at .ensures)
-    (c .before .before .before .before .before .entry-at .ensures)) in
-    λ v. goes-on here refl (c .before .before .after-flipped .ensures .0 v) (c .before .before .after-flipped .ensures .1)
+    let start = c .before .before .before .before .before .before .before .before .before .before in
+    let dir-at = c .before .before .before .before .before .before .before .dir-at in
+    let entry-at = c .before .before .before .before .before .entry-at in
+    let after-flipped = c .before .before .after-flipped in
+    let here = at-site 17 (start .pre) (parts2 (λ d. ofEntry (point.Flipped d)) (dir-at .ensures)
+    (entry-at .ensures)) in
+    λ v. goes-on here refl (after-flipped .ensures .0 v) (after-flipped .ensures .1)
 
 pub resume-flipped-spec : {M : Type 1} → statement M
 resume-flipped-spec = tie.close (tie.spec dir-at-requires entry-at-requires after-flipped-requires same-length returns)

@@ -25,15 +25,22 @@ same-length c = search needs
 returns : tie.Need-returns
 unfolding fitsAt
 returns c =
-    let fitted = sym (c .before .before .before .before .before .before .before .before .fits2 .ensures)
-    ∙ c .before .before .before .before .before .before .before .if1 .taken in
-    let here = at-site 12 (c .before .before .before .before .before .before .before .before .before .before .pre)
-    (ap (ofEntry point.FrameNo) (c .before .before .before .before .before .entry-at .ensures)) in
-    goes-on here fitted (c .before .before .after-frame-no .ensures .0) (c .before .before .after-frame-no .ensures .1)
+    let start = c .before .before .before .before .before .before .before .before .before .before in
+    let fits2 = c .before .before .before .before .before .before .before .before .fits2 in
+    let if1 = c .before .before .before .before .before .before .before .if1 in
+    let entry-at = c .before .before .before .before .before .entry-at in
+    let after-frame-no = c .before .before .after-frame-no in
+    let fitted = sym (fits2 .ensures) ∙ if1 .taken in
+    let here = at-site 12 (start .pre) (ap (ofEntry point.FrameNo) (entry-at .ensures)) in
+    goes-on here fitted (after-frame-no .ensures .0) (after-frame-no .ensures .1)
 
 returns-2 : tie.Need-returns-2
 unfolding fitsAt
-returns-2 c = refuses-16 (at-site 12 (c .before .before .before .pre) refl) (sym (c .before .fits2 .ensures) ∙ c .if1 .left)
+returns-2 c =
+    let start = c .before .before .before in
+    let fits2 = c .before .fits2 in
+    let if1 = c .if1 in
+    refuses-16 (at-site 12 (start .pre) refl) (sym (fits2 .ensures) ∙ if1 .left)
 
 pub resume-frame-no-spec : {M : Type 1} → statement M
 resume-frame-no-spec =

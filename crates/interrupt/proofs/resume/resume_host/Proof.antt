@@ -16,8 +16,11 @@ after-host-requires c κs = search needs
 returns : tie.Need-returns
 unfolding fitsAt
 returns c =
-    let here = at-site 5 (c .before .before .before .before .pre) (ap point.Host (c .before .before .st-byte .ensures)) in
-    λ v b. goes-on here refl (c .after-host .ensures .0 b) (c .after-host .ensures .1)
+    let start = c .before .before .before .before in
+    let st-byte = c .before .before .st-byte in
+    let after-host = c .after-host in
+    let here = at-site 5 (start .pre) (ap point.Host (st-byte .ensures)) in
+    λ v b. goes-on here refl (after-host .ensures .0 b) (after-host .ensures .1)
 
 pub resume-host-spec : {M : Type 1} → statement M
 resume-host-spec = tie.close (tie.spec st-byte-requires after-host-requires returns)

@@ -23,12 +23,12 @@ same-length c = search needs
 returns : tie.Need-returns
 unfolding fitsAt
 returns c =
-    let here = at-site 14
-    (c .before .before .before .before .before .before .before .before .before .before .pre)
-    (parts2 (ofFramed point.Late)
-    (c .before .before .before .before .before .before .before .entry-at .ensures)
-    (c .before .before .before .before .before .late-at .ensures)) in
-    λ v. goes-on here refl (c .before .before .after-completions .ensures .0 v) (c .before .before .after-completions .ensures .1)
+    let start = c .before .before .before .before .before .before .before .before .before .before in
+    let entry-at = c .before .before .before .before .before .before .before .entry-at in
+    let late-at = c .before .before .before .before .before .late-at in
+    let after-completions = c .before .before .after-completions in
+    let here = at-site 14 (start .pre) (parts2 (ofFramed point.Late) (entry-at .ensures) (late-at .ensures)) in
+    λ v. goes-on here refl (after-completions .ensures .0 v) (after-completions .ensures .1)
 
 pub resume-late-spec : {M : Type 1} → statement M
 resume-late-spec =

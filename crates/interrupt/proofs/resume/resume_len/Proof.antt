@@ -29,16 +29,26 @@ after-len-requires c κs =
 returns : tie.Need-returns
 unfolding fitsAt
 returns c =
-    let fitted = sym (c .before .before .before .before .before .before .before .before .before .fits2 .ensures)
-    ∙ c .before .before .before .before .before .before .before .before .if1 .taken in
-    let here = at-site 8 (c .before .before .before .before .before .before .before .before .before .before .pre)
-    (parts3 point.Len (c .before .before .before .before .before .before .setup-at .ensures)
-    (c .before .before .before .before .busy-at .ensures) (c .before .before .st-byte .ensures)) in
-    λ b. goes-on here fitted (c .after-len .ensures .0 b) (c .after-len .ensures .1)
+    let start = c .before .before .before .before .before .before .before .before .before .before in
+    let fits2 = c .before .before .before .before .before .before .before .before .before .fits2 in
+    let if1 = c .before .before .before .before .before .before .before .before .if1 in
+    let setup-at = c .before .before .before .before .before .before .setup-at in
+    let busy-at = c .before .before .before .before .busy-at in
+    let st-byte = c .before .before .st-byte in
+    let after-len = c .after-len in
+    let fitted = sym (fits2 .ensures) ∙ if1 .taken in
+    let here = at-site 8 (start .pre) (parts3 point.Len (setup-at .ensures)
+    (busy-at .ensures) (st-byte .ensures)) in
+    λ b. goes-on here fitted (after-len .ensures .0 b) (after-len .ensures .1)
 
 returns-2 : tie.Need-returns-2
 unfolding fitsAt
-returns-2 c = λ b. refuses-16 (at-site 8 (c .before .before .pre) refl) (sym (c .before .fits2 .ensures) ∙ c .if1 .left)
+returns-2 c =
+    let start = c .before .before in
+    let fits2 = c .before .fits2 in
+    let if1 = c .if1 in
+    λ b. refuses-16 (at-site 8 (start .pre) refl) (sym (fits2 .ensures) ∙ if1 .left)
 
 pub resume-len-spec : {M : Type 1} → statement M
-resume-len-spec = tie.close (tie.spec fits-requires setup-at-requires busy-at-requires st-byte-requires after-len-requires returns returns-2)
+resume-len-spec = tie.close (tie.spec fits-requires setup-at-requires busy-at-requires st-byte-requires
+    after-len-requires returns returns-2)

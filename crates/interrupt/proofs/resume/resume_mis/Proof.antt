@@ -24,13 +24,22 @@ after-mis-requires c κs =
 returns : tie.Need-returns
 unfolding fitsAt
 returns c =
-    let fitted = sym (c .before .before .before .before .before .fits2 .ensures) ∙ c .before .before .before .before .if1 .taken in
-    let here = at-site 6 (c .before .before .before .before .before .before .pre) (ap point.Mis (c .before .before .setup-at .ensures)) in
-    λ b. goes-on here fitted (c .after-mis .ensures .0 b) (c .after-mis .ensures .1)
+    let start = c .before .before .before .before .before .before in
+    let fits2 = c .before .before .before .before .before .fits2 in
+    let if1 = c .before .before .before .before .if1 in
+    let setup-at = c .before .before .setup-at in
+    let after-mis = c .after-mis in
+    let fitted = sym (fits2 .ensures) ∙ if1 .taken in
+    let here = at-site 6 (start .pre) (ap point.Mis (setup-at .ensures)) in
+    λ b. goes-on here fitted (after-mis .ensures .0 b) (after-mis .ensures .1)
 
 returns-2 : tie.Need-returns-2
 unfolding fitsAt
-returns-2 c = λ b. refuses-16 (at-site 6 (c .before .before .pre) refl) (sym (c .before .fits2 .ensures) ∙ c .if1 .left)
+returns-2 c =
+    let start = c .before .before in
+    let fits2 = c .before .fits2 in
+    let if1 = c .if1 in
+    λ b. refuses-16 (at-site 6 (start .pre) refl) (sym (fits2 .ensures) ∙ if1 .left)
 
 pub resume-mis-spec : {M : Type 1} → statement M
 resume-mis-spec = tie.close (tie.spec fits-requires setup-at-requires after-mis-requires returns returns-2)

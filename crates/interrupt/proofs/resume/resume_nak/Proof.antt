@@ -29,18 +29,28 @@ after-naking-requires c κs =
 returns : tie.Need-returns
 unfolding fitsAt
 returns c =
-    let fitted = sym (c .before .before .before .before .before .before .before .fits-at .ensures)
-    ∙ c .before .before .before .before .before .before .if1 .taken in
-    let here = at-site 9 (c .before .before .before .before .before .before .before .before .before .before .pre)
-    (parts3 point.Nak (c .before .before .before .before .setup-at .ensures) (c .before .before .transfer-at .ensures)
-    (c .before .before .before .before .before .before .before .before .nak-at .ensures)) in
-    λ b. goes-on here fitted (c .after-naking .ensures .0 b) (c .after-naking .ensures .1)
+    let start = c .before .before .before .before .before .before .before .before .before .before in
+    let nak-at = c .before .before .before .before .before .before .before .before .nak-at in
+    let fits-at = c .before .before .before .before .before .before .before .fits-at in
+    let if1 = c .before .before .before .before .before .before .if1 in
+    let setup-at = c .before .before .before .before .setup-at in
+    let transfer-at = c .before .before .transfer-at in
+    let after-naking = c .after-naking in
+    let fitted = sym (fits-at .ensures) ∙ if1 .taken in
+    let here = at-site 9 (start .pre) (parts3 point.Nak (setup-at .ensures) (transfer-at .ensures)
+    (nak-at .ensures)) in
+    λ b. goes-on here fitted (after-naking .ensures .0 b) (after-naking .ensures .1)
 
 returns-2 : tie.Need-returns-2
 unfolding fitsAt
 returns-2 c =
-    λ b. refuses-16 (at-site 9 (c .before .before .before .before .pre) (parts3 point.Nak refl refl (c .before .before .nak-at .ensures)))
-    (sym (c .before .fits-at .ensures) ∙ c .if1 .left)
+    let start = c .before .before .before .before in
+    let nak-at = c .before .before .nak-at in
+    let fits-at = c .before .fits-at in
+    let if1 = c .if1 in
+    λ b. refuses-16 (at-site 9 (start .pre) (parts3 point.Nak refl refl (nak-at .ensures)))
+    (sym (fits-at .ensures) ∙ if1 .left)
 
 pub resume-nak-spec : {M : Type 1} → statement M
-resume-nak-spec = tie.close (tie.spec nak-at-requires fits-at-requires setup-at-requires transfer-at-requires after-naking-requires returns returns-2)
+resume-nak-spec = tie.close (tie.spec nak-at-requires fits-at-requires setup-at-requires transfer-at-requires
+    after-naking-requires returns returns-2)

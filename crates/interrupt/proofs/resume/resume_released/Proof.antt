@@ -20,9 +20,12 @@ after-released-requires c κs = search needs
 returns : tie.Need-returns
 unfolding fitsAt
 returns c =
-    let here = at-site 10 (c .before .before .before .before .before .before .pre)
-    (parts2 point.Released (c .before .before .before .before .setup-at .ensures) (c .before .before .transfer-at .ensures)) in
-    λ v b. goes-on here refl (c .after-released .ensures .0 b) (c .after-released .ensures .1)
+    let start = c .before .before .before .before .before .before in
+    let setup-at = c .before .before .before .before .setup-at in
+    let transfer-at = c .before .before .transfer-at in
+    let after-released = c .after-released in
+    let here = at-site 10 (start .pre) (parts2 point.Released (setup-at .ensures) (transfer-at .ensures)) in
+    λ v b. goes-on here refl (after-released .ensures .0 b) (after-released .ensures .1)
 
 pub resume-released-spec : {M : Type 1} → statement M
 resume-released-spec = tie.close (tie.spec setup-at-requires transfer-at-requires after-released-requires returns)

@@ -29,18 +29,28 @@ after-settling-requires c κs =
 returns : tie.Need-returns
 unfolding fitsAt
 returns c =
-    let fitted = sym (c .before .before .before .before .before .before .before .fits-at .ensures)
-    ∙ c .before .before .before .before .before .before .if1 .taken in
-    let here = at-site 11 (c .before .before .before .before .before .before .before .before .before .before .pre)
-    (parts3 point.Settle (c .before .before .before .before .setup-at .ensures) (c .before .before .transfer-at .ensures)
-    (c .before .before .before .before .before .before .before .before .settle-at .ensures)) in
-    λ b. goes-on here fitted (c .after-settling .ensures .0 b) (c .after-settling .ensures .1)
+    let start = c .before .before .before .before .before .before .before .before .before .before in
+    let settle-at = c .before .before .before .before .before .before .before .before .settle-at in
+    let fits-at = c .before .before .before .before .before .before .before .fits-at in
+    let if1 = c .before .before .before .before .before .before .if1 in
+    let setup-at = c .before .before .before .before .setup-at in
+    let transfer-at = c .before .before .transfer-at in
+    let after-settling = c .after-settling in
+    let fitted = sym (fits-at .ensures) ∙ if1 .taken in
+    let here = at-site 11 (start .pre) (parts3 point.Settle (setup-at .ensures) (transfer-at .ensures)
+    (settle-at .ensures)) in
+    λ b. goes-on here fitted (after-settling .ensures .0 b) (after-settling .ensures .1)
 
 returns-2 : tie.Need-returns-2
 unfolding fitsAt
 returns-2 c =
-    λ b. refuses-16 (at-site 11 (c .before .before .before .before .pre) (parts3 point.Settle refl refl (c .before .before .settle-at .ensures)))
-    (sym (c .before .fits-at .ensures) ∙ c .if1 .left)
+    let start = c .before .before .before .before in
+    let settle-at = c .before .before .settle-at in
+    let fits-at = c .before .fits-at in
+    let if1 = c .if1 in
+    λ b. refuses-16 (at-site 11 (start .pre) (parts3 point.Settle refl refl (settle-at .ensures)))
+    (sym (fits-at .ensures) ∙ if1 .left)
 
 pub resume-settle-spec : {M : Type 1} → statement M
-resume-settle-spec = tie.close (tie.spec settle-at-requires fits-at-requires setup-at-requires transfer-at-requires after-settling-requires returns returns-2)
+resume-settle-spec = tie.close (tie.spec settle-at-requires fits-at-requires setup-at-requires transfer-at-requires
+    after-settling-requires returns returns-2)

@@ -29,20 +29,27 @@ same-length c = search needs
 returns : tie.Need-returns
 unfolding fitsAt
 returns c =
-    let fitted = sym (c .before .before .before .before .before .before .before .before .fits-at .ensures)
-    ∙ c .before .before .before .before .before .before .before .if1 .taken in
-    let here = at-site 13
-    (c .before .before .before .before .before .before .before .before .before .before .before .before .pre)
-    (parts2 (ofFramed point.Sof) (c .before .before .before .before .before .entry-at .ensures)
-    (c .before .before .before .before .before .before .before .before .before .sof-at .ensures)) in
-    goes-on here fitted (c .before .before .after-on-sof .ensures .0) (c .before .before .after-on-sof .ensures .1)
+    let start = c .before .before .before .before .before .before .before .before .before .before .before .before in
+    let sof-at = c .before .before .before .before .before .before .before .before .before .sof-at in
+    let fits-at = c .before .before .before .before .before .before .before .before .fits-at in
+    let if1 = c .before .before .before .before .before .before .before .if1 in
+    let entry-at = c .before .before .before .before .before .entry-at in
+    let after-on-sof = c .before .before .after-on-sof in
+    let fitted = sym (fits-at .ensures) ∙ if1 .taken in
+    let here = at-site 13 (start .pre) (parts2 (ofFramed point.Sof) (entry-at .ensures) (sof-at .ensures)) in
+    goes-on here fitted (after-on-sof .ensures .0) (after-on-sof .ensures .1)
 
 returns-2 : tie.Need-returns-2
 unfolding fitsAt
 returns-2 c =
-    refuses-16 (at-site 13 (c .before .before .before .before .before .pre) (parts5 point.Sof refl refl refl refl (c .before .before .sof-at .ensures)))
-    (sym (c .before .fits-at .ensures) ∙ c .if1 .left)
+    let start = c .before .before .before .before .before in
+    let sof-at = c .before .before .sof-at in
+    let fits-at = c .before .fits-at in
+    let if1 = c .if1 in
+    refuses-16 (at-site 13 (start .pre) (parts5 point.Sof refl refl refl refl (sof-at .ensures)))
+    (sym (fits-at .ensures) ∙ if1 .left)
 
 pub resume-sof-spec : {M : Type 1} → statement M
 resume-sof-spec =
-    tie.close (tie.spec sof-at-requires fits-at-requires entry-at-requires after-on-sof-requires same-length returns returns-2)
+    tie.close (tie.spec sof-at-requires fits-at-requires entry-at-requires after-on-sof-requires same-length returns
+    returns-2)

@@ -28,15 +28,24 @@ after-st-requires c κs =
 returns : tie.Need-returns
 unfolding fitsAt
 returns c =
-    let fitted = sym (c .before .before .before .before .before .before .before .fits2 .ensures)
-    ∙ c .before .before .before .before .before .before .if1 .taken in
-    let here = at-site 7 (c .before .before .before .before .before .before .before .before .pre)
-    (parts2 point.St (c .before .before .before .before .setup-at .ensures) (c .before .before .busy-at .ensures)) in
-    λ b. goes-on here fitted (c .after-st .ensures .0 b) (c .after-st .ensures .1)
+    let start = c .before .before .before .before .before .before .before .before in
+    let fits2 = c .before .before .before .before .before .before .before .fits2 in
+    let if1 = c .before .before .before .before .before .before .if1 in
+    let setup-at = c .before .before .before .before .setup-at in
+    let busy-at = c .before .before .busy-at in
+    let after-st = c .after-st in
+    let fitted = sym (fits2 .ensures) ∙ if1 .taken in
+    let here = at-site 7 (start .pre) (parts2 point.St (setup-at .ensures) (busy-at .ensures)) in
+    λ b. goes-on here fitted (after-st .ensures .0 b) (after-st .ensures .1)
 
 returns-2 : tie.Need-returns-2
 unfolding fitsAt
-returns-2 c = λ b. refuses-16 (at-site 7 (c .before .before .pre) refl) (sym (c .before .fits2 .ensures) ∙ c .if1 .left)
+returns-2 c =
+    let start = c .before .before in
+    let fits2 = c .before .fits2 in
+    let if1 = c .if1 in
+    λ b. refuses-16 (at-site 7 (start .pre) refl) (sym (fits2 .ensures) ∙ if1 .left)
 
 pub resume-st-spec : {M : Type 1} → statement M
-resume-st-spec = tie.close (tie.spec fits-requires setup-at-requires busy-at-requires after-st-requires returns returns-2)
+resume-st-spec = tie.close (tie.spec fits-requires setup-at-requires busy-at-requires after-st-requires returns
+    returns-2)

@@ -16,8 +16,11 @@ after-suspend-requires c κs = search needs
 returns : tie.Need-returns
 unfolding fitsAt
 returns c =
-    let here = at-site 3 (c .before .before .before .before .pre) (ap point.Suspend (c .before .before .st-byte .ensures)) in
-    λ v b. goes-on here refl (c .after-suspend .ensures .0 v b) (c .after-suspend .ensures .1)
+    let start = c .before .before .before .before in
+    let st-byte = c .before .before .st-byte in
+    let after-suspend = c .after-suspend in
+    let here = at-site 3 (start .pre) (ap point.Suspend (st-byte .ensures)) in
+    λ v b. goes-on here refl (after-suspend .ensures .0 v b) (after-suspend .ensures .1)
 
 pub resume-suspend-spec : {M : Type 1} → statement M
 resume-suspend-spec = tie.close (tie.spec st-byte-requires after-suspend-requires returns)

@@ -32,21 +32,31 @@ same-length c = search needs
 returns : tie.Need-returns
 unfolding fitsAt
 returns c =
-    let fitted = sym (c .before .before .before .before .before .before .before .before .before .before .fits-at .ensures)
-    ∙ c .before .before .before .before .before .before .before .before .before .if1 .taken in
-    let here = at-site 18
-    (c .before .before .before .before .before .before .before .before .before .before .before .before .before .before .pre)
-    (parts3 (λ d. ofInner (point.Toggled d)) (c .before .before .before .before .before .before .before .dir-at .ensures)
-    (c .before .before .before .before .before .entry-at .ensures)
-    (c .before .before .before .before .before .before .before .before .before .before .before .toggled-at .ensures)) in
-    goes-on here fitted (c .before .before .after-toggled .ensures .0) (c .before .before .after-toggled .ensures .1)
+    let start = c .before .before .before .before .before .before .before .before .before .before .before .before
+    .before .before in
+    let toggled-at = c .before .before .before .before .before .before .before .before .before .before .before
+    .toggled-at in
+    let fits-at = c .before .before .before .before .before .before .before .before .before .before .fits-at in
+    let if1 = c .before .before .before .before .before .before .before .before .before .if1 in
+    let dir-at = c .before .before .before .before .before .before .before .dir-at in
+    let entry-at = c .before .before .before .before .before .entry-at in
+    let after-toggled = c .before .before .after-toggled in
+    let fitted = sym (fits-at .ensures) ∙ if1 .taken in
+    let here = at-site 18 (start .pre) (parts3 (λ d. ofInner (point.Toggled d)) (dir-at .ensures)
+    (entry-at .ensures) (toggled-at .ensures)) in
+    goes-on here fitted (after-toggled .ensures .0) (after-toggled .ensures .1)
 
 returns-2 : tie.Need-returns-2
 unfolding fitsAt
 returns-2 c =
-    refuses-16 (at-site 18 (c .before .before .before .before .before .pre) (parts5 point.Toggled refl refl refl refl (c .before .before .toggled-at .ensures)))
-    (sym (c .before .fits-at .ensures) ∙ c .if1 .left)
+    let start = c .before .before .before .before .before in
+    let toggled-at = c .before .before .toggled-at in
+    let fits-at = c .before .fits-at in
+    let if1 = c .if1 in
+    refuses-16 (at-site 18 (start .pre) (parts5 point.Toggled refl refl refl refl (toggled-at .ensures)))
+    (sym (fits-at .ensures) ∙ if1 .left)
 
 pub resume-toggled-spec : {M : Type 1} → statement M
 resume-toggled-spec =
-    tie.close (tie.spec toggled-at-requires fits-at-requires dir-at-requires entry-at-requires after-toggled-requires same-length returns returns-2)
+    tie.close (tie.spec toggled-at-requires fits-at-requires dir-at-requires entry-at-requires after-toggled-requires
+    same-length returns returns-2)

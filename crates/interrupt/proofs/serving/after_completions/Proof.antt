@@ -20,11 +20,12 @@ same-length c = search needs
 
 returns : tie.Need-returns
 returns c =
-    let the-then-late = c .before .before .then-late in
     let a = c .before .before .before .before .before .before .before .before .args in
-    let the-resume = c .before .before .before .before .before .resume in (
+    let the-resume = c .before .before .before .before .before .resume in
+    let the-then-late = c .before .before .then-late in (
       λ v. then-on (the-then-late .ensures .0)
-          (after (a .e .setup) (λ _ u. run concrete (afterLate (a .e .x) (a .e .iso) (a .e .frame)) u) _ _ (the-resume .ensures .0 _)),
+          (after (a .e .setup) (λ _ u. run concrete (afterLate (a .e .x) (a .e .iso) (a .e .frame)) u) _ _
+          (the-resume .ensures .0 _)),
       the-then-late .ensures .1,
     )
 

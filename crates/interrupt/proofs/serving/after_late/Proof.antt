@@ -21,9 +21,11 @@ returns : tie.Need-returns
 unfolding afterLate
 returns c =
     let a = c .before .before .before .before .before .before .before .args in
-    goes-on (c .before .before .after-dispatch .ensures)
+    let if1 = c .before .before .before .before .before .if1 in
+    let after-dispatch = c .before .before .after-dispatch in
+    goes-on (after-dispatch .ensures)
     (when-no (a .e .setup) (script.dispatch {i = true} (token ((a .e .x) .st)) (a .e .x) (a .e .iso) (a .e .frame))
-    (λ _ u. run concrete (afterDispatch (a .e .x) (a .e .iso)) u) _ _ (ap not (c .before .before .before .before .before .if1 .taken)))
+    (λ _ u. run concrete (afterDispatch (a .e .x) (a .e .iso)) u) _ _ (ap not (if1 .taken)))
 
 dispatch-requires : tie.Need-dispatch-requires
 dispatch-requires c κs = search needs
@@ -35,9 +37,12 @@ returns-2 : tie.Need-returns-2
 unfolding afterLate
 returns-2 c =
     let a = c .before .before .before .before .before .before .before .args in
-    goes-on (c .before .before .dispatch .ensures)
+    let if1 = c .before .before .before .before .before .if1 in
+    let dispatch = c .before .before .dispatch in
+    goes-on (dispatch .ensures)
     (when-yes (a .e .setup) (script.dispatch {i = true} (token ((a .e .x) .st)) (a .e .x) (a .e .iso) (a .e .frame))
-    (λ _ u. run concrete (afterDispatch (a .e .x) (a .e .iso)) u) _ _ (ap not (c .before .before .before .before .before .if1 .left)))
+    (λ _ u. run concrete (afterDispatch (a .e .x) (a .e .iso)) u) _ _ (ap not (if1 .left)))
 
 pub after-late-spec : {M : Type 1} → statement M
-after-late-spec = tie.close (tie.spec after-dispatch-requires same-length returns dispatch-requires same-length-2 returns-2)
+after-late-spec = tie.close (tie.spec after-dispatch-requires same-length returns dispatch-requires same-length-2
+    returns-2)

@@ -8,7 +8,9 @@ use Rattle.interrupt.proofs.serving.after_on_sof.Statement.{statement}
 use Rattle.interrupt.proofs.serving.after_on_sof.Tie as tie
 
 on-sof-resume-requires : tie.Need-on-sof-resume-requires
-on-sof-resume-requires c κs = (c .before .before .pre)
+on-sof-resume-requires c κs =
+    let start = c .before .before in
+    (start .pre)
 
 then-sof-requires : tie.Need-then-sof-requires
 then-sof-requires c κs =
@@ -21,9 +23,11 @@ same-length c = search needs
 returns : tie.Need-returns
 returns c =
     let a = c .before .before .before .before .before .before .before .before .args in
-    goes-on (c .before .before .then-sof .ensures)
+    let on-sof-resume = c .before .before .before .before .before .on-sof-resume in
+    let then-sof = c .before .before .then-sof in
+    goes-on (then-sof .ensures)
     (after (a .e .setup) (λ _ u. run concrete (afterSof (a .e .x) (a .e .iso) (a .e .frame)) u) _ _
-    (c .before .before .before .before .before .on-sof-resume .ensures .0 _))
+    (on-sof-resume .ensures .0 _))
 
 pub after-on-sof-spec : {M : Type 1} → statement M
 after-on-sof-spec = tie.close (tie.spec on-sof-resume-requires then-sof-requires same-length returns)

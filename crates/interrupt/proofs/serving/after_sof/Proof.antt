@@ -24,11 +24,14 @@ returns : tie.Need-returns
 unfolding afterSof
 returns c =
     let a = c .before .before .before .before .before .before .before .before .before .args in
-    let the-begin = c .before .before .before .before .before .begin in
     let the-if1 = c .before .before .before .before .before .before .before .if1 in
-    goes-on (c .before .before .then-late .ensures)
-    (after (a .e .setup) (λ _ u. run concrete (afterLate (a .e .x) (a .e .iso) (a .e .frame)) u) _ _ (the-begin .ensures .0 _)
-    ∙ when-yes (a .e .setup) (lateAll (a .e .frame)) (λ _ u. run concrete (afterLate (a .e .x) (a .e .iso) (a .e .frame)) u) _ _ (the-if1 .taken))
+    let the-begin = c .before .before .before .before .before .begin in
+    let then-late = c .before .before .then-late in
+    goes-on (then-late .ensures)
+    (after (a .e .setup) (λ _ u. run concrete (afterLate (a .e .x) (a .e .iso) (a .e .frame)) u) _ _
+    (the-begin .ensures .0 _)
+    ∙ when-yes (a .e .setup) (lateAll (a .e .frame)) (λ _ u. run concrete
+    (afterLate (a .e .x) (a .e .iso) (a .e .frame)) u) _ _ (the-if1 .taken))
 
 after-late-requires : tie.Need-after-late-requires
 after-late-requires c κs = search needs
@@ -40,9 +43,13 @@ returns-2 : tie.Need-returns-2
 unfolding afterSof
 returns-2 c =
     let a = c .before .before .before .before .before .before .before .args in
-    goes-on (c .before .before .after-late .ensures)
-    (when-no (a .e .setup) (lateAll (a .e .frame)) (λ _ u. run concrete (afterLate (a .e .x) (a .e .iso) (a .e .frame)) u) _ _
-    (c .before .before .before .before .before .if1 .left))
+    let if1 = c .before .before .before .before .before .if1 in
+    let after-late = c .before .before .after-late in
+    goes-on (after-late .ensures)
+    (when-no (a .e .setup) (lateAll (a .e .frame)) (λ _ u. run concrete (afterLate (a .e .x) (a .e .iso) (a .e .frame))
+    u) _ _
+    (if1 .left))
 
 pub after-sof-spec : {M : Type 1} → statement M
-after-sof-spec = tie.close (tie.spec begin-requires then-late-requires same-length returns after-late-requires same-length-2 returns-2)
+after-sof-spec = tie.close (tie.spec begin-requires then-late-requires same-length returns after-late-requires
+    same-length-2 returns-2)

@@ -19,14 +19,20 @@ after-late-requires c κs = search needs
 
 returns : tie.Need-returns
 returns c =
-    pauses-at (c .stand-late .ensures) (subst late.Linked (c .before .before .before .n .given .1) (c .before .before .before .before .before .before .pre))
-    (simp (c .before .before .before .n .given .1))
+    let start = c .before .before .before .before .before .before in
+    let n = c .before .before .before .n in
+    let stand-late = c .stand-late in
+    pauses-at (stand-late .ensures) (subst late.Linked (n .given .1) (start .pre)) (simp (n .given .1))
 
 same-length : tie.Need-same-length
 same-length c = search needs
 
 returns-2 : tie.Need-returns-2
-returns-2 c = goes-on (c .before .before .after-late .ensures) (simp (c .before .before .before .before .before .enum-told .given .1))
+returns-2 c =
+    let enum-told-fact = c .before .before .before .before .before .enum-told in
+    let after-late = c .before .before .after-late in
+    goes-on (after-late .ensures) (simp (enum-told-fact .given .1))
 
 pub then-late-spec : {M : Type 1} → statement M
-then-late-spec = tie.close (tie.spec enum-known-n stand-late-requires enum-told after-late-requires returns same-length returns-2)
+then-late-spec = tie.close (tie.spec enum-known-n stand-late-requires enum-told after-late-requires returns same-length
+    returns-2)

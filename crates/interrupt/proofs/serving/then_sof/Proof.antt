@@ -19,14 +19,20 @@ after-sof-requires c κs = search needs
 
 returns : tie.Need-returns
 returns c =
-    pauses-at (c .stand-sof .ensures) (subst sof.Linked (c .before .before .before .n .given .1) (c .before .before .before .before .before .before .pre))
-    (simp (c .before .before .before .n .given .1))
+    let start = c .before .before .before .before .before .before in
+    let n = c .before .before .before .n in
+    let stand-sof = c .stand-sof in
+    pauses-at (stand-sof .ensures) (subst sof.Linked (n .given .1) (start .pre)) (simp (n .given .1))
 
 same-length : tie.Need-same-length
 same-length c = search needs
 
 returns-2 : tie.Need-returns-2
-returns-2 c = goes-on (c .before .before .after-sof .ensures) (simp (c .before .before .before .before .before .enum-told .given .1))
+returns-2 c =
+    let enum-told-fact = c .before .before .before .before .before .enum-told in
+    let after-sof = c .before .before .after-sof in
+    goes-on (after-sof .ensures) (simp (enum-told-fact .given .1))
 
 pub then-sof-spec : {M : Type 1} → statement M
-then-sof-spec = tie.close (tie.spec enum-known-n stand-sof-requires enum-told after-sof-requires returns same-length returns-2)
+then-sof-spec = tie.close (tie.spec enum-known-n stand-sof-requires enum-told after-sof-requires returns same-length
+    returns-2)

@@ -14,11 +14,19 @@ transfer-requires c κs = search needs
 
 returns : tie.Need-returns
 unfolding afterFlags
-returns c = (λ d b. simp (← c .before .transfer .ensures, c .if1 .taken, ← c .before .before .byte .ensures), tt)
+returns c =
+    let byte = c .before .before .byte in
+    let transfer = c .before .transfer in
+    let if1 = c .if1 in
+    (λ d b. simp (← transfer .ensures, if1 .taken, ← byte .ensures), tt)
 
 returns-2 : tie.Need-returns-2
 unfolding afterFlags
-returns-2 c = (λ d b. simp (← c .before .transfer .ensures, c .if1 .left, ← c .before .before .byte .ensures), refl)
+returns-2 c =
+    let byte = c .before .before .byte in
+    let transfer = c .before .transfer in
+    let if1 = c .if1 in
+    (λ d b. simp (← transfer .ensures, if1 .left, ← byte .ensures), refl)
 
 pub after-flags-spec : {M : Type 1} → statement M
 after-flags-spec = tie.close (tie.spec byte-requires transfer-requires returns returns-2)

@@ -14,11 +14,19 @@ sie-free-requires c κs = search needs
 
 returns : tie.Need-returns
 unfolding afterMis
-returns c = (λ d b. simp (← c .before .sie-free .ensures, c .if1 .taken, ← c .before .before .byte .ensures), refl)
+returns c =
+    let byte = c .before .before .byte in
+    let sie-free = c .before .sie-free in
+    let if1 = c .if1 in
+    (λ d b. simp (← sie-free .ensures, if1 .taken, ← byte .ensures), refl)
 
 returns-2 : tie.Need-returns-2
 unfolding afterMis
-returns-2 c = (λ d b. simp (← c .before .sie-free .ensures, c .if1 .left, ← c .before .before .byte .ensures), tt)
+returns-2 c =
+    let byte = c .before .before .byte in
+    let sie-free = c .before .sie-free in
+    let if1 = c .if1 in
+    (λ d b. simp (← sie-free .ensures, if1 .left, ← byte .ensures), tt)
 
 pub after-mis-spec : {M : Type 1} → statement M
 after-mis-spec = tie.close (tie.spec byte-requires sie-free-requires returns returns-2)

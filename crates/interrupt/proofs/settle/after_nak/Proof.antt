@@ -13,7 +13,9 @@ use Rattle.interrupt.proofs.settle.after_nak.Lts as lts
 
 nak-non-iso-resume-requires : tie.Need-nak-non-iso-resume-requires
 unfolding fitsAt nak.fitsAt
-nak-non-iso-resume-requires c κs = c .pre
+nak-non-iso-resume-requires c κs =
+    let start = c in
+    start .pre
 
 enum-known-n : tie.Need-enum-known-n
 enum-known-n c = search needs
@@ -25,21 +27,27 @@ retaken-requires : tie.Need-retaken-requires
 retaken-requires c κs = search needs
 
 returns : tie.Need-returns
-returns c = (
-  λ d b. nak-asks (λ _ u. ends (retaken (c .before .before .before .before .args .x) (c .before .before .before .before .args .st)) u)
-      (c .before .before .before .before .args .st) _ _ _ d b _
-      (c .before .n .given .1) (c .before .before .before .nak-non-iso-resume .ensures .0 d b),
-  nak-linked _ _ _ (c .before .n .given .1) (c .before .before .before .nak-non-iso-resume .ensures .1),
-)
+returns c =
+    let start = c .before .before .before .before in
+    let nak-non-iso-resume = c .before .before .before .nak-non-iso-resume in
+    let n = c .before .n in (
+      λ d b. nak-asks (λ _ u. ends (retaken (start .args .x) (start .args .st)) u) (start .args .st) _ _ _ d b _
+          (n .given .1) (nak-non-iso-resume .ensures .0 d b),
+      nak-linked _ _ _ (n .given .1) (nak-non-iso-resume .ensures .1),
+    )
 
 returns-2 : tie.Need-returns-2
-returns-2 c = (
-  λ d b. ap (λ (y : Transfer). ends y (d, b)) (c .retaken .ensures)
-      ∙ nak-ends (λ _ u. ends (retaken (c .before .before .before .before .args .x) (c .before .before .before .before .args .st)) u)
-      (c .before .before .before .before .args .st) _ d b _
-      (c .before .enum-told .given .1) (c .before .before .before .nak-non-iso-resume .ensures .0 d b),
-  tt,
-)
+returns-2 c =
+    let start = c .before .before .before .before in
+    let nak-non-iso-resume = c .before .before .before .nak-non-iso-resume in
+    let enum-told-fact = c .before .enum-told in
+    let retaken-fact = c .retaken in (
+      λ d b. ap (λ (y : Transfer). ends y (d, b)) (retaken-fact .ensures)
+          ∙ nak-ends (λ _ u. ends (retaken (start .args .x) (start .args .st)) u) (start .args .st) _ d b _
+          (enum-told-fact .given .1) (nak-non-iso-resume .ensures .0 d b),
+      tt,
+    )
 
 pub after-nak-spec : {M : Type 1} → statement M
-after-nak-spec = tie.close (tie.spec nak-non-iso-resume-requires enum-known-n enum-told retaken-requires returns returns-2)
+after-nak-spec = tie.close (tie.spec nak-non-iso-resume-requires enum-known-n enum-told retaken-requires returns
+    returns-2)

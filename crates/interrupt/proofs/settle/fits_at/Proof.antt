@@ -81,23 +81,42 @@ fits-at-requires : tie.Need-fits-at-requires
 fits-at-requires c κs = search needs
 
 returns : tie.Need-returns
-returns c = c .fits2 .ensures ∙ look (c .before .before .args .p) (c .before .before .args .v) (c .before .match .keys1)
+returns c =
+    let start = c .before .before in
+    let matched = c .before .match in
+    let fits2 = c .fits2 in
+    fits2 .ensures ∙ look (start .args .p) (start .args .v) (matched .keys1)
 
 returns-2 : tie.Need-returns-2
-returns-2 c = c .fits3 .ensures ∙ status (c .before .before .args .p) (c .before .before .args .v) (c .before .match .keys2)
+returns-2 c =
+    let start = c .before .before in
+    let matched = c .before .match in
+    let fits3 = c .fits3 in
+    fits3 .ensures ∙ status (start .args .p) (start .args .v) (matched .keys2)
 
 returns-3 : tie.Need-returns-3
-returns-3 c = c .fits4 .ensures ∙ length (c .before .before .args .p) (c .before .before .args .v) (c .before .match .keys3)
+returns-3 c =
+    let start = c .before .before in
+    let matched = c .before .match in
+    let fits4 = c .fits4 in
+    fits4 .ensures ∙ length (start .args .p) (start .args .v) (matched .keys3)
 
 returns-4 : tie.Need-returns-4
 unfolding fitsAt
-returns-4 c = simp (c .fits5 .ensures, c .before .enum-told .given .1)
+returns-4 c =
+    let enum-told-fact = c .before .enum-told in
+    let fits5 = c .fits5 in
+    simp (fits5 .ensures, enum-told-fact .given .1)
 
 returns-5 : tie.Need-returns-5
 unfolding fitsAt nak.fitsAt
-returns-5 c = simp (c .fits-at .ensures, c .before .before .p .given .1)
+returns-5 c =
+    let p-fact = c .before .before .p in
+    let fits-at = c .fits-at in
+    simp (fits-at .ensures, p-fact .given .1)
 
 pub fits-at-spec : {M : Type 1} → statement M
 fits-at-spec =
-    tie.close (tie.spec fits-requires fits-requires-2 fits-requires-3 enum-told fits-requires-4 enum-known-p fits-at-requires returns returns-2
+    tie.close (tie.spec fits-requires fits-requires-2 fits-requires-3 enum-told fits-requires-4 enum-known-p
+    fits-at-requires returns returns-2
     returns-3 returns-4 returns-5)

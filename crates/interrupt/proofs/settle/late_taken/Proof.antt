@@ -8,7 +8,9 @@ same-out-requires : tie.Need-same-out-requires
 same-out-requires c κs = search needs
 
 returns : tie.Need-returns
-returns c = simp (c .same-out .ensures)
+returns c =
+    let same-out = c .same-out in
+    simp (same-out .ensures)
 
 pub late-taken-spec : {M : Type 1} → statement M
 late-taken-spec = tie.close (tie.spec same-out-requires returns)

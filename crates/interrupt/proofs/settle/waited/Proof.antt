@@ -1,15 +1,18 @@
 use borrow.Author.Tests.{eq-eqb, ne-eqb}
-use borrow.Author.Needs.{needs}
 use Rattle.interrupt.proofs.settle.waited.Statement.{statement}
 use Rattle.interrupt.proofs.settle.waited.Tie as tie
 use Rattle.interrupt.proofs.settle.waited.Reads as reads
 use Rattle.interrupt.proofs.settle.waited.Lts as lts
 
 returns : tie.Need-returns
-returns c = simp (eq-eqb _ _ (c .if1 .taken))
+returns c =
+    let if1 = c .if1 in
+    simp (eq-eqb _ _ (if1 .taken))
 
 returns-2 : tie.Need-returns-2
-returns-2 c = simp (ne-eqb _ _ (c .if1 .left))
+returns-2 c =
+    let if1 = c .if1 in
+    simp (ne-eqb _ _ (if1 .left))
 
 pub waited-spec : {M : Type 1} → statement M
 waited-spec = tie.close (tie.spec returns returns-2)

@@ -14,9 +14,9 @@ stop-requires c κs = search needs
 
 returns : tie.Need-returns
 returns c =
-    let the-stop = c .stop in
-    let the-wake2 = c .before .before .wake2 in
     let the-wake = c .before .before .before .before .wake in
+    let the-wake2 = c .before .before .wake2 in
+    let the-stop = c .stop in
     (λ v b. then-on (the-stop .ensures .0 b) (simp (the-wake2 .ensures .0, the-wake .ensures .0)), the-stop .ensures .1)
 
 pub after-setup-released-spec : {M : Type 1} → statement M

@@ -12,8 +12,12 @@ stand-setup-tx-requires c κs = search needs
 
 returns : tie.Need-returns
 returns c =
-    let the-stand-setup-tx = c .stand-setup-tx in
-    (λ v b. stops-at (the-stand-setup-tx .ensures) (refl) b (simp (c .before .nak-word .ensures)), stored-at (the-stand-setup-tx .ensures))
+    let nak-word = c .before .nak-word in
+    let the-stand-setup-tx = c .stand-setup-tx in (
+      λ v b. stops-at (the-stand-setup-tx .ensures) (refl) b (simp (nak-word .ensures)),
+      stored-at
+          (the-stand-setup-tx .ensures),
+    )
 
 pub after-setup-rx-spec : {M : Type 1} → statement M
 after-setup-rx-spec = tie.close (tie.spec nak-word-requires stand-setup-tx-requires returns)

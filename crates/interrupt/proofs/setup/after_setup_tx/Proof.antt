@@ -12,9 +12,12 @@ stand-setup-released-requires c κs = search needs
 
 returns : tie.Need-returns
 returns c =
-    let the-stand-setup-released = c .stand-setup-released in
     let the-take = c .before .before .take in
-    (λ v. stops-at (the-stand-setup-released .ensures) (refl) _ (the-take .ensures .0), stored-at (the-stand-setup-released .ensures))
+    let the-stand-setup-released = c .stand-setup-released in (
+      λ v. stops-at (the-stand-setup-released .ensures) (refl) _ (the-take .ensures .0),
+      stored-at
+          (the-stand-setup-released .ensures),
+    )
 
 pub after-setup-tx-spec : {M : Type 1} → statement M
 after-setup-tx-spec = tie.close (tie.spec take-requires stand-setup-released-requires returns)

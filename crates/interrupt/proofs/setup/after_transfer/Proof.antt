@@ -13,14 +13,21 @@ stand-setup-rx-requires c κs = search needs
 
 returns : tie.Need-returns
 unfolding afterTransfer afterSetupTx
-returns c = pauses-in (c .stand-setup-rx .ensures) refl (λ b. simp (c .before .nak-word .ensures, c .before .before .before .if1 .taken))
+returns c =
+    let if1 = c .before .before .before .if1 in
+    let nak-word = c .before .nak-word in
+    let stand-setup-rx = c .stand-setup-rx in
+    pauses-in (stand-setup-rx .ensures) refl (λ b. simp (nak-word .ensures, if1 .taken))
 
 stop-requires : tie.Need-stop-requires
 stop-requires c κs = search needs
 
 returns-2 : tie.Need-returns-2
 unfolding afterTransfer
-returns-2 c = goes-in (c .stop .ensures) (λ b. simp (c .before .before .if1 .left))
+returns-2 c =
+    let if1 = c .before .before .if1 in
+    let stop = c .stop in
+    goes-in (stop .ensures) (λ b. simp (if1 .left))
 
 pub after-transfer-spec : {M : Type 1} → statement M
 after-transfer-spec = tie.close (tie.spec nak-word-requires stand-setup-rx-requires returns stop-requires returns-2)

@@ -20,12 +20,17 @@ keep-requires : tie.Need-keep-requires
 keep-requires c κs = search needs
 
 returns : tie.Need-returns
-returns c = (
-  setup-taken _ _ _ _ _ _ _ (c .before .before .before .before .before .before .before .before .setup-word .ensures)
-      (c .before .before .before .before .before .before .setup-word2 .ensures)
-      (c .before .before .before .before .clear .ensures .0) (c .before .before .clear2 .ensures .0) (c .keep .ensures .0),
-  c .keep .ensures .1 ∙ (c .before .before .clear2 .ensures .1 ∙ c .before .before .before .before .clear .ensures .1),
-)
+returns c =
+    let setup-word = c .before .before .before .before .before .before .before .before .setup-word in
+    let setup-word2 = c .before .before .before .before .before .before .setup-word2 in
+    let clear = c .before .before .before .before .clear in
+    let clear2 = c .before .before .clear2 in
+    let keep = c .keep in (
+      setup-taken _ _ _ _ _ _ _ (setup-word .ensures) (setup-word2 .ensures)
+          (clear .ensures .0) (clear2 .ensures .0) (keep .ensures .0),
+      keep .ensures .1 ∙ (clear2 .ensures .1 ∙ clear .ensures .1),
+    )
 
 pub take-spec : {M : Type 1} → statement M
-take-spec = tie.close (tie.spec setup-word-requires setup-word-requires-2 clear-requires clear-requires-2 keep-requires returns)
+take-spec = tie.close (tie.spec setup-word-requires setup-word-requires-2 clear-requires clear-requires-2 keep-requires
+    returns)

@@ -9,7 +9,10 @@ asks-requires : tie.Need-asks-requires
 asks-requires c κs = search needs
 
 returns : tie.Need-returns
-returns c = (c .asks .ensures, (c .before .store .ensures .0, c .before .store .ensures .1))
+returns c =
+    let store = c .before .store in
+    let asks = c .asks in
+    (asks .ensures, (store .ensures .0, store .ensures .1))
 
 pub stand-spec : {M : Type 1} → statement M
 stand-spec = tie.close (tie.spec store-requires asks-requires returns)

@@ -16,7 +16,11 @@ stand-requires c κs = search needs
 
 returns : tie.Need-returns
 unfolding encode codec.encode
-returns c = stands-at (c .stand .ensures) (simp (c .before .code .ensures, c .before .before .check-as .ensures))
+returns c =
+    let check-as = c .before .before .check-as in
+    let code = c .before .code in
+    let stand = c .stand in
+    stands-at (stand .ensures) (simp (code .ensures, check-as .ensures))
 
 pub stand-check-spec : {M : Type 1} → statement M
 stand-check-spec = tie.close (tie.spec check-as-requires code-requires stand-requires returns)

@@ -16,7 +16,11 @@ stand-requires c κs = search needs
 
 returns : tie.Need-returns
 unfolding encode codec.encode
-returns c = stands-at (c .stand .ensures) (simp (c .before .code .ensures, c .before .before .complete-as .ensures))
+returns c =
+    let complete-as = c .before .before .complete-as in
+    let code = c .before .code in
+    let stand = c .stand in
+    stands-at (stand .ensures) (simp (code .ensures, complete-as .ensures))
 
 pub stand-completing-spec : {M : Type 1} → statement M
 stand-completing-spec = tie.close (tie.spec complete-as-requires code-requires stand-requires returns)

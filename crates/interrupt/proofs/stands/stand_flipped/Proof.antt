@@ -16,7 +16,11 @@ stand-requires c κs = search needs
 
 returns : tie.Need-returns
 unfolding encode codec.encode
-returns c = stands-at (c .stand .ensures) (simp (c .before .code .ensures, c .before .before .on-dir .ensures))
+returns c =
+    let on-dir = c .before .before .on-dir in
+    let code = c .before .code in
+    let stand = c .stand in
+    stands-at (stand .ensures) (simp (code .ensures, on-dir .ensures))
 
 pub stand-flipped-spec : {M : Type 1} → statement M
 stand-flipped-spec = tie.close (tie.spec on-dir-requires code-requires stand-requires returns)

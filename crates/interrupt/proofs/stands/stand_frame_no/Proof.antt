@@ -16,7 +16,11 @@ stand-read-requires c κs = search needs
 
 returns : tie.Need-returns
 unfolding encode codec.encode
-returns c = stands-at (c .stand-read .ensures) (simp (c .before .code .ensures, c .before .before .none .ensures))
+returns c =
+    let none = c .before .before .none in
+    let code = c .before .code in
+    let stand-read = c .stand-read in
+    stands-at (stand-read .ensures) (simp (code .ensures, none .ensures))
 
 pub stand-frame-no-spec : {M : Type 1} → statement M
 stand-frame-no-spec = tie.close (tie.spec none-requires code-requires stand-read-requires returns)

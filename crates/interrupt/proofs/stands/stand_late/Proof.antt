@@ -16,7 +16,11 @@ stand-requires c κs = search needs
 
 returns : tie.Need-returns
 unfolding encode codec.encode
-returns c = stands-at (c .stand .ensures) (simp (c .before .code .ensures, c .before .before .late-as .ensures))
+returns c =
+    let late-as = c .before .before .late-as in
+    let code = c .before .code in
+    let stand = c .stand in
+    stands-at (stand .ensures) (simp (code .ensures, late-as .ensures))
 
 pub stand-late-spec : {M : Type 1} → statement M
 stand-late-spec = tie.close (tie.spec late-as-requires code-requires stand-requires returns)

@@ -16,7 +16,11 @@ stand-requires c κs = search needs
 
 returns : tie.Need-returns
 unfolding encode codec.encode
-returns c = stands-at (c .stand .ensures) (simp (c .before .code .ensures, c .before .before .nak-as .ensures))
+returns c =
+    let nak-as = c .before .before .nak-as in
+    let code = c .before .code in
+    let stand = c .stand in
+    stands-at (stand .ensures) (simp (code .ensures, nak-as .ensures))
 
 pub stand-nak-spec : {M : Type 1} → statement M
 stand-nak-spec = tie.close (tie.spec nak-as-requires code-requires stand-requires returns)

@@ -16,7 +16,11 @@ stand-write-requires c κs = search needs
 
 returns : tie.Need-returns
 unfolding encode codec.encode
-returns c = stands-at (c .stand-write .ensures) (simp (c .before .code .ensures, c .before .before .none .ensures))
+returns c =
+    let none = c .before .before .none in
+    let code = c .before .code in
+    let stand-write = c .stand-write in
+    stands-at (stand-write .ensures) (simp (code .ensures, none .ensures))
 
 pub stand-released-spec : {M : Type 1} → statement M
 stand-released-spec = tie.close (tie.spec none-requires code-requires stand-write-requires returns)

@@ -16,7 +16,11 @@ stand-requires c κs = search needs
 
 returns : tie.Need-returns
 unfolding encode codec.encode
-returns c = stands-at (c .stand .ensures) (simp (c .before .code .ensures, c .before .before .settle-as .ensures))
+returns c =
+    let settle-as = c .before .before .settle-as in
+    let code = c .before .code in
+    let stand = c .stand in
+    stands-at (stand .ensures) (simp (code .ensures, settle-as .ensures))
 
 pub stand-settle-spec : {M : Type 1} → statement M
 stand-settle-spec = tie.close (tie.spec settle-as-requires code-requires stand-requires returns)

@@ -16,7 +16,11 @@ stand-requires c κs = search needs
 
 returns : tie.Need-returns
 unfolding encode codec.encode
-returns c = stands-at (c .stand .ensures) (simp (c .before .code .ensures, c .before .before .sof-as .ensures))
+returns c =
+    let sof-as = c .before .before .sof-as in
+    let code = c .before .code in
+    let stand = c .stand in
+    stands-at (stand .ensures) (simp (code .ensures, sof-as .ensures))
 
 pub stand-sof-spec : {M : Type 1} → statement M
 stand-sof-spec = tie.close (tie.spec sof-as-requires code-requires stand-requires returns)

@@ -16,7 +16,11 @@ stand-requires c κs = search needs
 
 returns : tie.Need-returns
 unfolding encode codec.encode
-returns c = stands-at (c .stand .ensures) (simp (c .before .code .ensures, c .before .before .toggled-as .ensures))
+returns c =
+    let toggled-as = c .before .before .toggled-as in
+    let code = c .before .code in
+    let stand = c .stand in
+    stands-at (stand .ensures) (simp (code .ensures, toggled-as .ensures))
 
 pub stand-toggled-spec : {M : Type 1} → statement M
 stand-toggled-spec = tie.close (tie.spec toggled-as-requires code-requires stand-requires returns)

@@ -9,7 +9,10 @@ asks-write-requires : tie.Need-asks-write-requires
 asks-write-requires c κs = search needs
 
 returns : tie.Need-returns
-returns c = (c .asks-write .ensures, (c .before .store .ensures .0, c .before .store .ensures .1))
+returns c =
+    let store = c .before .store in
+    let asks-write = c .asks-write in
+    (asks-write .ensures, (store .ensures .0, store .ensures .1))
 
 pub stand-write-spec : {M : Type 1} → statement M
 stand-write-spec = tie.close (tie.spec store-requires asks-write-requires returns)

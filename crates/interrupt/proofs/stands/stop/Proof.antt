@@ -24,14 +24,22 @@ ended-requires c κs = search needs
 returns : tie.Need-returns
 unfolding halted decode listed
 returns c =
-    let the-how-many = c .before .how-many in
-    let the-store-saved = c .before .before .before .store-saved in
     let the-nothing = c .before .before .before .before .nothing in
-    let the-end = said _ _ (c .ended .ensures) refl in (
+    let the-store-saved = c .before .before .before .store-saved in
+    let the-how-many = c .before .how-many in
+    let ended = c .ended in
+    let the-end = said _ _ (ended .ensures) refl in (
       λ b. record {
-        there = simp (the-end, the-how-many .ensures .0, front-take, the-store-saved .ensures .0, the-store-saved .ensures .1, the-nothing .ensures);
+        there = simp (
+          the-end,
+          the-how-many .ensures .0,
+          front-take,
+          the-store-saved .ensures .0,
+          the-store-saved .ensures .1,
+          the-nothing .ensures,
+        );
       },
-      pinned-end _ _ _ _ (c .ended .ensures) (the-store-saved .ensures .1 ∙ the-nothing .ensures),
+      pinned-end _ _ _ _ (ended .ensures) (the-store-saved .ensures .1 ∙ the-nothing .ensures),
     )
 
 pub stop-spec : {M : Type 1} → statement M

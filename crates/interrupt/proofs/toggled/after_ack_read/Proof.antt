@@ -18,7 +18,11 @@ cast-t7 : tie.Need-cast-t7
 cast-t7 c = search needs
 
 returns : tie.Need-returns
-returns c = (λ d b. simp (c .ctrl-of .ensures, c .before .ack .ensures, c .before .before .byte .ensures), refl)
+returns c =
+    let byte = c .before .before .byte in
+    let ack = c .before .ack in
+    let ctrl-of = c .ctrl-of in
+    (λ d b. simp (ctrl-of .ensures, ack .ensures, byte .ensures), refl)
 
 pub after-ack-read-spec : {M : Type 1} → statement M
 after-ack-read-spec = tie.close (tie.spec byte-requires ack-requires ctrl-of-requires cast-t7 returns)

@@ -20,19 +20,31 @@ ctrl-of-requires c κs = search needs
 
 returns : tie.Need-returns
 unfolding afterWait
-returns c = (
-  λ d b. simp (
-    c .ctrl-of .ensures,
-    wait-over _ _ (over-told _ _ _ _ _ (c .before .before .before .byte .ensures) (c .before .before .over .ensures) (c .before .if1 .taken)),
-  ),
-  simp (c .ctrl-of .ensures, word-width),
-)
+returns c =
+    let byte = c .before .before .before .byte in
+    let over = c .before .before .over in
+    let if1 = c .before .if1 in
+    let ctrl-of = c .ctrl-of in (
+      λ d b. simp (
+        ctrl-of .ensures,
+        wait-over _ _ (over-told _ _ _ _ _ (byte .ensures) (over .ensures) (if1 .taken)),
+      ),
+      simp (ctrl-of .ensures, word-width),
+    )
 
 sub-t12 : tie.Need-sub-t12
-sub-t12 c = let h = some-left _ _ (over-told _ _ _ _ _ (c .before .before .byte .ensures) (c .before .over .ensures) (c .if1 .left)) in omega (arith, h)
+sub-t12 c =
+    let byte = c .before .before .byte in
+    let over = c .before .over in
+    let if1 = c .if1 in
+    let h = some-left _ _ (over-told _ _ _ _ _ (byte .ensures) (over .ensures) (if1 .left)) in omega (arith, h)
 
 returns-2 : tie.Need-returns-2
-returns-2 c = (λ d b. simp (wait-more _ _ (over-told _ _ _ _ _ (c .before .before .byte .ensures) (c .before .over .ensures) (c .if1 .left))), refl)
+returns-2 c =
+    let byte = c .before .before .byte in
+    let over = c .before .over in
+    let if1 = c .if1 in
+    (λ d b. simp (wait-more _ _ (over-told _ _ _ _ _ (byte .ensures) (over .ensures) (if1 .left))), refl)
 
 pub after-look-spec : {M : Type 1} → statement M
 after-look-spec = tie.close (tie.spec byte-requires over-requires ctrl-of-requires returns sub-t12 returns-2)

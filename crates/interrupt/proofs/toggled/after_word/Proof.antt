@@ -24,32 +24,45 @@ ctrl-of-requires c κs = search needs
 
 returns : tie.Need-returns
 unfolding afterWord
-returns c = (
-  λ b. simp (
-    c .ctrl-of .ensures,
-    ← c .before .before .is-on .ensures,
-    c .before .if2 .taken,
-    ← c .before .before .before .before .repeated .ensures,
-    c .before .before .before .if1 .taken,
-    ← c .before .before .before .before .before .load-ep .ensures,
-    ← c .before .before .before .before .before .before .before .byte .ensures,
-  ),
-  (refl, simp (c .ctrl-of .ensures, word-width)),
-)
+returns c =
+    let byte = c .before .before .before .before .before .before .before .byte in
+    let load-ep = c .before .before .before .before .before .load-ep in
+    let repeated = c .before .before .before .before .repeated in
+    let if1 = c .before .before .before .if1 in
+    let is-on = c .before .before .is-on in
+    let if2 = c .before .if2 in
+    let ctrl-of = c .ctrl-of in (
+      λ b. simp (
+        ctrl-of .ensures,
+        ← is-on .ensures,
+        if2 .taken,
+        ← repeated .ensures,
+        if1 .taken,
+        ← load-ep .ensures,
+        ← byte .ensures,
+      ),
+      (refl, simp (ctrl-of .ensures, word-width)),
+    )
 
 returns-2 : tie.Need-returns-2
 unfolding afterWord
-returns-2 c = (
-  λ b. simp (
-    ← c .before .is-on .ensures,
-    c .if2 .left,
-    ← c .before .before .before .repeated .ensures,
-    c .before .before .if1 .taken,
-    ← c .before .before .before .before .load-ep .ensures,
-    ← c .before .before .before .before .before .before .byte .ensures,
-  ),
-  (refl, tt),
-)
+returns-2 c =
+    let byte = c .before .before .before .before .before .before .byte in
+    let load-ep = c .before .before .before .before .load-ep in
+    let repeated = c .before .before .before .repeated in
+    let if1 = c .before .before .if1 in
+    let is-on = c .before .is-on in
+    let if2 = c .if2 in (
+      λ b. simp (
+        ← is-on .ensures,
+        if2 .left,
+        ← repeated .ensures,
+        if1 .taken,
+        ← load-ep .ensures,
+        ← byte .ensures,
+      ),
+      (refl, tt),
+    )
 
 data1-requires : tie.Need-data1-requires
 data1-requires c κs = search needs
@@ -59,19 +72,26 @@ store-ep-requires c κs = search needs
 
 returns-3 : tie.Need-returns-3
 unfolding afterWord
-returns-3 c = (
-  λ b. simp (
-    c .store-ep .ensures .0,
-    ← c .before .before .data1 .ensures,
-    ← c .before .before .before .before .repeated .ensures,
-    c .before .before .before .if1 .left,
-    ← c .before .before .before .before .before .load-ep .ensures,
-    ← c .before .before .before .before .before .before .before .byte .ensures,
-  ),
-  (c .store-ep .ensures .1, tt),
-)
+returns-3 c =
+    let byte = c .before .before .before .before .before .before .before .byte in
+    let load-ep = c .before .before .before .before .before .load-ep in
+    let repeated = c .before .before .before .before .repeated in
+    let if1 = c .before .before .before .if1 in
+    let data1 = c .before .before .data1 in
+    let store-ep = c .store-ep in (
+      λ b. simp (
+        store-ep .ensures .0,
+        ← data1 .ensures,
+        ← repeated .ensures,
+        if1 .left,
+        ← load-ep .ensures,
+        ← byte .ensures,
+      ),
+      (store-ep .ensures .1, tt),
+    )
 
 pub after-word-spec : {M : Type 1} → statement M
 after-word-spec =
-    tie.close (tie.spec byte-requires load-ep-requires repeated-requires is-on-requires ctrl-of-requires returns returns-2 data1-requires
+    tie.close (tie.spec byte-requires load-ep-requires repeated-requires is-on-requires ctrl-of-requires returns
+    returns-2 data1-requires
     store-ep-requires returns-3)

@@ -1,7 +1,6 @@
 use Rattle.interrupt.specs.Toggled.{afterWait, afterWord}
 use Rattle.interrupt.specs.WaitLaws.{wait-begun}
 use mathlib.Core.Path.{refl}
-use borrow.Author.Needs.{needs}
 use Rattle.interrupt.proofs.toggled.begin.Statement.{statement}
 use Rattle.interrupt.proofs.toggled.begin.Tie as tie
 use Rattle.interrupt.proofs.toggled.begin.Reads as reads

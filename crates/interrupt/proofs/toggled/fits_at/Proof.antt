@@ -28,21 +28,33 @@ enum-told-3 c = search needs
 
 returns : tie.Need-returns
 unfolding fitsAt
-returns c = simp (c .fits2 .ensures, c .before .before .p .given .1)
+returns c =
+    let p = c .before .before .p in
+    let fits2 = c .fits2 in
+    simp (fits2 .ensures, p .given .1)
 
 returns-2 : tie.Need-returns-2
 unfolding fitsAt
-returns-2 c = simp (c .fits3 .ensures, c .before .enum-told .given .1)
+returns-2 c =
+    let enum-told-fact = c .before .enum-told in
+    let fits3 = c .fits3 in
+    simp (fits3 .ensures, enum-told-fact .given .1)
 
 returns-3 : tie.Need-returns-3
 unfolding fitsAt
-returns-3 c = simp (c .fits4 .ensures, c .before .enum-told2 .given .1)
+returns-3 c =
+    let enum-told2 = c .before .enum-told2 in
+    let fits4 = c .fits4 in
+    simp (fits4 .ensures, enum-told2 .given .1)
 
 returns-4 : tie.Need-returns-4
 unfolding fitsAt
-returns-4 c = simp (c .enum-told3 .given .1)
+returns-4 c =
+    let enum-told3 = c .enum-told3 in
+    simp (enum-told3 .given .1)
 
 pub fits-at-spec : {M : Type 1} → statement M
 fits-at-spec =
-    tie.close (tie.spec enum-known-p fits-requires enum-told fits-requires-2 enum-told-2 fits-requires-3 enum-told-3 returns returns-2 returns-3
+    tie.close (tie.spec enum-known-p fits-requires enum-told fits-requires-2 enum-told-2 fits-requires-3 enum-told-3
+    returns returns-2 returns-3
     returns-4)

@@ -10,7 +10,9 @@ data1-requires c κs = search needs
 
 returns : tie.Need-returns
 unfolding repeated
-returns c = simp (← c .before .data1 .ensures)
+returns c =
+    let data1 = c .before .data1 in
+    simp (← data1 .ensures)
 
 pub repeated-spec : {M : Type 1} → statement M
 repeated-spec = tie.close (tie.spec data1-requires returns)

@@ -20,11 +20,12 @@ same-length c = search needs
 
 returns : tie.Need-returns
 returns c =
-    let the-then-complete = c .before .before .then-complete in
     let a = c .before .before .before .before .before .before .before .before .args in
-    let the-resume = c .before .before .before .before .before .iso-in-complete-resume in (
+    let the-resume = c .before .before .before .before .before .iso-in-complete-resume in
+    let the-then-complete = c .before .before .then-complete in (
       λ v. then-on (the-then-complete .ensures .0)
-          (after (a .e .setup) (λ _ u. run concrete (afterDispatch (a .e .x) (a .e .iso)) u) _ _ (the-resume .ensures .0 _)),
+          (after (a .e .setup) (λ _ u. run concrete (afterDispatch (a .e .x) (a .e .iso)) u) _ _
+          (the-resume .ensures .0 _)),
       the-then-complete .ensures .1,
     )
 

@@ -21,8 +21,12 @@ stand-flipped-requires c κs = search needs
 
 returns : tie.Need-returns
 returns c =
-    pauses-in (c .stand-flipped .ensures) refl
-    (λ b. simp (c .before .ctrl-of .ensures, c .before .before .before .flip .ensures, c .before .before .before .before .byte .ensures))
+    let byte = c .before .before .before .before .byte in
+    let flip = c .before .before .before .flip in
+    let ctrl-of = c .before .ctrl-of in
+    let stand-flipped = c .stand-flipped in
+    pauses-in (stand-flipped .ensures) refl (λ b. simp (ctrl-of .ensures, flip .ensures, byte .ensures))
 
 pub after-flip-spec : {M : Type 1} → statement M
-after-flip-spec = tie.close (tie.spec byte-requires flip-requires ctrl-of-requires cast-t9 stand-flipped-requires returns)
+after-flip-spec = tie.close (tie.spec byte-requires flip-requires ctrl-of-requires cast-t9 stand-flipped-requires
+    returns)

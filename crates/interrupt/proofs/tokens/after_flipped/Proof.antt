@@ -18,11 +18,12 @@ same-length c = search needs
 
 returns : tie.Need-returns
 returns c =
-    let the-after-dispatch = c .before .before .after-dispatch in
     let a = c .before .before .before .before .before .before .before .before .args in
-    let the-flip-done = c .before .before .before .before .before .flip-done in (
+    let the-flip-done = c .before .before .before .before .before .flip-done in
+    let the-after-dispatch = c .before .before .after-dispatch in (
       λ v. then-on (the-after-dispatch .ensures .0)
-          (after (a .e .setup) (λ _ u. run concrete (afterDispatch (a .e .x) (a .e .iso)) u) _ _ (the-flip-done .ensures .0 _)),
+          (after (a .e .setup) (λ _ u. run concrete (afterDispatch (a .e .x) (a .e .iso)) u) _ _
+          (the-flip-done .ensures .0 _)),
       the-after-dispatch .ensures .1,
     )
 

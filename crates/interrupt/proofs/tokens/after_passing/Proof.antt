@@ -23,14 +23,16 @@ same-length c = search needs
 
 returns : tie.Need-returns
 returns c =
-    let the-passed = c .before .before .before .before .before .passed in
-    let the-endpoint = c .before .before .before .before .before .before .endpoint in
-    let the-if1 = c .before .before .before .before .before .before .before .before .if1 in
     let a = c .before .before .before .before .before .before .before .before .before .before .args in
-    goes-on (c .before .before .after-dispatch .ensures)
+    let the-if1 = c .before .before .before .before .before .before .before .before .if1 in
+    let the-endpoint = c .before .before .before .before .before .before .endpoint in
+    let the-passed = c .before .before .before .before .before .passed in
+    let after-dispatch = c .before .before .after-dispatch in
+    goes-on (after-dispatch .ensures)
     (after (a .e .setup) (λ _ u. run concrete (afterDispatch (a .e .x) (a .e .iso)) u) _ _ (the-passed .ensures .0 _)
     ∙ (passed-at (afterArm (a .e)) (a .d) _ _ _ _ (the-endpoint .ensures)
-    ∙ when-yes (a .e .setup) (passed (a .d) (endpoint ((a .e .x) .st)) ((a .e .x) .len)) (λ _ u. run concrete (afterDispatch (a .e .x) (a .e .iso)) u) _ _
+    ∙ when-yes (a .e .setup) (passed (a .d) (endpoint ((a .e .x) .st)) ((a .e .x) .len))
+    (λ _ u. run concrete (afterDispatch (a .e .x) (a .e .iso)) u) _ _
     (the-if1 .taken)))
 
 after-dispatch-requires-2 : tie.Need-after-dispatch-requires-2
@@ -42,11 +44,15 @@ same-length-2 c = search needs
 returns-2 : tie.Need-returns-2
 returns-2 c =
     let a = c .before .before .before .before .before .before .before .args in
-    goes-on (c .before .before .after-dispatch2 .ensures)
-    (when-no (a .e .setup) (passed (a .d) (endpoint ((a .e .x) .st)) ((a .e .x) .len)) (λ _ u. run concrete (afterDispatch (a .e .x) (a .e .iso)) u) _ _
-    (c .before .before .before .before .before .if1 .left))
+    let if1 = c .before .before .before .before .before .if1 in
+    let after-dispatch2 = c .before .before .after-dispatch2 in
+    goes-on (after-dispatch2 .ensures)
+    (when-no (a .e .setup) (passed (a .d) (endpoint ((a .e .x) .st)) ((a .e .x) .len))
+    (λ _ u. run concrete (afterDispatch (a .e .x) (a .e .iso)) u) _ _
+    (if1 .left))
 
 pub after-passing-spec : {M : Type 1} → statement M
 after-passing-spec =
-    tie.close (tie.spec endpoint-requires passed-requires after-dispatch-requires same-length returns after-dispatch-requires-2 same-length-2
+    tie.close (tie.spec endpoint-requires passed-requires after-dispatch-requires same-length returns
+    after-dispatch-requires-2 same-length-2
     returns-2)

@@ -8,7 +8,9 @@ use Rattle.interrupt.proofs.tokens.after_sof_arm.Statement.{statement}
 use Rattle.interrupt.proofs.tokens.after_sof_arm.Tie as tie
 
 on-sof-resume-requires : tie.Need-on-sof-resume-requires
-on-sof-resume-requires c κs = (c .before .before .pre)
+on-sof-resume-requires c κs =
+    let start = c .before .before in
+    (start .pre)
 
 then-sof-arm-requires : tie.Need-then-sof-arm-requires
 then-sof-arm-requires c κs =
@@ -21,9 +23,11 @@ same-length c = search needs
 returns : tie.Need-returns
 returns c =
     let a = c .before .before .before .before .before .before .before .before .args in
-    goes-on (c .before .before .then-sof-arm .ensures)
+    let on-sof-resume = c .before .before .before .before .before .on-sof-resume in
+    let then-sof-arm = c .before .before .then-sof-arm in
+    goes-on (then-sof-arm .ensures)
     (after (a .e .setup) (λ _ u. run concrete (afterDispatch (a .e .x) (a .e .iso)) u) _ _
-    (c .before .before .before .before .before .on-sof-resume .ensures .0 _))
+    (on-sof-resume .ensures .0 _))
 
 pub after-sof-arm-spec : {M : Type 1} → statement M
 after-sof-arm-spec = tie.close (tie.spec on-sof-resume-requires then-sof-arm-requires same-length returns)

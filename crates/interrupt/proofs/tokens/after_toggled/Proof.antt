@@ -14,7 +14,9 @@ endpoint-requires : tie.Need-endpoint-requires
 endpoint-requires c κs = search needs
 
 resume-requires : tie.Need-resume-requires
-resume-requires c κs = (c .before .before .before .pre)
+resume-requires c κs =
+    let start = c .before .before .before in
+    (start .pre)
 
 then-toggled-requires : tie.Need-then-toggled-requires
 then-toggled-requires c κs =
@@ -27,10 +29,12 @@ same-length c = search needs
 returns : tie.Need-returns
 returns c =
     let a = c .before .before .before .before .before .before .before .before .before .args in
-    let the-resume = c .before .before .before .before .before .resume in
     let the-endpoint = c .before .before .before .before .before .before .endpoint in
-    goes-on (c .before .before .then-toggled .ensures)
-    (toggled-as (a .e .setup) (λ _ u. run concrete (afterDispatch (a .e .x) (a .e .iso)) u) (λ z u. run concrete (afterToggled (a .d) (a .e .x) z) u) (a .d) _ _
+    let the-resume = c .before .before .before .before .before .resume in
+    let then-toggled = c .before .before .then-toggled in
+    goes-on (then-toggled .ensures)
+    (toggled-as (a .e .setup) (λ _ u. run concrete (afterDispatch (a .e .x) (a .e .iso)) u)
+    (λ z u. run concrete (afterToggled (a .d) (a .e .x) z) u) (a .d) _ _
     (the-resume .result) _ _ (the-endpoint .ensures)
     (λ (z : ℕ). toggled.denote (a .d) z (a .p) (a .v) (view (a .s .now), a .buf .now)) (the-resume .ensures .0 _))
 

@@ -16,8 +16,9 @@ same-length c = search needs
 returns : tie.Need-returns
 returns c =
     let a = c .before .before .before .before .before .before .before .args in
-    goes-on (c .before .before .iso-in-arm .ensures)
-    (test-yes (afterArm (a .e)) (a .e .iso) _ _ (c .before .before .before .before .before .if1 .taken))
+    let if1 = c .before .before .before .before .before .if1 in
+    let iso-in-arm = c .before .before .iso-in-arm in
+    goes-on (iso-in-arm .ensures) (test-yes (afterArm (a .e)) (a .e .iso) _ _ (if1 .taken))
 
 endpoint-requires : tie.Need-endpoint-requires
 endpoint-requires c κs = search needs
@@ -27,10 +28,12 @@ stand-flip-requires c κs = search needs
 
 returns-2 : tie.Need-returns-2
 returns-2 c =
-    let e = c .before .before in
-    let a = e .before .before .before .before .args in
-    pauses-at (c .stand-flip .ensures) refl
-    (of-ep0 (afterArm (a .e)) (a .e .iso) _ _ _ (e .before .endpoint .ensures) (e .before .before .if1 .left) (eq-eqb _ _ (e .if2 .taken)))
+    let at-then2 = c .before .before in
+    let stand-flip = c .stand-flip in
+    let a = at-then2 .before .before .before .before .args in
+    pauses-at (stand-flip .ensures) refl
+    (of-ep0 (afterArm (a .e)) (a .e .iso) _ _ _ (at-then2 .before .endpoint .ensures)
+    (at-then2 .before .before .if1 .left) (eq-eqb _ _ (at-then2 .if2 .taken)))
 
 toggled-arm-requires : tie.Need-toggled-arm-requires
 toggled-arm-requires c κs = search needs
@@ -40,12 +43,15 @@ same-length-2 c = search needs
 
 returns-3 : tie.Need-returns-3
 returns-3 c =
-    let e = c .before .before .before .before .before in
-    let a = e .before .before .before .before .args in
-    goes-on (c .before .before .toggled-arm .ensures)
-    (of-other (afterArm (a .e)) (a .e .iso) _ _ _ (e .before .endpoint .ensures) (e .before .before .if1 .left) (ne-eqb _ _ (e .if2 .left)))
+    let at-else2 = c .before .before .before .before .before in
+    let toggled-arm = c .before .before .toggled-arm in
+    let a = at-else2 .before .before .before .before .args in
+    goes-on (toggled-arm .ensures)
+    (of-other (afterArm (a .e)) (a .e .iso) _ _ _ (at-else2 .before .endpoint .ensures)
+    (at-else2 .before .before .if1 .left) (ne-eqb _ _ (at-else2 .if2 .left)))
 
 pub in-arm-spec : {M : Type 1} → statement M
 in-arm-spec =
-    tie.close (tie.spec iso-in-arm-requires same-length returns endpoint-requires stand-flip-requires returns-2 toggled-arm-requires same-length-2
+    tie.close (tie.spec iso-in-arm-requires same-length returns endpoint-requires stand-flip-requires returns-2
+    toggled-arm-requires same-length-2
     returns-3)

@@ -16,8 +16,9 @@ same-length c = search needs
 returns : tie.Need-returns
 returns c =
     let a = c .before .before .before .before .before .before .before .args in
-    goes-on (c .before .before .after-dispatch .ensures)
-    (test-yes (afterArm (a .e)) (a .e .iso) _ _ (c .before .before .before .before .before .if1 .taken))
+    let if1 = c .before .before .before .before .before .if1 in
+    let after-dispatch = c .before .before .after-dispatch in
+    goes-on (after-dispatch .ensures) (test-yes (afterArm (a .e)) (a .e .iso) _ _ (if1 .taken))
 
 endpoint-requires : tie.Need-endpoint-requires
 endpoint-requires c κs = search needs
@@ -30,12 +31,14 @@ stand-flip-requires c κs = search needs
 
 returns-2 : tie.Need-returns-2
 returns-2 c =
-    let told = c .before .before in
-    let e = told .before .before in
+    let at-then3 = c .before .before in
+    let stand-flip = c .stand-flip in
+    let e = at-then3 .before .before in
     let a = e .before .before .before .before .args in
-    pauses-at (c .stand-flip .ensures) refl
-    (test-yes (afterArm (a .e)) _ _ _ (tells _ _ _ (told .before .tog-ok .ensures) (told .if3 .taken))
-    ∙ of-ep0 (afterArm (a .e)) (a .e .iso) _ _ _ (e .before .endpoint .ensures) (e .before .before .if1 .left) (eq-eqb _ _ (e .if2 .taken)))
+    pauses-at (stand-flip .ensures) refl
+    (test-yes (afterArm (a .e)) _ _ _ (tells _ _ _ (at-then3 .before .tog-ok .ensures) (at-then3 .if3 .taken))
+    ∙ of-ep0 (afterArm (a .e)) (a .e .iso) _ _ _ (e .before .endpoint .ensures) (e .before .before .if1 .left)
+    (eq-eqb _ _ (e .if2 .taken)))
 
 after-dispatch-requires-2 : tie.Need-after-dispatch-requires-2
 after-dispatch-requires-2 c κs = search needs
@@ -45,12 +48,14 @@ same-length-2 c = search needs
 
 returns-3 : tie.Need-returns-3
 returns-3 c =
-    let told = c .before .before .before .before .before in
-    let e = told .before .before in
+    let at-else3 = c .before .before .before .before .before in
+    let after-dispatch2 = c .before .before .after-dispatch2 in
+    let e = at-else3 .before .before in
     let a = e .before .before .before .before .args in
-    goes-on (c .before .before .after-dispatch2 .ensures)
-    (test-no (afterArm (a .e)) _ _ _ (tells _ _ _ (told .before .tog-ok .ensures) (told .if3 .left))
-    ∙ of-ep0 (afterArm (a .e)) (a .e .iso) _ _ _ (e .before .endpoint .ensures) (e .before .before .if1 .left) (eq-eqb _ _ (e .if2 .taken)))
+    goes-on (after-dispatch2 .ensures)
+    (test-no (afterArm (a .e)) _ _ _ (tells _ _ _ (at-else3 .before .tog-ok .ensures) (at-else3 .if3 .left))
+    ∙ of-ep0 (afterArm (a .e)) (a .e .iso) _ _ _ (e .before .endpoint .ensures) (e .before .before .if1 .left)
+    (eq-eqb _ _ (e .if2 .taken)))
 
 toggled-arm-requires : tie.Need-toggled-arm-requires
 toggled-arm-requires c κs = search needs
@@ -60,12 +65,15 @@ same-length-3 c = search needs
 
 returns-4 : tie.Need-returns-4
 returns-4 c =
-    let e = c .before .before .before .before .before in
-    let a = e .before .before .before .before .args in
-    goes-on (c .before .before .toggled-arm .ensures)
-    (of-other (afterArm (a .e)) (a .e .iso) _ _ _ (e .before .endpoint .ensures) (e .before .before .if1 .left) (ne-eqb _ _ (e .if2 .left)))
+    let at-else2 = c .before .before .before .before .before in
+    let toggled-arm = c .before .before .toggled-arm in
+    let a = at-else2 .before .before .before .before .args in
+    goes-on (toggled-arm .ensures)
+    (of-other (afterArm (a .e)) (a .e .iso) _ _ _ (at-else2 .before .endpoint .ensures)
+    (at-else2 .before .before .if1 .left) (ne-eqb _ _ (at-else2 .if2 .left)))
 
 pub out-arm-spec : {M : Type 1} → statement M
 out-arm-spec =
-    tie.close (tie.spec after-dispatch-requires same-length returns endpoint-requires tog-ok-requires stand-flip-requires returns-2
+    tie.close (tie.spec after-dispatch-requires same-length returns endpoint-requires tog-ok-requires
+    stand-flip-requires returns-2
     after-dispatch-requires-2 same-length-2 returns-3 toggled-arm-requires same-length-3 returns-4)

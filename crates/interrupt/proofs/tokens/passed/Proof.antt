@@ -16,10 +16,16 @@ sent-requires : tie.Need-sent-requires
 sent-requires c κs = search needs
 
 returns : tie.Need-returns
-returns c = (λ b. passed-known _ _ _ _ _ _ (c .before .before .enum-told .given .1) (c .received .ensures .0 b), c .received .ensures .1)
+returns c =
+    let enum-told-fact = c .before .before .enum-told in
+    let received = c .received in
+    (λ b. passed-known _ _ _ _ _ _ (enum-told-fact .given .1) (received .ensures .0 b), received .ensures .1)
 
 returns-2 : tie.Need-returns-2
-returns-2 c = (λ b. passed-known _ _ _ _ _ _ (c .before .before .enum-told2 .given .1) (c .sent .ensures .0 b), c .sent .ensures .1)
+returns-2 c =
+    let enum-told2 = c .before .before .enum-told2 in
+    let sent = c .sent in
+    (λ b. passed-known _ _ _ _ _ _ (enum-told2 .given .1) (sent .ensures .0 b), sent .ensures .1)
 
 pub passed-spec : {M : Type 1} → statement M
 passed-spec = tie.close (tie.spec enum-told received-requires enum-told-2 sent-requires returns returns-2)

@@ -13,10 +13,13 @@ wake-requires : tie.Need-wake-requires
 wake-requires c κs = search needs
 
 returns : tie.Need-returns
-returns c = (
-  λ b. simp (c .wake .ensures .0, c .before .before .store-ep .ensures .0, c .before .before .before .before .load-ep .ensures),
-  c .wake .ensures .1 ∙ c .before .before .store-ep .ensures .1,
-)
+returns c =
+    let load-ep = c .before .before .before .before .load-ep in
+    let store-ep = c .before .before .store-ep in
+    let wake = c .wake in (
+      λ b. simp (wake .ensures .0, store-ep .ensures .0, load-ep .ensures),
+      wake .ensures .1 ∙ store-ep .ensures .1,
+    )
 
 pub sent-spec : {M : Type 1} → statement M
 sent-spec = tie.close (tie.spec load-ep-requires store-ep-requires wake-requires returns)

@@ -19,15 +19,20 @@ after-dispatch-requires c κs = search needs
 
 returns : tie.Need-returns
 returns c =
-    pauses-at (c .stand-completing .ensures)
-    (subst complete.Linked (c .before .before .before .n .given .1) (c .before .before .before .before .before .before .pre))
-    (simp (c .before .before .before .n .given .1))
+    let start = c .before .before .before .before .before .before in
+    let n = c .before .before .before .n in
+    let stand-completing = c .stand-completing in
+    pauses-at (stand-completing .ensures) (subst complete.Linked (n .given .1) (start .pre)) (simp (n .given .1))
 
 same-length : tie.Need-same-length
 same-length c = search needs
 
 returns-2 : tie.Need-returns-2
-returns-2 c = goes-on (c .before .before .after-dispatch .ensures) (simp (c .before .before .before .before .before .enum-told .given .1))
+returns-2 c =
+    let enum-told-fact = c .before .before .before .before .before .enum-told in
+    let after-dispatch = c .before .before .after-dispatch in
+    goes-on (after-dispatch .ensures) (simp (enum-told-fact .given .1))
 
 pub then-complete-spec : {M : Type 1} → statement M
-then-complete-spec = tie.close (tie.spec enum-known-n stand-completing-requires enum-told after-dispatch-requires returns same-length returns-2)
+then-complete-spec = tie.close (tie.spec enum-known-n stand-completing-requires enum-told after-dispatch-requires
+    returns same-length returns-2)

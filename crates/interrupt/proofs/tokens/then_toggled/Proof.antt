@@ -19,15 +19,20 @@ after-passing-requires c κs = search needs
 
 returns : tie.Need-returns
 returns c =
-    pauses-at (c .stand-toggled .ensures)
-    (subst toggled.Linked (c .before .before .before .n .given .1) (c .before .before .before .before .before .before .pre))
-    (simp (c .before .before .before .n .given .1))
+    let start = c .before .before .before .before .before .before in
+    let n = c .before .before .before .n in
+    let stand-toggled = c .stand-toggled in
+    pauses-at (stand-toggled .ensures) (subst toggled.Linked (n .given .1) (start .pre)) (simp (n .given .1))
 
 same-length : tie.Need-same-length
 same-length c = search needs
 
 returns-2 : tie.Need-returns-2
-returns-2 c = goes-on (c .before .before .after-passing .ensures) (simp (c .before .before .before .before .before .before .n2 .given .1))
+returns-2 c =
+    let n2 = c .before .before .before .before .before .before .n2 in
+    let after-passing = c .before .before .after-passing in
+    goes-on (after-passing .ensures) (simp (n2 .given .1))
 
 pub then-toggled-spec : {M : Type 1} → statement M
-then-toggled-spec = tie.close (tie.spec enum-known-n stand-toggled-requires enum-known-n-2 after-passing-requires returns same-length returns-2)
+then-toggled-spec = tie.close (tie.spec enum-known-n stand-toggled-requires enum-known-n-2 after-passing-requires
+    returns same-length returns-2)

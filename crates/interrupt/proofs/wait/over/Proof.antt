@@ -10,11 +10,17 @@ sie-free-requires c κs = search needs
 
 returns : tie.Need-returns
 unfolding over
-returns c = simp (← c .before .sie-free .ensures, c .if1 .taken)
+returns c =
+    let sie-free = c .before .sie-free in
+    let if1 = c .if1 in
+    simp (← sie-free .ensures, if1 .taken)
 
 returns-2 : tie.Need-returns-2
 unfolding over
-returns-2 c = simp (← c .before .sie-free .ensures, c .if1 .left)
+returns-2 c =
+    let sie-free = c .before .sie-free in
+    let if1 = c .if1 in
+    simp (← sie-free .ensures, if1 .left)
 
 pub over-spec : {M : Type 1} → statement M
 over-spec = tie.close (tie.spec sie-free-requires returns returns-2)

@@ -15,10 +15,16 @@ code-requires-2 : tie.Need-code-requires-2
 code-requires-2 c κs = search needs
 
 returns : tie.Need-returns
-returns c = simp (c .code .ensures, c .before .before .p .given .1)
+returns c =
+    let p = c .before .before .p in
+    let code = c .code in
+    simp (code .ensures, p .given .1)
 
 returns-2 : tie.Need-returns-2
-returns-2 c = simp (c .code2 .ensures, c .before .before .p2 .given .1)
+returns-2 c =
+    let p2 = c .before .before .p2 in
+    let code2 = c .code2 in
+    simp (code2 .ensures, p2 .given .1)
 
 pub completing-as-spec : {M : Type 1} → statement M
 completing-as-spec = tie.close (tie.spec enum-known-p code-requires enum-known-p-2 code-requires-2 returns returns-2)

@@ -17,11 +17,17 @@ completing-as-requires c κs = search needs
 
 returns : tie.Need-returns
 unfolding encode
-returns c = simp (c .code .ensures, c .before .before .p .given .1)
+returns c =
+    let p = c .before .before .p in
+    let code = c .code in
+    simp (code .ensures, p .given .1)
 
 returns-2 : tie.Need-returns-2
 unfolding encode
-returns-2 c = simp (c .completing-as .ensures, c .before .before .p2 .given .1)
+returns-2 c =
+    let p2 = c .before .before .p2 in
+    let completing-as = c .completing-as in
+    simp (completing-as .ensures, p2 .given .1)
 
 pub encode-spec : {M : Type 1} → statement M
 encode-spec = tie.close (tie.spec enum-known-p code-requires enum-known-p-2 completing-as-requires returns returns-2)

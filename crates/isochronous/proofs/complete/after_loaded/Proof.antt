@@ -6,7 +6,9 @@ wake-requires : tie.Need-wake-requires
 wake-requires c κs = search needs
 
 returns : tie.Need-returns
-returns c = (λ b. simp (c .wake .ensures .0), (c .wake .ensures .1, tt))
+returns c =
+    let wake = c .wake in
+    (λ b. simp (wake .ensures .0), (wake .ensures .1, tt))
 
 pub after-loaded-spec : {M : Type 1} → statement M
 after-loaded-spec = tie.close (tie.spec wake-requires returns)

@@ -6,7 +6,9 @@ start-requires : tie.Need-start-requires
 start-requires c κs = search needs
 
 returns : tie.Need-returns
-returns c = (c .start .ensures .0, (c .start .ensures .1 .0, c .start .ensures .1 .1))
+returns c =
+    let start = c .start in
+    (start .ensures .0, (start .ensures .1 .0, start .ensures .1 .1))
 
 pub iso-in-complete-spec : {M : Type 1} → statement M
 iso-in-complete-spec = tie.close (tie.spec start-requires returns)

@@ -16,13 +16,19 @@ after-loaded-requires : tie.Need-after-loaded-requires
 after-loaded-requires c κs = search needs
 
 returns : tie.Need-returns
-returns c = (λ b. simp (c .after-sent .ensures .0, c .before .before .before .p .given .1), (refl, c .after-sent .ensures .1))
+returns c =
+    let p = c .before .before .before .p in
+    let after-sent = c .after-sent in
+    (λ b. simp (after-sent .ensures .0, p .given .1), (refl, after-sent .ensures .1))
 
 returns-2 : tie.Need-returns-2
-returns-2 c = (
-  λ b. simp (c .after-loaded .ensures .0, c .before .before .before .p2 .given .1),
-  (c .after-loaded .ensures .1 .0, c .after-loaded .ensures .1 .1),
-)
+returns-2 c =
+    let p2 = c .before .before .before .p2 in
+    let after-loaded = c .after-loaded in (
+      λ b. simp (after-loaded .ensures .0, p2 .given .1),
+      (after-loaded .ensures .1 .0, after-loaded .ensures .1 .1),
+    )
 
 pub iso-in-complete-resume-spec : {M : Type 1} → statement M
-iso-in-complete-resume-spec = tie.close (tie.spec enum-known-p after-sent-requires enum-known-p-2 after-loaded-requires returns returns-2)
+iso-in-complete-resume-spec = tie.close (tie.spec enum-known-p after-sent-requires enum-known-p-2 after-loaded-requires
+    returns returns-2)

@@ -11,9 +11,10 @@ iso-in-load-requires c κs = search needs
 
 returns : tie.Need-returns
 returns c =
-    let the-complete = c .before .before .complete in (
-      λ b. simp (← the-complete .ensures .0, c .iso-in-load .ensures .0),
-      (c .iso-in-load .ensures .1 .0 ∙ the-complete .ensures .1, c .iso-in-load .ensures .1 .1),
+    let the-complete = c .before .before .complete in
+    let iso-in-load = c .iso-in-load in (
+      λ b. simp (← the-complete .ensures .0, iso-in-load .ensures .0),
+      (iso-in-load .ensures .1 .0 ∙ the-complete .ensures .1, iso-in-load .ensures .1 .1),
     )
 
 pub start-spec : {M : Type 1} → statement M

@@ -1,4 +1,3 @@
-use lib.Dec.{ltb}
 use borrow.Author.Tests.{ltb-true}
 use native.Mathlib.Omega.{arith}
 use Rattle.regs.specs.Registers.{fitsIn}
@@ -8,7 +7,9 @@ use Rattle.isochronous.proofs.iso_in.byte.Tie as tie
 
 cast-result : tie.Need-cast-result
 unfolding fitsIn
-cast-result c = let h = ltb-true (c .args .v) 256 (c .pre) in omega (arith, h)
+cast-result c =
+    let start = c in
+    let h = ltb-true (start .args .v) 256 (start .pre) in omega (arith, h)
 
 returns : tie.Need-returns
 returns c = search needs

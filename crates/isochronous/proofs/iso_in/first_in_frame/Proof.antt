@@ -11,7 +11,10 @@ record-frame-requires c κs = search needs
 
 returns : tie.Need-returns
 unfolding isFirst
-returns c = (simp (c .before .before .before .load-ep .ensures), (c .record-frame .ensures .0, c .record-frame .ensures .1))
+returns c =
+    let load-ep = c .before .before .before .load-ep in
+    let record-frame = c .record-frame in
+    (simp (load-ep .ensures), (record-frame .ensures .0, record-frame .ensures .1))
 
 pub first-in-frame-spec : {M : Type 1} → statement M
 first-in-frame-spec = tie.close (tie.spec load-ep-requires record-frame-requires returns)

@@ -12,7 +12,10 @@ in-enabled-requires c κs = search needs
 
 returns : tie.Need-returns
 unfolding isoInEvery except
-returns c = simp (c .in-enabled .ensures, c .before .mask-except .ensures)
+returns c =
+    let mask-except = c .before .mask-except in
+    let in-enabled = c .in-enabled in
+    simp (in-enabled .ensures, mask-except .ensures)
 
 pub iso-in-every-spec : {M : Type 1} → statement M
 iso-in-every-spec = tie.close (tie.spec mask-except-requires in-enabled-requires returns)

@@ -14,10 +14,13 @@ walk-requires c κs = search needs
 
 returns : tie.Need-returns
 unfolding walking
-returns c = (
-  λ b. simp (c .walk .ensures .0, c .before .iso-in-every .ensures, c .before .before .before .load-globals .ensures),
-  (c .walk .ensures .1 .0, c .walk .ensures .1 .1),
-)
+returns c =
+    let load-globals = c .before .before .before .load-globals in
+    let iso-in-every = c .before .iso-in-every in
+    let walk = c .walk in (
+      λ b. simp (walk .ensures .0, iso-in-every .ensures, load-globals .ensures),
+      (walk .ensures .1 .0, walk .ensures .1 .1),
+    )
 
 pub begin-spec : {M : Type 1} → statement M
 begin-spec = tie.close (tie.spec load-globals-requires iso-in-every-requires walk-requires returns)

@@ -1,6 +1,5 @@
-use mathlib.Core.Path.{refl, ap, sym, _∙_}
+use mathlib.Core.Path.{ap, _∙_}
 use denote.Ref.{now}
-use Rattle.state.specs.State.{view}
 use Rattle.state.specs.Driver.{Driver}
 use Rattle.script_ops.specs.Concrete.{go}
 use Rattle.isochronous.specs.Points.{walk}
@@ -20,8 +19,8 @@ same-length c = search needs
 returns : tie.Need-returns
 returns c v =
     let a = c .before .before .before .before .before .before .before .before .args in
-    let r = c .before .before .walk-on in
-    let k = c .before .before .before .before .before .wake in (
+    let k = c .before .before .before .before .before .wake in
+    let r = c .before .before .walk-on in (
       r .ensures .0 ∙ ap (λ (d : Driver). go (walk (a .x) (a .iso) (a .m)) d (now (a .buf))) (k .ensures .0),
       (r .ensures .1 .0 ∙ k .ensures .1, r .ensures .1 .1),
     )

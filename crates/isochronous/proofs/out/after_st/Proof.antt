@@ -1,4 +1,4 @@
-use mathlib.Core.Path.{refl, ap, sym, _∙_}
+use mathlib.Core.Path.{sym, _∙_}
 use denote.Ref.{now}
 use Rattle.state.specs.State.{view}
 use Rattle.isochronous.specs.OutLaws.{status-out, status-marked}
@@ -21,10 +21,12 @@ same-length c = search needs
 returns : tie.Need-returns
 returns c =
     let a = c .before .before .before .before .before .before .before .before .before .args in
+    let byte = c .before .before .before .before .before .before .before .byte in
+    let arriving = c .before .before .before .before .before .before .arriving in
+    let if1 = c .before .before .before .before .before .if1 in
     let r = c .before .before .walk-on in (
       r .ensures .0 ∙ sym (status-out (a .x) (a .iso) (a .e) (a .m) (a .v) (view (now (a .s)), now (a .buf))
-          (rw (c .before .before .before .before .before .before .before .byte .ensures) at
-          (sym (c .before .before .before .before .before .before .arriving .ensures) ∙ c .before .before .before .before .before .if1 .taken))),
+          (rw (byte .ensures) at (sym (arriving .ensures) ∙ if1 .taken))),
       (r .ensures .1 .0, r .ensures .1 .1),
     )
 
@@ -40,14 +42,17 @@ same-length-2 c = search needs
 returns-2 : tie.Need-returns-2
 returns-2 c =
     let a = c .before .before .before .before .before .before .before .before .before .before .before .before .args in
-    let r = c .before .before .arm .ensures (a .x) (a .iso) in (
+    let byte = c .before .before .before .before .before .before .before .before .before .before .byte in
+    let arriving = c .before .before .before .before .before .before .before .before .before .arriving in
+    let if1 = c .before .before .before .before .before .before .before .before .if1 in
+    let marked = c .before .before .before .before .before .marked in
+    let arm = c .before .before .arm in
+    let r = arm .ensures (a .x) (a .iso) in (
       r .0 ∙ sym (status-marked (a .x) (a .iso) (a .e) (a .m) (a .v) _ (view (now (a .s)), now (a .buf))
-          (rw (c .before .before .before .before .before .before .before .before .before .before .byte .ensures) at
-          (sym (c .before .before .before .before .before .before .before .before .before .arriving .ensures)
-          ∙ c .before .before .before .before .before .before .before .before .if1 .left))
-          (c .before .before .before .before .before .marked .ensures)),
+          (rw (byte .ensures) at (sym (arriving .ensures) ∙ if1 .left)) (marked .ensures)),
       (r .1 .0, r .1 .1),
     )
 
 pub after-st-spec : {M : Type 1} → statement M
-after-st-spec = tie.close (tie.spec byte-requires arriving-requires walk-on-requires same-length returns marked-requires arm-requires same-length-2 returns-2)
+after-st-spec = tie.close (tie.spec byte-requires arriving-requires walk-on-requires same-length returns marked-requires
+    arm-requires same-length-2 returns-2)

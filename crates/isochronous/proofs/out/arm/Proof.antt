@@ -10,14 +10,15 @@ same-length : tie.Need-same-length
 same-length c = search needs
 
 returns : tie.Need-returns
-returns c x iso = (
-  simp (
-    c .before .before .arrive .ensures .0,
-    c .before .before .arrive .ensures .1 .0,
-    c .before .before .arrive .ensures .1 .1 .0,
-  ),
-  (c .before .before .arrive .ensures .1 .1 .1, refl),
-)
+returns c x iso =
+    let arrive = c .before .before .arrive in (
+      simp (
+        arrive .ensures .0,
+        arrive .ensures .1 .0,
+        arrive .ensures .1 .1 .0,
+      ),
+      (arrive .ensures .1 .1 .1, refl),
+    )
 
 pub arm-spec : {M : Type 1} → statement M
 arm-spec = tie.close (tie.spec arrive-requires same-length returns)

@@ -24,14 +24,19 @@ same-length c = search needs
 returns : tie.Need-returns
 unfolding isoOuts
 returns c =
-    let walked = c .before .before .walk-on .ensures in
-    let enabled = c .before .before .before .before .before .out-enabled in
-    let loaded = c .before .before .before .before .before .before .load-globals in
-    let a = c .before .before .before .before .before .before .before .before .before .args in (
+    let start = c .before .before .before .before .before .before .before .before .before in
+    let load-globals = c .before .before .before .before .before .before .load-globals in
+    let out-enabled = c .before .before .before .before .before .out-enabled in
+    let walk-on = c .before .before .walk-on in
+    let walked = walk-on .ensures in
+    let enabled = out-enabled in
+    let loaded = load-globals in
+    let a = start .args in (
       walked .0 ∙ begun (a .x) (a .iso) _ (view (now (a .s))) (now (a .buf))
           (enabled .ensures ∙ ap (λ (g : Globals). outEnabled (g .«ep_config») (g .«iso_out_eps»)) (loaded .ensures)),
       walked .1,
     )
 
 pub iso-out-check-spec : {M : Type 1} → statement M
-iso-out-check-spec = tie.close (tie.spec load-globals-requires out-enabled-requires walk-on-requires same-length returns)
+iso-out-check-spec = tie.close (tie.spec load-globals-requires out-enabled-requires walk-on-requires same-length
+    returns)

@@ -1,4 +1,4 @@
-use mathlib.Core.Path.{refl, ap, sym, _∙_}
+use mathlib.Core.Path.{refl, ap, _∙_}
 use denote.Ref.{now}
 use Rattle.state.specs.State.{view}
 use Rattle.regs.specs.declared.Dir.the-variants.{In}
@@ -14,9 +14,11 @@ refusal-requires : tie.Need-refusal-requires
 refusal-requires c κs = search needs
 
 low-requires : tie.Need-low-requires
-low-requires c κs = passed-number (view (now (c .before .before .before .before .before .before .before .args .s))) In
-    (c .before .before .before .before .before .before .before .args .e) _
-    (c .before .before .before .refusal .ensures) (c .before .before .if1 .taken)
+low-requires c κs =
+    let start = c .before .before .before .before .before .before .before in
+    let refusal = c .before .before .before .refusal in
+    let if1 = c .before .before .if1 in
+    passed-number (view (now (start .args .s))) In (start .args .e) _ (refusal .ensures) (if1 .taken)
 
 queue-at-requires : tie.Need-queue-at-requires
 queue-at-requires c κs = search needs
@@ -27,19 +29,25 @@ same-length c = search needs
 returns : tie.Need-returns
 returns c =
     let a = c .before .before .before .before .before .before .before .before .before .before .before .args in
+    let refusal = c .before .before .before .before .before .before .before .refusal in
+    let if1 = c .before .before .before .before .before .before .if1 in
     let l = c .before .before .before .low in
     let r = c .before .before .queue-at in (
       r .ensures .0 ∙ (ap (λ (n : ℕ). go (queueing n (now (a .bytes))) (view (now (a .s))) (now (a .buf))) (l .ensures)
           ∙ passed In (a .e) _ (queueing (a .e) (now (a .bytes))) (view (now (a .s)))
-          (now (a .buf)) (c .before .before .before .before .before .before .before .refusal .ensures)
-          (c .before .before .before .before .before .before .if1 .taken)),
+          (now (a .buf)) (refusal .ensures) (if1 .taken)),
       r .ensures .1,
     )
 
 returns-2 : tie.Need-returns-2
 returns-2 c =
     let a = c .before .before .before .before .before .args in
-    (refused In (a .e) _ (queueing (a .e) (now (a .bytes))) (view (now (a .s))) (now (a .buf)) (c .before .refusal .ensures) (c .if1 .left), refl)
+    let refusal = c .before .refusal in
+    let if1 = c .if1 in (
+      refused In (a .e) _ (queueing (a .e) (now (a .bytes))) (view (now (a .s))) (now (a .buf)) (refusal .ensures)
+          (if1 .left),
+      refl,
+    )
 
 pub iso-in-prime-spec : {M : Type 1} → statement M
 iso-in-prime-spec = tie.close (tie.spec refusal-requires low-requires queue-at-requires same-length returns returns-2)

@@ -30,13 +30,17 @@ cast-if2 c = search needs
 
 returns : tie.Need-returns
 returns c =
-    let a = c .before .before .before .before .before .before .before .before .before .before .args in (
+    let a = c .before .before .before .before .before .before .before .before .before .before .args in
+    let load-globals = c .before .before .before .before .before .before .load-globals in
+    let is-on = c .before .before .before .before .before .is-on in
+    let if1 = c .before .before .before .before .if1 in
+    let load-allocator = c .before .before .load-allocator in
+    let if2 = c .if2 in (
       queue-by (a .e) (now (a .bytes)) (view (now (a .s))) (now (a .buf)) true true _ _
-          (ap (λ (g : Globals). enables.isOn (g .«ep_config») In (a .e))
-          (sym (c .before .before .before .before .before .before .load-globals .ensures))
-          ∙ (sym (c .before .before .before .before .before .is-on .ensures) ∙ c .before .before .before .before .if1 .taken))
-          (ap (λ (x : Allocator). ltb (x .size) (length (now (a .bytes)))) (sym (c .before .before .load-allocator .ensures))
-          ∙ lt-ltb _ _ (c .if2 .taken)) refl refl,
+          (ap (λ (g : Globals). enables.isOn (g .«ep_config») In (a .e)) (sym (load-globals .ensures))
+          ∙ (sym (is-on .ensures) ∙ if1 .taken))
+          (ap (λ (x : Allocator). ltb (x .size) (length (now (a .bytes)))) (sym (load-allocator .ensures))
+          ∙ lt-ltb _ _ (if2 .taken)) refl refl,
       refl,
     )
 
@@ -57,71 +61,94 @@ same-length c = search needs
 
 returns-2 : tie.Need-returns-2
 returns-2 c =
-    let a = c .before .before .before .before .before .before .before .before .before
-    .before .before .before .before .before .before .before .before .before .before .before .before .before .args in
+    let a = c .before .before .before .before .before .before .before .before .before .before .before .before .before
+    .before .before .before .before .before .before .before .before .before .args in
+    let load-globals = c .before .before .before .before .before .before .before .before .before .before .before
+    .before .before .before .before .before .before .before .load-globals in
+    let is-on = c .before .before .before .before .before .before .before .before .before .before .before .before
+    .before .before .before .before .before .is-on in
+    let if1 = c .before .before .before .before .before .before .before .before .before .before .before .before
+    .before .before .before .before .if1 in
+    let load-allocator = c .before .before .before .before .before .before .before .before .before .before .before
+    .before .before .before .load-allocator in
+    let if2 = c .before .before .before .before .before .before .before .before .before .before .before .before .if2 in
+    let load-ep = c .before .before .before .before .before .before .before .before .before .before .load-ep in
+    let is-on2 = c .before .before .before .before .before .before .before .before .before .is-on2 in
+    let if3 = c .before .before .before .before .before .before .before .before .if3 in
+    let room = c .before .before .before .before .before .before .room in
+    let if4 = c .before .before .before .before .before .if4 in
     let q = c .before .before .iso-in-enqueue in (
       queue-ok (a .e) (now (a .bytes)) (view (now (a .s))) _ (now (a .buf)) _
-          (ap (λ (g : Globals). enables.isOn (g .«ep_config») In (a .e)) (sym
-          (c .before .before .before .before .before .before .before .before .before .before .before .before .before .before .before .before .before .before
-          .load-globals .ensures))
-          ∙ (sym (c .before .before .before .before .before .before .before .before .before .before .before .before .before .before .before .before .before
-          .is-on .ensures)
-          ∙ c .before .before .before .before .before .before .before .before .before .before .before .before .before .before .before .before .if1 .taken))
-          (ap (λ (x : Allocator). ltb (x .size) (length (now (a .bytes))))
-          (sym (c .before .before .before .before .before .before .before .before .before .before .before .before .before .before .load-allocator .ensures))
-          ∙ le-ltb _ _ (c .before .before .before .before .before .before .before .before .before .before .before .before .if2 .left))
-          (ap (λ (r : EpState). isOn (r .iso))
-          (sym (c .before .before .before .before .before .before .before .before .before .before .load-ep .ensures))
-          ∙ (sym (c .before .before .before .before .before .before .before .before .before .is-on2 .ensures)
-          ∙ c .before .before .before .before .before .before .before .before .if3 .taken))
-          (sym (c .before .before .before .before .before .before .room .ensures)
-          ∙ c .before .before .before .before .before .if4 .taken) (q .ensures .0) (q .ensures .1 .0),
+          (ap (λ (g : Globals). enables.isOn (g .«ep_config») In (a .e)) (sym (load-globals .ensures))
+          ∙ (sym (is-on .ensures) ∙ if1 .taken))
+          (ap (λ (x : Allocator). ltb (x .size) (length (now (a .bytes)))) (sym (load-allocator .ensures))
+          ∙ le-ltb _ _ (if2 .left)) (ap (λ (r : EpState). isOn (r .iso)) (sym (load-ep .ensures))
+          ∙ (sym (is-on2 .ensures) ∙ if3 .taken)) (sym (room .ensures)
+          ∙ if4 .taken) (q .ensures .0) (q .ensures .1 .0),
       q .ensures .1 .1,
     )
 
 returns-3 : tie.Need-returns-3
 returns-3 c =
-    let a = c .before .before .before .before .before .before .before .before .before .before .before .before .before .before .before .before .before .args in (
+    let a = c .before .before .before .before .before .before .before .before .before .before .before .before .before
+    .before .before .before .before .args in
+    let load-globals = c .before .before .before .before .before .before .before .before .before .before .before
+    .before .before .load-globals in
+    let is-on = c .before .before .before .before .before .before .before .before .before .before .before .before
+    .is-on in
+    let if1 = c .before .before .before .before .before .before .before .before .before .before .before .if1 in
+    let load-allocator = c .before .before .before .before .before .before .before .before .before .load-allocator in
+    let if2 = c .before .before .before .before .before .before .before .if2 in
+    let load-ep = c .before .before .before .before .before .load-ep in
+    let is-on2 = c .before .before .before .before .is-on2 in
+    let if3 = c .before .before .before .if3 in
+    let room = c .before .room in
+    let if4 = c .if4 in (
       queue-by (a .e) (now (a .bytes)) (view (now (a .s))) (now (a .buf)) true false true false
-          (ap (λ (g : Globals). enables.isOn (g .«ep_config») In (a .e))
-          (sym (c .before .before .before .before .before .before .before .before .before .before .before .before .before .load-globals .ensures))
-          ∙ (sym (c .before .before .before .before .before .before .before .before .before .before .before .before .is-on .ensures)
-          ∙ c .before .before .before .before .before .before .before .before .before .before .before .if1 .taken))
-          (ap (λ (x : Allocator). ltb (x .size) (length (now (a .bytes))))
-          (sym (c .before .before .before .before .before .before .before .before .before .load-allocator .ensures))
-          ∙ le-ltb _ _ (c .before .before .before .before .before .before .before .if2 .left))
-          (ap (λ (r : EpState). isOn (r .iso)) (sym (c .before .before .before .before .before .load-ep .ensures))
-          ∙ (sym (c .before .before .before .before .is-on2 .ensures) ∙ c .before .before .before .if3 .taken))
-          (sym (c .before .room .ensures) ∙ c .if4 .left),
+          (ap (λ (g : Globals). enables.isOn (g .«ep_config») In (a .e)) (sym (load-globals .ensures))
+          ∙ (sym (is-on .ensures) ∙ if1 .taken))
+          (ap (λ (x : Allocator). ltb (x .size) (length (now (a .bytes)))) (sym (load-allocator .ensures))
+          ∙ le-ltb _ _ (if2 .left)) (ap (λ (r : EpState). isOn (r .iso)) (sym (load-ep .ensures))
+          ∙ (sym (is-on2 .ensures) ∙ if3 .taken)) (sym (room .ensures) ∙ if4 .left),
       refl,
     )
 
 returns-4 : tie.Need-returns-4
 returns-4 c =
-    let a = c .before .before .before .before .before .before .before .before .before .before .before .before .before .before .args in (
+    let a = c .before .before .before .before .before .before .before .before .before .before .before .before .before
+    .before .args in
+    let load-globals
+    = c .before .before .before .before .before .before .before .before .before .before .load-globals in
+    let is-on = c .before .before .before .before .before .before .before .before .before .is-on in
+    let if1 = c .before .before .before .before .before .before .before .before .if1 in
+    let load-allocator = c .before .before .before .before .before .before .load-allocator in
+    let if2 = c .before .before .before .before .if2 in
+    let load-ep = c .before .before .load-ep in
+    let is-on2 = c .before .is-on2 in
+    let if3 = c .if3 in (
       queue-by (a .e) (now (a .bytes)) (view (now (a .s))) (now (a .buf)) true false false _
-          (ap (λ (g : Globals). enables.isOn (g .«ep_config») In (a .e))
-          (sym (c .before .before .before .before .before .before .before .before .before .before .load-globals .ensures))
-          ∙ (sym (c .before .before .before .before .before .before .before .before .before .is-on .ensures)
-          ∙ c .before .before .before .before .before .before .before .before .if1 .taken))
-          (ap (λ (x : Allocator). ltb (x .size) (length (now (a .bytes))))
-          (sym (c .before .before .before .before .before .before .load-allocator .ensures))
-          ∙ le-ltb _ _ (c .before .before .before .before .if2 .left))
-          (ap (λ (r : EpState). isOn (r .iso)) (sym (c .before .before .load-ep .ensures))
-          ∙ (sym (c .before .is-on2 .ensures) ∙ c .if3 .left)) refl,
+          (ap (λ (g : Globals). enables.isOn (g .«ep_config») In (a .e)) (sym (load-globals .ensures))
+          ∙ (sym (is-on .ensures) ∙ if1 .taken))
+          (ap (λ (x : Allocator). ltb (x .size) (length (now (a .bytes)))) (sym (load-allocator .ensures))
+          ∙ le-ltb _ _ (if2 .left)) (ap (λ (r : EpState). isOn (r .iso)) (sym (load-ep .ensures))
+          ∙ (sym (is-on2 .ensures) ∙ if3 .left)) refl,
       refl,
     )
 
 returns-5 : tie.Need-returns-5
 returns-5 c =
-    let a = c .before .before .before .before .before .before .args in (
+    let a = c .before .before .before .before .before .before .args in
+    let load-globals = c .before .before .load-globals in
+    let is-on = c .before .is-on in
+    let if1 = c .if1 in (
       queue-by (a .e) (now (a .bytes)) (view (now (a .s))) (now (a .buf)) false _ _ _
-          (ap (λ (g : Globals). enables.isOn (g .«ep_config») In (a .e)) (sym (c .before .before .load-globals .ensures))
-          ∙ (sym (c .before .is-on .ensures) ∙ c .if1 .left)) refl refl refl,
+          (ap (λ (g : Globals). enables.isOn (g .«ep_config») In (a .e)) (sym (load-globals .ensures))
+          ∙ (sym (is-on .ensures) ∙ if1 .left)) refl refl refl,
       refl,
     )
 
 pub queue-at-spec : {M : Type 1} → statement M
 queue-at-spec =
-    tie.close (tie.spec load-globals-requires is-on-requires load-allocator-requires cast-if2 returns load-ep-requires is-on-requires-2 room-requires
+    tie.close (tie.spec load-globals-requires is-on-requires load-allocator-requires cast-if2 returns load-ep-requires
+    is-on-requires-2 room-requires
     iso-in-enqueue-requires same-length returns-2 returns-3 returns-4 returns-5)

@@ -15,29 +15,37 @@ walk-requires c κs = search needs
 
 returns : tie.Need-returns
 unfolding walking
-returns c = (
-  λ b. simp (
-    c .walk .ensures .0,
-    ← c .before .before .before .before .byte .ensures,
-    ← c .before .before .before .leaving .ensures,
-    c .before .before .if1 .taken,
-  ),
-  (refl, c .walk .ensures .1),
-)
+returns c =
+    let byte = c .before .before .before .before .byte in
+    let leaving = c .before .before .before .leaving in
+    let if1 = c .before .before .if1 in
+    let walk = c .walk in (
+      λ b. simp (
+        walk .ensures .0,
+        ← byte .ensures,
+        ← leaving .ensures,
+        if1 .taken,
+      ),
+      (refl, walk .ensures .1),
+    )
 
 unseen-requires : tie.Need-unseen-requires
 unseen-requires c κs = search needs
 
 returns-2 : tie.Need-returns-2
-returns-2 c = (
-  λ b. simp (
-    c .unseen .ensures .0,
-    ← c .before .before .before .before .byte .ensures,
-    ← c .before .before .before .leaving .ensures,
-    c .before .before .if1 .left,
-  ),
-  (c .unseen .ensures .1 .0, c .unseen .ensures .1 .1),
-)
+returns-2 c =
+    let byte = c .before .before .before .before .byte in
+    let leaving = c .before .before .before .leaving in
+    let if1 = c .before .before .if1 in
+    let unseen = c .unseen in (
+      λ b. simp (
+        unseen .ensures .0,
+        ← byte .ensures,
+        ← leaving .ensures,
+        if1 .left,
+      ),
+      (unseen .ensures .1 .0, unseen .ensures .1 .1),
+    )
 
 pub after-st-spec : {M : Type 1} → statement M
 after-st-spec = tie.close (tie.spec byte-requires leaving-requires walk-requires returns unseen-requires returns-2)

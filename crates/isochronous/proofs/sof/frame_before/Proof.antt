@@ -12,7 +12,11 @@ frame-of-index-requires : tie.Need-frame-of-index-requires
 frame-of-index-requires c κs = search needs
 
 returns : tie.Need-returns
-returns c = simp (c .frame-of-index .ensures, c .before .previous .ensures, c .before .before .microframe-index .ensures)
+returns c =
+    let microframe-index = c .before .before .microframe-index in
+    let previous = c .before .previous in
+    let frame-of-index = c .frame-of-index in
+    simp (frame-of-index .ensures, previous .ensures, microframe-index .ensures)
 
 pub frame-before-spec : {M : Type 1} → statement M
 frame-before-spec = tie.close (tie.spec microframe-index-requires previous-requires frame-of-index-requires returns)

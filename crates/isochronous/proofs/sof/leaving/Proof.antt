@@ -11,11 +11,18 @@ endpoint-requires c κs = search needs
 
 returns : tie.Need-returns
 unfolding leaving
-returns c = simp (c .endpoint .ensures, ← c .before .before .is-in .ensures, c .before .if1 .taken)
+returns c =
+    let is-in = c .before .before .is-in in
+    let if1 = c .before .if1 in
+    let endpoint = c .endpoint in
+    simp (endpoint .ensures, ← is-in .ensures, if1 .taken)
 
 returns-2 : tie.Need-returns-2
 unfolding leaving
-returns-2 c = simp (← c .before .is-in .ensures, c .if1 .left)
+returns-2 c =
+    let is-in = c .before .is-in in
+    let if1 = c .if1 in
+    simp (← is-in .ensures, if1 .left)
 
 pub leaving-spec : {M : Type 1} → statement M
 leaving-spec = tie.close (tie.spec is-in-requires endpoint-requires returns returns-2)

@@ -17,12 +17,17 @@ walk-requires : tie.Need-walk-requires
 walk-requires c κs = search needs
 
 returns : tie.Need-returns
-returns c = (
-  λ b. c .walk .ensures .0 b ∙ sof-entered (c .before .before .before .before .before .before .before .args .frame) _ _ _
-      (c .before .before .before .before .before .load-globals .result) b (c .before .before .before .before .before .load-globals .ensures)
-      (c .before .before .before .store-globals .ensures .0) (c .before .iso-in-every .ensures),
-  (c .before .before .before .store-globals .ensures .1, c .walk .ensures .1),
-)
+returns c =
+    let start = c .before .before .before .before .before .before .before in
+    let load-globals = c .before .before .before .before .before .load-globals in
+    let store-globals = c .before .before .before .store-globals in
+    let iso-in-every = c .before .iso-in-every in
+    let walk = c .walk in (
+      λ b. walk .ensures .0 b ∙ sof-entered (start .args .frame) _ _ _
+          (load-globals .result) b (load-globals .ensures) (store-globals .ensures .0) (iso-in-every .ensures),
+      (store-globals .ensures .1, walk .ensures .1),
+    )
 
 pub on-sof-spec : {M : Type 1} → statement M
-on-sof-spec = tie.close (tie.spec load-globals-requires store-globals-requires iso-in-every-requires walk-requires returns)
+on-sof-spec = tie.close (tie.spec load-globals-requires store-globals-requires iso-in-every-requires walk-requires
+    returns)

@@ -20,9 +20,12 @@ stop-requires c κs = search needs
 returns : tie.Need-returns
 returns c =
     let a = c .before .before .before .before .before .args in
-    leads-end (λ b. completing (a .e) (a .left) (a .frame) (view (now (a .s)), b)) (c .stop .ensures)
-    (λ b. ap (λ (d : Driver). ends 0 (d, b)) (c .before .before .store-paced .ensures .0)
-    ∙ sym (paced-none _ _ _ _ b (c .before .before .before .before .if1 .taken)))
+    let if1 = c .before .before .before .before .if1 in
+    let store-paced = c .before .before .store-paced in
+    let stop = c .stop in
+    leads-end (λ b. completing (a .e) (a .left) (a .frame) (view (now (a .s)), b)) (stop .ensures)
+    (λ b. ap (λ (d : Driver). ends 0 (d, b)) (store-paced .ensures .0)
+    ∙ sym (paced-none _ _ _ _ b (if1 .taken)))
 
 sub-more : tie.Need-sub-more
 sub-more c = search needs
@@ -44,19 +47,24 @@ stand-loaded-requires c κs = search needs
 
 returns-2 : tie.Need-returns-2
 returns-2 c =
-    let begun = c .before .before .before .before .before in
-    leads-to advance _ (c .stand-sent .ensures) (begun .start .ensures .1 .1)
-    (λ b. paced-begun _ _ _ (begun .start .result) _ _ _ b (begun .before .before .if1 .left) (c .before .before .before .p .given .1)
-    (begun .start .ensures .0 b))
+    let at-start = c .before .before .before .before .before in
+    let p = c .before .before .before .p in
+    let stand-sent = c .stand-sent in
+    leads-to advance _ (stand-sent .ensures) (at-start .start .ensures .1 .1)
+    (λ b. paced-begun _ _ _ (at-start .start .result) _ _ _ b (at-start .before .before .if1 .left) (p .given .1)
+    (at-start .start .ensures .0 b))
 
 returns-3 : tie.Need-returns-3
 returns-3 c =
-    let begun = c .before .before .before .before .before in
-    leads-to advance _ (c .stand-loaded .ensures) (begun .start .ensures .1 .1)
-    (λ b. paced-begun _ _ _ (begun .start .result) _ _ _ b (begun .before .before .if1 .left) (c .before .before .before .p2 .given .1)
-    (begun .start .ensures .0 b))
+    let at-start = c .before .before .before .before .before in
+    let p2 = c .before .before .before .p2 in
+    let stand-loaded = c .stand-loaded in
+    leads-to advance _ (stand-loaded .ensures) (at-start .start .ensures .1 .1)
+    (λ b. paced-begun _ _ _ (at-start .start .result) _ _ _ b (at-start .before .before .if1 .left) (p2 .given .1)
+    (at-start .start .ensures .0 b))
 
 pub iso-in-advance-resume-spec : {M : Type 1} → statement M
 iso-in-advance-resume-spec =
-    tie.close (tie.spec store-paced-requires stop-requires returns sub-more start-requires enum-known-p stand-sent-requires enum-known-p-2
+    tie.close (tie.spec store-paced-requires stop-requires returns sub-more start-requires enum-known-p
+    stand-sent-requires enum-known-p-2
     stand-loaded-requires returns-2 returns-3)

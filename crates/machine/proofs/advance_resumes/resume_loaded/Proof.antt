@@ -18,10 +18,13 @@ iso-in-advance-resume-requires c κs = search needs
 
 returns : tie.Need-returns
 returns c =
+    let at-completion-at = c .before .before .before .before in
+    let wake = c .before .before .wake in
     let next = c .iso-in-advance-resume in
-    let loaded = c .before .before .before .before in
-    let here = at-point advance 2 (loaded .before .before .pre) (ap loadedAt (loaded .completion-at .ensures)) in
-    λ v b. follows advance here refl (next .ensures .0 b) (next .ensures .1) (paced-on _ _ _ _ ∙ simp (c .before .before .wake .ensures .0))
+    let here = at-point advance 2 (at-completion-at .before .before .pre)
+    (ap loadedAt (at-completion-at .completion-at .ensures)) in
+    λ v b. follows advance here refl (next .ensures .0 b) (next .ensures .1)
+    (paced-on _ _ _ _ ∙ simp (wake .ensures .0))
 
 pub resume-loaded-spec : {M : Type 1} → statement M
 resume-loaded-spec = tie.close (tie.spec completion-at-requires wake-requires iso-in-advance-resume-requires returns)

@@ -20,9 +20,12 @@ stand-loaded-requires c κs = search needs
 
 returns : tie.Need-returns
 returns c =
-    let loaded = c .before .before .before .before in
-    let here = at-point advance 1 (loaded .before .before .pre) (ap sentAt (loaded .completion-at .ensures)) in
-    λ v b. goes-to advance here refl (c .stand-loaded .ensures) refl (simp (c .before .before .next-len .ensures))
+    let at-completion-at = c .before .before .before .before in
+    let next-len = c .before .before .next-len in
+    let stand-loaded = c .stand-loaded in
+    let here = at-point advance 1 (at-completion-at .before .before .pre)
+    (ap sentAt (at-completion-at .completion-at .ensures)) in
+    λ v b. goes-to advance here refl (stand-loaded .ensures) refl (simp (next-len .ensures))
 
 pub resume-sent-spec : {M : Type 1} → statement M
 resume-sent-spec = tie.close (tie.spec completion-at-requires next-len-requires cast-t9 stand-loaded-requires returns)

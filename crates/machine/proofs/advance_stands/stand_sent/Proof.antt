@@ -13,7 +13,10 @@ stand-requires c κs = search needs
 
 returns : tie.Need-returns
 unfolding encode codec.encode
-returns c = stands-at (c .stand .ensures) (c .before .tagged .ensures)
+returns c =
+    let tagged = c .before .tagged in
+    let stand = c .stand in
+    stands-at (stand .ensures) (tagged .ensures)
 
 pub stand-sent-spec : {M : Type 1} → statement M
 stand-sent-spec = tie.close (tie.spec tagged-requires stand-requires returns)

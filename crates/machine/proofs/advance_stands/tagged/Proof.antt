@@ -8,7 +8,9 @@ code-requires : tie.Need-code-requires
 code-requires c κs = search needs
 
 returns : tie.Need-returns
-returns c = ap (withTag 5) (c .code .ensures)
+returns c =
+    let code = c .code in
+    ap (withTag 5) (code .ensures)
 
 pub tagged-spec : {M : Type 1} → statement M
 tagged-spec = tie.close (tie.spec code-requires returns)

@@ -13,8 +13,11 @@ stand-ep0-out-requires c κs = search needs
 
 returns : tie.Need-returns
 returns c =
+    let start = c .before .before .before in
     let next = c .before .before .after-address in
-    λ v b. goes-to bus (at-point bus 10 (c .before .before .before .pre) refl) refl (c .stand-ep0-out .ensures) (next .ensures .1) (next .ensures .0 v _ b)
+    let stand-ep0-out = c .stand-ep0-out in
+    λ v b. goes-to bus (at-point bus 10 (start .pre) refl) refl (stand-ep0-out .ensures) (next .ensures .1)
+    (next .ensures .0 v _ b)
 
 pub resume-address-spec : {M : Type 1} → statement M
 resume-address-spec = tie.close (tie.spec after-address-requires stand-ep0-out-requires returns)

@@ -13,8 +13,10 @@ stand-untyped-requires c κs = search needs
 
 returns : tie.Need-returns
 returns c =
+    let start = c .before .before .before .before in
     let next = c .before .before .after-disabled in
-    λ v b. goes-to bus (at-point bus 14 (c .before .before .before .before .pre) refl) refl (c .stand-untyped .ensures) (next .ensures .1 .1)
+    let stand-untyped = c .stand-untyped in
+    λ v b. goes-to bus (at-point bus 14 (start .pre) refl) refl (stand-untyped .ensures) (next .ensures .1 .1)
     (next .ensures .0 v b)
 
 pub resume-disabled-spec : {M : Type 1} → statement M

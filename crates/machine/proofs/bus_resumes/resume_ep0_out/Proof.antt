@@ -13,8 +13,11 @@ stand-naked-requires c κs = search needs
 
 returns : tie.Need-returns
 returns c =
+    let start = c .before .before .before in
     let next = c .before .before .after-ep0-out in
-    λ v b. goes-to bus (at-point bus 11 (c .before .before .before .pre) refl) refl (c .stand-naked .ensures) (next .ensures .1) (next .ensures .0 v _ b)
+    let stand-naked = c .stand-naked in
+    λ v b. goes-to bus (at-point bus 11 (start .pre) refl) refl (stand-naked .ensures) (next .ensures .1)
+    (next .ensures .0 v _ b)
 
 pub resume-ep0-out-spec : {M : Type 1} → statement M
 resume-ep0-out-spec = tie.close (tie.spec after-ep0-out-requires stand-naked-requires returns)

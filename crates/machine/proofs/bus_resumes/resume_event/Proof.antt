@@ -17,8 +17,10 @@ stop-requires c κs = search needs
 
 returns : tie.Need-returns
 returns c =
-    λ v b. comes-to bus (at-point bus 1 (c .before .before .before .before .pre) (ap point.Event (c .before .before .st-byte .ensures))) refl (c .stop .ensures)
-    refl
+    let start = c .before .before .before .before in
+    let st-byte = c .before .before .st-byte in
+    let stop = c .stop in
+    λ v b. comes-to bus (at-point bus 1 (start .pre) (ap point.Event (st-byte .ensures))) refl (stop .ensures) refl
 
 pub resume-event-spec : {M : Type 1} → statement M
 resume-event-spec = tie.close (tie.spec st-byte-requires cast-stop stop-requires returns)

@@ -17,9 +17,12 @@ stand-naked-requires c κs = search needs
 
 returns : tie.Need-returns
 returns c =
+    let start = c .before .before .before .before .before in
+    let ep-byte = c .before .before .before .ep-byte in
     let next = c .before .before .after-nak-in in
-    λ v b. goes-to bus (at-point bus 12 (c .before .before .before .before .before .pre) (ap point.NakIn (c .before .before .before .ep-byte .ensures))) refl
-    (c .stand-naked .ensures) (next .ensures .1) (next .ensures .0 v _ b)
+    let stand-naked = c .stand-naked in
+    λ v b. goes-to bus (at-point bus 12 (start .pre) (ap point.NakIn (ep-byte .ensures))) refl
+    (stand-naked .ensures) (next .ensures .1) (next .ensures .0 v _ b)
 
 pub resume-nak-in-spec : {M : Type 1} → statement M
 resume-nak-in-spec = tie.close (tie.spec ep-byte-requires after-nak-in-requires stand-naked-requires returns)

@@ -10,7 +10,9 @@ ep-byte-requires : tie.Need-ep-byte-requires
 ep-byte-requires c κs = search needs
 
 after-naked-requires : tie.Need-after-naked-requires
-after-naked-requires c κs = c .if1 .taken
+after-naked-requires c κs =
+    let if1 = c .if1 in
+    if1 .taken
 
 add-stand-nak-in : tie.Need-add-stand-nak-in
 add-stand-nak-in c = search needs
@@ -20,10 +22,12 @@ stand-nak-in-requires c κs = search needs
 
 returns : tie.Need-returns
 returns c =
+    let start = c .before .before .before .before .before .before in
+    let ep-byte = c .before .before .before .before .ep-byte in
     let next = c .before .before .after-naked in
-    λ v b. goes-to bus
-    (at-point bus 13 (c .before .before .before .before .before .before .pre) (ap point.Naked (c .before .before .before .before .ep-byte .ensures))) refl
-    (c .stand-nak-in .ensures) (next .ensures .1) (next .ensures .0 _ b)
+    let stand-nak-in = c .stand-nak-in in
+    λ v b. goes-to bus (at-point bus 13 (start .pre) (ap point.Naked (ep-byte .ensures))) refl
+    (stand-nak-in .ensures) (next .ensures .1) (next .ensures .0 _ b)
 
 after-last-requires : tie.Need-after-last-requires
 after-last-requires c κs = search needs
@@ -33,12 +37,17 @@ stand-disabled-requires c κs = search needs
 
 returns-2 : tie.Need-returns-2
 returns-2 c =
+    let start = c .before .before .before .before .before .before .before in
+    let ep-byte = c .before .before .before .before .before .ep-byte in
+    let if1 = c .before .before .before .before .if1 in
     let next = c .before .before .after-last in
-    λ v b. goes-to bus (at-point bus 13 (c .before .before .before .before .before .before .before .pre)
-    (ap point.Naked (c .before .before .before .before .before .ep-byte .ensures))) refl (c .stand-disabled .ensures) (next .ensures .1 .1)
-    (next .ensures .0 _ (c .before .before .before .before .if1 .left) b)
+    let stand-disabled = c .stand-disabled in
+    λ v b. goes-to bus (at-point bus 13 (start .pre)
+    (ap point.Naked (ep-byte .ensures))) refl (stand-disabled .ensures) (next .ensures .1 .1)
+    (next .ensures .0 _ (if1 .left) b)
 
 pub resume-naked-spec : {M : Type 1} → statement M
 resume-naked-spec =
-    tie.close (tie.spec ep-byte-requires after-naked-requires add-stand-nak-in stand-nak-in-requires returns after-last-requires
+    tie.close (tie.spec ep-byte-requires after-naked-requires add-stand-nak-in stand-nak-in-requires returns
+    after-last-requires
     stand-disabled-requires returns-2)

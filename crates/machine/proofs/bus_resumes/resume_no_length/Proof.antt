@@ -24,11 +24,16 @@ stand-words-requires c κs = search needs
 
 returns : tie.Need-returns
 returns c =
+    let start = c .before .before .before .before .before .before .before .before .before in
+    let ep-byte = c .before .before .before .before .before .before .before .ep-byte in
+    let iso-at = c .before .before .before .before .before .iso-at in
+    let on-at = c .before .before .before .on-at in
     let next = c .before .before .after-no-length in
-    let here = at-point bus 20 (c .before .before .before .before .before .before .before .before .before .pre) (parts3 point.NoLength
-    (c .before .before .before .before .before .before .before .ep-byte .ensures) (c .before .before .before .before .before .iso-at .ensures)
-    (c .before .before .before .on-at .ensures)) in
-    λ v b. goes-to bus here refl (c .stand-words .ensures) (next .ensures .1) (next .ensures .0 _ b)
+    let stand-words = c .stand-words in
+    let here = at-point bus 20 (start .pre) (parts3 point.NoLength (ep-byte .ensures) (iso-at .ensures)
+    (on-at .ensures)) in
+    λ v b. goes-to bus here refl (stand-words .ensures) (next .ensures .1) (next .ensures .0 _ b)
 
 pub resume-no-length-spec : {M : Type 1} → statement M
-resume-no-length-spec = tie.close (tie.spec ep-byte-requires iso-at-requires on-at-requires after-no-length-requires stand-words-requires returns)
+resume-no-length-spec = tie.close (tie.spec ep-byte-requires iso-at-requires on-at-requires after-no-length-requires
+    stand-words-requires returns)

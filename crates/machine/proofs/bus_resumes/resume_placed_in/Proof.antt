@@ -25,11 +25,16 @@ stand-no-length-requires c κs = search needs
 
 returns : tie.Need-returns
 returns c =
+    let start = c .before .before .before .before .before .before .before .before .before in
+    let ep-byte = c .before .before .before .before .before .before .before .ep-byte in
+    let iso-at = c .before .before .before .before .before .iso-at in
+    let on-at = c .before .before .before .on-at in
     let next = c .before .before .after-placed-in in
-    let here = at-point bus 19 (c .before .before .before .before .before .before .before .before .before .pre) (parts3 point.PlacedIn
-    (c .before .before .before .before .before .before .before .ep-byte .ensures) (c .before .before .before .before .before .iso-at .ensures)
-    (c .before .before .before .on-at .ensures)) in
-    λ v b. goes-to bus here refl (c .stand-no-length .ensures) (next .ensures .1 true true) (next .ensures .0 _ _ v _ b)
+    let stand-no-length = c .stand-no-length in
+    let here = at-point bus 19 (start .pre) (parts3 point.PlacedIn (ep-byte .ensures) (iso-at .ensures)
+    (on-at .ensures)) in
+    λ v b. goes-to bus here refl (stand-no-length .ensures) (next .ensures .1 true true) (next .ensures .0 _ _ v _ b)
 
 pub resume-placed-in-spec : {M : Type 1} → statement M
-resume-placed-in-spec = tie.close (tie.spec ep-byte-requires iso-at-requires on-at-requires after-placed-in-requires stand-no-length-requires returns)
+resume-placed-in-spec = tie.close (tie.spec ep-byte-requires iso-at-requires on-at-requires after-placed-in-requires
+    stand-no-length-requires returns)

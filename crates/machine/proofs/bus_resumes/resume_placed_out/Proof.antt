@@ -21,10 +21,14 @@ stand-words-requires c κs = search needs
 
 returns : tie.Need-returns
 returns c =
+    let start = c .before .before .before .before .before .before .before in
+    let ep-byte = c .before .before .before .before .before .ep-byte in
+    let on-at = c .before .before .before .on-at in
     let next = c .before .before .after-placed-out in
-    let here = at-point bus 18 (c .before .before .before .before .before .before .before .pre)
-    (parts2 point.PlacedOut (c .before .before .before .before .before .ep-byte .ensures) (c .before .before .before .on-at .ensures)) in
-    λ v b. goes-to bus here refl (c .stand-words .ensures) (next .ensures .1) (next .ensures .0 v _ b)
+    let stand-words = c .stand-words in
+    let here = at-point bus 18 (start .pre) (parts2 point.PlacedOut (ep-byte .ensures) (on-at .ensures)) in
+    λ v b. goes-to bus here refl (stand-words .ensures) (next .ensures .1) (next .ensures .0 v _ b)
 
 pub resume-placed-out-spec : {M : Type 1} → statement M
-resume-placed-out-spec = tie.close (tie.spec ep-byte-requires on-at-requires after-placed-out-requires stand-words-requires returns)
+resume-placed-out-spec = tie.close (tie.spec ep-byte-requires on-at-requires after-placed-out-requires
+    stand-words-requires returns)

@@ -13,8 +13,10 @@ stand-event-requires c κs = search needs
 
 returns : tie.Need-returns
 returns c =
+    let start = c .before .before .before .before in
     let next = c .before .before .after-reset in
-    λ v b. goes-to bus (at-point bus 17 (c .before .before .before .before .pre) refl) refl (c .stand-event .ensures) (next .ensures .1 .1)
+    let stand-event = c .stand-event in
+    λ v b. goes-to bus (at-point bus 17 (start .pre) refl) refl (stand-event .ensures) (next .ensures .1 .1)
     (next .ensures .0 b)
 
 pub resume-reset-spec : {M : Type 1} → statement M

@@ -21,9 +21,14 @@ stop-requires c κs = search needs
 
 returns : tie.Need-returns
 returns c =
-    let here = at-point bus 5 (c .before .before .before .before .before .before .before .before .pre) (parts2 point.Restarted
-    (c .before .before .before .before .before .before .ep-byte .ensures) (c .before .before .before .before .iso-at .ensures)) in
-    λ v b. comes-to bus here refl (c .stop .ensures) (c .before .before .after-restart .ensures .0 b)
+    let start = c .before .before .before .before .before .before .before .before in
+    let ep-byte = c .before .before .before .before .before .before .ep-byte in
+    let iso-at = c .before .before .before .before .iso-at in
+    let after-restart = c .before .before .after-restart in
+    let stop = c .stop in
+    let here = at-point bus 5 (start .pre) (parts2 point.Restarted (ep-byte .ensures) (iso-at .ensures)) in
+    λ v b. comes-to bus here refl (stop .ensures) (after-restart .ensures .0 b)
 
 pub resume-restarted-spec : {M : Type 1} → statement M
-resume-restarted-spec = tie.close (tie.spec ep-byte-requires iso-at-requires after-restart-requires stop-requires returns)
+resume-restarted-spec = tie.close (tie.spec ep-byte-requires iso-at-requires after-restart-requires stop-requires
+    returns)

@@ -13,8 +13,10 @@ stand-reset-requires c κs = search needs
 
 returns : tie.Need-returns
 returns c =
+    let start = c .before .before .before .before in
     let next = c .before .before .after-single in
-    λ v b. goes-to bus (at-point bus 16 (c .before .before .before .before .pre) refl) refl (c .stand-reset .ensures) (next .ensures .1 .1)
+    let stand-reset = c .stand-reset in
+    λ v b. goes-to bus (at-point bus 16 (start .pre) refl) refl (stand-reset .ensures) (next .ensures .1 .1)
     (next .ensures .0 v b)
 
 pub resume-single-spec : {M : Type 1} → statement M

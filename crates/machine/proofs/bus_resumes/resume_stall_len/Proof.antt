@@ -17,9 +17,12 @@ stand-stall-word-requires c κs = search needs
 
 returns : tie.Need-returns
 returns c =
+    let start = c .before .before .before .before .before in
+    let ep-byte = c .before .before .before .ep-byte in
     let next = c .before .before .after-stall-len in
-    λ v b. goes-to bus (at-point bus 3 (c .before .before .before .before .before .pre) (ap point.StallLen (c .before .before .before .ep-byte .ensures))) refl
-    (c .stand-stall-word .ensures) (next .ensures .1) (next .ensures .0 v _ b)
+    let stand-stall-word = c .stand-stall-word in
+    λ v b. goes-to bus (at-point bus 3 (start .pre) (ap point.StallLen (ep-byte .ensures))) refl
+    (stand-stall-word .ensures) (next .ensures .1) (next .ensures .0 v _ b)
 
 pub resume-stall-len-spec : {M : Type 1} → statement M
 resume-stall-len-spec = tie.close (tie.spec ep-byte-requires after-stall-len-requires stand-stall-word-requires returns)

@@ -18,25 +18,34 @@ ep-byte-requires c κs = search needs
 
 after-stall-word-requires : tie.Need-after-stall-word-requires
 after-stall-word-requires c κs =
-    sym (c .before .before .before .before .before .fits2 .ensures) ∙ c .before .before .before .before .if1 .taken
+    let fits2 = c .before .before .before .before .before .fits2 in
+    let if1 = c .before .before .before .before .if1 in
+    sym (fits2 .ensures) ∙ if1 .taken
 
 stand-woken-requires : tie.Need-stand-woken-requires
 stand-woken-requires c κs = search needs
 
 returns : tie.Need-returns
 returns c =
-    let stood = c .stand-woken in
-    let next = c .before .before .after-stall-word in
-    let the-ep-byte = c .before .before .before .ep-byte in
+    let start = c .before .before .before .before .before .before .before .before .before in
+    let fits2 = c .before .before .before .before .before .before .before .before .fits2 in
+    let if1 = c .before .before .before .before .before .before .before .if1 in
     let the-dir-at = c .before .before .before .before .before .dir-at in
-    let fitted = sym (c .before .before .before .before .before .before .before .before .fits2 .ensures)
-    ∙ c .before .before .before .before .before .before .before .if1 .taken in
-    let here = at-point bus 4 (c .before .before .before .before .before .before .before .before .before .pre)
+    let the-ep-byte = c .before .before .before .ep-byte in
+    let next = c .before .before .after-stall-word in
+    let stood = c .stand-woken in
+    let fitted = sym (fits2 .ensures) ∙ if1 .taken in
+    let here = at-point bus 4 (start .pre)
     (parts2 point.StallWord (the-dir-at .ensures) (the-ep-byte .ensures)) in
     λ b. goes-to bus here fitted (stood .ensures) (next .ensures .1) (next .ensures .0 _ b)
 
 returns-2 : tie.Need-returns-2
-returns-2 c = λ b. stays-at bus (at-point bus 4 (c .before .before .pre) refl) (sym (c .before .fits2 .ensures) ∙ c .if1 .left)
+returns-2 c =
+    let start = c .before .before in
+    let fits2 = c .before .fits2 in
+    let if1 = c .if1 in
+    λ b. stays-at bus (at-point bus 4 (start .pre) refl) (sym (fits2 .ensures) ∙ if1 .left)
 
 pub resume-stall-word-spec : {M : Type 1} → statement M
-resume-stall-word-spec = tie.close (tie.spec fits-requires dir-at-requires ep-byte-requires after-stall-word-requires stand-woken-requires returns returns-2)
+resume-stall-word-spec = tie.close (tie.spec fits-requires dir-at-requires ep-byte-requires after-stall-word-requires
+    stand-woken-requires returns returns-2)

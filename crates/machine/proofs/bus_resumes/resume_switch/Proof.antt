@@ -26,11 +26,16 @@ stop-requires c κs = search needs
 returns : tie.Need-returns
 unfolding switching woken
 returns c =
-    let here = at-point bus 23 (c .before .before .before .before .before .before .before .before .before .before .before .before .pre) (parts3 point.Switch
-    (c .before .before .before .before .before .before .before .before .before .ep-byte .ensures)
-    (c .before .before .before .before .before .before .before .on-at .ensures)
-    (sym (c .before .before .before .before .if1 .taken) ∙ c .before .before .before .before .before .st-byte .ensures)) in
-    λ v. comes-to bus here refl (c .stop .ensures) (simp (c .before .before .wake .ensures .0))
+    let start = c .before .before .before .before .before .before .before .before .before .before .before .before in
+    let ep-byte = c .before .before .before .before .before .before .before .before .before .ep-byte in
+    let on-at = c .before .before .before .before .before .before .before .on-at in
+    let st-byte = c .before .before .before .before .before .st-byte in
+    let if1 = c .before .before .before .before .if1 in
+    let wake = c .before .before .wake in
+    let stop = c .stop in
+    let here = at-point bus 23 (start .pre) (parts3 point.Switch (ep-byte .ensures) (on-at .ensures)
+    (sym (if1 .taken) ∙ st-byte .ensures)) in
+    λ v. comes-to bus here refl (stop .ensures) (simp (wake .ensures .0))
 
 after-switch-requires : tie.Need-after-switch-requires
 after-switch-requires c κs = search needs
@@ -47,16 +52,20 @@ same-length c = search needs
 returns-2 : tie.Need-returns-2
 unfolding switching woken
 returns-2 c =
-    let stood = c .stand-switch in
-    let next = c .before .before .before .before .after-switch in
-    let the-st-byte = c .before .before .before .before .before .before .before .before .st-byte in
+    let start = c .before .before .before .before .before .before .before .before .before .before .before .before
+    .before .before .before in
+    let the-ep-byte = c .before .before .before .before .before .before .before .before .before .before .before
+    .before .ep-byte in
     let the-on-at = c .before .before .before .before .before .before .before .before .before .before .on-at in
-    let the-ep-byte = c .before .before .before .before .before .before .before .before .before .before .before .before .ep-byte in
-    let here = at-point bus 23 (c .before .before .before .before .before .before .before .before .before .before .before .before .before .before .before .pre)
+    let the-st-byte = c .before .before .before .before .before .before .before .before .st-byte in
+    let next = c .before .before .before .before .after-switch in
+    let stood = c .stand-switch in
+    let here = at-point bus 23 (start .pre)
     (parts3 point.Switch (the-ep-byte .ensures) (the-on-at .ensures) (the-st-byte .ensures)) in
     λ v. goes-to bus here refl (stood .ensures) (next .ensures .1 .1) (next .ensures .0)
 
 pub resume-switch-spec : {M : Type 1} → statement M
 resume-switch-spec =
-    tie.close (tie.spec ep-byte-requires on-at-requires st-byte-requires wake-requires stop-requires returns after-switch-requires sub-stand-switch
+    tie.close (tie.spec ep-byte-requires on-at-requires st-byte-requires wake-requires stop-requires returns
+    after-switch-requires sub-stand-switch
     stand-switch-requires same-length returns-2)

@@ -24,11 +24,16 @@ stand-woken-requires c κs = search needs
 
 returns : tie.Need-returns
 returns c =
+    let start = c .before .before .before .before .before .before .before .before .before .before in
+    let dir-at = c .before .before .before .before .before .before .before .before .dir-at in
+    let ep-byte = c .before .before .before .before .before .before .ep-byte in
+    let on-at = c .before .before .before .before .on-at in
     let next = c .before .before .after-type in
-    let here = at-point bus 22 (c .before .before .before .before .before .before .before .before .before .before .pre) (parts3 point.Type
-    (c .before .before .before .before .before .before .before .before .dir-at .ensures)
-    (c .before .before .before .before .before .before .ep-byte .ensures) (c .before .before .before .before .on-at .ensures)) in
-    λ v b. goes-to bus here refl (c .stand-woken .ensures) (next .ensures .1 .1) (next .ensures .0 b)
+    let stand-woken = c .stand-woken in
+    let here = at-point bus 22 (start .pre) (parts3 point.Type (dir-at .ensures)
+    (ep-byte .ensures) (on-at .ensures)) in
+    λ v b. goes-to bus here refl (stand-woken .ensures) (next .ensures .1 .1) (next .ensures .0 b)
 
 pub resume-typed-spec : {M : Type 1} → statement M
-resume-typed-spec = tie.close (tie.spec dir-at-requires ep-byte-requires on-at-requires after-type-requires stand-woken-requires returns)
+resume-typed-spec = tie.close (tie.spec dir-at-requires ep-byte-requires on-at-requires after-type-requires
+    stand-woken-requires returns)

@@ -13,8 +13,11 @@ stand-single-requires c κs = search needs
 
 returns : tie.Need-returns
 returns c =
+    let start = c .before .before .before in
     let next = c .before .before .after-untyped in
-    λ v b. goes-to bus (at-point bus 15 (c .before .before .before .pre) refl) refl (c .stand-single .ensures) (next .ensures .1) (next .ensures .0 v _ b)
+    let stand-single = c .stand-single in
+    λ v b. goes-to bus (at-point bus 15 (start .pre) refl) refl (stand-single .ensures) (next .ensures .1)
+    (next .ensures .0 v _ b)
 
 pub resume-untyped-spec : {M : Type 1} → statement M
 resume-untyped-spec = tie.close (tie.spec after-untyped-requires stand-single-requires returns)

@@ -23,9 +23,13 @@ stop-requires c κs = search needs
 returns : tie.Need-returns
 unfolding woken
 returns c =
-    let here = at-point bus 6 (c .before .before .before .before .before .before .before .before .pre)
-    (parts2 point.Woken (c .before .before .before .before .before .before .dir-at .ensures) (c .before .before .before .before .ep-byte .ensures)) in
-    λ v b. comes-to bus here refl (c .stop .ensures) (simp (c .before .before .wake .ensures .0))
+    let start = c .before .before .before .before .before .before .before .before in
+    let dir-at = c .before .before .before .before .before .before .dir-at in
+    let ep-byte = c .before .before .before .before .ep-byte in
+    let wake = c .before .before .wake in
+    let stop = c .stop in
+    let here = at-point bus 6 (start .pre) (parts2 point.Woken (dir-at .ensures) (ep-byte .ensures)) in
+    λ v b. comes-to bus here refl (stop .ensures) (simp (wake .ensures .0))
 
 pub resume-woken-spec : {M : Type 1} → statement M
 resume-woken-spec = tie.close (tie.spec dir-at-requires ep-byte-requires wake-requires stop-requires returns)

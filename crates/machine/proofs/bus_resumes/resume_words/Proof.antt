@@ -27,12 +27,17 @@ stand-typed-requires c κs = search needs
 
 returns : tie.Need-returns
 returns c =
+    let start = c .before .before .before .before .before .before .before .before .before .before .before .before in
+    let dir-at = c .before .before .before .before .before .before .before .before .before .before .dir-at in
+    let ep-byte = c .before .before .before .before .before .before .before .before .ep-byte in
+    let iso-at = c .before .before .before .before .before .before .iso-at in
+    let on-at = c .before .before .before .before .on-at in
     let next = c .before .before .after-words in
-    let here = at-point bus 21 (c .before .before .before .before .before .before .before .before .before .before .before .before .pre) (parts4 point.Words
-    (c .before .before .before .before .before .before .before .before .before .before .dir-at .ensures)
-    (c .before .before .before .before .before .before .before .before .ep-byte .ensures)
-    (c .before .before .before .before .before .before .iso-at .ensures) (c .before .before .before .before .on-at .ensures)) in
-    λ v b. goes-to bus here refl (c .stand-typed .ensures) (next .ensures .1 .1) (next .ensures .0 b)
+    let stand-typed = c .stand-typed in
+    let here = at-point bus 21 (start .pre) (parts4 point.Words (dir-at .ensures) (ep-byte .ensures)
+    (iso-at .ensures) (on-at .ensures)) in
+    λ v b. goes-to bus here refl (stand-typed .ensures) (next .ensures .1 .1) (next .ensures .0 b)
 
 pub resume-words-spec : {M : Type 1} → statement M
-resume-words-spec = tie.close (tie.spec dir-at-requires ep-byte-requires iso-at-requires on-at-requires after-words-requires stand-typed-requires returns)
+resume-words-spec = tie.close (tie.spec dir-at-requires ep-byte-requires iso-at-requires on-at-requires
+    after-words-requires stand-typed-requires returns)

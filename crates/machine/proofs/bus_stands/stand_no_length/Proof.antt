@@ -20,8 +20,11 @@ stand-requires c κs = search needs
 returns : tie.Need-returns
 unfolding encode codec.encode
 returns c =
-    stands-at (c .stand .ensures)
-    (simp (c .before .code .ensures, c .before .before .flag-of2 .ensures, c .before .before .before .flag-of .ensures))
+    let flag-of = c .before .before .before .flag-of in
+    let flag-of2 = c .before .before .flag-of2 in
+    let code = c .before .code in
+    let stand = c .stand in
+    stands-at (stand .ensures) (simp (code .ensures, flag-of2 .ensures, flag-of .ensures))
 
 pub stand-no-length-spec : {M : Type 1} → statement M
 stand-no-length-spec = tie.close (tie.spec flag-of-requires flag-of-requires-2 code-requires stand-requires returns)

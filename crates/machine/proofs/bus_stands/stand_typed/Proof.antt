@@ -20,8 +20,11 @@ stand-requires c κs = search needs
 returns : tie.Need-returns
 unfolding encode codec.encode
 returns c =
-    stands-at (c .stand .ensures)
-    (simp (c .before .code .ensures, c .before .before .flag-of .ensures, c .before .before .before .dir-as .ensures))
+    let dir-as = c .before .before .before .dir-as in
+    let flag-of = c .before .before .flag-of in
+    let code = c .before .code in
+    let stand = c .stand in
+    stands-at (stand .ensures) (simp (code .ensures, flag-of .ensures, dir-as .ensures))
 
 pub stand-typed-spec : {M : Type 1} → statement M
 stand-typed-spec = tie.close (tie.spec dir-as-requires flag-of-requires code-requires stand-requires returns)

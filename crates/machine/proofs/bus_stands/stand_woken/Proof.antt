@@ -16,7 +16,11 @@ stand-requires c κs = search needs
 
 returns : tie.Need-returns
 unfolding encode codec.encode
-returns c = stands-at (c .stand .ensures) (simp (c .before .code .ensures, c .before .before .dir-as .ensures))
+returns c =
+    let dir-as = c .before .before .dir-as in
+    let code = c .before .code in
+    let stand = c .stand in
+    stands-at (stand .ensures) (simp (code .ensures, dir-as .ensures))
 
 pub stand-woken-spec : {M : Type 1} → statement M
 stand-woken-spec = tie.close (tie.spec dir-as-requires code-requires stand-requires returns)

@@ -23,13 +23,18 @@ stand-requires c κs = search needs
 returns : tie.Need-returns
 unfolding encode codec.encode
 returns c =
-    stands-at (c .stand .ensures)
-    (simp (
-      c .before .code .ensures,
-      c .before .before .flag-of2 .ensures,
-      c .before .before .before .flag-of .ensures,
-      c .before .before .before .before .dir-as .ensures,
+    let dir-as = c .before .before .before .before .dir-as in
+    let flag-of = c .before .before .before .flag-of in
+    let flag-of2 = c .before .before .flag-of2 in
+    let code = c .before .code in
+    let stand = c .stand in
+    stands-at (stand .ensures) (simp (
+      code .ensures,
+      flag-of2 .ensures,
+      flag-of .ensures,
+      dir-as .ensures,
     ))
 
 pub stand-words-spec : {M : Type 1} → statement M
-stand-words-spec = tie.close (tie.spec dir-as-requires flag-of-requires flag-of-requires-2 code-requires stand-requires returns)
+stand-words-spec = tie.close (tie.spec dir-as-requires flag-of-requires flag-of-requires-2 code-requires stand-requires
+    returns)

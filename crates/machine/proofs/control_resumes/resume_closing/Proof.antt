@@ -24,10 +24,14 @@ stand-loaded-requires c κs = search needs
 
 returns : tie.Need-returns
 returns c =
-    let here = at-point control 7 (c .before .before .before .before .before .before .before .before .pre)
-    (parts2 point.Closing (c .before .before .before .before .before .before .len-word .ensures) (c .before .before .before .before .on-at .ensures))
-    in
-    λ v b. goes-to control here refl (c .stand-loaded .ensures) refl (simp (c .before .before .set-armed .ensures .0))
+    let start = c .before .before .before .before .before .before .before .before in
+    let len-word = c .before .before .before .before .before .before .len-word in
+    let on-at = c .before .before .before .before .on-at in
+    let set-armed = c .before .before .set-armed in
+    let stand-loaded = c .stand-loaded in
+    let here = at-point control 7 (start .pre) (parts2 point.Closing (len-word .ensures) (on-at .ensures)) in
+    λ v b. goes-to control here refl (stand-loaded .ensures) refl (simp (set-armed .ensures .0))
 
 pub resume-closing-spec : {M : Type 1} → statement M
-resume-closing-spec = tie.close (tie.spec len-word-requires on-at-requires set-armed-requires cast-t11 stand-loaded-requires returns)
+resume-closing-spec = tie.close (tie.spec len-word-requires on-at-requires set-armed-requires cast-t11
+    stand-loaded-requires returns)

@@ -9,7 +9,10 @@ stand-stall-out-requires : tie.Need-stand-stall-out-requires
 stand-stall-out-requires c κs = search needs
 
 returns : tie.Need-returns
-returns c = λ v b. goes-to control (at-point control 5 (c .before .before .pre) refl) refl (c .stand-stall-out .ensures) refl refl
+returns c =
+    let start = c .before .before in
+    let stand-stall-out = c .stand-stall-out in
+    λ v b. goes-to control (at-point control 5 (start .pre) refl) refl (stand-stall-out .ensures) refl refl
 
 pub resume-stalled-in-spec : {M : Type 1} → statement M
 resume-stalled-in-spec = tie.close (tie.spec stand-stall-out-requires returns)

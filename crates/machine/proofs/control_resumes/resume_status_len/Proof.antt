@@ -9,7 +9,10 @@ stand-status-requires : tie.Need-stand-status-requires
 stand-status-requires c κs = search needs
 
 returns : tie.Need-returns
-returns c = λ v b. goes-to control (at-point control 2 (c .before .before .pre) refl) refl (c .stand-status .ensures) refl refl
+returns c =
+    let start = c .before .before in
+    let stand-status = c .stand-status in
+    λ v b. goes-to control (at-point control 2 (start .pre) refl) refl (stand-status .ensures) refl refl
 
 pub resume-status-len-spec : {M : Type 1} → statement M
 resume-status-len-spec = tie.close (tie.spec stand-status-requires returns)

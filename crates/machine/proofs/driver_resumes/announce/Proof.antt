@@ -21,8 +21,11 @@ stand-list-max-len-requires c κs = search needs
 returns : tie.Need-returns
 returns c =
     let a = c .before .before .before .before .before .args in
-    leads-to driver (λ b. go (announcing (a .left) (a .total) (a .dir) (a .e)) (view (now (a .s))) b) (c .stand-list-max-len .ensures) refl
-    (λ b. simp (← c .before .before .before .load-ep .ensures))
+    let load-ep = c .before .before .before .load-ep in
+    let stand-list-max-len = c .stand-list-max-len in
+    leads-to driver (λ b. go (announcing (a .left) (a .total) (a .dir) (a .e)) (view (now (a .s))) b)
+    (stand-list-max-len .ensures) refl
+    (λ b. simp (← load-ep .ensures))
 
 pub announce-spec : {M : Type 1} → statement M
 announce-spec = tie.close (tie.spec load-ep-requires cast-t10 stand-list-max-len-requires returns)

@@ -16,8 +16,10 @@ stop-requires c κs = search needs
 returns : tie.Need-returns
 returns c =
     let a = c .before .before .before .args in
-    leads-end (λ b. go (following (a .left) (a .total) (a .dir) (a .e)) (view (now (a .s))) b) (c .stop .ensures)
-    (λ b. rw (c .before .before .if1 .taken) (sym (after-none _ _ b _ _)))
+    let if1 = c .before .before .if1 in
+    let stop = c .stop in
+    leads-end (λ b. go (following (a .left) (a .total) (a .dir) (a .e)) (view (now (a .s))) b) (stop .ensures)
+    (λ b. rw (if1 .taken) (sym (after-none _ _ b _ _)))
 
 end-of-requires : tie.Need-end-of-requires
 end-of-requires c κs = search needs
@@ -36,12 +38,16 @@ announce-requires c κs = search needs
 
 returns-2 : tie.Need-returns-2
 returns-2 c =
-    let next = c .announce .ensures in
-    let k = c .before .before .before .before in
+    let at-then2 = c .before .before .before .before in
+    let found-at2 = c .before .before .found-at2 in
+    let announce = c .announce in
+    let next = announce .ensures in
+    let k = at-then2 in
     let a = k .before .before .before .before .before .before .args in (
       λ b. next .0 b ∙ ap halted (after-in (a .left) (a .total) (view (now (a .s))) b (a .dir) (a .e) _ _
-          (k .before .before .before .before .before .if1 .left) (k .before .before .before .end-of .ensures) (k .before .found-at .ensures) _ (k .if2 .taken)
-          (c .before .before .found-at2 .ensures)),
+          (k .before .before .before .before .before .if1 .left) (k .before .before .before .end-of .ensures)
+          (k .before .found-at .ensures) _ (k .if2 .taken)
+          (found-at2 .ensures)),
       next .1,
     )
 
@@ -53,15 +59,19 @@ announce-requires-2 c κs = search needs
 
 returns-3 : tie.Need-returns-3
 returns-3 c =
-    let next = c .announce2 .ensures in
-    let k = c .before .before in
+    let at-else2 = c .before .before in
+    let announce2 = c .announce2 in
+    let next = announce2 .ensures in
+    let k = at-else2 in
     let a = k .before .before .before .before .before .before .args in (
       λ b. next .0 b ∙ ap halted (after-out (a .left) (a .total) (view (now (a .s))) b (a .dir) (a .e) _ _
-          (k .before .before .before .before .before .if1 .left) (k .before .before .before .end-of .ensures) (k .before .found-at .ensures) (k .if2 .left)),
+          (k .before .before .before .before .before .if1 .left) (k .before .before .before .end-of .ensures)
+          (k .before .found-at .ensures) (k .if2 .left)),
       next .1,
     )
 
 pub announce-after-spec : {M : Type 1} → statement M
 announce-after-spec =
-    tie.close (tie.spec stop-requires returns end-of-requires found-at-requires found-at-requires-2 sub-announce announce-requires returns-2 sub-announce-2
+    tie.close (tie.spec stop-requires returns end-of-requires found-at-requires found-at-requires-2 sub-announce
+    announce-requires returns-2 sub-announce-2
     announce-requires-2 returns-3)

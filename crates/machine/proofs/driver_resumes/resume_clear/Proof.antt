@@ -16,8 +16,11 @@ stand-wait-requires c κs = search needs
 
 returns : tie.Need-returns
 returns c =
-    λ v b. goes-to driver (c .before .before .before .before .pre ∙ ap (λ (on : Bool). under.Driver (point.Clear on)) (sym (c .before .before .on-at .ensures)))
-    refl (c .stand-wait .ensures) refl refl
+    let start = c .before .before .before .before in
+    let on-at = c .before .before .on-at in
+    let stand-wait = c .stand-wait in
+    λ v b. goes-to driver (start .pre ∙ ap (λ (on : Bool). under.Driver (point.Clear on)) (sym (on-at .ensures)))
+    refl (stand-wait .ensures) refl refl
 
 pub resume-clear-spec : {M : Type 1} → statement M
 resume-clear-spec = tie.close (tie.spec on-at-requires stand-wait-requires returns)

@@ -9,7 +9,10 @@ stop-requires : tie.Need-stop-requires
 stop-requires c κs = search needs
 
 returns : tie.Need-returns
-returns c = λ v b. comes-to driver (at-point driver 13 (c .before .before .pre) refl) refl (c .stop .ensures) refl
+returns c =
+    let start = c .before .before in
+    let stop = c .stop in
+    λ v b. comes-to driver (at-point driver 13 (start .pre) refl) refl (stop .ensures) refl
 
 pub resume-ep0-packet-spec : {M : Type 1} → statement M
 resume-ep0-packet-spec = tie.close (tie.spec stop-requires returns)

@@ -14,8 +14,11 @@ stand-ep0-max-len-requires c κs = search needs
 
 returns : tie.Need-returns
 returns c =
-    λ v b. goes-to driver (at-point driver 9 (c .before .before .before .before .pre) (ap point.Ep0Place (c .before .before .value-word .ensures))) refl
-    (c .stand-ep0-max-len .ensures) refl refl
+    let start = c .before .before .before .before in
+    let value-word = c .before .before .value-word in
+    let stand-ep0-max-len = c .stand-ep0-max-len in
+    λ v b. goes-to driver (at-point driver 9 (start .pre) (ap point.Ep0Place (value-word .ensures))) refl
+    (stand-ep0-max-len .ensures) refl refl
 
 pub resume-ep0-place-spec : {M : Type 1} → statement M
 resume-ep0-place-spec = tie.close (tie.spec value-word-requires stand-ep0-max-len-requires returns)

@@ -9,7 +9,10 @@ fits-requires : tie.Need-fits-requires
 fits-requires c κs = search needs
 
 half-requires : tie.Need-half-requires
-half-requires c κs = sym (c .before .fits2 .ensures) ∙ c .if1 .taken
+half-requires c κs =
+    let fits2 = c .before .fits2 in
+    let if1 = c .if1 in
+    sym (fits2 .ensures) ∙ if1 .taken
 
 microframe-index-requires : tie.Need-microframe-index-requires
 microframe-index-requires c κs = search needs
@@ -19,12 +22,23 @@ stop-requires c κs = search needs
 
 returns : tie.Need-returns
 returns c =
-    let here = at-point driver 14 (c .before .before .before .before .before .before .pre) refl in
-    λ b. comes-to driver here (sym (c .before .before .before .before .before .fits2 .ensures) ∙ c .before .before .before .before .if1 .taken)
-    (c .stop .ensures) (simp (c .before .before .microframe-index .ensures, c .before .before .before .half .ensures))
+    let start = c .before .before .before .before .before .before in
+    let fits2 = c .before .before .before .before .before .fits2 in
+    let if1 = c .before .before .before .before .if1 in
+    let half = c .before .before .before .half in
+    let microframe-index = c .before .before .microframe-index in
+    let stop = c .stop in
+    let here = at-point driver 14 (start .pre) refl in
+    λ b. comes-to driver here (sym (fits2 .ensures) ∙ if1 .taken)
+    (stop .ensures) (simp (microframe-index .ensures, half .ensures))
 
 returns-2 : tie.Need-returns-2
-returns-2 c = λ b. stays-at driver (at-point driver 14 (c .before .before .pre) refl) (sym (c .before .fits2 .ensures) ∙ c .if1 .left)
+returns-2 c =
+    let start = c .before .before in
+    let fits2 = c .before .fits2 in
+    let if1 = c .if1 in
+    λ b. stays-at driver (at-point driver 14 (start .pre) refl) (sym (fits2 .ensures) ∙ if1 .left)
 
 pub resume-frame-no-spec : {M : Type 1} → statement M
-resume-frame-no-spec = tie.close (tie.spec fits-requires half-requires microframe-index-requires stop-requires returns returns-2)
+resume-frame-no-spec = tie.close (tie.spec fits-requires half-requires microframe-index-requires stop-requires returns
+    returns-2)

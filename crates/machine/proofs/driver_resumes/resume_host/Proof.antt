@@ -17,8 +17,12 @@ stand-run-requires c κs = search needs
 
 returns : tie.Need-returns
 returns c =
-    λ v b. goes-to driver (at-point driver 4 (c .before .before .before .before .before .pre) (ap point.Host (c .before .before .before .on-at .ensures))) refl
-    (c .stand-run .ensures) refl (simp (c .before .before .run .ensures))
+    let start = c .before .before .before .before .before in
+    let on-at = c .before .before .before .on-at in
+    let run = c .before .before .run in
+    let stand-run = c .stand-run in
+    λ v b. goes-to driver (at-point driver 4 (start .pre) (ap point.Host (on-at .ensures))) refl
+    (stand-run .ensures) refl (simp (run .ensures))
 
 pub resume-host-spec : {M : Type 1} → statement M
 resume-host-spec = tie.close (tie.spec on-at-requires run-requires stand-run-requires returns)

@@ -9,7 +9,10 @@ stop-requires : tie.Need-stop-requires
 stop-requires c κs = search needs
 
 returns : tie.Need-returns
-returns c = λ v b. comes-to driver (at-point driver 6 (c .before .before .pre) refl) refl (c .stop .ensures) refl
+returns c =
+    let start = c .before .before in
+    let stop = c .stop in
+    λ v b. comes-to driver (at-point driver 6 (start .pre) refl) refl (stop .ensures) refl
 
 pub resume-int-en-spec : {M : Type 1} → statement M
 resume-int-en-spec = tie.close (tie.spec stop-requires returns)

@@ -14,8 +14,10 @@ announce-after-requires c κs = search needs
 
 returns : tie.Need-returns
 returns c =
+    let start = c .before .before .before .before in
+    let list-endpoint-at = c .before .before .list-endpoint-at in
     let next = c .announce-after in
-    let here = at-point driver 16 (c .before .before .before .before .pre) (ap placeAt (c .before .before .list-endpoint-at .ensures)) in
+    let here = at-point driver 16 (start .pre) (ap placeAt (list-endpoint-at .ensures)) in
     λ v b. follows driver here refl (next .ensures .0 b) (next .ensures .1) refl
 
 pub resume-list-place-spec : {M : Type 1} → statement M

@@ -17,8 +17,11 @@ stop-requires c κs = search needs
 
 returns : tie.Need-returns
 returns c =
-    λ v b. comes-to driver (at-point driver 8 (c .before .before .before .before .pre) (ap point.Place (c .before .before .ep-byte .ensures))) refl
-    (c .stop .ensures) refl
+    let start = c .before .before .before .before in
+    let ep-byte = c .before .before .ep-byte in
+    let stop = c .stop in
+    λ v b. comes-to driver (at-point driver 8 (start .pre) (ap point.Place (ep-byte .ensures))) refl
+    (stop .ensures) refl
 
 pub resume-place-spec : {M : Type 1} → statement M
 resume-place-spec = tie.close (tie.spec ep-byte-requires cast-stop stop-requires returns)

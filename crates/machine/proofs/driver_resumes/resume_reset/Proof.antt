@@ -20,13 +20,22 @@ stand-reset-end-requires c κs = search needs
 
 returns : tie.Need-returns
 returns c =
-    λ b. goes-to driver
-    (at-point driver 2 (c .before .before .before .before .before .before .before .pre) (ap point.Reset (c .before .before .before .on-at .ensures)))
-    (sym (c .before .before .before .before .before .before .fits2 .ensures) ∙ c .before .before .before .before .before .if1 .taken)
-    (c .stand-reset-end .ensures) refl (simp (c .before .before .reset-ended .ensures))
+    let start = c .before .before .before .before .before .before .before in
+    let fits2 = c .before .before .before .before .before .before .fits2 in
+    let if1 = c .before .before .before .before .before .if1 in
+    let on-at = c .before .before .before .on-at in
+    let reset-ended = c .before .before .reset-ended in
+    let stand-reset-end = c .stand-reset-end in
+    λ b. goes-to driver (at-point driver 2 (start .pre) (ap point.Reset (on-at .ensures)))
+    (sym (fits2 .ensures) ∙ if1 .taken) (stand-reset-end .ensures) refl (simp (reset-ended .ensures))
 
 returns-2 : tie.Need-returns-2
-returns-2 c = λ b. stays-at driver (at-point driver 2 (c .before .before .pre) refl) (sym (c .before .fits2 .ensures) ∙ c .if1 .left)
+returns-2 c =
+    let start = c .before .before in
+    let fits2 = c .before .fits2 in
+    let if1 = c .if1 in
+    λ b. stays-at driver (at-point driver 2 (start .pre) refl) (sym (fits2 .ensures) ∙ if1 .left)
 
 pub resume-reset-spec : {M : Type 1} → statement M
-resume-reset-spec = tie.close (tie.spec fits-requires on-at-requires reset-ended-requires stand-reset-end-requires returns returns-2)
+resume-reset-spec = tie.close (tie.spec fits-requires on-at-requires reset-ended-requires stand-reset-end-requires
+    returns returns-2)

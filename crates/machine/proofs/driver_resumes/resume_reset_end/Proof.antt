@@ -17,8 +17,12 @@ stand-host-requires c κs = search needs
 
 returns : tie.Need-returns
 returns c =
-    λ v b. goes-to driver (at-point driver 3 (c .before .before .before .before .before .pre) (ap point.ResetEnd (c .before .before .before .on-at .ensures)))
-    refl (c .stand-host .ensures) refl (simp (c .before .before .phy-suspendm .ensures))
+    let start = c .before .before .before .before .before in
+    let on-at = c .before .before .before .on-at in
+    let phy-suspendm = c .before .before .phy-suspendm in
+    let stand-host = c .stand-host in
+    λ v b. goes-to driver (at-point driver 3 (start .pre) (ap point.ResetEnd (on-at .ensures)))
+    refl (stand-host .ensures) refl (simp (phy-suspendm .ensures))
 
 pub resume-reset-end-spec : {M : Type 1} → statement M
 resume-reset-end-spec = tie.close (tie.spec on-at-requires phy-suspendm-requires stand-host-requires returns)

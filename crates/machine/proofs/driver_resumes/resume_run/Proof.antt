@@ -23,9 +23,15 @@ stand-int-en-requires c κs = search needs
 
 returns : tie.Need-returns
 returns c =
-    λ v b. goes-to driver (at-point driver 5 (c .before .before .before .before .before .before .before .pre)
-    (ap point.Run (c .before .before .before .before .before .on-at .ensures))) refl (c .stand-int-en .ensures) refl
-    (simp (c .before .before .set-int-en .ensures .0, c .before .before .before .before .at-start .ensures))
+    let start = c .before .before .before .before .before .before .before in
+    let on-at = c .before .before .before .before .before .on-at in
+    let at-start = c .before .before .before .before .at-start in
+    let set-int-en = c .before .before .set-int-en in
+    let stand-int-en = c .stand-int-en in
+    λ v b. goes-to driver (at-point driver 5 (start .pre)
+    (ap point.Run (on-at .ensures))) refl (stand-int-en .ensures) refl
+    (simp (set-int-en .ensures .0, at-start .ensures))
 
 pub resume-run-spec : {M : Type 1} → statement M
-resume-run-spec = tie.close (tie.spec on-at-requires at-start-requires set-int-en-requires cast-t9 stand-int-en-requires returns)
+resume-run-spec = tie.close (tie.spec on-at-requires at-start-requires set-int-en-requires cast-t9 stand-int-en-requires
+    returns)

@@ -14,8 +14,11 @@ stand-reset-requires c κs = search needs
 
 returns : tie.Need-returns
 returns c =
-    λ v b. goes-to driver (at-point driver 1 (c .before .before .before .before .pre) (ap point.Wait (c .before .before .on-at .ensures))) refl
-    (c .stand-reset .ensures) refl refl
+    let start = c .before .before .before .before in
+    let on-at = c .before .before .on-at in
+    let stand-reset = c .stand-reset in
+    λ v b. goes-to driver (at-point driver 1 (start .pre) (ap point.Wait (on-at .ensures))) refl
+    (stand-reset .ensures) refl refl
 
 pub resume-wait-spec : {M : Type 1} → statement M
 resume-wait-spec = tie.close (tie.spec on-at-requires stand-reset-requires returns)

@@ -9,7 +9,10 @@ code-requires : tie.Need-code-requires
 code-requires c κs = search needs
 
 returns : tie.Need-returns
-returns c = simp (c .code .ensures, c .before .dir-as .ensures)
+returns c =
+    let dir-as = c .before .dir-as in
+    let code = c .code in
+    simp (code .ensures, dir-as .ensures)
 
 pub list-code-spec : {M : Type 1} → statement M
 list-code-spec = tie.close (tie.spec dir-as-requires code-requires returns)

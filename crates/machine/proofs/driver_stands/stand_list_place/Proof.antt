@@ -13,7 +13,10 @@ stand-requires c κs = search needs
 
 returns : tie.Need-returns
 unfolding encode codec.encode
-returns c = stands-at (c .stand .ensures) (c .before .list-code .ensures)
+returns c =
+    let list-code = c .before .list-code in
+    let stand = c .stand in
+    stands-at (stand .ensures) (list-code .ensures)
 
 pub stand-list-place-spec : {M : Type 1} → statement M
 stand-list-place-spec = tie.close (tie.spec list-code-requires stand-requires returns)

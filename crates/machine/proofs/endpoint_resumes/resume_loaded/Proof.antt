@@ -14,8 +14,11 @@ stand-ack-in-requires c κs = search needs
 
 returns : tie.Need-returns
 returns c =
-    λ v b. goes-to endpoint (at-point endpoint 2 (c .before .before .before .before .pre) (ap point.Loaded (c .before .before .ep-byte .ensures))) refl
-    (c .stand-ack-in .ensures) refl refl
+    let start = c .before .before .before .before in
+    let ep-byte = c .before .before .ep-byte in
+    let stand-ack-in = c .stand-ack-in in
+    λ v b. goes-to endpoint (at-point endpoint 2 (start .pre) (ap point.Loaded (ep-byte .ensures))) refl
+    (stand-ack-in .ensures) refl refl
 
 pub resume-loaded-spec : {M : Type 1} → statement M
 resume-loaded-spec = tie.close (tie.spec ep-byte-requires stand-ack-in-requires returns)

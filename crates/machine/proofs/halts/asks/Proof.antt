@@ -13,11 +13,13 @@ store-saved-requires : tie.Need-store-saved-requires
 store-saved-requires c κs = search needs
 
 returns : tie.Need-returns
-returns c = λ u t e. record {
-  answered = refl;
-  viewed = c .store-saved .ensures .0;
-  stored = c .store-saved .ensures .1 ∙ (parts2 withTag (sym t) e ∙ sym (encoded-as u));
-}
+returns c =
+    let store-saved = c .store-saved in
+    λ u t e. record {
+      answered = refl;
+      viewed = store-saved .ensures .0;
+      stored = store-saved .ensures .1 ∙ (parts2 withTag (sym t) e ∙ sym (encoded-as u));
+    }
 
 pub asks-spec : {M : Type 1} → statement M
 asks-spec = tie.close (tie.spec store-saved-requires returns)

@@ -35,44 +35,57 @@ asks-requires : tie.Need-asks-requires
 asks-requires c κs = search needs
 
 returns : tie.Need-returns
-returns c = (
-  λ out b. ends-idle (decode (saved (now (c .before .before .before .args .s))))
-      (view (now (c .before .before .before .args .s))) b _ (c .before .before .before .pre .1) ∙ simp (c .before .n .given .1),
-  refl,
-)
+returns c =
+    let start = c .before .before .before in
+    let n = c .before .n in (
+      λ out b. ends-idle (decode (saved (now (start .args .s))))
+          (view (now (start .args .s))) b _ (start .pre .1) ∙ simp (n .given .1),
+      refl,
+    )
 
 returns-2 : tie.Need-returns-2
-returns-2 c = (
-  λ out b. ends-idle (decode (saved (now (c .before .before .args .s))))
-      (view (now (c .before .before .args .s))) b _ (c .before .before .pre .1) ∙ simp (c .enum-told .given .1),
-  refl,
-)
+returns-2 c =
+    let start = c .before .before in
+    let enum-told-fact = c .enum-told in (
+      λ out b. ends-idle (decode (saved (now (start .args .s))))
+          (view (now (start .args .s))) b _ (start .pre .1) ∙ simp (enum-told-fact .given .1),
+      refl,
+    )
 
 returns-3 : tie.Need-returns-3
-returns-3 c = (
-  λ out b. ends-idle (decode (saved (now (c .before .before .before .args .s))))
-      (view (now (c .before .before .before .args .s))) b _ (c .before .before .before .pre .1) ∙ simp (c .before .n2 .given .1),
-  refl,
-)
+returns-3 c =
+    let start = c .before .before .before in
+    let n2 = c .before .n2 in (
+      λ out b. ends-idle (decode (saved (now (start .args .s))))
+          (view (now (start .args .s))) b _ (start .pre .1) ∙ simp (n2 .given .1),
+      refl,
+    )
 
 returns-4 : tie.Need-returns-4
-returns-4 c = (
-  λ out b. ends-idle (decode (saved (now (c .before .before .before .args .s))))
-      (view (now (c .before .before .before .args .s))) b _ (c .before .before .before .pre .1) ∙ simp (c .before .n3 .given .1),
-  refl,
-)
+returns-4 c =
+    let start = c .before .before .before in
+    let n3 = c .before .n3 in (
+      λ out b. ends-idle (decode (saved (now (start .args .s))))
+          (view (now (start .args .s))) b _ (start .pre .1) ∙ simp (n3 .given .1),
+      refl,
+    )
 
 returns-5 : tie.Need-returns-5
 returns-5 c =
-    let stood = c .asks .ensures (under.Control _) refl (c .before .encode .ensures) in (
+    let start = c .before .before .before .before .before .before in
+    let n4 = c .before .before .before .before .n4 in
+    let encode = c .before .encode in
+    let asks = c .asks in
+    let stood = asks .ensures (under.Control _) refl (encode .ensures) in (
       λ out b. handed-out stood _ (stood .answered) out b ∙ simp (
-        c .before .before .before .before .n4 .given .1,
-        linked-polled _ _ _ (c .before .before .before .before .n4 .given .1) (c .before .before .before .before .before .before .pre .0),
+        n4 .given .1,
+        linked-polled _ _ _ (n4 .given .1) (start .pre .0),
       ),
       stored-by stood _ (stood .answered) _,
     )
 
 pub polled-control-spec : {M : Type 1} → statement M
 polled-control-spec =
-    tie.close (tie.spec enum-known-n enum-told enum-known-n-2 enum-known-n-3 enum-known-n-4 encode-requires asks-requires returns returns-2 returns-3
+    tie.close (tie.spec enum-known-n enum-told enum-known-n-2 enum-known-n-3 enum-known-n-4 encode-requires
+    asks-requires returns returns-2 returns-3
     returns-4 returns-5)

@@ -16,8 +16,11 @@ now-byte-requires c κs = search needs
 
 returns : tie.Need-returns
 returns c =
-    let k = c .before .before in
-    simp (c .now-byte .ensures, c .before .frame-word .ensures, k .st-byte .ensures, k .before .ep-byte .ensures)
+    let at-st-byte = c .before .before in
+    let frame-word = c .before .frame-word in
+    let now-byte = c .now-byte in
+    simp (now-byte .ensures, frame-word .ensures, at-st-byte .st-byte .ensures, at-st-byte .before .ep-byte .ensures)
 
 pub completion-at-spec : {M : Type 1} → statement M
-completion-at-spec = tie.close (tie.spec ep-byte-requires st-byte-requires frame-word-requires now-byte-requires returns)
+completion-at-spec = tie.close (tie.spec ep-byte-requires st-byte-requires frame-word-requires now-byte-requires
+    returns)

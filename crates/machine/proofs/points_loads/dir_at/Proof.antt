@@ -9,7 +9,10 @@ dir-of-requires : tie.Need-dir-of-requires
 dir-of-requires c κs = search needs
 
 returns : tie.Need-returns
-returns c = simp (c .dir-of .ensures, c .before .site-byte .ensures)
+returns c =
+    let site-byte = c .before .site-byte in
+    let dir-of = c .dir-of in
+    simp (dir-of .ensures, site-byte .ensures)
 
 pub dir-at-spec : {M : Type 1} → statement M
 dir-at-spec = tie.close (tie.spec site-byte-requires dir-of-requires returns)

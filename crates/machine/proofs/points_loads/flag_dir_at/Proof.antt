@@ -9,7 +9,10 @@ dir-of-requires : tie.Need-dir-of-requires
 dir-of-requires c κs = search needs
 
 returns : tie.Need-returns
-returns c = simp (c .dir-of .ensures, c .before .flag-byte .ensures)
+returns c =
+    let flag-byte = c .before .flag-byte in
+    let dir-of = c .dir-of in
+    simp (dir-of .ensures, flag-byte .ensures)
 
 pub flag-dir-at-spec : {M : Type 1} → statement M
 flag-dir-at-spec = tie.close (tie.spec flag-byte-requires dir-of-requires returns)

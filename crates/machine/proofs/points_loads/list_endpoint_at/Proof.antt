@@ -19,9 +19,18 @@ late-byte-requires c κs = search needs
 
 returns : tie.Need-returns
 returns c =
-    let k = c .before .before in
-    simp (c .late-byte .ensures, c .before .busy-byte .ensures, k .ep-byte .ensures, k .before .st-byte .ensures, k .before .before .flag-dir-at .ensures)
+    let at-ep-byte = c .before .before in
+    let busy-byte = c .before .busy-byte in
+    let late-byte = c .late-byte in
+    simp (
+      late-byte .ensures,
+      busy-byte .ensures,
+      at-ep-byte .ep-byte .ensures,
+      at-ep-byte .before .st-byte .ensures,
+      at-ep-byte .before .before .flag-dir-at .ensures,
+    )
 
 pub list-endpoint-at-spec : {M : Type 1} → statement M
 list-endpoint-at-spec =
-    tie.close (tie.spec flag-dir-at-requires st-byte-requires ep-byte-requires busy-byte-requires late-byte-requires returns)
+    tie.close (tie.spec flag-dir-at-requires st-byte-requires ep-byte-requires busy-byte-requires late-byte-requires
+    returns)

@@ -8,7 +8,9 @@ use Rattle.machine.proofs.resume_op.half.Lts as lts
 
 cast-result : tie.Need-cast-result
 unfolding fitsIn
-cast-result c = record { fits = ltb-true (c .args .v) 65536 (c .pre) }
+cast-result c =
+    let start = c in
+    record { fits = ltb-true (start .args .v) 65536 (start .pre) }
 
 returns : tie.Need-returns
 returns c = search needs

@@ -11,7 +11,10 @@ is-none-requires : tie.Need-is-none-requires
 is-none-requires c κs = search needs
 
 returns : tie.Need-returns
-returns c = c .is-none .ensures ∙ sym (idle-by _ _ (c .before .tag .ensures))
+returns c =
+    let tag = c .before .tag in
+    let is-none = c .is-none in
+    is-none .ensures ∙ sym (idle-by _ _ (tag .ensures))
 
 pub is-idle-spec : {M : Type 1} → statement M
 is-idle-spec = tie.close (tie.spec tag-requires is-none-requires returns)

@@ -11,7 +11,10 @@ is-none-requires : tie.Need-is-none-requires
 is-none-requires c κs = search needs
 
 returns : tie.Need-returns
-returns c = c .is-none .ensures ∙ sym (passes-by _ _ (c .before .tag .ensures))
+returns c =
+    let tag = c .before .tag in
+    let is-none = c .is-none in
+    is-none .ensures ∙ sym (passes-by _ _ (tag .ensures))
 
 pub may-pass-spec : {M : Type 1} → statement M
 may-pass-spec = tie.close (tie.spec tag-requires is-none-requires returns)

@@ -9,7 +9,9 @@ load-saved-requires : tie.Need-load-saved-requires
 load-saved-requires c κs = search needs
 
 returns : tie.Need-returns
-returns c = simp (c .load-saved .ensures)
+returns c =
+    let load-saved = c .load-saved in
+    simp (load-saved .ensures)
 
 pub tag-spec : {M : Type 1} → statement M
 tag-spec = tie.close (tie.spec load-saved-requires returns)

@@ -18,9 +18,17 @@ how-many-requires c κs = search needs
 returns : tie.Need-returns
 unfolding decode listed
 returns c =
+    let the-nothing = c .before .before .before .nothing in
     let the-store-saved = c .before .before .store-saved in
-    let the-nothing = c .before .before .before .nothing in record {
-      there = λ b. simp (c .how-many .ensures .0, front-take, the-store-saved .ensures .0, the-store-saved .ensures .1, the-nothing .ensures);
+    let how-many = c .how-many in
+    record {
+      there = λ b. simp (
+        how-many .ensures .0,
+        front-take,
+        the-store-saved .ensures .0,
+        the-store-saved .ensures .1,
+        the-nothing .ensures,
+      );
       stored = λ xs. the-store-saved .ensures .1 ∙ the-nothing .ensures;
     }
 

@@ -22,7 +22,10 @@ fits-requires c κs = search needs
 
 returns : tie.Need-returns
 unfolding slotsFit fits
-returns c = simp (c .fits2 .ensures, c .before .before .before .load-allocator .ensures)
+returns c =
+    let load-allocator = c .before .before .before .load-allocator in
+    let fits2 = c .fits2 in
+    simp (fits2 .ensures, load-allocator .ensures)
 
 pub slots-fit-spec : {M : Type 1} → statement M
 slots-fit-spec = tie.close (tie.spec load-allocator-requires cast-fits cast-fits-2 fits-requires returns)

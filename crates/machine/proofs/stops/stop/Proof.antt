@@ -16,25 +16,38 @@ load-globals-requires c κs = search needs
 
 returns : tie.Need-returns
 unfolding stopOf
-returns c = simp (
-  ← c .before .before .before .before .is-idle .ensures,
-  c .before .before .before .if1 .taken,
-  ← c .before .before .load-globals .ensures,
-  eq-eqb _ _ (c .if2 .taken),
-)
+returns c =
+    let is-idle = c .before .before .before .before .is-idle in
+    let if1 = c .before .before .before .if1 in
+    let load-globals = c .before .before .load-globals in
+    let if2 = c .if2 in
+    simp (
+      ← is-idle .ensures,
+      if1 .taken,
+      ← load-globals .ensures,
+      eq-eqb _ _ (if2 .taken),
+    )
 
 returns-2 : tie.Need-returns-2
 unfolding stopOf
-returns-2 c = simp (
-  ← c .before .before .before .before .is-idle .ensures,
-  c .before .before .before .if1 .taken,
-  ← c .before .before .load-globals .ensures,
-  ne-eqb _ _ (c .if2 .left),
-)
+returns-2 c =
+    let is-idle = c .before .before .before .before .is-idle in
+    let if1 = c .before .before .before .if1 in
+    let load-globals = c .before .before .load-globals in
+    let if2 = c .if2 in
+    simp (
+      ← is-idle .ensures,
+      if1 .taken,
+      ← load-globals .ensures,
+      ne-eqb _ _ (if2 .left),
+    )
 
 returns-3 : tie.Need-returns-3
 unfolding stopOf
-returns-3 c = simp (← c .before .is-idle .ensures, c .if1 .left)
+returns-3 c =
+    let is-idle = c .before .is-idle in
+    let if1 = c .if1 in
+    simp (← is-idle .ensures, if1 .left)
 
 pub stop-spec : {M : Type 1} → statement M
 stop-spec = tie.close (tie.spec is-idle-requires load-globals-requires returns returns-2 returns-3)

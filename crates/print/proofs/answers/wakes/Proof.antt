@@ -50,5 +50,6 @@ returns c = search needs
 
 pub wakes-spec : {M : Type 1} → statement M
 wakes-spec =
-    tie.close (tie.spec Inv-loop μ-loop slice-aggregate-print print-requires slice-aggregate-print-2 print-requires-2 loop-holds
+    tie.close (tie.spec Inv-loop μ-loop slice-aggregate-print print-requires slice-aggregate-print-2 print-requires-2
+    loop-holds
     slice-aggregate-print-3 print-requires-3 woken-at-requires task-requires add-i loop-less loop-again returns)

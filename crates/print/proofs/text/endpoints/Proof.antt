@@ -49,5 +49,6 @@ returns c = search needs
 
 pub endpoints-spec : {M : Type 1} → statement M
 endpoints-spec =
-    tie.close (tie.spec Inv-loop μ-loop loop-holds mask-has-requires slice-aggregate-print print-requires print-requires-2 cast-number number-requires
+    tie.close (tie.spec Inv-loop μ-loop loop-holds mask-has-requires slice-aggregate-print print-requires
+    print-requires-2 cast-number number-requires
     add-e loop-less loop-again returns)

@@ -49,7 +49,14 @@ loop-less c = search needs
 loop-again : tie.Need-loop-again Inv-loop μ-loop
 loop-again c = let inv = c .before .before .before .loop .inv in elim (c .if1 .came) [
   | inl x ↦ (omega (arith, x .4), (omega (arith, x .5), omega (arith, c .before .before .loop-test .taken)))
-  | inr x ↦ (omega (arith, x .2, inv .0), (omega (arith, x .3, inv .1 .0), omega (arith, c .before .before .loop-test .taken)))
+  | inr x ↦ (
+    omega (arith, x .2, inv .0),
+    (
+      omega (arith, x .3, inv .1 .0),
+      omega
+          (arith, c .before .before .loop-test .taken),
+    ),
+  )
 ]
 
 none-requires : tie.Need-none-requires Inv-loop μ-loop
@@ -60,5 +67,6 @@ returns c = search needs
 
 pub items-spec : {M : Type 1} → statement M
 items-spec =
-    tie.close (tie.spec Inv-loop μ-loop loop-holds shared-slice-read-if1 sub-item part-item-start part-item-end item-requires add-bit add-from add-i
+    tie.close (tie.spec Inv-loop μ-loop loop-holds shared-slice-read-if1 sub-item part-item-start part-item-end
+    item-requires add-bit add-from add-i
     loop-less loop-again none-requires returns)

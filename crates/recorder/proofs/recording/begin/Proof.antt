@@ -1,4 +1,4 @@
-use mathlib.Core.Path.{ap, ap₂, _∙_}
+use mathlib.Core.Path.{ap₂, _∙_}
 use mathlib.Core.List.{List}
 use Prim.Native.Nat.{ℕ}
 use denote.Ref.{now}
@@ -20,7 +20,8 @@ use Rattle.recorder.proofs.ring.put_packet.Reads as put-packet-reads
 returns : tie.Need-returns
 returns c =
     let s = c .before .before .args in
-    begin-refused (s .survey) (now (s .room)) (c .if1 .taken)
+    let if1 = c .if1 in
+    begin-refused (s .survey) (now (s .room)) (if1 .taken)
 
 -- src/recording.rt:76:17
 begin-bytes-requires : tie.Need-begin-bytes-requires
@@ -49,8 +50,9 @@ same-length c = search needs
 -- src/recording.rt:69:1
 returns-2 : tie.Need-returns-2
 returns-2 c =
-    let c3 = c .before .before .before in
-    let c6 = c3 .before .before .before in
+    let at-put-end-arg = c .before .before .before in
+    let put-end = c .before .before .put-end in
+    let c6 = at-put-end-arg .before .before .before in
     let c9 = c6 .before .before .before in
     let c12 = c9 .before .before .before in
     let s = c12 .before .args in
@@ -58,7 +60,7 @@ returns-2 c =
     let writer = c9 .new .ensures in
     let first = c6 .put-packet .ensures
     ∙ ap₂ (λ (l : List ℕ) (w : Writer). packetRing 4 (packetOf 15 l) (ringOf w (now (s .room)))) packet writer in
-    begin-is (s .survey) (now (s .room)) _ _ (c9 .before .before .if1 .left) first (c .before .before .put-end .ensures)
+    begin-is (s .survey) (now (s .room)) _ _ (c9 .before .before .if1 .left) first (put-end .ensures)
 
 pub begin-spec : {M : Type 1} → statement M
 begin-spec =

@@ -18,14 +18,17 @@ use Rattle.recorder.proofs.ring.put_padding.Reads as put-padding-reads
 returns : tie.Need-returns
 returns c =
     let s = c .before .before .args in
-    finish-refused (s .r) (s .overruns) (now (s .room)) (busy-room (s .r) (now (s .room)) (c .if1 .taken))
+    let if1 = c .if1 in
+    finish-refused (s .r) (s .overruns) (now (s .room)) (busy-room (s .r) (now (s .room)) (if1 .taken))
 
 -- src/recording.rt:127:9
 returns-2 : tie.Need-returns-2
 returns-2 c =
-    let c3 = c .before .before .before in
-    let s = c3 .before .args in
-    finish-refused (s .r) (s .overruns) (now (s .room)) (busy-left (s .r) (now (s .room)) (c .before .before .if1 .left) (c .if2 .taken))
+    let at-slice-known = c .before .before .before in
+    let if1 = c .before .before .if1 in
+    let if2 = c .if2 in
+    let s = at-slice-known .before .args in
+    finish-refused (s .r) (s .overruns) (now (s .room)) (busy-left (s .r) (now (s .room)) (if1 .left) (if2 .taken))
 
 -- src/recording.rt:129:25
 writer-of-requires : tie.Need-writer-of-requires
@@ -54,15 +57,19 @@ same-length c = search needs
 -- src/recording.rt:119:1
 returns-3 : tie.Need-returns-3
 returns-3 c =
-    let c3 = c .before .before .before in
-    let c6 = c3 .before .before .before in
+    let at-room2 = c .before .before .before in
+    let left-of = c .before .left-of in
+    let after = c .after in
+    let c6 = at-room2 .before .before .before in
     let c9 = c6 .before .before .before in
     let c12 = c9 .before .before .before in
     let s = c12 .before .before .before .args in
     let free = not-busy (s .r) (now (s .room)) (c12 .before .if1 .left) (c9 .before .before .if2 .left) in
     let padded = c6 .before .before .put-padding .ensures
-    ∙ ap (λ (w : Writer). packetRing 4 (padding (w .used)) (ringOf w (now (s .room)))) (c9 .before .writer-of .ensures) in
-    finish-is (s .r) _ (s .overruns) (now (s .room)) _ _ _ free padded (c3 .before .put-end .ensures) (c .before .left-of .ensures) (c .after .ensures)
+    ∙ ap (λ (w : Writer). packetRing 4 (padding (w .used)) (ringOf w (now (s .room))))
+    (c9 .before .writer-of .ensures) in
+    finish-is (s .r) _ (s .overruns) (now (s .room)) _ _ _ free padded (at-room2 .before .put-end .ensures)
+    (left-of .ensures) (after .ensures)
 
 pub finish-spec : {M : Type 1} → statement M
 finish-spec =

@@ -8,7 +8,9 @@ use Rattle.recorder.proofs.recording.left_of.Lts as lts
 
 -- src/recording.rt:30:9
 returns : tie.Need-returns
-returns c = left-none _ _ (c .if1 .taken)
+returns c =
+    let if1 = c .if1 in
+    left-none _ _ (if1 .taken)
 
 -- src/recording.rt:33:9
 returns-2 : tie.Need-returns-2

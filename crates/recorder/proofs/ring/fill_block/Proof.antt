@@ -1,4 +1,3 @@
-use native.Mathlib.Omega.{arith}
 use denote.Ref.{now}
 use Rattle.recorder.specs.RingLaws.{fill-is}
 use borrow.Author.Needs.{needs}
@@ -52,9 +51,9 @@ same-length c = search needs
 -- src/ring.rt:107:1
 returns : tie.Need-returns
 returns c =
-    let before-match = c .before .before .before in
-    let call = before-match .before .finish in
-    let s = before-match .before .before .before .before .args in
+    let at-room = c .before .before .before in
+    let call = at-room .before .finish in
+    let s = at-room .before .before .before .before .args in
     fill-is (s .w) (s .number) (now (s .room)) _ (call .ensures .1)
 
 -- src/ring.rt:107:1
@@ -64,9 +63,9 @@ same-length-2 c = search needs
 -- src/ring.rt:107:1
 returns-2 : tie.Need-returns-2
 returns-2 c =
-    let before-match = c .before .before .before in
-    let call = before-match .before .finish in
-    let s = before-match .before .before .before .before .args in
+    let at-room = c .before .before .before in
+    let call = at-room .before .finish in
+    let s = at-room .before .before .before .before .args in
     fill-is (s .w) (s .number) (now (s .room)) _ (call .ensures .1)
 
 -- src/ring.rt:107:1
@@ -76,9 +75,9 @@ same-length-3 c = search needs
 -- src/ring.rt:107:1
 returns-3 : tie.Need-returns-3
 returns-3 c =
-    let before-match = c .before .before .before in
-    let call = before-match .before .finish in
-    let s = before-match .before .before .before .before .args in
+    let at-room = c .before .before .before in
+    let call = at-room .before .finish in
+    let s = at-room .before .before .before .before .args in
     fill-is (s .w) (s .number) (now (s .room)) _ (call .ensures .1)
 
 pub fill-block-spec : {M : Type 1} → statement M

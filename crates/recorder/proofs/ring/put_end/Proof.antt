@@ -1,4 +1,4 @@
-use mathlib.Core.Path.{sym, ap, _∙_}
+use mathlib.Core.Path.{ap, _∙_}
 use denote.Ref.{now}
 use mathlib.Core.List.{List}
 use Prim.Native.Nat.{ℕ}
@@ -37,12 +37,13 @@ same-length c = search needs
 -- src/ring.rt:121:1
 returns : tie.Need-returns
 returns c =
+    let at-put-piece = c .before .before .before .before .before .before .before in
     let fill = c .before .before .fill-block in
-    let piece = c .before .before .before .before .before .before .before in
-    let made = piece .before .before .before .end-bytes in
-    let s = piece .before .before .before .before .before .args in
+    let made = at-put-piece .before .before .before .end-bytes in
+    let s = at-put-piece .before .before .before .before .before .args in
     let g = ringOf (s .w) (now (s .room)) in
-    let ends = end-is (packetOf 15 (made .result)) g _ _ _ (piece .put-piece .ensures .0) (piece .put-piece .ensures .1 .1) (fill .ensures) in
+    let ends = end-is (packetOf 15 (made .result)) g _ _ _ (at-put-piece .put-piece .ensures .0)
+    (at-put-piece .put-piece .ensures .1 .1) (fill .ensures) in
     ends ∙ ap (λ (l : List ℕ). endRoom (packetOf 15 l) g) (made .ensures)
 
 pub put-end-spec : {M : Type 1} → statement M

@@ -1,10 +1,9 @@
 use mathlib.Core.Path.{_≡_, refl, sym, ap, _∙_}
-use Prim.Native.Nat.{ℕ}
 use native.Mathlib.Omega.{arith}
 use lib.ListN.{length}
 use borrow.Author.Needs.{needs}
 use Rattle.card.specs.Packet.{packetOf}
-use Rattle.recorder.specs.Ring.{Ring, ringOf, packetRing}
+use Rattle.recorder.specs.Ring.{ringOf, packetRing}
 use Rattle.recorder.specs.RingLaws.{ring-piece, ring-whole, ring-part, ring-none}
 use Rattle.recorder.proofs.ring.put_packet.Statement.{statement}
 use Rattle.recorder.proofs.ring.put_packet.Tie as tie
@@ -15,7 +14,8 @@ use Rattle.recorder.proofs.ring.put_piece.Reads as put-piece-reads
 abbrev Inv-loop : tie.InvT-loop
 Inv-loop room₀ endpoint bytes at₀ turns₀ room at turns =
     (length room ≡ 2048)
-    × (packetRing turns (packetOf endpoint bytes) (ringOf at room) ≡ packetRing 4 (packetOf endpoint bytes) (ringOf at₀ room₀))
+    × (packetRing turns (packetOf endpoint bytes) (ringOf at room)
+    ≡ packetRing 4 (packetOf endpoint bytes) (ringOf at₀ room₀))
 
 abbrev μ-loop : tie.MeasureT-loop
 μ-loop room₀ endpoint bytes at₀ turns₀ room at turns = turns
@@ -26,20 +26,23 @@ loop-holds c = (omega arith, refl)
 put-piece-requires : tie.Need-put-piece-requires Inv-loop μ-loop
 put-piece-requires c κs =
     let fine = c .before .before .before .before .before .pre in
-    (c .before .before .loop .inv .0, fine .1, fine .2, fine .3)
+    let looped = c .before .before .loop in
+    (looped .inv .0, fine .1, fine .2, fine .3)
 
 same-length : tie.Need-same-length Inv-loop μ-loop
 same-length c = search needs
 
 returns : tie.Need-returns Inv-loop μ-loop
 returns c =
+    let at-at-loop = c .before .before .before .before .before .before .before in
     let call = c .before .before .before .before .put-piece in
-    let turn = c .before .before .before .before .before .before .before in
-    let s = turn .before .before .before .args in
+    let if1 = c .if1 in
+    let s = at-at-loop .before .before .before .args in
     let p = packetOf (s .endpoint) (s .bytes .now) in
-    let g = ringOf (turn .loop .at) (turn .loop .room) in
+    let g = ringOf (at-at-loop .loop .at) (at-at-loop .loop .room) in
     let now = ring-piece p g _ _ (call .ensures .0) (call .ensures .1 .1) in
-    now ∙ ring-whole (turn .loop .turns) p g (omega arith) (sym (call .ensures .1 .0) ∙ c .if1 .taken) ∙ turn .loop .inv .1
+    now ∙ ring-whole (at-at-loop .loop .turns) p g (omega arith) (sym (call .ensures .1 .0) ∙ if1 .taken)
+    ∙ at-at-loop .loop .inv .1
 
 sub-turns : tie.Need-sub-turns Inv-loop μ-loop
 sub-turns c = omega arith
@@ -49,14 +52,16 @@ loop-less c = omega arith
 
 loop-again : tie.Need-loop-again Inv-loop μ-loop
 loop-again c =
+    let at-at-loop = c .before .before .before .before .before .before .before in
     let call = c .before .before .before .before .put-piece in
-    let turn = c .before .before .before .before .before .before .before in
-    let s = turn .before .before .before .args in
+    let if1 = c .if1 in
+    let s = at-at-loop .before .before .before .args in
     let p = packetOf (s .endpoint) (s .bytes .now) in
-    let g = ringOf (turn .loop .at) (turn .loop .room) in
+    let g = ringOf (at-at-loop .loop .at) (at-at-loop .loop .room) in
     let now = ring-piece p g _ _ (call .ensures .0) (call .ensures .1 .1) in (
       search needs,
-      ap (packetRing _ p) now ∙ ring-part (turn .loop .turns) p g (omega arith) (sym (call .ensures .1 .0) ∙ c .if1 .left) ∙ turn .loop .inv .1,
+      ap (packetRing _ p) now ∙ ring-part (at-at-loop .loop .turns) p g (omega arith) (sym (call .ensures .1 .0)
+          ∙ if1 .left) ∙ at-at-loop .loop .inv .1,
     )
 
 same-length-2 : tie.Need-same-length-2 Inv-loop μ-loop
@@ -64,12 +69,13 @@ same-length-2 c = search needs
 
 returns-2 : tie.Need-returns-2 Inv-loop μ-loop
 returns-2 c =
-    let v = c .before .loop in
     let s = c .before .before .before .before .args in
+    let v = c .before .loop in
     let p = packetOf (s .endpoint) (s .bytes .now) in
     ring-none (v .turns) p (ringOf (v .at) (v .room)) (omega arith) ∙ v .inv .1
 
 pub put-packet-spec : {M : Type 1} → statement M
 put-packet-spec =
-    tie.close (tie.spec Inv-loop μ-loop loop-holds put-piece-requires same-length returns sub-turns loop-less loop-again same-length-2
+    tie.close (tie.spec Inv-loop μ-loop loop-holds put-piece-requires same-length returns sub-turns loop-less loop-again
+    same-length-2
     returns-2)

@@ -41,14 +41,16 @@ same-length c = search needs
 -- src/ring.rt:66:1
 returns : tie.Need-returns
 returns c =
-    let c3 = c .before .before .before in
-    let c6 = c3 .before .before .before in
-    let put = c .before .before .put-packet in
-    let n = c3 .before .before .before .padding-of in
+    let at-put-packet-arg2 = c .before .before .before in
+    let put-packet = c .before .before .put-packet in
+    let c6 = at-put-packet-arg2 .before .before .before in
+    let put = put-packet in
+    let n = at-put-packet-arg2 .before .before .before .padding-of in
     let s = c6 .before .before .args in
     let g = ringOf (s .w) (now (s .room)) in
     put .ensures
-    ∙ ap (λ (l : List ℕ). packetRing 4 (packetOf 15 l) g) (zeros-part (n .result) 501 (n .ensures .1) ∙ ap (λ (x : ℕ). replicate x 0) (n .ensures .0))
+    ∙ ap (λ (l : List ℕ). packetRing 4 (packetOf 15 l) g) (zeros-part (n .result) 501 (n .ensures .1)
+    ∙ ap (λ (x : ℕ). replicate x 0) (n .ensures .0))
 
 pub put-padding-spec : {M : Type 1} → statement M
 put-padding-spec =

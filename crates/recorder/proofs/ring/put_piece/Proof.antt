@@ -53,13 +53,14 @@ same-length c = search needs
 -- src/ring.rt:19:1
 returns : tie.Need-returns
 returns c =
-    let before-match = c .before .before .before in
-    let call = before-match .before .write in
-    let s = before-match .before .before .before .before .before .before .args in
+    let at-room = c .before .before .before in
+    let enum-told-fact = c .enum-told in
+    let call = at-room .before .write in
+    let s = at-room .before .before .before .before .before .before .args in
     let p = packetOf (s .endpoint) (now (s .bytes)) in
     let fine : Writable p = record { numbered = omega arith; small = omega arith; short = omega arith } in
     let wrote = piece-wrote (s .w) p (now (s .room)) _ _ (omega arith) fine (call .ensures .0) (call .ensures .1) in
-    absurd (not-refused (s .w) p _ (sym (c .enum-told .given .1) ∙ wrote .0))
+    absurd (not-refused (s .w) p _ (sym (enum-told-fact .given .1) ∙ wrote .0))
 
 -- src/ring.rt:19:1
 same-length-2 : tie.Need-same-length-2
@@ -68,13 +69,14 @@ same-length-2 c = search needs
 -- src/ring.rt:19:1
 returns-2 : tie.Need-returns-2
 returns-2 c =
-    let before-match = c .before .before .before in
-    let call = before-match .before .before .write in
-    let s = before-match .before .before .before .before .before .before .before .args in
+    let at-slice-known2 = c .before .before .before in
+    let next = c .before .next in
+    let call = at-slice-known2 .before .before .write in
+    let s = at-slice-known2 .before .before .before .before .before .before .before .args in
     let p = packetOf (s .endpoint) (now (s .bytes)) in
     let fine : Writable p = record { numbered = omega arith; small = omega arith; short = omega arith } in
     let wrote = piece-wrote (s .w) p (now (s .room)) _ _ (omega arith) fine (call .ensures .0) (call .ensures .1) in
-    let parts = piece-parts (s .w) p _ _ _ (sym (c .before .next .given .1) ∙ wrote .0) in
+    let parts = piece-parts (s .w) p _ _ _ (sym (next .given .1) ∙ wrote .0) in
     (parts .0, (parts .1, wrote .1))
 
 pub put-piece-spec : {M : Type 1} → statement M

@@ -1,4 +1,3 @@
-use native.Mathlib.Omega.{arith}
 use denote.Ref.{now}
 use Rattle.card.specs.Packet.{packetOf}
 use Rattle.recorder.specs.Ring.{ringOf}
@@ -26,12 +25,14 @@ same-length c = search needs
 -- src/ring.rt:83:9
 returns : tie.Need-returns
 returns c =
-    let c3 = c .before .before .before in
-    let c6 = c3 .before .before .before in
+    let at-put-padding-arg = c .before .before .before in
+    let put-padding = c .before .before .put-padding in
+    let c6 = at-put-padding-arg .before .before .before in
     let c9 = c6 .before .before .before in
     let s = c9 .before .before .before .args in
     let p = packetOf (s .endpoint) (now (s .bytes)) in
-    record-padded p (ringOf (s .w) (now (s .room))) _ _ (c6 .before .before .put-packet .ensures) (c3 .before .if1 .taken) (c .before .before .put-padding .ensures)
+    record-padded p (ringOf (s .w) (now (s .room))) _ _ (c6 .before .before .put-packet .ensures)
+    (at-put-padding-arg .before .if1 .taken) (put-padding .ensures)
 
 -- src/ring.rt:77:1
 same-length-2 : tie.Need-same-length-2
@@ -40,11 +41,12 @@ same-length-2 c = search needs
 -- src/ring.rt:77:1
 returns-2 : tie.Need-returns-2
 returns-2 c =
-    let c3 = c .before .before .before in
-    let c6 = c3 .before .before .before in
+    let at-room = c .before .before .before in
+    let if1 = c .if1 in
+    let c6 = at-room .before .before .before in
     let s = c6 .before .before .args in
     let p = packetOf (s .endpoint) (now (s .bytes)) in
-    record-plain p (ringOf (s .w) (now (s .room))) _ (c3 .before .put-packet .ensures) (c .if1 .left)
+    record-plain p (ringOf (s .w) (now (s .room))) _ (at-room .before .put-packet .ensures) (if1 .left)
 
 pub put-record-spec : {M : Type 1} → statement M
 put-record-spec =

@@ -5,7 +5,9 @@ use Rattle.regs.proofs.control_word.ack.Reads as reads
 use Rattle.regs.proofs.control_word.ack.Lts as lts
 
 returns : tie.Need-returns
-returns c = acks (c .args .word) (c .fits .word .fits)
+returns c =
+    let start = c in
+    acks (start .args .word) (start .fits .word .fits)
 
 pub ack-spec : {M : Type 1} → statement M
 ack-spec = tie.close (tie.spec returns)

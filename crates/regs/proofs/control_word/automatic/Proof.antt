@@ -11,7 +11,9 @@ byte-has-requires c κs = search needs
 
 returns : tie.Need-returns
 unfolding automatic
-returns c = c .byte-has .ensures
+returns c =
+    let byte-has = c .byte-has in
+    byte-has .ensures
 
 pub automatic-spec : {M : Type 1} → statement M
 automatic-spec = tie.close (tie.spec byte-has-requires returns)

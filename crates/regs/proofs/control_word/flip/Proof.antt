@@ -15,13 +15,21 @@ toggle-requires c κs = search needs
 
 returns : tie.Need-returns
 unfolding flip
-returns c = simp (eq-eqb _ _ (sym (c .before .toggle .ensures) ∙ c .if1 .taken))
-    (toggles (c .before .before .args .word) 1 (c .before .before .fits .word .fits) (omega arith))
+returns c =
+    let start = c .before .before in
+    let toggle = c .before .toggle in
+    let if1 = c .if1 in
+    simp (eq-eqb _ _ (sym (toggle .ensures) ∙ if1 .taken))
+    (toggles (start .args .word) 1 (start .fits .word .fits) (omega arith))
 
 returns-2 : tie.Need-returns-2
 unfolding flip
-returns-2 c = simp (ne-eqb _ _ (λ z. c .if1 .left (c .before .toggle .ensures ∙ z)))
-    (toggles-back (c .before .before .args .word) (c .before .before .fits .word .fits))
+returns-2 c =
+    let start = c .before .before in
+    let toggle = c .before .toggle in
+    let if1 = c .if1 in
+    simp (ne-eqb _ _ (λ z. if1 .left (toggle .ensures ∙ z)))
+    (toggles-back (start .args .word) (start .fits .word .fits))
 
 pub flip-spec : {M : Type 1} → statement M
 flip-spec = tie.close (tie.spec toggle-requires returns returns-2)

@@ -11,7 +11,9 @@ toggle-requires c κs = search needs
 
 returns : tie.Need-returns
 unfolding isData1
-returns c = rw (c .toggle .ensures)
+returns c =
+    let toggle = c .toggle in
+    rw (toggle .ensures)
 
 pub is-data1-spec : {M : Type 1} → statement M
 is-data1-spec = tie.close (tie.spec toggle-requires returns)

@@ -11,7 +11,9 @@ response-requires c κs = search needs
 
 returns : tie.Need-returns
 unfolding isStalled
-returns c = rw (c .response .ensures)
+returns c =
+    let response = c .response in
+    rw (response .ensures)
 
 pub is-stalled-spec : {M : Type 1} → statement M
 is-stalled-spec = tie.close (tie.spec response-requires returns)

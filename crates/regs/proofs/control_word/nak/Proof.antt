@@ -8,7 +8,9 @@ use Rattle.regs.proofs.control_word.nak.Lts as lts
 
 returns : tie.Need-returns
 unfolding nak
-returns c = responds (c .args .word) 2 (c .fits .word .fits) (omega arith)
+returns c =
+    let start = c in
+    responds (start .args .word) 2 (start .fits .word .fits) (omega arith)
 
 pub nak-spec : {M : Type 1} → statement M
 nak-spec = tie.close (tie.spec returns)

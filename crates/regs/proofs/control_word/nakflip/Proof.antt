@@ -16,7 +16,10 @@ flip-requires c κs = search needs
 
 returns : tie.Need-returns
 unfolding nakflip
-returns c = c .flip .ensures ∙ ap flip (c .before .nak .ensures)
+returns c =
+    let nak = c .before .nak in
+    let flip-fact = c .flip in
+    flip-fact .ensures ∙ ap flip (nak .ensures)
 
 pub nakflip-spec : {M : Type 1} → statement M
 nakflip-spec = tie.close (tie.spec nak-requires flip-requires returns)

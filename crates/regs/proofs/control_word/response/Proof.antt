@@ -7,7 +7,9 @@ use Rattle.regs.proofs.control_word.response.Lts as lts
 
 returns : tie.Need-returns
 unfolding response
-returns c = and-mask (c .args .word) 2
+returns c =
+    let start = c in
+    and-mask (start .args .word) 2
 
 pub response-spec : {M : Type 1} → statement M
 response-spec = tie.close (tie.spec returns)

@@ -8,7 +8,9 @@ use Rattle.regs.proofs.control_word.stall.Lts as lts
 
 returns : tie.Need-returns
 unfolding stall
-returns c = responds (c .args .word) 3 (c .fits .word .fits) (omega arith)
+returns c =
+    let start = c in
+    responds (start .args .word) 3 (start .fits .word .fits) (omega arith)
 
 pub stall-spec : {M : Type 1} → statement M
 stall-spec = tie.close (tie.spec returns)

@@ -5,7 +5,9 @@ use Rattle.regs.proofs.control_word.status.Reads as reads
 use Rattle.regs.proofs.control_word.status.Lts as lts
 
 returns : tie.Need-returns
-returns c = status-word (c .args .word) (c .fits .word .fits)
+returns c =
+    let start = c in
+    status-word (start .args .word) (start .fits .word .fits)
 
 pub status-spec : {M : Type 1} → statement M
 status-spec = tie.close (tie.spec returns)

@@ -7,7 +7,9 @@ use Rattle.regs.proofs.control_word.toggle.Lts as lts
 
 returns : tie.Need-returns
 unfolding toggle
-returns c = reads-field (c .args .word) 2 2
+returns c =
+    let start = c in
+    reads-field (start .args .word) 2 2
 
 pub toggle-spec : {M : Type 1} → statement M
 toggle-spec = tie.close (tie.spec returns)

@@ -8,11 +8,15 @@ use Rattle.regs.proofs.enables.in_enabled.Reads as reads
 use Rattle.regs.proofs.enables.in_enabled.Lts as lts
 
 cast-result : tie.Need-cast-result
-cast-result c = omega (arith, and-mask (c .args .config) 16)
+cast-result c =
+    let start = c in
+    omega (arith, and-mask (start .args .config) 16)
 
 returns : tie.Need-returns
 unfolding inEnabled
-returns c = ap (bitAnd (c .args .mask)) (and-mask (c .args .config) 16)
+returns c =
+    let start = c in
+    ap (bitAnd (start .args .mask)) (and-mask (start .args .config) 16)
 
 pub in-enabled-spec : {M : Type 1} → statement M
 in-enabled-spec = tie.close (tie.spec cast-result returns)

@@ -19,8 +19,12 @@ is-set-requires c κs = search needs
 
 returns : tie.Need-returns
 unfolding isOn
-returns c = c .is-set .ensures ∙ ap (isSet (c .before .before .args .word))
-    (ap (λ (x : ℕ). x % 32) (c .before .place .ensures) ∙ place-mod (c .before .before .args .dir) (c .before .before .args .endpoint))
+returns c =
+    let start = c .before .before in
+    let place = c .before .place in
+    let is-set = c .is-set in
+    is-set .ensures ∙ ap (isSet (start .args .word))
+    (ap (λ (x : ℕ). x % 32) (place .ensures) ∙ place-mod (start .args .dir) (start .args .endpoint))
 
 pub is-on-spec : {M : Type 1} → statement M
 is-on-spec = tie.close (tie.spec place-requires is-set-requires returns)

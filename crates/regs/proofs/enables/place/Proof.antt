@@ -14,10 +14,14 @@ add-result : tie.Need-add-result
 add-result c = search needs
 
 returns : tie.Need-returns
-returns c = simp (c .enum-told .given .1)
+returns c =
+    let enum-told-fact = c .enum-told in
+    simp (enum-told-fact .given .1)
 
 returns-2 : tie.Need-returns-2
-returns-2 c = simp (c .enum-told2 .given .1)
+returns-2 c =
+    let enum-told2 = c .enum-told2 in
+    simp (enum-told2 .given .1)
 
 pub place-spec : {M : Type 1} → statement M
 place-spec = tie.close (tie.spec enum-told enum-told-2 add-result returns returns-2)

@@ -19,8 +19,12 @@ with-bit-requires c κs = search needs
 
 returns : tie.Need-returns
 unfolding withOn
-returns c = c .with-bit .ensures ∙ ap (λ (x : ℕ). withBit (c .before .before .args .word) x (c .before .before .args .on))
-    (ap (λ (x : ℕ). x % 32) (c .before .place .ensures) ∙ place-mod (c .before .before .args .dir) (c .before .before .args .endpoint))
+returns c =
+    let start = c .before .before in
+    let place = c .before .place in
+    let with-bit = c .with-bit in
+    with-bit .ensures ∙ ap (λ (x : ℕ). withBit (start .args .word) x (start .args .on))
+    (ap (λ (x : ℕ). x % 32) (place .ensures) ∙ place-mod (start .args .dir) (start .args .endpoint))
 
 pub with-on-spec : {M : Type 1} → statement M
 with-on-spec = tie.close (tie.spec place-requires with-bit-requires returns)

@@ -6,7 +6,9 @@ byte-with-requires : tie.Need-byte-with-requires
 byte-with-requires c κs = search needs
 
 returns : tie.Need-returns
-returns c = c .byte-with .ensures
+returns c =
+    let byte-with = c .byte-with in
+    byte-with .ensures
 
 pub with-bus-rst-spec : {M : Type 1} → statement M
 with-bus-rst-spec = tie.close (tie.spec byte-with-requires returns)

@@ -9,10 +9,15 @@ shr-result : tie.Need-shr-result
 shr-result c = search needs
 
 returns : tie.Need-returns
-returns c = none-above (c .before .args .value) (c .before .args .width)
+returns c =
+    let start = c .before in
+    none-above (start .args .value) (start .args .width)
 
 returns-2 : tie.Need-returns-2
-returns-2 c = all-fit (c .before .args .value) (c .before .args .width) (c .before .fits .value .fits) (c .if1 .left)
+returns-2 c =
+    let start = c .before in
+    let if1 = c .if1 in
+    all-fit (start .args .value) (start .args .width) (start .fits .value .fits) (if1 .left)
 
 pub fits-spec : {M : Type 1} → statement M
 fits-spec = tie.close (tie.spec shr-result returns returns-2)

@@ -7,7 +7,9 @@ use Rattle.regs.proofs.status.endpoint.Lts as lts
 
 returns : tie.Need-returns
 unfolding endpoint
-returns c = and-mask (c .args .status) 4
+returns c =
+    let start = c in
+    and-mask (start .args .status) 4
 
 pub endpoint-spec : {M : Type 1} → statement M
 endpoint-spec = tie.close (tie.spec returns)

@@ -12,7 +12,9 @@ token-number-requires c κs = search needs
 
 returns : tie.Need-returns
 unfolding isIn token
-returns c = ap (λ (n : ℕ). eqb n 2) (c .token-number .ensures) ∙ sym (in-numbered _)
+returns c =
+    let token-number = c .token-number in
+    ap (λ (n : ℕ). eqb n 2) (token-number .ensures) ∙ sym (in-numbered _)
 
 pub is-in-spec : {M : Type 1} → statement M
 is-in-spec = tie.close (tie.spec token-number-requires returns)

@@ -12,7 +12,9 @@ token-number-requires c κs = search needs
 
 returns : tie.Need-returns
 unfolding isOut token
-returns c = ap (λ (n : ℕ). eqb n 0) (c .token-number .ensures) ∙ sym (out-numbered _)
+returns c =
+    let token-number = c .token-number in
+    ap (λ (n : ℕ). eqb n 0) (token-number .ensures) ∙ sym (out-numbered _)
 
 pub is-out-spec : {M : Type 1} → statement M
 is-out-spec = tie.close (tie.spec token-number-requires returns)

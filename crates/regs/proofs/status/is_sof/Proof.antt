@@ -12,7 +12,9 @@ token-number-requires c κs = search needs
 
 returns : tie.Need-returns
 unfolding isSof token
-returns c = ap (λ (n : ℕ). eqb n 1) (c .token-number .ensures) ∙ sym (sof-numbered _)
+returns c =
+    let token-number = c .token-number in
+    ap (λ (n : ℕ). eqb n 1) (token-number .ensures) ∙ sym (sof-numbered _)
 
 pub is-sof-spec : {M : Type 1} → statement M
 is-sof-spec = tie.close (tie.spec token-number-requires returns)

@@ -43,15 +43,15 @@ same-length c = search needs
 
 returns : tie.Need-returns
 returns c =
-    let p4 = c .before .before in
-    let p3 = p4 .before .before .before .before in
+    let at-put44 = c .before .before in
+    let p3 = at-put44 .before .before .before .before in
     let p2 = p3 .before .before .before .before in
     let p1 = p2 .before .before .before .before in
     let g4 = p1 .before .before in
     let s = g4 .before .before .before .before .before .before .args in
     let t = s .packet .now in
     let i = s .i in
-    let f4 = p4 .put44 .ensures ∙ four-stores t (p3 .put43 .last .0) (i + 12) (g4 .get44 .ensures) in
+    let f4 = at-put44 .put44 .ensures ∙ four-stores t (p3 .put43 .last .0) (i + 12) (g4 .get44 .ensures) in
     let f3 = p3 .put43 .ensures ∙ four-stores t (p2 .put42 .last .0) (i + 8) (g4 .before .get43 .ensures) in
     let f2 = p2 .put42 .ensures ∙ four-stores t (p1 .put4 .last .0) (i + 4) (g4 .before .before .get42 .ensures) in
     let f1 = p1 .put4 .ensures ∙ four-stores t (s .part .now) i (g4 .before .before .before .get4 .ensures) in
@@ -59,5 +59,6 @@ returns c =
 
 pub copy16-spec : {M : Type 1} → statement M
 copy16-spec =
-    tie.close (tie.spec add-j add-k add-l get4-requires get4-requires-2 get4-requires-3 get4-requires-4 put4-requires put4-requires-2 put4-requires-3
+    tie.close (tie.spec add-j add-k add-l get4-requires get4-requires-2 get4-requires-3 get4-requires-4 put4-requires
+    put4-requires-2 put4-requires-3
     put4-requires-4 same-length returns)

@@ -1,4 +1,4 @@
-use mathlib.Core.Path.{_≡_, refl, sym, ap, _∙_}
+use mathlib.Core.Path.{_≡_, refl, sym, _∙_}
 use Prim.Native.Nat.{_-_, _≤_}
 use native.Mathlib.Omega.{arith}
 use native.Mathlib.Nat.{sub-zero}
@@ -10,13 +10,16 @@ use Rattle.ring.proofs.marks.copy_few.Tie as tie
 
 abbrev Inv-loop : tie.InvT-loop
 Inv-loop part₀ packet n i₀ part i =
-    (length part ≡ length part₀) × (n ≤ length packet) × (n ≤ length part₀) × (copiedRun packet part i (n - i) ≡ copiedRun packet part₀ 0 n)
+    (length part ≡ length part₀) × (n ≤ length packet) × (n ≤ length part₀)
+    × (copiedRun packet part i (n - i) ≡ copiedRun packet part₀ 0 n)
 
 abbrev μ-loop : tie.MeasureT-loop
 μ-loop part₀ packet n i₀ part i = n - i
 
 loop-holds : tie.Need-loop-holds Inv-loop μ-loop
-loop-holds c = (refl, c .pre .0, c .pre .1, rw sub-zero)
+loop-holds c =
+    let start = c in
+    (refl, start .pre .0, start .pre .1, rw sub-zero)
 
 cast-part : tie.Need-cast-part Inv-loop μ-loop
 cast-part c = omega arith
@@ -39,9 +42,10 @@ loop-less c = omega arith
 loop-again : tie.Need-loop-again Inv-loop μ-loop
 loop-again c =
     let s = c .before .before .before .args in
-    let p = c .before .before .loop .part in
-    let i = c .before .before .loop .i in
-    let v = c .before .before .loop .inv in (
+    let looped = c .before .before .loop in
+    let p = looped .part in
+    let i = looped .i in
+    let v = looped .inv in (
       length-set p i _ ∙ v .0,
       v .1,
       v .2,
@@ -49,12 +53,18 @@ loop-again c =
     )
 
 same-length : tie.Need-same-length Inv-loop μ-loop
-same-length c = c .before .loop .inv .0
+same-length c =
+    let looped = c .before .loop in
+    looped .inv .0
 
 returns : tie.Need-returns Inv-loop μ-loop
-returns c = sym (copied-none _ _ _ _ (c .loop-test .left)) ∙ c .before .loop .inv .3
+returns c =
+    let looped = c .before .loop in
+    let loop-test = c .loop-test in
+    sym (copied-none _ _ _ _ (loop-test .left)) ∙ looped .inv .3
 
 pub copy-few-spec : {M : Type 1} → statement M
 copy-few-spec =
-    tie.close (tie.spec Inv-loop μ-loop loop-holds cast-part shared-slice-read-part cast-part-2 slice-write-part add-i loop-less loop-again
+    tie.close (tie.spec Inv-loop μ-loop loop-holds cast-part shared-slice-read-part cast-part-2 slice-write-part add-i
+    loop-less loop-again
     same-length returns)

@@ -35,7 +35,9 @@ same-length c = search needs
 returns-3 : tie.Need-returns-3
 returns-3 c =
     let s = c .before .before .before .before .before .before .before .before .args in
-    copied-fits (s .buf .now) (c .before .before .copy .last .0) (s .at) (s .packet .now) (omega arith) (c .before .before .copy .ensures)
+    let copy = c .before .before .copy in
+    copied-fits (s .buf .now) (copy .last .0) (s .at) (s .packet .now) (omega arith) (copy .ensures)
 
 pub copy-in-spec : {M : Type 1} → statement M
-copy-in-spec = tie.close (tie.spec returns sub-if2 returns-2 sub-copy part-copy-start part-copy-end copy-requires same-length returns-3)
+copy-in-spec = tie.close (tie.spec returns sub-if2 returns-2 sub-copy part-copy-start part-copy-end copy-requires
+    same-length returns-3)

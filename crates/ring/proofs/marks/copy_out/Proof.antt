@@ -36,8 +36,10 @@ same-length c = search needs
 returns-3 : tie.Need-returns-3
 returns-3 c =
     let s = c .before .before .before .before .before .before .before .before .before .args in
+    let copy = c .before .before .copy in
     out-fits (s .buf .now) (s .at) (s .out .now) (s .n) (s .at + s .n - s .at)
-    (c .before .before .copy .last .0) (omega arith) (omega arith) (omega arith) (c .before .before .copy .ensures)
+    (copy .last .0) (omega arith) (omega arith) (omega arith) (copy .ensures)
 
 pub copy-out-spec : {M : Type 1} → statement M
-copy-out-spec = tie.close (tie.spec add-e returns returns-2 sub-copy part-copy-start part-copy-end copy-requires same-length returns-3)
+copy-out-spec = tie.close (tie.spec add-e returns returns-2 sub-copy part-copy-start part-copy-end copy-requires
+    same-length returns-3)

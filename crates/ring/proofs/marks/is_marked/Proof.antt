@@ -9,7 +9,9 @@ add-if1 : tie.Need-add-if1
 add-if1 c = search needs
 
 returns : tie.Need-returns
-returns c = marked-short (c .before .before .args .buf .now) (c .before .before .args .at) (omega arith)
+returns c =
+    let start = c .before .before in
+    marked-short (start .args .buf .now) (start .args .at) (omega arith)
 
 sub-is-mark : tie.Need-sub-is-mark
 sub-is-mark c = search needs
@@ -26,7 +28,9 @@ is-mark-requires c κs = search needs
 returns-2 : tie.Need-returns-2
 returns-2 c =
     let s = c .before .before .before .before .args in
-    c .is-mark .ensures ∙ marked-fits (s .buf .now) (s .at) (omega arith)
+    let is-mark = c .is-mark in
+    is-mark .ensures ∙ marked-fits (s .buf .now) (s .at) (omega arith)
 
 pub is-marked-spec : {M : Type 1} → statement M
-is-marked-spec = tie.close (tie.spec add-if1 returns sub-is-mark part-is-mark-start part-is-mark-end is-mark-requires returns-2)
+is-marked-spec = tie.close (tie.spec add-if1 returns sub-is-mark part-is-mark-start part-is-mark-end is-mark-requires
+    returns-2)

@@ -31,8 +31,10 @@ same-length c = search needs
 returns-2 : tie.Need-returns-2
 returns-2 c =
     let s = c .before .before .before .before .before .before .before .before .args in
-    let w = c .before .before .before .before .before .before .armed-words .ensures in
-    armed-words-fit (s .buf .now) _ (s .at) (s .at / 4) (s .max) _ (omega arith) w (omega arith) (c .before .before .mark-aligned .ensures)
+    let armed-words = c .before .before .before .before .before .before .armed-words in
+    let mark-aligned = c .before .before .mark-aligned in
+    let w = armed-words .ensures in
+    armed-words-fit (s .buf .now) _ (s .at) (s .at / 4) (s .max) _ (omega arith) w (omega arith) (mark-aligned .ensures)
 
 sub-mark-words : tie.Need-sub-mark-words
 sub-mark-words c = search needs
@@ -52,10 +54,13 @@ same-length-2 c = search needs
 returns-3 : tie.Need-returns-3
 returns-3 c =
     let s = c .before .before .before .before .before .before .before .before .args in
-    let w = c .before .before .before .before .before .before .armed-words .ensures in
-    armed-fits (s .buf .now) (c .before .before .mark-words .last .0) (s .at) (s .max) _ w (omega arith) (c .before .before .mark-words .ensures)
+    let armed-words = c .before .before .before .before .before .before .armed-words in
+    let mark-words = c .before .before .mark-words in
+    let w = armed-words .ensures in
+    armed-fits (s .buf .now) (mark-words .last .0) (s .at) (s .max) _ w (omega arith) (mark-words .ensures)
 
 pub iso-out-arm-spec : {M : Type 1} → statement M
 iso-out-arm-spec =
-    tie.close (tie.spec armed-words-requires cast-if1 mul-if1 add-if1 returns mark-aligned-requires same-length returns-2 sub-mark-words part-mark-words-start
+    tie.close (tie.spec armed-words-requires cast-if1 mul-if1 add-if1 returns mark-aligned-requires same-length
+    returns-2 sub-mark-words part-mark-words-start
     part-mark-words-end mark-words-requires same-length-2 returns-3)

@@ -15,7 +15,9 @@ abbrev μ-loop : tie.MeasureT-loop
 μ-loop part max n₀ n = n
 
 loop-holds : tie.Need-loop-holds Inv-loop μ-loop
-loop-holds c = (omega arith, c .before .pre, refl)
+loop-holds c =
+    let start = c .before in
+    (omega arith, start .pre, refl)
 
 cast-k : tie.Need-cast-k Inv-loop μ-loop
 cast-k c = search needs
@@ -32,7 +34,9 @@ mark-byte-requires c κs = search needs
 returns : tie.Need-returns Inv-loop μ-loop
 returns c =
     let at = c .before .before .before .before .loop in
-    sym (found-here _ (at .n) (omega arith) (λ e. c .if1 .taken (e ∙ sym (c .before .mark-byte .ensures)))) ∙ at .inv .2
+    let mark-byte = c .before .mark-byte in
+    let if1 = c .if1 in
+    sym (found-here _ (at .n) (omega arith) (λ e. if1 .taken (e ∙ sym (mark-byte .ensures)))) ∙ at .inv .2
 
 sub-skip-words : tie.Need-sub-skip-words Inv-loop μ-loop
 sub-skip-words c = omega arith
@@ -46,13 +50,19 @@ loop-less c = omega arith
 loop-again : tie.Need-loop-again Inv-loop μ-loop
 loop-again c =
     let at = c .before .before .before .before .before .loop in
-    let e = found-below _ (at .n) (omega arith) (c .before .if1 .left ∙ c .before .before .mark-byte .ensures) in
-    (omega arith, at .inv .1, c .skip-words .ensures .1 ∙ sym e ∙ at .inv .2)
+    let mark-byte = c .before .before .mark-byte in
+    let if1 = c .before .if1 in
+    let skip-words = c .skip-words in
+    let e = found-below _ (at .n) (omega arith) (if1 .left ∙ mark-byte .ensures) in
+    (omega arith, at .inv .1, skip-words .ensures .1 ∙ sym e ∙ at .inv .2)
 
 returns-2 : tie.Need-returns-2 Inv-loop μ-loop
-returns-2 c = sym (found-none _ _ (omega arith)) ∙ c .before .loop .inv .2
+returns-2 c =
+    let looped = c .before .loop in
+    sym (found-none _ _ (omega arith)) ∙ looped .inv .2
 
 pub len-part-spec : {M : Type 1} → statement M
 len-part-spec =
-    tie.close (tie.spec Inv-loop μ-loop loop-holds cast-k sub-k shared-slice-read-if1 mark-byte-requires returns sub-skip-words skip-words-requires
+    tie.close (tie.spec Inv-loop μ-loop loop-holds cast-k sub-k shared-slice-read-if1 mark-byte-requires returns
+    sub-skip-words skip-words-requires
     loop-less loop-again returns-2)

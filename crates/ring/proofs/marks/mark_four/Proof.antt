@@ -29,14 +29,16 @@ same-length c = search needs
 
 returns : tie.Need-returns
 returns c =
-    let w4 = c .before .before in
-    let w3 = w4 .before .before .before .before in
+    let at-mark-word4 = c .before .before in
+    let w3 = at-mark-word4 .before .before .before .before in
     let w2 = w3 .before .before .before .before in
     let w1 = w2 .before .before .before .before in
     let s = w1 .before .before .before .args in
-    rw (w4 .mark-word4 .ensures, w3 .mark-word3 .ensures, w2 .mark-word2 .ensures, w1 .mark-word .ensures) (run-four (s .part .now) (s .i))
+    rw (at-mark-word4 .mark-word4 .ensures, w3 .mark-word3 .ensures, w2 .mark-word2 .ensures, w1 .mark-word .ensures)
+    (run-four (s .part .now) (s .i))
 
 pub mark-four-spec : {M : Type 1} → statement M
 mark-four-spec =
-    tie.close (tie.spec mark-word-requires add-mark-word mark-word-requires-2 add-mark-word-2 mark-word-requires-3 add-mark-word-3
+    tie.close (tie.spec mark-word-requires add-mark-word mark-word-requires-2 add-mark-word-2 mark-word-requires-3
+    add-mark-word-3
     mark-word-requires-4 same-length returns)

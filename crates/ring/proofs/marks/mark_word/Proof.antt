@@ -33,9 +33,12 @@ same-length : tie.Need-same-length
 same-length c = search needs
 
 returns : tie.Need-returns
-returns c = stores (c .args .part .now) (c .args .i)
+returns c =
+    let start = c in
+    stores (start .args .part .now) (start .args .i)
 
 pub mark-word-spec : {M : Type 1} → statement M
 mark-word-spec =
-    tie.close (tie.spec mul-a slice-write-part add-part slice-write-part-2 add-part-2 slice-write-part-3 add-part-3 slice-write-part-4 same-length
+    tie.close (tie.spec mul-a slice-write-part add-part slice-write-part-2 add-part-2 slice-write-part-3 add-part-3
+    slice-write-part-4 same-length
     returns)

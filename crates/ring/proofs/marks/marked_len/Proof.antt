@@ -28,7 +28,9 @@ len-part-requires c κs = search needs
 returns-2 : tie.Need-returns-2
 returns-2 c =
     let s = c .before .before .before .before .args in
-    c .len-part .ensures ∙ len-fits (s .buf .now) (s .at) (s .max) (omega arith)
+    let len-part = c .len-part in
+    len-part .ensures ∙ len-fits (s .buf .now) (s .at) (s .max) (omega arith)
 
 pub marked-len-spec : {M : Type 1} → statement M
-marked-len-spec = tie.close (tie.spec add-if1 returns sub-len-part part-len-part-start part-len-part-end len-part-requires returns-2)
+marked-len-spec = tie.close (tie.spec add-if1 returns sub-len-part part-len-part-start part-len-part-end
+    len-part-requires returns-2)

@@ -32,11 +32,13 @@ same-length c = search needs
 
 returns : tie.Need-returns
 returns c =
-    let i = c .args .i in
+    let start = c in
+    let i = start .args .i in
     let e1 : suc i ≡ i + 1 = omega arith in
     let e2 : suc (i + 1) ≡ i + 2 = omega arith in
     let e3 : suc (i + 2) ≡ i + 3 = omega arith in
     rw (e1, e2, e3)
 
 pub put4-spec : {M : Type 1} → statement M
-put4-spec = tie.close (tie.spec slice-write-s add-s slice-write-s-2 add-s-2 slice-write-s-3 add-s-3 slice-write-s-4 same-length returns)
+put4-spec = tie.close (tie.spec slice-write-s add-s slice-write-s-2 add-s-2 slice-write-s-3 add-s-3 slice-write-s-4
+    same-length returns)

@@ -19,12 +19,15 @@ cast-result c = search needs
 
 returns : tie.Need-returns
 returns c =
-    let n = c .before .before .before .args .n in
+    let start = c .before .before .before in
+    let unmarked-words = c .unmarked-words in
+    let n = start .args .n in
     let e : n / 4 * 4 ≡ n = omega arith in
-    (omega arith, rw e at (c .unmarked-words .ensures .1))
+    (omega arith, rw e at (unmarked-words .ensures .1))
 
 returns-2 : tie.Need-returns-2
 returns-2 c = search needs
 
 pub skip-words-spec : {M : Type 1} → statement M
-skip-words-spec = tie.close (tie.spec cast-unmarked-words unmarked-words-requires mul-result cast-result returns returns-2)
+skip-words-spec = tie.close (tie.spec cast-unmarked-words unmarked-words-requires mul-result cast-result returns
+    returns-2)

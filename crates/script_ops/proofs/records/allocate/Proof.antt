@@ -31,9 +31,13 @@ unfolding allocatedOn givenTo
 returns c =
     let x = c .before .before .before .before .before .before .args in
     let a = c .before .before .before .before .load-allocator in
-    ended (x .s .now) (λ (b : Allocator). allocateOf b (x .kind) (x .address) (x .maximum) (x .dir)) (λ m. givenTo (x .dir) (x .kind) m (x .interval))
-    (x .maximum) _ _ (a .ensures) (c .before .before .before .alloc-endpoint .ensures) _ (c .before .store-allocator .ensures) 6
-    (large (a .result) (x .kind) (x .address) (x .maximum) (x .dir) (c .if1 .taken)) (λ _. refl)
+    let alloc-endpoint = c .before .before .before .alloc-endpoint in
+    let store-allocator = c .before .store-allocator in
+    let if1 = c .if1 in
+    ended (x .s .now) (λ (b : Allocator). allocateOf b (x .kind) (x .address) (x .maximum) (x .dir))
+    (λ m. givenTo (x .dir) (x .kind) m (x .interval))
+    (x .maximum) _ _ (a .ensures) (alloc-endpoint .ensures) _ (store-allocator .ensures) 6
+    (large (a .result) (x .kind) (x .address) (x .maximum) (x .dir) (if1 .taken)) (λ _. refl)
 
 maximum16-requires : tie.Need-maximum16-requires
 maximum16-requires c κs = search needs
@@ -45,12 +49,18 @@ returns-2 : tie.Need-returns-2
 unfolding allocatedOn
 returns-2 c =
     let x = c .before .before .before .before .before .before .before .before .before .args in
-    went-on (x .s .now) (λ (b : Allocator). allocateOf b (x .kind) (x .address) (x .maximum) (x .dir)) (λ m. givenTo (x .dir) (x .kind) m (x .interval))
-    (x .maximum) _ _ (c .before .before .before .before .before .before .before .load-allocator .ensures)
-    (c .before .before .before .before .before .before .alloc-endpoint .ensures) _ (c .before .before .before .before .store-allocator .ensures) _ _
-    (c .before .before .maximum16 .ensures) (c .given .ensures)
+    let load-allocator = c .before .before .before .before .before .before .before .load-allocator in
+    let alloc-endpoint = c .before .before .before .before .before .before .alloc-endpoint in
+    let store-allocator = c .before .before .before .before .store-allocator in
+    let maximum16 = c .before .before .maximum16 in
+    let given = c .given in
+    went-on (x .s .now) (λ (b : Allocator). allocateOf b (x .kind) (x .address) (x .maximum) (x .dir))
+    (λ m. givenTo (x .dir) (x .kind) m (x .interval))
+    (x .maximum) _ _ (load-allocator .ensures) (alloc-endpoint .ensures) _ (store-allocator .ensures) _ _
+    (maximum16 .ensures) (given .ensures)
 
 pub allocate-spec : {M : Type 1} → statement M
 allocate-spec =
-    tie.close (tie.spec load-allocator-requires alloc-endpoint-requires store-allocator-requires cast-if1 returns maximum16-requires given-requires
+    tie.close (tie.spec load-allocator-requires alloc-endpoint-requires store-allocator-requires cast-if1 returns
+    maximum16-requires given-requires
     returns-2)

@@ -31,9 +31,12 @@ unfolding allocatedEp0 startedWith
 returns c =
     let x = c .before .before .before .before .before .before .args in
     let a = c .before .before .before .before .load-allocator in
+    let allocate-ep0 = c .before .before .before .allocate-ep0 in
+    let store-allocator = c .before .store-allocator in
+    let if1 = c .if1 in
     ended (x .s .now) (λ (b : Allocator). allocateEp0Of b (x .maximum)) startedWith (x .maximum) _ _ (a .ensures)
-    (c .before .before .before .allocate-ep0 .ensures) _ (c .before .store-allocator .ensures) _
-    (large0 (a .result) (x .maximum) (c .if1 .taken)) (λ _. refl)
+    (allocate-ep0 .ensures) _ (store-allocator .ensures) _
+    (large0 (a .result) (x .maximum) (if1 .taken)) (λ _. refl)
 
 maximum16-requires : tie.Need-maximum16-requires
 maximum16-requires c κs = search needs
@@ -45,12 +48,17 @@ returns-2 : tie.Need-returns-2
 unfolding allocatedEp0
 returns-2 c =
     let x = c .before .before .before .before .before .before .before .before .before .args in
+    let load-allocator = c .before .before .before .before .before .before .before .load-allocator in
+    let allocate-ep0 = c .before .before .before .before .before .before .allocate-ep0 in
+    let store-allocator = c .before .before .before .before .store-allocator in
+    let maximum16 = c .before .before .maximum16 in
+    let started = c .started in
     went-on (x .s .now) (λ (b : Allocator). allocateEp0Of b (x .maximum)) startedWith (x .maximum) _ _
-    (c .before .before .before .before .before .before .before .load-allocator .ensures)
-    (c .before .before .before .before .before .before .allocate-ep0 .ensures) _ (c .before .before .before .before .store-allocator .ensures) _ _
-    (c .before .before .maximum16 .ensures) (c .started .ensures)
+    (load-allocator .ensures) (allocate-ep0 .ensures) _ (store-allocator .ensures) _ _
+    (maximum16 .ensures) (started .ensures)
 
 pub allocate0-spec : {M : Type 1} → statement M
 allocate0-spec =
-    tie.close (tie.spec load-allocator-requires allocate-ep0-requires store-allocator-requires cast-if1 returns maximum16-requires started-requires
+    tie.close (tie.spec load-allocator-requires allocate-ep0-requires store-allocator-requires cast-if1 returns
+    maximum16-requires started-requires
     returns-2)

@@ -17,8 +17,12 @@ set-ep-config-requires c κs = search needs
 returns : tie.Need-returns
 unfolding configStep
 returns c =
-    stepped (c .before .before .before .before .before .before .args .s .now) _ _ _ (λ g. g .«ep_config») withEpConfig _ _
-    (c .before .before .before .before .load-globals .ensures) (c .before .before .switched .ensures) (c .set-ep-config .ensures)
+    let start = c .before .before .before .before .before .before in
+    let load-globals = c .before .before .before .before .load-globals in
+    let switched = c .before .before .switched in
+    let set-ep-config = c .set-ep-config in
+    stepped (start .args .s .now) _ _ _ (λ g. g .«ep_config») withEpConfig _ _
+    (load-globals .ensures) (switched .ensures) (set-ep-config .ensures)
 
 pub config-step-spec : {M : Type 1} → statement M
 config-step-spec = tie.close (tie.spec load-globals-requires switched-requires set-ep-config-requires returns)

@@ -23,15 +23,20 @@ store-ep-requires c κs = search needs
 
 returns : tie.Need-returns
 unfolding recordGiven
-returns c = (
-  simp (
-    c .store-ep .ensures .0,
-    c .before .endpoint .ensures,
-    c .before .before .before .load-allocator .ensures,
-    c .before .before .before .before .before .load-ep .ensures,
-  ),
-  c .store-ep .ensures .1,
-)
+returns c =
+    let load-ep = c .before .before .before .before .before .load-ep in
+    let load-allocator = c .before .before .before .load-allocator in
+    let endpoint = c .before .endpoint in
+    let store-ep = c .store-ep in (
+      simp (
+        store-ep .ensures .0,
+        endpoint .ensures,
+        load-allocator .ensures,
+        load-ep .ensures,
+      ),
+      store-ep .ensures .1,
+    )
 
 pub give-record-spec : {M : Type 1} → statement M
-give-record-spec = tie.close (tie.spec load-ep-requires load-allocator-requires endpoint-requires store-ep-requires returns)
+give-record-spec = tie.close (tie.spec load-ep-requires load-allocator-requires endpoint-requires store-ep-requires
+    returns)

@@ -19,7 +19,11 @@ store-globals-requires c κs = search needs
 
 returns : tie.Need-returns
 unfolding setsGiven
-returns c = (simp (c .store-globals .ensures .0, c .before .with-sets .ensures, c .before .before .before .load-globals .ensures), c .store-globals .ensures .1)
+returns c =
+    let load-globals = c .before .before .before .load-globals in
+    let with-sets = c .before .with-sets in
+    let store-globals = c .store-globals in
+    (simp (store-globals .ensures .0, with-sets .ensures, load-globals .ensures), store-globals .ensures .1)
 
 pub give-sets-spec : {M : Type 1} → statement M
 give-sets-spec = tie.close (tie.spec load-globals-requires with-sets-requires store-globals-requires returns)

@@ -22,14 +22,19 @@ give-sets-requires c κs = search needs
 
 returns : tie.Need-returns
 unfolding givenTo
-returns c = (simp (c .before .a .given .1), refl)
+returns c =
+    let a = c .before .a in
+    (simp (a .given .1), refl)
 
 returns-2 : tie.Need-returns-2
 unfolding givenTo
-returns-2 c = (
-  simp (c .give-sets .ensures .0, c .before .before .give-record .ensures .0, c .before .before .before .before .before .a2 .given .1),
-  c .give-sets .ensures .1 ∙ c .before .before .give-record .ensures .1,
-)
+returns-2 c =
+    let a2 = c .before .before .before .before .before .a2 in
+    let give-record = c .before .before .give-record in
+    let give-sets = c .give-sets in (
+      simp (give-sets .ensures .0, give-record .ensures .0, a2 .given .1),
+      give-sets .ensures .1 ∙ give-record .ensures .1,
+    )
 
 pub given-spec : {M : Type 1} → statement M
 given-spec = tie.close (tie.spec enum-known-a enum-known-a-2 give-record-requires give-sets-requires returns returns-2)

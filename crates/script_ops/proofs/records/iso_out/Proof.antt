@@ -21,11 +21,17 @@ enum-told-2 c = search needs
 
 returns : tie.Need-returns
 unfolding isoOut
-returns c = simp (c .before .before .enum-told .given .1, c .is-on .ensures, c .before .load-ep .ensures)
+returns c =
+    let enum-told-fact = c .before .before .enum-told in
+    let load-ep = c .before .load-ep in
+    let is-on = c .is-on in
+    simp (enum-told-fact .given .1, is-on .ensures, load-ep .ensures)
 
 returns-2 : tie.Need-returns-2
 unfolding isoOut
-returns-2 c = simp (c .enum-told2 .given .1)
+returns-2 c =
+    let enum-told2 = c .enum-told2 in
+    simp (enum-told2 .given .1)
 
 pub iso-out-spec : {M : Type 1} → statement M
 iso-out-spec = tie.close (tie.spec enum-told load-ep-requires is-on-requires enum-told-2 returns returns-2)

@@ -24,15 +24,19 @@ receiving-requires c κs = search needs
 
 returns : tie.Need-returns
 unfolding placeOn
-returns c = (
-  simp (
-    c .before .before .before .before .before .load-ep .ensures,
-    c .before .before .before .enum-told2 .given .1,
-    ← c .before .receiving .ensures,
-    c .if1 .taken,
-  ),
-  (simp (c .before .before .before .enum-told2 .given .1, ← c .before .receiving .ensures, c .if1 .taken), refl),
-)
+returns c =
+    let load-ep = c .before .before .before .before .before .load-ep in
+    let enum-told2 = c .before .before .before .enum-told2 in
+    let receiving = c .before .receiving in
+    let if1 = c .if1 in (
+      simp (
+        load-ep .ensures,
+        enum-told2 .given .1,
+        ← receiving .ensures,
+        if1 .taken,
+      ),
+      (simp (enum-told2 .given .1, ← receiving .ensures, if1 .taken), refl),
+    )
 
 armed-requires : tie.Need-armed-requires
 armed-requires c κs = search needs
@@ -42,29 +46,39 @@ store-ep-requires c κs = search needs
 
 returns-2 : tie.Need-returns-2
 unfolding placeOn
-returns-2 c = (simp (c .enum-told .given .1, c .before .before .load-ep .ensures), (simp (c .enum-told .given .1), refl))
+returns-2 c =
+    let load-ep = c .before .before .load-ep in
+    let enum-told-fact = c .enum-told in
+    (simp (enum-told-fact .given .1, load-ep .ensures), (simp (enum-told-fact .given .1), refl))
 
 returns-3 : tie.Need-returns-3
 unfolding placeOn
-returns-3 c = (
-  simp (
-    c .before .before .before .before .before .before .before .before .load-ep .ensures,
-    c .before .before .before .before .before .before .enum-told2 .given .1,
-    ← c .before .before .before .before .receiving .ensures,
-    c .before .before .before .if1 .left,
-  ),
-  (
-    simp (
-      c .store-ep .ensures .0,
-      c .before .armed .ensures,
-      c .before .before .before .before .before .before .enum-told2 .given .1,
-      ← c .before .before .before .before .receiving .ensures,
-      c .before .before .before .if1 .left,
-      c .before .before .before .before .before .before .before .before .load-ep .ensures,
-    ),
-    c .store-ep .ensures .1,
-  ),
-)
+returns-3 c =
+    let load-ep = c .before .before .before .before .before .before .before .before .load-ep in
+    let enum-told2 = c .before .before .before .before .before .before .enum-told2 in
+    let receiving = c .before .before .before .before .receiving in
+    let if1 = c .before .before .before .if1 in
+    let armed = c .before .armed in
+    let store-ep = c .store-ep in (
+      simp (
+        load-ep .ensures,
+        enum-told2 .given .1,
+        ← receiving .ensures,
+        if1 .left,
+      ),
+      (
+        simp (
+          store-ep .ensures .0,
+          armed .ensures,
+          enum-told2 .given .1,
+          ← receiving .ensures,
+          if1 .left,
+          load-ep .ensures,
+        ),
+        store-ep .ensures .1,
+      ),
+    )
 
 pub place-spec : {M : Type 1} → statement M
-place-spec = tie.close (tie.spec load-ep-requires enum-told enum-told-2 receiving-requires returns armed-requires store-ep-requires returns-2 returns-3)
+place-spec = tie.close (tie.spec load-ep-requires enum-told enum-told-2 receiving-requires returns armed-requires
+    store-ep-requires returns-2 returns-3)

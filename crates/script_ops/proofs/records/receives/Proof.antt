@@ -11,7 +11,10 @@ mask-has-requires c κs = search needs
 
 returns : tie.Need-returns
 unfolding isoOuts
-returns c = simp (c .mask-has .ensures, c .before .out-enabled .ensures)
+returns c =
+    let out-enabled = c .before .out-enabled in
+    let mask-has = c .mask-has in
+    simp (mask-has .ensures, out-enabled .ensures)
 
 pub receives-spec : {M : Type 1} → statement M
 receives-spec = tie.close (tie.spec out-enabled-requires mask-has-requires returns)

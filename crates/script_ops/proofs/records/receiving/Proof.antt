@@ -9,7 +9,10 @@ receives-requires : tie.Need-receives-requires
 receives-requires c κs = search needs
 
 returns : tie.Need-returns
-returns c = simp (c .receives .ensures, c .before .load-globals .ensures)
+returns c =
+    let load-globals = c .before .load-globals in
+    let receives = c .receives in
+    simp (receives .ensures, load-globals .ensures)
 
 pub receiving-spec : {M : Type 1} → statement M
 receiving-spec = tie.close (tie.spec load-globals-requires receives-requires returns)

@@ -16,7 +16,10 @@ iso-out-requires c κs = search needs
 
 returns : tie.Need-returns
 unfolding enabledOn
-returns c = (simp (← c .before .iso-out .ensures, c .if1 .taken), refl)
+returns c =
+    let iso-out = c .before .iso-out in
+    let if1 = c .if1 in
+    (simp (← iso-out .ensures, if1 .taken), refl)
 
 load-globals-requires : tie.Need-load-globals-requires
 load-globals-requires c κs = search needs
@@ -29,16 +32,22 @@ set-ep-config-requires c κs = search needs
 
 returns-2 : tie.Need-returns-2
 unfolding enabledOn configured
-returns-2 c = (
-  simp (
-    c .set-ep-config .ensures .0,
-    c .before .with-on .ensures,
-    c .before .before .before .load-globals .ensures,
-    ← c .before .before .before .before .before .before .iso-out .ensures,
-    c .before .before .before .before .before .if1 .left,
-  ),
-  c .set-ep-config .ensures .1,
-)
+returns-2 c =
+    let iso-out = c .before .before .before .before .before .before .iso-out in
+    let if1 = c .before .before .before .before .before .if1 in
+    let load-globals = c .before .before .before .load-globals in
+    let with-on = c .before .with-on in
+    let set-ep-config = c .set-ep-config in (
+      simp (
+        set-ep-config .ensures .0,
+        with-on .ensures,
+        load-globals .ensures,
+        ← iso-out .ensures,
+        if1 .left,
+      ),
+      set-ep-config .ensures .1,
+    )
 
 pub set-enabled-spec : {M : Type 1} → statement M
-set-enabled-spec = tie.close (tie.spec iso-out-requires returns load-globals-requires with-on-requires set-ep-config-requires returns-2)
+set-enabled-spec = tie.close (tie.spec iso-out-requires returns load-globals-requires with-on-requires
+    set-ep-config-requires returns-2)

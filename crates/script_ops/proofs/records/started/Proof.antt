@@ -22,14 +22,20 @@ store-globals-requires c κs = search needs
 
 returns : tie.Need-returns
 unfolding startedWith
-returns c = (simp (c .before .a .given .1), refl)
+returns c =
+    let a = c .before .a in
+    (simp (a .given .1), refl)
 
 returns-2 : tie.Need-returns-2
 unfolding startedWith
-returns-2 c = (
-  simp (c .store-globals .ensures .0, c .before .before .load-globals .ensures, c .before .before .before .before .before .a2 .given .1),
-  c .store-globals .ensures .1,
-)
+returns-2 c =
+    let a2 = c .before .before .before .before .before .a2 in
+    let load-globals = c .before .before .load-globals in
+    let store-globals = c .store-globals in (
+      simp (store-globals .ensures .0, load-globals .ensures, a2 .given .1),
+      store-globals .ensures .1,
+    )
 
 pub started-spec : {M : Type 1} → statement M
-started-spec = tie.close (tie.spec enum-known-a enum-known-a-2 load-globals-requires store-globals-requires returns returns-2)
+started-spec = tie.close (tie.spec enum-known-a enum-known-a-2 load-globals-requires store-globals-requires returns
+    returns-2)

@@ -12,15 +12,24 @@ with-on-requires : tie.Need-with-on-requires
 with-on-requires c κs = search needs
 
 returns : tie.Need-returns
-returns c = simp (
-  c .with-on .ensures,
-  ← c .before .before .before .load-ep .ensures,
-  ← c .before .before .is-on .ensures,
-  c .before .if1 .taken,
-)
+returns c =
+    let load-ep = c .before .before .before .load-ep in
+    let is-on = c .before .before .is-on in
+    let if1 = c .before .if1 in
+    let with-on = c .with-on in
+    simp (
+      with-on .ensures,
+      ← load-ep .ensures,
+      ← is-on .ensures,
+      if1 .taken,
+    )
 
 returns-2 : tie.Need-returns-2
-returns-2 c = simp (← c .before .before .load-ep .ensures, ← c .before .is-on .ensures, c .if1 .left)
+returns-2 c =
+    let load-ep = c .before .before .load-ep in
+    let is-on = c .before .is-on in
+    let if1 = c .if1 in
+    simp (← load-ep .ensures, ← is-on .ensures, if1 .left)
 
 pub switched-spec : {M : Type 1} → statement M
 switched-spec = tie.close (tie.spec load-ep-requires is-on-requires with-on-requires returns returns-2)

@@ -17,8 +17,12 @@ set-ep-type-requires c κs = search needs
 returns : tie.Need-returns
 unfolding typeStep
 returns c =
-    stepped (c .before .before .before .before .before .before .args .s .now) _ _ _ (λ g. g .«ep_type») withEpType _ _
-    (c .before .before .before .before .load-globals .ensures) (c .before .before .switched .ensures) (c .set-ep-type .ensures)
+    let start = c .before .before .before .before .before .before in
+    let load-globals = c .before .before .before .before .load-globals in
+    let switched = c .before .before .switched in
+    let set-ep-type = c .set-ep-type in
+    stepped (start .args .s .now) _ _ _ (λ g. g .«ep_type») withEpType _ _
+    (load-globals .ensures) (switched .ensures) (set-ep-type .ensures)
 
 pub type-step-spec : {M : Type 1} → statement M
 type-step-spec = tie.close (tie.spec load-globals-requires switched-requires set-ep-type-requires returns)

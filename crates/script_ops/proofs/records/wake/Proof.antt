@@ -9,7 +9,10 @@ wake-requires : tie.Need-wake-requires
 wake-requires c κs = search needs
 
 returns : tie.Need-returns
-returns c = (simp (c .wake .ensures .0, c .before .before .wake-code .ensures), c .wake .ensures .1)
+returns c =
+    let wake-code = c .before .before .wake-code in
+    let wake = c .wake in
+    (simp (wake .ensures .0, wake-code .ensures), wake .ensures .1)
 
 pub wake-spec : {M : Type 1} → statement M
 wake-spec = tie.close (tie.spec wake-code-requires wake-requires returns)

@@ -17,10 +17,14 @@ wake-sixteen-requires-2 c κs = search needs
 returns : tie.Need-returns
 unfolding every-endpoint
 returns c =
-    let d = view (now (c .before .before .before .before .args .s)) in (
-      c .wake-sixteen2 .ensures .0 ∙ ap (λ (x : Driver). withWakes x (all-woken (codesFrom 0 16) (x .wakes))) (c .before .before .wake-sixteen .ensures .0)
+    let start = c .before .before .before .before in
+    let wake-sixteen = c .before .before .wake-sixteen in
+    let wake-sixteen2 = c .wake-sixteen2 in
+    let d = view (now (start .args .s)) in (
+      wake-sixteen2 .ensures .0 ∙ ap (λ (x : Driver). withWakes x (all-woken (codesFrom 0 16) (x .wakes)))
+          (wake-sixteen .ensures .0)
           ∙ ap (withWakes d) (sym (all-woken-append (codesFrom 16 16) (codesFrom 0 16) (d .wakes))),
-      c .wake-sixteen2 .ensures .1 ∙ c .before .before .wake-sixteen .ensures .1,
+      wake-sixteen2 .ensures .1 ∙ wake-sixteen .ensures .1,
     )
 
 pub wake-all-spec : {M : Type 1} → statement M

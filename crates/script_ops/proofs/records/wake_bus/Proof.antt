@@ -6,7 +6,9 @@ wake-requires : tie.Need-wake-requires
 wake-requires c κs = search needs
 
 returns : tie.Need-returns
-returns c = (c .wake .ensures .0, c .wake .ensures .1)
+returns c =
+    let wake = c .wake in
+    (wake .ensures .0, wake .ensures .1)
 
 pub wake-bus-spec : {M : Type 1} → statement M
 wake-bus-spec = tie.close (tie.spec wake-requires returns)

@@ -1,6 +1,6 @@
 use mathlib.Core.Path.{_≡_, refl, sym, ap, _∙_}
-use mathlib.Core.List.{List, []}
-use Prim.Native.Nat.{ℕ, suc, _≤_, _-_, _+_}
+use mathlib.Core.List.{List}
+use Prim.Native.Nat.{ℕ, _≤_, _-_, _+_}
 use native.Mathlib.Omega.{arith}
 use native.Mathlib.Numerals.{add-one}
 use Rattle.state.specs.Driver.{Driver, withWakes}
@@ -35,15 +35,16 @@ loop-less c = search needs
 
 loop-again : tie.Need-loop-again Inv-loop μ-loop
 loop-again c =
+    let start = c .before .before .before .before in
     let at = c .before .before .before .loop in
-    let a = c .before .before .before .before .args .a in
-    let w = view (c .before .before .before .before .args .s .now) in
-    let e = c .wake .ensures in (
+    let wake = c .wake in
+    let a = start .args .a in
+    let w = view (start .args .s .now) in
+    let e = wake .ensures in (
       omega arith,
       (
         e .0 ∙ ap (λ (d : Driver). withWakes d (woken (a + at .k) (d .wakes))) (at .inv .1 .0)
-            ∙ ap (withWakes w)
-            (sym (all-woken-append (codesFrom a (at .k)) _ (w .wakes))
+            ∙ ap (withWakes w) (sym (all-woken-append (codesFrom a (at .k)) _ (w .wakes))
             ∙ ap (λ (l : List ℕ). all-woken l (w .wakes)) (sym (codes-next a (at .k)))
             ∙ ap (λ (n : ℕ). all-woken (codesFrom a n) (w .wakes)) (sym (add-one (at .k)))),
         e .1 ∙ at .inv .1 .1,
@@ -57,4 +58,5 @@ returns c =
     (rw e at (at .inv .1 .0), at .inv .1 .1)
 
 pub wake-sixteen-spec : {M : Type 1} → statement M
-wake-sixteen-spec = tie.close (tie.spec Inv-loop μ-loop loop-holds add-wake wake-requires add-k loop-less loop-again returns)
+wake-sixteen-spec = tie.close (tie.spec Inv-loop μ-loop loop-holds add-wake wake-requires add-k loop-less loop-again
+    returns)

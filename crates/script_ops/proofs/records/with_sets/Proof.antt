@@ -25,35 +25,55 @@ mask-with-requires-2 c κs = search needs
 
 returns : tie.Need-returns
 unfolding withSets
-returns c = simp (
-  ← c .before .before .before .before .before .is-iso .ensures,
-  c .before .before .before .before .if1 .taken,
-  c .before .before .enum-told2 .given .1,
-  c .mask-with2 .ensures,
-  lt-ltb _ _ (c .before .if2 .taken),
-)
+returns c =
+    let is-iso = c .before .before .before .before .before .is-iso in
+    let if1 = c .before .before .before .before .if1 in
+    let enum-told2 = c .before .before .enum-told2 in
+    let if2 = c .before .if2 in
+    let mask-with2 = c .mask-with2 in
+    simp (
+      ← is-iso .ensures,
+      if1 .taken,
+      enum-told2 .given .1,
+      mask-with2 .ensures,
+      lt-ltb _ _ (if2 .taken),
+    )
 
 returns-2 : tie.Need-returns-2
 unfolding withSets
-returns-2 c = simp (
-  ← c .before .before .before .before .is-iso .ensures,
-  c .before .before .before .if1 .taken,
-  c .before .enum-told .given .1,
-  c .mask-with .ensures,
-)
+returns-2 c =
+    let is-iso = c .before .before .before .before .is-iso in
+    let if1 = c .before .before .before .if1 in
+    let enum-told-fact = c .before .enum-told in
+    let mask-with = c .mask-with in
+    simp (
+      ← is-iso .ensures,
+      if1 .taken,
+      enum-told-fact .given .1,
+      mask-with .ensures,
+    )
 
 returns-3 : tie.Need-returns-3
 unfolding withSets
-returns-3 c = simp (
-  ← c .before .before .before .before .is-iso .ensures,
-  c .before .before .before .if1 .taken,
-  c .before .enum-told2 .given .1,
-  le-ltb _ _ (c .if2 .left),
-)
+returns-3 c =
+    let is-iso = c .before .before .before .before .is-iso in
+    let if1 = c .before .before .before .if1 in
+    let enum-told2 = c .before .enum-told2 in
+    let if2 = c .if2 in
+    simp (
+      ← is-iso .ensures,
+      if1 .taken,
+      enum-told2 .given .1,
+      le-ltb _ _ (if2 .left),
+    )
 
 returns-4 : tie.Need-returns-4
 unfolding withSets
-returns-4 c = simp (← c .before .is-iso .ensures, c .if1 .left)
+returns-4 c =
+    let is-iso = c .before .is-iso in
+    let if1 = c .if1 in
+    simp (← is-iso .ensures, if1 .left)
 
 pub with-sets-spec : {M : Type 1} → statement M
-with-sets-spec = tie.close (tie.spec is-iso-requires enum-told mask-with-requires enum-told-2 mask-with-requires-2 returns returns-2 returns-3 returns-4)
+with-sets-spec = tie.close (tie.spec is-iso-requires enum-told mask-with-requires enum-told-2 mask-with-requires-2
+    returns returns-2 returns-3 returns-4)

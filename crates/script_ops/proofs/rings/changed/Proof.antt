@@ -11,7 +11,10 @@ is-marked-requires c κs = search needs
 
 returns : tie.Need-returns
 unfolding changedOn
-returns c = simp (c .is-marked .ensures, c .before .load-ep .ensures)
+returns c =
+    let load-ep = c .before .load-ep in
+    let is-marked = c .is-marked in
+    simp (is-marked .ensures, load-ep .ensures)
 
 pub changed-spec : {M : Type 1} → statement M
 changed-spec = tie.close (tie.spec load-ep-requires is-marked-requires returns)

@@ -18,8 +18,13 @@ store-where-requires c κs = search needs
 returns : tie.Need-returns
 unfolding closeOn
 returns c =
-    let s = c .store-where .ensures in
-    (simp (s .0, c .before .closed .ensures, c .before .before .is-on-half .ensures, c .before .before .before .before .load-ep .ensures), s .1)
+    let load-ep = c .before .before .before .before .load-ep in
+    let is-on-half = c .before .before .is-on-half in
+    let closed = c .before .closed in
+    let store-where = c .store-where in
+    let s = store-where .ensures in
+    (simp (s .0, closed .ensures, is-on-half .ensures, load-ep .ensures), s .1)
 
 pub close-oldest-spec : {M : Type 1} → statement M
-close-oldest-spec = tie.close (tie.spec load-ep-requires is-on-half-requires closed-requires store-where-requires returns)
+close-oldest-spec = tie.close (tie.spec load-ep-requires is-on-half-requires closed-requires store-where-requires
+    returns)

@@ -17,15 +17,19 @@ store-ep-requires c κs = search needs
 
 returns : tie.Need-returns
 unfolding completeOn
-returns c = (
-  simp (
-    c .store-ep .ensures .0,
-    c .before .unloaded .ensures,
-    c .before .before .before .completed .ensures,
-    c .before .before .before .before .load-ep .ensures,
-  ),
-  c .store-ep .ensures .1,
-)
+returns c =
+    let load-ep = c .before .before .before .before .load-ep in
+    let completed = c .before .before .before .completed in
+    let unloaded = c .before .unloaded in
+    let store-ep = c .store-ep in (
+      simp (
+        store-ep .ensures .0,
+        unloaded .ensures,
+        completed .ensures,
+        load-ep .ensures,
+      ),
+      store-ep .ensures .1,
+    )
 
 pub complete-spec : {M : Type 1} → statement M
 complete-spec = tie.close (tie.spec load-ep-requires completed-requires unloaded-requires store-ep-requires returns)

@@ -12,7 +12,10 @@ cast-if1 c = search needs
 
 returns : tie.Need-returns
 unfolding filledEp0
-returns c = simp (lt-ltb _ _ (c .if1 .taken), ← c .before .before .load-globals .ensures)
+returns c =
+    let load-globals = c .before .before .load-globals in
+    let if1 = c .if1 in
+    simp (lt-ltb _ _ (if1 .taken), ← load-globals .ensures)
 
 copy-in-requires : tie.Need-copy-in-requires
 copy-in-requires c κs = search needs
@@ -22,11 +25,15 @@ same-length c = search needs
 
 returns-2 : tie.Need-returns-2
 unfolding filledEp0
-returns-2 c = simp (
-  c .before .before .copy-in .ensures,
-  le-ltb _ _ (c .before .before .before .before .if1 .left),
-  ← c .before .before .before .before .before .before .load-globals .ensures,
-)
+returns-2 c =
+    let load-globals = c .before .before .before .before .before .before .load-globals in
+    let if1 = c .before .before .before .before .if1 in
+    let copy-in = c .before .before .copy-in in
+    simp (
+      copy-in .ensures,
+      le-ltb _ _ (if1 .left),
+      ← load-globals .ensures,
+    )
 
 pub fill0-spec : {M : Type 1} → statement M
 fill0-spec = tie.close (tie.spec load-globals-requires cast-if1 returns copy-in-requires same-length returns-2)

@@ -11,7 +11,10 @@ marked-len-requires c κs = search needs
 
 returns : tie.Need-returns
 unfolding markedOn
-returns c = simp (c .marked-len .ensures, c .before .load-ep .ensures)
+returns c =
+    let load-ep = c .before .load-ep in
+    let marked-len = c .marked-len in
+    simp (marked-len .ensures, load-ep .ensures)
 
 pub marked-spec : {M : Type 1} → statement M
 marked-spec = tie.close (tie.spec load-ep-requires marked-len-requires returns)

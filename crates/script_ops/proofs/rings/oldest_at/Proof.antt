@@ -11,7 +11,10 @@ slot-addr-requires c κs = search needs
 
 returns : tie.Need-returns
 unfolding oldestAt
-returns c = simp (c .slot-addr .ensures, c .before .load-ep .ensures)
+returns c =
+    let load-ep = c .before .load-ep in
+    let slot-addr = c .slot-addr in
+    simp (slot-addr .ensures, load-ep .ensures)
 
 pub oldest-at-spec : {M : Type 1} → statement M
 oldest-at-spec = tie.close (tie.spec load-ep-requires slot-addr-requires returns)

@@ -18,8 +18,13 @@ store-where-requires c κs = search needs
 returns : tie.Need-returns
 unfolding openOn
 returns c =
-    let s = c .store-where .ensures in
-    (simp (s .0, c .before .opened .ensures, c .before .before .has-waiting .ensures, c .before .before .before .before .load-ep .ensures), s .1)
+    let load-ep = c .before .before .before .before .load-ep in
+    let has-waiting = c .before .before .has-waiting in
+    let opened = c .before .opened in
+    let store-where = c .store-where in
+    let s = store-where .ensures in
+    (simp (s .0, opened .ensures, has-waiting .ensures, load-ep .ensures), s .1)
 
 pub open-oldest-spec : {M : Type 1} → statement M
-open-oldest-spec = tie.close (tie.spec load-ep-requires has-waiting-requires opened-requires store-where-requires returns)
+open-oldest-spec = tie.close (tie.spec load-ep-requires has-waiting-requires opened-requires store-where-requires
+    returns)

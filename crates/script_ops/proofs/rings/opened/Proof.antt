@@ -11,7 +11,10 @@ is-on-half-requires c κs = search needs
 
 returns : tie.Need-returns
 unfolding openedOn
-returns c = simp (c .is-on-half .ensures, c .before .load-ep .ensures)
+returns c =
+    let load-ep = c .before .load-ep in
+    let is-on-half = c .is-on-half in
+    simp (is-on-half .ensures, load-ep .ensures)
 
 pub opened-spec : {M : Type 1} → statement M
 opened-spec = tie.close (tie.spec load-ep-requires is-on-half-requires returns)

@@ -11,7 +11,10 @@ takes-requires c κs = search needs
 
 returns : tie.Need-returns
 unfolding roomOn
-returns c = simp (c .takes .ensures, c .before .load-ep .ensures)
+returns c =
+    let load-ep = c .before .load-ep in
+    let takes = c .takes in
+    simp (takes .ensures, load-ep .ensures)
 
 pub room-spec : {M : Type 1} → statement M
 room-spec = tie.close (tie.spec load-ep-requires takes-requires returns)

@@ -21,26 +21,37 @@ store-ep-requires c κs = search needs
 
 returns : tie.Need-returns
 unfolding sendAddr sendOn
-returns c = (
-  simp (c .before .before .before .before .before .slot-addr .ensures, c .before .before .before .before .before .before .load-ep .ensures),
-  (
-    simp (
-      c .store-ep .ensures .0,
-      ← c .before .loaded .ensures,
-      c .before .before .before .if1 .taken,
-      ← c .before .before .before .before .has-waiting .ensures,
-      ← c .before .before .before .before .before .before .load-ep .ensures,
-    ),
-    c .store-ep .ensures .1,
-  ),
-)
+returns c =
+    let load-ep = c .before .before .before .before .before .before .load-ep in
+    let slot-addr = c .before .before .before .before .before .slot-addr in
+    let has-waiting = c .before .before .before .before .has-waiting in
+    let if1 = c .before .before .before .if1 in
+    let loaded = c .before .loaded in
+    let store-ep = c .store-ep in (
+      simp (slot-addr .ensures, load-ep .ensures),
+      (
+        simp (
+          store-ep .ensures .0,
+          ← loaded .ensures,
+          if1 .taken,
+          ← has-waiting .ensures,
+          ← load-ep .ensures,
+        ),
+        store-ep .ensures .1,
+      ),
+    )
 
 returns-2 : tie.Need-returns-2
 unfolding sendAddr sendOn
-returns-2 c = (
-  simp (c .before .before .slot-addr .ensures, c .before .before .before .load-ep .ensures),
-  (simp (c .if1 .left, ← c .before .has-waiting .ensures, ← c .before .before .before .load-ep .ensures), refl),
-)
+returns-2 c =
+    let load-ep = c .before .before .before .load-ep in
+    let slot-addr = c .before .before .slot-addr in
+    let has-waiting = c .before .has-waiting in
+    let if1 = c .if1 in (
+      simp (slot-addr .ensures, load-ep .ensures),
+      (simp (if1 .left, ← has-waiting .ensures, ← load-ep .ensures), refl),
+    )
 
 pub send-spec : {M : Type 1} → statement M
-send-spec = tie.close (tie.spec load-ep-requires slot-addr-requires has-waiting-requires loaded-requires store-ep-requires returns returns-2)
+send-spec = tie.close (tie.spec load-ep-requires slot-addr-requires has-waiting-requires loaded-requires
+    store-ep-requires returns returns-2)

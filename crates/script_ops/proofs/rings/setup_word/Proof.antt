@@ -18,7 +18,11 @@ word-at-requires : tie.Need-word-at-requires
 word-at-requires c κs = search needs
 
 returns : tie.Need-returns
-returns c = simp (c .word-at .ensures, c .before .before .load-globals .ensures)
+returns c =
+    let load-globals = c .before .before .load-globals in
+    let word-at = c .word-at in
+    simp (word-at .ensures, load-globals .ensures)
 
 pub setup-word-spec : {M : Type 1} → statement M
-setup-word-spec = tie.close (tie.spec load-globals-requires cast-word-at mul-word-at add-word-at word-at-requires returns)
+setup-word-spec = tie.close (tie.spec load-globals-requires cast-word-at mul-word-at add-word-at word-at-requires
+    returns)

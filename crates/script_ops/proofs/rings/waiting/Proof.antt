@@ -11,7 +11,10 @@ has-waiting-requires c κs = search needs
 
 returns : tie.Need-returns
 unfolding waitingOn
-returns c = simp (c .has-waiting .ensures, c .before .load-ep .ensures)
+returns c =
+    let load-ep = c .before .load-ep in
+    let has-waiting = c .has-waiting in
+    simp (has-waiting .ensures, load-ep .ensures)
 
 pub waiting-spec : {M : Type 1} → statement M
 waiting-spec = tie.close (tie.spec load-ep-requires has-waiting-requires returns)

@@ -9,14 +9,18 @@ use Rattle.script_ops.proofs.rings.word_at.Tie as tie
 
 returns : tie.Need-returns
 unfolding wordAt
-returns c = simp (lt-ltb (length (c .before .before .args .buf .now)) (c .before .before .args .at + 4) (omega arith))
+returns c =
+    let start = c .before .before in
+    simp (lt-ltb (length (start .args .buf .now)) (start .args .at + 4) (omega arith))
 
 sub-if2 : tie.Need-sub-if2
 sub-if2 c = search needs
 
 returns-2 : tie.Need-returns-2
 unfolding wordAt
-returns-2 c = simp (lt-ltb (length (c .before .before .before .args .buf .now)) (c .before .before .before .args .at + 4) (omega arith))
+returns-2 c =
+    let start = c .before .before .before in
+    simp (lt-ltb (length (start .args .buf .now)) (start .args .at + 4) (omega arith))
 
 shared-slice-read-word : tie.Need-shared-slice-read-word
 shared-slice-read-word c = search needs
@@ -44,13 +48,16 @@ word-requires c κs = search needs
 
 returns-3 : tie.Need-returns-3
 unfolding wordAt
-returns-3 c = simp (
-  c .word .ensures,
-  le-ltb (length (c .before .before .before .before .before .before .before .before .args .buf .now))
-      (c .before .before .before .before .before .before .before .before .args .at + 4) (omega arith),
-)
+returns-3 c =
+    let start = c .before .before .before .before .before .before .before .before in
+    let word = c .word in
+    simp (
+      word .ensures,
+      le-ltb (length (start .args .buf .now)) (start .args .at + 4) (omega arith),
+    )
 
 pub word-at-spec : {M : Type 1} → statement M
 word-at-spec =
-    tie.close (tie.spec returns sub-if2 returns-2 shared-slice-read-word add-word shared-slice-read-word-2 add-word-2 shared-slice-read-word-3
+    tie.close (tie.spec returns sub-if2 returns-2 shared-slice-read-word add-word shared-slice-read-word-2 add-word-2
+    shared-slice-read-word-3
     add-word-3 shared-slice-read-word-4 word-requires returns-3)

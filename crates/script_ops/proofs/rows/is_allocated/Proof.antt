@@ -15,27 +15,38 @@ allocated-requires : tie.Need-allocated-requires
 allocated-requires c κs = search needs
 
 low-requires : tie.Need-low-requires
-low-requires c κs = simp (← c .before .before .before .is-number .ensures, c .before .before .if1 .taken)
+low-requires c κs =
+    let is-number = c .before .before .before .is-number in
+    let if1 = c .before .before .if1 in
+    simp (← is-number .ensures, if1 .taken)
 
 mask-has-requires : tie.Need-mask-has-requires
 mask-has-requires c κs = search needs
 
 returns : tie.Need-returns
 returns c =
-    let test = c .before .before .before .before in
-    let e = test .before .before .args .e in
-    let number = sym (test .before .is-number .ensures) ∙ test .if1 .taken in
+    let at-then1 = c .before .before .before .before in
+    let load-allocator = c .before .before .before .load-allocator in
+    let allocated = c .before .before .allocated in
+    let low = c .before .low in
+    let mask-has = c .mask-has in
+    let e = at-then1 .before .before .args .e in
+    let number = sym (at-then1 .before .is-number .ensures) ∙ at-then1 .if1 .taken in
     simp (
-      c .mask-has .ensures,
-      c .before .low .ensures,
+      mask-has .ensures,
+      low .ensures,
       mod-eq-of-lt (number-lt e number),
-      ← c .before .before .before .load-allocator .ensures,
-      c .before .before .allocated .ensures e,
+      ← load-allocator .ensures,
+      allocated .ensures e,
       number,
     )
 
 returns-2 : tie.Need-returns-2
-returns-2 c = sym (no-number _ _ _ (sym (c .before .is-number .ensures) ∙ c .if1 .left))
+returns-2 c =
+    let is-number = c .before .is-number in
+    let if1 = c .if1 in
+    sym (no-number _ _ _ (sym (is-number .ensures) ∙ if1 .left))
 
 pub is-allocated-spec : {M : Type 1} → statement M
-is-allocated-spec = tie.close (tie.spec is-number-requires load-allocator-requires allocated-requires low-requires mask-has-requires returns returns-2)
+is-allocated-spec = tie.close (tie.spec is-number-requires load-allocator-requires allocated-requires low-requires
+    mask-has-requires returns returns-2)

@@ -7,11 +7,15 @@ use Rattle.script_ops.proofs.rows.is_number.Lts as lts
 
 returns : tie.Need-returns
 unfolding isNumber
-returns c = simp (lt-ltb _ _ (c .if1 .taken))
+returns c =
+    let if1 = c .if1 in
+    simp (lt-ltb _ _ (if1 .taken))
 
 returns-2 : tie.Need-returns-2
 unfolding isNumber
-returns-2 c = simp (le-ltb _ _ (c .if1 .left))
+returns-2 c =
+    let if1 = c .if1 in
+    simp (le-ltb _ _ (if1 .left))
 
 pub is-number-spec : {M : Type 1} → statement M
 is-number-spec = tie.close (tie.spec returns returns-2)

@@ -9,14 +9,19 @@ use Rattle.script_ops.proofs.rows.is_allocated.Reads as is-allocated-re
 
 returns : tie.Need-returns
 unfolding stallable
-returns c = simp (eq-eqb _ _ (c .if1 .taken))
+returns c =
+    let if1 = c .if1 in
+    simp (eq-eqb _ _ (if1 .taken))
 
 is-allocated-requires : tie.Need-is-allocated-requires
 is-allocated-requires c κs = search needs
 
 returns-2 : tie.Need-returns-2
 unfolding stallable
-returns-2 c = simp (c .is-allocated .ensures, ne-eqb _ _ (c .before .if1 .left))
+returns-2 c =
+    let if1 = c .before .if1 in
+    let is-allocated = c .is-allocated in
+    simp (is-allocated .ensures, ne-eqb _ _ (if1 .left))
 
 pub is-stallable-spec : {M : Type 1} → statement M
 is-stallable-spec = tie.close (tie.spec returns is-allocated-requires returns-2)

@@ -7,7 +7,9 @@ use Rattle.script_ops.proofs.rows.low.Reads as reads
 use Rattle.script_ops.proofs.rows.low.Lts as lts
 
 cast-result : tie.Need-cast-result
-cast-result c = omega (arith, number-lt (c .args .e) (c .pre))
+cast-result c =
+    let start = c in
+    omega (arith, number-lt (start .args .e) (start .pre))
 
 returns : tie.Need-returns
 returns c = search needs

@@ -19,14 +19,19 @@ same-length c = search needs
 
 returns : tie.Need-returns
 returns c =
-    let at = c .before .before .before .before .before .before .before .slot-addr .ensures in
-    let stored = c .before .before .before .before .store-ep .ensures in (
+    let slot-addr = c .before .before .before .before .before .before .before .slot-addr in
+    let armed = c .before .before .before .before .before .armed in
+    let store-ep = c .before .before .before .before .store-ep in
+    let iso-out-arm = c .before .before .iso-out-arm in
+    let at = slot-addr .ensures in
+    let stored = store-ep .ensures in (
       at,
       (
-        simp (stored .0, c .before .before .before .before .before .armed .ensures, at),
-        (simp (c .before .before .iso-out-arm .ensures, at), stored .1),
+        simp (stored .0, armed .ensures, at),
+        (simp (iso-out-arm .ensures, at), stored .1),
       ),
     )
 
 pub arm-spec : {M : Type 1} → statement M
-arm-spec = tie.close (tie.spec slot-addr-requires armed-requires store-ep-requires iso-out-arm-requires same-length returns)
+arm-spec = tie.close (tie.spec slot-addr-requires armed-requires store-ep-requires iso-out-arm-requires same-length
+    returns)

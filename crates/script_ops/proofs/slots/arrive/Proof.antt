@@ -42,23 +42,30 @@ capped-requires : tie.Need-capped-requires
 capped-requires c κs = search needs
 
 arrived-requires : tie.Need-arrived-requires
-arrived-requires c κs = (
-  c .before .before .before .before .before .load-ep .ensures,
-  ap (λ (g : Globals). g .entered) (c .before .before .before .before .before .before .before .load-globals .ensures),
-)
+arrived-requires c κs =
+    let load-globals = c .before .before .before .before .before .before .before .load-globals in
+    let load-ep = c .before .before .before .before .before .load-ep in (
+      load-ep .ensures,
+      ap (λ (g : Globals). g .entered) (load-globals .ensures),
+    )
 
 same-length : tie.Need-same-length
 same-length c = search needs
 
 returns : tie.Need-returns
 returns c =
-    let a = c .before .before .before .before .before .before .before .before .before .before .before .before .before .args in
-    let r = c .before .before .arrived .ensures in
-    let h = admits (a .e) (a .n) (view (a .s .now)) (a .buf .now)
-    (c .before .before .before .before .before .before .before .before .before .before .load-globals .ensures)
-    (c .before .before .before .before .before .before .before .before .load-ep .ensures)
-    (c .before .before .before .before .before .before .before .receives .ensures)
-    (c .before .before .before .before .before .before .if1 .taken) (c .before .before .before .before .before .capped .ensures) in (
+    let a = c .before .before .before .before .before .before .before .before .before .before .before .before .before
+    .args in
+    let load-globals
+    = c .before .before .before .before .before .before .before .before .before .before .load-globals in
+    let load-ep = c .before .before .before .before .before .before .before .before .load-ep in
+    let receives-fact = c .before .before .before .before .before .before .before .receives in
+    let if1 = c .before .before .before .before .before .before .if1 in
+    let capped = c .before .before .before .before .before .capped in
+    let arrived = c .before .before .arrived in
+    let r = arrived .ensures in
+    let h = admits (a .e) (a .n) (view (a .s .now)) (a .buf .now) (load-globals .ensures) (load-ep .ensures)
+    (receives-fact .ensures) (if1 .taken) (capped .ensures) in (
       r .0 ∙ ap (λ (x : ℕ × St). x .0) h,
       (r .1 .0 ∙ ap (λ (x : ℕ × St). x .1 .0) h, (r .1 .1 .0 ∙ ap (λ (x : ℕ × St). x .1 .1) h, r .1 .1 .1)),
     )
@@ -66,9 +73,14 @@ returns c =
 returns-2 : tie.Need-returns-2
 returns-2 c =
     let a = c .before .before .before .before .before .before .before .args in
-    let h = passes (a .e) (a .n) (view (a .s .now)) (a .buf .now) (c .before .before .before .before .load-globals .ensures)
-    (c .before .before .load-ep .ensures) (c .before .receives .ensures) (c .if1 .left) in
+    let load-globals = c .before .before .before .before .load-globals in
+    let load-ep = c .before .before .load-ep in
+    let receives-fact = c .before .receives in
+    let if1 = c .if1 in
+    let h = passes (a .e) (a .n) (view (a .s .now)) (a .buf .now) (load-globals .ensures)
+    (load-ep .ensures) (receives-fact .ensures) (if1 .left) in
     (ap (λ (x : ℕ × St). x .0) h, (ap (λ (x : ℕ × St). x .1 .0) h, (ap (λ (x : ℕ × St). x .1 .1) h, refl)))
 
 pub arrive-spec : {M : Type 1} → statement M
-arrive-spec = tie.close (tie.spec load-globals-requires load-ep-requires receives-requires capped-requires arrived-requires same-length returns returns-2)
+arrive-spec = tie.close (tie.spec load-globals-requires load-ep-requires receives-requires capped-requires
+    arrived-requires same-length returns returns-2)

@@ -18,15 +18,19 @@ store-ep-requires c κs = search needs
 
 returns : tie.Need-returns
 unfolding renewedOn
-returns c = (
-  simp (
-    c .store-ep .ensures .0,
-    c .before .by-loan .ensures,
-    c .before .before .before .clear-stamps .ensures .0,
-    c .before .before .before .before .before .load-ep .ensures,
-  ),
-  c .store-ep .ensures .1 ∙ c .before .before .before .clear-stamps .ensures .1,
-)
+returns c =
+    let load-ep = c .before .before .before .before .before .load-ep in
+    let clear-stamps = c .before .before .before .clear-stamps in
+    let by-loan = c .before .by-loan in
+    let store-ep = c .store-ep in (
+      simp (
+        store-ep .ensures .0,
+        by-loan .ensures,
+        clear-stamps .ensures .0,
+        load-ep .ensures,
+      ),
+      store-ep .ensures .1 ∙ clear-stamps .ensures .1,
+    )
 
 pub renew-spec : {M : Type 1} → statement M
 renew-spec = tie.close (tie.spec load-ep-requires clear-stamps-requires by-loan-requires store-ep-requires returns)

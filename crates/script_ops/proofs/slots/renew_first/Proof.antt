@@ -8,10 +8,15 @@ renew-requires : tie.Need-renew-requires
 renew-requires c κs = search needs
 
 returns : tie.Need-returns
-returns c = (simp (c .renew .ensures .0, eq-eqb _ _ (c .before .before .if1 .taken)), c .renew .ensures .1)
+returns c =
+    let if1 = c .before .before .if1 in
+    let renew = c .renew in
+    (simp (renew .ensures .0, eq-eqb _ _ (if1 .taken)), renew .ensures .1)
 
 returns-2 : tie.Need-returns-2
-returns-2 c = (simp (ne-eqb _ _ (c .if1 .left)), refl)
+returns-2 c =
+    let if1 = c .if1 in
+    (simp (ne-eqb _ _ (if1 .left)), refl)
 
 pub renew-first-spec : {M : Type 1} → statement M
 renew-first-spec = tie.close (tie.spec renew-requires returns returns-2)

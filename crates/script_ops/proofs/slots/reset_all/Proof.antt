@@ -27,17 +27,21 @@ stages : (d : Driver) {x y z : Driver} {g : Globals} → x ≡ resetBelow 16 d �
 unfolding resetAll
 stages d {y = y} h₁ h₂ h₃ h₄ =
     h₄ ∙ ap (λ (g : Globals). withGlobals y (withSetup 0 (g .«setup_low») (g .«setup_high») g)) h₃
-    ∙ ap (λ (w : Driver). withGlobals w (withSetup 0 (w .globals .«setup_low») (w .globals .«setup_high») (w .globals))) (h₂ ∙ ap noStamps h₁)
+    ∙ ap (λ (w : Driver). withGlobals w (withSetup 0 (w .globals .«setup_low») (w .globals .«setup_high») (w .globals)))
+    (h₂ ∙ ap noStamps h₁)
 
 returns : tie.Need-returns
 returns c =
-    let a = c .before .before .before .before .before .before .before .before .args in (
-      stages (view (a .s .now)) (c .before .before .before .before .before .before .reset-eps .ensures .0)
-          (c .before .before .before .before .clear-all-stamps .ensures .0)
-          (c .before .before .load-globals .ensures) (c .store-globals .ensures .0),
-      c .store-globals .ensures .1 ∙ c .before .before .before .before .clear-all-stamps .ensures .1
-          ∙ c .before .before .before .before .before .before .reset-eps .ensures .1,
+    let a = c .before .before .before .before .before .before .before .before .args in
+    let reset-eps = c .before .before .before .before .before .before .reset-eps in
+    let clear-all-stamps = c .before .before .before .before .clear-all-stamps in
+    let load-globals = c .before .before .load-globals in
+    let store-globals = c .store-globals in (
+      stages (view (a .s .now)) (reset-eps .ensures .0) (clear-all-stamps .ensures .0)
+          (load-globals .ensures) (store-globals .ensures .0),
+      store-globals .ensures .1 ∙ clear-all-stamps .ensures .1 ∙ reset-eps .ensures .1,
     )
 
 pub reset-all-spec : {M : Type 1} → statement M
-reset-all-spec = tie.close (tie.spec reset-eps-requires clear-all-stamps-requires load-globals-requires store-globals-requires returns)
+reset-all-spec = tie.close (tie.spec reset-eps-requires clear-all-stamps-requires load-globals-requires
+    store-globals-requires returns)

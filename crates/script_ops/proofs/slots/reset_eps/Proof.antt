@@ -33,12 +33,15 @@ loop-less c = search needs
 
 loop-again : tie.Need-loop-again Inv-loop μ-loop
 loop-again c =
-    let at = c .before .before .before .before .before .loop in (
+    let start = c .before .before .before .before .before .before in
+    let at = c .before .before .before .before .before .loop in
+    let reset-one = c .before .before .reset-one in
+    let reset-one2 = c .reset-one2 in (
       omega arith,
       (
-        c .reset-one2 .ensures .0 ∙ ap (renewed In (at .e)) (c .before .before .reset-one .ensures .0) ∙ reset-next (at .e)
-            (view (c .before .before .before .before .before .before .args .s .now)) (view (at .s)) (at .inv .1 .0),
-        c .reset-one2 .ensures .1 ∙ c .before .before .reset-one .ensures .1 ∙ at .inv .1 .1,
+        reset-one2 .ensures .0 ∙ ap (renewed In (at .e)) (reset-one .ensures .0) ∙ reset-next (at .e)
+            (view (start .args .s .now)) (view (at .s)) (at .inv .1 .0),
+        reset-one2 .ensures .1 ∙ reset-one .ensures .1 ∙ at .inv .1 .1,
       ),
     )
 
@@ -49,4 +52,5 @@ returns c =
     (rw h at (at .inv .1 .0), at .inv .1 .1)
 
 pub reset-eps-spec : {M : Type 1} → statement M
-reset-eps-spec = tie.close (tie.spec Inv-loop μ-loop loop-holds reset-one-requires reset-one-requires-2 add-e loop-less loop-again returns)
+reset-eps-spec = tie.close (tie.spec Inv-loop μ-loop loop-holds reset-one-requires reset-one-requires-2 add-e loop-less
+    loop-again returns)

@@ -12,7 +12,11 @@ store-ep-requires : tie.Need-store-ep-requires
 store-ep-requires c κs = search needs
 
 returns : tie.Need-returns
-returns c = (simp (c .store-ep .ensures .0, c .before .by-loan .ensures, c .before .before .before .load-ep .ensures), c .store-ep .ensures .1)
+returns c =
+    let load-ep = c .before .before .before .load-ep in
+    let by-loan = c .before .by-loan in
+    let store-ep = c .store-ep in
+    (simp (store-ep .ensures .0, by-loan .ensures, load-ep .ensures), store-ep .ensures .1)
 
 pub reset-one-spec : {M : Type 1} → statement M
 reset-one-spec = tie.close (tie.spec load-ep-requires by-loan-requires store-ep-requires returns)

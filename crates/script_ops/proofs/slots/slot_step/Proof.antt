@@ -42,27 +42,42 @@ same-length c = search needs
 
 returns : tie.Need-returns
 returns c =
-    let a = c .before .before .before .before .before .before .before .before .before .before .before .before .before .before .args in
-    let r = c .before .before .arm .ensures in
-    let renewed = c .before .before .before .before .before .before .before .renew-first .ensures in
-    let h = stages (a .e) (a .k) (view (a .s .now)) (a .buf .now)
-    (c .before .before .before .before .before .before .before .before .before .before .before .load-ep .ensures)
-    (c .before .before .before .before .before .before .before .before .before .before .is-on .ensures)
-    (c .before .before .before .before .before .before .before .before .before .if1 .taken) (renewed .0)
-    (c .before .before .before .before .before .load-ep2 .ensures) in (
+    let a = c .before .before .before .before .before .before .before .before .before .before .before .before .before
+    .before .args in
+    let load-ep = c .before .before .before .before .before .before .before .before .before .before .before .load-ep in
+    let is-on = c .before .before .before .before .before .before .before .before .before .before .is-on in
+    let if1 = c .before .before .before .before .before .before .before .before .before .if1 in
+    let renew-first = c .before .before .before .before .before .before .before .renew-first in
+    let load-ep2 = c .before .before .before .before .before .load-ep2 in
+    let arm = c .before .before .arm in
+    let r = arm .ensures in
+    let renewed = renew-first .ensures in
+    let h = stages (a .e) (a .k) (view (a .s .now)) (a .buf .now) (load-ep .ensures) (is-on .ensures)
+    (if1 .taken) (renewed .0) (load-ep2 .ensures) in (
       r .0 ∙ ap (λ (x : ℕ × St). x .0) h,
-      (r .1 .0 ∙ ap (λ (x : ℕ × St). x .1 .0) h, (r .1 .1 .0 ∙ ap (λ (x : ℕ × St). x .1 .1) h, r .1 .1 .1 ∙ renewed .1)),
+      (
+        r .1 .0 ∙ ap (λ (x : ℕ × St). x .1 .0) h,
+        (
+          r .1 .1 .0 ∙ ap (λ (x : ℕ × St). x .1 .1) h,
+          r .1 .1 .1
+              ∙ renewed .1,
+        ),
+      ),
     )
 
 returns-2 : tie.Need-returns-2
 unfolding slotStep
-returns-2 c = (
-  simp (c .if1 .left, ← c .before .is-on .ensures, ← c .before .before .load-ep .ensures),
-  (
-    simp (c .if1 .left, ← c .before .is-on .ensures, ← c .before .before .load-ep .ensures),
-    (simp (c .if1 .left, ← c .before .is-on .ensures, ← c .before .before .load-ep .ensures), refl),
-  ),
-)
+returns-2 c =
+    let load-ep = c .before .before .load-ep in
+    let is-on = c .before .is-on in
+    let if1 = c .if1 in (
+      simp (if1 .left, ← is-on .ensures, ← load-ep .ensures),
+      (
+        simp (if1 .left, ← is-on .ensures, ← load-ep .ensures),
+        (simp (if1 .left, ← is-on .ensures, ← load-ep .ensures), refl),
+      ),
+    )
 
 pub slot-step-spec : {M : Type 1} → statement M
-slot-step-spec = tie.close (tie.spec load-ep-requires is-on-requires renew-first-requires load-ep-requires-2 arm-requires same-length returns returns-2)
+slot-step-spec = tie.close (tie.spec load-ep-requires is-on-requires renew-first-requires load-ep-requires-2
+    arm-requires same-length returns returns-2)

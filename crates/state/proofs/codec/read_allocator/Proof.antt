@@ -19,8 +19,14 @@ get16-requires-4 : tie.Need-get16-requires-4
 get16-requires-4 c κs = search needs
 
 returns : tie.Need-returns
-returns c = five (c .before .before .before .before .get16x5 .ensures)
-    ((c .before .before .before .get16 .ensures, (c .before .before .get162 .ensures, (c .before .get163 .ensures, (c .get164 .ensures, tt)))))
+returns c =
+    let get16x5 = c .before .before .before .before .get16x5 in
+    let get16 = c .before .before .before .get16 in
+    let get162 = c .before .before .get162 in
+    let get163 = c .before .get163 in
+    let get164 = c .get164 in
+    five (get16x5 .ensures) ((get16 .ensures, (get162 .ensures, (get163 .ensures, (get164 .ensures, tt)))))
 
 pub read-allocator-spec : {M : Type 1} → statement M
-read-allocator-spec = tie.close (tie.spec get16x5-requires get16-requires get16-requires-2 get16-requires-3 get16-requires-4 returns)
+read-allocator-spec = tie.close (tie.spec get16x5-requires get16-requires get16-requires-2 get16-requires-3
+    get16-requires-4 returns)

@@ -32,8 +32,8 @@ put8x5-requires c κs = search needs
 
 returns : tie.Need-returns
 returns c =
-    let e7 = c in
-    let e6 = e7 .before .before in
+    let at-put8x5 = c in
+    let e6 = at-put8x5 .before .before in
     let e5 = e6 .before .before in
     let e4 = e5 .before .before in
     let e3 = e4 .before .before in
@@ -42,14 +42,10 @@ returns c =
     let e0 = e1 .before .before in
     let x = e0 .before .before .args in
     let left = rest (x .o) (bytes globalsWidths (globalsAs (x .r))) in
-    e7 .put8x5 .ensures
-    ∙ ap (left 32) (e6 .put16 .ensures)
-    ∙ ap (left 30) (e5 .put16x5 .ensures)
-    ∙ ap (left 20) (e4 .put325 .ensures)
-    ∙ ap (left 16) (e3 .put324 .ensures)
-    ∙ ap (left 12) (e2 .put323 .ensures)
-    ∙ ap (left 8) (e1 .put322 .ensures)
-    ∙ ap (left 4) (e0 .put32 .ensures)
+    at-put8x5 .put8x5 .ensures ∙ ap (left 32) (e6 .put16 .ensures) ∙ ap (left 30) (e5 .put16x5 .ensures)
+    ∙ ap (left 20) (e4 .put325 .ensures) ∙ ap (left 16) (e3 .put324 .ensures)
+    ∙ ap (left 12) (e2 .put323 .ensures) ∙ ap (left 8) (e1 .put322 .ensures) ∙ ap (left 4) (e0 .put32 .ensures)
 
 pub write-globals-spec : {M : Type 1} → statement M
-write-globals-spec = tie.close (tie.spec put32-requires put32-requires-2 put32-requires-3 put32-requires-4 put32-requires-5 put16x5-requires put16-requires put8x5-requires returns)
+write-globals-spec = tie.close (tie.spec put32-requires put32-requires-2 put32-requires-3 put32-requires-4
+    put32-requires-5 put16x5-requires put16-requires put8x5-requires returns)

@@ -14,12 +14,11 @@ put32-requires-2 c κs = search needs
 
 returns : tie.Need-returns
 returns c =
-    let e1 = c in
-    let e0 = e1 .before .before in
+    let at-put322 = c in
+    let e0 = at-put322 .before .before in
     let x = e0 .before .before .args in
     let left = rest (x .o) (bytes requestWidths (requestAs (x .r))) in
-    e1 .put322 .ensures
-    ∙ ap (left 4) (e0 .put32 .ensures)
+    at-put322 .put322 .ensures ∙ ap (left 4) (e0 .put32 .ensures)
 
 pub write-request-spec : {M : Type 1} → statement M
 write-request-spec = tie.close (tie.spec put32-requires put32-requires-2 returns)

@@ -14,8 +14,12 @@ clear-from-requires c κs = search needs
 returns : tie.Need-returns
 unfolding noStamps
 returns c =
-    let xs = c .before .before .args .s .now in
-    (c .clear-from .ensures .0 ∙ ap (withStamps (view xs)) (filled-all (view xs .stamps) 256 0 (view-sized xs .stamps)), c .clear-from .ensures .1)
+    let start = c .before .before in
+    let clear-from = c .clear-from in
+    let xs = start .args .s .now in (
+      clear-from .ensures .0 ∙ ap (withStamps (view xs)) (filled-all (view xs .stamps) 256 0 (view-sized xs .stamps)),
+      clear-from .ensures .1,
+    )
 
 pub clear-all-stamps-spec : {M : Type 1} → statement M
 clear-all-stamps-spec = tie.close (tie.spec clear-from-requires returns)

@@ -16,7 +16,9 @@ abbrev μ-loop : tie.MeasureT-loop
 μ-loop s₀ a n k₀ s k = n - k
 
 loop-holds : tie.Need-loop-holds Inv-loop μ-loop
-loop-holds c = (omega arith, none-filled stamps-table (c .args .s .now) 0 (c .args .a))
+loop-holds c =
+    let start = c in
+    (omega arith, none-filled stamps-table (start .args .s .now) 0 (start .args .a))
 
 sized-requires : tie.Need-sized-requires Inv-loop μ-loop
 sized-requires c κs = search needs
@@ -41,20 +43,24 @@ loop-less c = search needs
 
 loop-again : tie.Need-loop-again Inv-loop μ-loop
 loop-again c =
-    let at = c .before .before .before .before .before .before .loop in
     let w = c .before .before .before .before .before .before .before .args in
+    let at = c .before .before .before .before .before .before .loop in
+    let sized-arg2 = c .before .before .before .sized-arg2 in
+    let put16 = c .put16 in
     let j = w .a + at .k in (
       omega arith,
       one-filled stamps-table (w .s .now) 0 (w .a) (at .k) j (at .s) _ refl
-          (ap view (c .put16 .ensures) ∙ view-stamps (at .s) (c .before .before .before .sized-arg2 .given .0) j 0 (omega arith))
-          (ap saved (c .put16 .ensures) ∙ saved-off (at .s) (1454 + j * 2) (digits 2 0) (omega arith)) (at .inv .1),
+          (ap view (put16 .ensures) ∙ view-stamps (at .s) (sized-arg2 .given .0) j 0 (omega arith))
+          (ap saved (put16 .ensures) ∙ saved-off (at .s) (1454 + j * 2) (digits 2 0) (omega arith)) (at .inv .1),
     )
 
 returns : tie.Need-returns Inv-loop μ-loop
 returns c =
     let s = c .before .before .args in
-    all-filled stamps-table _ 0 (s .a) (s .n) _ _ (c .before .loop .inv .1) (omega arith)
+    let looped = c .before .loop in
+    all-filled stamps-table _ 0 (s .a) (s .n) _ _ (looped .inv .1) (omega arith)
 
 pub clear-from-spec : {M : Type 1} → statement M
 clear-from-spec =
-    tie.close (tie.spec Inv-loop μ-loop loop-holds sized-requires add-put16 mul-put16 add-put16-2 put16-requires add-k loop-less loop-again returns)
+    tie.close (tie.spec Inv-loop μ-loop loop-holds sized-requires add-put16 mul-put16 add-put16-2 put16-requires add-k
+    loop-less loop-again returns)

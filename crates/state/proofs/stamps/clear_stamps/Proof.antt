@@ -14,7 +14,9 @@ clear-from-requires c κs = search needs
 
 returns : tie.Need-returns
 unfolding clearStamps
-returns c = (c .clear-from .ensures .0, c .clear-from .ensures .1)
+returns c =
+    let clear-from = c .clear-from in
+    (clear-from .ensures .0, clear-from .ensures .1)
 
 pub clear-stamps-spec : {M : Type 1} → statement M
 clear-stamps-spec = tie.close (tie.spec cast-clear-from mul-clear-from clear-from-requires returns)

@@ -22,8 +22,11 @@ put16-requires c κs = search needs
 returns : tie.Need-returns
 returns c =
     let x = c .before .before .before .before .before .before .args in
-    let long = c .before .before .before .before .sized-arg2 .given .0 in
-    stamp-stored (now (x .s)) long (x .e) (x .i) _ (x .v) _ (c .before .before .stamp-key .ensures) (c .put16 .ensures)
+    let sized-arg2 = c .before .before .before .before .sized-arg2 in
+    let stamp-key = c .before .before .stamp-key in
+    let put16 = c .put16 in
+    let long = sized-arg2 .given .0 in
+    stamp-stored (now (x .s)) long (x .e) (x .i) _ (x .v) _ (stamp-key .ensures) (put16 .ensures)
 
 pub store-stamp-spec : {M : Type 1} → statement M
 store-stamp-spec = tie.close (tie.spec sized-requires stamp-key-requires mul-put16 add-put16 put16-requires returns)

@@ -14,14 +14,19 @@ clear-eps-requires c κs = search needs
 
 new-eps-requires : tie.Need-new-eps-requires
 new-eps-requires c κs =
-    let xs = c .before .before .before .args .s .now in
-    ap (λ (d : Driver). d .eps) (c .before .clear-eps .ensures .0) ∙ filled-all (view xs .eps) 32 noEp (view-sized xs .eps)
+    let start = c .before .before .before in
+    let clear-eps = c .before .clear-eps in
+    let xs = start .args .s .now in
+    ap (λ (d : Driver). d .eps) (clear-eps .ensures .0) ∙ filled-all (view xs .eps) 32 noEp (view-sized xs .eps)
 
 returns : tie.Need-returns
 returns c =
-    let xs = c .before .before .before .before .args .s .now in
-    let made = c .new-eps .ensures in
-    let cleared = c .before .before .clear-eps .ensures in (
+    let start = c .before .before .before .before in
+    let clear-eps = c .before .before .clear-eps in
+    let new-eps = c .new-eps in
+    let xs = start .args .s .now in
+    let made = new-eps .ensures in
+    let cleared = clear-eps .ensures in (
       made .0 ∙ ap (λ (d : Driver). withEps d (filled (d .eps) 0 32 newEp)) (cleared .0)
           ∙ ap (withEps (view xs)) (filled-twice (view xs .eps) 32 noEp newEp (view-sized xs .eps)),
       made .1 ∙ cleared .1,

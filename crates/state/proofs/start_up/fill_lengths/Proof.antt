@@ -16,7 +16,9 @@ abbrev μ-loop : tie.MeasureT-loop
 μ-loop s₀ a n v k₀ s k = n - k
 
 loop-holds : tie.Need-loop-holds Inv-loop μ-loop
-loop-holds c = (omega arith, none-filled lens-table (c .args .s .now) (c .args .v) (c .args .a))
+loop-holds c =
+    let start = c in
+    (omega arith, none-filled lens-table (start .args .s .now) (start .args .v) (start .args .a))
 
 sized-requires : tie.Need-sized-requires Inv-loop μ-loop
 sized-requires c κs = search needs
@@ -41,20 +43,24 @@ loop-less c = search needs
 
 loop-again : tie.Need-loop-again Inv-loop μ-loop
 loop-again c =
-    let at = c .before .before .before .before .before .before .loop in
     let w = c .before .before .before .before .before .before .before .args in
+    let at = c .before .before .before .before .before .before .loop in
+    let sized-arg2 = c .before .before .before .sized-arg2 in
+    let put16 = c .put16 in
     let j = w .a + at .k in (
       omega arith,
       one-filled lens-table (w .s .now) (w .v) (w .a) (at .k) j (at .s) _ refl
-          (ap view (c .put16 .ensures) ∙ view-lens (at .s) (c .before .before .before .sized-arg2 .given .0) j (w .v) (omega arith))
-          (ap saved (c .put16 .ensures) ∙ saved-off (at .s) (1966 + j * 2) (digits 2 (w .v)) (omega arith)) (at .inv .1),
+          (ap view (put16 .ensures) ∙ view-lens (at .s) (sized-arg2 .given .0) j (w .v) (omega arith))
+          (ap saved (put16 .ensures) ∙ saved-off (at .s) (1966 + j * 2) (digits 2 (w .v)) (omega arith)) (at .inv .1),
     )
 
 returns : tie.Need-returns Inv-loop μ-loop
 returns c =
     let s = c .before .before .args in
-    all-filled lens-table _ (s .v) (s .a) (s .n) _ _ (c .before .loop .inv .1) (omega arith)
+    let looped = c .before .loop in
+    all-filled lens-table _ (s .v) (s .a) (s .n) _ _ (looped .inv .1) (omega arith)
 
 pub fill-lengths-spec : {M : Type 1} → statement M
 fill-lengths-spec =
-    tie.close (tie.spec Inv-loop μ-loop loop-holds sized-requires add-put16 mul-put16 add-put16-2 put16-requires add-k loop-less loop-again returns)
+    tie.close (tie.spec Inv-loop μ-loop loop-holds sized-requires add-put16 mul-put16 add-put16-2 put16-requires add-k
+    loop-less loop-again returns)

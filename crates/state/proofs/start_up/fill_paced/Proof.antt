@@ -10,7 +10,9 @@ use Rattle.state.proofs.start_up.fill_paced.Statement.{statement}
 use Rattle.state.proofs.start_up.fill_paced.Tie as tie
 
 loop-holds : tie.Need-loop-holds (Filling paced-table 0x1800 16) (Left 16)
-loop-holds c = none-yet paced-table 0x1800 16 (c .args .s .now)
+loop-holds c =
+    let start = c in
+    none-yet paced-table 0x1800 16 (start .args .s .now)
 
 sized-requires : tie.Need-sized-requires (Filling paced-table 0x1800 16) (Left 16)
 sized-requires c κs = search needs
@@ -32,16 +34,22 @@ loop-less c = search needs
 
 loop-again : tie.Need-loop-again (Filling paced-table 0x1800 16) (Left 16)
 loop-again c =
+    let start = c .before .before .before .before .before .before .before in
     let at = c .before .before .before .before .before .before .loop in
-    let w = c .before .before .before .before .before .before .before .args .s .now in
+    let sized-arg2 = c .before .before .before .sized-arg2 in
+    let put16 = c .put16 in
+    let w = start .args .s .now in
     one-more paced-table 0x1800 16 w (at .k) (at .s) _ (omega arith)
-    (ap view (c .put16 .ensures) ∙ view-paceds (at .s) (c .before .before .before .sized-arg2 .given .0) (at .k) 0x1800 (omega arith))
-    (ap saved (c .put16 .ensures) ∙ saved-off (at .s) (1422 + at .k * 2) (digits 2 0x1800) (omega arith)) (at .inv)
+    (ap view (put16 .ensures) ∙ view-paceds (at .s) (sized-arg2 .given .0) (at .k) 0x1800 (omega arith))
+    (ap saved (put16 .ensures) ∙ saved-off (at .s) (1422 + at .k * 2) (digits 2 0x1800) (omega arith)) (at .inv)
 
 returns : tie.Need-returns (Filling paced-table 0x1800 16) (Left 16)
-returns c = all-done paced-table 0x1800 16 _ _ _ (omega arith) (c .before .loop .inv)
+returns c =
+    let looped = c .before .loop in
+    all-done paced-table 0x1800 16 _ _ _ (omega arith) (looped .inv)
 
 pub fill-paced-spec : {M : Type 1} → statement M
 fill-paced-spec =
-    tie.close (tie.spec (Filling paced-table 0x1800 16) (Left 16) loop-holds sized-requires mul-put16 add-put16 put16-requires add-k loop-less loop-again
+    tie.close (tie.spec (Filling paced-table 0x1800 16) (Left 16) loop-holds sized-requires mul-put16 add-put16
+    put16-requires add-k loop-less loop-again
     returns)

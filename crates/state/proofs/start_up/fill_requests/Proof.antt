@@ -12,7 +12,9 @@ use Rattle.state.proofs.start_up.fill_requests.Statement.{statement}
 use Rattle.state.proofs.start_up.fill_requests.Tie as tie
 
 loop-holds : tie.Need-loop-holds (Filling requests-table noRequest 32) (Left 32)
-loop-holds c = none-yet requests-table noRequest 32 (c .args .s .now)
+loop-holds c =
+    let start = c in
+    none-yet requests-table noRequest 32 (start .args .s .now)
 
 sized-requires : tie.Need-sized-requires (Filling requests-table noRequest 32) (Left 32)
 sized-requires c κs = search needs
@@ -34,17 +36,24 @@ loop-less c = search needs
 
 loop-again : tie.Need-loop-again (Filling requests-table noRequest 32) (Left 32)
 loop-again c =
+    let start = c .before .before .before .before .before .before .before in
     let at = c .before .before .before .before .before .before .loop in
-    let w = c .before .before .before .before .before .before .before .args .s .now in
-    let e = c .write-request .ensures in
+    let sized-arg2 = c .before .before .before .sized-arg2 in
+    let write-request = c .write-request in
+    let w = start .args .s .now in
+    let e = write-request .ensures in
     one-more requests-table noRequest 32 w (at .k) (at .s) _ (omega arith)
-    (ap view e ∙ view-requests (at .s) (c .before .before .before .sized-arg2 .given .0) (at .k) noRequest (omega arith))
-    (ap saved e ∙ saved-off (at .s) (1064 + at .k * 8) (bytes requestWidths (requestAs noRequest)) (omega arith)) (at .inv)
+    (ap view e ∙ view-requests (at .s) (sized-arg2 .given .0) (at .k) noRequest (omega arith))
+    (ap saved e ∙ saved-off (at .s) (1064 + at .k * 8) (bytes requestWidths (requestAs noRequest)) (omega arith))
+    (at .inv)
 
 returns : tie.Need-returns (Filling requests-table noRequest 32) (Left 32)
-returns c = all-done requests-table noRequest 32 _ _ _ (omega arith) (c .before .loop .inv)
+returns c =
+    let looped = c .before .loop in
+    all-done requests-table noRequest 32 _ _ _ (omega arith) (looped .inv)
 
 pub fill-requests-spec : {M : Type 1} → statement M
 fill-requests-spec =
-    tie.close (tie.spec (Filling requests-table noRequest 32) (Left 32) loop-holds sized-requires mul-write-request add-write-request
+    tie.close (tie.spec (Filling requests-table noRequest 32) (Left 32) loop-holds sized-requires mul-write-request
+    add-write-request
     write-request-requires add-k loop-less loop-again returns)

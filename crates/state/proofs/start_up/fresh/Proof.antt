@@ -1,5 +1,6 @@
 use mathlib.Core.Path.{ap, _∙_}
-use Rattle.state.specs.Driver.{Driver, noRequest, withLens, withPaced, withRequests, withGlobals, withAllocator, withControl, withWakes}
+use Rattle.state.specs.Driver.{Driver, noRequest, withLens, withPaced, withRequests, withGlobals, withAllocator}
+use Rattle.state.specs.Driver.{withControl, withWakes}
 use Rattle.state.specs.Wakes.{none-woken}
 use Rattle.state.specs.Fresh.{filled, noStamps, freshGlobals, freshAllocator, noControl}
 use Rattle.state.proofs.Filling.{made-afresh}
@@ -40,30 +41,39 @@ fresh-saved-requires c κs = search needs
 returns : tie.Need-returns
 unfolding noStamps
 returns c =
-    let st = c .before .before .before .before .before .before .before
-    .before .before .before .before .before .before .before .before .before .before .before .before .before in (
-      c .fresh-saved .ensures .0 ∙ c .before .before .fresh-wakes .ensures .0
-          ∙ ap (λ (d : Driver). withWakes d none-woken) (c .before .before .before .before .fresh-control .ensures
-          ∙ ap (λ (d : Driver). withControl d noControl) (c .before .before .before .before .before .before .fresh-allocator .ensures
-          ∙ ap (λ (d : Driver). withAllocator d (freshAllocator (st .args .size) (st .args .count)))
-          (c .before .before .before .before .before .before .before .before .fresh-globals .ensures
-          ∙ ap (λ (d : Driver). withGlobals d (freshGlobals (st .args .callback)))
-          (c .before .before .before .before .before .before .before .before .before .before .fill-requests .ensures .0
-          ∙ ap (λ (d : Driver). withRequests d (filled (d .requests) 0 32 noRequest))
-          (c .before .before .before .before .before .before .before .before .before .before .before .before .fill-paced .ensures .0
-          ∙ ap (λ (d : Driver). withPaced d (filled (d .paced) 0 16 0x1800))
-          (c .before .before .before .before .before .before .before .before .before .before .before .before .before .before .clear-all-stamps .ensures .0
-          ∙ ap noStamps
-          (c .before .before .before .before .before .before .before .before .before .before .before .before .before .before .before .before
-          .fill-lengths .ensures .0
-          ∙ ap (λ (d : Driver). withLens d (filled (d .lens) 0 512 0))
-          (c .before .before .before .before .before .before .before .before .before .before .before .before .before .before .before .before .before .before
-          .fill-eps .ensures .0))))))))
-          ∙ made-afresh (st .args .s .now) (st .args .size) (st .args .count) (st .args .callback),
-      c .fresh-saved .ensures .1,
+    let start = c .before .before .before .before .before .before .before .before .before .before .before .before
+    .before .before .before .before .before .before .before .before in
+    let fill-eps = c .before .before .before .before .before .before .before .before .before .before .before .before
+    .before .before .before .before .before .before .fill-eps in
+    let fill-lengths = c .before .before .before .before .before .before .before .before .before .before .before
+    .before .before .before .before .before .fill-lengths in
+    let clear-all-stamps = c .before .before .before .before .before .before .before .before .before .before .before
+    .before .before .before .clear-all-stamps in
+    let fill-paced = c .before .before .before .before .before .before .before .before .before .before .before .before
+    .fill-paced in
+    let fill-requests = c .before .before .before .before .before .before .before .before .before .before
+    .fill-requests in
+    let fresh-globals = c .before .before .before .before .before .before .before .before .fresh-globals in
+    let fresh-allocator = c .before .before .before .before .before .before .fresh-allocator in
+    let fresh-control = c .before .before .before .before .fresh-control in
+    let fresh-wakes = c .before .before .fresh-wakes in
+    let fresh-saved = c .fresh-saved in (
+      fresh-saved .ensures .0 ∙ fresh-wakes .ensures .0
+          ∙ ap (λ (d : Driver). withWakes d none-woken) (fresh-control .ensures
+          ∙ ap (λ (d : Driver). withControl d noControl) (fresh-allocator .ensures
+          ∙ ap (λ (d : Driver). withAllocator d (freshAllocator (start .args .size) (start .args .count)))
+          (fresh-globals .ensures ∙ ap (λ (d : Driver). withGlobals d (freshGlobals (start .args .callback)))
+          (fill-requests .ensures .0 ∙ ap (λ (d : Driver). withRequests d (filled (d .requests) 0 32 noRequest))
+          (fill-paced .ensures .0 ∙ ap (λ (d : Driver). withPaced d (filled (d .paced) 0 16 0x1800))
+          (clear-all-stamps .ensures .0 ∙ ap noStamps (fill-lengths .ensures .0
+          ∙ ap (λ (d : Driver). withLens d (filled (d .lens) 0 512 0)) (fill-eps .ensures .0))))))))
+          ∙ made-afresh (start .args .s .now) (start .args .size) (start .args .count) (start .args .callback),
+      fresh-saved .ensures .1,
     )
 
 pub fresh-spec : {M : Type 1} → statement M
 fresh-spec =
-    tie.close (tie.spec fill-eps-requires fill-lengths-requires clear-all-stamps-requires fill-paced-requires fill-requests-requires
-    fresh-globals-requires fresh-allocator-requires fresh-control-requires fresh-wakes-requires fresh-saved-requires returns)
+    tie.close (tie.spec fill-eps-requires fill-lengths-requires clear-all-stamps-requires fill-paced-requires
+    fill-requests-requires
+    fresh-globals-requires fresh-allocator-requires fresh-control-requires fresh-wakes-requires fresh-saved-requires
+    returns)

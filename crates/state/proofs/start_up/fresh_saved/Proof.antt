@@ -10,7 +10,10 @@ store-saved-requires : tie.Need-store-saved-requires
 store-saved-requires c κs = search needs
 
 returns : tie.Need-returns
-returns c = (c .store-saved .ensures .0, c .store-saved .ensures .1 ∙ c .before .nothing .ensures)
+returns c =
+    let nothing = c .before .nothing in
+    let store-saved = c .store-saved in
+    (store-saved .ensures .0, store-saved .ensures .1 ∙ nothing .ensures)
 
 pub fresh-saved-spec : {M : Type 1} → statement M
 fresh-saved-spec = tie.close (tie.spec nothing-requires store-saved-requires returns)

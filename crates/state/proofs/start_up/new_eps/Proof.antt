@@ -12,7 +12,9 @@ use Rattle.state.proofs.start_up.new_eps.Statement.{statement}
 use Rattle.state.proofs.start_up.new_eps.Tie as tie
 
 loop-holds : tie.Need-loop-holds (Filling eps-table newEp 32) (Left 32)
-loop-holds c = none-yet eps-table newEp 32 (c .args .s .now)
+loop-holds c =
+    let entry = c in
+    none-yet eps-table newEp 32 (entry .args .s .now)
 
 sized-requires : tie.Need-sized-requires (Filling eps-table newEp 32) (Left 32)
 sized-requires c κs = search needs
@@ -43,19 +45,25 @@ loop-less c = search needs
 
 loop-again : tie.Need-loop-again (Filling eps-table newEp 32) (Left 32)
 loop-again c =
-    let at = c .before .before .before .before .before .before .before .before .loop in
     let start = c .before .before .before .before .before .before .before .before .before in
+    let at = c .before .before .before .before .before .before .before .before .loop in
+    let sized-arg2 = c .before .before .before .before .before .sized-arg2 in
     let read = c .before .before .read-ep in
+    let write-ep = c .write-ep in
     let cleared = cleared-at (start .args .s .now) (at .s) (at .k) (read .result) (start .pre) (at .inv .1 .0)
     (ep-there (at .s) (at .k) (read .result) (omega arith) (read .ensures)) in
-    let e = c .write-ep .ensures ∙ ap (λ (r : EpState). puts (at .s) (40 + at .k * 32) 0 (bytes epWidths (epAs (madeNew r)))) cleared in
-    let sized = c .before .before .before .before .before .sized-arg2 .given .0 in
+    let e = write-ep .ensures ∙ ap (λ (r : EpState). puts (at .s) (40 + at .k * 32) 0
+    (bytes epWidths (epAs (madeNew r)))) cleared in
+    let sized = sized-arg2 .given .0 in
     ep-more (start .args .s .now) (at .s) _ (at .k) newEp sized (omega arith) e (at .inv)
 
 returns : tie.Need-returns (Filling eps-table newEp 32) (Left 32)
-returns c = all-done eps-table newEp 32 _ _ _ (omega arith) (c .before .loop .inv)
+returns c =
+    let looped = c .before .loop in
+    all-done eps-table newEp 32 _ _ _ (omega arith) (looped .inv)
 
 pub new-eps-spec : {M : Type 1} → statement M
 new-eps-spec =
-    tie.close (tie.spec (Filling eps-table newEp 32) (Left 32) loop-holds sized-requires mul-read-ep add-read-ep read-ep-requires mul-write-ep add-write-ep
+    tie.close (tie.spec (Filling eps-table newEp 32) (Left 32) loop-holds sized-requires mul-read-ep add-read-ep
+    read-ep-requires mul-write-ep add-write-ep
     write-ep-requires add-k loop-less loop-again returns)

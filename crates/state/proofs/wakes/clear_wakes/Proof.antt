@@ -6,7 +6,9 @@ store-count-requires : tie.Need-store-count-requires
 store-count-requires c κs = search needs
 
 returns : tie.Need-returns
-returns c = c .store-count .ensures
+returns c =
+    let store-count = c .store-count in
+    store-count .ensures
 
 pub clear-wakes-spec : {M : Type 1} → statement M
 clear-wakes-spec = tie.close (tie.spec store-count-requires returns)

@@ -16,10 +16,14 @@ clear-wakes-requires c κs = search needs
 
 returns : tie.Need-returns
 returns c =
-    let xs = c .before .before .before .before .args .s .now in (
-      c .clear-wakes .ensures .0 ∙ ap noneGathered (c .before .before .clear-codes .ensures .0)
-          ∙ ap (λ (l : _). withWakes (view xs) (withCount (withCodes (view xs .wakes) l) 0)) (filled-all (view xs .wakes .codes) 64 0 (view-codes xs)),
-      c .clear-wakes .ensures .1 ∙ c .before .before .clear-codes .ensures .1,
+    let start = c .before .before .before .before in
+    let clear-codes = c .before .before .clear-codes in
+    let clear-wakes = c .clear-wakes in
+    let xs = start .args .s .now in (
+      clear-wakes .ensures .0 ∙ ap noneGathered (clear-codes .ensures .0)
+          ∙ ap (λ (l : _). withWakes (view xs) (withCount (withCodes (view xs .wakes) l) 0))
+          (filled-all (view xs .wakes .codes) 64 0 (view-codes xs)),
+      clear-wakes .ensures .1 ∙ clear-codes .ensures .1,
     )
 
 pub fresh-wakes-spec : {M : Type 1} → statement M

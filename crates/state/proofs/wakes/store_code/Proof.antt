@@ -23,10 +23,13 @@ put8-requires c κs = search needs
 
 returns : tie.Need-returns
 returns c =
-    let st = c .before .before .before .before .before in (
-      ap view (c .put8 .ensures) ∙ view-codes (now (st .args .s))
-          (c .before .before .before .sized-arg2 .given .0) (st .args .i) (st .args .code) (omega (arith, st .pre)),
-      ap saved (c .put8 .ensures) ∙ saved-off (now (st .args .s)) (1358 + st .args .i * 1) (digits 1 (st .args .code)) (omega (arith, st .pre)),
+    let start = c .before .before .before .before .before in
+    let sized-arg2 = c .before .before .before .sized-arg2 in
+    let put8 = c .put8 in (
+      ap view (put8 .ensures) ∙ view-codes (now (start .args .s))
+          (sized-arg2 .given .0) (start .args .i) (start .args .code) (omega (arith, start .pre)),
+      ap saved (put8 .ensures) ∙ saved-off (now (start .args .s)) (1358 + start .args .i * 1)
+          (digits 1 (start .args .code)) (omega (arith, start .pre)),
     )
 
 pub store-code-spec : {M : Type 1} → statement M

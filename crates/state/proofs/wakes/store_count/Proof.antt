@@ -16,9 +16,11 @@ put8-requires c κs = search needs
 
 returns : tie.Need-returns
 returns c =
-    let st = c .before .before .before .before .before in (
-      ap view (c .put8 .ensures) ∙ view-count (now (st .args .s)) (c .before .before .before .sized-arg2 .given .0) (st .args .n),
-      ap saved (c .put8 .ensures) ∙ saved-off (now (st .args .s)) 1357 (digits 1 (st .args .n)) (omega arith),
+    let start = c .before .before .before .before .before in
+    let sized-arg2 = c .before .before .before .sized-arg2 in
+    let put8 = c .put8 in (
+      ap view (put8 .ensures) ∙ view-count (now (start .args .s)) (sized-arg2 .given .0) (start .args .n),
+      ap saved (put8 .ensures) ∙ saved-off (now (start .args .s)) 1357 (digits 1 (start .args .n)) (omega arith),
     )
 
 pub store-count-spec : {M : Type 1} → statement M

@@ -25,20 +25,31 @@ store-count-requires c κs = search needs
 
 returns : tie.Need-returns
 returns c =
-    let d = view (now (c .before .before .before .before .before .before .before .args .s)) in
-    let n = c .before .before .before .before .before .woken-count in
-    let a = c .before .before .before .before .before .before .before .args .code in (
-      c .store-count .ensures .0 ∙ ap (λ (x : Driver). withWakes x (withCount (x .wakes) (n .result + 1))) (c .before .before .store-code .ensures .0)
-          ∙ ap (λ (k : ℕ). withWakes d (withCount (withCodes (d .wakes) (set (d .wakes .codes) k a)) (k + 1))) (n .ensures)
-          ∙ ap (withWakes d) (sym (woken-room a (d .wakes) (omega (arith, sym (n .ensures), c .before .before .before .before .if1 .taken)))),
-      c .store-count .ensures .1 ∙ c .before .before .store-code .ensures .1,
+    let start = c .before .before .before .before .before .before .before in
+    let woken-count = c .before .before .before .before .before .woken-count in
+    let if1 = c .before .before .before .before .if1 in
+    let store-code = c .before .before .store-code in
+    let store-count = c .store-count in
+    let d = view (now (start .args .s)) in
+    let n = woken-count in
+    let a = start .args .code in (
+      store-count .ensures .0 ∙ ap (λ (x : Driver). withWakes x (withCount (x .wakes) (n .result + 1)))
+          (store-code .ensures .0)
+          ∙ ap (λ (k : ℕ). withWakes d (withCount (withCodes (d .wakes) (set (d .wakes .codes) k a)) (k + 1)))
+          (n .ensures)
+          ∙ ap (withWakes d) (sym (woken-room a (d .wakes) (omega (arith, sym (n .ensures), if1 .taken)))),
+      store-count .ensures .1 ∙ store-code .ensures .1,
     )
 
 returns-2 : tie.Need-returns-2
 returns-2 c =
-    let d = view (now (c .before .before .before .args .s)) in
-    let a = c .before .before .before .args .code in
-    (ap (withWakes d) (sym (woken-full a (d .wakes) (omega (arith, sym (c .before .woken-count .ensures), c .if1 .left)))), refl)
+    let start = c .before .before .before in
+    let woken-count = c .before .woken-count in
+    let if1 = c .if1 in
+    let d = view (now (start .args .s)) in
+    let a = start .args .code in
+    (ap (withWakes d) (sym (woken-full a (d .wakes) (omega (arith, sym (woken-count .ensures), if1 .left)))), refl)
 
 pub wake-spec : {M : Type 1} → statement M
-wake-spec = tie.close (tie.spec woken-count-requires store-code-requires add-store-count store-count-requires returns returns-2)
+wake-spec = tie.close (tie.spec woken-count-requires store-code-requires add-store-count store-count-requires returns
+    returns-2)

@@ -18,7 +18,10 @@ get8-requires : tie.Need-get8-requires
 get8-requires c κs = search needs
 
 returns : tie.Need-returns
-returns c = c .get8 .ensures ∙ code-at (now (c .before .args .s)) (c .before .args .i)
+returns c =
+    let start = c .before in
+    let get8 = c .get8 in
+    get8 .ensures ∙ code-at (now (start .args .s)) (start .args .i)
 
 pub woken-at-spec : {M : Type 1} → statement M
 woken-at-spec = tie.close (tie.spec cast-get8 mul-get8 add-get8 get8-requires returns)

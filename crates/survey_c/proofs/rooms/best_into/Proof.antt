@@ -17,13 +17,18 @@ ended-requires c κs = search needs
 
 returns : tie.Need-returns
 returns c =
-    let e = c .before .before .answer .given .1 in
-    (c .refused .ensures ∙ rw e, rw e, rw e, rw e)
+    let answer = c .before .before .answer in
+    let refused = c .refused in
+    let e = answer .given .1 in
+    (refused .ensures ∙ rw e, rw e, rw e, rw e)
 
 returns-2 : tie.Need-returns-2
 returns-2 c =
-    let e = c .before .before .answer2 .given .1 in
-    (c .ended .ensures ∙ rw e, rw e, rw e, rw e)
+    let answer2 = c .before .before .answer2 in
+    let ended = c .ended in
+    let e = answer2 .given .1 in
+    (ended .ensures ∙ rw e, rw e, rw e, rw e)
 
 pub best-into-spec : {M : Type 1} → statement M
-best-into-spec = tie.close (tie.spec enum-known-answer refused-requires enum-known-answer-2 ended-requires returns returns-2)
+best-into-spec = tie.close (tie.spec enum-known-answer refused-requires enum-known-answer-2 ended-requires returns
+    returns-2)

@@ -30,4 +30,5 @@ unfolding writerIn
 returns c = refl
 
 pub writer-in-spec : {M : Type 1} → statement M
-writer-in-spec = tie.close (tie.spec element-copy-out-t4 element-copy-out-t7 cast-t9 element-copy-out-t12 cast-t14 element-copy-out-t17 cast-t19 returns)
+writer-in-spec = tie.close (tie.spec element-copy-out-t4 element-copy-out-t7 cast-t9 element-copy-out-t12 cast-t14
+    element-copy-out-t17 cast-t19 returns)

@@ -34,17 +34,29 @@ add-result c = search needs
 
 returns : tie.Need-returns
 returns c =
-    let e = ap (λ (x : Shown). x .said) (sym (c .before .before .before .preview .ensures)) ∙ c .before .said .given .1 in
+    let preview = c .before .before .before .preview in
+    let said = c .before .said in
+    let e = ap (λ (x : Shown). x .said) (sym (preview .ensures)) ∙ said .given .1 in
     (rw e, (rw e, (rw e, rw e)))
 
 returns-2 : tie.Need-returns-2
 returns-2 c =
-    let p = c .before .before .before .before .before .preview .ensures in
-    let e = ap (λ (x : Shown). x .said) (sym p) ∙ c .before .before .before .enum-told .given .1 in (
+    let preview = c .before .before .before .before .before .preview in
+    let enum-told-fact = c .before .before .before .enum-told in
+    let p = preview .ensures in
+    let e = ap (λ (x : Shown). x .said) (sym p) ∙ enum-told-fact .given .1 in (
       rw e (ap (λ (x : Shown). 5 + x .count % 256 * 2 ^ 8) p),
-      (rw e (ap (λ (x : Shown). x .numbers) p), (rw e (ap (λ (x : Shown). x .buffers) p), rw e (ap (λ (x : Shown). x .refusal) p))),
+      (
+        rw e (ap (λ (x : Shown). x .numbers) p),
+        (
+          rw e (ap (λ (x : Shown). x .buffers) p),
+          rw e
+              (ap (λ (x : Shown). x .refusal) p),
+        ),
+      ),
     )
 
 pub usbhs-preview-spec : {M : Type 1} → statement M
 usbhs-preview-spec =
-    tie.close (tie.spec preview-requires enum-known-said cast-result mul-result enum-told cast-refusal mul-result-2 add-result returns returns-2)
+    tie.close (tie.spec preview-requires enum-known-said cast-result mul-result enum-told cast-refusal mul-result-2
+    add-result returns returns-2)

@@ -16,11 +16,14 @@ bytes-of-requires : tie.Need-bytes-of-requires
 bytes-of-requires c κs = search needs
 
 returns : tie.Need-returns
-returns c = (
-  c .bytes-of .ensures,
-  c .bytes-of .ensures ∙ over-all (c .before .before .before .before .args .low) (c .before .before .before .before .args .high)
-      (now (c .before .before .before .before .args .packet)) (c .before .before .sized-arg2 .given .0),
-)
+returns c =
+    let start = c .before .before .before .before in
+    let sized-arg2 = c .before .before .sized-arg2 in
+    let bytes-of = c .bytes-of in (
+      bytes-of .ensures,
+      bytes-of .ensures ∙ over-all (start .args .low) (start .args .high)
+          (now (start .args .packet)) (sized-arg2 .given .0),
+    )
 
 pub fill-spec : {M : Type 1} → statement M
 fill-spec = tie.close (tie.spec sized-requires bytes-of-requires returns)

@@ -7,10 +7,15 @@ enum-known-step : tie.Need-enum-known-step
 enum-known-step c = search needs
 
 returns : tie.Need-returns
-returns c b d = simp (c .before .step .given .1)
+returns c b d =
+    let step = c .before .step in
+    simp (step .given .1)
 
 returns-2 : tie.Need-returns-2
-returns-2 c b d = unshown (c .before .args .step) (c .match .keys2) (c .before .args .old) b d
+returns-2 c b d =
+    let start = c .before in
+    let matched = c .match in
+    unshown (start .args .step) (matched .keys2) (start .args .old) b d
 
 pub stamp-by-spec : {M : Type 1} → statement M
 stamp-by-spec = tie.close (tie.spec enum-known-step returns returns-2)

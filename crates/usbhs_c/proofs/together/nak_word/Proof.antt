@@ -35,12 +35,16 @@ word-of-requires c κs = search needs
 
 returns : tie.Need-returns
 unfolding wordOf accessWord
-returns c = says _ _ _ (ap Asks (c .before .before .q .given .1)) (search needs) (simp (c .number .ensures))
+returns c =
+    let q = c .before .before .q in
+    let number = c .number in
+    says _ _ _ (ap Asks (q .given .1)) (search needs) (simp (number .ensures))
 
 returns-2 : tie.Need-returns-2
 returns-2 c = search needs
 
 pub nak-word-spec : {M : Type 1} → statement M
 nak-word-spec =
-    tie.close (tie.spec enum-known-q number-requires cast-result mul-result add-result cast-result-2 mul-result-2 add-result-2 word-of-requires
+    tie.close (tie.spec enum-known-q number-requires cast-result mul-result add-result cast-result-2 mul-result-2
+    add-result-2 word-of-requires
     returns returns-2)

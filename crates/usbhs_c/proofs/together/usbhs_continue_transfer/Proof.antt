@@ -36,9 +36,12 @@ returns : tie.Need-returns
 returns c =
     let a = c .before .before .before .before .before .before .before .args in
     let the-pass = c .before .before .before .pass in
+    let enum-told-fact = c .before .enum-told in
+    let release-word = c .release-word in
     let m = lent (the-pass .last .0) (now (a .slots)) (now (a .time)) in
-    released _ (a .driver) (a .mis) (a .st) (a .len) (the-pass .result) _ m (the-pass .ensures (a .driver) (now (a .time)))
-    (c .before .enum-told .given .1) (c .release-word .ensures)
+    released _ (a .driver) (a .mis) (a .st) (a .len) (the-pass .result) _ m
+    (the-pass .ensures (a .driver) (now (a .time)))
+    (enum-told-fact .given .1) (release-word .ensures)
 
 same-length-2 : tie.Need-same-length-2
 same-length-2 c = search needs
@@ -47,9 +50,11 @@ returns-2 : tie.Need-returns-2
 returns-2 c =
     let a = c .before .before .before .before .before .before .before .before .args in
     let the-pass = c .before .before .before .before .pass in
+    let n = c .before .before .n in
+    let nak-word = c .nak-word in
     let m = lent (the-pass .last .0) (now (a .slots)) (now (a .time)) in
     naks _ (a .driver) (a .mis) (a .st) (a .len) (the-pass .result) _ m (the-pass .ensures (a .driver) (now (a .time)))
-    _ (c .before .before .n .given .1) (c .nak-word .ensures)
+    _ (n .given .1) (nak-word .ensures)
 
 same-length-3 : tie.Need-same-length-3
 same-length-3 c = search needs
@@ -57,17 +62,20 @@ same-length-3 c = search needs
 returns-3 : tie.Need-returns-3
 returns-3 c =
     let at-usbhs-continue = c .before .before .before .before .before .before .before .before in
+    let bring = c .before .before .bring in
     let at-enum-told2 = at-usbhs-continue .before .before .before .before in
     let at-pass = at-enum-told2 .before .before in
     let at-entry = at-pass .before .before .before .before in
     let a = at-entry .args in
     let the-pass = at-pass .pass in
     let m = lent (the-pass .last .0) (now (a .slots)) (now (a .time)) in
-    gone-on _ (a .driver) (a .mis) (a .st) (a .len) (the-pass .result) _ m (the-pass .ensures (a .driver) (now (a .time)))
+    gone-on _ (a .driver) (a .mis) (a .st) (a .len) (the-pass .result) _ m
+    (the-pass .ensures (a .driver) (now (a .time)))
     (at-enum-told2 .enum-told2 .given .1) _ (lent _ _ _) (lent _ _ _)
-    (continued _ (a .driver) (a .mis) m (lent _ _ _) (at-usbhs-continue .usbhs-continue .ensures)) (c .before .before .bring .ensures)
+    (continued _ (a .driver) (a .mis) m (lent _ _ _) (at-usbhs-continue .usbhs-continue .ensures)) (bring .ensures)
 
 pub usbhs-continue-transfer-spec : {M : Type 1} → statement M
 usbhs-continue-transfer-spec =
-    tie.close (tie.spec pass-requires enum-told release-word-requires enum-known-n nak-word-requires enum-told-2 usbhs-continue-requires
+    tie.close (tie.spec pass-requires enum-told release-word-requires enum-known-n nak-word-requires enum-told-2
+    usbhs-continue-requires
     bring-requires same-length returns same-length-2 returns-2 same-length-3 returns-3)

@@ -36,9 +36,12 @@ returns : tie.Need-returns
 returns c =
     let a = c .before .before .before .before .before .before .before .args in
     let the-enter = c .before .before .before .enter in
+    let enum-told-fact = c .before .enum-told in
+    let mis-word = c .mis-word in
     let m = lent (the-enter .last .0) (now (a .slots)) (now (a .time)) in
-    at-transfer _ (a .driver) (a .frame) (a .flags) (the-enter .result) _ m (the-enter .ensures (a .driver) (now (a .time)))
-    (c .before .enum-told .given .1) (c .mis-word .ensures)
+    at-transfer _ (a .driver) (a .frame) (a .flags) (the-enter .result) _ m
+    (the-enter .ensures (a .driver) (now (a .time)))
+    (enum-told-fact .given .1) (mis-word .ensures)
 
 same-length-2 : tie.Need-same-length-2
 same-length-2 c = search needs
@@ -46,13 +49,16 @@ same-length-2 c = search needs
 returns-2 : tie.Need-returns-2
 returns-2 c =
     let at-enum-told2 = c .before .before .before .before .before .before in
+    let usbhs-continue = c .before .before .usbhs-continue in
     let at-enter = at-enum-told2 .before .before in
     let at-entry = at-enter .before .before .before .before in
     let a = at-entry .args in
     let the-enter = at-enter .enter in
     let m = lent (the-enter .last .0) (now (a .slots)) (now (a .time)) in
-    at-flags _ (a .driver) (a .frame) (a .flags) (the-enter .result) _ m (the-enter .ensures (a .driver) (now (a .time)))
-    (at-enum-told2 .enum-told2 .given .1) (lent _ _ _) (continued _ (a .driver) (a .flags) m (lent _ _ _) (c .before .before .usbhs-continue .ensures))
+    at-flags _ (a .driver) (a .frame) (a .flags) (the-enter .result) _ m
+    (the-enter .ensures (a .driver) (now (a .time)))
+    (at-enum-told2 .enum-told2 .given .1) (lent _ _ _)
+    (continued _ (a .driver) (a .flags) m (lent _ _ _) (usbhs-continue .ensures))
 
 same-length-3 : tie.Need-same-length-3
 same-length-3 c = search needs
@@ -60,6 +66,7 @@ same-length-3 c = search needs
 returns-3 : tie.Need-returns-3
 returns-3 c =
     let at-usbhs-begin-interrupt = c .before .before .before .before .before .before in
+    let bring = c .before .before .bring in
     let at-enum-told3 = at-usbhs-begin-interrupt .before .before in
     let at-enter = at-enum-told3 .before .before in
     let at-entry = at-enter .before .before .before .before in
@@ -68,9 +75,10 @@ returns-3 c =
     let m = lent (the-enter .last .0) (now (a .slots)) (now (a .time)) in
     let the-begin = at-usbhs-begin-interrupt .usbhs-begin-interrupt in
     begun _ (a .driver) (a .frame) (a .flags) (the-enter .result) _ m (the-enter .ensures (a .driver) (now (a .time)))
-    (at-enum-told3 .enum-told3 .given .1) _ (the-begin .last .0) (lent _ _ _) (the-begin .ensures) (c .before .before .bring .ensures)
+    (at-enum-told3 .enum-told3 .given .1) _ (the-begin .last .0) (lent _ _ _) (the-begin .ensures) (bring .ensures)
 
 pub usbhs-interrupt-spec : {M : Type 1} → statement M
 usbhs-interrupt-spec =
-    tie.close (tie.spec enter-requires enum-told mis-word-requires enum-told-2 usbhs-continue-requires enum-told-3 usbhs-begin-interrupt-requires
+    tie.close (tie.spec enter-requires enum-told mis-word-requires enum-told-2 usbhs-continue-requires enum-told-3
+    usbhs-begin-interrupt-requires
     bring-requires same-length returns same-length-2 returns-2 same-length-3 returns-3)

@@ -1,6 +1,6 @@
 use mathlib.Core.Path.{_≡_, refl, sym, ap, _∙_}
 use mathlib.Core.List.{List}
-use Prim.Native.Nat.{ℕ, suc, _≤_, _<_, _-_, _+_, _%_}
+use Prim.Native.Nat.{ℕ, _≤_, _<_, _-_, _+_, _%_}
 use native.Mathlib.Omega.{arith}
 use native.Mathlib.Numerals.{add-one}
 use lib.ListN.{length, getD, set}
@@ -35,19 +35,24 @@ cast-room : tie.Need-cast-room Inv-loop μ-loop
 cast-room c = search needs
 
 -- the room's length stays
-within : (k : ℕ) (xs room₀ room : List ℕ) → k < 64 → length room₀ ≡ 64 → room ≡ written k (view xs .wakes .codes) room₀ → length room ≡ 64
-within k xs room₀ room h l e = ap length e ∙ length-written k (view xs .wakes .codes) room₀ (omega (arith, h, view-codes xs)) (omega (arith, h, l)) ∙ l
+within : (k : ℕ) (xs room₀ room : List ℕ) → k < 64 → length room₀ ≡ 64 → room ≡ written k (view xs .wakes .codes) room₀
+    → length room ≡ 64
+within k xs room₀ room h l e = ap length e ∙ length-written k (view xs .wakes .codes) room₀
+    (omega (arith, h, view-codes xs)) (omega (arith, h, l)) ∙ l
 
 element-write-room : tie.Need-element-write-room Inv-loop μ-loop
 element-write-room c =
-    let st = c .before .before .before .before .before .before .before in
+    let start = c .before .before .before .before .before .before .before in
+    let how-many = c .before .before .before .before .before .before .how-many in
+    let sized-arg2 = c .before .before .before .before .sized-arg2 in
     let at = c .before .before .loop in
-    let h : at .k < 64 = omega (arith, c .before .loop-test .taken, c .before .before .before .before .before .before .how-many .ensures .1) in
+    let loop-test = c .before .loop-test in
+    let h : at .k < 64 = omega (arith, loop-test .taken, how-many .ensures .1) in
     omega (
       arith,
       h,
-      within (at .k) (now (st .args .s))
-          (now (st .args .room)) (at .room) h (c .before .before .before .before .sized-arg2 .given .0) (at .inv .1),
+      within (at .k) (now (start .args .s))
+          (now (start .args .room)) (at .room) h (sized-arg2 .given .0) (at .inv .1),
     )
 
 add-k : tie.Need-add-k Inv-loop μ-loop
@@ -58,31 +63,40 @@ loop-less c = search needs
 
 loop-again : tie.Need-loop-again Inv-loop μ-loop
 loop-again c =
-    let st = c .before .before .before .before .before .before .before in
+    let start = c .before .before .before .before .before .before .before in
+    let how-many = c .before .before .before .before .before .before .how-many in
+    let sized-arg2 = c .before .before .before .before .sized-arg2 in
     let at = c .before .before .loop in
-    let xs = now (st .args .s) in
-    let room₀ = now (st .args .room) in
-    let h : at .k < 64 = omega (arith, c .before .loop-test .taken, c .before .before .before .before .before .before .how-many .ensures .1) in
+    let loop-test = c .before .loop-test in
+    let woken-at = c .woken-at in
+    let xs = now (start .args .s) in
+    let room₀ = now (start .args .room) in
+    let h : at .k < 64 = omega (arith, loop-test .taken, how-many .ensures .1) in
     let m : at .k % 64 ≡ at .k = omega (arith, h) in (
       omega arith,
-      ap (λ (v : ℕ). set (at .room) (at .k) v) (c .woken-at .ensures ∙ ap (λ (j : ℕ). getD (view xs .wakes .codes) j 0) m)
+      ap (λ (v : ℕ). set (at .room) (at .k) v) (woken-at .ensures ∙ ap (λ (j : ℕ). getD (view xs .wakes .codes) j 0) m)
           ∙ ap (λ (r : List ℕ). set r (at .k) (getD (view xs .wakes .codes) (at .k) 0)) (at .inv .1)
           ∙ written-next (at .k) (view xs .wakes .codes) room₀ (omega (arith, h, view-codes xs))
-          (omega (arith, h, c .before .before .before .before .sized-arg2 .given .0))
+          (omega (arith, h, sized-arg2 .given .0))
           ∙ ap (λ (j : ℕ). written j (view xs .wakes .codes) room₀) (sym (add-one (at .k))),
     )
 
 returns : tie.Need-returns Inv-loop μ-loop
 unfolding listed
 returns c =
-    let st = c .before .before .before .before .before .before in
-    let at = c .before .loop in
+    let start = c .before .before .before .before .before .before in
     let n = c .before .before .before .before .before .how-many in
-    let xs = now (st .args .s) in
-    let e : at .k ≡ n .result = omega (arith, c .loop-test .left, at .inv .0) in
-    (n .ensures .0, at .inv .1 ∙ written-all (at .k) (view xs .wakes .count) (view xs .wakes .codes) (now (st .args .room)) (e ∙ n .ensures .0))
+    let at = c .before .loop in
+    let loop-test = c .loop-test in
+    let xs = now (start .args .s) in
+    let e : at .k ≡ n .result = omega (arith, loop-test .left, at .inv .0) in (
+      n .ensures .0,
+      at .inv .1 ∙ written-all (at .k) (view xs .wakes .count) (view xs .wakes .codes)
+          (now (start .args .room)) (e ∙ n .ensures .0),
+    )
 
 pub list-into-spec : {M : Type 1} → statement M
 list-into-spec =
-    tie.close (tie.spec Inv-loop μ-loop how-many-requires sized-requires loop-holds woken-at-requires cast-room element-write-room add-k loop-less
+    tie.close (tie.spec Inv-loop μ-loop how-many-requires sized-requires loop-holds woken-at-requires cast-room
+    element-write-room add-k loop-less
     loop-again returns)
