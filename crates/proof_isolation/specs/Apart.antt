@@ -1,7 +1,7 @@
 -- Two runs that line up by the accesses not made for x
 use mathlib.Core.Bool.{Bool, true, false}
 use mathlib.Core.Path.{_≡_}
-use Prim.Native.Nat.{ℕ}
+use Prim.Native.Nat.{ℕ, _≤_}
 use lib.Dec.{eqb}
 use Rattle.regs.specs.declared.Access.{Access}
 use Rattle.regs.specs.declared.Access.the-variants.{Read, Write, Receive, Transmit, Ep0Dma, Wait, Callback}
@@ -71,10 +71,18 @@ pub data Its (x : ℕ) {A : Type 0} : Access → Out St A → Type 0 where
   status : {y : ℕ} {s : St} {k : ℕ → St → Out St A} → Its x (Read IntSt 0) (asks (Receive x y) s k)
   receive : {y : ℕ} {o : Out St A} → Its x (Receive x y) o
 
--- it stands at no access that is made for x
+-- it stands at no access that is made for x or for an endpoint below it
 pub data Past (x : ℕ) {A : Type 0} : Out St A → Type 0 where
   gone : {a : A} {s : St} → Past x (ends a s)
-  waits : {q : Access} {s : St} {k : ℕ → St → Out St A} → ((s : St) → Another x q (k sof s)) → Past x (asks q s k)
+  waits : {q : Access} {s : St} {k : ℕ → St → Out St A} → ((e : ℕ) → e ≤ x → (s : St) → Another e q (k sof s))
+      → Past x (asks q s k)
+
+-- no access that is made for x comes any more, whatever is read and whatever becomes of the state
+pub data Without (x : ℕ) {A : Type 0} : Out St A → Type 0 where
+  without-end : {a : A} {s : St} → Without x (ends a s)
+  without-ask : {q : Access} {s : St} {k : ℕ → St → Out St A} → ((t : St) → Another x q (k sof t))
+      → ((v : ℕ) (t : St) → Without x (k v t))
+      → Without x (asks q s k)
 
 -- whatever the state: an access of an interrupt is not made for x; is
 abbrev pub Shared : Bool → ℕ → {A : Type 0} → Access → (ℕ → St → Out St A) → Type 0

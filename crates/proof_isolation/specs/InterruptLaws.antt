@@ -17,7 +17,7 @@ use Rattle.regs.specs.declared.Dir.the-variants.{Out, In}
 use Rattle.regs.specs.declared.Token.{Token}
 use Rattle.regs.specs.declared.Token.the-variants as tok
 use Rattle.regs.specs.Status.{endpoint, token, tokenNumbered, outToken, isOut, isIn, togOk}
-use Rattle.regs.specs.Flags.{transfer}
+use Rattle.regs.specs.Flags.{transfer, setupAct}
 use Rattle.regs.specs.MisStatus.{sieFree}
 use Rattle.state.specs.Driver.{key}
 use Rattle.script.specs.declared.Transfer.{Transfer}
@@ -46,6 +46,7 @@ use Rattle.proof_isolation.specs.ValuesLaws.{p-plain-any}
 use Rattle.proof_isolation.specs.InRingsLaws.{setup-same}
 use Rattle.proof_isolation.specs.OutRingsLaws.{changed-same, marked-len-same, arrives-same}
 use Rattle.proof_isolation.specs.OwnStepsLaws.{p-own-check}
+use Rattle.proof_isolation.specs.WithoutLaws.{q-when, q-moved-on, q-setup, later-without}
 use Rattle.proof_isolation.specs.WalksLaws.{p-reads, p-status, p-modify-reg, p-int-en, p-sof, p-late-walk}
 use Rattle.proof_isolation.specs.WalksLaws.{p-sie-wait}
 use Rattle.proof_isolation.specs.WalksLaws.{p-nak, p-toggled, p-sof-arm, p-iso-in, p-sent, p-ep0-moved}
@@ -193,7 +194,9 @@ module _ {c : Channel} {st : ℕ} where
           (transferOf busy st late n o) iso es)
           (checkOne (transferOf busy st late n′ o′) iso k >> checkWalk (transferOf busy st late n′ o′) iso es)) (sym p)
           (p-own-check (transferOf busy st late n o) (transferOf busy st late n′ o′) iso
-          (p-later-walk (suc e) (omega (arith, p)) es (r .1) (λ a m. f a (inr m))))
+          (p-later-walk (suc e) (omega (arith, p)) es (r .1) (λ a m. f a (inr m)))
+          (λ a l s. later-without a (transferOf busy st late n o) iso (suc e) es (r .1) (omega (arith, p, l)) s)
+          (λ a l s. later-without a (transferOf busy st late n′ o′) iso (suc e) es (r .1) (omega (arith, p, l)) s))
       | no p ↦ p-then (p-check-other e p (f e (inl refl))) (p-check-walk (suc e) es (r .1) (λ a m. f a (inr m)))
     ]
 
@@ -251,7 +254,9 @@ module _ {c : Channel} {st : ℕ} where
       (p-then (p-when late (λ _. p-globals c (λ g _. p-late-walk frame _)))
       (p-then (p-when (not busy) (λ _. p-dispatch (token st) busy late n n′ o o′ h iso sure frame))
       (p-before-then (p-when _ (λ _. p-iso-out busy late n n′ o o′ h iso))
-      (p-when _ (λ _. p-ep0-moved (token st)))))))
+      (p-when _ (λ _. p-ep0-moved (token st)))
+      (λ e s. q-when (eqb (endpoint st) 0) (q-moved-on (token st)) .on e s)
+      (λ e s. q-when (eqb (endpoint st) 0) (q-moved-on (token st)) .on e s)))))
 
   p-framed : (u : Bool) (busy late : Bool) (n n′ : ℕ) (o o′ : Bool)
       → Lengths (c .number) st n n′ o o′ → (iso : Bool) → (arriving st (c .number) ≡ true → iso ≡ true) → (frame : ℕ)
@@ -419,7 +424,8 @@ module _ {c : Channel} {st : ℕ} where
       (p-then (p-when _ (λ _. p-write IntFg 0 _))
       (p-then (p-when _ (λ _. p-write IntFg 0 _))
       (p-before-then (p-when _ (λ _. p-on-transfer))
-      (p-when _ (λ _. p-on-setup)))))))
+      (p-when _ (λ _. p-on-setup)) (λ e s. q-when (setupAct flag) q-setup .on e s)
+      (λ e s. q-when (setupAct flag) q-setup .on e s))))))
 
   pub p-stamped : PairBy c st true {i = true} Any stampedInterrupt stampedInterrupt
   p-stamped = p-then (p-reads FrameNo 0 (λ v v′ e. e) (λ frame. p-modify c _)) p-on-interrupt

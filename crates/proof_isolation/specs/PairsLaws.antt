@@ -1,7 +1,7 @@
 -- The rules of `Pair`: how two scripts that line up are composed
 use mathlib.Core.Bool.{Bool, true, false, true≢false}
 use mathlib.Core.Path.{_≡_, refl, subst, sym}
-use Prim.Native.Nat.{ℕ, zero, suc}
+use Prim.Native.Nat.{ℕ, zero, suc, _≤_}
 use Rattle.regs.specs.declared.Reg.{Reg}
 use Rattle.regs.specs.declared.Reg.the-variants.{IntFg, IntSt, MisSt, RxLen, FrameNo, Ctrl, IntEn, DevAd, HostCtrl}
 use Rattle.regs.specs.declared.Reg.the-variants.{EpConfig, EpType, EpBufMod, EpMaxLen, EpTLen, EpRxCtrl, EpTxCtrl}
@@ -10,17 +10,19 @@ use Rattle.regs.specs.declared.Access.the-variants.{Read, Write, Receive, Trans
 use Rattle.script.specs.Tree.{Out, ends, asks, bindOut}
 use Rattle.script.specs.Cells.{Cell, Val}
 use Rattle.script.specs.Every.{sameReg}
-use Rattle.script.specs.Script.{Script, ret, bind, test, _>>_, when, read, write, wait, callback, get, put, is, look}
+use Rattle.script.specs.Script.{Script, run, ret, bind, test, _>>_, when, read, write, wait, callback, get, put, is}
+use Rattle.script.specs.Script.{look}
 use Rattle.script.specs.Script.{fetch, act, hand, row, rows, Test, Look, Fetch, Act, DmaStep, dmaStepAsk, Burst, lastOf}
 use Rattle.script.specs.Script.{burstAsk}
 use Rattle.script.specs.Simulates.{quiet, mid, Fits}
 use Rattle.script_ops.specs.Rings.{St, rowOn}
 use Rattle.script_ops.specs.Concrete.{concrete, getOn, putOn, isOf, lookOf, fetchOf, actOn, handOn}
 use Rattle.proof_isolation.specs.EqualExcept.{Channel, LowEquiv}
-use Rattle.proof_isolation.specs.LikesLaws.{like-sym, touched-refl}
+use Rattle.proof_isolation.specs.LikesLaws.{like-sym}
 use Rattle.proof_isolation.specs.Whose.{sof}
 use Rattle.proof_isolation.specs.Apart.{Reads, Brings, ownable, Next, next, Another, never, elsewhere, Its}
-use Rattle.proof_isolation.specs.Apart.{status, receive, Past, gone, waits, ApartBy, end, both, left, right, owns}
+use Rattle.proof_isolation.specs.Apart.{status, receive, Past, gone, waits, Without, without-ask, ApartBy, end}
+use Rattle.proof_isolation.specs.Apart.{both, left, right, owns}
 use Rattle.proof_isolation.specs.Apart.{Apart, PairBy, Pair}
 
 abbrev pub Eq : {A : Type 0} → A → A → Type 0
@@ -86,12 +88,19 @@ module _ {x : ℕ} {A B : Type 0} (f : A → St → Out St B) where
 no-interrupt : {X : Type 0} → false ≡ true → X
 no-interrupt e = absurd (true≢false (sym e))
 
--- the other run's end, beside one that was continued to its end
-record Met (ch : Channel) {A B : Type 0} (P : A → B → Type 0) (b : B) (t : St) : Type 0 where
-  value : A
-  state : St
-  holds : P value b
-  like : LowEquiv ch quiet state t
+-- what follows hands out no access made for x or for one below it
+first-without : {e : ℕ} {A : Type 0} {q : Access} {s : St} {k : ℕ → St → Out St A} → Without e (asks q s k) → (t : St)
+    → Another e q (k sof t)
+first-without (without-ask n k) t = n t
+
+pub past-of : {x : ℕ} {A : Type 0} (u : Out St A) → ((e : ℕ) → e ≤ x → Without e u) → Past x u
+past-of (ends a s) h = gone
+past-of (asks q s k) h = waits (λ e l t. first-without (h e l) t)
+
+past-after : {x : ℕ} {A B : Type 0} {u : Out St A} (g : A → St → Out St B) → Past x u
+    → ((a : A) (e : ℕ) (t : St) → Without e (g a t)) → Past x (bindOut u g)
+past-after g gone h = past-of (g _ _) (λ e l. h _ e _)
+past-after g (waits n) h = waits (λ e l s. another-bind g (n e l s))
 
 module _ {ch : Channel} {st : ℕ} where
   -- ---- outcomes
@@ -122,25 +131,6 @@ module _ {ch : Channel} {st : ℕ} where
   apart-later (end q l) = end q l
   apart-later (both φ f p p′ l k) = both φ f p p′ l (λ v v′ s t b r. apart-later (k v v′ s t b r))
 
-  -- where no access of x's own comes any more, none is handed out
-  pub past-of : {i : Bool} {A B : Type 0} {Q : A → B → Type 0} {o : Out St A} {u : Out St B} → i ≡ true
-      → Apart ch st i Q o u → Past (ch .number) u
-  past-of e (end q l) = gone
-  past-of e (both φ f p p′ l k) = waits (p′ e)
-
-  met : {m i : Bool} {A B : Type 0} {P : A → B → Type 0} {o : Out St A} {b : B} {t : St}
-      → ApartBy ch st i P m o (ends b t) → Met ch P b t
-  met (end q l) = record { value = _; state = _; holds = q; like = l }
-  met (left {s = s} w p z k) = met (k sof s (touched-refl z))
-
-  past-after : {i : Bool} {A B C D : Type 0} {P : A → B → Type 0} {Q : C
-      → D → Type 0} {o : Out St A} {u : Out St B} {f : A → St → Out St C} {g : B → St → Out St D} → i ≡ true
-      → ApartBy ch st i P true o u → Past (ch .number) u
-      → ((a : A) (b : B) (s t : St) → P a b → LowEquiv ch quiet s t → Apart ch st i Q (f a s) (g b t))
-      → Past (ch .number) (bindOut u g)
-  past-after e d gone h = let w = met d in past-of e (h _ _ _ _ (w .holds) (w .like))
-  past-after {g = g} e d (waits n) h = waits (λ s. another-bind g (n s))
-
   -- x's own accesses come after
   apart-bind : {m i : Bool} {A B C D : Type 0} {P : A
       → B → Type 0} {Q : C → D → Type 0} {o : Out St A} {u : Out St B} {f : A → St → Out St C} {g : B → St → Out St D}
@@ -151,24 +141,23 @@ module _ {ch : Channel} {st : ℕ} where
   apart-bind {f = f} {g = g} (both φ z p p′ l k) h = both φ z
       (λ e s. another-bind f (p e s)) (λ e s. another-bind g (p′ e s)) l (λ v v′ s t b r. apart-bind (k v v′ s t b r) h)
 
-  -- or before
+  -- or before; then what follows hands out none made for an isochronous OUT endpoint
   apart-before : {m i : Bool} {A B C D : Type 0} {P : A
       → B → Type 0} {Q : C → D → Type 0} {o : Out St A} {u : Out St B} {f : A → St → Out St C} {g : B → St → Out St D}
       → ApartBy ch st i P m o u → ((a : A) (b : B) (s t : St) → P a b → LowEquiv ch quiet s t
       → Apart ch st i Q (f a s) (g b t))
+      → ((a : A) (e : ℕ) (s : St) → Without e (f a s)) → ((b : B) (e : ℕ) (t : St) → Without e (g b t))
       → ApartBy ch st i Q m (bindOut o f) (bindOut u g)
-  apart-before (end q l) h = apart-later (h _ _ _ _ q l)
-  apart-before {f = f} {g = g} (both φ z p p′ l k) h = both φ z (λ e s. another-bind f (p e s))
-      (λ e s. another-bind g (p′ e s)) l (λ v v′ s t b r. apart-before (k v v′ s t b r) h)
-  apart-before {f = f} (left {s = s} w p z k) h = left (w .0, λ s. its-bind f (w .1 s))
-      (past-after (w .0) (k sof s (touched-refl z)) p h) z (λ v s l. apart-before (k v s l) h)
-  apart-before {g = g} (right {t = t} w p z k) h = right (w .0, λ s. its-bind g (w .1 s))
-      (past-after (w .0) (apart-flip (k sof t (touched-refl z))) p
-      (λ b a t s q l. apart-flip (h a b s t q (like-sym l)))) z
-      (λ v t l. apart-before (k v t l) h)
-  apart-before {f = f} {g = g} (owns w w′ l k k′) h = owns (w .0, λ s. its-bind f (w .1 s))
-      (w′ .0, λ s. its-bind g (w′ .1 s)) l
-      (λ v s t r. apart-before (k v s t r) h) (λ v s t r. apart-before (k′ v s t r) h)
+  apart-before (end q l) h x x′ = apart-later (h _ _ _ _ q l)
+  apart-before {f = f} {g = g} (both φ z p p′ l k) h x x′ = both φ z (λ e s. another-bind f (p e s))
+      (λ e s. another-bind g (p′ e s)) l (λ v v′ s t b r. apart-before (k v v′ s t b r) h x x′)
+  apart-before {f = f} {g = g} (left w p z k) h x x′ = left (w .0, λ s. its-bind f (w .1 s))
+      (past-after g p x′) z (λ v s l. apart-before (k v s l) h x x′)
+  apart-before {f = f} {g = g} (right w p z k) h x x′ = right (w .0, λ s. its-bind g (w .1 s))
+      (past-after f p x) z (λ v t l. apart-before (k v t l) h x x′)
+  apart-before {f = f} {g = g} (owns w w′ l k k′) h x x′
+      = owns (w .0, λ s. its-bind f (w .1 s)) (w′ .0, λ s. its-bind g (w′ .1 s)) l
+      (λ v s t r. apart-before (k v s t r) h x x′) (λ v s t r. apart-before (k′ v s t r) h x x′)
 
   -- ---- composed scripts
 
@@ -199,12 +188,15 @@ module _ {ch : Channel} {st : ℕ} where
     pub p-before : {C D : Type 0} {P : C → D → Type 0} {p : Script i C} {p′ : Script i D} {f : C → Script i A}
         {g : D → Script i B}
         → PairBy ch st m P p p′ → ((c : C) (d : D) → P c d → Pair ch st Q (f c) (g d))
-        → PairBy ch st m Q (bind p f) (bind p′ g)
-    p-before h k = record { on = λ s t r. apart-before (h .on s t r) (λ c d s t q r. k c d q .on s t r) }
+        → ((c : C) (e : ℕ) (s : St) → Without e (run concrete (f c) s))
+        → ((d : D) (e : ℕ) (s : St) → Without e (run concrete (g d) s)) → PairBy ch st m Q (bind p f) (bind p′ g)
+    p-before h k x x′ = record { on = λ s t r. apart-before (h .on s t r) (λ c d s t q r. k c d q .on s t r) x x′ }
 
     pub p-before-then : {C D : Type 0} {p : Script i C} {p′ : Script i D} {q : Script i A} {q′ : Script i B}
-        → PairBy ch st m Any p p′ → Pair ch st Q q q′ → PairBy ch st m Q (p >> q) (p′ >> q′)
-    p-before-then h k = p-before h (λ _ _ _. k)
+        → PairBy ch st m Any p p′ → Pair ch st Q q q′ → ((e : ℕ) (s : St) → Without e (run concrete q s))
+        → ((e : ℕ) (s : St) → Without e (run concrete q′ s))
+        → PairBy ch st m Q (p >> q) (p′ >> q′)
+    p-before-then h k x x′ = p-before h (λ _ _ _. k) (λ _. x) (λ _. x′)
 
     pub p-test : {p q : Script i A} {p′ q′ : Script i B} (b : Bool) → (b ≡ true → PairBy ch st m Q p p′)
         → (b ≡ false → PairBy ch st m Q q q′) → PairBy ch st m Q (test b p q) (test b p′ q′)

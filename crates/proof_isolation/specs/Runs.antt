@@ -53,7 +53,7 @@ no-row1 true x y = refl
 no-row1 false x y = refl
 
 module _ (c : Channel) {φ : Phase} (s : St) (b : Buf) (l : Lawful (c .iso) φ (s .0, b)) where
-  go-idle : (v : ℕ) → drive (continue v) (machineOf idle s) b ≡ (ended (Refused 15), machineOf idle (s .0, b))
+  pub go-idle : (v : ℕ) → drive (continue v) (machineOf idle s) b ≡ (ended (Refused 15), machineOf idle (s .0, b))
   go-idle v = rw (fits c l) refl
 
   pub go-busy : (i : Bool) (q : Access) (k : ℕ → St → tree.Out St Answer) (v : ℕ)
