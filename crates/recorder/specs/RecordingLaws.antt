@@ -24,8 +24,7 @@ left-low number from h =
     let m : min (number - from) 3 ≡ 0 = omega arith in
     rw (ne-eqb number from (λ e. omega arith), m)
 
-pub left-some : (number from r : ℕ) → from < number → (number - from < 3) × (r ≡ number - from + 1) → r
-    ≡ leftOf number from
+pub left-some : (number from r : ℕ) → from < number → (number - from < 3) × (r ≡ number - from + 1) → r ≡ leftOf number from
 unfolding leftOf
 left-some number from r h e =
     let m : min (number - from) 3 ≡ number - from = omega (arith, e .0) in
