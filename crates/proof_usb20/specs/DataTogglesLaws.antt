@@ -41,7 +41,7 @@ use Rattle.script_ops.specs.Rings.{St}
 use Rattle.script_ops.specs.Concrete.{concrete}
 use Rattle.proof_book.specs.Sorting.{Sorting}
 use Rattle.proof_usb20.specs.Sequence as log
-use Rattle.proof_usb20.specs.Sequence.{before, opens, Fair, own, Writing, wrote, LeavesWord}
+use Rattle.proof_usb20.specs.Sequence.{before, opens, EndsByReason, own, Writing, wrote, LeavesWord}
 use Rattle.proof_usb20.specs.Observer.{startedBy, All}
 use Rattle.proof_usb20.specs.Watch.{Along, at-end, at-ask}
 use Rattle.proof_usb20.specs.WatchLaws.{watch-more, watch-any}
@@ -191,7 +191,7 @@ module _ (D : Dir) (E : ℕ) (z : (d : Dir) → Else D E d 0) where
   unlent (other o) h w v r = differ h
   unlent (aside o) h w v r = r
 
-  fair-refused : (o : Op) (n : ℕ) (w : Track) → Fair D E o (Refused n) w
+  fair-refused : (o : Op) (n : ℕ) (w : Track) → EndsByReason D E o (Refused n) w
   fair-refused interrupt n w = tt
   fair-refused (slotted (SetEnabled d e on)) n w = tt
   fair-refused (slotted (PollRead e m)) n w = λ _. tt
@@ -219,7 +219,8 @@ module _ (D : Dir) (E : ℕ) (z : (d : Dir) → Else D E d 0) where
   both-of (at-ask _ f) (at-ask _ g) = at-ask tt (λ v t _ k. both-of (f v t tt k) (g v t tt k))
 
   abbrev Ended : Op → Bool × Track → Answer → St → Type 0
-  Ended o x a t = Fitting (toggles D E .closes o a x) (view D E (t .0)) × (Few (ended a) → toggles D E .Fair o a x)
+  Ended o x a t = Fitting (toggles D E .closes o a x) (view D E (t .0))
+      × (Few (ended a) → toggles D E .EndsByReason o a x)
 
   silent : (o : Op) (x : Bool × Track) → x .0 ≡ true → (out : tree.Out St Answer)
       → Sees (toggles D E) (λ _ _. Unit {0}) (Ended o) x out
@@ -364,7 +365,7 @@ module _ (D : Dir) (E : ℕ) (h : E % 16 ≡ 0 → ⊥) where
 
   abbrev WordEnds : Op → Bool × Track × Writing → Answer → St → Type 0
   WordEnds o x a t = Fitting D E (not-ep0 D E h) (toggles D E .closes o a (x .0, x .1)) (view D E (t .0))
-      × (Few (ended a) → words D E .Fair o a x)
+      × (Few (ended a) → words D E .EndsByReason o a x)
 
   word-call : (o : Op) (x : Bool × Track × Writing) (s : St) → Fitting D E (not-ep0 D E h) (x .0, x .1) (view D E
       (s .0)) → Sorting (s .0)

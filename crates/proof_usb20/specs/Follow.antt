@@ -19,7 +19,7 @@ use Rattle.proof_book.specs.Sorting.{Sorting}
 use Rattle.script.specs.Machine.{ended}
 use Rattle.proof_wake_ups.specs.Rooms.{Few}
 use Rattle.proof_usb20.specs.Watch.{Along}
-use Rattle.proof_usb20.specs.Sequence.{Track, saw, opens, closes, Fair}
+use Rattle.proof_usb20.specs.Sequence.{Track, saw, opens, closes, EndsByReason}
 
 pub record EpSeen : Type 0 where
   pub ready : ℕ
@@ -56,11 +56,11 @@ module _ (D : Dir) (E : ℕ) where
   Follow P w o = Along (saw D E) (λ _ _ _. Unit {0}) Between (λ _ _. Unit {0}) P w o
 
   abbrev pub Ends : Op → Track → Answer → St → Type 0
-  Ends o w a s = Fits (closes D E o a w) (view (s .0)) × Fair D E o a w
+  Ends o w a s = Fits (closes D E o a w) (view (s .0)) × EndsByReason D E o a w
 
   -- of an interrupt, whose wake-ups are fewer than the room for them
   abbrev pub EndsFew : Op → Track → Answer → St → Type 0
-  EndsFew o w a s = Fits (closes D E o a w) (view (s .0)) × (Few (ended a) → Fair D E o a w)
+  EndsFew o w a s = Fits (closes D E o a w) (view (s .0)) × (Few (ended a) → EndsByReason D E o a w)
 
   -- `iso`: the endpoint is not isochronous when the call begins
   abbrev pub Law : Op → Type 0

@@ -19,7 +19,7 @@ pub record Observer : Type 1 where
   pub saw : Log → Access → ℕ → Log  -- an access, and the number brought for it
   pub closes : Op → Answer → Log → Log  -- a call ends
   -- what is claimed of a call's answer, and of the accesses that it hands out
-  pub Fair : Op → Answer → Log → Type 0
+  pub EndsByReason : Op → Answer → Log → Type 0
   pub Allowed : Op → Log → Access → Type 0
   pub Asks : Op → Access → Type 0
   -- what the driver's state shows, and what is claimed of it where nothing is under way
@@ -91,7 +91,7 @@ module _ (O : Observer) where
   -- ---- what is claimed of a call
 
   abbrev pub ClaimAt : Op → Ans Answer → O .Log → Type 0
-  ClaimAt o (ended a) w = O .Fair o a w
+  ClaimAt o (ended a) w = O .EndsByReason o a w
   ClaimAt o (handed q) w = O .Allowed o w q × O .Asks o q
   ClaimAt o (told n) w = Unit {0}
 

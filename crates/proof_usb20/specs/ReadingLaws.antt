@@ -32,7 +32,7 @@ use Rattle.proof_book.specs.TransferKindsLaws.{put-steady, act-steady}
 use Rattle.proof_usb20.specs.ExemptLaws.{by-test, differ}
 use Rattle.proof_usb20.specs.Sequence as log
 use Rattle.proof_usb20.specs.Sequence.{Track, off, withPhase, own, opens, closes, takes, taken, awaits, loaded}
-use Rattle.proof_usb20.specs.Sequence.{Fair, Polled}
+use Rattle.proof_usb20.specs.Sequence.{EndsByReason, Polled}
 use Rattle.proof_usb20.specs.FollowLaws as follow
 use Rattle.proof_usb20.specs.Follow.{EpSeen, seenOf, FitsAs, Fits, view, Follow, Ends, Law}
 use Rattle.proof_usb20.specs.Watch.{at-end, at-ask}
@@ -46,7 +46,7 @@ module _ (D : Dir) (E : ℕ) where
   -- ---- a call that tells the log nothing
 
   pub quiet-law : (o : Op) → (opens D E o ≡ withPhase off) → ((a : Answer) (x : Track) → closes D E o a x ≡ x)
-      → ((a : Answer) (x : Track) → Fair D E o a x) → LeavesTrack D E false (Off D E) (code o) → Law D E o
+      → ((a : Answer) (x : Track) → EndsByReason D E o a x) → LeavesTrack D E false (Off D E) (code o) → Law D E o
   quiet-law o p c f q w s r i z = subst (λ (u : Track). Follow D E (Ends D E o) u (run concrete (code o) s))
       (sym (ap (λ (g : Track → Track). g w) p))
       (follow.follow-more D E (q .goes (withPhase off w) s (refl, λ _ _ _ _. refl) (loose D E (z .places)))

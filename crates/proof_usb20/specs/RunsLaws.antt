@@ -53,7 +53,7 @@ module _ (O : Observer) where
     pub stands : (w : O .Log) (x : O .View) → R w x → O .Stands w x
     pub call : (o : Op) (w : O .Log) (s : St) → R w (O .view (s .0)) → Sorting (s .0)
         → Sees (O .Allowed o) (λ x a t. R (O .closes o a x) (O .view (t .0)) × (Few (ended a)
-        → O .Fair o a x)) (O .opens o (s .1) w) (run concrete (code o) s)
+        → O .EndsByReason o a x)) (O .opens o (s .1) w) (run concrete (code o) s)
     pub asks : (o : Op) (s : St) → Only (O .Asks o) (run concrete (code o) s)
     pub besides : (o : Aside) (d : Driver) (b : Buf) (a : Answer) (t : St) → Sorting d
         → run concrete (asideCode o) (d, b) ≡ tree.ends a t → (O .view (t .0) ≡ O .view d) × (t .0 .wakes ≡ d .wakes)
@@ -62,11 +62,11 @@ module _ (O : Observer) where
     -- row 1, of a call that brings the slots, leaves all as it was
     pub unlent : (o : Op) → calls .slots o ≡ true → (b : Buf) (w : O .Log) (x : O .View) → R w x
         → R (O .closes o (Refused 1) (O .opens o b w)) x
-    pub fair-1 : (o : Op) → calls .slots o ≡ true → (w : O .Log) → O .Fair o (Refused 1) w
+    pub fair-1 : (o : Op) → calls .slots o ≡ true → (w : O .Log) → O .EndsByReason o (Refused 1) w
 
   module _ {R : O .Log → O .View → Type 0} (L : Laws R) where
     abbrev Ends : Op → O .Log → Answer → St → Type 0
-    Ends o x a t = R (O .closes o a x) (O .view (t .0)) × (Few (ended a) → O .Fair o a x)
+    Ends o x a t = R (O .closes o a x) (O .view (t .0)) × (Few (ended a) → O .EndsByReason o a x)
 
     abbrev BetweenFrom : Driver → St → Type 0
     BetweenFrom d t = (O .view (t .0) ≡ O .view d) × Sorting (t .0) × (t .0 .wakes ≡ d .wakes)
