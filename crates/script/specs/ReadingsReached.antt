@@ -38,8 +38,7 @@ plain iso = record {
   tog = 0;
   iso = flag iso;
   kind = 0;
-  base
-      = 0;
+  base = 0;
   «max_len» = 64;
 }
 

@@ -3,14 +3,25 @@ use mathlib.Core.Bool.{Bool, true, false}
 use mathlib.Core.List.{_∷_}
 use mathlib.Core.Path.{_≡_, refl, sym}
 use Prim.Native.Nat.{ℕ, zero, suc}
-use Rattle.bits.specs.Bit.{isSet}
+use Rattle.bits.specs.Bit.{isSet, withBit}
+use Rattle.bits.specs.Walk.{bitsFrom}
 use Rattle.regs.specs.declared.Dir.{Dir}
 use Rattle.regs.specs.declared.Dir.the-variants.{Out, In}
+use Rattle.regs.specs.ControlWord.{toggle, isData1}
+use Rattle.regs.specs.Enables.{inEnabled, outEnabled}
+use Rattle.regs.specs.Status.{endpoint, tokenNumbered, token, isOut, isSof, isIn}
 use Rattle.script.specs.Cells.{Cell, Val, globals-cell, control-cell, allocator-cell, ep-cell, request-cell}
 use Rattle.script.specs.Cells.{paced-cell}
-use Rattle.script.specs.Script.{Ops}
-use Rattle.script.specs.Statics.{isOn}
-use Rattle.script.specs.Readings.{Continues}
+use Rattle.script.specs.Script.{Ops, run}
+use Rattle.frame.specs.Usb20.{frameNumber, microframe, indexOf, frameOf}
+use Rattle.frame.specs.Advance.{isNone, previous, inPrevious}
+use Rattle.script.specs.Statics.{isOn, isoInEvery, isoOuts}
+use Rattle.script.specs.IsoIn.{sofWalk, lateWalk, leaving}
+use Rattle.script.specs.IsoOut.{arriving, entry, checkWalk}
+use Rattle.script.specs.Handler.{looks, outNaks, inNaks, repeated, sameOut, waitsForIso, waitsForBulk, isoFor}
+use Rattle.script.specs.Handler.{ownIn}
+use Rattle.script.specs.Calls.{interruptCode}
+use Rattle.script.specs.Readings.{Continues, readings}
 use Rattle.script.specs.ReadingsReached.{plain, cells, standing, zeros}
 use Rattle.script.specs.ToggledLaws.{apart}
 use Rattle.script.specs.TransferKinds.{Among, Shows, Sorted}
@@ -64,3 +75,9 @@ sorted = record { ep0 = ep0-is; shows = λ c s k. shown c; put = λ c v s k. tt;
 -- int_fg a transfer; the SIE busy; OUT 1; then every reading 0
 abbrev longest : Continues Unit
 longest = (0, tt) ∷ (2, tt) ∷ (0, tt) ∷ (1, tt) ∷ zeros tt 4200
+
+pub sorted-reached : readings (run still interruptCode tt) longest ≡ 4056
+unfolding readings looks sofWalk lateWalk checkWalk isSet bitsFrom inEnabled outEnabled isOn isoInEvery isoOuts
+    withBit endpoint tokenNumbered token isOut isSof isIn toggle isData1 frameNumber microframe indexOf frameOf isNone
+    previous inPrevious leaving arriving entry outNaks inNaks repeated sameOut waitsForIso waitsForBulk isoFor ownIn
+sorted-reached = refl
