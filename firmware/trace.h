@@ -15,6 +15,13 @@
 #include <stdint.h>
 #include "usbhs.h"
 
+/* Each access is noted by itself, so each is brought by a call of its own. */
+#ifdef USB_TRACE
+#define TRACED_EACH 1
+#else
+#define TRACED_EACH 0
+#endif
+
 #ifdef USB_TRACE
 
 /* A power of two. A microframe with an arrival takes about 15 entries. */
@@ -145,6 +152,17 @@ TRACED(close, (uint8_t *state, uint32_t endpoint), (state, endpoint), TRACE_CLOS
 TRACED(queue, (uint8_t *state, uint8_t *slots, usbhs_length n, uint32_t endpoint, const uint8_t *data, usbhs_length m),
     (state, slots, n, endpoint, data, m), TRACE_QUEUE, endpoint, m, 0)
 
+/* Noted, and made, as the two calls that it also is. */
+static inline uint64_t traced_interrupt_transfer(uint8_t *state, uint8_t *slots, usbhs_length n, uint16_t *time,
+    uint32_t driver, uint32_t frame, uint32_t flags, uint32_t mis, uint32_t status, uint32_t length)
+{
+    uint64_t word = traced_interrupt(state, slots, n, time, driver, frame, flags);
+
+    if (USBHS_ASKS(word, USBHS_MIS_ST))
+        word = traced_continue_transfer(state, slots, n, time, driver, mis, status, length);
+    return word;
+}
+
 /* With the bytes that they bring, or that come. */
 static inline uint64_t traced_allocate_all(uint8_t *state, const uint8_t *bytes, usbhs_length length)
 {
@@ -172,6 +190,7 @@ static inline uint64_t traced_poll_setup(uint8_t *state, uint8_t packet[8])
 #define usbhs_begin_interrupt traced_begin_interrupt
 #define usbhs_interrupt traced_interrupt
 #define usbhs_continue_transfer traced_continue_transfer
+#define usbhs_interrupt_transfer traced_interrupt_transfer
 #define usbhs_begin_bus_poll traced_begin_bus_poll
 #define usbhs_begin_bus_enable traced_begin_bus_enable
 #define usbhs_begin_bus_disable traced_begin_bus_disable

@@ -67,32 +67,65 @@ void usb_wake_tasks(uint64_t word)
         task_wake(woken[i]);
 }
 
+/* The driver waits for the SIE: looks until it is free, or as often as the driver would, and brings all looks that read
+ * the same at once. */
+__attribute__((noinline)) static uint64_t wait_for_sie(void)
+{
+    uint32_t busy = register_read(USBHS_MIS_ST, 0), last = busy, looks = 0;
+
+    if ((busy & LOOK_FREE) == 0) {
+        do {
+            last = register_read(USBHS_MIS_ST, 0);
+            looks++;
+        } while (last == busy && looks < USBHS_MOST_LOOKS - 2);
+    }
+    return usbhs_continue_looks(usb_state, usb_slots, sizeof usb_slots, usb_time, 0, looks, busy, last);
+}
+
+/* mis_st is asked for twice in a row. A trace has each look by itself. */
+static int waits(uint64_t before, uint64_t word)
+{
+    return !TRACED_EACH && USBHS_ASKS(before, USBHS_MIS_ST) && USBHS_ASKS(word, USBHS_MIS_ST);
+}
+
 uint64_t usb_to_end(uint64_t word)
 {
     uint32_t *reading = trace_word(word);
 
     while (USBHS_KIND(word) >= USBHS_READ && USBHS_KIND(word) <= USBHS_CALLBACK) {
+        uint64_t before = word;
+
         *reading = make(word);
         word = usbhs_continue(usb_state, usb_slots, sizeof usb_slots, usb_time, 0, *reading);
+        if (waits(before, word))
+            word = wait_for_sie();
         reading = trace_word(word);
     }
     usb_wake_tasks(word);
     return word;
 }
 
-/* Not in line, called twice: the calls of the driver are then in line here, once. */
+/* The write that clears the transfer's flag. */
+#define RELEASE (USBHS_WRITE | USBHS_INT_FG << 8 | (uint64_t)LOOK_TRANSFER << 32)
+
+/* Not in line, called twice: the calls of the driver are then in line here, once. The flag is cleared as early as can
+ * be: until then a packet may lose its interrupt. frame_no is what the driver wants next, unless the SIE is busy. */
 __attribute__((noinline)) static void serve(uint32_t frame, uint32_t flags, uint32_t mis, uint32_t status, uint32_t length)
 {
-    uint64_t word = usbhs_interrupt(usb_state, usb_slots, sizeof usb_slots, usb_time, 0, frame, flags);
+    uint64_t word = usbhs_interrupt_transfer(usb_state, usb_slots, sizeof usb_slots, usb_time, 0, frame, flags, mis,
+                                             status, length);
 
-    if (USBHS_ASKS(word, USBHS_MIS_ST))
-        word = usbhs_continue_transfer(usb_state, usb_slots, sizeof usb_slots, usb_time, 0, mis, status, length);
+    if (word == RELEASE && !TRACED_EACH) {
+        if (!looking)
+            register_write(USBHS_INT_FG, 0, LOOK_TRANSFER);
+        frame = register_read(USBHS_FRAME_NO, 0);
+        word = usbhs_continue_released(usb_state, usb_slots, sizeof usb_slots, usb_time, 0, frame);
+    }
     usb_to_end(word);
 }
 
 /* What the chip shows is overwritten by the next token, so all five registers are read first, in the order in which the
- * driver asks for them; the calls then bring those that it wants. Then once more, of made readings, where a packet was
- * left. */
+ * driver asks for them, and one call brings them. Then once more, of made readings, where a packet was left. */
 void usb_interrupt(void)
 {
     uint32_t frame = register_read(USBHS_FRAME_NO, 0), flags = register_read(USBHS_INT_FG, 0);

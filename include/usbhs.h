@@ -42,8 +42,9 @@
  * before 9; 17, 18 and 19 as their calls say).
  * A refused call changes nothing, except that 9 and 10 of a poll end its request, and that 10
  * also forgets a packet that was ready. After a continue that is refused with 1 or 16 its reading
- * is still awaited; the access is not handed out again. usbhs_interrupt and
- * usbhs_continue_transfer are several calls, of which the last one is refused: see there.
+ * is still awaited; the access is not handed out again. usbhs_interrupt, usbhs_interrupt_transfer,
+ * usbhs_continue_transfer, usbhs_continue_released and usbhs_continue_looks are several calls, of
+ * which the last one is refused: see there.
  *
  *    1  a call with the slots: their length is not count times size, those of the last accepted
  *       start-up (0 before the first)
@@ -290,33 +291,60 @@ uint64_t usbhs_begin_interrupt(uint8_t state[USBHS_STATE_LEN]);
 
 /* Readings that follow each other, brought by one call, for those who count instructions. Each is as
  * many of the calls above, made in turn as long as the answer asks for the reading that is brought
- * next: usbhs_interrupt the begin, a continue with frame_no, one with int_fg;
- * usbhs_continue_transfer a continue with mis_st, one with int_st, one with rx_len. The first other
- * answer, a refusal too, is the answer of the whole; the numbers left over are not looked at. What is
- * lent is then as those calls leave it.
+ * next:
  *
- * So usbhs_interrupt checks 3 and 4, then 1, then 16. After its 3 or 4 nothing is changed. After a 1
- * or 16 of either call the interrupt is under way: go on with usbhs_continue, which after a 1 is to
- * bring the first of the readings that a continue brings (frame_no, mis_st), and after a 16 the
- * first one that was too wide for its register, and then the loop as ever.
+ *   usbhs_interrupt_transfer  the begin, and a continue each with frame_no, int_fg, mis_st, int_st
+ *                             and rx_len
+ *   usbhs_interrupt           the begin, and a continue each with frame_no and int_fg
+ *   usbhs_continue_transfer   a continue each with mis_st, int_st and rx_len
+ *   usbhs_continue_released   a continue, after the write that clears the transfer's flag, and one
+ *                             with frame_no
+ *   usbhs_continue_looks      `looks` continues with `busy`, a reading of mis_st, and one with `last`
  *
- *     uint32_t frame = block_read(USBHS_FRAME_NO, 0), flags, status, transfer;
- *     flags = block_read(USBHS_INT_FG, 0);
- *     word = usbhs_interrupt(state, slots, sizeof slots, bus_time, 0, frame, flags);
- *     if (USBHS_ASKS(word, USBHS_MIS_ST)) {
- *         status = block_read(USBHS_MIS_ST, 0);
- *         transfer = block_read(USBHS_INT_ST, 0);
- *         word = usbhs_continue_transfer(state, slots, sizeof slots, bus_time, 0, status, transfer,
- *             block_read(USBHS_RX_LEN, 0));
- *     }
+ * The first other answer, a refusal too, is the answer of the whole; the numbers left over are not
+ * looked at. What is lent is then as those calls leave it.
+ *
+ * What the chip shows is overwritten by the next token: read all five registers as the first thing
+ * that your interrupt does. A number that is not asked for is dropped.
+ *
+ *     uint32_t frame = block_read(USBHS_FRAME_NO, 0), flags = block_read(USBHS_INT_FG, 0);
+ *     uint32_t mis = block_read(USBHS_MIS_ST, 0), status = block_read(USBHS_INT_ST, 0);
+ *     word = usbhs_interrupt_transfer(state, slots, sizeof slots, bus_time, 0, frame, flags, mis,
+ *         status, block_read(USBHS_RX_LEN, 0));
  *     to_end(word);    the loop with usbhs_continue
+ *
+ * The begins check 3 and 4, then 1, then 16. After a 3 or 4 nothing is changed. After a 1 or 16 of
+ * any of the five the interrupt is under way: go on with usbhs_continue, which after a 1 is to bring
+ * the first of the readings that a continue brings (frame_no, mis_st; any number after the write),
+ * and after a 16 the first one that was too wide for its register, and then the loop as ever.
+ *
+ * Where the driver waits for the SIE it looks at mis_st again and again, up to USBHS_MOST_LOOKS
+ * times; elsewhere it looks once. So where mis_st is asked for twice in a row (usbhs_continue with a
+ * reading of it, and the answer asks again) count the looks that read the same, and bring them at
+ * once:
+ *
+ *     uint32_t busy = block_read(USBHS_MIS_ST, 0), last = busy, looks = 0;
+ *     if ((busy & 1) == 0)
+ *         do {
+ *             last = block_read(USBHS_MIS_ST, 0);
+ *             looks++;
+ *         } while (last == busy && looks < USBHS_MOST_LOOKS);
+ *     word = usbhs_continue_looks(state, slots, sizeof slots, bus_time, 0, looks, busy, last);
  */
+#define USBHS_MOST_LOOKS 2001u
 /* Does the word ask for that register, one of these five, which no endpoint has? */
 #define USBHS_ASKS(word, reg) ((unsigned)((word) & 0xFFFF) == ((unsigned)(reg) << 8 | USBHS_READ))
 uint64_t usbhs_interrupt(uint8_t state[USBHS_STATE_LEN], uint8_t *slots, usbhs_length slots_length,
     uint16_t time[USBHS_TIME_LEN], uint32_t driver, uint32_t frame_no, uint32_t int_fg);
 uint64_t usbhs_continue_transfer(uint8_t state[USBHS_STATE_LEN], uint8_t *slots, usbhs_length slots_length,
     uint16_t time[USBHS_TIME_LEN], uint32_t driver, uint32_t mis_st, uint32_t int_st, uint32_t rx_len);
+uint64_t usbhs_interrupt_transfer(uint8_t state[USBHS_STATE_LEN], uint8_t *slots, usbhs_length slots_length,
+    uint16_t time[USBHS_TIME_LEN], uint32_t driver, uint32_t frame_no, uint32_t int_fg, uint32_t mis_st,
+    uint32_t int_st, uint32_t rx_len);
+uint64_t usbhs_continue_released(uint8_t state[USBHS_STATE_LEN], uint8_t *slots, usbhs_length slots_length,
+    uint16_t time[USBHS_TIME_LEN], uint32_t driver, uint32_t frame_no);
+uint64_t usbhs_continue_looks(uint8_t state[USBHS_STATE_LEN], uint8_t *slots, usbhs_length slots_length,
+    uint16_t time[USBHS_TIME_LEN], uint32_t driver, uint32_t looks, uint32_t busy, uint32_t last);
 
 /* The operations. Ends' results: of a bus poll the event, enum usbhs_event; of
  * usbhs_begin_is_stalled 1 or 0; of usbhs_begin_microframe the microframe index, frame times 8

@@ -86,11 +86,36 @@ static uint64_t bring(int k, uint32_t driver, uint64_t word, int first, uint32_t
     return usbhs_continue(S, SL, T, driver, b);
 }
 
-#define AT_ONCE(k) (((unsigned)(k) ^ n[4]) & 1)
+static uint64_t bring_all(int k, uint32_t driver, uint64_t word, const uint32_t *v) {
+    static const int registers[5] = {USBHS_FRAME_NO, USBHS_INT_FG, USBHS_MIS_ST, USBHS_INT_ST, USBHS_RX_LEN};
+    for (int i = 0; i < 5 && USBHS_ASKS(word, registers[i]) && word >> 16 == 0; i++)
+        word = usbhs_continue(S, SL, T, driver, v[i]);
+    return word;
+}
+static uint64_t bring_frame(int k, uint32_t driver, uint64_t word, uint32_t frame) {
+    if (word != (uint64_t)(USBHS_READ | USBHS_FRAME_NO << 8)) return word;
+    return usbhs_continue(S, SL, T, driver, frame);
+}
+static uint64_t looked(int k, uint32_t driver, uint32_t looks, uint32_t busy, uint32_t last) {
+    for (; looks > 0; looks--) {
+        uint64_t word = usbhs_continue(S, SL, T, driver, busy);
+        if (word != (uint64_t)(USBHS_READ | USBHS_MIS_ST << 8)) return word;
+    }
+    return usbhs_continue(S, SL, T, driver, last);
+}
+
+static unsigned way; /* at which place */
+#define AT_ONCE(k) (((unsigned)(k) ^ way) & 1)
 F(interrupt, AT_ONCE(k) ? usbhs_interrupt(S, SL, T, n[0], n[1], n[2])
                         : bring(k, n[0], usbhs_begin_interrupt(S), USBHS_FRAME_NO, n[1], USBHS_INT_FG, n[2]))
 F(continue_transfer, AT_ONCE(k) ? usbhs_continue_transfer(S, SL, T, n[0], n[1], n[2], n[3])
                                 : bring(k, n[0], usbhs_continue(S, SL, T, n[0], n[1]), USBHS_INT_ST, n[2], USBHS_RX_LEN, n[3]))
+F(interrupt_transfer, AT_ONCE(k) ? usbhs_interrupt_transfer(S, SL, T, n[0], n[1], n[2], n[3], n[4], n[5])
+                                 : bring_all(k, n[0], usbhs_begin_interrupt(S), n + 1))
+F(continue_released, AT_ONCE(k) ? usbhs_continue_released(S, SL, T, n[0], n[1])
+                                : bring_frame(k, n[0], usbhs_continue(S, SL, T, n[0], 0), n[1]))
+F(continue_looks, AT_ONCE(k) ? usbhs_continue_looks(S, SL, T, n[0], n[1] % 2100, n[2], n[3])
+                             : looked(k, n[0], n[1] % 2100, n[2], n[3]))
 F(begin_bus_poll, usbhs_begin_bus_poll(S))
 F(begin_bus_enable, usbhs_begin_bus_enable(S))
 F(begin_bus_disable, usbhs_begin_bus_disable(S))
@@ -161,6 +186,9 @@ static const struct function {
     ALONE(begin_interrupt),
     {"usbhs_interrupt", f_interrupt, SS | U(TIME), 0, 0, 2, PLAIN},
     {"usbhs_continue_transfer", f_continue_transfer, SS | U(TIME), 0, 0, 2, PLAIN},
+    {"usbhs_interrupt_transfer", f_interrupt_transfer, SS | U(TIME), 0, 0, 2, PLAIN},
+    {"usbhs_continue_released", f_continue_released, SS | U(TIME), 0, 0, 2, PLAIN},
+    {"usbhs_continue_looks", f_continue_looks, SS | U(TIME), 0, 0, 2, PLAIN},
     ALONE(begin_bus_poll),
     ALONE(begin_bus_enable),
     ALONE(begin_bus_disable),
@@ -228,6 +256,7 @@ static void corrupt(uint8_t *bytes, uint32_t length, uint32_t most) {
 #define REGISTERS 1320
 #define SAVED 0
 #define SAVED_LEN 22
+enum { LOOKS = 10, TAG = 12, SUB = 13, SITE = 14 }; /* of it: the looks that may follow, whose point it is, which */
 
 /* Random bytes throughout. */
 static void wild_state(unsigned uses) {
@@ -327,14 +356,15 @@ static void any_stream(void) {
     lend(ROOM, chance(50) ? 1024 : below(200));
 }
 
-static void fill(const struct function *f, int wild, uint32_t n[5]) {
+static void fill(const struct function *f, int wild, uint32_t n[6]) {
     static const uint32_t sizes[] = {8, 16, 32, 64, 512, 1024, 64, 64};
     int i;
     n[0] = endpoint();
-    for (i = 1; i < 5; i++) n[i] = chance(70) ? below(4) : chance(60) ? below(300) : (uint32_t)number();
+    for (i = 1; i < 6; i++) n[i] = chance(70) ? below(4) : chance(60) ? below(300) : (uint32_t)number();
     if (f->uses & (SS | U(TIME))) {
         if (wild) wild_state(f->uses);
-        else corrupted_state(f->uses, f->call == f_continue || f->call == f_continue_transfer);
+        else corrupted_state(f->uses, f->call == f_continue || f->call == f_continue_transfer ||
+                                          f->call == f_continue_released || f->call == f_continue_looks);
     }
     if (f->first) any_bytes(lent[FIRST].as, f->first), lend(FIRST, f->first);
     any_bytes(lent[SECOND].as, 12);
@@ -369,14 +399,35 @@ static void fill(const struct function *f, int wild, uint32_t n[5]) {
         if (f->call == f_start && chance(80)) n[0] = 64;
         if (f->call == f_allocate) n[0] = below(4), n[1] = chance(60) ? 256 : n[1], n[2] = below(80), n[4] = below(2);
         if (f->poll == 2) {
-            n[1] = f->call == f_interrupt ? (uint32_t)number() >> 16 : below(4);
-            n[2] = below(f->call == f_interrupt ? 64 : 128);
+            int begins = f->call == f_interrupt || f->call == f_interrupt_transfer;
+            n[1] = begins ? (uint32_t)number() >> 16 : below(4);
+            n[2] = below(begins ? 64 : 128);
             n[3] = (uint32_t)number() >> 16;
-            n[4] = below(2);
-            if (chance(10)) n[1 + below(3)] = (uint32_t)number() >> below(32);
+            if (f->call == f_interrupt_transfer)
+                n[2] = chance(70) ? 2u | below(2) << 5 : n[2], n[3] = below(4), n[4] = below(128),
+                n[5] = (uint32_t)number() >> 16;
+            if (f->call == f_continue_looks)
+                n[1] = chance(80) ? below(6) : (uint32_t)number(), n[2] = below(2) << 1, n[3] = below(4);
+            if (f->call == f_continue_released) n[1] = (uint32_t)number() >> 16;
+            if (chance(10)) n[1 + below(f->call == f_interrupt_transfer ? 5 : 3)] = (uint32_t)number() >> below(32);
+        }
+        /* most stand where the transfer's flag was cleared */
+        if (f->call == f_continue_released && chance(60)) {
+            lent[STATE].as[SAVED + TAG] = 6;
+            lent[STATE].as[SAVED + SITE] = 10;
+        }
+        /* most stand where a wait looks at mis_st: a transfer that is settled, a toggle that is looked at */
+        if (f->call == f_continue_looks && chance(70)) {
+            static const uint8_t sites[3][2] = {{11, 3}, {11, 6}, {18, 0}};
+            uint32_t at = below(3), left = chance(60) ? below(8) : below(2001);
+            lent[STATE].as[SAVED + TAG] = 6;
+            lent[STATE].as[SAVED + SITE] = sites[at][0];
+            lent[STATE].as[SAVED + SUB] = sites[at][1];
+            lent[STATE].as[SAVED + LOOKS] = (uint8_t)left;
+            lent[STATE].as[SAVED + LOOKS + 1] = (uint8_t)(left >> 8);
         }
         /* most stand where a transfer's readings are asked for */
-        if (f->call == f_continue_transfer && chance(60)) lent[STATE].as[SAVED + 12] = lent[STATE].as[SAVED + 14] = 6;
+        if (f->call == f_continue_transfer && chance(60)) lent[STATE].as[SAVED + TAG] = lent[STATE].as[SAVED + SITE] = 6;
         if (f->call == f_continue) n[1] = (uint32_t)number() >> (chance(90) ? 16 + below(16) : 0);
     }
 }
@@ -386,10 +437,11 @@ static void fill(const struct function *f, int wild, uint32_t n[5]) {
 static unsigned long refusals, rows[256];
 
 static void once(const struct function *f, int wild) {
-    uint32_t n[5];
+    uint32_t n[6];
     uint64_t word[2];
     int p, k, refused, ends;
     fill(f, wild, n);
+    way = below(2);
     for (k = 0; k < 2; k++) {
         for (p = 0; p < PIECES; p++)
             if (f->uses & U(p)) memcpy(lent[p].at[k], lent[p].as, L(p));

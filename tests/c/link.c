@@ -220,6 +220,47 @@ static void together(uint8_t *state, uint8_t *slots, uint16_t *time)
     expect("together: nothing else", USBHS_KIND(usbhs_continue_transfer(state, slots, 64, time, 0, 0, 0, 0)), USBHS_END);
 }
 
+/* All five at once, and looks at a busy SIE: against calls of one access each on a copy of the state. `looks`: so many
+   find the SIE busy; `wide`: which of the five has a bit too many. */
+static void all_together(uint8_t *state, uint8_t *slots, uint16_t *time, unsigned looks, unsigned wide)
+{
+    static const uint32_t registers[5] = {USBHS_FRAME_NO, USBHS_INT_FG, USBHS_MIS_ST, USBHS_INT_ST, USBHS_RX_LEN};
+    static const uint32_t readings[5] = {0x2001, 2, 0, 0x01, 5}, widths[5] = {16, 6, 2, 7, 16};
+    static uint8_t copy[USBHS_STATE_LEN] __attribute__((aligned(4)));
+    uint32_t v[5];
+    uint64_t word, one;
+    unsigned i;
+
+    for (i = 0; i < 5; i++)
+        v[i] = readings[i] | (wide == i ? 1u << widths[i] : 0);
+    memcpy(copy, state, sizeof copy);
+    one = usbhs_begin_interrupt(copy);
+    for (i = 0; i < 5 && USBHS_ASKS(one, registers[i]); i++)
+        one = usbhs_continue(copy, slots, 64, time, 0, v[i]);
+    word = usbhs_interrupt_transfer(state, slots, 64, time, 0, v[0], v[1], v[2], v[3], v[4]);
+    expect("all five: answer", word, one);
+    expect("all five: state", memcmp(state, copy, sizeof copy) != 0, 0);
+    if (wide < 5) {
+        refused("all five: too wide", word, 16);
+        for (i = wide; i < 5; i++)
+            word = usbhs_continue(state, slots, 64, time, 0, readings[i]);
+        memcpy(copy, state, sizeof copy);
+    }
+    while (USBHS_KIND(word) != USBHS_END && USBHS_KIND(word) != USBHS_REFUSED) {
+        if (USBHS_ASKS(word, USBHS_MIS_ST)) {
+            word = usbhs_continue_looks(state, slots, 64, time, 0, looks, 2, 1);
+            for (i = 0, one = USBHS_READ | USBHS_MIS_ST << 8; i <= looks && USBHS_ASKS(one, USBHS_MIS_ST); i++)
+                one = usbhs_continue(copy, slots, 64, time, 0, i < looks ? 2 : 1);
+        } else {
+            word = usbhs_continue(state, slots, 64, time, 0, 0);
+            one = usbhs_continue(copy, slots, 64, time, 0, 0);
+        }
+        expect("looks: answer", word, one);
+        expect("looks: state", memcmp(state, copy, sizeof copy) != 0, 0);
+    }
+    expect("all five: end", USBHS_KIND(word), USBHS_END);
+}
+
 /* A state or slots on no word boundary: start-up is refused with 24 and touches nothing. */
 static void misaligned(void)
 {
@@ -279,6 +320,10 @@ int main(void)
     misaligned();
     wake_ups(state, slots, time);
     together(state, slots, time);
+    for (unsigned wide = 0; wide <= 5; wide++)
+        all_together(state, slots, time, 2 * wide, wide);
+    for (unsigned i = 1998; i < 2004; i++)
+        all_together(state, slots, time, i, 5);
     listed(4);
     listed(3);
 

@@ -114,6 +114,18 @@ static void late(void)
     interrupt("firmware-microframe-late");
 }
 
+/* The SIE is busy at the interrupt's first look: an isochronous IN, whose only interrupt it is. */
+static void busy(void)
+{
+    next_microframe();
+    shows(TRANSFER, SOF, 0);
+    usb_interrupt();
+    BYTE(MIS_ST) = 0;
+    shows(TRANSFER, IN | STATUS_IN, 0);
+    interrupt("firmware-iso-in-busy");
+    BYTE(MIS_ST) = FREE;
+}
+
 /* The SIE is never free: the driver gives up after its looks. */
 static void stuck(void)
 {
@@ -132,6 +144,7 @@ int main(void)
     late();
     shows(SETUP, 0x30, 8);
     interrupt("firmware-setup");
+    busy();
     stuck();
     return 0;
 }

@@ -117,8 +117,44 @@ static uint64_t to_end(uint64_t word)
     return word;
 }
 
+/* The write that clears the transfer's flag. */
+#define RELEASE (USBHS_WRITE | USBHS_INT_FG << 8 | (uint64_t)2 << 32)
+
 /* The interrupt with the calls that bring several readings. */
 static uint64_t at_once(void)
+{
+    uint64_t word;
+    uint32_t frame = registers[USBHS_FRAME_NO][0], flags = registers[USBHS_INT_FG][0];
+    uint32_t mis = registers[USBHS_MIS_ST][0], st = registers[USBHS_INT_ST][0], len = registers[USBHS_RX_LEN][0];
+
+    if (busy > 0) {
+        busy--;
+        mis = 0;
+    }
+    CALL("usbhs_interrupt_transfer", word,
+        usbhs_interrupt_transfer(state, slots, slots_length, bus_time, 0, frame, flags, mis, st, len));
+    while (USBHS_KIND(word) >= USBHS_READ && USBHS_KIND(word) <= USBHS_CALLBACK) {
+        if (USBHS_ASKS(word, USBHS_MIS_ST)) {
+            uint32_t looks = busy < USBHS_MOST_LOOKS - 1 ? busy : USBHS_MOST_LOOKS - 1, last = looks == busy;
+
+            busy -= looks + !last;
+            CALL("usbhs_continue_looks", word,
+                usbhs_continue_looks(state, slots, slots_length, bus_time, 0, looks, 0, last));
+        } else if (word == RELEASE) {
+            frame = registers[USBHS_FRAME_NO][0];
+            CALL("usbhs_continue_released", word,
+                usbhs_continue_released(state, slots, slots_length, bus_time, 0, frame));
+        } else {
+            uint32_t value = make(word);
+
+            CALL(continue_name, word, usbhs_continue(state, slots, slots_length, bus_time, 0, value));
+        }
+    }
+    return word;
+}
+
+/* With two calls for the five. */
+static uint64_t in_two(void)
 {
     uint64_t word;
     uint32_t frame = registers[USBHS_FRAME_NO][0], flags = registers[USBHS_INT_FG][0];
@@ -354,6 +390,27 @@ static void together(void)
     arrives();
     shows(TRANSFER, OUT | 1 | OK, 64);
     TOGETHER("together-iso-out-64");
+    arrives();
+    tell("in-two-iso-out-64", in_two());
+    close_all();
+    prepare(64, 0);
+    PREPARE(usbhs_queue, (state, slots, slots_length, 2, packet, 64));
+    sof_handled();
+    busy = 1;
+    shows(TRANSFER, IN | 2, 0);
+    TOGETHER("together-iso-in-busy");
+    arrives();
+    busy = 3;
+    shows(TRANSFER, OUT | 1 | OK, 64);
+    TOGETHER("together-iso-out-64-busy");
+    arrives();
+    busy = 5000;
+    TOGETHER("together-iso-out-64-stuck");
+    busy = 5000;
+    registers[USBHS_EP_RX_CTRL][3] ^= 4;
+    shows(TRANSFER, OUT | 3 | OK, 64);
+    TOGETHER("together-bulk-out-stuck");
+    busy = 0;
     close_all();
 }
 

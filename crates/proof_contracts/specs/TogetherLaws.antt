@@ -1,8 +1,9 @@
--- The two exported calls that bring several readings are steps of demand 3, one for each reading that was asked for,
--- whatever slot buffer the run has:
--- `interrupt-steps`, `continue-transfer-steps`; the hypothesis of each is the call's contract (Exported.antt). The
--- steps, the first one included, are a list of demand 3: `interrupt-calls`, `continue-calls`; of the chip's stores they
--- ask what the calls of one access ask, and no more. Assumes nothing.
+-- The exported calls that bring several readings are steps of demand 3, one for each reading that was asked for,
+-- whatever slot buffer the run has: `interrupt-steps`, `continue-transfer-steps`, `interrupt-transfer-steps`,
+-- `continue-released-steps`, `continue-looks-steps`; the hypothesis of each is the call's contract (Exported.antt).
+-- The steps, the first one included, are a list
+-- of demand 3: `interrupt-calls`, `continue-calls`; of the chip's stores they ask what the calls of one access ask, and
+-- no more. Assumes nothing.
 use mathlib.Core.Bool.{Bool, true, false, not, cond, true≢false}
 use mathlib.Core.List.{List, [], _∷_}
 use mathlib.Core.Path.{_≡_, refl, ap, sym, subst, _∙_}
@@ -11,7 +12,7 @@ use lib.Dec.{eqb}
 use denote.Ref.{now}
 use Rattle.regs.specs.declared.Access.the-variants.{Read, Write, Receive, Transmit, Ep0Dma, Wait, Callback}
 use Rattle.regs.specs.declared.Reg.{Reg}
-use Rattle.regs.specs.declared.Reg.the-variants.{IntFg, IntSt, RxLen, FrameNo}
+use Rattle.regs.specs.declared.Reg.the-variants.{IntFg, IntSt, MisSt, RxLen, FrameNo}
 use Rattle.state.specs.State.{view}
 use Rattle.state.specs.Driver.{Driver}
 use Rattle.state.specs.Wakes.{unwoken}
@@ -30,8 +31,12 @@ use Rattle.calls.specs.Sharing.{settled, sharedCall}
 use Rattle.answer.specs.Word.{Worded}
 use Rattle.readings.specs.Readings.{Reading, reading, Lent, lent, Continues, When, Over, Brings, BeginsWith}
 use Rattle.readings.specs.Readings.{ContinuesWith, asksFor}
+use Rattle.readings.specs.Readings.{firstLook, furtherLooks}
 use Rattle.usbhs_c.proofs.together.usbhs_interrupt.Reads as interrupt-contract
 use Rattle.usbhs_c.proofs.together.usbhs_continue_transfer.Reads as continue-transfer-contract
+use Rattle.usbhs_c.proofs.together.usbhs_interrupt_transfer.Reads as interrupt-transfer-contract
+use Rattle.usbhs_c.proofs.together.usbhs_continue_released.Reads as continue-released-contract
+use Rattle.usbhs_c.proofs.together.usbhs_continue_looks.Reads as continue-looks-contract
 use Rattle.proof_book.specs.Pages.{Pages, withKept, keptWakes}
 use Rattle.proof_book.specs.Book.{book}
 use Rattle.proof_book.specs.FrontPage.{Chip, BufferPreserved, whenNot}
@@ -297,6 +302,32 @@ pub continue-transfer-steps : (κs s slots time driver mis st len r z : _)
     × AreSteps driver mis (reading IntSt st ∷ reading RxLen len ∷ []) (lent (now s) (now slots) (now time)) a x
     (lent (now (z .0)) (now (z .1 .0)) (now (z .1 .1 .0))) first further)
 continue-transfer-steps κs s slots time driver mis st len r z h = worded r h (λ x k a. continues-steps _ _ _ _ _ _ k a)
+
+pub interrupt-transfer-steps : (κs s slots time driver frame flags mis st len r z : _)
+    → interrupt-transfer-contract.Learnt κs (s, (slots, (time, (driver, (frame, (flags, (mis, (st, (len, tt))))))))) r z
+    → Worded r (λ x. (a b : Buf) → (first : MadeShared) × (further : List MadeShared)
+    × InterruptSteps driver (reading FrameNo frame)
+    (reading IntFg flags ∷ reading MisSt mis ∷ reading IntSt st ∷ reading RxLen len ∷ [])
+    (lent (now s) (now slots) (now time)) a b x (lent (now (z .0)) (now (z .1 .0)) (now (z .1 .1 .0))) first
+    further)
+interrupt-transfer-steps κs s slots time driver frame flags mis st len r z h =
+    worded r h (λ x k a b. begins-steps _ _ _ _ _ _ k a b)
+
+-- after the write that clears the transfer's flag
+pub continue-released-steps : (κs s slots time driver frame r z : _)
+    → continue-released-contract.Learnt κs (s, (slots, (time, (driver, (frame, tt))))) r z
+    → Worded r (λ x. (a : Buf) → (first : MadeShared) × (further : List MadeShared)
+    × AreSteps driver 0 (reading FrameNo frame ∷ []) (lent (now s) (now slots) (now time)) a x
+    (lent (now (z .0)) (now (z .1 .0)) (now (z .1 .1 .0))) first further)
+continue-released-steps κs s slots time driver frame r z h = worded r h (λ x k a. continues-steps _ _ _ _ _ _ k a)
+
+-- so many looks that read v, and one that read u
+pub continue-looks-steps : (κs s slots time driver looks v u r z : _)
+    → continue-looks-contract.Learnt κs (s, (slots, (time, (driver, (looks, (v, (u, tt))))))) r z
+    → Worded r (λ x. (a : Buf) → (first : MadeShared) × (further : List MadeShared)
+    × AreSteps driver (firstLook looks v u) (furtherLooks looks v u) (lent (now s) (now slots) (now time)) a x
+    (lent (now (z .0)) (now (z .1 .0)) (now (z .1 .1 .0))) first further)
+continue-looks-steps κs s slots time driver looks v u r z h = worded r h (λ x k a. continues-steps _ _ _ _ _ _ k a)
 
 -- ---- a list of demand 3: what the calls after the first continue are lent is what was left
 

@@ -4,11 +4,12 @@
 use mathlib.Core.Bool.{Bool, true, false, _&&_}
 use mathlib.Core.List.{List, [], _∷_}
 use mathlib.Core.Path.{_≡_}
-use Prim.Native.Nat.{ℕ}
+use Prim.Native.Nat.{ℕ, zero, suc}
 use lib.Dec.{eqb}
 use Rattle.regs.specs.declared.Access.{Access}
 use Rattle.regs.specs.declared.Access.the-variants.{Read, Write, Receive, Transmit, Ep0Dma, Wait, Callback}
 use Rattle.regs.specs.declared.Reg.{Reg}
+use Rattle.regs.specs.declared.Reg.the-variants.{MisSt}
 use Rattle.state.specs.State.{view}
 use Rattle.script.specs.Every.{sameReg}
 use Rattle.script.specs.Calls.{interrupt}
@@ -93,3 +94,13 @@ BeginsWith i vs l r l′ = (x : Step) × (m : Lent) × Begins l x m × Brings i 
 -- a continue that brings v, then as many readings as are asked for
 abbrev pub ContinuesWith : ℕ → ℕ → List Reading → Lent → Step → Lent → Type 0
 ContinuesWith i v vs l r l′ = (x : Step) × (m : Lent) × Continues i v l x m × Brings i vs x m r l′
+
+-- k looks at mis_st that all read v, and one more that read u: the number that the first of k + 1 continues brings,
+-- and the readings of the others
+abbrev pub firstLook : ℕ → ℕ → ℕ → ℕ
+firstLook zero v u = u
+firstLook (suc k) v u = v
+
+abbrev pub furtherLooks : ℕ → ℕ → ℕ → List Reading
+furtherLooks zero v u = []
+furtherLooks (suc k) v u = reading MisSt (firstLook k v u) ∷ furtherLooks k v u

@@ -1,27 +1,25 @@
 // Readings that follow each other, brought by one call: the points in between are neither stored nor loaded, row 1 is
-// tested once and no answer is made for them. Where another answer may come before the last reading nothing is changed,
-// and the calls are made one by one (crate `usbhs_c`, readings.rt).
+// tested once and no answer is made for them. Where a number would be refused, or another row stops the call, nothing
+// is changed, and the calls are made one by one (crate `usbhs_c`, together.rt).
+pub mod looks; // looks.rt: looks at a SIE that is still busy
+pub mod frames; // frames.rt: the transfer's flag is cleared, and frame_no
+
 use answer::loads::site_byte;
 use frame::Frame;
 use frame::microframe_index;
+use interrupt::flags::after_flags;
+use interrupt::interrupt_entry::after_len;
 use interrupt::loads::setup_at;
-use interrupt::nak;
-use interrupt::nak::NakNext;
 use interrupt::stands::stand_flags;
 use interrupt::stands::stand_mis;
-use interrupt::stands::stand_nak;
-use interrupt::stands::stand_released;
 use interrupt::wait::byte;
 use interrupt::wait::short;
 use machine::saved::tag;
 use machine::stops::slots_fit;
 use machine::stops::stop;
-use regs::Access;
 use regs::flags;
-use regs::flags::TRANSFER;
 use regs::mis_status;
 use regs::registers::fits;
-use script::Transfer;
 use state::State;
 use state::clear_wakes;
 use state::load_globals;
@@ -37,13 +35,13 @@ ghost use Rattle.regs.specs.declared.Access.the-variants as Access;
 ghost use Rattle.regs.specs.declared.Reg.the-variants as Reg;
 ghost use Rattle.state.specs.State.{view, saved};
 ghost use Rattle.interrupt.specs.Points.{denote, meaning};
-ghost use Rattle.regs.specs.MisStatus.{sieFree};
 ghost use Rattle.interrupt.specs.declared.Point.the-variants as Point;
 ghost use Rattle.interrupt.specs.declared.Next.the-variants as Next;
 ghost use Rattle.machine.specs.Suspended.{decode, slotsFit};
 ghost use Rattle.machine.specs.Rows.{isIdle, stopOf};
 ghost use Rattle.readings.specs.Readings.{lent};
-ghost use Rattle.readings.specs.Passing.{EntersAs, PassesAs};
+ghost use Rattle.readings.specs.Passing.{EntersAs, PassesAs, ServesAs};
+ghost use Rattle.readings.specs.PassingLaws.{Opened};
 
 // How far the interrupt came with frame_no and int_fg.
 pub enum Entered {
@@ -55,8 +53,14 @@ pub enum Entered {
 // How far a transfer came with mis_st, int_st and rx_len.
 pub enum Passed {
     No, // nothing is changed
-    Released, // its flag is to be cleared
-    Nak(Access), // its endpoint's control word is read, to answer NAK
+    Word(u64), // to the answer with this word
+}
+
+// How far the interrupt came with all five.
+pub enum Served {
+    No, // nothing is changed
+    Flags(u64), // with frame_no and int_fg to the answer with this word
+    Transfer(u64), // with all of them
 }
 
 // The tag of an interrupt's point, and the number of the one at which mis_st is awaited.
@@ -120,16 +124,24 @@ fn is_transfer(word: u32) -> bool
     false
 }
 
+// The wake-ups are cleared, the microframe is kept.
+fn open(s: &mut State, frame: u32)
+    requires { ⌜ fitsIn frame 16 ≡ true ⌝ }
+    ensures { λ _. ⌜ Opened frame (now (s .entry)) (now (s .exit)) ⌝ }
+{
+    clear_wakes(s);
+    sized(s);
+    keep_frame(s, frame);
+    sized(s);
+}
+
 // The interrupt's begin with frame_no and, of a transfer, int_fg.
 pub fn enter(s: &mut State, slots: &[u8], frame: u32, word: u32) -> Entered
     ensures { λ r. ⌜ ((i : ℕ) (time : List ℕ) → EntersAs r i frame word
         (lent (now (s .entry)) (now (slots .entry)) time) (lent (now (s .exit)) (now (slots .entry)) time)) ⌝ }
 {
     if may_enter(s, slots, frame) {
-        clear_wakes(s);
-        sized(s);
-        keep_frame(s, frame);
-        sized(s);
+        open(s, frame);
         if is_transfer(word) {
             stand_mis(s, flags::setup_act(byte(word)));
             return Entered::Mis;
@@ -140,17 +152,13 @@ pub fn enter(s: &mut State, slots: &[u8], frame: u32, word: u32) -> Entered
     Entered::No
 }
 
-// Would the three numbers be taken, and is no transaction on the bus?
+// Would the three numbers be taken?
 fn are_taken(mis: u32, st: u32, len: u32) -> bool
-    ensures { λ r. ⌜ (r ≡ true → (fitsIn mis 2 ≡ true) × (sieFree mis ≡ true) × (fitsIn st 7 ≡ true)
-        × (fitsIn len 16 ≡ true)) ⌝ }
+    ensures { λ r. ⌜ (r ≡ true → (fitsIn mis 2 ≡ true) × (fitsIn st 7 ≡ true) × (fitsIn len 16 ≡ true)) ⌝ }
 {
     if fits(mis, 2) {
-        if mis_status::sie_free(byte(mis)) {
-            if fits(st, 7) {
-                return fits(len, 16);
-            }
-            return false;
+        if fits(st, 7) {
+            return fits(len, 16);
         }
         return false;
     }
@@ -161,7 +169,7 @@ fn are_taken(mis: u32, st: u32, len: u32) -> bool
 fn may_pass(s: &State, slots: &[u8], mis: u32, st: u32, len: u32) -> bool
     ensures { λ r. ⌜ (r ≡ true → (saved (now (s .entry)) .tag ≡ 6) × (saved (now (s .entry)) .site ≡ 6)
         × (slotsFit (view (now (s .entry))) (now (slots .entry)) ≡ true)
-        × (fitsIn mis 2 ≡ true) × (sieFree mis ≡ true) × (fitsIn st 7 ≡ true) × (fitsIn len 16 ≡ true)) ⌝ }
+        × (fitsIn mis 2 ≡ true) × (fitsIn st 7 ≡ true) × (fitsIn len 16 ≡ true)) ⌝ }
 {
     if tag(s) == INTERRUPT {
         if site_byte(s) == MIS {
@@ -175,7 +183,7 @@ fn may_pass(s: &State, slots: &[u8], mis: u32, st: u32, len: u32) -> bool
     false
 }
 
-// A transfer's mis_st, int_st and rx_len, with no transaction on the bus: the flag is to be cleared, unless NAK comes
+// A transfer's mis_st, int_st and rx_len, a transaction on the bus or none: the flag is to be cleared, unless NAK comes
 // first (mod.rs 656-667).
 pub fn pass(s: &mut State, slots: &[u8], mis: u32, st: u32, len: u32) -> Passed
     ensures { λ r. ⌜ ((i : ℕ) (time : List ℕ) → PassesAs r i mis st len
@@ -184,26 +192,41 @@ pub fn pass(s: &mut State, slots: &[u8], mis: u32, st: u32, len: u32) -> Passed
     if may_pass(s, slots, mis, st, len) {
         sized(s);
         let setup = setup_at(s);
-        let status = byte(st);
-        let x = Transfer {
-            busy: false,
-            st: status,
-            len: short(len),
-            late: false,
-            len_ok: true,
-        };
-        let n = nak::nak_non_iso(s, status);
-        match n {
-            NakNext::Asks(q, p) => {
-                stand_nak(s, q, setup, x, p);
-                Passed::Nak(q)
-            }
-            NakNext::Ends => {
-                stand_released(s, TRANSFER, setup, x);
-                Passed::Released
-            }
-        }
-    } else {
-        Passed::No
+        let busy = !mis_status::sie_free(byte(mis));
+        return Passed::Word(after_len(s, setup, busy, byte(st), len));
     }
+    Passed::No
+}
+
+// The interrupt's begin with all five: frame_no, int_fg and, of a transfer, mis_st, int_st and rx_len. Where int_fg has
+// another flag too, or none, the last three are not looked at.
+pub fn serve(
+    s: &mut State,
+    slots: &[u8],
+    frame: u32,
+    word: u32,
+    mis: u32,
+    st: u32,
+    len: u32,
+) -> Served
+    ensures { λ r. ⌜ ((i : ℕ) (time : List ℕ) → ServesAs r i frame word mis st len
+        (lent (now (s .entry)) (now (slots .entry)) time) (lent (now (s .exit)) (now (slots .entry)) time)) ⌝ }
+{
+    if may_enter(s, slots, frame) {
+        if is_transfer(word) {
+            if are_taken(mis, st, len) {
+                open(s, frame);
+                let setup = flags::setup_act(byte(word));
+                let busy = !mis_status::sie_free(byte(mis));
+                return Served::Transfer(after_len(s, setup, busy, byte(st), len));
+            }
+            return Served::No;
+        }
+        if fits(word, 6) {
+            open(s, frame);
+            return Served::Flags(after_flags(s, word));
+        }
+        return Served::No;
+    }
+    Served::No
 }

@@ -303,6 +303,35 @@ impl Port<'_> {
         Answer::of(unsafe { usbhs_continue_transfer(s, b, n, t, self.driver, mis_st, int_st, rx_len) })
     }
 
+    /// The chip's interrupt with five readings, which are to be made first, in this order: what the chip shows is
+    /// overwritten by the next token. [`Port::begin_interrupt`], then a [`Port::go_on`] with each, as long as it is
+    /// asked for.
+    pub fn interrupt_transfer(&mut self, frame_no: u32, int_fg: u32, mis_st: u32, int_st: u32, rx_len: u32) -> Answer {
+        let (s, b, n, t) =
+            (self.state.0.as_mut_ptr(), self.slots.as_mut_ptr(), length(self.slots), self.time.0.as_mut_ptr());
+        // SAFETY: as in `start_up`
+        Answer::of(unsafe {
+            usbhs_interrupt_transfer(s, b, n, t, self.driver, frame_no, int_fg, mis_st, int_st, rx_len)
+        })
+    }
+
+    /// Goes on after the write that clears the transfer's flag: a [`Port::go_on`], and one with frame_no if it is asked
+    /// for.
+    pub fn go_on_released(&mut self, frame_no: u32) -> Answer {
+        let (s, b, n) = (self.state.0.as_mut_ptr(), self.slots.as_mut_ptr(), length(self.slots));
+        // SAFETY: as in `start_up`
+        Answer::of(unsafe { usbhs_continue_released(s, b, n, self.time.0.as_mut_ptr(), self.driver, frame_no) })
+    }
+
+    /// Goes on where mis_st is asked for again and again: `looks` of [`Port::go_on`] with `busy`, then one with `last`,
+    /// as long as mis_st is asked for.
+    pub fn go_on_looks(&mut self, looks: u32, busy: u32, last: u32) -> Answer {
+        let (s, b, n, t) =
+            (self.state.0.as_mut_ptr(), self.slots.as_mut_ptr(), length(self.slots), self.time.0.as_mut_ptr());
+        // SAFETY: as in `start_up`
+        Answer::of(unsafe { usbhs_continue_looks(s, b, n, t, self.driver, looks, busy, last) })
+    }
+
     /// Enables or disables an endpoint; refused with 19 where there is no bus time for it.
     #[inline]
     pub fn begin_set_enabled(&mut self, endpoint: u8, direction: Direction, enabled: bool) -> Answer {

@@ -40,6 +40,20 @@ extern "C" {
     pub fn usbhs_begin_interrupt(s: S) -> u64;
     pub fn usbhs_interrupt(s: S, slots: Slots, n: Length, t: Time, driver: U, frame: U, flags: U) -> u64;
     pub fn usbhs_continue_transfer(s: S, slots: Slots, n: Length, t: Time, driver: U, mis: U, st: U, len: U) -> u64;
+    pub fn usbhs_interrupt_transfer(
+        s: S,
+        slots: Slots,
+        n: Length,
+        t: Time,
+        driver: U,
+        frame: U,
+        flags: U,
+        mis: U,
+        st: U,
+        len: U,
+    ) -> u64;
+    pub fn usbhs_continue_released(s: S, slots: Slots, n: Length, t: Time, driver: U, frame: U) -> u64;
+    pub fn usbhs_continue_looks(s: S, slots: Slots, n: Length, t: Time, driver: U, looks: U, busy: U, last: U) -> u64;
     pub fn usbhs_begin_bus_poll(s: S) -> u64;
     pub fn usbhs_begin_bus_enable(s: S) -> u64;
     pub fn usbhs_begin_bus_disable(s: S) -> u64;

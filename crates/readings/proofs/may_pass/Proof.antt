@@ -32,7 +32,6 @@ returns c h =
       taken .0,
       taken .1,
       taken .2,
-      taken .3,
     )
 
 returns-2 : tie.Need-returns-2
