@@ -16,8 +16,7 @@ use Rattle.script.specs.Calls.{Op, interrupt, slotted, other, aside, Other, All
 use Rattle.script.specs.Calls.{BusEnable, BusDisable, Microframe, SetStalled, IsStalled, SetPaced, Advance, BeginRead}
 use Rattle.script.specs.Calls.{BeginSetup, PollSetup, PollDataIn, BeginAccept, PollAccept, BeginReject, BeginDataOut}
 use Rattle.script.specs.Calls.{BeginAcceptSetAddress}
-use Rattle.proof_usb20.specs.Sequence.{Track, own, before, opens, saw, closes, EndsByReason, Writing}
-use Rattle.proof_usb20.specs.Sequence.{unwritten-yet}
+use Rattle.proof_usb20.specs.Sequence.{Track, own, before, opens, saw, closes, EndsByReason, Writing, unwritten-yet}
 use Rattle.proof_usb20.specs.Sequence.{wrote}
 use Rattle.proof_usb20.specs.Sequence.{LeavesWord}
 use Rattle.proof_usb20.specs.Observer.{Observer}
@@ -73,11 +72,13 @@ toggles D E = record {
   Log = Bool × Track;
   before = (false, before);
   opens = λ o _ x. (x .0, opens D E o (x .1));
-  saw = λ x q v. (x .0, saw D E (x .1) q v);
+  saw = λ x q v _. (x .0, saw D E (x .1) q v);
   closes = λ o a x. (x .0 || madeIso D E o a, closes D E o a (x .1));
   EndsByReason = λ o a x. x .0 ≡ false → EndsByReason D E o a (x .1);
   Allowed = λ _ _ _. Unit {0};
   Asks = λ _ _. Unit {0};
+  Loads = λ _ _ _. Unit {0};
+  Spares = λ _ _ _. Unit {0};
   View = EpSeen;
   view = view D E;
   Stands = λ x v. x .0 ≡ false → Fits (x .1) v;
@@ -92,11 +93,13 @@ words D E = record {
   Log = Bool × Track × Writing;
   before = (false, before, unwritten-yet before);
   opens = λ o _ x. (x .0, opens D E o (x .1), unwritten-yet (x .1));
-  saw = λ x q v. (x .0, saw D E (x .1) q v, wrote D E (x .2) q v);
+  saw = λ x q v _. (x .0, saw D E (x .1) q v, wrote D E (x .2) q v);
   closes = λ o a x. (x .0 || madeIso D E o a, closes D E o a (x .1), x .2);
   EndsByReason = λ o a x. x .0 ≡ false → LeavesWord D E o a (x .2);
   Allowed = λ _ _ _. Unit {0};
   Asks = λ _ _. Unit {0};
+  Loads = λ _ _ _. Unit {0};
+  Spares = λ _ _ _. Unit {0};
   View = EpSeen;
   view = view D E;
   Stands = λ _ _. Unit {0};
