@@ -25,11 +25,12 @@ module _ (O : Observer) where
       → All O (events ms) (machineOf xs a) x → CodeAll O ms x
   to-code [] xs a x h r = tt
   to-code (m ∷ ms) xs a x h r =
-      let p : Claim O (m .event .call) (m .event .lent) (m .answer) (serves (left m .under-way)) x
+      let p : Claim O (m .event .call) (m .event .lent) (m .slots) (m .answer) (serves (left m .under-way)) x
       × Standing O (left m .st) (told O m x .log) (told O m x .under) × All O (events ms) (left m) (told O m x)
       = subst
-      (λ (z : Answered). let y = noted O (m .event .call) (m .event .lent) (z .0) (serves (z .1 .under-way)) x in
-      Claim O (m .event .call) (m .event .lent) (z .0) (serves (z .1 .under-way)) x
+      (λ (z : Answered). let y = noted O (m .event .call) (m .event .lent) (z .1 .buf) (z .0) (serves (z .1 .under-way))
+      x in
+      Claim O (m .event .call) (m .event .lent) (z .1 .buf) (z .0) (serves (z .1 .under-way)) x
       × Standing O (z .1 .st) (y .log) (y .under) × All O (events ms) (z .1) y) (sym (h .0)) r in
       (p .0, p .1, to-code ms (m .bytes) (m .slots) (told O m x) (h .1) (p .2))
 

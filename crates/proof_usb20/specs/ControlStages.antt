@@ -2,7 +2,7 @@
 -- from an accepted start-up
 use Rattle.script.specs.AddressWrites.{Writes}
 use Rattle.script.specs.AddressCalls.{Addresses}
-use Rattle.proof_usb20.specs.Log.{Log, before, opens, saw, closes, Armed, EndsByReason, Allowed}
+use Rattle.proof_usb20.specs.Log.{Log, before, opens, saw, closes, Armed, EndsByReason, Allowed, Loads, Spares}
 use Rattle.proof_usb20.specs.Observer.{Observer}
 use Rattle.proof_usb20.specs.Ep0.{View, view}
 
@@ -18,6 +18,8 @@ control = record {
   EndsByReason = EndsByReason;
   Allowed = Allowed;
   Asks = λ o q. Writes (Addresses o) q;
+  Loads = Loads;
+  Spares = Spares;
   View = View;
   view = view;
   Stands = λ w x. Armed w;

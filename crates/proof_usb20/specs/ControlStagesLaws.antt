@@ -18,13 +18,13 @@ use Rattle.script.specs.Machine.{Buf, Event, Machine, start, started}
 use Rattle.machine.specs.Suspended.{driverOf}
 use Rattle.script_ops.specs.Rings.{St}
 use Rattle.script_ops.specs.Concrete.{concrete}
-use Rattle.proof_usb20.specs.Log.{Log, before, opens, closes, Armed, EndsByReason, unlent}
+use Rattle.proof_usb20.specs.Log.{Log, before, opens, closes, Armed, EndsByReason, Allowed, Loads, Spares, unlent}
 use Rattle.proof_usb20.specs.Observer.{startedBy, All}
 use Rattle.proof_usb20.specs.ExemptLaws.{differ}
-use Rattle.proof_usb20.specs.Watch.{at-end, at-ask}
-use Rattle.proof_usb20.specs.WatchLaws.{watch-more}
+use Rattle.proof_usb20.specs.Watch.{at-end, at-ask, Fitted, AtFirst, SparedAfter}
+use Rattle.proof_usb20.specs.WatchLaws.{watch-more, first-any, after-any}
 use Rattle.state.specs.Fresh.{freshDriver}
-use Rattle.proof_usb20.specs.Ep0.{Watch, View, view, Between, R, Law}
+use Rattle.proof_usb20.specs.Ep0.{Watch, View, view, Between, Ends, R, Law}
 use Rattle.proof_usb20.specs.QuietLaws.{Any}
 use Rattle.proof_usb20.specs.RequestLaws.{Left, kept-base, law-new}
 use Rattle.proof_usb20.specs.RunsLaws.{Laws, Ups, from-start}
@@ -35,7 +35,7 @@ use Rattle.proof_book.specs.Computing.{computing}
 use Rattle.proof_usb20.specs.CodeRuns.{CodeAll}
 use Rattle.proof_usb20.specs.CodeRunsLaws.{code-from-start}
 use Rattle.proof_usb20.specs.StagesLaws.{law-data-out, law-data-in, law-accept, law-accept-address, law-reject}
-use Rattle.proof_usb20.specs.StagesLaws.{law-setup}
+use Rattle.proof_usb20.specs.StagesLaws.{law-setup, loads-data-in, spares-data-in}
 use Rattle.proof_usb20.specs.PollsLaws.{law-poll-setup, law-poll-data-out, law-poll-data-in, law-poll-accept}
 use Rattle.proof_usb20.specs.ServingLaws.{law-interrupt}
 use Rattle.proof_usb20.specs.SwitchingLaws.{law-set-enabled}
@@ -48,14 +48,18 @@ use Rattle.proof_usb20.specs.TasksLaws.{law-bus-poll, aside-view}
 use mathlib.Core.Bool.{Bool, true, false, cond}
 use Rattle.regs.specs.declared.Access.{Access}
 use Rattle.regs.specs.declared.Access.the-variants.{Read, Write, Receive, Transmit, Ep0Dma, Wait, Callback}
-use Rattle.regs.specs.declared.Reg.the-variants.{IntFg, IntSt, MisSt, FrameNo, EpRxCtrl, EpTxCtrl}
+use Rattle.regs.specs.declared.Reg.the-variants.{IntFg, IntSt, MisSt, RxLen, FrameNo, EpRxCtrl, EpTxCtrl}
 use Rattle.script.specs.Every.{sameReg}
-use Rattle.script.specs.Answers.{End, Done}
-use Rattle.script.specs.Machine.{Call, begin, continue, Ans, ended, idle}
+use Rattle.script.specs.Answers.{End, NotYet, Done, Shown}
+use Rattle.ring.specs.Copies.{over, bytesAt}
+use lib.ListN.{length}
+use mathlib.Core.List.{_++_}
+use Rattle.script.specs.Machine.{Call, begin, continue, Ans, ended, handed, told, idle}
 use Rattle.machine.specs.Suspended.{drive}
 use Prim.Native.Nat.{suc}
 use Rattle.proof_usb20.specs.Observer.{Watched, Under, at-rest, doing, starting, serves, noted}
 use Rattle.proof_usb20.specs.ControlStages.{control}
+use Rattle.proof_book.specs.Sorting.{Sorting}
 
 of-slotted : (o : Slotted) → Law (slotted o)
 of-slotted (SetEnabled d e on) = law-set-enabled d e on
@@ -87,11 +91,12 @@ of-other BeginReject = law-reject
 of-other (BeginDataOut n first) = law-data-out n first
 of-other (BeginAcceptSetAddress a) = law-accept-address a
 
-law-of : (o : Op) → Law o
-law-of interrupt = law-interrupt
-law-of (slotted o) = of-slotted o
-law-of (other o) = of-other o
-law-of (aside o) = law-aside o
+law-of : (o : Op) (w : Log) (s : St) → R w (view (s .0)) → Sorting (s .0) → (calls .slots o ≡ true → Fitted s)
+    → Watch Between (Allowed o) (Ends o) (opens o (s .1) w) (run concrete (code o) s)
+law-of interrupt w s r z f = law-interrupt w s r z
+law-of (slotted o) w s r z f = of-slotted o w s r z
+law-of (other o) w s r z f = of-other o w s r z
+law-of (aside o) w s r z f = law-aside o w s r z
 
 stands : (w : Log) (x : View) → R w x → Armed w
 stands w x (k, inl e) h = differ (sym h ∙ e)
@@ -100,7 +105,10 @@ stands w x (k, inr r) h = (r .out .shows, r .inn .shows, r .size)
 -- before the first setup packet: no request, and EP0 is not started
 fresh : (c : Config) → R before (view (driverOf .fresh c))
 unfolding freshDriver
-fresh c = (record { says = refl; started = refl; maximum = λ h. differ h; slot = λ h. differ h }, inl refl)
+fresh c = (
+  record { says = refl; started = refl; maximum = λ h. differ h; slot = λ h. differ h; inside = λ h. differ h },
+  inl refl,
+)
 
 new : (c : Config) (b : Buf) → Ups control (λ s. R before (view (s .0))) (run concrete (calls .starts c)
     (driverOf .fresh c, b))
@@ -131,15 +139,41 @@ fair-1 (slotted (BeginDataIn bs first last)) h w = unlent refl
 fair-1 (other o) h w = differ h
 fair-1 (aside o) h w = tt
 
+-- the slot buffer
+loads : (o : Op) (w : Log) (s : St) → R w (view (s .0)) → (calls .slots o ≡ true → Fitted s)
+    → AtFirst (Loads o (opens o (s .1) w)) (run concrete (code o) s)
+loads interrupt w s r f = first-any (λ _. tt) (run concrete (code interrupt) s)
+loads (slotted (SetEnabled d e on)) w s r f = first-any (λ _. tt) (run concrete (code (slotted (SetEnabled d e on))) s)
+loads (slotted (PollRead e n)) w s r f = first-any (λ _. tt) (run concrete (code (slotted (PollRead e n))) s)
+loads (slotted (BeginWrite e bs)) w s r f = first-any (λ _. tt) (run concrete (code (slotted (BeginWrite e bs))) s)
+loads (slotted (PollWrite e bs)) w s r f = first-any (λ _. tt) (run concrete (code (slotted (PollWrite e bs))) s)
+loads (slotted (PollDataOut n)) w s r f = first-any (λ _. tt) (run concrete (code (slotted (PollDataOut n))) s)
+loads (slotted (BeginDataIn bs first last)) w s r f = loads-data-in w s bs (r .0) (f refl) first last
+loads (other o) w s r f = first-any (λ _. tt) (run concrete (code (other o)) s)
+loads (aside o) w s r f = first-any (λ _. tt) (run concrete (code (aside o)) s)
+
+spares : (o : Op) (s : St) → SparedAfter (Spares o) (run concrete (code o) s)
+spares interrupt s = after-any (λ _ _. tt) (run concrete (code interrupt) s)
+spares (slotted (SetEnabled d e on)) s = after-any (λ _ _. tt) (run concrete (code (slotted (SetEnabled d e on))) s)
+spares (slotted (PollRead e n)) s = after-any (λ _ _. tt) (run concrete (code (slotted (PollRead e n))) s)
+spares (slotted (BeginWrite e bs)) s = after-any (λ _ _. tt) (run concrete (code (slotted (BeginWrite e bs))) s)
+spares (slotted (PollWrite e bs)) s = after-any (λ _ _. tt) (run concrete (code (slotted (PollWrite e bs))) s)
+spares (slotted (PollDataOut n)) s = after-any (λ _ _. tt) (run concrete (code (slotted (PollDataOut n))) s)
+spares (slotted (BeginDataIn bs first last)) s = spares-data-in bs first last s
+spares (other o) s = after-any (λ _ _. tt) (run concrete (code (other o)) s)
+spares (aside o) s = after-any (λ _ _. tt) (run concrete (code (aside o)) s)
+
 pub laws : Laws control R
 laws = record {
   stands = stands;
-  call = λ o w s r z. watch-more (law-of o w s r z) (λ x a t p. (p .0, λ _. p .1));
+  call = λ o w s r z f. watch-more (law-of o w s r z f) (λ x a t p. (p .0, λ _. p .1));
   asks = λ o s. ways-laws.only-run concrete (code o) (address-writes o) tt s;
   besides = λ o d b a t z h. (aside-view o d b a t z h, aside-wakes o d b a t h);
   new = new;
   unlent = refused-1;
   fair-1 = fair-1;
+  loads = loads;
+  spares = spares;
 }
 
 -- after each call: EP0's control words as last written say what USB 2.0's pipe says, a packet IN that is ready has its
@@ -161,25 +195,32 @@ code-control-stages c b row xs a first e ms h = code-from-start control laws c b
 
 -- ---- nothing of an ordinary transfer is exempt: calls with readings, computed by the check
 
--- an operation; what is read if it is an interrupt: the flags, whether the bus is free, the status
+-- an operation; what is read if it is an interrupt: the flags, whether the bus is free, the status, the length; what
+-- the chip has stored in EP0's slot before it
 pub record Does : Type 0 where
   pub op : Op
   pub flags : ℕ
   pub free : ℕ
   pub status : ℕ
+  pub length : ℕ
+  pub stored : List ℕ
 
 abbrev does : Op → Does
-does o = record { op = o; flags = 0; free = 1; status = 0 }
+does o = record { op = o; flags = 0; free = 1; status = 0; length = 0; stored = [] }
 
 abbrev serving : ℕ → ℕ → ℕ → Does
-serving f b s = record { op = interrupt; flags = f; free = b; status = s }
+serving f b s = record { op = interrupt; flags = f; free = b; status = s; length = 0; stored = [] }
+
+-- a packet OUT of these bytes
+abbrev taking : List ℕ → Does
+taking bytes = record { op = interrupt; flags = 2; free = 1; status = 64; length = length bytes; stored = bytes }
 
 -- EP0's control words read back as they were written, the frame is 8
 abbrev reading : Does → Log → Access → ℕ
 reading x w (Read r e) = cond (sameReg r EpRxCtrl) (w .rx .last)
     (cond (sameReg r EpTxCtrl) (w .tx .last)
-    (cond (sameReg r IntFg) (x .flags) (cond (sameReg r MisSt) (x .free)
-    (cond (sameReg r IntSt) (x .status) (cond (sameReg r FrameNo) 8 0)))))
+    (cond (sameReg r IntFg) (x .flags) (cond (sameReg r MisSt) (x .free) (cond (sameReg r IntSt) (x .status)
+    (cond (sameReg r RxLen) (x .length) (cond (sameReg r FrameNo) 8 0))))))
 reading x w (Write r e v) = 0
 reading x w (Receive e y) = 0
 reading x w (Transmit e y) = 0
@@ -197,7 +238,7 @@ called c p =
     let y = drive c (p .machine) (p .machine .buf) in
     record {
       machine = y .1;
-      seen = noted control c (p .machine .buf) (y .0) (serves (y .1 .under-way)) (p .seen);
+      seen = noted control c (p .machine .buf) (y .1 .buf) (y .0) (serves (y .1 .under-way)) (p .seen);
       answer = y .0;
     }
 
@@ -205,11 +246,18 @@ called c p =
 abbrev on : ℕ → Does → Under → Play → Play
 on zero x u p = p
 on (suc n) x at-rest p = p
-on (suc n) x (doing o q) p = let r = called (continue (reading x (p .seen .log) q)) p in on n x (r .seen .under) r
+on (suc n) x (doing o q l) p = let r = called (continue (reading x (p .seen .log) q)) p in on n x (r .seen .under) r
 on (suc n) x starting p = let r = called (continue 0) p in on n x (r .seen .under) r
 
+abbrev stores : List ℕ → Play → Play
+stores bytes p = record {
+  machine = record { under-way = p .machine .under-way; st = p .machine .st; buf = over bytes (p .machine .buf) };
+  seen = p .seen;
+  answer = p .answer;
+}
+
 abbrev done : Does → Play → Play
-done x p = let r = called (begin (x .op)) p in on 16 x (r .seen .under) r
+done x p = let r = called (begin (x .op)) (stores (x .stored) p) in on 16 x (r .seen .under) r
 
 -- whether the log is exempt after each of the operations, and the last answer
 abbrev pub exempts : List Does → Play → List Bool
@@ -219,6 +267,24 @@ exempts (x ∷ xs) p = let r = done x p in r .seen .log .exempt ∷ exempts xs r
 abbrev pub last : List Does → Play → Ans Answer
 last [] p = p .answer
 last (x ∷ xs) p = last xs (done x p)
+
+-- the bytes that each poll gives which is done; EP0's slot at the end, as many bytes as its length says
+abbrev bytesIn : Ans Answer → List (List ℕ)
+bytesIn (ended (Refused n)) = []
+bytesIn (ended (End n ws)) = []
+bytesIn (ended NotYet) = []
+bytesIn (ended (Done bytes)) = bytes ∷ []
+bytesIn (ended (Shown bytes stamp)) = []
+bytesIn (handed q) = []
+bytesIn (told n) = []
+
+abbrev pub given : List Does → Play → List (List ℕ)
+given [] p = []
+given (x ∷ xs) p = let r = done x p in bytesIn (r .answer) ++ given xs r
+
+abbrev pub inSlot : List Does → Play → List ℕ
+inSlot [] p = bytesAt (p .machine .buf) (p .seen .log .slot) (p .seen .log .len)
+inSlot (x ∷ xs) p = inSlot xs (done x p)
 
 abbrev zeros : ℕ → List ℕ
 zeros zero = []
@@ -247,15 +313,15 @@ pub data Transfer : Type 0 where
 abbrev pub steps : Transfer → List Does
 steps setup-alone = setting []
 steps control-read = setting
-    (does (slotted (BeginDataIn (1 ∷ 2 ∷ []) true true)) ∷ serving 2 1 32 ∷ does
+    (does (slotted (BeginDataIn (11 ∷ 12 ∷ []) true true)) ∷ serving 2 1 32 ∷ does
     (other PollDataIn) ∷ serving 2 1 64 ∷ does (other PollDataIn) ∷ [])
 -- while the function takes its time, interrupts of other endpoints show the host's IN 0, answered with NAK
 steps slow-read = serving 32 1 0 ∷ does (other BeginSetup) ∷ serving 2 1 32 ∷ does
     (other PollSetup) ∷ serving 2 1 32 ∷ does
-    (slotted (BeginDataIn (1 ∷ 2 ∷ []) true true)) ∷ serving 2 1 32 ∷ does
+    (slotted (BeginDataIn (11 ∷ 12 ∷ []) true true)) ∷ serving 2 1 32 ∷ does
     (other PollDataIn) ∷ serving 2 1 64 ∷ does (other PollDataIn) ∷ []
 steps control-write = setting
-    (does (other (BeginDataOut 64 true)) ∷ serving 2 1 64 ∷ does
+    (does (other (BeginDataOut 64 true)) ∷ taking (7 ∷ 8 ∷ 9 ∷ []) ∷ does
     (slotted (PollDataOut 64)) ∷ does (other BeginAccept) ∷ serving 2 1 32 ∷ does (other PollAccept) ∷ [])
 steps hidden-write = setting
     (does (other (BeginDataOut 64 true)) ∷ serving 2 0 32 ∷ does
@@ -274,12 +340,34 @@ answerOf control-write = ended (Done [])
 answerOf hidden-write = ended (Done [])
 answerOf set-address = ended (End 0 [])
 
--- never exempt, and its last poll is done; a setup's gives the bytes of EP0's slot
+abbrev eight : List ℕ
+eight = 1 ∷ 2 ∷ 3 ∷ 4 ∷ 5 ∷ 6 ∷ 7 ∷ 8 ∷ []
+
+-- of the hidden packet the length is its begin's, and the bytes are those that stand in the slot
+abbrev pub givenBy : Transfer → List (List ℕ)
+givenBy setup-alone = eight ∷ []
+givenBy control-read = eight ∷ [] ∷ []
+givenBy slow-read = eight ∷ [] ∷ []
+givenBy control-write = eight ∷ (7 ∷ 8 ∷ 9 ∷ []) ∷ [] ∷ []
+givenBy hidden-write = eight ∷ (eight ++ zeros 56) ∷ [] ∷ []
+givenBy set-address = eight ∷ []
+
+abbrev pub sentBy : Transfer → List ℕ
+sentBy setup-alone = []
+sentBy control-read = 11 ∷ 12 ∷ []
+sentBy slow-read = 11 ∷ 12 ∷ []
+sentBy control-write = []
+sentBy hidden-write = []
+sentBy set-address = []
+
+-- never exempt, and its last poll is done; a setup's poll gives the bytes of EP0's slot, a data_out's those of the
+-- packet, and those of a data_in lie in the slot to the transfer's end
 pub ordinary-run : (t : Transfer) → (exempts (steps t) up ≡ none-of (steps t)) × (last (steps t) up ≡ answerOf t)
+    × (given (steps t) up ≡ givenBy t) × (inSlot (steps t) up ≡ sentBy t)
 unfolding computing
-ordinary-run setup-alone = (refl, refl)
-ordinary-run control-read = (refl, refl)
-ordinary-run slow-read = (refl, refl)
-ordinary-run control-write = (refl, refl)
-ordinary-run hidden-write = (refl, refl)
-ordinary-run set-address = (refl, refl)
+ordinary-run setup-alone = (refl, refl, refl, refl)
+ordinary-run control-read = (refl, refl, refl, refl)
+ordinary-run slow-read = (refl, refl, refl, refl)
+ordinary-run control-write = (refl, refl, refl, refl)
+ordinary-run hidden-write = (refl, refl, refl, refl)
+ordinary-run set-address = (refl, refl, refl, refl)

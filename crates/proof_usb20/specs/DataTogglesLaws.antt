@@ -44,7 +44,7 @@ use Rattle.proof_usb20.specs.Sequence as log
 use Rattle.proof_usb20.specs.Sequence.{before, opens, EndsByReason, own, Writing, wrote, LeavesWord}
 use Rattle.proof_usb20.specs.Observer.{startedBy, All}
 use Rattle.proof_usb20.specs.Watch.{Along, at-end, at-ask}
-use Rattle.proof_usb20.specs.WatchLaws.{watch-more, watch-any}
+use Rattle.proof_usb20.specs.WatchLaws.{watch-more, watch-any, first-any, after-any}
 use Rattle.proof_usb20.specs.RunsLaws.{Laws, Sees, Ups, Only, from-start}
 use Rattle.proof_usb20.specs.FollowLaws as follow
 use Rattle.proof_usb20.specs.Follow as following
@@ -223,7 +223,7 @@ module _ (D : Dir) (E : ℕ) (z : (d : Dir) → Else D E d 0) where
 
   silent : (o : Op) (x : Bool × Track) → x .0 ≡ true → (out : tree.Out St Answer)
       → Sees (toggles D E) (λ _ _. Unit {0}) (Ended o) x out
-  silent o x h out = watch-any (λ y. y .0 ≡ true) (λ _ _ _. tt) (λ _ _ _ g. g)
+  silent o x h out = watch-any (λ y. y .0 ≡ true) (λ _ _ _. tt) (λ _ _ _ _ g. g)
       (λ y a t g. (inl (rw g refl), λ _ z. differ (sym z ∙ g))) x h out
 
   pub heard : (o : Op) (x : Bool × Track) (s : St) → Fitting x (view D E (s .0)) → Sorting (s .0)
@@ -247,12 +247,14 @@ module _ (D : Dir) (E : ℕ) (z : (d : Dir) → Else D E d 0) where
   pub laws : Laws (toggles D E) Fitting
   laws = record {
     stands = λ x v r h. fits-of r h;
-    call = λ o x s r q. heard o x s r q;
+    call = λ o x s r q _. heard o x s r q;
     asks = λ o s. any (run concrete (code o) s);
     besides = λ o d b a t q h. (aside-view D E o d b a t q h, aside-wakes o d b a t h);
     new = λ c b. ups (new c b);
     unlent = unlent-too;
     fair-1 = λ o _ x _. fair-refused o 1 (x .1);
+    loads = λ o _ s _ _. first-any (λ _. tt) (run concrete (code o) s);
+    spares = λ o s. after-any (λ _ _. tt) (run concrete (code o) s);
   }
     where
       fits-of : {b : Bool} {X Y : Type 0} → (b ≡ true) ⊎ (X × Y) → b ≡ false → Y
@@ -323,7 +325,7 @@ module _ (D : Dir) (E : ℕ) (h : E % 16 ≡ 0 → ⊥) where
   together : {A : Type 0} {P : Bool × Track → A → St → Type 0} {Q : Writing → A → St
       → Type 0} {x : Bool × Track} {u : Writing}
       {o : tree.Out St A} → Sees (toggles D E) (λ _ _. Unit {0}) P x o
-      → Along (wrote D E) (λ _ _ _. Unit {0}) (following.Between D E) (λ _ _. Unit {0}) Q u o
+      → Along (λ u q x _. wrote D E u q x) (λ _ _ _. Unit {0}) (following.Between D E) (λ _ _. Unit {0}) Q u o
       → Sees (words D E) (λ _ _. Unit {0}) (λ y a t. P (y .0, y .1) a t × Q (y .2) a t) (x .0, x .1, u) o
   together (at-end p) (at-end q) = at-end (p, q)
   together (at-ask _ f) (at-ask _ g) = at-ask tt (λ v t b k. together (f v t tt k) (g v t tt k))
@@ -369,7 +371,7 @@ module _ (D : Dir) (E : ℕ) (h : E % 16 ≡ 0 → ⊥) where
   word-call : (o : Op) (x : Bool × Track × Writing) (s : St) → Fitting D E (not-ep0 D E h) (x .0, x .1) (view D E
       (s .0)) → Sorting (s .0)
       → Sees (words D E) (λ _ _. Unit {0}) (WordEnds o) (words D E .opens o (s .1) x) (run concrete (code o) s)
-  word-call o x s (inl e) q = watch-any (λ y. y .0 ≡ true) (λ _ _ _. tt) (λ _ _ _ g. g)
+  word-call o x s (inl e) q = watch-any (λ y. y .0 ≡ true) (λ _ _ _. tt) (λ _ _ _ _ g. g)
       (λ y a t g. (inl (rw g refl), λ _ z. differ (sym z ∙ g))) (words D E .opens o (s .1) x) e (run concrete
       (code o) s)
   word-call o x s (inr (i, f)) q =
@@ -381,12 +383,14 @@ module _ (D : Dir) (E : ℕ) (h : E % 16 ≡ 0 → ⊥) where
       let L = laws D E (not-ep0 D E h) in
       record {
         stands = λ _ _ _. tt;
-        call = word-call;
+        call = λ o x s r q _. word-call o x s r q;
         asks = L .asks;
         besides = L .besides;
         new = L .new;
         unlent = λ o h b x v r. L .unlent o h b (x .0, x .1) v r;
         fair-1 = λ o _ x _. refused-leaves o (x .2);
+        loads = λ o _ s _ _. first-any (λ _. tt) (run concrete (code o) s);
+        spares = λ o s. after-any (λ _ _. tt) (run concrete (code o) s);
       }
 
 -- DATA0 in the chip's control word (9.1.1.5, 9.4.5), of every endpoint but 0 that no call has allocated as an

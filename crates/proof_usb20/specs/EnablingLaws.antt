@@ -268,7 +268,7 @@ not-own false c h k = differ k
 
 module _ (D : Dir) (E : ℕ) where
   abbrev pub Marks : {A : Type 0} → (Writing → A → St → Type 0) → Writing → tree.Out St A → Type 0
-  Marks P u o = Along (wrote D E) (λ _ _ _. Unit {0}) (following.Between D E) (λ _ _. Unit {0}) P u o
+  Marks P u o = Along (λ u q x _. wrote D E u q x) (λ _ _ _. Unit {0}) (following.Between D E) (λ _ _. Unit {0}) P u o
 
   abbrev pub WordLaw : Op → Type 0
   WordLaw o = (w : Track) (s : St) → Fits w (view D E (s .0)) → isOn (epOn (s .0) D E .iso) ≡ false
@@ -276,8 +276,8 @@ module _ (D : Dir) (E : ℕ) where
 
   -- a call of which nothing is claimed
   pub leaves-any : (o : Op) → ((a : Answer) (u : Writing) → LeavesWord D E o a u) → WordLaw o
-  leaves-any o f w s r i = watch-any (λ _. Unit {0}) (λ _ _ _. tt) (λ _ _ _ _. tt) (λ x a _ _. f a x) (unwritten-yet w)
-      tt (run concrete (code o) s)
+  leaves-any o f w s r i = watch-any (λ _. Unit {0}) (λ _ _ _. tt) (λ _ _ _ _ _. tt) (λ x a _ _. f a x)
+      (unwritten-yet w) tt (run concrete (code o) s)
 
   abbrev Word0 : Bool → {A : Type 0} → Writing → A → St → Type 0
   Word0 b u _ _ = Restarts b (u .word)

@@ -15,6 +15,7 @@ use Rattle.regs.specs.ControlWord.{nak}
 use Rattle.regs.specs.Flags.{transfer}
 use Rattle.regs.specs.MisStatus.{sieFree}
 use Rattle.regs.specs.Status.{endpoint, token, outToken, inToken, isOut, isIn, togOk}
+use Rattle.script.specs.Machine.{Buf}
 use Rattle.script.specs.declared.Transfer.{Transfer}
 use Rattle.script.specs.Cells.{EpCore, ep-cell}
 use Rattle.script.specs.Script.{bind, ret, run}
@@ -47,18 +48,18 @@ in-naks st n t e h = rw (e, h) (by (inToken t))
     by true = refl
     by false = refl
 
-own-rx : (e v : ℕ) → eqb e 0 ≡ true → (w : Log) → writes EpRxCtrl e (nak v) (compared EpRxCtrl e v w) ≡ withRx
-    (nakked v (w .rx)) w
-own-rx e v h w = rw h refl
+own-rx : (e v : ℕ) → eqb e 0 ≡ true → (b : Buf) (w : Log)
+    → writes b EpRxCtrl e (nak v) (compared EpRxCtrl e v w) ≡ withRx (nakked v (w .rx)) w
+own-rx e v h b w = rw h refl
 
-own-tx : (e v : ℕ) → eqb e 0 ≡ true → (w : Log) → writes EpTxCtrl e (nak v) (compared EpTxCtrl e v w) ≡ withTx
-    (nakked v (w .tx)) w
-own-tx e v h w = rw h refl
+own-tx : (e v : ℕ) → eqb e 0 ≡ true → (b : Buf) (w : Log)
+    → writes b EpTxCtrl e (nak v) (compared EpTxCtrl e v w) ≡ withTx (nakked v (w .tx)) w
+own-tx e v h b w = rw h refl
 
-others-ctrl : (d : Dir) (e v n : ℕ) → eqb e 0 ≡ false → (w : Log)
-    → writes (ctrlOf d) e n (compared (ctrlOf d) e v w) ≡ w
-others-ctrl Out e v n h w = rw h refl
-others-ctrl In e v n h w = rw h refl
+others-ctrl : (d : Dir) (e v n : ℕ) → eqb e 0 ≡ false → (b : Buf) (w : Log)
+    → writes b (ctrlOf d) e n (compared (ctrlOf d) e v w) ≡ w
+others-ctrl Out e v n h b w = rw h refl
+others-ctrl In e v n h b w = rw h refl
 
 module _ (w : Log) (b : Bool) (shown n : ℕ) (s : St) (k : Plainly s) where
   abbrev L : Log → Log
@@ -69,13 +70,13 @@ module _ (w : Log) (b : Bool) (shown n : ℕ) (s : St) (k : Plainly s) where
   nak-other st h =
       watch-cond (outNaks st (concrete .get (ep-cell Out (endpoint st)) s))
       (λ _. at-ask {q = Read EpRxCtrl (endpoint st)} tt (λ v t _ i. at-ask tt (λ _ u _ j. at-end (
-        others-ctrl Out (endpoint st) v (nak v) h (L w),
+        others-ctrl Out (endpoint st) v (nak v) h (t .1) (L w),
         j .0 ∙ i .0,
         plainly (j .1),
       ))))
       (λ _. watch-cond (inNaks st (concrete .get (ep-cell In (endpoint st)) s))
       (λ _. at-ask {q = Read EpTxCtrl (endpoint st)} tt (λ v t _ i. at-ask tt (λ _ u _ j. at-end (
-        others-ctrl In (endpoint st) v (nak v) h (L w),
+        others-ctrl In (endpoint st) v (nak v) h (t .1) (L w),
         j .0 ∙ i .0,
         plainly (j .1),
       ))))
@@ -107,7 +108,7 @@ module _ (w : Log) (b : Bool) (shown n : ℕ) (s : St) (k : Plainly s) where
       watch-cond (outNaks st (concrete .get (ep-cell Out (endpoint st)) s))
       (λ _. at-ask {q = Read EpRxCtrl (endpoint st)} tt (λ v t _ i. at-ask tt (λ _ u _ j. at-end (record {
         read = v;
-        log = own-rx (endpoint st) v h (L w);
+        log = own-rx (endpoint st) v h (t .1) (L w);
         shown = j .0 ∙ i .0;
         plain = plainly (j .1);
       }))))
@@ -124,7 +125,7 @@ module _ (w : Log) (b : Bool) (shown n : ℕ) (s : St) (k : Plainly s) where
       (λ _. watch-cond (inNaks st (concrete .get (ep-cell In (endpoint st)) s))
       (λ _. at-ask {q = Read EpTxCtrl (endpoint st)} tt (λ v t _ i. at-ask tt (λ _ u _ j. at-end (record {
         read = v;
-        log = own-tx (endpoint st) v h (L w);
+        log = own-tx (endpoint st) v h (t .1) (L w);
         shown = j .0 ∙ i .0;
         plain = plainly (j .1);
       }))))
@@ -168,21 +169,21 @@ stays w s t x b e k = by (eqb (endpoint (x .st)) 0) refl
     by true h = mine h 0 (rw (b, naked-busy (token (x .st)) (togOk (x .st)) 0 w) refl) e k
     by false h = others h true (x .len) refl e k
 
-flag-kept : (st n f : ℕ) (w : Log) → transfer f ≡ true
-    → saw (withPhase (shows true st n) w) (Read IntFg 0) f ≡ withPhase (shows true st n) w
-flag-kept st n f w q = rw q refl
+flag-kept : (st n f : ℕ) (b : Buf) (w : Log) → transfer f ≡ true
+    → saw (withPhase (shows true st n) w) (Read IntFg 0) f b ≡ withPhase (shows true st n) w
+flag-kept st n f b w q = rw q refl
 
-flag-taken : (st n f : ℕ) (w : Log) → transfer f ≡ false
-    → saw (withPhase (shows true st n) w) (Read IntFg 0) f ≡ withPhase (again n) w
-flag-taken st n f w q = rw q refl
+flag-taken : (st n f : ℕ) (b : Buf) (w : Log) → transfer f ≡ false
+    → saw (withPhase (shows true st n) w) (Read IntFg 0) f b ≡ withPhase (again n) w
+flag-taken st n f b w q = rw q refl
 
 retakes : (w : Log) (s : St) (x : Transfer) → x .busy ≡ true → Plainly s
     → Watch Between Any (λ l y t. Settled w (view (s .0)) l y t) (withPhase (shows true (x .st) (x .len)) w)
     (run concrete (retake {i = true} x) s)
 retakes w s x b k = at-ask tt (λ m t _ i. watch-cond (sieFree m)
     (λ _. at-ask {q = Read IntFg 0} tt (λ f u _ j. watch-cond (transfer f)
-    (λ q. back (flag-kept (x .st) (x .len) f w q) (at-end (stays w s u x b (j .0 ∙ i .0) (plainly (j .1)))))
-    (λ q. back (flag-taken (x .st) (x .len) f w q)
+    (λ q. back (flag-kept (x .st) (x .len) f (t .1) w q) (at-end (stays w s u x b (j .0 ∙ i .0) (plainly (j .1)))))
+    (λ q. back (flag-taken (x .st) (x .len) f (t .1) w q)
     (at-ask {w = withPhase (again (x .len)) w} {q = Read IntSt 0} tt (λ st o _ l. named st o (l .0 ∙ (j .0
     ∙ i .0)) (plainly (l .1)))))))
     (λ _. at-end (stays w s t x b (i .0) (plainly (i .1)))))

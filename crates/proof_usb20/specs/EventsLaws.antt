@@ -1,5 +1,6 @@
 -- Log and state fit after each event of the bus: of the words, the pipe and the records alone
 use mathlib.Core.Bool.{Bool, true, false, not, cond, _&&_, _||_}
+use mathlib.Core.List.{List}
 use mathlib.Core.Logic.{_⊎_, inl, inr}
 use mathlib.Core.Path.{_≡_, refl, ap, subst, sym, _∙_}
 use Prim.Native.Nat.{ℕ}
@@ -18,7 +19,7 @@ use Rattle.proof_usb20.specs.Pipe.{data-stage, status-stage, Answers, na
 use Rattle.proof_usb20.specs.Pipe.{isReady, isStall, dataReady, Pipe, with, setup, token, after, Awaited, nothing}
 use Rattle.proof_usb20.specs.Pipe.{taken, given, confirmed}
 use Rattle.proof_usb20.specs.Log.{Ep0Word, writtenAs, readAs, shownAs, anew, Request, no-request, for-setup}
-use Rattle.proof_usb20.specs.Log.{for-data-in}
+use Rattle.proof_usb20.specs.Log.{for-data-in, SetupPacket, waits, Octets}
 use Rattle.proof_usb20.specs.Log.{for-status, for-data-out, isStage, isNothing, Shows}
 use Rattle.proof_usb20.specs.Ep0.{Rec, View, Fits, Unstaged, Rests, unstaged, set-up, Due, Gives, first-wait}
 use Rattle.proof_usb20.specs.Ep0.{second-wait, Waits, Rel, Says}
@@ -170,7 +171,7 @@ or-true true = refl
 or-true false = refl
 
 -- `exempt`, or not; a request of this sort
-pub packet-out : {rx tx : Ep0Word} {l g : ℕ} {p : Pipe} {a : Awaited} {w : Bool} {x : View} (exempt : Bool)
+pub packet-out : {rx tx : Ep0Word} {l g : ℕ} {p : Pipe} {a : Awaited} {w : SetupPacket} {x : View} (exempt : Bool)
     (q : Request) (u v n : ℕ)
     → Says q (x .control) → (exempt ≡ true) ⊎ Rel rx tx l g p a w x
     → (exempt || (not (isReady (p .out .answers)) && (isStall (p .out .answers) || (isStage q && isNothing a))) ≡ true)
@@ -240,7 +241,7 @@ stray-waits-in taken q p x n h e s w = w
 stray-waits-in (given last) q p x n h e s w = (w .0, w .1, stray-gives-in last p x n h (w .2))
 stray-waits-in (confirmed c) q p x n h e s w = (w .0, due-stray (p .inn) (x .inn) (completed n) h (w .1) on, w .2)
 
-pub packet-in : {rx tx : Ep0Word} {l g : ℕ} {p : Pipe} {a : Awaited} {w : Bool} {x : View} (exempt : Bool)
+pub packet-in : {rx tx : Ep0Word} {l g : ℕ} {p : Pipe} {a : Awaited} {w : SetupPacket} {x : View} (exempt : Bool)
     (q : Request) (u v n : ℕ)
     → Says q (x .control) → (exempt ≡ true) ⊎ Rel rx tx l g p a w x
     → (exempt || (not (isReady (p .inn .answers)) && (isStall (p .inn .answers) || (isStage q && isNothing a))) ≡ true)
@@ -283,7 +284,7 @@ data-is-ready stalls h = h
 data-is-ready (acks data-stage) h = refl
 data-is-ready (acks status-stage) h = refl
 
-pub token-out : {rx tx : Ep0Word} {l g : ℕ} {p : Pipe} {a : Awaited} {u : Bool} {x : View} (v : ℕ) (m : Bool)
+pub token-out : {rx tx : Ep0Word} {l g : ℕ} {p : Pipe} {a : Awaited} {u : SetupPacket} {x : View} (v : ℕ) (m : Bool)
     → isOn (x .inn .armed) ≡ m → Rel rx tx l g p a u x
     → Rel rx (cond m (nakflipped v tx) tx) l g (after (token Out) p) a u (cond m (setIn (completed (x .inn .len)) x) x)
 token-out {rx = rx} {tx = tx} {l = l} {g = g} {p = p} {a = a} {u = u} {x = x} v m e r = by m (dataReady
@@ -307,7 +308,7 @@ token-out {rx = rx} {tx = tx} {l = l} {g = g} {p = p} {a = a} {u = u} {x = x} v 
 
 -- ---- the token IN: the last packet OUT went through, if it was ready still; its length is its begin's
 
-pub token-in : {rx tx : Ep0Word} {l g : ℕ} {p : Pipe} {a : Awaited} {u : Bool} {x : View} (v : ℕ) (m : Bool)
+pub token-in : {rx tx : Ep0Word} {l g : ℕ} {p : Pipe} {a : Awaited} {u : SetupPacket} {x : View} (v : ℕ) (m : Bool)
     → isOn (x .out .armed) ≡ m → Rel rx tx l g p a u x
     → Rel (cond m (nakflipped v rx) rx) tx l g (after (token In) p) a u (cond m (setOut (completed (x .out .len)) x) x)
 token-in {rx = rx} {tx = tx} {l = l} {g = g} {p = p} {a = a} {u = u} {x = x} v m e r = by m (dataReady
@@ -337,16 +338,17 @@ aborted r = record { ready = 0; armed = 0; len = r .len }
 fresh : (c : Ep0Word) (r : Rec) → response (c .last) ≡ word.NAK → Fits (anew true c) renewed (aborted r)
 fresh c r h = record { shows = λ _. h; toggles = λ _ b. differ b; armed = off }
 
-pub set-up-fits : (rx tx : Ep0Word) (l g : ℕ) (p : Pipe) (x : View) → x .stage ≡ 2
+pub set-up-fits : (rx tx : Ep0Word) (l g : ℕ) (p : Pipe) (x : View) (bytes eight : List ℕ) → (Octets eight
+    → bytes ≡ eight) → x .stage ≡ 2
     → response (rx .last) ≡ word.NAK → response (tx .last) ≡ word.NAK
-    → Rel (anew true rx) (anew true tx) l g (after setup p) nothing true (setReady 1 (setIn (aborted (x .inn)) (setOut
-    (aborted (x .out)) x)))
-set-up-fits rx tx l g p x s h k = record {
+    → Rel (anew true rx) (anew true tx) l g (after setup p) nothing (waits eight) (setReady 1 bytes (setIn (aborted
+    (x .inn)) (setOut (aborted (x .out)) x)))
+set-up-fits rx tx l g p x bytes eight e s h k = record {
   stage = s;
   out = fresh rx (x .out) h;
   inn = fresh tx (x .inn) k;
   waits = set-up on off off refl refl;
   size = λ z. differ z;
   received = λ b. differ b;
-  setup = on;
+  setup = record { there = on; packet = e };
 }

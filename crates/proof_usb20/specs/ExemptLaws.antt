@@ -10,10 +10,11 @@ use Rattle.regs.specs.declared.Reg.the-variants.{DevAd, IntFg, IntSt, MisSt, Rx
 use Rattle.regs.specs.declared.Dir.the-variants.{Out, In}
 use Rattle.regs.specs.declared.Token as tokens
 use Rattle.regs.specs.declared.Token.the-variants as tok
-use Rattle.regs.specs.Flags.{transfer}
+use Rattle.regs.specs.Flags.{transfer, SETUP_ACT}
 use Rattle.regs.specs.Status as status
 use Rattle.regs.specs.Status.{endpoint, togOk}
 use Rattle.script.specs.Every.{sameReg}
+use Rattle.script.specs.Machine.{Buf}
 use Rattle.proof_usb20.specs.Pipe.{Event, setup, packet, token}
 use Rattle.proof_usb20.specs.Log.{Phase, off, entered, flagged, again, timed, shows, Log, withPhase, withGot}
 use Rattle.proof_usb20.specs.Log.{happens}
@@ -95,14 +96,15 @@ isEp0Dma (Ep0Dma y) = true
 isEp0Dma (Wait n) = false
 isEp0Dma Callback = false
 
-pub saw-kept : (w : Log) (q : Access) → isEp0Dma q ≡ false → (v : ℕ) → Kept w (saw w q v)
-saw-kept w (Read r e) d v = further (compared-kept r e v w) (reads-kept (w .phase) r v (compared r e v w))
-saw-kept w (Write r e v) d x = either (sameReg r EpRxCtrl) (either (eqb e 0) (parts refl refl refl refl) same)
+pub saw-kept : (w : Log) (q : Access) → isEp0Dma q ≡ false → (v : ℕ) (b : Buf) → Kept w (saw w q v b)
+saw-kept w (Read r e) d v b = further (compared-kept r e v w) (reads-kept (w .phase) r v (compared r e v w))
+saw-kept w (Write r e v) d x b = either (sameReg r EpRxCtrl) (either (eqb e 0) (parts refl refl refl refl) same)
     (either (sameReg r EpTxCtrl) (either (eqb e 0) (parts refl refl refl refl) same)
     (either (sameReg r EpTLen) (either (eqb e 0) (parts refl refl refl refl) same)
-    (either (sameReg r DevAd) (parts refl refl refl refl) same)))
-saw-kept w (Receive e y) d x = same
-saw-kept w (Transmit e y) d x = same
-saw-kept w (Ep0Dma y) d x = differ (sym d)
-saw-kept w (Wait n) d x = same
-saw-kept w Callback d x = same
+    (either (sameReg r DevAd) (parts refl refl refl refl) (either (sameReg r IntFg) (either (eqb v SETUP_ACT)
+    (parts refl refl refl refl) same) same))))
+saw-kept w (Receive e y) d x b = same
+saw-kept w (Transmit e y) d x b = same
+saw-kept w (Ep0Dma y) d x b = differ (sym d)
+saw-kept w (Wait n) d x b = same
+saw-kept w Callback d x b = same

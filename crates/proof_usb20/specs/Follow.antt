@@ -18,7 +18,7 @@ use Rattle.script_ops.specs.Concrete.{concrete}
 use Rattle.proof_book.specs.Sorting.{Sorting}
 use Rattle.script.specs.Machine.{ended}
 use Rattle.proof_wake_ups.specs.Rooms.{Few}
-use Rattle.proof_usb20.specs.Watch.{Along}
+use Rattle.proof_usb20.specs.Watch.{Along, Fitted}
 use Rattle.proof_usb20.specs.Sequence.{Track, saw, opens, closes, EndsByReason}
 
 pub record EpSeen : Type 0 where
@@ -49,11 +49,11 @@ module _ (D : Dir) (E : ℕ) where
 
   -- between two accesses: open, close and queue, and stores in the slots
   abbrev pub Between : St → St → Type 0
-  Between s t = (view (t .0) ≡ view (s .0)) × Sorting (t .0) × (t .0 .wakes ≡ s .0 .wakes)
+  Between s t = (view (t .0) ≡ view (s .0)) × Sorting (t .0) × (t .0 .wakes ≡ s .0 .wakes) × Fitted t
 
   -- `P` at each end, of what the log is then: nothing is asked of the chip, and any access is allowed
   abbrev pub Follow : {A : Type 0} → (Track → A → St → Type 0) → Track → tree.Out St A → Type 0
-  Follow P w o = Along (saw D E) (λ _ _ _. Unit {0}) Between (λ _ _. Unit {0}) P w o
+  Follow P w o = Along (λ w q v _. saw D E w q v) (λ _ _ _. Unit {0}) Between (λ _ _. Unit {0}) P w o
 
   abbrev pub Ends : Op → Track → Answer → St → Type 0
   Ends o w a s = Fits (closes D E o a w) (view (s .0)) × EndsByReason D E o a w

@@ -16,6 +16,7 @@ use Rattle.regs.specs.declared.Token.the-variants as tok
 use Rattle.regs.specs.ControlWord.{flip, nakflip}
 use Rattle.regs.specs.Status.{endpoint, isSof, togOk}
 use Rattle.script.specs.declared.Transfer.{Transfer}
+use Rattle.script.specs.Machine.{Buf}
 use Rattle.script.specs.Tree as tree
 use Rattle.script.specs.Cells.{EpCore, ep-cell, globals-cell}
 use Rattle.script.specs.Script.{Script, bind, test, get, when, run, waken, _>>=_, _>>_}
@@ -55,13 +56,27 @@ r-token-out w x y m h (k, inl e) = (kept m k, inl (rw e refl))
   where
     kept : (m : Bool) → Base (w .request) (w .started) (w .slot) x
         → Base (w .request) (w .started) (w .slot) (cond m (setIn (completed (x .inn .len)) x) x)
-    kept true k = record { says = k .says; started = k .started; maximum = k .maximum; slot = k .slot }
+    kept true k = record {
+      says = k .says;
+      started = k .started;
+      maximum = k .maximum;
+      slot = k .slot;
+      inside
+          = k .inside;
+    }
     kept false k = k
 r-token-out w x y m h (k, inr r) = (kept m k, inr (token-out y m h r))
   where
     kept : (m : Bool) → Base (w .request) (w .started) (w .slot) x
         → Base (w .request) (w .started) (w .slot) (cond m (setIn (completed (x .inn .len)) x) x)
-    kept true k = record { says = k .says; started = k .started; maximum = k .maximum; slot = k .slot }
+    kept true k = record {
+      says = k .says;
+      started = k .started;
+      maximum = k .maximum;
+      slot = k .slot;
+      inside
+          = k .inside;
+    }
     kept false k = k
 
 -- the token IN alone
@@ -72,13 +87,27 @@ r-token-in w x y m h (k, inl e) = (kept m k, inl (rw e refl))
   where
     kept : (m : Bool) → Base (w .request) (w .started) (w .slot) x
         → Base (w .request) (w .started) (w .slot) (cond m (setOut (completed (x .out .len)) x) x)
-    kept true k = record { says = k .says; started = k .started; maximum = k .maximum; slot = k .slot }
+    kept true k = record {
+      says = k .says;
+      started = k .started;
+      maximum = k .maximum;
+      slot = k .slot;
+      inside
+          = k .inside;
+    }
     kept false k = k
 r-token-in w x y m h (k, inr r) = (kept m k, inr (token-in y m h r))
   where
     kept : (m : Bool) → Base (w .request) (w .started) (w .slot) x
         → Base (w .request) (w .started) (w .slot) (cond m (setOut (completed (x .out .len)) x) x)
-    kept true k = record { says = k .says; started = k .started; maximum = k .maximum; slot = k .slot }
+    kept true k = record {
+      says = k .says;
+      started = k .started;
+      maximum = k .maximum;
+      slot = k .slot;
+      inside
+          = k .inside;
+    }
     kept false k = k
 
 -- a packet OUT of n bytes, put on NAK before it is seen and flipped after it
@@ -88,7 +117,7 @@ outSeen u n w = withGot n (happens (packet Out) (withRx (nakked u (w .rx)) w))
 r-packet-out : (w : Log) (x : View) (u v n : ℕ) → R w x
     → let z = outSeen u n w in R (withRx (flipped v (z .rx)) z) (setOut (completed n) x)
 r-packet-out w x u v n (k, f) = (
-  record { says = k .says; started = k .started; maximum = k .maximum; slot = k .slot },
+  record { says = k .says; started = k .started; maximum = k .maximum; slot = k .slot; inside = k .inside },
   packet-out (w .exempt) (w .request) u v n (k .says) f,
 )
 
@@ -107,7 +136,7 @@ inSeen u w = happens (packet In) (withTx (nakked u (w .tx)) w)
 r-packet-in : (w : Log) (x : View) (u v : ℕ) → R w x
     → let z = inSeen u w in R (withTx (flipped v (z .tx)) z) (setIn (completed (x .inn .len)) x)
 r-packet-in w x u v (k, f) = (
-  record { says = k .says; started = k .started; maximum = k .maximum; slot = k .slot },
+  record { says = k .says; started = k .started; maximum = k .maximum; slot = k .slot; inside = k .inside },
   packet-in (w .exempt) (w .request) u v (x .inn .len) (k .says) f,
 )
 
@@ -187,11 +216,11 @@ recOf Out y = y .out
 recOf In y = y .inn
 
 -- read, and written as f of it
-changed : (d : Dir) (f : ℕ → ℕ) (v : ℕ) (w : Log) → w .phase ≡ off
-    → writes (ctrlOf d) 0 (f v) (reads (w .phase) (ctrlOf d) v (compared (ctrlOf d) 0 v w))
+changed : (d : Dir) (f : ℕ → ℕ) (v : ℕ) (b : Buf) (w : Log) → w .phase ≡ off
+    → writes b (ctrlOf d) 0 (f v) (reads (w .phase) (ctrlOf d) v (compared (ctrlOf d) 0 v w))
     ≡ withCtrl d (writtenAs (f v) (readAs v (ctrl d w))) w
-changed Out f v w z = ap (λ p. writes EpRxCtrl 0 (f v) (reads p EpRxCtrl v (withRx (readAs v (w .rx)) w))) z
-changed In f v w z = ap (λ p. writes EpTxCtrl 0 (f v) (reads p EpTxCtrl v (withTx (readAs v (w .tx)) w))) z
+changed Out f v b w z = ap (λ p. writes b EpRxCtrl 0 (f v) (reads p EpRxCtrl v (withRx (readAs v (w .rx)) w))) z
+changed In f v b w z = ap (λ p. writes b EpTxCtrl 0 (f v) (reads p EpTxCtrl v (withTx (readAs v (w .tx)) w))) z
 
 same-ctrl : (d : Dir) (w : Log) → w ≡ withCtrl d (ctrl d w) w
 same-ctrl Out w = refl
@@ -228,7 +257,7 @@ served-word d f g len w s c n z = at-ask {q = Read (ctrlOf d) 0} tt (λ v t _ k.
     let p = g (concrete .get (ep-cell d 0) u) in
     at-end (record {
       read = v;
-      log = changed d f v w z;
+      log = changed d f v (t .1) w z;
       shown = act-view (waken (wakeCode d 0 ∷ [])) refl o ∙ (rec-view d g u (l .1 .places)
           ∙ (ap (λ (r : Rec). setRec d r (view (u .0))) (flags p (len (view (u .0))) (
             c (concrete .get
@@ -254,7 +283,7 @@ sent-in w s z = at-ask {q = Read EpTxCtrl 0} tt (λ v t _ k. at-ask tt (λ _ u _
     let o = inWith (withReady 1) m in
     at-end (record {
       read = v;
-      log = changed In flip v w z;
+      log = changed In flip v (t .1) w z;
       shown = act-view (waken (wakeCode In 0 ∷ [])) refl o ∙ (in-view (withReady 1) m (in-whole (withArmed 0) u h)
           ∙ (ap (λ (y : View). setIn (record { ready = 1; armed = y .inn .armed; len = y .inn .len }) y) (in-view
           (withArmed 0) u h)

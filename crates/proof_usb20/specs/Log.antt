@@ -1,11 +1,11 @@
 -- The pipe by what can be seen of the driver from outside: the calls and their answers, the accesses and the numbers
--- brought for them. The function's choices are calls, the bus's events are what an interrupt's readings show of
--- endpoint 0. It knows nothing of the driver's state.
+-- brought for them, the slot buffer. The function's choices are calls, the bus's events are what an interrupt's
+-- readings show of endpoint 0. It knows nothing of the driver's state.
 use mathlib.Core.Bool.{Bool, true, false, not, cond, _&&_, _||_}
-use mathlib.Core.List.{[]}
+use mathlib.Core.List.{List, [], _∷_}
 use mathlib.Core.Logic.{_⊎_}
 use mathlib.Core.Path.{_≡_}
-use Prim.Native.Nat.{ℕ, _%_}
+use Prim.Native.Nat.{ℕ, _%_, _<_}
 use lib.Dec.{eqb, ltb}
 use lib.ListN.{length}
 use Rattle.regs.specs.declared.Access.{Access}
@@ -17,7 +17,7 @@ use Rattle.regs.specs.declared.Token as tokens
 use Rattle.regs.specs.declared.Token.the-variants as tok
 use Rattle.regs.specs.ControlWord as word
 use Rattle.regs.specs.ControlWord.{response, toggle}
-use Rattle.regs.specs.Flags.{transfer, setupAct}
+use Rattle.regs.specs.Flags.{transfer, setupAct, SETUP_ACT}
 use Rattle.regs.specs.Status as status
 use Rattle.regs.specs.Status.{endpoint, togOk}
 use Rattle.regs.specs.MisStatus.{sieFree}
@@ -62,10 +62,19 @@ pub data Request : Type 0 where
   no-request for-setup for-data-in for-status : Request
   for-data-out : ℕ → Request
 
+-- the setup packet that no poll has given to the function yet, by its eight bytes
+pub data SetupPacket : Type 0 where
+  no-packet : SetupPacket
+  waits : List ℕ → SetupPacket
+
+abbrev pub isWaiting : SetupPacket → Bool
+isWaiting no-packet = false
+isWaiting (waits bytes) = true
+
 -- EP0's control words and its transmit length as they were last written; `got`: the length of the last packet OUT;
 -- `slot`: the address of EP0's slot, as it was last handed out; `lent`: the slot buffer as it was lent to the last
 -- begin;
--- `untaken`: a setup packet came that no poll has given to the function yet; `exempt`: something has happened since the
+-- `untaken`: the setup packet that no poll has given to the function yet; `exempt`: something has happened since the
 -- last setup packet of which USB 2.0 says nothing, or otherwise than the Rust (below)
 pub record Log : Type 0 where
   pub rx : Ep0Word
@@ -76,18 +85,19 @@ pub record Log : Type 0 where
   pub lent : Buf
   pub pipe : Pipe
   pub awaits : Awaited
-  pub untaken : Bool
+  pub untaken : SetupPacket
   pub exempt : Bool
   pub started : Bool  -- EP0's start has ended
   pub request : Request
   pub phase : Phase
   pub setup-seen : Bool
   pub wrote : Setting  -- the address that the call under way wrote to dev_ad, or none
+  pub eight : List ℕ  -- EP0's slot in the call that cleared the setup flag, of the interrupt under way
 
 -- by its parts, in their order
-abbrev logOf : Ep0Word → Ep0Word → ℕ → ℕ → ℕ → Buf → Pipe → Awaited → Bool → Bool → Bool → Request → Phase → Bool
-    → Setting → Log
-logOf rx tx n got slot lent p a untaken exempt started request phase seen setting = record {
+abbrev logOf : Ep0Word → Ep0Word → ℕ → ℕ → ℕ → Buf → Pipe → Awaited → SetupPacket → Bool → Bool → Request → Phase
+    → Bool → Setting → List ℕ → Log
+logOf rx tx n got slot lent p a untaken exempt started request phase seen setting eight = record {
   rx = rx;
   tx = tx;
   len = n;
@@ -103,44 +113,44 @@ logOf rx tx n got slot lent p a untaken exempt started request phase seen settin
   phase = phase;
   setup-seen = seen;
   wrote = setting;
+  eight = eight;
 }
 
 abbrev unwritten : Ep0Word
 unwritten = record { last = 0; read-back = false; in-step = false }
 
 abbrev pub before : Log
-before = logOf unwritten unwritten 0 0 0 [] (record { out = renewed; inn = renewed; size = 0 }) nothing false true false
-    no-request
-    off false keeps
+before = logOf unwritten unwritten 0 0 0 [] (record { out = renewed; inn = renewed; size = 0 }) nothing no-packet true
+    false no-request off false keeps []
 
 -- EP0's words, and its lengths
 abbrev pub withWords : Ep0Word → Ep0Word → ℕ → ℕ → Log → Log
 withWords rx tx n got w = logOf rx tx n got (w .slot) (w .lent) (w .pipe) (w .awaits) (w .untaken) (w .exempt)
     (w .started) (w .request)
-    (w .phase) (w .setup-seen) (w .wrote)
+    (w .phase) (w .setup-seen) (w .wrote) (w .eight)
 
--- the pipe, what is waited for, whether a setup packet is untaken, and whether the log is exempt
-abbrev pub withPipe : Pipe → Awaited → Bool → Bool → Log → Log
+-- the pipe, what is waited for, the setup packet that is untaken, and whether the log is exempt
+abbrev pub withPipe : Pipe → Awaited → SetupPacket → Bool → Log → Log
 withPipe p a untaken exempt w = logOf (w .rx) (w .tx) (w .len) (w .got) (w .slot) (w .lent) p a untaken exempt
     (w .started) (w .request)
-    (w .phase) (w .setup-seen) (w .wrote)
+    (w .phase) (w .setup-seen) (w .wrote) (w .eight)
 
 -- the calls: whether EP0 is started, and the request
 abbrev pub withCalls : Bool → Request → Log → Log
 withCalls started q w = logOf (w .rx) (w .tx) (w .len) (w .got) (w .slot) (w .lent) (w .pipe) (w .awaits) (w .untaken)
     (w .exempt) started q
-    (w .phase) (w .setup-seen) (w .wrote)
+    (w .phase) (w .setup-seen) (w .wrote) (w .eight)
 
 -- what was seen of the call under way
-abbrev pub withSight : Phase → Bool → Setting → Log → Log
-withSight p s a w = logOf (w .rx) (w .tx) (w .len) (w .got) (w .slot) (w .lent) (w .pipe) (w .awaits) (w .untaken)
+abbrev pub withSight : Phase → Bool → Setting → List ℕ → Log → Log
+withSight p s a l w = logOf (w .rx) (w .tx) (w .len) (w .got) (w .slot) (w .lent) (w .pipe) (w .awaits) (w .untaken)
     (w .exempt) (w .started)
-    (w .request) p s a
+    (w .request) p s a l
 
 -- EP0's slot, and the buffer
 abbrev pub withSlots : ℕ → Buf → Log → Log
 withSlots slot lent w = logOf (w .rx) (w .tx) (w .len) (w .got) slot lent (w .pipe) (w .awaits) (w .untaken) (w .exempt)
-    (w .started) (w .request) (w .phase) (w .setup-seen) (w .wrote)
+    (w .started) (w .request) (w .phase) (w .setup-seen) (w .wrote) (w .eight)
 
 abbrev pub withRx : Ep0Word → Log → Log
 withRx v w = withWords v (w .tx) (w .len) (w .got) w
@@ -158,19 +168,22 @@ abbrev pub withRequest : Request → Log → Log
 withRequest q w = withCalls (w .started) q w
 
 abbrev pub withPhase : Phase → Log → Log
-withPhase p w = withSight p (w .setup-seen) (w .wrote) w
+withPhase p w = withSight p (w .setup-seen) (w .wrote) (w .eight) w
 
 abbrev pub withFlags : ℕ → Log → Log
-withFlags v w = withSight (cond (transfer v) flagged off) (setupAct v) (w .wrote) w
+withFlags v w = withSight (cond (transfer v) flagged off) (setupAct v) (w .wrote) (w .eight) w
 
 abbrev pub withWrote : Setting → Log → Log
-withWrote a w = withSight (w .phase) (w .setup-seen) a w
+withWrote a w = withSight (w .phase) (w .setup-seen) a (w .eight) w
+
+abbrev pub withEight : List ℕ → Log → Log
+withEight l w = withSight (w .phase) (w .setup-seen) (w .wrote) l w
 
 abbrev pub withAwaits : Awaited → Log → Log
 withAwaits a w = withPipe (w .pipe) a (w .untaken) (w .exempt) w
 
 abbrev pub withTaken : Log → Log
-withTaken w = withPipe (w .pipe) (w .awaits) false (w .exempt) w
+withTaken w = withPipe (w .pipe) (w .awaits) no-packet (w .exempt) w
 
 -- ---- control words
 
@@ -216,6 +229,9 @@ abbrev pub stale : Log → Bool
 stale w = isStage (w .request) && isNothing (w .awaits)
 
 -- such a packet takes a STALL back, or answers the poll of a request that a setup packet has ended
+-- DIFFERENCES c: exempt; a token completes a stage over a halt, or takes a reject's STALL back
+-- DIFFERENCES f: exempt; a packet that was not ready answers the poll of a request that a setup packet has ended. Else
+-- its PID alone is unknown (`in-step`)
 abbrev pub breaks : Event → Log → Bool
 breaks setup w = false
 breaks (packet d) w = not (isReady (half d (w .pipe) .answers)) && (isStall (half d (w .pipe) .answers) || stale w)
@@ -226,9 +242,15 @@ happens e w = withPipe (after e (w .pipe)) (w .awaits) (w .untaken) (w .exempt |
 
 -- a setup packet ends what the function waits for, and all exemption; both words are written outright
 abbrev pub set-up : Log → Log
-set-up w = withPipe (after setup (w .pipe)) nothing true false (withRx (anew true (w .rx)) (withTx (anew true (w .tx)) w))
+set-up w = withPipe (after setup (w .pipe)) nothing (waits (w .eight)) false
+    (withRx (anew true (w .rx)) (withTx (anew true (w .tx)) w))
 
 -- what the status shows of endpoint 0: a transaction that is complete, if the bus was free; the token in any case
+-- DIFFERENCES k: claimed; a SOF shows no stage, so the stage that it hides is not over, and the address is not written
+-- DIFFERENCES l: claimed; an IN that is shown while a packet is ready counts as sent, as the Rust takes it
+-- DIFFERENCES m: claimed; as l, packet by packet
+-- DIFFERENCES n: claimed; as k, of an OUT
+-- DIFFERENCES p: claimed; an OUT without tog_ok is no packet
 abbrev pub ofToken : tokens.Token → Bool → Bool → ℕ → Log → Log
 ofToken tok.Out busy ok n w = happens (token Out) (cond (not busy && ok) (withGot n (happens (packet Out) w)) w)
 ofToken tok.In busy ok n w = happens (token In) (cond busy w (happens (packet In) w))
@@ -252,20 +274,26 @@ abbrev pub compared : Reg → ℕ → ℕ → Log → Log
 compared r e v w = cond (sameReg r EpRxCtrl) (cond (eqb e 0) (withRx (readAs v (w .rx)) w) w)
     (cond (sameReg r EpTxCtrl) (cond (eqb e 0) (withTx (readAs v (w .tx)) w) w) w)
 
-abbrev pub writes : Reg → ℕ → ℕ → Log → Log
-writes r e v w = cond (sameReg r EpRxCtrl) (cond (eqb e 0) (withRx (writtenAs v (w .rx)) w) w)
-    (cond (sameReg r EpTxCtrl) (cond (eqb e 0) (withTx (writtenAs v (w .tx)) w) w)
-    (cond (sameReg r EpTLen) (cond (eqb e 0) (withLen v w) w) (cond (sameReg r DevAd) (withWrote (sets v) w) w)))
+-- the call that clears the setup flag: the setup packet is the first eight bytes of EP0's slot then
+abbrev pub clears : Buf → ℕ → Log → Log
+clears b v w = cond (eqb v SETUP_ACT) (withEight (bytesAt b (w .slot) 8) w) w
 
--- an access, and the number brought for it: whatever the chip answers
-abbrev pub saw : Log → Access → ℕ → Log
-saw w (Read r e) v = reads (w .phase) r v (compared r e v w)
-saw w (Write r e v) x = writes r e v w
-saw w (Receive e y) x = w
-saw w (Transmit e y) x = w
-saw w (Ep0Dma y) x = withSlots y (w .lent) w
-saw w (Wait n) x = w
-saw w Callback x = w
+abbrev pub writes : Buf → Reg → ℕ → ℕ → Log → Log
+writes b r e v w = cond (sameReg r EpRxCtrl) (cond (eqb e 0) (withRx (writtenAs v (w .rx)) w) w)
+    (cond (sameReg r EpTxCtrl) (cond (eqb e 0) (withTx (writtenAs v (w .tx)) w) w)
+    (cond (sameReg r EpTLen) (cond (eqb e 0) (withLen v w) w)
+    (cond (sameReg r DevAd) (withWrote (sets v) w) (cond (sameReg r IntFg) (clears b v w) w))))
+
+-- an access, and the number brought for it: whatever the chip answers. b: the slot buffer as the call left it that
+-- handed the access out
+abbrev pub saw : Log → Access → ℕ → Buf → Log
+saw w (Read r e) v b = reads (w .phase) r v (compared r e v w)
+saw w (Write r e v) x b = writes b r e v w
+saw w (Receive e y) x b = w
+saw w (Transmit e y) x b = w
+saw w (Ep0Dma y) x b = withSlots y (w .lent) w
+saw w (Wait n) x b = w
+saw w Callback x b = w
 
 -- ---- the function's choices
 
@@ -276,6 +304,8 @@ outright (gives n first last) w = withRx (anew last (w .rx)) (withTx (anew first
 outright (confirms s) w = withTx (anew true (w .tx)) w
 outright rejects w = w
 
+-- DIFFERENCES d: exempt; a stage begun without `first` right after the setup packet is out of order (`orderly`)
+-- DIFFERENCES h: exempt; so is a status stage over a data packet that is still ready
 abbrev pub choose : Choice → Log → Log
 choose c w = withPipe (chosen c (w .pipe)) (awaitedBy c) (w .untaken) (w .exempt || not (orderly c (w .pipe)))
     (outright c w)
@@ -288,13 +318,16 @@ abbrev pub afresh : Buf → Log → Log
 afresh b w = withPhase off (withWrote keeps (withSlots (w .slot) b w))
 
 abbrev pub opens : Op → Buf → Log → Log
-opens interrupt b w = withSight entered false keeps (withSlots (w .slot) b w)
+opens interrupt b w = withSight entered false keeps [] (withSlots (w .slot) b w)
 opens (slotted o) b w = afresh b w
 opens (other o) b w = afresh b w
 opens (aside o) b w = afresh b w
 
--- it ends with a result: a begin is the function's choice, and notes a request; a bus reset (result 2) and a halt of
--- EP0 set or cleared by a call exempt. A data_out of m bytes has m until its packet is seen, and the closing OUT none
+-- it ends with a result: a begin is the function's choice, and notes a request. A data_out of m bytes has m until its
+-- packet is seen, and the closing OUT none
+-- DIFFERENCES a: exempt; a halt of EP0 set or cleared by a call
+-- DIFFERENCES b: exempt; as a
+-- DIFFERENCES e: exempt; a bus reset (result 2). EP0's start exempts too: no setup packet has come
 abbrev pub endsOther : Other → ℕ → Log → Log
 endsOther (Allocate d kind address maximum interval) n w = w
 endsOther (AllocateAll bytes) n w = w
@@ -330,6 +363,7 @@ endsSlotted (PollDataOut n) w = w
 endsSlotted (BeginDataIn bs first last) w =
     choose (gives (length bs) first last) (withGot (closingGot last w) (withRequest for-data-in w))
 
+-- DIFFERENCES j: claimed; of a setup packet and a transfer in one interrupt the transfer is served first
 abbrev pub ends : Op → ℕ → Log → Log
 ends interrupt n w = cond (w .setup-seen) (set-up w) w
 ends (slotted o) n w = endsSlotted o w
@@ -421,7 +455,17 @@ Complete q b w = w .exempt ≡ false → asksAfter q (w .awaits) && over (w .awa
 
 -- a setup packet came that the function has not taken, or none
 abbrev pub Untaken : Bool → Log → Type 0
-Untaken b w = w .exempt ≡ false → w .untaken ≡ b
+Untaken b w = w .exempt ≡ false → isWaiting (w .untaken) ≡ b
+
+-- these are bytes: a lent buffer has no others
+abbrev pub Octets : List ℕ → Type 0
+Octets [] = Unit {0}
+Octets (x ∷ xs) = (x < 256) × Octets xs
+
+-- the bytes of the setup packet that is untaken
+abbrev pub IsPacket : List ℕ → SetupPacket → Type 0
+IsPacket bytes no-packet = Unit {0}
+IsPacket bytes (waits eight) = Octets eight → bytes ≡ eight
 
 -- a request of the poll's sort was begun
 abbrev pub begun : Poll → Request → Bool
@@ -509,12 +553,13 @@ Wrote NotYet w = Unit {0}
 Wrote (Done bytes) w = w .exempt ≡ false → w .awaits ≡ confirmed (w .wrote)
 Wrote (Shown bytes stamp) w = Unit {0}
 
--- a setup's poll gives a packet exactly if there is one, and that has eight bytes (8.5.3)
+-- a setup's poll gives a packet exactly if there is one, and that has eight bytes (8.5.3): those of EP0's slot in the
+-- call that cleared the flag
 abbrev pub GivesSetup : Answer → Log → Type 0
 GivesSetup (Refused n) w = Refuses false w ⊥ ⊥ (begun pollSetup (w .request) ≡ false) n
 GivesSetup (End n ws) w = ⊥
 GivesSetup NotYet w = Untaken false w
-GivesSetup (Done bytes) w = Untaken true w × (length bytes ≡ 8)
+GivesSetup (Done bytes) w = Untaken true w × (length bytes ≡ 8) × (w .exempt ≡ false → IsPacket bytes (w .untaken))
 GivesSetup (Shown bytes stamp) w = ⊥
 
 -- a data_out's poll that is done gives the packet: as many bytes of EP0's slot, as it is lent to that poll
@@ -590,3 +635,35 @@ AllowedTo pollStatus w q = Complete pollStatus true w × (w .exempt ≡ false �
 
 abbrev pub Allowed : Op → Log → Access → Type 0
 Allowed o w q = AllowedTo (pollOf o) w q
+
+-- ---- what is claimed of the slot buffer
+
+-- the packet of a data_in lies in EP0's slot, as its begin leaves it
+abbrev pub LoadsSlotted : Slotted → Log → Buf → Type 0
+LoadsSlotted (SetEnabled d e on) w b = Unit {0}
+LoadsSlotted (PollRead e n) w b = Unit {0}
+LoadsSlotted (BeginWrite e bs) w b = Unit {0}
+LoadsSlotted (PollWrite e bs) w b = Unit {0}
+LoadsSlotted (PollDataOut n) w b = Unit {0}
+LoadsSlotted (BeginDataIn bs first last) w b = bytesAt b (w .slot) (length bs) ≡ bs
+
+abbrev pub Loads : Op → Log → Buf → Type 0
+Loads interrupt w b = Unit {0}
+Loads (slotted o) w b = LoadsSlotted o w b
+Loads (other o) w b = Unit {0}
+Loads (aside o) w b = Unit {0}
+
+-- each later call of it leaves the slot buffer as it is lent it: up to where its length is handed out, and after that
+abbrev pub SparesSlotted : Slotted → Buf → Buf → Type 0
+SparesSlotted (SetEnabled d e on) b l = Unit {0}
+SparesSlotted (PollRead e n) b l = Unit {0}
+SparesSlotted (BeginWrite e bs) b l = Unit {0}
+SparesSlotted (PollWrite e bs) b l = Unit {0}
+SparesSlotted (PollDataOut n) b l = Unit {0}
+SparesSlotted (BeginDataIn bs first last) b l = l ≡ b
+
+abbrev pub Spares : Op → Buf → Buf → Type 0
+Spares interrupt b l = Unit {0}
+Spares (slotted o) b l = SparesSlotted o b l
+Spares (other o) b l = Unit {0}
+Spares (aside o) b l = Unit {0}

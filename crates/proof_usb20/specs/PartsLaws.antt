@@ -32,7 +32,7 @@ use Rattle.proof_usb20.specs.Watch.{at-end}
 use Rattle.proof_usb20.specs.QuietLaws.{LeavesLog, steadily, q-ret, q-bind, q-test, q-if, q-read-of, q-write}
 use Rattle.proof_usb20.specs.QuietLaws.{q-callback, other-read}
 use Rattle.proof_usb20.specs.QuietLaws.{q-get, q-is, q-look, q-act, q-hand, q-modify, Other, put-other, put-frame}
-use Rattle.proof_usb20.specs.QuietLaws.{put-kept, other-word, other-length, q-every}
+use Rattle.proof_usb20.specs.QuietLaws.{put-kept, setupOf, other-word, other-length, q-every}
 use Rattle.proof_usb20.specs.WalksLaws.{Each}
 
 -- ---- small ones
@@ -58,7 +58,7 @@ q-reg d e f h = q-bind (q-read-of (other-read d e h) (λ _. q-ret)) (λ v. q-wri
 pub q-ep : {i : Bool} (d : Dir) (e : ℕ) (f : EpCore → EpCore) → Other e → LeavesLog (modifyEp {i = i} d e f)
 q-ep d e f o = q-modify (ep-cell d e) f (λ s. put-other d e o (f (concrete .get (ep-cell d e) s)) s)
 
-pub q-globals : {i : Bool} (f : Globals → Globals) → ((g : Globals) → f g .«setup_ready» ≡ g .«setup_ready»)
+pub q-globals : {i : Bool} (f : Globals → Globals) → ((g : Globals) → setupOf (f g) ≡ setupOf g)
     → LeavesLog (modify {i = i} f)
 q-globals f h = q-modify globals-cell f (λ s. put-kept f h s)
 

@@ -26,7 +26,7 @@ use Rattle.proof_book.specs.Sorting.{Sorting}
 use Rattle.proof_usb20.specs.Pipe.{Half, Pipe, Awaited, nothing, taken, given, confirmed, over, keeps, sets}
 use Rattle.proof_usb20.specs.Log.{Ep0Word, Request, no-request, for-setup, for-data-in, for-status, for-data-out}
 use Rattle.proof_usb20.specs.Log.{Log, afresh, Accepted, Allowed, asksAfter, pollSetup, pollOut, pollIn}
-use Rattle.proof_usb20.specs.Log.{pollStatus}
+use Rattle.proof_usb20.specs.Log.{pollStatus, SetupPacket, no-packet}
 use Rattle.proof_usb20.specs.Log.{begun, otherLength, Complete, unstarted, ended, misfits, unbegun}
 use Rattle.proof_usb20.specs.Watch.{at-end, at-ask}
 use Rattle.proof_usb20.specs.WatchLaws.{watch-cond}
@@ -55,17 +55,19 @@ pub record Kin (x y : View) : Type 0 where
   pub stage : y .stage ≡ x .stage
   pub maximum : y .maximum ≡ x .maximum
   pub buffer : y .buffer ≡ x .buffer
+  pub room : y .room ≡ x .room
   pub setup : y .setup-ready ≡ x .setup-ready
+  pub bytes : y .setup-bytes ≡ x .setup-bytes
 
 refit : {c : Ep0Word} {h : Half} {r s : Rec} → s .armed ≡ r .armed → Fits c h r → Fits c h s
 refit e f = record { shows = f .shows; toggles = f .toggles; armed = ap isOn e ∙ f .armed }
 
-pub over-now : {q : Request} {b ex : Bool} {m : ℕ} {rx tx : Ep0Word} {l g : ℕ} {p : Pipe} {a : Awaited} {u : Bool}
-    {x y : View} → Base q b m x
+pub over-now : {q : Request} {b ex : Bool} {m : ℕ} {rx tx : Ep0Word} {l g : ℕ} {p : Pipe} {a : Awaited}
+    {u : SetupPacket} {x y : View} → Base q b m x
     → (ex ≡ true) ⊎ Rel rx tx l g p a u x → Kin x y → y .control ≡ no-control
     → Line no-request b m ex rx tx l g p nothing u y
 over-now {ex = ex} {rx = rx} {tx = tx} {l = l} {g = g} {p = p} {a = a} {u = u} {x = x} {y = y} k f i c =
-    (requested k (i .stage) (i .maximum) (i .buffer) (ap (λ (z : Control). z .sort) c), by f)
+    (requested k (i .stage) (i .maximum) (i .buffer) (i .room) (ap (λ (z : Control). z .sort) c), by f)
   where
     by : (ex ≡ true) ⊎ Rel rx tx l g p a u x → (ex ≡ true) ⊎ Rel rx tx l g p nothing u y
     by (inl e) = inl e
@@ -76,7 +78,7 @@ over-now {ex = ex} {rx = rx} {tx = tx} {l = l} {g = g} {p = p} {a = a} {u = u} {
       waits = rested c;
       size = r .size;
       received = λ h. i .len ∙ r .received h;
-      setup = ap isOn (i .setup) ∙ r .setup;
+      setup = rw (i .setup, i .bytes) (r .setup);
     })
 
 -- ---- the states
@@ -96,21 +98,42 @@ kin-none s = kin-by (view (s .0)) (none-view s) (record {
   inn = refl;
   len = refl;
   stage = refl;
-  maximum
-      = refl;
+  maximum = refl;
   buffer = refl;
+  room = refl;
   setup = refl;
+  bytes = refl;
 })
 
 kin-out : (s : St) → Whole s → Kin (view (s .0)) (view (none (outWith (withReady 0) s) .0))
 kin-out s h = kin-by (view (s .0)) (none-view (outWith (withReady 0) s)
     ∙ ap (setControl no-control) (out-view (withReady 0) s h))
-    (record { out = refl; inn = refl; len = refl; stage = refl; maximum = refl; buffer = refl; setup = refl })
+    (record {
+      out = refl;
+      inn = refl;
+      len = refl;
+      stage = refl;
+      maximum = refl;
+      buffer = refl;
+      room = refl;
+      setup = refl;
+      bytes = refl;
+    })
 
 kin-in : (s : St) → Whole s → Kin (view (s .0)) (view (none (inWith (withReady 0) s) .0))
 kin-in s h = kin-by (view (s .0)) (none-view (inWith (withReady 0) s)
     ∙ ap (setControl no-control) (in-view (withReady 0) s h))
-    (record { out = refl; inn = refl; len = refl; stage = refl; maximum = refl; buffer = refl; setup = refl })
+    (record {
+      out = refl;
+      inn = refl;
+      len = refl;
+      stage = refl;
+      maximum = refl;
+      buffer = refl;
+      room = refl;
+      setup = refl;
+      bytes = refl;
+    })
 
 kin-both : (s : St) → Whole s → Kin (view (s .0)) (view (none (inWith (withReady 0) (outWith (withReady 0) s)) .0))
 kin-both s h = kin-by (view (s .0))
@@ -118,7 +141,17 @@ kin-both s h = kin-by (view (s .0))
     (in-view (withReady 0) (outWith (withReady 0) s) (out-whole (withReady 0) s h)
     ∙ ap (λ (y : View). setIn (record { ready = 0; armed = y .inn .armed; len = y .inn .len }) y) (out-view
     (withReady 0) s h)))
-    (record { out = refl; inn = refl; len = refl; stage = refl; maximum = refl; buffer = refl; setup = refl })
+    (record {
+      out = refl;
+      inn = refl;
+      len = refl;
+      stage = refl;
+      maximum = refl;
+      buffer = refl;
+      room = refl;
+      setup = refl;
+      bytes = refl;
+    })
 
 done-none : (s : St) → view (none s .0) .control ≡ no-control
 done-none s = ap (λ (x : View). x .control) (none-view s)
@@ -159,13 +192,14 @@ none-status for-status c s h = differ (sym h ∙ ap (λ (n : ℕ). eqb n 4) s)
 none-status (for-data-out m) c s h = refl
 
 pub law-poll-setup : Law (other PollSetup)
+unfolding setupBytes
 law-poll-setup w s (k, f) z =
     watch-cond (eqb (s .0 .globals .stage) 2)
     (λ _. watch-cond (eqb (s .0 .control .sort) SETUP)
     (λ q. watch-cond (isOn (s .0 .globals .«setup_ready»)) (λ o. at-end (
-      moved seen (requested k refl refl refl refl, taken-setup f (eqb-true (s .0 .control .sort) SETUP q)),
-      (λ h. sym (fit-of f h .setup) ∙ o, eight (s .0 .globals)),
-    )) (λ o. at-end ((k, f), λ h. sym (fit-of f h .setup) ∙ o)))
+      moved seen (requested k refl refl refl refl refl, taken-setup f (eqb-true (s .0 .control .sort) SETUP q)),
+      (λ h. sym (fit-of f h .setup .there) ∙ o, eight (s .0 .globals), λ h. fit-of f h .setup .packet),
+    )) (λ o. at-end ((k, f), λ h. sym (fit-of f h .setup .there) ∙ o)))
     (λ q. at-end ((k, f), unbegun (none-setup (w .request) (s .0 .control) (k .says) q))))
     (λ q. at-end ((k, f), unstarted (not-started k q)))
   where
@@ -173,13 +207,14 @@ law-poll-setup w s (k, f) z =
     x = concrete .put globals-cell (withSetup 0 (s .0 .globals .«setup_low») (s .0 .globals .«setup_high»)
         (s .0 .globals)) s
 
-    seen : view (none x .0) ≡ setControl no-control (setReady 0 (view (s .0)))
+    seen : view (none x .0) ≡ setControl no-control (setReady 0 (setupBytes (s .0 .globals)) (view (s .0)))
     seen = none-view x ∙ ap (setControl no-control) (put-globals
         (withSetup 0 (s .0 .globals .«setup_low») (s .0 .globals .«setup_high») (s .0 .globals)) s)
 
     by : (a : Awaited) → Rel (w .rx) (w .tx) (w .len) (w .got) (w .pipe) a (w .untaken) (view (s .0))
         → s .0 .control .sort ≡ 1
-        → Rel (w .rx) (w .tx) (w .len) (w .got) (w .pipe) a false (setControl no-control (setReady 0 (view (s .0))))
+        → Rel (w .rx) (w .tx) (w .len) (w .got) (w .pipe) a no-packet
+        (setControl no-control (setReady 0 (setupBytes (s .0 .globals)) (view (s .0))))
     by nothing r q = record {
       stage = r .stage;
       out = r .out;
@@ -187,15 +222,15 @@ law-poll-setup w s (k, f) z =
       waits = rested refl;
       size = r .size;
       received = r .received;
-      setup = fitting.off;
+      setup = record { there = fitting.off; packet = tt };
     }
     by taken r q = absurd (omega (arith, q, r .waits .0))
     by (given last) r q = absurd (omega (arith, q, r .waits .0))
     by (confirmed s) r q = absurd (omega (arith, q, r .waits .0))
 
     taken-setup : Fit w (view (s .0)) → s .0 .control .sort ≡ 1
-        → (w .exempt ≡ true) ⊎ Rel (w .rx) (w .tx) (w .len) (w .got) (w .pipe) (w .awaits) false
-        (setControl no-control (setReady 0 (view (s .0))))
+        → (w .exempt ≡ true) ⊎ Rel (w .rx) (w .tx) (w .len) (w .got) (w .pipe) (w .awaits) no-packet
+        (setControl no-control (setReady 0 (setupBytes (s .0 .globals)) (view (s .0))))
     taken-setup (inl e) q = inl e
     taken-setup (inr r) q = inr (by (w .awaits) r q)
 
@@ -209,7 +244,8 @@ nothing-ready (set-up e f g h i) = (λ _ o. sym f ∙ o, λ _ o. sym g ∙ o)
 -- ---- data_out
 
 -- not ready: the wait goes on, or a setup packet has ended it
-ready-out : (a : Awaited) {rx tx : Ep0Word} {l g : ℕ} {p : Pipe} {u b : Bool} {x : View} → Rel rx tx l g p a u x
+ready-out : (a : Awaited) {rx tx : Ep0Word} {l g : ℕ} {p : Pipe} {u : SetupPacket} {b : Bool} {x : View}
+    → Rel rx tx l g p a u x
     → x .control .sort ≡ 2
     → isOn (x .out .ready) ≡ b → asksAfter pollOut a && over a p ≡ b
 ready-out nothing r q o = nothing-ready (r .waits) .0 q o
@@ -218,7 +254,7 @@ ready-out (given last) r q o = absurd (omega (arith, q, r .waits .0))
 ready-out (confirmed s) r q o = absurd (omega (arith, q, r .waits .0))
 
 -- the record has the packet's length
-received-out : (a : Awaited) {rx tx : Ep0Word} {l g : ℕ} {p : Pipe} {u : Bool} {x : View} → Rel rx tx l g p a u x
+received-out : (a : Awaited) {rx tx : Ep0Word} {l g : ℕ} {p : Pipe} {u : SetupPacket} {x : View} → Rel rx tx l g p a u x
     → x .control .sort ≡ 2 → isOn (x .out .ready) ≡ true → x .out .len ≡ g
 received-out nothing r q o = differ (nothing-ready (r .waits) .0 q o)
 received-out taken r q o = r .received (r .waits .1 .begun)
@@ -264,7 +300,7 @@ law-poll-data-out n w s (k, f) z =
       (
         (
           λ h. ready-out (w .awaits) (fit-of f h) two o,
-          λ h. sym (fit-of f h .setup)
+          λ h. sym (fit-of f h .setup .there)
               ∙ g,
         ),
         tt,
@@ -292,7 +328,8 @@ law-poll-data-out n w s (k, f) z =
 
 -- ---- accept
 
-ready-status : (a : Awaited) {rx tx : Ep0Word} {l g : ℕ} {p : Pipe} {u b : Bool} {x : View} → Rel rx tx l g p a u x
+ready-status : (a : Awaited) {rx tx : Ep0Word} {l g : ℕ} {p : Pipe} {u : SetupPacket} {b : Bool} {x : View}
+    → Rel rx tx l g p a u x
     → x .control .sort ≡ 4
     → isOn (x .inn .ready) ≡ b → asksAfter pollStatus a && over a p ≡ b
 ready-status nothing r q o = nothing-ready (r .waits) .1 q o
@@ -301,7 +338,8 @@ ready-status (given last) r q o = absurd (omega (arith, q, r .waits .0))
 ready-status (confirmed s) r q o = sym (r .waits .1 .ready) ∙ o
 
 -- the address that is written is the accepted one, if one is
-address-written : (a : Awaited) {rx tx : Ep0Word} {l g : ℕ} {p : Pipe} {u : Bool} {x : View} → Rel rx tx l g p a u x
+address-written : (a : Awaited) {rx tx : Ep0Word} {l g : ℕ} {p : Pipe} {u : SetupPacket} {x : View}
+    → Rel rx tx l g p a u x
     → x .control .sort ≡ 4
     → isOn (x .inn .ready) ≡ true → isOn (x .control .«sets_address») ≡ true
     → Accepted a (x .control .address % 128) × (a ≡ confirmed (sets (x .control .address % 128)))
@@ -315,7 +353,7 @@ address-written (confirmed (sets a)) r q o h = (
       (sym (r .waits .2 .1)),
 )
 
-none-written : (a : Awaited) {rx tx : Ep0Word} {l g : ℕ} {p : Pipe} {u : Bool} {x : View} → Rel rx tx l g p a u x
+none-written : (a : Awaited) {rx tx : Ep0Word} {l g : ℕ} {p : Pipe} {u : SetupPacket} {x : View} → Rel rx tx l g p a u x
     → x .control .sort ≡ 4
     → isOn (x .inn .ready) ≡ true → isOn (x .control .«sets_address») ≡ false → a ≡ confirmed keeps
 none-written nothing r q o h = differ (ready-status nothing r q o)
@@ -350,7 +388,7 @@ law-poll-accept w s (k, f) z =
       (
         (
           λ h. ready-status (w .awaits) (fit-of f h) four o,
-          λ h. sym (fit-of f h .setup)
+          λ h. sym (fit-of f h .setup .there)
               ∙ g,
         ),
         tt,
@@ -371,7 +409,7 @@ data Waiting (a : Awaited) (p : Pipe) (x : View) : Type 0 where
   closing-of : a ≡ given true → isOn (x .control .last) ≡ true → x .control .wait ≡ 2 → p .inn .through ≡ true
       → Due (p .out) (x .out) → Waiting a p x
 
-waiting : (a : Awaited) {rx tx : Ep0Word} {l g : ℕ} {p : Pipe} {u : Bool} {x : View} → Rel rx tx l g p a u x
+waiting : (a : Awaited) {rx tx : Ep0Word} {l g : ℕ} {p : Pipe} {u : SetupPacket} {x : View} → Rel rx tx l g p a u x
     → x .control .sort ≡ 3
     → Waiting a p x
 waiting nothing {p = p} {x = x} r q = by (r .waits)
@@ -443,7 +481,7 @@ module _ (w : Log) (s : St) (k : Base (w .request) (w .started) (w .slot) (view 
   not-yet : {t : St} → isOn (s .0 .globals .«setup_ready») ≡ false → Complete pollIn false w
       → R (afresh (s .1) w) (view (t .0))
       → Polled w s (tree.ends NotYet t)
-  not-yet g o r = at-end {a = NotYet} (r, ((o, λ h. sym (fit-of f h .setup) ∙ g), tt))
+  not-yet g o r = at-end {a = NotYet} (r, ((o, λ h. sym (fit-of f h .setup .there) ∙ g), tt))
 
   -- the data packet went through, the closing OUT is awaited
   goes-on : s .0 .control .sort ≡ 3
@@ -452,7 +490,7 @@ module _ (w : Log) (s : St) (k : Base (w .request) (w .started) (w .slot) (view 
       × Due (w .pipe .out) (view (s .0) .out))
       → R (afresh (s .1) w) (view (second s .0))
   goes-on t g = moved (second-view s (z .places))
-      (requested k refl refl refl (says-in (w .request) (s .0 .control) _ (k .says) t refl), by f)
+      (requested k refl refl refl refl (says-in (w .request) (s .0 .control) _ (k .says) t refl), by f)
     where
       y : View
       y = setControl (dataInOf (s .0 .control .length) (s .0 .control .last) 2)
@@ -511,7 +549,7 @@ module _ (w : Log) (s : St) (k : Base (w .request) (w .started) (w .slot) (view 
     where
       goes-on-exempt : s .0 .control .sort ≡ 3 → R (afresh (s .1) w) (view (second s .0))
       goes-on-exempt t = moved (second-view s (z .places))
-          (requested k refl refl refl (says-in (w .request) (s .0 .control) _ (k .says) t refl), inl x)
+          (requested k refl refl refl refl (says-in (w .request) (s .0 .control) _ (k .says) t refl), inl x)
 
   module _ (r : Rel (w .rx) (w .tx) (w .len) (w .got) (w .pipe) (w .awaits) (w .untaken) (view (s .0))) where
     polled-in : Waiting (w .awaits) (w .pipe) (view (s .0)) → Polled w s (run concrete (code (other PollDataIn)) s)

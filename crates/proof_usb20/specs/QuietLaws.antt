@@ -17,13 +17,15 @@ use Rattle.state.specs.declared.Globals.{Globals}
 use Rattle.state.specs.Driver.{Driver, key, epOn, withOn}
 use Rattle.state.specs.Laws.{key-apart, key-same}
 use Rattle.script.specs.Tree as tree
+use Rattle.script.specs.Control.{setupBytes}
+use Rattle.script.specs.Machine.{Buf}
 use Rattle.script.specs.Cells.{EpCore, Cell, Val, ep-cell, globals-cell}
 use Rattle.script.specs.Script.{Script, get, ret, bind, test, read-then, write-then, callback-then, get-then, put-then}
 use Rattle.script.specs.Script.{is-then, look-then, fetch-then, act-then, hand-then, run, Test, Look, Fetch, Act}
 use Rattle.script.specs.Script.{DmaStep, dmaStepAsk, arrive, send, place, place0}
 use Rattle.script.specs.TransferKinds.{Among, allocates}
 use Rattle.script.specs.SortsWalks.{among-ins}
-use Rattle.script.specs.Statics.{isOn, withLastFrame, isoInEvery}
+use Rattle.script.specs.Statics.{isOn, withLastFrame, withSetup, isoInEvery}
 use Rattle.script_ops.specs.Records.{merged}
 use Rattle.script_ops.specs.Rings.{St}
 use Rattle.script_ops.specs.Concrete.{concrete}
@@ -39,7 +41,7 @@ use Rattle.proof_usb20.specs.Watch.{at-end, at-ask}
 use Rattle.proof_usb20.specs.WatchLaws.{watch-bind, watch-more, watch-cond}
 use Rattle.proof_usb20.specs.Ep0.{Watch, view, recOf, Between}
 use Rattle.proof_usb20.specs.Ep0Laws.{record-view, act-view, hand-view}
-use Rattle.proof_usb20.specs.ViewsLaws.{made, ep-other, put-globals}
+use Rattle.proof_usb20.specs.ViewsLaws.{setReady, made, ep-other, put-globals}
 
 -- what stays of a state beside EP0's view: the records' places, and EP0 is not isochronous, nor among the isochronous
 -- IN
@@ -102,7 +104,7 @@ pub q-if : {i : Bool} {A : Type 0} (b : Bool) {p q : Script i A} → (b ≡ true
 q-if b x y = record { goes = λ w s z k. watch-cond b (λ h. x h .goes w s z k) (λ h. y h .goes w s z k) }
 
 -- an access that leaves the log, the state as it was
-pub asked : {A : Type 0} {q : Access} {s : St} {f : ℕ → St → tree.Out St A} (w : Log) → ((v : ℕ) → saw w q v ≡ w)
+pub asked : {A : Type 0} {q : Access} {s : St} {f : ℕ → St → tree.Out St A} (w : Log) → ((v : ℕ) → saw w q v (s .1) ≡ w)
     → ((v : ℕ) (t : St) → Plainly t → Watch Between Any {A = A} (λ x _ u. Stays w t x u) w (f v t))
     → Watch Between Any {A = A} (λ x _ u. Stays w s x u) w (tree.asks q s f)
 asked {s = s} {f = f} w e g = at-ask tt
@@ -119,10 +121,10 @@ q-read-of {r = r} {e = e} h x = record {
 }
 
 -- a write, of no control word of EP0's
-pub q-write : {i : Bool} {A : Type 0} {r : Reg} {e v : ℕ} {p : Script i A} → ((w : Log) → writes r e v w ≡ w)
-    → LeavesLog p
+pub q-write : {i : Bool} {A : Type 0} {r : Reg} {e v : ℕ} {p : Script i A} → ((b : Buf) (w : Log)
+    → writes b r e v w ≡ w) → LeavesLog p
     → LeavesLog (write-then r e v p)
-q-write h x = record { goes = λ w s z k. asked w (λ _. h w) (λ _ t l. x .goes w t z l) }
+q-write h x = record { goes = λ w s z k. asked w (λ _. h (s .1) w) (λ _ t l. x .goes w t z l) }
 
 pub q-callback : {i : Bool} {A : Type 0} {p : Script i A} → LeavesLog p → LeavesLog (callback-then p)
 q-callback x = record { goes = λ w s z k. asked w (λ _. refl) (λ _ t l. x .goes w t z l) }
@@ -172,18 +174,19 @@ elsewhere (send e) = true
 elsewhere (place d e) = true
 elsewhere place0 = false
 
-hand-silent : (q : DmaStep) → elsewhere q ≡ true → (x : ℕ) (w : Log) (v : ℕ) → saw w (dmaStepAsk q x) v ≡ w
-hand-silent (arrive e n) h x w v = refl
-hand-silent (send e) h x w v = refl
-hand-silent (place Out e) h x w v = refl
-hand-silent (place In e) h x w v = refl
-hand-silent place0 h x w v = differ h
+hand-silent : (q : DmaStep) → elsewhere q ≡ true → (x : ℕ) (w : Log) (b : Buf) (v : ℕ) → saw w (dmaStepAsk q x) v b ≡ w
+hand-silent (arrive e n) h x w b v = refl
+hand-silent (send e) h x w b v = refl
+hand-silent (place Out e) h x w b v = refl
+hand-silent (place In e) h x w b v = refl
+hand-silent place0 h x w b v = differ h
 
 pub q-hand : {i : Bool} {A : Type 0} {q : DmaStep} {p : Script i A} → elsewhere q ≡ true → LeavesLog p
     → LeavesLog (hand-then q p)
 q-hand {q = q} h x = record {
   goes = λ w s z k. onward w s (concrete .hand q s .1)
-      (hand-view q s) (asked w (hand-silent q h (concrete .hand q s .0) w) (λ _ t l. x .goes w t z l));
+      (hand-view q s) (asked w (hand-silent q h (concrete .hand q s .0) w (concrete .hand q s .1 .1))
+      (λ _ t l. x .goes w t z l));
 }
 
 -- an assignment that shows the same
@@ -219,7 +222,8 @@ pub put-other : (d : Dir) (e : ℕ) → Other e → (v : EpCore) (s : St) → vi
     ≡ view (s .0)
 unfolding withOn
 put-other d e o v s = made _ _ (ap recOf (ep-other (s .0) d e (merged (epOn (s .0) d e) v) Out 0 (apart d Out e o)))
-    (ap recOf (ep-other (s .0) d e (merged (epOn (s .0) d e) v) In 0 (apart d In e o))) refl refl refl refl refl
+    (ap recOf (ep-other (s .0) d e (merged (epOn (s .0) d e) v) In 0 (apart d In e o))) refl refl refl refl refl refl
+    refl
 
 -- `last_frame` of any
 pub put-frame : (d : Dir) (e frame : ℕ) (s : St)
@@ -227,28 +231,27 @@ pub put-frame : (d : Dir) (e frame : ℕ) (s : St)
 put-frame d e frame s = record-view (s .0) d e (merged (epOn (s .0) d e)
     (withLastFrame frame (concrete .get (ep-cell d e) s))) refl
 
--- the globals but for the setup packet
-pub put-kept : (f : Globals → Globals) → ((g : Globals) → f g .«setup_ready» ≡ g .«setup_ready») → (s : St)
+-- the setup packet
+abbrev pub setupOf : Globals → ℕ × ℕ × ℕ
+setupOf g = (g .«setup_ready», g .«setup_low», g .«setup_high»)
+
+-- the globals but for it
+pub put-kept : (f : Globals → Globals) → ((g : Globals) → setupOf (f g) ≡ setupOf g) → (s : St)
     → view (concrete .put globals-cell (f (concrete .get globals-cell s)) s .0) ≡ view (s .0)
-put-kept f h s = put-globals (f (s .0 .globals)) s ∙ ap (λ n. record {
-  out = view (s .0) .out;
-  inn = view (s .0) .inn;
-  control = view (s .0) .control;
-  setup-ready = n;
-  stage = view (s .0) .stage;
-  maximum = view (s .0) .maximum;
-  buffer = view (s .0) .buffer;
-}) (h (s .0 .globals))
+unfolding setupBytes
+put-kept f h s = put-globals (f (s .0 .globals)) s
+    ∙ ap (λ (z : ℕ × ℕ × ℕ). setReady (z .0) (setupBytes (withSetup (z .0) (z .1) (z .2) (s .0 .globals)))
+    (view (s .0))) (h (s .0 .globals))
 
 -- a control word of another endpoint's
-pub other-word : (d : Dir) (e v : ℕ) → eqb e 0 ≡ false → (w : Log) → writes (ctrlOf d) e v w ≡ w
-other-word Out e v h w = rw h refl
-other-word In e v h w = rw h refl
+pub other-word : (d : Dir) (e v : ℕ) → eqb e 0 ≡ false → (b : Buf) (w : Log) → writes b (ctrlOf d) e v w ≡ w
+other-word Out e v h b w = rw h refl
+other-word In e v h b w = rw h refl
 
 pub other-read : (d : Dir) (e : ℕ) → eqb e 0 ≡ false → (v : ℕ) (w : Log) → compared (ctrlOf d) e v w ≡ w
 other-read Out e h v w = rw h refl
 other-read In e h v w = rw h refl
 
 -- a length of another's
-pub other-length : (e v : ℕ) → eqb e 0 ≡ false → (w : Log) → writes EpTLen e v w ≡ w
-other-length e v h w = rw h refl
+pub other-length : (e v : ℕ) → eqb e 0 ≡ false → (b : Buf) (w : Log) → writes b EpTLen e v w ≡ w
+other-length e v h b w = rw h refl

@@ -4,10 +4,12 @@ use mathlib.Core.Bool.{Bool, true, false, cond}
 use mathlib.Core.List.{List, [], _∷_}
 use mathlib.Core.Logic.{_⊎_}
 use mathlib.Core.Path.{_≡_, refl, ap, subst, sym, _∙_}
-use Prim.Native.Nat.{ℕ, zero, suc, _+_, _*_, _%_}
+use Prim.Native.Nat.{ℕ, zero, suc, _+_, _*_, _%_, _≤_}
+use native.Mathlib.Omega.{arith}
 use lib.Dec.{eqb, ltb, leb}
 use lib.ListN.{length}
-use borrow.Author.Tests.{eqb-true}
+use borrow.Author.Tests.{eqb-true, ltb-false, leb-false}
+use native.Mathlib.Nat.{mul-le-mul-right, suc-mul}
 use Rattle.regs.specs.declared.Access.{Access}
 use Rattle.regs.specs.declared.Dir.{Dir}
 use Rattle.regs.specs.declared.Dir.the-variants.{Out, In}
@@ -22,6 +24,8 @@ use Rattle.state.specs.Kept.{withIntEn}
 use Rattle.state.specs.Driver.{Driver, withOn, withAllocator}
 use Rattle.alloc.specs.declared.Answer as alloc
 use Rattle.alloc.specs.declared.Answer.the-variants as variant
+use Rattle.alloc.specs.declared.Allocation.{Allocation}
+use Rattle.alloc.specs.Outcome.{Outcome, six, seven, eight, given, outcome}
 use Rattle.alloc.specs.Alloc.{if, allocateOf, allocateEp0Of, isIso, refused, withNext}
 use Rattle.descriptor.specs.declared.Endpoint.{Endpoint}
 use Rattle.descriptor.specs.declared.Answer as listing
@@ -55,9 +59,9 @@ use Rattle.proof_usb20.specs.ViewsLaws.{put-globals}
 use Rattle.proof_usb20.specs.ExemptLaws.{differ, Kept, same, further, isEp0Dma, saw-kept}
 use Rattle.proof_usb20.specs.QuietLaws.{Any, elsewhere}
 
--- the request, the stage, EP0's maximum and its slot
-abbrev pub baseOf : View → Control × ℕ × ℕ × ℕ
-baseOf x = (x .control, x .stage, x .maximum, x .buffer)
+-- the request, the stage, EP0's maximum and its slot, the slot buffer's length
+abbrev pub baseOf : View → Control × ℕ × ℕ × ℕ × ℕ
+baseOf x = (x .control, x .stage, x .maximum, x .buffer, x .room)
 
 abbrev pub Left : Log → St → Log → St → Type 0
 Left w s x t = Kept w x × (baseOf (view (t .0)) ≡ baseOf (view (s .0)))
@@ -73,6 +77,7 @@ kept-base {q = q} {x = x} {y = y} k hq hb hl e = record {
   started = ap (λ z. eqb (z .1) 2) e ∙ (k .started ∙ sym hb);
   maximum = λ h. ap (λ z. z .2) e ∙ k .maximum (sym hb ∙ h);
   slot = λ h. ap (λ z. z .3) e ∙ (k .slot (sym hb ∙ h) ∙ sym hl);
+  inside = λ h. rw (ap (λ z. z .3) e, ap (λ z. z .4) e) (k .inside (sym hb ∙ h));
 }
 
 -- ---- how they are put together
@@ -91,10 +96,10 @@ pub l-test : {i : Bool} {A : Type 0} {b : Bool} {p q : Script i A} → Leaves p 
 l-test {b = b} x y = record { goes = λ w s. watch-cond b (λ _. x .goes w s) (λ _. y .goes w s) }
 
 asked : {A : Type 0} {q : Access} {s : St} {f : ℕ → St → tree.Out St A} (w : Log) → isEp0Dma q ≡ false
-    → ((v : ℕ) (t : St) → Watch Between Any {A = A} (λ x _ u. Left (saw w q v) t x u) (saw w q v) (f v t))
+    → ((v : ℕ) (t : St) → Watch Between Any {A = A} (λ x _ u. Left (saw w q v (s .1)) t x u) (saw w q v (s .1)) (f v t))
     → Watch Between Any {A = A} (λ x _ u. Left w s x u) w (tree.asks q s f)
-asked {q = q} w d g = at-ask tt
-    (λ v t _ k. watch-more (g v t) (λ _ _ _ m. (further (saw-kept w q d v) (m .0), m .1 ∙ ap baseOf (k .0))))
+asked {q = q} {s = s} w d g = at-ask tt
+    (λ v t _ k. watch-more (g v t) (λ _ _ _ m. (further (saw-kept w q d v (s .1)) (m .0), m .1 ∙ ap baseOf (k .0))))
 
 onward : {A : Type 0} {o : tree.Out St A} (w : Log) (s t : St) → baseOf (view (t .0)) ≡ baseOf (view (s .0))
     → Watch Between Any {A = A} (λ x _ u. Left w t x u) w o → Watch Between Any {A = A} (λ x _ u. Left w s x u) w o
@@ -196,10 +201,16 @@ l-naks zero e = l-ret
 l-naks (suc n) e = l-bind (l-write l-ret) (λ _. l-bind (l-write l-ret) (λ _. l-naks n (suc e)))
 
 abbrev Parts : Type 0
-Parts = Control × ℕ × ℕ × ℕ
+Parts = Control × ℕ × ℕ × ℕ × ℕ
 
 abbrev partsOf : Driver → Parts
-partsOf d = (d .control, d .globals .stage, d .globals .«ep0_max», d .globals .«ep0_buf»)
+partsOf d = (
+  d .control,
+  d .globals .stage,
+  d .globals .«ep0_max»,
+  d .globals .«ep0_buf»,
+  d .allocator .count * d .allocator .size,
+)
 
 reset-below : (n : ℕ) (d : Driver) → partsOf (resetBelow n d) ≡ partsOf d
 unfolding resetBelow withOn
@@ -258,7 +269,21 @@ given-base : (dir : Dir) (kind maximum interval : ℕ) (a : alloc.Answer) (d : D
 unfolding givenTo setsGiven recordGiven withOn
 given-base dir kind maximum interval (variant.Refused n) d = refl
 given-base dir kind maximum interval (variant.Given e base slots) d =
-    let z = sets-base dir kind interval e (d .globals) in λ i. (d .control, z .0 i, z .1 i, z .2 i)
+    let z = sets-base dir kind interval e (d .globals) in λ i. (
+      d .control,
+      z .0 i,
+      z .1 i,
+      z .2 i,
+      d .allocator .count * d .allocator .size,
+    )
+
+-- an allocation leaves the count and the size of the buffers
+pub same-room : {a : Allocator} {kind address maximum : ℕ} {dir : Dir} {z : Allocation}
+    → Outcome a kind address maximum dir z → z .after .count * z .after .size ≡ a .count * a .size
+same-room (six h) = refl
+same-room (seven h q) = refl
+same-room (eight e h q l) = refl
+same-room (given e base n b h q g) = rw (g .number .same-count, g .number .same-size) refl
 
 allocated-base : (d : Driver) (dir : Dir) (kind address maximum interval : ℕ)
     → partsOf (allocatedOn d dir kind address maximum interval) ≡ partsOf d
@@ -266,6 +291,8 @@ unfolding allocatedOn
 allocated-base d dir kind address maximum interval =
     given-base dir kind maximum interval (allocateOf (d .allocator) kind address maximum dir .answer)
     (withAllocator d (allocateOf (d .allocator) kind address maximum dir .after))
+    ∙ ap (λ (n : ℕ). (d .control, d .globals .stage, d .globals .«ep0_max», d .globals .«ep0_buf», n))
+    (same-room (outcome (d .allocator) kind address maximum dir))
 
 l-allocate : {i : Bool} {A : Type 0} {p : Script i A} (d : Dir) (kind address maximum interval : ℕ) → Leaves p
     → Leaves (act-then (allocate d kind address maximum interval) p)
@@ -328,17 +355,34 @@ l-listed bytes listed.Listed = l-bind (l-got allocator-cell)
 
 -- ---- EP0's start
 
+-- the count and the size of the buffers stay
+pub ep0-room : (a : Allocator) (maximum : ℕ)
+    → allocateEp0Of a maximum .after .count * allocateEp0Of a maximum .after .size ≡ a .count * a .size
+unfolding allocateEp0Of withNext
+ep0-room a maximum = by (eqb maximum 64) (ltb (a .size) maximum) (leb (a .count) (a .next))
+  where
+    by : (p q r : Bool)
+        → let z = if p (if q (refused 6 a) (if r (refused 8 a)
+        (record { answer = variant.Given 0 (a .next * a .size) 1; after = withNext a (a .next + 1) })))
+        (refused 22 a) in
+        z .after .count * z .after .size ≡ a .count * a .size
+    by true true r = refl
+    by true false true = refl
+    by true false false = refl
+    by false q r = refl
+
 -- refused, all as it was; given, the stage is 2 and the maximum 64
 pub started-base : (d : Driver) (maximum n : ℕ) → allocateEp0Of (d .allocator) maximum .answer ≡ variant.Refused n
     → baseOf (view (allocatedEp0 d maximum)) ≡ baseOf (view d)
 unfolding allocatedEp0 startedWith
-started-base d maximum n h = rw h refl
+started-base d maximum n h = rw (h, ep0-room (d .allocator) maximum) refl
 
 pub started-stage : (d : Driver) (maximum e base slots : ℕ) → allocateEp0Of
     (d .allocator) maximum .answer ≡ variant.Given e base slots
-    → baseOf (view (allocatedEp0 d maximum)) ≡ (d .control, 2, maximum, allocatedEp0 d maximum .globals .«ep0_buf»)
+    → baseOf (view (allocatedEp0 d maximum))
+    ≡ (d .control, 2, maximum, base, d .allocator .count * d .allocator .size)
 unfolding allocatedEp0 startedWith
-started-stage d maximum e base slots h = rw h refl
+started-stage d maximum e base slots h = rw (h, ep0-room (d .allocator) maximum) refl
 
 -- what comes after EP0's slot is handed out
 abbrev pub startRest : {i : Bool} → ℕ → Script i Unit
@@ -370,15 +414,52 @@ given-64 a maximum e base slots h = by (eqb maximum 64) refl h
     by true q h = eqb-true maximum 64 q
     by false q h = differs 22 h
 
+-- and its slot lies in the slot buffer
+pub given-inside : (a : Allocator) (maximum e base slots : ℕ)
+    → allocateEp0Of a maximum .answer ≡ variant.Given e base slots → base + 64 ≤ a .count * a .size
+unfolding allocateEp0Of
+given-inside a maximum e base slots h = by (eqb maximum 64) (ltb (a .size) maximum) (leb (a .count) (a .next)) refl refl
+    refl h
+  where
+    refusal : alloc.Answer → Type 0
+    refusal (variant.Refused n) = Unit {0}
+    refusal (variant.Given e base slots) = ⊥
+
+    differs : {X : Type 0} (n : ℕ) → _≡_ {A = alloc.Answer} (variant.Refused n) (variant.Given e base slots) → X
+    differs n q = absurd (subst refusal q tt)
+
+    baseIn : alloc.Answer → ℕ
+    baseIn (variant.Refused n) = 0
+    baseIn (variant.Given e base slots) = base
+
+    by : (p q r : Bool) → eqb maximum 64 ≡ p → ltb (a .size) maximum ≡ q → leb (a .count) (a .next) ≡ r
+        → (if p (if q (refused 6 a) (if r (refused 8 a)
+        (record { answer = variant.Given 0 (a .next * a .size) 1; after = withNext a (a .next + 1) })))
+        (refused 22 a)) .answer
+        ≡ variant.Given e base slots
+        → base + 64 ≤ a .count * a .size
+    by true true r hp hq hr z = differs 6 z
+    by true false true hp hq hr z = differs 8 z
+    by true false false hp hq hr z =
+        let at : a .next * a .size ≡ base = ap baseIn z in
+        let low = leb-false (a .count) (a .next) hr in
+        let big = ltb-false (a .size) maximum hq in
+        let all : suc (a .next) * a .size ≤ a .count * a .size = mul-le-mul-right (a .size) low in
+        let one : suc (a .next) * a .size ≡ a .next * a .size + a .size = suc-mul (a .next) (a .size) in
+        omega (arith, at, big, all, one, eqb-true maximum 64 hp)
+    by false q r hp hq hr z = differs 22 z
+
 -- a start that is given
-pub given-start : {q q′ : Request} {b : Bool} {l l′ : ℕ} {x y : View} {c : Control} {maximum slot : ℕ} → Base q b l x
+pub given-start : {q q′ : Request} {b : Bool} {l l′ : ℕ} {x y : View} {c : Control} {maximum slot room : ℕ}
+    → Base q b l x
     → q′ ≡ q → x .control ≡ c
-    → baseOf y ≡ (c, 2, maximum, slot) → maximum ≡ 64 → l′ ≡ slot → Base q′ true l′ y
-given-start {q = q} {y = y} k hq hc e m hl = record {
+    → baseOf y ≡ (c, 2, maximum, slot, room) → maximum ≡ 64 → l′ ≡ slot → slot + 64 ≤ room → Base q′ true l′ y
+given-start {q = q} {y = y} k hq hc e m hl n = record {
   says = subst (λ (z : Request). Says z (y .control)) (sym hq) (subst (Says q) (hc ∙ sym (ap (λ z. z .0) e)) (k .says));
   started = ap (λ z. eqb (z .1) 2) e;
   maximum = λ _. ap (λ z. z .2) e ∙ m;
   slot = λ _. ap (λ z. z .3) e ∙ sym hl;
+  inside = λ _. rw (ap (λ z. z .3) e, ap (λ z. z .4) e) n;
 }
 
 -- ---- start-up's own script

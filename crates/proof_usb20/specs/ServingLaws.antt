@@ -1,10 +1,12 @@
 -- The interrupt's law
 use mathlib.Core.Bool.{Bool, true, false, not, cond, _&&_, _||_}
-use mathlib.Core.List.{[], _∷_}
+use mathlib.Core.List.{[], _∷_, _++_}
 use mathlib.Core.Logic.{inr}
 use mathlib.Core.Path.{_≡_, refl, ap, subst, sym, _∙_}
-use Prim.Native.Nat.{ℕ}
+use Prim.Native.Nat.{ℕ, _+_, _*_, _≤_}
+use native.Mathlib.Omega.{arith}
 use lib.Dec.{eqb}
+use lib.ListN.{length}
 use borrow.Author.Tests.{eqb-true}
 use Rattle.regs.specs.declared.Access.the-variants.{Read}
 use Rattle.regs.specs.declared.Reg.the-variants.{FrameNo}
@@ -24,6 +26,9 @@ use Rattle.script.specs.declared.Transfer.{Transfer}
 use Rattle.script.specs.Cells.{EpCore, ep-cell, globals-cell}
 use Rattle.script.specs.Script.{when, run, waken, no-wakes, setup-word, _>>=_, _>>_}
 use Rattle.script.specs.Statics.{isOn, withReady, withArmed, withSetup, withEntered, modifyIntEn, wakeBus}
+use Rattle.ring.specs.Copies.{bytesAt}
+use Rattle.script_ops.specs.Rings.{wordAt}
+use Rattle.script.specs.Control.{setupBytes, wordBytes}
 use Rattle.script.specs.Calls.{interrupt}
 use Rattle.script.specs.Machine.{Buf}
 use Rattle.script.specs.Handler.{entered, nakNonIso, isoFor, ownIn, framed, released, onTransfer, onSetup, onInterrupt}
@@ -32,10 +37,11 @@ use Rattle.script_ops.specs.Concrete.{concrete}
 use Rattle.proof_usb20.specs.FramesLaws.{framed-st, frames}
 use Rattle.proof_book.specs.TransferKindsLaws.{act-steady}
 use Rattle.proof_usb20.specs.Log.{Ep0Word, writtenAs, anew, Log, off, flagged, shows, withRx, withTx, withPhase}
-use Rattle.proof_usb20.specs.Log.{withFlags, seen, opens, set-up}
+use Rattle.proof_usb20.specs.Log.{withFlags, withEight, seen, opens, set-up, waits, Octets}
+use Rattle.proof_usb20.specs.EightLaws.{eight-bytes}
 use Rattle.proof_usb20.specs.Pipe as pipe
 use Rattle.proof_usb20.specs.Log as log
-use Rattle.proof_usb20.specs.Watch.{at-end, at-ask}
+use Rattle.proof_usb20.specs.Watch.{at-end, at-ask, Fitted}
 use Rattle.proof_usb20.specs.WatchLaws.{watch-bind, watch-more, watch-cond}
 use Rattle.proof_usb20.specs.Ep0.{Watch, View, view, Rel, Base, R, Between, Law}
 use Rattle.proof_usb20.specs.ExemptLaws.{differ}
@@ -200,10 +206,25 @@ cleared p = withArmed 0 (withReady 0 p)
 
 ready-setup : (x : Log) → x .setup-seen ≡ true → {v y : View} → y ≡ v → Base (x .request) (x .started) (x .slot) v
     → Rel (anew true (x .rx)) (anew true (x .tx)) (x .len) (x .got) (pipe.after pipe.setup
-    (x .pipe)) pipe.nothing true v
+    (x .pipe)) pipe.nothing (waits (x .eight)) v
     → R (cond (x .setup-seen) (set-up x) x) y
 ready-setup x e {v = v} {y = y} h k r = subst (λ (b : Bool). R (cond b (set-up x) x) y) (sym e) (subst (R (set-up x))
     (sym h) (k, inr r))
+
+-- the two words that it takes are the slot's first eight bytes
+the-packet : (w : Log) (v : View) (b n : St) → Base (w .request) (w .started) (w .slot) v → v .stage ≡ 2
+    → view (b .0) ≡ v → Fitted b
+    → Octets (bytesAt (b .1) (w .slot) 8)
+    → setupBytes (withSetup 1 (concrete .look (setup-word 0) b) (concrete .look (setup-word 1) b) (concrete .get
+    globals-cell n)) ≡ bytesAt (b .1) (w .slot) 8
+unfolding setupBytes
+the-packet w v b n k two e f =
+    let on : w .started ≡ true = sym (k .started) ∙ ap (λ (n : ℕ). eqb n 2) two in
+    let at : b .0 .globals .«ep0_buf» ≡ w .slot = ap (λ (y : View). y .buffer) e ∙ k .slot on in
+    let room : v .room ≡ length (b .1) = sym (ap (λ (y : View). y .room) e) ∙ sym f in
+    let fits : w .slot + 8 ≤ length (b .1) = omega (arith, k .slot on, k .inside on, room) in
+    λ o. ap (λ (a : ℕ). wordBytes (wordAt (b .1) (a + 0 * 4)) ++ wordBytes (wordAt (b .1) (a + 1 * 4))) at
+    ∙ eight-bytes (b .1) (w .slot) fits o
 
 sets-up : (w : Log) (s : St) → R w (view (s .0)) → view (s .0) .stage ≡ 2 → w .setup-seen ≡ true → w .phase ≡ off
     → Watch Between Any (λ x _ t. R (cond (x .setup-seen) (set-up x) x) (view (t .0)) × (x .phase ≡ off)) w
@@ -215,19 +236,29 @@ sets-up w s r two e ph = at-ask tt (λ _ a _ i. at-ask tt (λ _ b _ j. at-ask tt
     let g = withSetup 1 (concrete .look (setup-word 0) b) (concrete .look (setup-word 1) b)
     (concrete .get globals-cell n) in
     let p = concrete .put globals-cell g n in
-    let seen-p : view (p .0) ≡ setReady 1 (setIn (aborted (view (s .0) .inn)) (setOut (aborted (view (s .0) .out))
+    let low = concrete .look (setup-word 0) b in
+    let high = concrete .look (setup-word 1) b in
+    let seen-p : view (p .0) ≡ setReady 1 (setupBytes g)
+    (setIn (aborted (view (s .0) .inn)) (setOut (aborted (view (s .0) .out))
     (view (s .0))))
-    = put-globals g n ∙ ap (setReady 1) (in-view cleared o (out-whole cleared b h)
+    = put-globals g n ∙ ap (setReady 1 (setupBytes g)) (in-view cleared o (out-whole cleared b h)
     ∙ ap (λ (y : View). setIn (aborted (y .inn)) y) (out-view cleared b h
     ∙ ap (λ (y : View). setOut (aborted (y .out)) y) (j .0 ∙ i .0))) in
     let c′ = concrete .act (waken (wakeCode Out 0 ∷ [])) c in
     at-end (
-      (ready-setup (withTx (nakWord (w .tx)) (withRx (nakWord (w .rx)) w)) e
+      (ready-setup (withEight (bytesAt (b .1) (w .slot) 8) (withTx (nakWord (w .tx)) (withRx (nakWord (w .rx)) w))) e
           (act-view (waken (wakeCode In 0 ∷ [])) refl c′ ∙ (act-view (waken (wakeCode Out 0 ∷ [])) refl c ∙ (l .0
           ∙ seen-p)))
-          (record { says = r .0 .says; started = r .0 .started; maximum = r .0 .maximum; slot = r .0 .slot })
+          (record {
+            says = r .0 .says;
+            started = r .0 .started;
+            maximum = r .0 .maximum;
+            slot = r .0 .slot;
+            inside = r .0 .inside;
+          })
           (set-up-fits (nakWord (w .rx)) (nakWord (w .tx)) (w .len) (w .got) (w .pipe) (view
-          (s .0)) two nak-word nak-word)),
+          (s .0)) (setupBytes g) (bytesAt (b .1) (w .slot) 8) (the-packet w (view (s .0)) b n (r .0) two (j .0 ∙ i .0)
+          (j .3)) two nak-word nak-word)),
       ph,
     ))))
 

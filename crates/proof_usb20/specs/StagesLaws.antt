@@ -3,10 +3,13 @@ use mathlib.Core.Bool.{Bool, true, false, cond}
 use mathlib.Core.List.{List}
 use mathlib.Core.Logic.{_⊎_, inl, inr}
 use mathlib.Core.Path.{_≡_, refl, ap, subst, sym, _∙_}
-use Prim.Native.Nat.{ℕ, _%_}
+use Prim.Native.Nat.{ℕ, _+_, _%_, _≤_}
 use native.Mathlib.Omega.{arith}
 use lib.Dec.{eqb, ltb}
 use lib.ListN.{length}
+use borrow.Author.Tests.{ltb-false}
+use Rattle.ring.specs.Copies.{bytesAt, copied}
+use Rattle.ring.specs.MarksSlots.{copied-bytes}
 use Rattle.regs.specs.declared.Access.{Access}
 use Rattle.regs.specs.declared.Dir.the-variants.{Out, In}
 use Rattle.regs.specs.ControlWord.{ACK, DATA1, wordOf, status}
@@ -15,20 +18,23 @@ use Rattle.script.specs.Tree as tree
 use Rattle.script.specs.Tree.{ends}
 use Rattle.script.specs.Answers.{Answer, Refused}
 use Rattle.script.specs.Cells.{EpCore, ep-cell, control-cell}
-use Rattle.script.specs.Script.{no-wakes, fill0}
+use Rattle.script.specs.Machine.{Buf}
+use Rattle.script.specs.Script.{run, no-wakes, fill0}
+use Rattle.script_ops.specs.Rings.{filledEp0}
 use Rattle.script.specs.Statics.{isOn, withReady, withArmed, withLen}
 use Rattle.script.specs.Control.{SETUP, DATA-OUT, ACCEPT, requestOf, no-control, dataInOf, addressOf}
 use Rattle.script.specs.Calls.{slotted, other, BeginDataIn, BeginSetup, BeginAccept, BeginReject, BeginDataOut}
-use Rattle.script.specs.Calls.{BeginAcceptSetAddress}
+use Rattle.script.specs.Calls.{BeginAcceptSetAddress, code}
 use Rattle.script_ops.specs.Rings.{St}
 use Rattle.script_ops.specs.Concrete.{concrete}
 use Rattle.proof_book.specs.TransferKindsLaws.{put-steady, act-steady}
 use Rattle.proof_usb20.specs.Pipe.{Pipe, Awaited, nothing, keeps, sets}
 use Rattle.proof_usb20.specs.Log.{Ep0Word, writtenAs, readAs, Request, Log, afresh}
-use Rattle.proof_usb20.specs.Log.{Untaken}
+use Rattle.proof_usb20.specs.Log.{Untaken, SetupPacket}
 use Rattle.proof_usb20.specs.Log.{unstarted, ended, misfits}
-use Rattle.proof_usb20.specs.Watch.{at-end, at-ask}
-use Rattle.proof_usb20.specs.WatchLaws.{watch-cond}
+use Rattle.proof_usb20.specs.Watch as watch
+use Rattle.proof_usb20.specs.Watch.{at-end, at-ask, Fitted, AtFirst, stops, goes, SparedAfter, no-more, then}
+use Rattle.proof_usb20.specs.WatchLaws.{watch-cond, first-cond, after-cond}
 use Rattle.proof_usb20.specs.Ep0.{Watch, View, view, Between, unstaged, Rel, Says, Base, Line, Law}
 use Rattle.proof_usb20.specs.ExemptLaws.{differ}
 use Rattle.proof_usb20.specs.ViewsLaws.{rec, setOut, setIn, setControl, put-out, put-in, put-control}
@@ -75,7 +81,7 @@ pub noted-whole : (c : Control) (s : St) → Whole s → Whole (noted c s)
 noted-whole c s h = act-steady no-wakes refl (concrete .put control-cell c s) .places
     ∙ (put-steady control-cell c s .places ∙ h)
 
-pub moved : {q : Request} {b ex : Bool} {m : ℕ} {rx tx : Ep0Word} {l g : ℕ} {p : Pipe} {a : Awaited} {u : Bool}
+pub moved : {q : Request} {b ex : Bool} {m : ℕ} {rx tx : Ep0Word} {l g : ℕ} {p : Pipe} {a : Awaited} {u : SetupPacket}
     {x y : View} → y ≡ x
     → Line q b m ex rx tx l g p a u x → Line q b m ex rx tx l g p a u y
 moved {q = q} {b = b} {ex = ex} {m = m} {rx = rx} {tx = tx} {l = l} {g = g} {p = p} {a = a} {u = u} e r =
@@ -89,12 +95,13 @@ fit-of (inr x) h = x
 -- another request
 pub requested : {q q′ : Request} {b : Bool} {l : ℕ} {x y : View} → Base q b l x → y .stage ≡ x .stage
     → y .maximum ≡ x .maximum
-    → y .buffer ≡ x .buffer → Says q′ (y .control) → Base q′ b l y
-requested k s m g c = record {
+    → y .buffer ≡ x .buffer → y .room ≡ x .room → Says q′ (y .control) → Base q′ b l y
+requested k s m g n c = record {
   says = c;
   started = ap (λ n. eqb n 2) s ∙ k .started;
   maximum = λ h. m ∙ k .maximum h;
   slot = λ h. g ∙ k .slot h;
+  inside = λ h. rw (g, n) (k .inside h);
 }
 
 -- ---- the rows before a stage
@@ -103,7 +110,7 @@ pub not-started : {q : Request} {b : Bool} {l : ℕ} {x : View} → Base q b l x
 not-started k h = sym (k .started) ∙ h
 
 pub untaken-by : (w : Log) (x : View) → Fit w x → isOn (x .setup-ready) ≡ true → Untaken true w
-untaken-by w x f g h = sym (fit-of f h .setup) ∙ g
+untaken-by w x f g h = sym (fit-of f h .setup .there) ∙ g
 
 above : {q : Request} {b : Bool} {l : ℕ} {x : View} (n : ℕ) → Base q b l x → eqb (x .stage) 2 ≡ true
     → ltb (x .maximum) n ≡ true
@@ -150,7 +157,7 @@ law-data-out n true w s (b, f) z =
     (λ g. ((b, f), ended (untaken-by w (view (s .0)) f g)))
     (at-ask tt (λ v t _ k. at-end (
       moved (k .0 ∙ armed-out n s (z .places)) (
-        requested b refl refl refl (refl, refl),
+        requested b refl refl refl refl (refl, refl),
         fits-takes-first (afresh (s .1) w) (view (s .0)) n (data1
             (w .rx)) acked-ack acked-one f,
       ),
@@ -161,7 +168,7 @@ law-data-out n false w s (b, f) z =
     (λ g. ((b, f), ended (untaken-by w (view (s .0)) f g)))
     (at-ask tt (λ v t _ k. at-ask tt (λ _ u _ l. at-end (
       moved (l .0 ∙ (k .0 ∙ armed-out n s (z .places)))
-          (requested b refl refl refl (refl, refl), fits-takes-next (afresh (s .1) w) (view (s .0)) n v f),
+          (requested b refl refl refl refl (refl, refl), fits-takes-next (afresh (s .1) w) (view (s .0)) n v f),
       tt,
     ))))
 
@@ -211,7 +218,7 @@ law-data-in bytes true true w s (b, f) z =
     (λ t l. ((b, f), misfits (above (length bytes) b t l))) (λ g. ((b, f), ended (untaken-by w (view (s .0)) f g)))
     (at-ask tt (λ _ t _ k. at-ask tt (λ _ t′ _ k′. at-ask tt (λ _ u _ l. at-end (
       moved (l .0 ∙ (k′ .0 ∙ armed-in t _ (k .1 .places) (k .0 ∙ closing (length bytes) bytes s (z .places)))) (
-        requested b refl refl refl refl,
+        requested b refl refl refl refl refl,
         fits-gives-last-first (afresh (s .1) w) (view (s .0)) (length bytes)
             (data1 (w .rx)) acked-ack acked-one (data1 (w .tx)) acked-ack acked-one f,
       ),
@@ -223,7 +230,7 @@ law-data-in bytes false true w s (b, f) z =
     (at-ask tt (λ _ t _ k. at-ask tt (λ _ t′ _ k′. at-ask tt (λ v t″ _ k″. at-ask tt (λ _ u _ l. at-end (
       moved (l .0 ∙ (k″ .0 ∙ (k′ .0 ∙ armed-in t _ (k .1 .places) (k .0
           ∙ closing (length bytes) bytes s (z .places))))) (
-            requested b refl refl refl refl,
+            requested b refl refl refl refl refl,
             fits-gives-last-next (afresh (s .1) w) (view (s .0)) (length bytes)
                 (data1 (w .rx)) acked-ack acked-one v f,
           ),
@@ -234,7 +241,7 @@ law-data-in bytes true false w s (b, f) z =
     (λ t l. ((b, f), misfits (above (length bytes) b t l))) (λ g. ((b, f), ended (untaken-by w (view (s .0)) f g)))
     (at-ask tt (λ _ t _ k. at-ask tt (λ _ u _ l. at-end (
       moved (l .0 ∙ (k .0 ∙ opening (length bytes) bytes s (z .places))) (
-        requested b refl refl refl refl,
+        requested b refl refl refl refl refl,
         fits-gives-first (afresh (s .1) w) (view (s .0)) (length bytes) (data1
             (w .tx)) acked-ack acked-one f,
       ),
@@ -245,7 +252,7 @@ law-data-in bytes false false w s (b, f) z =
     (λ t l. ((b, f), misfits (above (length bytes) b t l))) (λ g. ((b, f), ended (untaken-by w (view (s .0)) f g)))
     (at-ask tt (λ _ t _ k. at-ask tt (λ v t′ _ k′. at-ask tt (λ _ u _ l. at-end (
       moved (l .0 ∙ (k′ .0 ∙ (k .0 ∙ opening (length bytes) bytes s (z .places))))
-          (requested b refl refl refl refl, fits-gives-next (afresh (s .1) w) (view (s .0)) (length bytes) v f),
+          (requested b refl refl refl refl refl, fits-gives-next (afresh (s .1) w) (view (s .0)) (length bytes) v f),
       tt,
     )))))
 
@@ -266,7 +273,7 @@ law-accept w s (b, f) z =
     past-setup s (λ q. ((b, f), unstarted (not-started b q))) (λ g. ((b, f), ended (untaken-by w (view (s .0)) f g)))
     (at-ask tt (λ _ t _ k. at-ask tt (λ v t′ _ k′. at-ask tt (λ _ u _ l. at-end (
       moved (l .0 ∙ (k′ .0 ∙ (k .0 ∙ cleared (requestOf ACCEPT 0) s (z .places)))) (
-        requested b refl refl refl refl,
+        requested b refl refl refl refl refl,
         fits-confirms keeps (afresh (s .1) w) (view (s .0)) (statusWord v (w .tx)) (requestOf ACCEPT 0)
             refl off (status-acks v) (status-one v) f,
       ),
@@ -278,7 +285,7 @@ law-accept-address a w s (b, f) z =
     past-setup s (λ q. ((b, f), unstarted (not-started b q))) (λ g. ((b, f), ended (untaken-by w (view (s .0)) f g)))
     (at-ask tt (λ _ t _ k. at-ask tt (λ v t′ _ k′. at-ask tt (λ _ u _ l. at-end (
       moved (l .0 ∙ (k′ .0 ∙ (k .0 ∙ cleared (addressOf (a % 256)) s (z .places)))) (
-        requested b refl refl refl refl,
+        requested b refl refl refl refl refl,
         fits-confirms (sets (a % 128)) (afresh (s .1) w) (view (s .0)) (statusWord v (w .tx))
             (addressOf (a % 256)) refl (on, omega arith) (status-acks v) (status-one v) f,
       ),
@@ -305,7 +312,7 @@ law-reject w s (b, f) z =
     watch-cond (eqb (s .0 .globals .stage) 2)
     (λ _. at-ask tt (λ v t _ k. at-ask tt (λ _ t′ _ k′. at-ask tt (λ u t″ _ k″. at-ask tt (λ _ t‴ _ l. at-end (
       moved (l .0 ∙ (k″ .0 ∙ (k′ .0 ∙ (k .0 ∙ disarmed s (z .places)))))
-          (requested b refl refl refl refl, fits-rejects (afresh (s .1) w) (view (s .0)) u v f),
+          (requested b refl refl refl refl refl, fits-rejects (afresh (s .1) w) (view (s .0)) u v f),
       tt,
     ))))))
     (λ q. at-end ((b, f), unstarted (not-started b q)))
@@ -335,10 +342,61 @@ law-setup w s (b, f) z =
     watch-cond (eqb (s .0 .globals .stage) 2)
     (λ _. at-end (
       moved (noted-view (requestOf SETUP 0) s) (
-        requested b refl refl refl refl,
+        requested b refl refl refl refl refl,
         waits-none w (view (s .0))
             (requestOf SETUP 0) refl f,
       ),
       tt,
     ))
     (λ q. at-end ((b, f), unstarted (not-started b q)))
+
+-- ---- the packet of a data_in in EP0's slot
+
+module _ (w : Log) (s : St) (bytes : List ℕ) (k : Base (w .request) (w .started) (w .slot) (view (s .0)))
+    (f : Fitted s) where
+  filled : (c : Control) → eqb (s .0 .globals .stage) 2 ≡ true
+      → ltb (s .0 .globals .«ep0_max») (length bytes) ≡ false
+      → bytesAt (filledEp0 (noted c s .0) bytes (s .1)) (w .slot) (length bytes) ≡ bytes
+  unfolding filledEp0
+  filled c two few =
+      let on : w .started ≡ true = sym (k .started) ∙ two in
+      let small = ltb-false (s .0 .globals .«ep0_max») (length bytes) few in
+      let most : noted c s .0 .globals .«ep0_max» ≡ s .0 .globals .«ep0_max»
+      = ap (λ (y : View). y .maximum) (noted-view c s) in
+      let at : noted c s .0 .globals .«ep0_buf» ≡ w .slot
+      = ap (λ (y : View). y .buffer) (noted-view c s) ∙ k .slot on in
+      let long : w .slot + length bytes ≤ length (s .1)
+      = omega (arith, small, k .maximum on, k .slot on, k .inside on, f) in
+      ap (λ (b : Bool). bytesAt (cond b (s .1) (copied (s .1) (noted c s .0 .globals .«ep0_buf») bytes)) (w .slot)
+      (length bytes)) (ap (λ (n : ℕ). ltb n (length bytes)) most ∙ few)
+      ∙ (ap (λ (n : ℕ). bytesAt (copied (s .1) n bytes) (w .slot) (length bytes)) at
+      ∙ copied-bytes (s .1) (w .slot) bytes long)
+
+  pub loads-data-in : (first last : Bool)
+      → AtFirst (λ b. bytesAt b (w .slot) (length bytes) ≡ bytes) (run concrete (code (slotted
+      (BeginDataIn bytes first last))) s)
+  loads-data-in first true = first-cond (eqb (s .0 .globals .stage) 2)
+      (λ two. first-cond (ltb (s .0 .globals .«ep0_max») (length bytes)) (λ _. watch.ended)
+      (λ few. first-cond (isOn (s .0 .globals .«setup_ready»)) (λ _. watch.ended)
+      (λ _. watch.handed (filled (dataInOf (length bytes) 1 1) two few)))) (λ _. watch.ended)
+  loads-data-in first false = first-cond (eqb (s .0 .globals .stage) 2)
+      (λ two. first-cond (ltb (s .0 .globals .«ep0_max») (length bytes)) (λ _. watch.ended)
+      (λ few. first-cond (isOn (s .0 .globals .«setup_ready»)) (λ _. watch.ended)
+      (λ _. watch.handed (filled (dataInOf (length bytes) 0 1) two few)))) (λ _. watch.ended)
+
+past-all : {K : Buf → Buf → Type 0} (n : ℕ) (s : St) {o : tree.Out St Answer} → SparedAfter K o
+    → SparedAfter K (cond (eqb (s .0 .globals .stage) 2) (cond (ltb (s .0 .globals .«ep0_max») n) (ends (Refused 10) s)
+    (cond (isOn (s .0 .globals .«setup_ready»)) (ends (Refused 9) s) o)) (ends (Refused 4) s))
+past-all n s x = after-cond (eqb (s .0 .globals .stage) 2)
+    (λ _. after-cond (ltb (s .0 .globals .«ep0_max») n) (λ _. no-more)
+    (λ _. after-cond (isOn (s .0 .globals .«setup_ready»)) (λ _. no-more) (λ _. x))) (λ _. no-more)
+
+pub spares-data-in : (bytes : List ℕ) (first last : Bool) (s : St)
+    → SparedAfter (λ b l. l ≡ b) (run concrete (code (slotted (BeginDataIn bytes first last))) s)
+spares-data-in bytes true true s = past-all (length bytes) s
+    (then (λ _ _. goes refl (λ _ _. goes refl (λ _ _. stops refl))))
+spares-data-in bytes false true s = past-all (length bytes) s
+    (then (λ _ _. goes refl (λ _ _. goes refl (λ _ _. goes refl (λ _ _. stops refl)))))
+spares-data-in bytes true false s = past-all (length bytes) s (then (λ _ _. goes refl (λ _ _. stops refl)))
+spares-data-in bytes false false s = past-all (length bytes) s
+    (then (λ _ _. goes refl (λ _ _. goes refl (λ _ _. stops refl))))

@@ -11,6 +11,8 @@ use Rattle.state.specs.declared.Globals.{Globals}
 use Rattle.state.specs.Fresh.{clearStamps}
 use Rattle.state.specs.Kept.{withEpType}
 use Rattle.frame.specs.Advance.{NO_FRAME}
+use Rattle.script.specs.Machine.{Buf}
+use Rattle.script.specs.Control.{setupBytes}
 use Rattle.script.specs.Tree as tree
 use Rattle.script.specs.Cells.{ep-cell, globals-cell}
 use Rattle.script.specs.Script.{row, rows, switch, switchAsk}
@@ -33,7 +35,7 @@ use Rattle.proof_usb20.specs.TasksLaws.{Numbered, quiet-law, q-staged, q
 with-other : (d : Driver) (e : ℕ) (r : EpState) → Other e → view (withOn d Out e r) ≡ view d
 unfolding withOn
 with-other d e r o = made _ _ (ap recOf (ep-other d Out e r Out 0 (apart Out Out e o))) (ap recOf
-    (ep-other d Out e r In 0 (apart Out In e o))) refl refl refl refl refl
+    (ep-other d Out e r In 0 (apart Out In e o))) refl refl refl refl refl refl refl
 
 stamps-view : (d : Driver) (e : ℕ) → view (clearStamps d e) ≡ view d
 unfolding clearStamps epOn
@@ -56,27 +58,28 @@ slot-view e k o s = by (isOn (epOn (s .0) Out e .iso)) (eqb k 15)
 
 switch-view : (e : ℕ) (on : Bool) (n : ℕ) → Other e → (s : St) → view (concrete .row (switch e on) n s .1 .0)
     ≡ view (s .0)
-unfolding configStep typeStep epOn
+unfolding configStep typeStep epOn setupBytes
 switch-view e on zero o s = refl
 switch-view e on (suc zero) o s = refl
 switch-view e on (suc (suc zero)) o s = refl
 switch-view e on (suc (suc (suc k))) o s = slot-view e k o s
 
-silent : (e : ℕ) (on : Bool) (n x : ℕ) → eqb e 0 ≡ false → (w : Log) (v : ℕ) → saw w (switchAsk e on n x) v ≡ w
-silent e on zero x h w v = refl
-silent e on (suc zero) x h w v = refl
-silent e on (suc (suc zero)) x h w v = other-word Out e (cond on 1 2) h w
-silent e on (suc (suc (suc n))) x h w v = refl
+silent : (e : ℕ) (on : Bool) (n x : ℕ) → eqb e 0 ≡ false → (w : Log) (b : Buf) (v : ℕ) → saw w (switchAsk e on n x) v b
+    ≡ w
+silent e on zero x h w b v = refl
+silent e on (suc zero) x h w b v = refl
+silent e on (suc (suc zero)) x h w b v = other-word Out e (cond on 1 2) h b w
+silent e on (suc (suc (suc n))) x h w b v = refl
 
 in-row : (e : ℕ) (on : Bool) → Numbered e → (n : ℕ) (w : Log) (s : St) → Plainly s
     → Watch Between Any (λ x _ t. Stays w s x t) w (rows concrete (switch e on) n (λ t. tree.ends (tt {0}) t) s)
 in-row e on m zero w s k = onward w s (concrete .row (switch e on) zero s .1) (switch-view e on zero (m .apart) s)
-    (asked w (silent e on zero (concrete .row (switch e on) zero s .0) (m .zero-not) w)
-    (λ _ t l. at-end (refl, refl, l)))
+    (asked w (silent e on zero (concrete .row (switch e on) zero s .0) (m .zero-not) w
+    (concrete .row (switch e on) zero s .1 .1)) (λ _ t l. at-end (refl, refl, l)))
 in-row e on m (suc n) w s k = onward w s (concrete .row (switch e on) (suc n) s .1)
     (switch-view e on (suc n) (m .apart) s)
-    (asked w (silent e on (suc n) (concrete .row (switch e on) (suc n) s .0) (m .zero-not) w)
-    (λ _ t l. in-row e on m n w t l))
+    (asked w (silent e on (suc n) (concrete .row (switch e on) (suc n) s .0) (m .zero-not) w
+    (concrete .row (switch e on) (suc n) s .1 .1)) (λ _ t l. in-row e on m n w t l))
 
 q-row : (e : ℕ) (on : Bool) → Numbered e → LeavesLog (row (switch e on))
 q-row e on m = record { goes = λ w s z k. in-row e on m 18 w s k }
@@ -91,7 +94,7 @@ q-types f = record {
 
 q-kept : (d : Dir) (e : ℕ) (iso on : Bool) → LeavesLog (bus.kept {i = false} d e iso on)
 q-kept d e iso on = q-bind (q-types _) (λ _. q-bind (q-act refl q-ret)
-    (λ _. q-bind (q-got globals-cell) (λ g. q-write (λ _. refl) q-ret)))
+    (λ _. q-bind (q-got globals-cell) (λ g. q-write (λ _ _. refl) q-ret)))
 
 q-enabling : (d : Dir) (e : ℕ) (on : Bool) → Numbered e → LeavesLog (bus.setEnabled d e on)
 q-enabling Out e on m = q-bind (q-got (ep-cell Out e)) (λ s. q-bind (q-test (q-row e on m)

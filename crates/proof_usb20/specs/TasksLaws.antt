@@ -45,7 +45,8 @@ use Rattle.proof_usb20.specs.Log.{Log, before, exempted, afresh, opens, 
 use Rattle.proof_usb20.specs.Log.{EndsByReason, Allowed, AllowedTo}
 use Rattle.proof_usb20.specs.Log.{Ep0Word, readAs, compared, withRx, withTx, withSlots, Shows}
 use Rattle.proof_usb20.specs.Pipe.{Answers, naks, stalls, acks, Half}
-use Rattle.proof_usb20.specs.RequestLaws.{baseOf, Left, kept-base, given-64, given-start, started-base}
+use Rattle.proof_usb20.specs.RequestLaws.{baseOf, Left, kept-base, given-64, given-inside, given-start}
+use Rattle.proof_usb20.specs.RequestLaws.{started-base}
 use Rattle.proof_usb20.specs.RequestLaws.{started-stage}
 use Rattle.proof_usb20.specs.RequestLaws.{l-ret, l-bind, l-allocates, l-listed, l-start-rest, l-stalled, l-reset}
 use Rattle.proof_usb20.specs.RequestLaws.{l-int-en}
@@ -286,7 +287,9 @@ law-start maximum w s (k, inl e) z =
             given-start k (l .0 .request) refl
                 (l .1 ∙ (ap baseOf (g .0 ∙ act-view no-wakes refl t) ∙ started-stage (s .0) maximum e base slots h))
                 (given-64 (s .0 .allocator) maximum e base slots h)
-                (l .0 .slot ∙ ap (λ (y : View). y .buffer) (act-view no-wakes refl t)),
+                (l .0 .slot ∙ (ap (λ (y : View). y .buffer) (act-view no-wakes refl t)
+                ∙ ap (λ z. z .3) (started-stage (s .0) maximum e base slots h)))
+                (given-inside (s .0 .allocator) maximum e base slots h),
             inl refl,
           ),
           tt,
@@ -296,7 +299,7 @@ law-start maximum w s (k, inl e) z =
 
 pub law-bus-enable : Law (other BusEnable)
 law-bus-enable = quiet-law (other BusEnable) tt refl (λ _ _. refl) (λ _ _. tt) (q-staged 2 (q-resultless (q-bind
-    (q-read-of (λ _ _. refl) (λ _. q-ret)) (λ v. q-write (λ _. refl) q-ret))))
+    (q-read-of (λ _ _. refl) (λ _. q-ret)) (λ v. q-write (λ _ _. refl) q-ret))))
 
 pub law-bus-disable : Law (other BusDisable)
 law-bus-disable = quiet-law (other BusDisable) tt refl (λ _ _. refl) (λ _ _. tt) (q-staged 2 (q-resultless q-ret))
