@@ -6,7 +6,6 @@ use Prim.Native.Nat.{ℕ, zero, suc, _*_, _≤_}
 use native.Mathlib.Omega.{arith}
 use lib.ListN.{length, take}
 use Rattle.ring.specs.Copies.{bytesAt}
-use Rattle.state.specs.declared.Saved.{Saved}
 use Rattle.state.specs.Driver.{Driver}
 use Rattle.state.specs.Fresh as fresh
 use Rattle.script.specs.Tree.{Out}
@@ -20,28 +19,10 @@ use Rattle.script.specs.Machine.{Buf, Machine, Ans, ended, handed, call, Call, 
 use Rattle.script_ops.specs.Rings.{St}
 use Rattle.script_ops.specs.Concrete.{concrete}
 use Rattle.script_ops.specs.Answers.{front}
+pub use Rattle.script_ops.specs.Numbers.{withTag}
 use Rattle.answer.specs.declared.Step.{Step}
 use Rattle.answer.specs.declared.Step.the-variants as step
 use Rattle.answer.specs.Questions.{questionOf}
-
-abbrev pub withTag : ℕ → Saved → Saved
-withTag t c = record {
-  tag = t;
-  sub = c .sub;
-  site = c .site;
-  flag = c .flag;
-  busy = c .busy;
-  late = c .late;
-  «len_ok» = c .«len_ok»;
-  st = c .st;
-  now = c .now;
-  ep = c .ep;
-  len = c .len;
-  frame = c .frame;
-  eps = c .eps;
-  n = c .n;
-  value = c .value;
-}
 
 abbrev pub finish : ℕ → Script false Answer
 finish n = do

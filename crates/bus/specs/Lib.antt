@@ -6,3 +6,4 @@ pub mod SetStalledLaws
 pub mod SetEnabledLaws
 pub mod EventsLaws
 pub mod IsoOutEnableLaws
+pub mod PointsLaws

@@ -32,6 +32,8 @@ use Rattle.script_ops.specs.Numbers.{fits}
 pub use Rattle.script_ops.specs.Results.{resultless}
 use Rattle.bus.specs.declared.Point.{Point}
 use Rattle.bus.specs.declared.Point.the-variants as point
+use Rattle.script_ops.specs.Numbers.{BUS, withTag}
+use Rattle.bus.specs.Codec.{asNumbers, decode}
 use Rattle.bus.specs.declared.Next.{Next}
 use Rattle.bus.specs.declared.Next.the-variants as next
 
@@ -175,13 +177,18 @@ denote (point.Words d e iso on) v t = run concrete (afterWords d e iso on) t
 denote (point.Type d e on) v t = run concrete (afterType d e on) t
 denote (point.Switch e on n) v t = switching e on n t
 
+-- the access is handed out, and the operation is under way at a point
+abbrev pub asked : Access → Point → Driver → List ℕ → tree.Out St ℕ
+asked q p d b = asks q (d, b) (λ v t. denote p v t)
+
+-- a begin's answer, with what is to be saved
 abbrev pub meaning : Next → Driver → List ℕ → tree.Out St ℕ
-meaning (next.Asks q p) d b = asks q (d, b) (λ v t. denote p v t)
+meaning (next.Asks q c) d b = asked q (decode c) d b
 meaning (next.Ends n) d b = ends n (d, b)
 
 -- on the lent bytes before and after: what is handed out with r is what is left to run at p, whatever is brought there
 abbrev pub Follows : Point → Access → Point → List ℕ → List ℕ → Type 0
-Follows p q r xs ys = (v : ℕ) (b : List ℕ) → meaning (next.Asks q r) (view ys) b ≡ denote p v (view xs, b)
+Follows p q r xs ys = (v : ℕ) (b : List ℕ) → asked q r (view ys) b ≡ denote p v (view xs, b)
 
 -- what a point awaits
 abbrev pub awaitsAt : Point → Awaits
@@ -215,6 +222,10 @@ unfoldable pub fitsAt : Point → ℕ → Bool
 fitsAt p v = fits (awaitsAt p) v
 
 -- what it awaits is the access handed out with it
+abbrev pub Awaited : Access → Point → Type 0
+Awaited q p = awaited q ≡ awaitsAt p
+
+-- so of a begin, and what is to be saved is the point's record
 abbrev pub Linked : Next → Type 0
-Linked (next.Asks q p) = awaited q ≡ awaitsAt p
+Linked (next.Asks q c) = Awaited q (decode c) × (c ≡ withTag BUS (asNumbers (decode c)))
 Linked (next.Ends n) = Unit {0}

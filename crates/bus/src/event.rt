@@ -1,6 +1,8 @@
 use crate::Next;
-use crate::Point;
+use crate::points::FLAGS;
+use crate::points::point;
 use regs::Access;
+use regs::Dir;
 use regs::Reg;
 use regs::control_word;
 use regs::flags;
@@ -25,7 +27,9 @@ ghost use Rattle.script.specs.Script.{run};
 ghost use Rattle.script.specs.Bus as script;
 ghost use Rattle.script_ops.specs.Means.{MeansFrom};
 ghost use Rattle.script_ops.specs.Concrete.{concrete, go};
+ghost use Rattle.bus.specs.declared.Point.the-variants as Point;
 ghost use Rattle.bus.specs.Points.{afterReset, afterNaked, afterReleased, denote, meaning, Follows, Linked};
+ghost use Rattle.bus.specs.Points.{asked, Awaited};
 
 // `poll` (mod.rs 1231-1266).
 pub fn poll(s: &mut State) -> Next
@@ -33,7 +37,10 @@ pub fn poll(s: &mut State) -> Next
 {
     let mut g = load_globals(s);
     if is_on(g.power) {
-        return Next::Asks(Access::Read(Reg::IntFg, 0), Point::Flags);
+        return Next::Asks(
+            Access::Read(Reg::IntFg, 0),
+            point(FLAGS, Dir::Out, false, false, 0, 0),
+        );
     }
     g.power = 1;
     store_globals(s, g);
@@ -43,10 +50,10 @@ pub fn poll(s: &mut State) -> Next
 // The suspend interrupt is enabled again (mod.rs 1254); the event is by the status.
 pub fn after_released(s: &mut State) -> Access
     ensures { λ r. ⌜ ((down : Bool) (b : List ℕ) →
-        meaning (Next.Asks r (Point.Event (cond down 3 4))) (view (now (s .exit))) b
+        asked r (Point.Event (cond down 3 4)) (view (now (s .exit))) b
         ≡ go (afterReleased down) (view (now (s .entry))) b) ⌝ }
     ensures { λ _. ⌜ saved (now (s .exit)) ≡ saved (now (s .entry)) ⌝ }
-    ensures { λ r. ⌜ ((n : ℕ) → Linked (Next.Asks r (Point.Event n))) ⌝ }
+    ensures { λ r. ⌜ ((n : ℕ) → Awaited r (Point.Event n)) ⌝ }
 {
     let g = load_globals(s);
     let word = int_en::with_suspend(g.int_en, true);
@@ -63,26 +70,25 @@ fn nak_word() -> u32
 
 // `bus_reset` (mod.rs 1187-1221): EP0's OUT answers ACK, all else NAK.
 pub fn after_address() -> Access
-    ensures { λ r. ⌜ ((v : ℕ) (d : Driver) (b : List ℕ) → meaning (Next.Asks r Point.Ep0Out) d b
-        ≡ denote Point.Address v (d, b)) ⌝ }
-    ensures { λ r. ⌜ Linked (Next.Asks r Point.Ep0Out) ⌝ }
+    ensures { λ r. ⌜ ((v : ℕ) (d : Driver) (b : List ℕ) → asked r Point.Ep0Out d b ≡ denote Point.Address v (d, b)) ⌝ }
+    ensures { λ r. ⌜ Awaited r Point.Ep0Out ⌝ }
 {
     let word = control_word::word_of(control_word::ACK, control_word::DATA0, false);
     Access::Write(Reg::EpRxCtrl, 0, word as u32)
 }
 
 pub fn after_ep0_out() -> Access
-    ensures { λ r. ⌜ ((v : ℕ) (d : Driver) (b : List ℕ) → meaning (Next.Asks r (Point.Naked 0)) d b
+    ensures { λ r. ⌜ ((v : ℕ) (d : Driver) (b : List ℕ) → asked r (Point.Naked 0) d b
         ≡ denote Point.Ep0Out v (d, b)) ⌝ }
-    ensures { λ r. ⌜ Linked (Next.Asks r (Point.Naked 0)) ⌝ }
+    ensures { λ r. ⌜ Awaited r (Point.Naked 0) ⌝ }
 {
     Access::Write(Reg::EpTxCtrl, 0, nak_word())
 }
 
 pub fn after_nak_in(e: u8) -> Access
-    ensures { λ r. ⌜ ((v : ℕ) (d : Driver) (b : List ℕ) → meaning (Next.Asks r (Point.Naked e)) d b
+    ensures { λ r. ⌜ ((v : ℕ) (d : Driver) (b : List ℕ) → asked r (Point.Naked e) d b
         ≡ denote (Point.NakIn e) v (d, b)) ⌝ }
-    ensures { λ r. ⌜ Linked (Next.Asks r (Point.Naked e)) ⌝ }
+    ensures { λ r. ⌜ Awaited r (Point.Naked e) ⌝ }
 {
     Access::Write(Reg::EpRxCtrl, e, nak_word())
 }
@@ -90,9 +96,8 @@ pub fn after_nak_in(e: u8) -> Access
 // The next endpoint.
 pub fn after_naked(e: u8) -> Access
     requires { ⌜ e < 15 ⌝ }
-    ensures { λ r. ⌜ ((d : Driver) (b : List ℕ) → meaning (Next.Asks r (Point.NakIn (e + 1))) d b
-        ≡ go (afterNaked e) d b) ⌝ }
-    ensures { λ r. ⌜ Linked (Next.Asks r (Point.NakIn (e + 1))) ⌝ }
+    ensures { λ r. ⌜ ((d : Driver) (b : List ℕ) → asked r (Point.NakIn (e + 1)) d b ≡ go (afterNaked e) d b) ⌝ }
+    ensures { λ r. ⌜ Awaited r (Point.NakIn (e + 1)) ⌝ }
 {
     Access::Write(Reg::EpTxCtrl, e + 1, nak_word())
 }
@@ -100,9 +105,9 @@ pub fn after_naked(e: u8) -> Access
 // After the last, the row that disables them all.
 pub fn after_last(s: &mut State) -> Access
     ensures { λ r. ⌜ ((e : ℕ) → 15 ≤ e → (b : List ℕ) →
-        meaning (Next.Asks r Point.Disabled) (view (now (s .exit))) b ≡ go (afterNaked e) (view (now (s .entry))) b) ⌝ }
+        asked r Point.Disabled (view (now (s .exit))) b ≡ go (afterNaked e) (view (now (s .entry))) b) ⌝ }
     ensures { λ _. ⌜ saved (now (s .exit)) ≡ saved (now (s .entry)) ⌝ }
-    ensures { λ r. ⌜ Linked (Next.Asks r Point.Disabled) ⌝ }
+    ensures { λ r. ⌜ Awaited r Point.Disabled ⌝ }
 {
     set_ep_config(s, 0);
     Access::Write(Reg::EpConfig, 0, 0)
@@ -111,16 +116,15 @@ pub fn after_last(s: &mut State) -> Access
 pub fn after_disabled(s: &mut State) -> Access
     ensures { λ r. ⌜ Follows Point.Disabled r Point.Untyped (now (s .entry)) (now (s .exit)) ⌝ }
     ensures { λ _. ⌜ saved (now (s .exit)) ≡ saved (now (s .entry)) ⌝ }
-    ensures { λ r. ⌜ Linked (Next.Asks r Point.Untyped) ⌝ }
+    ensures { λ r. ⌜ Awaited r Point.Untyped ⌝ }
 {
     set_ep_type(s, 0);
     Access::Write(Reg::EpType, 0, 0)
 }
 
 pub fn after_untyped() -> Access
-    ensures { λ r. ⌜ ((v : ℕ) (d : Driver) (b : List ℕ) → meaning (Next.Asks r Point.Single) d b
-        ≡ denote Point.Untyped v (d, b)) ⌝ }
-    ensures { λ r. ⌜ Linked (Next.Asks r Point.Single) ⌝ }
+    ensures { λ r. ⌜ ((v : ℕ) (d : Driver) (b : List ℕ) → asked r Point.Single d b ≡ denote Point.Untyped v (d, b)) ⌝ }
+    ensures { λ r. ⌜ Awaited r Point.Single ⌝ }
 {
     Access::Write(Reg::EpBufMod, 0, 0)
 }
@@ -129,7 +133,7 @@ pub fn after_untyped() -> Access
 pub fn after_single(s: &mut State) -> Access
     ensures { λ r. ⌜ Follows Point.Single r Point.Reset (now (s .entry)) (now (s .exit)) ⌝ }
     ensures { λ _. ⌜ saved (now (s .exit)) ≡ saved (now (s .entry)) ⌝ }
-    ensures { λ r. ⌜ Linked (Next.Asks r Point.Reset) ⌝ }
+    ensures { λ r. ⌜ Awaited r Point.Reset ⌝ }
 {
     reset_all(s);
     Access::Write(Reg::IntFg, 0, flags::BUS_RST)
@@ -137,10 +141,10 @@ pub fn after_single(s: &mut State) -> Access
 
 // All are woken, and the reset interrupt is enabled again (mod.rs 1218-1220, 1247).
 pub fn after_reset(s: &mut State) -> Access
-    ensures { λ r. ⌜ ((b : List ℕ) → meaning (Next.Asks r (Point.Event 2)) (view (now (s .exit))) b
+    ensures { λ r. ⌜ ((b : List ℕ) → asked r (Point.Event 2) (view (now (s .exit))) b
         ≡ go afterReset (view (now (s .entry))) b) ⌝ }
     ensures { λ _. ⌜ saved (now (s .exit)) ≡ saved (now (s .entry)) ⌝ }
-    ensures { λ r. ⌜ Linked (Next.Asks r (Point.Event 2)) ⌝ }
+    ensures { λ r. ⌜ Awaited r (Point.Event 2) ⌝ }
 {
     wake_all(s);
     let g = load_globals(s);

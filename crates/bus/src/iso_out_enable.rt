@@ -10,9 +10,8 @@ ghost use mathlib.Core.Path.{_≡_};
 ghost use mathlib.Core.Bool.{cond};
 ghost use Prim.Native.Nat.{_-_, _<_};
 ghost use Rattle.state.specs.State.{view, saved};
-ghost use Rattle.bus.specs.declared.Next.the-variants as Next;
 ghost use Rattle.bus.specs.declared.Point.the-variants as Point;
-ghost use Rattle.bus.specs.Points.{switching, meaning, Linked};
+ghost use Rattle.bus.specs.Points.{switching, asked, Awaited};
 
 // The word of the row: ISO responses, or NAK.
 fn switch_word(on: bool) -> u32
@@ -28,10 +27,10 @@ fn switch_word(on: bool) -> u32
 // these are left.
 pub fn after_switch(s: &mut State, buf: &mut [u8], e: u8, on: bool, n: u8) -> Access
     requires { ⌜ 0 < n ⌝ }
-    ensures { λ r. ⌜ meaning (Next.Asks r (Point.Switch e on (n - 1))) (view (now (s .exit))) (now (buf .exit))
+    ensures { λ r. ⌜ asked r (Point.Switch e on (n - 1)) (view (now (s .exit))) (now (buf .exit))
         ≡ switching e on n (view (now (s .entry)), now (buf .entry)) ⌝ }
     ensures { λ _. ⌜ saved (now (s .exit)) ≡ saved (now (s .entry)) ⌝ }
-    ensures { λ r. ⌜ Linked (Next.Asks r (Point.Switch e on (n - 1))) ⌝ }
+    ensures { λ r. ⌜ Awaited r (Point.Switch e on (n - 1)) ⌝ }
 {
     if 3 < n {
         let at = slot_step(s, buf, e, n - 4);

@@ -2,15 +2,15 @@
 // any number is safe.
 use regs::Access;
 use regs::Dir;
+use state::Saved;
 
-mod codec; // codec.rt: points as numbers
+pub mod points; // points.rt: their numbers, and what is saved of each
 pub mod set_stalled; // set_stalled.rt: endpoints stalled and restarted
 pub mod set_enabled; // set_enabled.rt: endpoints enabled and disabled
 pub mod events; // events.rt: the bus goes on: enable, poll with reset, suspend and resume
 pub mod event; // event.rt: power, reset, suspend and resume
 pub mod iso_out_enable; // iso_out_enable.rt: an isochronous OUT enabled and disabled: its row of accesses
 
-pub use codec::encode;
 pub use script_ops::points::flag_of;
 ghost use mathlib.Core.Path.{_≡_};
 ghost use mathlib.Core.Bool.{true};
@@ -44,9 +44,9 @@ pub enum Point {
     Switch(u8, bool, u8), // in the row of an isochronous OUT; enabled, how many of its accesses are left
 }
 
-// The next access with the point at which the operation stops, or its result.
+// The next access with the record of the point at which the operation stops, or its result.
 pub enum Next {
-    Asks(Access, Point),
+    Asks(Access, Saved),
     Ends(u16),
 }
 

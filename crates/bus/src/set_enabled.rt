@@ -1,8 +1,11 @@
 // Endpoints enabled and disabled (mod.rs 1268-1330) one access at a time. Every function is total: any number is safe.
 use crate::Next;
-use crate::Point;
 use crate::flag_of;
 use crate::iso_out_enable::after_switch;
+use crate::points::PLACED_IN;
+use crate::points::PLACED_OUT;
+use crate::points::SWITCH;
+use crate::points::point;
 use regs::Access;
 use regs::Dir;
 use regs::Reg;
@@ -30,8 +33,9 @@ ghost use Rattle.script.specs.Bus as script;
 ghost use Rattle.script_ops.specs.Means.{MeansFrom, MeansWithSlots};
 ghost use Rattle.script_ops.specs.Concrete.{concrete, go};
 ghost use Rattle.script_ops.specs.Records.{isoOut};
+ghost use Rattle.bus.specs.declared.Point.the-variants as Point;
 ghost use Rattle.bus.specs.Points.{resultless, renewedAs, enabledOut, afterType, afterWords, afterPlaced, denote};
-ghost use Rattle.bus.specs.Points.{meaning, Linked};
+ghost use Rattle.bus.specs.Points.{meaning, Linked, asked, Awaited};
 
 // The record reset, and armed or not.
 fn renew(s: &mut State, dir: Dir, e: u8, armed: u8)
@@ -53,7 +57,10 @@ fn set_enabled_out(s: &mut State, e: u8, on: bool) -> Next
 {
     renew(s, Dir::Out, e, flag_of(on));
     let at = place(s, Dir::Out, e);
-    Next::Asks(Access::Receive(e, at), Point::PlacedOut(e, on))
+    Next::Asks(
+        Access::Receive(e, at),
+        point(PLACED_OUT, Dir::Out, on, false, 0, e),
+    )
 }
 
 fn set_enabled_in(s: &mut State, e: u8, on: bool) -> Next
@@ -65,7 +72,10 @@ fn set_enabled_in(s: &mut State, e: u8, on: bool) -> Next
     renew(s, Dir::In, e, 0);
     store_paced(s, e, EpState::NO_FRAME);
     let at = place(s, Dir::In, e);
-    Next::Asks(Access::Transmit(e, at), Point::PlacedIn(e, iso, on))
+    Next::Asks(
+        Access::Transmit(e, at),
+        point(PLACED_IN, Dir::Out, on, iso, 0, e),
+    )
 }
 
 // `endpoint_set_enabled` (mod.rs 1268-1330).
@@ -77,7 +87,7 @@ pub fn endpoint_set_enabled(s: &mut State, buf: &mut [u8], dir: Dir, e: u8, on: 
         Dir::Out => {
             if iso_out(s, Dir::Out, e) {
                 let q = after_switch(s, buf, e, on, 19);
-                return Next::Asks(q, Point::Switch(e, on, 18));
+                return Next::Asks(q, point(SWITCH, Dir::Out, on, false, 18, e));
             }
             set_enabled_out(s, e, on)
         }
@@ -96,19 +106,18 @@ fn out_word(on: bool) -> u8
 }
 
 pub fn after_placed_out(e: u8, on: bool) -> Access
-    ensures { λ r. ⌜ ((v : ℕ) (d : Driver) (b : List ℕ) → meaning (Next.Asks r (Point.Words Dir.Out e false on)) d b
+    ensures { λ r. ⌜ ((v : ℕ) (d : Driver) (b : List ℕ) → asked r (Point.Words Dir.Out e false on) d b
         ≡ denote (Point.PlacedOut e on) v (d, b)) ⌝ }
-    ensures { λ r. ⌜ Linked (Next.Asks r (Point.Words Dir.Out e false on)) ⌝ }
+    ensures { λ r. ⌜ Awaited r (Point.Words Dir.Out e false on) ⌝ }
 {
     let word = out_word(on);
     Access::Write(Reg::EpRxCtrl, e, word as u32)
 }
 
 pub fn after_placed_in(e: u8) -> Access
-    ensures { λ r. ⌜ ((iso on : Bool) (v : ℕ) (d : Driver) (b : List ℕ)
-        → meaning (Next.Asks r (Point.NoLength e iso on)) d b
+    ensures { λ r. ⌜ ((iso on : Bool) (v : ℕ) (d : Driver) (b : List ℕ) → asked r (Point.NoLength e iso on) d b
         ≡ denote (Point.PlacedIn e iso on) v (d, b)) ⌝ }
-    ensures { λ r. ⌜ ((iso on : Bool) → Linked (Next.Asks r (Point.NoLength e iso on))) ⌝ }
+    ensures { λ r. ⌜ ((iso on : Bool) → Awaited r (Point.NoLength e iso on)) ⌝ }
 {
     Access::Write(Reg::EpTLen, e, 0)
 }
@@ -133,9 +142,9 @@ fn in_word(iso: bool, on: bool) -> u8
 }
 
 pub fn after_no_length(e: u8, iso: bool, on: bool) -> Access
-    ensures { λ r. ⌜ ((d : Driver) (b : List ℕ) → meaning (Next.Asks r (Point.Words Dir.In e iso on)) d b
+    ensures { λ r. ⌜ ((d : Driver) (b : List ℕ) → asked r (Point.Words Dir.In e iso on) d b
         ≡ go (afterPlaced e iso on) d b) ⌝ }
-    ensures { λ r. ⌜ Linked (Next.Asks r (Point.Words Dir.In e iso on)) ⌝ }
+    ensures { λ r. ⌜ Awaited r (Point.Words Dir.In e iso on) ⌝ }
 {
     let word = in_word(iso, on);
     Access::Write(Reg::EpTxCtrl, e, word as u32)
@@ -143,10 +152,10 @@ pub fn after_no_length(e: u8, iso: bool, on: bool) -> Access
 
 // ep_type's bit, then ep_config's (mod.rs 1310-1311, 1324-1325).
 pub fn after_words(s: &mut State, dir: Dir, e: u8, iso: bool, on: bool) -> Access
-    ensures { λ r. ⌜ ((b : List ℕ) → meaning (Next.Asks r (Point.Type dir e on)) (view (now (s .exit))) b
+    ensures { λ r. ⌜ ((b : List ℕ) → asked r (Point.Type dir e on) (view (now (s .exit))) b
         ≡ go (afterWords dir e iso on) (view (now (s .entry))) b) ⌝ }
     ensures { λ _. ⌜ saved (now (s .exit)) ≡ saved (now (s .entry)) ⌝ }
-    ensures { λ r. ⌜ Linked (Next.Asks r (Point.Type dir e on)) ⌝ }
+    ensures { λ r. ⌜ Awaited r (Point.Type dir e on) ⌝ }
 {
     let g = load_globals(s);
     let bit = both(iso, on);
@@ -156,10 +165,10 @@ pub fn after_words(s: &mut State, dir: Dir, e: u8, iso: bool, on: bool) -> Acces
 }
 
 pub fn after_type(s: &mut State, dir: Dir, e: u8, on: bool) -> Access
-    ensures { λ r. ⌜ ((b : List ℕ) → meaning (Next.Asks r (Point.Woken dir e)) (view (now (s .exit))) b
+    ensures { λ r. ⌜ ((b : List ℕ) → asked r (Point.Woken dir e) (view (now (s .exit))) b
         ≡ go (afterType dir e on) (view (now (s .entry))) b) ⌝ }
     ensures { λ _. ⌜ saved (now (s .exit)) ≡ saved (now (s .entry)) ⌝ }
-    ensures { λ r. ⌜ Linked (Next.Asks r (Point.Woken dir e)) ⌝ }
+    ensures { λ r. ⌜ Awaited r (Point.Woken dir e) ⌝ }
 {
     script_ops::records::set_enabled(s, dir, e, on);
     let g = load_globals(s);

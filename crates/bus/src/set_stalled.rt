@@ -1,7 +1,12 @@
 // Stalls (mod.rs 1053-1106) one access at a time. Every function is total: any number is safe.
 use crate::Next;
-use crate::Point;
 use crate::byte;
+use crate::points::RESTARTED;
+use crate::points::STALL_LEN;
+use crate::points::STALL_WORD;
+use crate::points::STALLED;
+use crate::points::WOKEN;
+use crate::points::point;
 use regs::Access;
 use regs::Dir;
 use regs::Reg;
@@ -26,13 +31,18 @@ ghost use Rattle.script_ops.specs.Means.{Means, MeansFrom};
 ghost use Rattle.script_ops.specs.Concrete.{concrete, go};
 ghost use Rattle.script_ops.specs.Records.{plainOf};
 ghost use Rattle.script.specs.Tree.{ends};
-ghost use Rattle.bus.specs.Points.{resultless, afterStallWord, afterRestart, denote, meaning, Linked};
+ghost use Rattle.bus.specs.declared.Point.the-variants as Point;
+ghost use Rattle.bus.specs.Points.{resultless, afterStallWord, afterRestart, denote, meaning, Linked, asked};
+ghost use Rattle.bus.specs.Points.{Awaited};
 
 // `is_endpoint_stalled` (mod.rs 1101-1106).
 pub fn is_endpoint_stalled(dir: Dir, e: u8) -> Next
     ensures { λ r. ⌜ Means (meaning r) (Linked r) (run concrete (script.isEndpointStalled {i = false} dir e)) ⌝ }
 {
-    Next::Asks(Access::Read(ctrl_of(dir), e), Point::Stalled)
+    Next::Asks(
+        Access::Read(ctrl_of(dir), e),
+        point(STALLED, Dir::Out, false, false, 0, 0),
+    )
 }
 
 // What was asked: is it?
@@ -87,7 +97,7 @@ fn restart(s: &mut State, dir: Dir, e: u8) -> Next
             let word = restarted_out(e, r);
             Next::Asks(
                 Access::Write(Reg::EpRxCtrl, e, word as u32),
-                Point::Woken(Dir::Out, e),
+                point(WOKEN, Dir::Out, false, false, 0, e),
             )
         }
         Dir::In => {
@@ -95,7 +105,7 @@ fn restart(s: &mut State, dir: Dir, e: u8) -> Next
             let iso = is_on(r.iso);
             Next::Asks(
                 Access::Write(Reg::EpTxCtrl, e, word as u32),
-                Point::Restarted(e, iso),
+                point(RESTARTED, Dir::Out, false, iso, 0, e),
             )
         }
     }
@@ -112,25 +122,27 @@ pub fn set_endpoint_stalled(s: &mut State, dir: Dir, e: u8, on: bool) -> Next
     match dir {
         Dir::Out => Next::Asks(
             Access::Read(Reg::EpRxCtrl, e),
-            Point::StallWord(Dir::Out, e),
+            point(STALL_WORD, Dir::Out, false, false, 0, e),
         ),
-        Dir::In => Next::Asks(Access::Write(Reg::EpTLen, e, 0), Point::StallLen(e)),
+        Dir::In => Next::Asks(
+            Access::Write(Reg::EpTLen, e, 0),
+            point(STALL_LEN, Dir::Out, false, false, 0, e),
+        ),
     }
 }
 
 pub fn after_stall_len(e: u8) -> Access
-    ensures { λ r. ⌜ ((v : ℕ) (d : Driver) (b : List ℕ) → meaning (Next.Asks r (Point.StallWord Dir.In e)) d b
+    ensures { λ r. ⌜ ((v : ℕ) (d : Driver) (b : List ℕ) → asked r (Point.StallWord Dir.In e) d b
         ≡ denote (Point.StallLen e) v (d, b)) ⌝ }
-    ensures { λ r. ⌜ Linked (Next.Asks r (Point.StallWord Dir.In e)) ⌝ }
+    ensures { λ r. ⌜ Awaited r (Point.StallWord Dir.In e) ⌝ }
 {
     Access::Read(Reg::EpTxCtrl, e)
 }
 
 pub fn after_stall_word(dir: Dir, e: u8, v: u32) -> Access
     requires { ⌜ fitsIn v 8 ≡ true ⌝ }
-    ensures { λ r. ⌜ ((d : Driver) (b : List ℕ) → meaning (Next.Asks r (Point.Woken dir e)) d b
-        ≡ go (afterStallWord dir e v) d b) ⌝ }
-    ensures { λ r. ⌜ Linked (Next.Asks r (Point.Woken dir e)) ⌝ }
+    ensures { λ r. ⌜ ((d : Driver) (b : List ℕ) → asked r (Point.Woken dir e) d b ≡ go (afterStallWord dir e v) d b) ⌝ }
+    ensures { λ r. ⌜ Awaited r (Point.Woken dir e) ⌝ }
 {
     let word = control_word::stall(byte(v));
     Access::Write(ctrl_of(dir), e, word as u32)

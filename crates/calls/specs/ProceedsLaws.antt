@@ -7,13 +7,14 @@ use Rattle.state.specs.Driver.{Driver}
 use Rattle.script.specs.Answers.{Answer}
 use Rattle.script.specs.Machine.{Buf, Machine, continue}
 use Rattle.answer.specs.declared.Step.{Step}
+use Rattle.script_ops.specs.Numbers.{INTERRUPT}
 use Rattle.machine.specs.Suspended.{machineOf, drive, answerOf}
 use Rattle.answer.specs.Goes.{StepResult}
 use Rattle.calls.specs.Sharing.{sharedCall, going, timeAfter}
 use Rattle.calls.specs.SharingLaws.{settles}
 use Rattle.calls.specs.StaysLaws.{interrupt-stays}
 
-pub interrupt-shared : (i v : ℕ) (xs t : List ℕ) (a b : Buf) (y : StepResult) → saved xs .tag ≡ 6
+pub interrupt-shared : (i v : ℕ) (xs t : List ℕ) (a b : Buf) (y : StepResult) → saved xs .tag ≡ INTERRUPT
     → y ≡ drive (continue v) (machineOf xs a) b → (y, t) ≡ sharedCall i (continue v) (machineOf xs a) t b
 interrupt-shared i v xs t a b y h e =
     settles i (continue v) (machineOf xs a) t b y t refl e

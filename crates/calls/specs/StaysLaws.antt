@@ -16,6 +16,7 @@ use Rattle.script.specs.EveryLaws.{every-bind, only-run}
 use Rattle.script.specs.Calls.{calls}
 use Rattle.script.specs.Machine.{Buf, ended, over, continue}
 use Rattle.script.specs.Script.{run}
+use Rattle.script_ops.specs.Numbers.{INTERRUPT}
 use Rattle.script_ops.specs.Rings.{St}
 use Rattle.script_ops.specs.Concrete.{concrete}
 use Rattle.interrupt.specs.declared.Point.{Point}
@@ -64,7 +65,7 @@ module _ (i : ℕ) (t : List ℕ) where
       (every-bind (point-spares p v (d, b)) (λ _ n u _. only-run concrete (finish n) (λ _. tt, λ _. tt) tt u)))
 
   -- "time comes back with the write of a disabling or bus reset", so an interrupt's continue leaves the record
-  pub interrupt-stays : (v : ℕ) (c : Saved) (d : Driver) (a b : Buf) → c .tag ≡ 6
+  pub interrupt-stays : (v : ℕ) (c : Saved) (d : Driver) (a b : Buf) → c .tag ≡ INTERRUPT
       → t ≡ timeAfter i going (drive (continue v) (machineAt (decode c) d a) b .0) d t
   interrupt-stays v c d a b h =
       let p = handlerCodec.decode c in

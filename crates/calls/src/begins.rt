@@ -1,9 +1,10 @@
 use answer::Step;
 use isochronous::advance;
+use machine::halts::suspend_interrupt;
 use machine::halts::suspend_or_end;
 use machine::halts::suspend_or_end_advance;
-use machine::halts::suspend_or_end_interrupt;
 use machine::stops::stop;
+use script_ops::rows;
 use script_ops::rows::is_number;
 use script_ops::rows::low;
 use state::State;
@@ -20,7 +21,7 @@ ghost use Rattle.machine.specs.Contracts.{OtherCall};
 pub fn begin_microframe(s: &mut State) -> Step
     ensures { λ r. ⌜ OtherCall Microframe r (now (s .entry)) (now (s .exit)) ⌝ }
 {
-    let n = stop(s, 2);
+    let n = stop(s, rows::STARTED);
     if n == 0 {
         state::clear_wakes(s);
         return suspend_or_end(s, driver::microframe());
@@ -36,13 +37,13 @@ pub fn set_paced(s: &mut State, e: u32, on: bool) -> Step
     ) ≡ drive (begin (other (SetPaced e on))) (machineOf (now (s .entry)) a) b) ⌝ }
     ensures { λ _. ⌜ saved (now (s .exit)) ≡ saved (now (s .entry)) ⌝ }
 {
-    let n = stop(s, 2);
+    let n = stop(s, rows::STARTED);
     if n == 0 {
         if is_number(e) {
             driver::iso_in_set_paced(s, low(e), on);
             return Step::Ends(0, 0);
         }
-        return Step::Refused(5);
+        return Step::Refused(rows::NO_ENDPOINT);
     }
     Step::Refused(n)
 }
@@ -51,14 +52,14 @@ pub fn set_paced(s: &mut State, e: u32, on: bool) -> Step
 pub fn begin_advance(s: &mut State, e: u32) -> Step
     ensures { λ r. ⌜ OtherCall (Advance e) r (now (s .entry)) (now (s .exit)) ⌝ }
 {
-    let n = stop(s, 2);
+    let n = stop(s, rows::STARTED);
     if n == 0 {
         if is_number(e) {
             state::clear_wakes(s);
             let x = advance::iso_in_advance(s, low(e));
             return suspend_or_end_advance(s, x);
         }
-        return Step::Refused(5);
+        return Step::Refused(rows::NO_ENDPOINT);
     }
     Step::Refused(n)
 }
@@ -71,10 +72,10 @@ pub fn begin_interrupt(s: &mut State) -> Step
     ) ≡ drive (begin interrupt) (machineOf (now (s .entry)) a) b) ⌝ }
     ensures { λ r. ⌜ SavedByAnswer r (now (s .entry)) (now (s .exit)) ⌝ }
 {
-    let n = stop(s, 2);
+    let n = stop(s, rows::STARTED);
     if n == 0 {
         state::clear_wakes(s);
-        return suspend_or_end_interrupt(s, interrupt::on_interrupt());
+        return suspend_interrupt(s, interrupt::on_interrupt());
     }
     Step::Refused(n)
 }

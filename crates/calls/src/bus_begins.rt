@@ -3,6 +3,7 @@ use machine::halts::suspend_or_end_bus;
 use machine::stops::slots_fit;
 use machine::stops::stop;
 use regs::Dir;
+use script_ops::rows;
 use script_ops::rows::endpoint;
 use script_ops::rows::is_allocated;
 use script_ops::rows::is_stallable;
@@ -17,7 +18,7 @@ ghost use Rattle.calls.specs.Enters.{Enters};
 fn enter(s: &mut State) -> u8
     ensures { λ r. ⌜ Enters r (now (s .entry)) (now (s .exit)) ⌝ }
 {
-    let n = stop(s, 2);
+    let n = stop(s, rows::STARTED);
     if n == 0 {
         state::clear_wakes(s);
         return 0;
@@ -63,14 +64,14 @@ pub fn begin_bus_poll(s: &mut State) -> Step
 pub fn begin_is_stalled(s: &mut State, dir: Dir, e: u32) -> Step
     ensures { λ r. ⌜ OtherCall (IsStalled dir e) r (now (s .entry)) (now (s .exit)) ⌝ }
 {
-    let n = stop(s, 2);
+    let n = stop(s, rows::STARTED);
     if n == 0 {
         if is_stallable(s, dir, e) {
             state::clear_wakes(s);
             let x = bus::set_stalled::is_endpoint_stalled(dir, endpoint(e));
             return suspend_or_end_bus(s, x);
         }
-        return Step::Refused(5);
+        return Step::Refused(rows::NO_ENDPOINT);
     }
     Step::Refused(n)
 }
@@ -79,14 +80,14 @@ pub fn begin_is_stalled(s: &mut State, dir: Dir, e: u32) -> Step
 pub fn begin_set_stalled(s: &mut State, dir: Dir, e: u32, on: bool) -> Step
     ensures { λ r. ⌜ OtherCall (SetStalled dir e on) r (now (s .entry)) (now (s .exit)) ⌝ }
 {
-    let n = stop(s, 2);
+    let n = stop(s, rows::STARTED);
     if n == 0 {
         if is_stallable(s, dir, e) {
             state::clear_wakes(s);
             let x = bus::set_stalled::set_endpoint_stalled(s, dir, endpoint(e), on);
             return suspend_or_end_bus(s, x);
         }
-        return Step::Refused(5);
+        return Step::Refused(rows::NO_ENDPOINT);
     }
     Step::Refused(n)
 }
@@ -97,16 +98,16 @@ pub fn begin_set_enabled(s: &mut State, slots: &mut [u8], dir: Dir, e: u32, on: 
         (now (slots .exit)) ⌝ }
 {
     if slots_fit(s, slots) {
-        let n = stop(s, 2);
+        let n = stop(s, rows::STARTED);
         if n == 0 {
             if is_allocated(s, dir, e) {
                 state::clear_wakes(s);
                 let x = bus::set_enabled::endpoint_set_enabled(s, slots, dir, low(e), on);
                 return suspend_or_end_bus(s, x);
             }
-            return Step::Refused(5);
+            return Step::Refused(rows::NO_ENDPOINT);
         }
         return Step::Refused(n);
     }
-    Step::Refused(1)
+    Step::Refused(rows::SLOTS_LENGTH)
 }

@@ -3,6 +3,7 @@ use answer::Step;
 use machine::halts::begun_control;
 use machine::saved::is_idle;
 use machine::stops::slots_fit;
+use script_ops::rows;
 use state::State;
 ghost use Rattle.script.specs.Calls.{BeginSetup, BeginDataOut, BeginDataIn, BeginAccept, BeginAcceptSetAddress};
 ghost use Rattle.script.specs.Calls.{BeginReject};
@@ -16,7 +17,7 @@ pub fn begin_setup(s: &mut State) -> Step
         let x = control::setup(s);
         return begun_control(s, x);
     }
-    Step::Refused(3)
+    Step::Refused(rows::UNDER_WAY)
 }
 
 // `data_out` (82-115), into a slice of n bytes.
@@ -27,7 +28,7 @@ pub fn begin_data_out(s: &mut State, n: u32, first: bool) -> Step
         let x = control::data_out(s, n, first);
         return begun_control(s, x);
     }
-    Step::Refused(3)
+    Step::Refused(rows::UNDER_WAY)
 }
 
 // `data_in` (117-161).
@@ -40,9 +41,9 @@ pub fn begin_data_in(s: &mut State, slots: &mut [u8], bytes: &[u8], first: bool,
             let x = control::data_in(s, slots, bytes, first, last);
             return begun_control(s, x);
         }
-        return Step::Refused(3);
+        return Step::Refused(rows::UNDER_WAY);
     }
-    Step::Refused(1)
+    Step::Refused(rows::SLOTS_LENGTH)
 }
 
 // `accept` (26-46, 163-166).
@@ -53,7 +54,7 @@ pub fn begin_accept(s: &mut State) -> Step
         let x = control::accept(s);
         return begun_control(s, x);
     }
-    Step::Refused(3)
+    Step::Refused(rows::UNDER_WAY)
 }
 
 // `accept_set_address` (179-186).
@@ -64,7 +65,7 @@ pub fn begin_accept_set_address(s: &mut State, address: u32) -> Step
         let x = control::accept_set_address(s, address);
         return begun_control(s, x);
     }
-    Step::Refused(3)
+    Step::Refused(rows::UNDER_WAY)
 }
 
 // `reject` (168-177).
@@ -75,5 +76,5 @@ pub fn begin_reject(s: &mut State) -> Step
         let x = control::reject(s);
         return begun_control(s, x);
     }
-    Step::Refused(3)
+    Step::Refused(rows::UNDER_WAY)
 }

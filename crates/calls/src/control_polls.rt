@@ -3,6 +3,7 @@ use answer::Step;
 use machine::halts::polled_control;
 use machine::saved::is_idle;
 use machine::stops::slots_fit;
+use script_ops::rows;
 use state::State;
 ghost use lib.ListN.{length};
 ghost use Rattle.script.specs.Calls.{PollSetup, PollDataOut, PollDataIn, PollAccept};
@@ -16,7 +17,7 @@ pub fn poll_setup(s: &mut State) -> Step
         let x = control::poll_setup(s);
         return polled_control(s, x);
     }
-    Step::Refused(3)
+    Step::Refused(rows::UNDER_WAY)
 }
 
 // `data_out` (82-115): the packet at the front of `out`.
@@ -29,9 +30,9 @@ pub fn poll_data_out(s: &mut State, slots: &[u8], out: &mut [u8]) -> Step
             let x = control::poll_data_out(s, slots, out);
             return polled_control(s, x);
         }
-        return Step::Refused(3);
+        return Step::Refused(rows::UNDER_WAY);
     }
-    Step::Refused(1)
+    Step::Refused(rows::SLOTS_LENGTH)
 }
 
 // `data_in` (117-161).
@@ -42,7 +43,7 @@ pub fn poll_data_in(s: &mut State) -> Step
         let x = control::poll_data_in(s);
         return polled_control(s, x);
     }
-    Step::Refused(3)
+    Step::Refused(rows::UNDER_WAY)
 }
 
 // `accept` and `accept_set_address` (26-46).
@@ -53,5 +54,5 @@ pub fn poll_accept(s: &mut State) -> Step
         let x = control::poll_accept(s);
         return polled_control(s, x);
     }
-    Step::Refused(3)
+    Step::Refused(rows::UNDER_WAY)
 }

@@ -4,6 +4,7 @@ use answer::Step;
 use isochronous::open_close::Packet;
 use machine::saved::may_pass;
 use machine::stops::slots_fit;
+use script_ops::rows;
 use state::State;
 ghost use mathlib.Core.Path.{_≡_};
 ghost use mathlib.Core.List.{List};
@@ -41,9 +42,9 @@ pub fn open(s: &mut State, slots: &[u8], e: u32) -> Step
             let x = isochronous::open_close::iso_out_take(s, slots, e);
             return told(x);
         }
-        return Step::Refused(3);
+        return Step::Refused(rows::UNDER_WAY);
     }
-    Step::Refused(1)
+    Step::Refused(rows::SLOTS_LENGTH)
 }
 
 // And its last.
@@ -58,7 +59,7 @@ pub fn close(s: &mut State, e: u32) -> Step
         let x = isochronous::open_close::iso_out_take_close(s, e);
         return told(x);
     }
-    Step::Refused(3)
+    Step::Refused(rows::UNDER_WAY)
 }
 
 // `iso_in_prime` (342-395).
@@ -75,7 +76,7 @@ pub fn queue(s: &mut State, slots: &mut [u8], e: u32, bytes: &[u8]) -> Step
             let x = isochronous::queue::iso_in_prime(s, slots, e, bytes);
             return told(x);
         }
-        return Step::Refused(3);
+        return Step::Refused(rows::UNDER_WAY);
     }
-    Step::Refused(1)
+    Step::Refused(rows::SLOTS_LENGTH)
 }

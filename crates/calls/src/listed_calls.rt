@@ -5,6 +5,7 @@ use descriptor::Endpoints;
 use descriptor::preview::Shown;
 use machine::halts::suspend_or_end;
 use machine::stops::stop;
+use script_ops::rows;
 use state::State;
 ghost use mathlib.Core.Path.{_≡_};
 ghost use mathlib.Core.Bool.{true};
@@ -43,7 +44,7 @@ fn allocate_listed(s: &mut State, list: Endpoints) -> Step
 pub fn allocate_all(s: &mut State, bytes: &[u8]) -> Step
     ensures { λ r. ⌜ OtherCall (AllocateAll (now (bytes .entry))) r (now (s .entry)) (now (s .exit)) ⌝ }
 {
-    let n = stop(s, 1);
+    let n = stop(s, rows::STARTED_UP);
     if n == 0 {
         let r = descriptor::read(bytes);
         let answer = r.answer;
@@ -67,7 +68,7 @@ pub fn preview(s: &State, bytes: &[u8]) -> Shown
         (view (now (s .entry)) .globals .stage))
         (view (now (s .entry)) .allocator) (now (bytes .entry)) ⌝ }
 {
-    let n = stop(s, 1);
+    let n = stop(s, rows::STARTED_UP);
     if n == 0 {
         return descriptor::preview::preview(state::load_allocator(s), bytes);
     }

@@ -6,10 +6,11 @@ use state::State;
 ghost use mathlib.Core.Path.{_≡_};
 ghost use Rattle.state.specs.State.{saved};
 ghost use Rattle.script.specs.Machine.{continue};
+ghost use Rattle.script_ops.specs.Numbers as tags;
 ghost use Rattle.calls.specs.Sharing.{SharedStep};
 
 pub fn operate(s: &mut State, slots: &mut [u8], time: &mut Time, driver: u32, v: u32) -> Step
-    requires { ⌜ (saved (now s) .tag ≡ 6 → ⊥) ⌝ }
+    requires { ⌜ (saved (now s) .tag ≡ tags.INTERRUPT → ⊥) ⌝ }
     ensures { λ r. ⌜ SharedStep r driver (continue v) (now (s .entry)) (now (s .exit))
         (now (slots .entry)) (now (slots .exit)) (now (time .entry)) (now (time .exit)) ⌝ }
 {

@@ -3,13 +3,11 @@ use answer::Step;
 use answer::call_answer_step::step_of;
 use bus_time::Time;
 use machine::saved::tag;
+pub use script_ops::points::INTERRUPT;
 use state::State;
 ghost use mathlib.Core.Path.{_≡_};
 ghost use Rattle.script.specs.Machine.{continue};
 ghost use Rattle.calls.specs.Sharing.{SharedStep};
-
-// The tag of an interrupt's point.
-pub const INTERRUPT: u8 = 6;
 
 // Goes on with the operation under way. An interrupt writes no ep_config, so the record is not looked at.
 pub fn proceed(s: &mut State, slots: &mut [u8], time: &mut Time, driver: u32, v: u32) -> Step

@@ -4,6 +4,7 @@ use machine::halts::begun_endpoint;
 use machine::halts::polled_endpoint;
 use machine::saved::is_idle;
 use machine::stops::slots_fit;
+use script_ops::rows;
 use state::State;
 ghost use lib.ListN.{length};
 ghost use Rattle.script.specs.Calls.{BeginRead, PollRead, BeginWrite, PollWrite};
@@ -17,7 +18,7 @@ pub fn begin_read(s: &mut State, e: u32, n: u32) -> Step
         let x = endpoint::begin_read(s, e, n);
         return begun_endpoint(s, x);
     }
-    Step::Refused(3)
+    Step::Refused(rows::UNDER_WAY)
 }
 
 // The packet at the front of `out`.
@@ -30,9 +31,9 @@ pub fn poll_read(s: &mut State, slots: &[u8], e: u32, out: &mut [u8]) -> Step
             let x = endpoint::poll_read(s, slots, e, out);
             return polled_endpoint(x);
         }
-        return Step::Refused(3);
+        return Step::Refused(rows::UNDER_WAY);
     }
-    Step::Refused(1)
+    Step::Refused(rows::SLOTS_LENGTH)
 }
 
 // `write` (146-194).
@@ -45,9 +46,9 @@ pub fn begin_write(s: &mut State, slots: &mut [u8], e: u32, bytes: &[u8]) -> Ste
             let x = endpoint::begin_write(s, slots, e, bytes);
             return begun_endpoint(s, x);
         }
-        return Step::Refused(3);
+        return Step::Refused(rows::UNDER_WAY);
     }
-    Step::Refused(1)
+    Step::Refused(rows::SLOTS_LENGTH)
 }
 
 pub fn poll_write(s: &mut State, slots: &mut [u8], e: u32, bytes: &[u8]) -> Step
@@ -59,7 +60,7 @@ pub fn poll_write(s: &mut State, slots: &mut [u8], e: u32, bytes: &[u8]) -> Step
             let x = endpoint::poll_write(s, slots, e, bytes);
             return polled_endpoint(x);
         }
-        return Step::Refused(3);
+        return Step::Refused(rows::UNDER_WAY);
     }
-    Step::Refused(1)
+    Step::Refused(rows::SLOTS_LENGTH)
 }

@@ -28,6 +28,7 @@ use interrupt::resume::resume_sof_arm;
 use interrupt::resume::resume_st;
 use interrupt::resume::resume_suspend;
 use interrupt::resume::resume_toggled;
+use interrupt::sites;
 use machine::resume_op::resume_advance;
 use machine::resume_op::resume_bus;
 use machine::resume_op::resume_control;
@@ -35,12 +36,15 @@ use machine::resume_op::resume_driver;
 use machine::resume_op::resume_endpoint;
 use machine::saved::tag;
 use machine::stops::slots_fit;
+use script_ops::points;
+use script_ops::rows;
 use state::State;
 ghost use mathlib.Core.Path.{_≡_};
 ghost use mathlib.Core.List.{List, []};
 ghost use Prim.Native.Nat.{ℕ};
 ghost use Rattle.state.specs.State.{view, saved};
 ghost use Rattle.script.specs.Machine.{continue};
+ghost use Rattle.script_ops.specs.Numbers as tags;
 ghost use Rattle.machine.specs.Suspended.{machineOf, drive, answerOf, lentOr, BufferUnchangedOnRow1, SavedByAnswer};
 ghost use Rattle.machine.specs.Stands.{Resumes};
 ghost use Rattle.answer.specs.Parts.{stepOf};
@@ -50,58 +54,58 @@ ghost use Rattle.interrupt.specs.Stands.{ResumesByWord};
 // Goes on at an interrupt's point: the one dispatch on what is saved. Each arm is a call and nothing after it, and
 // answers its own word.
 fn resume_interrupt(s: &mut State, slots: &mut [u8], v: u32) -> u64
-    requires { ⌜ saved (now s) .tag ≡ 6 ⌝ }
+    requires { ⌜ saved (now s) .tag ≡ tags.INTERRUPT ⌝ }
     ensures { λ r. ⌜ ResumesByWord r v (now (s .entry)) (now (slots .entry)) (now (s .exit)) (now (slots .exit)) ⌝ }
 {
     let site = site_byte(s);
     match site {
-        1 => resume_flags(s, v),
-        2 => resume_bus_rst(s),
-        3 => resume_suspend(s),
-        4 => resume_fifo(s),
-        5 => resume_host(s),
-        6 => resume_mis(s, v),
-        7 => resume_st(s, v),
-        8 => resume_len(s, v),
-        9 => resume_nak(s, v),
-        10 => resume_released(s),
-        11 => resume_settle(s, v),
-        12 => resume_frame_no(s, slots, v),
-        13 => resume_sof(s, slots, v),
-        14 => resume_late(s, slots),
-        15 => resume_sof_arm(s, slots, v),
-        16 => resume_flip(s, v),
-        17 => resume_flipped(s, slots),
-        18 => resume_toggled(s, slots, v),
-        19 => resume_completing(s, slots),
-        20 => resume_check(s, slots, v),
-        21 => resume_moved_read(s, v),
-        22 => resume_moved_wrote(s),
-        23 => resume_setup_rx(s),
-        24 => resume_setup_tx(s, slots),
-        25 => resume_setup_released(s),
-        _ => resume_frame(s, v), // 0, or an unknown one
+        sites::FLAGS => resume_flags(s, v),
+        sites::BUS_RST => resume_bus_rst(s),
+        sites::SUSPEND => resume_suspend(s),
+        sites::FIFO => resume_fifo(s),
+        sites::HOST => resume_host(s),
+        sites::MIS => resume_mis(s, v),
+        sites::ST => resume_st(s, v),
+        sites::LEN => resume_len(s, v),
+        sites::NAK => resume_nak(s, v),
+        sites::RELEASED => resume_released(s),
+        sites::SETTLE => resume_settle(s, v),
+        sites::FRAME_NO => resume_frame_no(s, slots, v),
+        sites::SOF => resume_sof(s, slots, v),
+        sites::LATE => resume_late(s, slots),
+        sites::SOF_ARM => resume_sof_arm(s, slots, v),
+        sites::FLIP => resume_flip(s, v),
+        sites::FLIPPED => resume_flipped(s, slots),
+        sites::TOGGLED => resume_toggled(s, slots, v),
+        sites::COMPLETING => resume_completing(s, slots),
+        sites::CHECK => resume_check(s, slots, v),
+        sites::MOVED_READ => resume_moved_read(s, v),
+        sites::MOVED_WROTE => resume_moved_wrote(s),
+        sites::SETUP_RX => resume_setup_rx(s),
+        sites::SETUP_TX => resume_setup_tx(s, slots),
+        sites::SETUP_RELEASED => resume_setup_released(s),
+        _ => resume_frame(s, v), // FRAME, or an unknown one
     }
 }
 
 // Goes on at any other operation's point.
 fn resume_at(s: &mut State, slots: &mut [u8], v: u32) -> Step
-    requires { ⌜ (saved (now s) .tag ≡ 6 → ⊥) ⌝ }
+    requires { ⌜ (saved (now s) .tag ≡ tags.INTERRUPT → ⊥) ⌝ }
     ensures { λ r. ⌜ Resumes r v (now (s .entry)) (now (slots .entry)) (now (s .exit)) (now (slots .exit)) ⌝ }
 {
     match tag(s) {
-        1 => resume_driver(s, v),
-        2 => resume_bus(s, slots, v),
-        3 => resume_control(s, v),
-        4 => resume_endpoint(s, v),
-        5 => resume_advance(s, v),
-        _ => Step::Refused(15),
+        points::DRIVER => resume_driver(s, v),
+        points::BUS => resume_bus(s, slots, v),
+        points::CONTROL => resume_control(s, v),
+        points::ENDPOINT => resume_endpoint(s, v),
+        points::ADVANCE => resume_advance(s, v),
+        _ => Step::Refused(rows::NOT_BEGUN),
     }
 }
 
 // Goes on with the interrupt under way, with the number brought; the slots are as long as the driver's buffers.
 pub fn interrupt(s: &mut State, slots: &mut [u8], v: u32) -> u64
-    requires { ⌜ saved (now s) .tag ≡ 6 ⌝ }
+    requires { ⌜ saved (now s) .tag ≡ tags.INTERRUPT ⌝ }
     ensures { λ r. ⌜ ((a : List ℕ) → (
       answerOf (stepOf r) [] (view (now (s .exit))),
       machineOf (now (s .exit)) (lentOr (view (now (s .entry))) (now (slots .entry)) (now (slots .exit)) a),
@@ -117,7 +121,7 @@ pub fn interrupt(s: &mut State, slots: &mut [u8], v: u32) -> u64
 
 // Goes on with any other operation, or with none.
 pub fn operation(s: &mut State, slots: &mut [u8], v: u32) -> Step
-    requires { ⌜ (saved (now s) .tag ≡ 6 → ⊥) ⌝ }
+    requires { ⌜ (saved (now s) .tag ≡ tags.INTERRUPT → ⊥) ⌝ }
     ensures { λ r. ⌜ ((a : List ℕ) → (
       answerOf r [] (view (now (s .exit))),
       machineOf (now (s .exit)) (lentOr (view (now (s .entry))) (now (slots .entry)) (now (slots .exit)) a),
@@ -128,5 +132,5 @@ pub fn operation(s: &mut State, slots: &mut [u8], v: u32) -> Step
     if slots_fit(s, slots) {
         return resume_at(s, slots, v);
     }
-    Step::Refused(1)
+    Step::Refused(rows::SLOTS_LENGTH)
 }

@@ -13,6 +13,7 @@ use bus_time::passes;
 use machine::stops::slots_fit;
 use machine::stops::stop;
 use regs::Dir;
+use script_ops::rows;
 use script_ops::rows::is_allocated;
 use state::State;
 ghost use mathlib.Core.Path.{_≡_};
@@ -59,7 +60,7 @@ fn is_accepted(s: &State, slots: &[u8], dir: Dir, e: u32) -> bool
         e ⌝ }
 {
     if slots_fit(s, slots) {
-        if stop(s, 2) == 0 {
+        if stop(s, rows::STARTED) == 0 {
             return is_allocated(s, dir, e);
         }
         return false;
@@ -76,7 +77,7 @@ fn enable(s: &mut State, slots: &mut [u8], time: &mut Time, driver: u32, dir: Di
     let charge = charge_on(s, dir, e);
     if passes(time, at, charge) {
         if is_accepted(s, slots, dir, e) {
-            return Step::Refused(19);
+            return Step::Refused(rows::BUS_TIME);
         }
         return crate::bus_begins::begin_set_enabled(s, slots, dir, e, true);
     }

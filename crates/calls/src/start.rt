@@ -4,6 +4,7 @@ use answer::Step;
 use machine::halts::suspend_or_end;
 use machine::stops::stop;
 use regs::Dir;
+use script_ops::rows;
 use state::State;
 ghost use mathlib.Core.Path.{_≡_};
 ghost use mathlib.Core.Bool.{cond};
@@ -28,7 +29,7 @@ pub fn allocate(
 ) -> Step
     ensures { λ r. ⌜ OtherCall (Allocate dir kind address maximum interval) r (now (s .entry)) (now (s .exit)) ⌝ }
 {
-    let n = stop(s, 1);
+    let n = stop(s, rows::STARTED_UP);
     if n == 0 {
         let z = script_ops::records::allocate(s, dir, kind, address, maximum, interval);
         match z {
@@ -48,7 +49,7 @@ pub fn allocate(
 pub fn start(s: &mut State, maximum: u32) -> Step
     ensures { λ r. ⌜ OtherCall (Start maximum) r (now (s .entry)) (now (s .exit)) ⌝ }
 {
-    let n = stop(s, 1);
+    let n = stop(s, rows::STARTED_UP);
     if n == 0 {
         let z = script_ops::records::allocate0(s, maximum);
         match z {
@@ -88,7 +89,7 @@ pub fn start_up(s: &mut State, slots: &[u8], size: u32, count: u32, callback: bo
             state::clear_wakes(s);
             return suspend_or_end(s, driver::start_up(callback));
         }
-        return Step::Refused(2);
+        return Step::Refused(rows::GEOMETRY);
     }
-    Step::Refused(1)
+    Step::Refused(rows::SLOTS_LENGTH)
 }

@@ -33,7 +33,7 @@ use Rattle.control.specs.declared.Point.the-variants as point
 use Rattle.control.specs.declared.Begun.the-variants as begun
 use Rattle.control.specs.declared.Polled.{Polled}
 use Rattle.control.specs.declared.Polled.the-variants as polled
-use Rattle.control.specs.Points.{loading, begunAs, polledAs}
+use Rattle.control.specs.Points.{loading, asked, begunAs, polledAs}
 use Rattle.control.specs.Rows.{beginRow, pollRow, Polls}
 
 -- ---- rows
@@ -159,7 +159,7 @@ module _ (d : Driver) (c : Control) (sort : ℕ) (q : Polls d c sort) where
 pub reject-asks : (d d1 d2 d3 d4 : Driver) → d1 ≡ withControl d no-control → d2 ≡ noneGathered d1 → d3
     ≡ modifiedOn Out 0 (withArmed 0) d2
     → d4 ≡ modifiedOn In 0 (withArmed 0) d3 → eqb (d .globals .stage) 2 ≡ true
-    → (b : List ℕ) → begunAs (begun.Asks (Read EpTxCtrl 0) point.StallIn) d4 b ≡ go {i = false} beginReject d b
+    → (b : List ℕ) → asked (Read EpTxCtrl 0) point.StallIn d4 b ≡ go {i = false} beginReject d b
 reject-asks d d1 d2 d3 d4 h1 h2 h3 h4 s b = rw (h4, h3, h2, h1, s)
 
 pub reject-refused : (d : Driver) → eqb (d .globals .stage) 2 ≡ false → (b : List ℕ) → begunAs (begun.Refused 4) d b
@@ -194,7 +194,7 @@ module _ (d : Driver) (c : Control) (b : List ℕ) (q : Polls d c ACCEPT) where
   module _ (d1 d2 : Driver) (h1 : d1 ≡ modifiedOn In 0 (withReady 0) d) (h2 : d2 ≡ withControl d1 no-control)
       (r : isOn (epOn d In 0 .ready) ≡ true) where
     pub accept-address : (d3 : Driver) → d3 ≡ noneGathered d2 → isOn (c .«sets_address») ≡ true
-        → polledAs (polled.Asks (Write DevAd 0 (c .address % 128)) point.Wrote) [] d3 b ≡ go {i = false} pollAccept d b
+        → asked (Write DevAd 0 (c .address % 128)) point.Wrote d3 b ≡ go {i = false} pollAccept d b
     accept-address d3 h3 a = rw (h3, h2, h1, staged-2 d c ACCEPT q, sorted d c ACCEPT q, r, ← q .0, a)
 
     pub accept-done : isOn (c .«sets_address») ≡ false → polledAs (polled.Done 0) [] d2 b

@@ -2,3 +2,4 @@ pub mod Points
 pub mod Rows
 pub mod Codec
 pub mod CodecLaws
+pub mod PointsLaws

@@ -8,6 +8,8 @@ use Rattle.regs.specs.declared.Dir.{Dir}
 use Rattle.regs.specs.declared.Dir.the-variants.{Out, In}
 use Rattle.regs.specs.Registers.{ctrlOf, widthOf}
 use Rattle.regs.specs.ControlWord.{ack, stall, status}
+use Rattle.regs.specs.declared.Access.{Access}
+use Rattle.state.specs.declared.Saved.{Saved}
 use Rattle.state.specs.Wakes.{listed}
 use Rattle.state.specs.Driver.{Driver}
 use Rattle.script.specs.Tree as tree
@@ -23,6 +25,8 @@ use Rattle.script_ops.specs.Answers.{finished, front}
 use Rattle.script_ops.specs.Results.{resultless}
 use Rattle.control.specs.declared.Point.{Point}
 use Rattle.control.specs.declared.Point.the-variants as point
+use Rattle.script_ops.specs.Numbers.{CONTROL, withTag}
+use Rattle.control.specs.Codec.{asNumbers, decode}
 use Rattle.control.specs.declared.Begun.{Begun}
 use Rattle.control.specs.declared.Begun.the-variants as begun
 use Rattle.control.specs.declared.Polled.{Polled}
@@ -62,10 +66,14 @@ denote point.StallOut v = resultless (write EpRxCtrl 0 (stall v))
 denote (point.Closing n first) v = resultless (loaded n first)
 denote (point.Loaded first) v = resultless (acks In first)
 
--- a begin's answer
+-- the access is handed out, and the operation is under way at a point
+abbrev pub asked : Access → Point → Driver → List ℕ → tree.Out St Answer
+asked q p d b = asks q (d, b) (λ v t. run concrete (finished (denote p v)) t)
+
+-- a begin's answer, where it hands out an access with what is to be saved
 abbrev pub begunAs : Begun → Driver → List ℕ → tree.Out St Answer
 begunAs (begun.Refused n) d b = ends (Refused n) (d, b)
-begunAs (begun.Asks q p) d b = asks q (d, b) (λ v t. run concrete (finished (denote p v)) t)
+begunAs (begun.Asks q c) d b = asked q (decode c) d b
 begunAs (begun.Ends n) d b = ends (End n (listed (d .wakes))) (d, b)
 
 -- a poll's, with the slice it was lent: Done n brings the slice's first n bytes, Setup the packet as two words
@@ -74,7 +82,7 @@ polledAs (polled.Refused n) out d b = ends (Refused n) (d, b)
 polledAs polled.NotYet out d b = ends NotYet (d, b)
 polledAs (polled.Done n) out d b = ends (Done (front n out)) (d, b)
 polledAs (polled.Setup low high) out d b = ends (Done (wordBytes low ++ wordBytes high)) (d, b)
-polledAs (polled.Asks q p) out d b = asks q (d, b) (λ v t. run concrete (finished (denote p v)) t)
+polledAs (polled.Asks q c) out d b = asked q (decode c) d b
 
 -- what a point awaits
 abbrev pub awaitsAt : Point → Awaits
@@ -89,9 +97,16 @@ awaitsAt (point.Closing n first) = nothing
 awaitsAt (point.Loaded first) = nothing
 
 -- what it awaits is the access handed out with it
+abbrev pub Awaited : Access → Point → Type 0
+Awaited q p = awaited q ≡ awaitsAt p
+
+-- so of what is to be saved, which is the point's record
+abbrev pub LinkedAs : Access → Saved → Type 0
+LinkedAs q c = Awaited q (decode c) × (c ≡ withTag CONTROL (asNumbers (decode c)))
+
 abbrev pub LinkedBegun : Begun → Type 0
 LinkedBegun (begun.Refused n) = Unit {0}
-LinkedBegun (begun.Asks q p) = awaited q ≡ awaitsAt p
+LinkedBegun (begun.Asks q c) = LinkedAs q c
 LinkedBegun (begun.Ends n) = Unit {0}
 
 abbrev pub LinkedPolled : Polled → Type 0
@@ -99,4 +114,4 @@ LinkedPolled (polled.Refused n) = Unit {0}
 LinkedPolled polled.NotYet = Unit {0}
 LinkedPolled (polled.Done n) = Unit {0}
 LinkedPolled (polled.Setup low high) = Unit {0}
-LinkedPolled (polled.Asks q p) = awaited q ≡ awaitsAt p
+LinkedPolled (polled.Asks q c) = LinkedAs q c

@@ -1,6 +1,5 @@
 // The begins of the control pipe's stages.
 use crate::Begun;
-use crate::Point;
 use crate::checks::ACCEPT;
 use crate::checks::DATA_OUT;
 use crate::checks::SETUP;
@@ -11,6 +10,13 @@ use crate::checks::is_started;
 use crate::checks::set_address;
 use crate::checks::set_data_in;
 use crate::checks::set_request;
+use crate::points;
+use crate::points::CLOSING;
+use crate::points::LOADED;
+use crate::points::STALL_IN;
+use crate::points::STATUS_LEN;
+use crate::points::WROTE;
+use crate::points::point;
 use endpoint::common::length16;
 use endpoint::common::set_armed;
 use endpoint::common::unready;
@@ -22,6 +28,7 @@ use regs::control_word::DATA1;
 use regs::control_word::word_of;
 use script_ops::points::flag_of;
 use script_ops::rings::fill0;
+use script_ops::rows;
 use state::State;
 use state::clear_wakes;
 use state::load_globals;
@@ -52,7 +59,7 @@ pub fn setup(s: &mut State) -> Begun
         clear_wakes(s);
         return Begun::Ends(0);
     }
-    Begun::Refused(4)
+    Begun::Refused(rows::STAGE)
 }
 
 // OUT 0 answers: the stage's first packet is DATA1, for another the word is read.
@@ -62,9 +69,15 @@ fn ack_out(first: bool) -> Begun
 {
     if first {
         let w = word_of(ACK, DATA1, false);
-        return Begun::Asks(Access::Write(Reg::EpRxCtrl, 0, w as u32), Point::Wrote);
+        return Begun::Asks(
+            Access::Write(Reg::EpRxCtrl, 0, w as u32),
+            point(WROTE, Dir::Out, false, 0),
+        );
     }
-    Begun::Asks(Access::Read(Reg::EpRxCtrl, 0), Point::Ack(Dir::Out))
+    Begun::Asks(
+        Access::Read(Reg::EpRxCtrl, 0),
+        point(points::ACK, Dir::Out, false, 0),
+    )
 }
 
 // `data_out`, 82-115, into a slice of n bytes.
@@ -98,13 +111,13 @@ fn load_in(s: &mut State, n: u16, first: bool, last: bool) -> Begun
         let w = word_of(ACK, DATA1, false);
         return Begun::Asks(
             Access::Write(Reg::EpRxCtrl, 0, w as u32),
-            Point::Closing(n, first),
+            point(CLOSING, Dir::Out, first, n),
         );
     }
     set_armed(s, Dir::In, 0, 1);
     Begun::Asks(
         Access::Write(Reg::EpTLen, 0, n as u32),
-        Point::Loaded(first),
+        point(LOADED, Dir::Out, first, 0),
     )
 }
 
@@ -137,7 +150,10 @@ fn status_in(s: &mut State) -> Begun
 {
     clear_wakes(s);
     unready(s, Dir::In, 0);
-    Begun::Asks(Access::Write(Reg::EpTLen, 0, 0), Point::StatusLen)
+    Begun::Asks(
+        Access::Write(Reg::EpTLen, 0, 0),
+        point(STATUS_LEN, Dir::Out, false, 0),
+    )
 }
 
 // `accept`, 26-46, 163-166.
@@ -183,7 +199,10 @@ pub fn reject(s: &mut State) -> Begun
         clear_wakes(s);
         set_armed(s, Dir::Out, 0, 0);
         set_armed(s, Dir::In, 0, 0);
-        return Begun::Asks(Access::Read(Reg::EpTxCtrl, 0), Point::StallIn);
+        return Begun::Asks(
+            Access::Read(Reg::EpTxCtrl, 0),
+            point(STALL_IN, Dir::Out, false, 0),
+        );
     }
-    Begun::Refused(4)
+    Begun::Refused(rows::STAGE)
 }

@@ -1,6 +1,7 @@
 // The checks before a stage (rows 4, 15 and 10), the pipe's request, and EP0's record where a stage begins.
 use regs::Dir;
 use script_ops::rings::is_on;
+use script_ops::rows;
 use state::Control;
 use state::Globals;
 use state::State;
@@ -29,7 +30,7 @@ pub const ACCEPT: u8 = 4;
 pub fn is_started(g: Globals) -> bool
     ensures { λ r. ⌜ r ≡ eqb (g .stage) 2 ⌝ }
 {
-    g.stage == 2
+    g.stage == rows::STARTED
 }
 
 // The row that stops the begin of a stage of n bytes: 4, 10 above EP0's maximum, 9 where a setup packet waits; else 0.
@@ -38,14 +39,14 @@ pub fn begin_row(g: Globals, n: usize) -> u8
 {
     if is_started(g) {
         if (g.ep0_max as usize) < n {
-            return 10;
+            return rows::LENGTH;
         }
         if is_on(g.setup_ready) {
-            return 9;
+            return rows::DISABLED;
         }
         return 0;
     }
-    4
+    rows::STAGE
 }
 
 // The row that stops the poll of a stage: 4, 15 where the request is of another sort; else 0.
@@ -56,9 +57,9 @@ pub fn poll_row(g: Globals, c: Control, sort: u8) -> u8
         if c.sort == sort {
             return 0;
         }
-        return 15;
+        return rows::NOT_BEGUN;
     }
-    4
+    rows::STAGE
 }
 
 // The request that an accepted begin leaves; of sort 0, none.

@@ -2,8 +2,8 @@
 // here, 1 and 3 by the caller.
 mod begin;
 mod checks;
-mod codec;
 mod poll;
+pub mod points; // points.rt: the numbers of the points, and what is saved of each
 
 pub use begin::accept;
 pub use begin::accept_set_address;
@@ -11,13 +11,13 @@ pub use begin::data_in;
 pub use begin::data_out;
 pub use begin::reject;
 pub use begin::setup;
-pub use codec::encode;
 pub use poll::poll_accept;
 pub use poll::poll_data_in;
 pub use poll::poll_data_out;
 pub use poll::poll_setup;
 use regs::Access;
 use regs::Dir;
+use state::Saved;
 
 // Where an operation stops: what was handed out last, or which reading is awaited.
 pub enum Point {
@@ -34,7 +34,7 @@ pub enum Point {
 
 pub enum Begun {
     Refused(u8),
-    Asks(Access, Point),
+    Asks(Access, Saved),
     Ends(u16),
 }
 
@@ -44,5 +44,5 @@ pub enum Polled {
     NotYet,
     Done(u16),
     Setup(u32, u32),
-    Asks(Access, Point),
+    Asks(Access, Saved),
 }

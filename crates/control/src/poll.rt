@@ -1,5 +1,4 @@
 // The polls of the control pipe's stages.
-use crate::Point;
 use crate::Polled;
 use crate::checks::ACCEPT;
 use crate::checks::DATA_IN;
@@ -8,12 +7,15 @@ use crate::checks::SETUP;
 use crate::checks::poll_row;
 use crate::checks::set_data_in;
 use crate::checks::set_request;
+use crate::points::WROTE;
+use crate::points::point;
 use endpoint::common::fetch;
 use endpoint::common::unready;
 use regs::Access;
 use regs::Dir;
 use regs::Reg;
 use script_ops::rings::is_on;
+use script_ops::rows;
 use state::Control;
 use state::Globals;
 use state::State;
@@ -51,7 +53,7 @@ fn wait_on(s: &mut State) -> Polled
     let g = load_globals(s);
     if is_on(g.setup_ready) {
         set_request(s, 0, 0);
-        return Polled::Refused(9);
+        return Polled::Refused(rows::DISABLED);
     }
     Polled::NotYet
 }
@@ -106,7 +108,10 @@ fn take_accept(s: &mut State, c: Control) -> Polled
         }
         clear_wakes(s);
         let a = c.address % 128;
-        return Polled::Asks(Access::Write(Reg::DevAd, 0, a as u32), Point::Wrote);
+        return Polled::Asks(
+            Access::Write(Reg::DevAd, 0, a as u32),
+            point(WROTE, Dir::Out, false, 0),
+        );
     }
     wait_on(s)
 }
@@ -135,7 +140,7 @@ fn closed(n: u16) -> Polled
     if n == 0 {
         return Polled::Done(0);
     }
-    Polled::Refused(10)
+    Polled::Refused(rows::LENGTH)
 }
 
 // The second wait of the last data_in, for the closing OUT; `both`: together with the data packet's completion.
@@ -159,7 +164,7 @@ fn take_closing(s: &mut State, both: bool, c: Control) -> Polled
     let g = load_globals(s);
     if is_on(g.setup_ready) {
         set_request(s, 0, 0);
-        return Polled::Refused(9);
+        return Polled::Refused(rows::DISABLED);
     }
     if both {
         unready(s, Dir::In, 0);
@@ -221,7 +226,7 @@ fn take_out(s: &mut State, buf: &[u8], out: &mut [u8]) -> Polled
         unready(s, Dir::Out, 0);
         if out.len() < r.len as usize {
             set_request(s, 0, 0);
-            return Polled::Refused(10);
+            return Polled::Refused(rows::LENGTH);
         }
         let g = load_globals(s);
         let n = fetch(buf, g.ep0_buf, out, r.len);
@@ -249,7 +254,7 @@ pub fn poll_data_out(s: &mut State, buf: &[u8], out: &mut [u8]) -> Polled
         }
         unready(s, Dir::Out, 0);
         set_request(s, 0, 0);
-        return Polled::Refused(10);
+        return Polled::Refused(rows::LENGTH);
     }
     Polled::Refused(row)
 }

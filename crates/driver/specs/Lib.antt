@@ -5,3 +5,4 @@ pub mod Codec
 pub mod CodecLaws
 pub mod Each
 pub mod EachLaws
+pub mod PointsLaws

@@ -5,6 +5,7 @@ use mathlib.Core.List.{List}
 use Prim.Native.Nat.{ℕ, _%_}
 use lib.Dec.{eqb}
 use Rattle.regs.specs.declared.Reg.the-variants.{Ctrl, HostCtrl, FrameNo, EpMaxLen, EpRxCtrl, EpTxCtrl}
+use Rattle.regs.specs.declared.Access.{Access}
 use Rattle.regs.specs.declared.Dir.{Dir}
 use Rattle.regs.specs.ControlWord.{NAK, DATA0, wordOf}
 use Rattle.regs.specs.Ctrl.{RUN, resetEnded, PHY_SUSPENDM}
@@ -24,6 +25,8 @@ use Rattle.script_ops.specs.Rings.{St}
 use Rattle.script_ops.specs.Concrete.{concrete}
 use Rattle.driver.specs.declared.Point.{Point}
 use Rattle.driver.specs.declared.Point.the-variants as point
+use Rattle.script_ops.specs.Numbers.{DRIVER, withTag}
+use Rattle.driver.specs.Codec.{asNumbers, decode}
 use Rattle.driver.specs.declared.Next.{Next}
 use Rattle.driver.specs.declared.Next.the-variants as next
 
@@ -112,8 +115,13 @@ denote (point.ListMaxLen d kind ep left total) v = do
   announceAfter left total d ep
 denote (point.ListPlace d ep left total) v = announceAfter left total d ep
 
+-- the access is handed out, and the operation is under way at a point
+abbrev pub asked : Access → Point → Driver → List ℕ → tree.Out St ℕ
+asked q p d b = asks q (d, b) (λ v t. run concrete (denote p v) t)
+
+-- a begin's answer, with what is to be saved
 abbrev pub meaning : Next → Driver → List ℕ → tree.Out St ℕ
-meaning (next.Asks q p) d b = asks q (d, b) (λ v t. run concrete (denote p v) t)
+meaning (next.Asks q c) d b = asked q (decode c) d b
 meaning (next.Ends n) d b = ends n (d, b)
 
 -- what a point awaits
@@ -137,6 +145,10 @@ awaitsAt (point.ListMaxLen d kind ep left total) = nothing
 awaitsAt (point.ListPlace d ep left total) = nothing
 
 -- what it awaits is the access handed out with it
+abbrev pub Awaited : Access → Point → Type 0
+Awaited q p = awaited q ≡ awaitsAt p
+
+-- so of a begin, and what is to be saved is the point's record
 abbrev pub Linked : Next → Type 0
-Linked (next.Asks q p) = awaited q ≡ awaitsAt p
+Linked (next.Asks q c) = Awaited q (decode c) × (c ≡ withTag DRIVER (asNumbers (decode c)))
 Linked (next.Ends n) = Unit {0}

@@ -1,6 +1,7 @@
 // The endpoints of a list announced one after the other, in the order of their buffers (request Three).
 use crate::Next;
-use crate::Point;
+use crate::points::LIST_MAX_LEN;
+use crate::points::endpoint;
 use alloc::number::is_iso;
 use alloc::number::slots;
 use regs::Access;
@@ -69,6 +70,6 @@ pub fn first(s: &State, left: u8, total: u8, dir: Dir, e: u8) -> Next
     let r = load_ep(s, dir, e);
     Next::Asks(
         Access::Write(Reg::EpMaxLen, e, r.max_len as u32),
-        Point::ListMaxLen(dir, r.kind, e, left, total),
+        endpoint(LIST_MAX_LEN, dir, r.kind, e, left, total),
     )
 }

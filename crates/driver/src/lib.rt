@@ -2,16 +2,23 @@
 // paced endpoints (mod.rs 236-238,
 // 308-317): their points, and the first access of each.
 use bits::mask_with;
+use points::CLEAR;
+use points::EP0_PLACE;
+use points::FRAME_NO;
+use points::MAX_LEN;
+use points::endpoint;
+use points::point;
 use regs::Access;
 use regs::Dir;
 use regs::Reg;
+use state::Saved;
 use state::State;
 use state::load_globals;
 use state::store_globals;
 use state::store_paced;
 
 pub mod announce; // announce.rt: the endpoints of a list announced, one after the other
-pub mod codec; // codec.rt: their points in the saved record
+pub mod points; // points.rt: the numbers of the points, and what is saved of each
 pub mod alloc_all; // alloc_all.rt: a list's endpoints allocated and announced
 
 ghost use mathlib.Core.Path.{_≡_};
@@ -51,9 +58,9 @@ pub enum Point {
     ListPlace(Dir, u8, u8, u8),
 }
 
-// The next access and the point at which the operation stops, or its result, 0 where it has none.
+// The next access and the record of the point at which the operation stops, or its result, 0 where it has none.
 pub enum Next {
-    Asks(Access, Point),
+    Asks(Access, Saved),
     Ends(u16),
 }
 
@@ -63,7 +70,7 @@ pub fn start_up(callback: bool) -> Next
 {
     Next::Asks(
         Access::Write(Reg::Ctrl, 0, regs::ctrl::clear()),
-        Point::Clear(callback),
+        point(CLEAR, callback, 0),
     )
 }
 
@@ -73,7 +80,7 @@ pub fn new_endpoint(dir: Dir, kind: u8, maximum: u32, ep: u8) -> Next
 {
     Next::Asks(
         Access::Write(Reg::EpMaxLen, ep, maximum),
-        Point::MaxLen(dir, kind, ep),
+        endpoint(MAX_LEN, dir, kind, ep, 0, 0),
     )
 }
 
@@ -82,13 +89,13 @@ pub fn start_ep0(s: &State, maximum: u32) -> Next
     ensures { λ r. ⌜ MeansAt (meaning r) (Linked r) (run concrete (startEp0 maximum)) (now (s .entry)) ⌝ }
 {
     let g = load_globals(s);
-    Next::Asks(Access::Ep0Dma(g.ep0_buf), Point::Ep0Place(maximum))
+    Next::Asks(Access::Ep0Dma(g.ep0_buf), point(EP0_PLACE, false, maximum))
 }
 
 pub fn microframe() -> Next
     ensures { λ r. ⌜ Means (meaning r) (Linked r) (run concrete microframe) ⌝ }
 {
-    Next::Asks(Access::Read(Reg::FrameNo, 0), Point::FrameNo)
+    Next::Asks(Access::Read(Reg::FrameNo, 0), point(FRAME_NO, false, 0))
 }
 
 // `iso_in_set_paced`, without an access.

@@ -39,7 +39,7 @@ use Rattle.endpoint.specs.declared.Point.the-variants as point
 use Rattle.endpoint.specs.declared.Begun.the-variants as begun-as
 use Rattle.endpoint.specs.declared.Polled.{Polled}
 use Rattle.endpoint.specs.declared.Polled.the-variants as polled-as
-use Rattle.endpoint.specs.Points.{begunAs, polledAs}
+use Rattle.endpoint.specs.Points.{asked, begunAs, polledAs}
 
 -- where row 4 or 5 refuses, so do a call's first two rows, whatever else it does
 pub refused : (d : Driver) (dir : Dir) (e n : ℕ) (b : List ℕ) (z : tree.Out St Answer) → n ≡ refusalOf d dir e → eqb n 0
@@ -80,7 +80,7 @@ module _ (d : Driver) (b : List ℕ) (e n : ℕ) (h : eqb (refusalOf d Out e) 0 
         read-has r = rw (h2, h1, started d Out e h, allocated d Out e h, o, l, i, r)
 
         pub read-asks : isOn (epOn d Out e .ready) ≡ false → (d3 : Driver) → d3 ≡ modifiedOn Out e (withArmed 1) d2
-            → begunAs (begun-as.Asks (Read EpRxCtrl e) (point.Ack Out e)) d3 b ≡ go {i = false} (beginRead e n) d b
+            → asked (Read EpRxCtrl e) (point.Ack Out e) d3 b ≡ go {i = false} (beginRead e n) d b
         read-asks r d3 h3 = rw (h3, h2, h1, started d Out e h, allocated d Out e h, o, l, i, r)
 
 -- ---- `write`: its begin
@@ -104,7 +104,7 @@ module _ (d : Driver) (b bytes : List ℕ) (e : ℕ) (h : eqb (refusalOf d In e)
 
       pub write-asks : isOn (epOn d In e .iso) ≡ false → (b1 : List ℕ) → b1 ≡ filledOn d2 e bytes b
           → (d3 : Driver) → d3 ≡ modifiedOn In e (λ p. withArmed 1 (withReady 0 p)) d2
-          → begunAs (begun-as.Asks (Write EpTLen e n) (point.Loaded e)) d3 b1 ≡ go {i = false} (beginWrite e bytes) d b
+          → asked (Write EpTLen e n) (point.Loaded e) d3 b1 ≡ go {i = false} (beginWrite e bytes) d b
       write-asks i b1 f d3 h3 = rw (h3, f, h2, h1, k, started d In e h, allocated d In e h, o, l, i)
 
 -- ---- the polls of a read

@@ -6,3 +6,4 @@ pub mod RecordsLaws
 pub mod Fetch
 pub mod Front
 pub mod Brought
+pub mod PointsLaws

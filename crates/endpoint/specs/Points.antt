@@ -7,6 +7,8 @@ use lib.ListN.{length}
 use Rattle.regs.specs.declared.Reg.the-variants.{EpTxCtrl}
 use Rattle.regs.specs.Registers.{ctrlOf, widthOf}
 use Rattle.regs.specs.ControlWord.{ack}
+use Rattle.regs.specs.declared.Access.{Access}
+use Rattle.state.specs.declared.Saved.{Saved}
 use Rattle.state.specs.Wakes.{listed}
 use Rattle.state.specs.Driver.{Driver}
 use Rattle.state.specs.State.{view}
@@ -23,6 +25,8 @@ use Rattle.script_ops.specs.Answers.{finished, front}
 use Rattle.script_ops.specs.Results.{resultless}
 use Rattle.endpoint.specs.declared.Point.{Point}
 use Rattle.endpoint.specs.declared.Point.the-variants as point
+use Rattle.script_ops.specs.Numbers.{ENDPOINT, withTag}
+use Rattle.endpoint.specs.Codec.{asNumbers, decode}
 use Rattle.endpoint.specs.declared.Begun.{Begun}
 use Rattle.endpoint.specs.declared.Begun.the-variants as begun
 use Rattle.endpoint.specs.declared.Polled.{Polled}
@@ -33,10 +37,14 @@ denote (point.Ack d e) v = resultless (write (ctrlOf d) e (ack v))
 denote point.Wrote v = ret {A = ℕ} 0
 denote (point.Loaded e) v = resultless (modifyReg EpTxCtrl e ack)
 
--- a begin's answer
+-- the access is handed out, and the operation is under way at a point
+abbrev pub asked : Access → Point → Driver → List ℕ → tree.Out St Answer
+asked q p d b = asks q (d, b) (λ v t. run concrete (finished (denote p v)) t)
+
+-- a begin's answer, where it hands out an access with what is to be saved
 abbrev pub begunAs : Begun → Driver → List ℕ → tree.Out St Answer
 begunAs (begun.Refused n) d b = ends (Refused n) (d, b)
-begunAs (begun.Asks q p) d b = asks q (d, b) (λ v t. run concrete (finished (denote p v)) t)
+begunAs (begun.Asks q c) d b = asked q (decode c) d b
 begunAs (begun.Ends n) d b = ends (End n (listed (d .wakes))) (d, b)
 
 -- a poll's, with the slice it was lent: Done n brings the slice's first n bytes
@@ -56,7 +64,14 @@ awaitsAt point.Wrote = nothing
 awaitsAt (point.Loaded e) = nothing
 
 -- what it awaits is the access handed out with it
+abbrev pub Awaited : Access → Point → Type 0
+Awaited q p = awaited q ≡ awaitsAt p
+
+-- so of what is to be saved, which is the point's record
+abbrev pub LinkedAs : Access → Saved → Type 0
+LinkedAs q c = Awaited q (decode c) × (c ≡ withTag ENDPOINT (asNumbers (decode c)))
+
 abbrev pub LinkedBegun : Begun → Type 0
 LinkedBegun (begun.Refused n) = Unit {0}
-LinkedBegun (begun.Asks q p) = awaited q ≡ awaitsAt p
+LinkedBegun (begun.Asks q c) = LinkedAs q c
 LinkedBegun (begun.Ends n) = Unit {0}

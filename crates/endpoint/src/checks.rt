@@ -1,6 +1,7 @@
 // The check before a request (row 9), the endpoint's request, and the wait for its completion.
 use crate::Polled;
 use regs::Dir;
+use script_ops::rows;
 use state::Request;
 use state::State;
 use state::load_globals;
@@ -68,5 +69,5 @@ pub fn wait_on(s: &mut State, dir: Dir, e: u8) -> Polled
         return Polled::NotYet;
     }
     end_request(s, dir, e);
-    Polled::Refused(9)
+    Polled::Refused(rows::DISABLED)
 }

@@ -1,16 +1,16 @@
 // Reads and writes (endpoint.rs 82-195), each a begin and a poll. Rows 4, 5, 9, 10 and 15 are checked here, 1 and 3 by
 // the caller. Any number is safe as an endpoint's.
 mod checks;
-mod codec;
 mod read;
 mod write;
 pub mod common; // common.rt: what reads, writes and the control pipe share
+pub mod points; // points.rt: the numbers of the points, and what is saved of each
 
-pub use codec::encode;
 pub use read::begin_read;
 pub use read::poll_read;
 use regs::Access;
 use regs::Dir;
+use state::Saved;
 pub use write::begin_write;
 pub use write::poll_write;
 
@@ -23,7 +23,7 @@ pub enum Point {
 
 pub enum Begun {
     Refused(u8),
-    Asks(Access, Point),
+    Asks(Access, Saved),
     Ends(u16),
 }
 

@@ -1,6 +1,5 @@
 // `read`, endpoint.rs 83-142.
 use crate::Begun;
-use crate::Point;
 use crate::Polled;
 use crate::checks::end_request;
 use crate::checks::is_enabled;
@@ -9,6 +8,8 @@ use crate::checks::wait_on;
 use crate::common::fetch;
 use crate::common::set_armed;
 use crate::common::unready;
+use crate::points::ACK;
+use crate::points::point;
 use regs::Access;
 use regs::Dir;
 use regs::Reg;
@@ -18,6 +19,7 @@ use script_ops::rings::next_len;
 use script_ops::rings::oldest_at;
 use script_ops::rings::take_oldest;
 use script_ops::rings::waiting;
+use script_ops::rows;
 use script_ops::rows::low;
 use script_ops::rows::refusal;
 use state::EpState;
@@ -49,11 +51,11 @@ fn start_read(s: &mut State, e: u8, n: u32) -> Begun
     ensures { λ r. ⌜ LinkedBegun r ⌝ }
 {
     if !is_enabled(s, Dir::Out, e) {
-        return Begun::Refused(9);
+        return Begun::Refused(rows::DISABLED);
     }
     let r = load_ep(s, Dir::Out, e);
     if n < r.max_len as u32 {
-        return Begun::Refused(10);
+        return Begun::Refused(rows::LENGTH);
     }
     set_request(s, Dir::Out, e, n);
     clear_wakes(s);
@@ -64,7 +66,7 @@ fn start_read(s: &mut State, e: u8, n: u32) -> Begun
         return Begun::Ends(0);
     }
     set_armed(s, Dir::Out, e, 1);
-    Begun::Asks(Access::Read(Reg::EpRxCtrl, e), Point::Ack(Dir::Out, e))
+    Begun::Asks(Access::Read(Reg::EpRxCtrl, e), point(ACK, Dir::Out, e))
 }
 
 // Into a slice of n bytes.
@@ -102,7 +104,7 @@ fn take_iso(s: &mut State, buf: &[u8], e: u8, out: &mut [u8]) -> Polled
 {
     if !is_enabled(s, Dir::Out, e) {
         end_request(s, Dir::Out, e);
-        return Polled::Refused(9);
+        return Polled::Refused(rows::DISABLED);
     }
     if !waiting(s, Dir::Out, e) {
         return Polled::NotYet;
@@ -140,7 +142,7 @@ fn take_ready(s: &mut State, buf: &[u8], e: u8, out: &mut [u8], r: EpState) -> P
         unready(s, Dir::Out, e);
         if too_long(out.len(), r) {
             end_request(s, Dir::Out, e);
-            return Polled::Refused(10);
+            return Polled::Refused(rows::LENGTH);
         }
         let t = load_ep(s, Dir::Out, e);
         let n = fetch(buf, t.base, out, r.len);
@@ -161,7 +163,7 @@ fn take_read(s: &mut State, buf: &[u8], e: u8, out: &mut [u8]) -> Polled
 {
     let q = load_request(s, Dir::Out, e);
     if !is_on_word(q.begun) {
-        return Polled::Refused(15);
+        return Polled::Refused(rows::NOT_BEGUN);
     }
     if q.length as usize == out.len() {
         let r = load_ep(s, Dir::Out, e);
@@ -172,7 +174,7 @@ fn take_read(s: &mut State, buf: &[u8], e: u8, out: &mut [u8]) -> Polled
     }
     unready(s, Dir::Out, e);
     end_request(s, Dir::Out, e);
-    Polled::Refused(10)
+    Polled::Refused(rows::LENGTH)
 }
 
 pub fn poll_read(s: &mut State, buf: &[u8], e: u32, out: &mut [u8]) -> Polled

@@ -1,6 +1,5 @@
 // `write`, endpoint.rs 146-194.
 use crate::Begun;
-use crate::Point;
 use crate::Polled;
 use crate::checks::end_request;
 use crate::checks::is_enabled;
@@ -8,6 +7,8 @@ use crate::checks::set_request;
 use crate::checks::wait_on;
 use crate::common::length16;
 use crate::common::unready;
+use crate::points::LOADED;
+use crate::points::point;
 use regs::Access;
 use regs::Dir;
 use regs::Reg;
@@ -16,6 +17,7 @@ use script_ops::rings::is_on;
 use script_ops::rings::is_on_word;
 use script_ops::rings::iso_in_enqueue;
 use script_ops::rings::room;
+use script_ops::rows;
 use script_ops::rows::low;
 use script_ops::rows::refusal;
 use state::EpState;
@@ -60,11 +62,11 @@ fn start_write(s: &mut State, buf: &mut [u8], e: u8, bytes: &[u8]) -> Begun
     ensures { λ r. ⌜ LinkedBegun r ⌝ }
 {
     if !is_enabled(s, Dir::In, e) {
-        return Begun::Refused(9);
+        return Begun::Refused(rows::DISABLED);
     }
     let r = load_ep(s, Dir::In, e);
     if (r.max_len as usize) < bytes.len() {
-        return Begun::Refused(10);
+        return Begun::Refused(rows::LENGTH);
     }
     let n = length16(bytes.len(), r.max_len);
     set_request(s, Dir::In, e, n as u32);
@@ -74,7 +76,10 @@ fn start_write(s: &mut State, buf: &mut [u8], e: u8, bytes: &[u8]) -> Begun
     }
     fill(s, buf, e, bytes);
     arm_in(s, e);
-    Begun::Asks(Access::Write(Reg::EpTLen, e, n as u32), Point::Loaded(e))
+    Begun::Asks(
+        Access::Write(Reg::EpTLen, e, n as u32),
+        point(LOADED, Dir::Out, e),
+    )
 }
 
 pub fn begin_write(s: &mut State, buf: &mut [u8], e: u32, bytes: &[u8]) -> Begun
@@ -98,7 +103,7 @@ fn put_iso(s: &mut State, buf: &mut [u8], e: u8, bytes: &[u8]) -> Polled
 {
     if !is_enabled(s, Dir::In, e) {
         end_request(s, Dir::In, e);
-        return Polled::Refused(9);
+        return Polled::Refused(rows::DISABLED);
     }
     if !room(s, e, bytes.len()) {
         return Polled::NotYet;
@@ -131,7 +136,7 @@ fn take_write(s: &mut State, buf: &mut [u8], e: u8, bytes: &[u8]) -> Polled
 {
     let q = load_request(s, Dir::In, e);
     if !is_on_word(q.begun) {
-        return Polled::Refused(15);
+        return Polled::Refused(rows::NOT_BEGUN);
     }
     if q.length as usize == bytes.len() {
         let r = load_ep(s, Dir::In, e);
@@ -142,7 +147,7 @@ fn take_write(s: &mut State, buf: &mut [u8], e: u8, bytes: &[u8]) -> Polled
     }
     unready(s, Dir::In, e);
     end_request(s, Dir::In, e);
-    Polled::Refused(10)
+    Polled::Refused(rows::LENGTH)
 }
 
 pub fn poll_write(s: &mut State, buf: &mut [u8], e: u32, bytes: &[u8]) -> Polled

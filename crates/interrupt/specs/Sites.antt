@@ -6,6 +6,7 @@ use Prim.Native.Nat.{ℕ}
 use borrow.Author.Tests.{ne-eqb}
 use Rattle.state.specs.declared.Saved.{Saved}
 use Rattle.state.specs.State.{saved}
+use Rattle.script_ops.specs.Numbers.{INTERRUPT}
 use Rattle.script.specs.declared.Transfer.{Transfer}
 use Rattle.script.specs.Statics.{isOn}
 use Rattle.interrupt.specs.declared.Entry.{Entry}
@@ -19,7 +20,7 @@ use Rattle.interrupt.specs.Suspended.{decode}
 use Rattle.interrupt.specs.SuspendedLaws.{at-interrupt}
 use Rattle.answer.specs.Answering.{NoneOf}
 
-on-site : (c : Saved) (k : ℕ) → c .tag ≡ 6 → c .site ≡ k → decode c ≡ under.Interrupt (byNumber k c)
+on-site : (c : Saved) (k : ℕ) → c .tag ≡ INTERRUPT → c .site ≡ k → decode c ≡ under.Interrupt (byNumber k c)
 unfolding codec.decode
 on-site c k t h = at-interrupt c (byNumber k c) t (ap (λ (n : ℕ). byNumber n c) (sym h))
 
@@ -81,12 +82,14 @@ first c k (
     )
     (simp (ne-eqb k 19 u, ne-eqb k 20 v, ne-eqb k 21 w, ne-eqb k 22 x, ne-eqb k 23 y, ne-eqb k 24 A, ne-eqb k 25 B)))
 
-pub at-first : (c : Saved) (k : ℕ) → c .tag ≡ 6 → c .site ≡ k → NoneOf 25 k → decode c ≡ under.Interrupt point.Frame
+pub at-first : (c : Saved) (k : ℕ) → c .tag ≡ INTERRUPT → c .site ≡ k → NoneOf 25 k → decode c
+    ≡ under.Interrupt point.Frame
 at-first c k t h r = on-site c k t h ∙ ap under.Interrupt (sym (first c k r))
 
 -- mis_st is read
-pub on-mis : (c : Saved) → c .tag ≡ 6 → c .site ≡ 6 → decode c ≡ under.Interrupt (point.Mis (isOn (c .flag)))
-on-mis c t h = on-site c 6 t h
+pub on-mis : (c : Saved) → c .tag ≡ INTERRUPT → c .site ≡ codec.MIS → decode c
+    ≡ under.Interrupt (point.Mis (isOn (c .flag)))
+on-mis c t h = on-site c codec.MIS t h
 
 pub loaded-mis : (c : Saved) (setup : Bool) → setup ≡ isOn (c .flag) → decode c
     ≡ under.Interrupt (point.Mis (isOn (c .flag)))

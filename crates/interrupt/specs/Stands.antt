@@ -9,6 +9,7 @@ use Rattle.state.specs.State.{view, saved}
 use Rattle.script.specs.Tree.{Out, Prog, bindOut}
 use Rattle.script.specs.Script.{run}
 use Rattle.script.specs.Machine.{Buf}
+use Rattle.script_ops.specs.Numbers.{INTERRUPT}
 use Rattle.script_ops.specs.Rings.{St}
 use Rattle.script_ops.specs.Concrete.{concrete}
 use Rattle.interrupt.specs.declared.Point.{Point}
@@ -57,7 +58,7 @@ RunsOnFromWith r p xs b ys after = ((v : ℕ) → Stops r ys after (denote p v (
 
 -- what is saved is the interrupt's point with this number
 pub record AtSite (number : ℕ) (xs : List ℕ) : Type 0 where
-  pub tagged : saved xs .tag ≡ 6
+  pub tagged : saved xs .tag ≡ INTERRUPT
   pub numbered : saved xs .site ≡ number
 
 -- an interrupt's continue, by its word

@@ -16,7 +16,7 @@ use Rattle.interrupt.specs.Points.{meaning, awaitsAt}
 use Rattle.interrupt.specs.Suspended as under
 use Rattle.answer.specs.declared.Step.{Step}
 use Rattle.answer.specs.declared.Step.the-variants as step
-use Rattle.interrupt.specs.Suspended.{encode, handedOut, SavedByAnswer}
+use Rattle.interrupt.specs.Suspended.{asSaved, handedOut, SavedByAnswer}
 use Rattle.interrupt.specs.SuspendedLaws.{stored-by, handed-out}
 use Rattle.answer.specs.Parts.{stepOf}
 use Rattle.answer.specs.Word.{Encodes}
@@ -25,7 +25,7 @@ use Rattle.interrupt.specs.Stands.{Stands, halted, Stops, Pins}
 
 -- the bytes of the point are stored
 pub stands-at : {r : ℕ} {q : Access} {p : Point} {c : Saved} {xs ys : List ℕ}
-    → Encodes r (step.Asks q) × ((view ys ≡ view xs) × (saved ys ≡ c)) → c ≡ encode (under.Interrupt p)
+    → Encodes r (step.Asks q) × ((view ys ≡ view xs) × (saved ys ≡ c)) → c ≡ asSaved (under.Interrupt p)
     → Stands r q p xs ys
 stands-at h e = record { answered = h .0; viewed = h .1 .0; stored = h .1 .1 ∙ e }
 

@@ -16,6 +16,7 @@ use Rattle.script.specs.Script.{run}
 use Rattle.script.specs.Answers.{Answer}
 use Rattle.script.specs.Calls.{calls}
 use Rattle.script.specs.Machine.{Buf, Pending, idle, busy, Machine, Ans, handed, continued}
+use Rattle.script_ops.specs.Numbers.{INTERRUPT}
 use Rattle.script_ops.specs.Concrete.{concrete}
 use Rattle.interrupt.specs.declared.Point.{Point}
 use Rattle.interrupt.specs.Points as handler
@@ -29,12 +30,15 @@ pub data Suspended : Type 0 where
   Idle : Suspended
   Interrupt : Point → Suspended
 
+abbrev pub asSaved : Suspended → Saved
+asSaved Idle = fresh.nothing
+asSaved (Interrupt p) = withTag INTERRUPT (handlerCodec.asNumbers p)
+
 unfoldable pub encode : Suspended → Saved
-encode Idle = fresh.nothing
-encode (Interrupt p) = withTag 6 (handlerCodec.encode p)
+encode u = asSaved u
 
 unfoldable pub decode : Saved → Suspended
-decode c = cond (eqb (c .tag) 6) (Interrupt (handlerCodec.decode c)) Idle
+decode c = cond (eqb (c .tag) INTERRUPT) (Interrupt (handlerCodec.decode c)) Idle
 
 abbrev pub wayOf : Suspended → Pending Answer Driver
 wayOf Idle = idle
@@ -73,12 +77,12 @@ SavedByAnswer (step.Shown at n stamp) xs ys = saved ys ≡ saved xs
 abbrev pub Stored : Step → List ℕ → Type 0
 Stored r ys = (xs : List ℕ) → SavedByAnswer r xs ys
 
--- the answer r says (`Says`) the access q, the view stays, and all 22 bytes of what is saved are the encoding of u
+-- the answer r says (`Says`) the access q, the view stays, and all 22 bytes of what is saved are the table's of u
 pub record StandsAt (A : Type 0) (Says : A → Step → Type 0) (r : A) (q : Access) (u : Suspended) (xs ys : List ℕ) : Type
     0 where
   pub answered : Says r (step.Asks q)
   pub viewed : view ys ≡ view xs
-  pub stored : saved ys ≡ encode u
+  pub stored : saved ys ≡ asSaved u
 
 -- a continue, with v brought: the answer and what the call leaves are the machine's, and the 22 bytes are by the answer
 pub record Resumes (r : Step) (v : ℕ) (xs : List ℕ) (b : Buf) (ys : List ℕ) (after : Buf) : Type 0 where

@@ -5,7 +5,7 @@ use mathlib.Core.Path.{_≡_, refl, ap, sym, subst, _∙_}
 use Prim.Native.Nat.{ℕ}
 use Rattle.regs.specs.declared.Access.{Access}
 use Rattle.script.specs.Calls.{calls}
-use Rattle.script.specs.Machine.{Buf, awaited, over}
+use Rattle.script.specs.Machine.{Buf, over}
 use Rattle.script.specs.Script.{run}
 use Rattle.script.specs.Tree.{bindOut}
 use Rattle.script_ops.specs.Concrete.{concrete}
@@ -27,8 +27,6 @@ use Rattle.isochronous.specs.declared.out.Check.the-variants as point-of-check
 use Rattle.isochronous.specs.Points as check
 use Rattle.interrupt.specs.declared.Point.{Point}
 use Rattle.interrupt.specs.declared.Point.the-variants as point
-use Rattle.interrupt.specs.declared.Next.{Next}
-use Rattle.interrupt.specs.declared.Next.the-variants as next
 use Rattle.interrupt.specs.Points as handler
 use Rattle.state.specs.declared.Saved.{Saved}
 use Rattle.state.specs.State.{view, saved}
@@ -36,6 +34,7 @@ use Rattle.script.specs.Tree.{Out}
 use Rattle.script.specs.Answers.{Answer, Refused}
 use Rattle.script.specs.Machine as ways
 use Rattle.script.specs.Machine.{Awaits, Machine, ended, continued}
+use Rattle.script_ops.specs.Numbers.{INTERRUPT}
 use Rattle.script_ops.specs.Rings.{St}
 use Rattle.interrupt.specs.Codec as handlerCodec
 use Rattle.interrupt.specs.CodecLaws as handlerCodec-laws
@@ -43,11 +42,12 @@ use Rattle.answer.specs.declared.Step.{Step}
 use Rattle.answer.specs.declared.Step.the-variants as step
 use Rattle.answer.specs.Goes.{StepResult}
 use Rattle.interrupt.specs.Suspended as under
-use Rattle.interrupt.specs.Suspended.{Suspended, encode, decode, finish, driverOf, haltsAs, answerOf, machineAt}
+use Rattle.interrupt.specs.Suspended.{Suspended, asSaved, encode, decode, finish, driverOf, haltsAs, answerOf}
+use Rattle.interrupt.specs.Suspended.{machineAt}
 use Rattle.interrupt.specs.Suspended.{machineOf, resumed, handedOut, Canonical, SavedByAnswer, Stored, StandsAt}
 
 pub decode-encode : (u : Suspended) → decode (encode u) ≡ u
-unfolding encode decode handlerCodec.decode
+unfolding encode decode handlerCodec.encode handlerCodec.decode
 decode-encode under.Idle = refl
 decode-encode (under.Interrupt p) = ap under.Interrupt (handlerCodec-laws.decode-encode p)
 
@@ -57,15 +57,22 @@ encoded u x e = e ∙ ap encode (sym (ap decode e ∙ decode-encode u))
 canonical : (u : Suspended) (xs : List ℕ) → saved xs ≡ encode u → Canonical xs
 canonical u xs e = encoded u (saved xs) e
 
+-- `encode` is shut elsewhere
+pub by-table : (u : Suspended) → asSaved u ≡ encode u
+unfolding encode
+by-table u = refl
+
 -- the point that a record with an interrupt's tag is
-pub at-interrupt : (c : Saved) (p : Point) → c .tag ≡ 6 → p ≡ handlerCodec.decode c → decode c ≡ under.Interrupt p
+pub at-interrupt : (c : Saved) (p : Point) → c .tag ≡ INTERRUPT → p ≡ handlerCodec.decode c → decode c
+    ≡ under.Interrupt p
 unfolding decode
 at-interrupt c p t h = simp (t, h)
 
 -- all 22 bytes are pinned
 pub stored-by : {A : Type 0} {Says : A → Step → Type 0} {r : A} {q : Access} {u : Suspended} {xs ys : List ℕ}
     → StandsAt A Says r q u xs ys → (z : Step) → z ≡ step.Asks q → Stored z ys
-stored-by {u = u} {ys = ys} h z e zs = subst (λ (w : Step). SavedByAnswer w zs ys) (sym e) (canonical u ys (h .stored))
+stored-by {u = u} {ys = ys} h z e zs = subst (λ (w : Step). SavedByAnswer w zs ys) (sym e)
+    (canonical u ys (h .stored ∙ by-table u))
 
 given : (z : Step) (q : Access) (u : Suspended) (xs ys out : List ℕ) (b : Buf) → z ≡ step.Asks q → view ys ≡ view xs
     → decode (saved ys) ≡ u
@@ -77,7 +84,7 @@ pub handed-out : {A : Type 0} {Says : A → Step → Type 0} {r : A} {q : Access
     → StandsAt A Says r q u xs ys → (z : Step) → z ≡ step.Asks q → (out : List ℕ) (b : Buf)
     → _≡_ {A = StepResult} (answerOf z out (view ys), machineOf ys b) (handedOut q u (view xs) b)
 handed-out {q = q} {u = u} {xs = xs} {ys = ys} h z e out b
-    = given z q u xs ys out b e (h .viewed) (ap decode (h .stored) ∙ decode-encode u)
+    = given z q u xs ys out b e (h .viewed) (ap decode (h .stored ∙ by-table u) ∙ decode-encode u)
 
 -- row 16: it stays awaited
 abbrev pub stayed : Suspended → Driver → Buf → StepResult
@@ -97,10 +104,6 @@ stays : (i : Bool) (q : Awaits) (k : ℕ → St → Out St Answer) (v : ℕ) (d 
     → continued calls driverOf (λ s. s) v (waiting i q k d b) (ways.busy i q k) b
     ≡ (ended (Refused 16), waiting i q k d b)
 stays i q k v d b h = ap (goes i q k v d b) h
-
-pub linked-interrupt : (n : Next) (q : Access) (p : Point) → n ≡ next.Asks q p → handler.Linked n → awaited q
-    ≡ handler.awaitsAt p
-linked-interrupt n q p e l = subst handler.Linked e l
 
 over-fits-nak : (p : Nak) (v : ℕ) → over calls (nak.awaitsAt p) v ≡ not (nak.fitsAt p v)
 unfolding nak.fitsAt

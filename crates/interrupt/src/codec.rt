@@ -1,7 +1,7 @@
-// A point of the interrupt as numbers, and what it has from them.
-use crate::Point;
+// The parts of an interrupt's point as numbers, and back from them.
 use crate::nak::Nak;
 use crate::settle::Settle;
+use crate::sites;
 use crate::toggled::Toggled;
 use isochronous::complete::Complete;
 use isochronous::late::Late;
@@ -16,7 +16,7 @@ ghost use mathlib.Core.Path.{_≡_};
 ghost use Rattle.interrupt.specs.Codec.{dirOf, inner, walked, looking, none, onDir, nakAs, nakOf, settleAs};
 ghost use Rattle.interrupt.specs.Codec.{settleOf};
 ghost use Rattle.interrupt.specs.Codec.{toggledAs, toggledOf, completeAs, completeOf, sofAs, sofOf, lateAs};
-ghost use Rattle.interrupt.specs.Codec.{lateOf, checkAs, checkOf, code, early, entered, bare, encode};
+ghost use Rattle.interrupt.specs.Codec.{lateOf, checkAs, checkOf, code, early};
 
 // An inner point's numbers, with the isochronous flag or a status.
 pub struct Numbers {
@@ -76,10 +76,10 @@ pub fn nak_as(st: u8, p: Nak) -> Numbers
 {
     match p {
         Nak::Word(d) => match d {
-            Dir::Out => inner(0, st, 0, 0, 0),
-            Dir::In => inner(1, st, 0, 0, 0),
+            Dir::Out => inner(sites::NAK_OUT, st, 0, 0, 0),
+            Dir::In => inner(sites::NAK_IN, st, 0, 0, 0),
         },
-        Nak::Wrote => inner(2, st, 0, 0, 0),
+        Nak::Wrote => inner(sites::NAK_WROTE, st, 0, 0, 0),
     }
 }
 
@@ -87,8 +87,8 @@ pub fn nak_of(sub: u8) -> Nak
     ensures { λ r. ⌜ r ≡ nakOf sub ⌝ }
 {
     match sub {
-        0 => Nak::Word(Dir::Out),
-        1 => Nak::Word(Dir::In),
+        sites::NAK_OUT => Nak::Word(Dir::Out),
+        sites::NAK_IN => Nak::Word(Dir::In),
         _ => Nak::Wrote,
     }
 }
@@ -97,14 +97,14 @@ pub fn settle_as(p: Settle) -> Numbers
     ensures { λ r. ⌜ r ≡ settleAs p ⌝ }
 {
     match p {
-        Settle::IsoLook(n) => inner(3, 0, 0, 0, n),
-        Settle::IsoSt => inner(4, 0, 0, 0, 0),
-        Settle::IsoLen(now) => inner(5, now, 0, 0, 0),
-        Settle::BulkLook(n) => inner(6, 0, 0, 0, n),
-        Settle::BulkLen => inner(7, 0, 0, 0, 0),
-        Settle::Mis => inner(8, 0, 0, 0, 0),
-        Settle::Flags => inner(9, 0, 0, 0, 0),
-        Settle::St => inner(10, 0, 0, 0, 0),
+        Settle::IsoLook(n) => inner(sites::SETTLE_ISO_LOOK, 0, 0, 0, n),
+        Settle::IsoSt => inner(sites::SETTLE_ISO_ST, 0, 0, 0, 0),
+        Settle::IsoLen(now) => inner(sites::SETTLE_ISO_LEN, now, 0, 0, 0),
+        Settle::BulkLook(n) => inner(sites::SETTLE_BULK_LOOK, 0, 0, 0, n),
+        Settle::BulkLen => inner(sites::SETTLE_BULK_LEN, 0, 0, 0, 0),
+        Settle::Mis => inner(sites::SETTLE_MIS, 0, 0, 0, 0),
+        Settle::Flags => inner(sites::SETTLE_FLAGS, 0, 0, 0, 0),
+        Settle::St => inner(sites::SETTLE_ST, 0, 0, 0, 0),
         Settle::Nak(st, q) => nak_as(st, q),
     }
 }
@@ -113,14 +113,14 @@ pub fn settle_of(sub: u8, now: u8, n: u16) -> Settle
     ensures { λ r. ⌜ r ≡ settleOf sub now n ⌝ }
 {
     match sub {
-        3 => Settle::IsoLook(n),
-        4 => Settle::IsoSt,
-        5 => Settle::IsoLen(now),
-        6 => Settle::BulkLook(n),
-        7 => Settle::BulkLen,
-        8 => Settle::Mis,
-        9 => Settle::Flags,
-        10 => Settle::St,
+        sites::SETTLE_ISO_LOOK => Settle::IsoLook(n),
+        sites::SETTLE_ISO_ST => Settle::IsoSt,
+        sites::SETTLE_ISO_LEN => Settle::IsoLen(now),
+        sites::SETTLE_BULK_LOOK => Settle::BulkLook(n),
+        sites::SETTLE_BULK_LEN => Settle::BulkLen,
+        sites::SETTLE_MIS => Settle::Mis,
+        sites::SETTLE_FLAGS => Settle::Flags,
+        sites::SETTLE_ST => Settle::St,
         _ => Settle::Nak(now, nak_of(sub)),
     }
 }
@@ -129,10 +129,10 @@ pub fn toggled_as(d: Dir, iso: bool, p: Toggled) -> Numbers
     ensures { λ r. ⌜ r ≡ toggledAs d iso p ⌝ }
 {
     match p {
-        Toggled::Look(n) => looking(0, d, iso, n),
-        Toggled::Word => looking(1, d, iso, 0),
-        Toggled::AckRead => looking(2, d, iso, 0),
-        Toggled::Acked => looking(3, d, iso, 0),
+        Toggled::Look(n) => looking(sites::TOGGLED_LOOK, d, iso, n),
+        Toggled::Word => looking(sites::TOGGLED_WORD, d, iso, 0),
+        Toggled::AckRead => looking(sites::TOGGLED_ACK_READ, d, iso, 0),
+        Toggled::Acked => looking(sites::TOGGLED_ACKED, d, iso, 0),
     }
 }
 
@@ -140,9 +140,9 @@ pub fn toggled_of(sub: u8, n: u16) -> Toggled
     ensures { λ r. ⌜ r ≡ toggledOf sub n ⌝ }
 {
     match sub {
-        0 => Toggled::Look(n),
-        1 => Toggled::Word,
-        2 => Toggled::AckRead,
+        sites::TOGGLED_LOOK => Toggled::Look(n),
+        sites::TOGGLED_WORD => Toggled::Word,
+        sites::TOGGLED_ACK_READ => Toggled::AckRead,
         _ => Toggled::Acked,
     }
 }
@@ -151,15 +151,15 @@ pub fn complete_as(iso: bool, m: u16, p: Complete) -> Numbers
     ensures { λ r. ⌜ r ≡ completeAs iso m p ⌝ }
 {
     match p {
-        Complete::Sent(e) => walked(0, iso, e, m),
-        Complete::Loaded(e) => walked(1, iso, e, m),
+        Complete::Sent(e) => walked(sites::SENT, iso, e, m),
+        Complete::Loaded(e) => walked(sites::LOADED, iso, e, m),
     }
 }
 
 pub fn complete_of(sub: u8, e: u8) -> Complete
     ensures { λ r. ⌜ r ≡ completeOf sub e ⌝ }
 {
-    if sub == 0 {
+    if sub == sites::SENT {
         Complete::Sent(e)
     } else {
         Complete::Loaded(e)
@@ -170,10 +170,10 @@ pub fn sof_as(iso: bool, p: Sof) -> Numbers
     ensures { λ r. ⌜ r ≡ sofAs iso p ⌝ }
 {
     match p {
-        Sof::Mis(e, m) => walked(2, iso, e, m),
-        Sof::St(e, m) => walked(3, iso, e, m),
+        Sof::Mis(e, m) => walked(sites::SOF_MIS, iso, e, m),
+        Sof::St(e, m) => walked(sites::SOF_ST, iso, e, m),
         Sof::Completing(m, q) => complete_as(iso, m, q),
-        Sof::Callback => walked(4, iso, 0, 0),
+        Sof::Callback => walked(sites::SOF_CALLBACK, iso, 0, 0),
     }
 }
 
@@ -181,9 +181,9 @@ pub fn sof_of(sub: u8, e: u8, m: u16) -> Sof
     ensures { λ r. ⌜ r ≡ sofOf sub e m ⌝ }
 {
     match sub {
-        2 => Sof::Mis(e, m),
-        3 => Sof::St(e, m),
-        4 => Sof::Callback,
+        sites::SOF_MIS => Sof::Mis(e, m),
+        sites::SOF_ST => Sof::St(e, m),
+        sites::SOF_CALLBACK => Sof::Callback,
         _ => Sof::Completing(m, complete_of(sub, e)),
     }
 }
@@ -210,15 +210,15 @@ pub fn check_as(iso: bool, p: Check) -> Numbers
     ensures { λ r. ⌜ r ≡ checkAs iso p ⌝ }
 {
     match p {
-        Check::St(e, m) => walked(0, iso, e, m),
-        Check::Armed(e, m) => walked(1, iso, e, m),
+        Check::St(e, m) => walked(sites::CHECK_ST, iso, e, m),
+        Check::Armed(e, m) => walked(sites::CHECK_ARMED, iso, e, m),
     }
 }
 
 pub fn check_of(sub: u8, e: u8, m: u16) -> Check
     ensures { λ r. ⌜ r ≡ checkOf sub e m ⌝ }
 {
-    if sub == 0 {
+    if sub == sites::CHECK_ST {
         Check::St(e, m)
     } else {
         Check::Armed(e, m)
@@ -257,50 +257,5 @@ pub fn early(busy: bool, st: u8) -> Transfer
         len: 0,
         late: false,
         len_ok: false,
-    }
-}
-
-fn entered(site: u8, setup: bool, busy: bool, st: u8) -> Saved
-    ensures { λ r. ⌜ r ≡ entered site setup busy st ⌝ }
-{
-    code(site, setup, early(busy, st), 0, none(false))
-}
-
-fn bare(site: u8) -> Saved
-    ensures { λ r. ⌜ r ≡ bare site ⌝ }
-{
-    entered(site, false, false, 0)
-}
-
-pub fn encode(p: Point) -> Saved
-    ensures { λ r. ⌜ r ≡ encode p ⌝ }
-{
-    match p {
-        Point::Frame => bare(0),
-        Point::Flags => bare(1),
-        Point::BusRst(f) => entered(2, false, false, f),
-        Point::Suspend(f) => entered(3, false, false, f),
-        Point::Fifo(f) => entered(4, false, false, f),
-        Point::Host(f) => entered(5, false, false, f),
-        Point::Mis(setup) => entered(6, setup, false, 0),
-        Point::St(setup, busy) => entered(7, setup, busy, 0),
-        Point::Len(setup, busy, st) => entered(8, setup, busy, st),
-        Point::Nak(setup, x, q) => code(9, setup, x, 0, nak_as(0, q)),
-        Point::Released(setup, x) => code(10, setup, x, 0, none(false)),
-        Point::Settle(setup, x, q) => code(11, setup, x, 0, settle_as(q)),
-        Point::FrameNo(setup, x, iso) => code(12, setup, x, 0, none(iso)),
-        Point::Sof(setup, x, iso, frame, q) => code(13, setup, x, frame, sof_as(iso, q)),
-        Point::Late(setup, x, iso, frame, q) => code(14, setup, x, frame, late_as(iso, q)),
-        Point::SofArm(setup, x, iso, frame, q) => code(15, setup, x, frame, sof_as(iso, q)),
-        Point::Flip(d, setup, x, iso) => code(16, setup, x, 0, on_dir(d, iso)),
-        Point::Flipped(d, setup, x, iso) => code(17, setup, x, 0, on_dir(d, iso)),
-        Point::Toggled(d, setup, x, iso, q) => code(18, setup, x, 0, toggled_as(d, iso, q)),
-        Point::Completing(setup, x, iso, q) => code(19, setup, x, 0, complete_as(iso, 0, q)),
-        Point::Check(setup, x, iso, q) => code(20, setup, x, 0, check_as(iso, q)),
-        Point::MovedRead(d, setup) => code(21, setup, early(false, 0), 0, on_dir(d, false)),
-        Point::MovedWrote(d, setup) => code(22, setup, early(false, 0), 0, on_dir(d, false)),
-        Point::SetupRx => bare(23),
-        Point::SetupTx => bare(24),
-        Point::SetupReleased => bare(25),
     }
 }

@@ -15,7 +15,8 @@ pub mod nak; // nak.rt: `nak_non_iso`
 pub mod settle; // settle.rt: a transfer whose transaction was on the bus
 pub mod toggled; // toggled.rt: `toggled`
 pub mod wait; // wait.rt: the wait for sie_free, readings as numbers
-pub mod codec; // codec.rt: the interrupt's points in the saved record
+pub mod sites; // sites.rt: the numbers of the interrupt's points
+pub mod codec; // codec.rt: their parts in the saved record
 pub mod loads; // loads.rt: what a point has, each part loaded alone
 pub mod stands; // stands.rt: the interrupt stands at a point, all of whose bytes are stored, or ends
 pub mod check; // check.rt: isochronous OUTs looked at, EP0's hidden stage, the setup
@@ -82,9 +83,9 @@ pub enum Next {
 }
 
 // `on_interrupt` begins (mod.rs 637), with a frame reading before it.
-pub fn on_interrupt() -> Next
-    ensures { λ r. ⌜ ((d : Driver) (b : List ℕ) → meaning r d b ≡ go interrupt d b) ⌝ }
-    ensures { λ r. ⌜ Linked r ⌝ }
+pub fn on_interrupt() -> Access
+    ensures { λ r. ⌜ ((d : Driver) (b : List ℕ) → meaning (Next.Asks r Point.Frame) d b ≡ go interrupt d b) ⌝ }
+    ensures { λ r. ⌜ Linked (Next.Asks r Point.Frame) ⌝ }
 {
-    Next::Asks(Access::Read(Reg::FrameNo, 0), Point::Frame)
+    Access::Read(Reg::FrameNo, 0)
 }

@@ -14,11 +14,12 @@ use regs::registers::fits;
 use state::State;
 ghost use mathlib.Core.List.{List};
 ghost use Prim.Native.Nat.{ℕ};
+ghost use Rattle.interrupt.specs.Codec as sites;
 ghost use Rattle.interrupt.specs.Stands.{AtSite, ResumesByWord};
 
 // isochronous OUTs are looked at (`iso_out_check`).
 pub fn resume_check(s: &mut State, slots: &mut [u8], v: u32) -> u64
-    requires { ⌜ AtSite 20 (now s) ⌝ }
+    requires { ⌜ AtSite sites.CHECK (now s) ⌝ }
     ensures { λ r. ⌜ ResumesByWord r v (now (s .entry)) (now (slots .entry)) (now (s .exit)) (now (slots .exit)) ⌝ }
 {
     let q = check_at(s);
@@ -31,7 +32,7 @@ pub fn resume_check(s: &mut State, slots: &mut [u8], v: u32) -> u64
 
 // EP0's control word, for its hidden stage (`ep0_moved_on`).
 pub fn resume_moved_read(s: &mut State, v: u32) -> u64
-    requires { ⌜ AtSite 21 (now s) ⌝ }
+    requires { ⌜ AtSite sites.MOVED-READ (now s) ⌝ }
     ensures { λ r. ⌜ ((b : List ℕ) → ResumesByWord r v (now (s .entry)) b (now (s .exit)) b) ⌝ }
 {
     if fits(v, 8) {
@@ -44,7 +45,7 @@ pub fn resume_moved_read(s: &mut State, v: u32) -> u64
 
 // it answers NAK.
 pub fn resume_moved_wrote(s: &mut State) -> u64
-    requires { ⌜ AtSite 22 (now s) ⌝ }
+    requires { ⌜ AtSite sites.MOVED-WROTE (now s) ⌝ }
     ensures { λ r. ⌜ ((v : ℕ) (b : List ℕ) → ResumesByWord r v (now (s .entry)) b (now (s .exit)) b) ⌝ }
 {
     let d = dir_at(s);
@@ -54,7 +55,7 @@ pub fn resume_moved_wrote(s: &mut State) -> u64
 
 // EP0's OUT answers NAK (mod.rs 803-818).
 pub fn resume_setup_rx(s: &mut State) -> u64
-    requires { ⌜ AtSite 23 (now s) ⌝ }
+    requires { ⌜ AtSite sites.SETUP-RX (now s) ⌝ }
     ensures { λ r. ⌜ ((v : ℕ) (b : List ℕ) → ResumesByWord r v (now (s .entry)) b (now (s .exit)) b) ⌝ }
 {
     after_setup_rx(s)
@@ -62,7 +63,7 @@ pub fn resume_setup_rx(s: &mut State) -> u64
 
 // and its IN.
 pub fn resume_setup_tx(s: &mut State, slots: &mut [u8]) -> u64
-    requires { ⌜ AtSite 24 (now s) ⌝ }
+    requires { ⌜ AtSite sites.SETUP-TX (now s) ⌝ }
     ensures { λ r. ⌜ ((v : ℕ) → ResumesByWord r v (now (s .entry)) (now (slots .entry)) (now (s .exit))
         (now (slots .exit))) ⌝ }
 {
@@ -71,7 +72,7 @@ pub fn resume_setup_tx(s: &mut State, slots: &mut [u8]) -> u64
 
 // the setup flag is cleared.
 pub fn resume_setup_released(s: &mut State) -> u64
-    requires { ⌜ AtSite 25 (now s) ⌝ }
+    requires { ⌜ AtSite sites.SETUP-RELEASED (now s) ⌝ }
     ensures { λ r. ⌜ ((v : ℕ) (b : List ℕ) → ResumesByWord r v (now (s .entry)) b (now (s .exit)) b) ⌝ }
 {
     after_setup_released(s)

@@ -46,6 +46,7 @@ ghost use Rattle.state.specs.State.{saved};
 ghost use Rattle.interrupt.specs.declared.Point.the-variants as Point;
 ghost use Rattle.interrupt.specs.Suspended as Under;
 ghost use Rattle.interrupt.specs.Suspended.{decode};
+ghost use Rattle.interrupt.specs.Codec as sites;
 ghost use Rattle.interrupt.specs.Stands.{AtSite, ResumesByWord};
 
 // ---- The microframe, then the flags but the setup's (mod.rs 634-655).
@@ -63,7 +64,7 @@ pub fn resume_frame(s: &mut State, v: u32) -> u64
 
 // int_fg (mod.rs 637).
 pub fn resume_flags(s: &mut State, v: u32) -> u64
-    requires { ⌜ AtSite 1 (now s) ⌝ }
+    requires { ⌜ AtSite sites.FLAGS (now s) ⌝ }
     ensures { λ r. ⌜ ((b : List ℕ) → ResumesByWord r v (now (s .entry)) b (now (s .exit)) b) ⌝ }
 {
     if fits(v, 6) {
@@ -74,7 +75,7 @@ pub fn resume_flags(s: &mut State, v: u32) -> u64
 
 // the reset interrupt is masked (mod.rs 640-643).
 pub fn resume_bus_rst(s: &mut State) -> u64
-    requires { ⌜ AtSite 2 (now s) ⌝ }
+    requires { ⌜ AtSite sites.BUS-RST (now s) ⌝ }
     ensures { λ r. ⌜ ((v : ℕ) (b : List ℕ) → ResumesByWord r v (now (s .entry)) b (now (s .exit)) b) ⌝ }
 {
     let f = st_byte(s);
@@ -83,7 +84,7 @@ pub fn resume_bus_rst(s: &mut State) -> u64
 
 // the suspend interrupt is (mod.rs 644-648).
 pub fn resume_suspend(s: &mut State) -> u64
-    requires { ⌜ AtSite 3 (now s) ⌝ }
+    requires { ⌜ AtSite sites.SUSPEND (now s) ⌝ }
     ensures { λ r. ⌜ ((v : ℕ) (b : List ℕ) → ResumesByWord r v (now (s .entry)) b (now (s .exit)) b) ⌝ }
 {
     let f = st_byte(s);
@@ -92,7 +93,7 @@ pub fn resume_suspend(s: &mut State) -> u64
 
 // the FIFO flag is cleared (mod.rs 649-651).
 pub fn resume_fifo(s: &mut State) -> u64
-    requires { ⌜ AtSite 4 (now s) ⌝ }
+    requires { ⌜ AtSite sites.FIFO (now s) ⌝ }
     ensures { λ r. ⌜ ((v : ℕ) (b : List ℕ) → ResumesByWord r v (now (s .entry)) b (now (s .exit)) b) ⌝ }
 {
     let f = st_byte(s);
@@ -101,7 +102,7 @@ pub fn resume_fifo(s: &mut State) -> u64
 
 // the host SOF flag is (mod.rs 652-655).
 pub fn resume_host(s: &mut State) -> u64
-    requires { ⌜ AtSite 5 (now s) ⌝ }
+    requires { ⌜ AtSite sites.HOST (now s) ⌝ }
     ensures { λ r. ⌜ ((v : ℕ) (b : List ℕ) → ResumesByWord r v (now (s .entry)) b (now (s .exit)) b) ⌝ }
 {
     let f = st_byte(s);
@@ -112,7 +113,7 @@ pub fn resume_host(s: &mut State) -> u64
 
 // mis_st: is a transaction on the bus? (mod.rs 656-661).
 pub fn resume_mis(s: &mut State, v: u32) -> u64
-    requires { ⌜ AtSite 6 (now s) ⌝ }
+    requires { ⌜ AtSite sites.MIS (now s) ⌝ }
     ensures { λ r. ⌜ ((b : List ℕ) → ResumesByWord r v (now (s .entry)) b (now (s .exit)) b) ⌝ }
 {
     if fits(v, 2) {
@@ -124,7 +125,7 @@ pub fn resume_mis(s: &mut State, v: u32) -> u64
 
 // int_st.
 pub fn resume_st(s: &mut State, v: u32) -> u64
-    requires { ⌜ AtSite 7 (now s) ⌝ }
+    requires { ⌜ AtSite sites.ST (now s) ⌝ }
     ensures { λ r. ⌜ ((b : List ℕ) → ResumesByWord r v (now (s .entry)) b (now (s .exit)) b) ⌝ }
 {
     if fits(v, 7) {
@@ -137,7 +138,7 @@ pub fn resume_st(s: &mut State, v: u32) -> u64
 
 // rx_len.
 pub fn resume_len(s: &mut State, v: u32) -> u64
-    requires { ⌜ AtSite 8 (now s) ⌝ }
+    requires { ⌜ AtSite sites.LEN (now s) ⌝ }
     ensures { λ r. ⌜ ((b : List ℕ) → ResumesByWord r v (now (s .entry)) b (now (s .exit)) b) ⌝ }
 {
     if fits(v, 16) {
@@ -151,7 +152,7 @@ pub fn resume_len(s: &mut State, v: u32) -> u64
 
 // NAK before the release (mod.rs 663).
 pub fn resume_nak(s: &mut State, v: u32) -> u64
-    requires { ⌜ AtSite 9 (now s) ⌝ }
+    requires { ⌜ AtSite sites.NAK (now s) ⌝ }
     ensures { λ r. ⌜ ((b : List ℕ) → ResumesByWord r v (now (s .entry)) b (now (s .exit)) b) ⌝ }
 {
     let q = nak_at(s);
@@ -165,7 +166,7 @@ pub fn resume_nak(s: &mut State, v: u32) -> u64
 
 // the transfer flag is cleared (mod.rs 666-667).
 pub fn resume_released(s: &mut State) -> u64
-    requires { ⌜ AtSite 10 (now s) ⌝ }
+    requires { ⌜ AtSite sites.RELEASED (now s) ⌝ }
     ensures { λ r. ⌜ ((v : ℕ) (b : List ℕ) → ResumesByWord r v (now (s .entry)) b (now (s .exit)) b) ⌝ }
 {
     let setup = setup_at(s);
@@ -175,7 +176,7 @@ pub fn resume_released(s: &mut State) -> u64
 
 // what was on the bus is waited for (mod.rs 668-717).
 pub fn resume_settle(s: &mut State, v: u32) -> u64
-    requires { ⌜ AtSite 11 (now s) ⌝ }
+    requires { ⌜ AtSite sites.SETTLE (now s) ⌝ }
     ensures { λ r. ⌜ ((b : List ℕ) → ResumesByWord r v (now (s .entry)) b (now (s .exit)) b) ⌝ }
 {
     let q = settle_at(s);
@@ -191,7 +192,7 @@ pub fn resume_settle(s: &mut State, v: u32) -> u64
 
 // frame_no (mod.rs 724-728).
 pub fn resume_frame_no(s: &mut State, slots: &mut [u8], v: u32) -> u64
-    requires { ⌜ AtSite 12 (now s) ⌝ }
+    requires { ⌜ AtSite sites.FRAME-NO (now s) ⌝ }
     ensures { λ r. ⌜ ResumesByWord r v (now (s .entry)) (now (slots .entry)) (now (s .exit)) (now (slots .exit)) ⌝ }
 {
     if fits(v, 16) {
@@ -203,7 +204,7 @@ pub fn resume_frame_no(s: &mut State, slots: &mut [u8], v: u32) -> u64
 
 // a SOF that was not handled (mod.rs 729-733).
 pub fn resume_sof(s: &mut State, slots: &mut [u8], v: u32) -> u64
-    requires { ⌜ AtSite 13 (now s) ⌝ }
+    requires { ⌜ AtSite sites.SOF (now s) ⌝ }
     ensures { λ r. ⌜ ResumesByWord r v (now (s .entry)) (now (slots .entry)) (now (s .exit)) (now (slots .exit)) ⌝ }
 {
     let q = sof_at(s);
@@ -216,7 +217,7 @@ pub fn resume_sof(s: &mut State, slots: &mut [u8], v: u32) -> u64
 
 // a late entry's completions (mod.rs 735-747).
 pub fn resume_late(s: &mut State, slots: &mut [u8]) -> u64
-    requires { ⌜ AtSite 14 (now s) ⌝ }
+    requires { ⌜ AtSite sites.LATE (now s) ⌝ }
     ensures { λ r. ⌜ ((v : ℕ) → ResumesByWord r v (now (s .entry)) (now (slots .entry)) (now (s .exit))
         (now (slots .exit))) ⌝ }
 {
@@ -229,7 +230,7 @@ pub fn resume_late(s: &mut State, slots: &mut [u8]) -> u64
 
 // the arm of SOF (mod.rs 750-754).
 pub fn resume_sof_arm(s: &mut State, slots: &mut [u8], v: u32) -> u64
-    requires { ⌜ AtSite 15 (now s) ⌝ }
+    requires { ⌜ AtSite sites.SOF-ARM (now s) ⌝ }
     ensures { λ r. ⌜ ResumesByWord r v (now (s .entry)) (now (slots .entry)) (now (s .exit)) (now (slots .exit)) ⌝ }
 {
     let q = sof_at(s);
@@ -242,7 +243,7 @@ pub fn resume_sof_arm(s: &mut State, slots: &mut [u8], v: u32) -> u64
 
 // EP0's control word (mod.rs 757, 781).
 pub fn resume_flip(s: &mut State, v: u32) -> u64
-    requires { ⌜ AtSite 16 (now s) ⌝ }
+    requires { ⌜ AtSite sites.FLIP (now s) ⌝ }
     ensures { λ r. ⌜ ((b : List ℕ) → ResumesByWord r v (now (s .entry)) b (now (s .exit)) b) ⌝ }
 {
     if fits(v, 8) {
@@ -255,7 +256,7 @@ pub fn resume_flip(s: &mut State, v: u32) -> u64
 
 // its toggle is flipped.
 pub fn resume_flipped(s: &mut State, slots: &mut [u8]) -> u64
-    requires { ⌜ AtSite 17 (now s) ⌝ }
+    requires { ⌜ AtSite sites.FLIPPED (now s) ⌝ }
     ensures { λ r. ⌜ ((v : ℕ) → ResumesByWord r v (now (s .entry)) (now (slots .entry)) (now (s .exit))
         (now (slots .exit))) ⌝ }
 {
@@ -266,7 +267,7 @@ pub fn resume_flipped(s: &mut State, slots: &mut [u8]) -> u64
 
 // did a packet go through? (`toggled`).
 pub fn resume_toggled(s: &mut State, slots: &mut [u8], v: u32) -> u64
-    requires { ⌜ AtSite 18 (now s) ⌝ }
+    requires { ⌜ AtSite sites.TOGGLED (now s) ⌝ }
     ensures { λ r. ⌜ ResumesByWord r v (now (s .entry)) (now (slots .entry)) (now (s .exit)) (now (slots .exit)) ⌝ }
 {
     let q = toggled_at(s);
@@ -280,7 +281,7 @@ pub fn resume_toggled(s: &mut State, slots: &mut [u8], v: u32) -> u64
 
 // an isochronous IN completes (mod.rs 772-777).
 pub fn resume_completing(s: &mut State, slots: &mut [u8]) -> u64
-    requires { ⌜ AtSite 19 (now s) ⌝ }
+    requires { ⌜ AtSite sites.COMPLETING (now s) ⌝ }
     ensures { λ r. ⌜ ((v : ℕ) → ResumesByWord r v (now (s .entry)) (now (slots .entry)) (now (s .exit))
         (now (slots .exit))) ⌝ }
 {

@@ -4,6 +4,7 @@ use mathlib.Core.Bool.{false}
 use mathlib.Core.List.{List}
 use Prim.Native.Nat.{ℕ}
 use Rattle.regs.specs.declared.Reg.the-variants.{FrameNo}
+use Rattle.regs.specs.declared.Access.{Access}
 use Rattle.regs.specs.Registers.{widthOf}
 use Rattle.frame.specs.Usb20.{indexOf, frameOf}
 use Rattle.frame.specs.Advance.{completions}
@@ -19,6 +20,8 @@ use Rattle.script_ops.specs.Concrete.{concrete}
 use Rattle.isochronous.specs.Complete as complete
 use Rattle.isochronous.specs.declared.advance.Advance.{Advance}
 use Rattle.isochronous.specs.declared.advance.Advance.the-variants as point
+use Rattle.script_ops.specs.Numbers.{ADVANCE, withTag}
+use Rattle.isochronous.specs.Codec.{asNumbers, decode}
 use Rattle.isochronous.specs.declared.advance.AdvanceNext.{AdvanceNext}
 use Rattle.isochronous.specs.declared.advance.AdvanceNext.the-variants as next
 
@@ -48,8 +51,13 @@ abbrev pub denote : Advance → ℕ → tree.Prog St ℕ
 denote (point.FrameNo e) v t = afterFrameNo e v t
 denote (point.Completing e n frame p) v t = thenMore e n frame (complete.denote p t)
 
+-- the access is handed out, and the advance is under way at a point
+abbrev pub asked : Access → Advance → Driver → List ℕ → tree.Out St ℕ
+asked q p d b = asks q (d, b) (λ v t. denote p v t)
+
+-- its begin's answer, with what is to be saved
 abbrev pub meaning : AdvanceNext → Driver → List ℕ → tree.Out St ℕ
-meaning (next.Asks q p) d b = asks q (d, b) (λ v t. denote p v t)
+meaning (next.Asks q c) d b = asked q (decode c) d b
 meaning (next.Ends n) d b = ends n (d, b)
 
 -- what a point awaits, and that it is the access handed out with it
@@ -57,6 +65,10 @@ abbrev pub awaitsAt : Advance → Awaits
 awaitsAt (point.FrameNo e) = reading (widthOf FrameNo)
 awaitsAt (point.Completing e n frame p) = nothing
 
+abbrev pub Awaited : Access → Advance → Type 0
+Awaited q p = awaited q ≡ awaitsAt p
+
+-- so of a begin, and what is to be saved is the point's record
 abbrev pub Linked : AdvanceNext → Type 0
-Linked (next.Asks q p) = awaited q ≡ awaitsAt p
+Linked (next.Asks q c) = Awaited q (decode c) × (c ≡ withTag ADVANCE (asNumbers (decode c)))
 Linked (next.Ends n) = Unit {0}

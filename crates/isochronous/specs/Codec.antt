@@ -4,10 +4,24 @@ use mathlib.Core.Bool.{cond}
 use Prim.Native.Nat.{ℕ}
 use lib.Dec.{eqb}
 use Rattle.state.specs.declared.Saved.{Saved}
+pub use Rattle.script_ops.specs.Numbers.{withTag}
 use Rattle.isochronous.specs.declared.complete.Complete.{Complete}
 use Rattle.isochronous.specs.declared.complete.Complete.the-variants as complete
 use Rattle.isochronous.specs.declared.advance.Advance.{Advance}
 use Rattle.isochronous.specs.declared.advance.Advance.the-variants as point
+
+-- ---- the numbers of the points
+
+abbrev pub FRAME-NO : ℕ
+FRAME-NO = 0
+
+abbrev pub SENT : ℕ
+SENT = 1
+
+abbrev pub LOADED : ℕ
+LOADED = 2
+
+-- ---- the table
 
 abbrev pub code : ℕ → ℕ → ℕ → ℕ → ℕ → Saved
 code sub e left frame of = record {
@@ -29,18 +43,21 @@ code sub e left frame of = record {
 }
 
 abbrev pub completingAs : ℕ → ℕ → ℕ → Complete → Saved
-completingAs e left frame (complete.Sent of) = code 1 e left frame of
-completingAs e left frame (complete.Loaded of) = code 2 e left frame of
+completingAs e left frame (complete.Sent of) = code SENT e left frame of
+completingAs e left frame (complete.Loaded of) = code LOADED e left frame of
+
+abbrev pub asNumbers : Advance → Saved
+asNumbers (point.FrameNo e) = code FRAME-NO e 0 0 0
+asNumbers (point.Completing e left frame p) = completingAs e left frame p
 
 unfoldable pub encode : Advance → Saved
-encode (point.FrameNo e) = code 0 e 0 0 0
-encode (point.Completing e left frame p) = completingAs e left frame p
+encode p = asNumbers p
 
 -- by the number; an unknown one is the first point
 abbrev pub byNumber : ℕ → Saved → Advance
 byNumber k c =
-    cond (eqb k 1) (point.Completing (c .ep) (c .st) (c .frame) (complete.Sent (c .now)))
-    (cond (eqb k 2) (point.Completing (c .ep) (c .st) (c .frame) (complete.Loaded (c .now)))
+    cond (eqb k SENT) (point.Completing (c .ep) (c .st) (c .frame) (complete.Sent (c .now)))
+    (cond (eqb k LOADED) (point.Completing (c .ep) (c .st) (c .frame) (complete.Loaded (c .now)))
     (point.FrameNo (c .ep)))
 
 unfoldable pub decode : Saved → Advance

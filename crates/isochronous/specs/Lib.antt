@@ -12,3 +12,4 @@ pub mod Packets
 pub mod OpenCloseLaws
 pub mod Queue
 pub mod QueueLaws
+pub mod AdvanceLaws

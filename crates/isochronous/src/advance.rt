@@ -1,11 +1,14 @@
 // `iso_in_advance` (mod.rs 323-340): a paced endpoint completes once for each microframe since the last advance, three
 // times at most.
 use crate::complete::Complete;
+use crate::points::FRAME_NO;
+use crate::points::point;
 use bits::mask_has;
 use regs::Access;
 use regs::Dir;
 use regs::Reg;
 use regs::enables;
+use state::Saved;
 use state::State;
 use state::load_globals;
 use state::store_paced;
@@ -22,7 +25,7 @@ pub enum Advance {
 }
 
 pub enum AdvanceNext {
-    Asks(Access, Advance),
+    Asks(Access, Saved),
     Ends(u16),
 }
 
@@ -41,7 +44,7 @@ pub fn iso_in_advance(s: &mut State, e: u8) -> AdvanceNext
     let g = load_globals(s);
     if is_paced(g.iso_in_paced, e) {
         if enables::is_on(g.ep_config, Dir::In, e) {
-            return AdvanceNext::Asks(Access::Read(Reg::FrameNo, 0), Advance::FrameNo(e));
+            return AdvanceNext::Asks(Access::Read(Reg::FrameNo, 0), point(FRAME_NO, e, 0, 0, 0));
         }
         store_paced(s, e, frame::NO_FRAME);
         return AdvanceNext::Ends(0);

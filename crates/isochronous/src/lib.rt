@@ -2,7 +2,7 @@
 // closed in place; packets queued in place.
 pub mod iso_in; // iso_in.rt: isochronous IN: completions, the SOF, late entries, paced advance
 pub mod advance; // advance.rt: a paced endpoint's completions
-pub mod codec; // codec.rt: an advance's point as numbers
+pub mod points; // points.rt: the numbers of an advance's points, and what is saved of each
 pub mod complete; // complete.rt: one completion
 pub mod late; // late.rt: the completions of a late entry
 pub mod sof; // sof.rt: a microframe's SOF

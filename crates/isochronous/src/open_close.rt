@@ -9,6 +9,7 @@ use script_ops::rings::oldest_at;
 use script_ops::rings::open_oldest;
 use script_ops::rings::opened;
 use script_ops::rings::waiting;
+use script_ops::rows;
 use script_ops::rows::low;
 use script_ops::rows::refusal;
 use state::State;
@@ -44,9 +45,9 @@ fn open_at(s: &mut State, e: u8) -> Packet
             let stamp = next_stamp(s, e);
             return Packet::Shown(at, n, stamp);
         }
-        return Packet::Refused(12);
+        return Packet::Refused(rows::NO_PACKET);
     }
-    Packet::Refused(11)
+    Packet::Refused(rows::NOT_ISOCHRONOUS)
 }
 
 // `iso_out_take`, its first part.
@@ -72,7 +73,7 @@ fn close_at(s: &mut State, e: u8) -> Packet
         close_oldest(s, e);
         return Packet::Ok;
     }
-    Packet::Refused(14)
+    Packet::Refused(rows::NOT_OPEN)
 }
 
 // And its last.

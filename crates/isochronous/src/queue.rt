@@ -6,6 +6,7 @@ use regs::enables;
 use script_ops::rings::is_on;
 use script_ops::rings::iso_in_enqueue;
 use script_ops::rings::room;
+use script_ops::rows;
 use script_ops::rows::low;
 use script_ops::rows::refusal;
 use state::State;
@@ -30,7 +31,7 @@ fn queue_at(s: &mut State, buf: &mut [u8], e: u8, bytes: &[u8]) -> Packet
     if enables::is_on(g.ep_config, Dir::In, e) {
         let a = load_allocator(s);
         if (a.size as usize) < bytes.len() {
-            return Packet::Refused(10);
+            return Packet::Refused(rows::LENGTH);
         }
         let r = load_ep(s, Dir::In, e);
         if is_on(r.iso) {
@@ -38,11 +39,11 @@ fn queue_at(s: &mut State, buf: &mut [u8], e: u8, bytes: &[u8]) -> Packet
                 iso_in_enqueue(s, buf, e, bytes);
                 return Packet::Ok;
             }
-            return Packet::Refused(13);
+            return Packet::Refused(rows::FULL);
         }
-        return Packet::Refused(11);
+        return Packet::Refused(rows::NOT_ISOCHRONOUS);
     }
-    Packet::Refused(9)
+    Packet::Refused(rows::DISABLED)
 }
 
 // `iso_in_prime`.

@@ -3,6 +3,7 @@ use mathlib.Core.Path.{_≡_, refl}
 use Prim.Native.Nat.{ℕ}
 use borrow.Author.Tests.{ne-eqb}
 use Rattle.state.specs.declared.Saved.{Saved}
+use Rattle.script_ops.specs.Numbers.{ADVANCE}
 use Rattle.isochronous.specs.declared.advance.Advance.the-variants as point
 use Rattle.isochronous.specs.Advance.{denote, awaitsAt}
 use Rattle.isochronous.specs.Codec as codec
@@ -16,6 +17,6 @@ use Rattle.machine.specs.Family.{Family}
 pub first : (c : Saved) (k : ℕ) → NoneOf 2 k → point.FrameNo (c .ep) ≡ byNumber k c
 first c k ((z, a), b) = simp (ne-eqb k 1 a, ne-eqb k 2 b)
 
-pub advance : Family under.Advance awaitsAt denote 5 byNumber
+pub advance : Family under.Advance awaitsAt denote ADVANCE byNumber
 unfolding decode codec.decode
 advance = record { under-way = λ p. refl; read = λ c t. simp t }

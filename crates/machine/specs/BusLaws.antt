@@ -3,6 +3,7 @@ use mathlib.Core.Path.{_≡_, refl}
 use Prim.Native.Nat.{ℕ}
 use borrow.Author.Tests.{ne-eqb}
 use Rattle.state.specs.declared.Saved.{Saved}
+use Rattle.script_ops.specs.Numbers.{BUS}
 use Rattle.bus.specs.declared.Point.the-variants as point
 use Rattle.bus.specs.Points.{denote, awaitsAt}
 use Rattle.bus.specs.Codec as codec
@@ -46,6 +47,6 @@ first c k (
     )
     (simp (ne-eqb k 19 u, ne-eqb k 20 v, ne-eqb k 21 w, ne-eqb k 22 x, ne-eqb k 23 y)))
 
-pub bus : Family under.Bus awaitsAt denote 2 byNumber
+pub bus : Family under.Bus awaitsAt denote BUS byNumber
 unfolding decode codec.decode
 bus = record { under-way = λ p. refl; read = λ c t. simp t }

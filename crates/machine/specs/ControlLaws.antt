@@ -3,6 +3,7 @@ use mathlib.Core.Path.{_≡_, refl}
 use Prim.Native.Nat.{ℕ}
 use borrow.Author.Tests.{ne-eqb}
 use Rattle.state.specs.declared.Saved.{Saved}
+use Rattle.script_ops.specs.Numbers.{CONTROL}
 use Rattle.script.specs.Script.{run}
 use Rattle.script_ops.specs.Concrete.{concrete}
 use Rattle.control.specs.declared.Point.the-variants as point
@@ -29,6 +30,6 @@ first c k ((((((((z, a), b), d), e), f), g), h), i) =
           i,
     )
 
-pub control : Family under.Control awaitsAt (λ p v t. run concrete (denote p v) t) 3 byNumber
+pub control : Family under.Control awaitsAt (λ p v t. run concrete (denote p v) t) CONTROL byNumber
 unfolding decode codec.decode
 control = record { under-way = λ p. refl; read = λ c t. simp t }

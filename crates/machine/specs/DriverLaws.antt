@@ -3,6 +3,7 @@ use mathlib.Core.Path.{_≡_, refl}
 use Prim.Native.Nat.{ℕ}
 use borrow.Author.Tests.{ne-eqb}
 use Rattle.state.specs.declared.Saved.{Saved}
+use Rattle.script_ops.specs.Numbers.{DRIVER}
 use Rattle.script.specs.Statics.{isOn}
 use Rattle.script.specs.Script.{run}
 use Rattle.script_ops.specs.Concrete.{concrete}
@@ -32,6 +33,6 @@ first c k ((((((((((((((((z, a), b), d), e), f), g), h), i), j), l), m), n), o),
     )
     (simp (ne-eqb k 10 l, ne-eqb k 11 m, ne-eqb k 12 n, ne-eqb k 13 o, ne-eqb k 14 p, ne-eqb k 15 q, ne-eqb k 16 r))
 
-pub driver : Family under.Driver awaitsAt (λ p v t. run concrete (denote p v) t) 1 byNumber
+pub driver : Family under.Driver awaitsAt (λ p v t. run concrete (denote p v) t) DRIVER byNumber
 unfolding decode codec.decode
 driver = record { under-way = λ p. refl; read = λ c t. simp t }

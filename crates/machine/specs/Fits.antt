@@ -1,35 +1,31 @@
--- The points of the families: the access handed out with one is what it awaits; row 16 by what is awaited, and a
--- continue by it
+-- The points of the families: a begin hands out the access that its point awaits, with the point's record; row 16 by
+-- what is awaited, and a continue by it
 use mathlib.Core.Bool.{Bool, true, false, not}
 use mathlib.Core.Path.{_≡_, refl, ap, sym, subst, _∙_}
 use Prim.Native.Nat.{ℕ}
 use Rattle.regs.specs.declared.Access.{Access}
 use Rattle.script.specs.Calls.{calls}
-use Rattle.script.specs.Machine.{Buf, Awaits, nothing, reading, awaited, over, Pending, busy, ended, continued}
+use Rattle.script.specs.Machine.{Buf, Awaits, nothing, reading, over, Pending, busy, ended, continued}
 use Rattle.script.specs.Tree.{Out}
 use Rattle.script.specs.Answers.{Answer, Refused}
 use Rattle.script_ops.specs.Numbers.{fits}
 use Rattle.script_ops.specs.Rings.{St}
+use Rattle.state.specs.declared.Saved.{Saved}
 use Rattle.state.specs.Driver.{Driver}
-use Rattle.driver.specs.declared.Point.{Point}
 use Rattle.driver.specs.declared.Next.{Next}
 use Rattle.driver.specs.declared.Next.the-variants as next
 use Rattle.driver.specs.Points as driver
-use Rattle.bus.specs.declared.Point as busPoint
 use Rattle.bus.specs.declared.Next as busNext
 use Rattle.bus.specs.declared.Next.the-variants as next-of-bus
 use Rattle.bus.specs.Points as bus
-use Rattle.control.specs.declared.Point as controlPoint
 use Rattle.control.specs.declared.Begun as controlBegun
 use Rattle.control.specs.declared.Begun.the-variants as begun-of-control
 use Rattle.control.specs.declared.Polled as controlPolled
 use Rattle.control.specs.declared.Polled.the-variants as polled-of-control
 use Rattle.control.specs.Points as control
-use Rattle.endpoint.specs.declared.Point as endpointPoint
 use Rattle.endpoint.specs.declared.Begun as endpointBegun
 use Rattle.endpoint.specs.declared.Begun.the-variants as begun-of-endpoint
 use Rattle.endpoint.specs.Points as endpoint
-use Rattle.isochronous.specs.declared.advance.Advance.{Advance}
 use Rattle.isochronous.specs.declared.advance.AdvanceNext.{AdvanceNext}
 use Rattle.isochronous.specs.declared.advance.AdvanceNext.the-variants as next-of-advance
 use Rattle.isochronous.specs.Advance as advance
@@ -38,28 +34,28 @@ use Rattle.machine.specs.Suspended.{wayOf, driverOf, haltsAs, resumed}
 use Rattle.answer.specs.Goes.{StepResult}
 use Rattle.machine.specs.GoesLaws.{stayed, gone, stays}
 
-pub linked : (n : Next) (q : Access) (p : Point) → n ≡ next.Asks q p → driver.Linked n → awaited q ≡ driver.awaitsAt p
-linked n q p e l = subst driver.Linked e l
+pub linked : (n : Next) (q : Access) (c : Saved) → n ≡ next.Asks q c → driver.Linked n → driver.Linked (next.Asks q c)
+linked n q c e l = subst driver.Linked e l
 
-pub linked-bus : (n : busNext.Next) (q : Access) (p : busPoint.Point) → n ≡ next-of-bus.Asks q p → bus.Linked n
-    → awaited q ≡ bus.awaitsAt p
-linked-bus n q p e l = subst bus.Linked e l
+pub linked-bus : (n : busNext.Next) (q : Access) (c : Saved) → n ≡ next-of-bus.Asks q c → bus.Linked n
+    → bus.Linked (next-of-bus.Asks q c)
+linked-bus n q c e l = subst bus.Linked e l
 
-pub linked-begun : (n : controlBegun.Begun) (q : Access) (p : controlPoint.Point)
-    → n ≡ begun-of-control.Asks q p → control.LinkedBegun n → awaited q ≡ control.awaitsAt p
-linked-begun n q p e l = subst control.LinkedBegun e l
+pub linked-begun : (n : controlBegun.Begun) (q : Access) (c : Saved)
+    → n ≡ begun-of-control.Asks q c → control.LinkedBegun n → control.LinkedAs q c
+linked-begun n q c e l = subst control.LinkedBegun e l
 
-pub linked-polled : (n : controlPolled.Polled) (q : Access) (p : controlPoint.Point)
-    → n ≡ polled-of-control.Asks q p → control.LinkedPolled n → awaited q ≡ control.awaitsAt p
-linked-polled n q p e l = subst control.LinkedPolled e l
+pub linked-polled : (n : controlPolled.Polled) (q : Access) (c : Saved)
+    → n ≡ polled-of-control.Asks q c → control.LinkedPolled n → control.LinkedAs q c
+linked-polled n q c e l = subst control.LinkedPolled e l
 
-pub linked-begun-endpoint : (n : endpointBegun.Begun) (q : Access) (p : endpointPoint.Point)
-    → n ≡ begun-of-endpoint.Asks q p → endpoint.LinkedBegun n → awaited q ≡ endpoint.awaitsAt p
-linked-begun-endpoint n q p e l = subst endpoint.LinkedBegun e l
+pub linked-begun-endpoint : (n : endpointBegun.Begun) (q : Access) (c : Saved)
+    → n ≡ begun-of-endpoint.Asks q c → endpoint.LinkedBegun n → endpoint.LinkedAs q c
+linked-begun-endpoint n q c e l = subst endpoint.LinkedBegun e l
 
-pub linked-advance : (n : AdvanceNext) (q : Access) (p : Advance) → n ≡ next-of-advance.Asks q p → advance.Linked n
-    → awaited q ≡ advance.awaitsAt p
-linked-advance n q p e l = subst advance.Linked e l
+pub linked-advance : (n : AdvanceNext) (q : Access) (c : Saved)
+    → n ≡ next-of-advance.Asks q c → advance.Linked n → advance.Linked (next-of-advance.Asks q c)
+linked-advance n q c e l = subst advance.Linked e l
 
 -- ---- row 16: a continue by what is awaited
 

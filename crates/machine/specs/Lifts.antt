@@ -9,6 +9,7 @@ use Rattle.state.specs.State.{view, saved}
 use Rattle.state.specs.Fresh as fresh
 use Rattle.script.specs.Answers.{Answer}
 use Rattle.script.specs.Machine.{Buf, Machine}
+use Rattle.script_ops.specs.Numbers.{INTERRUPT}
 use Rattle.interrupt.specs.Codec as handlerCodec
 use Rattle.answer.specs.declared.Step.{Step}
 use Rattle.answer.specs.declared.Step.the-variants as step
@@ -51,7 +52,7 @@ nothing-alike : Alike fresh.nothing
 unfolding alone.encode
 nothing-alike = encoded-alike alone.Idle
 
-tagged-alike : (c : Saved) → c .tag ≡ 6 → Alike c
+tagged-alike : (c : Saved) → c .tag ≡ INTERRUPT → Alike c
 tagged-alike c t = at-interrupt c (handlerCodec.decode c) t refl
     ∙ ap up (sym (alone-laws.at-interrupt c (handlerCodec.decode c) t refl))
 
@@ -62,7 +63,7 @@ canonical-alike : (ys : List ℕ) → alone.Canonical ys → Alike (saved ys)
 canonical-alike ys h = moved (saved ys) (alone.encode (alone.decode (saved ys))) h
     (encoded-alike (alone.decode (saved ys)))
 
-kept-alike : (r : Step) (xs ys : List ℕ) → saved xs .tag ≡ 6 → alone.SavedByAnswer r xs ys → Alike (saved ys)
+kept-alike : (r : Step) (xs ys : List ℕ) → saved xs .tag ≡ INTERRUPT → alone.SavedByAnswer r xs ys → Alike (saved ys)
 kept-alike (step.Refused n) xs ys t h = moved (saved ys) (saved xs) h (tagged-alike (saved xs) t)
 kept-alike (step.Asks q) xs ys t h = canonical-alike ys h
 kept-alike (step.Ends n k) xs ys t h = moved (saved ys) fresh.nothing h nothing-alike
@@ -90,8 +91,8 @@ pub machine-lifts : (ys : List ℕ) (b : Buf) → alone.Canonical ys → machine
 machine-lifts ys b h = machine-by ys b (canonical-alike ys h)
 
 -- a continue
-pub lifts : {r : Step} {v : ℕ} {xs ys : List ℕ} {b after : Buf} → saved xs .tag ≡ 6 → alone.Resumes r v xs b ys after
-    → Resumes r v xs b ys after
+pub lifts : {r : Step} {v : ℕ} {xs ys : List ℕ} {b after : Buf} → saved xs .tag ≡ INTERRUPT
+    → alone.Resumes r v xs b ys after → Resumes r v xs b ys after
 lifts {r} {v} {xs} {ys} {b} {after} t h = record {
   called = ap (λ (m : Machine Answer Driver). (answerOf r [] (view ys), m))
       (machine-by ys after (kept-alike r xs ys t (h .kept)))

@@ -17,7 +17,7 @@ use Rattle.script_ops.specs.Concrete.{concrete}
 use Rattle.machine.specs.declared.Suspended.{Suspended}
 use Rattle.answer.specs.declared.Step.{Step}
 use Rattle.answer.specs.declared.Step.the-variants as step
-use Rattle.machine.specs.Suspended.{encode, decode, machineOf, finish, handedOut, resumed, answerOf, Stored}
+use Rattle.machine.specs.Suspended.{asSaved, decode, machineOf, finish, handedOut, resumed, answerOf, Stored}
 use Rattle.answer.specs.Goes.{StepResult}
 use Rattle.machine.specs.GoesLaws.{stayed}
 use Rattle.machine.specs.Stands.{Stands, halted, StepsTo, Ends, AtNumber, Resumes}
@@ -27,7 +27,7 @@ use Rattle.machine.specs.Family.{Family}
 
 -- the bytes of the point are stored
 pub stands-at : {r : Step} {q : Access} {u : Suspended} {c : Saved} {xs ys : List ℕ}
-    → (r ≡ step.Asks q) × ((view ys ≡ view xs) × (saved ys ≡ c)) → c ≡ encode u → Stands r q u xs ys
+    → (r ≡ step.Asks q) × ((view ys ≡ view xs) × (saved ys ≡ c)) → c ≡ asSaved u → Stands r q u xs ys
 stands-at h e = record { answered = h .0; viewed = h .1 .0; stored = h .1 .1 ∙ e }
 
 abbrev handedOn : Access → Driver → Buf → Pending Answer Driver → StepResult

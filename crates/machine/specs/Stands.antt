@@ -13,17 +13,17 @@ use Rattle.script_ops.specs.Concrete.{concrete}
 use Rattle.machine.specs.declared.Suspended.{Suspended}
 use Rattle.answer.specs.declared.Step.{Step}
 use Rattle.answer.specs.declared.Step.the-variants as step
-use Rattle.machine.specs.Suspended.{encode, decode, finish, halts, machineOf, resumed, answerOf, SavedByAnswer}
+use Rattle.machine.specs.Suspended.{asSaved, decode, finish, halts, machineOf, resumed, answerOf, SavedByAnswer}
 use Rattle.machine.specs.Suspended.{Stored}
 use Rattle.answer.specs.Goes.{StepResult}
 pub use Rattle.answer.specs.Answering.{NoneOf}
 
--- the answer r says (`Says`) the access q, the view stays, and all 22 bytes of what is saved are the encoding of u
+-- the answer r says (`Says`) the access q, the view stays, and all 22 bytes of what is saved are the table's of u
 pub record StandsAt (A : Type 0) (Says : A → Step → Type 0) (r : A) (q : Access) (u : Suspended) (xs ys : List ℕ) : Type
     0 where
   pub answered : Says r (step.Asks q)
   pub viewed : view ys ≡ view xs
-  pub stored : saved ys ≡ encode u
+  pub stored : saved ys ≡ asSaved u
 
 -- where the answer is the step itself
 abbrev pub Stands : Step → Access → Suspended → List ℕ → List ℕ → Type 0

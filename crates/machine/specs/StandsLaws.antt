@@ -12,7 +12,7 @@ use Rattle.machine.specs.declared.Suspended.{Suspended}
 use Rattle.answer.specs.declared.Step.{Step}
 use Rattle.answer.specs.declared.Step.the-variants as step
 use Rattle.machine.specs.Suspended.{decode, halts, machineOf, handedOut, answerOf, SavedByAnswer, Stored}
-use Rattle.machine.specs.SuspendedLaws.{decode-encode}
+use Rattle.machine.specs.SuspendedLaws.{by-table, decode-encode}
 use Rattle.answer.specs.Goes.{StepResult}
 use Rattle.machine.specs.Rows.{isIdle}
 use Rattle.machine.specs.RowsLaws.{ends-idle}
@@ -23,7 +23,8 @@ pub use Rattle.answer.specs.Answering.{parts2, parts3, parts4, parts5}
 -- all 22 bytes are pinned
 pub stored-by : {A : Type 0} {Says : A → Step → Type 0} {r : A} {q : Access} {u : Suspended} {xs ys : List ℕ}
     → StandsAt A Says r q u xs ys → (z : Step) → z ≡ step.Asks q → Stored z ys
-stored-by {u = u} {ys = ys} h z e zs = subst (λ (w : Step). SavedByAnswer w zs ys) (sym e) (canonical u ys (h .stored))
+stored-by {u = u} {ys = ys} h z e zs = subst (λ (w : Step). SavedByAnswer w zs ys) (sym e)
+    (canonical u ys (h .stored ∙ by-table u))
 
 handed : (z : Step) (q : Access) (u : Suspended) (xs ys out : List ℕ) (b : Buf) → z ≡ step.Asks q → view ys ≡ view xs
     → decode (saved ys) ≡ u
@@ -35,7 +36,7 @@ pub handed-out : {A : Type 0} {Says : A → Step → Type 0} {r : A} {q : Access
     → StandsAt A Says r q u xs ys → (z : Step) → z ≡ step.Asks q → (out : List ℕ) (b : Buf)
     → _≡_ {A = StepResult} (answerOf z out (view ys), machineOf ys b) (handedOut q u (view xs) b)
 handed-out {q = q} {u = u} {xs = xs} {ys = ys} h z e out b
-    = handed z q u xs ys out b e (h .viewed) (ap decode (h .stored) ∙ decode-encode u)
+    = handed z q u xs ys out b e (h .viewed) (ap decode (h .stored ∙ by-table u) ∙ decode-encode u)
 
 -- so the call leads there
 pub suspends : {r : Step} {q : Access} {u : Suspended} {xs ys : List ℕ} {f : Buf → StepResult} → Stands r q u xs ys

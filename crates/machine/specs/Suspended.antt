@@ -16,6 +16,7 @@ use Rattle.script.specs.Answers.{Answer, Refused, NotYet, Done, Shown}
 use Rattle.script.specs.Calls.{calls}
 use Rattle.script.specs.Machine as machine
 use Rattle.script.specs.Machine.{Buf, Pending, idle, busy, Machine, Ans, ended, handed, told, continued}
+use Rattle.script_ops.specs.Numbers.{DRIVER, BUS, CONTROL, ENDPOINT, ADVANCE, INTERRUPT}
 use Rattle.script_ops.specs.Concrete.{concrete}
 use Rattle.driver.specs.Points as driver
 use Rattle.driver.specs.Codec as codec
@@ -38,23 +39,26 @@ pub use Rattle.answer.specs.Answering.{withTag, finish, driverOf, configOf, dri
 
 -- ---- the saved record: its tag says whose point it is, 0 or an unknown one that nothing is under way
 
+abbrev pub asSaved : Suspended → Saved
+asSaved under.Idle = fresh.nothing
+asSaved (under.Driver p) = withTag DRIVER (codec.asNumbers p)
+asSaved (under.Bus p) = withTag BUS (busCodec.asNumbers p)
+asSaved (under.Control p) = withTag CONTROL (controlCodec.asNumbers p)
+asSaved (under.Endpoint p) = withTag ENDPOINT (endpointCodec.asNumbers p)
+asSaved (under.Advance p) = withTag ADVANCE (advanceCodec.asNumbers p)
+asSaved (under.Interrupt p) = withTag INTERRUPT (handlerCodec.asNumbers p)
+
 unfoldable pub encode : Suspended → Saved
-encode under.Idle = fresh.nothing
-encode (under.Driver p) = withTag 1 (codec.encode p)
-encode (under.Bus p) = withTag 2 (busCodec.encode p)
-encode (under.Control p) = withTag 3 (controlCodec.encode p)
-encode (under.Endpoint p) = withTag 4 (endpointCodec.encode p)
-encode (under.Advance p) = withTag 5 (advanceCodec.encode p)
-encode (under.Interrupt p) = withTag 6 (handlerCodec.encode p)
+encode u = asSaved u
 
 unfoldable pub decode : Saved → Suspended
 decode c =
-    cond (eqb (c .tag) 1) (under.Driver (codec.decode c))
-    (cond (eqb (c .tag) 2) (under.Bus (busCodec.decode c))
-    (cond (eqb (c .tag) 3) (under.Control (controlCodec.decode c))
-    (cond (eqb (c .tag) 4) (under.Endpoint (endpointCodec.decode c))
-    (cond (eqb (c .tag) 5) (under.Advance (advanceCodec.decode c))
-    (cond (eqb (c .tag) 6) (under.Interrupt (handlerCodec.decode c))
+    cond (eqb (c .tag) DRIVER) (under.Driver (codec.decode c))
+    (cond (eqb (c .tag) BUS) (under.Bus (busCodec.decode c))
+    (cond (eqb (c .tag) CONTROL) (under.Control (controlCodec.decode c))
+    (cond (eqb (c .tag) ENDPOINT) (under.Endpoint (endpointCodec.decode c))
+    (cond (eqb (c .tag) ADVANCE) (under.Advance (advanceCodec.decode c))
+    (cond (eqb (c .tag) INTERRUPT) (under.Interrupt (handlerCodec.decode c))
     under.Idle)))))
 
 -- ---- what is left of the call

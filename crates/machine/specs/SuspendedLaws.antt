@@ -31,11 +31,17 @@ use Rattle.interrupt.specs.CodecLaws as handlerCodec-laws
 use Rattle.machine.specs.declared.Suspended.{Suspended}
 use Rattle.machine.specs.declared.Suspended.the-variants as under
 use Rattle.answer.specs.declared.Step.the-variants as step
-use Rattle.machine.specs.Suspended.{encode, decode, halts, lentBy}
+use Rattle.machine.specs.Suspended.{asSaved, encode, decode, halts, lentBy}
+
+-- `encode` is shut elsewhere
+pub by-table : (u : Suspended) → asSaved u ≡ encode u
+unfolding encode
+by-table u = refl
 
 pub decode-encode : (u : Suspended) → decode (encode u) ≡ u
 unfolding encode decode codec.decode busCodec.decode controlCodec.decode endpointCodec.decode advanceCodec.decode
     handlerCodec.decode
+    codec.encode busCodec.encode controlCodec.encode endpointCodec.encode advanceCodec.encode handlerCodec.encode
 decode-encode under.Idle = refl
 decode-encode (under.Driver p) = ap under.Driver (codec-laws.decode-encode p)
 decode-encode (under.Bus p) = ap under.Bus (busCodec-laws.decode-encode p)

@@ -1,64 +1,28 @@
--- The saved record's tag: whose point it is, and whether anything is under way
+-- The saved record's tag: is an interrupt under way, or anything
 use mathlib.Core.Bool.{true, cond}
-use mathlib.Core.Path.{_≡_, refl}
+use mathlib.Core.Path.{_≡_}
 use Prim.Native.Nat.{ℕ, zero, suc, _<_}
 use native.Mathlib.Omega.{arith}
 use lib.Dec.{eqb, ltb, eqb·suc-zero}
 use borrow.Author.Tests.{ne-eqb, lt-ltb}
 use Rattle.state.specs.declared.Saved.{Saved}
-use Rattle.state.specs.Fresh.{nothing}
-use Rattle.driver.specs.Codec as driverCodec
-use Rattle.bus.specs.Codec as busCodec
-use Rattle.control.specs.Codec as controlCodec
-use Rattle.endpoint.specs.Codec as endpointCodec
-use Rattle.isochronous.specs.Codec as advanceCodec
+use Rattle.script_ops.specs.Numbers.{DRIVER, BUS, CONTROL, ENDPOINT, ADVANCE, INTERRUPT}
 use Rattle.interrupt.specs.declared.Point as handlerPoint
 use Rattle.interrupt.specs.Codec as handlerCodec
-use Rattle.machine.specs.declared.Suspended.{Suspended}
 use Rattle.machine.specs.declared.Suspended.the-variants as under
-use Rattle.machine.specs.Suspended.{withTag, encode, decode}
+use Rattle.machine.specs.Suspended.{decode}
 use Rattle.machine.specs.Rows.{isIdle, mayPass}
 
--- ---- a point's tag, and its record without one
-
-abbrev pub tagOf : Suspended → ℕ
-tagOf under.Idle = 0
-tagOf (under.Driver p) = 1
-tagOf (under.Bus p) = 2
-tagOf (under.Control p) = 3
-tagOf (under.Endpoint p) = 4
-tagOf (under.Advance p) = 5
-tagOf (under.Interrupt p) = 6
-
-abbrev pub codeOf : Suspended → Saved
-codeOf under.Idle = nothing
-codeOf (under.Driver p) = driverCodec.encode p
-codeOf (under.Bus p) = busCodec.encode p
-codeOf (under.Control p) = controlCodec.encode p
-codeOf (under.Endpoint p) = endpointCodec.encode p
-codeOf (under.Advance p) = advanceCodec.encode p
-codeOf (under.Interrupt p) = handlerCodec.encode p
-
-pub encoded-as : (u : Suspended) → encode u ≡ withTag (tagOf u) (codeOf u)
-unfolding encode
-encoded-as under.Idle = refl
-encoded-as (under.Driver p) = refl
-encoded-as (under.Bus p) = refl
-encoded-as (under.Control p) = refl
-encoded-as (under.Endpoint p) = refl
-encoded-as (under.Advance p) = refl
-encoded-as (under.Interrupt p) = refl
-
 -- the point that a record with an interrupt's tag is
-pub at-interrupt : (c : Saved) (p : handlerPoint.Point) → c .tag ≡ 6 → p ≡ handlerCodec.decode c → decode c
+pub at-interrupt : (c : Saved) (p : handlerPoint.Point) → c .tag ≡ INTERRUPT → p ≡ handlerCodec.decode c → decode c
     ≡ under.Interrupt p
 unfolding decode
 at-interrupt c p t h = simp (t, h)
 
 -- ---- nothing is under way, or an interrupt
 
-pub at-none : (c : Saved) (t : ℕ) → t ≡ c .tag → (t ≡ 1 → ⊥) → (t ≡ 2 → ⊥) → (t ≡ 3 → ⊥) → (t ≡ 4 → ⊥) → (t ≡ 5 → ⊥)
-    → (t ≡ 6 → ⊥) → decode c ≡ under.Idle
+pub at-none : (c : Saved) (t : ℕ) → t ≡ c .tag → (t ≡ DRIVER → ⊥) → (t ≡ BUS → ⊥) → (t ≡ CONTROL → ⊥)
+    → (t ≡ ENDPOINT → ⊥) → (t ≡ ADVANCE → ⊥) → (t ≡ INTERRUPT → ⊥) → decode c ≡ under.Idle
 unfolding decode
 at-none c t h n1 n2 n3 n4 n5 n6 = simp (
   ← h,
@@ -70,13 +34,14 @@ at-none c t h n1 n2 n3 n4 n5 n6 = simp (
   ne-eqb t 6 n6,
 )
 
-above : (c : Saved) (t : ℕ) → t ≡ c .tag → 6 < t → decode c ≡ under.Idle
+above : (c : Saved) (t : ℕ) → t ≡ c .tag → INTERRUPT < t → decode c ≡ under.Idle
 above c t h l = at-none c t h (λ e. omega arith) (λ e. omega arith) (λ e. omega arith) (λ e. omega arith)
     (λ e. omega arith) (λ e. omega arith)
 
 -- by the tag: is nothing under way; or nothing but an interrupt
 abbrev ByTag : Saved → ℕ → Type 0
-ByTag c t = (isIdle (decode c) ≡ cond (eqb t 0) true (ltb 6 t)) × (mayPass (decode c) ≡ cond (eqb t 0) true (ltb 5 t))
+ByTag c t = (isIdle (decode c) ≡ cond (eqb t 0) true (ltb INTERRUPT t))
+    × (mayPass (decode c) ≡ cond (eqb t 0) true (ltb ADVANCE t))
 
 by-tag : (c : Saved) (t : ℕ) → t ≡ c .tag → ByTag c t
 unfolding isIdle mayPass decode
@@ -92,8 +57,8 @@ by-tag c (suc (suc (suc (suc (suc (suc (suc t))))))) h =
     let a = above c n h (omega arith) in
     (simp (a, lt-ltb 6 n (omega arith), eqb·suc-zero), simp (a, lt-ltb 5 n (omega arith), eqb·suc-zero))
 
-pub idle-by : (c : Saved) (t : ℕ) → t ≡ c .tag → isIdle (decode c) ≡ cond (eqb t 0) true (ltb 6 t)
+pub idle-by : (c : Saved) (t : ℕ) → t ≡ c .tag → isIdle (decode c) ≡ cond (eqb t 0) true (ltb INTERRUPT t)
 idle-by c t h = by-tag c t h .0
 
-pub passes-by : (c : Saved) (t : ℕ) → t ≡ c .tag → mayPass (decode c) ≡ cond (eqb t 0) true (ltb 5 t)
+pub passes-by : (c : Saved) (t : ℕ) → t ≡ c .tag → mayPass (decode c) ≡ cond (eqb t 0) true (ltb ADVANCE t)
 passes-by c t h = by-tag c t h .1

@@ -19,6 +19,7 @@ use regs::Reg;
 use regs::registers::fits;
 use script_ops::records::wake;
 use script_ops::rings::next_len;
+use script_ops::rows;
 use state::State;
 use state::load_paced;
 use state::store_paced;
@@ -30,6 +31,8 @@ ghost use Rattle.isochronous.specs.declared.advance.Advance.the-variants as Poi
 ghost use Rattle.isochronous.specs.Advance.{completing};
 ghost use Rattle.machine.specs.declared.Suspended.the-variants as Under;
 ghost use Rattle.machine.specs.Suspended.{decode, Stored};
+ghost use Rattle.script_ops.specs.Numbers as tags;
+ghost use Rattle.isochronous.specs.Codec as at;
 ghost use Rattle.machine.specs.Stands.{AtNumber, Resumes, StepsTo, halted};
 
 // The next completion; after the last, the microframe is kept.
@@ -64,12 +67,12 @@ pub fn resume_frame_no(s: &mut State, v: u32) -> Step
         let kept = frame_of_index(now);
         return iso_in_advance_resume(s, e, n as u8, kept.0);
     }
-    Step::Refused(16)
+    Step::Refused(rows::READING)
 }
 
 // A packet's address is written: its length.
 pub fn resume_sent(s: &mut State) -> Step
-    requires { ⌜ AtNumber 5 1 (now s) ⌝ }
+    requires { ⌜ AtNumber tags.ADVANCE at.SENT (now s) ⌝ }
     ensures { λ r. ⌜ ((v : ℕ) (b : List ℕ) → Resumes r v (now (s .entry)) b (now (s .exit)) b) ⌝ }
 {
     let x = completion_at(s);
@@ -80,7 +83,7 @@ pub fn resume_sent(s: &mut State) -> Step
 
 // Its length is: its writer is woken, and the next completion is due.
 pub fn resume_loaded(s: &mut State) -> Step
-    requires { ⌜ AtNumber 5 2 (now s) ⌝ }
+    requires { ⌜ AtNumber tags.ADVANCE at.LOADED (now s) ⌝ }
     ensures { λ r. ⌜ ((v : ℕ) (b : List ℕ) → Resumes r v (now (s .entry)) b (now (s .exit)) b) ⌝ }
 {
     let x = completion_at(s);

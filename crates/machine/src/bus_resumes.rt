@@ -53,6 +53,7 @@ use regs::flags;
 use regs::mis_status;
 use regs::registers::fits;
 use script_ops::records::wake;
+use script_ops::rows;
 use state::State;
 ghost use mathlib.Core.Path.{_≡_};
 ghost use mathlib.Core.List.{List};
@@ -61,6 +62,8 @@ ghost use Rattle.state.specs.State.{saved};
 ghost use Rattle.bus.specs.declared.Point.the-variants as Point;
 ghost use Rattle.machine.specs.declared.Suspended.the-variants as Under;
 ghost use Rattle.machine.specs.Suspended.{decode};
+ghost use Rattle.script_ops.specs.Numbers as tags;
+ghost use Rattle.bus.specs.Codec as at;
 ghost use Rattle.machine.specs.Stands.{AtNumber, Resumes};
 
 // Ctrl is read.
@@ -72,12 +75,12 @@ pub fn resume_enable(s: &mut State, v: u32) -> Step
         let q = after_enable(v);
         return stand_event(s, q, 0);
     }
-    Step::Refused(16)
+    Step::Refused(rows::READING)
 }
 
 // The last access is made.
 pub fn resume_event(s: &mut State) -> Step
-    requires { ⌜ AtNumber 2 1 (now s) ⌝ }
+    requires { ⌜ AtNumber tags.BUS at.EVENT (now s) ⌝ }
     ensures { λ r. ⌜ ((v : ℕ) (b : List ℕ) → Resumes r v (now (s .entry)) b (now (s .exit)) b) ⌝ }
 {
     let n = st_byte(s);
@@ -86,19 +89,19 @@ pub fn resume_event(s: &mut State) -> Step
 
 // A control word is read, to be asked.
 pub fn resume_stalled(s: &mut State, v: u32) -> Step
-    requires { ⌜ AtNumber 2 2 (now s) ⌝ }
+    requires { ⌜ AtNumber tags.BUS at.STALLED (now s) ⌝ }
     ensures { λ r. ⌜ ((b : List ℕ) → Resumes r v (now (s .entry)) b (now (s .exit)) b) ⌝ }
 {
     if fits(v, 8) {
         let n = after_stalled(v);
         return stop(s, n);
     }
-    Step::Refused(16)
+    Step::Refused(rows::READING)
 }
 
 // Ep_t_len is 0.
 pub fn resume_stall_len(s: &mut State) -> Step
-    requires { ⌜ AtNumber 2 3 (now s) ⌝ }
+    requires { ⌜ AtNumber tags.BUS at.STALL-LEN (now s) ⌝ }
     ensures { λ r. ⌜ ((v : ℕ) (b : List ℕ) → Resumes r v (now (s .entry)) b (now (s .exit)) b) ⌝ }
 {
     let e = ep_byte(s);
@@ -108,7 +111,7 @@ pub fn resume_stall_len(s: &mut State) -> Step
 
 // A control word is read, to be stalled.
 pub fn resume_stall_word(s: &mut State, v: u32) -> Step
-    requires { ⌜ AtNumber 2 4 (now s) ⌝ }
+    requires { ⌜ AtNumber tags.BUS at.STALL-WORD (now s) ⌝ }
     ensures { λ r. ⌜ ((b : List ℕ) → Resumes r v (now (s .entry)) b (now (s .exit)) b) ⌝ }
 {
     if fits(v, 8) {
@@ -117,12 +120,12 @@ pub fn resume_stall_word(s: &mut State, v: u32) -> Step
         let q = after_stall_word(d, e, v);
         return stand_woken(s, q, d, e);
     }
-    Step::Refused(16)
+    Step::Refused(rows::READING)
 }
 
 // An IN's control word is restarted.
 pub fn resume_restarted(s: &mut State) -> Step
-    requires { ⌜ AtNumber 2 5 (now s) ⌝ }
+    requires { ⌜ AtNumber tags.BUS at.RESTARTED (now s) ⌝ }
     ensures { λ r. ⌜ ((v : ℕ) (b : List ℕ) → Resumes r v (now (s .entry)) b (now (s .exit)) b) ⌝ }
 {
     let e = ep_byte(s);
@@ -133,7 +136,7 @@ pub fn resume_restarted(s: &mut State) -> Step
 
 // The last access is made; the endpoint is woken.
 pub fn resume_woken(s: &mut State) -> Step
-    requires { ⌜ AtNumber 2 6 (now s) ⌝ }
+    requires { ⌜ AtNumber tags.BUS at.WOKEN (now s) ⌝ }
     ensures { λ r. ⌜ ((v : ℕ) (b : List ℕ) → Resumes r v (now (s .entry)) b (now (s .exit)) b) ⌝ }
 {
     let d = dir_at(s);
@@ -144,7 +147,7 @@ pub fn resume_woken(s: &mut State) -> Step
 
 // Int_fg is read: `poll` (mod.rs 1231-1266).
 pub fn resume_flags(s: &mut State, v: u32) -> Step
-    requires { ⌜ AtNumber 2 7 (now s) ⌝ }
+    requires { ⌜ AtNumber tags.BUS at.FLAGS (now s) ⌝ }
     ensures { λ r. ⌜ ((b : List ℕ) → Resumes r v (now (s .entry)) b (now (s .exit)) b) ⌝ }
 {
     if fits(v, 6) {
@@ -157,24 +160,24 @@ pub fn resume_flags(s: &mut State, v: u32) -> Step
         }
         return stop(s, 0);
     }
-    Step::Refused(16)
+    Step::Refused(rows::READING)
 }
 
 // Mis_st is read.
 pub fn resume_status(s: &mut State, v: u32) -> Step
-    requires { ⌜ AtNumber 2 8 (now s) ⌝ }
+    requires { ⌜ AtNumber tags.BUS at.STATUS (now s) ⌝ }
     ensures { λ r. ⌜ ((b : List ℕ) → Resumes r v (now (s .entry)) b (now (s .exit)) b) ⌝ }
 {
     if fits(v, 2) {
         let down = mis_status::suspended(byte(v));
         return stand_released(s, Access::Write(Reg::IntFg, 0, flags::SUSPEND), down);
     }
-    Step::Refused(16)
+    Step::Refused(rows::READING)
 }
 
 // The suspend flag is cleared.
 pub fn resume_released(s: &mut State) -> Step
-    requires { ⌜ AtNumber 2 9 (now s) ⌝ }
+    requires { ⌜ AtNumber tags.BUS at.RELEASED (now s) ⌝ }
     ensures { λ r. ⌜ ((v : ℕ) (b : List ℕ) → Resumes r v (now (s .entry)) b (now (s .exit)) b) ⌝ }
 {
     let down = iso_at(s);
@@ -187,7 +190,7 @@ pub fn resume_released(s: &mut State) -> Step
 
 // Dev_ad is 0: `bus_reset` (mod.rs 1187-1221).
 pub fn resume_address(s: &mut State) -> Step
-    requires { ⌜ AtNumber 2 10 (now s) ⌝ }
+    requires { ⌜ AtNumber tags.BUS at.ADDRESS (now s) ⌝ }
     ensures { λ r. ⌜ ((v : ℕ) (b : List ℕ) → Resumes r v (now (s .entry)) b (now (s .exit)) b) ⌝ }
 {
     let q = after_address();
@@ -196,7 +199,7 @@ pub fn resume_address(s: &mut State) -> Step
 
 // EP0's OUT answers ACK.
 pub fn resume_ep0_out(s: &mut State) -> Step
-    requires { ⌜ AtNumber 2 11 (now s) ⌝ }
+    requires { ⌜ AtNumber tags.BUS at.EP0-OUT (now s) ⌝ }
     ensures { λ r. ⌜ ((v : ℕ) (b : List ℕ) → Resumes r v (now (s .entry)) b (now (s .exit)) b) ⌝ }
 {
     let q = after_ep0_out();
@@ -205,7 +208,7 @@ pub fn resume_ep0_out(s: &mut State) -> Step
 
 // IN e answers NAK.
 pub fn resume_nak_in(s: &mut State) -> Step
-    requires { ⌜ AtNumber 2 12 (now s) ⌝ }
+    requires { ⌜ AtNumber tags.BUS at.NAK-IN (now s) ⌝ }
     ensures { λ r. ⌜ ((v : ℕ) (b : List ℕ) → Resumes r v (now (s .entry)) b (now (s .exit)) b) ⌝ }
 {
     let e = ep_byte(s);
@@ -215,7 +218,7 @@ pub fn resume_nak_in(s: &mut State) -> Step
 
 // Endpoint e answers NAK.
 pub fn resume_naked(s: &mut State) -> Step
-    requires { ⌜ AtNumber 2 13 (now s) ⌝ }
+    requires { ⌜ AtNumber tags.BUS at.NAKED (now s) ⌝ }
     ensures { λ r. ⌜ ((v : ℕ) (b : List ℕ) → Resumes r v (now (s .entry)) b (now (s .exit)) b) ⌝ }
 {
     let e = ep_byte(s);
@@ -229,7 +232,7 @@ pub fn resume_naked(s: &mut State) -> Step
 
 // Ep_config is 0.
 pub fn resume_disabled(s: &mut State) -> Step
-    requires { ⌜ AtNumber 2 14 (now s) ⌝ }
+    requires { ⌜ AtNumber tags.BUS at.DISABLED (now s) ⌝ }
     ensures { λ r. ⌜ ((v : ℕ) (b : List ℕ) → Resumes r v (now (s .entry)) b (now (s .exit)) b) ⌝ }
 {
     let q = after_disabled(s);
@@ -238,7 +241,7 @@ pub fn resume_disabled(s: &mut State) -> Step
 
 // Ep_type is.
 pub fn resume_untyped(s: &mut State) -> Step
-    requires { ⌜ AtNumber 2 15 (now s) ⌝ }
+    requires { ⌜ AtNumber tags.BUS at.UNTYPED (now s) ⌝ }
     ensures { λ r. ⌜ ((v : ℕ) (b : List ℕ) → Resumes r v (now (s .entry)) b (now (s .exit)) b) ⌝ }
 {
     let q = after_untyped();
@@ -247,7 +250,7 @@ pub fn resume_untyped(s: &mut State) -> Step
 
 // Ep_buf_mod is.
 pub fn resume_single(s: &mut State) -> Step
-    requires { ⌜ AtNumber 2 16 (now s) ⌝ }
+    requires { ⌜ AtNumber tags.BUS at.SINGLE (now s) ⌝ }
     ensures { λ r. ⌜ ((v : ℕ) (b : List ℕ) → Resumes r v (now (s .entry)) b (now (s .exit)) b) ⌝ }
 {
     let q = after_single(s);
@@ -256,7 +259,7 @@ pub fn resume_single(s: &mut State) -> Step
 
 // The reset flag is cleared.
 pub fn resume_reset(s: &mut State) -> Step
-    requires { ⌜ AtNumber 2 17 (now s) ⌝ }
+    requires { ⌜ AtNumber tags.BUS at.RESET (now s) ⌝ }
     ensures { λ r. ⌜ ((v : ℕ) (b : List ℕ) → Resumes r v (now (s .entry)) b (now (s .exit)) b) ⌝ }
 {
     let q = after_reset(s);
@@ -265,7 +268,7 @@ pub fn resume_reset(s: &mut State) -> Step
 
 // An OUT's address is set: `endpoint_set_enabled` (mod.rs 1268-1330).
 pub fn resume_placed_out(s: &mut State) -> Step
-    requires { ⌜ AtNumber 2 18 (now s) ⌝ }
+    requires { ⌜ AtNumber tags.BUS at.PLACED-OUT (now s) ⌝ }
     ensures { λ r. ⌜ ((v : ℕ) (b : List ℕ) → Resumes r v (now (s .entry)) b (now (s .exit)) b) ⌝ }
 {
     let e = ep_byte(s);
@@ -276,7 +279,7 @@ pub fn resume_placed_out(s: &mut State) -> Step
 
 // An IN's.
 pub fn resume_placed_in(s: &mut State) -> Step
-    requires { ⌜ AtNumber 2 19 (now s) ⌝ }
+    requires { ⌜ AtNumber tags.BUS at.PLACED-IN (now s) ⌝ }
     ensures { λ r. ⌜ ((v : ℕ) (b : List ℕ) → Resumes r v (now (s .entry)) b (now (s .exit)) b) ⌝ }
 {
     let e = ep_byte(s);
@@ -288,7 +291,7 @@ pub fn resume_placed_in(s: &mut State) -> Step
 
 // Ep_t_len is 0.
 pub fn resume_no_length(s: &mut State) -> Step
-    requires { ⌜ AtNumber 2 20 (now s) ⌝ }
+    requires { ⌜ AtNumber tags.BUS at.NO-LENGTH (now s) ⌝ }
     ensures { λ r. ⌜ ((v : ℕ) (b : List ℕ) → Resumes r v (now (s .entry)) b (now (s .exit)) b) ⌝ }
 {
     let e = ep_byte(s);
@@ -300,7 +303,7 @@ pub fn resume_no_length(s: &mut State) -> Step
 
 // The control word is set.
 pub fn resume_words(s: &mut State) -> Step
-    requires { ⌜ AtNumber 2 21 (now s) ⌝ }
+    requires { ⌜ AtNumber tags.BUS at.WORDS (now s) ⌝ }
     ensures { λ r. ⌜ ((v : ℕ) (b : List ℕ) → Resumes r v (now (s .entry)) b (now (s .exit)) b) ⌝ }
 {
     let d = dir_at(s);
@@ -313,7 +316,7 @@ pub fn resume_words(s: &mut State) -> Step
 
 // Ep_type is set.
 pub fn resume_typed(s: &mut State) -> Step
-    requires { ⌜ AtNumber 2 22 (now s) ⌝ }
+    requires { ⌜ AtNumber tags.BUS at.TYPE (now s) ⌝ }
     ensures { λ r. ⌜ ((v : ℕ) (b : List ℕ) → Resumes r v (now (s .entry)) b (now (s .exit)) b) ⌝ }
 {
     let d = dir_at(s);
@@ -325,7 +328,7 @@ pub fn resume_typed(s: &mut State) -> Step
 
 // In the row of an isochronous OUT.
 pub fn resume_switch(s: &mut State, slots: &mut [u8]) -> Step
-    requires { ⌜ AtNumber 2 23 (now s) ⌝ }
+    requires { ⌜ AtNumber tags.BUS at.SWITCH (now s) ⌝ }
     ensures { λ r. ⌜ ((v : ℕ) → Resumes r v (now (s .entry)) (now (slots .entry)) (now (s .exit))
         (now (slots .exit))) ⌝ }
 {

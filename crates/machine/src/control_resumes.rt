@@ -24,6 +24,7 @@ use regs::control_word::status;
 use regs::control_word::word_of;
 use regs::registers::ctrl_of;
 use regs::registers::fits;
+use script_ops::rows;
 use state::State;
 ghost use mathlib.Core.Path.{_≡_};
 ghost use mathlib.Core.List.{List};
@@ -32,6 +33,8 @@ ghost use Rattle.state.specs.State.{saved};
 ghost use Rattle.control.specs.declared.Point.the-variants as Point;
 ghost use Rattle.machine.specs.declared.Suspended.the-variants as Under;
 ghost use Rattle.machine.specs.Suspended.{decode};
+ghost use Rattle.script_ops.specs.Numbers as tags;
+ghost use Rattle.control.specs.Codec as at;
 ghost use Rattle.machine.specs.Stands.{AtNumber, Resumes};
 
 // The last write is made.
@@ -44,7 +47,7 @@ pub fn resume_wrote(s: &mut State) -> Step
 
 // A control word is read, to answer ACK.
 pub fn resume_ack(s: &mut State, v: u32) -> Step
-    requires { ⌜ AtNumber 3 1 (now s) ⌝ }
+    requires { ⌜ AtNumber tags.CONTROL at.ACK (now s) ⌝ }
     ensures { λ r. ⌜ ((b : List ℕ) → Resumes r v (now (s .entry)) b (now (s .exit)) b) ⌝ }
 {
     if fits(v, 8) {
@@ -53,12 +56,12 @@ pub fn resume_ack(s: &mut State, v: u32) -> Step
         let reg = ctrl_of(d);
         return stand_wrote(s, Access::Write(reg, 0, w as u32));
     }
-    Step::Refused(16)
+    Step::Refused(rows::READING)
 }
 
 // Ep_t_len is 0: the status stage.
 pub fn resume_status_len(s: &mut State) -> Step
-    requires { ⌜ AtNumber 3 2 (now s) ⌝ }
+    requires { ⌜ AtNumber tags.CONTROL at.STATUS-LEN (now s) ⌝ }
     ensures { λ r. ⌜ ((v : ℕ) (b : List ℕ) → Resumes r v (now (s .entry)) b (now (s .exit)) b) ⌝ }
 {
     stand_status(s, Access::Read(Reg::EpTxCtrl, 0))
@@ -66,31 +69,31 @@ pub fn resume_status_len(s: &mut State) -> Step
 
 // EP0's IN is read.
 pub fn resume_status(s: &mut State, v: u32) -> Step
-    requires { ⌜ AtNumber 3 3 (now s) ⌝ }
+    requires { ⌜ AtNumber tags.CONTROL at.STATUS (now s) ⌝ }
     ensures { λ r. ⌜ ((b : List ℕ) → Resumes r v (now (s .entry)) b (now (s .exit)) b) ⌝ }
 {
     if fits(v, 8) {
         let w = status(byte(v));
         return stand_wrote(s, Access::Write(Reg::EpTxCtrl, 0, w as u32));
     }
-    Step::Refused(16)
+    Step::Refused(rows::READING)
 }
 
 // It is read, to be stalled.
 pub fn resume_stall_in(s: &mut State, v: u32) -> Step
-    requires { ⌜ AtNumber 3 4 (now s) ⌝ }
+    requires { ⌜ AtNumber tags.CONTROL at.STALL-IN (now s) ⌝ }
     ensures { λ r. ⌜ ((b : List ℕ) → Resumes r v (now (s .entry)) b (now (s .exit)) b) ⌝ }
 {
     if fits(v, 8) {
         let w = stall(byte(v));
         return stand_stalled_in(s, Access::Write(Reg::EpTxCtrl, 0, w as u32));
     }
-    Step::Refused(16)
+    Step::Refused(rows::READING)
 }
 
 // It is stalled.
 pub fn resume_stalled_in(s: &mut State) -> Step
-    requires { ⌜ AtNumber 3 5 (now s) ⌝ }
+    requires { ⌜ AtNumber tags.CONTROL at.STALLED-IN (now s) ⌝ }
     ensures { λ r. ⌜ ((v : ℕ) (b : List ℕ) → Resumes r v (now (s .entry)) b (now (s .exit)) b) ⌝ }
 {
     stand_stall_out(s, Access::Read(Reg::EpRxCtrl, 0))
@@ -98,19 +101,19 @@ pub fn resume_stalled_in(s: &mut State) -> Step
 
 // EP0's OUT is read, to be stalled.
 pub fn resume_stall_out(s: &mut State, v: u32) -> Step
-    requires { ⌜ AtNumber 3 6 (now s) ⌝ }
+    requires { ⌜ AtNumber tags.CONTROL at.STALL-OUT (now s) ⌝ }
     ensures { λ r. ⌜ ((b : List ℕ) → Resumes r v (now (s .entry)) b (now (s .exit)) b) ⌝ }
 {
     if fits(v, 8) {
         let w = stall(byte(v));
         return stand_wrote(s, Access::Write(Reg::EpRxCtrl, 0, w as u32));
     }
-    Step::Refused(16)
+    Step::Refused(rows::READING)
 }
 
 // The closing OUT is armed; the packet is loaded.
 pub fn resume_closing(s: &mut State) -> Step
-    requires { ⌜ AtNumber 3 7 (now s) ⌝ }
+    requires { ⌜ AtNumber tags.CONTROL at.CLOSING (now s) ⌝ }
     ensures { λ r. ⌜ ((v : ℕ) (b : List ℕ) → Resumes r v (now (s .entry)) b (now (s .exit)) b) ⌝ }
 {
     let n = len_word(s);
@@ -121,7 +124,7 @@ pub fn resume_closing(s: &mut State) -> Step
 
 // Ep_t_len is written: the first packet of a stage is DATA1; else the word is read.
 pub fn resume_loaded(s: &mut State) -> Step
-    requires { ⌜ AtNumber 3 8 (now s) ⌝ }
+    requires { ⌜ AtNumber tags.CONTROL at.LOADED (now s) ⌝ }
     ensures { λ r. ⌜ ((v : ℕ) (b : List ℕ) → Resumes r v (now (s .entry)) b (now (s .exit)) b) ⌝ }
 {
     let first = on_at(s);

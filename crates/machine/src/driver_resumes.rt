@@ -36,6 +36,7 @@ use regs::ctrl;
 use regs::int_en::at_start;
 use regs::registers::fits;
 use script_ops::records::place;
+use script_ops::rows;
 use state::State;
 use state::load_ep;
 use state::set_int_en;
@@ -55,6 +56,8 @@ ghost use Rattle.driver.specs.declared.Point.the-variants as Point;
 ghost use Rattle.driver.specs.Announce.{announcing, following};
 ghost use Rattle.machine.specs.declared.Suspended.the-variants as Under;
 ghost use Rattle.machine.specs.Suspended.{decode, Stored};
+ghost use Rattle.script_ops.specs.Numbers as tags;
+ghost use Rattle.driver.specs.Codec as at;
 ghost use Rattle.machine.specs.Stands.{AtNumber, Resumes, StepsTo, halted};
 
 // EP0 answers NAK, from DATA0 on.
@@ -124,7 +127,7 @@ pub fn resume_clear(s: &mut State) -> Step
 
 // The wait is over.
 pub fn resume_wait(s: &mut State) -> Step
-    requires { ⌜ AtNumber 1 1 (now s) ⌝ }
+    requires { ⌜ AtNumber tags.DRIVER at.WAIT (now s) ⌝ }
     ensures { λ r. ⌜ ((v : ℕ) (b : List ℕ) → Resumes r v (now (s .entry)) b (now (s .exit)) b) ⌝ }
 {
     let on = on_at(s);
@@ -133,7 +136,7 @@ pub fn resume_wait(s: &mut State) -> Step
 
 // Ctrl is read.
 pub fn resume_reset(s: &mut State, v: u32) -> Step
-    requires { ⌜ AtNumber 1 2 (now s) ⌝ }
+    requires { ⌜ AtNumber tags.DRIVER at.RESET (now s) ⌝ }
     ensures { λ r. ⌜ ((b : List ℕ) → Resumes r v (now (s .entry)) b (now (s .exit)) b) ⌝ }
 {
     if fits(v, 6) {
@@ -141,12 +144,12 @@ pub fn resume_reset(s: &mut State, v: u32) -> Step
         let w = ctrl::reset_ended(v);
         return stand_reset_end(s, Access::Write(Reg::Ctrl, 0, w), on);
     }
-    Step::Refused(16)
+    Step::Refused(rows::READING)
 }
 
 // The reset is ended.
 pub fn resume_reset_end(s: &mut State) -> Step
-    requires { ⌜ AtNumber 1 3 (now s) ⌝ }
+    requires { ⌜ AtNumber tags.DRIVER at.RESET-END (now s) ⌝ }
     ensures { λ r. ⌜ ((v : ℕ) (b : List ℕ) → Resumes r v (now (s .entry)) b (now (s .exit)) b) ⌝ }
 {
     let on = on_at(s);
@@ -156,7 +159,7 @@ pub fn resume_reset_end(s: &mut State) -> Step
 
 // Host_ctrl is written.
 pub fn resume_host(s: &mut State) -> Step
-    requires { ⌜ AtNumber 1 4 (now s) ⌝ }
+    requires { ⌜ AtNumber tags.DRIVER at.HOST (now s) ⌝ }
     ensures { λ r. ⌜ ((v : ℕ) (b : List ℕ) → Resumes r v (now (s .entry)) b (now (s .exit)) b) ⌝ }
 {
     let on = on_at(s);
@@ -166,7 +169,7 @@ pub fn resume_host(s: &mut State) -> Step
 
 // Ctrl is: the interrupt enables are kept, then written.
 pub fn resume_run(s: &mut State) -> Step
-    requires { ⌜ AtNumber 1 5 (now s) ⌝ }
+    requires { ⌜ AtNumber tags.DRIVER at.RUN (now s) ⌝ }
     ensures { λ r. ⌜ ((v : ℕ) (b : List ℕ) → Resumes r v (now (s .entry)) b (now (s .exit)) b) ⌝ }
 {
     let on = on_at(s);
@@ -177,7 +180,7 @@ pub fn resume_run(s: &mut State) -> Step
 
 // Int_en is.
 pub fn resume_int_en(s: &mut State) -> Step
-    requires { ⌜ AtNumber 1 6 (now s) ⌝ }
+    requires { ⌜ AtNumber tags.DRIVER at.INT-EN (now s) ⌝ }
     ensures { λ r. ⌜ ((v : ℕ) (b : List ℕ) → Resumes r v (now (s .entry)) b (now (s .exit)) b) ⌝ }
 {
     stop(s, 0)
@@ -185,7 +188,7 @@ pub fn resume_int_en(s: &mut State) -> Step
 
 // A new endpoint's maximum is: its buffer's address, unless it is a control endpoint.
 pub fn resume_max_len(s: &mut State) -> Step
-    requires { ⌜ AtNumber 1 7 (now s) ⌝ }
+    requires { ⌜ AtNumber tags.DRIVER at.MAX-LEN (now s) ⌝ }
     ensures { λ r. ⌜ ((v : ℕ) (b : List ℕ) → Resumes r v (now (s .entry)) b (now (s .exit)) b) ⌝ }
 {
     let ep = ep_byte(s);
@@ -200,7 +203,7 @@ pub fn resume_max_len(s: &mut State) -> Step
 
 // Its address is.
 pub fn resume_place(s: &mut State) -> Step
-    requires { ⌜ AtNumber 1 8 (now s) ⌝ }
+    requires { ⌜ AtNumber tags.DRIVER at.PLACE (now s) ⌝ }
     ensures { λ r. ⌜ ((v : ℕ) (b : List ℕ) → Resumes r v (now (s .entry)) b (now (s .exit)) b) ⌝ }
 {
     let ep = ep_byte(s);
@@ -209,7 +212,7 @@ pub fn resume_place(s: &mut State) -> Step
 
 // EP0's buffer is told: its start.
 pub fn resume_ep0_place(s: &mut State) -> Step
-    requires { ⌜ AtNumber 1 9 (now s) ⌝ }
+    requires { ⌜ AtNumber tags.DRIVER at.EP0-PLACE (now s) ⌝ }
     ensures { λ r. ⌜ ((v : ℕ) (b : List ℕ) → Resumes r v (now (s .entry)) b (now (s .exit)) b) ⌝ }
 {
     let maximum = value_word(s);
@@ -218,7 +221,7 @@ pub fn resume_ep0_place(s: &mut State) -> Step
 
 // Its maximum is written.
 pub fn resume_ep0_max_len(s: &mut State) -> Step
-    requires { ⌜ AtNumber 1 10 (now s) ⌝ }
+    requires { ⌜ AtNumber tags.DRIVER at.EP0-MAX-LEN (now s) ⌝ }
     ensures { λ r. ⌜ ((v : ℕ) (b : List ℕ) → Resumes r v (now (s .entry)) b (now (s .exit)) b) ⌝ }
 {
     let w = ep0_word();
@@ -227,7 +230,7 @@ pub fn resume_ep0_max_len(s: &mut State) -> Step
 
 // Its OUT answers NAK.
 pub fn resume_ep0_rx(s: &mut State) -> Step
-    requires { ⌜ AtNumber 1 11 (now s) ⌝ }
+    requires { ⌜ AtNumber tags.DRIVER at.EP0-RX (now s) ⌝ }
     ensures { λ r. ⌜ ((v : ℕ) (b : List ℕ) → Resumes r v (now (s .entry)) b (now (s .exit)) b) ⌝ }
 {
     let w = ep0_word();
@@ -236,7 +239,7 @@ pub fn resume_ep0_rx(s: &mut State) -> Step
 
 // Its IN does.
 pub fn resume_ep0_tx(s: &mut State) -> Step
-    requires { ⌜ AtNumber 1 12 (now s) ⌝ }
+    requires { ⌜ AtNumber tags.DRIVER at.EP0-TX (now s) ⌝ }
     ensures { λ r. ⌜ ((v : ℕ) (b : List ℕ) → Resumes r v (now (s .entry)) b (now (s .exit)) b) ⌝ }
 {
     stand_ep0_packet(s, Access::Write(Reg::EpMaxLen, 0, 64))
@@ -244,7 +247,7 @@ pub fn resume_ep0_tx(s: &mut State) -> Step
 
 // Its packet's maximum is written.
 pub fn resume_ep0_packet(s: &mut State) -> Step
-    requires { ⌜ AtNumber 1 13 (now s) ⌝ }
+    requires { ⌜ AtNumber tags.DRIVER at.EP0-PACKET (now s) ⌝ }
     ensures { λ r. ⌜ ((v : ℕ) (b : List ℕ) → Resumes r v (now (s .entry)) b (now (s .exit)) b) ⌝ }
 {
     stop(s, 0)
@@ -252,19 +255,19 @@ pub fn resume_ep0_packet(s: &mut State) -> Step
 
 // Frame_no is read: its index.
 pub fn resume_frame_no(s: &mut State, v: u32) -> Step
-    requires { ⌜ AtNumber 1 14 (now s) ⌝ }
+    requires { ⌜ AtNumber tags.DRIVER at.FRAME-NO (now s) ⌝ }
     ensures { λ r. ⌜ ((b : List ℕ) → Resumes r v (now (s .entry)) b (now (s .exit)) b) ⌝ }
 {
     if fits(v, 16) {
         let i = microframe_index(Frame(half(v)));
         return stop(s, i.0);
     }
-    Step::Refused(16)
+    Step::Refused(rows::READING)
 }
 
 // Of a list's endpoint the maximum is written: its address, or its successor.
 pub fn resume_list_max_len(s: &mut State) -> Step
-    requires { ⌜ AtNumber 1 15 (now s) ⌝ }
+    requires { ⌜ AtNumber tags.DRIVER at.LIST-MAX-LEN (now s) ⌝ }
     ensures { λ r. ⌜ ((v : ℕ) (b : List ℕ) → Resumes r v (now (s .entry)) b (now (s .exit)) b) ⌝ }
 {
     let x = list_endpoint_at(s);
@@ -278,7 +281,7 @@ pub fn resume_list_max_len(s: &mut State) -> Step
 
 // Its address is: its successor.
 pub fn resume_list_place(s: &mut State) -> Step
-    requires { ⌜ AtNumber 1 16 (now s) ⌝ }
+    requires { ⌜ AtNumber tags.DRIVER at.LIST-PLACE (now s) ⌝ }
     ensures { λ r. ⌜ ((v : ℕ) (b : List ℕ) → Resumes r v (now (s .entry)) b (now (s .exit)) b) ⌝ }
 {
     let x = list_endpoint_at(s);

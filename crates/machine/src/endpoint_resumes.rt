@@ -12,6 +12,7 @@ use regs::Reg;
 use regs::control_word::ack;
 use regs::registers::ctrl_of;
 use regs::registers::fits;
+use script_ops::rows;
 use state::State;
 ghost use mathlib.Core.Path.{_≡_};
 ghost use mathlib.Core.List.{List};
@@ -20,6 +21,8 @@ ghost use Rattle.state.specs.State.{saved};
 ghost use Rattle.endpoint.specs.declared.Point.the-variants as Point;
 ghost use Rattle.machine.specs.declared.Suspended.the-variants as Under;
 ghost use Rattle.machine.specs.Suspended.{decode};
+ghost use Rattle.script_ops.specs.Numbers as tags;
+ghost use Rattle.endpoint.specs.Codec as at;
 ghost use Rattle.machine.specs.Stands.{AtNumber, Resumes};
 
 // The last write is made.
@@ -32,7 +35,7 @@ pub fn resume_wrote(s: &mut State) -> Step
 
 // The control word is read, to answer ACK.
 pub fn resume_ack(s: &mut State, v: u32) -> Step
-    requires { ⌜ AtNumber 4 1 (now s) ⌝ }
+    requires { ⌜ AtNumber tags.ENDPOINT at.ACK (now s) ⌝ }
     ensures { λ r. ⌜ ((b : List ℕ) → Resumes r v (now (s .entry)) b (now (s .exit)) b) ⌝ }
 {
     if fits(v, 8) {
@@ -42,12 +45,12 @@ pub fn resume_ack(s: &mut State, v: u32) -> Step
         let reg = ctrl_of(d);
         return stand_wrote(s, Access::Write(reg, e, w as u32));
     }
-    Step::Refused(16)
+    Step::Refused(rows::READING)
 }
 
 // Ep_t_len is written.
 pub fn resume_loaded(s: &mut State) -> Step
-    requires { ⌜ AtNumber 4 2 (now s) ⌝ }
+    requires { ⌜ AtNumber tags.ENDPOINT at.LOADED (now s) ⌝ }
     ensures { λ r. ⌜ ((v : ℕ) (b : List ℕ) → Resumes r v (now (s .entry)) b (now (s .exit)) b) ⌝ }
 {
     let e = ep_byte(s);

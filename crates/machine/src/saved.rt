@@ -1,3 +1,5 @@
+use script_ops::points::ADVANCE;
+use script_ops::points::INTERRUPT;
 use state::State;
 ghost use mathlib.Core.Path.{_≡_};
 ghost use mathlib.Core.Bool.{true, cond};
@@ -6,8 +8,7 @@ ghost use Rattle.state.specs.State.{saved};
 ghost use Rattle.machine.specs.Suspended.{decode};
 ghost use Rattle.machine.specs.Rows.{isIdle, mayPass};
 
-// Whose point is saved: the driver's (1), the bus's (2), the control pipe's (3), a read's or write's (4), a paced
-// advance's (5), an interrupt's (6). At any other number nothing is under way.
+// Whose point is saved, by the tags of `script_ops::points`; at any other number nothing is under way.
 pub fn tag(s: &State) -> u8
     ensures { λ r. ⌜ r ≡ saved (now (s .entry)) .tag ⌝ }
 {
@@ -29,7 +30,7 @@ fn is_none(t: u8, last: u8) -> bool
 pub fn is_idle(s: &State) -> bool
     ensures { λ r. ⌜ r ≡ isIdle (decode (saved (now (s .entry)))) ⌝ }
 {
-    is_none(tag(s), 6)
+    is_none(tag(s), INTERRUPT)
 }
 
 // May a packet be opened, closed or queued? Nothing is under way, or an interrupt is: the call falls between two of its
@@ -37,5 +38,5 @@ pub fn is_idle(s: &State) -> bool
 pub fn may_pass(s: &State) -> bool
     ensures { λ r. ⌜ r ≡ mayPass (decode (saved (now (s .entry)))) ⌝ }
 {
-    is_none(tag(s), 5)
+    is_none(tag(s), ADVANCE)
 }

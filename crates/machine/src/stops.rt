@@ -1,4 +1,5 @@
 use crate::saved::is_idle;
+use script_ops::rows;
 use state::State;
 ghost use mathlib.Core.Path.{_≡_};
 ghost use Rattle.state.specs.State.{view, saved};
@@ -24,7 +25,7 @@ pub fn stop(s: &State, stage: u8) -> u8
         if g.stage == stage {
             return 0;
         }
-        return 4;
+        return rows::STAGE;
     }
-    3
+    rows::UNDER_WAY
 }

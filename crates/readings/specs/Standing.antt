@@ -64,7 +64,7 @@ module _ (xs : List ℕ) (c : Saved) where
 -- it stands there: w, the word of its access, is the answer
 pub stands : (xs : List ℕ) → length xs ≡ 2999 → (w : ℕ) (q : Access) (p : Point) → Encodes w (step.Asks q)
     → Stands w q p xs (standing xs p)
-unfolding standing
+unfolding standing encode
 stands xs long w q p says = record {
   answered = says;
   viewed = view-stays xs (encode (under.Interrupt p));

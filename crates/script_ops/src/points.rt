@@ -1,9 +1,21 @@
-// What the points of every operation have in common: their parts as numbers, and the record that they are saved in.
+// What the points of every operation have in common: the tags that say whose a saved point is, their parts as numbers.
 use regs::Dir;
-use state::Saved;
 ghost use mathlib.Core.Path.{_≡_};
 ghost use Rattle.script.specs.Statics.{flag};
-ghost use Rattle.script_ops.specs.Numbers.{dirAs, numbers};
+ghost use Rattle.script_ops.specs.Numbers.{dirAs};
+
+// Whose point is saved: the record's tag. At 0, and at any other number, nothing is under way.
+pub const DRIVER: u8 = 1;
+
+pub const BUS: u8 = 2;
+
+pub const CONTROL: u8 = 3;
+
+pub const ENDPOINT: u8 = 4;
+
+pub const ADVANCE: u8 = 5;
+
+pub const INTERRUPT: u8 = 6;
 
 pub fn dir_as(d: Dir) -> u8
     ensures { λ r. ⌜ r ≡ dirAs d ⌝ }
@@ -18,36 +30,4 @@ pub fn flag_of(on: bool) -> u8
     ensures { λ r. ⌜ r ≡ flag on ⌝ }
 {
     if on { 1 } else { 0 }
-}
-
-pub fn numbers(
-    sub: u8,
-    site: u8,
-    flag: u8,
-    busy: u8,
-    late: u8,
-    st: u8,
-    ep: u8,
-    len: u16,
-    value: u32,
-) -> Saved
-    ensures { λ r. ⌜ r ≡ numbers sub site flag busy late st ep len value ⌝ }
-{
-    Saved {
-        tag: 0,
-        sub,
-        site,
-        flag,
-        busy,
-        late,
-        len_ok: 0,
-        st,
-        now: 0,
-        ep,
-        len,
-        frame: 0,
-        eps: 0,
-        n: 0,
-        value,
-    }
 }

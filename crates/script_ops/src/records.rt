@@ -1,4 +1,5 @@
 use crate::rings::is_on;
+use crate::rows::STARTED;
 use alloc::Answer;
 use bits::mask_has;
 use regs::Dir;
@@ -255,7 +256,7 @@ fn started(s: &mut State, maximum: u16, a: Answer)
         Answer::Refused(_n) => {}
         Answer::Given(_e, base, _slots) => {
             let mut g = state::load_globals(s);
-            g.stage = 2;
+            g.stage = STARTED;
             g.power = 0;
             g.ep0_buf = base;
             g.ep0_max = maximum;

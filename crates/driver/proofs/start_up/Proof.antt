@@ -1,18 +1,20 @@
-use mathlib.Core.Path.{refl}
+use mathlib.Core.Path.{refl, _∙_}
+use Rattle.driver.specs.declared.Point.the-variants as point
+use Rattle.driver.specs.PointsLaws.{begun-at}
 use borrow.Author.Needs.{needs}
 use Rattle.driver.proofs.start_up.Statement.{statement}
 use Rattle.driver.proofs.start_up.Tie as tie
-use Rattle.driver.proofs.start_up.Reads as reads
-use Rattle.driver.proofs.start_up.Lts as lts
-use Rattle.regs.proofs.ctrl.clear.Reads as clear-reads
 
 clear-requires : tie.Need-clear-requires
 clear-requires c κs = search needs
 
+point-requires : tie.Need-point-requires
+point-requires c κs = search needs
+
 returns : tie.Need-returns
 returns c =
-    let clear = c .clear in
-    (λ d b. simp (clear .ensures), refl)
+    let begun = begun-at (point.Clear (c .before .before .args .callback)) (c .point .ensures) refl in
+    (λ d b. begun .0 d b ∙ simp (c .before .clear .ensures), begun .1)
 
 pub start-up-spec : {M : Type 1} → statement M
-start-up-spec = tie.close (tie.spec clear-requires returns)
+start-up-spec = tie.close (tie.spec clear-requires point-requires returns)

@@ -2,6 +2,8 @@ use Rattle.bus.specs.SetEnabledLaws.{enable-iso, enable-out}
 use Rattle.state.specs.State.{view}
 use denote.Ref.{now}
 use mathlib.Core.Path.{_∙_, sym}
+use Rattle.bus.specs.declared.Point.the-variants as point
+use Rattle.bus.specs.PointsLaws.{begun-at}
 use borrow.Author.Needs.{needs}
 use Rattle.bus.proofs.set_enabled.endpoint_set_enabled.Statement.{statement}
 use Rattle.bus.proofs.set_enabled.endpoint_set_enabled.Tie as tie
@@ -15,20 +17,28 @@ iso-out-requires c κs = search needs
 after-switch-requires : tie.Need-after-switch-requires
 after-switch-requires c κs = search needs
 
+point-requires : tie.Need-point-requires
+point-requires c κs = search needs
+
 same-length : tie.Need-same-length
 same-length c = search needs
 
 returns : tie.Need-returns
 returns c =
-    let start = c .before .before .before .before .before .before .before .before .before .before .before in
-    let enum-told-fact = c .before .before .before .before .before .before .before .before .enum-told in
-    let iso-out = c .before .before .before .before .before .before .iso-out in
-    let if1 = c .before .before .before .before .before .if1 in
-    let after-switch = c .before .before .after-switch in (
-      after-switch .ensures .0 ∙ sym (enable-iso (start .args .dir) (start .args .e) (start .args .on)
-          (view (now (start .args .s))) (now (start .args .buf)) (enum-told-fact .given .1)
-          (sym (iso-out .ensures) ∙ if1 .taken)),
-      (after-switch .ensures .1 .0, after-switch .ensures .1 .1),
+    let begun = begun-at (point.Switch _ _ 18) (c .point .ensures)
+    (c .before .before .before .after-switch .ensures .1 .1) in (
+      begun .0 _ _ ∙ c .before .before .before .after-switch .ensures .0
+          ∙ sym (enable-iso
+          (c .before .before .before .before .before .before .before .before .before .before .before .before .args .dir)
+          (c .before .before .before .before .before .before .before .before .before .before .before .before .args .e)
+          (c .before .before .before .before .before .before .before .before .before .before .before .before .args .on)
+          (view (now
+          (c .before .before .before .before .before .before .before .before .before .before .before .before .args .s)))
+          (now (c .before .before .before .before .before .before .before .before .before .before .before .before .args .buf))
+          (c .before .before .before .before .before .before .before .before .before .enum-told .given .1)
+          (sym (c .before .before .before .before .before .before .before .iso-out .ensures)
+          ∙ c .before .before .before .before .before .before .if1 .taken)),
+      (c .before .before .before .after-switch .ensures .1 .0, begun .1),
     )
 
 set-enabled-out-requires : tie.Need-set-enabled-out-requires
@@ -66,6 +76,6 @@ returns-3 c =
 
 pub endpoint-set-enabled-spec : {M : Type 1} → statement M
 endpoint-set-enabled-spec =
-    tie.close (tie.spec enum-told iso-out-requires after-switch-requires same-length returns set-enabled-out-requires
-    enum-told-2
+    tie.close (tie.spec enum-told iso-out-requires after-switch-requires point-requires same-length returns
+    set-enabled-out-requires enum-told-2
     set-enabled-in-requires returns-2 returns-3)

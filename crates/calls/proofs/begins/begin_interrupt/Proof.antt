@@ -1,8 +1,17 @@
 use Rattle.machine.specs.RowsLaws.{back, interrupt-call}
-use Rattle.machine.specs.Suspended.{decode}
+use Rattle.machine.specs.Suspended.{decode, finish, haltsAs}
+use Prim.Native.Nat.{ℕ}
+use mathlib.Core.Bool.{true}
+use Rattle.script.specs.Tree.{Out, bindOut}
+use Rattle.script.specs.Script.{run}
+use Rattle.script_ops.specs.Rings.{St}
+use Rattle.script_ops.specs.Concrete.{concrete}
 use Rattle.state.specs.State.{view, saved}
 use denote.Ref.{now}
-use mathlib.Core.Path.{_∙_, refl}
+use Rattle.machine.specs.StandsLaws.{handed-out, stored-by}
+use Rattle.machine.specs.Interrupt.{begun-interrupt}
+use mathlib.Core.List.{[]}
+use mathlib.Core.Path.{_∙_, ap, refl}
 use borrow.Author.Tests.{eq-eqb, ne-eqb}
 use borrow.Author.Needs.{needs}
 use Rattle.calls.proofs.begins.begin_interrupt.Statement.{statement}
@@ -11,7 +20,6 @@ use Rattle.calls.proofs.begins.begin_interrupt.Reads as reads
 use Rattle.calls.proofs.begins.begin_interrupt.Lts as lts
 use Rattle.interrupt.proofs.on_interrupt.Reads as on-interrupt-reads
 use Rattle.state.proofs.clear_wakes.Reads as clear-wakes-reads
-use Rattle.machine.proofs.halts.suspend_or_end_interrupt.Reads as suspend-or-end-interrupt-reads
 use Rattle.machine.proofs.stops.stop.Reads as stop-reads
 
 stop-requires : tie.Need-stop-requires
@@ -23,27 +31,25 @@ clear-wakes-requires c κs = search needs
 on-interrupt-requires : tie.Need-on-interrupt-requires
 on-interrupt-requires c κs = search needs
 
-suspend-or-end-interrupt-requires : tie.Need-suspend-or-end-interrupt-requires
-suspend-or-end-interrupt-requires c κs =
-    let on-interrupt = c .on-interrupt in
-    on-interrupt .ensures .1
+suspend-interrupt-requires : tie.Need-suspend-interrupt-requires
+suspend-interrupt-requires c κs = search needs
 
 returns : tie.Need-returns
 returns c =
-    let start = c .before .before .before .before .before .before .before .before in
-    let stop = c .before .before .before .before .before .before .stop in
-    let if1 = c .before .before .before .before .before .if1 in
-    let clear-wakes = c .before .before .before .clear-wakes in
-    let on-interrupt = c .before .on-interrupt in
-    let suspend-or-end-interrupt = c .suspend-or-end-interrupt in (
-      λ a b. back (interrupt-call (decode (saved (now (start .args .s)))) (view (now (start .args .s))) a b)
-          (suspend-or-end-interrupt .ensures .0 b ∙ simp (
-            on-interrupt .ensures .0,
-            clear-wakes .ensures .0,
-            ← stop .ensures,
-            eq-eqb _ _ (if1 .taken),
+    let stood = c .suspend-interrupt .ensures in (
+      λ a b. back
+          (interrupt-call
+          (decode (saved (now (c .before .before .before .before .before .before .before .before .args .s))))
+          (view (now (c .before .before .before .before .before .before .before .before .args .s))) a b)
+          (handed-out stood _ (stood .answered) [] b ∙ begun-interrupt _ _ b (c .before .on-interrupt .ensures .1)
+          ∙ ap (λ (o : Out St ℕ). haltsAs true (bindOut o (λ k t. run concrete (finish k) t)))
+          (c .before .on-interrupt .ensures .0 _ b)
+          ∙ simp (
+            c .before .before .before .clear-wakes .ensures .0,
+            ← c .before .before .before .before .before .before .stop .ensures,
+            eq-eqb _ _ (c .before .before .before .before .before .if1 .taken),
           )),
-      suspend-or-end-interrupt .ensures .1 _,
+      stored-by stood _ (stood .answered) _,
     )
 
 returns-2 : tie.Need-returns-2
@@ -58,4 +64,4 @@ returns-2 c =
 
 pub begin-interrupt-spec : {M : Type 1} → statement M
 begin-interrupt-spec = tie.close (tie.spec stop-requires clear-wakes-requires on-interrupt-requires
-    suspend-or-end-interrupt-requires returns returns-2)
+    suspend-interrupt-requires returns returns-2)

@@ -4,6 +4,8 @@ use lib.Dec.{eqb}
 use Rattle.endpoint.specs.RecordsLaws.{on-driver}
 use Rattle.control.proofs.Laws.{reject-asks, reject-refused}
 use mathlib.Core.Path.{_∙_, refl}
+use Rattle.control.specs.declared.Point.the-variants as point
+use Rattle.control.specs.PointsLaws.{asked-at, linked-at}
 use borrow.Author.Needs.{needs}
 use Rattle.control.proofs.begin.reject.Statement.{statement}
 use Rattle.control.proofs.begin.reject.Tie as tie
@@ -33,25 +35,29 @@ set-armed-requires c κs = search needs
 set-armed-requires-2 : tie.Need-set-armed-requires-2
 set-armed-requires-2 c κs = search needs
 
+point-requires : tie.Need-point-requires
+point-requires c κs = search needs
+
 returns : tie.Need-returns
-returns c =
-    let start = c .before .before .before .before .before .before .before .before .before .before .before .before in
-    let load-globals
-    = c .before .before .before .before .before .before .before .before .before .before .load-globals in
-    let is-started = c .before .before .before .before .before .before .before .before .before .is-started in
-    let if1 = c .before .before .before .before .before .before .before .before .if1 in
-    let set-request = c .before .before .before .before .before .before .set-request in
-    let clear-wakes = c .before .before .before .before .clear-wakes in
-    let set-armed = c .before .before .set-armed in
-    let set-armed2 = c .set-armed2 in (
-      reject-asks (view (now (start .args .s))) _ _ _ _ (set-request .ensures .0)
-          (clear-wakes .ensures .0) (set-armed .ensures .0) (set-armed2 .ensures .0)
-          (on-driver (λ x. eqb (x .stage) 2) (load-globals .ensures) (is-started .ensures) (if1 .taken)),
-      (
-        set-armed2 .ensures .1 ∙ set-armed .ensures .1 ∙ clear-wakes .ensures .1 ∙ set-request .ensures .1,
-        refl,
-      ),
-    )
+returns c = (
+  λ b. asked-at point.StallIn (c .point .ensures) _ b ∙ reject-asks
+      (view (now
+      (c .before .before .before .before .before .before .before .before .before .before .before .before .before .args .s)))
+      _ _ _ _ (c .before .before .before .before .before .before .before .set-request .ensures .0)
+      (c .before .before .before .before .before .clear-wakes .ensures .0)
+      (c .before .before .before .set-armed .ensures .0) (c .before .set-armed2 .ensures .0)
+      (on-driver (λ x. eqb (x .stage) 2)
+      (c .before .before .before .before .before .before .before .before .before .before .before .load-globals .ensures)
+      (c .before .before .before .before .before .before .before .before .before .before .is-started .ensures)
+      (c .before .before .before .before .before .before .before .before .before .if1 .taken)) b,
+  (
+    c .before .set-armed2 .ensures .1
+        ∙ c .before .before .before .set-armed .ensures .1
+        ∙ c .before .before .before .before .before .clear-wakes .ensures .1
+        ∙ c .before .before .before .before .before .before .before .set-request .ensures .1,
+    linked-at point.StallIn (c .point .ensures) refl,
+  ),
+)
 
 returns-2 : tie.Need-returns-2
 returns-2 c =
@@ -68,4 +74,4 @@ pub reject-spec : {M : Type 1} → statement M
 reject-spec =
     tie.close (tie.spec load-globals-requires is-started-requires set-request-requires clear-wakes-requires
     set-armed-requires set-armed-requires-2
-    returns returns-2)
+    point-requires returns returns-2)

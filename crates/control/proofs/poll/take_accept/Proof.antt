@@ -5,6 +5,8 @@ use Rattle.state.specs.State.{view}
 use Rattle.script.specs.Statics.{isOn}
 use Rattle.endpoint.specs.RecordsLaws.{on-driver}
 use Rattle.control.proofs.Laws.{accept-done, accept-address, accept-waits}
+use Rattle.control.specs.declared.Point.the-variants as point
+use Rattle.control.specs.PointsLaws.{asked-at, linked-at}
 use borrow.Author.Needs.{needs}
 use Rattle.control.proofs.poll.take_accept.Statement.{statement}
 use Rattle.control.proofs.poll.take_accept.Tie as tie
@@ -46,25 +48,29 @@ clear-wakes-requires c κs = search needs
 cast-t16 : tie.Need-cast-t16
 cast-t16 c = search needs
 
+point-requires : tie.Need-point-requires
+point-requires c κs = search needs
+
 returns-2 : tie.Need-returns-2
-returns-2 c =
-    let start = c .before .before .before .before .before .before .before .before .before .before .before .before
-    .before in
-    let load-ep = c .before .before .before .before .before .before .before .before .before .before .before .load-ep in
-    let is-on = c .before .before .before .before .before .before .before .before .before .before .is-on in
-    let if1 = c .before .before .before .before .before .before .before .before .before .if1 in
-    let unready = c .before .before .before .before .before .before .before .unready in
-    let set-request = c .before .before .before .before .before .set-request in
-    let is-on2 = c .before .before .before .before .is-on2 in
-    let if2 = c .before .before .before .if2 in
-    let clear-wakes = c .before .clear-wakes in (
-      λ b. accept-address (view (start .args .s .now)) _ b (start .pre) _ _ (unready .ensures .0)
-          (set-request .ensures .0) (on-driver (λ x. isOn (x .ready)) (load-ep .ensures) (is-on .ensures)
-          (if1 .taken)) _ (clear-wakes .ensures .0) (sym (is-on2 .ensures) ∙ not-false (is-on2 .result)
-          (if2 .left)),
+returns-2 c = let start
+    = c .before .before .before .before .before .before .before .before .before .before .before .before .before .before in (
+      λ b. asked-at point.Wrote (c .point .ensures) _ b ∙ accept-address (view (start .args .s .now)) _ b (start .pre) _
+          _
+          (c .before .before .before .before .before .before .before .before .unready .ensures .0)
+          (c .before .before .before .before .before .before .set-request .ensures .0)
+          (on-driver (λ x. isOn (x .ready))
+          (c .before .before .before .before .before .before .before .before .before .before .before .before .load-ep .ensures)
+          (c .before .before .before .before .before .before .before .before .before .before .before .is-on .ensures)
+          (c .before .before .before .before .before .before .before .before .before .before .if1 .taken)) _
+          (c .before .before .clear-wakes .ensures .0)
+          (sym (c .before .before .before .before .before .is-on2 .ensures)
+          ∙ not-false (c .before .before .before .before .before .is-on2 .result)
+          (c .before .before .before .before .if2 .left)),
       (
-        clear-wakes .ensures .1 ∙ set-request .ensures .1 ∙ unready .ensures .1,
-        refl,
+        c .before .before .clear-wakes .ensures .1
+            ∙ c .before .before .before .before .before .before .set-request .ensures .1
+            ∙ c .before .before .before .before .before .before .before .before .unready .ensures .1,
+        linked-at point.Wrote (c .point .ensures) refl,
       ),
     )
 
@@ -87,4 +93,4 @@ pub take-accept-spec : {M : Type 1} → statement M
 take-accept-spec =
     tie.close (tie.spec load-ep-requires is-on-requires unready-requires set-request-requires is-on-requires-2 returns
     clear-wakes-requires cast-t16
-    returns-2 wait-on-requires returns-3)
+    point-requires returns-2 wait-on-requires returns-3)

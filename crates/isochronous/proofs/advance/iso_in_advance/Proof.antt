@@ -7,6 +7,8 @@ use Rattle.script.specs.Tree.{ends}
 use Rattle.state.specs.State.{view}
 use Rattle.state.specs.Driver.{Driver}
 use Rattle.isochronous.specs.Laws.{advance-reads, advance-forgets, advance-ends}
+use Rattle.isochronous.specs.declared.advance.Advance.the-variants as point
+use Rattle.isochronous.specs.AdvanceLaws.{begun-at}
 use borrow.Author.Needs.{needs}
 use Rattle.isochronous.proofs.advance.iso_in_advance.Statement.{statement}
 use Rattle.isochronous.proofs.advance.iso_in_advance.Tie as tie
@@ -20,20 +22,23 @@ is-paced-requires c κs = search needs
 is-on-requires : tie.Need-is-on-requires
 is-on-requires c κs = search needs
 
+point-requires : tie.Need-point-requires
+point-requires c κs = search needs
+
 returns : tie.Need-returns
 returns c =
-    let start = c .before .before .before .before .before .before in
-    let load-globals = c .before .before .before .before .load-globals in
-    let is-paced = c .before .before .before .is-paced in
-    let if1 = c .before .before .if1 in
-    let is-on = c .before .is-on in
-    let if2 = c .if2 in (
-      λ b. sym (advance-reads (start .args .e) (view (start .args .s .now)) b
-          (ap (λ (g : Globals). isSet (g .«iso_in_paced») (start .args .e)) (sym (load-globals .ensures))
-          ∙ (sym (is-paced .ensures) ∙ if1 .taken))
-          (ap (λ (g : Globals). enables.isOn (g .«ep_config») In (start .args .e))
-          (sym (load-globals .ensures)) ∙ (sym (is-on .ensures) ∙ if2 .taken))),
-      (refl, refl),
+    let begun = begun-at (point.FrameNo _) (c .point .ensures) refl in (
+      λ b. begun .0 _ b ∙ sym (advance-reads (c .before .before .before .before .before .before .before .args .e)
+          (view (c .before .before .before .before .before .before .before .args .s .now)) b
+          (ap (λ (g : Globals). isSet (g .«iso_in_paced»)
+          (c .before .before .before .before .before .before .before .args .e))
+          (sym (c .before .before .before .before .before .load-globals .ensures))
+          ∙ (sym (c .before .before .before .before .is-paced .ensures) ∙ c .before .before .before .if1 .taken))
+          (ap (λ (g : Globals). enables.isOn (g .«ep_config») In
+          (c .before .before .before .before .before .before .before .args .e))
+          (sym (c .before .before .before .before .before .load-globals .ensures))
+          ∙ (sym (c .before .before .is-on .ensures) ∙ c .before .if2 .taken))),
+      (refl, begun .1),
     )
 
 store-paced-requires : tie.Need-store-paced-requires
@@ -69,5 +74,5 @@ returns-3 c =
     )
 
 pub iso-in-advance-spec : {M : Type 1} → statement M
-iso-in-advance-spec = tie.close (tie.spec load-globals-requires is-paced-requires is-on-requires returns
+iso-in-advance-spec = tie.close (tie.spec load-globals-requires is-paced-requires is-on-requires point-requires returns
     store-paced-requires returns-2 returns-3)

@@ -1,16 +1,14 @@
 use Rattle.machine.specs.declared.Suspended.the-variants as under
 use Rattle.machine.specs.StandsLaws.{handed-out, stored-by, refuses}
+use Rattle.machine.specs.PointsStandsLaws.{stands-at}
 use Rattle.machine.specs.Fits.{linked-begun}
 use mathlib.Core.List.{[]}
-use mathlib.Core.Path.{refl, _∙_}
+use Rattle.control.specs.Codec as codec
+use mathlib.Core.Path.{_∙_}
 use denote.Ref.{now}
 use borrow.Author.Needs.{needs}
 use Rattle.machine.proofs.halts.begun_control.Statement.{statement}
 use Rattle.machine.proofs.halts.begun_control.Tie as tie
-use Rattle.machine.proofs.halts.begun_control.Reads as reads
-use Rattle.machine.proofs.halts.begun_control.Lts as lts
-use Rattle.machine.proofs.halts.asks.Reads as asks-reads
-use Rattle.machine.proofs.halts.ended.Reads as ended-reads
 
 enum-known-n : tie.Need-enum-known-n
 enum-known-n c = search needs
@@ -18,17 +16,14 @@ enum-known-n c = search needs
 enum-known-n-2 : tie.Need-enum-known-n-2
 enum-known-n-2 c = search needs
 
-encode-requires : tie.Need-encode-requires
-encode-requires c κs = search needs
-
-asks-requires : tie.Need-asks-requires
-asks-requires c κs = search needs
+stand-requires : tie.Need-stand-requires
+stand-requires c κs = search needs
 
 enum-known-n-3 : tie.Need-enum-known-n-3
 enum-known-n-3 c = search needs
 
-ended-requires : tie.Need-ended-requires
-ended-requires c κs = search needs
+stop-requires : tie.Need-stop-requires
+stop-requires c κs = search needs
 
 returns : tie.Need-returns
 returns c =
@@ -38,24 +33,21 @@ returns c =
 
 returns-2 : tie.Need-returns-2
 returns-2 c =
-    let start = c .before .before .before .before .before .before in
-    let n2 = c .before .before .before .before .n2 in
-    let encode = c .before .encode in
-    let asks = c .asks in
-    let stood = asks .ensures (under.Control _) refl (encode .ensures) in (
-      λ b. handed-out stood _ (stood .answered) [] b ∙ simp (
-        n2 .given .1,
-        linked-begun _ _ _ (n2 .given .1) (start .pre .0),
-      ),
+    let told = c .before .before .before .n2 .given .1 in
+    let link = linked-begun _ _ _ told (c .before .before .before .before .before .pre .0) in
+    let stood = stands-at {u = under.Control (codec.decode _)} (c .stand .ensures) (link .1) in (
+      λ b. handed-out stood _ (stood .answered) [] b ∙ simp (told, link .0),
       stored-by stood _ (stood .answered) _,
     )
 
 returns-3 : tie.Need-returns-3
-returns-3 c =
-    let n3 = c .before .before .before .n3 in
-    let ended = c .ended in
-    (λ b. ended .ensures .there b ∙ simp (n3 .given .1), ended .ensures .stored _)
+returns-3 c = (
+  λ b. c .stop .ensures .there b ∙ simp (c .before .before .before .n3 .given .1),
+  c .stop .ensures .stored
+      _,
+)
 
 pub begun-control-spec : {M : Type 1} → statement M
-begun-control-spec = tie.close (tie.spec enum-known-n enum-known-n-2 encode-requires asks-requires enum-known-n-3
-    ended-requires returns returns-2 returns-3)
+begun-control-spec =
+    tie.close (tie.spec enum-known-n enum-known-n-2 stand-requires enum-known-n-3 stop-requires returns returns-2
+    returns-3)

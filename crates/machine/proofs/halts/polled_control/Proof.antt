@@ -1,17 +1,18 @@
 use Rattle.machine.specs.declared.Suspended.the-variants as under
 use Rattle.machine.specs.StandsLaws.{handed-out, stored-by}
+use Rattle.machine.specs.PointsStandsLaws.{stands-at}
 use Rattle.machine.specs.Fits.{linked-polled}
 use Rattle.machine.specs.RowsLaws.{ends-idle}
 use Rattle.machine.specs.Suspended.{decode}
 use Rattle.state.specs.State.{view, saved}
 use denote.Ref.{now}
+use Rattle.control.specs.Codec as codec
 use mathlib.Core.Path.{_∙_, refl}
 use borrow.Author.Needs.{needs}
 use Rattle.machine.proofs.halts.polled_control.Statement.{statement}
 use Rattle.machine.proofs.halts.polled_control.Tie as tie
 use Rattle.machine.proofs.halts.polled_control.Reads as reads
 use Rattle.machine.proofs.halts.polled_control.Lts as lts
-use Rattle.machine.proofs.halts.asks.Reads as asks-reads
 
 enum-known-n : tie.Need-enum-known-n
 enum-known-n c = search needs
@@ -28,11 +29,8 @@ enum-known-n-3 c = search needs
 enum-known-n-4 : tie.Need-enum-known-n-4
 enum-known-n-4 c = search needs
 
-encode-requires : tie.Need-encode-requires
-encode-requires c κs = search needs
-
-asks-requires : tie.Need-asks-requires
-asks-requires c κs = search needs
+stand-requires : tie.Need-stand-requires
+stand-requires c κs = search needs
 
 returns : tie.Need-returns
 returns c =
@@ -72,20 +70,15 @@ returns-4 c =
 
 returns-5 : tie.Need-returns-5
 returns-5 c =
-    let start = c .before .before .before .before .before .before in
-    let n4 = c .before .before .before .before .n4 in
-    let encode = c .before .encode in
-    let asks = c .asks in
-    let stood = asks .ensures (under.Control _) refl (encode .ensures) in (
-      λ out b. handed-out stood _ (stood .answered) out b ∙ simp (
-        n4 .given .1,
-        linked-polled _ _ _ (n4 .given .1) (start .pre .0),
-      ),
+    let told = c .before .before .before .n4 .given .1 in
+    let link = linked-polled _ _ _ told (c .before .before .before .before .before .pre .0) in
+    let stood = stands-at {u = under.Control (codec.decode _)} (c .stand .ensures) (link .1) in (
+      λ out b. handed-out stood _ (stood .answered) out b ∙ simp (told, link .0),
       stored-by stood _ (stood .answered) _,
     )
 
 pub polled-control-spec : {M : Type 1} → statement M
 polled-control-spec =
-    tie.close (tie.spec enum-known-n enum-told enum-known-n-2 enum-known-n-3 enum-known-n-4 encode-requires
-    asks-requires returns returns-2 returns-3
+    tie.close (tie.spec enum-known-n enum-told enum-known-n-2 enum-known-n-3 enum-known-n-4 stand-requires returns
+    returns-2 returns-3
     returns-4 returns-5)

@@ -1,45 +1,36 @@
 use Rattle.machine.specs.declared.Suspended.the-variants as under
 use Rattle.machine.specs.StandsLaws.{suspends}
+use Rattle.machine.specs.PointsStandsLaws.{stands-at}
 use Rattle.machine.specs.Fits.{linked}
-use mathlib.Core.Path.{refl, _∙_}
+use Rattle.driver.specs.Codec.{decode}
+use mathlib.Core.Path.{_∙_}
 use borrow.Author.Needs.{needs}
 use Rattle.machine.proofs.halts.suspend_or_end.Statement.{statement}
 use Rattle.machine.proofs.halts.suspend_or_end.Tie as tie
-use Rattle.machine.proofs.halts.suspend_or_end.Reads as reads
-use Rattle.machine.proofs.halts.suspend_or_end.Lts as lts
-use Rattle.machine.proofs.halts.asks.Reads as asks-reads
-use Rattle.machine.proofs.halts.ended.Reads as ended-reads
 
 enum-known-n : tie.Need-enum-known-n
 enum-known-n c = search needs
 
-encode-requires : tie.Need-encode-requires
-encode-requires c κs = search needs
-
-asks-requires : tie.Need-asks-requires
-asks-requires c κs = search needs
+stand-requires : tie.Need-stand-requires
+stand-requires c κs = search needs
 
 enum-known-n-2 : tie.Need-enum-known-n-2
 enum-known-n-2 c = search needs
 
-ended-requires : tie.Need-ended-requires
-ended-requires c κs = search needs
+stop-requires : tie.Need-stop-requires
+stop-requires c κs = search needs
 
 returns : tie.Need-returns
 returns c =
-    let start = c .before .before .before .before .before .before in
-    let n = c .before .before .before .before .n in
-    let encode = c .before .encode in
-    let asks = c .asks in
-    let told = n .given .1 in suspends (asks .ensures (under.Driver _) refl (encode .ensures))
-    (λ b. simp (told, linked _ _ _ told (start .pre)))
+    let told = c .before .before .before .n .given .1 in
+    let link = linked _ _ _ told (c .before .before .before .before .before .pre) in
+    suspends (stands-at {u = under.Driver (decode _)} (c .stand .ensures) (link .1)) (λ b. simp (told, link .0))
 
 returns-2 : tie.Need-returns-2
-returns-2 c =
-    let n2 = c .before .before .before .n2 in
-    let ended = c .ended in
-    (λ b. ended .ensures .there b ∙ simp (n2 .given .1), ended .ensures .stored)
+returns-2 c = (
+  λ b. c .stop .ensures .there b ∙ simp (c .before .before .before .n2 .given .1),
+  c .stop .ensures .stored,
+)
 
 pub suspend-or-end-spec : {M : Type 1} → statement M
-suspend-or-end-spec = tie.close (tie.spec enum-known-n encode-requires asks-requires enum-known-n-2 ended-requires
-    returns returns-2)
+suspend-or-end-spec = tie.close (tie.spec enum-known-n stand-requires enum-known-n-2 stop-requires returns returns-2)

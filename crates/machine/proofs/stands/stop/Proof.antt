@@ -18,12 +18,10 @@ how-many-requires c κs = search needs
 returns : tie.Need-returns
 unfolding decode listed
 returns c =
-    let the-nothing = c .before .before .before .nothing in
     let the-store-saved = c .before .before .store-saved in
-    let how-many = c .how-many in
-    record {
+    let the-nothing = c .before .before .before .nothing in record {
       there = λ b. simp (
-        how-many .ensures .0,
+        c .how-many .ensures .0,
         front-take,
         the-store-saved .ensures .0,
         the-store-saved .ensures .1,
