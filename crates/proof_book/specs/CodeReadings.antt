@@ -58,19 +58,19 @@ module _ (c : Config) (b : Buf) (row : startRow c b ≡ zero) (xs : List ℕ) (a
     (is-start : first .event ≡ record { call = start c; lent = b }) (ms : List CallRecord)
     (steps : Steps xs a (first ∷ ms)) where
   -- the machine then
-  abbrev pub now : Machine Answer Driver
-  now = machineOf (bytesAfter xs (first ∷ ms)) (slotsAfter a (first ∷ ms))
+  abbrev pub reached : Machine Answer Driver
+  reached = machineOf (bytesAfter xs (first ∷ ms)) (slotsAfter a (first ∷ ms))
 
-  now-sorting : Sorting (now .st)
-  now-sorting =
+  reached-sorting : Sorting (reached .st)
+  reached-sorting =
       subst (λ (n : Machine Answer Driver). Sorting (n .st)) (sym (same-after (first ∷ ms) xs a steps))
       (subst (λ (v : Event Config Op). Sorting (after calls driverOf (v ∷ events ms) (machineOf xs a) .st))
       (sym is-start) (after-sorting c b row (events ms) (machineOf xs a)))
 
-  pub code-4056 : now .under-way ≡ idle → (i : CallRecord) (slots : Buf) → i .event
+  pub code-4056 : reached .under-way ≡ idle → (i : CallRecord) (slots : Buf) → i .event
       ≡ record { call = begin interrupt; lent = slots } → (fs : List CallRecord)
       → Steps (bytesAfter xs (first ∷ ms)) (slotsAfter a (first ∷ ms)) (i ∷ fs) → readBy (i ∷ fs) ≤ 4056
   code-4056 w i slots is-interrupt fs h = rw (
     read-served (i ∷ fs) (bytesAfter xs (first ∷ ms)) (slotsAfter a (first ∷ ms)) h,
     is-interrupt,
-  ) (sorting-served now now-sorting w slots (events fs))
+  ) (sorting-served reached reached-sorting w slots (events fs))

@@ -39,6 +39,8 @@ use Rattle.proof_book.specs.Lengths.{Known, learnt, lengthAt}
 pub use Rattle.proof_book.specs.Others.{givesTo, addressed}
 use Rattle.proof_book.specs.Others.{handsOut, releasing, sendsTo, Names, underWay, callNames, Away, SamePage}
 use Rattle.proof_book.specs.Arrivals.{Note, brings, checks, due, looks, after, above, Arrival}
+use Rattle.proof_book.specs.Allocated.{Sorts, sortsAfter}
+use Rattle.proof_book.specs.Loads.{Heard, hears, hearing, valuesOf, lastIn, loadsIn, Loads, SentAll}
 
 -- ---- a list of calls
 
@@ -555,6 +557,20 @@ abbrev pub LoadLength : CallRecord → Machine Answer Pages → Known → Type 0
 LoadLength m n k = (e x v : ℕ) → 0 < e → m .event .call ≡ continue v → m .answer ≡ handed (Write EpTLen e x)
     → LengthWritten (sendsTo (k .asked) e) x (n .st .ins e) (bookAfter m n .1 .st .ins e)
 
+-- "Loads .. fall where the Rust's do with the kept values": an interrupt loads an IN endpoint for its own token, or
+-- where it went out unseen, and at no other call; with no load the microframe of its last packet stays (Loads.antt)
+abbrev pub LoadIs : CallRecord → Machine Answer Pages → Heard → Type 0
+LoadIs m n k = (e v : ℕ) → e < 16 → m .event .call ≡ continue v → inInterrupt (n .under-way) ≡ true
+    → Loads (hears v k) (valuesOf (n .st) e) e (lastIn (n .st) e) (lastIn (bookAfter m n .1 .st) e)
+    (loadsIn (k .known .asked) (m .answer) e)
+
+-- and an interrupt that ends has read its flags, its status and its frame, and has completed and loaded those it had to
+abbrev pub NoneUnsent : CallRecord → Machine Answer Pages → Heard → Type 0
+NoneUnsent m n k = (e v r : ℕ) (ws : List ℕ) → e < 16 → m .event .call ≡ continue v → inInterrupt (n .under-way) ≡ true
+    → m .answer ≡ ended (End r ws)
+    → let t = bookAfter m n .1 .st in
+    SentAll (hears v k) (valuesOf (n .st) e) e (lastIn t e) (t .kept .globals .«sof_frame»)
+
 -- which endpoints are enabled is what was last bookStep to ep_config
 abbrev pub ConfigKept : CallRecord → Machine Answer Pages → Type 0
 ConfigKept m n = (v : ℕ) → m .answer ≡ handed (Write EpConfig 0 v) → bookAfter m n .1 .st .kept .globals .«ep_config» ≡ v
@@ -592,6 +608,18 @@ WritesEach n k [] = Unit {0}
 WritesEach n k (m ∷ ms) =
     LoadLength m n k × ConfigKept m n × WritesEach (bookAfter m n .1) (learnt (m .event .call) (m .answer) k) ms
 
+abbrev pub LoadsEach : Machine Answer Pages → Heard → List CallRecord → Type 0
+LoadsEach n k [] = Unit {0}
+LoadsEach n k (m ∷ ms) = LoadIs m n k × NoneUnsent m n k
+    × LoadsEach (bookAfter m n .1) (hearing (m .event .call) (m .answer) (n .st) k) ms
+
+-- which endpoints are isochronous is what the allocations of the list say: the book's flags are theirs (Allocated.antt)
+abbrev pub SortsEach : Machine Answer Pages → Sorts → List CallRecord → Type 0
+SortsEach n f [] = Unit {0}
+SortsEach n f (m ∷ ms) =
+    let g = sortsAfter (m .event .call) (m .answer) (n .st .kept .allocator) f in
+    ((d : Dir) (e : ℕ) → isoOf (bookAfter m n .1 .st) d e ≡ g d e) × SortsEach (bookAfter m n .1) g ms
+
 -- the book answers the same, questions too, but for the addresses of accesses
 abbrev pub AnswersEach : Machine Answer Pages → List CallRecord → Type 0
 AnswersEach n [] = Unit {0}
@@ -608,6 +636,7 @@ Demand3 = (c : Config) (b : Buf) → startRow c b ≡ zero
     × ((k : Names) → OthersEach n k (first ∷ ms))
     × ((k : Note) → ArrivalsEach n k (first ∷ ms)) × ((k : ℕ) → OrderEach n k (first ∷ ms))
     × ((k : Known) → WritesEach n k (first ∷ ms)) × AnswersEach n (first ∷ ms)
+    × ((k : Heard) → LoadsEach n k (first ∷ ms)) × ((f : Sorts) → SortsEach n f (first ∷ ms))
 
 -- ---- no slot being sent is bookStep, between two moments
 

@@ -61,6 +61,8 @@ use Rattle.proof_book.specs.Lengths.{Known, learnt}
 use Rattle.proof_book.specs.LengthCallsLaws.{WayTold, regular, told-on, start-told, length-is}
 use Rattle.proof_book.specs.Others.{releasing, Names, underWay, callNames, Away, SamePage}
 use Rattle.proof_book.specs.ArrivalsLaws.{arrivals}
+use Rattle.proof_book.specs.LoadCallsLaws.{loads-each}
+use Rattle.proof_book.specs.AllocatedLaws.{sorts-each}
 use Rattle.proof_book.specs.ArrivalOrderLaws.{arrivals-in-order}
 use Rattle.proof_book.specs.WritesLaws.{writes}
 use Rattle.proof_book.specs.AsideRowsLaws.{asides-rows}
@@ -530,6 +532,12 @@ demand-3 c b row xs a n first is ms p =
       λ k. (λ e d. absurd (starts (d .brought) (d .continues)), arrivals-in-order c b row xs a n first is ms p k),
       λ k. let w = writes c b row xs a n first is ms p k in (λ e x v l g. absurd (starts v g), w .0, w .1),
       (first-same, answers ms (first .bytes) (first .slots) _ (z .1) (p .2)),
+      λ k. (
+        λ e v l g. absurd (starts v g),
+        λ e v r ws l g. absurd (starts v g),
+        loads-each c b row xs a n first is ms p k,
+      ),
+      λ f. sorts-each c b row xs a n first is ms p f,
     )
   where
     first-same : blankA (first .answer) ≡ blankA (bookAfter first n .0)

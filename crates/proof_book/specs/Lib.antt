@@ -3,6 +3,8 @@ pub mod Book
 pub mod Stamps
 pub mod Lengths
 pub mod Others
+pub mod Loads
+pub mod Allocated
 pub mod FrontPage
 pub mod MachineRuns
 pub mod Coupling
@@ -108,7 +110,12 @@ pub mod Arrivals
 pub mod ArrivalQuietLaws
 pub mod ArrivalScriptsLaws
 pub mod ArrivalInterruptLaws
+pub mod LoadScriptsLaws
+pub mod LoadQuietLaws
+pub mod LoadInterruptLaws
 pub mod ArrivalCallsLaws
+pub mod LoadCallsLaws
+pub mod AllocatedLaws
 pub mod ArrivalsLaws
 pub mod PollsWaitLaws
 pub mod ArrivalOrderLaws

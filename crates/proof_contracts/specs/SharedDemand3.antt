@@ -11,7 +11,7 @@ use Rattle.regs.specs.declared.Dir.{Dir}
 use Rattle.regs.specs.declared.Dir.the-variants.{Out, In}
 use Rattle.state.specs.State.{view}
 use Rattle.state.specs.Driver.{Driver}
-use Rattle.script.specs.Answers.{Answer, Refused}
+use Rattle.script.specs.Answers.{Answer, Refused, End}
 use Rattle.script.specs.Calls.{Config, Op, slotted, SetEnabled}
 use Rattle.script.specs.Machine.{Buf, Call, begin, continue, question, pending, Machine, Ans, ended, handed, told}
 use Rattle.machine.specs.Suspended.{machineOf}
@@ -19,12 +19,16 @@ use Rattle.proof_book.specs.Pages.{Packet, Pages}
 use Rattle.proof_book.specs.Lengths.{Known, learnt, lengthAt}
 use Rattle.proof_book.specs.Others.{releasing, sendsTo, Names, underWay, callNames, Away, SamePage}
 use Rattle.proof_book.specs.Arrivals.{Note, after, above}
-use Rattle.proof_book.specs.FrontPage.{Decides, Compared, Sentences, same, AfterCall, LengthWritten}
+use Rattle.proof_book.specs.Book.{isoOf}
+use Rattle.proof_book.specs.Allocated.{Sorts, sortsAfter}
+use Rattle.proof_book.specs.Loads.{Heard, hears, hearing, valuesOf, lastIn, loadsIn, Loads, SentAll}
+use Rattle.proof_book.specs.FrontPage.{Decides, Compared, Sentences, same, AfterCall, LengthWritten, inInterrupt}
 use Rattle.proof_book.specs.FrontPage as page
 use Rattle.proof_book.specs.FrontPageLaws.{demand-3}
 use Rattle.proof_contracts.specs.SharedPage.{MadeShared, outcomeOf, CallStep, Calls, noted, AfterEach}
 use Rattle.proof_contracts.specs.SharedPage.{LengthIs, LengthsEach, OthersStay, OthersEach, madeOf}
 use Rattle.proof_contracts.specs.SharedPage.{ArrivalsEach, OrderEach, LoadLength, ConfigKept, WritesEach}
+use Rattle.proof_contracts.specs.SharedPage.{LoadIs, NoneUnsent, LoadsEach, SortsEach}
 use Rattle.proof_contracts.specs.SharedPage.{SharedDemand3}
 use Rattle.proof_contracts.specs.SharedCall.{as-shared}
 use Rattle.proof_contracts.specs.SharedRuns.{AgreedAll, agreed-all}
@@ -182,6 +186,36 @@ module _ (i : ℕ) (xs : List ℕ) (a : Buf) (m : MadeShared) (n : Machine Answe
       → LengthWritten (sendsTo (k .asked) e) y (n .st .ins e) (t .ins e))
       (λ dir e j y f z v l p. let w : _≡_ {A = ℕ} 0 1 = cc in absurd (omega arith))
 
+  loads-made : (k : Heard) → page.LoadIs alone n k → LoadIs i m n k
+  loads-made k = as-made (λ c x t. (e v : ℕ) → e < 16 → c ≡ continue v → inInterrupt (n .under-way) ≡ true
+      → Loads (hears v k) (valuesOf (n .st) e) e (lastIn (n .st) e) (lastIn t e) (loadsIn (k .known .asked) x e))
+      (λ dir e j y f v l p. let w : _≡_ {A = ℕ} 0 1 = cc in absurd (omega arith))
+
+  unsent-made : (k : Heard) → page.NoneUnsent alone n k → NoneUnsent i m n k
+  unsent-made k = as-made (λ c x t. (e v r : ℕ) (ws : List ℕ) → e < 16 → c ≡ continue v → inInterrupt (n .under-way)
+      ≡ true
+      → x ≡ ended (End r ws)
+      → SentAll (hears v k) (valuesOf (n .st) e) e (lastIn t e) (t .kept .globals .«sof_frame»))
+      (λ dir e j y f v r ws l p. let w : _≡_ {A = ℕ} 0 1 = cc in absurd (omega arith))
+
+  sorts-made : (f : Sorts)
+      → ((d : Dir) (e : ℕ) → isoOf (page.bookAfter alone n .1 .st) d e
+      ≡ sortsAfter (alone .event .call) (alone .answer) (n .st .kept .allocator) f d e)
+      → (d : Dir) (e : ℕ) → isoOf (noted i m n .1 .st) d e
+      ≡ sortsAfter (m .event .call) (m .answer) (n .st .kept .allocator) f d e
+  sorts-made f = as-made (λ c x t. (d : Dir) (e : ℕ) → isoOf t d e ≡ sortsAfter c x (n .st .kept .allocator) f d e)
+      (λ dir e j y. y)
+
+  sorts-same : (f : Sorts) → sortsAfter (alone .event .call) (alone .answer) (n .st .kept .allocator) f
+      ≡ sortsAfter (m .event .call) (m .answer) (n .st .kept .allocator) f
+  sorts-same f = as-made (λ c x t. sortsAfter (alone .event .call) (alone .answer) (n .st .kept .allocator) f
+      ≡ sortsAfter c x (n .st .kept .allocator) f) (λ dir e j y. y) refl
+
+  heard-same : (k : Heard) → hearing (alone .event .call) (alone .answer) (n .st) k
+      ≡ hearing (m .event .call) (m .answer) (n .st) k
+  heard-same k = as-made (λ c x t. hearing (alone .event .call) (alone .answer) (n .st) k ≡ hearing c x (n .st) k)
+      (λ dir e j y. y) refl
+
   config-made : page.ConfigKept alone n → ConfigKept i m n
   config-made = as-made (λ c x t. (v : ℕ) → x ≡ handed (Write EpConfig 0 v) → t .kept .globals .«ep_config» ≡ v)
       (λ dir e j y v p. let w : _≡_ {A = ℕ} 0 1 = cc in absurd (omega arith))
@@ -240,6 +274,33 @@ writes-each i (m ∷ ms) xs a n run goes k y = (
       (sym (goes .0)) (learnt-same i xs a m n (run .0) (goes .0) k) (y .2)),
 )
 
+-- the loads, with what was brought
+loads-each : (i : ℕ) (ms : List MadeShared) (xs : List ℕ) (a : Buf) (n : Machine Answer Pages)
+    → Calls i xs a n ms → NotedAll i xs a n ms
+    → (k : Heard) → page.LoadsEach n k (allAlone i xs a ms) → LoadsEach i n k ms
+loads-each i [] xs a n run goes k y = tt
+loads-each i (m ∷ ms) xs a n run goes k y = (
+  loads-made i xs a m n (run .0) (goes .0) k (y .0),
+  unsent-made i xs a m n (run .0) (goes .0) k (y .1),
+  loads-each i ms (m .bytes) (m .slots) (noted i m n .1) (run .2) (goes .2)
+      (hearing (m .event .call) (m .answer) (n .st) k)
+      (subst₂ (λ (z : Machine Answer Pages) (l : Heard). page.LoadsEach z l (allAlone i (m .bytes) (m .slots) ms))
+      (sym (goes .0)) (heard-same i xs a m n (run .0) (goes .0) k) (y .2)),
+)
+
+-- which endpoints are isochronous, with what was allocated
+sorts-each : (i : ℕ) (ms : List MadeShared) (xs : List ℕ) (a : Buf) (n : Machine Answer Pages)
+    → Calls i xs a n ms → NotedAll i xs a n ms
+    → (f : Sorts) → page.SortsEach n f (allAlone i xs a ms) → SortsEach i n f ms
+sorts-each i [] xs a n run goes f y = tt
+sorts-each i (m ∷ ms) xs a n run goes f y = (
+  sorts-made i xs a m n (run .0) (goes .0) f (y .0),
+  sorts-each i ms (m .bytes) (m .slots) (noted i m n .1) (run .2) (goes .2)
+      (sortsAfter (m .event .call) (m .answer) (n .st .kept .allocator) f)
+      (subst₂ (λ (z : Machine Answer Pages) (g : Sorts). page.SortsEach z g (allAlone i (m .bytes) (m .slots) ms))
+      (sym (goes .0)) (sorts-same i xs a m n (run .0) (goes .0) f) (y .1)),
+)
+
 -- the arrivals with what was brought and lent, their order with what was decided
 arrivals-each : (i : ℕ) (ms : List MadeShared) (xs : List ℕ) (a : Buf) (n : Machine Answer Pages)
     → Calls i xs a n ms → NotedAll i xs a n ms
@@ -277,4 +338,6 @@ shared-demand-3 i c b row xs a n first is-start ms run =
       λ k. arriving .0 k (alone .3 k),
       λ b. arriving .1 b (alone .4 b),
       λ k. writes-each i (first ∷ ms) xs a n run goes k (alone .5 k),
+      λ k. loads-each i (first ∷ ms) xs a n run goes k (alone .7 k),
+      λ f. sorts-each i (first ∷ ms) xs a n run goes f (alone .8 f),
     )

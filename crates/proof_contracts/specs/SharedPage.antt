@@ -1,7 +1,7 @@
 -- Demand 3 with the record of bus time, to be read beside proof_book/specs/FrontPage.antt: every public call is in its
 -- lists, those that bring the record and an
 -- enabling that row 19 stops too. Definitions only. `shared-demand-3` (SharedDemand3.antt) is the theorem
-use mathlib.Core.Bool.{false}
+use mathlib.Core.Bool.{true, false}
 use mathlib.Core.List.{List, [], _∷_, _++_}
 use mathlib.Core.Path.{_≡_}
 use Prim.Native.Nat.{ℕ, zero, _<_}
@@ -9,9 +9,9 @@ use lib.ListN.{length}
 use Rattle.regs.specs.declared.Access.the-variants.{Write}
 use Rattle.regs.specs.declared.Reg.the-variants.{EpTLen, EpConfig}
 use Rattle.regs.specs.declared.Dir.{Dir}
-use Rattle.script.specs.Answers.{Answer}
+use Rattle.script.specs.Answers.{Answer, End}
 use Rattle.script.specs.Calls.{Config, Op, startRow}
-use Rattle.script.specs.Machine.{Buf, Event, start, continue, Machine, Ans, handed, blankA}
+use Rattle.script.specs.Machine.{Buf, Event, start, continue, Machine, Ans, ended, handed, blankA}
 use Rattle.machine.specs.Suspended.{machineOf}
 use Rattle.answer.specs.Goes.{StepResult}
 use Rattle.calls.specs.Sharing.{sortOf, sharedCall}
@@ -19,8 +19,11 @@ use Rattle.proof_book.specs.Pages.{Packet, Pages}
 use Rattle.proof_book.specs.Lengths.{Known, learnt, lengthAt}
 use Rattle.proof_book.specs.Others.{releasing, sendsTo, Names, underWay, callNames, Away, SamePage}
 use Rattle.proof_book.specs.Arrivals.{Note, after, above}
+use Rattle.proof_book.specs.Book.{isoOf}
+use Rattle.proof_book.specs.Allocated.{Sorts, sortsAfter}
+use Rattle.proof_book.specs.Loads.{Heard, hears, hearing, valuesOf, lastIn, loadsIn, Loads, SentAll}
 use Rattle.proof_book.specs.FrontPage.{CallRecord, BufferPreserved, Decides, AfterCall, ArrivalIs, NoneMissed, InOrder}
-use Rattle.proof_book.specs.FrontPage.{LengthWritten}
+use Rattle.proof_book.specs.FrontPage.{LengthWritten, inInterrupt}
 use Rattle.proof_contracts.specs.SharedBook.{sharedStep, timeIn}
 
 -- a call that was made: the call and the slot buffer it was lent; the record before it; its answer; the state's
@@ -114,6 +117,31 @@ abbrev pub LoadLength : ℕ → MadeShared → Machine Answer Pages → Known �
 LoadLength i m n k = (e x v : ℕ) → 0 < e → m .event .call ≡ continue v → m .answer ≡ handed (Write EpTLen e x)
     → LengthWritten (sendsTo (k .asked) e) x (n .st .ins e) (noted i m n .1 .st .ins e)
 
+-- which IN endpoints an interrupt loads, and that it has loaded all it had to (LoadIs and NoneUnsent of FrontPage.antt)
+abbrev pub LoadIs : ℕ → MadeShared → Machine Answer Pages → Heard → Type 0
+LoadIs i m n k = (e v : ℕ) → e < 16 → m .event .call ≡ continue v → inInterrupt (n .under-way) ≡ true
+    → Loads (hears v k) (valuesOf (n .st) e) e (lastIn (n .st) e) (lastIn (noted i m n .1 .st) e)
+    (loadsIn (k .known .asked) (m .answer) e)
+
+abbrev pub NoneUnsent : ℕ → MadeShared → Machine Answer Pages → Heard → Type 0
+NoneUnsent i m n k = (e v r : ℕ) (ws : List ℕ) → e < 16 → m .event .call ≡ continue v → inInterrupt (n .under-way)
+    ≡ true
+    → m .answer ≡ ended (End r ws)
+    → let t = noted i m n .1 .st in
+    SentAll (hears v k) (valuesOf (n .st) e) e (lastIn t e) (t .kept .globals .«sof_frame»)
+
+abbrev pub LoadsEach : ℕ → Machine Answer Pages → Heard → List MadeShared → Type 0
+LoadsEach i n k [] = Unit {0}
+LoadsEach i n k (m ∷ ms) = LoadIs i m n k × NoneUnsent i m n k
+    × LoadsEach i (noted i m n .1) (hearing (m .event .call) (m .answer) (n .st) k) ms
+
+-- which endpoints are isochronous is what the allocations say (SortsEach of FrontPage.antt)
+abbrev pub SortsEach : ℕ → Machine Answer Pages → Sorts → List MadeShared → Type 0
+SortsEach i n f [] = Unit {0}
+SortsEach i n f (m ∷ ms) =
+    let g = sortsAfter (m .event .call) (m .answer) (n .st .kept .allocator) f in
+    ((d : Dir) (e : ℕ) → isoOf (noted i m n .1 .st) d e ≡ g d e) × SortsEach i (noted i m n .1) g ms
+
 -- ep_config is kept as it is written (ConfigKept of FrontPage.antt)
 abbrev pub ConfigKept : ℕ → MadeShared → Machine Answer Pages → Type 0
 ConfigKept i m n =
@@ -132,4 +160,5 @@ SharedDemand3 = (i : ℕ) (c : Config) (b : Buf) → startRow c b ≡ zero
     → AfterEach i n (first ∷ ms) × ((k : Known) → LengthsEach i n k (first ∷ ms))
     × ((k : Names) → OthersEach i n k (first ∷ ms))
     × ((k : Note) → ArrivalsEach i n k (first ∷ ms)) × ((k : ℕ) → OrderEach i n k (first ∷ ms))
-    × ((k : Known) → WritesEach i n k (first ∷ ms))
+    × ((k : Known) → WritesEach i n k (first ∷ ms)) × ((k : Heard) → LoadsEach i n k (first ∷ ms))
+    × ((f : Sorts) → SortsEach i n f (first ∷ ms))

@@ -40,6 +40,12 @@ use Rattle.proof_stale.specs.Stale.{NoneStaleEach, OwnEach, NoArrivalEach, Deci
 use Rattle.proof_stale.specs.NothingStaleLaws.{nothing-stale}
 use Rattle.proof_stale.specs.OwnSlotLaws.{own-slots, nothing-arrives}
 use Rattle.proof_stale.specs.StoredSinceLaws.{decided-stored}
+use Rattle.proof_stale.specs.Samples.{Each, Unmarked, packed, SamplesEach}
+use Rattle.proof_stale.specs.SamplesLaws.{samples-whole}
+use Rattle.proof_book.specs.Lengths.{Known, learnt}
+use Rattle.proof_book.specs.Watched.{WatchedBook, watched, RunLent}
+use Rattle.proof_book.specs.LateArrival.{JoinEach}
+use Rattle.proof_book.specs.LateArrivalLaws.{late-arrivals}
 use Rattle.proof_book.specs.Stamping.{not-yet, StampsMade}
 use Rattle.proof_book.specs.StampingLaws.{code-stamps}
 use Rattle.proof_book.specs.CodeReadings.{Steps, bytesAfter, slotsAfter, readBy, code-4056}
@@ -214,6 +220,28 @@ module _ (i : ℕ) (c : Config) (b : Buf) (row : startRow c b ≡ zero) (xs : Li
   shared-decided-stored ms run e =
       decided-stored c b row xs a n (madeAlone i xs a first) (start-alone i c b xs a first is-start)
       (allAlone i (first .bytes) (first .slots) ms) (code-alone i c b row xs a n first is-start ms run) e
+
+  -- a packet of whole samples is never short and never lost to the mark; a late packet joins as it was received
+  -- (request Eight)
+  pub shared-samples-whole : (ms : List MadeShared) → Calls i xs a n (first ∷ ms)
+      → (e k : ℕ) (vs : List ℕ) → Each Unmarked vs → (y : Machine Answer WatchedBook)
+      → let one = madeAlone i xs a first in let es = allAlone i (first .bytes) (first .slots) ms in
+      let z = started calls (watched e .driver) (fed (watched e) (one .answer)) c zero y b in
+      RunLent e k (packed vs) (one .bytes) (one .slots) (z .1) es → (f : Known)
+      → SamplesEach e k vs (one .slots) (page.bookAfter one n .1) (learnt (one .event .call) (one .answer) f) (z .1) es
+  shared-samples-whole ms run e k vs unmarked y =
+      samples-whole e k vs unmarked c b row xs a n y (madeAlone i xs a first) (start-alone i c b xs a first is-start)
+      (allAlone i (first .bytes) (first .slots) ms) (code-alone i c b row xs a n first is-start ms run)
+
+  pub shared-late-arrivals : (ms : List MadeShared) → Calls i xs a n (first ∷ ms)
+      → (e k : ℕ) (packet : List ℕ) (y : Machine Answer WatchedBook)
+      → let one = madeAlone i xs a first in let es = allAlone i (first .bytes) (first .slots) ms in
+      let z = started calls (watched e .driver) (fed (watched e) (one .answer)) c zero y b in
+      RunLent e k packet (one .bytes) (one .slots) (z .1) es → (f : Known)
+      → JoinEach e k packet (page.bookAfter one n .1) (learnt (one .event .call) (one .answer) f) (z .1) es
+  shared-late-arrivals ms run e k packet y =
+      late-arrivals e k packet c b row xs a n y (madeAlone i xs a first) (start-alone i c b xs a first is-start)
+      (allAlone i (first .bytes) (first .slots) ms) (code-alone i c b row xs a n first is-start ms run)
 
   -- "no slot being sent is written" (demand 3)
   pub shared-slots-stay : (before : List MadeShared) (hands : MadeShared) (further : List MadeShared)

@@ -114,8 +114,7 @@ record-kept r s p overruns room g h e n x =
 
 pub record-flushed : (r s : Recorder) (p : Packet) (overruns : ℕ) (room after-end : List ℕ) (g : Ring) (left : ℕ)
     → refuses r p room ≡ false
-    → g ≡ recordRing p (ringIn r room) → (g .writer .number ≡ r .from → ⊥) → after-end
-    ≡ endRoom (endRecord 0 (r .survey) overruns) g
+    → g ≡ recordRing p (ringIn r room) → (g .writer .number ≡ r .from → ⊥) → after-end ≡ endRoom (endRecord 0 (r .survey) overruns) g
     → left ≡ leftOf (g .writer .number) (r .from) → s ≡ after r (g .writer) left
     → (Stores s ≡ recordOf r p room) × (after-end ≡ recordRoom r p overruns room)
 unfolding recordOf recordRoom

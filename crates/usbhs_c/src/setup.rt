@@ -37,7 +37,7 @@ fn fill(packet: &mut [u8; 8], low: u32, high: u32)
 }
 
 // The word of setup's poll, with the packet's bytes; no other answer of it brings any.
-pub fn setup_word(packet: &mut [u8; 8], step: Step) -> u64
+pub(crate) fn setup_word(packet: &mut [u8; 8], step: Step) -> u64
     requires { ⌜ NoSlice step ⌝ }
     ensures { λ r. ⌜ Worded r (λ t. (d : Driver) → answerOf t (now (packet .exit)) d ≡ answerOf step [] d) ⌝ }
     ensures { λ _. ⌜ ((d : Driver) → now (packet .exit) ≡ lentBy (answerOf step [] d) (now (packet .entry))) ⌝ }
