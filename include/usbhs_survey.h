@@ -112,10 +112,12 @@ uint64_t usbhs_card_finish(const uint32_t writer[USBHS_WRITER_LEN], uint8_t *blo
 
 /* A recorder, for a card that is written over and not erased. What it stores is a stream as above, and it
  * says at every moment where it ends: behind the packets there is an end record of the recorder's own, and
- * filler behind that in the same block. A reader of the whole card gives the packets recorded, then the end
- * record, and nothing older, wherever the power goes: the block that is being stored may then hold anything
- * that fails its check. (usbhs_card_write alone does not do this: a card that it writes over must be erased
- * first, or a reader goes on in the older stream behind the new one's last block.)
+ * filler behind that in the same block. From the moment its first block is stored, wherever the power goes, a
+ * reader of the whole card gives the packets whose blocks are stored, then the end record, and nothing older.
+ * The block that is being stored may then hold anything that fails its check: packets that have bytes in it
+ * are lost, also one that was stored before and ends in it. What a finish has stored is not written again.
+ * (usbhs_card_write alone does not do this: a card that it writes over must be erased first, or a reader goes
+ * on in the older stream behind the new one's last block.)
  *
  * You lend it a room of four blocks and six numbers, which stay as they are between the calls. Block k lies
  * at (k % 4) * 512 in the room. After each call you store what it asks for, in this order:
@@ -134,8 +136,9 @@ uint64_t usbhs_card_finish(const uint32_t writer[USBHS_WRITER_LEN], uint8_t *blo
  *     }
  *
  * What you must keep: a store has ended before you call usbhs_recorder_stored; where it failed, or its place
- * lies behind the card's end, you record no more (the card then reads as if the power had gone there).
- * The survey has begun when its first block is stored.
+ * lies behind the card's end, you record no more (the card then reads as if the power had gone there). A
+ * store changes no other block. The card has at most 2^32 - 4 blocks. The survey has begun when its first
+ * block is stored: until then, and where that store is torn, the card is still the older survey's.
  *
  * The recorder's records are packets on endpoint USBHS_RECORDER, which no stream may use. Byte 0 is the kind:
  * 0 (or no byte at all) padding, all zeros; 1 the begin of a survey; 2 stamp and losses, which you record
@@ -150,8 +153,8 @@ uint64_t usbhs_card_finish(const uint32_t writer[USBHS_WRITER_LEN], uint8_t *blo
 #define USBHS_STORE_BLOCK(recorder, room) ((room) + USBHS_STORE_PLACE(recorder) % 4u * USBHS_BLOCK_LEN)
 
 /* Each ends with the number of blocks to be stored, 0 to 4.
- * Row 21: a room that is not USBHS_ROOM_LEN bytes, blocks of the call before not stored yet, a packet of
- * more than 1,024 bytes, endpoint 0 or above 15. */
+ * Row 21: a room that is not USBHS_ROOM_LEN bytes, a packet of more than 1,024 bytes, endpoint 0 or above
+ * 15; for a packet and a finish also blocks of the call before that are not stored yet. */
 uint64_t usbhs_recorder_begin(uint32_t recorder[USBHS_RECORDER_LEN], uint8_t *room, usbhs_length room_length,
     uint32_t survey);
 uint64_t usbhs_record(uint32_t recorder[USBHS_RECORDER_LEN], uint8_t *room, usbhs_length room_length,

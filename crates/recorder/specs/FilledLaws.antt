@@ -12,7 +12,7 @@ use lib.Seq.{drop-drop}
 use Rattle.card.specs.Packet.{Packet, Writable, packetBytes, size, dataOf}
 use Rattle.card.specs.Kept.{firstIn}
 use Rattle.card.specs.Written.{blockOf, blocksFrom}
-use Rattle.card.specs.Places.{length-block}
+use Rattle.card.specs.Places.{length-block, block-data}
 use Rattle.card.specs.Begins.{data-append, data-at, closed-is}
 use Rattle.card.specs.declared.writer.Writer.{Writer}
 use Rattle.card.specs.Writing.{usedOf, writerOf, fullOf, wholeOf, pieceOf, doneAfter, firstOf, closed, pieceIn}
@@ -21,7 +21,7 @@ use Rattle.card.specs.Pieces.{block-full, done-whole, done-part, finish-last}
 use Rattle.card.specs.WriterRuns.{Desk, Lends, after}
 use Rattle.card.specs.Stream.{So, begun, piece-bounds, used-is, done-is, full-is, whole-is, closes, after-call}
 use Rattle.card.specs.Stream.{length-snoc, filled-up, filled-long, filled-held}
-use Rattle.recorder.specs.Ring.{Ring, slotIn, putIn, pieceRing, packetRing, filledRoom, endRoom}
+use Rattle.recorder.specs.Ring.{Ring, ringOf, slotIn, putIn, pieceRing, packetRing, filledRoom, endRoom}
 use Rattle.recorder.specs.RingLaws.{slot-long, ring-whole, ring-part}
 use Rattle.recorder.specs.FlushLaws.{mid-same, mid-other, mid-long, block-settled}
 use Rattle.recorder.specs.Filled.{InRing}
@@ -400,3 +400,21 @@ module _ (xs : List Packet) (e : Packet) (g : Ring) (n : ℕ) (fine : Writable e
         (length-block all last-block) (λ q. omega arith)
         ∙ placed-end .full k x (omega (arith, same-block))
   ]
+
+  -- the writer stays before the end, and the room still has what is written
+  pub end-stays : InRing xs (ringOf (g .writer) (endRoom e g)) n (length (dataOf xs)) 0 xs
+  end-stays = record {
+    long = ap length end-room-is
+        ∙ room-long (pieceRing e g .room) last-block (blockOf all last-block) (placed-end .long)
+        (length-block all last-block);
+    number = r .number;
+    used = r .used;
+    done = r .done;
+    first = r .first;
+    full = λ k x y. end-ring k x (omega arith) ∙ block-settled xs (e ∷ []) k (omega arith);
+    held = λ i x.
+        ap (λ (l : List ℕ). getD l (6 + i) 0) (end-ring last-block low (omega arith))
+        ∙ block-data all last-block i (omega arith)
+        ∙ ap (λ (l : List ℕ). getD l (last-block * 504 + i) 0) (data-append xs (e ∷ []))
+        ∙ List·getD-append (dataOf xs) (dataOf (e ∷ [])) 0 (last-block * 504 + i) (omega arith);
+  }

@@ -8,3 +8,12 @@ pub mod Flush
 pub mod FlushLaws
 pub mod Filled
 pub mod FilledLaws
+pub mod Survives
+pub mod KeptLaws
+pub mod Sound
+pub mod GrownLaws
+pub mod CallsLaws
+pub mod StoresLaws
+pub mod SurvivesLaws
+pub mod Brought
+pub mod BroughtLaws

@@ -64,8 +64,7 @@ recordOf r p room = cond (refuses r p room) (Refused 21) (Stores (flushed r (rec
 unfoldable pub recordRoom : Recorder → Packet → ℕ → List ℕ → List ℕ
 recordRoom r p overruns room =
     let g = recordRing p (ringIn r room) in
-    cond (refuses r p room) room (cond (eqb (g .writer .number) (r .from)) (g .room)
-    (endRoom (endRecord 0 (r .survey) overruns) g))
+    cond (refuses r p room) room (cond (eqb (g .writer .number) (r .from)) (g .room) (endRoom (endRecord 0 (r .survey) overruns) g))
 
 -- ---- the finish
 

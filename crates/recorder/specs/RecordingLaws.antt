@@ -24,8 +24,7 @@ left-low number from h =
     let m : min (number - from) 3 ≡ 0 = omega arith in
     rw (ne-eqb number from (λ e. omega arith), m)
 
-pub left-some : (number from r : ℕ) → from < number → (number - from < 3) × (r ≡ number - from + 1) → r
-    ≡ leftOf number from
+pub left-some : (number from r : ℕ) → from < number → (number - from < 3) × (r ≡ number - from + 1) → r ≡ leftOf number from
 unfolding leftOf
 left-some number from r h e =
     let m : min (number - from) 3 ≡ number - from = omega (arith, e .0) in
@@ -115,8 +114,7 @@ record-kept r s p overruns room g h e n x =
 
 pub record-flushed : (r s : Recorder) (p : Packet) (overruns : ℕ) (room after-end : List ℕ) (g : Ring) (left : ℕ)
     → refuses r p room ≡ false
-    → g ≡ recordRing p (ringIn r room) → (g .writer .number ≡ r .from → ⊥) → after-end
-    ≡ endRoom (endRecord 0 (r .survey) overruns) g
+    → g ≡ recordRing p (ringIn r room) → (g .writer .number ≡ r .from → ⊥) → after-end ≡ endRoom (endRecord 0 (r .survey) overruns) g
     → left ≡ leftOf (g .writer .number) (r .from) → s ≡ after r (g .writer) left
     → (Stores s ≡ recordOf r p room) × (after-end ≡ recordRoom r p overruns room)
 unfolding recordOf recordRoom

@@ -10,9 +10,11 @@ use Rattle.bits.specs.Bytes.{number}
 use Rattle.bits.specs.Runs.{Same}
 use Rattle.bits.specs.TablesLaws.{lt-or-ge}
 use Rattle.bits.specs.Injective.{tells-number, tells-numbers, one-tells, table-tells}
+use Rattle.regs.specs.declared.Dir.{Dir}
 use Rattle.state.specs.Codec as codec
-use Rattle.state.specs.Driver.{Driver, noEp, noRequest}
+use Rattle.state.specs.Driver.{Driver, noEp, noRequest, epOn, withOn}
 use Rattle.state.specs.State.{epIn, allocatorIn, globalsIn, requestIn, controlIn, savedIn, view, saved}
+use Rattle.state.specs.Laws.{withOn-back}
 
 -- a state's bytes
 pub record Bytes (xs : List ℕ) : Type 0 where
@@ -64,3 +66,8 @@ determined xs ys x y v s =
     (λ bs cs l m p q e. tells-numbers codec.controlWidths bs cs l m p q (ap codec.controlAs e))
     (ap (λ (d : Driver). d .control) v))))))))))) in
     ext-getD 0 ys xs (y .long ∙ sym (x .long)) (λ i b. all i (omega arith) (omega (arith, y .long)))
+
+-- an endpoint's record, stored as it was loaded; the other records likewise, by `put-back` (Laws.antt)
+pub stored-back : (xs ys : List ℕ) (dir : Dir) (e : ℕ)
+    → Bytes xs → Bytes ys → view ys ≡ withOn (view xs) dir e (epOn (view xs) dir e) → saved ys ≡ saved xs → ys ≡ xs
+stored-back xs ys dir e x y v s = determined xs ys x y (v ∙ withOn-back (view xs) dir e) s

@@ -9,3 +9,5 @@ pub mod Descriptor
 pub mod DescriptorLaws
 pub mod Recorder
 pub mod RecorderLaws
+pub mod RecorderRuns
+pub mod RecorderRunsLaws

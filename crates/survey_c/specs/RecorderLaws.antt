@@ -10,6 +10,14 @@ use borrow.Author.Tests.{lt-ltb}
 use Rattle.card.specs.Packet.{Packet, packetOf}
 use Rattle.recorder.specs.declared.recorder.Recorder.{Recorder}
 use Rattle.recorder.specs.Recording.{refuses, recordOf, recordRoom}
+use Rattle.survey_c.specs.Recorder.{recorderIn, recorderNumbers}
+
+pub recorder-back : (r : Recorder) → r .used < 65536 → r .first < 65536 → recorderIn (recorderNumbers r) ≡ r
+unfolding recorderIn recorderNumbers
+recorder-back r h l =
+    let u : r .used % 65536 ≡ r .used = omega arith in
+    let f : r .first % 65536 ≡ r .first = omega arith in
+    rw (u, f)
 
 -- an endpoint above 15 is refused, whichever it is
 refuses-high : (r : Recorder) (p : Packet) (room : List ℕ) → 15 < p .endpoint → refuses r p room ≡ true
