@@ -15,3 +15,5 @@ pub mod GrownLaws
 pub mod CallsLaws
 pub mod StoresLaws
 pub mod SurvivesLaws
+pub mod Brought
+pub mod BroughtLaws
