@@ -1,4 +1,5 @@
--- What one of the two runs gets alone: the continues of the channel's own accesses, its opens, closes and polls
+-- What one of the two runs gets alone: the continues of the channel's own accesses, its opens, closes and polls; and at
+-- any access a continue that is refused
 use mathlib.Core.Bool.{Bool, true, false, true≢false}
 use mathlib.Core.List.{List}
 use mathlib.Core.Path.{_≡_, refl, subst, sym, _∙_}
@@ -33,12 +34,13 @@ use Rattle.proof_isolation.specs.OwnReadingLaws.{own-polls}
 use Rattle.proof_isolation.specs.Stores.{OwnLent}
 use Rattle.proof_isolation.specs.StoresLaws.{own-like}
 use Rattle.calls.specs.SparesLaws.{spares-on}
-use Rattle.proof_isolation.specs.Schedule.{Run, Two, accessOf, runBy, ownBy, alone, stateOf, Timely, wide, atOwn}
-use Rattle.proof_isolation.specs.Schedule.{OwnCall, own-row1, own-lent, Alone}
+use Rattle.proof_isolation.specs.Schedule.{Run, Two, accessOf, runBy, ownBy, alone, apart, stateOf, Timely, wide}
+use Rattle.proof_isolation.specs.Schedule.{refusing, atOwn, OwnCall, own-row1}
+use Rattle.proof_isolation.specs.Schedule.{own-lent, Alone, Refuses, back-row1, back-lent}
 use Rattle.proof_isolation.specs.Standing.{machineOf, stops, runOf, own-no, Told, telling, telling-own, Orderly}
 use Rattle.proof_isolation.specs.Standing.{At, at}
 use Rattle.proof_isolation.specs.StandingLaws.{past-no, time-spared}
-use Rattle.proof_isolation.specs.Runs.{go-busy, go-wide, go-unfit, begin-idle, begin-unfit, aside-busy}
+use Rattle.proof_isolation.specs.Runs.{go-idle, go-busy, go-wide, go-unfit, begin-idle, begin-unfit, aside-busy}
 use Rattle.proof_isolation.specs.Runs.{aside-late, spares-put, row-one}
 use Rattle.proof_isolation.specs.RunsLaws.{through-one}
 
@@ -68,7 +70,7 @@ module _ {c : Channel} {st : ℕ} where
   pub lawful-busy : {q : Access} {s : St} {k : ℕ → St → tree.Out St Answer} {u : tree.Out St Answer}
       → ApartBy c st true (SameAnswer (c .number)) true (asks q s k) u → Lawful (c .iso) quiet s
   lawful-busy (both quiet z w w′ l f) = l .left
-  lawful-busy (both (mid g n) z w w′ l f) = absurd z
+  lawful-busy (both (mid g n) z w w′ l f) = absurd (z .0)
   lawful-busy (left w p z f) = z
   lawful-busy (right {t = t} w p z f) = lawful-busy (f sof t (touched-refl z))
   lawful-busy (owns w w′ l f f′) = l .left
@@ -77,7 +79,7 @@ module _ {c : Channel} {st : ℕ} where
       → ApartBy c st true (SameAnswer (c .number)) true (asks q s k) u → Touched c quiet s s′
       → ApartBy c st true (SameAnswer (c .number)) true (asks q s′ k) u
   touch-busy (both quiet z w w′ l f) m = both quiet z w w′ (touch m l) f
-  touch-busy (both (mid g n) z w w′ l f) m = absurd z
+  touch-busy (both (mid g n) z w w′ l f) m = absurd (z .0)
   touch-busy (left w p z f) m = left w p (m .right) (λ v s u. f v s (touched-trans m u))
   touch-busy (right w (waits n) z f) m = right w (waits n) z (λ v t u. touch-busy (f v t u) m)
   touch-busy (owns w w′ l f f′) m = owns w w′ (touch m l) f f′
@@ -88,7 +90,7 @@ module _ {c : Channel} {st : ℕ} where
       → Told l b b′ → Told (touch-busy l m) b b′
   unfolding touch-busy
   told-busy (both quiet z w w′ l f) m b b′ h = h
-  told-busy (both (mid g n) z w w′ l f) m b b′ h = absurd z
+  told-busy (both (mid g n) z w w′ l f) m b b′ h = absurd (z .0)
   told-busy (left w p z f) m b b′ h = h
   told-busy (right w (waits n) z f) m b b′ h = h
   told-busy (owns w w′ l f f′) m b b′ h = tt
@@ -319,3 +321,52 @@ module _ (c : Channel) (share : Bool) (n : ℕ) where
   alone-by st i {x} {u} l q q′ {a} {a′} {t} {t′} h k k′ e (question d) b m =
       subst (λ b. At c (one st i (alone share n (question d) b (runOf i x q a t)) u q′ a′ t′)) (sym m)
       (at st i l q q′ h k k′ e)
+
+  -- ---- a continue that is refused
+
+  -- during an operation that is no interrupt
+  back-late : (st : ℕ) {p : Access} {s : St} {g : ℕ → St → tree.Out St Answer} {u : tree.Out St Answer}
+      (l : ApartBy c st false (SameAnswer (c .number)) true (asks p s g) u) (q q′ : Access) {a a′ : Ans Answer}
+      {t t′ : List ℕ}
+      → Told l a a′ → Orderly false (asks p s g) a → Orderly false u a′ → t ≡ t′ → (v : ℕ) (b : Buf)
+      → refusing (busy false (awaited p) g) v ≡ true → OwnLent c s b
+      → At c (one st false (apart share n (continue v) b (runOf false (asks p s g) q a t)) u q′ a′ t′)
+  back-late st (both {q = p} {s = s} {t = t} {k = g} {k′ = g′} φ z w w′ l f) q q′ {a = a} {a′ = a′} {t = r} {t′ = r′} h
+      k k′ e v b x m =
+      let d = own-like (l .left) m in
+      through-one (λ y. At c (one st false (ownBy p a (y, timeAfter n going (y .0) (s .0) r)) (asks p t g′) q′ a′ r′))
+      (go-wide c s b (d .right) false p g v x) (rooms (continue v) (k .room) b)
+      (λ x. at st false (both φ z w w′ (touch d l) f) p q′ h
+      (record { spares = λ j. absurd (true≢false (sym j)); few = k .few; room = x .machine }) k′ e)
+  back-late st (left w p z f) q q′ h k k′ e v b x m = absurd (true≢false (sym (w .0)))
+  back-late st (right w p z f) q q′ h k k′ e v b x m = absurd (true≢false (sym (w .0)))
+  back-late st (owns w w′ l f f′) q q′ h k k′ e v b x m = absurd (true≢false (sym (w .0)))
+
+  back-by : (st : ℕ) (i : Bool) (x : tree.Out St Answer) {u : tree.Out St Answer}
+      (l : ApartBy c st i (SameAnswer (c .number)) true x u) (q q′ : Access) {a a′ : Ans Answer} {t t′ : List ℕ}
+      → Told l a a′ → Orderly i x a → Orderly i u a′ → t ≡ t′ → (v : ℕ) (b : Buf)
+      → refusing (stops i x .1 .under-way) v ≡ true → OwnLent c (stops i x .1 .st, stops i x .1 .buf) b
+      → At c (one st i (apart share n (continue v) b (runOf i x q a t)) u q′ a′ t′)
+  back-by st i (ends y s) {u} l q q′ {a = a} {a′ = a′} {t = r} {t′ = r′} h k k′ e v b z m =
+      let d = own-like (lawful-rests l) m in
+      through-one (λ y. At c (one st i (ownBy q a (y, timeAfter n going (y .0) (s .0) r)) u q′ a′ r′))
+      (go-idle c s b (d .right) v) (rooms (continue v) (k .room) b)
+      (λ x. at st i (touch-rests l d) q q′ (told-rests l d a a′ h)
+      (record { spares = λ _. at-end tt; few = k .few; room = x .machine }) k′ e)
+  back-by st true (asks p s g) {u} l q q′ {a = a} {a′ = a′} {t = r} {t′ = r′} h k k′ e v b z m =
+      let d = own-like (lawful-busy l) m in
+      through-one (λ y. At c (one st true (ownBy p a (y, timeAfter n going (y .0) (s .0) r)) u q′ a′ r′))
+      (go-wide c s b (d .right) true p g v z) (rooms (continue v) (k .room) b)
+      (λ x. at st true (touch-busy l d) p q′ (told-busy l d a a′ h)
+      (record { spares = λ j. spares-put (s .0, b) (k .spares j); few = k .few; room = x .machine }) k′ e)
+  back-by st false (asks p s g) l q q′ h k k′ e v b z m = back-late st l q q′ h k k′ e v b z m
+
+  pub refused-by : (st : ℕ) (i : Bool) {x u : tree.Out St Answer} (l : ApartBy c st i (SameAnswer (c .number)) true x u)
+      (q q′ : Access) {a a′ : Ans Answer} {t t′ : List ℕ} → Told l a a′ → Orderly i x a → Orderly i u a′ → t ≡ t′
+      → (v : ℕ) (b : Buf) → Refuses c v (runOf i x q a t) b
+      → At c (one st i (apart share n (continue v) b (runOf i x q a t)) u q′ a′ t′)
+  refused-by st i {x} {u} l q q′ {a} {a′} {t} {t′} h k k′ e v b (back-row1 z) =
+      subst (λ y. At c (one st i (ownBy (accessOf (stops i x .0) q) a y) u q′ a′ t′))
+      (sym (row-one share n (continue v) (stops i x .1) t b (go-unfit (runOf i x q a t) v b z)))
+      (at st i l q q′ h k k′ e)
+  refused-by st i {x} l q q′ h k k′ e v b (back-lent z m) = back-by st i x l q q′ h k k′ e v b z m

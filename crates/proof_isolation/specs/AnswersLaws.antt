@@ -7,7 +7,7 @@ use Rattle.script.specs.Cells.{allocator-cell}
 use Rattle.script.specs.Script.{Script, ret, bind, fetch, gathered}
 use Rattle.script.specs.Answers.{Answer, End, operation, resultless, staged, named}
 use Rattle.proof_isolation.specs.EqualExcept.{Channel}
-use Rattle.proof_isolation.specs.Apart.{PairBy, Pair}
+use Rattle.proof_isolation.specs.Apart.{without-end, PairBy, Pair}
 use Rattle.proof_isolation.specs.PairsLaws.{Eq, Any, p-ret, p-bind, p-same, p-then, p-before, p-before-then}
 use Rattle.proof_isolation.specs.PairsLaws.{p-test, p-get}
 use Rattle.proof_isolation.specs.ValuesLaws.{p-begins, p-gathered, p-globals}
@@ -23,14 +23,15 @@ module _ {c : Channel} {st : ℕ} {m i : Bool} where
   p-operation {p} {p′} h = p-then (p-begins c)
       (p-before h
       (λ n n′ e. subst (λ k. Pair c st (SameAnswer (c .number)) (gives n) (gives k)) e
-      (p-bind (p-gathered c) (λ l l′ z. p-ret (ended n z)))))
+      (p-bind (p-gathered c) (λ l l′ z. p-ret (ended n z))))
+      (λ n e s. without-end) (λ n e s. without-end))
     where
       gives : ℕ → Script i Answer
       gives n = bind (fetch gathered) (λ l. ret (End n l))
 
   pub p-resultless : {p p′ : Script i Unit} → PairBy c st m Any p p′
       → PairBy c st m (SameAnswer (c .number)) (resultless p) (resultless p′)
-  p-resultless h = p-operation (p-before-then h (p-ret refl))
+  p-resultless h = p-operation (p-before-then h (p-ret refl) (λ e s. without-end) (λ e s. without-end))
 
   pub p-staged : (n : ℕ) {p p′ : Script i Answer}
       → PairBy c st m (SameAnswer (c .number)) p p′ → PairBy c st m (SameAnswer (c .number)) (staged n p) (staged n p′)

@@ -8,17 +8,18 @@ use Prim.Native.Nat.{ℕ, zero}
 use Rattle.regs.specs.declared.Access.{Access}
 use Rattle.script.specs.Answers.{Answer}
 use Rattle.script.specs.Calls.{Config, Op, startRow}
-use Rattle.script.specs.Machine.{Buf, Call, start, begin, continue, question, Event, Ans, idle}
+use Rattle.script.specs.Machine.{Buf, Call, start, begin, continue, question, Ans, idle}
 use Rattle.machine.specs.Suspended.{drive, machineOf}
 use Rattle.calls.specs.Sharing.{sharedCall}
 use Rattle.proof_book.specs.MachineRuns.{Premise}
 use Rattle.proof_book.specs.Sorting.{sortsOf}
 use Rattle.proof_isolation.specs.EqualExcept.{Channel}
 use Rattle.proof_isolation.specs.Schedule.{Run, Two, Turn, begins, goes, asked, stores, others-time, first}
-use Rattle.proof_isolation.specs.Schedule.{second, Early, gets, shares, accessOf, statusOf, shared}
+use Rattle.proof_isolation.specs.Schedule.{second, first-refused, second-refused, Parallel, gets-both}
+use Rattle.proof_isolation.specs.Schedule.{shares-both, firstOf, accessOf, statusOf, shared}
 use Rattle.proof_isolation.specs.Schedule.{heeded, May, After}
 use Rattle.proof_isolation.specs.FreshBook.{freshBook}
-use Rattle.proof_isolation.specs.Undisturbed.{Session}
+use Rattle.proof_isolation.specs.Undisturbed.{Session, AlikeBefore}
 
 -- ---- the calls that were made
 
@@ -123,23 +124,26 @@ nextBy (stores b b′) l l′ w = record {
 nextBy (others-time f) l l′ w = record { first = timed f (w .first); second = timed f (w .second); status = w .status }
 nextBy (first e) l l′ w = record { first = heardOwn (e .call) l (w .first); second = w .second; status = w .status }
 nextBy (second e) l l′ w = record { first = w .first; second = heardOwn (e .call) l′ (w .second); status = w .status }
+nextBy (first-refused v b) l l′ w = record { first = unheard l (w .first); second = w .second; status = w .status }
+nextBy (second-refused v b) l l′ w = record { first = w .first; second = unheard l′ (w .second); status = w .status }
 
 abbrev pub next : TurnStep → Pair → Pair
 next s w = nextBy (s .turn) (s .first) (s .second) w
 
--- before the two part: a call of both, with what it left in each, or what other drivers do to the bus time
+-- before the two part: a call of both, with the slot buffer that each is lent and what it left in each, or what other
+-- drivers do to the bus time
 pub data EarlyMade : Type 0 where
-  got : Event Config Op → Left → Left → EarlyMade
+  got : Call Config Op → Buf → Buf → Left → Left → EarlyMade
   shared-by : (List ℕ → List ℕ) → EarlyMade
 
-abbrev pub early : List EarlyMade → List Early
+abbrev pub early : List EarlyMade → List Parallel
 early [] = []
-early (got e l l′ ∷ ms) = gets e ∷ early ms
-early (shared-by f ∷ ms) = shares f ∷ early ms
+early (got c b b′ l l′ ∷ ms) = gets-both c b b′ ∷ early ms
+early (shared-by f ∷ ms) = shares-both f ∷ early ms
 
 abbrev pub afterEarly : List EarlyMade → Pair → Pair
 afterEarly [] w = w
-afterEarly (got e l l′ ∷ ms) w = afterEarly ms (record {
+afterEarly (got c b b′ l l′ ∷ ms) w = afterEarly ms (record {
   first = heard l (w .first);
   second
       = heard l′ (w .second);
@@ -152,10 +156,11 @@ afterEarly (shared-by f ∷ ms) w = afterEarly ms (record {
   status = w .status;
 })
 
--- a session (`Session`): a start-up with what it left in both, the list that is one in both, and the steps
+-- a session (`Session`): a start-up with what it left in both, the calls that are the same in both, and the steps
 pub record SessionMade : Type 0 where
   pub config : Config
   pub lent : Buf
+  pub lent′ : Buf
   pub up : Left
   pub up′ : Left
   pub before : List EarlyMade
@@ -170,10 +175,11 @@ abbrev pub sessionOf : SessionMade → Session
 sessionOf m = record {
   config = m .config;
   lent = m .lent;
+  lent′ = m .lent′;
   before = early (m .before);
-  channel = m .channel;
-  turns
-      = turnsOf (m .steps);
+  channel
+      = m .channel;
+  turns = turnsOf (m .steps);
 }
 
 abbrev pub startedBy : SessionMade → Pair → Pair
@@ -199,14 +205,16 @@ module _ (share : Bool) (n : ℕ) where
   DidBy (others-time f) l l′ w = Unit {0}
   DidBy (first e) l l′ w = CallStep share n (e .call) (e .lent) (w .first) l
   DidBy (second e) l l′ w = CallStep share n (e .call) (e .lent) (w .second) l′
+  DidBy (first-refused v b) l l′ w = CallStep share n (continue v) b (w .first) l
+  DidBy (second-refused v b) l l′ w = CallStep share n (continue v) b (w .second) l′
 
   abbrev pub DidStep : TurnStep → Pair → Type 0
   DidStep s w = DidBy (s .turn) (s .first) (s .second) w
 
   abbrev pub DidEarly : List EarlyMade → Pair → Type 0
   DidEarly [] w = Unit {0}
-  DidEarly (got e l l′ ∷ ms) w =
-      CallStep share n (e .call) (e .lent) (w .first) l × CallStep share n (e .call) (e .lent) (w .second) l′
+  DidEarly (got c b b′ l l′ ∷ ms) w =
+      CallStep share n c b (w .first) l × CallStep share n c b′ (w .second) l′
       × DidEarly ms (record { first = heard l (w .first); second = heard l′ (w .second); status = w .status })
   DidEarly (shared-by f ∷ ms) w = DidEarly ms (record {
     first = timed f (w .first);
@@ -224,18 +232,23 @@ module _ (share : Bool) (n : ℕ) where
   EveryStep c [] w = Unit {0}
   EveryStep c (s ∷ ss) w = After c (s .turn) (twoOf (next s w)) × EveryStep c ss (next s w)
 
-  -- the start-up is accepted; the list that is one in both is one of demand 3's premise and comes to a point after
-  -- EP0's start with nothing under way; the channel is an isochronous OUT endpoint of the run
+  -- the start-up is accepted; the first run's calls are a list of demand 3's premise and come to a point after EP0's
+  -- start with nothing under way; the channel is an isochronous OUT endpoint of the run; what the second is lent up to
+  -- there is alike
   pub record Begun (m : SessionMade) (w : Pair) : Type 0 where
     pub accepted : startRow (m .config) (m .lent) ≡ zero
     pub up : CallStep share n (start (m .config)) (m .lent) (w .first) (m .up)
-    pub up′ : CallStep share n (start (m .config)) (m .lent) (w .second) (m .up′)
-    pub early : DidEarly (m .before) (startedBy m w)
+    pub up′ : CallStep share n (start (m .config)) (m .lent′) (w .second) (m .up′)
+    pub made : DidEarly (m .before) (startedBy m w)
     pub lawful : let r = runOf (startedBy m w .first) in
-        Premise (heeded share n (sessionOf m .before) r) (r .machine) (freshBook (m .config) (m .lent) (r .answer))
+        Premise (heeded share n (firstOf (early (m .before))) r) (r .machine)
+        (freshBook (m .config) (m .lent) (r .answer))
     pub rests : runOf (openedBy m w .first) .machine .under-way ≡ idle
     pub stage : runOf (openedBy m w .first) .machine .st .globals .stage ≡ 2
     pub sorts : m .channel .iso ≡ sortsOf (runOf (openedBy m w .first) .machine .st)
+    pub alike : AlikeBefore share n (m .channel) (runOf (openedBy m w .first) .machine .st) (m .config) (m .lent)
+        (m .lent′) (early (m .before))
+        (runOf (startedBy m w .first)) (runOf (startedBy m w .second))
     pub steps : DidSteps (m .channel) (m .steps) (openedBy m w)
 
   abbrev pub AllBegun : List SessionMade → Pair → Type 0

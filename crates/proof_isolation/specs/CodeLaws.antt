@@ -3,6 +3,7 @@ use mathlib.Core.Bool.{Bool, true, false}
 use mathlib.Core.List.{List, [], _∷_}
 use mathlib.Core.Path.{_≡_, refl, ap, subst, sym, _∙_}
 use Prim.Native.Nat.{ℕ}
+use Rattle.state.specs.Driver.{Driver}
 use Rattle.script.specs.Calls.{Config, Op}
 use Rattle.script.specs.Machine.{Buf, Call, start, begin, continue, question, idle}
 use Rattle.machine.specs.Suspended.{machineOf}
@@ -10,16 +11,16 @@ use Rattle.proof_book.specs.MachineRuns.{Premise}
 use Rattle.proof_book.specs.Sorting.{sortsOf}
 use Rattle.proof_isolation.specs.EqualExcept.{Channel}
 use Rattle.proof_isolation.specs.Schedule.{Run, Two, Turn, begins, goes, asked, stores, others-time, first}
-use Rattle.proof_isolation.specs.Schedule.{second, runBy, ownBy, shared}
-use Rattle.proof_isolation.specs.Schedule.{called, alone, turn, given, heeded, After}
+use Rattle.proof_isolation.specs.Schedule.{second, first-refused, second-refused, runBy, ownBy, shared, apart}
+use Rattle.proof_isolation.specs.Schedule.{called, alone, turn, firstOf, secondOf, given, heeded, After}
 use Rattle.proof_isolation.specs.Standing.{At}
 use Rattle.proof_isolation.specs.StandingLaws.{at-time}
 use Rattle.proof_isolation.specs.FreshBook.{freshBook}
-use Rattle.proof_isolation.specs.Undisturbed.{started-up, opened, Opens}
+use Rattle.proof_isolation.specs.Undisturbed.{started-up, opened, AlikeBefore, Opens}
 use Rattle.proof_isolation.specs.UndisturbedLaws.{step, opened-at}
 use Rattle.proof_isolation.specs.TimeLaws.{as-shared, as-driver}
-use Rattle.proof_isolation.specs.Code.{Left, Held, Pair, runOf, twoOf, CallStep, heard, heardOwn, TurnStep}
-use Rattle.proof_isolation.specs.Code.{nextBy, next, EarlyMade}
+use Rattle.proof_isolation.specs.Code.{Left, Held, Pair, runOf, twoOf, CallStep, heard, unheard, heardOwn}
+use Rattle.proof_isolation.specs.Code.{TurnStep, nextBy, next, EarlyMade}
 use Rattle.proof_isolation.specs.Code.{early, afterEarly, SessionMade, sessionOf, startedBy, openedBy, afterSteps}
 use Rattle.proof_isolation.specs.Code.{DidBy, DidEarly}
 use Rattle.proof_isolation.specs.Code.{DidSteps, EveryStep, Begun, AllBegun, CodeTimely, got, shared-by}
@@ -48,6 +49,10 @@ module _ (share : Bool) (n : ℕ) where
   own-is (start k) b h l e = ap (ownBy (h .access) (h .answer)) (call-of share n (start k) b h l e)
   own-is (question q) b h l e = ap (ownBy (h .access) (h .answer)) (call-of share n (question q) b h l e)
 
+  pub unheard-is : (d : Call Config Op) (b : Buf) (h : Held) (l : Left) → CallStep share n d b h l → runOf (unheard l h)
+      ≡ apart share n d b (runOf h)
+  unheard-is d b h l e = ap (ownBy (h .access) (h .answer)) (call-of share n d b h l e)
+
   pair-is : {r r′ z z′ : Run} → r ≡ z → r′ ≡ z′ → (st : ℕ)
       → _≡_ {A = Two} (record { first = r; second = r′; status = st }) (record { first = z; second = z′; status = st })
   pair-is p p′ st = λ i. record { first = p i; second = p′ i; status = st }
@@ -64,18 +69,19 @@ module _ (share : Bool) (n : ℕ) where
   next-by (others-time f) l l′ w e = refl
   next-by (first e) l l′ w d = pair-is (own-is (e .call) (e .lent) (w .first) l d) refl _
   next-by (second e) l l′ w d = pair-is refl (own-is (e .call) (e .lent) (w .second) l′ d) _
+  next-by (first-refused v b) l l′ w d = pair-is (unheard-is (continue v) b (w .first) l d) refl _
+  next-by (second-refused v b) l l′ w d = pair-is refl (unheard-is (continue v) b (w .second) l′ d) _
 
   early-is : (ms : List EarlyMade) (w : Pair) → DidEarly share n ms w
       → twoOf (afterEarly ms w) ≡ record {
-        first = given share n (early ms) (runOf (w .first));
-        second =
-            given share n (early ms) (runOf (w .second));
+        first = given share n (firstOf (early ms)) (runOf (w .first));
+        second = given share n (secondOf (early ms)) (runOf (w .second));
         status = w .status;
       }
   early-is [] w e = refl
-  early-is (got d l l′ ∷ ms) w e =
-      early-is ms _ (e .2) ∙ pair-is (ap (given share n (early ms)) (heard-is (d .call) (d .lent) (w .first) l (e .0)))
-      (ap (given share n (early ms)) (heard-is (d .call) (d .lent) (w .second) l′ (e .1))) _
+  early-is (got d b b′ l l′ ∷ ms) w e =
+      early-is ms _ (e .2) ∙ pair-is (ap (given share n (firstOf (early ms))) (heard-is d b (w .first) l (e .0)))
+      (ap (given share n (secondOf (early ms))) (heard-is d b′ (w .second) l′ (e .1))) _
   early-is (shared-by f ∷ ms) w e = early-is ms _ e
 
   -- ---- the theorem
@@ -91,32 +97,44 @@ module _ (share : Bool) (n : ℕ) where
       ((subst (After c (s .turn)) e (y .after-it), z .0), z .1)
 
   module _ (m : SessionMade) (w : Pair) (o : Begun share n m w) where
-    up-is : runOf (startedBy m w .first) ≡ started-up share n (sessionOf m) (runOf (w .first))
+    up-is : runOf (startedBy m w .first) ≡ started-up share n (m .config) (m .lent) (runOf (w .first))
     up-is = heard-is (start (m .config)) (m .lent) (w .first) (m .up) (o .up)
+
+    up-is′ : runOf (startedBy m w .second) ≡ started-up share n (m .config) (m .lent′) (runOf (w .second))
+    up-is′ = heard-is (start (m .config)) (m .lent′) (w .second) (m .up′) (o .up′)
 
     pub opened-is : opened share n (sessionOf m) (twoOf w) ≡ twoOf (openedBy m w)
     opened-is =
-        pair-is (ap (given share n (early (m .before))) (sym up-is))
-        (ap (given share n (early (m .before))) (sym (heard-is (start (m .config)) (m .lent) (w .second) (m .up′)
-        (o .up′)))) 0
-        ∙ sym (early-is (m .before) (startedBy m w) (o .early))
+        pair-is (ap (given share n (firstOf (early (m .before)))) (sym up-is))
+        (ap (given share n (secondOf (early (m .before)))) (sym up-is′)) 0
+        ∙ sym (early-is (m .before) (startedBy m w) (o .made))
+
+    abbrev alike-at : Driver → Run → Run → Type 0
+    alike-at d r r′ = AlikeBefore share n (m .channel) d (m .config) (m .lent) (m .lent′) (early (m .before)) r r′
 
     -- but for the turns
-    opens : Opens share n (record {
+    pub opens : Opens share n (record {
       config = m .config;
       lent = m .lent;
+      lent′ = m .lent′;
       before = early (m .before);
-      channel
-          = m .channel;
+      channel = m .channel;
       turns = [];
     }) (twoOf w)
     opens = record {
       accepted = o .accepted;
-      lawful = subst (λ (r : Run). Premise (heeded share n (early (m .before)) r) (r .machine)
+      lawful = subst (λ (r : Run). Premise (heeded share n (firstOf (early (m .before))) r) (r .machine)
           (freshBook (m .config) (m .lent) (r .answer))) up-is (o .lawful);
       rests = subst (λ (z : Two). z .first .machine .under-way ≡ idle) (sym opened-is) (o .rests);
       stage = subst (λ (z : Two). z .first .machine .st .globals .stage ≡ 2) (sym opened-is) (o .stage);
       sorts = subst (λ (z : Two). m .channel .iso ≡ sortsOf (z .first .machine .st)) (sym opened-is) (o .sorts);
+      alike = subst (λ (z : Two). alike-at (z .first .machine .st)
+          (started-up share n (m .config) (m .lent) (runOf (w .first)))
+          (started-up share n (m .config) (m .lent′) (runOf (w .second)))) (sym opened-is)
+          (subst (λ (r : Run). alike-at (runOf (openedBy m w .first) .machine .st) r
+          (started-up share n (m .config) (m .lent′) (runOf (w .second)))) up-is
+          (subst (λ (r : Run). alike-at (runOf (openedBy m w .first) .machine .st) (runOf (startedBy m w .first)) r)
+          up-is′ (o .alike)));
       allowed = tt;
     }
 

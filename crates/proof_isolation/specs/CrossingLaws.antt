@@ -31,7 +31,7 @@ use Rattle.proof_isolation.specs.Schedule.{Run, runBy, wide, atOwn}
 use Rattle.proof_isolation.specs.Standing.{stops, runOf, another-made}
 use Rattle.proof_isolation.specs.Runs.{go-busy, aside-busy}
 use Rattle.proof_isolation.specs.Late.{Light, opens, closes, queues, asks-of, stored, AnyStore, Other, answersBy}
-use Rattle.proof_isolation.specs.Late.{lit, gone, lits, litAnswers}
+use Rattle.proof_isolation.specs.Late.{lit, gone, lits}
 use Rattle.proof_isolation.specs.Lights.{done-by, seen, openAnswer, closeAnswer, queueAnswer, answered, taken}
 use Rattle.proof_isolation.specs.Lights.{done-at}
 use Rattle.proof_isolation.specs.LightsLaws.{open-is, close-is, oldest-opening, stamp-opening, lawful-done}
@@ -215,19 +215,6 @@ module _ (c : Channel) where
     does-lits p g q a τ (did-more {o = o} {os = os} {s = s} {t = t} d k e) =
         ap (λ z. mute (lits share n os z)) (did-lit p g q a τ d) ∙ does-lits p g q (lastAnswer o s a) τ k
 
-    pub does-answers : (p : Access) (g : ℕ → St → tree.Out St Answer) (q : Access) (a : Ans Answer) (τ : List ℕ)
-        {os : List Light} {us : List (Ans Answer)}
-        {s t : St} → Does c os us s t → litAnswers share n os (runOf true (asks p s g) q a τ) ≡ us
-    does-answers p g q a τ (did-none l) = refl
-    does-answers p g q a τ (did-more {o = o} {a = b} {os = os} {us = us} {s = s} {t = t} d k e) =
-        ap (λ (z : Run). answersBy o (z .answer) (litAnswers share n os z)) (did-lit p g q a τ d)
-        ∙ ap (answersBy o (lastAnswer o s a)) (does-answers p g q (lastAnswer o s a) τ k)
-        ∙ same-answers o s a us ∙ ap (λ y. answersBy o y us) (d .told) ∙ e
-
-    pub gets-answers : {os : List Light} {us : List (Ans Answer)} {r : Run} → Gets os us r → litAnswers share n os r
-        ≡ us
-    gets-answers (gets-at p g q a τ d f) = does-answers p g q a τ d
-
     pub lits-own : {os : List Light} {us : List (Ans Answer)} {r : Run} → Gets os us r → OwnSome r
         → OwnSome (lits share n os r)
     lits-own {os} (gets-at p g q a τ {s = s} d f) h =
@@ -253,17 +240,17 @@ module _ (c : Channel) where
       early : gone share n v (lits share n os r) ≡ outcome t (g v t)
       early = ap (λ z. gone share n v z) (does-lits p g q a τ d) ∙ gone-is v p t g q a τ (does-after c d) w
 
-      crosses-by : {y u : tree.Out St Answer} → Slid c os us y u → g v s ≡ y → g v t ≡ u → OwnSome (outcome s y)
+      crosses-by : {y u : tree.Out St Answer} → Slid c os us true y u → g v s ≡ y → g v t ≡ u → OwnSome (outcome s y)
           → (AnyStore os → OwnSome (outcome t u)) → Crosses os us v r
       crosses-by (slid-end k) ey eu h m = absurd (true≢false (sym (h .is)))
       crosses-by (slid-lost k) ey eu h m = absurd (true≢false (sym (h .is) ∙ another-made (k (h .state))))
-      crosses-by (slid-seen e z b (made k)) ey eu h m = absurd
-          (true≢false (sym (m b .is) ∙ made-other e (c .number) z (k (m b .state))))
+      crosses-by (slid-seen e z b (made k) l) ey eu h m
+          = absurd (true≢false (sym (m b .is) ∙ made-other e (c .number) z (k (m b .state))))
       crosses-by (slid-ask {q = q1} {s = s1} {t = t1} {k = k1} x) ey eu h m = record {
         muted = ap (λ z. mute (lits share n os z)) went ∙ does-lits q1 k1 p (handed q1) (written n q1 τ) x
             ∙ sym (ap mute (early ∙ ap (outcome t) eu));
         still = subst (Gets os us) (sym went) (gets-at q1 k1 p (handed q1) (written n q1 τ) x
-            (halt-free c (subst (Free c) ey (f .0 v s (does-before c d)))));
+            (halt-free c (subst (Free c true) ey (f .0 v s (does-before c d)))));
       }
         where
           went : gone share n v r ≡ outcome s (asks q1 s1 k1)

@@ -17,7 +17,7 @@ use Rattle.regs.specs.declared.Dir.the-variants.{Out, In}
 use Rattle.regs.specs.declared.Token.{Token}
 use Rattle.regs.specs.declared.Token.the-variants as tok
 use Rattle.regs.specs.Status.{endpoint, token, tokenNumbered, outToken, isOut, isIn, togOk}
-use Rattle.regs.specs.Flags.{transfer}
+use Rattle.regs.specs.Flags.{transfer, setupAct}
 use Rattle.regs.specs.MisStatus.{sieFree}
 use Rattle.state.specs.Driver.{key}
 use Rattle.script.specs.declared.Transfer.{Transfer}
@@ -36,7 +36,7 @@ use Rattle.script_ops.specs.Concrete.{concrete}
 use Rattle.proof_isolation.specs.LikesLaws.{and-false}
 use Rattle.proof_isolation.specs.EqualExcept.{Channel}
 use Rattle.proof_isolation.specs.Whose.{sof}
-use Rattle.proof_isolation.specs.Apart.{Next, next, PairBy, Pair}
+use Rattle.proof_isolation.specs.Apart.{Next, next, PairBy, Pair, SameNext, same-next}
 use Rattle.proof_isolation.specs.PairsLaws.{Any, p-ret, p-bind, p-same, p-then, p-before-then, p-test, p-tests}
 use Rattle.proof_isolation.specs.PairsLaws.{p-bind-test, p-when, p-read, p-write, p-is, p-look, p-hand}
 use Rattle.proof_isolation.specs.Answers.{SameAnswer}
@@ -46,8 +46,9 @@ use Rattle.proof_isolation.specs.ValuesLaws.{p-plain-any}
 use Rattle.proof_isolation.specs.InRingsLaws.{setup-same}
 use Rattle.proof_isolation.specs.OutRingsLaws.{changed-same, marked-len-same, arrives-same}
 use Rattle.proof_isolation.specs.OwnStepsLaws.{p-own-check}
-use Rattle.proof_isolation.specs.WalksLaws.{p-reads, p-status, p-modify-reg, p-int-en, p-sof, p-late-walk}
-use Rattle.proof_isolation.specs.WalksLaws.{p-sie-wait}
+use Rattle.proof_isolation.specs.WithoutLaws.{q-when, q-moved-on, q-setup, later-without}
+use Rattle.proof_isolation.specs.WalksLaws.{nexts-of, p-reads, p-status, p-modify-reg, p-int-en, p-sof}
+use Rattle.proof_isolation.specs.WalksLaws.{p-late-walk, p-sie-wait}
 use Rattle.proof_isolation.specs.WalksLaws.{p-nak, p-toggled, p-sof-arm, p-iso-in, p-sent, p-ep0-moved}
 
 -- ---- the transfer that is served: its length, and whether it is the packet's, may differ where the status shows OUT
@@ -148,6 +149,12 @@ check-next : (c : Channel) (e : ℕ) → key Out e ≢ key Out (c .number) → (
 unfolding arriving isOut token tokenNumbered
 check-next c e k s = next (other-number c e k)
 
+check-same : (e : ℕ) (s t : St) → SameNext (run {i = true} concrete
+    (test (arriving sof e) done (look (marked e) >>= λ n. arrives e n)) s)
+    (run {i = true} concrete (test (arriving sof e) done (look (marked e) >>= λ n. arrives e n)) t)
+unfolding arriving isOut token tokenNumbered
+check-same e s t = same-next (λ x. refl)
+
 module _ {c : Channel} {st : ℕ} where
   -- ---- the check of arrivals
 
@@ -160,7 +167,7 @@ module _ {c : Channel} {st : ℕ} where
       → Pair c st {i = true} Any (checkOne y iso e) (checkOne y′ iso e)
   p-check y y′ iso e k f same len = p-same (p-is (changed e) (changed-same c e k f)) (λ b. p-when b (λ _. p-tests same
       (λ w. subst (λ n. Pair c st {i = true} Any (arrives e (y .len)) (arrives e n)) (len w) (p-arrives e (y .len) k))
-      (λ _. p-status (check-next c e k) (check-next c e k)
+      (λ _. p-status (check-next c e k) (check-next c e k) (check-same e)
       (p-test _ (λ _. p-ret tt) (λ _. p-same (p-look (marked e) (marked-len-same c e k f)) (λ n. p-arrives e n k))))))
 
   module _ (busy late : Bool) (n n′ : ℕ) (o o′ : Bool) (h : Lengths (c .number) st n n′ o o′) (iso : Bool) where
@@ -193,7 +200,9 @@ module _ {c : Channel} {st : ℕ} where
           (transferOf busy st late n o) iso es)
           (checkOne (transferOf busy st late n′ o′) iso k >> checkWalk (transferOf busy st late n′ o′) iso es)) (sym p)
           (p-own-check (transferOf busy st late n o) (transferOf busy st late n′ o′) iso
-          (p-later-walk (suc e) (omega (arith, p)) es (r .1) (λ a m. f a (inr m))))
+          (p-later-walk (suc e) (omega (arith, p)) es (r .1) (λ a m. f a (inr m)))
+          (λ a l s. later-without a (transferOf busy st late n o) iso (suc e) es (r .1) (omega (arith, p, l)) s)
+          (λ a l s. later-without a (transferOf busy st late n′ o′) iso (suc e) es (r .1) (omega (arith, p, l)) s))
       | no p ↦ p-then (p-check-other e p (f e (inl refl))) (p-check-walk (suc e) es (r .1) (λ a m. f a (inr m)))
     ]
 
@@ -251,7 +260,9 @@ module _ {c : Channel} {st : ℕ} where
       (p-then (p-when late (λ _. p-globals c (λ g _. p-late-walk frame _)))
       (p-then (p-when (not busy) (λ _. p-dispatch (token st) busy late n n′ o o′ h iso sure frame))
       (p-before-then (p-when _ (λ _. p-iso-out busy late n n′ o o′ h iso))
-      (p-when _ (λ _. p-ep0-moved (token st)))))))
+      (p-when _ (λ _. p-ep0-moved (token st)))
+      (λ e s. q-when (eqb (endpoint st) 0) (q-moved-on (token st)) .on e s)
+      (λ e s. q-when (eqb (endpoint st) 0) (q-moved-on (token st)) .on e s)))))
 
   p-framed : (u : Bool) (busy late : Bool) (n n′ : ℕ) (o o′ : Bool)
       → Lengths (c .number) st n n′ o o′ → (iso : Bool) → (arriving st (c .number) ≡ true → iso ≡ true) → (frame : ℕ)
@@ -300,8 +311,8 @@ module _ {c : Channel} {st : ℕ} where
   -- what goes on after it, f and g: with a status that shows no OUT it does not begin with the channel's receive
   -- address
   module _ {m : Bool} {C D : Type 0} {Q : C → D → Type 0} (f : Transfer → Script true C) (g : Transfer → Script true D)
-      (nf : (y : Transfer) (s : St) → Next (c .number) (run concrete (f y) s)) (ng : (y : Transfer) (s : St)
-      → Next (c .number) (run concrete (g y) s))
+      (nf : (y : Transfer) (x : ℕ) (s : St) → Next x (run concrete (f y) s)) (ng : (y : Transfer) (x : ℕ) (s : St)
+      → Next x (run concrete (g y) s))
       (k : (busy late : Bool) (n n′ : ℕ) (o o′ : Bool) → Lengths (c .number) st n n′ o o′
       → PairBy c st m Q (f (transferOf busy st late n o)) (g (transferOf busy st late n′ o′))) where
     p-retake : (busy late : Bool) (n n′ : ℕ) (o o′ : Bool) → Lengths (c .number) st n n′ o o′
@@ -317,7 +328,8 @@ module _ {c : Channel} {st : ℕ} where
         again : PairBy c st m Q (bind (read IntSt 0) (λ v. bind
             (nakNonIso v >> ret (retaken (transferOf busy st late n o) v)) f))
             (bind (read IntSt 0) (λ v. bind (nakNonIso v >> ret (retaken (transferOf busy st late n′ o′) v)) g))
-        again = p-status (λ s. nf _ s) (λ s. ng _ s)
+        again = p-status (λ s. nf _ (c .number) s) (λ s. ng _ (c .number) s)
+            (λ s t. nexts-of (λ x. nf _ x s) (λ x. ng _ x t))
             (p-transfer (p-then (p-nak st) (p-ret (record {
               status = refl;
               status′ = refl;
@@ -370,7 +382,7 @@ module _ {c : Channel} {st : ℕ} where
             (test busy (retake (transferOf busy st late n′ o′)) (ret (transferOf busy st late n′ o′))))) g)
         waits p q = p-bind-test _
             (λ _. p-transfer (p-then p-sie-wait (p-status (λ s. next refl) (λ s. next refl)
-            (p-bind (p-read RxLen 0 refl) (λ v v′ r. p-ret (record {
+            (λ s t. same-next (λ x. refl)) (p-bind (p-read RxLen 0 refl) (λ v v′ r. p-ret (record {
               status = refl;
               status′ = refl;
               busy = refl;
@@ -391,10 +403,10 @@ module _ {c : Channel} {st : ℕ} where
   p-on-transfer : PairBy c st true {i = true} Any onTransfer onTransfer
   unfolding ownIn
   p-on-transfer = p-reads MisSt 0 (λ v v′ e. e) (λ m. p-status (λ s. next refl) (λ s. next refl)
-      (p-bind (p-read RxLen 0 refl) (λ n n′ h.
+      (λ s t. same-next (λ x. refl)) (p-bind (p-read RxLen 0 refl) (λ n n′ h.
       p-then (p-when _ (λ _. p-nak st))
       (p-then (p-write IntFg 0 _)
-      (p-settle _ _ (λ y s. next refl) (λ y s. next refl) (λ busy late k k′ o o′ l.
+      (p-settle _ _ (λ y x s. next refl) (λ y x s. next refl) (λ busy late k k′ o o′ l.
       p-plain-any c Out (endpoint st) (λ p r _ _ s. p-plain-in c (endpoint st) (λ q _.
       subst
       (λ u. PairBy c st true {i = true} Any (after-plain (transferOf busy st late k o) (isoFor (token st) p q))
@@ -419,7 +431,8 @@ module _ {c : Channel} {st : ℕ} where
       (p-then (p-when _ (λ _. p-write IntFg 0 _))
       (p-then (p-when _ (λ _. p-write IntFg 0 _))
       (p-before-then (p-when _ (λ _. p-on-transfer))
-      (p-when _ (λ _. p-on-setup)))))))
+      (p-when _ (λ _. p-on-setup)) (λ e s. q-when (setupAct flag) q-setup .on e s)
+      (λ e s. q-when (setupAct flag) q-setup .on e s))))))
 
   pub p-stamped : PairBy c st true {i = true} Any stampedInterrupt stampedInterrupt
   p-stamped = p-then (p-reads FrameNo 0 (λ v v′ e. e) (λ frame. p-modify c _)) p-on-interrupt

@@ -9,14 +9,14 @@ use Prim.Native.Nat.{ℕ}
 use Rattle.regs.specs.declared.Dir.the-variants.{Out}
 use Rattle.state.specs.Driver.{Driver, key}
 use Rattle.script.specs.Answers.{Answer}
-use Rattle.script.specs.Calls.{Config, Op, aside, Open, Close, Queue}
+use Rattle.script.specs.Calls.{Config, Op, aside, Aside, Open, Close, Queue}
 use Rattle.script.specs.Machine.{Buf, Question, Call, start, begin, continue, question, Event, Ans, Pending, idle, busy}
 use Rattle.proof_isolation.specs.EqualExcept.{Channel}
 use Rattle.proof_isolation.specs.Stores.{patched, Lands, OwnLent}
-use Rattle.proof_isolation.specs.Schedule.{Run, Two, Turn, others-time, called, alone, storedIn, turn, after}
-use Rattle.proof_isolation.specs.Schedule.{wide}
-use Rattle.proof_isolation.specs.Schedule.{stateOf, unfit, Asked, atOwn, BringsAt, Alone, May, SameAns, After}
-use Rattle.proof_isolation.specs.Schedule.{Every}
+use Rattle.proof_isolation.specs.Schedule.{Run, Two, Turn, others-time, called, apart, alone, storedIn, turn}
+use Rattle.proof_isolation.specs.Schedule.{after, wide}
+use Rattle.proof_isolation.specs.Schedule.{stateOf, unfit, Asked, atOwn, BringsAt, Refuses, Alone, May, SameAns}
+use Rattle.proof_isolation.specs.Schedule.{After, Every}
 use Rattle.proof_isolation.specs.Undisturbed.{Session, opened, Opens}
 
 -- ---- what may fall late
@@ -29,27 +29,46 @@ pub data Light : Type 0 where
   asks-of : Question → Light
   stored : List (ℕ × ℕ) → Light
 
--- what the late run gets at the channel's own accesses: that of the others; the continue of such an access; stores in
--- the channel's slots; another call of its own alone (`Alone`, Schedule.antt)
+-- what a run gets in a late turn: that of the others; an open or a queue that row 1 refuses, with the buffer that it is
+-- lent; the continue of an access of the channel's own; stores in the channel's slots; another call of its own alone
+-- (`Alone`, Schedule.antt); a continue that is refused (`Refuses`)
 pub data Item : Type 0 where
   gets : Light → Item
+  stopped : Aside → Buf → Item
   goes-own : ℕ → Item
   stores-own : Buf → Item
   calls-own : Event Config Op → Item
+  goes-back : ℕ → Buf → Item
+
+-- what both get: of a call that row 1 refuses, which call it is
+pub data Common : Type 0 where
+  common : Light → Common
+  row1 : Aside → Common
+
+abbrev pub commonOf : List Item → List Common
+commonOf [] = []
+commonOf (gets o ∷ is) = common o ∷ commonOf is
+commonOf (stopped o b ∷ is) = row1 o ∷ commonOf is
+commonOf (goes-own v ∷ is) = commonOf is
+commonOf (stores-own b ∷ is) = commonOf is
+commonOf (calls-own e ∷ is) = commonOf is
+commonOf (goes-back v b ∷ is) = commonOf is
+
+abbrev pub lightsIn : List Common → List Light
+lightsIn [] = []
+lightsIn (common o ∷ cs) = o ∷ lightsIn cs
+lightsIn (row1 o ∷ cs) = lightsIn cs
 
 abbrev pub lightsOf : List Item → List Light
-lightsOf [] = []
-lightsOf (gets o ∷ is) = o ∷ lightsOf is
-lightsOf (goes-own v ∷ is) = lightsOf is
-lightsOf (stores-own b ∷ is) = lightsOf is
-lightsOf (calls-own e ∷ is) = lightsOf is
+lightsOf is = lightsIn (commonOf is)
 
 -- a turn (Schedule.antt); or both continue an access that is not made for the channel, and one of them is late: it gets
 -- what the others get after that continue, at the channel's own accesses, where the other got it, in the same order,
--- before it. The numbers are what the two continues bring
+-- before it. The numbers are what the two continues bring; the first list is what the late run gets after its continue,
+-- the second what the other gets before its own
 pub data Later : Type 0 where
   timely : Turn → Later
-  first-late second-late : ℕ → ℕ → List Item → Later
+  first-late second-late : ℕ → ℕ → List Item → List Item → Later
 
 -- the answers of the calls among them: stores have none
 abbrev pub answersBy : Light → Ans Answer → List (Ans Answer) → List (Ans Answer)
@@ -59,8 +78,17 @@ answersBy (queues e bs) a l = a ∷ l
 answersBy (asks-of q) a l = a ∷ l
 answersBy (stored p) a l = l
 
+-- of those that both get
+abbrev pub answersOf : Item → Ans Answer → List (Ans Answer) → List (Ans Answer)
+answersOf (gets o) a l = answersBy o a l
+answersOf (stopped o b) a l = a ∷ l
+answersOf (goes-own v) a l = l
+answersOf (stores-own b) a l = l
+answersOf (calls-own e) a l = l
+answersOf (goes-back v b) a l = l
+
 module _ (share : Bool) (n : ℕ) where
-  -- each call is lent the slot buffer as it was left
+  -- each call of the others is lent the slot buffer as it was left
   abbrev pub lit : Light → Run → Run
   lit (opens e) r = called share n (begin (aside (Open e))) (r .machine .buf) r
   lit (closes e) r = called share n (begin (aside (Close e))) (r .machine .buf) r
@@ -77,35 +105,30 @@ module _ (share : Bool) (n : ℕ) where
 
   abbrev pub item : Item → Run → Run
   item (gets o) r = lit o r
+  item (stopped o b) r = called share n (begin (aside o)) b r
   item (goes-own v) r = gone v r
   item (stores-own b) r = storedIn b r
   item (calls-own e) r = alone share n (e .call) (e .lent) r
+  item (goes-back v b) r = apart share n (continue v) b r
 
   abbrev pub items : List Item → Run → Run
   items [] r = r
   items (i ∷ is) r = items is (item i r)
 
-  -- what the others' calls were answered
-  abbrev pub litAnswers : List Light → Run → List (Ans Answer)
-  litAnswers [] r = []
-  litAnswers (o ∷ os) r = answersBy o (lit o r .answer) (litAnswers os (lit o r))
-
+  -- what the calls that both get were answered
   abbrev pub itemAnswers : List Item → Run → List (Ans Answer)
   itemAnswers [] r = []
-  itemAnswers (gets o ∷ is) r = answersBy o (lit o r .answer) (itemAnswers is (lit o r))
-  itemAnswers (goes-own v ∷ is) r = itemAnswers is (gone v r)
-  itemAnswers (stores-own b ∷ is) r = itemAnswers is (storedIn b r)
-  itemAnswers (calls-own e ∷ is) r = itemAnswers is (alone share n (e .call) (e .lent) r)
+  itemAnswers (i ∷ is) r = answersOf i (item i r .answer) (itemAnswers is (item i r))
 
   abbrev pub later : Later → Two → Two
   later (timely t) w = turn share n t w
-  later (first-late v v′ is) w = record {
+  later (first-late v v′ is es) w = record {
     first = items is (gone v (w .first));
-    second = gone v′ (lits (lightsOf is) (w .second));
+    second = gone v′ (items es (w .second));
     status = w .status;
   }
-  later (second-late v v′ is) w = record {
-    first = gone v (lits (lightsOf is) (w .first));
+  later (second-late v v′ is es) w = record {
+    first = gone v (items es (w .first));
     second = items is (gone v′ (w .second));
     status = w .status;
   }
@@ -153,18 +176,23 @@ module _ (c : Channel) where
     pub within′ : wide (r′ .machine .under-way) v′ ≡ false
     pub brings : BringsAt c (r .machine .under-way) st (r .access) v v′
 
-  -- a call of the channel's own that is no continue, or one that is refused with 1 or 16
+  -- a call of the channel's own that is no continue
   abbrev pub Stays : Call Config Op → Buf → Run → Type 0
-  Stays (continue v) b r = (unfit (continue v) r b ≡ true) ⊎ (wide (r .machine .under-way) v ≡ true)
-  Stays (begin o) b r = Unit {0}
-  Stays (start k) b r = Unit {0}
-  Stays (question q) b r = Unit {0}
+  Stays (continue v) b r = ⊥
+  Stays (begin o) b r = Alone c (begin o) b r
+  Stays (start k) b r = Alone c (start k) b r
+  Stays (question q) b r = Alone c (question q) b r
 
   module _ (share : Bool) (n : ℕ) where
-    -- what the others get, by the run that gets it before the continue
-    abbrev pub OfOthers : List Light → Run → Type 0
-    OfOthers [] r = Unit {0}
-    OfOthers (o ∷ os) r = Other o (r .machine .st) × OfOthers os (lit share n o r)
+    -- what the run gets that is not late, before its continue
+    abbrev pub Before : List Item → Run → Type 0
+    Before [] r = Unit {0}
+    Before (gets o ∷ is) r = Other o (r .machine .st) × Before is (lit share n o r)
+    Before (stopped o b ∷ is) r = (unfit (begin (aside o)) r b ≡ true) × Before is (item share n (stopped o b) r)
+    Before (goes-own v ∷ is) r = ⊥
+    Before (stores-own b ∷ is) r = OwnLent c (stateOf r) b × Before is (storedIn b r)
+    Before (calls-own e ∷ is) r = Stays (e .call) (e .lent) r × Before is (alone share n (e .call) (e .lent) r)
+    Before (goes-back v b ∷ is) r = Refuses c v r b × Before is (item share n (goes-back v b) r)
 
     -- no store is seen by the continue: were they made before it, as in the other run, the run would come to an access
     -- of the channel's own too. Where it would not, the two runs part (`seen-parts`, SeenLaws.antt)
@@ -175,24 +203,29 @@ module _ (c : Channel) where
     abbrev pub AtOwn : List Item → Run → Type 0
     AtOwn [] r = atOwn c r ≡ true
     AtOwn (gets o ∷ is) r = (atOwn c r ≡ true) × AtOwn is (lit share n o r)
+    AtOwn (stopped o b ∷ is) r = (atOwn c r ≡ true) × (unfit (begin (aside o)) r b ≡ true)
+        × AtOwn is (item share n (stopped o b) r)
     AtOwn (goes-own v ∷ is) r = (atOwn c r ≡ true) × (wide (r .machine .under-way) v ≡ false) × Unseen v (lightsOf is) r
         × AtOwn is (gone share n v r)
     AtOwn (stores-own b ∷ is) r = (atOwn c r ≡ true) × OwnLent c (stateOf r) b × AtOwn is (storedIn b r)
-    AtOwn (calls-own e ∷ is) r = (atOwn c r ≡ true) × Alone c (e .call) (e .lent) r × Stays (e .call) (e .lent) r
+    AtOwn (calls-own e ∷ is) r = (atOwn c r ≡ true) × Stays (e .call) (e .lent) r
         × AtOwn is (alone share n (e .call) (e .lent) r)
+    AtOwn (goes-back v b ∷ is) r = (atOwn c r ≡ true) × Refuses c v r b × AtOwn is (item share n (goes-back v b) r)
 
     -- r is the late one
-    pub record Late (v : ℕ) (is : List Item) (r r′ : Run) : Type 0 where
-      pub others : OfOthers (lightsOf is) r′
+    pub record Late (v : ℕ) (is es : List Item) (r r′ : Run) : Type 0 where
+      -- "the same calls and stores in the same order"
+      pub same : commonOf es ≡ commonOf is
+      pub early : Before es r′
       pub unseen : Unseen v (lightsOf is) r
       pub own : AtOwn is (gone share n v r)
 
     abbrev pub MayLate : Later → Two → Type 0
     MayLate (timely t) w = May c t w
-    MayLate (first-late v v′ is) w = Continues (w .status) v v′ (w .first) (w .second)
-        × Late v is (w .first) (w .second)
-    MayLate (second-late v v′ is) w = Continues (w .status) v v′ (w .first) (w .second)
-        × Late v′ is (w .second) (w .first)
+    MayLate (first-late v v′ is es) w =
+        Continues (w .status) v v′ (w .first) (w .second) × Late v is es (w .first) (w .second)
+    MayLate (second-late v v′ is es) w =
+        Continues (w .status) v v′ (w .first) (w .second) × Late v′ is es (w .second) (w .first)
 
     abbrev pub AllowedLate : List Later → Two → Type 0
     AllowedLate [] w = Unit {0}
@@ -206,21 +239,21 @@ pub data AllSame (x : ℕ) : List (Ans Answer) → List (Ans Answer) → Type 0 
   more : {a b : Ans Answer} {us vs : List (Ans Answer)} → SameAns x a b → AllSame x us vs → AllSame x (a ∷ us) (b ∷ vs)
 
 module _ (c : Channel) (share : Bool) (n : ℕ) where
-  -- the others' calls are answered the same
+  -- the calls that both get are answered the same
   abbrev pub Heard : Later → Two → Type 0
   Heard (timely t) w = Unit {0}
-  Heard (first-late v v′ is) w = AllSame (c .number) (itemAnswers share n is (gone share n v (w .first)))
-      (litAnswers share n (lightsOf is) (w .second))
-  Heard (second-late v v′ is) w = AllSame (c .number) (litAnswers share n (lightsOf is) (w .first))
-      (itemAnswers share n is (gone share n v′ (w .second)))
+  Heard (first-late v v′ is es) w =
+      AllSame (c .number) (itemAnswers share n is (gone share n v (w .first))) (itemAnswers share n es (w .second))
+  Heard (second-late v v′ is es) w =
+      AllSame (c .number) (itemAnswers share n es (w .first)) (itemAnswers share n is (gone share n v′ (w .second)))
 
   -- after a turn what Schedule.antt says; after a late one the same but for the last answers: `stands`, `lined`,
   -- `alike`,
   -- `time`
   abbrev pub AfterLate : Later → Two → Type 0
   AfterLate (timely t) w = After c t w
-  AfterLate (first-late v v′ is) w = After c (others-time (λ t. t)) w
-  AfterLate (second-late v v′ is) w = After c (others-time (λ t. t)) w
+  AfterLate (first-late v v′ is es) w = After c (others-time (λ t. t)) w
+  AfterLate (second-late v v′ is es) w = After c (others-time (λ t. t)) w
 
   abbrev pub EveryLate : List Later → Two → Type 0
   EveryLate [] w = Unit {0}

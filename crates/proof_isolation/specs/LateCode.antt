@@ -7,30 +7,29 @@ use Rattle.script.specs.Answers.{Answer}
 use Rattle.script.specs.Calls.{aside, Open, Close, Queue}
 use Rattle.script.specs.Machine.{begin, continue, question, Ans}
 use Rattle.proof_isolation.specs.EqualExcept.{Channel}
-use Rattle.proof_isolation.specs.Code.{Left, Held, Pair, twoOf, CallStep, heard, heardOwn, storedTo, TurnStep}
-use Rattle.proof_isolation.specs.Code.{next, SessionMade, openedBy, afterSteps}
+use Rattle.proof_isolation.specs.Code.{Left, Held, Pair, twoOf, CallStep, heard, unheard, heardOwn, storedTo}
+use Rattle.proof_isolation.specs.Code.{TurnStep, next, SessionMade, openedBy, afterSteps}
 use Rattle.proof_isolation.specs.Code.{DidStep}
 use Rattle.proof_isolation.specs.Code.{EveryStep, Begun}
 use Rattle.proof_isolation.specs.Late as late
 use Rattle.proof_isolation.specs.Stores.{patched}
-use Rattle.proof_isolation.specs.Late.{Light, opens, closes, queues, asks-of, stored, Item, gets, goes-own}
-use Rattle.proof_isolation.specs.Late.{stores-own, calls-own, answersBy, Later}
+use Rattle.proof_isolation.specs.Late.{Light, opens, closes, queues, asks-of, stored, Item, gets, stopped}
+use Rattle.proof_isolation.specs.Late.{goes-own, stores-own, calls-own}
+use Rattle.proof_isolation.specs.Late.{goes-back, answersOf, Later}
 use Rattle.proof_isolation.specs.Late.{MayLate, AllSame, AfterLate}
 
 -- ---- the calls that were made
 
--- what the late run gets at the channel's own access, what that left, and what the same call of the others left in the
--- other run; stores leave nothing to be named
+-- what a run gets in a late turn, and what that left; stores leave nothing to be named
 pub record ItemMade : Type 0 where
   pub item : Item
   pub left : Left
-  pub other : Left
 
--- a step (Code.antt); or a late turn, with what the late run's continue, each of these calls and the other run's
--- continue left
+-- a step (Code.antt); or a late turn: what the late run's continue left, what it gets after it, what the other gets
+-- before its continue, and what that left
 pub data LateStep : Type 0 where
   timely : TurnStep → LateStep
-  first-late second-late : ℕ → ℕ → Left → List ItemMade → Left → LateStep
+  first-late second-late : ℕ → ℕ → Left → List ItemMade → List ItemMade → Left → LateStep
 
 abbrev pub itemsOf : List ItemMade → List Item
 itemsOf [] = []
@@ -38,8 +37,8 @@ itemsOf (i ∷ is) = i .item ∷ itemsOf is
 
 abbrev pub laterOf : LateStep → Later
 laterOf (timely s) = late.timely (s .turn)
-laterOf (first-late v v′ l is l′) = late.first-late v v′ (itemsOf is)
-laterOf (second-late v v′ l is l′) = late.second-late v v′ (itemsOf is)
+laterOf (first-late v v′ l is es l′) = late.first-late v v′ (itemsOf is) (itemsOf es)
+laterOf (second-late v v′ l is es l′) = late.second-late v v′ (itemsOf is) (itemsOf es)
 
 -- a run after what the others get
 abbrev pub lightLeft : Light → Left → Held → Held
@@ -49,40 +48,31 @@ lightLeft (queues e bs) l h = heard l h
 lightLeft (asks-of q) l h = heard l h
 lightLeft (stored p) l h = storedTo (patched p (h .slots)) h
 
--- the late run
+-- after what it gets
 abbrev pub itemLeft : Item → Left → Held → Held
 itemLeft (gets o) l h = lightLeft o l h
+itemLeft (stopped o b) l h = heard l h
 itemLeft (goes-own v) l h = heard l h
 itemLeft (stores-own b) l h = storedTo b h
 itemLeft (calls-own e) l h = heardOwn (e .call) l h
+itemLeft (goes-back v b) l h = unheard l h
 
 abbrev pub afterItems : List ItemMade → Held → Held
 afterItems [] h = h
 afterItems (i ∷ is) h = afterItems is (itemLeft (i .item) (i .left) h)
 
--- the other
-abbrev pub earlyLeft : Item → Left → Held → Held
-earlyLeft (gets o) l h = lightLeft o l h
-earlyLeft (goes-own v) l h = h
-earlyLeft (stores-own b) l h = h
-earlyLeft (calls-own e) l h = h
-
-abbrev pub afterLights : List ItemMade → Held → Held
-afterLights [] h = h
-afterLights (i ∷ is) h = afterLights is (earlyLeft (i .item) (i .other) h)
-
 abbrev pub nextLate : LateStep → Pair → Pair
 nextLate (timely s) w = next s w
-nextLate (first-late v v′ l is l′) w =
+nextLate (first-late v v′ l is es l′) w =
     record {
       first = afterItems is (heard l (w .first));
-      second = heard l′ (afterLights is (w .second));
+      second = heard l′ (afterItems es (w .second));
       status
           = w .status;
     }
-nextLate (second-late v v′ l is l′) w =
+nextLate (second-late v v′ l is es l′) w =
     record {
-      first = heard l′ (afterLights is (w .first));
+      first = heard l′ (afterItems es (w .first));
       second = afterItems is (heard l (w .second));
       status
           = w .status;
@@ -92,20 +82,10 @@ abbrev pub afterLateSteps : List LateStep → Pair → Pair
 afterLateSteps [] w = w
 afterLateSteps (s ∷ ss) w = afterLateSteps ss (nextLate s w)
 
--- what the others' calls were answered
-abbrev pub answerLeft : Item → Ans Answer → List (Ans Answer) → List (Ans Answer)
-answerLeft (gets o) a l = answersBy o a l
-answerLeft (goes-own v) a l = l
-answerLeft (stores-own b) a l = l
-answerLeft (calls-own e) a l = l
-
-abbrev pub lateAnswers : List ItemMade → List (Ans Answer)
-lateAnswers [] = []
-lateAnswers (i ∷ is) = answerLeft (i .item) (i .left .answer) (lateAnswers is)
-
-abbrev pub otherAnswers : List ItemMade → List (Ans Answer)
-otherAnswers [] = []
-otherAnswers (i ∷ is) = answerLeft (i .item) (i .other .answer) (otherAnswers is)
+-- what the calls that both get were answered
+abbrev pub answersMade : List ItemMade → List (Ans Answer)
+answersMade [] = []
+answersMade (i ∷ is) = answersOf (i .item) (i .left .answer) (answersMade is)
 
 -- ---- each call is as its contract says; those of the others are lent the slot buffer as it was left
 
@@ -119,46 +99,38 @@ module _ (share : Bool) (n : ℕ) where
 
   abbrev pub DidItem : Item → Left → Held → Type 0
   DidItem (gets o) l h = DidLight o l h
+  DidItem (stopped o b) l h = CallStep share n (begin (aside o)) b h l
   DidItem (goes-own v) l h = CallStep share n (continue v) (h .slots) h l
   DidItem (stores-own b) l h = Unit {0}
   DidItem (calls-own e) l h = CallStep share n (e .call) (e .lent) h l
-
-  abbrev pub DidEarlier : Item → Left → Held → Type 0
-  DidEarlier (gets o) l h = DidLight o l h
-  DidEarlier (goes-own v) l h = Unit {0}
-  DidEarlier (stores-own b) l h = Unit {0}
-  DidEarlier (calls-own e) l h = Unit {0}
+  DidItem (goes-back v b) l h = CallStep share n (continue v) b h l
 
   abbrev pub DidItems : List ItemMade → Held → Type 0
   DidItems [] h = Unit {0}
   DidItems (i ∷ is) h = DidItem (i .item) (i .left) h × DidItems is (itemLeft (i .item) (i .left) h)
 
-  abbrev pub DidLights : List ItemMade → Held → Type 0
-  DidLights [] h = Unit {0}
-  DidLights (i ∷ is) h = DidEarlier (i .item) (i .other) h × DidLights is (earlyLeft (i .item) (i .other) h)
-
   -- of the late run h and of the other h′: what they bring, what the two continues left
-  pub record DidLate (v v′ : ℕ) (l l′ : Left) (is : List ItemMade) (h h′ : Held) : Type 0 where
+  pub record DidLate (v v′ : ℕ) (l l′ : Left) (is es : List ItemMade) (h h′ : Held) : Type 0 where
     pub goes : CallStep share n (continue v) (h .slots) h l
     pub items : DidItems is (heard l h)
-    pub lights : DidLights is h′
-    pub goes′ : CallStep share n (continue v′) (afterLights is h′ .slots) (afterLights is h′) l′
+    pub early : DidItems es h′
+    pub goes′ : CallStep share n (continue v′) (afterItems es h′ .slots) (afterItems es h′) l′
 
   abbrev pub DidLateStep : LateStep → Pair → Type 0
   DidLateStep (timely s) w = DidStep share n s w
-  DidLateStep (first-late v v′ l is l′) w = DidLate v v′ l l′ is (w .first) (w .second)
-  DidLateStep (second-late v v′ l is l′) w = DidLate v′ v l l′ is (w .second) (w .first)
+  DidLateStep (first-late v v′ l is es l′) w = DidLate v v′ l l′ is es (w .first) (w .second)
+  DidLateStep (second-late v v′ l is es l′) w = DidLate v′ v l l′ is es (w .second) (w .first)
 
   abbrev pub DidLateSteps : Channel → List LateStep → Pair → Type 0
   DidLateSteps c [] w = Unit {0}
   DidLateSteps c (s ∷ ss) w = DidLateStep s w × MayLate c share n (laterOf s) (twoOf w)
       × DidLateSteps c ss (nextLate s w)
 
-  -- the promise: the others' calls are answered the same, and what `After` says
+  -- the promise: the calls that both get are answered the same, and what `After` says
   abbrev pub HeardMade : Channel → LateStep → Type 0
   HeardMade c (timely s) = Unit {0}
-  HeardMade c (first-late v v′ l is l′) = AllSame (c .number) (lateAnswers is) (otherAnswers is)
-  HeardMade c (second-late v v′ l is l′) = AllSame (c .number) (otherAnswers is) (lateAnswers is)
+  HeardMade c (first-late v v′ l is es l′) = AllSame (c .number) (answersMade is) (answersMade es)
+  HeardMade c (second-late v v′ l is es l′) = AllSame (c .number) (answersMade es) (answersMade is)
 
   abbrev pub EveryLateStep : Channel → List LateStep → Pair → Type 0
   EveryLateStep c [] w = Unit {0}

@@ -5,26 +5,26 @@ use mathlib.Core.Path.{_≡_, refl, ap, subst, sym, _∙_}
 use Prim.Native.Nat.{ℕ}
 use Rattle.script.specs.Answers.{Answer}
 use Rattle.script.specs.Calls.{aside, Open, Close, Queue}
-use Rattle.script.specs.Machine.{begin, continue, question, Ans, idle}
-use Rattle.proof_isolation.specs.Schedule.{Run, Two}
+use Rattle.script.specs.Machine.{begin, continue, question, Ans}
+use Rattle.proof_isolation.specs.Schedule.{Run}
 use Rattle.proof_isolation.specs.UndisturbedLaws.{step}
 use Rattle.proof_isolation.specs.EqualExcept.{Channel}
 use Rattle.proof_isolation.specs.Standing.{At}
 use Rattle.proof_isolation.specs.StandingLaws.{at-time}
-use Rattle.proof_isolation.specs.Code.{Left, Held, Pair, runOf, twoOf, heard, TurnStep, next, sessionOf, openedBy}
+use Rattle.proof_isolation.specs.Code.{Left, Held, Pair, runOf, twoOf, heard, TurnStep, next, openedBy}
 use Rattle.proof_isolation.specs.Code.{afterSteps}
 use Rattle.proof_isolation.specs.Code.{DidSteps}
-use Rattle.proof_isolation.specs.CodeLaws.{heard-is, own-is, next-by, code-every, opened-is, begun-at}
+use Rattle.proof_isolation.specs.CodeLaws.{heard-is, unheard-is, own-is, next-by, code-every, opened-is, begun-at}
+use Rattle.proof_isolation.specs.CodeLaws as code
 use Rattle.proof_isolation.specs.Late as late
-use Rattle.proof_isolation.specs.Late.{Light, opens, closes, queues, asks-of, stored, Item, gets, goes-own}
-use Rattle.proof_isolation.specs.Late.{stores-own, calls-own, lightsOf, answersBy, lit, gone, lits, item}
-use Rattle.proof_isolation.specs.Late.{items, litAnswers}
-use Rattle.proof_isolation.specs.Late.{itemAnswers, later, AllSame, AfterLate}
+use Rattle.proof_isolation.specs.Late.{Light, opens, closes, queues, asks-of, stored, Item, gets, stopped}
+use Rattle.proof_isolation.specs.Late.{goes-own, stores-own, calls-own}
+use Rattle.proof_isolation.specs.Late.{goes-back, answersBy, answersOf, lit, gone, item, items, itemAnswers}
+use Rattle.proof_isolation.specs.Late.{later, AllSame, AfterLate}
 use Rattle.proof_isolation.specs.LateRunsLaws.{FreeBoth, turn-free, later-free, opened-free, late-step}
 use Rattle.proof_isolation.specs.LateCode.{ItemMade, LateStep, itemsOf, laterOf, lightLeft, itemLeft, afterItems}
-use Rattle.proof_isolation.specs.LateCode.{earlyLeft, afterLights, nextLate, afterLateSteps}
-use Rattle.proof_isolation.specs.LateCode.{answerLeft, lateAnswers, otherAnswers, DidLight, DidItem, DidEarlier}
-use Rattle.proof_isolation.specs.LateCode.{DidItems, DidLights, DidLate, DidLateStep}
+use Rattle.proof_isolation.specs.LateCode.{nextLate, afterLateSteps}
+use Rattle.proof_isolation.specs.LateCode.{answersMade, DidLight, DidItem, DidItems, DidLate, DidLateStep}
 use Rattle.proof_isolation.specs.LateCode.{DidLateSteps, HeardMade, EveryLateStep, LateMade, openedMade}
 use Rattle.proof_isolation.specs.LateCode.{AllBegunLate, CodeUndisturbed}
 use Rattle.proof_isolation.specs.LateCode.{timely, first-late, second-late}
@@ -42,9 +42,11 @@ module _ (share : Bool) (n : ℕ) where
 
   item-is : (i : Item) (l : Left) (h : Held) → DidItem share n i l h → runOf (itemLeft i l h) ≡ item share n i (runOf h)
   item-is (gets o) l h d = light-is o l h d
+  item-is (stopped o b) l h d = heard-is share n (begin (aside o)) b h l d
   item-is (goes-own v) l h d = heard-is share n (continue v) (h .slots) h l d
   item-is (stores-own b) l h d = refl
   item-is (calls-own e) l h d = own-is share n (e .call) (e .lent) h l d
+  item-is (goes-back v b) l h d = unheard-is share n (continue v) b h l d
 
   -- a call's answer is what it left
   light-answer : (o : Light) (l : Left) (h : Held) → DidLight share n o l h → (us : List (Ans Answer))
@@ -55,84 +57,56 @@ module _ (share : Bool) (n : ℕ) where
   light-answer (asks-of q) l h d us = ap (λ (r : Run). r .answer ∷ us) (light-is (asks-of q) l h d)
   light-answer (stored p) l h d us = refl
 
+  item-answer : (i : Item) (l : Left) (h : Held) → DidItem share n i l h → (us : List (Ans Answer))
+      → answersOf i (l .answer) us ≡ answersOf i (item share n i (runOf h) .answer) us
+  item-answer (gets o) l h d us = light-answer o l h d us
+  item-answer (stopped o b) l h d us = ap (λ (r : Run). r .answer ∷ us) (item-is (stopped o b) l h d)
+  item-answer (goes-own v) l h d us = refl
+  item-answer (stores-own b) l h d us = refl
+  item-answer (calls-own e) l h d us = refl
+  item-answer (goes-back v b) l h d us = refl
+
   items-are : (is : List ItemMade) (h : Held) → DidItems share n is h → runOf (afterItems is h)
       ≡ items share n (itemsOf is) (runOf h)
   items-are [] h d = refl
   items-are (i ∷ is) h d = items-are is (itemLeft (i .item) (i .left) h) (d .1)
       ∙ ap (items share n (itemsOf is)) (item-is (i .item) (i .left) h (d .0))
 
-  item-told : (is : List ItemMade) (h : Held) → DidItems share n is h → lateAnswers is
+  items-told : (is : List ItemMade) (h : Held) → DidItems share n is h → answersMade is
       ≡ itemAnswers share n (itemsOf is) (runOf h)
-  item-told [] h d = refl
-  item-told (i ∷ is) h d = by (i .item) (d .0) (item-told is (itemLeft (i .item) (i .left) h) (d .1))
-    where
-      by : (t : Item) → DidItem share n t (i .left) h → lateAnswers is
-          ≡ itemAnswers share n (itemsOf is) (runOf (itemLeft t (i .left) h))
-          → answerLeft t (i .left .answer) (lateAnswers is) ≡ itemAnswers share n (t ∷ itemsOf is) (runOf h)
-      by (gets o) e r = light-answer o (i .left) h e (lateAnswers is)
-          ∙ ap (answersBy o (lit share n o (runOf h) .answer))
-          (r ∙ ap (itemAnswers share n (itemsOf is)) (light-is o (i .left) h e))
-      by (goes-own v) e r = r ∙ ap (itemAnswers share n (itemsOf is)) (item-is (goes-own v) (i .left) h e)
-      by (stores-own b) e r = r
-      by (calls-own c) e r = r ∙ ap (itemAnswers share n (itemsOf is)) (item-is (calls-own c) (i .left) h e)
+  items-told [] h d = refl
+  items-told (i ∷ is) h d = item-answer (i .item) (i .left) h (d .0) (answersMade is)
+      ∙ ap (answersOf (i .item) (item share n (i .item) (runOf h) .answer))
+      (items-told is (itemLeft (i .item) (i .left) h) (d .1)
+      ∙ ap (itemAnswers share n (itemsOf is)) (item-is (i .item) (i .left) h (d .0)))
 
-  lights-are : (is : List ItemMade) (h : Held) → DidLights share n is h → runOf (afterLights is h)
-      ≡ lits share n (lightsOf (itemsOf is)) (runOf h)
-  lights-are [] h d = refl
-  lights-are (i ∷ is) h d = by (λ k r. lights-are is k r) (i .item) (d .0) (d .1)
-    where
-      by : ((k : Held) → DidLights share n is k → runOf (afterLights is k)
-          ≡ lits share n (lightsOf (itemsOf is)) (runOf k))
-          → (t : Item) → DidEarlier share n t (i .other) h → DidLights share n is (earlyLeft t (i .other) h)
-          → runOf (afterLights is (earlyLeft t (i .other) h)) ≡ lits share n (lightsOf (t ∷ itemsOf is)) (runOf h)
-      by f (gets o) e r = f (lightLeft o (i .other) h) r
-          ∙ ap (lits share n (lightsOf (itemsOf is))) (light-is o (i .other) h e)
-      by f (goes-own v) e r = f h r
-      by f (stores-own b) e r = f h r
-      by f (calls-own c) e r = f h r
-
-  light-told : (is : List ItemMade) (h : Held) → DidLights share n is h → otherAnswers is
-      ≡ litAnswers share n (lightsOf (itemsOf is)) (runOf h)
-  light-told [] h d = refl
-  light-told (i ∷ is) h d = by (λ k r. light-told is k r) (i .item) (d .0) (d .1)
-    where
-      by : ((k : Held) → DidLights share n is k → otherAnswers is
-          ≡ litAnswers share n (lightsOf (itemsOf is)) (runOf k))
-          → (t : Item) → DidEarlier share n t (i .other) h → DidLights share n is (earlyLeft t (i .other) h)
-          → answerLeft t (i .other .answer) (otherAnswers is) ≡ litAnswers share n (lightsOf (t ∷ itemsOf is)) (runOf h)
-      by f (gets o) e r = light-answer o (i .other) h e (otherAnswers is)
-          ∙ ap (answersBy o (lit share n o (runOf h) .answer)) (f (lightLeft o (i .other) h) r
-          ∙ ap (litAnswers share n (lightsOf (itemsOf is))) (light-is o (i .other) h e))
-      by f (goes-own v) e r = f h r
-      by f (stores-own b) e r = f h r
-      by f (calls-own c) e r = f h r
-
-  module _ {v v′ : ℕ} {l l′ : Left} {is : List ItemMade} {h h′ : Held} (d : DidLate share n v v′ l l′ is h h′) where
+  module _ {v v′ : ℕ} {l l′ : Left} {is es : List ItemMade} {h h′ : Held}
+      (d : DidLate share n v v′ l l′ is es h h′) where
     late-is : runOf (afterItems is (heard l h)) ≡ items share n (itemsOf is) (gone share n v (runOf h))
     late-is = items-are is (heard l h) (d .items) ∙ ap (items share n (itemsOf is))
         (heard-is share n (continue v) (h .slots) h l (d .goes))
 
-    other-is : runOf (heard l′ (afterLights is h′)) ≡ gone share n v′ (lits share n (lightsOf (itemsOf is)) (runOf h′))
-    other-is = heard-is share n (continue v′) (afterLights is h′ .slots) (afterLights is h′) l′ (d .goes′)
-        ∙ ap (gone share n v′) (lights-are is h′ (d .lights))
+    other-is : runOf (heard l′ (afterItems es h′)) ≡ gone share n v′ (items share n (itemsOf es) (runOf h′))
+    other-is = heard-is share n (continue v′) (afterItems es h′ .slots) (afterItems es h′) l′ (d .goes′)
+        ∙ ap (gone share n v′) (items-are es h′ (d .early))
 
-    late-told : lateAnswers is ≡ itemAnswers share n (itemsOf is) (gone share n v (runOf h))
-    late-told = item-told is (heard l h) (d .items) ∙ ap (itemAnswers share n (itemsOf is))
+    late-told : answersMade is ≡ itemAnswers share n (itemsOf is) (gone share n v (runOf h))
+    late-told = items-told is (heard l h) (d .items) ∙ ap (itemAnswers share n (itemsOf is))
         (heard-is share n (continue v) (h .slots) h l (d .goes))
 
-    other-told : otherAnswers is ≡ litAnswers share n (lightsOf (itemsOf is)) (runOf h′)
-    other-told = light-told is h′ (d .lights)
+    other-told : answersMade es ≡ itemAnswers share n (itemsOf es) (runOf h′)
+    other-told = items-told es h′ (d .early)
 
   next-late : (s : LateStep) (w : Pair) → DidLateStep share n s w → twoOf (nextLate s w)
       ≡ later share n (laterOf s) (twoOf w)
   next-late (timely s) w d = next-by share n (s .turn) (s .first) (s .second) w d
-  next-late (first-late v v′ l is l′) w d = λ i. record {
+  next-late (first-late v v′ l is es l′) w d = λ i. record {
     first = late-is d i;
     second = other-is d i;
     status
         = w .status;
   }
-  next-late (second-late v v′ l is l′) w d = λ i. record {
+  next-late (second-late v v′ l is es l′) w d = λ i. record {
     first = other-is d i;
     second = late-is d i;
     status
@@ -142,14 +116,13 @@ module _ (share : Bool) (n : ℕ) where
   heard-made : (c : Channel) (s : LateStep) (w : Pair) → DidLateStep share n s w
       → late.Heard c share n (laterOf s) (twoOf w) → HeardMade share n c s
   heard-made c (timely s) w d h = tt
-  heard-made c (first-late v v′ l is l′) w d h = subst (λ x. AllSame (c .number) x (otherAnswers is))
+  heard-made c (first-late v v′ l is es l′) w d h = subst (λ x. AllSame (c .number) x (answersMade es))
       (sym (late-told d))
       (subst (λ x. AllSame (c .number) (itemAnswers share n (itemsOf is) (gone share n v (runOf (w .first)))) x)
       (sym (other-told d)) h)
-  heard-made c (second-late v v′ l is l′) w d h = subst (λ x. AllSame (c .number) x (lateAnswers is))
+  heard-made c (second-late v v′ l is es l′) w d h = subst (λ x. AllSame (c .number) x (answersMade is))
       (sym (other-told d))
-      (subst (λ x. AllSame (c .number) (litAnswers share n (lightsOf (itemsOf is)) (runOf (w .first))) x)
-      (sym (late-told d)) h)
+      (subst (λ x. AllSame (c .number) (itemAnswers share n (itemsOf es) (runOf (w .first))) x) (sym (late-told d)) h)
 
   -- ---- the theorem
 
@@ -184,7 +157,7 @@ module _ (share : Bool) (n : ℕ) where
       (begun-at share n (m .opening) w (o .0) e) (o .0 .steps) in
       let k = opened-is share n (m .opening) w (o .0) in
       let f = steps-free c (m .opening .steps) (openedBy (m .opening) w) (begun-at share n (m .opening) w (o .0) e)
-      (subst (FreeBoth c share n) k (opened-free c share n (sessionOf (m .opening)) (twoOf w) (o .0 .accepted) e
-      (subst (λ (z : Two). z .first .machine .under-way ≡ idle) (sym k) (o .0 .rests)))) (o .0 .steps) in
+      (subst (FreeBoth c share n) k (opened-free c share n _ (twoOf w) e (code.opens share n (m .opening) w (o .0))))
+      (o .0 .steps) in
       let z = code-every-late c (m .steps) (openedMade share n m w) (x .1) f (o .1) in
       (x .0, z .0, code-undisturbed ms (afterLateSteps (m .steps) (openedMade share n m w)) (at-time (z .1)) (o .2))

@@ -4,6 +4,7 @@ use mathlib.Core.List.{List, [], _∷_}
 use mathlib.Core.Logic.{_⊎_, inl, inr}
 use mathlib.Core.Path.{_≡_, refl, ap, subst, sym, _∙_}
 use Prim.Native.Nat.{ℕ, zero, suc}
+use native.Mathlib.Omega.{arith}
 use Rattle.regs.specs.declared.Access.{Access}
 use Rattle.state.specs.Driver.{Driver}
 use Rattle.script.specs.Tree as tree
@@ -39,36 +40,81 @@ use Rattle.proof_isolation.specs.StoresLaws.{lent-back, own-lent-back, l
 use Rattle.proof_isolation.specs.OthersLaws.{same-answers}
 use Rattle.proof_isolation.specs.Schedule.{Run, Two, Turn, begins, goes, asked, stores, others-time, first}
 use Rattle.proof_isolation.specs.Schedule.{second, gets}
-use Rattle.proof_isolation.specs.Schedule.{called, alone, turn, given, after, runBy, ownBy, atOwn, go-on}
-use Rattle.proof_isolation.specs.Schedule.{own-lent, SameAns, same, After, Timely}
+use Rattle.proof_isolation.specs.Schedule.{called, apart, alone, turn, after, runBy, ownBy, atOwn, go-on}
+use Rattle.proof_isolation.specs.Schedule.{own-lent, SameAns, same}
+use Rattle.proof_isolation.specs.Schedule.{storedIn, first-refused, second-refused, After, Timely, Refuses}
+use Rattle.proof_isolation.specs.Schedule.{back-row1, back-lent}
 use Rattle.proof_isolation.specs.Schedule.{stateOf, unfit, BothCall, call-row1, call-lent, BothGo, go-row1}
 use Rattle.proof_isolation.specs.Schedule.{go-row16, OwnCall, own-row1, Alone, May, Allowed}
 use Rattle.proof_isolation.specs.Standing.{machineOf, runOf, own-yes, own-no, same-ans, ans-sym, At, at}
 use Rattle.proof_isolation.specs.StandingLaws.{past-no}
 use Rattle.proof_isolation.specs.StandingLaws.{at-stands, at-lined, at-alike, at-time, at-swap}
-use Rattle.proof_isolation.specs.Runs.{goes-by, spares-put, go-wide, go-unfit, begin-unfit, aside-busy}
-use Rattle.proof_isolation.specs.StartLaws.{anew, starts}
-use Rattle.proof_isolation.specs.Undisturbed.{Session, opened}
+use Rattle.proof_isolation.specs.Runs.{goes-by, spares-put, go-wide, go-unfit, begin-unfit, aside-busy, row-one}
+use Rattle.proof_isolation.specs.PartingLaws.{parted}
+use Rattle.proof_isolation.specs.Undisturbed.{Session, opened, Opens}
 use Rattle.proof_isolation.specs.UndisturbedLaws.{step, always, stands-after}
 use Rattle.proof_isolation.specs.UndisturbedLaws.{opened-at}
 use Rattle.proof_isolation.specs.Late as late
-use Rattle.proof_isolation.specs.Late.{Light, opens, closes, queues, asks-of, stored, Item, goes-own, stores-own}
-use Rattle.proof_isolation.specs.Late.{calls-own, lightsOf, answersBy}
-use Rattle.proof_isolation.specs.Late.{Later, timely, first-late, second-late, lit, lits, items, litAnswers}
+use Rattle.proof_isolation.specs.Late.{Light, opens, closes, queues, asks-of, stored, Item, stopped, goes-own}
+use Rattle.proof_isolation.specs.Late.{stores-own, calls-own, goes-back}
+use Rattle.proof_isolation.specs.Late.{Common, common, row1, commonOf, lightsIn, lightsOf, answersBy}
+use Rattle.proof_isolation.specs.Late.{Later, timely, first-late, second-late, lit, lits, item, items}
 use Rattle.proof_isolation.specs.Late.{itemAnswers, later, afterAll}
-use Rattle.proof_isolation.specs.Late.{Other, Continues, Stays, OfOthers, AtOwn, Late, MayLate, AllowedLate}
+use Rattle.proof_isolation.specs.Late.{Other, Continues, Stays, Before, AtOwn, Late, MayLate, AllowedLate}
 use Rattle.proof_isolation.specs.Late.{AllSame, none, more, Heard, AfterLate, EveryLate, LateSession, AllOpenLate}
 use Rattle.proof_isolation.specs.Late.{UndisturbedLate}
 use Rattle.proof_isolation.specs.Lights.{done-by, seen, answered, taken, done-at}
 use Rattle.proof_isolation.specs.QueuesLaws.{patch-like}
 use Rattle.proof_isolation.specs.LightsLaws.{seen-touched, wakes-same, still-other, but-reach, stored-patch}
 use Rattle.proof_isolation.specs.Does.{Does, did-none, did-more}
-use Rattle.proof_isolation.specs.DoesLaws.{does-before, does-after, does-wakes-same}
+use Rattle.proof_isolation.specs.DoesLaws.{does-before, does-wakes-same}
 use Rattle.proof_isolation.specs.SlidesLaws.{FreeWay, Needs, LentLawful, drive-free}
 use Rattle.proof_isolation.specs.CrossingLaws as crossing
 use Rattle.proof_isolation.specs.CrossingLaws.{open-run, close-run, queue-run, answering, mute, lastAnswer}
 use Rattle.proof_isolation.specs.CrossingLaws.{lit-is, Gets, gets-at, OwnSome, own-some}
-use Rattle.proof_isolation.specs.CrossingLaws.{did-lit, does-lits, gets-answers, lits-own, crosses}
+use Rattle.proof_isolation.specs.CrossingLaws.{did-lit, does-lits, lits-own, crosses}
+
+-- ---- the answers of what both get, by those of what the others get
+
+abbrev heads : List (Ans Answer) → (List (Ans Answer) → List (Ans Answer)) → List (Ans Answer)
+heads [] f = f []
+heads (a ∷ us) f = a ∷ f us
+
+abbrev by-light : Light → List (Ans Answer) → (List (Ans Answer) → List (Ans Answer)) → List (Ans Answer)
+by-light (opens e) us f = heads us f
+by-light (closes e) us f = heads us f
+by-light (queues e bs) us f = heads us f
+by-light (asks-of q) us f = heads us f
+by-light (stored p) us f = f us
+
+abbrev pub woven : List Common → List (Ans Answer) → List (Ans Answer)
+woven [] us = []
+woven (common o ∷ cs) us = by-light o us (λ vs. woven cs vs)
+woven (row1 o ∷ cs) us = ended (Refused 1) ∷ woven cs us
+
+woven-light : (o : Light) (a : Ans Answer) (us : List (Ans Answer)) (cs : List Common) → answersBy o a (woven cs us)
+    ≡ woven (common o ∷ cs) (answersBy o a us)
+woven-light (opens e) a us cs = refl
+woven-light (closes e) a us cs = refl
+woven-light (queues e bs) a us cs = refl
+woven-light (asks-of q) a us cs = refl
+woven-light (stored p) a us cs = refl
+
+heads-same : {x : ℕ} {us vs : List (Ans Answer)} (f : List (Ans Answer) → List (Ans Answer))
+    → ((us vs : List (Ans Answer)) → AllSame x us vs → AllSame x (f us) (f vs)) → AllSame x us vs
+    → AllSame x (heads us f) (heads vs f)
+heads-same f h none = h [] [] none
+heads-same f h (more a k) = more a (h _ _ k)
+
+woven-same : {x : ℕ} (cs : List Common) (us vs : List (Ans Answer)) → AllSame x us vs
+    → AllSame x (woven cs us) (woven cs vs)
+woven-same [] us vs h = none
+woven-same (common (opens e) ∷ cs) us vs h = heads-same (λ us. woven cs us) (λ us vs k. woven-same cs us vs k) h
+woven-same (common (closes e) ∷ cs) us vs h = heads-same (λ us. woven cs us) (λ us vs k. woven-same cs us vs k) h
+woven-same (common (queues e bs) ∷ cs) us vs h = heads-same (λ us. woven cs us) (λ us vs k. woven-same cs us vs k) h
+woven-same (common (asks-of q) ∷ cs) us vs h = heads-same (λ us. woven cs us) (λ us vs k. woven-same cs us vs k) h
+woven-same (common (stored p) ∷ cs) us vs h = woven-same cs us vs h
+woven-same (row1 o ∷ cs) us vs h = more (same (ended (Refused 1))) (woven-same cs us vs h)
 
 -- ---- what the others get in both, at one access
 
@@ -142,7 +188,7 @@ module _ {c : Channel} where
   own-now share n (at st i (left {s = s} {k = g} w p z f) q q′ h k k′ e) m = own-yes (c .number) g s w
   own-now share n (at st i (right w gone z f) q q′ h k k′ e) m = absurd (true≢false (sym (m .is)))
   own-now share n (at st i (right w (waits {k = g} y) z f) q q′ h k k′ e) m = absurd
-      (true≢false (sym (m .is) ∙ own-no (c .number) g {i = i} (m .state) (λ _. y)))
+      (true≢false (sym (m .is) ∙ own-no (c .number) g {i = i} (m .state) (λ _. y (c .number) (omega arith))))
   own-now share n (at st i (owns {s = s} {k = g} w w′ l f f′) q q′ h k k′ e) m = own-yes (c .number) g s w
 
   -- what becomes of the channel's data and what it was answered last do not matter
@@ -300,34 +346,47 @@ module _ (c : Channel) (share : Bool) (n : ℕ) where
         goes = aside-busy c s b (own-like l h .right) o true refl p g
             ∙ ap (λ y. machine.duringInterrupt calls driverOf (machineOf (busy true (awaited p) g) (s .0, b)) y) e
 
-    acts : (d : Call Config Op) (b : Buf) → Alone c d b here → Stays c d b here
-        → Acts p g q a τ s (alone share n d b here)
-    acts (continue v) b m (inl x) = record {
+    -- those that are refused leave it as it was, but for its last answer and the bytes of the channel's slots
+    backs : (v : ℕ) (b : Buf) → Refuses c v here b → Acts p g q a τ s (apart share n (continue v) b here)
+    backs v b (back-row1 x) = record {
+      after = s;
+      answer = a;
+      is = ap (λ y. ownBy p a (y, timeAfter n going (y .0) (s .0) τ)) (go-unfit here v b x);
+      touched = touched-refl l;
+      roomed = λ k. k;
+    }
+    backs v b (back-lent x h) = record {
+      after = (s .0, b);
+      answer = a;
+      is = ap (λ y. ownBy p a (y, timeAfter n going (y .0) (s .0) τ))
+          (go-wide c s b (own-like l h .right) true p g v x);
+      touched = own-like l h;
+      roomed = λ k. record { machine = rooms (question (pending 0)) (k .machine) b .machine; few = k .few };
+    }
+
+    stops-at : (o : Aside) (b : Buf) → unfit (begin (aside o)) here b ≡ true
+        → Acts p g q a τ s (called share n (begin (aside o)) b here)
+    stops-at o b x = record {
       after = s;
       answer = ended (Refused 1);
-      is = ap (λ y. runBy p (y, timeAfter n going (y .0) (s .0) τ)) (go-unfit here v b x);
+      is = ap (λ y. runBy p y) (row-one share n (begin (aside o)) (machineOf (busy true (awaited p) g) s) τ b
+          (begin-unfit here (aside o) b x));
       touched = touched-refl l;
       roomed = λ k. record { machine = k .machine; few = tt };
     }
-    acts (continue v) b m (inr x) = by (m .1)
-      where
-        by : OwnCall c (continue v) here b → Acts p g q a τ s (alone share n (continue v) b here)
-        by (own-row1 z) = record {
-          after = s;
-          answer = ended (Refused 1);
-          is = ap (λ y. runBy p (y, timeAfter n going (y .0) (s .0) τ)) (go-unfit here v b z);
-          touched = touched-refl l;
-          roomed = λ k. record { machine = k .machine; few = tt };
-        }
-        by (own-lent h) = record {
-          after = (s .0, b);
-          answer = ended (Refused 16);
-          is = ap (λ y. runBy p (y, timeAfter n going (y .0) (s .0) τ))
-              (go-wide c s b (own-like l h .right) true p g v x);
-          touched = own-like l h;
-          roomed = λ k. record { machine = rooms (question (pending 0)) (k .machine) b .machine; few = tt };
-        }
-    acts (begin o) b m x = by (m .0) (m .1) (m .2)
+
+    stores-at : (b : Buf) → OwnLent c s b → Acts p g q a τ s (storedIn b here)
+    stores-at b h = record {
+      after = (s .0, b);
+      answer = a;
+      is = refl;
+      touched = own-like l h;
+      roomed = λ k. record { machine = rooms (question (pending 0)) (k .machine) b .machine; few = k .few };
+    }
+
+    acts : (d : Call Config Op) (b : Buf) → Stays c d b here → Acts p g q a τ s (alone share n d b here)
+    acts (continue v) b m = absurd m
+    acts (begin o) b m = by (m .0) (m .1) (m .2)
       where
         by : {o : Op} → OfChannel (c .number) o → Timely (busy true (awaited p) g) o → OwnCall c (begin o) here b
             → Acts p g q a τ s (alone share n (begin o) b here)
@@ -340,7 +399,7 @@ module _ (c : Channel) (share : Bool) (n : ℕ) where
           roomed = λ k. k;
         }
         by (passes o k) y (own-lent h) = acts-aside o b h (own-finishes c o k (s .0, b) (own-like l h .right)) refl
-    acts (start k) b m x = by (startRow k b) refl
+    acts (start k) b m = by (startRow k b) refl
       where
         by : (r : ℕ) → startRow k b ≡ r → Acts p g q a τ s (alone share n (start k) b here)
         by zero z = absurd (m z)
@@ -355,7 +414,7 @@ module _ (c : Channel) (share : Bool) (n : ℕ) where
           touched = touched-refl l;
           roomed = λ k. k;
         }
-    acts (question d) b m x = record {
+    acts (question d) b m = record {
       after = s;
       answer = a;
       is = ap (λ b. alone share n (question d) b here) m;
@@ -363,18 +422,27 @@ module _ (c : Channel) (share : Bool) (n : ℕ) where
       roomed = λ k. k;
     }
 
+  -- row 1 says so
+  stopped-answer : (o : Aside) (b : Buf) (r : Run) → unfit (begin (aside o)) r b ≡ true
+      → item share n (stopped o b) r .answer ≡ ended (Refused 1)
+  stopped-answer o b r h =
+      ap (λ y. runBy (r .access) y .answer) (row-one share n (begin (aside o)) (r .machine) (r .time) b
+      (begin-unfit r (aside o) b h))
+
   -- ---- the late run: as if what the others get had come before
 
   through-own : (is : List Item) (r : Run) → AtOwn c share n is r → atOwn c r ≡ true
   through-own [] r h = h
   through-own (late.gets o ∷ is) r h = h .0
+  through-own (stopped o b ∷ is) r h = h .0
   through-own (goes-own v ∷ is) r h = h .0
   through-own (stores-own b ∷ is) r h = h .0
   through-own (calls-own e ∷ is) r h = h .0
+  through-own (goes-back v b ∷ is) r h = h .0
 
   record LateItems (is : List Item) (us : List (Ans Answer)) (r : Run) (st : ℕ) (z : Run) : Type 0 where
     stand : At c (beside st (items share n is r) z)
-    told : itemAnswers share n is r ≡ us
+    told : itemAnswers share n is r ≡ woven (commonOf is) us
     free : FreeWay c (items share n is r .machine .under-way)
 
   -- what it was answered last does not matter
@@ -407,22 +475,48 @@ module _ (c : Channel) (share : Bool) (n : ℕ) where
         (touched-own w o (subst (λ (r : Run). Touched c quiet (stateOf r) t′) (sym e) m) (y .answer) (r .few)
         (subst (λ (r : Run). Roomy (r .machine)) (e′ ∙ sym (ap (λ (r : Run). restate t′ (told 0) r) e)) (r .machine)))
 
-    late-items : (is : List Item) {us : List (Ans Answer)} {r : Run} → Gets c share n (lightsOf is) us r
+    -- an item that changes nothing but the channel's data
+    acted : (i : Item) (is : List Item) → ((us : List (Ans Answer)) (r : Run) → Gets c share n (lightsOf is) us r
+        → AtOwn c share n is r
+        → Roomed r → At c (beside st (lits share n (lightsOf is) r) z) → LateItems is us r st z)
+        → {us : List (Ans Answer)} (p : Access) (g : ℕ → St → tree.Out St Answer) (q : Access) (a : Ans Answer)
+        (τ : List ℕ) {s t : St}
+        → Does c (lightsOf is) us s t → FreeWay c (busy true (awaited p) g) → atOwn c (runOf true (asks p s g) q a τ)
+        ≡ true
+        → Acts p g q a τ s (item share n i (runOf true (asks p s g) q a τ))
+        → AtOwn c share n is (item share n i (runOf true (asks p s g) q a τ))
+        → Roomed (runOf true (asks p s g) q a τ) → At c
+        (beside st (lits share n (lightsOf is) (runOf true (asks p s g) q a τ)) z)
+        → LateItems is us (item share n i (runOf true (asks p s g) q a τ)) st z
+    acted i is rec {us} p g q a τ {s = s} d f o m h k w =
+        let y = does-touched c d (m .touched) (room (k .machine)) in
+        let x : Roomed (runOf true (asks p (m .after) g) q (m .answer) τ) = m .roomed k in
+        let v = rec us (runOf true (asks p (m .after) g) q (m .answer) τ) (gets-at p g q (m .answer) τ (y .does) f)
+        (subst (AtOwn c share n is) (m .is) h) x
+        (touched-lits p g q a (m .answer) τ d (y .does) (y .touched) x
+        (own-some c share n (runOf true (asks p s g) q a τ) o) f w) in
+        subst (λ r. LateItems is us r st z) (sym (m .is)) v
+
+    late-items : (is : List Item) (us : List (Ans Answer)) (r : Run) → Gets c share n (lightsOf is) us r
         → AtOwn c share n is r → Roomed r
         → At c (beside st (lits share n (lightsOf is) r) z) → LateItems is us r st z
-    late-items [] (gets-at p g q a τ (did-none l) f) h k w = record { stand = w; told = refl; free = f }
-    late-items (late.gets o ∷ is) (gets-at p g q a τ {s = s} (did-more {a = b} {us = us} {t = t} d y e) f) h k w =
+    late-items [] us r (gets-at p g q a τ (did-none l) f) h k w = record { stand = w; told = refl; free = f }
+    late-items (late.gets o ∷ is) vs r (gets-at p g q a τ {s = s} (did-more {a = b} {us = us} {t = t} d y e) f) h k w =
         let r = runOf true (asks p s g) q a τ in
         let x = did-lit c share n p g q a τ d in
-        let v = late-items is (subst (Gets c share n (lightsOf is) us) (sym x) (gets-at p g q (lastAnswer o s a) τ y f))
-        (h .1) (lit-roomed o r k) w in
+        let v = late-items is us (lit share n o r) (subst (Gets c share n (lightsOf is) us) (sym x)
+        (gets-at p g q (lastAnswer o s a) τ y f)) (h .1)
+        (lit-roomed o r k) w in
         record {
           stand = v .stand;
-          told = ap (answersBy o (lit share n o r .answer)) (v .told) ∙ ap (λ (z : Run). answersBy o (z .answer) us) x
-              ∙ crossing.same-answers o s a us ∙ ap (λ y. answersBy o y us) (d .told) ∙ e;
+          told = ap (answersBy o (lit share n o r .answer)) (v .told)
+              ∙ ap (λ (z : Run). answersBy o (z .answer) (woven (commonOf is) us)) x
+              ∙ crossing.same-answers o s a (woven (commonOf is) us)
+              ∙ ap (λ y. answersBy o y (woven (commonOf is) us)) (d .told)
+              ∙ woven-light o b us (commonOf is) ∙ ap (woven (common o ∷ commonOf is)) e;
           free = v .free;
         }
-    late-items (goes-own v ∷ is) {us} {r} y h k w =
+    late-items (goes-own v ∷ is) us r y h k w =
         let os = lightsOf is in
         let u = own-some c share n (late.gone share n v r) (through-own is (late.gone share n v r) (h .3)) in
         let x = crosses c share n y v (h .1) u (λ b. own-some c share n _ (h .2 b)) in
@@ -430,7 +524,7 @@ module _ (c : Channel) (share : Bool) (n : ℕ) where
         let s = step c share n (first (record { call = continue v; lent = lits share n os r .machine .buf })) w
         (m, own-lent (own-lent-back c _)) .stand in
         let o = subst (OwnSome c share n) (x .muted) (muted-own (lits-own c share n (x .still) u)) in
-        let q = late-items is (x .still) (h .3) (gone-roomed v r k)
+        let q = late-items is us (late.gone share n v r) (x .still) (h .3) (gone-roomed v r k)
         (at-muted (late.gone share n v (lits share n os r)) (lits share n os (late.gone share n v r)) st z (x .muted)
         (record { state = o .state; is = o .is })
         (lits-roomed os (late.gone share n v r) (gone-roomed v r k) .few) s) in
@@ -438,35 +532,36 @@ module _ (c : Channel) (share : Bool) (n : ℕ) where
       where
         muted-own : {x : Run} → OwnSome c share n x → OwnSome c share n (mute x)
         muted-own h = record { state = h .state; is = h .is }
-    late-items (stores-own b ∷ is) (gets-at p g q a τ {s = s} d f) h k w =
-        let m = own-like (does-before c d) (h .1) in
-        let y = does-touched c d m (room (k .machine)) in
-        let x : Roomed (runOf true (asks p (s .0, b) g) q a τ)
-        = record { machine = rooms (question (pending 0)) (k .machine) b .machine; few = k .few } in
-        let v = late-items is (gets-at p g q a τ (y .does) f) (h .2) x
-        (touched-lits p g q a a τ d (y .does) (y .touched) x (own-some c share n (runOf true (asks p s g) q a τ) (h .0))
-        f w) in
+    late-items (stopped o b ∷ is) us r (gets-at p g q a τ {s = s} d f) h k w =
+        let v = acted (stopped o b) is (λ us r y h k w. late-items is us r y h k w) p g q a τ d f (h .0)
+        (stops-at p g q a τ s (does-before c d) o b (h .1)) (h .2) k w in
+        let e = stopped-answer o b (runOf true (asks p s g) q a τ) (h .1) in
+        record { stand = v .stand; told = λ i. e i ∷ v .told i; free = v .free }
+    late-items (stores-own b ∷ is) us r (gets-at p g q a τ {s = s} d f) h k w =
+        let v = acted (stores-own b) is (λ us r y h k w. late-items is us r y h k w) p g q a τ d f (h .0)
+        (stores-at p g q a τ s (does-before c d) b (h .1)) (h .2) k w in
         record { stand = v .stand; told = v .told; free = v .free }
-    late-items (calls-own e ∷ is) {us} (gets-at p g q a τ {s = s} d f) h k w =
-        let r = runOf true (asks p s g) q a τ in
-        let m = acts p g q a τ s (does-before c d) (e .call) (e .lent) (h .1) (h .2) in
-        let y = does-touched c d (m .touched) (room (k .machine)) in
-        let x : Roomed (runOf true (asks p (m .after) g) q (m .answer) τ) = m .roomed k in
-        let v = late-items is (gets-at p g q (m .answer) τ (y .does) f) (subst (AtOwn c share n is) (m .is) (h .3)) x
-        (touched-lits p g q a (m .answer) τ d (y .does) (y .touched) x (own-some c share n r (h .0)) f w) in
-        let y = subst (λ r. LateItems is us r st z) (sym (m .is)) v in
-        record { stand = y .stand; told = y .told; free = y .free }
+    late-items (calls-own e ∷ is) us r (gets-at p g q a τ {s = s} d f) h k w =
+        let v = acted (calls-own e) is (λ us r y h k w. late-items is us r y h k w) p g q a τ d f (h .0)
+        (acts p g q a τ s (does-before c d) (e .call) (e .lent) (h .1)) (h .2) k w in
+        record { stand = v .stand; told = v .told; free = v .free }
+    late-items (goes-back m b ∷ is) us r (gets-at p g q a τ {s = s} d f) h k w =
+        let v = acted (goes-back m b) is (λ us r y h k w. late-items is us r y h k w) p g q a τ d f (h .0)
+        (backs p g q a τ s (does-before c d) m b (h .1)) (h .2) k w in
+        record { stand = v .stand; told = v .told; free = v .free }
 
   -- ---- both, up to the continue
 
   module _ (st : ℕ) (p : Access) (g g′ : ℕ → St → tree.Out St Answer) where
-    record Twins (os : List Light) (s t : St) : Type 0 where
+    -- the one gets what the others get; the other, r, gets its list
+    record Twins (es : List Item) (s : St) (τ : List ℕ) (r : Run) : Type 0 where
       us : List (Ans Answer)
       us′ : List (Ans Answer)
       after : St
       after′ : St
-      does : Does c os us s after
-      does′ : Does c os us′ t after′
+      does : Does c (lightsOf es) us s after
+      is : mute (items share n es r) ≡ mute (runOf true (asks p after′ g′) p (told 0) τ)
+      answers : itemAnswers share n es r ≡ woven (commonOf es) us′
       like : LowEquiv c quiet after after′
       same-told : AllSame (c .number) us us′
       room : Roomy (machineOf (busy true (awaited p) g) after)
@@ -497,29 +592,63 @@ module _ (c : Channel) (share : Bool) (n : ℕ) where
         let y = subst Roomed (lit-is c share n o p s k p (told 0) [] l) x in
         (few-of o s (told 0) (y .few), y .machine)
 
-    twins : (os : List Light) (q : Access) (a : Ans Answer) (τ : List ℕ) {s t : St}
-        → OfOthers c share n os (runOf true (asks p t g′) q a τ)
-        → LowEquiv c quiet s t → Roomy (machineOf (busy true (awaited p) g) s)
-        → Roomy (machineOf (busy true (awaited p) g′) t) → Twins os s t
-    twins [] q a τ {s} {t} m l r r′ = record {
+    twinned : (i : Item) (is : List Item) {s : St} {τ : List ℕ} {r : Run} (z : Twins is s τ (item share n i r))
+        → lightsOf (i ∷ is) ≡ lightsOf is
+        → itemAnswers share n (i ∷ is) r ≡ woven (commonOf (i ∷ is)) (z .us′) → Twins (i ∷ is) s τ r
+    twinned i is {s} z e h = record {
+      us = z .us;
+      us′ = z .us′;
+      after = z .after;
+      after′ = z .after′;
+      does = subst (λ os. Does c os (z .us) s (z .after)) (sym e) (z .does);
+      is = z .is;
+      answers = h;
+      like = z .like;
+      same-told = z .same-told;
+      room = z .room;
+      room′ = z .room′;
+    }
+
+    -- an item that changes nothing but the channel's data
+    twin-acted : (i : Item) (is : List Item) → ((q : Access) (a : Ans Answer) (τ : List ℕ) (s t : St)
+        → Before c share n is (runOf true (asks p t g′) q a τ)
+        → LowEquiv c quiet s t → Roomy (machineOf (busy true (awaited p) g) s) → Roomed (runOf true (asks p t g′) q a τ)
+        → Twins is s τ (runOf true (asks p t g′) q a τ))
+        → (q : Access) (a : Ans Answer) (τ : List ℕ) (s t : St)
+        → Acts p g′ q a τ t (item share n i (runOf true (asks p t g′) q a τ))
+        → Before c share n is (item share n i (runOf true (asks p t g′) q a τ)) → LowEquiv c quiet s t
+        → Roomy (machineOf (busy true (awaited p) g) s)
+        → Roomed (runOf true (asks p t g′) q a τ) → Twins is s τ (item share n i (runOf true (asks p t g′) q a τ))
+    twin-acted i is rec q a τ s t m h l r r′ =
+        subst (Twins is s τ) (sym (m .is)) (rec q (m .answer) τ s (m .after) (subst (Before c share n is) (m .is) h)
+        (like-sym (touch (m .touched) (like-sym l))) r (m .roomed r′))
+
+    twins : (es : List Item) (q : Access) (a : Ans Answer) (τ : List ℕ) (s t : St)
+        → Before c share n es (runOf true (asks p t g′) q a τ)
+        → LowEquiv c quiet s t → Roomy (machineOf (busy true (awaited p) g) s) → Roomed (runOf true (asks p t g′) q a τ)
+        → Twins es s τ (runOf true (asks p t g′) q a τ)
+    twins [] q a τ s t m l r r′ = record {
       us = [];
       us′ = [];
       after = s;
       after′ = t;
       does = did-none (l .left);
-      does′ = did-none (l .right);
+      is = refl;
+      answers = refl;
       like = l;
       same-told = none;
       room = r;
-      room′ = r′;
+      room′ = r′ .machine;
     }
-    twins (o ∷ os) q a τ {s} {t} m l r r′ =
+    twins (late.gets o ∷ is) q a τ s t m l r r′ =
         let i = still-other c (l .right) (but-reach c (like-sym l .but)) o (m .0) in
         let y = light-both c st o i (m .0) l in
         let x = lit-told g o s (l .left) r in
-        let x′ = lit-told g′ o t (l .right) r′ in
-        let z = twins os q (lastAnswer o t a) τ (subst (OfOthers c share n os)
-        (lit-is c share n o p t g′ q a τ (l .right)) (m .1)) (y .like) (x .1) (x′ .1) in
+        let e = lit-is c share n o p t g′ q a τ (l .right) in
+        let x′ : Roomed (runOf true (asks p (done-at o t) g′) q (lastAnswer o t a) τ) =
+        subst Roomed e (lit-roomed o (runOf true (asks p t g′) q a τ) r′) in
+        let z = twins is q (lastAnswer o t a) τ (done-at o s) (done-at o t) (subst (Before c share n is) e (m .1))
+        (y .like) (x .1) x′ in
         record {
           us = answersBy o (answered o (seen o s)) (z .us);
           us′ = answersBy o (answered o (seen o t)) (z .us′);
@@ -527,45 +656,66 @@ module _ (c : Channel) (share : Bool) (n : ℕ) where
           after′ = z .after′;
           does = did-more (record { before = l .left; after = y .like .left; other = i; is = refl; told = refl })
               (z .does) refl;
-          does′ = did-more (record { before = l .right; after = y .like .right; other = m .0; is = refl; told = refl })
-              (z .does′) refl;
+          is = ap (λ r. mute (items share n is r)) e ∙ z .is;
+          answers = ap (λ (r : Run). answersBy o (r .answer) (itemAnswers share n is r)) e
+              ∙ ap (answersBy o (lastAnswer o t a)) (z .answers)
+              ∙ crossing.same-answers o t a (woven (commonOf is) (z .us′))
+              ∙ woven-light o (answered o (seen o t)) (z .us′) (commonOf is);
           like = z .like;
-          same-told = all-by o (y .same-told (x .0) (x′ .0)) (z .same-told);
+          same-told = all-by o (y .same-told (x .0) (few-of o t a (x′ .few))) (z .same-told);
           room = z .room;
           room′ = z .room′;
         }
+    twins (goes-own v ∷ is) q a τ s t m l r r′ = absurd m
+    twins (stopped o b ∷ is) q a τ s t m l r r′ =
+        let z = twin-acted (stopped o b) is (λ q a τ s t m l r r′. twins is q a τ s t m l r r′) q a τ s t
+        (stops-at p g′ q a τ t (l .right) o b (m .0)) (m .1) l r r′ in
+        let e = stopped-answer o b (runOf true (asks p t g′) q a τ) (m .0) in
+        twinned (stopped o b) is z refl (λ i. e i ∷ z .answers i)
+    twins (stores-own b ∷ is) q a τ s t m l r r′ =
+        let z = twin-acted (stores-own b) is (λ q a τ s t m l r r′. twins is q a τ s t m l r r′) q a τ s t
+        (stores-at p g′ q a τ t (l .right) b (m .0)) (m .1) l r r′ in
+        twinned (stores-own b) is z refl (z .answers)
+    twins (calls-own d ∷ is) q a τ s t m l r r′ =
+        let z = twin-acted (calls-own d) is (λ q a τ s t m l r r′. twins is q a τ s t m l r r′) q a τ s t
+        (acts p g′ q a τ t (l .right) (d .call) (d .lent) (m .0)) (m .1) l r r′ in
+        twinned (calls-own d) is z refl (z .answers)
+    twins (goes-back v b ∷ is) q a τ s t m l r r′ =
+        let z = twin-acted (goes-back v b) is (λ q a τ s t m l r r′. twins is q a τ s t m l r r′) q a τ s t
+        (backs p g′ q a τ t (l .right) v b (m .0)) (m .1) l r r′ in
+        twinned (goes-back v b) is z refl (z .answers)
 
   -- ---- a late turn
 
-  -- what the others get, in both before the continue
-  pub record Reach (v v′ : ℕ) (os : List Light) (w : Two) : Type 0 where
+  -- what the others get, in both before the continue: `cs` is what both get
+  pub record Reach (v v′ : ℕ) (es : List Item) (cs : List Common) (w : Two) : Type 0 where
     pub us : List (Ans Answer)
     pub us′ : List (Ans Answer)
-    pub gets : Gets c share n os us (w .first)
-    pub gets′ : Gets c share n os us′ (w .second)
+    pub gets : Gets c share n (lightsIn cs) us (w .first)
+    pub answers : itemAnswers share n es (w .second) ≡ woven cs us′
     pub same-told : AllSame (c .number) us us′
     pub stand : At c (record {
-      first = late.gone share n v (lits share n os (w .first));
-      second = late.gone share n v′ (lits share n os (w .second));
+      first = late.gone share n v (lits share n (lightsIn cs) (w .first));
+      second = late.gone share n v′ (items share n es (w .second));
       status = w .status;
     })
     pub roomed : Roomed (w .first)
-    pub free′ : FreeWay c (late.gone share n v′ (lits share n os (w .second)) .machine .under-way)
+    pub free′ : FreeWay c (late.gone share n v′ (items share n es (w .second)) .machine .under-way)
 
   pub reach : {w : Two} → At c w → FreeWay c (w .first .machine .under-way) → FreeWay c (w .second .machine .under-way)
-      → (v v′ : ℕ) (os : List Light)
-      → Continues c (w .status) v v′ (w .first) (w .second) → OfOthers c share n os (w .second) → Reach v v′ os w
-  reach (at st i (end x l) q q′ h k k′ e) fr fr′ v v′ os m o = absurd (m .serving)
+      → (v v′ : ℕ) (es : List Item)
+      → Continues c (w .status) v v′ (w .first) (w .second) → Before c share n es (w .second)
+      → Reach v v′ es (commonOf es) w
+  reach (at st i (end x l) q q′ h k k′ e) fr fr′ v v′ es m o = absurd (m .serving)
   reach (at st true (both {q = p} {s = s} {t = t} {k = g} {k′ = g′} quiet z w w′ l f) q q′ {a = a} {a′ = a′} {t = τ}
-      {t′ = τ′} h k k′ e) fr fr′ v v′ os m o =
-      let y = twins st p g g′ os q′ a′ τ′ o l (k .room) (k′ .room) in
-      let d : late.gone share n v (lits share n os (runOf true (asks p s g) q a τ))
+      {t′ = τ′} h k k′ e) fr fr′ v v′ es m o =
+      let y = twins st p g g′ es q′ a′ τ′ s t o l (k .room) (record { machine = k′ .room; few = k′ .few }) in
+      let d : late.gone share n v (lits share n (lightsOf es) (runOf true (asks p s g) q a τ))
       ≡ late.gone share n v (runOf true (asks p (y .after) g) q a τ) =
       ap (λ z. late.gone share n v z) (does-lits c share n p g q a τ (y .does)) in
-      let d′ : late.gone share n v′ (lits share n os (runOf true (asks p t g′) q′ a′ τ′))
-      ≡ late.gone share n v′ (runOf true (asks p (y .after′) g′) q′ a′ τ′)
-      = ap (λ z. late.gone share n v′ z) (does-lits c share n p g′ q′ a′ τ′ (y .does′)) in
-      let b = goes-by c share n st true (both quiet tt w w′ (y .like) f) q q′ {a = a} {a′ = a′}
+      let d′ : late.gone share n v′ (items share n es (runOf true (asks p t g′) q′ a′ τ′))
+      ≡ late.gone share n v′ (runOf true (asks p (y .after′) g′) q′ a′ τ′) = ap (λ z. late.gone share n v′ z) (y .is) in
+      let b = goes-by c share n st true (both quiet z w w′ (y .like) f) q q′ {a = a} {a′ = a′}
       (record { spares = λ j. spares-put (y .after) (k .spares j); few = k .few; room = y .room })
       (record { spares = λ j. spares-put (y .after′) (k′ .spares j); few = k′ .few; room = y .room′ }) e v v′
       (y .after .1) (y .after′ .1) (
@@ -578,53 +728,55 @@ module _ (c : Channel) (share : Bool) (n : ℕ) where
         us = y .us;
         us′ = y .us′;
         gets = gets-at p g q a τ (y .does) fr;
-        gets′ = gets-at p g′ q′ a′ τ′ (y .does′) fr′;
+        answers = y .answers;
         same-told = y .same-told;
         stand = subst (λ x. At c (beside st x (late.gone share n v′
-            (lits share n os (runOf true (asks p t g′) q′ a′ τ′))))) (sym d)
+            (items share n es (runOf true (asks p t g′) q′ a′ τ′))))) (sym d)
             (subst (λ x. At c (beside st (late.gone share n v (runOf true (asks p (y .after) g) q a τ)) x)) (sym d′) b);
         roomed = record { machine = k .room; few = k .few };
         free′ = subst (λ (z : Run). FreeWay c (z .machine .under-way)) (sym d′)
             (drive-free c (continue v′) (machineOf (busy true (awaited p) g′) (y .after′)) (y .after′ .1) fr′
-            (λ _. does-after c (y .does′)));
+            (λ _. y .like .right));
       }
-  reach (at st true (both (mid y j) z w w′ l f) q q′ h k k′ e) fr fr′ v v′ os m o = absurd z
-  reach (at st false (both φ z w w′ l f) q q′ h k k′ e) fr fr′ v v′ os m o = absurd (m .serving)
-  reach (at st i (left {s = s} {k = g} w p z f) q q′ h k k′ e) fr fr′ v v′ os m o
+  reach (at st true (both (mid y j) z w w′ l f) q q′ h k k′ e) fr fr′ v v′ es m o = absurd (z .0)
+  reach (at st false (both φ z w w′ l f) q q′ h k k′ e) fr fr′ v v′ es m o = absurd (m .serving)
+  reach (at st i (left {s = s} {k = g} w p z f) q q′ h k k′ e) fr fr′ v v′ es m o
       = absurd (true≢false (sym (own-yes (c .number) g s w) ∙ m .shared))
-  reach (at st i (right {t = t} {k = g} w p z f) q q′ h k k′ e) fr fr′ v v′ os m o
+  reach (at st i (right {t = t} {k = g} w p z f) q q′ h k k′ e) fr fr′ v v′ es m o
       = absurd (true≢false (sym (own-yes (c .number) g t w) ∙ m .shared′))
-  reach (at st i (owns {s = s} {k = g} w w′ l f f′) q q′ h k k′ e) fr fr′ v v′ os m o
+  reach (at st i (owns {s = s} {k = g} w w′ l f f′) q q′ h k k′ e) fr fr′ v v′ es m o
       = absurd (true≢false (sym (own-yes (c .number) g s w) ∙ m .shared))
 
-  pub record LateDone (v v′ : ℕ) (is : List Item) (w : Two) : Type 0 where
-    pub stand : At c (later share n (first-late v v′ is) w)
-    pub heard : Heard c share n (first-late v v′ is) w
+  pub record LateDone (v v′ : ℕ) (is es : List Item) (w : Two) : Type 0 where
+    pub stand : At c (later share n (first-late v v′ is es) w)
+    pub heard : Heard c share n (first-late v v′ is es) w
     pub free : FreeWay c (items share n is (late.gone share n v (w .first)) .machine .under-way)
-    pub free′ : FreeWay c (late.gone share n v′ (lits share n (lightsOf is) (w .second)) .machine .under-way)
+    pub free′ : FreeWay c (late.gone share n v′ (items share n es (w .second)) .machine .under-way)
 
   pub first-by : {w : Two} → At c w → FreeWay c (w .first .machine .under-way)
-      → FreeWay c (w .second .machine .under-way) → (v v′ : ℕ) (is : List Item)
-      → Continues c (w .status) v v′ (w .first) (w .second) → Late c share n v is (w .first) (w .second)
-      → LateDone v v′ is w
-  first-by {w} a fr fr′ v v′ is m o =
+      → FreeWay c (w .second .machine .under-way) → (v v′ : ℕ) (is es : List Item)
+      → Continues c (w .status) v v′ (w .first) (w .second) → Late c share n v is es (w .first) (w .second)
+      → LateDone v v′ is es w
+  first-by {w} a fr fr′ v v′ is es m o =
       let os = lightsOf is in
       let r = w .first in
-      let r′ = late.gone share n v′ (lits share n os (w .second)) in
-      let y = reach a fr fr′ v v′ os m (o .others) in
+      let r′ = late.gone share n v′ (items share n es (w .second)) in
+      let y : Reach v v′ es (commonOf is) w = subst (λ cs. Reach v v′ es cs w) (o .same)
+      (reach a fr fr′ v v′ es m (o .early)) in
       let u = own-some c share n (late.gone share n v r) (through-own is (late.gone share n v r) (o .own)) in
       let x = crosses c share n (y .gets) v (m .within) u
       (λ b. own-some c share n (late.gone share n v (lits share n os r)) (o .unseen b)) in
       let h = subst (OwnSome c share n) (x .muted) (muted-own (lits-own c share n (x .still) u)) in
       let k = gone-roomed v r (y .roomed) in
-      let z = late-items (w .status) r′ is (x .still) (o .own) k
+      let z = late-items (w .status) r′ is (y .us) (late.gone share n v r) (x .still) (o .own) k
       (at-muted (late.gone share n v (lits share n os r)) (lits share n os (late.gone share n v r)) (w .status) r′
       (x .muted)
       (record { state = h .state; is = h .is }) (lits-roomed os (late.gone share n v r) k .few) (y .stand)) in
       record {
         stand = z .stand;
-        heard = subst (λ us. AllSame (c .number) us (litAnswers share n os (w .second))) (sym (z .told))
-            (subst (λ us. AllSame (c .number) (y .us) us) (sym (gets-answers c share n (y .gets′))) (y .same-told));
+        heard = subst (λ us. AllSame (c .number) us (itemAnswers share n es (w .second))) (sym (z .told))
+            (subst (λ us. AllSame (c .number) (woven (commonOf is) (y .us)) us) (sym (y .answers))
+            (woven-same (commonOf is) (y .us) (y .us′) (y .same-told)));
         free = z .free;
         free′ = y .free′;
       }
@@ -740,6 +892,11 @@ module _ (c : Channel) (share : Bool) (n : ℕ) where
   go-right (go-row16 x y h) = inr (h .right)
   go-right (go-on x y z h) = inr (h .right)
 
+  back-left : {v : ℕ} {r : Run} {b : Buf} → Refuses c v r b → (unfit (continue v) r b ≡ true)
+      ⊎ Stored (r .machine .st) (r .machine .buf) b
+  back-left (back-row1 x) = inl x
+  back-left (back-lent x h) = inr (h .stored)
+
   of-channel : {o : Op} → OfChannel (c .number) o → irq o ≡ false
   of-channel (polls e n p) = refl
   of-channel (passes o p) = refl
@@ -778,13 +935,22 @@ module _ (c : Channel) (share : Bool) (n : ℕ) where
     other = alone-free (e .call) (e .lent) (w .second) (f .other)
         (alone-lent (e .call) (w .second) (e .lent) (first-fine (at-swap a)) m);
   }
+  turn-free (first-refused v b) w a m f = record {
+    one = called-free (continue v) b (w .first) (f .one) (go-lent v (w .first) b (first-fine a) (back-left m));
+    other = f .other;
+  }
+  turn-free (second-refused v b) w a m f = record {
+    one = f .one;
+    other = called-free (continue v) b (w .second) (f .other)
+        (go-lent v (w .second) b (first-fine (at-swap a)) (back-left m));
+  }
 
   pub later-free : (t : Later) (w : Two) → At c w → MayLate c share n t w → FreeBoth w → FreeBoth (later share n t w)
   later-free (timely t) w a m f = turn-free t w a m f
-  later-free (first-late v v′ is) w a m f =
-      let y = first-by a (f .one) (f .other) v v′ is (m .0) (m .1) in record { one = y .free; other = y .free′ }
-  later-free (second-late v v′ is) w a m f =
-      let y = first-by (at-swap a) (f .other) (f .one) v′ v is (turned-round a (m .0)) (m .1) in record
+  later-free (first-late v v′ is es) w a m f =
+      let y = first-by a (f .one) (f .other) v v′ is es (m .0) (m .1) in record { one = y .free; other = y .free′ }
+  later-free (second-late v v′ is es) w a m f =
+      let y = first-by (at-swap a) (f .other) (f .one) v′ v is es (turned-round a (m .0)) (m .1) in record
       { one = y .free′; other = y .free }
 
   pub turns-free : (ts : List Turn) (w : Two) → At c w → Allowed c share n ts w → FreeBoth w
@@ -794,13 +960,11 @@ module _ (c : Channel) (share : Bool) (n : ℕ) where
       (turn-free t w a (m .0) f)
 
   -- where the two part nothing is under way
-  pub opened-free : (s : Session) (w : Two) → startRow (s .config) (s .lent) ≡ zero → w .first .time ≡ w .second .time
-      → opened share n s w .first .machine .under-way ≡ idle → FreeBoth (opened share n s w)
-  opened-free s w row e rests = record {
-    one = subst (FreeWay c) (sym rests) tt;
-    other = subst (FreeWay c) (sym (subst (λ (z : Run). given share n (s .before) z .machine .under-way ≡ idle)
-        (starts share n (s .config) (s .lent) row (w .first) ∙ (ap (λ t. anew share n (s .config) (s .lent) row t) e
-        ∙ sym (starts share n (s .config) (s .lent) row (w .second)))) rests)) tt;
+  pub opened-free : (s : Session) (w : Two) → w .first .time ≡ w .second .time → Opens share n s w
+      → FreeBoth (opened share n s w)
+  opened-free s w e o = record {
+    one = subst (FreeWay c) (sym (o .rests)) tt;
+    other = subst (FreeWay c) (sym (parted share n s w e o .rests)) tt;
   }
 
   -- ---- lists of turns
@@ -820,11 +984,11 @@ module _ (c : Channel) (share : Bool) (n : ℕ) where
     after-it
         = y .after-it;
   }
-  late-step (first-late v v′ is) a f m =
-      let y = first-by a (f .one) (f .other) v v′ is (m .0) (m .1) in
+  late-step (first-late v v′ is es) a f m =
+      let y = first-by a (f .one) (f .other) v v′ is es (m .0) (m .1) in
       record { stand = y .stand; heard = y .heard; after-it = stood (y .stand) }
-  late-step (second-late v v′ is) {w} a f m =
-      let y = first-by (at-swap a) (f .other) (f .one) v′ v is (turned-round a (m .0)) (m .1) in
+  late-step (second-late v v′ is es) {w} a f m =
+      let y = first-by (at-swap a) (f .other) (f .one) v′ v is es (turned-round a (m .0)) (m .1) in
       let z = at-swap (y .stand) in
       record { stand = z; heard = all-round (y .heard); after-it = stood z }
 
@@ -846,7 +1010,7 @@ undisturbed-late share n (s ∷ ss) w e o =
     let a = opened-at share n (s .opening) w e (o .0) in
     let b = stands-after c share n (s .opening .turns) a (o .0 .allowed) in
     let f = turns-free c share n (s .opening .turns) _ a (o .0 .allowed)
-    (opened-free c share n (s .opening) w (o .0 .accepted) e (o .0 .rests)) in
+    (opened-free c share n (s .opening) w e (o .0)) in
     let z = every-late c share n (s .turns) b f (o .1) in (
       always c share n (s .opening .turns) a (o .0 .allowed),
       z .0,

@@ -42,9 +42,11 @@ pub mod StandingLaws
 pub mod Runs
 pub mod RunsLaws
 pub mod AloneLaws
+pub mod UnreadLaws
 pub mod FreshBook
 pub mod StartLaws
 pub mod Undisturbed
+pub mod PartingLaws
 pub mod UndisturbedLaws
 pub mod TimeLaws
 pub mod Code
@@ -56,9 +58,11 @@ pub mod Lights
 pub mod LightsLaws
 pub mod Does
 pub mod DoesLaws
+pub mod WithoutLaws
 pub mod SlidesLaws
 pub mod CrossingLaws
 pub mod LateRunsLaws
+pub mod Seen
 pub mod SeenLaws
 pub mod EarlyLaws
 pub mod LateCode

@@ -23,20 +23,27 @@ use Rattle.proof_book.specs.FrontPage.{Chip, whenNot, BufferPreserved}
 use Rattle.proof_book.specs.MachineRuns.{Premise}
 use Rattle.proof_book.specs.Sorting.{sortsOf}
 use Rattle.proof_isolation.specs.EqualExcept.{Channel}
-use Rattle.proof_isolation.specs.Schedule.{Run, Two, Turn, Early, gets, accessOf, runBy, ownBy, statusOf}
-use Rattle.proof_isolation.specs.Schedule.{called, alone, turn, given, heeded, after, May, Allowed}
+use Rattle.proof_isolation.specs.Schedule.{Run, Two, Turn, Parallel, gets, gets-both, firstOf, secondOf, accessOf}
+use Rattle.proof_isolation.specs.Schedule.{runBy, ownBy, statusOf}
+use Rattle.proof_isolation.specs.Schedule.{called, apart, alone, turn, given, heeded, after, May, Allowed}
 use Rattle.proof_isolation.specs.FreshBook.{freshBook}
-use Rattle.proof_isolation.specs.Undisturbed.{Session, Opens}
+use Rattle.proof_isolation.specs.Undisturbed.{Session, opened, one-list, Opens}
 use Rattle.proof_isolation.specs.Moves.{Move, serves, reads, stored, stored-both, first-goes, second-goes}
 use Rattle.proof_isolation.specs.Moves.{first-opens, first-closes}
 use Rattle.proof_isolation.specs.Moves.{isIdle, turnOf, fine, sound}
 
 -- ---- calls of both, each lent the slot buffer as the last one left it
 
-abbrev pub earlies : List (Call Config Op) → Run → List Early
+abbrev pub earlies : List (Call Config Op) → Run → List Parallel
 earlies [] r = []
 earlies (c ∷ cs) r =
-    gets (record { call = c; lent = r .machine .buf }) ∷ earlies cs (called false 0 c (r .machine .buf) r)
+    gets-both c (r .machine .buf) (r .machine .buf) ∷ earlies cs (called false 0 c (r .machine .buf) r)
+
+-- the second run gets what the first gets
+one-in-both : (cs : List (Call Config Op)) (r : Run) → secondOf (earlies cs r) ≡ firstOf (earlies cs r)
+one-in-both [] r = refl
+one-in-both (c ∷ cs) r = ap (λ es. gets (record { call = c; lent = r .machine .buf }) ∷ es)
+    (one-in-both cs (called false 0 c (r .machine .buf) r))
 
 -- what a call is, by whether it is turned down
 abbrev byDown : Call Config Op → Buf → Run → Bool → StepResult × List ℕ
@@ -65,7 +72,7 @@ as-left (continue v) n b = granted (misfit calls (book .driver) (n .st) b) (no-s
 as-left (question q) n b = no-store (n .st) b
 
 abbrev Meets : List (Call Config Op) → Run → Machine Answer Pages → Type 0
-Meets cs r y = Premise (heeded false 0 (earlies cs r) r) (r .machine) y
+Meets cs r y = Premise (heeded false 0 (firstOf (earlies cs r)) r) (r .machine) y
 
 meets : (cs : List (Call Config Op)) (r : Run) (y : Machine Answer Pages) → Meets cs r y
 meets [] r y = tt
@@ -75,7 +82,7 @@ meets (c ∷ cs) r y =
   where
     by : ((z : Run) (u : Machine Answer Pages) → Meets cs z u) → (d : Bool)
         → Premise (cond d (lentBack (question (pending 0)) r) (lentBack c r) ∷
-        heeded false 0 (earlies cs (nextRun c r d)) (nextRun c r d)) (r .machine) y
+        heeded false 0 (firstOf (earlies cs (nextRun c r d))) (nextRun c r d)) (r .machine) y
     by f true = (as-left (question (pending 0)) y (r .machine .buf), f (nextRun c r true) _)
     by f false = (as-left c y (r .machine .buf), f (nextRun c r false) _)
 
@@ -109,7 +116,7 @@ not-down : (c : Call Config Op) (b : Buf) (r : Run)
     → (turnedDown 0 (sortOf c) (drive c (r .machine) b .0) (r .machine .st) (r .time) && false) ≡ false
 not-down c b r = and-off (turnedDown 0 (sortOf c) (drive c (r .machine) b .0) (r .machine .st) (r .time))
 
-quick-is : (c : Call Config Op) (b : Buf) (r : Run) → called false 0 c b r ≡ quick c b r
+pub quick-is : (c : Call Config Op) (b : Buf) (r : Run) → called false 0 c b r ≡ quick c b r
 quick-is c b r = ap (λ d. runBy (r .access) (byDown c b r d)) (not-down c b r)
 
 pub quickly-is : (c : Call Config Op) (r : Run) → called false 0 c (r .machine .buf) r ≡ quickly c r
@@ -120,11 +127,20 @@ own-is o r =
     ap (λ d. ownBy (r .access) (r .answer) (byDown (begin o) (r .machine .buf) r d))
     (not-down (begin o) (r .machine .buf) r)
 
+-- a continue whose answer is not compared
+abbrev pub quickBack : ℕ → Buf → Run → Run
+quickBack v b r =
+    let z = quick (continue v) b r in
+    record { machine = z .machine; access = z .access; answer = r .answer; time = z .time }
+
+pub back-is : (v : ℕ) (b : Buf) (r : Run) → apart false 0 (continue v) b r ≡ quickBack v b r
+back-is v b r = ap (λ d. ownBy (r .access) (r .answer) (byDown (continue v) b r d)) (not-down (continue v) b r)
+
 abbrev pub quickAll : List (Call Config Op) → Run → Run
 quickAll [] r = r
 quickAll (c ∷ cs) r = let z = quickly c r in quickAll cs z
 
-given-is : (cs : List (Call Config Op)) (r : Run) → given false 0 (earlies cs r) r ≡ quickAll cs r
+given-is : (cs : List (Call Config Op)) (r : Run) → given false 0 (firstOf (earlies cs r)) r ≡ quickAll cs r
 given-is [] r = refl
 given-is (c ∷ cs) r = given-is cs (called false 0 c (r .machine .buf) r) ∙ ap (quickAll cs) (quickly-is c r)
 
@@ -233,7 +249,7 @@ module _ (k : Config) (b : Buf) (cs : List (Call Config Op)) (ms : List Move) (r
   started = called false 0 (start k) b r₀
 
   abbrev pub set-up : Run
-  set-up = given false 0 (earlies cs started) started
+  set-up = given false 0 (firstOf (earlies cs started)) started
 
   abbrev pub quickSetUp : Run
   quickSetUp = quickAll cs (quick (start k) b r₀)
@@ -280,10 +296,16 @@ module _ (k : Config) (b : Buf) (cs : List (Call Config Op)) (ms : List Move) (r
     session = record {
       config = k;
       lent = b;
+      lent′ = b;
       before = earlies cs started;
       channel = channel;
       turns = turnsOf 1 ms (parting set-up);
     }
+
+    -- the two are one run up to the turns
+    one-run : parting set-up ≡ opened false 0 session (parting r₀)
+    one-run = ap (λ es. record { first = set-up; second = given false 0 es started; status = 0 })
+        (sym (one-in-both cs started))
 
     pub opens : Opens false 0 session (parting r₀)
     opens = record {
@@ -292,12 +314,18 @@ module _ (k : Config) (b : Buf) (cs : List (Call Config Op)) (ms : List Move) (r
       rests = idle-is _ (flag-on _ (nth 4));
       stage = nth 5;
       sorts = refl;
-      allowed = allowed 1 channel refl ms (parting set-up) (ap (drop 6) met);
+      alike = one-list refl (one-in-both cs started);
+      allowed = subst (Allowed channel false 0 (turnsOf 1 ms (parting set-up))) one-run
+          (allowed 1 channel refl ms (parting set-up) (ap (drop 6) met));
     }
 
-    pub after-all : after false 0 (session .turns) (parting set-up) ≡ quickLast 1 ms (parting quickSetUp)
-    after-all = all-is 1 ms (parting set-up) ∙ ap (λ r. quickLast 1 ms (parting r)) set-up-is
+    pub after-all : after false 0 (session .turns) (opened false 0 session (parting r₀))
+        ≡ quickLast 1 ms (parting quickSetUp)
+    after-all = ap (after false 0 (session .turns)) (sym one-run) ∙ all-is 1 ms (parting set-up)
+        ∙ ap (λ r. quickLast 1 ms (parting r)) set-up-is
 
     pub after-is : (n : ℕ)
-        → after false 0 (take n (session .turns)) (parting set-up) ≡ quickLast 1 (take n ms) (parting quickSetUp)
-    after-is n = last-is 1 n ms (parting set-up) ∙ ap (λ r. quickLast 1 (take n ms) (parting r)) set-up-is
+        → after false 0 (take n (session .turns)) (opened false 0 session (parting r₀))
+        ≡ quickLast 1 (take n ms) (parting quickSetUp)
+    after-is n = ap (after false 0 (take n (session .turns))) (sym one-run) ∙ last-is 1 n ms (parting set-up)
+        ∙ ap (λ r. quickLast 1 (take n ms) (parting r)) set-up-is

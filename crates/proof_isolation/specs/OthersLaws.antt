@@ -2,7 +2,7 @@
 use mathlib.Core.Bool.{false, cond}
 use mathlib.Core.Logic.{_≢_}
 use mathlib.Core.Path.{_≡_, ap, sym, _∙_}
-use Prim.Native.Nat.{ℕ, _≤_, _<_}
+use Prim.Native.Nat.{ℕ, _+_, _≤_, _<_}
 use native.Mathlib.Omega.{arith}
 use lib.ListN.{getD}
 use Rattle.regs.specs.declared.Dir.{Dir}
@@ -25,7 +25,7 @@ use Rattle.script_ops.specs.Rings.{St}
 use Rattle.proof_book.specs.Coupling.{endOf, lensOf, slotStamps}
 use Rattle.proof_book.specs.Stamps.{stamped}
 use Rattle.proof_isolation.specs.EqualExcept.{SameCodes, Channel, LowEquiv}
-use Rattle.proof_isolation.specs.ButsLaws.{others-same}
+use Rattle.proof_isolation.specs.ButsLaws.{others-same, ep0-same}
 use Rattle.proof_isolation.specs.Schedule.{Asked, SameOthers}
 use Rattle.proof_isolation.specs.ValuesLaws.{in-other}
 
@@ -56,6 +56,11 @@ module _ {c : Channel} {φ : Phase} {s t : St} (l : LowEquiv c φ s t) where
       → epOn (s .0) dir e .base ≤ k → k < endOf (epOn (s .0) dir e) → getD (s .1) k 0 ≡ getD (t .1) k 0
   same-bytes dir e k n p q = sym (others-same l dir e _ _ n (omega arith) (omega arith) k p q)
 
+  -- and of EP0's buffer
+  pub same-ep0 : (k : ℕ) → s .0 .globals .«ep0_buf» ≤ k → k < s .0 .globals .«ep0_buf» + s .0 .allocator .size
+      → getD (s .1) k 0 ≡ getD (t .1) k 0
+  same-ep0 k p q = sym (ep0-same l _ _ (omega arith) (omega arith) k p q)
+
   -- the packets turned away
   pub same-overruns : (e : ℕ) → key Out e ≢ key Out (c .number) → epOn (s .0) Out e .overruns
       ≡ epOn (t .0) Out e .overruns
@@ -81,6 +86,8 @@ same-others l p q = record {
   queue = same-queue l;
   stamps = same-stamps l;
   bytes = same-bytes l;
+  ep0-place = ap (λ (g : Globals). g .«ep0_buf») (l .but .globals);
+  ep0 = same-ep0 l;
   overrun = same-overruns l;
   wakes = same-wakes l p q;
   questions = same-answers l;

@@ -2,7 +2,7 @@
 use mathlib.Core.Bool.{Bool, true, false, cond}
 use mathlib.Core.List.{[], _∷_}
 use mathlib.Core.Path.{_≡_, refl, subst, sym, _∙_}
-use Prim.Native.Nat.{ℕ}
+use Prim.Native.Nat.{ℕ, _≤_}
 use native.Mathlib.Omega.{arith}
 use Rattle.regs.specs.declared.Access.the-variants.{Read, Receive}
 use Rattle.regs.specs.declared.Reg.the-variants.{IntSt}
@@ -30,7 +30,7 @@ use Rattle.proof_book.specs.OutsLaws.{Inner}
 use Rattle.proof_book.specs.ArrivesLaws.{admits, headAddr, arrived-inner, armed-plain, arrived-words}
 use Rattle.proof_isolation.specs.EqualExcept.{Beside, Lawful, Channel, LowEquiv, Touched}
 use Rattle.proof_isolation.specs.Whose.{sof}
-use Rattle.proof_isolation.specs.Apart.{Its, status, receive, ApartBy, Apart, left, owns, PairBy, Pair}
+use Rattle.proof_isolation.specs.Apart.{Its, status, receive, Without, ApartBy, Apart, left, owns, PairBy, Pair}
 use Rattle.proof_isolation.specs.PairsLaws.{apart-flip, apart-later, past-of}
 use Rattle.proof_isolation.specs.LikesLaws.{inner-stays, own-changed, but-refl, like-sym, touch}
 use Rattle.proof_isolation.specs.ButsLaws.{lawful-hand}
@@ -113,7 +113,9 @@ rest-its x f s = status
 
 -- what follows the check, in the one run and in the other: no access of x's own
 module _ {c : Channel} {st : ℕ} {A B : Type 0} (Q : A → B → Type 0) (f : St → tree.Out St A)
-    (g : St → tree.Out St B) (h : (s t : St) → LowEquiv c quiet s t → Apart c st true Q (f s) (g t)) where
+    (g : St → tree.Out St B) (h : (s t : St) → LowEquiv c quiet s t → Apart c st true Q (f s) (g t))
+    (w : (e : ℕ) → e ≤ c .number → (s : St) → Without e (f s)) (w′ : (e : ℕ) → e ≤ c .number → (s : St)
+    → Without e (g s)) where
   arrived : (n : ℕ) {s t : St} → LowEquiv c quiet s t → LowEquiv c quiet (handOn (arrive (c .number) n) s .1) t
   arrived n {s} l = touch (own-arrives c n s (l .left)) l
 
@@ -122,7 +124,7 @@ module _ {c : Channel} {st : ℕ} {A B : Type 0} (Q : A → B → Type 0) (f : S
 
   receive-past : (y : ℕ) {s t : St} → LowEquiv c quiet s t
       → ApartBy c st true Q true (at-receive (c .number) f y s) (g t)
-  receive-past y l = left (refl, λ _. receive) (past-of refl (h _ _ l)) (l .left)
+  receive-past y {t = t} l = left (refl, λ _. receive) (past-of (g t) (λ e i. w′ e i t)) (l .left)
       (λ v s m. past-past (own-wake c (touch m l)))
 
   -- what the status says decides
@@ -133,7 +135,7 @@ module _ {c : Channel} {st : ℕ} {A B : Type 0} (Q : A → B → Type 0) (f : S
   rest-past false n l = receive-past _ (arrived n l)
 
   status-past : {s t : St} → LowEquiv c quiet s t → ApartBy c st true Q true (at-status (c .number) f s) (g t)
-  status-past l = left (refl, λ s. rest-its (c .number) f s) (past-of refl (h _ _ l))
+  status-past {t = t} l = left (refl, λ s. rest-its (c .number) f s) (past-of (g t) (λ e i. w′ e i t))
       (l .left) (λ v s m. rest-past (arriving v (c .number)) (lookOf (marked (c .number)) s) (touch m l))
 
 module _ {c : Channel} {st : ℕ} {A B : Type 0} {Q : A → B → Type 0} {f : St → tree.Out St A} {g : St → tree.Out St B}
@@ -142,87 +144,97 @@ module _ {c : Channel} {st : ℕ} {A B : Type 0} {Q : A → B → Type 0} {f : S
   flipped t s l = apart-flip (h s t (like-sym l))
 
 module _ {c : Channel} {st : ℕ} {A B : Type 0} (Q : A → B → Type 0) (f : St → tree.Out St A)
-    (g : St → tree.Out St B) (h : (s t : St) → LowEquiv c quiet s t → Apart c st true Q (f s) (g t)) where
+    (g : St → tree.Out St B) (h : (s t : St) → LowEquiv c quiet s t → Apart c st true Q (f s) (g t))
+    (w : (e : ℕ) → e ≤ c .number → (s : St) → Without e (f s)) (w′ : (e : ℕ) → e ≤ c .number → (s : St)
+    → Without e (g s)) where
   past-receive : (y : ℕ) {s t : St} → LowEquiv c quiet s t
       → ApartBy c st true Q true (f s) (at-receive (c .number) g y t)
-  past-receive y l = apart-flip (receive-past (λ b a. Q a b) g f (flipped h) y (like-sym l))
+  past-receive y l = apart-flip (receive-past (λ b a. Q a b) g f (flipped h) w′ w y (like-sym l))
 
   past-status : {s t : St} → LowEquiv c quiet s t → ApartBy c st true Q true (f s) (at-status (c .number) g t)
-  past-status l = apart-flip (status-past (λ b a. Q a b) g f (flipped h) (like-sym l))
+  past-status l = apart-flip (status-past (λ b a. Q a b) g f (flipped h) w′ w (like-sym l))
 
   receive-receive : (y y′ : ℕ) {s t : St} → LowEquiv c quiet s t
       → ApartBy c st true Q true (at-receive (c .number) f y s) (at-receive (c .number) g y′ t)
   receive-receive y y′ l = owns (refl, λ _. receive) (refl, λ _. receive) l (λ v s t m. past-receive y′ (own-wake c m))
-      (λ v s t m. receive-past Q f g h y (like-sym (own-wake c (like-sym m))))
+      (λ v s t m. receive-past Q f g h w w′ y (like-sym (own-wake c (like-sym m))))
 
   rest-receive : (b : Bool) (n y : ℕ) {s t : St} → LowEquiv c quiet s t → ApartBy c st true Q true
       (bindOut (run {i = true} concrete (test b done (arrives (c .number) n)) s) (λ _ z. f z))
       (at-receive (c .number) g y t)
   rest-receive true n y l = past-receive y l
-  rest-receive false n y l = receive-receive _ y (arrived Q f g h n l)
+  rest-receive false n y l = receive-receive _ y (arrived Q f g h w w′ n l)
 
   status-receive : (y : ℕ) {s t : St} → LowEquiv c quiet s t
       → ApartBy c st true Q true (at-status (c .number) f s) (at-receive (c .number) g y t)
   status-receive y l = owns (refl, λ s. rest-its (c .number) f s) (refl, λ _. receive) l
       (λ v s t m. rest-receive (arriving v (c .number)) (lookOf (marked (c .number)) s) y m)
-      (λ v s t m. status-past Q f g h (like-sym (own-wake c (like-sym m))))
+      (λ v s t m. status-past Q f g h w w′ (like-sym (own-wake c (like-sym m))))
 
 module _ {c : Channel} {st : ℕ} {A B : Type 0} (Q : A → B → Type 0) (f : St → tree.Out St A)
-    (g : St → tree.Out St B) (h : (s t : St) → LowEquiv c quiet s t → Apart c st true Q (f s) (g t)) where
+    (g : St → tree.Out St B) (h : (s t : St) → LowEquiv c quiet s t → Apart c st true Q (f s) (g t))
+    (w : (e : ℕ) → e ≤ c .number → (s : St) → Without e (f s)) (w′ : (e : ℕ) → e ≤ c .number → (s : St)
+    → Without e (g s)) where
   receive-status : (y : ℕ) {s t : St} → LowEquiv c quiet s t
       → ApartBy c st true Q true (at-receive (c .number) f y s) (at-status (c .number) g t)
-  receive-status y l = apart-flip (status-receive (λ b a. Q a b) g f (flipped h) y (like-sym l))
+  receive-status y l = apart-flip (status-receive (λ b a. Q a b) g f (flipped h) w′ w y (like-sym l))
 
   rest-status : (b : Bool) (n : ℕ) {s t : St} → LowEquiv c quiet s t → ApartBy c st true Q true
       (bindOut (run {i = true} concrete (test b done (arrives (c .number) n)) s) (λ _ z. f z))
       (at-status (c .number) g t)
-  rest-status true n l = past-status Q f g h l
-  rest-status false n l = receive-status _ (arrived Q f g h n l)
+  rest-status true n l = past-status Q f g h w w′ l
+  rest-status false n l = receive-status _ (arrived Q f g h w w′ n l)
 
 module _ {c : Channel} {st : ℕ} {A B : Type 0} (Q : A → B → Type 0) (f : St → tree.Out St A)
-    (g : St → tree.Out St B) (h : (s t : St) → LowEquiv c quiet s t → Apart c st true Q (f s) (g t)) where
+    (g : St → tree.Out St B) (h : (s t : St) → LowEquiv c quiet s t → Apart c st true Q (f s) (g t))
+    (w : (e : ℕ) → e ≤ c .number → (s : St) → Without e (f s)) (w′ : (e : ℕ) → e ≤ c .number → (s : St)
+    → Without e (g s)) where
   status-status : {s t : St} → LowEquiv c quiet s t → ApartBy c st true Q true (at-status (c .number) f s)
       (at-status (c .number) g t)
   status-status l = owns (refl, λ s. rest-its (c .number) f s) (refl, λ s. rest-its (c .number) g s) l
-      (λ v s t m. rest-status Q f g h (arriving v (c .number)) (lookOf (marked (c .number)) s) m)
-      (λ v s t m. apart-flip (rest-status (λ b a. Q a b) g f (flipped h) (arriving v (c .number))
+      (λ v s t m. rest-status Q f g h w w′ (arriving v (c .number)) (lookOf (marked (c .number)) s) m)
+      (λ v s t m. apart-flip (rest-status (λ b a. Q a b) g f (flipped h) w′ w (arriving v (c .number))
       (lookOf (marked (c .number)) t) (like-sym m)))
 
   -- the one at its check's begin, the other past, at its receive address, at its status reading
   module _ (y : Transfer) where
     check-past : (b e : Bool) {s t : St} → LowEquiv c quiet s t
         → ApartBy c st true Q true (checks (c .number) y f b e s) (g t)
-    check-past false e l = past-past Q f g h l
-    check-past true true l = receive-past Q f g h _ (arrived Q f g h (y .len) l)
-    check-past true false l = status-past Q f g h l
+    check-past false e l = past-past Q f g h w w′ l
+    check-past true true l = receive-past Q f g h w w′ _ (arrived Q f g h w w′ (y .len) l)
+    check-past true false l = status-past Q f g h w w′ l
 
     check-receive : (z : ℕ) (b e : Bool) {s t : St}
         → LowEquiv c quiet s t → ApartBy c st true Q true (checks (c .number) y f b e s) (at-receive (c .number) g z t)
-    check-receive z false e l = past-receive Q f g h z l
-    check-receive z true true l = receive-receive Q f g h _ z (arrived Q f g h (y .len) l)
-    check-receive z true false l = status-receive Q f g h z l
+    check-receive z false e l = past-receive Q f g h w w′ z l
+    check-receive z true true l = receive-receive Q f g h w w′ _ z (arrived Q f g h w w′ (y .len) l)
+    check-receive z true false l = status-receive Q f g h w w′ z l
 
     check-status : (b e : Bool) {s t : St} → LowEquiv c quiet s t
         → ApartBy c st true Q true (checks (c .number) y f b e s) (at-status (c .number) g t)
-    check-status false e l = past-status Q f g h l
-    check-status true true l = receive-status Q f g h _ (arrived Q f g h (y .len) l)
+    check-status false e l = past-status Q f g h w w′ l
+    check-status true true l = receive-status Q f g h w w′ _ (arrived Q f g h w w′ (y .len) l)
     check-status true false l = status-status l
 
 -- in both: the two checks need not go alike
 module _ {c : Channel} {st : ℕ} {A B : Type 0} (Q : A → B → Type 0) (f : St → tree.Out St A) (g : St → tree.Out St B)
-    (h : (s t : St) → LowEquiv c quiet s t → Apart c st true Q (f s) (g t)) (y y′ : Transfer) where
+    (h : (s t : St) → LowEquiv c quiet s t → Apart c st true Q (f s) (g t))
+    (w : (e : ℕ) → e ≤ c .number → (s : St) → Without e (f s)) (w′ : (e : ℕ) → e ≤ c .number → (s : St)
+    → Without e (g s)) (y y′ : Transfer) where
   check-check : (b b′ e e′ : Bool) {s t : St} → LowEquiv c quiet s t
       → ApartBy c st true Q true (checks (c .number) y f b e s) (checks (c .number) y′ g b′ e′ t)
-  check-check b false e e′ l = check-past Q f g h y b e l
-  check-check b true e true {s} {t} l = check-receive Q f g h y _ b e
-      (like-sym (arrived (λ b a. Q a b) g f (flipped h) (y′ .len) (like-sym l)))
-  check-check b true e false l = check-status Q f g h y b e l
+  check-check b false e e′ l = check-past Q f g h w w′ y b e l
+  check-check b true e true {s} {t} l = check-receive Q f g h w w′ y _ b e
+      (like-sym (arrived (λ b a. Q a b) g f (flipped h) w′ w (y′ .len) (like-sym l)))
+  check-check b true e false l = check-status Q f g h w w′ y b e l
 
 pub p-own-check : {c : Channel} {st : ℕ} {A B : Type 0} {Q : A → B → Type 0}
     (y y′ : Transfer) (iso : Bool) {p : Script true A} {p′ : Script true B}
-    → Pair c st Q p p′ → PairBy c st true Q (checkOne y iso (c .number) >> p) (checkOne y′ iso (c .number) >> p′)
-p-own-check {c} {Q = Q} y y′ iso {p} {p′} h = record {
-  on = λ s t l. check-check Q (λ z. run concrete p z) (λ z. run concrete p′ z) (λ s t l. h .on s t l) y y′
+    → Pair c st Q p p′ → ((e : ℕ) → e ≤ c .number → (s : St) → Without e (run concrete p s))
+    → ((e : ℕ) → e ≤ c .number → (s : St) → Without e (run concrete p′ s))
+    → PairBy c st true Q (checkOne y iso (c .number) >> p) (checkOne y′ iso (c .number) >> p′)
+p-own-check {c} {Q = Q} y y′ iso {p} {p′} h w w′ = record {
+  on = λ s t l. check-check Q (λ z. run concrete p z) (λ z. run concrete p′ z) (λ s t l. h .on s t l) w w′ y y′
       (isOf (changed (c .number)) s) (isOf (changed (c .number)) t) (entry y iso (c .number)) (entry y′ iso (c .number))
       l;
 }

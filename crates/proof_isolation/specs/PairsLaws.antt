@@ -1,7 +1,7 @@
 -- The rules of `Pair`: how two scripts that line up are composed
 use mathlib.Core.Bool.{Bool, true, false, true≢false}
 use mathlib.Core.Path.{_≡_, refl, subst, sym}
-use Prim.Native.Nat.{ℕ, zero, suc}
+use Prim.Native.Nat.{ℕ, zero, suc, _≤_}
 use Rattle.regs.specs.declared.Reg.{Reg}
 use Rattle.regs.specs.declared.Reg.the-variants.{IntFg, IntSt, MisSt, RxLen, FrameNo, Ctrl, IntEn, DevAd, HostCtrl}
 use Rattle.regs.specs.declared.Reg.the-variants.{EpConfig, EpType, EpBufMod, EpMaxLen, EpTLen, EpRxCtrl, EpTxCtrl}
@@ -10,17 +10,22 @@ use Rattle.regs.specs.declared.Access.the-variants.{Read, Write, Receive, Trans
 use Rattle.script.specs.Tree.{Out, ends, asks, bindOut}
 use Rattle.script.specs.Cells.{Cell, Val}
 use Rattle.script.specs.Every.{sameReg}
-use Rattle.script.specs.Script.{Script, ret, bind, test, _>>_, when, read, write, wait, callback, get, put, is, look}
+use Rattle.script.specs.Script.{Script, run, ret, bind, test, _>>_, when, read, write, wait, callback, get, put, is}
+use Rattle.script.specs.Script.{look}
 use Rattle.script.specs.Script.{fetch, act, hand, row, rows, Test, Look, Fetch, Act, DmaStep, dmaStepAsk, Burst, lastOf}
-use Rattle.script.specs.Script.{burstAsk}
+use Rattle.script.specs.Script.{burstAsk, dma, arrive, send, place, place0}
+use Rattle.regs.specs.declared.Dir.{Dir}
+use Rattle.regs.specs.declared.Dir.the-variants as dir-of
 use Rattle.script.specs.Simulates.{quiet, mid, Fits}
 use Rattle.script_ops.specs.Rings.{St, rowOn}
 use Rattle.script_ops.specs.Concrete.{concrete, getOn, putOn, isOf, lookOf, fetchOf, actOn, handOn}
 use Rattle.proof_isolation.specs.EqualExcept.{Channel, LowEquiv}
-use Rattle.proof_isolation.specs.LikesLaws.{like-sym, touched-refl}
+use Rattle.proof_isolation.specs.LikesLaws.{like-sym}
 use Rattle.proof_isolation.specs.Whose.{sof}
 use Rattle.proof_isolation.specs.Apart.{Reads, Brings, ownable, Next, next, Another, never, elsewhere, Its}
-use Rattle.proof_isolation.specs.Apart.{status, receive, Past, gone, waits, ApartBy, end, both, left, right, owns}
+use Rattle.proof_isolation.specs.Apart.{statusRead, SameNext, same-next, Matched, plain, nexts}
+use Rattle.proof_isolation.specs.Apart.{status, receive, Past, gone, waits, Without, without-ask, ApartBy, end}
+use Rattle.proof_isolation.specs.Apart.{both, left, right, owns}
 use Rattle.proof_isolation.specs.Apart.{Apart, PairBy, Pair}
 
 abbrev pub Eq : {A : Type 0} → A → A → Type 0
@@ -82,16 +87,48 @@ module _ {x : ℕ} {A B : Type 0} (f : A → St → Out St B) where
   its-bind status = status
   its-bind receive = receive
 
+module _ {A B C D : Type 0} (f : A → St → Out St C) (g : B → St → Out St D) where
+  next-binds : {o : Out St A} {u : Out St B} → SameNext o u → SameNext (bindOut o f) (bindOut u g)
+  next-binds (same-next h) = same-next h
+
+  matched-bind : {q : Access} {o : Out St A} {u : Out St B} → Matched q o u → Matched q (bindOut o f) (bindOut u g)
+  matched-bind (plain h) = plain h
+  matched-bind (nexts h) = nexts (next-binds h)
+
+pub next-sym : {A B : Type 0} {o : Out St A} {u : Out St B} → SameNext o u → SameNext u o
+next-sym (same-next h) = same-next (λ x. sym (h x))
+
+pub matched-sym : {A B : Type 0} {q : Access} {o : Out St A} {u : Out St B} → Matched q o u → Matched q u o
+matched-sym (plain h) = plain h
+matched-sym (nexts h) = nexts (next-sym h)
+
+dma-plain : (dir : Dir) (e y : ℕ) → statusRead (dma dir e y) ≡ false
+dma-plain dir-of.Out e y = refl
+dma-plain dir-of.In e y = refl
+
+hand-plain : (q : DmaStep) (y : ℕ) → statusRead (dmaStepAsk q y) ≡ false
+hand-plain (arrive e n) y = refl
+hand-plain (send e) y = refl
+hand-plain (place dir e) y = dma-plain dir e y
+hand-plain place0 y = refl
+
 -- no interrupt's
 no-interrupt : {X : Type 0} → false ≡ true → X
 no-interrupt e = absurd (true≢false (sym e))
 
--- the other run's end, beside one that was continued to its end
-record Met (ch : Channel) {A B : Type 0} (P : A → B → Type 0) (b : B) (t : St) : Type 0 where
-  value : A
-  state : St
-  holds : P value b
-  like : LowEquiv ch quiet state t
+-- what follows hands out no access made for x or for one below it
+first-without : {e : ℕ} {A : Type 0} {q : Access} {s : St} {k : ℕ → St → Out St A} → Without e (asks q s k) → (t : St)
+    → Another e q (k sof t)
+first-without (without-ask n k) t = n t
+
+pub past-of : {x : ℕ} {A : Type 0} (u : Out St A) → ((e : ℕ) → e ≤ x → Without e u) → Past x u
+past-of (ends a s) h = gone
+past-of (asks q s k) h = waits (λ e l t. first-without (h e l) t)
+
+past-after : {x : ℕ} {A B : Type 0} {u : Out St A} (g : A → St → Out St B) → Past x u
+    → ((a : A) (e : ℕ) (t : St) → Without e (g a t)) → Past x (bindOut u g)
+past-after g gone h = past-of (g _ _) (λ e l. h _ e _)
+past-after g (waits n) h = waits (λ e l s. another-bind g (n e l s))
 
 module _ {ch : Channel} {st : ℕ} where
   -- ---- outcomes
@@ -110,8 +147,8 @@ module _ {ch : Channel} {st : ℕ} where
       → ApartBy ch st i Q m o u → ApartBy ch st i (λ b a. Q a b) m u o
   apart-flip (end q l) = end q (like-sym l)
   apart-flip (both {q = q} φ f p p′ l k) =
-      both φ f p′ p (like-sym l) (λ v v′ s t b r. apart-flip
-      (k v′ v t s (brings-sym (ch .number) st q v v′ b) (like-sym r)))
+      both φ (f .0, λ e s t. matched-sym (f .1 e t s)) p′ p (like-sym l)
+      (λ v v′ s t b r. apart-flip (k v′ v t s (brings-sym (ch .number) st q v v′ b) (like-sym r)))
   apart-flip (left w p z k) = right w p z (λ v s l. apart-flip (k v s l))
   apart-flip (right w p z k) = left w p z (λ v t l. apart-flip (k v t l))
   apart-flip (owns w w′ l k k′) = owns w′ w (like-sym l) (λ v t s r. apart-flip (k′ v s t (like-sym r)))
@@ -122,25 +159,6 @@ module _ {ch : Channel} {st : ℕ} where
   apart-later (end q l) = end q l
   apart-later (both φ f p p′ l k) = both φ f p p′ l (λ v v′ s t b r. apart-later (k v v′ s t b r))
 
-  -- where no access of x's own comes any more, none is handed out
-  pub past-of : {i : Bool} {A B : Type 0} {Q : A → B → Type 0} {o : Out St A} {u : Out St B} → i ≡ true
-      → Apart ch st i Q o u → Past (ch .number) u
-  past-of e (end q l) = gone
-  past-of e (both φ f p p′ l k) = waits (p′ e)
-
-  met : {m i : Bool} {A B : Type 0} {P : A → B → Type 0} {o : Out St A} {b : B} {t : St}
-      → ApartBy ch st i P m o (ends b t) → Met ch P b t
-  met (end q l) = record { value = _; state = _; holds = q; like = l }
-  met (left {s = s} w p z k) = met (k sof s (touched-refl z))
-
-  past-after : {i : Bool} {A B C D : Type 0} {P : A → B → Type 0} {Q : C
-      → D → Type 0} {o : Out St A} {u : Out St B} {f : A → St → Out St C} {g : B → St → Out St D} → i ≡ true
-      → ApartBy ch st i P true o u → Past (ch .number) u
-      → ((a : A) (b : B) (s t : St) → P a b → LowEquiv ch quiet s t → Apart ch st i Q (f a s) (g b t))
-      → Past (ch .number) (bindOut u g)
-  past-after e d gone h = let w = met d in past-of e (h _ _ _ _ (w .holds) (w .like))
-  past-after {g = g} e d (waits n) h = waits (λ s. another-bind g (n s))
-
   -- x's own accesses come after
   apart-bind : {m i : Bool} {A B C D : Type 0} {P : A
       → B → Type 0} {Q : C → D → Type 0} {o : Out St A} {u : Out St B} {f : A → St → Out St C} {g : B → St → Out St D}
@@ -148,27 +166,27 @@ module _ {ch : Channel} {st : ℕ} where
       → ApartBy ch st i Q m (f a s) (g b t))
       → ApartBy ch st i Q m (bindOut o f) (bindOut u g)
   apart-bind (end q l) h = h _ _ _ _ q l
-  apart-bind {f = f} {g = g} (both φ z p p′ l k) h = both φ z
+  apart-bind {f = f} {g = g} (both φ z p p′ l k) h = both φ (z .0, λ e s t. matched-bind f g (z .1 e s t))
       (λ e s. another-bind f (p e s)) (λ e s. another-bind g (p′ e s)) l (λ v v′ s t b r. apart-bind (k v v′ s t b r) h)
 
-  -- or before
+  -- or before; then what follows hands out none made for an isochronous OUT endpoint
   apart-before : {m i : Bool} {A B C D : Type 0} {P : A
       → B → Type 0} {Q : C → D → Type 0} {o : Out St A} {u : Out St B} {f : A → St → Out St C} {g : B → St → Out St D}
       → ApartBy ch st i P m o u → ((a : A) (b : B) (s t : St) → P a b → LowEquiv ch quiet s t
       → Apart ch st i Q (f a s) (g b t))
+      → ((a : A) (e : ℕ) (s : St) → Without e (f a s)) → ((b : B) (e : ℕ) (t : St) → Without e (g b t))
       → ApartBy ch st i Q m (bindOut o f) (bindOut u g)
-  apart-before (end q l) h = apart-later (h _ _ _ _ q l)
-  apart-before {f = f} {g = g} (both φ z p p′ l k) h = both φ z (λ e s. another-bind f (p e s))
-      (λ e s. another-bind g (p′ e s)) l (λ v v′ s t b r. apart-before (k v v′ s t b r) h)
-  apart-before {f = f} (left {s = s} w p z k) h = left (w .0, λ s. its-bind f (w .1 s))
-      (past-after (w .0) (k sof s (touched-refl z)) p h) z (λ v s l. apart-before (k v s l) h)
-  apart-before {g = g} (right {t = t} w p z k) h = right (w .0, λ s. its-bind g (w .1 s))
-      (past-after (w .0) (apart-flip (k sof t (touched-refl z))) p
-      (λ b a t s q l. apart-flip (h a b s t q (like-sym l)))) z
-      (λ v t l. apart-before (k v t l) h)
-  apart-before {f = f} {g = g} (owns w w′ l k k′) h = owns (w .0, λ s. its-bind f (w .1 s))
-      (w′ .0, λ s. its-bind g (w′ .1 s)) l
-      (λ v s t r. apart-before (k v s t r) h) (λ v s t r. apart-before (k′ v s t r) h)
+  apart-before (end q l) h x x′ = apart-later (h _ _ _ _ q l)
+  apart-before {f = f} {g = g} (both φ z p p′ l k) h x x′
+      = both φ (z .0, λ e s t. matched-bind f g (z .1 e s t)) (λ e s. another-bind f (p e s))
+      (λ e s. another-bind g (p′ e s)) l (λ v v′ s t b r. apart-before (k v v′ s t b r) h x x′)
+  apart-before {f = f} {g = g} (left w p z k) h x x′ = left (w .0, λ s. its-bind f (w .1 s))
+      (past-after g p x′) z (λ v s l. apart-before (k v s l) h x x′)
+  apart-before {f = f} {g = g} (right w p z k) h x x′ = right (w .0, λ s. its-bind g (w .1 s))
+      (past-after f p x) z (λ v t l. apart-before (k v t l) h x x′)
+  apart-before {f = f} {g = g} (owns w w′ l k k′) h x x′
+      = owns (w .0, λ s. its-bind f (w .1 s)) (w′ .0, λ s. its-bind g (w′ .1 s)) l
+      (λ v s t r. apart-before (k v s t r) h x x′) (λ v s t r. apart-before (k′ v s t r) h x x′)
 
   -- ---- composed scripts
 
@@ -199,12 +217,15 @@ module _ {ch : Channel} {st : ℕ} where
     pub p-before : {C D : Type 0} {P : C → D → Type 0} {p : Script i C} {p′ : Script i D} {f : C → Script i A}
         {g : D → Script i B}
         → PairBy ch st m P p p′ → ((c : C) (d : D) → P c d → Pair ch st Q (f c) (g d))
-        → PairBy ch st m Q (bind p f) (bind p′ g)
-    p-before h k = record { on = λ s t r. apart-before (h .on s t r) (λ c d s t q r. k c d q .on s t r) }
+        → ((c : C) (e : ℕ) (s : St) → Without e (run concrete (f c) s))
+        → ((d : D) (e : ℕ) (s : St) → Without e (run concrete (g d) s)) → PairBy ch st m Q (bind p f) (bind p′ g)
+    p-before h k x x′ = record { on = λ s t r. apart-before (h .on s t r) (λ c d s t q r. k c d q .on s t r) x x′ }
 
     pub p-before-then : {C D : Type 0} {p : Script i C} {p′ : Script i D} {q : Script i A} {q′ : Script i B}
-        → PairBy ch st m Any p p′ → Pair ch st Q q q′ → PairBy ch st m Q (p >> q) (p′ >> q′)
-    p-before-then h k = p-before h (λ _ _ _. k)
+        → PairBy ch st m Any p p′ → Pair ch st Q q q′ → ((e : ℕ) (s : St) → Without e (run concrete q s))
+        → ((e : ℕ) (s : St) → Without e (run concrete q′ s))
+        → PairBy ch st m Q (p >> q) (p′ >> q′)
+    p-before-then h k x x′ = p-before h (λ _ _ _. k) (λ _. x) (λ _. x′)
 
     pub p-test : {p q : Script i A} {p′ q′ : Script i B} (b : Bool) → (b ≡ true → PairBy ch st m Q p p′)
         → (b ≡ false → PairBy ch st m Q q q′) → PairBy ch st m Q (test b p q) (test b p′ q′)
@@ -235,26 +256,26 @@ module _ {ch : Channel} {st : ℕ} where
     pub p-read : (r : Reg) (e : ℕ) → sameReg r IntSt ≡ false
         → Pair ch st {i = i} (Reads (ch .number) st r) (read r e) (read r e)
     p-read r e h = record {
-      on = λ s t l. both quiet (rests i) (λ _ _. never h) (λ _ _. never h) l
+      on = λ s t l. both quiet (rests i, λ _ _ _. plain h) (λ _ _. never h) (λ _ _. never h) l
           (λ v v′ s t b l. end b l);
     }
 
     pub p-write : (r : Reg) (e v : ℕ) → Pair ch st {i = i} Any (write r e v) (write r e v)
     p-write r e v = record {
-      on = λ s t l. both quiet (rests i) (λ _ _. never refl) (λ _ _. never refl) l
-          (λ v v′ s t b l. end tt l);
+      on = λ s t l. both quiet (rests i, λ _ _ _. plain refl) (λ _ _. never refl)
+          (λ _ _. never refl) l (λ v v′ s t b l. end tt l);
     }
 
     pub p-wait : (n : ℕ) → Pair ch st {i = i} Any (wait n) (wait n)
     p-wait n = record {
-      on = λ s t l. both quiet (rests i) (λ _ _. never refl) (λ _ _. never refl) l
-          (λ v v′ s t b l. end tt l);
+      on = λ s t l. both quiet (rests i, λ _ _ _. plain refl) (λ _ _. never refl) (λ _ _. never refl)
+          l (λ v v′ s t b l. end tt l);
     }
 
     pub p-callback : Pair ch st {i = i} Any callback callback
     p-callback = record {
-      on = λ s t l. both quiet (rests i) (λ _ _. never refl) (λ _ _. never refl) l
-          (λ v v′ s t b l. end tt l);
+      on = λ s t l. both quiet (rests i, λ _ _ _. plain refl) (λ _ _. never refl)
+          (λ _ _. never refl) l (λ v v′ s t b l. end tt l);
     }
 
     pub p-get : (c : Cell) (P : Val c → Val c → Type 0)
@@ -290,7 +311,8 @@ module _ {ch : Channel} {st : ℕ} where
       on = λ s t l. subst
           (λ y. Apart ch st i Any (asks (dmaStepAsk q (handOn q s .0)) (handOn q s .1) (λ _ t. ends tt t))
           (asks (dmaStepAsk q y) (handOn q t .1) (λ _ t. ends tt t))) (h s t l .0)
-          (both quiet (rests i) (λ _ _. never (n _)) (λ _ _. never (n _)) (h s t l .1) (λ v v′ s t b l. end tt l));
+          (both quiet (rests i, λ _ _ _. plain (hand-plain q _)) (λ _ _. never (n _)) (λ _ _. never (n _)) (h s t l .1)
+          (λ v v′ s t b l. end tt l));
     }
 
   -- ---- a row of accesses
@@ -301,11 +323,13 @@ module _ {ch : Channel} {st : ℕ} where
         (rows concrete g n stop t)
     steps zero s t x = subst (λ y. Apart ch st false Any (rows concrete g zero stop s)
         (asks (burstAsk g zero y) (rowOn g zero t .1) (λ _ t. stop t))) (x .0)
-        (both (mid g zero) tt no-interrupt no-interrupt (x .1) (λ v v′ s t b l. end tt (over s t l)))
+        (both (mid g zero) (tt, λ e s t. no-interrupt e) no-interrupt no-interrupt (x .1)
+        (λ v v′ s t b l. end tt (over s t l)))
     steps (suc n) s t x = subst
         (λ y. Apart ch st false Any (rows concrete g (suc n) stop s)
         (asks (burstAsk g (suc n) y) (rowOn g (suc n) t .1) (λ _ t. rows concrete g n stop t))) (x .0)
-        (both (mid g (suc n)) tt no-interrupt no-interrupt (x .1) (λ v v′ s t b l. steps n s t (next n s t l)))
+        (both (mid g (suc n)) (tt, λ e s t. no-interrupt e) no-interrupt no-interrupt (x .1)
+        (λ v v′ s t b l. steps n s t (next n s t l)))
 
     pub p-row : ((s t : St) → LowEquiv ch quiet s t → Steps ch g (lastOf g) s t) → Pair ch st Any (row g) (row g)
     p-row first = record { on = λ s t l. steps (lastOf g) s t (first s t l) }

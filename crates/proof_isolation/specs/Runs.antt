@@ -53,7 +53,7 @@ no-row1 true x y = refl
 no-row1 false x y = refl
 
 module _ (c : Channel) {φ : Phase} (s : St) (b : Buf) (l : Lawful (c .iso) φ (s .0, b)) where
-  go-idle : (v : ℕ) → drive (continue v) (machineOf idle s) b ≡ (ended (Refused 15), machineOf idle (s .0, b))
+  pub go-idle : (v : ℕ) → drive (continue v) (machineOf idle s) b ≡ (ended (Refused 15), machineOf idle (s .0, b))
   go-idle v = rw (fits c l) refl
 
   pub go-busy : (i : Bool) (q : Access) (k : ℕ → St → tree.Out St Answer) (v : ℕ)
@@ -439,7 +439,7 @@ module _ (c : Channel) (share : Bool) (n : ℕ) where
         }) (record { spares = λ j. spares-put u′ (k′ .spares j); few = y′ .answer; room = y′ .machine }) e;
         answers = alike (same-ans x (y .answer) (y′ .answer));
       })
-  begins-lent st true (both (mid y j) z w w′ l f) q q′ k k′ e v op b b′ m = absurd z
+  begins-lent st true (both (mid y j) z w w′ l f) q q′ k k′ e v op b b′ m = absurd (z .0)
   begins-lent st false (both {q = p} {s = s} {t = t} {k = g} {k′ = g′} φ z w w′ l f) q q′ {t = r} {t′ = r′} k k′ e v
       (aside o) b b′ m =
       let h = lent-like l (m .3) in

@@ -3,7 +3,7 @@ use mathlib.Core.Bool.{Bool, true, false, cond, _&&_}
 use mathlib.Core.List.{List, [], _∷_}
 use mathlib.Core.Logic.{_≢_}
 use mathlib.Core.Path.{_≡_}
-use Prim.Native.Nat.{ℕ, zero, _≤_, _<_}
+use Prim.Native.Nat.{ℕ, zero, _+_, _≤_, _<_}
 use lib.ListN.{getD}
 use Rattle.regs.specs.declared.Access.{Access}
 use Rattle.regs.specs.declared.Dir.{Dir}
@@ -46,8 +46,8 @@ pub record Two : Type 0 where
   pub status : ℕ
 
 -- what both get: an operation begun or a call that ends at once, with the status word of an interrupt; a continue with
--- its two readings; a question; the chip's stores; what other drivers do to the bus time. What one of them gets alone.
--- Each with the slot buffers as they stand then
+-- its two readings; a question; the chip's stores; what other drivers do to the bus time. What one of them gets alone;
+-- a continue of one alone that is refused, with its reading. Each with the slot buffers as they stand then
 pub data Turn : Type 0 where
   begins : ℕ → Op → Buf → Buf → Turn
   goes : ℕ → ℕ → Buf → Buf → Turn
@@ -55,11 +55,27 @@ pub data Turn : Type 0 where
   stores : Buf → Buf → Turn
   others-time : (List ℕ → List ℕ) → Turn
   first second : Event Config Op → Turn
+  first-refused second-refused : ℕ → Buf → Turn
 
 -- before the two part: a call of both, or what other drivers do to the bus time
 pub data Early : Type 0 where
   gets : Event Config Op → Early
   shares : (List ℕ → List ℕ) → Early
+
+-- the same of both runs: a call, with the slot buffer that each of them is lent
+pub data Parallel : Type 0 where
+  gets-both : Call Config Op → Buf → Buf → Parallel
+  shares-both : (List ℕ → List ℕ) → Parallel
+
+abbrev pub firstOf : List Parallel → List Early
+firstOf [] = []
+firstOf (gets-both c b b′ ∷ ps) = gets (record { call = c; lent = b }) ∷ firstOf ps
+firstOf (shares-both f ∷ ps) = shares f ∷ firstOf ps
+
+abbrev pub secondOf : List Parallel → List Early
+secondOf [] = []
+secondOf (gets-both c b b′ ∷ ps) = gets (record { call = c; lent = b′ }) ∷ secondOf ps
+secondOf (shares-both f ∷ ps) = shares f ∷ secondOf ps
 
 -- the access handed out last
 abbrev pub accessOf : Ans Answer → Access → Access
@@ -139,6 +155,18 @@ module _ (share : Bool) (n : ℕ) where
   turn (others-time f) w = record { first = sharing f (w .first); second = sharing f (w .second); status = w .status }
   turn (first e) w = record { first = alone (e .call) (e .lent) (w .first); second = w .second; status = w .status }
   turn (second e) w = record { first = w .first; second = alone (e .call) (e .lent) (w .second); status = w .status }
+  turn (first-refused v b) w = record {
+    first = apart (continue v) b (w .first);
+    second = w .second;
+    status
+        = w .status;
+  }
+  turn (second-refused v b) w = record {
+    first = w .first;
+    second = apart (continue v) b (w .second);
+    status
+        = w .status;
+  }
 
   abbrev pub given : List Early → Run → Run
   given [] r = r
@@ -183,6 +211,11 @@ abbrev pub wide : Pending Answer Driver → ℕ → Bool
 wide idle v = false
 wide (busy i a k) v = over calls a v
 
+-- rows 15 and 16 refuse a continue with this reading
+abbrev pub refusing : Pending Answer Driver → ℕ → Bool
+refusing idle v = true
+refusing (busy i a k) v = over calls a v
+
 module _ (c : Channel) where
   -- the run stands at an access made for the channel
   abbrev pub atOwn : Run → Bool
@@ -219,6 +252,12 @@ module _ (c : Channel) where
     own-row1 : unfit d r b ≡ true → OwnCall d r b
     own-lent : OwnLent c (stateOf r) b → OwnCall d r b
 
+  -- a continue of one alone that is refused, at any access: with 1, or with 15 or 16, its slot buffer lent as `OwnLent`
+  -- says
+  pub data Refuses (v : ℕ) (r : Run) (b : Buf) : Type 0 where
+    back-row1 : unfit (continue v) r b ≡ true → Refuses v r b
+    back-lent : refusing (r .machine .under-way) v ≡ true → OwnLent c (stateOf r) b → Refuses v r b
+
   -- alone: the continues of an access of the channel's own, whatever they bring, refused ones too; its opens and
   -- closes; its read's polls
   abbrev pub Alone : Call Config Op → Buf → Run → Type 0
@@ -231,8 +270,9 @@ module _ (c : Channel) where
   -- stores in the same order": a call, a question or a store of both where both stand at an access of the channel's own
   -- or neither does; a continue of both where neither does, with the same readings but for the channel's lengths. Both
   -- may be refused with 1 or 16. One alone: continues of an access of the channel's own, refused ones too; the
-  -- channel's opens, closes and read's polls; stores in the channel's slots. Not allowed: a call of the others where
-  -- one stands at an access of the channel's own and the other does not; a start-up (it begins a new session)
+  -- channel's opens, closes and read's polls; stores in the channel's slots; at any access a continue that is refused,
+  -- which the other run may get sooner or later, or not at all. Not allowed: a call of the others where one stands at
+  -- an access of the channel's own and the other does not; a start-up (it begins a new session)
   abbrev pub May : Turn → Two → Type 0
   May (begins st o b b′) w = (atOwn (w .first) ≡ atOwn (w .second)) × Common (c .number) o
       × Timely (w .first .machine .under-way) o × BothCall o (w .first) (w .second) b b′
@@ -245,6 +285,8 @@ module _ (c : Channel) where
   May (others-time f) w = Unit {0}
   May (first e) w = Alone (e .call) (e .lent) (w .first)
   May (second e) w = Alone (e .call) (e .lent) (w .second)
+  May (first-refused v b) w = Refuses v (w .first) b
+  May (second-refused v b) w = Refuses v (w .second) b
 
 -- ---- what is promised
 
@@ -271,6 +313,10 @@ module _ (c : Channel) where
     -- of its slots
     pub bytes : (dir : Dir) (e k : ℕ) → key dir e ≢ key Out (c .number)
         → epOn (m .st) dir e .base ≤ k → k < endOf (epOn (m .st) dir e) → getD (m .buf) k 0 ≡ getD (m′ .buf) k 0
+    -- of EP0's buffer, which lies at the same place in both
+    pub ep0-place : m .st .globals .«ep0_buf» ≡ m′ .st .globals .«ep0_buf»
+    pub ep0 : (k : ℕ) → m .st .globals .«ep0_buf» ≤ k → k < m .st .globals .«ep0_buf» + m .st .allocator .size
+        → getD (m .buf) k 0 ≡ getD (m′ .buf) k 0
     pub overrun : (e : ℕ) → key Out e ≢ key Out (c .number) → epOn (m .st) Out e .overruns
         ≡ epOn (m′ .st) Out e .overruns
     -- gathered so far, "the order in which wake-ups of other endpoints stand to each other"
@@ -291,6 +337,8 @@ module _ (c : Channel) where
   Answered (others-time f) w = Unit {0}
   Answered (first e) w = Unit {0}
   Answered (second e) w = Unit {0}
+  Answered (first-refused v b) w = Unit {0}
+  Answered (second-refused v b) w = Unit {0}
 
   -- after a turn
   pub record After (t : Turn) (w : Two) : Type 0 where

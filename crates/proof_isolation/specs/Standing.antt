@@ -3,6 +3,7 @@ use mathlib.Core.Bool.{Bool, true, false, _&&_, true≢false}
 use mathlib.Core.List.{List}
 use mathlib.Core.Path.{_≡_, refl, ap, subst, sym, _∙_}
 use Prim.Native.Nat.{ℕ}
+use native.Mathlib.Omega.{arith}
 use borrow.Author.Tests.{eq-eqb}
 use Rattle.regs.specs.declared.Access.{Access}
 use Rattle.regs.specs.declared.Access.the-variants.{Read, Write, Receive, Transmit, Ep0Dma, Wait, Callback}
@@ -104,7 +105,8 @@ module _ {c : Channel} {st : ℕ} {i : Bool} where
   telling-own {t = t} {k = g} (both φ z p p′ l k) w a = absurd
       (true≢false (sym (own-yes (c .number) g t w) ∙ own-no (c .number) g t p′))
   telling-own {t = t} {k = g} (left v (waits n) z k) w a
-      = absurd (true≢false (sym (own-yes (c .number) g t w) ∙ own-no (c .number) g {i = i} t (λ _. n)))
+      = absurd (true≢false (sym (own-yes (c .number) g t w)
+      ∙ own-no (c .number) g {i = i} t (λ _. n (c .number) (omega arith))))
   telling-own (right v p z k) w a = refl
   telling-own (owns v v′ l k k′) w a = tt
 

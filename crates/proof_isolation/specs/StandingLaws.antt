@@ -3,6 +3,7 @@ use mathlib.Core.Bool.{Bool, true, false, not, cond, true≢false}
 use mathlib.Core.List.{List}
 use mathlib.Core.Path.{_≡_, refl, ap, sym, _∙_}
 use Prim.Native.Nat.{ℕ, _*_}
+use native.Mathlib.Omega.{arith}
 use lib.ListN.{length}
 use borrow.Author.Tests.{eq-eqb}
 use Rattle.regs.specs.declared.Access.{Access}
@@ -38,7 +39,7 @@ fits c {s = s} l = ap not (eq-eqb (length (s .1)) (s .0 .allocator .count * s .0
 pub past-no : (c : Channel) (i : Bool) {u : tree.Out St Answer} (q : Access) (a : Ans Answer) (t : List ℕ)
     → Past (c .number) u → atOwn c (runOf i u q a t) ≡ false
 past-no c i q a t gone = refl
-past-no c i q a t (waits {s = s} {k = k} n) = own-no (c .number) k {i = i} s (λ _. n)
+past-no c i q a t (waits {s = s} {k = k} n) = own-no (c .number) k {i = i} s (λ _. n (c .number) (omega arith))
 
 -- ---- bus time
 

@@ -1,4 +1,4 @@
--- The two runs are one up to a point after EP0's start with nothing under way: what holds there
+-- A run up to a point after EP0's start with nothing under way: what holds there
 use mathlib.Core.Bool.{Bool, true, false, cond, _&&_, true≢false}
 use mathlib.Core.List.{List, [], _∷_}
 use mathlib.Core.Path.{_≡_, refl, ap, subst, sym, _∙_}
@@ -14,7 +14,6 @@ use Rattle.script.specs.Calls.{Config, Op, calls, startRow}
 use Rattle.script.specs.Machine.{Buf, pending, start, question, Event, ended, Pending, idle, busy, Machine, lentTo}
 use Rattle.script.specs.Machine.{started}
 use Rattle.script.specs.Agree.{Ways, both-idle, both-busy, agrees, from-start}
-use Rattle.script_ops.specs.Rings.{St}
 use Rattle.machine.specs.Suspended.{driverOf, drive}
 use Rattle.answer.specs.Goes.{StepResult}
 use Rattle.proof_book.specs.Pages.{Pages}
@@ -34,11 +33,10 @@ use Rattle.proof_wake_ups.specs.RoomsLaws.{room, rooms, start-rooms}
 use Rattle.proof_isolation.specs.EqualExcept as but
 use Rattle.proof_isolation.specs.EqualExcept.{Bounded, Channel}
 use Rattle.proof_isolation.specs.BoundsLaws.{after-bounded}
-use Rattle.proof_isolation.specs.LikesLaws.{like-refl}
 use Rattle.proof_isolation.specs.Apart.{end}
 use Rattle.proof_isolation.specs.Answers as answer
-use Rattle.proof_isolation.specs.Schedule.{Run, Two, Early, gets, shares, runBy, sharing, called, given, heeded}
-use Rattle.proof_isolation.specs.Schedule.{same}
+use Rattle.proof_isolation.specs.Schedule.{Run, Early, gets, shares, runBy, sharing, called, given, heeded}
+use Rattle.proof_isolation.specs.Schedule.{SameAns, same}
 use Rattle.proof_isolation.specs.FreshBook.{freshBook}
 use Rattle.proof_isolation.specs.Standing.{At, at}
 use Rattle.proof_isolation.specs.Runs.{lent-room}
@@ -120,28 +118,30 @@ channelOf {d} k x small iso = record { number = x; below = small; iso = sortsOf 
 
 -- ---- two runs that are one
 
-stands-idle : (c : Channel) (r : Run) → but.Lawful (c .iso) quiet (r .machine .st, r .machine .buf)
-    → Roomed r → r .machine .under-way ≡ idle → At c (record { first = r; second = r; status = 0 })
-stands-idle c r l k e =
-    subst (λ w. Roomy (record { under-way = w; st = r .machine .st; buf = r .machine .buf }) → At c (twice w)) (sym e)
-    (λ y. at 0 false {o = ends NotYet s} {u = ends NotYet s}
-    (end (answer.same NotYet) (like-refl l (room (k .machine))))
-    (r .access) (r .access) (same (r .answer)) (record { spares = λ _. at-end tt; few = k .few; room = y })
-    (record { spares = λ _. at-end tt; few = k .few; room = y }) refl)
-    (k .machine)
-  where
-    s : St
-    s = (r .machine .st, r .machine .buf)
+abbrev rested : Pending Answer Driver → Run → Run
+rested w r = record {
+  machine = record { under-way = w; st = r .machine .st; buf = r .machine .buf };
+  access = r .access;
+  answer = r .answer;
+  time = r .time;
+}
 
-    twice : Pending Answer Driver → Two
-    twice w =
-        let x : Run = record {
-          machine = record { under-way = w; st = r .machine .st; buf = r .machine .buf };
-          access = r .access;
-          answer = r .answer;
-          time = r .time;
-        } in
-        record { first = x; second = x; status = 0 }
+-- two runs at rest that are the same but for the bytes of the channel's slots
+pub stands-idle : (c : Channel) (r r′ : Run) → but.LowEquiv c quiet (r .machine .st, r .machine .buf)
+    (r′ .machine .st, r′ .machine .buf)
+    → Roomed r → Roomed r′ → r .machine .under-way ≡ idle → r′ .machine .under-way ≡ idle → r .answer ≡ r′ .answer
+    → r .time ≡ r′ .time
+    → At c (record { first = r; second = r′; status = 0 })
+stands-idle c r r′ l k k′ e e′ a t =
+    subst (λ w. Roomy (rested w r .machine) → At c (record { first = rested w r; second = r′; status = 0 })) (sym e)
+    (λ y. subst (λ w. Roomy (rested w r′ .machine) → At c
+    (record { first = rested idle r; second = rested w r′; status = 0 })) (sym e′)
+    (λ y′. at 0 false {o = ends NotYet (r .machine .st, r .machine .buf)}
+    {u = ends NotYet (r′ .machine .st, r′ .machine .buf)}
+    (end (answer.same NotYet) l) (r .access) (r′ .access)
+    (subst (λ b. SameAns (c .number) (r .answer) b) a (same (r .answer)))
+    (record { spares = λ _. at-end tt; few = k .few; room = y })
+    (record { spares = λ _. at-end tt; few = k′ .few; room = y′ }) t) (k′ .machine)) (k .machine)
 
 -- after a start-up that rows 1 and 2 do not stop, and a list of calls under demand 3's premise
 module _ (share : Bool) (n : ℕ) (k : Config) (b : Buf) (row : startRow k b ≡ zero) where
@@ -162,11 +162,16 @@ module _ (share : Bool) (n : ℕ) (k : Config) (b : Buf) (row : startRow k b ≡
       (start-rooms k b row new) in
       record { few = x .answer; machine = x .machine }
 
+  -- a state under demand 3's premise, with room for wake-ups
+  pub record Met (c : Channel) (z : Run) : Type 0 where
+    pub lawful : but.Lawful (c .iso) quiet (z .machine .st, z .machine .buf)
+    pub roomed : Roomed z
+
   abbrev Claim : List Early → Run → Type 0
   Claim es x = let z = given share n es x in
       Premise (heeded share n es x) (x .machine) (freshBook k b (x .answer)) → z .machine .under-way ≡ idle
       → z .machine .st .globals .stage ≡ 2
-      → (c : Channel) → c .iso ≡ sortsOf (z .machine .st) → At c (record { first = z; second = z; status = 0 })
+      → (c : Channel) → c .iso ≡ sortsOf (z .machine .st) → Met c z
 
   module _ (es : List Early) (t : List ℕ) where
     abbrev met : Run
@@ -189,20 +194,22 @@ module _ (share : Bool) (n : ℕ) (k : Config) (b : Buf) (row : startRow k b ≡
 
     stands-met : Premise heard (anew t .machine) (freshBook k b (anew t .answer))
         → met .machine .under-way ≡ idle → met .machine .st .globals .stage ≡ 2 → (c : Channel)
-        → c .iso ≡ sortsOf (met .machine .st) → At c (record { first = met; second = met; status = 0 })
+        → c .iso ≡ sortsOf (met .machine .st) → Met c met
     stands-met l e g c f =
         let a = from-start driverOf book agree calls fresh-kept k b row [] new
         (record { under-way = idle; st = book .driver .fresh k; buf = b }) tt .0 in
         let z : Stood (met .machine) = subst Stood (sym (heeds share n es (anew t)))
         (stood heard _ _ (a .ways) (a .rest) l) in
-        stands-idle c met (record {
-          pages = z .pages .st;
-          rest = quiet-rest z e;
-          has = subst (λ i. Has i (met .machine .st)) (sym f) (met-sorting .has);
-          stage = g;
-          bounded = met-bounded;
-        })
-        (given-rooms share n es (anew t) (anew-rooms t)) e
+        record {
+          lawful = record {
+            pages = z .pages .st;
+            rest = quiet-rest z e;
+            has = subst (λ i. Has i (met .machine .st)) (sym f) (met-sorting .has);
+            stage = g;
+            bounded = met-bounded;
+          };
+          roomed = given-rooms share n es (anew t) (anew-rooms t);
+        }
 
   pub one-so-far : (es : List Early) (r : Run) → Claim es (called share n (start k) b r)
   one-so-far es r = subst (λ x. Claim es x) (sym (starts r)) (stands-met es (r .time))

@@ -1,20 +1,21 @@
 -- Laws on the definitions of Undisturbed.antt
 use mathlib.Core.Bool.{Bool}
 use mathlib.Core.List.{List, [], _∷_}
-use mathlib.Core.Path.{_≡_, ap, subst, sym, _∙_}
+use mathlib.Core.Path.{_≡_, ap}
 use Prim.Native.Nat.{ℕ}
-use Rattle.proof_isolation.specs.Schedule.{Run, Two, first, second, given, Turn, begins, goes, asked, stores}
-use Rattle.proof_isolation.specs.Schedule.{others-time, turn}
-use Rattle.proof_isolation.specs.Schedule.{after, May, After, Answered, Allowed, Every}
+use Rattle.proof_isolation.specs.Schedule.{Two, first, second, Turn, begins, goes, asked, stores, others-time}
+use Rattle.proof_isolation.specs.Schedule.{turn}
+use Rattle.proof_isolation.specs.Schedule.{first-refused, second-refused, after, May, After, Answered, Allowed}
+use Rattle.proof_isolation.specs.Schedule.{Every}
 use Rattle.proof_isolation.specs.Standing.{At, at}
 use Rattle.proof_isolation.specs.StandingLaws.{at-time, at-stands, at-lined, at-alike, at-swap}
-use Rattle.proof_isolation.specs.StartLaws.{anew, starts, one-so-far}
-use Rattle.proof_isolation.specs.Undisturbed.{Session, started-up, opened, Opens, AllOpen, Undisturbed}
+use Rattle.proof_isolation.specs.PartingLaws.{parted}
+use Rattle.proof_isolation.specs.Undisturbed.{Session, opened, Opens, AllOpen, Undisturbed}
 use Rattle.script.specs.Calls.{Config, Op}
-use Rattle.script.specs.Machine.{Event}
+use Rattle.script.specs.Machine.{Buf, Event}
 use Rattle.proof_isolation.specs.EqualExcept.{Channel}
 use Rattle.proof_isolation.specs.Runs.{goes-by, begins-by, asked-by, stores-by}
-use Rattle.proof_isolation.specs.AloneLaws.{alone-by}
+use Rattle.proof_isolation.specs.AloneLaws.{alone-by, refused-by}
 
 -- ---- one turn
 
@@ -25,6 +26,10 @@ module _ (c : Channel) (share : Bool) (n : ℕ) where
 
   first-stands : {w : Two} → At c w → (d : Event Config Op) → May c (first d) w → At c (turn share n (first d) w)
   first-stands (at st i l q q′ h k k′ e) d m = alone-by c share n st i l q q′ h k k′ e (d .call) (d .lent) m
+
+  refused-stands : {w : Two} → At c w → (v : ℕ) (b : Buf) → May c (first-refused v b) w
+      → At c (turn share n (first-refused v b) w)
+  refused-stands (at st i l q q′ h k k′ e) v b m = refused-by c share n st i l q q′ h k k′ e v b m
 
   stepped : (t : Turn) {w : Two} → At c w → Answered c t w → Steps t w
   stepped t y a = record {
@@ -44,6 +49,8 @@ module _ (c : Channel) (share : Bool) (n : ℕ) where
   step (others-time f) (at st i l q q′ h k k′ e) m = stepped (others-time f) (at st i l q q′ h k k′ (ap f e)) tt
   step (first d) a m = stepped (first d) (first-stands a d m) tt
   step (second d) a m = stepped (second d) (at-swap (first-stands (at-swap a) d m)) tt
+  step (first-refused v b) a m = stepped (first-refused v b) (refused-stands a v b m) tt
+  step (second-refused v b) a m = stepped (second-refused v b) (at-swap (refused-stands (at-swap a) v b m)) tt
 
   -- every list of turns, from where they line up
   pub always : (ts : List Turn) {w : Two} → At c w → Allowed c share n ts w → Every c share n ts w
@@ -57,20 +64,10 @@ module _ (c : Channel) (share : Bool) (n : ℕ) where
 -- ---- from start-ups on
 
 module _ (share : Bool) (n : ℕ) where
-  -- a start-up on whatever was before in each run makes them one
+  -- a start-up on whatever was before in each run makes them the same but for the channel's bytes
   pub opened-at : (s : Session) (w : Two) → w .first .time ≡ w .second .time → Opens share n s w
       → At (s .channel) (opened share n s w)
-  opened-at s w e o =
-      subst (λ (z : Run). At (s .channel) (record {
-        first = given share n (s .before) (started-up share n s (w .first));
-        second = given share n (s .before) z;
-        status = 0;
-      }))
-      (starts share n (s .config) (s .lent) (o .accepted) (w .first)
-      ∙ (ap (λ t. anew share n (s .config) (s .lent) (o .accepted) t) e
-      ∙ sym (starts share n (s .config) (s .lent) (o .accepted) (w .second))))
-      (one-so-far share n (s .config) (s .lent) (o .accepted) (s .before) (w .first) (o .lawful) (o .rests) (o .stage)
-      (s .channel) (o .sorts))
+  opened-at s w e o = parted share n s w e o .stand
 
   -- two runs with one record of the bus time, whatever was before
   pub undisturbed : (ss : List Session) (w : Two) → w .first .time ≡ w .second .time → AllOpen share n ss w
