@@ -70,7 +70,7 @@ module _ {c : Channel} {st : ℕ} where
   pub lawful-busy : {q : Access} {s : St} {k : ℕ → St → tree.Out St Answer} {u : tree.Out St Answer}
       → ApartBy c st true (SameAnswer (c .number)) true (asks q s k) u → Lawful (c .iso) quiet s
   lawful-busy (both quiet z w w′ l f) = l .left
-  lawful-busy (both (mid g n) z w w′ l f) = absurd z
+  lawful-busy (both (mid g n) z w w′ l f) = absurd (z .0)
   lawful-busy (left w p z f) = z
   lawful-busy (right {t = t} w p z f) = lawful-busy (f sof t (touched-refl z))
   lawful-busy (owns w w′ l f f′) = l .left
@@ -79,7 +79,7 @@ module _ {c : Channel} {st : ℕ} where
       → ApartBy c st true (SameAnswer (c .number)) true (asks q s k) u → Touched c quiet s s′
       → ApartBy c st true (SameAnswer (c .number)) true (asks q s′ k) u
   touch-busy (both quiet z w w′ l f) m = both quiet z w w′ (touch m l) f
-  touch-busy (both (mid g n) z w w′ l f) m = absurd z
+  touch-busy (both (mid g n) z w w′ l f) m = absurd (z .0)
   touch-busy (left w p z f) m = left w p (m .right) (λ v s u. f v s (touched-trans m u))
   touch-busy (right w (waits n) z f) m = right w (waits n) z (λ v t u. touch-busy (f v t u) m)
   touch-busy (owns w w′ l f f′) m = owns w w′ (touch m l) f f′
@@ -90,7 +90,7 @@ module _ {c : Channel} {st : ℕ} where
       → Told l b b′ → Told (touch-busy l m) b b′
   unfolding touch-busy
   told-busy (both quiet z w w′ l f) m b b′ h = h
-  told-busy (both (mid g n) z w w′ l f) m b b′ h = absurd z
+  told-busy (both (mid g n) z w w′ l f) m b b′ h = absurd (z .0)
   told-busy (left w p z f) m b b′ h = h
   told-busy (right w (waits n) z f) m b b′ h = h
   told-busy (owns w w′ l f f′) m b b′ h = tt

@@ -71,6 +71,27 @@ pub data Its (x : ℕ) {A : Type 0} : Access → Out St A → Type 0 where
   status : {y : ℕ} {s : St} {k : ℕ → St → Out St A} → Its x (Read IntSt 0) (asks (Receive x y) s k)
   receive : {y : ℕ} {o : Out St A} → Its x (Receive x y) o
 
+-- a reading of the status
+abbrev pub statusRead : Access → Bool
+statusRead (Read r e) = sameReg r IntSt
+statusRead (Receive e y) = false
+statusRead (Write r e y) = false
+statusRead (Transmit e y) = false
+statusRead (Ep0Dma y) = false
+statusRead (Wait n) = false
+statusRead Callback = false
+
+-- the next accesses are receive addresses of one endpoint, or none is a receive address
+pub data SameNext {A B : Type 0} : Out St A → Out St B → Type 0 where
+  same-next : {q q′ : Access} {s t : St} {k : ℕ → St → Out St A} {k′ : ℕ → St → Out St B}
+      → ((x : ℕ) → receives x q ≡ receives x q′)
+      → SameNext (asks q s k) (asks q′ t k′)
+
+-- access q is made for the same endpoint in both: `o`, `u`, what would go on were `sof` read
+pub data Matched {A B : Type 0} (q : Access) : Out St A → Out St B → Type 0 where
+  plain : {o : Out St A} {u : Out St B} → statusRead q ≡ false → Matched q o u
+  nexts : {o : Out St A} {u : Out St B} → SameNext o u → Matched q o u
+
 -- it stands at no access that is made for x or for an endpoint below it
 pub data Past (x : ℕ) {A : Type 0} : Out St A → Type 0 where
   gone : {a : A} {s : St} → Past x (ends a s)
@@ -101,7 +122,8 @@ module _ (c : Channel) (st : ℕ) where
   pub data ApartBy (i : Bool) {A B : Type 0} (Q : A → B → Type 0) : Bool → Out St A → Out St B → Type 0 where
     end : {m : Bool} {a : A} {b : B} {s t : St} → Q a b → LowEquiv c quiet s t → ApartBy i Q m (ends a s) (ends b t)
     both : {m : Bool} {q : Access} {s t : St} {k : ℕ → St → Out St A} {k′ : ℕ → St → Out St B} (φ : Phase)
-        → Fits i φ → Shared i (c .number) q k → Shared i (c .number) q k′ → LowEquiv c φ s t
+        → Fits i φ × (i ≡ true → (s t : St) → Matched q (k sof s) (k′ sof t)) → Shared i (c .number) q k
+        → Shared i (c .number) q k′ → LowEquiv c φ s t
         → ((v v′ : ℕ) (s t : St) → Brings (c .number) st q v v′ → LowEquiv c φ s t → ApartBy i Q m (k v s) (k′ v′ t))
         → ApartBy i Q m (asks q s k) (asks q t k′)
     left : {q : Access} {s : St} {k : ℕ → St → Out St A} {u : Out St B} → Own i (c .number) q k → Past (c .number) u

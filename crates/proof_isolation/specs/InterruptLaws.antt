@@ -36,7 +36,7 @@ use Rattle.script_ops.specs.Concrete.{concrete}
 use Rattle.proof_isolation.specs.LikesLaws.{and-false}
 use Rattle.proof_isolation.specs.EqualExcept.{Channel}
 use Rattle.proof_isolation.specs.Whose.{sof}
-use Rattle.proof_isolation.specs.Apart.{Next, next, PairBy, Pair}
+use Rattle.proof_isolation.specs.Apart.{Next, next, PairBy, Pair, SameNext, same-next}
 use Rattle.proof_isolation.specs.PairsLaws.{Any, p-ret, p-bind, p-same, p-then, p-before-then, p-test, p-tests}
 use Rattle.proof_isolation.specs.PairsLaws.{p-bind-test, p-when, p-read, p-write, p-is, p-look, p-hand}
 use Rattle.proof_isolation.specs.Answers.{SameAnswer}
@@ -47,8 +47,8 @@ use Rattle.proof_isolation.specs.InRingsLaws.{setup-same}
 use Rattle.proof_isolation.specs.OutRingsLaws.{changed-same, marked-len-same, arrives-same}
 use Rattle.proof_isolation.specs.OwnStepsLaws.{p-own-check}
 use Rattle.proof_isolation.specs.WithoutLaws.{q-when, q-moved-on, q-setup, later-without}
-use Rattle.proof_isolation.specs.WalksLaws.{p-reads, p-status, p-modify-reg, p-int-en, p-sof, p-late-walk}
-use Rattle.proof_isolation.specs.WalksLaws.{p-sie-wait}
+use Rattle.proof_isolation.specs.WalksLaws.{nexts-of, p-reads, p-status, p-modify-reg, p-int-en, p-sof}
+use Rattle.proof_isolation.specs.WalksLaws.{p-late-walk, p-sie-wait}
 use Rattle.proof_isolation.specs.WalksLaws.{p-nak, p-toggled, p-sof-arm, p-iso-in, p-sent, p-ep0-moved}
 
 -- ---- the transfer that is served: its length, and whether it is the packet's, may differ where the status shows OUT
@@ -149,6 +149,12 @@ check-next : (c : Channel) (e : ℕ) → key Out e ≢ key Out (c .number) → (
 unfolding arriving isOut token tokenNumbered
 check-next c e k s = next (other-number c e k)
 
+check-same : (e : ℕ) (s t : St) → SameNext (run {i = true} concrete
+    (test (arriving sof e) done (look (marked e) >>= λ n. arrives e n)) s)
+    (run {i = true} concrete (test (arriving sof e) done (look (marked e) >>= λ n. arrives e n)) t)
+unfolding arriving isOut token tokenNumbered
+check-same e s t = same-next (λ x. refl)
+
 module _ {c : Channel} {st : ℕ} where
   -- ---- the check of arrivals
 
@@ -161,7 +167,7 @@ module _ {c : Channel} {st : ℕ} where
       → Pair c st {i = true} Any (checkOne y iso e) (checkOne y′ iso e)
   p-check y y′ iso e k f same len = p-same (p-is (changed e) (changed-same c e k f)) (λ b. p-when b (λ _. p-tests same
       (λ w. subst (λ n. Pair c st {i = true} Any (arrives e (y .len)) (arrives e n)) (len w) (p-arrives e (y .len) k))
-      (λ _. p-status (check-next c e k) (check-next c e k)
+      (λ _. p-status (check-next c e k) (check-next c e k) (check-same e)
       (p-test _ (λ _. p-ret tt) (λ _. p-same (p-look (marked e) (marked-len-same c e k f)) (λ n. p-arrives e n k))))))
 
   module _ (busy late : Bool) (n n′ : ℕ) (o o′ : Bool) (h : Lengths (c .number) st n n′ o o′) (iso : Bool) where
@@ -305,8 +311,8 @@ module _ {c : Channel} {st : ℕ} where
   -- what goes on after it, f and g: with a status that shows no OUT it does not begin with the channel's receive
   -- address
   module _ {m : Bool} {C D : Type 0} {Q : C → D → Type 0} (f : Transfer → Script true C) (g : Transfer → Script true D)
-      (nf : (y : Transfer) (s : St) → Next (c .number) (run concrete (f y) s)) (ng : (y : Transfer) (s : St)
-      → Next (c .number) (run concrete (g y) s))
+      (nf : (y : Transfer) (x : ℕ) (s : St) → Next x (run concrete (f y) s)) (ng : (y : Transfer) (x : ℕ) (s : St)
+      → Next x (run concrete (g y) s))
       (k : (busy late : Bool) (n n′ : ℕ) (o o′ : Bool) → Lengths (c .number) st n n′ o o′
       → PairBy c st m Q (f (transferOf busy st late n o)) (g (transferOf busy st late n′ o′))) where
     p-retake : (busy late : Bool) (n n′ : ℕ) (o o′ : Bool) → Lengths (c .number) st n n′ o o′
@@ -322,7 +328,8 @@ module _ {c : Channel} {st : ℕ} where
         again : PairBy c st m Q (bind (read IntSt 0) (λ v. bind
             (nakNonIso v >> ret (retaken (transferOf busy st late n o) v)) f))
             (bind (read IntSt 0) (λ v. bind (nakNonIso v >> ret (retaken (transferOf busy st late n′ o′) v)) g))
-        again = p-status (λ s. nf _ s) (λ s. ng _ s)
+        again = p-status (λ s. nf _ (c .number) s) (λ s. ng _ (c .number) s)
+            (λ s t. nexts-of (λ x. nf _ x s) (λ x. ng _ x t))
             (p-transfer (p-then (p-nak st) (p-ret (record {
               status = refl;
               status′ = refl;
@@ -375,7 +382,7 @@ module _ {c : Channel} {st : ℕ} where
             (test busy (retake (transferOf busy st late n′ o′)) (ret (transferOf busy st late n′ o′))))) g)
         waits p q = p-bind-test _
             (λ _. p-transfer (p-then p-sie-wait (p-status (λ s. next refl) (λ s. next refl)
-            (p-bind (p-read RxLen 0 refl) (λ v v′ r. p-ret (record {
+            (λ s t. same-next (λ x. refl)) (p-bind (p-read RxLen 0 refl) (λ v v′ r. p-ret (record {
               status = refl;
               status′ = refl;
               busy = refl;
@@ -396,10 +403,10 @@ module _ {c : Channel} {st : ℕ} where
   p-on-transfer : PairBy c st true {i = true} Any onTransfer onTransfer
   unfolding ownIn
   p-on-transfer = p-reads MisSt 0 (λ v v′ e. e) (λ m. p-status (λ s. next refl) (λ s. next refl)
-      (p-bind (p-read RxLen 0 refl) (λ n n′ h.
+      (λ s t. same-next (λ x. refl)) (p-bind (p-read RxLen 0 refl) (λ n n′ h.
       p-then (p-when _ (λ _. p-nak st))
       (p-then (p-write IntFg 0 _)
-      (p-settle _ _ (λ y s. next refl) (λ y s. next refl) (λ busy late k k′ o o′ l.
+      (p-settle _ _ (λ y x s. next refl) (λ y x s. next refl) (λ busy late k k′ o o′ l.
       p-plain-any c Out (endpoint st) (λ p r _ _ s. p-plain-in c (endpoint st) (λ q _.
       subst
       (λ u. PairBy c st true {i = true} Any (after-plain (transferOf busy st late k o) (isoFor (token st) p q))

@@ -222,10 +222,10 @@ module _ (c : Channel) where
 
     abbrev pub MayLate : Later → Two → Type 0
     MayLate (timely t) w = May c t w
-    MayLate (first-late v v′ is es) w = Continues (w .status) v v′ (w .first) (w .second)
-        × Late v is es (w .first) (w .second)
-    MayLate (second-late v v′ is es) w = Continues (w .status) v v′ (w .first) (w .second)
-        × Late v′ is es (w .second) (w .first)
+    MayLate (first-late v v′ is es) w =
+        Continues (w .status) v v′ (w .first) (w .second) × Late v is es (w .first) (w .second)
+    MayLate (second-late v v′ is es) w =
+        Continues (w .status) v v′ (w .first) (w .second) × Late v′ is es (w .second) (w .first)
 
     abbrev pub AllowedLate : List Later → Two → Type 0
     AllowedLate [] w = Unit {0}

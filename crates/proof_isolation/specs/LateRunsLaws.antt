@@ -715,7 +715,7 @@ module _ (c : Channel) (share : Bool) (n : ℕ) where
       ap (λ z. late.gone share n v z) (does-lits c share n p g q a τ (y .does)) in
       let d′ : late.gone share n v′ (items share n es (runOf true (asks p t g′) q′ a′ τ′))
       ≡ late.gone share n v′ (runOf true (asks p (y .after′) g′) q′ a′ τ′) = ap (λ z. late.gone share n v′ z) (y .is) in
-      let b = goes-by c share n st true (both quiet tt w w′ (y .like) f) q q′ {a = a} {a′ = a′}
+      let b = goes-by c share n st true (both quiet z w w′ (y .like) f) q q′ {a = a} {a′ = a′}
       (record { spares = λ j. spares-put (y .after) (k .spares j); few = k .few; room = y .room })
       (record { spares = λ j. spares-put (y .after′) (k′ .spares j); few = k′ .few; room = y .room′ }) e v v′
       (y .after .1) (y .after′ .1) (
@@ -738,7 +738,7 @@ module _ (c : Channel) (share : Bool) (n : ℕ) where
             (drive-free c (continue v′) (machineOf (busy true (awaited p) g′) (y .after′)) (y .after′ .1) fr′
             (λ _. y .like .right));
       }
-  reach (at st true (both (mid y j) z w w′ l f) q q′ h k k′ e) fr fr′ v v′ es m o = absurd z
+  reach (at st true (both (mid y j) z w w′ l f) q q′ h k k′ e) fr fr′ v v′ es m o = absurd (z .0)
   reach (at st false (both φ z w w′ l f) q q′ h k k′ e) fr fr′ v v′ es m o = absurd (m .serving)
   reach (at st i (left {s = s} {k = g} w p z f) q q′ h k k′ e) fr fr′ v v′ es m o
       = absurd (true≢false (sym (own-yes (c .number) g s w) ∙ m .shared))

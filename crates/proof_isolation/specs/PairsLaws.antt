@@ -13,7 +13,9 @@ use Rattle.script.specs.Every.{sameReg}
 use Rattle.script.specs.Script.{Script, run, ret, bind, test, _>>_, when, read, write, wait, callback, get, put, is}
 use Rattle.script.specs.Script.{look}
 use Rattle.script.specs.Script.{fetch, act, hand, row, rows, Test, Look, Fetch, Act, DmaStep, dmaStepAsk, Burst, lastOf}
-use Rattle.script.specs.Script.{burstAsk}
+use Rattle.script.specs.Script.{burstAsk, dma, arrive, send, place, place0}
+use Rattle.regs.specs.declared.Dir.{Dir}
+use Rattle.regs.specs.declared.Dir.the-variants as dir-of
 use Rattle.script.specs.Simulates.{quiet, mid, Fits}
 use Rattle.script_ops.specs.Rings.{St, rowOn}
 use Rattle.script_ops.specs.Concrete.{concrete, getOn, putOn, isOf, lookOf, fetchOf, actOn, handOn}
@@ -21,6 +23,7 @@ use Rattle.proof_isolation.specs.EqualExcept.{Channel, LowEquiv}
 use Rattle.proof_isolation.specs.LikesLaws.{like-sym}
 use Rattle.proof_isolation.specs.Whose.{sof}
 use Rattle.proof_isolation.specs.Apart.{Reads, Brings, ownable, Next, next, Another, never, elsewhere, Its}
+use Rattle.proof_isolation.specs.Apart.{statusRead, SameNext, same-next, Matched, plain, nexts}
 use Rattle.proof_isolation.specs.Apart.{status, receive, Past, gone, waits, Without, without-ask, ApartBy, end}
 use Rattle.proof_isolation.specs.Apart.{both, left, right, owns}
 use Rattle.proof_isolation.specs.Apart.{Apart, PairBy, Pair}
@@ -84,6 +87,31 @@ module _ {x : ℕ} {A B : Type 0} (f : A → St → Out St B) where
   its-bind status = status
   its-bind receive = receive
 
+module _ {A B C D : Type 0} (f : A → St → Out St C) (g : B → St → Out St D) where
+  next-binds : {o : Out St A} {u : Out St B} → SameNext o u → SameNext (bindOut o f) (bindOut u g)
+  next-binds (same-next h) = same-next h
+
+  matched-bind : {q : Access} {o : Out St A} {u : Out St B} → Matched q o u → Matched q (bindOut o f) (bindOut u g)
+  matched-bind (plain h) = plain h
+  matched-bind (nexts h) = nexts (next-binds h)
+
+pub next-sym : {A B : Type 0} {o : Out St A} {u : Out St B} → SameNext o u → SameNext u o
+next-sym (same-next h) = same-next (λ x. sym (h x))
+
+pub matched-sym : {A B : Type 0} {q : Access} {o : Out St A} {u : Out St B} → Matched q o u → Matched q u o
+matched-sym (plain h) = plain h
+matched-sym (nexts h) = nexts (next-sym h)
+
+dma-plain : (dir : Dir) (e y : ℕ) → statusRead (dma dir e y) ≡ false
+dma-plain dir-of.Out e y = refl
+dma-plain dir-of.In e y = refl
+
+hand-plain : (q : DmaStep) (y : ℕ) → statusRead (dmaStepAsk q y) ≡ false
+hand-plain (arrive e n) y = refl
+hand-plain (send e) y = refl
+hand-plain (place dir e) y = dma-plain dir e y
+hand-plain place0 y = refl
+
 -- no interrupt's
 no-interrupt : {X : Type 0} → false ≡ true → X
 no-interrupt e = absurd (true≢false (sym e))
@@ -119,8 +147,8 @@ module _ {ch : Channel} {st : ℕ} where
       → ApartBy ch st i Q m o u → ApartBy ch st i (λ b a. Q a b) m u o
   apart-flip (end q l) = end q (like-sym l)
   apart-flip (both {q = q} φ f p p′ l k) =
-      both φ f p′ p (like-sym l) (λ v v′ s t b r. apart-flip
-      (k v′ v t s (brings-sym (ch .number) st q v v′ b) (like-sym r)))
+      both φ (f .0, λ e s t. matched-sym (f .1 e t s)) p′ p (like-sym l)
+      (λ v v′ s t b r. apart-flip (k v′ v t s (brings-sym (ch .number) st q v v′ b) (like-sym r)))
   apart-flip (left w p z k) = right w p z (λ v s l. apart-flip (k v s l))
   apart-flip (right w p z k) = left w p z (λ v t l. apart-flip (k v t l))
   apart-flip (owns w w′ l k k′) = owns w′ w (like-sym l) (λ v t s r. apart-flip (k′ v s t (like-sym r)))
@@ -138,7 +166,7 @@ module _ {ch : Channel} {st : ℕ} where
       → ApartBy ch st i Q m (f a s) (g b t))
       → ApartBy ch st i Q m (bindOut o f) (bindOut u g)
   apart-bind (end q l) h = h _ _ _ _ q l
-  apart-bind {f = f} {g = g} (both φ z p p′ l k) h = both φ z
+  apart-bind {f = f} {g = g} (both φ z p p′ l k) h = both φ (z .0, λ e s t. matched-bind f g (z .1 e s t))
       (λ e s. another-bind f (p e s)) (λ e s. another-bind g (p′ e s)) l (λ v v′ s t b r. apart-bind (k v v′ s t b r) h)
 
   -- or before; then what follows hands out none made for an isochronous OUT endpoint
@@ -149,7 +177,8 @@ module _ {ch : Channel} {st : ℕ} where
       → ((a : A) (e : ℕ) (s : St) → Without e (f a s)) → ((b : B) (e : ℕ) (t : St) → Without e (g b t))
       → ApartBy ch st i Q m (bindOut o f) (bindOut u g)
   apart-before (end q l) h x x′ = apart-later (h _ _ _ _ q l)
-  apart-before {f = f} {g = g} (both φ z p p′ l k) h x x′ = both φ z (λ e s. another-bind f (p e s))
+  apart-before {f = f} {g = g} (both φ z p p′ l k) h x x′
+      = both φ (z .0, λ e s t. matched-bind f g (z .1 e s t)) (λ e s. another-bind f (p e s))
       (λ e s. another-bind g (p′ e s)) l (λ v v′ s t b r. apart-before (k v v′ s t b r) h x x′)
   apart-before {f = f} {g = g} (left w p z k) h x x′ = left (w .0, λ s. its-bind f (w .1 s))
       (past-after g p x′) z (λ v s l. apart-before (k v s l) h x x′)
@@ -227,26 +256,26 @@ module _ {ch : Channel} {st : ℕ} where
     pub p-read : (r : Reg) (e : ℕ) → sameReg r IntSt ≡ false
         → Pair ch st {i = i} (Reads (ch .number) st r) (read r e) (read r e)
     p-read r e h = record {
-      on = λ s t l. both quiet (rests i) (λ _ _. never h) (λ _ _. never h) l
+      on = λ s t l. both quiet (rests i, λ _ _ _. plain h) (λ _ _. never h) (λ _ _. never h) l
           (λ v v′ s t b l. end b l);
     }
 
     pub p-write : (r : Reg) (e v : ℕ) → Pair ch st {i = i} Any (write r e v) (write r e v)
     p-write r e v = record {
-      on = λ s t l. both quiet (rests i) (λ _ _. never refl) (λ _ _. never refl) l
-          (λ v v′ s t b l. end tt l);
+      on = λ s t l. both quiet (rests i, λ _ _ _. plain refl) (λ _ _. never refl)
+          (λ _ _. never refl) l (λ v v′ s t b l. end tt l);
     }
 
     pub p-wait : (n : ℕ) → Pair ch st {i = i} Any (wait n) (wait n)
     p-wait n = record {
-      on = λ s t l. both quiet (rests i) (λ _ _. never refl) (λ _ _. never refl) l
-          (λ v v′ s t b l. end tt l);
+      on = λ s t l. both quiet (rests i, λ _ _ _. plain refl) (λ _ _. never refl) (λ _ _. never refl)
+          l (λ v v′ s t b l. end tt l);
     }
 
     pub p-callback : Pair ch st {i = i} Any callback callback
     p-callback = record {
-      on = λ s t l. both quiet (rests i) (λ _ _. never refl) (λ _ _. never refl) l
-          (λ v v′ s t b l. end tt l);
+      on = λ s t l. both quiet (rests i, λ _ _ _. plain refl) (λ _ _. never refl)
+          (λ _ _. never refl) l (λ v v′ s t b l. end tt l);
     }
 
     pub p-get : (c : Cell) (P : Val c → Val c → Type 0)
@@ -282,7 +311,8 @@ module _ {ch : Channel} {st : ℕ} where
       on = λ s t l. subst
           (λ y. Apart ch st i Any (asks (dmaStepAsk q (handOn q s .0)) (handOn q s .1) (λ _ t. ends tt t))
           (asks (dmaStepAsk q y) (handOn q t .1) (λ _ t. ends tt t))) (h s t l .0)
-          (both quiet (rests i) (λ _ _. never (n _)) (λ _ _. never (n _)) (h s t l .1) (λ v v′ s t b l. end tt l));
+          (both quiet (rests i, λ _ _ _. plain (hand-plain q _)) (λ _ _. never (n _)) (λ _ _. never (n _)) (h s t l .1)
+          (λ v v′ s t b l. end tt l));
     }
 
   -- ---- a row of accesses
@@ -293,11 +323,13 @@ module _ {ch : Channel} {st : ℕ} where
         (rows concrete g n stop t)
     steps zero s t x = subst (λ y. Apart ch st false Any (rows concrete g zero stop s)
         (asks (burstAsk g zero y) (rowOn g zero t .1) (λ _ t. stop t))) (x .0)
-        (both (mid g zero) tt no-interrupt no-interrupt (x .1) (λ v v′ s t b l. end tt (over s t l)))
+        (both (mid g zero) (tt, λ e s t. no-interrupt e) no-interrupt no-interrupt (x .1)
+        (λ v v′ s t b l. end tt (over s t l)))
     steps (suc n) s t x = subst
         (λ y. Apart ch st false Any (rows concrete g (suc n) stop s)
         (asks (burstAsk g (suc n) y) (rowOn g (suc n) t .1) (λ _ t. rows concrete g n stop t))) (x .0)
-        (both (mid g (suc n)) tt no-interrupt no-interrupt (x .1) (λ v v′ s t b l. steps n s t (next n s t l)))
+        (both (mid g (suc n)) (tt, λ e s t. no-interrupt e) no-interrupt no-interrupt (x .1)
+        (λ v v′ s t b l. steps n s t (next n s t l)))
 
     pub p-row : ((s t : St) → LowEquiv ch quiet s t → Steps ch g (lastOf g) s t) → Pair ch st Any (row g) (row g)
     p-row first = record { on = λ s t l. steps (lastOf g) s t (first s t l) }

@@ -439,7 +439,7 @@ module _ (c : Channel) (share : Bool) (n : ℕ) where
         }) (record { spares = λ j. spares-put u′ (k′ .spares j); few = y′ .answer; room = y′ .machine }) e;
         answers = alike (same-ans x (y .answer) (y′ .answer));
       })
-  begins-lent st true (both (mid y j) z w w′ l f) q q′ k k′ e v op b b′ m = absurd z
+  begins-lent st true (both (mid y j) z w w′ l f) q q′ k k′ e v op b b′ m = absurd (z .0)
   begins-lent st false (both {q = p} {s = s} {t = t} {k = g} {k′ = g′} φ z w w′ l f) q q′ {t = r} {t′ = r′} k k′ e v
       (aside o) b b′ m =
       let h = lent-like l (m .3) in

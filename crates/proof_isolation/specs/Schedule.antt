@@ -315,7 +315,8 @@ module _ (c : Channel) where
         → epOn (m .st) dir e .base ≤ k → k < endOf (epOn (m .st) dir e) → getD (m .buf) k 0 ≡ getD (m′ .buf) k 0
     -- of EP0's buffer, which lies at the same place in both
     pub ep0-place : m .st .globals .«ep0_buf» ≡ m′ .st .globals .«ep0_buf»
-    pub ep0 : (k : ℕ) → m .st .globals .«ep0_buf» ≤ k → k < m .st .globals .«ep0_buf» + m .st .allocator .size → getD (m .buf) k 0 ≡ getD (m′ .buf) k 0
+    pub ep0 : (k : ℕ) → m .st .globals .«ep0_buf» ≤ k → k < m .st .globals .«ep0_buf» + m .st .allocator .size
+        → getD (m .buf) k 0 ≡ getD (m′ .buf) k 0
     pub overrun : (e : ℕ) → key Out e ≢ key Out (c .number) → epOn (m .st) Out e .overruns
         ≡ epOn (m′ .st) Out e .overruns
     -- gathered so far, "the order in which wake-ups of other endpoints stand to each other"

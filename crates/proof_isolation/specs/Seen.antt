@@ -20,7 +20,8 @@ module _ (share : Bool) (n : ℕ) where
   abbrev pub NoneFor : ℕ → List (Event Config Op) → Run → Type 0
   NoneFor e [] r = own e (r .access) (r .machine) ≡ false
   NoneFor e (d ∷ ds) r = (own e (r .access) (r .machine) ≡ false)
-      × (Serving (called share n (d .call) (d .lent) r .machine .under-way) → NoneFor e ds (called share n (d .call) (d .lent) r))
+      × (Serving (called share n (d .call) (d .lent) r .machine .under-way)
+      → NoneFor e ds (called share n (d .call) (d .lent) r))
 
   -- Two runs at an access that is not made for the channel; the late one's continue comes to an access of the channel's
   -- own, with the others' stores first it does not. Then there is another isochronous OUT endpoint, below the channel,
@@ -31,7 +32,8 @@ module _ (share : Bool) (n : ℕ) where
     pub below : endpoint < c .number
     -- with what the others get first, the late run's continue comes to an access made for it
     pub stands : StandsFor endpoint (gone share n v (lits share n (lightsOf es) (w .first)))
-    -- the other run, which gets it first, comes to the same access
+    -- so does the other run, which gets it first, and to the same
+    pub other : StandsFor endpoint (gone share n v′ (items share n es (w .second)))
     pub same : SameStand
         (gone share n v (lits share n (lightsOf es) (w .first)) .machine .under-way)
         (gone share n v′ (items share n es (w .second)) .machine .under-way)

@@ -9,6 +9,9 @@ use Prim.Native.Nat.{ℕ, zero, suc, _≤_, _<_}
 use native.Mathlib.Omega.{arith}
 use native.Mathlib.Decide.{decLt}
 use Rattle.regs.specs.declared.Access.{Access}
+use Rattle.regs.specs.declared.Access.the-variants.{Read, Write, Receive, Transmit, Ep0Dma, Wait, Callback}
+use Rattle.regs.specs.declared.Reg.the-variants.{IntSt}
+use Rattle.script.specs.Every.{sameReg}
 use Rattle.state.specs.Driver.{Driver}
 use Rattle.script.specs.Tree as tree
 use Rattle.script.specs.Tree.{ends, asks}
@@ -24,7 +27,8 @@ use Rattle.machine.specs.Suspended.{driverOf, drive}
 use Rattle.answer.specs.Goes.{StepResult}
 use Rattle.calls.specs.Sharing.{going, sortOf, timeAfter, turnedDown}
 use Rattle.proof_isolation.specs.EqualExcept.{Channel}
-use Rattle.proof_isolation.specs.Whose.{sof, own, ownWay}
+use Rattle.proof_isolation.specs.Whose.{sof, madeFor, own, ownWay}
+use Rattle.proof_isolation.specs.Apart.{statusRead, same-next, Matched, plain, nexts}
 use Rattle.proof_isolation.specs.Apart.{Another, gone, waits, Without, without-end, without-ask, end, both, left}
 use Rattle.proof_isolation.specs.Apart.{right, owns}
 use Rattle.proof_isolation.specs.Schedule.{Run, Two, accessOf, called, wide, atOwn, SameStand}
@@ -146,6 +150,45 @@ same-access c (at st i (right w (waits {s = s} {k = g} y) z f) q q′ h k k′ t
 same-access c (at st i (owns {s = s} {k = g} w w′ l f f′) q q′ h k k′ t) e b m n
     = absurd (true≢false (sym (own-yes (c .number) g s w) ∙ n))
 
+-- and whose it is
+matched-made : {A B : Type 0} {q : Access} {o : tree.Out St A} {u : tree.Out St B} → Matched q o u → (x : ℕ)
+    → madeFor x q o ≡ madeFor x q u
+matched-made {q = q} {o = o} {u = u} (plain h) x = by q h
+  where
+    by : (q : Access) → statusRead q ≡ false → madeFor x q o ≡ madeFor x q u
+    by (Read r e) h = rw h refl
+    by (Receive e y) h = refl
+    by (Write r e y) h = refl
+    by (Transmit e y) h = refl
+    by (Ep0Dma y) h = refl
+    by (Wait n) h = refl
+    by Callback h = refl
+matched-made {q = q} (nexts (same-next {q = p} {q′ = p′} {s = s} {t = t} {k = k} {k′ = k′} h)) x = by q
+  where
+    by : (q : Access) → madeFor x q (asks p s k) ≡ madeFor x q (asks p′ t k′)
+    by (Read r e) = ap (λ b. sameReg r IntSt && b) (h x)
+    by (Receive e y) = refl
+    by (Write r e y) = refl
+    by (Transmit e y) = refl
+    by (Ep0Dma y) = refl
+    by (Wait n) = refl
+    by Callback = refl
+
+same-owner : (c : Channel) {w : Two} → At c w → (e : ℕ) → e < c .number → own e (w .first .access) (w .first .machine)
+    ≡ true
+    → atOwn c (w .first) ≡ false → own e (w .second .access) (w .second .machine) ≡ true
+same-owner c (at st i (end x l) q q′ h k k′ t) e b m n = absurd (true≢false (sym m))
+same-owner c (at st true (both {s = s} {t = t} φ z p p′ l f) q q′ h k k′ u) e b m n
+    = sym (matched-made (z .1 refl s t) e) ∙ m
+same-owner c (at st false (both φ z p p′ l f) q q′ h k k′ t) e b m n = absurd (true≢false (sym m))
+same-owner c (at st i (left {s = s} {k = g} w p z f) q q′ h k k′ t) e b m n
+    = absurd (true≢false (sym (own-yes (c .number) g s w) ∙ n))
+same-owner c (at st i (right w gone z f) q q′ h k k′ t) e b m n = absurd (true≢false (sym m))
+same-owner c (at st i (right w (waits {s = s} {k = g} y) z f) q q′ h k k′ t) e b m n =
+    absurd (true≢false (sym m ∙ own-no e g {i = i} s (λ _. y e (omega (arith, b)))))
+same-owner c (at st i (owns {s = s} {k = g} w w′ l f f′) q q′ h k k′ t) e b m n
+    = absurd (true≢false (sym (own-yes (c .number) g s w) ∙ n))
+
 -- ---- a store that is seen
 
 module _ (c : Channel) (share : Bool) (n : ℕ) where
@@ -228,6 +271,7 @@ module _ (c : Channel) (share : Bool) (n : ℕ) where
         endpoint = z .endpoint;
         below = z .below;
         stands = z .stands;
+        other = record { is = same-owner c (y .stand) (z .endpoint) (z .below) (z .stands .is) k };
         same = same-access c (y .stand) (z .endpoint) (z .below) (z .stands .is) k;
         none = z .none;
       }

@@ -13,8 +13,8 @@ use Rattle.proof_book.specs.MachineRuns.{Premise}
 use Rattle.proof_book.specs.Sorting.{sortsOf}
 use Rattle.proof_isolation.specs.EqualExcept.{Channel}
 use Rattle.proof_isolation.specs.Stores.{Outside}
-use Rattle.proof_isolation.specs.Schedule.{Run, Two, Parallel, gets-both, shares-both, firstOf, secondOf, Turn}
-use Rattle.proof_isolation.specs.Schedule.{sharing}
+use Rattle.proof_isolation.specs.Schedule.{Run, Two, Parallel, gets-both, shares-both, firstOf, secondOf}
+use Rattle.proof_isolation.specs.Schedule.{Turn, sharing}
 use Rattle.proof_isolation.specs.Schedule.{called, given, heeded, after, unfit, Allowed}
 use Rattle.proof_isolation.specs.Schedule.{Every}
 use Rattle.proof_isolation.specs.FreshBook.{freshBook}

@@ -1,18 +1,20 @@
 -- The interrupt's parts that know nothing of the channel: isochronous IN, waits, toggles
 use mathlib.Core.Bool.{Bool, true, false}
 use mathlib.Core.List.{List, [], _∷_}
-use mathlib.Core.Path.{_≡_, refl, subst, sym}
+use mathlib.Core.Path.{_≡_, refl, subst, sym, _∙_}
 use Prim.Native.Nat.{ℕ, zero, suc}
 use Rattle.regs.specs.declared.Reg.{Reg}
 use Rattle.regs.specs.declared.Reg.the-variants.{IntFg, IntSt, MisSt, RxLen, FrameNo, Ctrl, IntEn, DevAd, HostCtrl}
 use Rattle.regs.specs.declared.Reg.the-variants.{EpConfig, EpType, EpBufMod, EpMaxLen, EpTLen, EpRxCtrl, EpTxCtrl}
+use Rattle.regs.specs.declared.Access.{Access}
 use Rattle.regs.specs.declared.Access.the-variants.{Read}
 use Rattle.regs.specs.declared.Dir.{Dir}
 use Rattle.regs.specs.declared.Dir.the-variants.{Out, In}
 use Rattle.regs.specs.Registers.{ctrlOf}
 use Rattle.regs.specs.Status.{token, tokenNumbered, isIn}
 use Rattle.script.specs.Cells.{ep-cell}
-use Rattle.script.specs.Tree.{bindOut}
+use Rattle.script.specs.Tree as tree
+use Rattle.script.specs.Tree.{asks, bindOut}
 use Rattle.script.specs.Script.{Script, run, bind, test, done, _>>=_, _>>_, read, write, look, hand, complete, send}
 use Rattle.script.specs.Script.{waiting, next-len}
 use Rattle.script.specs.Every.{sameReg}
@@ -29,8 +31,9 @@ use Rattle.regs.specs.declared.Token.the-variants as tok
 use Rattle.script_ops.specs.Rings.{St}
 use Rattle.script_ops.specs.Concrete.{concrete, isOf, actOn, putOn, getOn}
 use Rattle.proof_isolation.specs.EqualExcept.{Channel}
-use Rattle.proof_isolation.specs.Whose.{sof}
-use Rattle.proof_isolation.specs.Apart.{Reads, Next, next, elsewhere, ApartBy, both, PairBy, Pair}
+use Rattle.proof_isolation.specs.Whose.{receives, sof}
+use Rattle.proof_isolation.specs.Apart.{Reads, Next, next, elsewhere, SameNext, same-next, nexts, ApartBy, both}
+use Rattle.proof_isolation.specs.Apart.{PairBy, Pair}
 use Rattle.proof_isolation.specs.PairsLaws.{rests, Eq, Any, p-ret, p-bind, p-same, p-then, p-test, p-when, p-read}
 use Rattle.proof_isolation.specs.PairsLaws.{p-write}
 use Rattle.proof_isolation.specs.PairsLaws.{p-callback, p-is, p-look, p-act}
@@ -102,6 +105,19 @@ no-status c st EpTLen z = refl
 no-status c st EpRxCtrl z = refl
 no-status c st EpTxCtrl z = refl
 
+-- where neither is a receive address
+receives-not : {x : ℕ} {A : Type 0} {q : Access} {s : St} {k : ℕ → St → tree.Out St A} → Next x (asks q s k)
+    → receives x q ≡ false
+receives-not (next h) = h
+
+pub nexts-of : {A B : Type 0} {o : tree.Out St A} {u : tree.Out St B} → ((x : ℕ) → Next x o) → ((x : ℕ) → Next x u)
+    → SameNext o u
+nexts-of h h′ = by (h 0) (h′ 0) h h′
+  where
+    by : {A B : Type 0} {o : tree.Out St A} {u : tree.Out St B} → Next 0 o → Next 0 u → ((x : ℕ) → Next x o)
+        → ((x : ℕ) → Next x u) → SameNext o u
+    by (next a) (next b) h h′ = same-next (λ x. receives-not (h x) ∙ sym (receives-not (h′ x)))
+
 -- its transmit address or its length is next
 load-next : (x : ℕ) (i : Bool) (e : ℕ) (s : St) → Next x (run {i = i} concrete (isoInLoad e >> wake In e) s)
 load-next x i e s = by (isOf (waiting In e) s)
@@ -134,10 +150,11 @@ module _ {c : Channel} {st : ℕ} {i : Bool} where
   -- address
   pub p-status : {m : Bool} {A B : Type 0} {Q : A → B → Type 0} {f : ℕ → Script i A} {g : ℕ → Script i B}
       → ((s : St) → Next (c .number) (run concrete (f sof) s)) → ((s : St) → Next (c .number) (run concrete (g sof) s))
+      → ((s t : St) → SameNext (run concrete (f sof) s) (run concrete (g sof) t))
       → PairBy c st m Q (f st) (g st) → PairBy c st m Q (bind (read IntSt 0) f) (bind (read IntSt 0) g)
-  p-status {m} {Q = Q} {f} {g} n n′ h = record {
-    on = λ s t l. both {q = Read IntSt 0} quiet (rests i) (λ _ s. elsewhere (n s)) (λ _ s. elsewhere (n′ s)) l
-        (λ v v′ s t b r.
+  p-status {m} {Q = Q} {f} {g} n n′ w h = record {
+    on = λ s t l. both {q = Read IntSt 0} quiet (rests i, λ _ s t. nexts (w s t)) (λ _ s. elsewhere (n s))
+        (λ _ s. elsewhere (n′ s)) l (λ v v′ s t b r.
         subst (λ y. ApartBy c st i Q m (run concrete (f v) s) (run concrete (g y) t)) (sym (b .1))
         (subst (λ y. ApartBy c st i Q m (run concrete (f y) s) (run concrete (g st) t)) (sym (b .0)) (h .on s t r)));
   }
@@ -170,6 +187,7 @@ module _ {c : Channel} {st : ℕ} {i : Bool} where
   p-sof-one frame e = p-plain-in c e (λ p _. p-test _ (λ _. p-ret tt) (λ _. p-reads MisSt 0 (λ v v′ h. h) (λ m. p-test _
       (λ _. p-unseen frame e)
       (λ _. p-status (sof-next (c .number) i frame e) (sof-next (c .number) i frame e)
+      (λ s t. nexts-of (λ x. sof-next x i frame e s) (λ x. sof-next x i frame e t))
       (p-test _ (λ _. p-ret tt) (λ _. p-unseen frame e))))))
 
   p-sof-walk : (frame : ℕ) (es : List ℕ) → Pair c st {i = i} Any (sofWalk frame es) (sofWalk frame es)
