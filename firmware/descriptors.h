@@ -14,7 +14,9 @@
 #define STATUS_IN 2u
 
 /* An isochronous OUT takes 16 buffers, an isochronous IN 2, EP0 one. */
+#ifndef USB_BUFFER
 #define USB_BUFFER 64u
+#endif
 #ifndef USB_BUFFERS
 #define USB_BUFFERS (16u + 2u + 1u)
 #endif

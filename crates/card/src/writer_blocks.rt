@@ -24,8 +24,19 @@ fn packet_byte(endpoint: u8, bytes: &[u8], i: usize) -> u8
     bytes[i - 3]
 }
 
-// Copies n bytes of a packet, from its byte `from` on, into the block.
-pub fn put_piece(block: &mut [u8], at: usize, endpoint: u8, bytes: &[u8], from: usize, n: usize)
+// How many of n bytes of a packet, from its byte `from` on, are its header's three.
+fn header_part(from: u16, n: u16) -> u16
+    ensures { λ r. ⌜ (r ≤ n) × (r ≤ 3) × (r < n → 3 ≤ from + r) × (3 ≤ r → from ≡ 0) ⌝ }
+{
+    if 3 <= from {
+        return 0;
+    }
+    let left = 3 - from;
+    if left < n { left } else { n }
+}
+
+// Copies n bytes of a packet, from its byte `from` on, into the block, one by one.
+fn put_few(block: &mut [u8], at: usize, endpoint: u8, bytes: &[u8], from: usize, n: usize)
     requires { ⌜ (at + n ≤ length (now block)) × (from + n ≤ 3 + length (now bytes)) × (length (now bytes) ≤ 1024) ⌝ }
     ensures { λ r. ⌜ now (block .exit) ≡ paste (now (block .entry)) at
         (drop from (packetBytes (packetOf endpoint (now (bytes .entry))))) n ⌝ }
@@ -35,6 +46,50 @@ pub fn put_piece(block: &mut [u8], at: usize, endpoint: u8, bytes: &[u8], from: 
         block[at + i] = packet_byte(endpoint, bytes, from + i);
         i += 1;
     }
+}
+
+// The three bytes of its header.
+fn put_header(block: &mut [u8], at: usize, endpoint: u8, bytes: &[u8])
+    requires { ⌜ (at + 3 ≤ length (now block)) × (length (now bytes) ≤ 1024) ⌝ }
+    ensures { λ r. ⌜ now (block .exit) ≡ paste (now (block .entry)) at
+        (packetBytes (packetOf endpoint (now (bytes .entry)))) 3 ⌝ }
+{
+    let n = bytes.len() as u16;
+    block[at] = (n % 256) as u8;
+    block[at + 1] = (n / 256) as u8;
+    block[at + 2] = endpoint;
+}
+
+// The part of its header that n bytes from its byte `from` on have: mostly all of it.
+fn put_part(block: &mut [u8], at: usize, endpoint: u8, bytes: &[u8], from: u16, n: u16)
+    requires { ⌜ (at + n ≤ length (now block)) × (from + n ≤ 3 + length (now bytes)) × (length (now bytes) ≤ 1024)
+        × (n ≤ 3)
+        × (3 ≤ n → from ≡ 0) ⌝ }
+    ensures { λ r. ⌜ now (block .exit) ≡ paste (now (block .entry)) at
+        (drop from (packetBytes (packetOf endpoint (now (bytes .entry))))) n ⌝ }
+{
+    if n < 3 {
+        put_few(block, at, endpoint, bytes, from as usize, n as usize);
+        return;
+    }
+    put_header(block, at, endpoint, bytes);
+}
+
+// The same of any bytes of it: those of its header, then its data together.
+pub fn put_piece(block: &mut [u8], at: u16, endpoint: u8, bytes: &[u8], from: u16, n: u16)
+    requires { ⌜ (at + n ≤ 512) × (length (now block) ≡ 512) × (from + n ≤ 3 + length (now bytes))
+        × (length (now bytes) ≤ 1024) ⌝ }
+    ensures { λ r. ⌜ now (block .exit) ≡ paste (now (block .entry)) at
+        (drop from (packetBytes (packetOf endpoint (now (bytes .entry))))) n ⌝ }
+{
+    let few = header_part(from, n);
+    put_part(block, at as usize, endpoint, bytes, from, few);
+    if n <= few {
+        return;
+    }
+    let a = (from + few - 3) as usize;
+    let e = a + (n - few) as usize;
+    ring::marks::copy_in(block, (at + few) as u32, &bytes[a..e]);
 }
 
 // Fills n bytes of the block with zeros.

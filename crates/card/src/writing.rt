@@ -139,14 +139,7 @@ fn put(w: Writer, block: &mut [u8], endpoint: u8, bytes: &[u8])
     let used = used_of(w);
     let done = done_of(w, n);
     let piece = piece_of(w, n);
-    put_piece(
-        block,
-        6 + used as usize,
-        endpoint,
-        bytes,
-        done as usize,
-        piece as usize,
-    );
+    put_piece(block, 6 + used, endpoint, bytes, done, piece);
     if is_full(w, n) {
         let first = first_of(w, n);
         close(block, w.number, first);

@@ -61,6 +61,14 @@ pub fn memory(address: u32, length: usize) -> &'static mut [u8] {
 }
 
 impl Chip {
+    /// A packet of an isochronous OUT reached its reader. One that was never sent, or was got before, is a failure.
+    pub fn got(&mut self, ep: usize) {
+        match self.waiting[ep].checked_sub(1) {
+            Some(left) => self.waiting[ep] = left,
+            None => self.wrong = Some(format!("endpoint {ep} shows a packet more than was sent")),
+        }
+    }
+
     /// What the driver wrote to the control registers is what they read.
     pub fn settle(&mut self) {
         if self.reset && seam::written(reg::INT_FG, 0) == 1 {

@@ -99,14 +99,40 @@ fn exit() {
     }
 }
 
+/// Takes what waits on endpoint 3; it is its one reader. It ends where something is wrong: a packet that comes again
+/// and again would have no end.
 fn take() {
     while let Some(packet) = usbhs::iso_out_take(3, |p| p.to_vec()) {
-        chip(|c| {
+        let wrong = chip(|c| {
             c.taken.push(packet);
-            c.waiting[3] -= 1;
+            c.got(3);
             c.midst += c.in_interrupt as usize;
+            c.wrong.is_some()
         });
+        if wrong {
+            return;
+        }
     }
+}
+
+/// The timer's interrupt: does anything wait that it should take? What it then does not take nobody will.
+fn timer() -> bool {
+    let waits = |c: &mut Chip| if c.timer && c.wrong.is_none() { c.waiting[3] } else { 0 };
+    let due = chip(|c| {
+        c.in_timer = waits(c) != 0;
+        waits(c)
+    });
+    if due == 0 {
+        return false;
+    }
+    take();
+    chip(|c| {
+        c.in_timer = false;
+        if waits(c) >= due {
+            c.wrong = Some(format!("{due} packets wait for the timer, which finds none"));
+        }
+    });
+    true
 }
 
 fn sof() {
@@ -161,13 +187,6 @@ fn execute(tasks: &mut [(&'static str, Option<Task>)]) -> Vec<&'static str> {
             }
         }
         // the timer comes at last
-        let timer = || {
-            let due = chip(|c| c.timer && c.waiting[3] != 0);
-            if due {
-                take();
-            }
-            due
-        };
         if idle && !serve() && !timer() {
             return tasks.iter().filter(|t| t.1.is_some()).map(|t| t.0).collect();
         }
@@ -327,7 +346,7 @@ pub fn run(seed: u64) -> Result<(usize, usize), String> {
             })),
         ),
         ("the bulk OUT", Some(Box::pin(reads(bulk_out, got_bulk, || ())))),
-        ("the isochronous OUT", Some(Box::pin(reads(iso_out, got_iso, || chip(|c| c.waiting[2] -= 1))))),
+        ("the isochronous OUT", Some(Box::pin(reads(iso_out, got_iso, || chip(|c| c.got(2)))))),
     ];
     let left = execute(&mut tasks);
     drop(tasks);
@@ -336,14 +355,14 @@ pub fn run(seed: u64) -> Result<(usize, usize), String> {
     seam::stepped();
     let (interrupts, wrong, got_taken) = chip(|c| (c.interrupts, c.wrong.take(), core::mem::take(&mut c.taken)));
     let midst = chip(|c| if c.timer { c.midst } else { 0 });
+    if let Some(w) = wrong {
+        return Err(format!("seed {seed}: {w}"));
+    }
     if !left.is_empty() {
         return Err(format!(
             "seed {seed}: for ever waits {left:?}; the host's next: {:?}",
             chip(|c| c.pipes.each_ref().map(|p| format!("{:?}", p.front())))
         ));
-    }
-    if let Some(w) = wrong {
-        return Err(format!("seed {seed}: {w}"));
     }
     let sent = chip(|c| core::mem::take(&mut c.sent));
     if sent.len() < 17 || !sent.iter().enumerate().all(|(i, &b)| b as usize == i) {

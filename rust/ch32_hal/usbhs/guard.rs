@@ -34,12 +34,11 @@ impl Guard {
         self.sofs() != before
     }
 
-    /// A write of the port's that it has to know: whether int_en is to be written anew.
-    pub(super) fn written(&mut self, register: Register, ep: u8, word: u32) -> bool {
+    /// ep_config or ep_type is written: whether int_en is to be written anew.
+    fn written(&mut self, register: Register, word: u32) -> bool {
         match register {
             Register::EpConfig => self.enabled = word,
             Register::EpType => self.types = word,
-            Register::EpRxDma => self.armed[ep as usize & 15] = word,
             _ => {}
         }
         self.decided()
@@ -71,6 +70,13 @@ pub(super) fn let_sofs<T: Instance>() {
         let on = lent::with(|l| l.callback.is_some() && l.guard.sofs());
         T::regs().int_en().modify(|w| w.set_sof_act(on));
     });
+}
+
+/// ep_config or ep_type is written.
+pub(super) fn written<T: Instance>(register: Register, word: u32) {
+    if lent::with(|l| l.guard.written(register, word)) {
+        let_sofs::<T>();
+    }
 }
 
 /// A control transfer begins, or is over.

@@ -35,7 +35,16 @@ pub(super) fn is_iso_in(ep: usize) {
 }
 
 /// What could not be done while the operation that is over now was under way.
+#[inline]
 pub(super) fn deferred() {
+    if (PACE.load(Ordering::Relaxed) | ADVANCE.load(Ordering::Relaxed)) != 0 {
+        make_up();
+    }
+}
+
+#[cold]
+#[inline(never)]
+fn make_up() {
     for (mask, paced) in [(&PACE, true), (&ADVANCE, false)] {
         let mut eps = critical_section::with(|_| {
             let eps = mask.load(Ordering::Relaxed);

@@ -40,7 +40,7 @@ impl Lent {
     pub(super) const NEW: Self = Self {
         state: State::new(),
         time: BusTime::new(),
-        slots: core::ptr::null_mut(),
+        slots: core::ptr::NonNull::dangling().as_ptr(),
         length: 0,
         size: 0,
         callback: None,
@@ -57,14 +57,11 @@ impl Lent {
         (self.slots, self.length)
     }
 
+    #[inline]
     pub(super) fn port(&mut self) -> Port<'_> {
-        let slots: &mut [u8] = if self.slots.is_null() {
-            &mut []
-        } else {
-            // SAFETY: the buffers that `Driver::new` took for the driver's life; nobody else has a reference while a
-            // call is made, and the chip's own accesses are outside of the language
-            unsafe { core::slice::from_raw_parts_mut(self.slots, self.length) }
-        };
+        // SAFETY: none yet, or the buffers that `Driver::new` took for the driver's life; nobody else has a reference
+        // while a call is made, and the chip's own accesses are outside of the language
+        let slots = unsafe { core::slice::from_raw_parts_mut(self.slots, self.length) };
         Port::lent(&mut self.state, slots, &mut self.time, DRIVER)
     }
 }
@@ -77,12 +74,14 @@ unsafe impl Sync for Shared {}
 static LENT: Shared = Shared(UnsafeCell::new(Lent::NEW));
 
 /// `f` in a critical section; `f` does not come back here.
+#[inline]
 pub(super) fn with<R>(f: impl FnOnce(&mut Lent) -> R) -> R {
     // SAFETY: masked, and no `f` of this layer calls `with`: the only reference
     critical_section::with(|_| f(unsafe { &mut *LENT.0.get() }))
 }
 
 /// One call of the port.
+#[inline]
 pub(super) fn call<R>(f: impl FnOnce(&mut Port<'_>) -> R) -> R {
     with(|lent| f(&mut lent.port()))
 }
@@ -91,6 +90,7 @@ pub(super) fn call<R>(f: impl FnOnce(&mut Port<'_>) -> R) -> R {
 pub(super) struct Masked;
 
 impl Lend for Masked {
+    #[inline]
     fn lend<R>(&mut self, f: impl FnOnce(&mut Port<'_>) -> R) -> R {
         call(f)
     }
@@ -101,11 +101,19 @@ pub(super) fn base() -> u32 {
     with(|lent| lent.slots as usize as u32)
 }
 
+/// The same where an endpoint's receive buffer is written, which the guard has to know.
+pub(super) fn armed(ep: u8, offset: u32) -> u32 {
+    with(|lent| {
+        lent.guard.armed[ep as usize & 15] = offset;
+        lent.slots as usize as u32
+    })
+}
+
 /// `f` on an open packet, unmasked.
 pub(super) fn on_packet<R>(packet: Packet, f: impl FnOnce(&[u8]) -> R) -> R {
     let (slots, length) = with(|lent| lent.slots());
     let (begin, n) = (packet.offset as usize, usize::from(packet.length));
-    if slots.is_null() || begin + n > length {
+    if begin + n > length {
         return f(&[]);
     }
     // SAFETY: inside the lent buffers; until it is closed no call writes to an open packet's slot, and the chip was not
@@ -120,7 +128,7 @@ const MARK: u32 = 0x5A3C_A5C3;
 pub(super) fn left_in_a_slot() -> bool {
     with(|l| {
         let eps = l.guard.looked_at();
-        (1..16).filter(|ep| eps >> ep & 1 != 0).any(|ep| {
+        eps != 0 && (1..16).filter(|ep| eps >> ep & 1 != 0).any(|ep| {
             let at = l.guard.armed[ep] as usize;
             // SAFETY: a word inside the lent buffers, which the chip may write meanwhile
             at + 4 <= l.length && unsafe { core::ptr::read_volatile(l.slots.add(at).cast::<u32>()) } != MARK

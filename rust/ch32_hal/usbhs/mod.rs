@@ -9,7 +9,8 @@
 //! 2. **The callback may come late.** The port is always told that there is one; sof_act stays out of int_en until
 //!    [`set_sof_callback`], and callbacks before it are dropped.
 //! 3. **Masking.** A task's operation is one critical section, as the driver has one operation under way at a time. The
-//!    interrupt's is one for each call, so that packets may be taken and queued from interrupts above it.
+//!    interrupt's is one for each call, so that packets may be taken and queued from interrupts above it. It first
+//!    reads what the chip shows, which the next token overwrites, and brings that by the calls for several readings.
 //! 4. **From the callback** take, prime and pending pass as they are; [`microframe`] reads the register itself; pacing
 //!    and advance are put off to the operation's end, and pacing before EP0's start to its end.
 //! 5. **Wake-ups** are asked for in the same section as the end, then made in their order.
@@ -30,7 +31,7 @@ use embassy_usb_driver::{
     Direction, EndpointAddress, EndpointAllocError, EndpointError, EndpointInfo, EndpointType, Event, Unsupported,
 };
 use endpoint::Endpoint;
-use usbhs_port::{Answer, Port, Preview, Refusal, Transfer};
+use usbhs_port::{Answer, Port, Preview, Refusal, Register, Transfer};
 
 use crate::gpio::{AFType, Speed};
 use crate::interrupt::typelevel::Interrupt;
@@ -84,15 +85,15 @@ fn length(buf: &[u8]) -> u32 {
     u32::try_from(buf.len()).unwrap_or(u32::MAX)
 }
 
-/// A call and the accesses that it hands out, to its end; masked call by call.
-fn run<T: Instance>(begin: impl FnOnce(&mut Port<'_>) -> Answer) -> Answer {
-    usbhs_port::run(&mut Masked, &mut registers::Chip::<T>::new(), begin)
+/// The accesses that a call handed out, to its end; for a section that masks the call and these.
+fn run<T: Instance>(begun: Answer) -> Answer {
+    usbhs_port::run(&mut Masked, &mut registers::Chip::<T>::new(), |_| begun)
 }
 
 /// A task's operation, masked as a whole.
 fn operate<T: Instance>(begin: impl FnOnce(&mut Port<'_>) -> Answer) -> Answer {
     critical_section::with(|_| {
-        let answer = run::<T>(begin);
+        let answer = run::<T>(call(begin));
         iso::deferred();
         answer
     })
@@ -106,8 +107,8 @@ fn request<T: Instance>(begin: impl FnOnce(&mut Port<'_>) -> Answer) -> Result<u
 /// What the free functions ask of this peripheral.
 fn free<T: Instance>(what: Free) -> Answer {
     match what {
-        Free::Microframe => critical_section::with(|_| run::<T>(|p| p.begin_microframe())),
-        Free::Advance(ep) => critical_section::with(|_| run::<T>(|p| p.begin_advance(ep))),
+        Free::Microframe => critical_section::with(|_| run::<T>(call(|p| p.begin_microframe()))),
+        Free::Advance(ep) => critical_section::with(|_| run::<T>(call(|p| p.begin_advance(ep)))),
         Free::Frame => {
             let frame = T::dregs().frame_no().read().frame_no();
             Answer::End { result: (frame & 0x7FF) << 3 | frame >> 13, wakes: 0 }
@@ -160,7 +161,12 @@ pub struct InterruptHandler<T: Instance> {
 
 impl<T: Instance> interrupt::typelevel::Handler<T::Interrupt> for InterruptHandler<T> {
     unsafe fn on_interrupt() {
-        let _ = run::<T>(|p| p.begin_interrupt());
+        let mut chip = registers::Chip::<T>::new();
+        let read = chip.entry();
+        let _ = usbhs_port::run(&mut Masked, &mut chip, |p| match (p.interrupt(read.frame, read.flags), read.transfer) {
+            (Answer::Read { register: Register::MisSt, .. }, Some((mis, st, len))) => p.go_on_transfer(mis, st, len),
+            (answer, _) => answer,
+        });
         guard::look_after_interrupt::<T>();
         iso::deferred();
     }

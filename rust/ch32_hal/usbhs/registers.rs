@@ -123,9 +123,29 @@ pub(super) struct Chip<T: Instance> {
     _phantom: PhantomData<T>,
 }
 
+/// What an interrupt reads first, in the order in which the port asks for it.
+pub(super) struct Entry {
+    pub(super) frame: u32,
+    pub(super) flags: u32,
+    /// mis_st, int_st and rx_len, where a transfer is the first flag that is served.
+    pub(super) transfer: Option<(u32, u32, u32)>,
+}
+
+/// The transfer flag; with it the flags that are served before it: bus reset, suspend, SOF of a host, overflow.
+const TRANSFER: u32 = 2;
+const UP_TO_TRANSFER: u32 = 0x1F;
+
 impl<T: Instance> Chip<T> {
     pub(super) fn new() -> Self {
         Self { before: Before::Other, _phantom: PhantomData }
+    }
+
+    /// The interrupt's first readings.
+    pub(super) fn entry(&mut self) -> Entry {
+        let (frame, flags) = (self.read(Register::FrameNo, 0), self.read(Register::IntFg, 0));
+        let transfer = flags & UP_TO_TRANSFER == TRANSFER;
+        let three = |c: &mut Self| (c.read(Register::MisSt, 0), c.read(Register::IntSt, 0), c.read(Register::RxLen, 0));
+        Entry { frame, flags, transfer: transfer.then(|| three(self)) }
     }
 }
 
@@ -144,6 +164,7 @@ impl<T: Instance> Access for Chip<T> {
         WAKERS[task.number()].wake();
     }
 
+    #[inline]
     fn read(&mut self, register: Register, ep: u8) -> u32 {
         let (r, d) = (T::regs(), T::dregs());
         self.before = Before::Other;
@@ -192,7 +213,6 @@ impl<T: Instance> Access for Chip<T> {
 
     fn write(&mut self, register: Register, ep: u8, word: u32) {
         let (r, d, h) = (T::regs(), T::dregs(), T::hregs());
-        let last = core::mem::replace(&mut self.before, Before::Other);
         let on = |bit: u32| word >> bit & 1 != 0;
         let n = ep as usize;
         match register {
@@ -200,7 +220,7 @@ impl<T: Instance> Access for Chip<T> {
                 set_bits!(w, on: set_bus_rst 0, set_transfer 1, set_suspend 2, set_hst_sof 3, set_fifo_ov 4,
                     set_setup_act 5);
             }),
-            Register::Ctrl => match last {
+            Register::Ctrl => match self.before {
                 Before::Ctrl(mut v, read) => {
                     set_ctrl(&mut v, word, word ^ read);
                     r.ctrl().write_value(v);
@@ -216,7 +236,10 @@ impl<T: Instance> Access for Chip<T> {
             Register::DevAd => r.dev_ad().write(|w| w.set_addr(word as u8)),
             Register::HostCtrl => h.ctrl().write(|w| w.set_phy_suspendm(on(0))),
             // bit e: IN e; bit 16 + e: OUT e, as the Rust takes it too
-            Register::EpConfig => d.ep_config().write_value(EpConfig(word as _)),
+            Register::EpConfig => {
+                d.ep_config().write_value(EpConfig(word as _));
+                guard::written::<T>(register, word);
+            }
             Register::EpType => {
                 let mut v = EpType::default();
                 let kind = |bit: usize| if word >> bit & 1 != 0 { EpKind::ISO } else { EpKind::NISO };
@@ -225,28 +248,25 @@ impl<T: Instance> Access for Chip<T> {
                     v.set_r_type(e - 1, kind(16 + e));
                 }
                 d.ep_type().write_value(v);
+                guard::written::<T>(register, word);
             }
             Register::EpBufMod => d.ep_buf_mod().write_value(EpBufMod::default()),
             Register::Ep0Dma => d.ep0_dma().write_value(lent::base().wrapping_add(word)),
             Register::EpMaxLen => d.ep_max_len(n).write(|w| w.set_len(word as u16)),
             Register::EpTLen => d.ep_t_len(n).write(|w| w.set_len(word as u16)),
-            Register::EpRxDma => d.ep_rx_dma(n - 1).write_value(lent::base().wrapping_add(word)),
+            Register::EpRxDma => d.ep_rx_dma(n - 1).write_value(lent::armed(ep, word).wrapping_add(word)),
             Register::EpTxDma => d.ep_tx_dma(n - 1).write_value(lent::base().wrapping_add(word)),
             Register::EpRxCtrl => {
-                let before = if let Before::Rx(e, v, read) = last { (e == ep).then_some((v, read)) } else { None };
+                let before = if let Before::Rx(e, v, read) = self.before { (e == ep).then_some((v, read)) } else { None };
                 d.ep_rx_ctrl(n).write_value(rx_value(before, word));
             }
             Register::EpTxCtrl => {
-                let before = if let Before::Tx(e, v, read) = last { (e == ep).then_some((v, read)) } else { None };
+                let before = if let Before::Tx(e, v, read) = self.before { (e == ep).then_some((v, read)) } else { None };
                 d.ep_tx_ctrl(n).write_value(tx_value(before, word));
             }
             // the port writes no other
             _ => {}
         }
-        if matches!(register, Register::EpConfig | Register::EpType | Register::EpRxDma)
-            && lent::with(|l| l.guard.written(register, ep, word))
-        {
-            guard::let_sofs::<T>();
-        }
+        self.before = Before::Other;
     }
 }

@@ -28,27 +28,34 @@ pub enum Register {
     EpTxCtrl = 18,
 }
 
-const REGISTERS: [Register; 19] = [
-    Register::IntFg,
-    Register::IntSt,
-    Register::MisSt,
-    Register::RxLen,
-    Register::FrameNo,
-    Register::Ctrl,
-    Register::IntEn,
-    Register::DevAd,
-    Register::HostCtrl,
-    Register::EpConfig,
-    Register::EpType,
-    Register::EpBufMod,
-    Register::Ep0Dma,
-    Register::EpMaxLen,
-    Register::EpTLen,
-    Register::EpRxDma,
-    Register::EpTxDma,
-    Register::EpRxCtrl,
-    Register::EpTxCtrl,
-];
+impl Register {
+    /// Of its number.
+    #[inline]
+    pub(crate) fn of(number: u8) -> Option<Self> {
+        Some(match number {
+            0 => Self::IntFg,
+            1 => Self::IntSt,
+            2 => Self::MisSt,
+            3 => Self::RxLen,
+            4 => Self::FrameNo,
+            5 => Self::Ctrl,
+            6 => Self::IntEn,
+            7 => Self::DevAd,
+            8 => Self::HostCtrl,
+            9 => Self::EpConfig,
+            10 => Self::EpType,
+            11 => Self::EpBufMod,
+            12 => Self::Ep0Dma,
+            13 => Self::EpMaxLen,
+            14 => Self::EpTLen,
+            15 => Self::EpRxDma,
+            16 => Self::EpTxDma,
+            17 => Self::EpRxCtrl,
+            18 => Self::EpTxCtrl,
+            _ => return None,
+        })
+    }
+}
 
 /// Why a call is refused: the rows of the table of refusals in `usbhs.h`.
 #[derive(Clone, Copy, Debug, PartialEq, Eq)]
@@ -231,12 +238,13 @@ pub enum Answer {
 
 impl Answer {
     /// The answer that a word is.
+    #[inline]
     pub(crate) fn of(word: u64) -> Self {
         let byte = (word >> 8) as u8;
         let (middle, endpoint, high) = ((word >> 8) as u16, (word >> 16) as u8, (word >> 32) as u32);
-        match (word & 15, REGISTERS.get(usize::from(byte))) {
-            (1, Some(&register)) => Self::Read { register, endpoint },
-            (2, Some(&register)) => Self::Write { register, endpoint, value: high },
+        match (word & 15, Register::of(byte)) {
+            (1, Some(register)) => Self::Read { register, endpoint },
+            (2, Some(register)) => Self::Write { register, endpoint, value: high },
             (3, _) => Self::Wait(byte),
             (4, _) => Self::Callback,
             (5, _) => Self::End { result: middle, wakes: (word >> 24) as u8 },
@@ -248,7 +256,7 @@ impl Answer {
     }
 
     /// The word that this answer is.
-    #[cfg(feature = "trace")]
+    #[inline]
     pub(crate) fn word(self) -> u64 {
         let register = |r: Register, e: u8| u64::from(r as u8) << 8 | u64::from(e) << 16;
         match self {
@@ -265,6 +273,7 @@ impl Answer {
     }
 
     /// The result of a call that is over at once.
+    #[inline]
     pub fn ended(self) -> Result<u16, Refusal> {
         match self {
             Self::End { result, .. } => Ok(result),
@@ -287,6 +296,7 @@ pub enum Task {
 
 impl Task {
     /// Of its number: 0 to 15 IN, 16 to 31 OUT, 32 the bus.
+    #[inline]
     pub(crate) fn of(number: u8) -> Self {
         match number {
             0..=15 => Self::In(number),
@@ -296,6 +306,7 @@ impl Task {
     }
 
     /// Its number: 0 to 15 IN, 16 to 31 OUT, 32 the bus.
+    #[inline]
     #[must_use]
     pub fn number(self) -> usize {
         match self {
@@ -303,29 +314,6 @@ impl Task {
             Self::Out(ep) => 16 + usize::from(ep & 15),
             Self::Bus => 32,
         }
-    }
-}
-
-/// The tasks that an end wakes, in the order in which they were woken, a task as often as it was.
-#[derive(Clone, Copy, Debug)]
-pub struct Woken {
-    pub(crate) room: [u8; MOST_WAKES],
-    pub(crate) count: usize,
-}
-
-/// `USBHS_MOST_WAKES`.
-pub const MOST_WAKES: usize = 64;
-
-impl Woken {
-    /// Nobody.
-    #[must_use]
-    pub const fn nobody() -> Self {
-        Self { room: [0; MOST_WAKES], count: 0 }
-    }
-
-    /// The tasks.
-    pub fn tasks(&self) -> impl Iterator<Item = Task> + '_ {
-        self.room.iter().take(self.count).map(|&n| Task::of(n))
     }
 }
 
@@ -366,9 +354,10 @@ mod tests {
             assert_eq!(Refusal::of(row).row(), row);
             assert_eq!(Answer::of(u64::from(row) << 8), Answer::Refused(Refusal::of(row)));
         }
-        for (n, &register) in REGISTERS.iter().enumerate() {
-            assert_eq!(register as usize, n);
-            let word = 2 | (n as u64) << 8 | 7 << 16 | 0xABCD_1234 << 32;
+        for n in 0..19 {
+            let register = Register::of(n).unwrap();
+            assert_eq!(register as u8, n);
+            let word = 2 | u64::from(n) << 8 | 7 << 16 | 0xABCD_1234 << 32;
             assert_eq!(Answer::of(word), Answer::Write { register, endpoint: 7, value: 0xABCD_1234 });
         }
         for n in 0..=32 {

@@ -1,8 +1,10 @@
 //! The exported calls of `usbhs.h`: the crate's only module with `unsafe`.
 #![allow(unsafe_code)]
 
+use core::mem::MaybeUninit;
+
 use crate::exported::*;
-use crate::{Answer, Woken, MOST_WAKES};
+use crate::{Answer, Task};
 
 /// The longest buffer.
 pub const LONGEST: usize = 1024;
@@ -103,6 +105,44 @@ pub struct Packet {
     pub stamp: u16,
 }
 
+/// `USBHS_MOST_WAKES`.
+pub const MOST_WAKES: usize = 64;
+
+/// The tasks that an end wakes, in the order in which they were woken, a task as often as it was.
+#[derive(Clone, Copy)]
+pub struct Woken {
+    /// The first `count` are written.
+    room: [MaybeUninit<u8>; MOST_WAKES],
+    pub(crate) count: usize,
+}
+
+impl Woken {
+    /// Nobody.
+    #[inline]
+    #[must_use]
+    pub fn nobody() -> Self {
+        let mut woken = MaybeUninit::<Self>::uninit();
+        // SAFETY: inside of `woken`; the room may stay as it is, so that nothing but the count is stored
+        unsafe {
+            (&raw mut (*woken.as_mut_ptr()).count).write(0);
+            woken.assume_init()
+        }
+    }
+
+    /// The tasks.
+    #[inline]
+    pub fn tasks(&self) -> impl Iterator<Item = Task> + '_ {
+        // SAFETY: `ask_woken` counts what the call has written
+        self.room.iter().take(self.count).map(|n| Task::of(unsafe { n.assume_init() }))
+    }
+}
+
+impl core::fmt::Debug for Woken {
+    fn fmt(&self, f: &mut core::fmt::Formatter<'_>) -> core::fmt::Result {
+        f.debug_list().entries(self.tasks()).finish()
+    }
+}
+
 /// What [`Port::allocate_all`] would give.
 #[derive(Clone, Copy, Debug, PartialEq, Eq)]
 pub struct Preview {
@@ -127,17 +167,20 @@ pub struct Port<'a> {
 impl<'a> Port<'a> {
     /// `slots`: as many buffers as start-up is told, of the size that it is told, from a word boundary on (as [`Slots`]
     /// are; else start-up is refused). `driver`: this driver's number in the record of bus time, 0 to 3.
+    #[inline]
     pub fn lent(state: &'a mut State, slots: &'a mut [u8], time: &'a mut BusTime, driver: u32) -> Self {
         Self { state, slots, time, driver }
     }
 
     /// The slots.
+    #[inline]
     #[must_use]
     pub fn slots(&mut self) -> &mut [u8] {
         self.slots
     }
 
     /// The bytes of an open packet; none if it does not lie in the slots.
+    #[inline]
     #[must_use]
     pub fn packet(&self, packet: Packet) -> &[u8] {
         let begin = packet.offset as usize;
@@ -145,6 +188,7 @@ impl<'a> Port<'a> {
     }
 
     /// The record of bus time.
+    #[inline]
     #[must_use]
     pub fn bus_time(&self) -> &BusTime {
         self.time
@@ -156,6 +200,7 @@ macro_rules! on_numbers {
     ($($(#[$doc:meta])* $name:ident($($arg:ident: $of:ty),*) = $call:ident($($word:expr),*);)*) => {
         impl Port<'_> {
             $($(#[$doc])*
+            #[inline]
             pub fn $name(&mut self $(, $arg: $of)*) -> Answer {
                 // SAFETY: STATE_LEN bytes, lent to nobody else; any bytes and any numbers are safe
                 Answer::of(unsafe { $call(self.state.0.as_mut_ptr() $(, $word)*) })
@@ -213,6 +258,7 @@ on_numbers! {
 
 impl Port<'_> {
     /// Start-up, on slots of `count` times `size` bytes; `callback`: there is a start-of-frame callback.
+    #[inline]
     pub fn start_up(&mut self, size: u32, count: u32, callback: bool) -> Answer {
         if !(self.slots.as_ptr() as usize).is_multiple_of(4) {
             return Answer::Refused(crate::Refusal::Misaligned);
@@ -226,14 +272,22 @@ impl Port<'_> {
     }
 
     /// Goes on with the operation under way; `reading`: what was asked for, any number after a write or a wait.
+    #[inline]
     pub fn go_on(&mut self, reading: u32) -> Answer {
+        Answer::of(self.go_on_word(reading))
+    }
+
+    /// The same, the answer as its word.
+    #[inline]
+    pub(crate) fn go_on_word(&mut self, reading: u32) -> u64 {
         let (s, b, n) = (self.state.0.as_mut_ptr(), self.slots.as_mut_ptr(), length(self.slots));
         // SAFETY: as in `start_up`
-        Answer::of(unsafe { usbhs_continue(s, b, n, self.time.0.as_mut_ptr(), self.driver, reading) })
+        unsafe { usbhs_continue(s, b, n, self.time.0.as_mut_ptr(), self.driver, reading) }
     }
 
     /// The chip's interrupt with its first two readings: [`Port::begin_interrupt`], then a [`Port::go_on`] with each, as
     /// long as it is asked for.
+    #[inline]
     pub fn interrupt(&mut self, frame_no: u32, int_fg: u32) -> Answer {
         let (s, b, n) = (self.state.0.as_mut_ptr(), self.slots.as_mut_ptr(), length(self.slots));
         // SAFETY: as in `start_up`
@@ -241,6 +295,7 @@ impl Port<'_> {
     }
 
     /// Goes on with a transfer's three readings: a [`Port::go_on`] with each, as long as it is asked for.
+    #[inline]
     pub fn go_on_transfer(&mut self, mis_st: u32, int_st: u32, rx_len: u32) -> Answer {
         let (s, b, n, t) =
             (self.state.0.as_mut_ptr(), self.slots.as_mut_ptr(), length(self.slots), self.time.0.as_mut_ptr());
@@ -249,6 +304,7 @@ impl Port<'_> {
     }
 
     /// Enables or disables an endpoint; refused with 19 where there is no bus time for it.
+    #[inline]
     pub fn begin_set_enabled(&mut self, endpoint: u8, direction: Direction, enabled: bool) -> Answer {
         let (s, b, n, t) =
             (self.state.0.as_mut_ptr(), self.slots.as_mut_ptr(), length(self.slots), self.time.0.as_mut_ptr());
@@ -258,12 +314,14 @@ impl Port<'_> {
     }
 
     /// All endpoints of a configuration descriptor as one operation, or none; ends with how many there are.
+    #[inline]
     pub fn allocate_all(&mut self, descriptor: &[u8]) -> Answer {
         // SAFETY: state and descriptor with their lengths, lent apart
         Answer::of(unsafe { usbhs_allocate_all(self.state.0.as_mut_ptr(), descriptor.as_ptr(), length(descriptor)) })
     }
 
     /// What [`Port::allocate`] of each endpoint would give, up to the first refusal; nothing is allocated.
+    #[inline]
     pub fn preview(&self, descriptor: &[u8]) -> Result<Preview, crate::Refusal> {
         let (mut numbers, mut buffers, mut row) = ([0; NUMBERS_LEN], 0, 0);
         let (bytes, n) = (descriptor.as_ptr(), length(descriptor));
@@ -275,6 +333,7 @@ impl Port<'_> {
     }
 
     /// A read's packet, in the slice's front.
+    #[inline]
     pub fn poll_read(&mut self, endpoint: u8, slice: &mut [u8]) -> Answer {
         let (s, b, n) = (self.state.0.as_mut_ptr(), self.slots.as_ptr(), length(self.slots));
         // SAFETY: state, slots and slice with their lengths, lent apart
@@ -282,6 +341,7 @@ impl Port<'_> {
     }
 
     /// A write of one packet.
+    #[inline]
     pub fn begin_write(&mut self, endpoint: u8, data: &[u8]) -> Answer {
         let (s, b, n) = (self.state.0.as_mut_ptr(), self.slots.as_mut_ptr(), length(self.slots));
         // SAFETY: state, slots and data with their lengths, lent apart
@@ -289,6 +349,7 @@ impl Port<'_> {
     }
 
     /// Whether the packet, which is brought again, is written.
+    #[inline]
     pub fn poll_write(&mut self, endpoint: u8, data: &[u8]) -> Answer {
         let (s, b, n) = (self.state.0.as_mut_ptr(), self.slots.as_mut_ptr(), length(self.slots));
         // SAFETY: as in `begin_write`
@@ -296,12 +357,14 @@ impl Port<'_> {
     }
 
     /// The setup packet.
+    #[inline]
     pub fn poll_setup(&mut self, packet: &mut [u8; 8]) -> Answer {
         // SAFETY: state and packet of their lengths, lent apart
         Answer::of(unsafe { usbhs_poll_setup(self.state.0.as_mut_ptr(), packet.as_mut_ptr()) })
     }
 
     /// The data stage's packet, in the slice's front.
+    #[inline]
     pub fn poll_data_out(&mut self, slice: &mut [u8]) -> Answer {
         let (s, b, n) = (self.state.0.as_mut_ptr(), self.slots.as_ptr(), length(self.slots));
         // SAFETY: as in `poll_read`
@@ -309,6 +372,7 @@ impl Port<'_> {
     }
 
     /// A packet of the data stage to the host.
+    #[inline]
     pub fn begin_data_in(&mut self, data: &[u8], first: bool, last: bool) -> Answer {
         let (s, b, n) = (self.state.0.as_mut_ptr(), self.slots.as_mut_ptr(), length(self.slots));
         let (first, last) = (first.into(), last.into());
@@ -318,6 +382,7 @@ impl Port<'_> {
 
     /// The oldest packet of an isochronous OUT, in place: it stays until [`Port::close`]. One reader per endpoint: a
     /// second open before the close shows the same packet again.
+    #[inline]
     pub fn open(&mut self, endpoint: u8) -> Result<Packet, crate::Refusal> {
         let mut stamp = 0;
         let (s, b, n) = (self.state.0.as_mut_ptr(), self.slots.as_ptr(), length(self.slots));
@@ -329,6 +394,7 @@ impl Port<'_> {
     }
 
     /// Queues a packet on an isochronous IN. Over at once.
+    #[inline]
     pub fn queue(&mut self, endpoint: u8, data: &[u8]) -> Answer {
         let (s, b, n) = (self.state.0.as_mut_ptr(), self.slots.as_mut_ptr(), length(self.slots));
         // SAFETY: as in `begin_write`
@@ -336,15 +402,17 @@ impl Port<'_> {
     }
 
     /// The tasks to wake, of an end that has some: to be asked before the next call.
+    #[inline]
     pub fn ask_woken(&self, answer: Answer, woken: &mut Woken) {
         if matches!(answer, Answer::End { wakes: 1.., .. }) {
-            // SAFETY: the state is only read; the room has MOST_WAKES bytes
-            let count = unsafe { usbhs_woken(self.state.0.as_ptr(), woken.room.as_mut_ptr()) };
+            // SAFETY: the state is only read; the room has MOST_WAKES bytes, and as many are written as is answered
+            let count = unsafe { usbhs_woken(self.state.0.as_ptr(), woken.room.as_mut_ptr().cast()) };
             woken.count = MOST_WAKES.min(count as usize);
         }
     }
 
     /// How many packets are queued on an IN.
+    #[inline]
     #[must_use]
     pub fn pending(&self, endpoint: u8) -> u32 {
         // SAFETY: the state is only read
@@ -352,6 +420,7 @@ impl Port<'_> {
     }
 
     /// How many packets of an OUT were turned away.
+    #[inline]
     #[must_use]
     pub fn overruns(&self, endpoint: u8) -> u32 {
         // SAFETY: the state is only read
@@ -359,6 +428,7 @@ impl Port<'_> {
     }
 
     /// Whether the host enabled the endpoint.
+    #[inline]
     #[must_use]
     pub fn enabled(&self, endpoint: u8, direction: Direction) -> bool {
         // SAFETY: the state is only read

@@ -13,6 +13,7 @@ pub const ANY_ADDRESS: u32 = 256;
 pub type Length = u64;
 
 /// A slice's length.
+#[inline]
 pub fn length<T>(of: &[T]) -> Length {
     of.len() as Length
 }

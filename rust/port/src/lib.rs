@@ -57,7 +57,7 @@ pub mod survey;
 #[cfg(feature = "trace")]
 pub mod trace;
 
-pub use answer::{Answer, Event, Refusal, Register, Task, Woken, MOST_WAKES};
-pub use calls::{BusTime, Direction, Packet, Port, Preview, Slots, State, Transfer, LONGEST};
+pub use answer::{Answer, Event, Refusal, Register, Task};
+pub use calls::{BusTime, Direction, Packet, Port, Preview, Slots, State, Transfer, Woken, LONGEST, MOST_WAKES};
 pub use exported::{NUMBERS_LEN, STATE_LEN, TIME_LEN};
 pub use run::{run, Access, Lend};

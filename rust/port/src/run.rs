@@ -23,6 +23,7 @@ pub trait Lend {
 }
 
 impl Lend for Port<'_> {
+    #[inline]
     fn lend<R>(&mut self, f: impl FnOnce(&mut Port<'_>) -> R) -> R {
         f(self)
     }
@@ -33,42 +34,58 @@ impl Lend for Port<'_> {
 ///
 /// The port is lent for each call anew, and is free while an access is made. The tasks to wake are asked for in the
 /// same lending as the end.
+#[inline]
 pub fn run(lend: &mut impl Lend, access: &mut impl Access, call: impl FnOnce(&mut Port<'_>) -> Answer) -> Answer {
     let mut woken = Woken::nobody();
-    let mut answer = lend.lend(|p| {
+    let first = lend.lend(|p| {
         let answer = call(p);
         p.ask_woken(answer, &mut woken);
         answer
     });
-    loop {
-        let reading = match answer {
-            Answer::Read { register, endpoint } => access.read(register, endpoint),
-            Answer::Write { register, endpoint, value } => {
-                access.write(register, endpoint, value);
-                0
+    let mut word = first.word();
+    while let Some(reading) = made(access, word) {
+        word = lend.lend(|p| {
+            let word = p.go_on_word(reading);
+            if word & KIND == END {
+                p.ask_woken(Answer::of(word), &mut woken);
             }
-            Answer::Wait(microseconds) => {
-                access.wait(microseconds);
-                0
-            }
-            Answer::Callback => {
-                access.callback();
-                0
-            }
-            _ => break,
-        };
-        answer = lend.lend(|p| {
-            let answer = p.go_on(reading);
-            p.ask_woken(answer, &mut woken);
-            answer
+            word
         });
     }
     woken.tasks().for_each(|task| access.wake(task));
-    answer
+    Answer::of(word)
+}
+
+/// An answer's kind, and that of an end, in its word (`usbhs.h`).
+const KIND: u64 = 15;
+const END: u64 = 5;
+
+/// Makes the access that a word is: the reading, 0 where there is none; `None` where it is no access. That is what
+/// [`Answer::of`] says of a word, without the enum in between, which would be most of the loop's time.
+#[inline]
+fn made(access: &mut impl Access, word: u64) -> Option<u32> {
+    let (byte, endpoint) = ((word >> 8) as u8, (word >> 16) as u8);
+    match word & KIND {
+        1 => Some(access.read(Register::of(byte)?, endpoint)),
+        2 => {
+            access.write(Register::of(byte)?, endpoint, (word >> 32) as u32);
+            Some(0)
+        }
+        3 => {
+            access.wait(byte);
+            Some(0)
+        }
+        4 => {
+            access.callback();
+            Some(0)
+        }
+        _ => None,
+    }
 }
 
 impl Port<'_> {
     /// [`run()`] on this port.
+    #[inline]
     pub fn run(&mut self, access: &mut impl Access, call: impl FnOnce(&mut Port<'_>) -> Answer) -> Answer {
         run(self, access, call)
     }

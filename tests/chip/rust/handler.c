@@ -1,7 +1,8 @@
 /* SPDX-License-Identifier: MIT OR Apache-2.0 */
-/* The interrupts of tests/chip/handler.c, by the unchanged Rust: the same endpoints, the same readings, the same names.
+/* The interrupts of tests/chip/handler.c, by the unchanged Rust or by the drop-in: the same endpoints, the same
+ * readings, the same names.
  *
- *   rust NAME INSTRUCTIONS
+ *   SIDE NAME INSTRUCTIONS
  */
 #include <string.h>
 #include "../../../firmware/console.h"
@@ -59,9 +60,13 @@ static void arrive(unsigned endpoint)
     memset((void *)(uintptr_t)WORD(RX_DMA + 4 * endpoint), 7, BUFFER);
 }
 
+#ifndef SIDE
+#define SIDE "rust"
+#endif
+
 static void tell(const char *name, uint32_t took)
 {
-    print("rust ");
+    print(SIDE " ");
     print(name);
     print(" ");
     print_number(took);
@@ -152,9 +157,9 @@ static void crowded(void)
 }
 
 #ifdef WINDOWS
-extern uint32_t WINDOWS_AT[2] __asm__("WINDOWS");
+extern uint32_t WINDOWS_AT[3] __asm__("WINDOWS");
 
-/* When, after the interrupt's begin, the status is read and the flag released. */
+/* When, after the interrupt's begin, the status is read, the flag released, the task of a packet woken. */
 static void windows(void)
 {
     uint32_t began;
@@ -166,6 +171,12 @@ static void windows(void)
     rust_interrupt();
     tell("firmware-status-read", WINDOWS_AT[0] - began);
     tell("firmware-flag-released", WINDOWS_AT[1] - began);
+    arrive(SAMPLES_OUT);
+    shows(TRANSFER, OUT | SAMPLES_OUT | TOGGLE_OK, BUFFER);
+    WINDOWS_AT[2] = 0;
+    began = instructions();
+    rust_interrupt();
+    tell("firmware-task-woken", WINDOWS_AT[2] - began);
 }
 #endif
 

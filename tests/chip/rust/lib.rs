@@ -1,4 +1,5 @@
-//! The four files, unchanged, for RV32, over the comparison's shims; and the calls that handler.c makes on them.
+//! The four files, unchanged, for RV32, over the comparison's shims; and the calls that handler.c makes on them. With
+//! `--cfg dropin` the proved port's drop-in is in their place.
 #![no_std]
 #![allow(static_mut_refs)]
 
@@ -16,7 +17,8 @@ mod hal;
 #[path = "../../../docs/src/usb/mod.rs"]
 pub mod usb;
 #[allow(dead_code, private_interfaces)]
-#[path = "../../../docs/src/usbhs/mod.rs"]
+#[cfg_attr(not(dropin), path = "../../../docs/src/usbhs/mod.rs")]
+#[cfg_attr(dropin, path = "../../../rust/ch32_hal/usbhs/mod.rs")]
 pub mod usbhs;
 
 use core::future::Future;

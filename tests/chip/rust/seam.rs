@@ -70,10 +70,10 @@ pub fn write(reg: u8, ep: u8, value: u32) {
     }
 }
 
-/// When the status was first read, and the flag first released: with `--cfg timed` alone.
+/// When the status was first read, the flag first released, a task first woken: with `--cfg timed` alone.
 #[cfg(timed)]
 #[no_mangle]
-pub static mut WINDOWS: [u32; 2] = [0; 2];
+pub static mut WINDOWS: [u32; 3] = [0; 3];
 
 #[cfg(timed)]
 #[inline(always)]
@@ -96,6 +96,7 @@ pub static mut WOKEN: (u32, [u32; 64]) = (0, [0; 64]);
 
 #[inline(always)]
 pub fn wake(waker: usize) {
+    note(2);
     // SAFETY: one hart, no interrupts
     unsafe {
         if WOKEN.0 < 64 {

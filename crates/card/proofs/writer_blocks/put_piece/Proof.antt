@@ -1,66 +1,88 @@
-use mathlib.Core.Path.{sym, _∙_}
-use Prim.Native.Nat.{_-_}
+use mathlib.Core.Path.{_≡_, ap, _∙_}
+use Prim.Native.Nat.{ℕ, _+_, _-_}
 use native.Mathlib.Omega.{arith}
-use lib.ListN.{drop, length-drop}
-use lib.Seq.{getD-drop}
+use lib.ListN.{drop}
+use lib.Seq.{paste}
 use Rattle.card.specs.Packet.{packetBytes, packetOf}
-use Rattle.card.specs.PasteLaws.{Pasted, none-pasted, one-pasted, all-pasted}
+use Rattle.card.proofs.WriterLaws.{data-behind}
+use borrow.Author.Needs.{needs}
 use Rattle.card.proofs.writer_blocks.put_piece.Statement.{statement}
 use Rattle.card.proofs.writer_blocks.put_piece.Tie as tie
 
-abbrev Inv-loop : tie.InvT-loop
-Inv-loop block₀ at endpoint bytes from n i₀ block i = Pasted block₀ (drop from (packetBytes (packetOf endpoint bytes)))
-    at n block i
+header-part-requires : tie.Need-header-part-requires
+header-part-requires c κs = search needs
 
-abbrev μ-loop : tie.MeasureT-loop
-μ-loop block₀ at endpoint bytes from n i₀ block i = n - i
+put-part-requires : tie.Need-put-part-requires
+put-part-requires c κs = search needs
 
-loop-holds : tie.Need-loop-holds Inv-loop μ-loop
-loop-holds c =
-    let s = c .before .before .args in
-    none-pasted (s .block .now) (drop (s .from) (packetBytes (packetOf (s .endpoint) (s .bytes .now)))) (s .at) (s .n)
+same-length : tie.Need-same-length
+same-length c = search needs
 
-add-packet-byte : tie.Need-add-packet-byte Inv-loop μ-loop
-add-packet-byte c = omega arith
-
-packet-byte-requires : tie.Need-packet-byte-requires Inv-loop μ-loop
-packet-byte-requires c κs = omega arith
-
-add-block : tie.Need-add-block Inv-loop μ-loop
-add-block c = omega arith
-
-slice-write-block : tie.Need-slice-write-block Inv-loop μ-loop
-slice-write-block c = omega arith
-
-add-i : tie.Need-add-i Inv-loop μ-loop
-add-i c = omega arith
-
-loop-less : tie.Need-loop-less Inv-loop μ-loop
-loop-less c = omega arith
-
-loop-again : tie.Need-loop-again Inv-loop μ-loop
-loop-again c =
-    let s = c .before .before .before .before .before .args in
-    let v = c .before .before .loop in
-    let packet-byte = c .packet-byte in
-    let l = packetBytes (packetOf (s .endpoint) (s .bytes .now)) in
-    let long = length-drop (s .from) l in
-    one-pasted _ _ (s .at) (s .n) (v .block) (v .i) _ (v .inv) (getD-drop (s .from) l (v .i) 0
-    ∙ sym (packet-byte .ensures))
-    (omega arith) (omega arith) (omega arith)
-
-same-length : tie.Need-same-length Inv-loop μ-loop
-same-length c =
-    let looped = c .before .loop in
-    looped .inv .long
-
-returns : tie.Need-returns Inv-loop μ-loop
+returns : tie.Need-returns
 returns c =
-    let looped = c .before .loop in
-    all-pasted _ _ _ _ _ _ (looped .inv) (omega arith)
+    let s = c .before .before .before .before .before .before .before .before .args in
+    let few = c .before .before .before .before .before .header-part in
+    let all : few .result ≡ s .n = omega (arith, few .ensures .0) in
+    c .before .before .before .put-part .ensures
+    ∙ ap (λ (i : ℕ). paste (s .block .now) (s .at) (drop (s .from)
+    (packetBytes (packetOf (s .endpoint) (s .bytes .now)))) i) all
+
+add-a : tie.Need-add-a
+add-a c = search needs
+
+sub-a : tie.Need-sub-a
+sub-a c = c .before .before .before .before .before .header-part .ensures .2 (omega arith)
+
+cast-a : tie.Need-cast-a
+cast-a c = search needs
+
+sub-e : tie.Need-sub-e
+sub-e c = search needs
+
+cast-e : tie.Need-cast-e
+cast-e c = search needs
+
+add-e : tie.Need-add-e
+add-e c = search needs
+
+add-copy-in : tie.Need-add-copy-in
+add-copy-in c = search needs
+
+cast-copy-in : tie.Need-cast-copy-in
+cast-copy-in c = search needs
+
+sub-copy-in : tie.Need-sub-copy-in
+sub-copy-in c = search needs
+
+part-copy-in-start : tie.Need-part-copy-in-start
+part-copy-in-start c = search needs
+
+part-copy-in-end : tie.Need-part-copy-in-end
+part-copy-in-end c = omega (
+  arith,
+  c .before .before .before .before .before .before .header-part .ensures .2
+      (omega arith),
+)
+
+copy-in-requires : tie.Need-copy-in-requires
+copy-in-requires c κs = search needs
+
+same-length-2 : tie.Need-same-length-2
+same-length-2 c = search needs
+
+returns-2 : tie.Need-returns-2
+returns-2 c =
+    let s = c .before .before .before .before .before .before .before .before .before .before .before .before .before .args in
+    let few = c .before .before .before .before .before .before .before .before .before .before .header-part in
+    let a = s .from + few .result - 3 in
+    let e = a + (s .n - few .result) in
+    data-behind (s .endpoint) (s .bytes .now) (s .block .now) _ _ (s .at) (s .from) (few .result) (e - a) (s .n) a
+    (omega arith) (omega arith) (omega (arith, few .ensures .0)) (omega (arith, few .ensures .2 (omega arith)))
+    (c .before .before .before .before .before .before .before .before .put-part .ensures)
+    (c .before .before .copy-in .ensures)
 
 pub put-piece-spec : {M : Type 1} → statement M
 put-piece-spec =
-    tie.close (tie.spec Inv-loop μ-loop loop-holds add-packet-byte packet-byte-requires add-block slice-write-block
-    add-i loop-less loop-again
-    same-length returns)
+    tie.close (tie.spec header-part-requires put-part-requires same-length returns add-a sub-a cast-a sub-e cast-e add-e
+    add-copy-in cast-copy-in sub-copy-in part-copy-in-start part-copy-in-end copy-in-requires same-length-2
+    returns-2)

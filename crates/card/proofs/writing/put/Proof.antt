@@ -17,17 +17,8 @@ done-of-requires c κs = search needs
 piece-of-requires : tie.Need-piece-of-requires
 piece-of-requires c κs = search needs
 
-cast-put-piece : tie.Need-cast-put-piece
-cast-put-piece c = search needs
-
 add-put-piece : tie.Need-add-put-piece
 add-put-piece c = search needs
-
-cast-put-piece-2 : tie.Need-cast-put-piece-2
-cast-put-piece-2 c = search needs
-
-cast-put-piece-3 : tie.Need-cast-put-piece-3
-cast-put-piece-3 c = search needs
 
 put-piece-requires : tie.Need-put-piece-requires
 put-piece-requires c κs = search needs
@@ -83,6 +74,5 @@ returns-2 c =
 
 pub put-spec : {M : Type 1} → statement M
 put-spec =
-    tie.close (tie.spec cast-n used-of-requires done-of-requires piece-of-requires cast-put-piece add-put-piece
-    cast-put-piece-2 cast-put-piece-3
-    put-piece-requires is-full-requires first-of-requires close-requires same-length returns same-length-2 returns-2)
+    tie.close (tie.spec cast-n used-of-requires done-of-requires piece-of-requires add-put-piece put-piece-requires
+    is-full-requires first-of-requires close-requires same-length returns same-length-2 returns-2)
