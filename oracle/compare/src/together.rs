@@ -67,7 +67,7 @@ impl Together {
             (Call::Interrupt, _) => {
                 self.interrupts += 1;
                 self.brought = None;
-                if self.interrupts.is_multiple_of(8) {
+                if self.interrupts % 8 == 0 {
                     self.begin(lent, true);
                 }
             }
@@ -87,7 +87,7 @@ impl Together {
             assert!(same, "readings brought together: another answer, or other bytes");
             self.compared += 1;
         }
-        if matches!(*call, Call::Continue(_)) && word == MIS_ST && self.interrupts.is_multiple_of(8) {
+        if matches!(*call, Call::Continue(_)) && word == MIS_ST && self.interrupts % 8 == 0 {
             self.begin(lent, false);
         }
     }

@@ -72,6 +72,7 @@ impl BusTime {
 
 /// An endpoint's direction, as the host names it.
 #[derive(Clone, Copy, Debug, PartialEq, Eq)]
+#[cfg_attr(feature = "defmt", derive(defmt::Format))]
 pub enum Direction {
     /// From the host.
     Out = 0,
@@ -81,6 +82,7 @@ pub enum Direction {
 
 /// An endpoint's transfer type.
 #[derive(Clone, Copy, Debug, PartialEq, Eq)]
+#[cfg_attr(feature = "defmt", derive(defmt::Format))]
 pub enum Transfer {
     /// Requests: setup, data and status.
     Control = 0,
@@ -94,6 +96,7 @@ pub enum Transfer {
 
 /// An open packet: where it lies in the slots, and the microframe index of the interrupt that admitted it.
 #[derive(Clone, Copy, Debug, PartialEq, Eq)]
+#[cfg_attr(feature = "defmt", derive(defmt::Format))]
 pub struct Packet {
     /// Where it begins in the slots.
     pub offset: u32,
@@ -105,6 +108,7 @@ pub struct Packet {
 
 /// What [`Port::allocate_all`] would give.
 #[derive(Clone, Copy, Debug, PartialEq, Eq)]
+#[cfg_attr(feature = "defmt", derive(defmt::Format))]
 pub struct Preview {
     /// The endpoints' numbers, `given` of them, zeros behind.
     pub numbers: [u8; NUMBERS_LEN],
@@ -214,7 +218,7 @@ on_numbers! {
 impl Port<'_> {
     /// Start-up, on slots of `count` times `size` bytes; `callback`: there is a start-of-frame callback.
     pub fn start_up(&mut self, size: u32, count: u32, callback: bool) -> Answer {
-        if !(self.slots.as_ptr() as usize).is_multiple_of(4) {
+        if self.slots.as_ptr() as usize % 4 != 0 {
             return Answer::Refused(crate::Refusal::Misaligned);
         }
         let (s, b, n, t) =
