@@ -9,6 +9,9 @@
  * those that were lost came behind the fifteen that waited then, and the stamps show the desk where. */
 #define PACKETS_A_STAMP 64u
 #define PACKETS_AFTER_LOSS 16u
+/* A trace goes to the card when so many of its entries are new, and in records of so many. */
+#define ENTRIES_TO_WRITE 256u
+#define ENTRIES_A_RECORD 40u
 
 static uint32_t recorder[USBHS_RECORDER_LEN], packets, overruns, since_stamp, after_loss;
 static uint8_t room[USBHS_ROOM_LEN];
@@ -64,6 +67,37 @@ static void write_stamp(uint16_t stamp)
     since_stamp = 0;
 }
 
+#ifdef USB_TRACE_ON_CARD
+
+/* What the driver did since the last time, where there is so much of it: up to what there is now, as more is noted
+ * while it is stored. */
+static void write_trace(uint32_t least)
+{
+    static uint8_t record[6 + ENTRIES_A_RECORD * TRACE_ENTRY_LEN];
+    static uint32_t from;
+    uint32_t before, begin = from, new = usb_trace.count - from;
+    unsigned length;
+
+    if (new < least)
+        return;
+    while (from - begin < new) {
+        before = interrupts_off();
+        length = trace_record(record, sizeof record, recorder[USBHS_SURVEY], &from);
+        interrupts_restore(before);
+        if (!write(USBHS_RECORDER, record, length))
+            return;
+    }
+}
+
+#else
+
+static void write_trace(uint32_t least)
+{
+    (void)least;
+}
+
+#endif
+
 static void tell(uint16_t stamp, unsigned length)
 {
     print("recorder: ");
@@ -100,6 +134,7 @@ void recorder_task(void)
             since_stamp++;
         }
         USB_OPERATE(word, usbhs_close(usb_state, SAMPLES_OUT));
+        write_trace(ENTRIES_TO_WRITE);
     }
 }
 
@@ -107,6 +142,7 @@ void recorder_finish(void)
 {
     if (stopped)
         return;
+    write_trace(1);
     overruns = usbhs_overruns(usb_state, SAMPLES_OUT);
     (void)usbhs_recorder_finish(recorder, room, sizeof room, overruns);
     store_all();

@@ -49,26 +49,32 @@ static void put(uint8_t *to, uint32_t value)
         to[i] = (uint8_t)(value >> 8 * i);
 }
 
+static unsigned put_entry(uint8_t *to, const struct trace_entry *entry)
+{
+    put(to, entry->low);
+    put(to + 4, entry->high);
+    put(to + 8, entry->reading);
+    return TRACE_ENTRY_LEN;
+}
+
 unsigned trace_record(uint8_t *room, unsigned room_length, uint32_t survey, uint32_t *from)
 {
-    uint32_t oldest = usb_trace.count < TRACE_ENTRIES ? 0 : usb_trace.count - TRACE_ENTRIES;
+    uint32_t new = usb_trace.count - *from;
     unsigned length = 6;
 
-    if (*from < oldest)
-        *from = oldest;
-    if (*from >= usb_trace.count || room_length < 6 + TRACE_ENTRY_LEN)
+    if (new == 0 || room_length < 6 + 2 * TRACE_ENTRY_LEN)
         return 0;
     room[0] = 4;
     room[1] = 0;
     put(room + 2, survey);
-    for (; *from < usb_trace.count && length + TRACE_ENTRY_LEN <= room_length; (*from)++) {
-        const struct trace_entry *entry = &usb_trace.ring[*from % TRACE_ENTRIES];
+    if (new > TRACE_ENTRIES) {
+        struct trace_entry lost = {TRACE_LOST, new - TRACE_ENTRIES, 0};
 
-        put(room + length, entry->low);
-        put(room + length + 4, entry->high);
-        put(room + length + 8, entry->reading);
-        length += TRACE_ENTRY_LEN;
+        length += put_entry(room + length, &lost);
+        *from = usb_trace.count - TRACE_ENTRIES;
     }
+    for (; *from != usb_trace.count && length + TRACE_ENTRY_LEN <= room_length; (*from)++)
+        length += put_entry(room + length, &usb_trace.ring[*from % TRACE_ENTRIES]);
     return length;
 }
 

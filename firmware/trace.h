@@ -7,7 +7,11 @@
  *   an answer (include/usbhs.h), with the reading that its access brought;
  *   a call: 0-3 are 15, 8-15 its number, 16-31 and 32-63 two of its numbers, and a third in place of the reading;
  *   bytes that a call brought or received: 0-3 are 14, 4-7 how many, at most 11; they begin at bits 8-15 and end in
- *   the reading.
+ *   the reading;
+ *   entries that are missing, on a card alone: 0-3 are 13, 32-63 how many were written over before they reached it.
+ *
+ * With -DUSB_TRACE_ON_CARD as well the recorder writes the ring's entries onto the card as they come (recorder.c): the
+ * ring must hold what is noted while the card is busy. A microframe with an arrival then takes about 180 bytes more.
  */
 #ifndef TRACE_H
 #define TRACE_H
@@ -30,6 +34,7 @@
 #endif
 #define TRACE_ENTRY_LEN 12u
 #define TRACE_MAGIC 0x52545355u /* "USTR" */
+#define TRACE_LOST 13u
 
 struct trace_entry {
     uint32_t low, high, reading;
@@ -50,7 +55,8 @@ void trace_call(unsigned number, uint32_t a, uint32_t b, uint32_t c);
 void trace_bytes(const uint8_t *bytes, unsigned length);
 
 /* The ring's next entries as a record of kind 4 for the recorder's endpoint (docs/TOOL.md), from entry *from on, which
- * is 0 at first: the record's length, 0 where there is no more. */
+ * is 0 at first: the record's length, 0 where there is no more. The room holds two entries at least. With interrupts
+ * off. */
 unsigned trace_record(uint8_t *room, unsigned room_length, uint32_t survey, uint32_t *from);
 
 /* The calls' numbers, those of oracle/FORMAT.md and three more. */

@@ -26,7 +26,7 @@ fn is_option(word: &OsStr) -> bool {
 
 /// A word as text, for what is no file.
 fn text(word: OsString) -> Done<String> {
-    word.into_string().or_else(|w| usage(format!("{} is not a text", w.display())))
+    word.into_string().or_else(|w| usage(format!("{} is not a text", w.to_string_lossy())))
 }
 
 impl Args {
@@ -87,7 +87,7 @@ impl Args {
     fn next(&mut self, what: &str) -> Done<OsString> {
         match self.words.first() {
             None => usage(format!("{what} is missing")),
-            Some(w) if is_option(w) => usage(format!("{} is no option here", w.display())),
+            Some(w) if is_option(w) => usage(format!("{} is no option here", w.to_string_lossy())),
             Some(_) => Ok(self.words.remove(0)),
         }
     }
@@ -106,8 +106,8 @@ impl Args {
     pub fn end(&self) -> Done<()> {
         match self.words.first() {
             None => Ok(()),
-            Some(w) if is_option(w) => usage(format!("{} is no option here", w.display())),
-            Some(w) => usage(format!("{} is too much", w.display())),
+            Some(w) if is_option(w) => usage(format!("{} is no option here", w.to_string_lossy())),
+            Some(w) => usage(format!("{} is too much", w.to_string_lossy())),
         }
     }
 }

@@ -400,6 +400,7 @@ impl Writing {
         let out = &mut self.room;
         let _ = match (&mut self.form, n) {
             (Form::Samples(samples), Some(n)) => {
+                // records whose endpoint is asked for; packets have a way of their own
                 samples.packet(n, endpoint, p.microframe, p.gap, bytes);
                 Ok(())
             }
@@ -444,6 +445,7 @@ impl Writing {
 }
 
 impl Listener for Writing {
+    #[inline]
     fn packet(&mut self, p: &Sampled, bytes: &[u8]) -> Done<()> {
         if self.only.is_some_and(|e| e != p.endpoint) {
             return Ok(());
@@ -452,13 +454,17 @@ impl Listener for Writing {
         self.endpoints |= 1 << (p.endpoint & 15);
         let n = self.packets;
         self.packets += 1;
-        match (self.interpolate, p.microframe) {
-            (true, None) => self.entry(Some(n), &Sampled { microframe: p.by_step, ..*p }, bytes, None),
-            _ => self.entry(Some(n), p, bytes, None),
-        }
-        let waiting = match &self.form {
-            Form::Samples(samples) => samples.lines().len(),
-            _ => self.room.len(),
+        let microframe = if self.interpolate { p.microframe.or(p.by_step) } else { p.microframe };
+        let waiting = match &mut self.form {
+            Form::Samples(samples) => {
+                samples.packet(n, p.endpoint, microframe, p.gap, bytes);
+                self.entries += 1;
+                samples.lines().len()
+            }
+            _ => {
+                self.entry(Some(n), &Sampled { microframe, ..*p }, bytes, None);
+                self.room.len()
+            }
         };
         if waiting > 1 << 16 {
             self.flush()?;

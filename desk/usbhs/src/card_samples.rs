@@ -1,56 +1,92 @@
 //! Samples as lines of digits, fast: a line is put together of its front, which a packet's lines share, the sample's
-//! place and its value, each as digits that stand ready.
+//! place and its value, each as characters that stand ready in a number, the first one lowest, with how many they are
+//! in its highest byte. What is stored in pieces and loaded as a whole would make the processor wait.
 
 use crate::recorder::Gap;
 
 /// Up to seven characters, and how many.
-type Digits = [u8; 8];
+type Few = u64;
 
-fn digits(text: &str) -> Digits {
+fn few(text: &str) -> Few {
     let mut all = [0; 8];
     all[..text.len()].copy_from_slice(text.as_bytes());
     all[7] = text.len() as u8;
-    all
+    Few::from_le_bytes(all)
+}
+
+/// Up to sixteen characters.
+#[derive(Clone, Copy)]
+struct Some16 {
+    bytes: u128,
+    length: usize,
+}
+
+impl Some16 {
+    /// `None`: there are more.
+    fn of(text: &str) -> Option<Self> {
+        let mut bytes = [0; 16];
+        bytes.get_mut(..text.len())?.copy_from_slice(text.as_bytes());
+        Some(Self { bytes: u128::from_le_bytes(bytes), length: text.len() })
+    }
 }
 
 /// Places that stand ready: those of 1,024 bytes, the longest packet that a card's writer takes.
 const PLACES: usize = 512;
-/// Room for the front of a line: 20 digits of a packet's number, 3 and 5 and 11 of what follows, four commas.
-const FRONT: usize = 48;
-/// Room for a line.
-const LINE: usize = FRONT + 16;
+/// Room for a short line: a front of 16 characters, a place of 4, a value of 8.
+const SHORT: usize = 32;
+/// Room for any line: 20 digits of a packet's number, 3 and 5 and 11 of what follows, four commas; a place, a value.
+const LINE: usize = 96;
 
-/// The front of a line.
-#[derive(Clone, Copy)]
-struct Front {
-    bytes: [u8; FRONT],
-    length: usize,
+/// A packet's number. The packet that follows mostly has the next one: one digit changes, or few.
+struct Counted {
+    number: u64,
+    /// `None`: more than 16.
+    digits: Option<Some16>,
 }
 
-impl Front {
-    fn number(&mut self, mut n: u64) {
-        let (mut digits, mut from) = ([0; 20], 20);
-        while from == 20 || n != 0 {
-            from -= 1;
-            digits[from] = b'0' + (n % 10) as u8;
-            n /= 10;
+impl Counted {
+    fn set(&mut self, number: u64) {
+        let next = self.number.checked_add(1) == Some(number);
+        if !(next && self.digits.as_mut().is_some_and(one_more)) {
+            self.digits = Some16::of(&number.to_string());
         }
-        for d in &digits[from..] {
-            self.push(*d);
-        }
+        self.number = number;
     }
+}
 
-    fn push(&mut self, byte: u8) {
-        self.bytes[self.length] = byte;
-        self.length += 1;
+/// `false` where all were nines: there is one digit more.
+fn one_more(digits: &mut Some16) -> bool {
+    for at in (0..digits.length).rev() {
+        if (digits.bytes >> (8 * at)) as u8 != b'9' {
+            digits.bytes += 1 << (8 * at);
+            return true;
+        }
+        digits.bytes -= 9 << (8 * at);
+    }
+    false
+}
+
+/// Endpoint, microframe and a gap that is none: the same for many packets of an endpoint.
+struct Between {
+    of: Option<u16>,
+    words: Some16,
+}
+
+impl Between {
+    fn new(endpoint: u8, microframe: Option<u16>) -> Self {
+        let text = format!(",{endpoint},{},,", microframe.map(|m| m.to_string()).unwrap_or_default());
+        Self { of: microframe, words: Some16::of(&text).expect("at most 12") }
     }
 }
 
 pub struct Samples {
     /// By the two bytes of a sample: its value, and the line's end.
-    values: Vec<Digits>,
+    values: Vec<Few>,
     /// A sample's place in its packet, and a comma.
-    places: Vec<Digits>,
+    places: Vec<Few>,
+    number: Counted,
+    /// By the endpoint.
+    between: Vec<Between>,
     /// The lines so far, and how many bytes they take.
     room: Vec<u8>,
     used: usize,
@@ -65,8 +101,10 @@ impl Default for Samples {
 impl Samples {
     pub fn new() -> Self {
         Self {
-            values: (0..=u16::MAX).map(|v| digits(&format!("{}\n", v as i16))).collect(),
-            places: (0..PLACES).map(|i| digits(&format!("{i},"))).collect(),
+            values: (0..=u16::MAX).map(|v| few(&format!("{}\n", v as i16))).collect(),
+            places: (0..PLACES).map(|i| few(&format!("{i},"))).collect(),
+            number: Counted { number: 0, digits: None },
+            between: (0..=255).map(|endpoint| Between::new(endpoint, None)).collect(),
             room: vec![0; 1 << 18],
             used: 0,
         }
@@ -82,56 +120,56 @@ impl Samples {
     }
 
     /// A packet's samples; its gap stands at the first.
+    #[inline]
     pub fn packet(&mut self, n: u64, endpoint: u8, microframe: Option<u16>, gap: Gap, bytes: &[u8]) {
-        // a line has at most its front and twice seven characters
-        let most = self.used + bytes.len() / 2 * (FRONT + 14) + LINE;
+        let most = self.used + bytes.len() / 2 * LINE + LINE;
         if most > self.room.len() {
             self.room.resize(most, 0);
         }
-        let mut front = Front { bytes: [0; FRONT], length: 0 };
-        front.number(n);
-        front.push(b',');
-        front.number(endpoint.into());
-        front.push(b',');
-        if let Some(microframe) = microframe {
-            front.number(microframe.into());
+        self.number.set(n);
+        let between = &mut self.between[usize::from(endpoint)];
+        if between.of != microframe {
+            *between = Between::new(endpoint, microframe);
         }
-        front.push(b',');
-        let mut first = front;
-        if gap.turned_away != 0 {
-            first.number(gap.turned_away.into());
+        let (between, plain) = (between.words, gap == Gap::default() && bytes.len() <= 2 * PLACES);
+        match self.number.digits {
+            Some(digits) if plain && digits.length + between.length <= 16 => {
+                let bytes_of_front = digits.bytes | between.bytes << (8 * digits.length);
+                self.short(bytes_of_front, digits.length + between.length, bytes);
+            }
+            _ => self.any(n, endpoint, microframe, gap, bytes),
         }
-        if gap.damage {
-            first.push(b'?');
-        }
-        first.push(b',');
-        front.push(b',');
-        let split = bytes.len().min(2);
-        self.lines_of(&first, 0, &bytes[..split]);
-        self.lines_of(&front, 1, &bytes[split..]);
     }
 
-    fn lines_of(&mut self, front: &Front, from: usize, bytes: &[u8]) {
+    /// Lines with a front of at most 16 characters and places that stand ready.
+    fn short(&mut self, front: u128, length: usize, bytes: &[u8]) {
         let mut to = self.used;
-        for (i, s) in (from..).zip(bytes.chunks_exact(2)) {
-            let line: &mut [u8; LINE] = (&mut self.room[to..to + LINE]).try_into().expect("so many bytes");
-            // as much as there is, in pieces that a processor stores at once
-            line[..16].copy_from_slice(&front.bytes[..16]);
-            if front.length > 16 {
-                line[16..FRONT].copy_from_slice(&front.bytes[16..]);
-            }
-            let mut end = front.length;
-            let place = match self.places.get(i) {
-                Some(place) => *place,
-                None => digits(&format!("{i},")),
-            };
-            line[end..end + 8].copy_from_slice(&place);
-            end += place[7] as usize & 7;
+        for (s, place) in bytes.chunks_exact(2).zip(&self.places) {
+            let line: &mut [u8; SHORT] = (&mut self.room[to..to + SHORT]).try_into().expect("so many bytes");
             let value = self.values[usize::from(u16::from_le_bytes([s[0], s[1]]))];
-            line[end..end + 8].copy_from_slice(&value);
-            to += end + value[7] as usize;
+            let end = length + (place >> 56) as usize;
+            line[..16].copy_from_slice(&front.to_le_bytes());
+            line[length..length + 8].copy_from_slice(&place.to_le_bytes());
+            line[end..end + 8].copy_from_slice(&value.to_le_bytes());
+            to += end + (value >> 56) as usize;
         }
         self.used = to;
+    }
+
+    /// Any others.
+    #[cold]
+    fn any(&mut self, n: u64, endpoint: u8, microframe: Option<u16>, gap: Gap, bytes: &[u8]) {
+        use std::io::Write;
+        let microframe = microframe.map(|m| m.to_string()).unwrap_or_default();
+        for (i, s) in bytes.chunks_exact(2).enumerate() {
+            let gap = if i == 0 { crate::card::gap_words(gap) } else { String::new() };
+            let value = i16::from_le_bytes([s[0], s[1]]);
+            let mut room = &mut self.room[self.used..];
+            let before = room.len();
+            let written = writeln!(room, "{n},{endpoint},{microframe},{gap},{i},{value}");
+            written.expect("there is room for the line");
+            self.used += before - room.len();
+        }
     }
 }
 
@@ -154,5 +192,17 @@ mod tests {
             });
             assert!(all.lines() == format!("3,255,,,0,1\n{}", lines.collect::<String>()).into_bytes());
         }
+    }
+    /// Numbers that follow each other, and those that do not, over every number of digits.
+    #[test]
+    fn numbers() {
+        let (mut all, mut expected) = (Samples::new(), String::new());
+        let near = |n: u64| (0..4u64).map(move |i| n.wrapping_sub(2).wrapping_add(i));
+        for n in (0..20).flat_map(|p| near(10u64.pow(p))).chain(near(u64::MAX)).chain(995..1_005).chain([0, 5, 6, 6]) {
+            all.packet(n, 2, (n % 3 == 0).then_some(4), Gap::default(), &[9, 0]);
+            let microframe = if n % 3 == 0 { "4" } else { "" };
+            expected += &format!("{n},2,{microframe},,0,9\n");
+        }
+        assert_eq!(String::from_utf8_lossy(all.lines()), expected);
     }
 }

@@ -99,7 +99,8 @@ pub fn run(mut args: Args, json: bool, out: &mut Output) -> Done<bool> {
     for (n, length, byte) in [(short[0], "4n + 2", MARK[1]), (short[1], "4n", MARK[3])] {
         if n > 0 {
             let (n, all) = (thousands(n.into()), thousands(all.into()));
-            text += &format!("a late packet of {length} bytes loses its last byte, {byte:02X}, for {n} of {all} samples\n");
+            text +=
+                &format!("a late packet of {length} bytes loses its last byte, {byte:02X}, for {n} of {all} samples\n");
         }
     }
     if lost {

@@ -10,6 +10,7 @@ pub mod descriptor;
 #[allow(dead_code)]
 #[path = "../../../rust/port/src/exported.rs"]
 mod exported;
+#[allow(dead_code)]
 #[path = "../../../rust/port/src/exported_survey.rs"]
 mod exported_survey;
 pub mod image;

@@ -187,7 +187,7 @@ pub fn thousands(n: u64) -> String {
     let digits = n.to_string();
     let mut text = String::new();
     for (i, c) in digits.chars().enumerate() {
-        if i != 0 && (digits.len() - i).is_multiple_of(3) {
+        if i != 0 && (digits.len() - i) % 3 == 0 {
             text.push(',');
         }
         text.push(c);

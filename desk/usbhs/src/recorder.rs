@@ -64,7 +64,7 @@ impl Record {
             (3, finished @ 0..=1, [a, b, c, d, zeros @ ..]) if zeros.iter().all(|z| *z == 0) => {
                 Kind::End { overruns: u32::from_le_bytes([*a, *b, *c, *d]), finished: finished == 1 }
             }
-            (4, 0, entries) if entries.len().is_multiple_of(ENTRY) => Kind::Trace,
+            (4, 0, entries) if entries.len() % ENTRY == 0 => Kind::Trace,
             _ => return None,
         };
         Some(Self { survey, kind })
@@ -201,7 +201,7 @@ impl Track {
         if packets == 0 {
             return None;
         }
-        if passed.is_multiple_of(packets) && !self.damage {
+        if passed % packets == 0 && !self.damage {
             *self.steps.entry(passed / packets).or_default() += packets;
         }
         let damage = std::mem::take(&mut self.damage);
@@ -216,7 +216,14 @@ impl Track {
         Some(Loss { endpoint, packets: away, after: before.packet, before: Some(before.packet + packets) })
     }
 
+    /// No record speaks of it, and nothing is missing.
+    #[inline]
+    fn is_bare(&self) -> bool {
+        self.known.is_none() && self.microframe.is_none() && self.gap == Gap::default()
+    }
+
     /// The next packet's time by the last record and the step.
+    #[inline]
     fn time(&self) -> Option<(u64, u16)> {
         let known = self.known?;
         let passed = match self.packets - known.packet {
@@ -234,6 +241,7 @@ impl Track {
         sampled.by_step = Some(((u64::from(index) + n * step) % INDEXES) as u16);
     }
 
+    #[inline]
     fn packet(&mut self, number: u64, endpoint: u8, begin: u64, bytes: &[u8], damaged: bool) -> Sampled {
         self.gap.damage = damaged;
         let time = self.time();
@@ -383,12 +391,24 @@ impl<L: Listener> Survey<L> {
     }
 
     /// The stream's next packet. `false`: the survey has ended before it.
+    #[inline]
     pub fn next(&mut self, endpoint: u8, begin: u64, damaged: bool, bytes: &[u8]) -> Done<bool> {
         if self.ended.is_some() {
             return self.stop(Seam::BehindEnd);
         }
         if damaged {
             self.tracks.iter_mut().for_each(|t| t.damage = true);
+        }
+        let track = &mut self.tracks[endpoint as usize];
+        if self.plain && !damaged && track.is_bare() && Some(endpoint) != self.recorder {
+            let (number, of_endpoint) = (self.packets, track.packets);
+            track.packets += 1;
+            track.bytes += bytes.len() as u64;
+            self.packets += 1;
+            let (microframe, time, by_step, gap) = (None, None, None, Gap::default());
+            let sampled = Sampled { number, of_endpoint, endpoint, begin, microframe, time, by_step, gap };
+            self.listener.packet(&sampled, bytes)?;
+            return Ok(true);
         }
         if Some(endpoint) == self.recorder {
             match Record::of(bytes) {

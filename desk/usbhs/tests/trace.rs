@@ -64,19 +64,53 @@ fn a_ring_that_went_round() {
 #[test]
 fn from_a_card() {
     let all = ring();
-    let (plain, mut packets) =
-        (told(&["replay", "--trace", "device.trace"], b"").1, vec![(15, vec![1, 0, 9, 0, 0, 0])]);
-    for entries in all[ENTRY..].chunks(84 * ENTRY) {
-        packets.push((1, vec![7; 33]));
-        packets.push((15, [&[4, 0, 9, 0, 0, 0], entries].concat()));
-    }
-    packets.push((15, vec![3, 1, 9, 0, 0, 0, 0, 0, 0, 0]));
-    let card = stream(packets.iter().map(|(e, p)| (*e, p.as_slice())));
+    let plain = told(&["replay", "--trace", "device.trace"], b"").1;
+    let card = card_of(all[ENTRY..].chunks(84 * ENTRY));
     assert_eq!(told(&["replay", "--trace", "-"], &card), (0, plain));
     let check = usbhs(&["card", "check", "-"], &card);
     assert_eq!(check.status, 0, "{}", check.text());
     refused(&["replay", "--trace", "survey.card"], b"", "neither a ring of a trace nor a card that has one");
     refused(&["replay", "--trace", "-", "--recorder", "3"], &card, "neither a ring");
+}
+
+/// A card of records with these entries, and packets between them.
+fn card_of<'a>(records: impl Iterator<Item = &'a [u8]>) -> Vec<u8> {
+    let mut packets = vec![(15, vec![1, 0, 9, 0, 0, 0])];
+    for entries in records {
+        packets.push((1, vec![7; 33]));
+        packets.push((15, [&[4, 0, 9, 0, 0, 0], entries].concat()));
+    }
+    packets.push((15, vec![3, 1, 9, 0, 0, 0, 0, 0, 0, 0]));
+    stream(packets.iter().map(|(e, p)| (*e, p.as_slice())))
+}
+
+/// What did not reach the card is told, and the trace is made again up to there.
+#[test]
+fn entries_that_are_missing() {
+    let all = ring();
+    let entries = &all[ENTRY..];
+    let lost = [&[13, 0, 0, 0][..], &40u32.to_le_bytes(), &[0; 4]].concat();
+    let (before, behind) = (&entries[..900 * ENTRY], &entries[940 * ENTRY..]);
+    let broken = [before, &lost, behind].concat();
+    let ran = usbhs(&["replay", "--trace", "-"], &card_of(broken.chunks(84 * ENTRY)));
+    assert_eq!(ran.status, 1);
+    let told = "40 entries behind entry 900 were written over before they reached the card: made again up to there";
+    assert!(ran.err.contains(told), "{}", ran.err);
+    let whole = usbhs(&["replay", "--trace", "-"], &card_of(before.chunks(84 * ENTRY)));
+    assert_eq!((whole.status, ran.text()), (0, whole.text()));
+    assert!(ran.text().contains("the port answers the same"), "{}", ran.text());
+    // a block that is dropped
+    let mut card = card_of(entries.chunks(30 * ENTRY));
+    let at = card.len() / 512 / 2 * 512 + 99;
+    card[at] ^= 1;
+    let ran = usbhs(&["replay", "--trace", "-"], &card);
+    assert_eq!(ran.status, 1);
+    assert!(ran.err.contains(" are missing, in dropped blocks: made again up to there"), "{}", ran.err);
+    assert!(ran.text().contains("the port answers the same"), "{}", ran.text());
+    // behind the start-up's loss there is nothing to begin with
+    let ran = usbhs(&["replay", "--trace", "-"], &card_of([&lost[..], behind].concat().chunks(84 * ENTRY)));
+    assert_eq!(ran.status, 1);
+    assert!(ran.err.contains("shown as it was noted"), "{}", ran.err);
 }
 
 #[test]

@@ -90,7 +90,7 @@ impl Together {
             Call::Interrupt => {
                 self.interrupts += 1;
                 self.brought.clear();
-                if self.interrupts.is_multiple_of(8) {
+                if self.interrupts % 8 == 0 {
                     self.brought.push(Brought::new(Kind::Interrupt, lent));
                     self.brought.push(Brought::new(Kind::InterruptTransfer, lent));
                 }
@@ -116,7 +116,7 @@ impl Together {
             assert!(same, "readings brought together: another answer, or other bytes");
             self.compared += 1;
         }
-        if !matches!(*call, Call::Continue(_)) || !self.interrupts.is_multiple_of(8) {
+        if !matches!(*call, Call::Continue(_)) || self.interrupts % 8 != 0 {
             return;
         }
         if word == RELEASE {

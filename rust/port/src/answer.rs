@@ -3,6 +3,7 @@
 /// A register that the driver asks for, by its number in `usbhs.h`. Words are packed as that header says, not as the
 /// chip has them.
 #[derive(Clone, Copy, Debug, PartialEq, Eq)]
+#[cfg_attr(feature = "defmt", derive(defmt::Format))]
 #[repr(u8)]
 #[allow(missing_docs)]
 pub enum Register {
@@ -59,6 +60,7 @@ impl Register {
 
 /// Why a call is refused: the rows of the table of refusals in `usbhs.h`.
 #[derive(Clone, Copy, Debug, PartialEq, Eq)]
+#[cfg_attr(feature = "defmt", derive(defmt::Format))]
 #[non_exhaustive]
 pub enum Refusal {
     /// 1: the slots' length is not count times size.
@@ -192,6 +194,7 @@ impl core::error::Error for Refusal {}
 
 /// What a call answers.
 #[derive(Clone, Copy, Debug, PartialEq, Eq)]
+#[cfg_attr(feature = "defmt", derive(defmt::Format))]
 #[must_use]
 pub enum Answer {
     /// The call did nothing.
@@ -285,6 +288,7 @@ impl Answer {
 
 /// A task that an operation wakes.
 #[derive(Clone, Copy, Debug, PartialEq, Eq)]
+#[cfg_attr(feature = "defmt", derive(defmt::Format))]
 pub enum Task {
     /// Who waits for IN of this endpoint.
     In(u8),
@@ -319,6 +323,7 @@ impl Task {
 
 /// What a bus poll ends with.
 #[derive(Clone, Copy, Debug, PartialEq, Eq)]
+#[cfg_attr(feature = "defmt", derive(defmt::Format))]
 pub enum Event {
     /// The first one after EP0's start.
     Power,

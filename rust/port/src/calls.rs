@@ -74,6 +74,7 @@ impl BusTime {
 
 /// An endpoint's direction, as the host names it.
 #[derive(Clone, Copy, Debug, PartialEq, Eq)]
+#[cfg_attr(feature = "defmt", derive(defmt::Format))]
 pub enum Direction {
     /// From the host.
     Out = 0,
@@ -83,6 +84,7 @@ pub enum Direction {
 
 /// An endpoint's transfer type.
 #[derive(Clone, Copy, Debug, PartialEq, Eq)]
+#[cfg_attr(feature = "defmt", derive(defmt::Format))]
 pub enum Transfer {
     /// Requests: setup, data and status.
     Control = 0,
@@ -96,6 +98,7 @@ pub enum Transfer {
 
 /// An open packet: where it lies in the slots, and the microframe index of the interrupt that admitted it.
 #[derive(Clone, Copy, Debug, PartialEq, Eq)]
+#[cfg_attr(feature = "defmt", derive(defmt::Format))]
 pub struct Packet {
     /// Where it begins in the slots.
     pub offset: u32,
@@ -145,6 +148,7 @@ impl core::fmt::Debug for Woken {
 
 /// What [`Port::allocate_all`] would give.
 #[derive(Clone, Copy, Debug, PartialEq, Eq)]
+#[cfg_attr(feature = "defmt", derive(defmt::Format))]
 pub struct Preview {
     /// The endpoints' numbers, `given` of them, zeros behind.
     pub numbers: [u8; NUMBERS_LEN],
@@ -260,7 +264,7 @@ impl Port<'_> {
     /// Start-up, on slots of `count` times `size` bytes; `callback`: there is a start-of-frame callback.
     #[inline]
     pub fn start_up(&mut self, size: u32, count: u32, callback: bool) -> Answer {
-        if !(self.slots.as_ptr() as usize).is_multiple_of(4) {
+        if self.slots.as_ptr() as usize % 4 != 0 {
             return Answer::Refused(crate::Refusal::Misaligned);
         }
         let (s, b, n, t) =

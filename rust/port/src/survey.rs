@@ -40,6 +40,7 @@ pub use crate::exported_survey::{Channel, BLOCK_LEN};
 
 /// The best set of channels that was found.
 #[derive(Clone, Copy, Debug, PartialEq, Eq)]
+#[cfg_attr(feature = "defmt", derive(defmt::Format))]
 pub struct Best {
     /// Bit i: channel i is in.
     pub set: u16,
@@ -70,6 +71,7 @@ pub fn best_set(list: &mut [Channel], time: &BusTime, budget: u32) -> Result<Bes
 
 /// How many packets arrive between two visits, and times that reach it.
 #[derive(Clone, Copy, Debug, PartialEq, Eq)]
+#[cfg_attr(feature = "defmt", derive(defmt::Format))]
 pub struct Reached {
     /// How many.
     pub arrivals: u32,
@@ -108,6 +110,7 @@ pub struct Writer([u32; 4]);
 
 /// What a call of [`Writer::write`] did.
 #[derive(Clone, Copy, Debug, PartialEq, Eq)]
+#[cfg_attr(feature = "defmt", derive(defmt::Format))]
 pub struct Written {
     /// The block is to be stored, and the next one lent.
     pub block_full: bool,

@@ -30,8 +30,12 @@ use crate::{run, Access, Answer, Direction, Lend, Port, Register, Task, Transfer
 /// An entry's bytes: a word of 8, a reading of 4, lowest first.
 pub const ENTRY_LEN: usize = 12;
 
+/// Of a card's trace: the kind of an entry that says how many are missing.
+const LOST: u8 = 13;
+
 /// A call with its numbers, as the ring has it.
 #[derive(Clone, Copy, Debug, PartialEq, Eq)]
+#[cfg_attr(feature = "defmt", derive(defmt::Format))]
 pub struct Noted {
     number: u8,
     a: u16,
@@ -177,6 +181,43 @@ impl<const N: usize> Ring<N> {
         let all = self.count();
         let from = all.saturating_sub(N);
         (from..all).filter_map(|i| self.ring.get(i % N))
+    }
+
+    /// The ring's next entries as a record of kind 4 for the recorder's endpoint (docs/TOOL.md), in the room's front,
+    /// from entry `from` on, which is 0 at first: the record's length, 0 where there is no more. The room holds two
+    /// entries at least. Where entries were written over before, the record says so, and how many.
+    ///
+    /// ```
+    /// # use usbhs_port::trace::{Noted, Ring};
+    /// let (mut ring, mut from, mut room) = (Ring::<4>::new(), 0, [0; 66]);
+    /// ring.call(Noted::bus_poll());
+    /// assert_eq!(ring.record(&mut room, 7, &mut from), 6 + 12); // one entry
+    /// assert_eq!(ring.record(&mut room, 7, &mut from), 0);
+    /// // `recorder.record(RECORDER, &room[..length], overruns)` puts it onto the card
+    /// ```
+    pub fn record(&self, room: &mut [u8], survey: u32, from: &mut u32) -> usize {
+        let (count, all) = (u32::from_le_bytes(self.count), N as u32);
+        // behind its last number the count goes back: then it is not known how many there were
+        let new = count.checked_sub(*from).unwrap_or(u32::MAX);
+        let Some((head, rest)) = room.split_at_mut_checked(6) else { return 0 };
+        if new == 0 || rest.len() < 2 * ENTRY_LEN {
+            return 0;
+        }
+        let [a, b, c, d] = survey.to_le_bytes();
+        head.copy_from_slice(&[4, 0, a, b, c, d]);
+        let (mut places, mut length) = (rest.chunks_exact_mut(ENTRY_LEN), 6);
+        if new > all {
+            let [a, b, c, d] = (new - all).to_le_bytes();
+            places.next().unwrap_or_default().copy_from_slice(&[LOST, 0, 0, 0, a, b, c, d, 0, 0, 0, 0]);
+            *from = count.wrapping_sub(all);
+            length += ENTRY_LEN;
+        }
+        while let (true, Some(place)) = (*from != count, places.next()) {
+            place.copy_from_slice(self.ring.get(*from as usize % N).unwrap_or(&[0; ENTRY_LEN]));
+            *from = from.wrapping_add(1);
+            length += ENTRY_LEN;
+        }
+        length
     }
 
     /// The entries as they lie in the ring, all of them: behind [`Ring::front`] what a debugger reads.

@@ -47,11 +47,21 @@ pub fn run(mut args: Args, as_json: bool, out: &mut Output) -> Done<bool> {
             write_to(Some(to), &inputs, capture.bytes())?;
             eprintln!("usbhs: {}: {}", image::name(to), count(capture.packets as u64, "packet"));
         }
-        if trace::has_start_up(&entries) {
-            trace::drive(&entries)
+        let (entries, lost) = trace::unbroken(&entries);
+        if let Some((at, n)) = lost {
+            let missing = match n {
+                0 => format!("entries behind entry {at} are missing, in dropped blocks"),
+                n => format!("{n} entries behind entry {at} were written over before they reached the card"),
+            };
+            let shown = if trace::has_start_up(entries) { ": made again up to there" } else { "" };
+            eprintln!("usbhs: {name}: {missing}{shown}");
+            compared = false;
+        }
+        if trace::has_start_up(entries) {
+            trace::drive(entries)
         } else {
             eprintln!("usbhs: {name}: the trace has no start-up: shown as it was noted, and not compared");
-            let (steps, places) = trace::as_noted(&entries);
+            let (steps, places) = trace::as_noted(entries);
             (compared, isochronous) = (false, places);
             Ok(steps)
         }

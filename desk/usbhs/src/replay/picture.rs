@@ -62,7 +62,7 @@ impl Drawing<'_> {
                 let x = self.x(c);
                 self.svg.dashes((x, TOP - 6.0), (x, bottom), RULE);
             }
-            if (c - 1).is_multiple_of(every) {
+            if (c - 1) % every == 0 {
                 self.svg.line((x, TOP - 8.0), (x, bottom), RULE, 0.6);
                 self.svg.words(x, TOP - 13.0, 12.0, GREY, Anchor::Middle, &m.to_string());
             }

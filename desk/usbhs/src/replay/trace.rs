@@ -23,9 +23,19 @@ const CONTINUE_TRANSFER: u8 = 42;
 
 #[derive(Clone, PartialEq, Eq, Debug)]
 pub enum Entry {
-    Answer { word: u64, reading: u32 },
-    Call { number: u8, a: u32, b: u32, c: u32 },
+    Answer {
+        word: u64,
+        reading: u32,
+    },
+    Call {
+        number: u8,
+        a: u32,
+        b: u32,
+        c: u32,
+    },
     Bytes(Vec<u8>),
+    /// Here entries are missing: so many, or 0 where that is not known.
+    Lost(u32),
 }
 
 impl Entry {
@@ -35,6 +45,7 @@ impl Entry {
         let n = (word >> 4 & 15) as usize;
         match word & 15 {
             0..=8 => Some(Entry::Answer { word, reading }),
+            13 => Some(Entry::Lost((word >> 32) as u32)),
             14 if n <= 11 => Some(Entry::Bytes(bytes[1..1 + n].to_vec())),
             15 => {
                 let (number, a, b) = ((word >> 8) as u8, (word >> 16 & 0xFFFF) as u32, (word >> 32) as u32);
@@ -73,6 +84,14 @@ pub fn of_ring(bytes: &[u8]) -> Result<Vec<Entry>, String> {
 #[derive(Default)]
 struct Traces(Vec<u8>);
 
+impl Traces {
+    /// Blocks were dropped: what they had of the trace is missing.
+    fn damaged(&mut self) {
+        self.0.extend(13u64.to_le_bytes());
+        self.0.extend(0u32.to_le_bytes());
+    }
+}
+
 impl Listener for Traces {
     fn packet(&mut self, _: &Sampled, _: &[u8]) -> Done<()> {
         Ok(())
@@ -90,6 +109,9 @@ struct Through<'a>(&'a mut Survey<Traces>);
 
 impl Sink for Through<'_> {
     fn packet(&mut self, p: &Packet) -> Done<bool> {
+        if p.behind_damage {
+            self.0.listener.damaged();
+        }
         self.0.next(p.endpoint, p.begin, p.behind_damage, p.bytes)
     }
 
@@ -111,7 +133,7 @@ pub fn read(image: Image, endpoint: u8) -> Done<Vec<Entry>> {
     let mut survey = Survey::new(Traces::default(), endpoint);
     go_through(&mut Image::of_bytes(&name, bytes), Extent::default(), &mut Through(&mut survey))?;
     survey.finish()?;
-    if survey.listener.0.is_empty() {
+    if survey.listener.0.chunks_exact(ENTRY).all(|e| e[0] & 15 == 13) {
         return named("neither a ring of a trace nor a card that has one".into());
     }
     entries(&survey.listener.0).or_else(named)
@@ -369,6 +391,8 @@ pub fn as_noted(all: &[Entry]) -> (Vec<Step>, Vec<Place>) {
         match entry {
             Entry::Bytes(bytes) => received = bytes.clone(),
             Entry::Call { number: CONTINUE_TRANSFER, .. } => {}
+            // what was asked before is not answered behind it
+            Entry::Lost(_) => (asked, reading, received) = (None, 0, vec![]),
             Entry::Answer { word, reading: read } => {
                 let mut answer = decode(*word, |_| vec![]);
                 if let Answer::Done { bytes, .. } = &mut answer {
@@ -400,6 +424,20 @@ pub fn as_noted(all: &[Entry]) -> (Vec<Step>, Vec<Place>) {
     (steps, places)
 }
 
+/// Where the last start-up is: the trace up to the first missing entry behind it. The number of that entry, and how many
+/// are missing, where there is one.
+pub fn unbroken(all: &[Entry]) -> (&[Entry], Option<(usize, u32)>) {
+    let start = all.iter().rposition(|e| matches!(e, Entry::Call { number: 0, .. })).unwrap_or(0);
+    let lost = |(i, e): (usize, &Entry)| match e {
+        Entry::Lost(n) => Some((start + i, *n)),
+        _ => None,
+    };
+    match all[start..].iter().enumerate().find_map(lost) {
+        Some((at, n)) if has_start_up(all) => (&all[..at], Some((at, n))),
+        lost => (all, lost),
+    }
+}
+
 /// Is there a start-up, from which on it can be made again?
 pub fn has_start_up(all: &[Entry]) -> bool {
     all.iter().any(|e| matches!(e, Entry::Call { number: 0, .. }))
@@ -420,7 +458,7 @@ pub fn drive(all: &[Entry]) -> Result<Vec<Step>, String> {
         let line = i;
         i += 1;
         match &all[line] {
-            Entry::Bytes(_) => {}
+            Entry::Bytes(_) | Entry::Lost(_) => {}
             Entry::Answer { word, reading } => r.answered(line, *word, *reading, all_at_once)?,
             Entry::Call { number: CONTINUE_TRANSFER, a, b, c } => {
                 for (reg, value) in [(2, a), (1, b), (3, c)] {

@@ -9,7 +9,7 @@ fn hex(data: &[u8]) -> String {
     if data.is_empty() {
         return "-".into();
     }
-    if data.len() > 4 && data.len().is_multiple_of(4) && data.chunks(4).all(|c| c == MARK) {
+    if data.len() > 4 && data.len() % 4 == 0 && data.chunks(4).all(|c| c == MARK) {
         return format!("c3a53c5a*{}", data.len() / 4);
     }
     data.iter().fold(String::new(), |mut s, b| {

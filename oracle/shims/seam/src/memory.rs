@@ -26,7 +26,7 @@ pub struct Mapping {
 impl Mapping {
     /// `len` bytes (whole pages), zero, an unmapped page on either side.
     pub fn new(len: usize) -> Self {
-        assert!(len.is_multiple_of(PAGE));
+        assert!(len % PAGE == 0);
         let all = len + 2 * PAGE;
         let flags = MAP_PRIVATE | MAP_ANONYMOUS | MAP_32BIT;
         // SAFETY: a fresh mapping
