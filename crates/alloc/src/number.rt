@@ -20,12 +20,14 @@ pub fn is_iso(kind: u8) -> bool
     kind % 4 == 1
 }
 
+// A flag as a byte: 1 for true, 0 for false.
 pub fn flag(b: bool) -> u8
     ensures { λ r. ⌜ r ≡ flag b ⌝ }
 {
     if b { 1 } else { 0 }
 }
 
+// How many slots an endpoint takes: 16 for an isochronous OUT, 2 for an isochronous IN, else 1.
 pub fn slots(iso: bool, dir: Dir) -> u8
     ensures { λ r. ⌜ r ≡ slotsOf iso dir ⌝ }
 {
@@ -98,6 +100,7 @@ fn lowest(a: Allocator, iso: bool, dir: Dir) -> Found
     Found::Nothing
 }
 
+// The endpoint number that an allocation gets: the one asked for if it is free, else the lowest free one.
 pub fn find(a: Allocator, iso: bool, address: u32, dir: Dir) -> Found
     ensures { λ r. ⌜ r ≡ numberOf a iso address dir ⌝ }
 {

@@ -78,6 +78,7 @@ fn access_of(kind: u8, w: u64) -> Access
     }
 }
 
+// Reads an answer's word back as the answer.
 pub fn step_of(w: u64) -> Step
     ensures { λ r. ⌜ r ≡ stepOf w ⌝ }
 {

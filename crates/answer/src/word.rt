@@ -55,18 +55,21 @@ pub fn asks_read(register: Reg) -> u64
     read_word(number(register), 0)
 }
 
+// The word that asks the caller for a write to a register without an endpoint.
 pub fn asks_write(register: Reg, value: u32) -> u64
     ensures { λ r. ⌜ Encodes r (Step.Asks (Access.Write register 0 value)) ⌝ }
 {
     write_word(number(register), 0, value)
 }
 
+// The word that asks the caller for an access.
 pub fn asks(q: Access) -> u64
     ensures { λ r. ⌜ Encodes r (Step.Asks q) ⌝ }
 {
     access_word(q)
 }
 
+// The word of an operation's end: its result, and how many tasks it wakes.
 pub fn ended(n: u16, k: u8) -> u64
     ensures { λ r. ⌜ Encodes r (Step.Ends n k) ⌝ }
 {

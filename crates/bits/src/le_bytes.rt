@@ -26,6 +26,7 @@ fn glue32(lo: u16, hi: u16) -> u32
     lo as u32 + hi as u32 * 65536
 }
 
+// Reads a byte of the record at o, k bytes in.
 pub fn get8(s: &State, o: usize, k: usize) -> u8
     requires { ⌜ o + k + 1 ≤ 2999 ⌝ }
     ensures { λ r. ⌜ r ≡ field (now (s .entry)) o k 1 ⌝ }
@@ -33,6 +34,7 @@ pub fn get8(s: &State, o: usize, k: usize) -> u8
     s[o + (k + 0)]
 }
 
+// Reads a 16-bit number of the record at o, k bytes in, lowest byte first.
 pub fn get16(s: &State, o: usize, k: usize) -> u16
     requires { ⌜ o + k + 2 ≤ 2999 ⌝ }
     ensures { λ r. ⌜ r ≡ field (now (s .entry)) o k 2 ⌝ }
@@ -40,6 +42,7 @@ pub fn get16(s: &State, o: usize, k: usize) -> u16
     glue16(s[o + (k + 0)], s[o + (k + 1)])
 }
 
+// Reads a 32-bit number of the record at o, k bytes in, lowest byte first.
 pub fn get32(s: &State, o: usize, k: usize) -> u32
     requires { ⌜ o + k + 4 ≤ 2999 ⌝ }
     ensures { λ r. ⌜ r ≡ field (now (s .entry)) o k 4 ⌝ }
@@ -50,6 +53,7 @@ pub fn get32(s: &State, o: usize, k: usize) -> u32
     )
 }
 
+// Reads five bytes of the record at o, from k bytes in.
 pub fn get8x5(s: &State, o: usize, k: usize) -> Bytes5
     requires { ⌜ o + k + 5 ≤ 2999 ⌝ }
     ensures { λ r. ⌜ Each (r .0 ∷ r .1 ∷ r .2 ∷ r .3 ∷ r .4 ∷ []) (numbers bytes5 (gets (now (s .entry)) o k 5)) ⌝ }
@@ -63,6 +67,7 @@ pub fn get8x5(s: &State, o: usize, k: usize) -> Bytes5
     )
 }
 
+// Reads five 16-bit numbers of the record at o, from k bytes in.
 pub fn get16x5(s: &State, o: usize, k: usize) -> Words5
     requires { ⌜ o + k + 10 ≤ 2999 ⌝ }
     ensures { λ r. ⌜ Each (r .0 ∷ r .1 ∷ r .2 ∷ r .3 ∷ r .4 ∷ []) (numbers words5 (gets (now (s .entry)) o k 10)) ⌝ }
@@ -76,6 +81,7 @@ pub fn get16x5(s: &State, o: usize, k: usize) -> Words5
     )
 }
 
+// Stores a byte into the record at o, k bytes in.
 pub fn put8(s: &mut State, o: usize, k: usize, v: u8)
     requires { ⌜ o + k + 1 ≤ 2999 ⌝ }
     ensures { λ _. ⌜ now (s .exit) ≡ puts (now (s .entry)) o k (digits 1 v) ⌝ }
@@ -83,6 +89,7 @@ pub fn put8(s: &mut State, o: usize, k: usize, v: u8)
     s[o + (k + 0)] = v;
 }
 
+// Stores a 16-bit number into the record at o, k bytes in, lowest byte first.
 pub fn put16(s: &mut State, o: usize, k: usize, v: u16)
     requires { ⌜ o + k + 2 ≤ 2999 ⌝ }
     ensures { λ _. ⌜ now (s .exit) ≡ puts (now (s .entry)) o k (digits 2 v) ⌝ }
@@ -91,6 +98,7 @@ pub fn put16(s: &mut State, o: usize, k: usize, v: u16)
     s[o + (k + 1)] = (v / 256) as u8;
 }
 
+// Stores a 32-bit number into the record at o, k bytes in, lowest byte first.
 pub fn put32(s: &mut State, o: usize, k: usize, v: u32)
     requires { ⌜ o + k + 4 ≤ 2999 ⌝ }
     ensures { λ _. ⌜ now (s .exit) ≡ puts (now (s .entry)) o k (digits 4 v) ⌝ }
@@ -101,6 +109,7 @@ pub fn put32(s: &mut State, o: usize, k: usize, v: u32)
     s[o + (k + 3)] = (v / 256 / 256 / 256) as u8;
 }
 
+// Stores five bytes into the record at o, from k bytes in.
 pub fn put8x5(s: &mut State, o: usize, k: usize, a: u8, b: u8, c: u8, d: u8, e: u8)
     requires { ⌜ o + k + 5 ≤ 2999 ⌝ }
     ensures { λ _. ⌜ now (s .exit) ≡ puts (now (s .entry)) o k (bytes bytes5 (a ∷ b ∷ c ∷ d ∷ e ∷ [])) ⌝ }
@@ -112,6 +121,7 @@ pub fn put8x5(s: &mut State, o: usize, k: usize, a: u8, b: u8, c: u8, d: u8, e: 
     s[o + (k + 4)] = e;
 }
 
+// Stores five 16-bit numbers into the record at o, from k bytes in.
 pub fn put16x5(s: &mut State, o: usize, k: usize, a: u16, b: u16, c: u16, d: u16, e: u16)
     requires { ⌜ o + k + 10 ≤ 2999 ⌝ }
     ensures { λ _. ⌜ now (s .exit) ≡ puts (now (s .entry)) o k (bytes words5 (a ∷ b ∷ c ∷ d ∷ e ∷ [])) ⌝ }

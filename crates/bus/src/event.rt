@@ -31,7 +31,7 @@ ghost use Rattle.bus.specs.declared.Point.the-variants as Point;
 ghost use Rattle.bus.specs.Points.{afterReset, afterNaked, afterReleased, denote, meaning, Follows, Linked};
 ghost use Rattle.bus.specs.Points.{asked, Awaited};
 
-// `poll` (mod.rs 1231-1266).
+// Begins `Bus::poll` (mod.rs 1231-1266): power, then a bus reset, then suspend and resume.
 pub fn poll(s: &mut State) -> Next
     ensures { λ r. ⌜ MeansFrom (meaning r) (Linked r) (run concrete script.poll) (now (s .entry)) (now (s .exit)) ⌝ }
 {
@@ -77,6 +77,7 @@ pub fn after_address() -> Access
     Access::Write(Reg::EpRxCtrl, 0, word as u32)
 }
 
+// In a bus reset, after EP0's OUT was set to ACK: sets EP0's IN to NAK.
 pub fn after_ep0_out() -> Access
     ensures { λ r. ⌜ ((v : ℕ) (d : Driver) (b : List ℕ) → asked r (Point.Naked 0) d b
         ≡ denote Point.Ep0Out v (d, b)) ⌝ }
@@ -85,6 +86,7 @@ pub fn after_ep0_out() -> Access
     Access::Write(Reg::EpTxCtrl, 0, nak_word())
 }
 
+// In a bus reset, after IN e was set to NAK: sets OUT e to NAK.
 pub fn after_nak_in(e: u8) -> Access
     ensures { λ r. ⌜ ((v : ℕ) (d : Driver) (b : List ℕ) → asked r (Point.Naked e) d b
         ≡ denote (Point.NakIn e) v (d, b)) ⌝ }
@@ -93,7 +95,7 @@ pub fn after_nak_in(e: u8) -> Access
     Access::Write(Reg::EpRxCtrl, e, nak_word())
 }
 
-// The next endpoint.
+// In a bus reset, after both directions of e were set to NAK: goes on with the next endpoint.
 pub fn after_naked(e: u8) -> Access
     requires { ⌜ e < 15 ⌝ }
     ensures { λ r. ⌜ ((d : Driver) (b : List ℕ) → asked r (Point.NakIn (e + 1)) d b ≡ go (afterNaked e) d b) ⌝ }
@@ -113,6 +115,7 @@ pub fn after_last(s: &mut State) -> Access
     Access::Write(Reg::EpConfig, 0, 0)
 }
 
+// In a bus reset, after ep_config was cleared: clears ep_type.
 pub fn after_disabled(s: &mut State) -> Access
     ensures { λ r. ⌜ Follows Point.Disabled r Point.Untyped (now (s .entry)) (now (s .exit)) ⌝ }
     ensures { λ _. ⌜ saved (now (s .exit)) ≡ saved (now (s .entry)) ⌝ }
@@ -122,6 +125,7 @@ pub fn after_disabled(s: &mut State) -> Access
     Access::Write(Reg::EpType, 0, 0)
 }
 
+// In a bus reset, after ep_type was cleared: clears ep_buf_mod.
 pub fn after_untyped() -> Access
     ensures { λ r. ⌜ ((v : ℕ) (d : Driver) (b : List ℕ) → asked r Point.Single d b ≡ denote Point.Untyped v (d, b)) ⌝ }
     ensures { λ r. ⌜ Awaited r Point.Single ⌝ }

@@ -17,7 +17,7 @@ ghost use Rattle.script_ops.specs.Concrete.{concrete};
 ghost use Rattle.bus.specs.declared.Point.the-variants as Point;
 ghost use Rattle.bus.specs.Points.{resultless, denote, meaning, Linked, asked, Awaited};
 
-// `enable` (mod.rs 1225-1227).
+// Begins `Bus::enable` (mod.rs 1225-1227): reads ctrl, to set its pull-up.
 pub fn enable() -> Next
     ensures { λ r. ⌜ Means (meaning r) (Linked r) (run concrete (resultless script.enable)) ⌝ }
 {
@@ -27,6 +27,7 @@ pub fn enable() -> Next
     )
 }
 
+// After ctrl was read: writes it with the pull-up set.
 pub fn after_enable(v: u32) -> Access
     ensures { λ r. ⌜ ((d : Driver) (b : List ℕ) → asked r (Point.Event 0) d b ≡ denote Point.Enable v (d, b)) ⌝ }
     ensures { λ r. ⌜ Awaited r (Point.Event 0) ⌝ }

@@ -78,7 +78,7 @@ fn set_enabled_in(s: &mut State, e: u8, on: bool) -> Next
     )
 }
 
-// `endpoint_set_enabled` (mod.rs 1268-1330).
+// Begins `endpoint_set_enabled` (mod.rs 1268-1330): enables or disables one direction.
 pub fn endpoint_set_enabled(s: &mut State, buf: &mut [u8], dir: Dir, e: u8, on: bool) -> Next
     ensures { λ r. ⌜ MeansWithSlots (meaning r) (Linked r) (run concrete (resultless (script.setEnabled dir e on)))
         (now (s .entry)) (now (buf .entry)) (now (s .exit)) (now (buf .exit)) ⌝ }
@@ -105,6 +105,7 @@ fn out_word(on: bool) -> u8
     control_word::word_of(control_word::NAK, control_word::DATA0, true)
 }
 
+// After a bulk OUT's receive address: writes its control word.
 pub fn after_placed_out(e: u8, on: bool) -> Access
     ensures { λ r. ⌜ ((v : ℕ) (d : Driver) (b : List ℕ) → asked r (Point.Words Dir.Out e false on) d b
         ≡ denote (Point.PlacedOut e on) v (d, b)) ⌝ }
@@ -114,6 +115,7 @@ pub fn after_placed_out(e: u8, on: bool) -> Access
     Access::Write(Reg::EpRxCtrl, e, word as u32)
 }
 
+// After an IN's transmit address: writes its length 0.
 pub fn after_placed_in(e: u8) -> Access
     ensures { λ r. ⌜ ((iso on : Bool) (v : ℕ) (d : Driver) (b : List ℕ) → asked r (Point.NoLength e iso on) d b
         ≡ denote (Point.PlacedIn e iso on) v (d, b)) ⌝ }
@@ -141,6 +143,7 @@ fn in_word(iso: bool, on: bool) -> u8
     control_word::word_of(control_word::NAK, control_word::DATA0, !iso)
 }
 
+// After an IN's length 0: writes its control word.
 pub fn after_no_length(e: u8, iso: bool, on: bool) -> Access
     ensures { λ r. ⌜ ((d : Driver) (b : List ℕ) → asked r (Point.Words Dir.In e iso on) d b
         ≡ go (afterPlaced e iso on) d b) ⌝ }
@@ -164,6 +167,7 @@ pub fn after_words(s: &mut State, dir: Dir, e: u8, iso: bool, on: bool) -> Acces
     Access::Write(Reg::EpType, 0, word)
 }
 
+// After ep_type: writes ep_config, and wakes the endpoint's task at the end.
 pub fn after_type(s: &mut State, dir: Dir, e: u8, on: bool) -> Access
     ensures { λ r. ⌜ ((b : List ℕ) → asked r (Point.Woken dir e) (view (now (s .exit))) b
         ≡ go (afterType dir e on) (view (now (s .entry))) b) ⌝ }

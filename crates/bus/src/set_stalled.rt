@@ -35,7 +35,7 @@ ghost use Rattle.bus.specs.declared.Point.the-variants as Point;
 ghost use Rattle.bus.specs.Points.{resultless, afterStallWord, afterRestart, denote, meaning, Linked, asked};
 ghost use Rattle.bus.specs.Points.{Awaited};
 
-// `is_endpoint_stalled` (mod.rs 1101-1106).
+// Begins `is_endpoint_stalled` (mod.rs 1101-1106): reads the endpoint's control word.
 pub fn is_endpoint_stalled(dir: Dir, e: u8) -> Next
     ensures { λ r. ⌜ Means (meaning r) (Linked r) (run concrete (script.isEndpointStalled {i = false} dir e)) ⌝ }
 {
@@ -111,7 +111,7 @@ fn restart(s: &mut State, dir: Dir, e: u8) -> Next
     }
 }
 
-// `set_endpoint_stalled` (mod.rs 1053-1099).
+// Begins `set_endpoint_stalled` (mod.rs 1053-1099): sets or clears a halt.
 pub fn set_endpoint_stalled(s: &mut State, dir: Dir, e: u8, on: bool) -> Next
     ensures { λ r. ⌜ MeansFrom (meaning r) (Linked r) (run concrete (resultless (script.setStalled dir e on)))
         (now (s .entry)) (now (s .exit)) ⌝ }
@@ -131,6 +131,7 @@ pub fn set_endpoint_stalled(s: &mut State, dir: Dir, e: u8, on: bool) -> Next
     }
 }
 
+// After a stalled IN's length 0: reads its control word.
 pub fn after_stall_len(e: u8) -> Access
     ensures { λ r. ⌜ ((v : ℕ) (d : Driver) (b : List ℕ) → asked r (Point.StallWord Dir.In e) d b
         ≡ denote (Point.StallLen e) v (d, b)) ⌝ }
@@ -139,6 +140,7 @@ pub fn after_stall_len(e: u8) -> Access
     Access::Read(Reg::EpTxCtrl, e)
 }
 
+// After the control word was read: writes it with STALL.
 pub fn after_stall_word(dir: Dir, e: u8, v: u32) -> Access
     requires { ⌜ fitsIn v 8 ≡ true ⌝ }
     ensures { λ r. ⌜ ((d : Driver) (b : List ℕ) → asked r (Point.Woken dir e) d b ≡ go (afterStallWord dir e v) d b) ⌝ }

@@ -52,7 +52,7 @@ fn wide(charge: u16) -> u32
     charge as u32
 }
 
-// The time in use.
+// The bus time in use: the sum of all endpoints' charges.
 pub fn in_use(time: &Time) -> u32
     ensures { λ r. ⌜ r ≡ inUse (now (time .entry)) ⌝ }
     ensures { λ r. ⌜ r ≤ 8388480 ⌝ }

@@ -48,7 +48,7 @@ pub fn set_paced(s: &mut State, e: u32, on: bool) -> Step
     Step::Refused(n)
 }
 
-// `iso_in_advance` (mod.rs 323-340).
+// Begins `iso_in_advance` (mod.rs 323-340): completes a paced IN for the microframes that have passed.
 pub fn begin_advance(s: &mut State, e: u32) -> Step
     ensures { λ r. ⌜ OtherCall (Advance e) r (now (s .entry)) (now (s .exit)) ⌝ }
 {
@@ -64,7 +64,7 @@ pub fn begin_advance(s: &mut State, e: u32) -> Step
     Step::Refused(n)
 }
 
-// `on_interrupt` (mod.rs 634-852).
+// Begins `on_interrupt` (mod.rs 634-852).
 pub fn begin_interrupt(s: &mut State) -> Step
     ensures { λ r. ⌜ ((a b : List ℕ) → (
       answerOf r [] (view (now (s .exit))),

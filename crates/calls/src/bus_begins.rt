@@ -26,7 +26,7 @@ fn enter(s: &mut State) -> u8
     n
 }
 
-// `enable` (mod.rs 1225-1227).
+// Begins `Bus::enable` (mod.rs 1225-1227).
 pub fn begin_bus_enable(s: &mut State) -> Step
     ensures { λ r. ⌜ OtherCall BusEnable r (now (s .entry)) (now (s .exit)) ⌝ }
 {
@@ -48,7 +48,7 @@ pub fn begin_bus_disable(s: &mut State) -> Step
     Step::Refused(n)
 }
 
-// `poll` (mod.rs 1229-1266).
+// Begins `Bus::poll` (mod.rs 1229-1266).
 pub fn begin_bus_poll(s: &mut State) -> Step
     ensures { λ r. ⌜ OtherCall BusPoll r (now (s .entry)) (now (s .exit)) ⌝ }
 {
@@ -60,7 +60,7 @@ pub fn begin_bus_poll(s: &mut State) -> Step
     Step::Refused(n)
 }
 
-// `is_endpoint_stalled` (mod.rs 1101-1106).
+// Begins `is_endpoint_stalled` (mod.rs 1101-1106).
 pub fn begin_is_stalled(s: &mut State, dir: Dir, e: u32) -> Step
     ensures { λ r. ⌜ OtherCall (IsStalled dir e) r (now (s .entry)) (now (s .exit)) ⌝ }
 {
@@ -76,7 +76,7 @@ pub fn begin_is_stalled(s: &mut State, dir: Dir, e: u32) -> Step
     Step::Refused(n)
 }
 
-// `set_endpoint_stalled` (mod.rs 1053-1099).
+// Begins `set_endpoint_stalled` (mod.rs 1053-1099).
 pub fn begin_set_stalled(s: &mut State, dir: Dir, e: u32, on: bool) -> Step
     ensures { λ r. ⌜ OtherCall (SetStalled dir e on) r (now (s .entry)) (now (s .exit)) ⌝ }
 {

@@ -9,7 +9,7 @@ ghost use Rattle.script.specs.Calls.{BeginSetup, BeginDataOut, BeginDataIn, Beg
 ghost use Rattle.script.specs.Calls.{BeginReject};
 ghost use Rattle.machine.specs.Contracts.{OtherCall, SlottedCall};
 
-// `setup` (control.rs 70-80).
+// Begins `ControlPipe::setup` (control.rs 70-80): waits for a setup packet.
 pub fn begin_setup(s: &mut State) -> Step
     ensures { λ r. ⌜ OtherCall BeginSetup r (now (s .entry)) (now (s .exit)) ⌝ }
 {
@@ -46,7 +46,7 @@ pub fn begin_data_in(s: &mut State, slots: &mut [u8], bytes: &[u8], first: bool,
     Step::Refused(rows::SLOTS_LENGTH)
 }
 
-// `accept` (26-46, 163-166).
+// Begins `accept` (control.rs 26-46, 163-166): the status stage.
 pub fn begin_accept(s: &mut State) -> Step
     ensures { λ r. ⌜ OtherCall BeginAccept r (now (s .entry)) (now (s .exit)) ⌝ }
 {
@@ -57,7 +57,7 @@ pub fn begin_accept(s: &mut State) -> Step
     Step::Refused(rows::UNDER_WAY)
 }
 
-// `accept_set_address` (179-186).
+// Begins `accept_set_address` (control.rs 179-186): the status stage, then the address.
 pub fn begin_accept_set_address(s: &mut State, address: u32) -> Step
     ensures { λ r. ⌜ OtherCall (BeginAcceptSetAddress address) r (now (s .entry)) (now (s .exit)) ⌝ }
 {
@@ -68,7 +68,7 @@ pub fn begin_accept_set_address(s: &mut State, address: u32) -> Step
     Step::Refused(rows::UNDER_WAY)
 }
 
-// `reject` (168-177).
+// Begins `reject` (control.rs 168-177): stalls EP0 in both directions.
 pub fn begin_reject(s: &mut State) -> Step
     ensures { λ r. ⌜ OtherCall BeginReject r (now (s .entry)) (now (s .exit)) ⌝ }
 {

@@ -9,7 +9,7 @@ ghost use lib.ListN.{length};
 ghost use Rattle.script.specs.Calls.{PollSetup, PollDataOut, PollDataIn, PollAccept};
 ghost use Rattle.machine.specs.Contracts.{OtherCall, PolledCall};
 
-// `setup` (control.rs 70-80).
+// Polls `setup` (control.rs 70-80): gives the setup packet once it is there.
 pub fn poll_setup(s: &mut State) -> Step
     ensures { λ r. ⌜ OtherCall PollSetup r (now (s .entry)) (now (s .exit)) ⌝ }
 {
@@ -35,7 +35,7 @@ pub fn poll_data_out(s: &mut State, slots: &[u8], out: &mut [u8]) -> Step
     Step::Refused(rows::SLOTS_LENGTH)
 }
 
-// `data_in` (117-161).
+// Polls `data_in` (control.rs 117-161): done once the packet, and a last one's closing OUT, went through.
 pub fn poll_data_in(s: &mut State) -> Step
     ensures { λ r. ⌜ OtherCall PollDataIn r (now (s .entry)) (now (s .exit)) ⌝ }
 {
@@ -46,7 +46,7 @@ pub fn poll_data_in(s: &mut State) -> Step
     Step::Refused(rows::UNDER_WAY)
 }
 
-// `accept` and `accept_set_address` (26-46).
+// Polls `accept` and `accept_set_address` (control.rs 26-46): done once the status stage went through.
 pub fn poll_accept(s: &mut State) -> Step
     ensures { λ r. ⌜ OtherCall PollAccept r (now (s .entry)) (now (s .exit)) ⌝ }
 {

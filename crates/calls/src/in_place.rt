@@ -47,7 +47,7 @@ pub fn open(s: &mut State, slots: &[u8], e: u32) -> Step
     Step::Refused(rows::SLOTS_LENGTH)
 }
 
-// And its last.
+// The second half of `iso_out_take` (mod.rs 253-271): gives the open packet's slot back.
 pub fn close(s: &mut State, e: u32) -> Step
     ensures { λ r. ⌜ ((a b : List ℕ) → (
       answerOf r b (view (now (s .exit))),
@@ -62,7 +62,7 @@ pub fn close(s: &mut State, e: u32) -> Step
     Step::Refused(rows::UNDER_WAY)
 }
 
-// `iso_in_prime` (342-395).
+// `iso_in_prime` (mod.rs 342-395): copies a packet into a free IN slot, to be sent later.
 pub fn queue(s: &mut State, slots: &mut [u8], e: u32, bytes: &[u8]) -> Step
     ensures { λ r. ⌜ ((a : List ℕ) → (
       answerOf r (now (slots .exit)) (view (now (s .exit))),

@@ -9,6 +9,7 @@ ghost use Rattle.script.specs.Machine.{continue};
 ghost use Rattle.script_ops.specs.Numbers as tags;
 ghost use Rattle.calls.specs.Sharing.{SharedStep};
 
+// Continues the operation that is under way with what was read; no interrupt's.
 pub fn operate(s: &mut State, slots: &mut [u8], time: &mut Time, driver: u32, v: u32) -> Step
     requires { ⌜ (saved (now s) .tag ≡ tags.INTERRUPT → ⊥) ⌝ }
     ensures { λ r. ⌜ SharedStep r driver (continue v) (now (s .entry)) (now (s .exit))

@@ -36,7 +36,7 @@ pub fn poll_read(s: &mut State, slots: &[u8], e: u32, out: &mut [u8]) -> Step
     Step::Refused(rows::SLOTS_LENGTH)
 }
 
-// `write` (146-194).
+// Begins `write` (endpoint.rs 146-194): hands a packet to the chip, or waits for room in the ring.
 pub fn begin_write(s: &mut State, slots: &mut [u8], e: u32, bytes: &[u8]) -> Step
     ensures { λ r. ⌜ SlottedCall (BeginWrite e (now (bytes .entry))) r (now (s .entry)) (now (slots .entry))
         (now (s .exit)) (now (slots .exit)) ⌝ }
@@ -51,6 +51,7 @@ pub fn begin_write(s: &mut State, slots: &mut [u8], e: u32, bytes: &[u8]) -> Ste
     Step::Refused(rows::SLOTS_LENGTH)
 }
 
+// Polls `write` (endpoint.rs 146-194): done once the packet went through, or was queued.
 pub fn poll_write(s: &mut State, slots: &mut [u8], e: u32, bytes: &[u8]) -> Step
     ensures { λ r. ⌜ SlottedCall (PollWrite e (now (bytes .entry))) r (now (s .entry)) (now (slots .entry))
         (now (s .exit)) (now (slots .exit)) ⌝ }

@@ -45,7 +45,7 @@ pub fn allocate(
     Step::Refused(n)
 }
 
-// EP0's start (mod.rs 1144-1178).
+// EP0's start (mod.rs 1144-1178): gives EP0 its slot and its maximum.
 pub fn start(s: &mut State, maximum: u32) -> Step
     ensures { λ r. ⌜ OtherCall (Start maximum) r (now (s .entry)) (now (s .exit)) ⌝ }
 {

@@ -45,6 +45,7 @@ fn is_checked(stream: &[u8], k: usize) -> bool
     pair_at(stream, k, 510) == crc as usize
 }
 
+// Whether block k of a stream has its own number and a check that fits its bytes.
 pub fn is_good(stream: &[u8], k: usize) -> bool
     ensures { λ r. ⌜ r ≡ goodBlock (now (stream .entry)) k ⌝ }
 {

@@ -31,7 +31,7 @@ fn put(lists: Lists, i: usize, maximum: u16, charge: u16) -> Lists
     l
 }
 
-// Reads the lent list.
+// Reads the lent list of channels into two plain arrays.
 pub fn read(list: &[Channel]) -> Lists
     requires { ⌜ length (now list) ≤ 16 ⌝ }
     ensures { λ r. ⌜ r ≡ listsOf (now (list .entry)) (length (now (list .entry))) ⌝ }

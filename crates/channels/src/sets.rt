@@ -120,6 +120,7 @@ fn figure(maxima: [u16; 16], n: usize, budget: u32, best: u32) -> u32
     }
 }
 
+// Searches the sets of channels for the best one that fits the bus time left.
 pub fn choose(lists: Lists, n: usize, in_use: u32, budget: u32) -> Choice
     requires { ⌜ n ≤ 16 ⌝ }
     ensures { λ r. ⌜ r ≡ choiceOf (listed (lists .maxima)) (listed (lists .charges)) n in_use budget ⌝ }

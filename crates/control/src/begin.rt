@@ -46,7 +46,7 @@ ghost use Rattle.script_ops.specs.Concrete.{go};
 ghost use Rattle.script_ops.specs.Answers.{finished};
 ghost use Rattle.control.specs.Points.{acked, loading, begunAs, LinkedBegun};
 
-// `setup`, control.rs 70-80.
+// Begins `setup` (control.rs 70-80).
 pub fn setup(s: &mut State) -> Begun
     ensures { λ r. ⌜ ((b : List ℕ) → begunAs r (view (now (s .exit))) b
         ≡ go {i = false} beginSetup (view (now (s .entry))) b) ⌝ }
@@ -156,7 +156,7 @@ fn status_in(s: &mut State) -> Begun
     )
 }
 
-// `accept`, 26-46, 163-166.
+// Begins `accept` (control.rs 26-46, 163-166).
 pub fn accept(s: &mut State) -> Begun
     ensures { λ r. ⌜ ((b : List ℕ) → begunAs r (view (now (s .exit))) b
         ≡ go {i = false} beginAccept (view (now (s .entry))) b) ⌝ }
@@ -171,7 +171,7 @@ pub fn accept(s: &mut State) -> Begun
     Begun::Refused(row)
 }
 
-// `accept_set_address`, 179-186.
+// Begins `accept_set_address` (control.rs 179-186).
 pub fn accept_set_address(s: &mut State, address: u32) -> Begun
     ensures { λ r. ⌜ ((b : List ℕ) → begunAs r (view (now (s .exit))) b
         ≡ go {i = false} (beginAcceptSetAddress address) (view (now (s .entry))) b) ⌝ }
@@ -186,7 +186,7 @@ pub fn accept_set_address(s: &mut State, address: u32) -> Begun
     Begun::Refused(row)
 }
 
-// `reject`, 168-177.
+// Begins `reject` (control.rs 168-177).
 pub fn reject(s: &mut State) -> Begun
     ensures { λ r. ⌜ ((b : List ℕ) → begunAs r (view (now (s .exit))) b
         ≡ go {i = false} beginReject (view (now (s .entry))) b) ⌝ }

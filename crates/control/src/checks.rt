@@ -80,6 +80,7 @@ pub fn set_request(s: &mut State, sort: u8, n: u32)
     );
 }
 
+// Records that a data_in is waited for: its length, whether it is the last, what is awaited.
 pub fn set_data_in(s: &mut State, n: u32, last: u8, wait: u8)
     ensures { λ _. ⌜ view (now (s .exit)) ≡ withControl (view (now (s .entry))) (dataInOf n last wait) ⌝ }
     ensures { λ _. ⌜ saved (now (s .exit)) ≡ saved (now (s .entry)) ⌝ }
@@ -97,6 +98,7 @@ pub fn set_data_in(s: &mut State, n: u32, last: u8, wait: u8)
     );
 }
 
+// Records the address that a status stage is to set.
 pub fn set_address(s: &mut State, address: u8)
     ensures { λ _. ⌜ view (now (s .exit)) ≡ withControl (view (now (s .entry))) (addressOf address) ⌝ }
     ensures { λ _. ⌜ saved (now (s .exit)) ≡ saved (now (s .entry)) ⌝ }

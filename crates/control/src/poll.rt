@@ -76,7 +76,7 @@ fn take_setup(s: &mut State, g: Globals) -> Polled
     Polled::NotYet
 }
 
-// `setup`, 70-80.
+// Polls `setup` (control.rs 70-80).
 pub fn poll_setup(s: &mut State) -> Polled
     ensures { λ r. ⌜ ((b : List ℕ) → polledAs r [] (view (now (s .exit))) b
         ≡ go {i = false} pollSetup (view (now (s .entry))) b) ⌝ }
@@ -116,7 +116,7 @@ fn take_accept(s: &mut State, c: Control) -> Polled
     wait_on(s)
 }
 
-// `accept` and `accept_set_address`, 26-46.
+// Polls `accept` and `accept_set_address` (control.rs 26-46).
 pub fn poll_accept(s: &mut State) -> Polled
     ensures { λ r. ⌜ ((b : List ℕ) → polledAs r [] (view (now (s .exit))) b
         ≡ go {i = false} pollAccept (view (now (s .entry))) b) ⌝ }
@@ -193,7 +193,7 @@ fn take_in(s: &mut State, c: Control) -> Polled
     wait_on(s)
 }
 
-// `data_in`, 117-161.
+// Polls `data_in` (control.rs 117-161).
 pub fn poll_data_in(s: &mut State) -> Polled
     ensures { λ r. ⌜ ((b : List ℕ) → polledAs r [] (view (now (s .exit))) b
         ≡ go {i = false} pollDataIn (view (now (s .entry))) b) ⌝ }

@@ -10,6 +10,7 @@ use crate::Endpoints;
 
 const MOST: usize = 32;
 
+// The list of no endpoints.
 pub fn empty() -> Endpoints
     ensures { λ r. ⌜ r ≡ ofList [] ⌝ }
 {

@@ -31,7 +31,7 @@ fn put(room: &mut [u8], at: usize, d: &[u8])
     }
 }
 
-// Of n endpoints.
+// Writes the configuration descriptor's header for n endpoints.
 pub fn configuration(room: &mut [u8], n: usize)
     requires { ⌜ n ≤ 32 ⌝ }
     requires { ⌜ 18 ≤ length (now room) ⌝ }
@@ -42,6 +42,7 @@ pub fn configuration(room: &mut [u8], n: usize)
     put(room, 0, &d);
 }
 
+// Writes the interface descriptor behind the header, for n endpoints.
 pub fn interface(room: &mut [u8], n: usize)
     requires { ⌜ n ≤ 32 ⌝ }
     requires { ⌜ 18 ≤ length (now room) ⌝ }

@@ -14,12 +14,14 @@ const ENDPOINT: u8 = 5;
 
 const MOST: usize = 4096;
 
+// Whether a descriptor's type is INTERFACE (4).
 pub fn is_interface(kind: u8) -> bool
     ensures { λ r. ⌜ r ≡ eqb kind 4 ⌝ }
 {
     kind == INTERFACE
 }
 
+// Whether a descriptor's type is ENDPOINT (5).
 pub fn is_endpoint(kind: u8) -> bool
     ensures { λ r. ⌜ r ≡ eqb kind 5 ⌝ }
 {
@@ -42,6 +44,7 @@ fn least(kind: u8) -> u8
     2
 }
 
+// A byte as an index.
 pub fn wide(x: u8) -> usize
     ensures { λ r. ⌜ r ≡ x ⌝ }
 {

@@ -92,6 +92,7 @@ pub fn start_ep0(s: &State, maximum: u32) -> Next
     Next::Asks(Access::Ep0Dma(g.ep0_buf), point(EP0_PLACE, false, maximum))
 }
 
+// Begins `microframe`: reads frame_no.
 pub fn microframe() -> Next
     ensures { λ r. ⌜ Means (meaning r) (Linked r) (run concrete microframe) ⌝ }
 {

@@ -43,6 +43,7 @@ pub fn set_request(s: &mut State, dir: Dir, e: u8, n: u32)
     );
 }
 
+// Ends the request of one direction of an endpoint.
 pub fn end_request(s: &mut State, dir: Dir, e: u8)
     ensures { λ _. ⌜ view (now (s .exit)) ≡ withRequestOn (view (now (s .entry))) dir e no-request ⌝ }
     ensures { λ _. ⌜ saved (now (s .exit)) ≡ saved (now (s .entry)) ⌝ }

@@ -15,7 +15,7 @@ ghost use Rattle.script.specs.Statics.{withReady, withArmed};
 ghost use Rattle.ring.specs.Copies.{over, bytesAt};
 ghost use Rattle.endpoint.specs.Records.{modifiedOn};
 
-// No completion waits.
+// Forgets a completion of the endpoint.
 pub fn unready(s: &mut State, dir: Dir, e: u8)
     ensures { λ _. ⌜ view (now (s .exit)) ≡ modifiedOn dir e (withReady 0) (view (now (s .entry))) ⌝ }
     ensures { λ _. ⌜ saved (now (s .exit)) ≡ saved (now (s .entry)) ⌝ }

@@ -177,6 +177,7 @@ fn take_read(s: &mut State, buf: &[u8], e: u8, out: &mut [u8]) -> Polled
     Polled::Refused(rows::LENGTH)
 }
 
+// Polls `read` (endpoint.rs 83-142): the packet at the front of `out` once it is there.
 pub fn poll_read(s: &mut State, buf: &[u8], e: u32, out: &mut [u8]) -> Polled
     ensures { λ r. ⌜ polledAs r (now (out .exit)) (view (now (s .exit))) (now (buf .entry))
         ≡ readOn e (now (out .entry)) (now (s .entry)) (now (buf .entry)) ⌝ }

@@ -82,6 +82,7 @@ fn start_write(s: &mut State, buf: &mut [u8], e: u8, bytes: &[u8]) -> Begun
     )
 }
 
+// Begins `write` (endpoint.rs 146-194).
 pub fn begin_write(s: &mut State, buf: &mut [u8], e: u32, bytes: &[u8]) -> Begun
     ensures { λ r. ⌜ begunAs r (view (now (s .exit))) (now (buf .exit))
         ≡ go {i = false} (beginWrite e (now (bytes .entry))) (view (now (s .entry))) (now (buf .entry)) ⌝ }
@@ -150,6 +151,7 @@ fn take_write(s: &mut State, buf: &mut [u8], e: u8, bytes: &[u8]) -> Polled
     Polled::Refused(rows::LENGTH)
 }
 
+// Polls `write` (endpoint.rs 146-194).
 pub fn poll_write(s: &mut State, buf: &mut [u8], e: u32, bytes: &[u8]) -> Polled
     ensures { λ r. ⌜ polledAs r [] (view (now (s .exit))) (now (buf .exit))
         ≡ go {i = false} (pollWrite e (now (bytes .entry))) (view (now (s .entry))) (now (buf .entry)) ⌝ }

@@ -15,6 +15,7 @@ pub const NO_FRAME: u16 = 0x1800;
 
 const MICROFRAME_MASK: u16 = (1 << 14) - 1;
 
+// Whether a frame number says that there is none.
 pub fn is_none(frame: Frame) -> bool
     ensures { λ r. ⌜ r ≡ isNone (frame .0) ⌝ }
 {
@@ -28,6 +29,7 @@ pub fn microframe_index(frame: Frame) -> Index
     Index((frame.0 & 0x7FF) << 3 | frame.0 >> 13)
 }
 
+// The register's form of a microframe index.
 pub fn frame_of_index(i: Index) -> Frame
     ensures { λ r. ⌜ r .0 ≡ frameOf (i .0) ⌝ }
 {
@@ -41,7 +43,7 @@ pub fn distance(from: Index, to: Index) -> u16
     std::num::wrapping_sub_u16(to.0, from.0) & MICROFRAME_MASK
 }
 
-// The index before.
+// The microframe index before this one.
 pub fn previous(i: Index) -> Index
     ensures { λ r. ⌜ r .0 ≡ previous (i .0) ⌝ }
 {

@@ -16,7 +16,8 @@ use Rattle.script.specs.Calls.{Op, interrupt, slotted, other, aside, Other, All
 use Rattle.script.specs.Calls.{BusEnable, BusDisable, Microframe, SetStalled, IsStalled, SetPaced, Advance, BeginRead}
 use Rattle.script.specs.Calls.{BeginSetup, PollSetup, PollDataIn, BeginAccept, PollAccept, BeginReject, BeginDataOut}
 use Rattle.script.specs.Calls.{BeginAcceptSetAddress}
-use Rattle.proof_usb20.specs.Sequence.{Track, own, before, opens, saw, closes, EndsByReason, Writing, unwritten-yet}
+use Rattle.proof_usb20.specs.Sequence.{Track, own, before, opens, saw, closes, EndsByReason, Writing}
+use Rattle.proof_usb20.specs.Sequence.{unwritten-yet}
 use Rattle.proof_usb20.specs.Sequence.{wrote}
 use Rattle.proof_usb20.specs.Sequence.{LeavesWord}
 use Rattle.proof_usb20.specs.Observer.{Observer}

@@ -219,7 +219,8 @@ module _ (D : Dir) (E : ℕ) (z : (d : Dir) → Else D E d 0) where
   both-of (at-ask _ f) (at-ask _ g) = at-ask tt (λ v t _ k. both-of (f v t tt k) (g v t tt k))
 
   abbrev Ended : Op → Bool × Track → Answer → St → Type 0
-  Ended o x a t = Fitting (toggles D E .closes o a x) (view D E (t .0)) × (Few (ended a) → toggles D E .EndsByReason o a x)
+  Ended o x a t = Fitting (toggles D E .closes o a x) (view D E (t .0))
+      × (Few (ended a) → toggles D E .EndsByReason o a x)
 
   silent : (o : Op) (x : Bool × Track) → x .0 ≡ true → (out : tree.Out St Answer)
       → Sees (toggles D E) (λ _ _. Unit {0}) (Ended o) x out

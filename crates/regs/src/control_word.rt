@@ -23,12 +23,14 @@ pub fn response(word: u8) -> u8
     word & 3
 }
 
+// The toggle field of a control word.
 pub fn toggle(word: u8) -> u8
     ensures { λ r. ⌜ r ≡ toggle word ⌝ }
 {
     word >> 2 & 3
 }
 
+// Whether a control word has the automatic toggle on.
 pub fn automatic(word: u8) -> bool
     ensures { λ r. ⌜ r ≡ automatic word ⌝ }
 {
@@ -53,12 +55,14 @@ pub fn ack(word: u8) -> u8
     word & 0xFC
 }
 
+// A control word with its response set to NAK.
 pub fn nak(word: u8) -> u8
     ensures { λ r. ⌜ r ≡ nak word ⌝ }
 {
     word & 0xFC | NAK
 }
 
+// A control word with its response set to STALL.
 pub fn stall(word: u8) -> u8
     ensures { λ r. ⌜ r ≡ stall word ⌝ }
 {
@@ -75,6 +79,7 @@ pub fn flip(word: u8) -> u8
     word & 0xF3
 }
 
+// A control word with NAK and the other toggle.
 pub fn nakflip(word: u8) -> u8
     ensures { λ r. ⌜ r ≡ nakflip word ⌝ }
 {
@@ -88,12 +93,14 @@ pub fn status(word: u8) -> u8
     word & 0xF0 | DATA1 << 2
 }
 
+// Whether a control word's toggle is DATA1.
 pub fn is_data1(word: u8) -> bool
     ensures { λ r. ⌜ r ≡ isData1 word ⌝ }
 {
     toggle(word) == DATA1
 }
 
+// Whether a control word's response is STALL.
 pub fn is_stalled(word: u8) -> bool
     ensures { λ r. ⌜ r ≡ isStalled word ⌝ }
 {

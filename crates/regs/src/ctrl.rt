@@ -1,14 +1,14 @@
 ghost use mathlib.Core.Path.{_≡_};
 ghost use Rattle.regs.specs.Ctrl.{CLEAR, RUN, PHY_SUSPENDM, resetEnded, pulledUp};
 
-// clr_all and reset_sie.
+// The value of ctrl with clr_all and reset_sie set.
 pub fn clear() -> u32
     ensures { λ r. ⌜ r ≡ CLEAR ⌝ }
 {
     1 << 0 | 1 << 1
 }
 
-// int_busy, dma_en and HIGHSPEED.
+// The value of ctrl that runs the block: int_busy, dma_en and high speed.
 pub fn run() -> u32
     ensures { λ r. ⌜ r ≡ RUN ⌝ }
 {

@@ -12,12 +12,14 @@ pub fn at_start(callback: bool) -> u8
     0x3E
 }
 
+// int_en with the suspend interrupt turned on or off.
 pub fn with_suspend(enables: u8, on: bool) -> u8
     ensures { λ r. ⌜ r ≡ withSuspend enables on ⌝ }
 {
     bits::byte_with(enables, 3, on)
 }
 
+// int_en with the bus reset's interrupt turned on or off.
 pub fn with_bus_rst(enables: u8, on: bool) -> u8
     ensures { λ r. ⌜ r ≡ withBusRst enables on ⌝ }
 {

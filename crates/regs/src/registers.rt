@@ -29,6 +29,7 @@ fn facts(reg: Reg) -> NumberWidth
     }
 }
 
+// A register's number in the exported calls' words.
 pub fn number(reg: Reg) -> u8
     ensures { λ r. ⌜ r ≡ numberOf reg ⌝ }
 {
@@ -36,6 +37,7 @@ pub fn number(reg: Reg) -> u8
     f.0
 }
 
+// How many bits a register has in document 01's packing.
 pub fn width(reg: Reg) -> u8
     ensures { λ r. ⌜ r ≡ widthOf reg ⌝ }
 {

@@ -10,7 +10,7 @@ pub fn endpoint(status: u8) -> u8
     status & 15
 }
 
-// Its token.
+// The token that a status names.
 pub fn token(status: u8) -> Token
     ensures { λ r. ⌜ r ≡ token status ⌝ }
 {
@@ -43,14 +43,14 @@ pub fn is_out(status: u8) -> bool
     token_number(status) == 0
 }
 
-// Is it SOF?
+// Whether the token is a SOF.
 pub fn is_sof(status: u8) -> bool
     ensures { λ r. ⌜ r ≡ isSof status ⌝ }
 {
     token_number(status) == 1
 }
 
-// Is it IN?
+// Whether the token is IN.
 pub fn is_in(status: u8) -> bool
     ensures { λ r. ⌜ r ≡ isIn status ⌝ }
 {

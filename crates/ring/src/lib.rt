@@ -29,6 +29,7 @@ pub fn slot_addr(s: EpState, i: u8) -> u32
     std::num::wrapping_add_u32(s.base, offset)
 }
 
+// Whether a packet waits in the ring.
 pub fn has_waiting(s: EpState) -> bool
     ensures { λ r. ⌜ r ≡ hasWaiting s ⌝ }
 {
@@ -87,6 +88,7 @@ pub fn armed(mut s: EpState, addr: u32) -> EpState
     s
 }
 
+// The record with its oldest packet open.
 pub fn opened(mut s: EpState) -> EpState
     ensures { λ r. ⌜ r ≡ openedOf s ⌝ }
 {
@@ -127,6 +129,7 @@ pub enum Next {
     Nothing,
 }
 
+// Which packet of an IN ring is to be loaded next, if any.
 pub fn next_load(s: EpState) -> Next
     ensures { λ r. ⌜ r ≡ nextLoad s ⌝ }
 {
@@ -136,6 +139,7 @@ pub fn next_load(s: EpState) -> Next
     Next::Nothing
 }
 
+// The record with its oldest packet marked as being sent.
 pub fn loaded(mut s: EpState) -> EpState
     ensures { λ r. ⌜ r ≡ loadedOf s ⌝ }
 {
@@ -143,6 +147,7 @@ pub fn loaded(mut s: EpState) -> EpState
     s
 }
 
+// The record with no packet marked as being sent.
 pub fn unloaded(mut s: EpState) -> EpState
     ensures { λ r. ⌜ r ≡ unloadedOf s ⌝ }
 {

@@ -67,7 +67,10 @@ of-settle i x = (
   λ _. tt,
   λ _. (
     λ _. tt,
-    λ _. ((of-looks i 2001, λ _. ((tt, λ _. tt), λ _. ((tt, λ _. tt), λ _. tt))), ((of-looks i 2001, λ _. ((tt, λ _. tt), λ _. tt)), (of-retake i x, tt))),
+    λ _. (
+      (of-looks i 2001, λ _. ((tt, λ _. tt), λ _. ((tt, λ _. tt), λ _. tt))),
+      ((of-looks i 2001, λ _. ((tt, λ _. tt), λ _. tt)), (of-retake i x, tt)),
+    ),
   ),
 )
 

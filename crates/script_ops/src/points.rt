@@ -17,6 +17,7 @@ pub const ADVANCE: u8 = 5;
 
 pub const INTERRUPT: u8 = 6;
 
+// A direction as a number: 0 for OUT, 1 for IN.
 pub fn dir_as(d: Dir) -> u8
     ensures { λ r. ⌜ r ≡ dirAs d ⌝ }
 {
@@ -26,6 +27,7 @@ pub fn dir_as(d: Dir) -> u8
     }
 }
 
+// A flag as a number: 1 for true, 0 for false.
 pub fn flag_of(on: bool) -> u8
     ensures { λ r. ⌜ r ≡ flag on ⌝ }
 {

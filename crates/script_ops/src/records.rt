@@ -19,6 +19,7 @@ ghost use Rattle.script_ops.specs.Records.{isoOut, enabledOn, withSets, 
 ghost use Rattle.script_ops.specs.Records.{allocatedOn, startedWith, allocatedEp0};
 ghost use Rattle.script_ops.specs.Rings.{placeOn, switchedOn, typeStep, configStep};
 
+// Adds the endpoint's task to the list of wake-ups.
 pub fn wake(s: &mut State, dir: Dir, e: u8)
     ensures { λ _. ⌜ view (now (s .exit)) ≡ withWakes (view (now (s .entry)))
         (woken (wakeCode dir e) (view (now (s .entry)) .wakes)) ⌝ }
@@ -28,6 +29,7 @@ pub fn wake(s: &mut State, dir: Dir, e: u8)
     state::wake(s, code);
 }
 
+// Adds the bus's task to the list of wake-ups.
 pub fn wake_bus(s: &mut State)
     ensures { λ _. ⌜ view (now (s .exit)) ≡ withWakes (view (now (s .entry)))
         (woken busCode (view (now (s .entry)) .wakes)) ⌝ }
@@ -60,7 +62,7 @@ pub fn wake_all(s: &mut State)
     wake_sixteen(s, 0);
 }
 
-// An isochronous OUT.
+// Whether this is an isochronous OUT.
 pub fn iso_out(s: &State, dir: Dir, e: u8) -> bool
     ensures { λ r. ⌜ r ≡ isoOut (view (now (s .entry))) dir e ⌝ }
 {
@@ -92,6 +94,7 @@ pub fn receives(g: Globals, e: u8) -> bool
     mask_has(out_enabled(g.ep_config, g.iso_out_eps), e)
 }
 
+// Whether endpoint e is an enabled isochronous OUT.
 pub fn receiving(s: &State, e: u8) -> bool
     ensures { λ r. ⌜ r ≡ isSet (isoOuts (view (now (s .entry)) .globals)) (e % 16) ⌝ }
 {

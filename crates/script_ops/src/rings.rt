@@ -39,14 +39,14 @@ pub fn is_on(n: u8) -> bool
     n != 0
 }
 
-// One in 16 bits.
+// Whether a 16-bit number is not 0.
 pub fn is_on_half(n: u16) -> bool
     ensures { λ r. ⌜ r ≡ isOn n ⌝ }
 {
     n != 0
 }
 
-// One in 32.
+// Whether a 32-bit number is not 0.
 pub fn is_on_word(n: u32) -> bool
     ensures { λ r. ⌜ r ≡ isOn n ⌝ }
 {
@@ -69,6 +69,7 @@ pub fn marked(s: &State, buf: &[u8], e: u8) -> u16
     marked_len(buf, r.armed_slot, r.max_len)
 }
 
+// Whether a packet waits on one direction of an endpoint.
 pub fn waiting(s: &State, dir: Dir, e: u8) -> bool
     ensures { λ r. ⌜ r ≡ waitingOn (view (now (s .entry))) dir e ⌝ }
 {
@@ -88,6 +89,7 @@ fn takes(r: EpState, n: usize) -> bool
     !((r.stride as usize) < n)
 }
 
+// Whether an IN ring has room for a packet of n bytes.
 pub fn room(s: &State, e: u8, n: usize) -> bool
     ensures { λ r. ⌜ r ≡ roomOn (view (now (s .entry))) e n ⌝ }
 {

@@ -22,6 +22,7 @@ ghost use Rattle.bits.specs.Bytes.{gets, puts, numbers, bytes, Each};
 ghost use Rattle.state.specs.Codec.{epWidths, epAs, allocatorWidths, allocatorAs, globalsWidths, globalsAs};
 ghost use Rattle.state.specs.Codec.{requestWidths, requestAs, controlWidths, controlAs, savedWidths, savedAs};
 
+// Reads an endpoint's record at o.
 pub fn read_ep(s: &State, o: usize) -> EpState
     requires { ⌜ o + 32 ≤ 2999 ⌝ }
     ensures { λ r. ⌜ Each (epAs r) (numbers epWidths (gets (now (s .entry)) o 0 32)) ⌝ }
@@ -49,6 +50,7 @@ pub fn read_ep(s: &State, o: usize) -> EpState
     }
 }
 
+// Stores an endpoint's record at o.
 pub fn write_ep(s: &mut State, o: usize, r: EpState)
     requires { ⌜ o + 32 ≤ 2999 ⌝ }
     ensures { λ _. ⌜ now (s .exit) ≡ puts (now (s .entry)) o 0 (bytes epWidths (epAs r)) ⌝ }
@@ -64,6 +66,7 @@ pub fn write_ep(s: &mut State, o: usize, r: EpState)
     put8(s, o, 31, r.loaded);
 }
 
+// Reads the allocator's record at o.
 pub fn read_allocator(s: &State, o: usize) -> Allocator
     requires { ⌜ o + 18 ≤ 2999 ⌝ }
     ensures { λ r. ⌜ Each (allocatorAs r) (numbers allocatorWidths (gets (now (s .entry)) o 0 18)) ⌝ }
@@ -82,6 +85,7 @@ pub fn read_allocator(s: &State, o: usize) -> Allocator
     }
 }
 
+// Stores the allocator's record at o.
 pub fn write_allocator(s: &mut State, o: usize, r: Allocator)
     requires { ⌜ o + 18 ≤ 2999 ⌝ }
     ensures { λ _. ⌜ now (s .exit) ≡ puts (now (s .entry)) o 0 (bytes allocatorWidths (allocatorAs r)) ⌝ }
@@ -93,6 +97,7 @@ pub fn write_allocator(s: &mut State, o: usize, r: Allocator)
     put16(s, o, 16, r.allocated_in);
 }
 
+// Reads the record of globals at o.
 pub fn read_globals(s: &State, o: usize) -> Globals
     requires { ⌜ o + 37 ≤ 2999 ⌝ }
     ensures { λ r. ⌜ Each (globalsAs r) (numbers globalsWidths (gets (now (s .entry)) o 0 37)) ⌝ }
@@ -119,6 +124,7 @@ pub fn read_globals(s: &State, o: usize) -> Globals
     }
 }
 
+// Stores the record of globals at o.
 pub fn write_globals(s: &mut State, o: usize, r: Globals)
     requires { ⌜ o + 37 ≤ 2999 ⌝ }
     ensures { λ _. ⌜ now (s .exit) ≡ puts (now (s .entry)) o 0 (bytes globalsWidths (globalsAs r)) ⌝ }
@@ -151,6 +157,7 @@ pub fn write_globals(s: &mut State, o: usize, r: Globals)
     );
 }
 
+// Reads a request's record at o.
 pub fn read_request(s: &State, o: usize) -> Request
     requires { ⌜ o + 8 ≤ 2999 ⌝ }
     ensures { λ r. ⌜ Each (requestAs r) (numbers requestWidths (gets (now (s .entry)) o 0 8)) ⌝ }
@@ -161,6 +168,7 @@ pub fn read_request(s: &State, o: usize) -> Request
     }
 }
 
+// Stores a request's record at o.
 pub fn write_request(s: &mut State, o: usize, r: Request)
     requires { ⌜ o + 8 ≤ 2999 ⌝ }
     ensures { λ _. ⌜ now (s .exit) ≡ puts (now (s .entry)) o 0 (bytes requestWidths (requestAs r)) ⌝ }
@@ -169,6 +177,7 @@ pub fn write_request(s: &mut State, o: usize, r: Request)
     put32(s, o, 4, r.length);
 }
 
+// Reads the control request's record at o.
 pub fn read_control(s: &State, o: usize) -> Control
     requires { ⌜ o + 9 ≤ 2999 ⌝ }
     ensures { λ r. ⌜ Each (controlAs r) (numbers controlWidths (gets (now (s .entry)) o 0 9)) ⌝ }
@@ -183,6 +192,7 @@ pub fn read_control(s: &State, o: usize) -> Control
     }
 }
 
+// Stores the control request's record at o.
 pub fn write_control(s: &mut State, o: usize, r: Control)
     requires { ⌜ o + 9 ≤ 2999 ⌝ }
     ensures { λ _. ⌜ now (s .exit) ≡ puts (now (s .entry)) o 0 (bytes controlWidths (controlAs r)) ⌝ }
@@ -195,6 +205,7 @@ pub fn write_control(s: &mut State, o: usize, r: Control)
     put8(s, o, 8, r.address);
 }
 
+// Reads the record of a suspended operation at o.
 pub fn read_saved(s: &State, o: usize) -> Saved
     requires { ⌜ o + 22 ≤ 2999 ⌝ }
     ensures { λ r. ⌜ Each (savedAs r) (numbers savedWidths (gets (now (s .entry)) o 0 22)) ⌝ }
@@ -220,6 +231,7 @@ pub fn read_saved(s: &State, o: usize) -> Saved
     }
 }
 
+// Stores the record of a suspended operation at o.
 pub fn write_saved(s: &mut State, o: usize, r: Saved)
     requires { ⌜ o + 22 ≤ 2999 ⌝ }
     ensures { λ _. ⌜ now (s .exit) ≡ puts (now (s .entry)) o 0 (bytes savedWidths (savedAs r)) ⌝ }

@@ -7,6 +7,7 @@ ghost use Rattle.state.specs.Driver.{withGlobals};
 ghost use Rattle.state.specs.State.{view, saved};
 ghost use Rattle.state.specs.Kept.{withEpConfig, withEpType, withIntEn};
 
+// Keeps the value last written to ep_config.
 pub fn set_ep_config(s: &mut State, v: u32)
     ensures { λ _. ⌜ view (now (s .exit)) ≡ withGlobals (view (now (s .entry)))
         (withEpConfig v (view (now (s .entry)) .globals)) ⌝ }
@@ -17,6 +18,7 @@ pub fn set_ep_config(s: &mut State, v: u32)
     store_globals(s, g);
 }
 
+// Keeps the value last written to ep_type.
 pub fn set_ep_type(s: &mut State, v: u32)
     ensures { λ _. ⌜ view (now (s .exit)) ≡ withGlobals (view (now (s .entry)))
         (withEpType v (view (now (s .entry)) .globals)) ⌝ }
@@ -27,6 +29,7 @@ pub fn set_ep_type(s: &mut State, v: u32)
     store_globals(s, g);
 }
 
+// Keeps the value last written to int_en.
 pub fn set_int_en(s: &mut State, v: u8)
     ensures { λ _. ⌜ view (now (s .exit)) ≡ withGlobals (view (now (s .entry)))
         (withIntEn v (view (now (s .entry)) .globals)) ⌝ }

@@ -115,6 +115,7 @@ impl EpState {
         open: 0,
     };
 
+    // An endpoint's record as at power-on.
     pub fn new() -> EpState
         ensures { λ r. ⌜ r ≡ newEp ⌝ }
     {
@@ -136,7 +137,7 @@ impl EpState {
         self
     }
 
-    // How many packets wait.
+    // How many packets wait in the ring.
     pub fn count(self) -> u8
         ensures { λ r. ⌜ r ≡ countOf self ⌝ }
     {
@@ -260,6 +261,7 @@ pub fn load_ep(s: &State, dir: Dir, e: u8) -> EpState
     read_ep(s, EPS + k * 32)
 }
 
+// Stores the record of one direction of an endpoint.
 pub fn store_ep(s: &mut State, dir: Dir, e: u8, r: EpState)
     ensures { λ _. ⌜ view (now (s .exit)) ≡ withOn (view (now (s .entry))) dir e r ⌝ }
     ensures { λ _. ⌜ saved (now (s .exit)) ≡ saved (now (s .entry)) ⌝ }
@@ -277,6 +279,7 @@ pub fn load_len(s: &State, dir: Dir, e: u8, i: u8) -> u16
     get16(s, LENS + k * 2, 0)
 }
 
+// Stores the recorded length of slot i.
 pub fn store_len(s: &mut State, dir: Dir, e: u8, i: u8, v: u16)
     ensures { λ _. ⌜ view (now (s .exit)) ≡ withLenOn (view (now (s .entry))) dir e i v ⌝ }
     ensures { λ _. ⌜ saved (now (s .exit)) ≡ saved (now (s .entry)) ⌝ }
@@ -293,6 +296,7 @@ pub fn load_paced(s: &State, e: u8) -> u16
     get16(s, PACED + (e % 16) as usize * 2, 0)
 }
 
+// Stores the last frame of a paced IN.
 pub fn store_paced(s: &mut State, e: u8, v: u16)
     ensures { λ _. ⌜ view (now (s .exit)) ≡ withPacedOn (view (now (s .entry))) e v ⌝ }
     ensures { λ _. ⌜ saved (now (s .exit)) ≡ saved (now (s .entry)) ⌝ }
@@ -309,6 +313,7 @@ pub fn load_request(s: &State, dir: Dir, e: u8) -> Request
     read_request(s, REQUESTS + k * 8)
 }
 
+// Stores the request of one direction of an endpoint.
 pub fn store_request(s: &mut State, dir: Dir, e: u8, r: Request)
     ensures { λ _. ⌜ view (now (s .exit)) ≡ withRequestOn (view (now (s .entry))) dir e r ⌝ }
     ensures { λ _. ⌜ saved (now (s .exit)) ≡ saved (now (s .entry)) ⌝ }
@@ -318,12 +323,14 @@ pub fn store_request(s: &mut State, dir: Dir, e: u8, r: Request)
     write_request(s, REQUESTS + k * 8, r);
 }
 
+// Loads the globals.
 pub fn load_globals(s: &State) -> Globals
     ensures { λ r. ⌜ r ≡ view (now (s .entry)) .globals ⌝ }
 {
     read_globals(s, GLOBALS)
 }
 
+// Stores the globals.
 pub fn store_globals(s: &mut State, r: Globals)
     ensures { λ _. ⌜ view (now (s .exit)) ≡ withGlobals (view (now (s .entry))) r ⌝ }
     ensures { λ _. ⌜ saved (now (s .exit)) ≡ saved (now (s .entry)) ⌝ }
@@ -332,12 +339,14 @@ pub fn store_globals(s: &mut State, r: Globals)
     write_globals(s, GLOBALS, r);
 }
 
+// Loads the allocator.
 pub fn load_allocator(s: &State) -> Allocator
     ensures { λ r. ⌜ r ≡ view (now (s .entry)) .allocator ⌝ }
 {
     read_allocator(s, ALLOCATOR)
 }
 
+// Stores the allocator.
 pub fn store_allocator(s: &mut State, r: Allocator)
     ensures { λ _. ⌜ view (now (s .exit)) ≡ withAllocator (view (now (s .entry))) r ⌝ }
     ensures { λ _. ⌜ saved (now (s .exit)) ≡ saved (now (s .entry)) ⌝ }
@@ -346,12 +355,14 @@ pub fn store_allocator(s: &mut State, r: Allocator)
     write_allocator(s, ALLOCATOR, r);
 }
 
+// Loads the control request.
 pub fn load_control(s: &State) -> Control
     ensures { λ r. ⌜ r ≡ view (now (s .entry)) .control ⌝ }
 {
     read_control(s, CONTROL)
 }
 
+// Stores the control request.
 pub fn store_control(s: &mut State, r: Control)
     ensures { λ _. ⌜ view (now (s .exit)) ≡ withControl (view (now (s .entry))) r ⌝ }
     ensures { λ _. ⌜ saved (now (s .exit)) ≡ saved (now (s .entry)) ⌝ }
@@ -367,6 +378,7 @@ pub fn load_saved(s: &State) -> Saved
     read_saved(s, SAVED)
 }
 
+// Stores what is saved of a suspended operation.
 pub fn store_saved(s: &mut State, r: Saved)
     ensures { λ _. ⌜ view (now (s .exit)) ≡ view (now (s .entry)) ⌝ }
     ensures { λ _. ⌜ saved (now (s .exit)) ≡ r ⌝ }

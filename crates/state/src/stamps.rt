@@ -25,6 +25,7 @@ pub fn load_stamp(s: &State, e: u8, i: u8) -> u16
     get16(s, STAMPS + k * 2, 0)
 }
 
+// Stores the stamp of slot i of an OUT.
 pub fn store_stamp(s: &mut State, e: u8, i: u8, v: u16)
     ensures { λ _. ⌜ view (now (s .exit)) ≡ withStampOn (view (now (s .entry))) e i v ⌝ }
     ensures { λ _. ⌜ saved (now (s .exit)) ≡ saved (now (s .entry)) ⌝ }
@@ -57,7 +58,7 @@ pub fn clear_stamps(s: &mut State, e: u8)
     clear_from(s, (e % 16) as usize * 16, 16);
 }
 
-// Of every OUT endpoint.
+// Clears the stamps of every OUT.
 pub fn clear_all_stamps(s: &mut State)
     ensures { λ _. ⌜ view (now (s .exit)) ≡ noStamps (view (now (s .entry))) ⌝ }
     ensures { λ _. ⌜ saved (now (s .exit)) ≡ saved (now (s .entry)) ⌝ }

@@ -220,6 +220,7 @@ fn fresh_saved(s: &mut State)
     store_saved(s, nothing());
 }
 
+// Makes the state that an accepted start-up leaves.
 pub fn fresh(s: &mut State, size: u16, count: u16, callback: u8)
     ensures { λ _. ⌜ view (now (s .exit)) ≡ freshDriver size count callback ⌝ }
     ensures { λ _. ⌜ saved (now (s .exit)) ≡ nothing ⌝ }

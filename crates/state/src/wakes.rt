@@ -15,6 +15,7 @@ ghost use Rattle.state.specs.State.{view, saved};
 ghost use Rattle.state.specs.Wakes.{wakeCode, none-woken, woken, withCount, withCodes};
 ghost use Rattle.state.specs.Fresh.{filled};
 
+// The code of an endpoint's task: 0 to 15 for IN, 16 to 31 for OUT.
 pub fn wake_code(dir: Dir, e: u8) -> u8
     ensures { λ r. ⌜ r ≡ wakeCode dir e ⌝ }
 {
@@ -24,7 +25,7 @@ pub fn wake_code(dir: Dir, e: u8) -> u8
     }
 }
 
-// How many there are.
+// How many wake-ups the state lists.
 pub fn woken_count(s: &State) -> u8
     ensures { λ r. ⌜ r ≡ view (now (s .entry)) .wakes .count ⌝ }
 {
@@ -57,7 +58,7 @@ fn store_code(s: &mut State, i: u8, code: u8)
     put8(s, CODES + i as usize * 1, 0, code);
 }
 
-// One more, the last.
+// Adds a code at the end of the list of wake-ups; a full list stays.
 pub fn wake(s: &mut State, code: u8)
     ensures { λ _. ⌜ view (now (s .exit)) ≡ withWakes (view (now (s .entry)))
         (woken code (view (now (s .entry)) .wakes)) ⌝ }
@@ -90,7 +91,7 @@ pub fn clear_wakes(s: &mut State)
     store_count(s, 0);
 }
 
-// Start-up: every code 0.
+// Empties the list of wake-ups and clears all its codes, as a start-up does.
 pub fn fresh_wakes(s: &mut State)
     ensures { λ _. ⌜ view (now (s .exit)) ≡ withWakes (view (now (s .entry))) none-woken ⌝ }
     ensures { λ _. ⌜ saved (now (s .exit)) ≡ saved (now (s .entry)) ⌝ }

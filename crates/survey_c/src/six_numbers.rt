@@ -3,6 +3,7 @@ use recorder::recorder::Recorder;
 ghost use mathlib.Core.Path.{_≡_};
 ghost use Rattle.survey_c.specs.Recorder.{recorderIn, recorderNumbers};
 
+// The recorder that a caller's six numbers are.
 pub fn recorder_in(numbers: &[u32; 6]) -> Recorder
     ensures { λ r. ⌜ r ≡ recorderIn (now (numbers .entry)) ⌝ }
 {
@@ -16,6 +17,7 @@ pub fn recorder_in(numbers: &[u32; 6]) -> Recorder
     }
 }
 
+// The six numbers that a caller keeps of a recorder.
 pub fn recorder_numbers(r: Recorder) -> [u32; 6]
     ensures { λ s. ⌜ s ≡ recorderNumbers r ⌝ }
 {

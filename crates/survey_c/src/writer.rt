@@ -4,6 +4,7 @@ ghost use mathlib.Core.Path.{_≡_};
 ghost use Prim.Native.Nat.{min};
 ghost use Rattle.survey_c.specs.Card.{writerIn, numbersOf, resultOf};
 
+// The writer that a caller's four numbers are.
 pub fn writer_in(numbers: &[u32; 4]) -> Writer
     ensures { λ r. ⌜ r ≡ writerIn (now (numbers .entry)) ⌝ }
 {
@@ -15,6 +16,7 @@ pub fn writer_in(numbers: &[u32; 4]) -> Writer
     }
 }
 
+// The four numbers that a caller keeps of a writer.
 pub fn numbers_of(w: Writer) -> [u32; 4]
     ensures { λ r. ⌜ r ≡ numbersOf w ⌝ }
 {

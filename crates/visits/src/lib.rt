@@ -68,6 +68,7 @@ fn greatest(b: u32, c: u32) -> Reached
     }
 }
 
+// Least and greatest number of arrivals between two visits (request Thirteen), each with times that reach it.
 pub fn between_visits(a: u32, b: u32, c: u32, d: u32) -> Bounds
     ensures { λ r. ⌜ r ≡ boundsOf a b c d ⌝ }
 {
