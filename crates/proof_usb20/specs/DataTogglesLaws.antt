@@ -282,7 +282,7 @@ pub code-data-toggles : (D : Dir) (E : ℕ) → (E % 16 ≡ 0 → ⊥) → (c : 
 code-data-toggles D E h c b row xs a first e ms s =
     code-from-start (toggles D E) (laws D E (not-ep0 D E h)) c b row xs a first e ms s
 
--- DECISIONS 94, of such an endpoint, where nothing is under way
+-- DECISIONS 111, of such an endpoint, where nothing is under way
 pub tog-is-bit : (w : Track) (x : EpSeen) → Fits w x → (x .tog ≡ 0) ⊎ (x .tog ≡ 1)
 tog-is-bit w x r = by (w .bit) (r .tog)
   where

@@ -1,4 +1,4 @@
--- The recorded toggle is 0 or 1 (DECISIONS 94): of every record, EP0's and isochronous endpoints' too, in both
+-- The recorded toggle is 0 or 1 (DECISIONS 111): of every record, EP0's and isochronous endpoints' too, in both
 -- directions, whatever is under way
 use mathlib.Core.Logic.{_⊎_}
 use mathlib.Core.Path.{_≡_}
