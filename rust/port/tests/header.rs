@@ -63,7 +63,8 @@ fn of_rust(text: &str) -> Calls {
     for line in block.split(';').filter_map(|l| l.trim().strip_prefix("pub fn ")) {
         let (name, rest) = line.split_once('(').unwrap();
         let (parameters, answer) = rest.rsplit_once(')').unwrap();
-        let parameters = parameters.split(',').map(|p| plain(p.split_once(':').unwrap().1));
+        let parameters = parameters.split(',').filter(|p| !p.trim().is_empty());
+        let parameters = parameters.map(|p| plain(p.split_once(':').unwrap().1));
         let answer = answer.trim().strip_prefix("-> ").map_or("()".into(), plain);
         calls.insert(name.into(), parameters.chain([answer]).collect());
     }
