@@ -1,3 +1,5 @@
+#![tactic(auto)]
+
 ghost use Rattle.std.specs.Prelude.{◌≡◌, ◌<◌};
 ghost use Rattle.alloc.specs.Alloc.{refused, buffered_of, allocate_of, allocate_ep0_of, allocated};
 
@@ -9,7 +11,7 @@ pub mod number; // number.rt: the number of an allocation
 pub mod buffer; // buffer.rt: the lent slot buffer's size and length
 
 // An endpoint number that may be given, if there is one.
-#[derive(Drop)]
+#[derive(Clone, Copy)]
 pub enum Found {
     Number(u8),
     Nothing,
@@ -17,13 +19,13 @@ pub enum Found {
 
 // What an allocation answers: document 01's number, or the endpoint number, the offset of its buffers and how many they
 // are.
-#[derive(Drop)]
+#[derive(Clone, Copy)]
 pub enum Answer {
     Refused(u8),
     Given(u8, u32, u8),
 }
 
-#[derive(Drop)]
+#[derive(Clone, Copy)]
 pub struct Allocation {
     pub answer: Answer,
     pub after: Allocator,

@@ -1,5 +1,7 @@
 // What a call answers, as a value and as one word; the parts of the saved record and the count of wake-ups, each loaded
 // alone.
+#![tactic(auto)]
+
 pub mod loads; // loads.rt: its numbers, each loaded alone
 pub mod woken; // woken.rt: how many wake-ups an end gives
 pub mod word; // word.rt: a call's answer as one word
@@ -11,7 +13,7 @@ use regs::Access;
 // wake-ups the state has for it, in their order; of a poll, that it is not done, so many bytes at the lent slice's
 // front, a setup packet as two words, lowest byte first; of an open packet, its offset and length in the slots and its
 // stamp.
-#[derive(Drop)]
+#[derive(Clone, Copy)]
 pub enum Step {
     Refused(u8),
     Asks(Access),

@@ -3,7 +3,7 @@
 pub const CARD_LEN: usize = 8192;
 
 // What is counted of an export.
-#[derive(Drop)]
+#[derive(Clone, Copy)]
 pub struct Counts {
     pub packets: u32,
     pub samples: u32,

@@ -8,7 +8,7 @@ pub const LIST_LEN: usize = 65536;
 pub const SLOTS_LEN: usize = 1152;
 
 // What the list has of an entry, but for its bytes.
-#[derive(Drop)]
+#[derive(Clone, Copy)]
 pub struct Entry {
     pub code: u32,
     pub times: u32,

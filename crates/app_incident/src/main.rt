@@ -1,6 +1,8 @@
 // The incident, where only the port can be had: the recorded list (standard input, as bytes) is made on the port,
 // and what the Rust answered and left in the slots is taken from the record. Both exports go through the card;
 // flat-topped samples are counted in what comes back.
+#![tactic(auto)]
+
 mod card; // card.rt: packets on the card and back
 mod list; // list.rt: the recorded list
 

@@ -1,4 +1,6 @@
 // What the driver asks of the chip, in words.
+#![tactic(auto)]
+
 use bus_time::{TIME_LEN, Time};
 use calls::Step;
 use print::answers::show;

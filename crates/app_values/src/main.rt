@@ -1,4 +1,6 @@
 // Document 01's "Values to check", run: the one that is not proved, and those of the proved that these crates answer.
+#![tactic(auto)]
+
 use frame::{Frame, Index};
 use libc::STDOUT_FILENO;
 

@@ -8,10 +8,10 @@ pub const STATE_LEN: usize = 2999;
 // The bytes that are the state.
 pub type State = [u8; STATE_LEN];
 
-#[derive(Drop)]
+#[derive(Clone, Copy)]
 pub struct Bytes5(pub u8, pub u8, pub u8, pub u8, pub u8);
 
-#[derive(Drop)]
+#[derive(Clone, Copy)]
 pub struct Words5(pub u16, pub u16, pub u16, pub u16, pub u16);
 
 fn glue16(lo: u8, hi: u8) -> u16

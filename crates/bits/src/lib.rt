@@ -1,3 +1,5 @@
+#![tactic(auto)]
+
 pub mod le_bytes; // le_bytes.rt: numbers in bytes
 
 ghost use Rattle.std.specs.Prelude.{◌≡◌, ◌%◌};

@@ -1,5 +1,7 @@
 // The bus (mod.rs 1053-1106, 1187-1330): the points of its operations, one access at a time. Every function is total:
 // any number is safe.
+#![tactic(auto)]
+
 use regs::{Access, Dir};
 use state::Saved;
 
@@ -16,7 +18,7 @@ ghost use Rattle.regs.specs.Registers.{fits_in};
 pub use script_ops::points::flag_of;
 
 // Where an operation stands: what it handed out last, with what the rest of it needs.
-#[derive(Drop)]
+#[derive(Clone, Copy)]
 pub enum Point {
     Enable, // ctrl is read
     Event(u8), // the last access; the result
@@ -45,7 +47,7 @@ pub enum Point {
 }
 
 // The next access with the record of the point at which the operation stops, or its result.
-#[derive(Drop)]
+#[derive(Clone, Copy)]
 pub enum Next {
     Asks(Access, Saved),
     Ends(u16),

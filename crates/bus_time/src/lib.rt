@@ -1,6 +1,8 @@
 // Bus time as a shared limit (document 02, request Seven): the record that up to four drivers share. It has a number
 // for each driver, endpoint and direction: the byte-times of a microframe that the endpoint is charged, 0 where it is
 // not. All 0 is uncharged; any numbers are safe.
+#![tactic(auto)]
+
 ghost use Rattle.std.specs.Prelude.{◌≡◌, ◌≤◌, ◌<◌, set};
 ghost use Rattle.bus_time.specs.Time.{charge_of, entry_of, is_in_use, passes, entry_kept, keep_of};
 

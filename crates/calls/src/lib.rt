@@ -5,6 +5,8 @@
 // The driver's calls: what stops one, what it begins, what it answers. Each call is one step of the machine of calls
 // (crate `machine`) that the lent bytes are; start-up, enabling and continue also bring the record of bus time
 // (`shared_time`).
+#![tactic(auto)]
+
 pub mod start; // start.rt: calls: start-up, allocation, EP0's start
 pub mod begins; // begins.rt: the microframe, pacing, a paced advance, the interrupt
 pub mod listed_calls; // listed_calls.rt: endpoints from a configuration descriptor

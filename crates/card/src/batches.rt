@@ -14,7 +14,7 @@ use crate::stream::Found;
 
 // Some packets: how many, how many bytes of the room they take, the place behind them, and whether the next one is too
 // long for the rest.
-#[derive(Drop)]
+#[derive(Clone, Copy)]
 pub struct Taken {
     pub count: usize,
     pub used: usize,
@@ -23,7 +23,7 @@ pub struct Taken {
 }
 
 // Packets of one block that stand one behind the other: how many, and how many bytes they take.
-#[derive(Drop)]
+#[derive(Clone, Copy)]
 pub struct Stretch {
     pub count: usize,
     pub bytes: usize,

@@ -72,7 +72,7 @@ fn settle(sum: u32, words: u32) -> u16
 }
 
 // A sum of folded words, and the words' own exclusive or.
-#[derive(Drop)]
+#[derive(Clone, Copy)]
 struct Sums {
     sum: u32,
     words: u32,

@@ -1,5 +1,7 @@
 // the data CRC of USB 2.0; packets on the card as a stream of blocks, and what a reader gives; the reader of a stream;
 // the writer, one lent block at a time.
+#![tactic(auto)]
+
 pub mod crc; // crc.rt: the data CRC of USB 2.0
 pub mod stream; // stream.rt: packets on the card as a stream of blocks, and what a reader gives
 pub mod reader; // reader.rt: the reader of a stream

@@ -3,7 +3,7 @@
 
 // A writer: the number of the block it fills, how many bytes of packet data that block holds, the offset of the first
 // packet that begins in it, 65,535 if none yet, and how many bytes of the packet under way are written.
-#[derive(Drop)]
+#[derive(Clone, Copy)]
 pub struct Writer {
     pub number: u32,
     pub used: u16,
@@ -11,7 +11,7 @@ pub struct Writer {
     pub done: u16,
 }
 
-#[derive(Drop)]
+#[derive(Clone, Copy)]
 pub enum Wrote {
     // A piece of the packet: is the block full, so that it is to be stored and the next one lent, and is the packet
     // written whole?
@@ -23,7 +23,7 @@ pub enum Wrote {
     Refused(u8),
 }
 
-#[derive(Drop)]
+#[derive(Clone, Copy)]
 pub enum Finished {
     // The last block is filled, and is to be stored.
     Last,

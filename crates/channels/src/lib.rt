@@ -1,4 +1,6 @@
 // Request Ten: the set of optional channels that fits the bus time left and whose maxima total the most.
+#![tactic(auto)]
+
 ghost use Rattle.std.specs.Prelude.{◌≡◌, ◌≤◌};
 ghost use Rattle.channels.specs.Sets.{choice_of};
 ghost use Rattle.channels.specs.Channels.{listed};
@@ -14,7 +16,7 @@ const MOST_CHANNELS: usize = 16;
 
 // A channel: its maximum and its charge in byte-times; its flag, which says whether it was chosen: 1 or 0.
 #[repr(C)]
-#[derive(Drop)]
+#[derive(Clone, Copy)]
 pub struct Channel {
     pub maximum: u16,
     pub charge: u16,
@@ -23,7 +25,7 @@ pub struct Channel {
 
 // The chosen set as a count, whose bit i says whether channel i is in; the total of its maxima; a figure that no
 // fitting set exceeds; how many sets were looked at.
-#[derive(Drop)]
+#[derive(Clone, Copy)]
 pub struct Choice {
     pub set: u32,
     pub total: u32,
@@ -31,7 +33,7 @@ pub struct Choice {
     pub looked: u32,
 }
 
-#[derive(Drop)]
+#[derive(Clone, Copy)]
 pub enum Answer {
     Refused(u8),
     Best(Choice),

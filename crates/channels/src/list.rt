@@ -6,7 +6,7 @@ ghost use Rattle.channels.specs.Channels.{flag, flagged, zeros, put_at, lists_of
 use crate::Channel;
 
 // The maxima and the charges of up to 16 channels, zeros behind them.
-#[derive(Drop)]
+#[derive(Clone, Copy)]
 pub struct Lists {
     pub maxima: [u16; 16],
     pub charges: [u16; 16],

@@ -10,7 +10,7 @@ use crate::{Choice, list};
 const PERIODIC: u32 = 6000;
 
 // A set, and the total of its maxima.
-#[derive(Drop)]
+#[derive(Clone, Copy)]
 pub struct Found {
     pub set: u32,
     pub total: u32,

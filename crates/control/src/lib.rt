@@ -1,5 +1,7 @@
 // The control pipe (control.rs 26-186): one request, each stage a begin and a poll. Rows 4, 15, 10 and 9 are checked
 // here, 1 and 3 by the caller.
+#![tactic(auto)]
+
 mod begin;
 mod checks;
 mod poll;
@@ -11,7 +13,7 @@ use regs::{Access, Dir};
 use state::Saved;
 
 // Where an operation stops: what was handed out last, or which reading is awaited.
-#[derive(Drop)]
+#[derive(Clone, Copy)]
 pub enum Point {
     Wrote,
     Ack(Dir),
@@ -24,7 +26,7 @@ pub enum Point {
     Loaded(bool),
 }
 
-#[derive(Drop)]
+#[derive(Clone, Copy)]
 pub enum Begun {
     Refused(u8),
     Asks(Access, Saved),
@@ -32,7 +34,7 @@ pub enum Begun {
 }
 
 // Done brings so many bytes at the lent slice's front, Setup a setup packet as two words, lowest byte first.
-#[derive(Drop)]
+#[derive(Clone, Copy)]
 pub enum Polled {
     Refused(u8),
     NotYet,

@@ -1,4 +1,6 @@
 // Request Three: the endpoints of a configuration descriptor (USB 2.0, 9.6), read and written.
+#![tactic(auto)]
+
 ghost use Rattle.std.specs.Prelude.{◌≡◌, true, ltb};
 ghost use Rattle.descriptor.specs.Row.{is_configuration};
 ghost use Rattle.descriptor.specs.Endpoints.{of_list};
@@ -15,7 +17,7 @@ pub mod preview; // preview.rt: request Four: a configuration descriptor's endpo
 
 // An endpoint as its descriptor has it: bEndpointAddress, bits 0-1 of bmAttributes, bits 0-10 of wMaxPacketSize,
 // bInterval.
-#[derive(Drop)]
+#[derive(Clone, Copy)]
 pub struct Endpoint {
     pub address: u8,
     pub kind: u8,
@@ -24,26 +26,26 @@ pub struct Endpoint {
 }
 
 // A list of endpoints: the first `count` entries. 16 numbers in two directions are 32 addresses.
-#[derive(Drop)]
+#[derive(Clone, Copy)]
 pub struct Endpoints {
     pub entries: [Endpoint; 32],
     pub count: usize,
 }
 
-#[derive(Drop)]
+#[derive(Clone, Copy)]
 pub enum Answer {
     Refused(u8),
     Listed,
 }
 
 // The list is empty where it is refused.
-#[derive(Drop)]
+#[derive(Clone, Copy)]
 pub struct Reading {
     pub answer: Answer,
     pub list: Endpoints,
 }
 
-#[derive(Drop)]
+#[derive(Clone, Copy)]
 pub enum Written {
     Refused(u8),
     Bytes(usize),

@@ -12,7 +12,7 @@ use state::Allocator;
 
 // The copy so far: the numbers given, in the list's order, the buffers that they take, and the refusal that ended it,
 // or 0.
-#[derive(Drop)]
+#[derive(Clone, Copy)]
 pub struct Trial {
     pub after: Allocator,
     pub numbers: [u8; 32],
@@ -22,13 +22,13 @@ pub struct Trial {
 }
 
 // 17 and 18 are the whole answer.
-#[derive(Drop)]
+#[derive(Clone, Copy)]
 pub enum Said {
     Refused(u8),
     Tried,
 }
 
-#[derive(Drop)]
+#[derive(Clone, Copy)]
 pub struct Shown {
     pub said: Said,
     pub numbers: [u8; 32],

@@ -1,6 +1,8 @@
 // Start-up (mod.rs 886-951), new endpoints (endpoint.rs 18-36), EP0's start (mod.rs 1144-1178), the microframe and
 // paced endpoints (mod.rs 236-238,
 // 308-317): their points, and the first access of each.
+#![tactic(auto)]
+
 use bits::mask_with;
 use points::{CLEAR, EP0_PLACE, FRAME_NO, MAX_LEN, endpoint, point};
 use regs::{Access, Dir, Reg};
@@ -19,7 +21,7 @@ ghost use Rattle.script_ops.specs.Concrete.{concrete, go};
 ghost use Rattle.driver.specs.Points.{start_up, new_endpoint, start_ep0, microframe, set_paced, meaning, Linked};
 
 // The access that was handed out last, and what the rest needs.
-#[derive(Drop)]
+#[derive(Clone, Copy)]
 pub enum Point {
     // start-up, with the callback
     Clear(bool),
@@ -47,7 +49,7 @@ pub enum Point {
 }
 
 // The next access and the record of the point at which the operation stops, or its result, 0 where it has none.
-#[derive(Drop)]
+#[derive(Clone, Copy)]
 pub enum Next {
     Asks(Access, Saved),
     Ends(u16),

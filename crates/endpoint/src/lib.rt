@@ -1,5 +1,7 @@
 // Reads and writes (endpoint.rs 82-195), each a begin and a poll. Rows 4, 5, 9, 10 and 15 are checked here, 1 and 3 by
 // the caller. Any number is safe as an endpoint's.
+#![tactic(auto)]
+
 mod checks;
 mod read;
 mod write;
@@ -12,14 +14,14 @@ use state::Saved;
 pub use write::{begin_write, poll_write};
 
 // Where an operation stops.
-#[derive(Drop)]
+#[derive(Clone, Copy)]
 pub enum Point {
     Ack(Dir, u8), // the control word is read, to answer ACK
     Wrote, // the last write is done
     Loaded(u8), // ep_t_len is written
 }
 
-#[derive(Drop)]
+#[derive(Clone, Copy)]
 pub enum Begun {
     Refused(u8),
     Asks(Access, Saved),
@@ -27,7 +29,7 @@ pub enum Begun {
 }
 
 // Done brings so many bytes at the lent slice's front.
-#[derive(Drop)]
+#[derive(Clone, Copy)]
 pub enum Polled {
     Refused(u8),
     NotYet,

@@ -1,14 +1,16 @@
 // Frame numbers (mod.rs: microframe_index, frame_of_index, iso_in_advance, on_sof).
+#![tactic(auto)]
+
 ghost use Rattle.std.specs.Prelude.{◌≡◌, min};
 ghost use Rattle.frame.specs.Usb20.{index_of, frame_of};
 ghost use Rattle.frame.specs.Advance.{is_none, distance, previous, completions, in_previous};
 
 // The register's frame number: frame in bits 0-10, microframe in bits 13-15.
-#[derive(Drop)]
+#[derive(Clone, Copy)]
 pub struct Frame(pub u16);
 
 // The running microframe index: frame × 8 + microframe.
-#[derive(Drop)]
+#[derive(Clone, Copy)]
 pub struct Index(pub u16);
 
 // Bits 11 and 12, which are 0 in every frame number of an index: never a frame.

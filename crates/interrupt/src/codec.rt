@@ -19,7 +19,7 @@ use script_ops::points::{dir_as, flag_of};
 use state::Saved;
 
 // An inner point's numbers, with the isochronous flag or a status.
-#[derive(Drop)]
+#[derive(Clone, Copy)]
 pub struct Numbers {
     pub sub: u8,
     pub now: u8,

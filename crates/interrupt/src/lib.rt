@@ -1,4 +1,6 @@
 // The interrupt (`on_interrupt`, mod.rs 634-852) one access at a time. Every function is total: any number is safe.
+#![tactic(auto)]
+
 use isochronous::complete::Complete;
 use isochronous::late::Late;
 use isochronous::out::Check;
@@ -34,7 +36,7 @@ ghost use Rattle.interrupt.specs.Points.{interrupt, meaning, Linked};
 
 // What an entry of the interrupt has found out: whether the setup flag is set, the transfer, whether its endpoint is
 // isochronous, the frame (0 until it is read).
-#[derive(Drop)]
+#[derive(Clone, Copy)]
 pub struct Entry {
     pub setup: bool,
     pub x: Transfer,
@@ -44,7 +46,7 @@ pub struct Entry {
 
 // Where the interrupt stands: what it handed out last, with what the rest of it needs. First, of a transfer, comes
 // whether the setup flag is set, then the transfer, whether its endpoint is isochronous, the frame.
-#[derive(Drop)]
+#[derive(Clone, Copy)]
 pub enum Point {
     Frame, // frame_no is read, whose microframe index what the interrupt admits carries
     Flags, // int_fg is read
@@ -75,7 +77,7 @@ pub enum Point {
 }
 
 // The next access with the point at which the interrupt stops, or its result.
-#[derive(Drop)]
+#[derive(Clone, Copy)]
 pub enum Next {
     Asks(Access, Point),
     Ends(u16),

@@ -13,13 +13,13 @@ use script_ops::rings::is_on;
 use state::{EpState, State, load_ep};
 
 // Where it stands.
-#[derive(Drop)]
+#[derive(Clone, Copy)]
 pub enum Nak {
     Word(Dir), // a control word is read
     Wrote, // it answers NAK
 }
 
-#[derive(Drop)]
+#[derive(Clone, Copy)]
 pub enum NakNext {
     Asks(Access, Nak),
     Ends,

@@ -17,7 +17,7 @@ use script_ops::rings::is_on;
 use state::{EpState, State, load_ep};
 
 // Where a transfer that is settled stands.
-#[derive(Drop)]
+#[derive(Clone, Copy)]
 pub enum Settle {
     IsoLook(u16), // an isochronous OUT: mis_st is read; how many looks may follow
     IsoSt, // int_st is read
@@ -31,7 +31,7 @@ pub enum Settle {
 }
 
 // The next access, or the transfer as it is settled.
-#[derive(Drop)]
+#[derive(Clone, Copy)]
 pub enum SettleNext {
     Asks(Access, Settle),
     Ends(Transfer),

@@ -16,7 +16,7 @@ use script_ops::rings::is_on;
 use state::{EpState, State, load_ep, store_ep};
 
 // Where it stands.
-#[derive(Drop)]
+#[derive(Clone, Copy)]
 pub enum Toggled {
     Look(u16), // mis_st is read; how many looks may follow
     Word, // the control word is read
@@ -25,7 +25,7 @@ pub enum Toggled {
 }
 
 // The next access, or whether a packet went through.
-#[derive(Drop)]
+#[derive(Clone, Copy)]
 pub enum ToggledNext {
     Asks(Access, Toggled),
     Ends(bool),

@@ -13,13 +13,13 @@ use bits::mask_has;
 use regs::{Access, Dir, Reg, enables};
 use state::{Saved, State, load_globals, store_paced};
 
-#[derive(Drop)]
+#[derive(Clone, Copy)]
 pub enum Advance {
     FrameNo(u8), // frame_no is read, for an endpoint
     Completing(u8, u8, u16, Complete), // the endpoint completes; how often more, and the microframe to keep then
 }
 
-#[derive(Drop)]
+#[derive(Clone, Copy)]
 pub enum AdvanceNext {
     Asks(Access, Saved),
     Ends(u16),

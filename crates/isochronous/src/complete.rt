@@ -12,20 +12,20 @@ use script_ops::rings::{next_len, send, waiting};
 use state::State;
 
 // What was handed out last, of which endpoint. Nothing is awaited at either.
-#[derive(Drop)]
+#[derive(Clone, Copy)]
 pub enum Complete {
     Sent(u8), // the transmit address
     Loaded(u8), // ep_t_len
 }
 
-#[derive(Drop)]
+#[derive(Clone, Copy)]
 pub enum CompleteNext {
     Asks(Access, Complete),
     Ends,
 }
 
 // The first access, which every completion has, and its point.
-#[derive(Drop)]
+#[derive(Clone, Copy)]
 pub struct Begun {
     pub access: Access,
     pub point: Complete,

@@ -13,7 +13,7 @@ use regs::enables::in_enabled;
 use state::{Globals, State, load_ep, store_ep};
 
 // A walk's next endpoint that is not passed over, with the mask of those after it.
-#[derive(Drop)]
+#[derive(Clone, Copy)]
 pub enum Found {
     At(u8, u16),
     Nothing,

@@ -14,13 +14,13 @@ use regs::Access;
 use state::{State, load_globals};
 
 // An endpoint completes, and the endpoints that are left. Nothing is awaited.
-#[derive(Drop)]
+#[derive(Clone, Copy)]
 pub struct Late {
     pub rest: u16,
     pub completing: Complete,
 }
 
-#[derive(Drop)]
+#[derive(Clone, Copy)]
 pub enum LateNext {
     Asks(Access, Late),
     Ends,

@@ -1,5 +1,7 @@
 // isochronous IN: completions, the SOF, late entries, paced advance; isochronous OUT: arrivals; packets opened and
 // closed in place; packets queued in place.
+#![tactic(auto)]
+
 pub mod iso_in; // iso_in.rt: isochronous IN: completions, the SOF, late entries, paced advance
 pub mod advance; // advance.rt: a paced endpoint's completions
 pub mod points; // points.rt: the numbers of an advance's points, and what is saved of each

@@ -15,7 +15,7 @@ use script_ops::rows::{low, refusal};
 use state::{State, load_ep};
 
 // The row that refuses the call; an open packet's offset into the slots, its length and its stamp; or nothing to tell.
-#[derive(Drop)]
+#[derive(Clone, Copy)]
 pub enum Packet {
     Refused(u8),
     Shown(u32, u16, u16),

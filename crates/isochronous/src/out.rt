@@ -22,21 +22,21 @@ use script_ops::slots::arrive;
 use state::{State, load_globals};
 
 // Where the check stands: the endpoint, and the mask of those behind it.
-#[derive(Drop)]
+#[derive(Clone, Copy)]
 pub enum Check {
     St(u8, u16), // int_st is read
     Armed(u8, u16), // the receive address is handed out
 }
 
 // The next access with the point at which the check stops, or its end.
-#[derive(Drop)]
+#[derive(Clone, Copy)]
 pub enum CheckNext {
     Asks(Access, Check),
     Ends,
 }
 
 // The first endpoint of a mask whose slot has changed, with the mask of those behind it.
-#[derive(Drop)]
+#[derive(Clone, Copy)]
 pub enum Found {
     At(u8, u16),
     Nothing,

@@ -22,7 +22,7 @@ use script_ops::rings::is_on;
 use state::{State, load_ep, load_globals, store_globals};
 
 // Where it stands, with the endpoints that are left.
-#[derive(Drop)]
+#[derive(Clone, Copy)]
 pub enum Sof {
     Mis(u8, u16), // mis_st is read, for an endpoint
     St(u8, u16), // int_st
@@ -30,7 +30,7 @@ pub enum Sof {
     Callback, // the callback is called
 }
 
-#[derive(Drop)]
+#[derive(Clone, Copy)]
 pub enum SofNext {
     Asks(Access, Sof),
     Ends,

@@ -1,5 +1,7 @@
 // What is under way, which rows stop a call, how one ends: the machine of calls (specs/Suspended.antt) that the lent
 // bytes are.
+#![tactic(auto)]
+
 pub mod saved; // saved.rt: what is under way
 pub mod halts; // halts.rt: how a call ends
 pub mod stops; // stops.rt: what stops a call: rows 1, 3 and 4
@@ -18,7 +20,7 @@ mod driver_resumes; // driver_resumes.rt: the driver's own
 mod endpoint_resumes; // endpoint_resumes.rt: a read's or write's
 
 // What is under way: nothing, or an operation at the point where it handed out its last access.
-#[derive(Drop)]
+#[derive(Clone, Copy)]
 pub enum Suspended {
     Idle,
     Driver(driver::Point),

@@ -41,7 +41,7 @@ pub fn flag_dir_at(s: &State) -> Dir
 }
 
 // A list's endpoint: its direction, kind and number, how many are left, and how many there are.
-#[derive(Drop)]
+#[derive(Clone, Copy)]
 pub struct ListEndpoint {
     pub dir: Dir,
     pub kind: u8,
@@ -64,7 +64,7 @@ pub fn list_endpoint_at(s: &State) -> ListEndpoint
 
 // A completion of a paced advance: the advance's endpoint, how many completions come after this one, the microframe to
 // keep then, the endpoint that completes.
-#[derive(Drop)]
+#[derive(Clone, Copy)]
 pub struct Completion {
     pub e: u8,
     pub left: u8,

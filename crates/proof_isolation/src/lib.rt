@@ -1,1 +1,2 @@
 // Request Fourteen: one channel's data can't disturb another. It has no code.
+#![tactic(auto)]

@@ -1,1 +1,2 @@
 // A refusal changes nothing but what document 01 names. It has no code.
+#![tactic(auto)]

@@ -1,6 +1,8 @@
 // Readings that follow each other, brought by one call: the points in between are neither stored nor loaded, row 1 is
 // tested once and no answer is made for them. Where a number would be refused, or another row stops the call, nothing
 // is changed, and the calls are made one by one (crate `usbhs_c`, together.rt).
+#![tactic(auto)]
+
 pub mod looks; // looks.rt: looks at a SIE that is still busy
 pub mod frames; // frames.rt: the transfer's flag is cleared, and frame_no
 
@@ -33,7 +35,7 @@ use regs::{flags, mis_status};
 use state::{State, clear_wakes, load_globals, store_globals};
 
 // How far the interrupt came with frame_no and int_fg.
-#[derive(Drop)]
+#[derive(Clone, Copy)]
 pub enum Entered {
     No, // nothing is changed
     Flags, // int_fg is awaited still
@@ -41,14 +43,14 @@ pub enum Entered {
 }
 
 // How far a transfer came with mis_st, int_st and rx_len.
-#[derive(Drop)]
+#[derive(Clone, Copy)]
 pub enum Passed {
     No, // nothing is changed
     Word(u64), // to the answer with this word
 }
 
 // How far the interrupt came with all five.
-#[derive(Drop)]
+#[derive(Clone, Copy)]
 pub enum Served {
     No, // nothing is changed
     Flags(u64), // with frame_no and int_fg to the answer with this word

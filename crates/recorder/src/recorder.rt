@@ -4,7 +4,7 @@
 // The number of the block it fills, the bytes of packet data in that block and the offset of the first packet that
 // begins there, as a writer has them; the first block that is not stored for good; how many blocks from there on are
 // still to be stored, the last first; the survey's number.
-#[derive(Drop)]
+#[derive(Clone, Copy)]
 pub struct Recorder {
     pub number: u32,
     pub used: u16,
@@ -14,7 +14,7 @@ pub struct Recorder {
     pub survey: u32,
 }
 
-#[derive(Drop)]
+#[derive(Clone, Copy)]
 pub enum Recorded {
     // Where blocks are left, the last of them is to be stored first.
     Stores(Recorder),

@@ -8,7 +8,7 @@ ghost use Rattle.recorder.specs.Ring.{end_record, filled_room, end_room};
 use card::writer::{Finished, Writer, Wrote};
 
 // A piece of a packet: the writer after it, and whether the packet is whole.
-#[derive(Drop)]
+#[derive(Clone, Copy)]
 struct Put {
     next: Writer,
     whole: bool,

@@ -1,4 +1,6 @@
 // The chip's registers as this port numbers and packs them: what a reading's bits say, and the words that are written.
+#![tactic(auto)]
+
 pub mod control_word;
 pub mod ctrl;
 pub mod enables;
@@ -9,7 +11,7 @@ pub mod registers;
 pub mod status;
 
 // The registers that the driver reads and writes, but for the addresses of buffers (see Access).
-#[derive(Drop)]
+#[derive(Clone, Copy)]
 pub enum Reg {
     IntFg,
     IntSt,
@@ -30,7 +32,7 @@ pub enum Reg {
 }
 
 // An endpoint's direction, as the host sees it.
-#[derive(Drop)]
+#[derive(Clone, Copy)]
 pub enum Dir {
     Out,
     In,
@@ -39,7 +41,7 @@ pub enum Dir {
 // What one call hands out: a reading, a write of a value, the write of a receive, transmit or EP0 buffer address
 // (ep_rx_dma, ep_tx_dma, ep0_dma), a wait in microseconds, the start-of-frame callback.
 // The number beside a register is the endpoint's, 0 where the register has none; then comes the value or the address.
-#[derive(Drop)]
+#[derive(Clone, Copy)]
 pub enum Access {
     Read(Reg, u8),
     Write(Reg, u8, u32),
@@ -51,7 +53,7 @@ pub enum Access {
 }
 
 // The token of a transaction, as the interrupt status shows it.
-#[derive(Drop)]
+#[derive(Clone, Copy)]
 pub enum Token {
     Out,
     Sof,

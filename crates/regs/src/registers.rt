@@ -4,7 +4,7 @@ ghost use Rattle.regs.specs.Registers.{number_of, width_of, fits_in, ctrl_of};
 use crate::{Dir, Reg};
 
 // A register's number, and how many bits a reading of it has; 0 for one that is never read.
-#[derive(Drop)]
+#[derive(Clone, Copy)]
 struct NumberWidth(u8, u8);
 
 fn facts(reg: Reg) -> NumberWidth

@@ -1,5 +1,7 @@
 // The rings of isochronous packets, on an endpoint's record by value. Head and tail are 8-bit counters that run free.
 // Every function is total: any number is safe.
+#![tactic(auto)]
+
 use state::EpState;
 
 pub mod marks; // marks.rt: marks, length by marks and copies in the slots of the lent buffer
@@ -123,7 +125,7 @@ pub fn completed(mut s: EpState) -> EpState
 }
 
 // The address to load next (mod.rs 595).
-#[derive(Drop)]
+#[derive(Clone, Copy)]
 pub enum Next {
     At(u32),
     Nothing,

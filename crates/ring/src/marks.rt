@@ -144,7 +144,7 @@ fn armed_words(max: u16) -> u16
     if n < 1 { 1 } else { n }
 }
 
-#[derive(Drop)]
+#[derive(Clone, Copy)]
 struct Bytes4(u8, u8, u8, u8);
 
 // The four bytes from place i on.

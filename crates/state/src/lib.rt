@@ -1,5 +1,7 @@
 // The driver's one state, in lent bytes. Only this crate sees bytes: others load and store records by value, and their
 // contracts speak of `view` and `saved`. Any bytes are a state; all 0 is before the first start-up.
+#![tactic(auto)]
+
 use bits::le_bytes::{get16, put16};
 use codec::{
     read_allocator, read_control, read_ep, read_globals, read_request, read_saved, write_allocator,
@@ -51,7 +53,7 @@ const SAVED: usize = 0;
 
 // Per endpoint and direction, as in the Rust without the waker and the shortest length: flags are 0 or 1, two of them
 // in 16 bits so that a record is 32 bytes; `lens` stands apart.
-#[derive(Drop)]
+#[derive(Clone, Copy)]
 pub struct EpState {
     pub ready: u8,
     pub len: u16,
@@ -145,7 +147,7 @@ pub fn by_loan(s: EpState) -> EpState
 
 // The buffers and the endpoint numbers: buffer size and count, the next free buffer; a bit for each number, taken in a
 // direction, taken by a sort (isochronous or other) in either, and allocated in a direction.
-#[derive(Drop)]
+#[derive(Clone, Copy)]
 pub struct Allocator {
     pub size: u16,
     pub count: u16,
@@ -160,7 +162,7 @@ pub struct Allocator {
 
 // What the Rust keeps in statics beside the endpoints, the three registers that are kept and never read, and the
 // microframe index of the frame reading with which the interrupt under way began.
-#[derive(Drop)]
+#[derive(Clone, Copy)]
 pub struct Globals {
     pub stage: u8,
     pub callback: u8,
@@ -181,7 +183,7 @@ pub struct Globals {
 }
 
 // A read or a write that was begun on an endpoint (1, else 0), with its begin's length.
-#[derive(Drop)]
+#[derive(Clone, Copy)]
 pub struct Request {
     pub begun: u32,
     pub length: u32,
@@ -189,7 +191,7 @@ pub struct Request {
 
 // The control pipe's one request: its sort (0 none, 1 setup, 2 data_out, 3 data_in, 4 accept), its begin's length,
 // whether it is the last data_in, which wait of it comes next, and the address of accept_set_address.
-#[derive(Drop)]
+#[derive(Clone, Copy)]
 pub struct Control {
     pub sort: u8,
     pub length: u32,
@@ -200,7 +202,7 @@ pub struct Control {
 }
 
 // The suspended operation: its point as a number (0: none) and what the rest of it needs, unused fields 0.
-#[derive(Drop)]
+#[derive(Clone, Copy)]
 pub struct Saved {
     pub tag: u8,
     pub sub: u8,

@@ -1,4 +1,6 @@
 // What the benchmark in bench/ measures: a record is loaded, its head and one length change, and it is stored.
+#![tactic(auto)]
+
 ghost use Rattle.std.specs.Prelude.{◌≡◌};
 ghost use Rattle.state.specs.State.{view};
 ghost use Rattle.state_bench.specs.Push.{pushed};

@@ -1,6 +1,8 @@
 // The calls that take no driver, for programs in other languages (include/usbhs_survey.h): the best set of channels,
 // the arrivals between visits, packets on the card, a configuration descriptor's endpoints. Any numbers are safe. Each
 // call answers one word; where it is refused, nothing is written.
+#![tactic(auto)]
+
 mod rooms; // rooms.rt: an answer's numbers in the caller's rooms
 mod six_numbers; // six_numbers.rt: a recorder as six numbers
 mod words; // words.rt: an answer as one word

@@ -1,6 +1,8 @@
 // The driver's calls for programs in other languages (include/usbhs.h): a direction is 0 for OUT, else IN, a flag 0 for
 // no, else yes, and any number is safe. Each call answers one word (crate `call_answer_word`), a question its number.
 // `time` is the record of bus time that up to four drivers share, `driver` the caller's number in it, modulo 4.
+#![tactic(auto)]
+
 pub mod inputs; // inputs.rt: directions and flags as numbers
 pub mod listed; // listed.rt: endpoints from a configuration descriptor
 pub mod together; // together.rt: readings that come in a row, brought by one call

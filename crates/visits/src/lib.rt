@@ -1,12 +1,14 @@
 // How many packets may arrive between two visits of a reader, and so whether fifteen slots will do. In microframes: a
 // and b are the least and the greatest distance from a visit to the next, c and d those from an arrival to the next.
+#![tactic(auto)]
+
 ghost use Rattle.std.specs.Prelude.{◌≡◌, ◌+◌, ◌≤◌, ◌<◌};
 ghost use Rattle.visits.specs.Limits.{no_distance, no_limits};
 ghost use Rattle.visits.specs.Bounds.{least_of, greatest_of, bounds_of};
 
 // A number of arrivals, and times that reach it: the first arrival after the visit, and the distance from each arrival
 // to the next.
-#[derive(Drop)]
+#[derive(Clone, Copy)]
 pub struct Reached {
     pub arrivals: u32,
     pub first: u32,
@@ -14,7 +16,7 @@ pub struct Reached {
 }
 
 // Row 23, or the least and the greatest number of arrivals in one span between visits.
-#[derive(Drop)]
+#[derive(Clone, Copy)]
 pub enum Bounds {
     Refused(u8),
     Between(Reached, Reached),
