@@ -1,0 +1,7 @@
+use Rattle.alloc.proofs.number.free_number.Goals as goal
+
+pub returns-then-is_free : goal.returns-then-is_free
+returns-then-is_free c = simp (← c.is_free.ensures, c.if-is_free.true)
+
+pub returns : goal.returns
+returns c = simp (← c.is_free.ensures, c.if-is_free.false)

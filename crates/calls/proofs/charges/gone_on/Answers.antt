@@ -1,0 +1,12 @@
+use mathlib.Core.List.{[]}
+use Rattle.machine.specs.Suspended.{answer_of}
+use Rattle.calls.specs.Sharing.{going}
+use Rattle.calls.proofs.Unasked.{unasked, unmoved}
+use Rattle.calls.proofs.charges.gone_on.Goals as goal
+
+pub returns-in-Asks : goal.returns-in-Asks
+returns-in-Asks c = simp c.in-Asks.is c.after_access.ensures
+
+pub returns-in_default : goal.returns-in_default
+returns-in_default c =
+    unmoved _ (answer_of c.args.step [] x) (unasked c.args.step x c.in_default.keys2) c.args.driver going d

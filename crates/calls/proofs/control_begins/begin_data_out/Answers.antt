@@ -1,0 +1,16 @@
+use Rattle.script.specs.Calls as calls
+use Rattle.machine.specs.ContractsLaws.{idled, other-begun, other-busy}
+use Rattle.calls.proofs.control_begins.begin_data_out.Goals as goal
+
+pub begun_control-requires : goal.begun_control-requires
+begun_control-requires c =
+    idled _ _ (c.data_out-x.ensures.s_unchanged, c.data_out-x.ensures.linked_begun) c.is_idle.ensures c.if-is_idle.true
+
+pub returns-then-is_idle : goal.returns-then-is_idle
+returns-then-is_idle c =
+    other-begun (calls.BeginDataOut c.args.n c.args.first) _ c.is_idle.ensures
+    c.begun_control.result _ _ c.if-is_idle.true (c.data_out-x.ensures.by_index, (c.data_out-x.ensures.s_unchanged, c.data_out-x.ensures.linked_begun)) (c.begun_control.ensures.steps_to, c.begun_control.ensures.saved_by_answer)
+
+pub returns : goal.returns
+returns c =
+    other-busy (calls.BeginDataOut c.args.n c.args.first) _ c.is_idle.ensures c.if-is_idle.false

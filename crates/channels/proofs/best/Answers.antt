@@ -1,0 +1,4 @@
+use Rattle.channels.proofs.best.Goals as goal
+
+pub returns : goal.returns
+returns c = rw c.choose.ensures

@@ -1,0 +1,16 @@
+use mathlib.Core.Path.{refl}
+use Rattle.control.proofs.Laws.{accepted, accept-refused}
+use Rattle.control.proofs.begin.accept.Goals as goal
+
+pub returns-then-row-eq0 : goal.returns-then-row-eq0
+returns-then-row-eq0 c =
+    accepted _ _ (c.set_request.ensures.s_after, c.set_request.ensures.s_unchanged) c.load_globals.ensures
+    c.begin_row-row.ensures c.if-row-eq0.true (c.status_in.ensures.by_index, (c.status_in.ensures.s_unchanged, c.status_in.ensures.linked_begun))
+
+pub returns : goal.returns
+returns c =
+    record {
+        by_index = λ b. accept-refused _ b _ c.load_globals.ensures c.begin_row-row.ensures c.if-row-eq0.false;
+        s_unchanged = refl;
+        linked_begun = tt;
+    }

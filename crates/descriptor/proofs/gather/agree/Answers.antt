@@ -1,0 +1,75 @@
+use mathlib.Core.Path.{sym, ◌∙◌}
+use mathlib.Core.Bool.{true, false}
+use native.Mathlib.Omega.{arith}
+use lib.ListN.{length}
+use borrow.Author.Tests.{not-true, not_false}
+use Rattle.descriptor.specs.Endpoints.{listed}
+use Rattle.descriptor.specs.WalkLaws.{On, on, begins, agree_at, agree-over}
+use Rattle.descriptor.proofs.gather.agree.Goals as goal
+
+pub bounds-bytes-0 : goal.bounds-bytes-0
+bounds-bytes-0 c = omega (arith, (begins _ c.requires.0).some)
+
+pub loop-at-init : goal.loop-at-init
+loop-at-init c =
+    let b = begins c.args.bytes.now c.requires.0 in
+    
+    (omega (arith, b.fits), length c.args.bytes.now, false, rw c.wide-at.ensures b.row, rw c.wide-at.ensures)
+
+-- the descriptor at `at`, and the row after it
+here : (p : tie.In-loop invariant_loop decreases_loop)
+    → let a = p.before.before.before.before.before.args in
+    let k = p.before.loop in
+    On k.invariant.1 a.bytes.now k.at a.zeroth k.now-in
+here p =
+    let v = p.before.loop.invariant in
+    on v.1 v.2 _ _ _ _ (λ j. omega (arith, p.before.before.before.before.shared-slice-known.given j))
+    (omega arith) v.3
+
+pub setting-now_in-requires : goal.setting-now_in-requires
+setting-now_in-requires c = (here c).sound
+
+pub agrees-requires : goal.agrees-requires
+agrees-requires c =
+    record {
+        sound = (here (c)).sound;
+        tidy = c.requires.1;
+    }
+
+pub returns-then-not-agrees : goal.returns-then-not-agrees
+returns-then-not-agrees c =
+    let y = sym c.agrees.ensures ∙ not-true _ c.if-not-agrees.true in
+    sym (agree_at _ _ _ _ _ (here (c)) (listed c.args.list)
+    ∙ rw (rw c.setting-now_in.ensures at y)) ∙ c.loop-at.invariant.4
+
+pub bounds-bytes-at : goal.bounds-bytes-at
+bounds-bytes-at c = omega arith
+
+pub overflow_add-at : goal.overflow_add-at
+overflow_add-at c = omega (arith, c.shared_slice_known-in-loop-at-1.given c.loop-at.at)
+
+pub loop-at-smaller : goal.loop-at-smaller
+loop-at-smaller c =
+    let m = (here (c)).sound.here.moves in
+    
+    omega arith
+
+pub loop-at-preserved : goal.loop-at-preserved
+loop-at-preserved c =
+    let o = here (c) in
+    let f = o.sound.here.fits in
+    
+    let y = sym c.agrees.ensures ∙ not_false _ c.if-not-agrees.false in
+    (
+      omega arith,
+      o.left,
+      o.inside,
+      rw c.wide-at-in-loop-at.ensures o.row,
+      rw (c.setting-now_in.ensures, c.wide-at-in-loop-at.ensures) (sym (agree_at _ _ _ _ _ o (listed c.args.list)
+          ∙ rw (rw c.setting-now_in.ensures at y)) ∙ c.loop-at.invariant.4),
+    )
+
+pub returns : goal.returns
+returns c =
+    sym (agree-over c.loop-at.invariant.1 c.args.bytes.now c.loop-at.at c.args.zeroth c.loop-at.now-in (omega arith)
+    (listed c.args.list)) ∙ c.loop-at.invariant.4

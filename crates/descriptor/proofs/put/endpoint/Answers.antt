@@ -1,0 +1,9 @@
+use mathlib.Core.Path.{◌∙◌}
+use Rattle.descriptor.proofs.put.endpoint.Goals as goal
+
+pub returns : goal.returns
+returns c =
+    c.put.ensures ∙ rw (
+      c.low.ensures,
+      c.high.ensures,
+    )

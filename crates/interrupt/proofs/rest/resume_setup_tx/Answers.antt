@@ -1,0 +1,10 @@
+use Rattle.interrupt.specs.Resumes.{goes_on_lem}
+use Rattle.interrupt.specs.Sites.{at-site}
+use Rattle.interrupt.specs.Points.{fits_at}
+use mathlib.Core.Path.{refl}
+use Rattle.interrupt.proofs.rest.resume_setup_tx.Goals as goal
+
+pub returns : goal.returns
+unfolding fits_at
+returns c =
+    λ v. goes_on_lem (at-site 24 c.requires refl) refl (c.after_setup_tx.ensures.0 v) c.after_setup_tx.ensures.1

@@ -1,0 +1,12 @@
+use Rattle.interrupt.specs.Resumes.{goes_on_lem}
+use Rattle.interrupt.specs.Sites.{at-site}
+use Rattle.interrupt.specs.declared.Point.TheVariants as point
+use Rattle.interrupt.specs.Points.{fits_at}
+use mathlib.Core.Path.{refl, ap}
+use Rattle.interrupt.proofs.resume.resume_suspend.Goals as goal
+
+pub returns : goal.returns
+unfolding fits_at
+returns c =
+    let here = at-site 3 c.requires (ap point.Suspend c.st_byte-f.ensures) in
+    λ v b. goes_on_lem here refl (c.after_suspend.ensures.0 v b) c.after_suspend.ensures.1

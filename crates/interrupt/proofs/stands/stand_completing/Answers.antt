@@ -1,0 +1,5 @@
+use Rattle.interrupt.specs.StandsLaws.{stands_at}
+use Rattle.interrupt.proofs.stands.stand_completing.Goals as goal
+
+pub returns : goal.returns
+returns c = stands_at c.stand.ensures (simp (c.code.ensures, c.complete_as.ensures))

@@ -1,0 +1,11 @@
+use mathlib.Core.Path.{subst}
+use Rattle.interrupt.specs.Toggled as toggled
+use Rattle.interrupt.specs.StopsLaws.{pauses-at, goes_on_lem}
+use Rattle.interrupt.proofs.tokens.then_toggled.Goals as goal
+
+pub returns-in-Asks : goal.returns-in-Asks
+returns-in-Asks c =
+    pauses-at c.stand_toggled.ensures (subst toggled.Linked c.in-Asks.is c.requires) (simp c.in-Asks.is)
+
+pub returns-in-Ends : goal.returns-in-Ends
+returns-in-Ends c = goes_on_lem c.after_passing.ensures (simp c.in-Ends.is)

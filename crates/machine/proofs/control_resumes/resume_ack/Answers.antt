@@ -1,0 +1,18 @@
+use Rattle.machine.specs.PointsStandsLaws.{at-point, goes_to, stays_at}
+use Rattle.machine.specs.ControlLaws.{control}
+use Rattle.control.specs.declared.Point.TheVariants as point
+use mathlib.Core.Path.{refl, ap, sym, ◌∙◌}
+use Rattle.machine.proofs.control_resumes.resume_ack.Goals as goal
+
+pub byte-requires : goal.byte-requires
+byte-requires c = sym c.fits.ensures ∙ c.if-fits.true
+
+pub returns-then-fits : goal.returns-then-fits
+returns-then-fits c =
+    let here = at-point control 1 c.requires (ap point.Ack c.dir_at-d.ensures) in
+    λ b. goes_to control here (sym c.fits.ensures ∙ c.if-fits.true) c.stand_wrote.ensures refl (simp
+    (c.ctrl_of-reg.ensures, c.ack-w.ensures, c.byte.ensures))
+
+pub returns : goal.returns
+returns c =
+    λ b. stays_at control (at-point control 1 c.requires refl) (sym c.fits.ensures ∙ c.if-fits.false)

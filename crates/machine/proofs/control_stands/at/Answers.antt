@@ -1,0 +1,5 @@
+use mathlib.Core.Path.{◌∙◌}
+use Rattle.machine.proofs.control_stands.at.Goals as goal
+
+pub returns : goal.returns
+returns c = (c.stand.ensures.0, (c.stand.ensures.1.0, c.stand.ensures.1.1 ∙ c.point.ensures))

@@ -1,0 +1,13 @@
+use Rattle.machine.specs.PointsStandsLaws.{leads-to}
+use Rattle.machine.specs.DriverLaws.{driver}
+use Rattle.driver.specs.Announce.{announcing}
+use Rattle.script_ops.specs.Concrete.{go}
+use Rattle.state.specs.State.{view}
+use mathlib.Core.Path.{refl}
+use Rattle.machine.proofs.driver_resumes.announce.Goals as goal
+
+pub returns : goal.returns
+returns c =
+    leads-to driver (λ b. go (announcing c.args.left c.args.total c.args.dir c.args.e) (view c.args.s.now) b)
+    c.stand_list_max_len.ensures refl
+    (λ b. simp (← c.load_ep-r.ensures))

@@ -1,0 +1,9 @@
+use Rattle.machine.specs.PointsStandsLaws.{at-point, goes_to}
+use Rattle.machine.specs.DriverLaws.{driver}
+use mathlib.Core.Path.{refl}
+use Rattle.machine.proofs.driver_resumes.resume_ep0_max_len.Goals as goal
+
+pub returns : goal.returns
+returns c =
+    let here = at-point driver 10 c.requires refl in
+    λ v b. goes_to driver here refl c.stand_ep0_rx.ensures refl (simp c.ep0_word-w.ensures)

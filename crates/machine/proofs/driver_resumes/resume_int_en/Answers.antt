@@ -1,0 +1,7 @@
+use Rattle.machine.specs.PointsStandsLaws.{at-point, comes-to}
+use Rattle.machine.specs.DriverLaws.{driver}
+use mathlib.Core.Path.{refl}
+use Rattle.machine.proofs.driver_resumes.resume_int_en.Goals as goal
+
+pub returns : goal.returns
+returns c = λ v b. comes-to driver (at-point driver 6 c.requires refl) refl c.stop.ensures refl

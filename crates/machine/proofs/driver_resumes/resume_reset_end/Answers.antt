@@ -1,0 +1,10 @@
+use Rattle.machine.specs.PointsStandsLaws.{at-point, goes_to}
+use Rattle.machine.specs.DriverLaws.{driver}
+use Rattle.driver.specs.declared.Point.TheVariants as point
+use mathlib.Core.Path.{refl, ap}
+use Rattle.machine.proofs.driver_resumes.resume_reset_end.Goals as goal
+
+pub returns : goal.returns
+returns c =
+    λ v b. goes_to driver (at-point driver 3 c.requires (ap point.ResetEnd c.on_at-on.ensures))
+    refl c.stand_host.ensures refl (simp c.phy_suspendm-w.ensures)

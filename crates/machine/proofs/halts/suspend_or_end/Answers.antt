@@ -1,0 +1,19 @@
+use Rattle.machine.specs.declared.Suspended.TheVariants as under
+use Rattle.machine.specs.StandsLaws.{suspends}
+use Rattle.machine.specs.PointsStandsLaws.{stands_at}
+use Rattle.machine.specs.Fits.{linked}
+use Rattle.driver.specs.Codec.{decode}
+use mathlib.Core.Path.{◌∙◌}
+use Rattle.machine.proofs.halts.suspend_or_end.Goals as goal
+
+pub returns-in-Asks : goal.returns-in-Asks
+returns-in-Asks c =
+    let link = linked _ _ _ c.in-Asks.is c.requires in
+    suspends (stands_at {u = under.Driver (decode _)} c.stand.ensures link.1) (λ b. simp (c.in-Asks.is, link.0))
+
+pub returns-in-Ends : goal.returns-in-Ends
+returns-in-Ends c =
+    record {
+        steps_to = λ b. c.stop.ensures.there b ∙ simp c.in-Ends.is;
+        stored = c.stop.ensures.stored;
+    }

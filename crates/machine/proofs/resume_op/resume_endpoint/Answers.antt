@@ -1,0 +1,17 @@
+use Rattle.machine.specs.PointsStandsLaws.{at_last}
+use Rattle.machine.specs.EndpointLaws.{endpoint, first}
+use Rattle.state.specs.State.{saved}
+use Rattle.machine.proofs.resume_op.resume_endpoint.Goals as goal
+
+pub resume_wrote-requires : goal.resume_wrote-requires
+resume_wrote-requires c =
+    at_last endpoint c.args.s.now c.requires c.sub_byte-k.ensures (first (saved c.args.s.now) _ c.in_default.rest)
+
+pub returns-in-1 : goal.returns-in-1
+returns-in-1 c = c.resume_ack.ensures
+
+pub returns-in-2 : goal.returns-in-2
+returns-in-2 c = c.resume_loaded.ensures _
+
+pub returns-in_default : goal.returns-in_default
+returns-in_default c = c.resume_wrote.ensures _

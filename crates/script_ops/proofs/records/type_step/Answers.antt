@@ -1,0 +1,10 @@
+use Rattle.script_ops.specs.Rings.{type_step}
+use Rattle.state.specs.Kept.{with_ep_type}
+use Rattle.script_ops.proofs.Switching.{stepped}
+use Rattle.script_ops.proofs.records.type_step.Goals as goal
+
+pub returns : goal.returns
+unfolding type_step
+returns c =
+    stepped c.args.s.now _ _ _ (λ g. g.ep_type) with_ep_type _ _
+    c.load_globals-g.ensures c.switched-v.ensures (c.set_ep_type.ensures.s_after, c.set_ep_type.ensures.s_unchanged)

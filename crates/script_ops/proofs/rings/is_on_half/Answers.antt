@@ -1,0 +1,7 @@
+use mathlib.Core.Path.{refl}
+use Rattle.script.specs.Statics.{is_on}
+use Rattle.script_ops.proofs.rings.is_on_half.Goals as goal
+
+pub returns : goal.returns
+unfolding is_on
+returns c = refl

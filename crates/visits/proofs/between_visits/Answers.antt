@@ -1,0 +1,38 @@
+use mathlib.Core.Path.{sym, ◌∙◌}
+use native.Mathlib.Omega.{arith}
+use Rattle.visits.specs.Limits.{row23}
+use Rattle.visits.specs.LimitsLaws.{limits-from, limits-upto, limits-order}
+use Rattle.visits.specs.Bounds.{bounds_of}
+use Rattle.visits.proofs.between_visits.Goals as goal
+
+pub returns-then-no_limits : goal.returns-then-no_limits
+unfolding bounds_of row23
+returns-then-no_limits c = simp (← c.no_limits.ensures, c.if-no_limits.true)
+
+pub returns-then-no_limits-2 : goal.returns-then-no_limits-2
+unfolding bounds_of row23
+returns-then-no_limits-2 c =
+    simp (← c.no_limits-2.ensures, c.if-no_limits-2.true, ← c.no_limits.ensures, c.if-no_limits.false)
+
+pub least-l-requires : goal.least-l-requires
+least-l-requires c =
+    let w = sym c.no_limits-2.ensures ∙ c.if-no_limits-2.false in
+    omega (arith, limits-from _ _ w, limits-order _ _ w)
+
+pub greatest-g-requires : goal.greatest-g-requires
+greatest-g-requires c =
+    let v = sym c.no_limits.ensures ∙ c.if-no_limits.false in
+    let w = sym c.no_limits-2.ensures ∙ c.if-no_limits-2.false in
+    omega (arith, limits-upto _ _ v, limits-from _ _ w, limits-order _ _ w, limits-upto _ _ w)
+
+pub returns : goal.returns
+unfolding bounds_of row23
+returns c =
+    simp (
+      ← c.no_limits-2.ensures,
+      c.if-no_limits-2.false,
+      ← c.no_limits.ensures,
+      c.if-no_limits.false,
+      c.least-l.ensures,
+      c.greatest-g.ensures,
+    )
