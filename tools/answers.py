@@ -100,6 +100,7 @@ class Fn:
             t=parts[-1]
             for x in reversed(parts[:-1]): t=f'({x}, {t})'
             return t
+        if norm(old).startswith('sized-arg') and rest[:2]==['given','0'] and len(rest)==2: return '(omega arith)'
         return '.'.join(head+rest)
 
 PATH=re.compile(r'(?<![^\s(){};,])('+IDENT+r')((?:\.'+IDENT+r')*)')
@@ -108,6 +109,7 @@ def convert_body(fn, P, body, var):
     env={var:(P,[])}
     def resolve(m):
         v=m[1]; segs=[x for x in m[2].split('.') if x]
+        if v=='at' and not segs: return m[0]
         if v in env:
             Q,s0=env[v]; return fn.path(Q,s0+segs)
         return m[0]
@@ -165,6 +167,40 @@ def tail_tuple(body, names):
     if len(parts)!=len(names): return None
     return head.rstrip()+('\n' if head.strip() else '')+'    record {\n'+'\n'.join(f'        {n} = {p};' for n,p in zip(names,parts))+'\n    }'
 
+def clausewise(d, n, names, body):
+    """an answer for each clause: the parts of one term"""
+    t=body.strip()
+    # leading lets
+    head=''
+    depth=0
+    m=re.match(r'(?s)((?:let\b.*?\bin\s+)*)(.*)$',t)
+    # find the last top-level " in" of leading lets
+    pos=0
+    while re.match(r'let\b',t[pos:]):
+        i=pos; nest=0
+        toks=re.finditer(r'\blet\b|\bin\b|[(\[{]|[)\]}]',t[pos:])
+        cnt=0; end=None
+        for k in toks:
+            w=k[0]
+            if w in '([{': nest+=1
+            elif w in ')]}': nest-=1
+            elif nest==0 and w=='let': cnt+=1
+            elif nest==0 and w=='in':
+                cnt-=1
+                if cnt==0: end=pos+k.end(); break
+        if end is None: return None
+        pos=end
+        while pos<len(t) and t[pos] in ' \n': pos+=1
+    head,tail=t[:pos],t[pos:]
+    if re.match(r'(rw|simp|elim|search|grind|omega|cc)\b',tail): return None
+    out=[]
+    for k,nm in enumerate(names):
+        proj='.1'*k+('.0' if k<len(names)-1 else '')
+        b=(head.rstrip()+'\n    ' if head else '')+f'({tail}){proj}'
+        gn=f'{n}-clause-{nm}'
+        out.append('\n'.join(d.comment*(k==0)+[f'pub {gn} : goal.{gn}']+d.unf+[f'{gn} c =\n    {b}']))
+    return '\n\n'.join(out)
+
 def filter_uses(uses, text, drop):
     words=set(re.findall(r'[^\s(){}.;,@"«»]+',text))
     out=[]
@@ -185,6 +221,28 @@ def filter_uses(uses, text, drop):
             if m and not drop(m[1]):
                 n=m[2] or m[1].split('.')[-1]
                 if n in words: out.append(u.strip())
+    return out
+
+def with_arith(uses, text):
+    if not re.search(r'\barith\b', text): return uses
+    if any(re.search(r'[{ ,]arith[,} ]', u) for u in uses): return uses
+    for i,u in enumerate(uses):
+        m=re.match(r'use Rattle\.std\.proofs\.Common\.\{(.*)\}$',u)
+        if m:
+            return uses[:i]+[f'use Rattle.std.proofs.Common.{{{m[1]}, arith}}']+uses[i+1:]
+    return ['use Rattle.std.proofs.Common.{arith}']+uses
+
+def args_of(s):
+    """the arguments of an application, each with its parentheses"""
+    out=[]; d=0; cur=''
+    for ch in s.strip():
+        if ch in '([{': d+=1
+        if ch in ')]}': d-=1
+        if ch.isspace() and d==0:
+            if cur: out.append(cur)
+            cur=''
+        else: cur+=ch
+    if cur: out.append(cur)
     return out
 
 TRIVIAL=re.compile(r'^search rules$')
@@ -225,6 +283,8 @@ def convert(crate, folder, names, say):
             if nm and len(nm)>1:
                 r=tail_tuple(new,nm)
                 if r is None:
+                    done=clausewise(d,n,nm,new)
+                    if done: ans.append(done); stats['clausewise']+=1; continue
                     notes.append(f'goal {n}: clauses {nm}, not a tuple'); stats['nontuple']+=1
                 else: new=r
             stats['answers']+=1
@@ -251,15 +311,27 @@ def convert(crate, folder, names, say):
             t='\n'.join(d.comment+d.raw)
             if 'tie.' in t: notes.append(f'helper {d.name} speaks of tie'); stats['tiehelper']+=1
             ans.append(t); 
+    if loops and not inv and needdefs:
+        terms=args_of(re.sub(r'^tie\.Need-\S+','',needdefs[0].sig))
+        if len(terms)==2*len(loops):
+            for k,l in enumerate(loops):
+                vs=l[1]; ch=changed[k]
+                exp=[(f'l.{v}' if not c else f'l.initial.{v}') for v,c in zip(vs,ch)]+[f'l.{v}' for v,c in zip(vs,ch) if c]
+                for kind,term in (('invariant',terms[2*k]),('decreases',terms[2*k+1])):
+                    nn=f'{kind}-{l[0][1]}'
+                    term=term[1:-1] if term.startswith('(') else term
+                    inv.append(f'abbrev pub {nn} : goal.{nn}\n{nn} l = {term} '+' '.join(exp))
+                    stats['invariants']+=1
+        else: notes.append(f'loops {len(loops)} but terms {terms}')
     base=f'crates/{crate}/proofs/{folder}'
     if inv:
         t='\n\n'.join(inv)
-        open(base+'/Invariants.antt','w').write('\n'.join(filter_uses(uses,t,drop)+[f'use {mod}.Given as goal'])+'\n\n'+t+'\n')
+        open(base+'/Invariants.antt','w').write('\n'.join(with_arith(filter_uses(uses,t,drop),t)+[f'use {mod}.Given as goal'])+'\n\n'+t+'\n')
     real=[a for a in ans]
     anyans=any(re.search(r'^pub \S+ : goal\.',a,re.M) for a in ans)
     if ans and anyans:
         t='\n\n'.join(ans)
-        open(base+'/Answers.antt','w').write('\n'.join(filter_uses(uses,t,drop)+[f'use {mod}.Goals as goal'])+'\n\n'+t+'\n')
+        open(base+'/Answers.antt','w').write('\n'.join(with_arith(filter_uses(uses,t,drop),t)+[f'use {mod}.Goals as goal'])+'\n\n'+t+'\n')
     os.remove(cur)
     if not os.listdir(base): os.rmdir(base)
     for u in fn.unknown: notes.append(u)

@@ -2,5 +2,5 @@
 #![tactic(auto)]
 
 pub mod recorder; // recorder.rt: what a recorder keeps, and what its calls answer
-mod ring; // ring.rt: packets into a ring of four lent blocks
+mod blocks; // blocks.rt: packets into a ring of four lent blocks
 pub mod recording; // recording.rt: the calls

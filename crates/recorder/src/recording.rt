@@ -6,7 +6,7 @@ ghost use Rattle.recorder.specs.Recording.{writer_of, left_of, after, begin_byte
 ghost use Rattle.recorder.specs.Recording.{record_room, finish_of, finish_room, stored_of};
 
 use crate::recorder::{Recorded, Recorder};
-use crate::ring::{put_end, put_packet, put_padding, put_record};
+use crate::blocks::{put_end, put_packet, put_padding, put_record};
 use card::writer::Writer;
 
 fn writer_of(r: Recorder) -> Writer

@@ -30,5 +30,5 @@ returns-then-may_pass c =
     let busy = ap not (c.sie_free-busy.ensures ∙ ap sie_free c.byte.ensures) in
     transferred i c.args.mis c.args.st c.args.len c.setup_at-setup.result _ c.args.s.now c.args.s.now c.args.slots.now time
     (at-mis c.args.s.now c.setup_at-setup.result may.0 may.1 c.setup_at-setup.ensures) refl
-    c.sized-arg-then-may_pass-1.given.0
+    (omega arith)
     may.2 may.3 busy may.4 may.5 _ _ c.byte-then-may_pass.ensures c.after_len.ensures

@@ -34,4 +34,4 @@ pub returns-in-8 : goal.returns-in-8
 returns-in-8 c = good c.args.size c.in-8.is
 
 pub returns-in_default : goal.returns-in_default
-returns-in_default c = bad c.args.size c.in_default.rest.1
+returns-in_default c = bad c.args.size c.in_default.in_default-own.rest.1

@@ -36,7 +36,7 @@ pub returns-in-1 : goal.returns-in-1
 unfolding step_of
 returns-in-1 c =
     ap Asks c.Access-of.ensures
-    ∙ (asked c.kind_of-kind.result c.args.w c.if-kind-lt5.true c.in_default-1.rest.0.0.0.1
+    ∙ (asked c.kind_of-kind.result c.args.w c.if-kind-lt5.true c.in_default-1.in_default-1-own.rest.0.0.0.1
     ∙ ap (λ (k : ℕ). of_kind k c.args.w) c.kind_of-kind.ensures)
 
 pub returns-in_default : goal.returns-in_default
@@ -46,12 +46,12 @@ returns-in_default c =
     simp (
       c.low_half-in_default.ensures,
       c.high_word.ensures,
-      ne_eqb _ _ (λ h. c.in_default-1.rest.1 (c.kind_of-kind.ensures ∙ h)),
-      ne_eqb _ _ (λ h. c.in_default-1.rest.0.1 (c.kind_of-kind.ensures ∙ h)),
-      ne_eqb _ _ (λ h. c.in_default-1.rest.0.0.1 (c.kind_of-kind.ensures ∙ h)),
+      ne_eqb _ _ (λ h. c.in_default-1.in_default-1-own.rest.1 (c.kind_of-kind.ensures ∙ h)),
+      ne_eqb _ _ (λ h. c.in_default-1.in_default-1-own.rest.0.1 (c.kind_of-kind.ensures ∙ h)),
+      ne_eqb _ _ (λ h. c.in_default-1.in_default-1-own.rest.0.0.1 (c.kind_of-kind.ensures ∙ h)),
       ne_eqb k 4 (λ h. omega (arith, c.if-kind-lt5.false, c.kind_of-kind.ensures ∙ h)),
       ne_eqb k 3 (λ h. omega (arith, c.if-kind-lt5.false, c.kind_of-kind.ensures ∙ h)),
       ne_eqb k 2 (λ h. omega (arith, c.if-kind-lt5.false, c.kind_of-kind.ensures ∙ h)),
       ne_eqb k 1 (λ h. omega (arith, c.if-kind-lt5.false, c.kind_of-kind.ensures ∙ h)),
-      ne_eqb _ _ (λ h. c.in_default-1.rest.0.0.0.1 (c.kind_of-kind.ensures ∙ h)),
+      ne_eqb _ _ (λ h. c.in_default-1.in_default-1-own.rest.0.0.0.1 (c.kind_of-kind.ensures ∙ h)),
     )

@@ -14,8 +14,8 @@ pub returns-in_default : goal.returns-in_default
 returns-in_default c =
     simp (
       c.register_of.ensures,
-      ne_eqb _ _ c.in_default.rest.1,
-      ne_eqb _ _ c.in_default.rest.0.1,
+      ne_eqb _ _ c.in_default.in_default-own.rest.1,
+      ne_eqb _ _ c.in_default.in_default-own.rest.0.1,
       ne_eqb _ _
-          c.in_default.rest.0.0.1,
+          c.in_default.in_default-own.rest.0.0.1,
     )

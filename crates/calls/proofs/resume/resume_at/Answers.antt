@@ -18,8 +18,8 @@ returns-in-5 c = c.resume_advance.ensures _
 pub returns-in_default : goal.returns-in_default
 returns-in_default c =
     record {
-      called = simp (at_none (saved c.args.s.now) _ c.tag.ensures c.in_default.rest.0.0.0.0.1
-          c.in_default.rest.0.0.0.1 c.in_default.rest.0.0.1 c.in_default.rest.0.1 c.in_default.rest.1
+      called = simp (at_none (saved c.args.s.now) _ c.tag.ensures c.in_default.in_default-own.rest.0.0.0.0.1
+          c.in_default.in_default-own.rest.0.0.0.1 c.in_default.in_default-own.rest.0.0.1 c.in_default.in_default-own.rest.0.1 c.in_default.in_default-own.rest.1
           (λ h. c.requires (sym c.tag.ensures ∙ h)));
       kept = refl;
     }

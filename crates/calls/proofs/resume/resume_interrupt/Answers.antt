@@ -5,7 +5,7 @@ use Rattle.calls.proofs.resume.resume_interrupt.Goals as goal
 
 pub resume_frame-requires : goal.resume_frame-requires
 resume_frame-requires c =
-    at_first (saved c.args.s.now) _ c.requires (sym c.site_byte-site.ensures) c.in_default.rest
+    at_first (saved c.args.s.now) _ c.requires (sym c.site_byte-site.ensures) c.in_default.in_default-own.rest
 
 pub returns-in-1 : goal.returns-in-1
 returns-in-1 c = c.resume_flags.ensures _

@@ -47,11 +47,19 @@ find_from-requires c = (near (c)).seen
 pub shape_of-room-in-Nothing : goal.shape_of-room-in-Nothing
 shape_of-room-in-Nothing c = (near (c)).same
 
-pub returns-in-Nothing : goal.returns-in-Nothing
-returns-in-Nothing c =
+pub returns-in-Nothing-clause-takes : goal.returns-in-Nothing-clause-takes
+returns-in-Nothing-clause-takes c =
     let h = near (c) in
-    let found = sym c.find_from.ensures ∙ c.in-Nothing.is in
-    ends _ _ _ _ _ _ _ _ false h (some_end _ h.fuel _ _ h.enough found)
+    let found = sym c.find_from.ensures ∙ c.in
+    (-Nothing.is in
+    ends _ _ _ _ _ _ _ _ false h (some_end _ h.fuel _ _ h.enough found)).0
+
+pub returns-in-Nothing-clause-room_after : goal.returns-in-Nothing-clause-room_after
+returns-in-Nothing-clause-room_after c =
+    let h = near (c) in
+    let found = sym c.find_from.ensures ∙ c.in
+    (-Nothing.is in
+    ends _ _ _ _ _ _ _ _ false h (some_end _ h.fuel _ _ h.enough found)).1
 
 pub overflow_sub-room : goal.overflow_sub-room
 overflow_sub-room c = let h = near (c) in omega (arith, h.inside, h.same)
@@ -59,11 +67,19 @@ overflow_sub-room c = let h = near (c) in omega (arith, h.inside, h.same)
 pub shape_of-room-then-room-used : goal.shape_of-room-then-room-used
 shape_of-room-then-room-used c = (near (c)).same
 
-pub returns-then-room-used : goal.returns-then-room-used
-returns-then-room-used c =
+pub returns-then-room-used-clause-takes : goal.returns-then-room-used-clause-takes
+returns-then-room-used-clause-takes c =
     let h = near c in
-    let found = sym c.find_from.ensures ∙ c.in-Packet.is in
-    ends _ _ _ _ _ _ _ _ true h (some-short _ h.fuel _ _ _ _ _ h.enough found (omega (arith, h.same)))
+    let found = sym c.find_from.ensures ∙ c.in
+    (-Packet.is in
+    ends _ _ _ _ _ _ _ _ true h (some-short _ h.fuel _ _ _ _ _ h.enough found (omega (arith, h.same)))).0
+
+pub returns-then-room-used-clause-room_after : goal.returns-then-room-used-clause-room_after
+returns-then-room-used-clause-room_after c =
+    let h = near c in
+    let found = sym c.find_from.ensures ∙ c.in
+    (-Packet.is in
+    ends _ _ _ _ _ _ _ _ true h (some-short _ h.fuel _ _ _ _ _ h.enough found (omega (arith, h.same)))).1
 
 pub copy_data-requires : goal.copy_data-requires
 copy_data-requires c =

@@ -38,15 +38,35 @@ returns-then-not-is_on_word c =
         s_unchanged = refl;
     }
 
-pub returns-then-is_on : goal.returns-then-is_on
-returns-then-is_on c =
-    onward (start c).args.out.now (picks _ _ c.is_on.ensures
-    c.if-is_on.true ∙ takes c) (c.take_iso.ensures.buf_after, (c.take_iso.ensures.out_after, c.take_iso.ensures.s_unchanged))
+pub returns-then-is_on-clause-buf_after : goal.returns-then-is_on-clause-buf_after
+returns-then-is_on-clause-buf_after c =
+    (onward (start c).args.out.now (picks _ _ c.is_on.ensures
+    c.if-is_on.true ∙ takes c) (c.take_iso.ensures.buf_after, (c.take_iso.ensures.out_after, c.take_iso.ensures.s_unchanged))).0
 
-pub returns-then-q-out : goal.returns-then-q-out
-returns-then-q-out c =
-    onward (start c).args.out.now (leaves _ _ c.is_on.ensures
-    c.if-is_on.false ∙ takes c) (c.take_ready.ensures.buf_after, (c.take_ready.ensures.out_after, c.take_ready.ensures.s_unchanged))
+pub returns-then-is_on-clause-out_after : goal.returns-then-is_on-clause-out_after
+returns-then-is_on-clause-out_after c =
+    (onward (start c).args.out.now (picks _ _ c.is_on.ensures
+    c.if-is_on.true ∙ takes c) (c.take_iso.ensures.buf_after, (c.take_iso.ensures.out_after, c.take_iso.ensures.s_unchanged))).1.0
+
+pub returns-then-is_on-clause-s_unchanged : goal.returns-then-is_on-clause-s_unchanged
+returns-then-is_on-clause-s_unchanged c =
+    (onward (start c).args.out.now (picks _ _ c.is_on.ensures
+    c.if-is_on.true ∙ takes c) (c.take_iso.ensures.buf_after, (c.take_iso.ensures.out_after, c.take_iso.ensures.s_unchanged))).1.1
+
+pub returns-then-q-out-clause-buf_after : goal.returns-then-q-out-clause-buf_after
+returns-then-q-out-clause-buf_after c =
+    (onward (start c).args.out.now (leaves _ _ c.is_on.ensures
+    c.if-is_on.false ∙ takes c) (c.take_ready.ensures.buf_after, (c.take_ready.ensures.out_after, c.take_ready.ensures.s_unchanged))).0
+
+pub returns-then-q-out-clause-out_after : goal.returns-then-q-out-clause-out_after
+returns-then-q-out-clause-out_after c =
+    (onward (start c).args.out.now (leaves _ _ c.is_on.ensures
+    c.if-is_on.false ∙ takes c) (c.take_ready.ensures.buf_after, (c.take_ready.ensures.out_after, c.take_ready.ensures.s_unchanged))).1.0
+
+pub returns-then-q-out-clause-s_unchanged : goal.returns-then-q-out-clause-s_unchanged
+returns-then-q-out-clause-s_unchanged c =
+    (onward (start c).args.out.now (leaves _ _ c.is_on.ensures
+    c.if-is_on.false ∙ takes c) (c.take_ready.ensures.buf_after, (c.take_ready.ensures.out_after, c.take_ready.ensures.s_unchanged))).1.1
 
 pub returns : goal.returns
 returns c =

@@ -7,10 +7,15 @@ use Rattle.state.specs.State.{view}
 use mathlib.Core.Path.{ap, sym, ◌∙◌}
 use Rattle.machine.proofs.driver_resumes.announce_after.Goals as goal
 
-pub returns-then-left-eq0 : goal.returns-then-left-eq0
-returns-then-left-eq0 c =
-    leads-end (λ b. go (following c.args.left c.args.total c.args.dir c.args.e) (view c.args.s.now) b) c.stop.ensures
-    (λ b. rw c.if-left-eq0.true (sym (after_none _ _ b _ _)))
+pub returns-then-left-eq0-clause-steps_to : goal.returns-then-left-eq0-clause-steps_to
+returns-then-left-eq0-clause-steps_to c =
+    (leads-end (λ b. go (following c.args.left c.args.total c.args.dir c.args.e) (view c.args.s.now) b) c.stop.ensures
+    (λ b. rw c.if-left-eq0.true (sym (after_none _ _ b _ _)))).0
+
+pub returns-then-left-eq0-clause-stored : goal.returns-then-left-eq0-clause-stored
+returns-then-left-eq0-clause-stored c =
+    (leads-end (λ b. go (following c.args.left c.args.total c.args.dir c.args.e) (view c.args.s.now) b) c.stop.ensures
+    (λ b. rw c.if-left-eq0.true (sym (after_none _ _ b _ _)))).1
 
 pub returns-then-o-eq0 : goal.returns-then-o-eq0
 returns-then-o-eq0 c =

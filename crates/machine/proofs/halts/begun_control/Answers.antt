@@ -7,8 +7,13 @@ use Rattle.control.specs.Codec as codec
 use mathlib.Core.Path.{◌∙◌}
 use Rattle.machine.proofs.halts.begun_control.Goals as goal
 
-pub returns-in-Refused : goal.returns-in-Refused
-returns-in-Refused c = refuses c.args.s.now c.requires.1 (λ b. simp c.in-Refused.is)
+pub returns-in-Refused-clause-steps_to : goal.returns-in-Refused-clause-steps_to
+returns-in-Refused-clause-steps_to c =
+    (refuses c.args.s.now c.requires.1 (λ b. simp c.in-Refused.is)).0
+
+pub returns-in-Refused-clause-saved_by_answer : goal.returns-in-Refused-clause-saved_by_answer
+returns-in-Refused-clause-saved_by_answer c =
+    (refuses c.args.s.now c.requires.1 (λ b. simp c.in-Refused.is)).1
 
 pub returns-in-Asks : goal.returns-in-Asks
 returns-in-Asks c =

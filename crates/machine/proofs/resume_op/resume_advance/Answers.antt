@@ -5,7 +5,7 @@ use Rattle.machine.proofs.resume_op.resume_advance.Goals as goal
 
 pub resume_frame_no-requires : goal.resume_frame_no-requires
 resume_frame_no-requires c =
-    at_last advance c.args.s.now c.requires c.sub_byte-k.ensures (first (saved c.args.s.now) _ c.in_default.rest)
+    at_last advance c.args.s.now c.requires c.sub_byte-k.ensures (first (saved c.args.s.now) _ c.in_default.in_default-own.rest)
 
 pub returns-in-1 : goal.returns-in-1
 returns-in-1 c = c.resume_sent.ensures _

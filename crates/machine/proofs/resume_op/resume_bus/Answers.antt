@@ -5,7 +5,7 @@ use Rattle.machine.proofs.resume_op.resume_bus.Goals as goal
 
 pub resume_enable-requires : goal.resume_enable-requires
 resume_enable-requires c =
-    at_last bus c.args.s.now c.requires c.sub_byte-k.ensures (first (saved c.args.s.now) _ c.in_default.rest)
+    at_last bus c.args.s.now c.requires c.sub_byte-k.ensures (first (saved c.args.s.now) _ c.in_default.in_default-own.rest)
 
 pub returns-in-1 : goal.returns-in-1
 returns-in-1 c = c.resume_event.ensures _ _

@@ -1,3 +1,4 @@
+use Rattle.std.proofs.Common.{arith}
 use Rattle.interrupt.specs.declared.Point.TheVariants as point
 use Rattle.interrupt.specs.Sites.{at-site}
 use Rattle.answer.specs.Answering.{parts2}
@@ -15,6 +16,6 @@ returns-in-Ends c =
     c.args.slots.now _ time
     may.0.tagged (at-site 10 may.0 (parts2 point.Released c.setup_at-setup.ensures
     c.transfer_at-x.ensures))
-    c.sized-arg-then-may_frame-1.given.0 may.1 may.2 c.begin-n.result
+    (omega arith) may.1 may.2 c.begin-n.result
     (c.begin-n.ensures.0 c.args.slots.now)
     c.in-Ends.is (c.iso_of.ensures c.setup_at-setup.result c.args.slots.now) c.after_frame_no.ensures

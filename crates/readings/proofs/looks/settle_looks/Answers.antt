@@ -12,7 +12,7 @@ returns-else-j-eq0 c =
     c.transfer_at-x.ensures
     (sym c.in-IsoLook.is ∙ c.settle_at.ensures)) in (
       c.fewest-j.ensures.0,
-      λ i time. iso-looks i c.args.v c.args.s.now c.args.slots.now time c.sized-arg-in-IsoLook-1.given.0 c.requires.1
+      λ i time. iso-looks i c.args.v c.args.s.now c.args.slots.now time (omega arith) c.requires.1
           c.requires.2 c.requires.3 _ c.fewest-j.result _
           (omega (arith, c.if-j-eq0.false)) c.fewest-j.ensures.1 _ _ c.requires.0.tagged here c.stand_settle.ensures,
     )
@@ -23,7 +23,7 @@ returns-else-j-eq0-2 c =
     c.transfer_at-x-in-BulkLook.ensures
     (sym c.in-BulkLook.is ∙ c.settle_at.ensures)) in (
       c.fewest-j-in-BulkLook.ensures.0,
-      λ i time. bulk-looks i c.args.v c.args.s.now c.args.slots.now time c.sized-arg-in-BulkLook-2-1.given.0 c.requires.1
+      λ i time. bulk-looks i c.args.v c.args.s.now c.args.slots.now time (omega arith) c.requires.1
           c.requires.2 c.requires.3 _ c.fewest-j-in-BulkLook.result _
           (omega (arith, c.if-j-eq0-2.false)) c.fewest-j-in-BulkLook.ensures.1 _ _ c.requires.0.tagged here c.stand_settle-in-BulkLook.ensures,
     )

@@ -12,7 +12,7 @@ returns-else-j-eq0 c =
     (parts3 (λ d. of_inner (point.Toggled d)) c.dir_at-d.ensures c.entry_at-e.ensures
     (sym c.in-Look.is ∙ c.toggled_at.ensures)) in (
       c.fewest-j.ensures.0,
-      λ i time. toggled-looks i c.args.v c.args.s.now c.args.slots.now time c.sized-arg-in-Look-1.given.0 c.requires.1
+      λ i time. toggled-looks i c.args.v c.args.s.now c.args.slots.now time (omega arith) c.requires.1
           c.requires.2 c.requires.3 _ c.fewest-j.result _
           (omega (arith, c.if-j-eq0.false)) c.fewest-j.ensures.1 _ _ _ _ c.requires.0.tagged here c.stand_toggled.ensures,
     )

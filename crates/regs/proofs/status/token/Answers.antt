@@ -20,7 +20,7 @@ pub returns-in_default : goal.returns-in_default
 unfolding token token_numbered
 returns-in_default c =
     simp (
-      ne_eqb _ _ (λ z. c.in_default.rest.0.0.1 (reads-field c.args.status 4 2 ∙ z)),
-      ne_eqb _ _ (λ z. c.in_default.rest.0.1 (reads-field c.args.status 4 2 ∙ z)),
-      ne_eqb _ _ (λ z. c.in_default.rest.1 (reads-field c.args.status 4 2 ∙ z)),
+      ne_eqb _ _ (λ z. c.in_default.in_default-own.rest.0.0.1 (reads-field c.args.status 4 2 ∙ z)),
+      ne_eqb _ _ (λ z. c.in_default.in_default-own.rest.0.1 (reads-field c.args.status 4 2 ∙ z)),
+      ne_eqb _ _ (λ z. c.in_default.in_default-own.rest.1 (reads-field c.args.status 4 2 ∙ z)),
     )

@@ -35,7 +35,7 @@ loop-i-preserved c =
     let longer = ap length c.copy16-in-loop-i.ensures ∙ length-copied 16 c.args.packet.now c.copy16.new.part (c.loop-i.i + 16) in
     let step = copied-step c.args.packet.now c.loop-i.part c.loop-i.i (length c.args.packet.now) 16 (omega arith) in
     let more = copied-step c.args.packet.now once (c.loop-i.i + 16) (length c.args.packet.now) 16 (omega arith) in
-    let all = sym (rw g c.loop-i (step ∙ more)) ∙ c.loop-i.invariant.5 in (
+    let all = sym (rw g at (step ∙ more)) ∙ c.loop-i.invariant.5 in (
       longer ∙ long ∙ c.loop-i.invariant.0,
       c.loop-i.invariant.1,
       c.loop-i.invariant.2,

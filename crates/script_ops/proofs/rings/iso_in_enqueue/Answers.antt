@@ -17,10 +17,10 @@ pub length16-requires : goal.length16-requires
 length16-requires c =
     room_fits c.load_ep-r.result _ (sym c.takes.ensures ∙ not_false c.takes.result c.if-not-takes.false)
 
-pub returns : goal.returns
+pub returns-clause-s_after : goal.returns-clause-s_after
 unfolding enqueue_on room_on queued_on
-returns c =
-    (
+returns-clause-s_after c =
+    ((
       simp (
         c.store_ep.ensures.s_after,
         c.store_len.ensures.s_after,
@@ -41,4 +41,56 @@ returns c =
         ),
         c.store_ep.ensures.s_unchanged ∙ c.store_len.ensures.s_unchanged,
       ),
-    )
+    )).0
+
+pub returns-clause-buf_after : goal.returns-clause-buf_after
+unfolding enqueue_on room_on queued_on
+returns-clause-buf_after c =
+    ((
+      simp (
+        c.store_ep.ensures.s_after,
+        c.store_len.ensures.s_after,
+        ← c.joined.ensures,
+        ← c.slot_index-i.ensures,
+        c.length16.ensures,
+        ← c.takes.ensures,
+        not_false c.takes.result c.if-not-takes.false,
+        ← c.load_ep-r.ensures,
+      ),
+      (
+        simp (
+          c.copy_in.ensures,
+          ← c.slot_addr.ensures,
+          ← c.takes.ensures,
+          not_false c.takes.result c.if-not-takes.false,
+          ← c.load_ep-r.ensures,
+        ),
+        c.store_ep.ensures.s_unchanged ∙ c.store_len.ensures.s_unchanged,
+      ),
+    )).1.0
+
+pub returns-clause-s_unchanged : goal.returns-clause-s_unchanged
+unfolding enqueue_on room_on queued_on
+returns-clause-s_unchanged c =
+    ((
+      simp (
+        c.store_ep.ensures.s_after,
+        c.store_len.ensures.s_after,
+        ← c.joined.ensures,
+        ← c.slot_index-i.ensures,
+        c.length16.ensures,
+        ← c.takes.ensures,
+        not_false c.takes.result c.if-not-takes.false,
+        ← c.load_ep-r.ensures,
+      ),
+      (
+        simp (
+          c.copy_in.ensures,
+          ← c.slot_addr.ensures,
+          ← c.takes.ensures,
+          not_false c.takes.result c.if-not-takes.false,
+          ← c.load_ep-r.ensures,
+        ),
+        c.store_ep.ensures.s_unchanged ∙ c.store_len.ensures.s_unchanged,
+      ),
+    )).1.1

@@ -21,8 +21,13 @@ stages e len d b {d'} z h₁ h₂ h₃ =
     ∙ ap (λ (w : Driver). arm_by e (arrived_of (ep_on d Out e)) (arrived_of (ep_on d Out e)).head (w, b)) h₂
     ∙ arrived-once e len d b z
 
-pub record-requires : goal.record-requires
-record-requires c = c.requires
+pub record-requires-clause-r_value : goal.record-requires-clause-r_value
+record-requires-clause-r_value c =
+    (c.requires).0
+
+pub record-requires-clause-entered_value : goal.record-requires-clause-entered_value
+record-requires-clause-entered_value c =
+    (c.requires).1
 
 pub returns : goal.returns
 returns c =

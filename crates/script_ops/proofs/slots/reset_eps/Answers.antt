@@ -25,6 +25,6 @@ pub returns : goal.returns
 returns c =
     let h : c.loop-e.e ≡ 16 = omega arith in
     record {
-        s_after = rw h c.loop-e c.loop-e.invariant.1.0;
+        s_after = rw h at c.loop-e.invariant.1.0;
         s_unchanged = c.loop-e.invariant.1.1;
     }

@@ -13,10 +13,14 @@ loop-k-preserved c =
     let j = c.args.a + c.loop-k.k in (
       omega arith,
       one-filled stamps_table c.args.s.now 0 c.args.a c.loop-k.k j c.loop-k.s _ refl
-          (ap view c.put16.ensures ∙ view-stamps c.loop-k.s c.sized-arg-in-loop-k-1.given.0 j 0 (omega arith))
+          (ap view c.put16.ensures ∙ view-stamps c.loop-k.s (omega arith) j 0 (omega arith))
           (ap saved c.put16.ensures ∙ saved-off c.loop-k.s (1454 + j * 2) (digits 2 0) (omega arith)) c.loop-k.invariant.1,
     )
 
-pub returns : goal.returns
-returns c =
-    all-filled stamps_table _ 0 c.args.a c.args.n _ _ c.loop-k.invariant.1 (omega arith)
+pub returns-clause-s_after : goal.returns-clause-s_after
+returns-clause-s_after c =
+    (all-filled stamps_table _ 0 c.args.a c.args.n _ _ c.loop-k.invariant.1 (omega arith)).0
+
+pub returns-clause-s_unchanged : goal.returns-clause-s_unchanged
+returns-clause-s_unchanged c =
+    (all-filled stamps_table _ 0 c.args.a c.args.n _ _ c.loop-k.invariant.1 (omega arith)).1

@@ -13,10 +13,14 @@ loop-k-preserved c =
     let j = c.args.a + c.loop-k.k in (
       omega arith,
       one-filled lens_table c.args.s.now c.args.v c.args.a c.loop-k.k j c.loop-k.s _ refl
-          (ap view c.put16.ensures ∙ view-lens c.loop-k.s c.sized-arg-in-loop-k-1.given.0 j c.args.v (omega arith))
+          (ap view c.put16.ensures ∙ view-lens c.loop-k.s (omega arith) j c.args.v (omega arith))
           (ap saved c.put16.ensures ∙ saved-off c.loop-k.s (1966 + j * 2) (digits 2 c.args.v) (omega arith)) c.loop-k.invariant.1,
     )
 
-pub returns : goal.returns
-returns c =
-    all-filled lens_table _ c.args.v c.args.a c.args.n _ _ c.loop-k.invariant.1 (omega arith)
+pub returns-clause-s_after : goal.returns-clause-s_after
+returns-clause-s_after c =
+    (all-filled lens_table _ c.args.v c.args.a c.args.n _ _ c.loop-k.invariant.1 (omega arith)).0
+
+pub returns-clause-s_unchanged : goal.returns-clause-s_unchanged
+returns-clause-s_unchanged c =
+    (all-filled lens_table _ c.args.v c.args.a c.args.n _ _ c.loop-k.invariant.1 (omega arith)).1

@@ -17,7 +17,12 @@ loop-k-preserved c =
     let e = c.write_ep.ensures ∙ ap (λ (r : EpState). puts c.loop-k.s (40 + c.loop-k.k * 32) 0
     (bytes ep_widths (ep_as (made_new r)))) cleared in
     
-    ep-more c.args.s.now c.loop-k.s _ c.loop-k.k new_ep c.sized-arg-in-loop-k-1.given.0 (omega arith) e c.loop-k.invariant
+    ep-more c.args.s.now c.loop-k.s _ c.loop-k.k new_ep (omega arith) (omega arith) e c.loop-k.invariant
 
-pub returns : goal.returns
-returns c = all_done eps_table new_ep 32 _ _ _ (omega arith) c.loop-k.invariant
+pub returns-clause-s_after : goal.returns-clause-s_after
+returns-clause-s_after c =
+    (all_done eps_table new_ep 32 _ _ _ (omega arith) c.loop-k.invariant).0
+
+pub returns-clause-s_unchanged : goal.returns-clause-s_unchanged
+returns-clause-s_unchanged c =
+    (all_done eps_table new_ep 32 _ _ _ (omega arith) c.loop-k.invariant).1

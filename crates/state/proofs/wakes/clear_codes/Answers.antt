@@ -31,6 +31,6 @@ pub returns : goal.returns
 returns c =
     let e : c.loop-k.k ≡ 64 = omega arith in
     record {
-        s_after = rw e c.loop-k c.loop-k.invariant.1.0;
+        s_after = rw e at c.loop-k.invariant.1.0;
         s_unchanged = c.loop-k.invariant.1.1;
     }

@@ -8,7 +8,7 @@ pub returns : goal.returns
 returns c =
     record {
         s_after = ap view c.put8.ensures ∙ view-codes c.args.s.now
-          c.sized-arg-2-1.given.0 c.args.i c.args.code (omega (arith, c.requires));
+          (omega arith) c.args.i c.args.code (omega (arith, c.requires));
         s_unchanged = ap saved c.put8.ensures ∙ saved-off c.args.s.now (1358 + c.args.i * 1)
           (digits 1 c.args.code) (omega (arith, c.requires));
     }

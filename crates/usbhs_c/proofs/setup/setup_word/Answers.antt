@@ -11,8 +11,13 @@ returns-in-Setup c =
         packet_after = λ d. c.fill.ensures.packet_after_2 ∙ simp c.in-Setup.is;
     }
 
-pub returns-in-Done : goal.returns-in-Done
-returns-in-Done c = absurd (subst NoSlice c.in-Done.is c.requires)
+pub returns-in-Done-clause-worded : goal.returns-in-Done-clause-worded
+returns-in-Done-clause-worded c =
+    (absurd (subst NoSlice c.in-Done.is c.requires)).0
+
+pub returns-in-Done-clause-packet_after : goal.returns-in-Done-clause-packet_after
+returns-in-Done-clause-packet_after c =
+    (absurd (subst NoSlice c.in-Done.is c.requires)).1
 
 pub returns-in-Shown : goal.returns-in-Shown
 returns-in-Shown c =

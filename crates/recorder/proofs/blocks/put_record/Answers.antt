@@ -1,7 +1,7 @@
 use Rattle.card.specs.Packet.{packet_of}
 use Rattle.recorder.specs.Ring.{ring_of}
 use Rattle.recorder.specs.RingLaws.{record-padded, record-plain}
-use Rattle.recorder.proofs.ring.put_record.Goals as goal
+use Rattle.recorder.proofs.blocks.put_record.Goals as goal
 
 -- src/ring.rt:83:9
 pub returns-then-next-gt488 : goal.returns-then-next-gt488

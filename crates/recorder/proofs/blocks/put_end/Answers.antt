@@ -4,7 +4,7 @@ use Prim.Native.Nat.{ℕ}
 use Rattle.card.specs.Packet.{packet_of}
 use Rattle.recorder.specs.Ring.{ring_of, end_room}
 use Rattle.recorder.specs.RingLaws.{end_is}
-use Rattle.recorder.proofs.ring.put_end.Goals as goal
+use Rattle.recorder.proofs.blocks.put_end.Goals as goal
 
 -- src/ring.rt:121:1
 pub returns : goal.returns

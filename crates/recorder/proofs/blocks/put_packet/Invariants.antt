@@ -2,7 +2,7 @@ use mathlib.Core.Path.{◌≡◌}
 use lib.ListN.{length}
 use Rattle.card.specs.Packet.{packet_of}
 use Rattle.recorder.specs.Ring.{ring_of, packet_ring}
-use Rattle.recorder.proofs.ring.put_packet.Given as goal
+use Rattle.recorder.proofs.blocks.put_packet.Given as goal
 
 abbrev pub invariant-loop-turns : goal.invariant-loop-turns
 invariant-loop-turns l = (length l.room ≡ 2048)

@@ -4,7 +4,7 @@ use borrow.Author.Rules.{rules}
 use Rattle.card.specs.Packet.{packet_of}
 use Rattle.recorder.specs.Ring.{ring_of, packet_ring}
 use Rattle.recorder.specs.RingLaws.{ring-piece, ring-whole, ring-part, ring-none}
-use Rattle.recorder.proofs.ring.put_packet.Goals as goal
+use Rattle.recorder.proofs.blocks.put_packet.Goals as goal
 
 pub loop-turns-init : goal.loop-turns-init
 loop-turns-init c = (omega arith, refl)

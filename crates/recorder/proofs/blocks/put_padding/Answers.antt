@@ -5,7 +5,7 @@ use Rattle.card.specs.Packet.{packet_of}
 use Rattle.recorder.specs.Ring.{ring_of, packet_ring}
 use Rattle.recorder.specs.RingLaws.{zeros-part}
 use lib.ListN.{replicate}
-use Rattle.recorder.proofs.ring.put_padding.Goals as goal
+use Rattle.recorder.proofs.blocks.put_padding.Goals as goal
 
 -- src/ring.rt:66:1
 pub returns : goal.returns

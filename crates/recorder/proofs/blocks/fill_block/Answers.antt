@@ -1,5 +1,5 @@
 use Rattle.recorder.specs.RingLaws.{fill_is}
-use Rattle.recorder.proofs.ring.fill_block.Goals as goal
+use Rattle.recorder.proofs.blocks.fill_block.Goals as goal
 
 -- src/ring.rt:107:1
 pub returns-in-Last : goal.returns-in-Last
