@@ -55,6 +55,18 @@ class Fn:
         while segs and segs[0]=='before': k+=1; segs.pop(0)
         if not segs: return 'c'
         F=segs[0]; rest=segs[1:]
+        if F=='requires' and s.req and len(s.req)>1:
+            n=len(s.req); r=rest; k2=0
+            while r and r[0]=='1' and k2<n-1: k2+=1; r=r[1:]
+            if k2==n-1: return '.'.join(['c','requires',s.req[k2]]+r)
+            if r and r[0]=='0': return '.'.join(['c','requires',s.req[k2]]+r[1:])
+            parts=[f'c.requires.{x}' for x in s.req[k2:]]; u=parts[-1]
+            for x in reversed(parts[:-1]): u=f'({x}, {u})'
+            return u
+        if F in ('args','ranges') and rest:
+            m=re.match(r't(\d+)$',rest[0])
+            if m and s.par and int(m[1])<=len(s.par): rest=[s.par[int(m[1])-1]]+rest[1:]
+            rest=[rest[0].replace('-','_')]+rest[1:]
         if norm(F) in ('args','requires','ranges','well-formed'):
             return '.'.join(['c',F.replace('well-formed','well_formed')]+rest)
         chain=[]; Q=P
@@ -77,6 +89,7 @@ class Fn:
         j,p=s.places[chain[best]]
         F=p[2][0]
         old,new=p[2]
+        if re.match(r'loop\d*$',old) and rest: rest=[rest[0].replace('-','_')]+rest[1:]
         arm=s.info['arms'][j]
         if arm:
             for nf,ostep,opath in arm[2]:
@@ -111,7 +124,10 @@ def convert_body(fn, P, body, var):
         v=m[1]; segs=[x for x in m[2].split('.') if x]
         if v=='at' and not segs: return m[0]
         if v in env:
-            Q,s0=env[v]; return fn.path(Q,s0+segs)
+            Q,s0=env[v]; r=fn.path(Q,s0+segs)
+            # a definition may have the name that a let gave a step
+            if not segs and r.count('.')==1 and v!=var and not r.endswith(('.args','.requires','.ranges')): return m[0]
+            return r
         return m[0]
     # process lets sequentially
     out=''; pos=0
@@ -169,7 +185,7 @@ def tail_tuple(body, names):
 
 def clausewise(d, n, names, body):
     """an answer for each clause: the parts of one term"""
-    t=body.strip()
+    t=NOT.sub(r'\1',body.strip())
     # leading lets
     head=''
     depth=0
@@ -245,7 +261,27 @@ def args_of(s):
     if cur: out.append(cur)
     return out
 
+NOT=re.compile(r'\bnot[-_](?:true|false) \S+ (c\.if-not-\S+?\.(?:true|false))(?![\w.-])')
 TRIVIAL=re.compile(r'^search rules$')
+
+_src={}
+def requires_of(crate, folder):
+    """the names of a function's requires clauses"""
+    if crate not in _src:
+        d={}
+        for p in glob.glob(f'crates/{crate}/src/**/*.rt',recursive=True):
+            mod=os.path.relpath(p,f'crates/{crate}/src')[:-3]
+            mod='' if mod in ('lib','main') else mod
+            text=open(p).read()
+            for m in re.finditer(r'\bfn (\w+)',text):
+                end=text.find('\n}',m.end()); nxt=text.find('\nfn ',m.end())
+                head=re.split(r'\n *\{\n',text[m.end():],1)[0]
+                sig=re.split(r'\n *(?:requires|ensures|ghost)\b',head,1)[0]
+                par=re.findall(r'(?:[(,]\s*)(?:mut )?(?:&\'?\w* ?(?:mut )?)?(\w+)\s*(?=:(?!:)|[,)])',re.sub(r'^<[^>]*>','',sig).split('->')[0]) if '(' in sig else []
+                d.setdefault((mod,m[1]),(re.findall(r'^\s*requires (\w+) \{',head,re.M),par))
+        _src[crate]=d
+    parts=folder.split('/'); mods=[x for x in parts[:-1] if x[:1].islower()]
+    return _src[crate].get(('/'.join(mods),parts[-1])) or (None,None)
 
 def convert(crate, folder, names, say):
     cur=f'crates/{crate}/proofs/{folder}/Proof.antt'
@@ -259,6 +295,7 @@ def convert(crate, folder, names, say):
     needdefs=[d for d in defs if re.match(r'tie\.Need-',d.sig)]
     if len(lneeds)!=len(needdefs): say(f'{crate}/{folder}: {len(lneeds)} needs landed, {len(needdefs)} now'); stats['mismatch']+=1; return
     fn=Fn(crate,folder,info)
+    fn.req,fn.par=requires_of(crate,folder)
     table={}
     for i,(o,n) in enumerate(info['needs']): table.setdefault(norm(o),(o,n,i))
     mod=f"Rattle.{crate}.proofs.{folder.replace('/','.')}"
@@ -288,7 +325,7 @@ def convert(crate, folder, names, say):
                     notes.append(f'goal {n}: clauses {nm}, not a tuple'); stats['nontuple']+=1
                 else: new=r
             stats['answers']+=1
-            b=new.strip()
+            b=NOT.sub(r'\1',new.strip())
             sep='\n    ' if '\n' in b or len(b)+len(n)>90 else ' '
             ans.append('\n'.join(d.comment+[f'pub {n} : goal.{n}']+d.unf+[f'{n} c ={sep}{b}']))
         elif re.match(r'tie\.(invariant_loop|decreases_loop)',d.sig):

@@ -56,6 +56,7 @@ pub part_of : (t : List ℕ) (k n : ℕ) → k < n → get_or t k 0 ≤ total t 
 unfolding total
 part_of t k (suc n) h = ⊎_elim (λ (e : k < n). omega (arith, part_of t k n e)) (λ (e : k ≡ n). rw (← e) (omega arith))
     (either k n h)
+part_of t k zero h = elim h [ ]
 
 -- a charge that does not pass the limit is at most the limit
 pub within : (t : List ℕ) (k charge : ℕ) → k < 128 → passes t k charge ≡ false → charge ≤ 6000
@@ -81,6 +82,7 @@ total-set t k v (suc n) l h =
     (λ (e : k < n). omega (arith, total-set t k v n l e, get_or-set_other t k n v 0 (λ z. omega arith)))
     (λ (e : k ≡ n). rw (← e) (omega (arith, total-past t k v k (omega arith), get_or-set_same t k v 0 l)))
     (either k n h)
+total-set t k v zero l h = elim h [ ]
 
 -- ---- those of a driver
 
@@ -104,6 +106,7 @@ kept_in config first (suc n) t p l h =
     (omega (arith, length-kept config first n t))
     ∙ ap (entry_kept config n) (kept_out config first n t (first + n) (inr (omega arith)))))
     (either p n h)
+kept_in config first zero t p l h = elim h [ ]
 
 entry-le : (config bit charge : ℕ) → entry_kept config bit charge ≤ charge
 unfolding entry_kept

@@ -1,7 +1,7 @@
 -- What request Ten promises of its answer, from the definitions. Assumes nothing.
 use Rattle.std.specs.Prelude.{◌≡◌, refl, true, false, ◌⊎◌, List, ℕ, ◌^◌, ◌≤◌, ◌<◌, min, eqb, length, get_or}
 use Rattle.std.proofs.Common.{sym, ◌∙◌, true≢false, inl, inr, arith, eq-eqb, ne_eqb, lt-ltb, le-ltb, le-leb}
-use Rattle.std.proofs.Math.Bool.{or_true}
+use Rattle.std.proofs.Math.Bool.{or-true}
 use Rattle.std.proofs.Math.Decide.{dec_lt}
 use Rattle.std.proofs.Math.Pow.{pow_pos}
 use Rattle.std.proofs.lemmas.Bool.{lt-leb}
@@ -53,7 +53,7 @@ module _ (m c : ℕ → ℕ) (n is_in_use budget : ℕ) (some : 0 < budget) wher
 pub refuses : (n budget : ℕ) → (budget ≡ 0) ⊎ (16 < n) → is_refused n budget ≡ true
 unfolding is_refused
 refuses n budget (inl h) = rw (eq-eqb budget 0 h)
-refuses n budget (inr h) = rw (lt-ltb 16 n h, or_true (eqb budget 0))
+refuses n budget (inr h) = rw (lt-ltb 16 n h, or-true (eqb budget 0))
 
 pub accepts : (n budget : ℕ) → 0 < budget → n ≤ 16 → is_refused n budget ≡ false
 unfolding is_refused

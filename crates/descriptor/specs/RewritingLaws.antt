@@ -2,7 +2,7 @@
 use Rattle.std.proofs.Math.Path.{◌≡◌, refl}
 use Rattle.std.proofs.Common.{sym, true≢false, arith}
 use Rattle.std.specs.Prelude.{Bool, not, ◌||◌, List, ℕ}
-use Rattle.std.proofs.Math.Bool.{true, false, cond, or_true}
+use Rattle.std.proofs.Math.Bool.{true, false, cond, or-true}
 use Rattle.descriptor.specs.declared.Endpoints.{Endpoints}
 use Rattle.descriptor.specs.declared.Reading.{Reading}
 use Rattle.descriptor.specs.declared.Answer.TheVariants as answer
@@ -23,7 +23,7 @@ module _ (s room : List ℕ) where
 
   pub short-room : is_short (list_in s) room ≡ true → (Refused 17 ≡ rewritten_of s room) × (room ≡ room_rewritten s room)
   unfolding rewritten_of room_rewritten
-  short-room h = (rw (h, or_true (not (is_configuration s))), rw (h, or_true (not (is_configuration s))))
+  short-room h = (rw (h, or-true (not (is_configuration s))), rw (h, or-true (not (is_configuration s))))
 
   module _ (conf : is_configuration s ≡ true) (long : is_short (list_in s) room ≡ false) where
     pub refused-by : (row : ℕ) → (reading_of s).answer ≡ answer.Refused row → (Refused row ≡ rewritten_of s room)

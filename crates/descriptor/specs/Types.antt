@@ -6,7 +6,7 @@ use Rattle.std.specs.Prelude.{Bool, ◌&&◌, ◌||◌, ℕ}
 use Rattle.std.proofs.Math.Bool.{true, false, cond, not, and-false, and_assoc}
 use mathlib.Core.List.{List, [], ◌∷◌, ◌++◌, append-nil}
 use Rattle.std.proofs.Math.Dec.{eqb}
-use borrow.Author.Tests.{eqb-true, eqb-false, eq-eqb, ne_eqb, not-true, not_false}
+use borrow.Author.Tests.{eqb-true, eqb-false, eq-eqb, ne_eqb, not-true, not-false}
 use Rattle.descriptor.specs.declared.Endpoint.{Endpoint}
 use Rattle.descriptor.specs.Endpoints.{merged, noted, gathered, agrees, agree}
 use Rattle.descriptor.specs.Reading.{endpoints, in_order, list_of, clashes, two_types}
@@ -132,11 +132,11 @@ module _ (s : List ℕ) where
   both = sym (agree-append (list_of s) (endpoints true s) (endpoints false s)) ∙ types (in_order s)
 
   pub two-in-first : agree (list_of s) (endpoints true s) ≡ false → two_types (in_order s) ≡ true
-  two-in-first h = not_false (two_types (in_order s)) (sym (rw h at both))
+  two-in-first h = not-false (two_types (in_order s)) (sym (rw h at both))
 
   pub two-in-others : agree (list_of s) (endpoints true s) ≡ true → agree (list_of s) (endpoints false s) ≡ false
       → two_types (in_order s) ≡ true
-  two-in-others g h = not_false (two_types (in_order s)) (sym (rw (g, h) at both))
+  two-in-others g h = not-false (two_types (in_order s)) (sym (rw (g, h) at both))
 
   pub one_each : agree (list_of s) (endpoints true s) ≡ true → agree (list_of s) (endpoints false s) ≡ true
       → two_types (in_order s) ≡ false

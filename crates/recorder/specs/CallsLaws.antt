@@ -1,7 +1,7 @@
 -- The recorder's calls keep what Sound.antt says: a begin, a packet, a finish.
 use Rattle.std.specs.Prelude.{◌≡◌, refl, Bool, true, false, cond, ◌||◌, not, List, [], ◌∷◌, ◌++◌, ℕ, suc, ◌+◌, ◌-◌, ◌%◌, ◌≤◌, ◌<◌, min, ltb, eqb, length}
 use Rattle.std.proofs.Common.{sym, ap, ap₂, subst, ◌∙◌, true≢false, arith, ltb-false, eq-eqb, ne_eqb, eqb-true}
-use Rattle.std.proofs.lemmas.Bool.{false≢true, eqb-false, not_false}
+use Rattle.std.proofs.lemmas.Bool.{false≢true, eqb-false, not-false}
 use Rattle.std.proofs.Math.Decide.{ℕ_discrete, dec_lt}
 use Rattle.card.specs.Packet.{Packet, Writable, none, more, data_of}
 use Rattle.card.specs.Written.{block_of}
@@ -274,7 +274,7 @@ taken-parts b p t =
     let x = either-false (not (eqb b.left 0)) _ t in
     let y = either-false (ltb 1024 (length p.bytes)) _ x.1 in
     let z = either-false (eqb p.endpoint 0) (ltb 15 p.endpoint) y.1 in
-    let q : b.left ≡ 0 = eqb-true b.left 0 (not_false (eqb b.left 0) x.0) in (
+    let q : b.left ≡ 0 = eqb-true b.left 0 (not-false (eqb b.left 0) x.0) in (
       q,
       record {
         numbered = some p.endpoint (eqb-false p.endpoint 0 z.0);
@@ -366,7 +366,7 @@ finish-sound h b overruns s = go (not (eqb b.left 0)) refl
         let is = finish-refused h.recorder overruns h.room (busy-as ∙ t) in
         rw t (subst (λ (x : Held). Sound x b) (as-refused h (finish overruns) is.0 is.1) s)
     go false t =
-        let q : b.left ≡ 0 = eqb-true b.left 0 (not_false (eqb b.left 0) t) in
+        let q : b.left ≡ 0 = eqb-true b.left 0 (not-false (eqb b.left 0) t) in
         let r = h.recorder in
         let g = padded_ring h.recorder h.room in
         let ps = filled_up b.all in

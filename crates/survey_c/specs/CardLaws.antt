@@ -1,7 +1,7 @@
 -- From the definitions of the card's calls: a writer's numbers are read back, so that calls from C go on as those of
 -- `req_card_writer` do, and any number may be brought as an endpoint. Assumes nothing.
 use Rattle.std.specs.Prelude.{◌≡◌, Bool, true, false, cond, List, ℕ, ◌+◌, ◌%◌, ◌^◌, ◌<◌, ◌≤◌, min}
-use Rattle.std.proofs.Math.Bool.{or_true}
+use Rattle.std.proofs.Math.Bool.{or-true}
 use Rattle.std.proofs.Common.{arith, lt-ltb}
 use Rattle.std.proofs.Math.Decide.{dec_lt}
 use Rattle.card.specs.Packet.{Packet, packet_of}
@@ -55,7 +55,7 @@ next-short w n l h = by (full_of w n)
 
 -- an endpoint above 15 is refused, whichever it is
 unfit-high : (p : Packet) (b : List ℕ) → 15 < p.endpoint → unfit p b ≡ true
-unfit-high p b h = rw (lt-ltb 15 p.endpoint h, or_true, or_true, or_true)
+unfit-high p b h = rw (lt-ltb 15 p.endpoint h, or-true, or-true, or-true)
 
 pub write-any : (w : Writer) (e : ℕ) (bytes b : List ℕ) (n : ℕ) → n ≡ min e 16 → write_of w (packet_of n bytes) b
     ≡ write_of w (packet_of e bytes) b

@@ -3,7 +3,7 @@
 use Rattle.std.specs.Prelude.{◌≡◌, Bool, cond, not, length}
 use Rattle.std.proofs.Math.Path.{refl, ap, subst}
 use Rattle.std.proofs.Common.{sym, ◌∙◌, true≢false, arith, lt-ltb}
-use Rattle.std.proofs.Math.Bool.{true, false, or_true}
+use Rattle.std.proofs.Math.Bool.{true, false, or-true}
 use mathlib.Core.List.{List, [], ◌∷◌, ◌++◌}
 use Prim.Native.Nat.{ℕ, zero, suc, ◌%◌, ◌≤◌}
 use Rattle.std.proofs.Math.Decide.{dec_lt}
@@ -35,7 +35,7 @@ seen e = record { numbers = numbers_of e.writer; block = e.block; count = e.coun
 -- a packet that is taken is short
 few_bytes : (p : Packet) (b : List ℕ) → unfit p b ≡ false → length p.bytes ≤ 1024
 few_bytes p b h = elim (dec_lt 1024 (length p.bytes)) [
-  | yes l ↦ absurd (true≢false (sym (rw (lt-ltb 1024 (length p.bytes) l, or_true (not (eqb (length b) 512)))) ∙ h))
+  | yes l ↦ absurd (true≢false (sym (rw (lt-ltb 1024 (length p.bytes) l, or-true (not (eqb (length b) 512)))) ∙ h))
   | no l ↦ omega arith
 ]
 

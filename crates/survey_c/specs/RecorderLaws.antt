@@ -1,7 +1,7 @@
 -- Laws on the definitions of Recorder.antt: numbers are read back, and any number may be brought as an endpoint.
 -- Assumes nothing.
 use Rattle.std.specs.Prelude.{◌≡◌, true, List, ℕ, ◌%◌, ◌<◌, min}
-use Rattle.std.proofs.Math.Bool.{or_true}
+use Rattle.std.proofs.Math.Bool.{or-true}
 use Rattle.std.proofs.Common.{arith, lt-ltb}
 use Rattle.std.proofs.Math.Decide.{dec_lt}
 use Rattle.card.specs.Packet.{Packet, packet_of}
@@ -18,7 +18,7 @@ recorder-back r h l =
 
 -- an endpoint above 15 is refused, whichever it is
 refuses-high : (r : Recorder) (p : Packet) (room : List ℕ) → 15 < p.endpoint → refuses r p room ≡ true
-refuses-high r p room h = rw (lt-ltb 15 p.endpoint h, or_true, or_true, or_true)
+refuses-high r p room h = rw (lt-ltb 15 p.endpoint h, or-true, or-true, or-true)
 
 pub record-any : (r : Recorder) (e : ℕ) (bytes room : List ℕ) (n : ℕ) → n ≡ min e 16
     → record_of r (packet_of n bytes) room ≡ record_of r (packet_of e bytes) room

@@ -15,7 +15,7 @@ loop-bit-preserved c =
     let first = c.args.driver % 4 * 32 in (
       omega arith,
       ap (set c.loop-bit.time (first + c.loop-bit.bit)) c.entry_kept.ensures
-          ∙ (ap (λ (t : List ℕ). set t (first + c.loop-bit.bit) (c.entry_kept c.args.config c.loop-bit.bit (get_or t (first + c.loop-bit.bit) 0)))
+          ∙ (ap (λ (t : List ℕ). set t (first + c.loop-bit.bit) (entry_kept c.args.config c.loop-bit.bit (get_or t (first + c.loop-bit.bit) 0)))
           c.loop-bit.invariant.1
           ∙ sym (kept_more c.args.config first c.loop-bit.bit c.args.time.now)),
     )

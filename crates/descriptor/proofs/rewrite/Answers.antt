@@ -1,5 +1,4 @@
 use mathlib.Core.Path.{ap, sym, ◌∙◌}
-use borrow.Author.Tests.{not-true, not_false}
 use Rattle.descriptor.specs.declared.Reading.{Reading}
 use Rattle.descriptor.specs.declared.Endpoints.{Endpoints}
 use Rattle.descriptor.specs.Writing.{is_short, written_of, room_after}
@@ -8,15 +7,14 @@ use Rattle.descriptor.proofs.rewrite.Goals as goal
 
 pub returns-then-not-is_configuration-clause-value : goal.returns-then-not-is_configuration-clause-value
 returns-then-not-is_configuration-clause-value c =
-    (no-descriptor _ _ (sym c.is_configuration.ensures ∙ not-true _ c.if-not-is_configuration.true)).0
+    (no-descriptor _ _ (sym c.is_configuration.ensures ∙ c.if-not-is_configuration.true)).0
 
 pub returns-then-not-is_configuration-clause-room_after : goal.returns-then-not-is_configuration-clause-room_after
 returns-then-not-is_configuration-clause-room_after c =
-    (no-descriptor _ _ (sym c.is_configuration.ensures ∙ not-true _ c.if-not-is_configuration.true)).1
+    (no-descriptor _ _ (sym c.is_configuration.ensures ∙ c.if-not-is_configuration.true)).1
 
 pub gathered-requires : goal.gathered-requires
-gathered-requires c =
-    sym c.is_configuration.ensures ∙ not_false _ c.if-not-is_configuration.false
+gathered-requires c = sym c.is_configuration.ensures ∙ c.if-not-is_configuration.false
 
 pub returns-then-is_short-clause-value : goal.returns-then-is_short-clause-value
 returns-then-is_short-clause-value c =
@@ -31,7 +29,7 @@ returns-then-is_short-clause-room_after c =
 pub returns-in-Refused-clause-value : goal.returns-in-Refused-clause-value
 returns-in-Refused-clause-value c =
     let conf = sym c.is_configuration.ensures
-    ∙ not_false _ c.if-not-is_configuration.false in
+    ∙ c.if-not-is_configuration.false in
     let l = ap (λ (x : Endpoints). is_short x c.args.room.now) c.gathered.ensures.value in
     let long = sym l ∙ sym c.is_short.ensures ∙ c.if-is_short.false in
     (refused-by c.args.bytes.now c.args.room.now conf long _
@@ -40,7 +38,7 @@ returns-in-Refused-clause-value c =
 pub returns-in-Refused-clause-room_after : goal.returns-in-Refused-clause-room_after
 returns-in-Refused-clause-room_after c =
     let conf = sym c.is_configuration.ensures
-    ∙ not_false _ c.if-not-is_configuration.false in
+    ∙ c.if-not-is_configuration.false in
     let l = ap (λ (x : Endpoints). is_short x c.args.room.now) c.gathered.ensures.value in
     let long = sym l ∙ sym c.is_short.ensures ∙ c.if-is_short.false in
     (refused-by c.args.bytes.now c.args.room.now conf long _
@@ -49,7 +47,7 @@ returns-in-Refused-clause-room_after c =
 pub returns-in-Listed : goal.returns-in-Listed
 returns-in-Listed c =
     let conf = sym c.is_configuration.ensures
-    ∙ not_false _ c.if-not-is_configuration.false in
+    ∙ c.if-not-is_configuration.false in
     let l = ap (λ (x : Endpoints). is_short x c.args.room.now) c.gathered.ensures.value in
     let long = sym l ∙ sym c.is_short.ensures ∙ c.if-is_short.false in
     let e = ap (λ (x : Reading). x.answer) (sym c.read-reading.ensures)

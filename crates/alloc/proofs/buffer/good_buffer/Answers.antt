@@ -1,4 +1,3 @@
-use borrow.Author.Tests.{not-true, not_false}
 use borrow.Author.Tests.{eq-eqb, ne_eqb}
 use Rattle.alloc.specs.Buffer.{good_buffer}
 use Rattle.alloc.proofs.buffer.good_buffer.Goals as goal
@@ -6,14 +5,14 @@ use Rattle.alloc.proofs.buffer.good_buffer.Goals as goal
 pub returns-then-not-validate_buffer_size : goal.returns-then-not-validate_buffer_size
 unfolding good_buffer
 returns-then-not-validate_buffer_size c =
-    simp (not-true c.validate_buffer_size.result c.if-not-validate_buffer_size.true, ← c.validate_buffer_size.ensures)
+    simp (c.if-not-validate_buffer_size.true, ← c.validate_buffer_size.ensures)
 
 pub returns-then-count-eq0 : goal.returns-then-count-eq0
 unfolding good_buffer
 returns-then-count-eq0 c =
     simp (
       eq-eqb _ _ c.if-count-eq0.true,
-      not_false c.validate_buffer_size.result c.if-not-validate_buffer_size.false,
+      c.if-not-validate_buffer_size.false,
       ← c.validate_buffer_size.ensures,
     )
 
@@ -23,6 +22,6 @@ returns c =
     simp (
       c.product.ensures,
       ne_eqb _ _ c.if-count-eq0.false,
-      not_false c.validate_buffer_size.result c.if-not-validate_buffer_size.false,
+      c.if-not-validate_buffer_size.false,
       ← c.validate_buffer_size.ensures,
     )

@@ -3,12 +3,12 @@ use mathlib.Core.Path.{refl, ◌∙◌}
 use Rattle.regs.specs.declared.Dir.TheVariants as Dir
 use Rattle.bus.specs.declared.Point.TheVariants as point
 use Rattle.bus.specs.PointsLaws.{begun-at}
-use borrow.Author.Tests.{not-true, not_false}
+use borrow.Author.Tests.{not-false}
 use Rattle.bus.proofs.set_stalled.set_endpoint_stalled.Goals as goal
 
 pub returns-then-not-on : goal.returns-then-not-on
 returns-then-not-on c =
-    (λ b. simp (c.restart.ensures.0, not-true c.args.on c.if-not-on.true), c.restart.ensures.1)
+    (λ b. simp (c.restart.ensures.0, c.if-not-on.true), c.restart.ensures.1)
 
 pub returns-in-Out : goal.returns-in-Out
 unfolding after_stall_word woken
@@ -16,7 +16,7 @@ returns-in-Out c =
     let begun = begun-at (point.StallWord Dir.Out _) c.point.ensures refl in (
       λ b. begun.0 _ b ∙ simp (
         c.in-Out.is,
-        not_false c.args.on
+        not-false c.args.on
             c.if-not-on.false,
       ),
       (refl, begun.1),
@@ -28,7 +28,7 @@ returns-in-In c =
     let begun = begun-at (point.StallLen _) c.point-in-In.ensures refl in (
       λ b. begun.0 _ b ∙ simp (
         c.in-In.is,
-        not_false c.args.on
+        not-false c.args.on
             c.if-not-on.false,
       ),
       (refl, begun.1),

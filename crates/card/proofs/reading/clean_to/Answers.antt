@@ -1,5 +1,4 @@
 use Rattle.std.proofs.Common.{sym, refl, ◌∙◌, arith}
-use borrow.Author.Tests.{not-true, not_false}
 use Rattle.card.specs.Streams.{view}
 use Rattle.card.proofs.ReaderLaws.{clean-more, clean-bad, clean-stop}
 use Rattle.card.proofs.reading.clean_to.Goals as goal
@@ -9,7 +8,7 @@ loop-k-init c = refl
 
 pub returns-then-not-is_good : goal.returns-then-not-is_good
 returns-then-not-is_good c =
-    sym (clean-bad (view c.args.stream.now) c.loop-k.k _ (omega arith) (sym c.is_good.ensures ∙ not-true _ c.if-not-is_good.true))
+    sym (clean-bad (view c.args.stream.now) c.loop-k.k _ (omega arith) (sym c.is_good.ensures ∙ c.if-not-is_good.true))
     ∙ c.loop-k.invariant
 
 pub overflow_add-k : goal.overflow_add-k
@@ -20,7 +19,7 @@ loop-k-smaller c = omega arith
 
 pub loop-k-preserved : goal.loop-k-preserved
 loop-k-preserved c =
-    sym (clean-more (view c.args.stream.now) c.loop-k.k _ (omega arith) (sym c.is_good.ensures ∙ not_false _ c.if-not-is_good.false))
+    sym (clean-more (view c.args.stream.now) c.loop-k.k _ (omega arith) (sym c.is_good.ensures ∙ c.if-not-is_good.false))
     ∙ c.loop-k.invariant
 
 pub returns : goal.returns

@@ -1,6 +1,6 @@
 use mathlib.Core.Path.{refl, sym, ◌∙◌}
 use mathlib.Core.List.{[]}
-use borrow.Author.Tests.{not-true, not_false}
+use borrow.Author.Tests.{not-false}
 use Rattle.state.specs.State.{view}
 use Rattle.script.specs.Statics.{is_on}
 use Rattle.endpoint.specs.RecordsLaws.{on-driver}
@@ -14,7 +14,7 @@ returns-then-not-is_on c =
     record {
         by_index = λ b. accept-done (view c.args.s.now) _ b c.requires _ _ c.unready.ensures.s_after
           c.set_request.ensures.s_after (on-driver (λ x. is_on x.ready) c.load_ep-r.ensures
-          c.is_on.ensures c.if-is_on.true) (sym c.is_on-then-is_on.ensures ∙ not-true c.is_on-then-is_on.result c.if-not-is_on.true);
+          c.is_on.ensures c.if-is_on.true) (sym c.is_on-then-is_on.ensures ∙ c.if-not-is_on.true);
         s_unchanged = c.set_request.ensures.s_unchanged ∙ c.unready.ensures.s_unchanged;
         linked_polled = tt;
     }
@@ -32,7 +32,7 @@ returns-then-is_on-clause-by_index c =
           c.if-is_on.true) _
           c.clear_wakes.ensures.s_after
           (sym c.is_on-then-is_on.ensures
-          ∙ not_false c.is_on-then-is_on.result
+          ∙ not-false c.is_on-then-is_on.result
           c.if-not-is_on.false),
       (
         c.clear_wakes.ensures.s_unchanged
@@ -55,7 +55,7 @@ returns-then-is_on-clause-s_unchanged c =
           c.if-is_on.true) _
           c.clear_wakes.ensures.s_after
           (sym c.is_on-then-is_on.ensures
-          ∙ not_false c.is_on-then-is_on.result
+          ∙ not-false c.is_on-then-is_on.result
           c.if-not-is_on.false),
       (
         c.clear_wakes.ensures.s_unchanged
@@ -78,7 +78,7 @@ returns-then-is_on-clause-linked_polled c =
           c.if-is_on.true) _
           c.clear_wakes.ensures.s_after
           (sym c.is_on-then-is_on.ensures
-          ∙ not_false c.is_on-then-is_on.result
+          ∙ not-false c.is_on-then-is_on.result
           c.if-not-is_on.false),
       (
         c.clear_wakes.ensures.s_unchanged

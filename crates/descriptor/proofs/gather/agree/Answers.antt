@@ -2,17 +2,16 @@ use mathlib.Core.Path.{sym, ◌∙◌}
 use mathlib.Core.Bool.{true, false}
 use native.Mathlib.Omega.{arith}
 use lib.ListN.{length}
-use borrow.Author.Tests.{not-true, not_false}
 use Rattle.descriptor.specs.Endpoints.{listed}
 use Rattle.descriptor.specs.WalkLaws.{On, on, begins, agree_at, agree-over}
 use Rattle.descriptor.proofs.gather.agree.Goals as goal
 
 pub bounds-bytes-0 : goal.bounds-bytes-0
-bounds-bytes-0 c = omega (arith, (begins _ c.requires.0).some)
+bounds-bytes-0 c = omega (arith, (begins _ c.requires.bytes_value).some)
 
 pub loop-at-init : goal.loop-at-init
 loop-at-init c =
-    let b = begins c.args.bytes.now c.requires.0 in
+    let b = begins c.args.bytes.now c.requires.bytes_value in
     
     (omega (arith, b.fits), length c.args.bytes.now, false, rw c.wide-at.ensures b.row, rw c.wide-at.ensures)
 
@@ -33,12 +32,12 @@ pub agrees-requires : goal.agrees-requires
 agrees-requires c =
     record {
         sound = (here (c)).sound;
-        tidy = c.requires.1;
+        tidy = c.requires.tidy;
     }
 
 pub returns-then-not-agrees : goal.returns-then-not-agrees
 returns-then-not-agrees c =
-    let y = sym c.agrees.ensures ∙ not-true _ c.if-not-agrees.true in
+    let y = sym c.agrees.ensures ∙ c.if-not-agrees.true in
     sym (agree_at _ _ _ _ _ (here (c)) (listed c.args.list)
     ∙ rw (rw c.setting-now_in.ensures at y)) ∙ c.loop-at.invariant.4
 
@@ -59,7 +58,7 @@ loop-at-preserved c =
     let o = here (c) in
     let f = o.sound.here.fits in
     
-    let y = sym c.agrees.ensures ∙ not_false _ c.if-not-agrees.false in
+    let y = sym c.agrees.ensures ∙ c.if-not-agrees.false in
     (
       omega arith,
       o.left,
@@ -71,5 +70,5 @@ loop-at-preserved c =
 
 pub returns : goal.returns
 returns c =
-    sym (agree-over c.loop-at.invariant.1 c.args.bytes.now c.loop-at.at c.args.zeroth c.loop-at.now-in (omega arith)
+    sym (agree-over c.loop-at.invariant.1 c.args.bytes.now c.loop-at.at c.args.zeroth c.loop-at.now_in (omega arith)
     (listed c.args.list)) ∙ c.loop-at.invariant.4

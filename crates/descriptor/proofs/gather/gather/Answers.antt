@@ -9,13 +9,13 @@ use Rattle.descriptor.specs.WalkLaws.{On, on, begins, gather-at, tidy-at, gather
 use Rattle.descriptor.proofs.gather.gather.Goals as goal
 
 pub bounds-bytes-0 : goal.bounds-bytes-0
-bounds-bytes-0 c = omega (arith, (begins _ c.requires.0).some)
+bounds-bytes-0 c = omega (arith, (begins _ c.requires.bytes_value).some)
 
 pub loop-at-init : goal.loop-at-init
 loop-at-init c =
-    let b = begins c.args.bytes.now c.requires.0 in
+    let b = begins c.args.bytes.now c.requires.bytes_value in
     
-    (c.requires.1, omega (arith, b.fits), length c.args.bytes.now, false, rw c.wide-at.ensures b.row, rw c.wide-at.ensures)
+    (c.requires.tidy, omega (arith, b.fits), length c.args.bytes.now, false, rw c.wide-at.ensures b.row, rw c.wide-at.ensures)
 
 -- the descriptor at `at`, and the row after it
 here : (p : tie.In-loop invariant_loop decreases_loop)
@@ -66,7 +66,7 @@ loop-at-preserved c =
 
 pub returns : goal.returns
 returns c =
-    let x = sym (gather-over c.loop-at.invariant.2 c.args.bytes.now c.loop-at.at c.args.zeroth c.loop-at.now-in
+    let x = sym (gather-over c.loop-at.invariant.2 c.args.bytes.now c.loop-at.at c.args.zeroth c.loop-at.now_in
     (omega arith) (listed c.loop-at.so_far)) ∙ c.loop-at.invariant.5 in
     record {
         value = c.loop-at.invariant.0.same ∙ ap (λ (y : List Endpoint). of_list y) x;

@@ -5,14 +5,14 @@ use Rattle.descriptor.proofs.gather.taken.Goals as goal
 
 pub endpoint-requires : goal.endpoint-requires
 endpoint-requires c =
-    c.requires.0.here.endpoint (meant-endpoint c.args.bytes.now c.args.at c.args.zeroth c.args.setting (sym c.is_meant.ensures ∙ c.if-is_meant.true))
+    c.requires.sound.here.endpoint (meant-endpoint c.args.bytes.now c.args.at c.args.zeroth c.args.setting (sym c.is_meant.ensures ∙ c.if-is_meant.true))
 
 pub noted-requires : goal.noted-requires
 noted-requires c =
     let e = meant-endpoint c.args.bytes.now c.args.at c.args.zeroth c.args.setting (sym c.is_meant.ensures ∙ c.if-is_meant.true) in
     record {
-        tidy = c.requires.1;
-        list_bound = rw c.endpoint.ensures (place-few _ _ (fine-at _ _ c.requires.0 e) c.requires.1.good);
+        tidy = c.requires.tidy;
+        list_bound = rw c.endpoint.ensures (place-few _ _ (fine-at _ _ c.requires.sound e) c.requires.tidy.good);
     }
 
 pub returns-then-is_meant : goal.returns-then-is_meant

@@ -4,8 +4,8 @@ use Rattle.descriptor.proofs.list.noted.Goals as goal
 
 pub returns-then-i-list : goal.returns-then-i-list
 returns-then-i-list c =
-    rw c.merged.ensures (noted-there c.args.t1 c.args.e c.place-i.result c.requires.0 c.place-i.ensures c.if-i-list.true)
+    rw c.merged.ensures (noted-there c.args.list c.args.e c.place-i.result c.requires.tidy c.place-i.ensures c.if-i-list.true)
 
 pub returns : goal.returns
 returns c =
-    noted-last c.args.t1 c.args.e c.place-i.result c.requires.0 c.place-i.ensures (omega arith) c.if-i-list.false
+    noted-last c.args.list c.args.e c.place-i.result c.requires.tidy c.place-i.ensures (omega arith) c.if-i-list.false

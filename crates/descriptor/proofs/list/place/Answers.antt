@@ -18,9 +18,9 @@ bounds-list-i c = omega (arith, tidy-count _ c.loop-i.invariant.0)
 
 pub returns-then-e-address : goal.returns-then-e-address
 returns-then-e-address c =
-    let n = tidy-count c.args.t1 c.loop-i.invariant.0 in
-    let g = get_or-take c.args.t1.count c.args.t1.entries c.loop-i.i none (omega arith) in
-    let z = place_found _ (listed c.args.t1) c.loop-i.i (omega arith) (ap (λ (x : Endpoint). x.address) g ∙ c.if-e-address.true) in
+    let n = tidy-count c.args.list c.loop-i.invariant.0 in
+    let g = get_or-take c.args.list.count c.args.list.entries c.loop-i.i none (omega arith) in
+    let z = place_found _ (listed c.args.list) c.loop-i.i (omega arith) (ap (λ (x : Endpoint). x.address) g ∙ c.if-e-address.true) in
     omega arith
 
 pub overflow_add-i : goal.overflow_add-i
@@ -31,14 +31,14 @@ loop-i-smaller c = omega arith
 
 pub loop-i-preserved : goal.loop-i-preserved
 loop-i-preserved c =
-    let n = tidy-count c.args.t1 c.loop-i.invariant.0 in
-    let g = get_or-take c.args.t1.count c.args.t1.entries c.loop-i.i none (omega arith) in
-    let z = place-past _ (listed c.args.t1) c.loop-i.i (omega arith) (λ e. c.if-e-address.false (sym (ap (λ (x : Endpoint). x.address) g) ∙ e)) in
+    let n = tidy-count c.args.list c.loop-i.invariant.0 in
+    let g = get_or-take c.args.list.count c.args.list.entries c.loop-i.i none (omega arith) in
+    let z = place-past _ (listed c.args.list) c.loop-i.i (omega arith) (λ e. c.if-e-address.false (sym (ap (λ (x : Endpoint). x.address) g) ∙ e)) in
     (c.loop-i.invariant.0, omega arith, omega arith)
 
 pub returns : goal.returns
 returns c =
-    let n = tidy-count c.args.t1 c.loop-i.invariant.0 in
-    let e : c.loop-i.i ≡ length (listed c.args.t1) = omega arith in
-    let z : place_of c.args.address (drop c.loop-i.i (listed c.args.t1)) ≡ 0 = rw e (place_end _ (listed c.args.t1)) in
+    let n = tidy-count c.args.list c.loop-i.invariant.0 in
+    let e : c.loop-i.i ≡ length (listed c.args.list) = omega arith in
+    let z : place_of c.args.address (drop c.loop-i.i (listed c.args.list)) ≡ 0 = rw e (place_end _ (listed c.args.list)) in
     omega arith

@@ -17,13 +17,13 @@ loop-i-init c =
 
 pub returns-then-t-ne0 : goal.returns-then-t-ne0
 returns-then-t-ne0 c =
-    let e : c.loop-i.i + (c.count-n.result - c.loop-i.i) ≡ count_of c.args.t2
+    let e : c.loop-i.i + (c.count-n.result - c.loop-i.i) ≡ count_of c.args.list
     = omega arith in
     c.loop-i.invariant.4
-    ∙ sym (tried-on c.start-t.result c.args.t2.entries c.loop-i.i (c.count-n.result - c.loop-i.i)
+    ∙ sym (tried-on c.start-t.result c.args.list.entries c.loop-i.i (c.count-n.result - c.loop-i.i)
     (λ q. c.if-t-ne0.true (ap (λ (x : Trial). x.refusal) c.loop-i.invariant.4 ∙ q)))
-    ∙ ap (λ (j : ℕ). tried c.start-t.result (up_to j c.args.t2.entries)) e
-    ∙ ap (λ (x : Trial). tried x (up_to (count_of c.args.t2) c.args.t2.entries))
+    ∙ ap (λ (j : ℕ). tried c.start-t.result (up_to j c.args.list.entries)) e
+    ∙ ap (λ (x : Trial). tried x (up_to (count_of c.args.list) c.args.list.entries))
     c.start-t.ensures
 
 pub offset_bounds-list-i : goal.offset_bounds-list-i
@@ -47,11 +47,11 @@ loop-i-smaller c = omega arith
 
 pub loop-i-preserved : goal.loop-i-preserved
 loop-i-preserved c =
-    let e = get_or c.args.t2.entries c.loop-i.i none in
+    let e = get_or c.args.list.entries c.loop-i.i none in
     
     let x = ap (λ (t : Trial). t.count) c.step-t.ensures in
     let y = ap (λ (t : Trial). t.buffers) c.step-t.ensures in
-    let m = tried-more c.start-t.result c.args.t2.entries c.loop-i.i
+    let m = tried-more c.start-t.result c.args.list.entries c.loop-i.i
     (sym (ap (λ (t : Trial). t.refusal) c.loop-i.invariant.4) ∙ c.if-t-ne0.false) in (
       omega arith,
       c.loop-i.invariant.1,
@@ -62,6 +62,6 @@ loop-i-preserved c =
 
 pub returns : goal.returns
 returns c =
-    let e : c.loop-i.i ≡ count_of c.args.t2 = omega arith in
-    c.loop-i.invariant.4 ∙ ap (λ (j : ℕ). tried c.start-t.result (up_to j c.args.t2.entries)) e
-    ∙ ap (λ (x : Trial). tried x (up_to (count_of c.args.t2) c.args.t2.entries)) c.start-t.ensures
+    let e : c.loop-i.i ≡ count_of c.args.list = omega arith in
+    c.loop-i.invariant.4 ∙ ap (λ (j : ℕ). tried c.start-t.result (up_to j c.args.list.entries)) e
+    ∙ ap (λ (x : Trial). tried x (up_to (count_of c.args.list) c.args.list.entries)) c.start-t.ensures

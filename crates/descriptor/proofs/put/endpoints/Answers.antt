@@ -5,7 +5,7 @@ use Rattle.descriptor.specs.WritingLaws.{length-room, laid_none, laid_more}
 use Rattle.descriptor.proofs.put.endpoints.Goals as goal
 
 pub loop-i-init : goal.loop-i-init
-loop-i-init c = (omega arith, c.requires.0, c.requires.1, sym (laid_none _ _))
+loop-i-init c = (omega arith, c.requires.n_bound, c.requires.n_in_bounds, sym (laid_none _ _))
 
 pub offset_bounds-list-i : goal.offset_bounds-list-i
 offset_bounds-list-i c = omega arith
@@ -21,7 +21,7 @@ overflow_add-i c = omega arith
 
 pub endpoint-requires : goal.endpoint-requires
 endpoint-requires c =
-    let l = ap length c.loop-i.invariant.3 ∙ length-room c.args.room.now c.args.t2.entries c.loop-i.i (omega arith) in
+    let l = ap length c.loop-i.invariant.3 ∙ length-room c.args.room.now c.args.list.entries c.loop-i.i (omega arith) in
     omega arith
 
 pub overflow_add-i-in-loop-i : goal.overflow_add-i-in-loop-i
@@ -36,12 +36,12 @@ loop-i-preserved c =
       omega arith,
       c.loop-i.invariant.1,
       c.loop-i.invariant.2,
-      c.endpoint.ensures ∙ rw c.loop-i.invariant.3 (laid_more c.args.room.now c.args.t2.entries c.loop-i.i (omega arith)),
+      c.endpoint.ensures ∙ rw c.loop-i.invariant.3 (laid_more c.args.room.now c.args.list.entries c.loop-i.i (omega arith)),
     )
 
 pub shape_of-room : goal.shape_of-room
 shape_of-room c =
-    ap length c.loop-i.invariant.3 ∙ length-room c.args.room.now c.args.t2.entries c.loop-i.i (omega arith)
+    ap length c.loop-i.invariant.3 ∙ length-room c.args.room.now c.args.list.entries c.loop-i.i (omega arith)
 
 pub returns : goal.returns
 returns c =

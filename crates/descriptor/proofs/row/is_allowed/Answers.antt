@@ -1,10 +1,11 @@
 use native.Mathlib.Omega.{arith}
-use borrow.Author.Tests.{eq-eqb, ne_eqb, not-true, not_false}
+use borrow.Author.Tests.{eq-eqb, ne_eqb}
 use Rattle.descriptor.specs.RowLaws.{allowed_at, here}
 use Rattle.descriptor.proofs.row.is_allowed.Goals as goal
 
 pub bounds-bytes-at : goal.bounds-bytes-at
-bounds-bytes-at c = omega (arith, (here _ _ c.requires.0 c.requires.1).two)
+bounds-bytes-at c =
+    omega (arith, (here _ _ c.requires.at_in_bounds c.requires.bytes_value).two)
 
 pub returns-then-kind-eq-CONFIGURATION : goal.returns-then-kind-eq-CONFIGURATION
 returns-then-kind-eq-CONFIGURATION c =
@@ -16,12 +17,12 @@ returns-then-not-inside c =
       allowed_at,
       ne_eqb _ _ c.if-kind-eq-CONFIGURATION.false,
       eq-eqb _ _ c.if-kind-eq-ENDPOINT.true,
-      not-true c.args.inside c.if-not-inside.true,
+      c.if-not-inside.true,
     )
 
 pub bounds-bytes-at-then-kind-eq-ENDPOINT : goal.bounds-bytes-at-then-kind-eq-ENDPOINT
 bounds-bytes-at-then-kind-eq-ENDPOINT c =
-    omega (arith, (here _ _ c.requires.0 c.requires.1).endpoint c.if-kind-eq-ENDPOINT.true)
+    omega (arith, (here _ _ c.requires.at_in_bounds c.requires.bytes_value).endpoint c.if-kind-eq-ENDPOINT.true)
 
 pub returns-then-kind-eq-ENDPOINT : goal.returns-then-kind-eq-ENDPOINT
 returns-then-kind-eq-ENDPOINT c =
@@ -29,7 +30,7 @@ returns-then-kind-eq-ENDPOINT c =
       allowed_at,
       ne_eqb _ _ c.if-kind-eq-CONFIGURATION.false,
       eq-eqb _ _ c.if-kind-eq-ENDPOINT.true,
-      not_false c.args.inside c.if-not-inside.false,
+      c.if-not-inside.false,
       c.is_clear.ensures,
     )
 

@@ -1,6 +1,6 @@
 use mathlib.Core.Path.{sym, ◌∙◌}
 use native.Mathlib.Omega.{arith}
-use borrow.Author.Tests.{not-true, not_false, le-leb, lt-leb, eq-eqb, ne_eqb}
+use borrow.Author.Tests.{le-leb, lt-leb, eq-eqb, ne_eqb}
 use Rattle.descriptor.specs.Row.{is_configuration}
 use Rattle.descriptor.specs.RowLaws.{whole_is, least-configuration}
 use Rattle.descriptor.proofs.row.is_configuration.Goals as goal
@@ -12,11 +12,11 @@ returns-then-bytes-gt-MOST c = rw (lt-leb _ _ c.if-bytes-gt-MOST.true)
 pub returns-then-not-is_whole : goal.returns-then-not-is_whole
 unfolding is_configuration
 returns-then-not-is_whole c =
-    rw (le-leb _ _ c.if-bytes-gt-MOST.false, ← c.is_whole.ensures, not-true c.is_whole.result c.if-not-is_whole.true)
+    rw (le-leb _ _ c.if-bytes-gt-MOST.false, ← c.is_whole.ensures, c.if-not-is_whole.true)
 
 pub bounds-bytes-1 : goal.bounds-bytes-1
 bounds-bytes-1 c =
-    omega (arith, (whole_is _ (sym c.is_whole.ensures ∙ not_false _ c.if-not-is_whole.false)).two)
+    omega (arith, (whole_is _ (sym c.is_whole.ensures ∙ c.if-not-is_whole.false)).two)
 
 pub returns-then-bytes-ne-CONFIGURATION : goal.returns-then-bytes-ne-CONFIGURATION
 unfolding is_configuration
@@ -24,13 +24,13 @@ returns-then-bytes-ne-CONFIGURATION c =
     rw (
       le-leb _ _ c.if-bytes-gt-MOST.false,
       ← c.is_whole.ensures,
-      not_false c.is_whole.result c.if-not-is_whole.false,
+      c.if-not-is_whole.false,
       ne_eqb _ _ c.if-bytes-ne-CONFIGURATION.true,
     )
 
 pub total-requires : goal.total-requires
 total-requires c =
-    let w = whole_is _ (sym c.is_whole.ensures ∙ not_false _ c.if-not-is_whole.false) in
+    let w = whole_is _ (sym c.is_whole.ensures ∙ c.if-not-is_whole.false) in
     let l = w.long in
     let f = w.fits in
     omega (arith, least-configuration _ c.if-bytes-ne-CONFIGURATION.false)
@@ -41,7 +41,7 @@ returns-then-total-bytes c =
     rw (
       le-leb _ _ c.if-bytes-gt-MOST.false,
       ← c.is_whole.ensures,
-      not_false c.is_whole.result c.if-not-is_whole.false,
+      c.if-not-is_whole.false,
       eq-eqb _ _ c.if-bytes-ne-CONFIGURATION.false,
       ← c.total.ensures,
       ne_eqb _ _ c.if-total-bytes.true,
@@ -51,12 +51,12 @@ pub bounds-bytes-0 : goal.bounds-bytes-0
 bounds-bytes-0 c =
     omega (
       arith,
-      (whole_is _ (sym c.is_whole.ensures ∙ not_false _ c.if-not-is_whole.false)).two,
+      (whole_is _ (sym c.is_whole.ensures ∙ c.if-not-is_whole.false)).two,
     )
 
 pub is_row-requires : goal.is_row-requires
 is_row-requires c =
-    let w = (whole_is _ (sym c.is_whole.ensures ∙ not_false _ c.if-not-is_whole.false)).fits in
+    let w = (whole_is _ (sym c.is_whole.ensures ∙ c.if-not-is_whole.false)).fits in
     
     omega arith
 
@@ -66,7 +66,7 @@ returns c =
     rw (
       le-leb _ _ c.if-bytes-gt-MOST.false,
       ← c.is_whole.ensures,
-      not_false c.is_whole.result c.if-not-is_whole.false,
+      c.if-not-is_whole.false,
       eq-eqb _ _ c.if-bytes-ne-CONFIGURATION.false,
       ← c.total.ensures,
       eq-eqb _ _ c.if-total-bytes.false,

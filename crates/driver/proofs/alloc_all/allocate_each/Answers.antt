@@ -32,9 +32,9 @@ loop-i-preserved c =
       (
         c.loop-i.invariant.1.0,
         (
-          c.allocate_one.ensures.s_after ∙ ap (λ (d : Driver). one_on d (get_or c.args.t2.entries c.loop-i.i none))
+          c.allocate_one.ensures.s_after ∙ ap (λ (d : Driver). one_on d (get_or c.args.list.entries c.loop-i.i none))
               c.loop-i.invariant.1.1.0
-              ∙ sym (each_more _ c.args.t2.entries c.loop-i.i),
+              ∙ sym (each_more _ c.args.list.entries c.loop-i.i),
           c.allocate_one.ensures.s_unchanged ∙ c.loop-i.invariant.1.1.1,
         ),
       ),
@@ -42,8 +42,8 @@ loop-i-preserved c =
 
 pub returns : goal.returns
 returns c =
-    let e : c.loop-i.i ≡ count_of c.args.t2 = omega arith in
+    let e : c.loop-i.i ≡ count_of c.args.list = omega arith in
     record {
-        s_after = c.loop-i.invariant.1.1.0 ∙ ap (λ (i : ℕ). each_on (view c.args.s.now) (up_to i c.args.t2.entries)) e;
+        s_after = c.loop-i.invariant.1.1.0 ∙ ap (λ (i : ℕ). each_on (view c.args.s.now) (up_to i c.args.list.entries)) e;
         s_unchanged = c.loop-i.invariant.1.1.1;
     }

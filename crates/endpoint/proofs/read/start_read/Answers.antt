@@ -1,6 +1,6 @@
 use mathlib.Core.Path.{refl, sym, ◌∙◌}
 use lib.Dec.{ltb}
-use borrow.Author.Tests.{lt-ltb, le-ltb, not-true, not_false}
+use borrow.Author.Tests.{lt-ltb, le-ltb, not-false}
 use Rattle.state.specs.State.{view}
 use Rattle.script.specs.Statics.{is_on}
 use Rattle.endpoint.specs.RecordsLaws.{on-driver}
@@ -14,7 +14,7 @@ pub returns-then-not-is_enabled : goal.returns-then-not-is_enabled
 returns-then-not-is_enabled c =
     record {
         by_index = λ b. read-disabled (view c.args.s.now) b c.args.e c.args.n c.requires
-          (sym c.is_enabled.ensures ∙ not-true c.is_enabled.result c.if-not-is_enabled.true);
+          (sym c.is_enabled.ensures ∙ c.if-not-is_enabled.true);
         s_unchanged = refl;
         linked_begun = tt;
     }
@@ -23,7 +23,7 @@ pub returns-then-n-r : goal.returns-then-n-r
 returns-then-n-r c =
     record {
         by_index = λ b. read_short (view c.args.s.now) b c.args.e c.args.n c.requires
-          (sym c.is_enabled.ensures ∙ not_false c.is_enabled.result c.if-not-is_enabled.false)
+          (sym c.is_enabled.ensures ∙ c.if-not-is_enabled.false)
           (on-driver (λ y. ltb c.args.n y.max_len) c.load_ep-r.ensures refl (lt-ltb _ _ c.if-n-r.true));
         s_unchanged = refl;
         linked_begun = tt;
@@ -33,7 +33,7 @@ pub returns-then-is_on : goal.returns-then-is_on
 returns-then-is_on c =
     record {
         by_index = λ b. read-iso (view c.args.s.now) b c.args.e c.args.n c.pre
-          (sym c.is_enabled.ensures ∙ not_false c.is_enabled.result c.if-not-is_enabled.false) (on-driver
+          (sym c.is_enabled.ensures ∙ c.if-not-is_enabled.false) (on-driver
           (λ y. ltb c.args.n y.max_len) c.load_ep-r.ensures refl (le-ltb _ _ c.if-n-r.false)) _ _
           c.set_request.ensures.s_after c.clear_wakes.ensures.s_after (on-driver (λ y. is_on y.iso) c.load_ep-r.ensures
           c.is_on.ensures c.if-is_on.true);
@@ -45,7 +45,7 @@ pub returns-then-is_on-2-clause-by_index : goal.returns-then-is_on-2-clause-by_i
 returns-then-is_on-2-clause-by_index c =
     ((
       λ b. read_has (view c.args.s.now) b c.args.e c.args.n c.pre
-          (sym c.is_enabled.ensures ∙ not_false c.is_enabled.result c.if-not-is_enabled.false) (on-driver
+          (sym c.is_enabled.ensures ∙ c.if-not-is_enabled.false) (on-driver
           (λ y. ltb c.args.n y.max_len) c.load_ep-r.ensures refl (le-ltb _ _ c.if-n-r.false)) _ _
           c.set_request.ensures.s_after c.clear_wakes.ensures.s_after (on-driver (λ y. is_on y.iso) c.load_ep-r.ensures
           c.is_on.ensures c.if-is_on.false) (on-driver (λ y. is_on y.ready) c.load_ep-r.ensures
@@ -60,7 +60,7 @@ pub returns-then-is_on-2-clause-s_unchanged : goal.returns-then-is_on-2-clause-s
 returns-then-is_on-2-clause-s_unchanged c =
     ((
       λ b. read_has (view c.args.s.now) b c.args.e c.args.n c.pre
-          (sym c.is_enabled.ensures ∙ not_false c.is_enabled.result c.if-not-is_enabled.false) (on-driver
+          (sym c.is_enabled.ensures ∙ c.if-not-is_enabled.false) (on-driver
           (λ y. ltb c.args.n y.max_len) c.load_ep-r.ensures refl (le-ltb _ _ c.if-n-r.false)) _ _
           c.set_request.ensures.s_after c.clear_wakes.ensures.s_after (on-driver (λ y. is_on y.iso) c.load_ep-r.ensures
           c.is_on.ensures c.if-is_on.false) (on-driver (λ y. is_on y.ready) c.load_ep-r.ensures
@@ -75,7 +75,7 @@ pub returns-then-is_on-2-clause-linked_begun : goal.returns-then-is_on-2-clause-
 returns-then-is_on-2-clause-linked_begun c =
     ((
       λ b. read_has (view c.args.s.now) b c.args.e c.args.n c.pre
-          (sym c.is_enabled.ensures ∙ not_false c.is_enabled.result c.if-not-is_enabled.false) (on-driver
+          (sym c.is_enabled.ensures ∙ c.if-not-is_enabled.false) (on-driver
           (λ y. ltb c.args.n y.max_len) c.load_ep-r.ensures refl (le-ltb _ _ c.if-n-r.false)) _ _
           c.set_request.ensures.s_after c.clear_wakes.ensures.s_after (on-driver (λ y. is_on y.iso) c.load_ep-r.ensures
           c.is_on.ensures c.if-is_on.false) (on-driver (λ y. is_on y.ready) c.load_ep-r.ensures
@@ -96,7 +96,7 @@ returns-clause-by_index c =
       c.args.n
       c.requires
       (sym c.is_enabled.ensures
-      ∙ not_false
+      ∙ not-false
       c.is_enabled.result
       c.if-not-is_enabled.false)
       (on-driver (λ y. ltb
@@ -133,7 +133,7 @@ returns-clause-s_unchanged c =
       c.args.n
       c.requires
       (sym c.is_enabled.ensures
-      ∙ not_false
+      ∙ not-false
       c.is_enabled.result
       c.if-not-is_enabled.false)
       (on-driver (λ y. ltb
@@ -170,7 +170,7 @@ returns-clause-linked_begun c =
       c.args.n
       c.requires
       (sym c.is_enabled.ensures
-      ∙ not_false
+      ∙ not-false
       c.is_enabled.result
       c.if-not-is_enabled.false)
       (on-driver (λ y. ltb

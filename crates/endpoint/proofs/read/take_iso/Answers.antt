@@ -1,7 +1,7 @@
 use mathlib.Core.Path.{refl, sym, ◌∙◌}
 use native.Mathlib.Omega.{arith}
 use lib.ListN.{length}
-use borrow.Author.Tests.{not-true, not_false}
+use borrow.Author.Tests.{not-true, not-false}
 use Rattle.state.specs.State.{view}
 use Rattle.endpoint.proofs.Laws.{iso-disabled, iso-none, iso-taken}
 use Rattle.endpoint.proofs.read.take_iso.Goals as goal
@@ -20,8 +20,8 @@ returns-then-not-is_enabled c =
 pub returns-then-not-waiting : goal.returns-then-not-waiting
 returns-then-not-waiting c =
     let p = iso-none (view c.args.s.now) c.args.buf.now c.args.out.now c.args.e
-    (length c.args.out.now) (sym c.is_enabled.ensures ∙ not_false c.is_enabled.result c.if-not-is_enabled.false)
-    (sym c.waiting.ensures ∙ not-true c.waiting.result c.if-not-waiting.true) in
+    (length c.args.out.now) (sym c.is_enabled.ensures ∙ c.if-not-is_enabled.false)
+    (sym c.waiting.ensures ∙ c.if-not-waiting.true) in
     record {
         buf_after = p.0;
         out_after = p.1;
@@ -34,8 +34,8 @@ fetch-n-requires c = omega (arith, c.shorter-k.ensures)
 pub returns : goal.returns
 returns c =
     let p = iso-taken (view c.args.s.now) c.args.buf.now c.args.out.now c.args.e
-    (length c.args.out.now) (sym c.is_enabled.ensures ∙ not_false c.is_enabled.result c.if-not-is_enabled.left)
-    (sym c.waiting.ensures ∙ not_false c.waiting.result c.if-not-waiting.left) _ _ _ _ _ _ _ c.oldest_at-at.ensures
+    (length c.args.out.now) (sym c.is_enabled.ensures ∙ not-false c.is_enabled.result c.if-not-is_enabled.left)
+    (sym c.waiting.ensures ∙ not-false c.waiting.result c.if-not-waiting.left) _ _ _ _ _ _ _ c.oldest_at-at.ensures
     c.next_len-len.ensures c.shorter-k.ensures c.fetch-n.ensures.value c.fetch-n.ensures.out_after c.take_oldest.ensures.s_after
     c.end_request-2.ensures.s_after in
     record {

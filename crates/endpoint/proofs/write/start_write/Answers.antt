@@ -1,7 +1,7 @@
 use mathlib.Core.Path.{refl, sym, ◌∙◌}
 use lib.Dec.{ltb}
 use lib.ListN.{length}
-use borrow.Author.Tests.{lt-ltb, le-ltb, not-true, not_false}
+use borrow.Author.Tests.{lt-ltb, le-ltb, not-false}
 use Rattle.state.specs.State.{view}
 use Rattle.script.specs.Statics.{is_on}
 use Rattle.endpoint.specs.RecordsLaws.{on-driver}
@@ -14,7 +14,7 @@ pub returns-then-not-is_enabled : goal.returns-then-not-is_enabled
 returns-then-not-is_enabled c =
     record {
         buf_after = write-disabled (view c.args.s.now) c.args.buf.now c.args.bytes.now
-          c.args.e c.requires (sym c.is_enabled.ensures ∙ not-true c.is_enabled.result c.if-not-is_enabled.true);
+          c.args.e c.requires (sym c.is_enabled.ensures ∙ c.if-not-is_enabled.true);
         s_unchanged = refl;
         linked_begun = tt;
     }
@@ -23,7 +23,7 @@ pub returns-then-r-bytes : goal.returns-then-r-bytes
 returns-then-r-bytes c =
     record {
         buf_after = write-long (view c.args.s.now) c.args.buf.now c.args.bytes.now c.args.e
-          c.requires (sym c.is_enabled.ensures ∙ not_false c.is_enabled.result c.if-not-is_enabled.false)
+          c.requires (sym c.is_enabled.ensures ∙ c.if-not-is_enabled.false)
           (on-driver (λ y. ltb y.max_len (length c.args.bytes.now))
           c.load_ep-r.ensures refl (lt-ltb _ _ c.if-r-bytes.true));
         s_unchanged = refl;
@@ -37,7 +37,7 @@ pub returns-then-is_on : goal.returns-then-is_on
 returns-then-is_on c =
     record {
         buf_after = write-iso (view c.args.s.now) c.args.buf.now c.args.bytes.now c.args.e
-          c.pre (sym c.is_enabled.ensures ∙ not_false c.is_enabled.result c.if-not-is_enabled.false)
+          c.pre (sym c.is_enabled.ensures ∙ c.if-not-is_enabled.false)
           (on-driver (λ y. ltb y.max_len (length c.args.bytes.now)) c.load_ep-r.ensures refl
           (le-ltb _ _ c.if-r-bytes.false)) _ c.length16-n.ensures _ _ c.set_request.ensures.s_after c.clear_wakes.ensures.s_after
           (on-driver (λ y. is_on y.iso) c.load_ep-r.ensures c.is_on.ensures c.if-is_on.true);
@@ -55,7 +55,7 @@ returns-clause-buf_after c =
       c.args.e
       c.requires
       (sym
-      c.is_enabled.ensures ∙ not_false
+      c.is_enabled.ensures ∙ not-false
       c.is_enabled.result
       c.if-not-is_enabled.false)
       (on-driver
@@ -90,7 +90,7 @@ returns-clause-s_unchanged c =
       c.args.e
       c.requires
       (sym
-      c.is_enabled.ensures ∙ not_false
+      c.is_enabled.ensures ∙ not-false
       c.is_enabled.result
       c.if-not-is_enabled.false)
       (on-driver
@@ -125,7 +125,7 @@ returns-clause-linked_begun c =
       c.args.e
       c.requires
       (sym
-      c.is_enabled.ensures ∙ not_false
+      c.is_enabled.ensures ∙ not-false
       c.is_enabled.result
       c.if-not-is_enabled.false)
       (on-driver

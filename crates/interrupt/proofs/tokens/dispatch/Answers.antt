@@ -12,7 +12,7 @@ unfolding is_sof
 sof-told k st h l = ap sof_token (sym l ∙ h)
 
 pub sof_arm-requires : goal.sof_arm-requires
-sof_arm-requires c = sof-told _ _ (c.enum_told-1).given.1 (c.token-t).ensures
+sof_arm-requires c = sof-told _ _ (enum-told-fact).given.1 (token-fact).ensures
 
 pub returns-in-Sof : goal.returns-in-Sof
 returns-in-Sof c =

@@ -1,7 +1,6 @@
 use mathlib.Core.Path.{refl, sym, ◌∙◌}
 use mathlib.Core.Bool.{true, false}
 use native.Mathlib.Omega.{arith}
-use borrow.Author.Tests.{not_false, not-true}
 use Rattle.state.specs.State.{view}
 use Rattle.isochronous.specs.Laws.{sof-none, sof-step, rest-less}
 use Rattle.isochronous.proofs.sof.find.Goals as goal
@@ -15,7 +14,7 @@ returns-then-not-in_previous c =
       view c.args.s.now,
       b,
     ) _ _ false (omega arith) c.loop-eps.invariant.0 c.next_endpoint-e.ensures c.rest_of-rest.ensures
-    c.load_ep-r.ensures c.in_previous.ensures (not-true c.in_previous.result c.if-not-in_previous.true)) ∙ c.loop-eps.invariant.1 b
+    c.load_ep-r.ensures c.in_previous.ensures (c.if-not-in_previous.true)) ∙ c.loop-eps.invariant.1 b
 
 pub loop-eps-smaller : goal.loop-eps-smaller
 loop-eps-smaller c =
@@ -29,7 +28,7 @@ loop-eps-preserved c =
         view c.args.s.now,
         b,
       ) _ _ true (omega arith) c.loop-eps.invariant.0 c.next_endpoint-e.ensures c.rest_of-rest.ensures
-          c.load_ep-r.ensures c.in_previous.ensures (not_false c.in_previous.result c.if-not-in_previous.false))
+          c.load_ep-r.ensures c.in_previous.ensures (c.if-not-in_previous.false))
           ∙ c.loop-eps.invariant.1 b,
     )
 

@@ -4,7 +4,7 @@ use Rattle.ring.proofs.Laws.{copied-step, copied-one, copied_none}
 use Rattle.ring.proofs.marks.copy_few.Goals as goal
 
 pub loop-i-init : goal.loop-i-init
-loop-i-init c = (refl, c.requires.0, c.requires.1, rw sub-zero)
+loop-i-init c = (refl, c.requires.n_in_bounds, c.requires.n_in_bounds_2, rw sub-zero)
 
 pub overflow_cast-part : goal.overflow_cast-part
 overflow_cast-part c = omega arith

@@ -1,5 +1,4 @@
 use Rattle.std.proofs.Common.{◌≡◌, ◌+◌, ◌-◌, ◌*◌, sym, refl, ◌∙◌, arith}
-use borrow.Author.Tests.{not_false}
 use Rattle.ring.proofs.Laws.{found_word}
 use Rattle.ring.proofs.marks.unmarked_words.Goals as goal
 
@@ -27,7 +26,7 @@ loop-i-smaller c = omega arith
 pub loop-i-preserved : goal.loop-i-preserved
 loop-i-preserved c =
     let e : (c.loop-i.i - 1) * 4 + 4 ≡ c.loop-i.i * 4 = omega arith in
-    let m = sym c.is_mark-is_empty.ensures ∙ not_false _ c.if-not-is_empty.false in
+    let m = sym c.is_mark-is_empty.ensures ∙ c.if-not-is_empty.false in
     (omega arith, c.loop-i.invariant.1, sym (rw e at (found_word 4 _ (c.loop-i.i - 1) (omega arith) m)) ∙ c.loop-i.invariant.2)
 
 pub returns : goal.returns

@@ -1,5 +1,4 @@
 use mathlib.Core.Path.{refl, sym, ◌∙◌}
-use borrow.Author.Tests.{not-true, not_false}
 use Rattle.script_ops.specs.Rings.{enqueue_on, room_on, queued_on}
 use Rattle.script_ops.specs.RingLaws.{room_fits}
 use Rattle.script_ops.proofs.rings.iso_in_enqueue.Goals as goal
@@ -8,14 +7,14 @@ pub returns-then-not-takes : goal.returns-then-not-takes
 unfolding enqueue_on room_on
 returns-then-not-takes c =
     record {
-        s_after = simp (← c.takes.ensures, not-true c.takes.result c.if-not-takes.true, ← c.load_ep-r.ensures);
-        buf_after = simp (← c.takes.ensures, not-true c.takes.result c.if-not-takes.true, ← c.load_ep-r.ensures);
+        s_after = simp (← c.takes.ensures, c.if-not-takes.true, ← c.load_ep-r.ensures);
+        buf_after = simp (← c.takes.ensures, c.if-not-takes.true, ← c.load_ep-r.ensures);
         s_unchanged = refl;
     }
 
 pub length16-requires : goal.length16-requires
 length16-requires c =
-    room_fits c.load_ep-r.result _ (sym c.takes.ensures ∙ not_false c.takes.result c.if-not-takes.false)
+    room_fits c.load_ep-r.result _ (sym c.takes.ensures ∙ c.if-not-takes.false)
 
 pub returns-clause-s_after : goal.returns-clause-s_after
 unfolding enqueue_on room_on queued_on
@@ -28,7 +27,7 @@ returns-clause-s_after c =
         ← c.slot_index-i.ensures,
         c.length16.ensures,
         ← c.takes.ensures,
-        not_false c.takes.result c.if-not-takes.false,
+        c.if-not-takes.false,
         ← c.load_ep-r.ensures,
       ),
       (
@@ -36,7 +35,7 @@ returns-clause-s_after c =
           c.copy_in.ensures,
           ← c.slot_addr.ensures,
           ← c.takes.ensures,
-          not_false c.takes.result c.if-not-takes.false,
+          c.if-not-takes.false,
           ← c.load_ep-r.ensures,
         ),
         c.store_ep.ensures.s_unchanged ∙ c.store_len.ensures.s_unchanged,
@@ -54,7 +53,7 @@ returns-clause-buf_after c =
         ← c.slot_index-i.ensures,
         c.length16.ensures,
         ← c.takes.ensures,
-        not_false c.takes.result c.if-not-takes.false,
+        c.if-not-takes.false,
         ← c.load_ep-r.ensures,
       ),
       (
@@ -62,7 +61,7 @@ returns-clause-buf_after c =
           c.copy_in.ensures,
           ← c.slot_addr.ensures,
           ← c.takes.ensures,
-          not_false c.takes.result c.if-not-takes.false,
+          c.if-not-takes.false,
           ← c.load_ep-r.ensures,
         ),
         c.store_ep.ensures.s_unchanged ∙ c.store_len.ensures.s_unchanged,
@@ -80,7 +79,7 @@ returns-clause-s_unchanged c =
         ← c.slot_index-i.ensures,
         c.length16.ensures,
         ← c.takes.ensures,
-        not_false c.takes.result c.if-not-takes.false,
+        c.if-not-takes.false,
         ← c.load_ep-r.ensures,
       ),
       (
@@ -88,7 +87,7 @@ returns-clause-s_unchanged c =
           c.copy_in.ensures,
           ← c.slot_addr.ensures,
           ← c.takes.ensures,
-          not_false c.takes.result c.if-not-takes.false,
+          c.if-not-takes.false,
           ← c.load_ep-r.ensures,
         ),
         c.store_ep.ensures.s_unchanged ∙ c.store_len.ensures.s_unchanged,

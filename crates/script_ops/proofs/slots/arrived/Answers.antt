@@ -21,13 +21,12 @@ stages e len d b {d'} z h₁ h₂ h₃ =
     ∙ ap (λ (w : Driver). arm_by e (arrived_of (ep_on d Out e)) (arrived_of (ep_on d Out e)).head (w, b)) h₂
     ∙ arrived-once e len d b z
 
-pub record-requires-clause-r_value : goal.record-requires-clause-r_value
-record-requires-clause-r_value c =
-    (c.requires).0
-
-pub record-requires-clause-entered_value : goal.record-requires-clause-entered_value
-record-requires-clause-entered_value c =
-    (c.requires).1
+pub record-requires : goal.record-requires
+record-requires c =
+    record {
+        r_value = c.requires.r_value;
+        entered_value = c.requires.entered_value;
+    }
 
 pub returns : goal.returns
 returns c =
@@ -37,7 +36,7 @@ returns c =
     
     let recorded = record-fact.ensures in
     
-    let h = stages c.args.e c.args.len (view c.args.s.now) c.args.buf.now (view-sized c.args.s.now).eps c.requires.0
+    let h = stages c.args.e c.args.len (view c.args.s.now) c.args.buf.now (view-sized c.args.s.now).eps c.requires.r_value
     recorded.0
     c.arrived-x.ensures in
     record {
