@@ -5,7 +5,7 @@ use native.Mathlib.Omega.{arith}
 use lib.ListN.{length}
 use Rattle.descriptor.specs.declared.Endpoint.{Endpoint}
 use Rattle.descriptor.specs.Endpoints.{of_list, listed}
-use Rattle.descriptor.specs.WalkLaws.{On, on, begins, gather-at, tidy-at, gather-over}
+use Rattle.descriptor.specs.WalkLaws.{on, begins, gather-at, tidy-at, gather-over}
 use Rattle.descriptor.proofs.gather.gather.Goals as goal
 
 pub bounds-bytes-0 : goal.bounds-bytes-0
@@ -14,26 +14,15 @@ bounds-bytes-0 c = omega (arith, (begins _ c.requires.bytes_value).some)
 pub loop-at-init : goal.loop-at-init
 loop-at-init c =
     let b = begins c.args.bytes.now c.requires.bytes_value in
-    
     (c.requires.tidy, omega (arith, b.fits), length c.args.bytes.now, false, rw c.wide-at.ensures b.row, rw c.wide-at.ensures)
 
--- the descriptor at `at`, and the row after it
-here : (p : tie.In-loop invariant_loop decreases_loop)
-    → let a = p.before.before.before.before.before.args in
-    let k = p.before.loop in
-    On k.invariant.2 a.bytes.now k.at a.zeroth k.now-in
-here p =
-    let v = p.before.loop.invariant in
-    on v.2 v.3 _ _ _ _ (λ j. omega (arith, p.before.before.before.before.shared-slice-known.given j))
-    (omega arith) v.4
-
 pub setting-now_in-requires : goal.setting-now_in-requires
-setting-now_in-requires c = (here c).sound
+setting-now_in-requires c = (on c.loop-at.invariant.2 c.loop-at.invariant.3 c.args.bytes.now c.loop-at.at c.args.zeroth c.loop-at.now_in (λ j. omega (arith, c.type_inv.bytes j)) (omega arith) c.loop-at.invariant.4).sound
 
 pub taken-so_far-requires : goal.taken-so_far-requires
 taken-so_far-requires c =
     record {
-        sound = (here (c)).sound;
+        sound = (on c.loop-at.invariant.2 c.loop-at.invariant.3 c.args.bytes.now c.loop-at.at c.args.zeroth c.loop-at.now_in (λ j. omega (arith, c.type_inv.bytes j)) (omega arith) c.loop-at.invariant.4).sound;
         tidy = c.loop-at.invariant.0;
     }
 
@@ -45,15 +34,13 @@ overflow_add-at c = omega (arith, c.shared_slice_known-in-loop-at-1.given c.loop
 
 pub loop-at-smaller : goal.loop-at-smaller
 loop-at-smaller c =
-    let m = (here (c)).sound.here.moves in
-    
+    let m = (on c.loop-at.invariant.2 c.loop-at.invariant.3 c.args.bytes.now c.loop-at.at c.args.zeroth c.loop-at.now_in (λ j. omega (arith, c.type_inv.bytes j)) (omega arith) c.loop-at.invariant.4).sound.here.moves in
     omega arith
 
 pub loop-at-preserved : goal.loop-at-preserved
 loop-at-preserved c =
-    let o = here (c) in
+    let o = (on c.loop-at.invariant.2 c.loop-at.invariant.3 c.args.bytes.now c.loop-at.at c.args.zeroth c.loop-at.now_in (λ j. omega (arith, c.type_inv.bytes j)) (omega arith) c.loop-at.invariant.4) in
     let f = o.sound.here.fits in
-    
     
     (
       rw (c.taken-so_far.ensures, c.setting-now_in.ensures) (tidy-at _ _ _ _ _ o c.loop-at.so_far c.loop-at.invariant.0),
