@@ -1,5 +1,5 @@
 -- The device's address changes once the status stage of Set Address is complete (USB 2.0, 9.4.6)
-use Rattle.std.specs.Prelude.{Bool, false, cond, ◌&&◌, ◌≡◌, refl, ℕ, ◌%◌}
+use Rattle.std.specs.Prelude.{Bool, true, false, cond, ◌&&◌, ◌≡◌, refl, ℕ, ◌%◌}
 use Rattle.std.proofs.Common.{◌∙◌}
 use Rattle.regs.specs.declared.Access.{Access}
 use Rattle.regs.specs.declared.Access.TheVariants.{Read, Write, Receive, Transmit, Ep0Dma, Wait, Callback}
@@ -27,6 +27,7 @@ keeps (Write r e v) a x = go (same_reg r DevAd) x
   where
     go : (t : Bool) → Throughout t ⊥ → cond t v a ≡ a
     go false y = refl
+    go true y = elim y [ ]
 keeps (Read r e) a x = refl
 keeps (Receive e y) a x = refl
 keeps (Transmit e y) a x = refl

@@ -140,10 +140,11 @@ module _ {S : Type 0} (O : Ops S) where
       (λ _. at_ask tt (λ _ _ _ _. at_ask tt (λ _ _ _ _. at_end refl))) (λ _. at_end refl))
   nak-leaves i In st b s = every-cond (out_naks st (O.get (ep-cell Out (endpoint st)) s))
       (λ _. at_ask tt (λ _ _ _ _. at_ask tt (λ _ _ _ _. at_end refl)))
-      (λ _. every-cond (in_naks st (O.get (ep-cell In (endpoint st)) s))
-      (λ _. at_ask tt (λ w _ r _. at_ask tt (λ _ _ _ _. at_end
-      (left-nak (endpoint st) b w (λ z. r (ap (Read EpTxCtrl) z))))))
-      (λ _. at_end refl))
+      (λ _. every-cond (in_naks st (O.get (ep-cell In (endpoint st)) s)) (λ _. naks-in) (λ _. at_end refl))
+    where
+      naks-in : Leads In (λ c _. c ≡ b) b (run O (modify_reg {i = i} EpTxCtrl (endpoint st) nak) s)
+      naks-in = at_ask tt (λ w _ r _. at_ask tt (λ _ _ _ _. at_end
+          (left-nak (endpoint st) b w (λ z. r (ap (Read EpTxCtrl) z)))))
 
   -- the interrupt that saw packet k leaves the toggle of packet k + 1; an OUT packet that is no new one leaves it
   pub passed-out : (i : Bool) (x : Transfer) (k : ℕ) (s : S) → eqb (endpoint x.st) 0 ≡ true

@@ -3,7 +3,7 @@ use mathlib.Core.Path.{sym, ◌∙◌}
 use Rattle.readings.proofs.are_taken.Goals as goal
 
 pub returns-then-fits-2 : goal.returns-then-fits-2
-returns-then-fits-2 c =
+returns-then-fits-2 c h =
     (
   sym c.fits-then-fits.ensures ∙ c.if-fits.true,
   sym c.fits-then-fits-2.ensures ∙ c.if-fits-2.true,
@@ -11,7 +11,7 @@ returns-then-fits-2 c =
 )
 
 pub returns-then-fits : goal.returns-then-fits
-returns-then-fits c = absurd (true≢false (sym h))
+returns-then-fits c h = absurd (true≢false (sym h))
 
 pub returns : goal.returns
-returns c = absurd (true≢false (sym h))
+returns c h = absurd (true≢false (sym h))

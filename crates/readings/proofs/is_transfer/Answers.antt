@@ -10,19 +10,19 @@ pub byte-f-requires : goal.byte-f-requires
 byte-f-requires c = wider _ 6 (omega arith) (sym c.fits.ensures ∙ c.if-fits.true)
 
 pub returns-then-bus_rst : goal.returns-then-bus_rst
-returns-then-bus_rst c = absurd (true≢false (sym h))
+returns-then-bus_rst c h = absurd (true≢false (sym h))
 
 pub returns-then-suspend : goal.returns-then-suspend
-returns-then-suspend c = absurd (true≢false (sym h))
+returns-then-suspend c h = absurd (true≢false (sym h))
 
 pub returns-then-fifo_ov : goal.returns-then-fifo_ov
-returns-then-fifo_ov c = absurd (true≢false (sym h))
+returns-then-fifo_ov c h = absurd (true≢false (sym h))
 
 pub returns-then-hst_sof : goal.returns-then-hst_sof
-returns-then-hst_sof c = absurd (true≢false (sym h))
+returns-then-hst_sof c h = absurd (true≢false (sym h))
 
 pub returns-then-fits : goal.returns-then-fits
-returns-then-fits c =
+returns-then-fits c h =
     (
       sym c.fits.ensures ∙ c.if-fits.true,
       subst (λ (w : ℕ). bus_rst w ≡ false) c.byte-f.ensures (sym c.bus_rst.ensures ∙ c.if-bus_rst.false),
@@ -33,4 +33,4 @@ returns-then-fits c =
     )
 
 pub returns : goal.returns
-returns c = absurd (true≢false (sym h))
+returns c h = absurd (true≢false (sym h))

@@ -3,7 +3,7 @@ use mathlib.Core.Path.{sym, ◌∙◌}
 use Rattle.readings.proofs.may_pass.Goals as goal
 
 pub returns-then-slots_fit : goal.returns-then-slots_fit
-returns-then-slots_fit c =
+returns-then-slots_fit c h =
     let taken = c.are_taken.ensures h in (
       sym c.tag.ensures ∙ c.if-tag-eq-INTERRUPT.true,
       sym c.site_byte.ensures ∙ c.if-site_byte-eq-MIS.true,
@@ -14,10 +14,10 @@ returns-then-slots_fit c =
     )
 
 pub returns-then-site_byte-eq-MIS : goal.returns-then-site_byte-eq-MIS
-returns-then-site_byte-eq-MIS c = absurd (true≢false (sym h))
+returns-then-site_byte-eq-MIS c h = absurd (true≢false (sym h))
 
 pub returns-then-tag-eq-INTERRUPT : goal.returns-then-tag-eq-INTERRUPT
-returns-then-tag-eq-INTERRUPT c = absurd (true≢false (sym h))
+returns-then-tag-eq-INTERRUPT c h = absurd (true≢false (sym h))
 
 pub returns : goal.returns
-returns c = absurd (true≢false (sym h))
+returns c h = absurd (true≢false (sym h))

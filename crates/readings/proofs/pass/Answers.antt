@@ -21,7 +21,7 @@ after_len-requires c =
     c.if-may_pass.true).5
 
 pub returns-then-may_pass : goal.returns-then-may_pass
-returns-then-may_pass c =
+returns-then-may_pass c i time =
     let may = c.may_pass.ensures c.if-may_pass.true in
     
     

@@ -34,7 +34,7 @@ after_len-requires c =
     c.if-are_taken.true).2
 
 pub returns-then-are_taken : goal.returns-then-are_taken
-returns-then-are_taken c =
+returns-then-are_taken c i time =
     let may = c.may_enter.ensures c.if-may_enter.true in
     let told = c.is_transfer.ensures c.if-is_transfer.true in
     let taken = c.are_taken.ensures c.if-are_taken.true in
@@ -60,7 +60,7 @@ after_flags-requires c =
     ∙ c.if-fits.true)
 
 pub returns-then-fits : goal.returns-then-fits
-returns-then-fits c =
+returns-then-fits c i time =
     let may = c.may_enter.ensures c.if-may_enter.true in
     (
       step_of _,

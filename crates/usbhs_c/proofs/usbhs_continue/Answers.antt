@@ -19,4 +19,4 @@ returns-then-tag-eq-INTERRUPT c =
     )
 
 pub operation_word-requires : goal.operation_word-requires
-operation_word-requires c = c.if-tag-eq-INTERRUPT.false (c.tag.ensures ∙ h)
+operation_word-requires c h = c.if-tag-eq-INTERRUPT.false (c.tag.ensures ∙ h)

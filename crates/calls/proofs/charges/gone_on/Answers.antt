@@ -5,8 +5,8 @@ use Rattle.calls.proofs.Unasked.{unasked, unmoved}
 use Rattle.calls.proofs.charges.gone_on.Goals as goal
 
 pub returns-in-Asks : goal.returns-in-Asks
-returns-in-Asks c = simp c.in-Asks.is c.after_access.ensures
+returns-in-Asks c x d = simp c.in-Asks.is c.after_access.ensures
 
 pub returns-in_default : goal.returns-in_default
-returns-in_default c =
+returns-in_default c x d =
     unmoved _ (answer_of c.args.step [] x) (unasked c.args.step x c.in_default.keys2) c.args.driver going d

@@ -7,53 +7,19 @@ use Rattle.state.specs.State.{view, saved}
 use mathlib.Core.Path.{◌∙◌, sym, refl}
 use Rattle.calls.proofs.in_place.queue.Goals as goal
 
-pub returns-then-may_pass-clause-by_index : goal.returns-then-may_pass-clause-by_index
-returns-then-may_pass-clause-by_index c =
-    ((
-      λ a. back (aside-call (calls.Queue c.args.e c.args.bytes.now) (decode
+pub returns-then-may_pass : goal.returns-then-may_pass
+returns-then-may_pass c =
+    record {
+        by_index = λ a. back (aside-call (calls.Queue c.args.e c.args.bytes.now) (decode
           (saved c.args.s.now)) (view c.args.s.now) a c.args.slots.now) (simp (
             ← c.slots_fit.ensures,
             c.if-slots_fit.true,
           ) (told-beside _ _ (view c.args.s.now) c.args.slots.now _ _ _
           c.told.result c.iso_in_prime-x.result c.told.ensures.by_index c.iso_in_prime-x.ensures.s_unchanged
-          (sym c.may_pass.ensures ∙ c.if-may_pass.true) c.iso_in_prime-x.ensures.buf_after)),
-      (
-        as_lent _ _ _ (sym c.slots_fit.ensures ∙ c.if-slots_fit.true),
-        c.iso_in_prime-x.ensures.s_unchanged,
-      ),
-    )).0
-
-pub returns-then-may_pass-clause-buffer_unchanged_on_row1 : goal.returns-then-may_pass-clause-buffer_unchanged_on_row1
-returns-then-may_pass-clause-buffer_unchanged_on_row1 c =
-    ((
-      λ a. back (aside-call (calls.Queue c.args.e c.args.bytes.now) (decode
-          (saved c.args.s.now)) (view c.args.s.now) a c.args.slots.now) (simp (
-            ← c.slots_fit.ensures,
-            c.if-slots_fit.true,
-          ) (told-beside _ _ (view c.args.s.now) c.args.slots.now _ _ _
-          c.told.result c.iso_in_prime-x.result c.told.ensures.by_index c.iso_in_prime-x.ensures.s_unchanged
-          (sym c.may_pass.ensures ∙ c.if-may_pass.true) c.iso_in_prime-x.ensures.buf_after)),
-      (
-        as_lent _ _ _ (sym c.slots_fit.ensures ∙ c.if-slots_fit.true),
-        c.iso_in_prime-x.ensures.s_unchanged,
-      ),
-    )).1.0
-
-pub returns-then-may_pass-clause-s_unchanged : goal.returns-then-may_pass-clause-s_unchanged
-returns-then-may_pass-clause-s_unchanged c =
-    ((
-      λ a. back (aside-call (calls.Queue c.args.e c.args.bytes.now) (decode
-          (saved c.args.s.now)) (view c.args.s.now) a c.args.slots.now) (simp (
-            ← c.slots_fit.ensures,
-            c.if-slots_fit.true,
-          ) (told-beside _ _ (view c.args.s.now) c.args.slots.now _ _ _
-          c.told.result c.iso_in_prime-x.result c.told.ensures.by_index c.iso_in_prime-x.ensures.s_unchanged
-          (sym c.may_pass.ensures ∙ c.if-may_pass.true) c.iso_in_prime-x.ensures.buf_after)),
-      (
-        as_lent _ _ _ (sym c.slots_fit.ensures ∙ c.if-slots_fit.true),
-        c.iso_in_prime-x.ensures.s_unchanged,
-      ),
-    )).1.1
+          (sym c.may_pass.ensures ∙ c.if-may_pass.true) c.iso_in_prime-x.ensures.buf_after));
+        buffer_unchanged_on_row1 = as_lent _ _ _ (sym c.slots_fit.ensures ∙ c.if-slots_fit.true);
+        s_unchanged = c.iso_in_prime-x.ensures.s_unchanged;
+    }
 
 pub returns-then-slots_fit : goal.returns-then-slots_fit
 returns-then-slots_fit c =

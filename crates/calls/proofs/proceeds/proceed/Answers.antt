@@ -19,4 +19,4 @@ returns-then-tag-eq-INTERRUPT c =
     )
 
 pub operate-requires : goal.operate-requires
-operate-requires c = c.if-tag-eq-INTERRUPT.false (c.tag.ensures ∙ h)
+operate-requires c h = c.if-tag-eq-INTERRUPT.false (c.tag.ensures ∙ h)

@@ -7,10 +7,10 @@ use Rattle.control.specs.declared.Point.TheVariants as point
 use Rattle.control.specs.PointsLaws.{asked-at, linked-at}
 use Rattle.control.proofs.begin.reject.Goals as goal
 
-pub returns-then-is_started-clause-by_index : goal.returns-then-is_started-clause-by_index
-returns-then-is_started-clause-by_index c =
-    ((
-  λ b. asked-at point.StallIn c.point.ensures _ b ∙ reject-asks
+pub returns-then-is_started : goal.returns-then-is_started
+returns-then-is_started c =
+    record {
+        by_index = λ b. asked-at point.StallIn c.point.ensures _ b ∙ reject-asks
       (view c.args.s.now)
       _ _ _ _ c.set_request.ensures.s_after
       c.clear_wakes.ensures.s_after
@@ -18,57 +18,13 @@ returns-then-is_started-clause-by_index c =
       (on-driver (λ x. eqb x.stage 2)
       c.load_globals-g.ensures
       c.is_started.ensures
-      c.if-is_started.true) b,
-  (
-    c.set_armed-then-is_started.ensures.s_unchanged
+      c.if-is_started.true) b;
+        s_unchanged = c.set_armed-then-is_started.ensures.s_unchanged
         ∙ c.set_armed.ensures.s_unchanged
         ∙ c.clear_wakes.ensures.s_unchanged
-        ∙ c.set_request.ensures.s_unchanged,
-    linked-at point.StallIn c.point.ensures refl,
-  ),
-)).0
-
-pub returns-then-is_started-clause-s_unchanged : goal.returns-then-is_started-clause-s_unchanged
-returns-then-is_started-clause-s_unchanged c =
-    ((
-  λ b. asked-at point.StallIn c.point.ensures _ b ∙ reject-asks
-      (view c.args.s.now)
-      _ _ _ _ c.set_request.ensures.s_after
-      c.clear_wakes.ensures.s_after
-      c.set_armed.ensures.s_after c.set_armed-then-is_started.ensures.s_after
-      (on-driver (λ x. eqb x.stage 2)
-      c.load_globals-g.ensures
-      c.is_started.ensures
-      c.if-is_started.true) b,
-  (
-    c.set_armed-then-is_started.ensures.s_unchanged
-        ∙ c.set_armed.ensures.s_unchanged
-        ∙ c.clear_wakes.ensures.s_unchanged
-        ∙ c.set_request.ensures.s_unchanged,
-    linked-at point.StallIn c.point.ensures refl,
-  ),
-)).1.0
-
-pub returns-then-is_started-clause-linked_begun : goal.returns-then-is_started-clause-linked_begun
-returns-then-is_started-clause-linked_begun c =
-    ((
-  λ b. asked-at point.StallIn c.point.ensures _ b ∙ reject-asks
-      (view c.args.s.now)
-      _ _ _ _ c.set_request.ensures.s_after
-      c.clear_wakes.ensures.s_after
-      c.set_armed.ensures.s_after c.set_armed-then-is_started.ensures.s_after
-      (on-driver (λ x. eqb x.stage 2)
-      c.load_globals-g.ensures
-      c.is_started.ensures
-      c.if-is_started.true) b,
-  (
-    c.set_armed-then-is_started.ensures.s_unchanged
-        ∙ c.set_armed.ensures.s_unchanged
-        ∙ c.clear_wakes.ensures.s_unchanged
-        ∙ c.set_request.ensures.s_unchanged,
-    linked-at point.StallIn c.point.ensures refl,
-  ),
-)).1.1
+        ∙ c.set_request.ensures.s_unchanged;
+        linked_begun = linked-at point.StallIn c.point.ensures refl;
+    }
 
 pub returns : goal.returns
 returns c =

@@ -19,10 +19,10 @@ returns-then-not-is_on c =
         linked_polled = tt;
     }
 
-pub returns-then-is_on-clause-by_index : goal.returns-then-is_on-clause-by_index
-returns-then-is_on-clause-by_index c =
-    ((
-      λ b. asked-at point.Wrote c.point.ensures _ b ∙ accept-address (view c.args.s.now) _ b c.pre _
+pub returns-then-is_on : goal.returns-then-is_on
+returns-then-is_on c =
+    record {
+        by_index = λ b. asked-at point.Wrote c.point.ensures _ b ∙ accept-address (view c.args.s.now) _ b c.pre _
           _
           c.unready.ensures.s_after
           c.set_request.ensures.s_after
@@ -33,60 +33,12 @@ returns-then-is_on-clause-by_index c =
           c.clear_wakes.ensures.s_after
           (sym c.is_on-then-is_on.ensures
           ∙ not-false c.is_on-then-is_on.result
-          c.if-not-is_on.false),
-      (
-        c.clear_wakes.ensures.s_unchanged
+          c.if-not-is_on.false);
+        s_unchanged = c.clear_wakes.ensures.s_unchanged
             ∙ c.set_request.ensures.s_unchanged
-            ∙ c.unready.ensures.s_unchanged,
-        linked-at point.Wrote c.point.ensures refl,
-      ),
-    )).0
-
-pub returns-then-is_on-clause-s_unchanged : goal.returns-then-is_on-clause-s_unchanged
-returns-then-is_on-clause-s_unchanged c =
-    ((
-      λ b. asked-at point.Wrote c.point.ensures _ b ∙ accept-address (view c.args.s.now) _ b c.pre _
-          _
-          c.unready.ensures.s_after
-          c.set_request.ensures.s_after
-          (on-driver (λ x. is_on x.ready)
-          c.load_ep-r.ensures
-          c.is_on.ensures
-          c.if-is_on.true) _
-          c.clear_wakes.ensures.s_after
-          (sym c.is_on-then-is_on.ensures
-          ∙ not-false c.is_on-then-is_on.result
-          c.if-not-is_on.false),
-      (
-        c.clear_wakes.ensures.s_unchanged
-            ∙ c.set_request.ensures.s_unchanged
-            ∙ c.unready.ensures.s_unchanged,
-        linked-at point.Wrote c.point.ensures refl,
-      ),
-    )).1.0
-
-pub returns-then-is_on-clause-linked_polled : goal.returns-then-is_on-clause-linked_polled
-returns-then-is_on-clause-linked_polled c =
-    ((
-      λ b. asked-at point.Wrote c.point.ensures _ b ∙ accept-address (view c.args.s.now) _ b c.pre _
-          _
-          c.unready.ensures.s_after
-          c.set_request.ensures.s_after
-          (on-driver (λ x. is_on x.ready)
-          c.load_ep-r.ensures
-          c.is_on.ensures
-          c.if-is_on.true) _
-          c.clear_wakes.ensures.s_after
-          (sym c.is_on-then-is_on.ensures
-          ∙ not-false c.is_on-then-is_on.result
-          c.if-not-is_on.false),
-      (
-        c.clear_wakes.ensures.s_unchanged
-            ∙ c.set_request.ensures.s_unchanged
-            ∙ c.unready.ensures.s_unchanged,
-        linked-at point.Wrote c.point.ensures refl,
-      ),
-    )).1.1
+            ∙ c.unready.ensures.s_unchanged;
+        linked_polled = linked-at point.Wrote c.point.ensures refl;
+    }
 
 pub returns : goal.returns
 returns c =

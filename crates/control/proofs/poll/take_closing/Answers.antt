@@ -5,44 +5,16 @@ use Rattle.control.proofs.Laws.{closing-now, closing-waits}
 use mathlib.Core.Path.{◌∙◌, refl}
 use Rattle.control.proofs.poll.take_closing.Goals as goal
 
-pub returns-then-both-clause-by_index : goal.returns-then-both-clause-by_index
-returns-then-both-clause-by_index c =
-    ((
-      λ b. rw c.if-both.true (closing-now (view c.args.s.now) _ _ _ c.args.c _
+pub returns-then-both : goal.returns-then-both
+returns-then-both c =
+    record {
+        by_index = λ b. rw c.if-both.true (closing-now (view c.args.s.now) _ _ _ c.args.c _
           c.closed.result b c.load_ep-r.ensures c.unready.ensures.s_after
           c.unready-then-both.ensures.s_after c.set_request.ensures.s_after (on-driver (λ x. is_on x.ready) c.load_ep-r.ensures
-          c.is_on.ensures c.if-is_on.true) c.closed.ensures.b_value),
-      (
-        c.set_request.ensures.s_unchanged ∙ c.unready-then-both.ensures.s_unchanged ∙ c.unready.ensures.s_unchanged,
-        c.closed.ensures.linked_polled,
-      ),
-    )).0
-
-pub returns-then-both-clause-s_unchanged : goal.returns-then-both-clause-s_unchanged
-returns-then-both-clause-s_unchanged c =
-    ((
-      λ b. rw c.if-both.true (closing-now (view c.args.s.now) _ _ _ c.args.c _
-          c.closed.result b c.load_ep-r.ensures c.unready.ensures.s_after
-          c.unready-then-both.ensures.s_after c.set_request.ensures.s_after (on-driver (λ x. is_on x.ready) c.load_ep-r.ensures
-          c.is_on.ensures c.if-is_on.true) c.closed.ensures.b_value),
-      (
-        c.set_request.ensures.s_unchanged ∙ c.unready-then-both.ensures.s_unchanged ∙ c.unready.ensures.s_unchanged,
-        c.closed.ensures.linked_polled,
-      ),
-    )).1.0
-
-pub returns-then-both-clause-linked_polled : goal.returns-then-both-clause-linked_polled
-returns-then-both-clause-linked_polled c =
-    ((
-      λ b. rw c.if-both.true (closing-now (view c.args.s.now) _ _ _ c.args.c _
-          c.closed.result b c.load_ep-r.ensures c.unready.ensures.s_after
-          c.unready-then-both.ensures.s_after c.set_request.ensures.s_after (on-driver (λ x. is_on x.ready) c.load_ep-r.ensures
-          c.is_on.ensures c.if-is_on.true) c.closed.ensures.b_value),
-      (
-        c.set_request.ensures.s_unchanged ∙ c.unready-then-both.ensures.s_unchanged ∙ c.unready.ensures.s_unchanged,
-        c.closed.ensures.linked_polled,
-      ),
-    )).1.1
+          c.is_on.ensures c.if-is_on.true) c.closed.ensures.b_value);
+        s_unchanged = c.set_request.ensures.s_unchanged ∙ c.unready-then-both.ensures.s_unchanged ∙ c.unready.ensures.s_unchanged;
+        linked_polled = c.closed.ensures.linked_polled;
+    }
 
 pub returns-then-is_on : goal.returns-then-is_on
 returns-then-is_on c =

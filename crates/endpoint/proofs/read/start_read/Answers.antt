@@ -41,55 +41,23 @@ returns-then-is_on c =
         linked_begun = tt;
     }
 
-pub returns-then-is_on-2-clause-by_index : goal.returns-then-is_on-2-clause-by_index
-returns-then-is_on-2-clause-by_index c =
-    ((
-      λ b. read_has (view c.args.s.now) b c.args.e c.args.n c.pre
+pub returns-then-is_on-2 : goal.returns-then-is_on-2
+returns-then-is_on-2 c =
+    record {
+        by_index = λ b. read_has (view c.args.s.now) b c.args.e c.args.n c.pre
           (sym c.is_enabled.ensures ∙ c.if-not-is_enabled.false) (on-driver
           (λ y. ltb c.args.n y.max_len) c.load_ep-r.ensures refl (le-ltb _ _ c.if-n-r.false)) _ _
           c.set_request.ensures.s_after c.clear_wakes.ensures.s_after (on-driver (λ y. is_on y.iso) c.load_ep-r.ensures
           c.is_on.ensures c.if-is_on.false) (on-driver (λ y. is_on y.ready) c.load_ep-r.ensures
-          c.is_on-2.ensures c.if-is_on-2.true),
-      (
-        c.clear_wakes.ensures.s_unchanged ∙ c.set_request.ensures.s_unchanged,
-        tt,
-      ),
-    )).0
+          c.is_on-2.ensures c.if-is_on-2.true);
+        s_unchanged = c.clear_wakes.ensures.s_unchanged ∙ c.set_request.ensures.s_unchanged;
+        linked_begun = tt;
+    }
 
-pub returns-then-is_on-2-clause-s_unchanged : goal.returns-then-is_on-2-clause-s_unchanged
-returns-then-is_on-2-clause-s_unchanged c =
-    ((
-      λ b. read_has (view c.args.s.now) b c.args.e c.args.n c.pre
-          (sym c.is_enabled.ensures ∙ c.if-not-is_enabled.false) (on-driver
-          (λ y. ltb c.args.n y.max_len) c.load_ep-r.ensures refl (le-ltb _ _ c.if-n-r.false)) _ _
-          c.set_request.ensures.s_after c.clear_wakes.ensures.s_after (on-driver (λ y. is_on y.iso) c.load_ep-r.ensures
-          c.is_on.ensures c.if-is_on.false) (on-driver (λ y. is_on y.ready) c.load_ep-r.ensures
-          c.is_on-2.ensures c.if-is_on-2.true),
-      (
-        c.clear_wakes.ensures.s_unchanged ∙ c.set_request.ensures.s_unchanged,
-        tt,
-      ),
-    )).1.0
-
-pub returns-then-is_on-2-clause-linked_begun : goal.returns-then-is_on-2-clause-linked_begun
-returns-then-is_on-2-clause-linked_begun c =
-    ((
-      λ b. read_has (view c.args.s.now) b c.args.e c.args.n c.pre
-          (sym c.is_enabled.ensures ∙ c.if-not-is_enabled.false) (on-driver
-          (λ y. ltb c.args.n y.max_len) c.load_ep-r.ensures refl (le-ltb _ _ c.if-n-r.false)) _ _
-          c.set_request.ensures.s_after c.clear_wakes.ensures.s_after (on-driver (λ y. is_on y.iso) c.load_ep-r.ensures
-          c.is_on.ensures c.if-is_on.false) (on-driver (λ y. is_on y.ready) c.load_ep-r.ensures
-          c.is_on-2.ensures c.if-is_on-2.true),
-      (
-        c.clear_wakes.ensures.s_unchanged ∙ c.set_request.ensures.s_unchanged,
-        tt,
-      ),
-    )).1.1
-
-pub returns-clause-by_index : goal.returns-clause-by_index
-returns-clause-by_index c =
-    ((
-  λ b. asked-at (point.Ack Out _) c.point.ensures _ b ∙ read-asks
+pub returns : goal.returns
+returns c =
+    record {
+        by_index = λ b. asked-at (point.Ack Out _) c.point.ensures _ b ∙ read-asks
       (view
       c.args.s.now)
       b c.args.e
@@ -114,85 +82,9 @@ returns-clause-by_index c =
       (on-driver (λ y. is_on y.ready)
       c.load_ep-r.ensures
       c.is_on-2.ensures c.if-is_on-2.false) _
-      c.set_armed.ensures.s_after,
-  (
-    c.set_armed.ensures.s_unchanged
+      c.set_armed.ensures.s_after;
+        s_unchanged = c.set_armed.ensures.s_unchanged
         ∙ c.clear_wakes.ensures.s_unchanged
-        ∙ c.set_request.ensures.s_unchanged,
-    linked-at (point.Ack Out _) c.point.ensures refl,
-  ),
-)).0
-
-pub returns-clause-s_unchanged : goal.returns-clause-s_unchanged
-returns-clause-s_unchanged c =
-    ((
-  λ b. asked-at (point.Ack Out _) c.point.ensures _ b ∙ read-asks
-      (view
-      c.args.s.now)
-      b c.args.e
-      c.args.n
-      c.requires
-      (sym c.is_enabled.ensures
-      ∙ not-false
-      c.is_enabled.result
-      c.if-not-is_enabled.false)
-      (on-driver (λ y. ltb
-      c.args.n
-      y.max_len)
-      c.load_ep-r.ensures refl
-      (le-ltb _ _
-      c.if-n-r.false)) _ _
-      c.set_request.ensures.s_after
-      c.clear_wakes.ensures.s_after
-      (on-driver (λ y. is_on y.iso)
-      c.load_ep-r.ensures
-      c.is_on.ensures
-      c.if-is_on.false)
-      (on-driver (λ y. is_on y.ready)
-      c.load_ep-r.ensures
-      c.is_on-2.ensures c.if-is_on-2.false) _
-      c.set_armed.ensures.s_after,
-  (
-    c.set_armed.ensures.s_unchanged
-        ∙ c.clear_wakes.ensures.s_unchanged
-        ∙ c.set_request.ensures.s_unchanged,
-    linked-at (point.Ack Out _) c.point.ensures refl,
-  ),
-)).1.0
-
-pub returns-clause-linked_begun : goal.returns-clause-linked_begun
-returns-clause-linked_begun c =
-    ((
-  λ b. asked-at (point.Ack Out _) c.point.ensures _ b ∙ read-asks
-      (view
-      c.args.s.now)
-      b c.args.e
-      c.args.n
-      c.requires
-      (sym c.is_enabled.ensures
-      ∙ not-false
-      c.is_enabled.result
-      c.if-not-is_enabled.false)
-      (on-driver (λ y. ltb
-      c.args.n
-      y.max_len)
-      c.load_ep-r.ensures refl
-      (le-ltb _ _
-      c.if-n-r.false)) _ _
-      c.set_request.ensures.s_after
-      c.clear_wakes.ensures.s_after
-      (on-driver (λ y. is_on y.iso)
-      c.load_ep-r.ensures
-      c.is_on.ensures
-      c.if-is_on.false)
-      (on-driver (λ y. is_on y.ready)
-      c.load_ep-r.ensures
-      c.is_on-2.ensures c.if-is_on-2.false) _
-      c.set_armed.ensures.s_after,
-  (
-    c.set_armed.ensures.s_unchanged
-        ∙ c.clear_wakes.ensures.s_unchanged
-        ∙ c.set_request.ensures.s_unchanged,
-    linked-at (point.Ack Out _) c.point.ensures refl,
-  ),
-)).1.1
+        ∙ c.set_request.ensures.s_unchanged;
+        linked_begun = linked-at (point.Ack Out _) c.point.ensures refl;
+    }

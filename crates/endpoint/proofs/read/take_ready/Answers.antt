@@ -18,47 +18,17 @@ returns-then-too_long c =
 pub fetch-n-requires : goal.fetch-n-requires
 fetch-n-requires c = not-long _ _ (sym c.too_long.ensures ∙ c.if-too_long.false)
 
-pub returns-then-is_on-clause-buf_after : goal.returns-then-is_on-clause-buf_after
-returns-then-is_on-clause-buf_after c =
+pub returns-then-is_on : goal.returns-then-is_on
+returns-then-is_on c =
     let p = ready-taken (view c.args.s.now) c.args.buf.now c.args.out.now
     c.args.e (length c.args.out.now) c.args.r (sym c.is_on.ensures ∙ c.if-is_on.true) _ _
     c.unready.ensures.s_after c.end_request-then-is_on.ensures.s_after (sym c.too_long.ensures ∙ c.if-too_long.false) c.load_ep-t.result _ _
     c.load_ep-t.ensures c.fetch-n.ensures.value c.fetch-n.ensures.out_after in
-    ((
-      p.0,
-      (
-        p.1,
-        c.end_request-then-is_on.ensures.s_unchanged ∙ c.unready.ensures.s_unchanged,
-      ),
-    )).0
-
-pub returns-then-is_on-clause-out_after : goal.returns-then-is_on-clause-out_after
-returns-then-is_on-clause-out_after c =
-    let p = ready-taken (view c.args.s.now) c.args.buf.now c.args.out.now
-    c.args.e (length c.args.out.now) c.args.r (sym c.is_on.ensures ∙ c.if-is_on.true) _ _
-    c.unready.ensures.s_after c.end_request-then-is_on.ensures.s_after (sym c.too_long.ensures ∙ c.if-too_long.false) c.load_ep-t.result _ _
-    c.load_ep-t.ensures c.fetch-n.ensures.value c.fetch-n.ensures.out_after in
-    ((
-      p.0,
-      (
-        p.1,
-        c.end_request-then-is_on.ensures.s_unchanged ∙ c.unready.ensures.s_unchanged,
-      ),
-    )).1.0
-
-pub returns-then-is_on-clause-s_unchanged : goal.returns-then-is_on-clause-s_unchanged
-returns-then-is_on-clause-s_unchanged c =
-    let p = ready-taken (view c.args.s.now) c.args.buf.now c.args.out.now
-    c.args.e (length c.args.out.now) c.args.r (sym c.is_on.ensures ∙ c.if-is_on.true) _ _
-    c.unready.ensures.s_after c.end_request-then-is_on.ensures.s_after (sym c.too_long.ensures ∙ c.if-too_long.false) c.load_ep-t.result _ _
-    c.load_ep-t.ensures c.fetch-n.ensures.value c.fetch-n.ensures.out_after in
-    ((
-      p.0,
-      (
-        p.1,
-        c.end_request-then-is_on.ensures.s_unchanged ∙ c.unready.ensures.s_unchanged,
-      ),
-    )).1.1
+    record {
+        buf_after = p.0;
+        out_after = p.1;
+        s_unchanged = c.end_request-then-is_on.ensures.s_unchanged ∙ c.unready.ensures.s_unchanged;
+    }
 
 pub returns : goal.returns
 returns c =

@@ -45,10 +45,10 @@ returns-then-is_on c =
         linked_begun = tt;
     }
 
-pub returns-clause-buf_after : goal.returns-clause-buf_after
-returns-clause-buf_after c =
-    ((
-  asked-at (point.Loaded _) c.point.ensures _ _ ∙ write-asks
+pub returns : goal.returns
+returns c =
+    record {
+        buf_after = asked-at (point.Loaded _) c.point.ensures _ _ ∙ write-asks
       (view c.args.s.now)
       c.args.buf.now
       c.args.bytes.now
@@ -71,81 +71,9 @@ returns-clause-buf_after c =
       c.load_ep-r.ensures
       c.is_on.ensures
       c.if-is_on.false) _
-      c.fill.ensures _ c.arm_in.ensures.s_after,
-  (
-    c.arm_in.ensures.s_unchanged
+      c.fill.ensures _ c.arm_in.ensures.s_after;
+        s_unchanged = c.arm_in.ensures.s_unchanged
         ∙ c.clear_wakes.ensures.s_unchanged
-        ∙ c.set_request.ensures.s_unchanged,
-    linked-at (point.Loaded _) c.point.ensures refl,
-  ),
-)).0
-
-pub returns-clause-s_unchanged : goal.returns-clause-s_unchanged
-returns-clause-s_unchanged c =
-    ((
-  asked-at (point.Loaded _) c.point.ensures _ _ ∙ write-asks
-      (view c.args.s.now)
-      c.args.buf.now
-      c.args.bytes.now
-      c.args.e
-      c.requires
-      (sym
-      c.is_enabled.ensures ∙ not-false
-      c.is_enabled.result
-      c.if-not-is_enabled.false)
-      (on-driver
-      (λ y. ltb y.max_len
-      (length c.args.bytes.now))
-      c.load_ep-r.ensures refl
-      (le-ltb _ _
-      c.if-r-bytes.false)) _
-      c.length16-n.ensures _ _
-      c.set_request.ensures.s_after
-      c.clear_wakes.ensures.s_after
-      (on-driver (λ y. is_on y.iso)
-      c.load_ep-r.ensures
-      c.is_on.ensures
-      c.if-is_on.false) _
-      c.fill.ensures _ c.arm_in.ensures.s_after,
-  (
-    c.arm_in.ensures.s_unchanged
-        ∙ c.clear_wakes.ensures.s_unchanged
-        ∙ c.set_request.ensures.s_unchanged,
-    linked-at (point.Loaded _) c.point.ensures refl,
-  ),
-)).1.0
-
-pub returns-clause-linked_begun : goal.returns-clause-linked_begun
-returns-clause-linked_begun c =
-    ((
-  asked-at (point.Loaded _) c.point.ensures _ _ ∙ write-asks
-      (view c.args.s.now)
-      c.args.buf.now
-      c.args.bytes.now
-      c.args.e
-      c.requires
-      (sym
-      c.is_enabled.ensures ∙ not-false
-      c.is_enabled.result
-      c.if-not-is_enabled.false)
-      (on-driver
-      (λ y. ltb y.max_len
-      (length c.args.bytes.now))
-      c.load_ep-r.ensures refl
-      (le-ltb _ _
-      c.if-r-bytes.false)) _
-      c.length16-n.ensures _ _
-      c.set_request.ensures.s_after
-      c.clear_wakes.ensures.s_after
-      (on-driver (λ y. is_on y.iso)
-      c.load_ep-r.ensures
-      c.is_on.ensures
-      c.if-is_on.false) _
-      c.fill.ensures _ c.arm_in.ensures.s_after,
-  (
-    c.arm_in.ensures.s_unchanged
-        ∙ c.clear_wakes.ensures.s_unchanged
-        ∙ c.set_request.ensures.s_unchanged,
-    linked-at (point.Loaded _) c.point.ensures refl,
-  ),
-)).1.1
+        ∙ c.set_request.ensures.s_unchanged;
+        linked_begun = linked-at (point.Loaded _) c.point.ensures refl;
+    }

@@ -15,7 +15,7 @@ returns-then-waiting c =
           (sym c.waiting.ensures
           ∙ c.if-waiting.true) c.open_oldest.ensures.s_after at c.next_len-n.ensures c.next_stamp-stamp.ensures;
         s_unchanged = c.open_oldest.ensures.s_unchanged;
-        shown_at = (at, c.next_len-n.ensures, c.next_stamp-stamp.ensures);
+        shown_at = (c.oldest_at-at.ensures, c.next_len-n.ensures, c.next_stamp-stamp.ensures);
     }
 
 pub returns-then-is_on : goal.returns-then-is_on

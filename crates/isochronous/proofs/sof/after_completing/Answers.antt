@@ -3,7 +3,7 @@ use Rattle.isochronous.specs.Laws.{sof-more, sof-next, next-linked}
 use Rattle.isochronous.proofs.sof.after_completing.Goals as goal
 
 pub returns-in-Asks : goal.returns-in-Asks
-returns-in-Asks c =
+returns-in-Asks c v =
     (
       λ b. sof-more c.args.frame c.args.m _ _ _ _ b _
           c.in-Asks.is (c.iso_in_complete_resume-n.ensures.0 b),
@@ -14,7 +14,7 @@ returns-in-Asks c =
     )
 
 pub returns-in-Ends : goal.returns-in-Ends
-returns-in-Ends c =
+returns-in-Ends c v =
     (
       λ b. c.walk.ensures.0 b ∙ sof-next c.args.frame c.args.m _ _ b _ c.in-Ends.is
           (c.iso_in_complete_resume-n.ensures.0 b),

@@ -3,7 +3,7 @@ use Rattle.readings.proofs.frames.iso_of.Goals as goal
 
 pub returns : goal.returns
 unfolding after_settle
-returns c =
+returns c setup b =
     simp (
       c.iso_for.ensures,
       c.load_ep-n.ensures,

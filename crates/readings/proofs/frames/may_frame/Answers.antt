@@ -3,7 +3,7 @@ use mathlib.Core.Path.{sym, ◌∙◌}
 use Rattle.readings.proofs.frames.may_frame.Goals as goal
 
 pub returns-then-slots_fit : goal.returns-then-slots_fit
-returns-then-slots_fit c =
+returns-then-slots_fit c h =
     (
   record {
     tagged = sym c.tag.ensures
@@ -15,10 +15,10 @@ returns-then-slots_fit c =
 )
 
 pub returns-then-site_byte-eq-RELEASED : goal.returns-then-site_byte-eq-RELEASED
-returns-then-site_byte-eq-RELEASED c = absurd (true≢false (sym h))
+returns-then-site_byte-eq-RELEASED c h = absurd (true≢false (sym h))
 
 pub returns-then-tag-eq-INTERRUPT : goal.returns-then-tag-eq-INTERRUPT
-returns-then-tag-eq-INTERRUPT c = absurd (true≢false (sym h))
+returns-then-tag-eq-INTERRUPT c h = absurd (true≢false (sym h))
 
 pub returns : goal.returns
-returns c = absurd (true≢false (sym h))
+returns c h = absurd (true≢false (sym h))

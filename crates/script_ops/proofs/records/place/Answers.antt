@@ -25,71 +25,23 @@ returns-in-In c =
         s_unchanged = refl;
     }
 
-pub returns-else-receiving-clause-value : goal.returns-else-receiving-clause-value
+pub returns-else-receiving : goal.returns-else-receiving
 unfolding place_on
-returns-else-receiving-clause-value c =
-    ((
-      simp (
+returns-else-receiving c =
+    record {
+        value = simp (
         c.load_ep-r.ensures,
         c.in-Out.is,
         ← c.receiving.ensures,
         c.if-receiving.false,
-      ),
-      (
-        simp (
+      );
+        s_after = simp (
           c.store_ep.ensures.s_after,
           c.armed.ensures,
           c.in-Out.is,
           ← c.receiving.ensures,
           c.if-receiving.false,
           c.load_ep-r.ensures,
-        ),
-        c.store_ep.ensures.s_unchanged,
-      ),
-    )).0
-
-pub returns-else-receiving-clause-s_after : goal.returns-else-receiving-clause-s_after
-unfolding place_on
-returns-else-receiving-clause-s_after c =
-    ((
-      simp (
-        c.load_ep-r.ensures,
-        c.in-Out.is,
-        ← c.receiving.ensures,
-        c.if-receiving.false,
-      ),
-      (
-        simp (
-          c.store_ep.ensures.s_after,
-          c.armed.ensures,
-          c.in-Out.is,
-          ← c.receiving.ensures,
-          c.if-receiving.false,
-          c.load_ep-r.ensures,
-        ),
-        c.store_ep.ensures.s_unchanged,
-      ),
-    )).1.0
-
-pub returns-else-receiving-clause-s_unchanged : goal.returns-else-receiving-clause-s_unchanged
-unfolding place_on
-returns-else-receiving-clause-s_unchanged c =
-    ((
-      simp (
-        c.load_ep-r.ensures,
-        c.in-Out.is,
-        ← c.receiving.ensures,
-        c.if-receiving.false,
-      ),
-      (
-        simp (
-          c.store_ep.ensures.s_after,
-          c.armed.ensures,
-          c.in-Out.is,
-          ← c.receiving.ensures,
-          c.if-receiving.false,
-          c.load_ep-r.ensures,
-        ),
-        c.store_ep.ensures.s_unchanged,
-      ),
-    )).1.1
+        );
+        s_unchanged = c.store_ep.ensures.s_unchanged;
+    }

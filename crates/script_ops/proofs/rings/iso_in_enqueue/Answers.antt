@@ -16,11 +16,11 @@ pub length16-requires : goal.length16-requires
 length16-requires c =
     room_fits c.load_ep-r.result _ (sym c.takes.ensures ∙ c.if-not-takes.false)
 
-pub returns-clause-s_after : goal.returns-clause-s_after
+pub returns : goal.returns
 unfolding enqueue_on room_on queued_on
-returns-clause-s_after c =
-    ((
-      simp (
+returns c =
+    record {
+        s_after = simp (
         c.store_ep.ensures.s_after,
         c.store_len.ensures.s_after,
         ← c.joined.ensures,
@@ -29,67 +29,13 @@ returns-clause-s_after c =
         ← c.takes.ensures,
         c.if-not-takes.false,
         ← c.load_ep-r.ensures,
-      ),
-      (
-        simp (
+      );
+        buf_after = simp (
           c.copy_in.ensures,
           ← c.slot_addr.ensures,
           ← c.takes.ensures,
           c.if-not-takes.false,
           ← c.load_ep-r.ensures,
-        ),
-        c.store_ep.ensures.s_unchanged ∙ c.store_len.ensures.s_unchanged,
-      ),
-    )).0
-
-pub returns-clause-buf_after : goal.returns-clause-buf_after
-unfolding enqueue_on room_on queued_on
-returns-clause-buf_after c =
-    ((
-      simp (
-        c.store_ep.ensures.s_after,
-        c.store_len.ensures.s_after,
-        ← c.joined.ensures,
-        ← c.slot_index-i.ensures,
-        c.length16.ensures,
-        ← c.takes.ensures,
-        c.if-not-takes.false,
-        ← c.load_ep-r.ensures,
-      ),
-      (
-        simp (
-          c.copy_in.ensures,
-          ← c.slot_addr.ensures,
-          ← c.takes.ensures,
-          c.if-not-takes.false,
-          ← c.load_ep-r.ensures,
-        ),
-        c.store_ep.ensures.s_unchanged ∙ c.store_len.ensures.s_unchanged,
-      ),
-    )).1.0
-
-pub returns-clause-s_unchanged : goal.returns-clause-s_unchanged
-unfolding enqueue_on room_on queued_on
-returns-clause-s_unchanged c =
-    ((
-      simp (
-        c.store_ep.ensures.s_after,
-        c.store_len.ensures.s_after,
-        ← c.joined.ensures,
-        ← c.slot_index-i.ensures,
-        c.length16.ensures,
-        ← c.takes.ensures,
-        c.if-not-takes.false,
-        ← c.load_ep-r.ensures,
-      ),
-      (
-        simp (
-          c.copy_in.ensures,
-          ← c.slot_addr.ensures,
-          ← c.takes.ensures,
-          c.if-not-takes.false,
-          ← c.load_ep-r.ensures,
-        ),
-        c.store_ep.ensures.s_unchanged ∙ c.store_len.ensures.s_unchanged,
-      ),
-    )).1.1
+        );
+        s_unchanged = c.store_ep.ensures.s_unchanged ∙ c.store_len.ensures.s_unchanged;
+    }

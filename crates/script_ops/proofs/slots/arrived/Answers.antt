@@ -30,22 +30,13 @@ record-requires c =
 
 pub returns : goal.returns
 returns c =
-    let record-fact = c.«record» in
-    
-    
-    
-    let recorded = record-fact.ensures in
-    
     let h = stages c.args.e c.args.len (view c.args.s.now) c.args.buf.now (view-sized c.args.s.now).eps c.requires.r_value
-    recorded.0
+    c.«record».ensures.s_after
     c.arrived-x.ensures in
     record {
         value = c.arm.ensures.value ∙ ap (λ (x : ℕ × St). x.0) h;
         s_after = c.arm.ensures.s_after ∙ ap (λ (x : ℕ × St). x.1.0) h;
-        buf_after = (
-          c.arm.ensures.buf_after ∙ ap (λ (x : ℕ × St). x.1.1) h,
-          c.arm.ensures.s_unchanged
-              ∙ recorded.1,
-        );
-        s_unchanged = ;
+        buf_after = c.arm.ensures.buf_after ∙ ap (λ (x : ℕ × St). x.1.1) h;
+        s_unchanged = c.arm.ensures.s_unchanged
+              ∙ c.«record».ensures.s_unchanged;
     }

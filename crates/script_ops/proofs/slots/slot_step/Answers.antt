@@ -27,12 +27,9 @@ returns-then-is_on c =
     record {
         value = c.arm.ensures.value ∙ ap (λ (x : ℕ × St). x.0) h;
         s_after = c.arm.ensures.s_after ∙ ap (λ (x : ℕ × St). x.1.0) h;
-        buf_after = (
-          c.arm.ensures.buf_after ∙ ap (λ (x : ℕ × St). x.1.1) h,
-          c.arm.ensures.s_unchanged
-              ∙ c.renew_first.ensures.s_unchanged,
-        );
-        s_unchanged = ;
+        buf_after = c.arm.ensures.buf_after ∙ ap (λ (x : ℕ × St). x.1.1) h;
+        s_unchanged = c.arm.ensures.s_unchanged
+              ∙ c.renew_first.ensures.s_unchanged;
     }
 
 pub returns : goal.returns
@@ -41,6 +38,6 @@ returns c =
     record {
         value = simp (c.if-is_on.false, ← c.is_on.ensures, ← c.load_ep-r.ensures);
         s_after = simp (c.if-is_on.false, ← c.is_on.ensures, ← c.load_ep-r.ensures);
-        buf_after = (simp (c.if-is_on.false, ← c.is_on.ensures, ← c.load_ep-r.ensures), refl);
-        s_unchanged = ;
+        buf_after = simp (c.if-is_on.false, ← c.is_on.ensures, ← c.load_ep-r.ensures);
+        s_unchanged = refl;
     }

@@ -19,10 +19,7 @@ returns-in-Tried c =
     record {
         value = rw e (ap (λ (x : Shown). 5 + x.count % 256 * 2 ^ 8) c.preview-x.ensures);
         numbers_after = rw e (ap (λ (x : Shown). x.numbers) c.preview-x.ensures);
-        buffers_after = (
-          rw e (ap (λ (x : Shown). x.buffers) c.preview-x.ensures),
-          rw e
-              (ap (λ (x : Shown). x.refusal) c.preview-x.ensures),
-        );
-        refusal_after = ;
+        buffers_after = rw e (ap (λ (x : Shown). x.buffers) c.preview-x.ensures);
+        refusal_after = rw e
+              (ap (λ (x : Shown). x.refusal) c.preview-x.ensures);
     }

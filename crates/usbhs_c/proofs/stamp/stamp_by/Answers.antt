@@ -2,7 +2,7 @@ use Rattle.usbhs_c.proofs.Unshown.{unshown}
 use Rattle.usbhs_c.proofs.stamp.stamp_by.Goals as goal
 
 pub returns-in-Shown : goal.returns-in-Shown
-returns-in-Shown c = simp c.in-Shown.is
+returns-in-Shown c b d = simp c.in-Shown.is
 
 pub returns-in_default : goal.returns-in_default
-returns-in_default c = unshown c.args.step c.in_default.keys2 c.args.old b d
+returns-in_default c b d = unshown c.args.step c.in_default.keys2 c.args.old b d

@@ -6,7 +6,7 @@ use Rattle.usbhs_c.specs.ReadingsLaws.{continued, brought, not-brought}
 use Rattle.usbhs_c.proofs.together.bring_all.Goals as goal
 
 pub returns-then-word-read_word : goal.returns-then-word-read_word
-returns-then-word-read_word c =
+returns-then-word-read_word c x says =
     let l = lent c.args.s.now c.args.slots.now c.args.time.now in
     brought c.args.driver FrameNo c.args.frame (reading IntFg c.args.flags ∷ reading MisSt c.args.mis ∷ reading IntSt c.args.st
     ∷ reading RxLen c.args.len ∷ []) c.args.word x says
@@ -15,7 +15,7 @@ returns-then-word-read_word c =
     c.bring_flags.ensures
 
 pub returns : goal.returns
-returns c =
+returns c x says =
     not-brought c.args.driver FrameNo c.args.frame (reading IntFg c.args.flags ∷ reading MisSt c.args.mis
     ∷ reading IntSt c.args.st ∷ reading RxLen c.args.len ∷ []) c.args.word x says
     (lent c.args.s.now c.args.slots.now c.args.time.now) (λ e. c.if-word-read_word.false (e ∙ sym c.read_word.ensures))
