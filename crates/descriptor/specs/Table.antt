@@ -6,7 +6,6 @@ use Rattle.descriptor.specs.Row.{endpoint_of, setting_of, is_meant}
 use Rattle.descriptor.specs.Row.{endpoints_of}
 use Rattle.descriptor.specs.Endpoints.{merged, noted, gathered}
 use Rattle.descriptor.specs.Reading.{list_of, clashes, two_types, reading_of}
-use Rattle.descriptor.specs.declared.Written.TheVariants as written'
 use Rattle.descriptor.specs.Writing.{endpoints, written}
 
 -- a configuration of so many bytes, an interface's alternate setting, an endpoint, a descriptor of a class

@@ -1,7 +1,7 @@
 -- The walk along the descriptors from `at` in s, as the code goes. Assumes nothing.
 use Rattle.std.specs.Prelude.{◌≡◌, true, List, ℕ, ◌+◌, ◌<◌, get_or}
 use Rattle.descriptor.specs.Row.{is_clear}
-use Rattle.descriptor.specs.RowLaws.{Here, here}
+use Rattle.descriptor.specs.RowLaws.{Here}
 
 -- a whole descriptor stands there; of an endpoint, address bits 4-6 are clear
 pub record Sound (s : List ℕ) (at : ℕ) : Type 0 where

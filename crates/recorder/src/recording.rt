@@ -5,8 +5,8 @@ ghost use Rattle.card.specs.Packet.{packet_of};
 ghost use Rattle.recorder.specs.Recording.{writer_of, left_of, after, begin_bytes, begin_of, begin_room, record_of};
 ghost use Rattle.recorder.specs.Recording.{record_room, finish_of, finish_room, stored_of};
 
-use crate::recorder::{Recorded, Recorder};
 use crate::blocks::{put_end, put_packet, put_padding, put_record};
+use crate::recorder::{Recorded, Recorder};
 use card::writer::Writer;
 
 fn writer_of(r: Recorder) -> Writer

@@ -1,5 +1,5 @@
 -- What setting an endpoint's direction does to the others, and which endpoints a mask has left. Assumes nothing.
-use Rattle.std.specs.Prelude.{◌≡◌, Bool, ℕ, ◌+◌, ◌/◌, ◌%◌, ◌<◌, eqb}
+use Rattle.std.specs.Prelude.{◌≡◌, Bool, ℕ, ◌+◌, ◌/◌, ◌<◌, eqb}
 use Rattle.std.proofs.Common.{ap, sym, ◌∙◌, mod-eq_of_lt, arith, ne_eqb}
 use Rattle.bits.specs.Bit.{bit_is_set, pick, both}
 use Rattle.bits.specs.BitLaws.{set-with, set-and, set-high}

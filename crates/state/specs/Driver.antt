@@ -1,6 +1,6 @@
 -- What the state says of the driver: all but the suspended operation. Which record an endpoint has, and one record
 -- changed.
-use Rattle.std.specs.Prelude.{ℕ, ◌+◌, ◌*◌, ◌%◌, List, [], set, slice_index, slice_index_or, slice_set}
+use Rattle.std.specs.Prelude.{ℕ, ◌+◌, ◌*◌, ◌%◌, List, [], slice_index, slice_index_or, slice_set}
 use Rattle.state.specs.Codec.{ep_of, request_of}
 use Rattle.regs.specs.declared.Dir.{Dir}
 use Rattle.regs.specs.declared.Dir.TheVariants.{Out, In}

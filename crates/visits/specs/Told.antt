@@ -4,12 +4,9 @@ use Rattle.std.specs.Prelude.{◌↔◌, ℕ, suc, ◌≤◌}
 use Rattle.state.specs.declared.EpState.{EpState}
 use Rattle.visits.specs.declared.Reached.{Reached}
 use Rattle.visits.specs.Limits.{Limits}
-use Rattle.visits.specs.BoundsLaws.{no_fewer}
 use Rattle.visits.specs.Times.{Permitted, arrivals_in}
 use Rattle.visits.specs.Reaches.{Reaches}
-use Rattle.visits.specs.ReachesLaws.{least_reached, greatest_reached}
 use Rattle.visits.specs.Emptied.{Sixteen, NoOverrun}
-use Rattle.visits.specs.Fifteen.{fifteen}
 
 pub record Told (a b c d : ℕ) (least greatest : Reached) : Type 0 where
   pub limits : Limits a b c d

@@ -16,6 +16,6 @@ unfolding is_in_use
 returns c =
     let e : c.loop-k.k ≡ 128 = omega arith in
     record {
-        value = rw e at c.loop-k.invariant.2;
-        upper_bound = omega arith;
+      value = rw e at c.loop-k.invariant.2;
+      upper_bound = omega arith;
     }

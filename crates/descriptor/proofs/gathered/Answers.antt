@@ -11,8 +11,8 @@ use Rattle.descriptor.proofs.gathered.Goals as goal
 pub gather-requires : goal.gather-requires
 gather-requires c =
     record {
-        bytes_value = c.requires;
-        tidy = rw c.empty.ensures (tidy_of [] good_none);
+      bytes_value = c.requires;
+      tidy = rw c.empty.ensures (tidy_of [] good_none);
     }
 
 pub returns : goal.returns
@@ -21,7 +21,7 @@ returns c =
     let l : listed c.gather.result ≡ gathered [] (endpoints true c.args.bytes.now)
     = rw e (listed_of (gathered [] (endpoints true c.args.bytes.now))) in
     record {
-        value = c.gather-2.ensures.value ∙ ap (λ (x : List Endpoint). of_list (gathered x (endpoints false c.args.bytes.now))) l
+      value = c.gather-2.ensures.value ∙ ap (λ (x : List Endpoint). of_list (gathered x (endpoints false c.args.bytes.now))) l
           ∙ ap (λ (x : List Endpoint). of_list x) (sym (gathered-append [] (endpoints true c.args.bytes.now) (endpoints false c.args.bytes.now)));
-        tidy = c.gather-2.ensures.tidy_2;
+      tidy = c.gather-2.ensures.tidy_2;
     }

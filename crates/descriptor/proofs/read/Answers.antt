@@ -20,15 +20,14 @@ gathered-list-requires c = sym c.is_configuration.ensures ∙ c.if-not-is_config
 pub agree-requires : goal.agree-requires
 agree-requires c =
     record {
-        bytes_value = sym c.is_configuration.ensures ∙ c.if-not-is_configuration.false;
-        tidy = c.gathered-list.ensures.tidy;
+      bytes_value = sym c.is_configuration.ensures ∙ c.if-not-is_configuration.false;
+      tidy = c.gathered-list.ensures.tidy;
     }
 
 pub returns-then-not-agree : goal.returns-then-not-agree
 unfolding reading_of
 returns-then-not-agree c =
     let h = sym c.is_configuration.ensures ∙ c.if-not-is_configuration.false in
-    
     let l : listed c.gathered-list.result ≡ list_of c.args.bytes.now = rw c.gathered-list.ensures.value (listed_of (list_of c.args.bytes.now)) in
     let a = ap (λ (x : List Endpoint). agree x (endpoints true c.args.bytes.now)) (sym l) ∙ sym c.agree.ensures
     ∙ c.if-not-agree.true in
@@ -37,15 +36,14 @@ returns-then-not-agree c =
 pub agree-requires-2 : goal.agree-requires-2
 agree-requires-2 c =
     record {
-        bytes_value = sym c.is_configuration.ensures ∙ c.if-not-is_configuration.false;
-        tidy = c.gathered-list.ensures.tidy;
+      bytes_value = sym c.is_configuration.ensures ∙ c.if-not-is_configuration.false;
+      tidy = c.gathered-list.ensures.tidy;
     }
 
 pub returns-then-not-agree-2 : goal.returns-then-not-agree-2
 unfolding reading_of
 returns-then-not-agree-2 c =
     let h = sym c.is_configuration.ensures ∙ c.if-not-is_configuration.false in
-    
     let l : listed c.gathered-list.result ≡ list_of c.args.bytes.now = rw c.gathered-list.ensures.value (listed_of (list_of c.args.bytes.now)) in
     let a = ap (λ (x : List Endpoint). agree x (endpoints true c.args.bytes.now)) (sym l)
     ∙ sym c.agree.ensures ∙ c.if-not-agree.false in
@@ -57,7 +55,6 @@ pub returns : goal.returns
 unfolding reading_of
 returns c =
     let h = sym c.is_configuration.ensures ∙ c.if-not-is_configuration.false in
-    
     let l : listed c.gathered-list.result ≡ list_of c.args.bytes.now = rw c.gathered-list.ensures.value (listed_of (list_of c.args.bytes.now)) in
     let a = ap (λ (x : List Endpoint). agree x (endpoints true c.args.bytes.now)) (sym l)
     ∙ sym c.agree.ensures ∙ c.if-not-agree.false in

@@ -55,6 +55,6 @@ returns-in-Listed c =
     let by = written-by c.args.bytes.now c.args.room.now conf long e in
     let list = ap (λ (x : Reading). x.list) c.read-reading.ensures ∙ by.0 in
     record {
-        value = c.write.ensures.value ∙ ap (λ (x : Endpoints). written_of x c.args.room.now) list ∙ by.1;
-        room_after = c.write.ensures.room_after ∙ ap (λ (x : Endpoints). room_after x c.args.room.now) list ∙ by.2;
+      value = c.write.ensures.value ∙ ap (λ (x : Endpoints). written_of x c.args.room.now) list ∙ by.1;
+      room_after = c.write.ensures.room_after ∙ ap (λ (x : Endpoints). room_after x c.args.room.now) list ∙ by.2;
     }

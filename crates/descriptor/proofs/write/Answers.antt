@@ -10,8 +10,8 @@ unfolding written_of room_after
 returns-then-room-total c =
     let h = lt-ltb _ _ c.if-room-total.true in
     record {
-        value = rw (← c.count-n.ensures, h);
-        room_after = rw (← c.count-n.ensures, h);
+      value = rw (← c.count-n.ensures, h);
+      room_after = rw (← c.count-n.ensures, h);
     }
 
 pub returns : goal.returns
@@ -20,8 +20,8 @@ returns c =
     let h = le-ltb _ _ c.if-room-total.false in
     let l = laid-all c.args.room.now c.count-n.result c.args.list.entries (omega arith) in
     record {
-        value = rw (← c.count-n.ensures, h);
-        room_after = rw (← c.count-n.ensures, h) (c.endpoints.ensures ∙ rw (
+      value = rw (← c.count-n.ensures, h);
+      room_after = rw (← c.count-n.ensures, h) (c.endpoints.ensures ∙ rw (
         c.interface.ensures,
         c.configuration.ensures,
       ) l);

@@ -45,7 +45,7 @@ returns-then-are_taken c i time =
     let busy = ap not (c.sie_free-busy.ensures ∙ ap sie_free c.byte-then-are_taken.ensures) in
     all-served i c.args.frame c.args.word c.args.mis c.args.st c.args.len c.setup_act-setup.result _ c.args.s.now _
     c.args.slots.now time
-    may.0 may.1 may.2 c.«open».ensures told.0 setup told.1 told.2 told.3 told.4
+    may.0 may.1 may.2 c.open.ensures told.0 setup told.1 told.2 told.3 told.4
     told.5
     taken.0 busy taken.1 taken.2 _ _ c.byte-then-are_taken-2.ensures c.after_len.ensures
 

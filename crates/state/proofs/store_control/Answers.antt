@@ -8,7 +8,7 @@ use Rattle.state.proofs.store_control.Goals as goal
 pub returns : goal.returns
 returns c =
     record {
-        s_after = ap view c.write_control.ensures ∙ view-control c.args.s.now (omega arith) c.args.r;
-        s_unchanged = ap saved c.write_control.ensures ∙ saved-off c.args.s.now 2990
+      s_after = ap view c.write_control.ensures ∙ view-control c.args.s.now (omega arith) c.args.r;
+      s_unchanged = ap saved c.write_control.ensures ∙ saved-off c.args.s.now 2990
           (bytes control_widths (control_as c.args.r)) (omega arith);
     }

@@ -8,7 +8,7 @@ use Rattle.state.proofs.store_globals.Goals as goal
 pub returns : goal.returns
 returns c =
     record {
-        s_after = ap view c.write_globals.ensures ∙ view-globals c.args.s.now (omega arith) c.args.r;
-        s_unchanged = ap saved c.write_globals.ensures ∙ saved-off c.args.s.now 1320
+      s_after = ap view c.write_globals.ensures ∙ view-globals c.args.s.now (omega arith) c.args.r;
+      s_unchanged = ap saved c.write_globals.ensures ∙ saved-off c.args.s.now 1320
           (bytes globals_widths (globals_as c.args.r)) (omega arith);
     }

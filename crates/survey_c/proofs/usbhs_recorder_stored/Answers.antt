@@ -10,6 +10,6 @@ pub returns : goal.returns
 returns c =
     let next = c.stored-next.ensures ∙ ap stored_of c.recorder_in.ensures in
     record {
-        value = c.ended.ensures ∙ ap (λ (x : Recorder). end_word x.left) next;
-        state_after = c.recorder_numbers-numbers.ensures ∙ ap recorder_numbers next;
+      value = c.ended.ensures ∙ ap (λ (x : Recorder). end_word x.left) next;
+      state_after = c.recorder_numbers-numbers.ensures ∙ ap recorder_numbers next;
     }

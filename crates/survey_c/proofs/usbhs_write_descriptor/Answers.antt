@@ -10,13 +10,13 @@ overflow_cast-n c =
 pub returns-in-Refused : goal.returns-in-Refused
 returns-in-Refused c =
     record {
-        value = c.refused.ensures ∙ rw (sym c.rewrite.ensures.value ∙ c.in-Refused.is);
-        room_after = c.rewrite.ensures.room_after;
+      value = c.refused.ensures ∙ rw (sym c.rewrite.ensures.value ∙ c.in-Refused.is);
+      room_after = c.rewrite.ensures.room_after;
     }
 
 pub returns-in-Bytes : goal.returns-in-Bytes
 returns-in-Bytes c =
     record {
-        value = c.done.ensures ∙ rw (sym c.rewrite.ensures.value ∙ c.in-Bytes.is);
-        room_after = c.rewrite.ensures.room_after;
+      value = c.done.ensures ∙ rw (sym c.rewrite.ensures.value ∙ c.in-Bytes.is);
+      room_after = c.rewrite.ensures.room_after;
     }

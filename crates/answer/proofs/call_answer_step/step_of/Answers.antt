@@ -35,8 +35,8 @@ returns-in-7 c = simp (sym c.kind_of-kind.ensures ∙ c.in-7.is, c.low_half-in-7
 pub returns-in-1 : goal.returns-in-1
 unfolding step_of
 returns-in-1 c =
-    ap Asks c.Access-of.ensures
-    ∙ (asked c.kind_of-kind.result c.args.w c.if-kind-lt5.true c.in_default-1.in_default-1-own.rest.0.0.0.1
+    ap Asks c.access_of.ensures
+    ∙ (asked c.kind_of-kind.result c.args.w c.in-1.if-kind-lt5-own.true c.in-1.in_default-own.rest.0.0.0.1
     ∙ ap (λ (k : ℕ). of_kind k c.args.w) c.kind_of-kind.ensures)
 
 pub returns-in_default : goal.returns-in_default
@@ -46,12 +46,12 @@ returns-in_default c =
     simp (
       c.low_half-in_default.ensures,
       c.high_word.ensures,
-      ne_eqb _ _ (λ h. c.in_default-1.in_default-1-own.rest.1 (c.kind_of-kind.ensures ∙ h)),
-      ne_eqb _ _ (λ h. c.in_default-1.in_default-1-own.rest.0.1 (c.kind_of-kind.ensures ∙ h)),
-      ne_eqb _ _ (λ h. c.in_default-1.in_default-1-own.rest.0.0.1 (c.kind_of-kind.ensures ∙ h)),
-      ne_eqb k 4 (λ h. omega (arith, c.if-kind-lt5.false, c.kind_of-kind.ensures ∙ h)),
-      ne_eqb k 3 (λ h. omega (arith, c.if-kind-lt5.false, c.kind_of-kind.ensures ∙ h)),
-      ne_eqb k 2 (λ h. omega (arith, c.if-kind-lt5.false, c.kind_of-kind.ensures ∙ h)),
-      ne_eqb k 1 (λ h. omega (arith, c.if-kind-lt5.false, c.kind_of-kind.ensures ∙ h)),
-      ne_eqb _ _ (λ h. c.in_default-1.in_default-1-own.rest.0.0.0.1 (c.kind_of-kind.ensures ∙ h)),
+      ne_eqb _ _ (λ h. c.in_default.in_default-own.rest.1 (c.kind_of-kind.ensures ∙ h)),
+      ne_eqb _ _ (λ h. c.in_default.in_default-own.rest.0.1 (c.kind_of-kind.ensures ∙ h)),
+      ne_eqb _ _ (λ h. c.in_default.in_default-own.rest.0.0.1 (c.kind_of-kind.ensures ∙ h)),
+      ne_eqb k 4 (λ h. omega (arith, c.in_default.if-kind-lt5-own.false, c.kind_of-kind.ensures ∙ h)),
+      ne_eqb k 3 (λ h. omega (arith, c.in_default.if-kind-lt5-own.false, c.kind_of-kind.ensures ∙ h)),
+      ne_eqb k 2 (λ h. omega (arith, c.in_default.if-kind-lt5-own.false, c.kind_of-kind.ensures ∙ h)),
+      ne_eqb k 1 (λ h. omega (arith, c.in_default.if-kind-lt5-own.false, c.kind_of-kind.ensures ∙ h)),
+      ne_eqb _ _ (λ h. c.in_default.in_default-own.rest.0.0.0.1 (c.kind_of-kind.ensures ∙ h)),
     )

@@ -12,13 +12,13 @@ unfolding listed
 returns-then-n-le64 c =
     let w = (view c.args.s.now).wakes in
     record {
-        value = c.woken_count-n.ensures ∙ sym (length-take-le w.count w.codes (omega (
+      value = c.woken_count-n.ensures ∙ sym (length-take-le w.count w.codes (omega (
         arith,
         sym c.woken_count-n.ensures,
         c.if-n-le64.true,
         view-codes c.args.s.now,
       )));
-        upper_bound = omega (arith, c.if-n-le64.true);
+      upper_bound = omega (arith, c.if-n-le64.true);
     }
 
 pub returns : goal.returns
@@ -26,7 +26,7 @@ unfolding listed
 returns c =
     let w = (view c.args.s.now).wakes in
     record {
-        value = sym (length_most w.count w.codes (omega (arith, sym c.woken_count-n.ensures, c.if-n-le64.false, view-codes c.args.s.now))
+      value = sym (length_most w.count w.codes (omega (arith, sym c.woken_count-n.ensures, c.if-n-le64.false, view-codes c.args.s.now))
           ∙ view-codes c.args.s.now);
-        upper_bound = omega arith;
+      upper_bound = omega arith;
     }

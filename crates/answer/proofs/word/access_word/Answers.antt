@@ -4,6 +4,9 @@ use Rattle.answer.specs.WordLaws.{access-says, read-says, write-says}
 use borrow.Author.Rules.{rules}
 use Rattle.answer.proofs.word.access_word.Goals as goal
 
+pub enum_told-1 : goal.enum_told-1
+enum_told-1 c = search rules
+
 pub returns-in-Read : goal.returns-in-Read
 returns-in-Read c =
     read-says _ _ _ _ _ c.in-Read.is (search rules) c.number.ensures c.read_word.ensures

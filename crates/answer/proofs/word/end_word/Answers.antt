@@ -7,6 +7,6 @@ pub returns : goal.returns
 unfolding end_word
 returns c =
     record {
-        value = omega arith;
-        end_fits = (search rules, search rules);
+      value = omega arith;
+      end_fits = (search rules, search rules);
     }

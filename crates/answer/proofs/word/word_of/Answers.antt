@@ -4,6 +4,9 @@ use Rattle.answer.specs.WordLaws.{says}
 use borrow.Author.Rules.{rules}
 use Rattle.answer.proofs.word.word_of.Goals as goal
 
+pub enum_told-1 : goal.enum_told-1
+enum_told-1 c = search rules
+
 pub returns-in-Refused : goal.returns-in-Refused
 unfolding word_of
 returns-in-Refused c = says _ _ _ c.in-Refused.is (search rules) refl

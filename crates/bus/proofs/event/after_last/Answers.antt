@@ -7,7 +7,7 @@ pub returns : goal.returns
 unfolding after_naked after_reset
 returns c =
     record {
-        by_index = λ e h b. simp (c.set_ep_config.ensures.s_after, nak-none e h);
-        s_unchanged = c.set_ep_config.ensures.s_unchanged;
-        awaited = refl;
+      by_index = λ e h b. simp (c.set_ep_config.ensures.s_after, nak-none e h);
+      s_unchanged = c.set_ep_config.ensures.s_unchanged;
+      awaited = refl;
     }

@@ -7,6 +7,6 @@ pub returns : goal.returns
 unfolding after_naked
 returns c =
     record {
-        b_value = λ d b. simp (c.nak_word.ensures, nak-more _ c.requires);
-        awaited = refl;
+      b_value = λ d b. simp (c.nak_word.ensures, nak-more _ c.requires);
+      awaited = refl;
     }

@@ -18,13 +18,12 @@ returns-then-is_on c =
 
 pub returns : goal.returns
 unfolding after_flags after_status after_released
-returns c =
-    (
-      λ b. simp (
-        c.store_globals.ensures.s_after,
-        ← c.is_on.ensures,
-        c.if-is_on.false,
-        ← c.load_globals-g.ensures,
-      ),
-      (c.store_globals.ensures.s_unchanged, tt),
-    )
+returns c = (
+  λ b. simp (
+    c.store_globals.ensures.s_after,
+    ← c.is_on.ensures,
+    c.if-is_on.false,
+    ← c.load_globals-g.ensures,
+  ),
+  (c.store_globals.ensures.s_unchanged, tt),
+)

@@ -6,6 +6,6 @@ pub returns : goal.returns
 unfolding after_placed
 returns c =
     record {
-        b_value = λ d b. simp c.in_word-word.ensures;
-        awaited = refl;
+      b_value = λ d b. simp c.in_word-word.ensures;
+      awaited = refl;
     }

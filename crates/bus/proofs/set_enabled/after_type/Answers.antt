@@ -6,7 +6,7 @@ pub returns : goal.returns
 unfolding after_type
 returns c =
     record {
-        by_index = λ b. simp (c.load_globals-g.ensures, c.set_enabled.ensures.s_after);
-        s_unchanged = c.set_enabled.ensures.s_unchanged;
-        awaited = refl;
+      by_index = λ b. simp (c.load_globals-g.ensures, c.set_enabled.ensures.s_after);
+      s_unchanged = c.set_enabled.ensures.s_unchanged;
+      awaited = refl;
     }

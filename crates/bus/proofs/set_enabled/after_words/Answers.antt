@@ -6,12 +6,12 @@ pub returns : goal.returns
 unfolding after_words after_type
 returns c =
     record {
-        by_index = λ b. simp (
+      by_index = λ b. simp (
         c.set_ep_type.ensures.s_after,
         c.with_on-word.ensures,
         c.both-bit.ensures,
         c.load_globals-g.ensures,
       );
-        s_unchanged = c.set_ep_type.ensures.s_unchanged;
-        awaited = refl;
+      s_unchanged = c.set_ep_type.ensures.s_unchanged;
+      awaited = refl;
     }

@@ -6,19 +6,19 @@ pub returns-then-iso : goal.returns-then-iso
 unfolding after_restart
 returns-then-iso c =
     record {
-        by_index = λ b. simp (c.wake.ensures.s_after, c.if-iso.true);
-        s_unchanged = c.wake.ensures.s_unchanged;
+      by_index = λ b. simp (c.wake.ensures.s_after, c.if-iso.true);
+      s_unchanged = c.wake.ensures.s_unchanged;
     }
 
 pub returns : goal.returns
 unfolding after_restart
 returns c =
     record {
-        by_index = λ b. simp (
+      by_index = λ b. simp (
         c.wake-2.ensures.s_after,
         c.store_ep.ensures.s_after,
         c.load_ep-r.ensures,
         c.if-iso.false,
       );
-        s_unchanged = c.wake-2.ensures.s_unchanged ∙ c.store_ep.ensures.s_unchanged;
+      s_unchanged = c.wake-2.ensures.s_unchanged ∙ c.store_ep.ensures.s_unchanged;
     }

@@ -6,6 +6,6 @@ pub returns : goal.returns
 unfolding after_stall_word
 returns c =
     record {
-        b_value = λ d b. simp (c.ctrl_of.ensures, c.stall-word.ensures, c.byte.ensures);
-        awaited = refl;
+      b_value = λ d b. simp (c.ctrl_of.ensures, c.stall-word.ensures, c.byte.ensures);
+      awaited = refl;
     }

@@ -3,7 +3,11 @@ use Rattle.bus.specs.declared.Point.TheVariants as point
 use Rattle.bus.specs.PointsLaws.{begun-at}
 use Rattle.bus.specs.Points.{after_restart, woken}
 use Rattle.regs.specs.declared.Dir.TheVariants as Dir
+use borrow.Author.Rules.{rules}
 use Rattle.bus.proofs.set_stalled.restart.Goals as goal
+
+pub enum_told-1 : goal.enum_told-1
+enum_told-1 c = search rules
 
 pub returns-in-Out : goal.returns-in-Out
 unfolding woken

@@ -9,4 +9,4 @@ returns-in-Asks c x d = simp c.in-Asks.is c.after_access.ensures
 
 pub returns-in_default : goal.returns-in_default
 returns-in_default c x d =
-    unmoved _ (answer_of c.args.step [] x) (unasked c.args.step x c.in_default.keys2) c.args.driver going d
+    unmoved _ (answer_of c.args.step [] x) (unasked c.args.step x c.in_default.in_default-own.keys2) c.args.driver going d

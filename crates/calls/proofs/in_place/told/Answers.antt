@@ -1,7 +1,11 @@
 use mathlib.Core.Path.{subst}
 use Rattle.isochronous.specs.declared.open_close.Packet.{Packet}
 use Rattle.isochronous.specs.Packets as packets
+use borrow.Author.Rules.{rules}
 use Rattle.calls.proofs.in_place.told.Goals as goal
+
+pub enum_told-1 : goal.enum_told-1
+enum_told-1 c = search rules
 
 pub returns-in-Refused : goal.returns-in-Refused
 returns-in-Refused c =

@@ -13,6 +13,7 @@ use Rattle.script.specs.Calls as calls
 use Rattle.machine.specs.Suspended.{decode}
 use Rattle.machine.specs.RowsLaws.{back, other-call}
 use Rattle.calls.specs.ListedLaws.{reading_all, all-unread, all_read, passes-idle}
+use borrow.Author.Rules.{rules}
 use Rattle.calls.proofs.listed_calls.allocate_all.Goals as goal
 
 pub returns-in-Refused : goal.returns-in-Refused
@@ -23,6 +24,9 @@ returns-in-Refused c =
           (sym (ap (λ (r : Reading). r.answer) c.read-r.ensures) ∙ c.in-Refused.is),
       refl,
     )
+
+pub enum_told-1 : goal.enum_told-1
+enum_told-1 c = search rules
 
 pub allocate_listed-requires : goal.allocate_listed-requires
 allocate_listed-requires c =

@@ -8,8 +8,8 @@ use Rattle.card.proofs.batches.take_near.Goals as goal
 pub returns-then-first-d : goal.returns-then-first-d
 returns-then-first-d c =
     record {
-        near = near_none (view c.args.stream.now) c.args.d c.args.first _ c.requires.0;
-        room_after = paste-zero c.args.room.now c.args.used
+      near = near_none (view c.args.stream.now) c.args.d c.args.first _ c.requires.0;
+      room_after = paste-zero c.args.room.now c.args.used
           (bytes_from (view c.args.stream.now) c.args.d 0);
     }
 
@@ -34,17 +34,15 @@ pub copy_run-requires : goal.copy_run-requires
 copy_run-requires c =
     let good = seen-good (view c.args.stream.now) c.args.d c.args.first c.requires.0 (omega arith) in
     let lies = good-lies c.args.stream.now (c.args.d / 504) good in
-    
     (omega (arith, c.walk-near.ensures.inside), omega (arith, c.walk-near.ensures.fits, c.requires.1))
 
 pub returns : goal.returns
 returns c =
     let good = seen-good (view c.args.stream.now) c.args.d c.args.first c.requires.0 (omega arith) in
-    
     let near = near-walked (view c.args.stream.now) c.args.d c.args.first _ _ _ c.requires.0 (omega arith)
     c.walk-near.ensures in
     record {
-        near = near;
-        room_after = c.copy_run.ensures ∙ near-bytes c.args.stream.now c.args.room.now c.args.d c.args.used c.walk-near.result.bytes good
+      near = near;
+      room_after = c.copy_run.ensures ∙ near-bytes c.args.stream.now c.args.room.now c.args.d c.args.used c.walk-near.result.bytes good
           c.walk-near.ensures.inside;
     }

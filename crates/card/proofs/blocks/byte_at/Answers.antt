@@ -7,6 +7,6 @@ overflow_cast-result c = omega (arith, c.shared_slice_known-1.given c.args.i)
 pub returns : goal.returns
 returns c =
     record {
-        value = refl;
-        upper_bound = omega (arith, c.shared_slice_known-1.given c.args.i);
+      value = refl;
+      upper_bound = omega (arith, c.shared_slice_known-1.given c.args.i);
     }

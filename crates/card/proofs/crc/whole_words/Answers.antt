@@ -72,7 +72,6 @@ loop-i-preserved c =
     let two : c.loop-i.i + 4 + 4 ≡ c.loop-i.i + 8 = omega arith in
     let three : c.loop-i.i + 8 + 4 ≡ c.loop-i.i + 12 = omega arith in
     let four : c.loop-i.i + 12 + 4 ≡ c.loop-i.i + 16 = omega arith in
-    
     let second = rw two at c.with_word-s-in-loop-i.ensures.bytes_value in
     let third = rw three at c.with_word-s-in-loop-i-2.ensures.bytes_value in
     let fourth = rw four at c.with_word-s-in-loop-i-3.ensures.bytes_value in

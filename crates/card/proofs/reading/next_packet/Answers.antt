@@ -10,8 +10,8 @@ use Rattle.card.proofs.reading.next_packet.Goals as goal
 pub returns-then-stream-ne0 : goal.returns-then-stream-ne0
 returns-then-stream-ne0 c =
     record {
-        value = next-torn c.args.stream.now c.args.reader.at (length c.args.room.now) c.if-stream-ne0.true;
-        room_after = room-torn c.args.stream.now c.args.reader.at c.args.room.now c.if-stream-ne0.true;
+      value = next-torn c.args.stream.now c.args.reader.at (length c.args.room.now) c.if-stream-ne0.true;
+      room_after = room-torn c.args.stream.now c.args.reader.at c.args.room.now c.if-stream-ne0.true;
     }
 
 pub find_from-requires : goal.find_from-requires
@@ -26,14 +26,14 @@ unfolding given put
 returns-in-Nothing c =
     let f = sym c.find_from.ensures ∙ c.in-Nothing.is in
     record {
-        value = next_found c.args.stream.now c.args.reader.at (length c.args.room.now) found.Nothing _ c.if-stream-ne0.false f refl;
-        room_after = room-found c.args.stream.now c.args.reader.at c.args.room.now found.Nothing _ c.if-stream-ne0.false f refl;
+      value = next_found c.args.stream.now c.args.reader.at (length c.args.room.now) found.Nothing _ c.if-stream-ne0.false f refl;
+      room_after = room-found c.args.stream.now c.args.reader.at c.args.room.now found.Nothing _ c.if-stream-ne0.false f refl;
     }
 
 pub returns-in-Packet : goal.returns-in-Packet
 returns-in-Packet c =
     let f = sym c.find_from.ensures ∙ c.in-Packet.is in
     record {
-        value = next_found c.args.stream.now c.args.reader.at (length c.args.room.now) _ _ c.if-stream-ne0.false f c.give.ensures.value;
-        room_after = room-found c.args.stream.now c.args.reader.at c.args.room.now _ _ c.if-stream-ne0.false f c.give.ensures.room_after;
+      value = next_found c.args.stream.now c.args.reader.at (length c.args.room.now) _ _ c.if-stream-ne0.false f c.give.ensures.value;
+      room_after = room-found c.args.stream.now c.args.reader.at c.args.room.now _ _ c.if-stream-ne0.false f c.give.ensures.room_after;
     }

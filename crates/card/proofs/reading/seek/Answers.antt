@@ -32,12 +32,11 @@ pub loop-k-smaller : goal.loop-k-smaller
 loop-k-smaller c = omega arith
 
 pub loop-k-preserved : goal.loop-k-preserved
-loop-k-preserved c =
-    (
-      omega arith,
-      sym (seek-more (view c.args.stream.now) c.loop-k.k _ (omega arith) (sym c.names_begin.ensures
-          ∙ c.if-names_begin.false)) ∙ c.loop-k.invariant.1,
-    )
+loop-k-preserved c = (
+  omega arith,
+  sym (seek-more (view c.args.stream.now) c.loop-k.k _ (omega arith) (sym c.names_begin.ensures
+      ∙ c.if-names_begin.false)) ∙ c.loop-k.invariant.1,
+)
 
 pub overflow_mul-result-2 : goal.overflow_mul-result-2
 overflow_mul-result-2 c = omega arith

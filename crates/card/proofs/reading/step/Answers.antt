@@ -15,7 +15,6 @@ returns-then-all-d-lt3 c = sym (step-short (view c.args.stream.now) c.args.d (om
 pub returns-then-clean-end : goal.returns-then-clean-end
 returns-then-clean-end c =
     let v = view c.args.stream.now in
-    
     let looked = c.clean_to-clean.ensures ∙ seen_clean v c.args.d c.args.first c.requires in
     ap Goes (c.seek.ensures ∙ ap (λ (k : ℕ). seek_from (view c.args.stream.now) (k + 1)) looked)
     ∙ sym (step-begin v c.args.d (omega arith) ∙ intact-cut v c.args.d (c.args.d + 3) (begin_at v c.args.d)
@@ -29,7 +28,6 @@ begin_at-requires c =
 pub returns : goal.returns
 returns c =
     let v = view c.args.stream.now in
-    
     let looked = c.clean_to-clean.ensures ∙ seen_clean v c.args.d c.args.first c.requires in
     c.begin_at.ensures
     ∙ sym (step-begin v c.args.d (omega arith) ∙ intact-good v c.args.d (c.args.d + 3) (begin_at v c.args.d)

@@ -17,10 +17,10 @@ overflow_sub-a c = c.header_part-few.ensures.2 (omega arith)
 pub slice_bounds-copy_in-end : goal.slice_bounds-copy_in-end
 slice_bounds-copy_in-end c =
     omega (
-  arith,
-  c.header_part-few.ensures.2
-      (omega arith),
-)
+      arith,
+      c.header_part-few.ensures.2
+          (omega arith),
+    )
 
 pub returns : goal.returns
 returns c =

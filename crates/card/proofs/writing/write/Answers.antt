@@ -51,6 +51,6 @@ returns c =
     let p = packet_of c.args.endpoint c.args.bytes.now in
     let f = fit p c.args.block.now c.if-block-ne512.false (omega arith) c.if-endpoint-eq0.false (omega arith) in
     record {
-        value = write-answer c.args.w p c.args.block.now _ _ _ f c.Writer-of.ensures c.is_full-full.ensures c.is_whole-done.ensures;
-        block_after = write-block c.args.w p c.args.block.now _ f c.put.ensures;
+      value = write-answer c.args.w p c.args.block.now _ _ _ f c.Writer-of.ensures c.is_full-full.ensures c.is_whole-done.ensures;
+      block_after = write-block c.args.w p c.args.block.now _ f c.put.ensures;
     }

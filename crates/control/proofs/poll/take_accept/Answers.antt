@@ -1,3 +1,5 @@
+use Rattle.std.specs.Prelude.{not}
+use Rattle.std.proofs.Common.{ap}
 use mathlib.Core.Path.{refl, sym, ◌∙◌}
 use mathlib.Core.List.{[]}
 use borrow.Author.Tests.{not-false}
@@ -22,7 +24,7 @@ returns-then-not-is_on c =
 pub returns-then-is_on : goal.returns-then-is_on
 returns-then-is_on c =
     record {
-        by_index = λ b. asked-at point.Wrote c.point.ensures _ b ∙ accept-address (view c.args.s.now) _ b c.pre _
+        by_index = λ b. asked-at point.Wrote c.point.ensures _ b ∙ accept-address (view c.args.s.now) _ b c.requires _
           _
           c.unready.ensures.s_after
           c.set_request.ensures.s_after
@@ -33,7 +35,7 @@ returns-then-is_on c =
           c.clear_wakes.ensures.s_after
           (sym c.is_on-then-is_on.ensures
           ∙ not-false c.is_on-then-is_on.result
-          c.if-not-is_on.false);
+          (ap not c.if-not-is_on.false));
         s_unchanged = c.clear_wakes.ensures.s_unchanged
             ∙ c.set_request.ensures.s_unchanged
             ∙ c.unready.ensures.s_unchanged;

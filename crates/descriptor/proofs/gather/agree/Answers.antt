@@ -1,5 +1,5 @@
 use mathlib.Core.Path.{sym, ◌∙◌}
-use mathlib.Core.Bool.{true, false}
+use mathlib.Core.Bool.{false}
 use native.Mathlib.Omega.{arith}
 use lib.ListN.{length}
 use Rattle.descriptor.specs.Endpoints.{listed}
@@ -20,8 +20,8 @@ setting-now_in-requires c = (on c.loop-at.invariant.1 c.loop-at.invariant.2 c.ar
 pub agrees-requires : goal.agrees-requires
 agrees-requires c =
     record {
-        sound = (on c.loop-at.invariant.1 c.loop-at.invariant.2 c.args.bytes.now c.loop-at.at c.args.zeroth c.loop-at.now_in (λ j. omega (arith, c.type_inv.bytes j)) (omega arith) c.loop-at.invariant.3).sound;
-        tidy = c.requires.tidy;
+      sound = (on c.loop-at.invariant.1 c.loop-at.invariant.2 c.args.bytes.now c.loop-at.at c.args.zeroth c.loop-at.now_in (λ j. omega (arith, c.type_inv.bytes j)) (omega arith) c.loop-at.invariant.3).sound;
+      tidy = c.requires.tidy;
     }
 
 pub returns-then-not-agrees : goal.returns-then-not-agrees
@@ -45,8 +45,7 @@ pub loop-at-preserved : goal.loop-at-preserved
 loop-at-preserved c =
     let o = (on c.loop-at.invariant.1 c.loop-at.invariant.2 c.args.bytes.now c.loop-at.at c.args.zeroth c.loop-at.now_in (λ j. omega (arith, c.type_inv.bytes j)) (omega arith) c.loop-at.invariant.3) in
     let f = o.sound.here.fits in
-    let y = sym c.agrees.ensures ∙ c.if-not-agrees.false in
-    (
+    let y = sym c.agrees.ensures ∙ c.if-not-agrees.false in (
       omega arith,
       o.left,
       o.inside,

@@ -22,8 +22,8 @@ setting-now_in-requires c = (on c.loop-at.invariant.2 c.loop-at.invariant.3 c.ar
 pub taken-so_far-requires : goal.taken-so_far-requires
 taken-so_far-requires c =
     record {
-        sound = (on c.loop-at.invariant.2 c.loop-at.invariant.3 c.args.bytes.now c.loop-at.at c.args.zeroth c.loop-at.now_in (λ j. omega (arith, c.type_inv.bytes j)) (omega arith) c.loop-at.invariant.4).sound;
-        tidy = c.loop-at.invariant.0;
+      sound = (on c.loop-at.invariant.2 c.loop-at.invariant.3 c.args.bytes.now c.loop-at.at c.args.zeroth c.loop-at.now_in (λ j. omega (arith, c.type_inv.bytes j)) (omega arith) c.loop-at.invariant.4).sound;
+      tidy = c.loop-at.invariant.0;
     }
 
 pub bounds-bytes-at : goal.bounds-bytes-at
@@ -40,9 +40,7 @@ loop-at-smaller c =
 pub loop-at-preserved : goal.loop-at-preserved
 loop-at-preserved c =
     let o = (on c.loop-at.invariant.2 c.loop-at.invariant.3 c.args.bytes.now c.loop-at.at c.args.zeroth c.loop-at.now_in (λ j. omega (arith, c.type_inv.bytes j)) (omega arith) c.loop-at.invariant.4) in
-    let f = o.sound.here.fits in
-    
-    (
+    let f = o.sound.here.fits in (
       rw (c.taken-so_far.ensures, c.setting-now_in.ensures) (tidy-at _ _ _ _ _ o c.loop-at.so_far c.loop-at.invariant.0),
       omega arith,
       o.left,
@@ -56,6 +54,6 @@ returns c =
     let x = sym (gather-over c.loop-at.invariant.2 c.args.bytes.now c.loop-at.at c.args.zeroth c.loop-at.now_in
     (omega arith) (listed c.loop-at.so_far)) ∙ c.loop-at.invariant.5 in
     record {
-        value = c.loop-at.invariant.0.same ∙ ap (λ (y : List Endpoint). of_list y) x;
-        tidy_2 = c.loop-at.invariant.0;
+      value = c.loop-at.invariant.0.same ∙ ap (λ (y : List Endpoint). of_list y) x;
+      tidy_2 = c.loop-at.invariant.0;
     }

@@ -11,8 +11,8 @@ pub noted-requires : goal.noted-requires
 noted-requires c =
     let e = meant-endpoint c.args.bytes.now c.args.at c.args.zeroth c.args.setting (sym c.is_meant.ensures ∙ c.if-is_meant.true) in
     record {
-        tidy = c.requires.tidy;
-        list_bound = rw c.endpoint.ensures (place-few _ _ (fine-at _ _ c.requires.sound e) c.requires.tidy.good);
+      tidy = c.requires.tidy;
+      list_bound = rw c.endpoint.ensures (place-few _ _ (fine-at _ _ c.requires.sound e) c.requires.tidy.good);
     }
 
 pub returns-then-is_meant : goal.returns-then-is_meant

@@ -14,12 +14,10 @@ bounds-list-i c = omega (arith, tidy-count _ c.requires)
 pub returns-then-i-list : goal.returns-then-i-list
 returns-then-i-list c =
     let n = tidy-count c.args.list c.requires in
-    
     let z = agrees-found c.args.e (listed c.args.list) (omega arith) in
     rw (z, ← c.place-i.ensures, get_or-take c.args.list.count c.args.list.entries c.place-i.result none (omega arith))
 
 pub returns : goal.returns
 returns c =
     let n = tidy-count c.args.list c.requires in
-    
     sym (agrees-new c.args.e (listed c.args.list) (omega arith))

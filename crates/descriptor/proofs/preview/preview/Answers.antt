@@ -24,7 +24,6 @@ pub returns-in-Listed : goal.returns-in-Listed
 unfolding shown_of
 returns-in-Listed c =
     let b : (j : ℕ) → get_or c.args.bytes.now j 0 < 256 = λ j. omega (arith, c.shared_slice_known-1.given j) in
-    
     let e = ap (λ (x : Reading). x.answer) (sym c.read-r.ensures) ∙ c.in-Listed.is in
     let l = accepted c.args.bytes.now b e in
     let w : stored c.read-r.result.list ≡ list_of c.args.bytes.now =

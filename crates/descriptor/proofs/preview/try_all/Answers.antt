@@ -35,8 +35,8 @@ bounds-list-i c = omega arith
 pub step-t-requires : goal.step-t-requires
 step-t-requires c =
     record {
-        count_bound = omega arith;
-        buffers_bound = omega arith;
+      count_bound = omega arith;
+      buffers_bound = omega arith;
     }
 
 pub overflow_add-i : goal.overflow_add-i
@@ -48,7 +48,6 @@ loop-i-smaller c = omega arith
 pub loop-i-preserved : goal.loop-i-preserved
 loop-i-preserved c =
     let e = get_or c.args.list.entries c.loop-i.i none in
-    
     let x = ap (λ (t : Trial). t.count) c.step-t.ensures in
     let y = ap (λ (t : Trial). t.buffers) c.step-t.ensures in
     let m = tried-more c.start-t.result c.args.list.entries c.loop-i.i

@@ -31,13 +31,12 @@ pub loop-i-smaller : goal.loop-i-smaller
 loop-i-smaller c = omega arith
 
 pub loop-i-preserved : goal.loop-i-preserved
-loop-i-preserved c =
-    (
-      omega arith,
-      c.loop-i.invariant.1,
-      c.loop-i.invariant.2,
-      c.endpoint.ensures ∙ rw c.loop-i.invariant.3 (laid_more c.args.room.now c.args.list.entries c.loop-i.i (omega arith)),
-    )
+loop-i-preserved c = (
+  omega arith,
+  c.loop-i.invariant.1,
+  c.loop-i.invariant.2,
+  c.endpoint.ensures ∙ rw c.loop-i.invariant.3 (laid_more c.args.room.now c.args.list.entries c.loop-i.i (omega arith)),
+)
 
 pub shape_of-room : goal.shape_of-room
 shape_of-room c =

@@ -27,13 +27,12 @@ pub loop-i-smaller : goal.loop-i-smaller
 loop-i-smaller c = omega arith
 
 pub loop-i-preserved : goal.loop-i-preserved
-loop-i-preserved c =
-    (
-      omega arith,
-      c.loop-i.invariant.1,
-      rw (c.loop-i.invariant.2, add-one) (paste-suc c.args.room.now c.args.at c.args.d.now c.loop-i.i 0 (omega arith)
-          (omega arith)),
-    )
+loop-i-preserved c = (
+  omega arith,
+  c.loop-i.invariant.1,
+  rw (c.loop-i.invariant.2, add-one) (paste-suc c.args.room.now c.args.at c.args.d.now c.loop-i.i 0 (omega arith)
+      (omega arith)),
+)
 
 pub shape_of-room : goal.shape_of-room
 shape_of-room c =

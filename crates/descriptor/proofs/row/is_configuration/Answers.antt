@@ -57,7 +57,6 @@ bounds-bytes-0 c =
 pub is_row-requires : goal.is_row-requires
 is_row-requires c =
     let w = (whole_is _ (sym c.is_whole.ensures ∙ c.if-not-is_whole.false)).fits in
-    
     omega arith
 
 pub returns : goal.returns

@@ -1,5 +1,4 @@
 use mathlib.Core.Path.{refl, sym, ◌∙◌}
-use mathlib.Core.Bool.{false}
 use Prim.Native.Nat.{◌-◌}
 use native.Mathlib.Omega.{arith}
 use lib.ListN.{length, drop, length-drop}
@@ -20,8 +19,8 @@ returns-then-not-is_whole c =
 pub is_allowed-requires : goal.is_allowed-requires
 is_allowed-requires c =
     record {
-        at_in_bounds = omega arith;
-        bytes_value = sym c.is_whole.ensures ∙ c.if-not-is_whole.false;
+      at_in_bounds = omega arith;
+      bytes_value = sym c.is_whole.ensures ∙ c.if-not-is_whole.false;
     }
 
 pub returns-then-not-is_allowed : goal.returns-then-not-is_allowed
@@ -46,7 +45,6 @@ loop-at-smaller c =
     let w = sym c.is_whole.ensures ∙ c.if-not-is_whole.false in
     let h = here _ c.loop-at.at c.loop-at.invariant.0 w in
     let m = h.moves in
-    
     omega arith
 
 pub loop-at-preserved : goal.loop-at-preserved
@@ -55,8 +53,7 @@ loop-at-preserved c =
     let a = sym c.is_allowed.ensures ∙ c.if-not-is_allowed.false in
     let h = here c.args.bytes.now c.loop-at.at c.loop-at.invariant.0 w in
     let m = h.moves in
-    let f = h.fits in
-    (
+    let f = h.fits in (
       omega arith,
       c.loop-at.invariant.1 - 1,
       omega arith,

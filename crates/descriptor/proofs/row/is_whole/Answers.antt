@@ -8,7 +8,6 @@ returns-then-left-lt2 c = rw (whole-at, lt-leb _ _ c.if-left-lt2.true)
 pub returns-then-bytes-at : goal.returns-then-bytes-at
 returns-then-bytes-at c =
     let a = le-leb _ _ c.if-left-lt2.false in
-    
     rw (whole-at, a, ← c.least.ensures, lt-leb _ _ c.if-bytes-at.true)
 
 pub returns : goal.returns

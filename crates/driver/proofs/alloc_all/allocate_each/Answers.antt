@@ -26,24 +26,23 @@ pub loop-i-smaller : goal.loop-i-smaller
 loop-i-smaller c = omega arith
 
 pub loop-i-preserved : goal.loop-i-preserved
-loop-i-preserved c =
+loop-i-preserved c = (
+  omega arith,
+  (
+    c.loop-i.invariant.1.0,
     (
-      omega arith,
-      (
-        c.loop-i.invariant.1.0,
-        (
-          c.allocate_one.ensures.s_after ∙ ap (λ (d : Driver). one_on d (get_or c.args.list.entries c.loop-i.i none))
-              c.loop-i.invariant.1.1.0
-              ∙ sym (each_more _ c.args.list.entries c.loop-i.i),
-          c.allocate_one.ensures.s_unchanged ∙ c.loop-i.invariant.1.1.1,
-        ),
-      ),
-    )
+      c.allocate_one.ensures.s_after ∙ ap (λ (d : Driver). one_on d (get_or c.args.list.entries c.loop-i.i none))
+          c.loop-i.invariant.1.1.0
+          ∙ sym (each_more _ c.args.list.entries c.loop-i.i),
+      c.allocate_one.ensures.s_unchanged ∙ c.loop-i.invariant.1.1.1,
+    ),
+  ),
+)
 
 pub returns : goal.returns
 returns c =
     let e : c.loop-i.i ≡ count_of c.args.list = omega arith in
     record {
-        s_after = c.loop-i.invariant.1.1.0 ∙ ap (λ (i : ℕ). each_on (view c.args.s.now) (up_to i c.args.list.entries)) e;
-        s_unchanged = c.loop-i.invariant.1.1.1;
+      s_after = c.loop-i.invariant.1.1.0 ∙ ap (λ (i : ℕ). each_on (view c.args.s.now) (up_to i c.args.list.entries)) e;
+      s_unchanged = c.loop-i.invariant.1.1.1;
     }

@@ -6,6 +6,6 @@ pub returns : goal.returns
 unfolding one_on
 returns c =
     record {
-        s_after = c.allocate-z.ensures.s_after ∙ simp c.direction.ensures;
-        s_unchanged = c.allocate-z.ensures.s_unchanged;
+      s_after = c.allocate-z.ensures.s_after ∙ simp c.direction.ensures;
+      s_unchanged = c.allocate-z.ensures.s_unchanged;
     }

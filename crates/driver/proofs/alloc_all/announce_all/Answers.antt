@@ -10,18 +10,18 @@ use Rattle.driver.proofs.alloc_all.announce_all.Goals as goal
 pub returns-then-n-eq0 : goal.returns-then-n-eq0
 returns-then-n-eq0 c =
     record {
-        by_index = λ b. sym (announce-none c.args.list.entries (view c.args.s.now) b)
+      by_index = λ b. sym (announce-none c.args.list.entries (view c.args.s.now) b)
           ∙ ap (λ (n : ℕ). go (announce_all (up_to n c.args.list.entries)) (view c.args.s.now) b)
           (sym c.if-n-eq0.true ∙ c.count-n.ensures);
-        linked = tt;
+      linked = tt;
     }
 
 pub returns : goal.returns
 returns c =
     record {
-        by_index = λ b. c.first.ensures.by_index b ∙ simp c.direction.ensures
+      by_index = λ b. c.first.ensures.by_index b ∙ simp c.direction.ensures
           (announce-first _ c.args.list.entries (view c.args.s.now) b c.if-n-eq0.false
           ∙ ap (λ (n : ℕ). go (announce_all (up_to n c.args.list.entries)) (view c.args.s.now) b)
           c.count-n.ensures);
-        linked = c.first.ensures.linked;
+      linked = c.first.ensures.linked;
     }

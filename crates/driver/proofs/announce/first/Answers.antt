@@ -8,6 +8,6 @@ returns c =
     let begun = begun-at (point.ListMaxLen c.args.dir _ _ _ _) c.endpoint.ensures
     refl in
     record {
-        by_index = λ b. begun.0 _ b ∙ simp (← c.load_ep-r.ensures);
-        linked = begun.1;
+      by_index = λ b. begun.0 _ b ∙ simp (← c.load_ep-r.ensures);
+      linked = begun.1;
     }

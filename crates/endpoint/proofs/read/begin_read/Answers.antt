@@ -18,15 +18,15 @@ start_read-requires c =
 pub returns-then-row-eq0 : goal.returns-then-row-eq0
 returns-then-row-eq0 c =
     record {
-        by_index = λ b. c.start_read.ensures.by_index b ∙ lowered (λ x. begin_read x c.args.n) (view c.args.s.now) b c.low.ensures;
-        s_unchanged = c.start_read.ensures.s_unchanged;
-        linked_begun = c.start_read.ensures.linked_begun;
+      by_index = λ b. c.start_read.ensures.by_index b ∙ lowered (λ x. begin_read x c.args.n) (view c.args.s.now) b c.low.ensures;
+      s_unchanged = c.start_read.ensures.s_unchanged;
+      linked_begun = c.start_read.ensures.linked_begun;
     }
 
 pub returns : goal.returns
 returns c =
     record {
-        by_index = λ b. refused _ Out _ _ b _ c.refusal-row.ensures (ne_eqb _ _ c.if-row-eq0.false);
-        s_unchanged = refl;
-        linked_begun = tt;
+      by_index = λ b. refused _ Out _ _ b _ c.refusal-row.ensures (ne_eqb _ _ c.if-row-eq0.false);
+      s_unchanged = refl;
+      linked_begun = tt;
     }

@@ -22,9 +22,9 @@ returns-then-row-eq0 c =
     let is = lowered (λ x. poll_read x (length c.args.out.now)) (view c.args.s.now) c.args.buf.now
     c.low.ensures in
     record {
-        buf_after = c.take_read.ensures.buf_after ∙ is;
-        out_after = c.take_read.ensures.out_after ∙ lends c.args.out.now is;
-        s_unchanged = c.take_read.ensures.s_unchanged;
+      buf_after = c.take_read.ensures.buf_after ∙ is;
+      out_after = c.take_read.ensures.out_after ∙ lends c.args.out.now is;
+      s_unchanged = c.take_read.ensures.s_unchanged;
     }
 
 pub returns : goal.returns
@@ -32,7 +32,7 @@ returns c =
     let is = read-refused (view c.args.s.now) c.args.buf.now c.args.e (length c.args.out.now)
     c.refusal-row.ensures c.if-row-eq0.false in
     record {
-        buf_after = is;
-        out_after = lends c.args.out.now is;
-        s_unchanged = refl;
+      buf_after = is;
+      out_after = lends c.args.out.now is;
+      s_unchanged = refl;
     }

@@ -1,3 +1,5 @@
+use Rattle.std.specs.Prelude.{not}
+use Rattle.std.proofs.Common.{ap}
 use mathlib.Core.Path.{◌≡◌, refl, ◌∙◌}
 use mathlib.Core.Bool.{false}
 use lib.ListN.{length}
@@ -10,74 +12,70 @@ use Rattle.endpoint.specs.Points.{read_on}
 use Rattle.endpoint.proofs.Laws.{reads, poll-none, poll-other, poll-takes, picks, leaves, onward}
 use Rattle.endpoint.proofs.read.take_read.Goals as goal
 
--- past rows 15 and 10: what is taken, by the endpoint's record
-abbrev start : tie.After-load-ep → tie.Start
-start l = l.before.before.before.before.before.before.before.before.before.before
-
-takes : (l : tie.After-load-ep) → go {i = false} (reads (start l).args.e (length (start l).args.out.now)
-    (plain_of l.load-ep.result))
-    (view (start l).args.s.now) (start l).args.buf.now
-    ≡ read_on (start l).args.e (start l).args.out.now (start l).args.s.now (start l).args.buf.now
-takes l =
-    let asked = l.before.before.before.before in
-    poll-takes Out (start l).args.e (length (start l).args.out.now)
-    (reads (start l).args.e (length (start l).args.out.now))
-    (view (start l).args.s.now) (start l).args.buf.now (start l).requires
-    asked.before.before.load-request.ensures asked.before.is-on-word.ensures asked.if1.false
-    l.before.before.if2.true _ l.load-ep.ensures
-
 pub returns-then-not-is_on_word : goal.returns-then-not-is_on_word
 returns-then-not-is_on_word c =
     let is = poll-none Out c.args.e (length c.args.out.now)
     (reads c.args.e (length c.args.out.now))
     (view c.args.s.now) c.args.buf.now c.requires
-    c.load_request-q.ensures c.is_on_word.ensures c.if-not-is_on_word.true in
+    c.load_request-q.ensures c.is_on_word.ensures (ap not c.if-not-is_on_word.true) in
     record {
-        buf_after = is;
-        out_after = lends c.args.out.now is;
-        s_unchanged = refl;
+      buf_after = is;
+      out_after = lends c.args.out.now is;
+      s_unchanged = refl;
     }
 
 pub returns-then-is_on-clause-buf_after : goal.returns-then-is_on-clause-buf_after
 returns-then-is_on-clause-buf_after c =
-    (onward (start c).args.out.now (picks _ _ c.is_on.ensures
-    c.if-is_on.true ∙ takes c) (c.take_iso.ensures.buf_after, (c.take_iso.ensures.out_after, c.take_iso.ensures.s_unchanged))).0
+    (onward c.args.out.now (picks _ _ c.is_on.ensures
+    c.if-is_on.true ∙ (poll-takes Out c.args.e (length c.args.out.now) (reads c.args.e (length c.args.out.now)) (view c.args.s.now)
+    c.args.buf.now c.requires c.load_request-q.ensures c.is_on_word.ensures (ap not c.if-not-is_on_word.false)
+    c.if-q-out.true _ c.load_ep-r.ensures)) (c.take_iso.ensures.buf_after, (c.take_iso.ensures.out_after, c.take_iso.ensures.s_unchanged))).0
 
 pub returns-then-is_on-clause-out_after : goal.returns-then-is_on-clause-out_after
 returns-then-is_on-clause-out_after c =
-    (onward (start c).args.out.now (picks _ _ c.is_on.ensures
-    c.if-is_on.true ∙ takes c) (c.take_iso.ensures.buf_after, (c.take_iso.ensures.out_after, c.take_iso.ensures.s_unchanged))).1.0
+    (onward c.args.out.now (picks _ _ c.is_on.ensures
+    c.if-is_on.true ∙ (poll-takes Out c.args.e (length c.args.out.now) (reads c.args.e (length c.args.out.now)) (view c.args.s.now)
+    c.args.buf.now c.requires c.load_request-q.ensures c.is_on_word.ensures (ap not c.if-not-is_on_word.false)
+    c.if-q-out.true _ c.load_ep-r.ensures)) (c.take_iso.ensures.buf_after, (c.take_iso.ensures.out_after, c.take_iso.ensures.s_unchanged))).1.0
 
 pub returns-then-is_on-clause-s_unchanged : goal.returns-then-is_on-clause-s_unchanged
 returns-then-is_on-clause-s_unchanged c =
-    (onward (start c).args.out.now (picks _ _ c.is_on.ensures
-    c.if-is_on.true ∙ takes c) (c.take_iso.ensures.buf_after, (c.take_iso.ensures.out_after, c.take_iso.ensures.s_unchanged))).1.1
+    (onward c.args.out.now (picks _ _ c.is_on.ensures
+    c.if-is_on.true ∙ (poll-takes Out c.args.e (length c.args.out.now) (reads c.args.e (length c.args.out.now)) (view c.args.s.now)
+    c.args.buf.now c.requires c.load_request-q.ensures c.is_on_word.ensures (ap not c.if-not-is_on_word.false)
+    c.if-q-out.true _ c.load_ep-r.ensures)) (c.take_iso.ensures.buf_after, (c.take_iso.ensures.out_after, c.take_iso.ensures.s_unchanged))).1.1
 
 pub returns-then-q-out-clause-buf_after : goal.returns-then-q-out-clause-buf_after
 returns-then-q-out-clause-buf_after c =
-    (onward (start c).args.out.now (leaves _ _ c.is_on.ensures
-    c.if-is_on.false ∙ takes c) (c.take_ready.ensures.buf_after, (c.take_ready.ensures.out_after, c.take_ready.ensures.s_unchanged))).0
+    (onward c.args.out.now (leaves _ _ c.is_on.ensures
+    c.if-is_on.false ∙ (poll-takes Out c.args.e (length c.args.out.now) (reads c.args.e (length c.args.out.now)) (view c.args.s.now)
+    c.args.buf.now c.requires c.load_request-q.ensures c.is_on_word.ensures (ap not c.if-not-is_on_word.false)
+    c.if-q-out.true _ c.load_ep-r.ensures)) (c.take_ready.ensures.buf_after, (c.take_ready.ensures.out_after, c.take_ready.ensures.s_unchanged))).0
 
 pub returns-then-q-out-clause-out_after : goal.returns-then-q-out-clause-out_after
 returns-then-q-out-clause-out_after c =
-    (onward (start c).args.out.now (leaves _ _ c.is_on.ensures
-    c.if-is_on.false ∙ takes c) (c.take_ready.ensures.buf_after, (c.take_ready.ensures.out_after, c.take_ready.ensures.s_unchanged))).1.0
+    (onward c.args.out.now (leaves _ _ c.is_on.ensures
+    c.if-is_on.false ∙ (poll-takes Out c.args.e (length c.args.out.now) (reads c.args.e (length c.args.out.now)) (view c.args.s.now)
+    c.args.buf.now c.requires c.load_request-q.ensures c.is_on_word.ensures (ap not c.if-not-is_on_word.false)
+    c.if-q-out.true _ c.load_ep-r.ensures)) (c.take_ready.ensures.buf_after, (c.take_ready.ensures.out_after, c.take_ready.ensures.s_unchanged))).1.0
 
 pub returns-then-q-out-clause-s_unchanged : goal.returns-then-q-out-clause-s_unchanged
 returns-then-q-out-clause-s_unchanged c =
-    (onward (start c).args.out.now (leaves _ _ c.is_on.ensures
-    c.if-is_on.false ∙ takes c) (c.take_ready.ensures.buf_after, (c.take_ready.ensures.out_after, c.take_ready.ensures.s_unchanged))).1.1
+    (onward c.args.out.now (leaves _ _ c.is_on.ensures
+    c.if-is_on.false ∙ (poll-takes Out c.args.e (length c.args.out.now) (reads c.args.e (length c.args.out.now)) (view c.args.s.now)
+    c.args.buf.now c.requires c.load_request-q.ensures c.is_on_word.ensures (ap not c.if-not-is_on_word.false)
+    c.if-q-out.true _ c.load_ep-r.ensures)) (c.take_ready.ensures.buf_after, (c.take_ready.ensures.out_after, c.take_ready.ensures.s_unchanged))).1.1
 
 pub returns : goal.returns
 returns c =
     let is = poll-other Out c.args.e (length c.args.out.now)
     (reads c.args.e (length c.args.out.now))
     (view c.args.s.now) c.args.buf.now c.requires
-    c.load_request-q.ensures c.is_on_word.ensures c.if-not-is_on_word.false
+    c.load_request-q.ensures c.is_on_word.ensures (ap not c.if-not-is_on_word.false)
     c.if-q-out.false _ _
     c.unready.ensures.s_after c.end_request.ensures.s_after in
     record {
-        buf_after = is;
-        out_after = lends c.args.out.now is;
-        s_unchanged = c.end_request.ensures.s_unchanged ∙ c.unready.ensures.s_unchanged;
+      buf_after = is;
+      out_after = lends c.args.out.now is;
+      s_unchanged = c.end_request.ensures.s_unchanged ∙ c.unready.ensures.s_unchanged;
     }

@@ -10,9 +10,9 @@ returns-then-too_long c =
     (length c.args.out.now) c.args.r (sym c.is_on.ensures
     ∙ c.if-is_on.true) _ _ c.unready.ensures.s_after c.end_request.ensures.s_after (sym c.too_long.ensures ∙ c.if-too_long.true) in
     record {
-        buf_after = p.0;
-        out_after = p.1;
-        s_unchanged = c.end_request.ensures.s_unchanged ∙ c.unready.ensures.s_unchanged;
+      buf_after = p.0;
+      out_after = p.1;
+      s_unchanged = c.end_request.ensures.s_unchanged ∙ c.unready.ensures.s_unchanged;
     }
 
 pub fetch-n-requires : goal.fetch-n-requires
@@ -25,9 +25,9 @@ returns-then-is_on c =
     c.unready.ensures.s_after c.end_request-then-is_on.ensures.s_after (sym c.too_long.ensures ∙ c.if-too_long.false) c.load_ep-t.result _ _
     c.load_ep-t.ensures c.fetch-n.ensures.value c.fetch-n.ensures.out_after in
     record {
-        buf_after = p.0;
-        out_after = p.1;
-        s_unchanged = c.end_request-then-is_on.ensures.s_unchanged ∙ c.unready.ensures.s_unchanged;
+      buf_after = p.0;
+      out_after = p.1;
+      s_unchanged = c.end_request-then-is_on.ensures.s_unchanged ∙ c.unready.ensures.s_unchanged;
     }
 
 pub returns : goal.returns
@@ -37,7 +37,7 @@ returns c =
     (sym c.is_on.ensures ∙ c.if-is_on.false)
     c.wait_on.result _ (c.wait_on.ensures.by_index _ _) in
     record {
-        buf_after = p.0;
-        out_after = p.1;
-        s_unchanged = c.wait_on.ensures.s_unchanged;
+      buf_after = p.0;
+      out_after = p.1;
+      s_unchanged = c.wait_on.ensures.s_unchanged;
     }

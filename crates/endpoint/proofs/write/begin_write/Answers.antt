@@ -18,16 +18,16 @@ start_write-requires c =
 pub returns-then-row-eq0 : goal.returns-then-row-eq0
 returns-then-row-eq0 c =
     record {
-        buf_after = c.start_write.ensures.buf_after ∙ lowered (λ x. begin_write x c.args.bytes.now) (view c.args.s.now) c.args.buf.now
+      buf_after = c.start_write.ensures.buf_after ∙ lowered (λ x. begin_write x c.args.bytes.now) (view c.args.s.now) c.args.buf.now
           c.low.ensures;
-        s_unchanged = c.start_write.ensures.s_unchanged;
-        linked_begun = c.start_write.ensures.linked_begun;
+      s_unchanged = c.start_write.ensures.s_unchanged;
+      linked_begun = c.start_write.ensures.linked_begun;
     }
 
 pub returns : goal.returns
 returns c =
     record {
-        buf_after = refused _ In _ _ _ _ c.refusal-row.ensures (ne_eqb _ _ c.if-row-eq0.false);
-        s_unchanged = refl;
-        linked_begun = tt;
+      buf_after = refused _ In _ _ _ _ c.refusal-row.ensures (ne_eqb _ _ c.if-row-eq0.false);
+      s_unchanged = refl;
+      linked_begun = tt;
     }

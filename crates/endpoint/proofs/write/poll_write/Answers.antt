@@ -18,13 +18,13 @@ take_write-requires c =
 pub returns-then-row-eq0 : goal.returns-then-row-eq0
 returns-then-row-eq0 c =
     record {
-        buf_after = c.take_write.ensures.buf_after ∙ lowered (λ x. poll_write x c.args.bytes.now) (view c.args.s.now) c.args.buf.now c.low.ensures;
-        s_unchanged = c.take_write.ensures.s_unchanged;
+      buf_after = c.take_write.ensures.buf_after ∙ lowered (λ x. poll_write x c.args.bytes.now) (view c.args.s.now) c.args.buf.now c.low.ensures;
+      s_unchanged = c.take_write.ensures.s_unchanged;
     }
 
 pub returns : goal.returns
 returns c =
     record {
-        buf_after = refused _ In _ _ _ _ c.refusal-row.ensures (ne_eqb _ _ c.if-row-eq0.false);
-        s_unchanged = refl;
+      buf_after = refused _ In _ _ _ _ c.refusal-row.ensures (ne_eqb _ _ c.if-row-eq0.false);
+      s_unchanged = refl;
     }

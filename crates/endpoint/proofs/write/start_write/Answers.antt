@@ -1,3 +1,5 @@
+use Rattle.std.specs.Prelude.{not}
+use Rattle.std.proofs.Common.{ap}
 use mathlib.Core.Path.{refl, sym, ◌∙◌}
 use lib.Dec.{ltb}
 use lib.ListN.{length}
@@ -13,21 +15,21 @@ use Rattle.endpoint.proofs.write.start_write.Goals as goal
 pub returns-then-not-is_enabled : goal.returns-then-not-is_enabled
 returns-then-not-is_enabled c =
     record {
-        buf_after = write-disabled (view c.args.s.now) c.args.buf.now c.args.bytes.now
+      buf_after = write-disabled (view c.args.s.now) c.args.buf.now c.args.bytes.now
           c.args.e c.requires (sym c.is_enabled.ensures ∙ c.if-not-is_enabled.true);
-        s_unchanged = refl;
-        linked_begun = tt;
+      s_unchanged = refl;
+      linked_begun = tt;
     }
 
 pub returns-then-r-bytes : goal.returns-then-r-bytes
 returns-then-r-bytes c =
     record {
-        buf_after = write-long (view c.args.s.now) c.args.buf.now c.args.bytes.now c.args.e
+      buf_after = write-long (view c.args.s.now) c.args.buf.now c.args.bytes.now c.args.e
           c.requires (sym c.is_enabled.ensures ∙ c.if-not-is_enabled.false)
           (on-driver (λ y. ltb y.max_len (length c.args.bytes.now))
           c.load_ep-r.ensures refl (lt-ltb _ _ c.if-r-bytes.true));
-        s_unchanged = refl;
-        linked_begun = tt;
+      s_unchanged = refl;
+      linked_begun = tt;
     }
 
 pub length16-n-requires : goal.length16-n-requires
@@ -36,44 +38,44 @@ length16-n-requires c = c.if-r-bytes.false
 pub returns-then-is_on : goal.returns-then-is_on
 returns-then-is_on c =
     record {
-        buf_after = write-iso (view c.args.s.now) c.args.buf.now c.args.bytes.now c.args.e
-          c.pre (sym c.is_enabled.ensures ∙ c.if-not-is_enabled.false)
+      buf_after = write-iso (view c.args.s.now) c.args.buf.now c.args.bytes.now c.args.e
+          c.requires (sym c.is_enabled.ensures ∙ c.if-not-is_enabled.false)
           (on-driver (λ y. ltb y.max_len (length c.args.bytes.now)) c.load_ep-r.ensures refl
           (le-ltb _ _ c.if-r-bytes.false)) _ c.length16-n.ensures _ _ c.set_request.ensures.s_after c.clear_wakes.ensures.s_after
           (on-driver (λ y. is_on y.iso) c.load_ep-r.ensures c.is_on.ensures c.if-is_on.true);
-        s_unchanged = c.clear_wakes.ensures.s_unchanged ∙ c.set_request.ensures.s_unchanged;
-        linked_begun = tt;
+      s_unchanged = c.clear_wakes.ensures.s_unchanged ∙ c.set_request.ensures.s_unchanged;
+      linked_begun = tt;
     }
 
 pub returns : goal.returns
 returns c =
     record {
-        buf_after = asked-at (point.Loaded _) c.point.ensures _ _ ∙ write-asks
-      (view c.args.s.now)
-      c.args.buf.now
-      c.args.bytes.now
-      c.args.e
-      c.requires
-      (sym
-      c.is_enabled.ensures ∙ not-false
-      c.is_enabled.result
-      c.if-not-is_enabled.false)
-      (on-driver
-      (λ y. ltb y.max_len
-      (length c.args.bytes.now))
-      c.load_ep-r.ensures refl
-      (le-ltb _ _
-      c.if-r-bytes.false)) _
-      c.length16-n.ensures _ _
-      c.set_request.ensures.s_after
-      c.clear_wakes.ensures.s_after
-      (on-driver (λ y. is_on y.iso)
-      c.load_ep-r.ensures
-      c.is_on.ensures
-      c.if-is_on.false) _
-      c.fill.ensures _ c.arm_in.ensures.s_after;
-        s_unchanged = c.arm_in.ensures.s_unchanged
-        ∙ c.clear_wakes.ensures.s_unchanged
-        ∙ c.set_request.ensures.s_unchanged;
-        linked_begun = linked-at (point.Loaded _) c.point.ensures refl;
+      buf_after = asked-at (point.Loaded _) c.point.ensures _ _ ∙ write-asks
+          (view c.args.s.now)
+          c.args.buf.now
+          c.args.bytes.now
+          c.args.e
+          c.requires
+          (sym
+          c.is_enabled.ensures ∙ not-false
+          c.is_enabled.result
+          (ap not c.if-not-is_enabled.false))
+          (on-driver
+          (λ y. ltb y.max_len
+          (length c.args.bytes.now))
+          c.load_ep-r.ensures refl
+          (le-ltb _ _
+          c.if-r-bytes.false)) _
+          c.length16-n.ensures _ _
+          c.set_request.ensures.s_after
+          c.clear_wakes.ensures.s_after
+          (on-driver (λ y. is_on y.iso)
+          c.load_ep-r.ensures
+          c.is_on.ensures
+          c.if-is_on.false) _
+          c.fill.ensures _ c.arm_in.ensures.s_after;
+      s_unchanged = c.arm_in.ensures.s_unchanged
+          ∙ c.clear_wakes.ensures.s_unchanged
+          ∙ c.set_request.ensures.s_unchanged;
+      linked_begun = linked-at (point.Loaded _) c.point.ensures refl;
     }

@@ -7,12 +7,16 @@ use Rattle.script_ops.specs.Concrete.{concrete}
 use Rattle.script.specs.IsoOut.{iso_out_check}
 use Rattle.script.specs.Script.{run}
 use mathlib.Core.Path.{◌∙◌, subst}
+use borrow.Author.Rules.{rules}
 use Rattle.interrupt.proofs.check.after_dispatch.Goals as goal
 
 pub returns-then-is_sof : goal.returns-then-is_sof
 returns-then-is_sof c =
     goes_on_lem (c.after_transfer.ensures.0 _, c.after_transfer.ensures.1)
     (sof-over c.args.e.setup c.args.e.x c.args.e.iso _ (tells _ _ _ c.is_sof.ensures c.if-is_sof.true))
+
+pub enum_told-1 : goal.enum_told-1
+enum_told-1 c = search rules
 
 pub returns-in-Asks : goal.returns-in-Asks
 unfolding after_dispatch

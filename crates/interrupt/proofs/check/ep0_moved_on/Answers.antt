@@ -16,6 +16,7 @@ use Prim.Native.Nat.{ℕ}
 use mathlib.Core.Bool.{true}
 use mathlib.Core.Path.{◌≡◌, ◌∙◌, refl, ap}
 use borrow.Author.Tests.{ne_eqb}
+use borrow.Author.Rules.{rules}
 use Rattle.interrupt.proofs.check.ep0_moved_on.Goals as goal
 
 -- SOF and SETUP, the second and the last, tell nothing
@@ -28,6 +29,9 @@ quiet tok.Out h t = absurd (miss others 0 tt h)
 quiet tok.Sof h t = refl
 quiet tok.In h t = absurd (miss others 2 tt h)
 quiet tok.Setup h t = refl
+
+pub enum_told-1 : goal.enum_told-1
+enum_told-1 c = search rules
 
 pub returns-in-Out : goal.returns-in-Out
 returns-in-Out c =
@@ -43,7 +47,7 @@ returns-in-In c =
 
 pub returns-in_default : goal.returns-in_default
 returns-in_default c =
-    goes_in c.after_transfer.ensures (λ b. ap (finish _) (quiet c.token-t.result c.in_default.keys3 _)
+    goes_in c.after_transfer.ensures (λ b. ap (finish _) (quiet c.token-t.result c.in_default.in_default-own.keys3 _)
     ∙ moved_as _ _ _ c.endpoint.ensures c.if-endpoint-eq0.true
     c.token-t.ensures refl)
 

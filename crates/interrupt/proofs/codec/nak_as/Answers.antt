@@ -1,4 +1,8 @@
+use borrow.Author.Rules.{rules}
 use Rattle.interrupt.proofs.codec.nak_as.Goals as goal
+
+pub enum_told-1 : goal.enum_told-1
+enum_told-1 c = search rules
 
 pub returns-in-Out : goal.returns-in-Out
 returns-in-Out c = simp (c.inner.ensures, c.in-Out.is, c.in-Word.is)

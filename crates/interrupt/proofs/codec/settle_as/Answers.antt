@@ -1,4 +1,8 @@
+use borrow.Author.Rules.{rules}
 use Rattle.interrupt.proofs.codec.settle_as.Goals as goal
+
+pub enum_told-1 : goal.enum_told-1
+enum_told-1 c = search rules
 
 pub returns-in-IsoLook : goal.returns-in-IsoLook
 returns-in-IsoLook c = simp (c.inner.ensures, c.in-IsoLook.is)

@@ -1,4 +1,8 @@
+use borrow.Author.Rules.{rules}
 use Rattle.interrupt.proofs.codec.sof_as.Goals as goal
+
+pub enum_told-1 : goal.enum_told-1
+enum_told-1 c = search rules
 
 pub returns-in-Mis : goal.returns-in-Mis
 returns-in-Mis c = simp (c.walked.ensures, c.in-Mis.is)

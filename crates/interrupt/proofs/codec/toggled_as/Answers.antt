@@ -1,4 +1,8 @@
+use borrow.Author.Rules.{rules}
 use Rattle.interrupt.proofs.codec.toggled_as.Goals as goal
+
+pub enum_told-1 : goal.enum_told-1
+enum_told-1 c = search rules
 
 pub returns-in-Look : goal.returns-in-Look
 returns-in-Look c = simp (c.looking.ensures, c.in-Look.is)

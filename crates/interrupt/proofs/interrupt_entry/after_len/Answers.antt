@@ -6,10 +6,14 @@ use Rattle.script_ops.specs.Concrete.{concrete}
 use Rattle.script.specs.Script.{run}
 use Prim.Native.Nat.{ℕ}
 use mathlib.Core.Path.{◌∙◌, ap, subst}
+use borrow.Author.Rules.{rules}
 use Rattle.interrupt.proofs.interrupt_entry.after_len.Goals as goal
 
 pub short-requires : goal.short-requires
 short-requires c = c.requires
+
+pub enum_told-1 : goal.enum_told-1
+enum_told-1 c = search rules
 
 pub returns-in-Asks : goal.returns-in-Asks
 returns-in-Asks c =

@@ -1,5 +1,9 @@
 use Rattle.script.specs.Handler.{iso_for}
+use borrow.Author.Rules.{rules}
 use Rattle.interrupt.proofs.interrupt_entry.iso_for.Goals as goal
+
+pub enum_told-1 : goal.enum_told-1
+enum_told-1 c = search rules
 
 pub returns-in-Out : goal.returns-in-Out
 unfolding iso_for

@@ -1,7 +1,11 @@
 use mathlib.Core.Path.{subst}
 use Rattle.interrupt.specs.Nak as nak
 use Rattle.interrupt.specs.StopsLaws.{pauses-in, goes_in}
+use borrow.Author.Rules.{rules}
 use Rattle.interrupt.proofs.interrupt_entry.then_nak.Goals as goal
+
+pub enum_told-1 : goal.enum_told-1
+enum_told-1 c = search rules
 
 pub returns-in-Asks : goal.returns-in-Asks
 returns-in-Asks c =

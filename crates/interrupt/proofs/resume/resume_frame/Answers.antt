@@ -10,7 +10,7 @@ pub returns-then-fits : goal.returns-then-fits
 unfolding fits_at
 returns-then-fits c =
     let fitted = sym c.fits.ensures ∙ c.if-fits.true in
-    λ b. goes_on_lem c.requires fitted (c.After-frame.ensures.0 b) c.After-frame.ensures.1
+    λ b. goes_on_lem c.requires fitted (c.after_frame.ensures.0 b) c.after_frame.ensures.1
 
 pub returns : goal.returns
 unfolding fits_at

@@ -13,7 +13,7 @@ pub returns-then-fits_at : goal.returns-then-fits_at
 unfolding fits_at
 returns-then-fits_at c =
     let fitted = sym c.fits_at.ensures ∙ c.if-fits_at.true in
-    let here = at-site 18 c.pre (parts3 (λ d. of_inner (point.Toggled d)) c.dir_at-d.ensures
+    let here = at-site 18 c.requires (parts3 (λ d. of_inner (point.Toggled d)) c.dir_at-d.ensures
     c.entry_at-e.ensures c.toggled_at-q.ensures) in
     goes_on_lem here fitted c.after_toggled.ensures.0 c.after_toggled.ensures.1
 

@@ -1,7 +1,11 @@
 use mathlib.Core.Path.{subst}
 use Rattle.isochronous.specs.Sof as sof
 use Rattle.interrupt.specs.StopsLaws.{pauses-at, goes_on_lem}
+use borrow.Author.Rules.{rules}
 use Rattle.interrupt.proofs.serving.then_sof.Goals as goal
+
+pub enum_told-1 : goal.enum_told-1
+enum_told-1 c = search rules
 
 pub returns-in-Asks : goal.returns-in-Asks
 returns-in-Asks c =

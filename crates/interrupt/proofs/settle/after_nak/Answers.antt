@@ -5,11 +5,15 @@ use Rattle.interrupt.specs.TransferLaws.{nak-asks, nak-ends, nak-linked}
 use Rattle.interrupt.specs.Nak as nak
 use Rattle.interrupt.specs.Settle.{fits_at}
 use mathlib.Core.Path.{◌∙◌, ap}
+use borrow.Author.Rules.{rules}
 use Rattle.interrupt.proofs.settle.after_nak.Goals as goal
 
 pub nak_non_iso_resume-n-requires : goal.nak_non_iso_resume-n-requires
 unfolding fits_at nak.fits_at
 nak_non_iso_resume-n-requires c = c.requires
+
+pub enum_told-1 : goal.enum_told-1
+enum_told-1 c = search rules
 
 pub returns-in-Asks : goal.returns-in-Asks
 returns-in-Asks c =

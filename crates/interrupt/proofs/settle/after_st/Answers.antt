@@ -1,5 +1,9 @@
 use Rattle.interrupt.specs.TransferLaws.{nak-linked, st-asks, st-ends}
+use borrow.Author.Rules.{rules}
 use Rattle.interrupt.proofs.settle.after_st.Goals as goal
+
+pub enum_told-1 : goal.enum_told-1
+enum_told-1 c = search rules
 
 pub returns-in-Asks : goal.returns-in-Asks
 returns-in-Asks c =

@@ -9,6 +9,7 @@ use types.Run.{OneOf, miss}
 use mathlib.Core.Path.{◌≡◌, ◌∙◌, refl}
 use mathlib.Core.List.{List, [], ◌∷◌}
 use Prim.Native.Nat.{ℕ}
+use borrow.Author.Rules.{rules}
 use Rattle.interrupt.proofs.settle.fits_at.Goals as goal
 
 -- the points that read mis_st, int_st and rx_len
@@ -57,14 +58,20 @@ length point.Flags v h = absurd (miss lengths 6 tt h)
 length point.St v h = absurd (miss lengths 7 tt h)
 length (point.Nak st q) v h = absurd (miss lengths 8 tt h)
 
+pub enum_told-1 : goal.enum_told-1
+enum_told-1 c = search rules
+
 pub returns-in-IsoLook : goal.returns-in-IsoLook
-returns-in-IsoLook c = c.fits.ensures ∙ look c.args.p c.args.v c.in-IsoLook.keys1
+returns-in-IsoLook c =
+    c.fits.ensures ∙ look c.args.p c.args.v c.in-IsoLook.in-IsoLook-own.keys1
 
 pub returns-in-IsoSt : goal.returns-in-IsoSt
-returns-in-IsoSt c = c.fits-in-IsoSt.ensures ∙ status c.args.p c.args.v c.in-IsoSt.keys2
+returns-in-IsoSt c =
+    c.fits-in-IsoSt.ensures ∙ status c.args.p c.args.v c.in-IsoSt.in-IsoSt-own.keys2
 
 pub returns-in-IsoLen : goal.returns-in-IsoLen
-returns-in-IsoLen c = c.fits-in-IsoLen.ensures ∙ length c.args.p c.args.v c.in-IsoLen.keys3
+returns-in-IsoLen c =
+    c.fits-in-IsoLen.ensures ∙ length c.args.p c.args.v c.in-IsoLen.in-IsoLen-own.keys3
 
 pub returns-in-Flags : goal.returns-in-Flags
 unfolding fits_at

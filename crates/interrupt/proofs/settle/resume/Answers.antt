@@ -2,12 +2,16 @@ use Rattle.interrupt.specs.TransferLaws.{settle_told, wider}
 use Rattle.interrupt.specs.Settle.{fits_at}
 use mathlib.Core.Path.{refl}
 use native.Mathlib.Omega.{arith}
+use borrow.Author.Rules.{rules}
 use Rattle.interrupt.proofs.settle.resume.Goals as goal
 
 pub after_iso_look-requires : goal.after_iso_look-requires
 unfolding fits_at
 after_iso_look-requires c =
     wider _ 2 (omega arith) (settle_told _ _ c.args.v c.in-IsoLook.is c.requires)
+
+pub enum_told-1 : goal.enum_told-1
+enum_told-1 c = search rules
 
 pub byte-requires : goal.byte-requires
 unfolding fits_at

@@ -1,5 +1,9 @@
 use Rattle.interrupt.specs.Toggled.{fits_at}
+use borrow.Author.Rules.{rules}
 use Rattle.interrupt.proofs.toggled.fits_at.Goals as goal
+
+pub enum_told-1 : goal.enum_told-1
+enum_told-1 c = search rules
 
 pub returns-in-Look : goal.returns-in-Look
 unfolding fits_at

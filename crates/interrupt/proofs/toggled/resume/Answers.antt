@@ -2,12 +2,16 @@ use Rattle.interrupt.specs.TransferLaws.{toggled-told, wider}
 use Rattle.interrupt.specs.Toggled.{fits_at}
 use mathlib.Core.Path.{refl}
 use native.Mathlib.Omega.{arith}
+use borrow.Author.Rules.{rules}
 use Rattle.interrupt.proofs.toggled.resume.Goals as goal
 
 pub after_look-requires : goal.after_look-requires
 unfolding fits_at
 after_look-requires c =
     wider _ 2 (omega arith) (toggled-told _ _ c.args.v c.in-Look.is c.requires)
+
+pub enum_told-1 : goal.enum_told-1
+enum_told-1 c = search rules
 
 pub after_word-requires : goal.after_word-requires
 unfolding fits_at

@@ -5,11 +5,15 @@ use Rattle.regs.specs.Status.{is_sof, sof_token, token}
 use Prim.Native.Nat.{ℕ}
 use mathlib.Core.Bool.{true}
 use mathlib.Core.Path.{◌≡◌, ◌∙◌, ap, sym}
+use borrow.Author.Rules.{rules}
 use Rattle.interrupt.proofs.tokens.dispatch.Goals as goal
 
 sof-told : (k : Token) (st : ℕ) → k ≡ tok.Sof → k ≡ token st → is_sof st ≡ true
 unfolding is_sof
 sof-told k st h l = ap sof_token (sym l ∙ h)
+
+pub enum_told-1 : goal.enum_told-1
+enum_told-1 c = search rules
 
 pub sof_arm-requires : goal.sof_arm-requires
 sof_arm-requires c = sof-told _ _ (enum-told-fact).given.1 (token-fact).ensures

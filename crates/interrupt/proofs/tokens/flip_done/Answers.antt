@@ -1,6 +1,10 @@
 use Rattle.interrupt.specs.Laws.{flip-in, flipped-known}
 use mathlib.Core.Path.{◌∙◌}
+use borrow.Author.Rules.{rules}
 use Rattle.interrupt.proofs.tokens.flip_done.Goals as goal
+
+pub enum_told-1 : goal.enum_told-1
+enum_told-1 c = search rules
 
 pub returns-in-Out : goal.returns-in-Out
 returns-in-Out c =

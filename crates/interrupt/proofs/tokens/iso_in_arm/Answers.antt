@@ -6,6 +6,7 @@ use Rattle.script_ops.specs.Concrete.{concrete}
 use Rattle.script.specs.Script.{run}
 use mathlib.Core.Bool.{false, true}
 use mathlib.Core.Path.{◌∙◌, subst}
+use borrow.Author.Rules.{rules}
 use Rattle.interrupt.proofs.tokens.iso_in_arm.Goals as goal
 
 pub returns-then-mask_has : goal.returns-then-mask_has
@@ -13,6 +14,9 @@ returns-then-mask_has c =
     goes_on_lem c.after_dispatch.ensures (test-yes (after_arm c.args.e) _ _ _
     (paced-told _ _ _ _ _ _ c.mask_has.ensures c.load_globals-g.ensures c.endpoint-ep.ensures
     c.if-mask_has.true))
+
+pub enum_told-1 : goal.enum_told-1
+enum_told-1 c = search rules
 
 pub returns-in-Asks : goal.returns-in-Asks
 returns-in-Asks c =

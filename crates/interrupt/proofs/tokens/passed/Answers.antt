@@ -1,5 +1,9 @@
 use Rattle.interrupt.specs.Laws.{passed-known}
+use borrow.Author.Rules.{rules}
 use Rattle.interrupt.proofs.tokens.passed.Goals as goal
+
+pub enum_told-1 : goal.enum_told-1
+enum_told-1 c = search rules
 
 pub returns-in-Out : goal.returns-in-Out
 returns-in-Out c =

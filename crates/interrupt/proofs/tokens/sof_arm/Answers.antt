@@ -8,6 +8,7 @@ use Rattle.script.specs.IsoIn.{on_sof}
 use Rattle.script.specs.Script.{run}
 use borrow.Author.Tests.{eq-eqb, ne_eqb}
 use mathlib.Core.Path.{◌∙◌, subst}
+use borrow.Author.Rules.{rules}
 use Rattle.interrupt.proofs.tokens.sof_arm.Goals as goal
 
 pub returns-then-g-e : goal.returns-then-g-e
@@ -15,6 +16,9 @@ returns-then-g-e c =
     goes_in c.after_transfer.ensures (λ b. sof-over c.args.e.setup c.args.e.x c.args.e.iso _ (c.requires)
     ∙ when-no c.args.e.setup (on_sof c.args.e.frame) (λ _ u. run concrete (after_dispatch c.args.e.x c.args.e.iso) u) _ _
     (sof-handled _ _ _ _ c.load_globals-g.ensures (eq-eqb _ _ c.if-g-e.true)))
+
+pub enum_told-1 : goal.enum_told-1
+enum_told-1 c = search rules
 
 pub returns-in-Asks : goal.returns-in-Asks
 returns-in-Asks c =

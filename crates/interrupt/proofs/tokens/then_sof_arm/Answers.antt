@@ -6,7 +6,11 @@ use Rattle.interrupt.specs.SofLaws.{sof-over}
 use Rattle.script_ops.specs.Concrete.{concrete}
 use Rattle.script.specs.Script.{run}
 use mathlib.Core.Path.{◌∙◌, subst}
+use borrow.Author.Rules.{rules}
 use Rattle.interrupt.proofs.tokens.then_sof_arm.Goals as goal
+
+pub enum_told-1 : goal.enum_told-1
+enum_told-1 c = search rules
 
 pub returns-then-is_sof : goal.returns-then-is_sof
 returns-then-is_sof c =

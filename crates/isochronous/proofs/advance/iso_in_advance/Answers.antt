@@ -28,21 +28,19 @@ returns-then-is_on c =
     )
 
 pub returns-then-is_paced : goal.returns-then-is_paced
-returns-then-is_paced c =
-    (
-      λ b. ap (λ (d : Driver). ends 0 (d, b)) c.store_paced.ensures.s_after ∙ sym (advance-forgets c.args.e
-          (view c.args.s.now) b (ap (λ (g : Globals). bit_is_set g.iso_in_paced c.args.e)
-          (sym c.load_globals-g.ensures) ∙ (sym c.is_paced.ensures ∙ c.if-is_paced.true))
-          (ap (λ (g : Globals). enables.is_on g.ep_config In c.args.e) (sym c.load_globals-g.ensures)
-          ∙ (sym c.is_on.ensures ∙ c.if-is_on.false))),
-      (c.store_paced.ensures.s_unchanged, tt),
-    )
+returns-then-is_paced c = (
+  λ b. ap (λ (d : Driver). ends 0 (d, b)) c.store_paced.ensures.s_after ∙ sym (advance-forgets c.args.e
+      (view c.args.s.now) b (ap (λ (g : Globals). bit_is_set g.iso_in_paced c.args.e)
+      (sym c.load_globals-g.ensures) ∙ (sym c.is_paced.ensures ∙ c.if-is_paced.true))
+      (ap (λ (g : Globals). enables.is_on g.ep_config In c.args.e) (sym c.load_globals-g.ensures)
+      ∙ (sym c.is_on.ensures ∙ c.if-is_on.false))),
+  (c.store_paced.ensures.s_unchanged, tt),
+)
 
 pub returns : goal.returns
-returns c =
-    (
-      λ b. sym (advance-ends c.args.e (view c.args.s.now) b
-          (ap (λ (g : Globals). bit_is_set g.iso_in_paced c.args.e)
-          (sym c.load_globals-g.ensures) ∙ (sym c.is_paced.ensures ∙ c.if-is_paced.false))),
-      (refl, tt),
-    )
+returns c = (
+  λ b. sym (advance-ends c.args.e (view c.args.s.now) b
+      (ap (λ (g : Globals). bit_is_set g.iso_in_paced c.args.e)
+      (sym c.load_globals-g.ensures) ∙ (sym c.is_paced.ensures ∙ c.if-is_paced.false))),
+  (refl, tt),
+)

@@ -5,7 +5,7 @@ pub returns : goal.returns
 unfolding is_first
 returns c =
     record {
-        value = simp c.load_ep-r.ensures;
-        s_after = c.record_frame.ensures.s_after;
-        s_unchanged = c.record_frame.ensures.s_unchanged;
+      value = simp c.load_ep-r.ensures;
+      s_after = c.record_frame.ensures.s_after;
+      s_unchanged = c.record_frame.ensures.s_unchanged;
     }

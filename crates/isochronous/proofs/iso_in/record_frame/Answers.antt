@@ -5,6 +5,6 @@ pub returns : goal.returns
 unfolding framed_on
 returns c =
     record {
-        s_after = simp (c.store_ep.ensures.s_after, c.load_ep-r.ensures);
-        s_unchanged = c.store_ep.ensures.s_unchanged;
+      s_after = simp (c.store_ep.ensures.s_after, c.load_ep-r.ensures);
+      s_unchanged = c.store_ep.ensures.s_unchanged;
     }

@@ -14,17 +14,17 @@ low-requires c =
 pub returns-then-row-eq0 : goal.returns-then-row-eq0
 returns-then-row-eq0 c =
     record {
-        buf_after = c.open_at.ensures.by_index c.args.buf.now ∙ (ap (λ (n : ℕ). go (opening n) (view c.args.s.now) c.args.buf.now) c.low.ensures
+      buf_after = c.open_at.ensures.by_index c.args.buf.now ∙ (ap (λ (n : ℕ). go (opening n) (view c.args.s.now) c.args.buf.now) c.low.ensures
           ∙ passed Out c.args.e _ (opening c.args.e) (view c.args.s.now)
           c.args.buf.now c.refusal-row.ensures c.if-row-eq0.true);
-        s_unchanged = c.open_at.ensures.s_unchanged;
-        shown_at = rw c.low.ensures at c.open_at.ensures.shown_at;
+      s_unchanged = c.open_at.ensures.s_unchanged;
+      shown_at = rw c.low.ensures at c.open_at.ensures.shown_at;
     }
 
 pub returns : goal.returns
 returns c =
     record {
-        buf_after = refused Out c.args.e _ (opening c.args.e) (view c.args.s.now) c.args.buf.now c.refusal-row.ensures c.if-row-eq0.false;
-        s_unchanged = refl;
-        shown_at = tt;
+      buf_after = refused Out c.args.e _ (opening c.args.e) (view c.args.s.now) c.args.buf.now c.refusal-row.ensures c.if-row-eq0.false;
+      s_unchanged = refl;
+      shown_at = tt;
     }

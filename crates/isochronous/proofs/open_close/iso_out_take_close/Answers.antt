@@ -14,15 +14,15 @@ low-requires c =
 pub returns-then-row-eq0 : goal.returns-then-row-eq0
 returns-then-row-eq0 c =
     record {
-        by_index = λ b. c.close_at.ensures.by_index b
+      by_index = λ b. c.close_at.ensures.by_index b
           ∙ (ap (λ (n : ℕ). go (closing n) (view c.args.s.now) b) c.low.ensures ∙ passed Out c.args.e _ (closing c.args.e)
           (view c.args.s.now) b c.refusal-row.ensures c.if-row-eq0.true);
-        s_unchanged = c.close_at.ensures.s_unchanged;
+      s_unchanged = c.close_at.ensures.s_unchanged;
     }
 
 pub returns : goal.returns
 returns c =
     record {
-        by_index = λ b. refused Out c.args.e _ (closing c.args.e) (view c.args.s.now) b c.refusal-row.ensures c.if-row-eq0.false;
-        s_unchanged = refl;
+      by_index = λ b. refused Out c.args.e _ (closing c.args.e) (view c.args.s.now) b c.refusal-row.ensures c.if-row-eq0.false;
+      s_unchanged = refl;
     }

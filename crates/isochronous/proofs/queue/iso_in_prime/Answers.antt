@@ -14,16 +14,16 @@ low-requires c =
 pub returns-then-row-eq0 : goal.returns-then-row-eq0
 returns-then-row-eq0 c =
     record {
-        buf_after = c.queue_at.ensures.buf_after ∙ (ap (λ (n : ℕ). go (queueing n c.args.bytes.now) (view c.args.s.now) c.args.buf.now) c.low.ensures
+      buf_after = c.queue_at.ensures.buf_after ∙ (ap (λ (n : ℕ). go (queueing n c.args.bytes.now) (view c.args.s.now) c.args.buf.now) c.low.ensures
           ∙ passed In c.args.e _ (queueing c.args.e c.args.bytes.now) (view c.args.s.now)
           c.args.buf.now c.refusal-row.ensures c.if-row-eq0.true);
-        s_unchanged = c.queue_at.ensures.s_unchanged;
+      s_unchanged = c.queue_at.ensures.s_unchanged;
     }
 
 pub returns : goal.returns
 returns c =
     record {
-        buf_after = refused In c.args.e _ (queueing c.args.e c.args.bytes.now) (view c.args.s.now) c.args.buf.now c.refusal-row.ensures
+      buf_after = refused In c.args.e _ (queueing c.args.e c.args.bytes.now) (view c.args.s.now) c.args.buf.now c.refusal-row.ensures
           c.if-row-eq0.false;
-        s_unchanged = refl;
+      s_unchanged = refl;
     }

@@ -21,16 +21,15 @@ loop-eps-smaller c =
     rest-less c.loop-eps.eps _ (omega arith) c.loop-eps.invariant.0 c.rest_of-rest.ensures
 
 pub loop-eps-preserved : goal.loop-eps-preserved
-loop-eps-preserved c =
-    (
-      omega (arith, loop-less c, c.loop-eps.invariant.0),
-      λ b. sym (sof-step c.args.frame c.loop-eps.eps _ _ (
-        view c.args.s.now,
-        b,
-      ) _ _ true (omega arith) c.loop-eps.invariant.0 c.next_endpoint-e.ensures c.rest_of-rest.ensures
-          c.load_ep-r.ensures c.in_previous.ensures (c.if-not-in_previous.false))
-          ∙ c.loop-eps.invariant.1 b,
-    )
+loop-eps-preserved c = (
+  omega (arith, loop-eps-smaller c, c.loop-eps.invariant.0),
+  λ b. sym (sof-step c.args.frame c.loop-eps.eps _ _ (
+    view c.args.s.now,
+    b,
+  ) _ _ true (omega arith) c.loop-eps.invariant.0 c.next_endpoint-e.ensures c.rest_of-rest.ensures
+      c.load_ep-r.ensures c.in_previous.ensures (c.if-not-in_previous.false))
+      ∙ c.loop-eps.invariant.1 b,
+)
 
 pub returns : goal.returns
 returns c =

@@ -1,5 +1,9 @@
 use Rattle.isochronous.specs.Sof.{fits_at}
+use borrow.Author.Rules.{rules}
 use Rattle.isochronous.proofs.sof.fits_at.Goals as goal
+
+pub enum_told-1 : goal.enum_told-1
+enum_told-1 c = search rules
 
 pub returns-in-Mis : goal.returns-in-Mis
 unfolding fits_at

@@ -1,5 +1,6 @@
 use mathlib.Core.Path.{refl}
 use Rattle.isochronous.specs.Laws.{fits-mis, fits-st}
+use borrow.Author.Rules.{rules}
 use Rattle.isochronous.proofs.sof.on_sof_resume.Goals as goal
 
 pub after_mis-requires : goal.after_mis-requires
@@ -7,6 +8,9 @@ after_mis-requires c = fits-mis _ _ _ _ c.in-Mis.is c.requires
 
 pub after_st-requires : goal.after_st-requires
 after_st-requires c = fits-st _ _ _ _ c.in-St.is c.requires
+
+pub enum_told-1 : goal.enum_told-1
+enum_told-1 c = search rules
 
 pub returns-in-Mis : goal.returns-in-Mis
 returns-in-Mis c =

@@ -16,6 +16,6 @@ returns-then-n-eq0 c =
 pub returns : goal.returns
 unfolding switching woken
 returns c =
-    let here = at-point bus 23 c.pre
+    let here = at-point bus 23 c.requires
     (parts3 point.Switch c.ep_byte-e.ensures c.on_at-on.ensures c.st_byte-n.ensures) in
     λ v. goes_to bus here refl c.stand_switch.ensures c.after_switch-q.ensures.awaited c.after_switch-q.ensures.buf_after

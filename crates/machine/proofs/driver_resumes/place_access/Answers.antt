@@ -1,5 +1,9 @@
 use mathlib.Core.Path.{refl}
+use borrow.Author.Rules.{rules}
 use Rattle.machine.proofs.driver_resumes.place_access.Goals as goal
+
+pub enum_told-1 : goal.enum_told-1
+enum_told-1 c = search rules
 
 pub returns-in-Out : goal.returns-in-Out
 returns-in-Out c =

@@ -7,7 +7,11 @@ use Rattle.machine.specs.Suspended.{decode}
 use Rattle.state.specs.State.{view, saved}
 use Rattle.control.specs.Codec as codec
 use mathlib.Core.Path.{◌∙◌, refl}
+use borrow.Author.Rules.{rules}
 use Rattle.machine.proofs.halts.polled_control.Goals as goal
+
+pub enum_told-1 : goal.enum_told-1
+enum_told-1 c = search rules
 
 pub returns-in-Refused : goal.returns-in-Refused
 returns-in-Refused c =

@@ -1,6 +1,10 @@
 use Rattle.machine.specs.RowsLaws.{ends-idle}
 use mathlib.Core.Path.{◌∙◌}
+use borrow.Author.Rules.{rules}
 use Rattle.machine.proofs.halts.polled_endpoint.Goals as goal
+
+pub enum_told-1 : goal.enum_told-1
+enum_told-1 c = search rules
 
 pub returns-in-Refused : goal.returns-in-Refused
 returns-in-Refused c =

@@ -8,15 +8,13 @@ use Rattle.machine.proofs.halts.suspend_or_end_advance.Goals as goal
 
 pub returns-in-Asks-clause-steps_to : goal.returns-in-Asks-clause-steps_to
 returns-in-Asks-clause-steps_to c =
-    let link = linked-advance _ _ _ c.in
-    (-Asks.is c.requires in
-    suspends (stands_at {u = under.Advance (decode _)} c.stand.ensures link.1) (λ b. simp (c.in-Asks.is, link.0))).0
+    let link = linked-advance _ _ _ c.in-Asks.is c.requires in
+    (suspends (stands_at {u = under.Advance (decode _)} c.stand.ensures link.1) (λ b. simp (c.in-Asks.is, link.0))).0
 
 pub returns-in-Asks-clause-stored : goal.returns-in-Asks-clause-stored
 returns-in-Asks-clause-stored c =
-    let link = linked-advance _ _ _ c.in
-    (-Asks.is c.requires in
-    suspends (stands_at {u = under.Advance (decode _)} c.stand.ensures link.1) (λ b. simp (c.in-Asks.is, link.0))).1
+    let link = linked-advance _ _ _ c.in-Asks.is c.requires in
+    (suspends (stands_at {u = under.Advance (decode _)} c.stand.ensures link.1) (λ b. simp (c.in-Asks.is, link.0))).1
 
 pub returns-in-Ends : goal.returns-in-Ends
 returns-in-Ends c =

@@ -34,7 +34,7 @@ returns-in-Piece c =
     let wrote = piece-wrote c.args.w p c.args.room.now _ _ (omega arith) fine c.write.ensures.value c.write.ensures.block_after in
     let parts = piece-parts c.args.w p _ _ _ (sym c.in-Piece.is ∙ wrote.0) in
     record {
-        next_value = parts.0;
-        whole_value = parts.1;
-        room_after = wrote.1;
+      next_value = parts.0;
+      whole_value = parts.1;
+      room_after = wrote.1;
     }

@@ -25,13 +25,12 @@ pub loop-i-smaller : goal.loop-i-smaller
 loop-i-smaller c = omega arith
 
 pub loop-i-preserved : goal.loop-i-preserved
-loop-i-preserved c =
-    (
-      length-set c.loop-i.part c.loop-i.i _ ∙ c.loop-i.invariant.0,
-      c.loop-i.invariant.1,
-      c.loop-i.invariant.2,
-      rw (copied-one c.args.packet.now c.loop-i.part c.loop-i.i) (sym (copied-step c.args.packet.now c.loop-i.part c.loop-i.i c.args.n 1 (omega arith)) ∙ c.loop-i.invariant.3),
-    )
+loop-i-preserved c = (
+  length-set c.loop-i.part c.loop-i.i _ ∙ c.loop-i.invariant.0,
+  c.loop-i.invariant.1,
+  c.loop-i.invariant.2,
+  rw (copied-one c.args.packet.now c.loop-i.part c.loop-i.i) (sym (copied-step c.args.packet.now c.loop-i.part c.loop-i.i c.args.n 1 (omega arith)) ∙ c.loop-i.invariant.3),
+)
 
 pub shape_of-part : goal.shape_of-part
 shape_of-part c = c.loop-i.invariant.0

@@ -43,14 +43,13 @@ pub loop-i-2-smaller : goal.loop-i-2-smaller
 loop-i-2-smaller c = omega arith
 
 pub loop-i-2-preserved : goal.loop-i-2-preserved
-loop-i-2-preserved c =
-    (
-      ap length c.mark_four.ensures ∙ length_run 4 c.loop-i-2.buf _ ∙ c.loop-i-2.invariant.0,
-      c.loop-i-2.invariant.1,
-      omega arith,
-      omega arith,
-      rw c.mark_four.ensures (sym (run-step-at c.loop-i-2.buf _ c.loop-i-2.i _ 4 (omega arith)) ∙ c.loop-i-2.invariant.4),
-    )
+loop-i-2-preserved c = (
+  ap length c.mark_four.ensures ∙ length_run 4 c.loop-i-2.buf _ ∙ c.loop-i-2.invariant.0,
+  c.loop-i-2.invariant.1,
+  omega arith,
+  omega arith,
+  rw c.mark_four.ensures (sym (run-step-at c.loop-i-2.buf _ c.loop-i-2.i _ 4 (omega arith)) ∙ c.loop-i-2.invariant.4),
+)
 
 pub shape_of-buf : goal.shape_of-buf
 shape_of-buf c = c.loop-i-2.invariant.0 ∙ c.loop-i.invariant.0

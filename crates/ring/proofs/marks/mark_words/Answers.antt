@@ -37,14 +37,13 @@ pub loop-i-2-smaller : goal.loop-i-2-smaller
 loop-i-2-smaller c = omega arith
 
 pub loop-i-2-preserved : goal.loop-i-2-preserved
-loop-i-2-preserved c =
-    (
-      ap length c.mark_four.ensures ∙ length_run 4 c.loop-i-2.part c.loop-i-2.i ∙ c.loop-i-2.invariant.0,
-      c.loop-i-2.invariant.1,
-      omega arith,
-      omega arith,
-      rw c.mark_four.ensures (sym (run_step c.loop-i-2.part c.loop-i-2.i _ 4 (omega arith)) ∙ c.loop-i-2.invariant.4),
-    )
+loop-i-2-preserved c = (
+  ap length c.mark_four.ensures ∙ length_run 4 c.loop-i-2.part c.loop-i-2.i ∙ c.loop-i-2.invariant.0,
+  c.loop-i-2.invariant.1,
+  omega arith,
+  omega arith,
+  rw c.mark_four.ensures (sym (run_step c.loop-i-2.part c.loop-i-2.i _ 4 (omega arith)) ∙ c.loop-i-2.invariant.4),
+)
 
 pub shape_of-part : goal.shape_of-part
 shape_of-part c = c.loop-i-2.invariant.0 ∙ c.loop-i.invariant.0

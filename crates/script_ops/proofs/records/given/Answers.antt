@@ -6,14 +6,14 @@ pub returns-in-Refused : goal.returns-in-Refused
 unfolding given_to
 returns-in-Refused c =
     record {
-        s_after = simp c.in-Refused.is;
-        s_unchanged = refl;
+      s_after = simp c.in-Refused.is;
+      s_unchanged = refl;
     }
 
 pub returns-in-Given : goal.returns-in-Given
 unfolding given_to
 returns-in-Given c =
     record {
-        s_after = simp (c.give_sets.ensures.s_after, c.give_record.ensures.s_after, c.in-Given.is);
-        s_unchanged = c.give_sets.ensures.s_unchanged ∙ c.give_record.ensures.s_unchanged;
+      s_after = simp (c.give_sets.ensures.s_after, c.give_record.ensures.s_after, c.in-Given.is);
+      s_unchanged = c.give_sets.ensures.s_unchanged ∙ c.give_record.ensures.s_unchanged;
     }

@@ -7,20 +7,20 @@ pub returns-then-iso_out : goal.returns-then-iso_out
 unfolding enabled_on
 returns-then-iso_out c =
     record {
-        s_after = simp (← c.iso_out.ensures, c.if-iso_out.true);
-        s_unchanged = refl;
+      s_after = simp (← c.iso_out.ensures, c.if-iso_out.true);
+      s_unchanged = refl;
     }
 
 pub returns : goal.returns
 unfolding enabled_on configured
 returns c =
     record {
-        s_after = simp (
+      s_after = simp (
         c.set_ep_config.ensures.s_after,
         c.with_on.ensures,
         c.load_globals-g.ensures,
         ← c.iso_out.ensures,
         c.if-iso_out.false,
       );
-        s_unchanged = c.set_ep_config.ensures.s_unchanged;
+      s_unchanged = c.set_ep_config.ensures.s_unchanged;
     }

@@ -14,8 +14,7 @@ loop-k-init c = (omega arith, (refl, refl))
 
 pub loop-k-preserved : goal.loop-k-preserved
 loop-k-preserved c =
-    let w = view c.args.s.now in
-    (
+    let w = view c.args.s.now in (
       omega arith,
       (
         c.wake.ensures.s_after ∙ ap (λ (d : Driver). with_wakes d (woken (c.args.a + c.loop-k.k) d.wakes)) c.loop-k.invariant.1.0
@@ -30,6 +29,6 @@ pub returns : goal.returns
 returns c =
     let e : c.loop-k.k ≡ 16 = omega arith in
     record {
-        s_after = rw e at c.loop-k.invariant.1.0;
-        s_unchanged = c.loop-k.invariant.1.1;
+      s_after = rw e at c.loop-k.invariant.1.0;
+      s_unchanged = c.loop-k.invariant.1.1;
     }

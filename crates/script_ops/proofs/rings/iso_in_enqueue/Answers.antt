@@ -7,9 +7,9 @@ pub returns-then-not-takes : goal.returns-then-not-takes
 unfolding enqueue_on room_on
 returns-then-not-takes c =
     record {
-        s_after = simp (← c.takes.ensures, c.if-not-takes.true, ← c.load_ep-r.ensures);
-        buf_after = simp (← c.takes.ensures, c.if-not-takes.true, ← c.load_ep-r.ensures);
-        s_unchanged = refl;
+      s_after = simp (← c.takes.ensures, c.if-not-takes.true, ← c.load_ep-r.ensures);
+      buf_after = simp (← c.takes.ensures, c.if-not-takes.true, ← c.load_ep-r.ensures);
+      s_unchanged = refl;
     }
 
 pub length16-requires : goal.length16-requires
@@ -20,7 +20,7 @@ pub returns : goal.returns
 unfolding enqueue_on room_on queued_on
 returns c =
     record {
-        s_after = simp (
+      s_after = simp (
         c.store_ep.ensures.s_after,
         c.store_len.ensures.s_after,
         ← c.joined.ensures,
@@ -30,12 +30,12 @@ returns c =
         c.if-not-takes.false,
         ← c.load_ep-r.ensures,
       );
-        buf_after = simp (
-          c.copy_in.ensures,
-          ← c.slot_addr.ensures,
-          ← c.takes.ensures,
-          c.if-not-takes.false,
-          ← c.load_ep-r.ensures,
-        );
-        s_unchanged = c.store_ep.ensures.s_unchanged ∙ c.store_len.ensures.s_unchanged;
+      buf_after = simp (
+        c.copy_in.ensures,
+        ← c.slot_addr.ensures,
+        ← c.takes.ensures,
+        c.if-not-takes.false,
+        ← c.load_ep-r.ensures,
+      );
+      s_unchanged = c.store_ep.ensures.s_unchanged ∙ c.store_len.ensures.s_unchanged;
     }

@@ -30,8 +30,8 @@ module _ (e n : ℕ) (d : Driver) (b : List ℕ) {g : Globals} {r : EpState} {on
 pub arrived-requires : goal.arrived-requires
 arrived-requires c =
     record {
-        r_value = c.load_ep-r.ensures;
-        entered_value = ap (λ (g : Globals). g.entered) c.load_globals-g.ensures;
+      r_value = c.load_ep-r.ensures;
+      entered_value = ap (λ (g : Globals). g.entered) c.load_globals-g.ensures;
     }
 
 pub returns-then-receives : goal.returns-then-receives
@@ -39,10 +39,10 @@ returns-then-receives c =
     let h = admits c.args.e c.args.n (view c.args.s.now) c.args.buf.now c.load_globals-g.ensures c.load_ep-r.ensures
     c.receives.ensures c.if-receives.true c.capped-len.ensures in
     record {
-        value = c.arrived.ensures.value ∙ ap (λ (x : ℕ × St). x.0) h;
-        s_after = c.arrived.ensures.s_after ∙ ap (λ (x : ℕ × St). x.1.0) h;
-        buf_after = c.arrived.ensures.buf_after ∙ ap (λ (x : ℕ × St). x.1.1) h;
-        s_unchanged = c.arrived.ensures.s_unchanged;
+      value = c.arrived.ensures.value ∙ ap (λ (x : ℕ × St). x.0) h;
+      s_after = c.arrived.ensures.s_after ∙ ap (λ (x : ℕ × St). x.1.0) h;
+      buf_after = c.arrived.ensures.buf_after ∙ ap (λ (x : ℕ × St). x.1.1) h;
+      s_unchanged = c.arrived.ensures.s_unchanged;
     }
 
 pub returns : goal.returns
@@ -50,8 +50,8 @@ returns c =
     let h = passes c.args.e c.args.n (view c.args.s.now) c.args.buf.now c.load_globals-g.ensures
     c.load_ep-r.ensures c.receives.ensures c.if-receives.false in
     record {
-        value = ap (λ (x : ℕ × St). x.0) h;
-        s_after = ap (λ (x : ℕ × St). x.1.0) h;
-        buf_after = ap (λ (x : ℕ × St). x.1.1) h;
-        s_unchanged = refl;
+      value = ap (λ (x : ℕ × St). x.0) h;
+      s_after = ap (λ (x : ℕ × St). x.1.0) h;
+      buf_after = ap (λ (x : ℕ × St). x.1.1) h;
+      s_unchanged = refl;
     }

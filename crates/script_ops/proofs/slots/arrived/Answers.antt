@@ -24,8 +24,8 @@ stages e len d b {d'} z h₁ h₂ h₃ =
 pub record-requires : goal.record-requires
 record-requires c =
     record {
-        r_value = c.requires.r_value;
-        entered_value = c.requires.entered_value;
+      r_value = c.requires.r_value;
+      entered_value = c.requires.entered_value;
     }
 
 pub returns : goal.returns
@@ -34,9 +34,9 @@ returns c =
     c.«record».ensures.s_after
     c.arrived-x.ensures in
     record {
-        value = c.arm.ensures.value ∙ ap (λ (x : ℕ × St). x.0) h;
-        s_after = c.arm.ensures.s_after ∙ ap (λ (x : ℕ × St). x.1.0) h;
-        buf_after = c.arm.ensures.buf_after ∙ ap (λ (x : ℕ × St). x.1.1) h;
-        s_unchanged = c.arm.ensures.s_unchanged
-              ∙ c.«record».ensures.s_unchanged;
+      value = c.arm.ensures.value ∙ ap (λ (x : ℕ × St). x.0) h;
+      s_after = c.arm.ensures.s_after ∙ ap (λ (x : ℕ × St). x.1.0) h;
+      buf_after = c.arm.ensures.buf_after ∙ ap (λ (x : ℕ × St). x.1.1) h;
+      s_unchanged = c.arm.ensures.s_unchanged
+          ∙ c.«record».ensures.s_unchanged;
     }

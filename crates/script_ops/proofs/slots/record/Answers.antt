@@ -9,20 +9,20 @@ pub returns-then-has_room_out : goal.returns-then-has_room_out
 unfolding recorded_on
 returns-then-has_room_out c =
     record {
-        s_after = simp (
+      s_after = simp (
         c.write_packet.ensures.s_after,
         ← c.slot_index.ensures,
         c.if-has_room_out.true,
         ← c.has_room_out.ensures,
         ← c.requires.r_value,
       );
-        s_unchanged = c.write_packet.ensures.s_unchanged;
+      s_unchanged = c.write_packet.ensures.s_unchanged;
     }
 
 pub returns : goal.returns
 unfolding recorded_on
 returns c =
     record {
-        s_after = simp (c.if-has_room_out.false, ← c.has_room_out.ensures, ← c.requires.r_value);
-        s_unchanged = refl;
+      s_after = simp (c.if-has_room_out.false, ← c.has_room_out.ensures, ← c.requires.r_value);
+      s_unchanged = refl;
     }

@@ -6,11 +6,11 @@ pub returns : goal.returns
 unfolding renewed_on
 returns c =
     record {
-        s_after = simp (
+      s_after = simp (
         c.store_ep.ensures.s_after,
         c.by_loan.ensures,
         c.clear_stamps.ensures.s_after,
         c.load_ep-r.ensures,
       );
-        s_unchanged = c.store_ep.ensures.s_unchanged ∙ c.clear_stamps.ensures.s_unchanged;
+      s_unchanged = c.store_ep.ensures.s_unchanged ∙ c.clear_stamps.ensures.s_unchanged;
     }

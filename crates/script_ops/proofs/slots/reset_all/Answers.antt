@@ -19,7 +19,7 @@ stages d {y = y} h₁ h₂ h₃ h₄ =
 pub returns : goal.returns
 returns c =
     record {
-        s_after = stages (view c.args.s.now) c.reset_eps.ensures.s_after c.clear_all_stamps.ensures.s_after
+      s_after = stages (view c.args.s.now) c.reset_eps.ensures.s_after c.clear_all_stamps.ensures.s_after
           c.load_globals-g.ensures c.store_globals.ensures.s_after;
-        s_unchanged = c.store_globals.ensures.s_unchanged ∙ c.clear_all_stamps.ensures.s_unchanged ∙ c.reset_eps.ensures.s_unchanged;
+      s_unchanged = c.store_globals.ensures.s_unchanged ∙ c.clear_all_stamps.ensures.s_unchanged ∙ c.reset_eps.ensures.s_unchanged;
     }

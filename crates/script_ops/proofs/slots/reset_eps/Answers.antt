@@ -11,20 +11,19 @@ unfolding reset_below
 loop-e-init c = (omega arith, (refl, refl))
 
 pub loop-e-preserved : goal.loop-e-preserved
-loop-e-preserved c =
-    (
-      omega arith,
-      (
-        c.reset_one-in-loop-e.ensures.s_after ∙ ap (renewed In c.loop-e.e) c.reset_one.ensures.s_after ∙ reset-next c.loop-e.e
-            (view c.args.s.now) (view c.loop-e.s) c.loop-e.invariant.1.0,
-        c.reset_one-in-loop-e.ensures.s_unchanged ∙ c.reset_one.ensures.s_unchanged ∙ c.loop-e.invariant.1.1,
-      ),
-    )
+loop-e-preserved c = (
+  omega arith,
+  (
+    c.reset_one-in-loop-e.ensures.s_after ∙ ap (renewed In c.loop-e.e) c.reset_one.ensures.s_after ∙ reset-next c.loop-e.e
+        (view c.args.s.now) (view c.loop-e.s) c.loop-e.invariant.1.0,
+    c.reset_one-in-loop-e.ensures.s_unchanged ∙ c.reset_one.ensures.s_unchanged ∙ c.loop-e.invariant.1.1,
+  ),
+)
 
 pub returns : goal.returns
 returns c =
     let h : c.loop-e.e ≡ 16 = omega arith in
     record {
-        s_after = rw h at c.loop-e.invariant.1.0;
-        s_unchanged = c.loop-e.invariant.1.1;
+      s_after = rw h at c.loop-e.invariant.1.0;
+      s_unchanged = c.loop-e.invariant.1.1;
     }

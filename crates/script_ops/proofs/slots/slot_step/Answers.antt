@@ -25,19 +25,19 @@ returns-then-is_on c =
     let h = stages c.args.e c.args.k (view c.args.s.now) c.args.buf.now c.load_ep-r.ensures c.is_on.ensures
     c.if-is_on.true c.renew_first.ensures.s_after c.load_ep-q.ensures in
     record {
-        value = c.arm.ensures.value ∙ ap (λ (x : ℕ × St). x.0) h;
-        s_after = c.arm.ensures.s_after ∙ ap (λ (x : ℕ × St). x.1.0) h;
-        buf_after = c.arm.ensures.buf_after ∙ ap (λ (x : ℕ × St). x.1.1) h;
-        s_unchanged = c.arm.ensures.s_unchanged
-              ∙ c.renew_first.ensures.s_unchanged;
+      value = c.arm.ensures.value ∙ ap (λ (x : ℕ × St). x.0) h;
+      s_after = c.arm.ensures.s_after ∙ ap (λ (x : ℕ × St). x.1.0) h;
+      buf_after = c.arm.ensures.buf_after ∙ ap (λ (x : ℕ × St). x.1.1) h;
+      s_unchanged = c.arm.ensures.s_unchanged
+          ∙ c.renew_first.ensures.s_unchanged;
     }
 
 pub returns : goal.returns
 unfolding slot_step
 returns c =
     record {
-        value = simp (c.if-is_on.false, ← c.is_on.ensures, ← c.load_ep-r.ensures);
-        s_after = simp (c.if-is_on.false, ← c.is_on.ensures, ← c.load_ep-r.ensures);
-        buf_after = simp (c.if-is_on.false, ← c.is_on.ensures, ← c.load_ep-r.ensures);
-        s_unchanged = refl;
+      value = simp (c.if-is_on.false, ← c.is_on.ensures, ← c.load_ep-r.ensures);
+      s_after = simp (c.if-is_on.false, ← c.is_on.ensures, ← c.load_ep-r.ensures);
+      buf_after = simp (c.if-is_on.false, ← c.is_on.ensures, ← c.load_ep-r.ensures);
+      s_unchanged = refl;
     }

@@ -10,6 +10,6 @@ pub returns : goal.returns
 unfolding no_stamps
 returns c =
     record {
-        s_after = c.clear_from.ensures.s_after ∙ ap (with_stamps (view c.args.s.now)) (filled-all (view c.args.s.now).stamps 256 0 (view-sized c.args.s.now).stamps);
-        s_unchanged = c.clear_from.ensures.s_unchanged;
+      s_after = c.clear_from.ensures.s_after ∙ ap (with_stamps (view c.args.s.now)) (filled-all (view c.args.s.now).stamps 256 0 (view-sized c.args.s.now).stamps);
+      s_unchanged = c.clear_from.ensures.s_unchanged;
     }

@@ -5,6 +5,6 @@ pub returns : goal.returns
 unfolding clear_stamps
 returns c =
     record {
-        s_after = c.clear_from.ensures.s_after;
-        s_unchanged = c.clear_from.ensures.s_unchanged;
+      s_after = c.clear_from.ensures.s_after;
+      s_unchanged = c.clear_from.ensures.s_unchanged;
     }

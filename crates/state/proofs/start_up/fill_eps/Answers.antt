@@ -14,7 +14,7 @@ new_eps-requires c =
 pub returns : goal.returns
 returns c =
     record {
-        s_after = c.new_eps.ensures.s_after ∙ ap (λ (d : Driver). with_eps d (filled d.eps 0 32 new_ep)) c.clear_eps.ensures.s_after
+      s_after = c.new_eps.ensures.s_after ∙ ap (λ (d : Driver). with_eps d (filled d.eps 0 32 new_ep)) c.clear_eps.ensures.s_after
           ∙ ap (with_eps (view c.args.s.now)) (filled-twice (view c.args.s.now).eps 32 no_ep new_ep (view-sized c.args.s.now).eps);
-        s_unchanged = c.new_eps.ensures.s_unchanged ∙ c.clear_eps.ensures.s_unchanged;
+      s_unchanged = c.new_eps.ensures.s_unchanged ∙ c.clear_eps.ensures.s_unchanged;
     }

@@ -10,7 +10,7 @@ pub returns : goal.returns
 unfolding no_stamps
 returns c =
     record {
-        s_after = c.fresh_saved.ensures.s_unchanged ∙ c.fresh_wakes.ensures.s_after
+      s_after = c.fresh_saved.ensures.s_unchanged ∙ c.fresh_wakes.ensures.s_after
           ∙ ap (λ (d : Driver). with_wakes d none_woken) (c.fresh_control.ensures
           ∙ ap (λ (d : Driver). with_control d no_control) (c.fresh_allocator.ensures
           ∙ ap (λ (d : Driver). with_allocator d (fresh_allocator c.args.size c.args.count))
@@ -20,5 +20,5 @@ returns c =
           (c.clear_all_stamps.ensures.s_after ∙ ap no_stamps (c.fill_lengths.ensures.s_after
           ∙ ap (λ (d : Driver). with_lens d (filled d.lens 0 512 0)) c.fill_eps.ensures.s_after)))))))
           ∙ made-afresh c.args.s.now c.args.size c.args.count c.args.callback;
-        s_after_2 = c.fresh_saved.ensures.s_after;
+      s_after_2 = c.fresh_saved.ensures.s_after;
     }

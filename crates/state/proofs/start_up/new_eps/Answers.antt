@@ -16,7 +16,6 @@ loop-k-preserved c =
     (ep-there c.loop-k.s c.loop-k.k c.read_ep-r.result (omega arith) c.read_ep-r.ensures) in
     let e = c.write_ep.ensures ∙ ap (λ (r : EpState). puts c.loop-k.s (40 + c.loop-k.k * 32) 0
     (bytes ep_widths (ep_as (made_new r)))) cleared in
-    
     ep-more c.args.s.now c.loop-k.s _ c.loop-k.k new_ep (omega arith) (omega arith) e c.loop-k.invariant
 
 pub returns-clause-s_after : goal.returns-clause-s_after

@@ -17,8 +17,7 @@ loop-k-init c =
 
 pub loop-k-preserved : goal.loop-k-preserved
 loop-k-preserved c =
-    let w = view c.args.s.now in
-    (
+    let w = view c.args.s.now in (
       omega arith,
       (
         c.store_code.ensures.s_after ∙ ap (λ (d : Driver). with_wakes d (with_codes d.wakes (set d.wakes.codes c.loop-k.k 0))) c.loop-k.invariant.1.0
@@ -31,6 +30,6 @@ pub returns : goal.returns
 returns c =
     let e : c.loop-k.k ≡ 64 = omega arith in
     record {
-        s_after = rw e at c.loop-k.invariant.1.0;
-        s_unchanged = c.loop-k.invariant.1.1;
+      s_after = rw e at c.loop-k.invariant.1.0;
+      s_unchanged = c.loop-k.invariant.1.1;
     }

@@ -7,6 +7,6 @@ use Rattle.state.proofs.wakes.store_count.Goals as goal
 pub returns : goal.returns
 returns c =
     record {
-        s_after = ap view c.put8.ensures ∙ view-count c.args.s.now (omega arith) c.args.n;
-        s_unchanged = ap saved c.put8.ensures ∙ saved-off c.args.s.now 1357 (digits 1 c.args.n) (omega arith);
+      s_after = ap view c.put8.ensures ∙ view-count c.args.s.now (omega arith) c.args.n;
+      s_unchanged = ap saved c.put8.ensures ∙ saved-off c.args.s.now 1357 (digits 1 c.args.n) (omega arith);
     }

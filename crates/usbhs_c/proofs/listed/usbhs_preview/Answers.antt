@@ -1,7 +1,11 @@
 use mathlib.Core.Path.{ap, sym, ◌∙◌}
 use Prim.Native.Nat.{◌+◌, ◌*◌, ◌%◌, ◌^◌}
 use Rattle.descriptor.specs.declared.preview.Shown.{Shown}
+use borrow.Author.Rules.{rules}
 use Rattle.usbhs_c.proofs.listed.usbhs_preview.Goals as goal
+
+pub enum_told-1 : goal.enum_told-1
+enum_told-1 c = search rules
 
 pub returns-in-Refused : goal.returns-in-Refused
 returns-in-Refused c =

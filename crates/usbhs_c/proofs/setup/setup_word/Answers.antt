@@ -28,7 +28,7 @@ returns-in-Shown c =
 
 pub returns-in_default : goal.returns-in_default
 returns-in_default c =
-    let b = bare-answer c.args.step c.in_default.keys4 _ in
+    let b = bare-answer c.args.step c.in_default.in_default-own.keys4 _ in
     record {
         worded = (_, c.word_of-in_default.ensures, λ d. (b d).same);
         packet_after = λ d. (b d).stays;

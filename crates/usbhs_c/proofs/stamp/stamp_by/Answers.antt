@@ -5,4 +5,4 @@ pub returns-in-Shown : goal.returns-in-Shown
 returns-in-Shown c b d = simp c.in-Shown.is
 
 pub returns-in_default : goal.returns-in_default
-returns-in_default c b d = unshown c.args.step c.in_default.keys2 c.args.old b d
+returns-in_default c b d = unshown c.args.step c.in_default.in_default-own.keys2 c.args.old b d

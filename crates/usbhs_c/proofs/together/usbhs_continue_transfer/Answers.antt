@@ -1,6 +1,10 @@
 use Rattle.readings.specs.Readings.{lent}
 use Rattle.usbhs_c.specs.ReadingsLaws.{through, gone_on, continued}
+use borrow.Author.Rules.{rules}
 use Rattle.usbhs_c.proofs.together.usbhs_continue_transfer.Goals as goal
+
+pub enum_told-1 : goal.enum_told-1
+enum_told-1 c = search rules
 
 pub returns-in-Word : goal.returns-in-Word
 returns-in-Word c =

@@ -1,6 +1,10 @@
 use Rattle.readings.specs.Readings.{lent}
 use Rattle.usbhs_c.specs.ReadingsLaws.{at-transfer, at-flags, begun, continued}
+use borrow.Author.Rules.{rules}
 use Rattle.usbhs_c.proofs.together.usbhs_interrupt.Goals as goal
+
+pub enum_told-1 : goal.enum_told-1
+enum_told-1 c = search rules
 
 pub returns-in-Mis : goal.returns-in-Mis
 returns-in-Mis c =

@@ -1,5 +1,6 @@
 use mathlib.Core.List.{[], ◌∷◌}
 use mathlib.Core.Path.{sym, ◌∙◌}
+use borrow.Author.Rules.{rules}
 use Rattle.regs.specs.declared.Reg.TheVariants.{IntSt, MisSt, RxLen}
 use Rattle.readings.specs.Readings.{reading, lent}
 use Rattle.usbhs_c.specs.ReadingsLaws.{all-through, flags-through, all-begun, not-brought}
@@ -11,6 +12,9 @@ returns-then-w-read_word c =
     flags-through _ c.args.driver c.args.frame c.args.flags c.args.mis c.args.st c.args.len c.serve-n.result _ m
     (c.serve-n.ensures c.args.driver c.args.time.now) _ c.in-Flags.is (lent _ _ _)
     c.bring_mis.ensures
+
+pub enum_told-1 : goal.enum_told-1
+enum_told-1 c = search rules
 
 pub returns-in-Transfer : goal.returns-in-Transfer
 returns-in-Transfer c =
