@@ -5,6 +5,6 @@ use Rattle.interrupt.proofs.on_interrupt.Goals as goal
 pub returns : goal.returns
 returns c =
     record {
-        b_value = λ d b. interrupt-begun (d, b);
-        linked = refl;
+      b_value = λ d b. interrupt-begun (d, b);
+      linked = refl;
     }

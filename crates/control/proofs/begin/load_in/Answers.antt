@@ -8,24 +8,24 @@ returns-then-last c =
     let at = point.Closing c.args.n
     c.args.first in
     record {
-        by_index = λ b. asked-at at c.point.ensures _ b
+      by_index = λ b. asked-at at c.point.ensures _ b
           ∙ rw (
             c.close_out.ensures.s_after,
             c.word_of-w.ensures,
             c.if-last.true,
           );
-        s_unchanged = c.close_out.ensures.s_unchanged;
-        linked_begun = linked-at at c.point.ensures refl;
+      s_unchanged = c.close_out.ensures.s_unchanged;
+      linked_begun = linked-at at c.point.ensures refl;
     }
 
 pub returns : goal.returns
 returns c =
     let at = point.Loaded c.args.first in
     record {
-        by_index = λ b. asked-at at c.point-2.ensures _ b ∙ rw (
+      by_index = λ b. asked-at at c.point-2.ensures _ b ∙ rw (
         c.set_armed.ensures.s_after,
         c.if-last.false,
       );
-        s_unchanged = c.set_armed.ensures.s_unchanged;
-        linked_begun = linked-at at c.point-2.ensures refl;
+      s_unchanged = c.set_armed.ensures.s_unchanged;
+      linked_begun = linked-at at c.point-2.ensures refl;
     }

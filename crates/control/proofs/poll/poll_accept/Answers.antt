@@ -11,7 +11,7 @@ take_accept-requires c =
 pub returns : goal.returns
 returns c =
     record {
-        by_index = λ b. poll-refused _ 4 b _ c.load_globals.ensures c.load_control-c.ensures c.poll_row-row.ensures c.if-row-eq0.false;
-        s_unchanged = refl;
-        linked_polled = tt;
+      by_index = λ b. poll-refused _ 4 b _ c.load_globals.ensures c.load_control-c.ensures c.poll_row-row.ensures c.if-row-eq0.false;
+      s_unchanged = refl;
+      linked_polled = tt;
     }

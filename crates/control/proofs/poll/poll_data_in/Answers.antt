@@ -11,9 +11,9 @@ returns-then-c-eq2 c =
     c.load_control-c.ensures
     c.poll_row-row.ensures c.if-row-eq0.true in
     record {
-        by_index = λ b. c.take_closing.ensures.by_index b ∙ in-second d _ b q c.if-c-eq2.true;
-        s_unchanged = c.take_closing.ensures.s_unchanged;
-        linked_polled = c.take_closing.ensures.linked_polled;
+      by_index = λ b. c.take_closing.ensures.by_index b ∙ in-second d _ b q c.if-c-eq2.true;
+      s_unchanged = c.take_closing.ensures.s_unchanged;
+      linked_polled = c.take_closing.ensures.linked_polled;
     }
 
 pub returns-then-row-eq0 : goal.returns-then-row-eq0
@@ -24,15 +24,15 @@ returns-then-row-eq0 c =
     c.load_control-c.ensures
     c.poll_row-row.ensures c.if-row-eq0.true in
     record {
-        by_index = λ b. c.take_in.ensures.by_index b ∙ in-first d _ b q c.if-c-eq2.false;
-        s_unchanged = c.take_in.ensures.s_unchanged;
-        linked_polled = c.take_in.ensures.linked_polled;
+      by_index = λ b. c.take_in.ensures.by_index b ∙ in-first d _ b q c.if-c-eq2.false;
+      s_unchanged = c.take_in.ensures.s_unchanged;
+      linked_polled = c.take_in.ensures.linked_polled;
     }
 
 pub returns : goal.returns
 returns c =
     record {
-        by_index = λ b. poll-refused _ 3 b _ c.load_globals.ensures c.load_control-c.ensures c.poll_row-row.ensures c.if-row-eq0.false;
-        s_unchanged = refl;
-        linked_polled = tt;
+      by_index = λ b. poll-refused _ 3 b _ c.load_globals.ensures c.load_control-c.ensures c.poll_row-row.ensures c.if-row-eq0.false;
+      s_unchanged = refl;
+      linked_polled = tt;
     }

@@ -18,10 +18,10 @@ returns-then-out-r c =
     (on-driver (λ y. ltb (length c.args.out.now) y.len) c.load_ep-r.ensures refl
     (lt-ltb _ _ c.if-out-r.true)) in
     record {
-        buf_after = p.0;
-        out_after = p.1;
-        s_unchanged = c.set_request.ensures.s_unchanged ∙ c.unready.ensures.s_unchanged;
-        linked_polled = tt;
+      buf_after = p.0;
+      out_after = p.1;
+      s_unchanged = c.set_request.ensures.s_unchanged ∙ c.unready.ensures.s_unchanged;
+      linked_polled = tt;
     }
 
 pub returns-then-is_on : goal.returns-then-is_on
@@ -35,10 +35,10 @@ returns-then-is_on c =
     (le-ltb _ _ c.if-out-r.false)) _ _ _ _ c.load_ep-r.ensures c.load_globals-g.ensures
     c.fetch-n.ensures.value c.fetch-n.ensures.out_after in
     record {
-        buf_after = p.0;
-        out_after = p.1;
-        s_unchanged = c.set_request-then-is_on.ensures.s_unchanged ∙ c.unready.ensures.s_unchanged;
-        linked_polled = tt;
+      buf_after = p.0;
+      out_after = p.1;
+      s_unchanged = c.set_request-then-is_on.ensures.s_unchanged ∙ c.unready.ensures.s_unchanged;
+      linked_polled = tt;
     }
 
 pub returns : goal.returns
@@ -47,8 +47,8 @@ returns c =
     (on-driver (λ y. is_on y.ready) c.load_ep-r.ensures c.is_on.ensures c.if-is_on.false)
     (c.wait_on.ensures.by_index c.args.out.now c.args.buf.now) in
     record {
-        buf_after = p.0;
-        out_after = p.1;
-        s_unchanged = c.wait_on.ensures.s_unchanged;
-        linked_polled = c.wait_on.ensures.linked_polled;
+      buf_after = p.0;
+      out_after = p.1;
+      s_unchanged = c.wait_on.ensures.s_unchanged;
+      linked_polled = c.wait_on.ensures.linked_polled;
     }

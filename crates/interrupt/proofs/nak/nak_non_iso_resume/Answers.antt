@@ -12,17 +12,16 @@ pub enum_told-1 : goal.enum_told-1
 enum_told-1 c = search rules
 
 pub returns-in-Word : goal.returns-in-Word
-returns-in-Word c =
-    (
-      λ d b. simp (
-        c.endpoint.ensures,
-        c.ctrl_of.ensures,
-        c.nak-word.ensures,
-        c.byte.ensures,
-        c.in-Word.is,
-      ),
-      refl,
-    )
+returns-in-Word c = (
+  λ d b. simp (
+    c.endpoint.ensures,
+    c.ctrl_of.ensures,
+    c.nak-word.ensures,
+    c.byte.ensures,
+    c.in-Word.is,
+  ),
+  refl,
+)
 
 pub returns-in-Wrote : goal.returns-in-Wrote
 returns-in-Wrote c = (λ d b. simp c.in-Wrote.is, tt)

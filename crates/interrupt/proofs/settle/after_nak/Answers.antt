@@ -16,18 +16,16 @@ pub enum_told-1 : goal.enum_told-1
 enum_told-1 c = search rules
 
 pub returns-in-Asks : goal.returns-in-Asks
-returns-in-Asks c =
-    (
-      λ d b. nak-asks (λ _ u. ends (retaken c.args.x c.args.st) u) c.args.st _ _ _ d b _
-          c.in-Asks.is (c.nak_non_iso_resume-n.ensures.0 d b),
-      nak-linked _ _ _ c.in-Asks.is c.nak_non_iso_resume-n.ensures.1,
-    )
+returns-in-Asks c = (
+  λ d b. nak-asks (λ _ u. ends (retaken c.args.x c.args.st) u) c.args.st _ _ _ d b _
+      c.in-Asks.is (c.nak_non_iso_resume-n.ensures.0 d b),
+  nak-linked _ _ _ c.in-Asks.is c.nak_non_iso_resume-n.ensures.1,
+)
 
 pub returns-in-Ends : goal.returns-in-Ends
-returns-in-Ends c =
-    (
-      λ d b. ap (λ (y : Transfer). ends y (d, b)) c.retaken.ensures
-          ∙ nak-ends (λ _ u. ends (retaken c.args.x c.args.st) u) c.args.st _ d b _
-          c.in-Ends.is (c.nak_non_iso_resume-n.ensures.0 d b),
-      tt,
-    )
+returns-in-Ends c = (
+  λ d b. ap (λ (y : Transfer). ends y (d, b)) c.retaken.ensures
+      ∙ nak-ends (λ _ u. ends (retaken c.args.x c.args.st) u) c.args.st _ d b _
+      c.in-Ends.is (c.nak_non_iso_resume-n.ensures.0 d b),
+  tt,
+)

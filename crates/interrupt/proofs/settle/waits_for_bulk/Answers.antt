@@ -1,16 +1,17 @@
+use borrow.Author.Tests.{not-true, not-false}
 use Rattle.script.specs.Handler.{waits_for_bulk}
 use borrow.Author.Tests.{eq-eqb, ne_eqb}
 use Rattle.interrupt.proofs.settle.waits_for_bulk.Goals as goal
 
 pub returns-then-not-x : goal.returns-then-not-x
 unfolding waits_for_bulk
-returns-then-not-x c = simp (c.if-not-x.true)
+returns-then-not-x c = simp (not-true c.args.x.busy c.if-not-x.true)
 
 pub returns-then-endpoint-eq0 : goal.returns-then-endpoint-eq0
 unfolding waits_for_bulk
 returns-then-endpoint-eq0 c =
     simp (
-      c.if-not-x.false,
+      not-false c.args.x.busy c.if-not-x.false,
       ← c.endpoint.ensures,
       eq-eqb _ _ c.if-endpoint-eq0.true,
     )
@@ -19,7 +20,7 @@ pub returns-then-is_out : goal.returns-then-is_out
 unfolding waits_for_bulk
 returns-then-is_out c =
     simp (
-      c.if-not-x.false,
+      not-false c.args.x.busy c.if-not-x.false,
       ← c.endpoint.ensures,
       ne_eqb _ _ c.if-endpoint-eq0.false,
       ← c.is_out.ensures,
@@ -30,7 +31,7 @@ pub returns-then-not-is_in : goal.returns-then-not-is_in
 unfolding waits_for_bulk
 returns-then-not-is_in c =
     simp (
-      c.if-not-x.false,
+      not-false c.args.x.busy c.if-not-x.false,
       ← c.endpoint.ensures,
       ne_eqb _ _ c.if-endpoint-eq0.false,
       ← c.is_out.ensures,
@@ -43,7 +44,7 @@ pub returns : goal.returns
 unfolding waits_for_bulk
 returns c =
     simp (
-      c.if-not-x.false,
+      not-false c.args.x.busy c.if-not-x.false,
       ← c.endpoint.ensures,
       ne_eqb _ _ c.if-endpoint-eq0.false,
       ← c.is_out.ensures,

@@ -7,14 +7,13 @@ use Rattle.interrupt.proofs.toggled.after_look.Goals as goal
 
 pub returns-then-over : goal.returns-then-over
 unfolding after_wait
-returns-then-over c =
-    (
-      λ d b. simp (
-        c.ctrl_of.ensures,
-        wait-over _ _ (over-told _ _ _ _ _ c.byte.ensures c.over.ensures c.if-over.true),
-      ),
-      simp (c.ctrl_of.ensures, word_width),
-    )
+returns-then-over c = (
+  λ d b. simp (
+    c.ctrl_of.ensures,
+    wait-over _ _ (over-told _ _ _ _ _ c.byte.ensures c.over.ensures c.if-over.true),
+  ),
+  simp (c.ctrl_of.ensures, word_width),
+)
 
 pub overflow_sub-result : goal.overflow_sub-result
 overflow_sub-result c =

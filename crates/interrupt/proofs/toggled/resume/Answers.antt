@@ -26,11 +26,10 @@ returns-in-Look c =
     (λ b. simp (c.after_look.ensures.0, c.in-Look.is), (refl, c.after_look.ensures.1))
 
 pub returns-in-Word : goal.returns-in-Word
-returns-in-Word c =
-    (
-      λ b. simp (c.after_word.ensures.0, c.in-Word.is),
-      (c.after_word.ensures.1.0, c.after_word.ensures.1.1),
-    )
+returns-in-Word c = (
+  λ b. simp (c.after_word.ensures.0, c.in-Word.is),
+  (c.after_word.ensures.1.0, c.after_word.ensures.1.1),
+)
 
 pub returns-in-AckRead : goal.returns-in-AckRead
 returns-in-AckRead c =

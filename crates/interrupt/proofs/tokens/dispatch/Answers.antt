@@ -16,7 +16,7 @@ pub enum_told-1 : goal.enum_told-1
 enum_told-1 c = search rules
 
 pub sof_arm-requires : goal.sof_arm-requires
-sof_arm-requires c = sof-told _ _ (enum-told-fact).given.1 (token-fact).ensures
+sof_arm-requires c = sof-told _ _ c.in-Sof.is c.token-t.ensures
 
 pub returns-in-Sof : goal.returns-in-Sof
 returns-in-Sof c =

@@ -4,6 +4,6 @@ use Rattle.interrupt.proofs.tokens.received.Goals as goal
 pub returns : goal.returns
 returns c =
     record {
-        by_index = λ b. simp (c.wake.ensures.s_after, c.store_ep.ensures.s_after, c.load_ep-r.ensures);
-        s_unchanged = c.wake.ensures.s_unchanged ∙ c.store_ep.ensures.s_unchanged;
+      by_index = λ b. simp (c.wake.ensures.s_after, c.store_ep.ensures.s_after, c.load_ep-r.ensures);
+      s_unchanged = c.wake.ensures.s_unchanged ∙ c.store_ep.ensures.s_unchanged;
     }
