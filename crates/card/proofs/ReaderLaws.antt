@@ -1,7 +1,5 @@
 -- What the reader's functions and loops keep.
-use Rattle.std.proofs.Common.{◌≡◌, ℕ, suc, ◌+◌, ◌-◌, ◌*◌, ◌/◌, ◌<◌, ◌≤◌, Bool, true, false, ◌&&◌, leb, List, length, refl, arith, le-ltb, lt-ltb, le-leb, leb-true}
-use mathlib.Core.Bool.{false≢true}
-use borrow.Author.Tests.{lt-leb}
+use Rattle.std.proofs.Common.{◌≡◌, ℕ, suc, ◌+◌, ◌-◌, ◌*◌, ◌/◌, ◌<◌, ◌≤◌, true, false, List, length, arith, le-ltb, lt-ltb}
 use Rattle.card.specs.Streams.{placed, checked, good_block}
 use Rattle.card.specs.Reading.{View, block_end, clean_to, clean_up_to, seek, begins}
 use Rattle.card.specs.SeenLaws.{clean-behind}
@@ -50,24 +48,3 @@ good-elsewhere s k h p = rw (lt-ltb k (length s / 512) h, p)
 pub good-here : (s : List ℕ) (k : ℕ) → k < length s / 512 → placed s k ≡ true → checked s k ≡ good_block s k
 unfolding good_block
 good-here s k h p = rw (lt-ltb k (length s / 512) h, p)
-
--- ---- begins that are named
-
-pub begins-bad : (v : View) (k : ℕ) → v.good k ≡ false → false ≡ begins v k
-begins-bad v k g = rw g
-
-pub begins-low : (v : View) (k n : ℕ) → v.good k ≡ true → n ≡ v.named k → n < 6 → false ≡ begins v k
-begins-low v k n g e h = rw (g, ← e, lt-leb 6 n h)
-
-pub begins-high : (v : View) (k n : ℕ) → v.good k ≡ true → n ≡ v.named k → 6 ≤ n → leb n 509 ≡ begins v k
-begins-high v k n g e h = rw (g, ← e, le-leb 6 n h)
-
-pub begins-from : (v : View) (k : ℕ) → begins v k ≡ true → (6 ≤ v.named k) × (v.named k ≤ 509)
-begins-from v k h = go (v.good k) (leb 6 (v.named k)) (leb (v.named k) 509) refl refl h
-  where
-    go : (a b c : Bool) → leb 6 (v.named k) ≡ b → leb (v.named k) 509 ≡ c → (a && (b && c)) ≡ true → (6 ≤ v.named k)
-        × (v.named k ≤ 509)
-    go true true true x y h = (leb-true 6 (v.named k) x, leb-true (v.named k) 509 y)
-    go true true false x y h = absurd (false≢true h)
-    go true false c x y h = absurd (false≢true h)
-    go false b c x y h = absurd (false≢true h)

@@ -1,5 +1,5 @@
 -- What stores leave in a block.
-use Rattle.std.proofs.Common.{◌≡◌, ℕ, suc, ◌+◌, ◌-◌, ◌/◌, ◌%◌, ◌≤◌, List, [], ◌∷◌, ◌++◌, length, get_or, take, drop, set, sym, ap, ◌∙◌, ap₂, append_assoc, append-nil, arith, length-drop, drop_of_length-le, length-take-le, take_all, drop-drop, le-ltb}
+use Rattle.std.proofs.Common.{◌≡◌, ℕ, suc, ◌+◌, ◌/◌, ◌%◌, ◌≤◌, List, [], ◌∷◌, ◌++◌, length, take, drop, set, sym, ap, ◌∙◌, ap₂, append_assoc, append-nil, arith, length-drop, drop_of_length-le, length-take-le, take_all, drop-drop, le-ltb}
 use lib.Seq.{sets-eq, paste, length-paste}
 use Rattle.ring.specs.Copies.{copied}
 use Rattle.card.specs.Crc.{data_crc}
@@ -7,20 +7,6 @@ use Rattle.card.specs.Packet.{packet_bytes, packet_of}
 use Rattle.card.specs.Rooms.{paste-run}
 use Rattle.card.specs.Written.{body, sealed}
 use Rattle.card.specs.Writing.{closed}
-
--- ---- a packet's bytes
-
-pub byte_low : (e : ℕ) (s : List ℕ) (i : ℕ) → i ≡ 0 → length s % 256 ≡ get_or (packet_bytes (packet_of e s)) i 0
-byte_low e s i h = rw h
-
-pub byte_high : (e : ℕ) (s : List ℕ) (i : ℕ) → i ≡ 1 → length s / 256 ≡ get_or (packet_bytes (packet_of e s)) i 0
-byte_high e s i h = rw h
-
-pub byte-rest : (e : ℕ) (s : List ℕ) (i : ℕ) → 3 ≤ i → get_or s (i - 3) 0 ≡ get_or (packet_bytes (packet_of e s)) i 0
-byte-rest e s i h = let x : i ≡ suc (suc (suc (i - 3))) = omega arith in go (i - 3) x
-  where
-    go : (j : ℕ) → i ≡ suc (suc (suc j)) → get_or s j 0 ≡ get_or (packet_bytes (packet_of e s)) i 0
-    go j x = rw x
 
 -- ---- a packet's bytes in a block
 
@@ -32,11 +18,6 @@ header-stores e s b at h =
     let e1 : suc at ≡ at + 1 = omega arith in
     let e2 : suc (at + 1) ≡ at + 2 = omega arith in
     rw (e1, e2) at (sets-eq (length s % 256 ∷ length s / 256 ∷ e ∷ []) b at h)
-
--- all of it
-pub header-whole : (e : ℕ) (s b r : List ℕ) (at from n : ℕ) → from ≡ 0 → n ≡ 3
-    → r ≡ paste b at (packet_bytes (packet_of e s)) 3 → r ≡ paste b at (drop from (packet_bytes (packet_of e s))) n
-header-whole e s b r at from n z t h = h ∙ rw (z, t)
 
 -- a copy that fits is a run of bytes in place
 copied-in : (b d : List ℕ) (at : ℕ) → at + length d ≤ length b → copied b at d ≡ paste b at d (length d)

@@ -4,7 +4,7 @@ use Rattle.std.proofs.Common.{sym, ap, ap₂, ◌∙◌, arith, lt-ltb, le-ltb}
 use Rattle.std.proofs.Math.Decide.{dec_lt}
 use Rattle.card.specs.declared.stream.Found.{Found}
 use Rattle.card.specs.declared.stream.Found.TheVariants as found
-use Rattle.card.specs.Packet.{Packet, packet_bytes, data_of}
+use Rattle.card.specs.Packet.{packet_bytes, data_of}
 use Rattle.card.specs.Reading.{View, total, bytes_from, packet_from, find, in_turn}
 use Rattle.card.specs.Progress.{find-header}
 use Rattle.card.specs.Rooms.{length-bytes}

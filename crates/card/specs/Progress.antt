@@ -2,7 +2,6 @@
 use Rattle.std.specs.Prelude.{◌≡◌, ℕ, zero, suc, ◌+◌, ◌-◌, ◌*◌, ◌/◌, ◌<◌, ◌≤◌, Bool, true, false, cond, ◌≢◌, refl}
 use Rattle.std.proofs.Common.{sym, ◌∙◌, arith}
 use Rattle.std.proofs.Math.Decide.{dec_lt, ℕ_discrete}
-use Rattle.card.specs.Packet.{Packet}
 use Rattle.card.specs.declared.stream.Step.{Step}
 use Rattle.card.specs.declared.stream.Step.TheVariants.{Ends, Goes, Gives}
 use Rattle.card.specs.declared.stream.Found.{Found}

@@ -4,7 +4,6 @@ use Rattle.std.specs.Prelude.{ℕ, zero, suc, List, [], ◌∷◌, length, take}
 use Rattle.card.specs.Packet.{Packet, packet_of}
 use Rattle.card.specs.Reading.{total}
 use Rattle.card.specs.Streams.{view}
-use Rattle.card.specs.declared.stream.Found.TheVariants as found
 use Rattle.card.specs.declared.reader.Started.TheVariants as started
 use Rattle.card.specs.declared.reader.Next.TheVariants as next
 use Rattle.card.specs.Calls.{start_of, next_of, room_of}

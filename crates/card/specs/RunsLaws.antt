@@ -10,7 +10,6 @@ use Rattle.card.specs.Turns.{by_calls, calls-give}
 use Rattle.card.specs.declared.stream.Found.{Found}
 use Rattle.card.specs.declared.stream.Found.TheVariants as found
 use Rattle.card.specs.declared.reader.Reader.{Reader}
-use Rattle.card.specs.declared.reader.Started.TheVariants as started
 use Rattle.card.specs.declared.reader.Next.TheVariants as next
 use Rattle.card.specs.Calls.{start_of, found_from, next_of, room_of}
 use Rattle.card.specs.Rooms.{length-bytes, given_nothing, given-fits, put-fits, next_found, room-found}

@@ -1,6 +1,6 @@
 -- The answer follows from the maxima, the charges and how many there are: what stood in the flags does not matter, so a
 -- list asked again answers the same. Assumes nothing.
-use Rattle.std.specs.Prelude.{◌≡◌, refl, Bool, true, false, cond, List, ℕ, ◌≤◌, length, get_or}
+use Rattle.std.specs.Prelude.{◌≡◌, refl, Bool, true, false, cond, List, ℕ, length, get_or}
 use Rattle.std.proofs.Common.{ap, ◌∙◌, arith}
 use Rattle.std.proofs.Math.Decide.{dec_lt}
 use Rattle.channels.specs.declared.Channel.{Channel}

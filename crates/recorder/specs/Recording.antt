@@ -1,5 +1,5 @@
 -- What the recorder's calls do.
-use Rattle.std.specs.Prelude.{Bool, cond, ◌||◌, not, List, ◌∷◌, ◌++◌, ℕ, ◌+◌, ◌-◌, min, ltb, eqb, length}
+use Rattle.std.specs.Prelude.{Bool, cond, ◌||◌, not, List, ◌∷◌, ℕ, ◌+◌, ◌-◌, min, ltb, eqb, length}
 use Rattle.card.specs.Packet.{Packet, packet_of}
 use Rattle.card.specs.declared.writer.Writer.{Writer}
 use Rattle.card.specs.Writing.{new_writer}

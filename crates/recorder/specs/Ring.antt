@@ -1,5 +1,5 @@
 -- Packets in a ring of four lent blocks: block k lies at k % 4.
-use Rattle.std.specs.Prelude.{cond, List, [], ◌∷◌, ◌++◌, ℕ, zero, suc, ◌+◌, ◌-◌, ◌*◌, ◌/◌, ◌%◌, ltb, length, take, drop, replicate}
+use Rattle.std.specs.Prelude.{cond, List, [], ◌∷◌, ◌++◌, ℕ, zero, suc, ◌-◌, ◌*◌, ◌/◌, ◌%◌, ltb, length, take, drop, replicate}
 use Rattle.card.specs.Packet.{Packet, packet_of}
 use Rattle.card.specs.declared.writer.Writer.{Writer}
 use Rattle.card.specs.Writing.{writer_of, whole_of, block_of_piece, last_of}

@@ -6,17 +6,3 @@ use Rattle.survey_c.proofs.usbhs_write_descriptor.Goals as goal
 pub overflow_cast-n : goal.overflow_cast-n
 overflow_cast-n c =
     omega (arith, bytes-few _ _ _ (sym c.rewrite.ensures.value ∙ c.in-Bytes.is))
-
-pub returns-in-Refused : goal.returns-in-Refused
-returns-in-Refused c =
-    record {
-      value = c.refused.ensures ∙ rw (sym c.rewrite.ensures.value ∙ c.in-Refused.is);
-      room_after = c.rewrite.ensures.room_after;
-    }
-
-pub returns-in-Bytes : goal.returns-in-Bytes
-returns-in-Bytes c =
-    record {
-      value = c.done.ensures ∙ rw (sym c.rewrite.ensures.value ∙ c.in-Bytes.is);
-      room_after = c.rewrite.ensures.room_after;
-    }

@@ -2,7 +2,6 @@ use Rattle.std.proofs.Common.{◌≡◌, ◌%◌, length, ◌∙◌, arith}
 use Rattle.card.specs.BatchLaws.{batch-torn, batch-room-torn, batch-taken, batch-room}
 use Rattle.card.proofs.batches.next_packets.Goals as goal
 
--- src/batches.rt:79:9
 pub returns-then-stream-ne0 : goal.returns-then-stream-ne0
 returns-then-stream-ne0 c =
     record {
@@ -10,7 +9,6 @@ returns-then-stream-ne0 c =
       room_after = batch-room-torn c.args.stream.now _ c.args.room.now c.if-stream-ne0.true;
     }
 
--- src/batches.rt:74:1
 pub returns : goal.returns
 returns c =
     let whole : length c.args.stream.now % 512 ≡ 0 = omega arith in

@@ -3,11 +3,9 @@ use Rattle.card.specs.Fold.{settled, remainder_of}
 use Rattle.card.specs.FoldLaws.{odd-lt, remainder-lt}
 use Rattle.card.proofs.crc.settle.Goals as goal
 
--- src/crc.rt:70:13
 pub overflow_mul-result : goal.overflow_mul-result
 overflow_mul-result c = omega (arith, c.parity.ensures, odd-lt c.args.words)
 
--- src/crc.rt:66:1
 pub returns : goal.returns
 unfolding settled remainder_of
 returns c = rw c.parity.ensures (mod-eq_of_lt (remainder-lt c.args.sum c.args.words))

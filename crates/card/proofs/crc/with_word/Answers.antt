@@ -4,7 +4,6 @@ use Rattle.card.specs.FoldLaws.{fold-lt, fold-even}
 use Rattle.card.proofs.Laws.{word_more}
 use Rattle.card.proofs.crc.with_word.Goals as goal
 
--- src/crc.rt:81:1
 pub returns : goal.returns
 returns c =
     let x = bit_xor c.args.s.sum c.word-next.result in
@@ -13,4 +12,4 @@ returns c =
     word_more c.args.bytes.now c.args.i c.args.s.sum c.args.s.words c.word-next.result c.requires.0 c.word-next.ensures.value
     c.word-next.ensures.a_bound c.requires.1.short
     c.requires.1.even (omega arith) in
-    rw c.fold.ensures (record { short = fold-lt x x_lt; even = fold-even x x_lt }, more)
+    rw c.fold.ensures (record { even = record { short = fold-lt x x_lt; even = fold-even x x_lt }; bytes_value = more })

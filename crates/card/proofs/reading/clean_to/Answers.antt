@@ -1,21 +1,12 @@
-use Rattle.std.proofs.Common.{sym, refl, ◌∙◌, arith}
+use Rattle.std.proofs.Common.{sym, ◌∙◌, arith}
 use Rattle.card.specs.Streams.{view}
 use Rattle.card.proofs.ReaderLaws.{clean-more, clean-bad, clean-stop}
 use Rattle.card.proofs.reading.clean_to.Goals as goal
-
-pub loop-k-init : goal.loop-k-init
-loop-k-init c = refl
 
 pub returns-then-not-is_good : goal.returns-then-not-is_good
 returns-then-not-is_good c =
     sym (clean-bad (view c.args.stream.now) c.loop-k.k _ (omega arith) (sym c.is_good.ensures ∙ c.if-not-is_good.true))
     ∙ c.loop-k.invariant
-
-pub overflow_add-k : goal.overflow_add-k
-overflow_add-k c = omega arith
-
-pub loop-k-smaller : goal.loop-k-smaller
-loop-k-smaller c = omega arith
 
 pub loop-k-preserved : goal.loop-k-preserved
 loop-k-preserved c =

@@ -8,9 +8,6 @@ use Rattle.card.proofs.reading.find_from.Goals as goal
 pub loop-e-init : goal.loop-e-init
 loop-e-init c = ((total (view c.args.stream.now), omega arith, refl), c.requires)
 
-pub step-requires : goal.step-requires
-step-requires c = c.loop-e.invariant.1
-
 pub returns-in-Ends : goal.returns-in-Ends
 returns-in-Ends c =
     find-ends (view c.args.stream.now) c.loop-e.invariant.0.0 c.loop-e.at _ c.loop-e.invariant.0.2 (sym c.step.ensures

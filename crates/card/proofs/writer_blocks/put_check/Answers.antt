@@ -1,9 +1,5 @@
-use Rattle.std.proofs.Common.{arith, length-set}
 use Rattle.card.proofs.WriterLaws.{check-stores}
 use Rattle.card.proofs.writer_blocks.put_check.Goals as goal
-
-pub bounds-block-511 : goal.bounds-block-511
-bounds-block-511 c = simp length-set (omega arith)
 
 pub returns : goal.returns
 returns c =

@@ -6,7 +6,6 @@ use Rattle.recorder.specs.Ring.{ring_of, end_room}
 use Rattle.recorder.specs.RingLaws.{end_is}
 use Rattle.recorder.proofs.blocks.put_end.Goals as goal
 
--- src/ring.rt:121:1
 pub returns : goal.returns
 returns c =
     let g = ring_of c.args.w c.args.room.now in

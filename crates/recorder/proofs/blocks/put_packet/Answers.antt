@@ -1,16 +1,10 @@
-use mathlib.Core.Path.{refl, sym, ap, ◌∙◌}
+use mathlib.Core.Path.{sym, ap, ◌∙◌}
 use native.Mathlib.Omega.{arith}
 use borrow.Author.Rules.{rules}
 use Rattle.card.specs.Packet.{packet_of}
 use Rattle.recorder.specs.Ring.{ring_of, packet_ring}
 use Rattle.recorder.specs.RingLaws.{ring-piece, ring-whole, ring-part, ring-none}
 use Rattle.recorder.proofs.blocks.put_packet.Goals as goal
-
-pub loop-turns-init : goal.loop-turns-init
-loop-turns-init c = (omega arith, refl)
-
-pub put_piece-put-requires : goal.put_piece-put-requires
-put_piece-put-requires c = (c.loop-turns.invariant.0, c.requires.1, c.requires.2, c.requires.3)
 
 pub returns-then-put : goal.returns-then-put
 returns-then-put c =
@@ -19,12 +13,6 @@ returns-then-put c =
     let now = ring-piece p g _ _ c.put_piece-put.ensures.next_value c.put_piece-put.ensures.room_after in
     now ∙ ring-whole c.loop-turns.turns p g (omega arith) (sym c.put_piece-put.ensures.whole_value ∙ c.if-put.true)
     ∙ c.loop-turns.invariant.1
-
-pub overflow_sub-turns : goal.overflow_sub-turns
-overflow_sub-turns c = omega arith
-
-pub loop-turns-smaller : goal.loop-turns-smaller
-loop-turns-smaller c = omega arith
 
 pub loop-turns-preserved : goal.loop-turns-preserved
 loop-turns-preserved c =

@@ -7,7 +7,6 @@ use Rattle.recorder.specs.RingLaws.{zeros-part}
 use lib.ListN.{replicate}
 use Rattle.recorder.proofs.blocks.put_padding.Goals as goal
 
--- src/ring.rt:66:1
 pub returns : goal.returns
 returns c =
     let g = ring_of c.args.w c.args.room.now in

@@ -2,18 +2,14 @@ use native.Mathlib.Omega.{arith}
 use Rattle.recorder.specs.RecordingLaws.{left-none, left-low, left-some, left-many}
 use Rattle.recorder.proofs.recording.left_of.Goals as goal
 
--- src/recording.rt:30:9
 pub returns-then-number-from : goal.returns-then-number-from
 returns-then-number-from c = left-none _ _ c.if-number-from.true
 
--- src/recording.rt:33:9
 pub returns-then-number-from-2 : goal.returns-then-number-from-2
 returns-then-number-from-2 c = left-low _ _ (omega arith)
 
--- src/recording.rt:36:9
 pub returns-then-number-from-lt3 : goal.returns-then-number-from-lt3
 returns-then-number-from-lt3 c = left-some _ _ _ (omega arith) (omega arith)
 
--- src/recording.rt:26:1
 pub returns : goal.returns
 returns c = left-many _ _ (omega arith)

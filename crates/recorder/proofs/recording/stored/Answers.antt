@@ -1,14 +1,11 @@
 use Rattle.recorder.specs.RecordingLaws.{stored-none, stored_last, stored_one}
 use Rattle.recorder.proofs.recording.stored.Goals as goal
 
--- src/recording.rt:140:9
 pub returns-then-r-eq0 : goal.returns-then-r-eq0
 returns-then-r-eq0 c = stored-none _ c.if-r-eq0.true
 
--- src/recording.rt:143:9
 pub returns-then-r-eq1 : goal.returns-then-r-eq1
 returns-then-r-eq1 c = stored_last _ c.if-r-eq1.true
 
--- src/recording.rt:136:1
 pub returns : goal.returns
 returns c = stored_one _ c.if-r-eq0.false c.if-r-eq1.false

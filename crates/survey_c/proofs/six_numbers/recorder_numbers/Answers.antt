@@ -2,7 +2,6 @@ use mathlib.Core.Path.{refl}
 use Rattle.survey_c.specs.Recorder.{recorder_numbers}
 use Rattle.survey_c.proofs.six_numbers.recorder_numbers.Goals as goal
 
--- src/six_numbers.rt:19:1
 pub returns : goal.returns
 unfolding recorder_numbers
 returns c = refl

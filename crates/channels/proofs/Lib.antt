@@ -1,3 +1,0 @@
-mod Lent
-mod Callees
-mod Walks
