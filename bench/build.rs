@@ -1,4 +1,4 @@
-// The proved archive, written by `rt staticlib state_bench` in the repository's root.
+// The proved archive, written by `firmware/staticlib state_bench` in the repository's root.
 fn main() {
     let root = std::env::var("CARGO_MANIFEST_DIR").unwrap();
     println!("cargo:rustc-link-search=native={root}/../target/staticlib");

@@ -1,6 +1,6 @@
 // Load a record, change its head and one length, store it: the port over lent bytes against plain Rust statics, in one run.
 //
-//     rt staticlib state_bench && cd bench && cargo run --release --offline
+//     firmware/staticlib state_bench && cd bench && cargo run --release --offline
 use std::hint::black_box;
 use std::sync::atomic::{AtomicU16, AtomicU32, AtomicU8, Ordering::Relaxed};
 use std::time::Instant;

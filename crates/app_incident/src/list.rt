@@ -58,10 +58,10 @@ pub fn number(list: &[u8; LIST_LEN], at: u32, k: usize) -> u32 {
 }
 
 pub fn entry_at(list: &[u8; LIST_LEN], at: u32) -> Entry {
-    let data = std::num::wrapping_add_u32(at, 40);
+    let data = at.wrapping_add(40);
     let data_len = number(list, at, 32);
     let received = number(list, at, 36);
-    let changes = std::num::wrapping_add_u32(std::num::wrapping_add_u32(data, data_len), received);
+    let changes = data.wrapping_add(data_len).wrapping_add(received);
     Entry {
         code: byte(list, at, 0),
         times: short(list, at, 1),
@@ -89,13 +89,11 @@ pub fn store(list: &[u8; LIST_LEN], from: u32, len: u32, slots: &mut [u8; SLOTS_
 // Where the entry behind this one begins; the changed parts go into the slots.
 pub fn changed(list: &[u8; LIST_LEN], e: Entry, slots: &mut [u8; SLOTS_LEN]) -> u32 {
     let mut at = e.changes;
-    let mut left = e.parts;
-    while left > 0 {
-        left -= 1;
+    for _ in 0..e.parts {
         let len = number(list, at, 4);
-        let from = std::num::wrapping_add_u32(at, 8);
+        let from = at.wrapping_add(8);
         store(list, from, len, slots, number(list, at, 0));
-        at = std::num::wrapping_add_u32(from, len);
+        at = from.wrapping_add(len);
     }
     at
 }

@@ -3,27 +3,28 @@
 // flat-topped samples are counted in what comes back.
 #![tactic(auto)]
 
-mod card; // card.rt: packets on the card and back
+ghost use Rattle.std.specs.Prelude.{◌≤◌, IfOk};
+
 mod list; // list.rt: the recorded list
+mod packets; // packets.rt: packets on the card and back
 
 use bus_time::{TIME_LEN, Time};
-use card::{CARD_LEN, Counts};
-use libc::STDIN_FILENO;
 use list::{Entry, LIST_LEN, SLOTS_LEN, number};
-use print::text::print;
+use packets::{CARD_LEN, Counts};
 use state::{STATE_LEN, State};
+use std::io;
+use std::io::Read;
 
 // The number of a store in the list, and the answer of what is no call.
 const STORE: u32 = 34;
 
 const NO_ANSWER: u64 = 15;
 
+// The entries that are made of a list, at most.
+const MOST: u32 = 4096;
+
 // The reading with which an interrupt of the port begins; the list does not have it.
 const FRAME: u32 = 0;
-
-fn say(n: u32) {
-    print::text::number(n);
-}
 
 // Makes an entry's call on the port; those that the incident does not have are left out.
 fn made(
@@ -59,64 +60,78 @@ fn made(
     }
 }
 
-// An open packet goes from its slot to the card.
-fn kept(
-    word: u64,
-    slots: &[u8; SLOTS_LEN],
-    writer: &mut [u32; 4],
-    block: &mut [u8; 512],
-    card: &mut [u8; CARD_LEN],
-) {
-    if word % 16 == 8 {
-        let mut packet = [0u8; 1024];
-        let len = (word / 256 % 65536) as u16;
-        ring::marks::copy_out(slots, (word / 0x100000000) as u32, &mut packet, len);
-        card::put_front(writer, block, card, &packet, len);
+// One side's slots, and the card that its packets go to.
+#[derive(Drop)]
+struct Side {
+    slots: [u8; SLOTS_LEN],
+    writer: [u32; 4],
+    block: [u8; 512],
+    card: [u8; CARD_LEN],
+}
+
+impl Side {
+    fn new() -> Side {
+        let mut writer = [0u32; 4];
+        survey_c::usbhs_card_new(&mut writer);
+        Side {
+            slots: [0u8; SLOTS_LEN],
+            writer,
+            block: [0u8; 512],
+            card: [0u8; CARD_LEN],
+        }
+    }
+
+    // An open packet goes from its slot to the card.
+    fn keep(&mut self, word: u64) {
+        if word % 16 == 8 {
+            let mut packet = [0u8; 1024];
+            let len = (word / 256 % 65536) as u16;
+            ring::marks::copy_out(&self.slots, (word / 0x100000000) as u32, &mut packet, len);
+            packets::put_front(
+                &mut self.writer,
+                &mut self.block,
+                &mut self.card,
+                &packet,
+                len,
+            );
+        }
+    }
+
+    // The card is finished and read back.
+    fn export(&mut self) -> Counts {
+        let len = packets::finish(&self.writer, &mut self.block, &mut self.card);
+        packets::read_back(&self.card, len)
     }
 }
 
 // An answer that is not the recorded one.
-fn told(answer: u32, own: u64, recorded: u64) {
-    print(b"answer ");
-    say(answer);
-    print(b": the Rust shows ");
-    say((recorded / 256 % 65536) as u32);
-    print(b" bytes, the port ");
-    say((own / 256 % 65536) as u32);
-    print(b"\n");
+fn told(rt: &impl Print, answer: u32, own: u64, recorded: u64) -> io::Result<()> {
+    let shown = recorded / 256 % 65536;
+    let here = own / 256 % 65536;
+    println!(rt; "answer {answer}: the Rust shows {shown} bytes, the port {here}")
 }
 
-fn summed(title: &[u8], c: Counts) {
-    print(title);
-    say(c.packets);
-    print(b" packets, ");
-    say(c.samples);
-    print(b" samples, ");
-    say(c.flat);
-    print(b" flat-topped\n");
+fn summed(rt: &impl Print, title: &str, c: Counts) -> io::Result<()> {
+    let Counts {
+        packets,
+        samples,
+        flat,
+    } = c;
+    println!(rt; "{title}{packets} packets, {samples} samples, {flat} flat-topped")
 }
 
 // The samples that the chip stores.
 fn sent(c: Counts, list: &[u8; LIST_LEN], e: Entry) -> Counts {
     let mut packet = [0u8; 1024];
     list::copy(list, e.data, e.data_len, &mut packet, 0);
-    card::counted(c, &packet, e.data_len)
+    packets::counted(c, &packet, e.data_len)
 }
 
-fn run(list: &[u8; LIST_LEN], len: u32) {
+fn run(rt: &impl Print, list: &[u8; LIST_LEN], len: u32) -> io::Result<()> {
     let mut s = [0u8; STATE_LEN];
     let mut time = [0u16; TIME_LEN];
-    // each side's slots, writer, block and card
-    let mut slots = [0u8; SLOTS_LEN];
-    let mut writer = [0u32; 4];
-    let mut block = [0u8; 512];
-    let mut card = [0u8; CARD_LEN];
-    let mut rust_slots = [0u8; SLOTS_LEN];
-    let mut rust_writer = [0u32; 4];
-    let mut rust_block = [0u8; 512];
-    let mut rust_card = [0u8; CARD_LEN];
-    survey_c::usbhs_card_new(&mut writer);
-    survey_c::usbhs_card_new(&mut rust_writer);
+    let mut port = Side::new();
+    let mut rust = Side::new();
     let mut stores = Counts {
         packets: 0,
         samples: 0,
@@ -125,65 +140,50 @@ fn run(list: &[u8; LIST_LEN], len: u32) {
     let mut answers: u32 = 0;
     let mut differing: u32 = 0;
     let mut at: u32 = 0;
-    let mut left: u32 = 4096;
-    while left > 0 {
-        left -= 1;
+    for _ in 0..MOST {
         if at < len {
             let e = list::entry_at(list, at);
-            let mut times = e.times;
             if e.code == STORE {
                 let to = number(list, at, 4);
-                list::store(list, e.data, e.data_len, &mut slots, to);
-                list::store(list, e.data, e.data_len, &mut rust_slots, to);
+                list::store(list, e.data, e.data_len, &mut port.slots, to);
+                list::store(list, e.data, e.data_len, &mut rust.slots, to);
                 stores = sent(stores, list, e);
-                times = 0;
-            }
-            while times > 0 {
-                times -= 1;
-                let own = made(list, at, e.code, &mut s, &mut slots, &mut time);
-                if own != NO_ANSWER {
-                    answers = std::num::wrapping_add_u32(answers, 1);
-                    if own != e.answer {
-                        differing = std::num::wrapping_add_u32(differing, 1);
-                        told(answers, own, e.answer);
+            } else {
+                for _ in 0..e.times {
+                    let own = made(list, at, e.code, &mut s, &mut port.slots, &mut time);
+                    if own != NO_ANSWER {
+                        answers = answers.wrapping_add(1);
+                        if own != e.answer {
+                            differing = differing.wrapping_add(1);
+                            told(rt, answers, own, e.answer)?;
+                        }
+                        port.keep(own);
+                        rust.keep(e.answer);
                     }
-                    kept(own, &slots, &mut writer, &mut block, &mut card);
-                    kept(
-                        e.answer,
-                        &rust_slots,
-                        &mut rust_writer,
-                        &mut rust_block,
-                        &mut rust_card,
-                    );
                 }
             }
-            at = list::changed(list, e, &mut rust_slots);
+            at = list::changed(list, e, &mut rust.slots);
         }
     }
-    say(answers);
-    print(b" answers, ");
-    say(differing);
-    print(b" not the Rust's\n");
-    summed(b"sent:             ", stores);
-    export(
-        b"the Rust exports: ",
-        &rust_writer,
-        &mut rust_block,
-        &mut rust_card,
-    );
-    export(b"the port exports: ", &writer, &mut block, &mut card);
+    println!(rt; "{answers} answers, {differing} not the Rust's")?;
+    summed(rt, "sent:             ", stores)?;
+    summed(rt, "the Rust exports: ", rust.export())?;
+    summed(rt, "the port exports: ", port.export())
 }
 
-// The card is finished and read back.
-fn export(title: &[u8], writer: &[u32; 4], block: &mut [u8; 512], card: &mut [u8; CARD_LEN]) {
-    let len = card::finish(writer, block, card);
-    summed(title, card::read_back(card, len));
+// The recorded list: so many bytes of it, and behind them zeros.
+fn recorded(rt: &(impl Input + AllocGlobal), list: &mut [u8; LIST_LEN]) -> io::Result<u32>
+    ensures { IfOk result (λ n. n ≤ 65536) }
+{
+    let mut bytes = Vec::new(rt.alloc());
+    rt.reader().take(LIST_LEN as u64).read_to_end(&mut bytes)?;
+    let n = bytes.len().min(LIST_LEN);
+    list[..n].copy_from_slice(&bytes[..n]);
+    Ok(n as u32)
 }
 
-fn main() {
-    let mut list = io::large_buffer();
-    let n = io::read_full(STDIN_FILENO, &mut list);
-    if n <= 65536 {
-        run(&list, n as u32);
-    }
+fn main(rt: HostRuntime) -> io::Result<()> {
+    let mut list = [0u8; LIST_LEN];
+    let len = recorded(&rt, &mut list)?;
+    run(&rt, &list, len)
 }

@@ -4,9 +4,9 @@
 use bus_time::{TIME_LEN, Time};
 use calls::Step;
 use print::answers::show;
-use print::text::{number, print};
 use regs::Dir;
 use state::{STATE_LEN, State};
+use std::io;
 
 // What the chip reads where it has nothing to tell.
 const READING: u32 = 0;
@@ -32,156 +32,182 @@ fn reading(arrived: bool, left: u32) -> u32 {
 }
 
 // Shows a call's answer, and the rest of its operation as it goes on.
-fn run(s: &mut State, slots: &mut [u8], time: &mut Time, first: Step, arrived: bool) {
-    show(s, first);
+fn run(
+    rt: &impl Print,
+    s: &mut State,
+    slots: &mut [u8],
+    time: &mut Time,
+    first: Step,
+    arrived: bool,
+) -> io::Result<()> {
+    show(rt, s, first)?;
     let mut step = first;
-    let mut left = MOST;
-    while left > 0 {
-        left -= 1;
+    for left in (0..MOST).rev() {
         match step {
             Step::Asks(_q) => {
                 step = calls::proceeds::proceed(s, slots, time, 0, reading(arrived, left));
-                show(s, step);
+                show(rt, s, step)?;
             }
             _ => {
-                return;
+                return Ok(());
             }
         }
     }
+    Ok(())
 }
 
-fn questions(s: &State, e: u32) {
-    print(b"IN ");
-    number(e);
-    print(b": ");
-    number(calls::questions::pending(s, e));
-    print(b" queued; OUT ");
-    number(e);
-    print(b": ");
-    number(calls::questions::overruns(s, e));
-    print(b" turned away; IN ");
-    if calls::questions::enabled(s, Dir::In, e) {
-        print(b"enabled\n");
+fn questions(rt: &impl Print, s: &State, e: u32) -> io::Result<()> {
+    let queued = calls::questions::pending(s, e);
+    let turned_away = calls::questions::overruns(s, e);
+    let stands = if calls::questions::enabled(s, Dir::In, e) {
+        "enabled"
     } else {
-        print(b"disabled\n");
-    }
+        "disabled"
+    };
+    println!(rt; "IN {e}: {queued} queued; OUT {e}: {turned_away} turned away; IN {stands}")
 }
 
 // A driver before start-up: no buffers, nothing under way.
-fn before_start_up() {
+fn before_start_up(rt: &impl Print) -> io::Result<()> {
     let mut s = [0u8; STATE_LEN];
     let mut slots = [0u8; 0];
     let mut time = [0u16; TIME_LEN];
-    print(b"continue before start-up\n");
+    println!(rt; "continue before start-up")?;
     let refused = calls::proceeds::proceed(&mut s, &mut slots, &mut time, 0, READING);
-    show(&s, refused);
-    print(b"microframe before start-up\n");
+    show(rt, &s, refused)?;
+    println!(rt; "microframe before start-up")?;
     let first = calls::begins::begin_microframe(&mut s);
-    run(&mut s, &mut slots, &mut time, first, false);
-    questions(&s, 1);
+    run(rt, &mut s, &mut slots, &mut time, first, false)?;
+    questions(rt, &s, 1)
 }
 
 // Allocates an endpoint with a maximum of 64 bytes and shows what is handed out.
-fn endpoint(s: &mut State, slots: &mut [u8], time: &mut Time, title: &[u8], dir: Dir, kind: u8) {
-    print(title);
+fn endpoint(
+    rt: &impl Print,
+    s: &mut State,
+    slots: &mut [u8],
+    time: &mut Time,
+    title: &str,
+    dir: Dir,
+    kind: u8,
+) -> io::Result<()> {
+    println!(rt; "{title}")?;
     let first = calls::starting::allocate(s, dir, kind, 256, 64, 1);
-    run(s, slots, time, first, false);
+    run(rt, s, slots, time, first, false)
 }
 
-fn enable(s: &mut State, slots: &mut [u8], time: &mut Time, title: &[u8], dir: Dir, e: u32) {
-    print(title);
+fn enable(
+    rt: &impl Print,
+    s: &mut State,
+    slots: &mut [u8],
+    time: &mut Time,
+    title: &str,
+    dir: Dir,
+    e: u32,
+) -> io::Result<()> {
+    println!(rt; "{title}")?;
     let first = calls::usbhs_bus_begins::begin_set_enabled(s, slots, time, 0, dir, e, true);
-    run(s, slots, time, first, false);
+    run(rt, s, slots, time, first, false)
 }
 
 // A driver on 21 buffers of 64 bytes, with an isochronous OUT and IN.
-fn started(s: &mut State, slots: &mut [u8], time: &mut Time) {
-    print(b"\nstart-up, 21 buffers of 64 bytes\n");
+fn started(rt: &impl Print, s: &mut State, slots: &mut [u8], time: &mut Time) -> io::Result<()> {
+    println!(rt; "\nstart-up, 21 buffers of 64 bytes")?;
     let first = calls::starting::start_up(s, slots, time, 0, 64, 21, false);
-    run(s, slots, time, first, false);
+    run(rt, s, slots, time, first, false)?;
     endpoint(
+        rt,
         s,
         slots,
         time,
-        b"\nallocate an isochronous OUT\n",
+        "\nallocate an isochronous OUT",
         Dir::Out,
         1,
-    );
+    )?;
     endpoint(
+        rt,
         s,
         slots,
         time,
-        b"\nallocate an isochronous IN\n",
+        "\nallocate an isochronous IN",
         Dir::In,
         1,
-    );
+    )
 }
 
 // A bulk pair and EP0.
-fn others(s: &mut State, slots: &mut [u8], time: &mut Time) {
-    endpoint(s, slots, time, b"\nallocate a bulk OUT\n", Dir::Out, 2);
-    endpoint(s, slots, time, b"\nallocate a bulk IN\n", Dir::In, 2);
-    print(b"\nstart EP0\n");
+fn others(rt: &impl Print, s: &mut State, slots: &mut [u8], time: &mut Time) -> io::Result<()> {
+    endpoint(rt, s, slots, time, "\nallocate a bulk OUT", Dir::Out, 2)?;
+    endpoint(rt, s, slots, time, "\nallocate a bulk IN", Dir::In, 2)?;
+    println!(rt; "\nstart EP0")?;
     let ep0 = calls::starting::start(s, 64);
-    run(s, slots, time, ep0, false);
+    run(rt, s, slots, time, ep0, false)
 }
 
-fn enabled(s: &mut State, slots: &mut [u8], time: &mut Time) {
-    print(b"\npull the bus up\n");
+fn enabled(rt: &impl Print, s: &mut State, slots: &mut [u8], time: &mut Time) -> io::Result<()> {
+    println!(rt; "\npull the bus up")?;
     let up = calls::usbhs_bus_begins::begin_bus_enable(s);
-    run(s, slots, time, up, false);
+    run(rt, s, slots, time, up, false)?;
     enable(
+        rt,
         s,
         slots,
         time,
-        b"\nenable the isochronous OUT\n",
+        "\nenable the isochronous OUT",
         Dir::Out,
         1,
-    );
-    enable(s, slots, time, b"\nenable the isochronous IN\n", Dir::In, 1);
-    enable(s, slots, time, b"\nenable the bulk OUT\n", Dir::Out, 2);
-    enable(s, slots, time, b"\nenable the bulk IN\n", Dir::In, 2);
+    )?;
+    enable(
+        rt,
+        s,
+        slots,
+        time,
+        "\nenable the isochronous IN",
+        Dir::In,
+        1,
+    )?;
+    enable(rt, s, slots, time, "\nenable the bulk OUT", Dir::Out, 2)?;
+    enable(rt, s, slots, time, "\nenable the bulk IN", Dir::In, 2)
 }
 
-fn time_in_use(time: &Time) {
-    print(b"\nbus time in use: ");
-    number(bus_time::in_use(time));
-    print(b" byte-times of 6,000\n");
+fn time_in_use(rt: &impl Print, time: &Time) -> io::Result<()> {
+    let in_use = bus_time::in_use(time);
+    println!(rt; "\nbus time in use: {in_use} byte-times of 6,000")
 }
 
 // The interrupt of a packet that the chip has stored in the first slot of OUT 1.
-fn served(s: &mut State, slots: &mut [u8], time: &mut Time) {
-    print(b"\nan interrupt: 4 bytes on the isochronous OUT\n");
+fn served(rt: &impl Print, s: &mut State, slots: &mut [u8], time: &mut Time) -> io::Result<()> {
+    println!(rt; "\nan interrupt: 4 bytes on the isochronous OUT")?;
     let first = calls::begins::begin_interrupt(s);
-    run(s, slots, time, first, true);
+    run(rt, s, slots, time, first, true)
 }
 
 // The packet is read where it lies.
-fn read(s: &mut State, slots: &[u8]) {
-    print(b"\nopen the oldest packet of OUT 1\n");
+fn read(rt: &impl Print, s: &mut State, slots: &[u8]) -> io::Result<()> {
+    println!(rt; "\nopen the oldest packet of OUT 1")?;
     let oldest = calls::in_place::open(s, slots, 1);
-    show(s, oldest);
-    print(b"\nclose it\n");
+    show(rt, s, oldest)?;
+    println!(rt; "\nclose it")?;
     let closed = calls::in_place::close(s, 1);
-    show(s, closed);
-    print(b"\nopen the next\n");
+    show(rt, s, closed)?;
+    println!(rt; "\nopen the next")?;
     let next = calls::in_place::open(s, slots, 1);
-    show(s, next);
+    show(rt, s, next)
 }
 
-fn main() {
-    before_start_up();
+fn main(rt: HostRuntime) -> io::Result<()> {
+    before_start_up(&rt)?;
     let mut s = [0u8; STATE_LEN];
     let mut slots = [0u8; 1344];
     let mut time = [0u16; TIME_LEN];
-    started(&mut s, &mut slots, &mut time);
-    others(&mut s, &mut slots, &mut time);
-    enabled(&mut s, &mut slots, &mut time);
-    time_in_use(&time);
+    started(&rt, &mut s, &mut slots, &mut time)?;
+    others(&rt, &mut s, &mut slots, &mut time)?;
+    enabled(&rt, &mut s, &mut slots, &mut time)?;
+    time_in_use(&rt, &time)?;
     slots[0] = 0x11;
     slots[1] = 0x22;
     slots[2] = 0x33;
     slots[3] = 0x44;
-    served(&mut s, &mut slots, &mut time);
-    read(&mut s, &slots);
+    served(&rt, &mut s, &mut slots, &mut time)?;
+    read(&rt, &mut s, &slots)
 }

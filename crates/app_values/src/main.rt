@@ -2,25 +2,16 @@
 #![tactic(auto)]
 
 use frame::{Frame, Index};
-use libc::STDOUT_FILENO;
-
-fn print(text: &[u8]) {
-    io::write_all(STDOUT_FILENO, text);
-}
+use std::io;
 
 // A line: what is asked, and the number answered.
-fn answer(question: &[u8], number: u16) {
-    print(question);
-    io::print_decimal(STDOUT_FILENO, number as u64);
-    print(b"\n");
+fn answer(rt: &impl Print, question: &str, number: u16) -> io::Result<()> {
+    println!(rt; "{question}: {number}")
 }
 
 // The same with a register's value, in hexadecimal.
-fn answer_register(question: &[u8], value: u16) {
-    print(question);
-    print(b"0x");
-    io::print_hex(STDOUT_FILENO, value as u64, 4);
-    print(b"\n");
+fn answer_register(rt: &impl Print, question: &str, value: u16) -> io::Result<()> {
+    println!(rt; "{question}: 0x{value:04x}")
 }
 
 fn index(register: u16) -> u16 {
@@ -36,22 +27,22 @@ fn advance(from: u16, to: u16) -> u16 {
     frame::completions(frame::frame_of_index(Index(from)), Index(to))
 }
 
-fn indices() {
-    answer(b"index of 0x0000: ", index(0x0000));
-    answer(b"index of 0xE7FF: ", index(0xE7FF));
-    answer(b"index of 0x1800: ", index(0x1800));
+fn indices(rt: &impl Print) -> io::Result<()> {
+    answer(rt, "index of 0x0000", index(0x0000))?;
+    answer(rt, "index of 0xE7FF", index(0xE7FF))?;
+    answer(rt, "index of 0x1800", index(0x1800))
 }
 
-fn registers() {
-    answer_register(b"frame of 9: ", register(9));
-    answer_register(b"frame of 16383: ", register(16383));
-    answer_register(b"frame of 16384: ", register(16384));
+fn registers(rt: &impl Print) -> io::Result<()> {
+    answer_register(rt, "frame of 9", register(9))?;
+    answer_register(rt, "frame of 16383", register(16383))?;
+    answer_register(rt, "frame of 16384", register(16384))
 }
 
-fn advances() {
-    answer(b"advance from 16383 to 1: ", advance(16383, 1));
-    answer(b"advance from 5 to 5: ", advance(5, 5));
-    answer(b"advance from 5 to 4: ", advance(5, 4));
+fn advances(rt: &impl Print) -> io::Result<()> {
+    answer(rt, "advance from 16383 to 1", advance(16383, 1))?;
+    answer(rt, "advance from 5 to 5", advance(5, 5))?;
+    answer(rt, "advance from 5 to 4", advance(5, 4))
 }
 
 // The length by marks of a packet stored in a marked slot whose maximum is 8.
@@ -62,19 +53,22 @@ fn length(packet: &[u8]) -> u16 {
     ring::marks::marked_len(&slot, 0, 8)
 }
 
-fn lengths() {
+fn lengths(rt: &impl Print) -> io::Result<()> {
     answer(
-        b"slot 01 02 03 04 C3 A5 3C 5A, length: ",
-        length(b"\x01\x02\x03\x04"),
-    );
+        rt,
+        "slot 01 02 03 04 C3 A5 3C 5A, length",
+        length(&[0x01, 0x02, 0x03, 0x04]),
+    )?;
     answer(
-        b"packet 01 02 03 04 C3 A5, length: ",
-        length(b"\x01\x02\x03\x04\xC3\xA5"),
-    );
+        rt,
+        "packet 01 02 03 04 C3 A5, length",
+        length(&[0x01, 0x02, 0x03, 0x04, 0xC3, 0xA5]),
+    )?;
     answer(
-        b"slot 01 02 03 04 05 A5 3C 5A, length: ",
-        length(b"\x01\x02\x03\x04\x05"),
-    );
+        rt,
+        "slot 01 02 03 04 05 A5 3C 5A, length",
+        length(&[0x01, 0x02, 0x03, 0x04, 0x05]),
+    )
 }
 
 // Does a packet, stored in the marked slot, arrive?
@@ -85,21 +79,19 @@ fn arrives(packet: &[u8]) -> bool {
     !ring::marks::is_marked(&slot, 0)
 }
 
-fn arrival(packet: &[u8]) {
+fn arrival(rt: &impl Print, question: &str, packet: &[u8]) -> io::Result<()> {
     if arrives(packet) {
-        print(b"an arrival\n");
+        println!(rt; "{question}: an arrival")
     } else {
-        print(b"no arrival\n");
+        println!(rt; "{question}: no arrival")
     }
 }
 
-fn main() {
-    indices();
-    registers();
-    advances();
-    lengths();
-    print(b"a packet of one byte: ");
-    arrival(b"\x01");
-    print(b"an empty packet: ");
-    arrival(b"");
+fn main(rt: HostRuntime) -> io::Result<()> {
+    indices(&rt)?;
+    registers(&rt)?;
+    advances(&rt)?;
+    lengths(&rt)?;
+    arrival(&rt, "a packet of one byte", &[0x01])?;
+    arrival(&rt, "an empty packet", &[])
 }

@@ -2,55 +2,63 @@
 use crate::registers;
 use crate::text::{hex, number, print};
 use regs::{Access, Reg};
+use std::io;
 
-fn register(reg: Reg, e: u8) {
-    registers::name(reg);
+// The endpoint of a register that there is one of for each.
+fn endpoint(rt: &impl Print, e: u8) -> io::Result<()> {
+    print(rt, b"(")?;
+    number(rt, e as u32)?;
+    print(rt, b")")
+}
+
+fn register(rt: &impl Print, reg: Reg, e: u8) -> io::Result<()> {
+    registers::name(rt, reg)?;
     if registers::has_endpoint(reg) {
-        print(b"(");
-        number(e as u32);
-        print(b")");
+        endpoint(rt, e)
+    } else {
+        Ok(())
     }
 }
 
-fn write(reg: Reg, e: u8, x: u32) {
-    print(b"write ");
-    register(reg, e);
-    print(b" = ");
-    registers::value(reg, x);
-    print(b"  ");
-    registers::meaning(reg, x);
+fn write(rt: &impl Print, reg: Reg, e: u8, x: u32) -> io::Result<()> {
+    print(rt, b"write ")?;
+    register(rt, reg, e)?;
+    print(rt, b" = ")?;
+    registers::value(rt, reg, x)?;
+    print(rt, b"  ")?;
+    registers::meaning(rt, reg, x)
 }
 
 // A buffer's address: an offset into the slots.
-fn address(what: &[u8], e: u8, x: u32, meaning: &[u8]) {
-    print(b"write ");
-    print(what);
+fn address(rt: &impl Print, what: &[u8], e: u8, x: u32, meaning: &[u8]) -> io::Result<()> {
+    print(rt, b"write ")?;
+    print(rt, what)?;
     if e != 0 {
-        print(b"(");
-        number(e as u32);
-        print(b")");
+        endpoint(rt, e)?;
     }
-    print(b" = ");
-    hex(x, 8);
-    print(meaning);
-    number(x);
+    print(rt, b" = ")?;
+    hex(rt, x, 8)?;
+    print(rt, meaning)?;
+    number(rt, x)
 }
 
-pub fn access(q: Access) {
+fn wait(rt: &impl Print, microseconds: u8) -> io::Result<()> {
+    print(rt, b"wait ")?;
+    number(rt, microseconds as u32)?;
+    print(rt, b" us")
+}
+
+pub fn access(rt: &impl Print, q: Access) -> io::Result<()> {
     match q {
         Access::Read(reg, e) => {
-            print(b"read ");
-            register(reg, e);
+            print(rt, b"read ")?;
+            register(rt, reg, e)
         }
-        Access::Write(reg, e, x) => write(reg, e, x),
-        Access::Receive(e, x) => address(b"ep_rx_dma", e, x, b"  receives at slot byte "),
-        Access::Transmit(e, x) => address(b"ep_tx_dma", e, x, b"  sends from slot byte "),
-        Access::Ep0Dma(x) => address(b"ep0_dma", 0, x, b"  EP0's buffer at slot byte "),
-        Access::Wait(n) => {
-            print(b"wait ");
-            number(n as u32);
-            print(b" us");
-        }
-        Access::Callback => print(b"start-of-frame callback"),
+        Access::Write(reg, e, x) => write(rt, reg, e, x),
+        Access::Receive(e, x) => address(rt, b"ep_rx_dma", e, x, b"  receives at slot byte "),
+        Access::Transmit(e, x) => address(rt, b"ep_tx_dma", e, x, b"  sends from slot byte "),
+        Access::Ep0Dma(x) => address(rt, b"ep0_dma", 0, x, b"  EP0's buffer at slot byte "),
+        Access::Wait(n) => wait(rt, n),
+        Access::Callback => print(rt, b"start-of-frame callback"),
     }
 }

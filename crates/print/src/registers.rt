@@ -1,25 +1,26 @@
 // The registers as a person reads them: the name, the value's digits, what the value says.
 use crate::text::{endpoints, hex, item, items, none, number, print};
 use regs::Reg;
+use std::io;
 
-pub fn name(reg: Reg) {
+pub fn name(rt: &impl Print, reg: Reg) -> io::Result<()> {
     match reg {
-        Reg::IntFg => print(b"int_fg"),
-        Reg::IntSt => print(b"int_st"),
-        Reg::MisSt => print(b"mis_st"),
-        Reg::RxLen => print(b"rx_len"),
-        Reg::FrameNo => print(b"frame_no"),
-        Reg::Ctrl => print(b"ctrl"),
-        Reg::IntEn => print(b"int_en"),
-        Reg::DevAd => print(b"dev_ad"),
-        Reg::HostCtrl => print(b"host_ctrl"),
-        Reg::EpConfig => print(b"ep_config"),
-        Reg::EpType => print(b"ep_type"),
-        Reg::EpBufMod => print(b"ep_buf_mod"),
-        Reg::EpMaxLen => print(b"ep_max_len"),
-        Reg::EpTLen => print(b"ep_t_len"),
-        Reg::EpRxCtrl => print(b"ep_rx_ctrl"),
-        Reg::EpTxCtrl => print(b"ep_tx_ctrl"),
+        Reg::IntFg => print(rt, b"int_fg"),
+        Reg::IntSt => print(rt, b"int_st"),
+        Reg::MisSt => print(rt, b"mis_st"),
+        Reg::RxLen => print(rt, b"rx_len"),
+        Reg::FrameNo => print(rt, b"frame_no"),
+        Reg::Ctrl => print(rt, b"ctrl"),
+        Reg::IntEn => print(rt, b"int_en"),
+        Reg::DevAd => print(rt, b"dev_ad"),
+        Reg::HostCtrl => print(rt, b"host_ctrl"),
+        Reg::EpConfig => print(rt, b"ep_config"),
+        Reg::EpType => print(rt, b"ep_type"),
+        Reg::EpBufMod => print(rt, b"ep_buf_mod"),
+        Reg::EpMaxLen => print(rt, b"ep_max_len"),
+        Reg::EpTLen => print(rt, b"ep_t_len"),
+        Reg::EpRxCtrl => print(rt, b"ep_rx_ctrl"),
+        Reg::EpTxCtrl => print(rt, b"ep_tx_ctrl"),
     }
 }
 
@@ -34,90 +35,100 @@ pub fn has_endpoint(reg: Reg) -> bool {
     }
 }
 
-pub fn value(reg: Reg, x: u32) {
+pub fn value(rt: &impl Print, reg: Reg, x: u32) -> io::Result<()> {
     match reg {
-        Reg::EpConfig => hex(x, 8),
-        Reg::EpType => hex(x, 8),
-        Reg::EpBufMod => hex(x, 8),
-        Reg::EpMaxLen => hex(x, 4),
-        Reg::EpTLen => hex(x, 4),
-        _ => hex(x, 2),
+        Reg::EpConfig => hex(rt, x, 8),
+        Reg::EpType => hex(rt, x, 8),
+        Reg::EpBufMod => hex(rt, x, 8),
+        Reg::EpMaxLen => hex(rt, x, 4),
+        Reg::EpTLen => hex(rt, x, 4),
+        _ => hex(rt, x, 2),
     }
 }
 
-fn flags(x: u32) {
-    print(b"clears ");
+fn flags(rt: &impl Print, x: u32) -> io::Result<()> {
+    print(rt, b"clears ")?;
     items(
+        rt,
         x,
         b"bus reset,transfer,suspend,host start of frame,FIFO overflow,setup,",
-    );
+    )
 }
 
-fn control(x: u32) {
+fn control(rt: &impl Print, x: u32) -> io::Result<()> {
     items(
+        rt,
         x,
         b"clear all,reset the SIE,NAK while an interrupt waits,DMA,high speed,pull-up,",
-    );
+    )
 }
 
-fn enables(x: u32) {
-    print(b"interrupts: ");
+fn enables(rt: &impl Print, x: u32) -> io::Result<()> {
+    print(rt, b"interrupts: ")?;
     items(
+        rt,
         x,
         b"NAK,FIFO overflow,setup,suspend,bus reset,transfer,start of frame,",
-    );
+    )
 }
 
 // bit e: IN e, bit 16 + e: OUT e
-fn both(what: &[u8], x: u32) {
-    print(what);
-    let a = endpoints(regs::enables::out_enabled(x, 0xFFFF), b"OUT ", false);
-    none(endpoints(regs::enables::in_enabled(x, 0xFFFF), b"IN ", a));
+fn both(rt: &impl Print, what: &[u8], x: u32) -> io::Result<()> {
+    print(rt, what)?;
+    let outs = endpoints(rt, regs::enables::out_enabled(x, 0xFFFF), b"OUT ", false)?;
+    let any = endpoints(rt, regs::enables::in_enabled(x, 0xFFFF), b"IN ", outs)?;
+    none(rt, any)
 }
 
-fn response(x: u32) {
+fn response(rt: &impl Print, x: u32) -> io::Result<()> {
     match x & 3 {
-        0 => print(b"ACK"),
-        1 => print(b"isochronous, no handshake"),
-        2 => print(b"NAK"),
-        _ => print(b"STALL"),
+        0 => print(rt, b"ACK"),
+        1 => print(rt, b"isochronous, no handshake"),
+        2 => print(rt, b"NAK"),
+        _ => print(rt, b"STALL"),
     }
 }
 
-fn control_word(x: u32) {
-    response(x);
+fn toggle(rt: &impl Print, x: u32) -> io::Result<()> {
     match x >> 2 & 3 {
-        0 => print(b""),
-        1 => print(b", DATA1"),
-        _ => print(b", other toggle"),
+        0 => Ok(()),
+        1 => print(rt, b", DATA1"),
+        _ => print(rt, b", other toggle"),
     }
-    item(x, 4, b"automatic toggle", true);
 }
 
-fn length(x: u32) {
-    number(x);
-    print(b" bytes");
+fn control_word(rt: &impl Print, x: u32) -> io::Result<()> {
+    response(rt, x)?;
+    toggle(rt, x)?;
+    item(rt, x, 4, b"automatic toggle", true)?;
+    Ok(())
 }
 
-pub fn meaning(reg: Reg, x: u32) {
+fn length(rt: &impl Print, x: u32) -> io::Result<()> {
+    number(rt, x)?;
+    print(rt, b" bytes")
+}
+
+pub fn meaning(rt: &impl Print, reg: Reg, x: u32) -> io::Result<()> {
     match reg {
-        Reg::IntFg => flags(x),
-        Reg::Ctrl => control(x),
-        Reg::IntEn => enables(x),
+        Reg::IntFg => flags(rt, x),
+        Reg::Ctrl => control(rt, x),
+        Reg::IntEn => enables(rt, x),
         Reg::DevAd => {
-            print(b"device address ");
-            number(x);
+            print(rt, b"device address ")?;
+            number(rt, x)
         }
         Reg::HostCtrl => {
-            item(x, 0, b"the PHY is awake", false);
+            item(rt, x, 0, b"the PHY is awake", false)?;
+            Ok(())
         }
-        Reg::EpConfig => both(b"enabled: ", x),
-        Reg::EpType => both(b"isochronous: ", x),
-        Reg::EpBufMod => print(b"one buffer for each direction"),
-        Reg::EpMaxLen => length(x),
-        Reg::EpTLen => length(x),
-        Reg::EpRxCtrl => control_word(x),
-        Reg::EpTxCtrl => control_word(x),
-        _ => {}
+        Reg::EpConfig => both(rt, b"enabled: ", x),
+        Reg::EpType => both(rt, b"isochronous: ", x),
+        Reg::EpBufMod => print(rt, b"one buffer for each direction"),
+        Reg::EpMaxLen => length(rt, x),
+        Reg::EpTLen => length(rt, x),
+        Reg::EpRxCtrl => control_word(rt, x),
+        Reg::EpTxCtrl => control_word(rt, x),
+        _ => Ok(())
     }
 }

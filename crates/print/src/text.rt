@@ -1,70 +1,67 @@
-use libc::STDOUT_FILENO;
+use std::io;
 
 const COMMA: u8 = 0x2C;
 
-pub fn print(text: &[u8]) {
-    io::write_all(STDOUT_FILENO, text);
+// The most digits that `hex` fills up with zeros.
+const WIDEST: usize = 16;
+
+pub fn print(rt: &impl Print, text: &[u8]) -> io::Result<()> {
+    rt.write_all(text)
 }
 
-pub fn number(n: u32) {
-    io::print_decimal(STDOUT_FILENO, n as u64);
+pub fn number(rt: &impl Print, n: u32) -> io::Result<()> {
+    print!(rt; "{n}")
 }
 
-pub fn hex(n: u32, digits: usize) {
-    print(b"0x");
-    io::print_hex(STDOUT_FILENO, n as u64, digits);
+pub fn hex(rt: &impl Print, n: u32, digits: usize) -> io::Result<()> {
+    let width = digits.min(WIDEST);
+    print!(rt; "0x{n:0width$x}")
 }
 
 // An item of a list, where the word has its bit. `some`: the list has one already.
-pub fn item(word: u32, bit: u8, name: &[u8], some: bool) -> bool {
+pub fn item(rt: &impl Print, word: u32, bit: u8, name: &[u8], some: bool) -> io::Result<bool> {
     if bits::is_set(word, bit) {
         if some {
-            print(b", ");
+            print(rt, b", ")?;
         }
-        print(name);
-        return true;
+        print(rt, name)?;
+        return Ok(true);
     }
-    some
+    Ok(some)
 }
 
 // The same for endpoints: those of the mask, each with its direction.
-pub fn endpoints(mask: u16, direction: &[u8], some: bool) -> bool {
+pub fn endpoints(rt: &impl Print, mask: u16, direction: &[u8], some: bool) -> io::Result<bool> {
     let mut any = some;
-    let mut e: u8 = 0;
-    while e < 16 {
+    for e in 0..16u8 {
         if bits::mask_has(mask, e) {
             if any {
-                print(b", ");
+                print(rt, b", ")?;
             }
-            print(direction);
-            number(e as u32);
+            print(rt, direction)?;
+            number(rt, e as u32)?;
             any = true;
         }
-        e += 1;
     }
-    any
+    Ok(any)
 }
 
 // A list that has nothing.
-pub fn none(some: bool) {
-    if !some {
-        print(b"none");
-    }
+pub fn none(rt: &impl Print, some: bool) -> io::Result<()> {
+    if some { Ok(()) } else { print(rt, b"none") }
 }
 
 // The names of a word's bits that are set, or none: `names` has them from bit 0 on, each with a comma behind it.
-pub fn items(word: u32, names: &[u8]) {
+pub fn items(rt: &impl Print, word: u32, names: &[u8]) -> io::Result<()> {
     let mut some = false;
     let mut bit: u8 = 0;
     let mut from = 0;
-    let mut i = 0;
-    while i < names.len() {
+    for i in 0..names.len() {
         if names[i] == COMMA {
-            some = item(word, bit, &names[from..i], some);
+            some = item(rt, word, bit, &names[from..i], some)?;
             bit = (bit + 1) % 32;
             from = i + 1;
         }
-        i += 1;
     }
-    none(some);
+    none(rt, some)
 }

@@ -1,6 +1,6 @@
-// The calls that take no driver, for programs in other languages (include/usbhs_survey.h): the best set of channels,
-// the arrivals between visits, packets on the card, a configuration descriptor's endpoints. Any numbers are safe. Each
-// call answers one word; where it is refused, nothing is written.
+// The calls that take no driver, for programs in other languages (include/usbhs_survey.h), which crate survey_exports
+// exports: the best set of channels, the arrivals between visits, packets on the card, a configuration descriptor's
+// endpoints. Any numbers are safe. Each call answers one word; where it is refused, nothing is written.
 #![tactic(auto)]
 
 mod rooms; // rooms.rt: an answer's numbers in the caller's rooms
@@ -40,8 +40,7 @@ use writer::{endpoint_of, numbers_of, result_of, writer_in};
 
 // The best set of the channels in the list, with the bus time that is in use: its count is the end's result; beside it
 // the total of its maxima, a figure that no fitting set exceeds and how many sets were looked at.
-#[unsafe(no_mangle)]
-pub extern "C" fn usbhs_best_set(
+pub fn usbhs_best_set(
     list: &mut [Channel],
     time: &Time,
     budget: u32,
@@ -60,8 +59,7 @@ pub extern "C" fn usbhs_best_set(
 
 // The least and the greatest number of arrivals between two visits, each with a first arrival and a distance that reach
 // it.
-#[unsafe(no_mangle)]
-pub extern "C" fn usbhs_between_visits(
+pub fn usbhs_between_visits(
     a: u32,
     b: u32,
     c: u32,
@@ -86,16 +84,14 @@ pub extern "C" fn usbhs_between_visits(
 }
 
 // The data CRC of USB 2.0 over these bytes, the first bit sent being bit 0.
-#[unsafe(no_mangle)]
-pub extern "C" fn usbhs_data_crc(bytes: &[u8]) -> u32
+pub fn usbhs_data_crc(bytes: &[u8]) -> u32
     ensures { result ≡ data_crc bytes.now }
 {
     card::crc::data_crc(bytes) as u32
 }
 
 // A writer at the start of a stream.
-#[unsafe(no_mangle)]
-pub extern "C" fn usbhs_card_new(writer: &mut [u32; 4])
+pub fn usbhs_card_new(writer: &mut [u32; 4])
     ensures { writer.new ≡ numbers_of new_writer }
 {
     let numbers = numbers_of(card::writing::new());
@@ -103,13 +99,7 @@ pub extern "C" fn usbhs_card_new(writer: &mut [u32; 4])
 }
 
 // Writes a piece of a packet into the lent block.
-#[unsafe(no_mangle)]
-pub extern "C" fn usbhs_card_write(
-    writer: &mut [u32; 4],
-    block: &mut [u8],
-    endpoint: u32,
-    bytes: &[u8],
-) -> u64
+pub fn usbhs_card_write(writer: &mut [u32; 4], block: &mut [u8], endpoint: u32, bytes: &[u8]) -> u64
     ensures value { result ≡ wrote_word (write_of (writer_in writer.old) (packet_of endpoint bytes.now)
         block.old) }
     ensures writer_after { writer.new ≡ writer_by
@@ -130,8 +120,7 @@ pub extern "C" fn usbhs_card_write(
 }
 
 // Fills the last block with zeros: 1, it is to be stored; 0, there is none.
-#[unsafe(no_mangle)]
-pub extern "C" fn usbhs_card_finish(writer: &[u32; 4], block: &mut [u8]) -> u64
+pub fn usbhs_card_finish(writer: &[u32; 4], block: &mut [u8]) -> u64
     ensures value { result ≡ finished_word (finish_of (writer_in writer.now) block.old) }
     ensures block_after { block.new ≡ last_of (writer_in writer.now) block.old }
 {
@@ -143,8 +132,7 @@ pub extern "C" fn usbhs_card_finish(writer: &[u32; 4], block: &mut [u8]) -> u64
 }
 
 // A survey begins on a card that is written over: block 0 of the room is to be stored.
-#[unsafe(no_mangle)]
-pub extern "C" fn usbhs_recorder_begin(state: &mut [u32; 6], room: &mut [u8], survey: u32) -> u64
+pub fn usbhs_recorder_begin(state: &mut [u32; 6], room: &mut [u8], survey: u32) -> u64
     ensures value { result ≡ recorded_word (begin_of survey room.old) }
     ensures state_after { state.new ≡ recorder_by (begin_of survey room.old) state.old }
     ensures room_after { room.new ≡ begin_room survey room.old }
@@ -160,8 +148,7 @@ pub extern "C" fn usbhs_recorder_begin(state: &mut [u32; 6], room: &mut [u8], su
 }
 
 // Records a packet: ends with how many blocks are to be stored, the last of them first.
-#[unsafe(no_mangle)]
-pub extern "C" fn usbhs_record(
+pub fn usbhs_record(
     state: &mut [u32; 6],
     room: &mut [u8],
     endpoint: u32,
@@ -189,8 +176,7 @@ pub extern "C" fn usbhs_record(
 }
 
 // Brings what is not stored yet to the card: ends with how many blocks are to be stored, the last of them first.
-#[unsafe(no_mangle)]
-pub extern "C" fn usbhs_recorder_finish(state: &mut [u32; 6], room: &mut [u8], overruns: u32) -> u64
+pub fn usbhs_recorder_finish(state: &mut [u32; 6], room: &mut [u8], overruns: u32) -> u64
     ensures value { result ≡ recorded_word (finishedBy (recorder_in state.old) room.old) }
     ensures state_after { state.new
         ≡ recorder_by (finishedBy (recorder_in state.old) room.old) state.old }
@@ -207,8 +193,7 @@ pub extern "C" fn usbhs_recorder_finish(state: &mut [u32; 6], room: &mut [u8], o
 }
 
 // The block that was to be stored first is stored: ends with how many are left.
-#[unsafe(no_mangle)]
-pub extern "C" fn usbhs_recorder_stored(state: &mut [u32; 6]) -> u64
+pub fn usbhs_recorder_stored(state: &mut [u32; 6]) -> u64
     ensures value { result ≡ end_word (stored_of (recorder_in state.old)).left }
     ensures state_after { state.new ≡ recorder_numbers (stored_of (recorder_in state.old)) }
 {
@@ -219,8 +204,7 @@ pub extern "C" fn usbhs_recorder_stored(state: &mut [u32; 6]) -> u64
 }
 
 // The place at which a reader of this stream starts.
-#[unsafe(no_mangle)]
-pub extern "C" fn usbhs_card_start(stream: &[u8], place: &mut usize) -> u64
+pub fn usbhs_card_start(stream: &[u8], place: &mut usize) -> u64
     ensures value { result ≡ started_word (start_of stream.now) }
     ensures place_after { place.new ≡ start_by (start_of stream.now) place.old }
 {
@@ -234,13 +218,7 @@ pub extern "C" fn usbhs_card_start(stream: &[u8], place: &mut usize) -> u64
 }
 
 // The next packet at the room's front, with its endpoint, and the place behind it; or the end.
-#[unsafe(no_mangle)]
-pub extern "C" fn usbhs_card_next(
-    stream: &[u8],
-    place: &mut usize,
-    endpoint: &mut u32,
-    room: &mut [u8],
-) -> u64
+pub fn usbhs_card_next(stream: &[u8], place: &mut usize, endpoint: &mut u32, room: &mut [u8]) -> u64
     ensures value { result ≡ next_word (next_of stream.now place.old (length room.old)) }
     ensures place_after { place.new ≡ place_by (next_of stream.now place.old
         (length room.old)) place.old }
@@ -267,8 +245,7 @@ pub extern "C" fn usbhs_card_next(
 
 // As many packets from the place on as the room holds, one behind the other as they stand on the card: what as many
 // calls of usbhs_card_next give.
-#[unsafe(no_mangle)]
-pub extern "C" fn usbhs_card_read(
+pub fn usbhs_card_read(
     stream: &[u8],
     place: &mut usize,
     room: &mut [u8],
@@ -306,8 +283,7 @@ pub extern "C" fn usbhs_card_read(
 }
 
 // The endpoints of a configuration descriptor written out as one interface, alternate setting 0.
-#[unsafe(no_mangle)]
-pub extern "C" fn usbhs_write_descriptor(bytes: &[u8], room: &mut [u8]) -> u64
+pub fn usbhs_write_descriptor(bytes: &[u8], room: &mut [u8]) -> u64
     ensures value { result ≡ written_word (rewritten_of bytes.now room.old) }
     ensures room_after { room.new ≡ room_rewritten bytes.now room.old }
 {

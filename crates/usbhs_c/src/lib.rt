@@ -1,5 +1,5 @@
-// The driver's calls for programs in other languages (include/usbhs.h): a direction is 0 for OUT, else IN, a flag 0 for
-// no, else yes, and any number is safe. Each call answers one word (crate `call_answer_word`), a question its number.
+// The driver's calls for programs in other languages (include/usbhs.h), which crate usbhs_exports exports: a direction
+// is 0 for OUT, else IN, a flag 0 for no, else yes, and any number is safe. Each call answers one word (crate `call_answer_word`), a question its number.
 // `time` is the record of bus time that up to four drivers share, `driver` the caller's number in it, modulo 4.
 #![tactic(auto)]
 
@@ -39,8 +39,7 @@ use state::State;
 use woken::list_into;
 
 // Start-up on any state, with the buffer's size and count and whether there is a start-of-frame callback.
-#[unsafe(no_mangle)]
-pub extern "C" fn usbhs_start_up(
+pub fn usbhs_start_up(
     s: &mut State,
     slots: &[u8],
     time: &mut Time,
@@ -56,8 +55,7 @@ pub extern "C" fn usbhs_start_up(
 }
 
 // An endpoint; its kind counts modulo 4, and an address of 256 or more asks for none.
-#[unsafe(no_mangle)]
-pub extern "C" fn usbhs_allocate(
+pub fn usbhs_allocate(
     s: &mut State,
     kind: u32,
     address: u32,
@@ -71,8 +69,7 @@ pub extern "C" fn usbhs_allocate(
 }
 
 // EP0's start, with its maximum.
-#[unsafe(no_mangle)]
-pub extern "C" fn usbhs_start(s: &mut State, maximum: u32) -> u64
+pub fn usbhs_start(s: &mut State, maximum: u32) -> u64
     ensures { Answers result (begin (other (Start maximum))) s.old s.new }
 {
     word_of(calls::starting::start(s, maximum))
@@ -89,8 +86,7 @@ fn operation_word(s: &mut State, slots: &mut [u8], time: &mut Time, driver: u32,
 
 // Goes on with the operation under way, with the number brought. An interrupt answers its word by itself, and leaves
 // the record of bus time.
-#[unsafe(no_mangle)]
-pub extern "C" fn usbhs_continue(
+pub fn usbhs_continue(
     s: &mut State,
     slots: &mut [u8],
     time: &mut Time,
@@ -107,85 +103,70 @@ pub extern "C" fn usbhs_continue(
 }
 
 // The current microframe number.
-#[unsafe(no_mangle)]
-pub extern "C" fn usbhs_begin_microframe(s: &mut State) -> u64
+pub fn usbhs_begin_microframe(s: &mut State) -> u64
     ensures { Answers result (begin (other Microframe)) s.old s.new }
 {
     word_of(calls::begins::begin_microframe(s))
 }
 
 // Whether advance moves the IN endpoint on.
-#[unsafe(no_mangle)]
-pub extern "C" fn usbhs_set_paced(s: &mut State, endpoint: u32, paced: u32) -> u64
+pub fn usbhs_set_paced(s: &mut State, endpoint: u32, paced: u32) -> u64
     ensures { AnswersAtOnce result (begin (other (SetPaced endpoint (flag_of paced)))) s.old s.new }
 {
     word_of(calls::begins::set_paced(s, endpoint, flag_of(paced)))
 }
 
 // The paced IN endpoint moved on.
-#[unsafe(no_mangle)]
-pub extern "C" fn usbhs_begin_advance(s: &mut State, endpoint: u32) -> u64
+pub fn usbhs_begin_advance(s: &mut State, endpoint: u32) -> u64
     ensures { Answers result (begin (other (Advance endpoint))) s.old s.new }
 {
     word_of(calls::begins::begin_advance(s, endpoint))
 }
 
 // The interrupt: while it is under way packets may be opened, closed and queued.
-#[unsafe(no_mangle)]
-pub extern "C" fn usbhs_begin_interrupt(s: &mut State) -> u64
+pub fn usbhs_begin_interrupt(s: &mut State) -> u64
     ensures { Answers result (begin interrupt) s.old s.new }
 {
     word_of(calls::begins::begin_interrupt(s))
 }
 
 // Pulls the bus up.
-#[unsafe(no_mangle)]
-pub extern "C" fn usbhs_begin_bus_enable(s: &mut State) -> u64
+pub fn usbhs_begin_bus_enable(s: &mut State) -> u64
     ensures { Answers result (begin (other BusEnable)) s.old s.new }
 {
     word_of(calls::usbhs_bus_begins::begin_bus_enable(s))
 }
 
 // Nothing, as in the Rust.
-#[unsafe(no_mangle)]
-pub extern "C" fn usbhs_begin_bus_disable(s: &mut State) -> u64
+pub fn usbhs_begin_bus_disable(s: &mut State) -> u64
     ensures { Answers result (begin (other BusDisable)) s.old s.new }
 {
     word_of(calls::usbhs_bus_begins::begin_bus_disable(s))
 }
 
 // The bus's event: 0 not yet, 1 power detected, 2 reset, 3 suspend, 4 resume.
-#[unsafe(no_mangle)]
-pub extern "C" fn usbhs_begin_bus_poll(s: &mut State) -> u64
+pub fn usbhs_begin_bus_poll(s: &mut State) -> u64
     ensures { Answers result (begin (other BusPoll)) s.old s.new }
 {
     word_of(calls::usbhs_bus_begins::begin_bus_poll(s))
 }
 
 // Whether the endpoint answers STALL: 1 or 0.
-#[unsafe(no_mangle)]
-pub extern "C" fn usbhs_begin_is_stalled(s: &mut State, endpoint: u32, dir: u32) -> u64
+pub fn usbhs_begin_is_stalled(s: &mut State, endpoint: u32, dir: u32) -> u64
     ensures { Answers result (begin (other (IsStalled (dir_of dir) endpoint))) s.old s.new }
 {
     word_of(calls::usbhs_bus_begins::begin_is_stalled(s, dir_of(dir), endpoint))
 }
 
 // The endpoint stalled or restarted.
-#[unsafe(no_mangle)]
-pub extern "C" fn usbhs_begin_set_stalled(
-    s: &mut State,
-    endpoint: u32,
-    dir: u32,
-    stalled: u32,
-) -> u64
+pub fn usbhs_begin_set_stalled(s: &mut State, endpoint: u32, dir: u32, stalled: u32) -> u64
     ensures { Answers result (begin (other (SetStalled (dir_of dir) endpoint (flag_of stalled)))) s.old s.new }
 {
     word_of(calls::usbhs_bus_begins::begin_set_stalled(s, dir_of(dir), endpoint, flag_of(stalled)))
 }
 
 // The endpoint enabled or disabled.
-#[unsafe(no_mangle)]
-pub extern "C" fn usbhs_begin_set_enabled(
+pub fn usbhs_begin_set_enabled(
     s: &mut State,
     slots: &mut [u8],
     time: &mut Time,
@@ -209,21 +190,14 @@ pub extern "C" fn usbhs_begin_set_enabled(
 }
 
 // A packet awaited from the host, into a slice of that length.
-#[unsafe(no_mangle)]
-pub extern "C" fn usbhs_begin_read(s: &mut State, endpoint: u32, length: u32) -> u64
+pub fn usbhs_begin_read(s: &mut State, endpoint: u32, length: u32) -> u64
     ensures { Answers result (begin (other (BeginRead endpoint length))) s.old s.new }
 {
     word_of(calls::requests::begin_read(s, endpoint, length))
 }
 
 // The packet at the slice's front.
-#[unsafe(no_mangle)]
-pub extern "C" fn usbhs_poll_read(
-    s: &mut State,
-    slots: &[u8],
-    endpoint: u32,
-    slice: &mut [u8],
-) -> u64
+pub fn usbhs_poll_read(s: &mut State, slots: &[u8], endpoint: u32, slice: &mut [u8]) -> u64
     ensures { AnswersOutOf result (begin (slotted (PollRead endpoint (length slice.old))))
         s.old s.new slots.now slice.old slice.new }
 {
@@ -231,13 +205,7 @@ pub extern "C" fn usbhs_poll_read(
 }
 
 // A packet for the host.
-#[unsafe(no_mangle)]
-pub extern "C" fn usbhs_begin_write(
-    s: &mut State,
-    slots: &mut [u8],
-    endpoint: u32,
-    bytes: &[u8],
-) -> u64
+pub fn usbhs_begin_write(s: &mut State, slots: &mut [u8], endpoint: u32, bytes: &[u8]) -> u64
     ensures { AnswersLent result (begin (slotted (BeginWrite endpoint bytes.now)))
         s.old s.new slots.old slots.new }
 {
@@ -245,13 +213,7 @@ pub extern "C" fn usbhs_begin_write(
 }
 
 // Whether the host has taken it, or, of an isochronous endpoint, whether it is queued.
-#[unsafe(no_mangle)]
-pub extern "C" fn usbhs_poll_write(
-    s: &mut State,
-    slots: &mut [u8],
-    endpoint: u32,
-    bytes: &[u8],
-) -> u64
+pub fn usbhs_poll_write(s: &mut State, slots: &mut [u8], endpoint: u32, bytes: &[u8]) -> u64
     ensures { AnswersLent result (begin (slotted (PollWrite endpoint bytes.now)))
         s.old s.new slots.old slots.new }
 {
@@ -259,32 +221,28 @@ pub extern "C" fn usbhs_poll_write(
 }
 
 // Setup begun: its poll waits for a setup packet.
-#[unsafe(no_mangle)]
-pub extern "C" fn usbhs_begin_setup(s: &mut State) -> u64
+pub fn usbhs_begin_setup(s: &mut State) -> u64
     ensures { Answers result (begin (other BeginSetup)) s.old s.new }
 {
     word_of(calls::control_begins::begin_setup(s))
 }
 
 // The setup packet's 8 bytes.
-#[unsafe(no_mangle)]
-pub extern "C" fn usbhs_poll_setup(s: &mut State, packet: &mut [u8; 8]) -> u64
+pub fn usbhs_poll_setup(s: &mut State, packet: &mut [u8; 8]) -> u64
     ensures { AnswersInto result (begin (other PollSetup)) s.old s.new packet.old packet.new }
 {
     setup_word(packet, calls::control_polls::poll_setup(s))
 }
 
 // A packet of data awaited from the host, into a slice of that length; the first of its stage or a later one.
-#[unsafe(no_mangle)]
-pub extern "C" fn usbhs_begin_data_out(s: &mut State, length: u32, first: u32) -> u64
+pub fn usbhs_begin_data_out(s: &mut State, length: u32, first: u32) -> u64
     ensures { Answers result (begin (other (BeginDataOut length (flag_of first)))) s.old s.new }
 {
     word_of(calls::control_begins::begin_data_out(s, length, flag_of(first)))
 }
 
 // The packet at the slice's front.
-#[unsafe(no_mangle)]
-pub extern "C" fn usbhs_poll_data_out(s: &mut State, slots: &[u8], slice: &mut [u8]) -> u64
+pub fn usbhs_poll_data_out(s: &mut State, slots: &[u8], slice: &mut [u8]) -> u64
     ensures { AnswersOutOf result (begin (slotted (PollDataOut (length slice.old))))
         s.old s.new slots.now slice.old slice.new }
 {
@@ -292,8 +250,7 @@ pub extern "C" fn usbhs_poll_data_out(s: &mut State, slots: &[u8], slice: &mut [
 }
 
 // A packet of data for the host, with whether it is its stage's first and its last.
-#[unsafe(no_mangle)]
-pub extern "C" fn usbhs_begin_data_in(
+pub fn usbhs_begin_data_in(
     s: &mut State,
     slots: &mut [u8],
     bytes: &[u8],
@@ -307,48 +264,42 @@ pub extern "C" fn usbhs_begin_data_in(
 }
 
 // Whether the host has taken it.
-#[unsafe(no_mangle)]
-pub extern "C" fn usbhs_poll_data_in(s: &mut State) -> u64
+pub fn usbhs_poll_data_in(s: &mut State) -> u64
     ensures { Answers result (begin (other PollDataIn)) s.old s.new }
 {
     word_of(calls::control_polls::poll_data_in(s))
 }
 
 // The request accepted.
-#[unsafe(no_mangle)]
-pub extern "C" fn usbhs_begin_accept(s: &mut State) -> u64
+pub fn usbhs_begin_accept(s: &mut State) -> u64
     ensures { Answers result (begin (other BeginAccept)) s.old s.new }
 {
     word_of(calls::control_begins::begin_accept(s))
 }
 
 // The same, and then the address modulo 128 taken.
-#[unsafe(no_mangle)]
-pub extern "C" fn usbhs_begin_accept_set_address(s: &mut State, address: u32) -> u64
+pub fn usbhs_begin_accept_set_address(s: &mut State, address: u32) -> u64
     ensures { Answers result (begin (other (BeginAcceptSetAddress address))) s.old s.new }
 {
     word_of(calls::control_begins::begin_accept_set_address(s, address))
 }
 
 // Whether the status stage is over; it hands out the address's write.
-#[unsafe(no_mangle)]
-pub extern "C" fn usbhs_poll_accept(s: &mut State) -> u64
+pub fn usbhs_poll_accept(s: &mut State) -> u64
     ensures { Answers result (begin (other PollAccept)) s.old s.new }
 {
     word_of(calls::control_polls::poll_accept(s))
 }
 
 // The request refused: EP0 stalled.
-#[unsafe(no_mangle)]
-pub extern "C" fn usbhs_begin_reject(s: &mut State) -> u64
+pub fn usbhs_begin_reject(s: &mut State) -> u64
     ensures { Answers result (begin (other BeginReject)) s.old s.new }
 {
     word_of(calls::control_begins::begin_reject(s))
 }
 
 // The isochronous OUT endpoint's oldest packet shown in its slot, with its stamp.
-#[unsafe(no_mangle)]
-pub extern "C" fn usbhs_open(s: &mut State, slots: &[u8], endpoint: u32, stamp: &mut u16) -> u64
+pub fn usbhs_open(s: &mut State, slots: &[u8], endpoint: u32, stamp: &mut u16) -> u64
     ensures { AnswersOpen result endpoint s.old s.new slots.now stamp.old stamp.new }
 {
     let step = calls::in_place::open(s, slots, endpoint);
@@ -357,16 +308,14 @@ pub extern "C" fn usbhs_open(s: &mut State, slots: &[u8], endpoint: u32, stamp: 
 }
 
 // Its slot given back.
-#[unsafe(no_mangle)]
-pub extern "C" fn usbhs_close(s: &mut State, endpoint: u32) -> u64
+pub fn usbhs_close(s: &mut State, endpoint: u32) -> u64
     ensures { AnswersBeside result (begin (aside (Close endpoint))) s.old s.new }
 {
     word_of(calls::in_place::close(s, endpoint))
 }
 
 // A packet queued on the isochronous IN endpoint.
-#[unsafe(no_mangle)]
-pub extern "C" fn usbhs_queue(s: &mut State, slots: &mut [u8], endpoint: u32, bytes: &[u8]) -> u64
+pub fn usbhs_queue(s: &mut State, slots: &mut [u8], endpoint: u32, bytes: &[u8]) -> u64
     ensures { AnswersShown result (begin (aside (Queue endpoint bytes.now)))
         s.old s.new slots.old slots.new }
 {
@@ -374,8 +323,7 @@ pub extern "C" fn usbhs_queue(s: &mut State, slots: &mut [u8], endpoint: u32, by
 }
 
 // The wake-ups of the operation that ended last, in their order: their codes at the room's start, and how many.
-#[unsafe(no_mangle)]
-pub extern "C" fn usbhs_woken(s: &State, room: &mut [u8; 64]) -> u32
+pub fn usbhs_woken(s: &State, room: &mut [u8; 64]) -> u32
     ensures value { result ≡ length (listed (view s.now).wakes) }
     ensures room_after { room.new ≡ over (listed (view s.now).wakes) room.old }
 {
@@ -383,32 +331,28 @@ pub extern "C" fn usbhs_woken(s: &State, room: &mut [u8; 64]) -> u32
 }
 
 // The bus time in use, in byte-times of a microframe.
-#[unsafe(no_mangle)]
-pub extern "C" fn usbhs_time_in_use(time: &Time) -> u32
+pub fn usbhs_time_in_use(time: &Time) -> u32
     ensures { result ≡ is_in_use time.now }
 {
     bus_time::in_use(time)
 }
 
 // The packets queued on the IN endpoint and not yet taken by the host.
-#[unsafe(no_mangle)]
-pub extern "C" fn usbhs_pending(s: &State, endpoint: u32) -> u32
+pub fn usbhs_pending(s: &State, endpoint: u32) -> u32
     ensures { result ≡ pending_on (view s.now) endpoint }
 {
     calls::questions::pending(s, endpoint)
 }
 
 // The packets of the OUT endpoint that were turned away.
-#[unsafe(no_mangle)]
-pub extern "C" fn usbhs_overruns(s: &State, endpoint: u32) -> u32
+pub fn usbhs_overruns(s: &State, endpoint: u32) -> u32
     ensures { result ≡ overruns_on (view s.now) endpoint }
 {
     calls::questions::overruns(s, endpoint)
 }
 
 // Whether the host enabled the endpoint: 1 or 0.
-#[unsafe(no_mangle)]
-pub extern "C" fn usbhs_enabled(s: &State, endpoint: u32, dir: u32) -> u32
+pub fn usbhs_enabled(s: &State, endpoint: u32, dir: u32) -> u32
     ensures { result ≡ flag (enabled_asked (view s.now) (dir_of dir) endpoint) }
 {
     if calls::questions::enabled(s, dir_of(dir), endpoint) {

@@ -1,4 +1,4 @@
-// Endpoints from a configuration descriptor, exported.
+// Endpoints from a configuration descriptor.
 ghost use Rattle.std.specs.Prelude.{◌≡◌};
 ghost use Rattle.script.specs.Machine.{begin};
 ghost use Rattle.script.specs.Calls.{other, AllocateAll};
@@ -10,16 +10,14 @@ use descriptor::preview::Said;
 use state::State;
 
 // All endpoints of a configuration descriptor, or none.
-#[unsafe(no_mangle)]
-pub extern "C" fn usbhs_allocate_all(s: &mut State, bytes: &[u8]) -> u64
+pub fn usbhs_allocate_all(s: &mut State, bytes: &[u8]) -> u64
     ensures { Answers result (begin (other (AllocateAll bytes.now))) s.old s.new }
 {
     word_of(calls::listed_calls::allocate_all(s, bytes))
 }
 
 // What allocating them one by one would give: the numbers given, the buffers that these take, the first refusal or 0.
-#[unsafe(no_mangle)]
-pub extern "C" fn usbhs_preview(
+pub fn usbhs_preview(
     s: &State,
     bytes: &[u8],
     numbers: &mut [u8; 32],

@@ -172,8 +172,7 @@ fn mis_word() -> u64
 }
 
 // The interrupt's begin with its first two readings, frame_no and int_fg.
-#[unsafe(no_mangle)]
-pub extern "C" fn usbhs_interrupt(
+pub fn usbhs_interrupt(
     s: &mut State,
     slots: &mut [u8],
     time: &mut Time,
@@ -207,8 +206,7 @@ pub extern "C" fn usbhs_interrupt(
 }
 
 // A continue with a transfer's three readings, mis_st, int_st and rx_len.
-#[unsafe(no_mangle)]
-pub extern "C" fn usbhs_continue_transfer(
+pub fn usbhs_continue_transfer(
     s: &mut State,
     slots: &mut [u8],
     time: &mut Time,
@@ -242,8 +240,7 @@ pub extern "C" fn usbhs_continue_transfer(
 }
 
 // The interrupt's begin with five readings, frame_no, int_fg and a transfer's three.
-#[unsafe(no_mangle)]
-pub extern "C" fn usbhs_interrupt_transfer(
+pub fn usbhs_interrupt_transfer(
     s: &mut State,
     slots: &mut [u8],
     time: &mut Time,
@@ -275,8 +272,7 @@ pub extern "C" fn usbhs_interrupt_transfer(
 }
 
 // A continue after the write that clears the transfer's flag, and frame_no.
-#[unsafe(no_mangle)]
-pub extern "C" fn usbhs_continue_released(
+pub fn usbhs_continue_released(
     s: &mut State,
     slots: &mut [u8],
     time: &mut Time,
@@ -298,8 +294,7 @@ pub extern "C" fn usbhs_continue_released(
 }
 
 // So many looks at mis_st that read `busy`, and one more that read `last`: as many continues and one.
-#[unsafe(no_mangle)]
-pub extern "C" fn usbhs_continue_looks(
+pub fn usbhs_continue_looks(
     s: &mut State,
     slots: &mut [u8],
     time: &mut Time,

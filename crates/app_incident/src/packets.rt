@@ -25,20 +25,16 @@ fn flat(low: u8, high: u8) -> bool {
 pub fn counted(c: Counts, packet: &[u8; 1024], len: u32) -> Counts {
     let mut flats = c.flat;
     let mut samples = c.samples;
-    let mut k: usize = 0;
-    while k < 512 {
-        let low = packet[k * 2];
-        let high = packet[k * 2 + 1];
-        k += 1;
-        if k * 2 <= len as usize {
-            samples = std::num::wrapping_add_u32(samples, 1);
-            if flat(low, high) {
-                flats = std::num::wrapping_add_u32(flats, 1);
+    for k in 0..512usize {
+        if k * 2 + 2 <= len as usize {
+            samples = samples.wrapping_add(1);
+            if flat(packet[k * 2], packet[k * 2 + 1]) {
+                flats = flats.wrapping_add(1);
             }
         }
     }
     Counts {
-        packets: std::num::wrapping_add_u32(c.packets, 1),
+        packets: c.packets.wrapping_add(1),
         samples,
         flat: flats,
     }
@@ -61,22 +57,19 @@ pub fn put_front(
 ) {
     let n = len as usize;
     if n <= bytes.len() {
-        let from: usize = 0;
-        put(writer, block, card, &bytes[from..n]);
+        put(writer, block, card, &bytes[..n]);
     }
 }
 
 fn put(writer: &mut [u32; 4], block: &mut [u8; 512], card: &mut [u8; CARD_LEN], packet: &[u8]) {
-    let mut left: u32 = 4;
-    while left > 0 {
-        left -= 1;
+    for _ in 0..4 {
         let number = writer[0];
         let word = survey_c::usbhs_card_write(writer, block, 1, packet);
         if word / 256 % 2 == 1 {
             stored(block, number, card);
         }
         if word / 512 % 2 == 1 {
-            left = 0;
+            return;
         }
     }
 }
@@ -98,8 +91,7 @@ pub fn finish(writer: &[u32; 4], block: &mut [u8; 512], card: &mut [u8; CARD_LEN
 // What the packets that the reader gives come to, of a card on which the stream has so many bytes.
 pub fn read_back(card: &[u8], len: usize) -> Counts {
     if len <= card.len() {
-        let from: usize = 0;
-        return read(&card[from..len]);
+        return read(&card[..len]);
     }
     read(card)
 }
@@ -118,15 +110,12 @@ fn read(stream: &[u8]) -> Counts {
     let mut place: usize = 0;
     let mut endpoint: u32 = 0;
     survey_c::usbhs_card_start(stream, &mut place);
-    let mut left: u32 = 4096;
-    while left > 0 {
-        left -= 1;
+    for _ in 0..4096 {
         let word = next(stream, &mut place, &mut endpoint, &mut room);
-        if word % 16 == 7 {
-            c = counted(c, &room, (word / 256 % 65536) as u32);
-        } else {
-            left = 0;
+        if word % 16 != 7 {
+            return c;
         }
+        c = counted(c, &room, (word / 256 % 65536) as u32);
     }
     c
 }
