@@ -117,8 +117,9 @@ fact_at() {
                 name = $i
             }
             END {
-                if (match(file, /\/proofs\/.*\/Proof\.antt$/)) {
-                    folder = substr(file, RSTART + 8, RLENGTH - 19)
+                if (match(file, /\/proofs\/.*\/[A-Za-z]*\.antt$/)) {
+                    folder = substr(file, RSTART + 8)
+                    sub(/\/[^\/]*$/, "", folder)
                     name = folder "." name
                 }
                 print name
