@@ -22,15 +22,14 @@ pub returns-then-hst_sof : goal.returns-then-hst_sof
 returns-then-hst_sof c h = absurd (true≢false (sym h))
 
 pub returns-then-fits : goal.returns-then-fits
-returns-then-fits c h =
-    (
-      sym c.fits.ensures ∙ c.if-fits.true,
-      subst (λ (w : ℕ). bus_rst w ≡ false) c.byte-f.ensures (sym c.bus_rst.ensures ∙ c.if-bus_rst.false),
-      subst (λ (w : ℕ). suspend w ≡ false) c.byte-f.ensures (sym c.suspend.ensures ∙ c.if-suspend.false),
-      subst (λ (w : ℕ). fifo_ov w ≡ false) c.byte-f.ensures (sym c.fifo_ov.ensures ∙ c.if-fifo_ov.false),
-      subst (λ (w : ℕ). hst_sof w ≡ false) c.byte-f.ensures (sym c.hst_sof.ensures ∙ c.if-hst_sof.false),
-      subst (λ (w : ℕ). transfer w ≡ true) c.byte-f.ensures (sym c.transfer.ensures ∙ h),
-    )
+returns-then-fits c h = (
+  sym c.fits.ensures ∙ c.if-fits.true,
+  subst (λ (w : ℕ). bus_rst w ≡ false) c.byte-f.ensures (sym c.bus_rst.ensures ∙ c.if-bus_rst.false),
+  subst (λ (w : ℕ). suspend w ≡ false) c.byte-f.ensures (sym c.suspend.ensures ∙ c.if-suspend.false),
+  subst (λ (w : ℕ). fifo_ov w ≡ false) c.byte-f.ensures (sym c.fifo_ov.ensures ∙ c.if-fifo_ov.false),
+  subst (λ (w : ℕ). hst_sof w ≡ false) c.byte-f.ensures (sym c.hst_sof.ensures ∙ c.if-hst_sof.false),
+  subst (λ (w : ℕ). transfer w ≡ true) c.byte-f.ensures (sym c.transfer.ensures ∙ h),
+)
 
 pub returns : goal.returns
 returns c h = absurd (true≢false (sym h))

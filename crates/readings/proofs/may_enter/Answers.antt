@@ -6,12 +6,11 @@ use borrow.Author.Tests.{eq-eqb}
 use Rattle.readings.proofs.may_enter.Goals as goal
 
 pub returns-then-slots_fit : goal.returns-then-slots_fit
-returns-then-slots_fit c h =
-    (
-      ap (λ (n : ℕ). eqb n 0) (sym c.stop-n.ensures) ∙ eq-eqb _ _ c.if-n-eq0.true,
-      sym c.slots_fit.ensures ∙ c.if-slots_fit.true,
-      sym c.fits.ensures ∙ h,
-    )
+returns-then-slots_fit c h = (
+  ap (λ (n : ℕ). eqb n 0) (sym c.stop-n.ensures) ∙ eq-eqb _ _ c.if-n-eq0.true,
+  sym c.slots_fit.ensures ∙ c.if-slots_fit.true,
+  sym c.fits.ensures ∙ h,
+)
 
 pub returns-then-n-eq0 : goal.returns-then-n-eq0
 returns-then-n-eq0 c h = absurd (true≢false (sym h))

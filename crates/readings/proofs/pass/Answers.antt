@@ -23,10 +23,6 @@ after_len-requires c =
 pub returns-then-may_pass : goal.returns-then-may_pass
 returns-then-may_pass c i time =
     let may = c.may_pass.ensures c.if-may_pass.true in
-    
-    
-    
-    
     let busy = ap not (c.sie_free-busy.ensures ∙ ap sie_free c.byte.ensures) in
     transferred i c.args.mis c.args.st c.args.len c.setup_at-setup.result _ c.args.s.now c.args.s.now c.args.slots.now time
     (at-mis c.args.s.now c.setup_at-setup.result may.0 may.1 c.setup_at-setup.ensures) refl

@@ -38,9 +38,6 @@ returns-then-are_taken c i time =
     let may = c.may_enter.ensures c.if-may_enter.true in
     let told = c.is_transfer.ensures c.if-is_transfer.true in
     let taken = c.are_taken.ensures c.if-are_taken.true in
-    
-    
-    
     let setup = c.setup_act-setup.ensures ∙ ap setup_act c.byte.ensures in
     let busy = ap not (c.sie_free-busy.ensures ∙ ap sie_free c.byte-then-are_taken.ensures) in
     all-served i c.args.frame c.args.word c.args.mis c.args.st c.args.len c.setup_act-setup.result _ c.args.s.now _
@@ -61,8 +58,7 @@ after_flags-requires c =
 
 pub returns-then-fits : goal.returns-then-fits
 returns-then-fits c i time =
-    let may = c.may_enter.ensures c.if-may_enter.true in
-    (
+    let may = c.may_enter.ensures c.if-may_enter.true in (
       step_of _,
       c.after_flags.ensures.1.0,
       flags-served i c.args.frame c.args.s.now _ c.args.slots.now time may.0 may.1 may.2

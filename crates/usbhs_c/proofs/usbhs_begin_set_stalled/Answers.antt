@@ -1,15 +1,14 @@
 use Rattle.usbhs_c.proofs.usbhs_begin_set_stalled.Goals as goal
 
 pub returns : goal.returns
-returns c =
-    (
-      _,
-      c.word_of.ensures,
-      (
-        λ a b. simp (
-          ← c.flag_of.ensures,
-          ← c.dir_of.ensures,
-        ) (c.begin_set_stalled.ensures.0 a b),
-        c.begin_set_stalled.ensures.1,
-      ),
-    )
+returns c = (
+  _,
+  c.word_of.ensures,
+  (
+    λ a b. simp (
+      ← c.flag_of.ensures,
+      ← c.dir_of.ensures,
+    ) (c.begin_set_stalled.ensures.0 a b),
+    c.begin_set_stalled.ensures.1,
+  ),
+)

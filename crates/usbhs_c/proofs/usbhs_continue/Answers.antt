@@ -7,8 +7,7 @@ interrupt-requires c = sym c.tag.ensures ∙ c.if-tag-eq-INTERRUPT.true
 
 pub returns-then-tag-eq-INTERRUPT : goal.returns-then-tag-eq-INTERRUPT
 returns-then-tag-eq-INTERRUPT c =
-    let the-tag = sym c.tag.ensures ∙ c.if-tag-eq-INTERRUPT.true in
-    (
+    let the-tag = sym c.tag.ensures ∙ c.if-tag-eq-INTERRUPT.true in (
       _,
       c.interrupt.ensures.pins_from.0,
       (

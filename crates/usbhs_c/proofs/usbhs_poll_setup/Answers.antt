@@ -13,17 +13,16 @@ setup_word-requires c =
     (ap (λ (x : StepResult). x.0) (c.poll_setup.ensures.0 [] []))
 
 pub returns : goal.returns
-returns c =
+returns c = (
+  (
+    c.setup_word.ensures.worded.0,
+    c.setup_word.ensures.worded.1,
     (
-      (
-        c.setup_word.ensures.worded.0,
-        c.setup_word.ensures.worded.1,
-        (
-          λ a b. told-by (c.setup_word.ensures.worded.2 _) (c.poll_setup.ensures.0 a b),
-          kept-told c.poll_setup.result c.setup_word.ensures.worded.0 [] _ (view c.args.s.now) _ _
-              (c.setup_word.ensures.worded.2 _) c.poll_setup.ensures.1,
-        ),
-      ),
-      λ a b. c.setup_word.ensures.packet_after _
-          ∙ ap (λ (x : StepResult). lent_by x.0 c.args.packet.now) (c.poll_setup.ensures.0 a b),
-    )
+      λ a b. told-by (c.setup_word.ensures.worded.2 _) (c.poll_setup.ensures.0 a b),
+      kept-told c.poll_setup.result c.setup_word.ensures.worded.0 [] _ (view c.args.s.now) _ _
+          (c.setup_word.ensures.worded.2 _) c.poll_setup.ensures.1,
+    ),
+  ),
+  λ a b. c.setup_word.ensures.packet_after _
+      ∙ ap (λ (x : StepResult). lent_by x.0 c.args.packet.now) (c.poll_setup.ensures.0 a b),
+)

@@ -17,7 +17,7 @@ use Rattle.calls.proofs.begins.begin_interrupt.Goals as goal
 pub returns-then-n-eq0 : goal.returns-then-n-eq0
 returns-then-n-eq0 c =
     record {
-        by_index = λ a b. back
+      by_index = λ a b. back
           (interrupt-call
           (decode (saved c.args.s.now))
           (view c.args.s.now) a b)
@@ -29,13 +29,13 @@ returns-then-n-eq0 c =
             ← c.stop-n.ensures,
             eq-eqb _ _ c.if-n-eq0.true,
           ));
-        saved_by_answer = stored-by c.suspend_interrupt.ensures _ c.suspend_interrupt.ensures.answered _;
+      saved_by_answer = stored-by c.suspend_interrupt.ensures _ c.suspend_interrupt.ensures.answered _;
     }
 
 pub returns : goal.returns
 returns c =
     record {
-        by_index = λ a b. back (interrupt-call (decode (saved c.args.s.now)) (view c.args.s.now) a b)
+      by_index = λ a b. back (interrupt-call (decode (saved c.args.s.now)) (view c.args.s.now) a b)
           (simp (← c.stop-n.ensures, ne_eqb _ _ c.if-n-eq0.false));
-        saved_by_answer = refl;
+      saved_by_answer = refl;
     }

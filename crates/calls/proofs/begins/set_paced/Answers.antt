@@ -18,17 +18,17 @@ iso_in_set_paced-requires c =
 pub returns-then-is_number : goal.returns-then-is_number
 returns-then-is_number c =
     record {
-        by_index = λ a b. simp c.iso_in_set_paced.ensures.s_unchanged (set-paced-begins (decode (saved c.args.s.now))
+      by_index = λ a b. simp c.iso_in_set_paced.ensures.s_unchanged (set-paced-begins (decode (saved c.args.s.now))
           (view c.args.s.now) _ a b c.args.e _ c.args.on
           (eq-eqb _ _ (sym c.stop-n.ensures ∙ c.if-n-eq0.true)) (sym c.is_number.ensures
           ∙ c.if-is_number.true) c.low.ensures (c.iso_in_set_paced.ensures.by_index b));
-        s_unchanged = c.iso_in_set_paced.ensures.s_unchanged;
+      s_unchanged = c.iso_in_set_paced.ensures.s_unchanged;
     }
 
 pub returns-then-n-eq0 : goal.returns-then-n-eq0
 returns-then-n-eq0 c =
     record {
-        by_index = λ a b. back (numbered-call (calls.SetPaced c.args.e c.args.on) c.args.e
+      by_index = λ a b. back (numbered-call (calls.SetPaced c.args.e c.args.on) c.args.e
           (pacing c.args.e c.args.on) (decode (saved c.args.s.now))
           (view c.args.s.now) a b refl) (simp (
             ← c.stop-n.ensures,
@@ -36,15 +36,15 @@ returns-then-n-eq0 c =
             ← c.is_number.ensures,
             c.if-is_number.false,
           ));
-        s_unchanged = refl;
+      s_unchanged = refl;
     }
 
 pub returns : goal.returns
 returns c =
     record {
-        by_index = λ a b. back (numbered-call (calls.SetPaced c.args.e c.args.on)
+      by_index = λ a b. back (numbered-call (calls.SetPaced c.args.e c.args.on)
           c.args.e (pacing c.args.e c.args.on)
           (decode (saved c.args.s.now)) (view c.args.s.now) a b refl)
           (simp (← c.stop-n.ensures, ne_eqb _ _ c.if-n-eq0.false));
-        s_unchanged = refl;
+      s_unchanged = refl;
     }

@@ -20,8 +20,7 @@ pub suspend_or_end_bus-requires : goal.suspend_or_end_bus-requires
 suspend_or_end_bus-requires c = c.endpoint_set_enabled-x.ensures.1.1
 
 pub returns-then-is_allocated : goal.returns-then-is_allocated
-returns-then-is_allocated c =
-    (
+returns-then-is_allocated c = (
   λ a. back
       (named-call (calls.SetEnabled c.args.dir
       c.args.e
@@ -55,8 +54,7 @@ returns-then-is_allocated c =
 )
 
 pub returns-then-n-eq0 : goal.returns-then-n-eq0
-returns-then-n-eq0 c =
-    (
+returns-then-n-eq0 c = (
   λ a. back
       (named-call
       (calls.SetEnabled
@@ -92,8 +90,7 @@ returns-then-n-eq0 c =
 )
 
 pub returns-then-slots_fit : goal.returns-then-slots_fit
-returns-then-slots_fit c =
-    (
+returns-then-slots_fit c = (
   λ a. back
       (named-call (calls.SetEnabled c.args.dir
       c.args.e
@@ -118,8 +115,7 @@ returns-then-slots_fit c =
 )
 
 pub returns : goal.returns
-returns c =
-    (
+returns c = (
   λ a. back (named-call (calls.SetEnabled c.args.dir
       c.args.e c.args.on)
       c.args.dir c.args.e

@@ -7,6 +7,6 @@ pub returns : goal.returns
 unfolding charge_on
 returns c =
     record {
-        value = c.charge_of.ensures.value ∙ simp (c.load_ep-r.ensures, ep_on-low);
-        upper_bound = c.charge_of.ensures.upper_bound;
+      value = c.charge_of.ensures.value ∙ simp (c.load_ep-r.ensures, ep_on-low);
+      upper_bound = c.charge_of.ensures.upper_bound;
     }

@@ -10,21 +10,21 @@ use Rattle.calls.proofs.in_place.queue.Goals as goal
 pub returns-then-may_pass : goal.returns-then-may_pass
 returns-then-may_pass c =
     record {
-        by_index = λ a. back (aside-call (calls.Queue c.args.e c.args.bytes.now) (decode
+      by_index = λ a. back (aside-call (calls.Queue c.args.e c.args.bytes.now) (decode
           (saved c.args.s.now)) (view c.args.s.now) a c.args.slots.now) (simp (
             ← c.slots_fit.ensures,
             c.if-slots_fit.true,
           ) (told-beside _ _ (view c.args.s.now) c.args.slots.now _ _ _
           c.told.result c.iso_in_prime-x.result c.told.ensures.by_index c.iso_in_prime-x.ensures.s_unchanged
           (sym c.may_pass.ensures ∙ c.if-may_pass.true) c.iso_in_prime-x.ensures.buf_after));
-        buffer_unchanged_on_row1 = as_lent _ _ _ (sym c.slots_fit.ensures ∙ c.if-slots_fit.true);
-        s_unchanged = c.iso_in_prime-x.ensures.s_unchanged;
+      buffer_unchanged_on_row1 = as_lent _ _ _ (sym c.slots_fit.ensures ∙ c.if-slots_fit.true);
+      s_unchanged = c.iso_in_prime-x.ensures.s_unchanged;
     }
 
 pub returns-then-slots_fit : goal.returns-then-slots_fit
 returns-then-slots_fit c =
     record {
-        by_index = λ a. back (aside-call (calls.Queue c.args.e c.args.bytes.now)
+      by_index = λ a. back (aside-call (calls.Queue c.args.e c.args.bytes.now)
           (decode (saved c.args.s.now)) (view c.args.s.now) a
           c.args.slots.now) (simp (
             ← c.slots_fit.ensures,
@@ -32,16 +32,16 @@ returns-then-slots_fit c =
             ← c.may_pass.ensures,
             c.if-may_pass.false,
           ));
-        buffer_unchanged_on_row1 = as_lent _ _ _ (sym c.slots_fit.ensures ∙ c.if-slots_fit.true);
-        s_unchanged = refl;
+      buffer_unchanged_on_row1 = as_lent _ _ _ (sym c.slots_fit.ensures ∙ c.if-slots_fit.true);
+      s_unchanged = refl;
     }
 
 pub returns : goal.returns
 returns c =
     record {
-        by_index = λ a. back (aside-call (calls.Queue c.args.e c.args.bytes.now)
+      by_index = λ a. back (aside-call (calls.Queue c.args.e c.args.bytes.now)
           (decode (saved c.args.s.now)) (view c.args.s.now) a
           c.args.slots.now) (simp (← c.slots_fit.ensures, c.if-slots_fit.false));
-        buffer_unchanged_on_row1 = λ h. refl;
-        s_unchanged = refl;
+      buffer_unchanged_on_row1 = λ h. refl;
+      s_unchanged = refl;
     }

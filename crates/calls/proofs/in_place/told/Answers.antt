@@ -10,20 +10,20 @@ enum_told-1 c = search rules
 pub returns-in-Refused : goal.returns-in-Refused
 returns-in-Refused c =
     record {
-        by_index = λ b x. simp c.in-Refused.is;
-        shown_at = λ d e h. tt;
+      by_index = λ b x. simp c.in-Refused.is;
+      shown_at = λ d e h. tt;
     }
 
 pub returns-in-Shown : goal.returns-in-Shown
 returns-in-Shown c =
     record {
-        by_index = λ b x. simp c.in-Shown.is;
-        shown_at = λ d e h. subst (λ (x : Packet). packets.ShownAt x d e) c.in-Shown.is h;
+      by_index = λ b x. simp c.in-Shown.is;
+      shown_at = λ d e h. subst (λ (x : Packet). packets.ShownAt x d e) c.in-Shown.is h;
     }
 
 pub returns-in-Ok : goal.returns-in-Ok
 returns-in-Ok c =
     record {
-        by_index = λ b x. simp c.in-Ok.is;
-        shown_at = λ d e h. tt;
+      by_index = λ b x. simp c.in-Ok.is;
+      shown_at = λ d e h. tt;
     }

@@ -17,13 +17,12 @@ use borrow.Author.Rules.{rules}
 use Rattle.calls.proofs.listed_calls.allocate_all.Goals as goal
 
 pub returns-in-Refused : goal.returns-in-Refused
-returns-in-Refused c =
-    (
-      λ a b. all-unread (decode (saved c.args.s.now)) (view c.args.s.now) a b
-          c.args.bytes.now _ (eq-eqb _ _ (sym c.stop-n.ensures ∙ c.if-n-eq0.true))
-          (sym (ap (λ (r : Reading). r.answer) c.read-r.ensures) ∙ c.in-Refused.is),
-      refl,
-    )
+returns-in-Refused c = (
+  λ a b. all-unread (decode (saved c.args.s.now)) (view c.args.s.now) a b
+      c.args.bytes.now _ (eq-eqb _ _ (sym c.stop-n.ensures ∙ c.if-n-eq0.true))
+      (sym (ap (λ (r : Reading). r.answer) c.read-r.ensures) ∙ c.in-Refused.is),
+  refl,
+)
 
 pub enum_told-1 : goal.enum_told-1
 enum_told-1 c = search rules
@@ -39,7 +38,6 @@ returns-in-Listed c =
       arith,
       c.shared_slice_known-1.given j,
     ) in
-    
     let e = ap (λ (z : Reading). z.answer) (sym c.read-r.ensures) ∙ c.in-Listed.is in
     let l = accepted c.args.bytes.now y e in
     let w : stored c.read-r.result.list ≡ list_of c.args.bytes.now =
@@ -52,11 +50,10 @@ returns-in-Listed c =
     )
 
 pub returns : goal.returns
-returns c =
-    (
-      λ a b. back
-          (other-call (calls.AllocateAll c.args.bytes.now) 1 (reading_all c.args.bytes.now)
-          (decode (saved c.args.s.now))
-          (view c.args.s.now) a b refl) (simp (← c.stop-n.ensures, ne_eqb _ _ c.if-n-eq0.false)),
-      refl,
-    )
+returns c = (
+  λ a b. back
+      (other-call (calls.AllocateAll c.args.bytes.now) 1 (reading_all c.args.bytes.now)
+      (decode (saved c.args.s.now))
+      (view c.args.s.now) a b refl) (simp (← c.stop-n.ensures, ne_eqb _ _ c.if-n-eq0.false)),
+  refl,
+)

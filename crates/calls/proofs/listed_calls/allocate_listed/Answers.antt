@@ -17,9 +17,9 @@ returns-then-row-eq0 c =
     (c.try_all-t.ensures ∙ ap (λ (x : Allocator). trial_of x (stored c.args.list))
     c.load_allocator.ensures) in
     record {
-        by_index = λ b. c.suspend_or_end.ensures.steps_to b ∙ all_given (stored c.args.list) (view c.args.s.now) b _ t _ _ _
+      by_index = λ b. c.suspend_or_end.ensures.steps_to b ∙ all_given (stored c.args.list) (view c.args.s.now) b _ t _ _ _
           c.if-row-eq0.true (c.announce_all.ensures.by_index b) c.clear_wakes.ensures.s_after c.allocate_each.ensures.s_after;
-        saved_by_answer = c.suspend_or_end.ensures.stored _;
+      saved_by_answer = c.suspend_or_end.ensures.stored _;
     }
 
 pub returns : goal.returns
@@ -27,7 +27,7 @@ returns c =
     let t = ap (λ (x : Trial). x.refusal) (c.try_all-t.ensures
     ∙ ap (λ (x : Allocator). trial_of x (stored c.args.list)) c.load_allocator.ensures) in
     record {
-        by_index = λ b. all-refused (stored c.args.list) (view c.args.s.now) b _ t (decode (saved c.args.s.now))
+      by_index = λ b. all-refused (stored c.args.list) (view c.args.s.now) b _ t (decode (saved c.args.s.now))
           c.requires c.if-row-eq0.false;
-        saved_by_answer = refl;
+      saved_by_answer = refl;
     }

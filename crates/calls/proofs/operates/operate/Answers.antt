@@ -8,10 +8,9 @@ pub operation-step-requires : goal.operation-step-requires
 operation-step-requires c = c.requires
 
 pub returns : goal.returns
-returns c =
-    (
-      λ a. settles c.args.driver (continue c.args.v) (machine_of c.args.s.now a) c.args.time.now c.args.slots.now _ _ refl
-          (c.operation-step.ensures.by_index a)
-          (c.gone_on.ensures _ _),
-      (c.operation-step.ensures.buffer_unchanged_on_row1, c.operation-step.ensures.saved_by_answer),
-    )
+returns c = (
+  λ a. settles c.args.driver (continue c.args.v) (machine_of c.args.s.now a) c.args.time.now c.args.slots.now _ _ refl
+      (c.operation-step.ensures.by_index a)
+      (c.gone_on.ensures _ _),
+  (c.operation-step.ensures.buffer_unchanged_on_row1, c.operation-step.ensures.saved_by_answer),
+)

@@ -15,25 +15,24 @@ pub returns-then-slots_fit : goal.returns-then-slots_fit
 returns-then-slots_fit c =
     let fit = sym c.slots_fit.ensures
     ∙ c.if-slots_fit.true in
-    
     let lifted = lifts c.requires
     c.resume_interrupt.ensures.resumes in
     record {
-        by_index = λ a. slots-fitted a lifted fit;
-        buffer_unchanged_on_row1 = as_lent _ _ _ fit;
-        pins_from = (c.resume_interrupt.ensures.worded, lifted.kept);
+      by_index = λ a. slots-fitted a lifted fit;
+      buffer_unchanged_on_row1 = as_lent _ _ _ fit;
+      pins_from = (c.resume_interrupt.ensures.worded, lifted.kept);
     }
 
 pub returns : goal.returns
 unfolding step_of
 returns c =
     record {
-        by_index = λ a. back
-      (proceeds c.args.v
-      (decode (saved c.args.s.now))
-      (view c.args.s.now) a
-      c.args.slots.now)
-      (simp (← c.slots_fit.ensures, c.if-slots_fit.false));
-        buffer_unchanged_on_row1 = λ h. refl;
-        pins_from = (refused-sound 1 (omega arith), refl);
+      by_index = λ a. back
+          (proceeds c.args.v
+          (decode (saved c.args.s.now))
+          (view c.args.s.now) a
+          c.args.slots.now)
+          (simp (← c.slots_fit.ensures, c.if-slots_fit.false));
+      buffer_unchanged_on_row1 = λ h. refl;
+      pins_from = (refused-sound 1 (omega arith), refl);
     }

@@ -11,16 +11,16 @@ pub returns-then-slots_fit : goal.returns-then-slots_fit
 returns-then-slots_fit c =
     let fit = sym c.slots_fit.ensures ∙ c.if-slots_fit.true in
     record {
-        by_index = λ a. slots-fitted a c.resume_at.ensures fit;
-        buffer_unchanged_on_row1 = as_lent _ _ _ fit;
-        saved_by_answer = c.resume_at.ensures.kept;
+      by_index = λ a. slots-fitted a c.resume_at.ensures fit;
+      buffer_unchanged_on_row1 = as_lent _ _ _ fit;
+      saved_by_answer = c.resume_at.ensures.kept;
     }
 
 pub returns : goal.returns
 returns c =
     record {
-        by_index = λ a. back (proceeds c.args.v (decode (saved c.args.s.now))
+      by_index = λ a. back (proceeds c.args.v (decode (saved c.args.s.now))
           (view c.args.s.now) a c.args.slots.now) (simp (← c.slots_fit.ensures, c.if-slots_fit.false));
-        buffer_unchanged_on_row1 = λ h. refl;
-        saved_by_answer = refl;
+      buffer_unchanged_on_row1 = λ h. refl;
+      saved_by_answer = refl;
     }

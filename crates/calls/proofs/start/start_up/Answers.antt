@@ -19,7 +19,7 @@ pub returns-then-good_buffer : goal.returns-then-good_buffer
 unfolding start_row
 returns-then-good_buffer c =
     record {
-        by_index = λ a. simp (
+      by_index = λ a. simp (
         ← c.good_buffer.ensures,
         c.if-good_buffer.true,
         ← c.fits.ensures,
@@ -30,21 +30,21 @@ returns-then-good_buffer c =
         c.fresh.ensures.s_after,
         c.flag_of.ensures,
       ));
-        saved_by_answer = c.suspend_or_end.ensures.stored _;
+      saved_by_answer = c.suspend_or_end.ensures.stored _;
     }
 
 pub returns-then-fits : goal.returns-then-fits
 unfolding start_row
 returns-then-fits c =
     record {
-        by_index = λ a. simp (← c.good_buffer.ensures, c.if-good_buffer.false, ← c.fits.ensures, c.if-fits.true);
-        saved_by_answer = refl;
+      by_index = λ a. simp (← c.good_buffer.ensures, c.if-good_buffer.false, ← c.fits.ensures, c.if-fits.true);
+      saved_by_answer = refl;
     }
 
 pub returns : goal.returns
 unfolding start_row
 returns c =
     record {
-        by_index = λ a. simp (← c.fits.ensures, c.if-fits.false);
-        saved_by_answer = refl;
+      by_index = λ a. simp (← c.fits.ensures, c.if-fits.false);
+      saved_by_answer = refl;
     }

@@ -20,18 +20,18 @@ returns-then-left-eq0-clause-stored c =
 pub returns-then-o-eq0 : goal.returns-then-o-eq0
 returns-then-o-eq0 c =
     record {
-        steps_to = λ b. c.announce.ensures.steps_to b ∙ ap halted (after-in c.args.left c.args.total (view c.args.s.now) b c.args.dir c.args.e _ _
+      steps_to = λ b. c.announce.ensures.steps_to b ∙ ap halted (after-in c.args.left c.args.total (view c.args.s.now) b c.args.dir c.args.e _ _
           c.if-left-eq0.false c.end_of-x.ensures
           c.found_at-o.ensures _ c.if-o-eq0.true
           c.found_at-n.ensures);
-        stored = c.announce.ensures.stored;
+      stored = c.announce.ensures.stored;
     }
 
 pub returns : goal.returns
 returns c =
     record {
-        steps_to = λ b. c.announce-2.ensures.steps_to b ∙ ap halted (after-out c.args.left c.args.total (view c.args.s.now) b c.args.dir c.args.e _ _
+      steps_to = λ b. c.announce-2.ensures.steps_to b ∙ ap halted (after-out c.args.left c.args.total (view c.args.s.now) b c.args.dir c.args.e _ _
           c.if-left-eq0.false c.end_of-x.ensures
           c.found_at-o.ensures c.if-o-eq0.false);
-        stored = c.announce-2.ensures.stored;
+      stored = c.announce-2.ensures.stored;
     }

@@ -1,5 +1,5 @@
 use Rattle.machine.specs.declared.Suspended.TheVariants as under
-use Rattle.machine.specs.StandsLaws.{suspends}
+use Rattle.machine.specs.StandsLaws.{suspends, stored-by}
 use Rattle.machine.specs.PointsStandsLaws.{stands_at}
 use Rattle.machine.specs.Fits.{linked-bus}
 use Rattle.bus.specs.Codec.{decode}
@@ -14,11 +14,12 @@ returns-in-Asks-clause-steps_to c =
 pub returns-in-Asks-clause-stored : goal.returns-in-Asks-clause-stored
 returns-in-Asks-clause-stored c =
     let link = linked-bus _ _ _ c.in-Asks.is c.requires in
-    (suspends (stands_at {u = under.Bus (decode _)} c.stand.ensures link.1) (λ b. simp (c.in-Asks.is, link.0))).1
+    let stood = stands_at {u = under.Bus (decode _)} c.stand.ensures link.1 in
+    stored-by stood _ stood.answered
 
 pub returns-in-Ends : goal.returns-in-Ends
 returns-in-Ends c =
     record {
-        steps_to = λ b. c.stop.ensures.there b ∙ simp c.in-Ends.is;
-        stored = c.stop.ensures.stored;
+      steps_to = λ b. c.stop.ensures.there b ∙ simp c.in-Ends.is;
+      stored = c.stop.ensures.stored;
     }

@@ -3,8 +3,7 @@ use mathlib.Core.Path.{sym, ◌∙◌}
 use Rattle.readings.proofs.frames.may_frame.Goals as goal
 
 pub returns-then-slots_fit : goal.returns-then-slots_fit
-returns-then-slots_fit c h =
-    (
+returns-then-slots_fit c h = (
   record {
     tagged = sym c.tag.ensures
         ∙ c.if-tag-eq-INTERRUPT.true;

@@ -11,7 +11,6 @@ after_frame_no-requires c = (c.may_frame.ensures c.if-may_frame.true).2
 pub returns-in-Ends : goal.returns-in-Ends
 returns-in-Ends c i time =
     let may = c.may_frame.ensures c.if-may_frame.true in
-    
     frame-brought i c.args.frame c.setup_at-setup.result c.transfer_at-x.result _ c.iso_of.result c.args.s.now _
     c.args.slots.now _ time
     may.0.tagged (at-site 10 may.0 (parts2 point.Released c.setup_at-setup.ensures

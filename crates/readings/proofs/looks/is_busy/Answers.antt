@@ -10,8 +10,7 @@ pub byte-requires : goal.byte-requires
 byte-requires c = wider _ 2 (omega arith) (sym c.fits.ensures ∙ c.if-fits.true)
 
 pub returns-then-fits : goal.returns-then-fits
-returns-then-fits c h =
-    (
+returns-then-fits c h = (
   sym c.fits.ensures ∙ c.if-fits.true,
   ap sie_free (sym c.byte.ensures) ∙ (sym c.sie_free.ensures ∙ is_false _ h),
 )

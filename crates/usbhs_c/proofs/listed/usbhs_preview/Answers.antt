@@ -11,19 +11,19 @@ pub returns-in-Refused : goal.returns-in-Refused
 returns-in-Refused c =
     let e = ap (λ (x : Shown). x.said) (sym c.preview-x.ensures) ∙ c.in-Refused.is in
     record {
-        value = rw e;
-        numbers_after = rw e;
-        buffers_after = rw e;
-        refusal_after = rw e;
+      value = rw e;
+      numbers_after = rw e;
+      buffers_after = rw e;
+      refusal_after = rw e;
     }
 
 pub returns-in-Tried : goal.returns-in-Tried
 returns-in-Tried c =
     let e = ap (λ (x : Shown). x.said) (sym c.preview-x.ensures) ∙ c.in-Tried.is in
     record {
-        value = rw e (ap (λ (x : Shown). 5 + x.count % 256 * 2 ^ 8) c.preview-x.ensures);
-        numbers_after = rw e (ap (λ (x : Shown). x.numbers) c.preview-x.ensures);
-        buffers_after = rw e (ap (λ (x : Shown). x.buffers) c.preview-x.ensures);
-        refusal_after = rw e
-              (ap (λ (x : Shown). x.refusal) c.preview-x.ensures);
+      value = rw e (ap (λ (x : Shown). 5 + x.count % 256 * 2 ^ 8) c.preview-x.ensures);
+      numbers_after = rw e (ap (λ (x : Shown). x.numbers) c.preview-x.ensures);
+      buffers_after = rw e (ap (λ (x : Shown). x.buffers) c.preview-x.ensures);
+      refusal_after = rw e
+          (ap (λ (x : Shown). x.refusal) c.preview-x.ensures);
     }

@@ -6,7 +6,7 @@ use Rattle.usbhs_c.proofs.setup.fill.Goals as goal
 pub returns : goal.returns
 returns c =
     record {
-        packet_after = c.bytes_of-bytes.ensures;
-        packet_after_2 = c.bytes_of-bytes.ensures ∙ over-all c.args.low c.args.high
+      packet_after = c.bytes_of-bytes.ensures;
+      packet_after_2 = c.bytes_of-bytes.ensures ∙ over-all c.args.low c.args.high
           c.args.packet.now (omega arith);
     }

@@ -7,8 +7,8 @@ use Rattle.usbhs_c.proofs.setup.setup_word.Goals as goal
 pub returns-in-Setup : goal.returns-in-Setup
 returns-in-Setup c =
     record {
-        worded = (_, c.word_of.ensures, λ d. simp (c.fill.ensures.packet_after, c.in-Setup.is));
-        packet_after = λ d. c.fill.ensures.packet_after_2 ∙ simp c.in-Setup.is;
+      worded = (_, c.word_of.ensures, λ d. simp (c.fill.ensures.packet_after, c.in-Setup.is));
+      packet_after = λ d. c.fill.ensures.packet_after_2 ∙ simp c.in-Setup.is;
     }
 
 pub returns-in-Done-clause-worded : goal.returns-in-Done-clause-worded
@@ -22,14 +22,14 @@ returns-in-Done-clause-packet_after c =
 pub returns-in-Shown : goal.returns-in-Shown
 returns-in-Shown c =
     record {
-        worded = (_, c.word_of-in-Shown.ensures, λ d. simp (take-nil, drop-nil, c.in-Shown.is));
-        packet_after = λ d. simp (take-nil, drop-nil, c.in-Shown.is);
+      worded = (_, c.word_of-in-Shown.ensures, λ d. simp (take-nil, drop-nil, c.in-Shown.is));
+      packet_after = λ d. simp (take-nil, drop-nil, c.in-Shown.is);
     }
 
 pub returns-in_default : goal.returns-in_default
 returns-in_default c =
     let b = bare-answer c.args.step c.in_default.in_default-own.keys4 _ in
     record {
-        worded = (_, c.word_of-in_default.ensures, λ d. (b d).same);
-        packet_after = λ d. (b d).stays;
+      worded = (_, c.word_of-in_default.ensures, λ d. (b d).same);
+      packet_after = λ d. (b d).stays;
     }

@@ -19,7 +19,6 @@ pub returns-then-word-read_word : goal.returns-then-word-read_word
 returns-then-word-read_word c x says =
     let l = lent c.args.s.now c.args.slots.now c.args.time.now in
     let yes = c.if-word-read_word.true ∙ c.read_word.ensures in
-    
     brought c.args.driver c.args.first c.args.a (reading c.args.second c.args.b ∷ []) c.args.word x says yes _ _ l (lent _ _ _)
     (lent _ _ _)
     (continued _ c.args.driver c.args.a l (lent _ _ _) c.go_on-next.ensures)

@@ -34,17 +34,16 @@ pub loop-left-smaller : goal.loop-left-smaller
 loop-left-smaller c = omega arith
 
 pub loop-left-preserved : goal.loop-left-preserved
-loop-left-preserved c =
-    (
-      suc c.loop-left.invariant.0,
-      omega (arith, c.loop-left.invariant.1),
-      search (rules, c.loop-left.invariant.2),
-      one_more c.args.driver c.args.busy c.args.last c.loop-left.invariant.0 (lent _ c.args.slots.now c.args.time.now)
-          (lent c.loop-left.s c.loop-left.slots c.loop-left.time) (lent _ _ _) c.loop-left.invariant.3 _
-          (continued _ c.args.driver c.args.busy (lent c.loop-left.s c.loop-left.slots c.loop-left.time) (lent _ _ _)
-          c.go_on-word.ensures)
-          (c.if-word-read_word.false ∙ c.read_word.ensures),
-    )
+loop-left-preserved c = (
+  suc c.loop-left.invariant.0,
+  omega (arith, c.loop-left.invariant.1),
+  search (rules, c.loop-left.invariant.2),
+  one_more c.args.driver c.args.busy c.args.last c.loop-left.invariant.0 (lent _ c.args.slots.now c.args.time.now)
+      (lent c.loop-left.s c.loop-left.slots c.loop-left.time) (lent _ _ _) c.loop-left.invariant.3 _
+      (continued _ c.args.driver c.args.busy (lent c.loop-left.s c.loop-left.slots c.loop-left.time) (lent _ _ _)
+      c.go_on-word.ensures)
+      (c.if-word-read_word.false ∙ c.read_word.ensures),
+)
 
 pub shape_of-slots : goal.shape_of-slots
 shape_of-slots c = search (rules, c.loop-left.invariant.2)

@@ -24,6 +24,5 @@ returns-in-Flags c =
 pub returns-in-No : goal.returns-in-No
 returns-in-No c =
     let m = lent c.enter-n.new.s c.args.slots.now c.args.time.now in
-    
     begun _ c.args.driver c.args.frame c.args.flags c.enter-n.result _ m (c.enter-n.ensures c.args.driver c.args.time.now)
     c.in-No.is _ c.usbhs_begin_interrupt-word.new.s (lent _ _ _) c.usbhs_begin_interrupt-word.ensures c.bring.ensures

@@ -33,7 +33,6 @@ returns-else-w-read_word c =
 pub returns-in-No : goal.returns-in-No
 returns-in-No c =
     let m = lent c.serve-n.new.s c.args.slots.now c.args.time.now in
-    
     all-begun _ c.args.driver c.args.frame c.args.flags c.args.mis c.args.st c.args.len c.serve-n.result _ m
     (c.serve-n.ensures c.args.driver c.args.time.now) c.in-No.is _ c.usbhs_begin_interrupt-word.new.s
     (lent _ _ _)

@@ -46,7 +46,7 @@ unfolding listed
 returns c =
     let e : c.loop-k.k ≡ c.how_many-n.result = omega (arith, c.loop-k-test.false, c.loop-k.invariant.0) in
     record {
-        value = c.how_many-n.ensures.value;
-        room_after = c.loop-k.invariant.1 ∙ written_all c.loop-k.k (view c.args.s.now).wakes.count (view c.args.s.now).wakes.codes
+      value = c.how_many-n.ensures.value;
+      room_after = c.loop-k.invariant.1 ∙ written_all c.loop-k.k (view c.args.s.now).wakes.count (view c.args.s.now).wakes.codes
           c.args.room.now (e ∙ c.how_many-n.ensures.value);
     }
