@@ -84,11 +84,11 @@ module _ {i : Bool} {A : Type 0} where
 module _ {i : Bool} where
   a_read : {r : Reg} {e : ℕ} → Asks≤ {i = i} 1 (read r e)
   unfolding accesses
-  a_read = record { on = λ S O s. ask-path 0 _ s _ (λ v t w. omega arith) }
+  a_read = record { on = λ S O s. ask-path 0 _ s _ (λ v t w. end.on S O t w) }
 
   a_write : {r : Reg} {e v : ℕ} → Asks≤ {i = i} 1 (write r e v)
   unfolding accesses
-  a_write = record { on = λ S O s. ask-path 0 _ s _ (λ v t w. omega arith) }
+  a_write = record { on = λ S O s. ask-path 0 _ s _ (λ v t w. end.on S O t w) }
 
   a-hand : {q : DmaStep} → Asks≤ {i = i} 1 (hand q)
   unfolding accesses
@@ -96,7 +96,7 @@ module _ {i : Bool} where
 
   a-callback : Asks≤ {i = i} 1 callback
   unfolding accesses
-  a-callback = record { on = λ S O s. ask-path 0 _ s _ (λ v t w. omega arith) }
+  a-callback = record { on = λ S O s. ask-path 0 _ s _ (λ v t w. end.on S O t w) }
 
   -- it ends at once, whatever the state
   at_once : {A : Type 0} {n : ℕ} {p : Script i A} → ((S : Type 0) (O : Ops S) (s : S) → Ends (run O p s))

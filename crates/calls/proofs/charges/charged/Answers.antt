@@ -1,3 +1,4 @@
+use borrow.Enum.Refused.{opened}
 use mathlib.Core.List.{[]}
 use Rattle.machine.specs.Suspended.{answer_of}
 use Rattle.calls.proofs.Unasked.{unasked, uncharged}
@@ -8,4 +9,4 @@ returns-in-Asks c x = simp c.in-Asks.is c.charge.ensures
 
 pub returns-in_default : goal.returns-in_default
 returns-in_default c x =
-    uncharged _ (answer_of c.args.step [] x) (unasked c.args.step x c.in_default.in_default-own.keys2) c.args.at c.args.c
+    uncharged _ (answer_of c.args.step [] x) (unasked c.args.step x (opened c.in_default.in_default-own.keys2)) c.args.at c.args.c

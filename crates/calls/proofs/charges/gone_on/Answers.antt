@@ -1,3 +1,4 @@
+use borrow.Enum.Refused.{opened}
 use mathlib.Core.List.{[]}
 use Rattle.machine.specs.Suspended.{answer_of}
 use Rattle.calls.specs.Sharing.{going}
@@ -9,4 +10,4 @@ returns-in-Asks c x d = simp c.in-Asks.is c.after_access.ensures
 
 pub returns-in_default : goal.returns-in_default
 returns-in_default c x d =
-    unmoved _ (answer_of c.args.step [] x) (unasked c.args.step x c.in_default.in_default-own.keys2) c.args.driver going d
+    unmoved _ (answer_of c.args.step [] x) (unasked c.args.step x (opened c.in_default.in_default-own.keys2)) c.args.driver going d

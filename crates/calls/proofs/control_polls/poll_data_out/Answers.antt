@@ -18,7 +18,7 @@ returns-then-is_idle c =
 
 pub returns-then-slots_fit : goal.returns-then-slots_fit
 returns-then-slots_fit c =
-    polled-busy _ _ _ c.slots_fit.ensures c.if-slots_fit.true c.is_idle.ensures c.if-is_idle.false _
+    polled-busy (calls.PollDataOut (length c.args.out.now)) _ _ c.slots_fit.ensures c.if-slots_fit.true c.is_idle.ensures c.if-is_idle.false _
 
 pub returns : goal.returns
-returns c = polled-misfit _ _ _ c.slots_fit.ensures c.if-slots_fit.false _
+returns c = polled-misfit (calls.PollDataOut (length c.args.out.now)) _ _ c.slots_fit.ensures c.if-slots_fit.false _

@@ -13,7 +13,7 @@ returns-then-is_idle c =
 
 pub returns-then-slots_fit : goal.returns-then-slots_fit
 returns-then-slots_fit c =
-    slotted-busy _ _ _ c.slots_fit.ensures c.if-slots_fit.true c.is_idle.ensures c.if-is_idle.false
+    slotted-busy (calls.PollWrite c.args.e c.args.bytes.now) _ _ c.slots_fit.ensures c.if-slots_fit.true c.is_idle.ensures c.if-is_idle.false
 
 pub returns : goal.returns
-returns c = slotted-misfit _ _ _ c.slots_fit.ensures c.if-slots_fit.false
+returns c = slotted-misfit (calls.PollWrite c.args.e c.args.bytes.now) _ _ c.slots_fit.ensures c.if-slots_fit.false
