@@ -8,6 +8,7 @@ use native.Mathlib.Omega.{arith}
 use Rattle.bits.specs.Walk.{set_bits}
 use Rattle.bits.specs.WalkLaws.{walk-length}
 use Rattle.regs.specs.declared.Access.{Access}
+use Rattle.regs.specs.declared.Access.TheVariants.{Read, Write, Callback}
 use Rattle.regs.specs.declared.Reg.{Reg}
 use Rattle.regs.specs.declared.Dir.{Dir}
 use Rattle.regs.specs.declared.Dir.TheVariants.{Out, In}
@@ -18,7 +19,7 @@ use Rattle.script.specs.declared.Transfer.{Transfer}
 use Rattle.script.specs.Tree as tree
 use Rattle.script.specs.Tree.{ends, asks, Prog, bind_out}
 use Rattle.script.specs.Cells.{Cell, Val, globals-cell, ep-cell}
-use Rattle.script.specs.Script.{Script, Ops, run, Test, Look, Fetch, Act, DmaStep, ret, bind, test}
+use Rattle.script.specs.Script.{dma_step_ask, Script, Ops, run, Test, Look, Fetch, Act, DmaStep, ret, bind, test}
 use Rattle.script.specs.Script.{◌>>◌, done, when, read, write, callback, get, put, is, look, fetch, act, hand}
 use Rattle.script.specs.Statics.{modify_reg}
 use Rattle.script.specs.IsoIn.{first_in_frame, iso_in_load, iso_in_complete, unseen, sof_one, sof_walk, on_sof, late_one}
@@ -84,19 +85,19 @@ module _ {i : Bool} {A : Type 0} where
 module _ {i : Bool} where
   a_read : {r : Reg} {e : ℕ} → Asks≤ {i = i} 1 (read r e)
   unfolding accesses
-  a_read = record { on = λ S O s. ask-path 0 _ s _ (λ v t w. end.on S O t w) }
+  a_read {r = r} {e = e} = record { on = λ S O s. ask-path 0 (Read r e) s (λ u t. ends u t) (λ u t w. omega arith) }
 
   a_write : {r : Reg} {e v : ℕ} → Asks≤ {i = i} 1 (write r e v)
   unfolding accesses
-  a_write = record { on = λ S O s. ask-path 0 _ s _ (λ v t w. end.on S O t w) }
+  a_write {r = r} {e = e} {v = v} = record { on = λ S O s. ask-path 0 (Write r e v) s (λ u t. ends (tt {0}) t) (λ u t w. omega arith) }
 
   a-hand : {q : DmaStep} → Asks≤ {i = i} 1 (hand q)
   unfolding accesses
-  a-hand = record { on = λ S O s. ask-path 0 _ _ _ (λ v t w. omega arith) }
+  a-hand {q = q} = record { on = λ S O s. ask-path 0 (dma_step_ask q (O.hand q s).0) (O.hand q s).1 (λ u t. ends (tt {0}) t) (λ u t w. omega arith) }
 
   a-callback : Asks≤ {i = i} 1 callback
   unfolding accesses
-  a-callback = record { on = λ S O s. ask-path 0 _ s _ (λ v t w. end.on S O t w) }
+  a-callback = record { on = λ S O s. ask-path 0 Callback s (λ u t. ends (tt {0}) t) (λ u t w. omega arith) }
 
   -- it ends at once, whatever the state
   at_once : {A : Type 0} {n : ℕ} {p : Script i A} → ((S : Type 0) (O : Ops S) (s : S) → Ends (run O p s))

@@ -353,6 +353,16 @@ step (continue v) b (busy true q j) d a (busy true q' j') t a' f (both_busy i z 
     let u = go_serves R b x.0 v f q j' h a' k.rest in
     record { serves = u.serves; stamps = u.more }
 step (question q) b w d a w' t a' f v R h k = record { serves = h; stamps = tt }
+step (begin o) b {φ = φ} idle d a (busy _ q' j') t a' f v R h k = elim v [ ]
+step (begin o) b {φ = φ} (busy false q j) d a idle t a' f v R h k = elim v [ ]
+step (begin o) b {φ = φ} (busy false q j) d a (busy true q' j') t a' f v R h k = elim v [ ]
+step (begin o) b {φ = φ} (busy true q j) d a idle t a' f v R h k = elim v [ ]
+step (begin o) b {φ = φ} (busy true q j) d a (busy false q' j') t a' f v R h k = elim v [ ]
+step (continue v) b {φ = φ} idle d a (busy _ q' j') t a' f v' R h k = elim v' [ ]
+step (continue v) b {φ = φ} (busy false q j) d a idle t a' f v' R h k = elim v' [ ]
+step (continue v) b {φ = φ} (busy false q j) d a (busy true q' j') t a' f v' R h k = elim v' [ ]
+step (continue v) b {φ = φ} (busy true q j) d a idle t a' f v' R h k = elim v' [ ]
+step (continue v) b {φ = φ} (busy true q j) d a (busy false q' j') t a' f v' R h k = elim v' [ ]
 
 -- ---- every list of calls
 

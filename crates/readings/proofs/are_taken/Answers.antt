@@ -4,8 +4,8 @@ use Rattle.readings.proofs.are_taken.Goals as goal
 
 pub returns-then-fits-2 : goal.returns-then-fits-2
 returns-then-fits-2 c h = (
-  sym c.fits-then-fits.ensures ∙ c.if-fits.true,
-  sym c.fits-then-fits-2.ensures ∙ c.if-fits-2.true,
+  sym c.fits.ensures ∙ c.if-fits.true,
+  sym c.fits-then-fits.ensures ∙ c.if-fits-2.true,
   sym c.fits-then-fits-2.ensures ∙ h,
 )
 
