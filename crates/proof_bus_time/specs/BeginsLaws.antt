@@ -147,6 +147,7 @@ module _ (dir : Dir) (e : ℕ) where
         λ v t b. subst
             (λ g. Left bit (given_back dir e last) (Due dir e (begins bit x was)) Rests g (k v t)) p (z v t b),
       )
+  opens_hands x last d c g was h (at_end {a = a} {s = s} _) x8 = elim x8 [ ]
 
   opens_cond : {x : Sort} {last : Begun} {d : Driver} {c : ℕ} {was : Bool} (b : Bool) {o u : tree.Out St Answer}
       → (b ≡ true → Opens x last d c was o) → (b ≡ false → Opens x last d c was u) → Opens x last d c was (cond b o u)

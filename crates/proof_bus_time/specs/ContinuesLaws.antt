@@ -24,6 +24,7 @@ None y = hands_config y.0 ≡ false
 
 quiet-false : (b : Bool) → When (not b) (Unit {0}) → b ≡ false
 quiet-false false x = refl
+quiet-false true x = elim x [ ]
 
 of-halt : (i : Bool) {o : tree.Out St Answer} → First o → None (halt calls driver_of (λ s. s) i o)
 of-halt i none = refl

@@ -74,12 +74,14 @@ first-cond false x y = y
 
 opened : {X : Type 0} (b : Bool) → When b X → (b ≡ true) × X
 opened true x = (refl, x)
+opened {X = X} false x = elim x [ ]
 
 pub quiet : (bit : ℕ) (q : Access) (c : ℕ) → NotEpConfigWrite q → cleared bit q c ≡ c
 quiet bit (Write r e w) c x = by (same_reg r EpConfig) x
   where
     by : (b : Bool) → When (not b) (Unit {0}) → cond b (cond (bit_is_set w bit) c 0) c ≡ c
     by false x = refl
+    by true x = elim x [ ]
 quiet bit (Read r e) c x = refl
 quiet bit (Receive e y) c x = refl
 quiet bit (Transmit e y) c x = refl
@@ -90,6 +92,7 @@ quiet bit Callback c x = refl
 -- no write of ep_config
 unwritten : (b : Bool) (x y : ℕ) → When (not b) (Unit {0}) → y ≡ cond b x y
 unwritten false x y h = refl
+unwritten true x y h = elim h [ ]
 
 -- what the operations that a calm script has keep
 pub record CalmKeeps (giving : Bool) (K : Driver → Type 0) : Type 0 where

@@ -9,6 +9,7 @@ use Rattle.state.specs.declared.Request.{Request}
 use Rattle.state.specs.Driver.{Driver, key, ep_on, request_on, no_request}
 use Rattle.ring.specs.Only.{Only}
 use Rattle.ring.specs.OnlyLaws.{only-refl, only-trans}
+use Rattle.script.specs.Statics.{with_ready}
 use Rattle.script.specs.Simulates.{Phase}
 use Rattle.script.specs.Machine.{Buf}
 use Rattle.script_ops.specs.Rings.{St}
@@ -59,7 +60,7 @@ stays-trans h k = record {
 
 -- its ring alone changed
 pub inner-stays : {r r' : EpState} → Inner r r' → Stays r r'
-inner-stays h = record { place = h.place; plain = rw h.plain refl }
+inner-stays h = record { place = h.place; plain = ap (with_ready 0) h.plain }
 
 -- ---- drivers
 

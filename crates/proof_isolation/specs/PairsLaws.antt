@@ -132,7 +132,7 @@ past_after g (waits n) h = waits (λ e l s. another-bind g (n e l s))
 module _ {ch : Channel} {st : ℕ} where
   -- ---- outcomes
 
-  unfoldable pub apart_more : {m i : Bool} {A B : Type 0} {P Q : A → B → Type 0} {o : Out St A} {u : Out St B}
+  unfoldable pub apart_more : {i : Bool} {A B : Type 0} {P Q : A → B → Type 0} {m : Bool} {o : Out St A} {u : Out St B}
       → ((a : A) (b : B) → P a b → Q a b) → ApartBy ch st i P m o u → ApartBy ch st i Q m o u
   apart_more f (end q l) = end (f _ _ q) l
   apart_more f (both φ w p p' l k) = both φ w p p' l (λ v v' s t b r. apart_more f (k v v' s t b r))
@@ -142,7 +142,7 @@ module _ {ch : Channel} {st : ℕ} where
       (λ v s t r. apart_more f (k' v s t r))
 
   -- either run may be named first
-  unfoldable pub apart_flip : {m i : Bool} {A B : Type 0} {Q : A → B → Type 0} {o : Out St A} {u : Out St B}
+  unfoldable pub apart_flip : {i : Bool} {A B : Type 0} {Q : A → B → Type 0} {m : Bool} {o : Out St A} {u : Out St B}
       → ApartBy ch st i Q m o u → ApartBy ch st i (λ b a. Q a b) m u o
   apart_flip (end q l) = end q (like-sym l)
   apart_flip (both {q = q} φ f p p' l k) =
@@ -169,8 +169,8 @@ module _ {ch : Channel} {st : ℕ} where
       (λ e s. another-bind f (p e s)) (λ e s. another-bind g (p' e s)) l (λ v v' s t b r. apart-bind (k v v' s t b r) h)
 
   -- or before; then what follows hands out none made for an isochronous OUT endpoint
-  apart-before : {m i : Bool} {A B C D : Type 0} {P : A
-      → B → Type 0} {Q : C → D → Type 0} {o : Out St A} {u : Out St B} {f : A → St → Out St C} {g : B → St → Out St D}
+  apart-before : {i : Bool} {A B C D : Type 0} {P : A
+      → B → Type 0} {Q : C → D → Type 0} {m : Bool} {o : Out St A} {u : Out St B} {f : A → St → Out St C} {g : B → St → Out St D}
       → ApartBy ch st i P m o u → ((a : A) (b : B) (s t : St) → P a b → LowEquiv ch quiet s t
       → Apart ch st i Q (f a s) (g b t))
       → ((a : A) (e : ℕ) (s : St) → Without e (f a s)) → ((b : B) (e : ℕ) (t : St) → Without e (g b t))

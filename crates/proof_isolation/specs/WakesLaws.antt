@@ -72,7 +72,7 @@ module _ {x : ℕ} where
 
   pub all_same : {w w' : Wakes} (l : List ℕ) → OtherWakes x w w' → OtherWakes x (all_woken l w) (all_woken l w')
   all_same [] h = h
-  all_same (a ∷ l) h = all_same l (woken-same a h)
+  all_same {w = w} {w' = w'} (a ∷ l) h = all_same {w = woken a w} {w' = woken a w'} l (woken-same a h)
 
   -- one of x's in the first run
   pub own-woken : {w w' : Wakes} → OtherWakes x w w' → OtherWakes x (woken (wake_code Out x) w) w'

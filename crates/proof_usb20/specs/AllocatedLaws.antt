@@ -46,7 +46,7 @@ use Rattle.script_ops.specs.Rings.{St}
 use Rattle.script_ops.specs.Concrete.{concrete}
 use Rattle.proof_book.specs.LeavesLaws.{turns, by-act}
 use Rattle.proof_book.specs.TransferKindsLaws.{put-steady, act-steady, rings-steady, hand-steady, row-steady}
-use Rattle.proof_usb20.specs.Sequence.{Track, off, with_phase, own, opens}
+use Rattle.proof_usb20.specs.Sequence.{Track, saw, off, with_phase, own, opens}
 use Rattle.proof_usb20.specs.DataToggles.{asks_for, lists_iso, made_iso}
 use Rattle.proof_usb20.specs.Follow.{EpSeen, view, Follow}
 use Rattle.proof_usb20.specs.FollowLaws as follow
@@ -90,7 +90,8 @@ module _ (D : Dir) (E : ℕ) where
 
   followed : {A : Type 0} {w : Track} {o : tree.Out St A} → Holds NotIso o → Follow D E (λ _ _ t. NotIso t) w o
   followed (end h) = at_end h
-  followed (ask h x) = at_ask tt (λ v t _ k. followed (x v t (ap (λ (y : EpSeen). is_on y.iso) k.0 ∙ h)))
+  followed {A = A} {w = w} (ask {q = q} h x) =
+      at_ask tt (λ v t _ k. followed {w = saw D E w q v} (x v t (ap (λ (y : EpSeen). is_on y.iso) k.0 ∙ h)))
 
   -- what a call makes of it
   abbrev pub Made : Op → Track → Answer → St → Type 0

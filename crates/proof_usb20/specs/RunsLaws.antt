@@ -108,6 +108,9 @@ module _ (O : Observer) where
     standing_of idle d w at_rest j = L.stands w (O.view d) j
     standing_of (busy i a k) d w (doing o q l) j = tt
     standing_of (busy i a k) d w starting j = tt
+    standing_of idle d w (doing o q l) j = elim j [ ]
+    standing_of idle d w starting j = elim j [ ]
+    standing_of (busy i a k) d w at_rest j = elim j [ ]
 
     -- an operation begins, or goes on: where it stops
     begins : (o : Op) (i : Bool) (b : Buf) (w : O.Log) {out : tree.Out St Answer}
@@ -171,12 +174,14 @@ module _ (O : Observer) where
       j.2,
     )
     still_J i a k d d' w starting e j = (j.0, λ v t h. j.1 v t (h.0 ∙ e.0, h.1, h.2 ∙ e.1, h.3))
+    still_J i a k d d' w at_rest e j = elim j [ ]
 
     unclaimed : (o : Op) (b l : Buf) (a : Ans Answer) (w : O.Log) (u : Under) (i : Bool) (y : Awaits) (k : ℕ → St
         → tree.Out St Answer) (d : Driver)
         → J (busy i y k) d w u → ClaimBegun O o b l a w u
     unclaimed o b l a w (doing p q x) i y k d j = tt
     unclaimed o b l a w starting i y k d j = tt
+    unclaimed o b l a w at_rest i y k d j = elim j [ ]
 
     -- the log stays where an operation is under way
     same_begun : (o : Op) (b l : Buf) (a : Ans Answer) (w : O.Log) (u : Under) (i : Bool) (y : Awaits) (k : ℕ → St
@@ -184,6 +189,7 @@ module _ (O : Observer) where
         → J (busy i y k) d w u → begins_by O o b l a w u ≡ watched O w u
     same_begun o b l a w (doing p q x) i y k d j = refl
     same_begun o b l a w starting i y k d j = refl
+    same_begun o b l a w at_rest i y k d j = elim j [ ]
 
     module _ (o : Op) (b : Buf) (i : Bool) (y : Awaits) (k : ℕ → St → tree.Out St Answer) (x : Watched O) where
       stepped : (a : Ans Answer) (d : Driver) (l : Buf) → J (busy i y k) d x.log x.under
@@ -264,6 +270,7 @@ module _ (O : Observer) where
         (watched O w u)
     stays v b n i y k d l w (doing o q x) j = record { claim = tt; standing = tt; next = j }
     stays v b n i y k d l w starting j = record { claim = tt; standing = tt; next = j }
+    stays v b n i y k d l w at_rest j = elim j [ ]
 
     proceeds : (v : ℕ) (b : Buf) (i : Bool) (y : Awaits) (k : ℕ → St → tree.Out St Answer) (d : Driver) (w : O.Log)
         (u : Under)
@@ -272,6 +279,7 @@ module _ (O : Observer) where
     proceeds v b i y k d w (doing o q l) j z f few = goes o i v b w q l (j.0 v (d, b) tt (refl, z, refl, f)) (j.1 v
         (d, b)) (j.2 v (d, b)) few
     proceeds v b i y k d w starting j z f few = starts i v b w j.0 (j.1 v (d, b) (refl, z, refl, f))
+    proceeds v b i y k d w at_rest j z f few = elim j [ ]
 
     row_16 : (v : ℕ) (b : Buf) (g : Bool) (i : Bool) (y : Awaits) (k : ℕ → St → tree.Out St Answer) (d : Driver)
         (w : O.Log) (u : Under)
@@ -301,6 +309,10 @@ module _ (O : Observer) where
     continues v b true (busy i y k) d l w u j z f few = stays v b 1 i y k d l w u j
     continues v b false (busy i y k) d l w u j z f few = row_16 v b (machine.over calls y v) i y k d w u j z (f refl)
         few
+    continues v b false idle d l w (doing _ _ _) j z f few = elim j [ ]
+    continues v b false idle d l w starting j z f few = elim j [ ]
+    continues v b true idle d l w (doing _ _ _) j z f few = elim j [ ]
+    continues v b true idle d l w starting j z f few = elim j [ ]
 
     -- one call
     step : (c : Call Config Op) (b : Buf) (m : Machine Answer Driver) (x : Watched O)
@@ -320,6 +332,8 @@ module _ (O : Observer) where
         by idle at_rest i few = afresh o b g (brought_so (calls.slots o) (misfit calls driver_of m.st b)) m.st
             m.buf x.log (fits_so (calls.slots o) m.st b) i z few
         by (busy h a k) u i few = row_1 o b g h a k m.st m.buf (watched O x.log u) z i
+        by idle (doing _ _ _) i few = elim i [ ]
+        by idle starting i few = elim i [ ]
     step (continue v) b m x j z few = continues v b (misfit calls driver_of m.st b) m.under_way_lem m.st m.buf
         x.log
         x.under j z (fits_by m.st b) few

@@ -95,6 +95,7 @@ opened : (o : Op) → Task o → (b : Buf) (w : Log) → opens o b w ≡ afresh 
 opened (slotted o) t b w = refl
 opened (other o) t b w = refl
 opened (aside o) t b w = refl
+opened interrupt t b w = elim t [ ]
 
 pub quiet-law : (o : Op) → Task o → poll_of o ≡ none → ((n : ℕ) (x : Log) → ends o n x ≡ x) → ((a : Answer) (x : Log)
     → EndsByReason o a x)

@@ -1,3 +1,4 @@
+use borrow.Enum.Refused.{opened}
 use Rattle.usbhs_c.specs.Setup.{NoSlice}
 use Rattle.usbhs_c.specs.SetupLaws.{take-nil, drop-nil}
 use mathlib.Core.Path.{◌∙◌, subst}
@@ -12,12 +13,10 @@ returns-in-Setup c =
     }
 
 pub returns-in-Done-clause-worded : goal.returns-in-Done-clause-worded
-returns-in-Done-clause-worded c =
-    (absurd (subst NoSlice c.in-Done.is c.requires)).0
+returns-in-Done-clause-worded c = absurd (subst NoSlice c.in-Done.is c.requires)
 
 pub returns-in-Done-clause-packet_after : goal.returns-in-Done-clause-packet_after
-returns-in-Done-clause-packet_after c =
-    (absurd (subst NoSlice c.in-Done.is c.requires)).1
+returns-in-Done-clause-packet_after c = absurd (subst NoSlice c.in-Done.is c.requires)
 
 pub returns-in-Shown : goal.returns-in-Shown
 returns-in-Shown c =
@@ -28,7 +27,7 @@ returns-in-Shown c =
 
 pub returns-in_default : goal.returns-in_default
 returns-in_default c =
-    let b = bare-answer c.args.step c.in_default.in_default-own.keys4 _ in
+    let b = bare-answer c.args.step (opened c.in_default.in_default-own.keys4) _ in
     record {
       worded = (_, c.word_of-in_default.ensures, λ d. (b d).same);
       packet_after = λ d. (b d).stays;

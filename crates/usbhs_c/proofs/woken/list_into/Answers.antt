@@ -37,7 +37,7 @@ loop-k-preserved c =
       ap (λ (v : ℕ). set c.loop-k.room c.loop-k.k v) (c.woken_at.ensures ∙ ap (λ (j : ℕ). get_or (view c.args.s.now).wakes.codes j 0) m)
           ∙ ap (λ (r : List ℕ). set r c.loop-k.k (get_or (view c.args.s.now).wakes.codes c.loop-k.k 0)) c.loop-k.invariant.1
           ∙ written_next c.loop-k.k (view c.args.s.now).wakes.codes c.args.room.now (omega (arith, h, view-codes c.args.s.now))
-          (omega (arith, h, (omega arith)))
+          (omega (arith, h))
           ∙ ap (λ (j : ℕ). written j (view c.args.s.now).wakes.codes c.args.room.now) (sym (add-one c.loop-k.k)),
     )
 
