@@ -1,22 +1,12 @@
 # SPDX-License-Identifier: MIT OR Apache-2.0
+# shellcheck shell=bash
 # What .ci/run is written with. To be sourced at the repository's root, under set -euo pipefail.
 
 exec </dev/null
 
-# in_memory: a folder that programs may be run from, in memory, if there is enough of it: a check copies what it uses,
-# half a gigabyte, to a temporary folder and removes it at its end
-in_memory() {
-    local folder
-    [ "$(awk '/^MemAvailable:/ { print int($2 / 1048576) }' /proc/meminfo)" -ge 16 ] || return
-    [ "$(df -Pk /dev/shm | awk 'NR == 2 { print int($4 / 1048576) }')" -ge 10 ] || return
-    folder=$(mktemp -d -p /dev/shm) || return
-    # rt runs programs as nobody
-    chmod 711 "$folder"
-    printf '#!/bin/sh\n' >"$folder/program" && chmod +x "$folder/program"
-    if "$folder/program"; then echo "$folder"; else rm -rf "$folder"; fi
-}
-memory=$(in_memory 2>/dev/null || true)
-[ -z "$memory" ] || export TMPDIR=$memory
+# how many checks of crates at a time: RT_JOBS, but no more than the processors
+jobs=$(nproc 2>/dev/null || echo 2)
+if [ "${RT_JOBS:-$jobs}" -lt "$jobs" ]; then jobs=$RT_JOBS; fi
 logs=$(mktemp -d)
 pids=() names=()
 # each step is a group of processes, which is ended with this one
@@ -24,7 +14,7 @@ set -m
 ended() {
     local pid
     for pid in ${pids[@]+"${pids[@]}"}; do kill -- "-$pid" 2>/dev/null || true; done
-    rm -rf "$logs" ${memory:+"$memory"}
+    rm -rf "$logs"
 }
 trap ended EXIT
 
@@ -80,6 +70,41 @@ join() {
     [ "$failed" -eq 0 ] || exit 1
 }
 
+# needs CRATE.. -- step|beside NAME COMMAND..: the step; but while PORTING-LEFT.md lists one of these crates ("every": any
+# crate) as `- CRATE: ..` and crates.txt does not, it is passed over, and a line says so. Without that page every step runs
+needs() {
+    local crate wanted=() left=''
+    while [ "$1" != -- ]; do
+        wanted+=("$1")
+        shift
+    done
+    shift
+    if [ -f PORTING-LEFT.md ]; then
+        for crate in $(sed -nE 's/^- `?([a-z][a-z0-9_]*)`?:.*/\1/p' PORTING-LEFT.md); do
+            if grep -qE "^$crate([[:space:]][^:]*)?:" crates.txt; then continue; fi
+            case " ${wanted[*]} " in *" $crate "* | *" every "*) left=$crate ;; esac
+        done
+    fi
+    if [ -n "$left" ]; then
+        echo "== $2: waits for crates that are not ported yet (PORTING-LEFT.md)"
+        return
+    fi
+    "$@"
+}
+
+# good_edits: no must-fail edit is a bad one, by rt ci's line; a bad one fails nothing there
+good_edits() {
+    local line
+    line=$(grep '^rt: ok\b' "$logs/rt-ci.log" | tail -n 1)
+    [ -n "$line" ] || { echo "rt ci has no line 'rt: ok'"; return 1; }
+    if grep -qE ', [1-9][0-9]* bad\b' <<<"$line"; then
+        grep 'BAD EDIT' "$logs/rt-ci.log" || true
+        echo "$line"
+        return 1
+    fi
+    echo "$line"
+}
+
 # passed: rt ci's last line
 passed() {
     local line
@@ -92,15 +117,12 @@ passed() {
 
 # and what the comparison is built of, before there is a port to link
 oracle_tests() {
-    cd oracle
+    cd oracle || return
     nice cargo test --offline --release
     nice cargo build --offline --release -p wider -p traced -p mutants
 }
 
-# two crates at a time
-named_edits() { AS_PROVED=1 RT_JOBS=2 nice tests/edits --every-test; }
-
-# one after the other, as both ask rt whether all is proved
+# one after the other, as each begins with the same crates
 wrong_drivers_and_scripts() {
     RT_JOBS=2 tests/wrong-drivers/run
     tests/wrong-pairs/run
@@ -112,17 +134,4 @@ calls_from_c() {
     export ARCHIVES=made
     tests/c/run
     tests/c/run fuzz "$1"
-}
-
-# target/staticlib/libCRATE.a and those for the chip, once a check beside has proved the crates: made in a tree of its
-# own
-archives() {
-    local tree
-    until [ -f target/stamp/usbhs_c ] && [ -f target/stamp/survey_c ]; do sleep 1; done
-    # shellcheck source=tests/trees.sh
-    . tests/trees.sh
-    tree=$(mktemp -d)
-    new_tree "$tree"
-    TREE=$tree firmware/build
-    rm -rf "$tree"
 }

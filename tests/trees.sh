@@ -1,25 +1,45 @@
 # SPDX-License-Identifier: MIT OR Apache-2.0
-# Shared by tests/edits, tests/wrong-drivers/run, tests/wrong-scripts/run and .ci/run: trees over what the check left,
-# and the names of facts. To be sourced at the repository's root, under set -euo pipefail.
+# shellcheck shell=bash
+# Shared by the tests that check changed crates (edits, facts, wrong-drivers, wrong-pairs, wrong-scripts) and by
+# firmware/build: copies of the crates, and the names of facts. To be sourced at the repository's root, under
+# set -euo pipefail.
 
 # how many checks at a time: RT_JOBS, but no more than the processors
 jobs=$(nproc 2>/dev/null || echo 2)
 if [ "${RT_JOBS:-$jobs}" -lt "$jobs" ]; then jobs=$RT_JOBS; fi
 
-# new_tree DIR: the crates with what is proved of them. The libraries are links to this tree's: one that is to be proved
-# again must first be forgotten there (forget)
+# new_tree DIR: the sources of the crates. What is proved of them is not copied: in a copy rt begins with what the checks
+# in others on this machine kept of the same crates
 new_tree() {
-    local lib
-    mkdir -p "$1/target/rlib"
-    cp -R crates crates.txt "$1"
-    cp -R target/stamp "$1/target"
-    for lib in target/rlib/*; do ln -s "$PWD/$lib" "$1/$lib"; done
+    mkdir -p "$1"
+    tar -cf - --exclude='crates/*/out' crates crates.txt | tar -xf - -C "$1"
+    if [ -f HANDLES ]; then cp HANDLES "$1"; fi
+}
+
+# listed: the crates of crates.txt, in its order
+listed() { sed -nE 's/#.*//; s/^([a-z][a-z0-9_]*)([ \t][^:]*)?:.*/\1/p' crates.txt; }
+
+# proved CRATE..: proves these crates as they stand, the lowest first; PROVED=1: they were just proved
+proved() {
+    local crate log
+    [ "${PROVED:-}" != 1 ] || return 0
+    log=$(mktemp)
+    for crate in $(listed); do
+        case " $* " in *" $crate "*) ;; *) continue ;; esac
+        if ! (cd "crates/$crate" && rt check) >"$log" 2>&1; then
+            tail -n 20 "$log"
+            rm -f "$log"
+            echo "$crate: not proved as it stands"
+            return 1
+        fi
+    done
+    rm -f "$log"
 }
 
 # deps_of CRATE: the crates of the repository that it uses
 deps_of() {
     local dep
-    for dep in $(sed -n "s/#.*//; s/^$1[ \t]*://p" crates.txt); do
+    for dep in $(sed -nE "s/#.*//; s/^$1([ \t][^:]*)?://p" crates.txt); do
         if [ -d "crates/$dep" ]; then echo "$dep"; fi
     done
 }
@@ -31,7 +51,8 @@ users_of() {
         { sub(/#.*/, ""); i = index($0, ":") }
         i {
             name = substr($0, 1, i - 1)
-            gsub(/[ \t]/, "", name)
+            sub(/^[ \t]*/, "", name)
+            sub(/[ \t].*/, "", name)
             names[++count] = name
             deps[name] = substr($0, i + 1)
         }
@@ -47,47 +68,14 @@ users_of() {
         }' crates.txt
 }
 
-# forget CRATE..: in a tree, what is proved of these crates
-forget() {
-    local crate
-    for crate in "$@"; do rm -rf "target/rlib/$crate.rlib" "target/stamp/$crate"; done
-}
-
-# words_of_rt CRATE: in a tree, the command by which rt dev checks the crate, a word a line. rt looks first whether all
-# that the crate uses is proved
-words_of_rt() {
-    local kit ours own folder file
-    own=on/$(uname -m)
-    kit=${RATTLE_HOME:-$(cd "$(dirname "$(readlink -f "$(command -v rt)")")/.." && pwd)}
-    # a kit of links, but for a rattle that says what it is called with
-    ours=$(mktemp -d)
-    mkdir -p "$ours/$own/bin"
-    printf '#!/bin/sh\nprintf "%%s\\n" "$0" "$@"\n' >"$ours/$own/bin/rattle"
-    chmod +x "$ours/$own/bin/rattle"
-    for folder in . "$own" "$own/bin"; do
-        for file in "$kit/$folder"/*; do
-            [ -e "$ours/$folder/${file##*/}" ] || ln -s "$file" "$ours/$folder/"
-        done
-    done
-    RATTLE_HOME=$ours rt dev "$1" 2>/dev/null | sed "s|$ours/|$kit/|"
-    rm -rf "$ours"
-}
-
-# keep_checked FOLDER LIBRARY: the modules of a library as its check left them, where a check with --incremental FOLDER
-# looks for them: below the name of the prover's build
-keep_checked() {
-    local build
-    build=$(sed -n 's/^rattle-build //p' "$2/format")
-    mkdir -p "$1/${build//\//_}"
-    cp -R "$2/toolchain/checked/." "$1/${build//\//_}"
-}
-
-# first_error LOG: FILE:LINE of the first place that the check names, from the crate's folder on
+# first_error CRATE LOG: CRATE/FILE:LINE of the first place at which a check in the crate's folder names an error; one that
+# says only that what it rests on was not admitted does not count
 first_error() {
     local at
-    at=$(grep -m 1 -o '^[^ ]*:[0-9]*:[0-9]*: error' "$1" || true)
-    [ -n "$at" ] || at=$(grep -m 1 -o '^note: [^ ]*:[0-9]*:[0-9]*:' "$1" || true)
-    printf '%s\n' "$at" | sed 's/^note: //; s/: error$//; s/:$//; s/:[0-9]*$//; s|^.*/crates/||'
+    at=$(grep -vE 'was not admitted|declarations? that depends? on ' "$2" |
+        grep -m 1 -oE '^[^ ]+:[0-9]+:[0-9]+: error' || true)
+    [ -n "$at" ] || at=$(grep -m 1 -oE '^note: [^ ]+:[0-9]+:[0-9]+:' "$2" || true)
+    printf '%s\n' "$at" | sed -E "s|^note: ||; s|: error\$||; s|:\$||; s|:[0-9]+\$||; s|^\./||; s|^.|$1/&|"
 }
 
 # fact_at CRATE/FILE:LINE: the definition, theorem or function that stands there: a name; in a function's proof
@@ -117,9 +105,9 @@ fact_at() {
                 name = $i
             }
             END {
-                if (match(file, /\/proofs\/.*\/[A-Za-z]*\.antt$/)) {
+                if (match(file, /\/proofs\/.*\/(Answers|Invariants|Proof)\.antt$/)) {
                     folder = substr(file, RSTART + 8)
-                    sub(/\/[^\/]*$/, "", folder)
+                    sub(/\/[A-Za-z]*\.antt$/, "", folder)
                     name = folder "." name
                 }
                 print name

@@ -6,6 +6,10 @@ use std::sync::atomic::{AtomicU16, AtomicU32, AtomicU8, Ordering::Relaxed};
 use std::time::Instant;
 
 const STATE_LEN: usize = 2999;
+// where crate state lays the endpoints' records and the recorded lengths, and a record's head
+const EPS: usize = 40;
+const LENS: usize = 1966;
+const HEAD: usize = 29;
 const CALLS: u32 = 20_000_000;
 const ROUNDS: usize = 15;
 
@@ -59,9 +63,9 @@ fn main() {
     }
     // the two did the same: heads and lengths agree
     for (e, s) in OUT_STATE.iter().enumerate() {
-        assert_eq!(state[e * 32 + 5], s.head.load(Relaxed));
+        assert_eq!(state[EPS + e * 32 + HEAD], s.head.load(Relaxed));
         for i in 0..16 {
-            let at = 1024 + (e * 16 + i) * 2;
+            let at = LENS + (e * 16 + i) * 2;
             assert_eq!(u16::from_le_bytes([state[at], state[at + 1]]), s.lens[i].load(Relaxed));
         }
         black_box((s.len.load(Relaxed), s.base.load(Relaxed), s.tail.load(Relaxed), s.overruns.load(Relaxed)));
