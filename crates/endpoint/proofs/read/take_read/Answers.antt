@@ -5,10 +5,7 @@ use mathlib.Core.Bool.{false}
 use lib.ListN.{length}
 use Rattle.regs.specs.declared.Dir.TheVariants.{Out}
 use Rattle.state.specs.State.{view}
-use Rattle.script_ops.specs.Records.{plain_of}
-use Rattle.script_ops.specs.Concrete.{go}
 use Rattle.endpoint.specs.Brought.{lends}
-use Rattle.endpoint.specs.Points.{read_on}
 use Rattle.endpoint.proofs.Laws.{reads, poll-none, poll-other, poll-takes, picks, leaves, onward}
 use Rattle.endpoint.proofs.read.take_read.Goals as goal
 
