@@ -1,6 +1,6 @@
 -- The Rust takes an endpoint's buffers one at a time (usb/mod.rs, alloc_endpoint, called n times): that is the test and
 -- the sum of
--- `bufferedOf`. Assumes nothing.
+-- `buffered_of`. Assumes nothing.
 use Rattle.std.specs.Prelude.{◌≡◌, refl, Bool, true, false, ℕ, zero, suc, ◌+◌, ◌≤◌, leb, ltb}
 use Rattle.std.proofs.Common.{◌∙◌, add-zero, arith, le-ltb, lt-ltb, leb-true, leb-false}
 use Rattle.alloc.specs.Alloc.{if}

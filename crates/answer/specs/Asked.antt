@@ -1,4 +1,4 @@
--- The access that a word hands out, by its kind, 1 to 4: a part of `ofKind` (call_answer_word/specs/Parts.antt)
+-- The access that a word hands out, by its kind, 1 to 4: a part of `of_kind` (call_answer_word/specs/Parts.antt)
 use Rattle.std.specs.Prelude.{cond, ℕ, ◌/◌, ◌^◌, eqb}
 use Rattle.regs.specs.declared.Access.{Access}
 use Rattle.regs.specs.declared.Access.TheVariants.{Read, Wait, Callback}

@@ -92,7 +92,7 @@ after_flags flags =
 
 -- ---- `endpoint_set_enabled`
 
--- `reset-ring`, and the record's other fields renewed
+-- `reset_ring`, and the record's other fields renewed
 abbrev pub renewed_as : Driver → Dir → ℕ → ℕ → Driver
 renewed_as d dir e armed =
     let x = emptied_on d dir e in

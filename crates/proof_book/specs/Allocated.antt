@@ -1,5 +1,5 @@
 -- Which endpoints are isochronous, by the calls: the kind with which each was allocated. Document 01 has no other word
--- for it, and the book's own flag (`isoOf`) is held against this one. Definitions; FrontPage.antt says it of every call
+-- for it, and the book's own flag (`iso_of`) is held against this one. Definitions; FrontPage.antt says it of every call
 use Rattle.std.specs.Prelude.{Bool, false, List, [], ◌∷◌, ℕ}
 use Rattle.regs.specs.declared.Dir.{Dir}
 use Rattle.state.specs.declared.Allocator.{Allocator}

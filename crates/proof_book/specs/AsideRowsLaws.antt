@@ -1,4 +1,4 @@
--- Which row refuses an open, close or queue that rows 1 and 3 do not stop, by the book (asideRow of FrontPage.antt)
+-- Which row refuses an open, close or queue that rows 1 and 3 do not stop, by the book (aside_row of FrontPage.antt)
 use Rattle.std.specs.Prelude.{Bool, true, false, not, cond, ◌&&◌, ◌≡◌, refl, ℕ, eqb, ltb, length}
 use Rattle.std.proofs.Common.{true≢false, subst, sym, ◌∙◌}
 use Rattle.regs.specs.declared.Dir.TheVariants.{Out, In}

@@ -340,7 +340,7 @@ slot_size t = t.kept.allocator.size
 
 -- the first of those waiting on IN e is being sent: from the call that hands out its slot's transmit address on, up to
 -- the one in which the tail passes it, its endpoint is reset or given by an allocation, or a start-up is accepted
--- (Book: sentIn; passedIn, emptyIn, freshPages)
+-- (Book: sent_in; passed_in, empty_in, fresh_pages)
 abbrev pub BeingSent : Pages → ℕ → Type 0
 BeingSent t e = (t.ins e).sending ≡ true
 
@@ -498,7 +498,7 @@ pub record Sentences (c : Call Config Op) (lent : Buf) (n : Machine Answer Pages
   pub sending_ends : (e : ℕ) → BeingSent n.st e → Sends e n.st t'
   pub load_tells : (e x : ℕ) → a ≡ handed (Transmit e x) → (t'.ins e).load ≡ true → BeingSent t' e
       × ((t'.ins e).source ≡ x)
-  -- "no slot being sent is bookStep", whatever the chip stores, where it may, before the next call
+  -- "no slot being sent is written", whatever the chip stores, where it may, before the next call
   pub unwritten : (b' : Buf) → Chip t' b b' → Unwritten t' b'
   -- demand 1: no address that is handed out reaches outside the lent buffer
   pub inside : Inside a b t'
@@ -516,7 +516,7 @@ LengthIs m n k = (e : ℕ) → Decides m.event.call n m.answer e → (q : Packet
     → length q.bytes ≡ length_at k.readings m.event.lent n.st e
 
 -- "All else, refusals too: no change": call m leaves the pages of every endpoint that it does not name; k: what the
--- operation under way names. The release of a bus reset's flag empties all (`bus-reset-empties`)
+-- operation under way names. The release of a bus reset's flag empties all (`bus_reset_empties`)
 abbrev pub OthersStay : CallRecord → Machine Answer Pages → Names → Type 0
 OthersStay m n k = releasing m.answer ≡ false → (d : Dir) (e : ℕ) → Away (call_names m.event.call k) d e
     → SamePage d e n.st (book_after m n).1.st
@@ -566,7 +566,7 @@ NoneUnsent m n k = (e v r : ℕ) (ws : List ℕ) → e < 16 → m.event.call ≡
     → let t = (book_after m n).1.st in
     SentAll (hears v k) (values_of n.st e) e (last_in t e) t.kept.globals.sof_frame
 
--- which endpoints are enabled is what was last bookStep to ep_config
+-- which endpoints are enabled is what was last written to ep_config
 abbrev pub ConfigKept : CallRecord → Machine Answer Pages → Type 0
 ConfigKept m n = (v : ℕ) → m.answer ≡ handed (Write EpConfig 0 v) → (book_after m n).1.st.kept.globals.ep_config ≡ v
 
@@ -633,7 +633,7 @@ Demand3 = (c : Config) (b : Buf) → start_row c b ≡ zero
     × ((k : Known) → WritesEach n k (first ∷ ms)) × AnswersEach n (first ∷ ms)
     × ((k : Heard) → LoadsEach n k (first ∷ ms)) × ((f : Sorts) → SortsEach n f (first ∷ ms))
 
--- ---- no slot being sent is bookStep, between two moments
+-- ---- no slot being sent is written, between two moments
 
 -- the slot buffer and the book after calls
 abbrev pub slots_after : Buf → List CallRecord → Buf

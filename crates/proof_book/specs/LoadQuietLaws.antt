@@ -56,7 +56,7 @@ of-toggled In e = search (looks-steady, calmly) depth 30
 pub of-out-arm : (y : Transfer) (iso : Bool) → Calm steady Unit (out_arm y iso)
 of-out-arm y iso = search (of-toggled, calmly) depth 30
 
--- an IN that is not isochronous (the end of `inArm`)
+-- an IN that is not isochronous (the end of `in_arm`)
 abbrev pub plain_in : {i : Bool} → Transfer → Script i Unit
 plain_in x = test (eqb (endpoint x.st) 0)
     (do

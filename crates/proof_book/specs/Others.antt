@@ -71,7 +71,7 @@ slotted_names (PollWrite e bytes) = only In e
 slotted_names (PollDataOut n) = none
 slotted_names (BeginDataIn bytes first last) = none
 
--- an allocation gives a number of its own choice; it changes no packet (`early-leaves` of FrontPage.antt)
+-- an allocation gives a number of its own choice; it changes no packet (`early_leaves` of FrontPage.antt)
 abbrev pub other_names : Other → Names
 other_names (Allocate d kind address maximum interval) = any
 other_names (AllocateAll bytes) = any
@@ -106,7 +106,7 @@ op_names (slotted o) = slotted_names o
 op_names (other o) = other_names o
 op_names (aside o) = aside_names o
 
--- and in its continues; those of an interrupt continue by their accesses (`unmoved`, `unmoved-in`)
+-- and in its continues; those of an interrupt continue by their accesses (`unmoved`, `unmoved_in`)
 abbrev pub on_names : Op → Names
 on_names interrupt = any
 on_names (slotted o) = slotted_names o

@@ -1,6 +1,6 @@
 -- "Load": the length that a continue writes for an IN is its packet's where its transmit address came just before,
 -- else 0
--- where none is left; and ep_config is bookStep as it is kept. The scripts of all calls, and every list of calls of the
+-- where none is left; and ep_config is written as it is kept. The scripts of all calls, and every list of calls of the
 -- code
 use Rattle.std.specs.Prelude.{Bool, true, false, not, cond, ◌&&◌, ◌||◌, List, [], ◌∷◌, ◌≡◌, refl, ℕ, zero, suc, ◌%◌, ◌<◌, eqb, ltb, length}
 use Rattle.std.proofs.Common.{true≢false, ap, subst, sym, ◌∙◌, eq-eqb, lt-ltb}
@@ -71,7 +71,7 @@ use Rattle.proof_book.specs.InterruptPartsLaws.{p_waken, p_arrive, of_interrupt}
 
 -- ---- a run, access by access; q₀: the access handed out last
 
--- ep_config is bookStep as it is kept
+-- ep_config is written as it is kept
 abbrev Configured : Access → Bk → Type 0
 Configured q t = (v : ℕ) → q ≡ Write EpConfig 0 v → t.0.kept.globals.ep_config ≡ v
 
@@ -779,7 +779,7 @@ load-length c a f n h l same e x v one goes is =
     (λ same. fits a e x v f n l one h (misfit calls book.driver n.st l)
     (same_write (book_step a (continue v) n l).0 a EpTLen e x same is) is) same
 
--- ep_config is kept as it is bookStep
+-- ep_config is kept as it is written
 module _ (x : Ans Answer) (v : ℕ) where
   abbrev Keeps : Ans Answer × Machine Answer Pages → Type 0
   Keeps y = y.0 ≡ handed (Write EpConfig 0 v) → y.1.st.kept.globals.ep_config ≡ v

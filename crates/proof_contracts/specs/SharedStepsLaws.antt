@@ -1,6 +1,6 @@
 -- Theorems over lists of calls of the driver alone (`Steps`, proof_book/specs/CodeReadings.antt) hold of the public
 -- calls, of which start-up, enabling and continue bring the record of bus time: such a list is one of the driver alone
--- in which a call that row 19 stops is a question (`allAlone`, SharedAlone.antt). Of what the calls are lent nothing is
+-- in which a call that row 19 stops is a question (`all_alone`, SharedAlone.antt). Of what the calls are lent nothing is
 -- asked. A refusal, 19 too, leaves every byte that was lent
 use Rattle.std.specs.Prelude.{Bool, true, false, cond, List, [], ◌∷◌, ◌++◌, ◌≡◌, refl, ℕ, zero, ◌+◌, ◌%◌, ◌≤◌, eqb, length}
 use Rattle.std.proofs.Common.{inl, inr, ap, subst, sym, ◌∙◌, arith}

@@ -45,7 +45,7 @@ Brings x st (Ep0Dma y) v v' = Unit {0}
 Brings x st (Wait n) v v' = Unit {0}
 Brings x st Callback v v' = Unit {0}
 
--- by what follows, an access may be made for x (`madeFor`); all others are not
+-- by what follows, an access may be made for x (`made_for`); all others are not
 abbrev pub ownable : ℕ → Access → Bool
 ownable x (Receive e y) = eqb e x
 ownable x (Read r e) = same_reg r IntSt

@@ -37,7 +37,7 @@ within : (k : ℕ) (v : EpCore) → too_long k v ≡ false → v.len ≤ v.max_l
 unfolding too_long
 within k v h = ltb-false v.max_len v.len (or_false (ltb k v.len) (ltb v.max_len v.len) h)
 
--- the parts of `take-ready` and of a read's poll
+-- the parts of `take_ready` and of a read's poll
 abbrev taken : {i : Bool} → ℕ → ℕ → EpCore → Script i Answer
 taken e k v = test (too_long k v) (ends_request Out e (Refused 10))
     (bind (fetch (received e v.len)) (λ w. ends_request Out e (Done w)))

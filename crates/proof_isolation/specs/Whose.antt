@@ -30,7 +30,7 @@ receives_next x (asks q s k) = receives x q
 abbrev pub sof : ℕ
 sof = 16
 
--- an interrupt's access `q` is made for x: its receive address; and the status read in its check (`checkOne`), upon
+-- an interrupt's access `q` is made for x: its receive address; and the status read in its check (`check_one`), upon
 -- which its receive address is handed out where the status shows no OUT. `o`: what would go on with such a status
 abbrev pub made_for : {A : Type 0} → ℕ → Access → tree.Out St A → Bool
 made_for x (Receive e y) o = eqb e x

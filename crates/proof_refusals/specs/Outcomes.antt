@@ -26,7 +26,7 @@ abbrev pub OutLeaves : Poll → St → Out St Answer → Type 0
 OutLeaves x s (ends a t) = AnswerLeaves x s a t
 OutLeaves x s (asks q t k) = Unit {0}
 
--- the script's run from t, where it ends at once with refusal n, leaves of the state s what `leftBy` says, and the
+-- the script's run from t, where it ends at once with refusal n, leaves of the state s what `left_by` says, and the
 -- buffer of s
 pub record LeavesByRow (x : Poll) (s t : St) {i : Bool} (p : Script i Answer) : Type 0 where
   pub leaves : OutLeaves x s (run concrete p t)

@@ -280,7 +280,7 @@ module _ {S : Type 0} {O : Ops S} {K : S → Type 0} {iso : TransferKinds} (M : 
       reads-bind (k * 1) l (when-reads (λ _. iso_out_check-reads k b x f)) (λ _ _.
       when-reads (λ e. reads_more (ep0_moved_on-reads (token x.st)) (z e)))))))
 
-  -- `onTransfer` once the wait is over
+  -- `on_transfer` once the wait is over
   rest-late : (x : Transfer) → token x.st ≡ tok.Out → iso Out (endpoint x.st) ≡ true
       → Reads O K 47 Any (frames {i = i} x)
   rest-late x t y = free (no-get M (ep-cell _ _)) (λ o so. free (no-get M (ep-cell _ _))

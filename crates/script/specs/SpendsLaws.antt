@@ -81,7 +81,7 @@ module _ {i c : Bool} {r w : ℕ} where
   pub when-spends : {b : Bool} {p : Script i Unit} → Spends c r w p → Spends c r w (when b p)
   when-spends x = either x ret
 
-  -- an assignment (`modify`, `modifyEp`, `wake`), and one that is written out (`modifyIntEn`)
+  -- an assignment (`modify`, `modify_ep`, `wake`), and one that is written out (`modify_int_en`)
   pub assign : (x : Cell) {f : Val x → Val x} → Spends {i = i} c r w (bind (get x) (λ v. put x (f v)))
   assign x = free (spends.get (λ _. ret)) (λ _. spends.put ret)
 

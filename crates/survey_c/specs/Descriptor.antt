@@ -1,4 +1,4 @@
--- A descriptor's list written out: the word. What the caller's room holds then is `roomRewritten`
+-- A descriptor's list written out: the word. What the caller's room holds then is `room_rewritten`
 -- (`descriptor/specs/Rewriting.antt`).
 use Rattle.std.specs.Prelude.{ℕ}
 use Rattle.descriptor.specs.declared.Written.{Written}
