@@ -12,7 +12,7 @@ if [ "${RT_JOBS:-$jobs}" -lt "$jobs" ]; then jobs=$RT_JOBS; fi
 # in others on this machine kept of the same crates
 new_tree() {
     mkdir -p "$1"
-    tar -cf - --exclude='crates/*/out' crates crates.txt | tar -xf - -C "$1"
+    tar -cf - --anchored --no-wildcards-match-slash --exclude='crates/*/out' crates crates.txt | tar -xf - -C "$1"
     if [ -f HANDLES ]; then cp HANDLES "$1"; fi
 }
 
