@@ -70,28 +70,6 @@ join() {
     [ "$failed" -eq 0 ] || exit 1
 }
 
-# needs CRATE.. -- step|beside NAME COMMAND..: the step; but while PORTING-LEFT.md lists one of these crates ("every": any
-# crate) as `- CRATE: ..` and crates.txt does not, it is passed over, and a line says so. Without that page every step runs
-needs() {
-    local crate wanted=() left=''
-    while [ "$1" != -- ]; do
-        wanted+=("$1")
-        shift
-    done
-    shift
-    if [ -f PORTING-LEFT.md ]; then
-        for crate in $(sed -nE 's/^- `?([a-z][a-z0-9_]*)`?:.*/\1/p' PORTING-LEFT.md); do
-            if grep -qE "^$crate([[:space:]][^:]*)?:" crates.txt; then continue; fi
-            case " ${wanted[*]} " in *" $crate "* | *" every "*) left=$crate ;; esac
-        done
-    fi
-    if [ -n "$left" ]; then
-        echo "== $2: waits for crates that are not ported yet (PORTING-LEFT.md)"
-        return
-    fi
-    "$@"
-}
-
 # good_edits: no must-fail edit is a bad one, by rt ci's line; a bad one fails nothing there
 good_edits() {
     local line
