@@ -78,8 +78,8 @@ first_error() {
     printf '%s\n' "$at" | sed -E "s|^note: ||; s|: error\$||; s|:\$||; s|:[0-9]+\$||; s|^\./||; s|^.|$1/&|"
 }
 
-# first_unproved CRATE LOG: CRATE/FILE:LINE of the first function of which a check in the crate's folder says that what it
-# ensures is not proved: its body breaks its contract
+# first_unproved CRATE LOG: CRATE/FILE:LINE of the first function of which a check in the crate's folder says that what
+# it ensures is not proved: its body breaks its contract
 first_unproved() {
     local told='it is not proved that what the function ensures holds'
     sed -nE "s|^note: (src/[^ :]+:[0-9]+):[0-9]+: $told.*|$1/\\1|p" "$2" | head -n 1
