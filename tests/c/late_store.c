@@ -4,7 +4,7 @@
  * Run A has no packet for the channel, and gets the others' store at the last access before the checks. Run B has one, and
  * gets the store at the channel's own status reading. Where the store is OUT 1's, whose check B has behind it, A hands out
  * two accesses made for OUT 1 and B none: the two do not line up, which the sentence asks of them (`seen-parts`,
- * crates/proof_isolation/specs/SeenLaws.antt). Where it is OUT 3's, whose check is still to come, they line up. */
+ * crates/proof_isolation/proofs/SeenLaws.antt). Where it is OUT 3's, whose check is still to come, they line up. */
 #include <string.h>
 #include "expect.h"
 

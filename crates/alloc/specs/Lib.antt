@@ -3,7 +3,6 @@ pub mod Number
 pub mod Outcome
 pub mod Run
 pub mod Sound
-pub mod SoundLaws
 pub mod Apart
 pub mod Rows
 pub mod OneByOne

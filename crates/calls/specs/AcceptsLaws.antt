@@ -18,7 +18,7 @@ use Rattle.machine.specs.declared.Suspended.{Suspended}
 use Rattle.machine.specs.Suspended.{machine_at, drive, halts, slots_fit}
 use Rattle.answer.specs.Goes.{StepResult}
 use Rattle.machine.specs.Rows.{is_idle, stop_of}
-use Rattle.machine.specs.RowsLaws.{named-call}
+use Rattle.machine.proofs.RowsLaws.{named-call}
 use Rattle.calls.specs.Sharing.{is_handed}
 use Rattle.calls.specs.Accepts.{accepts}
 

@@ -18,7 +18,7 @@ use Rattle.answer.specs.declared.Step.{Step}
 use Rattle.machine.specs.Suspended.{decode, machine_at, machine_of, halts, answer_of}
 use Rattle.answer.specs.Goes.{StepResult}
 use Rattle.machine.specs.Rows.{is_idle, may_pass}
-use Rattle.machine.specs.RowsLaws.{besides, besides-ends}
+use Rattle.machine.proofs.RowsLaws.{besides, besides-ends}
 
 -- the state's bytes before and after the call, the slots after it, what the script comes to, and what a call that is
 -- stopped comes to

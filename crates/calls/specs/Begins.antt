@@ -19,7 +19,7 @@ use Rattle.driver.specs.Points.{new_endpoint, start_ep0}
 use Rattle.machine.specs.declared.Suspended.{Suspended}
 use Rattle.machine.specs.Suspended.{machine_at, finish, drive, halts}
 use Rattle.answer.specs.Goes.{StepResult}
-use Rattle.machine.specs.RowsLaws.{back, other-call, passed, Passes, answered-idle}
+use Rattle.machine.proofs.RowsLaws.{back, other-call, passed, Passes, answered-idle}
 
 -- ---- allocation
 

@@ -14,7 +14,7 @@ use Rattle.driver.specs.Points.{set_paced}
 use Rattle.machine.specs.declared.Suspended.{Suspended}
 use Rattle.machine.specs.Suspended.{machine_at, drive, halts}
 use Rattle.answer.specs.Goes.{StepResult}
-use Rattle.machine.specs.RowsLaws.{back, numbered-call, accepted, Passes, answered-idle}
+use Rattle.machine.proofs.RowsLaws.{back, numbered-call, accepted, Passes, answered-idle}
 
 abbrev pub pacing : ℕ → Bool → Script false Answer
 pacing e on = do

@@ -14,7 +14,7 @@ use Rattle.answer.specs.declared.Step.TheVariants as step
 use Rattle.machine.specs.Suspended.{SavedByAnswer}
 use Rattle.machine.specs.Stands.{StepsTo, halted}
 use Rattle.machine.specs.CallContracts.{OtherCall}
-use Rattle.machine.specs.ContractsLaws.{begins, other-passed, other-stopped}
+use Rattle.machine.proofs.ContractsLaws.{begins, other-passed, other-stopped}
 use Rattle.calls.specs.Enters.{Enters}
 
 -- o runs the operation p

@@ -21,7 +21,7 @@ use Rattle.driver.specs.EachLaws.{each-run}
 use Rattle.machine.specs.declared.Suspended.{Suspended}
 use Rattle.machine.specs.Suspended.{machine_at, finish, drive, halts}
 use Rattle.machine.specs.Rows.{is_idle, stop_of}
-use Rattle.machine.specs.RowsLaws.{back, other-call, passed, passed-idle, ends-idle, Passes}
+use Rattle.machine.proofs.RowsLaws.{back, other-call, passed, passed-idle, ends-idle, Passes}
 use Rattle.calls.specs.Listed.{trying, allocated_all}
 
 module _ (es : List Endpoint) (d : Driver) (b : Buf) (n : ℕ) (refusal : n ≡ (trial_of d.allocator es).refusal) where

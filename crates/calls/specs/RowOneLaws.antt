@@ -6,7 +6,7 @@ use Rattle.answer.specs.declared.Step.{Step}
 use Rattle.machine.specs.Suspended.{decode, machine_of, drive, answer_of, slots_fit, lent_or}
 use Rattle.answer.specs.Goes.{StepResult}
 use Rattle.machine.specs.GoesLaws.{proceeds}
-use Rattle.machine.specs.RowsLaws.{back}
+use Rattle.machine.proofs.RowsLaws.{back}
 use Rattle.machine.specs.Stands.{Resumes}
 
 -- the slots are as long as the driver's buffers: the operation goes on

@@ -12,7 +12,7 @@ use Rattle.script.specs.Calls.{interrupt, interrupt_code}
 use Rattle.script.specs.Every.{at_ask, Throughout, same_reg}
 use Rattle.script.specs.EveryLaws.{only-run}
 use Rattle.script.specs.Steps.{moving, may_ask, Steps}
-use Rattle.script.specs.StepsCalls.{call-steps}
+use Rattle.script.proofs.StepsCalls.{call-steps}
 use Rattle.script.specs.StepsRunsLaws.{writes-config, accesses}
 use Rattle.script_ops.specs.Rings.{St}
 use Rattle.script_ops.specs.Concrete.{concrete}

@@ -14,7 +14,7 @@ use Rattle.script_ops.specs.Rows.{stallable}
 use Rattle.machine.specs.declared.Suspended.{Suspended}
 use Rattle.machine.specs.Suspended.{machine_at, drive, halts}
 use Rattle.machine.specs.Rows.{is_idle, stop_of}
-use Rattle.machine.specs.RowsLaws.{rowed, other-call, past_row}
+use Rattle.machine.proofs.RowsLaws.{rowed, other-call, past_row}
 
 pick : {A : Type 0} (x y : Bool) (p q : A) → cond x p (cond y p q) ≡ cond (cond x true y) p q
 pick true y p q = refl

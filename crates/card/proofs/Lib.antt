@@ -2,3 +2,15 @@ pub mod Laws
 pub mod ReaderLaws
 pub mod Taking
 pub mod WriterLaws
+pub mod Clean
+pub mod Progress
+pub mod Theorem
+pub mod WholeLaws
+pub mod TurnsLaws
+pub mod SeenLaws
+pub mod RunsLaws
+pub mod InsideLaws
+pub mod BatchLaws
+pub mod InTurnLaws
+pub mod Begins
+pub mod StreamLaws

@@ -2,7 +2,7 @@
 use Rattle.std.proofs.Common.{◌≡◌, ℕ, suc, ◌+◌, ◌-◌, ◌*◌, ◌/◌, ◌<◌, ◌≤◌, true, false, List, length, arith, le-ltb, lt-ltb}
 use Rattle.card.specs.Streams.{placed, checked, good_block}
 use Rattle.card.specs.Reading.{View, block_end, clean_to, clean_up_to, seek, begins}
-use Rattle.card.specs.SeenLaws.{clean-behind}
+use Rattle.card.proofs.SeenLaws.{clean-behind}
 
 pub clean-more : (v : View) (k end : ℕ) → k < end → v.good k ≡ true → clean_to v k (end - k)
     ≡ clean_to v (k + 1) (end - (k + 1))

@@ -4,14 +4,14 @@ use native.Mathlib.Decide.{dec_lt}
 use lib.Seq.{paste}
 use Rattle.card.specs.declared.stream.Found.TheVariants as found
 use Rattle.card.specs.Reading.{View, total, bytes_from, find}
-use Rattle.card.specs.Progress.{find-fits}
+use Rattle.card.proofs.Progress.{find-fits}
 use Rattle.card.specs.Rooms.{length-bytes}
 use Rattle.card.specs.Seen.{Seen}
-use Rattle.card.specs.SeenLaws.{seen_none}
+use Rattle.card.proofs.SeenLaws.{seen_none}
 use Rattle.card.specs.Batches.{Some, none, some_from, front, Takes}
-use Rattle.card.specs.BatchLaws.{behind, some_more, some-standing, front-more, found-seen}
+use Rattle.card.proofs.BatchLaws.{behind, some_more, some-standing, front-more, found-seen}
 use Rattle.card.specs.Inside.{Near}
-use Rattle.card.specs.InsideLaws.{standing-count, standing-lies}
+use Rattle.card.proofs.InsideLaws.{standing-count, standing-lies}
 
 -- so many packets are in the room, and what is left to be taken joins them to all
 pub record Taking (v : View) (all : Some) (lent room : List ℕ) (count used d first : ℕ) : Type 0 where

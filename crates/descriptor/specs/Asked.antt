@@ -8,7 +8,8 @@ use Rattle.alloc.specs.declared.Answer.{Answer}
 use Rattle.alloc.specs.declared.Answer.TheVariants.{Refused, Given}
 use Rattle.alloc.specs.declared.Allocation.{Allocation}
 use Rattle.alloc.specs.Alloc.{is_iso, slots_of}
-use Rattle.alloc.specs.Outcome.{Outcome, six, seven, eight, given, outcome}
+use Rattle.alloc.specs.Outcome.{Outcome, six, seven, eight, given}
+use Rattle.alloc.proofs.OutcomeLaws.{outcome}
 use Rattle.descriptor.specs.declared.Endpoint.{Endpoint}
 use Rattle.descriptor.specs.Trial.{direction_of, asked}
 

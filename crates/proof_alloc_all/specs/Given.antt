@@ -16,7 +16,8 @@ use Rattle.alloc.specs.declared.Answer.{Answer}
 use Rattle.alloc.specs.declared.Answer.TheVariants.{Given}
 use Rattle.alloc.specs.declared.Allocation.{Allocation}
 use Rattle.alloc.specs.Alloc.{if, is_iso, is_free, dir_bit, asked_of, number_of, allocated}
-use Rattle.alloc.specs.Outcome.{Gives, Outcome, six, seven, eight, given, outcome}
+use Rattle.alloc.specs.Outcome.{Gives, Outcome, six, seven, eight, given}
+use Rattle.alloc.proofs.OutcomeLaws.{outcome}
 use Rattle.descriptor.specs.declared.Endpoint.{Endpoint}
 use Rattle.descriptor.specs.Trial.{direction_of, asked}
 use Rattle.script_ops.specs.Records.{with_iso_sets, iso_added, with_sets, record_given, sets_given, given_to, allocated_on}

@@ -5,8 +5,6 @@ pub mod SettledLaws
 pub mod Walk
 pub mod WalkLaws
 pub mod Order
-pub mod OrderLaws
 pub mod Brought
-pub mod BroughtLaws
 pub mod Preview
 pub mod Row

@@ -15,7 +15,7 @@ use Rattle.alloc.specs.Alloc.{if, is_iso, is_out, slots_of, allocated_ins, alloc
 use Rattle.alloc.specs.Outcome.{same_dir, in_added, Gives}
 use Rattle.alloc.specs.Run.{endpoint}
 use Rattle.alloc.specs.Sound.{Sound}
-use Rattle.alloc.specs.SoundLaws.{sound-call}
+use Rattle.alloc.proofs.SoundLaws.{sound-call}
 use Rattle.descriptor.specs.declared.Endpoint.{Endpoint}
 use Rattle.descriptor.specs.Trial.{direction_of, asked}
 use Rattle.driver.specs.Each.{one_on}

@@ -9,7 +9,7 @@ use Rattle.state.specs.Driver.{Driver, key, ep_on}
 use Rattle.ring.specs.Slot.{count_of}
 use Rattle.ring.specs.Slots.{slot-from, slot-upto}
 use Rattle.ring.specs.Copies.{bytes_at, copied}
-use Rattle.ring.specs.MarksSlots.{only-copied}
+use Rattle.ring.proofs.MarksSlots.{only-copied}
 use Rattle.script.specs.Simulates.{quiet}
 use Rattle.script.specs.Cells.{EpCore}
 use Rattle.script.specs.Script as script

@@ -15,7 +15,7 @@ use Rattle.ring.specs.Slot.{after, slot_addr, count_of}
 use Rattle.ring.specs.Waiting.{waiting}
 use Rattle.ring.specs.Slots.{slots_apart, slot-from, slot-upto}
 use Rattle.ring.specs.Laws.{waiting_kept}
-use Rattle.ring.specs.OutLaws.{armed-away}
+use Rattle.ring.proofs.OutLaws.{armed-away}
 use Rattle.script.specs.Script.{switch, bus_reset_lem}
 use Rattle.script.specs.Simulates.{Phase, quiet, mid}
 use Rattle.script.specs.Statics.{is_on, iso_outs}

@@ -1,5 +1,5 @@
 -- What an operation of driver and book has to show, and what a ring's record says of those that wait
-use Rattle.std.specs.Prelude.{Bool, List, [], ◌∷◌, ◌≡◌, ℕ, ◌+◌, ◌*◌, ◌/◌, ◌%◌, ◌≤◌, ◌<◌, ltb, length, get_or}
+use Rattle.std.specs.Prelude.{Bool, ◌&&◌, List, [], ◌∷◌, ◌≡◌, ℕ, ◌+◌, ◌*◌, ◌/◌, ◌%◌, ◌≤◌, ◌<◌, ltb, length, get_or}
 use Rattle.std.proofs.Math.Bool.{true, false, cond}
 use Rattle.std.proofs.Common.{true≢false, sym, ◌∙◌, arith, ltb-true, lt-ltb}
 use Rattle.std.proofs.Math.Path.{refl, ap}
@@ -30,6 +30,14 @@ use Rattle.proof_book.specs.Book.{some, first, first_stamp, is_b, look_b, fetch_
 use Rattle.proof_book.specs.Coupling.{Used, Shape, lens_of, slot_stamps, Held, OutFits, Coupling, Good}
 use Rattle.proof_book.specs.LensLaws.{lens-at, lens-length, stamps-at}
 use Rattle.proof_book.specs.StampsLaws.{split-stamps}
+
+pub left : (x y : Bool) → (x && y) ≡ true → x ≡ true
+left true y h = refl
+left false y h = absurd (true≢false (sym h))
+
+pub right : (x y : Bool) → (x && y) ≡ true → y ≡ true
+right true y h = h
+right false y h = absurd (true≢false (sym h))
 
 -- ---- each operation, of driver and book
 

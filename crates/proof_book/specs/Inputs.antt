@@ -5,7 +5,7 @@ use Rattle.std.proofs.Common.{inl, inr, arith, leb-true}
 use Rattle.bits.specs.Bit.{bit_is_set}
 use Rattle.alloc.specs.Alloc.{allocated_ins}
 use Rattle.ring.specs.Copies.{copied}
-use Rattle.ring.specs.MarksSlots.{only-copied}
+use Rattle.ring.proofs.MarksSlots.{only-copied}
 use Rattle.regs.specs.declared.Dir.TheVariants.{Out}
 use Rattle.state.specs.Driver.{Driver}
 use Rattle.script.specs.Answers.{Answer}
@@ -16,7 +16,7 @@ use Rattle.proof_book.specs.Pages.{Pages}
 use Rattle.proof_book.specs.Book.{book}
 use Rattle.proof_book.specs.FrontPage.{book_step, Chip, when_not, BufferPreserved}
 use Rattle.proof_book.specs.MachineRuns.{Premise}
-pub use Rattle.proof_book.specs.InsLaws.{left, right}
+pub use Rattle.proof_book.specs.HeldLaws.{left, right}
 
 -- a call, what the chip stores before it, and whether what it comes to is told
 pub record Input : Type 0 where

@@ -19,7 +19,7 @@ use Rattle.script.specs.Machine.{Buf}
 use Rattle.proof_alloc_all.specs.Settled.{Settled}
 use Rattle.proof_alloc_all.specs.SettledLaws.{slots-some}
 use Rattle.proof_alloc_all.specs.Order.{InOrder}
-use Rattle.proof_alloc_all.specs.OrderLaws.{in_order_lem}
+use Rattle.proof_alloc_all.proofs.OrderLaws.{in_order_lem}
 use Rattle.proof_book.specs.Pages.{Pages}
 use Rattle.proof_book.specs.Coupling.{Used, Shape, Coupling}
 

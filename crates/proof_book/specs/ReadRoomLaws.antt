@@ -15,10 +15,12 @@ use Rattle.state.specs.Driver.{Driver, key, no_ep, no_request, ep_on, with_on, r
 use Rattle.state.specs.Laws.{key-same, key_apart}
 use Rattle.alloc.specs.declared.Allocation.{Allocation}
 use Rattle.alloc.specs.Alloc.{taken_ins, allocate_of, allocate_ep0_of, with_next, is_iso}
-use Rattle.alloc.specs.Outcome.{same_dir, stays, Takes, Outcome, six, seven, eight, given, outcome}
-use Rattle.alloc.specs.Run.{endpoint, ep0, Step, kept, gave_ep0, step}
+use Rattle.alloc.specs.Outcome.{same_dir, Takes, Outcome, six, seven, eight, given}
+use Rattle.alloc.proofs.OutcomeLaws.{stays, outcome}
+use Rattle.alloc.specs.Run.{endpoint, ep0, Step, kept, gave_ep0}
+use Rattle.alloc.proofs.RunLaws.{step}
 use Rattle.alloc.specs.Sound.{Sound}
-use Rattle.alloc.specs.SoundLaws.{sound-call}
+use Rattle.alloc.proofs.SoundLaws.{sound-call}
 use Rattle.script.specs.Script.{Act}
 use Rattle.script.specs.Statics.{is_on}
 use Rattle.script_ops.specs.Records.{record_given, sets_given, given_to, allocated_on, started_with, allocated_ep0}

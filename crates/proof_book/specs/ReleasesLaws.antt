@@ -27,7 +27,7 @@ use Rattle.script.specs.Every.{same_reg}
 use Rattle.script.specs.Steps.{Kind, plain, moving, turning, resetting, giving, queueing, kind_of, code_of, is, may_ask}
 use Rattle.script.specs.Steps.{may_put, may_act}
 use Rattle.script.specs.Steps.{may_row, Asks, Steps}
-use Rattle.script.specs.StepsCalls.{call-steps, start-up-steps}
+use Rattle.script.proofs.StepsCalls.{call-steps, start-up-steps}
 use Rattle.script.specs.StepsRunsLaws.{if-true, if-so, Handed, kinds-apart, writes-flag}
 use Rattle.proof_book.specs.Pages.{OutPage, InPage}
 use Rattle.proof_book.specs.Book.{Bk, row_b, hand_b, book_ops}

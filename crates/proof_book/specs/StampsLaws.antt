@@ -11,7 +11,7 @@ use Rattle.ring.specs.Out.{has_room_out, overrun_of, arrived_of, arrived_lens, c
 use Rattle.ring.specs.Waiting.{Placed, OutRing, Alike}
 use Rattle.ring.specs.Slots.{slots-some, slot-in}
 use Rattle.ring.specs.Laws.{place-slot, alike-count, head-after, head-away, join-count, pass-count}
-use Rattle.ring.specs.OutLaws.{turned-alike, closed-alike}
+use Rattle.ring.proofs.OutLaws.{turned-alike, closed-alike}
 use Rattle.proof_book.specs.Stamps.{stamps_from, stamped}
 
 from-same : (s s' : EpState) (ss ss' : List ℕ) (i n : ℕ) → i < 256

@@ -24,7 +24,7 @@ use Rattle.regs.specs.Registers.{number_of}
 use Rattle.proof_bus_time.specs.Enabled.{writes_config}
 use Rattle.script.specs.Steps.{Kind, plain, turning, resetting, giving, starting, queueing, kind_of, is, may_ask, may_put}
 use Rattle.script.specs.Steps.{may_write, may_act, may_row, Asks, Steps}
-use Rattle.script.specs.StepsCalls.{call-steps, start-up-steps}
+use Rattle.script.proofs.StepsCalls.{call-steps, start-up-steps}
 use Rattle.script.specs.StepsRunsLaws.{if-true, if-so, Handed, writes-config}
 use Rattle.script_ops.specs.Rings.{St}
 use Rattle.script_ops.specs.Concrete.{concrete}

@@ -11,9 +11,11 @@ use Rattle.state.specs.declared.Allocator.{Allocator}
 use Rattle.state.specs.Driver.{Driver, key, no_ep, ep_on, with_on, with_allocator}
 use Rattle.alloc.specs.declared.Allocation.{Allocation}
 use Rattle.alloc.specs.Alloc.{taken_ins, is_iso, with_next}
-use Rattle.alloc.specs.Outcome as outcomes
-use Rattle.alloc.specs.Outcome.{same_dir, Takes, Outcome, six, seven, eight, given, outcome}
-use Rattle.alloc.specs.Run.{ep0, Step, kept, gave_ep0, step}
+use Rattle.alloc.proofs.OutcomeLaws as outcomes
+use Rattle.alloc.specs.Outcome.{same_dir, Takes, Outcome, six, seven, eight, given}
+use Rattle.alloc.proofs.OutcomeLaws.{outcome}
+use Rattle.alloc.specs.Run.{ep0, Step, kept, gave_ep0}
+use Rattle.alloc.proofs.RunLaws.{step}
 use Rattle.script.specs.Tree as tree
 use Rattle.script.specs.Tree.{ends, asks, bind_out}
 use Rattle.script.specs.Script.{Script, ret, bind, test, read_then, write_then, wait_then, callback_then, get_then}

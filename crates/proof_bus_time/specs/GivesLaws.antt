@@ -14,7 +14,8 @@ use Rattle.alloc.specs.declared.Answer.{Answer}
 use Rattle.alloc.specs.declared.Answer.TheVariants.{Refused, Given}
 use Rattle.alloc.specs.declared.Allocation.{Allocation}
 use Rattle.alloc.specs.Alloc.{is_out, taken_ins, allocated, allocate_of}
-use Rattle.alloc.specs.Outcome.{same_dir, Outcome, six, seven, eight, given, outcome}
+use Rattle.alloc.specs.Outcome.{same_dir, Outcome, six, seven, eight, given}
+use Rattle.alloc.proofs.OutcomeLaws.{outcome}
 use Rattle.script_ops.specs.Records.{record_given, sets_given, given_to, allocated_on}
 use Rattle.proof_bus_time.specs.Enabled.{is_taken}
 

@@ -1,6 +1,6 @@
 -- Each of the four runs as it would alone, but for the enablings that were turned down: to the driver these are as a
 -- question. So demand 3 holds of each
--- (proof_book/specs/Demand3Laws.antt speaks of every list of calls), and where none was turned down the driver's calls
+-- (proof_book/proofs/Demand3Laws.antt speaks of every list of calls), and where none was turned down the driver's calls
 -- are those of the Rust
 use Rattle.std.specs.Prelude.{Bool, true, false, cond, List, [], ◌∷◌, ◌≡◌, refl, ℕ, ◌%◌, eqb}
 use Rattle.std.proofs.Common.{ap, sym, ◌∙◌, eqb-true}

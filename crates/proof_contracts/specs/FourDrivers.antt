@@ -8,7 +8,7 @@ use Rattle.proof_bus_time.specs.History.{history}
 use Rattle.proof_bus_time.specs.Enabled.{FourAtFirst}
 use Rattle.proof_bus_time.specs.Charged.{charged_time}
 use Rattle.proof_bus_time.specs.Code.{LentFour, four_of, Run, turns, last}
-use Rattle.proof_bus_time.specs.CodeLaws.{code-in-use-charged}
+use Rattle.proof_bus_time.proofs.CodeLaws.{code-in-use-charged}
 use Rattle.proof_bus_time.specs.Code as four
 use Rattle.usbhs_c.proofs.usbhs_time_in_use.Reads as time-in-use-contract
 

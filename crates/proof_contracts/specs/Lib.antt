@@ -5,8 +5,6 @@ pub mod SharedAgrees
 pub mod SharedCall
 pub mod SharedRuns
 pub mod SharedAlone
-pub mod SharedDemand3
-pub mod SharedTurns
 pub mod SavedPage
 pub mod SavedRuns
 pub mod Steps
@@ -16,8 +14,6 @@ pub mod Exported
 pub mod FourDrivers
 pub mod Together
 pub mod TogetherLaws
-pub mod SharedStepsLaws
 pub mod ListInOrder
 pub mod ListInOrderLaws
 pub mod Charged
-pub mod Witness

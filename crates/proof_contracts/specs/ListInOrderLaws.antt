@@ -27,19 +27,19 @@ use Rattle.machine.specs.Rows.{idle_way, is_idle, stop_of}
 use Rattle.calls.specs.Listed.{previewed}
 use Rattle.proof_alloc_all.specs.Hands.{hands_out, ends_with, allocation, one_by_one}
 use Rattle.proof_alloc_all.specs.Settled.{Settled}
-use Rattle.proof_alloc_all.specs.OrderLaws.{in_order_lem, none_given}
-use Rattle.proof_alloc_all.specs.BroughtLaws.{Same, single, whole}
+use Rattle.proof_alloc_all.proofs.OrderLaws.{in_order_lem, none_given}
+use Rattle.proof_alloc_all.proofs.BroughtLaws.{Same, single, whole}
 use Rattle.proof_alloc_all.specs.Preview as preview
-use Rattle.proof_alloc_all.specs.Preview.{previewed-by-calls}
+use Rattle.proof_alloc_all.proofs.PreviewLaws.{previewed-by-calls}
 use Rattle.proof_book.specs.Pages.{Pages}
 use Rattle.proof_book.specs.Book.{book}
 use Rattle.proof_book.specs.Coupling.{Coupling}
-use Rattle.proof_book.specs.StartUpLaws.{fresh_kept}
-use Rattle.proof_book.specs.AgreesLaws.{agree}
+use Rattle.proof_book.proofs.StartUpLaws.{fresh_kept}
+use Rattle.proof_book.proofs.AgreesLaws.{agree}
 use Rattle.proof_book.specs.ListedLaws.{rest-settled}
 use Rattle.proof_book.specs.FrontPage.{CallRecord, CallStep, book_step}
 use Rattle.proof_book.specs.FrontPage as page
-use Rattle.proof_book.specs.SlotsKeptLaws.{lent_is}
+use Rattle.proof_book.proofs.SlotsKeptLaws.{lent_is}
 use Rattle.proof_book.specs.AnswersLaws.{is_handed}
 use Rattle.proof_book.specs.CodeReadings.{Steps, bytes_after, slots_after}
 use Rattle.proof_contracts.specs.ListInOrder.{Passes, asked, refused, ToItsEnd, hands, passes, stops}

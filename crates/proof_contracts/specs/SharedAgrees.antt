@@ -24,10 +24,10 @@ use Rattle.calls.specs.Sharing.{turned_down, time_after, settled, shared_call}
 use Rattle.proof_book.specs.Pages.{Pages}
 use Rattle.proof_book.specs.Book.{book}
 use Rattle.proof_book.specs.Coupling.{Coupling, Chip}
-use Rattle.proof_book.specs.StartUpLaws.{fresh_kept}
-use Rattle.proof_book.specs.AgreesLaws.{agree}
+use Rattle.proof_book.proofs.StartUpLaws.{fresh_kept}
+use Rattle.proof_book.proofs.AgreesLaws.{agree}
 use Rattle.proof_book.specs.FrontPage.{book_step, BufferPreserved}
-use Rattle.proof_book.specs.SlotsKeptLaws.{lent_is}
+use Rattle.proof_book.proofs.SlotsKeptLaws.{lent_is}
 use Rattle.proof_contracts.specs.SharedBook.{charge_in, would_pass, shared_step, time_in}
 
 -- driver and book agree after a call (proof_book/specs/Coupling.antt), and the record is what the book works out

@@ -19,9 +19,9 @@ use Rattle.calls.specs.Sharing.{sort_of, turned_down, time_after, settled, share
 use Rattle.proof_book.specs.Pages.{Pages}
 use Rattle.proof_book.specs.Book.{book}
 use Rattle.proof_book.specs.Coupling.{Coupling}
-use Rattle.proof_book.specs.AgreesLaws.{agree}
+use Rattle.proof_book.proofs.AgreesLaws.{agree}
 use Rattle.proof_book.specs.FrontPage.{book_step, BufferPreserved}
-use Rattle.proof_book.specs.SlotsKeptLaws.{lent_is}
+use Rattle.proof_book.proofs.SlotsKeptLaws.{lent_is}
 use Rattle.proof_contracts.specs.SharedBook.{shared_step}
 use Rattle.proof_contracts.specs.SharedAgrees.{down-chip, down-same}
 

@@ -13,7 +13,7 @@ use Rattle.answer.specs.Goes.{StepResult}
 use Rattle.calls.specs.Sharing.{apart, sort_of}
 use Rattle.answer.specs.Parts.{step_of, spoken}
 use Rattle.answer.specs.Word.{Encodes, Worded}
-use Rattle.proof_bus_time.specs.CodeLaws.{leaves-record}
+use Rattle.proof_bus_time.proofs.CodeLaws.{leaves-record}
 use Rattle.proof_contracts.specs.SavedPage.{Saves}
 use Rattle.proof_contracts.specs.Steps.{IsStep, IsStepLent, IsStepInto, IsQuestion}
 

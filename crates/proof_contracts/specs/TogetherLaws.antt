@@ -36,7 +36,7 @@ use Rattle.usbhs_c.proofs.together.usbhs_continue_looks.Reads as continue-looks-
 use Rattle.proof_book.specs.Pages.{Pages, with_kept, kept_wakes}
 use Rattle.proof_book.specs.Book.{book}
 use Rattle.proof_book.specs.FrontPage.{Chip, BufferPreserved, when_not}
-use Rattle.proof_bus_time.specs.CodeLaws.{leaves-record}
+use Rattle.proof_bus_time.proofs.CodeLaws.{leaves-record}
 use Rattle.proof_contracts.specs.SharedBook.{shared_step}
 use Rattle.proof_contracts.specs.SharedPage.{MadeShared, CallStep, Calls, noted}
 use Rattle.proof_contracts.specs.SavedPage.{Saving}

@@ -19,8 +19,8 @@ use Rattle.script.specs.Machine.{Buf, Event, start, Machine, started}
 use Rattle.script.specs.Calls.{Config, Op, other, BeginRead, code, calls, start_row}
 use Rattle.script.specs.Calls as the-calls
 use Rattle.script.specs.Steps.{plain, reading, kind_of, Steps}
-use Rattle.script.specs.StepsRequests.{of-acks}
-use Rattle.script.specs.StepsCalls.{call-steps, start-up-steps}
+use Rattle.script.proofs.StepsRequests.{of-acks}
+use Rattle.script.proofs.StepsCalls.{call-steps, start-up-steps}
 use Rattle.script.specs.StepsKinds.{Begins, a_read, a_data_out, ep0, none, begins}
 use Rattle.script.specs.StepsRuns.{Holds, end}
 use Rattle.script.specs.StepsRunsLaws.{holds-run}

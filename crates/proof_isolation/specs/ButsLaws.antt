@@ -27,8 +27,8 @@ use Rattle.script_ops.specs.Concrete.{put_on, act_on, hand_on}
 use Rattle.proof_book.specs.Coupling.{end_of, ep0_room, lens_of, slot_stamps}
 use Rattle.proof_book.specs.LensLaws.{key-ep, lens-on, stamps-on}
 use Rattle.proof_book.specs.FrameLaws.{Changed, same_place}
-use Rattle.proof_book.specs.AgreesLaws.{agree}
-use Rattle.proof_book.specs.RowsLaws.{rows_first, rows_next, rows-finish}
+use Rattle.proof_book.proofs.AgreesLaws.{agree}
+use Rattle.proof_book.proofs.RowsLaws.{rows_first, rows_next, rows-finish}
 use Rattle.proof_book.specs.TransferKinds.{Steady, Has}
 use Rattle.proof_book.specs.TransferKindsLaws.{sorted, row-steady}
 use Rattle.proof_isolation.specs.EqualExcept.{OtherWakes, Stays, ButBy, EqualExcept, Lawful, Channel, LowEquiv}

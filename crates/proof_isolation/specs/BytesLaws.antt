@@ -8,7 +8,7 @@ use Rattle.ring.specs.Marks.{mark, marked, marked_run, armed_words, arm, reach, 
 use Rattle.ring.specs.Copies.{copied, over}
 use Rattle.ring.specs.Only.{Only}
 use Rattle.ring.specs.OnlyLaws.{back_low, back-high, part-byte}
-use Rattle.ring.specs.MarksSlots.{only-armed, only-copied, over-low, over-high}
+use Rattle.ring.proofs.MarksSlots.{only-armed, only-copied, over-low, over-high}
 
 -- byte k of two buffers is the same
 abbrev pub At : ℕ → List ℕ → List ℕ → Type 0

@@ -11,7 +11,7 @@ use Rattle.state.specs.declared.EpState.{EpState}
 use Rattle.state.specs.Driver.{Driver, key, len_key, with_eps, with_lens, ep_on, with_on, with_len_on, with_stamp_on}
 use Rattle.state.specs.Laws.{ep_on-other, key_apart}
 use Rattle.ring.specs.Marks.{armed}
-use Rattle.ring.specs.MarksSlots.{armed-slot}
+use Rattle.ring.proofs.MarksSlots.{armed-slot}
 use Rattle.ring.specs.Only.{Only}
 use Rattle.ring.specs.Slot.{slot_of, slot_addr}
 use Rattle.ring.specs.Out.{has_room_out, capped_at, arrived_of, armed_at}

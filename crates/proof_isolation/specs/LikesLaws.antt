@@ -15,7 +15,7 @@ use Rattle.script.specs.Machine.{Buf}
 use Rattle.script_ops.specs.Rings.{St}
 use Rattle.proof_book.specs.Coupling.{end_of}
 use Rattle.proof_book.specs.FrameLaws.{Changed, same_place, end_kept}
-use Rattle.proof_book.specs.OutsLaws.{Inner}
+use Rattle.proof_book.proofs.OutsLaws.{Inner}
 use Rattle.proof_isolation.specs.EqualExcept.{OtherWakes, Stays, ButBy, Beside, Lawful, Channel, LowEquiv}
 use Rattle.proof_isolation.specs.EqualExcept.{Touched}
 

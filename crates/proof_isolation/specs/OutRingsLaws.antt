@@ -12,12 +12,12 @@ use Rattle.state.specs.Driver.{Driver, key, ep_on, with_on}
 use Rattle.state.specs.Laws.{Sized, key-same, key_apart, ep_on-same}
 use Rattle.ring.specs.Marks.{is_marked, marked_len, armed}
 use Rattle.ring.specs.Only.{Same, Only}
-use Rattle.ring.specs.MarksSlots.{marked-same, len-same}
+use Rattle.ring.proofs.MarksSlots.{marked-same, len-same}
 use Rattle.ring.specs.Slot.{slot_of}
 use Rattle.ring.specs.Out.{capped_at, arrived_of, arrived_lens, armed_at}
 use Rattle.ring.specs.Waiting.{SamePlace}
 use Rattle.ring.specs.Slots.{slot-in}
-use Rattle.ring.specs.OutLaws.{armed-alike}
+use Rattle.ring.proofs.OutLaws.{armed-alike}
 use Rattle.script.specs.Cells.{EpCore}
 use Rattle.script.specs.Script.{changed, marked, arrive}
 use Rattle.script.specs.Simulates.{quiet}
@@ -30,8 +30,8 @@ use Rattle.proof_book.specs.Coupling.{end_of, Used, lens_of, slot_stamps, Coupli
 use Rattle.proof_book.specs.LensLaws.{lens-on, stamps-on, lens-mod, stamps-mod}
 use Rattle.proof_book.specs.FrameLaws.{Changed, changed-on, changed-trans, same_place}
 use Rattle.proof_book.specs.HeldLaws.{receives, iso-used, receives-slots, good-words}
-use Rattle.proof_book.specs.ArrivesLaws.{admits, head_addr, armed-plain, admitted-ep, admitted-lens, admitted-stamps}
-use Rattle.proof_book.specs.ArrivesLaws.{admitted-changed}
+use Rattle.proof_book.proofs.ArrivesLaws.{admits, head_addr, armed-plain, admitted-ep, admitted-lens, admitted-stamps}
+use Rattle.proof_book.proofs.ArrivesLaws.{admitted-changed}
 use Rattle.proof_isolation.specs.EqualExcept.{EqualExcept, Channel, LowEquiv}
 use Rattle.proof_isolation.specs.ButsLaws.{but-changed, changed-seat, like-made, lawful-hand, others_same}
 use Rattle.proof_isolation.specs.BytesLaws.{armed-like, only-like}

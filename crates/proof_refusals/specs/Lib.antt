@@ -1,7 +1,5 @@
 pub mod Left
 pub mod Outcomes
-pub mod Scripts
 pub mod Refusals
-pub mod Ends
 pub mod Shared
 pub mod Bytes

@@ -6,7 +6,7 @@ use Rattle.state.specs.Driver.{Driver}
 use Rattle.script.specs.Answers.{Answer}
 use Rattle.script.specs.Machine.{Machine}
 use Rattle.machine.specs.Suspended.{machine_of}
-use Rattle.proof_book.specs.Code.{CallRecord}
+use Rattle.proof_book.specs.FrontPage.{CallRecord}
 use Rattle.proof_usb20.specs.Observer.{Observer, serves, Watched, noted, Claim, Standing}
 
 -- the machine that a call left

@@ -6,7 +6,7 @@ use Rattle.script.specs.Answers.{Answer}
 use Rattle.script.specs.Calls.{Config, Op, calls, start_row}
 use Rattle.script.specs.Machine.{Buf, Event, Machine, Ans, start, started}
 use Rattle.machine.specs.Suspended.{driver_of, drive, machine_of}
-use Rattle.proof_book.specs.Code.{CallRecord}
+use Rattle.proof_book.specs.FrontPage.{CallRecord}
 use Rattle.proof_book.specs.CodeReadings.{Steps}
 use Rattle.proof_usb20.specs.Observer.{Observer, serves, Watched, started_by, noted, Claim, Standing, All}
 use Rattle.proof_usb20.specs.RunsLaws.{Laws, from_start}

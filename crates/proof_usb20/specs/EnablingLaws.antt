@@ -9,7 +9,7 @@ use Rattle.std.proofs.Math.Dec.{eqb}
 use Rattle.regs.specs.Enables as enables
 use Rattle.regs.specs.Flags.{bus_rst, suspend}
 use Rattle.regs.specs.MisStatus.{suspended}
-use Rattle.script.specs.ToggledLaws.{ack-acks}
+use Rattle.script.proofs.ToggledLaws.{ack-acks}
 use Rattle.regs.specs.declared.Dir.{Dir}
 use Rattle.regs.specs.declared.Dir.TheVariants.{Out, In}
 use Rattle.state.specs.Driver.{ep_on, key}

@@ -25,7 +25,7 @@ use Rattle.script.specs.Every.{Every, at_end, at_ask}
 use Rattle.script.specs.EveryLaws.{every_bind, every-cond}
 use Rattle.script.specs.Usb20Toggles.{Pid, DATA0, DATA1, Transaction, bit_after_all, passed}
 use Rattle.script.specs.TogglesLaws.{number, shown, repeated-not-passed}
-use Rattle.script.specs.ToggledLaws.{toggling, KeepsRecord, Answered, ack-keeps, ack-acks}
+use Rattle.script.proofs.ToggledLaws.{toggling, KeepsRecord, Answered, ack-keeps, ack-acks}
 use Rattle.script_ops.specs.Records.{plain_of, merged}
 use Rattle.script_ops.specs.Rings.{St}
 use Rattle.script_ops.specs.Concrete.{concrete}

@@ -17,9 +17,9 @@ use Rattle.script_ops.specs.Concrete.{concrete}
 use Rattle.machine.specs.Suspended.{driver_of, drive, halts_as}
 use Rattle.proof_book.specs.Always.{after}
 use Rattle.proof_book.specs.Sorting.{Sorting}
-use Rattle.proof_book.specs.SortingLaws.{after-sorting}
+use Rattle.proof_book.proofs.SortingLaws.{after-sorting}
 use Rattle.proof_wake_ups.specs.Rooms.{Few, Roomy}
-use Rattle.proof_wake_ups.specs.RoomsLaws.{rooms, start-rooms}
+use Rattle.proof_wake_ups.proofs.RoomsLaws.{rooms, start-rooms}
 use Rattle.proof_usb20.specs.ExemptLaws.{differ}
 use Rattle.proof_usb20.specs.Watch as watch
 use Rattle.proof_usb20.specs.Watch.{Along, at_end, at_ask, Fitted, AtFirst, Spared, SparedAfter}

@@ -18,7 +18,7 @@ use Rattle.state.specs.Driver.{key, no_request, ep_on, request_on, with_request_
 use Rattle.state.specs.Laws.{key_apart}
 use Rattle.proof_book.specs.LeavesLaws.{record-leaves}
 use Rattle.ring.specs.Copies.{bytes_at, copied}
-use Rattle.ring.specs.MarksSlots.{copied-bytes}
+use Rattle.ring.proofs.MarksSlots.{copied-bytes}
 use Rattle.script.specs.Tree as tree
 use Rattle.script.specs.Cells.{EpCore, ep-cell, request-cell}
 use Rattle.script.specs.Script.{run, no_wakes}

@@ -14,7 +14,7 @@ use Rattle.script.specs.MachineKept.{MachineKeeps, Preserves}
 use Rattle.script.specs.MachineKeptLaws.{start-kept, call_kept}
 use Rattle.machine.specs.Suspended.{driver_of, drive, machine_of}
 use Rattle.proof_book.specs.Always.{after}
-use Rattle.proof_book.specs.Code.{CallRecord, CallStep}
+use Rattle.proof_book.specs.FrontPage.{CallRecord, CallStep}
 use Rattle.proof_book.specs.CodeReadings.{Steps, bytes_after, slots_after}
 use Rattle.proof_usb20.specs.TogBits.{TogBits}
 use Rattle.proof_usb20.specs.TogBitsLaws.{bit-0}

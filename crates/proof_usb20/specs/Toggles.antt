@@ -1,4 +1,4 @@
--- The laws on data toggles (script/specs/ToggledLaws.antt, RestartLaws.antt) at the driver's own operations: a record's
+-- The laws on data toggles (script/proofs/ToggledLaws.antt, RestartLaws.antt) at the driver's own operations: a record's
 -- fields are assigned, and the driver has all its records
 use Rattle.std.specs.Prelude.{Bool, true, false, cond, List, ◌≡◌, refl, ℕ, ◌%◌, ◌≤◌, length, get_or}
 use Rattle.std.proofs.Common.{ap, ◌∙◌, arith, length-set, get_or-set_same}
@@ -12,7 +12,7 @@ use Rattle.state.specs.Driver.{Driver, key, no_ep, ep_on, with_on, with_paced_on
 use Rattle.state.specs.Laws.{key-lt}
 use Rattle.ring.specs.Out.{armed_at}
 use Rattle.script.specs.Statics.{iso_outs, with_armed, with_tog}
-use Rattle.script.specs.ToggledLaws.{Assigns}
+use Rattle.script.proofs.ToggledLaws.{Assigns}
 use Rattle.script.specs.RestartLaws as restart
 use Rattle.script.specs.RestartLaws.{Lawful}
 use Rattle.script_ops.specs.Records.{plain_of, merged, iso_out, configured, enabled_on}

@@ -1,9 +1,9 @@
 -- The same of the Rattle code, whose calls are steps of the machine of calls that the lent bytes are
--- (proof_book/specs/Code.antt)
+-- (proof_book/proofs/CodeLaws.antt)
 use Rattle.std.specs.Prelude.{List, [], ◌∷◌, ◌≡◌}
 use Rattle.script.specs.Answers.{Answer}
 use Rattle.script.specs.Machine.{Machine}
-use Rattle.proof_book.specs.Code.{CallRecord}
+use Rattle.proof_book.specs.FrontPage.{CallRecord}
 use Rattle.proof_wake_ups.specs.Heard.{Heard}
 use Rattle.proof_wake_ups.specs.Machines.{hear}
 

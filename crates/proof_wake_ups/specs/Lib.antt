@@ -1,12 +1,8 @@
 pub mod Heard
 pub mod Still
 pub mod Twins
-pub mod TwinsLaws
 pub mod Machines
-pub mod MachinesLaws
 pub mod Code
-pub mod CodeLaws
 pub mod Ends
 pub mod EndsLaws
 pub mod Rooms
-pub mod RoomsLaws

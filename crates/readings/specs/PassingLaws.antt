@@ -36,9 +36,9 @@ use Rattle.answer.specs.declared.Step.TheVariants as step
 use Rattle.machine.specs.Suspended.{decode, machine_at, machine_of, drive, resumed, answer_of, slots_fit, SavedByAnswer}
 use Rattle.answer.specs.Goes.{StepResult}
 use Rattle.machine.specs.GoesLaws.{proceeds}
-use Rattle.machine.specs.Lent.{as_lent}
+use Rattle.machine.proofs.Lent.{as_lent}
 use Rattle.machine.specs.Rows.{is_idle, stop_of}
-use Rattle.machine.specs.RowsLaws.{back, interrupt-call}
+use Rattle.machine.proofs.RowsLaws.{back, interrupt-call}
 use Rattle.calls.specs.Sharing.{going, time_after}
 use Rattle.calls.specs.SharingLaws.{settles}
 use Rattle.calls.specs.StaysLaws.{interrupt-stays}

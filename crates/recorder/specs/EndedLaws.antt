@@ -15,15 +15,16 @@ use Rattle.card.specs.declared.stream.Step.TheVariants.{Gives}
 use Rattle.card.specs.Kept.{kept_from, first_in}
 use Rattle.card.specs.Steps.{intact-good, intact-cut, packet-in, begin-filler, begin-packet}
 use Rattle.card.specs.Steps.{step-begin, read-ends, read_goes, read-gives}
-use Rattle.card.specs.Clean.{clean-low, clean-bad, clean-good}
-use Rattle.card.specs.Theorem.{first-behind, first-here, first-later, bytes-are, Rest, Names, data_head, head-fine}
-use Rattle.card.specs.Theorem.{rest-next, kept-cut, kept_whole}
+use Rattle.card.proofs.Clean.{clean-low, clean-bad, clean-good}
+use Rattle.card.proofs.Theorem.{first-behind, first-here, first-later, bytes-are, Rest, Names, data_head, head-fine}
+use Rattle.card.proofs.Theorem.{rest-next, kept-cut, kept_whole}
 use Rattle.card.specs.Streams.{data_byte, view}
 use Rattle.card.specs.Places.{block-data, block-first, byte-block}
-use Rattle.card.specs.Turns.{by_calls, calls-read}
+use Rattle.card.specs.Turns.{by_calls}
+use Rattle.card.proofs.TurnsLaws.{calls-read}
 use Rattle.card.specs.Calls.{start_of}
 use Rattle.card.specs.Runs.{read_run}
-use Rattle.card.specs.RunsLaws.{run-in-turn, kept-all}
+use Rattle.card.proofs.RunsLaws.{run-in-turn, kept-all}
 use Rattle.recorder.specs.Ended.{EndsIn, EndsInBlock}
 
 data-size : (q : Packet) (qs : List Packet) → length (data_of (q ∷ qs)) ≡ size q + length (data_of qs)

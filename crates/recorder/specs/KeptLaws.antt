@@ -6,8 +6,8 @@ use Rattle.std.proofs.lemmas.Bool.{lt-leb}
 use Rattle.card.specs.Packet.{Packet, size, data_of}
 use Rattle.card.specs.Reading.{View, block_end}
 use Rattle.card.specs.Kept.{kept_from}
-use Rattle.card.specs.Begins.{data-one}
-use Rattle.card.specs.Theorem.{kept-cut, kept_whole}
+use Rattle.card.proofs.Begins.{data-one}
+use Rattle.card.proofs.Theorem.{kept-cut, kept_whole}
 use Rattle.recorder.specs.Survives.{outside}
 
 pub kept-good : (v : View) (ps : List Packet) (d : ℕ)

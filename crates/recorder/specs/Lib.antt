@@ -5,15 +5,9 @@ pub mod RingLaws
 pub mod Recording
 pub mod RecordingLaws
 pub mod Flush
-pub mod FlushLaws
 pub mod Filled
-pub mod FilledLaws
 pub mod Survives
 pub mod KeptLaws
 pub mod Sound
-pub mod GrownLaws
-pub mod CallsLaws
-pub mod StoresLaws
-pub mod SurvivesLaws
 pub mod Brought
 pub mod BroughtLaws

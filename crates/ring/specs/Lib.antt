@@ -6,7 +6,6 @@ pub mod Waiting
 pub mod Window
 pub mod Slots
 pub mod Laws
-pub mod OutLaws
 pub mod InLaws
 pub mod Table
 pub mod Marks
@@ -17,7 +16,5 @@ pub mod Words
 pub mod Arms
 pub mod Finds
 pub mod FindsLaws
-pub mod MarksSlots
 pub mod Stored
-pub mod StoredLaws
 pub mod MarksTable

@@ -31,15 +31,11 @@ pub mod EveryLaws
 pub mod Usb20Toggles
 pub mod Usb20Control
 pub mod TogglesLaws
-pub mod ToggledLaws
 pub mod Data0Laws
 pub mod RestartLaws
-pub mod ControlLaws
 pub mod Kinds
 pub mod Steps
 pub mod StepsInterrupt
-pub mod StepsRequests
-pub mod StepsCalls
 pub mod StepsKinds
 pub mod StepsRuns
 pub mod StepsRunsLaws
@@ -47,8 +43,6 @@ pub mod MachineKept
 pub mod MachineKeptLaws
 pub mod AddressWrites
 pub mod AddressCalls
-pub mod AddressCallsLaws
-pub mod AddressLaws
 pub mod TransferKinds
 pub mod SortsWalks
 pub mod SortsLaws

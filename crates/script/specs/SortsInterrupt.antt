@@ -28,7 +28,7 @@ use Rattle.script.specs.Handler.{ep0_moved_on, iso_for, own_in, released, framed
 use Rattle.script.specs.Handler.{frames, on_interrupt, keep_microframe}
 use Rattle.script.specs.Calls.{interrupt_code}
 use Rattle.script.specs.Readings.{Continues, readings}
-use Rattle.script.specs.ToggledLaws.{apart}
+use Rattle.script.specs.TogglesLaws.{apart}
 use Rattle.script.specs.TransferKinds.{TransferKinds, Shows, Sorted, Along}
 use Rattle.script.specs.SortsWalks.{Most, most-15, most-14, among-outs, among-ins}
 use Rattle.script.specs.SortsLaws.{Any, Staying, Reads, reads-along, reads_more, reads-ret, reads-bind}

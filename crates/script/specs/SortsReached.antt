@@ -21,7 +21,7 @@ use Rattle.script.specs.Handler.{own_in}
 use Rattle.script.specs.Calls.{interrupt_code}
 use Rattle.script.specs.Readings.{Continues, readings}
 use Rattle.script.specs.ReadingsReached.{plain, cells, standing, zeros}
-use Rattle.script.specs.ToggledLaws.{apart}
+use Rattle.script.specs.TogglesLaws.{apart}
 use Rattle.script.specs.TransferKinds.{Among, Shows, Sorted}
 
 -- every endpoint is isochronous but EP0 and OUT 1

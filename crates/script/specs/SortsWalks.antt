@@ -8,7 +8,7 @@ use Rattle.bits.specs.Walk.{cons_if, bits_from, set_bits}
 use Rattle.regs.specs.Enables.{in_enabled, out_enabled}
 use Rattle.state.specs.declared.Globals.{Globals}
 use Rattle.script.specs.Statics.{every_iso_in, iso_outs}
-use Rattle.script.specs.ToggledLaws.{apart}
+use Rattle.script.specs.TogglesLaws.{apart}
 use Rattle.script.specs.TransferKinds.{Among}
 
 -- no walk over such endpoints has more

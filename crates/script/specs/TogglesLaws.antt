@@ -10,6 +10,9 @@ use Rattle.script.specs.Handler.{repeated}
 use Rattle.script.specs.Usb20Toggles.{Pid, DATA0, DATA1, other, Transaction, received, passes}
 use Rattle.script.specs.Usb20Toggles.{bit_after, bit_after_all, count, passed}
 
+pub apart : {A : Type 0} → true ≡ false → A
+apart h = let z : ◌≡◌ {A = ℕ} 0 1 = cc in absurd (omega arith)
+
 -- a bit as the control word and the driver's record have it
 abbrev pub number : Pid → ℕ
 number DATA0 = 0

@@ -12,7 +12,7 @@ use Rattle.ring.specs.Marks.{reach, armed}
 use Rattle.ring.specs.Copies.{bytes_at}
 use Rattle.ring.specs.Finds.{LastDiffers}
 use Rattle.ring.specs.Stored.{StoredAlone}
-use Rattle.ring.specs.StoredLaws.{true_length, true-bytes}
+use Rattle.ring.proofs.StoredLaws.{true_length, true-bytes}
 use Rattle.script.specs.Script.{marked}
 use Rattle.script.specs.Statics.{is_on, iso_outs}
 use Rattle.script_ops.specs.Rings.{St, marked_on, admitted_on, arm_at, arm_on, arrive_on, renewed_on, slot_step}

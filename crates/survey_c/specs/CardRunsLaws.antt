@@ -11,9 +11,9 @@ use Rattle.std.proofs.Math.Dec.{eqb}
 use Rattle.card.specs.Packet.{Packet, All, size}
 use Rattle.card.specs.Written.{stream}
 use Rattle.card.specs.Places.{length-stream}
-use Rattle.card.specs.Turns.{calls-give, calls_back}
+use Rattle.card.proofs.TurnsLaws.{calls-give, calls_back}
 use Rattle.card.specs.Runs.{read_run}
-use Rattle.card.specs.RunsLaws.{run-gives}
+use Rattle.card.proofs.RunsLaws.{run-gives}
 use Rattle.card.specs.declared.writer.Writer.{Writer}
 use Rattle.card.specs.declared.writer.Wrote.{Wrote}
 use Rattle.card.specs.declared.writer.Wrote.TheVariants as wrote
@@ -22,7 +22,7 @@ use Rattle.card.specs.declared.writer.Finished.TheVariants as finished
 use Rattle.card.specs.Writing.{new_writer, used_of, writer_of, full_of, whole_of, unfit, block_of_piece, piece_wrote, write_of}
 use Rattle.card.specs.Writing.{written_of, finish_of, last_of}
 use Rattle.card.specs.WriterRuns.{Lends, Desk, after, packet_run, packets_run, last_run, stream_run}
-use Rattle.card.specs.Stream.{stream-run}
+use Rattle.card.proofs.StreamLaws.{stream-run}
 use Rattle.survey_c.specs.Card.{writer_in, numbers_of, wrote_word, writer_by, finished_word}
 use Rattle.survey_c.specs.CardLaws.{Short, writer-back, new-short, next-short}
 use Rattle.survey_c.specs.CardRuns.{is_refused, block_full, packet_written, Caller, stored_if, packet_calls}

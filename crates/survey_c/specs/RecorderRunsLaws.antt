@@ -15,8 +15,8 @@ use Rattle.recorder.specs.Survives.{store, stepped, run}
 use Rattle.recorder.specs.Flush.{put_block}
 use Rattle.recorder.specs.Survives.{Book, noted_call, noted, book, blank, Survives}
 use Rattle.recorder.specs.Sound.{Sound}
-use Rattle.recorder.specs.CallsLaws.{begin-sound}
-use Rattle.recorder.specs.SurvivesLaws.{act-sound, same_blocks, survives}
+use Rattle.recorder.proofs.CallsLaws.{begin-sound}
+use Rattle.recorder.proofs.SurvivesLaws.{act-sound, same_blocks, survives}
 use Rattle.survey_c.specs.Recorder.{recorder_in, recorder_numbers, recorder_by}
 use Rattle.survey_c.specs.RecorderLaws.{recorder-back}
 use Rattle.survey_c.specs.RecorderRuns.{Lent, to_store, store_place, store_block, made, all_made, held, CallsSurvive}

@@ -16,7 +16,7 @@ use Rattle.answer.specs.declared.Step.TheVariants as step
 use Rattle.machine.specs.Suspended.{machine_at, drive, halts, answer_of}
 use Rattle.answer.specs.Goes.{StepResult}
 use Rattle.machine.specs.Rows.{is_idle}
-use Rattle.machine.specs.RowsLaws.{other-idle}
+use Rattle.machine.proofs.RowsLaws.{other-idle}
 use Rattle.usbhs_c.specs.Setup.{NoSlice}
 
 abbrev none : List ℕ

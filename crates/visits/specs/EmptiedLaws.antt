@@ -9,7 +9,7 @@ use Rattle.ring.specs.Slot.{count_of, joined_of, passed_of}
 use Rattle.ring.specs.Out.{has_room_out, overrun_of, arrived_of, closed_of}
 use Rattle.ring.specs.Waiting.{waiting, Alike}
 use Rattle.ring.specs.Laws.{waiting-length}
-use Rattle.ring.specs.OutLaws.{turned-alike}
+use Rattle.ring.proofs.OutLaws.{turned-alike}
 use Rattle.visits.specs.Emptied.{Sixteen, closes, emptied}
 
 alike-sixteen : {s t : EpState} → Alike s t → Sixteen s → Sixteen t

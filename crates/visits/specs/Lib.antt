@@ -13,5 +13,4 @@ pub mod Suffices
 pub mod Overruns
 pub mod Fifteen
 pub mod Told
-pub mod ToldLaws
 pub mod Table

@@ -2,9 +2,9 @@ use Rattle.script.specs.Calls as calls
 use Rattle.script.specs.Answers.{is_number, operation}
 use Rattle.state.specs.State.{view}
 use Rattle.isochronous.specs.Advance.{advance}
-use Rattle.machine.specs.RowsLaws.{numbered-call}
+use Rattle.machine.proofs.RowsLaws.{numbered-call}
 use mathlib.Core.Path.{refl, ◌∙◌}
-use Rattle.machine.specs.ContractsLaws.{begins, row-passed, row-refused, row-stopped}
+use Rattle.machine.proofs.ContractsLaws.{begins, row-passed, row-refused, row-stopped}
 use Rattle.calls.proofs.begins.begin_advance.Goals as goal
 
 pub low-requires : goal.low-requires

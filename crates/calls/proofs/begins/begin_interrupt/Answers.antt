@@ -1,4 +1,4 @@
-use Rattle.machine.specs.RowsLaws.{back, interrupt-call}
+use Rattle.machine.proofs.RowsLaws.{back, interrupt-call}
 use Rattle.machine.specs.Suspended.{decode, finish, halts_as}
 use Prim.Native.Nat.{ℕ}
 use mathlib.Core.Bool.{true}
@@ -7,7 +7,7 @@ use Rattle.script.specs.Script.{run}
 use Rattle.script_ops.specs.Rings.{St}
 use Rattle.script_ops.specs.Concrete.{concrete}
 use Rattle.state.specs.State.{view, saved}
-use Rattle.machine.specs.StandsLaws.{handed_out_lem, stored-by}
+use Rattle.machine.proofs.StandsLaws.{handed_out_lem, stored-by}
 use Rattle.machine.specs.Interrupt.{begun-interrupt}
 use mathlib.Core.List.{[]}
 use mathlib.Core.Path.{◌∙◌, ap, refl}

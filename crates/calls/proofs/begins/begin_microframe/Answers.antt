@@ -3,7 +3,7 @@ use Rattle.script.specs.Calls as calls
 use Rattle.script.specs.Answers.{operation}
 use Rattle.state.specs.State.{view}
 use Rattle.script.specs.IsoIn as script
-use Rattle.machine.specs.ContractsLaws.{begins, other-passed, other-stopped}
+use Rattle.machine.proofs.ContractsLaws.{begins, other-passed, other-stopped}
 use Rattle.calls.proofs.begins.begin_microframe.Goals as goal
 
 pub suspend_or_end-requires : goal.suspend_or_end-requires

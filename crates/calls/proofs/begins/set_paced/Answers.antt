@@ -1,4 +1,4 @@
-use Rattle.machine.specs.RowsLaws.{back, numbered-call}
+use Rattle.machine.proofs.RowsLaws.{back, numbered-call}
 use Rattle.script_ops.specs.RowsLaws.{number_lt}
 use Rattle.calls.specs.DriverBegins.{pacing, set-paced-begins}
 use Rattle.script.specs.Calls as calls

@@ -6,7 +6,7 @@ use Rattle.script_ops.specs.Rows.{stallable}
 use Rattle.script_ops.specs.RowsLaws.{stallable-lt}
 use Rattle.calls.specs.Stalls.{stall-call}
 use mathlib.Core.Path.{refl, sym, ◌∙◌}
-use Rattle.machine.specs.ContractsLaws.{begins, row-passed, row-refused, row-stopped}
+use Rattle.machine.proofs.ContractsLaws.{begins, row-passed, row-refused, row-stopped}
 use Rattle.calls.proofs.bus_begins.begin_is_stalled.Goals as goal
 
 pub endpoint-requires : goal.endpoint-requires

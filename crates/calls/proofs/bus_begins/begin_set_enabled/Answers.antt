@@ -1,10 +1,10 @@
 use Rattle.script_ops.specs.RowsLaws.{allocated-number}
-use Rattle.machine.specs.RowsLaws.{back, named-call}
+use Rattle.machine.proofs.RowsLaws.{back, named-call}
 use Rattle.script.specs.Calls as calls
 use Rattle.script.specs.Answers.{resultless}
 use Rattle.script.specs.Bus as script
 use Rattle.machine.specs.Suspended.{decode}
-use Rattle.machine.specs.Lent.{as_lent}
+use Rattle.machine.proofs.Lent.{as_lent}
 use Rattle.state.specs.State.{view, saved}
 use mathlib.Core.Path.{◌∙◌, sym, refl}
 use borrow.Author.Tests.{eq-eqb, ne_eqb}

@@ -7,7 +7,7 @@ use Rattle.script_ops.specs.RowsLaws.{stallable-lt}
 use Rattle.calls.specs.Stalls.{stall-call}
 use mathlib.Core.Path.{refl, sym, ◌∙◌}
 use Rattle.bus.specs.Points.{resultless}
-use Rattle.machine.specs.ContractsLaws.{begins, row-passed, row-refused, row-stopped}
+use Rattle.machine.proofs.ContractsLaws.{begins, row-passed, row-refused, row-stopped}
 use Rattle.calls.proofs.bus_begins.begin_set_stalled.Goals as goal
 
 pub endpoint-requires : goal.endpoint-requires

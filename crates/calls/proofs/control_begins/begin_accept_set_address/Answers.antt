@@ -1,5 +1,5 @@
 use Rattle.script.specs.Calls as calls
-use Rattle.machine.specs.ContractsLaws.{idled, other-begun, other-busy}
+use Rattle.machine.proofs.ContractsLaws.{idled, other-begun, other-busy}
 use Rattle.calls.proofs.control_begins.begin_accept_set_address.Goals as goal
 
 pub begun_control-requires : goal.begun_control-requires

@@ -1,6 +1,6 @@
 use Rattle.script.specs.Calls as calls
 use Rattle.machine.specs.KeepsLaws.{kept_from_lem}
-use Rattle.machine.specs.ContractsLaws.{idled, slotted-done, slotted-busy, slotted-misfit}
+use Rattle.machine.proofs.ContractsLaws.{idled, slotted-done, slotted-busy, slotted-misfit}
 use Rattle.calls.proofs.control_begins.begin_data_in.Goals as goal
 
 pub begun_control-requires : goal.begun_control-requires

@@ -1,6 +1,6 @@
 use mathlib.Core.List.{[]}
 use Rattle.script.specs.Calls as calls
-use Rattle.machine.specs.ContractsLaws.{idled, other-begun, other-busy}
+use Rattle.machine.proofs.ContractsLaws.{idled, other-begun, other-busy}
 use Rattle.calls.proofs.control_polls.poll_accept.Goals as goal
 
 pub polled_control-requires : goal.polled_control-requires

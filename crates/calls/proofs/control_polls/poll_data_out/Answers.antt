@@ -1,7 +1,7 @@
 use Rattle.script.specs.Calls as calls
 use lib.ListN.{length}
 use Rattle.machine.specs.KeepsLaws.{kept_from_lem}
-use Rattle.machine.specs.ContractsLaws.{idled, polled-done, polled-busy, polled-misfit}
+use Rattle.machine.proofs.ContractsLaws.{idled, polled-done, polled-busy, polled-misfit}
 use Rattle.calls.proofs.control_polls.poll_data_out.Goals as goal
 
 pub polled_control-requires : goal.polled_control-requires

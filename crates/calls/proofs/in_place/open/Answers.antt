@@ -1,4 +1,4 @@
-use Rattle.machine.specs.RowsLaws.{back, aside-call}
+use Rattle.machine.proofs.RowsLaws.{back, aside-call}
 use Rattle.calls.specs.AtOnce.{told-beside}
 use Rattle.script.specs.Calls as calls
 use Rattle.machine.specs.Suspended.{decode}

@@ -1,8 +1,8 @@
-use Rattle.machine.specs.RowsLaws.{back, aside-call}
+use Rattle.machine.proofs.RowsLaws.{back, aside-call}
 use Rattle.calls.specs.AtOnce.{told-beside}
 use Rattle.script.specs.Calls as calls
 use Rattle.machine.specs.Suspended.{decode}
-use Rattle.machine.specs.Lent.{as_lent}
+use Rattle.machine.proofs.Lent.{as_lent}
 use Rattle.state.specs.State.{view, saved}
 use mathlib.Core.Path.{◌∙◌, sym, refl}
 use Rattle.calls.proofs.in_place.queue.Goals as goal

@@ -11,7 +11,7 @@ use Rattle.descriptor.specs.Writing.{stored}
 use Rattle.descriptor.specs.ReadBackLaws.{accepted, stored_of_lem}
 use Rattle.script.specs.Calls as calls
 use Rattle.machine.specs.Suspended.{decode}
-use Rattle.machine.specs.RowsLaws.{back, other-call}
+use Rattle.machine.proofs.RowsLaws.{back, other-call}
 use Rattle.calls.specs.ListedLaws.{reading_all, all-unread, all_read, passes-idle}
 use borrow.Author.Rules.{rules}
 use Rattle.calls.proofs.listed_calls.allocate_all.Goals as goal

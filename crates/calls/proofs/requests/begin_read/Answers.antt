@@ -1,5 +1,5 @@
 use Rattle.script.specs.Calls as calls
-use Rattle.machine.specs.ContractsLaws.{idled, other-begun, other-busy}
+use Rattle.machine.proofs.ContractsLaws.{idled, other-begun, other-busy}
 use Rattle.calls.proofs.requests.begin_read.Goals as goal
 
 pub begun_endpoint-requires : goal.begun_endpoint-requires

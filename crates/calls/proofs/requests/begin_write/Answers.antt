@@ -1,6 +1,6 @@
 use Rattle.script.specs.Calls as calls
 use Rattle.machine.specs.KeepsLaws.{kept_from_lem}
-use Rattle.machine.specs.ContractsLaws.{idled, slotted-done, slotted-busy, slotted-misfit}
+use Rattle.machine.proofs.ContractsLaws.{idled, slotted-done, slotted-busy, slotted-misfit}
 use Rattle.calls.proofs.requests.begin_write.Goals as goal
 
 pub begun_endpoint-requires : goal.begun_endpoint-requires

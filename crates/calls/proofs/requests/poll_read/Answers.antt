@@ -1,6 +1,6 @@
 use Rattle.script.specs.Calls as calls
 use lib.ListN.{length}
-use Rattle.machine.specs.ContractsLaws.{idled, polled-done, polled-busy, polled-misfit}
+use Rattle.machine.proofs.ContractsLaws.{idled, polled-done, polled-busy, polled-misfit}
 use Rattle.calls.proofs.requests.poll_read.Goals as goal
 
 pub returns-then-is_idle : goal.returns-then-is_idle

@@ -1,5 +1,5 @@
 use Rattle.script.specs.Calls as calls
-use Rattle.machine.specs.ContractsLaws.{idled, slotted-done, slotted-busy, slotted-misfit}
+use Rattle.machine.proofs.ContractsLaws.{idled, slotted-done, slotted-busy, slotted-misfit}
 use Rattle.calls.proofs.requests.poll_write.Goals as goal
 
 pub returns-then-is_idle : goal.returns-then-is_idle

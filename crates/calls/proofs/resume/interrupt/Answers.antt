@@ -1,9 +1,9 @@
 use Rattle.machine.specs.Lifts.{lifts}
 use Rattle.calls.specs.RowOneLaws.{slots-fitted}
-use Rattle.machine.specs.RowsLaws.{back}
+use Rattle.machine.proofs.RowsLaws.{back}
 use Rattle.machine.specs.GoesLaws.{proceeds}
 use Rattle.machine.specs.Suspended.{decode}
-use Rattle.machine.specs.Lent.{as_lent}
+use Rattle.machine.proofs.Lent.{as_lent}
 use Rattle.state.specs.State.{view, saved}
 use Rattle.answer.specs.Parts.{step_of}
 use Rattle.answer.specs.WordLaws.{refused-sound}

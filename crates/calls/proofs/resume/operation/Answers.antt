@@ -1,8 +1,8 @@
 use Rattle.calls.specs.RowOneLaws.{slots-fitted}
-use Rattle.machine.specs.RowsLaws.{back}
+use Rattle.machine.proofs.RowsLaws.{back}
 use Rattle.machine.specs.GoesLaws.{proceeds}
 use Rattle.machine.specs.Suspended.{decode}
-use Rattle.machine.specs.Lent.{as_lent}
+use Rattle.machine.proofs.Lent.{as_lent}
 use Rattle.state.specs.State.{view, saved}
 use mathlib.Core.Path.{refl, sym, ◌∙◌}
 use Rattle.calls.proofs.resume.operation.Goals as goal

@@ -3,7 +3,7 @@ use borrow.Author.Tests.{eq-eqb}
 use Rattle.script.specs.Calls as calls
 use Rattle.machine.specs.Suspended.{decode}
 use Rattle.state.specs.State.{view, saved}
-use Rattle.machine.specs.ContractsLaws.{other-stopped}
+use Rattle.machine.proofs.ContractsLaws.{other-stopped}
 use Rattle.calls.specs.Begins.{allocating, allocate-begins, allocate-refused}
 use Rattle.calls.proofs.start.allocate.Goals as goal
 

@@ -1,5 +1,5 @@
 use Rattle.std.proofs.Common.{◌≡◌, ◌%◌, length, ◌∙◌, arith}
-use Rattle.card.specs.BatchLaws.{batch-torn, batch-room-torn, batch-taken, batch-room}
+use Rattle.card.proofs.BatchLaws.{batch-torn, batch-room-torn, batch-taken, batch-room}
 use Rattle.card.proofs.batches.next_packets.Goals as goal
 
 pub returns-then-stream-ne0 : goal.returns-then-stream-ne0

@@ -1,8 +1,8 @@
 use Rattle.std.proofs.Common.{true, false, sym, ◌∙◌, arith, w64, Fits}
-use Rattle.card.specs.Progress.{find-fits}
+use Rattle.card.proofs.Progress.{find-fits}
 use Rattle.card.specs.Reading.{total}
 use Rattle.card.specs.Streams.{view}
-use Rattle.card.specs.BatchLaws.{some_end, some-short}
+use Rattle.card.proofs.BatchLaws.{some_end, some-short}
 use Rattle.card.proofs.Taking.{begins, goes_near, goes_on_lem, ends}
 use Rattle.card.proofs.batches.take.Goals as goal
 

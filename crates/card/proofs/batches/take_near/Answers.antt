@@ -2,7 +2,7 @@ use Rattle.std.proofs.Common.{◌/◌, ◌∙◌, arith}
 use lib.Seq.{paste-zero}
 use Rattle.card.specs.Reading.{bytes_from}
 use Rattle.card.specs.Streams.{view}
-use Rattle.card.specs.InsideLaws.{seen-good, good-lies, near_none, near-walked, near-bytes}
+use Rattle.card.proofs.InsideLaws.{seen-good, good-lies, near_none, near-walked, near-bytes}
 use Rattle.card.proofs.batches.take_near.Goals as goal
 
 pub returns-then-first-d : goal.returns-then-first-d

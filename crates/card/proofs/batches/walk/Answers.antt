@@ -1,5 +1,5 @@
 use Rattle.std.proofs.Common.{◌/◌, arith}
-use Rattle.card.specs.InsideLaws.{standing-none, good-lies, walk_more}
+use Rattle.card.proofs.InsideLaws.{standing-none, good-lies, walk_more}
 use Rattle.card.proofs.batches.walk.Goals as goal
 
 pub loop-bytes-init : goal.loop-bytes-init

@@ -1,8 +1,8 @@
 use Rattle.std.proofs.Common.{sym, refl, ◌∙◌, arith}
 use Rattle.card.specs.Reading.{total}
-use Rattle.card.specs.Progress.{find-ends, find-gives, find-goes, goes_further}
+use Rattle.card.proofs.Progress.{find-ends, find-gives, find-goes, goes_further}
 use Rattle.card.specs.Streams.{view}
-use Rattle.card.specs.SeenLaws.{seen_none}
+use Rattle.card.proofs.SeenLaws.{seen_none}
 use Rattle.card.proofs.reading.find_from.Goals as goal
 
 pub loop-e-init : goal.loop-e-init

@@ -1,10 +1,10 @@
 use Rattle.std.proofs.Common.{length, sym, refl, ◌∙◌}
 use Rattle.card.specs.declared.stream.Found.TheVariants as found
 use Rattle.card.specs.Calls.{given, put}
-use Rattle.card.specs.Progress.{find-fits}
+use Rattle.card.proofs.Progress.{find-fits}
 use Rattle.card.specs.Streams.{view}
 use Rattle.card.specs.Rooms.{next-torn, room-torn, next_found, room-found}
-use Rattle.card.specs.SeenLaws.{seen_none}
+use Rattle.card.proofs.SeenLaws.{seen_none}
 use Rattle.card.proofs.reading.next_packet.Goals as goal
 
 pub returns-then-stream-ne0 : goal.returns-then-stream-ne0

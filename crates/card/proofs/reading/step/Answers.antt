@@ -3,7 +3,7 @@ use Rattle.card.specs.declared.stream.Step.TheVariants.{Goes}
 use Rattle.card.specs.Reading.{seek_from, begin_at}
 use Rattle.card.specs.Steps.{intact-good, intact-cut, step-short, step-begin}
 use Rattle.card.specs.Streams.{view}
-use Rattle.card.specs.SeenLaws.{seen_clean}
+use Rattle.card.proofs.SeenLaws.{seen_clean}
 use Rattle.card.proofs.reading.step.Goals as goal
 
 pub returns-then-all-d : goal.returns-then-all-d

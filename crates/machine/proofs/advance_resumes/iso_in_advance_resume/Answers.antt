@@ -1,4 +1,4 @@
-use Rattle.machine.specs.PointsStandsLaws.{leads-to, leads-end}
+use Rattle.machine.proofs.PointsStandsLaws.{leads-to, leads-end}
 use Rattle.machine.specs.AdvanceLaws.{advance}
 use Rattle.isochronous.specs.Advance.{completing}
 use Rattle.isochronous.specs.Laws.{paced-none, paced-begun}

@@ -1,4 +1,4 @@
-use Rattle.machine.specs.PointsStandsLaws.{follows, stays_at}
+use Rattle.machine.proofs.PointsStandsLaws.{follows, stays_at}
 use Rattle.machine.specs.AdvanceLaws.{advance}
 use Rattle.machine.specs.declared.Suspended.TheVariants as under
 use Rattle.isochronous.specs.declared.advance.Advance.TheVariants as point

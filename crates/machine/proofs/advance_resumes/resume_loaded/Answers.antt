@@ -1,4 +1,4 @@
-use Rattle.machine.specs.PointsStandsLaws.{at-point, follows}
+use Rattle.machine.proofs.PointsStandsLaws.{at-point, follows}
 use Rattle.machine.specs.Loads.{loaded_at}
 use Rattle.machine.specs.AdvanceLaws.{advance}
 use Rattle.isochronous.specs.Laws.{paced-on}

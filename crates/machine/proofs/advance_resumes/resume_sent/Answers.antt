@@ -1,4 +1,4 @@
-use Rattle.machine.specs.PointsStandsLaws.{at-point, goes_to}
+use Rattle.machine.proofs.PointsStandsLaws.{at-point, goes_to}
 use Rattle.machine.specs.Loads.{sent_at}
 use Rattle.machine.specs.AdvanceLaws.{advance}
 use mathlib.Core.Path.{refl, ap}

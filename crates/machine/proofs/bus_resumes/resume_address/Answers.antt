@@ -1,4 +1,4 @@
-use Rattle.machine.specs.PointsStandsLaws.{at-point, goes_to}
+use Rattle.machine.proofs.PointsStandsLaws.{at-point, goes_to}
 use Rattle.machine.specs.BusLaws.{bus}
 use mathlib.Core.Path.{refl}
 use Rattle.machine.proofs.bus_resumes.resume_address.Goals as goal

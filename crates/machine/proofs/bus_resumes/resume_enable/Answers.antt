@@ -1,4 +1,4 @@
-use Rattle.machine.specs.PointsStandsLaws.{goes_to, stays_at}
+use Rattle.machine.proofs.PointsStandsLaws.{goes_to, stays_at}
 use Rattle.machine.specs.BusLaws.{bus}
 use mathlib.Core.Path.{sym, ◌∙◌}
 use Rattle.machine.proofs.bus_resumes.resume_enable.Goals as goal

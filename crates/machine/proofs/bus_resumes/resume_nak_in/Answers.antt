@@ -1,4 +1,4 @@
-use Rattle.machine.specs.PointsStandsLaws.{at-point, goes_to}
+use Rattle.machine.proofs.PointsStandsLaws.{at-point, goes_to}
 use Rattle.machine.specs.BusLaws.{bus}
 use Rattle.bus.specs.declared.Point.TheVariants as point
 use mathlib.Core.Path.{refl, ap}

@@ -1,4 +1,4 @@
-use Rattle.machine.specs.PointsStandsLaws.{at-point, comes-to, stays_at}
+use Rattle.machine.proofs.PointsStandsLaws.{at-point, comes-to, stays_at}
 use Rattle.machine.specs.BusLaws.{bus}
 use mathlib.Core.Path.{sym, ◌∙◌, refl}
 use Rattle.machine.proofs.bus_resumes.resume_stalled.Goals as goal

@@ -1,4 +1,4 @@
-use Rattle.machine.specs.PointsStandsLaws.{at-point, goes_to, stays_at}
+use Rattle.machine.proofs.PointsStandsLaws.{at-point, goes_to, stays_at}
 use Rattle.machine.specs.BusLaws.{bus}
 use Rattle.bus.specs.Points.{fits_at, after_status}
 use Rattle.bus.specs.declared.Point.TheVariants as point

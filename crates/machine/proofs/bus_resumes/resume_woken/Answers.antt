@@ -1,5 +1,5 @@
-use Rattle.machine.specs.StandsLaws.{parts2}
-use Rattle.machine.specs.PointsStandsLaws.{at-point, comes-to}
+use Rattle.machine.proofs.StandsLaws.{parts2}
+use Rattle.machine.proofs.PointsStandsLaws.{at-point, comes-to}
 use Rattle.machine.specs.BusLaws.{bus}
 use Rattle.bus.specs.Points.{woken}
 use Rattle.bus.specs.declared.Point.TheVariants as point

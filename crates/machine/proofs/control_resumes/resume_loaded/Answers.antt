@@ -1,4 +1,4 @@
-use Rattle.machine.specs.PointsStandsLaws.{at-point, goes_to}
+use Rattle.machine.proofs.PointsStandsLaws.{at-point, goes_to}
 use Rattle.machine.specs.ControlLaws.{control}
 use Rattle.control.specs.declared.Point.TheVariants as point
 use mathlib.Core.Path.{refl, ap, sym, ◌∙◌}

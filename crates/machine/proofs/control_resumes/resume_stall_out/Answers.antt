@@ -1,4 +1,4 @@
-use Rattle.machine.specs.PointsStandsLaws.{at-point, goes_to, stays_at}
+use Rattle.machine.proofs.PointsStandsLaws.{at-point, goes_to, stays_at}
 use Rattle.machine.specs.ControlLaws.{control}
 use mathlib.Core.Path.{refl, sym, ◌∙◌}
 use Rattle.machine.proofs.control_resumes.resume_stall_out.Goals as goal

@@ -1,4 +1,4 @@
-use Rattle.machine.specs.PointsStandsLaws.{at-point, goes_to}
+use Rattle.machine.proofs.PointsStandsLaws.{at-point, goes_to}
 use Rattle.machine.specs.ControlLaws.{control}
 use mathlib.Core.Path.{refl}
 use Rattle.machine.proofs.control_resumes.resume_stalled_in.Goals as goal

@@ -1,4 +1,4 @@
-use Rattle.machine.specs.PointsStandsLaws.{leads-to}
+use Rattle.machine.proofs.PointsStandsLaws.{leads-to}
 use Rattle.machine.specs.DriverLaws.{driver}
 use Rattle.driver.specs.Announce.{announcing}
 use Rattle.script_ops.specs.Concrete.{go}

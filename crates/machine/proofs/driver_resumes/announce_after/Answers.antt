@@ -1,4 +1,4 @@
-use Rattle.machine.specs.PointsStandsLaws.{leads-end}
+use Rattle.machine.proofs.PointsStandsLaws.{leads-end}
 use Rattle.machine.specs.Stands.{halted}
 use Rattle.driver.specs.Announce.{following}
 use Rattle.driver.specs.AnnounceLaws.{after_none, after-in, after-out}

@@ -1,4 +1,4 @@
-use Rattle.machine.specs.PointsStandsLaws.{goes_to}
+use Rattle.machine.proofs.PointsStandsLaws.{goes_to}
 use Rattle.machine.specs.DriverLaws.{driver}
 use Rattle.driver.specs.declared.Point.TheVariants as point
 use Rattle.machine.specs.declared.Suspended.TheVariants as under

@@ -1,4 +1,4 @@
-use Rattle.machine.specs.PointsStandsLaws.{at-point, comes-to, stays_at}
+use Rattle.machine.proofs.PointsStandsLaws.{at-point, comes-to, stays_at}
 use Rattle.machine.specs.DriverLaws.{driver}
 use mathlib.Core.Path.{sym, ◌∙◌, refl}
 use Rattle.machine.proofs.driver_resumes.resume_frame_no.Goals as goal

@@ -1,4 +1,4 @@
-use Rattle.machine.specs.PointsStandsLaws.{at-point, comes-to}
+use Rattle.machine.proofs.PointsStandsLaws.{at-point, comes-to}
 use Rattle.machine.specs.DriverLaws.{driver}
 use mathlib.Core.Path.{refl}
 use Rattle.machine.proofs.driver_resumes.resume_int_en.Goals as goal

@@ -1,4 +1,4 @@
-use Rattle.machine.specs.PointsStandsLaws.{at-point, goes_to, follows}
+use Rattle.machine.proofs.PointsStandsLaws.{at-point, goes_to, follows}
 use Rattle.machine.specs.Loads.{max_len_at}
 use Rattle.machine.specs.DriverLaws.{driver}
 use Rattle.driver.specs.Announce.{following}

@@ -1,4 +1,4 @@
-use Rattle.machine.specs.PointsStandsLaws.{at-point, follows}
+use Rattle.machine.proofs.PointsStandsLaws.{at-point, follows}
 use Rattle.machine.specs.Loads.{place_at}
 use Rattle.machine.specs.DriverLaws.{driver}
 use mathlib.Core.Path.{refl, ap}

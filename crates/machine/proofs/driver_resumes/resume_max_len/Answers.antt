@@ -1,5 +1,5 @@
-use Rattle.machine.specs.StandsLaws.{parts3}
-use Rattle.machine.specs.PointsStandsLaws.{at-point, goes_to, comes-to}
+use Rattle.machine.proofs.StandsLaws.{parts3}
+use Rattle.machine.proofs.PointsStandsLaws.{at-point, goes_to, comes-to}
 use Rattle.machine.specs.DriverLaws.{driver}
 use Rattle.driver.specs.declared.Point.TheVariants as point
 use mathlib.Core.Path.{refl}

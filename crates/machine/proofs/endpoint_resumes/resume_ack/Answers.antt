@@ -1,5 +1,5 @@
-use Rattle.machine.specs.StandsLaws.{parts2}
-use Rattle.machine.specs.PointsStandsLaws.{at-point, goes_to, stays_at}
+use Rattle.machine.proofs.StandsLaws.{parts2}
+use Rattle.machine.proofs.PointsStandsLaws.{at-point, goes_to, stays_at}
 use Rattle.machine.specs.EndpointLaws.{endpoint}
 use Rattle.endpoint.specs.declared.Point.TheVariants as point
 use mathlib.Core.Path.{refl, sym, ◌∙◌}

@@ -1,4 +1,4 @@
-use Rattle.machine.specs.PointsStandsLaws.{comes-to}
+use Rattle.machine.proofs.PointsStandsLaws.{comes-to}
 use Rattle.machine.specs.EndpointLaws.{endpoint}
 use mathlib.Core.Path.{refl}
 use Rattle.machine.proofs.endpoint_resumes.resume_wrote.Goals as goal

@@ -1,6 +1,6 @@
 use Rattle.machine.specs.declared.Suspended.TheVariants as under
-use Rattle.machine.specs.StandsLaws.{handed_out_lem, stored-by, refuses}
-use Rattle.machine.specs.PointsStandsLaws.{stands_at}
+use Rattle.machine.proofs.StandsLaws.{handed_out_lem, stored-by, refuses}
+use Rattle.machine.proofs.PointsStandsLaws.{stands_at}
 use Rattle.machine.specs.Fits.{linked-begun}
 use mathlib.Core.List.{[]}
 use Rattle.control.specs.Codec as codec

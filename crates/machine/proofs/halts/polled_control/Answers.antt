@@ -1,8 +1,8 @@
 use Rattle.machine.specs.declared.Suspended.TheVariants as under
-use Rattle.machine.specs.StandsLaws.{handed_out_lem, stored-by}
-use Rattle.machine.specs.PointsStandsLaws.{stands_at}
+use Rattle.machine.proofs.StandsLaws.{handed_out_lem, stored-by}
+use Rattle.machine.proofs.PointsStandsLaws.{stands_at}
 use Rattle.machine.specs.Fits.{linked-polled}
-use Rattle.machine.specs.RowsLaws.{ends-idle}
+use Rattle.machine.proofs.RowsLaws.{ends-idle}
 use Rattle.machine.specs.Suspended.{decode}
 use Rattle.state.specs.State.{view, saved}
 use Rattle.control.specs.Codec as codec

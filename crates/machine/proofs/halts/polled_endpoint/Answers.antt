@@ -1,4 +1,4 @@
-use Rattle.machine.specs.RowsLaws.{ends-idle}
+use Rattle.machine.proofs.RowsLaws.{ends-idle}
 use mathlib.Core.Path.{◌∙◌}
 use borrow.Author.Rules.{rules}
 use Rattle.machine.proofs.halts.polled_endpoint.Goals as goal

@@ -1,6 +1,6 @@
 use Rattle.machine.specs.declared.Suspended.TheVariants as under
-use Rattle.machine.specs.StandsLaws.{suspends, stored-by}
-use Rattle.machine.specs.PointsStandsLaws.{stands_at}
+use Rattle.machine.proofs.StandsLaws.{suspends, stored-by}
+use Rattle.machine.proofs.PointsStandsLaws.{stands_at}
 use Rattle.machine.specs.Fits.{linked-advance}
 use Rattle.isochronous.specs.Codec.{decode}
 use mathlib.Core.Path.{◌∙◌}

@@ -1,4 +1,4 @@
-use Rattle.machine.specs.PointsStandsLaws.{at_last}
+use Rattle.machine.proofs.PointsStandsLaws.{at_last}
 use Rattle.machine.specs.DriverLaws.{driver, first}
 use Rattle.state.specs.State.{saved}
 use Rattle.machine.proofs.resume_op.resume_driver.Goals as goal

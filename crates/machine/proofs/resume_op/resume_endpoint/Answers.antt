@@ -1,4 +1,4 @@
-use Rattle.machine.specs.PointsStandsLaws.{at_last}
+use Rattle.machine.proofs.PointsStandsLaws.{at_last}
 use Rattle.machine.specs.EndpointLaws.{endpoint, first}
 use Rattle.state.specs.State.{saved}
 use Rattle.machine.proofs.resume_op.resume_endpoint.Goals as goal

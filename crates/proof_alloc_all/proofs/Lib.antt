@@ -1,0 +1,3 @@
+pub mod OrderLaws
+pub mod BroughtLaws
+pub mod PreviewLaws

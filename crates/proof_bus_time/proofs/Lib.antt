@@ -1,0 +1,10 @@
+pub mod LimitLaws
+pub mod HistoriesLaws
+pub mod ReturnsLaws
+pub mod SwitchingLaws
+pub mod PollingLaws
+pub mod BeginsLaws
+pub mod CourseLaws
+pub mod NowLaws
+pub mod ContinuesLaws
+pub mod CodeLaws

@@ -1,0 +1,6 @@
+pub mod SharedRunsLaws
+pub mod SharedAloneLaws
+pub mod SharedDemand3
+pub mod SharedTurns
+pub mod SharedStepsLaws
+pub mod Witness

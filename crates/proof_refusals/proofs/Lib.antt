@@ -1,0 +1,5 @@
+pub mod Scripts
+pub mod RefusalsLaws
+pub mod Ends
+pub mod SharedLaws
+pub mod BytesLaws

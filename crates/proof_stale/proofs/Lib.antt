@@ -1,0 +1,4 @@
+pub mod NothingStaleLaws
+pub mod OwnSlotLaws
+pub mod StoredSinceLaws
+pub mod SamplesLaws

@@ -1,0 +1,4 @@
+pub mod TwinsLaws
+pub mod MachinesLaws
+pub mod CodeLaws
+pub mod RoomsLaws
