@@ -4,7 +4,7 @@
 //! A late packet's length is found by its last byte that is not the mark's at its place. So a packet of whole samples is
 //! short where its last byte is the mark's there, and it is not seen at all where its first word is the mark
 //! (docs/DIFFERENCES.md, 3). Both are counted here over every value of the coding; `samples-whole`
-//! (crates/proof_stale/specs/SamplesLaws.antt) is the theorem about the codings that cannot be hit.
+//! (crates/proof_stale/proofs/SamplesLaws.antt) is the theorem about the codings that cannot be hit.
 
 use crate::args::{number, Args};
 use crate::json::Json;
