@@ -1,7 +1,7 @@
 #!/usr/bin/env python3
 # SPDX-License-Identifier: MIT OR Apache-2.0
-"""tools/moved.py OLD NEW: the laws that stood in specs/ in the tree OLD and stand right in proofs/ in the tree NEW, file
-by file, each with its public names, as docs/PORT.md has them.
+"""tools/moved.py OLD NEW: the laws that stood in specs/ in the tree OLD and stand right in proofs/ in the tree NEW,
+file by file, each with its public names, as docs/PORT.md has them.
 tools/moved.py OLD NEW --lay-back FOLDER: copies NEW's crates to FOLDER with these files in specs/ again, so that the
 kit's contracts.py, which reads specs/ alone, finds each declaration: contracts.py OLD FOLDER."""
 import re
@@ -11,7 +11,8 @@ import textwrap
 from pathlib import Path
 
 # at the margin, or in a module without a name
-DECLARED = re.compile(r"(?:  )*(?:abbrev |unfoldable )*pub (?:abbrev |unfoldable )*(?:record |data )?([^\s:(){}|,;=]+)(?= [:({])")
+MARKS = "(?:abbrev |unfoldable )*"
+DECLARED = re.compile(rf"(?:  )*{MARKS}pub {MARKS}(?:record |data )?([^\s:(){{}}|,;=]+)(?= [:({{])")
 
 
 def files(tree):

@@ -1,5 +1,5 @@
--- Lists of turns made from what is done: whether each is allowed is worked out by a test (`fine`), and what passes it
--- is (`sound`)
+-- What MovesLaws.antt speaks of: lists of turns made from what is done. There whether each is allowed is worked out by
+-- a test (`fine`), and what passes it is (`sound`)
 use Rattle.std.specs.Prelude.{Bool, true, false, not, ◌&&◌, ◌||◌, List, ◌≡◌, ℕ, ◌+◌, ◌-◌, ◌%◌, ◌≤◌, ◌<◌, leb, length}
 use Rattle.std.proofs.Common.{⊎_elim, ◌∙◌}
 use Rattle.bits.specs.Bit.{bit_is_set}

@@ -1,5 +1,5 @@
--- Both runs with each call worked out once: where a start-up, a list of calls and moves pass the test (`Passes`), they
--- meet the premise of request Fourteen (`opens`)
+-- What OnceLaws.antt speaks of: both runs with each call worked out once. There a start-up, a list of calls and moves
+-- that pass the test (`Passes`) meet the premise of request Fourteen (`opens`)
 use Rattle.std.specs.Prelude.{Bool, false, cond, ◌&&◌, List, [], ◌∷◌, ◌≡◌, ℕ}
 use Rattle.std.proofs.Common.{◌∙◌}
 use Rattle.script.specs.Answers.{Answer, Refused}
