@@ -1,13 +1,14 @@
 -- The best set of channels and the arrivals between visits: the word, and what the caller's rooms hold then. A refusal
 -- leaves them.
-use Rattle.std.specs.Prelude.{◌≡◌, List, [], ◌∷◌, ℕ}
+use Rattle.std.specs.Prelude.{◌≡◌, List, [], ◌∷◌, ℕ, Result, Ok, Err}
 use Rattle.channels.specs.declared.Channel.{Channel}
 use Rattle.channels.specs.declared.Answer.{Answer}
 use Rattle.channels.specs.declared.Answer.TheVariants as answer
 use Rattle.channels.specs.Answers.{answer_of, list_after}
 use Rattle.visits.specs.declared.Reached.{Reached}
 use Rattle.visits.specs.declared.Bounds.{Bounds}
-use Rattle.visits.specs.declared.Bounds.TheVariants as bounds
+use Rattle.visits.specs.declared.Refusal as visits
+use Rattle.visits.specs.Rows as distances
 use Rattle.survey_c.specs.Words.{refused_word, end_word}
 
 -- the chosen set is the result
@@ -37,18 +38,18 @@ pub record BestSet (list : List Channel) (is_in_use budget total figure looked w
   pub bounds : figure' ≡ figure_by (answer_of list is_in_use budget) figure
   pub looks : looked' ≡ looked_by (answer_of list is_in_use budget) looked
 
-abbrev pub bounds_word : Bounds → ℕ
-bounds_word (bounds.Refused row) = refused_word row
-bounds_word (bounds.Between least greatest) = end_word 0
+abbrev pub bounds_word : Result Bounds visits.Refusal → ℕ
+bounds_word (Err refusal) = refused_word (distances.row_of refusal)
+bounds_word (Ok bounds) = end_word 0
 
 -- the number, and "a first arrival after the visit and a steady distance that reach it"
 abbrev pub numbers_of : Reached → List ℕ
 numbers_of r = r.arrivals ∷ r.first ∷ r.distance ∷ []
 
-abbrev pub least_by : Bounds → List ℕ → List ℕ
-least_by (bounds.Refused row) old = old
-least_by (bounds.Between least greatest) old = numbers_of least
+abbrev pub least_by : Result Bounds visits.Refusal → List ℕ → List ℕ
+least_by (Err refusal) old = old
+least_by (Ok bounds) old = numbers_of bounds.least
 
-abbrev pub greatest_by : Bounds → List ℕ → List ℕ
-greatest_by (bounds.Refused row) old = old
-greatest_by (bounds.Between least greatest) old = numbers_of greatest
+abbrev pub greatest_by : Result Bounds visits.Refusal → List ℕ → List ℕ
+greatest_by (Err refusal) old = old
+greatest_by (Ok bounds) old = numbers_of bounds.greatest

@@ -34,7 +34,6 @@ use channels::Channel;
 use recorder::recorder::Recorded;
 use rooms::{best_into, reached};
 use six_numbers::{recorder_in, recorder_numbers};
-use visits::Bounds;
 use words::{done, ended, refused};
 use writer::{endpoint_of, numbers_of, result_of, writer_in};
 
@@ -72,12 +71,10 @@ pub fn usbhs_between_visits(
     ensures greatest_after { greatest.new ≡ greatest_by (bounds_of a b c d) greatest.old }
 {
     match visits::between_visits(a, b, c, d) {
-        Bounds::Refused(row) => refused(row),
-        Bounds::Between(l, g) => {
-            let few = reached(l);
-            let many = reached(g);
-            *least = few;
-            *greatest = many;
+        Err(refusal) => refused(refusal.row()),
+        Ok(bounds) => {
+            *least = reached(bounds.least);
+            *greatest = reached(bounds.greatest);
             ended(0)
         }
     }

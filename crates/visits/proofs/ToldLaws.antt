@@ -1,9 +1,9 @@
 -- Laws on the definitions of Told.antt
-use Rattle.std.specs.Prelude.{◌≡◌, Bool, true, false, cond, ℕ}
+use Rattle.std.specs.Prelude.{◌≡◌, Bool, true, false, cond, ℕ, Ok, Err}
 use Rattle.std.proofs.Math.Path.{refl}
 use Rattle.std.proofs.Common.{arith}
-use Rattle.visits.specs.declared.Reached.{Reached}
-use Rattle.visits.specs.declared.Bounds.TheVariants.{Refused, Between}
+use Rattle.visits.specs.declared.Bounds.{Bounds}
+use Rattle.visits.specs.declared.Refusal.TheVariants.{Distances}
 use Rattle.visits.specs.Limits.{row23, Limits}
 use Rattle.visits.specs.LimitsLaws.{accepted}
 use Rattle.visits.specs.Bounds.{least_of, greatest_of, bounds_of}
@@ -22,16 +22,16 @@ within l = record {
   fifteen = λ g. fifteen l g;
 }
 
-module _ {a b c d : ℕ} {least greatest : Reached} where
-  by : (t : Bool) → row23 a b c d ≡ t → cond t (Refused 23) (Between (least_of a d) (greatest_of b c))
-      ≡ Between least greatest
-      → Told a b c d least greatest
-  by true r e = absurd (let z : ◌≡◌ {A = ℕ} 0 1 = cc in omega arith)
-  by false r e =
-      let l : least_of a d ≡ least = cc in
-      let g : greatest_of b c ≡ greatest = cc in
-      rw (← l, ← g) (within ((accepted a b c d).0 r))
+module _ {a b c d : ℕ} {r : Bounds} where
+  by : (t : Bool) → row23 a b c d ≡ t
+      → cond t (Err Distances) (Ok (record { least = least_of a d; greatest = greatest_of b c })) ≡ Ok r
+      → Told a b c d r.least r.greatest
+  by true h e = absurd (let z : ◌≡◌ {A = ℕ} 0 1 = cc in omega arith)
+  by false h e =
+      let l : least_of a d ≡ r.least = cc in
+      let g : greatest_of b c ≡ r.greatest = cc in
+      rw (← l, ← g) (within ((accepted a b c d).0 h))
 
-  pub told : bounds_of a b c d ≡ Between least greatest → Told a b c d least greatest
+  pub told : bounds_of a b c d ≡ Ok r → Told a b c d r.least r.greatest
   unfolding bounds_of
   told e = by (row23 a b c d) refl e

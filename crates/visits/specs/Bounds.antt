@@ -1,8 +1,9 @@
 -- The answer. Assumes nothing.
-use Rattle.std.specs.Prelude.{cond, ℕ, ◌+◌, ◌-◌, ◌/◌}
+use Rattle.std.specs.Prelude.{cond, ℕ, ◌+◌, ◌-◌, ◌/◌, Result, Ok, Err}
 use Rattle.visits.specs.declared.Reached.{Reached}
 use Rattle.visits.specs.declared.Bounds.{Bounds}
-use Rattle.visits.specs.declared.Bounds.TheVariants.{Refused, Between}
+use Rattle.visits.specs.declared.Refusal.{Refusal}
+use Rattle.visits.specs.declared.Refusal.TheVariants.{Distances}
 use Rattle.visits.specs.Limits.{row23}
 
 -- "The least is a divided by d rounded down"; "d and d in a span of a"
@@ -17,5 +18,5 @@ rounded_up n m = (n + (m - 1)) / m
 unfoldable pub greatest_of : ℕ → ℕ → Reached
 greatest_of b c = record { arrivals = rounded_up b c; first = 1; distance = c }
 
-unfoldable pub bounds_of : ℕ → ℕ → ℕ → ℕ → Bounds
-bounds_of a b c d = cond (row23 a b c d) (Refused 23) (Between (least_of a d) (greatest_of b c))
+unfoldable pub bounds_of : ℕ → ℕ → ℕ → ℕ → Result Bounds Refusal
+bounds_of a b c d = cond (row23 a b c d) (Err Distances) (Ok (record { least = least_of a d; greatest = greatest_of b c }))

@@ -1,5 +1,6 @@
 pub mod Limits
 pub mod LimitsLaws
+pub mod Rows
 pub mod Bounds
 pub mod Times
 pub mod SpacedLaws

@@ -4,35 +4,35 @@ use Rattle.visits.specs.Limits.{row23}
 use Rattle.visits.specs.LimitsLaws.{limits-from, limits-upto, limits-order}
 use Rattle.visits.specs.Bounds.{bounds_of}
 use Rattle.visits.proofs.between_visits.Goals as goal
+use Rattle.visits.proofs.between_visits.Goals.{then-no_limits-via-then-no_limits, then-no_limits-via-else-no_limits+then-no_limits-2}
 
 pub returns-then-no_limits : goal.returns-then-no_limits
 unfolding bounds_of row23
-returns-then-no_limits c = simp (← c.no_limits.ensures, c.if-no_limits.true)
+returns-then-no_limits c = elim c.then-no_limits.branch [
+  | then-no_limits-via-then-no_limits w ↦ simp (← c.no_limits.ensures, w.if-no_limits.true)
+  | then-no_limits-via-else-no_limits+then-no_limits-2 w ↦
+      simp (← w.no_limits-else-no_limits.ensures, w.if-no_limits-2.true, ← c.no_limits.ensures, w.if-no_limits.false)
+]
 
-pub returns-then-no_limits-2 : goal.returns-then-no_limits-2
-unfolding bounds_of row23
-returns-then-no_limits-2 c =
-    simp (← c.no_limits-2.ensures, c.if-no_limits-2.true, ← c.no_limits.ensures, c.if-no_limits.false)
-
-pub least-l-requires : goal.least-l-requires
-least-l-requires c =
-    let w = sym c.no_limits-2.ensures ∙ c.if-no_limits-2.false in
+pub least-requires : goal.least-requires
+least-requires c =
+    let w = sym c.no_limits-else-no_limits.ensures ∙ c.if-no_limits-2.false in
     omega (arith, limits-from _ _ w, limits-order _ _ w)
 
-pub greatest-g-requires : goal.greatest-g-requires
-greatest-g-requires c =
+pub greatest-requires : goal.greatest-requires
+greatest-requires c =
     let v = sym c.no_limits.ensures ∙ c.if-no_limits.false in
-    let w = sym c.no_limits-2.ensures ∙ c.if-no_limits-2.false in
+    let w = sym c.no_limits-else-no_limits.ensures ∙ c.if-no_limits-2.false in
     omega (arith, limits-upto _ _ v, limits-from _ _ w, limits-order _ _ w, limits-upto _ _ w)
 
 pub returns : goal.returns
 unfolding bounds_of row23
 returns c =
     simp (
-      ← c.no_limits-2.ensures,
+      ← c.no_limits-else-no_limits.ensures,
       c.if-no_limits-2.false,
       ← c.no_limits.ensures,
       c.if-no_limits.false,
-      c.least-l.ensures,
-      c.greatest-g.ensures,
+      c.least.ensures,
+      c.greatest.ensures,
     )

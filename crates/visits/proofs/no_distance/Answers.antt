@@ -6,6 +6,6 @@ pub returns-then-x-eq0 : goal.returns-then-x-eq0
 unfolding no_distance
 returns-then-x-eq0 c = simp (eq-eqb _ _ c.if-x-eq0.true)
 
-pub returns : goal.returns
+pub returns-else-x-eq0 : goal.returns-else-x-eq0
 unfolding no_distance
-returns c = simp (ne_eqb _ _ c.if-x-eq0.false)
+returns-else-x-eq0 c = simp (ne_eqb _ _ c.if-x-eq0.false)
