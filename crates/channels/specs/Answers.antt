@@ -1,9 +1,9 @@
 -- Request Ten's answer, and the lent list after it.
-use Rattle.std.specs.Prelude.{Bool, cond, ◌||◌, List, ℕ, eqb, ltb, length}
+use Rattle.std.specs.Prelude.{Bool, cond, ◌||◌, List, ℕ, eqb, ltb, length, Result, Ok, Err}
 use Rattle.channels.specs.declared.Channel.{Channel}
 use Rattle.channels.specs.declared.Choice.{Choice}
-use Rattle.channels.specs.declared.Answer.{Answer}
-use Rattle.channels.specs.declared.Answer.TheVariants.{Refused, Best}
+use Rattle.channels.specs.declared.Refusal.{Refusal}
+use Rattle.channels.specs.declared.Refusal.TheVariants.{Channels}
 use Rattle.channels.specs.Channels.{maximum, charge, flagged}
 use Rattle.channels.specs.Sets.{choice_of}
 
@@ -11,20 +11,12 @@ use Rattle.channels.specs.Sets.{choice_of}
 unfoldable pub is_refused : ℕ → ℕ → Bool
 is_refused n budget = eqb budget 0 || ltb 16 n
 
-abbrev pub refusal : Answer
-refusal = Refused 20
-
--- the set that an answer brings
-abbrev pub set_in : Answer → ℕ
-set_in (Refused row) = 0
-set_in (Best c) = c.set
-
 -- the choice among the channels of the list
 abbrev pub choice_in : List Channel → ℕ → ℕ → Choice
 choice_in cs is_in_use budget = choice_of (maximum cs) (charge cs) (length cs) is_in_use budget
 
-unfoldable pub answer_of : List Channel → ℕ → ℕ → Answer
-answer_of cs is_in_use budget = cond (is_refused (length cs) budget) refusal (Best (choice_in cs is_in_use budget))
+unfoldable pub answer_of : List Channel → ℕ → ℕ → Result Choice Refusal
+answer_of cs is_in_use budget = cond (is_refused (length cs) budget) (Err Channels) (Ok (choice_in cs is_in_use budget))
 
 -- a refusal writes no flag; else all are written
 unfoldable pub list_after : List Channel → ℕ → ℕ → List Channel

@@ -1,8 +1,7 @@
--- The lent list of channels, and the two arrays that it is read into.
-use Rattle.std.specs.Prelude.{List, ℕ, zero, suc, get_or, set, replicate}
+-- The lent list of channels.
+use Rattle.std.specs.Prelude.{List, ℕ, zero, suc, get_or, set}
 use Rattle.bits.specs.Bit.{bit_is_set, digit}
 use Rattle.channels.specs.declared.Channel.{Channel}
-use Rattle.channels.specs.declared.list.Lists.{Lists}
 
 -- ---- the list
 
@@ -28,20 +27,3 @@ with_flag f c = record { maximum = c.maximum; charge = c.charge; chosen = f }
 unfoldable pub flagged : List Channel → ℕ → ℕ → List Channel
 flagged cs w zero = cs
 flagged cs w (suc i) = set (flagged cs w i) i (with_flag (flag w i) (get_or (flagged cs w i) i none))
-
--- ---- the arrays
-
--- number i of an array
-abbrev pub listed : List ℕ → ℕ → ℕ
-listed s i = get_or s i 0
-
-abbrev pub zeros : Lists
-zeros = record { maxima = replicate 16 0; charges = replicate 16 0 }
-
-abbrev pub put_at : Lists → ℕ → ℕ → ℕ → Lists
-put_at l i m c = record { maxima = set l.maxima i m; charges = set l.charges i c }
-
--- the first n channels read
-unfoldable pub lists_of : List Channel → ℕ → Lists
-lists_of cs zero = zeros
-lists_of cs (suc i) = put_at (lists_of cs i) i (maximum cs i) (charge cs i)

@@ -1,9 +1,9 @@
 pub mod Channels
 pub mod Sets
+pub mod Rows
 pub mod Answers
 pub mod ChannelsLaws
 pub mod SetsLaws
-pub mod AnswersLaws
 pub mod BestLaws
 pub mod Promises
 pub mod Alike

@@ -1,5 +1,5 @@
 -- What request Ten promises of its answer, from the definitions. Assumes nothing.
-use Rattle.std.specs.Prelude.{◌≡◌, refl, true, false, ◌⊎◌, List, ℕ, ◌^◌, ◌≤◌, ◌<◌, min, eqb, length, get_or}
+use Rattle.std.specs.Prelude.{◌≡◌, refl, true, false, ◌⊎◌, List, ℕ, ◌^◌, ◌≤◌, ◌<◌, min, eqb, length, get_or, Ok, Err}
 use Rattle.std.proofs.Common.{sym, ◌∙◌, true≢false, inl, inr, arith, eq-eqb, ne_eqb, lt-ltb, le-ltb, le-leb}
 use Rattle.std.proofs.Math.Bool.{or-true}
 use Rattle.std.proofs.Math.Decide.{dec_lt}
@@ -7,7 +7,7 @@ use Rattle.std.proofs.Math.Pow.{pow_pos}
 use Rattle.std.proofs.lemmas.Bool.{lt-leb}
 use Rattle.channels.specs.declared.Channel.{Channel}
 use Rattle.channels.specs.declared.Choice.{Choice}
-use Rattle.channels.specs.declared.Answer.TheVariants.{Refused, Best}
+use Rattle.channels.specs.declared.Refusal.TheVariants.{Channels}
 use Rattle.channels.specs.Channels.{none, maximum, charge, flag, with_flag}
 use Rattle.channels.specs.Sets.{total, sum, room, fits, looked, figure, choice_of}
 use Rattle.channels.specs.Answers.{is_refused, choice_in, answer_of, list_after}
@@ -67,7 +67,7 @@ few_of n budget h = elim (dec_lt 16 n) [
 ]
 
 module _ (cs : List Channel) (is_in_use budget : ℕ) where
-  pub refused : is_refused (length cs) budget ≡ true → (answer_of cs is_in_use budget ≡ Refused 20)
+  pub refused : is_refused (length cs) budget ≡ true → (answer_of cs is_in_use budget ≡ Err Channels)
       × (list_after cs is_in_use budget ≡ cs)
   unfolding answer_of list_after
   refused h = (rw h, rw h)
@@ -75,7 +75,7 @@ module _ (cs : List Channel) (is_in_use budget : ℕ) where
   -- ---- what is accepted
 
   pub record Accepted : Type 0 where
-    pub answer : answer_of cs is_in_use budget ≡ Best (choice_in cs is_in_use budget)
+    pub answer : answer_of cs is_in_use budget ≡ Ok (choice_in cs is_in_use budget)
     pub promise : Promised (maximum cs) (charge cs) (length cs) is_in_use budget (choice_in cs is_in_use budget)
     -- as many channels, each with its maximum and charge as before and a flag that says whether it is in the chosen set
     pub many : length (list_after cs is_in_use budget) ≡ length cs

@@ -1,16 +1,12 @@
 // Request Ten: the set of optional channels that fits the bus time left and whose maxima total the most.
 #![tactic(auto)]
 
-ghost use Rattle.std.specs.Prelude.{◌≡◌, ◌≤◌};
-ghost use Rattle.channels.specs.Sets.{choice_of};
-ghost use Rattle.channels.specs.Channels.{listed};
-ghost use Rattle.channels.specs.declared.Answer.TheVariants.{Best};
-ghost use Rattle.channels.specs.Answers.{is_refused, refusal, set_in, answer_of, list_after};
+ghost use Rattle.std.specs.Prelude.{◌≡◌, ◌≤◌, length};
+ghost use Rattle.channels.specs.Rows.{row_of};
+ghost use Rattle.channels.specs.Channels.{flagged};
+ghost use Rattle.channels.specs.Answers.{answer_of, list_after};
 
-mod list; // list.rt: the lent list of channels, read and marked
 mod sets; // sets.rt: totals, and the best set among the first so many
-
-use list::Lists;
 
 const MOST_CHANNELS: usize = 16;
 
@@ -20,12 +16,12 @@ const MOST_CHANNELS: usize = 16;
 pub struct Channel {
     pub maximum: u16,
     pub charge: u16,
-    pub chosen: u8,
+    pub chosen: u8, // no bool: C lays the struct out, and any byte may stand there
 }
 
 // The chosen set as a count, whose bit i says whether channel i is in; the total of its maxima; a figure that no
 // fitting set exceeds; how many sets were looked at.
-#[derive(Clone, Copy)]
+#[derive(Clone, Copy, Debug, PartialEq, Eq)]
 pub struct Choice {
     pub set: u32,
     pub total: u32,
@@ -33,56 +29,42 @@ pub struct Choice {
     pub looked: u32,
 }
 
-#[derive(Clone, Copy)]
-pub enum Answer {
-    Refused(u8),
-    Best(Choice),
+// By which row of include/usbhs.h (enum usbhs_row) a call is refused, with its number there: a budget of 0 sets, or more
+// than 16 channels.
+#[derive(Clone, Copy, Debug, PartialEq, Eq)]
+pub enum Refusal {
+    Channels = 20,
 }
 
-// Row 20: a budget of 0, or more than 16 channels.
-fn is_refused(n: usize, budget: u32) -> bool
-    ensures { result ≡ is_refused n budget }
-{
-    if budget == 0 {
-        return true;
+impl Refusal {
+    // The row's number.
+    pub fn row(self) -> u8
+        ensures { result ≡ row_of self }
+    {
+        self as u8
     }
-    MOST_CHANNELS < n
 }
 
-fn refusal() -> Answer
-    ensures { result ≡ refusal }
+// Marks the lent list: each flag becomes 1 for a channel of the set, else 0.
+fn mark(list: &mut [Channel], set: u32)
+    requires { length list.old ≤ 16 }
+    ensures { list.new ≡ flagged list.old set (length list.old) }
 {
-    Answer::Refused(20)
-}
-
-fn best(lists: Lists, n: usize, in_use: u32, budget: u32) -> Answer
-    requires { n ≤ 16 }
-    ensures { result ≡ Best (choice_of (listed lists.maxima) (listed lists.charges) n in_use budget) }
-{
-    Answer::Best(sets::choose(lists, n, in_use, budget))
-}
-
-// The set that is to be marked.
-fn set_in(answer: Answer) -> u32
-    ensures { result ≡ set_in answer }
-{
-    match answer {
-        Answer::Refused(_) => 0,
-        Answer::Best(choice) => choice.set,
+    for (i, c) in list.iter_mut().enumerate() {
+        c.chosen = sets::is_in(set, i) as u8;
     }
 }
 
 // Chooses among the channels of the lent list, and marks it: a channel's flag becomes 1 if it is in the chosen set, and
-// 0 if not. 20, and the list as it was: more than 16 channels, or a budget of 0 sets.
-pub fn best_set(list: &mut [Channel], in_use: u32, budget: u32) -> Answer
-    ensures { (result ≡ answer_of list.old in_use budget)
-        × (list.new ≡ list_after list.old in_use budget) }
+// 0 if not. A refusal leaves the list as it was.
+pub fn best_set(list: &mut [Channel], in_use: u32, budget: u32) -> Result<Choice, Refusal>
+    ensures answer { result ≡ answer_of list.old in_use budget }
+    ensures marks { list.new ≡ list_after list.old in_use budget }
 {
-    if is_refused(list.len(), budget) {
-        return refusal();
+    if budget == 0 || MOST_CHANNELS < list.len() {
+        return Err(Refusal::Channels);
     }
-    let lists = list::read(list);
-    let answer = best(lists, list.len(), in_use, budget);
-    list::mark(list, set_in(answer));
-    answer
+    let choice = sets::choose(list, in_use, budget);
+    mark(list, choice.set);
+    Ok(choice)
 }

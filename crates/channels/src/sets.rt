@@ -1,13 +1,20 @@
-// Totals over a set of channels, and the best set among the first so many.
-ghost use Rattle.std.specs.Prelude.{◌≡◌, ◌^◌, ◌≤◌, ◌<◌, min};
-ghost use Rattle.channels.specs.Channels.{listed};
-ghost use Rattle.channels.specs.Sets.{part_of, total, sum, room, fits, look, best_of, figure, choice_of};
+// Sets of channels: what each comes to, and the best one among the first so many.
+ghost use Rattle.std.specs.Prelude.{◌≡◌, ◌^◌, ◌≤◌, ◌<◌, length};
+ghost use Rattle.bits.specs.Bit.{bit_is_set};
+ghost use Rattle.channels.specs.Channels.{maximum, charge};
+ghost use Rattle.channels.specs.Sets.{total, look, best_of, figure, choice_of};
 
-use crate::list::Lists;
-use crate::{Choice, list};
+use crate::{Channel, Choice};
 
 // The byte-times of a microframe that periodic transfers may use (USB 2.0, chapter 5).
 const PERIODIC: u32 = 6000;
+
+// What a set's channels total: their maxima and their charges.
+#[derive(Clone, Copy)]
+struct Totals {
+    maximum: u32,
+    charge: u32,
+}
 
 // A set, and the total of its maxima.
 #[derive(Clone, Copy)]
@@ -16,122 +23,103 @@ pub struct Found {
     pub total: u32,
 }
 
-// The number of channel i if it is in the set, else 0.
-fn part(number: u16, set: u32, i: usize) -> u16
-    requires { i < 16 }
-    ensures { result ≡ part_of number set i }
-{
-    if list::is_in(set, i) { number } else { 0 }
+// The channels that are searched, at most 16, and what is left of the bus time.
+#[derive(Clone, Copy)]
+struct Search<'a> {
+    list: &'a [Channel],
+    room: u32,
+    ghost few: { length list.now ≤ 16 },
 }
 
-// The total over the set of the first n numbers.
-fn total(numbers: [u16; 16], set: u32, n: usize) -> u32
-    requires { n ≤ 16 }
-    ensures { result ≡ total (listed numbers) set n }
-{
-    let mut sum = 0;
-    let mut i = 0;
-    while i < n {
-        sum += part(numbers[i], set, i) as u32;
-        i += 1;
+impl Search<'_> {
+    fn totals(&self, set: u32) -> Totals
+        ensures maximum { result.maximum
+            ≡ total (maximum self.now.list.now) set (length self.now.list.now) }
+        ensures charge { result.charge
+            ≡ total (charge self.now.list.now) set (length self.now.list.now) }
+    {
+        let mut t = Totals {
+            maximum: 0,
+            charge: 0,
+        };
+        for (i, c) in self.list.iter().enumerate() {
+            if is_in(set, i) {
+                t.maximum += c.maximum as u32;
+                t.charge += c.charge as u32;
+            }
+        }
+        t
     }
-    sum
-}
 
-// The total of the first n numbers: that of the set that all channels are in.
-fn sum(numbers: [u16; 16], n: usize) -> u32
-    requires { n ≤ 16 }
-    ensures { result ≡ sum (listed numbers) n }
-{
-    total(numbers, 0xFFFF, n)
-}
+    // The better one of the best so far and a later set: the later one only if it fits and its total is greater.
+    fn look(&self, best: Found, set: u32) -> Found
+        ensures { result ≡ look (maximum self.now.list.now) (charge self.now.list.now)
+            (length self.now.list.now) self.now.room best set }
+    {
+        let t = self.totals(set);
+        if t.charge <= self.room && best.total < t.maximum {
+            return Found {
+                set,
+                total: t.maximum,
+            };
+        }
+        best
+    }
 
-fn fits(charges: [u16; 16], n: usize, room: u32, set: u32) -> bool
-    requires { n ≤ 16 }
-    ensures { result ≡ fits (listed charges) n room set }
-{
-    total(charges, set, n) <= room
-}
+    // The best among the first so many sets.
+    fn best(&self, first: u32) -> Found
+        ensures { result ≡ best_of (maximum self.now.list.now) (charge self.now.list.now)
+            (length self.now.list.now) self.now.room first }
+    {
+        let mut found = Found { set: 0, total: 0 };
+        for set in 0..first {
+            found = self.look(found, set);
+        }
+        found
+    }
 
-// The better one of the best so far and a later set: the later one only if it fits and its total is greater.
-fn look(lists: Lists, n: usize, room: u32, best: Found, set: u32) -> Found
-    requires { n ≤ 16 }
-    ensures { result ≡ look (listed lists.maxima) (listed lists.charges) n room best set }
-{
-    let charges = lists.charges;
-    if fits(charges, n, room, set) {
-        let maxima = lists.maxima;
-        let t = total(maxima, set, n);
-        if best.total < t {
-            return Found { set, total: t };
+    // How many sets there are.
+    fn all_sets(&self) -> u32
+        ensures { result ≡ 2 ^ length self.now.list.now }
+    {
+        1 << self.list.len()
+    }
+
+    // The best total if all sets were looked at, else the total of all maxima: that of the set that all are in.
+    fn figure(&self, budget: u32, best: u32) -> u32
+        ensures { result ≡ figure (maximum self.now.list.now) (length self.now.list.now) budget best }
+    {
+        if self.all_sets() <= budget {
+            best
+        } else {
+            self.totals(0xFFFF).maximum
         }
     }
-    best
 }
 
-// The best among the first so many sets.
-fn best(lists: Lists, n: usize, room: u32, first: u32) -> Found
-    requires { n ≤ 16 }
-    ensures { result ≡ best_of (listed lists.maxima) (listed lists.charges) n room first }
+// Is channel i in the set?
+pub fn is_in(set: u32, i: usize) -> bool
+    requires { i < 16 }
+    ensures { result ≡ bit_is_set set i }
 {
-    let mut found = Found { set: 0, total: 0 };
-    let mut set = 0;
-    while set < first {
-        found = look(lists, n, room, found, set);
-        set += 1;
-    }
-    found
-}
-
-// What is left of the bus time.
-fn room(in_use: u32) -> u32
-    ensures { result ≡ room in_use }
-{
-    if in_use < PERIODIC {
-        PERIODIC - in_use
-    } else {
-        0
-    }
-}
-
-// How many sets n channels have.
-fn all_sets(n: usize) -> u32
-    requires { n ≤ 16 }
-    ensures { result ≡ 2 ^ n }
-{
-    1 << n
-}
-
-fn lesser(a: u32, b: u32) -> u32
-    ensures { result ≡ min a b }
-{
-    if a < b { a } else { b }
-}
-
-// The best total if all sets were looked at, else the total of all maxima.
-fn figure(maxima: [u16; 16], n: usize, budget: u32, best: u32) -> u32
-    requires { n ≤ 16 }
-    ensures { result ≡ figure (listed maxima) n budget best }
-{
-    if all_sets(n) <= budget {
-        best
-    } else {
-        sum(maxima, n)
-    }
+    bits::is_set(set, i as u8)
 }
 
 // Searches the sets of channels for the best one that fits the bus time left.
-pub fn choose(lists: Lists, n: usize, in_use: u32, budget: u32) -> Choice
-    requires { n ≤ 16 }
-    ensures { result ≡ choice_of (listed lists.maxima) (listed lists.charges) n in_use budget }
+pub fn choose(list: &[Channel], in_use: u32, budget: u32) -> Choice
+    requires { length list.now ≤ 16 }
+    ensures { result ≡ choice_of (maximum list.now) (charge list.now) (length list.now) in_use budget }
 {
-    let looked = lesser(budget, all_sets(n));
-    let found = best(lists, n, room(in_use), looked);
-    let maxima = lists.maxima;
+    let search = Search {
+        list,
+        room: PERIODIC.saturating_sub(in_use),
+    };
+    let looked = budget.min(search.all_sets());
+    let found = search.best(looked);
     Choice {
         set: found.set,
         total: found.total,
-        figure: figure(maxima, n, budget, found.total),
+        figure: search.figure(budget, found.total),
         looked,
     }
 }

@@ -2,31 +2,32 @@
 -- leaves them.
 use Rattle.std.specs.Prelude.{◌≡◌, List, [], ◌∷◌, ℕ, Result, Ok, Err}
 use Rattle.channels.specs.declared.Channel.{Channel}
-use Rattle.channels.specs.declared.Answer.{Answer}
-use Rattle.channels.specs.declared.Answer.TheVariants as answer
+use Rattle.channels.specs.declared.Choice.{Choice}
+use Rattle.channels.specs.declared.Refusal as channels
+use Rattle.channels.specs.Rows as channel_rows
 use Rattle.channels.specs.Answers.{answer_of, list_after}
 use Rattle.visits.specs.declared.Reached.{Reached}
 use Rattle.visits.specs.declared.Bounds.{Bounds}
 use Rattle.visits.specs.declared.Refusal as visits
-use Rattle.visits.specs.Rows as distances
+use Rattle.visits.specs.Rows as visit_rows
 use Rattle.survey_c.specs.Words.{refused_word, end_word}
 
 -- the chosen set is the result
-abbrev pub best_word : Answer → ℕ
-best_word (answer.Refused row) = refused_word row
-best_word (answer.Best c) = end_word c.set
+abbrev pub best_word : Result Choice channels.Refusal → ℕ
+best_word (Err refusal) = refused_word (channel_rows.row_of refusal)
+best_word (Ok c) = end_word c.set
 
-abbrev pub total_by : Answer → ℕ → ℕ
-total_by (answer.Refused row) old = old
-total_by (answer.Best c) old = c.total
+abbrev pub total_by : Result Choice channels.Refusal → ℕ → ℕ
+total_by (Err refusal) old = old
+total_by (Ok c) old = c.total
 
-abbrev pub figure_by : Answer → ℕ → ℕ
-figure_by (answer.Refused row) old = old
-figure_by (answer.Best c) old = c.figure
+abbrev pub figure_by : Result Choice channels.Refusal → ℕ → ℕ
+figure_by (Err refusal) old = old
+figure_by (Ok c) old = c.figure
 
-abbrev pub looked_by : Answer → ℕ → ℕ
-looked_by (answer.Refused row) old = old
-looked_by (answer.Best c) old = c.looked
+abbrev pub looked_by : Result Choice channels.Refusal → ℕ → ℕ
+looked_by (Err refusal) old = old
+looked_by (Ok c) old = c.looked
 
 -- the word, the list and the three rooms after a call, by the list, the time in use, the budget and what stood in the
 -- rooms
@@ -39,7 +40,7 @@ pub record BestSet (list : List Channel) (is_in_use budget total figure looked w
   pub looks : looked' ≡ looked_by (answer_of list is_in_use budget) looked
 
 abbrev pub bounds_word : Result Bounds visits.Refusal → ℕ
-bounds_word (Err refusal) = refused_word (distances.row_of refusal)
+bounds_word (Err refusal) = refused_word (visit_rows.row_of refusal)
 bounds_word (Ok bounds) = end_word 0
 
 -- the number, and "a first arrival after the visit and a steady distance that reach it"

@@ -3,7 +3,7 @@
 // endpoints. Any numbers are safe. Each call answers one word; where it is refused, nothing is written.
 #![tactic(auto)]
 
-mod rooms; // rooms.rt: an answer's numbers in the caller's rooms
+mod rooms; // rooms.rt: the arrivals between visits as three numbers
 mod six_numbers; // six_numbers.rt: a recorder as six numbers
 mod words; // words.rt: an answer as one word
 mod writer; // writer.rt: a card's writer as four numbers
@@ -32,7 +32,7 @@ use card::reader::{Batch, Next, Reader, Started};
 use card::writer::{Finished, Wrote};
 use channels::Channel;
 use recorder::recorder::Recorded;
-use rooms::{best_into, reached};
+use rooms::reached;
 use six_numbers::{recorder_in, recorder_numbers};
 use words::{done, ended, refused};
 use writer::{endpoint_of, numbers_of, result_of, writer_in};
@@ -52,8 +52,15 @@ pub fn usbhs_best_set(
         looked.old result list.new total.new figure.new looked.new }
 {
     let in_use = bus_time::in_use(time);
-    let answer = channels::best_set(list, in_use, budget);
-    best_into(answer, total, figure, looked)
+    match channels::best_set(list, in_use, budget) {
+        Err(refusal) => refused(refusal.row()),
+        Ok(choice) => {
+            *total = choice.total;
+            *figure = choice.figure;
+            *looked = choice.looked;
+            ended(choice.set)
+        }
+    }
 }
 
 // The least and the greatest number of arrivals between two visits, each with a first arrival and a distance that reach

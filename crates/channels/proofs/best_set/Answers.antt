@@ -1,23 +1,23 @@
-use Rattle.std.proofs.Common.{sym, ◌∙◌}
-use Rattle.channels.specs.AnswersLaws.{turned_down_lem, chosen_is}
-use Rattle.channels.specs.Promises.{few_of}
+use Rattle.std.specs.Prelude.{length}
+use Rattle.std.proofs.Common.{sym, inl, inr, arith}
+use Rattle.channels.specs.Answers.{answer_of, list_after}
+use Rattle.channels.specs.Promises.{refuses, accepts, refused}
 use Rattle.channels.proofs.best_set.Goals as goal
 
-pub returns-then-is_refused : goal.returns-then-is_refused
-returns-then-is_refused c =
-    rw c.refusal.ensures (turned_down_lem _ _ _ (sym c.is_refused.ensures ∙ c.if-is_refused.true))
-
-pub read-lists-requires : goal.read-lists-requires
-read-lists-requires c = few_of _ _ (sym c.is_refused.ensures ∙ c.if-is_refused.false)
-
-pub best-answer-requires : goal.best-answer-requires
-best-answer-requires c = few_of _ _ (sym c.is_refused.ensures ∙ c.if-is_refused.false)
-
-pub mark-requires : goal.mark-requires
-mark-requires c = few_of _ _ (sym c.is_refused.ensures ∙ c.if-is_refused.false)
+pub returns-then-budget-eq0 : goal.returns-then-budget-eq0
+returns-then-budget-eq0 c =
+    let h = refuses (length c.args.list.now) c.args.budget (elim c.then-budget-eq0.either [
+      | inl e ↦ inl e
+      | inr e ↦ inr e.1
+    ]) in
+    let r = refused c.args.list.now c.args.in_use c.args.budget h in
+    record { answer = sym r.0; marks = sym r.1 }
 
 pub returns : goal.returns
+unfolding answer_of list_after
 returns c =
-    let no = sym c.is_refused.ensures ∙ c.if-is_refused.false in
-    chosen_is _ _ _ no (few_of _ _ no) _ (rw c.read-lists.ensures at c.best-answer.ensures) _
-    (rw c.set_in.ensures at c.mark.ensures)
+    let a = accepts (length c.args.list.now) c.args.budget (omega (arith, c.if-budget-eq0.false)) c.if-list-gt-MOST_CHANNELS.false in
+    record {
+      answer = simp (a, c.choose-choice.ensures);
+      marks = simp (a, c.mark.ensures, c.choose-choice.ensures);
+    }

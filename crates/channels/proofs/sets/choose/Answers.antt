@@ -7,7 +7,7 @@ returns c =
     simp (
       c.figure.ensures,
       c.best-found.ensures,
-      c.room.ensures,
-      c.lesser-looked.ensures,
+      c.saturating_sub.ensures,
+      c.min-looked.ensures,
       c.all_sets.ensures,
     )
