@@ -17,6 +17,7 @@ pub type Time = [u16; TIME_LEN];
 // The byte-times of a microframe that periodic transfers may use (USB 2.0, chapter 5).
 const PERIODIC: u32 = 6000;
 
+// Two kinds of endpoints, as a state has them: a byte, and any may stand there, so no enum.
 const ISOCHRONOUS: u8 = 1;
 
 const INTERRUPT: u8 = 3;
@@ -26,13 +27,11 @@ pub fn charge_of(kind: u8, maximum: u16) -> u32
     ensures value { result ≡ charge_of kind maximum }
     ensures upper_bound { result ≤ 65590 }
 {
-    if kind == ISOCHRONOUS {
-        return maximum as u32 + 38;
+    match kind {
+        ISOCHRONOUS => maximum as u32 + 38,
+        INTERRUPT => maximum as u32 + 55,
+        _ => 0,
     }
-    if kind == INTERRUPT {
-        return maximum as u32 + 55;
-    }
-    0
 }
 
 // The place in the record of a driver's endpoint: the driver's number counts modulo 4, the endpoint's modulo 16.
@@ -46,24 +45,15 @@ pub fn entry(driver: u32, dir: Dir, e: u32) -> usize
     }
 }
 
-fn wide(charge: u16) -> u32
-    ensures value { result ≡ charge }
-    ensures upper_bound { result ≤ 65535 }
-{
-    charge as u32
-}
-
 // The bus time in use: the sum of all endpoints' charges.
 pub fn in_use(time: &Time) -> u32
     ensures value { result ≡ is_in_use time.now }
     ensures upper_bound { result ≤ 8388480 }
 {
     let mut sum: u32 = 0;
-    let mut k: u32 = 0; // half as wide as an index
-    while k < 128 {
-        let at = k as usize;
-        sum += wide(time[at]);
-        k += 1;
+    // no `for &charge in time`: its index has 64 bits, and takes 11 instructions of RV32 a charge where this takes 4
+    for k in 0..128u32 {
+        sum += time[k as usize] as u32;
     }
     sum
 }
@@ -74,7 +64,7 @@ pub fn passes(time: &Time, at: usize, charge: u32) -> bool
     requires charge_bound { charge ≤ 65590 }
     ensures { result ≡ passes time.now at charge }
 {
-    PERIODIC + wide(time[at]) < in_use(time) + charge
+    PERIODIC + (time[at] as u32) < in_use(time) + charge
 }
 
 // The charge at this place.
@@ -90,10 +80,7 @@ fn entry_kept(charge: u16, config: u32, bit: u8) -> u16
     requires { bit < 32 }
     ensures { result ≡ entry_kept config bit charge }
 {
-    if bits::is_set(config, bit) {
-        return charge;
-    }
-    0
+    if bits::is_set(config, bit) { charge } else { 0 }
 }
 
 // Of the driver's charges those stay whose bit is set in the word of ep_config.
@@ -101,10 +88,8 @@ pub fn keep(time: &mut Time, driver: u32, config: u32)
     ensures { time.new ≡ keep_of driver config time.old }
 {
     let first = (driver % 4) as usize * 32;
-    let mut bit: u8 = 0;
-    while bit < 32 {
+    for bit in 0..32 {
         let at = first + bit as usize;
         time[at] = entry_kept(time[at], config, bit);
-        bit += 1;
     }
 }

@@ -3,4 +3,4 @@ use Rattle.bus_time.proofs.passes.Goals as goal
 
 pub returns : goal.returns
 unfolding passes
-returns c = simp (← c.wide.ensures.value, ← c.in_use.ensures.value)
+returns c = simp (← c.in_use.ensures.value)
