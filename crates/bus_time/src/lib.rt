@@ -23,7 +23,7 @@ const ISOCHRONOUS: u8 = 1;
 const INTERRUPT: u8 = 3;
 
 // What an endpoint of a kind is charged once a microframe.
-pub fn charge_of(kind: u8, maximum: u16) -> u32
+fn charge_of(kind: u8, maximum: u16) -> u32
     ensures value { result ≡ charge_of kind maximum }
     ensures upper_bound { result ≤ 65590 }
 {
@@ -35,13 +35,50 @@ pub fn charge_of(kind: u8, maximum: u16) -> u32
 }
 
 // The place in the record of a driver's endpoint: the driver's number counts modulo 4, the endpoint's modulo 16.
-pub fn entry(driver: u32, dir: Dir, e: u32) -> usize
+fn entry(driver: u32, dir: Dir, e: u32) -> usize
     ensures value { result ≡ entry_of driver dir e }
     ensures upper_bound { result < 128 }
 {
     match dir {
         Dir::In => (driver % 4) as usize * 32 + (e % 16) as usize,
         Dir::Out => (driver % 4) as usize * 32 + (16 + (e % 16) as usize),
+    }
+}
+
+// What an endpoint is charged, and its place in the record.
+#[derive(Clone, Copy, Debug, PartialEq, Eq)]
+pub struct Charge {
+    pub amount: u32,
+    pub at: usize,
+    pub ghost amount_bound: { amount ≤ 65590 },
+    pub ghost at_bound: { at < 128 },
+}
+
+impl Charge {
+    // That of a driver's endpoint, of this kind and maximum.
+    pub fn new(driver: u32, dir: Dir, e: u32, kind: u8, maximum: u16) -> Charge
+        ensures amount { result.amount ≡ charge_of kind maximum }
+        ensures at { result.at ≡ entry_of driver dir e }
+    {
+        Charge {
+            amount: charge_of(kind, maximum),
+            at: entry(driver, dir, e),
+        }
+    }
+
+    // Would it pass the limit? (row 19)
+    pub fn passes(self, time: &Time) -> bool
+        ensures { result ≡ passes time.now self.at self.amount }
+    {
+        PERIODIC + (time[self.at] as u32) < in_use(time) + self.amount
+    }
+
+    // Enters it in the record.
+    pub fn enter(self, time: &mut Time)
+        requires { self.amount < 65536 }
+        ensures { time.new ≡ set time.old self.at self.amount }
+    {
+        time[self.at] = self.amount as u16;
     }
 }
 
@@ -56,24 +93,6 @@ pub fn in_use(time: &Time) -> u32
         sum += time[k as usize] as u32;
     }
     sum
-}
-
-// Would the charge at this place pass the limit? (row 19)
-pub fn passes(time: &Time, at: usize, charge: u32) -> bool
-    requires at_bound { at < 128 }
-    requires charge_bound { charge ≤ 65590 }
-    ensures { result ≡ passes time.now at charge }
-{
-    PERIODIC + (time[at] as u32) < in_use(time) + charge
-}
-
-// The charge at this place.
-pub fn charge(time: &mut Time, at: usize, charge: u32)
-    requires at_bound { at < 128 }
-    requires charge_bound { charge < 65536 }
-    ensures { time.new ≡ set time.old at charge }
-{
-    time[at] = charge as u16;
 }
 
 fn entry_kept(charge: u16, config: u32, bit: u8) -> u16

@@ -29,8 +29,8 @@ pub struct Choice {
     pub looked: u32,
 }
 
-// By which row of include/usbhs.h (enum usbhs_row) a call is refused, with its number there: a budget of 0 sets, or more
-// than 16 channels.
+// By which row of include/usbhs.h (enum usbhs_row) a call is refused, with its number there: a budget of 0 sets, or
+// more than 16 channels.
 #[derive(Clone, Copy, Debug, PartialEq, Eq)]
 pub enum Refusal {
     Channels = 20,

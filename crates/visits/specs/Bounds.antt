@@ -19,4 +19,5 @@ unfoldable pub greatest_of : ℕ → ℕ → Reached
 greatest_of b c = record { arrivals = rounded_up b c; first = 1; distance = c }
 
 unfoldable pub bounds_of : ℕ → ℕ → ℕ → ℕ → Result Bounds Refusal
-bounds_of a b c d = cond (row23 a b c d) (Err Distances) (Ok (record { least = least_of a d; greatest = greatest_of b c }))
+bounds_of a b c d =
+    cond (row23 a b c d) (Err Distances) (Ok (record { least = least_of a d; greatest = greatest_of b c }))

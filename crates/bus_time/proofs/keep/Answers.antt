@@ -9,7 +9,9 @@ pub loop-bit-init : goal.loop-bit-init
 loop-bit-init c = sym (kept-none _ _ _)
 
 pub loop-bit-preserved : goal.loop-bit-preserved
-loop-bit-preserved c = rw (kept_more c.args.config (c.args.driver % 4 * 32) c.loop-bit.bit c.args.time.now, ← c.loop-bit.invariant, c.entry_kept.ensures)
+loop-bit-preserved c =
+    let m = kept_more c.args.config (c.args.driver % 4 * 32) c.loop-bit.bit c.args.time.now in
+    rw (m, ← c.loop-bit.invariant, c.entry_kept.ensures)
 
 pub returns : goal.returns
 unfolding keep_of

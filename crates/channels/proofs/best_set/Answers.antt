@@ -1,4 +1,4 @@
-use Rattle.std.specs.Prelude.{length}
+use Rattle.std.specs.Prelude.{◌<◌, length}
 use Rattle.std.proofs.Common.{sym, inl, inr, arith}
 use Rattle.channels.specs.Answers.{answer_of, list_after}
 use Rattle.channels.specs.Promises.{refuses, accepts, refused}
@@ -16,7 +16,8 @@ returns-then-budget-eq0 c =
 pub returns : goal.returns
 unfolding answer_of list_after
 returns c =
-    let a = accepts (length c.args.list.now) c.args.budget (omega (arith, c.if-budget-eq0.false)) c.if-list-gt-MOST_CHANNELS.false in
+    let some : 0 < c.args.budget = omega (arith, c.if-budget-eq0.false) in
+    let a = accepts (length c.args.list.now) c.args.budget some c.if-list-gt-MOST_CHANNELS.false in
     record {
       answer = simp (a, c.choose-choice.ensures);
       marks = simp (a, c.mark.ensures, c.choose-choice.ensures);

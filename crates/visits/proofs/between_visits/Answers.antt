@@ -4,7 +4,8 @@ use Rattle.visits.specs.Limits.{row23}
 use Rattle.visits.specs.LimitsLaws.{limits-from, limits-upto, limits-order}
 use Rattle.visits.specs.Bounds.{bounds_of}
 use Rattle.visits.proofs.between_visits.Goals as goal
-use Rattle.visits.proofs.between_visits.Goals.{then-no_limits-via-then-no_limits, then-no_limits-via-else-no_limits+then-no_limits-2}
+use Rattle.visits.proofs.between_visits.Goals.{then-no_limits-via-then-no_limits}
+use Rattle.visits.proofs.between_visits.Goals.{then-no_limits-via-else-no_limits+then-no_limits-2}
 
 pub returns-then-no_limits : goal.returns-then-no_limits
 unfolding bounds_of row23

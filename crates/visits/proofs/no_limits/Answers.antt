@@ -14,8 +14,12 @@ two c = elim c.if-no_distance.branch [
 
 pub returns-then-no_distance-2 : goal.returns-then-no_distance-2
 unfolding no_limits
-returns-then-no_distance-2 c = simp (← or_assoc, ← two (goal.at.returns-then-no_distance-2 c).Joined-no_distance, c.if-no_distance-2.true)
+returns-then-no_distance-2 c =
+    let t = two (goal.at.returns-then-no_distance-2 c).Joined-no_distance in
+    simp (← or_assoc, ← t, c.if-no_distance-2.true)
 
 pub returns-else-no_distance-2 : goal.returns-else-no_distance-2
 unfolding no_limits
-returns-else-no_distance-2 c = simp (← or_assoc, ← two (goal.at.returns-else-no_distance-2 c).Joined-no_distance, c.if-no_distance-2.false)
+returns-else-no_distance-2 c =
+    let t = two (goal.at.returns-else-no_distance-2 c).Joined-no_distance in
+    simp (← or_assoc, ← t, c.if-no_distance-2.false)

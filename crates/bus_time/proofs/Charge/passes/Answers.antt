@@ -1,5 +1,5 @@
 use Rattle.bus_time.specs.Time.{passes}
-use Rattle.bus_time.proofs.passes.Goals as goal
+use Rattle.bus_time.proofs.Charge.passes.Goals as goal
 
 pub returns : goal.returns
 unfolding passes
