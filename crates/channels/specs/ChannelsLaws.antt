@@ -1,17 +1,9 @@
 -- What marking changes of the lent list, and that the arrays have its numbers. Assumes nothing.
-use Rattle.std.specs.Prelude.{◌≡◌, refl, List, [], ◌∷◌, ℕ, zero, suc, ◌+◌, ◌≤◌, ◌<◌, length, get_or, set}
+use Rattle.std.specs.Prelude.{◌≡◌, refl, List, ℕ, zero, suc, ◌+◌, ◌≤◌, ◌<◌, length, get_or, set}
 use Rattle.std.proofs.Common.{ap, ◌∙◌, add-one, arith, length-set, get_or-set_same, get_or-set_other}
 use Rattle.std.proofs.Math.Decide.{dec_lt}
 use Rattle.channels.specs.declared.Channel.{Channel}
 use Rattle.channels.specs.Channels.{none, flag, with_flag, flagged}
-
--- ---- past the end of a list
-
-module _ {A : Type 0} (d : A) where
-  pub get_d_past : (l : List A) (i : ℕ) → length l ≤ i → get_or l i d ≡ d
-  get_d_past [] i h = refl
-  get_d_past (x ∷ xs) zero h = absurd (omega arith)
-  get_d_past (x ∷ xs) (suc i) h = get_d_past xs i (omega arith)
 
 -- ---- marking
 

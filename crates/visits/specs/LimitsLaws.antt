@@ -1,25 +1,17 @@
 -- What row 23 leaves are limits, and it leaves all of them. Assumes nothing.
-use Rattle.std.specs.Prelude.{◌↔◌, ◌≡◌, refl, Bool, true, false, ◌||◌, ℕ, ◌≤◌, ltb, eqb}
+use Rattle.std.specs.Prelude.{◌↔◌, ◌≡◌, false, ℕ, ◌≤◌, ltb, eqb}
 use Rattle.std.proofs.Common.{arith}
+use Rattle.std.proofs.lemmas.Bool.{or_parts}
 use borrow.Author.Tests.{ltb-false, eqb-false, le-ltb, ne_eqb}
 use Rattle.visits.specs.Limits.{no_distance, no_limits, row23, Limits}
 
-either_left : (x y : Bool) → (x || y) ≡ false → x ≡ false
-either_left true y e = e
-either_left false y e = refl
-
-either-right : (x y : Bool) → (x || y) ≡ false → y ≡ false
-either-right true true e = e
-either-right true false e = refl
-either-right false y e = e
-
 pub distance-from : (x : ℕ) → no_distance x ≡ false → 1 ≤ x
 unfolding no_distance
-distance-from x e = let z = eqb-false x 0 (either_left (eqb x 0) (ltb 16383 x) e) in omega arith
+distance-from x e = let z = eqb-false x 0 (or_parts (eqb x 0) (ltb 16383 x) e).0 in omega arith
 
 pub distance-upto : (x : ℕ) → no_distance x ≡ false → x ≤ 16383
 unfolding no_distance
-distance-upto x e = ltb-false 16383 x (either-right (eqb x 0) (ltb 16383 x) e)
+distance-upto x e = ltb-false 16383 x (or_parts (eqb x 0) (ltb 16383 x) e).1
 
 distance-fits : (x : ℕ) → 1 ≤ x → x ≤ 16383 → no_distance x ≡ false
 unfolding no_distance
@@ -28,15 +20,15 @@ distance-fits x h k = simp (ne_eqb x 0 (λ e. omega arith), le-ltb 16383 x k)
 module _ (least greatest : ℕ) (e : no_limits least greatest ≡ false) where
   pub limits-from : 1 ≤ least
   unfolding no_limits
-  limits-from = distance-from least (either_left (no_distance least) _ e)
+  limits-from = distance-from least (or_parts (no_distance least) _ e).0
 
   pub limits-upto : greatest ≤ 16383
   unfolding no_limits
-  limits-upto = distance-upto greatest (either_left (no_distance greatest) _ (either-right (no_distance least) _ e))
+  limits-upto = distance-upto greatest (or_parts (no_distance greatest) _ (or_parts (no_distance least) _ e).1).0
 
   pub limits-order : least ≤ greatest
   unfolding no_limits
-  limits-order = ltb-false greatest least (either-right (no_distance greatest) _ (either-right (no_distance least) _ e))
+  limits-order = ltb-false greatest least (or_parts (no_distance greatest) _ (or_parts (no_distance least) _ e).1).1
 
 limits-fit : (least greatest : ℕ) → 1 ≤ least → least ≤ greatest → greatest ≤ 16383 → no_limits least greatest ≡ false
 unfolding no_limits
@@ -46,15 +38,14 @@ limits-fit least greatest h k l =
 pub accepted : (a b c d : ℕ) → (row23 a b c d ≡ false) ↔ Limits a b c d
 unfolding row23
 accepted a b c d = (
-  λ e. (let v = either_left (no_limits a b) (no_limits c d) e in
-      let w = either-right (no_limits a b) (no_limits c d) e in
+  λ e. (let p = or_parts (no_limits a b) (no_limits c d) e in
       record {
-        least_visits = limits-from a b v;
-        visits = limits-order a b v;
-        greatest_visits = limits-upto a b v;
-        least_arrivals = limits-from c d w;
-        arrivals = limits-order c d w;
-        greatest_arrivals = limits-upto c d w;
+        least_visits = limits-from a b p.0;
+        visits = limits-order a b p.0;
+        greatest_visits = limits-upto a b p.0;
+        least_arrivals = limits-from c d p.1;
+        arrivals = limits-order c d p.1;
+        greatest_arrivals = limits-upto c d p.1;
       }),
   λ l. simp (
     limits-fit a b l.least_visits l.visits l.greatest_visits,
