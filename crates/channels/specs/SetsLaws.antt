@@ -1,10 +1,15 @@
 -- Totals over sets. Assumes nothing.
-use Rattle.std.specs.Prelude.{◌≡◌, refl, Bool, true, false, cond, ℕ, zero, suc, ◌+◌, ◌-◌, ◌%◌, ◌^◌, ◌≤◌, ◌<◌}
-use Rattle.std.proofs.Common.{ap, ◌∙◌, add-one, arith}
+use Rattle.std.specs.Prelude.{◌≡◌, refl, Bool, true, false, cond, ℕ, zero, suc, ◌+◌, ◌-◌, ◌/◌, ◌%◌, ◌^◌, ◌≤◌, ◌<◌}
+use Rattle.std.proofs.Math.Decide.{dec_lt}
+use Rattle.std.proofs.Common.{sym, ap, ◌∙◌, add-one, arith}
 use Rattle.std.proofs.Math.Nat.{zero-div}
 use Rattle.bits.specs.Bit.{bit_is_set}
-use Rattle.bits.specs.BitLaws.{one_set, bit_not}
+use Rattle.bits.specs.BitLaws.{one_set, bit_not, set-high}
 use Rattle.channels.specs.Sets.{part_of, total, sum}
+
+none-set : (j : ℕ) → bit_is_set 0 j ≡ false
+unfolding bit_is_set
+none-set j = rw (zero-div (2 ^ j))
 
 pub total-none : (f : ℕ → ℕ) (w : ℕ) → total f w 0 ≡ 0
 unfolding total
@@ -13,6 +18,19 @@ total-none f w = refl
 pub total-more : (f : ℕ → ℕ) (w i : ℕ) → total f w (i + 1) ≡ total f w i + part_of (f i) w i
 unfolding total
 total-more f w i = rw add-one
+
+-- from a place on that has no bit behind it nothing is added
+pub total-rest : (f : ℕ → ℕ) (w i n : ℕ) → w / 2 ^ i ≡ 0 → i ≤ n → total f w n ≡ total f w i
+unfolding total
+total-rest f w i zero h l = (let e : i ≡ 0 = omega arith in rw e)
+total-rest f w i (suc n) h l = elim (dec_lt n i) [
+  | yes g ↦ (let e : i ≡ suc n = omega arith in rw e refl)
+  | no g ↦
+      let e : i + (n - i) ≡ n = omega arith in
+      let z : bit_is_set (w / 2 ^ i) (n - i) ≡ false = rw h (none-set (n - i)) in
+      let b : bit_is_set w n ≡ false = rw e at (sym (set-high i w (n - i)) ∙ z) in
+      rw (b, total-rest f w i n h (omega arith)) (omega arith)
+]
 
 -- ---- the set of all of 16 channels, 0xFFFF
 

@@ -42,11 +42,16 @@ impl Search<'_> {
             maximum: 0,
             charge: 0,
         };
-        for (i, c) in self.list.iter().enumerate() {
-            if is_in(set, i) {
+        let mut rest = set; // its bit 0 is the next channel's
+        for c in self.list {
+            if rest == 0 {
+                break;
+            }
+            if is_in(rest, 0) {
                 t.maximum += c.maximum as u32;
                 t.charge += c.charge as u32;
             }
+            rest >>= 1;
         }
         t
     }

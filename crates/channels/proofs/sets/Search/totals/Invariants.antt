@@ -1,13 +1,14 @@
-use Rattle.std.proofs.Common.{◌≡◌, ◌*◌, ◌≤◌}
+use Rattle.std.proofs.Common.{◌≡◌, ◌*◌, ◌/◌, ◌^◌, ◌≤◌}
 use Rattle.channels.specs.Channels.{maximum, charge}
 use Rattle.channels.specs.Sets.{total}
 use Rattle.channels.proofs.sets.Search.totals.Given as goal
 
-abbrev pub invariant-loop-i : goal.invariant-loop-i
-invariant-loop-i l =
+abbrev pub invariant-loop-c : goal.invariant-loop-c
+invariant-loop-c l =
     record {
-      maximum_bound : l.t.maximum ≤ l.i * 65535;
-      charge_bound : l.t.charge ≤ l.i * 65535;
-      maximum : l.t.maximum ≡ total (maximum l.self.list.now) l.set l.i;
-      charge : l.t.charge ≡ total (charge l.self.list.now) l.set l.i;
+      maximum_bound : l.t.maximum ≤ l.c-index * 65535;
+      charge_bound : l.t.charge ≤ l.c-index * 65535;
+      maximum : l.t.maximum ≡ total (maximum l.self.list.now) l.set l.c-index;
+      charge : l.t.charge ≡ total (charge l.self.list.now) l.set l.c-index;
+      rest : l.rest ≡ l.set / 2 ^ l.c-index;
     }
