@@ -4,6 +4,8 @@ pub mod Rows
 pub mod Answers
 pub mod ChannelsLaws
 pub mod SetsLaws
+pub mod Arrays
+pub mod ArraysLaws
 pub mod BestLaws
 pub mod Promises
 pub mod Alike
