@@ -7,10 +7,10 @@ ghost use Rattle.card.specs.Seen.{Seen};
 ghost use Rattle.card.specs.Inside.{Walked, Near};
 ghost use Rattle.card.specs.Batches.{Takes, some, front, answer_by, batch_of, batch_room_of};
 
-use crate::blocks::{byte_at, pair_at};
+use crate::blocks::{byte_at, in_blocks, pair_at};
 use crate::reader::{Batch, Reader};
 use crate::reading::{copy_data, copy_run, find_from};
-use crate::stream::Found;
+use crate::refusal::Refusal;
 
 // Some packets: how many, how many bytes of the room they take, the place behind them, and whether the next one is too
 // long for the rest.
@@ -100,58 +100,56 @@ fn take(stream: &[u8], place: usize, room: &mut [u8]) -> Taken
         count += near.count;
         used += near.bytes;
         d += near.bytes;
-        match find_from(stream, d, first) {
-            Found::Nothing => {
-                return Taken {
-                    count,
-                    used,
-                    at: d,
-                    short: false,
-                };
-            }
-            Found::Packet { at, endpoint, len } => {
-                let n = 3 + len as usize;
-                if room.len() - used < n {
-                    return Taken {
-                        count,
-                        used,
-                        at: d,
-                        short: true,
-                    };
-                }
-                copy_data(stream, at, room, used, n);
-                count += 1;
-                used += n;
-                d = at + n;
-                first = (d + 503) / 504;
-            }
+        let Some(found) = find_from(stream, d, first) else {
+            return Taken {
+                count,
+                used,
+                at: d,
+                short: false,
+            };
+        };
+        let n = 3 + found.len as usize;
+        if room.len() - used < n {
+            return Taken {
+                count,
+                used,
+                at: d,
+                short: true,
+            };
         }
+        copy_data(stream, found.at, room, used, n);
+        count += 1;
+        used += n;
+        d = found.at + n;
+        first = (d + 503) / 504;
     }
 }
 
-fn answer(t: Taken) -> Batch
+fn answer(t: Taken) -> Result<Option<Batch>, Refusal>
     ensures { result ≡ answer_by t.count t.used t.at t.short }
 {
     if t.count == 0 {
         if t.short {
-            return Batch::Refused(21);
+            return Err(Refusal::Card);
         }
-        return Batch::End;
+        return Ok(None);
     }
-    Batch::Packets {
+    Ok(Some(Batch {
         count: t.count,
         used: t.used,
         then: Reader { at: t.at },
-    }
+    }))
 }
 
 // The next packets, as many as the room holds. After a refusal the same reader goes on where it is.
-pub fn next_packets(reader: Reader, stream: &[u8], room: &mut [u8]) -> Batch
+pub fn next_packets(
+    reader: Reader,
+    stream: &[u8],
+    room: &mut [u8],
+) -> Result<Option<Batch>, Refusal>
     ensures value { result ≡ batch_of stream.now reader.at (length room.old) }
     ensures room_after { room.new ≡ batch_room_of stream.now reader.at room.old }
 {
-    if stream.len() % 512 != 0 {
-        return Batch::Refused(21);
-    }
+    in_blocks(stream)?;
     answer(take(stream, reader.at, room))
 }

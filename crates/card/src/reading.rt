@@ -5,11 +5,11 @@ ghost use Rattle.card.specs.Reading.{total, begins, block_end, clean_to, clean_u
 ghost use Rattle.card.specs.Reading.{begin_at, step_at, bytes_from, find};
 ghost use Rattle.card.specs.Calls.{start_of, given, put, next_of, room_of};
 ghost use Rattle.card.specs.Seen.{Seen};
-ghost use Rattle.card.specs.declared.stream.Found.TheVariants as Found;
 ghost use Rattle.card.specs.Streams.{view};
 
-use crate::blocks::{data_byte, is_good, pair_at};
-use crate::reader::{Next, Reader, Started};
+use crate::blocks::{data_byte, in_blocks, is_good, pair_at};
+use crate::reader::{Packet, Reader};
+use crate::refusal::Refusal;
 use crate::stream::{Found, Step};
 
 // The first of the blocks from `from` up to `end` that is not good; the block behind them if all are.
@@ -121,7 +121,7 @@ fn step(stream: &[u8], d: usize, first: usize) -> Step
 }
 
 // The next packet from d on; the blocks of d before block `first` are good.
-pub fn find_from(stream: &[u8], d: usize, first: usize) -> Found
+pub fn find_from(stream: &[u8], d: usize, first: usize) -> Option<Found>
     requires { Seen (view stream.now) d first }
     ensures { result ≡ find (view stream.now) (total (view stream.now)) d }
 {
@@ -130,14 +130,14 @@ pub fn find_from(stream: &[u8], d: usize, first: usize) -> Found
     loop {
         match step(stream, at, from) {
             Step::Ends => {
-                return Found::Nothing;
+                return None;
             }
             Step::Goes(e) => {
                 at = e;
                 from = e / 504;
             }
             Step::Gives { endpoint, len } => {
-                return Found::Packet { at, endpoint, len };
+                return Some(Found { at, endpoint, len });
             }
         }
     }
@@ -182,47 +182,47 @@ pub fn copy_data(stream: &[u8], d: usize, room: &mut [u8], at: usize, n: usize)
 }
 
 // Gives a packet that was found.
-fn give(stream: &[u8], at: usize, endpoint: u8, len: u16, room: &mut [u8]) -> Next
-    requires { at + 3 + len ≤ total (view stream.now) }
-    ensures value { result ≡ given (Found.Packet at endpoint len) (length room.old) }
-    ensures room_after { room.new ≡ put (view stream.now) (Found.Packet at endpoint len)
-        room.old }
+fn give(stream: &[u8], found: Found, room: &mut [u8]) -> Result<Packet, Refusal>
+    requires { found.at + 3 + found.len ≤ total (view stream.now) }
+    ensures value { result ≡ given found (length room.old) }
+    ensures room_after { room.new ≡ put (view stream.now) found room.old }
 {
+    let Found { at, endpoint, len } = found;
     let n = len as usize;
     if room.len() < n {
-        return Next::Refused(21);
+        return Err(Refusal::Card);
     }
     copy_data(stream, at + 3, room, 0, n);
-    Next::Packet {
+    Ok(Packet {
         endpoint,
         len,
         then: Reader { at: at + 3 + n },
-    }
+    })
 }
 
 // A reader of this stream, at the first packet begin that a good block names.
-pub fn start(stream: &[u8]) -> Started
+pub fn start(stream: &[u8]) -> Result<Reader, Refusal>
     ensures { result ≡ start_of stream.now }
 {
-    if stream.len() % 512 != 0 {
-        return Started::Refused(21);
-    }
-    Started::At(Reader {
+    in_blocks(stream)?;
+    Ok(Reader {
         at: seek(stream, 0),
     })
 }
 
 // The next packet, whose bytes come to the front of the room. After a refusal the same reader goes on where it is.
-pub fn next_packet(reader: Reader, stream: &[u8], room: &mut [u8]) -> Next
+pub fn next_packet(
+    reader: Reader,
+    stream: &[u8],
+    room: &mut [u8],
+) -> Result<Option<Packet>, Refusal>
     ensures value { result ≡ next_of stream.now reader.at (length room.old) }
     ensures room_after { room.new ≡ room_of stream.now reader.at room.old }
 {
-    if stream.len() % 512 != 0 {
-        return Next::Refused(21);
-    }
+    in_blocks(stream)?;
     let at = reader.at;
     match find_from(stream, at, at / 504) {
-        Found::Nothing => Next::End,
-        Found::Packet { at, endpoint, len } => give(stream, at, endpoint, len, room),
+        None => Ok(None),
+        Some(found) => Ok(Some(give(stream, found, room)?)),
     }
 }

@@ -28,7 +28,7 @@ ghost use Rattle.survey_c.specs.Card.{writer_in, numbers_of, wrote_word, writer_
 ghost use Rattle.survey_c.specs.Card.{start_by, next_word, endpoint_by, place_by};
 
 use bus_time::Time;
-use card::reader::{Batch, Next, Reader, Started};
+use card::reader::Reader;
 use card::writer::{Finished, Wrote};
 use channels::Channel;
 use recorder::recorder::Recorded;
@@ -209,8 +209,8 @@ pub fn usbhs_card_start(stream: &[u8], place: &mut usize) -> u64
     ensures place_after { place.new ≡ start_by (start_of stream.now) place.old }
 {
     match card::reading::start(stream) {
-        Started::Refused(row) => refused(row),
-        Started::At(reader) => {
+        Err(why) => refused(why.row()),
+        Ok(reader) => {
             *place = reader.at;
             ended(0)
         }
@@ -229,16 +229,12 @@ pub fn usbhs_card_next(stream: &[u8], place: &mut usize, endpoint: &mut u32, roo
 {
     let reader = Reader { at: *place };
     match card::reading::next_packet(reader, stream, room) {
-        Next::Refused(row) => refused(row),
-        Next::End => ended(0),
-        Next::Packet {
-            endpoint: e,
-            len,
-            then,
-        } => {
-            *endpoint = e as u32;
-            *place = then.at;
-            done(len)
+        Err(why) => refused(why.row()),
+        Ok(None) => ended(0),
+        Ok(Some(packet)) => {
+            *endpoint = packet.endpoint as u32;
+            *place = packet.then.at;
+            done(packet.len)
         }
     }
 }
@@ -263,20 +259,16 @@ pub fn usbhs_card_read(
 {
     let reader = Reader { at: *place };
     match card::batches::next_packets(reader, stream, room) {
-        Batch::Refused(row) => refused(row),
-        Batch::End => {
+        Err(why) => refused(why.row()),
+        Ok(None) => {
             *count = 0;
             *used = 0;
             ended(0)
         }
-        Batch::Packets {
-            count: n,
-            used: bytes,
-            then: behind,
-        } => {
-            *count = n;
-            *used = bytes;
-            *place = behind.at;
+        Ok(Some(batch)) => {
+            *count = batch.count;
+            *used = batch.used;
+            *place = batch.then.at;
             ended(1)
         }
     }
