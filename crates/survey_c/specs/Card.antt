@@ -1,11 +1,8 @@
 -- Packets on the card: a writer as four numbers, the calls' words, and what the caller's rooms hold then. A refusal
 -- leaves them.
-use Rattle.std.specs.Prelude.{Bool, cond, List, [], ◌∷◌, ℕ, ◌+◌, ◌%◌, get_or, Option, Some, None, Result, Ok, Err}
+use Rattle.std.specs.Prelude.{Bool, cond, List, [], ◌∷◌, ℕ, ◌+◌, ◌%◌, get_or, Option, Some, None, Result, Ok, Err, true, false}
 use Rattle.card.specs.declared.writer.Writer.{Writer}
-use Rattle.card.specs.declared.writer.Wrote.{Wrote}
-use Rattle.card.specs.declared.writer.Wrote.TheVariants as wrote
-use Rattle.card.specs.declared.writer.Finished.{Finished}
-use Rattle.card.specs.declared.writer.Finished.TheVariants as finished
+use Rattle.card.specs.declared.writer.Piece.{Piece}
 use Rattle.card.specs.declared.reader.Reader.{Reader}
 use Rattle.card.specs.declared.reader.Packet.{Packet}
 use Rattle.card.specs.declared.reader.Batch.{Batch}
@@ -32,19 +29,19 @@ numbers_of w = w.number ∷ w.used ∷ w.first ∷ w.done ∷ []
 abbrev pub result_of : Bool → Bool → ℕ
 result_of full done = cond full 1 0 + cond done 2 0
 
-abbrev pub wrote_word : Wrote → ℕ
-wrote_word (wrote.Piece next full done) = end_word (result_of full done)
-wrote_word (wrote.Refused row) = refused_word row
+abbrev pub wrote_word : Result Piece Refusal → ℕ
+wrote_word (Ok p) = end_word (result_of p.full p.done)
+wrote_word (Err why) = refused_word (row_of why)
 
-abbrev pub writer_by : Wrote → List ℕ → List ℕ
-writer_by (wrote.Piece next full done) old = numbers_of next
-writer_by (wrote.Refused row) old = old
+abbrev pub writer_by : Result Piece Refusal → List ℕ → List ℕ
+writer_by (Ok p) old = numbers_of p.next
+writer_by (Err why) old = old
 
 -- 1: the last block is to be stored; 0: there is none
-abbrev pub finished_word : Finished → ℕ
-finished_word finished.Last = end_word 1
-finished_word finished.Nothing = end_word 0
-finished_word (finished.Refused row) = refused_word row
+abbrev pub finished_word : Result Bool Refusal → ℕ
+finished_word (Ok true) = end_word 1
+finished_word (Ok false) = end_word 0
+finished_word (Err why) = refused_word (row_of why)
 
 -- ---- the reader
 

@@ -29,9 +29,7 @@ ghost use Rattle.survey_c.specs.Card.{start_by, next_word, endpoint_by, place_by
 
 use bus_time::Time;
 use card::reader::Reader;
-use card::writer::{Finished, Wrote};
 use channels::Channel;
-use recorder::recorder::Recorded;
 use rooms::{best_into, reached};
 use six_numbers::{recorder_in, recorder_numbers};
 use visits::Bounds;
@@ -110,11 +108,11 @@ pub fn usbhs_card_write(writer: &mut [u32; 4], block: &mut [u8], endpoint: u32, 
 {
     let w = writer_in(writer);
     match card::writing::write(w, block, endpoint_of(endpoint), bytes) {
-        Wrote::Refused(row) => refused(row),
-        Wrote::Piece { next, full, done } => {
-            let numbers = numbers_of(next);
+        Err(why) => refused(why.row()),
+        Ok(piece) => {
+            let numbers = numbers_of(piece.next);
             *writer = numbers;
-            ended(result_of(full, done))
+            ended(result_of(piece.full, piece.done))
         }
     }
 }
@@ -125,9 +123,9 @@ pub fn usbhs_card_finish(writer: &[u32; 4], block: &mut [u8]) -> u64
     ensures block_after { block.new ≡ last_of (writer_in writer.now) block.old }
 {
     match card::writing::finish(writer_in(writer), block) {
-        Finished::Refused(row) => refused(row),
-        Finished::Nothing => ended(0),
-        Finished::Last => ended(1),
+        Err(why) => refused(why.row()),
+        Ok(false) => ended(0),
+        Ok(true) => ended(1),
     }
 }
 
@@ -138,8 +136,8 @@ pub fn usbhs_recorder_begin(state: &mut [u32; 6], room: &mut [u8], survey: u32) 
     ensures room_after { room.new ≡ begin_room survey room.old }
 {
     match recorder::recording::begin(survey, room) {
-        Recorded::Refused(row) => refused(row),
-        Recorded::Stores(next) => {
+        Err(why) => refused(why.row()),
+        Ok(next) => {
             let numbers = recorder_numbers(next);
             *state = numbers;
             ended(next.left)
@@ -166,8 +164,8 @@ pub fn usbhs_record(
 {
     let r = recorder_in(state);
     match recorder::recording::record(r, room, endpoint_of(endpoint), bytes, overruns) {
-        Recorded::Refused(row) => refused(row),
-        Recorded::Stores(next) => {
+        Err(why) => refused(why.row()),
+        Ok(next) => {
             let numbers = recorder_numbers(next);
             *state = numbers;
             ended(next.left)
@@ -183,8 +181,8 @@ pub fn usbhs_recorder_finish(state: &mut [u32; 6], room: &mut [u8], overruns: u3
     ensures room_after { room.new ≡ finish_room (recorder_in state.old) overruns room.old }
 {
     match recorder::recording::finish(recorder_in(state), room, overruns) {
-        Recorded::Refused(row) => refused(row),
-        Recorded::Stores(next) => {
+        Err(why) => refused(why.row()),
+        Ok(next) => {
             let numbers = recorder_numbers(next);
             *state = numbers;
             ended(next.left)
