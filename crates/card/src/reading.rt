@@ -16,14 +16,12 @@ use crate::stream::{Found, Step};
 fn clean_to(stream: &[u8], from: usize, end: usize) -> usize
     ensures { result ≡ clean_to (view stream.now) from (end - from) }
 {
-    let mut k = from;
-    while k < end {
+    for k in from..end {
         if !is_good(stream, k) {
             return k;
         }
-        k += 1;
     }
-    k
+    from.max(end)
 }
 
 // Is a packet begin named by block k, a good one?
@@ -47,14 +45,12 @@ fn seek(stream: &[u8], from: usize) -> usize
     ensures { result ≡ seek_from (view stream.now) from }
 {
     let end = stream.len() / 512;
-    let mut k = from;
-    while k < end {
+    for k in from..end {
         if names_begin(stream, k) {
             return k * 504 + (pair_at(stream, k, 4) - 6);
         }
-        k += 1;
     }
-    k * 504
+    end * 504
 }
 
 // This step, if the blocks with the places from d up to e are good; else the reader goes on behind the first that is
@@ -148,11 +144,7 @@ pub fn copy_run(stream: &[u8], from: usize, room: &mut [u8], at: usize, n: usize
     requires { (from + n ≤ length stream.now) × (at + n ≤ length room.old) }
     ensures { room.new ≡ paste room.old at (drop from stream.now) n }
 {
-    let mut i = 0;
-    while i < n {
-        room[at + i] = stream[from + i];
-        i += 1;
-    }
+    room[at..at + n].copy_from_slice(&stream[from..from + n]);
 }
 
 // How many of n places from d on lie in the block of d.

@@ -39,10 +39,8 @@ fn put_few(block: &mut [u8], at: usize, endpoint: u8, bytes: &[u8], from: usize,
     ensures { block.new ≡ paste block.old at
         (drop from (packet_bytes (packet_of endpoint bytes.now))) n }
 {
-    let mut i = 0;
-    while i < n {
+    for i in 0..n {
         block[at + i] = packet_byte(endpoint, bytes, from + i);
-        i += 1;
     }
 }
 
@@ -95,11 +93,7 @@ pub fn put_zeros(block: &mut [u8], at: usize, n: usize)
     requires { at + n ≤ length block.old }
     ensures { block.new ≡ paste block.old at (replicate n 0) n }
 {
-    let mut i = 0;
-    while i < n {
-        block[at + i] = 0;
-        i += 1;
-    }
+    block[at..at + n].fill(0);
 }
 
 // The block's number and the offset of the first packet that begins in it.
