@@ -29,15 +29,6 @@ pub struct Stretch {
     pub bytes: usize,
 }
 
-fn least(a: usize, b: usize) -> usize
-    ensures { (result ≤ a) × (result ≤ b) }
-{
-    if a < b {
-        return a;
-    }
-    b
-}
-
 // The packets from d on that lie whole in the block of d, a good one, and in so many bytes: what most packets are. Only
 // their headers are looked at.
 fn walk(stream: &[u8], d: usize, room: usize) -> Stretch
@@ -46,7 +37,7 @@ fn walk(stream: &[u8], d: usize, room: usize) -> Stretch
 {
     let k = d / 504;
     let from = 6 + d % 504;
-    let most = least(510 - from, room);
+    let most = (510 - from).min(room);
     let mut count = 0;
     let mut bytes = 0;
     while bytes + 3 <= most {

@@ -118,8 +118,9 @@ pub fn data_crc(bytes: &[u8]) -> u16
     ensures { result ≡ data_crc bytes.now }
 {
     let mut kept = whole_words(bytes);
-    for byte in &bytes[bytes.len() / 4 * 4..] {
-        kept = turn_byte(kept, *byte);
+    // By index: over the slice of these bytes the compiler writes a turn for each of three, 480 bytes more.
+    for i in bytes.len() / 4 * 4..bytes.len() {
+        kept = turn_byte(kept, bytes[i]);
     }
     !kept
 }

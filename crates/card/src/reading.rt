@@ -144,7 +144,10 @@ pub fn copy_run(stream: &[u8], from: usize, room: &mut [u8], at: usize, n: usize
     requires { (from + n ≤ length stream.now) × (at + n ≤ length room.old) }
     ensures { room.new ≡ paste room.old at (drop from stream.now) n }
 {
-    room[at..at + n].copy_from_slice(&stream[from..from + n]);
+    // Not copy_from_slice: it calls memmove, and those who link the archive bring memcpy and memset alone.
+    for i in 0..n {
+        room[at + i] = stream[from + i];
+    }
 }
 
 // How many of n places from d on lie in the block of d.
@@ -152,11 +155,7 @@ fn run_of(d: usize, n: usize) -> usize
     ensures upper_bound { (result ≤ n) × (d % 504 + result ≤ 504) }
     ensures result_nonzero { 0 < n → 0 < result }
 {
-    let left = 504 - d % 504;
-    if left < n {
-        return left;
-    }
-    n
+    (504 - d % 504).min(n)
 }
 
 // Copies n bytes of packet data from place d on into the room, block by block.

@@ -29,8 +29,7 @@ fn header_part(from: u16, n: u16) -> u16
     if 3 <= from {
         return 0;
     }
-    let left = 3 - from;
-    if left < n { left } else { n }
+    (3 - from).min(n)
 }
 
 // Copies n bytes of a packet, from its byte `from` on, into the block, one by one.

@@ -1,5 +1,5 @@
 // Packets into lent blocks.
-ghost use Rattle.std.specs.Prelude.{◌≡◌, ◌≤◌, min, length};
+ghost use Rattle.std.specs.Prelude.{◌≡◌, ◌≤◌, length};
 ghost use Rattle.card.specs.Packet.{packet_of};
 ghost use Rattle.card.specs.Writing.{new_writer, used_of, done_of, piece_of, full_of, whole_of, done_after};
 ghost use Rattle.card.specs.Writing.{first_of, writer_of, block_of_piece, write_of, written_of, finish_of};
@@ -21,23 +21,17 @@ pub fn new() -> Writer
     }
 }
 
-fn least(a: u16, b: u16) -> u16
-    ensures { result ≡ min a b }
-{
-    if a < b { a } else { b }
-}
-
 fn used_of(w: Writer) -> u16
     ensures { result ≡ used_of w }
 {
-    least(w.used, 504)
+    w.used.min(504)
 }
 
 fn done_of(w: Writer, n: u16) -> u16
     requires { n ≤ 1024 }
     ensures { result ≡ done_of w n }
 {
-    least(w.done, 3 + n)
+    w.done.min(3 + n)
 }
 
 // How much of a packet of n bytes goes into this block.
@@ -47,7 +41,7 @@ fn piece_of(w: Writer, n: u16) -> u16
 {
     let used = used_of(w);
     let done = done_of(w, n);
-    least(504 - used, 3 + n - done)
+    (504 - used).min(3 + n - done)
 }
 
 // Is the block full with this piece?

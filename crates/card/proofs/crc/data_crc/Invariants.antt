@@ -2,5 +2,5 @@ use Rattle.std.proofs.Common.{◌≡◌, drop}
 use Rattle.card.specs.Register.{over}
 use Rattle.card.proofs.crc.data_crc.Given as goal
 
-abbrev pub invariant-loop-byte : goal.invariant-loop-byte
-invariant-loop-byte l = over l.kept (drop l.byte-index l.byte-items) ≡ over 65535 l.bytes
+abbrev pub invariant-loop-i : goal.invariant-loop-i
+invariant-loop-i l = over l.kept (drop l.i l.bytes) ≡ over 65535 l.bytes
