@@ -1,7 +1,9 @@
 -- What the loop over packets keeps.
-use Rattle.std.proofs.Common.{◌≡◌, ℕ, suc, ◌+◌, ◌-◌, ◌/◌, ◌<◌, ◌≤◌, Bool, List, [], ◌++◌, length, drop, sym, refl, ap, ◌∙◌, append-nil, add-zero, zero-add, arith, length-append, length-drop, w64, Fits, Some}
+use Rattle.std.proofs.Common.{◌≡◌, ℕ, suc, ◌+◌, ◌-◌, ◌/◌, ◌<◌, ◌≤◌, Bool, List, [], ◌++◌, length, take, drop, sym, refl, ap, ◌∙◌, append-nil, add-zero, zero-add, arith, length-append, length-drop, length-take-le, w64, Fits, Some}
 use native.Mathlib.Decide.{dec_lt}
 use lib.Seq.{paste}
+use borrow.Rule.Slice.PartMut.{put_mid}
+use Rattle.card.specs.PasteLaws.{part-front}
 use Rattle.card.specs.declared.stream.Found.{Found}
 use Rattle.card.specs.Reading.{View, total, bytes_from, find}
 use Rattle.card.proofs.Progress.{find-fits}
@@ -50,7 +52,7 @@ begins v lent d held = record {
 lengths : (bytes lent : List ℕ) → length bytes ≤ length lent → length (front bytes lent) ≡ length lent
 lengths bytes lent h = omega (arith, length-append bytes (drop (length bytes) lent), length-drop (length bytes) lent)
 
-pub goes_near : (v : View) (all : Several) (lent room now : List ℕ) (count used d first c n : ℕ) → Fits w64 (total v)
+goes_near : (v : View) (all : Several) (lent room now : List ℕ) (count used d first c n : ℕ) → Fits w64 (total v)
     → Taking v all lent room count used d first → Near v d first (length room - used) c n
     → now ≡ paste room used (bytes_from v d n) n
     → Taking v all lent now (count + c) (used + n) (d + n) first
@@ -80,6 +82,18 @@ goes_near v all lent room now count used d first c n far t w e =
         | no l ↦ omega (arith, t.held)
       ];
     }
+
+-- the same, by what take_near leaves in the room's part from `used` on
+pub goes_part : {v : View} {all : Several} {lent room part : List ℕ} {count used d first c n : ℕ} → Fits w64 (total v)
+    → Taking v all lent room count used d first → Near v d first (length (take (length room - used) (drop used room))) c n
+    → part ≡ paste (take (length room - used) (drop used room)) 0 (bytes_from v d n) n
+    → Taking v all lent (put_mid used (length room - used) room part) (count + c) (used + n) (d + n) first
+goes_part {v} {all} {lent} {room} {part} {count} {used} {d} {first} {c} {n} far t w e =
+    let inside : used ≤ length room = omega (arith, t.same, t.inside) in
+    let left : length (take (length room - used) (drop used room)) ≡ length room - used =
+    length-take-le (length room - used) (drop used room) (omega (arith, length-drop used room)) in
+    goes_near v all lent room _ count used d first c n far t (rw left at w)
+    (ap (λ (l : List ℕ). put_mid used (length room - used) room l) e ∙ part-front room (bytes_from v d n) used n inside)
 
 pub goes_on_lem : (v : View) (all : Several) (lent room now : List ℕ) (count used d first : ℕ) (p : Found) → Fits w64 (total v)
     → Taking v all lent room count used d first → find v (total v) d ≡ Some p → 3 + p.len ≤ length lent - used

@@ -1,9 +1,11 @@
 -- Packet data copied into a room.
 use Rattle.std.specs.Prelude.{◌≡◌, ℕ, zero, suc, ◌+◌, ◌-◌, ◌*◌, ◌/◌, ◌%◌, ◌<◌, ◌≤◌, List, ◌∷◌, ◌++◌, length, take, drop, ◌≢◌, slice_index, refl, Option, Some, None, Result, Ok, Err}
-use Rattle.std.proofs.Common.{sym, ap, ap₂, ◌∙◌, append_assoc, zero-add, arith, drop-cons, take_all, take-add, drop-drop, lt-ltb, le-ltb, eq-eqb, ne_eqb}
+use Rattle.std.proofs.Common.{sym, ap, ap₂, ◌∙◌, append_assoc, zero-add, arith, drop-cons, take_all, take-add, drop-drop, length-drop, length-take-le, lt-ltb, le-ltb, eq-eqb, ne_eqb}
 use Rattle.std.proofs.Math.Decide.{ℕ_discrete}
 use Rattle.std.proofs.lemmas.List.Edits.{take-paste, drop-paste}
 use Rattle.std.proofs.Math.Seq.{paste}
+use Rattle.std.proofs.lemmas.Slice.{put_mid-paste}
+use borrow.Rule.Slice.PartMut.{put_mid}
 use Rattle.card.specs.declared.stream.Found.{Found}
 use Rattle.card.specs.declared.reader.Packet.{Packet}
 use Rattle.card.specs.declared.refusal.Refusal.{Refusal}
@@ -79,6 +81,15 @@ paste-places s r d at i k n hr hk hd h =
     let part : take k (drop i (bytes_from v d n)) ≡ bytes_from v (d + i) k = rw e at (bytes-part v i k (n - (i + k)) d) in
     paste-run r (bytes_from v d n) _ at i k (omega arith) (omega (arith, length-bytes v n d))
     (run-bytes s k (d + i) h (omega arith) ∙ sym part)
+
+-- a part of lent bytes filled with packet data
+pub part-bytes : (v : View) (d : ℕ) (lent now : List ℕ) (a k n : ℕ) → k ≡ n → a + n ≤ length lent
+    → now ≡ bytes_from v d (length (take k (drop a lent))) → put_mid a k lent now ≡ paste lent a (bytes_from v d n) n
+part-bytes v d lent now a k n e h is =
+    let long : length (take k (drop a lent)) ≡ n =
+    length-take-le k (drop a lent) (omega (arith, length-drop a lent)) ∙ e in
+    put_mid-paste a k lent now (bytes_from v d n) n (is ∙ ap (λ (m : ℕ). bytes_from v d m) long) (sym e)
+    (sym (length-bytes v n d))
 
 -- ---- a packet that was found, given into a room
 

@@ -55,24 +55,21 @@ fn walk(stream: &[u8], d: usize, room: usize) -> Stretch
     Stretch { count, bytes }
 }
 
-// The same, if the block of d has been looked at, and copied into the room by one copy.
-fn take_near(stream: &[u8], d: usize, first: usize, room: &mut [u8], used: usize) -> Stretch
-    requires { Seen (view stream.now) d first × (used ≤ length room.old) }
-    ensures near { Near (view stream.now) d first (length room.old - used) result.count
-        result.bytes }
-    ensures room_after { room.new ≡ paste room.old used
+// The same, if the block of d has been looked at, and copied to the room's front by one copy.
+fn take_near(stream: &[u8], d: usize, first: usize, room: &mut [u8]) -> Stretch
+    requires { Seen (view stream.now) d first }
+    ensures near { Near (view stream.now) d first (length room.old) result.count result.bytes }
+    ensures room_after { room.new ≡ paste room.old 0
         (bytes_from (view stream.now) d result.bytes) result.bytes }
 {
     if first != d / 504 + 1 {
         return Stretch { count: 0, bytes: 0 };
     }
-    let near = walk(stream, d, room.len() - used);
+    let near = walk(stream, d, room.len());
     copy_run(
         stream,
         d / 504 * 512 + (6 + d % 504),
-        room,
-        used,
-        near.bytes,
+        &mut room[..near.bytes],
     );
     near
 }
@@ -87,7 +84,7 @@ fn take(stream: &[u8], place: usize, room: &mut [u8]) -> Taken
     let mut d = place;
     let mut first = place / 504;
     loop {
-        let near = take_near(stream, d, first, room, used);
+        let near = take_near(stream, d, first, &mut room[used..]);
         count += near.count;
         used += near.bytes;
         d += near.bytes;
@@ -108,7 +105,7 @@ fn take(stream: &[u8], place: usize, room: &mut [u8]) -> Taken
                 short: true,
             };
         }
-        copy_data(stream, found.at, room, used, n);
+        copy_data(stream, found.at, &mut room[used..used + n]);
         count += 1;
         used += n;
         d = found.at + n;

@@ -1,6 +1,5 @@
 // The packets of a stream.
-ghost use Rattle.std.specs.Prelude.{◌≡◌, ◌+◌, ◌-◌, ◌/◌, ◌%◌, ◌<◌, ◌≤◌, length, drop};
-ghost use Rattle.std.proofs.Math.Seq.{paste};
+ghost use Rattle.std.specs.Prelude.{◌≡◌, ◌+◌, ◌-◌, ◌/◌, ◌%◌, ◌<◌, ◌≤◌, length, take, drop};
 ghost use Rattle.card.specs.Reading.{total, begins, block_end, clean_to, clean_up_to, seek_from, intact, packet_at};
 ghost use Rattle.card.specs.Reading.{begin_at, step_at, bytes_from, find};
 ghost use Rattle.card.specs.Calls.{start_of, given, put, next_of, room_of};
@@ -139,14 +138,14 @@ pub fn find_from(stream: &[u8], d: usize, first: usize) -> Option<Found>
     }
 }
 
-// Copies n bytes that lie together.
-pub fn copy_run(stream: &[u8], from: usize, room: &mut [u8], at: usize, n: usize)
-    requires { (from + n ≤ length stream.now) × (at + n ≤ length room.old) }
-    ensures { room.new ≡ paste room.old at (drop from stream.now) n }
+// Fills the room with bytes that lie together.
+pub fn copy_run(stream: &[u8], from: usize, room: &mut [u8])
+    requires { from + length room.old ≤ length stream.now }
+    ensures { room.new ≡ take (length room.old) (drop from stream.now) }
 {
     // Not copy_from_slice: it calls memmove, and those who link the archive bring memcpy and memset alone.
-    for i in 0..n {
-        room[at + i] = stream[from + i];
+    for i in 0..room.len() {
+        room[i] = stream[from + i];
     }
 }
 
@@ -158,16 +157,17 @@ fn run_of(d: usize, n: usize) -> usize
     (504 - d % 504).min(n)
 }
 
-// Copies n bytes of packet data from place d on into the room, block by block.
-pub fn copy_data(stream: &[u8], d: usize, room: &mut [u8], at: usize, n: usize)
-    requires { (at + n ≤ length room.old) × (d + n ≤ total (view stream.now)) }
-    ensures { room.new ≡ paste room.old at (bytes_from (view stream.now) d n) n }
+// Fills the room with packet data from place d on, block by block.
+pub fn copy_data(stream: &[u8], d: usize, room: &mut [u8])
+    requires { d + length room.old ≤ total (view stream.now) }
+    ensures { room.new ≡ bytes_from (view stream.now) d (length room.old) }
 {
+    // A while: a run ends where its block does, so that no range counts them.
     let mut i = 0;
-    while i < n {
+    while i < room.len() {
         let e = d + i;
-        let run = run_of(e, n - i);
-        copy_run(stream, e / 504 * 512 + (6 + e % 504), room, at + i, run);
+        let run = run_of(e, room.len() - i);
+        copy_run(stream, e / 504 * 512 + (6 + e % 504), &mut room[i..i + run]);
         i += run;
     }
 }
@@ -183,7 +183,7 @@ fn give(stream: &[u8], found: Found, room: &mut [u8]) -> Result<Packet, Refusal>
     if room.len() < n {
         return Err(Refusal::Card);
     }
-    copy_data(stream, at + 3, room, 0, n);
+    copy_data(stream, at + 3, &mut room[..n]);
     Ok(Packet {
         endpoint,
         len,
