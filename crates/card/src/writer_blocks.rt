@@ -33,8 +33,8 @@ fn header_part(from: u16, n: u16) -> u16
 }
 
 // Copies n bytes of a packet, from its byte `from` on, into the block, one by one.
-fn put_few(block: &mut [u8], at: usize, endpoint: u8, bytes: &[u8], from: usize, n: usize)
-    requires { (at + n ≤ length block.old) × (from + n ≤ 3 + length bytes.now) × (length bytes.now ≤ 1024) }
+fn put_few(block: &mut [u8; 512], at: usize, endpoint: u8, bytes: &[u8], from: usize, n: usize)
+    requires { (at + n ≤ 512) × (from + n ≤ 3 + length bytes.now) × (length bytes.now ≤ 1024) }
     ensures { block.new ≡ paste block.old at
         (drop from (packet_bytes (packet_of endpoint bytes.now))) n }
 {
@@ -44,8 +44,8 @@ fn put_few(block: &mut [u8], at: usize, endpoint: u8, bytes: &[u8], from: usize,
 }
 
 // The three bytes of its header.
-fn put_header(block: &mut [u8], at: usize, endpoint: u8, bytes: &[u8])
-    requires { (at + 3 ≤ length block.old) × (length bytes.now ≤ 1024) }
+fn put_header(block: &mut [u8; 512], at: usize, endpoint: u8, bytes: &[u8])
+    requires { (at + 3 ≤ 512) × (length bytes.now ≤ 1024) }
     ensures { block.new ≡ paste block.old at
         (packet_bytes (packet_of endpoint bytes.now)) 3 }
 {
@@ -56,8 +56,8 @@ fn put_header(block: &mut [u8], at: usize, endpoint: u8, bytes: &[u8])
 }
 
 // The part of its header that n bytes from its byte `from` on have: mostly all of it.
-fn put_part(block: &mut [u8], at: usize, endpoint: u8, bytes: &[u8], from: u16, n: u16)
-    requires { (at + n ≤ length block.old) × (from + n ≤ 3 + length bytes.now) × (length bytes.now ≤ 1024)
+fn put_part(block: &mut [u8; 512], at: usize, endpoint: u8, bytes: &[u8], from: u16, n: u16)
+    requires { (at + n ≤ 512) × (from + n ≤ 3 + length bytes.now) × (length bytes.now ≤ 1024)
         × (n ≤ 3)
         × (3 ≤ n → from ≡ 0) }
     ensures { block.new ≡ paste block.old at
@@ -71,8 +71,8 @@ fn put_part(block: &mut [u8], at: usize, endpoint: u8, bytes: &[u8], from: u16, 
 }
 
 // The same of any bytes of it: those of its header, then its data together.
-pub fn put_piece(block: &mut [u8], at: u16, endpoint: u8, bytes: &[u8], from: u16, n: u16)
-    requires { (at + n ≤ 512) × (length block.old ≡ 512) × (from + n ≤ 3 + length bytes.now)
+pub fn put_piece(block: &mut [u8; 512], at: u16, endpoint: u8, bytes: &[u8], from: u16, n: u16)
+    requires { (at + n ≤ 512) × (from + n ≤ 3 + length bytes.now)
         × (length bytes.now ≤ 1024) }
     ensures { block.new ≡ paste block.old at
         (drop from (packet_bytes (packet_of endpoint bytes.now))) n }
@@ -88,16 +88,15 @@ pub fn put_piece(block: &mut [u8], at: u16, endpoint: u8, bytes: &[u8], from: u1
 }
 
 // Fills n bytes of the block with zeros.
-pub fn put_zeros(block: &mut [u8], at: usize, n: usize)
-    requires { at + n ≤ length block.old }
+pub fn put_zeros(block: &mut [u8; 512], at: usize, n: usize)
+    requires { at + n ≤ 512 }
     ensures { block.new ≡ paste block.old at (replicate n 0) n }
 {
     block[at..at + n].fill(0);
 }
 
 // The block's number and the offset of the first packet that begins in it.
-fn put_head(block: &mut [u8], number: u32, first: u16)
-    requires { 6 ≤ length block.old }
+fn put_head(block: &mut [u8; 512], number: u32, first: u16)
     ensures { block.new ≡ body number first (drop 6 block.old) }
 {
     block[0] = (number % 256) as u8;
@@ -109,8 +108,7 @@ fn put_head(block: &mut [u8], number: u32, first: u16)
 }
 
 // The check over bytes 0 to 509.
-fn put_check(block: &mut [u8])
-    requires { length block.old ≡ 512 }
+fn put_check(block: &mut [u8; 512])
     ensures { block.new ≡ sealed (take 510 block.old) }
 {
     let a = 0;
@@ -121,8 +119,7 @@ fn put_check(block: &mut [u8])
 }
 
 // Closes a block whose packet data is in place.
-pub fn close(block: &mut [u8], number: u32, first: u16)
-    requires { length block.old ≡ 512 }
+pub fn close(block: &mut [u8; 512], number: u32, first: u16)
     ensures { block.new ≡ closed number first block.old }
 {
     put_head(block, number, first);
