@@ -7,7 +7,7 @@ ghost use Rattle.card.specs.Writing.{last_of};
 
 use crate::refusal::Refusal;
 use crate::writer::{Piece, Writer};
-use crate::writer_blocks::{close, put_piece, put_zeros};
+use crate::writer_blocks::{close, least, put_piece, put_zeros};
 
 // A writer at the start of a stream.
 pub fn new() -> Writer
@@ -24,14 +24,14 @@ pub fn new() -> Writer
 fn used_of(w: Writer) -> u16
     ensures { result ≡ used_of w }
 {
-    w.used.min(504)
+    least(w.used, 504)
 }
 
 fn done_of(w: Writer, n: u16) -> u16
     requires { n ≤ 1024 }
     ensures { result ≡ done_of w n }
 {
-    w.done.min(3 + n)
+    least(w.done, 3 + n)
 }
 
 // How much of a packet of n bytes goes into this block.
@@ -41,7 +41,7 @@ fn piece_of(w: Writer, n: u16) -> u16
 {
     let used = used_of(w);
     let done = done_of(w, n);
-    (504 - used).min(3 + n - done)
+    least(504 - used, 3 + n - done)
 }
 
 // Is the block full with this piece?
