@@ -40,6 +40,7 @@ fn walk(stream: &[u8], d: usize, room: usize) -> Stretch
     let most = (510 - from).min(room);
     let mut count = 0;
     let mut bytes = 0;
+    // A while: each packet is as long as its header says, so that no range counts them.
     while bytes + 3 <= most {
         let i = from + bytes;
         if byte_at(stream, k * 512 + (i + 2)) == 0 {

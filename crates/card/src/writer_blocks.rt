@@ -1,4 +1,5 @@
 // What is put into a block.
+// A slice, not an array: an Option<&mut [u8; 512]>, as as_mut_array gives, has another layout at 32-bit addresses.
 ghost use Rattle.std.specs.Prelude.{◌≡◌, ◌+◌, ◌<◌, ◌≤◌, min, length, take, drop, replicate, slice_index};
 ghost use Rattle.std.proofs.Math.Seq.{paste};
 ghost use Rattle.card.specs.Packet.{packet_bytes, packet_of};
@@ -40,8 +41,8 @@ fn header_part(from: u16, n: u16) -> u16
 }
 
 // Copies n bytes of a packet, from its byte `from` on, into the block, one by one.
-fn put_few(block: &mut [u8; 512], at: usize, endpoint: u8, bytes: &[u8], from: usize, n: usize)
-    requires { (at + n ≤ 512) × (from + n ≤ 3 + length bytes.now) × (length bytes.now ≤ 1024) }
+fn put_few(block: &mut [u8], at: usize, endpoint: u8, bytes: &[u8], from: usize, n: usize)
+    requires { (at + n ≤ length block.old) × (from + n ≤ 3 + length bytes.now) × (length bytes.now ≤ 1024) }
     ensures { block.new ≡ paste block.old at
         (drop from (packet_bytes (packet_of endpoint bytes.now))) n }
 {
@@ -51,8 +52,8 @@ fn put_few(block: &mut [u8; 512], at: usize, endpoint: u8, bytes: &[u8], from: u
 }
 
 // The three bytes of its header.
-fn put_header(block: &mut [u8; 512], at: usize, endpoint: u8, bytes: &[u8])
-    requires { (at + 3 ≤ 512) × (length bytes.now ≤ 1024) }
+fn put_header(block: &mut [u8], at: usize, endpoint: u8, bytes: &[u8])
+    requires { (at + 3 ≤ length block.old) × (length bytes.now ≤ 1024) }
     ensures { block.new ≡ paste block.old at
         (packet_bytes (packet_of endpoint bytes.now)) 3 }
 {
@@ -63,8 +64,8 @@ fn put_header(block: &mut [u8; 512], at: usize, endpoint: u8, bytes: &[u8])
 }
 
 // The part of its header that n bytes from its byte `from` on have: mostly all of it.
-fn put_part(block: &mut [u8; 512], at: usize, endpoint: u8, bytes: &[u8], from: u16, n: u16)
-    requires { (at + n ≤ 512) × (from + n ≤ 3 + length bytes.now) × (length bytes.now ≤ 1024)
+fn put_part(block: &mut [u8], at: usize, endpoint: u8, bytes: &[u8], from: u16, n: u16)
+    requires { (at + n ≤ length block.old) × (from + n ≤ 3 + length bytes.now) × (length bytes.now ≤ 1024)
         × (n ≤ 3)
         × (3 ≤ n → from ≡ 0) }
     ensures { block.new ≡ paste block.old at
@@ -78,8 +79,8 @@ fn put_part(block: &mut [u8; 512], at: usize, endpoint: u8, bytes: &[u8], from: 
 }
 
 // The same of any bytes of it: those of its header, then its data together.
-pub fn put_piece(block: &mut [u8; 512], at: u16, endpoint: u8, bytes: &[u8], from: u16, n: u16)
-    requires { (at + n ≤ 512) × (from + n ≤ 3 + length bytes.now)
+pub fn put_piece(block: &mut [u8], at: u16, endpoint: u8, bytes: &[u8], from: u16, n: u16)
+    requires { (at + n ≤ 512) × (length block.old ≡ 512) × (from + n ≤ 3 + length bytes.now)
         × (length bytes.now ≤ 1024) }
     ensures { block.new ≡ paste block.old at
         (drop from (packet_bytes (packet_of endpoint bytes.now))) n }
@@ -95,15 +96,16 @@ pub fn put_piece(block: &mut [u8; 512], at: u16, endpoint: u8, bytes: &[u8], fro
 }
 
 // Fills n bytes of the block with zeros.
-pub fn put_zeros(block: &mut [u8; 512], at: usize, n: usize)
-    requires { at + n ≤ 512 }
+pub fn put_zeros(block: &mut [u8], at: usize, n: usize)
+    requires { at + n ≤ length block.old }
     ensures { block.new ≡ paste block.old at (replicate n 0) n }
 {
     block[at..at + n].fill(0);
 }
 
 // The block's number and the offset of the first packet that begins in it.
-fn put_head(block: &mut [u8; 512], number: u32, first: u16)
+fn put_head(block: &mut [u8], number: u32, first: u16)
+    requires { 6 ≤ length block.old }
     ensures { block.new ≡ body number first (drop 6 block.old) }
 {
     block[0] = (number % 256) as u8;
@@ -115,7 +117,8 @@ fn put_head(block: &mut [u8; 512], number: u32, first: u16)
 }
 
 // The check over bytes 0 to 509.
-fn put_check(block: &mut [u8; 512])
+fn put_check(block: &mut [u8])
+    requires { length block.old ≡ 512 }
     ensures { block.new ≡ sealed (take 510 block.old) }
 {
     let a = 0;
@@ -126,7 +129,8 @@ fn put_check(block: &mut [u8; 512])
 }
 
 // Closes a block whose packet data is in place.
-pub fn close(block: &mut [u8; 512], number: u32, first: u16)
+pub fn close(block: &mut [u8], number: u32, first: u16)
+    requires { length block.old ≡ 512 }
     ensures { block.new ≡ closed number first block.old }
 {
     put_head(block, number, first);

@@ -120,8 +120,8 @@ fn writer_of(w: Writer, n: u16) -> Writer
 }
 
 // The piece into the block, which is closed when it is full.
-fn put(w: Writer, block: &mut [u8; 512], endpoint: u8, bytes: &[u8])
-    requires { length bytes.now ≤ 1024 }
+fn put(w: Writer, block: &mut [u8], endpoint: u8, bytes: &[u8])
+    requires { (length block.old ≡ 512) × (length bytes.now ≤ 1024) }
     ensures { block.new ≡ block_of_piece w (packet_of endpoint bytes.now)
         block.old }
 {
@@ -142,9 +142,9 @@ pub fn write(w: Writer, block: &mut [u8], endpoint: u8, bytes: &[u8]) -> Result<
     ensures value { result ≡ write_of w (packet_of endpoint bytes.now) block.old }
     ensures block_after { block.new ≡ written_of w (packet_of endpoint bytes.now) block.old }
 {
-    let Some(block) = block.as_mut_array::<512>() else {
+    if block.len() != 512 {
         return Err(Refusal::Card);
-    };
+    }
     if 1024 < bytes.len() {
         return Err(Refusal::Card);
     }
@@ -167,9 +167,9 @@ pub fn finish(w: Writer, block: &mut [u8]) -> Result<bool, Refusal>
     ensures value { result ≡ finish_of w block.old }
     ensures block_after { block.new ≡ last_of w block.old }
 {
-    let Some(block) = block.as_mut_array::<512>() else {
+    if block.len() != 512 {
         return Err(Refusal::Card);
-    };
+    }
     let used = used_of(w) as usize;
     if used == 0 {
         return Ok(false);

@@ -1,4 +1,5 @@
 // Packets into a ring of four lent blocks.
+// A slice, not an array: an Option<&mut [u8; 2048]>, as as_mut_array gives, has another layout at 32-bit addresses.
 ghost use Rattle.std.specs.Prelude.{◌≡◌, ◌≤◌, ◌<◌, length};
 ghost use Rattle.card.specs.Packet.{packet_of};
 ghost use Rattle.card.specs.Writing.{whole_of, writer_of};
@@ -8,8 +9,8 @@ ghost use Rattle.recorder.specs.Ring.{end_record, filled_room, end_room};
 use card::writer::{Piece, Writer};
 
 // Writes a piece of a packet into the writer's block.
-fn put_piece(w: Writer, room: &mut [u8; 2048], endpoint: u8, bytes: &[u8]) -> Piece
-    requires { (length bytes.now ≤ 1024) × (0 < endpoint) × (endpoint ≤ 15) }
+fn put_piece(w: Writer, room: &mut [u8], endpoint: u8, bytes: &[u8]) -> Piece
+    requires { (length room.old ≡ 2048) × (length bytes.now ≤ 1024) × (0 < endpoint) × (endpoint ≤ 15) }
     ensures next_value { result.next ≡ writer_of w (length bytes.now) }
     ensures whole_value { result.done ≡ whole_of w (length bytes.now) }
     ensures room_after { room.new ≡ (piece_ring (packet_of endpoint bytes.now)
@@ -21,8 +22,8 @@ fn put_piece(w: Writer, room: &mut [u8; 2048], endpoint: u8, bytes: &[u8]) -> Pi
 }
 
 // Writes a packet: four blocks hold it, wherever it begins.
-pub fn put_packet(w: Writer, room: &mut [u8; 2048], endpoint: u8, bytes: &[u8]) -> Writer
-    requires { (length bytes.now ≤ 1024) × (0 < endpoint) × (endpoint ≤ 15) }
+pub fn put_packet(w: Writer, room: &mut [u8], endpoint: u8, bytes: &[u8]) -> Writer
+    requires { (length room.old ≡ 2048) × (length bytes.now ≤ 1024) × (0 < endpoint) × (endpoint ≤ 15) }
     ensures { ring_of result room.new ≡ packet_ring 4 (packet_of endpoint bytes.now)
         (ring_of w room.old) }
 {
@@ -48,7 +49,8 @@ fn padding_of(used: u16) -> usize
 }
 
 // Fills the block by a padding packet of the recorder's own.
-pub fn put_padding(w: Writer, room: &mut [u8; 2048]) -> Writer
+pub fn put_padding(w: Writer, room: &mut [u8]) -> Writer
+    requires { length room.old ≡ 2048 }
     ensures { ring_of result room.new ≡ packet_ring 4 (padding w.used) (ring_of w room.old) }
 {
     let zeros = [0u8; 501];
@@ -58,8 +60,8 @@ pub fn put_padding(w: Writer, room: &mut [u8; 2048]) -> Writer
 }
 
 // A packet, and padding behind it where the block has no place for an end record and its filler.
-pub fn put_record(w: Writer, room: &mut [u8; 2048], endpoint: u8, bytes: &[u8]) -> Writer
-    requires { (length bytes.now ≤ 1024) × (0 < endpoint) × (endpoint ≤ 15) }
+pub fn put_record(w: Writer, room: &mut [u8], endpoint: u8, bytes: &[u8]) -> Writer
+    requires { (length room.old ≡ 2048) × (length bytes.now ≤ 1024) × (0 < endpoint) × (endpoint ≤ 15) }
     ensures { ring_of result room.new ≡ record_ring (packet_of endpoint bytes.now)
         (ring_of w room.old) }
 {
@@ -89,7 +91,8 @@ fn end_bytes(finished: u8, survey: u32, overruns: u32) -> [u8; 10]
 }
 
 // Fills the rest of the writer's block with zeros and closes it.
-fn fill_block(w: Writer, number: u32, room: &mut [u8; 2048])
+fn fill_block(w: Writer, number: u32, room: &mut [u8])
+    requires { length room.old ≡ 2048 }
     ensures { room.new ≡ filled_room w number room.old }
 {
     let a = (number % 4) as usize * 512;
@@ -99,7 +102,8 @@ fn fill_block(w: Writer, number: u32, room: &mut [u8; 2048])
 
 // An end record behind the packets, and filler behind it. The writer stays before it, so that the next packet takes its
 // place.
-pub fn put_end(w: Writer, room: &mut [u8; 2048], finished: u8, survey: u32, overruns: u32)
+pub fn put_end(w: Writer, room: &mut [u8], finished: u8, survey: u32, overruns: u32)
+    requires { length room.old ≡ 2048 }
     ensures { room.new ≡ end_room (end_record finished survey overruns) (ring_of w room.old) }
 {
     let bytes = end_bytes(finished, survey, overruns);

@@ -69,9 +69,9 @@ pub fn begin(survey: u32, room: &mut [u8]) -> Result<Recorder, Refusal>
     ensures value { result ≡ begin_of survey room.old }
     ensures room_after { room.new ≡ begin_room survey room.old }
 {
-    let Some(room) = room.as_mut_array::<2048>() else {
+    if room.len() != 2048 {
         return Err(Refusal::Card);
-    };
+    }
     let bytes = begin_bytes(survey);
     let w = put_packet(card::writing::new(), room, 15, &bytes);
     put_end(w, room, 0, survey, 0);
@@ -97,9 +97,9 @@ pub fn record(
     ensures room_after { room.new ≡ record_room r (packet_of endpoint bytes.now) overruns
         room.old }
 {
-    let Some(room) = room.as_mut_array::<2048>() else {
+    if room.len() != 2048 {
         return Err(Refusal::Card);
-    };
+    }
     if r.left != 0 {
         return Err(Refusal::Card);
     }
@@ -126,9 +126,9 @@ pub fn finish(r: Recorder, room: &mut [u8], overruns: u32) -> Result<Recorder, R
     ensures value { result ≡ finish_of r room.old }
     ensures room_after { room.new ≡ finish_room r overruns room.old }
 {
-    let Some(room) = room.as_mut_array::<2048>() else {
+    if room.len() != 2048 {
         return Err(Refusal::Card);
-    };
+    }
     if r.left != 0 {
         return Err(Refusal::Card);
     }
