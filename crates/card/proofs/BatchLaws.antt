@@ -85,7 +85,8 @@ some_next : (v : View) (f d room at a n k m count : ℕ) (bytes : List ℕ) (all
     → (g : ℕ) × (room - (3 + n) < g) × (behind (count + 1) (bytes ++ bytes_from v d m)
     (some_from v g (d + m) (room - (3 + n))) ≡ all)
 some_next v f d room at a n k m count bytes all l h e i r b =
-    let next = some_more v f at room (record { at = at; endpoint = a; len = n }) count (bytes ++ bytes_from v d k) all l h r b in
+    let next = some_more v f at room (record { at = at; endpoint = a; len = n }) count
+    (bytes ++ bytes_from v d k) all l h r b in
     let place : at + (3 + n) ≡ d + m = omega arith in
     let join : (bytes ++ bytes_from v d k) ++ bytes_from v at (3 + n) ≡ bytes ++ bytes_from v d m =
     append_assoc bytes (bytes_from v d k) (bytes_from v at (3 + n))
@@ -99,7 +100,8 @@ some_next v f d room at a n k m count bytes all l h e i r b =
     (sym place) in
     (next.0, next.1, moved ∙ next.2)
 
-pub some-standing : (v : View) (c f d n room count : ℕ) (bytes : List ℕ) (all : Several) → room < f → Standing v d c n → n
+pub some-standing : (v : View) (c f d n room count : ℕ) (bytes : List ℕ) (all : Several) → room < f
+    → Standing v d c n → n
     ≤ room
     → behind count bytes (some_from v f d room) ≡ all
     → (g : ℕ) × (room - n < g) × (behind (count + c) (bytes ++ bytes_from v d n) (some_from v g (d + n) (room - n)) ≡ all)

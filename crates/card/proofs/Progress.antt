@@ -116,7 +116,8 @@ find-give v f d a n h = rw (h, find)
 pub find-ends : (v : View) (f d : ℕ) (t : Option Found) → find v f d ≡ t → step_at v d ≡ Ends → None ≡ t
 find-ends v f d t e h = sym (find-end v f d h) ∙ e
 
-pub find-gives : (v : View) (f d a n : ℕ) (t : Option Found) → total v ≤ d + f → find v f d ≡ t → step_at v d ≡ Gives a n
+pub find-gives : (v : View) (f d a n : ℕ) (t : Option Found) → total v ≤ d + f → find v f d ≡ t
+    → step_at v d ≡ Gives a n
     → Some (record { at = d; endpoint = a; len = n }) ≡ t
 find-gives v zero d a n t l e h = absurd (omega (arith, gives_fits v d a n h))
 find-gives v (suc f) d a n t l e h = sym (find-give v f d a n h) ∙ e

@@ -85,7 +85,8 @@ goes_near v all lent room now count used d first c n far t w e =
 
 -- the same, by what take_near leaves in the room's part from `used` on
 pub goes_part : {v : View} {all : Several} {lent room part : List ℕ} {count used d first c n : ℕ} → Fits w64 (total v)
-    → Taking v all lent room count used d first → Near v d first (length (take (length room - used) (drop used room))) c n
+    → Taking v all lent room count used d first
+    → Near v d first (length (take (length room - used) (drop used room))) c n
     → part ≡ paste (take (length room - used) (drop used room)) 0 (bytes_from v d n) n
     → Taking v all lent (put_mid used (length room - used) room part) (count + c) (used + n) (d + n) first
 goes_part {v} {all} {lent} {room} {part} {count} {used} {d} {first} {c} {n} far t w e =
@@ -95,7 +96,8 @@ goes_part {v} {all} {lent} {room} {part} {count} {used} {d} {first} {c} {n} far 
     goes_near v all lent room _ count used d first c n far t (rw left at w)
     (ap (λ (l : List ℕ). put_mid used (length room - used) room l) e ∙ part-front room (bytes_from v d n) used n inside)
 
-pub goes_on_lem : (v : View) (all : Several) (lent room now : List ℕ) (count used d first : ℕ) (p : Found) → Fits w64 (total v)
+pub goes_on_lem : (v : View) (all : Several) (lent room now : List ℕ) (count used d first : ℕ) (p : Found)
+    → Fits w64 (total v)
     → Taking v all lent room count used d first → find v (total v) d ≡ Some p → 3 + p.len ≤ length lent - used
     → now ≡ paste room used (bytes_from v p.at (3 + p.len)) (3 + p.len)
     → Taking v all lent now (count + 1) (used + (3 + p.len)) (p.at + (3 + p.len))

@@ -80,7 +80,8 @@ in-turn v zero d h = sym (read_behind v (total v) d (omega arith))
 in-turn v (suc n) d h = go (find v (total v) d) refl (λ e. in-turn v n e)
     ∙ sym (find-behind v (total v) d (omega arith))
   where
-    go : (f : Option Found) → find v (total v) d ≡ f → ((e : ℕ) → total v ≤ e + n → in_turn v n e ≡ read_from v (total v) e)
+    go : (f : Option Found) → find v (total v) d ≡ f → ((e : ℕ) → total v ≤ e + n
+        → in_turn v n e ≡ read_from v (total v) e)
         → in_turn v (suc n) d ≡ behind v (find v (total v) d)
     go (Some p) e i =
         rw (e, in_turn) (ap (λ (l : List Packet). packet_from v p.at p.endpoint p.len ∷ l)

@@ -125,14 +125,16 @@ pub torn : (s : List ℕ) (e : Refusal) → in_blocks s ≡ Err e → (length s 
 unfolding in_blocks
 torn s e h = elim (ℕ_discrete (length s % 512) 0) [
   | yes z ↦ (let x : ◌≡◌ {A = Result (Unit {0}) Refusal} (Ok tt) (Err e) = rw (eq-eqb (length s % 512) 0 z) at h in cc)
-  | no z ↦ (let x : ◌≡◌ {A = Result (Unit {0}) Refusal} (Err Card) (Err e) = rw (ne_eqb (length s % 512) 0 z) at h in (z, cc))
+  | no z ↦ (let x : ◌≡◌ {A = Result (Unit {0}) Refusal} (Err Card) (Err e) = rw (ne_eqb
+      (length s % 512) 0 z) at h in (z, cc))
 ]
 
 pub untorn : (s : List ℕ) → in_blocks s ≡ Ok tt → length s % 512 ≡ 0
 unfolding in_blocks
 untorn s h = elim (ℕ_discrete (length s % 512) 0) [
   | yes z ↦ z
-  | no z ↦ (let x : ◌≡◌ {A = Result (Unit {0}) Refusal} (Err Card) (Ok tt) = rw (ne_eqb (length s % 512) 0 z) at h in cc)
+  | no z ↦ (let x : ◌≡◌ {A = Result (Unit {0}) Refusal} (Err Card) (Ok tt) = rw (ne_eqb
+      (length s % 512) 0 z) at h in cc)
 ]
 
 pub next-torn : (s : List ℕ) (at room : ℕ) → (length s % 512 ≢ 0) → Err Card ≡ next_of s at room

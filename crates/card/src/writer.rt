@@ -11,8 +11,8 @@ pub struct Writer {
     pub done: u16,
 }
 
-// A piece of a packet that was written: the writer behind it; is the block full, so that it is to be stored and the next
-// one lent, and is the packet written whole?
+// A piece of a packet that was written: the writer behind it; is the block full, so that it is to be stored and the
+// next one lent, and is the packet written whole?
 #[derive(Clone, Copy)]
 pub struct Piece {
     pub next: Writer,

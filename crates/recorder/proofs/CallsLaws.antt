@@ -299,12 +299,14 @@ refuses-as h b p s =
 as_answered : (h : Held) (c : Call) (r : Recorder) (room : List ℕ) → Ok r ≡ answered c h.recorder h.room
     → room ≡ room_after c h.recorder h.room → held_of r room h.card ≡ stepped (call c) h
 unfolding stepped
-as_answered h c r room x y = ap₂ (λ (a : Result Recorder Refusal) (z : List ℕ). held_of (recorder_after a h.recorder) z h.card) x y
+as_answered h c r room x y = ap₂ (λ (a : Result Recorder Refusal) (z : List ℕ). held_of
+    (recorder_after a h.recorder) z h.card) x y
 
 as-refused : (h : Held) (c : Call) → Err Card ≡ answered c h.recorder h.room
     → h.room ≡ room_after c h.recorder h.room → h ≡ stepped (call c) h
 unfolding stepped
-as-refused h c x y = ap₂ (λ (a : Result Recorder Refusal) (z : List ℕ). held_of (recorder_after a h.recorder) z h.card) x y
+as-refused h c x y = ap₂ (λ (a : Result Recorder Refusal) (z : List ℕ). held_of
+    (recorder_after a h.recorder) z h.card) x y
 
 pub packet-sound : (h : Held) (b : Book) (p : Packet) (overruns : ℕ) → Sound h b
     → Sound (stepped (call (packet p overruns)) h) (noted_call (packet p overruns) b)

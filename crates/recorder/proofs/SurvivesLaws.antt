@@ -33,7 +33,8 @@ use Rattle.recorder.proofs.StoresLaws.{still-on, others_are, asked}
 misled-same : (h : Held) (c : Call) (room : List ℕ) (n : length room ≡ 2048 → ⊥) → h ≡ stepped (misled c room n) h
 unfolding stepped
 misled-same h (begin survey) room n =
-    ap (λ (a : Result Recorder Refusal). held_of (recorder_after a h.recorder) h.room h.card) (begin-refused survey room n).0
+    ap (λ (a : Result Recorder Refusal). held_of (recorder_after a h.recorder) h.room h.card)
+    (begin-refused survey room n).0
 misled-same h (packet p overruns) room n =
     ap (λ (a : Result Recorder Refusal). held_of (recorder_after a h.recorder) h.room h.card)
     (record-refused h.recorder p overruns room

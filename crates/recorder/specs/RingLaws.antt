@@ -22,7 +22,8 @@ slot-size k = omega arith
 
 -- ---- a piece
 
-pub piece-wrote : (w : Writer) (p : Packet) (room ys : List ℕ) (r : Result Piece Refusal) → length room ≡ 2048 → Writable p
+pub piece-wrote : (w : Writer) (p : Packet) (room ys : List ℕ) (r : Result Piece Refusal) → length room ≡ 2048
+    → Writable p
     → r ≡ write_of w p (take (slot_size w.number) (drop (w.number % 4 * 512) room))
     → ys ≡ written_of w p (take (slot_size w.number) (drop (w.number % 4 * 512) room))
     → (r ≡ Ok (piece_wrote w p))

@@ -1,5 +1,5 @@
-// The recorder's calls, each of which answers with the recorder after it. After each, the blocks that are left are to be
-// stored, the last first, with a call of `stored` behind each store.
+// The recorder's calls, each of which answers with the recorder after it. After each, the blocks that are left are to
+// be stored, the last first, with a call of `stored` behind each store.
 ghost use Rattle.std.specs.Prelude.{◌≡◌};
 ghost use Rattle.card.specs.Packet.{packet_of};
 ghost use Rattle.recorder.specs.Recording.{writer_of, left_of, after, begin_bytes, begin_of, begin_room, record_of};

@@ -66,7 +66,8 @@ module _ (lend : Lends) where
     is : d ≡ seen e
     short : Short e.writer
 
-  calls_step : (n : ℕ) (p : Packet) (d : Caller) (r : Result Piece Refusal) (b : List ℕ) → write_of (writer_in d.numbers) p d.block
+  calls_step : (n : ℕ) (p : Packet) (d : Caller) (r : Result Piece Refusal) (b : List ℕ)
+      → write_of (writer_in d.numbers) p d.block
       ≡ r
       → written_of (writer_in d.numbers) p d.block ≡ b → packet_calls lend (suc n) p d ≡ takes n p d r b
   unfolding packet_calls
@@ -102,7 +103,8 @@ module _ (lend : Lends) where
 
       piece : ((d : Desk) → Short d.writer → Same (packet_calls lend n p (seen d)) (packet_run lend n p d))
           → (x : Writer) (full done : Bool) (b : List ℕ) → Short x
-          → Same (takes n p (seen e) (Ok (record { next = x; full = full; done = done })) b) (goes_on n p (after lend e x full b) done)
+          → Same (takes n p (seen e) (Ok (record { next = x; full = full; done = done })) b) (goes_on n p
+          (after lend e x full b) done)
       piece l x true true b s = record { is = refl; short = s }
       piece l x false true b s = record { is = refl; short = s }
       piece l x true false b s = l (after lend e x true b) s

@@ -47,8 +47,10 @@ pub copy_data-requires : goal.copy_data-requires
 copy_data-requires c =
     let l = find-fits _ _ _ _ (sym c.find_from.ensures ∙ c.in-Some.is) in
     let n = 3 + c.in-Some.found.len in
-    let room = put_mid c.loop-found.used (length c.loop-found.room - c.loop-found.used) c.loop-found.room c.take_near-near.new.room in
-    omega (arith, l, length-take-le (c.loop-found.used + c.take_near-near.result.bytes + n - (c.loop-found.used + c.take_near-near.result.bytes)) (drop (c.loop-found.used + c.take_near-near.result.bytes) room))
+    let room = put_mid c.loop-found.used (length c.loop-found.room - c.loop-found.used) c.loop-found.room
+    c.take_near-near.new.room in
+    let from = c.loop-found.used + c.take_near-near.result.bytes in
+    omega (arith, l, length-take-le (from + n - from) (drop from room))
 
 pub overflow_add-count-in-loop-found : goal.overflow_add-count-in-loop-found
 overflow_add-count-in-loop-found c =

@@ -48,7 +48,8 @@ returns c =
     c.walk-near.ensures in
     record {
       near = near;
-      room_after = part-filled c.args.room.now _ _ 0 _ c.walk-near.result.bytes (omega arith) (omega (arith, c.walk-near.ensures.fits)) long c.copy_run.ensures
+      room_after = part-filled c.args.room.now _ _ 0 _ c.walk-near.result.bytes (omega arith) (omega
+          (arith, c.walk-near.ensures.fits)) long c.copy_run.ensures
           ∙ near-bytes c.args.stream.now c.args.room.now c.args.d 0 c.walk-near.result.bytes good
           c.walk-near.ensures.inside;
     }

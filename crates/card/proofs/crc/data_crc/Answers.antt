@@ -10,5 +10,6 @@ loop-i-preserved c =
 
 pub returns : goal.returns
 returns c =
-    ap (λ (r : ℕ). 65535 - r) (sym (over_none c.args.bytes.now c.loop-i.i c.loop-i.kept (omega arith)) ∙ c.loop-i.invariant)
+    ap (λ (r : ℕ). 65535 - r) (sym (over_none c.args.bytes.now c.loop-i.i c.loop-i.kept (omega arith))
+    ∙ c.loop-i.invariant)
     ∙ register-crc c.args.bytes.now

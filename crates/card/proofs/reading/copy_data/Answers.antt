@@ -21,7 +21,13 @@ loop-i-preserved c =
     ap (λ (j : ℕ). paste (paste room 0 bytes i) j source run) (sym here)
     ∙ paste-places s room c.args.d 0 i run n (omega arith) few (omega arith) c.run_of-run.ensures.upper_bound.1 in
     let far : run ≤ length source =
-    omega (arith, few, c.run_of-run.ensures.upper_bound.1, length-drop ((c.args.d + i) / 504 * 512 + (6 + (c.args.d + i) % 504)) s) in
+    omega (
+      arith,
+      few,
+      c.run_of-run.ensures.upper_bound.1,
+      length-drop ((c.args.d + i) / 504 * 512 + (6 +
+          (c.args.d + i) % 504)) s,
+    ) in
     let filled = part-filled c.loop-i.room source _ i _ run (omega arith) (omega (arith, few)) far c.copy_run.ensures in
     let now = filled ∙ ap (λ (l : List ℕ). paste l i source run) c.loop-i.invariant.holds ∙ places in
     let long = length-bytes (view s) n c.args.d in
@@ -36,4 +42,5 @@ returns c =
     let n = length c.args.room.now in
     let source = bytes_from (view c.args.stream.now) c.args.d n in
     all_pasted _ source 0 n c.loop-i.room c.loop-i.i c.loop-i.invariant (omega arith)
-    ∙ paste-whole c.args.room.now source n refl ∙ take_all n source (omega (arith, length-bytes (view c.args.stream.now) n c.args.d))
+    ∙ paste-whole c.args.room.now source n refl
+    ∙ take_all n source (omega (arith, length-bytes (view c.args.stream.now) n c.args.d))

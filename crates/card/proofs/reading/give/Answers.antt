@@ -15,6 +15,8 @@ returns c =
     record {
       value = given-fits c.args.found (length c.args.room.now) (omega arith);
       room_after = put-fits (view c.args.stream.now) c.args.found c.args.room.now _ (omega arith)
-          (part-bytes (view c.args.stream.now) (c.args.found.at + 3) c.args.room.now _ 0 _ c.args.found.len (omega arith) (omega arith)
-          c.copy_data.ensures ∙ paste-front (view c.args.stream.now) (c.args.found.at + 3) c.args.found.len c.args.room.now);
+          (part-bytes (view c.args.stream.now) (c.args.found.at + 3) c.args.room.now _ 0 _ c.args.found.len
+          (omega arith) (omega arith)
+          c.copy_data.ensures ∙ paste-front (view c.args.stream.now)
+          (c.args.found.at + 3) c.args.found.len c.args.room.now);
     }

@@ -29,7 +29,8 @@ returns-in-None c =
     let f = sym c.find_from.ensures ∙ c.in-None.is in
     record {
       value = given_nothing _ ∙ next_found c.args.stream.now c.args.reader.at (length c.args.room.now) None whole f;
-      room_after = put_nothing (view c.args.stream.now) _ ∙ room-found c.args.stream.now c.args.reader.at c.args.room.now None whole f;
+      room_after = put_nothing (view c.args.stream.now) _
+          ∙ room-found c.args.stream.now c.args.reader.at c.args.room.now None whole f;
     }
 
 pub returns-in_err-give-in-Some : goal.returns-in_err-give-in-Some

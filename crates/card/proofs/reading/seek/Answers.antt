@@ -17,4 +17,5 @@ loop-k-preserved c =
 pub returns : goal.returns
 returns c =
     let end : length c.args.stream.now / 512 ≡ c.loop-k.k = omega arith in
-    ap (λ (k : ℕ). k * 504) end ∙ sym (seek_stop (view c.args.stream.now) c.loop-k.k _ (omega arith)) ∙ c.loop-k.invariant
+    ap (λ (k : ℕ). k * 504) end ∙ sym (seek_stop (view c.args.stream.now) c.loop-k.k _ (omega arith))
+    ∙ c.loop-k.invariant

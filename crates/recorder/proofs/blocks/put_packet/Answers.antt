@@ -22,11 +22,13 @@ loop-turn-preserved c =
     let now = ring-piece p g _ _ c.put_piece-put.ensures.next_value c.put_piece-put.ensures.room_after in
     let fewer : 4 - (c.loop-turn._turn + 1) ≡ 4 - c.loop-turn._turn - 1 = omega arith in (
       search rules,
-      ap (packet_ring _ p) now ∙ rw fewer (ring-part (4 - c.loop-turn._turn) p g (omega arith) (sym c.put_piece-put.ensures.whole_value
+      ap (packet_ring _ p) now ∙ rw fewer (ring-part (4 - c.loop-turn._turn) p g (omega arith)
+          (sym c.put_piece-put.ensures.whole_value
           ∙ c.if-put.false)) ∙ c.loop-turn.invariant.1,
     )
 
 pub returns : goal.returns
 returns c =
     let p = packet_of c.args.endpoint c.args.bytes.now in
-    ring-none (4 - c.loop-turn._turn) p (ring_of c.loop-turn.at c.loop-turn.room) (omega arith) ∙ c.loop-turn.invariant.1
+    ring-none (4 - c.loop-turn._turn) p (ring_of c.loop-turn.at c.loop-turn.room) (omega arith)
+    ∙ c.loop-turn.invariant.1
