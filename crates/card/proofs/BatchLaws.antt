@@ -1,22 +1,22 @@
 -- Laws of packets that are given many at once.
-use Rattle.std.specs.Prelude.{◌≡◌, ℕ, zero, suc, ◌+◌, ◌-◌, ◌/◌, ◌%◌, ◌<◌, ◌≤◌, true, false, List, ◌∷◌, ◌++◌, length, take, drop, ◌≢◌, refl}
+use Rattle.std.specs.Prelude.{◌≡◌, ℕ, zero, suc, ◌+◌, ◌-◌, ◌/◌, ◌%◌, ◌<◌, ◌≤◌, true, false, List, ◌∷◌, ◌++◌, length, take, drop, ◌≢◌, refl, Some, None, Err}
 use Rattle.std.proofs.Common.{sym, ap, ap₂, ◌∙◌, append_assoc, append-nil, arith, lt-ltb, le-ltb, eq-eqb, ne_eqb, length-append, take_at, take_all, drop-drop}
 use Rattle.std.proofs.Math.Seq.{drop-append-add, paste}
-use Rattle.card.specs.declared.stream.Found.TheVariants as found
+use Rattle.card.specs.declared.stream.Found.{Found}
 use Rattle.card.specs.Reading.{View, total, bytes_from, find, block_end}
 use Rattle.card.proofs.Clean.{clean-part}
 use Rattle.card.proofs.Progress.{find-clean}
 use Rattle.card.specs.Seen.{Seen}
 use Rattle.card.specs.Inside.{Standing}
-use Rattle.card.specs.Batches.{Some, none, before, some_from, some, front, Takes, answer_by, batch_of, batch_room_of}
+use Rattle.card.specs.Batches.{Several, none, before, some_from, some, front, Takes, answer_by, batch_of, batch_room_of}
 use Rattle.card.specs.declared.batches.Taken.{Taken}
-use Rattle.card.specs.declared.reader.Batch.TheVariants as answer
+use Rattle.card.specs.declared.refusal.Refusal.TheVariants.{Card}
 
 -- some more behind so many packets with these bytes
-abbrev pub behind : ℕ → List ℕ → Some → Some
+abbrev pub behind : ℕ → List ℕ → Several → Several
 behind n bytes s = record { count = n + s.count; bytes = bytes ++ s.bytes; at = s.at; short = s.short }
 
-behind-before : (n : ℕ) (bytes more : List ℕ) (s : Some) → behind n bytes (before more s)
+behind-before : (n : ℕ) (bytes more : List ℕ) (s : Several) → behind n bytes (before more s)
     ≡ behind (n + 1) (bytes ++ more) s
 behind-before n bytes more s =
     let e : n + suc s.count ≡ n + 1 + s.count = omega arith in
@@ -24,35 +24,37 @@ behind-before n bytes more s =
 
 -- ---- by what is found next
 
-pub some_end : (v : View) (f d room : ℕ) → room < f → find v (total v) d ≡ found.Nothing → some_from v f d room
+pub some_end : (v : View) (f d room : ℕ) → room < f → find v (total v) d ≡ None → some_from v f d room
     ≡ none d false
 unfolding some_from
 some_end v zero d room l h = absurd (omega arith)
 some_end v (suc f) d room l h = rw (h, some_from)
 
-pub some-short : (v : View) (f d room at a n : ℕ) → room < f → find v (total v) d ≡ found.Packet at a n → room < 3 + n
+pub some-short : (v : View) (f d room : ℕ) (p : Found) → room < f → find v (total v) d ≡ Some p → room < 3 + p.len
     → some_from v f d room ≡ none d true
 unfolding some_from
-some-short v zero d room at a n l h s = absurd (omega arith)
-some-short v (suc f) d room at a n l h s = rw (h, some_from, lt-ltb room (3 + n) s)
+some-short v zero d room p l h s = absurd (omega arith)
+some-short v (suc f) d room p l h s = rw (h, some_from, lt-ltb room (3 + p.len) s)
 
-pub some_more : (v : View) (f d room at a n count : ℕ) (bytes : List ℕ) (all : Some) → room < f → find v (total v) d
-    ≡ found.Packet at a n → 3 + n ≤ room
+pub some_more : (v : View) (f d room : ℕ) (p : Found) (count : ℕ) (bytes : List ℕ) (all : Several) → room < f
+    → find v (total v) d ≡ Some p → 3 + p.len ≤ room
     → behind count bytes (some_from v f d room) ≡ all
-    → (g : ℕ) × (room - (3 + n) < g)
-    × (behind (count + 1) (bytes ++ bytes_from v at (3 + n)) (some_from v g (at + (3 + n)) (room - (3 + n))) ≡ all)
+    → (g : ℕ) × (room - (3 + p.len) < g)
+    × (behind (count + 1) (bytes ++ bytes_from v p.at (3 + p.len))
+    (some_from v g (p.at + (3 + p.len)) (room - (3 + p.len))) ≡ all)
 unfolding some_from
-some_more v zero d room at a n count bytes all l h s e = absurd (omega arith)
-some_more v (suc f) d room at a n count bytes all l h s e = (
+some_more v zero d room p count bytes all l h s e = absurd (omega arith)
+some_more v (suc f) d room p count bytes all l h s e = (
   f,
   omega arith,
-  sym (behind-before count bytes (bytes_from v at (3 + n))
-      (some_from v f (at + (3 + n)) (room - (3 + n)))) ∙ first ∙ e,
+  sym (behind-before count bytes (bytes_from v p.at (3 + p.len))
+      (some_from v f (p.at + (3 + p.len)) (room - (3 + p.len)))) ∙ first ∙ e,
 )
   where
-    first : behind count bytes (before (bytes_from v at (3 + n)) (some_from v f (at + (3 + n)) (room - (3 + n))))
+    first : behind count bytes (before (bytes_from v p.at (3 + p.len))
+        (some_from v f (p.at + (3 + p.len)) (room - (3 + p.len))))
         ≡ behind count bytes (some_from v (suc f) d room)
-    first = sym (rw (h, some_from, le-ltb room (3 + n) s))
+    first = sym (rw (h, some_from, le-ltb room (3 + p.len) s))
 
 -- places one behind the other
 bytes-join : (v : View) (n m d : ℕ) → bytes_from v d n ++ bytes_from v (d + n) m ≡ bytes_from v d (n + m)
@@ -67,7 +69,7 @@ bytes-join v (suc n) m d =
     rw (e, f) (ap (λ (l : List ℕ). v.byte d ∷ l) (bytes-join v n m (d + 1)))
 
 -- packets that stand one behind the other: none, and one more
-some-none : (v : View) (f d room count : ℕ) (bytes : List ℕ) (all : Some) → behind count bytes (some_from v f d room)
+some-none : (v : View) (f d room count : ℕ) (bytes : List ℕ) (all : Several) → behind count bytes (some_from v f d room)
     ≡ all
     → behind (count + 0) (bytes ++ bytes_from v d 0) (some_from v f (d + 0) (room - 0)) ≡ all
 unfolding bytes_from
@@ -77,13 +79,14 @@ some-none v f d room count bytes all e =
     let none_more : count + 0 ≡ count = omega arith in
     rw (here, same, none_more, append-nil bytes) e
 
-some_next : (v : View) (f d room at a n k m count : ℕ) (bytes : List ℕ) (all : Some) → room < f → find v (total v) at
-    ≡ found.Packet at a n
+some_next : (v : View) (f d room at a n k m count : ℕ) (bytes : List ℕ) (all : Several) → room < f → find v (total v) at
+    ≡ Some (record { at = at; endpoint = a; len = n })
     → at ≡ d + k → m ≡ k + (3 + n) → 3 + n ≤ room → behind count (bytes ++ bytes_from v d k) (some_from v f at room) ≡ all
     → (g : ℕ) × (room - (3 + n) < g) × (behind (count + 1) (bytes ++ bytes_from v d m)
     (some_from v g (d + m) (room - (3 + n))) ≡ all)
 some_next v f d room at a n k m count bytes all l h e i r b =
-    let next = some_more v f at room at a n count (bytes ++ bytes_from v d k) all l h r b in
+    let next = some_more v f at room (record { at = at; endpoint = a; len = n }) count
+    (bytes ++ bytes_from v d k) all l h r b in
     let place : at + (3 + n) ≡ d + m = omega arith in
     let join : (bytes ++ bytes_from v d k) ++ bytes_from v at (3 + n) ≡ bytes ++ bytes_from v d m =
     append_assoc bytes (bytes_from v d k) (bytes_from v at (3 + n))
@@ -97,7 +100,8 @@ some_next v f d room at a n k m count bytes all l h e i r b =
     (sym place) in
     (next.0, next.1, moved ∙ next.2)
 
-pub some-standing : (v : View) (c f d n room count : ℕ) (bytes : List ℕ) (all : Some) → room < f → Standing v d c n → n
+pub some-standing : (v : View) (c f d n room count : ℕ) (bytes : List ℕ) (all : Several) → room < f
+    → Standing v d c n → n
     ≤ room
     → behind count bytes (some_from v f d room) ≡ all
     → (g : ℕ) × (room - n < g) × (behind (count + c) (bytes ++ bytes_from v d n) (some_from v g (d + n) (room - n)) ≡ all)
@@ -107,7 +111,8 @@ some-standing v (suc c) f d n room count bytes all l (m, s, last) r e =
     one_more last.endpoint last.len last.next last.ends
     (λ h. some-standing v c f d m room count bytes all l s h e)
   where
-    one_more : (a len : ℕ) → find v (total v) (d + m) ≡ found.Packet (d + m) a len → n ≡ m + (3 + len)
+    one_more : (a len : ℕ) → find v (total v) (d + m)
+        ≡ Some (record { at = d + m; endpoint = a; len = len }) → n ≡ m + (3 + len)
         → (m ≤ room → (g : ℕ) × (room - m < g) × (behind (count + c) (bytes ++ bytes_from v d m)
         (some_from v g (d + m) (room - m)) ≡ all))
         → (g : ℕ) × (room - n < g) × (behind (count + suc c) (bytes ++ bytes_from v d n)
@@ -136,11 +141,13 @@ front-more bytes more room now used n u l e =
 
 -- ---- what was looked at
 
-pub found-seen : (v : View) (f d at a n : ℕ) → find v f d ≡ found.Packet at a n
-    → Seen v (at + (3 + n)) ((at + (3 + n) + 503) / 504)
-found-seen v f d at a n h =
+pub found-seen : (v : View) (f d : ℕ) (p : Found) → find v f d ≡ Some p
+    → Seen v (p.at + (3 + p.len)) ((p.at + (3 + p.len) + 503) / 504)
+found-seen v f d p h =
+    let at = p.at in
+    let n = p.len in
     let e : at + 3 + n ≡ at + (3 + n) = omega arith in
-    let clean = find-clean v f d at a n h in
+    let clean = find-clean v f d p h in
     record {
       low = omega arith;
       high = omega arith;
@@ -150,7 +157,7 @@ found-seen v f d at a n h =
 
 -- ---- the answer
 
-pub batch-torn : (s : List ℕ) (at room : ℕ) → (length s % 512 ≢ 0) → answer.Refused 21 ≡ batch_of s at room
+pub batch-torn : (s : List ℕ) (at room : ℕ) → (length s % 512 ≢ 0) → Err Card ≡ batch_of s at room
 unfolding batch_of
 batch-torn s at room h = rw (ne_eqb (length s % 512) 0 h)
 

@@ -1,10 +1,9 @@
 -- Laws on the definitions of Inside.antt
-use Rattle.std.specs.Prelude.{◌≡◌, ℕ, zero, suc, ◌+◌, ◌-◌, ◌*◌, ◌/◌, ◌%◌, ◌<◌, ◌≤◌, true, List, length, drop, ◌≢◌, slice_index, refl}
+use Rattle.std.specs.Prelude.{◌≡◌, ℕ, zero, suc, ◌+◌, ◌-◌, ◌*◌, ◌/◌, ◌%◌, ◌<◌, ◌≤◌, true, List, length, drop, ◌≢◌, slice_index, refl, Some}
 use Rattle.std.proofs.Common.{sym, ap, ◌∙◌, arith, add-one, take_all}
 use Rattle.std.proofs.lemmas.Bool.{false≢true}
 use Rattle.std.proofs.Math.Decide.{dec_lt}
 use Rattle.std.proofs.Math.Seq.{paste}
-use Rattle.card.specs.declared.stream.Found.TheVariants as found
 use Rattle.card.specs.declared.stream.Step.TheVariants.{Gives}
 use Rattle.card.specs.Reading.{View, total, block_end, clean_to, clean_up_to, length_at, endpoint_at, packet_at, begin_at}
 use Rattle.card.specs.Reading.{step_at, bytes_from, find}
@@ -22,7 +21,7 @@ unfolding Standing
 standing-none v d = refl
 
 pub standing-more : (v : View) (d count m a len : ℕ) → Standing v d count m → find v (total v) (d + m)
-    ≡ found.Packet (d + m) a len
+    ≡ Some (record { at = d + m; endpoint = a; len = len })
     → Standing v d (count + 1) (m + (3 + len))
 unfolding Standing
 standing-more v d count m a len s h = rw (add-one count)
@@ -39,7 +38,7 @@ unfolding Standing
 standing-lies v d zero n s l = absurd (omega arith)
 standing-lies v d (suc count) n s l =
     let last = s.2 in
-    omega (arith, last.ends, find-fits v (total v) (d + s.0) (d + s.0) last.endpoint last.len last.next)
+    omega (arith, last.ends, find-fits v (total v) (d + s.0) _ last.next)
 
 -- the block of d has been seen
 pub seen-good : (v : View) (d first : ℕ) → Seen v d first → d / 504 < first → v.good (d / 504) ≡ true
@@ -60,7 +59,8 @@ one-clean v d x g l e =
     rw (one, g) (omega arith)
 
 inside_found : (v : View) (d a n : ℕ) → v.good (d / 504) ≡ true → d / 504 < v.blocks → d % 504 + 3 + n ≤ 504
-    → endpoint_at v d ≡ a → (a ≢ 0) → length_at v d ≡ n → find v (total v) d ≡ found.Packet d a n
+    → endpoint_at v d ≡ a → (a ≢ 0) → length_at v d ≡ n → find v (total v) d
+    ≡ Some (record { at = d; endpoint = a; len = n })
 inside_found v d a n g b l e nz m =
     let header = intact-good v d (d + 3) (begin_at v d) (one-clean v d (d + 3) g (omega arith) (omega arith)) in
     let begin = begin-packet v d (λ z. nz (sym e ∙ z)) in

@@ -1,11 +1,10 @@
 -- Each step leads further, so that the packets found one at a time are those that are read.
-use Rattle.std.specs.Prelude.{◌≡◌, ℕ, zero, suc, ◌+◌, ◌-◌, ◌*◌, ◌/◌, ◌<◌, ◌≤◌, Bool, true, false, cond, ◌≢◌, refl}
-use Rattle.std.proofs.Common.{sym, ◌∙◌, arith}
+use Rattle.std.specs.Prelude.{◌≡◌, ℕ, zero, suc, ◌+◌, ◌-◌, ◌*◌, ◌/◌, ◌<◌, ◌≤◌, Bool, true, false, cond, ◌≢◌, refl, Option, Some, None}
+use Rattle.std.proofs.Common.{sym, subst, ◌∙◌, arith}
 use Rattle.std.proofs.Math.Decide.{dec_lt, ℕ_discrete}
 use Rattle.card.specs.declared.stream.Step.{Step}
 use Rattle.card.specs.declared.stream.Step.TheVariants.{Ends, Goes, Gives}
 use Rattle.card.specs.declared.stream.Found.{Found}
-use Rattle.card.specs.declared.stream.Found.TheVariants as found
 use Rattle.card.specs.Reading.{View, total, begins, seek, seek_from, block_end, clean_up_to, intact, length_at}
 use Rattle.card.specs.Reading.{endpoint_at, begin_at, step_at, find}
 use Rattle.card.specs.Steps.{intact-good, intact-cut, packet-in, packet-past, begin-filler, begin-packet}
@@ -99,7 +98,7 @@ gives_fits v d a n h = elim (dec_lt (total v) (d + 3)) [
 
 -- ---- the next packet
 
-pub find-end : (v : View) (f d : ℕ) → step_at v d ≡ Ends → find v f d ≡ found.Nothing
+pub find-end : (v : View) (f d : ℕ) → step_at v d ≡ Ends → find v f d ≡ None
 unfolding find
 find-end v zero d h = refl
 find-end v (suc f) d h = rw (h, find)
@@ -108,26 +107,28 @@ pub find-go : (v : View) (f d e : ℕ) → step_at v d ≡ Goes e → find v (su
 unfolding find
 find-go v f d e h = rw (h, find)
 
-pub find-give : (v : View) (f d a n : ℕ) → step_at v d ≡ Gives a n → find v (suc f) d ≡ found.Packet d a n
+pub find-give : (v : View) (f d a n : ℕ) → step_at v d ≡ Gives a n → find v (suc f) d
+    ≡ Some (record { at = d; endpoint = a; len = n })
 unfolding find
 find-give v f d a n h = rw (h, find)
 
 -- a search under way, by what is found next
-pub find-ends : (v : View) (f d : ℕ) (t : Found) → find v f d ≡ t → step_at v d ≡ Ends → found.Nothing ≡ t
+pub find-ends : (v : View) (f d : ℕ) (t : Option Found) → find v f d ≡ t → step_at v d ≡ Ends → None ≡ t
 find-ends v f d t e h = sym (find-end v f d h) ∙ e
 
-pub find-gives : (v : View) (f d a n : ℕ) (t : Found) → total v ≤ d + f → find v f d ≡ t → step_at v d ≡ Gives a n
-    → found.Packet d a n ≡ t
+pub find-gives : (v : View) (f d a n : ℕ) (t : Option Found) → total v ≤ d + f → find v f d ≡ t
+    → step_at v d ≡ Gives a n
+    → Some (record { at = d; endpoint = a; len = n }) ≡ t
 find-gives v zero d a n t l e h = absurd (omega (arith, gives_fits v d a n h))
 find-gives v (suc f) d a n t l e h = sym (find-give v f d a n h) ∙ e
 
-pub find-goes : (v : View) (f d e : ℕ) (t : Found) → total v ≤ d + f → find v f d ≡ t → step_at v d ≡ Goes e
+pub find-goes : (v : View) (f d e : ℕ) (t : Option Found) → total v ≤ d + f → find v f d ≡ t → step_at v d ≡ Goes e
     → (g : ℕ) × (total v ≤ e + g) × (find v g e ≡ t)
 find-goes v zero d x t l e h = absurd (omega (arith, (goes_further v d x h).0))
 find-goes v (suc f) d x t l e h = (f, omega (arith, (goes_further v d x h).1), sym (find-go v f d x h) ∙ e)
 
-pub nothing-packet : (at a n : ℕ) → found.Nothing ≢ found.Packet at a n
-nothing-packet at a n h = let z : ◌≡◌ {A = ℕ} 0 1 = cc in omega arith
+pub nothing-packet : (p : Found) → None ≢ Some p
+nothing-packet p h = let z : ◌≡◌ {A = ℕ} 0 1 = cc in omega arith
 
 -- ---- a packet that is found lies in good blocks
 
@@ -154,32 +155,32 @@ gives-header v d a n h = elim (dec_lt (total v) (d + 3)) [
 ]
 
 -- what holds of each packet that a step gives holds of the one that is found
-find-of : (P : ℕ → ℕ → ℕ → Type 0) (v : View) → ((d a n : ℕ) → step_at v d ≡ Gives a n → P d a n)
-    → (f d at a n : ℕ) → find v f d ≡ found.Packet at a n → P at a n
+find-of : (P : Found → Type 0) (v : View)
+    → ((d a n : ℕ) → step_at v d ≡ Gives a n → P (record { at = d; endpoint = a; len = n }))
+    → (f d : ℕ) (p : Found) → find v f d ≡ Some p → P p
 unfolding find
-find-of P v p zero d at a n h = absurd (nothing-packet at a n h)
-find-of P v p (suc f) d at a n h = go (step_at v d) refl (λ e. find-of P v p f e at a n)
+find-of P v q zero d p h = absurd (nothing-packet p h)
+find-of P v q (suc f) d p h = go (step_at v d) refl (λ e. find-of P v q f e p)
   where
-    go : (s : Step) → step_at v d ≡ s → ((e : ℕ) → find v f e ≡ found.Packet at a n → P at a n) → P at a n
-    go Ends e i = absurd (nothing-packet at a n (sym (find-end v (suc f) d e) ∙ h))
+    go : (s : Step) → step_at v d ≡ s → ((e : ℕ) → find v f e ≡ Some p → P p) → P p
+    go Ends e i = absurd (nothing-packet p (sym (find-end v (suc f) d e) ∙ h))
     go (Goes x) e i = i x (sym (find-go v f d x e) ∙ h)
     go (Gives b m) e i =
-        let g : found.Packet d b m ≡ found.Packet at a n = sym (find-give v f d b m e) ∙ h in
-        let x : d ≡ at = cc in
-        let y : b ≡ a = cc in
-        let z : m ≡ n = cc in
-        rw (x, y, z) at (p d b m e)
+        let here : Found = record { at = d; endpoint = b; len = m } in
+        let g : Some here ≡ Some p = sym (find-give v f d b m e) ∙ h in
+        let same : here ≡ p = cc in
+        subst P same (q d b m e)
 
 -- a packet that is found lies in the stream, and in good blocks
-pub find-fits : (v : View) (f d at a n : ℕ) → find v f d ≡ found.Packet at a n → at + 3 + n ≤ total v
-find-fits v f d at a n h = find-of (λ d a n. d + 3 + n ≤ total v) v (gives_fits v) f d at a n h
+pub find-fits : (v : View) (f d : ℕ) (p : Found) → find v f d ≡ Some p → p.at + 3 + p.len ≤ total v
+find-fits v f d p h = find-of (λ q. q.at + 3 + q.len ≤ total v) v (gives_fits v) f d p h
 
-pub find-clean : (v : View) (f d at a n : ℕ) → find v f d ≡ found.Packet at a n → block_end (at + 3 + n)
-    ≤ clean_up_to v at (at + 3 + n)
-find-clean v f d at a n h = find-of (λ d a n. block_end (d + 3 + n) ≤ clean_up_to v d (d + 3 + n)) v (gives-clean v) f d at
-    a n h
+pub find-clean : (v : View) (f d : ℕ) (p : Found) → find v f d ≡ Some p → block_end (p.at + 3 + p.len)
+    ≤ clean_up_to v p.at (p.at + 3 + p.len)
+find-clean v f d p h =
+    find-of (λ q. block_end (q.at + 3 + q.len) ≤ clean_up_to v q.at (q.at + 3 + q.len)) v (gives-clean v) f d p h
 
-pub find-header : (v : View) (f d at a n : ℕ) → find v f d ≡ found.Packet at a n → (endpoint_at v at ≡ a)
-    × (length_at v at ≡ n)
-find-header v f d at a n h = find-of (λ d a n. (endpoint_at v d ≡ a) × (length_at v d ≡ n)) v (gives-header v) f d at a n
-    h
+pub find-header : (v : View) (f d : ℕ) (p : Found) → find v f d ≡ Some p → (endpoint_at v p.at ≡ p.endpoint)
+    × (length_at v p.at ≡ p.len)
+find-header v f d p h =
+    find-of (λ q. (endpoint_at v q.at ≡ q.endpoint) × (length_at v q.at ≡ q.len)) v (gives-header v) f d p h

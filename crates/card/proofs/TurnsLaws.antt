@@ -1,11 +1,10 @@
 -- The packets found one at a time, each from where the one before ended, are those that are read.
-use Rattle.std.specs.Prelude.{◌≡◌, ℕ, zero, suc, ◌+◌, ◌≤◌, List, [], ◌∷◌, refl}
+use Rattle.std.specs.Prelude.{◌≡◌, ℕ, zero, suc, ◌+◌, ◌≤◌, List, [], ◌∷◌, refl, Option, Some, None}
 use Rattle.std.proofs.Common.{sym, ap, ◌∙◌, arith}
 use Rattle.card.specs.Packet.{Packet, All}
 use Rattle.card.specs.declared.stream.Step.{Step}
 use Rattle.card.specs.declared.stream.Step.TheVariants.{Ends, Goes, Gives}
 use Rattle.card.specs.declared.stream.Found.{Found}
-use Rattle.card.specs.declared.stream.Found.TheVariants as found
 use Rattle.card.specs.Reading.{View, total, seek_from, packet_from, step_at, read_from, read_all, find, in_turn}
 use Rattle.card.specs.Kept.{kept_from}
 use Rattle.card.specs.Steps.{step-short, read-ends, read_goes, read-gives}
@@ -57,20 +56,22 @@ find-behind v (suc f) d h = go (step_at v d) refl (λ e. find-behind v f e)
         (read-enough v f (total v) (d + 3 + n) (omega arith) (omega arith))
         ∙ ap (behind v) (sym (find-give v f d a n e))
 
-find-further : (v : View) (f d at a n : ℕ) → find v f d ≡ found.Packet at a n → d ≤ at
+find-further : (v : View) (f d : ℕ) (p : Found) → find v f d ≡ Some p → d ≤ p.at
 unfolding find
-find-further v zero d at a n h = absurd (nothing-packet at a n h)
-find-further v (suc f) d at a n h = go (step_at v d) refl (λ e. find-further v f e at a n)
+find-further v zero d p h = absurd (nothing-packet p h)
+find-further v (suc f) d p h = go (step_at v d) refl (λ e. find-further v f e p)
   where
-    go : (s : Step) → step_at v d ≡ s → ((e : ℕ) → find v f e ≡ found.Packet at a n → e ≤ at) → d ≤ at
-    go Ends e i = absurd (nothing-packet at a n (sym (find-end v (suc f) d e) ∙ h))
+    go : (s : Step) → step_at v d ≡ s → ((e : ℕ) → find v f e ≡ Some p → e ≤ p.at) → d ≤ p.at
+    go Ends e i = absurd (nothing-packet p (sym (find-end v (suc f) d e) ∙ h))
     go (Goes x) e i =
         let g = goes_further v d x e in
         let l = i x (sym (find-go v f d x e) ∙ h) in
         omega arith
     go (Gives b m) e i =
-        let g : found.Packet d b m ≡ found.Packet at a n = sym (find-give v f d b m e) ∙ h in
-        let x : d ≡ at = cc in
+        let here : Found = record { at = d; endpoint = b; len = m } in
+        let g : Some here ≡ Some p = sym (find-give v f d b m e) ∙ h in
+        let same : here ≡ p = cc in
+        let x : d ≡ p.at = ap (λ (q : Found). q.at) same in
         omega arith
 
 in-turn : (v : View) (n d : ℕ) → total v ≤ d + n → in_turn v n d ≡ read_from v (total v) d
@@ -79,12 +80,13 @@ in-turn v zero d h = sym (read_behind v (total v) d (omega arith))
 in-turn v (suc n) d h = go (find v (total v) d) refl (λ e. in-turn v n e)
     ∙ sym (find-behind v (total v) d (omega arith))
   where
-    go : (f : Found) → find v (total v) d ≡ f → ((e : ℕ) → total v ≤ e + n → in_turn v n e ≡ read_from v (total v) e)
+    go : (f : Option Found) → find v (total v) d ≡ f → ((e : ℕ) → total v ≤ e + n
+        → in_turn v n e ≡ read_from v (total v) e)
         → in_turn v (suc n) d ≡ behind v (find v (total v) d)
-    go (found.Packet at a m) e i =
-        rw (e, in_turn) (ap (λ (l : List Packet). packet_from v at a m ∷ l)
-        (i (at + 3 + m) (omega (arith, find-further v (total v) d at a m e))))
-    go found.Nothing e i = rw (e, in_turn)
+    go (Some p) e i =
+        rw (e, in_turn) (ap (λ (l : List Packet). packet_from v p.at p.endpoint p.len ∷ l)
+        (i (p.at + 3 + p.len) (omega (arith, find-further v (total v) d p e))))
+    go None e i = rw (e, in_turn)
 
 pub calls-read : (s : List ℕ) → by_calls s ≡ read_all (view s)
 unfolding read_all

@@ -1,6 +1,5 @@
 -- Packets that lie whole in one good block, one behind the other.
-use Rattle.std.specs.Prelude.{◌≡◌, ℕ, zero, suc, ◌+◌, ◌%◌, ◌≤◌}
-use Rattle.card.specs.declared.stream.Found.TheVariants as found
+use Rattle.std.specs.Prelude.{◌≡◌, ℕ, zero, suc, ◌+◌, ◌%◌, ◌≤◌, Some}
 use Rattle.card.specs.Reading.{View, total, find}
 use Rattle.card.specs.Seen.{Seen}
 
@@ -8,7 +7,7 @@ use Rattle.card.specs.Seen.{Seen}
 pub record OneMore (v : View) (d m n : ℕ) : Type 0 where
   pub endpoint : ℕ
   pub len : ℕ
-  pub next : find v (total v) (d + m) ≡ found.Packet (d + m) endpoint len
+  pub next : find v (total v) (d + m) ≡ Some (record { at = d + m; endpoint = endpoint; len = len })
   pub ends : n ≡ m + (3 + len)
 
 -- so many packets, which as many calls of next find, one behind the other in the n bytes from place d on

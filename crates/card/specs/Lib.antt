@@ -18,6 +18,7 @@ pub mod Whole
 pub mod Turns
 pub mod PasteLaws
 pub mod Seen
+pub mod Rows
 pub mod Calls
 pub mod Rooms
 pub mod Runs

@@ -1,11 +1,10 @@
 -- The writer's definitions by cases.
-use Rattle.std.specs.Prelude.{◌≡◌, ℕ, ◌+◌, ◌-◌, ◌%◌, ◌^◌, ◌<◌, ◌≤◌, Bool, true, false, List, length, drop, replicate, ◌≢◌}
+use Rattle.std.specs.Prelude.{◌≡◌, ℕ, ◌+◌, ◌-◌, ◌%◌, ◌^◌, ◌<◌, ◌≤◌, Bool, true, false, List, length, drop, replicate, ◌≢◌, Ok, Err}
 use Rattle.std.proofs.Common.{◌∙◌, eq-eqb, ne_eqb, lt-ltb, le-ltb}
 use Rattle.std.proofs.Math.Seq.{paste}
 use Rattle.card.specs.Packet.{Packet, packet_bytes}
 use Rattle.card.specs.declared.writer.Writer.{Writer}
-use Rattle.card.specs.declared.writer.Wrote.TheVariants as wrote
-use Rattle.card.specs.declared.writer.Finished.TheVariants as finished
+use Rattle.card.specs.declared.refusal.Refusal.TheVariants.{Card}
 use Rattle.card.specs.Writing.{used_of, done_of, piece_of, first_of, full_of, whole_of, done_after, writer_of}
 use Rattle.card.specs.Writing.{closed, piece_in, block_of_piece, unfit, write_of, written_of, finish_of}
 use Rattle.card.specs.Writing.{last_of}
@@ -96,14 +95,14 @@ fit p b h l z e = rw (
       p.endpoint e,
 )
 
-pub write-unfit : (w : Writer) (p : Packet) (b : List ℕ) → unfit p b ≡ true → (wrote.Refused 21 ≡ write_of w p b)
+pub write-unfit : (w : Writer) (p : Packet) (b : List ℕ) → unfit p b ≡ true → (Err Card ≡ write_of w p b)
     × (b ≡ written_of w p b)
 unfolding write_of written_of
 write-unfit w p b h = (rw h, rw h)
 
 pub write-answer : (w : Writer) (p : Packet) (b : List ℕ) (x : Writer) (f g : Bool) → unfit p b ≡ false
     → x ≡ writer_of w (length p.bytes) → f ≡ full_of w (length p.bytes) → g ≡ whole_of w (length p.bytes)
-    → wrote.Piece x f g ≡ write_of w p b
+    → Ok (record { next = x; full = f; done = g }) ≡ write_of w p b
 unfolding write_of
 write-answer w p b x f g h a c d = rw (h, a, c, d)
 
@@ -114,12 +113,12 @@ write-block w p b r h e = e ∙ rw h
 
 -- ---- the last block
 
-pub finish-refused : (w : Writer) (b : List ℕ) → (length b ≢ 512) → (finished.Refused 21 ≡ finish_of w b)
+pub finish-refused : (w : Writer) (b : List ℕ) → (length b ≢ 512) → (Err Card ≡ finish_of w b)
     × (b ≡ last_of w b)
 unfolding finish_of last_of
 finish-refused w b h = (rw (ne_eqb (length b) 512 h), rw (ne_eqb (length b) 512 h))
 
-pub finish-nothing : (w : Writer) (b : List ℕ) → length b ≡ 512 → used_of w ≡ 0 → (finished.Nothing ≡ finish_of w b)
+pub finish-nothing : (w : Writer) (b : List ℕ) → length b ≡ 512 → used_of w ≡ 0 → (Ok false ≡ finish_of w b)
     × (b ≡ last_of w b)
 unfolding finish_of last_of
 finish-nothing w b h u =
@@ -127,7 +126,7 @@ finish-nothing w b h u =
 
 pub finish-last : (w : Writer) (b c r : List ℕ) (u : ℕ) → length b ≡ 512 → u ≡ used_of w → (u ≢ 0) → c
     ≡ paste b (6 + u) (replicate (504 - u) 0) (504 - u)
-    → r ≡ closed w.number w.first c → (finished.Last ≡ finish_of w b) × (r ≡ last_of w b)
+    → r ≡ closed w.number w.first c → (Ok true ≡ finish_of w b) × (r ≡ last_of w b)
 unfolding finish_of last_of
 finish-last w b c r u h x z e g =
     let n : used_of w ≡ 0 → ⊥ = λ y. z (x ∙ y) in (

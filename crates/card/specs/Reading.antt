@@ -1,11 +1,10 @@
 -- What a reader gives, in the words of the request. Places of packet data are counted over all blocks, 504 bytes in
 -- each.
-use Rattle.std.specs.Prelude.{ℕ, zero, suc, ◌+◌, ◌-◌, ◌*◌, ◌/◌, min, Bool, cond, ◌&&◌, List, [], ◌∷◌, ◌==◌, nat_le, nat_lt}
+use Rattle.std.specs.Prelude.{ℕ, zero, suc, ◌+◌, ◌-◌, ◌*◌, ◌/◌, min, Bool, cond, ◌&&◌, List, [], ◌∷◌, ◌==◌, nat_le, nat_lt, Option, Some, None}
 use Rattle.card.specs.Packet.{Packet}
 use Rattle.card.specs.declared.stream.Step.{Step}
 use Rattle.card.specs.declared.stream.Step.TheVariants.{Ends, Goes, Gives}
 use Rattle.card.specs.declared.stream.Found.{Found}
-use Rattle.card.specs.declared.stream.Found.TheVariants as found
 
 -- what a reader sees of a stream: how many blocks, which are good, the packet data, the begin that a block names
 pub record View : Type 0 where
@@ -92,18 +91,18 @@ read_all v = read_from v (total v) (seek_from v 0)
 -- ---- one packet at a time
 
 -- the next packet from the begin d on, in at most n steps
-unfoldable pub find : View → ℕ → ℕ → Found
-find v zero d = found.Nothing
+unfoldable pub find : View → ℕ → ℕ → Option Found
+find v zero d = None
 find v (suc n) d = elim (step_at v d) [
-  | Ends ↦ found.Nothing
+  | Ends ↦ None
   | Goes e ↦ find v n e
-  | Gives endpoint len ↦ found.Packet d endpoint len
+  | Gives endpoint len ↦ Some (record { at = d; endpoint = endpoint; len = len })
 ]
 
 -- what at most n calls give, each from where the one before ended
 unfoldable pub in_turn : View → ℕ → ℕ → List Packet
 in_turn v zero d = []
 in_turn v (suc n) d = elim (find v (total v) d) [
-  | found.Packet at endpoint len ↦ packet_from v at endpoint len ∷ in_turn v n (at + 3 + len)
-  | found.Nothing ↦ []
+  | Some f ↦ packet_from v f.at f.endpoint f.len ∷ in_turn v n (f.at + 3 + f.len)
+  | None ↦ []
 ]

@@ -1,13 +1,16 @@
 -- Packet data copied into a room.
-use Rattle.std.specs.Prelude.{◌≡◌, ℕ, zero, suc, ◌+◌, ◌-◌, ◌*◌, ◌/◌, ◌%◌, ◌<◌, ◌≤◌, List, ◌∷◌, ◌++◌, length, take, drop, ◌≢◌, slice_index, refl}
-use Rattle.std.proofs.Common.{sym, ap, ap₂, ◌∙◌, append_assoc, zero-add, arith, drop-cons, take_all, take-add, drop-drop, lt-ltb, le-ltb, eq-eqb, ne_eqb}
+use Rattle.std.specs.Prelude.{◌≡◌, ℕ, zero, suc, ◌+◌, ◌-◌, ◌*◌, ◌/◌, ◌%◌, ◌<◌, ◌≤◌, List, ◌∷◌, ◌++◌, length, take, drop, ◌≢◌, slice_index, refl, Option, Some, None, Result, Ok, Err}
+use Rattle.std.proofs.Common.{sym, ap, ap₂, ◌∙◌, append_assoc, zero-add, arith, drop-cons, take_all, take-add, drop-drop, length-drop, length-take-le, lt-ltb, le-ltb, eq-eqb, ne_eqb}
+use Rattle.std.proofs.Math.Decide.{ℕ_discrete}
 use Rattle.std.proofs.lemmas.List.Edits.{take-paste, drop-paste}
 use Rattle.std.proofs.Math.Seq.{paste}
+use Rattle.std.proofs.lemmas.Slice.{put_mid-paste}
+use borrow.Rule.Slice.PartMut.{put_mid}
 use Rattle.card.specs.declared.stream.Found.{Found}
-use Rattle.card.specs.declared.stream.Found.TheVariants as found
-use Rattle.card.specs.declared.reader.Next.{Next}
-use Rattle.card.specs.declared.reader.Next.TheVariants as next
-use Rattle.card.specs.Calls.{found_from, given, put, next_of, room_of}
+use Rattle.card.specs.declared.reader.Packet.{Packet}
+use Rattle.card.specs.declared.refusal.Refusal.{Refusal}
+use Rattle.card.specs.declared.refusal.Refusal.TheVariants.{Card}
+use Rattle.card.specs.Calls.{in_blocks, found_from, given, put, next_given, next_put, next_of, room_of}
 use Rattle.card.specs.Reading.{View, total, bytes_from}
 use Rattle.card.specs.Streams.{view, data_byte}
 
@@ -79,25 +82,34 @@ paste-places s r d at i k n hr hk hd h =
     paste-run r (bytes_from v d n) _ at i k (omega arith) (omega (arith, length-bytes v n d))
     (run-bytes s k (d + i) h (omega arith) ∙ sym part)
 
+-- a part of lent bytes filled with packet data
+pub part-bytes : (v : View) (d : ℕ) (lent now : List ℕ) (a k n : ℕ) → k ≡ n → a + n ≤ length lent
+    → now ≡ bytes_from v d (length (take k (drop a lent))) → put_mid a k lent now ≡ paste lent a (bytes_from v d n) n
+part-bytes v d lent now a k n e h is =
+    let long : length (take k (drop a lent)) ≡ n =
+    length-take-le k (drop a lent) (omega (arith, length-drop a lent)) ∙ e in
+    put_mid-paste a k lent now (bytes_from v d n) n (is ∙ ap (λ (m : ℕ). bytes_from v d m) long) (sym e)
+    (sym (length-bytes v n d))
+
 -- ---- a packet that was found, given into a room
 
-pub given-short : (at a n room : ℕ) → room < n → next.Refused 21 ≡ given (found.Packet at a n) room
+pub given-short : (f : Found) (room : ℕ) → room < f.len → Err Card ≡ given f room
 unfolding given
-given-short at a n room h = rw (lt-ltb room n h)
+given-short f room h = rw (lt-ltb room f.len h)
 
-pub given-fits : (at a n room : ℕ) → n ≤ room → next.Packet a n (record { at = at + 3 + n })
-    ≡ given (found.Packet at a n) room
+pub given-fits : (f : Found) (room : ℕ) → f.len ≤ room
+    → Ok (record { endpoint = f.endpoint; len = f.len; then = record { at = f.at + 3 + f.len } }) ≡ given f room
 unfolding given
-given-fits at a n room h = rw (le-ltb room n h)
+given-fits f room h = rw (le-ltb room f.len h)
 
-pub put-short : (v : View) (at a n : ℕ) (room : List ℕ) → length room < n → room ≡ put v (found.Packet at a n) room
+pub put-short : (v : View) (f : Found) (room : List ℕ) → length room < f.len → room ≡ put v f room
 unfolding put
-put-short v at a n room h = rw (lt-ltb (length room) n h)
+put-short v f room h = rw (lt-ltb (length room) f.len h)
 
-pub put-fits : (v : View) (at a n : ℕ) (room r : List ℕ) → n ≤ length room → r ≡ bytes_from v (at + 3) n ++ drop n room
-    → r ≡ put v (found.Packet at a n) room
+pub put-fits : (v : View) (f : Found) (room r : List ℕ) → f.len ≤ length room
+    → r ≡ bytes_from v (f.at + 3) f.len ++ drop f.len room → r ≡ put v f room
 unfolding put
-put-fits v at a n room r h e = rw (le-ltb (length room) n h) e
+put-fits v f room r h e = rw (le-ltb (length room) f.len h) e
 
 -- places copied to the room's front
 pub paste-front : (v : View) (d n : ℕ) (room : List ℕ) → paste room 0 (bytes_from v d n) n ≡ bytes_from v d n
@@ -108,7 +120,24 @@ paste-front v d n room =
 
 -- ---- the answer to a call
 
-pub next-torn : (s : List ℕ) (at room : ℕ) → (length s % 512 ≢ 0) → next.Refused 21 ≡ next_of s at room
+-- where a stream is refused, and where it is not, by what in_blocks answers
+pub torn : (s : List ℕ) (e : Refusal) → in_blocks s ≡ Err e → (length s % 512 ≢ 0) × (e ≡ Card)
+unfolding in_blocks
+torn s e h = elim (ℕ_discrete (length s % 512) 0) [
+  | yes z ↦ (let x : ◌≡◌ {A = Result (Unit {0}) Refusal} (Ok tt) (Err e) = rw (eq-eqb (length s % 512) 0 z) at h in cc)
+  | no z ↦ (let x : ◌≡◌ {A = Result (Unit {0}) Refusal} (Err Card) (Err e) = rw (ne_eqb
+      (length s % 512) 0 z) at h in (z, cc))
+]
+
+pub untorn : (s : List ℕ) → in_blocks s ≡ Ok tt → length s % 512 ≡ 0
+unfolding in_blocks
+untorn s h = elim (ℕ_discrete (length s % 512) 0) [
+  | yes z ↦ z
+  | no z ↦ (let x : ◌≡◌ {A = Result (Unit {0}) Refusal} (Err Card) (Ok tt) = rw (ne_eqb
+      (length s % 512) 0 z) at h in cc)
+]
+
+pub next-torn : (s : List ℕ) (at room : ℕ) → (length s % 512 ≢ 0) → Err Card ≡ next_of s at room
 unfolding next_of
 next-torn s at room h = rw (ne_eqb (length s % 512) 0 h)
 
@@ -116,17 +145,32 @@ pub room-torn : (s : List ℕ) (at : ℕ) (room : List ℕ) → (length s % 512 
 unfolding room_of
 room-torn s at room h = rw (ne_eqb (length s % 512) 0 h)
 
-pub next_found : (s : List ℕ) (at room : ℕ) (f : Found) (x : Next) → length s % 512 ≡ 0 → found_from s at ≡ f → x
-    ≡ given f room → x ≡ next_of s at room
+pub next_found : (s : List ℕ) (at room : ℕ) (f : Option Found) → length s % 512 ≡ 0 → found_from s at ≡ f
+    → next_given f room ≡ next_of s at room
 unfolding next_of
-next_found s at room f x h e g = rw (eq-eqb (length s % 512) 0 h, e) g
+next_found s at room f h e = rw (eq-eqb (length s % 512) 0 h, e)
 
-pub room-found : (s : List ℕ) (at : ℕ) (room : List ℕ) (f : Found) (r : List ℕ) → length s % 512 ≡ 0 → found_from s at
-    ≡ f
-    → r ≡ put (view s) f room → r ≡ room_of s at room
+pub room-found : (s : List ℕ) (at : ℕ) (room : List ℕ) (f : Option Found) → length s % 512 ≡ 0 → found_from s at ≡ f
+    → next_put (view s) f room ≡ room_of s at room
 unfolding room_of
-room-found s at room f r h e g = rw (eq-eqb (length s % 512) 0 h, e) g
+room-found s at room f h e = rw (eq-eqb (length s % 512) 0 h, e)
 
-pub given_nothing : (room : ℕ) → next.End ≡ given found.Nothing room
-unfolding given
+pub given_nothing : (room : ℕ) → Ok None ≡ next_given None room
+unfolding next_given
 given_nothing room = refl
+
+pub given_found : (f : Found) (room : ℕ) (p : Packet) → Ok p ≡ given f room → Ok (Some p) ≡ next_given (Some f) room
+unfolding next_given
+given_found f room p e = rw (← e, next_given)
+
+pub given_refused : (f : Found) (room : ℕ) (e : Refusal) → Err e ≡ given f room → Err e ≡ next_given (Some f) room
+unfolding next_given
+given_refused f room e h = rw (← h, next_given)
+
+pub put_nothing : (v : View) (room : List ℕ) → room ≡ next_put v None room
+unfolding next_put
+put_nothing v room = refl
+
+pub put_found : (v : View) (f : Found) (room : List ℕ) → put v f room ≡ next_put v (Some f) room
+unfolding next_put
+put_found v f room = refl

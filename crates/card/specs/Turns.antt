@@ -1,16 +1,14 @@
 -- The packets found one at a time, each from where the one before ended, are those that are read.
-use Rattle.std.specs.Prelude.{◌≡◌, ℕ, ◌+◌, ◌≤◌, List, [], ◌∷◌}
-use Rattle.std.proofs.Common.{◌∙◌}
+use Rattle.std.specs.Prelude.{ℕ, ◌+◌, List, [], ◌∷◌, Option, Some, None}
 use Rattle.card.specs.Packet.{Packet}
 use Rattle.card.specs.declared.stream.Found.{Found}
-use Rattle.card.specs.declared.stream.Found.TheVariants as found
 use Rattle.card.specs.Reading.{View, total, seek_from, packet_from, read_from, in_turn}
 use Rattle.card.specs.Streams.{view}
 
 -- the packet found, and what is read behind it
-unfoldable pub behind : View → Found → List Packet
-behind v (found.Packet at a n) = packet_from v at a n ∷ read_from v (total v) (at + 3 + n)
-behind v found.Nothing = []
+unfoldable pub behind : View → Option Found → List Packet
+behind v (Some f) = packet_from v f.at f.endpoint f.len ∷ read_from v (total v) (f.at + 3 + f.len)
+behind v None = []
 
 -- what the calls give from the start on
 abbrev pub by_calls : List ℕ → List Packet

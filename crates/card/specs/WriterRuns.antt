@@ -1,9 +1,7 @@
 -- Packets written one behind the other: blocks are lent as they are, and each is stored when it is full.
-use Rattle.std.specs.Prelude.{ℕ, zero, suc, ◌+◌, Bool, true, false, cond, List, [], ◌∷◌, ◌++◌}
+use Rattle.std.specs.Prelude.{ℕ, zero, suc, ◌+◌, Bool, true, false, cond, List, [], ◌∷◌, ◌++◌, Ok, Err}
 use Rattle.card.specs.Packet.{Packet, size}
 use Rattle.card.specs.declared.writer.Writer.{Writer}
-use Rattle.card.specs.declared.writer.Wrote.TheVariants as wrote
-use Rattle.card.specs.declared.writer.Finished.TheVariants as finished
 use Rattle.card.specs.Writing.{new_writer, write_of, written_of, finish_of, last_of}
 
 -- the writer, the lent block and its count, the stream so far
@@ -32,10 +30,10 @@ after lend d w false b = record { writer = w; block = b; count = d.count; stored
 unfoldable pub packet_run : Lends → ℕ → Packet → Desk → Desk
 packet_run lend zero p d = d
 packet_run lend (suc n) p d = elim (write_of d.writer p d.block) [
-  | wrote.Piece next full done ↦
-      cond done (after lend d next full (written_of d.writer p d.block))
-      (packet_run lend n p (after lend d next full (written_of d.writer p d.block)))
-  | wrote.Refused e ↦ d
+  | Ok piece ↦
+      cond piece.done (after lend d piece.next piece.full (written_of d.writer p d.block))
+      (packet_run lend n p (after lend d piece.next piece.full (written_of d.writer p d.block)))
+  | Err e ↦ d
 ]
 
 unfoldable pub packets_run : Lends → List Packet → Desk → Desk
@@ -44,9 +42,9 @@ packets_run lend (p ∷ ps) d = packets_run lend ps (packet_run lend (size p) p 
 
 unfoldable pub last_run : Desk → List ℕ
 last_run d = elim (finish_of d.writer d.block) [
-  | finished.Last ↦ d.stored ++ last_of d.writer d.block
-  | finished.Nothing ↦ d.stored
-  | finished.Refused e ↦ d.stored
+  | Ok true ↦ d.stored ++ last_of d.writer d.block
+  | Ok false ↦ d.stored
+  | Err e ↦ d.stored
 ]
 
 -- the stream that the calls make of these packets

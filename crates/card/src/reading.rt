@@ -1,29 +1,26 @@
 // The packets of a stream.
-ghost use Rattle.std.specs.Prelude.{◌≡◌, ◌+◌, ◌-◌, ◌/◌, ◌%◌, ◌<◌, ◌≤◌, length, drop};
-ghost use Rattle.std.proofs.Math.Seq.{paste};
+ghost use Rattle.std.specs.Prelude.{◌≡◌, ◌+◌, ◌-◌, ◌/◌, ◌%◌, ◌<◌, ◌≤◌, length, take, drop};
 ghost use Rattle.card.specs.Reading.{total, begins, block_end, clean_to, clean_up_to, seek_from, intact, packet_at};
 ghost use Rattle.card.specs.Reading.{begin_at, step_at, bytes_from, find};
 ghost use Rattle.card.specs.Calls.{start_of, given, put, next_of, room_of};
 ghost use Rattle.card.specs.Seen.{Seen};
-ghost use Rattle.card.specs.declared.stream.Found.TheVariants as Found;
 ghost use Rattle.card.specs.Streams.{view};
 
-use crate::blocks::{data_byte, is_good, pair_at};
-use crate::reader::{Next, Reader, Started};
+use crate::blocks::{data_byte, in_blocks, is_good, pair_at};
+use crate::reader::{Packet, Reader};
+use crate::refusal::Refusal;
 use crate::stream::{Found, Step};
 
 // The first of the blocks from `from` up to `end` that is not good; the block behind them if all are.
 fn clean_to(stream: &[u8], from: usize, end: usize) -> usize
     ensures { result ≡ clean_to (view stream.now) from (end - from) }
 {
-    let mut k = from;
-    while k < end {
+    for k in from..end {
         if !is_good(stream, k) {
             return k;
         }
-        k += 1;
     }
-    k
+    from.max(end)
 }
 
 // Is a packet begin named by block k, a good one?
@@ -47,14 +44,12 @@ fn seek(stream: &[u8], from: usize) -> usize
     ensures { result ≡ seek_from (view stream.now) from }
 {
     let end = stream.len() / 512;
-    let mut k = from;
-    while k < end {
+    for k in from..end {
         if names_begin(stream, k) {
             return k * 504 + (pair_at(stream, k, 4) - 6);
         }
-        k += 1;
     }
-    k * 504
+    end * 504
 }
 
 // This step, if the blocks with the places from d up to e are good; else the reader goes on behind the first that is
@@ -121,7 +116,7 @@ fn step(stream: &[u8], d: usize, first: usize) -> Step
 }
 
 // The next packet from d on; the blocks of d before block `first` are good.
-pub fn find_from(stream: &[u8], d: usize, first: usize) -> Found
+pub fn find_from(stream: &[u8], d: usize, first: usize) -> Option<Found>
     requires { Seen (view stream.now) d first }
     ensures { result ≡ find (view stream.now) (total (view stream.now)) d }
 {
@@ -130,28 +125,27 @@ pub fn find_from(stream: &[u8], d: usize, first: usize) -> Found
     loop {
         match step(stream, at, from) {
             Step::Ends => {
-                return Found::Nothing;
+                return None;
             }
             Step::Goes(e) => {
                 at = e;
                 from = e / 504;
             }
             Step::Gives { endpoint, len } => {
-                return Found::Packet { at, endpoint, len };
+                return Some(Found { at, endpoint, len });
             }
         }
     }
 }
 
-// Copies n bytes that lie together.
-pub fn copy_run(stream: &[u8], from: usize, room: &mut [u8], at: usize, n: usize)
-    requires { (from + n ≤ length stream.now) × (at + n ≤ length room.old) }
-    ensures { room.new ≡ paste room.old at (drop from stream.now) n }
+// Fills the room with bytes that lie together.
+pub fn copy_run(stream: &[u8], from: usize, room: &mut [u8])
+    requires { from + length room.old ≤ length stream.now }
+    ensures { room.new ≡ take (length room.old) (drop from stream.now) }
 {
-    let mut i = 0;
-    while i < n {
-        room[at + i] = stream[from + i];
-        i += 1;
+    // Not copy_from_slice: it calls memmove, and those who link the archive bring memcpy and memset alone.
+    for i in 0..room.len() {
+        room[i] = stream[from + i];
     }
 }
 
@@ -160,69 +154,66 @@ fn run_of(d: usize, n: usize) -> usize
     ensures upper_bound { (result ≤ n) × (d % 504 + result ≤ 504) }
     ensures result_nonzero { 0 < n → 0 < result }
 {
-    let left = 504 - d % 504;
-    if left < n {
-        return left;
-    }
-    n
+    (504 - d % 504).min(n)
 }
 
-// Copies n bytes of packet data from place d on into the room, block by block.
-pub fn copy_data(stream: &[u8], d: usize, room: &mut [u8], at: usize, n: usize)
-    requires { (at + n ≤ length room.old) × (d + n ≤ total (view stream.now)) }
-    ensures { room.new ≡ paste room.old at (bytes_from (view stream.now) d n) n }
+// Fills the room with packet data from place d on, block by block.
+pub fn copy_data(stream: &[u8], d: usize, room: &mut [u8])
+    requires { d + length room.old ≤ total (view stream.now) }
+    ensures { room.new ≡ bytes_from (view stream.now) d (length room.old) }
 {
+    // A while: a run ends where its block does, so that no range counts them.
     let mut i = 0;
-    while i < n {
+    while i < room.len() {
         let e = d + i;
-        let run = run_of(e, n - i);
-        copy_run(stream, e / 504 * 512 + (6 + e % 504), room, at + i, run);
+        let run = run_of(e, room.len() - i);
+        copy_run(stream, e / 504 * 512 + (6 + e % 504), &mut room[i..i + run]);
         i += run;
     }
 }
 
 // Gives a packet that was found.
-fn give(stream: &[u8], at: usize, endpoint: u8, len: u16, room: &mut [u8]) -> Next
-    requires { at + 3 + len ≤ total (view stream.now) }
-    ensures value { result ≡ given (Found.Packet at endpoint len) (length room.old) }
-    ensures room_after { room.new ≡ put (view stream.now) (Found.Packet at endpoint len)
-        room.old }
+fn give(stream: &[u8], found: Found, room: &mut [u8]) -> Result<Packet, Refusal>
+    requires { found.at + 3 + found.len ≤ total (view stream.now) }
+    ensures value { result ≡ given found (length room.old) }
+    ensures room_after { room.new ≡ put (view stream.now) found room.old }
 {
+    let Found { at, endpoint, len } = found;
     let n = len as usize;
     if room.len() < n {
-        return Next::Refused(21);
+        return Err(Refusal::Card);
     }
-    copy_data(stream, at + 3, room, 0, n);
-    Next::Packet {
+    copy_data(stream, at + 3, &mut room[..n]);
+    Ok(Packet {
         endpoint,
         len,
         then: Reader { at: at + 3 + n },
-    }
+    })
 }
 
 // A reader of this stream, at the first packet begin that a good block names.
-pub fn start(stream: &[u8]) -> Started
+pub fn start(stream: &[u8]) -> Result<Reader, Refusal>
     ensures { result ≡ start_of stream.now }
 {
-    if stream.len() % 512 != 0 {
-        return Started::Refused(21);
-    }
-    Started::At(Reader {
+    in_blocks(stream)?;
+    Ok(Reader {
         at: seek(stream, 0),
     })
 }
 
 // The next packet, whose bytes come to the front of the room. After a refusal the same reader goes on where it is.
-pub fn next_packet(reader: Reader, stream: &[u8], room: &mut [u8]) -> Next
+pub fn next_packet(
+    reader: Reader,
+    stream: &[u8],
+    room: &mut [u8],
+) -> Result<Option<Packet>, Refusal>
     ensures value { result ≡ next_of stream.now reader.at (length room.old) }
     ensures room_after { room.new ≡ room_of stream.now reader.at room.old }
 {
-    if stream.len() % 512 != 0 {
-        return Next::Refused(21);
-    }
+    in_blocks(stream)?;
     let at = reader.at;
     match find_from(stream, at, at / 504) {
-        Found::Nothing => Next::End,
-        Found::Packet { at, endpoint, len } => give(stream, at, endpoint, len, room),
+        None => Ok(None),
+        Some(found) => Ok(Some(give(stream, found, room)?)),
     }
 }

@@ -11,23 +11,11 @@ pub struct Writer {
     pub done: u16,
 }
 
+// A piece of a packet that was written: the writer behind it; is the block full, so that it is to be stored and the
+// next one lent, and is the packet written whole?
 #[derive(Clone, Copy)]
-pub enum Wrote {
-    // A piece of the packet: is the block full, so that it is to be stored and the next one lent, and is the packet
-    // written whole?
-    Piece {
-        next: Writer,
-        full: bool,
-        done: bool,
-    },
-    Refused(u8),
-}
-
-#[derive(Clone, Copy)]
-pub enum Finished {
-    // The last block is filled, and is to be stored.
-    Last,
-    // The last block is stored already.
-    Nothing,
-    Refused(u8),
+pub struct Piece {
+    pub next: Writer,
+    pub full: bool,
+    pub done: bool,
 }

@@ -1,12 +1,13 @@
 // Packets into lent blocks.
-ghost use Rattle.std.specs.Prelude.{◌≡◌, ◌≤◌, min, length};
+ghost use Rattle.std.specs.Prelude.{◌≡◌, ◌≤◌, length};
 ghost use Rattle.card.specs.Packet.{packet_of};
 ghost use Rattle.card.specs.Writing.{new_writer, used_of, done_of, piece_of, full_of, whole_of, done_after};
 ghost use Rattle.card.specs.Writing.{first_of, writer_of, block_of_piece, write_of, written_of, finish_of};
 ghost use Rattle.card.specs.Writing.{last_of};
 
-use crate::writer::{Finished, Writer, Wrote};
-use crate::writer_blocks::{close, put_piece, put_zeros};
+use crate::refusal::Refusal;
+use crate::writer::{Piece, Writer};
+use crate::writer_blocks::{close, least, put_piece, put_zeros};
 
 // A writer at the start of a stream.
 pub fn new() -> Writer
@@ -18,12 +19,6 @@ pub fn new() -> Writer
         first: 65535,
         done: 0,
     }
-}
-
-fn least(a: u16, b: u16) -> u16
-    ensures { result ≡ min a b }
-{
-    if a < b { a } else { b }
 }
 
 fn used_of(w: Writer) -> u16
@@ -143,43 +138,43 @@ fn put(w: Writer, block: &mut [u8], endpoint: u8, bytes: &[u8])
 
 // Writes a piece of a packet into the lent block. Where the packet is not whole yet, the same packet is brought again
 // with the next block.
-pub fn write(w: Writer, block: &mut [u8], endpoint: u8, bytes: &[u8]) -> Wrote
+pub fn write(w: Writer, block: &mut [u8], endpoint: u8, bytes: &[u8]) -> Result<Piece, Refusal>
     ensures value { result ≡ write_of w (packet_of endpoint bytes.now) block.old }
     ensures block_after { block.new ≡ written_of w (packet_of endpoint bytes.now) block.old }
 {
     if block.len() != 512 {
-        return Wrote::Refused(21);
+        return Err(Refusal::Card);
     }
     if 1024 < bytes.len() {
-        return Wrote::Refused(21);
+        return Err(Refusal::Card);
     }
     if endpoint == 0 {
-        return Wrote::Refused(21);
+        return Err(Refusal::Card);
     }
     if 15 < endpoint {
-        return Wrote::Refused(21);
+        return Err(Refusal::Card);
     }
     put(w, block, endpoint, bytes);
     let n = bytes.len() as u16;
     let next = writer_of(w, n);
     let full = is_full(w, n);
     let done = is_whole(w, n);
-    Wrote::Piece { next, full, done }
+    Ok(Piece { next, full, done })
 }
 
-// Fills the last block with zeros.
-pub fn finish(w: Writer, block: &mut [u8]) -> Finished
+// Fills the last block with zeros: is there one that is to be stored? Else the last one is stored already.
+pub fn finish(w: Writer, block: &mut [u8]) -> Result<bool, Refusal>
     ensures value { result ≡ finish_of w block.old }
     ensures block_after { block.new ≡ last_of w block.old }
 {
     if block.len() != 512 {
-        return Finished::Refused(21);
+        return Err(Refusal::Card);
     }
     let used = used_of(w) as usize;
     if used == 0 {
-        return Finished::Nothing;
+        return Ok(false);
     }
     put_zeros(block, 6 + used, 504 - used);
     close(block, w.number, w.first);
-    Finished::Last
+    Ok(true)
 }

@@ -1,5 +1,5 @@
 -- The recorder's calls keep what Sound.antt says: a begin, a packet, a finish.
-use Rattle.std.specs.Prelude.{◌≡◌, refl, Bool, true, false, cond, ◌||◌, not, List, [], ◌∷◌, ◌++◌, ℕ, suc, ◌+◌, ◌-◌, ◌%◌, ◌≤◌, ◌<◌, min, ltb, eqb, length}
+use Rattle.std.specs.Prelude.{◌≡◌, refl, Bool, true, false, cond, ◌||◌, not, List, [], ◌∷◌, ◌++◌, ℕ, suc, ◌+◌, ◌-◌, ◌%◌, ◌≤◌, ◌<◌, min, ltb, eqb, length, Result, Ok, Err}
 use Rattle.std.proofs.Common.{sym, ap, ap₂, subst, ◌∙◌, true≢false, arith, ltb-false, eq-eqb, ne_eqb, eqb-true}
 use Rattle.std.proofs.lemmas.Bool.{false≢true, eqb-false, not-false}
 use Rattle.std.proofs.Math.Decide.{ℕ_discrete, dec_lt}
@@ -8,8 +8,8 @@ use Rattle.card.specs.Written.{block_of}
 use Rattle.card.specs.Writing.{new_writer}
 use Rattle.card.specs.declared.writer.Writer.{Writer}
 use Rattle.recorder.specs.declared.recorder.Recorder.{Recorder}
-use Rattle.recorder.specs.declared.recorder.Recorded.{Recorded}
-use Rattle.recorder.specs.declared.recorder.Recorded.TheVariants.{Stores, Refused}
+use Rattle.card.specs.declared.refusal.Refusal.{Refusal}
+use Rattle.card.specs.declared.refusal.Refusal.TheVariants.{Card}
 use Rattle.recorder.specs.Ring.{Ring, ring_of, slot_in, record_ring, end_record, end_room}
 use Rattle.recorder.specs.Recording.{left_of, after, flushed, begin_record, begin_ring, begun, busy, refuses, ring_in}
 use Rattle.recorder.specs.Recording.{padded_ring}
@@ -148,7 +148,7 @@ begin-sound h b survey long whole small on =
     let w : Written (begin_record survey ∷ []) (begin_ring survey h.room) 0 = begin-written survey h.room long in
     let is = begin-is survey h.room (end_room e g) g long refl refl in
     let same : held_of (begun survey g.writer) (end_room e g) h.card ≡ stepped (call (begin survey)) h =
-    ap₂ (λ (x : Recorded) (y : List ℕ). held_of (recorder_after x h.recorder) y h.card) is.0 is.1 in
+    ap₂ (λ (x : Result Recorder Refusal) (y : List ℕ). held_of (recorder_after x h.recorder) y h.card) is.0 is.1 in
     let none : last_block_of (begin_record survey ∷ []) ≡ 0 = begin-block survey in
     subst (λ (x : Held). Sound x (noted_call (begin survey) b)) same
     (record {
@@ -296,15 +296,17 @@ refuses-as h b p s =
     (eq-eqb (length h.room) 2048 s.written.ring.long) (ap (λ (n : ℕ). eqb n 0) s.left)
 
 -- a call's answer and its room make the next step
-as_answered : (h : Held) (c : Call) (r : Recorder) (room : List ℕ) → Stores r ≡ answered c h.recorder h.room
+as_answered : (h : Held) (c : Call) (r : Recorder) (room : List ℕ) → Ok r ≡ answered c h.recorder h.room
     → room ≡ room_after c h.recorder h.room → held_of r room h.card ≡ stepped (call c) h
 unfolding stepped
-as_answered h c r room x y = ap₂ (λ (a : Recorded) (z : List ℕ). held_of (recorder_after a h.recorder) z h.card) x y
+as_answered h c r room x y = ap₂ (λ (a : Result Recorder Refusal) (z : List ℕ). held_of
+    (recorder_after a h.recorder) z h.card) x y
 
-as-refused : (h : Held) (c : Call) → Refused 21 ≡ answered c h.recorder h.room
+as-refused : (h : Held) (c : Call) → Err Card ≡ answered c h.recorder h.room
     → h.room ≡ room_after c h.recorder h.room → h ≡ stepped (call c) h
 unfolding stepped
-as-refused h c x y = ap₂ (λ (a : Recorded) (z : List ℕ). held_of (recorder_after a h.recorder) z h.card) x y
+as-refused h c x y = ap₂ (λ (a : Result Recorder Refusal) (z : List ℕ). held_of
+    (recorder_after a h.recorder) z h.card) x y
 
 pub packet-sound : (h : Held) (b : Book) (p : Packet) (overruns : ℕ) → Sound h b
     → Sound (stepped (call (packet p overruns)) h) (noted_call (packet p overruns) b)

@@ -1,6 +1,6 @@
 -- Laws on the definitions of Survives.antt: whatever the calls, a reader of the card gives what the book says, and
 -- nothing older.
-use Rattle.std.specs.Prelude.{◌≡◌, refl, Bool, true, false, cond, List, [], ◌∷◌, ◌++◌, ℕ, ◌+◌, ◌/◌, ◌≤◌, ◌<◌, ltb, eqb, length}
+use Rattle.std.specs.Prelude.{◌≡◌, refl, Bool, true, false, cond, List, [], ◌∷◌, ◌++◌, ℕ, ◌+◌, ◌/◌, ◌≤◌, ◌<◌, ltb, eqb, length, Result}
 use Rattle.std.proofs.Common.{sym, ap, subst, ◌∙◌, arith, ltb-true, eq-eqb, ne_eqb}
 use Rattle.std.proofs.lemmas.Bool.{false≢true}
 use Rattle.std.proofs.Math.Decide.{ℕ_discrete}
@@ -11,7 +11,8 @@ use Rattle.card.specs.Written.{block_of}
 use Rattle.card.specs.Streams.{block_at, good_block, view}
 use Rattle.card.specs.Runs.{read_run}
 use Rattle.card.proofs.StreamLaws.{length-snoc}
-use Rattle.recorder.specs.declared.recorder.Recorded.{Recorded}
+use Rattle.card.specs.declared.refusal.Refusal.{Refusal}
+use Rattle.recorder.specs.declared.recorder.Recorder.{Recorder}
 use Rattle.recorder.specs.RingLaws.{slot-long}
 use Rattle.recorder.specs.Recording.{stored_of}
 use Rattle.recorder.specs.RecordingLaws.{record-refused, begin-refused, finish-refused, busy-room, refuses-busy}
@@ -32,13 +33,14 @@ use Rattle.recorder.proofs.StoresLaws.{still-on, others_are, asked}
 misled-same : (h : Held) (c : Call) (room : List ℕ) (n : length room ≡ 2048 → ⊥) → h ≡ stepped (misled c room n) h
 unfolding stepped
 misled-same h (begin survey) room n =
-    ap (λ (a : Recorded). held_of (recorder_after a h.recorder) h.room h.card) (begin-refused survey room n).0
+    ap (λ (a : Result Recorder Refusal). held_of (recorder_after a h.recorder) h.room h.card)
+    (begin-refused survey room n).0
 misled-same h (packet p overruns) room n =
-    ap (λ (a : Recorded). held_of (recorder_after a h.recorder) h.room h.card)
+    ap (λ (a : Result Recorder Refusal). held_of (recorder_after a h.recorder) h.room h.card)
     (record-refused h.recorder p overruns room
     (refuses-busy h.recorder p room (busy-room h.recorder room n))).0
 misled-same h (finish overruns) room n =
-    ap (λ (a : Recorded). held_of (recorder_after a h.recorder) h.room h.card)
+    ap (λ (a : Result Recorder Refusal). held_of (recorder_after a h.recorder) h.room h.card)
     (finish-refused h.recorder overruns room (busy-room h.recorder room n)).0
 
 -- ---- a list

@@ -1,11 +1,11 @@
 -- What the recorder's calls do.
-use Rattle.std.specs.Prelude.{Bool, cond, ◌||◌, not, List, ◌∷◌, ℕ, ◌+◌, ◌-◌, min, ltb, eqb, length}
+use Rattle.std.specs.Prelude.{Bool, cond, ◌||◌, not, List, ◌∷◌, ℕ, ◌+◌, ◌-◌, min, ltb, eqb, length, Result, Ok, Err}
 use Rattle.card.specs.Packet.{Packet, packet_of}
 use Rattle.card.specs.declared.writer.Writer.{Writer}
 use Rattle.card.specs.Writing.{new_writer}
 use Rattle.recorder.specs.declared.recorder.Recorder.{Recorder}
-use Rattle.recorder.specs.declared.recorder.Recorded.{Recorded}
-use Rattle.recorder.specs.declared.recorder.Recorded.TheVariants.{Stores, Refused}
+use Rattle.card.specs.declared.refusal.Refusal.{Refusal}
+use Rattle.card.specs.declared.refusal.Refusal.TheVariants.{Card}
 use Rattle.recorder.specs.Ring.{Ring, ring_of, packet_ring, record_ring, padding, bytes_of, end_record, end_room}
 
 abbrev pub writer_of : Recorder → Writer
@@ -33,8 +33,8 @@ begin_ring survey room = packet_ring 4 (begin_record survey) (ring_of new_writer
 abbrev pub begun : ℕ → Writer → Recorder
 begun survey w = record { number = w.number; used = w.used; first = w.first; from = 0; left = 1; survey = survey }
 
-unfoldable pub begin_of : ℕ → List ℕ → Recorded
-begin_of survey room = cond (eqb (length room) 2048) (Stores (begun survey (begin_ring survey room).writer)) (Refused 21)
+unfoldable pub begin_of : ℕ → List ℕ → Result Recorder Refusal
+begin_of survey room = cond (eqb (length room) 2048) (Ok (begun survey (begin_ring survey room).writer)) (Err Card)
 
 unfoldable pub begin_room : ℕ → List ℕ → List ℕ
 begin_room survey room = cond (eqb (length room) 2048) (end_room (end_record 0 survey 0) (begin_ring survey room)) room
@@ -54,8 +54,8 @@ ring_in r room = ring_of (writer_of r) room
 abbrev pub flushed : Recorder → Writer → Recorder
 flushed r w = after r w (left_of w.number r.from)
 
-unfoldable pub record_of : Recorder → Packet → List ℕ → Recorded
-record_of r p room = cond (refuses r p room) (Refused 21) (Stores (flushed r (record_ring p (ring_in r room)).writer))
+unfoldable pub record_of : Recorder → Packet → List ℕ → Result Recorder Refusal
+record_of r p room = cond (refuses r p room) (Err Card) (Ok (flushed r (record_ring p (ring_in r room)).writer))
 
 unfoldable pub record_room : Recorder → Packet → ℕ → List ℕ → List ℕ
 record_room r p overruns room =
@@ -67,8 +67,8 @@ record_room r p overruns room =
 abbrev pub padded_ring : Recorder → List ℕ → Ring
 padded_ring r room = packet_ring 4 (padding r.used) (ring_in r room)
 
-unfoldable pub finish_of : Recorder → List ℕ → Recorded
-finish_of r room = cond (busy r room) (Refused 21) (Stores (flushed r (padded_ring r room).writer))
+unfoldable pub finish_of : Recorder → List ℕ → Result Recorder Refusal
+finish_of r room = cond (busy r room) (Err Card) (Ok (flushed r (padded_ring r room).writer))
 
 unfoldable pub finish_room : Recorder → ℕ → List ℕ → List ℕ
 finish_room r overruns room = cond (busy r room) room (end_room (end_record 1 r.survey overruns) (padded_ring r room))

@@ -1,9 +1,9 @@
 -- Laws on the definitions of Recording.antt, as the code meets them.
-use Rattle.std.specs.Prelude.{◌≡◌, true, false, List, ℕ, ◌+◌, ◌-◌, ◌≤◌, ◌<◌, min, length}
+use Rattle.std.specs.Prelude.{◌≡◌, true, false, List, ℕ, ◌+◌, ◌-◌, ◌≤◌, ◌<◌, min, length, Ok, Err}
 use Rattle.std.proofs.Common.{sym, ◌∙◌, arith, eq-eqb, ne_eqb, lt-ltb, le-ltb}
 use Rattle.recorder.specs.declared.recorder.Recorder.{Recorder}
 use Rattle.card.specs.Packet.{Packet}
-use Rattle.recorder.specs.declared.recorder.Recorded.TheVariants.{Stores, Refused}
+use Rattle.card.specs.declared.refusal.Refusal.TheVariants.{Card}
 use Rattle.recorder.specs.Ring.{Ring, record_ring, end_record, end_room}
 use Rattle.recorder.specs.Recording.{left_of, after, begun, begin_ring, begin_of, begin_room, busy, refuses, ring_in}
 use Rattle.recorder.specs.Recording.{record_of, record_room}
@@ -94,13 +94,13 @@ taken r p room h l z e =
 -- ---- a packet
 
 pub record-refused : (r : Recorder) (p : Packet) (overruns : ℕ) (room : List ℕ) → refuses r p room ≡ true
-    → (Refused 21 ≡ record_of r p room) × (room ≡ record_room r p overruns room)
+    → (Err Card ≡ record_of r p room) × (room ≡ record_room r p overruns room)
 unfolding record_of record_room
 record-refused r p overruns room h = (rw h, rw h)
 
 pub record-kept : (r s : Recorder) (p : Packet) (overruns : ℕ) (room : List ℕ) (g : Ring) → refuses r p room ≡ false
     → g ≡ record_ring p (ring_in r room) → g.writer.number ≡ r.from → s ≡ after r g.writer 0
-    → (Stores s ≡ record_of r p room) × (g.room ≡ record_room r p overruns room)
+    → (Ok s ≡ record_of r p room) × (g.room ≡ record_room r p overruns room)
 unfolding record_of record_room left_of
 record-kept r s p overruns room g h e n x =
     let same : record_ring p (ring_in r room) ≡ g = sym e in
@@ -111,7 +111,7 @@ pub record-flushed : (r s : Recorder) (p : Packet) (overruns : ℕ) (room after-
     → refuses r p room ≡ false
     → g ≡ record_ring p (ring_in r room) → (g.writer.number ≡ r.from → ⊥) → after-end ≡ end_room (end_record 0 r.survey overruns) g
     → left ≡ left_of g.writer.number r.from → s ≡ after r g.writer left
-    → (Stores s ≡ record_of r p room) × (after-end ≡ record_room r p overruns room)
+    → (Ok s ≡ record_of r p room) × (after-end ≡ record_room r p overruns room)
 unfolding record_of record_room
 record-flushed r s p overruns room after-end g left h e n b l x =
     let same : record_ring p (ring_in r room) ≡ g = sym e in
@@ -121,27 +121,27 @@ record-flushed r s p overruns room after-end g left h e n b l x =
 -- ---- the begin and the finish
 
 pub begin-refused : (survey : ℕ) (room : List ℕ) → (length room ≡ 2048 → ⊥)
-    → (Refused 21 ≡ begin_of survey room) × (room ≡ begin_room survey room)
+    → (Err Card ≡ begin_of survey room) × (room ≡ begin_room survey room)
 unfolding begin_of begin_room
 begin-refused survey room h = (rw (ne_eqb (length room) 2048 h), rw (ne_eqb (length room) 2048 h))
 
 pub begin-is : (survey : ℕ) (room after-end : List ℕ) (g : Ring) → length room ≡ 2048 → g ≡ begin_ring survey room
     → after-end ≡ end_room (end_record 0 survey 0) g
-    → (Stores (begun survey g.writer) ≡ begin_of survey room) × (after-end ≡ begin_room survey room)
+    → (Ok (begun survey g.writer) ≡ begin_of survey room) × (after-end ≡ begin_room survey room)
 unfolding begin_of begin_room
 begin-is survey room after-end g h e b =
     let same : begin_ring survey room ≡ g = sym e in
     (rw (eq-eqb (length room) 2048 h, same), b ∙ rw (eq-eqb (length room) 2048 h, same))
 
 pub finish-refused : (r : Recorder) (overruns : ℕ) (room : List ℕ) → busy r room ≡ true
-    → (Refused 21 ≡ finish_of r room) × (room ≡ finish_room r overruns room)
+    → (Err Card ≡ finish_of r room) × (room ≡ finish_room r overruns room)
 unfolding finish_of finish_room
 finish-refused r overruns room h = (rw h, rw h)
 
 pub finish-is : (r s : Recorder) (overruns : ℕ) (room after-end : List ℕ) (g : Ring) (left : ℕ) → busy r room ≡ false
     → g ≡ padded_ring r room → after-end ≡ end_room (end_record 1 r.survey overruns) g
     → left ≡ left_of g.writer.number r.from → s ≡ after r g.writer left
-    → (Stores s ≡ finish_of r room) × (after-end ≡ finish_room r overruns room)
+    → (Ok s ≡ finish_of r room) × (after-end ≡ finish_room r overruns room)
 unfolding finish_of finish_room
 finish-is r s overruns room after-end g left h e b l x =
     let same : padded_ring r room ≡ g = sym e in

@@ -1,10 +1,10 @@
 -- Laws on the definitions of Ring.antt, as the code meets them.
-use Rattle.std.specs.Prelude.{◌≡◌, refl, Bool, true, false, List, ◌∷◌, ◌++◌, ℕ, zero, suc, ◌+◌, ◌-◌, ◌*◌, ◌%◌, ◌≤◌, ◌<◌, length, take, drop, replicate}
+use Rattle.std.specs.Prelude.{◌≡◌, refl, true, false, List, ◌∷◌, ◌++◌, ℕ, zero, suc, ◌+◌, ◌-◌, ◌*◌, ◌%◌, ◌≤◌, ◌<◌, length, take, drop, replicate, Result, Ok}
 use Rattle.std.proofs.Common.{sym, ap, ◌∙◌, arith, le-ltb, lt-ltb, length-drop, length-take-le}
 use Rattle.card.specs.Packet.{Packet, Writable}
 use Rattle.card.specs.declared.writer.Writer.{Writer}
-use Rattle.card.specs.declared.writer.Wrote.{Wrote}
-use Rattle.card.specs.declared.writer.Wrote.TheVariants as wrote
+use Rattle.card.specs.declared.writer.Piece.{Piece}
+use Rattle.card.specs.declared.refusal.Refusal.{Refusal}
 use Rattle.card.specs.Writing.{writer_of, whole_of, unfit, piece_wrote, write_of, written_of, block_of_piece, last_of}
 use Rattle.card.specs.Pieces.{fit}
 use Rattle.recorder.specs.Ring.{Ring, ring_of, slot_in, put_in, piece_ring, packet_ring, padding, record_ring}
@@ -22,10 +22,11 @@ slot-size k = omega arith
 
 -- ---- a piece
 
-pub piece-wrote : (w : Writer) (p : Packet) (room ys : List ℕ) (r : Wrote) → length room ≡ 2048 → Writable p
+pub piece-wrote : (w : Writer) (p : Packet) (room ys : List ℕ) (r : Result Piece Refusal) → length room ≡ 2048
+    → Writable p
     → r ≡ write_of w p (take (slot_size w.number) (drop (w.number % 4 * 512) room))
     → ys ≡ written_of w p (take (slot_size w.number) (drop (w.number % 4 * 512) room))
-    → (r ≡ piece_wrote w p)
+    → (r ≡ Ok (piece_wrote w p))
     × (take (w.number % 4 * 512) room ++ (ys ++ drop (slot_size w.number) (drop (w.number % 4 * 512) room))
     ≡ (piece_ring p (ring_of w room)).room)
 unfolding write_of written_of piece_ring put_in
@@ -35,20 +36,9 @@ piece-wrote w p room ys r long fine x y =
     let u : unfit p b ≡ false =
     fit p b (slot-long room w.number long) fine.short (λ z. omega (arith, fine.numbered)) fine.small in
     let same : take (slot_size w.number) (drop (w.number % 4 * 512) room) ≡ b = rw e in
-    let x' : r ≡ piece_wrote w p = x ∙ rw same (rw u) in
+    let x' : r ≡ Ok (piece_wrote w p) = x ∙ rw same (rw u) in
     let y' : ys ≡ block_of_piece w p b = y ∙ rw same (rw u) in
     (x', rw (e, y'))
-
-pub not-refused : (w : Writer) (p : Packet) (row : ℕ) → wrote.Refused row ≡ piece_wrote w p → ⊥
-not-refused w p row e = let z : ◌≡◌ {A = ℕ} 0 1 = cc in omega arith
-
-pub piece-parts : (w : Writer) (p : Packet) (next : Writer) (full done : Bool) → wrote.Piece next full done
-    ≡ piece_wrote w p
-    → (next ≡ writer_of w (length p.bytes)) × (done ≡ whole_of w (length p.bytes))
-piece-parts w p next full done e =
-    let a : next ≡ writer_of w (length p.bytes) = cc in
-    let b : done ≡ whole_of w (length p.bytes) = cc in
-    (a, b)
 
 pub ring-piece : (p : Packet) (g : Ring) (next : Writer) (room : List ℕ) → next
     ≡ writer_of g.writer (length p.bytes)

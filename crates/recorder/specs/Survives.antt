@@ -1,14 +1,13 @@
 -- The recorder's calls in any order, over a card that holds any older bytes, and a cut anywhere: what a caller does,
 -- and the book that a reader of the calls alone would keep. SurvivesLaws.antt proves: the card's reader gives what the
 -- book says, and nothing older.
-use Rattle.std.specs.Prelude.{◌≡◌, Bool, true, false, cond, ◌&&◌, ◌||◌, not, List, [], ◌∷◌, ◌++◌, ℕ, suc, ◌+◌, ◌-◌, ◌/◌, ◌%◌, ◌≤◌, ◌<◌, ltb, leb, eqb, length}
+use Rattle.std.specs.Prelude.{◌≡◌, Bool, true, false, cond, ◌&&◌, ◌||◌, not, List, [], ◌∷◌, ◌++◌, ℕ, suc, ◌+◌, ◌-◌, ◌/◌, ◌%◌, ◌≤◌, ◌<◌, ltb, leb, eqb, length, Result, Ok, Err}
 use Rattle.card.specs.Packet.{Packet, size, data_of}
 use Rattle.card.specs.Reading.{block_end}
 use Rattle.card.specs.Streams.{good_block}
 use Rattle.card.specs.Runs.{read_run}
 use Rattle.recorder.specs.declared.recorder.Recorder.{Recorder}
-use Rattle.recorder.specs.declared.recorder.Recorded.{Recorded}
-use Rattle.recorder.specs.declared.recorder.Recorded.TheVariants.{Stores, Refused}
+use Rattle.card.specs.declared.refusal.Refusal.{Refusal}
 use Rattle.recorder.specs.Ring.{slot_in, padding, end_record}
 use Rattle.recorder.specs.Recording.{begin_record, begin_of, begin_room, record_of, record_room, finish_of, finish_room}
 use Rattle.recorder.specs.Recording.{stored_of}
@@ -23,7 +22,7 @@ pub data Call : Type 0 where
   finish : ℕ → Call
 
 -- what a call answers, and what the room holds then: its contract
-abbrev pub answered : Call → Recorder → List ℕ → Recorded
+abbrev pub answered : Call → Recorder → List ℕ → Result Recorder Refusal
 answered (begin survey) r room = begin_of survey room
 answered (packet p overruns) r room = record_of r p room
 answered (finish overruns) r room = finish_of r room
@@ -34,9 +33,9 @@ room_after (packet p overruns) r room = record_room r p overruns room
 room_after (finish overruns) r room = finish_room r overruns room
 
 -- a refusal leaves the recorder
-abbrev pub recorder_after : Recorded → Recorder → Recorder
-recorder_after (Stores r) old = r
-recorder_after (Refused row) old = old
+abbrev pub recorder_after : Result Recorder Refusal → Recorder → Recorder
+recorder_after (Ok r) old = r
+recorder_after (Err why) old = old
 
 -- the recorder, the lent room, the card
 pub record Held : Type 0 where

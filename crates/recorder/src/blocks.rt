@@ -1,40 +1,24 @@
 // Packets into a ring of four lent blocks.
+// A slice, not an array: an Option<&mut [u8; 2048]>, as as_mut_array gives, has another layout at 32-bit addresses.
 ghost use Rattle.std.specs.Prelude.{◌≡◌, ◌≤◌, ◌<◌, length};
 ghost use Rattle.card.specs.Packet.{packet_of};
 ghost use Rattle.card.specs.Writing.{whole_of, writer_of};
 ghost use Rattle.recorder.specs.Ring.{ring_of, piece_ring, packet_ring, padding_of, padding, record_ring, end_bytes};
 ghost use Rattle.recorder.specs.Ring.{end_record, filled_room, end_room};
 
-use card::writer::{Finished, Writer, Wrote};
-
-// A piece of a packet: the writer after it, and whether the packet is whole.
-#[derive(Clone, Copy)]
-struct Put {
-    next: Writer,
-    whole: bool,
-}
+use card::writer::{Piece, Writer};
 
 // Writes a piece of a packet into the writer's block.
-fn put_piece(w: Writer, room: &mut [u8], endpoint: u8, bytes: &[u8]) -> Put
+fn put_piece(w: Writer, room: &mut [u8], endpoint: u8, bytes: &[u8]) -> Piece
     requires { (length room.old ≡ 2048) × (length bytes.now ≤ 1024) × (0 < endpoint) × (endpoint ≤ 15) }
     ensures next_value { result.next ≡ writer_of w (length bytes.now) }
-    ensures whole_value { result.whole ≡ whole_of w (length bytes.now) }
+    ensures whole_value { result.done ≡ whole_of w (length bytes.now) }
     ensures room_after { room.new ≡ (piece_ring (packet_of endpoint bytes.now)
         (ring_of w room.old)).room }
 {
     let a = (w.number % 4) as usize * 512;
     let e = a + 512;
-    match card::writing::write(w, &mut room[a..e], endpoint, bytes) {
-        Wrote::Refused(_) => Put {
-            next: w,
-            whole: true,
-        },
-        Wrote::Piece {
-            next,
-            full: _,
-            done,
-        } => Put { next, whole: done },
-    }
+    card::writing::write(w, &mut room[a..e], endpoint, bytes).unwrap()
 }
 
 // Writes a packet: four blocks hold it, wherever it begins.
@@ -44,15 +28,12 @@ pub fn put_packet(w: Writer, room: &mut [u8], endpoint: u8, bytes: &[u8]) -> Wri
         (ring_of w room.old) }
 {
     let mut at = w;
-    let mut turns = 4u8;
-    while 0 < turns {
+    for _turn in 0..4u8 {
         let put = put_piece(at, room, endpoint, bytes);
-        let next = put.next;
-        if put.whole {
-            return next;
+        if put.done {
+            return put.next;
         }
-        at = next;
-        turns -= 1;
+        at = put.next;
     }
     at
 }
@@ -116,11 +97,7 @@ fn fill_block(w: Writer, number: u32, room: &mut [u8])
 {
     let a = (number % 4) as usize * 512;
     let e = a + 512;
-    match card::writing::finish(w, &mut room[a..e]) {
-        Finished::Last => {}
-        Finished::Nothing => {}
-        Finished::Refused(_) => {}
-    }
+    let _ = card::writing::finish(w, &mut room[a..e]);
 }
 
 // An end record behind the packets, and filler behind it. The writer stays before it, so that the next packet takes its

@@ -13,10 +13,3 @@ pub struct Recorder {
     pub left: u32,
     pub survey: u32,
 }
-
-#[derive(Clone, Copy)]
-pub enum Recorded {
-    // Where blocks are left, the last of them is to be stored first.
-    Stores(Recorder),
-    Refused(u8),
-}

@@ -1,17 +1,13 @@
 -- Packets on the card: a writer as four numbers, the calls' words, and what the caller's rooms hold then. A refusal
 -- leaves them.
-use Rattle.std.specs.Prelude.{Bool, cond, List, [], ◌∷◌, ℕ, ◌+◌, ◌%◌, get_or}
+use Rattle.std.specs.Prelude.{Bool, cond, List, [], ◌∷◌, ℕ, ◌+◌, ◌%◌, get_or, Option, Some, None, Result, Ok, Err, true, false}
 use Rattle.card.specs.declared.writer.Writer.{Writer}
-use Rattle.card.specs.declared.writer.Wrote.{Wrote}
-use Rattle.card.specs.declared.writer.Wrote.TheVariants as wrote
-use Rattle.card.specs.declared.writer.Finished.{Finished}
-use Rattle.card.specs.declared.writer.Finished.TheVariants as finished
-use Rattle.card.specs.declared.reader.Started.{Started}
-use Rattle.card.specs.declared.reader.Started.TheVariants as started
-use Rattle.card.specs.declared.reader.Next.{Next}
-use Rattle.card.specs.declared.reader.Next.TheVariants as next
+use Rattle.card.specs.declared.writer.Piece.{Piece}
+use Rattle.card.specs.declared.reader.Reader.{Reader}
+use Rattle.card.specs.declared.reader.Packet.{Packet}
 use Rattle.card.specs.declared.reader.Batch.{Batch}
-use Rattle.card.specs.declared.reader.Batch.TheVariants as batch
+use Rattle.card.specs.declared.refusal.Refusal.{Refusal}
+use Rattle.card.specs.Rows.{row_of}
 use Rattle.survey_c.specs.Words.{refused_word, end_word, done_word}
 
 -- ---- the writer
@@ -33,63 +29,63 @@ numbers_of w = w.number ∷ w.used ∷ w.first ∷ w.done ∷ []
 abbrev pub result_of : Bool → Bool → ℕ
 result_of full done = cond full 1 0 + cond done 2 0
 
-abbrev pub wrote_word : Wrote → ℕ
-wrote_word (wrote.Piece next full done) = end_word (result_of full done)
-wrote_word (wrote.Refused row) = refused_word row
+abbrev pub wrote_word : Result Piece Refusal → ℕ
+wrote_word (Ok p) = end_word (result_of p.full p.done)
+wrote_word (Err why) = refused_word (row_of why)
 
-abbrev pub writer_by : Wrote → List ℕ → List ℕ
-writer_by (wrote.Piece next full done) old = numbers_of next
-writer_by (wrote.Refused row) old = old
+abbrev pub writer_by : Result Piece Refusal → List ℕ → List ℕ
+writer_by (Ok p) old = numbers_of p.next
+writer_by (Err why) old = old
 
 -- 1: the last block is to be stored; 0: there is none
-abbrev pub finished_word : Finished → ℕ
-finished_word finished.Last = end_word 1
-finished_word finished.Nothing = end_word 0
-finished_word (finished.Refused row) = refused_word row
+abbrev pub finished_word : Result Bool Refusal → ℕ
+finished_word (Ok true) = end_word 1
+finished_word (Ok false) = end_word 0
+finished_word (Err why) = refused_word (row_of why)
 
 -- ---- the reader
 
-abbrev pub started_word : Started → ℕ
-started_word (started.At reader) = end_word 0
-started_word (started.Refused row) = refused_word row
+abbrev pub started_word : Result Reader Refusal → ℕ
+started_word (Ok reader) = end_word 0
+started_word (Err why) = refused_word (row_of why)
 
-abbrev pub start_by : Started → ℕ → ℕ
-start_by (started.At reader) old = reader.at
-start_by (started.Refused row) old = old
+abbrev pub start_by : Result Reader Refusal → ℕ → ℕ
+start_by (Ok reader) old = reader.at
+start_by (Err why) old = old
 
 -- a packet is done with its length, the stream with an end
-abbrev pub next_word : Next → ℕ
-next_word (next.Packet endpoint len then) = done_word len
-next_word next.End = end_word 0
-next_word (next.Refused row) = refused_word row
+abbrev pub next_word : Result (Option Packet) Refusal → ℕ
+next_word (Ok (Some p)) = done_word p.len
+next_word (Ok None) = end_word 0
+next_word (Err why) = refused_word (row_of why)
 
-abbrev pub endpoint_by : Next → ℕ → ℕ
-endpoint_by (next.Packet endpoint len then) old = endpoint
-endpoint_by next.End old = old
-endpoint_by (next.Refused row) old = old
+abbrev pub endpoint_by : Result (Option Packet) Refusal → ℕ → ℕ
+endpoint_by (Ok (Some p)) old = p.endpoint
+endpoint_by (Ok None) old = old
+endpoint_by (Err why) old = old
 
-abbrev pub place_by : Next → ℕ → ℕ
-place_by (next.Packet endpoint len then) old = then.at
-place_by next.End old = old
-place_by (next.Refused row) old = old
+abbrev pub place_by : Result (Option Packet) Refusal → ℕ → ℕ
+place_by (Ok (Some p)) old = p.then.at
+place_by (Ok None) old = old
+place_by (Err why) old = old
 
 -- many packets end with 1, the stream with 0
-abbrev pub batch_word : Batch → ℕ
-batch_word (batch.Packets count used then) = end_word 1
-batch_word batch.End = end_word 0
-batch_word (batch.Refused row) = refused_word row
+abbrev pub batch_word : Result (Option Batch) Refusal → ℕ
+batch_word (Ok (Some b)) = end_word 1
+batch_word (Ok None) = end_word 0
+batch_word (Err why) = refused_word (row_of why)
 
-abbrev pub count_by : Batch → ℕ → ℕ
-count_by (batch.Packets count used then) old = count
-count_by batch.End old = 0
-count_by (batch.Refused row) old = old
+abbrev pub count_by : Result (Option Batch) Refusal → ℕ → ℕ
+count_by (Ok (Some b)) old = b.count
+count_by (Ok None) old = 0
+count_by (Err why) old = old
 
-abbrev pub used_by : Batch → ℕ → ℕ
-used_by (batch.Packets count used then) old = used
-used_by batch.End old = 0
-used_by (batch.Refused row) old = old
+abbrev pub used_by : Result (Option Batch) Refusal → ℕ → ℕ
+used_by (Ok (Some b)) old = b.used
+used_by (Ok None) old = 0
+used_by (Err why) old = old
 
-abbrev pub batch_place_by : Batch → ℕ → ℕ
-batch_place_by (batch.Packets count used then) old = then.at
-batch_place_by batch.End old = old
-batch_place_by (batch.Refused row) old = old
+abbrev pub batch_place_by : Result (Option Batch) Refusal → ℕ → ℕ
+batch_place_by (Ok (Some b)) old = b.then.at
+batch_place_by (Ok None) old = old
+batch_place_by (Err why) old = old

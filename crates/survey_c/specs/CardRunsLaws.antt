@@ -1,6 +1,6 @@
 -- The exported writer's four numbers, carried from call to call, make the stream, and the exported reader gives the
 -- packets back. Assumes nothing.
-use Rattle.std.specs.Prelude.{◌≡◌, Bool, cond, not, length}
+use Rattle.std.specs.Prelude.{◌≡◌, Bool, cond, not, length, Result, Ok, Err}
 use Rattle.std.proofs.Math.Path.{refl, ap, subst}
 use Rattle.std.proofs.Common.{sym, ◌∙◌, true≢false, arith, lt-ltb}
 use Rattle.std.proofs.Math.Bool.{true, false, or-true}
@@ -15,10 +15,9 @@ use Rattle.card.proofs.TurnsLaws.{calls-give, calls_back}
 use Rattle.card.specs.Runs.{read_run}
 use Rattle.card.proofs.RunsLaws.{run-gives}
 use Rattle.card.specs.declared.writer.Writer.{Writer}
-use Rattle.card.specs.declared.writer.Wrote.{Wrote}
-use Rattle.card.specs.declared.writer.Wrote.TheVariants as wrote
-use Rattle.card.specs.declared.writer.Finished.{Finished}
-use Rattle.card.specs.declared.writer.Finished.TheVariants as finished
+use Rattle.card.specs.declared.writer.Piece.{Piece}
+use Rattle.card.specs.declared.refusal.Refusal.{Refusal}
+use Rattle.card.specs.declared.refusal.Refusal.TheVariants.{Card}
 use Rattle.card.specs.Writing.{new_writer, used_of, writer_of, full_of, whole_of, unfit, block_of_piece, piece_wrote, write_of}
 use Rattle.card.specs.Writing.{written_of, finish_of, last_of}
 use Rattle.card.specs.WriterRuns.{Lends, Desk, after, packet_run, packets_run, last_run, stream_run}
@@ -42,7 +41,7 @@ few_bytes p b h = elim (dec_lt 1024 (length p.bytes)) [
 -- ---- a call's answer by its tests
 
 wrote_by : (w : Writer) (p : Packet) (b : List ℕ) (t : Bool) → unfit p b ≡ t → write_of w p b
-    ≡ cond t (wrote.Refused 21) (piece_wrote w p)
+    ≡ cond t (Err Card) (Ok (piece_wrote w p))
 unfolding write_of
 wrote_by w p b t u = rw u
 
@@ -52,13 +51,13 @@ unfolding written_of
 block-by w p b t u = rw u
 
 finish-by : (w : Writer) (b : List ℕ) (t u : Bool) → eqb (length b) 512 ≡ t → eqb (used_of w) 0 ≡ u
-    → finish_of w b ≡ cond t (cond u finished.Nothing finished.Last) (finished.Refused 21)
+    → finish_of w b ≡ cond t (cond u (Ok false) (Ok true)) (Err Card)
 unfolding finish_of
 finish-by w b t u p q = rw (p, q)
 
 module _ (lend : Lends) where
   -- what the caller makes of a call's answer and block
-  abbrev takes : ℕ → Packet → Caller → Wrote → List ℕ → Caller
+  abbrev takes : ℕ → Packet → Caller → Result Piece Refusal → List ℕ → Caller
   takes n p d r b =
       let next = stored_if lend d (writer_by r d.numbers) (block_full (wrote_word r)) b in
       cond (is_refused (wrote_word r)) d (cond (packet_written (wrote_word r)) next (packet_calls lend n p next))
@@ -67,13 +66,14 @@ module _ (lend : Lends) where
     is : d ≡ seen e
     short : Short e.writer
 
-  calls_step : (n : ℕ) (p : Packet) (d : Caller) (r : Wrote) (b : List ℕ) → write_of (writer_in d.numbers) p d.block
+  calls_step : (n : ℕ) (p : Packet) (d : Caller) (r : Result Piece Refusal) (b : List ℕ)
+      → write_of (writer_in d.numbers) p d.block
       ≡ r
       → written_of (writer_in d.numbers) p d.block ≡ b → packet_calls lend (suc n) p d ≡ takes n p d r b
   unfolding packet_calls
   calls_step n p d r b q z = rw (q, z)
 
-  run_refused : (n : ℕ) (p : Packet) (e : Desk) → write_of e.writer p e.block ≡ wrote.Refused 21
+  run_refused : (n : ℕ) (p : Packet) (e : Desk) → write_of e.writer p e.block ≡ Err Card
       → packet_run lend (suc n) p e ≡ e
   unfolding packet_run
   run_refused n p e q = rw (q, packet_run)
@@ -82,7 +82,7 @@ module _ (lend : Lends) where
   goes_on n p e done = cond done e (packet_run lend n p e)
 
   run_piece : (n : ℕ) (p : Packet) (e : Desk) (w : Writer) (full done : Bool) → write_of e.writer p e.block
-      ≡ wrote.Piece w full done
+      ≡ Ok (record { next = w; full = full; done = done })
       → packet_run lend (suc n) p e ≡ goes_on n p (after lend e w full (written_of e.writer p e.block)) done
   unfolding packet_run
   run_piece n p e w full done q = rw (q, packet_run)
@@ -103,7 +103,8 @@ module _ (lend : Lends) where
 
       piece : ((d : Desk) → Short d.writer → Same (packet_calls lend n p (seen d)) (packet_run lend n p d))
           → (x : Writer) (full done : Bool) (b : List ℕ) → Short x
-          → Same (takes n p (seen e) (wrote.Piece x full done) b) (goes_on n p (after lend e x full b) done)
+          → Same (takes n p (seen e) (Ok (record { next = x; full = full; done = done })) b) (goes_on n p
+          (after lend e x full b) done)
       piece l x true true b s = record { is = refl; short = s }
       piece l x false true b s = record { is = refl; short = s }
       piece l x true false b s = l (after lend e x true b) s
@@ -115,7 +116,7 @@ module _ (lend : Lends) where
       by l true u =
           let q = wrote_by e.writer p e.block true u in
           record {
-            is = calls_step n p (seen e) (wrote.Refused 21) e.block (same_write ∙ q)
+            is = calls_step n p (seen e) (Err Card) e.block (same_write ∙ q)
                 (same_block ∙ block-by e.writer p e.block true u) ∙ ap seen (sym (run_refused n p e q));
             short = subst (λ (d : Desk). Short d.writer) (sym (run_refused n p e q)) h;
           }
@@ -130,7 +131,7 @@ module _ (lend : Lends) where
           ∙ ap (λ (c : List ℕ). goes_on n p (after lend e (writer_of e.writer k) (full_of e.writer k) c)
           (whole_of e.writer k)) z in
           record {
-            is = calls_step n p (seen e) (piece_wrote e.writer p) b (same_write ∙ q) (same_block ∙ z) ∙ s.is
+            is = calls_step n p (seen e) (Ok (piece_wrote e.writer p)) b (same_write ∙ q) (same_block ∙ z) ∙ s.is
                 ∙ ap seen (sym r);
             short = subst (λ (d : Desk). Short d.writer) (sym r) s.short;
           }
@@ -146,7 +147,7 @@ module _ (lend : Lends) where
       (packets_same ps (packet_run lend (size p) p e) s.short)
 
   -- the last block
-  abbrev last_by : List ℕ → Finished → List ℕ → List ℕ
+  abbrev last_by : List ℕ → Result Bool Refusal → List ℕ → List ℕ
   last_by stored f b = cond (is_refused (finished_word f)) stored (cond (block_full (finished_word f)) (stored ++ b) stored)
 
   last_same : (d : Caller) (e : Desk) → Same d e → last_call d ≡ last_run e

@@ -1,8 +1,8 @@
 -- The recorder as six numbers, the calls' words, and what the caller's numbers are then. A refusal leaves them.
-use Rattle.std.specs.Prelude.{List, [], ◌∷◌, ℕ, ◌%◌, get_or}
+use Rattle.std.specs.Prelude.{List, [], ◌∷◌, ℕ, ◌%◌, get_or, Result, Ok, Err}
 use Rattle.recorder.specs.declared.recorder.Recorder.{Recorder}
-use Rattle.recorder.specs.declared.recorder.Recorded.{Recorded}
-use Rattle.recorder.specs.declared.recorder.Recorded.TheVariants as recorded
+use Rattle.card.specs.declared.refusal.Refusal.{Refusal}
+use Rattle.card.specs.Rows.{row_of}
 use Rattle.survey_c.specs.Words.{refused_word, end_word}
 
 -- number, used, first, from, left, survey; the second and third count modulo 65,536
@@ -20,10 +20,10 @@ unfoldable pub recorder_numbers : Recorder → List ℕ
 recorder_numbers r = r.number ∷ r.used ∷ r.first ∷ r.from ∷ r.left ∷ r.survey ∷ []
 
 -- how many blocks are left to be stored
-abbrev pub recorded_word : Recorded → ℕ
-recorded_word (recorded.Stores r) = end_word r.left
-recorded_word (recorded.Refused row) = refused_word row
+abbrev pub recorded_word : Result Recorder Refusal → ℕ
+recorded_word (Ok r) = end_word r.left
+recorded_word (Err why) = refused_word (row_of why)
 
-abbrev pub recorder_by : Recorded → List ℕ → List ℕ
-recorder_by (recorded.Stores r) old = recorder_numbers r
-recorder_by (recorded.Refused row) old = old
+abbrev pub recorder_by : Result Recorder Refusal → List ℕ → List ℕ
+recorder_by (Ok r) old = recorder_numbers r
+recorder_by (Err why) old = old

@@ -1,14 +1,13 @@
 -- The exported calls' six numbers, carried from call to call, are the recorder; so a card survives them too. Assumes
 -- nothing.
-use Rattle.std.specs.Prelude.{◌≡◌, refl, Bool, true, false, cond, List, [], ◌∷◌, ℕ, ◌+◌, ◌/◌, ◌<◌, ltb, eqb, length}
+use Rattle.std.specs.Prelude.{◌≡◌, refl, Bool, true, false, cond, List, [], ◌∷◌, ℕ, ◌+◌, ◌/◌, ◌<◌, ltb, eqb, length, Result, Ok, Err}
 use Rattle.std.proofs.Common.{sym, ap, subst, ◌∙◌, arith, eq-eqb, ne_eqb}
 use Rattle.std.proofs.lemmas.Bool.{false≢true}
 use Rattle.std.proofs.Math.Decide.{ℕ_discrete}
 use Rattle.card.specs.Packet.{Packet, size, data_of}
 use Rattle.card.specs.Kept.{first_in}
 use Rattle.recorder.specs.declared.recorder.Recorder.{Recorder}
-use Rattle.recorder.specs.declared.recorder.Recorded.{Recorded}
-use Rattle.recorder.specs.declared.recorder.Recorded.TheVariants as recorded
+use Rattle.card.specs.declared.refusal.Refusal.{Refusal}
 use Rattle.recorder.specs.Recording.{stored_of}
 use Rattle.recorder.specs.Survives.{Call, begin, answered, room_after, recorder_after, Held, blocks_of, Act, call, misled}
 use Rattle.recorder.specs.Survives.{store, stepped, run}
@@ -65,11 +64,11 @@ stored_back numbers =
 -- ---- an act
 
 -- an answer that is stored is read back, where the recorder that it gives is small
-answer_back : (numbers : List ℕ) (a : Recorded)
+answer_back : (numbers : List ℕ) (a : Result Recorder Refusal)
     → recorder_in (recorder_numbers (recorder_after a (recorder_in numbers))) ≡ recorder_after a (recorder_in numbers)
     → recorder_in (recorder_by a numbers) ≡ recorder_after a (recorder_in numbers)
-answer_back numbers (recorded.Stores r) e = e
-answer_back numbers (recorded.Refused row) e = refl
+answer_back numbers (Ok r) e = e
+answer_back numbers (Err why) e = refl
 
 abbrev lent_of : List ℕ → List ℕ → List ℕ → Lent
 lent_of numbers room card = record { numbers = numbers; room = room; card = card }

@@ -28,10 +28,8 @@ ghost use Rattle.survey_c.specs.Card.{writer_in, numbers_of, wrote_word, writer_
 ghost use Rattle.survey_c.specs.Card.{start_by, next_word, endpoint_by, place_by};
 
 use bus_time::Time;
-use card::reader::{Batch, Next, Reader, Started};
-use card::writer::{Finished, Wrote};
+use card::reader::Reader;
 use channels::Channel;
-use recorder::recorder::Recorded;
 use rooms::reached;
 use six_numbers::{recorder_in, recorder_numbers};
 use words::{done, ended, refused};
@@ -114,11 +112,11 @@ pub fn usbhs_card_write(writer: &mut [u32; 4], block: &mut [u8], endpoint: u32, 
 {
     let w = writer_in(writer);
     match card::writing::write(w, block, endpoint_of(endpoint), bytes) {
-        Wrote::Refused(row) => refused(row),
-        Wrote::Piece { next, full, done } => {
-            let numbers = numbers_of(next);
+        Err(why) => refused(why.row()),
+        Ok(piece) => {
+            let numbers = numbers_of(piece.next);
             *writer = numbers;
-            ended(result_of(full, done))
+            ended(result_of(piece.full, piece.done))
         }
     }
 }
@@ -129,9 +127,9 @@ pub fn usbhs_card_finish(writer: &[u32; 4], block: &mut [u8]) -> u64
     ensures block_after { block.new ≡ last_of (writer_in writer.now) block.old }
 {
     match card::writing::finish(writer_in(writer), block) {
-        Finished::Refused(row) => refused(row),
-        Finished::Nothing => ended(0),
-        Finished::Last => ended(1),
+        Err(why) => refused(why.row()),
+        Ok(false) => ended(0),
+        Ok(true) => ended(1),
     }
 }
 
@@ -142,8 +140,8 @@ pub fn usbhs_recorder_begin(state: &mut [u32; 6], room: &mut [u8], survey: u32) 
     ensures room_after { room.new ≡ begin_room survey room.old }
 {
     match recorder::recording::begin(survey, room) {
-        Recorded::Refused(row) => refused(row),
-        Recorded::Stores(next) => {
+        Err(why) => refused(why.row()),
+        Ok(next) => {
             let numbers = recorder_numbers(next);
             *state = numbers;
             ended(next.left)
@@ -170,8 +168,8 @@ pub fn usbhs_record(
 {
     let r = recorder_in(state);
     match recorder::recording::record(r, room, endpoint_of(endpoint), bytes, overruns) {
-        Recorded::Refused(row) => refused(row),
-        Recorded::Stores(next) => {
+        Err(why) => refused(why.row()),
+        Ok(next) => {
             let numbers = recorder_numbers(next);
             *state = numbers;
             ended(next.left)
@@ -187,8 +185,8 @@ pub fn usbhs_recorder_finish(state: &mut [u32; 6], room: &mut [u8], overruns: u3
     ensures room_after { room.new ≡ finish_room (recorder_in state.old) overruns room.old }
 {
     match recorder::recording::finish(recorder_in(state), room, overruns) {
-        Recorded::Refused(row) => refused(row),
-        Recorded::Stores(next) => {
+        Err(why) => refused(why.row()),
+        Ok(next) => {
             let numbers = recorder_numbers(next);
             *state = numbers;
             ended(next.left)
@@ -213,8 +211,8 @@ pub fn usbhs_card_start(stream: &[u8], place: &mut usize) -> u64
     ensures place_after { place.new ≡ start_by (start_of stream.now) place.old }
 {
     match card::reading::start(stream) {
-        Started::Refused(row) => refused(row),
-        Started::At(reader) => {
+        Err(why) => refused(why.row()),
+        Ok(reader) => {
             *place = reader.at;
             ended(0)
         }
@@ -233,16 +231,12 @@ pub fn usbhs_card_next(stream: &[u8], place: &mut usize, endpoint: &mut u32, roo
 {
     let reader = Reader { at: *place };
     match card::reading::next_packet(reader, stream, room) {
-        Next::Refused(row) => refused(row),
-        Next::End => ended(0),
-        Next::Packet {
-            endpoint: e,
-            len,
-            then,
-        } => {
-            *endpoint = e as u32;
-            *place = then.at;
-            done(len)
+        Err(why) => refused(why.row()),
+        Ok(None) => ended(0),
+        Ok(Some(packet)) => {
+            *endpoint = packet.endpoint as u32;
+            *place = packet.then.at;
+            done(packet.len)
         }
     }
 }
@@ -267,20 +261,16 @@ pub fn usbhs_card_read(
 {
     let reader = Reader { at: *place };
     match card::batches::next_packets(reader, stream, room) {
-        Batch::Refused(row) => refused(row),
-        Batch::End => {
+        Err(why) => refused(why.row()),
+        Ok(None) => {
             *count = 0;
             *used = 0;
             ended(0)
         }
-        Batch::Packets {
-            count: n,
-            used: bytes,
-            then: behind,
-        } => {
-            *count = n;
-            *used = bytes;
-            *place = behind.at;
+        Ok(Some(batch)) => {
+            *count = batch.count;
+            *used = batch.used;
+            *place = batch.then.at;
             ended(1)
         }
     }

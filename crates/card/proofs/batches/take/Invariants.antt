@@ -4,8 +4,9 @@ use Rattle.card.specs.Batches.{some}
 use Rattle.card.proofs.Taking.{Taking}
 use Rattle.card.proofs.batches.take.Given as goal
 
-abbrev pub invariant-loop-at : goal.invariant-loop-at
-invariant-loop-at l = Taking (view l.stream) (some l.stream l.place (length l.initial.room)) l.initial.room l.room l.count l.used l.d l.first
+abbrev pub invariant-loop-found : goal.invariant-loop-found
+invariant-loop-found l = Taking (view l.stream) (some l.stream l.place
+    (length l.initial.room)) l.initial.room l.room l.count l.used l.d l.first
 
-abbrev pub decreases-loop-at : goal.decreases-loop-at
-decreases-loop-at l = length l.initial.room - l.used
+abbrev pub decreases-loop-found : goal.decreases-loop-found
+decreases-loop-found l = length l.initial.room - l.used

@@ -1,11 +1,12 @@
-use Rattle.std.proofs.Common.{◌-◌}
+use Rattle.std.proofs.Common.{◌-◌, length}
 use Rattle.card.specs.PasteLaws.{Pasted}
 use Rattle.card.specs.Reading.{bytes_from}
 use Rattle.card.specs.Streams.{view}
 use Rattle.card.proofs.reading.copy_data.Given as goal
 
 abbrev pub invariant-loop-i : goal.invariant-loop-i
-invariant-loop-i l = Pasted l.initial.room (bytes_from (view l.stream) l.d l.n) l.at l.n l.room l.i
+invariant-loop-i l = Pasted l.initial.room (bytes_from (view l.stream) l.d (length l.initial.room)) 0
+    (length l.initial.room) l.room l.i
 
 abbrev pub decreases-loop-i : goal.decreases-loop-i
-decreases-loop-i l = l.n - l.i
+decreases-loop-i l = length l.initial.room - l.i

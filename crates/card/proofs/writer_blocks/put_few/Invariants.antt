@@ -1,4 +1,4 @@
-use Rattle.std.proofs.Common.{◌-◌, drop}
+use Rattle.std.proofs.Common.{drop}
 use Rattle.card.specs.Packet.{packet_bytes, packet_of}
 use Rattle.card.specs.PasteLaws.{Pasted}
 use Rattle.card.proofs.writer_blocks.put_few.Given as goal
@@ -6,6 +6,3 @@ use Rattle.card.proofs.writer_blocks.put_few.Given as goal
 abbrev pub invariant-loop-i : goal.invariant-loop-i
 invariant-loop-i l = Pasted l.initial.block (drop l.from (packet_bytes (packet_of l.endpoint l.bytes)))
     l.at l.n l.block l.i
-
-abbrev pub decreases-loop-i : goal.decreases-loop-i
-decreases-loop-i l = l.n - l.i

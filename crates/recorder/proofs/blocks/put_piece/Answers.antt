@@ -1,38 +1,26 @@
-use mathlib.Core.Path.{sym, ◌∙◌}
-use native.Mathlib.Omega.{arith}
+use Rattle.std.proofs.Common.{◌≡◌, sym, ap, ◌∙◌, refl, arith}
+use Rattle.card.specs.declared.writer.Piece.{Piece}
 use Rattle.card.specs.Packet.{packet_of, Writable}
-use Rattle.recorder.specs.RingLaws.{piece-wrote, not-refused, piece-parts}
+use Rattle.card.specs.Writing.{piece_wrote}
+use Rattle.recorder.specs.RingLaws.{piece-wrote}
 use Rattle.recorder.proofs.blocks.put_piece.Goals as goal
 
-pub returns-in-Refused-clause-next_value : goal.returns-in-Refused-clause-next_value
-returns-in-Refused-clause-next_value c =
+pub unwrap-requires : goal.unwrap-requires
+unwrap-requires c =
     let p = packet_of c.args.endpoint c.args.bytes.now in
     let fine : Writable p = record { numbered = omega arith; small = omega arith; short = omega arith } in
     let wrote = piece-wrote c.args.w p c.args.room.now _ _ (omega arith) fine c.write.ensures.value c.write.ensures.block_after in
-    absurd (not-refused c.args.w p _ (sym c.in-Refused.is ∙ wrote.0))
+    rw wrote.0 refl
 
-pub returns-in-Refused-clause-whole_value : goal.returns-in-Refused-clause-whole_value
-returns-in-Refused-clause-whole_value c =
+pub returns : goal.returns
+returns c =
     let p = packet_of c.args.endpoint c.args.bytes.now in
     let fine : Writable p = record { numbered = omega arith; small = omega arith; short = omega arith } in
     let wrote = piece-wrote c.args.w p c.args.room.now _ _ (omega arith) fine c.write.ensures.value c.write.ensures.block_after in
-    absurd (not-refused c.args.w p _ (sym c.in-Refused.is ∙ wrote.0))
-
-pub returns-in-Refused-clause-room_after : goal.returns-in-Refused-clause-room_after
-returns-in-Refused-clause-room_after c =
-    let p = packet_of c.args.endpoint c.args.bytes.now in
-    let fine : Writable p = record { numbered = omega arith; small = omega arith; short = omega arith } in
-    let wrote = piece-wrote c.args.w p c.args.room.now _ _ (omega arith) fine c.write.ensures.value c.write.ensures.block_after in
-    absurd (not-refused c.args.w p _ (sym c.in-Refused.is ∙ wrote.0))
-
-pub returns-in-Piece : goal.returns-in-Piece
-returns-in-Piece c =
-    let p = packet_of c.args.endpoint c.args.bytes.now in
-    let fine : Writable p = record { numbered = omega arith; small = omega arith; short = omega arith } in
-    let wrote = piece-wrote c.args.w p c.args.room.now _ _ (omega arith) fine c.write.ensures.value c.write.ensures.block_after in
-    let parts = piece-parts c.args.w p _ _ _ (sym c.in-Piece.is ∙ wrote.0) in
+    let both = sym c.unwrap.ensures ∙ wrote.0 in
+    let same : c.unwrap.result ≡ piece_wrote c.args.w p = cc in
     record {
-      next_value = parts.0;
-      whole_value = parts.1;
+      next_value = ap (λ (x : Piece). x.next) same;
+      whole_value = ap (λ (x : Piece). x.done) same;
       room_after = wrote.1;
     }
