@@ -1,6 +1,5 @@
 // A recorded list as bytes (oracle/FORMAT.md, "The same as bytes"): 40 bytes for an entry, then what they count.
 // Any bytes are safe: past the list's end all is 0.
-ghost use Rattle.std.specs.Prelude.{◌≤◌};
 
 pub const LIST_LEN: usize = 65536;
 
@@ -21,40 +20,17 @@ pub struct Entry {
     pub changes: u32,
 }
 
-fn wide(b: u8) -> u32
-    ensures { result ≤ 255 }
-{
-    b as u32
-}
-
-fn byte(list: &[u8; LIST_LEN], at: u32, k: usize) -> u32
-    ensures { result ≤ 255 }
-{
-    if k > 255 {
-        return 0;
-    }
-    let i = at as usize + k;
-    if i < LIST_LEN {
-        return wide(list[i]);
-    }
-    0
+fn byte(list: &[u8; LIST_LEN], at: u32, k: u8) -> u8 {
+    list.get(at as usize + k as usize).copied().unwrap_or(0)
 }
 
 // 16 and 32 bits of the entry at this place, from its byte k on, lowest first.
-pub fn short(list: &[u8; LIST_LEN], at: u32, k: usize) -> u32
-    ensures { result ≤ 65535 }
-{
-    if k > 200 {
-        return 0;
-    }
-    byte(list, at, k) + byte(list, at, k + 1) * 256
+fn short(list: &[u8; LIST_LEN], at: u32, k: u8) -> u16 {
+    u16::from_le_bytes([byte(list, at, k), byte(list, at, k.saturating_add(1))])
 }
 
-pub fn number(list: &[u8; LIST_LEN], at: u32, k: usize) -> u32 {
-    if k > 100 {
-        return 0;
-    }
-    short(list, at, k) + short(list, at, k + 2) * 65536
+pub fn number(list: &[u8; LIST_LEN], at: u32, k: u8) -> u32 {
+    u32::from(short(list, at, k)) | u32::from(short(list, at, k.saturating_add(2))) << 16
 }
 
 pub fn entry_at(list: &[u8; LIST_LEN], at: u32) -> Entry {
@@ -63,10 +39,10 @@ pub fn entry_at(list: &[u8; LIST_LEN], at: u32) -> Entry {
     let received = number(list, at, 36);
     let changes = data.wrapping_add(data_len).wrapping_add(received);
     Entry {
-        code: byte(list, at, 0),
-        times: short(list, at, 1),
-        parts: byte(list, at, 3),
-        answer: number(list, at, 24) as u64 + number(list, at, 28) as u64 * 0x100000000,
+        code: u32::from(byte(list, at, 0)),
+        times: u32::from(short(list, at, 1)),
+        parts: u32::from(byte(list, at, 3)),
+        answer: u64::from(number(list, at, 24)) | u64::from(number(list, at, 28)) << 32,
         data,
         data_len,
         changes,

@@ -121,10 +121,10 @@ fn summed(rt: &impl Print, title: &str, c: Counts) -> io::Result<()> {
 }
 
 // The samples that the chip stores.
-fn sent(c: Counts, list: &[u8; LIST_LEN], e: Entry) -> Counts {
+fn send(stores: &mut Counts, list: &[u8; LIST_LEN], e: Entry) {
     let mut packet = [0u8; 1024];
     list::copy(list, e.data, e.data_len, &mut packet, 0);
-    packets::counted(c, &packet, e.data_len)
+    stores.count(&packet, e.data_len);
 }
 
 fn run(rt: &impl Print, list: &[u8; LIST_LEN], len: u32) -> io::Result<()> {
@@ -132,11 +132,7 @@ fn run(rt: &impl Print, list: &[u8; LIST_LEN], len: u32) -> io::Result<()> {
     let mut time = [0u16; TIME_LEN];
     let mut port = Side::new();
     let mut rust = Side::new();
-    let mut stores = Counts {
-        packets: 0,
-        samples: 0,
-        flat: 0,
-    };
+    let mut stores = Counts::default();
     let mut answers: u32 = 0;
     let mut differing: u32 = 0;
     let mut at: u32 = 0;
@@ -147,7 +143,7 @@ fn run(rt: &impl Print, list: &[u8; LIST_LEN], len: u32) -> io::Result<()> {
                 let to = number(list, at, 4);
                 list::store(list, e.data, e.data_len, &mut port.slots, to);
                 list::store(list, e.data, e.data_len, &mut rust.slots, to);
-                stores = sent(stores, list, e);
+                send(&mut stores, list, e);
             } else {
                 for _ in 0..e.times {
                     let own = made(list, at, e.code, &mut s, &mut port.slots, &mut time);

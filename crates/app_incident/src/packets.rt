@@ -3,41 +3,30 @@
 pub const CARD_LEN: usize = 8192;
 
 // What is counted of an export.
-#[derive(Clone, Copy)]
+#[derive(Clone, Copy, Default)]
 pub struct Counts {
     pub packets: u32,
     pub samples: u32,
     pub flat: u32,
 }
 
-// Is the sample with these two bytes, lowest first, at full scale?
-fn flat(low: u8, high: u8) -> bool {
-    if high == 0x7F {
-        return low == 0xFF;
-    }
-    if high == 0x80 {
-        return low <= 1;
-    }
-    false
-}
-
-// One packet more, of so many bytes.
-pub fn counted(c: Counts, packet: &[u8; 1024], len: u32) -> Counts {
-    let mut flats = c.flat;
-    let mut samples = c.samples;
-    for k in 0..512usize {
-        if k * 2 + 2 <= len as usize {
-            samples = samples.wrapping_add(1);
-            if flat(packet[k * 2], packet[k * 2 + 1]) {
-                flats = flats.wrapping_add(1);
+impl Counts {
+    // One packet more, the front of these bytes.
+    pub fn count(&mut self, packet: &[u8], len: u32) {
+        self.packets = self.packets.wrapping_add(1);
+        let len = packet.len().min(len as usize);
+        for pair in packet[..len].chunks_exact(2) {
+            self.samples = self.samples.wrapping_add(1);
+            if is_flat(i16::from_le_bytes([pair[0], pair[1]])) {
+                self.flat = self.flat.wrapping_add(1);
             }
         }
     }
-    Counts {
-        packets: c.packets.wrapping_add(1),
-        samples,
-        flat: flats,
-    }
+}
+
+// Is the sample at full scale?
+fn is_flat(sample: i16) -> bool {
+    sample == i16::MAX || sample <= i16::MIN + 1
 }
 
 // A block goes to its place.
@@ -101,11 +90,7 @@ fn next(stream: &[u8], place: &mut usize, endpoint: &mut u32, room: &mut [u8; 10
 }
 
 fn read(stream: &[u8]) -> Counts {
-    let mut c = Counts {
-        packets: 0,
-        samples: 0,
-        flat: 0,
-    };
+    let mut c = Counts::default();
     let mut room = [0u8; 1024];
     let mut place: usize = 0;
     let mut endpoint: u32 = 0;
@@ -115,7 +100,7 @@ fn read(stream: &[u8]) -> Counts {
         if word % 16 != 7 {
             return c;
         }
-        c = counted(c, &room, (word / 256 % 65536) as u32);
+        c.count(&room, (word / 256 % 65536) as u32);
     }
     c
 }

@@ -45,12 +45,17 @@ fn advances(rt: &impl Print) -> io::Result<()> {
     answer(rt, "advance from 5 to 4", advance(5, 4))
 }
 
-// The length by marks of a packet stored in a marked slot whose maximum is 8.
-fn length(packet: &[u8]) -> u16 {
+// A marked slot whose maximum is 8, with a packet stored in it.
+fn stored(packet: &[u8]) -> [u8; 8] {
     let mut slot = [0u8; 8];
     ring::marks::iso_out_arm(&mut slot, 0, 8);
     ring::marks::copy_in(&mut slot, 0, packet);
-    ring::marks::marked_len(&slot, 0, 8)
+    slot
+}
+
+// The length by marks of a packet that is stored.
+fn length(packet: &[u8]) -> u16 {
+    ring::marks::marked_len(&stored(packet), 0, 8)
 }
 
 fn lengths(rt: &impl Print) -> io::Result<()> {
@@ -71,12 +76,9 @@ fn lengths(rt: &impl Print) -> io::Result<()> {
     )
 }
 
-// Does a packet, stored in the marked slot, arrive?
+// Does a packet that is stored arrive?
 fn arrives(packet: &[u8]) -> bool {
-    let mut slot = [0u8; 8];
-    ring::marks::iso_out_arm(&mut slot, 0, 8);
-    ring::marks::copy_in(&mut slot, 0, packet);
-    !ring::marks::is_marked(&slot, 0)
+    !ring::marks::is_marked(&stored(packet), 0)
 }
 
 fn arrival(rt: &impl Print, question: &str, packet: &[u8]) -> io::Result<()> {

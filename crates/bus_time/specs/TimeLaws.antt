@@ -1,8 +1,6 @@
 -- Laws of the record: its length stays, a charge counts once, what is kept is no more than it was. Assumes nothing.
 use Rattle.std.specs.Prelude.{Bool, true, false, cond, List, ◌⊎◌, ◌≡◌, refl, ℕ, zero, suc, ◌+◌, ◌-◌, ◌*◌, ◌%◌, ◌≤◌, ◌<◌, length, get_or, set}
 use Rattle.std.proofs.Common.{inl, inr, ⊎_elim, ap, sym, ◌∙◌, mod-eq_of_lt, add-one, arith, length-set, get_or-set_same, get_or-set_other, ltb-false}
-use Rattle.std.proofs.Math.Decide.{dec_lt}
-use Rattle.std.proofs.lemmas.Bool.{cases_lt}
 use Rattle.bits.specs.Bit.{bit_is_set}
 use Rattle.bus_time.specs.Time.{total, is_in_use, passes, entry_kept, kept, keep_of}
 
@@ -47,10 +45,11 @@ unfolding entry_kept
 returns-where config bit charge l h = simp (tested config bit false l h)
 
 either : (k n : ℕ) → k < suc n → (k < n) ⊎ (k ≡ n)
-either k n h = elim (dec_lt k n) [
-  | yes l ↦ inl l
-  | no l ↦ inr (omega arith)
-]
+either zero zero h = inr refl
+either zero (suc n) h = inl (omega arith)
+either (suc k) zero h = absurd (omega arith)
+either (suc k) (suc n) h = ⊎_elim (λ (e : k < n). inl (omega arith)) (λ (e : k ≡ n). inr (ap suc e))
+    (either k n (omega arith))
 
 -- a charge is part of the total
 pub part_of : (t : List ℕ) (k n : ℕ) → k < n → get_or t k 0 ≤ total t n
@@ -125,9 +124,15 @@ kept-le config first n t k l =
     (λ (a : first ≤ k). ⊎_elim
     (λ (b : k < first + n). inside (k - first) (omega arith) (omega arith))
     (λ (b : first + n ≤ k). omega (arith, kept_out config first n t k (inr b)))
-    (cases_lt k (first + n)))
-    (cases_lt k first)
+    (lt-or-le k (first + n)))
+    (lt-or-le k first)
   where
+    lt-or-le : (a b : ℕ) → (a < b) ⊎ (b ≤ a)
+    lt-or-le a zero = inr (omega arith)
+    lt-or-le zero (suc b) = inl (omega arith)
+    lt-or-le (suc a) (suc b) = ⊎_elim (λ (h : a < b). inl (omega arith)) (λ (h : b ≤ a). inr (omega arith))
+        (lt-or-le a b)
+
     inside : (p : ℕ) → k ≡ first + p → p < n → get_or (kept config first n t) k 0 ≤ get_or t k 0
     inside p e h = rw e (omega (arith, kept_in config first n t p l h, entry-le config p (get_or t (first + p) 0)))
 

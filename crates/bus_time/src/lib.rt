@@ -17,25 +17,26 @@ pub type Time = [u16; TIME_LEN];
 // The byte-times of a microframe that periodic transfers may use (USB 2.0, chapter 5).
 const PERIODIC: u32 = 6000;
 
-// Two kinds of endpoints, as a state has them: a byte, and any may stand there, so no enum.
 const ISOCHRONOUS: u8 = 1;
 
 const INTERRUPT: u8 = 3;
 
 // What an endpoint of a kind is charged once a microframe.
-fn charge_of(kind: u8, maximum: u16) -> u32
+pub fn charge_of(kind: u8, maximum: u16) -> u32
     ensures value { result ≡ charge_of kind maximum }
     ensures upper_bound { result ≤ 65590 }
 {
-    match kind {
-        ISOCHRONOUS => maximum as u32 + 38,
-        INTERRUPT => maximum as u32 + 55,
-        _ => 0,
+    if kind == ISOCHRONOUS {
+        return maximum as u32 + 38;
     }
+    if kind == INTERRUPT {
+        return maximum as u32 + 55;
+    }
+    0
 }
 
 // The place in the record of a driver's endpoint: the driver's number counts modulo 4, the endpoint's modulo 16.
-fn entry(driver: u32, dir: Dir, e: u32) -> usize
+pub fn entry(driver: u32, dir: Dir, e: u32) -> usize
     ensures value { result ≡ entry_of driver dir e }
     ensures upper_bound { result < 128 }
 {
@@ -45,41 +46,11 @@ fn entry(driver: u32, dir: Dir, e: u32) -> usize
     }
 }
 
-// What an endpoint is charged, and its place in the record.
-#[derive(Clone, Copy, Debug, PartialEq, Eq)]
-pub struct Charge {
-    pub amount: u32,
-    pub at: usize,
-    pub ghost amount_bound: { amount ≤ 65590 },
-    pub ghost at_bound: { at < 128 },
-}
-
-impl Charge {
-    // That of a driver's endpoint, of this kind and maximum.
-    pub fn new(driver: u32, dir: Dir, e: u32, kind: u8, maximum: u16) -> Charge
-        ensures amount { result.amount ≡ charge_of kind maximum }
-        ensures at { result.at ≡ entry_of driver dir e }
-    {
-        Charge {
-            amount: charge_of(kind, maximum),
-            at: entry(driver, dir, e),
-        }
-    }
-
-    // Would it pass the limit? (row 19)
-    pub fn passes(self, time: &Time) -> bool
-        ensures { result ≡ passes time.now self.at self.amount }
-    {
-        PERIODIC + (time[self.at] as u32) < in_use(time) + self.amount
-    }
-
-    // Enters it in the record.
-    pub fn enter(self, time: &mut Time)
-        requires { self.amount < 65536 }
-        ensures { time.new ≡ set time.old self.at self.amount }
-    {
-        time[self.at] = self.amount as u16;
-    }
+fn wide(charge: u16) -> u32
+    ensures value { result ≡ charge }
+    ensures upper_bound { result ≤ 65535 }
+{
+    charge as u32
 }
 
 // The bus time in use: the sum of all endpoints' charges.
@@ -88,18 +59,41 @@ pub fn in_use(time: &Time) -> u32
     ensures upper_bound { result ≤ 8388480 }
 {
     let mut sum: u32 = 0;
-    // no `for &charge in time`: its index has 64 bits, and takes 11 instructions of RV32 a charge where this takes 4
-    for k in 0..128u32 {
-        sum += time[k as usize] as u32;
+    let mut k: u32 = 0; // half as wide as an index
+    while k < 128 {
+        let at = k as usize;
+        sum += wide(time[at]);
+        k += 1;
     }
     sum
+}
+
+// Would the charge at this place pass the limit? (row 19)
+pub fn passes(time: &Time, at: usize, charge: u32) -> bool
+    requires at_bound { at < 128 }
+    requires charge_bound { charge ≤ 65590 }
+    ensures { result ≡ passes time.now at charge }
+{
+    PERIODIC + wide(time[at]) < in_use(time) + charge
+}
+
+// The charge at this place.
+pub fn charge(time: &mut Time, at: usize, charge: u32)
+    requires at_bound { at < 128 }
+    requires charge_bound { charge < 65536 }
+    ensures { time.new ≡ set time.old at charge }
+{
+    time[at] = charge as u16;
 }
 
 fn entry_kept(charge: u16, config: u32, bit: u8) -> u16
     requires { bit < 32 }
     ensures { result ≡ entry_kept config bit charge }
 {
-    if bits::is_set(config, bit) { charge } else { 0 }
+    if bits::is_set(config, bit) {
+        return charge;
+    }
+    0
 }
 
 // Of the driver's charges those stay whose bit is set in the word of ep_config.
@@ -107,8 +101,10 @@ pub fn keep(time: &mut Time, driver: u32, config: u32)
     ensures { time.new ≡ keep_of driver config time.old }
 {
     let first = (driver % 4) as usize * 32;
-    for bit in 0..32 {
+    let mut bit: u8 = 0;
+    while bit < 32 {
         let at = first + bit as usize;
         time[at] = entry_kept(time[at], config, bit);
+        bit += 1;
     }
 }

@@ -1,6 +1,5 @@
-ghost use Rattle.std.specs.Prelude.{◌≡◌, [], ℕ, ◌<◌};
+ghost use Rattle.std.specs.Prelude.{◌≡◌, [], ℕ, ◌≤◌, ◌<◌};
 ghost use Rattle.regs.specs.declared.Reg.TheVariants.{EpConfig};
-ghost use Rattle.bus_time.specs.Time.{entry_of};
 ghost use Rattle.state.specs.Driver.{Driver};
 ghost use Rattle.state.specs.State.{view};
 ghost use Rattle.script.specs.Every.{same_reg};
@@ -9,28 +8,28 @@ ghost use Rattle.calls.specs.Sharing.{charge_on, starting, going, written, time_
 ghost use Rattle.calls.specs.Charging.{charged_at};
 
 use answer::Step;
-use bus_time::{Charge, Time, keep};
+use bus_time::{Time, charge, charge_of, keep};
 use regs::registers::number;
 use regs::{Access, Dir, Reg};
 use state::State;
 
-// What a driver's endpoint is charged; its number counts modulo 16.
-pub fn charge_on(s: &State, driver: u32, dir: Dir, e: u32) -> Charge
-    ensures amount { result.amount ≡ charge_on (view s.now) dir e }
-    ensures at { result.at ≡ entry_of driver dir e }
+// What the endpoint is charged; its number counts modulo 16.
+pub fn charge_on(s: &State, dir: Dir, e: u32) -> u32
+    ensures value { result ≡ charge_on (view s.now) dir e }
+    ensures upper_bound { result ≤ 65590 }
 {
     let r = state::load_ep(s, dir, (e % 16) as u8);
-    Charge::new(driver, dir, e, r.kind, r.max_len)
+    charge_of(r.kind, r.max_len)
 }
 
 // An enabling: charged where it is begun.
-pub fn charged(time: &mut Time, charge: Charge, step: Step)
-    requires { charge.amount < 65536 }
-    ensures { (x : Driver) → time.new
-        ≡ charged_at (answer_of step [] x) charge.at charge.amount time.old }
+pub fn charged(time: &mut Time, at: usize, c: u32, step: Step)
+    requires at_bound { at < 128 }
+    requires c_bound { c < 65536 }
+    ensures { (x : Driver) → time.new ≡ charged_at (answer_of step [] x) at c time.old }
 {
     match step {
-        Step::Asks(_q) => charge.enter(time),
+        Step::Asks(_q) => charge(time, at, c),
         _ => {}
     }
 }

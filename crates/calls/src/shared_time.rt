@@ -13,7 +13,7 @@ ghost use Rattle.calls.specs.Accepts.{accepts};
 
 use crate::charges::{charge_on, charged, started};
 use answer::Step;
-use bus_time::Time;
+use bus_time::{Time, entry, passes};
 use machine::stops::{slots_fit, stop};
 use regs::Dir;
 use script_ops::rows;
@@ -65,15 +65,16 @@ fn enable(s: &mut State, slots: &mut [u8], time: &mut Time, driver: u32, dir: Di
     ensures { SharedStep result driver (begin (slotted (SetEnabled dir e true))) s.old s.new
         slots.old slots.new time.old time.new }
 {
-    let charge = charge_on(s, driver, dir, e);
-    if charge.passes(time) {
+    let at = entry(driver, dir, e);
+    let charge = charge_on(s, dir, e);
+    if passes(time, at, charge) {
         if is_accepted(s, slots, dir, e) {
             return Step::Refused(rows::BUS_TIME);
         }
         return crate::bus_begins::begin_set_enabled(s, slots, dir, e, true);
     }
     let step = crate::bus_begins::begin_set_enabled(s, slots, dir, e, true);
-    charged(time, charge, step);
+    charged(time, at, charge, step);
     step
 }
 

@@ -91,28 +91,24 @@ fn with_word(s: Sums, bytes: &[u8], i: usize) -> Sums
 }
 
 // What the whole words of these bytes make of the remainder, from the seed on; four words at a turn while there are as
-// many. By while, for speed: a for over the turns takes 45 instructions more a block on RV32, of 3,976.
+// many: for speed.
 fn whole_words(bytes: &[u8]) -> u16
     ensures { over result (drop (length bytes.now / 4 * 4) bytes.now)
         ≡ over 65535 bytes.now }
 {
-    let fours = bytes.len() / 16 * 16;
-    let end = bytes.len() / 4 * 4;
     let mut s = Sums {
         sum: 0xFFFF,
         words: 0,
     };
-    let mut i = 0;
-    while i < fours {
+    for four in 0..bytes.len() / 16 {
+        let i = four * 16;
         s = with_word(s, bytes, i);
         s = with_word(s, bytes, i + 4);
         s = with_word(s, bytes, i + 8);
         s = with_word(s, bytes, i + 12);
-        i += 16;
     }
-    while i < end {
-        s = with_word(s, bytes, i);
-        i += 4;
+    for one in bytes.len() / 16 * 4..bytes.len() / 4 {
+        s = with_word(s, bytes, one * 4);
     }
     settle(s.sum, s.words)
 }

@@ -143,7 +143,7 @@ pub fn copy_run(stream: &[u8], from: usize, room: &mut [u8])
     requires { from + length room.old ≤ length stream.now }
     ensures { room.new ≡ take (length room.old) (drop from stream.now) }
 {
-    // Not copy_from_slice: it calls memmove, and those who link the archive bring memcpy and memset alone.
+    // Not copy_from_slice: of a length that is not known it calls memmove, which those who link need not have.
     for i in 0..room.len() {
         room[i] = stream[from + i];
     }

@@ -6,7 +6,7 @@ ghost use Rattle.card.specs.Packet.{packet_bytes, packet_of};
 ghost use Rattle.card.specs.Written.{body, sealed};
 ghost use Rattle.card.specs.Writing.{closed};
 
-// Not the library's min: with it a write takes six instructions more, and misses its budget (tests/chip/budgets).
+// Not the library's min: with it a write takes 216 instructions on x86-64, where tests/chip/budgets has 211.
 pub fn least(a: u16, b: u16) -> u16
     ensures { result ≡ min a b }
 {

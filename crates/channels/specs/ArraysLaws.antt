@@ -1,5 +1,5 @@
--- A search over two arrays that are filled from the lent list sees the list's numbers. `sets::Search` reads the list itself
--- and needs none of this: these are the laws of an array's search, as they stood. Assumes nothing.
+-- Two arrays that are filled from the lent list have the list's numbers. `sets::Search` reads the list itself and needs
+-- none of this. Assumes nothing.
 use Rattle.std.specs.Prelude.{◌≡◌, refl, List, ℕ, zero, suc, ◌≤◌, ◌<◌, length, set, replicate, get_or}
 use Rattle.std.proofs.Common.{sym, ap, ◌∙◌, arith, length-set, get_or-set_same, get_or-set_other}
 use Rattle.std.proofs.Math.Decide.{dec_lt}
@@ -48,8 +48,8 @@ charges-filled cs (suc i) = rw (charges-filled cs i)
 
 module _ (cs : List Channel) (few : length cs ≤ 16) where
   -- an array filled with a field of each channel has it, and 0 behind the last
-  field-read : (f : Channel → ℕ) (l : List ℕ) → f none ≡ 0 → l ≡ filled (λ i. f (get_or cs i none)) (length cs) → (i : ℕ)
-      → listed l i ≡ f (get_or cs i none)
+  field-read : (f : Channel → ℕ) (l : List ℕ) → f none ≡ 0 → l ≡ filled (λ i. f (get_or cs i none)) (length cs)
+      → (i : ℕ) → listed l i ≡ f (get_or cs i none)
   field-read f l z e i = elim (dec_lt i (length cs)) [
     | yes g ↦ rw e (filled-each (λ j. f (get_or cs j none)) (length cs) few i g)
     | no g ↦ rw e (filled-behind (λ j. f (get_or cs j none)) (length cs) i (omega arith) ∙ sym z

@@ -1,64 +1,52 @@
 // An access as a person reads it.
-use crate::registers;
-use crate::text::{hex, number, print};
-use regs::{Access, Reg};
-use std::io;
+use crate::registers::{Meaning, Register, Value};
+use regs::Access;
+use std::fmt;
 
-// The endpoint of a register that there is one of for each.
-fn endpoint(rt: &impl Print, e: u8) -> io::Result<()> {
-    print(rt, b"(")?;
-    number(rt, e as u32)?;
-    print(rt, b")")
-}
+// The endpoint of a buffer's address, but for EP0's.
+#[derive(Clone, Copy)]
+struct Endpoint(u8);
 
-fn register(rt: &impl Print, reg: Reg, e: u8) -> io::Result<()> {
-    registers::name(rt, reg)?;
-    if registers::has_endpoint(reg) {
-        endpoint(rt, e)
-    } else {
-        Ok(())
-    }
-}
-
-fn write(rt: &impl Print, reg: Reg, e: u8, x: u32) -> io::Result<()> {
-    print(rt, b"write ")?;
-    register(rt, reg, e)?;
-    print(rt, b" = ")?;
-    registers::value(rt, reg, x)?;
-    print(rt, b"  ")?;
-    registers::meaning(rt, reg, x)
-}
-
-// A buffer's address: an offset into the slots.
-fn address(rt: &impl Print, what: &[u8], e: u8, x: u32, meaning: &[u8]) -> io::Result<()> {
-    print(rt, b"write ")?;
-    print(rt, what)?;
-    if e != 0 {
-        endpoint(rt, e)?;
-    }
-    print(rt, b" = ")?;
-    hex(rt, x, 8)?;
-    print(rt, meaning)?;
-    number(rt, x)
-}
-
-fn wait(rt: &impl Print, microseconds: u8) -> io::Result<()> {
-    print(rt, b"wait ")?;
-    number(rt, microseconds as u32)?;
-    print(rt, b" us")
-}
-
-pub fn access(rt: &impl Print, q: Access) -> io::Result<()> {
-    match q {
-        Access::Read(reg, e) => {
-            print(rt, b"read ")?;
-            register(rt, reg, e)
+impl fmt::Display for Endpoint {
+    fn fmt<W: fmt::Write>(&self, f: &mut fmt::Formatter<W>) -> fmt::Result {
+        match self.0 {
+            0 => Ok(()),
+            e => write!(f, "({e})"),
         }
-        Access::Write(reg, e, x) => write(rt, reg, e, x),
-        Access::Receive(e, x) => address(rt, b"ep_rx_dma", e, x, b"  receives at slot byte "),
-        Access::Transmit(e, x) => address(rt, b"ep_tx_dma", e, x, b"  sends from slot byte "),
-        Access::Ep0Dma(x) => address(rt, b"ep0_dma", 0, x, b"  EP0's buffer at slot byte "),
-        Access::Wait(n) => wait(rt, n),
-        Access::Callback => print(rt, b"start-of-frame callback"),
+    }
+}
+
+// An access with what its value says. A buffer's address is an offset into the slots.
+#[derive(Clone, Copy)]
+pub struct Shown(pub Access);
+
+impl fmt::Display for Shown {
+    fn fmt<W: fmt::Write>(&self, f: &mut fmt::Formatter<W>) -> fmt::Result {
+        match self.0 {
+            Access::Read(reg, e) => write!(f, "read {}", Register(reg, e)),
+            Access::Write(reg, e, x) => write!(
+                f,
+                "write {} = {}  {}",
+                Register(reg, e),
+                Value(reg, x),
+                Meaning(reg, x)
+            ),
+            Access::Receive(e, x) => write!(
+                f,
+                "write ep_rx_dma{} = {x:#010x}  receives at slot byte {x}",
+                Endpoint(e)
+            ),
+            Access::Transmit(e, x) => write!(
+                f,
+                "write ep_tx_dma{} = {x:#010x}  sends from slot byte {x}",
+                Endpoint(e)
+            ),
+            Access::Ep0Dma(x) => write!(
+                f,
+                "write ep0_dma = {x:#010x}  EP0's buffer at slot byte {x}"
+            ),
+            Access::Wait(n) => write!(f, "wait {n} us"),
+            Access::Callback => f.write_str("start-of-frame callback"),
+        }
     }
 }

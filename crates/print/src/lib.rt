@@ -1,10 +1,9 @@
-// The chip's registers and accesses in words, written to standard output.
-// No function here has an `ensures`: what is written has no place in a contract. Proved is that none traps or runs on,
-// for any argument; what is written is compared with a file (`crates/app_readout/stdout`). Where one answers a bool, it
-// only says which words come next.
+// The chip's registers and accesses, and what a call answers, in words: each a type with an `impl Display`.
+// No text stands in a contract. Proved is that none traps or runs on, for any value; what is written is compared with a
+// file (`crates/app_readout/stdout`).
 #![tactic(auto)]
 
-pub mod accesses; // accesses.rt: an access, with the value's meaning
-pub mod registers; // registers.rt: names, values, meanings
-pub mod text; // text.rt: text and numbers
+mod accesses; // accesses.rt: an access, with the value's meaning
+mod registers; // registers.rt: names, values, meanings
+mod text; // text.rt: lists
 pub mod answers; // answers.rt: a call's answer in words

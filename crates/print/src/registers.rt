@@ -1,134 +1,148 @@
 // The registers as a person reads them: the name, the value's digits, what the value says.
-use crate::text::{endpoints, hex, item, items, none, number, print};
+use crate::text::{Endpoints, Named};
 use regs::Reg;
-use std::io;
+use std::fmt;
 
-pub fn name(rt: &impl Print, reg: Reg) -> io::Result<()> {
-    match reg {
-        Reg::IntFg => print(rt, b"int_fg"),
-        Reg::IntSt => print(rt, b"int_st"),
-        Reg::MisSt => print(rt, b"mis_st"),
-        Reg::RxLen => print(rt, b"rx_len"),
-        Reg::FrameNo => print(rt, b"frame_no"),
-        Reg::Ctrl => print(rt, b"ctrl"),
-        Reg::IntEn => print(rt, b"int_en"),
-        Reg::DevAd => print(rt, b"dev_ad"),
-        Reg::HostCtrl => print(rt, b"host_ctrl"),
-        Reg::EpConfig => print(rt, b"ep_config"),
-        Reg::EpType => print(rt, b"ep_type"),
-        Reg::EpBufMod => print(rt, b"ep_buf_mod"),
-        Reg::EpMaxLen => print(rt, b"ep_max_len"),
-        Reg::EpTLen => print(rt, b"ep_t_len"),
-        Reg::EpRxCtrl => print(rt, b"ep_rx_ctrl"),
-        Reg::EpTxCtrl => print(rt, b"ep_tx_ctrl"),
-    }
-}
+const FLAGS: [&str; 6] = [
+    "bus reset",
+    "transfer",
+    "suspend",
+    "host start of frame",
+    "FIFO overflow",
+    "setup",
+];
 
-// Is there one of it for each endpoint?
-pub fn has_endpoint(reg: Reg) -> bool {
-    match reg {
-        Reg::EpMaxLen => true,
-        Reg::EpTLen => true,
-        Reg::EpRxCtrl => true,
-        Reg::EpTxCtrl => true,
-        _ => false,
-    }
-}
+const CONTROL: [&str; 6] = [
+    "clear all",
+    "reset the SIE",
+    "NAK while an interrupt waits",
+    "DMA",
+    "high speed",
+    "pull-up",
+];
 
-pub fn value(rt: &impl Print, reg: Reg, x: u32) -> io::Result<()> {
-    match reg {
-        Reg::EpConfig => hex(rt, x, 8),
-        Reg::EpType => hex(rt, x, 8),
-        Reg::EpBufMod => hex(rt, x, 8),
-        Reg::EpMaxLen => hex(rt, x, 4),
-        Reg::EpTLen => hex(rt, x, 4),
-        _ => hex(rt, x, 2),
-    }
-}
+const INTERRUPTS: [&str; 7] = [
+    "NAK",
+    "FIFO overflow",
+    "setup",
+    "suspend",
+    "bus reset",
+    "transfer",
+    "start of frame",
+];
 
-fn flags(rt: &impl Print, x: u32) -> io::Result<()> {
-    print(rt, b"clears ")?;
-    items(
-        rt,
-        x,
-        b"bus reset,transfer,suspend,host start of frame,FIFO overflow,setup,",
-    )
-}
+// A register's name; where there is one for each endpoint, with the endpoint's number.
+#[derive(Clone, Copy)]
+pub struct Register(pub Reg, pub u8);
 
-fn control(rt: &impl Print, x: u32) -> io::Result<()> {
-    items(
-        rt,
-        x,
-        b"clear all,reset the SIE,NAK while an interrupt waits,DMA,high speed,pull-up,",
-    )
-}
-
-fn enables(rt: &impl Print, x: u32) -> io::Result<()> {
-    print(rt, b"interrupts: ")?;
-    items(
-        rt,
-        x,
-        b"NAK,FIFO overflow,setup,suspend,bus reset,transfer,start of frame,",
-    )
-}
-
-// bit e: IN e, bit 16 + e: OUT e
-fn both(rt: &impl Print, what: &[u8], x: u32) -> io::Result<()> {
-    print(rt, what)?;
-    let outs = endpoints(rt, regs::enables::out_enabled(x, 0xFFFF), b"OUT ", false)?;
-    let any = endpoints(rt, regs::enables::in_enabled(x, 0xFFFF), b"IN ", outs)?;
-    none(rt, any)
-}
-
-fn response(rt: &impl Print, x: u32) -> io::Result<()> {
-    match x & 3 {
-        0 => print(rt, b"ACK"),
-        1 => print(rt, b"isochronous, no handshake"),
-        2 => print(rt, b"NAK"),
-        _ => print(rt, b"STALL"),
-    }
-}
-
-fn toggle(rt: &impl Print, x: u32) -> io::Result<()> {
-    match x >> 2 & 3 {
-        0 => Ok(()),
-        1 => print(rt, b", DATA1"),
-        _ => print(rt, b", other toggle"),
-    }
-}
-
-fn control_word(rt: &impl Print, x: u32) -> io::Result<()> {
-    response(rt, x)?;
-    toggle(rt, x)?;
-    item(rt, x, 4, b"automatic toggle", true)?;
-    Ok(())
-}
-
-fn length(rt: &impl Print, x: u32) -> io::Result<()> {
-    number(rt, x)?;
-    print(rt, b" bytes")
-}
-
-pub fn meaning(rt: &impl Print, reg: Reg, x: u32) -> io::Result<()> {
-    match reg {
-        Reg::IntFg => flags(rt, x),
-        Reg::Ctrl => control(rt, x),
-        Reg::IntEn => enables(rt, x),
-        Reg::DevAd => {
-            print(rt, b"device address ")?;
-            number(rt, x)
+impl fmt::Display for Register {
+    fn fmt<W: fmt::Write>(&self, f: &mut fmt::Formatter<W>) -> fmt::Result {
+        let e = self.1;
+        match self.0 {
+            Reg::IntFg => f.write_str("int_fg"),
+            Reg::IntSt => f.write_str("int_st"),
+            Reg::MisSt => f.write_str("mis_st"),
+            Reg::RxLen => f.write_str("rx_len"),
+            Reg::FrameNo => f.write_str("frame_no"),
+            Reg::Ctrl => f.write_str("ctrl"),
+            Reg::IntEn => f.write_str("int_en"),
+            Reg::DevAd => f.write_str("dev_ad"),
+            Reg::HostCtrl => f.write_str("host_ctrl"),
+            Reg::EpConfig => f.write_str("ep_config"),
+            Reg::EpType => f.write_str("ep_type"),
+            Reg::EpBufMod => f.write_str("ep_buf_mod"),
+            Reg::EpMaxLen => write!(f, "ep_max_len({e})"),
+            Reg::EpTLen => write!(f, "ep_t_len({e})"),
+            Reg::EpRxCtrl => write!(f, "ep_rx_ctrl({e})"),
+            Reg::EpTxCtrl => write!(f, "ep_tx_ctrl({e})"),
         }
-        Reg::HostCtrl => {
-            item(rt, x, 0, b"the PHY is awake", false)?;
-            Ok(())
+    }
+}
+
+// A register's value, in as many digits as the register has.
+#[derive(Clone, Copy)]
+pub struct Value(pub Reg, pub u32);
+
+impl fmt::Display for Value {
+    fn fmt<W: fmt::Write>(&self, f: &mut fmt::Formatter<W>) -> fmt::Result {
+        let x = self.1;
+        match self.0 {
+            Reg::EpConfig | Reg::EpType | Reg::EpBufMod => write!(f, "{x:#010x}"),
+            Reg::EpMaxLen | Reg::EpTLen => write!(f, "{x:#06x}"),
+            _ => write!(f, "{x:#04x}"),
         }
-        Reg::EpConfig => both(rt, b"enabled: ", x),
-        Reg::EpType => both(rt, b"isochronous: ", x),
-        Reg::EpBufMod => print(rt, b"one buffer for each direction"),
-        Reg::EpMaxLen => length(rt, x),
-        Reg::EpTLen => length(rt, x),
-        Reg::EpRxCtrl => control_word(rt, x),
-        Reg::EpTxCtrl => control_word(rt, x),
-        _ => Ok(())
+    }
+}
+
+// What an endpoint answers by its control word: the handshake, then the toggle.
+#[derive(Clone, Copy)]
+struct ControlWord(u32);
+
+impl fmt::Display for ControlWord {
+    fn fmt<W: fmt::Write>(&self, f: &mut fmt::Formatter<W>) -> fmt::Result {
+        f.write_str(match self.0 & 3 {
+            0 => "ACK",
+            1 => "isochronous, no handshake",
+            2 => "NAK",
+            _ => "STALL",
+        })?;
+        f.write_str(match self.0 >> 2 & 3 {
+            0 => "",
+            1 => ", DATA1",
+            _ => ", other toggle",
+        })?;
+        f.write_str(if bits::is_set(self.0, 4) {
+            ", automatic toggle"
+        } else {
+            ""
+        })
+    }
+}
+
+// What a register's value says.
+#[derive(Clone, Copy)]
+pub struct Meaning(pub Reg, pub u32);
+
+impl fmt::Display for Meaning {
+    fn fmt<W: fmt::Write>(&self, f: &mut fmt::Formatter<W>) -> fmt::Result {
+        let word = self.1;
+        match self.0 {
+            Reg::IntFg => write!(
+                f,
+                "clears {}",
+                Named {
+                    word,
+                    names: &FLAGS
+                }
+            ),
+            Reg::Ctrl => write!(
+                f,
+                "{}",
+                Named {
+                    word,
+                    names: &CONTROL
+                }
+            ),
+            Reg::IntEn => write!(
+                f,
+                "interrupts: {}",
+                Named {
+                    word,
+                    names: &INTERRUPTS
+                }
+            ),
+            Reg::DevAd => write!(f, "device address {word}"),
+            Reg::HostCtrl => f.write_str(if bits::is_set(word, 0) {
+                "the PHY is awake"
+            } else {
+                ""
+            }),
+            Reg::EpConfig => write!(f, "enabled: {}", Endpoints(word)),
+            Reg::EpType => write!(f, "isochronous: {}", Endpoints(word)),
+            Reg::EpBufMod => f.write_str("one buffer for each direction"),
+            Reg::EpMaxLen | Reg::EpTLen => write!(f, "{word} bytes"),
+            Reg::EpRxCtrl | Reg::EpTxCtrl => write!(f, "{}", ControlWord(word)),
+            _ => Ok(()),
+        }
     }
 }

@@ -5,5 +5,5 @@ use Rattle.bus_time.proofs.entry_kept.Goals as goal
 pub returns-then-is_set : goal.returns-then-is_set
 returns-then-is_set c = stays-where _ _ _ c.requires (sym c.is_set.ensures ∙ c.if-is_set.true)
 
-pub returns-else-is_set : goal.returns-else-is_set
-returns-else-is_set c = returns-where _ _ _ c.requires (sym c.is_set.ensures ∙ c.if-is_set.false)
+pub returns : goal.returns
+returns c = returns-where _ _ _ c.requires (sym c.is_set.ensures ∙ c.if-is_set.false)

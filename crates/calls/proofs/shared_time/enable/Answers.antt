@@ -10,8 +10,8 @@ pub returns-then-is_accepted : goal.returns-then-is_accepted
 returns-then-is_accepted c = (
   λ a. turned c.args.driver c.args.dir c.args.e (decode (saved c.args.s.now)) (view c.args.s.now) a
       c.args.slots.now c.args.time.now (sym c.is_accepted.ensures ∙ c.if-is_accepted.true) (rw (
-        ← c.charge_on-charge.ensures.at,
-        ← c.charge_on-charge.ensures.amount,
+        ← c.entry-at.ensures.value,
+        ← c.charge_on-charge.ensures.value,
       ) (sym c.passes.ensures ∙ c.if-passes.true)),
   (λ h. refl, refl),
 )
@@ -26,13 +26,19 @@ returns-then-passes c = (
 
 pub charged-requires : goal.charged-requires
 charged-requires c =
-    omega (arith, within _ _ _ c.charge_on-charge.result.at_bound (sym c.passes.ensures ∙ c.if-passes.false))
+    record {
+      at_bound = c.entry-at.ensures.upper_bound;
+      c_bound = omega (
+        arith,
+        within _ _ _ c.entry-at.ensures.upper_bound (sym c.passes.ensures ∙ c.if-passes.false),
+      );
+    }
 
 pub returns : goal.returns
 returns c = (
   λ a. begun c.args.driver c.args.dir c.args.e (decode (saved c.args.s.now)) (view c.args.s.now) a
-      c.args.slots.now c.args.time.now _ _ _ _ c.charge_on-charge.ensures.at
-      c.charge_on-charge.ensures.amount
+      c.args.slots.now c.args.time.now _ _ _ _ c.entry-at.ensures.value
+      c.charge_on-charge.ensures.value
       (sym c.passes.ensures ∙ c.if-passes.false) (c.begin_set_enabled-step.ensures.0 a) (c.charged.ensures _),
   c.begin_set_enabled-step.ensures.1,
 )

@@ -11,6 +11,5 @@ seed-is : remainder_of 0xFFFF 0 ≡ 0xFFFF
 unfolding remainder_of settled odd
 seed-is = refl
 
-pub loop-i-init : goal.loop-i-init
-loop-i-init c =
-    (refl, omega arith, omega arith, seed-even, ap (λ (r : ℕ). over r c.args.bytes.now) seed-is)
+pub loop-four-init : goal.loop-four-init
+loop-four-init c = (seed-even, ap (λ (r : ℕ). over r c.args.bytes.now) seed-is)
