@@ -6,6 +6,7 @@ pub mod ChannelsLaws
 pub mod SetsLaws
 pub mod Arrays
 pub mod ArraysLaws
+pub mod AnswersLaws
 pub mod BestLaws
 pub mod Promises
 pub mod Alike

@@ -7,8 +7,8 @@ pub returns-then-best-t : goal.returns-then-best-t
 unfolding look fits
 returns-then-best-t c =
     simp (
-      ← c.totals-t.ensures.maximum,
-      ← c.totals-t.ensures.charge,
+      ← c.requires.maximum,
+      ← c.requires.charge,
       le-leb _ _ c.if-t-self.true,
       lt-ltb _ _ c.if-best-t.true,
     )
@@ -18,11 +18,11 @@ unfolding look fits
 returns c = elim c.else-t-self.branch [
   | else-t-self-via-then-t-self+else-best-t w ↦
       simp (
-        ← c.totals-t.ensures.maximum,
-        ← c.totals-t.ensures.charge,
+        ← c.requires.maximum,
+        ← c.requires.charge,
         le-leb _ _ w.if-t-self.true,
         le-ltb _ _ w.if-best-t.false,
       )
   | else-t-self-via-else-t-self w ↦
-      simp (← c.totals-t.ensures.charge, lt-leb _ _ w.if-t-self.false)
+      simp (← c.requires.charge, lt-leb _ _ w.if-t-self.false)
 ]

@@ -36,8 +36,8 @@ loop-c-preserved c = elim c.if-is_in.branch [
       record {
         maximum_bound = rw w.t-is (omega arith);
         charge_bound = rw w.t-is (omega arith);
-        maximum = rw (w.t-is, total-more, bit, c.loop-c.invariant.maximum) refl;
-        charge = rw (w.t-is, total-more, bit, c.loop-c.invariant.charge) refl;
+        maximum = rw (w.t-is, total-more, bit, c.loop-c.invariant.maximum, w.alone-one.ensures.maximum) refl;
+        charge = rw (w.t-is, total-more, bit, c.loop-c.invariant.charge, w.alone-one.ensures.charge) refl;
         rest = rest c;
       }
   | else-is_in w ↦
