@@ -67,11 +67,7 @@ fn take_near(stream: &[u8], d: usize, first: usize, room: &mut [u8]) -> Stretch
         return Stretch { count: 0, bytes: 0 };
     }
     let near = walk(stream, d, room.len());
-    copy_run(
-        stream,
-        d / 504 * 512 + (6 + d % 504),
-        &mut room[..near.bytes],
-    );
+    copy_run(stream, d / 504 * 512 + (6 + d % 504), room, 0, near.bytes);
     near
 }
 
@@ -106,7 +102,7 @@ fn take(stream: &[u8], place: usize, room: &mut [u8]) -> Taken
                 short: true,
             };
         }
-        copy_data(stream, found.at, &mut room[used..used + n]);
+        copy_data(stream, found.at, room, used, n);
         count += 1;
         used += n;
         d = found.at + n;

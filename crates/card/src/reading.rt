@@ -1,5 +1,6 @@
 // The packets of a stream.
 ghost use Rattle.std.specs.Prelude.{◌≡◌, ◌+◌, ◌-◌, ◌/◌, ◌%◌, ◌<◌, ◌≤◌, length, take, drop};
+ghost use Rattle.std.proofs.Math.Seq.{paste};
 ghost use Rattle.card.specs.Reading.{total, begins, block_end, clean_to, clean_up_to, seek_from, intact, packet_at};
 ghost use Rattle.card.specs.Reading.{begin_at, step_at, bytes_from, find};
 ghost use Rattle.card.specs.Calls.{start_of, given, put, next_of, room_of};
@@ -139,7 +140,7 @@ pub fn find_from(stream: &[u8], d: usize, first: usize) -> Option<Found>
 }
 
 // Fills the room with bytes that lie together.
-pub fn copy_run(stream: &[u8], from: usize, room: &mut [u8])
+fn fill_run(stream: &[u8], from: usize, room: &mut [u8])
     requires { from + length room.old ≤ length stream.now }
     ensures { room.new ≡ take (length room.old) (drop from stream.now) }
 {
@@ -147,6 +148,14 @@ pub fn copy_run(stream: &[u8], from: usize, room: &mut [u8])
     for i in 0..room.len() {
         room[i] = stream[from + i];
     }
+}
+
+// Copies n bytes that lie together.
+pub fn copy_run(stream: &[u8], from: usize, room: &mut [u8], at: usize, n: usize)
+    requires { (from + n ≤ length stream.now) × (at + n ≤ length room.old) }
+    ensures { room.new ≡ paste room.old at (drop from stream.now) n }
+{
+    fill_run(stream, from, &mut room[at..at + n]);
 }
 
 // How many of n places from d on lie in the block of d.
@@ -158,7 +167,7 @@ fn run_of(d: usize, n: usize) -> usize
 }
 
 // Fills the room with packet data from place d on, block by block.
-pub fn copy_data(stream: &[u8], d: usize, room: &mut [u8])
+fn fill_data(stream: &[u8], d: usize, room: &mut [u8])
     requires { d + length room.old ≤ total (view stream.now) }
     ensures { room.new ≡ bytes_from (view stream.now) d (length room.old) }
 {
@@ -167,9 +176,17 @@ pub fn copy_data(stream: &[u8], d: usize, room: &mut [u8])
     while i < room.len() {
         let e = d + i;
         let run = run_of(e, room.len() - i);
-        copy_run(stream, e / 504 * 512 + (6 + e % 504), &mut room[i..i + run]);
+        copy_run(stream, e / 504 * 512 + (6 + e % 504), room, i, run);
         i += run;
     }
+}
+
+// Copies n bytes of packet data from place d on into the room, block by block.
+pub fn copy_data(stream: &[u8], d: usize, room: &mut [u8], at: usize, n: usize)
+    requires { (at + n ≤ length room.old) × (d + n ≤ total (view stream.now)) }
+    ensures { room.new ≡ paste room.old at (bytes_from (view stream.now) d n) n }
+{
+    fill_data(stream, d, &mut room[at..at + n]);
 }
 
 // Gives a packet that was found.
@@ -183,7 +200,7 @@ fn give(stream: &[u8], found: Found, room: &mut [u8]) -> Result<Packet, Refusal>
     if room.len() < n {
         return Err(Refusal::Card);
     }
-    copy_data(stream, at + 3, &mut room[..n]);
+    copy_data(stream, at + 3, room, 0, n);
     Ok(Packet {
         endpoint,
         len,

@@ -1,9 +1,7 @@
-use Rattle.std.proofs.Common.{◌+◌, ◌-◌, length, drop, true, false, length-take-le, sym, ◌∙◌, arith, w64, Fits}
+use Rattle.std.proofs.Common.{true, false, sym, ◌∙◌, arith, w64, Fits}
 use Rattle.card.proofs.Progress.{find-fits}
 use Rattle.card.specs.Reading.{total}
-use Rattle.card.specs.Rooms.{part-bytes}
 use Rattle.card.specs.Streams.{view}
-use borrow.Rule.Slice.PartMut.{put_mid}
 use Rattle.card.proofs.BatchLaws.{some_end, some-short}
 use Rattle.card.proofs.Taking.{begins, goes_part, goes_on_lem, ends}
 use Rattle.card.proofs.batches.take.Goals as goal
@@ -45,12 +43,11 @@ returns-then-room-used c =
 
 pub copy_data-requires : goal.copy_data-requires
 copy_data-requires c =
+    let far : Fits w64 (total (view c.args.stream.now)) = omega (arith, c.well_formed) in
+    let h = goes_part far c.loop-found.invariant c.take_near-near.ensures.near
+    c.take_near-near.ensures.room_after in
     let l = find-fits _ _ _ _ (sym c.find_from.ensures ∙ c.in-Some.is) in
-    let n = 3 + c.in-Some.found.len in
-    let room = put_mid c.loop-found.used (length c.loop-found.room - c.loop-found.used) c.loop-found.room
-    c.take_near-near.new.room in
-    let from = c.loop-found.used + c.take_near-near.result.bytes in
-    omega (arith, l, length-take-le (from + n - from) (drop from room))
+    (omega (arith, h.same, h.inside), omega (arith, l))
 
 pub overflow_add-count-in-loop-found : goal.overflow_add-count-in-loop-found
 overflow_add-count-in-loop-found c =
@@ -75,5 +72,4 @@ loop-found-preserved c =
     let h = goes_part far c.loop-found.invariant c.take_near-near.ensures.near
     c.take_near-near.ensures.room_after in
     let found = sym c.find_from.ensures ∙ c.in-Some.is in
-    goes_on_lem _ _ _ _ _ _ _ _ _ _ far h found (omega (arith, h.same))
-    (part-bytes _ _ _ _ _ _ _ (omega arith) (omega (arith, h.same, h.inside)) c.copy_data.ensures)
+    goes_on_lem _ _ _ _ _ _ _ _ _ _ far h found (omega (arith, h.same)) c.copy_data.ensures

@@ -1,7 +1,6 @@
-use Rattle.std.proofs.Common.{◌+◌, ◌*◌, ◌/◌, ◌%◌, ◌≤◌, length, drop, ◌∙◌, arith, length-take, length-drop}
+use Rattle.std.proofs.Common.{◌/◌, ◌∙◌, arith}
 use lib.Seq.{paste-zero}
 use Rattle.card.specs.Reading.{bytes_from}
-use Rattle.card.specs.PasteLaws.{part-filled}
 use Rattle.card.specs.Streams.{view}
 use Rattle.card.proofs.InsideLaws.{seen-good, good-lies, near_none, near-walked, near-bytes}
 use Rattle.card.proofs.batches.take_near.Goals as goal
@@ -35,21 +34,16 @@ pub copy_run-requires : goal.copy_run-requires
 copy_run-requires c =
     let good = seen-good (view c.args.stream.now) c.args.d c.args.first c.requires (omega arith) in
     let lies = good-lies c.args.stream.now (c.args.d / 504) good in
-    omega (arith, c.walk-near.ensures.inside, length-take c.walk-near.result.bytes c.args.room.now)
+    (omega (arith, c.walk-near.ensures.inside), omega (arith, c.walk-near.ensures.fits))
 
 pub returns : goal.returns
 returns c =
     let good = seen-good (view c.args.stream.now) c.args.d c.args.first c.requires (omega arith) in
-    let lies = good-lies c.args.stream.now (c.args.d / 504) good in
-    let place = c.args.d / 504 * 512 + (6 + c.args.d % 504) in
-    let long : c.walk-near.result.bytes ≤ length (drop place c.args.stream.now) =
-    omega (arith, c.walk-near.ensures.inside, length-drop place c.args.stream.now) in
     let near = near-walked (view c.args.stream.now) c.args.d c.args.first _ _ _ c.requires (omega arith)
     c.walk-near.ensures in
     record {
       near = near;
-      room_after = part-filled c.args.room.now _ _ 0 _ c.walk-near.result.bytes (omega arith) (omega
-          (arith, c.walk-near.ensures.fits)) long c.copy_run.ensures
+      room_after = c.copy_run.ensures
           ∙ near-bytes c.args.stream.now c.args.room.now c.args.d 0 c.walk-near.result.bytes good
           c.walk-near.ensures.inside;
     }
