@@ -52,7 +52,7 @@ begins v lent d held = record {
 lengths : (bytes lent : List ℕ) → length bytes ≤ length lent → length (front bytes lent) ≡ length lent
 lengths bytes lent h = omega (arith, length-append bytes (drop (length bytes) lent), length-drop (length bytes) lent)
 
-goes_near : (v : View) (all : Several) (lent room now : List ℕ) (count used d first c n : ℕ) → Fits w64 (total v)
+pub goes_near : (v : View) (all : Several) (lent room now : List ℕ) (count used d first c n : ℕ) → Fits w64 (total v)
     → Taking v all lent room count used d first → Near v d first (length room - used) c n
     → now ≡ paste room used (bytes_from v d n) n
     → Taking v all lent now (count + c) (used + n) (d + n) first
