@@ -212,10 +212,13 @@ fn give(stream: &[u8], found: Found, room: &mut [u8]) -> Result<Packet, Refusal>
 pub fn start(stream: &[u8]) -> Result<Reader, Refusal>
     ensures { result ≡ start_of stream.now }
 {
-    in_blocks(stream)?;
-    Ok(Reader {
-        at: seek(stream, 0),
-    })
+    // A match and no `?`: the row by which a torn stream is refused stands here.
+    match in_blocks(stream) {
+        Err(_) => Err(Refusal::Card),
+        Ok(()) => Ok(Reader {
+            at: seek(stream, 0),
+        }),
+    }
 }
 
 // The next packet, whose bytes come to the front of the room. After a refusal the same reader goes on where it is.

@@ -1,17 +1,14 @@
 use Rattle.std.proofs.Common.{sym, ◌∙◌, eq-eqb, ne_eqb}
-use Rattle.std.proofs.lemmas.Result.{err_from_is_err_and}
 use Rattle.card.specs.Calls.{start_of}
 use Rattle.card.specs.Rooms.{torn, untorn}
 use Rattle.card.proofs.reading.start.Goals as goal
 
-pub returns-in_err-in_blocks : goal.returns-in_err-in_blocks
+pub returns-in-Err : goal.returns-in-Err
 unfolding start_of
-returns-in_err-in_blocks c =
-    let p = err_from_is_err_and c.from_residual.result c.from_residual.ensures.1 in
-    let t = torn c.args.stream.now _ (sym c.in_blocks.ensures ∙ c.in_err-in_blocks.was) in
-    rw (p.1, p.2, t.1, ne_eqb _ _ t.0)
+returns-in-Err c =
+    let t = torn c.args.stream.now _ (sym c.in_blocks.ensures ∙ c.in-Err.is) in
+    rw (ne_eqb _ _ t.0)
 
-pub returns : goal.returns
+pub returns-in-Ok : goal.returns-in-Ok
 unfolding start_of
-returns c =
-    simp (eq-eqb _ _ (untorn c.args.stream.now (sym c.in_blocks.ensures ∙ c.in_ok-in_blocks.was)), c.seek.ensures)
+returns-in-Ok c = simp (eq-eqb _ _ (untorn c.args.stream.now (sym c.in_blocks.ensures ∙ c.in-Ok.is)), c.seek.ensures)
