@@ -1,5 +1,5 @@
 -- Laws on the definitions of Ring.antt, as the code meets them.
-use Rattle.std.specs.Prelude.{◌≡◌, refl, true, false, List, ◌∷◌, ◌++◌, ℕ, zero, suc, ◌+◌, ◌-◌, ◌*◌, ◌%◌, ◌≤◌, ◌<◌, length, take, drop, replicate, Result, Ok}
+use Rattle.std.specs.Prelude.{◌≡◌, refl, Bool, true, false, List, ◌∷◌, ◌++◌, ℕ, zero, suc, ◌+◌, ◌-◌, ◌*◌, ◌%◌, ◌≤◌, ◌<◌, length, take, drop, replicate, Result, Ok, Err}
 use Rattle.std.proofs.Common.{sym, ap, ◌∙◌, arith, le-ltb, lt-ltb, length-drop, length-take-le}
 use Rattle.card.specs.Packet.{Packet, Writable}
 use Rattle.card.specs.declared.writer.Writer.{Writer}
@@ -39,6 +39,18 @@ piece-wrote w p room ys r long fine x y =
     let x' : r ≡ Ok (piece_wrote w p) = x ∙ rw same (rw u) in
     let y' : ys ≡ block_of_piece w p b = y ∙ rw same (rw u) in
     (x', rw (e, y'))
+
+pub not-refused : (w : Writer) (p : Packet) (why : Refusal) → ◌≡◌ {A = Result Piece Refusal} (Err why)
+    (Ok (piece_wrote w p))
+    → ⊥
+not-refused w p why e = cc
+
+pub piece-parts : (w : Writer) (p : Packet) (next : Writer) (full done : Bool)
+    → ◌≡◌ {A = Result Piece Refusal} (Ok (record { next = next; full = full; done = done })) (Ok (piece_wrote w p))
+    → (next ≡ writer_of w (length p.bytes)) × (done ≡ whole_of w (length p.bytes))
+piece-parts w p next full done e =
+    let same : record { next = next; full = full; done = done } ≡ piece_wrote w p = cc in
+    (ap (λ (x : Piece). x.next) same, ap (λ (x : Piece). x.done) same)
 
 pub ring-piece : (p : Packet) (g : Ring) (next : Writer) (room : List ℕ) → next
     ≡ writer_of g.writer (length p.bytes)
