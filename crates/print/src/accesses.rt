@@ -1,7 +1,7 @@
 // An access as a person reads it.
 use crate::registers::{Meaning, Register, Value};
 use regs::Access;
-use std::fmt;
+use std::{fmt, io};
 
 // The endpoint of a buffer's address, but for EP0's.
 #[derive(Clone, Copy)]
@@ -49,4 +49,8 @@ impl fmt::Display for Shown {
             Access::Callback => f.write_str("start-of-frame callback"),
         }
     }
+}
+
+pub fn access(rt: &impl Print, q: Access) -> io::Result<()> {
+    print!(rt; "{}", Shown(q))
 }

@@ -2,7 +2,7 @@
 use crate::accesses::Shown;
 use answer::Step;
 use state::{State, woken_at};
-use std::fmt;
+use std::{fmt, io};
 
 // Whose task is woken.
 #[derive(Clone, Copy)]
@@ -84,4 +84,8 @@ impl<'a> fmt::Display for Answer<'a> {
             }
         }
     }
+}
+
+pub fn show(rt: &impl Print, s: &State, step: Step) -> io::Result<()> {
+    println!(rt; "{}", Answer { state: s, step })
 }
