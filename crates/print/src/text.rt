@@ -27,6 +27,7 @@ impl<'a> fmt::Display for Named<'a> {
     }
 }
 
+// Bytes, which may be no text, go out as they are, so what follows writes piece by piece.
 pub fn print(rt: &impl Print, text: &[u8]) -> io::Result<()> {
     rt.write_all(text)
 }
