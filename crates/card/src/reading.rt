@@ -150,7 +150,7 @@ fn fill_run(stream: &[u8], from: usize, room: &mut [u8])
     }
 }
 
-// Copies n bytes that lie together.
+// Copies n bytes that lie together. It and copy_data have one form; both are public, so neither goes into the other.
 pub fn copy_run(stream: &[u8], from: usize, room: &mut [u8], at: usize, n: usize)
     requires { (from + n ≤ length stream.now) × (at + n ≤ length room.old) }
     ensures { room.new ≡ paste room.old at (drop from stream.now) n }

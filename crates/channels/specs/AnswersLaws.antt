@@ -1,6 +1,6 @@
 -- Laws on the definitions of Answers.antt. Assumes nothing.
 use Rattle.std.specs.Prelude.{◌≡◌, true, false, List, ℕ, ◌≤◌, length, Ok, Err}
-use Rattle.std.proofs.Common.{ap, ◌∙◌}
+use Rattle.std.proofs.Common.{◌∙◌}
 use Rattle.channels.specs.declared.Channel.{Channel}
 use Rattle.channels.specs.declared.Choice.{Choice}
 use Rattle.channels.specs.declared.Refusal.TheVariants.{Channels}

@@ -15,6 +15,7 @@ pub fn has_endpoint(reg: Reg) -> bool {
     )
 }
 
+// This one and the next differ in their type alone; both are public.
 pub fn value(rt: &impl Print, reg: Reg, x: u32) -> io::Result<()> {
     print!(rt; "{}", Value(reg, x))
 }

@@ -1,6 +1,5 @@
 use Rattle.std.specs.Prelude.{◌≡◌, ◌+◌, ◌-◌, ◌*◌, ◌/◌, ◌^◌, ◌≤◌, true, false, length}
-use Rattle.std.proofs.Common.{sym, ◌∙◌, ap, arith}
-use Rattle.bits.specs.Bit.{bit_is_set}
+use Rattle.std.proofs.Common.{sym, ◌∙◌, arith}
 use Rattle.channels.specs.Channels.{maximum, charge}
 use Rattle.channels.proofs.NextLaws.{next-leaves, next-gap, next-joins, next-none}
 use Rattle.channels.proofs.sets.Search.next.Goals as goal
