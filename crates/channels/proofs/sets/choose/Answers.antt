@@ -17,11 +17,11 @@ returns c =
           );
       arrays =
           rw (maxima-read list c.requires, charges-read list c.requires)
-              (simp (
-                c.figure.ensures,
-                c.best-found.ensures,
-                c.saturating_sub.ensures,
-                c.min-looked.ensures,
-                c.all_sets.ensures,
-              ));
+          (simp (
+            c.figure.ensures,
+            c.best-found.ensures,
+            c.saturating_sub.ensures,
+            c.min-looked.ensures,
+            c.all_sets.ensures,
+          ));
     }
