@@ -1,10 +1,10 @@
--- The totals of the set behind another, from the other's. In counting order the next set is without the first k channels,
--- if just these are in without a gap, and has channel k. Assumes nothing.
+-- The totals of the set behind another, from the other's. In counting order the next set is without the first k
+-- channels, if just these are in without a gap, and has channel k. Assumes nothing.
 use Rattle.std.specs.Prelude.{◌≡◌, refl, Bool, true, false, ℕ, zero, suc, ◌+◌, ◌-◌, ◌*◌, ◌/◌, ◌%◌, ◌^◌, ◌≤◌, ◌<◌, ◌==◌}
-use Rattle.std.proofs.Common.{◌≢◌, true≢false, inl, inr, sym, ap, ◌∙◌, arith, pow_pos, pow-suc, add-one, add-zero, eq-eqb}
+use Rattle.std.proofs.Common.{◌≢◌, true≢false, inl, inr, sym, ap, ◌∙◌, arith, pow_pos, pow-suc, add-one, add-zero}
+use Rattle.std.proofs.lemmas.Bool.{eq-eqb, ne_eqb}
 use Rattle.std.proofs.Math.Decide.{dec_lt}
 use Rattle.std.proofs.Math.Nat.{mul-div_cancel, add-mul, mul_assoc, mul_comm}
-use Rattle.std.proofs.lemmas.Bool.{ne_eqb}
 use Rattle.bits.specs.Bit.{bit, bit_is_set, with_bit}
 use Rattle.bits.specs.BitLaws.{set-with, set-one, one_set, bit-cases}
 use Rattle.channels.specs.Sets.{total}

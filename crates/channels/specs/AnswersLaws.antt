@@ -17,7 +17,8 @@ module _ (ys : List Channel) (u g : ℕ) where
 
   -- what is chosen by the two arrays, and the list marked so
   pub chosen_is : is_refused (length ys) g ≡ false → length ys ≤ 16 → (r : Choice)
-      → r ≡ choice_of (listed (lists_of ys (length ys)).maxima) (listed (lists_of ys (length ys)).charges) (length ys) u g
+      → r ≡ choice_of (listed (lists_of ys (length ys)).maxima) (listed (lists_of ys (length ys)).charges) (length ys) u
+      g
       → (zs : List Channel) → zs ≡ flagged ys r.set (length ys) → (Ok r ≡ answer_of ys u g) × (zs ≡ list_after ys u g)
   unfolding answer_of list_after
   chosen_is h few r e zs l =

@@ -18,5 +18,6 @@ returns c =
     let some : 0 < c.args.budget = omega (arith, c.if-budget-eq0.false) in
     let few = c.if-list-gt-MOST_CHANNELS.false in
     let a = accepts (length c.args.list.now) c.args.budget some few in
-    let r = chosen_is c.args.list.now c.args.in_use c.args.budget a few _ c.choose-choice.ensures.arrays _ c.mark.ensures in
+    let chosen = c.choose-choice.ensures.arrays in
+    let r = chosen_is c.args.list.now c.args.in_use c.args.budget a few _ chosen _ c.mark.ensures in
     record { answer = r.0; marks = r.1 }

@@ -53,10 +53,12 @@ pub returns-clause-maximum : goal.returns-clause-maximum
 returns-clause-maximum c =
     let e : c.loop-c.c-index ≡ length c.args.self.now.list.now =
     omega (arith, c.loop-c-test.false, c.loop-c.auto.c-index-end) in
-    rw (c.loop-c.invariant.maximum, e) (next-none (maximum c.args.self.now.list.now) _ _ _ (rw (← e) c.loop-c.invariant.gap))
+    let none = next-none (maximum c.args.self.now.list.now) _ _ _ (rw (← e) c.loop-c.invariant.gap) in
+    rw (c.loop-c.invariant.maximum, e) none
 
 pub returns-clause-charge : goal.returns-clause-charge
 returns-clause-charge c =
     let e : c.loop-c.c-index ≡ length c.args.self.now.list.now =
     omega (arith, c.loop-c-test.false, c.loop-c.auto.c-index-end) in
-    rw (c.loop-c.invariant.charge, e) (next-none (charge c.args.self.now.list.now) _ _ _ (rw (← e) c.loop-c.invariant.gap))
+    let none = next-none (charge c.args.self.now.list.now) _ _ _ (rw (← e) c.loop-c.invariant.gap) in
+    rw (c.loop-c.invariant.charge, e) none
