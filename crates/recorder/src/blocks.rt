@@ -18,7 +18,15 @@ fn put_piece(w: Writer, room: &mut [u8], endpoint: u8, bytes: &[u8]) -> Piece
 {
     let a = (w.number % 4) as usize * 512;
     let e = a + 512;
-    card::writing::write(w, &mut room[a..e], endpoint, bytes).unwrap()
+    // Never refused, and no unwrap: that would leave a trap in the archive, and cost a refused begin half as much again.
+    match card::writing::write(w, &mut room[a..e], endpoint, bytes) {
+        Ok(piece) => piece,
+        Err(_) => Piece {
+            next: w,
+            full: false,
+            done: true,
+        },
+    }
 }
 
 // Writes a packet: four blocks hold it, wherever it begins.

@@ -1,15 +1,10 @@
-use Rattle.std.proofs.Common.{◌≡◌, ℕ, ◌+◌, ◌-◌, length, take, drop, replicate, ap, ◌∙◌, sym, arith, length-drop, length-take-le}
-use lib.ListN.{length-replicate}
-use Rattle.std.proofs.lemmas.Slice.{put_mid-paste}
+use Rattle.std.proofs.Common.{ℕ, arith}
+use lib.ListN.{length-replicate, get_or-replicate}
+use Rattle.card.specs.PasteLaws.{one-pasted}
 use Rattle.card.proofs.writer_blocks.put_zeros.Goals as goal
 
-pub returns : goal.returns
-returns c =
-    let n = c.args.n in
-    let block = c.args.block.now in
-    let part : n ≡ c.args.at + n - c.args.at = omega arith in
-    let long : length (take (c.args.at + n - c.args.at) (drop c.args.at block)) ≡ n =
-    length-take-le _ _ (omega (arith, length-drop c.args.at block)) ∙ sym part in
-    let now : c.fill.new.self ≡ replicate {A = ℕ} n 0 =
-    c.fill.ensures.after (λ y h. h) ∙ ap (λ (m : ℕ). replicate m 0) long in
-    put_mid-paste c.args.at _ block _ (replicate n 0) n now part (sym (length-replicate {A = ℕ} n 0))
+pub loop-i-preserved : goal.loop-i-preserved
+loop-i-preserved c =
+    let long = length-replicate {A = ℕ} c.args.n 0 in
+    let zero = get_or-replicate c.args.n c.loop-i.i 0 0 (omega arith) in
+    one-pasted _ _ _ c.args.n c.loop-i.block c.loop-i.i 0 c.loop-i.invariant zero (omega arith) (omega arith) (omega arith)
